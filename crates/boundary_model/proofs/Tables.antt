@@ -1,0 +1,136 @@
+-- Laws of tables under several changes.
+use Rattle.std.proofs.Common.{◌≡◌, ◌≢◌, ℕ, Bool, true, false, cond, not, nat_eq, nat_lt, ◌<◌, T, List, [], ◌∷◌, Option, Some, None, is_some, refl, sym, ap, subst, ◌∙◌, arith, ◌&&◌, eq-eqb, ne_eqb, true≢false, inl, inr}
+use Rattle.std.specs.Option.{option_map}
+use Rattle.std.specs.Ordering.{nat_cmp, eq_by_cmp, is_eq, is_lt}
+use Rattle.std.specs.FinMap.Entries.{find, is_sorted, below_all}
+use Rattle.std.specs.Cmp.{unsigned_tied}
+use Rattle.std.proofs.lemmas.Bool.Decides.{nat_tests, eqb_tells}
+use Rattle.boundary_model.specs.Table.{Table, get, put, remove, map_rows, first_where, first_in, all_where, all_in, tables, same_table, get-map_rows, get-put, get-remove}
+
+-- a row that is put at a free number and taken away again
+pub remove-put : {X : Type 0} (t : Table X) (n : ℕ) (x : X) → get t n ≡ None → remove (put t n x) n ≡ t
+remove-put t n x free = same_table _ _ (λ q. grind (arith, nat_tests, tables))
+
+-- a row that is taken away and put again
+pub put-remove : {X : Type 0} (t : Table X) (n : ℕ) (x : X) → get t n ≡ Some x → put (remove t n) n x ≡ t
+put-remove t n x there = same_table _ _ (λ q. grind (arith, nat_tests, tables))
+
+-- a row that is put in its place again
+pub put_same : {X : Type 0} (t : Table X) (n : ℕ) (x : X) → get t n ≡ Some x → put t n x ≡ t
+put_same t n x there = same_table _ _ (λ q. grind (arith, nat_tests, tables))
+
+-- a rewriting after a row is put
+pub map-put : {X : Type 0} (f : ℕ → X → X) (t : Table X) (n : ℕ) (x : X) → map_rows f (put t n x) ≡ put (map_rows f t) n (f n x)
+map-put f t n x = same_table _ _ (λ q. grind (arith, nat_tests, tables))
+
+on_row : {X : Type 0} (f : X → X) (o : Option X) → ((x : X) → o ≡ Some x → f x ≡ x) → option_map f o ≡ o
+on_row f None alone = refl
+on_row f (Some x) alone = ap Some (alone x refl)
+
+-- a rewriting that leaves each row alone
+pub map_same : {X : Type 0} (f : ℕ → X → X) (t : Table X) → ((q : ℕ) (x : X) → get t q ≡ Some x → f q x ≡ x) → map_rows f t ≡ t
+map_same f t alone = same_table _ _ (λ q. get-map_rows f t q ∙ on_row (f q) (get t q) (alone q))
+
+-- a rewriting that leaves each row but one alone
+pub map_one : {X : Type 0} (f : ℕ → X → X) (t : Table X) (n : ℕ) (x : X) → get t n ≡ Some x → ((q : ℕ) (y : X) → q ≢ n → get t q ≡ Some y → f q y ≡ y) → map_rows f t ≡ put t n (f n x)
+map_one f t n x there alone = same_table _ _ (λ q. get-map_rows f t q ∙ elim (eqb_tells q n) [
+    | inl p ↦ ap (λ k. option_map (f k) (get t k)) p.1 ∙ ap (option_map (f n)) there ∙ sym (get-put t n (f n x) q ∙ ap (λ b. cond b (Some (f n x)) (get t q)) p.0)
+    | inr p ↦ on_row (f q) (get t q) (λ y at. alone q y p.1 at) ∙ sym (get-put t n (f n x) q ∙ ap (λ b. cond b (Some (f n x)) (get t q)) p.0)
+  ])
+
+-- two rows put and the second taken away, with the first put again
+pub two_undone : {X : Type 0} (t : Table X) (n k : ℕ) (x y z : X) → n ≢ k → get t n ≡ Some z → get t k ≡ None → remove (put (put (put t n x) k y) n z) k ≡ t
+two_undone t n k x y z apart there free = same_table _ _ (λ q. grind (arith, nat_tests, tables))
+
+some_is : {X : Type 0} (x y : X) → Some x ≡ Some y → x ≡ y
+some_is x y e = cc
+
+less_means : (k a : ℕ) → T (is_lt (nat_cmp k a)) → k < a
+less_means k a h = grind (arith, nat_tests)
+
+pub and_left : (a b : Bool) → T (a && b) → T a
+and_left true b h = tt
+and_left false b h = absurd h
+
+pub and_right : (a b : Bool) → T (a && b) → T b
+and_right true b h = h
+and_right false b h = absurd h
+
+find_here : {X : Type 0} (e : ℕ × X) (es : List (ℕ × X)) → find nat_cmp e.0 (e ∷ es) ≡ Some e.1
+find_here e es = ap (λ b. cond b (Some e.1) (find nat_cmp e.0 es)) (unsigned_tied e.0 e.0 ∙ eq-eqb e.0 e.0 refl)
+
+find_later : {X : Type 0} (q : ℕ) (e : ℕ × X) (es : List (ℕ × X)) → q ≢ e.0 → find nat_cmp q (e ∷ es) ≡ find nat_cmp q es
+find_later q e es apart = ap (λ b. cond b (Some e.1) (find nat_cmp q es)) (unsigned_tied q e.0 ∙ ne_eqb q e.0 apart)
+
+below_not_found : {X : Type 0} (k q : ℕ) (es : List (ℕ × X)) (y : X) → T (below_all nat_cmp k es) → find nat_cmp q es ≡ Some y → q ≢ k
+below_not_found k q [] y h e same = cc
+below_not_found k q (e ∷ es) y h is same =
+    let l = less_means k e.0 (and_left _ _ h) in
+    let apart : q ≢ e.0 = omega arith in
+    below_not_found k q es y (and_right _ _ h) (sym (find_later q e es apart) ∙ is) same
+
+-- the only number whose row passes the test
+pub first_where_is : {X : Type 0} (p : ℕ → X → Bool) (t : Table X) (n : ℕ) (x : X) → get t n ≡ Some x → p n x ≡ true → ((q : ℕ) (y : X) → get t q ≡ Some y → p q y ≡ true → q ≡ n) → first_where p t ≡ n
+unfolding first_where get
+first_where_is {X = X} p t n x there passes only = go t.rows t.rising there only where
+  go : (es : List (ℕ × X)) → T (is_sorted nat_cmp es) → find nat_cmp n es ≡ Some x → ((q : ℕ) (y : X) → find nat_cmp q es ≡ Some y → p q y ≡ true → q ≡ n) → first_in p es ≡ n
+  go [] s there only = cc
+  go (e ∷ es) s there only =
+      elim (p e.0 e.1) as (λ b. p e.0 e.1 ≡ b → cond b e.0 (first_in p es) ≡ n) [
+        | true ↦ λ t. only e.0 e.1 (find_here e es) t
+        | false ↦ λ t.
+            let apart : n ≢ e.0 = λ same. true≢false (sym passes ∙ ap (p n) (some_is x e.1 (sym there ∙ ap (λ k. find nat_cmp k (e ∷ es)) same ∙ find_here e es)) ∙ ap (λ k. p k e.1) same ∙ t) in
+            go es (and_right _ _ s) (sym (find_later n e es apart) ∙ there)
+              (λ q y at holds. only q y (find_later q e es (below_not_found e.0 q es y (and_left _ _ s) at) ∙ at) holds)
+      ] refl
+
+-- no row passes the test
+abbrev pub NonePasses : {X : Type 0} → (ℕ → X → Bool) → Table X → Type 0
+NonePasses {X = X} p t = (q : ℕ) (y : X) → get t q ≡ Some y → p q y ≡ false
+
+pub first_where_zero : {X : Type 0} (p : ℕ → X → Bool) (t : Table X) → NonePasses p t → first_where p t ≡ 0
+unfolding first_where get
+first_where_zero {X = X} p t none = go t.rows t.rising none where
+  go : (es : List (ℕ × X)) → T (is_sorted nat_cmp es) → ((q : ℕ) (y : X) → find nat_cmp q es ≡ Some y → p q y ≡ false) → first_in p es ≡ 0
+  go [] s none = refl
+  go (e ∷ es) s none = ap (λ b. cond b e.0 (first_in p es)) (none e.0 e.1 (find_here e es))
+      ∙ go es (and_right _ _ s) (λ q y at. none q y (find_later q e es (below_not_found e.0 q es y (and_left _ _ s) at) ∙ at))
+
+pub all_where_none : {X : Type 0} (p : ℕ → X → Bool) (t : Table X) → NonePasses p t → all_where p t ≡ []
+unfolding all_where get
+all_where_none {X = X} p t none = go t.rows t.rising none where
+  go : (es : List (ℕ × X)) → T (is_sorted nat_cmp es) → ((q : ℕ) (y : X) → find nat_cmp q es ≡ Some y → p q y ≡ false) → all_in p es ≡ []
+  go [] s none = refl
+  go (e ∷ es) s none = ap (λ b. cond b (e.0 ∷ all_in p es) (all_in p es)) (none e.0 e.1 (find_here e es))
+      ∙ go es (and_right _ _ s) (λ q y at. none q y (find_later q e es (below_not_found e.0 q es y (and_left _ _ s) at) ∙ at))
+
+pub zero_first_where : {X : Type 0} (p : ℕ → X → Bool) (t : Table X) → ((q : ℕ) (y : X) → get t q ≡ Some y → q ≢ 0) → first_where p t ≡ 0 → NonePasses p t
+unfolding first_where get
+zero_first_where {X = X} p t pos zero q y at = go t.rows t.rising pos zero q y at where
+  go : (es : List (ℕ × X)) → T (is_sorted nat_cmp es) → ((q : ℕ) (y : X) → find nat_cmp q es ≡ Some y → q ≢ 0) → first_in p es ≡ 0 → (q : ℕ) (y : X) → find nat_cmp q es ≡ Some y → p q y ≡ false
+  go [] s pos zero q y at = cc
+  go (e ∷ es) s pos zero q y at =
+      elim (p e.0 e.1) as (λ b. p e.0 e.1 ≡ b → cond b e.0 (first_in p es) ≡ 0 → p q y ≡ false) [
+        | true ↦ λ t z. absurd (pos e.0 e.1 (find_here e es) z)
+        | false ↦ λ t z. elim (eqb_tells q e.0) [
+          | inl a ↦ ap (p q) (some_is y e.1 (sym at ∙ ap (λ k. find nat_cmp k (e ∷ es)) a.1 ∙ find_here e es)) ∙ ap (λ k. p k e.1) a.1 ∙ t
+          | inr a ↦ go es (and_right _ _ s) (λ k x f. pos k x (find_later k e es (below_not_found e.0 k es x (and_left _ _ s) f) ∙ f)) z q y (sym (find_later q e es a.1) ∙ at)
+        ]
+      ] refl zero
+
+no_cons : (n : ℕ) (ns : List ℕ) → n ∷ ns ≡ [] → ⊥
+no_cons n ns e = cc
+
+pub none_all_where : {X : Type 0} (p : ℕ → X → Bool) (t : Table X) → all_where p t ≡ [] → NonePasses p t
+unfolding all_where get
+none_all_where {X = X} p t zero q y at = go t.rows t.rising zero q y at where
+  go : (es : List (ℕ × X)) → T (is_sorted nat_cmp es) → all_in p es ≡ [] → (q : ℕ) (y : X) → find nat_cmp q es ≡ Some y → p q y ≡ false
+  go [] s zero q y at = cc
+  go (e ∷ es) s zero q y at =
+      elim (p e.0 e.1) as (λ b. p e.0 e.1 ≡ b → cond b (e.0 ∷ all_in p es) (all_in p es) ≡ [] → p q y ≡ false) [
+        | true ↦ λ t z. absurd (no_cons e.0 (all_in p es) z)
+        | false ↦ λ t z. elim (eqb_tells q e.0) [
+          | inl a ↦ ap (p q) (some_is y e.1 (sym at ∙ ap (λ k. find nat_cmp k (e ∷ es)) a.1 ∙ find_here e es)) ∙ ap (λ k. p k e.1) a.1 ∙ t
+          | inr a ↦ go es (and_right _ _ s) z q y (sym (find_later q e es a.1) ∙ at)
+        ]
+      ] refl zero

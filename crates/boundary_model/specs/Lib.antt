@@ -1,0 +1,4 @@
+pub mod HalfEdge
+pub mod Table
+pub mod Model
+pub mod Sound

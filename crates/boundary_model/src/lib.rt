@@ -1,0 +1,73 @@
+//! The words of a boundary model: half-edges, corners and kinds of numbers. Its definitions stand in specs/:
+//! tables, the model of solids, faces, loops, edges and vertices, and when a model is sound.
+#![tactic(auto)]
+
+ghost use Rattle.std.specs.Prelude.{◌≡◌, ◌≤◌};
+ghost use Rattle.boundary_model.specs.HalfEdge.{code, half, mate};
+
+/// One of the two directions of an edge; `first` is the one that a script writes with a plus.
+#[derive(Clone, Copy, Debug, PartialEq, Eq)]
+pub struct HalfEdge {
+    pub edge: u32,
+    pub first: bool,
+}
+
+impl HalfEdge {
+    /// The same edge in the opposite direction.
+    pub fn mate(self) -> HalfEdge
+        ensures { code result ≡ mate (code self) }
+    {
+        HalfEdge {
+            edge: self.edge,
+            first: !self.first,
+        }
+    }
+
+    /// The half-edge's place in the order of listings: by edge number, plus before minus.
+    #[tactic(auto, unfolding(crate::specs::HalfEdge::code))]
+    pub fn code(self) -> u32
+        requires { self.edge ≤ 1000000 }
+        ensures { result ≡ code self }
+    {
+        if self.first {
+            2 * self.edge
+        } else {
+            2 * self.edge + 1
+        }
+    }
+
+    /// The half-edge at a place of that order.
+    #[tactic(auto, unfolding(crate::specs::HalfEdge::half))]
+    pub fn of_code(code: u32) -> HalfEdge
+        ensures { result ≡ half code }
+    {
+        HalfEdge {
+            edge: code / 2,
+            first: code % 2 == 0,
+        }
+    }
+}
+
+/// A corner that an operator takes: the one at the tail of a half-edge, or the one corner of a lone loop.
+#[derive(Clone, Copy, Debug, PartialEq, Eq)]
+pub enum Corner {
+    At(HalfEdge),
+    Lone(u32),
+}
+
+/// The kinds of things that have numbers, each kind with a range of numbers of its own.
+#[derive(Clone, Copy, Debug, PartialEq, Eq)]
+pub enum Kind {
+    Solid,
+    Face,
+    Loop,
+    Edge,
+    Vertex,
+}
+
+/// What a loop holds: the vertex of a lone loop, or one of the loop's half-edges.
+#[derive(Clone, Copy, Debug, PartialEq, Eq)]
+pub enum Content {
+    Lone(u32),
+    Ring(HalfEdge),
+}

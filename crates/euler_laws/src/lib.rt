@@ -1,0 +1,2 @@
+//! Laws of the Euler operators.
+#![tactic(auto)]
