@@ -100,6 +100,14 @@ point_of M v = unwrap_or (table.get M.vertices v) no_point
 abbrev pub is_ring_of : Model → ℕ → ℕ → Bool
 is_ring_of M f l = table.has M.loops l && nat_eq (face_of M l) f && not (nat_eq (outer M f) l)
 
+-- the faces of a solid, rising
+abbrev pub faces_of : Model → ℕ → List ℕ
+faces_of M s = table.all_where (λ _ row. nat_eq row.solid s) M.faces
+
+-- the rings of a face, rising
+abbrev pub rings_of : Model → ℕ → List ℕ
+rings_of M f = table.all_where (λ l row. nat_eq row.face f && not (nat_eq (outer M f) l)) M.loops
+
 -- the cycle in which h stands
 abbrev pub cycle_of : Model → ℕ → List ℕ
 cycle_of M h = items_of (content M (loop_of M h))

@@ -9,13 +9,13 @@ use Rattle.boundary_model.specs.declared.HalfEdge.{HalfEdge}
 use Rattle.boundary_model.specs.HalfEdge.{code, half, mate, edge_of, is_first}
 use Rattle.boundary_model.specs.Table as table
 use Rattle.boundary_model.specs.Table.{Table, tables, same_table}
-use Rattle.boundary_model.specs.Model.{Model, LoopContent, lone, cycle, LoopRow, FaceRow, EdgeRow, no_face, no_edge, tail_in, items_of, tail, loop_of, content, cycle_of, face_of, solid_of, outer, after, is_number}
+use Rattle.boundary_model.specs.Model.{Model, LoopContent, lone, cycle, LoopRow, FaceRow, EdgeRow, no_face, no_edge, tail_in, items_of, tail, loop_of, content, cycle_of, face_of, solid_of, outer, after, is_number, rings_of}
 use Rattle.boundary_model.specs.Sound.{Sound, Has, HasHalf}
 use Rattle.boundary_model.proofs.Halves.{edge_of-code, code-half, edge_of-mate, is_first-mate, mate-mate}
 use Rattle.boundary_model.proofs.Tables.{put-remove, all_where_none, none_all_where, NonePasses}
 use Rattle.boundary_model.proofs.Models.{row_of, cycle_there, cycle_sound, face_row}
 use Rattle.euler_operators.specs.declared.Op.TheVariants.{Mef, Kef}
-use Rattle.euler_operators.specs.Conditions.{first_false, conditions, face_at, has_rings, rings_of, is_empty}
+use Rattle.euler_operators.specs.Conditions.{first_false, conditions, face_at, has_rings, is_empty}
 use Rattle.euler_operators.specs.Effect.{effect, inverse, mef, kef, edge_row}
 use Rattle.euler_laws.proofs.Goes.{all_hold, none_refuses, not_true, not_false, free, taken, equal, unequal, equals, differs}
 use Rattle.euler_laws.proofs.Fans.{half_after, half_mate, loop_after}

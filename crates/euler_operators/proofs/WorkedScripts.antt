@@ -7,8 +7,8 @@ use Rattle.boundary_model.specs.declared.Corner.TheVariants.{At, Lone}
 use Rattle.boundary_model.specs.HalfEdge.{mate, code, half, edge_of, is_first}
 use Rattle.cyclic_list.specs.Rings.{rotate_to, canonical, rest}
 use Rattle.boundary_model.specs.Table as table
-use Rattle.boundary_model.specs.Model.{Model, LoopContent, lone, cycle, empty_model, content, tail, loop_of, face_of, solid_of, outer, arc, holds, after, point_of}
-use Rattle.euler_operators.specs.Conditions.{conditions, first_false, rings_of, has_rings}
+use Rattle.boundary_model.specs.Model.{Model, LoopContent, lone, cycle, empty_model, content, tail, loop_of, face_of, solid_of, outer, arc, holds, after, point_of, rings_of}
+use Rattle.euler_operators.specs.Conditions.{conditions, first_false, has_rings}
 use Rattle.euler_operators.specs.declared.Op.{Op}
 use Rattle.euler_operators.specs.declared.Op.TheVariants.{Mvfs, Kvfs, Mev, Kev, Mef, Kef, Kemr, Mekr, Kfmrh, Mfkrh, RingIn, RingOut, Outer, Merge, Part}
 use Rattle.euler_operators.specs.declared.Why.TheVariants.{KeptEndBare, ParallelEdge, SameFace, NotRing, NotBare, SolidTaken, BadPart}

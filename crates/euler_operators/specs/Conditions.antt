@@ -9,7 +9,7 @@ use Rattle.cyclic_list.specs.Rings.{rotate_to}
 use Rattle.boundary_model.specs.HalfEdge.{code, mate, edge_of, plus, minus}
 use Rattle.boundary_model.specs.Table as table
 use Rattle.boundary_model.specs.Table.{Table}
-use Rattle.boundary_model.specs.Model.{Model, LoopContent, lone, cycle, tail, loop_of, content, face_of, solid_of, outer, is_ring_of, cycle_of, after, is_number}
+use Rattle.boundary_model.specs.Model.{Model, LoopContent, lone, cycle, tail, loop_of, content, face_of, solid_of, outer, is_ring_of, faces_of, rings_of, cycle_of, after, is_number}
 use Rattle.euler_operators.specs.declared.Op.{Op}
 use Rattle.euler_operators.specs.declared.Op.TheVariants.{Mvfs, Kvfs, Mev, Kev, Mef, Kef, Kemr, Mekr, Kfmrh, Mfkrh, RingIn, RingOut, Outer, Merge, Part}
 use Rattle.euler_operators.specs.declared.Why.{Why}
@@ -80,14 +80,6 @@ corner_known M (Lone l) = need (table.has M.loops l) NoLoop l
 abbrev pub corner_lone : Model → Corner → Condition
 corner_lone M (At h) = need true NotLone 0
 corner_lone M (Lone l) = need (is_lone (content M l)) NotLone l
-
--- the faces of a solid, rising
-abbrev pub faces_of : Model → ℕ → List ℕ
-faces_of M s = table.all_where (λ _ row. nat_eq row.solid s) M.faces
-
--- the rings of a face, rising
-abbrev pub rings_of : Model → ℕ → List ℕ
-rings_of M f = table.all_where (λ l row. nat_eq row.face f && not (nat_eq (outer M f) l)) M.loops
 
 abbrev pub is_empty : {A : Type 0} → List A → Bool
 is_empty [] = true

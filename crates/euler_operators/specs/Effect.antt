@@ -9,8 +9,8 @@ use Rattle.cyclic_list.specs.Edits.{insert_before, without}
 use Rattle.boundary_model.specs.HalfEdge.{code, half, mate, edge_of, is_first, plus, minus}
 use Rattle.boundary_model.specs.Table as table
 use Rattle.boundary_model.specs.Table.{Table}
-use Rattle.boundary_model.specs.Model.{Model, LoopContent, lone, cycle, FaceRow, LoopRow, EdgeRow, items_of, holds, tail, loop_of, content, face_of, solid_of, outer, cycle_of, after, arc, point_of}
-use Rattle.euler_operators.specs.Conditions.{corner_tail, corner_loop, corner_list, faces_of, lone_vertex, lists, face_at}
+use Rattle.boundary_model.specs.Model.{Model, LoopContent, lone, cycle, FaceRow, LoopRow, EdgeRow, items_of, holds, tail, loop_of, content, face_of, solid_of, outer, cycle_of, after, arc, point_of, faces_of}
+use Rattle.euler_operators.specs.Conditions.{corner_tail, corner_loop, corner_list, lone_vertex, lists, face_at}
 use Rattle.euler_operators.specs.declared.Op.{Op}
 use Rattle.euler_operators.specs.declared.Op.TheVariants.{Mvfs, Kvfs, Mev, Kev, Mef, Kef, Kemr, Mekr, Kfmrh, Mfkrh, RingIn, RingOut, Outer, Merge, Part}
 
