@@ -1,0 +1,47 @@
+-- A box of a node, as a value that is passed. Assumes nothing: these are definitions.
+use Rattle.std.proofs.Common.{[], ◌∷◌, refl}
+use base.Fml.{ftrue}
+use mir.Syntax.{Dict, impl, tcons, tnil, dnil}
+use denote.RattleType.{RattleType}
+use mir.Raw.{raw}
+use denote.Exit.{no}
+use denote.Param.{arg, layout}
+use denote.Param.Laws.{Laws, arg_laws}
+use Rattle.std.proofs.alloc.Calls.{Al}
+use Rattle.std.specs.contracts.alloc.Global.{the_row as Z}
+use Rattle.std.proofs.alloc.Global.TheLaws.{the_row_laws as LZ}
+use Rattle.std.specs.contracts.impls.GlobalAllocator.TheImpl.{ghosts, dict}
+use Rattle.std.specs.contracts.boxed.Box as box
+use Rattle.std.proofs.boxed.Box.TheLaws as laws
+use Rattle.raw_ring.specs.contracts.node.Node.{the_row as R}
+use Rattle.raw_ring.proofs.node.Node.TheLaws.{the_row_laws as L}
+
+abbrev pub B : RattleType
+B = box.the_row R Z ghosts
+
+-- a type as it is passed for a parameter, and its laws
+abbrev pub passed : RattleType → RattleType
+passed X = arg (raw (layout X)) no X
+
+abbrev pub Rp : RattleType
+Rp = passed R
+
+abbrev pub Zp : RattleType
+Zp = passed Z
+
+pub Lp : Laws Rp
+Lp = arg_laws (raw (layout R)) no R L refl
+
+pub LZp : Laws Zp
+LZp = arg_laws (raw (layout Z)) no Z LZ refl
+
+-- the drop of a type that has none
+abbrev pub no_drop : RattleType → Dict
+no_drop X = impl ("raw_ring::Destruct++none::drop" ∷ []) (tcons (layout X) tnil) dnil
+
+abbrev pub heap : Al
+heap = record { row = Z; laws = LZ; g = ghosts; d = dict; drops = no_drop Z }
+
+-- the box as a handle, so that `handle_tells` says how its value is stored
+abbrev pub boxed : Al
+boxed = record { row = B; laws = laws.the_row_laws R Z ghosts L LZ; g = record { dealloc_token = λ b τ p. ftrue }; d = dict; drops = no_drop B }
