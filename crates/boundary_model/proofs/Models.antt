@@ -53,16 +53,16 @@ module _ (M : Model) where
     -- no loop holds a half-edge whose edge isn't there
     pub not_held : (h : ℕ) → get M.edges (edge_of h) ≡ None → (l : ℕ) (row : LoopRow) → get M.loops l ≡ Some row → count h (items_of row.content) ≡ 0
     not_held h free l row at = elim (holds h row.content) as (λ b. holds h row.content ≡ b → count h (items_of row.content) ≡ 0) [
-        | true ↦ λ e. let t = sound.only_edges h l (ap (holds h) (content_row l row at) ∙ e) in absurd (true≢false (sym t ∙ ap is_some free))
-        | false ↦ λ e. none-holds h row.content e
-      ] refl
+      | true ↦ λ e. let t = sound.only_edges h l (ap (holds h) (content_row l row at) ∙ e) in absurd (true≢false (sym t ∙ ap is_some free))
+      | false ↦ λ e. none-holds h row.content e
+    ] refl
 
     -- a half-edge stands in one loop only
     pub other_loop : (h : ℕ) (q : ℕ) (row : LoopRow) → q ≢ loop_of M h → get M.loops q ≡ Some row → holds h row.content ≡ false
     other_loop h q row apart at = elim (holds h row.content) as (λ b. holds h row.content ≡ b → holds h row.content ≡ false) [
-        | true ↦ λ e. absurd (apart (sym (sound.one_loop h q (ap (holds h) (content_row q row at) ∙ e))))
-        | false ↦ λ e. e
-      ] refl
+      | true ↦ λ e. absurd (apart (sym (sound.one_loop h q (ap (holds h) (content_row q row at) ∙ e))))
+      | false ↦ λ e. e
+    ] refl
 
     -- no half-edge starts at a number that is no vertex
     pub no_tail : (v : ℕ) → get M.vertices v ≡ None → (g : ℕ) → HasHalf M g → tail M g ≢ v

@@ -34,9 +34,9 @@ map_same f t alone = same_table _ _ (λ q. get-map_rows f t q ∙ on_row (f q) (
 -- a rewriting that leaves each row but one alone
 pub map_one : {X : Type 0} (f : ℕ → X → X) (t : Table X) (n : ℕ) (x : X) → get t n ≡ Some x → ((q : ℕ) (y : X) → q ≢ n → get t q ≡ Some y → f q y ≡ y) → map_rows f t ≡ put t n (f n x)
 map_one f t n x there alone = same_table _ _ (λ q. get-map_rows f t q ∙ elim (eqb_tells q n) [
-    | inl p ↦ ap (λ k. option_map (f k) (get t k)) p.1 ∙ ap (option_map (f n)) there ∙ sym (get-put t n (f n x) q ∙ ap (λ b. cond b (Some (f n x)) (get t q)) p.0)
-    | inr p ↦ on_row (f q) (get t q) (λ y at. alone q y p.1 at) ∙ sym (get-put t n (f n x) q ∙ ap (λ b. cond b (Some (f n x)) (get t q)) p.0)
-  ])
+  | inl p ↦ ap (λ k. option_map (f k) (get t k)) p.1 ∙ ap (option_map (f n)) there ∙ sym (get-put t n (f n x) q ∙ ap (λ b. cond b (Some (f n x)) (get t q)) p.0)
+  | inr p ↦ on_row (f q) (get t q) (λ y at. alone q y p.1 at) ∙ sym (get-put t n (f n x) q ∙ ap (λ b. cond b (Some (f n x)) (get t q)) p.0)
+])
 
 -- two rows put and the second taken away, with the first put again
 pub two_undone : {X : Type 0} (t : Table X) (n k : ℕ) (x y z : X) → n ≢ k → get t n ≡ Some z → get t k ≡ None → remove (put (put (put t n x) k y) n z) k ≡ t
@@ -81,7 +81,7 @@ first_where_is {X = X} p t n x there passes only = go t.rows t.rising there only
         | false ↦ λ t.
             let apart : n ≢ e.0 = λ same. true≢false (sym passes ∙ ap (p n) (some_is x e.1 (sym there ∙ ap (λ k. find nat_cmp k (e ∷ es)) same ∙ find_here e es)) ∙ ap (λ k. p k e.1) same ∙ t) in
             go es (and_right _ _ s) (sym (find_later n e es apart) ∙ there)
-              (λ q y at holds. only q y (find_later q e es (below_not_found e.0 q es y (and_left _ _ s) at) ∙ at) holds)
+            (λ q y at holds. only q y (find_later q e es (below_not_found e.0 q es y (and_left _ _ s) at) ∙ at) holds)
       ] refl
 
 -- no row passes the test

@@ -1,0 +1,7 @@
+pub mod Known
+pub mod Orders
+pub mod Parallel
+pub mod Around
+pub mod Solids
+pub mod Rising
+pub mod Borders

@@ -1,7 +1,17 @@
 //! The conditions of the Euler operators, tested on an arena: the first false one is named.
 #![tactic(auto)]
 
+mod corners;
+mod ends;
+mod every;
+mod faces;
+mod halves;
+mod killing;
 mod making;
+mod moving;
+mod parts;
+mod single;
+mod torn;
 
 pub use euler_operators::{FaceList, Op, Refusal, Why};
-pub use making::check_mvfs;
+pub use every::check;

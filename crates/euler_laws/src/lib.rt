@@ -1,2 +1,32 @@
-//! Laws of the Euler operators.
+//! The laws of the Euler operators. Each function does nothing: its contract is what is proved, over every sound model
+//! and every operator whose conditions hold in it.
 #![tactic(auto)]
+
+ghost use Rattle.euler_laws.specs.Laws.{EmptyIsSound, EffectsAreSound, InversesAreAccepted, InversesUndo, RunsAreSound, InversesOfRunsAreAccepted, InversesOfRunsUndo, LoopsAreOuterOrRings, EulerNumberGrows};
+
+/// The model that has nothing is sound, and an accepted operator takes a sound model to a sound one.
+pub fn effects_are_sound()
+    ensures empty { EmptyIsSound }
+    ensures sound { EffectsAreSound }
+{}
+
+/// The inverse of an accepted operator is accepted after it, and gives the model before.
+pub fn inverses_undo()
+    ensures accepted { InversesAreAccepted }
+    ensures undone { InversesUndo }
+{}
+
+/// The same for a list of operators, each accepted in its turn: its inverses, the last operator's first, take it back.
+pub fn runs_are_undone()
+    ensures sound { RunsAreSound }
+    ensures accepted { InversesOfRunsAreAccepted }
+    ensures undone { InversesOfRunsUndo }
+{}
+
+/// Each loop is the outer loop of a face or a ring. Vertices less edges, plus faces, less rings: mvfs and mfkrh add 2,
+/// kvfs and kfmrh take 2, and the other operators keep it. (The Euler-Poincaré formula `v - e + f = 2 (s - h) + r`, over
+/// shells s, handles h and rings r.)
+pub fn euler_number_grows()
+    ensures loops { LoopsAreOuterOrRings }
+    ensures grows { EulerNumberGrows }
+{}

@@ -99,7 +99,7 @@ bare_face M (f ∷ g ∷ fs) = false
 abbrev pub parallel : Model → ℕ → ℕ
 parallel M h = let a = tail M h in let b = tail M (mate h) in
     table.first_where (λ e row. not (nat_eq e (edge_of h))
-      && ((nat_eq row.plus_tail a && nat_eq row.minus_tail b) || (nat_eq row.plus_tail b && nat_eq row.minus_tail a))) M.edges
+    && ((nat_eq row.plus_tail a && nat_eq row.minus_tail b) || (nat_eq row.plus_tail b && nat_eq row.minus_tail a))) M.edges
 
 -- only this edge leaves the kept vertex, and others leave the killed one
 abbrev pub kept_end_bare : Model → ℕ → Bool

@@ -38,9 +38,9 @@ without_edge h v l row = cond (holds h row.content || holds (mate h) row.content
 -- the listed half-edges start at v
 abbrev pub with_tails : List ℕ → ℕ → ℕ → EdgeRow → EdgeRow
 with_tails hs v e row = record {
-    plus_tail = cond (nat_lt 0 (count (plus e) hs)) v row.plus_tail;
-    minus_tail = cond (nat_lt 0 (count (minus e) hs)) v row.minus_tail
-  }
+  plus_tail = cond (nat_lt 0 (count (plus e) hs)) v row.plus_tail;
+  minus_tail = cond (nat_lt 0 (count (minus e) hs)) v row.minus_tail;
+}
 
 -- what started at v starts at w
 abbrev pub moved_tail : ℕ → ℕ → ℕ → EdgeRow → EdgeRow
@@ -59,21 +59,21 @@ faces_to_solid p s k row = cond (p k row) (record row { solid = s }) row
 
 unfoldable pub mvfs : Model → ℕ → ℕ → ℕ → ℕ → Point → Model
 mvfs M s f l v p = record {
-    solids = table.put M.solids s tt;
-    faces = table.put M.faces f (record { solid = s; outer = l });
-    loops = table.put M.loops l (record { face = f; content = lone v });
-    edges = M.edges;
-    vertices = table.put M.vertices v p
-  }
+  solids = table.put M.solids s tt;
+  faces = table.put M.faces f (record { solid = s; outer = l });
+  loops = table.put M.loops l (record { face = f; content = lone v });
+  edges = M.edges;
+  vertices = table.put M.vertices v p;
+}
 
 unfoldable pub kvfs_at : Model → ℕ → ℕ → Model
 kvfs_at M s f = record {
-    solids = table.remove M.solids s;
-    faces = table.remove M.faces f;
-    loops = table.remove M.loops (outer M f);
-    edges = M.edges;
-    vertices = table.remove M.vertices (lone_vertex (content M (outer M f)))
-  }
+  solids = table.remove M.solids s;
+  faces = table.remove M.faces f;
+  loops = table.remove M.loops (outer M f);
+  edges = M.edges;
+  vertices = table.remove M.vertices (lone_vertex (content M (outer M f)));
+}
 
 -- the first number, or 0
 abbrev pub head_or_zero : List ℕ → ℕ
@@ -83,75 +83,75 @@ head_or_zero (n ∷ ns) = n
 -- the lone loop l becomes an edge from its vertex to v
 unfoldable pub mev_lone : Model → ℕ → ℕ → ℕ → Point → Model
 mev_lone M l h v p = record M {
-    loops = table.put M.loops l (record { face = face_of M l; content = cycle (canonical (h ∷ mate h ∷ [])) });
-    edges = table.put M.edges (edge_of h) (edge_row h (lone_vertex (content M l)) v);
-    vertices = table.put M.vertices v p
-  }
+  loops = table.put M.loops l (record { face = face_of M l; content = cycle (canonical (h ∷ mate h ∷ [])) });
+  edges = table.put M.edges (edge_of h) (edge_row h (lone_vertex (content M l)) v);
+  vertices = table.put M.vertices v p;
+}
 
 -- h is put before g and its mate before k. What lies between g and k round the old vertex starts at v
 unfoldable pub mev_at : Model → ℕ → ℕ → ℕ → ℕ → Point → Model
 mev_at M g k h v p = record M {
-    loops = table.map_rows (with_before k (mate h)) (table.map_rows (with_before g h) M.loops);
-    edges = table.put (table.map_rows (with_tails (arc M g k) v) M.edges) (edge_of h) (edge_row h (tail M g) v);
-    vertices = table.put M.vertices v p
-  }
+  loops = table.map_rows (with_before k (mate h)) (table.map_rows (with_before g h) M.loops);
+  edges = table.put (table.map_rows (with_tails (arc M g k) v) M.edges) (edge_of h) (edge_row h (tail M g) v);
+  vertices = table.put M.vertices v p;
+}
 
 -- the edge and the vertex at its far end go
 unfoldable pub kev : Model → ℕ → Model
 kev M h = record M {
-    loops = table.map_rows (without_edge h (tail M h)) M.loops;
-    edges = table.map_rows (moved_tail (tail M (mate h)) (tail M h)) (table.remove M.edges (edge_of h));
-    vertices = table.remove M.vertices (tail M (mate h))
-  }
+  loops = table.map_rows (without_edge h (tail M h)) M.loops;
+  edges = table.map_rows (moved_tail (tail M (mate h)) (tail M h)) (table.remove M.edges (edge_of h));
+  vertices = table.remove M.vertices (tail M (mate h));
+}
 
 -- of the loop A B, with A from g up to before k, h B stays, and A and h's mate become the loop l of the new face f
 unfoldable pub mef : Model → ℕ → ℕ → ℕ → ℕ → ℕ → Model
 mef M g k h f l = record M {
-    faces = table.put M.faces f (record { solid = solid_of M (face_at M g); outer = l });
-    loops = table.put (table.map_rows (where_held g (λ hs. cycle (canonical (h ∷ onward g k hs)))) M.loops) l
+  faces = table.put M.faces f (record { solid = solid_of M (face_at M g); outer = l });
+  loops = table.put (table.map_rows (where_held g (λ hs. cycle (canonical (h ∷ onward g k hs)))) M.loops) l
       (record { face = f; content = cycle (canonical (upto g k (cycle_of M g) ++ mate h ∷ [])) });
-    edges = table.put M.edges (edge_of h) (edge_row h (tail M g) (tail M k))
-  }
+  edges = table.put M.edges (edge_of h) (edge_row h (tail M g) (tail M k));
+}
 
 -- the loop of the mate, m A, goes with its face, and the loop h B becomes A B
 unfoldable pub kef : Model → ℕ → Model
 kef M h = let m = mate h in record M {
-    faces = table.remove M.faces (face_at M m);
-    loops = table.remove (table.map_rows (where_held h (λ hs. cycle (canonical (rest m (cycle_of M m) ++ rest h hs)))) M.loops) (loop_of M m);
-    edges = table.remove M.edges (edge_of h)
-  }
+  faces = table.remove M.faces (face_at M m);
+  loops = table.remove (table.map_rows (where_held h (λ hs. cycle (canonical (rest m (cycle_of M m) ++ rest h hs)))) M.loops) (loop_of M m);
+  edges = table.remove M.edges (edge_of h);
+}
 
 -- the loop h X m Y becomes Y, and X becomes the ring l of its face
 unfoldable pub kemr : Model → ℕ → ℕ → Model
 kemr M h l = let m = mate h in let all = cycle_of M h in record M {
-    loops = table.put (table.map_rows (where_held h (λ hs. cycle_or_lone (beyond h m hs) (tail M h))) M.loops) l
+  loops = table.put (table.map_rows (where_held h (λ hs. cycle_or_lone (beyond h m hs) (tail M h))) M.loops) l
       (record { face = face_at M h; content = cycle_or_lone (between h m all) (tail M m) });
-    edges = table.remove M.edges (edge_of h)
-  }
+  edges = table.remove M.edges (edge_of h);
+}
 
 -- Y from one corner on and X from the other on become the loop h X m Y
 unfoldable pub mekr : Model → Corner → Corner → ℕ → Model
 mekr M c d h = record M {
-    loops = table.remove (table.put M.loops (corner_loop M c) (record {
-        face = face_of M (corner_loop M c);
-        content = cycle (canonical (h ∷ corner_list M d ++ mate h ∷ corner_list M c))
-      })) (corner_loop M d);
-    edges = table.put M.edges (edge_of h) (edge_row h (corner_tail M c) (corner_tail M d))
-  }
+  loops = table.remove (table.put M.loops (corner_loop M c) (record {
+    face = face_of M (corner_loop M c);
+    content = cycle (canonical (h ∷ corner_list M d ++ mate h ∷ corner_list M c));
+  })) (corner_loop M d);
+  edges = table.put M.edges (edge_of h) (edge_row h (corner_tail M c) (corner_tail M d));
+}
 
 -- face g goes, and its outer loop becomes a ring of f
 unfoldable pub kfmrh : Model → ℕ → ℕ → Model
 kfmrh M f g = record M {
-    faces = table.remove M.faces g;
-    loops = table.map_rows (loop_to_face (outer M g) f) M.loops
-  }
+  faces = table.remove M.faces g;
+  loops = table.map_rows (loop_to_face (outer M g) f) M.loops;
+}
 
 -- ring l becomes the outer loop of the new face f of the same solid
 unfoldable pub mfkrh : Model → ℕ → ℕ → Model
 mfkrh M l f = record M {
-    faces = table.put M.faces f (record { solid = solid_of M (face_of M l); outer = l });
-    loops = table.map_rows (loop_to_face l f) M.loops
-  }
+  faces = table.put M.faces f (record { solid = solid_of M (face_of M l); outer = l });
+  loops = table.map_rows (loop_to_face l f) M.loops;
+}
 
 -- ring l becomes a ring of f
 unfoldable pub ring_in : Model → ℕ → ℕ → Model
@@ -160,30 +160,30 @@ ring_in M l f = record M { loops = table.map_rows (loop_to_face l f) M.loops }
 -- ring l becomes the outer loop of f, whose old outer loop becomes a ring of f
 unfoldable pub ring_out : Model → ℕ → ℕ → Model
 ring_out M l f = record M {
-    faces = table.map_rows (face_to_outer f l) M.faces;
-    loops = table.map_rows (loop_to_face l f) M.loops
-  }
+  faces = table.map_rows (face_to_outer f l) M.faces;
+  loops = table.map_rows (loop_to_face l f) M.loops;
+}
 
 -- ring l becomes the outer loop of its face, whose old outer loop becomes a ring of f
 unfoldable pub take_outer : Model → ℕ → ℕ → Model
 take_outer M l f = record M {
-    faces = table.map_rows (face_to_outer (face_of M l) l) M.faces;
-    loops = table.map_rows (loop_to_face (outer M (face_of M l)) f) M.loops
-  }
+  faces = table.map_rows (face_to_outer (face_of M l) l) M.faces;
+  loops = table.map_rows (loop_to_face (outer M (face_of M l)) f) M.loops;
+}
 
 -- all faces of t go to s, and t goes
 unfoldable pub merge : Model → ℕ → ℕ → Model
 merge M s t = record M {
-    solids = table.remove M.solids t;
-    faces = table.map_rows (faces_to_solid (λ _ row. nat_eq row.solid t) s) M.faces
-  }
+  solids = table.remove M.solids t;
+  faces = table.map_rows (faces_to_solid (λ _ row. nat_eq row.solid t) s) M.faces;
+}
 
 -- the listed faces go to the new solid t
 unfoldable pub part : Model → ℕ → ℕ → List ℕ → Model
 part M s t fs = record M {
-    solids = table.put M.solids t tt;
-    faces = table.map_rows (faces_to_solid (λ f _. lists fs f) t) M.faces
-  }
+  solids = table.put M.solids t tt;
+  faces = table.map_rows (faces_to_solid (λ f _. lists fs f) t) M.faces;
+}
 
 abbrev pub mev : Model → Corner → Corner → ℕ → ℕ → Point → Model
 mev M (Lone l) d h v p = mev_lone M l h v p

@@ -4,7 +4,6 @@
 ghost use Rattle.std.specs.Prelude.{◌≡◌, ℕ, List, [], ◌++◌, ◌∷◌, length, OnOk, OnErr, slice_index, ◌<◌};
 ghost use Rattle.euler_operators.specs.Refusal.{code_of};
 
-
 use boundary_model::{Corner, HalfEdge};
 use lattice::Point;
 use std::alloc::{AllocError, Global};

@@ -1,1 +1,2 @@
 pub mod WorkedScripts
+pub mod Kept

@@ -1,7 +1,8 @@
 -- What a session of whole arenas holds.
-use Rattle.std.specs.Prelude.{◌≡◌, ℕ, ◌<◌, List, [], ◌∷◌, map, length, get_or}
-use Rattle.boundary_model.specs.Model.{Model, empty_model}
-use Rattle.halfedge_arena.specs.Store.{Store, empty_store}
+use Rattle.std.specs.Prelude.{ℕ, ◌<◌, List, map, length}
+use Rattle.std.specs.List.{All}
+use Rattle.boundary_model.specs.Model.{Model}
+use Rattle.halfedge_arena.specs.Store.{Store}
 use Rattle.euler_conditions.specs.Ready.{IsReady}
 use Rattle.undo_journal.specs.Machine.{Machine}
 
@@ -12,12 +13,7 @@ model_of s = s.model
 abbrev pub machine_of : List Store → ℕ → Machine
 machine_of arenas place = record { models = map model_of arenas; place = place }
 
--- every arena is sound, with no ring outside its loops
-abbrev pub AllReady : List Store → Type 0
-AllReady [] = Unit {0}
-AllReady (s ∷ ss) = IsReady s × AllReady ss
-
 -- the place is that of an arena, and every arena is sound
 pub record IsKept (arenas : List Store) (place : ℕ) : Type 0 where
   pub placed : place < length arenas
-  pub ready : AllReady arenas
+  pub ready : All IsReady arenas

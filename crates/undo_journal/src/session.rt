@@ -1,7 +1,10 @@
 //! A session over whole arenas: one for each model from the empty one on.
-ghost use Rattle.std.specs.Prelude.{◌≡◌, ◌↔◌, ◌<◌, OnOk, OnErr, IfOk, None, Some};
+ghost use Rattle.std.specs.Prelude.{◌≡◌, ◌↔◌, ◌<◌, OnOk, OnErr, IfOk, None, Some, Err};
 ghost use Rattle.euler_conditions.specs.Ready.{IsReady};
-ghost use Rattle.undo_journal.specs.Machine.{start, held, depth, ahead, act_refusal, undo_refusal, redo_refusal};
+ghost use Rattle.undo_journal.specs.Machine.{start, held, depth, ahead, accepted, act_refusal, undo_refusal, redo_refusal};
+ghost use Rattle.euler_operators.specs.Conditions.{verdict};
+ghost use Rattle.euler_operators.specs.Effect.{effect};
+ghost use Rattle.euler_operators.specs.declared.Refusal.{Refusal};
 ghost use Rattle.undo_journal.specs.Machine as machine;
 
 use euler_conditions::{Op, Refusal, Why, check};
@@ -74,16 +77,48 @@ impl Session {
         self.arenas.len() - 1 - self.place
     }
 
-    /// One operator as a command. Where one of its conditions is false the first such is named, and where memory is
-    /// refused `Memory` is answered; then nothing has changed. An accepted command drops the models ahead.
+    /// Puts an arena behind the one that is held, in the place of those ahead, and holds it. On `AllocError` nothing has changed.
+    fn append(&mut self, next: Arena) -> Result<(), AllocError>
+        requires { IsReady next }
+        ensures ok { OnOk result (self.new ≡ accepted self.old next.model) }
+        ensures err { OnErr result (self.new ≡ self.old) }
+    {
+        self.arenas.reserve(1)?;
+        self.arenas.truncate(self.place + 1);
+        self.arenas.push(next)?;
+        self.place += 1;
+        Ok(())
+    }
+
+    /// The arena after an operator, in a copy.
+    fn changed(&self, op: &Op) -> Result<Arena, AllocError>
+        requires { act_refusal self.now op.now ≡ None }
+        ensures { IfOk result (λ next. IsReady next × (next.model ≡ effect (held self.now) op.now)) }
+    {
+        let mut next = self.arena().copy(self.alloc)?;
+        room_op(self.alloc, &mut next, op)?;
+        replay(&mut next, op);
+        Ok(next)
+    }
+
+    /// One operator as a command. Where one of its conditions is false the first such is named, with its value; where
+    /// memory is refused `Memory` is answered. Then nothing has changed. An accepted command drops the models ahead.
     pub fn act(&mut self, op: Op) -> Result<(), Failure>
         ensures ok { OnOk result ((act_refusal self.old op ≡ None) × (self.new ≡ machine.act self.old op)) }
         ensures refused { (refusal : Refusal) → ((result ≡ Err (Failure.Refused refusal)) ↔ (act_refusal self.old op ≡ Some refusal)) }
         ensures err { OnErr result (self.new ≡ self.old) }
     {
-        check(self.arena(), &op).map_err(Failure::Refused)?;
-        let next = self.changed(&op)?;
-        self.append(next)
+        if let Err(refusal) = check(self.arena(), &op) {
+            return Err(Failure::Refused(refusal));
+        }
+        let next = match self.changed(&op) {
+            Ok(next) => next,
+            Err(error) => return Err(Failure::Memory(error)),
+        };
+        match self.append(next) {
+            Ok(()) => Ok(()),
+            Err(error) => Err(Failure::Memory(error)),
+        }
     }
 
     /// Takes the last command back. Refused with `NothingToUndo` where there is none.

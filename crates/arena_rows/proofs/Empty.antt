@@ -1,0 +1,86 @@
+-- The arena that holds nothing, numbers past the rows, and the room of numbers in use.
+use Rattle.std.proofs.Common.{◌-◌}
+use Rattle.ring_spots.proofs.SpotTables.{edge_live, edge_has_room, codes_are}
+use Rattle.arena_rows.specs.Rows.{row_at}
+use Rattle.arena_rows.specs.Store.{within}
+use Rattle.arena_rows.specs.View.{Fits}
+use Rattle.arena_rows.proofs.Views.{row_within, row_not_zero}
+use Rattle.ring_spots.proofs.SpotTables.{and-false, nothing, edge_has}
+use Rattle.std.proofs.Common.{◌≡◌, ◌≢◌, ℕ, ◌+◌, ◌≤◌, ◌<◌, Bool, true, false, cond, nat_eq, nat_lt, nat_le, ◌&&◌, List, [], Option, Some, None, is_some, refl, sym, ap, ◌∙◌, arith, true≢false}
+use Rattle.std.proofs.lemmas.Bool.Decides.{nat_tests}
+use Rattle.lattice.specs.declared.Point.{Point}
+use Rattle.boundary_model.specs.HalfEdge.{plus, minus}
+use Rattle.boundary_model.specs.Table.{get, tabulate}
+use Rattle.boundary_model.specs.Model.{empty_model}
+use Rattle.arena_rows.specs.Store.{empty_store}
+use Rattle.ring_spots.specs.Spots.{Spots, codes, edges_end, live, label, ring, AreRings}
+use Rattle.cyclic_list.specs.Items.{head_or}
+use Rattle.arena_rows.specs.View.{store_of, IsTied, solid_row, face_row, loop_row}
+use Rattle.ring_spots.specs.SpotTables.{edge_row, both_tails, edge_room, loose_row}
+use Rattle.arena_rows.specs.Rows.{table_of}
+use Rattle.std.proofs.Common.{length}
+use Rattle.arena_rows.proofs.Views.{table_of-empty, fits-empty, has_is, row_past}
+
+module _ (sp : Spots) (known : ℕ → Bool) (none : (q : ℕ) → sp q ≡ None) (unknown : (q : ℕ) → known q ≡ false) where
+  dead : (c : ℕ) → live sp c ≢ true
+  dead c h = true≢false (sym h ∙ ap is_some (none c))
+
+  pub tied-empty : IsTied sp known [] [] [] []
+  tied-empty = record {
+    rings = record { bound = λ c h. absurd (dead c h); rings = λ c h. absurd (dead c h); mates = λ c h. absurd (dead c h) };
+    no_edge = dead 0;
+    loops_tied = record { entries = λ l cell at. cc; stands = λ h a. absurd (dead h a) };
+    solids_fit = fits-empty;
+    faces_fit = fits-empty;
+    loops_fit = fits-empty;
+    vertices_fit = fits-empty;
+    points = λ v p at. cc;
+  }
+
+  no_room_row : (e : ℕ) → edge_room known e ≡ None
+  no_room_row e = ap (λ b. cond (nat_lt 0 e && (b && known (minus e))) (Some tt) None) (unknown (plus e)) ∙ ap (λ b. cond b (Some tt) None) (and-false (nat_lt 0 e))
+
+  pub view-empty : store_of sp known [] [] [] [] ≡ empty_store
+  unfolding empty_model
+  view-empty = λ i. record {
+    model = record {
+      solids = table_of-empty solid_row i;
+      faces = table_of-empty face_row i;
+      loops = table_of-empty (loop_row sp) i;
+      edges = nothing (edge_row sp) codes (λ e. ap (λ o. both_tails o (sp (minus e))) (none (plus e))) i;
+      vertices = table_of-empty {X = Point} (λ p. p) i;
+    };
+    loose = nothing (loose_row sp) codes (λ k. ap (λ o. cond (is_some o && (nat_eq (label sp k) 0 && nat_eq (head_or 0 (ring sp k)) k)) (Some (ring sp k)) None) (none k)) i;
+    room = record { solids = 0; faces = 0; loops = 0; edges = nothing (edge_room known) edges_end no_room_row i; vertices = 0 };
+  }
+
+-- no number passes the rows, or the limit
+pub no_row_past : {X Y : Type 0} (f : X → Y) (rows : List (Option X)) (t k : ℕ) → length rows ≤ t + 1 → t < k → is_some (get (table_of f rows) k) ≡ false
+no_row_past f rows t k l h = has_is f rows k ∙ ap is_some (row_past rows k (omega arith))
+
+pub no_edge_past : (sp : Spots) → AreRings sp → (known : ℕ → Bool) → ((c : ℕ) → live sp c ≡ true → known c ≡ true) → (t : ℕ) → ((e : ℕ) → known (plus e) ≡ true → e ≤ t) → (k : ℕ) → t < k → is_some (get (tabulate (edge_row sp) codes) k) ≡ false
+no_edge_past sp R known awake t bound k h = go (is_some (get (tabulate (edge_row sp) codes) k)) refl where
+  go : (b : Bool) → is_some (get (tabulate (edge_row sp) codes) k) ≡ b → b ≡ false
+  go true e = let l = bound k (awake (plus k) (edge_live sp R k e).0) in absurd (omega arith)
+  go false e = refl
+
+-- ---- a number in use has its room
+
+and_both : (p q : Bool) → p ≡ true → q ≡ true → p && q ≡ true
+and_both true q e f = f
+and_both false q e f = e
+
+pub row_has_room : {X : Type 0} (rows : List (Option X)) (n : ℕ) → Fits rows → is_some (row_at rows n) ≡ true → within n (length rows - 1) ≡ true
+row_has_room rows n fits h =
+    let some = row_not_zero rows n fits h in
+    let below = row_within rows n h in
+    grind (arith, nat_tests)
+
+pub edge_keeps_room : (sp : Spots) → AreRings sp → live sp 0 ≢ true → (known : ℕ → Bool) → ((c : ℕ) → live sp c ≡ true → known c ≡ true) → (e : ℕ) → nat_le e 1000000 && live sp (plus e) ≡ true → is_some (get (tabulate (edge_room known) edges_end) e) ≡ true
+edge_keeps_room sp R zero known awake e h =
+    let both = edge_live sp R e (edge_has sp R e ∙ h) in
+    let within = R.bound (plus e) both.0 in
+    let some : e ≢ 0 = λ z. zero (ap (λ k. live sp (plus k)) (sym z) ∙ both.0) in
+    let least : nat_lt 0 e ≡ true = grind (arith, nat_tests) in
+    let most : nat_le e 1000000 ≡ true = let l : e ≤ 1000000 = omega (arith, codes_are, within) in grind (arith, nat_tests) in
+    edge_has_room known e ∙ and_both _ _ most (and_both _ _ least (and_both _ _ (awake (plus e) both.0) (awake (minus e) both.1)))

@@ -1,0 +1,157 @@
+-- The store where rows have been added, or nodes.
+use Rattle.std.proofs.Common.{◌≡◌, ℕ, ◌-◌, ◌≤◌, Bool, true, false, List, length, Option, is_some, refl, sym, ap, subst, ◌∙◌, arith, true≢false}
+use Rattle.std.proofs.lemmas.Bool.Decides.{nat_tests}
+use Rattle.lattice.specs.declared.Point.{Point}
+use Rattle.arena_rows.specs.declared.rows.FaceCell.{FaceCell}
+use Rattle.arena_rows.specs.declared.rows.LoopCell.{LoopCell}
+use Rattle.boundary_model.specs.Table.{get}
+use Rattle.arena_rows.specs.Rows.{row_at}
+use Rattle.arena_rows.specs.Store.{Store}
+use Rattle.ring_spots.specs.Spots.{Spots, label}
+use Rattle.arena_rows.specs.View.{store_of, IsTied, Fits, AreLoops, loop_row, face_row, solid_row}
+use Rattle.std.proofs.Common.{ℕ, ◌<◌, ◌&&◌, nat_le, nat_lt, Result, Ok, Err, OnOk}
+use Rattle.boundary_model.specs.declared.Kind.{Kind}
+use Rattle.boundary_model.specs.HalfEdge.{plus, minus}
+use Rattle.boundary_model.specs.Table.{tabulate}
+use Rattle.arena_rows.specs.Rows.{map_row}
+use Rattle.arena_rows.specs.Store.{within, has_room, HasGrown}
+use Rattle.ring_spots.specs.Spots.{edges_end}
+use Rattle.ring_spots.specs.SpotTables.{edge_room}
+use Rattle.arena_rows.proofs.Views.{table_of-same}
+use Rattle.arena_rows.proofs.Writes.{tied_solids, tied_faces, tied_loops, tied_vertices}
+use Rattle.ring_spots.proofs.SpotTables.{edge_has_room}
+
+within_more : (n k m : ℕ) → k ≤ m → within n (k - 1) ≡ true → within n (m - 1) ≡ true
+within_more n k m l h = grind (arith, nat_tests)
+
+within_is : (n k : ℕ) → 1 ≤ n → n < k → within n (k - 1) ≡ true
+within_is n k l h = grind (arith, nat_tests)
+
+pub fits-same : {X : Type 0} (rows new : List (Option X)) → Fits rows → ((q : ℕ) → row_at new q ≡ row_at rows q) → length new ≤ 1000001 → Fits new
+fits-same rows new fits same limit = record { no_zero = same 0 ∙ fits.no_zero; within = limit }
+
+pub rooms_ok : {E : Type 0} (r : Result (Unit {0}) E) (n k : ℕ) → 1 ≤ n → OnOk r (n < k) → OnOk r (within n (k - 1) ≡ true)
+rooms_ok (Ok u) n k l h = within_is n k l h
+rooms_ok (Err e) n k l h = tt
+
+and_both : (p q : Bool) → p ≡ true → q ≡ true → p && q ≡ true
+and_both true q e f = f
+and_both false q e f = e
+
+and_first : (p q : Bool) → p && q ≡ true → p ≡ true
+and_first true q h = refl
+and_first false q h = h
+
+and_second : (p q : Bool) → p && q ≡ true → q ≡ true
+and_second true q h = h
+and_second false q h = absurd (true≢false (sym h))
+
+module _ (sp : Spots) (known : ℕ → Bool) (solids : List (Option Bool)) (faces : List (Option FaceCell)) (loops : List (Option LoopCell)) (vertices : List (Option Point)) (tied : IsTied sp known solids faces loops vertices) where
+  abbrev S : Store
+  S = store_of sp known solids faces loops vertices
+
+  module _ (new : List (Option Bool)) (same : (q : ℕ) → row_at new q ≡ row_at solids q) (grows : length solids ≤ length new) (limit : length new ≤ 1000001) where
+    pub more_solids : IsTied sp known new faces loops vertices
+    more_solids = tied_solids sp known solids faces loops vertices tied new (fits-same solids new tied.solids_fit same limit)
+
+    pub grown_solids : HasGrown S (store_of sp known new faces loops vertices)
+    grown_solids = record {
+      model = λ i. record S.model { solids = table_of-same solid_row solid_row solids new (λ q. ap (map_row solid_row) (same q)) i };
+      loose = refl;
+      kept = λ kind n. kept_solids n kind;
+    } where
+      kept_solids : (n : ℕ) (kind : Kind) → has_room S kind n ≡ true → has_room (store_of sp known new faces loops vertices) kind n ≡ true
+      kept_solids n Kind.Solid h = within_more n (length solids) (length new) grows h
+      kept_solids n Kind.Face h = h
+      kept_solids n Kind.Loop h = h
+      kept_solids n Kind.Edge h = h
+      kept_solids n Kind.Vertex h = h
+
+  module _ (new : List (Option FaceCell)) (same : (q : ℕ) → row_at new q ≡ row_at faces q) (grows : length faces ≤ length new) (limit : length new ≤ 1000001) where
+    pub more_faces : IsTied sp known solids new loops vertices
+    more_faces = tied_faces sp known solids faces loops vertices tied new (fits-same faces new tied.faces_fit same limit)
+
+    pub grown_faces : HasGrown S (store_of sp known solids new loops vertices)
+    grown_faces = record {
+      model = λ i. record S.model { faces = table_of-same face_row face_row faces new (λ q. ap (map_row face_row) (same q)) i };
+      loose = refl;
+      kept = λ kind n. kept_faces n kind;
+    } where
+      kept_faces : (n : ℕ) (kind : Kind) → has_room S kind n ≡ true → has_room (store_of sp known solids new loops vertices) kind n ≡ true
+      kept_faces n Kind.Solid h = h
+      kept_faces n Kind.Face h = within_more n (length faces) (length new) grows h
+      kept_faces n Kind.Loop h = h
+      kept_faces n Kind.Edge h = h
+      kept_faces n Kind.Vertex h = h
+
+  module _ (new : List (Option LoopCell)) (same : (q : ℕ) → row_at new q ≡ row_at loops q) (grows : length loops ≤ length new) (limit : length new ≤ 1000001) where
+    loops_same_rows : AreLoops sp new
+    loops_same_rows = record {
+      entries = λ q cell at. tied.loops_tied.entries q cell (sym (same q) ∙ at);
+      stands = λ h a n. let s = tied.loops_tied.stands h a n in record { face = s.face; entry = s.entry; here = same (label sp h) ∙ s.here; item = s.item };
+    }
+
+    pub more_loops : IsTied sp known solids faces new vertices
+    more_loops = tied_loops sp known solids faces loops vertices tied new (fits-same loops new tied.loops_fit same limit) loops_same_rows
+
+    pub grown_loops : HasGrown S (store_of sp known solids faces new vertices)
+    grown_loops = record {
+      model = λ i. record S.model { loops = table_of-same (loop_row sp) (loop_row sp) loops new (λ q. ap (map_row (loop_row sp)) (same q)) i };
+      loose = refl;
+      kept = λ kind n. kept_loops n kind;
+    } where
+      kept_loops : (n : ℕ) (kind : Kind) → has_room S kind n ≡ true → has_room (store_of sp known solids faces new vertices) kind n ≡ true
+      kept_loops n Kind.Solid h = h
+      kept_loops n Kind.Face h = h
+      kept_loops n Kind.Loop h = within_more n (length loops) (length new) grows h
+      kept_loops n Kind.Edge h = h
+      kept_loops n Kind.Vertex h = h
+
+  module _ (new : List (Option Point)) (same : (q : ℕ) → row_at new q ≡ row_at vertices q) (grows : length vertices ≤ length new) (limit : length new ≤ 1000001) where
+    pub more_vertices : IsTied sp known solids faces loops new
+    more_vertices = tied_vertices sp known solids faces loops vertices tied new (fits-same vertices new tied.vertices_fit same limit) (λ v p at. tied.points v p (sym (same v) ∙ at))
+
+    pub grown_vertices : HasGrown S (store_of sp known solids faces loops new)
+    grown_vertices = record {
+      model = λ i. record S.model { vertices = table_of-same (λ p. p) (λ p. p) vertices new (λ q. ap (map_row (λ p. p)) (same q)) i };
+      loose = refl;
+      kept = λ kind n. kept_vertices n kind;
+    } where
+      kept_vertices : (n : ℕ) (kind : Kind) → has_room S kind n ≡ true → has_room (store_of sp known solids faces loops new) kind n ≡ true
+      kept_vertices n Kind.Solid h = h
+      kept_vertices n Kind.Face h = h
+      kept_vertices n Kind.Loop h = h
+      kept_vertices n Kind.Edge h = h
+      kept_vertices n Kind.Vertex h = within_more n (length vertices) (length new) grows h
+
+  module _ (sp' : Spots) (known' : ℕ → Bool) (spots : sp' ≡ sp) (keeps : (c : ℕ) → known c ≡ true → known' c ≡ true) where
+    pub more_edges : IsTied sp' known' solids faces loops vertices
+    more_edges = subst (λ s. IsTied s known' solids faces loops vertices) (sym spots) (record { rings = tied.rings; no_edge = tied.no_edge; loops_tied = tied.loops_tied; solids_fit = tied.solids_fit; faces_fit = tied.faces_fit; loops_fit = tied.loops_fit; vertices_fit = tied.vertices_fit; points = tied.points })
+
+    room_kept : (e : ℕ) → is_some (get (tabulate (edge_room known) edges_end) e) ≡ true → is_some (get (tabulate (edge_room known') edges_end) e) ≡ true
+    room_kept e h =
+        let r = sym (edge_has_room known e) ∙ h in
+        let rest = and_second (nat_le e 1000000) _ r in
+        let keys = and_second (nat_lt 0 e) _ rest in
+        edge_has_room known' e ∙ and_both (nat_le e 1000000) _ (and_first (nat_le e 1000000) _ r)
+        (and_both (nat_lt 0 e) _ (and_first (nat_lt 0 e) _ rest) (and_both (known' (plus e)) _ (keeps (plus e) (and_first (known (plus e)) _ keys)) (keeps (minus e) (and_second (known (plus e)) _ keys))))
+
+    pub grown_edges : HasGrown S (store_of sp' known' solids faces loops vertices)
+    grown_edges = record {
+      model = λ i. (store_of (spots i) known' solids faces loops vertices).model;
+      loose = λ i. (store_of (spots i) known' solids faces loops vertices).loose;
+      kept = λ kind n. kept_edges n kind;
+    } where
+      kept_edges : (n : ℕ) (kind : Kind) → has_room S kind n ≡ true → has_room (store_of sp' known' solids faces loops vertices) kind n ≡ true
+      kept_edges n Kind.Solid h = h
+      kept_edges n Kind.Face h = h
+      kept_edges n Kind.Loop h = h
+      kept_edges n Kind.Edge h = room_kept n h
+      kept_edges n Kind.Vertex h = h
+
+pub edges_ok : {E : Type 0} (known : ℕ → Bool) (r : Result (Unit {0}) E) (e : ℕ) → 1 ≤ e → e ≤ 1000000 → OnOk r ((known (plus e) ≡ true) × (known (minus e) ≡ true)) → OnOk r (is_some (get (tabulate (edge_room known) edges_end) e) ≡ true)
+edges_ok known (Ok u) e l m h =
+    let p : nat_le e 1000000 ≡ true = grind (arith, nat_tests) in
+    let q : nat_lt 0 e ≡ true = grind (arith, nat_tests) in
+    edge_has_room known e ∙ and_both _ _ p (and_both _ _ q (and_both _ _ h.0 h.1))
+edges_ok known (Err x) e l m h = tt

@@ -1,0 +1,104 @@
+-- What becomes of the store where one row is written.
+use Rattle.std.proofs.Common.{◌≡◌, ℕ, ◌-◌, Bool, true, false, cond, nat_eq, List, [], length, Option, Some, None, is_some, refl, sym, ap, subst, ◌∙◌, arith, true≢false, eq-eqb, inl, inr}
+use Rattle.std.proofs.lemmas.Bool.Decides.{eqb_tells}
+use Rattle.lattice.specs.declared.Point.{Point}
+use Rattle.lattice.specs.Point.{IsInRange}
+use Rattle.cyclic_list.specs.Items.{count}
+use Rattle.arena_rows.specs.declared.rows.FaceCell.{FaceCell}
+use Rattle.arena_rows.specs.declared.rows.LoopCell.{LoopCell}
+use Rattle.arena_rows.specs.declared.rows.Held.{Held}
+use Rattle.arena_rows.specs.declared.rows.Held.TheVariants.{Empty}
+use Rattle.boundary_model.specs.Table.{Table}
+use Rattle.arena_rows.specs.Rows.{row_at, table_of}
+use Rattle.boundary_model.specs.Model.{cycle, FaceRow, LoopRow, items_of}
+use Rattle.arena_rows.specs.Store.{Store}
+use Rattle.ring_spots.specs.Spots.{Spots, live, label, ring}
+use Rattle.arena_rows.specs.View.{store_of, IsTied, Fits, AreLoops, HasEntry, StandsAt, held_content, loop_row, face_row, solid_row}
+use Rattle.arena_rows.proofs.Views.{some_is}
+
+pub row_here : {X : Type 0} (rows new : List (Option X)) (n : ℕ) (x : Option X) → ((q : ℕ) → row_at new q ≡ cond (nat_eq q n) x (row_at rows q)) → row_at new n ≡ x
+row_here rows new n x is = is n ∙ ap (λ b. cond b x (row_at rows n)) (eq-eqb n n refl)
+
+module _ (sp : Spots) (known : ℕ → Bool) (solids : List (Option Bool)) (faces : List (Option FaceCell)) (loops : List (Option LoopCell)) (vertices : List (Option Point)) (tied : IsTied sp known solids faces loops vertices) where
+  abbrev S : Store
+  S = store_of sp known solids faces loops vertices
+
+  pub tied_solids : (new : List (Option Bool)) → Fits new → IsTied sp known new faces loops vertices
+  tied_solids new fits = record { rings = tied.rings; no_edge = tied.no_edge; loops_tied = tied.loops_tied; solids_fit = fits; faces_fit = tied.faces_fit; loops_fit = tied.loops_fit; vertices_fit = tied.vertices_fit; points = tied.points }
+
+  pub store_solids : (new : List (Option Bool)) (t : Table (Unit {0})) → length new ≡ length solids → table_of solid_row new ≡ t → store_of sp known new faces loops vertices ≡ record S { model = record S.model { solids = t } }
+  store_solids new t len e = λ i. record S { model = record S.model { solids = e i }; room = record S.room { solids = len i - 1 } }
+
+  pub tied_faces : (new : List (Option FaceCell)) → Fits new → IsTied sp known solids new loops vertices
+  tied_faces new fits = record { rings = tied.rings; no_edge = tied.no_edge; loops_tied = tied.loops_tied; solids_fit = tied.solids_fit; faces_fit = fits; loops_fit = tied.loops_fit; vertices_fit = tied.vertices_fit; points = tied.points }
+
+  pub store_faces : (new : List (Option FaceCell)) (t : Table FaceRow) → length new ≡ length faces → table_of face_row new ≡ t → store_of sp known solids new loops vertices ≡ record S { model = record S.model { faces = t } }
+  store_faces new t len e = λ i. record S { model = record S.model { faces = e i }; room = record S.room { faces = len i - 1 } }
+
+  pub tied_vertices : (new : List (Option Point)) → Fits new → ((v : ℕ) (p : Point) → row_at new v ≡ Some p → IsInRange p) → IsTied sp known solids faces loops new
+  tied_vertices new fits points = record { rings = tied.rings; no_edge = tied.no_edge; loops_tied = tied.loops_tied; solids_fit = tied.solids_fit; faces_fit = tied.faces_fit; loops_fit = tied.loops_fit; vertices_fit = fits; points = points }
+
+  pub store_vertices : (new : List (Option Point)) (t : Table Point) → length new ≡ length vertices → table_of (λ p. p) new ≡ t → store_of sp known solids faces loops new ≡ record S { model = record S.model { vertices = t } }
+  store_vertices new t len e = λ i. record S { model = record S.model { vertices = e i }; room = record S.room { vertices = len i - 1 } }
+
+  pub tied_loops : (new : List (Option LoopCell)) → Fits new → AreLoops sp new → IsTied sp known solids faces new vertices
+  tied_loops new fits are = record { rings = tied.rings; no_edge = tied.no_edge; loops_tied = are; solids_fit = tied.solids_fit; faces_fit = tied.faces_fit; loops_fit = fits; vertices_fit = tied.vertices_fit; points = tied.points }
+
+  pub store_loops : (new : List (Option LoopCell)) (t : Table LoopRow) → length new ≡ length loops → table_of (loop_row sp) new ≡ t → store_of sp known solids faces new vertices ≡ record S { model = record S.model { loops = t } }
+  store_loops new t len e = λ i. record S { model = record S.model { loops = e i }; room = record S.room { loops = len i - 1 } }
+
+-- points stay in range
+pub points_write : (rows new : List (Option Point)) (n : ℕ) (x : Option Point) → ((v : ℕ) (p : Point) → row_at rows v ≡ Some p → IsInRange p) → ((p : Point) → x ≡ Some p → IsInRange p) → ((q : ℕ) → row_at new q ≡ cond (nat_eq q n) x (row_at rows q)) → (v : ℕ) (p : Point) → row_at new v ≡ Some p → IsInRange p
+points_write rows new n x old here is v p at = elim (eqb_tells v n) [
+  | inl e ↦ here p (sym (is v ∙ ap (λ b. cond b x (row_at rows v)) e.0) ∙ at)
+  | inr e ↦ old v p (sym (is v ∙ ap (λ b. cond b x (row_at rows v)) e.0) ∙ at)
+]
+
+pub stands_kept : (sp : Spots) (rows new : List (Option LoopCell)) (h q : ℕ) → row_at new q ≡ row_at rows q → StandsAt sp rows h q → StandsAt sp new h q
+stands_kept sp rows new h q e s = record { face = s.face; entry = s.entry; here = e ∙ s.here; item = s.item }
+
+-- the loops where one row is written
+pub loops_write : (sp : Spots) (rows new : List (Option LoopCell)) (l : ℕ) (x : Option LoopCell) → AreLoops sp rows → ((cell : LoopCell) → x ≡ Some cell → HasEntry sp l cell.held) →
+    ((h : ℕ) → live sp h ≡ true → StandsAt sp rows h l → StandsAt sp new h l) → ((q : ℕ) → row_at new q ≡ cond (nat_eq q l) x (row_at rows q)) → AreLoops sp new
+loops_write sp rows new l x are entry keeps is = record {
+  entries = λ q cell at. elim (eqb_tells q l) [
+    | inl e ↦ subst (λ k. HasEntry sp k cell.held) (sym e.1) (entry cell (sym (is q ∙ ap (λ b. cond b x (row_at rows q)) e.0) ∙ at))
+    | inr e ↦ are.entries q cell (sym (is q ∙ ap (λ b. cond b x (row_at rows q)) e.0) ∙ at)
+  ];
+  stands = λ h a n. elim (eqb_tells (label sp h) l) [
+    | inl e ↦ subst (StandsAt sp new h) (sym e.1) (keeps h a (subst (StandsAt sp rows h) e.1 (are.stands h a n)))
+    | inr e ↦ stands_kept sp rows new h (label sp h) (is (label sp h) ∙ ap (λ b. cond b x (row_at rows (label sp h))) e.0) (are.stands h a n)
+  ];
+}
+
+-- a code that stands in a loop is found at an entry
+no_stand : (sp : Spots) (rows : List (Option LoopCell)) (h l : ℕ) → is_some (row_at rows l) ≡ false → StandsAt sp rows h l → ⊥
+no_stand sp rows h l free s = true≢false (sym (ap is_some s.here) ∙ free)
+
+pub no_stand_free : (sp : Spots) (rows new : List (Option LoopCell)) (h l : ℕ) → is_some (row_at rows l) ≡ false → StandsAt sp rows h l → StandsAt sp new h l
+no_stand_free sp rows new h l free s = absurd (no_stand sp rows h l free s)
+
+pub no_stand_bare : (sp : Spots) (rows new : List (Option LoopCell)) (cell : LoopCell) (h l : ℕ) → row_at rows l ≡ Some cell → items_of (held_content sp cell.held) ≡ [] → StandsAt sp rows h l → StandsAt sp new h l
+no_stand_bare sp rows new cell h l at bare s =
+    let e : held_content sp cell.held ≡ cycle (ring sp s.entry) = ap (λ c. held_content sp c.held) (some_is _ _ (sym at ∙ s.here)) in
+    let z : count h (ring sp s.entry) ≡ 0 = ap (count h) (sym (ap items_of e) ∙ bare) in
+    let i = s.item in
+    absurd (omega arith)
+
+pub stand_moved : (sp : Spots) (rows new : List (Option LoopCell)) (cell : LoopCell) (h l f : ℕ) → row_at rows l ≡ Some cell → row_at new l ≡ Some (record { face = f; held = cell.held }) → StandsAt sp rows h l → StandsAt sp new h l
+stand_moved sp rows new cell h l f at is s = record {
+  face = f;
+  entry = s.entry;
+  here = is ∙ ap (λ c. Some (record { face = f; held = c.held })) (some_is _ _ (sym at ∙ s.here));
+  item = s.item;
+}
+
+pub entry_empty : (sp : Spots) (l f : ℕ) (cell : LoopCell) → Some (record { face = f; held = Empty }) ≡ Some cell → HasEntry sp l cell.held
+entry_empty sp l f cell e = subst (HasEntry sp l) (ap (λ c. c.held) (some_is _ _ e)) tt
+
+pub entry_same : (sp : Spots) (l f : ℕ) (held : Held) (cell : LoopCell) → HasEntry sp l held → Some (record { face = f; held = held }) ≡ Some cell → HasEntry sp l cell.held
+entry_same sp l f held cell h e = subst (HasEntry sp l) (ap (λ c. c.held) (some_is _ _ e)) h
+
+pub row_some : {X : Type 0} (o : Option X) → is_some o ≡ true → (x : X) × (o ≡ Some x)
+row_some None h = absurd (true≢false (sym h))
+row_some (Some x) h = (x, refl)

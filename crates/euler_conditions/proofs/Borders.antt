@@ -1,0 +1,225 @@
+-- Edges between listed faces and others.
+use Rattle.std.proofs.Common.{◌≡◌, ◌≢◌, ℕ, ◌≤◌, ◌<◌, Bool, true, false, cond, not, nat_eq, ◌&&◌, ◌||◌, List, [], ◌∷◌, ◌++◌, length, append_assoc, Option, Some, None, Ok, Err, is_some, refl, sym, ap, subst, ◌∙◌, arith, true≢false, ◌⊎◌, inl, inr}
+use Rattle.std.proofs.lemmas.Bool.Decides.{nat_tests, eqb_tells}
+use Rattle.cyclic_list.specs.Items.{IsIn}
+use Rattle.boundary_model.specs.HalfEdge.{code, mate, edge_of, plus, minus}
+use Rattle.boundary_model.specs.declared.HalfEdge.{HalfEdge}
+use Rattle.boundary_model.specs.declared.Content.TheVariants as Content
+use Rattle.boundary_model.specs.Table as table
+use Rattle.boundary_model.specs.Table.{first_where}
+use Rattle.boundary_model.specs.Model.{Model, EdgeRow, LoopContent, lone, cycle, items_of, content, face_of, outer, loop_of, solid_of, faces_of, is_ring_of, is_number}
+use Rattle.boundary_model.specs.Sound.{Sound, Has, HasHalf}
+use Rattle.boundary_model.proofs.Halves.{plus_row, minus_row}
+use Rattle.boundary_model.proofs.Models.{in-holds, holds_in}
+use Rattle.boundary_model.proofs.Tables.{first_where_zero, zero_first_where}
+use Rattle.arena_rows.specs.Store.{Tells, IsNextRing}
+use Rattle.euler_operators.specs.Conditions.{Condition, AllHold, conditions, first_false, need, never, first_refusal, verdict, numbers_in_range, faces_known, faces_in, lists, lists_all, strictly_rises, is_empty, is_bad_part, face_at, torn_edge, differ, has_rings}
+use Rattle.euler_operators.specs.declared.Refusal.{Refusal}
+use Rattle.euler_operators.specs.declared.Why.TheVariants.{NoSolid, SolidTaken, BadPart}
+use Rattle.euler_operators.specs.declared.Op.TheVariants.{Part}
+use Rattle.euler_laws_shared.proofs.Arcs.{halves_of_edge}
+use Rattle.euler_laws_shared.proofs.Goes.{all_hold, equal, equals, differs, not_true}
+use Rattle.euler_laws_shared.proofs.Loops.{some_row}
+use Rattle.euler_laws_shared.proofs.Rows.{no_rings_means, face_there}
+use Rattle.euler_laws_shared.proofs.Listed.{all_where-rises, passes_listed, listed_cases}
+use Rattle.euler_conditions.specs.Parts.{StaysIn, FaceLeadsOut, FaceStaysIn, AreFacesOf, parts_known}
+use Rattle.euler_conditions.proofs.Orders.{part_refuses, part_holds}
+use Rattle.euler_conditions.proofs.Rising.{all_listed}
+use Rattle.euler_conditions.proofs.Parallel.{mate_plus, mate_minus}
+use Rattle.euler_conditions.proofs.Known.{loop_there}
+
+pub lone_has_none : (c : LoopContent) (v : ℕ) → Tells c (Content.Lone v) → items_of c ≡ []
+lone_has_none (lone w) v t = refl
+lone_has_none (cycle hs) v t = absurd t
+
+pub ring_has : (c : LoopContent) (h : HalfEdge) → Tells c (Content.Ring h) → IsIn (code h) (items_of c)
+ring_has (lone w) h t = absurd t
+ring_has (cycle hs) h t = t
+
+and_parts : (a b : Bool) → (a && b) ≡ true → (a ≡ true) × (b ≡ true)
+and_parts true b e = (refl, e)
+and_parts false b e = absurd (true≢false (sym e))
+
+pub ring_there : (M : Model) (f l : ℕ) → is_ring_of M f l ≡ true → Has M.loops l × (face_of M l ≡ f)
+ring_there M f l e = let p = and_parts (table.has M.loops l && nat_eq (face_of M l) f) (not (nat_eq (outer M f) l)) e in let q = and_parts (table.has M.loops l) (nat_eq (face_of M l) f) p.0 in (q.0, equal (face_of M l) f q.1)
+
+pub outer_or_ring : (M : Model) (f l : ℕ) → Has M.loops l → face_of M l ≡ f → (outer M f ≡ l) ⊎ (is_ring_of M f l ≡ true)
+outer_or_ring M f l t e = elim (eqb_tells (outer M f) l) [
+  | inl o ↦ inl o.1
+  | inr o ↦ inr (ap (λ b. b && nat_eq (face_of M l) f && not (nat_eq (outer M f) l)) t ∙ ap (λ b. b && not (nat_eq (outer M f) l)) (equals (face_of M l) f e) ∙ ap not o.0)
+]
+
+pub ring_number : (M : Model) → Sound M → (l : ℕ) → Has M.loops l → l ≤ 1000000
+ring_number M sound l t = go l (sound.loops_fit l t) where
+  go : (l : ℕ) → is_number l ≡ true → l ≤ 1000000
+  go l e = grind (arith, nat_tests)
+
+-- a face whose outer loop and rings stay in
+pub face_stays : (M : Model) (fs : List ℕ) (f : ℕ) → StaysIn M fs (outer M f) → ((l : ℕ) → is_ring_of M f l ≡ true → StaysIn M fs l) → FaceStaysIn M fs f
+face_stays M fs f o r l t e = elim (outer_or_ring M f l t e) [ inl p ↦ subst (StaysIn M fs) p o | inr p ↦ r l p ]
+
+pub outer_stays : (M : Model) (fs : List ℕ) (f : ℕ) → StaysIn M fs (outer M f) → has_rings M f ≡ false → FaceStaysIn M fs f
+outer_stays M fs f o none l t e = subst (StaysIn M fs) (no_rings_means M f none l t e) o
+
+module _ (M : Model) (sound : Sound M) (fs : List ℕ) where
+  abbrev Test : ℕ → EdgeRow → Bool
+  Test e row = differ (lists fs (face_at M (plus e))) (lists fs (face_at M (minus e)))
+
+  differ_in : (a b : Bool) → a ≡ true → b ≡ false → differ a b ≡ true
+  differ_in a b p q = ap (λ c. cond c (not b) b) p ∙ ap not q
+
+  differ_out : (a b : Bool) → a ≡ false → b ≡ true → differ a b ≡ true
+  differ_out a b p q = ap (λ c. cond c (not b) b) p ∙ q
+
+  differ_cases : (a b : Bool) → differ a b ≡ true → ((a ≡ true) × (b ≡ false)) ⊎ ((a ≡ false) × (b ≡ true))
+  differ_cases true b e = inl (refl, not_true b e)
+  differ_cases false b e = inr (refl, e)
+
+  tested : (x : ℕ) (row : EdgeRow) → lists fs (face_at M x) ≡ true → lists fs (face_at M (mate x)) ≡ false → Test (edge_of x) row ≡ true
+  tested x row p q = elim (halves_of_edge x) [
+    | inl e ↦ differ_in _ _ (ap (λ y. lists fs (face_at M y)) (sym e.0) ∙ p) (ap (λ y. lists fs (face_at M y)) (sym (ap mate e.0 ∙ mate_plus (edge_of x))) ∙ q)
+    | inr e ↦ differ_out _ _ (ap (λ y. lists fs (face_at M y)) (sym (ap mate e.0 ∙ mate_minus (edge_of x))) ∙ q) (ap (λ y. lists fs (face_at M y)) (sym e.0) ∙ p)
+  ]
+
+  edge_used : (e : ℕ) (row : EdgeRow) → table.get M.edges e ≡ Some row → e ≢ 0
+  edge_used e row at z = go e (sound.edges_fit e (ap is_some at)) z where
+    go : (e : ℕ) → is_number e ≡ true → e ≡ 0 → ⊥
+    go e n z = grind (arith, nat_tests)
+
+  pub out_torn : (f : ℕ) → lists fs f ≡ true → FaceLeadsOut M fs f → true ≡ not (nat_eq (torn_edge M fs) 0)
+  out_torn f l o =
+      let x : ℕ = o.3.0 in let stands = in-holds x (content M o.0) o.3.1 in
+      let there : HasHalf M x = sound.only_edges x o.0 stands in
+      let face_is : face_at M x ≡ f = ap (face_of M) (sound.one_loop x o.0 stands) ∙ o.2 in
+      let r = some_row (table.get M.edges (edge_of x)) there in
+      sym (ap not (differs (torn_edge M fs) 0 (λ z. true≢false (sym (tested x r.0 (ap (lists fs) face_is ∙ l) o.3.2) ∙ zero_first_where Test M.edges edge_used z (edge_of x) r.0 r.1))))
+
+  listed_half : ((f : ℕ) → lists fs f ≡ true → FaceStaysIn M fs f) → (x : ℕ) → HasHalf M x → lists fs (face_at M x) ≡ true → lists fs (face_at M (mate x)) ≡ true
+  listed_half stay x t l = stay (face_at M x) l (loop_of M x) (loop_there M sound x t) refl x (holds_in x (content M (loop_of M x)) (sound.stands x t))
+
+  pub none_torn : ((f : ℕ) → lists fs f ≡ true → FaceStaysIn M fs f) → false ≡ not (nat_eq (torn_edge M fs) 0)
+  none_torn stay = sym (ap not (equals (torn_edge M fs) 0 (first_where_zero Test M.edges (λ e row at. go e row at (Test e row) refl)))) where
+    go : (e : ℕ) (row : EdgeRow) → table.get M.edges e ≡ Some row → (b : Bool) → Test e row ≡ b → Test e row ≡ false
+    go e row at false p = p
+    go e row at true p = absurd (elim (differ_cases (lists fs (face_at M (plus e))) (lists fs (face_at M (minus e))) p) [
+      | inl q ↦ true≢false (sym (ap (λ y. lists fs (face_at M y)) (sym (mate_plus e)) ∙ listed_half stay (plus e) (ap (table.has M.edges) (plus_row e).0 ∙ ap is_some at) q.0) ∙ q.1)
+      | inr q ↦ true≢false (sym (ap (λ y. lists fs (face_at M y)) (sym (mate_minus e)) ∙ listed_half stay (minus e) (ap (table.has M.edges) (minus_row e).0 ∙ ap is_some at) q.1) ∙ q.0)
+    ])
+
+pub kept_in : (b : Bool) → not b ≡ false → b ≡ true
+kept_in true e = refl
+kept_in false e = absurd (true≢false e)
+
+-- the rings up to the next one
+pub rings_met : (M : Model) (fs : List ℕ) (f last ring : ℕ) → IsNextRing M f last (Some ring) → ((k : ℕ) → k ≤ last → is_ring_of M f k ≡ true → StaysIn M fs k) → StaysIn M fs ring → (k : ℕ) → k ≤ ring → is_ring_of M f k ≡ true → StaysIn M fs k
+rings_met M fs f last ring next old new k l r = elim (three k last ring l) [
+  | inl a ↦ old k a r
+  | inr b ↦ elim b [
+    | inl e ↦ subst (StaysIn M fs) (sym e) new
+    | inr c ↦ absurd (true≢false (sym r ∙ next.2 k c.0 c.1))
+  ]
+] where
+  three : (k last ring : ℕ) → k ≤ ring → (k ≤ last) ⊎ ((k ≡ ring) ⊎ ((last < k) × (k < ring)))
+  three k last ring l = grind arith
+
+-- the rings after the last one
+pub rings_done : (M : Model) (fs : List ℕ) (f last : ℕ) → IsNextRing M f last None → ((k : ℕ) → k ≤ last → is_ring_of M f k ≡ true → StaysIn M fs k) → (k : ℕ) → is_ring_of M f k ≡ true → StaysIn M fs k
+rings_done M fs f last none old k r = elim (two k last) [ inl a ↦ old k a r | inr b ↦ absurd (true≢false (sym r ∙ none k b)) ] where
+  two : (k last : ℕ) → (k ≤ last) ⊎ (last < k)
+  two k last = grind arith
+
+-- what makes a part bad, for rising faces of the solid
+pub bad_is : (M : Model) (s : ℕ) (fs : List ℕ) → AreFacesOf M s fs → strictly_rises fs ≡ true → is_empty fs ≡ false → is_bad_part M s fs ≡ (nat_eq (length fs) (length (faces_of M s)) || not (nat_eq (torn_edge M fs) 0))
+bad_is M s fs are rises some =
+    ap (λ b. b || not (strictly_rises fs) || lists_all fs (faces_of M s) || not (nat_eq (torn_edge M fs) 0)) some
+    ∙ ap (λ b. not b || lists_all fs (faces_of M s) || not (nat_eq (torn_edge M fs) 0)) rises
+    ∙ ap (λ b. b || not (nat_eq (torn_edge M fs) 0)) (all_listed fs (faces_of M s) rises (all_where-rises (λ _ row. nat_eq row.solid s) M.faces) inside) where
+      inside : (q : ℕ) → lists fs q ≡ true → lists (faces_of M s) q ≡ true
+      inside q l = let a = are q l in let r = face_there M q a.0 in passes_listed (λ _ row. nat_eq row.solid s) M.faces q _ r (equals (solid_of M q) s a.1)
+
+-- ---- the conditions of part, part by part
+
+module _ (M : Model) (s t : ℕ) (fs : List ℕ) (front : verdict (first_refusal (numbers_in_range (s ∷ t ∷ []))) ≡ Ok tt) where
+  abbrev solids : List Condition
+  solids = need (table.has M.solids s) NoSolid s ∷ never (table.has M.solids t) SolidTaken t ∷ []
+
+  pub list_refused : (e : Refusal) → verdict (first_refusal (numbers_in_range fs)) ≡ Err e → verdict (first_refusal (parts_known M s t fs)) ≡ Err e
+  list_refused e is = part_refuses (numbers_in_range (s ∷ t ∷ fs)) (solids ++ (faces_known M fs ++ faces_in M s fs)) e
+      (part_holds (numbers_in_range (s ∷ t ∷ [])) (numbers_in_range fs) front ∙ is)
+
+  module _ (listed : verdict (first_refusal (numbers_in_range fs)) ≡ Ok tt) where
+    numbers_held : verdict (first_refusal (parts_known M s t fs)) ≡ verdict (first_refusal (solids ++ (faces_known M fs ++ faces_in M s fs)))
+    numbers_held = part_holds (numbers_in_range (s ∷ t ∷ fs)) (solids ++ (faces_known M fs ++ faces_in M s fs)) (part_holds (numbers_in_range (s ∷ t ∷ [])) (numbers_in_range fs) front ∙ listed)
+
+    pub solid_refused : table.has M.solids s ≡ false → verdict (first_refusal (parts_known M s t fs)) ≡ Err (record { why = NoSolid; number = s })
+    solid_refused no_solid = numbers_held ∙ ap (λ b. verdict (cond b (first_refusal (never (table.has M.solids t) SolidTaken t ∷ (faces_known M fs ++ faces_in M s fs))) (Some (record { why = NoSolid; number = s })))) no_solid
+
+    module _ (has_solid : table.has M.solids s ≡ true) where
+      solid_held : verdict (first_refusal (parts_known M s t fs)) ≡ verdict (first_refusal (never (table.has M.solids t) SolidTaken t ∷ (faces_known M fs ++ faces_in M s fs)))
+      solid_held = numbers_held ∙ ap (λ b. verdict (cond b (first_refusal (never (table.has M.solids t) SolidTaken t ∷ (faces_known M fs ++ faces_in M s fs))) (Some (record { why = NoSolid; number = s })))) has_solid
+
+      pub taken_refused : table.has M.solids t ≡ true → verdict (first_refusal (parts_known M s t fs)) ≡ Err (record { why = SolidTaken; number = t })
+      taken_refused taken = solid_held ∙ ap (λ b. verdict (cond (not b) (first_refusal (faces_known M fs ++ faces_in M s fs)) (Some (record { why = SolidTaken; number = t })))) taken
+
+      pub faces_left : table.has M.solids t ≡ false → verdict (first_refusal (parts_known M s t fs)) ≡ verdict (first_refusal (faces_known M fs ++ faces_in M s fs))
+      faces_left free = solid_held ∙ ap (λ b. verdict (cond (not b) (first_refusal (faces_known M fs ++ faces_in M s fs)) (Some (record { why = SolidTaken; number = t })))) free
+
+-- faces that are known are there, and faces that are in the solid are of it
+ok_none : (o : Option Refusal) → verdict o ≡ Ok tt → o ≡ None
+ok_none None e = refl
+ok_none (Some r) e = cc
+
+hold_right : (cs ds : List Condition) → AllHold (cs ++ ds) → AllHold ds
+hold_right [] ds h = h
+hold_right (c ∷ cs) ds h = hold_right cs ds h.1
+
+hold_left : (cs ds : List Condition) → AllHold (cs ++ ds) → AllHold cs
+hold_left [] ds h = tt
+hold_left (c ∷ cs) ds h = (h.0, hold_left cs ds h.1)
+
+pub known_there : (M : Model) (fs : List ℕ) → verdict (first_refusal (faces_known M fs)) ≡ Ok tt → (q : ℕ) → lists fs q ≡ true → Has M.faces q
+known_there M fs e q l = go fs (all_hold (faces_known M fs) (ok_none (first_refusal (faces_known M fs)) e)) l where
+  go : (fs : List ℕ) → AllHold (faces_known M fs) → lists fs q ≡ true → Has M.faces q
+  go [] h l = absurd (true≢false (sym l))
+  go (f ∷ fs) h l = elim (listed_cases f q fs l) [ inl p ↦ ap (table.has M.faces) p ∙ h.0 | inr p ↦ go fs h.1 p ]
+
+-- ---- the last condition of part
+
+module _ (M : Model) (s t : ℕ) (fs : List ℕ) where
+  abbrev bad : List Condition
+  bad = never (is_bad_part M s fs) BadPart s ∷ []
+
+  part_is : conditions M (Part s t fs) ≡ parts_known M s t fs ++ bad
+  unfolding conditions
+  part_is = sym (append_assoc (numbers_in_range (s ∷ t ∷ fs)) (need (table.has M.solids s) NoSolid s ∷ never (table.has M.solids t) SolidTaken t ∷ faces_known M fs ++ faces_in M s fs) bad)
+
+  pub part_refused : (e : Refusal) → verdict (first_refusal (parts_known M s t fs)) ≡ Err e → verdict (first_false M (Part s t fs)) ≡ Err e
+  unfolding first_false
+  part_refused e is = ap (λ cs. verdict (first_refusal cs)) part_is ∙ part_refuses (parts_known M s t fs) bad e is
+
+  pub part_left : (b : Bool) → verdict (first_refusal (parts_known M s t fs)) ≡ Ok tt → is_bad_part M s fs ≡ b → verdict (first_false M (Part s t fs)) ≡ verdict (cond (not b) None (Some (record { why = BadPart; number = s })))
+  unfolding first_false
+  part_left b is e = ap (λ cs. verdict (first_refusal cs)) part_is ∙ part_holds (parts_known M s t fs) bad is ∙ ap (λ c. verdict (cond (not c) None (Some (record { why = BadPart; number = s })))) e
+
+  pub are_faces : verdict (first_refusal (parts_known M s t fs)) ≡ Ok tt → AreFacesOf M s fs
+  are_faces e f l =
+      let front = need (table.has M.solids s) NoSolid s ∷ never (table.has M.solids t) SolidTaken t ∷ faces_known M fs in
+      let h = hold_right (numbers_in_range (s ∷ t ∷ fs)) (front ++ faces_in M s fs) (all_hold (parts_known M s t fs) (ok_none (first_refusal (parts_known M s t fs)) e)) in
+      (known_in fs (hold_left front (faces_in M s fs) h).1.1 l, solid_in fs (hold_right front (faces_in M s fs) h) l) where
+        known_in : (gs : List ℕ) → AllHold (faces_known M gs) → lists gs f ≡ true → Has M.faces f
+        known_in [] h l = absurd (true≢false (sym l))
+        known_in (g ∷ gs) h l = elim (listed_cases g f gs l) [ inl p ↦ ap (table.has M.faces) p ∙ h.0 | inr p ↦ known_in gs h.1 p ]
+
+        solid_in : (gs : List ℕ) → AllHold (faces_in M s gs) → lists gs f ≡ true → solid_of M f ≡ s
+        solid_in [] h l = absurd (true≢false (sym l))
+        solid_in (g ∷ gs) h l = elim (listed_cases g f gs l) [ inl p ↦ ap (solid_of M) p ∙ equal (solid_of M g) s h.0 | inr p ↦ solid_in gs h.1 p ]
+
+pub not_empty : (fs : List ℕ) → length fs ≢ 0 → is_empty fs ≡ false
+not_empty [] ne = absurd (ne refl)
+not_empty (f ∷ fs) ne = refl
+
+pub bad_all : (M : Model) (s : ℕ) (fs : List ℕ) → AreFacesOf M s fs → strictly_rises fs ≡ true → is_empty fs ≡ false → length fs ≡ length (faces_of M s) → true ≡ is_bad_part M s fs
+bad_all M s fs are rises some e = sym (bad_is M s fs are rises some ∙ ap (λ b. b || not (nat_eq (torn_edge M fs) 0)) (equals (length fs) (length (faces_of M s)) e))
+
+pub bad_torn : (M : Model) (s : ℕ) (fs : List ℕ) → AreFacesOf M s fs → strictly_rises fs ≡ true → is_empty fs ≡ false → length fs ≢ length (faces_of M s) → not (nat_eq (torn_edge M fs) 0) ≡ is_bad_part M s fs
+bad_torn M s fs are rises some ne = sym (bad_is M s fs are rises some ∙ ap (λ b. b || not (nat_eq (torn_edge M fs) 0)) (differs (length fs) (length (faces_of M s)) ne))

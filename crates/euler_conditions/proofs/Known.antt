@@ -1,0 +1,69 @@
+-- What a sound model has: the things that its half-edges name.
+use Rattle.std.proofs.Common.{◌≡◌, ◌≢◌, ℕ, ◌+◌, ◌*◌, Bool, true, false, cond, not, nat_eq, ◌&&◌, [], is_some, refl, sym, ap, ◌∙◌, arith}
+use mathlib.Core.Bool.{beq}
+use Rattle.std.proofs.lemmas.Bool.Decides.{nat_tests}
+use Rattle.boundary_model.specs.declared.HalfEdge.{HalfEdge}
+use Rattle.boundary_model.specs.HalfEdge.{code, half, edge_of, mate}
+use Rattle.boundary_model.specs.Table as table
+use Rattle.boundary_model.specs.Model.{Model, cycle, content, loop_of, cycle_of, after, tail, is_number}
+use Rattle.boundary_model.specs.Sound.{Sound, Has, HasHalf}
+use Rattle.euler_conditions.specs.Ends.{leads_to, lesser}
+use Rattle.boundary_model.proofs.Halves.{edge_of-code, edge_of-mate, half-code}
+use Rattle.boundary_model.proofs.Models.{row_of, in-holds, cycle_there}
+use Rattle.cyclic_list.specs.Rings.{successor}
+use Rattle.cyclic_list.proofs.Rings.{IsIn_successor}
+
+pub half_there : (M : Model) (h : HalfEdge) → table.has M.edges h.edge ≡ true → HasHalf M (code h)
+half_there M h t = ap (table.has M.edges) (edge_of-code h) ∙ t
+
+pub edge_there : (M : Model) (h : HalfEdge) → HasHalf M (code h) → table.has M.edges h.edge ≡ true
+edge_there M h t = ap (table.has M.edges) (sym (edge_of-code h)) ∙ t
+
+pub loop_there : (M : Model) → Sound M → (x : ℕ) → HasHalf M x → Has M.loops (loop_of M x)
+loop_there M sound x t = ap is_some (row_of M sound x t)
+
+not_zero : (n : ℕ) → is_number n ≡ true → n ≢ 0
+not_zero n e = grind (arith, nat_tests)
+
+pub in_a_loop : (M : Model) → Sound M → (x : ℕ) → HasHalf M x → loop_of M x ≢ 0
+in_a_loop M sound x t = not_zero _ (sound.loops_fit _ (loop_there M sound x t))
+
+pub filled : (M : Model) → Sound M → (l : ℕ) → Has M.loops l → content M l ≢ cycle []
+filled M sound l t e = (sound.cycles l [] t e).some_item refl
+
+pub after_there : (M : Model) → Sound M → (x : ℕ) → HasHalf M x → HasHalf M (after M x)
+unfolding after
+after_there M sound x t = sound.only_edges (successor (cycle_of M x) x) (loop_of M x) (in-holds _ (content M (loop_of M x)) (IsIn_successor x (cycle_of M x) (cycle_there M sound x t)))
+
+pub mate_edge : (h m : HalfEdge) → code m ≡ mate (code h) → m.edge ≡ h.edge
+mate_edge h m e = sym (edge_of-code m) ∙ ap edge_of e ∙ edge_of-mate (code h) ∙ edge_of-code h
+
+-- half-edges of one code are one
+pub same_half : (h m : HalfEdge) → code h ≡ code m → h ≡ m
+same_half h m e = sym (half-code h) ∙ ap half e ∙ half-code m
+
+-- two half-edges are one where their codes are
+pub same_test : (h m : HalfEdge) → (nat_eq h.edge m.edge && beq h.first m.first) ≡ nat_eq (code h) (code m)
+unfolding code
+same_test h m = go h.edge m.edge h.first m.first where
+  go : (a b : ℕ) (p q : Bool) → (nat_eq a b && beq p q) ≡ nat_eq (cond p (2 * a) (2 * a + 1)) (cond q (2 * b) (2 * b + 1))
+  go a b true true = grind (arith, nat_tests)
+  go a b true false = grind (arith, nat_tests)
+  go a b false true = grind (arith, nat_tests)
+  go a b false false = grind (arith, nat_tests)
+
+-- whether g is of another edge and leads to the far end
+pub leads_far : (M : Model) (h g : HalfEdge) (far t : ℕ) → nat_eq g.edge h.edge ≡ false → t ≡ tail M (mate (code g)) → nat_eq t far ≡ leads_to M (code h) far (code g)
+leads_far M h g far t other e =
+    ap (λ n. nat_eq n far) e ∙ sym (ap (λ b. not b && nat_eq (tail M (mate (code g))) far) ((λ i. nat_eq (edge_of-code g i) (edge_of-code h i)) ∙ other))
+
+pub leads_not : (M : Model) (h g : HalfEdge) (far : ℕ) → nat_eq g.edge h.edge ≡ true → not (nat_eq g.edge h.edge) ≡ leads_to M (code h) far (code g)
+leads_not M h g far same =
+    ap not same ∙ sym (ap (λ b. not b && nat_eq (tail M (mate (code g))) far) ((λ i. nat_eq (edge_of-code g i) (edge_of-code h i)) ∙ same))
+
+-- the least edge that was found, where g leads to the far end and where it doesn't
+pub found_then : (M : Model) (h far : ℕ) (g : HalfEdge) (old least : ℕ) → leads_to M h far (code g) ≡ true → least ≡ lesser old g.edge → least ≡ cond (leads_to M h far (code g)) (lesser old (edge_of (code g))) old
+found_then M h far g old least t e = e ∙ ap (lesser old) (sym (edge_of-code g)) ∙ sym (ap (λ b. cond b (lesser old (edge_of (code g))) old) t)
+
+pub found_else : (M : Model) (h far : ℕ) (g : HalfEdge) (old least : ℕ) → leads_to M h far (code g) ≡ false → least ≡ old → least ≡ cond (leads_to M h far (code g)) (lesser old (edge_of (code g))) old
+found_else M h far g old least t e = e ∙ sym (ap (λ b. cond b (lesser old (edge_of (code g))) old) t)

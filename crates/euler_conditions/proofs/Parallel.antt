@@ -1,0 +1,314 @@
+-- The walk round one end of an edge meets every edge beside it.
+use Rattle.std.proofs.Common.{◌≡◌, ◌≢◌, ℕ, zero, suc, ◌+◌, ◌<◌, ◌≤◌, Bool, true, false, cond, not, nat_eq, nat_lt, ◌&&◌, ◌||◌, List, [], ◌∷◌, ◌++◌, length, Some, is_some, refl, sym, ap, subst, ◌∙◌, arith, true≢false, ◌⊎◌, inl, inr}
+use Rattle.std.proofs.lemmas.Bool.Decides.{nat_tests, eqb_tells}
+use Rattle.cyclic_list.specs.Items.{count, tick, IsIn, IsApart}
+use Rattle.cyclic_list.specs.Rings.{rotate_to, walk_to, orbit}
+use Rattle.cyclic_list.proofs.Lists.{count-append, tick_same, tick_other}
+use Rattle.cyclic_list.proofs.Rings.{orbit_from}
+use Rattle.cyclic_list.proofs.Rotations.{count-rotate_to}
+use Rattle.cyclic_list.proofs.Places.{walk_done, walk_on, walk_over}
+use Rattle.boundary_model.specs.HalfEdge.{mate, edge_of, plus, minus}
+use Rattle.boundary_model.specs.Table as table
+use Rattle.boundary_model.specs.Table.{Table, first_where, all_where, first_in, all_in}
+use Rattle.boundary_model.specs.Model.{Model, EdgeRow, tail, tail_in, after, round, is_number}
+use Rattle.boundary_model.specs.Sound.{Sound, HasHalf}
+use Rattle.boundary_model.proofs.Halves.{mate_cases, plus_row, minus_row}
+use Rattle.boundary_model.proofs.Models.{tail_row}
+use Rattle.boundary_model.proofs.Tables.{first_where_zero}
+use Rattle.euler_operators.specs.Conditions.{lists, strictly_rises, parallel}
+use Rattle.euler_operators.specs.Effect.{head_or_zero}
+use Rattle.euler_laws_shared.proofs.Fans.{Fan, fan_of}
+use Rattle.euler_laws_shared.proofs.Arcs.{halves_of_edge}
+use Rattle.euler_laws_shared.proofs.Listed.{first_listed, listed_cases, listed_passes, passes_listed, all_where-rises}
+use Rattle.euler_laws_shared.proofs.Loops.{some_row}
+use Rattle.euler_laws_shared.proofs.Goes.{equal, equals, not_true}
+use Rattle.euler_conditions.specs.Ends.{leads_to, lesser}
+
+-- more than the half-edges that a model can have
+pub steps : ℕ
+steps = 2000002
+
+pub steps_are : steps ≡ 2000002
+unfolding steps
+steps_are = refl
+
+-- ---- a list of numbers below n, without repeats, has at most n of them
+
+total : ℕ → List ℕ → ℕ
+total zero xs = 0
+total (suc n) xs = count n xs + total n xs
+
+total-nil : (n : ℕ) → total n [] ≡ 0
+unfolding total
+total-nil zero = refl
+total-nil (suc n) = omega (arith, total-nil n)
+
+below_one : ℕ → ℕ → ℕ
+below_one y n = cond (nat_lt y n) 1 0
+
+below_zero : (y : ℕ) → below_one y 0 ≡ 0
+unfolding below_one
+below_zero y = grind (arith, nat_tests)
+
+tick_below : (y n : ℕ) → tick n y + below_one y n ≡ below_one y (suc n)
+unfolding below_one
+tick_below y n = grind (arith, nat_tests)
+
+total-cons : (n y : ℕ) (ys : List ℕ) → total n (y ∷ ys) ≡ below_one y n + total n ys
+unfolding total
+total-cons zero y ys = sym (omega (arith, below_zero y))
+total-cons (suc n) y ys = omega (arith, total-cons n y ys, tick_below y n)
+
+total_le : (n : ℕ) (xs : List ℕ) → IsApart xs → total n xs ≤ n
+unfolding total
+total_le zero xs d = omega arith
+total_le (suc n) xs d = omega (arith, d n, total_le n xs d)
+
+below_is : (y n : ℕ) → y < n → below_one y n ≡ 1
+unfolding below_one
+below_is y n h = grind (arith, nat_tests)
+
+total_all : (n : ℕ) (xs : List ℕ) → ((x : ℕ) → IsIn x xs → x < n) → total n xs ≡ length xs
+total_all n [] h = total-nil n
+total_all n (x ∷ xs) h = omega (arith, total-cons n x xs, below_is x n (h x (omega (arith, tick_same x))), total_all n xs (λ y i. h y (omega arith)))
+
+pub length_below : (n : ℕ) (xs : List ℕ) → IsApart xs → ((x : ℕ) → IsIn x xs → x < n) → length xs ≤ n
+length_below n xs d h = omega (arith, total_le n xs d, total_all n xs h)
+
+-- ---- the first number whose row passes is the least one
+
+head_is_least : (m q : ℕ) (ns : List ℕ) → strictly_rises (m ∷ ns) ≡ true → lists (m ∷ ns) q ≡ true → m ≤ q
+head_is_least m q [] r l = elim (listed_cases m q [] l) [ inl e ↦ omega arith | inr e ↦ absurd (true≢false (sym e)) ]
+head_is_least m q (k ∷ ns) r l = elim (listed_cases m q (k ∷ ns) l) [
+  | inl e ↦ omega arith
+  | inr e ↦ let s = both m k (strictly_rises (k ∷ ns)) r in omega (arith, s.0, head_is_least k q ns s.1 e)
+] where
+  both : (m k : ℕ) (b : Bool) → (nat_lt m k && b) ≡ true → (m < k) × (b ≡ true)
+  both m k true e = (grind (arith, nat_tests), refl)
+  both m k false e = grind (arith, nat_tests)
+
+module _ {X : Type 0} (p : ℕ → X → Bool) (t : Table X) where
+  first_is_head : first_where p t ≡ head_or_zero (all_where p t)
+  unfolding first_where all_where
+  first_is_head = go t.rows where
+    go : (es : List (ℕ × X)) → first_in p es ≡ head_or_zero (all_in p es)
+    go [] = refl
+    go (e ∷ es) = step e.0 (p e.0 e.1) (first_in p es) (all_in p es) (go es) where
+      step : (n : ℕ) (b : Bool) (m : ℕ) (ns : List ℕ) → m ≡ head_or_zero ns → cond b n m ≡ head_or_zero (cond b (n ∷ ns) ns)
+      step n true m ns e = refl
+      step n false m ns e = e
+
+  pub first_where_least : (n : ℕ) (x : X) → table.get t n ≡ Some x → p n x ≡ true → ((q : ℕ) (y : X) → table.get t q ≡ Some y → p q y ≡ true → n ≤ q) → first_where p t ≡ n
+  first_where_least n x there passes least = first_is_head ∙ go (all_where p t) (all_where-rises p t) (passes_listed p t n x there passes) (λ q l. let y = listed_passes p t q l in least q y.0 y.1 y.2) where
+    go : (ns : List ℕ) → strictly_rises ns ≡ true → lists ns n ≡ true → ((q : ℕ) → lists ns q ≡ true → n ≤ q) → head_or_zero ns ≡ n
+    go [] r l h = absurd (true≢false (sym l))
+    go (m ∷ ns) r l h = omega (arith, head_is_least m n ns r l, h m (first_listed m ns))
+
+-- ---- what the walk has found
+
+-- the least edge beside h among those that were met, or 0
+pub record Seen (M : Model) (h far least : ℕ) (met : List ℕ) : Type 0 where
+  pub one : least ≢ 0 → (x : ℕ) × IsIn x met × (edge_of x ≡ least) × (leads_to M h far x ≡ true)
+  pub all : (x : ℕ) → IsIn x met → leads_to M h far x ≡ true → (least ≢ 0) × (least ≤ edge_of x)
+
+-- the walk from h on has come to g, and n steps may follow
+pub record HalfSeen (M : Model) (h far least g n : ℕ) : Type 0 where
+  pub met : List ℕ
+  pub walked : orbit (round M) h steps ≡ met ++ walk_to (round M) h g n
+  pub seen : Seen M h far least met
+  pub there : HasHalf M g
+
+and_parts : (a b : Bool) → (a && b) ≡ true → (a ≡ true) × (b ≡ true)
+and_parts true b e = (refl, e)
+and_parts false b e = absurd (true≢false (sym e))
+
+or_parts : (a b : Bool) → (a || b) ≡ true → (a ≡ true) ⊎ (b ≡ true)
+or_parts true b e = inl refl
+or_parts false b e = inr e
+
+join_and : (a b : Bool) → a ≡ true → b ≡ true → (a && b) ≡ true
+join_and a b p q = ap (λ c. c && b) p ∙ q
+
+join_left : (a b : Bool) → a ≡ true → (a || b) ≡ true
+join_left a b p = ap (λ c. c || b) p
+
+join_right : (a b : Bool) → b ≡ true → (a || b) ≡ true
+join_right true b p = refl
+join_right false b p = p
+
+module _ (M : Model) (h far : ℕ) where
+  seen_none : Seen M h far 0 []
+  seen_none = record { one = λ ne. absurd (ne refl); all = λ x i. absurd (omega arith) }
+
+  more : (x g : ℕ) (met : List ℕ) → IsIn x met → IsIn x (met ++ g ∷ [])
+  more x g met i = omega (arith, count-append x met (g ∷ []))
+
+  last_in : (g : ℕ) (met : List ℕ) → IsIn g (met ++ g ∷ [])
+  last_in g met = omega (arith, count-append g met (g ∷ []), tick_same g)
+
+  met_cases : (x g : ℕ) (met : List ℕ) → IsIn x (met ++ g ∷ []) → IsIn x met ⊎ (x ≡ g)
+  met_cases x g met i = elim (eqb_tells x g) [ inl e ↦ inr e.1 | inr e ↦ inl (omega (arith, count-append x met (g ∷ []), tick_other x g e.1)) ]
+
+  seen_other : (least g : ℕ) (met : List ℕ) → leads_to M h far g ≡ false → Seen M h far least met → Seen M h far least (met ++ g ∷ [])
+  seen_other least g met other s = record {
+    one = λ ne. let y = s.one ne in (y.0, more y.0 g met y.1, y.2, y.3);
+    all = λ x i b. elim (met_cases x g met i) [ inl j ↦ s.all x j b | inr e ↦ absurd (true≢false (sym b ∙ ap (leads_to M h far) e ∙ other)) ];
+  }
+
+  lesser_cases : (least e : ℕ) → ((least ≡ 0) × (lesser least e ≡ e)) ⊎ ((least ≢ 0) × (least ≤ e) × (lesser least e ≡ least)) ⊎ ((least ≢ 0) × (e ≤ least) × (lesser least e ≡ e))
+  lesser_cases least e = grind (arith, nat_tests)
+
+  seen_beside : (least g : ℕ) (met : List ℕ) → leads_to M h far g ≡ true → edge_of g ≢ 0 → Seen M h far least met → Seen M h far (lesser least (edge_of g)) (met ++ g ∷ [])
+  seen_beside least g met beside fits s = elim (lesser_cases least (edge_of g)) [
+    | inl z ↦ record {
+      one = λ ne. (g, last_in g met, sym z.1, beside);
+      all = λ x i b. elim (met_cases x g met i) [ inl j ↦ absurd ((s.all x j b).0 z.0) | inr e ↦ (λ n. fits (sym z.1 ∙ n), omega (arith, z.1, ap edge_of e)) ];
+    }
+    | inr w ↦ elim w [
+      | inl k ↦ record {
+        one = λ ne. let y = s.one k.0 in (y.0, more y.0 g met y.1, y.2 ∙ sym k.2, y.3);
+        all = λ x i b. elim (met_cases x g met i) [ inl j ↦ (λ n. k.0 (sym k.2 ∙ n), omega (arith, k.2, (s.all x j b).1)) | inr e ↦ (λ n. k.0 (sym k.2 ∙ n), omega (arith, k.1, k.2, ap edge_of e)) ];
+      }
+      | inr k ↦ record {
+        one = λ ne. (g, last_in g met, sym k.2, beside);
+        all = λ x i b. elim (met_cases x g met i) [ inl j ↦ (λ n. fits (sym k.2 ∙ n), omega (arith, k.1, k.2, (s.all x j b).1)) | inr e ↦ (λ n. fits (sym k.2 ∙ n), omega (arith, k.2, ap edge_of e)) ];
+      }
+    ]
+  ]
+
+pub mate_plus : (e : ℕ) → mate (plus e) ≡ minus e
+mate_plus e = elim (mate_cases (plus e)) [ inl p ↦ omega arith | inr p ↦ absurd (omega arith) ]
+
+pub mate_minus : (e : ℕ) → mate (minus e) ≡ plus e
+mate_minus e = elim (mate_cases (minus e)) [ inl p ↦ absurd (omega arith) | inr p ↦ omega arith ]
+
+-- ---- what the whole walk finds
+
+module _ (M : Model) (sound : Sound M) (h : ℕ) (there : HasHalf M h) where
+  fan : Fan (after M) M (tail M h)
+  fan = fan_of M sound h there
+
+  h_in : IsIn h fan.items
+  h_in = fan.all h there refl
+
+  half_below : (e x : ℕ) → is_number e ≡ true → edge_of x ≡ e → x < steps
+  unfolding edge_of
+  half_below e x n is = let l : e ≤ 1000000 = grind (arith, nat_tests) in omega (arith, steps_are)
+
+  fan_short : length fan.items ≤ steps
+  fan_short = length_below steps fan.items fan.apart (λ x i. half_below (edge_of x) x (sound.edges_fit (edge_of x) (fan.of_it x i).0) refl)
+
+  pub whole : List ℕ
+  whole = orbit (round M) h steps
+
+  whole_is : whole ≡ rotate_to h fan.items
+  unfolding whole
+  whole_is = orbit_from (round M) h fan.items steps fan.ring fan.apart h_in fan_short
+
+  in_whole : (x : ℕ) → HasHalf M x → tail M x ≡ tail M h → IsIn x whole
+  in_whole x t e = omega (arith, ap (count x) whole_is, count-rotate_to x h fan.items, fan.all x t e)
+
+  of_whole : (x : ℕ) → IsIn x whole → HasHalf M x × (tail M x ≡ tail M h)
+  of_whole x i = fan.of_it x (omega (arith, ap (count x) whole_is, count-rotate_to x h fan.items))
+
+  abbrev pub far : ℕ
+  far = tail M (mate h)
+
+  -- the row of an edge beside h
+  abbrev Beside : ℕ → EdgeRow → Bool
+  Beside e row = not (nat_eq e (edge_of h)) && ((nat_eq row.plus_tail (tail M h) && nat_eq row.minus_tail far) || (nat_eq row.plus_tail far && nat_eq row.minus_tail (tail M h)))
+
+  plus_tail_is : (e : ℕ) (row : EdgeRow) → table.get M.edges e ≡ Some row → tail M (plus e) ≡ row.plus_tail
+  plus_tail_is e row at = tail_row M (plus e) row (ap (table.get M.edges) (plus_row e).0 ∙ at) ∙ ap (tail_in row) (plus_row e).1
+
+  minus_tail_is : (e : ℕ) (row : EdgeRow) → table.get M.edges e ≡ Some row → tail M (minus e) ≡ row.minus_tail
+  minus_tail_is e row at = tail_row M (minus e) row (ap (table.get M.edges) (minus_row e).0 ∙ at) ∙ ap (tail_in row) (minus_row e).1
+
+  leads : (x : ℕ) → nat_eq (edge_of x) (edge_of h) ≡ false → tail M (mate x) ≡ far → leads_to M h far x ≡ true
+  leads x other e = join_and (not (nat_eq (edge_of x) (edge_of h))) (nat_eq (tail M (mate x)) far) (ap not other) (equals (tail M (mate x)) far e)
+
+  -- an edge beside h was met
+  beside_met : (e : ℕ) (row : EdgeRow) → table.get M.edges e ≡ Some row → Beside e row ≡ true → (x : ℕ) × IsIn x whole × (edge_of x ≡ e) × (leads_to M h far x ≡ true)
+  beside_met e row at b =
+      let parts = and_parts _ _ b in
+      let other : nat_eq e (edge_of h) ≡ false = not_true (nat_eq e (edge_of h)) parts.0 in
+      elim (or_parts _ _ parts.1) [
+        | inl p ↦
+            let q = and_parts _ _ p in
+            let has : HasHalf M (plus e) = ap (table.has M.edges) (plus_row e).0 ∙ ap is_some at in (
+              plus e,
+              in_whole (plus e) has (plus_tail_is e row at ∙ equal row.plus_tail (tail M h) q.0),
+              (plus_row e).0,
+              leads (plus e) (ap (λ k. nat_eq k (edge_of h)) (plus_row e).0 ∙ other) (ap (tail M) (mate_plus e) ∙ minus_tail_is e row at ∙ equal row.minus_tail far q.1),
+            )
+        | inr p ↦
+            let q = and_parts _ _ p in
+            let has : HasHalf M (minus e) = ap (table.has M.edges) (minus_row e).0 ∙ ap is_some at in (
+              minus e,
+              in_whole (minus e) has (minus_tail_is e row at ∙ equal row.minus_tail (tail M h) q.1),
+              (minus_row e).0,
+              leads (minus e) (ap (λ k. nat_eq k (edge_of h)) (minus_row e).0 ∙ other) (ap (tail M) (mate_minus e) ∙ plus_tail_is e row at ∙ equal row.plus_tail far q.0),
+            )
+      ]
+
+  -- what was met and leads to the far end is of an edge beside h
+  met_beside : (x : ℕ) → IsIn x whole → leads_to M h far x ≡ true → (row : EdgeRow) × (table.get M.edges (edge_of x) ≡ Some row) × (Beside (edge_of x) row ≡ true)
+  met_beside x i l =
+      let o = of_whole x i in let r = some_row (table.get M.edges (edge_of x)) o.0 in let parts = and_parts _ _ l in
+      let ends : tail M (mate x) ≡ far = equal (tail M (mate x)) far parts.1 in (
+        r.0,
+        r.1,
+        join_and (not (nat_eq (edge_of x) (edge_of h))) _ parts.0 (elim (halves_of_edge x) [
+          | inl p ↦ join_left _ _ (join_and _ _
+              (equals r.0.plus_tail (tail M h) (sym (plus_tail_is (edge_of x) r.0 r.1) ∙ ap (tail M) (sym p.0) ∙ o.1))
+              (equals r.0.minus_tail far (sym (minus_tail_is (edge_of x) r.0 r.1) ∙ ap (tail M) (sym (ap mate p.0 ∙ mate_plus (edge_of x))) ∙ ends)))
+          | inr p ↦ join_right _ _ (join_and _ _
+              (equals r.0.plus_tail far (sym (plus_tail_is (edge_of x) r.0 r.1) ∙ ap (tail M) (sym (ap mate p.0 ∙ mate_minus (edge_of x))) ∙ ends))
+              (equals r.0.minus_tail (tail M h) (sym (minus_tail_is (edge_of x) r.0 r.1) ∙ ap (tail M) (sym p.0) ∙ o.1)))
+        ]),
+      )
+
+  none_beside : Seen M h far 0 whole → (e : ℕ) (row : EdgeRow) → table.get M.edges e ≡ Some row → Beside e row ≡ false
+  none_beside s e row at = elim (Beside e row) as (λ b. Beside e row ≡ b → b ≡ false) [
+    | true ↦ λ b. let x = beside_met e row at b in absurd ((s.all x.0 x.1 x.3).0 refl)
+    | false ↦ λ b. refl
+  ] refl
+
+  pub all_walked : (least : ℕ) → Seen M h far least whole → least ≡ parallel M h
+  all_walked least s = elim (eqb_tells least 0) [
+    | inl z ↦ z.1 ∙ sym (first_where_zero Beside M.edges (none_beside (subst (λ k. Seen M h far k whole) z.1 s)))
+    | inr ne ↦
+        let y = s.one ne.1 in let r = met_beside y.0 y.1 y.3 in
+        sym (first_where_least Beside M.edges least r.0 (ap (table.get M.edges) (sym y.2) ∙ r.1) (ap (λ e. Beside e r.0) (sym y.2) ∙ r.2)
+        (λ e row at b. let x = beside_met e row at b in omega (arith, (s.all x.0 x.1 x.3).1, x.2)))
+  ]
+
+  -- ---- the walk
+
+  pub walk_start : HalfSeen M h far 0 h steps
+  unfolding whole
+  walk_start = record { met = []; walked = refl; seen = seen_none M h far; there = there }
+
+  edge_fits : (x : ℕ) → HasHalf M x → edge_of x ≢ 0
+  edge_fits x t z = not_number (edge_of x) z (sound.edges_fit (edge_of x) t) where
+    not_number : (e : ℕ) → e ≡ 0 → is_number e ≡ true → ⊥
+    not_number e z n = grind (arith, nat_tests)
+
+  module _ (old least g n k : ℕ) (w : HalfSeen M h far old g n) (steps : n ≡ k + 1) (found : (least ≡ cond (leads_to M h far g) (lesser old (edge_of g)) old)) where
+    seen_more : Seen M h far least (w.met ++ g ∷ [])
+    seen_more = subst (λ b. Seen M h far b (w.met ++ g ∷ [])) (sym found) (go (leads_to M h far g) refl) where
+      go : (b : Bool) → leads_to M h far g ≡ b → Seen M h far (cond b (lesser old (edge_of g)) old) (w.met ++ g ∷ [])
+      go true e = seen_beside M h far old g w.met e (edge_fits g w.there) w.seen
+      go false e = seen_other M h far old g w.met e w.seen
+
+    pub walk_closed : round M g ≡ h → least ≡ parallel M h
+    unfolding whole
+    walk_closed e = all_walked least (subst (Seen M h far least) (sym (walk_done (round M) h g n k whole w.met w.walked steps e)) seen_more)
+
+    pub walk_more : round M g ≢ h → HasHalf M (round M g) → HalfSeen M h far least (round M g) k
+    unfolding whole
+    walk_more ne t = record { met = w.met ++ g ∷ []; walked = walk_on (round M) h g n k whole w.met w.walked steps ne; seen = seen_more; there = t }
+
+  pub walk_ended : (least g n : ℕ) → HalfSeen M h far least g n → n ≡ 0 → least ≡ parallel M h
+  unfolding whole
+  walk_ended least g n w z = all_walked least (subst (Seen M h far least) (sym (walk_over (round M) h g n whole w.met w.walked z)) w.seen)

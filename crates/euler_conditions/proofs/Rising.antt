@@ -1,0 +1,109 @@
+-- Rising lists of numbers.
+use Rattle.std.proofs.Common.{◌≡◌, ◌≢◌, ℕ, zero, suc, ◌+◌, ◌<◌, ◌≤◌, Bool, true, false, nat_eq, nat_lt, ◌&&◌, List, [], ◌∷◌, length, get_or, refl, sym, ap, ◌∙◌, arith, true≢false, ◌⊎◌, inl, inr}
+use Rattle.std.proofs.lemmas.Bool.Decides.{nat_tests, eqb_tells}
+use Rattle.euler_operators.specs.Conditions.{lists, lists_all, strictly_rises}
+use Rattle.euler_laws_shared.proofs.Listed.{first_listed, rest_listed, listed_cases}
+
+pub rises_parts : (m k : ℕ) (ns : List ℕ) → strictly_rises (m ∷ k ∷ ns) ≡ true → (m < k) × (strictly_rises (k ∷ ns) ≡ true)
+rises_parts m k ns r = go m k (strictly_rises (k ∷ ns)) r where
+  go : (m k : ℕ) (b : Bool) → (nat_lt m k && b) ≡ true → (m < k) × (b ≡ true)
+  go m k true e = (grind (arith, nat_tests), refl)
+  go m k false e = grind (arith, nat_tests)
+
+pub rest_rises : (m : ℕ) (ns : List ℕ) → strictly_rises (m ∷ ns) ≡ true → strictly_rises ns ≡ true
+rest_rises m [] r = refl
+rest_rises m (k ∷ ns) r = (rises_parts m k ns r).1
+
+-- what stands after the first number of a rising list is greater
+pub above_first : (m q : ℕ) (ns : List ℕ) → strictly_rises (m ∷ ns) ≡ true → lists ns q ≡ true → m < q
+above_first m q [] r l = absurd (true≢false (sym l))
+above_first m q (k ∷ ns) r l = let p = rises_parts m k ns r in elim (listed_cases k q ns l) [
+  | inl e ↦ omega (arith, p.0, e)
+  | inr e ↦ omega (arith, p.0, above_first k q ns p.1 e)
+]
+
+pub listed_at : (fs : List ℕ) (i : ℕ) → i < length fs → lists fs (get_or fs i 0) ≡ true
+listed_at [] i l = absurd (omega arith)
+listed_at (f ∷ fs) zero l = first_listed f fs
+listed_at (f ∷ fs) (suc i) l = rest_listed f (get_or fs i 0) fs (listed_at fs i (omega arith))
+
+pub place_of : (fs : List ℕ) (n : ℕ) → lists fs n ≡ true → (k : ℕ) × (k < length fs) × (get_or fs k 0 ≡ n)
+place_of [] n l = absurd (true≢false (sym l))
+place_of (f ∷ fs) n l = elim (listed_cases f n fs l) [
+  | inl e ↦ (0, omega arith, sym e)
+  | inr e ↦ let p = place_of fs n e in (suc p.0, omega (arith, p.1), p.2)
+]
+
+pub rising : (fs : List ℕ) (i j : ℕ) → strictly_rises fs ≡ true → i < j → j < length fs → get_or fs i 0 < get_or fs j 0
+rising [] i j r l m = absurd (omega arith)
+rising (f ∷ fs) i zero r l m = absurd (omega arith)
+rising (f ∷ fs) zero (suc j) r l m = above_first f (get_or fs j 0) fs r (listed_at fs j (omega arith))
+rising (f ∷ fs) (suc i) (suc j) r l m = rising fs i j (rest_rises f fs r) (omega arith) (omega arith)
+
+pub short_rises : (xs : List ℕ) → length xs ≤ 1 → strictly_rises xs ≡ true
+short_rises [] l = refl
+short_rises (x ∷ []) l = refl
+short_rises (x ∷ y ∷ xs) l = absurd (omega arith)
+
+-- ---- two rising lists, one within the other
+
+-- a rising list within another is no longer, and as long only where they are one
+pub within : (fs gs : List ℕ) → strictly_rises fs ≡ true → strictly_rises gs ≡ true → ((q : ℕ) → lists fs q ≡ true → lists gs q ≡ true) → (length fs ≤ length gs) × (length fs ≡ length gs → fs ≡ gs)
+within [] [] r s i = (omega arith, λ e. refl)
+within [] (g ∷ gs) r s i = (omega arith, λ e. absurd (omega arith))
+within (f ∷ fs) [] r s i = absurd (true≢false (sym (i f (first_listed f fs))))
+within (f ∷ fs) (g ∷ gs) r s i = elim (listed_cases g f gs (i f (first_listed f fs))) [
+  | inl e ↦
+      let w = within fs gs (rest_rises f fs r) (rest_rises g gs s) (λ q l. elim (listed_cases g q gs (i q (rest_listed f q fs l))) [
+        | inl h ↦ absurd (omega (arith, above_first f q fs r l, h, e))
+        | inr h ↦ h
+      ]) in
+      (omega (arith, w.0), λ n. (λ k. e k ∷ w.1 (omega arith) k))
+  | inr e ↦
+      let w = within (f ∷ fs) gs r (rest_rises g gs s) (λ q l. elim (listed_cases g q gs (i q l)) [
+        | inl h ↦ absurd (elim (listed_cases f q fs l) [
+          | inl p ↦ omega (arith, above_first g f gs s e, h, p)
+          | inr p ↦ omega (arith, above_first g f gs s e, above_first f q fs r p, h)
+        ])
+        | inr h ↦ h
+      ]) in
+      (omega (arith, w.0), λ n. absurd (omega (arith, w.0)))
+]
+
+all_within : (fs gs : List ℕ) → lists_all fs gs ≡ true → (q : ℕ) → lists gs q ≡ true → lists fs q ≡ true
+all_within fs [] a q l = absurd (true≢false (sym l))
+all_within fs (g ∷ gs) a q l = let p = parts (lists fs g) (lists_all fs gs) a in elim (listed_cases g q gs l) [ inl e ↦ ap (lists fs) e ∙ p.0 | inr e ↦ all_within fs gs p.1 q e ] where
+  parts : (a b : Bool) → (a && b) ≡ true → (a ≡ true) × (b ≡ true)
+  parts true b e = (refl, e)
+  parts false b e = absurd (true≢false (sym e))
+
+within_all : (fs gs : List ℕ) → ((q : ℕ) → lists gs q ≡ true → lists fs q ≡ true) → lists_all fs gs ≡ true
+within_all fs [] i = refl
+within_all fs (g ∷ gs) i = ap (λ b. b && lists_all fs gs) (i g (first_listed g gs)) ∙ within_all fs gs (λ q l. i q (rest_listed g q gs l))
+
+-- a rising list within another lists all of it where it is as long
+pub all_listed : (fs gs : List ℕ) → strictly_rises fs ≡ true → strictly_rises gs ≡ true → ((q : ℕ) → lists fs q ≡ true → lists gs q ≡ true) → lists_all fs gs ≡ nat_eq (length fs) (length gs)
+all_listed fs gs r s i = elim (eqb_tells (length fs) (length gs)) [
+  | inl e ↦ within_all fs gs (λ q l. ap (λ xs. lists xs q) ((within fs gs r s i).1 e.1) ∙ l) ∙ sym e.0
+  | inr e ↦ go (lists_all fs gs) refl e.1 ∙ sym e.0
+] where
+  go : (b : Bool) → lists_all fs gs ≡ b → length fs ≢ length gs → lists_all fs gs ≡ false
+  go true a ne = absurd (ne (omega (arith, (within fs gs r s i).0, (within gs fs s r (all_within fs gs a)).0)))
+  go false a ne = a
+
+-- ---- halves of a rising list
+
+pub below_middle : (fs : List ℕ) (n mid : ℕ) → strictly_rises fs ≡ true → mid < length fs → get_or fs mid 0 < n → (k : ℕ) → k < mid + 1 → get_or fs k 0 < n
+below_middle fs n mid r m l k h = elim (eqb_tells k mid) [ inl e ↦ omega (arith, l, ap (λ j. get_or fs j 0) e.1) | inr e ↦ omega (arith, l, rising fs k mid r (omega arith) m) ]
+
+pub above_middle : (fs : List ℕ) (n mid : ℕ) → strictly_rises fs ≡ true → n < get_or fs mid 0 → (k : ℕ) → mid ≤ k → k < length fs → n < get_or fs k 0
+above_middle fs n mid r l k h m = elim (eqb_tells k mid) [ inl e ↦ omega (arith, l, ap (λ j. get_or fs j 0) e.1) | inr e ↦ omega (arith, l, rising fs mid k r (omega arith) m) ]
+
+less_or : (a b : ℕ) → (a < b) ⊎ (b ≤ a)
+less_or a b = grind arith
+
+pub not_found : (fs : List ℕ) (n low : ℕ) → ((k : ℕ) → k < low → get_or fs k 0 < n) → ((k : ℕ) → low ≤ k → k < length fs → n < get_or fs k 0) → false ≡ lists fs n
+not_found fs n low below above = go (lists fs n) refl where
+  go : (b : Bool) → lists fs n ≡ b → false ≡ b
+  go false e = refl
+  go true e = let p = place_of fs n e in absurd (elim (less_or p.0 low) [ inl l ↦ omega (arith, below p.0 l, p.2) | inr l ↦ omega (arith, above p.0 l p.1, p.2) ])

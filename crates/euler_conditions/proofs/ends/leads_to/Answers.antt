@@ -1,0 +1,13 @@
+use Rattle.std.proofs.Common.{ap, ◌∙◌}
+use Rattle.boundary_model.specs.Model.{tail}
+use Rattle.euler_laws_shared.proofs.Goes.{equals, differs}
+use Rattle.euler_conditions.proofs.Known.{leads_far, leads_not}
+use Rattle.euler_conditions.proofs.ends.leads_to.Goals as goal
+
+pub returns-then-g-h : goal.returns-then-g-h
+returns-then-g-h c =
+    let M = c.args.arena.now.model in
+    leads_far M c.args.h c.args.g c.args.far c.tail.result (differs c.args.g.edge c.args.h.edge c.if-g-h.true) (c.tail.ensures ∙ ap (tail M) c.mate.ensures.mate)
+
+pub returns-else-g-h : goal.returns-else-g-h
+returns-else-g-h c = leads_not c.args.arena.now.model c.args.h c.args.g c.args.far (equals c.args.g.edge c.args.h.edge c.if-g-h.false)

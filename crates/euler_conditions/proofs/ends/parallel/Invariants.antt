@@ -1,0 +1,7 @@
+use Rattle.std.proofs.Common.{◌-◌}
+use Rattle.boundary_model.specs.HalfEdge.{code}
+use Rattle.euler_conditions.proofs.Parallel.{HalfSeen, steps}
+use Rattle.euler_conditions.proofs.ends.parallel.Given as goal
+
+abbrev pub invariant-round : goal.invariant-round
+invariant-round l = HalfSeen l.arena.model (code l.h) l.far l.least (code l.g) (steps - l.counter)

@@ -1,0 +1,13 @@
+use Rattle.std.proofs.Common.{ap, ◌∙◌}
+use Rattle.boundary_model.specs.HalfEdge.{code}
+use Rattle.boundary_model.specs.Table as table
+use Rattle.euler_conditions.proofs.Known.{half_there, loop_there}
+use Rattle.euler_conditions.proofs.halves.loop_of.Goals as goal
+
+pub loop_of-requires : goal.loop_of-requires
+loop_of-requires c = half_there c.args.arena.now.model c.args.h c.requires.there
+
+pub returns-clause-there : goal.returns-clause-there
+returns-clause-there c =
+    let M = c.args.arena.now.model in
+    ap (table.has M.loops) c.loop_of.ensures ∙ loop_there M c.requires.ready.sound (code c.args.h) (half_there M c.args.h c.requires.there)

@@ -1,0 +1,28 @@
+use Rattle.std.proofs.Common.{ℕ, ◌+◌, ◌-◌, ◌/◌, ◌<◌, ◌≤◌, length, get_or, sym, ap, ◌∙◌, arith}
+use Rattle.euler_operators.specs.Conditions.{lists}
+use Rattle.euler_conditions.proofs.Rising.{listed_at, below_middle, above_middle, not_found}
+use Rattle.euler_conditions.proofs.torn.listed.Goals as goal
+
+pub returns-then-face-n : goal.returns-then-face-n
+returns-then-face-n c =
+    let fs = c.args.faces.now in let mid : ℕ = c.search.low + (c.search.high - c.search.low) / 2 in
+    let inside : mid < length fs = omega arith in
+    sym (ap (lists fs) (sym c.if-face-n.true ∙ c.get-face.ensures) ∙ listed_at fs mid inside)
+
+pub search-preserved-then-face-n-2 : goal.search-preserved-then-face-n-2
+search-preserved-then-face-n-2 c =
+    let fs = c.args.faces.now in let mid : ℕ = c.search.low + (c.search.high - c.search.low) / 2 in
+    let inside : mid < length fs = omega arith in
+    let less : get_or fs mid 0 < c.args.n = omega (arith, c.get-face.ensures) in
+    record { within = omega arith; order = omega arith; below = below_middle fs c.args.n mid c.requires inside less; above = c.search.invariant.above }
+
+pub search-preserved : goal.search-preserved
+search-preserved c =
+    let fs = c.args.faces.now in let mid : ℕ = c.search.low + (c.search.high - c.search.low) / 2 in
+    let more : c.args.n < get_or fs mid 0 = omega (arith, c.get-face.ensures) in
+    record { within = omega arith; order = omega arith; below = c.search.invariant.below; above = above_middle fs c.args.n mid c.requires more }
+
+pub returns : goal.returns
+returns c =
+    let same : c.search.high ≤ c.search.low = omega arith in
+    not_found c.args.faces.now c.args.n c.search.low c.search.invariant.below (λ k l m. c.search.invariant.above k (omega arith) m)

@@ -1,0 +1,12 @@
+-- Edges that lead from one vertex to another.
+use Rattle.std.specs.Prelude.{ℕ, Bool, cond, not, ◌&&◌, nat_eq, min}
+use Rattle.boundary_model.specs.HalfEdge.{mate, edge_of}
+use Rattle.boundary_model.specs.Model.{Model, tail}
+
+-- g is of another edge than h, and leads to the vertex far
+abbrev pub leads_to : Model → ℕ → ℕ → ℕ → Bool
+leads_to M h far g = not (nat_eq (edge_of g) (edge_of h)) && nat_eq (tail M (mate g)) far
+
+-- the lesser of two edges, where 0 is none
+abbrev pub lesser : ℕ → ℕ → ℕ
+lesser least e = cond (nat_eq least 0) e (min least e)

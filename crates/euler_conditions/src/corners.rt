@@ -1,0 +1,120 @@
+//! What an arena says of a corner.
+ghost use Rattle.std.specs.Prelude.{◌≡◌, true, [], ◌∷◌};
+ghost use Rattle.boundary_model.specs.Model.{content};
+ghost use Rattle.arena_rows.specs.Store.{has_number};
+ghost use Rattle.euler_operators.specs.Conditions.{corner_number, corner_known, corner_lone, corner_tail, corner_loop, is_lone, lone_vertex, first_refusal, verdict};
+ghost use Rattle.euler_conditions.specs.Ready.{IsReady};
+
+use crate::halves;
+use crate::single::refused;
+use euler_operators::{Refusal, Why};
+use halfedge_arena::{Arena, Content, Corner, Kind};
+
+/// The number that a corner names.
+pub(crate) fn number(corner: Corner) -> u32
+    ensures { result ≡ corner_number corner }
+{
+    match corner {
+        Corner::At(h) => h.edge,
+        Corner::Lone(l) => l,
+    }
+}
+
+/// The edge or the loop of a corner is there.
+pub(crate) fn known(arena: &Arena, corner: Corner) -> Result<(), Refusal>
+    ensures { result ≡ verdict (first_refusal (corner_known arena.now.model corner ∷ [])) }
+{
+    match corner {
+        Corner::At(h) => {
+            if arena.has(Kind::Edge, h.edge) {
+                Ok(())
+            } else {
+                refused(Why::NoEdge, h.edge)
+            }
+        }
+        Corner::Lone(l) => {
+            if arena.has(Kind::Loop, l) {
+                Ok(())
+            } else {
+                refused(Why::NoLoop, l)
+            }
+        }
+    }
+}
+
+/// Whether the loop is lone.
+pub(crate) fn is_lone(arena: &Arena, l: u32) -> bool
+    requires ready { IsReady arena.now }
+    requires there { has_number arena.now Kind.Loop l ≡ true }
+    ensures { result ≡ is_lone (content arena.now.model l) }
+{
+    match arena.content(l) {
+        Content::Lone(_) => true,
+        Content::Ring(_) => false,
+    }
+}
+
+/// The vertex of a lone loop.
+fn lone_vertex(arena: &Arena, l: u32) -> u32
+    requires ready { IsReady arena.now }
+    requires there { has_number arena.now Kind.Loop l ≡ true }
+    requires lone { is_lone (content arena.now.model l) ≡ true }
+    ensures { result ≡ lone_vertex (content arena.now.model l) }
+{
+    match arena.content(l) {
+        Content::Lone(v) => v,
+        Content::Ring(_) => unreachable!(),
+    }
+}
+
+/// The loop of a corner without a half-edge is lone.
+pub(crate) fn lone(arena: &Arena, corner: Corner) -> Result<(), Refusal>
+    requires ready { IsReady arena.now }
+    requires known { (corner_known arena.now.model corner).holds ≡ true }
+    ensures { result ≡ verdict (first_refusal (corner_lone arena.now.model corner ∷ [])) }
+{
+    let Corner::Lone(l) = corner else {
+        return Ok(());
+    };
+    if !is_lone(arena, l) {
+        return refused(Why::NotLone, l);
+    }
+    Ok(())
+}
+
+/// Both corners are there: their edges or loops are, and the loops of those without a half-edge are lone.
+pub(crate) fn there(arena: &Arena, from: Corner, to: Corner) -> Result<(), Refusal>
+    requires { IsReady arena.now }
+    ensures { result ≡ verdict (first_refusal (corner_known arena.now.model from ∷ corner_known arena.now.model to ∷ corner_lone arena.now.model from ∷ corner_lone arena.now.model to ∷ [])) }
+{
+    known(arena, from)?;
+    known(arena, to)?;
+    lone(arena, from)?;
+    lone(arena, to)
+}
+
+/// The vertex of a corner.
+pub(crate) fn tail(arena: &Arena, corner: Corner) -> u32
+    requires ready { IsReady arena.now }
+    requires known { (corner_known arena.now.model corner).holds ≡ true }
+    requires lone { (corner_lone arena.now.model corner).holds ≡ true }
+    ensures { result ≡ corner_tail arena.now.model corner }
+{
+    match corner {
+        Corner::At(h) => halves::tail(arena, h),
+        Corner::Lone(l) => lone_vertex(arena, l),
+    }
+}
+
+/// The loop in which a corner stands.
+pub(crate) fn loop_of(arena: &Arena, corner: Corner) -> u32
+    requires ready { IsReady arena.now }
+    requires known { (corner_known arena.now.model corner).holds ≡ true }
+    ensures is { result ≡ corner_loop arena.now.model corner }
+    ensures there { has_number arena.now Kind.Loop result ≡ true }
+{
+    match corner {
+        Corner::At(h) => halves::loop_of(arena, h),
+        Corner::Lone(l) => l,
+    }
+}

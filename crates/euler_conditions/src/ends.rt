@@ -1,0 +1,70 @@
+//! What an arena says of the two ends of an edge.
+ghost use Rattle.std.specs.Prelude.{◌≡◌, true};
+ghost use Rattle.boundary_model.specs.HalfEdge.{code};
+ghost use Rattle.boundary_model.specs.Model.{round, tail};
+ghost use Rattle.arena_rows.specs.Store.{has_number};
+ghost use Rattle.euler_operators.specs.Conditions.{kept_end_bare, parallel};
+ghost use Rattle.euler_conditions.specs.Ready.{IsReady};
+ghost use Rattle.euler_conditions.specs.Ends.{leads_to, lesser};
+
+use crate::halves;
+use halfedge_arena::{Arena, HalfEdge, Kind};
+
+/// More than the half-edges that an arena can have.
+const HALVES: u32 = 2_000_002;
+
+/// Whether only this edge leaves the kept vertex, while others leave the killed one.
+pub(crate) fn kept_end_bare(arena: &Arena, h: HalfEdge) -> bool
+    requires ready { IsReady arena.now }
+    requires there { has_number arena.now Kind.Edge h.edge ≡ true }
+    ensures { result ≡ kept_end_bare arena.now.model (code h) }
+{
+    let mate = halves::mate(h);
+    halves::same(halves::next(arena, mate), h) && !halves::same(halves::next(arena, h), mate)
+}
+
+/// The next half-edge that leaves the same vertex.
+fn round(arena: &Arena, h: HalfEdge) -> HalfEdge
+    requires ready { IsReady arena.now }
+    requires there { has_number arena.now Kind.Edge h.edge ≡ true }
+    ensures round { code result ≡ round arena.now.model (code h) }
+    ensures there { has_number arena.now Kind.Edge result.edge ≡ true }
+{
+    halves::next(arena, halves::mate(h))
+}
+
+/// Whether the edge of g is another than that of h and leads to the vertex `far`.
+fn leads_to(arena: &Arena, h: HalfEdge, far: u32, g: HalfEdge) -> bool
+    requires { has_number arena.now Kind.Edge g.edge ≡ true }
+    ensures { result ≡ leads_to arena.now.model (code h) far (code g) }
+{
+    g.edge != h.edge && halves::tail(arena, halves::mate(g)) == far
+}
+
+/// The lesser of two edges, where 0 is none.
+fn lesser(least: u32, edge: u32) -> u32
+    ensures { result ≡ lesser least edge }
+{
+    if least == 0 { edge } else { least.min(edge) }
+}
+
+/// The least other edge with the same two ends, or 0. It leaves the vertex at which h starts, so one walk round it is enough.
+pub(crate) fn parallel(arena: &Arena, h: HalfEdge) -> u32
+    requires ready { IsReady arena.now }
+    requires there { has_number arena.now Kind.Edge h.edge ≡ true }
+    ensures { result ≡ parallel arena.now.model (code h) }
+{
+    let far = halves::tail(arena, halves::mate(h));
+    let mut least = 0;
+    let mut g = h;
+    'round: for _ in 0..HALVES {
+        if leads_to(arena, h, far, g) {
+            least = lesser(least, g.edge);
+        }
+        g = round(arena, g);
+        if halves::same(g, h) {
+            return least;
+        }
+    }
+    least
+}

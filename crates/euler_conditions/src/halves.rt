@@ -1,0 +1,63 @@
+//! What an arena says of a half-edge whose edge is there.
+ghost use Rattle.std.specs.Prelude.{◌≡◌, true, nat_eq};
+ghost use Rattle.boundary_model.specs.HalfEdge.{code, mate};
+ghost use Rattle.boundary_model.specs.Model.{after, tail, loop_of};
+ghost use Rattle.arena_rows.specs.Store.{has_number};
+ghost use Rattle.euler_operators.specs.Conditions.{face_at};
+ghost use Rattle.euler_conditions.specs.Ready.{IsReady};
+
+use crate::faces;
+use halfedge_arena::{Arena, HalfEdge, Kind};
+
+/// Whether the two are the same half-edge.
+pub(crate) fn same(a: HalfEdge, b: HalfEdge) -> bool
+    ensures { result ≡ nat_eq (code a) (code b) }
+{
+    a == b
+}
+
+/// The same edge in the opposite direction.
+pub(crate) fn mate(h: HalfEdge) -> HalfEdge
+    ensures mate { code result ≡ mate (code h) }
+    ensures edge { result.edge ≡ h.edge }
+{
+    h.mate()
+}
+
+/// The vertex at which the half-edge starts.
+pub(crate) fn tail(arena: &Arena, h: HalfEdge) -> u32
+    requires { has_number arena.now Kind.Edge h.edge ≡ true }
+    ensures { result ≡ tail arena.now.model (code h) }
+{
+    arena.tail(h)
+}
+
+/// The next item of the half-edge's loop.
+pub(crate) fn next(arena: &Arena, h: HalfEdge) -> HalfEdge
+    requires ready { IsReady arena.now }
+    requires there { has_number arena.now Kind.Edge h.edge ≡ true }
+    ensures next { code result ≡ after arena.now.model (code h) }
+    ensures there { has_number arena.now Kind.Edge result.edge ≡ true }
+{
+    arena.next(h)
+}
+
+/// The loop in which the half-edge stands.
+pub(crate) fn loop_of(arena: &Arena, h: HalfEdge) -> u32
+    requires ready { IsReady arena.now }
+    requires there { has_number arena.now Kind.Edge h.edge ≡ true }
+    ensures is { result ≡ loop_of arena.now.model (code h) }
+    ensures there { has_number arena.now Kind.Loop result ≡ true }
+{
+    arena.loop_of(h)
+}
+
+/// The face of the loop in which the half-edge stands.
+pub(crate) fn face_at(arena: &Arena, h: HalfEdge) -> u32
+    requires ready { IsReady arena.now }
+    requires there { has_number arena.now Kind.Edge h.edge ≡ true }
+    ensures is { result ≡ face_at arena.now.model (code h) }
+    ensures there { has_number arena.now Kind.Face result ≡ true }
+{
+    faces::face_of(arena, loop_of(arena, h))
+}

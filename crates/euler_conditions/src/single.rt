@@ -1,0 +1,42 @@
+//! Single conditions.
+ghost use Rattle.std.specs.Prelude.{◌≡◌, ℕ, Bool, true, List, [], ◌∷◌, take, drop};
+ghost use Rattle.boundary_model.specs.Model.{is_number};
+ghost use Rattle.lattice.specs.Point.{is_in_range};
+ghost use Rattle.euler_operators.specs.Conditions.{need, numbers_in_range, first_refusal, verdict};
+
+use euler_operators::{Refusal, Why};
+use lattice::{Point, point_in_range};
+
+/// A refusal.
+pub(crate) fn refused(why: Why, number: u32) -> Result<(), Refusal>
+    ensures { result ≡ Err (record { why = why; number = number }) }
+{
+    Err(Refusal { why, number })
+}
+
+pub(crate) fn is_number(n: u32) -> bool
+    ensures { result ≡ is_number n }
+{
+    1 <= n && n <= 1_000_000
+}
+
+/// Each number lies from 1 to the limit.
+pub(crate) fn in_range(numbers: &[u32]) -> Result<(), Refusal>
+    ensures { result ≡ verdict (first_refusal (numbers_in_range numbers.now)) }
+{
+    let mut rest = numbers;
+    'numbers: while let [n, others @ ..] = rest {
+        if !is_number(*n) {
+            return refused(Why::NumberRange, *n);
+        }
+        rest = others;
+    }
+    Ok(())
+}
+
+/// The point's coordinates are within the limit.
+pub(crate) fn fits(point: Point) -> bool
+    ensures { result ≡ is_in_range point }
+{
+    point_in_range(point)
+}

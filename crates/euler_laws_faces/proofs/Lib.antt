@@ -1,0 +1,5 @@
+pub mod OneSolid
+pub mod Solids
+pub mod RingIn
+pub mod RingOut
+pub mod Kfmrh

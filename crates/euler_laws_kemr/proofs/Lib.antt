@@ -1,0 +1,2 @@
+pub mod KemrSound
+pub mod Kemr

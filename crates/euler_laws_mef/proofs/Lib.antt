@@ -1,0 +1,5 @@
+pub mod MefUndo
+pub mod MefSound
+pub mod Mef
+pub mod KefSound
+pub mod Kef

@@ -1,0 +1,2 @@
+//! The operators mef and kef keep a sound model sound and take each other back.
+#![tactic(auto)]

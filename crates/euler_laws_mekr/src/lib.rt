@@ -1,0 +1,2 @@
+//! The operator mekr keeps a sound model sound, and kemr takes it back.
+#![tactic(auto)]

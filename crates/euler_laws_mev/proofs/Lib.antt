@@ -1,0 +1,3 @@
+pub mod MevSound
+pub mod MevLoneSound
+pub mod Mev

@@ -1,0 +1,2 @@
+//! The operator mev keeps a sound model sound.
+#![tactic(auto)]

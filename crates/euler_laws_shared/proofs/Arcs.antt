@@ -1,0 +1,114 @@
+-- The part of a vertex's fan from one half-edge up to another, and what operators make of fans.
+use Rattle.std.proofs.Common.{◌≡◌, ◌≢◌, ℕ, ◌*◌, ◌≤◌, true, false, cond, List, [], ◌∷◌, ◌++◌, length, Some, is_some, refl, sym, ap, ◌∙◌, arith, ◌⊎◌, inl, inr, true≢false, ne_eqb, length-append}
+use Rattle.std.proofs.lemmas.Bool.Decides.{eqb_tells}
+use Rattle.std.specs.Ordering.{nat_cmp}
+use Rattle.std.specs.Cmp.{unsigned_tied}
+use Rattle.std.specs.FinMap.Entries.{find}
+use Rattle.cyclic_list.specs.Items.{count, tick, IsIn, IsApart, before as before_item, after as after_item}
+use Rattle.cyclic_list.specs.Rings.{rest, canonical, upto, onward, IsRing}
+use Rattle.cyclic_list.specs.Edits.{without}
+use Rattle.cyclic_list.specs.Operators.{after_mev, after_mef, after_kev, after_kef, put_ring, take_ring}
+use Rattle.cyclic_list.proofs.Lists.{tick_same, tick_other, split_at}
+use Rattle.cyclic_list.proofs.Edits.{count-without}
+use Rattle.cyclic_list.proofs.Cuts.{arc_ring}
+use Rattle.cyclic_list.proofs.Vertices.{vertex_mev, vertex_mev_other, vertex_mef_first, vertex_mef_second, vertex_mef_other, vertex_kev, vertex_kev_other, vertex_kef_first, vertex_kef_second, vertex_kef_other}
+use Rattle.boundary_model.specs.HalfEdge.{mate, edge_of, is_first, plus, minus}
+use Rattle.boundary_model.specs.Table as table
+use Rattle.boundary_model.specs.Model.{Model, EdgeRow, round, arc}
+use Rattle.boundary_model.specs.Sound.{HasHalf}
+use Rattle.boundary_model.proofs.Halves.{mate_cases}
+
+-- a list without repeats within another is no longer
+apart_within : (xs ys : List ℕ) → IsApart xs → ((x : ℕ) → IsIn x xs → IsIn x ys) → length xs ≤ length ys
+apart_within [] ys d i = omega arith
+apart_within (x ∷ xs) ys d i =
+    let j : IsIn x ys = i x (omega (arith, tick_same x)) in
+    let less : length xs ≤ length (without x ys) = apart_within xs (without x ys) (λ z. omega (arith, d z)) (λ z k. omega (arith, i z, count-without z x ys j, other z k)) in
+    omega (arith, less, ap length (split_at x ys j), length-append (before_item x ys) (x ∷ after_item x ys), length-append (before_item x ys) (after_item x ys)) where
+      other : (z : ℕ) → IsIn z xs → tick z x ≡ 0
+      other z k = elim (eqb_tells z x) [ inl e ↦ absurd (omega (arith, d x, tick_same x, ap (λ y. count y xs) e.1)) | inr e ↦ tick_other z x e.1 ]
+
+pub halves_of_edge : (x : ℕ) → ((x ≡ plus (edge_of x)) × (is_first x ≡ true)) ⊎ ((x ≡ minus (edge_of x)) × (is_first x ≡ false))
+unfolding edge_of
+halves_of_edge x = elim (mate_cases x) [ inl p ↦ inl (omega arith, p.2) | inr p ↦ inr (omega arith, p.2) ]
+
+codes : List (ℕ × EdgeRow) → List ℕ
+codes [] = []
+codes (e ∷ es) = plus e.0 ∷ minus e.0 ∷ codes es
+
+length-codes : (es : List (ℕ × EdgeRow)) → length (codes es) ≡ 2 * length es
+unfolding codes
+length-codes [] = refl
+length-codes (e ∷ es) = omega (arith, length-codes es)
+
+found_in : (x : ℕ) (es : List (ℕ × EdgeRow)) → is_some (find nat_cmp (edge_of x) es) ≡ true → IsIn x (codes es)
+unfolding codes
+found_in x [] t = absurd (true≢false (sym t))
+found_in x (e ∷ es) t = elim (eqb_tells (edge_of x) e.0) [
+  | inl a ↦ elim (halves_of_edge x) [
+    | inl p ↦ omega (arith, ap (tick x) (p.0 ∙ ap plus a.1), tick_same x)
+    | inr p ↦ omega (arith, ap (tick x) (p.0 ∙ ap minus a.1), tick_same x)
+  ]
+  | inr a ↦ let i = found_in x es (sym (ap (λ b. is_some (cond b (Some e.1) (find nat_cmp (edge_of x) es))) (unsigned_tied (edge_of x) e.0 ∙ ne_eqb (edge_of x) e.0 a.1)) ∙ t) in omega (arith, i)
+]
+
+half_in : (M : Model) (x : ℕ) → HasHalf M x → IsIn x (codes M.edges.rows)
+unfolding table.get
+half_in M x t = found_in x M.edges.rows t
+
+-- the arc from g to k is the part of the fan from g up to k
+pub arc_is : (M : Model) (ws : List ℕ) (g k : ℕ) → IsApart ws → IsRing (round M) ws → ((x : ℕ) → IsIn x ws → HasHalf M x) → IsIn g ws → IsIn k ws → arc M g k ≡ upto g k ws
+unfolding arc
+arc_is M ws g k d r there i j = arc_ring (round M) g k ws (2 * length M.edges.rows) r i j
+    (omega (arith, apart_within ws (codes M.edges.rows) d (λ x w. half_in M x (there x w)), length-codes M.edges.rows))
+
+-- ---- the laws of vertices, at the half-edges of a model
+
+abbrev pub Leads : (ℕ → ℕ) → List ℕ → Type 0
+Leads next ws = IsRing (λ x. next (mate x)) ws
+
+pub fan_mev : (next : ℕ → ℕ) (h c e : ℕ) (ws : List ℕ) → IsApart ws → IsIn c ws → IsIn e ws → count h ws ≡ 0 → count (mate h) ws ≡ 0 → Leads next ws →
+    Leads (after_mev next h (mate h) c e) (mate h ∷ upto c e ws) × Leads (after_mev next h (mate h) c e) (h ∷ onward c e ws)
+unfolding mate is_first
+fan_mev = vertex_mev
+
+pub fan_mev_other : (next : ℕ → ℕ) (h c e : ℕ) → h ≢ e → (ws : List ℕ) → IsApart ws → count h ws ≡ 0 → count (mate h) ws ≡ 0 → Leads next ws → count c ws ≡ 0 → count e ws ≡ 0 →
+    Leads (after_mev next h (mate h) c e) ws
+unfolding mate is_first
+fan_mev_other = vertex_mev_other
+
+pub fan_mef_first : (next : ℕ → ℕ) (h c e : ℕ) → h ≢ e → (ws : List ℕ) → IsApart ws → count h ws ≡ 0 → count (mate h) ws ≡ 0 → Leads next ws → IsIn c ws → count e ws ≡ 0 →
+    Leads (after_mef next h (mate h) c e) (put_ring h c ws)
+unfolding mate is_first
+fan_mef_first = vertex_mef_first
+
+pub fan_mef_second : (next : ℕ → ℕ) (h c e : ℕ) → h ≢ e → (ws : List ℕ) → IsApart ws → count h ws ≡ 0 → count (mate h) ws ≡ 0 → Leads next ws → IsIn e ws → count c ws ≡ 0 →
+    Leads (after_mef next h (mate h) c e) (put_ring (mate h) e ws)
+unfolding mate is_first
+fan_mef_second = vertex_mef_second
+
+pub fan_mef_other : (next : ℕ → ℕ) (h c e : ℕ) → h ≢ e → (ws : List ℕ) → IsApart ws → count h ws ≡ 0 → count (mate h) ws ≡ 0 → Leads next ws → count c ws ≡ 0 → count e ws ≡ 0 →
+    Leads (after_mef next h (mate h) c e) ws
+unfolding mate is_first
+fan_mef_other = vertex_mef_other
+
+pub fan_kef_first : (next : ℕ → ℕ) (h : ℕ) (ws : List ℕ) → IsApart ws → Leads next ws → IsIn h ws → count (mate h) ws ≡ 0 → next (mate h) ≢ h → Leads (after_kef next h (mate h)) (take_ring h ws)
+unfolding mate is_first
+fan_kef_first = vertex_kef_first
+
+pub fan_kef_second : (next : ℕ → ℕ) (h : ℕ) (ws : List ℕ) → IsApart ws → Leads next ws → IsIn (mate h) ws → count h ws ≡ 0 → next (mate (mate h)) ≢ mate h → Leads (after_kef next h (mate h)) (take_ring (mate h) ws)
+unfolding mate is_first
+fan_kef_second = vertex_kef_second
+
+pub fan_kef_other : (next : ℕ → ℕ) (h : ℕ) (ws : List ℕ) → IsApart ws → Leads next ws → count h ws ≡ 0 → count (mate h) ws ≡ 0 → Leads (after_kef next h (mate h)) ws
+unfolding mate is_first
+fan_kef_other = vertex_kef_other
+
+pub fan_kev : (next : ℕ → ℕ) (h : ℕ) (ws vs : List ℕ) → IsApart (ws ++ vs) → IsIn h ws → IsIn (mate h) vs → next (mate h) ≢ h → Leads next ws → Leads next vs →
+    Leads (after_kev next h (mate h)) (canonical (rest h ws ++ rest (mate h) vs))
+unfolding mate is_first
+fan_kev = vertex_kev
+
+pub fan_kev_other : (next : ℕ → ℕ) (h : ℕ) (ws : List ℕ) → count h ws ≡ 0 → count (mate h) ws ≡ 0 → Leads next ws → Leads (after_kev next h (mate h)) ws
+unfolding mate is_first
+fan_kev_other = vertex_kev_other

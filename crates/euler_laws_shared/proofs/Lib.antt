@@ -1,0 +1,13 @@
+pub mod Fans
+pub mod Loops
+pub mod Rows
+pub mod Arcs
+pub mod EdgeMore
+pub mod EdgeLess
+pub mod Same
+pub mod Undo
+pub mod Rings
+pub mod Faces
+pub mod Goes
+pub mod Listed
+pub mod Empty

@@ -1,0 +1,132 @@
+-- The numbers of a table whose rows pass a test: which they are, and that they rise.
+use Rattle.std.proofs.Common.{◌≡◌, ◌≢◌, ℕ, Bool, true, false, cond, nat_eq, nat_lt, ◌<◌, ◌&&◌, ◌||◌, T, List, [], ◌∷◌, Some, refl, sym, ap, subst, ◌∙◌, arith, true≢false, ◌⊎◌, inl, inr}
+use Rattle.std.specs.Ordering.{nat_cmp, is_lt}
+use Rattle.std.specs.Cmp.{unsigned_tied}
+use Rattle.std.specs.FinMap.Entries.{find, is_sorted, below_all}
+use Rattle.std.proofs.lemmas.Bool.Decides.{nat_tests, eqb_tells}
+use Rattle.boundary_model.specs.Table.{Table, get, all_where, all_in}
+use Rattle.boundary_model.proofs.Tables.{and_left, and_right}
+use Rattle.euler_operators.specs.Conditions.{lists, strictly_rises}
+
+one_value : {X : Type 0} (x y : X) → Some x ≡ Some y → x ≡ y
+one_value x y e = cc
+
+or_true : (a : Bool) → (a || true) ≡ true
+or_true true = refl
+or_true false = refl
+
+-- the first of a list stands in it, and what stands in the rest does
+pub first_listed : (n : ℕ) (ns : List ℕ) → lists (n ∷ ns) n ≡ true
+first_listed n ns = let e : nat_eq n n ≡ true = grind (arith, nat_tests) in ap (λ b. b || lists ns n) e
+
+pub rest_listed : (n q : ℕ) (ns : List ℕ) → lists ns q ≡ true → lists (n ∷ ns) q ≡ true
+rest_listed n q ns l = ap (λ b. nat_eq n q || b) l ∙ or_true (nat_eq n q)
+
+-- what stands in a list is its first or stands in the rest
+pub listed_cases : (n q : ℕ) (ns : List ℕ) → lists (n ∷ ns) q ≡ true → (q ≡ n) ⊎ (lists ns q ≡ true)
+listed_cases n q ns l = elim (eqb_tells q n) [ inl e ↦ inl e.1 | inr e ↦ inr (sym (ap (λ b. b || lists ns q) (other q n e.1)) ∙ l) ] where
+  other : (a b : ℕ) → a ≢ b → nat_eq b a ≡ false
+  other a b ne = grind (arith, nat_tests)
+
+less_means : (k a : ℕ) → T (is_lt (nat_cmp k a)) → k < a
+less_means k a h = grind (arith, nat_tests)
+
+module _ {X : Type 0} where
+  find_in : (q : ℕ) (e : ℕ × X) (es : List (ℕ × X)) → find nat_cmp q (e ∷ es) ≡ cond (nat_eq q e.0) (Some e.1) (find nat_cmp q es)
+  find_in q e es = ap (λ b. cond b (Some e.1) (find nat_cmp q es)) (unsigned_tied q e.0)
+
+  find_here : (e : ℕ × X) (es : List (ℕ × X)) → find nat_cmp e.0 (e ∷ es) ≡ Some e.1
+  find_here e es = let s : nat_eq e.0 e.0 ≡ true = grind (arith, nat_tests) in find_in e.0 e es ∙ ap (λ b. cond b (Some e.1) (find nat_cmp e.0 es)) s
+
+  find_later : (q : ℕ) (e : ℕ × X) (es : List (ℕ × X)) → q ≢ e.0 → find nat_cmp q (e ∷ es) ≡ find nat_cmp q es
+  find_later q e es a = let s : nat_eq q e.0 ≡ false = grind (arith, nat_tests) in find_in q e es ∙ ap (λ b. cond b (Some e.1) (find nat_cmp q es)) s
+
+  -- what is found past the numbers below k is greater
+  found_past : (k q : ℕ) (es : List (ℕ × X)) (y : X) → T (below_all nat_cmp k es) → find nat_cmp q es ≡ Some y → k < q
+  found_past k q [] y h is = cc
+  found_past k q (e ∷ es) y h is = elim (eqb_tells q e.0) [
+    | inl s ↦ subst (λ n. k < n) (sym s.1) (less_means k e.0 (and_left _ _ h))
+    | inr a ↦ found_past k q es y (and_right _ _ h) (sym (find_later q e es a.1) ∙ is)
+  ]
+
+  abbrev Found : (ℕ → X → Bool) → ℕ → List (ℕ × X) → Type 0
+  Found p n es = (x : X) × (find nat_cmp n es ≡ Some x) × (p n x ≡ true)
+
+  found_on : (p : ℕ → X → Bool) (n : ℕ) (e : ℕ × X) (es : List (ℕ × X)) → T (is_sorted nat_cmp (e ∷ es)) → Found p n es → Found p n (e ∷ es)
+  found_on p n e es s f = (f.0, find_later n e es (λ same. less_apart e.0 n (found_past e.0 n es f.0 (and_left _ _ s) f.1) same) ∙ f.1, f.2) where
+    less_apart : (a b : ℕ) → a < b → b ≡ a → ⊥
+    less_apart a b l same = absurd (omega arith)
+
+  listed_in : (p : ℕ → X → Bool) (n : ℕ) (es : List (ℕ × X)) → T (is_sorted nat_cmp es) → lists (all_in p es) n ≡ true → Found p n es
+  listed_in p n [] s l = absurd (true≢false (sym l))
+  listed_in p n (e ∷ es) s l =
+      elim (p e.0 e.1) as (λ b. p e.0 e.1 ≡ b → lists (cond b (e.0 ∷ all_in p es) (all_in p es)) n ≡ true → Found p n (e ∷ es)) [
+        | true ↦ λ t l. elim (listed_cases e.0 n (all_in p es) l) [
+          | inl q ↦ subst (λ k. Found p k (e ∷ es)) (sym q) (e.1, find_here e es, t)
+          | inr q ↦ found_on p n e es s (listed_in p n es (and_right _ _ s) q)
+        ]
+        | false ↦ λ t l. found_on p n e es s (listed_in p n es (and_right _ _ s) l)
+      ] refl l
+
+  in_list : (p : ℕ → X → Bool) (n : ℕ) (x : X) (es : List (ℕ × X)) → find nat_cmp n es ≡ Some x → p n x ≡ true → lists (all_in p es) n ≡ true
+  in_list p n x [] at passes = cc
+  in_list p n x (e ∷ es) at passes = elim (eqb_tells n e.0) [
+    | inl q ↦
+        let v : x ≡ e.1 = one_value x e.1 (sym at ∙ ap (λ k. find nat_cmp k (e ∷ es)) q.1 ∙ find_here e es) in
+        let t : p e.0 e.1 ≡ true = (λ i. p (sym q.1 i) (sym v i)) ∙ passes in
+        ap (λ b. lists (cond b (e.0 ∷ all_in p es) (all_in p es)) n) t ∙ subst (λ k. lists (e.0 ∷ all_in p es) k ≡ true) (sym q.1) (first_listed e.0 (all_in p es))
+    | inr q ↦
+        let rest : lists (all_in p es) n ≡ true = in_list p n x es (sym (find_later n e es q.1) ∙ at) passes in
+        elim (p e.0 e.1) as (λ b. lists (cond b (e.0 ∷ all_in p es) (all_in p es)) n ≡ true) [
+          | true ↦ rest_listed e.0 n (all_in p es) rest
+          | false ↦ rest
+        ]
+  ]
+
+  rises_past : (p : ℕ → X → Bool) (k : ℕ) (es : List (ℕ × X)) → T (below_all nat_cmp k es) → T (is_sorted nat_cmp es) → strictly_rises (k ∷ all_in p es) ≡ true
+  rises_past p k [] h s = refl
+  rises_past p k (e ∷ es) h s = elim (p e.0 e.1) as (λ b. strictly_rises (k ∷ cond b (e.0 ∷ all_in p es) (all_in p es)) ≡ true) [
+    | true ↦ ap (λ b. b && strictly_rises (e.0 ∷ all_in p es)) (less k e.0 (less_means k e.0 (and_left _ _ h))) ∙ rises_past p e.0 es (and_left _ _ s) (and_right _ _ s)
+    | false ↦ rises_past p k es (and_right _ _ h) (and_right _ _ s)
+  ] where
+    less : (a b : ℕ) → a < b → nat_lt a b ≡ true
+    less a b l = grind (arith, nat_tests)
+
+  rises_in : (p : ℕ → X → Bool) (es : List (ℕ × X)) → T (is_sorted nat_cmp es) → strictly_rises (all_in p es) ≡ true
+  rises_in p [] s = refl
+  rises_in p (e ∷ es) s = elim (p e.0 e.1) as (λ b. strictly_rises (cond b (e.0 ∷ all_in p es) (all_in p es)) ≡ true) [
+    | true ↦ rises_past p e.0 es (and_left _ _ s) (and_right _ _ s)
+    | false ↦ rises_in p es (and_right _ _ s)
+  ]
+
+-- what is listed has a row that passes
+pub listed_passes : {X : Type 0} (p : ℕ → X → Bool) (t : Table X) (n : ℕ) → lists (all_where p t) n ≡ true → (x : X) × (get t n ≡ Some x) × (p n x ≡ true)
+unfolding all_where get
+listed_passes p t n l = listed_in p n t.rows t.rising l
+
+-- what has a row that passes is listed
+pub passes_listed : {X : Type 0} (p : ℕ → X → Bool) (t : Table X) (n : ℕ) (x : X) → get t n ≡ Some x → p n x ≡ true → lists (all_where p t) n ≡ true
+unfolding all_where get
+passes_listed p t n x at passes = in_list p n x t.rows at passes
+
+-- a number with a row is listed where the row passes
+pub listed_as : {X : Type 0} (p : ℕ → X → Bool) (t : Table X) (n : ℕ) (x : X) → get t n ≡ Some x → lists (all_where p t) n ≡ p n x
+listed_as p t n x at = elim (p n x) as (λ b. p n x ≡ b → lists (all_where p t) n ≡ b) [
+  | true ↦ λ e. passes_listed p t n x at e
+  | false ↦ λ e. never (lists (all_where p t) n) (λ l. let y = listed_passes p t n l in true≢false (sym y.2 ∙ ap (p n) (one_value y.0 x (sym y.1 ∙ at)) ∙ e))
+] refl where
+  never : (b : Bool) → (b ≡ true → ⊥) → b ≡ false
+  never true h = absurd (h refl)
+  never false h = refl
+
+pub all_where-rises : {X : Type 0} (p : ℕ → X → Bool) (t : Table X) → strictly_rises (all_where p t) ≡ true
+unfolding all_where
+all_where-rises p t = rises_in p t.rows t.rising
+
+-- a rising list in which one number stands and no other
+pub one_listed : (ns : List ℕ) (n : ℕ) → strictly_rises ns ≡ true → lists ns n ≡ true → ((q : ℕ) → lists ns q ≡ true → q ≡ n) → ns ≡ n ∷ []
+one_listed [] n r l only = absurd (true≢false (sym l))
+one_listed (m ∷ []) n r l only = ap (λ k. k ∷ []) (only m (first_listed m []))
+one_listed (m ∷ k ∷ ns) n r l only = absurd (apart m k (strictly_rises (k ∷ ns)) r (only m (first_listed m (k ∷ ns)) ∙ sym (only k (rest_listed m k (k ∷ ns) (first_listed k ns))))) where
+  apart : (m k : ℕ) (b : Bool) → (nat_lt m k && b) ≡ true → m ≡ k → ⊥
+  apart m k b r e = let f : nat_lt m k ≡ false = grind (arith, nat_tests) in absurd (true≢false (sym r ∙ ap (λ c. c && b) f))

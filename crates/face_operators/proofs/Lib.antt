@@ -1,0 +1,4 @@
+pub mod Rows
+pub mod Facts
+pub mod Swaps
+pub mod Handing

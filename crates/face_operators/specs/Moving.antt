@@ -1,0 +1,10 @@
+-- Faces that go to another solid.
+use Rattle.std.specs.Prelude.{ℕ, List}
+use Rattle.boundary_model.specs.Table as table
+use Rattle.arena_rows.specs.Store.{Store}
+use Rattle.euler_operators.specs.Conditions.{lists}
+use Rattle.euler_operators.specs.Effect.{faces_to_solid}
+
+-- the listed faces are of solid n
+abbrev pub moved : Store → List ℕ → ℕ → Store
+moved s fs n = record s { model = record s.model { faces = table.map_rows (faces_to_solid (λ f _. lists fs f) n) s.model.faces } }

@@ -1,0 +1,100 @@
+-- What a line is answered.
+use Rattle.std.specs.Prelude.{◌≡◌, ◌⊎◌, ℕ, ◌+◌, Bool, true, false, List, [], Option, Some, None, Result, Ok, Err}
+use Rattle.euler_operators.specs.declared.Refusal.{Refusal}
+use Rattle.euler_operators.specs.Refusal as refusal
+use Rattle.undo_journal.specs.Machine.{Machine, held, act, act_refusal, undo, undo_refusal, redo, redo_refusal}
+use Rattle.script_reader.specs.declared.command.Command.{Command}
+use Rattle.script_reader.specs.declared.command.Command.TheVariants as command
+use Rattle.script_reader.specs.declared.command.Fault.{Fault}
+use Rattle.script_reader.specs.Fault as fault
+use Rattle.script_reader.specs.Grammar.{command_of}
+use Rattle.solid_listing.specs.declared.reply.Reply.{Reply}
+use Rattle.solid_listing.specs.declared.reply.Reply.TheVariants as reply
+use Rattle.solid_listing.specs.Replies.{reply_text}
+use Rattle.solid_listing.specs.Listing.{listing}
+use Rattle.gwb.specs.declared.judging.Answer.{Answer}
+use Rattle.gwb.specs.declared.judging.Answer.TheVariants.{Silent, Reply as Told, Listing}
+use Rattle.gwb.specs.declared.judging.Summary.{Summary}
+
+abbrev pub done : Answer
+done = Told reply.Done
+
+abbrev pub refused : Refusal → Answer
+refused r = Told (reply.Refused (refusal.code_of r.why) r.number)
+
+-- undo and redo go on to a state, or are refused
+abbrev pub Moves : Option Refusal → Machine → Machine → Answer → Machine → Type 0
+Moves None s moved a t = (a ≡ done) × (t ≡ moved)
+Moves (Some r) s moved a t = (a ≡ refused r) × (t ≡ s)
+
+-- a command goes on to a state, or is refused, or is told that memory was refused
+abbrev pub Acts : Option Refusal → Machine → Machine → Answer → Machine → Type 0
+Acts None s acted a t = ((a ≡ done) × (t ≡ acted)) ⊎ ((a ≡ Told reply.Memory) × (t ≡ s))
+Acts (Some r) s acted a t = (a ≡ refused r) × (t ≡ s)
+
+-- a command word that isn't known
+abbrev pub Unknown : Machine → Answer → Machine → Type 0
+Unknown s a t = (a ≡ Told (reply.Fault 1)) × (t ≡ s)
+
+-- from s the machine may answer a command so, and go on to t
+abbrev pub Obeys : Machine → Command → Answer → Machine → Type 0
+Obeys s command.Nothing a t = (a ≡ Silent) × (t ≡ s)
+Obeys s (command.Act op) a t = Acts (act_refusal s op) s (act s op) a t
+Obeys s (command.Lamina n ps) a t = Unknown s a t
+Obeys s (command.Block n p dx dy dz) a t = Unknown s a t
+Obeys s (command.Sweep f d) a t = Unknown s a t
+Obeys s (command.Glue f g) a t = Unknown s a t
+Obeys s (command.Split n plane m) a t = Unknown s a t
+Obeys s (command.Plane f) a t = Unknown s a t
+Obeys s (command.Volume n) a t = Unknown s a t
+Obeys s (command.Count n) a t = Unknown s a t
+Obeys s command.Undo a t = Moves (undo_refusal s) s (undo s) a t
+Obeys s command.Redo a t = Moves (redo_refusal s) s (redo s) a t
+Obeys s command.List a t = (a ≡ Listing) × (t ≡ s)
+
+-- the command that a line spells is obeyed, and a line with a fault is told it
+abbrev pub Answers : Machine → Result Command Fault → Answer → Machine → Type 0
+Answers s (Ok c) a t = Obeys s c a t
+Answers s (Err f) a t = (a ≡ Told (reply.Fault (fault.code_of f))) × (t ≡ s)
+
+-- from s the machine may answer a line so, and go on to t
+abbrev pub Judges : Machine → List ℕ → Answer → Machine → Type 0
+Judges s line a t = Answers s (command_of line) a t
+
+-- the text of an answer, where the listing is that of the model held
+abbrev pub answer_text : Machine → Answer → List ℕ
+answer_text s Silent = []
+answer_text s (Told r) = reply_text r
+answer_text s Listing = listing (held s)
+
+-- the reply begins with `refused`, `fault` or `memory`
+abbrev pub complains : Answer → Bool
+complains Silent = false
+complains (Told reply.Done) = false
+complains (Told (reply.Refused n x)) = true
+complains (Told (reply.Fault n)) = true
+complains (Told reply.Memory) = true
+complains (Told (reply.Plane p flat)) = false
+complains (Told (reply.Volume n)) = false
+complains (Told (reply.Count ns)) = false
+complains Listing = false
+
+-- no line yet
+abbrev pub no_lines : Summary
+no_lines = record { lines = 0; refused = 0; faults = 0; memory = 0 }
+
+-- one line with its answer
+abbrev pub one_line : Answer → Summary
+one_line Silent = record { lines = 1; refused = 0; faults = 0; memory = 0 }
+one_line (Told reply.Done) = record { lines = 1; refused = 0; faults = 0; memory = 0 }
+one_line (Told (reply.Refused n x)) = record { lines = 1; refused = 1; faults = 0; memory = 0 }
+one_line (Told (reply.Fault n)) = record { lines = 1; refused = 0; faults = 1; memory = 0 }
+one_line (Told reply.Memory) = record { lines = 1; refused = 0; faults = 0; memory = 1 }
+one_line (Told (reply.Plane p flat)) = record { lines = 1; refused = 0; faults = 0; memory = 0 }
+one_line (Told (reply.Volume n)) = record { lines = 1; refused = 0; faults = 0; memory = 0 }
+one_line (Told (reply.Count ns)) = record { lines = 1; refused = 0; faults = 0; memory = 0 }
+one_line Listing = record { lines = 1; refused = 0; faults = 0; memory = 0 }
+
+-- the counts of some lines and of those after them
+abbrev pub counted : Summary → Summary → Summary
+counted a b = record { lines = a.lines + b.lines; refused = a.refused + b.refused; faults = a.faults + b.faults; memory = a.memory + b.memory }

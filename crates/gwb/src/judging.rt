@@ -1,0 +1,141 @@
+//! What a line is answered.
+ghost use Rattle.std.specs.Prelude.{◌≡◌, ◌<◌, ◌≤◌, ◌↔◌, IsTrue};
+ghost use Rattle.euler_conditions.specs.Ready.{IsReady};
+ghost use Rattle.gwb.specs.Judging.{refused, Moves, Acts, Obeys, Judges, answer_text, complains, one_line, counted};
+ghost use Rattle.undo_journal.specs.Machine as machine;
+
+use euler_conditions::{Op, Refusal};
+use script_reader::{Command, Fault, read_line};
+use solid_listing::{Reply, WriteFault};
+use undo_journal::{Failure, Session};
+
+/// What a line is answered.
+#[derive(Clone, Copy, Debug, PartialEq, Eq)]
+pub enum Answer {
+    /// A blank line or a comment has no reply.
+    Silent,
+    Reply(Reply),
+    /// The listing of the model held.
+    Listing,
+}
+
+/// What a run counted.
+#[derive(Clone, Copy, Debug, Default, PartialEq, Eq)]
+pub struct Summary {
+    /// The lines judged, blank and comment lines and a last line without newline included.
+    pub lines: u64,
+    /// The replies that begin with `refused`.
+    pub refused: u64,
+    /// The replies that begin with `fault`.
+    pub faults: u64,
+    /// The replies that begin with `memory`.
+    pub memory: u64,
+}
+
+impl Summary {
+    /// Whether no reply begins with `refused`, `fault` or `memory`.
+    pub fn is_clean(&self) -> bool
+        ensures { IsTrue result ↔ ((self.now.refused ≡ 0) × (self.now.faults ≡ 0) × (self.now.memory ≡ 0)) }
+    {
+        self.refused == 0 && self.faults == 0 && self.memory == 0
+    }
+
+    /// One line more, with its answer.
+    pub(crate) fn count(&mut self, answer: &Answer)
+        requires lines { self.old.lines < 67108865 }
+        requires refused { self.old.refused ≤ self.old.lines }
+        requires faults { self.old.faults ≤ self.old.lines }
+        requires memory { self.old.memory ≤ self.old.lines }
+        ensures { self.new ≡ counted self.old (one_line answer.now) }
+    {
+        self.lines += 1;
+        match answer {
+            Answer::Reply(Reply::Refused(_, _)) => self.refused += 1,
+            Answer::Reply(Reply::Fault(_)) => self.faults += 1,
+            Answer::Reply(Reply::Memory) => self.memory += 1,
+            _ => {}
+        }
+    }
+}
+
+/// Whether the reply begins with `refused`, `fault` or `memory`.
+pub(crate) fn complains(answer: &Answer) -> bool
+    ensures { result ≡ complains answer.now }
+{
+    matches!(
+        answer,
+        Answer::Reply(Reply::Refused(_, _) | Reply::Fault(_) | Reply::Memory)
+    )
+}
+
+/// The answer to a command word that isn't known.
+fn unknown() -> Answer
+    ensures { result ≡ Answer.Reply (Reply.Fault 1) }
+{
+    Answer::Reply(Reply::Fault(Fault::BadWord.code()))
+}
+
+fn told_refusal(refusal: Refusal) -> Answer
+    ensures { result ≡ refused refusal }
+{
+    Answer::Reply(Reply::Refused(refusal.why.code(), refusal.number))
+}
+
+fn act(session: &mut Session, op: Op) -> Answer
+    ensures { Acts (machine.act_refusal session.old op) session.old (machine.act session.old op) result session.new }
+{
+    match session.act(op) {
+        Ok(()) => Answer::Reply(Reply::Done),
+        Err(Failure::Refused(refusal)) => told_refusal(refusal),
+        Err(Failure::Memory(_)) => Answer::Reply(Reply::Memory),
+    }
+}
+
+fn undo(session: &mut Session) -> Answer
+    ensures { Moves (machine.undo_refusal session.old) session.old (machine.undo session.old) result session.new }
+{
+    match session.undo() {
+        Ok(()) => Answer::Reply(Reply::Done),
+        Err(refusal) => told_refusal(refusal),
+    }
+}
+
+fn redo(session: &mut Session) -> Answer
+    ensures { Moves (machine.redo_refusal session.old) session.old (machine.redo session.old) result session.new }
+{
+    match session.redo() {
+        Ok(()) => Answer::Reply(Reply::Done),
+        Err(refusal) => told_refusal(refusal),
+    }
+}
+
+/// Carries a command out. A command that the workbench doesn't know yet is answered as an unknown word.
+fn obey(session: &mut Session, command: Command) -> Answer
+    ensures { Obeys session.old command result session.new }
+{
+    match command {
+        Command::Nothing => Answer::Silent,
+        Command::Act(op) => act(session, op),
+        Command::Undo => undo(session),
+        Command::Redo => redo(session),
+        Command::List => Answer::Listing,
+        Command::Lamina(_, _)
+        | Command::Block(_, _, _, _, _)
+        | Command::Sweep(_, _)
+        | Command::Glue(_, _)
+        | Command::Split(_, _, _)
+        | Command::Plane(_)
+        | Command::Volume(_)
+        | Command::Count(_) => unknown(),
+    }
+}
+
+/// Judges a line.
+pub(crate) fn judge(session: &mut Session, line: &[u8]) -> Answer
+    ensures { Judges session.old line.now result session.new }
+{
+    match read_line(line) {
+        Ok(command) => obey(session, command),
+        Err(fault) => Answer::Reply(Reply::Fault(fault.code())),
+    }
+}

@@ -1,0 +1,215 @@
+//! Worked scripts over memory, and readers and writers that fail.
+use super::{RunFault, Summary, run};
+use std::alloc::Global;
+use std::io::{self, ErrorKind, Read};
+use std::process::Abort;
+use std::test::Fail;
+
+/// What a run writes, with its counts.
+fn answers(alloc: Global, script: &[u8], stop: bool) -> Result<(Vec<u8>, Summary), Fail> {
+    let mut out = Vec::new(alloc);
+    let summary = run(alloc, script, &mut out, stop)?;
+    Ok((out, summary))
+}
+
+const WIRE: &[u8] = b"mvfs 1 1 1 1 0 0 0\nmev @1 @1 1 2 5 0 0\nlist\n";
+
+const WIRE_TOLD: &[u8] =
+    b"ok\nok\nsolid 1\nface 1 1 1\nloop 1 +1 -1\nedge 1 1 2\nvertex 1 0 0 0\nvertex 2 5 0 0\n";
+
+/// Whether a script is answered so.
+fn told(rt: &impl Abort, alloc: Global, script: &[u8], wanted: &[u8]) -> Result<(), Fail> {
+    let (out, _) = answers(alloc, script, false)?;
+    assert_eq!(rt; out.as_slice(), wanted);
+    Ok(())
+}
+
+/// A reader of a few bytes at a time, which fails at one of its reads.
+#[derive(Drop)]
+struct Pieces<'a> {
+    bytes: &'a [u8],
+    most: usize,
+    left: u32,
+}
+
+impl Read for Pieces<'_> {
+    fn read(&mut self, buf: &mut [u8]) -> io::Result<usize> {
+        if self.left == 0 {
+            return Err(io::Error::from(ErrorKind::Other));
+        }
+        self.left -= 1;
+        let n = self.most.min(self.bytes.len()).min(buf.len());
+        buf[..n].copy_from_slice(&self.bytes[..n]);
+        self.bytes = &self.bytes[n..];
+        Ok(n)
+    }
+}
+
+#[test]
+fn wire(rt: HostRuntime) -> Result<(), Fail> {
+    let (out, summary) = answers(rt.alloc(), WIRE, false)?;
+    assert_eq!(rt; out.as_slice(), WIRE_TOLD);
+    assert_eq!(rt; summary.lines, 3);
+    assert!(rt; summary.is_clean());
+    Ok(())
+}
+
+#[test]
+fn wires(rt: HostRuntime) -> Result<(), Fail> {
+    told(&rt, rt.alloc(), b"list\n", b"empty\n")?;
+    told(
+        &rt,
+        rt.alloc(),
+        b"mvfs 1 1 1 1 0 0 0\nmev @1 @1 1 2 5 0 0\nlist\nundo\nundo\nundo\nlist\n",
+        b"ok\nok\nsolid 1\nface 1 1 1\nloop 1 +1 -1\nedge 1 1 2\nvertex 1 0 0 0\nvertex 2 5 0 0\nok\nok\nrefused 25 0\nempty\n",
+    )?;
+    told(
+        &rt,
+        rt.alloc(),
+        b"mvfs 1 1 1 1 0 0 0\nmev @1 @1 1 2 5 0 0\nlist\nmev -1 -1 2 3 5 5 0\nlist\n",
+        b"ok\nok\nsolid 1\nface 1 1 1\nloop 1 +1 -1\nedge 1 1 2\nvertex 1 0 0 0\nvertex 2 5 0 0\nok\nsolid 1\nface 1 1 1\nloop 1 +1 +2 -2 -1\nedge 1 1 2\nedge 2 2 3\nvertex 1 0 0 0\nvertex 2 5 0 0\nvertex 3 5 5 0\n",
+    )?;
+    told(
+        &rt,
+        rt.alloc(),
+        b"mvfs 1 1 1 1 0 0 0\nmev @1 @1 1 2 5 0 0\nlist\nmev -1 -1 2 3 5 5 0\nlist\nkev +1\nkev -1\nlist\nundo\nlist\n",
+        b"ok\nok\nsolid 1\nface 1 1 1\nloop 1 +1 -1\nedge 1 1 2\nvertex 1 0 0 0\nvertex 2 5 0 0\nok\nsolid 1\nface 1 1 1\nloop 1 +1 +2 -2 -1\nedge 1 1 2\nedge 2 2 3\nvertex 1 0 0 0\nvertex 2 5 0 0\nvertex 3 5 5 0\nrefused 16 1\nok\nsolid 1\nface 1 1 1\nloop 1 +2 -2\nedge 2 2 3\nvertex 2 5 0 0\nvertex 3 5 5 0\nok\nsolid 1\nface 1 1 1\nloop 1 +1 +2 -2 -1\nedge 1 1 2\nedge 2 2 3\nvertex 1 0 0 0\nvertex 2 5 0 0\nvertex 3 5 5 0\n",
+    )?;
+    told(
+        &rt,
+        rt.alloc(),
+        b"mvfs 1 1 1 1 0 0 0\nmev @1 @1 1 2 5 0 0\nlist\nmef +1 -1 2 2 2\nlist\nkev +1\n",
+        b"ok\nok\nsolid 1\nface 1 1 1\nloop 1 +1 -1\nedge 1 1 2\nvertex 1 0 0 0\nvertex 2 5 0 0\nok\nsolid 1\nface 1 1 1\nface 2 1 2\nloop 1 -1 +2\nloop 2 +1 -2\nedge 1 1 2\nedge 2 1 2\nvertex 1 0 0 0\nvertex 2 5 0 0\nrefused 15 2\n",
+    )?;
+    told(
+        &rt,
+        rt.alloc(),
+        b"mvfs 1 1 1 1 0 0 0\nmev @1 @1 1 2 5 0 0\nlist\nkemr +1 2\nlist\nmekr @1 @2 1\nlist\n",
+        b"ok\nok\nsolid 1\nface 1 1 1\nloop 1 +1 -1\nedge 1 1 2\nvertex 1 0 0 0\nvertex 2 5 0 0\nok\nsolid 1\nface 1 1 1 2\nloop 1 at 1\nloop 2 at 2\nvertex 1 0 0 0\nvertex 2 5 0 0\nok\nsolid 1\nface 1 1 1\nloop 1 +1 -1\nedge 1 1 2\nvertex 1 0 0 0\nvertex 2 5 0 0\n",
+    )?;
+    told(
+        &rt,
+        rt.alloc(),
+        b"mvfs 1 1 1 1 0 0 0\nmev @1 @1 1 2 5 0 0\nlist\nmev @1 @1 2 3 0 0 0\nmev +9 +9 2 3 0 0 0\nmev +1 -1 2 3 0 0 0\n",
+        b"ok\nok\nsolid 1\nface 1 1 1\nloop 1 +1 -1\nedge 1 1 2\nvertex 1 0 0 0\nvertex 2 5 0 0\nrefused 13 1\nrefused 5 9\nrefused 14 2\n",
+    )?;
+    Ok(())
+}
+
+#[test]
+fn refusals(rt: HostRuntime) -> Result<(), Fail> {
+    told(
+        &rt,
+        rt.alloc(),
+        b"mvfs 1 1 1 1 0 0 0\nmev @1 @1 1 2 5 0 0\nlist\nundo\nkvfs 9\nredo\nlist\n",
+        b"ok\nok\nsolid 1\nface 1 1 1\nloop 1 +1 -1\nedge 1 1 2\nvertex 1 0 0 0\nvertex 2 5 0 0\nok\nrefused 2 9\nok\nsolid 1\nface 1 1 1\nloop 1 +1 -1\nedge 1 1 2\nvertex 1 0 0 0\nvertex 2 5 0 0\n",
+    )?;
+    told(
+        &rt,
+        rt.alloc(),
+        b"mvfs 1 1 1 1 0 0 0\nmev @1 @1 1 2 5 0 0\nlist\nundo\nmvfs 2 2 2 2 1 1 1\nredo\n",
+        b"ok\nok\nsolid 1\nface 1 1 1\nloop 1 +1 -1\nedge 1 1 2\nvertex 1 0 0 0\nvertex 2 5 0 0\nok\nok\nrefused 26 0\n",
+    )?;
+    told(
+        &rt,
+        rt.alloc(),
+        b"mvfs 1 1 1 1 0 0 0\nmev @1 @1 1 2 5 0 0\nlist\nkef +1\nkvfs 1\nmvfs 1 1 1 1 0 0 0\n",
+        b"ok\nok\nsolid 1\nface 1 1 1\nloop 1 +1 -1\nedge 1 1 2\nvertex 1 0 0 0\nvertex 2 5 0 0\nrefused 19 1\nrefused 12 1\nrefused 6 1\n",
+    )?;
+    told(
+        &rt,
+        rt.alloc(),
+        b"mvfs 1 1 1 1 0 0 0\nmev @1 @1 1 2 5 0 0\nlist\nkemr +1 2\nlist\nringmv 2 1 out\nlist\nringmv 1 1 in\nringmv 2 1 in\nundo\nmfkrh 2 2\nlist\nkfmrh 1 2\nlist\n",
+        b"ok\nok\nsolid 1\nface 1 1 1\nloop 1 +1 -1\nedge 1 1 2\nvertex 1 0 0 0\nvertex 2 5 0 0\nok\nsolid 1\nface 1 1 1 2\nloop 1 at 1\nloop 2 at 2\nvertex 1 0 0 0\nvertex 2 5 0 0\nok\nsolid 1\nface 1 1 2 1\nloop 1 at 1\nloop 2 at 2\nvertex 1 0 0 0\nvertex 2 5 0 0\nrefused 19 1\nrefused 23 2\nok\nok\nsolid 1\nface 1 1 1\nface 2 1 2\nloop 1 at 1\nloop 2 at 2\nvertex 1 0 0 0\nvertex 2 5 0 0\nok\nsolid 1\nface 1 1 1 2\nloop 1 at 1\nloop 2 at 2\nvertex 1 0 0 0\nvertex 2 5 0 0\n",
+    )?;
+    told(
+        &rt,
+        rt.alloc(),
+        b"mvfs 1 1 1 1 0 0 0\nmev @1 @1 1 2 3 0 0\nmev -1 -1 2 3 0 3 0\nmef -2 +1 3 2 2\nmekr +1 -1 4\nkemr +1 3\nmef +1 -1 4 3 3\n",
+        b"ok\nok\nok\nok\nrefused 22 2\nrefused 17 2\nrefused 17 2\n",
+    )?;
+    told(
+        &rt,
+        rt.alloc(),
+        b"mvfs 1 1 1 1 0 0 0\nmev @1 @1 1 2 5 0 0\nlist\nmev +1 -1 2 3 1 1 1\nmef +1 +1 2 2 2\nmekr +1 -1 2\nmfkrh 1 2\nkfmrh 1 1\n",
+        b"ok\nok\nsolid 1\nface 1 1 1\nloop 1 +1 -1\nedge 1 1 2\nvertex 1 0 0 0\nvertex 2 5 0 0\nrefused 14 2\nrefused 18 1\nrefused 21 1\nrefused 23 1\nrefused 19 1\n",
+    )?;
+    told(
+        &rt,
+        rt.alloc(),
+        b"mvfs 1 1 1 1 0 0 0\nmvfs 2 2 2 2 1 1 1\nkfmrh 1 2\n",
+        b"ok\nok\nrefused 24 2\n",
+    )?;
+    Ok(())
+}
+
+#[test]
+fn limits_and_faults(rt: HostRuntime) -> Result<(), Fail> {
+    told(
+        &rt,
+        rt.alloc(),
+        b"mvfs 1000001 1 1 1 0 0 0\n",
+        b"refused 1 1000001\n",
+    )?;
+    told(
+        &rt,
+        rt.alloc(),
+        b"mvfs 1 1 1 1 0 0 1000000001\n",
+        b"refused 11 1\n",
+    )?;
+    told(&rt, rt.alloc(), b"list", b"empty\n")?;
+    told(
+        &rt,
+        rt.alloc(),
+        b"mevv\nkvfs x\nmvfs 1 1\nkvfs 1 2\n# note\n\n\xc3\n",
+        b"fault 1\nfault 2\nfault 3\nfault 4\nfault 5\n",
+    )?;
+    told(&rt, rt.alloc(), b"kvfs +5\r\nlist\r\n", b"fault 2\nempty\n")?;
+    Ok(())
+}
+
+#[test]
+fn stops_and_counts(rt: HostRuntime) -> Result<(), Fail> {
+    let (out, summary) = answers(rt.alloc(), b"kvfs 1\nlist\n", true)?;
+    assert_eq!(rt; out.as_slice(), b"refused 2 1\n".as_slice());
+    assert_eq!(rt; summary.lines, 1);
+    assert_eq!(rt; summary.refused, 1);
+    let (_, summary) = answers(
+        rt.alloc(),
+        b"mevv\nkvfs x\nmvfs 1 1\nkvfs 1 2\n# note\n\n\xc3\n",
+        false,
+    )?;
+    assert_eq!(rt; summary.lines, 7);
+    assert_eq!(rt; summary.faults, 5);
+    assert_eq!(rt; summary.refused, 0);
+    Ok(())
+}
+
+#[test]
+fn reads_in_pieces(rt: HostRuntime) -> Result<(), Fail> {
+    for most in [1, 2, 3, 7] {
+        let mut out = Vec::new(rt.alloc());
+        let pieces = Pieces {
+            bytes: WIRE,
+            most,
+            left: 1000,
+        };
+        run(rt.alloc(), pieces, &mut out, false)?;
+        assert_eq!(rt; out.as_slice(), WIRE_TOLD);
+    }
+    Ok(())
+}
+
+#[test]
+fn a_read_fails(rt: HostRuntime) -> Result<(), Fail> {
+    let mut out = Vec::new(rt.alloc());
+    let pieces = Pieces {
+        bytes: b"list\nlis",
+        most: 8,
+        left: 1,
+    };
+    let ended = run(rt.alloc(), pieces, &mut out, false);
+    assert_eq!(rt; ended.err(), Some(RunFault::Read));
+    assert_eq!(rt; out.as_slice(), b"empty\n".as_slice());
+    Ok(())
+}

@@ -1,0 +1,82 @@
+//! What a loop holds.
+ghost use Rattle.std.specs.Prelude.{◌≡◌, true, []};
+ghost use Rattle.boundary_model.specs.HalfEdge.{code};
+ghost use Rattle.boundary_model.specs.Model.{items_of, content, has_half, loop_of};
+ghost use Rattle.arena_rows.specs.Store.{has_number, clear, fill, with_lone, set_content, IsReady};
+
+use crate::arena::Arena;
+use arena_rows::{Held, LoopCell, rows};
+use boundary_model::{Content, HalfEdge, Kind};
+
+impl Arena {
+    /// Empties loop l, which is there: what it held is a loose ring then.
+    ///
+    /// It walks round that ring once.
+    pub fn clear(&mut self, l: u32)
+        requires { has_number self.old Kind.Loop l ≡ true }
+        ensures { self.new ≡ clear self.old l }
+    {
+        let old = rows::known(&self.loops, l);
+        let cell = LoopCell {
+            face: old.face,
+            held: Held::Empty,
+        };
+        if let Held::At(c) = old.held {
+            ring_spots::relabel(&mut self.rings, c, 0);
+            rows::write(&mut self.loops, l, Some(cell));
+            return;
+        }
+        rows::write(&mut self.loops, l, Some(cell));
+    }
+
+    /// Makes loop l lone at vertex v. It is there and holds no half-edge.
+    pub fn set_lone(&mut self, l: u32, v: u32)
+        requires there { has_number self.old Kind.Loop l ≡ true }
+        requires bare { items_of (content self.old.model l) ≡ [] }
+        ensures { self.new ≡ with_lone self.old l v }
+    {
+        let old = rows::known(&self.loops, l);
+        let cell = LoopCell {
+            face: old.face,
+            held: Held::Lone(v),
+        };
+        rows::write(&mut self.loops, l, Some(cell));
+    }
+
+    /// Puts the loose ring of h into loop l, which is there and holds no half-edge.
+    ///
+    /// It walks round that ring once.
+    pub fn fill(&mut self, l: u32, h: HalfEdge)
+        requires there { has_number self.old Kind.Loop l ≡ true }
+        requires bare { items_of (content self.old.model l) ≡ [] }
+        requires half { has_half self.old.model (code h) ≡ true }
+        requires loose { loop_of self.old.model (code h) ≡ 0 }
+        ensures { self.new ≡ fill self.old l (code h) }
+    {
+        let _ = &self.rings;
+        let item = h.code();
+        let old = rows::known(&self.loops, l);
+        let cell = LoopCell {
+            face: old.face,
+            held: Held::At(item),
+        };
+        ring_spots::relabel(&mut self.rings, item, l);
+        rows::write(&mut self.loops, l, Some(cell));
+    }
+
+    /// Gives loop l, which is there, other content: what it held is a loose ring then, and l is lone at a vertex, or takes the
+    /// loose ring in which a half-edge stands.
+    ///
+    /// It walks round the ring that goes and the one that comes, once each.
+    pub fn set_content(&mut self, l: u32, content: Content)
+        requires there { has_number self.old Kind.Loop l ≡ true }
+        requires ready { IsReady (clear self.old l) content }
+        ensures { self.new ≡ set_content self.old l content }
+    {
+        self.clear(l);
+        match content {
+            Content::Lone(v) => self.set_lone(l, v),
+            Content::Ring(h) => self.fill(l, h),
+        }
+    }
+}

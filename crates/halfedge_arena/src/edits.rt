@@ -1,0 +1,166 @@
+//! Solids, faces, vertices, edges and loops that come, go or change their row.
+ghost use Rattle.std.specs.Prelude.{◌≡◌, true, false, [], ◌∷◌, Some};
+ghost use Rattle.lattice.specs.Point.{IsInRange};
+ghost use Rattle.boundary_model.specs.HalfEdge.{code, plus, minus};
+ghost use Rattle.boundary_model.specs.Table.{get};
+ghost use Rattle.boundary_model.specs.Model.{items_of, content, has_half};
+ghost use Rattle.arena_rows.specs.Store.{has_room, has_number, put_solid, take_solid, put_face, take_face, set_outer, set_solid, put_vertex, take_vertex, put_loop, take_loop, set_face, set_tail, put_edge, take_edge};
+
+use crate::arena::Arena;
+use arena_rows::{FaceCell, Held, LoopCell, rows, tallies};
+use boundary_model::{HalfEdge, Kind};
+use lattice::Point;
+
+impl Arena {
+    /// A new solid n, which has its room.
+    pub fn put_solid(&mut self, n: u32)
+        requires { has_room self.old Kind.Solid n ≡ true }
+        ensures { self.new ≡ put_solid self.old n }
+    {
+        rows::write(&mut self.solids, n, Some(true));
+    }
+
+    /// Solid n goes, which is there.
+    pub fn take_solid(&mut self, n: u32)
+        requires { has_number self.old Kind.Solid n ≡ true }
+        ensures { self.new ≡ take_solid self.old n }
+    {
+        rows::write(&mut self.solids, n, None);
+    }
+
+    /// A new face f of solid n with outer loop l. Number f is free and has its room, and so has the solid's number its room.
+    pub fn put_face(&mut self, f: u32, n: u32, l: u32)
+        requires room { has_room self.old Kind.Face f ≡ true }
+        requires free { has_number self.old Kind.Face f ≡ false }
+        requires solid_room { has_room self.old Kind.Solid n ≡ true }
+        ensures { self.new ≡ put_face self.old f n l }
+    {
+        let cell = FaceCell { solid: n, outer: l };
+        rows::write(&mut self.faces, f, Some(cell));
+        tallies::add(&mut self.solid_tallies, n, f);
+    }
+
+    /// Face f goes, which is there.
+    pub fn take_face(&mut self, f: u32)
+        requires { has_number self.old Kind.Face f ≡ true }
+        ensures { self.new ≡ take_face self.old f }
+    {
+        let solid = rows::known(&self.faces, f).solid;
+        rows::write(&mut self.faces, f, None);
+        tallies::remove(&mut self.solid_tallies, solid, f);
+    }
+
+    /// Face f, which is there, gets another outer loop.
+    pub fn set_outer(&mut self, f: u32, l: u32)
+        requires { has_number self.old Kind.Face f ≡ true }
+        ensures { self.new ≡ set_outer self.old f l }
+    {
+        let solid = rows::known(&self.faces, f).solid;
+        let cell = FaceCell { solid, outer: l };
+        rows::write(&mut self.faces, f, Some(cell));
+    }
+
+    /// Face f, which is there, is of another solid, whose number has its room.
+    pub fn set_solid(&mut self, f: u32, n: u32)
+        requires there { has_number self.old Kind.Face f ≡ true }
+        requires solid_room { has_room self.old Kind.Solid n ≡ true }
+        ensures { self.new ≡ set_solid self.old f n }
+    {
+        let old = rows::known(&self.faces, f);
+        let cell = FaceCell {
+            solid: n,
+            outer: old.outer,
+        };
+        rows::write(&mut self.faces, f, Some(cell));
+        tallies::remove(&mut self.solid_tallies, old.solid, f);
+        tallies::add(&mut self.solid_tallies, n, f);
+    }
+
+    /// A new vertex v at a point in range; v has its room.
+    pub fn put_vertex(&mut self, v: u32, p: Point)
+        requires room { has_room self.old Kind.Vertex v ≡ true }
+        requires range { IsInRange p }
+        ensures { self.new ≡ put_vertex self.old v p }
+    {
+        rows::write(&mut self.vertices, v, Some(p));
+    }
+
+    /// Vertex v goes, which is there.
+    pub fn take_vertex(&mut self, v: u32)
+        requires { has_number self.old Kind.Vertex v ≡ true }
+        ensures { self.new ≡ take_vertex self.old v }
+    {
+        rows::write(&mut self.vertices, v, None);
+    }
+
+    /// A new loop l of face f, which is empty. Number l is free and has its room, and so has the face's number its room.
+    pub fn put_loop(&mut self, l: u32, f: u32)
+        requires room { has_room self.old Kind.Loop l ≡ true }
+        requires free { has_number self.old Kind.Loop l ≡ false }
+        requires face_room { has_room self.old Kind.Face f ≡ true }
+        ensures { self.new ≡ put_loop self.old l f }
+    {
+        let cell = LoopCell {
+            face: f,
+            held: Held::Empty,
+        };
+        rows::write(&mut self.loops, l, Some(cell));
+        tallies::add(&mut self.face_tallies, f, l);
+    }
+
+    /// Loop l goes, which is there and is empty or lone.
+    pub fn take_loop(&mut self, l: u32)
+        requires there { has_number self.old Kind.Loop l ≡ true }
+        requires bare { items_of (content self.old.model l) ≡ [] }
+        ensures { self.new ≡ take_loop self.old l }
+    {
+        let face = rows::known(&self.loops, l).face;
+        rows::write(&mut self.loops, l, None);
+        tallies::remove(&mut self.face_tallies, face, l);
+    }
+
+    /// Loop l, which is there, is of another face, whose number has its room.
+    pub fn set_face(&mut self, l: u32, f: u32)
+        requires there { has_number self.old Kind.Loop l ≡ true }
+        requires face_room { has_room self.old Kind.Face f ≡ true }
+        ensures { self.new ≡ set_face self.old l f }
+    {
+        let old = rows::known(&self.loops, l);
+        let cell = LoopCell {
+            face: f,
+            held: old.held,
+        };
+        rows::write(&mut self.loops, l, Some(cell));
+        tallies::remove(&mut self.face_tallies, old.face, l);
+        tallies::add(&mut self.face_tallies, f, l);
+    }
+
+    /// A new edge e from vertex a to vertex b. Its half-edges are loose, each a ring of its own. Number e is free and has its
+    /// room.
+    pub fn put_edge(&mut self, e: u32, a: u32, b: u32)
+        requires room { has_room self.old Kind.Edge e ≡ true }
+        requires free { has_number self.old Kind.Edge e ≡ false }
+        ensures { self.new ≡ put_edge self.old e a b }
+    {
+        ring_spots::wake_edge(&mut self.rings, e, a, b);
+    }
+
+    /// Edge e goes, whose half-edges are loose, each a ring of its own.
+    pub fn take_edge(&mut self, e: u32)
+        requires first { get self.old.loose (plus e) ≡ Some (plus e ∷ []) }
+        requires second { get self.old.loose (minus e) ≡ Some (minus e ∷ []) }
+        ensures { self.new ≡ take_edge self.old e }
+    {
+        ring_spots::sleep_edge(&mut self.rings, e);
+    }
+
+    /// A half-edge, whose edge is there, starts at vertex v.
+    pub fn set_tail(&mut self, h: HalfEdge, v: u32)
+        requires { has_half self.old.model (code h) ≡ true }
+        ensures { self.new ≡ set_tail self.old (code h) v }
+    {
+        let _ = &self.rings;
+        let item = h.code();
+        ring_spots::retail(&mut self.rings, item, v);
+    }
+}

@@ -1,0 +1,83 @@
+//! Loops that are cut and joined.
+ghost use Rattle.std.specs.Prelude.{◌≡◌, ◌≢◌, true, []};
+ghost use Rattle.boundary_model.specs.HalfEdge.{code};
+ghost use Rattle.boundary_model.specs.Model.{items_of, content, has_half, loop_of};
+ghost use Rattle.arena_rows.specs.Store.{has_number, cut, join};
+
+use crate::arena::Arena;
+use arena_rows::{Held, LoopCell, rows};
+use boundary_model::{HalfEdge, Kind};
+
+impl Arena {
+    /// Cuts a loop: `a X b Y` keeps `a Y`, and `b X` becomes loop l, or a loose ring where l is 0. a and b are two half-edges of
+    /// one loop; loop l, where it isn't 0, is there and holds no half-edge.
+    ///
+    /// It walks round the part `b X` once.
+    pub fn cut(&mut self, a: HalfEdge, b: HalfEdge, l: u32)
+        requires a_there { has_half self.old.model (code a) ≡ true }
+        requires b_there { has_half self.old.model (code b) ≡ true }
+        requires looped { loop_of self.old.model (code a) ≢ 0 }
+        requires together { loop_of self.old.model (code b) ≡ loop_of self.old.model (code a) }
+        requires apart { code a ≢ code b }
+        requires free { l ≢ 0 → (has_number self.old Kind.Loop l ≡ true) × (items_of (content self.old.model l) ≡ []) }
+        ensures { self.new ≡ cut self.old (code a) (code b) l }
+    {
+        let _ = &self.rings;
+        let first = a.code();
+        let second = b.code();
+        let kept = self.rings.label(first);
+        let face = rows::known(&self.loops, kept).face;
+        ring_spots::exchange(&mut self.rings, first, second);
+        ring_spots::relabel(&mut self.rings, second, l);
+        let cell = LoopCell {
+            face,
+            held: Held::At(first),
+        };
+        rows::write(&mut self.loops, kept, Some(cell));
+        if l == 0 {
+            return;
+        }
+        let other = rows::known(&self.loops, l).face;
+        let cell = LoopCell {
+            face: other,
+            held: Held::At(second),
+        };
+        rows::write(&mut self.loops, l, Some(cell));
+    }
+
+    /// Joins to a's loop another one, or a loose ring: `a Y` and `b X` become `a X b Y` under the number of a's loop. b's loop,
+    /// if it stood in one, is empty then.
+    ///
+    /// It walks round `b X` once.
+    pub fn join(&mut self, a: HalfEdge, b: HalfEdge)
+        requires a_there { has_half self.old.model (code a) ≡ true }
+        requires b_there { has_half self.old.model (code b) ≡ true }
+        requires looped { loop_of self.old.model (code a) ≢ 0 }
+        requires apart { loop_of self.old.model (code b) ≢ loop_of self.old.model (code a) }
+        ensures { self.new ≡ join self.old (code a) (code b) }
+    {
+        let _ = &self.rings;
+        let first = a.code();
+        let second = b.code();
+        let kept = self.rings.label(first);
+        let gone = self.rings.label(second);
+        let face = rows::known(&self.loops, kept).face;
+        ring_spots::relabel(&mut self.rings, second, kept);
+        ring_spots::exchange(&mut self.rings, first, second);
+        let cell = LoopCell {
+            face,
+            held: Held::At(first),
+        };
+        if gone == 0 {
+            rows::write(&mut self.loops, kept, Some(cell));
+            return;
+        }
+        let other = rows::known(&self.loops, gone).face;
+        let empty = LoopCell {
+            face: other,
+            held: Held::Empty,
+        };
+        rows::write(&mut self.loops, gone, Some(empty));
+        rows::write(&mut self.loops, kept, Some(cell));
+    }
+}

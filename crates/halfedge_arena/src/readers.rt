@@ -1,0 +1,163 @@
+//! What stands under a number.
+ghost use Rattle.std.specs.Prelude.{◌≡◌, ◌≢◌, true, length, []};
+ghost use Rattle.lattice.specs.Point.{IsInRange};
+ghost use Rattle.cyclic_list.specs.Rings.{successor, predecessor};
+ghost use Rattle.boundary_model.specs.HalfEdge.{code};
+ghost use Rattle.boundary_model.specs.Model.{cycle, point_of, solid_of, outer, face_of, content, has_half, loop_of, after, before, tail, is_ring_of, rings_of, faces_of};
+ghost use Rattle.arena_rows.specs.Store.{has_room, has_number, loose_ring, Tells, only_item};
+
+use crate::arena::Arena;
+use arena_rows::{Held, rows, tallies};
+use boundary_model::{Content, HalfEdge, Kind};
+use lattice::Point;
+
+impl Arena {
+    /// Whether a number of a kind is in use. Any number may be asked for. A number in use has its room.
+    pub fn has(&self, kind: Kind, n: u32) -> bool
+        ensures used { result ≡ has_number self.now kind n }
+        ensures room { result ≡ true → has_room self.now kind n ≡ true }
+    {
+        match kind {
+            Kind::Solid => rows::has(&self.solids, n),
+            Kind::Face => rows::has(&self.faces, n),
+            Kind::Loop => rows::has(&self.loops, n),
+            Kind::Edge => ring_spots::has_edge(&self.rings, n),
+            Kind::Vertex => rows::has(&self.vertices, n),
+        }
+    }
+
+    /// Whether a number of a kind has its room. Any number may be asked for.
+    pub fn has_room(&self, kind: Kind, n: u32) -> bool
+        ensures { result ≡ has_room self.now kind n }
+    {
+        match kind {
+            Kind::Solid => rows::reaches(&self.solids, n),
+            Kind::Face => rows::reaches(&self.faces, n),
+            Kind::Loop => rows::reaches(&self.loops, n),
+            Kind::Edge => ring_spots::has_edge_room(&self.rings, n),
+            Kind::Vertex => rows::reaches(&self.vertices, n),
+        }
+    }
+
+    /// The solid of face f, which is there.
+    pub fn solid_of(&self, f: u32) -> u32
+        requires { has_number self.now Kind.Face f ≡ true }
+        ensures { result ≡ solid_of self.now.model f }
+    {
+        rows::known(&self.faces, f).solid
+    }
+
+    /// The outer loop of face f, which is there.
+    pub fn outer(&self, f: u32) -> u32
+        requires { has_number self.now Kind.Face f ≡ true }
+        ensures { result ≡ outer self.now.model f }
+    {
+        rows::known(&self.faces, f).outer
+    }
+
+    /// How many rings face f has, which is there: loops that name it, but its outer loop. The number is kept, so this walks
+    /// over nothing.
+    pub fn ring_count(&self, f: u32) -> u32
+        requires { has_number self.now Kind.Face f ≡ true }
+        ensures { result ≡ length (rings_of self.now.model f) }
+    {
+        let outer = rows::known(&self.faces, f).outer;
+        let named = tallies::read(&self.face_tallies, f).count;
+        if rows::names(&self.loops, outer, f) {
+            named - 1
+        } else {
+            named
+        }
+    }
+
+    /// Whether loop l is a ring of face f, which is there.
+    pub fn is_ring(&self, f: u32, l: u32) -> bool
+        requires { has_number self.now Kind.Face f ≡ true }
+        ensures { result ≡ is_ring_of self.now.model f l }
+    {
+        self.has(Kind::Loop, l) && self.face_of(l) == f && self.outer(f) != l
+    }
+
+    /// How many faces name solid s. The number is kept, so this walks over nothing.
+    pub fn face_count(&self, s: u32) -> u32
+        ensures { result ≡ length (faces_of self.now.model s) }
+    {
+        tallies::read(&self.solid_tallies, s).count
+    }
+
+    /// The face that names solid s, where there is one and no other. It walks over nothing.
+    pub fn only_face(&self, s: u32) -> Option<u32>
+        ensures { result ≡ only_item (faces_of self.now.model s) }
+    {
+        let faces = tallies::read(&self.solid_tallies, s);
+        if faces.count == 1 {
+            Some(faces.sum as u32)
+        } else {
+            None
+        }
+    }
+
+    /// The face that loop l names, which is there.
+    pub fn face_of(&self, l: u32) -> u32
+        requires { has_number self.now Kind.Loop l ≡ true }
+        ensures { result ≡ face_of self.now.model l }
+    {
+        rows::known(&self.loops, l).face
+    }
+
+    /// What loop l holds, which is there and isn't empty: the vertex of a lone loop, or some half-edge that stands in it.
+    pub fn content(&self, l: u32) -> Content
+        requires there { has_number self.now Kind.Loop l ≡ true }
+        requires filled { content self.now.model l ≢ cycle [] }
+        ensures { Tells (content self.now.model l) result }
+    {
+        match rows::known(&self.loops, l).held {
+            Held::Lone(v) => Content::Lone(v),
+            Held::At(c) => Content::Ring(HalfEdge::of_code(c)),
+            Held::Empty => unreachable!(),
+        }
+    }
+
+    /// The loop in which a half-edge stands, whose edge is there, or 0 where it stands in none.
+    pub fn loop_of(&self, h: HalfEdge) -> u32
+        requires { has_half self.now.model (code h) ≡ true }
+        ensures { result ≡ loop_of self.now.model (code h) }
+    {
+        self.rings.label(h.code())
+    }
+
+    /// The item after a half-edge, whose edge is there, in its loop or its loose ring.
+    pub fn next(&self, h: HalfEdge) -> HalfEdge
+        requires { has_half self.now.model (code h) ≡ true }
+        ensures in_loop { loop_of self.now.model (code h) ≢ 0 → code result ≡ after self.now.model (code h) }
+        ensures loose { loop_of self.now.model (code h) ≡ 0 → code result ≡ successor (loose_ring self.now (code h)) (code h) }
+    {
+        HalfEdge::of_code(self.rings.next(h.code()))
+    }
+
+    /// The item before a half-edge, whose edge is there, in its loop or its loose ring.
+    pub fn prev(&self, h: HalfEdge) -> HalfEdge
+        requires { has_half self.now.model (code h) ≡ true }
+        ensures in_loop { loop_of self.now.model (code h) ≢ 0 → code result ≡ before self.now.model (code h) }
+        ensures loose { loop_of self.now.model (code h) ≡ 0 → code result ≡ predecessor (loose_ring self.now (code h)) (code h) }
+    {
+        HalfEdge::of_code(self.rings.prev(h.code()))
+    }
+
+    /// The vertex at which a half-edge starts, whose edge is there.
+    pub fn tail(&self, h: HalfEdge) -> u32
+        requires { has_half self.now.model (code h) ≡ true }
+        ensures { result ≡ tail self.now.model (code h) }
+    {
+        self.rings.tail(h.code())
+    }
+
+    /// The point of vertex v, which is there.
+    pub fn point(&self, v: u32) -> Point
+        requires { has_number self.now Kind.Vertex v ≡ true }
+        ensures point { result ≡ point_of self.now.model v }
+        ensures range { IsInRange result }
+    {
+        rows::known(&self.vertices, v)
+    }
+}

@@ -1,0 +1,75 @@
+//! Room for numbers: rows, tallies and nodes.
+ghost use Rattle.std.specs.Prelude.{◌≡◌, ◌≤◌, true, OnOk};
+ghost use Rattle.arena_rows.specs.Store.{has_room, HasGrown};
+
+use crate::arena::Arena;
+use arena_rows::{rows, tallies};
+use boundary_model::Kind;
+use std::alloc::AllocError;
+
+impl Arena {
+    /// Gives number n of a kind its room, n from 1 to 1,000,000. The model stays, and each number that had its room keeps it.
+    ///
+    /// An `Err` comes only where memory is short. The model stays then too, and so does each room.
+    pub fn room_for(&mut self, kind: Kind, n: u32) -> Result<(), AllocError>
+        requires least { 1 ≤ n }
+        requires most { n ≤ 1000000 }
+        ensures grown { HasGrown self.old self.new }
+        ensures ok { OnOk result (has_room self.new kind n ≡ true) }
+    {
+        match kind {
+            Kind::Solid => self.room_solids(n),
+            Kind::Face => self.room_faces(n),
+            Kind::Loop => self.room_loops(n),
+            Kind::Edge => self.room_edges(n),
+            Kind::Vertex => self.room_vertices(n),
+        }
+    }
+
+    fn room_solids(&mut self, n: u32) -> Result<(), AllocError>
+        requires least { 1 ≤ n }
+        requires most { n ≤ 1000000 }
+        ensures grown { HasGrown self.old self.new }
+        ensures ok { OnOk result (has_room self.new Kind.Solid n ≡ true) }
+    {
+        tallies::reach(&mut self.solid_tallies, n)?;
+        rows::reach(&mut self.solids, n)
+    }
+
+    fn room_faces(&mut self, n: u32) -> Result<(), AllocError>
+        requires least { 1 ≤ n }
+        requires most { n ≤ 1000000 }
+        ensures grown { HasGrown self.old self.new }
+        ensures ok { OnOk result (has_room self.new Kind.Face n ≡ true) }
+    {
+        tallies::reach(&mut self.face_tallies, n)?;
+        rows::reach(&mut self.faces, n)
+    }
+
+    fn room_loops(&mut self, n: u32) -> Result<(), AllocError>
+        requires least { 1 ≤ n }
+        requires most { n ≤ 1000000 }
+        ensures grown { HasGrown self.old self.new }
+        ensures ok { OnOk result (has_room self.new Kind.Loop n ≡ true) }
+    {
+        rows::reach(&mut self.loops, n)
+    }
+
+    fn room_edges(&mut self, n: u32) -> Result<(), AllocError>
+        requires least { 1 ≤ n }
+        requires most { n ≤ 1000000 }
+        ensures grown { HasGrown self.old self.new }
+        ensures ok { OnOk result (has_room self.new Kind.Edge n ≡ true) }
+    {
+        ring_spots::room_edge(&mut self.rings, n)
+    }
+
+    fn room_vertices(&mut self, n: u32) -> Result<(), AllocError>
+        requires least { 1 ≤ n }
+        requires most { n ≤ 1000000 }
+        ensures grown { HasGrown self.old self.new }
+        ensures ok { OnOk result (has_room self.new Kind.Vertex n ≡ true) }
+    {
+        rows::reach(&mut self.vertices, n)
+    }
+}

@@ -1,0 +1,4 @@
+pub mod MefSteps
+pub mod KemrSteps
+pub mod KefSteps
+pub mod MekrSteps

@@ -1,0 +1,102 @@
+-- Tables of loose rings of one half-edge each.
+use Rattle.std.proofs.Common.{◌≡◌, ◌≢◌, ℕ, cond, List, [], ◌∷◌, Some, None, unwrap_or, sym, ap, ◌∙◌, subst, arith, ◌⊎◌, inl, inr}
+use Rattle.std.proofs.lemmas.Bool.Decides.{nat_tests, eqb_tells}
+use Rattle.cyclic_list.specs.Items.{count, IsIn}
+use Rattle.cyclic_list.proofs.Lists.{tick_same, tick_other}
+use Rattle.boundary_model.specs.HalfEdge.{mate, edge_of, plus, minus}
+use Rattle.boundary_model.specs.Table as table
+use Rattle.boundary_model.specs.Table.{Table, tables, same_table}
+use Rattle.boundary_model.specs.Model.{cycle, holds}
+use Rattle.boundary_model.proofs.Halves.{mate_cases}
+use Rattle.boundary_model.proofs.Tables.{first_where_is}
+use Rattle.euler_laws_shared.proofs.Rows.{one_row}
+use Rattle.boundary_model.proofs.Models.{in-holds, holds_in}
+use Rattle.halfedge_arena.specs.Store.{Store, loose_key, loose_ring}
+
+-- each ring holds the half-edge alone under which it stands
+abbrev pub AreSingles : Table (List ℕ) → Type 0
+AreSingles z = (k : ℕ) (ks : List ℕ) → table.get z k ≡ Some ks → ks ≡ k ∷ []
+
+none_some : {X : Type 0} (x : X) → None ≡ Some x → ⊥
+none_some x e = cc
+
+pub singles_empty : AreSingles table.empty
+singles_empty k ks at = absurd (none_some ks (sym (table.get-empty k) ∙ at))
+
+pub singles_put : (z : Table (List ℕ)) (h : ℕ) → AreSingles z → AreSingles (table.put z h (h ∷ []))
+singles_put z h each k ks at =
+    let g = table.get-put z h (h ∷ []) k in
+    elim (eqb_tells k h) [
+      | inl e ↦ one_row (sym at ∙ g ∙ ap (λ b. cond b (Some (h ∷ [])) (table.get z k)) e.0) ∙ ap (λ x. x ∷ []) (sym e.1)
+      | inr e ↦ each k ks (sym (g ∙ ap (λ b. cond b (Some (h ∷ [])) (table.get z k)) e.0) ∙ at)
+    ]
+
+pub singles_remove : (z : Table (List ℕ)) (h : ℕ) → AreSingles z → AreSingles (table.remove z h)
+singles_remove z h each k ks at =
+    let g = table.get-remove z h k in
+    elim (eqb_tells k h) [
+      | inl e ↦ absurd (none_some ks (sym (g ∙ ap (λ b. cond b None (table.get z k)) e.0) ∙ at))
+      | inr e ↦ each k ks (sym (g ∙ ap (λ b. cond b None (table.get z k)) e.0) ∙ at)
+    ]
+
+module _ (s : Store) (h : ℕ) (each : AreSingles s.loose) (at : table.get s.loose h ≡ Some (h ∷ [])) where
+  one_item : (q : ℕ) (hs : List ℕ) → hs ≡ q ∷ [] → IsIn h hs → q ≡ h
+  one_item q hs e i = elim (eqb_tells h q) [ inl t ↦ sym t.1 | inr t ↦ absurd (omega (arith, i, ap (count h) e, tick_other h q t.1)) ]
+
+  -- its ring is found, and holds it alone
+  pub key_is : loose_key s h ≡ h
+  unfolding loose_key
+  key_is = first_where_is (λ _ hs. holds h (cycle hs)) s.loose h (h ∷ []) at (in-holds h (cycle (h ∷ [])) (omega (arith, tick_same h)))
+      (λ q hs found t. one_item q hs (each q hs found) (holds_in h (cycle hs) t))
+
+  pub ring_is : loose_ring s h ≡ h ∷ []
+  ring_is = ap (λ k. unwrap_or (table.get s.loose k) []) key_is ∙ ap (λ o. unwrap_or o []) at
+
+-- ---- two half-edges
+
+module _ (a b : ℕ) (ne : a ≢ b) where
+  -- each of the two alone in its ring
+  abbrev pub pair : Table (List ℕ)
+  pair = table.put (table.put table.empty a (a ∷ [])) b (b ∷ [])
+
+  pub pair_singles : AreSingles pair
+  pair_singles = singles_put (table.put table.empty a (a ∷ [])) b (singles_put table.empty a singles_empty)
+
+  pub get_first : table.get pair a ≡ Some (a ∷ [])
+  get_first = grind (arith, nat_tests, tables, ne)
+
+  pub get_second : table.get pair b ≡ Some (b ∷ [])
+  get_second = grind (arith, nat_tests, tables)
+
+  pub left_second : table.get (table.remove pair a) b ≡ Some (b ∷ [])
+  left_second = grind (arith, nat_tests, tables, ne)
+
+  pub pair_gone : table.remove (table.remove pair a) b ≡ table.empty
+  pair_gone = same_table _ _ (λ q. grind (arith, nat_tests, tables))
+
+  pub pair_gone_back : table.remove (table.remove pair b) a ≡ table.empty
+  pair_gone_back = same_table _ _ (λ q. grind (arith, nat_tests, tables))
+
+  -- where they are the two half-edges of an edge
+  module _ (e : ℕ) (halves : ((plus e ≡ a) × (minus e ≡ b)) ⊎ ((plus e ≡ b) × (minus e ≡ a))) where
+    at : (p x : ℕ) → p ≡ x → table.get pair x ≡ Some (x ∷ []) → table.get pair p ≡ Some (p ∷ [])
+    at p x e t = subst (λ q. table.get pair q ≡ Some (q ∷ [])) (sym e) t
+
+    pub get_plus : table.get pair (plus e) ≡ Some (plus e ∷ [])
+    get_plus = elim halves [ inl h ↦ at (plus e) a h.0 get_first | inr h ↦ at (plus e) b h.0 get_second ]
+
+    pub get_minus : table.get pair (minus e) ≡ Some (minus e ∷ [])
+    get_minus = elim halves [ inl h ↦ at (minus e) b h.1 get_second | inr h ↦ at (minus e) a h.1 get_first ]
+
+    pub edge_gone : table.remove (table.remove pair (plus e)) (minus e) ≡ table.empty
+    edge_gone = elim halves [
+      | inl h ↦ (λ i. table.remove (table.remove pair (h.0 i)) (h.1 i)) ∙ pair_gone
+      | inr h ↦ (λ i. table.remove (table.remove pair (h.0 i)) (h.1 i)) ∙ pair_gone_back
+    ]
+
+pub halves_of : (h : ℕ) → ((plus (edge_of h) ≡ h) × (minus (edge_of h) ≡ mate h)) ⊎ ((plus (edge_of h) ≡ mate h) × (minus (edge_of h) ≡ h))
+unfolding edge_of
+halves_of h = elim (mate_cases h) [ inl p ↦ inl (omega arith, omega arith) | inr p ↦ inr (omega arith, omega arith) ]
+
+pub halves_back : (h : ℕ) → ((plus (edge_of h) ≡ mate h) × (minus (edge_of h) ≡ h)) ⊎ ((plus (edge_of h) ≡ h) × (minus (edge_of h) ≡ mate h))
+halves_back h = elim (halves_of h) [ inl p ↦ inr p | inr p ↦ inl p ]

@@ -1,0 +1,202 @@
+-- The faces of a solid, met in the order of their numbers.
+use Rattle.std.proofs.Common.{◌≡◌, ◌≢◌, ℕ, ◌<◌, ◌≤◌, Bool, true, false, cond, nat_eq, nat_lt, nat_le, T, ◌&&◌, List, [], ◌∷◌, ◌++◌, length, length-append, append-nil, Some, None, is_some, unwrap_or, refl, sym, ap, subst, ◌∙◌, arith, true≢false, inl, inr}
+use Rattle.std.specs.Ordering.{nat_cmp, is_lt}
+use Rattle.std.specs.Cmp.{unsigned_tied}
+use Rattle.std.specs.FinMap.Entries.{find, is_sorted, below_all}
+use Rattle.std.proofs.lemmas.Bool.Decides.{nat_tests, eqb_tells}
+use Rattle.boundary_model.specs.Table as table
+use Rattle.boundary_model.specs.Table.{Table, get, all_where, all_in, map_rows, put, get-map_rows}
+use Rattle.boundary_model.specs.Model.{Model, FaceRow, no_face, solid_of, faces_of, is_number}
+use Rattle.boundary_model.specs.Sound.{NumbersFit}
+use Rattle.boundary_model.specs.declared.Kind.TheVariants.{Face}
+use Rattle.boundary_model.proofs.Tables.{and_left, and_right, all_where_none}
+use Rattle.euler_laws_shared.proofs.Loops.{some_row}
+use Rattle.arena_rows.specs.Store.{Store, IsNextNumber}
+use Rattle.low_euler.specs.Room.{is_face_of, IsNextFace}
+
+-- ---- the numbers of a table whose rows pass a test
+
+less_means : (k a : ℕ) → T (is_lt (nat_cmp k a)) → k < a
+less_means k a h = grind (arith, nat_tests)
+
+apart : (k q : ℕ) → k < q → q ≢ k
+apart k q l e = absurd (omega arith)
+
+one_value : {X : Type 0} (x y : X) → Some x ≡ Some y → x ≡ y
+one_value x y e = cc
+
+module _ {X : Type 0} where
+  find_in : (q : ℕ) (e : ℕ × X) (es : List (ℕ × X)) → find nat_cmp q (e ∷ es) ≡ cond (nat_eq q e.0) (Some e.1) (find nat_cmp q es)
+  find_in q e es = ap (λ b. cond b (Some e.1) (find nat_cmp q es)) (unsigned_tied q e.0)
+
+  find_here : (e : ℕ × X) (es : List (ℕ × X)) → find nat_cmp e.0 (e ∷ es) ≡ Some e.1
+  find_here e es = let s : nat_eq e.0 e.0 ≡ true = grind (arith, nat_tests) in find_in e.0 e es ∙ ap (λ b. cond b (Some e.1) (find nat_cmp e.0 es)) s
+
+  find_later : (q : ℕ) (e : ℕ × X) (es : List (ℕ × X)) → q ≢ e.0 → find nat_cmp q (e ∷ es) ≡ find nat_cmp q es
+  find_later q e es a = let s : nat_eq q e.0 ≡ false = grind (arith, nat_tests) in find_in q e es ∙ ap (λ b. cond b (Some e.1) (find nat_cmp q es)) s
+
+  found_past : (k q : ℕ) (es : List (ℕ × X)) (y : X) → T (below_all nat_cmp k es) → find nat_cmp q es ≡ Some y → k < q
+  found_past k q [] y h is = cc
+  found_past k q (e ∷ es) y h is = elim (eqb_tells q e.0) [
+    | inl s ↦ subst (λ n. k < n) (sym s.1) (less_means k e.0 (and_left _ _ h))
+    | inr a ↦ found_past k q es y (and_right _ _ h) (sym (find_later q e es a.1) ∙ is)
+  ]
+
+  -- tests that agree on each row pick the same numbers
+  agree_in : (p q : ℕ → X → Bool) (es : List (ℕ × X)) → T (is_sorted nat_cmp es) → ((k : ℕ) (x : X) → find nat_cmp k es ≡ Some x → p k x ≡ q k x) → all_in p es ≡ all_in q es
+  agree_in p q [] s same = refl
+  agree_in p q (e ∷ es) s same =
+      let rest : all_in p es ≡ all_in q es = agree_in p q es (and_right _ _ s)
+      (λ k x at. same k x (find_later k e es (apart e.0 k (found_past e.0 k es x (and_left _ _ s) at)) ∙ at)) in
+      λ i. cond (same e.0 e.1 (find_here e es) i) (e.0 ∷ rest i) (rest i)
+
+  pub agree : (p q : ℕ → X → Bool) (t : Table X) → ((k : ℕ) (x : X) → get t k ≡ Some x → p k x ≡ q k x) → all_where p t ≡ all_where q t
+  unfolding all_where get
+  agree p q t same = agree_in p q t.rows t.rising same
+
+  later : (ℕ → X → Bool) → ℕ → ℕ → X → Bool
+  later p m k x = nat_lt m k && p k x
+
+  next_in : (p : ℕ → X → Bool) (m : ℕ) (x : X) (es : List (ℕ × X)) → T (is_sorted nat_cmp es) → find nat_cmp m es ≡ Some x → p m x ≡ true
+      → ((k : ℕ) (y : X) → find nat_cmp k es ≡ Some y → p k y ≡ true → m ≤ k) → all_in p es ≡ m ∷ all_in (later p m) es
+  unfolding later
+  next_in p m x [] s at passes least = cc
+  next_in p m x (e ∷ es) s at passes least = elim (eqb_tells m e.0) [
+    | inl same ↦
+        let value : x ≡ e.1 = one_value x e.1 (sym at ∙ ap (λ k. find nat_cmp k (e ∷ es)) same.1 ∙ find_here e es) in
+        let t : p e.0 e.1 ≡ true = (λ i. p (sym same.1 i) (sym value i)) ∙ passes in
+        let skip : nat_lt m e.0 ≡ false = let q : m ≡ e.0 = same.1 in grind (arith, nat_tests) in
+        let rest : all_in p es ≡ all_in (later p m) es = agree_in p (later p m) es (and_right _ _ s)
+        (λ k y found. sym (ap (λ b. b && p k y) (more m e.0 k same.1 (found_past e.0 k es y (and_left _ _ s) found)))) in
+        ap (λ b. cond b (e.0 ∷ all_in p es) (all_in p es)) t
+        ∙ (λ i. sym same.1 i ∷ rest i)
+        ∙ ap (λ (ks : List ℕ). m ∷ ks) (sym (ap (λ b. cond (b && p e.0 e.1) (e.0 ∷ all_in (later p m) es) (all_in (later p m) es)) skip))
+    | inr other ↦
+        let found : find nat_cmp m es ≡ Some x = sym (find_later m e es other.1) ∙ at in
+        let past : e.0 < m = found_past e.0 m es x (and_left _ _ s) found in
+        let skip : nat_lt m e.0 ≡ false = grind (arith, nat_tests) in
+        let fails : p e.0 e.1 ≡ false = never (p e.0 e.1) (λ t. too_low e.0 m past (least e.0 e.1 (find_here e es) t)) in
+        ap (λ b. cond b (e.0 ∷ all_in p es) (all_in p es)) fails
+        ∙ next_in p m x es (and_right _ _ s) found passes (λ k y f t. least k y (find_later k e es (apart e.0 k (found_past e.0 k es y (and_left _ _ s) f)) ∙ f) t)
+        ∙ ap (λ (ks : List ℕ). m ∷ ks) (sym (ap (λ b. cond (b && p e.0 e.1) (e.0 ∷ all_in (later p m) es) (all_in (later p m) es)) skip))
+  ] where
+    more : (m a k : ℕ) → m ≡ a → a < k → nat_lt m k ≡ true
+    more m a k e l = grind (arith, nat_tests)
+
+    too_low : (a m : ℕ) → a < m → m ≤ a → ⊥
+    too_low a m l h = absurd (omega arith)
+
+    never : (b : Bool) → (b ≡ true → ⊥) → b ≡ false
+    never true h = absurd (h refl)
+    never false h = refl
+
+  -- the least number whose row passes, and then those above it
+  pub next_where : (p : ℕ → X → Bool) (t : Table X) (m : ℕ) (x : X) → get t m ≡ Some x → p m x ≡ true → ((k : ℕ) (y : X) → get t k ≡ Some y → p k y ≡ true → m ≤ k) → all_where p t ≡ m ∷ all_where (λ k y. nat_lt m k && p k y) t
+  unfolding all_where get later
+  next_where p t m x at passes least = next_in p m x t.rows t.rising at passes least
+
+-- ---- the faces of a solid
+
+and_false : (a : Bool) → (a && false) ≡ false
+and_false true = refl
+and_false false = refl
+
+module _ (s : Store) (n : ℕ) where
+  abbrev M : Model
+  M = s.model
+
+  -- no face of the solid lies above one number and not above another
+  abbrev pub NoneIn : ℕ → ℕ → Type 0
+  NoneIn from last = (k : ℕ) → from < k → k ≤ last → is_face_of s.model n k ≡ false
+
+  gone : (k : ℕ) → table.has s.model.faces k ≡ false → is_face_of s.model n k ≡ false
+  gone k e = ap (λ b. b && nat_eq (solid_of s.model k) n) e
+
+  other : (k : ℕ) → nat_eq (solid_of s.model k) n ≡ false → is_face_of s.model n k ≡ false
+  other k e = ap (λ b. table.has s.model.faces k && b) e ∙ and_false (table.has s.model.faces k)
+
+  pub none_more : (from last face : ℕ) → NoneIn from last → IsNextNumber s Face last (Some face) → nat_eq (solid_of s.model face) n ≡ false → NoneIn from face
+  none_more from last face none next differs = λ k a b. elim (nat_le k last) as (λ t. nat_le k last ≡ t → is_face_of s.model n k ≡ false) [
+    | true ↦ λ t. none k a (grind (arith, nat_tests))
+    | false ↦ λ t. elim (eqb_tells k face) [
+      | inl same ↦ ap (λ j. is_face_of s.model n j) same.1 ∙ other face differs
+      | inr apart ↦ gone k (next.2 k (grind (arith, nat_tests)) (below k face b apart.1))
+    ]
+  ] refl where
+    below : (k face : ℕ) → k ≤ face → k ≢ face → k < face
+    below k face l ne = omega arith
+
+  pub found : (from last face : ℕ) → from ≤ last → NoneIn from last → IsNextNumber s Face last (Some face) → nat_eq (solid_of s.model face) n ≡ true → IsNextFace s.model n from (Some face)
+  found from last face on none next same =
+      let l : last < face = next.0 in (
+        omega arith,
+        (λ i. next.1 i && same i),
+        λ k a b. elim (nat_le k last) as (λ t. nat_le k last ≡ t → is_face_of s.model n k ≡ false) [
+          | true ↦ λ t. none k a (grind (arith, nat_tests))
+          | false ↦ λ t. gone k (next.2 k (grind (arith, nat_tests)) b)
+        ] refl,
+      )
+
+  pub ended : (from last : ℕ) → NoneIn from last → IsNextNumber s Face last None → IsNextFace s.model n from None
+  ended from last none next = λ k a. elim (nat_le k last) as (λ t. nat_le k last ≡ t → is_face_of s.model n k ≡ false) [
+    | true ↦ λ t. none k a (grind (arith, nat_tests))
+    | false ↦ λ t. gone k (next k (grind (arith, nat_tests)))
+  ] refl
+
+module _ (M : Model) (n : ℕ) where
+  -- the faces of the solid above a number
+  abbrev pub faces_above : ℕ → List ℕ
+  faces_above last = all_where (λ k row. nat_lt last k && nat_eq row.solid n) M.faces
+
+  pub row_tells : (k : ℕ) (row : FaceRow) → get M.faces k ≡ Some row → is_face_of M n k ≡ nat_eq row.solid n
+  unfolding solid_of
+  row_tells k row at = (λ i. is_some (at i) && nat_eq (unwrap_or (at i) no_face).solid n)
+
+  pub row_there : (k : ℕ) → is_face_of M n k ≡ true → (row : FaceRow) × (get M.faces k ≡ Some row) × (nat_eq row.solid n ≡ true)
+  row_there k e = let r = some_row (get M.faces k) (first (table.has M.faces k) (nat_eq (solid_of M k) n) e) in (r.0, r.1, sym (row_tells k r.0 r.1) ∙ e) where
+    first : (a b : Bool) → (a && b) ≡ true → a ≡ true
+    first true b e = refl
+    first false b e = e
+
+  pub next_faces : (last m : ℕ) → IsNextFace M n last (Some m) → faces_above last ≡ m ∷ faces_above m
+  next_faces last m next =
+      let r = row_there m next.1 in
+      let l : last < m = next.0 in
+      let up : nat_lt last m ≡ true = grind (arith, nat_tests) in
+      next_where (λ k row. nat_lt last k && nat_eq row.solid n) M.faces m r.0 r.1 (λ i. up i && r.2 i)
+      (λ k y at passes. least k y at (split (nat_lt last k) (nat_eq y.solid n) passes).0 (split (nat_lt last k) (nat_eq y.solid n) passes).1)
+      ∙ ap (λ (ks : List ℕ). m ∷ ks) (agree (λ k row. nat_lt m k && (nat_lt last k && nat_eq row.solid n)) (λ k row. nat_lt m k && nat_eq row.solid n) M.faces (λ k y at. shorter last m k (nat_eq y.solid n) l)) where
+        split : (a b : Bool) → (a && b) ≡ true → (a ≡ true) × (b ≡ true)
+        split true b e = (refl, e)
+        split false b e = absurd (true≢false (sym e))
+
+        shorter : (last m k : ℕ) (b : Bool) → last < m → (nat_lt m k && (nat_lt last k && b)) ≡ (nat_lt m k && b)
+        shorter last m k b l = elim (nat_lt m k) as (λ t. nat_lt m k ≡ t → (t && (nat_lt last k && b)) ≡ (t && b)) [
+          | true ↦ λ t. let u : nat_lt last k ≡ true = grind (arith, nat_tests) in ap (λ c. c && b) u
+          | false ↦ λ t. refl
+        ] refl
+
+        least : (k : ℕ) (y : FaceRow) → get M.faces k ≡ Some y → nat_lt last k ≡ true → nat_eq y.solid n ≡ true → m ≤ k
+        least k y at up same = elim (nat_lt k m) as (λ t. nat_lt k m ≡ t → m ≤ k) [
+          | true ↦ λ t. absurd (true≢false (sym (row_tells k y at ∙ same) ∙ next.2 k (grind (arith, nat_tests)) (grind (arith, nat_tests))))
+          | false ↦ λ t. grind (arith, nat_tests)
+        ] refl
+
+  pub no_faces : (last : ℕ) → IsNextFace M n last None → faces_above last ≡ []
+  no_faces last next = all_where_none (λ k row. nat_lt last k && nat_eq row.solid n) M.faces (λ k y at. elim (nat_lt last k) as (λ t. nat_lt last k ≡ t → (t && nat_eq y.solid n) ≡ false) [
+    | true ↦ λ t. sym (row_tells k y at) ∙ next k (grind (arith, nat_tests))
+    | false ↦ λ t. refl
+  ] refl)
+
+  pub all_faces : NumbersFit M.faces → faces_above 0 ≡ faces_of M n
+  all_faces fit = agree (λ k row. nat_lt 0 k && nat_eq row.solid n) (λ k row. nat_eq row.solid n) M.faces (λ k y at. ap (λ b. b && nat_eq y.solid n) (positive k (fit k (ap is_some at)))) where
+    positive : (k : ℕ) → is_number k ≡ true → nat_lt 0 k ≡ true
+    positive k e = grind (arith, nat_tests)
+
+-- lists that end where the faces do
+pub nothing_more : (fs gs all : List ℕ) → fs ++ gs ≡ all → length all ≤ length fs → gs ≡ []
+nothing_more fs [] all e l = refl
+nothing_more fs (g ∷ gs) all e l = absurd (omega (arith, ap length e, length-append fs (g ∷ gs)))
+
+pub all_met : (fs gs all : List ℕ) → fs ++ gs ≡ all → gs ≡ [] → fs ≡ all
+all_met fs gs all e none = sym (append-nil fs) ∙ ap (λ ks. fs ++ ks) (sym none) ∙ e

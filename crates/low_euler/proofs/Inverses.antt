@@ -1,0 +1,126 @@
+-- The inverse of an operator, from what the arena's readers answer.
+use Rattle.std.proofs.Common.{◌≡◌, ℕ, Bool, true, false, cond, nat_eq, ◌&&◌, List, [], ◌∷◌, Some, None, is_some, unwrap_or, sym, ap, subst, ◌∙◌, true≢false}
+use Rattle.lattice.specs.declared.Point.{Point}
+use Rattle.boundary_model.specs.declared.Corner.{Corner}
+use Rattle.boundary_model.specs.declared.Corner.TheVariants.{At, Lone}
+use Rattle.boundary_model.specs.declared.HalfEdge.{HalfEdge}
+use Rattle.boundary_model.specs.HalfEdge.{code, half, mate}
+use Rattle.cyclic_list.specs.Items.{IsIn, IsApart}
+use Rattle.cyclic_list.specs.Rings.{between, beyond, successor}
+use Rattle.boundary_model.specs.Table as table
+use Rattle.boundary_model.specs.Model.{Model, items_of, after, tail, loop_of, face_of, outer, content, point_of, faces_of, cycle_of}
+use Rattle.boundary_model.specs.Sound.{Sound, HasHalf}
+use Rattle.boundary_model.proofs.Halves.{code-half, mate_other, edge_of-mate}
+use Rattle.boundary_model.proofs.Models.{cycle_there, cycle_sound}
+use Rattle.arena_rows.specs.Store.{only_item}
+use Rattle.euler_operators.specs.declared.Op.{Op}
+use Rattle.euler_operators.specs.declared.Op.TheVariants.{Mvfs, Kvfs, Mev, Kev, Mef, Kef, Kemr, Mekr}
+use Rattle.euler_operators.specs.Conditions.{first_false, lone_vertex}
+use Rattle.euler_operators.specs.Effect.{inverse, head_or_zero, kev_corner, kev_corner_mate, corner_of}
+use Rattle.euler_conditions.proofs.Known.{half_there}
+use Rattle.low_euler.proofs.Accepted.{kemr_has, kemr_one_loop}
+use Rattle.low_euler.proofs.Parts.{corner_between, between_back}
+
+head_is : (fs : List ℕ) (f : ℕ) → only_item fs ≡ Some f → head_or_zero fs ≡ f
+head_is [] f e = absurd (true≢false (sym (ap is_some e)))
+head_is (g ∷ []) f e = ap (λ q. unwrap_or q 0) e
+head_is (g ∷ k ∷ fs) f e = absurd (true≢false (sym (ap is_some e)))
+
+module _ (M : Model) where
+  of_face : ℕ → ℕ → Op
+  of_face s f = let v = lone_vertex (content M (outer M f)) in Mvfs s f (outer M f) v (point_of M v)
+
+  pub kvfs_inverse : (s f l v : ℕ) (p : Point) → only_item (faces_of M s) ≡ Some f → l ≡ outer M f → v ≡ lone_vertex (content M l) → p ≡ point_of M v → Mvfs s f l v p ≡ inverse M (Kvfs s)
+  unfolding inverse of_face
+  kvfs_inverse s f l v p only le ve pe =
+      ap (Mvfs s f l v) pe
+      ∙ ap (λ u. Mvfs s f l u (point_of M u)) (ve ∙ ap (λ k. lone_vertex (content M k)) le)
+      ∙ ap (λ k. Mvfs s f k (lone_vertex (content M (outer M f))) (point_of M (lone_vertex (content M (outer M f))))) le
+      ∙ ap (of_face s) (sym (head_is (faces_of M s) f only))
+
+  pub kev_inverse : (h m : HalfEdge) (c d : Corner) (v : ℕ) (p : Point) → code m ≡ mate (code h) → c ≡ kev_corner M (code h) → d ≡ kev_corner_mate M (code h) → v ≡ tail M (code m) → p ≡ point_of M v → Mev c d h v p ≡ inverse M (Kev h)
+  unfolding inverse
+  kev_inverse h m c d v p me ce de ve pe =
+      ap (Mev c d h v) pe
+      ∙ ap (λ u. Mev c d h u (point_of M u)) (ve ∙ ap (tail M) me)
+      ∙ ap (λ x. Mev x d h (tail M (mate (code h))) (point_of M (tail M (mate (code h))))) ce
+      ∙ ap (λ y. Mev (kev_corner M (code h)) y h (tail M (mate (code h))) (point_of M (tail M (mate (code h))))) de
+
+  pub kef_inverse : (h m a b : HalfEdge) (f l : ℕ) → code m ≡ mate (code h) → a ≡ half (after M (code m)) → b ≡ half (after M (code h)) → l ≡ loop_of M (code m) → f ≡ face_of M l → Mef a b h f l ≡ inverse M (Kef h)
+  unfolding inverse
+  kef_inverse h m a b f l me ae be le fe =
+      ap (λ g. Mef a b h g l) fe
+      ∙ ap (λ k. Mef a b h (face_of M k) k) (le ∙ ap (loop_of M) me)
+      ∙ ap (λ x. Mef x b h (face_of M (loop_of M (mate (code h)))) (loop_of M (mate (code h)))) (ae ∙ ap (λ k. half (after M k)) me)
+      ∙ ap (λ y. Mef (half (after M (mate (code h)))) y h (face_of M (loop_of M (mate (code h)))) (loop_of M (mate (code h)))) be
+
+  -- the corner at the item after one half-edge, or of the loop l where another comes next
+  abbrev pub next_corner : ℕ → ℕ → ℕ → Corner
+  next_corner g end l = cond (nat_eq (after M g) end) (Lone l) (At (half (after M g)))
+
+  -- the test for the item that comes next
+  pub next_is : (g end : ℕ) (a : HalfEdge) (r : Bool) → a ≡ half (after M g) → r ≡ nat_eq (code a) end → nat_eq (after M g) end ≡ r
+  next_is g end a r ae e = sym (e ∙ ap (λ k. nat_eq k end) (ap code ae ∙ code-half (after M g)))
+
+  pub next_corner_lone : (g end l : ℕ) → nat_eq (after M g) end ≡ true → Lone l ≡ next_corner g end l
+  next_corner_lone g end l e = sym (ap (λ t. cond t (Lone l) (At (half (after M g)))) e)
+
+  pub next_corner_at : (g end l : ℕ) (a : HalfEdge) → a ≡ half (after M g) → nat_eq (after M g) end ≡ false → At a ≡ next_corner g end l
+  next_corner_at g end l a ae e = ap At ae ∙ sym (ap (λ t. cond t (Lone l) (At (half (after M g)))) e)
+
+  module _ (sound : Sound M) where
+    pub kemr_inverse : (h m : HalfEdge) (l : ℕ) (c d : Corner) (k : ℕ) → first_false M (Kemr h l) ≡ None → code m ≡ mate (code h) → k ≡ loop_of M (code h) → c ≡ next_corner (code m) (code h) k → d ≡ next_corner (code h) (code m) l → Mekr c d h ≡ inverse M (Kemr h l)
+    unfolding inverse after
+    kemr_inverse h m l c d k ok me ke ce de =
+        let g : ℕ = code h in
+        let n : ℕ = mate (code h) in
+        let hs : List ℕ = cycle_of M g in
+        let there : HasHalf M g = half_there M h (kemr_has M h l ok) in
+        let mate_there : HasHalf M n = ap (table.has M.edges) (edge_of-mate g) ∙ there in
+        let apart : IsApart hs = (cycle_sound M sound g there).apart in
+        let one : cycle_of M n ≡ hs = ap (λ q. items_of (content M q)) (sym (kemr_one_loop M h l ok)) in
+        let i : IsIn g hs = cycle_there M sound g there in
+        let j : IsIn n hs = subst (IsIn n) one (cycle_there M sound n mate_there) in
+        let first : c ≡ corner_of (beyond g n hs) (loop_of M g) =
+        ce ∙ ap (λ q. next_corner q g k) me ∙ ap (next_corner n g) ke
+        ∙ ap (λ xs. cond (nat_eq (successor xs n) g) (Lone (loop_of M g)) (At (half (successor xs n)))) one
+        ∙ sym (corner_between hs apart n g j i (λ e. mate_other g (sym e)) (loop_of M g))
+        ∙ ap (λ xs. corner_of xs (loop_of M g)) (between_back hs apart g n i j (mate_other g)) in
+        let second : d ≡ corner_of (between g n hs) l =
+        de ∙ ap (λ q. next_corner g q l) me ∙ sym (corner_between hs apart g n i j (mate_other g) l) in
+        ap (λ x. Mekr x d h) first ∙ ap (λ y. Mekr (corner_of (beyond g n hs) (loop_of M g)) y h) second
+
+  -- the two corners of mev, by what comes after the half-edge and after its mate
+  module _ (h m a b : HalfEdge) (l : ℕ) (me : code m ≡ mate (code h)) (ae : a ≡ half (after M (code h))) (be : b ≡ half (after M (code m))) where
+    back_is : b ≡ half (after M (mate (code h)))
+    back_is = be ∙ ap (λ k. half (after M k)) me
+
+    pub test_following : (r : Bool) → r ≡ nat_eq (code a) (code m) → nat_eq (after M (code h)) (mate (code h)) ≡ r
+    test_following r e = sym (e ∙ (λ i. nat_eq ((ap code ae ∙ code-half (after M (code h))) i) (me i)))
+
+    pub test_back : (r : Bool) → r ≡ nat_eq (code b) (code h) → nat_eq (after M (mate (code h))) (code h) ≡ r
+    test_back r e = sym (e ∙ ap (λ k. nat_eq k (code h)) (ap code back_is ∙ code-half (after M (mate (code h)))))
+
+    abbrev Turns : Bool → Type 0
+    Turns r = nat_eq (after M (code h)) (mate (code h)) ≡ r
+
+    abbrev Returns : Bool → Type 0
+    Returns r = nat_eq (after M (mate (code h))) (code h) ≡ r
+
+    pub apart_first : Turns false → At a ≡ kev_corner M (code h)
+    apart_first p = ap At ae ∙ sym (ap (λ t. cond t (cond (nat_eq (after M (mate (code h))) (code h)) (Lone (loop_of M (code h))) (At (half (after M (mate (code h)))))) (At (half (after M (code h))))) p)
+
+    pub apart_second : Turns false → At b ≡ kev_corner_mate M (code h)
+    apart_second p = ap At back_is ∙ sym (ap (λ t. cond (t && nat_eq (after M (mate (code h))) (code h)) (Lone (loop_of M (code h))) (At (half (after M (mate (code h)))))) p)
+
+    pub lone_first : Turns true → Returns true → l ≡ loop_of M (code h) → Lone l ≡ kev_corner M (code h)
+    lone_first p q e = ap Lone e ∙ sym (λ i. cond (p i) (cond (q i) (Lone (loop_of M (code h))) (At (half (after M (mate (code h)))))) (At (half (after M (code h)))))
+
+    pub lone_second : Turns true → Returns true → l ≡ loop_of M (code h) → Lone l ≡ kev_corner_mate M (code h)
+    lone_second p q e = ap Lone e ∙ sym (λ i. cond (p i && q i) (Lone (loop_of M (code h))) (At (half (after M (mate (code h))))))
+
+    pub back_first : Turns true → Returns false → At b ≡ kev_corner M (code h)
+    back_first p q = ap At back_is ∙ sym (λ i. cond (p i) (cond (q i) (Lone (loop_of M (code h))) (At (half (after M (mate (code h)))))) (At (half (after M (code h)))))
+
+    pub back_second : Turns true → Returns false → At b ≡ kev_corner_mate M (code h)
+    back_second p q = ap At back_is ∙ sym (λ i. cond (p i && q i) (Lone (loop_of M (code h))) (At (half (after M (mate (code h))))))

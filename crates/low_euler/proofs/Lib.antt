@@ -1,0 +1,7 @@
+pub mod Made
+pub mod Accepted
+pub mod Parts
+pub mod Inverses
+pub mod Undone
+pub mod Faces
+pub mod Merging

@@ -1,0 +1,95 @@
+-- Faces that go to another solid one by one, until the solid has none.
+use Rattle.std.proofs.Common.{◌≡◌, ◌≢◌, ℕ, ◌<◌, ◌≤◌, Bool, true, false, cond, nat_eq, nat_le, ◌&&◌, [], Some, None, is_some, unwrap_or, refl, sym, ap, ◌∙◌, arith, inl, inr}
+use Rattle.std.specs.Option.{option_map}
+use Rattle.std.proofs.lemmas.Bool.Decides.{nat_tests, eqb_tells}
+use Rattle.boundary_model.specs.Table.{Table, get, map_rows, put, remove, get-map_rows, get-put}
+use Rattle.boundary_model.specs.Model.{Model, FaceRow, no_face, solid_of, outer, faces_of, is_number}
+use Rattle.boundary_model.specs.Sound.{Sound}
+use Rattle.boundary_model.proofs.Tables.{map-put, put_same, map_same, all_where_none, none_all_where}
+use Rattle.euler_operators.specs.Conditions.{conditions, first_false}
+use Rattle.euler_operators.specs.Effect.{effect, merge, faces_to_solid}
+use Rattle.euler_operators.specs.declared.Op.TheVariants.{Merge}
+use Rattle.euler_laws_shared.proofs.Goes.{all_hold, not_true}
+use Rattle.arena_rows.specs.Store.{Store, set_solid, take_solid}
+use Rattle.euler_conditions.specs.Ready.{after}
+use Rattle.low_euler.specs.Room.{is_face_of, IsNextFace}
+use Rattle.low_euler.proofs.Faces.{row_there, row_tells}
+
+pub merge_apart : (M : Model) (s t : ℕ) → first_false M (Merge s t) ≡ None → nat_eq s t ≡ false
+unfolding conditions first_false
+merge_apart M s t e = not_true (nat_eq s t) (all_hold (conditions M (Merge s t)) e).1.1.1.1.0
+
+module _ (s : Store) (kept gone : ℕ) where
+  abbrev given : ℕ → FaceRow → FaceRow
+  given = faces_to_solid (λ _ row. nat_eq row.solid gone) kept
+
+  module _ (face : ℕ) (differs : nat_eq kept gone ≡ false) where
+    abbrev row_after : FaceRow
+    row_after = record { solid = kept; outer = outer s.model face }
+
+    outer_is : (row : FaceRow) → get s.model.faces face ≡ Some row → outer s.model face ≡ row.outer
+    unfolding outer
+    outer_is row at = ap (λ o. (unwrap_or o no_face).outer) at
+
+    rows_after : is_face_of s.model gone face ≡ true → map_rows given (put s.model.faces face row_after) ≡ map_rows given s.model.faces
+    rows_after is =
+        let r = row_there s.model gone face is in
+        let row : FaceRow = r.0 in
+        let new_is : given face row_after ≡ row_after = ap (λ b. cond b (record row_after { solid = kept }) row_after) differs in
+        let old_is : given face row ≡ row_after = ap (λ b. cond b (record row { solid = kept }) row) r.2 ∙ ap (λ l. record { solid = kept; outer = l }) (sym (outer_is row r.1)) in
+        map-put given s.model.faces face row_after
+        ∙ put_same (map_rows given s.model.faces) face (given face row_after)
+        (get-map_rows given s.model.faces face ∙ ap (option_map (given face)) r.1 ∙ ap Some (old_is ∙ sym new_is))
+
+    -- merging comes to the same after one of the faces has gone over
+    pub merge_same : is_face_of s.model gone face ≡ true → after (set_solid s face kept) (Merge kept gone) ≡ after s (Merge kept gone)
+    unfolding effect merge
+    merge_same is = ap (λ (t : Table FaceRow). record s { model = record s.model { solids = remove s.model.solids gone; faces = t } }) (rows_after is)
+
+    got_other : (k : ℕ) → k ≢ face → get (put s.model.faces face row_after) k ≡ get s.model.faces k
+    got_other k ne = let e : nat_eq k face ≡ false = grind (arith, nat_tests) in get-put s.model.faces face row_after k ∙ ap (λ b. cond b (Some row_after) (get s.model.faces k)) e
+
+    got_here : get (put s.model.faces face row_after) face ≡ Some row_after
+    got_here = let e : nat_eq face face ≡ true = grind (arith, nat_tests) in get-put s.model.faces face row_after face ∙ ap (λ b. cond b (Some row_after) (get s.model.faces face)) e
+
+    other_face : (k : ℕ) → k ≢ face → is_face_of (set_solid s face kept).model gone k ≡ is_face_of s.model gone k
+    unfolding solid_of
+    other_face k ne = let g = got_other k ne in λ i. is_some (g i) && nat_eq (unwrap_or (g i) no_face).solid gone
+
+    -- no face of the solid is left up to the one that went
+    pub none_left : (last : ℕ) → ((k : ℕ) → k ≤ last → is_face_of s.model gone k ≡ false) → IsNextFace s.model gone last (Some face) → (k : ℕ) → k ≤ face → is_face_of (set_solid s face kept).model gone k ≡ false
+    none_left last none next k b = elim (eqb_tells k face) [
+      | inl same ↦ ap (λ j. is_face_of (set_solid s face kept).model gone j) same.1 ∙ row_tells (set_solid s face kept).model gone face row_after got_here ∙ differs
+      | inr apart ↦ other_face k apart.1 ∙ elim (nat_le k last) as (λ t. nat_le k last ≡ t → is_face_of s.model gone k ≡ false) [
+        | true ↦ λ t. none k (grind (arith, nat_tests))
+        | false ↦ λ t. next.2 k (grind (arith, nat_tests)) (below k face b apart.1)
+      ] refl
+    ] where
+      below : (k face : ℕ) → k ≤ face → k ≢ face → k < face
+      below k face l ne = omega arith
+
+  -- where the solid has no face left, merging takes the solid alone
+  pub merge_ends : faces_of s.model gone ≡ [] → take_solid s gone ≡ after s (Merge kept gone)
+  unfolding effect merge
+  merge_ends none =
+      ap (λ (t : Table FaceRow). record s { model = record s.model { solids = remove s.model.solids gone; faces = t } })
+      (sym (map_same given s.model.faces (λ k row at. ap (λ b. cond b (record row { solid = kept }) row) (none_all_where (λ _ r. nat_eq r.solid gone) s.model.faces none k row at))))
+
+-- a solid of which no face lies above a number, nor up to it, has none
+pub no_face_left : (M : Model) (n last : ℕ) → ((k : ℕ) → k ≤ last → is_face_of M n k ≡ false) → IsNextFace M n last None → faces_of M n ≡ []
+no_face_left M n last none next = all_where_none (λ _ row. nat_eq row.solid n) M.faces (λ k row at. sym (row_tells M n k row at) ∙ never k) where
+  never : (k : ℕ) → is_face_of M n k ≡ false
+  never k = elim (nat_le k last) as (λ t. nat_le k last ≡ t → is_face_of M n k ≡ false) [
+    | true ↦ λ t. none k (grind (arith, nat_tests))
+    | false ↦ λ t. next k (grind (arith, nat_tests))
+  ] refl
+
+-- 0 is no face
+pub no_zero_face : (M : Model) (n : ℕ) → Sound M → (k : ℕ) → k ≤ 0 → is_face_of M n k ≡ false
+no_zero_face M n sound k l = go (is_face_of M n k) refl where
+  zero_out : (k : ℕ) → k ≤ 0 → is_number k ≡ true → ⊥
+  zero_out k l e = grind (arith, nat_tests)
+
+  go : (b : Bool) → is_face_of M n k ≡ b → is_face_of M n k ≡ false
+  go true e = absurd (zero_out k l (sound.faces_fit k (ap is_some (row_there M n k e).1)))
+  go false e = e

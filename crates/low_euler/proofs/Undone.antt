@@ -1,0 +1,59 @@
+-- An operator that was applied leaves a sound model, in which its inverse is accepted and gives the model before.
+use Rattle.std.proofs.Common.{◌≡◌, ℕ, List, [], ◌∷◌, refl, sym, ap, ◌∙◌}
+use Rattle.boundary_model.specs.declared.Kind.{Kind}
+use Rattle.boundary_model.specs.declared.Kind.TheVariants.{Solid, Face, Loop, Edge, Vertex}
+use Rattle.boundary_model.specs.Model.{Model, faces_of}
+use Rattle.halfedge_arena.specs.Store.{Store, has_room}
+use Rattle.euler_operators.specs.Conditions.{first_false}
+use Rattle.euler_operators.specs.Effect.{effect, inverse}
+use Rattle.euler_operators.specs.declared.Op.{Op}
+use Rattle.euler_operators.specs.declared.Op.TheVariants.{Mvfs, Kvfs, Mev, Kev, Mef, Kef, Kemr, Mekr, Kfmrh, Mfkrh, RingIn, RingOut, Outer, Merge, Part}
+use Rattle.euler_laws.proofs.Cases.{effect_keeps_sound, inverse_goes, inverse_undoes}
+use Rattle.euler_conditions.specs.Ready.{IsReady, AllRoom, HasRoomFor, Accepts, after, made}
+
+pub ready_after : (s : Store) (o : Op) → Accepts s o → IsReady (after s o)
+ready_after s o ok = record { sound = effect_keeps_sound s.model o ok.ready.sound ok.holds; bare = ok.ready.bare }
+
+same_room : (s : Store) (o : Op) (kind : Kind) (n : ℕ) → has_room s kind n ≡ has_room (after s o) kind n
+same_room s o Solid n = refl
+same_room s o Face n = refl
+same_room s o Loop n = refl
+same_room s o Edge n = refl
+same_room s o Vertex n = refl
+
+room_after : (s : Store) (o : Op) (ks : List (Kind × ℕ)) → AllRoom s ks → AllRoom (after s o) ks
+room_after s o [] all = tt
+room_after s o (k ∷ ks) all = (sym (same_room s o k.0 k.1) ∙ all.0, room_after s o ks all.1)
+
+module _ (s : Store) (o i : Op) (ok : Accepts s o) (is : i ≡ inverse s.model o) where
+  pub inverse_accepted : HasRoomFor s i → Accepts (after s o) i
+  inverse_accepted room = record {
+    ready = ready_after s o ok;
+    holds = ap (first_false (effect s.model o)) is ∙ inverse_goes s.model o ok.ready.sound ok.holds;
+    room = room_after s o (made i) room;
+  }
+
+  pub inverse_back : after (after s o) i ≡ s
+  inverse_back = ap (λ (M : Model). record s { model = M }) (ap (effect (effect s.model o)) is ∙ inverse_undoes s.model o ok.ready.sound ok.holds)
+
+-- only a merge is taken back by a part, which lists the faces that it moves
+one_part : (s t k l : ℕ) (fs gs : List ℕ) → Part s t fs ≡ Part k l gs → (s ≡ k) × (t ≡ l) × (fs ≡ gs)
+one_part s t k l fs gs e = (cc, cc, cc)
+
+pub part_of_merge : (M : Model) (o : Op) (k l : ℕ) (fs : List ℕ) → inverse M o ≡ Part k l fs → (o ≡ Merge k l) × (fs ≡ faces_of M l)
+unfolding inverse
+part_of_merge M (Mvfs s f l v p) k m fs e = cc
+part_of_merge M (Kvfs s) k m fs e = cc
+part_of_merge M (Mev c d h v p) k m fs e = cc
+part_of_merge M (Kev h) k m fs e = cc
+part_of_merge M (Mef g n h f l) k m fs e = cc
+part_of_merge M (Kef h) k m fs e = cc
+part_of_merge M (Kemr h l) k m fs e = cc
+part_of_merge M (Mekr c d h) k m fs e = cc
+part_of_merge M (Kfmrh f g) k m fs e = cc
+part_of_merge M (Mfkrh l f) k m fs e = cc
+part_of_merge M (RingIn l f) k m fs e = cc
+part_of_merge M (RingOut l f) k m fs e = cc
+part_of_merge M (Outer l f) k m fs e = cc
+part_of_merge M (Merge s t) k m fs e = let w = one_part s t k m (faces_of M t) fs e in ((λ i. Merge (w.0 i) (w.1 i)), sym w.2 ∙ ap (faces_of M) w.1)
+part_of_merge M (Part s t gs) k m fs e = cc

@@ -1,0 +1,28 @@
+use Rattle.std.proofs.Common.{ap, ◌∙◌}
+use Rattle.boundary_model.specs.Table as table
+use Rattle.low_euler.proofs.Accepted.{kef_has, mate_there}
+use Rattle.low_euler.proofs.Inverses.{kef_inverse}
+use Rattle.low_euler.proofs.inverse.kef.Goals as goal
+
+pub loop_of-killed-requires-clause-there : goal.loop_of-killed-requires-clause-there
+loop_of-killed-requires-clause-there c =
+    let M = c.args.arena.now.model in mate_there M c.args.h c.mate-mate.result c.mate-mate.ensures (kef_has M c.args.h c.requires.accepted)
+
+pub next-first-requires-clause-there : goal.next-first-requires-clause-there
+next-first-requires-clause-there c =
+    let M = c.args.arena.now.model in mate_there M c.args.h c.mate-mate.result c.mate-mate.ensures (kef_has M c.args.h c.requires.accepted)
+
+pub next-second-requires-clause-there : goal.next-second-requires-clause-there
+next-second-requires-clause-there c = kef_has c.args.arena.now.model c.args.h c.requires.accepted
+
+pub in_use-requires : goal.in_use-requires
+in_use-requires c = kef_has c.args.arena.now.model c.args.h c.requires.accepted
+
+pub in_use-requires-2 : goal.in_use-requires-2
+in_use-requires-2 c =
+    let M = c.args.arena.now.model in
+    ap (table.has M.faces) c.face_of-face.ensures ∙ c.requires.ready.sound.loops_of_faces c.loop_of-killed.result c.loop_of-killed.ensures.there
+
+pub returns-clause-is : goal.returns-clause-is
+returns-clause-is c =
+    kef_inverse c.args.arena.now.model c.args.h c.mate-mate.result c.next-first.result c.next-second.result c.face_of-face.result c.loop_of-killed.result c.mate-mate.ensures c.next-first.ensures c.next-second.ensures c.loop_of-killed.ensures.is c.face_of-face.ensures

@@ -1,0 +1,20 @@
+use Rattle.low_euler.proofs.Accepted.{kemr_has, mate_there}
+use Rattle.low_euler.proofs.Inverses.{kemr_inverse}
+use Rattle.low_euler.proofs.inverse.kemr.Goals as goal
+
+pub loop_of-kept-requires-clause-there : goal.loop_of-kept-requires-clause-there
+loop_of-kept-requires-clause-there c = kemr_has c.args.arena.now.model c.args.h c.args.ring c.requires.accepted
+
+pub corner_after-first-requires-clause-there : goal.corner_after-first-requires-clause-there
+corner_after-first-requires-clause-there c =
+    let M = c.args.arena.now.model in mate_there M c.args.h c.mate-mate.result c.mate-mate.ensures (kemr_has M c.args.h c.args.ring c.requires.accepted)
+
+pub corner_after-second-requires-clause-there : goal.corner_after-second-requires-clause-there
+corner_after-second-requires-clause-there c = kemr_has c.args.arena.now.model c.args.h c.args.ring c.requires.accepted
+
+pub in_use-requires : goal.in_use-requires
+in_use-requires c = kemr_has c.args.arena.now.model c.args.h c.args.ring c.requires.accepted
+
+pub returns-clause-is : goal.returns-clause-is
+returns-clause-is c =
+    kemr_inverse c.args.arena.now.model c.requires.ready.sound c.args.h c.mate-mate.result c.args.ring c.corner_after-first.result c.corner_after-second.result c.loop_of-kept.result c.requires.accepted c.mate-mate.ensures c.loop_of-kept.ensures.is c.corner_after-first.ensures c.corner_after-second.ensures

@@ -1,0 +1,12 @@
+use Rattle.std.proofs.Common.{ap}
+use Rattle.euler_operators.specs.Effect.{inverse}
+use Rattle.euler_operators.specs.declared.Op.TheVariants.{Kemr}
+use Rattle.low_euler.proofs.Accepted.{mekr_second}
+use Rattle.low_euler.proofs.inverse.mekr.Goals as goal
+
+pub corner_loop-ring-requires-clause-known : goal.corner_loop-ring-requires-clause-known
+corner_loop-ring-requires-clause-known c = mekr_second c.args.arena.now.model c.args.first c.args.second c.args.h c.requires.accepted
+
+pub returns-clause-is : goal.returns-clause-is
+unfolding inverse
+returns-clause-is c = ap (Kemr c.args.h) c.corner_loop-ring.ensures.is

@@ -1,0 +1,12 @@
+use Rattle.std.proofs.Common.{ap}
+use Rattle.euler_operators.specs.Effect.{inverse}
+use Rattle.euler_operators.specs.declared.Op.TheVariants.{Part}
+use Rattle.face_operators.proofs.Facts.{merge_has}
+use Rattle.low_euler.proofs.inverse.merge.Goals as goal
+
+pub in_use-requires : goal.in_use-requires
+in_use-requires c = (merge_has c.args.arena.now.model c.args.kept c.args.gone c.requires.accepted).1
+
+pub returns-clause-is : goal.returns-clause-is
+unfolding inverse
+returns-clause-is c = ap (Part c.args.kept c.args.gone) c.requires.listed

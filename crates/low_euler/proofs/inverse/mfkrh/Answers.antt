@@ -1,0 +1,12 @@
+use Rattle.std.proofs.Common.{ap}
+use Rattle.euler_operators.specs.Effect.{inverse}
+use Rattle.euler_operators.specs.declared.Op.TheVariants.{Kfmrh}
+use Rattle.face_operators.proofs.Facts.{mfkrh_has}
+use Rattle.low_euler.proofs.inverse.mfkrh.Goals as goal
+
+pub face_of-requires : goal.face_of-requires
+face_of-requires c = (mfkrh_has c.args.arena.now.model c.args.ring c.args.face c.requires.accepted).0
+
+pub returns-clause-is : goal.returns-clause-is
+unfolding inverse
+returns-clause-is c = ap (λ f. Kfmrh f c.args.face) c.face_of.ensures

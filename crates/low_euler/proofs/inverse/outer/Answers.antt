@@ -1,0 +1,19 @@
+use Rattle.std.proofs.Common.{ap, ◌∙◌}
+use Rattle.euler_operators.specs.Effect.{inverse}
+use Rattle.boundary_model.specs.Table as table
+use Rattle.boundary_model.specs.Model.{outer}
+use Rattle.euler_operators.specs.declared.Op.TheVariants.{RingOut}
+use Rattle.face_operators.proofs.Facts.{outer_has}
+use Rattle.low_euler.proofs.inverse.outer.Goals as goal
+
+pub face_of-home-requires : goal.face_of-home-requires
+face_of-home-requires c = (outer_has c.args.arena.now.model c.args.ring c.args.face c.requires.accepted).0
+
+pub outer-old-requires : goal.outer-old-requires
+outer-old-requires c =
+    let M = c.args.arena.now.model in
+    ap (table.has M.faces) c.face_of-home.ensures ∙ c.requires.ready.sound.loops_of_faces c.args.ring (outer_has M c.args.ring c.args.face c.requires.accepted).0
+
+pub returns-clause-is : goal.returns-clause-is
+unfolding inverse
+returns-clause-is c = ap (λ l. RingOut l c.face_of-home.result) c.outer-old.ensures ∙ ap (λ f. RingOut (outer c.args.arena.now.model f) f) c.face_of-home.ensures

@@ -1,0 +1,12 @@
+use Rattle.std.proofs.Common.{ap}
+use Rattle.euler_operators.specs.Effect.{inverse}
+use Rattle.euler_operators.specs.declared.Op.TheVariants.{RingIn}
+use Rattle.face_operators.proofs.Facts.{ring_in_has}
+use Rattle.low_euler.proofs.inverse.ring_in.Goals as goal
+
+pub face_of-requires : goal.face_of-requires
+face_of-requires c = (ring_in_has c.args.arena.now.model c.args.ring c.args.face c.requires.accepted).0
+
+pub returns-clause-is : goal.returns-clause-is
+unfolding inverse
+returns-clause-is c = ap (RingIn c.args.ring) c.face_of.ensures

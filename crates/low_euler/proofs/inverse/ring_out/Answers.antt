@@ -1,0 +1,16 @@
+use Rattle.std.proofs.Common.{ap, ◌∙◌}
+use Rattle.euler_operators.specs.Effect.{inverse}
+use Rattle.boundary_model.specs.Model.{outer}
+use Rattle.euler_operators.specs.declared.Op.TheVariants.{Outer}
+use Rattle.face_operators.proofs.Facts.{ring_out_has}
+use Rattle.low_euler.proofs.inverse.ring_out.Goals as goal
+
+pub outer-old-requires : goal.outer-old-requires
+outer-old-requires c = (ring_out_has c.args.arena.now.model c.args.ring c.args.face c.requires.accepted).1
+
+pub face_of-home-requires : goal.face_of-home-requires
+face_of-home-requires c = (ring_out_has c.args.arena.now.model c.args.ring c.args.face c.requires.accepted).0
+
+pub returns-clause-is : goal.returns-clause-is
+unfolding inverse
+returns-clause-is c = ap (λ l. Outer l c.face_of-home.result) c.outer-old.ensures ∙ ap (Outer (outer c.args.arena.now.model c.args.face)) c.face_of-home.ensures

@@ -1,0 +1,79 @@
+//! The operators applied, each with its inverse where that is asked for.
+ghost use Rattle.std.specs.Prelude.{◌≡◌};
+ghost use Rattle.euler_operators.specs.Effect.{inverse};
+ghost use Rattle.euler_conditions.specs.Ready.{IsReady, Accepts, after};
+ghost use Rattle.low_euler.specs.Room.{faces_for};
+
+use crate::inverse::inverse_of;
+use crate::making::Room;
+use crate::moving;
+use euler_operators::Op;
+use face_operators::{kfmrh, merge, mfkrh, outer, part, ring_in, ring_out};
+use halfedge_arena::Arena;
+use loop_operators::{kef, kemr, mef, mekr};
+use vertex_operators::{kev, kvfs, mev, mvfs};
+
+/// Applies an operator.
+fn change(arena: &mut Arena, op: &Op)
+    requires { Accepts arena.old op.now }
+    ensures { arena.new ≡ after arena.old op.now }
+{
+    match op {
+        Op::Mvfs(s, f, l, v, point) => mvfs(arena, *s, *f, *l, *v, *point),
+        Op::Kvfs(s) => kvfs(arena, *s),
+        Op::Mev(from, to, h, v, point) => mev(arena, *from, *to, *h, *v, *point),
+        Op::Kev(h) => kev(arena, *h),
+        Op::Mef(from, to, h, f, l) => mef(arena, *from, *to, *h, *f, *l),
+        Op::Kef(h) => kef(arena, *h),
+        Op::Kemr(h, l) => kemr(arena, *h, *l),
+        Op::Mekr(from, to, h) => mekr(arena, *from, *to, *h),
+        Op::Kfmrh(kept, killed) => kfmrh(arena, *kept, *killed),
+        Op::Mfkrh(l, f) => mfkrh(arena, *l, *f),
+        Op::RingIn(l, f) => ring_in(arena, *l, *f),
+        Op::RingOut(l, f) => ring_out(arena, *l, *f),
+        Op::Outer(l, f) => outer(arena, *l, *f),
+        Op::Merge(kept, gone) => moving::merge(arena, *kept, *gone),
+        Op::Part(kept, made, faces) => part(arena, *kept, *made, faces),
+    }
+}
+
+/// Applies an operator that is accepted and whose numbers have their room. The model becomes that after the operator, and
+/// is sound; every room stays. It takes no memory and always succeeds. Its cost is that of the change; a merge looks at
+/// each face's number up to the last that it moves.
+pub fn replay(arena: &mut Arena, op: &Op)
+    requires { Accepts arena.old op.now }
+    ensures effect { arena.new ≡ after arena.old op.now }
+    ensures ready { IsReady arena.new }
+{
+    change(arena, op);
+}
+
+/// Applies an operator whose inverse is known: that of a merge lists the faces that it moves.
+fn change_listed(arena: &mut Arena, op: &Op, back: &Op)
+    requires accepted { Accepts arena.old op.now }
+    requires inverse { back.now ≡ inverse arena.old.model op.now }
+    ensures { arena.new ≡ after arena.old op.now }
+{
+    match back {
+        Op::Part(kept, gone, faces) => merge(arena, *kept, *gone, faces),
+        _ => change(arena, op),
+    }
+}
+
+/// Applies an operator as `replay` does, and answers the operator that takes it back. That is accepted in the model after,
+/// its numbers have their room, and its effect is the model before. `room` is what `room_op` gave for `op` in this model.
+///
+/// It takes no memory and always succeeds. Its cost is that of the change.
+pub fn apply(arena: &mut Arena, op: &Op, room: Room) -> Op
+    requires accepted { Accepts arena.old op.now }
+    requires listed { room.faces ≡ faces_for arena.old.model op.now }
+    ensures effect { arena.new ≡ after arena.old op.now }
+    ensures ready { IsReady arena.new }
+    ensures inverse { result ≡ inverse arena.old.model op.now }
+    ensures accepted { Accepts arena.new result }
+    ensures undone { after arena.new result ≡ arena.old }
+{
+    let back = inverse_of(arena, op, room);
+    change_listed(arena, op, &back);
+    back
+}

@@ -1,0 +1,6 @@
+use Rattle.std.proofs.Common.{arith}
+use Rattle.raw_ring.proofs.Tying.{known_within}
+use Rattle.raw_ring.proofs.rings.Rings.code_bound.Goals as goal
+
+pub returns-clause-above : goal.returns-clause-above
+returns-clause-above c q h = omega (arith, c.len.ensures, c.self.inside.rows.ok.0, known_within _ c.self.inside.nodes.cells q (rw (← c.self.view_is) at h))

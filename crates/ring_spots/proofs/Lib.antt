@@ -1,0 +1,5 @@
+pub mod SpotLaws
+pub mod RingMaps
+pub mod SpotTables
+pub mod EdgeSpots
+pub mod Relabelling

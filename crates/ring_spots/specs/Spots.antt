@@ -1,0 +1,79 @@
+-- What the nodes of an arena say: for each live code its successor, its tail and its loop's number.
+use Rattle.std.specs.Prelude.{◌≡◌, ℕ, Bool, true, cond, nat_eq, nat_lt, ◌<◌, List, Option, Some, None, is_some}
+use Rattle.raw_ring.specs.Rings.{Spot, or_zero, of_spot, ring_of_one}
+use Rattle.cyclic_list.specs.Items.{count, IsIn, IsApart}
+use Rattle.cyclic_list.specs.Rings.{canonical, orbit, IsRing, splice}
+use Rattle.boundary_model.specs.HalfEdge.{mate}
+
+abbrev pub Spots : Type 0
+Spots = ℕ → Option Spot
+
+-- each code is below this number
+unfoldable pub codes : ℕ
+codes = 2000002
+
+-- each edge's number is below this one
+unfoldable pub edges_end : ℕ
+edges_end = 1000001
+
+abbrev pub live : Spots → ℕ → Bool
+live sp c = is_some (sp c)
+
+abbrev pub next : Spots → ℕ → ℕ
+next sp c = or_zero (of_spot (λ s. s.next) (sp c))
+
+abbrev pub label : Spots → ℕ → ℕ
+label sp c = or_zero (of_spot (λ s. s.label) (sp c))
+
+abbrev pub tail_at : Spots → ℕ → ℕ
+tail_at sp c = or_zero (of_spot (λ s. s.tail) (sp c))
+
+-- the ring of a live code, from its least item on
+unfoldable pub ring : Spots → ℕ → List ℕ
+ring sp c = canonical (orbit (next sp) c codes)
+
+-- whether x stands in the list
+abbrev pub is_in : ℕ → List ℕ → Bool
+is_in x xs = nat_lt 0 (count x xs)
+
+-- what changes
+abbrev pub woken : Spots → ℕ → ℕ → Spots
+woken sp c t q = cond (nat_eq q c) (Some (ring_of_one c t)) (sp q)
+
+abbrev pub asleep : Spots → ℕ → Spots
+asleep sp c q = cond (nat_eq q c) None (sp q)
+
+abbrev pub map_spot : (Spot → Spot) → Option Spot → Option Spot
+map_spot f None = None
+map_spot f (Some s) = Some (f s)
+
+abbrev pub retailed : Spots → ℕ → ℕ → Spots
+retailed sp c t q = cond (nat_eq q c) (map_spot (λ s. record s { tail = t }) (sp q)) (sp q)
+
+abbrev pub with_links : Spots → (ℕ → ℕ) → Spots
+with_links sp f q = map_spot (λ s. record s { next = f q }) (sp q)
+
+abbrev pub spliced_at : Spots → ℕ → ℕ → Spots
+spliced_at sp a b = with_links sp (splice (next sp) a b)
+
+abbrev pub labelled : Spots → ℕ → List ℕ → Spots
+labelled sp l hs q = cond (is_in q hs) (map_spot (λ s. record s { label = l }) (sp q)) (sp q)
+
+-- hs is a ring of live codes with one label
+pub record IsRingOf (sp : Spots) (c : ℕ) (hs : List ℕ) : Type 0 where
+  pub leads : IsRing (next sp) hs
+  pub apart : IsApart hs
+  pub item : IsIn c hs
+  pub awake : (d : ℕ) → IsIn d hs → live sp d ≡ true
+  pub one_label : (d : ℕ) → IsIn d hs → label sp d ≡ label sp c
+
+pub record AreRings (sp : Spots) : Type 0 where
+  pub bound : (c : ℕ) → live sp c ≡ true → c < codes
+  pub rings : (c : ℕ) → live sp c ≡ true → IsRingOf sp c (ring sp c)
+  pub mates : (c : ℕ) → live sp c ≡ true → live sp (mate c) ≡ true
+
+-- the items of hs but those of todo have the label l now, and nothing else has changed
+pub record HalfDone (sp now : Spots) (l : ℕ) (hs todo : List ℕ) : Type 0 where
+  pub apart : IsApart todo
+  pub inside : (x : ℕ) → IsIn x todo → IsIn x hs
+  pub at : (q : ℕ) → now q ≡ cond (is_in q todo) (sp q) (labelled sp l hs q)

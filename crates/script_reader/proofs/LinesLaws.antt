@@ -1,0 +1,176 @@
+-- Going to the next line.
+use Rattle.std.proofs.Common.{◌≡◌, ◌⊎◌, inl, inr, ℕ, ◌+◌, ◌-◌, ◌<◌, ◌≤◌, Bool, true, false, List, [], ◌∷◌, ◌++◌, length, take, refl, sym, ap, subst, ◌∙◌, arith, append_assoc, length-append, Option}
+use Rattle.std.proofs.lemmas.List.{append-nil, take_all, take_at, drop_at, take-append-le}
+use Rattle.std.proofs.Math.Seq.{take-add}
+use Rattle.std.proofs.lemmas.Bool.{cases_lt}
+use Rattle.std.proofs.KnownBytes.{Consumes-nil, Consumes-trans}
+use Rattle.std.specs.Io.KnownBytes.{Consumes}
+use Rattle.script_reader.specs.Buffer.{Holding}
+use Rattle.script_reader.specs.Newline.{Lacks}
+use Rattle.script_reader.specs.State.{is_ready, has_line, IsStill}
+use Rattle.script_reader.proofs.NewlineLaws.{Lacks-append, has-lacks}
+use Rattle.script_reader.specs.declared.lines.Lines.{Lines}
+use Rattle.script_reader.specs.Lines.{within_limit, Reads, Answers, Advances, LastAnswer}
+use Rattle.script_reader.specs.declared.lines.Ending.{Ending}
+use Rattle.script_reader.specs.declared.lines.Ending.TheVariants.{Open, Ended, Failed, Over}
+use Rattle.script_reader.specs.declared.lines.Found.{Found}
+use Rattle.script_reader.specs.declared.lines.Found.TheVariants as found
+
+-- a read is still to come
+abbrev pub turns : Ending → ℕ
+turns Open = 1
+turns Ended = 0
+turns Failed = 0
+turns Over = 0
+
+-- on the way to the next newline: what was dropped of a long line, and what is unread
+pub record Waits (before after : Option (List ℕ)) (taken count : ℕ) (unread now : List ℕ) (is_long : Bool) : Type 0 where
+  pub given : List ℕ
+  pub dropped : List ℕ
+  pub consumed : Consumes before after given
+  pub counted : count ≡ taken + length given
+  pub text : unread ++ within_limit taken given ≡ dropped ++ now
+  pub lacks : Lacks dropped
+  pub long : is_long ≡ true → 65536 < length dropped
+  pub short : is_long ≡ false → dropped ≡ []
+
+pub limit_none : (taken : ℕ) → within_limit taken [] ≡ []
+unfolding within_limit
+limit_none taken = take_all (67108864 - taken) [] (omega arith)
+
+pub starts : (a : Option (List ℕ)) (taken : ℕ) (unread : List ℕ) → Waits a a taken taken unread unread false
+starts a taken unread = record {
+  given = [];
+  dropped = [];
+  consumed = Consumes-nil a;
+  counted = omega arith;
+  text = ap (λ (xs : List ℕ). unread ++ xs) (limit_none taken) ∙ append-nil unread;
+  lacks = tt;
+  long = λ e. absurd cc;
+  short = λ _. refl;
+}
+
+pub clears : (a b : Option (List ℕ)) (taken count : ℕ) (unread now : List ℕ) (is_long : Bool) → Waits a b taken count unread now is_long → Lacks now → 65536 < length now → Waits a b taken count unread [] true
+clears a b taken count unread now is_long w h more = record {
+  given = w.given;
+  dropped = w.dropped ++ now;
+  consumed = w.consumed;
+  counted = w.counted;
+  text = w.text ∙ sym (append-nil (w.dropped ++ now));
+  lacks = Lacks-append w.dropped now w.lacks h;
+  long = λ _. simp length-append (omega arith);
+  short = λ e. absurd cc;
+}
+
+take_split : (n : ℕ) (g h : List ℕ) → take n (g ++ h) ≡ take n g ++ take (n - length g) h
+take_split n g h =
+    elim (cases_lt n (length g)) [
+      | inr le ↦
+          let m : n ≡ length g + (n - length g) = omega arith in
+          let front : take n g ≡ g = take_all n g le in
+          ap (λ (k : ℕ). take k (g ++ h)) m ∙ take-add (length g) (n - length g) (g ++ h) ∙ rw (front, take_at g h (length g) refl, drop_at g h (length g) refl) refl
+      | inl gt ↦
+          let nothing : n - length g ≡ 0 = omega arith in
+          rw (take-append-le n g h (omega arith), nothing) (sym (append-nil (take n g)))
+    ]
+
+-- bytes that come in two parts
+pub limit_append : (taken : ℕ) (g h : List ℕ) → within_limit taken (g ++ h) ≡ within_limit taken g ++ within_limit (taken + length g) h
+unfolding within_limit
+limit_append taken g h =
+    let n : 67108864 - taken - length g ≡ 67108864 - (taken + length g) = omega arith in
+    take_split (67108864 - taken) g h ∙ ap (λ (k : ℕ). take (67108864 - taken) g ++ take k h) n
+
+pub reads : (a b c : Option (List ℕ)) (taken count more : ℕ) (unread now next : List ℕ) (is_long : Bool) → Waits a b taken count unread now is_long → Reads b c count more now next → count ≤ 67108864 → Waits a c taken more unread next is_long
+reads a b c taken count more unread now next is_long w r le = record {
+  given = w.given ++ r.given;
+  dropped = w.dropped;
+  consumed = Consumes-trans a b c w.given r.given w.consumed r.consumed;
+  counted = simp length-append (omega (arith, w.counted, r.counted));
+  text = ap (λ (xs : List ℕ). unread ++ xs) (limit_append taken w.given r.given) ∙ sym (append_assoc unread (within_limit taken w.given) (within_limit (taken + length w.given) r.given))
+      ∙ ap (λ (xs : List ℕ). xs ++ within_limit (taken + length w.given) r.given) w.text ∙ append_assoc w.dropped now (within_limit (taken + length w.given) r.given)
+      ∙ ap (λ (xs : List ℕ). w.dropped ++ xs) (ap (λ (k : ℕ). now ++ within_limit k r.given) (sym w.counted) ∙ sym r.text);
+  lacks = w.lacks;
+  long = w.long;
+  short = w.short;
+}
+
+pub long_line : (a b : Option (List ℕ)) (taken count : ℕ) (unread now : List ℕ) (new : Holding) (is_long : Bool) (ending : Ending) → Waits a b taken count unread now is_long
+    → now ≡ new.line ++ 10 ∷ new.unread → Lacks new.line → (is_long ≡ true) ⊎ (65536 < length new.line) → Advances a b taken count unread new.line new.unread ending found.Long
+long_line a b taken count unread now new is_long ending w e h long = record {
+  given = w.given;
+  consumed = w.consumed;
+  counted = w.counted;
+  answered = (
+    w.dropped ++ new.line,
+    (Lacks-append w.dropped new.line w.lacks h, inl (w.text ∙ ap (λ (xs : List ℕ). w.dropped ++ xs) e ∙ sym (append_assoc w.dropped new.line (10 ∷ new.unread)))),
+    elim long [ inl yes_long ↦ simp length-append (omega (arith, w.long yes_long)) | inr much ↦ simp length-append (omega arith) ],
+  );
+}
+
+pub short_line : (a b : Option (List ℕ)) (taken count : ℕ) (unread now : List ℕ) (new : Holding) (is_long : Bool) (ending : Ending) → Waits a b taken count unread now is_long
+    → now ≡ new.line ++ 10 ∷ new.unread → Lacks new.line → is_long ≡ false → length new.line ≤ 65536 → Advances a b taken count unread new.line new.unread ending found.Line
+short_line a b taken count unread now new is_long ending w e h short le = record {
+  given = w.given;
+  consumed = w.consumed;
+  counted = w.counted;
+  answered = ((h, inl (w.text ∙ ap (λ (xs : List ℕ). xs ++ now) (w.short short) ∙ e)), le);
+}
+
+-- behind the last newline
+lacks_text : (text dropped now : List ℕ) → text ≡ dropped ++ now → Lacks dropped → Lacks now → Lacks text
+lacks_text text dropped now e h k = subst Lacks (sym e) (Lacks-append dropped now h k)
+
+not_long : (text dropped now : List ℕ) → text ≡ dropped ++ now → dropped ≡ [] → text ≡ now
+not_long text dropped now e none = e ∙ ap (λ (xs : List ℕ). xs ++ now) none
+
+last_parts : (ending : Ending) (answer : Found) (old new : Holding) (is_long : Bool) (text dropped : List ℕ) → text ≡ dropped ++ old.unread → Lacks dropped → (is_long ≡ true → 65536 < length dropped) → (is_long ≡ false → dropped ≡ [])
+    → Lacks old.unread → LastAnswer old new ending is_long answer → Answers answer ending text new.line new.unread
+last_parts Open answer old new is_long text dropped e k long short h l = absurd l
+last_parts Failed found.Read old new is_long text dropped e k long short h l = (lacks_text text dropped old.unread e k h, subst Lacks (sym l.1) h, refl)
+last_parts Failed found.Line old new is_long text dropped e k long short h l = absurd (cc l.0)
+last_parts Failed found.Long old new is_long text dropped e k long short h l = absurd (cc l.0)
+last_parts Failed found.End old new is_long text dropped e k long short h l = absurd (cc l.0)
+last_parts Failed found.TooLong old new is_long text dropped e k long short h l = absurd (cc l.0)
+last_parts Over found.TooLong old new is_long text dropped e k long short h l = (lacks_text text dropped old.unread e k h, subst Lacks (sym l.1) h, refl)
+last_parts Over found.Line old new is_long text dropped e k long short h l = absurd (cc l.0)
+last_parts Over found.Long old new is_long text dropped e k long short h l = absurd (cc l.0)
+last_parts Over found.End old new is_long text dropped e k long short h l = absurd (cc l.0)
+last_parts Over found.Read old new is_long text dropped e k long short h l = absurd (cc l.0)
+last_parts Ended found.Line old new is_long text dropped e k long short h l =
+    ((subst Lacks (sym l.3) h, inr (not_long text dropped old.unread e (short l.0) ∙ sym l.3, l.4, subst (λ (xs : List ℕ). 0 < length xs) (sym l.3) l.2, refl)), subst (λ (xs : List ℕ). length xs ≤ 65536) (sym l.3) l.1)
+last_parts Ended found.Long old new is_long text dropped e k long short h l =
+    let much : 65536 < length (dropped ++ old.unread) = elim l.0 [ inl was_long ↦ simp length-append (omega (arith, long was_long)) | inr more ↦ simp length-append (omega arith) ] in
+    (dropped ++ old.unread, (Lacks-append dropped old.unread k h, inr (e, l.1, omega arith, refl)), much)
+last_parts Ended found.End old new is_long text dropped e k long short h l = (not_long text dropped old.unread e (short l.0) ∙ l.1, l.2, refl)
+last_parts Ended found.Read old new is_long text dropped e k long short h l = absurd l
+last_parts Ended found.TooLong old new is_long text dropped e k long short h l = absurd l
+
+pub last_answer : (a b : Option (List ℕ)) (taken count : ℕ) (unread : List ℕ) (old new : Holding) (is_long : Bool) (ending : Ending) (answer : Found) → Waits a b taken count unread old.unread is_long
+    → Lacks old.unread → LastAnswer old new ending is_long answer → Advances a b taken count unread new.line new.unread ending answer
+last_answer a b taken count unread old new is_long ending answer w h l = record {
+  given = w.given;
+  consumed = w.consumed;
+  counted = w.counted;
+  answered = last_parts ending answer old new is_long (unread ++ within_limit taken w.given) w.dropped w.text w.lacks w.long w.short h l;
+}
+
+pub Waits-same : (a b c : Option (List ℕ)) (taken count more : ℕ) (unread now next : List ℕ) (is_long longer : Bool) → c ≡ b → more ≡ count → next ≡ now → longer ≡ is_long → Waits a b taken count unread now is_long → Waits a c taken more unread next longer
+Waits-same a b c taken count more unread now next is_long longer e f k l w = record {
+  given = w.given;
+  dropped = w.dropped;
+  consumed = subst (λ (o : Option (List ℕ)). Consumes a o w.given) (sym e) w.consumed;
+  counted = f ∙ w.counted;
+  text = w.text ∙ ap (λ (xs : List ℕ). w.dropped ++ xs) (sym k);
+  lacks = w.lacks;
+  long = λ h. w.long (sym l ∙ h);
+  short = λ h. w.short (sym l ∙ h);
+}
+
+-- where the answer is there, a step doesn't come to a read
+pub not_ready : {R : Type 0} (old now : Lines R) → has_line old ≡ true → IsStill old now → now.buffer.unread ≡ old.buffer.unread → now.ending ≡ Open → Lacks now.buffer.unread → ⊥
+not_ready old now ready still same e lacks =
+    let calm : is_ready Open now.buffer.unread ≡ false = has-lacks now.buffer.unread lacks in
+    let opened : Open ≡ old.ending = sym e ∙ still.ending in
+    let moved : is_ready Open now.buffer.unread ≡ has_line old = ap (λ (xs : List ℕ). is_ready Open xs) same ∙ ap (λ (x : Ending). is_ready x old.buffer.unread) opened in
+    cc (calm, moved, ready)

@@ -1,0 +1,143 @@
+-- The grammar of a line: the table of the commands, with the words of each.
+use Rattle.std.specs.Prelude.{ℕ, Bool, true, false, ◌==◌, nat_lt, ◌&&◌, List, [], ◌∷◌, length, codes, Option, Some, None, Result, Ok, Err, if◌then◌else◌}
+use Rattle.std.specs.List.{find}
+use Rattle.std.specs.Str.{bytes_eq}
+use Rattle.boundary_model.specs.declared.HalfEdge.{HalfEdge}
+use Rattle.euler_operators.specs.declared.Op.{Op}
+use Rattle.euler_operators.specs.declared.Op.TheVariants as op
+use Rattle.script_reader.specs.Words.{words}
+use Rattle.script_reader.specs.Places.{Word, Kind, Number, Whole, Half, AnyCorner, Place, Places, InOrOut, Meaning, ◌>>=◌, read}
+use Rattle.script_reader.specs.declared.command.Command.{Command}
+use Rattle.script_reader.specs.declared.command.Command.TheVariants as command
+use Rattle.script_reader.specs.declared.command.Fault.{Fault}
+use Rattle.script_reader.specs.declared.command.Fault.TheVariants.{BadWord, ExtraWord, NotAscii, LongLine}
+use Rattle.script_reader.specs.declared.name.Name.{Name}
+use Rattle.script_reader.specs.declared.name.Name.TheVariants as name
+use Rattle.script_reader.specs.declared.places.Way.{Way}
+use Rattle.script_reader.specs.declared.places.Way.TheVariants as way
+
+-- the command words
+abbrev pub names : List Name
+names = name.Mvfs ∷ name.Kvfs ∷ name.Mev ∷ name.Kev ∷ name.Mef ∷ name.Kef ∷ name.Kemr ∷ name.Mekr ∷ name.Kfmrh ∷ name.Mfkrh ∷ name.Ringmv ∷ name.Lamina ∷ name.Block ∷ name.Sweep ∷ name.Glue ∷ name.Split ∷ name.Plane ∷ name.Volume ∷ name.Count ∷ name.Undo ∷ name.Redo ∷ name.List ∷ []
+
+abbrev pub word_of : Name → Word
+word_of name.Mvfs = codes "mvfs"
+word_of name.Kvfs = codes "kvfs"
+word_of name.Mev = codes "mev"
+word_of name.Kev = codes "kev"
+word_of name.Mef = codes "mef"
+word_of name.Kef = codes "kef"
+word_of name.Kemr = codes "kemr"
+word_of name.Mekr = codes "mekr"
+word_of name.Kfmrh = codes "kfmrh"
+word_of name.Mfkrh = codes "mfkrh"
+word_of name.Ringmv = codes "ringmv"
+word_of name.Lamina = codes "lamina"
+word_of name.Block = codes "block"
+word_of name.Sweep = codes "sweep"
+word_of name.Glue = codes "glue"
+word_of name.Split = codes "split"
+word_of name.Plane = codes "plane"
+word_of name.Volume = codes "volume"
+word_of name.Count = codes "count"
+word_of name.Undo = codes "undo"
+word_of name.Redo = codes "redo"
+word_of name.List = codes "list"
+
+-- what stands at the places after each command word
+abbrev pub kinds_of : Name → List Kind
+kinds_of name.Mvfs = Number ∷ Number ∷ Number ∷ Number ∷ Place ∷ []
+kinds_of name.Kvfs = Number ∷ []
+kinds_of name.Mev = AnyCorner ∷ AnyCorner ∷ Number ∷ Number ∷ Place ∷ []
+kinds_of name.Kev = Half ∷ []
+kinds_of name.Mef = Half ∷ Half ∷ Number ∷ Number ∷ Number ∷ []
+kinds_of name.Kef = Half ∷ []
+kinds_of name.Kemr = Half ∷ Number ∷ []
+kinds_of name.Mekr = AnyCorner ∷ AnyCorner ∷ Number ∷ []
+kinds_of name.Kfmrh = Number ∷ Number ∷ []
+kinds_of name.Mfkrh = Number ∷ Number ∷ []
+kinds_of name.Ringmv = Number ∷ Number ∷ InOrOut ∷ []
+kinds_of name.Lamina = Number ∷ Places ∷ []
+kinds_of name.Block = Number ∷ Place ∷ Whole ∷ Whole ∷ Whole ∷ []
+kinds_of name.Sweep = Number ∷ Place ∷ []
+kinds_of name.Glue = Number ∷ Number ∷ []
+kinds_of name.Split = Number ∷ Whole ∷ Whole ∷ Whole ∷ Whole ∷ Number ∷ []
+kinds_of name.Plane = Number ∷ []
+kinds_of name.Volume = Number ∷ []
+kinds_of name.Count = Number ∷ []
+kinds_of name.Undo = []
+kinds_of name.Redo = []
+kinds_of name.List = []
+
+-- what makes a command of the values at these places
+abbrev pub Builder : List Kind → Type 0
+Builder [] = Command
+Builder (k ∷ ks) = Meaning k → Builder ks
+
+-- the half-edge `+e` of a new edge, which a script gives by its number
+abbrev pub plus : ℕ → HalfEdge
+plus e = record { edge = e; first = true }
+
+-- a ring moves in as a ring, or out as the outer loop
+abbrev pub ring_move : Way → ℕ → ℕ → Op
+ring_move way.In l f = op.RingIn l f
+ring_move way.Out l f = op.RingOut l f
+
+abbrev pub build : (n : Name) → Builder (kinds_of n)
+build name.Mvfs = λ s f l v p. command.Act (op.Mvfs s f l v p)
+build name.Kvfs = λ s. command.Act (op.Kvfs s)
+build name.Mev = λ c d e v p. command.Act (op.Mev c d (plus e) v p)
+build name.Kev = λ h. command.Act (op.Kev h)
+build name.Mef = λ g h e f l. command.Act (op.Mef g h (plus e) f l)
+build name.Kef = λ h. command.Act (op.Kef h)
+build name.Kemr = λ h l. command.Act (op.Kemr h l)
+build name.Mekr = λ c d e. command.Act (op.Mekr c d (plus e))
+build name.Kfmrh = λ f g. command.Act (op.Kfmrh f g)
+build name.Mfkrh = λ l f. command.Act (op.Mfkrh l f)
+build name.Ringmv = λ l f w. command.Act (ring_move w l f)
+build name.Lamina = λ s ps. command.Lamina s ps
+build name.Block = λ s p dx dy dz. command.Block s p dx dy dz
+build name.Sweep = λ f d. command.Sweep f d
+build name.Glue = λ f g. command.Glue f g
+build name.Split = λ s a b c d t. command.Split s (a ∷ b ∷ c ∷ d ∷ []) t
+build name.Plane = λ f. command.Plane f
+build name.Volume = λ s. command.Volume s
+build name.Count = λ s. command.Count s
+build name.Undo = command.Undo
+build name.Redo = command.Redo
+build name.List = command.List
+
+-- ---- a line
+
+-- the places are read from the left, and then no word may be left
+abbrev pub read_all : (ks : List Kind) → Builder ks → List Word → Result Command Fault
+read_all [] c [] = Ok c
+read_all [] c (w ∷ ws) = Err ExtraWord
+read_all (k ∷ ks) make ws = read k ws >>= λ x. read_all ks (make x.0) x.1
+
+abbrev pub name_of : Word → Option Name
+name_of word = find (λ n. bytes_eq word (word_of n)) names
+
+unfoldable pub arguments : Name → List Word → Result Command Fault
+arguments n ws = read_all (kinds_of n) (build n) ws
+
+abbrev pub arguments_of : Option Name → List Word → Result Command Fault
+arguments_of None ws = Err BadWord
+arguments_of (Some n) ws = arguments n ws
+
+-- `#` begins a comment
+abbrev pub is_comment : Word → Bool
+is_comment [] = false
+is_comment (c ∷ cs) = c == 35
+
+abbrev pub command_of_words : List Word → Result Command Fault
+command_of_words [] = Ok command.Nothing
+command_of_words (word ∷ ws) = if is_comment word then Ok command.Nothing else arguments_of (name_of word) ws
+
+abbrev pub is_ascii : List ℕ → Bool
+is_ascii [] = true
+is_ascii (b ∷ line) = nat_lt b 128 && is_ascii line
+
+-- the command of a line without its newline, or its first fault
+abbrev pub command_of : List ℕ → Result Command Fault
+command_of line = if nat_lt 65536 (length line) then Err LongLine else (if is_ascii line then command_of_words (words line) else Err NotAscii)

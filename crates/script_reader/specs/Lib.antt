@@ -1,0 +1,11 @@
+pub mod Buffer
+pub mod Fault
+pub mod Grammar
+pub mod Lines
+pub mod Newline
+pub mod Next
+pub mod Numbers
+pub mod Places
+pub mod Script
+pub mod State
+pub mod Words

@@ -1,0 +1,26 @@
+-- The words of a line.
+use Rattle.std.specs.Prelude.{◌≡◌, ⊤, false, ℕ, Bool, ◌==◌, ◌||◌, List, [], ◌∷◌, if◌then◌else◌}
+use Rattle.std.specs.List.{position_or_len, onto_first}
+
+-- space, tab and carriage return
+abbrev pub is_space : ℕ → Bool
+is_space b = b == 32 || b == 9 || b == 13
+
+-- a byte of a word belongs to the first word after it where no separator comes between, and else is a word of its own
+abbrev pub joined : ℕ → List ℕ → List (List ℕ) → List (List ℕ)
+joined b [] others = (b ∷ []) ∷ others
+joined b (c ∷ line) others = if is_space c then (b ∷ []) ∷ others else onto_first b others
+
+-- the runs of bytes that are no separator, as long as can be
+abbrev pub words : List ℕ → List (List ℕ)
+words [] = []
+words (b ∷ line) = if is_space b then words line else joined b line (words line)
+
+-- no separator stands at the front
+abbrev pub IsAtWord : List ℕ → Type 0
+IsAtWord [] = ⊤
+IsAtWord (b ∷ line) = is_space b ≡ false
+
+-- how many bytes that are none stand at the front
+abbrev pub word_len : List ℕ → ℕ
+word_len line = position_or_len is_space line

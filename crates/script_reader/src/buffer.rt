@@ -1,0 +1,183 @@
+//! A buffer of a fixed size, between a reader and the lines.
+ghost use Rattle.std.specs.Prelude.{◌≡◌, ◌≤◌, ◌<◌, ◌+◌, ◌-◌, length, take, drop, slice_range, IfOk, OnErr};
+ghost use Rattle.std.specs.Io.KnownBytes.{Consumes, Keeps, IsAtEnd};
+ghost use Rattle.script_reader.specs.Newline.{FindsNewline};
+
+use std::alloc::{AllocError, Global};
+use std::io::{self, Read};
+use std::marker::Model;
+
+/// A line has at most so many bytes, without its newline.
+pub const LINE_LIMIT: usize = 65_536;
+
+/// The longest line, and as many bytes again for a read.
+const SIZE: usize = 131_072;
+
+/// The bytes that were read and are in no line yet, and the line that was taken last.
+#[derive(Drop)]
+pub struct Buffer {
+    bytes: Vec<u8>,
+    line_start: usize,
+    line_end: usize,
+    start: usize,
+    /// Before it no unread byte is a newline.
+    searched: usize,
+    end: usize,
+}
+
+impl Model for Buffer {
+    ghost use Rattle.std.specs.Prelude.{◌≡◌, ◌≤◌, slice_range, vec_len};
+    ghost use Rattle.script_reader.specs.Newline.{Lacks};
+    ghost use Rattle.script_reader.specs.Buffer.{Holding};
+
+    ghost Value = { Holding };
+
+    ghost view = { λ b. record {
+      unread = slice_range b.bytes.items b.start b.end;
+      line = slice_range b.bytes.items b.line_start b.line_end;
+    } };
+
+    ghost invariant = { λ b. (b.start ≤ b.searched) × (b.searched ≤ b.end) × (b.end ≤ 131072)
+        × (b.line_start ≤ b.line_end) × (b.line_end ≤ 131072) × (vec_len b.bytes ≡ 131072)
+        × Lacks (slice_range b.bytes.items b.start b.searched) };
+}
+
+impl Buffer {
+    ghost use Rattle.std.specs.Prelude.{◌≡◌, ◌≤◌, ◌<◌, [], length, take, ◌-◌, IfOk};
+    ghost use Rattle.script_reader.specs.Newline.{has_newline};
+    ghost use Rattle.script_reader.specs.Buffer.{TakesLine, ReadsMore};
+
+    /// Makes the whole buffer.
+    pub fn new(alloc: Global) -> Result<Buffer, AllocError>
+        ensures { IfOk result (λ b. b.unread ≡ []) }
+    {
+        Ok(Buffer {
+            bytes: vec![in alloc; 0; SIZE]?,
+            line_start: 0,
+            line_end: 0,
+            start: 0,
+            searched: 0,
+            end: 0,
+        })
+    }
+
+    /// How many bytes are unread.
+    pub fn len(&self) -> usize
+        ensures value { result ≡ length self.now.unread }
+        ensures bound { result ≤ 131072 }
+    {
+        self.end - self.start
+    }
+
+    /// The line that was taken last.
+    pub fn line(&self) -> &[u8]
+        ensures { result.now ≡ self.now.line }
+    {
+        &self.bytes[self.line_start..self.line_end]
+    }
+
+    /// Whether a newline is unread.
+    pub fn has_newline(&self) -> bool
+        ensures { result ≡ has_newline self.now.unread }
+    {
+        newline(&self.bytes[self.searched..self.end]).is_some()
+    }
+
+    /// Drops all unread bytes.
+    pub fn clear(&mut self)
+        ensures { self.new.unread ≡ [] }
+    {
+        self.start = 0;
+        self.searched = 0;
+        self.end = 0;
+    }
+
+    /// Takes the first line, if its newline is there.
+    pub fn take_line(&mut self) -> bool
+        ensures { TakesLine self.old self.new result }
+    {
+        let Some(len) = newline(&self.bytes[self.searched..self.end]) else {
+            self.searched = self.end;
+            return false;
+        };
+        self.line_start = self.start;
+        self.line_end = self.searched + len;
+        self.start = self.line_end + 1;
+        self.searched = self.start;
+        true
+    }
+
+    /// Takes all unread bytes as a line.
+    pub fn take_rest(&mut self)
+        ensures line { self.new.line ≡ self.old.unread }
+        ensures unread { self.new.unread ≡ [] }
+    {
+        self.line_start = self.start;
+        self.line_end = self.end;
+        self.start = self.end;
+        self.searched = self.end;
+    }
+
+    /// Drops the last unread byte.
+    pub fn drop_last(&mut self)
+        requires { 0 < length self.old.unread }
+        ensures { self.new.unread ≡ take (length self.old.unread - 1) self.old.unread }
+    {
+        self.end -= 1;
+        self.searched = self.searched.min(self.end);
+    }
+
+    /// Reads once, at most so many bytes.
+    pub fn read_from<R: Read>(&mut self, reader: &mut R, most: usize) -> io::Result<usize>
+        requires room { length self.old.unread ≤ 65536 }
+        requires some { 0 < most }
+        ensures { ReadsMore self.old self.new (R.remaining reader.old) (R.remaining reader.new) most result }
+    {
+        shift(&mut self.bytes, self.start, self.end);
+        self.searched -= self.start;
+        self.end -= self.start;
+        self.start = 0;
+        self.line_start = 0;
+        self.line_end = 0;
+        let n = read_at(reader, &mut self.bytes, self.end, most)?;
+        self.end += n;
+        Ok(n)
+    }
+}
+
+/// Moves a range to the front, so that each byte is moved once however small the reads are.
+fn shift(bytes: &mut [u8], start: usize, end: usize)
+    requires low { start ≤ end }
+    requires high { end ≤ length bytes.old }
+    ensures { take (end - start) bytes.new ≡ slice_range bytes.old start end }
+{
+    if start > 0 {
+        bytes.copy_within(start..end, 0);
+    }
+}
+
+/// Reads at most so many bytes behind the first ones.
+fn read_at<R: Read>(reader: &mut R, bytes: &mut [u8], at: usize, most: usize) -> io::Result<usize>
+    requires room { at < length bytes.old }
+    requires some { 0 < most }
+    ensures front { take at bytes.new ≡ take at bytes.old }
+    ensures ok { IfOk result (λ n. (n ≤ most) × (at + n ≤ length bytes.new)
+        × Consumes (R.remaining reader.old) (R.remaining reader.new) (take n (drop at bytes.new))
+        × (n ≡ 0 → IsAtEnd (R.remaining reader.new))) }
+    ensures err { OnErr result (Keeps (R.remaining reader.old) (R.remaining reader.new)) }
+{
+    let room = most.min(bytes.len() - at);
+    reader.read(&mut bytes[at..at + room])
+}
+
+/// Where the first newline is.
+fn newline(bytes: &[u8]) -> Option<usize>
+    ensures { FindsNewline bytes.now result }
+{
+    for (i, byte) in bytes.iter().enumerate() {
+        if *byte == b'\n' {
+            return Some(i);
+        }
+    }
+    None
+}

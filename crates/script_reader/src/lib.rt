@@ -1,0 +1,19 @@
+//! Reads a script: its bytes as lines, and a line as a command or a fault.
+#![tactic(auto)]
+
+mod buffer;
+mod command;
+mod commands;
+mod line;
+mod lines;
+mod name;
+mod numbers;
+mod places;
+mod words;
+
+pub use command::{Command, Corners, Fault};
+pub use line::read_line;
+pub use lines::{Lines, NextLine};
+
+#[cfg(test)]
+mod tests;

@@ -1,0 +1,57 @@
+//! Reads a line.
+ghost use Rattle.std.specs.Prelude.{◌≡◌};
+ghost use Rattle.script_reader.specs.Words.{words};
+ghost use Rattle.script_reader.specs.Grammar.{is_ascii, is_comment, command_of_words, command_of};
+
+use super::command::{Command, Fault};
+use super::commands::arguments;
+use super::name::name_of;
+use super::words::next_word;
+
+/// A line has at most so many bytes, without its newline.
+const LINE_LIMIT: usize = 65_536;
+
+fn is_comment(word: &[u8]) -> bool
+    ensures { result ≡ is_comment word.now }
+{
+    matches!(word, [b'#', ..])
+}
+
+fn read_words(line: &[u8]) -> Result<Command, Fault>
+    ensures { result ≡ command_of_words (words line.now) }
+{
+    let Some((word, rest)) = next_word(line) else {
+        return Ok(Command::Nothing);
+    };
+    if is_comment(word) {
+        return Ok(Command::Nothing);
+    }
+    let name = name_of(word).ok_or(Fault::BadWord)?;
+    arguments(name, rest)
+}
+
+fn is_ascii(line: &[u8]) -> bool
+    ensures { result ≡ is_ascii line.now }
+{
+    let mut rest = line;
+    while let [first, others @ ..] = rest {
+        if *first > 127 {
+            return false;
+        }
+        rest = others;
+    }
+    true
+}
+
+/// The command of a line, which is given without its newline, or the line's first fault. It takes no memory.
+pub fn read_line(line: &[u8]) -> Result<Command, Fault>
+    ensures { result ≡ command_of line.now }
+{
+    if line.len() > LINE_LIMIT {
+        return Err(Fault::LongLine);
+    }
+    if !is_ascii(line) {
+        return Err(Fault::NotAscii);
+    }
+    read_words(line)
+}

@@ -1,0 +1,182 @@
+//! A script's lines, over any reader.
+ghost use Rattle.std.specs.Prelude.{◌≡◌, ◌≢◌, ◌≤◌};
+ghost use Rattle.script_reader.specs.declared.lines.Ending.TheVariants.{Over};
+
+use super::buffer::{Buffer, LINE_LIMIT};
+use std::alloc::{AllocError, Global};
+use std::io::Read;
+
+/// A script has at most so many bytes.
+const SCRIPT_LIMIT: u64 = 67_108_864;
+
+/// Whether more can be read, or why not.
+#[derive(Clone, Copy, Debug, PartialEq, Eq)]
+pub enum Ending {
+    Open,
+    Ended,
+    Failed,
+    Over,
+}
+
+/// What comes next in a script.
+#[derive(Clone, Copy, Debug, PartialEq, Eq)]
+pub enum Found {
+    Line,
+    Long,
+    End,
+    Read,
+    TooLong,
+}
+
+/// What comes next in a script.
+#[derive(Debug, Drop)]
+pub enum NextLine<'a> {
+    /// A line, without its newline: at most 65,536 bytes.
+    Line(&'a [u8]),
+    /// A line of more bytes. It is skipped to its newline.
+    Long,
+    /// The reader gave its end.
+    End,
+    /// A read failed. What was read behind the last newline is no line.
+    Read,
+    /// The reader gave a byte past 67,108,864. What was read behind the last newline is no line.
+    TooLong,
+}
+
+/// The lines of a script, one after the other. Reads are as big as the buffer allows.
+#[derive(Drop)]
+pub struct Lines<R> {
+    reader: R,
+    buffer: Buffer,
+    taken: u64,
+    ending: Ending,
+    ghost over: { ending ≡ Over → taken ≡ 67108865 },
+    ghost within: { ending ≢ Over → taken ≤ 67108864 },
+}
+
+impl<R: Read> Lines<R> {
+    ghost use Rattle.std.specs.Prelude.{◌≡◌, ◌≢◌, ◌≤◌, ◌<◌, true, length};
+    ghost use Rattle.std.specs.Io.KnownBytes.{IsAtEnd};
+    ghost use Rattle.script_reader.specs.Lines.{Reads, LastAnswer, Advances};
+    ghost use Rattle.script_reader.specs.declared.lines.Ending.TheVariants.{Open, Ended};
+    ghost use Rattle.script_reader.specs.State.{has_line, IsStill};
+    ghost use Rattle.script_reader.specs.Next.{Gives};
+    ghost use Rattle.script_reader.specs.contracts.lines.Lines.{the_row};
+    ghost use Rattle.std.specs.Io.BufRead.{Rests};
+    ghost use Rattle.std.specs.Borrow.{sem};
+
+    /// Reads once.
+    #[tactic(auto, unfolding(crate::specs::Lines::within_limit))]
+    fn fill(&mut self)
+        requires open { self.old.ending ≡ Open }
+        requires room { length self.old.buffer.unread ≤ 65536 }
+        ensures reads { Reads (R.remaining self.old.reader) (R.remaining self.new.reader)
+            self.old.taken self.new.taken self.old.buffer.unread self.new.buffer.unread }
+        ensures end { self.new.ending ≡ Ended → IsAtEnd (R.remaining self.new.reader) }
+        ensures progress { self.new.ending ≡ Open → self.old.taken < self.new.taken }
+    {
+        let most = (SCRIPT_LIMIT + 1 - self.taken) as usize;
+        match self.buffer.read_from(&mut self.reader, most) {
+            Err(_) => self.ending = Ending::Failed,
+            Ok(0) => self.ending = Ending::Ended,
+            Ok(n) => {
+                self.taken += n as u64;
+                if self.taken > SCRIPT_LIMIT {
+                    self.buffer.drop_last();
+                    self.ending = Ending::Over;
+                }
+            }
+        }
+    }
+
+    /// What stands behind the last newline, where nothing more can be read.
+    fn last(&mut self, is_long: bool) -> Found
+        requires { self.old.ending ≢ Open }
+        ensures answer { LastAnswer self.old.buffer self.new.buffer self.old.ending is_long result }
+        ensures still { IsStill self.old self.new }
+    {
+        match self.ending {
+            Ending::Open => unreachable!(),
+            Ending::Failed => Found::Read,
+            Ending::Over => Found::TooLong,
+            Ending::Ended => {
+                if is_long || self.buffer.len() > LINE_LIMIT {
+                    self.buffer.clear();
+                    Found::Long
+                } else if self.buffer.len() == 0 {
+                    Found::End
+                } else {
+                    self.buffer.take_rest();
+                    Found::Line
+                }
+            }
+        }
+    }
+
+    /// Goes to the next line, or says what comes in its place.
+    fn advance(&mut self) -> Found
+        ensures advances { Advances (R.remaining self.old.reader) (R.remaining self.new.reader)
+            self.old.taken self.new.taken self.old.buffer.unread
+            self.new.buffer.line self.new.buffer.unread self.new.ending result }
+        ensures end { self.old.ending ≡ Open → self.new.ending ≡ Ended → IsAtEnd (R.remaining self.new.reader) }
+        ensures still { has_line self.old ≡ true → IsStill self.old self.new }
+    {
+        let mut is_long = false;
+        loop {
+            if self.buffer.take_line() {
+                return if is_long || self.buffer.line().len() > LINE_LIMIT {
+                    Found::Long
+                } else {
+                    Found::Line
+                };
+            }
+            if self.ending != Ending::Open {
+                return self.last(is_long);
+            }
+            if self.buffer.len() > LINE_LIMIT {
+                self.buffer.clear();
+                is_long = true;
+            }
+            self.fill();
+        }
+    }
+
+    /// The next line, or what comes in its place. After the end, a failed read or a script that is too long it
+    /// answers the same again and reads nothing. It takes no memory.
+    pub fn next_line(&mut self) -> NextLine<'_>
+        ensures* { sem 𝓛 (Rests (the_row R.row) self.entry (λ new. Gives R.remaining self.old new result)) }
+    {
+        match self.advance() {
+            Found::Line => NextLine::Line(self.buffer.line()),
+            Found::Long => NextLine::Long,
+            Found::End => NextLine::End,
+            Found::Read => NextLine::Read,
+            Found::TooLong => NextLine::TooLong,
+        }
+    }
+
+    /// Whether the next answer is there without a further read.
+    pub fn has_line(&self) -> bool
+        ensures { result ≡ has_line self.now }
+    {
+        self.ending != Ending::Open || self.buffer.has_newline()
+    }
+}
+
+impl<R: Read + Drop> Lines<R> {
+    ghost use Rattle.std.specs.Prelude.{IfOk};
+    ghost use Rattle.script_reader.specs.State.{IsFresh};
+
+    /// The lines of what the reader gives. It makes the whole buffer, and nothing else takes memory.
+    pub fn new(alloc: Global, reader: R) -> Result<Lines<R>, AllocError>
+        ensures { IfOk result (IsFresh reader) }
+    {
+        let buffer = Buffer::new(alloc)?;
+        Ok(Lines {
+            reader,
+            buffer,
+            taken: 0,
+            ending: Ending::Open,
+        })
+    }
+}

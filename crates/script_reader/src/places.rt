@@ -1,0 +1,135 @@
+//! Reads the words at one place of a command.
+ghost use Rattle.std.specs.Prelude.{◌≡◌, []};
+ghost use Rattle.script_reader.specs.Words.{words};
+ghost use Rattle.script_reader.specs.Numbers.{number_of, whole_of};
+ghost use Rattle.script_reader.specs.Places.{Agrees, half_of, lone_of, corner_of, way_of, next_of, point_of, points_of};
+ghost use Rattle.script_reader.specs.declared.command.Fault.TheVariants.{BadWord, BadNumber};
+
+use super::command::{Corners, Fault};
+use super::numbers::{number_of, whole_of};
+use super::words::next_word;
+use boundary_model::{Corner, HalfEdge};
+use lattice::Point;
+
+/// The last word of `ringmv`: the ring becomes a ring of the face, or its outer loop.
+#[derive(Clone, Copy, Debug, PartialEq, Eq)]
+pub enum Way {
+    In,
+    Out,
+}
+
+fn half_of(word: &[u8]) -> Option<HalfEdge>
+    ensures { result ≡ half_of word.now }
+{
+    let (sign, digits) = word.split_first()?;
+    let first = match *sign {
+        b'+' => true,
+        b'-' => false,
+        _ => return None,
+    };
+    let edge = number_of(digits)?;
+    Some(HalfEdge { edge, first })
+}
+
+fn lone_of(word: &[u8]) -> Option<Corner>
+    ensures { result ≡ lone_of word.now }
+{
+    let (sign, digits) = word.split_first()?;
+    if *sign != b'@' {
+        return None;
+    }
+    Some(Corner::Lone(number_of(digits)?))
+}
+
+fn corner_of(word: &[u8]) -> Option<Corner>
+    ensures { result ≡ corner_of word.now }
+{
+    match half_of(word) {
+        Some(half) => Some(Corner::At(half)),
+        None => lone_of(word),
+    }
+}
+
+fn way_of(word: &[u8]) -> Option<Way>
+    ensures { result ≡ way_of word.now }
+{
+    if word == b"in".as_slice() {
+        Some(Way::In)
+    } else if word == b"out".as_slice() {
+        Some(Way::Out)
+    } else {
+        None
+    }
+}
+
+/// A number, and the rest of the line.
+pub fn number(line: &[u8]) -> Result<(u32, &[u8]), Fault>
+    ensures { Agrees (λ x. (x.0, words x.1.now)) result (next_of BadNumber number_of (words line.now)) }
+{
+    let (word, rest) = next_word(line).ok_or(Fault::MissingWord)?;
+    let value = number_of(word).ok_or(Fault::BadNumber)?;
+    Ok((value, rest))
+}
+
+/// A coordinate, a size or a coefficient.
+pub fn whole(line: &[u8]) -> Result<(i64, &[u8]), Fault>
+    ensures { Agrees (λ x. (x.0, words x.1.now)) result (next_of BadNumber whole_of (words line.now)) }
+{
+    let (word, rest) = next_word(line).ok_or(Fault::MissingWord)?;
+    let value = whole_of(word).ok_or(Fault::BadNumber)?;
+    Ok((value, rest))
+}
+
+/// A half-edge.
+pub fn half(line: &[u8]) -> Result<(HalfEdge, &[u8]), Fault>
+    ensures { Agrees (λ x. (x.0, words x.1.now)) result (next_of BadNumber half_of (words line.now)) }
+{
+    let (word, rest) = next_word(line).ok_or(Fault::MissingWord)?;
+    let value = half_of(word).ok_or(Fault::BadNumber)?;
+    Ok((value, rest))
+}
+
+/// A corner.
+pub fn corner(line: &[u8]) -> Result<(Corner, &[u8]), Fault>
+    ensures { Agrees (λ x. (x.0, words x.1.now)) result (next_of BadNumber corner_of (words line.now)) }
+{
+    let (word, rest) = next_word(line).ok_or(Fault::MissingWord)?;
+    let value = corner_of(word).ok_or(Fault::BadNumber)?;
+    Ok((value, rest))
+}
+
+/// `in` or `out`.
+pub fn in_or_out(line: &[u8]) -> Result<(Way, &[u8]), Fault>
+    ensures { Agrees (λ x. (x.0, words x.1.now)) result (next_of BadWord way_of (words line.now)) }
+{
+    let (word, rest) = next_word(line).ok_or(Fault::MissingWord)?;
+    let value = way_of(word).ok_or(Fault::BadWord)?;
+    Ok((value, rest))
+}
+
+/// Three coordinates.
+pub fn point(line: &[u8]) -> Result<(Point, &[u8]), Fault>
+    ensures { Agrees (λ x. (x.0, words x.1.now)) result (point_of (words line.now)) }
+{
+    let (x, rest) = whole(line)?;
+    let (y, rest) = whole(rest)?;
+    let (z, rest) = whole(rest)?;
+    Ok((Point { x, y, z }, rest))
+}
+
+/// As many points as there are words for, and no more than 64.
+pub fn points(line: &[u8]) -> Result<Corners, Fault>
+    ensures { Agrees (λ x. (x, [])) result (points_of 64 (words line.now)) }
+{
+    let mut corners = Corners::new();
+    let mut rest = line;
+    while next_word(rest).is_some() {
+        if corners.is_full() {
+            return Err(Fault::ExtraWord);
+        }
+        let (corner, after) = point(rest)?;
+        corners.push(corner);
+        rest = after;
+    }
+    Ok(corners)
+}

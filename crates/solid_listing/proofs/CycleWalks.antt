@@ -1,0 +1,132 @@
+-- A walk round a ring, from an item on until it is met again.
+use Rattle.std.proofs.Common.{◌≡◌, ◌≢◌, ℕ, ◌≤◌, true, List, [], ◌∷◌, ◌++◌, refl, sym, ap, ◌∙◌, arith, append_assoc, ◌⊎◌, inl, inr, is_some}
+use Rattle.std.proofs.lemmas.Bool.{cases_eq}
+use Rattle.std.proofs.lemmas.Bool.Decides.{nat_tests}
+use Rattle.cyclic_list.specs.Items.{count, IsIn, IsApart, before, after, head_or, least}
+use Rattle.cyclic_list.specs.Rings.{rotate_to, canonical, successor, rest}
+use Rattle.cyclic_list.proofs.Lists.{count-append, tick_same, tick_other, split_at, count-before, before_of, after_of, least_le, least_in}
+use Rattle.cyclic_list.proofs.Rotations.{rotate_to-rotates, IsApart-rotate_to, count-rotate_to, rotate_to_is}
+use Rattle.cyclic_list.proofs.Rings.{successor_at, successor_same, IsIn_successor}
+use Rattle.boundary_model.specs.Model.{Model, content, has_half, loop_of, cycle_of, is_number}
+use Rattle.boundary_model.specs.Model as model
+use Rattle.boundary_model.specs.Sound.{Sound, HasHalf, StandsIn}
+use Rattle.boundary_model.proofs.Models.{in-holds, held_row, cycle_there, cycle_sound}
+
+-- the items of a walk from h that has come to x, x among them
+abbrev pub seen : ℕ → List ℕ → ℕ → List ℕ
+seen h xs x = before x (rotate_to h xs) ++ x ∷ []
+
+-- the items that are still to come
+abbrev pub to_come : ℕ → List ℕ → ℕ → List ℕ
+to_come h xs x = after x (rotate_to h xs)
+
+pub IsIn_push : (x y : ℕ) (xs : List ℕ) → IsIn x (xs ++ y ∷ []) → IsIn x xs ⊎ (x ≡ y)
+IsIn_push x y xs i = elim (cases_eq x y) [ inl e ↦ inr e | inr ne ↦ inl (omega (arith, count-append x xs (y ∷ []), tick_other x y ne)) ]
+
+head_seen : (h x : ℕ) (ps qs zs : List ℕ) → ps ++ x ∷ qs ≡ h ∷ zs → IsIn h (ps ++ x ∷ [])
+head_seen h x [] qs zs e = let s : x ≡ h = cc in rw s (omega (arith, tick_same h))
+head_seen h x (p ∷ ps) qs zs e = let s : p ≡ h = cc in rw s (omega (arith, tick_same h))
+
+head_first : (h x : ℕ) (ps zs : List ℕ) → ps ++ x ∷ [] ≡ h ∷ zs → head_or x ps ≡ h
+head_first h x [] zs e = cc
+head_first h x (p ∷ ps) zs e = cc
+
+module _ (h : ℕ) (xs : List ℕ) (apart : IsApart xs) (first : IsIn h xs) where
+  abbrev ys : List ℕ
+  ys = rotate_to h xs
+
+  in_ys : (x : ℕ) → IsIn x xs → IsIn x ys
+  in_ys x i = omega (arith, count-rotate_to x h xs)
+
+  parts : (x : ℕ) → IsIn x xs → ys ≡ before x ys ++ x ∷ after x ys
+  parts x i = split_at x ys (in_ys x i)
+
+  next_is : (x : ℕ) → IsIn x xs → successor xs x ≡ head_or x (after x ys ++ before x ys)
+  next_is x i = successor_same x xs ys (rotate_to-rotates h xs) apart i ∙ ap (λ (zs : List ℕ). successor zs x) (parts x i) ∙ successor_at x (before x ys) (after x ys) (count-before x ys)
+
+  twice : (ps qs : List ℕ) → ys ≡ ps ++ h ∷ qs → IsIn h ps → ⊥
+  twice ps qs e i = omega (arith, IsApart-rotate_to h xs apart h, ap (count h) e, count-append h ps (h ∷ qs), tick_same h)
+
+  -- the walk comes to h again: it has met all items
+  pub walk_ends : (x : ℕ) → IsIn x xs → successor xs x ≡ h → to_come h xs x ≡ []
+  walk_ends x i back = go (after x ys) (parts x i) (sym (next_is x i) ∙ back) where
+    go : (qs : List ℕ) → ys ≡ before x ys ++ x ∷ qs → head_or x (qs ++ before x ys) ≡ h → qs ≡ []
+    go [] e n = refl
+    go (y ∷ qs) e n = absurd (
+        let s : y ≡ h = n in
+        twice (before x ys ++ x ∷ []) qs (e ∙ sym (append_assoc (before x ys) (x ∷ []) (y ∷ qs)) ∙ ap (λ (k : ℕ). (before x ys ++ x ∷ []) ++ k ∷ qs) s)
+        (head_seen h x (before x ys) (y ∷ qs) (rest h xs) (sym e ∙ rotate_to_is h xs first)))
+
+  pub all_seen : (x : ℕ) → IsIn x xs → successor xs x ≡ h → seen h xs x ≡ ys
+  all_seen x i back = sym (parts x i ∙ ap (λ (qs : List ℕ). before x ys ++ x ∷ qs) (walk_ends x i back))
+
+  -- or it goes on to the next item
+  pub walk_goes : (x : ℕ) → IsIn x xs → successor xs x ≢ h → (to_come h xs x ≡ successor xs x ∷ to_come h xs (successor xs x)) × (seen h xs (successor xs x) ≡ seen h xs x ++ successor xs x ∷ [])
+  walk_goes x i on = go (after x ys) (parts x i) (next_is x i) where
+    go : (qs : List ℕ) → ys ≡ before x ys ++ x ∷ qs → successor xs x ≡ head_or x (qs ++ before x ys) → (qs ≡ successor xs x ∷ to_come h xs (successor xs x)) × (seen h xs (successor xs x) ≡ seen h xs x ++ successor xs x ∷ [])
+    go [] e n = absurd (on (n ∙ head_first h x (before x ys) (rest h xs) (sym e ∙ rotate_to_is h xs first)))
+    go (y ∷ qs) e n =
+        let split : ys ≡ (before x ys ++ x ∷ []) ++ y ∷ qs = e ∙ sym (append_assoc (before x ys) (x ∷ []) (y ∷ qs)) in
+        let none : count y (before x ys ++ x ∷ []) ≡ 0 = omega (arith, IsApart-rotate_to h xs apart y, ap (count y) split, count-append y (before x ys ++ x ∷ []) (y ∷ qs), tick_same y) in
+        let s : successor xs x ≡ y = n in
+        rw s (ap (λ (zs : List ℕ). y ∷ zs) (sym (after_of y ys (before x ys ++ x ∷ []) qs split none)), ap (λ (zs : List ℕ). zs ++ y ∷ []) (before_of y ys (before x ys ++ x ∷ []) qs split none))
+
+  -- a number of the ring that passes no item is the least
+  pub least_is : (n : ℕ) → IsIn n xs → ((x : ℕ) → IsIn x ys → n ≤ x) → n ≡ least xs
+  least_is n i below = let l = least_in xs n i in omega (arith, least_le xs n i, below (least xs) (in_ys (least xs) l))
+
+  pub start_seen : seen h xs h ≡ h ∷ []
+  start_seen = ap (λ (zs : List ℕ). zs ++ h ∷ []) (before_of h ys [] (rest h xs) (rotate_to_is h xs first) refl)
+
+  pub start_is : ys ≡ h ∷ to_come h xs h
+  start_is = rotate_to_is h xs first ∙ ap (λ (zs : List ℕ). h ∷ zs) (sym (after_of h ys [] (rest h xs) (rotate_to_is h xs first) refl))
+
+-- the items of a half-edge's loop
+module _ (M : Model) (sound : Sound M) (h : ℕ) (there : HasHalf M h) where
+  item_stands : (g : ℕ) → IsIn g (cycle_of M h) → StandsIn M g (loop_of M h)
+  item_stands g i = in-holds g (content M (loop_of M h)) i
+
+  pub item_there : (g : ℕ) → IsIn g (cycle_of M h) → HasHalf M g
+  item_there g i = sound.only_edges g (loop_of M h) (item_stands g i)
+
+  pub same_loop : (g : ℕ) → IsIn g (cycle_of M h) → loop_of M g ≡ loop_of M h
+  same_loop g i = sound.one_loop g (loop_of M h) (item_stands g i)
+
+  pub same_cycle : (g : ℕ) → IsIn g (cycle_of M h) → cycle_of M g ≡ cycle_of M h
+  same_cycle g i = ap (λ l. model.items_of (content M l)) (same_loop g i)
+
+  one_or_more : (k : ℕ) → is_number k ≡ true → k ≢ 0
+  one_or_more k e = grind (arith, nat_tests)
+
+  looped : (g : ℕ) → IsIn g (cycle_of M h) → loop_of M g ≢ 0
+  looped g i = rw (same_loop g i) (one_or_more (loop_of M h) (sound.loops_fit (loop_of M h) (ap is_some (held_row M g (loop_of M h) (item_stands g i)))))
+
+  -- what an arena answers as the next item
+  pub next_item : (g r : ℕ) → IsIn g (cycle_of M h) → (loop_of M g ≢ 0 → r ≡ model.after M g) → r ≡ successor (cycle_of M h) g
+  unfolding model.after
+  next_item g r i n = n (looped g i) ∙ ap (λ (zs : List ℕ). successor zs g) (same_cycle g i)
+
+  pub cycle_apart : IsApart (cycle_of M h)
+  cycle_apart = (cycle_sound M sound h there).apart
+
+  pub item_in : IsIn h (cycle_of M h)
+  item_in = cycle_there M sound h there
+
+  -- the cycle is written from its least item on
+  pub from_least : h ≡ least (cycle_of M h) → cycle_of M h ≡ h ∷ to_come h (cycle_of M h) h
+  unfolding canonical
+  from_least e = sym (cycle_sound M sound h there).from_least ∙ ap (λ k. rotate_to k (cycle_of M h)) (sym e) ∙ start_is h (cycle_of M h) cycle_apart item_in
+
+  -- a walk in the arena: the next item is another one, or the first again
+  pub goes_on : (g r : ℕ) → IsIn g (cycle_of M h) → (loop_of M g ≢ 0 → r ≡ model.after M g) → r ≢ h
+      → IsIn r (cycle_of M h) × (to_come h (cycle_of M h) g ≡ r ∷ to_come h (cycle_of M h) r) × (seen h (cycle_of M h) r ≡ seen h (cycle_of M h) g ++ r ∷ [])
+  goes_on g r i n other =
+      let e = next_item g r i n in
+      let w = walk_goes h (cycle_of M h) cycle_apart item_in g i (λ s. other (e ∙ s)) in
+      rw e (IsIn_successor g (cycle_of M h) i, w.0, w.1)
+
+  pub comes_back : (g r : ℕ) → IsIn g (cycle_of M h) → (loop_of M g ≢ 0 → r ≡ model.after M g) → r ≡ h
+      → (to_come h (cycle_of M h) g ≡ []) × (seen h (cycle_of M h) g ≡ rotate_to h (cycle_of M h))
+  comes_back g r i n same =
+      let back = sym (next_item g r i n) ∙ same in
+      (walk_ends h (cycle_of M h) cycle_apart item_in g i back, all_seen h (cycle_of M h) cycle_apart item_in g i back)

@@ -1,0 +1,73 @@
+-- What an arena answers as a walk goes from a number to the next.
+use Rattle.std.proofs.Common.{◌≡◌, ℕ, ◌<◌, Bool, true, false, not, ◌&&◌, nat_eq, [], ◌∷◌, Option, Some, None, is_some, unwrap_or, refl, sym, ◌∙◌, arith}
+use Rattle.std.proofs.lemmas.Bool.Decides.{nat_tests}
+use Rattle.boundary_model.specs.declared.Kind.{Kind}
+use Rattle.boundary_model.specs.declared.Kind.TheVariants.{Solid, Face, Loop, Edge, Vertex}
+use Rattle.boundary_model.specs.Table.{Table, get, has, numbers}
+use Rattle.boundary_model.specs.Model.{Model, LoopRow, no_loop, face_of, outer, rings_of, is_ring_of, is_number}
+use Rattle.boundary_model.specs.Sound.{Sound, NumbersFit}
+use Rattle.halfedge_arena.specs.Store.{Store, IsNextNumber, IsNextRing}
+use Rattle.solid_listing.specs.Listing.{numbers_of}
+use Rattle.solid_listing.proofs.Rising.{above, member, all_above, next_above, none_above, all_above_members}
+use Rattle.solid_listing.proofs.TableWalks.{passes, rising_numbers, member_numbers, rising_passing, member_passing}
+
+-- the numbers of a table
+module _ {X : Type 0} (t : Table X) where
+  next_in : (n m : ℕ) → (n < m) × (has t m ≡ true) × ((k : ℕ) → n < k → k < m → has t k ≡ false) → above n (numbers t) ≡ m ∷ above m (numbers t)
+  next_in n m h = next_above n m (numbers t) (rising_numbers t) h.0 (member_numbers t m ∙ h.1) (λ k a b. member_numbers t k ∙ h.2 k a b)
+
+  none_in : (n : ℕ) → ((k : ℕ) → n < k → has t k ≡ false) → above n (numbers t) ≡ []
+  none_in n h = none_above n (numbers t) (λ k a. member_numbers t k ∙ h k a)
+
+  all_in_range : NumbersFit t → above 0 (numbers t) ≡ numbers t
+  all_in_range fit = all_above 0 (numbers t) (all_above_members 0 (numbers t) (λ k there. one_or_more k (fit k (sym (member_numbers t k) ∙ there)))) where
+    one_or_more : (k : ℕ) → is_number k ≡ true → 0 < k
+    one_or_more k e = grind (arith, nat_tests)
+
+pub next_number : (s : Store) (kind : Kind) (n m : ℕ) → IsNextNumber s kind n (Some m) → above n (numbers_of s.model kind) ≡ m ∷ above m (numbers_of s.model kind)
+next_number s Solid n m h = next_in s.model.solids n m h
+next_number s Face n m h = next_in s.model.faces n m h
+next_number s Loop n m h = next_in s.model.loops n m h
+next_number s Edge n m h = next_in s.model.edges n m h
+next_number s Vertex n m h = next_in s.model.vertices n m h
+
+pub no_number : (s : Store) (kind : Kind) (n : ℕ) → IsNextNumber s kind n None → above n (numbers_of s.model kind) ≡ []
+no_number s Solid n h = none_in s.model.solids n h
+no_number s Face n h = none_in s.model.faces n h
+no_number s Loop n h = none_in s.model.loops n h
+no_number s Edge n h = none_in s.model.edges n h
+no_number s Vertex n h = none_in s.model.vertices n h
+
+pub from_zero : (M : Model) → Sound M → (kind : Kind) → above 0 (numbers_of M kind) ≡ numbers_of M kind
+from_zero M sound Solid = all_in_range M.solids sound.solids_fit
+from_zero M sound Face = all_in_range M.faces sound.faces_fit
+from_zero M sound Loop = all_in_range M.loops sound.loops_fit
+from_zero M sound Edge = all_in_range M.edges sound.edges_fit
+from_zero M sound Vertex = all_in_range M.vertices sound.vertices_fit
+
+-- the rings of a face
+module _ (M : Model) (f : ℕ) where
+  abbrev is_ring : ℕ → LoopRow → Bool
+  is_ring l row = nat_eq row.face f && not (nat_eq (outer M f) l)
+
+  pub member_rings : (l : ℕ) → member l (rings_of M f) ≡ is_ring_of M f l
+  unfolding face_of
+  member_rings l = member_passing is_ring M.loops l ∙ go (get M.loops l) where
+    go : (o : Option LoopRow) → passes is_ring l o ≡ is_some o && nat_eq (unwrap_or o no_loop).face f && not (nat_eq (outer M f) l)
+    go None = refl
+    go (Some row) = refl
+
+  pub next_ring : (n m : ℕ) → IsNextRing M f n (Some m) → above n (rings_of M f) ≡ m ∷ above m (rings_of M f)
+  next_ring n m h = next_above n m (rings_of M f) (rising_passing is_ring M.loops) h.0 (member_rings m ∙ h.1) (λ k a b. member_rings k ∙ h.2 k a b)
+
+  pub no_ring : (n : ℕ) → IsNextRing M f n None → above n (rings_of M f) ≡ []
+  no_ring n h = none_above n (rings_of M f) (λ k a. member_rings k ∙ h k a)
+
+  ring_there : (a b c : Bool) → a && b && c ≡ true → a ≡ true
+  ring_there true b c e = refl
+  ring_there false b c e = e
+
+  pub rings_from_zero : Sound M → above 0 (rings_of M f) ≡ rings_of M f
+  rings_from_zero sound = all_above 0 (rings_of M f) (all_above_members 0 (rings_of M f) (λ k there. one_or_more k (sound.loops_fit k (ring_there (has M.loops k) (nat_eq (face_of M k) f) (not (nat_eq (outer M f) k)) (sym (member_rings k) ∙ there))))) where
+    one_or_more : (k : ℕ) → is_number k ≡ true → 0 < k
+    one_or_more k e = grind (arith, nat_tests)

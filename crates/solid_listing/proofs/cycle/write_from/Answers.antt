@@ -1,0 +1,73 @@
+use Rattle.std.proofs.Common.{◌∙◌, ap, sym, subst, ◌∷◌, map, length, arith, refl}
+use Rattle.std.proofs.lemmas.Result.{err_from_is_err_and}
+use Rattle.std.specs.Io.KnownBytes.{Appends}
+use Rattle.boundary_model.specs.HalfEdge.{code}
+use Rattle.boundary_model.specs.Model.{cycle_of}
+use Rattle.solid_listing.specs.Lines.{spaced}
+use Rattle.solid_listing.specs.Listing.{half_word}
+use Rattle.solid_listing.specs.Writing.{Stops}
+use Rattle.solid_listing.proofs.HalfWords.{codes_same, codes_differ}
+use Rattle.solid_listing.proofs.CycleWalks.{to_come, item_there, item_in, from_least, goes_on, comes_back}
+use Rattle.solid_listing.proofs.WritingLaws.{Writes, none_yet, wrote_more, stops_inside, all_written}
+use Rattle.solid_listing.proofs.cycle.write_from.Goals as goal
+
+pub round-init : goal.round-init
+round-init g c =
+    let M = c.args.arena.now.model in
+    let h = code c.args.first in
+    let w = g.W.Write.contents c.args.writer.now in
+    record {
+      at_in = item_in M c.requires.sound h c.requires.there;
+      written = subst (λ hs. Writes w w (spaced (map half_word (cycle_of M h))) (spaced (map half_word hs))) (from_least M c.requires.sound h c.requires.there c.requires.least) (none_yet w (spaced (map half_word (cycle_of M h))));
+    }
+
+pub returns-in_err-put : goal.returns-in_err-put
+returns-in_err-put g c =
+    let M = c.args.arena.now.model in
+    let h = code c.args.first in
+    let p = err_from_is_err_and c.from_residual.result c.from_residual.ensures.1 in
+    let stop = subst (Stops (g.W.Write.contents c.round.writer) (g.W.Write.contents c.put.new.writer)) (c.as_slice.ensures.value ∙ c.half_text.ensures) c.in_err-put.ensures in
+    rw p.1 (stops_inside (g.W.Write.contents c.args.writer.now) (g.W.Write.contents c.round.writer) (g.W.Write.contents c.put.new.writer)
+    (spaced (map half_word (cycle_of M h))) (spaced (map half_word (code c.round.at ∷ to_come h (cycle_of M h) (code c.round.at)))) (spaced (map half_word (to_come h (cycle_of M h) (code c.round.at)))) (32 ∷ half_word (code c.round.at))
+    c.round.invariant.written stop refl)
+
+pub next-at-requires : goal.next-at-requires
+next-at-requires g c = item_there c.args.arena.now.model c.requires.sound (code c.args.first) c.requires.there (code c.round.at) c.round.invariant.at_in
+
+pub returns-then-eq : goal.returns-then-eq
+returns-then-eq g c =
+    let M = c.args.arena.now.model in
+    let h = code c.args.first in
+    let hs = cycle_of M h in
+    let a = g.W.Write.contents c.args.writer.now in
+    let b = g.W.Write.contents c.round.writer in
+    let d = g.W.Write.contents c.put.new.writer in
+    let text = spaced (map half_word hs) in
+    let next = to_come h hs (code c.round.at) in
+    let wrote : Appends b d (32 ∷ half_word (code c.round.at)) = subst (Appends b d) (c.as_slice.ensures.value ∙ c.half_text.ensures) c.in_ok-put.ensures in
+    let more = wrote_more a b d text (spaced (map half_word (code c.round.at ∷ next))) (spaced (map half_word next)) (32 ∷ half_word (code c.round.at)) c.round.invariant.written wrote refl in
+    let back = comes_back M c.requires.sound h c.requires.there (code c.round.at) (code c.next-at.result) c.round.invariant.at_in c.next-at.ensures.in_loop (codes_same c.next-at.result c.args.first (sym c.eq.ensures ∙ c.if-eq.true)) in
+    all_written a d text (subst (λ zs. Writes a d text (spaced (map half_word zs))) back.0 more)
+
+pub round-smaller : goal.round-smaller
+round-smaller g c =
+    let on = goes_on c.args.arena.now.model c.requires.sound (code c.args.first) c.requires.there (code c.round.at) (code c.next-at.result) c.round.invariant.at_in c.next-at.ensures.in_loop (codes_differ c.next-at.result c.args.first (sym c.eq.ensures ∙ c.if-eq.false)) in
+    omega (arith, ap length on.1)
+
+pub round-preserved : goal.round-preserved
+round-preserved g c =
+    let M = c.args.arena.now.model in
+    let h = code c.args.first in
+    let hs = cycle_of M h in
+    let a = g.W.Write.contents c.args.writer.now in
+    let b = g.W.Write.contents c.round.writer in
+    let d = g.W.Write.contents c.put.new.writer in
+    let text = spaced (map half_word hs) in
+    let next = to_come h hs (code c.round.at) in
+    let wrote : Appends b d (32 ∷ half_word (code c.round.at)) = subst (Appends b d) (c.as_slice.ensures.value ∙ c.half_text.ensures) c.in_ok-put.ensures in
+    let more = wrote_more a b d text (spaced (map half_word (code c.round.at ∷ next))) (spaced (map half_word next)) (32 ∷ half_word (code c.round.at)) c.round.invariant.written wrote refl in
+    let on = goes_on M c.requires.sound h c.requires.there (code c.round.at) (code c.next-at.result) c.round.invariant.at_in c.next-at.ensures.in_loop (codes_differ c.next-at.result c.args.first (sym c.eq.ensures ∙ c.if-eq.false)) in
+    record {
+      at_in = on.0;
+      written = subst (λ zs. Writes a d text (spaced (map half_word zs))) on.1 more;
+    }

@@ -1,0 +1,20 @@
+use Rattle.std.proofs.Common.{◌∷◌, length, map}
+use Rattle.cyclic_list.specs.Items.{IsIn}
+use Rattle.boundary_model.specs.HalfEdge.{code}
+use Rattle.boundary_model.specs.Model.{cycle_of}
+use Rattle.solid_listing.specs.Lines.{spaced}
+use Rattle.solid_listing.specs.Listing.{half_word}
+use Rattle.solid_listing.proofs.CycleWalks.{to_come}
+use Rattle.solid_listing.proofs.WritingLaws.{Writes}
+use Rattle.solid_listing.proofs.cycle.write_from.Given as goal
+
+abbrev pub invariant-round : goal.invariant-round
+invariant-round g l = record {
+  at_in : IsIn (code l.at) (cycle_of l.arena.model (code l.first));
+  written : Writes (g.W.Write.contents l.fn.writer) (g.W.Write.contents l.writer)
+      (spaced (map half_word (cycle_of l.arena.model (code l.first))))
+      (spaced (map half_word (code l.at ∷ to_come (code l.first) (cycle_of l.arena.model (code l.first)) (code l.at))));
+}
+
+abbrev pub decreases-round : goal.decreases-round
+decreases-round g l = length (to_come (code l.first) (cycle_of l.arena.model (code l.first)) (code l.at))

@@ -1,0 +1,19 @@
+use Rattle.std.proofs.Common.{◌≡◌, ◌∙◌, ap, [], ◌∷◌, map, decimal, codes}
+use Rattle.boundary_model.specs.HalfEdge.{plus, minus}
+use Rattle.boundary_model.specs.Model.{tail, has_half}
+use Rattle.solid_listing.specs.Lines.{line_text}
+use Rattle.solid_listing.proofs.HalfWords.{code_plus, mate_plus, plus_there, mate_there}
+use Rattle.solid_listing.proofs.entry.edge_line.Goals as goal
+
+pub tail-requires : goal.tail-requires
+tail-requires c = plus_there c.args.arena.now.model c.args.e c.requires
+
+pub tail-requires-2 : goal.tail-requires-2
+tail-requires-2 c = ap (has_half c.args.arena.now.model) c.mate.ensures ∙ mate_there c.args.arena.now.model _ (plus_there c.args.arena.now.model c.args.e c.requires)
+
+pub returns : goal.returns
+returns c =
+    let M = c.args.arena.now.model in
+    let first : c.tail.result ≡ tail M (plus c.args.e) = c.tail.ensures ∙ ap (tail M) (code_plus c.args.e) in
+    let second : c.tail-2.result ≡ tail M (minus c.args.e) = c.tail-2.ensures ∙ ap (tail M) (c.mate.ensures ∙ mate_plus c.args.e) in
+    c.line.ensures ∙ (λ i. line_text (codes "edge" ∷ map decimal (c.args.e ∷ first i ∷ second i ∷ [])))

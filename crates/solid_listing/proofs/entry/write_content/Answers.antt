@@ -1,0 +1,23 @@
+use Rattle.std.proofs.Common.{◌∙◌, ap, subst, ℕ, List}
+use Rattle.boundary_model.specs.Model.{content}
+use Rattle.solid_listing.specs.Lines.{spaced}
+use Rattle.solid_listing.specs.Listing.{content_words}
+use Rattle.solid_listing.specs.Writing.{Puts}
+use Rattle.solid_listing.proofs.Contents.{lone_told, not_empty, told_there, told_words}
+use Rattle.solid_listing.proofs.entry.write_content.Goals as goal
+
+pub content-requires-clause-filled : goal.content-requires-clause-filled
+content-requires-clause-filled g c = not_empty c.args.arena.now.model c.requires.sound c.args.l c.requires.there
+
+pub write_cycle-requires-clause-there : goal.write_cycle-requires-clause-there
+write_cycle-requires-clause-there g c = told_there c.args.arena.now.model c.requires.sound c.args.l c.in-Ring.h c.in-Ring.ensures
+
+pub returns-in-Lone : goal.returns-in-Lone
+returns-in-Lone g c =
+    let is = c.as_slice.ensures.value ∙ c.words.ensures.items ∙ ap (λ k. spaced (content_words k)) (lone_told (content c.args.arena.now.model c.args.l) c.in-Lone.v c.in-Lone.ensures) in
+    subst (λ (t : List ℕ). Puts (g.W.Write.contents c.args.writer.now) (g.W.Write.contents c.put.new.writer) t c.put.result) is c.put.ensures
+
+pub returns-in-Ring : goal.returns-in-Ring
+returns-in-Ring g c =
+    let is = ap spaced (told_words c.args.arena.now.model c.requires.sound c.args.l c.in-Ring.h c.in-Ring.ensures) in
+    subst (λ (t : List ℕ). Puts (g.W.Write.contents c.args.writer.now) (g.W.Write.contents c.write_cycle.new.writer) t c.write_cycle.result) is c.write_cycle.ensures

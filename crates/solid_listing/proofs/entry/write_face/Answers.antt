@@ -1,0 +1,59 @@
+use Rattle.std.proofs.Common.{◌≡◌, ◌∙◌, sym, subst, ℕ, List, [], ◌∷◌, ◌++◌, map, codes, decimal}
+use Rattle.std.proofs.lemmas.Result.{err_from_is_err_and}
+use Rattle.std.specs.Io.KnownBytes.{Appends}
+use Rattle.boundary_model.specs.declared.Kind.TheVariants.{Face}
+use Rattle.boundary_model.specs.Model.{Model, solid_of, outer, rings_of}
+use Rattle.solid_listing.specs.Lines.{spaced, line_text}
+use Rattle.solid_listing.specs.Listing.{line}
+use Rattle.solid_listing.specs.Writing.{Stops, Puts}
+use Rattle.solid_listing.proofs.LineLaws.{line_parts}
+use Rattle.solid_listing.proofs.WritingLaws.{Stops-longer, Stops-after, puts_after}
+use Rattle.solid_listing.proofs.entry.write_face.Goals as goal
+
+-- the first words of the line, the rings, and the newline
+abbrev head : Model → ℕ → List ℕ
+head M f = codes "face" ++ spaced (map decimal (f ∷ solid_of M f ∷ outer M f ∷ []))
+
+abbrev rings : Model → ℕ → List ℕ
+rings M f = spaced (map decimal (rings_of M f))
+
+parts : (M : Model) (f : ℕ) → line_text (line M Face f) ≡ head M f ++ (rings M f ++ 10 ∷ [])
+parts M f = line_parts (codes "face") (map decimal (f ∷ solid_of M f ∷ outer M f ∷ [])) (map decimal (rings_of M f))
+
+head_is : (M : Model) (f s o : ℕ) → s ≡ solid_of M f → o ≡ outer M f → codes "face" ++ spaced (map decimal (f ∷ s ∷ o ∷ [])) ≡ head M f
+head_is M f s o p q = λ i. codes "face" ++ spaced (map decimal (f ∷ p i ∷ q i ∷ []))
+
+pub returns-in_err-put : goal.returns-in_err-put
+returns-in_err-put g c =
+    let M = c.args.arena.now.model in
+    let f = c.args.f in
+    let a = g.W.Write.contents c.args.writer.now in
+    let b = g.W.Write.contents c.put.new.writer in
+    let is = c.as_slice.ensures.value ∙ c.words-head.ensures.items ∙ head_is M f c.solid_of.result c.outer.result c.solid_of.ensures c.outer.ensures in
+    let p = err_from_is_err_and c.from_residual.result c.from_residual.ensures.1 in
+    rw p.1 (subst (Stops a b) (sym (parts M f)) (Stops-longer a b (head M f) (rings M f ++ 10 ∷ []) (subst (Stops a b) is c.in_err-put.ensures)))
+
+pub returns-in_err-write_rings : goal.returns-in_err-write_rings
+returns-in_err-write_rings g c =
+    let M = c.args.arena.now.model in
+    let f = c.args.f in
+    let a = g.W.Write.contents c.args.writer.now in
+    let b = g.W.Write.contents c.put.new.writer in
+    let is = c.as_slice.ensures.value ∙ c.words-head.ensures.items ∙ head_is M f c.solid_of.result c.outer.result c.solid_of.ensures c.outer.ensures in
+    let d = g.W.Write.contents c.write_rings.new.writer in
+    let p = err_from_is_err_and c.from_residual-in_err-write_rings.result c.from_residual-in_err-write_rings.ensures.1 in
+    let wrote = subst (Appends a b) is c.in_ok-put.ensures in
+    rw p.1 (subst (Stops a d) (sym (parts M f)) (Stops-after a b d (head M f) (rings M f ++ 10 ∷ []) wrote (Stops-longer b d (rings M f) (10 ∷ []) c.in_err-write_rings.ensures)))
+
+pub returns : goal.returns
+returns g c =
+    let M = c.args.arena.now.model in
+    let f = c.args.f in
+    let a = g.W.Write.contents c.args.writer.now in
+    let b = g.W.Write.contents c.put.new.writer in
+    let is = c.as_slice.ensures.value ∙ c.words-head.ensures.items ∙ head_is M f c.solid_of.result c.outer.result c.solid_of.ensures c.outer.ensures in
+    let d = g.W.Write.contents c.write_rings.new.writer in
+    let e = g.W.Write.contents c.put-2.new.writer in
+    let r = c.put-2.result in
+    let wrote = subst (Appends a b) is c.in_ok-put.ensures in
+    subst (λ (t : List ℕ). Puts a e t r) (sym (parts M f)) (puts_after a b e (head M f) (rings M f ++ 10 ∷ []) r wrote (puts_after b d e (rings M f) (10 ∷ []) r c.in_ok-write_rings.ensures c.put-2.ensures))

@@ -1,0 +1,14 @@
+use Rattle.std.proofs.Common.{length, map, decimal}
+use Rattle.boundary_model.specs.Model.{rings_of}
+use Rattle.solid_listing.specs.Lines.{spaced}
+use Rattle.solid_listing.proofs.Rising.{above}
+use Rattle.solid_listing.proofs.WritingLaws.{Writes}
+use Rattle.solid_listing.proofs.entry.write_rings.Given as goal
+
+abbrev pub invariant-loop-l : goal.invariant-loop-l
+invariant-loop-l g l = Writes (g.W.Write.contents l.fn.writer) (g.W.Write.contents l.writer)
+    (spaced (map decimal (rings_of l.arena.model l.f)))
+    (spaced (map decimal (above l.above (rings_of l.arena.model l.f))))
+
+abbrev pub decreases-loop-l : goal.decreases-loop-l
+decreases-loop-l g l = length (above l.above (rings_of l.arena.model l.f))

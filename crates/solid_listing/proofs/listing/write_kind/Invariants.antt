@@ -1,0 +1,14 @@
+use Rattle.std.proofs.Common.{length, map}
+use Rattle.solid_listing.specs.Lines.{text_of}
+use Rattle.solid_listing.specs.Listing.{line, kind_lines, numbers_of}
+use Rattle.solid_listing.proofs.Rising.{above}
+use Rattle.solid_listing.proofs.WritingLaws.{Writes}
+use Rattle.solid_listing.proofs.listing.write_kind.Given as goal
+
+abbrev pub invariant-loop-n : goal.invariant-loop-n
+invariant-loop-n g l = Writes (g.W.Write.contents l.fn.writer) (g.W.Write.contents l.writer)
+    (text_of (kind_lines l.arena.model l.kind))
+    (text_of (map (line l.arena.model l.kind) (above l.above (numbers_of l.arena.model l.kind))))
+
+abbrev pub decreases-loop-n : goal.decreases-loop-n
+decreases-loop-n g l = length (above l.above (numbers_of l.arena.model l.kind))

@@ -1,0 +1,50 @@
+use Rattle.std.proofs.Common.{◌≡◌, ◌∙◌, ◌<◌, ◌+◌, ap, subst, ℕ, List, ◌++◌, drop, get_or, arith}
+use Rattle.std.proofs.lemmas.List.{drop_more}
+use Rattle.std.proofs.lemmas.List.Concat.{flat_map-append}
+use Rattle.std.proofs.lemmas.Result.{err_from_is_err_and}
+use Rattle.std.specs.List.{flat_map}
+use Rattle.boundary_model.specs.declared.Kind.TheVariants.{Solid}
+use Rattle.boundary_model.specs.Model.{Model}
+use Rattle.solid_listing.specs.Lines.{line_text, text_of}
+use Rattle.solid_listing.specs.Listing.{kind_lines, kinds, lines}
+use Rattle.solid_listing.proofs.WritingLaws.{Writes, none_yet, wrote_more, stops_inside, all_written}
+use Rattle.solid_listing.proofs.listing.write_lines.Goals as goal
+
+rest : Model → ℕ → List ℕ
+rest M i = text_of (flat_map (kind_lines M) (drop i kinds))
+
+-- the lines of the next kind, and those of the later ones
+next : (M : Model) (i : ℕ) → i < 5 → rest M i ≡ text_of (kind_lines M (get_or kinds i Solid)) ++ rest M (i + 1)
+unfolding rest
+next M i h = ap (λ ks. text_of (flat_map (kind_lines M) ks)) (drop_more kinds i Solid h) ∙ flat_map-append line_text (kind_lines M (get_or kinds i Solid)) (flat_map (kind_lines M) (drop (i + 1) kinds))
+
+pub loop-kind-init : goal.loop-kind-init
+unfolding lines
+loop-kind-init g c = none_yet (g.W.Write.contents c.args.writer.now) (text_of (lines c.args.arena.now.model))
+
+pub returns-in_err-write_kind : goal.returns-in_err-write_kind
+unfolding rest
+returns-in_err-write_kind g c =
+    let M = c.args.arena.now.model in
+    let i = c.loop-kind.kind-index in
+    let p = err_from_is_err_and c.from_residual.result c.from_residual.ensures.1 in
+    rw p.1 (stops_inside (g.W.Write.contents c.args.writer.now) (g.W.Write.contents c.loop-kind.writer) (g.W.Write.contents c.write_kind.new.writer)
+    (text_of (lines M)) (rest M i) (rest M (i + 1)) (text_of (kind_lines M (get_or kinds i Solid))) c.loop-kind.invariant c.in_err-write_kind.ensures (next M i c.loop-kind-test.true))
+
+pub loop-kind-preserved : goal.loop-kind-preserved
+unfolding rest
+loop-kind-preserved g c =
+    let M = c.args.arena.now.model in
+    let i = c.loop-kind.kind-index in
+    wrote_more (g.W.Write.contents c.args.writer.now) (g.W.Write.contents c.loop-kind.writer) (g.W.Write.contents c.write_kind.new.writer)
+    (text_of (lines M)) (rest M i) (rest M (i + 1)) (text_of (kind_lines M (get_or kinds i Solid))) c.loop-kind.invariant c.in_ok-write_kind.ensures (next M i c.loop-kind-test.true)
+
+pub returns : goal.returns
+unfolding rest
+returns g c =
+    let M = c.args.arena.now.model in
+    let a = g.W.Write.contents c.args.writer.now in
+    let b = g.W.Write.contents c.loop-kind.writer in
+    let text = text_of (lines M) in
+    let all : c.loop-kind.kind-index ≡ 5 = omega arith in
+    all_written a b text (subst (λ k. Writes a b text (rest M k)) all c.loop-kind.invariant)

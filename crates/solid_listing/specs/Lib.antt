@@ -1,0 +1,4 @@
+pub mod Writing
+pub mod Lines
+pub mod Listing
+pub mod Replies

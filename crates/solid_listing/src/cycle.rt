@@ -1,0 +1,72 @@
+//! The half-edges of a loop, from the least on.
+ghost use Rattle.std.specs.Prelude.{◌≡◌, true, ◌∷◌, map};
+ghost use Rattle.cyclic_list.specs.Items.{least};
+ghost use Rattle.boundary_model.specs.HalfEdge.{code};
+ghost use Rattle.boundary_model.specs.Model.{has_half, cycle_of};
+ghost use Rattle.boundary_model.specs.Sound.{Sound};
+ghost use Rattle.solid_listing.specs.Lines.{spaced};
+ghost use Rattle.solid_listing.specs.Listing.{half_word};
+ghost use Rattle.solid_listing.specs.Writing.{Puts};
+
+use crate::text::{Text, append, append_digits};
+use crate::writing::{WriteFault, put};
+use arrayvec::ArrayVec;
+use halfedge_arena::{Arena, HalfEdge};
+use std::io::Write;
+
+/// A space and a half-edge: its sign and its edge.
+fn half_text(h: HalfEdge) -> Text
+    ensures { result.items ≡ 32 ∷ half_word (code h) }
+{
+    let mut text = ArrayVec::new();
+    append(&mut text, if h.first { b" +" } else { b" -" });
+    append_digits(&mut text, h.edge);
+    text
+}
+
+/// The least half-edge of the loop in which h stands.
+fn least_item(arena: &Arena, h: HalfEdge) -> HalfEdge
+    requires sound { Sound arena.now.model }
+    requires there { has_half arena.now.model (code h) ≡ true }
+    ensures there { has_half arena.now.model (code result) ≡ true }
+    ensures same_loop { cycle_of arena.now.model (code result) ≡ cycle_of arena.now.model (code h) }
+    ensures least { code result ≡ least (cycle_of arena.now.model (code h)) }
+{
+    let mut least = h;
+    let mut at = h;
+    'round: loop {
+        at = arena.next(at);
+        if at == h {
+            return least;
+        }
+        if at.code() < least.code() {
+            least = at;
+        }
+    }
+}
+
+/// Writes the half-edges of a loop, each after a space, from its least one on, which is given.
+fn write_from<W: Write>(arena: &Arena, first: HalfEdge, writer: &mut W) -> Result<(), WriteFault>
+    requires sound { Sound arena.now.model }
+    requires there { has_half arena.now.model (code first) ≡ true }
+    requires least { code first ≡ least (cycle_of arena.now.model (code first)) }
+    ensures { Puts (W.contents writer.old) (W.contents writer.new) (spaced (map half_word (cycle_of arena.now.model (code first)))) result }
+{
+    let mut at = first;
+    'round: loop {
+        put(writer, half_text(at).as_slice())?;
+        at = arena.next(at);
+        if at == first {
+            return Ok(());
+        }
+    }
+}
+
+/// Writes the half-edges of the loop in which h stands, each after a space, from the least one on.
+pub fn write_cycle<W: Write>(arena: &Arena, h: HalfEdge, writer: &mut W) -> Result<(), WriteFault>
+    requires sound { Sound arena.now.model }
+    requires there { has_half arena.now.model (code h) ≡ true }
+    ensures { Puts (W.contents writer.old) (W.contents writer.new) (spaced (map half_word (cycle_of arena.now.model (code h)))) result }
+{
+    write_from(arena, least_item(arena, h), writer)
+}

@@ -1,0 +1,15 @@
+//! The texts that the workbench writes: replies and listings.
+#![tactic(auto)]
+
+mod cycle;
+mod entry;
+mod listing;
+mod reply;
+#[cfg(test)]
+mod tests;
+mod text;
+mod writing;
+
+pub use listing::write_listing;
+pub use reply::{Reply, write_reply};
+pub use writing::WriteFault;

@@ -1,0 +1,54 @@
+//! Listings.
+ghost use Rattle.boundary_model.specs.Sound.{Sound};
+ghost use Rattle.solid_listing.specs.Lines.{text_of};
+ghost use Rattle.solid_listing.specs.Listing.{kind_lines, lines, listing};
+ghost use Rattle.solid_listing.specs.Writing.{Puts};
+
+use crate::entry::write_entry;
+use crate::writing::{WriteFault, put};
+use halfedge_arena::{Arena, Kind};
+use std::io::Write;
+
+/// Writes a line for each thing of a kind, by rising number.
+fn write_kind<W: Write>(arena: &Arena, kind: Kind, writer: &mut W) -> Result<(), WriteFault>
+    requires { Sound arena.now.model }
+    ensures { Puts (W.contents writer.old) (W.contents writer.new) (text_of (kind_lines arena.now.model kind)) result }
+{
+    let mut above = 0;
+    while let Some(n) = arena.after_number(kind, above) {
+        write_entry(arena, kind, n, writer)?;
+        above = n;
+    }
+    Ok(())
+}
+
+/// Writes a line for each thing, kind after kind.
+fn write_lines<W: Write>(arena: &Arena, writer: &mut W) -> Result<(), WriteFault>
+    requires { Sound arena.now.model }
+    ensures { Puts (W.contents writer.old) (W.contents writer.new) (text_of (lines arena.now.model)) result }
+{
+    for kind in [
+        Kind::Solid,
+        Kind::Face,
+        Kind::Loop,
+        Kind::Edge,
+        Kind::Vertex,
+    ] {
+        write_kind(arena, kind, writer)?;
+    }
+    Ok(())
+}
+
+/// Writes the listing of a model: a line for each solid, face, loop, edge and vertex, each kind by rising number,
+/// or the line `empty`. It takes no memory.
+///
+/// A fault comes where a write fails or takes no byte; what went out is then a front of the listing.
+pub fn write_listing<W: Write>(arena: &Arena, writer: &mut W) -> Result<(), WriteFault>
+    requires sound { Sound arena.now.model }
+    ensures { Puts (W.contents writer.old) (W.contents writer.new) (listing arena.now.model) result }
+{
+    if arena.greatest(Kind::Solid) == 0 {
+        return put(writer, b"empty\n");
+    }
+    write_lines(arena, writer)
+}

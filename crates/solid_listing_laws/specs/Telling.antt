@@ -1,0 +1,9 @@
+-- What listings tell.
+use Rattle.std.specs.Prelude.{◌≡◌, ◌↔◌}
+use Rattle.boundary_model.specs.Model.{Model}
+use Rattle.boundary_model.specs.Sound.{Sound}
+use Rattle.solid_listing.specs.Listing.{listing}
+
+-- two sound models have equal listings exactly where they are equal
+abbrev pub ListingTells : Type 0
+ListingTells = (M N : Model) → Sound M → Sound N → (listing M ≡ listing N) ↔ (M ≡ N)

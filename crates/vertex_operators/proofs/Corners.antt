@@ -1,0 +1,38 @@
+-- The corners at which mev may be called.
+use Rattle.std.proofs.Common.{◌≡◌, ℕ, None, sym, ap, subst, ◌∙◌}
+use Rattle.lattice.specs.declared.Point.{Point}
+use Rattle.boundary_model.specs.declared.HalfEdge.{HalfEdge}
+use Rattle.boundary_model.specs.declared.Corner.{Corner}
+use Rattle.boundary_model.specs.declared.Corner.TheVariants.{At, Lone}
+use Rattle.boundary_model.specs.Model.{Model, lone, content}
+use Rattle.boundary_model.specs.Sound.{Sound}
+use Rattle.euler_operators.specs.declared.Op.TheVariants.{Mev}
+use Rattle.euler_operators.specs.Conditions.{first_false, conditions, lone_vertex}
+use Rattle.euler_laws_shared.proofs.Goes.{all_hold, equal}
+use Rattle.euler_laws_mev.proofs.Mev.{mixed_first, mixed_second}
+use Rattle.euler_laws_shared.proofs.Rows.{lone_is}
+use Rattle.halfedge_arena.specs.Store.{Store}
+use Rattle.euler_conditions.specs.Ready.{Accepts, after}
+
+-- two lone loops at one vertex are one
+same_lone : (M : Model) (l d : ℕ) (h : HalfEdge) (v : ℕ) (p : Point) → Sound M → first_false M (Mev (Lone l) (Lone d) h v p) ≡ None → d ≡ l
+unfolding first_false conditions
+same_lone M l d h v p sound e =
+    let w = all_hold (conditions M (Mev (Lone l) (Lone d) h v p)) e in
+    let t = w.1.1.1.1 in
+    sound.one_lone d l (lone_vertex (content M d)) (lone_is (content M d) t.1.1.1.0) (lone_is (content M l) t.1.1.0 ∙ ap lone (equal _ _ t.1.1.1.1.1.1.1.0))
+
+module _ (s : Store) (l : ℕ) (h : HalfEdge) (v : ℕ) (p : Point) where
+  -- beside a lone loop there is no other corner
+  pub second_is : (second : Corner) → Accepts s (Mev (Lone l) second h v p) → second ≡ Lone l
+  second_is (At k) ok = absurd (mixed_second s.model l k h v p ok.ready.sound ok.holds)
+  second_is (Lone d) ok = ap Lone (same_lone s.model l d h v p ok.ready.sound ok.holds)
+
+  pub lone_accepts : (second : Corner) → Accepts s (Mev (Lone l) second h v p) → Accepts s (Mev (Lone l) (Lone l) h v p)
+  lone_accepts second ok = subst (λ q. Accepts s (Mev (Lone l) q h v p)) (second_is second ok) ok
+
+  pub lone_after : (second : Corner) → Accepts s (Mev (Lone l) second h v p) → after s (Mev (Lone l) (Lone l) h v p) ≡ after s (Mev (Lone l) second h v p)
+  lone_after second ok = ap (λ q. after s (Mev (Lone l) q h v p)) (sym (second_is second ok))
+
+pub never_mixed : (s : Store) (g : HalfEdge) (l : ℕ) (h : HalfEdge) (v : ℕ) (p : Point) → Accepts s (Mev (At g) (Lone l) h v p) → ⊥
+never_mixed s g l h v p ok = mixed_first s.model g l h v p ok.ready.sound ok.holds

@@ -1,0 +1,10 @@
+pub mod RingSteps
+pub mod StoreSteps
+pub mod EdgeSteps
+pub mod Tails
+pub mod SolidRows
+pub mod PutRows
+pub mod LoneSteps
+pub mod CornerSteps
+pub mod Corners
+pub mod KevSteps
