@@ -1,9 +1,14 @@
 //! Worked scripts over memory, and readers and writers that fail.
 use super::{RunFault, Summary, run};
+use euler_conditions::{FaceList, Op, Why};
+use halfedge_arena::{Corner, HalfEdge};
+use lattice::Point;
+use solid_listing::write_listing;
 use std::alloc::Global;
 use std::io::{self, ErrorKind, Read};
 use std::process::Abort;
 use std::test::Fail;
+use undo_journal::{Failure, Session};
 
 /// What a run writes, with its counts.
 fn answers(alloc: Global, script: &[u8], stop: bool) -> Result<(Vec<u8>, Summary), Fail> {
@@ -211,5 +216,109 @@ fn a_read_fails(rt: HostRuntime) -> Result<(), Fail> {
     let ended = run(rt.alloc(), pieces, &mut out, false);
     assert_eq!(rt; ended.err(), Some(RunFault::Read));
     assert_eq!(rt; out.as_slice(), b"empty\n".as_slice());
+    Ok(())
+}
+
+#[test]
+fn triangle_with_spoke(rt: HostRuntime) -> Result<(), Fail> {
+    told(
+        &rt,
+        rt.alloc(),
+        b"mvfs 1 1 1 1 0 0 0\nmev @1 @1 1 2 3 0 0\nmev -1 -1 2 3 0 3 0\nmef -2 +1 3 2 2\nmev +1 -3 4 4 1 1 0\nlist\nkev +4\nlist\n",
+        b"ok\nok\nok\nok\nok\nsolid 1\nface 1 1 1\nface 2 1 2\nloop 1 +1 +2 +3 +4\nloop 2 -1 -4 -3 -2\nedge 1 4 2\nedge 2 2 3\nedge 3 3 1\nedge 4 1 4\nvertex 1 0 0 0\nvertex 2 3 0 0\nvertex 3 0 3 0\nvertex 4 1 1 0\nok\nsolid 1\nface 1 1 1\nface 2 1 2\nloop 1 +1 +2 +3\nloop 2 -1 -3 -2\nedge 1 1 2\nedge 2 2 3\nedge 3 3 1\nvertex 1 0 0 0\nvertex 2 3 0 0\nvertex 3 0 3 0\n",
+    )
+}
+
+/// Whether the session refuses an operator so.
+fn refused(rt: &impl Abort, answer: Result<(), Failure>, why: Why, number: u32) {
+    match answer {
+        Err(Failure::Refused(refusal)) => {
+            assert_eq!(rt; refusal.why, why);
+            assert_eq!(rt; refusal.number, number);
+        }
+        _ => assert!(rt; false),
+    }
+}
+
+fn faces(alloc: Global, numbers: &[u32]) -> Result<FaceList, Fail> {
+    let mut list = FaceList::new(alloc);
+    for number in numbers {
+        list.push(*number)?;
+    }
+    Ok(list)
+}
+
+#[test]
+fn merge_and_part(rt: HostRuntime) -> Result<(), Fail> {
+    let alloc = rt.alloc();
+    let mut session = Session::new(alloc)?;
+    let far = Point { x: 1, y: 1, z: 1 };
+    session
+        .act(Op::Mvfs(1, 1, 1, 1, Point::default()))
+        .map_err(|_| "mvfs 1")?;
+    session
+        .act(Op::Mvfs(2, 2, 2, 2, far))
+        .map_err(|_| "mvfs 2")?;
+    refused(&rt, session.act(Op::Merge(1, 1)), Why::SameSolid, 1);
+    session.act(Op::Merge(1, 2)).map_err(|_| "merge")?;
+    refused(
+        &rt,
+        session.act(Op::Part(1, 3, faces(alloc, &[])?)),
+        Why::BadPart,
+        1,
+    );
+    refused(
+        &rt,
+        session.act(Op::Part(1, 3, faces(alloc, &[1, 2])?)),
+        Why::BadPart,
+        1,
+    );
+    session
+        .act(Op::Part(1, 3, faces(alloc, &[2])?))
+        .map_err(|_| "part")?;
+    let mut out = Vec::new(alloc);
+    write_listing(session.arena(), &mut out)?;
+    let wanted =
+        b"solid 1\nsolid 3\nface 1 1 1\nface 2 3 2\nloop 1 at 1\nloop 2 at 2\nvertex 1 0 0 0\nvertex 2 1 1 1\n";
+    assert_eq!(rt; out.as_slice(), wanted.as_slice());
+    Ok(())
+}
+
+/// A line of one byte more than a line may have.
+fn long_line(alloc: Global) -> Result<Vec<u8>, Fail> {
+    let mut line = Vec::new(alloc);
+    for _ in 0..65_537 {
+        line.push(b'#')?;
+    }
+    line.push(b'\n')?;
+    Ok(line)
+}
+
+#[test]
+fn a_line_too_long(rt: HostRuntime) -> Result<(), Fail> {
+    let line = long_line(rt.alloc())?;
+    told(&rt, rt.alloc(), line.as_slice(), b"fault 6\n")
+}
+
+#[test]
+fn a_copy_lists_the_same(rt: HostRuntime) -> Result<(), Fail> {
+    let alloc = rt.alloc();
+    let mut session = Session::new(alloc)?;
+    let lone = Corner::Lone(1);
+    let half = HalfEdge {
+        edge: 1,
+        first: true,
+    };
+    let end = Point { x: 5, y: 0, z: 0 };
+    session
+        .act(Op::Mvfs(1, 1, 1, 1, Point::default()))
+        .map_err(|_| "mvfs")?;
+    session
+        .act(Op::Mev(lone, lone, half, 2, end))
+        .map_err(|_| "mev")?;
+    let copy = session.arena().copy(alloc)?;
+    let mut out = Vec::new(alloc);
+    write_listing(&copy, &mut out)?;
+    assert_eq!(rt; out.as_slice(), &WIRE_TOLD[6..]);
     Ok(())
 }
