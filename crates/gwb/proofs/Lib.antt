@@ -1,3 +1,5 @@
 pub mod Counting
 pub mod RunLaws
 pub mod Acted
+pub mod CommandLine
+mod WorkedWords

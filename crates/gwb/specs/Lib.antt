@@ -1,3 +1,5 @@
 pub mod Judging
 pub mod Outs
 pub mod Hearing
+pub mod Words
+pub mod Endings

@@ -1,0 +1,40 @@
+-- The command line of the program.
+use Rattle.std.specs.Prelude.{◌≡◌, ◌↔◌, IsTrue, true, codes, List, [], Some, Result, MatchResult, option_map}
+use Rattle.std.specs.String.{string_bytes}
+use Rattle.clap.specs.Words.{App, Row, Rule, first_of, new_app, new_rule, with_rule}
+use Rattle.clap.specs.Simple.{on_top}
+use Rattle.clap.specs.Kinds.{Kinds, HasKind}
+use Rattle.clap.specs.declared.builder.ArgAction.TheVariants.{SetTrue}
+use Rattle.gwb.specs.declared.words.Choice.{Choice}
+use Rattle.gwb.specs.declared.words.WordsFault.{WordsFault}
+use Rattle.gwb.specs.declared.words.WordsFault.TheVariants.{Line, Memory}
+
+-- the flag --stop
+abbrev pub stop_flag : Rule
+stop_flag = record (new_rule (codes "stop")) { long = Some (codes "stop"); action = Some SetTrue }
+
+-- the value FILE
+abbrev pub file_value : Rule
+file_value = new_rule (codes "FILE")
+
+-- the program gwb, with the flags --help and --version that clap adds
+abbrev pub program : App
+program = on_top (λ s. record s { has_version = true }) (new_app (codes "gwb"))
+
+-- gwb [--stop] [FILE]
+unfoldable pub command_line : App
+command_line = with_rule (with_rule program stop_flag) file_value
+
+-- the choice is the flag --stop and the value FILE of the matches
+abbrev pub Chosen : List Row → Choice → Type 0
+Chosen rows c = (IsTrue c.stop ↔ (first_of (codes "stop") rows ≡ Some (codes "true")))
+    × (option_map string_bytes c.file ≡ first_of (codes "FILE") rows)
+
+-- clap refuses the words for one of these causes, or memory was refused
+abbrev pub IsCaused : Kinds → WordsFault → Type 0
+IsCaused causes (Line e) = HasKind causes e
+IsCaused causes (Memory e) = Unit
+
+-- the words are read only where clap has no cause to refuse them
+abbrev pub Fails : Kinds → Result Choice WordsFault → Type 0
+Fails causes r = MatchResult r (λ c. causes ≡ []) (IsCaused causes)

@@ -1,0 +1,54 @@
+//! How the program ends.
+ghost use Rattle.std.specs.Prelude.{◌≡◌, ◌⊎◌};
+ghost use Rattle.clap.specs.Words.{kind_of};
+ghost use Rattle.clap.specs.declared.error.kind.ErrorKind.TheVariants as kind;
+ghost use Rattle.gwb.specs.Endings.{status};
+
+use crate::judging::Summary;
+use crate::running::RunFault;
+use crate::words::WordsFault;
+use clap::error::ErrorKind;
+use thiserror::Error;
+
+/// Why the program ends before its script is answered.
+#[derive(Debug, Error, Drop)]
+pub enum Trouble {
+    /// The words of the command line were refused, or ask for help or the version.
+    #[error("{0}")]
+    Words(clap::Error),
+    /// The script could not be opened.
+    #[error("cannot open the script")]
+    Open,
+    /// The run broke off, or the memory that it begins with was refused.
+    #[error("{0}")]
+    Run(RunFault),
+}
+
+impl From<WordsFault> for Trouble {
+    fn from(fault: WordsFault) -> Trouble {
+        match fault {
+            WordsFault::Line(error) if error.kind() != ErrorKind::OutOfMemory => Trouble::Words(error),
+            WordsFault::Line(_) | WordsFault::Memory(_) => Trouble::Run(RunFault::Memory),
+        }
+    }
+}
+
+impl From<RunFault> for Trouble {
+    fn from(fault: RunFault) -> Trouble {
+        Trouble::Run(fault)
+    }
+}
+
+/// The exit status: 0 and 1 behind a whole run, without and with a reply that begins with `refused`, `fault` or `memory`;
+/// 0 where help or the version was asked for, 2 where the words were refused, and else 3.
+pub fn status_of(ended: &Result<Summary, Trouble>) -> u8
+    ensures { result ≡ status ended.now }
+{
+    match ended {
+        Ok(summary) if summary.is_clean() => 0,
+        Ok(_) => 1,
+        Err(Trouble::Words(error)) if error.use_stderr() => 2,
+        Err(Trouble::Words(_)) => 0,
+        Err(Trouble::Open | Trouble::Run(_)) => 3,
+    }
+}

@@ -1,0 +1,152 @@
+//! The command line.
+ghost use Rattle.std.specs.Prelude.{◌≡◌, ◌↔◌, IfOk, IsTrue, Some, codes, false, map, option_map};
+ghost use Rattle.std.specs.String.{string_bytes};
+ghost use Rattle.clap.specs.Words.{app_of, first_of, found_of, matches_of, rows_of, rule_of};
+ghost use Rattle.clap.specs.Kinds.{FailsBy};
+ghost use Rattle.clap.specs.Faults.{fault_of};
+ghost use Rattle.gwb.specs.Words.{command_line, file_value, program, stop_flag, Chosen, Fails};
+
+use clap::{Arg, ArgAction, ArgMatches, Command};
+use std::alloc::{AllocError, Global};
+use thiserror::Error;
+
+/// What the command line asks for.
+#[derive(Debug, PartialEq, Eq, Drop)]
+pub struct Choice {
+    /// Whether the run ends behind the first reply that begins with `refused`, `fault` or `memory`.
+    pub stop: bool,
+    /// The script's file; standard input where there is none.
+    pub file: Option<String>,
+}
+
+/// Why a command line gave no choice.
+#[derive(Debug, Error, Drop)]
+pub enum WordsFault {
+    /// The words were refused, or ask for help or the version, or memory was refused while they were read. The text is
+    /// clap's.
+    #[error("{0}")]
+    Line(clap::Error),
+    /// The memory for a copy of FILE was refused.
+    #[error("out of memory")]
+    Memory(AllocError),
+}
+
+const ABOUT: &str =
+    "The Geometric WorkBench: runs a script of Euler operators and writes one reply per command";
+
+const MORE: &str = "\
+Commands, one a line (S, F, L, E, V are numbers of a solid, face, loop, edge, vertex; # begins a comment):
+  mvfs S F L V x y z                new solid with one vertex
+  kvfs S                            such a solid goes
+  mev CORNER CORNER E V x y z       new edge to a new vertex
+  kev HALF                          an edge and its far vertex go
+  mef HALF HALF E F L               new edge cuts off a new face
+  kef HALF                          an edge and the face of its mate go
+  kemr HALF L                       an edge goes, its loop falls in two
+  mekr CORNER CORNER E              new edge joins a ring to a loop
+  kfmrh F1 F2                       face F2 becomes a ring of F1
+  mfkrh L F                         ring L becomes a new face F
+  ringmv L F in|out                 ring L goes to face F
+  lamina S x y z x y z x y z ..     new solid of two faces through 3 to 64 points
+  block S x y z dx dy dz            new solid, a block
+  sweep F dx dy dz                  face F is swept
+  glue F1 F2                        two solids become one along two faces
+  split S a b c d T                 the part of S above a plane becomes solid T
+  plane F, volume S, count S        a face's plane, a solid's volume times six, its counts
+  undo, redo, list                  back, forth, the model held
+HALF is + or - and an edge number; CORNER is a HALF or @ and a lone loop's number.
+
+Replies: ok, refused N X (condition N is false, with its value), fault N (no command), memory.
+
+Exit status:
+  0  the script was run, and no reply begins with refused, fault or memory
+  1  the script was run, and some reply does
+  2  the command line was refused
+  3  the script could not be opened, read or answered to its end
+
+Example:
+  printf 'mvfs 1 1 1 1 0 0 0\\nmev @1 @1 1 2 5 0 0\\nlist\\n' | gwb --stop";
+
+/// `--stop`.
+fn stop_flag<'a>(alloc: Global) -> Arg<'a>
+    ensures rule { rule_of result ≡ stop_flag }
+    ensures local { result.global ≡ false }
+{
+    Arg::new(alloc, "stop")
+        .long("stop")
+        .action(ArgAction::SetTrue)
+        .help("End behind the first reply that begins with refused, fault or memory")
+}
+
+/// `FILE`.
+fn file_value<'a>(alloc: Global) -> Arg<'a>
+    ensures rule { rule_of result ≡ file_value }
+    ensures local { result.global ≡ false }
+{
+    Arg::new(alloc, "FILE").help("The script; standard input where none is given")
+}
+
+/// The program, with its texts.
+fn program<'a>(alloc: Global) -> Command<'a>
+    ensures { app_of result ≡ program }
+{
+    Command::new(alloc, "gwb")
+        .version("0.1.0")
+        .about(ABOUT)
+        .after_help(MORE)
+        .override_usage("gwb [--stop] [FILE]")
+}
+
+/// The command line that the program takes.
+#[tactic(auto, unfolding(crate::specs::Words::command_line))]
+fn command<'a>(alloc: Global) -> Result<Command<'a>, AllocError>
+    ensures { IfOk result (λ c. app_of c ≡ command_line) }
+{
+    program(alloc).arg(stop_flag(alloc))?.arg(file_value(alloc))
+}
+
+/// What clap finds in the words.
+fn parse<'a>(alloc: Global, words: &'a [String]) -> Result<ArgMatches<'a>, clap::Error>
+    ensures matches { IfOk result (λ m. rows_of (found_of m) ≡ matches_of command_line (map string_bytes words.now)) }
+    ensures fault { FailsBy (fault_of command_line (map string_bytes words.now)) result }
+{
+    command(alloc)?.try_get_matches_from(words)
+}
+
+/// Whether `--stop` is set.
+#[tactic(auto, using(crate::proofs::CommandLine::stop_in_rows))]
+fn is_stop_set(matches: &ArgMatches<'_>) -> bool
+    ensures { IsTrue result ↔ (first_of (codes "stop") (rows_of (found_of matches.now)) ≡ Some (codes "true")) }
+{
+    match matches.get_str("stop") {
+        Some(value) => value == "true",
+        None => false,
+    }
+}
+
+/// A copy of FILE.
+#[tactic(auto, using(crate::proofs::CommandLine::file_in_rows))]
+fn named_file(alloc: Global, matches: &ArgMatches<'_>) -> Result<Option<String>, AllocError>
+    ensures { IfOk result (λ file. option_map string_bytes file ≡ first_of (codes "FILE") (rows_of (found_of matches.now))) }
+{
+    match matches.get_str("FILE") {
+        Some(name) => Ok(Some(String::from_str(alloc, name)?)),
+        None => Ok(None),
+    }
+}
+
+/// Reads the words of a command line, the program's name first: `gwb [--stop] [FILE]`.
+///
+/// `WordsFault::Line` holds clap's text: of a mistake in the words, or what `--help` or `--version` ask for. Where memory was
+/// refused it is `Line` with clap's kind `OutOfMemory`, or `Memory` where FILE could not be copied.
+pub fn read_words(alloc: Global, words: &[String]) -> Result<Choice, WordsFault>
+    ensures choice { IfOk result (Chosen (matches_of command_line (map string_bytes words.now))) }
+    ensures fault { Fails (fault_of command_line (map string_bytes words.now)) result }
+{
+    let matches = parse(alloc, words).map_err(WordsFault::Line)?;
+    let file = named_file(alloc, &matches).map_err(WordsFault::Memory)?;
+    Ok(Choice {
+        stop: is_stop_set(&matches),
+        file,
+    })
+}
