@@ -110,14 +110,15 @@ fn redo(session: &mut Session) -> Answer
 }
 
 /// Carries a command out. A command that the workbench doesn't know yet is answered as an unknown word.
-fn obey(session: &mut Session, command: Command) -> Answer
-    ensures { Obeys session.old command result session.new }
+fn obey(session: Session, command: Command) -> (Session, Answer)
+    ensures { Obeys session command result.1 result.0 }
 {
-    match command {
+    let mut session = session;
+    let answer = match command {
         Command::Nothing => Answer::Silent,
-        Command::Act(op) => act(session, op),
-        Command::Undo => undo(session),
-        Command::Redo => redo(session),
+        Command::Act(op) => act(&mut session, op),
+        Command::Undo => undo(&mut session),
+        Command::Redo => redo(&mut session),
         Command::List => Answer::Listing,
         Command::Lamina(_, _)
         | Command::Block(_, _, _, _, _)
@@ -127,15 +128,16 @@ fn obey(session: &mut Session, command: Command) -> Answer
         | Command::Plane(_)
         | Command::Volume(_)
         | Command::Count(_) => unknown(),
-    }
+    };
+    (session, answer)
 }
 
 /// Judges a line.
-pub(crate) fn judge(session: &mut Session, line: &[u8]) -> Answer
-    ensures { Judges session.old line.now result session.new }
+pub(crate) fn judge(session: Session, line: &[u8]) -> (Session, Answer)
+    ensures { Judges session line.now result.1 result.0 }
 {
     match read_line(line) {
         Ok(command) => obey(session, command),
-        Err(fault) => Answer::Reply(Reply::Fault(fault.code())),
+        Err(fault) => (session, Answer::Reply(Reply::Fault(fault.code()))),
     }
 }
