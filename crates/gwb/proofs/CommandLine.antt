@@ -25,5 +25,7 @@ stop_in_rows f = first_value-rows f (codes "stop")
 
 -- a text is found exactly where it equals the value that is found
 pub some_is : (found : Option Text) (value text : Text) (b : Bool) → found ≡ Some value → b ≡ bytes_eq value text → (IsTrue b ↔ (found ≡ Some text))
-some_is found value text b is same = (λ h. is ∙ ap (λ (t : Text). Some t) ((bytes_eq-Decides value text).0 (sym same ∙ h)),
-    λ e. same ∙ (bytes_eq-Decides value text).1 (ap (λ (o : Option Text). unwrap_or o []) (sym is ∙ e)))
+some_is found value text b is same = (
+  λ h. is ∙ ap (λ (t : Text). Some t) ((bytes_eq-Decides value text).0 (sym same ∙ h)),
+  λ e. same ∙ (bytes_eq-Decides value text).1 (ap (λ (o : Option Text). unwrap_or o []) (sym is ∙ e)),
+)

@@ -27,15 +27,11 @@ pub enum Trouble {
 impl From<WordsFault> for Trouble {
     fn from(fault: WordsFault) -> Trouble {
         match fault {
-            WordsFault::Line(error) if error.kind() != ErrorKind::OutOfMemory => Trouble::Words(error),
+            WordsFault::Line(error) if error.kind() != ErrorKind::OutOfMemory => Trouble::Words(
+                error,
+            ),
             WordsFault::Line(_) | WordsFault::Memory(_) => Trouble::Run(RunFault::Memory),
         }
-    }
-}
-
-impl From<RunFault> for Trouble {
-    fn from(fault: RunFault) -> Trouble {
-        Trouble::Run(fault)
     }
 }
 

@@ -15,30 +15,52 @@ mod words;
 pub use ending::{Trouble, status_of};
 pub use judging::Summary;
 pub use running::{RunFault, run};
-pub use words::{Choice, WordsFault, read_words};
-
+use std::alloc::AllocError;
 use std::env;
 use std::fs::File;
-use std::io::{self, BufWriter, Read};
+use std::io::{BufWriter, ErrorKind, Read};
 use std::process::ExitCode;
+use words::not_text;
+pub use words::{Choice, WordsFault, read_words};
 
 /// The words of the command line.
-fn given(rt: &HostRuntime) -> io::Result<Vec<String>> {
-    Ok(env::args(rt)?.collect(rt.alloc())?)
+fn given(rt: &HostRuntime) -> Result<Vec<String>, WordsFault> {
+    match env::args(rt) {
+        Ok(words) => words
+            .collect(rt.alloc())
+            .map_err(|_| WordsFault::Memory(AllocError)),
+        Err(error) if error.kind() == ErrorKind::InvalidData => Err(WordsFault::Line(not_text(
+            rt.alloc(),
+        ))),
+        Err(_) => Err(WordsFault::Memory(AllocError)),
+    }
+}
+
+/// What the command line asks for.
+fn choice(rt: &HostRuntime) -> Result<Choice, WordsFault> {
+    let words = given(rt)?;
+    read_words(rt.alloc(), words.as_slice())
+}
+
+/// Prints clap's text. Help that can't be written is a write fault.
+fn shown(rt: &HostRuntime, error: clap::Error) -> Trouble {
+    match error.print(rt) {
+        Err(_) if !error.use_stderr() => Trouble::Run(RunFault::Write),
+        _ => Trouble::Words(error),
+    }
 }
 
 /// Answers a script on standard output.
 fn answer<R: Read + Drop>(rt: &HostRuntime, script: R, stop: bool) -> Result<Summary, Trouble> {
-    let Ok(mut writer) = BufWriter::new(rt.alloc(), rt.stdout()) else {
-        return Err(Trouble::Run(RunFault::Memory));
-    };
-    Ok(run(rt.alloc(), script, &mut writer, stop)?)
+    let mut writer = BufWriter::new(rt.alloc(), rt.stdout()).map_err(|_| Trouble::Run(
+        RunFault::Memory,
+    ))?;
+    run(rt.alloc(), script, &mut writer, stop).map_err(Trouble::Run)
 }
 
 /// Reads the command line, opens the script and answers it.
 fn serve(rt: &HostRuntime) -> Result<Summary, Trouble> {
-    let words = given(rt).map_err(|_| RunFault::Memory)?;
-    let choice = read_words(rt.alloc(), words.as_slice())?;
+    let choice = choice(rt)?;
     match &choice.file {
         Some(name) => {
             let script = File::open(rt, name).map_err(|_| Trouble::Open)?;
@@ -49,17 +71,12 @@ fn serve(rt: &HostRuntime) -> Result<Summary, Trouble> {
 }
 
 fn main(rt: HostRuntime) -> ExitCode {
-    let ended = serve(&rt);
-    if let Err(trouble) = &ended {
-        tell(&rt, trouble);
+    let ended = match serve(&rt) {
+        Err(Trouble::Words(error)) => Err(shown(&rt, error)),
+        ended => ended,
+    };
+    if let Err(trouble @ (Trouble::Open | Trouble::Run(_))) = &ended {
+        let _ = eprintln!(rt; "gwb: {trouble}");
     }
     ExitCode::from(status_of(&ended))
-}
-
-/// Tells why the program ends.
-fn tell(rt: &HostRuntime, trouble: &Trouble) {
-    let _ = match trouble {
-        Trouble::Words(error) => error.print(rt),
-        Trouble::Open | Trouble::Run(_) => eprintln!(rt; "gwb: {trouble}"),
-    };
 }

@@ -1,11 +1,15 @@
-//! Worked scripts over memory, and readers and writers that fail.
-use super::{RunFault, Summary, run};
+//! Worked scripts over memory.
+mod examples;
+mod hostile;
+mod program;
+mod streams;
+
+use super::{Summary, run};
 use euler_conditions::{FaceList, Op, Why};
 use halfedge_arena::{Corner, HalfEdge};
 use lattice::Point;
 use solid_listing::write_listing;
 use std::alloc::Global;
-use std::io::{self, ErrorKind, Read};
 use std::process::Abort;
 use std::test::Fail;
 use undo_journal::{Failure, Session};
@@ -22,32 +26,15 @@ const WIRE: &[u8] = b"mvfs 1 1 1 1 0 0 0\nmev @1 @1 1 2 5 0 0\nlist\n";
 const WIRE_TOLD: &[u8] =
     b"ok\nok\nsolid 1\nface 1 1 1\nloop 1 +1 -1\nedge 1 1 2\nvertex 1 0 0 0\nvertex 2 5 0 0\n";
 
+const FAULTS: &[u8] = b"mevv\nkvfs x\nmvfs 1 1\nkvfs 1 2\n# note\n\n\xc3\n";
+
+const FAULTS_TOLD: &[u8] = b"fault 1\nfault 2\nfault 3\nfault 4\nfault 5\n";
+
 /// Whether a script is answered so.
 fn told(rt: &impl Abort, alloc: Global, script: &[u8], wanted: &[u8]) -> Result<(), Fail> {
     let (out, _) = answers(alloc, script, false)?;
     assert_eq!(rt; out.as_slice(), wanted);
     Ok(())
-}
-
-/// A reader of a few bytes at a time, which fails at one of its reads.
-#[derive(Drop)]
-struct Pieces<'a> {
-    bytes: &'a [u8],
-    most: usize,
-    left: u32,
-}
-
-impl Read for Pieces<'_> {
-    fn read(&mut self, buf: &mut [u8]) -> io::Result<usize> {
-        if self.left == 0 {
-            return Err(io::Error::from(ErrorKind::Other));
-        }
-        self.left -= 1;
-        let n = self.most.min(self.bytes.len()).min(buf.len());
-        buf[..n].copy_from_slice(&self.bytes[..n]);
-        self.bytes = &self.bytes[n..];
-        Ok(n)
-    }
 }
 
 #[test]
@@ -163,12 +150,7 @@ fn limits_and_faults(rt: HostRuntime) -> Result<(), Fail> {
         b"refused 11 1\n",
     )?;
     told(&rt, rt.alloc(), b"list", b"empty\n")?;
-    told(
-        &rt,
-        rt.alloc(),
-        b"mevv\nkvfs x\nmvfs 1 1\nkvfs 1 2\n# note\n\n\xc3\n",
-        b"fault 1\nfault 2\nfault 3\nfault 4\nfault 5\n",
-    )?;
+    told(&rt, rt.alloc(), FAULTS, FAULTS_TOLD)?;
     told(&rt, rt.alloc(), b"kvfs +5\r\nlist\r\n", b"fault 2\nempty\n")?;
     Ok(())
 }
@@ -179,43 +161,10 @@ fn stops_and_counts(rt: HostRuntime) -> Result<(), Fail> {
     assert_eq!(rt; out.as_slice(), b"refused 2 1\n".as_slice());
     assert_eq!(rt; summary.lines, 1);
     assert_eq!(rt; summary.refused, 1);
-    let (_, summary) = answers(
-        rt.alloc(),
-        b"mevv\nkvfs x\nmvfs 1 1\nkvfs 1 2\n# note\n\n\xc3\n",
-        false,
-    )?;
+    let (_, summary) = answers(rt.alloc(), FAULTS, false)?;
     assert_eq!(rt; summary.lines, 7);
     assert_eq!(rt; summary.faults, 5);
     assert_eq!(rt; summary.refused, 0);
-    Ok(())
-}
-
-#[test]
-fn reads_in_pieces(rt: HostRuntime) -> Result<(), Fail> {
-    for most in [1, 2, 3, 7] {
-        let mut out = Vec::new(rt.alloc());
-        let pieces = Pieces {
-            bytes: WIRE,
-            most,
-            left: 1000,
-        };
-        run(rt.alloc(), pieces, &mut out, false)?;
-        assert_eq!(rt; out.as_slice(), WIRE_TOLD);
-    }
-    Ok(())
-}
-
-#[test]
-fn a_read_fails(rt: HostRuntime) -> Result<(), Fail> {
-    let mut out = Vec::new(rt.alloc());
-    let pieces = Pieces {
-        bytes: b"list\nlis",
-        most: 8,
-        left: 1,
-    };
-    let ended = run(rt.alloc(), pieces, &mut out, false);
-    assert_eq!(rt; ended.err(), Some(RunFault::Read));
-    assert_eq!(rt; out.as_slice(), b"empty\n".as_slice());
     Ok(())
 }
 
@@ -282,22 +231,6 @@ fn merge_and_part(rt: HostRuntime) -> Result<(), Fail> {
         b"solid 1\nsolid 3\nface 1 1 1\nface 2 3 2\nloop 1 at 1\nloop 2 at 2\nvertex 1 0 0 0\nvertex 2 1 1 1\n";
     assert_eq!(rt; out.as_slice(), wanted.as_slice());
     Ok(())
-}
-
-/// A line of one byte more than a line may have.
-fn long_line(alloc: Global) -> Result<Vec<u8>, Fail> {
-    let mut line = Vec::new(alloc);
-    for _ in 0..65_537 {
-        line.push(b'#')?;
-    }
-    line.push(b'\n')?;
-    Ok(line)
-}
-
-#[test]
-fn a_line_too_long(rt: HostRuntime) -> Result<(), Fail> {
-    let line = long_line(rt.alloc())?;
-    told(&rt, rt.alloc(), line.as_slice(), b"fault 6\n")
 }
 
 #[test]

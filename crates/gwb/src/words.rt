@@ -1,11 +1,13 @@
 //! The command line.
-ghost use Rattle.std.specs.Prelude.{◌≡◌, ◌↔◌, IfOk, IsTrue, Some, codes, false, map, option_map};
+ghost use Rattle.std.specs.Prelude.{◌≡◌, ◌↔◌, ◌∷◌, [], IfOk, IsTrue, Some, codes, false, map, option_map};
 ghost use Rattle.std.specs.String.{string_bytes};
-ghost use Rattle.clap.specs.Words.{app_of, first_of, found_of, matches_of, rows_of, rule_of};
-ghost use Rattle.clap.specs.Kinds.{FailsBy};
+ghost use Rattle.clap.specs.Words.{app_of, first_of, found_of, kind_of, matches_of, rows_of, rule_of};
+ghost use Rattle.clap.specs.Kinds.{FailsBy, HasKind};
+ghost use Rattle.clap.specs.declared.error.kind.ErrorKind.TheVariants.{InvalidValue};
 ghost use Rattle.clap.specs.Faults.{fault_of};
 ghost use Rattle.gwb.specs.Words.{command_line, file_value, program, stop_flag, Chosen, Fails};
 
+use clap::error::ErrorKind;
 use clap::{Arg, ArgAction, ArgMatches, Command};
 use std::alloc::{AllocError, Global};
 use thiserror::Error;
@@ -111,6 +113,27 @@ fn parse<'a>(alloc: Global, words: &'a [String]) -> Result<ArgMatches<'a>, clap:
     ensures fault { FailsBy (fault_of command_line (map string_bytes words.now)) result }
 {
     command(alloc)?.try_get_matches_from(words)
+}
+
+/// clap's text on words that are no UTF-8.
+fn refusal_of_bytes(alloc: Global) -> Result<clap::Error, AllocError>
+    ensures { IfOk result (λ e. kind_of e ≡ InvalidValue) }
+{
+    let mut command = command(alloc)?;
+    command.error(
+        ErrorKind::InvalidValue,
+        "invalid UTF-8 was detected in one or more arguments",
+    )
+}
+
+/// The refusal of words that are no UTF-8.
+pub(crate) fn not_text(alloc: Global) -> clap::Error
+    ensures { HasKind (InvalidValue ∷ []) result }
+{
+    match refusal_of_bytes(alloc) {
+        Ok(refusal) => refusal,
+        Err(refused) => clap::Error::from(refused),
+    }
 }
 
 /// Whether `--stop` is set.

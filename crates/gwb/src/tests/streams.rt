@@ -1,0 +1,74 @@
+//! Readers and writers over memory that cut, fail or never end.
+use std::io::{self, ErrorKind, Read, Write};
+
+/// A reader of a few bytes at a time, which fails after so many reads.
+#[derive(Drop)]
+pub struct Pieces<'a> {
+    pub bytes: &'a [u8],
+    pub most: usize,
+    pub left: u32,
+}
+
+impl Read for Pieces<'_> {
+    fn read(&mut self, buf: &mut [u8]) -> io::Result<usize> {
+        if self.left == 0 {
+            return Err(io::Error::from(ErrorKind::Other));
+        }
+        self.left -= 1;
+        let n = self.most.min(self.bytes.len()).min(buf.len());
+        buf[..n].copy_from_slice(&self.bytes[..n]);
+        self.bytes = &self.bytes[n..];
+        Ok(n)
+    }
+}
+
+/// A reader of one byte over and over, so many times.
+#[derive(Drop)]
+pub struct Repeated {
+    pub byte: u8,
+    pub left: u64,
+}
+
+impl Read for Repeated {
+    fn read(&mut self, buf: &mut [u8]) -> io::Result<usize> {
+        let n = self.left.min(buf.len() as u64);
+        self.left -= n;
+        buf[..n as usize].fill(self.byte);
+        Ok(n as usize)
+    }
+}
+
+/// What a writer does once it takes no more.
+#[derive(Clone, Copy, Debug, PartialEq, Eq)]
+pub enum Halt {
+    Fails,
+    TakesNothing,
+}
+
+/// A writer of a few bytes at a time, which halts after so many writes.
+#[derive(Drop)]
+pub struct Taker {
+    pub taken: Vec<u8>,
+    pub most: usize,
+    pub left: u32,
+    pub halt: Halt,
+}
+
+impl Write for Taker {
+    fn write(&mut self, buf: &[u8]) -> io::Result<usize> {
+        if self.left == 0 {
+            return match self.halt {
+                Halt::Fails => Err(io::Error::from(ErrorKind::Other)),
+                Halt::TakesNothing => Ok(0),
+            };
+        }
+        self.left -= 1;
+        let n = self.most.min(buf.len());
+        self.taken.extend_from_slice(&buf[..n])?;
+        Ok(n)
+    }
+
+    fn flush(&mut self) -> io::Result<()> {
+        Ok(())
+    }
+}

@@ -1,0 +1,86 @@
+#!/usr/bin/env python3
+"""Refuses each growth of memory of the built program in turn.
+
+    tests/refused_growths.py [PROGRAM]        PROGRAM is crates/gwb/out/gwb where none is given
+
+Needs a C compiler, `cc`. Each script is run as often as the program asks for memory, each time with another growth refused. Where
+the memory that a run begins with is refused, nothing is written, the status is 3 and the text `gwb: out of memory`. Otherwise one
+command is answered `memory`: then the replies are those to the script without that command, so the refused command changed
+nothing; and where the script has that command a second time behind it, all else is answered as if nothing had been refused.
+"""
+import os
+import subprocess
+import sys
+import tempfile
+
+HERE = os.path.dirname(os.path.abspath(__file__))
+SCRIPTS = {
+    'wire': 'mvfs 1 1 1 1 0 0 0;mev @1 @1 1 2 5 0 0;list',
+    'wire cut': 'mvfs 1 1 1 1 0 0 0;mev @1 @1 1 2 5 0 0;kemr +1 2;list',
+    'wire cut and joined': 'mvfs 1 1 1 1 0 0 0;mev @1 @1 1 2 5 0 0;kemr +1 2;mekr @1 @2 1;list',
+    'rings moved': 'mvfs 1 1 1 1 0 0 0;mev @1 @1 1 2 5 0 0;kemr +1 2;ringmv 2 1 out;mfkrh 1 2;kfmrh 1 2;list',
+    'triangle': 'mvfs 1 1 1 1 0 0 0;mev @1 @1 1 2 3 0 0;mev -1 -1 2 3 0 3 0;mef -2 +1 3 2 2;mev +1 -3 4 4 1 1 0;list',
+    'undone and redone': 'mvfs 1 1 1 1 0 0 0;mev @1 @1 1 2 5 0 0;undo;undo;redo;redo;mev -1 -1 2 3 5 5 0;undo;redo;list',
+    'command before redo': 'mvfs 1 1 1 1 0 0 0;mev @1 @1 1 2 5 0 0;undo;mvfs 9 9 9 9 0 0 0;redo;list',
+    'redo behind a refusal': 'mvfs 1 1 1 1 0 0 0;mev @1 @1 1 2 5 0 0;undo;mvfs 9 9 9 9 0 0 0;undo;kvfs 1;undo;list',
+}
+
+
+def built(folder):
+    library = os.path.join(folder, 'refuse_growth.so')
+    subprocess.run(['cc', '-shared', '-fPIC', '-O1', '-o', library, os.path.join(HERE, 'refuse_growth.c'), '-ldl'], check=True)
+    return library
+
+
+class Program:
+    def __init__(self, path, folder):
+        self.path = path
+        self.library = built(folder)
+        self.count = os.path.join(folder, 'count')
+
+    def run(self, commands, refused=0):
+        """Replies (the listing is the last), status and text with a growth refused, and how many growths there were."""
+        env = dict(os.environ, LD_PRELOAD=self.library, REFUSE_AT=str(refused), GROWTHS_TO=self.count)
+        script = ''.join(c + '\n' for c in commands).encode()
+        done = subprocess.run([self.path], input=script, capture_output=True, env=env, timeout=60)
+        lines = done.stdout.decode().splitlines()
+        cut = len(commands) - 1
+        replies = lines[:cut] + [lines[cut:]]
+        with open(self.count) as file:
+            return replies, done.returncode, done.stderr.decode(), int(file.read())
+
+
+def check(program, name, commands):
+    """How many growths were refused before the run, and how many commands were answered `memory`."""
+    whole, ends, text, growths = program.run(commands)
+    assert ends in (0, 1) and text == '' and 'memory' not in whole, (name, ends, text)
+    begin = memory = harmless = 0
+    for n in range(1, growths + 1):
+        replies, status, text, _ = program.run(commands, n)
+        if status == 3:
+            assert replies == [[]] and text == 'gwb: out of memory\n', (name, n, replies, text)
+            begin += 1
+        elif 'memory' not in replies:
+            assert (replies, status, text) == (whole, ends, ''), (name, n, replies)
+            harmless += 1
+        else:
+            assert (status, text) == (1, '') and replies.count('memory') == 1, (name, n, replies)
+            k = replies.index('memory')
+            without = program.run(commands[:k] + commands[k + 1:])[0]
+            assert replies[:k] + replies[k + 1:] == without, (name, n, 'the refused command changed something')
+            twice = program.run(commands[:k + 1] + commands[k:], n)[0]
+            assert twice == whole[:k] + ['memory'] + whole[k:], (name, n, 'the command given again', twice)
+            memory += 1
+    print('%-22s %4d growths: %3d before the run, %3d told as memory, %d not needed' % (name, growths, begin, memory, harmless))
+
+
+def main():
+    path = os.path.abspath(sys.argv[1] if len(sys.argv) > 1 else os.path.join(HERE, '..', 'crates', 'gwb', 'out', 'gwb'))
+    with tempfile.TemporaryDirectory() as folder:
+        program = Program(path, folder)
+        for name, commands in SCRIPTS.items():
+            check(program, name, commands.split(';'))
+
+
+if __name__ == '__main__':
+    main()
