@@ -43,7 +43,7 @@ abbrev pub second_half : ℕ → HalfEdge
 second_half e = record { edge = e; first = false }
 
 -- the operator that makes the first point, the one that goes on from j edges to the next point, and the one that closes the
--- ring of n points
+-- ring after j edges
 abbrev pub first_point : Taken → ℕ → List Point → Op
 first_point c s ps = Mvfs s (c.face + 1) (c.loop + 1) (c.vertex + 1) (get_or ps 0 no_point)
 
@@ -52,4 +52,4 @@ next_point c ps zero = Mev (Lone (c.loop + 1)) (Lone (c.loop + 1)) (first_half (
 next_point c ps (suc j) = Mev (At (second_half (c.edge + suc j))) (At (second_half (c.edge + suc j))) (first_half (c.edge + suc (suc j))) (c.vertex + suc (suc (suc j))) (get_or ps (suc (suc j)) no_point)
 
 abbrev pub last_edge : Taken → ℕ → Op
-last_edge c n = Mef (second_half (c.edge + (n - 1))) (first_half (c.edge + 1)) (first_half (c.edge + n)) (c.face + 2) (c.loop + 2)
+last_edge c j = Mef (second_half (c.edge + j)) (first_half (c.edge + 1)) (first_half (c.edge + suc j)) (c.face + 2) (c.loop + 2)
