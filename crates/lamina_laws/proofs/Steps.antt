@@ -184,7 +184,7 @@ module _ (M : Model) (c : Taken) (s : ℕ) (ps : List Point) (n : ℕ) (goes : G
     point_fits = goes.points_fit 1 (omega (arith, goes.many));
   }
 
-  second_accepted : Sound (path_at M c s ps 0) → first_false (path_at M c s ps 0) (next_point c ps 0) ≡ None
+  pub second_accepted : Sound (path_at M c s ps 0) → first_false (path_at M c s ps 0) (next_point c ps 0) ≡ None
   second_accepted sound = lone_accepted (path_at M c s ps 0) (c.loop + 1) (first_half (c.edge + 1)) (c.vertex + 2) (c.vertex + 1) (get_or ps 1 no_point) sound second_goes
 
   second_put : table.put (path_at M c s ps 0).loops (c.loop + 1) (record { face = c.face + 1; content = path_content c 1 }) ≡ table.put M.loops (c.loop + 1) (record { face = c.face + 1; content = path_content c 1 })
@@ -204,7 +204,7 @@ module _ (M : Model) (c : Taken) (s : ℕ) (ps : List Point) (n : ℕ) (goes : G
         two : (v : ℕ) → v + 2 ≡ v + 1 + 1
         two v = omega arith
 
-  second_made : effect (path_at M c s ps 0) (next_point c ps 0) ≡ path_at M c s ps 1
+  pub second_made : effect (path_at M c s ps 0) (next_point c ps 0) ≡ path_at M c s ps 1
   unfolding effect mev_lone code path_at
   second_made = λ i. record {
     solids = table.put M.solids s tt;
@@ -247,7 +247,7 @@ module _ (M : Model) (c : Taken) (s : ℕ) (ps : List Point) (n : ℕ) (goes : G
       point_fits = goes.points_fit (suc (suc j)) l;
     }
 
-    further_accepted : suc (suc j) < n → Sound (path_at M c s ps (suc j)) → first_false (path_at M c s ps (suc j)) (next_point c ps (suc j)) ≡ None
+    pub further_accepted : suc (suc j) < n → Sound (path_at M c s ps (suc j)) → first_false (path_at M c s ps (suc j)) (next_point c ps (suc j)) ≡ None
     unfolding code
     further_accepted l sound = mev_accepted (path_at M c s ps (suc j)) (second_half (c.edge + suc j)) (second_half (c.edge + suc j)) (first_half (c.edge + suc (suc j)))
         (c.vertex + suc (suc (suc j))) (get_or ps (suc (suc j)) no_point) sound (further_goes l)
@@ -270,7 +270,7 @@ module _ (M : Model) (c : Taken) (s : ℕ) (ps : List Point) (n : ℕ) (goes : G
           next : (v j : ℕ) → v + suc (suc (suc j)) ≡ v + suc (suc j) + 1
           next v j = omega arith
 
-    further_made : effect (path_at M c s ps (suc j)) (next_point c ps (suc j)) ≡ path_at M c s ps (suc (suc j))
+    pub further_made : effect (path_at M c s ps (suc j)) (next_point c ps (suc j)) ≡ path_at M c s ps (suc (suc j))
     unfolding effect mev_at code path_at
     further_made = λ i. record {
       solids = table.put M.solids s tt;
@@ -323,7 +323,7 @@ module _ (M : Model) (c : Taken) (s : ℕ) (ps : List Point) (n : ℕ) (goes : G
       loop_fits = loop_fits 2 (omega arith) (omega arith);
     }
 
-    last_accepted : n ≡ suc (suc j) → first_false (path_at M c s ps (suc j)) (last_edge c (suc j)) ≡ None
+    pub last_accepted : n ≡ suc (suc j) → first_false (path_at M c s ps (suc j)) (last_edge c (suc j)) ≡ None
     unfolding code
     last_accepted all = mef_accepted (path_at M c s ps (suc j)) (second_half (c.edge + suc j)) (first_half (c.edge + 1)) (first_half (c.edge + suc (suc j))) (c.face + 2) (c.loop + 2) sound (last_goes all)
 
@@ -377,6 +377,6 @@ module _ (M : Model) (c : Taken) (s : ℕ) (ps : List Point) (n : ℕ) (goes : G
       vertices = with_points M.vertices c.vertex ps (suc (suc j))
     }
 
-    last_made : length ps ≡ suc (suc j) → effect (path_at M c s ps (suc j)) (last_edge c (suc j)) ≡ lamina_at M c s ps
+    pub last_made : length ps ≡ suc (suc j) → effect (path_at M c s ps (suc j)) (last_edge c (suc j)) ≡ lamina_at M c s ps
     unfolding effect code
     last_made all = closes ∙ ap closed_at (sym all)
