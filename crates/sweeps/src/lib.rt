@@ -2,4 +2,6 @@
 #![tactic(auto)]
 
 mod fresh;
-mod lamina;
+mod laminas;
+
+pub use laminas::lamina;
