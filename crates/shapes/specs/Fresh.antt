@@ -1,0 +1,49 @@
+-- The numbers that a larger command takes, and its refusals by search.
+use Rattle.std.specs.Prelude.{◌≡◌, ℕ, ◌+◌, zero, suc, Bool, cond, nat_eq, nat_le, List, [], ◌∷◌}
+use Rattle.boundary_model.specs.Table as table
+use Rattle.boundary_model.specs.Model.{Model}
+use Rattle.euler_operators.specs.Conditions.{Condition, need}
+use Rattle.euler_operators.specs.declared.Why.{Why}
+use Rattle.euler_operators.specs.declared.Why.TheVariants.{NumbersSpent}
+
+-- the first number that passes a test, or 0
+abbrev pub first_such : (ℕ → Bool) → List ℕ → ℕ
+first_such p [] = 0
+first_such p (n ∷ ns) = cond (p n) n (first_such p ns)
+
+-- there is no such number: 0 stands for none
+abbrev pub no_such : ℕ → Why → Condition
+no_such n why = need (nat_eq n 0) why n
+
+-- the greatest numbers taken so far
+pub record Taken : Type 0 where
+  pub face : ℕ
+  pub loop : ℕ
+  pub edge : ℕ
+  pub vertex : ℕ
+
+-- as a command begins these are the greatest in use
+unfoldable pub taken_in : Model → Taken
+taken_in M = record { face = table.greatest M.faces; loop = table.greatest M.loops; edge = table.greatest M.edges; vertex = table.greatest M.vertices }
+
+-- so many more faces, loops, edges and vertices stay within the limit
+abbrev pub numbers_left : Taken → ℕ → ℕ → ℕ → ℕ → List Condition
+numbers_left c f l e v =
+    need (nat_le (c.face + f) 1000000) NumbersSpent 2
+    ∷ need (nat_le (c.loop + l) 1000000) NumbersSpent 3
+    ∷ need (nat_le (c.edge + e) 1000000) NumbersSpent 4
+    ∷ need (nat_le (c.vertex + v) 1000000) NumbersSpent 5
+    ∷ []
+
+-- a model in the making, and the numbers taken so far
+pub record Growing : Type 0 where
+  pub model : Model
+  pub taken : Taken
+
+abbrev pub growing : Model → Growing
+growing M = record { model = M; taken = taken_in M }
+
+-- n numbers from k + 1 on
+abbrev pub numbers_after : ℕ → ℕ → List ℕ
+numbers_after k zero = []
+numbers_after k (suc n) = (k + 1) ∷ numbers_after (k + 1) n

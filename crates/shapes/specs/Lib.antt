@@ -1,0 +1,5 @@
+pub mod Faces
+pub mod Fresh
+pub mod Lamina
+pub mod Prism
+pub mod Block
