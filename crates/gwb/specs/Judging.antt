@@ -3,6 +3,8 @@ use Rattle.std.specs.Prelude.{◌≡◌, ◌⊎◌, ℕ, ◌+◌, Bool, true, fa
 use Rattle.euler_operators.specs.declared.Refusal.{Refusal}
 use Rattle.euler_operators.specs.Refusal as refusal
 use Rattle.undo_journal.specs.Machine.{Machine, held, act, act_refusal, undo, undo_refusal, redo, redo_refusal}
+use Rattle.undo_journal.specs.declared.session.Failure.{Failure}
+use Rattle.undo_journal.specs.declared.session.Failure.TheVariants as failure
 use Rattle.script_reader.specs.declared.command.Command.{Command}
 use Rattle.script_reader.specs.declared.command.Command.TheVariants as command
 use Rattle.script_reader.specs.declared.command.Fault.{Fault}
@@ -21,6 +23,12 @@ done = Told reply.Done
 
 abbrev pub refused : Refusal → Answer
 refused r = Told (reply.Refused (refusal.code_of r.why) r.number)
+
+-- how a command ended
+abbrev pub told : Result (Unit {0}) Failure → Answer
+told (Ok _) = done
+told (Err (failure.Refused r)) = refused r
+told (Err (failure.Memory e)) = Told reply.Memory
 
 -- undo and redo go on to a state, or are refused
 abbrev pub Moves : Option Refusal → Machine → Machine → Answer → Machine → Type 0

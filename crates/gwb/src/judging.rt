@@ -1,12 +1,13 @@
 //! What a line is answered.
 ghost use Rattle.std.specs.Prelude.{◌≡◌, ◌<◌, ◌≤◌, ◌↔◌, IsTrue};
 ghost use Rattle.euler_conditions.specs.Ready.{IsReady};
-ghost use Rattle.gwb.specs.Judging.{refused, Moves, Acts, Obeys, Judges, answer_text, complains, one_line, counted};
+ghost use Rattle.gwb.specs.Judging.{refused, told, Moves, Acts, Obeys, Judges, answer_text, complains, one_line, counted};
 ghost use Rattle.undo_journal.specs.Machine as machine;
 
 use euler_conditions::{Op, Refusal};
 use script_reader::{Command, Fault, read_line};
 use solid_listing::{Reply, WriteFault};
+use std::alloc::Global;
 use undo_journal::{Failure, Session};
 
 /// What a line is answered.
@@ -81,14 +82,22 @@ fn told_refusal(refusal: Refusal) -> Answer
     Answer::Reply(Reply::Refused(refusal.why.code(), refusal.number))
 }
 
-fn act(session: &mut Session, op: Op) -> Answer
-    ensures { Acts (machine.act_refusal session.old op) session.old (machine.act session.old op) result session.new }
+/// How a command ended.
+fn told(ended: Result<(), Failure>) -> Answer
+    ensures { result ≡ told ended }
 {
-    match session.act(op) {
+    match ended {
         Ok(()) => Answer::Reply(Reply::Done),
         Err(Failure::Refused(refusal)) => told_refusal(refusal),
         Err(Failure::Memory(_)) => Answer::Reply(Reply::Memory),
     }
+}
+
+#[tactic(auto, using(crate::proofs::Acted::acts))]
+fn act(session: &mut Session, op: Op) -> Answer
+    ensures { Acts (machine.act_refusal session.old op) session.old (machine.act session.old op) result session.new }
+{
+    told(session.act(op))
 }
 
 fn undo(session: &mut Session) -> Answer
@@ -110,7 +119,7 @@ fn redo(session: &mut Session) -> Answer
 }
 
 /// Carries a command out. A command that the workbench doesn't know yet is answered as an unknown word.
-fn obey(session: Session, command: Command) -> (Session, Answer)
+fn obey(alloc: Global, session: Session, command: Command) -> (Session, Answer)
     ensures { Obeys session command result.1 result.0 }
 {
     let mut session = session;
@@ -133,11 +142,11 @@ fn obey(session: Session, command: Command) -> (Session, Answer)
 }
 
 /// Judges a line.
-pub(crate) fn judge(session: Session, line: &[u8]) -> (Session, Answer)
+pub(crate) fn judge(alloc: Global, session: Session, line: &[u8]) -> (Session, Answer)
     ensures { Judges session line.now result.1 result.0 }
 {
     match read_line(line) {
-        Ok(command) => obey(session, command),
+        Ok(command) => obey(alloc, session, command),
         Err(fault) => (session, Answer::Reply(Reply::Fault(fault.code()))),
     }
 }

@@ -41,12 +41,12 @@ enum Heard {
 }
 
 /// The answer to the next line.
-fn hear<R: Read>(lines: &mut Lines<R>, session: Session) -> (Session, Heard)
+fn hear<R: Read>(alloc: Global, lines: &mut Lines<R>, session: Session) -> (Session, Heard)
     ensures { Hears R.remaining lines.old lines.new session result.0 result.1 }
 {
     match lines.next_line() {
         NextLine::Line(line) => {
-            let (session, answer) = judge(session, line);
+            let (session, answer) = judge(alloc, session, line);
             (session, Heard::Line(answer))
         }
         NextLine::Long => {
@@ -124,7 +124,7 @@ pub fn run<R: Read + Drop, W: Write>(
     let mut summary = Summary::default();
     'script: loop {
         flush(&lines, writer)?;
-        let (next, heard) = hear(&mut lines, session);
+        let (next, heard) = hear(alloc, &mut lines, session);
         session = next;
         let answer = match heard {
             Heard::Line(answer) => answer,
