@@ -1,7 +1,8 @@
 //! The lamina: a flat ring of corners with a face on either side.
-ghost use Rattle.std.specs.Prelude.{◌≡◌, ◌≢◌, ◌≤◌, ◌↔◌, length, [], None, Some, Err, OnOk, OnErr};
+ghost use Rattle.std.specs.Prelude.{◌≡◌, ◌≤◌, ◌<◌, ◌↔◌, length, get_or, [], None, Some, Err, OnOk, OnErr};
 ghost use Rattle.std.specs.List.{list_any};
 ghost use Rattle.lattice.specs.Vectors.{same_point};
+ghost use Rattle.boundary_model.specs.Model.{no_point};
 ghost use Rattle.euler_operators.specs.Conditions.{verdict};
 ghost use Rattle.euler_conditions.specs.Ready.{IsReady};
 ghost use Rattle.euler_operators.specs.declared.Refusal.{Refusal};
@@ -11,11 +12,12 @@ ghost use Rattle.shapes.specs.Lamina.{lamina_refusal, lamina_model};
 ghost use Rattle.shapes.specs.Lamina as spec;
 
 use crate::fresh::{check_left, counters_of, refused};
+use crate::steps::take;
 use arrayvec::ArrayVec;
 use euler_conditions::{Op, Refusal, Why};
 use halfedge_arena::{Arena, Corner, HalfEdge, Kind};
 use lattice::{Point, point_in_range};
-use std::alloc::Global;
+use std::alloc::{AllocError, Global};
 use undo_journal::{Draft, Failure, Session};
 
 /// The place, from 1, of the first point out of range, or 0.
@@ -106,42 +108,59 @@ fn second_half(edge: u32) -> HalfEdge
     HalfEdge { edge, first: false }
 }
 
-/// Draws a lamina whose conditions hold: its operators, one after the other, of which none is refused. Where memory is refused
-/// the draft holds what was drawn so far.
+/// Point i of some points.
+fn point_at(points: &[Point], i: usize) -> Point
+    requires { i < length points.now }
+    ensures { result ≡ get_or points.now i no_point }
+{
+    points[i]
+}
+
+/// Draws a lamina whose conditions hold: its operators, one after the other. Where memory is refused the draft holds what was
+/// drawn so far.
 pub(crate) fn draw_lamina(
     draft: &mut Draft,
     solid: u32,
     points: &ArrayVec<Point, 64>,
-) -> Result<(), Failure>
+) -> Result<(), AllocError>
     requires { lamina_refusal draft.old.model solid points.now.items ≡ None }
     ensures ok { OnOk result (draft.new.model ≡ lamina_model draft.old.model solid points.now.items) }
-    ensures never_refused { (refusal : Refusal) → result ≢ Err (Failure.Refused refusal) }
     ensures session { draft.new.session ≡ draft.old.session }
 {
     let taken = counters_of(draft.arena());
-    let points = points.as_slice();
-    draft.step(Op::Mvfs(
-        solid,
-        taken.faces + 1,
-        taken.loops + 1,
-        taken.vertices + 1,
-        points[0],
-    ))?;
+    let corners = points.as_slice();
+    let first = point_at(corners, 0);
+    take(
+        draft,
+        Op::Mvfs(
+            solid,
+            taken.faces + 1,
+            taken.loops + 1,
+            taken.vertices + 1,
+            first,
+        ),
+    )?;
     let mut end = Corner::Lone(taken.loops + 1);
-    for i in 1..points.len() {
+    'further: for i in 1..corners.len() {
         let edge = taken.edges + i as u32;
         let vertex = taken.vertices + 1 + i as u32;
-        draft.step(Op::Mev(end, end, first_half(edge), vertex, points[i]))?;
+        let next = point_at(corners, i);
+        take(draft, Op::Mev(end, end, first_half(edge), vertex, next))?;
         end = Corner::At(second_half(edge));
     }
-    let count = points.len() as u32;
-    draft.step(Op::Mef(
-        second_half(taken.edges + count - 1),
-        first_half(taken.edges + 1),
-        first_half(taken.edges + count),
-        taken.faces + 2,
-        taken.loops + 2,
-    ))
+    let last = taken.edges + corners.len() as u32;
+    let turn = second_half(last - 1);
+    let start = first_half(taken.edges + 1);
+    take(
+        draft,
+        Op::Mef(
+            turn,
+            start,
+            first_half(last),
+            taken.faces + 2,
+            taken.loops + 2,
+        ),
+    )
 }
 
 /// A lamina as one command: the new solid with a ring of new edges through the points, at least 3 and all different, and a face
@@ -169,6 +188,6 @@ pub fn lamina(
     };
     match draw_lamina(&mut draft, solid, points) {
         Ok(()) => (draft.commit(), Ok(())),
-        Err(failure) => (draft.abandon(), Err(failure)),
+        Err(error) => (draft.abandon(), Err(Failure::Memory(error))),
     }
 }

@@ -3,5 +3,6 @@
 
 mod fresh;
 mod laminas;
+mod steps;
 
 pub use laminas::lamina;
