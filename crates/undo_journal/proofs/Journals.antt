@@ -7,19 +7,19 @@ use Rattle.euler_laws.specs.Laws.{effects, AreAccepted}
 use Rattle.undo_journal.specs.declared.record.Record.{Record}
 use Rattle.undo_journal.specs.Machine.{held, accepted}
 use Rattle.undo_journal.specs.Recorded.{model_at}
-use Rattle.undo_journal.specs.Held.{gone_back, behind, ahead, models_of, machine_of, Leads, AllLead, gone_forth, IsJournal}
+use Rattle.undo_journal.specs.Held.{gone_back, models_behind, models_ahead, models_of, machine_of, Leads, AllLead, gone_forth, IsJournal}
 
 -- going back over records that lead on from A comes to A
 back_is : (A : Model) (rs : List Record) → AllLead A rs → gone_back (gone_forth A rs) rs ≡ A
 back_is A [] lead = refl
 back_is A (r ∷ rs) lead = ap (λ (X : Model). effects X r.back) (back_is (effects A r.forward) rs lead.1) ∙ lead.0.back
 
-split_is : (A : Model) (rs more : List Record) → AllLead A rs → behind (gone_forth A rs) rs ++ gone_forth A rs ∷ ahead (gone_forth A rs) more ≡ A ∷ ahead A (rs ++ more)
+split_is : (A : Model) (rs more : List Record) → AllLead A rs → models_behind (gone_forth A rs) rs ++ gone_forth A rs ∷ models_ahead (gone_forth A rs) more ≡ A ∷ models_ahead A (rs ++ more)
 split_is A [] more lead = refl
 split_is A (r ∷ rs) more lead =
     let N : Model = effects A r.forward in
     let K : Model = gone_forth N rs in
-    ap (λ (X : Model). X ∷ (behind K rs ++ K ∷ ahead K more)) (back_is A (r ∷ rs) lead)
+    ap (λ (X : Model). X ∷ (models_behind K rs ++ K ∷ models_ahead K more)) (back_is A (r ∷ rs) lead)
     ∙ ap (λ (Xs : List Model). A ∷ Xs) (split_is N rs more lead.1)
 
 lead-append : (A : Model) (rs more : List Record) → AllLead A rs → AllLead (gone_forth A rs) more → AllLead A (rs ++ more)
@@ -35,21 +35,21 @@ forth-append : (A : Model) (rs more : List Record) → gone_forth A (rs ++ more)
 forth-append A [] more = refl
 forth-append A (r ∷ rs) more = forth-append (effects A r.forward) rs more
 
-ahead-append : (A : Model) (rs more : List Record) → ahead A (rs ++ more) ≡ ahead A rs ++ ahead (gone_forth A rs) more
+ahead-append : (A : Model) (rs more : List Record) → models_ahead A (rs ++ more) ≡ models_ahead A rs ++ models_ahead (gone_forth A rs) more
 ahead-append A [] more = refl
 ahead-append A (r ∷ rs) more = ap (λ (Xs : List Model). effects A r.forward ∷ Xs) (ahead-append (effects A r.forward) rs more)
 
-ahead-take : (A : Model) (n : ℕ) (rs : List Record) → ahead A (take n rs) ≡ take n (ahead A rs)
+ahead-take : (A : Model) (n : ℕ) (rs : List Record) → models_ahead A (take n rs) ≡ take n (models_ahead A rs)
 ahead-take A zero rs = refl
 ahead-take A (suc n) [] = refl
 ahead-take A (suc n) (r ∷ rs) = ap (λ (Xs : List Model). effects A r.forward ∷ Xs) (ahead-take (effects A r.forward) n rs)
 
-ahead-length : (A : Model) (rs : List Record) → length (ahead A rs) ≡ length rs
+ahead-length : (A : Model) (rs : List Record) → length (models_ahead A rs) ≡ length rs
 ahead-length A [] = refl
 ahead-length A (r ∷ rs) = ap suc (ahead-length (effects A r.forward) rs)
 
 -- the model at a place is the one to which the records before it lead
-at_is : (A d : Model) (rs : List Record) (i : ℕ) → i ≤ length rs → get_or (A ∷ ahead A rs) i d ≡ gone_forth A (take i rs)
+at_is : (A d : Model) (rs : List Record) (i : ℕ) → i ≤ length rs → get_or (A ∷ models_ahead A rs) i d ≡ gone_forth A (take i rs)
 at_is A d rs zero h = refl
 at_is A d [] (suc i) h = absurd (omega arith)
 at_is A d (r ∷ rs) (suc i) h = at_is (effects A r.forward) d rs i (omega arith)
@@ -66,12 +66,12 @@ lead_next records i r h e lead =
     subst (λ (n : ℕ). Leads (gone_forth empty_model (take i records)) r (gone_forth empty_model (take n records))) next (lead_at empty_model records i r h e lead)
 
 -- the models that a session stands for
-pub models_are : (M : Model) (records : List Record) (place : ℕ) → IsJournal M records place → models_of M records place ≡ empty_model ∷ ahead empty_model records
+pub models_are : (M : Model) (records : List Record) (place : ℕ) → IsJournal M records place → models_of M records place ≡ empty_model ∷ models_ahead empty_model records
 unfolding models_of
 models_are M records place kept =
-    ap (λ (X : Model). behind X (take place records) ++ X ∷ ahead X (drop place records)) kept.held
+    ap (λ (X : Model). models_behind X (take place records) ++ X ∷ models_ahead X (drop place records)) kept.held
     ∙ split_is empty_model (take place records) (drop place records) (lead-take empty_model place records kept.lead)
-    ∙ ap (λ (rs : List Record). empty_model ∷ ahead empty_model rs) (take-append-drop place records)
+    ∙ ap (λ (rs : List Record). empty_model ∷ models_ahead empty_model rs) (take-append-drop place records)
 
 module _ (M : Model) (records : List Record) (place : ℕ) (kept : IsJournal M records place) where
   one_more : place + 1 ≡ suc place
@@ -123,8 +123,8 @@ module _ (M : Model) (records : List Record) (place : ℕ) (kept : IsJournal M r
   }
 
   -- the models up to the one held
-  fronts : take (place + 1) (empty_model ∷ ahead empty_model records) ≡ empty_model ∷ ahead empty_model (take place records)
-  fronts = ap (λ (n : ℕ). take n (empty_model ∷ ahead empty_model records)) one_more
+  fronts : take (place + 1) (empty_model ∷ models_ahead empty_model records) ≡ empty_model ∷ models_ahead empty_model (take place records)
+  fronts = ap (λ (n : ℕ). take n (empty_model ∷ models_ahead empty_model records)) one_more
       ∙ ap (λ (Xs : List Model). empty_model ∷ Xs) (sym (ahead-take empty_model place records))
 
   last : (r : Record) (N : Model) → Leads M r N → effects (gone_forth empty_model (take place records)) r.forward ≡ N
@@ -134,7 +134,7 @@ module _ (M : Model) (records : List Record) (place : ℕ) (kept : IsJournal M r
   models_more r N leads =
       models_are N (take place records ++ r ∷ []) (place + 1) (journal_more r N leads)
       ∙ ap (λ (Xs : List Model). empty_model ∷ Xs) (ahead-append empty_model (take place records) (r ∷ []))
-      ∙ ap (λ (X : Model). empty_model ∷ (ahead empty_model (take place records) ++ X ∷ [])) (last r N leads)
+      ∙ ap (λ (X : Model). empty_model ∷ (models_ahead empty_model (take place records) ++ X ∷ [])) (last r N leads)
       ∙ ap (λ (Xs : List Model). Xs ++ N ∷ []) (sym fronts)
       ∙ ap (λ (Xs : List Model). take (place + 1) Xs ++ N ∷ []) (sym (models_are M records place kept))
 

@@ -16,18 +16,18 @@ gone_back M [] = M
 gone_back M (r ∷ rs) = effects (gone_back M rs) r.back
 
 -- the models behind M, one before each record
-abbrev pub behind : Model → List Record → List Model
-behind M [] = []
-behind M (r ∷ rs) = gone_back M (r ∷ rs) ∷ behind M rs
+abbrev pub models_behind : Model → List Record → List Model
+models_behind M [] = []
+models_behind M (r ∷ rs) = gone_back M (r ∷ rs) ∷ models_behind M rs
 
 -- the models ahead of M, one after each record
-abbrev pub ahead : Model → List Record → List Model
-ahead M [] = []
-ahead M (r ∷ rs) = effects M r.forward ∷ ahead (effects M r.forward) rs
+abbrev pub models_ahead : Model → List Record → List Model
+models_ahead M [] = []
+models_ahead M (r ∷ rs) = effects M r.forward ∷ models_ahead (effects M r.forward) rs
 
 -- the models that the model held, the records and the place among them stand for
 unfoldable pub models_of : Model → List Record → ℕ → List Model
-models_of M records place = behind M (take place records) ++ M ∷ ahead M (drop place records)
+models_of M records place = models_behind M (take place records) ++ M ∷ models_ahead M (drop place records)
 
 abbrev pub machine_of : Model → List Record → ℕ → Machine
 machine_of M records place = record { models = models_of M records place; place = place }

@@ -97,8 +97,8 @@ impl Session {
         ensures ok { OnOk result (self.new ≡ machine.act self.old op) }
         ensures err { OnErr result (self.new ≡ self.old) }
     {
-        let mut forward = Vec::new(self.alloc);
-        let mut back = Vec::new(self.alloc);
+        let mut forward = Vec::with_capacity(self.alloc, 1)?;
+        let mut back = Vec::with_capacity(self.alloc, 1)?;
         self.records.reserve(1)?;
         step(self.alloc, &mut self.arena, &mut forward, &mut back, op)?;
         self.records.truncate(self.place);

@@ -17,10 +17,10 @@ invariant_of-self-in_err-step c =
     (kept_grown _ _ _ _ c.in_err-step.ensures.err c.self.invariant)
 
 abbrev forward : (c : goal.After-self-1) → c.new.result ≡ c.args.op ∷ []
-forward c = c.new.ensures ∙ c.in_ok-step.ensures.forward ∙ ap (λ (ops : List Op). ops ++ c.args.op ∷ []) c.new-forward.ensures.items
+forward c = c.new.ensures ∙ c.in_ok-step.ensures.forward ∙ ap (λ (ops : List Op). ops ++ c.args.op ∷ []) c.in_ok-forward.ensures.items
 
 abbrev back : (c : goal.After-self-1) → c.new-2.result ≡ inverse c.self.inside.arena.model c.args.op ∷ []
-back c = c.new-2.ensures ∙ c.in_ok-step.ensures.back ∙ ap (λ (ops : List Op). ops ++ inverse c.self.inside.arena.model c.args.op ∷ []) c.new-back.ensures.items
+back c = c.new-2.ensures ∙ c.in_ok-step.ensures.back ∙ ap (λ (ops : List Op). ops ++ inverse c.self.inside.arena.model c.args.op ∷ []) c.in_ok-back.ensures.items
 
 abbrev front : (c : goal.After-self-1) → c.truncate.new.self.items ≡ take c.self.inside.place c.self.inside.records.items
 front c = c.truncate.ensures.items ∙ ap (take c.self.inside.place) c.reserve.ensures.items
