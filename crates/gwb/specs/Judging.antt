@@ -2,7 +2,8 @@
 use Rattle.std.specs.Prelude.{◌≡◌, ◌⊎◌, ℕ, ◌+◌, Bool, true, false, List, [], Option, Some, None, Result, Ok, Err}
 use Rattle.euler_operators.specs.declared.Refusal.{Refusal}
 use Rattle.euler_operators.specs.Refusal as refusal
-use Rattle.undo_journal.specs.Machine.{Machine, held, act, act_refusal, undo, undo_refusal, redo, redo_refusal}
+use Rattle.shapes.specs.Lamina.{lamina_refusal, lamina_model}
+use Rattle.undo_journal.specs.Machine.{Machine, held, accepted, act, act_refusal, undo, undo_refusal, redo, redo_refusal}
 use Rattle.undo_journal.specs.declared.session.Failure.{Failure}
 use Rattle.undo_journal.specs.declared.session.Failure.TheVariants as failure
 use Rattle.script_reader.specs.declared.command.Command.{Command}
@@ -48,7 +49,7 @@ Unknown s a t = (a ≡ Told (reply.Fault 1)) × (t ≡ s)
 abbrev pub Obeys : Machine → Command → Answer → Machine → Type 0
 Obeys s command.Nothing a t = (a ≡ Silent) × (t ≡ s)
 Obeys s (command.Act op) a t = Acts (act_refusal s op) s (act s op) a t
-Obeys s (command.Lamina n ps) a t = Unknown s a t
+Obeys s (command.Lamina n ps) a t = Acts (lamina_refusal (held s) n ps) s (accepted s (lamina_model (held s) n ps)) a t
 Obeys s (command.Block n p dx dy dz) a t = Unknown s a t
 Obeys s (command.Sweep f d) a t = Unknown s a t
 Obeys s (command.Glue f g) a t = Unknown s a t

@@ -2,12 +2,15 @@
 ghost use Rattle.std.specs.Prelude.{◌≡◌, ◌<◌, ◌≤◌, ◌↔◌, IsTrue};
 ghost use Rattle.euler_conditions.specs.Ready.{IsReady};
 ghost use Rattle.gwb.specs.Judging.{refused, told, Moves, Acts, Obeys, Judges, answer_text, complains, one_line, counted};
+ghost use Rattle.shapes.specs.Lamina.{lamina_refusal, lamina_model};
+ghost use Rattle.undo_journal.specs.Machine.{held, accepted};
 ghost use Rattle.undo_journal.specs.Machine as machine;
 
 use euler_conditions::{Op, Refusal};
-use script_reader::{Command, Fault, read_line};
+use script_reader::{Command, Corners, Fault, read_line};
 use solid_listing::{Reply, WriteFault};
 use std::alloc::Global;
+use sweeps::lamina;
 use undo_journal::{Failure, Session};
 
 /// What a line is answered.
@@ -93,28 +96,46 @@ fn told(ended: Result<(), Failure>) -> Answer
     }
 }
 
+/// One operator.
 #[tactic(auto, using(crate::proofs::Acted::acts))]
-fn act(session: &mut Session, op: Op) -> Answer
-    ensures { Acts (machine.act_refusal session.old op) session.old (machine.act session.old op) result session.new }
+fn act(session: Session, op: Op) -> (Session, Answer)
+    ensures { Acts (machine.act_refusal session op) session (machine.act session op) result.1 result.0 }
 {
-    told(session.act(op))
+    let mut session = session;
+    let ended = session.act(op);
+    (session, told(ended))
 }
 
-fn undo(session: &mut Session) -> Answer
-    ensures { Moves (machine.undo_refusal session.old) session.old (machine.undo session.old) result session.new }
+/// A lamina through some corners.
+fn draw_lamina(
+    alloc: Global,
+    session: Session,
+    solid: u32,
+    corners: &Corners,
+) -> (Session, Answer)
+    ensures { Acts (lamina_refusal (held session) solid corners.now) session (accepted session (lamina_model (held session) solid corners.now)) result.1 result.0 }
 {
+    let (session, ended) = lamina(alloc, session, solid, corners.points());
+    (session, told(ended))
+}
+
+fn undo(session: Session) -> (Session, Answer)
+    ensures { Moves (machine.undo_refusal session) session (machine.undo session) result.1 result.0 }
+{
+    let mut session = session;
     match session.undo() {
-        Ok(()) => Answer::Reply(Reply::Done),
-        Err(refusal) => told_refusal(refusal),
+        Ok(()) => (session, Answer::Reply(Reply::Done)),
+        Err(refusal) => (session, told_refusal(refusal)),
     }
 }
 
-fn redo(session: &mut Session) -> Answer
-    ensures { Moves (machine.redo_refusal session.old) session.old (machine.redo session.old) result session.new }
+fn redo(session: Session) -> (Session, Answer)
+    ensures { Moves (machine.redo_refusal session) session (machine.redo session) result.1 result.0 }
 {
+    let mut session = session;
     match session.redo() {
-        Ok(()) => Answer::Reply(Reply::Done),
-        Err(refusal) => told_refusal(refusal),
+        Ok(()) => (session, Answer::Reply(Reply::Done)),
+        Err(refusal) => (session, told_refusal(refusal)),
     }
 }
 
@@ -122,23 +143,21 @@ fn redo(session: &mut Session) -> Answer
 fn obey(alloc: Global, session: Session, command: Command) -> (Session, Answer)
     ensures { Obeys session command result.1 result.0 }
 {
-    let mut session = session;
-    let answer = match command {
-        Command::Nothing => Answer::Silent,
-        Command::Act(op) => act(&mut session, op),
-        Command::Undo => undo(&mut session),
-        Command::Redo => redo(&mut session),
-        Command::List => Answer::Listing,
-        Command::Lamina(_, _)
-        | Command::Block(_, _, _, _, _)
+    match command {
+        Command::Nothing => (session, Answer::Silent),
+        Command::Act(op) => act(session, op),
+        Command::Lamina(solid, corners) => draw_lamina(alloc, session, solid, &corners),
+        Command::Undo => undo(session),
+        Command::Redo => redo(session),
+        Command::List => (session, Answer::Listing),
+        Command::Block(_, _, _, _, _)
         | Command::Sweep(_, _)
         | Command::Glue(_, _)
         | Command::Split(_, _, _)
         | Command::Plane(_)
         | Command::Volume(_)
-        | Command::Count(_) => unknown(),
-    };
-    (session, answer)
+        | Command::Count(_) => (session, unknown()),
+    }
 }
 
 /// Judges a line.
