@@ -2,5 +2,5 @@ pub mod Views
 pub mod Writes
 pub mod Rooms
 pub mod Empty
-pub mod Counting
-pub mod Counted
+pub mod Indexed
+pub mod Nexts

@@ -1,4 +1,3 @@
 pub mod Store
 pub mod Rows
-pub mod Tallies
 pub mod View

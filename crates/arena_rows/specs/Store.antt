@@ -66,6 +66,15 @@ abbrev pub IsNextRing : Model → ℕ → ℕ → Option ℕ → Type 0
 IsNextRing M f n None = (k : ℕ) → n < k → is_ring_of M f k ≡ false
 IsNextRing M f n (Some m) = (n < m) × (is_ring_of M f m ≡ true) × ((k : ℕ) → n < k → k < m → is_ring_of M f k ≡ false)
 
+-- face k is there and is of solid s
+abbrev pub is_face_of : Model → ℕ → ℕ → Bool
+is_face_of M s k = table.has M.faces k && nat_eq (solid_of M k) s
+
+-- the least face of solid s above n, or none
+abbrev pub IsNextFace : Model → ℕ → ℕ → Option ℕ → Type 0
+IsNextFace M s n None = (k : ℕ) → n < k → is_face_of M s k ≡ false
+IsNextFace M s n (Some m) = (n < m) × (is_face_of M s m ≡ true) × ((k : ℕ) → n < k → k < m → is_face_of M s k ≡ false)
+
 -- the one number of a list of one
 abbrev pub only_item : List ℕ → Option ℕ
 only_item [] = None

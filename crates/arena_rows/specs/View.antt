@@ -12,9 +12,8 @@ use Rattle.boundary_model.specs.Table.{Table, tabulate}
 use Rattle.boundary_model.specs.Model.{LoopContent, lone, cycle, FaceRow, LoopRow}
 use Rattle.arena_rows.specs.Store.{Store}
 use Rattle.ring_spots.specs.Spots.{Spots, codes, edges_end, live, label, ring, AreRings}
-use Rattle.arena_rows.specs.declared.tallies.Tally.{Tally}
 use Rattle.arena_rows.specs.Rows.{row_at, table_of}
-use Rattle.arena_rows.specs.Tallies.{AreTallied}
+use Rattle.owner_chains.specs.Owners.{Owners}
 
 abbrev pub solid_row : Bool → Unit {0}
 solid_row b = tt
@@ -88,13 +87,15 @@ solid_numbers faces = table_of (λ cell. cell.solid) faces
 abbrev pub face_numbers : List (Option LoopCell) → Table ℕ
 face_numbers loops = table_of (λ cell. cell.face) loops
 
--- the faces of each solid's number and the loops of each face's number are counted
-pub record IsCounted (solids : List (Option Bool)) (faces : List (Option FaceCell)) (loops : List (Option LoopCell)) (solid_tallies face_tallies : List Tally) : Type 0 where
-  pub of_solids : AreTallied (solid_numbers faces) solid_tallies
-  pub of_faces : AreTallied (face_numbers loops) face_tallies
-  pub solid_room : length solids ≤ length solid_tallies
-  pub face_room : length faces ≤ length face_tallies
+-- beside the rows stand the faces of each solid's number and the loops of each face's number, with room for all of them
+pub record AreIndexed (solids : List (Option Bool)) (faces : List (Option FaceCell)) (loops : List (Option LoopCell)) (solid_faces face_loops : Owners) : Type 0 where
+  pub of_solids : solid_faces.owner_of ≡ solid_numbers faces
+  pub of_faces : face_loops.owner_of ≡ face_numbers loops
+  pub solid_owners : length solids ≤ solid_faces.owners_end
+  pub face_owners : length faces ≤ face_loops.owners_end
+  pub face_items : length faces ≤ solid_faces.items_end
+  pub loop_items : length loops ≤ face_loops.items_end
 
-pub record IsWhole (sp : Spots) (known : ℕ → Bool) (solids : List (Option Bool)) (faces : List (Option FaceCell)) (loops : List (Option LoopCell)) (vertices : List (Option Point)) (solid_tallies face_tallies : List Tally) : Type 0 where
+pub record IsWhole (sp : Spots) (known : ℕ → Bool) (solids : List (Option Bool)) (faces : List (Option FaceCell)) (loops : List (Option LoopCell)) (vertices : List (Option Point)) (solid_faces face_loops : Owners) : Type 0 where
   pub tied : IsTied sp known solids faces loops vertices
-  pub counted : IsCounted solids faces loops solid_tallies face_tallies
+  pub indexed : AreIndexed solids faces loops solid_faces face_loops

@@ -2,7 +2,5 @@
 #![tactic(auto)]
 
 pub mod rows;
-pub mod tallies;
 
 pub use rows::{FaceCell, Held, LoopCell};
-pub use tallies::Tally;

@@ -7,7 +7,7 @@ ghost use Rattle.boundary_model.specs.Model.{items_of, content, has_half};
 ghost use Rattle.arena_rows.specs.Store.{has_room, has_number, put_solid, take_solid, put_face, take_face, set_outer, set_solid, put_vertex, take_vertex, put_loop, take_loop, set_face, set_tail, put_edge, take_edge};
 
 use crate::arena::Arena;
-use arena_rows::{FaceCell, Held, LoopCell, rows, tallies};
+use arena_rows::{FaceCell, Held, LoopCell, rows};
 use boundary_model::{HalfEdge, Kind};
 use lattice::Point;
 
@@ -29,6 +29,9 @@ impl Arena {
     }
 
     /// A new face f of solid n with outer loop l. Number f is free and has its room, and so has the solid's number its room.
+    ///
+    /// Its place among the solid's faces is looked for from the one that came last: one step where faces come in order, else
+    /// one for each face between.
     pub fn put_face(&mut self, f: u32, n: u32, l: u32)
         requires room { has_room self.old Kind.Face f ≡ true }
         requires free { has_number self.old Kind.Face f ≡ false }
@@ -37,7 +40,7 @@ impl Arena {
     {
         let cell = FaceCell { solid: n, outer: l };
         rows::write(&mut self.faces, f, Some(cell));
-        tallies::add(&mut self.solid_tallies, n, f);
+        self.solid_faces.insert(n, f);
     }
 
     /// Face f goes, which is there.
@@ -45,9 +48,8 @@ impl Arena {
         requires { has_number self.old Kind.Face f ≡ true }
         ensures { self.new ≡ take_face self.old f }
     {
-        let solid = rows::known(&self.faces, f).solid;
         rows::write(&mut self.faces, f, None);
-        tallies::remove(&mut self.solid_tallies, solid, f);
+        self.solid_faces.remove(f);
     }
 
     /// Face f, which is there, gets another outer loop.
@@ -60,7 +62,7 @@ impl Arena {
         rows::write(&mut self.faces, f, Some(cell));
     }
 
-    /// Face f, which is there, is of another solid, whose number has its room.
+    /// Face f, which is there, is of another solid, whose number has its room. Its place there is looked for as `put_face` does.
     pub fn set_solid(&mut self, f: u32, n: u32)
         requires there { has_number self.old Kind.Face f ≡ true }
         requires solid_room { has_room self.old Kind.Solid n ≡ true }
@@ -72,8 +74,8 @@ impl Arena {
             outer: old.outer,
         };
         rows::write(&mut self.faces, f, Some(cell));
-        tallies::remove(&mut self.solid_tallies, old.solid, f);
-        tallies::add(&mut self.solid_tallies, n, f);
+        self.solid_faces.remove(f);
+        self.solid_faces.insert(n, f);
     }
 
     /// A new vertex v at a point in range; v has its room.
@@ -94,6 +96,9 @@ impl Arena {
     }
 
     /// A new loop l of face f, which is empty. Number l is free and has its room, and so has the face's number its room.
+    ///
+    /// Its place among the face's loops is looked for from the one that came last: one step where loops come in order, else one
+    /// for each loop between.
     pub fn put_loop(&mut self, l: u32, f: u32)
         requires room { has_room self.old Kind.Loop l ≡ true }
         requires free { has_number self.old Kind.Loop l ≡ false }
@@ -105,7 +110,7 @@ impl Arena {
             held: Held::Empty,
         };
         rows::write(&mut self.loops, l, Some(cell));
-        tallies::add(&mut self.face_tallies, f, l);
+        self.face_loops.insert(f, l);
     }
 
     /// Loop l goes, which is there and is empty or lone.
@@ -114,12 +119,11 @@ impl Arena {
         requires bare { items_of (content self.old.model l) ≡ [] }
         ensures { self.new ≡ take_loop self.old l }
     {
-        let face = rows::known(&self.loops, l).face;
         rows::write(&mut self.loops, l, None);
-        tallies::remove(&mut self.face_tallies, face, l);
+        self.face_loops.remove(l);
     }
 
-    /// Loop l, which is there, is of another face, whose number has its room.
+    /// Loop l, which is there, is of another face, whose number has its room. Its place there is looked for as `put_loop` does.
     pub fn set_face(&mut self, l: u32, f: u32)
         requires there { has_number self.old Kind.Loop l ≡ true }
         requires face_room { has_room self.old Kind.Face f ≡ true }
@@ -131,8 +135,8 @@ impl Arena {
             held: old.held,
         };
         rows::write(&mut self.loops, l, Some(cell));
-        tallies::remove(&mut self.face_tallies, old.face, l);
-        tallies::add(&mut self.face_tallies, f, l);
+        self.face_loops.remove(l);
+        self.face_loops.insert(f, l);
     }
 
     /// A new edge e from vertex a to vertex b. Its half-edges are loose, each a ring of its own. Number e is free and has its

@@ -7,7 +7,7 @@ ghost use Rattle.boundary_model.specs.Model.{cycle, point_of, solid_of, outer, f
 ghost use Rattle.arena_rows.specs.Store.{has_room, has_number, loose_ring, Tells, only_item};
 
 use crate::arena::Arena;
-use arena_rows::{Held, rows, tallies};
+use arena_rows::{Held, rows};
 use boundary_model::{Content, HalfEdge, Kind};
 use lattice::Point;
 
@@ -62,7 +62,7 @@ impl Arena {
         ensures { result ≡ length (rings_of self.now.model f) }
     {
         let outer = rows::known(&self.faces, f).outer;
-        let named = tallies::read(&self.face_tallies, f).count;
+        let named = self.face_loops.count(f);
         if rows::names(&self.loops, outer, f) {
             named - 1
         } else {
@@ -82,16 +82,15 @@ impl Arena {
     pub fn face_count(&self, s: u32) -> u32
         ensures { result ≡ length (faces_of self.now.model s) }
     {
-        tallies::read(&self.solid_tallies, s).count
+        self.solid_faces.count(s)
     }
 
     /// The face that names solid s, where there is one and no other. It walks over nothing.
     pub fn only_face(&self, s: u32) -> Option<u32>
         ensures { result ≡ only_item (faces_of self.now.model s) }
     {
-        let faces = tallies::read(&self.solid_tallies, s);
-        if faces.count == 1 {
-            Some(faces.sum as u32)
+        if self.solid_faces.count(s) == 1 {
+            self.solid_faces.after(s, 0)
         } else {
             None
         }

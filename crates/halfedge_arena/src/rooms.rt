@@ -1,9 +1,9 @@
-//! Room for numbers: rows, tallies and nodes.
+//! Room for numbers: rows, chains and nodes.
 ghost use Rattle.std.specs.Prelude.{◌≡◌, ◌≤◌, true, OnOk};
 ghost use Rattle.arena_rows.specs.Store.{has_room, HasGrown};
 
 use crate::arena::Arena;
-use arena_rows::{rows, tallies};
+use arena_rows::rows;
 use boundary_model::Kind;
 use std::alloc::AllocError;
 
@@ -32,7 +32,7 @@ impl Arena {
         ensures grown { HasGrown self.old self.new }
         ensures ok { OnOk result (has_room self.new Kind.Solid n ≡ true) }
     {
-        tallies::reach(&mut self.solid_tallies, n)?;
+        self.solid_faces.reach_owner(n)?;
         rows::reach(&mut self.solids, n)
     }
 
@@ -42,7 +42,8 @@ impl Arena {
         ensures grown { HasGrown self.old self.new }
         ensures ok { OnOk result (has_room self.new Kind.Face n ≡ true) }
     {
-        tallies::reach(&mut self.face_tallies, n)?;
+        self.solid_faces.reach_item(n)?;
+        self.face_loops.reach_owner(n)?;
         rows::reach(&mut self.faces, n)
     }
 
@@ -52,6 +53,7 @@ impl Arena {
         ensures grown { HasGrown self.old self.new }
         ensures ok { OnOk result (has_room self.new Kind.Loop n ≡ true) }
     {
+        self.face_loops.reach_item(n)?;
         rows::reach(&mut self.loops, n)
     }
 

@@ -1,6 +1,6 @@
 //! Numbers in use, in order.
 ghost use Rattle.std.specs.Prelude.{◌≡◌, ◌≤◌, ◌<◌, ℕ, true, false};
-ghost use Rattle.arena_rows.specs.Store.{has_number, IsNextNumber, IsGreatest, IsNextRing};
+ghost use Rattle.arena_rows.specs.Store.{has_number, IsNextNumber, IsGreatest, IsNextFace, IsNextRing};
 
 use crate::arena::Arena;
 use arena_rows::rows;
@@ -52,24 +52,26 @@ impl Arena {
         m
     }
 
-    /// The least ring of face f above n, or none; face f is there. A face without rings is answered at once; else this looks at
-    /// each loop's number from n on to the one that it finds, or to the greatest that ever had room. `ring_count` tells how
-    /// many there are to ask for.
+    /// The least face of solid s above n, or none. Where n is 0 or a face of the solid, this is one step; else it walks over the
+    /// solid's faces from the one that came last to n.
+    pub fn face_after(&self, s: u32, n: u32) -> Option<u32>
+        ensures { IsNextFace self.now.model s n result }
+    {
+        self.solid_faces.after(s, n)
+    }
+
+    /// The least ring of face f above n, or none; face f is there. Where n is 0 or a loop of the face, this is one step or two;
+    /// else it walks over the face's loops from the one that came last to n. `ring_count` tells how many there are to ask for.
     pub fn ring_after(&self, f: u32, n: u32) -> Option<u32>
         requires { has_number self.now Kind.Face f ≡ true }
         ensures { IsNextRing self.now.model f n result }
     {
-        if self.ring_count(f) == 0 {
-            return None;
+        let outer = self.outer(f);
+        let next = self.face_loops.after(f, n);
+        if next == Some(outer) {
+            self.face_loops.after(f, outer)
+        } else {
+            next
         }
-        let top = self.top(Kind::Loop);
-        let mut m = n;
-        'up: while m < top {
-            m += 1;
-            if self.is_ring(f, m) {
-                return Some(m);
-            }
-        }
-        None
     }
 }

@@ -1,5 +1,5 @@
 -- The faces of a solid, met in the order of their numbers.
-use Rattle.std.proofs.Common.{◌≡◌, ◌≢◌, ℕ, ◌<◌, ◌≤◌, Bool, true, false, cond, nat_eq, nat_lt, nat_le, T, ◌&&◌, List, [], ◌∷◌, ◌++◌, length, length-append, append-nil, Some, None, is_some, unwrap_or, refl, sym, ap, subst, ◌∙◌, arith, true≢false, inl, inr}
+use Rattle.std.proofs.Common.{◌≡◌, ◌≢◌, ℕ, ◌<◌, ◌≤◌, Bool, true, false, cond, nat_eq, nat_lt, T, ◌&&◌, List, [], ◌∷◌, ◌++◌, append-nil, Some, None, is_some, unwrap_or, refl, sym, ap, subst, ◌∙◌, arith, true≢false, inl, inr}
 use Rattle.std.specs.Ordering.{nat_cmp, is_lt}
 use Rattle.std.specs.Cmp.{unsigned_tied}
 use Rattle.std.specs.FinMap.Entries.{find, is_sorted, below_all}
@@ -8,11 +8,9 @@ use Rattle.boundary_model.specs.Table as table
 use Rattle.boundary_model.specs.Table.{Table, get, all_where, all_in, map_rows, put, get-map_rows}
 use Rattle.boundary_model.specs.Model.{Model, FaceRow, no_face, solid_of, faces_of, is_number}
 use Rattle.boundary_model.specs.Sound.{NumbersFit}
-use Rattle.boundary_model.specs.declared.Kind.TheVariants.{Face}
 use Rattle.boundary_model.proofs.Tables.{and_left, and_right, all_where_none}
 use Rattle.euler_laws_shared.proofs.Loops.{some_row}
-use Rattle.arena_rows.specs.Store.{Store, IsNextNumber}
-use Rattle.low_euler.specs.Room.{is_face_of, IsNextFace}
+use Rattle.arena_rows.specs.Store.{is_face_of, IsNextFace}
 
 -- ---- the numbers of a table whose rows pass a test
 
@@ -97,52 +95,6 @@ module _ {X : Type 0} where
 
 -- ---- the faces of a solid
 
-and_false : (a : Bool) → (a && false) ≡ false
-and_false true = refl
-and_false false = refl
-
-module _ (s : Store) (n : ℕ) where
-  abbrev M : Model
-  M = s.model
-
-  -- no face of the solid lies above one number and not above another
-  abbrev pub NoneIn : ℕ → ℕ → Type 0
-  NoneIn from last = (k : ℕ) → from < k → k ≤ last → is_face_of s.model n k ≡ false
-
-  gone : (k : ℕ) → table.has s.model.faces k ≡ false → is_face_of s.model n k ≡ false
-  gone k e = ap (λ b. b && nat_eq (solid_of s.model k) n) e
-
-  other : (k : ℕ) → nat_eq (solid_of s.model k) n ≡ false → is_face_of s.model n k ≡ false
-  other k e = ap (λ b. table.has s.model.faces k && b) e ∙ and_false (table.has s.model.faces k)
-
-  pub none_more : (from last face : ℕ) → NoneIn from last → IsNextNumber s Face last (Some face) → nat_eq (solid_of s.model face) n ≡ false → NoneIn from face
-  none_more from last face none next differs = λ k a b. elim (nat_le k last) as (λ t. nat_le k last ≡ t → is_face_of s.model n k ≡ false) [
-    | true ↦ λ t. none k a (grind (arith, nat_tests))
-    | false ↦ λ t. elim (eqb_tells k face) [
-      | inl same ↦ ap (λ j. is_face_of s.model n j) same.1 ∙ other face differs
-      | inr apart ↦ gone k (next.2 k (grind (arith, nat_tests)) (below k face b apart.1))
-    ]
-  ] refl where
-    below : (k face : ℕ) → k ≤ face → k ≢ face → k < face
-    below k face l ne = omega arith
-
-  pub found : (from last face : ℕ) → from ≤ last → NoneIn from last → IsNextNumber s Face last (Some face) → nat_eq (solid_of s.model face) n ≡ true → IsNextFace s.model n from (Some face)
-  found from last face on none next same =
-      let l : last < face = next.0 in (
-        omega arith,
-        (λ i. next.1 i && same i),
-        λ k a b. elim (nat_le k last) as (λ t. nat_le k last ≡ t → is_face_of s.model n k ≡ false) [
-          | true ↦ λ t. none k a (grind (arith, nat_tests))
-          | false ↦ λ t. gone k (next.2 k (grind (arith, nat_tests)) b)
-        ] refl,
-      )
-
-  pub ended : (from last : ℕ) → NoneIn from last → IsNextNumber s Face last None → IsNextFace s.model n from None
-  ended from last none next = λ k a. elim (nat_le k last) as (λ t. nat_le k last ≡ t → is_face_of s.model n k ≡ false) [
-    | true ↦ λ t. none k a (grind (arith, nat_tests))
-    | false ↦ λ t. gone k (next k (grind (arith, nat_tests)))
-  ] refl
-
 module _ (M : Model) (n : ℕ) where
   -- the faces of the solid above a number
   abbrev pub faces_above : ℕ → List ℕ
@@ -193,10 +145,6 @@ module _ (M : Model) (n : ℕ) where
     positive : (k : ℕ) → is_number k ≡ true → nat_lt 0 k ≡ true
     positive k e = grind (arith, nat_tests)
 
--- lists that end where the faces do
-pub nothing_more : (fs gs all : List ℕ) → fs ++ gs ≡ all → length all ≤ length fs → gs ≡ []
-nothing_more fs [] all e l = refl
-nothing_more fs (g ∷ gs) all e l = absurd (omega (arith, ap length e, length-append fs (g ∷ gs)))
-
+-- a list to which nothing is left to add
 pub all_met : (fs gs all : List ℕ) → fs ++ gs ≡ all → gs ≡ [] → fs ≡ all
 all_met fs gs all e none = sym (append-nil fs) ∙ ap (λ ks. fs ++ ks) (sym none) ∙ e

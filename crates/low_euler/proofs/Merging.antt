@@ -1,7 +1,9 @@
 -- Faces that go to another solid one by one, until the solid has none.
-use Rattle.std.proofs.Common.{◌≡◌, ◌≢◌, ℕ, ◌<◌, ◌≤◌, Bool, true, false, cond, nat_eq, nat_le, ◌&&◌, [], Some, None, is_some, unwrap_or, refl, sym, ap, ◌∙◌, arith, inl, inr}
+use Rattle.std.proofs.Common.{◌≡◌, ◌≢◌, ℕ, ◌<◌, Bool, true, false, cond, nat_eq, ◌&&◌, [], ◌∷◌, ◌+◌, length, Option, Some, None, is_some, unwrap_or, refl, sym, ap, ◌∙◌, arith, inl, inr}
 use Rattle.std.specs.Option.{option_map}
 use Rattle.std.proofs.lemmas.Bool.Decides.{nat_tests, eqb_tells}
+use Rattle.cyclic_list.specs.Items.{count, tick}
+use Rattle.cyclic_list.proofs.Lists.{tick_same, tick_other}
 use Rattle.boundary_model.specs.Table.{Table, get, map_rows, put, remove, get-map_rows, get-put}
 use Rattle.boundary_model.specs.Model.{Model, FaceRow, no_face, solid_of, outer, faces_of, is_number}
 use Rattle.boundary_model.specs.Sound.{Sound}
@@ -10,9 +12,9 @@ use Rattle.euler_operators.specs.Conditions.{conditions, first_false}
 use Rattle.euler_operators.specs.Effect.{effect, merge, faces_to_solid}
 use Rattle.euler_operators.specs.declared.Op.TheVariants.{Merge}
 use Rattle.euler_laws_shared.proofs.Goes.{all_hold, not_true}
-use Rattle.arena_rows.specs.Store.{Store, set_solid, take_solid}
+use Rattle.arena_rows.specs.Store.{Store, set_solid, take_solid, is_face_of, IsNextFace}
+use Rattle.owner_chains.proofs.Counting.{passes, count-all_where, same_length}
 use Rattle.euler_conditions.specs.Ready.{after}
-use Rattle.low_euler.specs.Room.{is_face_of, IsNextFace}
 use Rattle.low_euler.proofs.Faces.{row_there, row_tells}
 
 pub merge_apart : (M : Model) (s t : ℕ) → first_false M (Merge s t) ≡ None → nat_eq s t ≡ false
@@ -56,17 +58,27 @@ module _ (s : Store) (kept gone : ℕ) where
     unfolding solid_of
     other_face k ne = let g = got_other k ne in λ i. is_some (g i) && nat_eq (unwrap_or (g i) no_face).solid gone
 
-    -- no face of the solid is left up to the one that went
-    pub none_left : (last : ℕ) → ((k : ℕ) → k ≤ last → is_face_of s.model gone k ≡ false) → IsNextFace s.model gone last (Some face) → (k : ℕ) → k ≤ face → is_face_of (set_solid s face kept).model gone k ≡ false
-    none_left last none next k b = elim (eqb_tells k face) [
-      | inl same ↦ ap (λ j. is_face_of (set_solid s face kept).model gone j) same.1 ∙ row_tells (set_solid s face kept).model gone face row_after got_here ∙ differs
-      | inr apart ↦ other_face k apart.1 ∙ elim (nat_le k last) as (λ t. nat_le k last ≡ t → is_face_of s.model gone k ≡ false) [
-        | true ↦ λ t. none k (grind (arith, nat_tests))
-        | false ↦ λ t. next.2 k (grind (arith, nat_tests)) (below k face b apart.1)
-      ] refl
-    ] where
-      below : (k face : ℕ) → k ≤ face → k ≢ face → k < face
-      below k face l ne = omega arith
+    counted : (o : Option FaceRow) (b : Bool) → (is_some o && nat_eq (unwrap_or o no_face).solid gone) ≡ b → (q : ℕ) → passes (λ _ (row : FaceRow). nat_eq row.solid gone) q o ≡ cond b 1 0
+    counted None b e q = ap {B = ℕ} (λ c. cond c 1 0) e
+    counted (Some row) b e q = ap {B = ℕ} (λ c. cond c 1 0) e
+
+    count_in : (M : Model) (q : ℕ) (b : Bool) → is_face_of M gone q ≡ b → count q (faces_of M gone) ≡ cond b 1 0
+    unfolding solid_of
+    count_in M q b e = count-all_where (λ _ (row : FaceRow). nat_eq row.solid gone) M.faces q ∙ counted (get M.faces q) b e q
+
+    face_goes : is_face_of (set_solid s face kept).model gone face ≡ false
+    face_goes = row_tells (set_solid s face kept).model gone face row_after got_here ∙ differs
+
+    -- one face is taken from the solid
+    pub one_less : is_face_of s.model gone face ≡ true → length (faces_of s.model gone) ≡ 1 + length (faces_of (set_solid s face kept).model gone)
+    one_less is = same_length (faces_of s.model gone) (face ∷ faces_of (set_solid s face kept).model gone) (λ q. elim (eqb_tells q face) [
+      | inl e ↦ let z : count q (faces_of (set_solid s face kept).model gone) ≡ 0 = count_in (set_solid s face kept).model q false (ap (is_face_of (set_solid s face kept).model gone) e.1 ∙ face_goes) in
+          omega (arith, count_in s.model q true (ap (is_face_of s.model gone) e.1 ∙ is), z, ap (tick q) (sym e.1), tick_same q)
+      | inr e ↦ omega (arith, tick_other q face e.1, count_in s.model q (is_face_of s.model gone q) refl, count_in (set_solid s face kept).model q (is_face_of s.model gone q) (other_face q e.1))
+    ]) ∙ omega arith
+
+    pub zero_stays : 0 < face → is_face_of s.model gone 0 ≡ false → is_face_of (set_solid s face kept).model gone 0 ≡ false
+    zero_stays up none = other_face 0 (λ e. omega (arith, up, e)) ∙ none
 
   -- where the solid has no face left, merging takes the solid alone
   pub merge_ends : faces_of s.model gone ≡ [] → take_solid s gone ≡ after s (Merge kept gone)
@@ -75,21 +87,21 @@ module _ (s : Store) (kept gone : ℕ) where
       ap (λ (t : Table FaceRow). record s { model = record s.model { solids = remove s.model.solids gone; faces = t } })
       (sym (map_same given s.model.faces (λ k row at. ap (λ b. cond b (record row { solid = kept }) row) (none_all_where (λ _ r. nat_eq r.solid gone) s.model.faces none k row at))))
 
--- a solid of which no face lies above a number, nor up to it, has none
-pub no_face_left : (M : Model) (n last : ℕ) → ((k : ℕ) → k ≤ last → is_face_of M n k ≡ false) → IsNextFace M n last None → faces_of M n ≡ []
-no_face_left M n last none next = all_where_none (λ _ row. nat_eq row.solid n) M.faces (λ k row at. sym (row_tells M n k row at) ∙ never k) where
+-- a solid of which no face lies above 0 has none
+pub no_face_left : (M : Model) (n : ℕ) → is_face_of M n 0 ≡ false → IsNextFace M n 0 None → faces_of M n ≡ []
+no_face_left M n none next = all_where_none (λ _ row. nat_eq row.solid n) M.faces (λ k row at. sym (row_tells M n k row at) ∙ never k) where
   never : (k : ℕ) → is_face_of M n k ≡ false
-  never k = elim (nat_le k last) as (λ t. nat_le k last ≡ t → is_face_of M n k ≡ false) [
-    | true ↦ λ t. none k (grind (arith, nat_tests))
-    | false ↦ λ t. next k (grind (arith, nat_tests))
-  ] refl
+  never k = elim (eqb_tells k 0) [
+    | inl e ↦ ap (is_face_of M n) e.1 ∙ none
+    | inr e ↦ next k (omega (arith, e.1))
+  ]
 
 -- 0 is no face
-pub no_zero_face : (M : Model) (n : ℕ) → Sound M → (k : ℕ) → k ≤ 0 → is_face_of M n k ≡ false
-no_zero_face M n sound k l = go (is_face_of M n k) refl where
-  zero_out : (k : ℕ) → k ≤ 0 → is_number k ≡ true → ⊥
-  zero_out k l e = grind (arith, nat_tests)
+pub no_zero_face : (M : Model) (n : ℕ) → Sound M → is_face_of M n 0 ≡ false
+no_zero_face M n sound = go (is_face_of M n 0) refl where
+  zero_out : is_number 0 ≡ true → ⊥
+  zero_out e = grind (arith, nat_tests)
 
-  go : (b : Bool) → is_face_of M n k ≡ b → is_face_of M n k ≡ false
-  go true e = absurd (zero_out k l (sound.faces_fit k (ap is_some (row_there M n k e).1)))
+  go : (b : Bool) → is_face_of M n 0 ≡ b → is_face_of M n 0 ≡ false
+  go true e = absurd (zero_out (sound.faces_fit 0 (ap is_some (row_there M n 0 e).1)))
   go false e = e

@@ -39,7 +39,7 @@ fn change(arena: &mut Arena, op: &Op)
 
 /// Applies an operator that is accepted and whose numbers have their room. The model becomes that after the operator, and
 /// is sound; every room stays. It takes no memory and always succeeds. Its cost is that of the change; a merge looks at
-/// each face's number up to the last that it moves.
+/// the faces that it moves, and at those of the other solid between them.
 pub fn replay(arena: &mut Arena, op: &Op)
     requires { Accepts arena.old op.now }
     ensures effect { arena.new ≡ after arena.old op.now }

@@ -1,7 +1,7 @@
-use Rattle.std.proofs.Common.{ap, ◌∙◌}
-use Rattle.arena_rows.specs.declared.tallies.Tally.{Tally}
-use Rattle.arena_rows.proofs.Counted.{face_count_is}
+use Rattle.std.proofs.Common.{ap, ◌∙◌, length}
+use Rattle.owner_chains.specs.Owners.{owned}
+use Rattle.arena_rows.proofs.Indexed.{face_count_is}
 use Rattle.halfedge_arena.proofs.arena.Arena.face_count.Goals as goal
 
 pub returns : goal.returns
-returns c = rw (← c.self.view_is) (ap (λ (t : Tally). t.count) (rw c.deref.ensures.value at c.read.ensures) ∙ face_count_is _ _ c.self.invariant.counted.of_solids c.args.s)
+returns c = rw (← c.self.view_is) (c.count.ensures ∙ ap (λ t. length (owned c.args.s t)) c.self.invariant.indexed.of_solids ∙ face_count_is _ c.args.s)

@@ -1,0 +1,228 @@
+-- What stands beside the rows: what it says of the model, and what keeps it.
+use Rattle.std.proofs.Common.{◌≡◌, ◌≢◌, ℕ, ◌+◌, ◌≤◌, Bool, true, false, cond, not, nat_eq, ◌&&◌, List, [], length, Option, Some, None, is_some, unwrap_or, refl, sym, ap, ◌∙◌, arith, true≢false, eq-eqb, ne_eqb, inl, inr}
+use Rattle.std.proofs.lemmas.Bool.Decides.{eqb_tells}
+use Rattle.lattice.specs.declared.Point.{Point}
+use Rattle.cyclic_list.specs.Items.{count, tick}
+use Rattle.cyclic_list.proofs.Lists.{tick_same, tick_other}
+use Rattle.boundary_model.specs.Table as table
+use Rattle.boundary_model.specs.Table.{Table, get, all_where, same_table, get-put, get-remove}
+use Rattle.boundary_model.specs.Model.{rings_of, outer, no_face}
+use Rattle.owner_chains.specs.Owners.{Owners, no_owners, put, take, owned, HasGrown}
+use Rattle.owner_chains.proofs.Counting.{passes, count-all_where, same_length, more}
+use Rattle.ring_spots.specs.Spots.{Spots}
+use Rattle.arena_rows.specs.declared.rows.FaceCell.{FaceCell}
+use Rattle.arena_rows.specs.declared.rows.LoopCell.{LoopCell}
+use Rattle.arena_rows.specs.Rows.{row_at, map_row, table_of, names}
+use Rattle.arena_rows.specs.View.{store_of, face_row, loop_row, solid_numbers, face_numbers, AreIndexed}
+use Rattle.arena_rows.proofs.Views.{get-table_of, read_row, table_of-same, table_of-put, table_of-remove, table_of-empty}
+
+-- ---- what it says
+
+-- by the rows: the owner of each, and what the model's rows say
+alike_rows : {X Y : Type 0} (rows : List (Option X)) (g : X → ℕ) (f : X → Y) (o : ℕ) (p : ℕ → Y → Bool) → ((q : ℕ) (x : X) → p q (f x) ≡ nat_eq (g x) o) → (q : ℕ) → count q (owned o (table_of g rows)) ≡ count q (all_where p (table_of f rows))
+alike_rows rows g f o p same q =
+    count-all_where (λ _ x. nat_eq x o) (table_of g rows) q ∙ ap (passes (λ _ x. nat_eq x o) q) (get-table_of g rows q) ∙ go (row_at rows q)
+    ∙ sym (count-all_where p (table_of f rows) q ∙ ap (passes p q) (get-table_of f rows q))
+  where
+    go : (x : Option _) → passes (λ _ x. nat_eq x o) q (map_row g x) ≡ passes p q (map_row f x)
+    go None = refl
+    go (Some x) = ap {B = ℕ} (λ b. cond b 1 0) (sym (same q x))
+
+pub face_count_is : (faces : List (Option FaceCell)) (s : ℕ) → length (owned s (solid_numbers faces)) ≡ length (all_where (λ _ row. nat_eq row.solid s) (table_of face_row faces))
+face_count_is faces s = same_length _ _ (alike_rows faces (λ cell. cell.solid) face_row s (λ _ row. nat_eq row.solid s) (λ q x. refl))
+
+module _ (sp : Spots) (loops : List (Option LoopCell)) (f out : ℕ) where
+  abbrev rings : List ℕ
+  rings = all_where (λ l row. nat_eq row.face f && not (nat_eq out l)) (table_of (loop_row sp) loops)
+
+  count-rings : (q : ℕ) (x : Option LoopCell) → cond (names f x) 1 0 ≡ cond (cond (nat_eq out q) (names f x) false) 1 0 + passes (λ l row. nat_eq row.face f && not (nat_eq out l)) q (map_row (loop_row sp) x)
+  count-rings q None = go (nat_eq out q) where
+    go : (b : Bool) → 0 ≡ cond (cond b false false) 1 0 + 0
+    go true = omega arith
+    go false = omega arith
+  count-rings q (Some cell) = go (nat_eq cell.face f) (nat_eq out q) where
+    go : (b d : Bool) → cond b 1 0 ≡ cond (cond d b false) 1 0 + cond (b && not d) 1 0
+    go true true = omega arith
+    go true false = omega arith
+    go false true = omega arith
+    go false false = omega arith
+
+  by_names : (q : ℕ) (x : Option LoopCell) → passes (λ _ n. nat_eq n f) q (map_row (λ (cell : LoopCell). cell.face) x) ≡ cond (names f x) 1 0
+  by_names q None = refl
+  by_names q (Some cell) = refl
+
+  -- the loops of a face are its rings, and its outer loop where that names it
+  alike_rings : length (owned f (face_numbers loops)) ≡ length (more (names f (row_at loops out)) out rings)
+  alike_rings = same_length _ _ (λ q.
+      count-all_where (λ _ n. nat_eq n f) (face_numbers loops) q ∙ ap (passes (λ _ n. nat_eq n f) q) (get-table_of (λ (cell : LoopCell). cell.face) loops q) ∙ by_names q (row_at loops q) ∙ count-rings q (row_at loops q)
+      ∙ ap (λ n. cond (cond (nat_eq out q) (names f (row_at loops q)) false) 1 0 + n) (sym (count-all_where (λ l row. nat_eq row.face f && not (nat_eq out l)) (table_of (loop_row sp) loops) q ∙ ap (passes (λ l row. nat_eq row.face f && not (nat_eq out l)) q) (get-table_of (loop_row sp) loops q)))
+      ∙ elim (eqb_tells q out) [
+        | inl p ↦
+            ap {B = ℕ} (λ b. cond (cond b (names f (row_at loops q)) false) 1 0 + count q rings) (eq-eqb out q (sym p.1))
+            ∙ ap {B = ℕ} (λ k. cond (names f (row_at loops k)) 1 0 + count q rings) p.1 ∙ here q p.1 (names f (row_at loops out))
+        | inr p ↦ ap {B = ℕ} (λ b. cond (cond b (names f (row_at loops q)) false) 1 0 + count q rings) (ne_eqb out q (λ e. p.1 (sym e))) ∙ there q p.1 (names f (row_at loops out))
+      ])
+    where
+      here : (q : ℕ) → q ≡ out → (b : Bool) → cond b 1 0 + count q rings ≡ count q (more b out rings)
+      here q e true = omega (arith, ap (tick q) (sym e), tick_same q)
+      here q e false = omega arith
+
+      there : (q : ℕ) → q ≢ out → (b : Bool) → 0 + count q rings ≡ count q (more b out rings)
+      there q ne true = omega (arith, tick_other q out ne)
+      there q ne false = omega arith
+
+  pub ring_count_is : (b : Bool) → names f (row_at loops out) ≡ b → length (owned f (face_numbers loops)) ≡ cond b 1 0 + length rings
+  ring_count_is b e = alike_rings ∙ ap (λ c. length (more c out rings)) e ∙ go b where
+    go : (b : Bool) → length (more b out rings) ≡ cond b 1 0 + length rings
+    go true = omega arith
+    go false = omega arith
+
+-- what the loops of a face say of its rings
+pub rings_counted : (sp : Spots) (known : ℕ → Bool) (solids : List (Option Bool)) (faces : List (Option FaceCell)) (loops : List (Option LoopCell)) (vertices : List (Option Point)) (ss fs : Owners) → AreIndexed solids faces loops ss fs →
+    (f : ℕ) (cell : FaceCell) → row_at faces f ≡ Some cell → (b : Bool) → names f (row_at loops cell.outer) ≡ b → length (owned f fs.owner_of) ≡ cond b 1 0 + length (rings_of (store_of sp known solids faces loops vertices).model f)
+unfolding outer
+rings_counted sp known solids faces loops vertices ss fs indexed f cell found b e =
+    let M = (store_of sp known solids faces loops vertices).model in
+    let o : outer M f ≡ cell.outer = ap (λ r. (unwrap_or r no_face).outer) (read_row face_row faces f cell found) in
+    ap (λ t. length (owned f t)) indexed.of_faces ∙ ring_count_is sp loops f (outer M f) b (ap (λ n. names f (row_at loops n)) o ∙ e)
+
+-- ---- what keeps it
+
+module _ {X : Type 0} (g : X → ℕ) (rows new : List (Option X)) (n : ℕ) where
+  -- a row is written with the same owner
+  pub owner_kept : (x old : X) → row_at rows n ≡ Some old → g x ≡ g old → ((q : ℕ) → row_at new q ≡ cond (nat_eq q n) (Some x) (row_at rows q)) → table_of g new ≡ table_of g rows
+  owner_kept x old found same is = table_of-same g g rows new (λ q. ap (map_row g) (is q) ∙ elim (eqb_tells q n) [
+    | inl p ↦ ap (λ b. map_row g (cond b (Some x) (row_at rows q))) p.0 ∙ ap Some same ∙ sym (ap (map_row g) (ap (row_at rows) p.1 ∙ found))
+    | inr p ↦ ap (λ b. map_row g (cond b (Some x) (row_at rows q))) p.0
+  ])
+
+-- a number is taken and put again
+put_after : (t : Table ℕ) (n o : ℕ) → table.put (table.remove t n) n o ≡ table.put t n o
+put_after t n o = same_table _ _ (λ q. get-put (table.remove t n) n o q ∙ elim (eqb_tells q n) [
+  | inl p ↦ ap (λ b. cond b (Some o) (get (table.remove t n) q)) p.0 ∙ sym (get-put t n o q ∙ ap (λ b. cond b (Some o) (get t q)) p.0)
+  | inr p ↦ ap (λ b. cond b (Some o) (get (table.remove t n) q)) p.0 ∙ get-remove t n q ∙ ap (λ b. cond b None (get t q)) p.0 ∙ sym (get-put t n o q ∙ ap (λ b. cond b (Some o) (get t q)) p.0)
+])
+
+-- what the owners of rows say of one of them
+module _ {X : Type 0} (g : X → ℕ) (rows : List (Option X)) (os : Owners) (of_rows : os.owner_of ≡ table_of g rows) (n : ℕ) where
+  pub owner_free : is_some (row_at rows n) ≡ false → get os.owner_of n ≡ None
+  owner_free free = ap (λ t. get t n) of_rows ∙ get-table_of g rows n ∙ go (row_at rows n) free where
+    go : (o : Option X) → is_some o ≡ false → map_row g o ≡ None
+    go None e = refl
+    go (Some x) e = absurd (true≢false e)
+
+  pub owner_there : is_some (row_at rows n) ≡ true → is_some (get os.owner_of n) ≡ true
+  owner_there there = ap (λ t. is_some (get t n)) of_rows ∙ ap is_some (get-table_of g rows n) ∙ go (row_at rows n) there where
+    go : (o : Option X) → is_some o ≡ true → is_some (map_row g o) ≡ true
+    go None e = e
+    go (Some x) e = refl
+
+  pub owner_taken : (new : Owners) → new ≡ take os n → get new.owner_of n ≡ None
+  owner_taken new is = ap (λ (t : Owners). get t.owner_of n) is ∙ get-remove os.owner_of n n ∙ ap (λ b. cond b None (get os.owner_of n)) (eq-eqb n n refl)
+
+  -- the owners, where a row is written: a new one, none, or one of another owner
+  module _ (rows' : List (Option X)) where
+    owners_new : (x : X) → ((q : ℕ) → row_at rows' q ≡ cond (nat_eq q n) (Some x) (row_at rows q)) → table.put os.owner_of n (g x) ≡ table_of g rows'
+    owners_new x is = ap (λ t. table.put t n (g x)) of_rows ∙ sym (table_of-put g rows rows' n x is)
+
+    owners_gone : ((q : ℕ) → row_at rows' q ≡ cond (nat_eq q n) None (row_at rows q)) → table.remove os.owner_of n ≡ table_of g rows'
+    owners_gone is = ap (λ t. table.remove t n) of_rows ∙ sym (table_of-remove g rows rows' n is)
+
+    pub after_put : (new : Owners) (x : X) → new ≡ put os n (g x) → ((q : ℕ) → row_at rows' q ≡ cond (nat_eq q n) (Some x) (row_at rows q)) → new.owner_of ≡ table_of g rows'
+    after_put new x e is = ap (λ (t : Owners). t.owner_of) e ∙ owners_new x is
+
+    pub after_take : (new : Owners) → new ≡ take os n → ((q : ℕ) → row_at rows' q ≡ cond (nat_eq q n) None (row_at rows q)) → new.owner_of ≡ table_of g rows'
+    after_take new e is = ap (λ (t : Owners). t.owner_of) e ∙ owners_gone is
+
+    pub after_move : (between new : Owners) (x : X) → between ≡ take os n → new ≡ put between n (g x) → ((q : ℕ) → row_at rows' q ≡ cond (nat_eq q n) (Some x) (row_at rows q)) → new.owner_of ≡ table_of g rows'
+    after_move between new x e f is = ap (λ (t : Owners). t.owner_of) f ∙ ap (λ (t : Owners). table.put t.owner_of n (g x)) e ∙ put_after os.owner_of n (g x) ∙ owners_new x is
+
+-- the ends stay
+pub record HasSameEnds (old new : Owners) : Type 0 where
+  pub owners : new.owners_end ≡ old.owners_end
+  pub items : new.items_end ≡ old.items_end
+
+pub ends_put : (os new : Owners) (n o : ℕ) → new ≡ put os n o → HasSameEnds os new
+ends_put os new n o e = record { owners = ap (λ (t : Owners). t.owners_end) e; items = ap (λ (t : Owners). t.items_end) e }
+
+pub ends_take : (os new : Owners) (n : ℕ) → new ≡ take os n → HasSameEnds os new
+ends_take os new n e = record { owners = ap (λ (t : Owners). t.owners_end) e; items = ap (λ (t : Owners). t.items_end) e }
+
+pub ends_move : (os between new : Owners) (n o : ℕ) → between ≡ take os n → new ≡ put between n o → HasSameEnds os new
+ends_move os between new n o e f = record { owners = ap (λ (t : Owners). t.owners_end) f ∙ ap (λ (t : Owners). t.owners_end) e; items = ap (λ (t : Owners). t.items_end) f ∙ ap (λ (t : Owners). t.items_end) e }
+
+pub ends_same : (os : Owners) → HasSameEnds os os
+ends_same os = record { owners = refl; items = refl }
+
+module _ (solids : List (Option Bool)) (faces : List (Option FaceCell)) (loops : List (Option LoopCell)) (ss fs : Owners) (indexed : AreIndexed solids faces loops ss fs) where
+  -- the loops' faces stay, or change with what stands beside them
+  pub indexed_loops : (new : List (Option LoopCell)) (fs' : Owners) → length new ≡ length loops → HasSameEnds fs fs' → fs'.owner_of ≡ face_numbers new → AreIndexed solids faces new ss fs'
+  indexed_loops new fs' len ends are = record {
+    of_solids = indexed.of_solids;
+    of_faces = are;
+    solid_owners = indexed.solid_owners;
+    face_owners = omega (arith, indexed.face_owners, ends.owners);
+    face_items = indexed.face_items;
+    loop_items = omega (arith, indexed.loop_items, ends.items, len);
+  }
+
+  pub indexed_same_loops : (new : List (Option LoopCell)) → length new ≡ length loops → face_numbers new ≡ face_numbers loops → AreIndexed solids faces new ss fs
+  indexed_same_loops new len e = indexed_loops new fs len (ends_same fs) (indexed.of_faces ∙ sym e)
+
+  -- the same of the faces' solids
+  pub indexed_faces : (new : List (Option FaceCell)) (ss' : Owners) → length new ≡ length faces → HasSameEnds ss ss' → ss'.owner_of ≡ solid_numbers new → AreIndexed solids new loops ss' fs
+  indexed_faces new ss' len ends are = record {
+    of_solids = are;
+    of_faces = indexed.of_faces;
+    solid_owners = omega (arith, indexed.solid_owners, ends.owners);
+    face_owners = omega (arith, indexed.face_owners, len);
+    face_items = omega (arith, indexed.face_items, ends.items, len);
+    loop_items = indexed.loop_items;
+  }
+
+  pub indexed_same_faces : (new : List (Option FaceCell)) → length new ≡ length faces → solid_numbers new ≡ solid_numbers faces → AreIndexed solids new loops ss fs
+  indexed_same_faces new len e = indexed_faces new ss len (ends_same ss) (indexed.of_solids ∙ sym e)
+
+  pub indexed_solids : (new : List (Option Bool)) → length new ≡ length solids → AreIndexed new faces loops ss fs
+  indexed_solids new len = record { of_solids = indexed.of_solids; of_faces = indexed.of_faces; solid_owners = omega (arith, indexed.solid_owners, len); face_owners = indexed.face_owners; face_items = indexed.face_items; loop_items = indexed.loop_items }
+
+  -- more rows, for which there is room beside them
+  pub indexed_more_solids : (new : List (Option Bool)) (ss' : Owners) → HasGrown ss ss' → length new ≤ ss'.owners_end → AreIndexed new faces loops ss' fs
+  indexed_more_solids new ss' grown reach = record {
+    of_solids = grown.same ∙ indexed.of_solids;
+    of_faces = indexed.of_faces;
+    solid_owners = reach;
+    face_owners = indexed.face_owners;
+    face_items = omega (arith, indexed.face_items, grown.items);
+    loop_items = indexed.loop_items;
+  }
+
+  pub indexed_more_faces : (new : List (Option FaceCell)) (ss' fs' : Owners) → ((q : ℕ) → row_at new q ≡ row_at faces q) → HasGrown ss ss' → HasGrown fs fs' → length new ≤ ss'.items_end → length new ≤ fs'.owners_end → AreIndexed solids new loops ss' fs'
+  indexed_more_faces new ss' fs' rows more_ss more_fs reach_items reach_owners = record {
+    of_solids = more_ss.same ∙ indexed.of_solids ∙ sym (table_of-same (λ cell. cell.solid) (λ cell. cell.solid) faces new (λ q. ap (map_row (λ (cell : FaceCell). cell.solid)) (rows q)));
+    of_faces = more_fs.same ∙ indexed.of_faces;
+    solid_owners = omega (arith, indexed.solid_owners, more_ss.owners);
+    face_owners = reach_owners;
+    face_items = reach_items;
+    loop_items = omega (arith, indexed.loop_items, more_fs.items);
+  }
+
+  pub indexed_more_loops : (new : List (Option LoopCell)) (fs' : Owners) → ((q : ℕ) → row_at new q ≡ row_at loops q) → HasGrown fs fs' → length new ≤ fs'.items_end → AreIndexed solids faces new ss fs'
+  indexed_more_loops new fs' rows grown reach = record {
+    of_solids = indexed.of_solids;
+    of_faces = grown.same ∙ indexed.of_faces ∙ sym (table_of-same (λ cell. cell.face) (λ cell. cell.face) loops new (λ q. ap (map_row (λ (cell : LoopCell). cell.face)) (rows q)));
+    solid_owners = indexed.solid_owners;
+    face_owners = omega (arith, indexed.face_owners, grown.owners);
+    face_items = indexed.face_items;
+    loop_items = reach;
+  }
+
+pub indexed-empty : AreIndexed [] [] [] no_owners no_owners
+indexed-empty = record {
+  of_solids = sym (table_of-empty (λ (cell : FaceCell). cell.solid));
+  of_faces = sym (table_of-empty (λ (cell : LoopCell). cell.face));
+  solid_owners = omega arith;
+  face_owners = omega arith;
+  face_items = omega arith;
+  loop_items = omega arith;
+}

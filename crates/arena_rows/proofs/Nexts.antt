@@ -1,0 +1,145 @@
+-- The next face of a solid and the next ring of a face, by what stands beside the rows.
+use Rattle.std.proofs.Common.{◌≡◌, ◌≢◌, ℕ, ◌<◌, Bool, true, false, cond, not, nat_eq, ◌&&◌, List, [], ◌∷◌, length, Option, Some, None, is_some, unwrap_or, refl, sym, ap, subst, ◌∙◌, arith, true≢false, eq-eqb, ne_eqb, inl, inr}
+use Rattle.std.proofs.lemmas.Bool.Decides.{eqb_tells, leb_tells}
+use Rattle.lattice.specs.declared.Point.{Point}
+use Rattle.cyclic_list.specs.Items.{count, IsIn}
+use Rattle.cyclic_list.proofs.Lists.{tick_same, tick_other}
+use Rattle.std.specs.Option.{option_eq}
+use Rattle.boundary_model.specs.Table.{get}
+use Rattle.boundary_model.specs.Model.{Model, FaceRow, solid_of, face_of, outer, is_ring_of, faces_of, no_face, no_loop}
+use Rattle.owner_chains.specs.Owners.{Owners, owned, is_owner, IsNextItem}
+use Rattle.owner_chains.proofs.Counting.{passes, count-all_where}
+use Rattle.ring_spots.specs.Spots.{Spots}
+use Rattle.arena_rows.specs.declared.rows.FaceCell.{FaceCell}
+use Rattle.arena_rows.specs.declared.rows.LoopCell.{LoopCell}
+use Rattle.arena_rows.specs.Rows.{row_at, map_row}
+use Rattle.arena_rows.specs.Store.{is_face_of, IsNextFace, IsNextRing, only_item}
+use Rattle.arena_rows.specs.View.{store_of, face_row, loop_row, AreIndexed}
+use Rattle.arena_rows.proofs.Views.{get-table_of}
+use Rattle.arena_rows.proofs.Indexed.{face_count_is}
+
+module _ (sp : Spots) (known : ℕ → Bool) (solids : List (Option Bool)) (faces : List (Option FaceCell)) (loops : List (Option LoopCell)) (vertices : List (Option Point)) (ss fs : Owners) (indexed : AreIndexed solids faces loops ss fs) where
+  abbrev M : Model
+  M = (store_of sp known solids faces loops vertices).model
+
+  pub face_test : (s k : ℕ) → is_owner s (get ss.owner_of k) ≡ is_face_of M s k
+  unfolding solid_of
+  face_test s k = ap (λ t. is_owner s (get t k)) indexed.of_solids ∙ ap (is_owner s) (get-table_of (λ (cell : FaceCell). cell.solid) faces k) ∙ go (row_at faces k) ∙ sym (ap (λ o. is_some o && nat_eq (unwrap_or o no_face).solid s) (get-table_of face_row faces k)) where
+    go : (o : Option FaceCell) → is_owner s (map_row (λ (cell : FaceCell). cell.solid) o) ≡ is_some (map_row face_row o) && nat_eq (unwrap_or (map_row face_row o) no_face).solid s
+    go None = refl
+    go (Some cell) = refl
+
+  pub next_face : (s n : ℕ) (r : Option ℕ) → IsNextItem ss.owner_of s n r → IsNextFace M s n r
+  next_face s n None h = λ k l. sym (face_test s k) ∙ h k l
+  next_face s n (Some m) h = (h.0, sym (face_test s m) ∙ h.1, λ k l less. sym (face_test s k) ∙ h.2 k l less)
+
+  pub ring_test : (f k : ℕ) → is_owner f (get fs.owner_of k) && not (nat_eq (outer M f) k) ≡ is_ring_of M f k
+  unfolding face_of
+  ring_test f k =
+      ap (λ t. is_owner f (get t k) && not (nat_eq (outer M f) k)) indexed.of_faces
+      ∙ ap (λ o. is_owner f o && not (nat_eq (outer M f) k)) (get-table_of (λ (cell : LoopCell). cell.face) loops k)
+      ∙ go (row_at loops k) ∙ sym (ap (λ o. is_some o && nat_eq (unwrap_or o no_loop).face f && not (nat_eq (outer M f) k)) (get-table_of (loop_row sp) loops k))
+    where
+      go : (o : Option LoopCell) → is_owner f (map_row (λ (cell : LoopCell). cell.face) o) && not (nat_eq (outer M f) k) ≡ is_some (map_row (loop_row sp) o) && nat_eq (unwrap_or (map_row (loop_row sp) o) no_loop).face f && not (nat_eq (outer M f) k)
+      go None = refl
+      go (Some cell) = refl
+
+  not_ring : (f k : ℕ) → is_owner f (get fs.owner_of k) ≡ false → is_ring_of M f k ≡ false
+  not_ring f k h = sym (ring_test f k) ∙ ap (λ b. b && not (nat_eq (outer M f) k)) h
+
+  no_outer_ring : (f k : ℕ) → k ≡ outer M f → is_ring_of M f k ≡ false
+  no_outer_ring f k e = sym (ring_test f k) ∙ ap (λ b. is_owner f (get fs.owner_of k) && not b) (eq-eqb (outer M f) k (sym e)) ∙ go (is_owner f (get fs.owner_of k)) where
+    go : (b : Bool) → b && false ≡ false
+    go true = refl
+    go false = refl
+
+  -- the next loop of a face is its next ring, where it isn't the outer loop
+  pub next_ring : (f n : ℕ) (r : Option ℕ) → r ≢ Some (outer M f) → IsNextItem fs.owner_of f n r → IsNextRing M f n r
+  next_ring f n None other h = λ k l. not_ring f k (h k l)
+  next_ring f n (Some m) other h =
+      let apart : outer M f ≢ m = λ e. other (ap Some (sym e)) in
+      (h.0, sym (ring_test f m) ∙ ap (λ b. b && not (nat_eq (outer M f) m)) h.1 ∙ ap not (ne_eqb (outer M f) m apart), λ k l less. not_ring f k (h.2 k l less))
+
+  -- where it is the outer loop, the ring comes after that
+  pub ring_past_outer : (f n : ℕ) (r : Option ℕ) → IsNextItem fs.owner_of f n (Some (outer M f)) → IsNextItem fs.owner_of f (outer M f) r → IsNextRing M f n r
+  ring_past_outer f n r first second = go r second where
+    between : (k : ℕ) → n < k → (outer M f < k → is_owner f (get fs.owner_of k) ≡ false) → is_ring_of M f k ≡ false
+    between k l past = elim (eqb_tells k (outer M f)) [
+      | inl e ↦ no_outer_ring f k e.1
+      | inr e ↦ elim (leb_tells k (outer M f)) [
+        | inl b ↦ not_ring f k (first.2 k l (omega (arith, b.1, e.1)))
+        | inr b ↦ not_ring f k (past b.1)
+      ]
+    ]
+
+    go : (r : Option ℕ) → IsNextItem fs.owner_of f (outer M f) r → IsNextRing M f n r
+    go None h = λ k l. between k l (h k)
+    go (Some m) h =
+        let up = h.0 in
+        let low = first.0 in
+        let apart : outer M f ≢ m = omega arith in
+        (omega arith, sym (ring_test f m) ∙ ap (λ b. b && not (nat_eq (outer M f) m)) h.1 ∙ ap not (ne_eqb (outer M f) m apart), λ k l less. between k l (λ past. h.2 k past less))
+
+  -- the two, by the test whether the next loop is the outer one
+  pub next_ring_told : (f n out : ℕ) → out ≡ outer M f → (next : Option ℕ) → option_eq nat_eq next (Some out) ≡ false → IsNextItem fs.owner_of f n next → IsNextRing M f n next
+  next_ring_told f n out e next told h = next_ring f n next (λ is. true≢false (sym (same_option next (outer M f) is) ∙ ap (λ k. option_eq nat_eq next (Some k)) (sym e) ∙ told)) h where
+    same_option : (x : Option ℕ) (y : ℕ) → x ≡ Some y → option_eq nat_eq x (Some y) ≡ true
+    same_option None y is = cc
+    same_option (Some z) y is = eq-eqb z y (cc)
+
+  pub ring_past_told : (f n out : ℕ) → out ≡ outer M f → (next : Option ℕ) → option_eq nat_eq next (Some out) ≡ true → IsNextItem fs.owner_of f n next → (r : Option ℕ) → IsNextItem fs.owner_of f out r → IsNextRing M f n r
+  ring_past_told f n out e next told first r second = ring_past_outer f n r (subst (IsNextItem fs.owner_of f n) (told_option next out told ∙ ap Some e) first) (subst (λ k. IsNextItem fs.owner_of f k r) e second) where
+    told_option : (x : Option ℕ) (y : ℕ) → option_eq nat_eq x (Some y) ≡ true → x ≡ Some y
+    told_option None y is = absurd (true≢false (sym is))
+    told_option (Some z) y is = elim (eqb_tells z y) [ inl p ↦ ap Some p.1 | inr p ↦ absurd (true≢false (sym is ∙ p.0)) ]
+
+  nil_or_one : (ns : List ℕ) → length ns ≡ 1 → (m : ℕ) → IsIn m ns → only_item ns ≡ Some m
+  nil_or_one [] e m i = absurd (omega (arith, e))
+  nil_or_one (n ∷ []) e m i = elim (eqb_tells m n) [ inl p ↦ ap Some (sym p.1) | inr p ↦ absurd (omega (arith, i, tick_other m n p.1)) ]
+  nil_or_one (n ∷ k ∷ ns) e m i = absurd (omega (arith, e))
+
+  -- the one face of a solid
+  one_face : (s m : ℕ) → length (faces_of M s) ≡ 1 → is_face_of M s m ≡ true → only_item (faces_of M s) ≡ Some m
+  unfolding solid_of
+  one_face s m e is = nil_or_one (faces_of M s) e m (omega (arith, count-all_where (λ _ (row : FaceRow). nat_eq row.solid s) M.faces m, passing (get M.faces m) is)) where
+    passing : (o : Option FaceRow) → is_some o && nat_eq (unwrap_or o no_face).solid s ≡ true → passes (λ _ (row : FaceRow). nat_eq row.solid s) m o ≡ 1
+    passing None h = absurd (true≢false (sym h))
+    passing (Some row) h = ap {B = ℕ} (λ b. cond b 1 0) h
+
+  not_one_face : (s : ℕ) → length (faces_of M s) ≢ 1 → only_item (faces_of M s) ≡ None
+  not_one_face s ne = go (faces_of M s) ne where
+    go : (ns : List ℕ) → length ns ≢ 1 → only_item ns ≡ None
+    go [] h = refl
+    go (n ∷ []) h = absurd (h (omega arith))
+    go (n ∷ k ∷ ns) h = refl
+
+  -- a solid that has a face has one above 0
+  some_face : (s : ℕ) → row_at faces 0 ≡ None → length (faces_of M s) ≡ 1 → IsNextFace M s 0 None → ⊥
+  unfolding solid_of
+  some_face s zero e none = no_one (faces_of M s) e (λ q. omega (arith, count-all_where (λ _ (row : FaceRow). nat_eq row.solid s) M.faces q, passing q)) where
+    no_one : (ns : List ℕ) → length ns ≡ 1 → ((q : ℕ) → count q ns ≡ 0) → ⊥
+    no_one [] e h = omega (arith, e)
+    no_one (n ∷ ns) e h = omega (arith, h n, tick_same n)
+
+    fails : (q : ℕ) (o : Option FaceRow) → is_some o && nat_eq (unwrap_or o no_face).solid s ≡ false → passes (λ _ (row : FaceRow). nat_eq row.solid s) q o ≡ 0
+    fails q None h = refl
+    fails q (Some row) h = ap {B = ℕ} (λ b. cond b 1 0) h
+
+    passing : (q : ℕ) → passes (λ _ (row : FaceRow). nat_eq row.solid s) q (get M.faces q) ≡ 0
+    passing q = elim (eqb_tells q 0) [
+      | inl p ↦ ap (λ k. passes (λ _ (row : FaceRow). nat_eq row.solid s) q (get M.faces k)) p.1 ∙ ap (passes (λ _ (row : FaceRow). nat_eq row.solid s) q) (get-table_of face_row faces 0 ∙ ap (map_row face_row) zero)
+      | inr p ↦ fails q (get M.faces q) (none q (omega (arith, p.1)))
+    ]
+
+  -- the only face of a solid, by its count and the next one above 0
+  faces_counted : (s : ℕ) → length (owned s ss.owner_of) ≡ length (faces_of M s)
+  faces_counted s = ap (λ t. length (owned s t)) indexed.of_solids ∙ face_count_is faces s
+
+  pub only_told : (s : ℕ) → row_at faces 0 ≡ None → length (owned s ss.owner_of) ≡ 1 → (r : Option ℕ) → IsNextItem ss.owner_of s 0 r → r ≡ only_item (faces_of M s)
+  only_told s zero one r next = go r (next_face s 0 r next) where
+    go : (r : Option ℕ) → IsNextFace M s 0 r → r ≡ only_item (faces_of M s)
+    go None h = absurd (some_face s zero (sym (faces_counted s) ∙ one) h)
+    go (Some m) h = sym (one_face s m (sym (faces_counted s) ∙ one) h.1)
+
+  pub none_told : (s : ℕ) → length (owned s ss.owner_of) ≢ 1 → None ≡ only_item (faces_of M s)
+  none_told s ne = sym (not_one_face s (λ e. ne (faces_counted s ∙ e)))

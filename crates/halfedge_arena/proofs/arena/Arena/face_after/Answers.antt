@@ -1,0 +1,7 @@
+use Rattle.std.specs.FinMap.{contains_key}
+use Rattle.raw_ring.specs.Rings.{spot}
+use Rattle.arena_rows.proofs.Nexts.{next_face}
+use Rattle.halfedge_arena.proofs.arena.Arena.face_after.Goals as goal
+
+pub returns : goal.returns
+returns c = rw (← c.self.view_is) (next_face (spot c.self.inside.rings) (contains_key c.self.inside.rings) _ _ _ c.self.inside.vertices.items _ _ c.self.invariant.indexed c.args.s c.args.n c.after.result c.after.ensures)

@@ -1,0 +1,8 @@
+//! Items that have owners: each owner's items stand in a list, chained from the least to the greatest.
+#![tactic(auto)]
+
+mod chains;
+mod places;
+mod rows;
+
+pub use chains::Chains;
