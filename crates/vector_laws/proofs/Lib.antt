@@ -1,0 +1,3 @@
+pub mod Integers
+pub mod Vectors
+pub mod Sweeps
