@@ -1,0 +1,6 @@
+mod Filled
+mod Numbers
+mod Areas
+mod Sides
+mod Lifted
+mod Loops
