@@ -4,3 +4,6 @@ mod Areas
 mod Sides
 mod Lifted
 mod Loops
+mod Volumes
+mod Kept
+mod Whole

@@ -84,7 +84,7 @@ module _ (M : Model) (c : Taken) (s : ℕ) (d : Point) (hs : List ℕ) (f l : �
   abbrev pub swept : Model
   swept = lifted (grown M c s d hs (length hs)) f l (top_items c.edge (length hs) (length hs))
 
-  tail_lifted : (h : ℕ) → tail swept h ≡ tail (grown M c s d hs (length hs)) h
+  pub tail_lifted : (h : ℕ) → tail swept h ≡ tail (grown M c s d hs (length hs)) h
   unfolding tail
   tail_lifted h = refl
 

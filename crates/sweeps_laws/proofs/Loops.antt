@@ -37,8 +37,12 @@ and_right : (a b : Bool) → (a && b) ≡ true → b ≡ true
 and_right true b e = e
 and_right false b e = absurd (true≢false (sym e))
 
+pub rest_up : (k : ℕ) (ks : List ℕ) → strictly_rises (k ∷ ks) ≡ true → strictly_rises ks ≡ true
+rest_up k [] up = refl
+rest_up k (q ∷ ks) up = and_right (nat_lt k q) (strictly_rises (q ∷ ks)) up
+
 -- what comes after the first number of a rising list is greater
-past_first : (n q : ℕ) (ns : List ℕ) → strictly_rises (n ∷ ns) ≡ true → lists ns q ≡ true → n < q
+pub past_first : (n q : ℕ) (ns : List ℕ) → strictly_rises (n ∷ ns) ≡ true → lists ns q ≡ true → n < q
 past_first n q [] r l = absurd (true≢false (sym l))
 past_first n q (m ∷ ns) r l = elim (listed_cases m q ns l) [
   | inl e ↦ subst (λ k. n < k) (sym e) (parts n m (strictly_rises (m ∷ ns)) r).0
@@ -85,10 +89,10 @@ module _ (M : Model) (c : Taken) (s : ℕ) (d : Point) (hs : List ℕ) (f l : �
   abbrev after : Model
   after = swept M c s d hs f l
 
-  abbrev from_at : ℕ → Point
+  abbrev pub from_at : ℕ → Point
   from_at = from_point M c s d hs f l b r
 
-  abbrev to_at : ℕ → Point
+  abbrev pub to_at : ℕ → Point
   to_at = to_point M c s d hs f l b r
 
   -- ---- the sides
@@ -162,7 +166,7 @@ module _ (M : Model) (c : Taken) (s : ℕ) (d : Point) (hs : List ℕ) (f l : �
       ∙ same_area M after (items_of (content M q)) (λ h i. (start_kept M after c.edge c.vertex (keeps_swept M c s d hs f l) b.tails h (b.items h q i), finish_kept M after c.edge c.vertex (keeps_swept M c s d hs f l) b.tails h (b.items h q i)))
   ]
 
-  loops_area : (ls : List ℕ) → ((q : ℕ) → lists ls q ≡ true → q ≤ c.loop) → area after (items_in after ls) ≡ area M (items_in M ls)
+  pub loops_area : (ls : List ℕ) → ((q : ℕ) → lists ls q ≡ true → q ≤ c.loop) → area after (items_in after ls) ≡ area M (items_in M ls)
   loops_area [] m = refl
   loops_area (q ∷ ls) m = area_append after (items_of (content after q)) (items_in after ls)
       ∙ (λ t. moved (loop_area q (m q (first_listed q ls)) t) (loops_area ls (λ k i. m k (rest_listed q k ls i)) t))
@@ -227,7 +231,3 @@ module _ (M : Model) (c : Taken) (s : ℕ) (d : Point) (hs : List ℕ) (f l : �
 
     rest_of : (k f : ℕ) (ks : List ℕ) → lists (k ∷ ks) f ≡ true → f ≢ k → lists ks f ≡ true
     rest_of k f ks i ne = elim (listed_cases k f ks i) [ inl e ↦ absurd (ne e) | inr j ↦ j ]
-
-    rest_up : (k : ℕ) (ks : List ℕ) → strictly_rises (k ∷ ks) ≡ true → strictly_rises ks ≡ true
-    rest_up k [] up = refl
-    rest_up k (q ∷ ks) up = and_right (nat_lt k q) (strictly_rises (q ∷ ks)) up

@@ -62,7 +62,7 @@ module _ (M : Model) (c : Taken) (s : ℕ) (d : Point) (hs : List ℕ) where
   unfolding with_side
   loops_step i N = refl
 
-  edges_step : (i : ℕ) → (with_side c s d hs i (grown i)).edges ≡ table.put (table.put (grown i).edges (riser c.edge i) (side_riser i)) (top_edge c.edge (length hs) i) (side_top i)
+  pub edges_step : (i : ℕ) → (with_side c s d hs i (grown i)).edges ≡ table.put (table.put (grown i).edges (riser c.edge i) (side_riser i)) (top_edge c.edge (length hs) i) (side_top i)
   unfolding with_side
   edges_step i = refl
 
