@@ -1,12 +1,11 @@
 -- Areas of lists of half-edges, and volumes of lists of faces.
-use Rattle.std.proofs.Common.{◌≡◌, ◌≢◌, ℕ, zero, suc, ◌+◌, ◌≤◌, ◌<◌, ℤ, pos, ◌+ℤ◌, List, [], ◌∷◌, ◌++◌, length, get_or, refl, sym, ap, ◌∙◌, arith}
+use Rattle.std.proofs.Common.{◌≡◌, ℕ, ℤ, pos, ◌+ℤ◌, List, [], ◌∷◌, ◌++◌, length, get_or, refl, sym, ap, ◌∙◌, arith}
 use Rattle.std.proofs.lemmas.Int.{ints}
-use Rattle.lattice.specs.declared.Point.{Point}
-use Rattle.lattice.specs.Vectors.{origin, moved, dot, cross}
-use Rattle.cyclic_list.specs.Items.{count, IsIn}
+use Rattle.lattice.specs.Vectors.{moved, dot, cross}
+use Rattle.cyclic_list.specs.Items.{IsIn}
 use Rattle.cyclic_list.proofs.Lists.{tick_same}
-use Rattle.boundary_model.specs.Model.{Model, items_of, content}
-use Rattle.shapes.specs.Faces.{start, finish, items_in}
+use Rattle.boundary_model.specs.Model.{Model}
+use Rattle.shapes.specs.Faces.{start, finish}
 use Rattle.solid_measure.specs.Measure.{area, normal, anchor, volume_in}
 use Rattle.vector_laws.proofs.Vectors.{moved_none, none_moved, moved_twice}
 use Rattle.vector_laws.proofs.Sweeps.{sum_to, sum_first}

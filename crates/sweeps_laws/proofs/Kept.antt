@@ -1,17 +1,16 @@
 -- One loop of a face swept: the model after lies within its counters, and the other loops are the paths that they were.
-use Rattle.std.proofs.Common.{◌≡◌, ◌≢◌, ℕ, zero, suc, ◌+◌, ◌*◌, ◌≤◌, ◌<◌, Bool, true, false, List, [], ◌∷◌, ◌++◌, length, get_or, Option, Some, None, is_some, unwrap_or, refl, sym, ap, subst, ◌∙◌, arith, ◌⊎◌, inl, inr}
-use Rattle.std.proofs.lemmas.Bool.Decides.{nat_tests, eqb_tells}
+use Rattle.std.proofs.Common.{◌≡◌, ◌≢◌, ℕ, zero, suc, ◌+◌, ◌*◌, ◌≤◌, ◌<◌, Bool, true, false, List, [], ◌∷◌, ◌++◌, length, get_or, Option, Some, is_some, unwrap_or, refl, sym, ap, subst, ◌∙◌, arith, ◌⊎◌, inl, inr}
+use Rattle.std.proofs.lemmas.Bool.Decides.{eqb_tells}
 use Rattle.lattice.specs.declared.Point.{Point}
-use Rattle.cyclic_list.specs.Items.{count, IsIn}
+use Rattle.cyclic_list.specs.Items.{IsIn}
 use Rattle.cyclic_list.proofs.Lists.{count-append, tick_other, IsIn_or_not}
 use Rattle.cyclic_list.proofs.Std.{IsIn-get_or}
 use Rattle.boundary_model.specs.HalfEdge.{edge_of, is_first, plus, minus}
 use Rattle.boundary_model.specs.Table as table
 use Rattle.boundary_model.specs.Table.{Table}
-use Rattle.boundary_model.specs.Model.{Model, LoopContent, lone, cycle, EdgeRow, no_edge, items_of, tail, tail_in, content, face_of, outer, solid_of}
+use Rattle.boundary_model.specs.Model.{Model, lone, cycle, EdgeRow, no_edge, items_of, tail, tail_in, content, face_of, outer, solid_of}
 use Rattle.boundary_model.specs.Sound.{Has}
 use Rattle.boundary_model.proofs.Halves.{plus_row, minus_row}
-use Rattle.shapes.specs.Faces.{start, finish}
 use Rattle.shapes.specs.Fresh.{Taken}
 use Rattle.shapes.specs.Prism.{riser, top_edge, top_items, next_place}
 use Rattle.fresh_laws.proofs.Rows.{at_most_greatest, get-put_here, get-put_other}
@@ -198,14 +197,17 @@ module _ (M : Model) (c : Taken) (s : ℕ) (d : Point) (hs : List ℕ) (f l : �
 
   -- another loop is the path that it was
   pub path_after : (q : ℕ) (gs : List ℕ) → q ≢ l → IsPathOf M f q gs → (content after q ≡ content M q) × IsPathOf after f q gs
-  path_after q gs ne w = (held, record {
-    there = ap is_some (loop_old M c s d hs f l q ne low) ∙ w.there;
-    of_face = face_of_old M c s d hs f l b r q low ∙ w.of_face;
-    content = held ∙ w.content;
-    some_item = w.some_item;
-    linked = λ i m. finish_kept M after c.edge c.vertex (keeps_swept M c s d hs f l) b.tails (get_or gs i 0) (inside i m) ∙ w.linked i m
-        ∙ sym (start_kept M after c.edge c.vertex (keeps_swept M c s d hs f l) b.tails (get_or gs (next_place (length gs) i) 0) (inside (next_place (length gs) i) (next_within (length gs) i m)));
-  }) where
+  path_after q gs ne w = (
+    held,
+    record {
+      there = ap is_some (loop_old M c s d hs f l q ne low) ∙ w.there;
+      of_face = face_of_old M c s d hs f l b r q low ∙ w.of_face;
+      content = held ∙ w.content;
+      some_item = w.some_item;
+      linked = λ i m. finish_kept M after c.edge c.vertex (keeps_swept M c s d hs f l) b.tails (get_or gs i 0) (inside i m) ∙ w.linked i m
+          ∙ sym (start_kept M after c.edge c.vertex (keeps_swept M c s d hs f l) b.tails (get_or gs (next_place (length gs) i) 0) (inside (next_place (length gs) i) (next_within (length gs) i m)));
+    },
+  ) where
     low : q ≤ c.loop
     low = within M c s d gs f q b w
 

@@ -7,3 +7,4 @@ mod Loops
 mod Volumes
 mod Kept
 mod Whole
+mod FromSound

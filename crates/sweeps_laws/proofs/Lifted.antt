@@ -1,5 +1,5 @@
 -- One loop of a face swept: what the readers answer of the model after.
-use Rattle.std.proofs.Common.{◌≡◌, ◌≢◌, ℕ, zero, suc, ◌+◌, ◌*◌, ◌≤◌, ◌<◌, Bool, true, false, cond, not, nat_eq, ◌&&◌, List, [], ◌∷◌, ◌++◌, length, get_or, Option, Some, None, unwrap_or, refl, sym, ap, subst, ◌∙◌, arith, inl, inr, append-nil}
+use Rattle.std.proofs.Common.{◌≡◌, ◌≢◌, ℕ, ◌+◌, ◌≤◌, ◌<◌, true, false, cond, not, nat_eq, ◌&&◌, List, [], ◌∷◌, ◌++◌, length, get_or, Some, unwrap_or, refl, sym, ap, subst, ◌∙◌, arith, inl, inr, append-nil}
 use Rattle.std.proofs.lemmas.Bool.Decides.{nat_tests, eqb_tells}
 use Rattle.lattice.specs.declared.Point.{Point}
 use Rattle.lattice.specs.Vectors.{moved}
@@ -7,7 +7,7 @@ use Rattle.cyclic_list.specs.Items.{IsIn, least, from, before}
 use Rattle.cyclic_list.specs.Rings.{canonical, rotate_to}
 use Rattle.cyclic_list.proofs.Lists.{from_at, before_at}
 use Rattle.cyclic_list.proofs.Std.{IsIn-get_or}
-use Rattle.boundary_model.specs.HalfEdge.{mate, edge_of, plus, minus}
+use Rattle.boundary_model.specs.HalfEdge.{edge_of, plus, minus}
 use Rattle.boundary_model.specs.Table as table
 use Rattle.boundary_model.specs.Table.{Table, map_rows}
 use Rattle.boundary_model.specs.Model.{Model, lone, cycle, FaceRow, LoopRow, no_face, no_loop, items_of, tail, content, face_of, outer, solid_of, point_of, rings_of}
@@ -20,7 +20,7 @@ use Rattle.shapes.specs.Fresh.{Taken}
 use Rattle.shapes.specs.Prism.{riser, top_edge, top_items, next_place, lifted}
 use Rattle.fresh_laws.proofs.Rows.{get-put_here, get-put_other, at_most_greatest}
 use Rattle.sweeps_laws.proofs.Filled.{place_cases, filled, filled_old, filled_new, filled_past, filled_none, all_where-map, same_search}
-use Rattle.sweeps_laws.proofs.Numbers.{riser_above, top_above, next_within, mate_plus, mate_minus, tail_plus, tail_minus}
+use Rattle.sweeps_laws.proofs.Numbers.{riser_above, top_above, next_within, tail_plus, tail_minus}
 use Rattle.sweeps_laws.proofs.Sides.{Keeps, start_kept, finish_kept, grown, item, side_face, side_items, side_loop, faces_grown, loops_grown, keeps_grown, riser_row, top_row, point_grown}
 
 -- a model's numbers lie within the counters, and an outer loop is of its face
@@ -197,7 +197,7 @@ module _ (M : Model) (c : Taken) (s : ℕ) (d : Point) (hs : List ℕ) (f l : �
     loops_are = ap (λ t. table.put t l lifted_row) (loops_grown M c s d hs (length hs))
         ∙ ap (table.put (filled M.loops c.loop (side_loop M c s d hs) (length hs)) l) (ap (λ k. record { face = k; content = cycle (top_items c.edge (length hs) (length hs)) }) (sym r.of_face) ∙ sym (rewrite_here (record { face = face_of M l; content = content M l })))
         ∙ sym (map_one rewrite (filled M.loops c.loop (side_loop M c s d hs) (length hs)) l (record { face = face_of M l; content = content M l })
-          (filled_old M.loops c.loop (side_loop M c s d hs) (length hs) l within ∙ loop_row M l r.there) (λ q y ne at. rewrite_other q y ne))
+        (filled_old M.loops c.loop (side_loop M c s d hs) (length hs) l within ∙ loop_row M l r.there) (λ q y ne at. rewrite_other q y ne))
 
     pub outer_old : (k : ℕ) → k ≤ c.face → outer swept k ≡ outer M k
     outer_old k m = same_outer M swept k (face_old k m)
@@ -207,7 +207,7 @@ module _ (M : Model) (c : Taken) (s : ℕ) (d : Point) (hs : List ℕ) (f l : �
         ∙ ap (table.all_where (λ q row. nat_eq row.face k && not (nat_eq (outer M k) q))) loops_are
         ∙ all_where-map rewrite (λ q row. nat_eq row.face k && not (nat_eq (outer M k) q)) (filled M.loops c.loop (side_loop M c s d hs) (length hs))
         ∙ same_search (λ q row. nat_eq (rewrite q row).face k && not (nat_eq (outer M k) q)) (λ q row. nat_eq row.face k && not (nat_eq (outer M k) q)) (filled M.loops c.loop (side_loop M c s d hs) (length hs))
-          (λ q row. ap (λ g. nat_eq g k && not (nat_eq (outer M k) q)) (rewrite_face q row))
+        (λ q row. ap (λ g. nat_eq g k && not (nat_eq (outer M k) q)) (rewrite_face q row))
         ∙ filled_none M.loops c.loop (side_loop M c s d hs) b.loops (λ q row. nat_eq row.face k && not (nat_eq (outer M k) q)) (length hs) (λ i. ap (λ e. e && not (nat_eq (outer M k) (c.loop + 1 + i))) (new_face c.face i k m)) where
           new_face : (a i k : ℕ) → k ≤ a → nat_eq (a + 1 + i) k ≡ false
           new_face a i k m = grind (arith, nat_tests)

@@ -1,28 +1,26 @@
 -- One loop of a face swept: areas, anchors and volumes of the faces after.
-use Rattle.std.proofs.Common.{◌≡◌, ◌≢◌, ℕ, zero, suc, ◌+◌, ◌*◌, ◌≤◌, ◌<◌, ℤ, pos, ◌+ℤ◌, ◌*ℤ◌, Bool, true, false, cond, not, nat_eq, nat_lt, ◌&&◌, List, [], ◌∷◌, ◌++◌, length, get_or, is_some, refl, sym, ap, subst, ◌∙◌, arith, inl, inr, true≢false}
+use Rattle.std.proofs.Common.{◌≡◌, ◌≢◌, ℕ, zero, suc, ◌+◌, ◌≤◌, ◌<◌, ℤ, pos, ◌+ℤ◌, ◌*ℤ◌, Bool, true, false, not, nat_eq, nat_lt, ◌&&◌, List, [], ◌∷◌, ◌++◌, length, get_or, is_some, refl, sym, ap, subst, ◌∙◌, arith, inl, inr, true≢false}
 use Rattle.std.proofs.lemmas.Bool.Decides.{nat_tests, eqb_tells}
 use Rattle.std.proofs.lemmas.Int.{ints}
 use Rattle.lattice.specs.declared.Point.{Point}
 use Rattle.lattice.specs.Vectors.{origin, moved, dot, cross}
 use Rattle.cyclic_list.specs.Items.{IsIn, head_or}
-use Rattle.boundary_model.specs.HalfEdge.{mate, edge_of, plus, minus}
+use Rattle.boundary_model.specs.HalfEdge.{edge_of, plus, minus}
 use Rattle.boundary_model.specs.Table as table
-use Rattle.boundary_model.specs.Model.{Model, LoopContent, lone, cycle, items_of, tail, content, face_of, outer, solid_of, point_of, rings_of, faces_of}
-use Rattle.boundary_model.specs.Sound.{Has}
+use Rattle.boundary_model.specs.Model.{Model, LoopContent, lone, cycle, items_of, tail, content, outer, point_of, rings_of}
 use Rattle.euler_operators.specs.Conditions.{lists, strictly_rises}
-use Rattle.euler_laws_shared.proofs.Listed.{first_listed, rest_listed, listed_cases, listed_passes, all_where-rises, passes_listed}
+use Rattle.euler_laws_shared.proofs.Listed.{first_listed, rest_listed, listed_cases, listed_passes}
 use Rattle.shapes.specs.Faces.{start, finish, loops_of, items_in, boundary}
 use Rattle.shapes.specs.Fresh.{Taken}
-use Rattle.shapes.specs.Prism.{riser, top_edge, top_items, next_place, with_sides}
-use Rattle.solid_measure.specs.Measure.{area, normal, anchor, first_vertex, volume_in, six_volume}
+use Rattle.shapes.specs.Prism.{riser, top_edge, top_items, next_place}
+use Rattle.solid_measure.specs.Measure.{area, normal, anchor, first_vertex, volume_in}
 use Rattle.fresh_laws.proofs.Rows.{at_most_greatest}
 use Rattle.vector_laws.proofs.Vectors.{dot_moved}
-use Rattle.vector_laws.proofs.Sweeps.{sum_to, total_to, same_total, moved_at, area_at, moved_ring, side_area, side_volume, sides_volume, Linked}
-use Rattle.sweeps_laws.proofs.Filled.{filled, filled_search}
+use Rattle.vector_laws.proofs.Sweeps.{sum_to, moved_at, area_at, moved_ring, side_area, side_volume, Linked}
 use Rattle.sweeps_laws.proofs.Numbers.{next_cases, mate_plus, mate_minus}
-use Rattle.sweeps_laws.proofs.Areas.{first_in, rest_in, area_append, area_last, area_sum, same_area, volume_of, volume_last}
-use Rattle.sweeps_laws.proofs.Sides.{Keeps, start_kept, finish_kept, grown, item, side_face, side_items, faces_grown}
-use Rattle.sweeps_laws.proofs.Lifted.{Bounded, IsPathOf, swept, keeps_swept, outer_new, within, content_here, content_old, content_new, outer_old, rings_old, rings_new, from_point, to_point, riser_start, riser_finish, top_start, top_finish, next_start, next_finish, item_start, item_finish, new_apart}
+use Rattle.sweeps_laws.proofs.Areas.{first_in, area_append, area_last, area_sum, same_area, volume_of}
+use Rattle.sweeps_laws.proofs.Sides.{Keeps, start_kept, finish_kept}
+use Rattle.sweeps_laws.proofs.Lifted.{Bounded, IsPathOf, swept, keeps_swept, outer_new, content_here, content_old, content_new, outer_old, rings_old, rings_new, from_point, to_point, riser_start, riser_finish, top_start, top_finish, next_start, next_finish, item_start, item_finish}
 
 -- the normal of a face, over its outer loop and its rings
 pub normal_is : (M : Model) (k : ℕ) → normal M k ≡ area M (items_in M (outer M k ∷ rings_of M k))
@@ -56,7 +54,7 @@ past_first n q (m ∷ ns) r l = elim (listed_cases m q ns l) [
   between n m q a b = omega arith
 
 -- the first item
-head_is : (hs : List ℕ) → head_or 0 hs ≡ get_or hs 0 0
+pub head_is : (hs : List ℕ) → head_or 0 hs ≡ get_or hs 0 0
 head_is [] = refl
 head_is (h ∷ hs) = refl
 
@@ -103,17 +101,17 @@ module _ (M : Model) (c : Taken) (s : ℕ) (d : Point) (hs : List ℕ) (f l : �
       ∙ ap (λ q. area after (items_in after (q ∷ []))) (outer_new M c s d hs f l i m)
       ∙ ap (λ x. area after (items_of x ++ [])) (content_new M c s d hs f l b r i m)
       ∙ (λ t. moved (cross (item_start M c s d hs f l b r i m t) (item_finish M c s d hs f l b r i m t))
-        (moved (cross (next_start M c s d hs f l b r i m t) (up t))
-        (moved (cross (top_finish M c s d hs f l b r i m t) (back t))
-        (moved (cross (riser_finish M c s d hs f l b r i m t) (down t)) origin)))) where
-          up : finish after (plus (riser c.edge (next_place (length hs) i))) ≡ moved (to_at i) d
-          up = ap (start after) (mate_plus (riser c.edge (next_place (length hs) i))) ∙ next_finish M c s d hs f l b r i m
+      (moved (cross (next_start M c s d hs f l b r i m t) (up t))
+      (moved (cross (top_finish M c s d hs f l b r i m t) (back t))
+      (moved (cross (riser_finish M c s d hs f l b r i m t) (down t)) origin)))) where
+        up : finish after (plus (riser c.edge (next_place (length hs) i))) ≡ moved (to_at i) d
+        up = ap (start after) (mate_plus (riser c.edge (next_place (length hs) i))) ∙ next_finish M c s d hs f l b r i m
 
-          back : finish after (minus (top_edge c.edge (length hs) i)) ≡ moved (from_at i) d
-          back = ap (start after) (mate_minus (top_edge c.edge (length hs) i)) ∙ top_start M c s d hs f l b r i m
+        back : finish after (minus (top_edge c.edge (length hs) i)) ≡ moved (from_at i) d
+        back = ap (start after) (mate_minus (top_edge c.edge (length hs) i)) ∙ top_start M c s d hs f l b r i m
 
-          down : finish after (minus (riser c.edge i)) ≡ from_at i
-          down = ap (start after) (mate_minus (riser c.edge i)) ∙ riser_start M c s d hs f l b r i m
+        down : finish after (minus (riser c.edge i)) ≡ from_at i
+        down = ap (start after) (mate_minus (riser c.edge i)) ∙ riser_start M c s d hs f l b r i m
 
   side_anchor : (i : ℕ) → i < length hs → anchor after (c.face + 1 + i) ≡ from_at i
   side_anchor i m = ap (λ q. point_of after (first_vertex after (content after q))) (outer_new M c s d hs f l i m)
@@ -161,9 +159,9 @@ module _ (M : Model) (c : Taken) (s : ℕ) (d : Point) (hs : List ℕ) (f l : �
   pub loop_area : (q : ℕ) → q ≤ c.loop → area after (items_of (content after q)) ≡ area M (items_of (content M q))
   loop_area q m = elim (eqb_tells q l) [
     | inl e ↦ subst (λ k. area after (items_of (content after k)) ≡ area M (items_of (content M k))) (sym e.1)
-      (ap (λ x. area after (items_of x)) (content_here M c s d hs f l b r) ∙ area_lifted ∙ sym (ap (λ x. area M (items_of x)) r.content))
+        (ap (λ x. area after (items_of x)) (content_here M c s d hs f l b r) ∙ area_lifted ∙ sym (ap (λ x. area M (items_of x)) r.content))
     | inr e ↦ ap (λ x. area after (items_of x)) (content_old M c s d hs f l b r q e.1 m)
-      ∙ same_area M after (items_of (content M q)) (λ h i. (start_kept M after c.edge c.vertex (keeps_swept M c s d hs f l) b.tails h (b.items h q i), finish_kept M after c.edge c.vertex (keeps_swept M c s d hs f l) b.tails h (b.items h q i)))
+        ∙ same_area M after (items_of (content M q)) (λ h i. (start_kept M after c.edge c.vertex (keeps_swept M c s d hs f l) b.tails h (b.items h q i), finish_kept M after c.edge c.vertex (keeps_swept M c s d hs f l) b.tails h (b.items h q i)))
   ]
 
   pub loops_area : (ls : List ℕ) → ((q : ℕ) → lists ls q ≡ true → q ≤ c.loop) → area after (items_in after ls) ≡ area M (items_in M ls)
@@ -216,9 +214,9 @@ module _ (M : Model) (c : Taken) (s : ℕ) (d : Point) (hs : List ℕ) (f l : �
   faces_moved [] up i e w = absurd (true≢false (sym i))
   faces_moved (k ∷ ks) up i e w = elim (eqb_tells f k) [
     | inl p ↦ (λ t. volume_moved k (w k (first_listed k ks)).0 (ap (outer M) (sym p.1) ∙ e) t +ℤ faces_kept ks (λ q j. ((w q (rest_listed k q ks j)).0, (w q (rest_listed k q ks j)).1 (later k q f p.1 (past_first k q ks up j)))) t)
-      ∙ turned (volume_of M k) (dot d (normal M k)) (volume_in M ks) ∙ ap (λ j. volume_of M k +ℤ volume_in M ks +ℤ dot d (normal M j)) (sym p.1)
+        ∙ turned (volume_of M k) (dot d (normal M k)) (volume_in M ks) ∙ ap (λ j. volume_of M k +ℤ volume_in M ks +ℤ dot d (normal M j)) (sym p.1)
     | inr p ↦ (λ t. volume_kept k (w k (first_listed k ks)).0 ((w k (first_listed k ks)).1 (λ x. p.1 (sym x))) t +ℤ faces_moved ks (rest_up k ks up) (rest_of k f ks i p.1) e (λ q j. w q (rest_listed k q ks j)) t)
-      ∙ assoc (volume_of M k) (volume_in M ks) (dot d (normal M f))
+        ∙ assoc (volume_of M k) (volume_in M ks) (dot d (normal M f))
   ] where
     later : (k q f : ℕ) → f ≡ k → k < q → q ≢ f
     later k q f e l s = absurd (omega arith)

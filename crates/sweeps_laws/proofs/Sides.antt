@@ -1,6 +1,6 @@
 -- The tables of a model to which the sides over some items have been added.
-use Rattle.std.proofs.Common.{◌≡◌, ◌≢◌, ℕ, zero, suc, ◌+◌, ◌*◌, ◌≤◌, ◌<◌, List, [], ◌∷◌, length, get_or, Option, Some, None, unwrap_or, refl, sym, ap, subst, ◌∙◌, arith, inl, inr}
-use Rattle.std.proofs.lemmas.Bool.Decides.{nat_tests, eqb_tells}
+use Rattle.std.proofs.Common.{◌≡◌, ◌≢◌, ℕ, zero, suc, ◌+◌, ◌≤◌, ◌<◌, List, [], ◌∷◌, length, get_or, Some, unwrap_or, refl, sym, ap, subst, ◌∙◌, arith, inl, inr}
+use Rattle.std.proofs.lemmas.Bool.Decides.{eqb_tells}
 use Rattle.lattice.specs.declared.Point.{Point}
 use Rattle.lattice.specs.Vectors.{moved}
 use Rattle.cyclic_list.specs.Rings.{canonical}
@@ -132,10 +132,10 @@ module _ (M : Model) (c : Taken) (s : ℕ) (d : Point) (hs : List ℕ) where
   top_grown (suc n) i m l = ap (λ t. table.get t (top_edge c.edge (length hs) i)) (edges_step n)
       ∙ elim (eqb_tells i n) [
         | inl e ↦ subst (λ k. table.get (table.put (table.put (grown n).edges (riser c.edge n) (side_riser n)) (top_edge c.edge (length hs) n) (side_top n)) (top_edge c.edge (length hs) k) ≡ Some (side_top k)) (sym e.1)
-          (get-put_here (table.put (grown n).edges (riser c.edge n) (side_riser n)) (top_edge c.edge (length hs) n) (side_top n))
+            (get-put_here (table.put (grown n).edges (riser c.edge n) (side_riser n)) (top_edge c.edge (length hs) n) (side_top n))
         | inr e ↦ get-put_other (table.put (grown n).edges (riser c.edge n) (side_riser n)) (top_edge c.edge (length hs) n) (side_top n) (top_edge c.edge (length hs) i) (top_apart c.edge (length hs) i n (before_all i n (length hs) l m) m e.1)
-          ∙ get-put_other (grown n).edges (riser c.edge n) (side_riser n) (top_edge c.edge (length hs) i) (λ p. riser_no_top c.edge (length hs) n i m (before_all i n (length hs) l m) (sym p))
-          ∙ top_grown n i (less_one n (length hs) m) (before_last i n l e.1)
+            ∙ get-put_other (grown n).edges (riser c.edge n) (side_riser n) (top_edge c.edge (length hs) i) (λ p. riser_no_top c.edge (length hs) n i m (before_all i n (length hs) l m) (sym p))
+            ∙ top_grown n i (less_one n (length hs) m) (before_last i n l e.1)
       ] where
         before_all : (i n m : ℕ) → i < suc n → suc n ≤ m → i < m
         before_all i n m l k = omega arith

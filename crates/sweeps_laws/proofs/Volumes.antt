@@ -1,5 +1,5 @@
 -- One loop of a face swept: what the six volumes grow by.
-use Rattle.std.proofs.Common.{◌≡◌, ◌≢◌, ℕ, zero, suc, ◌+◌, ◌≤◌, ℤ, pos, ◌+ℤ◌, ◌*ℤ◌, Bool, true, cond, nat_eq, List, [], ◌∷◌, ◌++◌, length, get_or, is_some, refl, sym, ap, ◌∙◌, arith, inl, inr}
+use Rattle.std.proofs.Common.{◌≡◌, ◌≢◌, ℕ, zero, suc, ◌+◌, ◌≤◌, ℤ, pos, ◌+ℤ◌, ◌*ℤ◌, Bool, true, cond, nat_eq, List, [], ◌∷◌, ◌++◌, length, is_some, refl, sym, ap, ◌∙◌, arith, inl, inr}
 use Rattle.std.proofs.lemmas.Bool.Decides.{nat_tests, eqb_tells}
 use Rattle.std.proofs.lemmas.Int.{ints}
 use Rattle.lattice.specs.declared.Point.{Point}
@@ -37,7 +37,7 @@ module _ (M : Model) (c : Taken) (s : ℕ) (d : Point) (hs : List ℕ) (f l : �
     none : (a : ℤ) → a ≡ a +ℤ pos 0
     none a = omega (arith, ints)
   sides_after (suc n) = ap (volume_in after) (filled_search M.faces c.face (side_face M c s d hs) b.faces of_solid n
-        ∙ ap (λ t. table.all_where of_solid (filled M.faces c.face (side_face M c s d hs) n) ++ cond t ((c.face + 1 + n) ∷ []) []) (same s))
+      ∙ ap (λ t. table.all_where of_solid (filled M.faces c.face (side_face M c s d hs) n) ++ cond t ((c.face + 1 + n) ∷ []) []) (same s))
       ∙ volume_last after (table.all_where of_solid (filled M.faces c.face (side_face M c s d hs) n)) (c.face + 1 + n)
       ∙ ap (λ v. v +ℤ volume_of after (c.face + 1 + n)) (sides_after n)
       ∙ assoc (volume_in after (faces_of M s)) (total_to (λ i. volume_of after (c.face + 1 + i)) n) (volume_of after (c.face + 1 + n)) where
@@ -72,9 +72,9 @@ module _ (M : Model) (c : Taken) (s : ℕ) (d : Point) (hs : List ℕ) (f l : �
   pub outer_adds : outer M f ≡ l → Has M.faces f → solid_of M f ≡ s → six_volume after s ≡ (six_volume M s +ℤ dot d (normal M f)) +ℤ pos 2 *ℤ dot (area M hs) d
   outer_adds e there of = volume_after ∙ ap (λ v. v +ℤ pos 2 *ℤ dot (area M hs) d)
       (faces_moved M c s d hs f l b r (faces_of M s) (all_where-rises of_solid M.faces) (passes_listed of_solid M.faces f (record { solid = solid_of M f; outer = outer M f }) (face_there M f there) (equal (solid_of M f) s of)) e each
-        ∙ ap (λ v. v +ℤ dot d (normal M f)) (sym (six_volume_is M s))) where
-          equal : (a b : ℕ) → a ≡ b → nat_eq a b ≡ true
-          equal a b e = grind (arith, nat_tests)
+      ∙ ap (λ v. v +ℤ dot d (normal M f)) (sym (six_volume_is M s))) where
+        equal : (a b : ℕ) → a ≡ b → nat_eq a b ≡ true
+        equal a b e = grind (arith, nat_tests)
 
-          each : (k : ℕ) → lists (faces_of M s) k ≡ true → (k ≤ c.face) × (k ≢ f → outer M k ≢ l)
-          each k i = let p = face_within k i in (p.0, other_outer k p.1)
+        each : (k : ℕ) → lists (faces_of M s) k ≡ true → (k ≤ c.face) × (k ≢ f → outer M k ≢ l)
+        each k i = let p = face_within k i in (p.0, other_outer k p.1)

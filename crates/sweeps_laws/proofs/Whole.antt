@@ -1,9 +1,8 @@
 -- A whole face swept: its loops one after the other.
-use Rattle.std.proofs.Common.{◌≡◌, ◌≢◌, ℕ, ◌+◌, ◌*◌, ◌≤◌, ◌<◌, ℤ, pos, ◌+ℤ◌, ◌*ℤ◌, true, List, [], ◌∷◌, length, refl, sym, ap, subst, ◌∙◌, arith}
+use Rattle.std.proofs.Common.{◌≡◌, ◌≢◌, ℕ, ◌<◌, ℤ, pos, ◌+ℤ◌, ◌*ℤ◌, true, List, [], ◌∷◌, length, refl, sym, ap, subst, ◌∙◌, arith}
 use Rattle.std.proofs.lemmas.Int.{ints}
 use Rattle.lattice.specs.declared.Point.{Point}
-use Rattle.lattice.specs.Vectors.{origin, moved, dot}
-use Rattle.boundary_model.specs.Table as table
+use Rattle.lattice.specs.Vectors.{origin, dot}
 use Rattle.boundary_model.specs.Model.{Model, items_of, content, outer, solid_of, rings_of}
 use Rattle.boundary_model.specs.Sound.{Has}
 use Rattle.euler_operators.specs.Conditions.{lists, strictly_rises}
@@ -44,9 +43,9 @@ module _ (f : ℕ) (d : Point) (s : ℕ) where
       (v +ℤ pos 2 *ℤ dot (area M (items_of (content M l))) d) +ℤ pos 2 *ℤ dot (area M (items_in M ls)) d ≡ v +ℤ pos 2 *ℤ dot (area M (items_in M (l ∷ ls))) d
   both M l ls v = assoc v (pos 2 *ℤ dot (area M (items_of (content M l))) d) (pos 2 *ℤ dot (area M (items_in M ls)) d)
       ∙ ap (λ x. v +ℤ x) (sym (twice_sum (dot (area M (items_of (content M l))) d) (dot (area M (items_in M ls)) d))
-        ∙ ap (λ x. pos 2 *ℤ x) (sym (dot_moved (area M (items_of (content M l))) (area M (items_in M ls)) d) ∙ ap (λ a. dot a d) (sym (area_append M (items_of (content M l)) (items_in M ls))))) where
-          assoc : (a b c : ℤ) → (a +ℤ b) +ℤ c ≡ a +ℤ (b +ℤ c)
-          assoc a b c = omega (arith, ints)
+      ∙ ap (λ x. pos 2 *ℤ x) (sym (dot_moved (area M (items_of (content M l))) (area M (items_in M ls)) d) ∙ ap (λ a. dot a d) (sym (area_append M (items_of (content M l)) (items_in M ls))))) where
+        assoc : (a b c : ℤ) → (a +ℤ b) +ℤ c ≡ a +ℤ (b +ℤ c)
+        assoc a b c = omega (arith, ints)
 
   after_least : (l : ℕ) (ls : List ℕ) → strictly_rises (l ∷ ls) ≡ true → (q : ℕ) → lists ls q ≡ true → q ≢ l
   after_least l ls up q i = greater l q (past_first l q ls up i) where
@@ -70,7 +69,7 @@ module _ (f : ℕ) (d : Point) (s : ℕ) where
       let o = outer_after M g.taken s d hs f l b r there in
       ap (λ x. six_volume (prism_from f d x ls).model s) (raised_is f d g l ∙ ap (raised_as f d g l) of)
       ∙ rings_swept ls (raised_as f d g l s) (bounded_after M g.taken s d hs f l b r) (there_after M g.taken s d hs f l b r there) (solid_after M g.taken s d hs f l b r there ∙ of) (rest_up l ls up)
-        (paths_after M g.taken hs l b r ls (after_least l ls up) rest) (λ q i e. rings q (rest_listed l q ls i) (sym o ∙ e))
+      (paths_after M g.taken hs l b r ls (after_least l ls up) rest) (λ q i e. rings q (rest_listed l q ls i) (sym o ∙ e))
       ∙ (λ t. ring_adds M g.taken s d hs f l b r (rings l (first_listed l ls)) t +ℤ pos 2 *ℤ dot (items_after M g.taken hs l b r ls rest t) d)
       ∙ both M l ls (six_volume M s)
 
@@ -86,7 +85,7 @@ module _ (f : ℕ) (d : Point) (s : ℕ) where
       let o = outer_after M g.taken s d hs f l b r there in
       ap (λ x. six_volume (prism_from f d x ls).model s) (raised_is f d g l ∙ ap (raised_as f d g l) of)
       ∙ rings_swept ls (raised_as f d g l s) (bounded_after M g.taken s d hs f l b r) (there_after M g.taken s d hs f l b r there) (solid_after M g.taken s d hs f l b r there ∙ of) up
-        (paths_after M g.taken hs l b r ls (λ q i e. rings q i (sym e)) rest) (λ q i e. rings q i (sym is ∙ sym o ∙ e))
+      (paths_after M g.taken hs l b r ls (λ q i e. rings q i (sym e)) rest) (λ q i e. rings q i (sym is ∙ sym o ∙ e))
       ∙ (λ t. outer_adds M g.taken s d hs f l b r is there of t +ℤ pos 2 *ℤ dot (items_after M g.taken hs l b r ls rest t) d)
       ∙ both M l ls (six_volume M s +ℤ dot d (normal M f))
 
