@@ -160,3 +160,7 @@ pub minus_halves : (e n : ℕ) → reverse (map minus (numbers_after e n)) ≡ b
 minus_halves e zero = refl
 minus_halves e (suc n) = ap (λ xs. reverse (map minus xs)) (numbers_last e n) ∙ ap reverse (map-append minus (numbers_after e n) ((e + suc n) ∷ []))
     ∙ reverse-append (map minus (numbers_after e n)) (minus (e + suc n) ∷ []) ∙ ap (λ xs. minus (e + suc n) ∷ xs) (minus_halves e n)
+
+-- the loop along one edge
+pub two_halves : (e : ℕ) → canonical (plus (e + 1) ∷ minus (e + 1) ∷ []) ≡ out e 1 ++ back e 1
+two_halves e = canonical_out e 0 (minus (e + 1) ∷ []) (λ y i. (back_within e 1 y i).0)
