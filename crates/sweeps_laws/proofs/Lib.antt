@@ -8,3 +8,4 @@ mod Volumes
 mod Kept
 mod Whole
 mod FromSound
+mod Base
