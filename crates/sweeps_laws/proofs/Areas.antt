@@ -1,13 +1,12 @@
 -- Areas of lists of half-edges, and volumes of lists of faces.
-use Rattle.std.proofs.Common.{◌≡◌, ℕ, ℤ, pos, ◌+ℤ◌, List, [], ◌∷◌, ◌++◌, length, get_or, refl, sym, ap, ◌∙◌, arith}
-use Rattle.std.proofs.lemmas.Int.{ints}
+use Rattle.std.proofs.Common.{◌≡◌, ℕ, ℤ, ◌+ℤ◌, List, [], ◌∷◌, ◌++◌, length, get_or, refl, sym, ap, ◌∙◌, arith}
 use Rattle.lattice.specs.Vectors.{moved, dot, cross}
 use Rattle.cyclic_list.specs.Items.{IsIn}
 use Rattle.cyclic_list.proofs.Lists.{tick_same}
 use Rattle.boundary_model.specs.Model.{Model}
 use Rattle.shapes.specs.Faces.{start, finish}
 use Rattle.solid_measure.specs.Measure.{area, normal, anchor, volume_in}
-use Rattle.vector_laws.proofs.Vectors.{moved_none, none_moved, moved_twice}
+use Rattle.vector_laws.proofs.Vectors.{moved_none, none_moved, moved_twice, add_none, none_add, add_assoc}
 use Rattle.vector_laws.proofs.Sweeps.{sum_to, sum_first}
 
 -- the first of a list stands in it, and what stands in the rest does
@@ -35,12 +34,8 @@ module _ (M : Model) where
   volume_of k = dot (anchor M k) (normal M k)
 
   pub volume_last : (ks : List ℕ) (k : ℕ) → volume_in M (ks ++ k ∷ []) ≡ volume_in M ks +ℤ volume_of k
-  volume_last [] k = turned (volume_of k) where
-    turned : (a : ℤ) → a +ℤ pos 0 ≡ pos 0 +ℤ a
-    turned a = omega (arith, ints)
-  volume_last (x ∷ xs) k = ap (λ v. volume_of x +ℤ v) (volume_last xs k) ∙ add_assoc (volume_of x) (volume_in M xs) (volume_of k) where
-    add_assoc : (a b c : ℤ) → a +ℤ (b +ℤ c) ≡ (a +ℤ b) +ℤ c
-    add_assoc a b c = omega (arith, ints)
+  volume_last [] k = add_none (volume_of k) ∙ sym (none_add (volume_of k))
+  volume_last (x ∷ xs) k = ap (λ v. volume_of x +ℤ v) (volume_last xs k) ∙ sym (add_assoc (volume_of x) (volume_in M xs) (volume_of k))
 
 module _ (M N : Model) where
   -- half-edges that start and end where they did have the area that they had

@@ -1,24 +1,23 @@
 -- A lamina of four points: its two faces and their volumes.
-use Rattle.std.proofs.Common.{◌≡◌, ◌≢◌, ℕ, ◌+◌, ◌≤◌, ◌<◌, ℤ, pos, ◌+ℤ◌, Bool, true, false, cond, not, nat_eq, ◌&&◌, ◌||◌, List, [], ◌∷◌, ◌++◌, map, reverse, Option, Some, None, is_some, unwrap_or, refl, sym, ap, subst, ◌∙◌, arith, ◌⊎◌, inl, inr, true≢false}
+use Rattle.std.proofs.Common.{◌≡◌, ◌≢◌, ℕ, ◌+◌, ◌≤◌, pos, ◌+ℤ◌, Bool, true, false, cond, not, nat_eq, ◌&&◌, ◌||◌, List, [], ◌∷◌, ◌++◌, map, reverse, Some, is_some, unwrap_or, refl, sym, ap, subst, ◌∙◌, arith, ◌⊎◌, inl, inr}
 use Rattle.std.proofs.lemmas.Bool.Decides.{nat_tests}
 use Rattle.lattice.specs.declared.Point.{Point}
 use Rattle.lattice.specs.Vectors.{origin, moved, dot, cross}
 use Rattle.cyclic_list.specs.Items.{IsIn, IsApart}
 use Rattle.cyclic_list.specs.Rings.{canonical}
-use Rattle.boundary_model.specs.HalfEdge.{mate, edge_of, plus, minus}
+use Rattle.boundary_model.specs.HalfEdge.{plus, minus}
 use Rattle.boundary_model.specs.Table as table
-use Rattle.boundary_model.specs.Model.{Model, cycle, FaceRow, LoopRow, EdgeRow, no_face, no_point, items_of, tail, content, outer, solid_of, face_of, point_of, rings_of, faces_of}
-use Rattle.boundary_model.specs.Sound.{Sound, Has}
+use Rattle.boundary_model.specs.Model.{Model, cycle, FaceRow, LoopRow, EdgeRow, no_face, no_point, items_of, content, outer, solid_of, point_of, rings_of, faces_of}
+use Rattle.boundary_model.specs.Sound.{Has}
 use Rattle.boundary_model.proofs.Tables.{all_where_none, first_where_zero}
 use Rattle.boundary_model.proofs.Models.{content_row, face_row}
 use Rattle.euler_operators.specs.Conditions.{is_lone, lists}
 use Rattle.shapes.specs.Faces.{start, finish, least_lone, items_in}
-use Rattle.shapes.specs.Fresh.{Taken, taken_in, numbers_after}
-use Rattle.shapes.specs.Lamina.{with_path, with_points, with_ring, lamina_at, lamina_model}
+use Rattle.shapes.specs.Fresh.{Taken, numbers_after}
+use Rattle.shapes.specs.Lamina.{with_path, with_points, lamina_at}
 use Rattle.solid_measure.specs.Measure.{area, normal, anchor, first_vertex, volume_in, six_volume}
-use Rattle.fresh_laws.proofs.Rows.{get-put_here, get-put_other, get-put_cases, all_where-put_last, greatest-put_last, at_most_greatest}
+use Rattle.fresh_laws.proofs.Rows.{get-put_here, get-put_other, get-put_cases, all_where-put_last, greatest-put_last}
 use Rattle.lamina_laws.proofs.Lists.{plus_halves, minus_halves, back_apart, first_moved, canonical_first}
-use Rattle.lamina_laws.specs.Path.{out, back}
 use Rattle.vector_laws.proofs.Rectangles.{ring_area}
 use Rattle.sweeps_laws.proofs.Numbers.{mate_plus, mate_minus, tail_plus, tail_minus}
 use Rattle.sweeps_laws.proofs.Kept.{in_cases}
@@ -33,7 +32,7 @@ found_point : (N : Model) (v : ℕ) (p : Point) → table.get N.vertices v ≡ S
 unfolding point_of
 found_point N v p e = ap (λ o. unwrap_or o no_point) e
 
-found_solid : (N : Model) (k : ℕ) (row : FaceRow) → table.get N.faces k ≡ Some row → solid_of N k ≡ row.solid
+pub found_solid : (N : Model) (k : ℕ) (row : FaceRow) → table.get N.faces k ≡ Some row → solid_of N k ≡ row.solid
 unfolding solid_of
 found_solid N k row e = ap (λ o. (unwrap_or o no_face).solid) e
 
@@ -129,18 +128,18 @@ module _ (M : Model) (c : Taken) (s : ℕ) (a b g h : Point) where
 
   point_one : point_of base (c.vertex + 1) ≡ a
   point_one = found_point base (c.vertex + 1) a (get-put_other (with_points M.vertices c.vertex corner_points 3) (c.vertex + 4) h (c.vertex + 1) (apart_by c.vertex 1 4 (λ e. absurd (omega (arith, e))))
-    ∙ get-put_other (with_points M.vertices c.vertex corner_points 2) (c.vertex + 3) g (c.vertex + 1) (apart_by c.vertex 1 3 (λ e. absurd (omega (arith, e))))
-    ∙ get-put_other (with_points M.vertices c.vertex corner_points 1) (c.vertex + 2) b (c.vertex + 1) (apart_by c.vertex 1 2 (λ e. absurd (omega (arith, e))))
-    ∙ get-put_here M.vertices (c.vertex + 1) a)
+      ∙ get-put_other (with_points M.vertices c.vertex corner_points 2) (c.vertex + 3) g (c.vertex + 1) (apart_by c.vertex 1 3 (λ e. absurd (omega (arith, e))))
+      ∙ get-put_other (with_points M.vertices c.vertex corner_points 1) (c.vertex + 2) b (c.vertex + 1) (apart_by c.vertex 1 2 (λ e. absurd (omega (arith, e))))
+      ∙ get-put_here M.vertices (c.vertex + 1) a)
 
   point_two : point_of base (c.vertex + 2) ≡ b
   point_two = found_point base (c.vertex + 2) b (get-put_other (with_points M.vertices c.vertex corner_points 3) (c.vertex + 4) h (c.vertex + 2) (apart_by c.vertex 2 4 (λ e. absurd (omega (arith, e))))
-    ∙ get-put_other (with_points M.vertices c.vertex corner_points 2) (c.vertex + 3) g (c.vertex + 2) (apart_by c.vertex 2 3 (λ e. absurd (omega (arith, e))))
-    ∙ get-put_here (with_points M.vertices c.vertex corner_points 1) (c.vertex + 2) b)
+      ∙ get-put_other (with_points M.vertices c.vertex corner_points 2) (c.vertex + 3) g (c.vertex + 2) (apart_by c.vertex 2 3 (λ e. absurd (omega (arith, e))))
+      ∙ get-put_here (with_points M.vertices c.vertex corner_points 1) (c.vertex + 2) b)
 
   point_three : point_of base (c.vertex + 3) ≡ g
   point_three = found_point base (c.vertex + 3) g (get-put_other (with_points M.vertices c.vertex corner_points 3) (c.vertex + 4) h (c.vertex + 3) (apart_by c.vertex 3 4 (λ e. absurd (omega (arith, e))))
-    ∙ get-put_here (with_points M.vertices c.vertex corner_points 2) (c.vertex + 3) g)
+      ∙ get-put_here (with_points M.vertices c.vertex corner_points 2) (c.vertex + 3) g)
 
   point_four : point_of base (c.vertex + 4) ≡ h
   point_four = found_point base (c.vertex + 4) h (get-put_here (with_points M.vertices c.vertex corner_points 3) (c.vertex + 4) h)
@@ -235,14 +234,14 @@ module _ (M : Model) (c : Taken) (s : ℕ) (a b g h : Point) where
         ∙ ap (λ q. area base (items_in base (q ∷ []))) (outer_row base (c.face + 1) first_face face_one)
         ∙ ap (λ x. area base (items_of x ++ [])) content_one
         ∙ (λ i. moved (cross (out_one i) (plus_ends (c.edge + 1) b back_one i)) (moved (cross (out_two i) (plus_ends (c.edge + 2) g back_two i))
-          (moved (cross (out_three i) (plus_ends (c.edge + 3) h back_three i)) (moved (cross (out_four i) (plus_ends (c.edge + 4) a back_four i)) origin))))
+        (moved (cross (out_three i) (plus_ends (c.edge + 3) h back_three i)) (moved (cross (out_four i) (plus_ends (c.edge + 4) a back_four i)) origin))))
 
     normal_two : normal base (c.face + 2) ≡ ring_area b a h g
     normal_two = normal_is base (c.face + 2) ∙ ap (λ rs. area base (items_in base (outer base (c.face + 2) ∷ rs))) rings_two
         ∙ ap (λ q. area base (items_in base (q ∷ []))) (outer_row base (c.face + 2) second_face face_two)
         ∙ ap (λ x. area base (items_of x ++ [])) content_two
         ∙ (λ i. moved (cross (back_one i) (minus_ends (c.edge + 1) a out_one i)) (moved (cross (back_four i) (minus_ends (c.edge + 4) h out_four i))
-          (moved (cross (back_three i) (minus_ends (c.edge + 3) g out_three i)) (moved (cross (back_two i) (minus_ends (c.edge + 2) b out_two i)) origin))))
+        (moved (cross (back_three i) (minus_ends (c.edge + 3) g out_three i)) (moved (cross (back_two i) (minus_ends (c.edge + 2) b out_two i)) origin))))
 
     anchor_one : anchor base (c.face + 1) ≡ a
     anchor_one = ap (λ q. point_of base (first_vertex base (content base q))) (outer_row base (c.face + 1) first_face face_one) ∙ ap (λ x. point_of base (first_vertex base x)) content_one ∙ out_one
@@ -256,9 +255,9 @@ module _ (M : Model) (c : Taken) (s : ℕ) (a b g h : Point) where
         all_where-put_last first (c.face + 2) second_face (omega (arith, greatest-put_last M.faces (c.face + 1) first_face (omega (arith, bounded.faces)))) (λ _ row. nat_eq row.solid s)
         ∙ ap (λ t. table.all_where (λ _ row. nat_eq row.solid s) first ++ cond t ((c.face + 2) ∷ []) []) (same s)
         ∙ ap (λ ks. ks ++ (c.face + 2) ∷ []) (all_where-put_last M.faces (c.face + 1) first_face (omega (arith, bounded.faces)) (λ _ row. nat_eq row.solid s)
-          ∙ ap (λ t. faces_of M s ++ cond t ((c.face + 1) ∷ []) []) (same s) ∙ ap (λ ks. ks ++ (c.face + 1) ∷ []) none) where
-            same : (n : ℕ) → nat_eq n n ≡ true
-            same n = grind (arith, nat_tests)
+        ∙ ap (λ t. faces_of M s ++ cond t ((c.face + 1) ∷ []) []) (same s) ∙ ap (λ ks. ks ++ (c.face + 1) ∷ []) none) where
+          same : (n : ℕ) → nat_eq n n ≡ true
+          same n = grind (arith, nat_tests)
 
     -- the six volumes of a solid that was not there
     pub base_volume : faces_of M s ≡ [] → six_volume base s ≡ dot a (ring_area a b g h) +ℤ (dot b (ring_area b a h g) +ℤ pos 0)

@@ -9,3 +9,4 @@ mod Kept
 mod Whole
 mod FromSound
 mod Base
+mod Block

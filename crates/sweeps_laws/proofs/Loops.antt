@@ -15,9 +15,9 @@ use Rattle.shapes.specs.Fresh.{Taken}
 use Rattle.shapes.specs.Prism.{riser, top_edge, top_items, next_place}
 use Rattle.solid_measure.specs.Measure.{area, normal, anchor, first_vertex, volume_in}
 use Rattle.fresh_laws.proofs.Rows.{at_most_greatest}
-use Rattle.vector_laws.proofs.Vectors.{dot_moved}
+use Rattle.vector_laws.proofs.Vectors.{dot_moved, add_assoc}
 use Rattle.vector_laws.proofs.Sweeps.{sum_to, moved_at, area_at, moved_ring, side_area, side_volume, Linked}
-use Rattle.sweeps_laws.proofs.Numbers.{next_cases, mate_plus, mate_minus}
+use Rattle.sweeps_laws.proofs.Numbers.{next_cases, mate_plus, mate_minus, and_none, and_right}
 use Rattle.sweeps_laws.proofs.Areas.{first_in, area_append, area_last, area_sum, same_area, volume_of}
 use Rattle.sweeps_laws.proofs.Sides.{Keeps, start_kept, finish_kept}
 use Rattle.sweeps_laws.proofs.Lifted.{Bounded, IsPathOf, swept, keeps_swept, outer_new, content_here, content_old, content_new, outer_old, rings_old, rings_new, from_point, to_point, riser_start, riser_finish, top_start, top_finish, next_start, next_finish, item_start, item_finish}
@@ -26,14 +26,6 @@ use Rattle.sweeps_laws.proofs.Lifted.{Bounded, IsPathOf, swept, keeps_swept, out
 pub normal_is : (M : Model) (k : ℕ) → normal M k ≡ area M (items_in M (outer M k ∷ rings_of M k))
 unfolding normal boundary loops_of
 normal_is M k = refl
-
-and_none : (a : Bool) → (a && false) ≡ false
-and_none true = refl
-and_none false = refl
-
-and_right : (a b : Bool) → (a && b) ≡ true → b ≡ true
-and_right true b e = e
-and_right false b e = absurd (true≢false (sym e))
 
 pub rest_up : (k : ℕ) (ks : List ℕ) → strictly_rises (k ∷ ks) ≡ true → strictly_rises ks ≡ true
 rest_up k [] up = refl
@@ -216,16 +208,13 @@ module _ (M : Model) (c : Taken) (s : ℕ) (d : Point) (hs : List ℕ) (f l : �
     | inl p ↦ (λ t. volume_moved k (w k (first_listed k ks)).0 (ap (outer M) (sym p.1) ∙ e) t +ℤ faces_kept ks (λ q j. ((w q (rest_listed k q ks j)).0, (w q (rest_listed k q ks j)).1 (later k q f p.1 (past_first k q ks up j)))) t)
         ∙ turned (volume_of M k) (dot d (normal M k)) (volume_in M ks) ∙ ap (λ j. volume_of M k +ℤ volume_in M ks +ℤ dot d (normal M j)) (sym p.1)
     | inr p ↦ (λ t. volume_kept k (w k (first_listed k ks)).0 ((w k (first_listed k ks)).1 (λ x. p.1 (sym x))) t +ℤ faces_moved ks (rest_up k ks up) (rest_of k f ks i p.1) e (λ q j. w q (rest_listed k q ks j)) t)
-        ∙ assoc (volume_of M k) (volume_in M ks) (dot d (normal M f))
+        ∙ sym (add_assoc (volume_of M k) (volume_in M ks) (dot d (normal M f)))
   ] where
     later : (k q f : ℕ) → f ≡ k → k < q → q ≢ f
     later k q f e l s = absurd (omega arith)
 
     turned : (a b c : ℤ) → (a +ℤ b) +ℤ c ≡ (a +ℤ c) +ℤ b
     turned a b c = omega (arith, ints)
-
-    assoc : (a b c : ℤ) → a +ℤ (b +ℤ c) ≡ (a +ℤ b) +ℤ c
-    assoc a b c = omega (arith, ints)
 
     rest_of : (k f : ℕ) (ks : List ℕ) → lists (k ∷ ks) f ≡ true → f ≢ k → lists ks f ≡ true
     rest_of k f ks i ne = elim (listed_cases k f ks i) [ inl e ↦ absurd (ne e) | inr j ↦ j ]

@@ -1,5 +1,5 @@
 -- The numbers of the edges that a sweep of a loop makes, and their half-edges. e is the greatest edge before, n the number of items.
-use Rattle.std.proofs.Common.{◌≡◌, ◌≢◌, ℕ, ◌+◌, ◌-◌, ◌*◌, ◌≤◌, ◌<◌, cond, Some, sym, ap, ◌∙◌, arith, ◌⊎◌, inl, inr}
+use Rattle.std.proofs.Common.{Bool, true, false, refl, ◌≡◌, ◌≢◌, ℕ, ◌+◌, ◌-◌, ◌*◌, ◌≤◌, ◌<◌, cond, Some, sym, ap, ◌∙◌, arith, ◌⊎◌, inl, inr, ◌&&◌, true≢false}
 use Rattle.std.proofs.lemmas.Bool.Decides.{eqb_tells}
 use Rattle.boundary_model.specs.HalfEdge.{mate, plus, minus}
 use Rattle.boundary_model.specs.Table as table
@@ -89,3 +89,17 @@ module _ (M : Model) (e : ℕ) (row : EdgeRow) (at : table.get M.edges e ≡ Som
 
   pub tail_minus : tail M (minus e) ≡ row.minus_tail
   tail_minus = tail_row M (minus e) row (ap (table.get M.edges) (minus_row e).0 ∙ at) ∙ ap (tail_in row) (minus_row e).1
+
+-- ---- tests
+
+pub and_none : (a : Bool) → (a && false) ≡ false
+and_none true = refl
+and_none false = refl
+
+pub and_left : (a b : Bool) → (a && b) ≡ true → a ≡ true
+and_left true b e = refl
+and_left false b e = absurd (true≢false (sym e))
+
+pub and_right : (a b : Bool) → (a && b) ≡ true → b ≡ true
+and_right true b e = e
+and_right false b e = absurd (true≢false (sym e))

@@ -1,7 +1,6 @@
 -- One loop of a face swept: what the six volumes grow by.
-use Rattle.std.proofs.Common.{◌≡◌, ◌≢◌, ℕ, zero, suc, ◌+◌, ◌≤◌, ℤ, pos, ◌+ℤ◌, ◌*ℤ◌, Bool, true, cond, nat_eq, List, [], ◌∷◌, ◌++◌, length, is_some, refl, sym, ap, ◌∙◌, arith, inl, inr}
+use Rattle.std.proofs.Common.{◌≡◌, ◌≢◌, ℕ, zero, suc, ◌+◌, ◌≤◌, pos, ◌+ℤ◌, ◌*ℤ◌, Bool, true, cond, nat_eq, List, [], ◌∷◌, ◌++◌, length, is_some, refl, sym, ap, ◌∙◌, arith, inl, inr}
 use Rattle.std.proofs.lemmas.Bool.Decides.{nat_tests, eqb_tells}
-use Rattle.std.proofs.lemmas.Int.{ints}
 use Rattle.lattice.specs.declared.Point.{Point}
 use Rattle.lattice.specs.Vectors.{dot}
 use Rattle.boundary_model.specs.Table as table
@@ -13,6 +12,7 @@ use Rattle.euler_laws_shared.proofs.Rows.{face_there}
 use Rattle.shapes.specs.Fresh.{Taken}
 use Rattle.solid_measure.specs.Measure.{area, normal, volume_in, six_volume}
 use Rattle.fresh_laws.proofs.Rows.{at_most_greatest}
+use Rattle.vector_laws.proofs.Vectors.{add_none, add_assoc}
 use Rattle.vector_laws.proofs.Sweeps.{total_to, same_total, area_at, sides_volume}
 use Rattle.sweeps_laws.proofs.Filled.{filled, filled_search}
 use Rattle.sweeps_laws.proofs.Areas.{area_sum, volume_of, volume_last}
@@ -33,19 +33,14 @@ module _ (M : Model) (c : Taken) (s : ℕ) (d : Point) (hs : List ℕ) (f l : �
 
   -- the sides come after the faces that were there
   sides_after : (n : ℕ) → volume_in after (table.all_where of_solid (filled M.faces c.face (side_face M c s d hs) n)) ≡ volume_in after (faces_of M s) +ℤ total_to (λ i. volume_of after (c.face + 1 + i)) n
-  sides_after zero = none (volume_in after (faces_of M s)) where
-    none : (a : ℤ) → a ≡ a +ℤ pos 0
-    none a = omega (arith, ints)
+  sides_after zero = sym (add_none (volume_in after (faces_of M s)))
   sides_after (suc n) = ap (volume_in after) (filled_search M.faces c.face (side_face M c s d hs) b.faces of_solid n
       ∙ ap (λ t. table.all_where of_solid (filled M.faces c.face (side_face M c s d hs) n) ++ cond t ((c.face + 1 + n) ∷ []) []) (same s))
       ∙ volume_last after (table.all_where of_solid (filled M.faces c.face (side_face M c s d hs) n)) (c.face + 1 + n)
       ∙ ap (λ v. v +ℤ volume_of after (c.face + 1 + n)) (sides_after n)
-      ∙ assoc (volume_in after (faces_of M s)) (total_to (λ i. volume_of after (c.face + 1 + i)) n) (volume_of after (c.face + 1 + n)) where
+      ∙ add_assoc (volume_in after (faces_of M s)) (total_to (λ i. volume_of after (c.face + 1 + i)) n) (volume_of after (c.face + 1 + n)) where
         same : (n : ℕ) → nat_eq n n ≡ true
         same n = grind (arith, nat_tests)
-
-        assoc : (a b c : ℤ) → (a +ℤ b) +ℤ c ≡ a +ℤ (b +ℤ c)
-        assoc a b c = omega (arith, ints)
 
   sides_add : total_to (λ i. volume_of after (c.face + 1 + i)) (length hs) ≡ pos 2 *ℤ dot (area M hs) d
   sides_add = same_total (λ i. volume_of after (c.face + 1 + i)) (λ i. pos 2 *ℤ dot (area_at (from_at M c s d hs f l b r) (to_at M c s d hs f l b r) d i) d) (length hs) (side_is M c s d hs f l b r)

@@ -11,7 +11,7 @@ use Rattle.shapes.specs.Faces.{items_in, loops_of}
 use Rattle.shapes.specs.Fresh.{Taken, Growing, growing, taken_in}
 use Rattle.shapes.specs.Prism.{raised, prism_from, prism_model}
 use Rattle.solid_measure.specs.Measure.{area, normal, six_volume}
-use Rattle.vector_laws.proofs.Vectors.{dot_moved, dot_origin, dot_turned, twice_sum, three_times}
+use Rattle.vector_laws.proofs.Vectors.{dot_moved, dot_origin, dot_turned, twice_sum, three_times, add_none, add_assoc}
 use Rattle.sweeps_laws.proofs.Areas.{area_append}
 use Rattle.sweeps_laws.proofs.Lifted.{Bounded, IsPathOf, swept, within}
 use Rattle.sweeps_laws.proofs.Loops.{normal_is, past_first, loops_area, rest_up}
@@ -41,11 +41,9 @@ module _ (f : ℕ) (d : Point) (s : ℕ) where
   -- two loops, or a loop and others, add twice their areas along d
   both : (M : Model) (l : ℕ) (ls : List ℕ) (v : ℤ) →
       (v +ℤ pos 2 *ℤ dot (area M (items_of (content M l))) d) +ℤ pos 2 *ℤ dot (area M (items_in M ls)) d ≡ v +ℤ pos 2 *ℤ dot (area M (items_in M (l ∷ ls))) d
-  both M l ls v = assoc v (pos 2 *ℤ dot (area M (items_of (content M l))) d) (pos 2 *ℤ dot (area M (items_in M ls)) d)
+  both M l ls v = add_assoc v (pos 2 *ℤ dot (area M (items_of (content M l))) d) (pos 2 *ℤ dot (area M (items_in M ls)) d)
       ∙ ap (λ x. v +ℤ x) (sym (twice_sum (dot (area M (items_of (content M l))) d) (dot (area M (items_in M ls)) d))
-      ∙ ap (λ x. pos 2 *ℤ x) (sym (dot_moved (area M (items_of (content M l))) (area M (items_in M ls)) d) ∙ ap (λ a. dot a d) (sym (area_append M (items_of (content M l)) (items_in M ls))))) where
-        assoc : (a b c : ℤ) → (a +ℤ b) +ℤ c ≡ a +ℤ (b +ℤ c)
-        assoc a b c = omega (arith, ints)
+      ∙ ap (λ x. pos 2 *ℤ x) (sym (dot_moved (area M (items_of (content M l))) (area M (items_in M ls)) d) ∙ ap (λ a. dot a d) (sym (area_append M (items_of (content M l)) (items_in M ls)))))
 
   after_least : (l : ℕ) (ls : List ℕ) → strictly_rises (l ∷ ls) ≡ true → (q : ℕ) → lists ls q ≡ true → q ≢ l
   after_least l ls up q i = greater l q (past_first l q ls up i) where
@@ -53,9 +51,7 @@ module _ (f : ℕ) (d : Point) (s : ℕ) where
     greater l q m e = absurd (omega arith)
 
   nothing_more : (v : ℤ) → v ≡ v +ℤ pos 2 *ℤ dot origin d
-  nothing_more v = none v ∙ ap (λ x. v +ℤ pos 2 *ℤ x) (sym (dot_origin d)) where
-    none : (v : ℤ) → v ≡ v +ℤ pos 0
-    none v = omega (arith, ints)
+  nothing_more v = sym (add_none v) ∙ ap (λ x. v +ℤ pos 2 *ℤ x) (sym (dot_origin d))
 
   rings_swept : (ls : List ℕ) (g : Growing) → Bounded g.model g.taken → Has g.model.faces f → solid_of g.model f ≡ s → strictly_rises ls ≡ true → Paths g.model f ls →
       ((q : ℕ) → lists ls q ≡ true → outer g.model f ≢ q) →

@@ -1,12 +1,10 @@
 -- A rectangle with its edges along x and y, u and v long.
-use Rattle.std.specs.Prelude.{◌≡◌, ℕ, ◌+◌, ◌*◌, ℤ, pos, ◌+ℤ◌, ◌-ℤ◌, ◌*ℤ◌, neg_ℤ}
+use Rattle.std.specs.Prelude.{◌≡◌, ℕ, ℤ, pos, ◌+ℤ◌, ◌-ℤ◌, ◌*ℤ◌, neg_ℤ}
 use Rattle.std.proofs.Common.{refl, arith, ◌∙◌, ap}
-use Rattle.std.proofs.lemmas.Int.{ints}
-use borrow.Author.Differences.{up, down}
 use Rattle.lattice.specs.declared.Point.{Point}
 use Rattle.lattice.specs.Vectors.{origin, moved, dot, cross}
 use Rattle.vector_laws.proofs.Integers.{dif, dif-parts, difs, same_dif, number}
-use Rattle.vector_laws.proofs.Vectors.{vec, same_vector}
+use Rattle.vector_laws.proofs.Vectors.{vec, same_vector, add_none}
 
 -- the area of a ring of four points
 abbrev pub ring_area : Point → Point → Point → Point → Point
@@ -71,9 +69,6 @@ high_dif u v w u' v' w' = simp difs (same_dif _ _ _ _ (omega arith))
 
 high : (u v w : ℤ) → pos 3 *ℤ (pos 0 +ℤ (pos 2 *ℤ (u *ℤ v)) *ℤ w) ≡ pos 6 *ℤ u *ℤ v *ℤ w
 high u v w = rw (dif-parts u, dif-parts v, dif-parts w, number 0, number 2, number 3, number 6) (high_dif _ _ _ _ _ _)
-
-add_none : (a : ℤ) → a +ℤ pos 0 ≡ a
-add_none a = omega (arith, ints)
 
 module _ (p : Point) (u v : ℤ) where
   along : moved p (vec u (pos 0) (pos 0)) ≡ vec (p.x +ℤ u) p.y p.z

@@ -1,10 +1,9 @@
 -- Equations between vectors: sums, and products along and across.
-use Rattle.std.specs.Prelude.{◌≡◌, ℕ, ◌+◌, ◌*◌, ℤ, pos, negsuc, ◌+ℤ◌, ◌-ℤ◌, ◌*ℤ◌, neg_ℤ}
-use Rattle.std.proofs.Common.{refl, arith, ◌∙◌, sym, ap}
+use Rattle.std.specs.Prelude.{◌≡◌, ℕ, ℤ, pos, ◌+ℤ◌, ◌-ℤ◌, ◌*ℤ◌}
+use Rattle.std.proofs.Common.{refl, arith, ◌∙◌}
 use Rattle.std.proofs.lemmas.Int.{ints}
-use borrow.Author.Differences.{up, down}
 use Rattle.lattice.specs.declared.Point.{Point}
-use Rattle.lattice.specs.Vectors.{origin, moved, dot, cross}
+use Rattle.lattice.specs.Vectors.{origin, moved, dot}
 use Rattle.vector_laws.proofs.Integers.{dif, dif-parts, difs, same_dif, number}
 
 pub same_vector : (p q : Point) → p.x ≡ q.x → p.y ≡ q.y → p.z ≡ q.z → p ≡ q
@@ -19,13 +18,13 @@ from_to a b = vec (b.x -ℤ a.x) (b.y -ℤ a.y) (b.z -ℤ a.z)
 
 -- ---- sums
 
-add_none : (a : ℤ) → a +ℤ pos 0 ≡ a
+pub add_none : (a : ℤ) → a +ℤ pos 0 ≡ a
 add_none a = omega (arith, ints)
 
-none_add : (a : ℤ) → pos 0 +ℤ a ≡ a
+pub none_add : (a : ℤ) → pos 0 +ℤ a ≡ a
 none_add a = omega (arith, ints)
 
-add_assoc : (a b c : ℤ) → (a +ℤ b) +ℤ c ≡ a +ℤ (b +ℤ c)
+pub add_assoc : (a b c : ℤ) → (a +ℤ b) +ℤ c ≡ a +ℤ (b +ℤ c)
 add_assoc a b c = omega (arith, ints)
 
 pub moved_none : (p : Point) → moved p origin ≡ p
