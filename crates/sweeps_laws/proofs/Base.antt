@@ -19,9 +19,9 @@ use Rattle.solid_measure.specs.Measure.{area, normal, anchor, first_vertex, volu
 use Rattle.fresh_laws.proofs.Rows.{get-put_here, get-put_other, get-put_cases, all_where-put_last, greatest-put_last}
 use Rattle.lamina_laws.proofs.Lists.{plus_halves, minus_halves, back_apart, first_moved, canonical_first}
 use Rattle.vector_laws.proofs.Rectangles.{ring_area}
-use Rattle.sweeps_laws.proofs.Numbers.{mate_plus, mate_minus, tail_plus, tail_minus}
-use Rattle.sweeps_laws.proofs.Kept.{in_cases}
-use Rattle.sweeps_laws.proofs.Lifted.{Bounded, outer_row}
+use Rattle.swept_loops.proofs.Numbers.{mate_plus, mate_minus, tail_plus, tail_minus}
+use Rattle.swept_loops.proofs.Kept.{in_cases}
+use Rattle.swept_loops.proofs.Lifted.{Bounded, outer_row}
 use Rattle.sweeps_laws.proofs.Loops.{normal_is}
 use Rattle.sweeps_laws.proofs.Volumes.{six_volume_is}
 

@@ -21,7 +21,7 @@ use Rattle.solid_measure.specs.Measure.{six_volume}
 use Rattle.lamina_laws.proofs.Walk.{lamina_is_sound}
 use Rattle.vector_laws.proofs.Vectors.{add_none, none_add}
 use Rattle.vector_laws.proofs.Rectangles.{second_corner, third_corner, fourth_corner, rectangle_flat, rectangle_raised}
-use Rattle.sweeps_laws.proofs.Numbers.{and_left, and_right}
+use Rattle.swept_loops.proofs.Numbers.{and_left, and_right}
 use Rattle.sweeps_laws.proofs.FromSound.{sound_bounded, face_adds}
 use Rattle.sweeps_laws.proofs.Base.{base, found_solid, solid_one, there_one, none_lone, normal_one, base_volume}
 

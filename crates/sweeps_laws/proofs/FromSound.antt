@@ -21,8 +21,8 @@ use Rattle.shapes.specs.Fresh.{taken_in}
 use Rattle.shapes.specs.Prism.{next_place, prism_conditions, prism_refusal, prism_model}
 use Rattle.solid_measure.specs.Measure.{normal, six_volume}
 use Rattle.fresh_laws.proofs.Rows.{at_most_greatest}
-use Rattle.sweeps_laws.proofs.Numbers.{next_cases}
-use Rattle.sweeps_laws.proofs.Lifted.{Bounded, IsPathOf}
+use Rattle.swept_loops.proofs.Numbers.{next_cases}
+use Rattle.swept_loops.proofs.Lifted.{Bounded, IsPathOf}
 use Rattle.sweeps_laws.proofs.Loops.{head_is}
 use Rattle.sweeps_laws.proofs.Whole.{Paths, paths_add}
 

@@ -1,11 +1,6 @@
-mod Filled
-mod Numbers
 mod Areas
-mod Sides
-mod Lifted
 mod Loops
 mod Volumes
-mod Kept
 mod Whole
 mod FromSound
 mod Base

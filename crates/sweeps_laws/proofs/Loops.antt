@@ -17,10 +17,10 @@ use Rattle.solid_measure.specs.Measure.{area, normal, anchor, first_vertex, volu
 use Rattle.fresh_laws.proofs.Rows.{at_most_greatest}
 use Rattle.vector_laws.proofs.Vectors.{dot_moved, add_assoc}
 use Rattle.vector_laws.proofs.Sweeps.{sum_to, moved_at, area_at, moved_ring, side_area, side_volume, Linked}
-use Rattle.sweeps_laws.proofs.Numbers.{next_cases, mate_plus, mate_minus, and_none, and_right}
+use Rattle.swept_loops.proofs.Numbers.{next_cases, mate_plus, mate_minus, and_none, and_right}
 use Rattle.sweeps_laws.proofs.Areas.{first_in, area_append, area_last, area_sum, same_area, volume_of}
-use Rattle.sweeps_laws.proofs.Sides.{Keeps, start_kept, finish_kept}
-use Rattle.sweeps_laws.proofs.Lifted.{Bounded, IsPathOf, swept, keeps_swept, outer_new, content_here, content_old, content_new, outer_old, rings_old, rings_new, from_point, to_point, riser_start, riser_finish, top_start, top_finish, next_start, next_finish, item_start, item_finish}
+use Rattle.swept_loops.proofs.Sides.{Keeps, start_kept, finish_kept}
+use Rattle.swept_loops.proofs.Lifted.{Bounded, IsPathOf, swept, keeps_swept, outer_new, content_here, content_old, content_new, outer_old, rings_old, rings_new, from_point, to_point, riser_start, riser_finish, top_start, top_finish, next_start, next_finish, item_start, item_finish}
 
 -- the normal of a face, over its outer loop and its rings
 pub normal_is : (M : Model) (k : ℕ) → normal M k ≡ area M (items_in M (outer M k ∷ rings_of M k))

@@ -14,10 +14,10 @@ use Rattle.solid_measure.specs.Measure.{area, normal, volume_in, six_volume}
 use Rattle.fresh_laws.proofs.Rows.{at_most_greatest}
 use Rattle.vector_laws.proofs.Vectors.{add_none, add_assoc}
 use Rattle.vector_laws.proofs.Sweeps.{total_to, same_total, area_at, sides_volume}
-use Rattle.sweeps_laws.proofs.Filled.{filled, filled_search}
+use Rattle.swept_loops.proofs.Filled.{filled, filled_search}
 use Rattle.sweeps_laws.proofs.Areas.{area_sum, volume_of, volume_last}
-use Rattle.sweeps_laws.proofs.Sides.{side_face, faces_grown}
-use Rattle.sweeps_laws.proofs.Lifted.{Bounded, IsPathOf, swept}
+use Rattle.swept_loops.proofs.Sides.{side_face, faces_grown}
+use Rattle.swept_loops.proofs.Lifted.{Bounded, IsPathOf, swept}
 use Rattle.sweeps_laws.proofs.Loops.{side_is, faces_kept, faces_moved, from_at, to_at}
 
 pub six_volume_is : (M : Model) (s : ℕ) → six_volume M s ≡ volume_in M (faces_of M s)

@@ -13,10 +13,10 @@ use Rattle.shapes.specs.Prism.{raised, prism_from, prism_model}
 use Rattle.solid_measure.specs.Measure.{area, normal, six_volume}
 use Rattle.vector_laws.proofs.Vectors.{dot_moved, dot_origin, dot_turned, twice_sum, three_times, add_none, add_assoc}
 use Rattle.sweeps_laws.proofs.Areas.{area_append}
-use Rattle.sweeps_laws.proofs.Lifted.{Bounded, IsPathOf, swept, within}
+use Rattle.swept_loops.proofs.Lifted.{Bounded, IsPathOf, swept, within}
 use Rattle.sweeps_laws.proofs.Loops.{normal_is, past_first, loops_area, rest_up}
 use Rattle.sweeps_laws.proofs.Volumes.{ring_adds, outer_adds}
-use Rattle.sweeps_laws.proofs.Kept.{counted, bounded_after, there_after, solid_after, outer_after, path_after}
+use Rattle.swept_loops.proofs.Kept.{counted, bounded_after, there_after, solid_after, outer_after, path_after}
 
 -- each listed loop is a closed path of face f
 abbrev pub Paths : Model → ℕ → List ℕ → Type 0

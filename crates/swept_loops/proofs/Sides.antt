@@ -13,8 +13,8 @@ use Rattle.shapes.specs.Faces.{start, finish}
 use Rattle.shapes.specs.Fresh.{Taken}
 use Rattle.shapes.specs.Prism.{riser, top_edge, next_place, with_side, with_sides}
 use Rattle.fresh_laws.proofs.Rows.{get-put_here, get-put_other}
-use Rattle.sweeps_laws.proofs.Filled.{filled, filled_old, filled_new}
-use Rattle.sweeps_laws.proofs.Numbers.{riser_above, top_above, riser_apart, top_apart, riser_no_top}
+use Rattle.swept_loops.proofs.Filled.{filled, filled_old, filled_new}
+use Rattle.swept_loops.proofs.Numbers.{riser_above, top_above, riser_apart, top_apart, riser_no_top}
 
 -- edges up to e and vertices up to v answer as they did
 pub record Keeps (M N : Model) (e v : ℕ) : Type 0 where

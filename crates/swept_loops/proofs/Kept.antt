@@ -14,10 +14,10 @@ use Rattle.boundary_model.proofs.Halves.{plus_row, minus_row}
 use Rattle.shapes.specs.Fresh.{Taken}
 use Rattle.shapes.specs.Prism.{riser, top_edge, top_items, next_place}
 use Rattle.fresh_laws.proofs.Rows.{at_most_greatest, get-put_here, get-put_other}
-use Rattle.sweeps_laws.proofs.Filled.{place_cases, filled_greatest, greatest-map}
-use Rattle.sweeps_laws.proofs.Numbers.{next_within, riser_most, top_most}
-use Rattle.sweeps_laws.proofs.Sides.{start_kept, finish_kept, grown, item, side_face, side_items, side_loop, side_riser, side_top, faces_grown, edges_step}
-use Rattle.sweeps_laws.proofs.Lifted.{Bounded, IsPathOf, same_outer, same_solid, swept, tail_lifted, keeps_swept, face_old, face_past, outer_new, loop_old, within, face_of_old, face_of_new, face_of_past, content_here, content_old, content_past, content_new, loops_are, outer_old}
+use Rattle.swept_loops.proofs.Filled.{place_cases, filled_greatest, greatest-map}
+use Rattle.swept_loops.proofs.Numbers.{next_within, riser_most, top_most}
+use Rattle.swept_loops.proofs.Sides.{start_kept, finish_kept, grown, item, side_face, side_items, side_loop, side_riser, side_top, faces_grown, edges_step}
+use Rattle.swept_loops.proofs.Lifted.{Bounded, IsPathOf, same_outer, same_solid, swept, tail_lifted, keeps_swept, face_old, face_past, outer_new, loop_old, within, face_of_old, face_of_new, face_of_past, content_here, content_old, content_past, content_new, loops_are, outer_old}
 
 -- the counters after a loop of n items is swept
 abbrev pub counted : Taken → ℕ → Taken

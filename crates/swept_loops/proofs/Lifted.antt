@@ -19,9 +19,9 @@ use Rattle.shapes.specs.Faces.{start, finish}
 use Rattle.shapes.specs.Fresh.{Taken}
 use Rattle.shapes.specs.Prism.{riser, top_edge, top_items, next_place, lifted}
 use Rattle.fresh_laws.proofs.Rows.{get-put_here, get-put_other, at_most_greatest}
-use Rattle.sweeps_laws.proofs.Filled.{place_cases, filled, filled_old, filled_new, filled_past, filled_none, all_where-map, same_search}
-use Rattle.sweeps_laws.proofs.Numbers.{riser_above, top_above, next_within, tail_plus, tail_minus}
-use Rattle.sweeps_laws.proofs.Sides.{Keeps, start_kept, finish_kept, grown, item, side_face, side_items, side_loop, faces_grown, loops_grown, keeps_grown, riser_row, top_row, point_grown}
+use Rattle.swept_loops.proofs.Filled.{place_cases, filled, filled_old, filled_new, filled_past, filled_none, all_where-map, same_search}
+use Rattle.swept_loops.proofs.Numbers.{riser_above, top_above, next_within, tail_plus, tail_minus}
+use Rattle.swept_loops.proofs.Sides.{Keeps, start_kept, finish_kept, grown, item, side_face, side_items, side_loop, faces_grown, loops_grown, keeps_grown, riser_row, top_row, point_grown}
 
 -- a model's numbers lie within the counters, and an outer loop is of its face
 pub record Bounded (M : Model) (c : Taken) : Type 0 where
