@@ -29,8 +29,9 @@ raised_is : (f : ℕ) (d : Point) (g : Growing) (l : ℕ) → raised f d g l ≡
 unfolding raised
 raised_is f d g l = refl
 
--- what a sweep of these loops, one after the other, leaves to say of the others
+-- s is the solid of face f
 module _ (f : ℕ) (d : Point) (s : ℕ) where
+  -- where one loop is swept the others stay closed paths, with the areas that they had
   paths_after : (M : Model) (c : Taken) (hs : List ℕ) (l : ℕ) (b : Bounded M c) (r : IsPathOf M f l hs) (ls : List ℕ) → ((q : ℕ) → lists ls q ≡ true → q ≢ l) → Paths M f ls → Paths (swept M c s d hs f l) f ls
   paths_after M c hs l b r ls apart ps q i = let p = path_after M c s d hs f l b r q (items_of (content M q)) (apart q i) (ps q i) in
       subst (λ x. IsPathOf (swept M c s d hs f l) f q (items_of x)) (sym p.0) p.1
@@ -53,6 +54,7 @@ module _ (f : ℕ) (d : Point) (s : ℕ) where
   nothing_more : (v : ℤ) → v ≡ v +ℤ pos 2 *ℤ dot origin d
   nothing_more v = sym (add_none v) ∙ ap (λ x. v +ℤ pos 2 *ℤ x) (sym (dot_origin d))
 
+  -- rings, one after the other
   rings_swept : (ls : List ℕ) (g : Growing) → Bounded g.model g.taken → Has g.model.faces f → solid_of g.model f ≡ s → strictly_rises ls ≡ true → Paths g.model f ls →
       ((q : ℕ) → lists ls q ≡ true → outer g.model f ≢ q) →
       six_volume (prism_from f d g ls).model s ≡ six_volume g.model s +ℤ pos 2 *ℤ dot (area g.model (items_in g.model ls)) d

@@ -233,9 +233,6 @@ module _ (M : Model) (c : Taken) (s : ℕ) (d : Point) (hs : List ℕ) (f l : �
 
     -- ---- where the new half-edges start and end
 
-    start_top : (N : Model) (h v : ℕ) (p : Point) → tail N h ≡ v → point_of N v ≡ p → start N h ≡ p
-    start_top N h v p t e = ap (point_of N) t ∙ e
-
     -- item i starts here, and ends there
     abbrev pub from_point : ℕ → Point
     from_point i = start M (item M c s d hs i)
