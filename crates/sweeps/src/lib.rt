@@ -1,0 +1,8 @@
+//! Commands that make shapes: a lamina, a block, a sweep of a face. Each is one command of the journal.
+#![tactic(auto)]
+
+mod fresh;
+mod laminas;
+mod steps;
+
+pub use laminas::lamina;
