@@ -62,7 +62,7 @@ all_near a b g h r s t u = λ i. cond (r i) (cond (s i) (cond (t i) (cond (u i) 
 
 none_repeated : (a b g h : Point) → same_point b a ≡ false → same_point g b ≡ false → same_point g a ≡ false → same_point h g ≡ false → same_point h b ≡ false → same_point h a ≡ false →
     first_repeated [] 0 (a ∷ b ∷ g ∷ h ∷ []) ≡ 0
-none_repeated a b g h ba gb ga hg hb ha = λ i. cond (ba i || false) 2 (cond (gb i || (ga i || false)) 3 (cond (hg i || (hb i || (ha i || false))) 4 0))
+none_repeated a b g h ba gb ga hg hb ha = λ i. cond (ba i || false) 2 (cond (ga i || (gb i || false)) 3 (cond (ha i || (hb i || (hg i || false))) 4 0))
 
 fewer : (a n m : ℕ) → m ≤ n → nat_le (a + n) 1000000 ≡ true → nat_le (a + m) 1000000 ≡ true
 fewer a n m l e = grind (arith, nat_tests)
