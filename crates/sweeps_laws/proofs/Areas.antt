@@ -1,0 +1,44 @@
+-- Areas of lists of half-edges, and volumes of lists of faces.
+use Rattle.std.proofs.Common.{◌≡◌, ℕ, ℤ, ◌+ℤ◌, List, [], ◌∷◌, ◌++◌, length, get_or, refl, sym, ap, ◌∙◌, arith}
+use Rattle.lattice.specs.Vectors.{moved, dot, cross}
+use Rattle.cyclic_list.specs.Items.{IsIn}
+use Rattle.cyclic_list.proofs.Lists.{tick_same}
+use Rattle.boundary_model.specs.Model.{Model}
+use Rattle.shapes.specs.Faces.{start, finish}
+use Rattle.solid_measure.specs.Measure.{area, normal, anchor, volume_in}
+use Rattle.vector_laws.proofs.Vectors.{moved_none, none_moved, moved_twice, add_none, none_add, add_assoc}
+use Rattle.vector_laws.proofs.Sweeps.{sum_to, sum_first}
+
+-- the first of a list stands in it, and what stands in the rest does
+pub first_in : (x : ℕ) (xs : List ℕ) → IsIn x (x ∷ xs)
+first_in x xs = omega (arith, tick_same x)
+
+pub rest_in : (x y : ℕ) (ys : List ℕ) → IsIn x ys → IsIn x (y ∷ ys)
+rest_in x y ys i = omega arith
+
+module _ (M : Model) where
+  pub area_append : (xs ys : List ℕ) → area M (xs ++ ys) ≡ moved (area M xs) (area M ys)
+  area_append [] ys = sym (none_moved (area M ys))
+  area_append (x ∷ xs) ys = ap (moved (cross (start M x) (finish M x))) (area_append xs ys) ∙ sym (moved_twice (cross (start M x) (finish M x)) (area M xs) (area M ys))
+
+  pub area_last : (xs : List ℕ) (h : ℕ) → area M (xs ++ h ∷ []) ≡ moved (area M xs) (cross (start M h) (finish M h))
+  area_last xs h = area_append xs (h ∷ []) ∙ ap (moved (area M xs)) (moved_none (cross (start M h) (finish M h)))
+
+  -- the area as a sum along the places
+  pub area_sum : (hs : List ℕ) → area M hs ≡ sum_to (λ i. cross (start M (get_or hs i 0)) (finish M (get_or hs i 0))) (length hs)
+  area_sum [] = refl
+  area_sum (h ∷ hs) = ap (moved (cross (start M h) (finish M h))) (area_sum hs) ∙ sum_first (λ i. cross (start M (get_or (h ∷ hs) i 0)) (finish M (get_or (h ∷ hs) i 0))) (length hs)
+
+  -- what face k adds to the six volumes
+  abbrev pub volume_of : ℕ → ℤ
+  volume_of k = dot (anchor M k) (normal M k)
+
+  pub volume_last : (ks : List ℕ) (k : ℕ) → volume_in M (ks ++ k ∷ []) ≡ volume_in M ks +ℤ volume_of k
+  volume_last [] k = add_none (volume_of k) ∙ sym (none_add (volume_of k))
+  volume_last (x ∷ xs) k = ap (λ v. volume_of x +ℤ v) (volume_last xs k) ∙ sym (add_assoc (volume_of x) (volume_in M xs) (volume_of k))
+
+module _ (M N : Model) where
+  -- half-edges that start and end where they did have the area that they had
+  pub same_area : (hs : List ℕ) → ((h : ℕ) → IsIn h hs → (start N h ≡ start M h) × (finish N h ≡ finish M h)) → area N hs ≡ area M hs
+  same_area [] e = refl
+  same_area (h ∷ hs) e = let p = e h (first_in h hs) in λ i. moved (cross (p.0 i) (p.1 i)) (same_area hs (λ g s. e g (rest_in g h hs s)) i)

@@ -1,0 +1,171 @@
+-- In a sound model the numbers in use lie within the greatest ones, and the loops of a face without a lone one are closed paths.
+use Rattle.std.proofs.Common.{◌≡◌, ◌≢◌, ℕ, zero, suc, ◌+◌, ◌≤◌, ◌<◌, pos, ◌+ℤ◌, ◌*ℤ◌, Bool, true, false, not, nat_eq, ◌&&◌, ◌||◌, List, [], ◌∷◌, length, get_or, Option, Some, None, is_some, unwrap_or, refl, sym, ap, subst, ◌∙◌, arith, inl, inr, true≢false}
+use Rattle.std.proofs.lemmas.Bool.Decides.{nat_tests}
+use Rattle.lattice.specs.declared.Point.{Point}
+use Rattle.lattice.specs.Vectors.{dot}
+use Rattle.cyclic_list.specs.Items.{IsIn, head_or}
+use Rattle.cyclic_list.specs.Rings.{IsPath, IsRing}
+use Rattle.cyclic_list.proofs.Std.{IsIn-get_or}
+use Rattle.boundary_model.specs.HalfEdge.{edge_of, is_first}
+use Rattle.boundary_model.specs.Table as table
+use Rattle.boundary_model.specs.Model.{Model, LoopContent, lone, cycle, FaceRow, LoopRow, EdgeRow, no_face, no_loop, no_edge, items_of, tail, tail_in, content, face_of, outer, solid_of, point_of, rings_of, after}
+use Rattle.boundary_model.specs.Sound.{Sound, Has, HasHalf}
+use Rattle.boundary_model.proofs.Tables.{zero_first_where}
+use Rattle.boundary_model.proofs.Models.{content_row, face_row, in-holds}
+use Rattle.euler_operators.specs.Conditions.{is_lone, lists}
+use Rattle.euler_laws_shared.proofs.Goes.{all_hold, equal, no_zero}
+use Rattle.euler_laws_shared.proofs.Listed.{listed_cases, listed_passes, all_where-rises}
+use Rattle.euler_laws_shared.proofs.Loops.{some_row, loop_sound, IsLoop}
+use Rattle.shapes.specs.Faces.{least_lone}
+use Rattle.shapes.specs.Fresh.{taken_in}
+use Rattle.shapes.specs.Prism.{next_place, prism_conditions, prism_refusal, prism_model}
+use Rattle.solid_measure.specs.Measure.{normal, six_volume}
+use Rattle.fresh_laws.proofs.Rows.{at_most_greatest}
+use Rattle.swept_loops.proofs.Numbers.{next_cases}
+use Rattle.swept_loops.proofs.Lifted.{Bounded, IsPathOf}
+use Rattle.sweeps_laws.proofs.Loops.{head_is}
+use Rattle.sweeps_laws.proofs.Whole.{Paths, paths_add}
+
+-- ---- places of a ring
+
+place_inner : (next : ℕ → ℕ) (xs : List ℕ) (e i : ℕ) → IsPath next xs e → suc i < length xs → next (get_or xs i 0) ≡ get_or xs (suc i) 0
+place_inner next [] e i p l = absurd (omega arith)
+place_inner next (x ∷ []) e i p l = absurd (omega arith)
+place_inner next (x ∷ y ∷ ys) e zero p l = p.0
+place_inner next (x ∷ y ∷ ys) e (suc i) p l = place_inner next (y ∷ ys) e i p.1 (less i (length ys) l) where
+  less : (i n : ℕ) → suc (suc i) < suc (suc n) → suc i < suc n
+  less i n l = omega arith
+
+place_last : (next : ℕ → ℕ) (xs : List ℕ) (e i : ℕ) → IsPath next xs e → suc i ≡ length xs → next (get_or xs i 0) ≡ e
+place_last next [] e i p l = absurd (omega arith)
+place_last next (x ∷ []) e zero p l = p.0
+place_last next (x ∷ []) e (suc i) p l = absurd (omega arith)
+place_last next (x ∷ y ∷ ys) e zero p l = absurd (omega arith)
+place_last next (x ∷ y ∷ ys) e (suc i) p l = place_last next (y ∷ ys) e i p.1 (less i (length ys) l) where
+  less : (i n : ℕ) → suc (suc i) ≡ suc (suc n) → suc i ≡ suc n
+  less i n l = omega arith
+
+place_next : (next : ℕ → ℕ) (xs : List ℕ) (i : ℕ) → IsRing next xs → i < length xs → next (get_or xs i 0) ≡ get_or xs (next_place (length xs) i) 0
+place_next next xs i r l = elim (next_cases (length xs) i) [
+  | inl p ↦ place_last next xs (head_or 0 xs) i r (one i (length xs) p.0) ∙ head_is xs ∙ ap (λ k. get_or xs k 0) (sym p.1)
+  | inr p ↦ place_inner next xs (head_or 0 xs) i r (inner i (length xs) l p.0) ∙ ap (λ k. get_or xs k 0) (same i ∙ sym p.1)
+] where
+  one : (i n : ℕ) → i + 1 ≡ n → suc i ≡ n
+  one i n e = omega arith
+
+  inner : (i n : ℕ) → i < n → i + 1 ≢ n → suc i < n
+  inner i n l ne = grind arith
+
+  same : (i : ℕ) → suc i ≡ i + 1
+  same i = omega arith
+
+-- ---- rows that aren't there
+
+outer_none : (o : Option FaceRow) → is_some o ≡ false → (unwrap_or o no_face).outer ≡ 0
+outer_none None e = refl
+outer_none (Some row) e = absurd (true≢false e)
+
+face_none : (o : Option LoopRow) → is_some o ≡ false → (unwrap_or o no_loop).face ≡ 0
+face_none None e = refl
+face_none (Some row) e = absurd (true≢false e)
+
+tail_none : (o : Option EdgeRow) (b : Bool) → is_some o ≡ false → tail_in (unwrap_or o no_edge) b ≡ 0
+tail_none None true e = refl
+tail_none None false e = refl
+tail_none (Some row) b e = absurd (true≢false e)
+
+no_outer : (M : Model) (k : ℕ) → table.has M.faces k ≡ false → outer M k ≡ 0
+unfolding outer
+no_outer M k e = outer_none (table.get M.faces k) e
+
+no_loop_face : (M : Model) (q : ℕ) → table.has M.loops q ≡ false → face_of M q ≡ 0
+unfolding face_of
+no_loop_face M q e = face_none (table.get M.loops q) e
+
+no_edge_tail : (M : Model) (h : ℕ) → table.has M.edges (edge_of h) ≡ false → tail M h ≡ 0
+unfolding tail
+no_edge_tail M h e = tail_none (table.get M.edges (edge_of h)) (is_first h) e
+
+zero_within : (a n : ℕ) → a ≡ 0 → a ≤ n
+zero_within a n e = omega (arith, e)
+
+-- a number that is used where there is a row, and is 0 where there is none
+used_or_none : (a g : ℕ) (b : Bool) → (b ≡ true → a ≤ g) → (b ≡ false → a ≡ 0) → a ≤ g
+used_or_none a g true u n = u refl
+used_or_none a g false u n = zero_within a g (n refl)
+
+cycle_is : (x : LoopContent) → is_lone x ≡ false → x ≡ cycle (items_of x)
+cycle_is (lone v) e = absurd (true≢false e)
+cycle_is (cycle hs) e = refl
+
+some_items : (hs : List ℕ) → hs ≢ [] → 0 < length hs
+some_items [] ne = absurd (ne refl)
+some_items (h ∷ hs) ne = omega arith
+
+not_lone : (a g f : ℕ) (b : Bool) → (b && (nat_eq f g || false)) ≡ false → g ≡ f → b ≡ false
+not_lone a g f true e s = let t : nat_eq f g ≡ true = grind (arith, nat_tests) in sym (ap (λ x. x || false) t) ∙ e
+not_lone a g f false e s = refl
+
+module _ (M : Model) (sound : Sound M) where
+  pub sound_bounded : Bounded M (taken_in M)
+  unfolding taken_in
+  sound_bounded = record {
+    faces = all (table.greatest M.faces);
+    loops = all (table.greatest M.loops);
+    outers = λ k. used_or_none (outer M k) (table.greatest M.loops) (table.has M.faces k) (λ t. at_most_greatest M.loops (outer M k) (sound.outers_there k t).0) (no_outer M k);
+    loop_faces = λ q. used_or_none (face_of M q) (table.greatest M.faces) (table.has M.loops q) (λ t. at_most_greatest M.faces (face_of M q) (sound.loops_of_faces q t)) (no_loop_face M q);
+    items = λ h q i. at_most_greatest M.edges (edge_of h) (sound.only_edges h q (in-holds h (content M q) i));
+    tails = λ h. used_or_none (tail M h) (table.greatest M.vertices) (table.has M.edges (edge_of h)) (λ t. at_most_greatest M.vertices (tail M h) (sound.tails_there h t)) (no_edge_tail M h);
+    lones = λ q v e. at_most_greatest M.vertices v (sound.lone_at_vertex q v e);
+    own = λ k t. (sound.outers_there k t).1;
+  } where
+    all : (n : ℕ) → n ≤ n
+    all n = omega arith
+
+  -- a loop that isn't lone is a closed path
+  sound_path : (f l : ℕ) (hs : List ℕ) → Has M.loops l → face_of M l ≡ f → content M l ≡ cycle hs → IsPathOf M f l hs
+  sound_path f l hs there of is = record {
+    there = there;
+    of_face = of;
+    content = is;
+    some_item = some_items hs (sound.cycles l hs there is).some_item;
+    linked = λ i m. ap (point_of M) (sym (sound.ends_meet (get_or hs i 0) (half i m)) ∙ ap (tail M) (place_next (after M) hs i (ring (content M l) is (loop_sound M sound l there)) m));
+  } where
+    half : (i : ℕ) → i < length hs → HasHalf M (get_or hs i 0)
+    half i m = sound.only_edges (get_or hs i 0) l (in-holds (get_or hs i 0) (content M l) (subst (λ x. IsIn (get_or hs i 0) (items_of x)) (sym is) (IsIn-get_or hs i 0 m)))
+
+    ring : (x : LoopContent) → x ≡ cycle hs → IsLoop (after M) x → IsRing (after M) hs
+    ring x e w = (subst (IsLoop (after M)) e w).1
+
+  module _ (f : ℕ) (there : Has M.faces f) (none : least_lone M (f ∷ []) ≡ 0) where
+    content_is : (q : ℕ) → Has M.loops q → face_of M q ≡ f → content M q ≡ cycle (items_of (content M q))
+    content_is q t of =
+        let row = some_row (table.get M.loops q) t in
+        let pass = zero_first_where (λ _ row. is_lone row.content && lists (f ∷ []) row.face) M.loops (λ k y at z. no_zero k z (sound.loops_fit k (ap is_some at))) none q row.0 row.1 in
+        cycle_is (content M q) (ap is_lone (content_row M q row.0 row.1) ∙ not_lone 0 row.0.face f (is_lone row.0.content) pass (sym (face_row M q row.0 row.1) ∙ of))
+
+    path_at : (q : ℕ) → Has M.loops q → face_of M q ≡ f → IsPathOf M f q (items_of (content M q))
+    path_at q t of = sound_path f q (items_of (content M q)) t of (content_is q t of)
+
+    parts : (a b o q : ℕ) → (nat_eq a b && not (nat_eq o q)) ≡ true → (a ≡ b) × (o ≢ q)
+    parts a b o q e = (grind (arith, nat_tests), λ s. grind (arith, nat_tests))
+
+    ring_parts : (q : ℕ) → lists (rings_of M f) q ≡ true → Has M.loops q × (face_of M q ≡ f) × (outer M f ≢ q)
+    ring_parts q i =
+        let p = listed_passes (λ l row. nat_eq row.face f && not (nat_eq (outer M f) l)) M.loops q i in
+        let s = parts p.0.face f (outer M f) q p.2 in
+        (ap is_some p.1, face_row M q p.0 p.1 ∙ s.0, s.1)
+
+    sound_paths : Paths M f (outer M f ∷ rings_of M f)
+    sound_paths q i = elim (listed_cases (outer M f) q (rings_of M f) i) [
+      | inl e ↦ let o = sound.outers_there f there in path_at q (ap (table.has M.loops) e ∙ o.0) (ap (face_of M) e ∙ o.1)
+      | inr j ↦ let p = ring_parts q j in path_at q p.0 p.1
+    ]
+
+    pub face_adds : (d : Point) → six_volume (prism_model M f d) (solid_of M f) ≡ six_volume M (solid_of M f) +ℤ pos 3 *ℤ dot (normal M f) d
+    face_adds d = paths_add M f d sound_bounded there sound_paths (all_where-rises (λ l row. nat_eq row.face f && not (nat_eq (outer M f) l)) M.loops) (λ q i. (ring_parts q i).2)
+
+-- the law of sweeps
+pub sweep_adds : (M : Model) (f : ℕ) (d : Point) → Sound M → prism_refusal M f d ≡ None → six_volume (prism_model M f d) (solid_of M f) ≡ six_volume M (solid_of M f) +ℤ pos 3 *ℤ dot (normal M f) d
+unfolding prism_conditions
+sweep_adds M f d sound e = let h = all_hold (prism_conditions M f d) e in face_adds M sound f h.1.0 (equal (least_lone M (f ∷ [])) 0 h.1.1.1.0) d

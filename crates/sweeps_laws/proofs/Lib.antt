@@ -1,0 +1,7 @@
+mod Areas
+mod Loops
+mod Volumes
+mod Whole
+mod FromSound
+mod Base
+mod Block

@@ -1,0 +1,220 @@
+-- One loop of a face swept: areas, anchors and volumes of the faces after.
+use Rattle.std.proofs.Common.{◌≡◌, ◌≢◌, ℕ, zero, suc, ◌+◌, ◌≤◌, ◌<◌, ℤ, pos, ◌+ℤ◌, ◌*ℤ◌, Bool, true, false, not, nat_eq, nat_lt, ◌&&◌, List, [], ◌∷◌, ◌++◌, length, get_or, is_some, refl, sym, ap, subst, ◌∙◌, arith, inl, inr, true≢false}
+use Rattle.std.proofs.lemmas.Bool.Decides.{nat_tests, eqb_tells}
+use Rattle.std.proofs.lemmas.Int.{ints}
+use Rattle.lattice.specs.declared.Point.{Point}
+use Rattle.lattice.specs.Vectors.{origin, moved, dot, cross}
+use Rattle.cyclic_list.specs.Items.{IsIn, head_or}
+use Rattle.boundary_model.specs.HalfEdge.{edge_of, plus, minus}
+use Rattle.boundary_model.specs.Table as table
+use Rattle.boundary_model.specs.Model.{Model, LoopContent, lone, cycle, items_of, tail, content, outer, point_of, rings_of}
+use Rattle.euler_operators.specs.Conditions.{lists, strictly_rises}
+use Rattle.euler_laws_shared.proofs.Listed.{first_listed, rest_listed, listed_cases, listed_passes}
+use Rattle.shapes.specs.Faces.{start, finish, loops_of, items_in, boundary}
+use Rattle.shapes.specs.Fresh.{Taken}
+use Rattle.shapes.specs.Prism.{riser, top_edge, top_items, next_place}
+use Rattle.solid_measure.specs.Measure.{area, normal, anchor, first_vertex, volume_in}
+use Rattle.fresh_laws.proofs.Rows.{at_most_greatest}
+use Rattle.vector_laws.proofs.Vectors.{dot_moved, add_assoc}
+use Rattle.vector_laws.proofs.Sweeps.{sum_to, moved_at, area_at, moved_ring, side_area, side_volume, Linked}
+use Rattle.swept_loops.proofs.Numbers.{next_cases, mate_plus, mate_minus, and_none, and_right}
+use Rattle.sweeps_laws.proofs.Areas.{first_in, area_append, area_last, area_sum, same_area, volume_of}
+use Rattle.swept_loops.proofs.Sides.{Keeps, start_kept, finish_kept}
+use Rattle.swept_loops.proofs.Lifted.{Bounded, IsPathOf, swept, keeps_swept, outer_new, content_here, content_old, content_new, outer_old, rings_old, rings_new, from_point, to_point, riser_start, riser_finish, top_start, top_finish, next_start, next_finish, item_start, item_finish}
+
+-- the normal of a face, over its outer loop and its rings
+pub normal_is : (M : Model) (k : ℕ) → normal M k ≡ area M (items_in M (outer M k ∷ rings_of M k))
+unfolding normal boundary loops_of
+normal_is M k = refl
+
+pub rest_up : (k : ℕ) (ks : List ℕ) → strictly_rises (k ∷ ks) ≡ true → strictly_rises ks ≡ true
+rest_up k [] up = refl
+rest_up k (q ∷ ks) up = and_right (nat_lt k q) (strictly_rises (q ∷ ks)) up
+
+-- what comes after the first number of a rising list is greater
+pub past_first : (n q : ℕ) (ns : List ℕ) → strictly_rises (n ∷ ns) ≡ true → lists ns q ≡ true → n < q
+past_first n q [] r l = absurd (true≢false (sym l))
+past_first n q (m ∷ ns) r l = elim (listed_cases m q ns l) [
+  | inl e ↦ subst (λ k. n < k) (sym e) (parts n m (strictly_rises (m ∷ ns)) r).0
+  | inr i ↦ between n m q (parts n m (strictly_rises (m ∷ ns)) r).0 (past_first m q ns (parts n m (strictly_rises (m ∷ ns)) r).1 i)
+] where
+  parts : (n m : ℕ) (b : Bool) → (nat_lt n m && b) ≡ true → (n < m) × (b ≡ true)
+  parts n m true r = (grind (arith, nat_tests), refl)
+  parts n m false r = absurd (true≢false (sym r ∙ and_none (nat_lt n m)))
+
+  between : (n m q : ℕ) → n < m → m < q → n < q
+  between n m q a b = omega arith
+
+-- the first item
+pub head_is : (hs : List ℕ) → head_or 0 hs ≡ get_or hs 0 0
+head_is [] = refl
+head_is (h ∷ hs) = refl
+
+-- the top edges begin with the one over the first item
+top_first : (e n k : ℕ) → (zs : List ℕ) × (top_items e n (suc k) ≡ plus (top_edge e n 0) ∷ zs)
+top_first e n zero = ([], refl)
+top_first e n (suc k) = let p = top_first e n k in (p.0 ++ plus (top_edge e n (suc k)) ∷ [], ap (λ xs. xs ++ plus (top_edge e n (suc k)) ∷ []) p.1)
+
+pub top_head : (e n k : ℕ) → 0 < k → head_or 0 (top_items e n k) ≡ plus (top_edge e n 0)
+top_head e n zero l = absurd (omega arith)
+top_head e n (suc k) l = ap (head_or 0) (top_first e n k).1
+
+first_edge : (e : ℕ) → edge_of 0 ≤ e
+unfolding edge_of
+first_edge e = omega arith
+
+-- what starts where the loop's path starts is its anchor
+first_kept : (M N : Model) (e v : ℕ) (keeps : Keeps M N e v) (bounded : (h : ℕ) → tail M h ≤ v) (x : LoopContent) →
+    ((h : ℕ) → IsIn h (items_of x) → edge_of h ≤ e) → ((w : ℕ) → x ≡ lone w → w ≤ v) → point_of N (first_vertex N x) ≡ point_of M (first_vertex M x)
+first_kept M N e v keeps bounded (lone w) a b = keeps.points w (b w refl)
+first_kept M N e v keeps bounded (cycle []) a b = start_kept M N e v keeps bounded 0 (first_edge e)
+first_kept M N e v keeps bounded (cycle (h ∷ hs)) a b = start_kept M N e v keeps bounded h (a h (first_in h hs))
+
+-- a closed path of n steps keeps its area where it is moved
+ring_moved : (p q : ℕ → Point) (d : Point) (n : ℕ) → 0 < n → Linked p q d n → ((m : ℕ) → suc m ≡ n → q m ≡ p 0) → sum_to (moved_at p q d) n ≡ sum_to (area_at p q d) n
+ring_moved p q d zero l e c = absurd (omega arith)
+ring_moved p q d (suc n) l e c = moved_ring p q d n e (c n refl)
+
+module _ (M : Model) (c : Taken) (s : ℕ) (d : Point) (hs : List ℕ) (f l : ℕ) (b : Bounded M c) (r : IsPathOf M f l hs) where
+  abbrev after : Model
+  after = swept M c s d hs f l
+
+  abbrev pub from_at : ℕ → Point
+  from_at = from_point M c s d hs f l b r
+
+  abbrev pub to_at : ℕ → Point
+  to_at = to_point M c s d hs f l b r
+
+  -- ---- the sides
+
+  side_normal : (i : ℕ) → i < length hs → normal after (c.face + 1 + i) ≡ side_area (from_at i) (to_at i) d
+  side_normal i m = normal_is after (c.face + 1 + i)
+      ∙ ap (λ rs. area after (items_in after (outer after (c.face + 1 + i) ∷ rs))) (rings_new M c s d hs f l b r i m)
+      ∙ ap (λ q. area after (items_in after (q ∷ []))) (outer_new M c s d hs f l i m)
+      ∙ ap (λ x. area after (items_of x ++ [])) (content_new M c s d hs f l b r i m)
+      ∙ (λ t. moved (cross (item_start M c s d hs f l b r i m t) (item_finish M c s d hs f l b r i m t))
+      (moved (cross (next_start M c s d hs f l b r i m t) (up t))
+      (moved (cross (top_finish M c s d hs f l b r i m t) (back t))
+      (moved (cross (riser_finish M c s d hs f l b r i m t) (down t)) origin)))) where
+        up : finish after (plus (riser c.edge (next_place (length hs) i))) ≡ moved (to_at i) d
+        up = ap (start after) (mate_plus (riser c.edge (next_place (length hs) i))) ∙ next_finish M c s d hs f l b r i m
+
+        back : finish after (minus (top_edge c.edge (length hs) i)) ≡ moved (from_at i) d
+        back = ap (start after) (mate_minus (top_edge c.edge (length hs) i)) ∙ top_start M c s d hs f l b r i m
+
+        down : finish after (minus (riser c.edge i)) ≡ from_at i
+        down = ap (start after) (mate_minus (riser c.edge i)) ∙ riser_start M c s d hs f l b r i m
+
+  side_anchor : (i : ℕ) → i < length hs → anchor after (c.face + 1 + i) ≡ from_at i
+  side_anchor i m = ap (λ q. point_of after (first_vertex after (content after q))) (outer_new M c s d hs f l i m)
+      ∙ ap (λ x. point_of after (first_vertex after x)) (content_new M c s d hs f l b r i m) ∙ item_start M c s d hs f l b r i m
+
+  pub side_is : (i : ℕ) → i < length hs → volume_of after (c.face + 1 + i) ≡ pos 2 *ℤ dot (area_at from_at to_at d i) d
+  side_is i m = (λ t. dot (side_anchor i m t) (side_normal i m t)) ∙ side_volume (from_at i) (to_at i) d
+
+  -- ---- the loops that were there
+
+  tops_area : (k : ℕ) → k ≤ length hs → area after (top_items c.edge (length hs) k) ≡ sum_to (moved_at from_at to_at d) k
+  tops_area zero m = refl
+  tops_area (suc k) m = area_last after (top_items c.edge (length hs) k) (plus (top_edge c.edge (length hs) k))
+      ∙ (λ t. moved (tops_area k (before k (length hs) m) t) (cross (top_start M c s d hs f l b r k m t) (over k m t))) where
+        before : (k n : ℕ) → suc k ≤ n → k ≤ n
+        before k n m = omega arith
+
+        over : (k : ℕ) (m : k < length hs) → finish after (plus (top_edge c.edge (length hs) k)) ≡ moved (to_at k) d
+        over k m = ap (start after) (mate_plus (top_edge c.edge (length hs) k)) ∙ top_finish M c s d hs f l b r k m
+
+  path_linked : Linked from_at to_at d (length hs)
+  path_linked i m = r.linked i (before i (length hs) m) ∙ ap from_at (elim (next_cases (length hs) i) [ inl e ↦ absurd (last i (length hs) m e.0) | inr e ↦ e.1 ∙ more i ]) where
+    before : (i n : ℕ) → suc i < n → i < n
+    before i n m = omega arith
+
+    last : (i n : ℕ) → suc i < n → i + 1 ≡ n → ⊥
+    last i n m e = absurd (omega arith)
+
+    more : (i : ℕ) → i + 1 ≡ suc i
+    more i = omega arith
+
+  path_closed : (m : ℕ) → suc m ≡ length hs → to_at m ≡ from_at 0
+  path_closed m e = r.linked m (before m (length hs) e) ∙ ap from_at (elim (next_cases (length hs) m) [ inl p ↦ p.1 | inr p ↦ absurd (p.0 (last m (length hs) e)) ]) where
+    before : (m n : ℕ) → suc m ≡ n → m < n
+    before m n e = omega arith
+
+    last : (m n : ℕ) → suc m ≡ n → m + 1 ≡ n
+    last m n e = omega arith
+
+  pub area_lifted : area after (top_items c.edge (length hs) (length hs)) ≡ area M hs
+  area_lifted = tops_area (length hs) (all (length hs)) ∙ ring_moved from_at to_at d (length hs) r.some_item path_linked path_closed ∙ sym (area_sum M hs) where
+    all : (n : ℕ) → n ≤ n
+    all n = omega arith
+
+  pub loop_area : (q : ℕ) → q ≤ c.loop → area after (items_of (content after q)) ≡ area M (items_of (content M q))
+  loop_area q m = elim (eqb_tells q l) [
+    | inl e ↦ subst (λ k. area after (items_of (content after k)) ≡ area M (items_of (content M k))) (sym e.1)
+        (ap (λ x. area after (items_of x)) (content_here M c s d hs f l b r) ∙ area_lifted ∙ sym (ap (λ x. area M (items_of x)) r.content))
+    | inr e ↦ ap (λ x. area after (items_of x)) (content_old M c s d hs f l b r q e.1 m)
+        ∙ same_area M after (items_of (content M q)) (λ h i. (start_kept M after c.edge c.vertex (keeps_swept M c s d hs f l) b.tails h (b.items h q i), finish_kept M after c.edge c.vertex (keeps_swept M c s d hs f l) b.tails h (b.items h q i)))
+  ]
+
+  pub loops_area : (ls : List ℕ) → ((q : ℕ) → lists ls q ≡ true → q ≤ c.loop) → area after (items_in after ls) ≡ area M (items_in M ls)
+  loops_area [] m = refl
+  loops_area (q ∷ ls) m = area_append after (items_of (content after q)) (items_in after ls)
+      ∙ (λ t. moved (loop_area q (m q (first_listed q ls)) t) (loops_area ls (λ k i. m k (rest_listed q k ls i)) t))
+      ∙ sym (area_append M (items_of (content M q)) (items_in M ls))
+
+  loops_within : (k q : ℕ) → lists (outer M k ∷ rings_of M k) q ≡ true → q ≤ c.loop
+  loops_within k q i = elim (listed_cases (outer M k) q (rings_of M k) i) [
+    | inl e ↦ subst (λ x. x ≤ c.loop) (sym e) (b.outers k)
+    | inr i ↦ let p = listed_passes (λ l row. nat_eq row.face k && not (nat_eq (outer M k) l)) M.loops q i in at_most q (table.greatest M.loops) c.loop (at_most_greatest M.loops q (ap is_some p.1)) b.loops
+  ] where
+    at_most : (a b c : ℕ) → a ≤ b → b ≤ c → a ≤ c
+    at_most a b c m n = omega arith
+
+  -- each face that was there keeps its normal
+  pub normal_kept : (k : ℕ) → k ≤ c.face → normal after k ≡ normal M k
+  normal_kept k m = normal_is after k ∙ (λ t. area after (items_in after (outer_old M c s d hs f l b r k m t ∷ rings_old M c s d hs f l b r k m t)))
+      ∙ loops_area (outer M k ∷ rings_of M k) (loops_within k) ∙ sym (normal_is M k)
+
+  -- and its anchor, where its outer loop isn't the swept one
+  anchor_kept : (k : ℕ) → k ≤ c.face → outer M k ≢ l → anchor after k ≡ anchor M k
+  anchor_kept k m ne = ap (λ q. point_of after (first_vertex after (content after q))) (outer_old M c s d hs f l b r k m)
+      ∙ ap (λ x. point_of after (first_vertex after x)) (content_old M c s d hs f l b r (outer M k) ne (b.outers k))
+      ∙ first_kept M after c.edge c.vertex (keeps_swept M c s d hs f l) b.tails (content M (outer M k)) (λ h i. b.items h (outer M k) i) (λ w e. b.lones (outer M k) w e)
+
+  -- the anchor of the face whose outer loop is swept moves along
+  anchor_moved : (k : ℕ) → k ≤ c.face → outer M k ≡ l → anchor after k ≡ moved (anchor M k) d
+  anchor_moved k m e = ap (λ q. point_of after (first_vertex after (content after q))) (outer_old M c s d hs f l b r k m ∙ e)
+      ∙ ap (λ x. point_of after (first_vertex after x)) (content_here M c s d hs f l b r)
+      ∙ ap (start after) (top_head c.edge (length hs) (length hs) r.some_item)
+      ∙ top_start M c s d hs f l b r 0 r.some_item
+      ∙ ap (λ p. moved p d) (ap (start M) (sym (head_is hs)) ∙ sym (ap (λ x. point_of M (first_vertex M x)) (ap (content M) e ∙ r.content)))
+
+  volume_kept : (k : ℕ) → k ≤ c.face → outer M k ≢ l → volume_of after k ≡ volume_of M k
+  volume_kept k m ne = λ t. dot (anchor_kept k m ne t) (normal_kept k m t)
+
+  volume_moved : (k : ℕ) → k ≤ c.face → outer M k ≡ l → volume_of after k ≡ volume_of M k +ℤ dot d (normal M k)
+  volume_moved k m e = (λ t. dot (anchor_moved k m e t) (normal_kept k m t)) ∙ dot_moved (anchor M k) d (normal M k)
+
+  -- ---- the six volumes
+
+  pub faces_kept : (ks : List ℕ) → ((k : ℕ) → lists ks k ≡ true → (k ≤ c.face) × (outer M k ≢ l)) → volume_in after ks ≡ volume_in M ks
+  faces_kept [] w = refl
+  faces_kept (k ∷ ks) w = let p = w k (first_listed k ks) in λ t. volume_kept k p.0 p.1 t +ℤ faces_kept ks (λ q i. w q (rest_listed k q ks i)) t
+
+  pub faces_moved : (ks : List ℕ) → strictly_rises ks ≡ true → lists ks f ≡ true → outer M f ≡ l → ((k : ℕ) → lists ks k ≡ true → (k ≤ c.face) × (k ≢ f → outer M k ≢ l)) →
+      volume_in after ks ≡ volume_in M ks +ℤ dot d (normal M f)
+  faces_moved [] up i e w = absurd (true≢false (sym i))
+  faces_moved (k ∷ ks) up i e w = elim (eqb_tells f k) [
+    | inl p ↦ (λ t. volume_moved k (w k (first_listed k ks)).0 (ap (outer M) (sym p.1) ∙ e) t +ℤ faces_kept ks (λ q j. ((w q (rest_listed k q ks j)).0, (w q (rest_listed k q ks j)).1 (later k q f p.1 (past_first k q ks up j)))) t)
+        ∙ turned (volume_of M k) (dot d (normal M k)) (volume_in M ks) ∙ ap (λ j. volume_of M k +ℤ volume_in M ks +ℤ dot d (normal M j)) (sym p.1)
+    | inr p ↦ (λ t. volume_kept k (w k (first_listed k ks)).0 ((w k (first_listed k ks)).1 (λ x. p.1 (sym x))) t +ℤ faces_moved ks (rest_up k ks up) (rest_of k f ks i p.1) e (λ q j. w q (rest_listed k q ks j)) t)
+        ∙ sym (add_assoc (volume_of M k) (volume_in M ks) (dot d (normal M f)))
+  ] where
+    later : (k q f : ℕ) → f ≡ k → k < q → q ≢ f
+    later k q f e l s = absurd (omega arith)
+
+    turned : (a b c : ℤ) → (a +ℤ b) +ℤ c ≡ (a +ℤ c) +ℤ b
+    turned a b c = omega (arith, ints)
+
+    rest_of : (k f : ℕ) (ks : List ℕ) → lists (k ∷ ks) f ≡ true → f ≢ k → lists ks f ≡ true
+    rest_of k f ks i ne = elim (listed_cases k f ks i) [ inl e ↦ absurd (ne e) | inr j ↦ j ]

@@ -1,0 +1,75 @@
+-- One loop of a face swept: what the six volumes grow by.
+use Rattle.std.proofs.Common.{◌≡◌, ◌≢◌, ℕ, zero, suc, ◌+◌, ◌≤◌, pos, ◌+ℤ◌, ◌*ℤ◌, Bool, true, cond, nat_eq, List, [], ◌∷◌, ◌++◌, length, is_some, refl, sym, ap, ◌∙◌, arith, inl, inr}
+use Rattle.std.proofs.lemmas.Bool.Decides.{nat_tests, eqb_tells}
+use Rattle.lattice.specs.declared.Point.{Point}
+use Rattle.lattice.specs.Vectors.{dot}
+use Rattle.boundary_model.specs.Table as table
+use Rattle.boundary_model.specs.Model.{Model, FaceRow, face_of, outer, solid_of, faces_of}
+use Rattle.boundary_model.specs.Sound.{Has}
+use Rattle.euler_operators.specs.Conditions.{lists}
+use Rattle.euler_laws_shared.proofs.Listed.{listed_passes, all_where-rises, passes_listed}
+use Rattle.euler_laws_shared.proofs.Rows.{face_there}
+use Rattle.shapes.specs.Fresh.{Taken}
+use Rattle.solid_measure.specs.Measure.{area, normal, volume_in, six_volume}
+use Rattle.fresh_laws.proofs.Rows.{at_most_greatest}
+use Rattle.vector_laws.proofs.Vectors.{add_none, add_assoc}
+use Rattle.vector_laws.proofs.Sweeps.{total_to, same_total, area_at, sides_volume}
+use Rattle.swept_loops.proofs.Filled.{filled, filled_search}
+use Rattle.sweeps_laws.proofs.Areas.{area_sum, volume_of, volume_last}
+use Rattle.swept_loops.proofs.Sides.{side_face, faces_grown}
+use Rattle.swept_loops.proofs.Lifted.{Bounded, IsPathOf, swept}
+use Rattle.sweeps_laws.proofs.Loops.{side_is, faces_kept, faces_moved, from_at, to_at}
+
+pub six_volume_is : (M : Model) (s : ℕ) → six_volume M s ≡ volume_in M (faces_of M s)
+unfolding six_volume
+six_volume_is M s = refl
+
+module _ (M : Model) (c : Taken) (s : ℕ) (d : Point) (hs : List ℕ) (f l : ℕ) (b : Bounded M c) (r : IsPathOf M f l hs) where
+  abbrev after : Model
+  after = swept M c s d hs f l
+
+  abbrev of_solid : ℕ → FaceRow → Bool
+  of_solid k row = nat_eq row.solid s
+
+  -- the sides come after the faces that were there
+  sides_after : (n : ℕ) → volume_in after (table.all_where of_solid (filled M.faces c.face (side_face M c s d hs) n)) ≡ volume_in after (faces_of M s) +ℤ total_to (λ i. volume_of after (c.face + 1 + i)) n
+  sides_after zero = sym (add_none (volume_in after (faces_of M s)))
+  sides_after (suc n) = ap (volume_in after) (filled_search M.faces c.face (side_face M c s d hs) b.faces of_solid n
+      ∙ ap (λ t. table.all_where of_solid (filled M.faces c.face (side_face M c s d hs) n) ++ cond t ((c.face + 1 + n) ∷ []) []) (same s))
+      ∙ volume_last after (table.all_where of_solid (filled M.faces c.face (side_face M c s d hs) n)) (c.face + 1 + n)
+      ∙ ap (λ v. v +ℤ volume_of after (c.face + 1 + n)) (sides_after n)
+      ∙ add_assoc (volume_in after (faces_of M s)) (total_to (λ i. volume_of after (c.face + 1 + i)) n) (volume_of after (c.face + 1 + n)) where
+        same : (n : ℕ) → nat_eq n n ≡ true
+        same n = grind (arith, nat_tests)
+
+  sides_add : total_to (λ i. volume_of after (c.face + 1 + i)) (length hs) ≡ pos 2 *ℤ dot (area M hs) d
+  sides_add = same_total (λ i. volume_of after (c.face + 1 + i)) (λ i. pos 2 *ℤ dot (area_at (from_at M c s d hs f l b r) (to_at M c s d hs f l b r) d i) d) (length hs) (side_is M c s d hs f l b r)
+      ∙ sides_volume (area_at (from_at M c s d hs f l b r) (to_at M c s d hs f l b r) d) d (length hs) ∙ ap (λ a. pos 2 *ℤ dot a d) (sym (area_sum M hs))
+
+  volume_after : six_volume after s ≡ volume_in after (faces_of M s) +ℤ pos 2 *ℤ dot (area M hs) d
+  volume_after = six_volume_is after s ∙ ap (λ t. volume_in after (table.all_where of_solid t)) (faces_grown M c s d hs (length hs)) ∙ sides_after (length hs) ∙ ap (λ v. volume_in after (faces_of M s) +ℤ v) sides_add
+
+  face_within : (k : ℕ) → lists (faces_of M s) k ≡ true → (k ≤ c.face) × Has M.faces k
+  face_within k i = let p = listed_passes of_solid M.faces k i in (at_most k (table.greatest M.faces) c.face (at_most_greatest M.faces k (ap is_some p.1)) b.faces, ap is_some p.1) where
+    at_most : (a b c : ℕ) → a ≤ b → b ≤ c → a ≤ c
+    at_most a b c m n = omega arith
+
+  other_outer : (k : ℕ) → Has M.faces k → k ≢ f → outer M k ≢ l
+  other_outer k there ne e = ne (sym (b.own k there) ∙ ap (face_of M) e ∙ r.of_face)
+
+  -- a ring swept
+  pub ring_adds : outer M f ≢ l → six_volume after s ≡ six_volume M s +ℤ pos 2 *ℤ dot (area M hs) d
+  ring_adds ne = volume_after ∙ ap (λ v. v +ℤ pos 2 *ℤ dot (area M hs) d) (faces_kept M c s d hs f l b r (faces_of M s) each ∙ sym (six_volume_is M s)) where
+    each : (k : ℕ) → lists (faces_of M s) k ≡ true → (k ≤ c.face) × (outer M k ≢ l)
+    each k i = let p = face_within k i in (p.0, elim (eqb_tells k f) [ inl e ↦ λ o. ne (ap (outer M) (sym e.1) ∙ o) | inr e ↦ other_outer k p.1 e.1 ])
+
+  -- an outer loop swept
+  pub outer_adds : outer M f ≡ l → Has M.faces f → solid_of M f ≡ s → six_volume after s ≡ (six_volume M s +ℤ dot d (normal M f)) +ℤ pos 2 *ℤ dot (area M hs) d
+  outer_adds e there of = volume_after ∙ ap (λ v. v +ℤ pos 2 *ℤ dot (area M hs) d)
+      (faces_moved M c s d hs f l b r (faces_of M s) (all_where-rises of_solid M.faces) (passes_listed of_solid M.faces f (record { solid = solid_of M f; outer = outer M f }) (face_there M f there) (equal (solid_of M f) s of)) e each
+      ∙ ap (λ v. v +ℤ dot d (normal M f)) (sym (six_volume_is M s))) where
+        equal : (a b : ℕ) → a ≡ b → nat_eq a b ≡ true
+        equal a b e = grind (arith, nat_tests)
+
+        each : (k : ℕ) → lists (faces_of M s) k ≡ true → (k ≤ c.face) × (k ≢ f → outer M k ≢ l)
+        each k i = let p = face_within k i in (p.0, other_outer k p.1)

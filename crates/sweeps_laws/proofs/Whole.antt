@@ -1,0 +1,106 @@
+-- A whole face swept: its loops one after the other.
+use Rattle.std.proofs.Common.{◌≡◌, ◌≢◌, ℕ, ◌<◌, ℤ, pos, ◌+ℤ◌, ◌*ℤ◌, true, List, [], ◌∷◌, length, refl, sym, ap, subst, ◌∙◌, arith}
+use Rattle.std.proofs.lemmas.Int.{ints}
+use Rattle.lattice.specs.declared.Point.{Point}
+use Rattle.lattice.specs.Vectors.{origin, dot}
+use Rattle.boundary_model.specs.Model.{Model, items_of, content, outer, solid_of, rings_of}
+use Rattle.boundary_model.specs.Sound.{Has}
+use Rattle.euler_operators.specs.Conditions.{lists, strictly_rises}
+use Rattle.euler_laws_shared.proofs.Listed.{first_listed, rest_listed}
+use Rattle.shapes.specs.Faces.{items_in, loops_of}
+use Rattle.shapes.specs.Fresh.{Taken, Growing, growing, taken_in}
+use Rattle.shapes.specs.Prism.{raised, prism_from, prism_model}
+use Rattle.solid_measure.specs.Measure.{area, normal, six_volume}
+use Rattle.vector_laws.proofs.Vectors.{dot_moved, dot_origin, dot_turned, twice_sum, three_times, add_none, add_assoc}
+use Rattle.sweeps_laws.proofs.Areas.{area_append}
+use Rattle.swept_loops.proofs.Lifted.{Bounded, IsPathOf, swept, within}
+use Rattle.sweeps_laws.proofs.Loops.{normal_is, past_first, loops_area, rest_up}
+use Rattle.sweeps_laws.proofs.Volumes.{ring_adds, outer_adds}
+use Rattle.swept_loops.proofs.Kept.{counted, bounded_after, there_after, solid_after, outer_after, path_after}
+
+-- each listed loop is a closed path of face f
+abbrev pub Paths : Model → ℕ → List ℕ → Type 0
+Paths M f ls = (q : ℕ) → lists ls q ≡ true → IsPathOf M f q (items_of (content M q))
+
+abbrev raised_as : ℕ → Point → Growing → ℕ → ℕ → Growing
+raised_as f d g l s = let hs = items_of (content g.model l) in record { model = swept g.model g.taken s d hs f l; taken = counted g.taken (length hs) }
+
+raised_is : (f : ℕ) (d : Point) (g : Growing) (l : ℕ) → raised f d g l ≡ raised_as f d g l (solid_of g.model f)
+unfolding raised
+raised_is f d g l = refl
+
+-- s is the solid of face f
+module _ (f : ℕ) (d : Point) (s : ℕ) where
+  -- where one loop is swept the others stay closed paths, with the areas that they had
+  paths_after : (M : Model) (c : Taken) (hs : List ℕ) (l : ℕ) (b : Bounded M c) (r : IsPathOf M f l hs) (ls : List ℕ) → ((q : ℕ) → lists ls q ≡ true → q ≢ l) → Paths M f ls → Paths (swept M c s d hs f l) f ls
+  paths_after M c hs l b r ls apart ps q i = let p = path_after M c s d hs f l b r q (items_of (content M q)) (apart q i) (ps q i) in
+      subst (λ x. IsPathOf (swept M c s d hs f l) f q (items_of x)) (sym p.0) p.1
+
+  items_after : (M : Model) (c : Taken) (hs : List ℕ) (l : ℕ) (b : Bounded M c) (r : IsPathOf M f l hs) (ls : List ℕ) → Paths M f ls → area (swept M c s d hs f l) (items_in (swept M c s d hs f l) ls) ≡ area M (items_in M ls)
+  items_after M c hs l b r ls ps = loops_area M c s d hs f l b r ls (λ q i. within M c s d (items_of (content M q)) f q b (ps q i))
+
+  -- two loops, or a loop and others, add twice their areas along d
+  both : (M : Model) (l : ℕ) (ls : List ℕ) (v : ℤ) →
+      (v +ℤ pos 2 *ℤ dot (area M (items_of (content M l))) d) +ℤ pos 2 *ℤ dot (area M (items_in M ls)) d ≡ v +ℤ pos 2 *ℤ dot (area M (items_in M (l ∷ ls))) d
+  both M l ls v = add_assoc v (pos 2 *ℤ dot (area M (items_of (content M l))) d) (pos 2 *ℤ dot (area M (items_in M ls)) d)
+      ∙ ap (λ x. v +ℤ x) (sym (twice_sum (dot (area M (items_of (content M l))) d) (dot (area M (items_in M ls)) d))
+      ∙ ap (λ x. pos 2 *ℤ x) (sym (dot_moved (area M (items_of (content M l))) (area M (items_in M ls)) d) ∙ ap (λ a. dot a d) (sym (area_append M (items_of (content M l)) (items_in M ls)))))
+
+  after_least : (l : ℕ) (ls : List ℕ) → strictly_rises (l ∷ ls) ≡ true → (q : ℕ) → lists ls q ≡ true → q ≢ l
+  after_least l ls up q i = greater l q (past_first l q ls up i) where
+    greater : (l q : ℕ) → l < q → q ≢ l
+    greater l q m e = absurd (omega arith)
+
+  nothing_more : (v : ℤ) → v ≡ v +ℤ pos 2 *ℤ dot origin d
+  nothing_more v = sym (add_none v) ∙ ap (λ x. v +ℤ pos 2 *ℤ x) (sym (dot_origin d))
+
+  -- rings, one after the other
+  rings_swept : (ls : List ℕ) (g : Growing) → Bounded g.model g.taken → Has g.model.faces f → solid_of g.model f ≡ s → strictly_rises ls ≡ true → Paths g.model f ls →
+      ((q : ℕ) → lists ls q ≡ true → outer g.model f ≢ q) →
+      six_volume (prism_from f d g ls).model s ≡ six_volume g.model s +ℤ pos 2 *ℤ dot (area g.model (items_in g.model ls)) d
+  rings_swept [] g b there of up ps rings = nothing_more (six_volume g.model s)
+  rings_swept (l ∷ ls) g b there of up ps rings =
+      let M = g.model in
+      let hs = items_of (content M l) in
+      let r = ps l (first_listed l ls) in
+      let rest : Paths M f ls = λ q i. ps q (rest_listed l q ls i) in
+      let o = outer_after M g.taken s d hs f l b r there in
+      ap (λ x. six_volume (prism_from f d x ls).model s) (raised_is f d g l ∙ ap (raised_as f d g l) of)
+      ∙ rings_swept ls (raised_as f d g l s) (bounded_after M g.taken s d hs f l b r) (there_after M g.taken s d hs f l b r there) (solid_after M g.taken s d hs f l b r there ∙ of) (rest_up l ls up)
+      (paths_after M g.taken hs l b r ls (after_least l ls up) rest) (λ q i e. rings q (rest_listed l q ls i) (sym o ∙ e))
+      ∙ (λ t. ring_adds M g.taken s d hs f l b r (rings l (first_listed l ls)) t +ℤ pos 2 *ℤ dot (items_after M g.taken hs l b r ls rest t) d)
+      ∙ both M l ls (six_volume M s)
+
+  -- the outer loop, and then the rings
+  loops_swept : (o : ℕ) (ls : List ℕ) (g : Growing) → Bounded g.model g.taken → Has g.model.faces f → solid_of g.model f ≡ s → outer g.model f ≡ o → strictly_rises ls ≡ true → Paths g.model f (o ∷ ls) →
+      ((q : ℕ) → lists ls q ≡ true → o ≢ q) →
+      six_volume (prism_from f d g (o ∷ ls)).model s ≡ (six_volume g.model s +ℤ dot d (normal g.model f)) +ℤ pos 2 *ℤ dot (area g.model (items_in g.model (o ∷ ls))) d
+  loops_swept l ls g b there of is up ps rings =
+      let M = g.model in
+      let hs = items_of (content M l) in
+      let r = ps l (first_listed l ls) in
+      let rest : Paths M f ls = λ q i. ps q (rest_listed l q ls i) in
+      let o = outer_after M g.taken s d hs f l b r there in
+      ap (λ x. six_volume (prism_from f d x ls).model s) (raised_is f d g l ∙ ap (raised_as f d g l) of)
+      ∙ rings_swept ls (raised_as f d g l s) (bounded_after M g.taken s d hs f l b r) (there_after M g.taken s d hs f l b r there) (solid_after M g.taken s d hs f l b r there ∙ of) up
+      (paths_after M g.taken hs l b r ls (λ q i e. rings q i (sym e)) rest) (λ q i e. rings q i (sym is ∙ sym o ∙ e))
+      ∙ (λ t. outer_adds M g.taken s d hs f l b r is there of t +ℤ pos 2 *ℤ dot (items_after M g.taken hs l b r ls rest t) d)
+      ∙ both M l ls (six_volume M s +ℤ dot d (normal M f))
+
+-- the law, of a face whose loops are closed paths
+module _ (M : Model) (f : ℕ) (d : Point) (b : Bounded M (taken_in M)) (there : Has M.faces f) (ps : Paths M f (outer M f ∷ rings_of M f)) where
+  prism_is : prism_model M f d ≡ (prism_from f d (growing M) (outer M f ∷ rings_of M f)).model
+  unfolding prism_model loops_of
+  prism_is = refl
+
+  three : (v u w : ℤ) → u ≡ w → (v +ℤ w) +ℤ pos 2 *ℤ u ≡ v +ℤ pos 3 *ℤ u
+  three v u w e = ap (λ x. (v +ℤ x) +ℤ pos 2 *ℤ u) (sym e) ∙ turned v u (pos 2 *ℤ u) ∙ three_times v u where
+    turned : (a b c : ℤ) → (a +ℤ b) +ℤ c ≡ (a +ℤ c) +ℤ b
+    turned a b c = omega (arith, ints)
+
+  pub paths_add : strictly_rises (rings_of M f) ≡ true → ((q : ℕ) → lists (rings_of M f) q ≡ true → outer M f ≢ q) →
+      six_volume (prism_model M f d) (solid_of M f) ≡ six_volume M (solid_of M f) +ℤ pos 3 *ℤ dot (normal M f) d
+  paths_add up rings = ap (λ x. six_volume x (solid_of M f)) prism_is
+      ∙ loops_swept f d (solid_of M f) (outer M f) (rings_of M f) (growing M) b there refl refl up ps rings
+      ∙ ap (λ a. (six_volume M (solid_of M f) +ℤ dot d (normal M f)) +ℤ pos 2 *ℤ dot a d) (sym (normal_is M f))
+      ∙ three (six_volume M (solid_of M f)) (dot (normal M f) d) (dot d (normal M f)) (dot_turned (normal M f) d)

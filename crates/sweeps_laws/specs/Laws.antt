@@ -1,0 +1,17 @@
+-- What a sweep adds to the six volumes of a solid, and the six volumes of a block.
+use Rattle.std.specs.Prelude.{◌≡◌, ℕ, ℤ, pos, ◌+ℤ◌, ◌*ℤ◌, None}
+use Rattle.lattice.specs.declared.Point.{Point}
+use Rattle.lattice.specs.Vectors.{dot}
+use Rattle.boundary_model.specs.Model.{Model, solid_of}
+use Rattle.boundary_model.specs.Sound.{Sound}
+use Rattle.shapes.specs.Prism.{prism_refusal, prism_model}
+use Rattle.shapes.specs.Block.{block_refusal, block_model}
+use Rattle.solid_measure.specs.Measure.{normal, six_volume}
+
+-- three times the normal of the face before, along the vector
+abbrev pub SweepAdds : Type 0
+SweepAdds = (M : Model) (f : ℕ) (d : Point) → Sound M → prism_refusal M f d ≡ None → six_volume (prism_model M f d) (solid_of M f) ≡ six_volume M (solid_of M f) +ℤ pos 3 *ℤ dot (normal M f) d
+
+-- six times the product of its sizes
+abbrev pub BlockMeasures : Type 0
+BlockMeasures = (M : Model) (s : ℕ) (p : Point) (dx dy dz : ℤ) → Sound M → block_refusal M s p dx dy dz ≡ None → six_volume (block_model M s p dx dy dz) s ≡ pos 6 *ℤ dx *ℤ dy *ℤ dz

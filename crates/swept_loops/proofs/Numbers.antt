@@ -1,0 +1,105 @@
+-- The numbers of the edges that a sweep of a loop makes, and their half-edges. e is the greatest edge before, n the number of items.
+use Rattle.std.proofs.Common.{Bool, true, false, refl, ◌≡◌, ◌≢◌, ℕ, ◌+◌, ◌-◌, ◌*◌, ◌≤◌, ◌<◌, cond, Some, sym, ap, ◌∙◌, arith, ◌⊎◌, inl, inr, ◌&&◌, true≢false}
+use Rattle.std.proofs.lemmas.Bool.Decides.{eqb_tells}
+use Rattle.boundary_model.specs.HalfEdge.{mate, plus, minus}
+use Rattle.boundary_model.specs.Table as table
+use Rattle.boundary_model.specs.Model.{Model, EdgeRow, tail, tail_in}
+use Rattle.boundary_model.proofs.Halves.{plus_row, minus_row}
+use Rattle.boundary_model.proofs.Models.{tail_row}
+use Rattle.shapes.specs.Prism.{riser, top_edge, next_place}
+
+pub riser_cases : (e i : ℕ) → ((i ≡ 0) × (riser e i ≡ e + 1)) ⊎ ((i ≢ 0) × (riser e i ≡ e + 2 * i))
+riser_cases e i = elim (eqb_tells i 0) [ inl p ↦ inl (p.1, ap (λ b. cond b (e + 1) (e + 2 * i)) p.0) | inr p ↦ inr (p.1, ap (λ b. cond b (e + 1) (e + 2 * i)) p.0) ]
+
+pub top_cases : (e n i : ℕ) → ((i + 1 ≡ n) × (top_edge e n i ≡ e + 2 * n)) ⊎ ((i + 1 ≢ n) × (top_edge e n i ≡ e + 2 * i + 3))
+top_cases e n i = elim (eqb_tells (i + 1) n) [ inl p ↦ inl (p.1, ap (λ b. cond b (e + 2 * n) (e + 2 * i + 3)) p.0) | inr p ↦ inr (p.1, ap (λ b. cond b (e + 2 * n) (e + 2 * i + 3)) p.0) ]
+
+pub next_cases : (n i : ℕ) → ((i + 1 ≡ n) × (next_place n i ≡ 0)) ⊎ ((i + 1 ≢ n) × (next_place n i ≡ i + 1))
+next_cases n i = elim (eqb_tells (i + 1) n) [ inl p ↦ inl (p.1, ap (λ b. cond b 0 (i + 1)) p.0) | inr p ↦ inr (p.1, ap (λ b. cond b 0 (i + 1)) p.0) ]
+
+-- the next place is a place
+pub next_within : (n i : ℕ) → i < n → next_place n i < n
+next_within n i l = elim (next_cases n i) [ inl p ↦ omega (arith, p.0, p.1) | inr p ↦ next_less n i (next_place n i) l p.0 p.1 ] where
+  next_less : (n i k : ℕ) → i < n → i + 1 ≢ n → k ≡ i + 1 → k < n
+  next_less n i k l ne e = grind arith
+
+-- they are new, within twice n more, and no two are the same
+pub riser_above : (e i : ℕ) → e < riser e i
+riser_above e i = elim (riser_cases e i) [ inl p ↦ omega (arith, p.1) | inr p ↦ more e i (riser e i) p.0 p.1 ] where
+  more : (e i k : ℕ) → i ≢ 0 → k ≡ e + 2 * i → e < k
+  more e i k ne p = grind arith
+
+pub top_above : (e n i : ℕ) → i < n → e < top_edge e n i
+top_above e n i l = elim (top_cases e n i) [ inl p ↦ omega (arith, p.1) | inr p ↦ omega (arith, p.1) ]
+
+pub riser_most : (e n i : ℕ) → i < n → riser e i ≤ e + 2 * n
+riser_most e n i l = elim (riser_cases e i) [ inl p ↦ omega (arith, p.1) | inr p ↦ omega (arith, p.1) ]
+
+pub top_most : (e n i : ℕ) → i < n → top_edge e n i ≤ e + 2 * n
+top_most e n i l = elim (top_cases e n i) [ inl p ↦ omega (arith, p.1) | inr p ↦ more e n i (top_edge e n i) l p.0 p.1 ] where
+  more : (e n i k : ℕ) → i < n → i + 1 ≢ n → k ≡ e + 2 * i + 3 → k ≤ e + 2 * n
+  more e n i k l ne p = grind arith
+
+pub riser_apart : (e i j : ℕ) → i ≢ j → riser e i ≢ riser e j
+riser_apart e i j ne s = elim (riser_cases e i) [
+  | inl p ↦ elim (riser_cases e j) [ inl q ↦ ne (p.0 ∙ sym q.0) | inr q ↦ odd e j (riser e i) (riser e j) p.1 q.1 s ]
+  | inr p ↦ elim (riser_cases e j) [ inl q ↦ odd e i (riser e j) (riser e i) q.1 p.1 (sym s) | inr q ↦ ne (same e i j (riser e i) (riser e j) p.1 q.1 s) ]
+] where
+  odd : (e j a b : ℕ) → a ≡ e + 1 → b ≡ e + 2 * j → a ≡ b → ⊥
+  odd e j a b p q s = absurd (omega arith)
+
+  same : (e i j a b : ℕ) → a ≡ e + 2 * i → b ≡ e + 2 * j → a ≡ b → i ≡ j
+  same e i j a b p q s = omega arith
+
+pub top_apart : (e n i j : ℕ) → i < n → j < n → i ≢ j → top_edge e n i ≢ top_edge e n j
+top_apart e n i j l m ne s = elim (top_cases e n i) [
+  | inl p ↦ elim (top_cases e n j) [ inl q ↦ ne (last n i j p.0 q.0) | inr q ↦ odd e n j (top_edge e n i) (top_edge e n j) p.1 q.1 s ]
+  | inr p ↦ elim (top_cases e n j) [ inl q ↦ odd e n i (top_edge e n j) (top_edge e n i) q.1 p.1 (sym s) | inr q ↦ ne (same e i j (top_edge e n i) (top_edge e n j) p.1 q.1 s) ]
+] where
+  last : (n i j : ℕ) → i + 1 ≡ n → j + 1 ≡ n → i ≡ j
+  last n i j p q = omega arith
+
+  odd : (e n j a b : ℕ) → a ≡ e + 2 * n → b ≡ e + 2 * j + 3 → a ≡ b → ⊥
+  odd e n j a b p q s = absurd (omega arith)
+
+  same : (e i j a b : ℕ) → a ≡ e + 2 * i + 3 → b ≡ e + 2 * j + 3 → a ≡ b → i ≡ j
+  same e i j a b p q s = omega arith
+
+pub riser_no_top : (e n i j : ℕ) → i < n → j < n → riser e i ≢ top_edge e n j
+riser_no_top e n i j l m s = elim (riser_cases e i) [
+  | inl p ↦ elim (top_cases e n j) [ inl q ↦ absurd (omega (arith, p.1, q.1, s)) | inr q ↦ absurd (omega (arith, p.1, q.1, s)) ]
+  | inr p ↦ elim (top_cases e n j) [ inl q ↦ absurd (omega (arith, p.1, q.1, s)) | inr q ↦ absurd (omega (arith, p.1, q.1, s)) ]
+]
+
+-- ---- the halves of an edge
+
+pub mate_plus : (e : ℕ) → mate (plus e) ≡ minus e
+unfolding mate
+mate_plus e = ap (λ b. cond b (plus e + 1) (plus e - 1)) (plus_row e).1
+
+pub mate_minus : (e : ℕ) → mate (minus e) ≡ plus e
+unfolding mate
+mate_minus e = ap (λ b. cond b (minus e + 1) (minus e - 1)) (minus_row e).1 ∙ before_one (2 * e) where
+  before_one : (n : ℕ) → n + 1 - 1 ≡ n
+  before_one n = omega arith
+
+module _ (M : Model) (e : ℕ) (row : EdgeRow) (at : table.get M.edges e ≡ Some row) where
+  pub tail_plus : tail M (plus e) ≡ row.plus_tail
+  tail_plus = tail_row M (plus e) row (ap (table.get M.edges) (plus_row e).0 ∙ at) ∙ ap (tail_in row) (plus_row e).1
+
+  pub tail_minus : tail M (minus e) ≡ row.minus_tail
+  tail_minus = tail_row M (minus e) row (ap (table.get M.edges) (minus_row e).0 ∙ at) ∙ ap (tail_in row) (minus_row e).1
+
+-- ---- tests
+
+pub and_none : (a : Bool) → (a && false) ≡ false
+and_none true = refl
+and_none false = refl
+
+pub and_left : (a b : Bool) → (a && b) ≡ true → a ≡ true
+and_left true b e = refl
+and_left false b e = absurd (true≢false (sym e))
+
+pub and_right : (a b : Bool) → (a && b) ≡ true → b ≡ true
+and_right true b e = e
+and_right false b e = absurd (true≢false (sym e))

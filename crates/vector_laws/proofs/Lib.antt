@@ -1,0 +1,4 @@
+pub mod Integers
+pub mod Vectors
+pub mod Sweeps
+pub mod Rectangles
