@@ -1,5 +1,5 @@
 -- The counts of a run.
-use Rattle.std.proofs.Common.{◌≡◌, ℕ, ◌+◌, ◌≤◌, Bool, true, false, refl, arith}
+use Rattle.std.proofs.Common.{◌≡◌, ◌≤◌, refl, arith}
 use Rattle.solid_listing.specs.declared.reply.Reply.TheVariants as reply
 use Rattle.gwb.specs.Judging.{no_lines, one_line, counted}
 use Rattle.gwb.specs.declared.judging.Answer.{Answer}

@@ -1,5 +1,5 @@
 -- One line after another.
-use Rattle.std.proofs.Common.{◌≡◌, ◌≢◌, ◌⊎◌, inl, inr, ℕ, ◌+◌, ◌<◌, ◌≤◌, Bool, true, false, List, [], ◌∷◌, ◌++◌, length, refl, sym, ap, subst, ◌∙◌, arith, append_assoc, Option, Ok, Err}
+use Rattle.std.proofs.Common.{◌≡◌, ◌≢◌, inl, inr, ℕ, ◌<◌, Bool, true, false, List, [], ◌∷◌, ◌++◌, length, refl, sym, ap, subst, ◌∙◌, arith, append_assoc, Option, Ok, Err}
 use Rattle.std.proofs.lemmas.List.{append-nil}
 use Rattle.std.proofs.lemmas.Bool.{cases_Bool}
 use Rattle.std.proofs.lemmas.Bool.Decides.{nat_tests}
@@ -9,7 +9,7 @@ use Rattle.std.specs.Io.KnownBytes.{Appends, Keeps, Consumes}
 use Rattle.script_reader.specs.Lines.{lines_of, within_limit}
 use Rattle.script_reader.specs.State.{reader_of, taken_of, unread_of, line_of, IsFresh}
 use Rattle.script_reader.specs.Next.{Went}
-use Rattle.script_reader.specs.Script.{HasRead, IsReadOut, BreaksOff, to_come}
+use Rattle.script_reader.specs.Script.{HasRead, BreaksOff, to_come}
 use Rattle.script_reader.specs.Grammar.{is_ascii, command_of_words, command_of}
 use Rattle.script_reader.specs.Words.{words}
 use Rattle.script_reader.specs.declared.command.Command.{Command}
@@ -22,7 +22,7 @@ use Rattle.script_reader.proofs.ScriptLaws.{has_begun, has_line_more, has_long_m
 use Rattle.solid_listing.specs.Writing.{Stops}
 use Rattle.undo_journal.specs.Machine.{Machine, start}
 use Rattle.gwb.specs.Judging.{Judges, Answers, answer_text, no_lines, one_line, counted}
-use Rattle.gwb.specs.Outs.{stops, Outs, Moves, Served, Breaks, Runs}
+use Rattle.gwb.specs.Outs.{stops, Outs, Served, Breaks, Runs}
 use Rattle.gwb.specs.Hearing.{Hears}
 use Rattle.gwb.specs.declared.judging.Answer.{Answer}
 use Rattle.gwb.specs.declared.judging.Summary.{Summary}

@@ -1,9 +1,8 @@
-use Rattle.std.proofs.Common.{◌≡◌, ◌≢◌, ◌+◌, ◌≤◌, ◌++◌, [], List, ℕ, Bool, true, false, refl, sym, ap, subst, ◌∙◌, rules, arith, Ok, Err}
+use Rattle.std.proofs.Common.{◌≡◌, ◌+◌, ℕ, sym, ap, subst, ◌∙◌, arith}
 use Rattle.std.proofs.lemmas.Result.{err_from_is_err_and}
 use Rattle.std.proofs.KnownBytes.{Consumes-nil}
 use Rattle.gwb.specs.declared.judging.Summary.{Summary}
-use Rattle.gwb.specs.Judging.{counted, one_line, no_lines}
-use Rattle.gwb.specs.Outs.{stops}
+use Rattle.gwb.specs.Judging.{no_lines}
 use Rattle.gwb.proofs.Counting.{IsWithin, same_counts, counted_within, one_more}
 use Rattle.gwb.proofs.RunLaws.{Progress, begins, flushed, turn_of, goes_on, stopped, ends, finished, read_fails, too_long, write_fails, flush_fails, nothing_begins, falls, stop_is}
 use Rattle.gwb.specs.Hearing.{Hears}

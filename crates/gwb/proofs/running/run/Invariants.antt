@@ -1,4 +1,4 @@
-use Rattle.std.proofs.Common.{◌≡◌, ◌+◌, ◌≤◌, ℕ}
+use Rattle.std.proofs.Common.{◌+◌, ◌≤◌}
 use Rattle.script_reader.specs.State.{taken_of, unread_of}
 use Rattle.script_reader.specs.Script.{to_come}
 use Rattle.gwb.proofs.Counting.{IsWithin}

@@ -1,10 +1,9 @@
-use Rattle.std.proofs.Common.{rules, ap, subst, map, ◌≡◌, ◌∙◌, true, refl}
+use Rattle.std.proofs.Common.{ap, subst, map, ◌∙◌}
 use Rattle.std.specs.String.{string_bytes}
 use Rattle.std.proofs.lemmas.Result.{IfOk-weaker}
-use Rattle.clap.specs.Words.{App, app_of, is_simple, matches_of}
+use Rattle.clap.specs.Words.{App, is_simple, matches_of}
 use Rattle.clap.specs.Faults.{fault_of, is_simple_and_free}
 use Rattle.clap.specs.Kinds.{FailsBy}
-use Rattle.gwb.specs.Words.{command_line}
 use Rattle.gwb.proofs.CommandLine.{is_taken_whole, is_free}
 use Rattle.gwb.proofs.words.parse.Goals as goal
 
