@@ -26,10 +26,10 @@ abbrev pub refused : Refusal → Answer
 refused r = Told (reply.Refused (refusal.code_of r.why) r.number)
 
 -- how a command ended
-abbrev pub told : Result (Unit {0}) Failure → Answer
-told (Ok _) = done
-told (Err (failure.Refused r)) = refused r
-told (Err (failure.Memory e)) = Told reply.Memory
+abbrev pub outcome : Result (Unit {0}) Failure → Answer
+outcome (Ok _) = done
+outcome (Err (failure.Refused r)) = refused r
+outcome (Err (failure.Memory e)) = Told reply.Memory
 
 -- undo and redo go on to a state, or are refused
 abbrev pub Moves : Option Refusal → Machine → Machine → Answer → Machine → Type 0

@@ -1,7 +1,7 @@
 //! What a line is answered.
 ghost use Rattle.std.specs.Prelude.{◌≡◌, ◌<◌, ◌≤◌, ◌↔◌, IsTrue};
 ghost use Rattle.euler_conditions.specs.Ready.{IsReady};
-ghost use Rattle.gwb.specs.Judging.{refused, told, Moves, Acts, Obeys, Judges, answer_text, complains, one_line, counted};
+ghost use Rattle.gwb.specs.Judging.{refused, outcome, Moves, Acts, Obeys, Judges, answer_text, complains, one_line, counted};
 ghost use Rattle.shapes.specs.Lamina.{lamina_refusal, lamina_model};
 ghost use Rattle.undo_journal.specs.Machine.{held, accepted};
 ghost use Rattle.undo_journal.specs.Machine as machine;
@@ -86,8 +86,8 @@ fn told_refusal(refusal: Refusal) -> Answer
 }
 
 /// How a command ended.
-fn told(ended: Result<(), Failure>) -> Answer
-    ensures { result ≡ told ended }
+fn outcome(ended: Result<(), Failure>) -> Answer
+    ensures { result ≡ outcome ended }
 {
     match ended {
         Ok(()) => Answer::Reply(Reply::Done),
@@ -103,7 +103,7 @@ fn act(session: Session, op: Op) -> (Session, Answer)
 {
     let mut session = session;
     let ended = session.act(op);
-    (session, told(ended))
+    (session, outcome(ended))
 }
 
 /// A lamina through some corners.
@@ -116,7 +116,7 @@ fn draw_lamina(
     ensures { Acts (lamina_refusal (held session) solid corners.now) session (accepted session (lamina_model (held session) solid corners.now)) result.1 result.0 }
 {
     let (session, ended) = lamina(alloc, session, solid, corners.points());
-    (session, told(ended))
+    (session, outcome(ended))
 }
 
 fn undo(session: Session) -> (Session, Answer)
