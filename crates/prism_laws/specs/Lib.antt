@@ -1,0 +1,2 @@
+pub mod SweepOps
+pub mod Part

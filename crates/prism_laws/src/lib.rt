@@ -1,0 +1,2 @@
+//! The laws of sweeps.
+#![tactic(auto)]
