@@ -1,3 +1,4 @@
 pub mod Steps
 pub mod Sides
+pub mod Rounds
 mod WorkedSweeps
