@@ -1,0 +1,55 @@
+-- A lamina in the making: the models between its operators, and the operators.
+use Rattle.std.specs.Prelude.{◌≡◌, ℕ, zero, suc, ◌+◌, ◌-◌, true, false, List, [], ◌∷◌, ◌++◌, length, get_or, None}
+use Rattle.lattice.specs.declared.Point.{Point}
+use Rattle.boundary_model.specs.declared.HalfEdge.{HalfEdge}
+use Rattle.boundary_model.specs.declared.Corner.TheVariants.{At, Lone}
+use Rattle.boundary_model.specs.HalfEdge.{plus, minus}
+use Rattle.boundary_model.specs.Table as table
+use Rattle.boundary_model.specs.Model.{Model, LoopContent, LoopRow, FaceRow, lone, cycle, no_point}
+use Rattle.boundary_model.specs.Sound.{Sound}
+use Rattle.euler_operators.specs.declared.Op.{Op}
+use Rattle.euler_operators.specs.declared.Op.TheVariants.{Mvfs, Mev, Mef}
+use Rattle.shapes.specs.Fresh.{Taken, taken_in}
+use Rattle.shapes.specs.Lamina.{with_points, with_path}
+
+-- the plus halves of j edges from e + 1 on, and the minus halves of these, the last first
+abbrev pub out : ℕ → ℕ → List ℕ
+out e zero = []
+out e (suc j) = out e j ++ plus (e + suc j) ∷ []
+
+abbrev pub back : ℕ → ℕ → List ℕ
+back e zero = []
+back e (suc j) = minus (e + suc j) ∷ back e j
+
+-- the loop along j edges and back
+abbrev pub path_content : Taken → ℕ → LoopContent
+path_content c zero = lone (c.vertex + 1)
+path_content c (suc j) = cycle (out c.edge (suc j) ++ back c.edge (suc j))
+
+-- a new solid with one face and one loop, which leads along j new edges, from point to point, and back
+unfoldable pub path_at : Model → Taken → ℕ → List Point → ℕ → Model
+path_at M c s ps j = record {
+    solids = table.put M.solids s tt;
+    faces = table.put M.faces (c.face + 1) (record { solid = s; outer = c.loop + 1 });
+    loops = table.put M.loops (c.loop + 1) (record { face = c.face + 1; content = path_content c j });
+    edges = with_path M.edges c.edge c.vertex j;
+    vertices = with_points M.vertices c.vertex ps (suc j)
+  }
+
+abbrev pub first_half : ℕ → HalfEdge
+first_half e = record { edge = e; first = true }
+
+abbrev pub second_half : ℕ → HalfEdge
+second_half e = record { edge = e; first = false }
+
+-- the operator that makes the first point, the one that goes on from j edges to the next point, and the one that closes the
+-- ring of n points
+abbrev pub first_point : Taken → ℕ → List Point → Op
+first_point c s ps = Mvfs s (c.face + 1) (c.loop + 1) (c.vertex + 1) (get_or ps 0 no_point)
+
+abbrev pub next_point : Taken → List Point → ℕ → Op
+next_point c ps zero = Mev (Lone (c.loop + 1)) (Lone (c.loop + 1)) (first_half (c.edge + 1)) (c.vertex + 2) (get_or ps 1 no_point)
+next_point c ps (suc j) = Mev (At (second_half (c.edge + suc j))) (At (second_half (c.edge + suc j))) (first_half (c.edge + suc (suc j))) (c.vertex + suc (suc (suc j))) (get_or ps (suc (suc j)) no_point)
+
+abbrev pub last_edge : Taken → ℕ → Op
+last_edge c n = Mef (second_half (c.edge + (n - 1))) (first_half (c.edge + 1)) (first_half (c.edge + n)) (c.face + 2) (c.loop + 2)
