@@ -3,4 +3,5 @@ pub mod Sides
 pub mod Rounds
 pub mod Loops
 pub mod Whole
+pub mod Accepted
 mod WorkedSweeps

@@ -1,2 +1,3 @@
 pub mod SweepOps
 pub mod Part
+pub mod Laws
