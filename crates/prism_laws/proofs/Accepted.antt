@@ -1,30 +1,30 @@
 -- What it says that a sweep isn't refused; and so the sweep of a face, from its first operator to the prism.
-use Rattle.std.proofs.Common.{◌≡◌, ◌≢◌, ℕ, zero, suc, ◌+◌, ◌*◌, ◌≤◌, ◌<◌, Bool, true, false, cond, not, nat_eq, nat_lt, ◌&&◌, ◌||◌, List, [], ◌∷◌, ◌++◌, length, Option, Some, None, is_some, refl, sym, ap, ◌∙◌, subst, arith, ◌⊎◌, inl, inr, true≢false}
+use Rattle.std.proofs.Common.{◌≡◌, ◌≢◌, ℕ, ◌*◌, ◌<◌, Bool, true, false, not, nat_eq, nat_lt, ◌&&◌, ◌||◌, List, [], ◌∷◌, ◌++◌, length, Some, None, is_some, refl, sym, ap, ◌∙◌, subst, arith, inl, inr, true≢false}
 use Rattle.std.specs.Prelude.{map}
 use Rattle.std.proofs.lemmas.Bool.Decides.{nat_tests, eqb_tells}
 use Rattle.lattice.specs.declared.Point.{Point}
 use Rattle.lattice.specs.Point.{is_in_range, IsInRange}
 use Rattle.lattice.specs.Vectors.{moved}
 use Rattle.cyclic_list.specs.Items.{count, tick, IsIn, IsApart}
-use Rattle.cyclic_list.proofs.Lists.{count-append, tick_same, tick_other}
+use Rattle.cyclic_list.proofs.Lists.{tick_same, tick_other}
 use Rattle.boundary_model.specs.Table as table
 use Rattle.boundary_model.specs.Table.{Table}
-use Rattle.boundary_model.specs.Model.{Model, LoopContent, LoopRow, lone, cycle, items_of, holds, content, face_of, outer, tail, point_of, rings_of, is_number}
+use Rattle.boundary_model.specs.Model.{Model, LoopContent, LoopRow, lone, cycle, items_of, content, face_of, outer, tail, point_of, rings_of}
 use Rattle.boundary_model.specs.Sound.{Sound, Has, HasHalf}
 use Rattle.boundary_model.proofs.Tables.{zero_first_where}
 use Rattle.boundary_model.proofs.Models.{face_row, in-holds}
 use Rattle.euler_operators.specs.Conditions.{AllHold, is_lone, lists, strictly_rises}
 use Rattle.euler_laws.specs.Laws.{AreAccepted, effects}
 use Rattle.euler_laws.proofs.Runs.{effects_keep_sound}
-use Rattle.euler_laws_shared.proofs.Goes.{all_hold, not_true, not_back, equal, no_zero}
+use Rattle.euler_laws_shared.proofs.Goes.{all_hold, not_back, equal, no_zero}
 use Rattle.euler_laws_shared.proofs.Listed.{listed_passes, all_where-rises}
 use Rattle.euler_laws_shared.proofs.Rows.{loop_row}
 use Rattle.fresh_laws.proofs.Rows.{none_above}
 use Rattle.fresh_laws.proofs.Tests.{NoneSuch, NoZero, none_such, none_such-append, Left, numbers_are_left}
 use Rattle.shapes.specs.Faces.{start, loops_of, corners, vertices_in, vertices_on, least_lone}
-use Rattle.shapes.specs.Fresh.{first_such, taken_in, growing}
-use Rattle.shapes.specs.Prism.{prism_conditions, prism_refusal, prism_from, prism_model}
-use Rattle.prism_laws.specs.SweepOps.{ops_from, sweep_ops}
+use Rattle.shapes.specs.Fresh.{first_such, taken_in}
+use Rattle.shapes.specs.Prism.{prism_conditions, prism_refusal, prism_model}
+use Rattle.prism_laws.specs.SweepOps.{sweep_ops}
 use Rattle.prism_laws.proofs.Whole.{Going, loops_swept}
 
 -- ---- lists that rise

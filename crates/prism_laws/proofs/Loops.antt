@@ -1,11 +1,11 @@
 -- A whole loop swept: the first item raised, the rounds, and the last side closed.
-use Rattle.std.proofs.Common.{◌≡◌, ◌≢◌, ℕ, zero, suc, ◌+◌, ◌-◌, ◌*◌, ◌≤◌, ◌<◌, List, [], ◌∷◌, ◌++◌, length, Option, Some, None, is_some, refl, sym, ap, ◌∙◌, subst, arith, ◌⊎◌, inl, inr}
+use Rattle.std.proofs.Common.{◌≡◌, ◌≢◌, ℕ, zero, suc, ◌+◌, ◌-◌, ◌≤◌, ◌<◌, List, [], ◌∷◌, ◌++◌, length, Some, None, refl, sym, ap, ◌∙◌, subst, arith, inl, inr}
 use Rattle.std.specs.Prelude.{get_or, drop}
 use Rattle.std.proofs.lemmas.Bool.Decides.{nat_tests, eqb_tells}
 use Rattle.std.proofs.lemmas.List.{drop_all}
 use Rattle.lattice.specs.declared.Point.{Point}
 use Rattle.lattice.specs.Vectors.{moved}
-use Rattle.cyclic_list.specs.Items.{count, tick, IsIn, IsApart, least}
+use Rattle.cyclic_list.specs.Items.{IsIn, least}
 use Rattle.cyclic_list.specs.Rings.{canonical, rotate_to}
 use Rattle.cyclic_list.proofs.Lists.{count-append, tick_same, tick_other, least_le, least_in}
 use Rattle.cyclic_list.proofs.Rotations.{canonical_same, rotate_to_head}

@@ -1,20 +1,19 @@
 -- One round of a sweep: an item is raised, and the side before it closed.
-use Rattle.std.proofs.Common.{◌≡◌, ◌≢◌, ℕ, zero, suc, ◌+◌, ◌*◌, ◌≤◌, ◌<◌, List, [], ◌∷◌, ◌++◌, length, Option, Some, None, is_some, unwrap_or, refl, sym, ap, ◌∙◌, subst, arith}
+use Rattle.std.proofs.Common.{◌≡◌, ◌≢◌, ℕ, suc, ◌+◌, ◌≤◌, ◌<◌, List, [], ◌∷◌, ◌++◌, length, Some, None, is_some, unwrap_or, refl, sym, ap, ◌∙◌, subst, arith}
 use Rattle.std.specs.Prelude.{get_or, drop}
 use Rattle.std.proofs.lemmas.Bool.Decides.{nat_tests}
 use Rattle.std.proofs.lemmas.List.{drop_more}
 use Rattle.lattice.specs.declared.Point.{Point}
 use Rattle.lattice.specs.Vectors.{moved}
-use Rattle.cyclic_list.specs.Items.{count, IsIn, IsApart}
+use Rattle.cyclic_list.specs.Items.{IsIn}
 use Rattle.cyclic_list.specs.Rings.{canonical}
-use Rattle.cyclic_list.proofs.Rotations.{canonical_same, count-canonical}
+use Rattle.cyclic_list.proofs.Rotations.{canonical_same}
 use Rattle.cyclic_list.proofs.Std.{IsIn-get_or}
 use Rattle.boundary_model.specs.HalfEdge.{edge_of, is_first, plus, minus}
 use Rattle.boundary_model.specs.Table as table
 use Rattle.boundary_model.specs.Table.{Table, tables, same_table}
-use Rattle.boundary_model.specs.Model.{Model, LoopRow, EdgeRow, cycle, tail, tail_in, no_edge, no_face, solid_of}
-use Rattle.boundary_model.specs.Sound.{Sound, Has, HasHalf}
-use Rattle.euler_operators.specs.declared.Op.{Op}
+use Rattle.boundary_model.specs.Model.{Model, cycle, tail, tail_in, no_edge, solid_of}
+use Rattle.boundary_model.specs.Sound.{Sound, HasHalf}
 use Rattle.euler_operators.specs.Conditions.{first_false}
 use Rattle.euler_operators.specs.Effect.{effect}
 use Rattle.euler_laws.specs.Laws.{AreAccepted, effects}
@@ -26,7 +25,7 @@ use Rattle.shapes.specs.Prism.{riser, top_edge, top_items, next_place, with_side
 use Rattle.prism_laws.specs.Part.{lifted_part, prism_part}
 use Rattle.prism_laws.specs.SweepOps.{raise, close}
 use Rattle.prism_laws.proofs.Steps.{Around, apart_xs, with_spur, with_chord, mev_does, mev_fits, mef_does, mef_fits}
-use Rattle.prism_laws.proofs.Sides.{Ready, fits, riser_is, top_is, next_inner, plus_tail_at, minus_tail_at, put_there, put_other, put_exchanged, within, half_there, old_tail, old_start, old_solid, sides_edges, sides_faces, sides_loops, sides_vertices}
+use Rattle.prism_laws.proofs.Sides.{Ready, fits, riser_is, top_is, next_inner, minus_tail_at, put_there, put_other, put_exchanged, within, half_there, old_tail, old_start, old_solid, sides_edges, sides_faces, sides_loops, sides_vertices}
 
 pub drop_next : (hs : List ℕ) (i : ℕ) → i < length hs → drop i hs ≡ get_or hs i 0 ∷ drop (suc i) hs
 drop_next hs i h = drop_more hs i 0 h ∙ ap (λ k. get_or hs i 0 ∷ drop k hs) (let e : i + 1 ≡ suc i = omega arith in e)

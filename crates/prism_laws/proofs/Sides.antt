@@ -1,19 +1,18 @@
 -- A loop ready to be swept, the numbers that its sweep takes, and what the sides leave as it was.
-use Rattle.std.proofs.Common.{◌≡◌, ◌≢◌, ℕ, zero, suc, ◌+◌, ◌*◌, ◌≤◌, ◌<◌, true, false, cond, nat_eq, List, [], ◌∷◌, ◌++◌, length, Option, Some, None, is_some, unwrap_or, IsTrue, refl, sym, ap, ◌∙◌, subst, arith, ◌⊎◌, inl, inr, true≢false}
-use Rattle.std.specs.Prelude.{get_or}
+use Rattle.std.proofs.Common.{◌≡◌, ◌≢◌, ℕ, zero, suc, ◌+◌, ◌*◌, ◌≤◌, ◌<◌, cond, List, [], ◌∷◌, length, Some, None, is_some, unwrap_or, IsTrue, refl, sym, ap, ◌∙◌, subst, arith, ◌⊎◌, inl, inr, true≢false}
 use Rattle.std.proofs.lemmas.Bool.{eq-eqb, ne_eqb, cases_eq, cases_lt}
-use Rattle.std.proofs.lemmas.Bool.Decides.{nat_tests, eqb_tells}
+use Rattle.std.proofs.lemmas.Bool.Decides.{nat_tests}
 use Rattle.lattice.specs.declared.Point.{Point}
 use Rattle.lattice.specs.Point.{IsInRange}
 use Rattle.lattice.specs.Vectors.{moved}
-use Rattle.cyclic_list.specs.Items.{count, IsIn}
+use Rattle.cyclic_list.specs.Items.{IsIn}
 use Rattle.cyclic_list.specs.Rings.{canonical, successor}
 use Rattle.cyclic_list.proofs.Lists.{tick_same}
 use Rattle.cyclic_list.proofs.Rings.{successor_head}
-use Rattle.boundary_model.specs.HalfEdge.{mate, edge_of, is_first, plus, minus}
+use Rattle.boundary_model.specs.HalfEdge.{edge_of, is_first, plus, minus}
 use Rattle.boundary_model.specs.Table as table
 use Rattle.boundary_model.specs.Table.{Table, tables, same_table}
-use Rattle.boundary_model.specs.Model.{Model, LoopRow, EdgeRow, cycle, items_of, holds, tail, tail_in, no_edge, no_face, no_point, content, face_of, solid_of, point_of, loop_of, after, cycle_of, is_number}
+use Rattle.boundary_model.specs.Model.{Model, EdgeRow, cycle, items_of, holds, tail, tail_in, no_edge, no_face, no_point, content, solid_of, point_of, loop_of, after, cycle_of, is_number}
 use Rattle.boundary_model.specs.Sound.{Sound, Has, HasHalf}
 use Rattle.boundary_model.proofs.Halves.{plus_row, minus_row}
 use Rattle.boundary_model.proofs.Models.{content_row, face_row, tail_row, in-holds}

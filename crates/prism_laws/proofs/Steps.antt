@@ -1,7 +1,7 @@
 -- What mev at one corner and mef make of a sound model of which one loop is known.
-use Rattle.std.proofs.Common.{◌≡◌, ◌≢◌, ℕ, zero, suc, ◌+◌, ◌*◌, ◌≤◌, true, false, cond, nat_lt, List, [], ◌∷◌, ◌++◌, Option, Some, None, is_some, IsTrue, refl, sym, ap, ◌∙◌, subst, arith, inl, inr}
+use Rattle.std.proofs.Common.{◌≡◌, ◌≢◌, ℕ, zero, suc, cond, List, [], ◌∷◌, ◌++◌, Some, None, is_some, IsTrue, refl, sym, ap, ◌∙◌, subst, arith}
 use Rattle.std.proofs.lemmas.Bool.{eq-eqb}
-use Rattle.std.proofs.lemmas.Bool.Decides.{nat_tests, eqb_tells}
+use Rattle.std.proofs.lemmas.Bool.Decides.{nat_tests}
 use Rattle.lattice.specs.declared.Point.{Point}
 use Rattle.lattice.specs.Point.{IsInRange}
 use Rattle.boundary_model.specs.declared.Corner.TheVariants.{At}
@@ -9,23 +9,22 @@ use Rattle.cyclic_list.specs.Items.{count, IsIn, IsApart}
 use Rattle.cyclic_list.specs.Rings.{canonical, rotate_to, upto, onward, IsRotation}
 use Rattle.cyclic_list.specs.Rings as rings
 use Rattle.cyclic_list.specs.Edits.{insert_before}
-use Rattle.cyclic_list.specs.Operators.{mef_old, mef_new}
 use Rattle.cyclic_list.proofs.Lists.{count-append, tick_same, tick_other}
-use Rattle.cyclic_list.proofs.Rotations.{canonical-rotates, IsApart-same, IsRotation-same, count-canonical, IsApart-canonical, rotate_to_same, rotate_at, rotate_to_head, canonical_same}
+use Rattle.cyclic_list.proofs.Rotations.{canonical-rotates, count-canonical, rotate_to_same, rotate_at, rotate_to_head, canonical_same}
 use Rattle.cyclic_list.proofs.Cuts.{upto_itself, onward_itself, upto_once}
 use Rattle.cyclic_list.proofs.Edits.{count-insert_before}
 use Rattle.cyclic_list.proofs.Operators.{apart_front}
-use Rattle.boundary_model.specs.HalfEdge.{mate, edge_of, is_first, plus, minus, code, half}
+use Rattle.boundary_model.specs.HalfEdge.{edge_of, plus, minus, code, half}
 use Rattle.boundary_model.specs.Table as table
 use Rattle.boundary_model.specs.Table.{Table, tables, same_table}
-use Rattle.boundary_model.specs.Model.{Model, LoopRow, EdgeRow, cycle, items_of, holds, tail, loop_of, content, face_of, solid_of, cycle_of, arc, round, is_number}
-use Rattle.boundary_model.specs.Sound.{Sound, Has, HasHalf, StandsIn, IsCycle}
+use Rattle.boundary_model.specs.Model.{Model, EdgeRow, cycle, items_of, holds, tail, loop_of, content, face_of, solid_of, cycle_of, arc, round, is_number}
+use Rattle.boundary_model.specs.Sound.{Sound, HasHalf, StandsIn}
 use Rattle.boundary_model.proofs.Halves.{plus_row, minus_row, code-half}
 use Rattle.boundary_model.proofs.Tables.{map_one, map_same, map-put}
 use Rattle.boundary_model.proofs.Models.{content_row, face_row, in-holds, not_held, other_loop}
 use Rattle.euler_operators.specs.declared.Op.TheVariants.{Mev, Mef}
 use Rattle.euler_operators.specs.Conditions.{face_at, first_false}
-use Rattle.euler_operators.specs.Effect.{effect, mev_at, mef, with_before, with_tails, where_held, edge_row}
+use Rattle.euler_operators.specs.Effect.{effect, mev_at, mef, with_before, with_tails, edge_row}
 use Rattle.euler_laws_shared.proofs.Rows.{where_held_none, where_held_there}
 use Rattle.euler_laws_shared.proofs.Undo.{both_in, mate_plus}
 use Rattle.euler_laws_mev.proofs.MevSound.{MevGoes}

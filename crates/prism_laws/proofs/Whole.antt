@@ -1,5 +1,5 @@
 -- The loops of a face swept one after the other.
-use Rattle.std.proofs.Common.{◌≡◌, ◌≢◌, ℕ, zero, suc, ◌+◌, ◌-◌, ◌*◌, ◌≤◌, ◌<◌, List, [], ◌∷◌, ◌++◌, length, Option, Some, None, is_some, unwrap_or, refl, sym, ap, ◌∙◌, subst, arith}
+use Rattle.std.proofs.Common.{◌≡◌, ◌≢◌, ℕ, zero, suc, ◌+◌, ◌-◌, ◌*◌, ◌≤◌, ◌<◌, List, [], ◌∷◌, ◌++◌, length, Some, None, is_some, refl, sym, ap, ◌∙◌, subst, arith}
 use Rattle.std.specs.Prelude.{get_or, map}
 use Rattle.std.proofs.lemmas.List.{length-append, length-map}
 use Rattle.lattice.specs.declared.Point.{Point}
@@ -9,21 +9,21 @@ use Rattle.cyclic_list.specs.Items.{count, IsIn, IsApart}
 use Rattle.cyclic_list.proofs.Lists.{tick_same}
 use Rattle.cyclic_list.proofs.Std.{IsIn-get_or}
 use Rattle.boundary_model.specs.declared.Corner.TheVariants.{At}
-use Rattle.boundary_model.specs.HalfEdge.{edge_of, is_first, half, plus}
+use Rattle.boundary_model.specs.HalfEdge.{edge_of, half, plus}
 use Rattle.boundary_model.specs.Table as table
 use Rattle.boundary_model.specs.Table.{Table}
-use Rattle.boundary_model.specs.Model.{Model, LoopContent, lone, cycle, items_of, content, tail, tail_in, no_edge, no_point, point_of, solid_of}
-use Rattle.boundary_model.specs.Sound.{Sound, Has, HasHalf}
+use Rattle.boundary_model.specs.Model.{Model, cycle, items_of, content, tail, point_of, solid_of}
+use Rattle.boundary_model.specs.Sound.{Sound, HasHalf}
 use Rattle.boundary_model.proofs.Models.{content_row}
 use Rattle.euler_operators.specs.declared.Op.{Op}
 use Rattle.euler_operators.specs.declared.Op.TheVariants.{Mev}
 use Rattle.euler_laws.specs.Laws.{AreAccepted, effects}
 use Rattle.euler_laws.proofs.Runs.{effects-append, AreAccepted-append, effects_keep_sound}
 use Rattle.shapes.specs.Faces.{start, vertices_on, vertices_in}
-use Rattle.shapes.specs.Fresh.{Taken, Growing}
-use Rattle.shapes.specs.Prism.{riser, top_edge, top_items, with_sides, lifted, raised, raised_over, prism_from}
-use Rattle.prism_laws.specs.SweepOps.{raise, close, close_last, rounds, loop_ops, taken_after, ops_from}
-use Rattle.prism_laws.proofs.Sides.{Ready, riser_is, top_is, put_other, within, half_there, old_edge, old_start, sides_edges, sides_faces, sides_loops, sides_vertices, two_items}
+use Rattle.shapes.specs.Fresh.{Taken}
+use Rattle.shapes.specs.Prism.{riser, top_items, with_sides, lifted, raised, raised_over, prism_from}
+use Rattle.prism_laws.specs.SweepOps.{close, close_last, rounds, loop_ops, taken_after, ops_from}
+use Rattle.prism_laws.proofs.Sides.{Ready, riser_is, top_is, put_other, within, old_edge, old_start, sides_edges, sides_faces, sides_loops, sides_vertices, two_items}
 use Rattle.prism_laws.proofs.Rounds.{loop_within}
 use Rattle.prism_laws.proofs.Loops.{loop_swept}
 

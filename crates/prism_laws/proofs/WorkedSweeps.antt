@@ -1,16 +1,14 @@
 -- Worked sweeps, computed: the operators are accepted one after the other and leave the prism.
-use Rattle.std.specs.Prelude.{◌≡◌, ℕ, pos, negsuc, List, [], ◌∷◌, ◌++◌, length, Option, Some, None, refl}
-use Rattle.lattice.specs.declared.Point.{Point}
+use Rattle.std.specs.Prelude.{◌≡◌, ℕ, [], ◌∷◌, length, Some, None, refl}
 use Rattle.boundary_model.specs.HalfEdge.{mate, code, half, edge_of, is_first}
 use Rattle.cyclic_list.specs.Rings.{rotate_to, canonical, rest}
 use Rattle.boundary_model.specs.Table as table
-use Rattle.boundary_model.specs.declared.Corner.TheVariants.{At, Lone}
+use Rattle.boundary_model.specs.declared.Corner.TheVariants.{Lone}
 use Rattle.boundary_model.specs.Model.{Model, empty_model, content, tail, loop_of, face_of, solid_of, outer, arc, holds, after, point_of}
 use Rattle.euler_operators.specs.Conditions.{conditions, first_false, has_rings}
-use Rattle.euler_operators.specs.declared.Op.TheVariants.{Mvfs, Mev, Mef, Kemr}
-use Rattle.euler_operators.specs.declared.Why.TheVariants.{NoFace, ZeroSweep, LoneLoop, PointRange}
+use Rattle.euler_operators.specs.declared.Op.TheVariants.{Mvfs, Mev}
 use Rattle.euler_operators.specs.Effect.{effect, mvfs, mev_lone, mev_at, mef, kemr}
-use Rattle.euler_operators.proofs.WorkedScripts.{run, after_run, refused, plus, minus, at, loop}
+use Rattle.euler_operators.proofs.WorkedScripts.{run, after_run, plus, minus, at, loop}
 use Rattle.shapes.specs.Faces.{loops_of, corners}
 use Rattle.shapes.specs.Fresh.{taken_in}
 use Rattle.shapes.specs.Lamina.{lamina_model}
