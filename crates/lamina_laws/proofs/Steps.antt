@@ -28,10 +28,10 @@ use Rattle.euler_laws_mef.proofs.Kef.{mef_accepted}
 use Rattle.euler_laws_faces.proofs.Solids.{mvfs_accepted}
 use Rattle.fresh_laws.proofs.Rows.{greatest-put_last, none_above, get-put_here, get-put_other, map-put_last, put-put}
 use Rattle.fresh_laws.proofs.Tests.{Left, number_fits}
-use Rattle.shapes.specs.Fresh.{Taken}
+use Rattle.shapes.specs.Fresh.{Taken, numbers_after}
 use Rattle.shapes.specs.Lamina.{with_points, with_path, with_ring, lamina_at}
 use Rattle.lamina_laws.specs.Path.{out, back, path_content, path_at, first_half, second_half, first_point, next_point, last_edge}
-use Rattle.lamina_laws.proofs.Lists.{two_halves, longer_plus, longer_minus, ring_plus, ring_minus, no_minus, plus_halves, minus_halves}
+use Rattle.lamina_laws.proofs.Lists.{two_halves, longer_plus, longer_minus, ring_plus, ring_minus, no_minus, out_first, plus_halves, minus_halves}
 
 -- ---- the tables of a path
 
@@ -184,7 +184,7 @@ module _ (M : Model) (c : Taken) (s : ℕ) (ps : List Point) (n : ℕ) (goes : G
     point_fits = goes.points_fit 1 (omega (arith, goes.many));
   }
 
-  second_accepted : Sound (path_at M c s ps 0) → first_false (path_at M c s ps 0) (next_point c ps 0) ≡ None
+  pub second_accepted : Sound (path_at M c s ps 0) → first_false (path_at M c s ps 0) (next_point c ps 0) ≡ None
   second_accepted sound = lone_accepted (path_at M c s ps 0) (c.loop + 1) (first_half (c.edge + 1)) (c.vertex + 2) (c.vertex + 1) (get_or ps 1 no_point) sound second_goes
 
   second_put : table.put (path_at M c s ps 0).loops (c.loop + 1) (record { face = c.face + 1; content = path_content c 1 }) ≡ table.put M.loops (c.loop + 1) (record { face = c.face + 1; content = path_content c 1 })
@@ -204,7 +204,7 @@ module _ (M : Model) (c : Taken) (s : ℕ) (ps : List Point) (n : ℕ) (goes : G
         two : (v : ℕ) → v + 2 ≡ v + 1 + 1
         two v = omega arith
 
-  second_made : effect (path_at M c s ps 0) (next_point c ps 0) ≡ path_at M c s ps 1
+  pub second_made : effect (path_at M c s ps 0) (next_point c ps 0) ≡ path_at M c s ps 1
   unfolding effect mev_lone code path_at
   second_made = λ i. record {
     solids = table.put M.solids s tt;
@@ -247,7 +247,7 @@ module _ (M : Model) (c : Taken) (s : ℕ) (ps : List Point) (n : ℕ) (goes : G
       point_fits = goes.points_fit (suc (suc j)) l;
     }
 
-    further_accepted : suc (suc j) < n → Sound (path_at M c s ps (suc j)) → first_false (path_at M c s ps (suc j)) (next_point c ps (suc j)) ≡ None
+    pub further_accepted : suc (suc j) < n → Sound (path_at M c s ps (suc j)) → first_false (path_at M c s ps (suc j)) (next_point c ps (suc j)) ≡ None
     unfolding code
     further_accepted l sound = mev_accepted (path_at M c s ps (suc j)) (second_half (c.edge + suc j)) (second_half (c.edge + suc j)) (first_half (c.edge + suc (suc j)))
         (c.vertex + suc (suc (suc j))) (get_or ps (suc (suc j)) no_point) sound (further_goes l)
@@ -270,7 +270,7 @@ module _ (M : Model) (c : Taken) (s : ℕ) (ps : List Point) (n : ℕ) (goes : G
           next : (v j : ℕ) → v + suc (suc (suc j)) ≡ v + suc (suc j) + 1
           next v j = omega arith
 
-    further_made : effect (path_at M c s ps (suc j)) (next_point c ps (suc j)) ≡ path_at M c s ps (suc (suc j))
+    pub further_made : effect (path_at M c s ps (suc j)) (next_point c ps (suc j)) ≡ path_at M c s ps (suc (suc j))
     unfolding effect mev_at code path_at
     further_made = λ i. record {
       solids = table.put M.solids s tt;
@@ -279,3 +279,104 @@ module _ (M : Model) (c : Taken) (s : ℕ) (ps : List Point) (n : ℕ) (goes : G
       edges = further_edges i;
       vertices = with_points M.vertices c.vertex ps (suc (suc (suc j)))
     }
+
+  -- ---- the last edge
+
+  module _ (j : ℕ) (sound : Sound (path_at M c s ps (suc j))) where
+    start_there : IsIn (plus (c.edge + 1)) (out c.edge (suc j) ++ back c.edge (suc j))
+    start_there = omega (arith, count-append (plus (c.edge + 1)) (out c.edge (suc j)) (back c.edge (suc j)), ap (count (plus (c.edge + 1))) (out_first c.edge j), tick_same (plus (c.edge + 1)))
+
+    stands : (h : ℕ) → IsIn h (out c.edge (suc j) ++ back c.edge (suc j)) → loop_of (path_at M c s ps (suc j)) h ≡ c.loop + 1
+    stands h i = sound.one_loop h (c.loop + 1) (ap (holds h) (content_is (suc j)) ∙ in-holds h (cycle (out c.edge (suc j) ++ back c.edge (suc j))) i)
+
+    turn_loop : loop_of (path_at M c s ps (suc j)) (minus (c.edge + suc j)) ≡ c.loop + 1
+    turn_loop = stands (minus (c.edge + suc j)) (turn_there j)
+
+    start_row : table.get (path_at M c s ps (suc j)).edges (edge_of (plus (c.edge + 1))) ≡ Some (record { plus_tail = c.vertex + 1; minus_tail = c.vertex + 1 + 1 })
+    unfolding path_at
+    start_row = ap (table.get (with_path M.edges c.edge c.vertex (suc j))) (plus_row (c.edge + 1)).0 ∙ first_row M.edges c.edge c.vertex j
+
+    start_tail : tail (path_at M c s ps (suc j)) (plus (c.edge + 1)) ≡ c.vertex + 1
+    start_tail = tail_row (path_at M c s ps (suc j)) (plus (c.edge + 1)) (record { plus_tail = c.vertex + 1; minus_tail = c.vertex + 1 + 1 }) start_row
+        ∙ ap (tail_in (record { plus_tail = c.vertex + 1; minus_tail = c.vertex + 1 + 1 })) (plus_row (c.edge + 1)).1
+
+    second_face_free : table.get (path_at M c s ps (suc j)).faces (c.face + 2) ≡ None
+    unfolding path_at
+    second_face_free = none_above (table.put M.faces (c.face + 1) (record { solid = s; outer = c.loop + 1 })) (c.face + 2) (omega (arith, greatest-put_last M.faces (c.face + 1) (record { solid = s; outer = c.loop + 1 }) above_face))
+
+    second_loop_free : table.get (path_at M c s ps (suc j)).loops (c.loop + 2) ≡ None
+    unfolding path_at
+    second_loop_free = none_above (table.put M.loops (c.loop + 1) (record { face = c.face + 1; content = path_content c (suc j) })) (c.loop + 2)
+        (omega (arith, greatest-put_last M.loops (c.loop + 1) (record { face = c.face + 1; content = path_content c (suc j) }) above_loop))
+
+    last_goes : n ≡ suc (suc j) → MefGoes (path_at M c s ps (suc j)) (minus (c.edge + suc j)) (plus (c.edge + 1)) (plus (c.edge + suc (suc j))) (c.face + 2) (c.loop + 2)
+    last_goes all = record {
+      g_there = ap is_some (turn_row j);
+      k_there = ap is_some start_row;
+      edge_free = next_edge_free (suc j) (plus (c.edge + suc (suc j))) (plus_row (c.edge + suc (suc j))).0;
+      face_free = second_face_free;
+      loop_free = second_loop_free;
+      one_loop = stands (plus (c.edge + 1)) start_there ∙ sym turn_loop;
+      ends_apart = λ e. absurd (omega (arith, e, turn_tail j, start_tail));
+      edge_fits = ap is_number (plus_row (c.edge + suc (suc j))).0 ∙ edge_fits (suc (suc j)) (omega arith) (omega (arith, all));
+      face_fits = face_fits 2 (omega arith) (omega arith);
+      loop_fits = loop_fits 2 (omega arith) (omega arith);
+    }
+
+    pub last_accepted : n ≡ suc (suc j) → first_false (path_at M c s ps (suc j)) (last_edge c (suc j)) ≡ None
+    unfolding code
+    last_accepted all = mef_accepted (path_at M c s ps (suc j)) (second_half (c.edge + suc j)) (first_half (c.edge + 1)) (first_half (c.edge + suc (suc j))) (c.face + 2) (c.loop + 2) sound (last_goes all)
+
+    last_solid : solid_of (path_at M c s ps (suc j)) (face_at (path_at M c s ps (suc j)) (minus (c.edge + suc j))) ≡ s
+    last_solid = ap (solid_of (path_at M c s ps (suc j))) (ap (face_of (path_at M c s ps (suc j))) turn_loop ∙ face_is (suc j)) ∙ solid_is (suc j)
+
+    last_faces : table.put (path_at M c s ps (suc j)).faces (c.face + 2) (record { solid = solid_of (path_at M c s ps (suc j)) (face_at (path_at M c s ps (suc j)) (minus (c.edge + suc j))); outer = c.loop + 2 })
+        ≡ table.put (table.put M.faces (c.face + 1) (record { solid = s; outer = c.loop + 1 })) (c.face + 2) (record { solid = s; outer = c.loop + 2 })
+    unfolding path_at
+    last_faces = ap (λ t. table.put (table.put M.faces (c.face + 1) (record { solid = s; outer = c.loop + 1 })) (c.face + 2) (record { solid = t; outer = c.loop + 2 })) last_solid
+
+    -- the two loops, first as the operator makes them
+    last_cycle : cycle_of (path_at M c s ps (suc j)) (minus (c.edge + suc j)) ≡ out c.edge (suc j) ++ back c.edge (suc j)
+    last_cycle = ap items_of (ap (content (path_at M c s ps (suc j))) turn_loop ∙ content_is (suc j))
+
+    old_loop : table.map_rows (where_held (minus (c.edge + suc j)) (λ hs. cycle (canonical (plus (c.edge + suc (suc j)) ∷ onward (minus (c.edge + suc j)) (plus (c.edge + 1)) hs)))) (path_at M c s ps (suc j)).loops
+        ≡ table.put M.loops (c.loop + 1) (record { face = c.face + 1; content = cycle (map plus (numbers_after c.edge (suc (suc j)))) })
+    unfolding path_at
+    old_loop = held_one M goes.sound (minus (c.edge + suc j)) (turn_free j) (λ hs. cycle (canonical (plus (c.edge + suc (suc j)) ∷ onward (minus (c.edge + suc j)) (plus (c.edge + 1)) hs))) (c.loop + 1) (c.face + 1) (out c.edge (suc j) ++ back c.edge (suc j)) (turn_there j)
+        ∙ ap (λ xs. table.put M.loops (c.loop + 1) (record { face = c.face + 1; content = cycle xs })) (ring_plus c.edge j ∙ sym (plus_halves c.edge (suc (suc j))))
+
+    new_list : canonical (upto (minus (c.edge + suc j)) (plus (c.edge + 1)) (cycle_of (path_at M c s ps (suc j)) (minus (c.edge + suc j))) ++ mate (plus (c.edge + suc (suc j))) ∷ [])
+        ≡ canonical (reverse (map minus (numbers_after c.edge (suc (suc j)))))
+    new_list = (λ i. canonical (upto (minus (c.edge + suc j)) (plus (c.edge + 1)) (last_cycle i) ++ mate_plus (c.edge + suc (suc j)) i ∷ [])) ∙ ring_minus c.edge j ∙ ap canonical (sym (minus_halves c.edge (suc (suc j))))
+
+    last_edges : table.put (path_at M c s ps (suc j)).edges (edge_of (plus (c.edge + suc (suc j))))
+        (edge_row (plus (c.edge + suc (suc j))) (tail (path_at M c s ps (suc j)) (minus (c.edge + suc j))) (tail (path_at M c s ps (suc j)) (plus (c.edge + 1))))
+        ≡ with_ring M.edges c.edge c.vertex (suc (suc j))
+    last_edges = (λ i. table.put (edges_are (suc j) i) ((plus_row (c.edge + suc (suc j))).0 i) (edge_row_plus (c.edge + suc (suc j)) (turn_tail j i) (start_tail i) i))
+        ∙ ap (λ k. table.put (with_path M.edges c.edge c.vertex k) (c.edge + suc (suc j)) (record { plus_tail = c.vertex + suc (suc j); minus_tail = c.vertex + 1 })) (one_less j) where
+          one_less : (j : ℕ) → suc j ≡ suc (suc j) - 1
+          one_less j = omega arith
+
+    -- the lamina over n points
+    abbrev pub closed_at : ℕ → Model
+    closed_at k = record {
+        solids = table.put M.solids s tt;
+        faces = table.put (table.put M.faces (c.face + 1) (record { solid = s; outer = c.loop + 1 })) (c.face + 2) (record { solid = s; outer = c.loop + 2 });
+        loops = table.put (table.put M.loops (c.loop + 1) (record { face = c.face + 1; content = cycle (map plus (numbers_after c.edge k)) })) (c.loop + 2) (record { face = c.face + 2; content = cycle (canonical (reverse (map minus (numbers_after c.edge k)))) });
+        edges = with_ring M.edges c.edge c.vertex k;
+        vertices = with_points M.vertices c.vertex ps k
+      }
+
+    closes : mef (path_at M c s ps (suc j)) (minus (c.edge + suc j)) (plus (c.edge + 1)) (plus (c.edge + suc (suc j))) (c.face + 2) (c.loop + 2) ≡ closed_at (suc (suc j))
+    unfolding mef path_at
+    closes = λ i. record {
+      solids = table.put M.solids s tt;
+      faces = last_faces i;
+      loops = table.put (old_loop i) (c.loop + 2) (record { face = c.face + 2; content = cycle (new_list i) });
+      edges = last_edges i;
+      vertices = with_points M.vertices c.vertex ps (suc (suc j))
+    }
+
+    pub last_made : length ps ≡ suc (suc j) → effect (path_at M c s ps (suc j)) (last_edge c (suc j)) ≡ lamina_at M c s ps
+    unfolding effect code
+    last_made all = closes ∙ ap closed_at (sym all)

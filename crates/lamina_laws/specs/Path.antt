@@ -2,6 +2,7 @@
 use Rattle.std.specs.Prelude.{◌≡◌, ℕ, zero, suc, ◌+◌, ◌-◌, true, false, List, [], ◌∷◌, ◌++◌, length, get_or, None}
 use Rattle.lattice.specs.declared.Point.{Point}
 use Rattle.boundary_model.specs.declared.HalfEdge.{HalfEdge}
+use Rattle.boundary_model.specs.declared.Corner.{Corner}
 use Rattle.boundary_model.specs.declared.Corner.TheVariants.{At, Lone}
 use Rattle.boundary_model.specs.HalfEdge.{plus, minus}
 use Rattle.boundary_model.specs.Table as table
@@ -42,14 +43,28 @@ first_half e = record { edge = e; first = true }
 abbrev pub second_half : ℕ → HalfEdge
 second_half e = record { edge = e; first = false }
 
--- the operator that makes the first point, the one that goes on from j edges to the next point, and the one that closes the
--- ring of n points
+-- the operator that makes the first point
 abbrev pub first_point : Taken → ℕ → List Point → Op
 first_point c s ps = Mvfs s (c.face + 1) (c.loop + 1) (c.vertex + 1) (get_or ps 0 no_point)
 
-abbrev pub next_point : Taken → List Point → ℕ → Op
-next_point c ps zero = Mev (Lone (c.loop + 1)) (Lone (c.loop + 1)) (first_half (c.edge + 1)) (c.vertex + 2) (get_or ps 1 no_point)
-next_point c ps (suc j) = Mev (At (second_half (c.edge + suc j))) (At (second_half (c.edge + suc j))) (first_half (c.edge + suc (suc j))) (c.vertex + suc (suc (suc j))) (get_or ps (suc (suc j)) no_point)
+-- the corner at the end of j edges
+abbrev pub end_corner : Taken → ℕ → Corner
+end_corner c zero = Lone (c.loop + 1)
+end_corner c (suc j) = At (second_half (c.edge + suc j))
 
+-- the operator that goes on from the end of j edges to the next point
+abbrev pub next_point : Taken → List Point → ℕ → Op
+next_point c ps j = Mev (end_corner c j) (end_corner c j) (first_half (c.edge + suc j)) (c.vertex + suc (suc j)) (get_or ps (suc j) no_point)
+
+-- those that make j points after the first
+abbrev pub further_points : Taken → List Point → ℕ → List Op
+further_points c ps zero = []
+further_points c ps (suc j) = further_points c ps j ++ next_point c ps j ∷ []
+
+-- the operator that leads an edge from the end of j edges to their start
 abbrev pub last_edge : Taken → ℕ → Op
-last_edge c n = Mef (second_half (c.edge + (n - 1))) (first_half (c.edge + 1)) (first_half (c.edge + n)) (c.face + 2) (c.loop + 2)
+last_edge c j = Mef (second_half (c.edge + j)) (first_half (c.edge + 1)) (first_half (c.edge + suc j)) (c.face + 2) (c.loop + 2)
+
+-- the operators of a lamina
+unfoldable pub lamina_operators : Model → ℕ → List Point → List Op
+lamina_operators M s ps = let c = taken_in M in let j = length ps - 1 in first_point c s ps ∷ further_points c ps j ++ last_edge c j ∷ []

@@ -1,2 +1,12 @@
-//! The laws of the lamina.
+//! The laws of the lamina. Each function does nothing: its contract is what is proved, over every sound model and every
+//! number and points for which the lamina's conditions hold in it.
 #![tactic(auto)]
+
+ghost use Rattle.lamina_laws.specs.Laws.{OperatorsAreAccepted, OperatorsMakeLamina, LaminaIsSound};
+
+/// No operator of a lamina is refused, together they make it, and the model with it is sound.
+pub fn operators_make_lamina()
+    ensures accepted { OperatorsAreAccepted }
+    ensures made { OperatorsMakeLamina }
+    ensures sound { LaminaIsSound }
+{}

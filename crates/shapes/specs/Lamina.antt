@@ -22,7 +22,7 @@ first_far i (p ∷ ps) = cond (is_in_range p) (first_far (i + 1) ps) (i + 1)
 -- the place, from 1, of the first point equal to an earlier one, or 0
 abbrev pub first_repeated : List Point → ℕ → List Point → ℕ
 first_repeated seen i [] = 0
-first_repeated seen i (p ∷ ps) = cond (list_any (same_point p) seen) (i + 1) (first_repeated (p ∷ seen) (i + 1) ps)
+first_repeated seen i (p ∷ ps) = cond (list_any (same_point p) seen) (i + 1) (first_repeated (seen ++ p ∷ []) (i + 1) ps)
 
 unfoldable pub lamina_conditions : Model → ℕ → List Point → List Condition
 lamina_conditions M s ps =

@@ -1,0 +1,20 @@
+-- The laws of the lamina, over every sound model in which its conditions hold.
+use Rattle.std.specs.Prelude.{◌≡◌, ℕ, List, None}
+use Rattle.lattice.specs.declared.Point.{Point}
+use Rattle.boundary_model.specs.Model.{Model}
+use Rattle.boundary_model.specs.Sound.{Sound}
+use Rattle.euler_laws.specs.Laws.{AreAccepted, effects}
+use Rattle.shapes.specs.Lamina.{lamina_refusal, lamina_model}
+use Rattle.lamina_laws.specs.Path.{lamina_operators}
+
+-- none of the lamina's operators is refused
+abbrev pub OperatorsAreAccepted : Type 0
+OperatorsAreAccepted = (M : Model) (s : ℕ) (ps : List Point) → Sound M → lamina_refusal M s ps ≡ None → AreAccepted M (lamina_operators M s ps)
+
+-- together they make the lamina
+abbrev pub OperatorsMakeLamina : Type 0
+OperatorsMakeLamina = (M : Model) (s : ℕ) (ps : List Point) → Sound M → lamina_refusal M s ps ≡ None → effects M (lamina_operators M s ps) ≡ lamina_model M s ps
+
+-- the model with the lamina is sound
+abbrev pub LaminaIsSound : Type 0
+LaminaIsSound = (M : Model) (s : ℕ) (ps : List Point) → Sound M → lamina_refusal M s ps ≡ None → Sound (lamina_model M s ps)

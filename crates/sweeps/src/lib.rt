@@ -1,0 +1,5 @@
+//! Commands that make shapes: a lamina, a block, a sweep of a face. Each is one command of the journal.
+#![tactic(auto)]
+
+mod fresh;
+mod lamina;
