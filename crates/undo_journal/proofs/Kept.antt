@@ -1,42 +1,142 @@
--- The arenas of a session after a command.
-use Rattle.std.specs.Prelude.{◌≡◌, ℕ, zero, suc, ◌+◌, ◌<◌, ◌≤◌, List, [], ◌∷◌, ◌++◌, map, take, get_or, length, refl}
-use Rattle.std.proofs.Common.{sym, ap, ◌∙◌, arith, length-append, length-take}
-use Rattle.std.specs.List.{All}
-use Rattle.std.proofs.lemmas.List.{take-map, map-append}
-use Rattle.std.proofs.lemmas.List.Elements.{All-take, All-append, All-get_or}
+-- What a session and a draft keep, from call to call.
+use Rattle.std.specs.Prelude.{◌≡◌, ℕ, ◌+◌, ◌-◌, ◌<◌, List, [], ◌∷◌, ◌++◌, take, get_or, length, reverse, None, refl}
+use Rattle.std.proofs.Common.{sym, ap, subst, ◌∙◌}
+use Rattle.std.proofs.lemmas.List.{reverse-append}
 use Rattle.boundary_model.specs.Model.{Model, empty_model}
-use Rattle.halfedge_arena.specs.Store.{Store, empty_store}
+use Rattle.boundary_model.specs.Sound.{Sound}
+use Rattle.halfedge_arena.specs.Store.{Store, empty_store, HasGrown}
+use Rattle.euler_operators.specs.declared.Op.{Op}
+use Rattle.euler_operators.specs.Conditions.{first_false}
+use Rattle.euler_operators.specs.Effect.{effect, inverse}
 use Rattle.euler_laws_shared.proofs.Empty.{empty_sound}
+use Rattle.euler_laws.specs.Laws.{effects, AreAccepted}
+use Rattle.euler_laws.proofs.Cases.{inverse_goes, inverse_undoes}
+use Rattle.euler_laws.proofs.Runs.{effects-append, AreAccepted-append}
 use Rattle.euler_conditions.specs.Ready.{IsReady}
-use Rattle.undo_journal.specs.Machine.{Machine, accepted}
-use Rattle.undo_journal.specs.Held.{model_of, machine_of, IsKept}
+use Rattle.undo_journal.specs.declared.record.Record.{Record}
+use Rattle.undo_journal.specs.Machine.{start}
+use Rattle.undo_journal.specs.Held.{machine_of, Leads, IsJournal, AllHaveRoom, RecordsHaveRoom, IsKept, opened, command_of, IsDrafted, all_after, IsStepped}
+use Rattle.undo_journal.proofs.Journals.{journal_start, journal_more, models_are, journal_on, journal_back}
+use Rattle.undo_journal.proofs.Rooms.{ops_kept, records_kept, ops-append, ops-reverse, records-append, records-take, keeps_all_after}
 
-pub empty_ready : IsReady empty_store
-empty_ready = record { sound = empty_sound; bare = refl }
+-- a session of no command
+pub kept_start : IsKept empty_store [] 0
+kept_start = record { ready = record { sound = empty_sound; bare = refl }; journal = journal_start; room = tt }
 
-all_of_one : (s : Store) → IsReady s → All IsReady (s ∷ [])
-all_of_one s ready zero d h = ready
-all_of_one s ready (suc k) d h = absurd (omega arith)
+pub machine_start : machine_of empty_model [] 0 ≡ start
+machine_start = ap (λ (Ms : List Model). record { models = Ms; place = 0 }) (models_are empty_model [] 0 journal_start)
 
--- a session of the empty arena alone
-pub kept_start : IsKept (empty_store ∷ []) 0
-kept_start = record { placed = omega arith; ready = all_of_one empty_store empty_ready }
+-- room that grows
+pub ready_grown : (s t : Store) → HasGrown s t → IsReady s → IsReady t
+ready_grown s t grown ready = record { sound = subst Sound (sym grown.model) ready.sound; bare = grown.loose ∙ ready.bare }
 
--- the arenas up to the place, and one more
-pub kept_more : (arenas : List Store) (place : ℕ) (next : Store) → IsKept arenas place → IsReady next → IsKept (take (place + 1) arenas ++ next ∷ []) (place + 1)
-kept_more arenas place next kept ready = record {
-  placed = let long : length (take (place + 1) arenas) ≡ place + 1 = length_front in
-      omega (arith, length-append (take (place + 1) arenas) (next ∷ []), long);
-  ready = All-append IsReady (take (place + 1) arenas) (next ∷ []) (All-take IsReady (place + 1) arenas kept.ready) (all_of_one next ready);
-} where
-  length_front : length (take (place + 1) arenas) ≡ place + 1
-  length_front = let h = kept.placed in omega (arith, length-take (place + 1) arenas)
+pub kept_grown : (s t : Store) (records : List Record) (place : ℕ) → HasGrown s t → IsKept s records place → IsKept t records place
+kept_grown s t records place grown kept = record {
+  ready = ready_grown s t grown kept.ready;
+  journal = subst (λ (M : Model). IsJournal M records place) (sym grown.model) kept.journal;
+  room = records_kept s t records grown.kept kept.room;
+}
 
--- and their models are those of the machine that has accepted a command
-pub machine_more : (arenas : List Store) (place : ℕ) (next : Store) → machine_of (take (place + 1) arenas ++ next ∷ []) (place + 1) ≡ accepted (machine_of arenas place) next.model
-machine_more arenas place next = ap (λ (ms : List Model). record { models = ms; place = place + 1 })
-    (map-append model_of (take (place + 1) arenas) (next ∷ []) ∙ ap (λ (ms : List Model). ms ++ next.model ∷ []) (sym (take-map model_of (place + 1) arenas)))
+pub drafted_grown : (s t : Store) (records : List Record) (place : ℕ) (forward back : List Op) → HasGrown s t → IsDrafted s records place forward back → IsDrafted t records place forward back
+drafted_grown s t records place forward back grown kept = record {
+  ready = ready_grown s t grown kept.ready;
+  journal = subst (λ (M : Model). IsJournal (opened M back) records place) (sym grown.model) kept.journal;
+  leads = subst (λ (M : Model). Leads (opened M back) (command_of forward back) M) (sym grown.model) kept.leads;
+  room = records_kept s t records grown.kept kept.room;
+  forward_room = ops_kept s t forward grown.kept kept.forward_room;
+  back_room = ops_kept s t back grown.kept kept.back_room;
+}
 
--- the arena at the place
-pub ready_at : (arenas : List Store) (place : ℕ) (d : Store) → IsKept arenas place → IsReady (get_or arenas place d)
-ready_at arenas place d kept = All-get_or IsReady arenas place d kept.placed kept.ready
+-- a record more, in the place of those ahead
+pub kept_more : (A : Model) (t : Store) (records : List Record) (place : ℕ) (r : Record) → IsJournal A records place → RecordsHaveRoom t records → IsReady t → Leads A r t.model → AllHaveRoom t r.forward → AllHaveRoom t r.back → IsKept t (take place records ++ r ∷ []) (place + 1)
+kept_more A t records place r journal room ready leads forward back = record {
+  ready = ready;
+  journal = journal_more A records place journal r t.model leads;
+  room = records-append t (take place records) (r ∷ []) (records-take t place records room) (forward, back, tt);
+}
+
+-- an operator and its inverse
+pub one_leads : (M N : Model) (o : Op) → Sound M → first_false M o ≡ None → N ≡ effect M o → Leads M (record { forward = o ∷ []; back = inverse M o ∷ [] }) N
+one_leads M N o sound goes is = subst (λ (X : Model). Leads M (record { forward = o ∷ []; back = inverse M o ∷ [] }) X) (sym is) (record {
+  forward_goes = (goes, tt);
+  forward = refl;
+  back_goes = (inverse_goes M o sound goes, tt);
+  back = inverse_undoes M o sound goes;
+})
+
+pub kept_act : (s t : Store) (records : List Record) (place : ℕ) (o : Op) → IsKept s records place → first_false s.model o ≡ None → IsStepped s o t → IsKept t (take place records ++ record { forward = o ∷ []; back = inverse s.model o ∷ [] } ∷ []) (place + 1)
+kept_act s t records place o kept goes stepped =
+    kept_more s.model t records place (record { forward = o ∷ []; back = inverse s.model o ∷ [] }) kept.journal (records_kept s t records stepped.kept kept.room) stepped.ready
+    (one_leads s.model t.model o kept.ready.sound goes stepped.model) (stepped.room, tt) (stepped.inverse_room, tt)
+
+-- a draft with one step more
+module _ (M N : Model) (forward back : List Op) (o : Op) (sound : Sound M) (goes : first_false M o ≡ None) (is : N ≡ effect M o) where
+  turned : reverse (back ++ inverse M o ∷ []) ≡ inverse M o ∷ reverse back
+  turned = reverse-append back (inverse M o ∷ [])
+
+  returns : effect N (inverse M o) ≡ M
+  returns = ap (λ (X : Model). effect X (inverse M o)) is ∙ inverse_undoes M o sound goes
+
+  pub opened_same : opened N (back ++ inverse M o ∷ []) ≡ opened M back
+  opened_same = ap (effects N) turned ∙ ap (λ (X : Model). effects X (reverse back)) returns
+
+  longer_leads : Leads (opened M back) (command_of forward back) M → Leads (opened M back) (record { forward = forward ++ o ∷ []; back = inverse M o ∷ reverse back }) N
+  longer_leads leads = record {
+    forward_goes = AreAccepted-append (opened M back) forward (o ∷ []) leads.forward_goes (ap (λ (X : Model). first_false X o) leads.forward ∙ goes, tt);
+    forward = effects-append (opened M back) forward (o ∷ []) ∙ ap (λ (X : Model). effect X o) leads.forward ∙ sym is;
+    back_goes = (ap (λ (X : Model). first_false X (inverse M o)) is ∙ inverse_goes M o sound goes, subst (λ (X : Model). AreAccepted X (reverse back)) (sym returns) leads.back_goes);
+    back = ap (λ (X : Model). effects X (reverse back)) returns;
+  }
+
+  pub draft_leads : Leads (opened M back) (command_of forward back) M → Leads (opened N (back ++ inverse M o ∷ [])) (command_of (forward ++ o ∷ []) (back ++ inverse M o ∷ [])) N
+  draft_leads leads =
+      subst (λ (X : Model). Leads X (command_of (forward ++ o ∷ []) (back ++ inverse M o ∷ [])) N) (sym opened_same)
+      (subst (λ (xs : List Op). Leads (opened M back) (record { forward = forward ++ o ∷ []; back = xs }) N) (sym turned) (longer_leads leads))
+
+pub drafted_step : (s t : Store) (records : List Record) (place : ℕ) (forward back : List Op) (o : Op) → IsDrafted s records place forward back → first_false s.model o ≡ None → IsStepped s o t → IsDrafted t records place (forward ++ o ∷ []) (back ++ inverse s.model o ∷ [])
+drafted_step s t records place forward back o kept goes stepped = record {
+  ready = stepped.ready;
+  journal = subst (λ (M : Model). IsJournal M records place) (sym (opened_same s.model t.model forward back o kept.ready.sound goes stepped.model)) kept.journal;
+  leads = draft_leads s.model t.model forward back o kept.ready.sound goes stepped.model kept.leads;
+  room = records_kept s t records stepped.kept kept.room;
+  forward_room = ops-append t forward (o ∷ []) (ops_kept s t forward stepped.kept kept.forward_room) (stepped.room, tt);
+  back_room = ops-append t back (inverse s.model o ∷ []) (ops_kept s t back stepped.kept kept.back_room) (stepped.inverse_room, tt);
+}
+
+-- a draft as it is opened
+pub drafted_open : (s : Store) (records : List Record) (place : ℕ) → IsKept s records place → IsDrafted s records place [] []
+drafted_open s records place kept = record {
+  ready = kept.ready;
+  journal = kept.journal;
+  leads = record { forward_goes = tt; forward = refl; back_goes = tt; back = refl };
+  room = kept.room;
+  forward_room = tt;
+  back_room = tt;
+}
+
+pub kept_commit : (s : Store) (records : List Record) (place : ℕ) (forward back : List Op) → IsDrafted s records place forward back → IsKept s (take place records ++ command_of forward back ∷ []) (place + 1)
+kept_commit s records place forward back kept =
+    kept_more (opened s.model back) s records place (command_of forward back) kept.journal kept.room kept.ready kept.leads kept.forward_room (ops-reverse s back kept.back_room)
+
+-- a draft that is abandoned
+pub kept_abandon : (s : Store) (records : List Record) (place : ℕ) (forward back : List Op) → IsDrafted s records place forward back → IsReady (all_after s (reverse back)) → IsKept (all_after s (reverse back)) records place
+kept_abandon s records place forward back kept ready = record {
+  ready = ready;
+  journal = kept.journal;
+  room = records_kept s (all_after s (reverse back)) records (keeps_all_after s (reverse back)) kept.room;
+}
+
+-- a command undone, and done again
+pub kept_undo : (s : Store) (records : List Record) (place : ℕ) (r : Record) → 0 < place → r ≡ get_or records (place - 1) r → IsKept s records place → IsReady (all_after s r.back) → IsKept (all_after s r.back) records (place - 1)
+kept_undo s records place r before is kept ready = record {
+  ready = ready;
+  journal = journal_back s.model records place before kept.journal r is;
+  room = records_kept s (all_after s r.back) records (keeps_all_after s r.back) kept.room;
+}
+
+pub kept_redo : (s : Store) (records : List Record) (place : ℕ) (r : Record) → place < length records → r ≡ get_or records place r → IsKept s records place → IsReady (all_after s r.forward) → IsKept (all_after s r.forward) records (place + 1)
+kept_redo s records place r within is kept ready = record {
+  ready = ready;
+  journal = journal_on s.model records place kept.journal r within is;
+  room = records_kept s (all_after s r.forward) records (keeps_all_after s r.forward) kept.room;
+}

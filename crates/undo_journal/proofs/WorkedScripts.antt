@@ -1,10 +1,10 @@
 -- Worked examples of undo and redo, computed.
-use Rattle.std.specs.Prelude.{◌≡◌, ℕ, [], Option, Some, None, refl}
-use Rattle.boundary_model.specs.declared.Corner.TheVariants.{At, Lone}
+use Rattle.std.specs.Prelude.{◌≡◌, None, refl}
+use Rattle.boundary_model.specs.declared.Corner.TheVariants.{Lone}
 use Rattle.euler_operators.specs.declared.Op.TheVariants.{Mvfs, Mev, Kvfs}
 use Rattle.euler_operators.specs.declared.Why.TheVariants.{NothingToUndo, NothingToRedo, NoSolid}
 use Rattle.euler_operators.proofs.WorkedScripts.{computed, plus, row2, at, refused}
-use Rattle.undo_journal.specs.Machine.{Machine, start, held, act, act_refusal, undo, redo, undo_refusal, redo_refusal, ahead}
+use Rattle.undo_journal.specs.Machine.{Machine, start, held, act, act_refusal, undo, redo, undo_refusal, redo_refusal}
 
 -- two commands
 abbrev two : Machine

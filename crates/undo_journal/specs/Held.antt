@@ -1,19 +1,108 @@
--- What a session of whole arenas holds.
-use Rattle.std.specs.Prelude.{ℕ, ◌<◌, List, map, length}
-use Rattle.std.specs.List.{All}
-use Rattle.boundary_model.specs.Model.{Model}
-use Rattle.halfedge_arena.specs.Store.{Store}
-use Rattle.euler_conditions.specs.Ready.{IsReady}
-use Rattle.undo_journal.specs.Machine.{Machine}
+-- What a session and a draft hold: one arena, the records of the commands, and a place among them.
+use Rattle.std.specs.Prelude.{◌≡◌, ℕ, ◌≤◌, true, List, [], ◌∷◌, ◌++◌, length, take, drop, reverse}
+use Rattle.boundary_model.specs.declared.Kind.{Kind}
+use Rattle.boundary_model.specs.Model.{Model, empty_model}
+use Rattle.halfedge_arena.specs.Store.{Store, has_room}
+use Rattle.euler_operators.specs.declared.Op.{Op}
+use Rattle.euler_operators.specs.Effect.{effect, inverse}
+use Rattle.euler_laws.specs.Laws.{effects, AreAccepted}
+use Rattle.euler_conditions.specs.Ready.{IsReady, HasRoomFor}
+use Rattle.undo_journal.specs.declared.record.Record.{Record}
+use Rattle.undo_journal.specs.Machine.{Machine, DraftState}
 
-abbrev pub model_of : Store → Model
-model_of s = s.model
+-- the model from which some records lead to M: their commands are taken back, the last first
+abbrev pub gone_back : Model → List Record → Model
+gone_back M [] = M
+gone_back M (r ∷ rs) = effects (gone_back M rs) r.back
 
--- the machine that a list of arenas and a place stand for
-abbrev pub machine_of : List Store → ℕ → Machine
-machine_of arenas place = record { models = map model_of arenas; place = place }
+-- the models behind M, one before each record
+abbrev pub behind : Model → List Record → List Model
+behind M [] = []
+behind M (r ∷ rs) = gone_back M (r ∷ rs) ∷ behind M rs
 
--- the place is that of an arena, and every arena is sound
-pub record IsKept (arenas : List Store) (place : ℕ) : Type 0 where
-  pub placed : place < length arenas
-  pub ready : All IsReady arenas
+-- the models ahead of M, one after each record
+abbrev pub ahead : Model → List Record → List Model
+ahead M [] = []
+ahead M (r ∷ rs) = effects M r.forward ∷ ahead (effects M r.forward) rs
+
+-- the models that the model held, the records and the place among them stand for
+unfoldable pub models_of : Model → List Record → ℕ → List Model
+models_of M records place = behind M (take place records) ++ M ∷ ahead M (drop place records)
+
+abbrev pub machine_of : Model → List Record → ℕ → Machine
+machine_of M records place = record { models = models_of M records place; place = place }
+
+-- the record takes one model to another, and back, each operator accepted in its turn
+pub record Leads (M : Model) (r : Record) (N : Model) : Type 0 where
+  pub forward_goes : AreAccepted M r.forward
+  pub forward : effects M r.forward ≡ N
+  pub back_goes : AreAccepted N r.back
+  pub back : effects N r.back ≡ M
+
+-- each record leads from the model before it to the one after it, A before the first
+abbrev pub AllLead : Model → List Record → Type 0
+AllLead A [] = Unit {0}
+AllLead A (r ∷ rs) = Leads A r (effects A r.forward) × AllLead (effects A r.forward) rs
+
+-- the model to which some records lead from A
+abbrev pub gone_forth : Model → List Record → Model
+gone_forth A [] = A
+gone_forth A (r ∷ rs) = gone_forth (effects A r.forward) rs
+
+-- the records lead on from the empty model, and those before the place to M
+pub record IsJournal (M : Model) (records : List Record) (place : ℕ) : Type 0 where
+  pub placed : place ≤ length records
+  pub lead : AllLead empty_model records
+  pub held : M ≡ gone_forth empty_model (take place records)
+
+-- every number that one of some operators makes has its room
+abbrev pub AllHaveRoom : Store → List Op → Type 0
+AllHaveRoom s [] = Unit {0}
+AllHaveRoom s (o ∷ os) = HasRoomFor s o × AllHaveRoom s os
+
+-- and every number that an operator of a record makes
+abbrev pub RecordsHaveRoom : Store → List Record → Type 0
+RecordsHaveRoom s [] = Unit {0}
+RecordsHaveRoom s (r ∷ rs) = AllHaveRoom s r.forward × AllHaveRoom s r.back × RecordsHaveRoom s rs
+
+-- what holds of a session
+pub record IsKept (s : Store) (records : List Record) (place : ℕ) : Type 0 where
+  pub ready : IsReady s
+  pub journal : IsJournal s.model records place
+  pub room : RecordsHaveRoom s records
+
+-- the model from which a draft started, where `back` holds the inverses of its steps in their order
+abbrev pub opened : Model → List Op → Model
+opened M back = effects M (reverse back)
+
+abbrev pub draft_of : Model → List Record → ℕ → List Op → DraftState
+draft_of M records place back = record { session = machine_of (opened M back) records place; model = M }
+
+-- the command that the steps of a draft make
+abbrev pub command_of : List Op → List Op → Record
+command_of forward back = record { forward = forward; back = reverse back }
+
+-- what holds of a draft
+pub record IsDrafted (s : Store) (records : List Record) (place : ℕ) (forward back : List Op) : Type 0 where
+  pub ready : IsReady s
+  pub journal : IsJournal (opened s.model back) records place
+  pub leads : Leads (opened s.model back) (command_of forward back) s.model
+  pub room : RecordsHaveRoom s records
+  pub forward_room : AllHaveRoom s forward
+  pub back_room : AllHaveRoom s back
+
+-- the arena after operators: its model is their effect, and nothing else has changed
+abbrev pub all_after : Store → List Op → Store
+all_after s ops = record s { model = effects s.model ops }
+
+-- each number that had its room has it still
+abbrev pub KeepsRoom : Store → Store → Type 0
+KeepsRoom old new = (kind : Kind) (n : ℕ) → has_room old kind n ≡ true → has_room new kind n ≡ true
+
+-- the arena after an operator whose room was made: what the operator and its inverse make has room
+pub record IsStepped (old : Store) (o : Op) (new : Store) : Type 0 where
+  pub model : new.model ≡ effect old.model o
+  pub ready : IsReady new
+  pub kept : KeepsRoom old new
+  pub room : HasRoomFor new o
+  pub inverse_room : HasRoomFor new (inverse old.model o)

@@ -1,5 +1,5 @@
 -- The plain machine: it keeps a whole copy of every model.
-use Rattle.std.specs.Prelude.{◌≡◌, ℕ, ◌+◌, ◌-◌, ◌<◌, ◌≤◌, List, [], ◌∷◌, ◌++◌, length, take, get_or, nat_eq, Option, Some, None, refl}
+use Rattle.std.specs.Prelude.{ℕ, ◌+◌, ◌-◌, List, [], ◌∷◌, ◌++◌, length, take, get_or, nat_eq, Option, refl}
 use Rattle.boundary_model.specs.Model.{Model, empty_model}
 use Rattle.halfedge_arena.specs.Store.{coded_model}
 use Rattle.euler_operators.specs.Conditions.{first_false, first_refusal, never}
@@ -75,3 +75,6 @@ abandon d = d.session
 -- a code, by which a machine can be what contracts see of a session
 abbrev pub coded_machine : Coded Machine
 coded_machine = code_by (List Model × ℕ) (coded× (coded_list coded_model) coded_ℕ) (λ s. (s.models, s.place)) (λ t. record { models = t.0; place = t.1 }) (λ _. refl)
+
+abbrev pub coded_draft : Coded DraftState
+coded_draft = code_by (Machine × Model) (coded× coded_machine coded_model) (λ d. (d.session, d.model)) (λ t. record { session = t.0; model = t.1 }) (λ _. refl)

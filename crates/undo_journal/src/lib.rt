@@ -1,6 +1,16 @@
-//! The undo journal: a session of commands, each of which can be undone and redone without limit.
+//! The undo journal: a session of commands, each of which can be undone and redone without limit, and drafts of commands.
+//!
+//! A session holds one arena. Each command leaves a record: its operators, and those that take it back. `undo` and `redo`
+//! replay them, and take no memory.
 #![tactic(auto)]
 
+mod draft;
+mod record;
 mod session;
+mod steps;
+#[cfg(test)]
+mod tests;
 
+pub use draft::Draft;
+pub use record::{OpList, Record};
 pub use session::{Failure, Session};

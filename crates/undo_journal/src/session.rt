@@ -1,15 +1,17 @@
-//! A session over whole arenas: one for each model from the empty one on.
-ghost use Rattle.std.specs.Prelude.{◌≡◌, ◌↔◌, ◌<◌, OnOk, OnErr, IfOk, None, Some, Err};
+//! A session: one arena, the records of the commands, and the place among them.
+ghost use Rattle.std.specs.Prelude.{◌≡◌, ◌↔◌, ◌+◌, ◌<◌, OnOk, OnErr, IfOk, None, Some, Err};
 ghost use Rattle.euler_conditions.specs.Ready.{IsReady};
-ghost use Rattle.undo_journal.specs.Machine.{start, held, depth, ahead, accepted, act_refusal, undo_refusal, redo_refusal};
+ghost use Rattle.undo_journal.specs.Machine.{start, held, depth, ahead, act_refusal, undo_refusal, redo_refusal};
+ghost use Rattle.undo_journal.specs.Recorded.{model_at};
+ghost use Rattle.euler_laws.specs.Laws.{effects, AreAccepted};
 ghost use Rattle.euler_operators.specs.Conditions.{verdict};
-ghost use Rattle.euler_operators.specs.Effect.{effect};
 ghost use Rattle.euler_operators.specs.declared.Refusal.{Refusal};
 ghost use Rattle.undo_journal.specs.Machine as machine;
 
+use crate::record::{OpList, Record};
+use crate::steps::{replay_all, step};
 use euler_conditions::{Op, Refusal, Why, check};
 use halfedge_arena::Arena;
-use low_euler::{replay, room_op};
 use std::alloc::{AllocError, Global};
 use std::marker::Model;
 
@@ -20,25 +22,27 @@ pub enum Failure {
     Memory(AllocError),
 }
 
-/// A list of models, from the empty one on, and the place of the one that is held.
+/// The model held, and those behind and ahead of it, to which the records of the commands lead.
 #[derive(Drop)]
 pub struct Session {
-    alloc: Global,
-    arenas: Vec<Arena>,
-    place: usize,
+    pub(crate) alloc: Global,
+    pub(crate) arena: Arena,
+    pub(crate) records: Vec<Record>,
+    pub(crate) place: usize,
 }
 
 impl Model for Session {
     ghost use Rattle.undo_journal.specs.Machine.{Machine, coded_machine};
-    ghost use Rattle.undo_journal.specs.Held.{machine_of, IsKept};
 
     ghost Value = { Machine };
 
     ghost coded = { coded_machine };
 
-    ghost view = { λ s. machine_of s.arenas.items s.place };
+    ghost use Rattle.undo_journal.specs.Held.{machine_of, IsKept};
 
-    ghost invariant = { λ s. IsKept s.arenas.items s.place };
+    ghost view = { λ s. machine_of s.arena.model s.records.items s.place };
+
+    ghost invariant = { λ s. IsKept s.arena s.records.items s.place };
 }
 
 impl Session {
@@ -46,11 +50,10 @@ impl Session {
     pub fn new(alloc: Global) -> Result<Session, AllocError>
         ensures { IfOk result (λ session. session ≡ start) }
     {
-        let mut arenas = Vec::new(alloc);
-        arenas.push(Arena::new(alloc))?;
         Ok(Session {
             alloc,
-            arenas,
+            arena: Arena::new(alloc),
+            records: Vec::with_capacity(alloc, 1)?,
             place: 0,
         })
     }
@@ -60,7 +63,7 @@ impl Session {
         ensures model { result.now.model ≡ held self.now }
         ensures ready { IsReady result.now }
     {
-        &self.arenas[self.place]
+        &self.arena
     }
 
     /// How many commands can be undone.
@@ -74,31 +77,38 @@ impl Session {
     pub fn ahead(&self) -> usize
         ensures { result ≡ ahead self.now }
     {
-        self.arenas.len() - 1 - self.place
+        self.records.len() - self.place
     }
 
-    /// Puts an arena behind the one that is held, in the place of those ahead, and holds it. On `AllocError` nothing has changed.
-    fn append(&mut self, next: Arena) -> Result<(), AllocError>
-        requires { IsReady next }
-        ensures ok { OnOk result (self.new ≡ accepted self.old next.model) }
+    /// The record of command i, counted from 0. Each of its operators is accepted in its turn.
+    pub fn record(&self, i: usize) -> &Record
+        requires { i < depth self.now + ahead self.now }
+        ensures forward_goes { AreAccepted (model_at self.now i) result.now.forward }
+        ensures forward { effects (model_at self.now i) result.now.forward ≡ model_at self.now (i + 1) }
+        ensures back_goes { AreAccepted (model_at self.now (i + 1)) result.now.back }
+        ensures back { effects (model_at self.now (i + 1)) result.now.back ≡ model_at self.now i }
+    {
+        &self.records[i]
+    }
+
+    /// Applies an operator and records it in the place of those ahead. On `AllocError` nothing has changed.
+    fn accept(&mut self, op: Op) -> Result<(), AllocError>
+        requires { act_refusal self.old op ≡ None }
+        ensures ok { OnOk result (self.new ≡ machine.act self.old op) }
         ensures err { OnErr result (self.new ≡ self.old) }
     {
-        self.arenas.reserve(1)?;
-        self.arenas.truncate(self.place + 1);
-        self.arenas.push(next)?;
+        let mut forward = Vec::new(self.alloc);
+        let mut back = Vec::new(self.alloc);
+        self.records.reserve(1)?;
+        step(self.alloc, &mut self.arena, &mut forward, &mut back, op)?;
+        self.records.truncate(self.place);
+        let record = Record {
+            forward: OpList::new(forward),
+            back: OpList::new(back),
+        };
+        self.records.push(record).unwrap();
         self.place += 1;
         Ok(())
-    }
-
-    /// The arena after an operator, in a copy.
-    fn changed(&self, op: &Op) -> Result<Arena, AllocError>
-        requires { act_refusal self.now op.now ≡ None }
-        ensures { IfOk result (λ next. IsReady next × (next.model ≡ effect (held self.now) op.now)) }
-    {
-        let mut next = self.arena().copy(self.alloc)?;
-        room_op(self.alloc, &mut next, op)?;
-        replay(&mut next, op);
-        Ok(next)
     }
 
     /// One operator as a command. Where one of its conditions is false the first such is named, with its value; where
@@ -111,17 +121,13 @@ impl Session {
         if let Err(refusal) = check(self.arena(), &op) {
             return Err(Failure::Refused(refusal));
         }
-        let next = match self.changed(&op) {
-            Ok(next) => next,
-            Err(error) => return Err(Failure::Memory(error)),
-        };
-        match self.append(next) {
+        match self.accept(op) {
             Ok(()) => Ok(()),
             Err(error) => Err(Failure::Memory(error)),
         }
     }
 
-    /// Takes the last command back. Refused with `NothingToUndo` where there is none.
+    /// Takes the last command back. Refused with `NothingToUndo` where there is none. It takes no memory.
     pub fn undo(&mut self) -> Result<(), Refusal>
         ensures ok { OnOk result (self.new ≡ machine.undo self.old) }
         ensures refused { result ≡ verdict (undo_refusal self.old) }
@@ -134,21 +140,25 @@ impl Session {
             });
         }
         self.place -= 1;
+        let record = &self.records[self.place];
+        replay_all(&mut self.arena, record.back.as_slice());
         Ok(())
     }
 
-    /// Does the next command again. Refused with `NothingToRedo` where there is none.
+    /// Does the next command again. Refused with `NothingToRedo` where there is none. It takes no memory.
     pub fn redo(&mut self) -> Result<(), Refusal>
         ensures ok { OnOk result (self.new ≡ machine.redo self.old) }
         ensures refused { result ≡ verdict (redo_refusal self.old) }
         ensures err { OnErr result (self.new ≡ self.old) }
     {
-        if self.place + 1 == self.arenas.len() {
+        if self.ahead() == 0 {
             return Err(Refusal {
                 why: Why::NothingToRedo,
                 number: 0,
             });
         }
+        let record = &self.records[self.place];
+        replay_all(&mut self.arena, record.forward.as_slice());
         self.place += 1;
         Ok(())
     }

@@ -1,11 +1,18 @@
-use Rattle.std.specs.Prelude.{◌≡◌, List, [], ◌∷◌, ◌++◌}
+use Rattle.std.specs.Prelude.{List}
 use Rattle.std.proofs.Common.{sym, subst, ap, ◌∙◌}
-use Rattle.halfedge_arena.specs.Store.{Store}
-use Rattle.undo_journal.specs.Held.{IsKept}
-use Rattle.undo_journal.proofs.Kept.{kept_start}
+use Rattle.halfedge_arena.specs.Store.{Store, empty_store}
+use Rattle.undo_journal.specs.declared.record.Record.{Record}
+use Rattle.undo_journal.specs.Held.{machine_of, IsKept}
+use Rattle.undo_journal.proofs.Kept.{kept_start, machine_start}
 use Rattle.undo_journal.proofs.session.Session.new.Goals as goal
 
 pub invariant_of-result : goal.invariant_of-result
 invariant_of-result c =
-    let first = c.in_ok-push.ensures.items ∙ ap (λ (ss : List Store). ss ++ c.new.result ∷ []) c.new-arenas.ensures.items ∙ ap (λ (s : Store). s ∷ []) c.new.ensures in
-    subst (λ (ss : List Store). IsKept ss 0) (sym first) kept_start
+    subst (λ (s : Store). IsKept s c.in_ok-with_capacity.field-0.items 0) (sym c.new.ensures)
+    (subst (λ (rs : List Record). IsKept empty_store rs 0) (sym c.in_ok-with_capacity.ensures.items) kept_start)
+
+pub returns : goal.returns
+returns c =
+    ap (λ (s : Store). machine_of s.model c.in_ok-with_capacity.field-0.items 0) c.new.ensures
+    ∙ ap (λ (rs : List Record). machine_of empty_store.model rs 0) c.in_ok-with_capacity.ensures.items
+    ∙ machine_start

@@ -1,0 +1,70 @@
+-- Room that is there stays.
+use Rattle.std.specs.Prelude.{◌≡◌, ℕ, zero, suc, ◌<◌, List, [], ◌∷◌, ◌++◌, take, get_or, length, reverse}
+use Rattle.std.proofs.Common.{sym, subst, arith}
+use Rattle.std.proofs.lemmas.List.{reverse-append}
+use Rattle.boundary_model.specs.declared.Kind.{Kind}
+use Rattle.boundary_model.specs.declared.Kind.TheVariants.{Solid, Face, Loop, Edge, Vertex}
+use Rattle.halfedge_arena.specs.Store.{Store}
+use Rattle.euler_operators.specs.declared.Op.{Op}
+use Rattle.euler_conditions.specs.Ready.{AllRoom, HasRoomFor, made, after}
+use Rattle.undo_journal.specs.declared.record.Record.{Record}
+use Rattle.undo_journal.specs.Held.{AllHaveRoom, RecordsHaveRoom, all_after, KeepsRoom}
+
+numbers_kept : (s t : Store) (ks : List (Kind × ℕ)) → KeepsRoom s t → AllRoom s ks → AllRoom t ks
+numbers_kept s t [] k all = tt
+numbers_kept s t (n ∷ ks) k all = (k n.0 n.1 all.0, numbers_kept s t ks k all.1)
+
+pub op_kept : (s t : Store) (o : Op) → KeepsRoom s t → HasRoomFor s o → HasRoomFor t o
+op_kept s t o k room = numbers_kept s t (made o) k room
+
+pub ops_kept : (s t : Store) (ops : List Op) → KeepsRoom s t → AllHaveRoom s ops → AllHaveRoom t ops
+ops_kept s t [] k room = tt
+ops_kept s t (o ∷ ops) k room = (op_kept s t o k room.0, ops_kept s t ops k room.1)
+
+pub records_kept : (s t : Store) (rs : List Record) → KeepsRoom s t → RecordsHaveRoom s rs → RecordsHaveRoom t rs
+records_kept s t [] k room = tt
+records_kept s t (r ∷ rs) k room = (ops_kept s t r.forward k room.0, ops_kept s t r.back k room.1, records_kept s t rs k room.2)
+
+-- other models leave each room
+pub keeps_after : (s : Store) (o : Op) → KeepsRoom s (after s o)
+keeps_after s o Solid n h = h
+keeps_after s o Face n h = h
+keeps_after s o Loop n h = h
+keeps_after s o Edge n h = h
+keeps_after s o Vertex n h = h
+
+pub keeps_all_after : (s : Store) (ops : List Op) → KeepsRoom s (all_after s ops)
+keeps_all_after s ops Solid n h = h
+keeps_all_after s ops Face n h = h
+keeps_all_after s ops Loop n h = h
+keeps_all_after s ops Edge n h = h
+keeps_all_after s ops Vertex n h = h
+
+pub back_kept : (s : Store) (o : Op) → KeepsRoom (after s o) s
+back_kept s o Solid n h = h
+back_kept s o Face n h = h
+back_kept s o Loop n h = h
+back_kept s o Edge n h = h
+back_kept s o Vertex n h = h
+
+pub ops-append : (s : Store) (xs ys : List Op) → AllHaveRoom s xs → AllHaveRoom s ys → AllHaveRoom s (xs ++ ys)
+ops-append s [] ys a b = b
+ops-append s (o ∷ xs) ys a b = (a.0, ops-append s xs ys a.1 b)
+
+pub ops-reverse : (s : Store) (xs : List Op) → AllHaveRoom s xs → AllHaveRoom s (reverse xs)
+ops-reverse s [] a = tt
+ops-reverse s (o ∷ xs) a = subst (AllHaveRoom s) (sym (reverse-append (o ∷ []) xs)) (ops-append s (reverse xs) (o ∷ []) (ops-reverse s xs a.1) (a.0, tt))
+
+pub records-append : (s : Store) (xs ys : List Record) → RecordsHaveRoom s xs → RecordsHaveRoom s ys → RecordsHaveRoom s (xs ++ ys)
+records-append s [] ys a b = b
+records-append s (r ∷ xs) ys a b = (a.0, a.1, records-append s xs ys a.2 b)
+
+pub records-take : (s : Store) (n : ℕ) (rs : List Record) → RecordsHaveRoom s rs → RecordsHaveRoom s (take n rs)
+records-take s zero rs a = tt
+records-take s (suc n) [] a = tt
+records-take s (suc n) (r ∷ rs) a = (a.0, a.1, records-take s n rs a.2)
+
+pub record_room : (s : Store) (rs : List Record) (i : ℕ) (r : Record) → i < length rs → r ≡ get_or rs i r → RecordsHaveRoom s rs → AllHaveRoom s r.forward × AllHaveRoom s r.back
+record_room s [] i r h e a = absurd (omega arith)
+record_room s (q ∷ rs) zero r h e a = (subst (λ (x : Record). AllHaveRoom s x.forward) (sym e) a.0, subst (λ (x : Record). AllHaveRoom s x.back) (sym e) a.1)
+record_room s (q ∷ rs) (suc i) r h e a = record_room s rs i r (omega arith) e a.2

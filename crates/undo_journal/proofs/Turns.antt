@@ -1,0 +1,41 @@
+-- Operators replayed in turn.
+use Rattle.std.specs.Prelude.{◌≡◌, ℕ, zero, suc, ◌+◌, ◌<◌, List, [], ◌∷◌, take, get_or, length, None}
+use Rattle.std.proofs.Common.{sym, ap, subst, ◌∙◌, arith}
+use Rattle.std.proofs.lemmas.List.{take_more}
+use Rattle.boundary_model.specs.Model.{Model}
+use Rattle.halfedge_arena.specs.Store.{Store}
+use Rattle.euler_operators.specs.declared.Op.{Op}
+use Rattle.euler_operators.specs.Conditions.{first_false}
+use Rattle.euler_operators.specs.Effect.{effect}
+use Rattle.euler_laws.specs.Laws.{effects, AreAccepted}
+use Rattle.euler_laws.proofs.Runs.{effects-append}
+use Rattle.euler_conditions.specs.Ready.{IsReady, HasRoomFor, Accepts, after}
+use Rattle.undo_journal.specs.Held.{AllHaveRoom, all_after}
+use Rattle.undo_journal.proofs.Rooms.{op_kept, keeps_all_after}
+
+goes_at : (M : Model) (ops : List Op) (i : ℕ) (o : Op) → i < length ops → o ≡ get_or ops i o → AreAccepted M ops → first_false (effects M (take i ops)) o ≡ None
+goes_at M [] i o h e a = absurd (omega arith)
+goes_at M (p ∷ ops) zero o h e a = ap (first_false M) e ∙ a.0
+goes_at M (p ∷ ops) (suc i) o h e a = goes_at (effect M p) ops i o (omega arith) e a.1
+
+room_at : (s : Store) (ops : List Op) (i : ℕ) (o : Op) → i < length ops → o ≡ get_or ops i o → AllHaveRoom s ops → HasRoomFor s o
+room_at s [] i o h e a = absurd (omega arith)
+room_at s (p ∷ ops) zero o h e a = subst (HasRoomFor s) (sym e) a.0
+room_at s (p ∷ ops) (suc i) o h e a = room_at s ops i o (omega arith) e a.1
+
+-- the operator at a place is accepted in its turn
+pub accepts_at : (s t : Store) (ops : List Op) (i : ℕ) (o : Op) → i < length ops → o ≡ get_or ops i o → AreAccepted s.model ops → AllHaveRoom s ops → t ≡ all_after s (take i ops) → IsReady t → Accepts t o
+accepts_at s t ops i o h e a room is ready = record {
+  ready = ready;
+  holds = ap (λ (x : Store). first_false x.model o) is ∙ goes_at s.model ops i o h e a;
+  room = subst (λ (x : Store). HasRoomFor x o) (sym is) (op_kept s (all_after s (take i ops)) o (keeps_all_after s (take i ops)) (room_at s ops i o h e room));
+}
+
+-- and the arena after it
+pub after_next : (s t : Store) (ops : List Op) (i : ℕ) (o : Op) → i < length ops → o ≡ get_or ops i o → t ≡ all_after s (take i ops) → after t o ≡ all_after s (take (i + 1) ops)
+after_next s t ops i o h e is =
+    ap (λ (x : Store). after x o) is
+    ∙ ap (λ (M : Model). record s { model = M })
+    (ap (effect (effects s.model (take i ops))) e
+    ∙ sym (effects-append s.model (take i ops) (get_or ops i o ∷ []))
+    ∙ ap (effects s.model) (sym (take_more ops i o h)))

@@ -1,0 +1,20 @@
+use Rattle.std.specs.Prelude.{◌≡◌, reverse}
+use Rattle.std.proofs.Common.{sym, subst, ap, ◌∙◌}
+use Rattle.halfedge_arena.specs.Store.{Store}
+use Rattle.euler_conditions.specs.Ready.{IsReady}
+use Rattle.undo_journal.specs.Held.{AllHaveRoom, IsKept, all_after}
+use Rattle.undo_journal.proofs.Rooms.{ops-reverse}
+use Rattle.undo_journal.proofs.Kept.{kept_abandon}
+use Rattle.undo_journal.proofs.draft.Draft.abandon.Goals as goal
+
+pub replay_all-requires-clause-room : goal.replay_all-requires-clause-room
+replay_all-requires-clause-room c =
+    subst (AllHaveRoom c.self.inside.arena) (sym (c.as_slice.ensures.value ∙ c.reverse.ensures.items)) (ops-reverse c.self.inside.arena _ c.self.invariant.1.back_room)
+
+abbrev arena : (c : goal.After-drop-forward) → c.replay_all.new.arena ≡ all_after c.self.inside.arena (reverse c.self.inside.back.items)
+arena c = c.replay_all.ensures.effects ∙ ap (all_after c.self.inside.arena) (c.as_slice.ensures.value ∙ c.reverse.ensures.items)
+
+pub invariant_of-result : goal.invariant_of-result
+invariant_of-result c =
+    subst (λ (s : Store). IsKept s c.self.inside.records.items c.self.inside.place) (sym (arena c))
+    (kept_abandon _ _ _ _ _ c.self.invariant.1 (subst IsReady (arena c) c.replay_all.ensures.ready))

@@ -1,0 +1,24 @@
+use Rattle.std.specs.Prelude.{◌≡◌, ◌+◌, ◌++◌, List, [], ◌∷◌, take}
+use Rattle.std.proofs.Common.{sym, subst, ap, ◌∙◌}
+use Rattle.euler_operators.specs.declared.Op.{Op}
+use Rattle.undo_journal.specs.declared.record.Record.{Record}
+use Rattle.undo_journal.specs.Held.{machine_of, command_of, IsKept}
+use Rattle.undo_journal.proofs.Kept.{kept_commit}
+use Rattle.undo_journal.proofs.Seen.{commit_seen}
+use Rattle.undo_journal.proofs.draft.Draft.commit.Goals as goal
+
+abbrev records : (c : goal.After-unwrap) → c.push.new.self.items ≡ take c.self.inside.place c.self.inside.records.items ++ command_of c.self.inside.forward.items c.self.inside.back.items ∷ []
+records c =
+    (rw c.unwrap.ensures at c.push.ensures.items)
+    ∙ ap (λ (rs : List Record). rs ++ record { forward = c.new.result; back = c.new-2.result } ∷ []) c.truncate.ensures.items
+    ∙ ap (λ (ops : List Op). take c.self.inside.place c.self.inside.records.items ++ record { forward = ops; back = c.new-2.result } ∷ []) c.new.ensures
+    ∙ ap (λ (ops : List Op). take c.self.inside.place c.self.inside.records.items ++ record { forward = c.self.inside.forward.items; back = ops } ∷ []) (c.new-2.ensures ∙ c.reverse.ensures.items)
+
+pub invariant_of-result : goal.invariant_of-result
+invariant_of-result c =
+    subst (λ (rs : List Record). IsKept c.self.inside.arena rs (c.self.inside.place + 1)) (sym (records c)) (kept_commit _ _ _ _ _ c.self.invariant.1)
+
+pub returns : goal.returns
+returns c =
+    ap (λ (rs : List Record). machine_of c.self.inside.arena.model rs (c.self.inside.place + 1)) (records c)
+    ∙ commit_seen _ _ _ _ _ _ c.self.invariant.1 c.self.view_is

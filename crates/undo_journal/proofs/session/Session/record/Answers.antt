@@ -1,0 +1,25 @@
+use Rattle.std.proofs.Common.{◌<◌, ◌+◌, length, arith}
+use Rattle.undo_journal.specs.Recorded.{model_at}
+use Rattle.undo_journal.specs.Held.{Leads}
+use Rattle.undo_journal.proofs.Seen.{within, leads_seen}
+use Rattle.undo_journal.proofs.session.Session.record.Goals as goal
+
+pub index-requires : goal.index-requires
+index-requires c =
+    let h : c.args.i < length c.self.inside.records.items = within _ _ _ _ c.self.invariant c.self.view_is c.args.i c.requires in
+    omega (arith, h, c.self.inside.records.ok.0)
+
+leads : (c : goal.After-index) → Leads (model_at c.args.self.now c.args.i) c.index.result.now (model_at c.args.self.now (c.args.i + 1))
+leads c = leads_seen _ _ _ _ c.self.invariant c.self.view_is c.args.i _ (within _ _ _ _ c.self.invariant c.self.view_is c.args.i c.requires) c.index.ensures
+
+pub returns-clause-forward_goes : goal.returns-clause-forward_goes
+returns-clause-forward_goes c = (leads c).forward_goes
+
+pub returns-clause-forward : goal.returns-clause-forward
+returns-clause-forward c = (leads c).forward
+
+pub returns-clause-back_goes : goal.returns-clause-back_goes
+returns-clause-back_goes c = (leads c).back_goes
+
+pub returns-clause-back : goal.returns-clause-back
+returns-clause-back c = (leads c).back

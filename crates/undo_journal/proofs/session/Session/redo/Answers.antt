@@ -1,0 +1,43 @@
+use Rattle.std.specs.Prelude.{◌≡◌, ◌+◌, ◌<◌, length}
+use Rattle.std.proofs.Common.{sym, subst, ap, ◌∙◌, arith}
+use Rattle.halfedge_arena.specs.Store.{Store}
+use Rattle.euler_laws.specs.Laws.{AreAccepted}
+use Rattle.euler_conditions.specs.Ready.{IsReady}
+use Rattle.undo_journal.specs.Held.{machine_of, AllHaveRoom, IsKept, all_after}
+use Rattle.undo_journal.proofs.Journals.{goes_on}
+use Rattle.undo_journal.proofs.Rooms.{record_room}
+use Rattle.undo_journal.proofs.Kept.{kept_redo}
+use Rattle.undo_journal.proofs.Seen.{more_ahead, redo_seen}
+use Rattle.undo_journal.proofs.session.Session.redo.Goals as goal
+
+pub index-record-requires : goal.index-record-requires
+index-record-requires c =
+    let within : c.self.inside.place < length c.self.inside.records.items = more_ahead _ _ _ _ c.self.invariant c.self.view_is _ c.ahead.ensures (omega (arith, c.if-ahead-eq0.false)) in
+    omega (arith, within, c.self.inside.records.ok.0)
+
+within : (c : goal.After-as_slice) → c.self.inside.place < length c.self.inside.records.items
+within c = more_ahead _ _ _ _ c.self.invariant c.self.view_is _ c.ahead.ensures (omega (arith, c.if-ahead-eq0.false))
+
+pub replay_all-requires-clause-accepted : goal.replay_all-requires-clause-accepted
+replay_all-requires-clause-accepted c =
+    subst (AreAccepted c.self.inside.arena.model) (sym c.as_slice.ensures) (goes_on _ _ _ c.self.invariant.journal _ (within c) c.index-record.ensures)
+
+pub replay_all-requires-clause-room : goal.replay_all-requires-clause-room
+replay_all-requires-clause-room c =
+    subst (AllHaveRoom c.self.inside.arena) (sym c.as_slice.ensures) (record_room c.self.inside.arena _ _ _ (within c) c.index-record.ensures c.self.invariant.room).0
+
+abbrev arena : (c : goal.After-self-1) → c.replay_all.new.arena ≡ all_after c.self.inside.arena c.index-record.result.now.forward
+arena c = c.replay_all.ensures.effects ∙ ap (all_after c.self.inside.arena) c.as_slice.ensures
+
+kept : (c : goal.After-self-1) → IsKept (all_after c.self.inside.arena c.index-record.result.now.forward) c.self.inside.records.items (c.self.inside.place + 1)
+kept c =
+    let more : c.self.inside.place < length c.self.inside.records.items = more_ahead _ _ _ _ c.self.invariant c.self.view_is _ c.ahead.ensures (omega (arith, c.if-ahead-eq0.false)) in
+    kept_redo _ _ _ _ more c.index-record.ensures c.self.invariant (subst IsReady (arena c) c.replay_all.ensures.ready)
+
+pub invariant_of-self : goal.invariant_of-self
+invariant_of-self c = subst (λ (s : Store). IsKept s c.self.inside.records.items (c.self.inside.place + 1)) (sym (arena c)) (kept c)
+
+pub returns-clause-ok : goal.returns-clause-ok
+returns-clause-ok c =
+    ap (λ (s : Store). machine_of s.model c.self.inside.records.items (c.self.inside.place + 1)) (arena c)
+    ∙ redo_seen _ _ _ _ c.self.invariant c.self.view_is _ (kept c).journal

@@ -1,0 +1,38 @@
+use Rattle.std.specs.Prelude.{◌≡◌, ◌-◌, ◌<◌}
+use Rattle.std.proofs.Common.{sym, subst, ap, ◌∙◌, arith}
+use Rattle.halfedge_arena.specs.Store.{Store}
+use Rattle.euler_laws.specs.Laws.{AreAccepted}
+use Rattle.euler_conditions.specs.Ready.{IsReady}
+use Rattle.undo_journal.specs.Held.{machine_of, AllHaveRoom, IsKept, all_after}
+use Rattle.undo_journal.proofs.Journals.{goes_back}
+use Rattle.undo_journal.proofs.Rooms.{record_room}
+use Rattle.undo_journal.proofs.Kept.{kept_undo}
+use Rattle.undo_journal.proofs.Seen.{undo_seen}
+use Rattle.undo_journal.proofs.session.Session.undo.Goals as goal
+
+pub replay_all-requires-clause-accepted : goal.replay_all-requires-clause-accepted
+replay_all-requires-clause-accepted c =
+    let before : 0 < c.self.inside.place = omega (arith, c.if-self-eq0.false) in
+    subst (AreAccepted c.self.inside.arena.model) (sym c.as_slice.ensures) (goes_back _ _ _ before c.self.invariant.journal _ c.index-record.ensures)
+
+pub replay_all-requires-clause-room : goal.replay_all-requires-clause-room
+replay_all-requires-clause-room c =
+    let within = c.self.invariant.journal.placed in
+    subst (AllHaveRoom c.self.inside.arena) (sym c.as_slice.ensures)
+    (record_room c.self.inside.arena _ _ _ (omega (arith, c.if-self-eq0.false, within)) c.index-record.ensures c.self.invariant.room).1
+
+abbrev arena : (c : goal.After-replay_all) → c.replay_all.new.arena ≡ all_after c.self.inside.arena c.index-record.result.now.back
+arena c = c.replay_all.ensures.effects ∙ ap (all_after c.self.inside.arena) c.as_slice.ensures
+
+kept : (c : goal.After-replay_all) → IsKept (all_after c.self.inside.arena c.index-record.result.now.back) c.self.inside.records.items (c.self.inside.place - 1)
+kept c =
+    let before : 0 < c.self.inside.place = omega (arith, c.if-self-eq0.false) in
+    kept_undo _ _ _ _ before c.index-record.ensures c.self.invariant (subst IsReady (arena c) c.replay_all.ensures.ready)
+
+pub invariant_of-self : goal.invariant_of-self
+invariant_of-self c = subst (λ (s : Store). IsKept s c.self.inside.records.items (c.self.inside.place - 1)) (sym (arena c)) (kept c)
+
+pub returns-clause-ok : goal.returns-clause-ok
+returns-clause-ok c =
+    ap (λ (s : Store). machine_of s.model c.self.inside.records.items (c.self.inside.place - 1)) (arena c)
+    ∙ undo_seen _ _ _ _ c.self.invariant c.self.view_is _ (kept c).journal

@@ -1,0 +1,158 @@
+//! A draft: steps that become one command together, or are taken back together.
+ghost use Rattle.std.specs.Prelude.{◌≡◌, ◌↔◌, OnOk, OnErr, IfOk, IfErr, None, Some, Err};
+ghost use Rattle.euler_conditions.specs.Ready.{IsReady};
+ghost use Rattle.undo_journal.specs.Machine.{open_draft, draft_step, commit, abandon};
+ghost use Rattle.euler_operators.specs.Conditions.{first_false};
+ghost use Rattle.euler_operators.specs.declared.Refusal.{Refusal};
+
+use crate::record::{OpList, Record};
+use crate::session::{Failure, Session};
+use crate::steps::{replay_all, step};
+use euler_conditions::{Op, check};
+use halfedge_arena::Arena;
+use std::alloc::{AllocError, Global};
+use std::marker::Model;
+
+/// A session whose arena is being changed step by step. It has to be spent, by `commit` or by `abandon`.
+///
+/// `forward` holds the steps, and `back` the inverse of each. There is a place for one more record.
+pub struct Draft {
+    alloc: Global,
+    arena: Arena,
+    records: Vec<Record>,
+    place: usize,
+    forward: Vec<Op>,
+    back: Vec<Op>,
+}
+
+impl Model for Draft {
+    ghost use Rattle.std.specs.Prelude.{◌<◌, vec_len};
+    ghost use Rattle.std.specs.Vec.{vec_capacity};
+    ghost use Rattle.undo_journal.specs.Machine.{DraftState, coded_draft};
+
+    ghost Value = { DraftState };
+
+    ghost coded = { coded_draft };
+
+    ghost use Rattle.undo_journal.specs.Held.{draft_of, IsDrafted};
+
+    ghost view = { λ d. draft_of d.arena.model d.records.items d.place d.back.items };
+
+    ghost invariant = { λ d. (vec_len d.records < vec_capacity d.records) × IsDrafted d.arena d.records.items d.place d.forward.items d.back.items };
+}
+
+impl Draft {
+    /// Opens a draft of a command, in which the session's model is changed. Where memory is refused the session comes back as
+    /// it was.
+    pub fn open(session: Session) -> Result<Draft, (Session, AllocError)>
+        ensures ok { IfOk result (λ draft. draft ≡ open_draft session) }
+        ensures err { IfErr result (λ e. e.0 ≡ session) }
+    {
+        let mut session = session;
+        if let Err(error) = session.records.reserve(1) {
+            return Err((session, error));
+        }
+        let Session {
+            alloc,
+            arena,
+            records,
+            place,
+        } = session;
+        Ok(Draft {
+            alloc,
+            arena,
+            records,
+            place,
+            forward: Vec::new(alloc),
+            back: Vec::new(alloc),
+        })
+    }
+
+    /// The arena of the draft's model.
+    pub fn arena(&self) -> &Arena
+        ensures model { result.now.model ≡ self.now.model }
+        ensures ready { IsReady result.now }
+    {
+        &self.arena
+    }
+
+    /// Applies an operator that is accepted, after it has taken the memory for it and for its inverse.
+    fn accept(&mut self, op: Op) -> Result<(), AllocError>
+        requires { first_false self.old.model op ≡ None }
+        ensures ok { OnOk result (self.new ≡ draft_step self.old op) }
+        ensures err { OnErr result (self.new ≡ self.old) }
+    {
+        step(
+            self.alloc,
+            &mut self.arena,
+            &mut self.forward,
+            &mut self.back,
+            op,
+        )
+    }
+
+    /// One operator as a step. Where one of its conditions is false the first such is named, with its value; where memory is
+    /// refused `Memory` is answered. Then nothing has changed, and the draft goes on.
+    pub fn step(&mut self, op: Op) -> Result<(), Failure>
+        ensures ok { OnOk result ((first_false self.old.model op ≡ None) × (self.new ≡ draft_step self.old op)) }
+        ensures refused { (refusal : Refusal) → ((result ≡ Err (Failure.Refused refusal)) ↔ (first_false self.old.model op ≡ Some refusal)) }
+        ensures err { OnErr result (self.new ≡ self.old) }
+    {
+        if let Err(refusal) = check(self.arena(), &op) {
+            return Err(Failure::Refused(refusal));
+        }
+        match self.accept(op) {
+            Ok(()) => Ok(()),
+            Err(error) => Err(Failure::Memory(error)),
+        }
+    }
+
+    /// Makes the steps one command, also where there was none. It drops the models ahead. It takes no memory.
+    pub fn commit(self) -> Session
+        ensures { result ≡ commit self }
+    {
+        let Draft {
+            alloc,
+            arena,
+            mut records,
+            place,
+            forward,
+            mut back,
+        } = self;
+        records.truncate(place);
+        back.reverse();
+        let record = Record {
+            forward: OpList::new(forward),
+            back: OpList::new(back),
+        };
+        records.push(record).unwrap();
+        Session {
+            alloc,
+            arena,
+            records,
+            place: place + 1,
+        }
+    }
+
+    /// Takes the steps back, the last first. The models ahead stand. It takes no memory.
+    pub fn abandon(self) -> Session
+        ensures { result ≡ abandon self }
+    {
+        let Draft {
+            alloc,
+            mut arena,
+            records,
+            place,
+            forward,
+            mut back,
+        } = self;
+        back.reverse();
+        replay_all(&mut arena, back.as_slice());
+        Session {
+            alloc,
+            arena,
+            records,
+            place,
+        }
+    }
+}

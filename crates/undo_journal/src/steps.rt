@@ -1,0 +1,53 @@
+//! Operators applied in turn.
+ghost use Rattle.std.specs.Prelude.{◌≡◌, [], ◌∷◌, ◌++◌, OnOk, OnErr, None};
+ghost use Rattle.halfedge_arena.specs.Store.{HasGrown};
+ghost use Rattle.euler_operators.specs.Conditions.{first_false};
+ghost use Rattle.euler_operators.specs.Effect.{inverse};
+ghost use Rattle.euler_laws.specs.Laws.{AreAccepted};
+ghost use Rattle.euler_conditions.specs.Ready.{IsReady};
+ghost use Rattle.undo_journal.specs.Held.{AllHaveRoom, all_after, IsStepped};
+
+use euler_conditions::Op;
+use halfedge_arena::Arena;
+use low_euler::{apply, replay, room_op};
+use std::alloc::{AllocError, Global};
+
+/// Applies operators in turn, each of which is accepted then and has its room. It takes no memory.
+pub(crate) fn replay_all(arena: &mut Arena, ops: &[Op])
+    requires ready { IsReady arena.old }
+    requires accepted { AreAccepted arena.old.model ops.now }
+    requires room { AllHaveRoom arena.old ops.now }
+    ensures effects { arena.new ≡ all_after arena.old ops.now }
+    ensures ready { IsReady arena.new }
+{
+    for op in ops {
+        replay(arena, op);
+    }
+}
+
+/// Applies an operator that is accepted, and appends it and its inverse to two lists. All memory is taken before the change:
+/// on `AllocError` the model and the lists are as they were.
+pub(crate) fn step(
+    alloc: Global,
+    arena: &mut Arena,
+    forward: &mut Vec<Op>,
+    back: &mut Vec<Op>,
+    op: Op,
+) -> Result<(), AllocError>
+    requires ready { IsReady arena.old }
+    requires accepted { first_false arena.old.model op ≡ None }
+    ensures stepped { OnOk result (IsStepped arena.old op arena.new) }
+    ensures forward { OnOk result (forward.new.items ≡ forward.old.items ++ op ∷ []) }
+    ensures back { OnOk result (back.new.items ≡ back.old.items ++ inverse arena.old.model op ∷ []) }
+    ensures err { OnErr result (HasGrown arena.old arena.new) }
+    ensures err_forward { OnErr result (forward.new.items ≡ forward.old.items) }
+    ensures err_back { OnErr result (back.new.items ≡ back.old.items) }
+{
+    forward.reserve(1)?;
+    back.reserve(1)?;
+    let room = room_op(alloc, arena, &op)?;
+    let inverse = apply(arena, &op, room);
+    forward.push(op).unwrap();
+    back.push(inverse).unwrap();
+    Ok(())
+}
