@@ -11,9 +11,12 @@ use Rattle.shapes.specs.Faces.{loops_of, start}
 use Rattle.shapes.specs.Fresh.{Taken, taken_in}
 use Rattle.shapes.specs.Prism.{riser, top_edge}
 
--- item i of the loop hs gets the edge that rises from its start
+-- item h, the one at place i of a loop, gets the edge that rises from its start
+abbrev pub raise_item : Model → Taken → Point → ℕ → ℕ → Op
+raise_item M c d h i = Mev (At (half h)) (At (half h)) (half (plus (riser c.edge i))) (c.vertex + 1 + i) (moved (start M h) d)
+
 abbrev pub raise : Model → Taken → Point → List ℕ → ℕ → Op
-raise M c d hs i = let h = get_or hs i 0 in Mev (At (half h)) (At (half h)) (half (plus (riser c.edge i))) (c.vertex + 1 + i) (moved (start M h) d)
+raise M c d hs i = raise_item M c d (get_or hs i 0) i
 
 -- the side over item i of a loop of n items, between the edges that rise at it and at the next one
 abbrev pub close : Taken → ℕ → ℕ → Op

@@ -3,3 +3,4 @@
 
 mod fresh;
 mod lamina;
+mod raising;
