@@ -1,0 +1,116 @@
+-- Where a segment meets a plane: how great the numbers are.
+use Rattle.std.proofs.Common.{◌≡◌, ◌≢◌, ℕ, zero, suc, ◌+◌, ◌*◌, ◌/◌, ◌<◌, ◌≤◌, true, false, cond, ℤ, pos, negsuc, Some, None, refl, sym, ap, subst, ◌∙◌, arith}
+use Rattle.std.specs.Prelude.{◌+ℤ◌, ◌-ℤ◌, ◌*ℤ◌, neg_ℤ, FitsSigned, Option}
+use Rattle.std.specs.Int.RustNames.{unsigned_abs, int_div, int_rem}
+use Rattle.std.specs.Int.{cast_signed, cast_unsigned}
+use Rattle.std.specs.Ordering.{int_eq}
+use Rattle.std.proofs.lemmas.Int.{ints, to_z-of_z, fits_signed_from_abs, quot_is}
+use Rattle.std.proofs.Math.Nat.{div-le_of_le-mul}
+use lib.Signed.{mag_rem}
+use mir.Syntax.{w64, w128}
+use Rattle.lattice.specs.declared.Point.{Point}
+use Rattle.lattice.specs.declared.Plane.{Plane}
+use Rattle.lattice.specs.Point.{is_coordinate, IsInRange}
+use Rattle.lattice.specs.Ranges.{IsWithin, IsCutPlane}
+use Rattle.lattice.specs.Vectors.{height, opposite, whole_quotient}
+use Rattle.lattice.proofs.Magnitudes.{coordinates, coordinate_within, product_within, sum_within, fits, held, held_short, held_is, coordinate_is, Told, difference_told}
+
+pub height_within : (s : Plane) (p : Point) → IsCutPlane s → IsInRange p → IsWithin 6000000000000000000 (height s p)
+height_within s p w r =
+    let ks = coordinates p r in
+    let x = product_within s.a p.x _ _ 1000000000000000000 w.0.0 (coordinate_within p.x ks.0) refl in
+    let y = product_within s.b p.y _ _ 1000000000000000000 w.0.1 (coordinate_within p.y ks.1) refl in
+    let z = product_within s.c p.z _ _ 1000000000000000000 w.0.2 (coordinate_within p.z ks.2) refl in
+    let xy = sum_within (s.a *ℤ p.x) (s.b *ℤ p.y) _ _ 2000000000000000000 x y (omega arith) in
+    let xyz = sum_within (s.a *ℤ p.x +ℤ s.b *ℤ p.y) (s.c *ℤ p.z) _ _ 3000000000000000000 xy z (omega arith) in
+    sum_within (s.a *ℤ p.x +ℤ s.b *ℤ p.y +ℤ s.c *ℤ p.z) s.d _ _ 6000000000000000000 xyz w.1 (omega arith)
+
+pub apart : (m n : ℤ) → opposite m n ≡ true → m -ℤ n ≢ pos 0
+apart m n e z = grind (arith, ints)
+
+-- numbers of opposite signs are as far apart as both magnitudes together
+far_apart : (m n : ℤ) → opposite m n ≡ true → unsigned_abs (m -ℤ n) ≡ unsigned_abs m + unsigned_abs n
+far_apart m n e = grind (arith, ints)
+
+pub cut_within : (to from m n : ℤ) → IsWithin 1000000000 to → IsWithin 1000000000 from → opposite m n ≡ true → unsigned_abs (to *ℤ m -ℤ from *ℤ n) ≤ 1000000000 * unsigned_abs (m -ℤ n)
+cut_within to from m n wt wf o =
+    let a = product_within to m 1000000000 (unsigned_abs m) _ wt (omega arith) refl in
+    let b = product_within from n 1000000000 (unsigned_abs n) _ wf (omega arith) refl in
+    let c : unsigned_abs (to *ℤ m -ℤ from *ℤ n) ≤ unsigned_abs (to *ℤ m) + unsigned_abs (from *ℤ n) = omega (arith, ints) in
+    omega (arith, a, b, c, far_apart m n o)
+
+some_size : (w : ℤ) → w ≢ pos 0 → 0 < unsigned_abs w
+some_size w ne = grind (arith, ints)
+
+turned_size : (n : ℕ) → unsigned_abs (neg_ℤ (pos n)) ≡ n
+turned_size zero = refl
+turned_size (suc n) = refl
+
+quotient_size : (m w : ℤ) → unsigned_abs (int_div m w) ≡ unsigned_abs m / unsigned_abs w
+quotient_size (pos a) (pos b) = refl
+quotient_size (pos a) (negsuc b) = turned_size (a / suc b)
+quotient_size (negsuc a) (pos b) = turned_size (suc a / b)
+quotient_size (negsuc a) (negsuc b) = refl
+
+quotient_within : (m w : ℤ) → unsigned_abs m ≤ 1000000000 * unsigned_abs w → IsWithin 1000000000 (int_div m w)
+quotient_within m w h = subst (λ n. n ≤ 1000000000) (sym (quotient_size m w)) (div-le_of_le-mul (unsigned_abs w) (omega (arith, h)))
+
+within_coordinate : (x : ℤ) → IsWithin 1000000000 x → is_coordinate x ≡ true
+within_coordinate x h = grind (arith, ints)
+
+zero_bits : (z : ℤ) → FitsSigned w128 z → cast_unsigned w128 z ≡ 0 → int_eq z (pos 0) ≡ true
+zero_bits z f e = let h : z ≡ pos 0 = sym (held_is z f) ∙ ap (cast_signed w128) e in ap (λ y. int_eq y (pos 0)) h
+
+no_zero_bits : (z : ℤ) → FitsSigned w128 z → cast_unsigned w128 z ≢ 0 → int_eq z (pos 0) ≡ false
+no_zero_bits z f ne = elim (int_eq z (pos 0)) as (λ b. int_eq z (pos 0) ≡ b → b ≡ false) [
+  | true ↦ λ e. let h : z ≡ pos 0 = grind (arith, ints) in absurd (ne (ap (cast_unsigned w128) h))
+  | false ↦ λ e. refl
+] refl
+
+module _ (m w : ℤ) (fm : FitsSigned w128 m) (fw : FitsSigned w128 w) (range : unsigned_abs m ≤ 1000000000 * unsigned_abs w) where
+  quotient_fits : FitsSigned w128 (int_div m w)
+  quotient_fits = fits _ _ (quotient_within m w range) (omega arith)
+
+  quotient_held : held (int_div (held m) (held w)) ≡ int_div m w
+  quotient_held = quot_is w128 m w fm fw quotient_fits
+
+  pub quotient_short : FitsSigned w64 (held (int_div (held m) (held w)))
+  quotient_short = subst (FitsSigned w64) (sym quotient_held) (fits_signed_from_abs w64 (int_div m w) (omega (arith, quotient_within m w range)))
+
+  pub quotient_is : held_short (held (int_div (held m) (held w))) ≡ int_div m w
+  quotient_is = ap held_short quotient_held ∙ to_z-of_z w64 (int_div m w) (fits_signed_from_abs w64 (int_div m w) (omega (arith, quotient_within m w range)))
+
+  pub quotient_coordinate : is_coordinate (held_short (held (int_div (held m) (held w)))) ≡ true
+  quotient_coordinate = ap is_coordinate quotient_is ∙ within_coordinate (int_div m w) (quotient_within m w range)
+
+  remainder_fits : FitsSigned w128 (int_rem m w)
+  remainder_fits = record { sfits = omega (arith, mag_rem m w, fm.sfits) }
+
+  remainder_bits : (n : ℕ) → cast_unsigned w128 (int_rem (held m) (held w)) ≡ n → cast_unsigned w128 (int_rem m w) ≡ n
+  remainder_bits n e = (λ i. cast_unsigned w128 (int_rem (sym (held_is m fm) i) (sym (held_is w fw) i))) ∙ e
+
+  pub whole_told : cast_unsigned w128 (int_rem (held m) (held w)) ≡ 0 → Some (held_short (held (int_div (held m) (held w)))) ≡ whole_quotient m w
+  whole_told e = ap Some quotient_is ∙ sym (ap (λ b. cond b (Some (int_div m w)) None) (zero_bits (int_rem m w) remainder_fits (remainder_bits 0 e)))
+
+  pub none_told : cast_unsigned w128 (int_rem (held m) (held w)) ≢ 0 → ◌≡◌ {A = Option ℤ} None (whole_quotient m w)
+  none_told ne = sym (ap (λ b. cond b (Some (int_div m w)) None) (no_zero_bits (int_rem m w) remainder_fits (λ z. ne ((λ i. cast_unsigned w128 (int_rem (held_is m fm i) (held_is w fw i))) ∙ z))))
+
+-- the difference of two heights
+pub gap_told : (m n : ℤ) → IsWithin 6000000000000000000 m → IsWithin 6000000000000000000 n → Told 12000000000000000000 (held m -ℤ held n) (m -ℤ n)
+gap_told m n wm wn = difference_told _ _ _ m n m n refl refl wm wn (omega arith) (omega arith)
+
+-- the multiple that the code makes is r
+module _ (to from m n r : ℤ) (kt : is_coordinate to ≡ true) (kf : is_coordinate from ≡ true) (wm : IsWithin 6000000000000000000 m) (wn : IsWithin 6000000000000000000 n)
+    (o : opposite m n ≡ true) (wr : IsWithin 20000000000000000000000000000 r) (is : r ≡ held_short to *ℤ held m -ℤ held_short from *ℤ held n) where
+  multiple_is : r ≡ to *ℤ m -ℤ from *ℤ n
+  multiple_is = is ∙ (λ i. coordinate_is to kt i *ℤ held_is m (fits _ _ wm (omega arith)) i -ℤ coordinate_is from kf i *ℤ held_is n (fits _ _ wn (omega arith)) i)
+
+  multiple_held : held r ≡ to *ℤ m -ℤ from *ℤ n
+  multiple_held = held_is r (fits _ _ wr (omega arith)) ∙ multiple_is
+
+  pub multiple_range : unsigned_abs (held r) ≤ 1000000000 * unsigned_abs (held (held m -ℤ held n))
+  multiple_range = subst (λ z. unsigned_abs z ≤ 1000000000 * unsigned_abs (held (held m -ℤ held n))) (sym multiple_held)
+      (subst (λ z. unsigned_abs (to *ℤ m -ℤ from *ℤ n) ≤ 1000000000 * unsigned_abs z) (sym (gap_told m n wm wn).kept) (cut_within to from m n (coordinate_within to kt) (coordinate_within from kf) o))
+
+  pub multiple_quotient : whole_quotient (held r) (held (held m -ℤ held n)) ≡ whole_quotient (to *ℤ m -ℤ from *ℤ n) (m -ℤ n)
+  multiple_quotient = λ i. whole_quotient (multiple_held i) ((gap_told m n wm wn).kept i)

@@ -1,0 +1,4 @@
+mod Magnitudes
+mod Orders
+mod Cuts
+mod Coordinates

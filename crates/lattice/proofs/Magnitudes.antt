@@ -1,0 +1,154 @@
+-- How great sums and products are, and that the code's are exact.
+use Rattle.std.proofs.Common.{◌≡◌, ℕ, ◌+◌, ◌*◌, ◌≤◌, Bool, true, false, ℤ, refl, sym, ap, subst, ◌∙◌, arith, true≢false}
+use Rattle.std.specs.Prelude.{◌+ℤ◌, ◌-ℤ◌, ◌*ℤ◌, ◌&&◌, FitsSigned}
+use Rattle.std.specs.Int.RustNames.{unsigned_abs}
+use Rattle.std.specs.Int.{cast_signed, cast_unsigned}
+use Rattle.std.proofs.lemmas.Int.{ints, to_z-of_z, unsigned_abs-mul, fits_signed_from_abs}
+use Rattle.std.proofs.Math.Nat.{mul-le-mul}
+use mir.Syntax.{w64, w128}
+use Rattle.lattice.specs.declared.Point.{Point}
+use Rattle.lattice.specs.Point.{is_coordinate, IsInRange}
+use Rattle.lattice.specs.Ranges.{IsWithin}
+
+pub coordinate_within : (x : ℤ) → is_coordinate x ≡ true → IsWithin 1000000000 x
+coordinate_within x e = grind (arith, ints)
+
+both : (a b : Bool) → (a && b) ≡ true → (a ≡ true) × (b ≡ true)
+both true b e = (refl, e)
+both false b e = absurd (true≢false (sym e))
+
+-- the coordinates of a point in range
+pub coordinates : (p : Point) → IsInRange p → (is_coordinate p.x ≡ true) × (is_coordinate p.y ≡ true) × (is_coordinate p.z ≡ true)
+coordinates p r = let xs = both (is_coordinate p.x) (is_coordinate p.y && is_coordinate p.z) r in let ys = both (is_coordinate p.y) (is_coordinate p.z) xs.1 in (xs.0, ys.0, ys.1)
+
+pub product_within : (a b : ℤ) (m n k : ℕ) → IsWithin m a → IsWithin n b → m * n ≡ k → IsWithin k (a *ℤ b)
+product_within a b m n k h g e = subst (λ x. x ≤ k) (sym (unsigned_abs-mul a b)) (subst (λ x. unsigned_abs a * unsigned_abs b ≤ x) e (mul-le-mul h g))
+
+pub sum_within : (a b : ℤ) (m n k : ℕ) → IsWithin m a → IsWithin n b → m + n ≤ k → IsWithin k (a +ℤ b)
+sum_within a b m n k h g e = omega (arith, ints, h, g, e)
+
+pub difference_within : (a b : ℤ) (m n k : ℕ) → IsWithin m a → IsWithin n b → m + n ≤ k → IsWithin k (a -ℤ b)
+difference_within a b m n k h g e = omega (arith, ints, h, g, e)
+
+-- what is at most 10^38 in magnitude fits 128 bits
+pub fits : (m : ℕ) (z : ℤ) → IsWithin m z → m ≤ 100000000000000000000000000000000000000 → FitsSigned w128 z
+fits m z h l = fits_signed_from_abs w128 z (omega (arith, h, l))
+
+-- a number as the code holds it
+abbrev pub held : ℤ → ℤ
+held z = cast_signed w128 (cast_unsigned w128 z)
+
+pub held_is : (z : ℤ) → FitsSigned w128 z → held z ≡ z
+held_is z f = to_z-of_z w128 z f
+
+abbrev pub held_short : ℤ → ℤ
+held_short z = cast_signed w64 (cast_unsigned w64 z)
+
+pub coordinate_is : (x : ℤ) → is_coordinate x ≡ true → held_short x ≡ x
+coordinate_is x e = to_z-of_z w64 x (fits_signed_from_abs w64 x (omega (arith, coordinate_within x e)))
+
+pub coordinate_held : (x : ℤ) → is_coordinate x ≡ true → is_coordinate (held_short x) ≡ true
+coordinate_held x e = ap is_coordinate (coordinate_is x e) ∙ e
+
+pub product_is : (a x r : ℤ) → FitsSigned w128 a → FitsSigned w128 r → r ≡ x → held a *ℤ held r ≡ a *ℤ x
+product_is a x r fa fr e = λ i. held_is a fa i *ℤ (held_is r fr ∙ e) i
+
+pub sum_is : (a b : ℤ) → FitsSigned w128 a → FitsSigned w128 b → held a +ℤ held b ≡ a +ℤ b
+sum_is a b fa fb = λ i. held_is a fa i +ℤ held_is b fb i
+
+-- numbers that are equal to what fits
+pub fits_as : (z y : ℤ) → z ≡ y → FitsSigned w128 y → FitsSigned w128 z
+fits_as z y e f = subst (FitsSigned w128) (sym e) f
+
+pub held_as : (z y : ℤ) → z ≡ y → FitsSigned w128 y → held z ≡ y
+held_as z y e f = ap held e ∙ held_is y f
+
+-- ---- what the code makes of sums and differences
+
+-- what the code makes fits, is exact, and is at most k in magnitude
+pub record Told (k : ℕ) (z y : ℤ) : Type 0 where
+  pub fits : FitsSigned w128 z
+  pub made : z ≡ y
+  pub kept : held z ≡ y
+  pub made_within : IsWithin k z
+  pub kept_within : IsWithin k (held z)
+
+module _ (k l m : ℕ) (p q a b : ℤ) (is_a : p ≡ a) (is_b : q ≡ b) (wa : IsWithin k a) (wb : IsWithin l b) (room : k + l ≤ m) (least : m ≤ 100000000000000000000000000000000000000) where
+  parts_are : held p -ℤ held q ≡ a -ℤ b
+  parts_are = λ i. held_as p a is_a (fits k a wa (omega arith)) i -ℤ held_as q b is_b (fits l b wb (omega arith)) i
+
+  -- the difference of two numbers that the code made
+  pub difference_told : Told m (held p -ℤ held q) (a -ℤ b)
+  difference_told =
+      let w = difference_within a b k l m wa wb room in let f = fits m (a -ℤ b) w least in let h = held_as (held p -ℤ held q) (a -ℤ b) parts_are f in record {
+        fits = fits_as (held p -ℤ held q) (a -ℤ b) parts_are f;
+        made = parts_are;
+        kept = h;
+        made_within = subst (IsWithin m) (sym parts_are) w;
+        kept_within = subst (IsWithin m) (sym h) w;
+      }
+
+-- ---- one number of a cross product
+
+module _ (a b c d s t u v : ℤ) (ka : is_coordinate a ≡ true) (kb : is_coordinate b ≡ true) (kc : is_coordinate c ≡ true) (kd : is_coordinate d ≡ true)
+    (fs : FitsSigned w128 s) (ft : FitsSigned w128 t) (fu : FitsSigned w128 u) (fv : FitsSigned w128 v)
+    (es : s ≡ held_short a) (et : t ≡ held_short d) (eu : u ≡ held_short b) (ev : v ≡ held_short c) where
+  left_is : held s *ℤ held t ≡ a *ℤ d
+  left_is = product_is s d t fs ft (et ∙ coordinate_is d kd) ∙ ap (λ z. z *ℤ d) (es ∙ coordinate_is a ka)
+
+  right_is : held u *ℤ held v ≡ b *ℤ c
+  right_is = product_is u c v fu fv (ev ∙ coordinate_is c kc) ∙ ap (λ z. z *ℤ c) (eu ∙ coordinate_is b kb)
+
+  left_within : IsWithin 1000000000000000000 (a *ℤ d)
+  left_within = product_within a d _ _ _ (coordinate_within a ka) (coordinate_within d kd) refl
+
+  right_within : IsWithin 1000000000000000000 (b *ℤ c)
+  right_within = product_within b c _ _ _ (coordinate_within b kb) (coordinate_within c kc) refl
+
+  pub minor_told : Told 2000000000000000000 (held (held s *ℤ held t) -ℤ held (held u *ℤ held v)) (a *ℤ d -ℤ b *ℤ c)
+  minor_told = difference_told _ _ _ (held s *ℤ held t) (held u *ℤ held v) (a *ℤ d) (b *ℤ c) left_is right_is left_within right_within (omega arith) (omega arith)
+
+-- the sum of two numbers as the code makes it
+abbrev pub made_of : ℤ → ℤ → ℤ
+made_of a b = held a +ℤ held b
+
+module _ (m n k : ℕ) (a b : ℤ) (wa : IsWithin m a) (wb : IsWithin n b) (room : m + n ≤ k) (least : k ≤ 100000000000000000000000000000000000000) where
+  first_fits : FitsSigned w128 a
+  first_fits = fits m a wa (omega arith)
+
+  second_fits : FitsSigned w128 b
+  second_fits = fits n b wb (omega arith)
+
+  whole_fits : FitsSigned w128 (a +ℤ b)
+  whole_fits = fits k (a +ℤ b) (sum_within a b m n k wa wb room) least
+
+  made_is : held a +ℤ held b ≡ a +ℤ b
+  made_is = sum_is a b first_fits second_fits
+
+  pub sum_told : Told k (held a +ℤ held b) (a +ℤ b)
+  sum_told =
+      let w = sum_within a b m n k wa wb room in let h = held_as (held a +ℤ held b) (a +ℤ b) made_is whole_fits in record {
+        fits = fits_as (held a +ℤ held b) (a +ℤ b) made_is whole_fits;
+        made = made_is;
+        kept = h;
+        made_within = subst (IsWithin k) (sym made_is) w;
+        kept_within = subst (IsWithin k) (sym h) w;
+      }
+
+-- what the numbers of a cross product are told as
+pub minor_of : (m a b c d : ℤ) → is_coordinate a ≡ true → is_coordinate b ≡ true → is_coordinate c ≡ true → is_coordinate d ≡ true →
+    m ≡ held_short a *ℤ held_short d -ℤ held_short b *ℤ held_short c → m ≡ a *ℤ d -ℤ b *ℤ c
+minor_of m a b c d ka kb kc kd e = e ∙ (λ i. coordinate_is a ka i *ℤ coordinate_is d kd i -ℤ coordinate_is b kb i *ℤ coordinate_is c kc i)
+
+-- ---- three numbers added
+
+pub times_of : (m a x : ℤ) → FitsSigned w128 a → is_coordinate x ≡ true → m ≡ held a *ℤ held_short x → m ≡ a *ℤ x
+times_of m a x fa kx e = e ∙ (λ i. held_is a fa i *ℤ coordinate_is x kx i)
+
+-- the sum of two coordinates' numbers
+pub coordinate_sum : (a b : ℤ) → FitsSigned w64 a → FitsSigned w64 b → is_coordinate (a +ℤ b) ≡ true → held_short (held_short a +ℤ held_short b) ≡ a +ℤ b
+coordinate_sum a b fa fb k = ap held_short (λ i. to_z-of_z w64 a fa i +ℤ to_z-of_z w64 b fb i) ∙ coordinate_is (a +ℤ b) k
+
+-- the product of a coordinate's number r and m
+pub product_of : (r x m : ℤ) → FitsSigned w128 r → FitsSigned w128 m → is_coordinate x ≡ true → r ≡ held_short x → held r *ℤ held m ≡ x *ℤ m
+product_of r x m fr fm k e = λ i. (held_is r fr ∙ e ∙ coordinate_is x k) i *ℤ held_is m fm i

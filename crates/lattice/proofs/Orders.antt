@@ -1,0 +1,26 @@
+-- The order of points.
+use Rattle.std.proofs.Common.{◌≡◌, ℤ, int_cmp, Ordering, Less, Equal, Greater, refl, ◌∙◌, arith}
+use Rattle.std.specs.Prelude.{int_lt, ◌&&◌, ◌||◌}
+use Rattle.std.specs.Ordering.{is_lt, is_eq, is_gt, ordering_then, int_eq}
+use Rattle.lattice.specs.declared.Point.{Point}
+use Rattle.lattice.specs.Vectors.{lex_less}
+
+pub less_is : (p q : Point) → is_lt (ordering_then (ordering_then (int_cmp p.x q.x) (int_cmp p.y q.y)) (int_cmp p.z q.z)) ≡ lex_less p q
+less_is p q = grind (arith)
+
+after_greater : (a b c : Ordering) → is_gt (ordering_then (ordering_then a b) c) ≡ is_gt a || (is_eq a && (is_gt b || (is_eq b && is_gt c)))
+after_greater Less b c = refl
+after_greater Greater b c = refl
+after_greater Equal Less c = refl
+after_greater Equal Greater c = refl
+after_greater Equal Equal c = refl
+
+turned_greater : (a b : ℤ) → is_gt (int_cmp a b) ≡ int_lt b a
+turned_greater a b = grind arith
+
+turned_equal : (a b : ℤ) → is_eq (int_cmp a b) ≡ int_eq b a
+turned_equal a b = grind arith
+
+pub greater_is : (p q : Point) → is_gt (ordering_then (ordering_then (int_cmp p.x q.x) (int_cmp p.y q.y)) (int_cmp p.z q.z)) ≡ lex_less q p
+greater_is p q = after_greater (int_cmp p.x q.x) (int_cmp p.y q.y) (int_cmp p.z q.z)
+    ∙ (λ i. turned_greater p.x q.x i || (turned_equal p.x q.x i && (turned_greater p.y q.y i || (turned_equal p.y q.y i && turned_greater p.z q.z i))))

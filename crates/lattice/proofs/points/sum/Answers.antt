@@ -1,0 +1,13 @@
+use Rattle.std.proofs.Common.{rules}
+use Rattle.std.specs.Prelude.{FitsSigned}
+use mir.Syntax.{w64}
+use Rattle.lattice.specs.Vectors.{moved}
+use Rattle.lattice.proofs.Magnitudes.{coordinates, coordinate_sum}
+use Rattle.lattice.proofs.points.sum.Goals as goal
+
+pub returns : goal.returns
+returns c =
+    let p = c.args.p in let d = c.args.d in let ks = coordinates (moved p d) c.requires in
+    let a : FitsSigned w64 p.x = search rules in let b : FitsSigned w64 p.y = search rules in let e : FitsSigned w64 p.z = search rules in
+    let f : FitsSigned w64 d.x = search rules in let g : FitsSigned w64 d.y = search rules in let h : FitsSigned w64 d.z = search rules in
+    λ i. record { x = coordinate_sum p.x d.x a f ks.0 i; y = coordinate_sum p.y d.y b g ks.1 i; z = coordinate_sum p.z d.z e h ks.2 i }

@@ -1,0 +1,95 @@
+//! Sums, products and the order of points.
+ghost use Rattle.std.specs.Prelude.{◌≡◌, true, ◌*ℤ◌, ◌-ℤ◌, ◌+ℤ◌};
+ghost use Rattle.std.specs.Ordering.{is_lt, is_eq, is_gt};
+ghost use Rattle.lattice.specs.Point.{IsInRange, is_in_range, is_coordinate};
+ghost use Rattle.lattice.specs.Ranges.{IsWithin, IsVectorWithin, normal_limit};
+ghost use Rattle.lattice.specs.Vectors.{moved, dot, cross, same_point, lex_less, vector_of, numbers_of};
+
+use crate::{COORDINATE_LIMIT, Point};
+use std::cmp::Ordering;
+
+/// Whether the sum of two numbers is a coordinate.
+fn adds_up(a: i64, b: i64) -> bool
+    ensures { result ≡ is_coordinate (a +ℤ b) }
+{
+    match a.checked_add(b) {
+        Some(sum) => -COORDINATE_LIMIT <= sum && sum <= COORDINATE_LIMIT,
+        None => false,
+    }
+}
+
+/// Whether p moved by d lies within `COORDINATE_LIMIT`. Takes any two points.
+pub fn sum_in_range(p: Point, d: Point) -> bool
+    ensures { result ≡ is_in_range (moved p d) }
+{
+    adds_up(p.x, d.x) && (adds_up(p.y, d.y) && adds_up(p.z, d.z))
+}
+
+/// The point p moved by d. `sum_in_range` tells whether it may be asked for.
+pub fn sum(p: Point, d: Point) -> Point
+    requires { IsInRange (moved p d) }
+    ensures { result ≡ moved p d }
+{
+    Point {
+        x: p.x + d.x,
+        y: p.y + d.y,
+        z: p.z + d.z,
+    }
+}
+
+/// One number of a cross product, at most 2 * 10^18 in magnitude.
+fn minor(a: i64, b: i64, c: i64, d: i64) -> i128
+    requires a { is_coordinate a ≡ true }
+    requires b { is_coordinate b ≡ true }
+    requires c { is_coordinate c ≡ true }
+    requires d { is_coordinate d ≡ true }
+    ensures is { result ≡ a *ℤ d -ℤ b *ℤ c }
+    ensures within { IsWithin 2000000000000000000 result }
+{
+    i128::from(a) * i128::from(d) - i128::from(b) * i128::from(c)
+}
+
+/// The vector n, of numbers at most 10^25 in magnitude, plus the cross product of two points in range.
+pub fn cross_add(n: [i128; 3], p: Point, q: Point) -> [i128; 3]
+    requires n { IsVectorWithin normal_limit (vector_of n) }
+    requires p { IsInRange p }
+    requires q { IsInRange q }
+    ensures { result ≡ numbers_of (moved (vector_of n) (cross p q)) }
+{
+    [
+        n[0] + minor(p.y, p.z, q.y, q.z),
+        n[1] + minor(p.z, p.x, q.z, q.x),
+        n[2] + minor(p.x, p.y, q.x, q.y),
+    ]
+}
+
+/// A coefficient times a coordinate, at most 10^34 in magnitude.
+fn scaled(a: i128, x: i64) -> i128
+    requires a { IsWithin normal_limit a }
+    requires x { is_coordinate x ≡ true }
+    ensures is { result ≡ a *ℤ x }
+    ensures within { IsWithin 10000000000000000000000000000000000 result }
+{
+    a * i128::from(x)
+}
+
+/// The sum of the products of the coordinates of p with the numbers of a vector, each at most 10^25 in magnitude.
+pub fn dot(n: [i128; 3], p: Point) -> i128
+    requires n { IsVectorWithin normal_limit (vector_of n) }
+    requires p { IsInRange p }
+    ensures is { result ≡ dot (vector_of n) p }
+    ensures within { IsWithin 30000000000000000000000000000000000 result }
+{
+    let [a, b, c] = n;
+    let first = scaled(a, p.x) + scaled(b, p.y);
+    first + scaled(c, p.z)
+}
+
+/// The order by x, then y, then z.
+pub fn lex_cmp(p: Point, q: Point) -> Ordering
+    ensures less { is_lt result ≡ lex_less p q }
+    ensures equal { is_eq result ≡ same_point p q }
+    ensures greater { is_gt result ≡ lex_less q p }
+{
+    p.x.cmp(&q.x).then(p.y.cmp(&q.y)).then(p.z.cmp(&q.z))
+}
