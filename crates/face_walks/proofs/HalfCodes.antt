@@ -21,6 +21,10 @@ pub code_plus : (e : ℕ) → code (record { edge = e; first = true }) ≡ plus 
 unfolding code
 code_plus e = refl
 
+pub code_minus : (e : ℕ) → code (record { edge = e; first = false }) ≡ minus e
+unfolding code
+code_minus e = refl
+
 number_fits : (n : ℕ) → is_number n ≡ true → n ≤ 1000000
 number_fits n e = grind (arith, nat_tests)
 

@@ -89,13 +89,13 @@ module _ (M : Model) (c : Taken) (f l : ℕ) (d : Point) (hs : List ℕ) (w : Re
 
   -- ---- the rounds
 
-  abbrev Rounds : ℕ → Type 0
+  abbrev pub Rounds : ℕ → Type 0
   Rounds i = AreAccepted M (rounds M c d hs i) × (effects M (rounds M c d hs i) ≡ prism_part c f l d hs i M)
 
   part_sound : (i : ℕ) → Rounds i → Sound (prism_part c f l d hs i M)
   part_sound i r = subst Sound r.1 (effects_keep_sound M (rounds M c d hs i) w.sound r.0)
 
-  rounds_go : (i : ℕ) → i < length hs → Rounds i
+  pub rounds_go : (i : ℕ) → i < length hs → Rounds i
   rounds_go zero lt = ((first_accepted, tt), first_is)
   rounds_go (suc i) lt =
       let r : Rounds i = rounds_go i (omega arith) in

@@ -1,25 +1,26 @@
 //! A face swept operator by operator in a draft.
-ghost use Rattle.std.specs.Prelude.{◌≡◌, ◌≤◌, ◌<◌, ◌+◌, ◌*◌, true, None, OnOk, OnErr, IfOk, length};
+ghost use Rattle.std.specs.Prelude.{◌≡◌, ◌≤◌, ◌<◌, ◌+◌, ◌-◌, ◌*◌, true, false, None, OnOk, OnErr, IfOk, length};
 ghost use Rattle.lattice.specs.Point.{IsInRange};
-ghost use Rattle.lattice.specs.Vectors as vectors;
+ghost use Rattle.lattice.specs.Vectors.{moved};
 ghost use Rattle.boundary_model.specs.HalfEdge as half_edge;
 ghost use Rattle.boundary_model.specs.HalfEdge.{code, half};
-ghost use Rattle.boundary_model.specs.Model.{has_half, items_of, content, face_of};
+ghost use Rattle.boundary_model.specs.Model.{has_half, items_of, content, face_of, cycle_of};
+ghost use Rattle.euler_conditions.specs.Ready.{IsReady};
+ghost use Rattle.halfedge_arena.specs.Store.{has_number};
 ghost use Rattle.euler_laws.specs.Laws.{effects};
-ghost use Rattle.euler_operators.specs.Conditions.{first_false};
+ghost use Rattle.euler_operators.specs.Conditions.{first_false, is_lone};
 ghost use Rattle.undo_journal.specs.Machine.{draft_step};
 ghost use Rattle.shapes.specs.Faces.{start};
 ghost use Rattle.shapes.specs.Prism as prism;
-ghost use Rattle.shapes.specs.Prism.{prism_refusal, prism_model};
 ghost use Rattle.prism_laws.specs.SweepOps as ops;
 ghost use Rattle.prism_laws.proofs.Sides.{Ready};
 ghost use Rattle.sweeps.specs.Counters.{taken_of};
 
-use crate::fresh::{Counters, counters_of};
+use crate::fresh::Counters;
 use euler_conditions::Op;
-use face_walks::{face_loops, items_from};
-use halfedge_arena::{Content, Corner, HalfEdge};
-use lattice::Point;
+use face_walks::items_from;
+use halfedge_arena::{Arena, Content, Corner, HalfEdge, Kind};
+use lattice::{Point, sum};
 use std::alloc::{AllocError, Global};
 use undo_journal::{Draft, Failure};
 
@@ -62,18 +63,6 @@ fn top_edge(taken: &Counters, count: u32, i: u32) -> u32
     }
 }
 
-/// A point moved along a vector, where that is in range.
-fn moved(p: Point, d: Point) -> Point
-    requires { IsInRange (vectors.moved p d) }
-    ensures { result ≡ vectors.moved p d }
-{
-    Point {
-        x: p.x + d.x,
-        y: p.y + d.y,
-        z: p.z + d.z,
-    }
-}
-
 /// An operator that no condition refuses, as a step. On `AllocError` the draft is as it was.
 fn take(draft: &mut Draft, op: Op) -> Result<(), AllocError>
     requires { first_false draft.old.model op ≡ None }
@@ -85,4 +74,100 @@ fn take(draft: &mut Draft, op: Op) -> Result<(), AllocError>
         Err(Failure::Memory(error)) => Err(error),
         Err(Failure::Refused(_)) => unreachable!(),
     }
+}
+
+/// Some half-edge of loop l, which isn't lone.
+fn some_item(arena: &Arena, l: u32) -> HalfEdge
+    requires there { has_number arena.now Kind.Loop l ≡ true }
+    requires ready { IsReady arena.now }
+    requires held { is_lone (content arena.now.model l) ≡ false }
+    ensures there { has_half arena.now.model (code result) ≡ true }
+    ensures inside { cycle_of arena.now.model (code result) ≡ items_of (content arena.now.model l) }
+{
+    match arena.content(l) {
+        Content::Ring(h) => h,
+        Content::Lone(_) => unreachable!(),
+    }
+}
+
+/// Raises an item, the one at place i of its loop: a new edge rises from its start to the moved point.
+fn raise_item(
+    draft: &mut Draft,
+    taken: &Counters,
+    item: HalfEdge,
+    i: u32,
+    d: Point,
+) -> Result<(), AllocError>
+    requires there { has_half draft.old.model (code item) ≡ true }
+    requires edge_left { taken.now.edges + 2 * i + 1 ≤ 1000000 }
+    requires vertex_left { taken.now.vertices + 1 + i ≤ 1000000 }
+    requires range { IsInRange (moved (start draft.old.model (code item)) d) }
+    requires accepted { first_false draft.old.model (ops.raise_item draft.old.model (taken_of taken.now) d (code item) i) ≡ None }
+    ensures ok { OnOk result (draft.new ≡ draft_step draft.old (ops.raise_item draft.old.model (taken_of taken.now) d (code item) i)) }
+    ensures err { OnErr result (draft.new ≡ draft.old) }
+{
+    let arena = draft.arena();
+    let top = sum(arena.point(arena.tail(item)), d);
+    let edge = plus(riser(taken, i));
+    let vertex = taken.vertices + 1 + i;
+    take(draft, Op::Mev(Corner::At(item), Corner::At(item), edge, vertex, top))
+}
+
+/// Closes the side over item i of a loop, between the edges that rise at it and at the next.
+fn close_side(draft: &mut Draft, taken: &Counters, count: u32, i: u32) -> Result<(), AllocError>
+    requires inside { i + 1 < count }
+    requires faces_left { taken.now.faces + count ≤ 1000000 }
+    requires loops_left { taken.now.loops + count ≤ 1000000 }
+    requires edges_left { taken.now.edges + 2 * count ≤ 1000000 }
+    requires accepted { first_false draft.old.model (ops.close (taken_of taken.now) count i) ≡ None }
+    ensures ok { OnOk result (draft.new ≡ draft_step draft.old (ops.close (taken_of taken.now) count i)) }
+    ensures err { OnErr result (draft.new ≡ draft.old) }
+{
+    let from = minus(riser(taken, i));
+    let to = minus(riser(taken, i + 1));
+    let top = plus(top_edge(taken, count, i));
+    take(draft, Op::Mef(from, to, top, taken.faces + 1 + i, taken.loops + 1 + i))
+}
+
+/// Closes the side over the last item of a loop, up to the first top edge.
+fn close_last(draft: &mut Draft, taken: &Counters, count: u32) -> Result<(), AllocError>
+    requires some { 2 ≤ count }
+    requires faces_left { taken.now.faces + count ≤ 1000000 }
+    requires loops_left { taken.now.loops + count ≤ 1000000 }
+    requires edges_left { taken.now.edges + 2 * count ≤ 1000000 }
+    requires accepted { first_false draft.old.model (ops.close_last (taken_of taken.now) count (count - 1)) ≡ None }
+    ensures ok { OnOk result (draft.new ≡ draft_step draft.old (ops.close_last (taken_of taken.now) count (count - 1))) }
+    ensures err { OnErr result (draft.new ≡ draft.old) }
+{
+    let last = count - 1;
+    let from = minus(riser(taken, last));
+    let to = plus(top_edge(taken, count, 0));
+    let top = plus(top_edge(taken, count, last));
+    take(draft, Op::Mef(from, to, top, taken.faces + 1 + last, taken.loops + 1 + last))
+}
+
+/// Sweeps loop l and answers how many items it had.
+fn raise_loop(
+    alloc: Global,
+    draft: &mut Draft,
+    taken: &Counters,
+    l: u32,
+    d: Point,
+) -> Result<u32, AllocError>
+    requires { Ready draft.old.model (taken_of taken.now) (face_of draft.old.model l) l d (items_of (content draft.old.model l)) }
+    ensures count { IfOk result (λ count. count ≡ length (items_of (content draft.old.model l))) }
+    ensures ok { OnOk result (draft.new ≡ record draft.old { model = effects draft.old.model (ops.loop_ops draft.old.model (taken_of taken.now) d (items_of (content draft.old.model l))) }) }
+    ensures err { OnErr result (draft.new.session ≡ draft.old.session) }
+{
+    let items = items_from(alloc, draft.arena(), some_item(draft.arena(), l))?;
+    let count = items.len() as u32;
+    raise_item(draft, taken, items[0], 0, d)?;
+    let mut done = 0;
+    'items: while done + 1 < count {
+        raise_item(draft, taken, items[done as usize + 1], done + 1, d)?;
+        close_side(draft, taken, count, done)?;
+        done += 1;
+    }
+    close_last(draft, taken, count)?;
+    Ok(count)
 }
