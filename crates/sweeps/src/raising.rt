@@ -1,5 +1,5 @@
 //! A face swept operator by operator in a draft.
-ghost use Rattle.std.specs.Prelude.{◌≡◌, ◌≤◌, ◌<◌, ◌+◌, ◌-◌, ◌*◌, true, false, None, OnOk, OnErr, IfOk, length};
+ghost use Rattle.std.specs.Prelude.{◌≡◌, ◌≤◌, ◌<◌, ◌+◌, ◌-◌, ◌*◌, true, false, None, OnOk, OnErr, IfOk, length, map};
 ghost use Rattle.lattice.specs.Point.{IsInRange};
 ghost use Rattle.lattice.specs.Vectors.{moved};
 ghost use Rattle.boundary_model.specs.HalfEdge as half_edge;
@@ -90,6 +90,16 @@ fn some_item(arena: &Arena, l: u32) -> HalfEdge
     }
 }
 
+/// The half-edges of loop l, which isn't lone, in the order of listings.
+fn loop_items(alloc: Global, arena: &Arena, l: u32) -> Result<Vec<HalfEdge>, AllocError>
+    requires there { has_number arena.now Kind.Loop l ≡ true }
+    requires ready { IsReady arena.now }
+    requires held { is_lone (content arena.now.model l) ≡ false }
+    ensures { IfOk result (λ items. map code items.items ≡ items_of (content arena.now.model l)) }
+{
+    items_from(alloc, arena, some_item(arena, l))
+}
+
 /// Raises an item, the one at place i of its loop: a new edge rises from its start to the moved point.
 fn raise_item(
     draft: &mut Draft,
@@ -159,7 +169,7 @@ fn raise_loop(
     ensures ok { OnOk result (draft.new ≡ record draft.old { model = effects draft.old.model (ops.loop_ops draft.old.model (taken_of taken.now) d (items_of (content draft.old.model l))) }) }
     ensures err { OnErr result (draft.new.session ≡ draft.old.session) }
 {
-    let items = items_from(alloc, draft.arena(), some_item(draft.arena(), l))?;
+    let items = loop_items(alloc, draft.arena(), l)?;
     let count = items.len() as u32;
     raise_item(draft, taken, items[0], 0, d)?;
     let mut done = 0;
