@@ -82,7 +82,7 @@ module _ (M : Model) (f : ℕ) (d : Point) (sound : Sound M) (accepted : prism_r
   hold : AllHold (prism_conditions M f d)
   hold = all_hold (prism_conditions M f d) accepted
 
-  face_there : Has M.faces f
+  pub face_there : Has M.faces f
   unfolding prism_conditions
   face_there = hold.1.0
 
@@ -188,7 +188,7 @@ module _ (M : Model) (f : ℕ) (d : Point) (sound : Sound M) (accepted : prism_r
         | inr e ↦ near ls (λ q j. are q (omega (arith, j))) both.1 l (omega (arith, i, tick_other l k e.1))
       ]
 
-  begins : Going M M (taken_in M) f d (loops_of M f)
+  pub begins : Going M M (taken_in M) f d (loops_of M f)
   unfolding taken_in corners
   begins = record {
       sound = sound;

@@ -12,9 +12,9 @@ use Rattle.boundary_model.specs.declared.Corner.TheVariants.{At}
 use Rattle.boundary_model.specs.HalfEdge.{edge_of, half, plus}
 use Rattle.boundary_model.specs.Table as table
 use Rattle.boundary_model.specs.Table.{Table}
-use Rattle.boundary_model.specs.Model.{Model, cycle, items_of, content, tail, point_of, solid_of}
+use Rattle.boundary_model.specs.Model.{face_of, Model, cycle, items_of, content, tail, point_of, solid_of}
 use Rattle.boundary_model.specs.Sound.{Sound, HasHalf}
-use Rattle.boundary_model.proofs.Models.{content_row}
+use Rattle.boundary_model.proofs.Models.{content_row, face_row}
 use Rattle.euler_operators.specs.declared.Op.{Op}
 use Rattle.euler_operators.specs.declared.Op.TheVariants.{Mev}
 use Rattle.euler_laws.specs.Laws.{AreAccepted, effects}
@@ -138,6 +138,23 @@ module _ (M N : Model) (c : Taken) (f l : ℕ) (d : Point) (ls : List ℕ) (g : 
   raised_is : raised f d (record { model = N; taken = c }) l ≡ record { model = N'; taken = taken_after c (length hs) }
   unfolding raised
   raised_is = ap (λ q. raised_over f d (record { model = N; taken = c }) l (items_of q)) (content_row N l (record { face = f; content = cycle hs }) (g.rows l l_in))
+
+  -- the same, told from the model then
+  same_items : items_of (content N l) ≡ hs
+  same_items = ap items_of (content_row N l (record { face = f; content = cycle hs }) (g.rows l l_in))
+
+  pub turn_ready : Ready N c (face_of N l) l d (items_of (content N l))
+  turn_ready = subst (λ k. Ready N c k l d (items_of (content N l))) (sym (face_row N l (record { face = f; content = cycle hs }) (g.rows l l_in))) (subst (Ready N c f l d) (sym same_items) ready)
+
+  module _ (X : Model) (x : X ≡ effects N (loop_ops N c d (items_of (content N l)))) where
+    is_swept : X ≡ N'
+    is_swept = x ∙ ap (λ ks. effects N (loop_ops N c d ks)) same_items ∙ (loop_swept N c f l d hs ready).1
+
+    pub turn_next : Going M X (taken_after c (length (items_of (content N l)))) f d ls
+    turn_next = subst (λ Y. Going M Y (taken_after c (length (items_of (content N l)))) f d ls) (sym is_swept) (subst (λ ks. Going M N' (taken_after c (length ks)) f d ls) (sym same_items) next)
+
+    pub turn_model : (prism_from f d (record { model = X; taken = taken_after c (length (items_of (content N l))) }) ls).model ≡ (prism_from f d (record { model = N; taken = c }) (l ∷ ls)).model
+    turn_model = (λ j. (prism_from f d (record { model = is_swept j; taken = taken_after c (length (same_items j)) }) ls).model) ∙ ap (λ q. (prism_from f d q ls).model) (sym raised_is)
 
 -- the operators of the loops are accepted, and sweep them
 pub loops_swept : (M N : Model) (c : Taken) (f : ℕ) (d : Point) (ls : List ℕ) → Going M N c f d ls → AreAccepted N (ops_from M d c ls) × (effects N (ops_from M d c ls) ≡ (prism_from f d (record { model = N; taken = c }) ls).model)

@@ -1,1 +1,2 @@
 pub mod RaisedItems
+pub mod RaisedLoops

@@ -12,13 +12,14 @@ ghost use Rattle.euler_operators.specs.Conditions.{first_false, is_lone};
 ghost use Rattle.undo_journal.specs.Machine.{draft_step};
 ghost use Rattle.shapes.specs.Faces.{start};
 ghost use Rattle.shapes.specs.Prism as prism;
+ghost use Rattle.shapes.specs.Prism.{prism_refusal, prism_model};
 ghost use Rattle.prism_laws.specs.SweepOps as ops;
 ghost use Rattle.prism_laws.proofs.Sides.{Ready};
 ghost use Rattle.sweeps.specs.Counters.{taken_of};
 
-use crate::fresh::Counters;
+use crate::fresh::{Counters, counters_of};
 use euler_conditions::Op;
-use face_walks::items_from;
+use face_walks::{face_loops, items_from};
 use halfedge_arena::{Arena, Content, Corner, HalfEdge, Kind};
 use lattice::{Point, sum};
 use std::alloc::{AllocError, Global};
@@ -180,4 +181,37 @@ fn raise_loop(
     }
     close_last(draft, taken, count)?;
     Ok(count)
+}
+
+/// The counters once a loop of so many items is swept.
+fn counted_on(taken: &Counters, count: u32) -> Counters
+    requires faces_left { taken.now.faces + count ≤ 1000000 }
+    requires loops_left { taken.now.loops + count ≤ 1000000 }
+    requires edges_left { taken.now.edges + 2 * count ≤ 1000000 }
+    requires vertices_left { taken.now.vertices + count ≤ 1000000 }
+    ensures { taken_of result ≡ ops.taken_after (taken_of taken.now) count }
+{
+    Counters {
+        faces: taken.faces + count,
+        loops: taken.loops + count,
+        edges: taken.edges + 2 * count,
+        vertices: taken.vertices + count,
+    }
+}
+
+/// Sweeps face f of the draft's model along d, where that isn't refused. On `AllocError` the draft may have taken some steps.
+pub(crate) fn raise(alloc: Global, draft: &mut Draft, f: u32, d: Point) -> Result<(), AllocError>
+    requires { prism_refusal draft.old.model f d ≡ None }
+    ensures ok { OnOk result (draft.new ≡ record draft.old { model = prism_model draft.old.model f d }) }
+    ensures err { OnErr result (draft.new.session ≡ draft.old.session) }
+{
+    let mut taken = counters_of(draft.arena());
+    let loops = face_loops(alloc, draft.arena(), f)?;
+    let mut rest = loops.as_slice();
+    'loops: while let [l, others @ ..] = rest {
+        let count = raise_loop(alloc, draft, &taken, *l, d)?;
+        taken = counted_on(&taken, count);
+        rest = others;
+    }
+    Ok(())
 }
