@@ -1,2 +1,3 @@
-pub mod RaisedItems
-pub mod RaisedLoops
+mod Drawing
+mod RaisedItems
+mod RaisedLoops

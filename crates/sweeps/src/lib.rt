@@ -2,5 +2,8 @@
 #![tactic(auto)]
 
 mod fresh;
-mod lamina;
+mod laminas;
 mod raising;
+mod steps;
+
+pub use laminas::lamina;

@@ -18,12 +18,13 @@ ghost use Rattle.prism_laws.proofs.Sides.{Ready};
 ghost use Rattle.sweeps.specs.Counters.{taken_of};
 
 use crate::fresh::{Counters, counters_of};
+use crate::steps::take;
 use euler_conditions::Op;
 use face_walks::{face_loops, items_from};
 use halfedge_arena::{Arena, Content, Corner, HalfEdge, Kind};
 use lattice::{Point, sum};
 use std::alloc::{AllocError, Global};
-use undo_journal::{Draft, Failure};
+use undo_journal::Draft;
 
 /// The first half-edge of an edge.
 fn plus(edge: u32) -> HalfEdge
@@ -61,19 +62,6 @@ fn top_edge(taken: &Counters, count: u32, i: u32) -> u32
         taken.edges + 2 * count
     } else {
         taken.edges + 2 * i + 3
-    }
-}
-
-/// An operator that no condition refuses, as a step. On `AllocError` the draft is as it was.
-fn take(draft: &mut Draft, op: Op) -> Result<(), AllocError>
-    requires { first_false draft.old.model op ≡ None }
-    ensures ok { OnOk result (draft.new ≡ draft_step draft.old op) }
-    ensures err { OnErr result (draft.new ≡ draft.old) }
-{
-    match draft.step(op) {
-        Ok(()) => Ok(()),
-        Err(Failure::Memory(error)) => Err(error),
-        Err(Failure::Refused(_)) => unreachable!(),
     }
 }
 

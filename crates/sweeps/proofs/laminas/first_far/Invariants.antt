@@ -1,6 +1,6 @@
 use Rattle.std.proofs.Common.{◌≡◌, ◌+◌, length}
 use Rattle.shapes.specs.Lamina.{first_far}
-use Rattle.sweeps.proofs.lamina.first_far.Given as goal
+use Rattle.sweeps.proofs.laminas.first_far.Given as goal
 
 abbrev pub invariant-points : goal.invariant-points
 invariant-points l = (first_far 0 l.points ≡ first_far l.place l.rest) × (l.place + length l.rest ≡ length l.points)

@@ -1,7 +1,7 @@
 use Rattle.std.proofs.Common.{◌≡◌, length}
 use Rattle.std.specs.List.{list_any}
 use Rattle.lattice.specs.Vectors.{same_point}
-use Rattle.sweeps.proofs.lamina.is_among.Given as goal
+use Rattle.sweeps.proofs.laminas.is_among.Given as goal
 
 abbrev pub invariant-others : goal.invariant-others
 invariant-others l = list_any (same_point l.point) l.points ≡ list_any (same_point l.point) l.rest

@@ -1,6 +1,6 @@
 use Rattle.std.proofs.Common.{◌≡◌, ◌≤◌, [], length, take, drop, ◌-◌}
 use Rattle.shapes.specs.Lamina.{first_repeated}
-use Rattle.sweeps.proofs.lamina.first_repeated.Given as goal
+use Rattle.sweeps.proofs.laminas.first_repeated.Given as goal
 
 abbrev pub invariant-points : goal.invariant-points
 invariant-points l = (first_repeated [] 0 l.points ≡ first_repeated (take l.place l.points) l.place (drop l.place l.points)) × (l.place ≤ length l.points)

@@ -1,0 +1,97 @@
+-- A draft in which a lamina is being drawn.
+use Rattle.std.specs.Prelude.{length, get_or, ◌-◌}
+use Rattle.std.proofs.Common.{◌≡◌, ◌≢◌, ℕ, zero, suc, ◌+◌, ◌≤◌, ◌<◌, List, Option, Some, None, Result, Ok, Err, is_some, true≢false, refl, sym, ap, subst, ◌∙◌, arith}
+use Rattle.lattice.specs.declared.Point.{Point}
+use Rattle.boundary_model.specs.declared.HalfEdge.{HalfEdge}
+use Rattle.boundary_model.specs.declared.Corner.{Corner}
+use Rattle.boundary_model.specs.declared.Corner.TheVariants.{At, Lone}
+use Rattle.boundary_model.specs.Model.{Model, no_point}
+use Rattle.boundary_model.specs.Sound.{Sound}
+use Rattle.euler_operators.specs.declared.Op.{Op}
+use Rattle.euler_operators.specs.declared.Op.TheVariants.{Mvfs, Mev, Mef}
+use Rattle.euler_operators.specs.declared.Refusal.{Refusal}
+use Rattle.euler_operators.specs.Conditions.{first_false, verdict}
+use Rattle.euler_operators.specs.Effect.{effect}
+use Rattle.shapes.specs.Fresh.{Taken, taken_in}
+use Rattle.shapes.specs.Lamina.{lamina_refusal, lamina_at, lamina_model}
+use Rattle.lamina_laws.specs.Path.{path_at, first_half, second_half, first_point, end_corner, next_point, last_edge}
+use Rattle.lamina_laws.proofs.Steps.{Goes, first_accepted, first_made}
+use Rattle.lamina_laws.proofs.Walk.{lamina_goes, next_accepted, next_made, path_sound, close_accepted, close_made}
+use Rattle.sweeps.specs.Counters.{taken_of}
+use Rattle.sweeps.specs.declared.fresh.Counters.{Counters}
+
+-- the premises, from what the calls before the first step say
+pub begun : (M N : Model) (k : Counters) (s : ℕ) (ps qs : List Point) → N ≡ M → Sound N → taken_of k ≡ taken_in N → qs ≡ ps → lamina_refusal M s ps ≡ None → Goes M (taken_of k) s qs (length qs)
+begun M N k s ps qs same sound is alike e = subst (λ c. Goes M c s qs (length qs)) (sym (is ∙ ap taken_in same)) (lamina_goes M s qs (subst Sound same sound) (ap (lamina_refusal M s) alike ∙ e))
+
+-- where a verdict is no refusal
+pub passed : (o : Option Refusal) (u : Unit {0}) → verdict o ≡ Ok u → o ≡ None
+passed None u e = refl
+passed (Some r) u e = cc
+
+-- an accepted step isn't refused
+pub not_refused : (o : Option Refusal) (r : Refusal) → o ≡ None → o ≡ Some r → ⊥
+not_refused o r n s = true≢false (sym (ap is_some s) ∙ ap is_some n)
+
+-- a path on its way: as it stands before edge i is drawn
+pub record Along (M : Model) (c : Taken) (s : ℕ) (ps : List Point) (i : ℕ) (N : Model) (end : Corner) : Type 0 where
+  pub edges : ℕ
+  pub counted : i ≡ suc edges
+  pub within : i ≤ length ps
+  pub model : N ≡ path_at M c s ps edges
+  pub corner : end ≡ end_corner c edges
+
+module _ (M : Model) (c : Taken) (s : ℕ) (ps : List Point) (goes : Goes M c s ps (length ps)) where
+  pub first_is : (op : Op) (p : Point) → op ≡ Mvfs s (c.face + 1) (c.loop + 1) (c.vertex + 1) p → p ≡ get_or ps 0 no_point → op ≡ first_point c s ps
+  first_is op p is at = is ∙ ap (Mvfs s (c.face + 1) (c.loop + 1) (c.vertex + 1)) at
+
+  pub first_goes : (op : Op) → op ≡ first_point c s ps → first_false M op ≡ None
+  first_goes op is = ap (first_false M) is ∙ first_accepted M c s ps (length ps) goes
+
+  pub first_along : (op : Op) (N : Model) → N ≡ effect M op → op ≡ first_point c s ps → Along M c s ps 1 N (Lone (c.loop + 1))
+  first_along op N made is = record {
+    edges = 0;
+    counted = refl;
+    within = omega (arith, goes.many);
+    model = made ∙ ap (effect M) is ∙ first_made M c s ps (length ps) goes;
+    corner = refl;
+  }
+
+  module _ (i : ℕ) (N : Model) (end : Corner) (a : Along M c s ps i N end) (op : Op) (h : HalfEdge) (v : ℕ) (p : Point)
+      (is : op ≡ Mev end end h v p) (half : h ≡ first_half (c.edge + i)) (number : v ≡ c.vertex + 1 + i) (at : p ≡ get_or ps i no_point) (l : i < length ps) where
+    next_is : op ≡ next_point c ps a.edges
+    next_is = is ∙ (λ t. Mev (a.corner t) (a.corner t) (half t) (number t) (at t))
+        ∙ (λ t. Mev (end_corner c a.edges) (end_corner c a.edges) (first_half (c.edge + a.counted t)) (vertex_is t) (get_or ps (a.counted t) no_point)) where
+          vertex_is : c.vertex + 1 + i ≡ c.vertex + suc (suc a.edges)
+          vertex_is = omega (arith, a.counted)
+
+    short : suc a.edges < length ps
+    short = omega (arith, a.counted, l)
+
+    pub next_goes : first_false N op ≡ None
+    next_goes = (λ t. first_false (a.model t) (next_is t)) ∙ next_accepted M c s ps (length ps) goes a.edges short (path_sound M c s ps (length ps) goes a.edges (omega (arith, short)))
+
+    pub next_along : (K : Model) (g : HalfEdge) → K ≡ effect N op → g ≡ second_half (c.edge + i) → Along M c s ps (i + 1) K (At g)
+    next_along K g made turn = record {
+      edges = suc a.edges;
+      counted = omega (arith, a.counted);
+      within = omega (arith, l);
+      model = made ∙ (λ t. effect (a.model t) (next_is t)) ∙ next_made M c s ps (length ps) goes a.edges;
+      corner = ap At turn ∙ ap (λ k. At (second_half (c.edge + k))) a.counted;
+    }
+
+  module _ (i : ℕ) (N : Model) (end : Corner) (b : Along M c s ps i N end) (all : i ≡ length ps) (op : Op) (is : op ≡ Mef (second_half (c.edge + length ps - 1)) (first_half (c.edge + 1)) (first_half (c.edge + length ps)) (c.face + 2) (c.loop + 2)) where
+    a : Along M c s ps (length ps) N end
+    a = subst (λ k. Along M c s ps k N end) all b
+
+    last_is : op ≡ last_edge c a.edges
+    last_is = is ∙ (λ t. Mef (second_half (before t)) (first_half (c.edge + 1)) (first_half (c.edge + a.counted t)) (c.face + 2) (c.loop + 2)) where
+      before : c.edge + length ps - 1 ≡ c.edge + a.edges
+      before = omega (arith, a.counted)
+
+    pub last_goes : first_false N op ≡ None
+    last_goes = (λ t. first_false (a.model t) (last_is t)) ∙ close_accepted M c s ps (length ps) goes a.edges a.counted
+
+    pub last_done : (K : Model) → K ≡ effect N op → c ≡ taken_in M → K ≡ lamina_model M s ps
+    unfolding lamina_model
+    last_done K made counters = made ∙ (λ t. effect (a.model t) (last_is t)) ∙ close_made M c s ps (length ps) goes a.edges a.counted refl ∙ ap (λ k. lamina_at M k s ps) counters

@@ -1,0 +1,193 @@
+//! The lamina: a flat ring of corners with a face on either side.
+ghost use Rattle.std.specs.Prelude.{◌≡◌, ◌≤◌, ◌<◌, ◌↔◌, length, get_or, [], None, Some, Err, OnOk, OnErr};
+ghost use Rattle.std.specs.List.{list_any};
+ghost use Rattle.lattice.specs.Vectors.{same_point};
+ghost use Rattle.boundary_model.specs.Model.{no_point};
+ghost use Rattle.euler_operators.specs.Conditions.{verdict};
+ghost use Rattle.euler_conditions.specs.Ready.{IsReady};
+ghost use Rattle.euler_operators.specs.declared.Refusal.{Refusal};
+ghost use Rattle.undo_journal.specs.Machine.{held, accepted};
+ghost use Rattle.lamina_laws.specs.Path as path;
+ghost use Rattle.shapes.specs.Lamina.{lamina_refusal, lamina_model};
+ghost use Rattle.shapes.specs.Lamina as spec;
+
+use crate::fresh::{check_left, counters_of, refused};
+use crate::steps::take;
+use arrayvec::ArrayVec;
+use euler_conditions::{Op, Refusal, Why};
+use halfedge_arena::{Arena, Corner, HalfEdge, Kind};
+use lattice::{Point, point_in_range};
+use std::alloc::{AllocError, Global};
+use undo_journal::{Draft, Failure, Session};
+
+/// The place, from 1, of the first point out of range, or 0.
+fn first_far(points: &[Point]) -> u32
+    requires { length points.now ≤ 64 }
+    ensures { result ≡ spec.first_far 0 points.now }
+{
+    let mut place = 0;
+    let mut rest = points;
+    'points: while let [point, others @ ..] = rest {
+        place += 1;
+        if !point_in_range(*point) {
+            return place;
+        }
+        rest = others;
+    }
+    0
+}
+
+/// Whether the point is one of some points.
+fn is_among(point: Point, points: &[Point]) -> bool
+    ensures { result ≡ list_any (same_point point) points.now }
+{
+    let mut rest = points;
+    'others: while let [other, others @ ..] = rest {
+        if point == *other {
+            return true;
+        }
+        rest = others;
+    }
+    false
+}
+
+/// The place, from 1, of the first point equal to an earlier one, or 0. It compares each point with those before it.
+fn first_repeated(points: &[Point]) -> u32
+    requires { length points.now ≤ 64 }
+    ensures { result ≡ spec.first_repeated [] 0 points.now }
+{
+    let mut place = 0;
+    'points: while place < points.len() {
+        if is_among(points[place], &points[..place]) {
+            return place as u32 + 1;
+        }
+        place += 1;
+    }
+    0
+}
+
+/// Whether a lamina of these points can be made as the new solid.
+///
+/// Refused, in this order: NumberRange; SolidTaken; FewPoints with how many there are; PointRange and RepeatedPoint with the
+/// place, from 1, of the first such point; NumbersSpent with 2 for faces, 3 for loops, 4 for edges, 5 for vertices.
+#[tactic(auto, unfolding(shapes::specs::Lamina::lamina_conditions))]
+fn check_lamina(arena: &Arena, solid: u32, points: &ArrayVec<Point, 64>) -> Result<(), Refusal>
+    requires { IsReady arena.now }
+    ensures { result ≡ verdict (lamina_refusal arena.now.model solid points.now.items) }
+{
+    if solid < 1 || solid > 1_000_000 {
+        return refused(Why::NumberRange, solid);
+    }
+    if arena.has(Kind::Solid, solid) {
+        return refused(Why::SolidTaken, solid);
+    }
+    let count = points.len() as u32;
+    if count < 3 {
+        return refused(Why::FewPoints, count);
+    }
+    let far = first_far(points.as_slice());
+    if far > 0 {
+        return refused(Why::PointRange, far);
+    }
+    let repeated = first_repeated(points.as_slice());
+    if repeated > 0 {
+        return refused(Why::RepeatedPoint, repeated);
+    }
+    check_left(&counters_of(arena), 2, 2, count, count)
+}
+
+fn first_half(edge: u32) -> HalfEdge
+    ensures { result ≡ path.first_half edge }
+{
+    HalfEdge { edge, first: true }
+}
+
+fn second_half(edge: u32) -> HalfEdge
+    ensures { result ≡ path.second_half edge }
+{
+    HalfEdge { edge, first: false }
+}
+
+/// Point i of some points.
+fn point_at(points: &[Point], i: usize) -> Point
+    requires { i < length points.now }
+    ensures { result ≡ get_or points.now i no_point }
+{
+    points[i]
+}
+
+/// Draws a lamina whose conditions hold: its operators, one after the other. Where memory is refused the draft holds what was
+/// drawn so far.
+pub(crate) fn draw_lamina(
+    draft: &mut Draft,
+    solid: u32,
+    points: &ArrayVec<Point, 64>,
+) -> Result<(), AllocError>
+    requires { lamina_refusal draft.old.model solid points.now.items ≡ None }
+    ensures ok { OnOk result (draft.new.model ≡ lamina_model draft.old.model solid points.now.items) }
+    ensures session { draft.new.session ≡ draft.old.session }
+{
+    let taken = counters_of(draft.arena());
+    let corners = points.as_slice();
+    let first = point_at(corners, 0);
+    take(
+        draft,
+        Op::Mvfs(
+            solid,
+            taken.faces + 1,
+            taken.loops + 1,
+            taken.vertices + 1,
+            first,
+        ),
+    )?;
+    let mut end = Corner::Lone(taken.loops + 1);
+    'further: for i in 1..corners.len() {
+        let edge = taken.edges + i as u32;
+        let vertex = taken.vertices + 1 + i as u32;
+        let next = point_at(corners, i);
+        take(draft, Op::Mev(end, end, first_half(edge), vertex, next))?;
+        end = Corner::At(second_half(edge));
+    }
+    let last = taken.edges + corners.len() as u32;
+    let turn = second_half(last - 1);
+    let start = first_half(taken.edges + 1);
+    take(
+        draft,
+        Op::Mef(
+            turn,
+            start,
+            first_half(last),
+            taken.faces + 2,
+            taken.loops + 2,
+        ),
+    )
+}
+
+/// A lamina as one command: the new solid with a ring of new edges through the points, at least 3 and all different, and a face
+/// on either side. Face f, the first fresh number, has the ring from the first point on; face f + 1 has it the other way round.
+///
+/// Refused, in this order: NumberRange; SolidTaken; FewPoints with how many there are; PointRange and RepeatedPoint with the
+/// place, from 1, of the first such point; NumbersSpent with 2 for faces, 3 for loops, 4 for edges, 5 for vertices. Where memory
+/// is refused `Memory` is answered. On any failure the session is as it was.
+pub fn lamina(
+    alloc: Global,
+    session: Session,
+    solid: u32,
+    points: &ArrayVec<Point, 64>,
+) -> (Session, Result<(), Failure>)
+    ensures ok { OnOk result.1 ((lamina_refusal (held session) solid points.now.items ≡ None) × (result.0 ≡ accepted session (lamina_model (held session) solid points.now.items))) }
+    ensures refused { (refusal : Refusal) → ((result.1 ≡ Err (Failure.Refused refusal)) ↔ (lamina_refusal (held session) solid points.now.items ≡ Some refusal)) }
+    ensures err { OnErr result.1 (result.0 ≡ session) }
+{
+    if let Err(refusal) = check_lamina(session.arena(), solid, points) {
+        return (session, Err(Failure::Refused(refusal)));
+    }
+    let mut draft = match Draft::open(session) {
+        Ok(draft) => draft,
+        Err((session, error)) => return (session, Err(Failure::Memory(error))),
+    };
+    match draw_lamina(&mut draft, solid, points) {
+        Ok(()) => (draft.commit(), Ok(())),
+        Err(error) => (draft.abandon(), Err(Failure::Memory(error))),
+    }
+}
