@@ -1,73 +1,11 @@
--- Half-edges and their codes.
-use Rattle.std.proofs.Common.{◌≡◌, ◌≢◌, ℕ, ◌≤◌, Bool, true, false, cond, ◌&&◌, nat_eq, ◌∷◌, ap, sym, ◌∙◌, arith, decimal, refl, true≢false}
-use mathlib.Core.Bool.{beq}
-use Rattle.std.proofs.lemmas.Bool.Decides.{nat_tests}
+-- The words of half-edges.
+use Rattle.std.proofs.Common.{◌≡◌, cond, ◌∷◌, ap, ◌∙◌, decimal}
 use Rattle.boundary_model.specs.declared.HalfEdge.{HalfEdge}
-use Rattle.boundary_model.specs.HalfEdge.{code, half, edge_of, is_first, mate, plus, minus}
-use Rattle.boundary_model.specs.Table.{has}
-use Rattle.boundary_model.specs.Model.{Model, is_number}
-use Rattle.boundary_model.specs.Sound.{Sound, HasHalf}
-use Rattle.boundary_model.proofs.Halves.{half-code, edge_of-code, edge_of-mate, code-mate}
+use Rattle.boundary_model.specs.HalfEdge.{code, edge_of}
+use Rattle.boundary_model.proofs.Halves.{edge_of-code}
+use Rattle.face_walks.proofs.HalfCodes.{is_first-code}
 use Rattle.solid_listing.specs.Listing.{half_word}
-
-pub is_first-code : (h : HalfEdge) → is_first (code h) ≡ h.first
-unfolding is_first half
-is_first-code h = ap (λ (g : HalfEdge). g.first) (half-code h)
 
 -- the word of a half-edge
 pub half_word_is : (h : HalfEdge) → half_word (code h) ≡ cond h.first 43 45 ∷ decimal h.edge
 half_word_is h = ap (λ b. cond b 43 45 ∷ decimal (edge_of (code h))) (is_first-code h) ∙ ap (λ e. cond h.first 43 45 ∷ decimal e) (edge_of-code h)
-
--- two half-edges with one code are one
-pub same_code : (g h : HalfEdge) → code g ≡ code h → g ≡ h
-same_code g h e = sym (half-code g) ∙ ap half e ∙ half-code h
-
-pub code_plus : (e : ℕ) → code (record { edge = e; first = true }) ≡ plus e
-unfolding code
-code_plus e = refl
-
-number_fits : (n : ℕ) → is_number n ≡ true → n ≤ 1000000
-number_fits n e = grind (arith, nat_tests)
-
--- an edge that is there has a number in range
-pub edge_fits : (M : Model) → Sound M → (h : HalfEdge) → HasHalf M (code h) → h.edge ≤ 1000000
-edge_fits M sound h there = number_fits h.edge (ap is_number (sym (edge_of-code h)) ∙ sound.edges_fit (edge_of (code h)) there)
-
-pub mate_plus : (e : ℕ) → mate (code (record { edge = e; first = true })) ≡ minus e
-unfolding code
-mate_plus e = sym (code-mate e true)
-
-pub plus_there : (M : Model) (e : ℕ) → has M.edges e ≡ true → HasHalf M (code (record { edge = e; first = true }))
-plus_there M e there = ap (λ k. has M.edges k) (edge_of-code (record { edge = e; first = true })) ∙ there
-
-pub mate_there : (M : Model) (h : ℕ) → HasHalf M h → HasHalf M (mate h)
-mate_there M h there = ap (λ k. has M.edges k) (edge_of-mate h) ∙ there
-
-both : (a b : Bool) → a && b ≡ true → (a ≡ true) × (b ≡ true)
-both true true e = (refl, refl)
-both true false e = absurd (true≢false (sym e))
-both false b e = absurd (true≢false (sym e))
-
-alike : (a b : Bool) → beq a b ≡ true → a ≡ b
-alike true true e = refl
-alike true false e = absurd (true≢false (sym e))
-alike false true e = absurd (true≢false (sym e))
-alike false false e = refl
-
-itself : (a : Bool) → beq a a ≡ true
-itself true = refl
-itself false = refl
-
--- what the test for equal half-edges says
-pub codes_same : (g h : HalfEdge) → nat_eq g.edge h.edge && beq g.first h.first ≡ true → code g ≡ code h
-codes_same g h e =
-    let t = both (nat_eq g.edge h.edge) (beq g.first h.first) e in
-    let edges : g.edge ≡ h.edge = let s : nat_eq g.edge h.edge ≡ true = t.0 in grind (arith, nat_tests) in
-    let firsts = alike g.first h.first t.1 in
-    λ i. code (record { edge = edges i; first = firsts i })
-
-pub codes_differ : (g h : HalfEdge) → nat_eq g.edge h.edge && beq g.first h.first ≡ false → code g ≢ code h
-codes_differ g h e same =
-    let s = same_code g h same in
-    let one : nat_eq h.edge h.edge ≡ true = grind (arith, nat_tests) in
-    true≢false (sym (ap (λ (k : HalfEdge). nat_eq k.edge h.edge && beq k.first h.first) s ∙ ap (λ b. b && beq h.first h.first) one ∙ itself h.first) ∙ e)

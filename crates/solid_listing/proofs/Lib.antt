@@ -1,10 +1,7 @@
 pub mod Contents
-pub mod CycleWalks
 pub mod EmptyModels
 pub mod HalfWords
 pub mod LineLaws
-pub mod Rising
-pub mod TableWalks
 pub mod Walks
 pub mod WorkedTexts
 pub mod WritingLaws

@@ -11,6 +11,7 @@ ghost use Rattle.solid_listing.specs.Writing.{Puts};
 use crate::text::{Text, append, append_digits};
 use crate::writing::{WriteFault, put};
 use arrayvec::ArrayVec;
+use face_walks::least_item;
 use halfedge_arena::{Arena, HalfEdge};
 use std::io::Write;
 
@@ -22,27 +23,6 @@ fn half_text(h: HalfEdge) -> Text
     append(&mut text, if h.first { b" +" } else { b" -" });
     append_digits(&mut text, h.edge);
     text
-}
-
-/// The least half-edge of the loop in which h stands.
-fn least_item(arena: &Arena, h: HalfEdge) -> HalfEdge
-    requires sound { Sound arena.now.model }
-    requires there { has_half arena.now.model (code h) ≡ true }
-    ensures there { has_half arena.now.model (code result) ≡ true }
-    ensures same_loop { cycle_of arena.now.model (code result) ≡ cycle_of arena.now.model (code h) }
-    ensures least { code result ≡ least (cycle_of arena.now.model (code h)) }
-{
-    let mut least = h;
-    let mut at = h;
-    'round: loop {
-        at = arena.next(at);
-        if at == h {
-            return least;
-        }
-        if at.code() < least.code() {
-            least = at;
-        }
-    }
 }
 
 /// Writes the half-edges of a loop, each after a space, from its least one on, which is given.

@@ -1,1 +1,3 @@
 mod Drawing
+mod RaisedItems
+mod RaisedLoops

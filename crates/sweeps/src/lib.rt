@@ -3,6 +3,7 @@
 
 mod fresh;
 mod laminas;
+mod raising;
 mod steps;
 
 pub use laminas::lamina;

@@ -2,9 +2,9 @@ use Rattle.std.proofs.Common.{◌∙◌, ◌≤◌, ap, sym, subst, ℕ, List, [
 use Rattle.cyclic_list.specs.Items.{IsIn}
 use Rattle.boundary_model.specs.HalfEdge.{code}
 use Rattle.boundary_model.specs.Model.{cycle_of}
-use Rattle.solid_listing.proofs.HalfWords.{codes_same, codes_differ, edge_fits}
-use Rattle.solid_listing.proofs.CycleWalks.{seen, IsIn_push, least_is, start_seen, item_there, same_cycle, cycle_apart, item_in, goes_on, comes_back}
-use Rattle.solid_listing.proofs.cycle.least_item.Goals as goal
+use Rattle.face_walks.proofs.HalfCodes.{codes_same, codes_differ, edge_fits}
+use Rattle.face_walks.proofs.CycleWalks.{seen, IsIn_push, least_is, start_seen, item_there, same_cycle, cycle_apart, item_in, goes_on, comes_back}
+use Rattle.face_walks.proofs.items.least_item.Goals as goal
 
 pub round-init : goal.round-init
 round-init c =

@@ -2,8 +2,8 @@ use Rattle.std.proofs.Common.{◌≤◌, ℕ, length}
 use Rattle.cyclic_list.specs.Items.{IsIn}
 use Rattle.boundary_model.specs.HalfEdge.{code}
 use Rattle.boundary_model.specs.Model.{cycle_of}
-use Rattle.solid_listing.proofs.CycleWalks.{seen, to_come}
-use Rattle.solid_listing.proofs.cycle.least_item.Given as goal
+use Rattle.face_walks.proofs.CycleWalks.{seen, to_come}
+use Rattle.face_walks.proofs.items.least_item.Given as goal
 
 abbrev pub invariant-round : goal.invariant-round
 invariant-round l = record {

@@ -1,0 +1,8 @@
+pub mod Steps
+pub mod Sides
+pub mod Rounds
+pub mod Loops
+pub mod Turns
+pub mod Whole
+pub mod Accepted
+mod WorkedSweeps

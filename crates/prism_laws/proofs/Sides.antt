@@ -1,0 +1,169 @@
+-- A loop ready to be swept, the numbers that its sweep takes, and what the sides leave as it was.
+use Rattle.std.proofs.Common.{◌≡◌, ◌≢◌, ℕ, zero, suc, ◌+◌, ◌*◌, ◌≤◌, ◌<◌, cond, List, [], ◌∷◌, length, Some, None, is_some, unwrap_or, IsTrue, refl, sym, ap, ◌∙◌, subst, arith, ◌⊎◌, inl, inr, true≢false}
+use Rattle.std.proofs.lemmas.Bool.{eq-eqb, ne_eqb, cases_eq, cases_lt}
+use Rattle.std.proofs.lemmas.Bool.Decides.{nat_tests}
+use Rattle.lattice.specs.declared.Point.{Point}
+use Rattle.lattice.specs.Point.{IsInRange}
+use Rattle.lattice.specs.Vectors.{moved}
+use Rattle.cyclic_list.specs.Items.{IsIn}
+use Rattle.cyclic_list.specs.Rings.{canonical, successor}
+use Rattle.cyclic_list.proofs.Lists.{tick_same}
+use Rattle.cyclic_list.proofs.Rings.{successor_head}
+use Rattle.boundary_model.specs.HalfEdge.{edge_of, is_first, plus, minus}
+use Rattle.boundary_model.specs.Table as table
+use Rattle.boundary_model.specs.Table.{Table, tables, same_table}
+use Rattle.boundary_model.specs.Model.{Model, EdgeRow, cycle, items_of, holds, tail, tail_in, no_edge, no_face, no_point, content, solid_of, point_of, loop_of, after, cycle_of, is_number}
+use Rattle.boundary_model.specs.Sound.{Sound, Has, HasHalf}
+use Rattle.boundary_model.proofs.Halves.{plus_row, minus_row}
+use Rattle.boundary_model.proofs.Models.{content_row, face_row, tail_row, in-holds}
+use Rattle.shapes.specs.Faces.{start}
+use Rattle.shapes.specs.Fresh.{Taken}
+use Rattle.shapes.specs.Prism.{riser, top_edge, next_place, with_side, with_sides}
+
+-- ---- numbers
+
+pub fits : (n : ℕ) → 1 ≤ n → n ≤ 1000000 → IsTrue (is_number n)
+fits n a b = grind (arith, nat_tests)
+
+pub riser_is : (e i : ℕ) → ((i ≡ 0) × (riser e i ≡ e + 1)) ⊎ ((1 ≤ i) × (riser e i ≡ e + 2 * i))
+riser_is e i = elim (cases_eq i 0) [
+    | inl p ↦ inl (p, ap (λ b. cond b (e + 1) (e + 2 * i)) (eq-eqb i 0 p))
+    | inr p ↦ inr (omega arith, ap (λ b. cond b (e + 1) (e + 2 * i)) (ne_eqb i 0 p))
+  ]
+
+pub top_is : (e n i : ℕ) → ((i + 1 ≡ n) × (top_edge e n i ≡ e + 2 * n)) ⊎ ((i + 1 ≢ n) × (top_edge e n i ≡ e + 2 * i + 3))
+top_is e n i = elim (cases_eq (i + 1) n) [
+    | inl p ↦ inl (p, ap (λ b. cond b (e + 2 * n) (e + 2 * i + 3)) (eq-eqb (i + 1) n p))
+    | inr p ↦ inr (p, ap (λ b. cond b (e + 2 * n) (e + 2 * i + 3)) (ne_eqb (i + 1) n p))
+  ]
+
+pub top_inner : (e n i : ℕ) → i + 1 < n → top_edge e n i ≡ e + 2 * i + 3
+top_inner e n i h = ap (λ b. cond b (e + 2 * n) (e + 2 * i + 3)) (ne_eqb (i + 1) n (λ s. omega arith))
+
+pub top_last : (e n i : ℕ) → i + 1 ≡ n → top_edge e n i ≡ e + 2 * n
+top_last e n i h = ap (λ b. cond b (e + 2 * n) (e + 2 * i + 3)) (eq-eqb (i + 1) n h)
+
+pub next_inner : (n i : ℕ) → i + 1 < n → next_place n i ≡ suc i
+next_inner n i h = ap (λ b. cond b 0 (i + 1)) (ne_eqb (i + 1) n (λ s. omega arith)) ∙ omega arith
+
+pub next_last : (n i : ℕ) → i + 1 ≡ n → next_place n i ≡ 0
+next_last n i h = ap (λ b. cond b 0 (i + 1)) (eq-eqb (i + 1) n h)
+
+-- ---- tails from rows
+
+pub plus_tail_at : (M : Model) (u : ℕ) (row : EdgeRow) → table.get M.edges u ≡ Some row → tail M (plus u) ≡ row.plus_tail
+plus_tail_at M u row at = tail_row M (plus u) row (ap (table.get M.edges) (plus_row u).0 ∙ at) ∙ ap (tail_in row) (plus_row u).1
+
+pub minus_tail_at : (M : Model) (u : ℕ) (row : EdgeRow) → table.get M.edges u ≡ Some row → tail M (minus u) ≡ row.minus_tail
+minus_tail_at M u row at = tail_row M (minus u) row (ap (table.get M.edges) (minus_row u).0 ∙ at) ∙ ap (tail_in row) (minus_row u).1
+
+-- ---- rows put
+
+pub put_there : {X : Type 0} (t : Table X) (n : ℕ) (x : X) → table.get (table.put t n x) n ≡ Some x
+put_there t n x = grind (arith, nat_tests, tables)
+
+pub put_other : {X : Type 0} (t : Table X) (n : ℕ) (x : X) (q : ℕ) → q ≢ n → table.get (table.put t n x) q ≡ table.get t q
+put_other t n x q ne = grind (arith, nat_tests, tables)
+
+pub put_exchanged : {X : Type 0} (t : Table X) (n k : ℕ) (x y : X) → n ≢ k → table.put (table.put t n x) k y ≡ table.put (table.put t k y) n x
+put_exchanged t n k x y ne = same_table _ _ (λ q. grind (arith, nat_tests, tables))
+
+-- a number in use isn't above all numbers in use
+pub within : {X : Type 0} (t : Table X) (k q : ℕ) → ((q : ℕ) → k < q → table.get t q ≡ None) → Has t q → q ≤ k
+within t k q above there = elim (cases_lt k q) [ inl p ↦ absurd (true≢false (sym there ∙ ap is_some (above q p))) | inr p ↦ p ]
+
+-- ---- a loop to be swept
+
+-- loop l of face f in a sound model holds the cycle hs; all numbers above those taken are free, and there are enough of them; the moved points are in range
+pub record Ready (M : Model) (c : Taken) (f l : ℕ) (d : Point) (hs : List ℕ) : Type 0 where
+  pub sound : Sound M
+  pub at : table.get M.loops l ≡ Some (record { face = f; content = cycle hs })
+  pub faces_free : (q : ℕ) → c.face < q → table.get M.faces q ≡ None
+  pub loops_free : (q : ℕ) → c.loop < q → table.get M.loops q ≡ None
+  pub edges_free : (q : ℕ) → c.edge < q → table.get M.edges q ≡ None
+  pub vertices_free : (q : ℕ) → c.vertex < q → table.get M.vertices q ≡ None
+  pub faces_left : c.face + length hs ≤ 1000000
+  pub loops_left : c.loop + length hs ≤ 1000000
+  pub edges_left : c.edge + 2 * length hs ≤ 1000000
+  pub vertices_left : c.vertex + length hs ≤ 1000000
+  pub points_fit : (h : ℕ) → IsIn h hs → IsInRange (moved (start M h) d)
+
+module _ (M : Model) (c : Taken) (f l : ℕ) (d : Point) (hs : List ℕ) (w : Ready M c f l d hs) where
+  abbrev pub n : ℕ
+  n = length hs
+
+  -- the model with the sides over the first i items
+  abbrev pub S : ℕ → Model
+  S i = with_sides c (solid_of M f) d hs i M
+
+  pub content_is : content M l ≡ cycle hs
+  content_is = content_row M l (record { face = f; content = cycle hs }) w.at
+
+  pub half_there : (h : ℕ) → IsIn h hs → HasHalf M h
+  half_there h i = w.sound.only_edges h l (ap (holds h) content_is ∙ in-holds h (cycle hs) i)
+
+  pub from_least : canonical hs ≡ hs
+  from_least = (w.sound.cycles l hs (ap is_some w.at) content_is).from_least
+
+  pub face_there : Has M.faces f
+  face_there = subst (Has M.faces) (face_row M l (record { face = f; content = cycle hs }) w.at) (w.sound.loops_of_faces l (ap is_some w.at))
+
+  -- no loop has one item alone, since an edge has two ends
+  not_one : (ks : List ℕ) → hs ≡ ks → 2 ≤ length ks
+  unfolding after
+  not_one [] e = absurd ((w.sound.cycles l hs (ap is_some w.at) content_is).some_item e)
+  not_one (h ∷ []) e =
+      let i : IsIn h hs = subst (IsIn h) (sym e) (omega (arith, tick_same h)) in
+      let at : loop_of M h ≡ l = w.sound.one_loop h l (ap (holds h) content_is ∙ in-holds h (cycle hs) i) in
+      let c : cycle_of M h ≡ h ∷ [] = ap (λ q. items_of (content M q)) at ∙ ap items_of content_is ∙ e in
+      let next : after M h ≡ h = ap (λ xs. successor xs h) c ∙ successor_head h [] in
+      absurd (w.sound.ends_differ h (half_there h i) (sym (ap (tail M) next) ∙ w.sound.ends_meet h (half_there h i)))
+  not_one (h ∷ g ∷ ks) e = omega arith
+
+  pub two_items : 2 ≤ length hs
+  two_items = not_one hs refl
+
+  -- ---- what the sides leave
+
+  pub sides_edges : (i q : ℕ) → ((j : ℕ) → j < i → (q ≢ riser c.edge j) × (q ≢ top_edge c.edge (length hs) j)) → table.get (with_sides c (solid_of M f) d hs i M).edges q ≡ table.get M.edges q
+  unfolding with_side
+  sides_edges zero q o = refl
+  sides_edges (suc i) q o =
+      let h = o i (omega arith) in
+      put_other _ _ _ q h.1 ∙ put_other _ _ _ q h.0 ∙ sides_edges i q (λ j lt. o j (omega arith))
+
+  pub sides_faces : (i q : ℕ) → ((j : ℕ) → j < i → q ≢ c.face + 1 + j) → table.get (with_sides c (solid_of M f) d hs i M).faces q ≡ table.get M.faces q
+  unfolding with_side
+  sides_faces zero q o = refl
+  sides_faces (suc i) q o = put_other _ _ _ q (o i (omega arith)) ∙ sides_faces i q (λ j lt. o j (omega arith))
+
+  pub sides_loops : (i q : ℕ) → ((j : ℕ) → j < i → q ≢ c.loop + 1 + j) → table.get (with_sides c (solid_of M f) d hs i M).loops q ≡ table.get M.loops q
+  unfolding with_side
+  sides_loops zero q o = refl
+  sides_loops (suc i) q o = put_other _ _ _ q (o i (omega arith)) ∙ sides_loops i q (λ j lt. o j (omega arith))
+
+  pub sides_vertices : (i q : ℕ) → ((j : ℕ) → j < i → q ≢ c.vertex + 1 + j) → table.get (with_sides c (solid_of M f) d hs i M).vertices q ≡ table.get M.vertices q
+  unfolding with_side
+  sides_vertices zero q o = refl
+  sides_vertices (suc i) q o = put_other _ _ _ q (o i (omega arith)) ∙ sides_vertices i q (λ j lt. o j (omega arith))
+
+  pub old_edge : (i q : ℕ) → Has M.edges q → table.get (with_sides c (solid_of M f) d hs i M).edges q ≡ table.get M.edges q
+  old_edge i q there = let b : q ≤ c.edge = within M.edges c.edge q w.edges_free there in
+      sides_edges i q (λ j lt. ((λ s. omega (arith, riser_is c.edge j)), (λ s. omega (arith, top_is c.edge (length hs) j))))
+
+  pub old_tail : (i h : ℕ) → HasHalf M h → tail (with_sides c (solid_of M f) d hs i M) h ≡ tail M h
+  unfolding tail
+  old_tail i h there = ap (λ o. tail_in (unwrap_or o no_edge) (is_first h)) (old_edge i (edge_of h) there)
+
+  pub old_point : (i v : ℕ) → Has M.vertices v → point_of (with_sides c (solid_of M f) d hs i M) v ≡ point_of M v
+  unfolding point_of
+  old_point i v there = let b : v ≤ c.vertex = within M.vertices c.vertex v w.vertices_free there in
+      ap (λ o. unwrap_or o no_point) (sides_vertices i v (λ j lt s. omega arith))
+
+  pub old_start : (i h : ℕ) → HasHalf M h → start (with_sides c (solid_of M f) d hs i M) h ≡ start M h
+  old_start i h there = ap (point_of (with_sides c (solid_of M f) d hs i M)) (old_tail i h there) ∙ old_point i (tail M h) (w.sound.tails_there h there)
+
+  pub old_solid : (i : ℕ) → solid_of (with_sides c (solid_of M f) d hs i M) f ≡ solid_of M f
+  unfolding solid_of
+  old_solid i = let b : f ≤ c.face = within M.faces c.face f w.faces_free face_there in
+      ap (λ o. (unwrap_or o no_face).solid) (sides_faces i f (λ j lt s. omega arith))

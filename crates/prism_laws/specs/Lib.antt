@@ -1,0 +1,3 @@
+pub mod SweepOps
+pub mod Part
+pub mod Laws

@@ -1,0 +1,116 @@
+-- The items of a loop that is swept, as the code holds them, and the steps that it takes with them.
+use Rattle.std.proofs.Common.{◌≡◌, ◌≢◌, ℕ, suc, zero, ◌+◌, ◌-◌, ◌<◌, ◌≤◌, List, [], ◌∷◌, ◌++◌, map, length, None, sym, ap, ◌∙◌, subst, arith}
+use Rattle.std.specs.Prelude.{get_or}
+use Rattle.std.proofs.lemmas.List.{get_or-map}
+use Rattle.lattice.specs.declared.Point.{Point}
+use Rattle.lattice.specs.Point.{IsInRange}
+use Rattle.lattice.specs.Vectors.{moved}
+use Rattle.cyclic_list.specs.Items.{IsIn}
+use Rattle.cyclic_list.proofs.Std.{IsIn-get_or}
+use Rattle.boundary_model.specs.declared.HalfEdge.{HalfEdge}
+use Rattle.boundary_model.specs.declared.Corner.TheVariants.{At}
+use Rattle.boundary_model.specs.HalfEdge.{code, half, plus}
+use Rattle.boundary_model.proofs.Halves.{half-code}
+use Rattle.boundary_model.specs.Model.{Model, LoopContent, lone, cycle, items_of}
+use Rattle.boundary_model.specs.declared.Content.{Content}
+use Rattle.boundary_model.specs.declared.Content.TheVariants.{Ring}
+use Rattle.boundary_model.specs.Sound.{HasHalf}
+use Rattle.arena_rows.specs.Store.{Tells}
+use Rattle.euler_operators.specs.declared.Op.{Op}
+use Rattle.euler_operators.specs.declared.Op.TheVariants.{Mev}
+use Rattle.euler_operators.specs.Conditions.{first_false}
+use Rattle.euler_operators.specs.Effect.{effect}
+use Rattle.euler_laws.specs.Laws.{effects}
+use Rattle.shapes.specs.Faces.{start}
+use Rattle.shapes.specs.Fresh.{Taken}
+use Rattle.shapes.specs.Prism.{riser}
+use Rattle.prism_laws.specs.SweepOps.{raise_item, close, close_last, rounds, loop_ops}
+use Rattle.prism_laws.proofs.Sides.{Ready, half_there, two_items}
+use Rattle.prism_laws.proofs.Turns.{first_accepted, turn_half, turn_range, raise_accepted, close_accepted, turn_is, last_accepted, last_is}
+
+-- what an arena answers of a loop with half-edges stands in it
+pub ring_in : (t : LoopContent) (h : HalfEdge) → Tells t (Ring h) → IsIn (code h) (items_of t)
+ring_in (lone v) h s = absurd s
+ring_in (cycle hs) h s = s
+
+-- the operator that raises an item
+pub same_raise : (M : Model) (c : Taken) (d : Point) (item : HalfEdge) (i : ℕ) (edge : HalfEdge) (p : Point) → edge ≡ half (plus (riser c.edge i)) → p ≡ moved (start M (code item)) d
+    → Mev (At item) (At item) edge (c.vertex + 1 + i) p ≡ raise_item M c d (code item) i
+same_raise M c d item i edge p e q = λ j. Mev (At (sym (half-code item) j)) (At (sym (half-code item) j)) (e j) (c.vertex + 1 + i) (q j)
+
+module _ (M : Model) (c : Taken) (f l : ℕ) (d : Point) (hs : List ℕ) (w : Ready M c f l d hs) (items : List HalfEdge) (are : map code items ≡ hs) where
+  pub how_many : length items ≡ length hs
+  how_many = sym (length_mapped items) ∙ ap length are where
+    length_mapped : (xs : List HalfEdge) → length (map code xs) ≡ length xs
+    length_mapped [] = λ i. zero
+    length_mapped (x ∷ xs) = ap suc (length_mapped xs)
+
+  pub item_is : (i : ℕ) (h : HalfEdge) → i < length hs → h ≡ get_or items i h → code h ≡ get_or hs i 0
+  item_is i h lt e = ap code e ∙ sym (get_or-map code items i h 0 (let n = how_many in omega arith)) ∙ ap (λ xs. get_or xs i 0) are
+
+  pub item_in : (i : ℕ) (h : HalfEdge) → i < length hs → h ≡ get_or items i h → IsIn (code h) hs
+  item_in i h lt e = subst (λ k. IsIn k hs) (sym (item_is i h lt e)) (IsIn-get_or hs i 0 lt)
+
+  some : 0 < length hs
+  some = let t = two_items M c f l d hs w in omega arith
+
+  -- the first item
+  module _ (h : HalfEdge) (e : h ≡ get_or items 0 h) where
+    pub there_first : HasHalf M (code h)
+    there_first = half_there M c f l d hs w (code h) (item_in 0 h some e)
+
+    pub range_first : IsInRange (moved (start M (code h)) d)
+    range_first = w.points_fit (code h) (item_in 0 h some e)
+
+    pub accepted_first : first_false M (raise_item M c d (code h) 0) ≡ None
+    accepted_first = ap (λ k. first_false M (raise_item M c d k 0)) (item_is 0 h some e) ∙ first_accepted M c f l d hs w
+
+    pub after_first : effect M (raise_item M c d (code h) 0) ≡ effects M (rounds M c d hs 0)
+    after_first = ap (λ k. effect M (raise_item M c d k 0)) (item_is 0 h some e)
+
+  -- one more
+  module _ (i : ℕ) (X : Model) (x : X ≡ effects M (rounds M c d hs i)) (lt : i + 1 < length hs) (h : HalfEdge) (e : h ≡ get_or items (i + 1) h) where
+    next : i + 1 ≡ suc i
+    next = omega arith
+
+    below : suc i < length hs
+    below = omega (arith, lt)
+
+    is_next : code h ≡ get_or hs (suc i) 0
+    is_next = item_is (i + 1) h lt e ∙ ap (λ k. get_or hs k 0) next
+
+    pub there_next : HasHalf X (code h)
+    there_next = subst (λ N. HasHalf N (code h)) (sym x) (turn_half M c f l d hs w i (omega (arith, lt)) (code h) (item_in (i + 1) h lt e))
+
+    pub range_next : IsInRange (moved (start X (code h)) d)
+    range_next = subst (λ N. IsInRange (moved (start N (code h)) d)) (sym x) (turn_range M c f l d hs w i (omega (arith, lt)) (code h) (item_in (i + 1) h lt e))
+
+    op_is : raise_item X c d (code h) (i + 1) ≡ raise_item (effects M (rounds M c d hs i)) c d (get_or hs (suc i) 0) (suc i)
+    op_is = λ j. raise_item (x j) c d (is_next j) (next j)
+
+    pub accepted_next : first_false X (raise_item X c d (code h) (i + 1)) ≡ None
+    accepted_next = (λ j. first_false (x j) (op_is j)) ∙ raise_accepted M c f l d hs w i below
+
+    module _ (Y : Model) (y : Y ≡ effect X (raise_item X c d (code h) (i + 1))) where
+      made : Y ≡ effect (effects M (rounds M c d hs i)) (raise_item (effects M (rounds M c d hs i)) c d (get_or hs (suc i) 0) (suc i))
+      made = y ∙ (λ j. effect (x j) (op_is j))
+
+      pub closes_next : first_false Y (close c (length hs) i) ≡ None
+      closes_next = ap (λ N. first_false N (close c (length hs) i)) made ∙ close_accepted M c f l d hs w i below
+
+      pub after_next : effect Y (close c (length hs) i) ≡ effects M (rounds M c d hs (i + 1))
+      after_next = ap (λ N. effect N (close c (length hs) i)) made ∙ turn_is M c f l d hs w i below ∙ ap (λ k. effects M (rounds M c d hs k)) (sym next)
+
+  -- the last side
+  module _ (i : ℕ) (X : Model) (x : X ≡ effects M (rounds M c d hs i)) (inside : i < length hs) (ends : length hs ≤ i + 1) where
+    at_end : i ≡ length hs - 1
+    at_end = omega (arith, inside, ends)
+
+    all_rounds : X ≡ effects M (rounds M c d hs (length hs - 1))
+    all_rounds = x ∙ ap (λ k. effects M (rounds M c d hs k)) at_end
+
+    pub closes_last : first_false X (close_last c (length hs) (length hs - 1)) ≡ None
+    closes_last = ap (λ N. first_false N (close_last c (length hs) (length hs - 1))) all_rounds ∙ last_accepted M c f l d hs w
+
+    pub after_last : effect X (close_last c (length hs) (length hs - 1)) ≡ effects M (loop_ops M c d hs)
+    after_last = ap (λ N. effect N (close_last c (length hs) (length hs - 1))) all_rounds ∙ last_is M c f l d hs w

@@ -1,0 +1,25 @@
+use Rattle.std.proofs.Common.{◌≡◌, ◌∙◌, ap, sym, subst, None, true}
+use Rattle.lattice.specs.Vectors.{moved}
+use Rattle.boundary_model.specs.HalfEdge.{code, half, plus}
+use Rattle.boundary_model.specs.Model.{has_half, point_of}
+use Rattle.boundary_model.specs.Sound.{Has}
+use Rattle.euler_operators.specs.Conditions.{first_false}
+use Rattle.shapes.specs.Faces.{start}
+use Rattle.std.specs.Result.{OnOk}
+use Rattle.undo_journal.specs.Machine.{draft_step}
+use Rattle.sweeps.specs.Counters.{taken_of}
+use Rattle.sweeps.proofs.RaisedItems.{same_raise}
+use Rattle.sweeps.proofs.raising.raise_item.Goals as goal
+
+pub point-requires : goal.point-requires
+point-requires c =
+    let there = subst (λ X. has_half X (code c.args.item) ≡ true) (sym c.arena-arena.ensures.model) c.requires.there in
+    subst (Has c.arena-arena.result.now.model.vertices) (sym c.tail.ensures) (c.arena-arena.ensures.ready.sound.tails_there (code c.args.item) there)
+
+pub take-requires : goal.take-requires
+take-requires c = ap (first_false c.args.draft.now.model) (same_raise c.args.draft.now.model (taken_of c.args.taken.now) c.args.d c.args.item c.args.i c.plus-edge.result c.sum-top.result
+    (c.plus-edge.ensures ∙ ap (λ e. half (plus e)) c.riser.ensures) (c.sum-top.ensures ∙ ap (λ p. moved p c.args.d) (c.point.ensures.point ∙ ap (point_of c.arena-arena.result.now.model) c.tail.ensures ∙ ap (λ X. start X (code c.args.item)) c.arena-arena.ensures.model))) ∙ c.requires.accepted
+
+pub returns-clause-ok : goal.returns-clause-ok
+returns-clause-ok c = subst (λ op. OnOk c.take.result (c.take.new.draft ≡ draft_step c.args.draft.now op)) (same_raise c.args.draft.now.model (taken_of c.args.taken.now) c.args.d c.args.item c.args.i c.plus-edge.result c.sum-top.result
+    (c.plus-edge.ensures ∙ ap (λ e. half (plus e)) c.riser.ensures) (c.sum-top.ensures ∙ ap (λ p. moved p c.args.d) (c.point.ensures.point ∙ ap (point_of c.arena-arena.result.now.model) c.tail.ensures ∙ ap (λ X. start X (code c.args.item)) c.arena-arena.ensures.model))) c.take.ensures.ok

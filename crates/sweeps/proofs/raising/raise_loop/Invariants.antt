@@ -1,0 +1,16 @@
+use Rattle.std.proofs.Common.{◌≡◌, ◌<◌, ◌-◌, length}
+use Rattle.boundary_model.specs.Model.{items_of, content}
+use Rattle.euler_laws.specs.Laws.{effects}
+use Rattle.prism_laws.specs.SweepOps.{rounds}
+use Rattle.sweeps.specs.Counters.{taken_of}
+use Rattle.sweeps.proofs.raising.raise_loop.Given as goal
+
+abbrev pub invariant-items : goal.invariant-items
+invariant-items l = record {
+  inside : l.done < length (items_of (content l.fn.draft.model l.l));
+  model : l.draft.model ≡ effects l.fn.draft.model (rounds l.fn.draft.model (taken_of l.taken) l.d (items_of (content l.fn.draft.model l.l)) l.done);
+  session : l.draft.session ≡ l.fn.draft.session;
+}
+
+abbrev pub decreases-items : goal.decreases-items
+decreases-items l = length (items_of (content l.fn.draft.model l.l)) - l.done

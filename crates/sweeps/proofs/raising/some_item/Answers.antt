@@ -1,0 +1,22 @@
+use Rattle.std.proofs.Common.{◌∙◌, ap, sym, subst, refl}
+use Rattle.cyclic_list.specs.Items.{IsIn}
+use Rattle.boundary_model.specs.HalfEdge.{code}
+use Rattle.boundary_model.specs.Model.{content, items_of}
+use Rattle.boundary_model.specs.Sound.{StandsIn}
+use Rattle.boundary_model.proofs.Models.{in-holds}
+use Rattle.arena_rows.specs.Store.{Tells}
+use Rattle.sweeps.proofs.RaisedItems.{ring_in}
+use Rattle.sweeps.proofs.raising.some_item.Goals as goal
+use Rattle.sweeps.proofs.raising.some_item.Goals.{In-Ring}
+
+pub content-requires-clause-filled : goal.content-requires-clause-filled
+content-requires-clause-filled c e = (c.requires.ready.sound.cycles c.args.l _ c.requires.there e).some_item refl
+
+stands : (c : In-Ring) → StandsIn c.args.arena.now.model (code c.in-Ring.h) c.args.l
+stands c = in-holds (code c.in-Ring.h) (content c.args.arena.now.model c.args.l) (ring_in (content c.args.arena.now.model c.args.l) c.in-Ring.h (subst (Tells (content c.args.arena.now.model c.args.l)) c.in-Ring.is c.content.ensures))
+
+pub returns-clause-there : goal.returns-clause-there
+returns-clause-there c = c.requires.ready.sound.only_edges (code c.in-Ring.h) c.args.l (stands c)
+
+pub returns-clause-inside : goal.returns-clause-inside
+returns-clause-inside c = ap (λ q. items_of (content c.args.arena.now.model q)) (c.requires.ready.sound.one_loop (code c.in-Ring.h) c.args.l (stands c))

@@ -1,0 +1,205 @@
+//! A face swept operator by operator in a draft.
+ghost use Rattle.std.specs.Prelude.{◌≡◌, ◌≤◌, ◌<◌, ◌+◌, ◌-◌, ◌*◌, true, false, None, OnOk, OnErr, IfOk, length, map};
+ghost use Rattle.lattice.specs.Point.{IsInRange};
+ghost use Rattle.lattice.specs.Vectors.{moved};
+ghost use Rattle.boundary_model.specs.HalfEdge as half_edge;
+ghost use Rattle.boundary_model.specs.HalfEdge.{code, half};
+ghost use Rattle.boundary_model.specs.Model.{has_half, items_of, content, face_of, cycle_of};
+ghost use Rattle.euler_conditions.specs.Ready.{IsReady};
+ghost use Rattle.halfedge_arena.specs.Store.{has_number};
+ghost use Rattle.euler_laws.specs.Laws.{effects};
+ghost use Rattle.euler_operators.specs.Conditions.{first_false, is_lone};
+ghost use Rattle.undo_journal.specs.Machine.{draft_step};
+ghost use Rattle.shapes.specs.Faces.{start};
+ghost use Rattle.shapes.specs.Prism as prism;
+ghost use Rattle.shapes.specs.Prism.{prism_refusal, prism_model};
+ghost use Rattle.prism_laws.specs.SweepOps as ops;
+ghost use Rattle.prism_laws.proofs.Sides.{Ready};
+ghost use Rattle.sweeps.specs.Counters.{taken_of};
+
+use crate::fresh::{Counters, counters_of};
+use crate::steps::take;
+use euler_conditions::Op;
+use face_walks::{face_loops, items_from};
+use halfedge_arena::{Arena, Content, Corner, HalfEdge, Kind};
+use lattice::{Point, sum};
+use std::alloc::{AllocError, Global};
+use undo_journal::Draft;
+
+/// The first half-edge of an edge.
+fn plus(edge: u32) -> HalfEdge
+    ensures { result ≡ half (half_edge.plus edge) }
+{
+    HalfEdge { edge, first: true }
+}
+
+/// The second half-edge of an edge.
+fn minus(edge: u32) -> HalfEdge
+    ensures { result ≡ half (half_edge.minus edge) }
+{
+    HalfEdge { edge, first: false }
+}
+
+/// The edge that rises at item i of a loop.
+fn riser(taken: &Counters, i: u32) -> u32
+    requires { taken.now.edges + 2 * i + 1 ≤ 1000000 }
+    ensures { result ≡ prism.riser taken.now.edges i }
+{
+    if i == 0 {
+        taken.edges + 1
+    } else {
+        taken.edges + 2 * i
+    }
+}
+
+/// The edge over item i of a loop of so many items.
+fn top_edge(taken: &Counters, count: u32, i: u32) -> u32
+    requires inside { i < count }
+    requires left { taken.now.edges + 2 * count ≤ 1000000 }
+    ensures { result ≡ prism.top_edge taken.now.edges count i }
+{
+    if i + 1 == count {
+        taken.edges + 2 * count
+    } else {
+        taken.edges + 2 * i + 3
+    }
+}
+
+/// Some half-edge of loop l, which isn't lone.
+fn some_item(arena: &Arena, l: u32) -> HalfEdge
+    requires there { has_number arena.now Kind.Loop l ≡ true }
+    requires ready { IsReady arena.now }
+    requires held { is_lone (content arena.now.model l) ≡ false }
+    ensures there { has_half arena.now.model (code result) ≡ true }
+    ensures inside { cycle_of arena.now.model (code result) ≡ items_of (content arena.now.model l) }
+{
+    match arena.content(l) {
+        Content::Ring(h) => h,
+        Content::Lone(_) => unreachable!(),
+    }
+}
+
+/// The half-edges of loop l, which isn't lone, in the order of listings.
+fn loop_items(alloc: Global, arena: &Arena, l: u32) -> Result<Vec<HalfEdge>, AllocError>
+    requires there { has_number arena.now Kind.Loop l ≡ true }
+    requires ready { IsReady arena.now }
+    requires held { is_lone (content arena.now.model l) ≡ false }
+    ensures { IfOk result (λ items. map code items.items ≡ items_of (content arena.now.model l)) }
+{
+    items_from(alloc, arena, some_item(arena, l))
+}
+
+/// Raises an item, the one at place i of its loop: a new edge rises from its start to the moved point.
+fn raise_item(
+    draft: &mut Draft,
+    taken: &Counters,
+    item: HalfEdge,
+    i: u32,
+    d: Point,
+) -> Result<(), AllocError>
+    requires there { has_half draft.old.model (code item) ≡ true }
+    requires edge_left { taken.now.edges + 2 * i + 1 ≤ 1000000 }
+    requires vertex_left { taken.now.vertices + 1 + i ≤ 1000000 }
+    requires range { IsInRange (moved (start draft.old.model (code item)) d) }
+    requires accepted { first_false draft.old.model (ops.raise_item draft.old.model (taken_of taken.now) d (code item) i) ≡ None }
+    ensures ok { OnOk result (draft.new ≡ draft_step draft.old (ops.raise_item draft.old.model (taken_of taken.now) d (code item) i)) }
+    ensures err { OnErr result (draft.new ≡ draft.old) }
+{
+    let arena = draft.arena();
+    let top = sum(arena.point(arena.tail(item)), d);
+    let edge = plus(riser(taken, i));
+    let vertex = taken.vertices + 1 + i;
+    take(draft, Op::Mev(Corner::At(item), Corner::At(item), edge, vertex, top))
+}
+
+/// Closes the side over item i of a loop, between the edges that rise at it and at the next.
+fn close_side(draft: &mut Draft, taken: &Counters, count: u32, i: u32) -> Result<(), AllocError>
+    requires inside { i + 1 < count }
+    requires faces_left { taken.now.faces + count ≤ 1000000 }
+    requires loops_left { taken.now.loops + count ≤ 1000000 }
+    requires edges_left { taken.now.edges + 2 * count ≤ 1000000 }
+    requires accepted { first_false draft.old.model (ops.close (taken_of taken.now) count i) ≡ None }
+    ensures ok { OnOk result (draft.new ≡ draft_step draft.old (ops.close (taken_of taken.now) count i)) }
+    ensures err { OnErr result (draft.new ≡ draft.old) }
+{
+    let from = minus(riser(taken, i));
+    let to = minus(riser(taken, i + 1));
+    let top = plus(top_edge(taken, count, i));
+    take(draft, Op::Mef(from, to, top, taken.faces + 1 + i, taken.loops + 1 + i))
+}
+
+/// Closes the side over the last item of a loop, up to the first top edge.
+fn close_last(draft: &mut Draft, taken: &Counters, count: u32) -> Result<(), AllocError>
+    requires some { 2 ≤ count }
+    requires faces_left { taken.now.faces + count ≤ 1000000 }
+    requires loops_left { taken.now.loops + count ≤ 1000000 }
+    requires edges_left { taken.now.edges + 2 * count ≤ 1000000 }
+    requires accepted { first_false draft.old.model (ops.close_last (taken_of taken.now) count (count - 1)) ≡ None }
+    ensures ok { OnOk result (draft.new ≡ draft_step draft.old (ops.close_last (taken_of taken.now) count (count - 1))) }
+    ensures err { OnErr result (draft.new ≡ draft.old) }
+{
+    let last = count - 1;
+    let from = minus(riser(taken, last));
+    let to = plus(top_edge(taken, count, 0));
+    let top = plus(top_edge(taken, count, last));
+    take(draft, Op::Mef(from, to, top, taken.faces + 1 + last, taken.loops + 1 + last))
+}
+
+/// Sweeps loop l and answers how many items it had.
+fn raise_loop(
+    alloc: Global,
+    draft: &mut Draft,
+    taken: &Counters,
+    l: u32,
+    d: Point,
+) -> Result<u32, AllocError>
+    requires { Ready draft.old.model (taken_of taken.now) (face_of draft.old.model l) l d (items_of (content draft.old.model l)) }
+    ensures count { IfOk result (λ count. count ≡ length (items_of (content draft.old.model l))) }
+    ensures ok { OnOk result (draft.new ≡ record draft.old { model = effects draft.old.model (ops.loop_ops draft.old.model (taken_of taken.now) d (items_of (content draft.old.model l))) }) }
+    ensures err { OnErr result (draft.new.session ≡ draft.old.session) }
+{
+    let items = loop_items(alloc, draft.arena(), l)?;
+    let count = items.len() as u32;
+    raise_item(draft, taken, items[0], 0, d)?;
+    let mut done = 0;
+    'items: while done + 1 < count {
+        raise_item(draft, taken, items[done as usize + 1], done + 1, d)?;
+        close_side(draft, taken, count, done)?;
+        done += 1;
+    }
+    close_last(draft, taken, count)?;
+    Ok(count)
+}
+
+/// The counters once a loop of so many items is swept.
+fn counted_on(taken: &Counters, count: u32) -> Counters
+    requires faces_left { taken.now.faces + count ≤ 1000000 }
+    requires loops_left { taken.now.loops + count ≤ 1000000 }
+    requires edges_left { taken.now.edges + 2 * count ≤ 1000000 }
+    requires vertices_left { taken.now.vertices + count ≤ 1000000 }
+    ensures { taken_of result ≡ ops.taken_after (taken_of taken.now) count }
+{
+    Counters {
+        faces: taken.faces + count,
+        loops: taken.loops + count,
+        edges: taken.edges + 2 * count,
+        vertices: taken.vertices + count,
+    }
+}
+
+/// Sweeps face f of the draft's model along d, where that isn't refused. On `AllocError` the draft may have taken some steps.
+pub(crate) fn raise(alloc: Global, draft: &mut Draft, f: u32, d: Point) -> Result<(), AllocError>
+    requires { prism_refusal draft.old.model f d ≡ None }
+    ensures ok { OnOk result (draft.new ≡ record draft.old { model = prism_model draft.old.model f d }) }
+    ensures err { OnErr result (draft.new.session ≡ draft.old.session) }
+{
+    let mut taken = counters_of(draft.arena());
+    let loops = face_loops(alloc, draft.arena(), f)?;
+    let mut rest = loops.as_slice();
+    'loops: while let [l, others @ ..] = rest {
+        let count = raise_loop(alloc, draft, &taken, *l, d)?;
+        taken = counted_on(&taken, count);
+        rest = others;
+    }
+    Ok(())
+}
