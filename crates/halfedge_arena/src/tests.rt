@@ -115,6 +115,72 @@ fn reads_wire(rt: &impl Abort, arena: &Arena) {
     assert_eq!(rt; arena.point(2).x, 5);
 }
 
+/// A new face of a solid, whose outer loop has the face's number.
+fn put_face_of(rt: &impl Abort, arena: &mut Arena, f: u32, solid: u32) {
+    assert!(rt;
+        arena.has_room(Kind::Face, f)
+            && !arena.has(Kind::Face, f)
+            && arena.has_room(Kind::Solid, solid)
+    );
+    arena.put_face(f, solid, f);
+}
+
+fn put_loop_of(rt: &impl Abort, arena: &mut Arena, l: u32, f: u32) {
+    assert!(rt;
+        arena.has_room(Kind::Loop, l) && !arena.has(Kind::Loop, l) && arena.has_room(Kind::Face, f)
+    );
+    arena.put_loop(l, f);
+}
+
+#[test]
+fn faces_and_rings_in_order(rt: HostRuntime) -> Result<(), Fail> {
+    let mut arena = Arena::new(rt.alloc());
+    arena.room_for(Kind::Solid, 2)?;
+    arena.room_for(Kind::Face, 4)?;
+    arena.room_for(Kind::Loop, 9)?;
+    for f in [2, 4, 3] {
+        put_face_of(&rt, &mut arena, f, 1);
+    }
+    for l in [9, 2, 5, 7] {
+        put_loop_of(&rt, &mut arena, l, 2);
+    }
+    assert_eq!(rt;
+        [
+            arena.face_after(1, 0),
+            arena.face_after(1, 2),
+            arena.face_after(1, 3)
+        ],
+        [Some(2), Some(3), Some(4)]
+    );
+    assert!(rt; arena.has(Kind::Face, 2));
+    assert_eq!(rt;
+        [
+            arena.ring_after(2, 0),
+            arena.ring_after(2, 6),
+            arena.ring_after(2, 9)
+        ],
+        [Some(5), Some(7), None]
+    );
+    assert!(rt; arena.has(Kind::Face, 3) && arena.has_room(Kind::Solid, 2));
+    arena.set_solid(3, 2);
+    assert_eq!(rt;
+        [
+            arena.face_after(1, 2),
+            arena.only_face(2),
+            arena.only_face(1)
+        ],
+        [Some(4), Some(3), None]
+    );
+    assert!(rt; arena.has(Kind::Loop, 7) && arena.has_room(Kind::Face, 3));
+    arena.set_face(7, 3);
+    assert!(rt; arena.has(Kind::Face, 2) && arena.has(Kind::Face, 3));
+    assert_eq!(rt;
+        [arena.ring_after(2, 5), arena.ring_after(3, 0)],
+        [Some(9), Some(7)]
+    );
+    Ok(())
+}
+
 #[test]
 fn wire_and_its_copy(rt: HostRuntime) -> Result<(), Fail> {
     let mut arena = roomy(rt.alloc())?;
