@@ -1,6 +1,6 @@
 -- Each operator of a lamina is accepted, and leads from one model of the path to the next.
 use Rattle.std.specs.Prelude.{map, reverse, length, get_or, nat_eq, ◌-◌}
-use Rattle.std.proofs.Common.{◌≡◌, ◌≢◌, ℕ, zero, suc, ◌+◌, ◌*◌, ◌≤◌, ◌<◌, Bool, true, false, cond, List, [], ◌∷◌, ◌++◌, Option, Some, None, unwrap_or, is_some, refl, sym, ap, subst, ◌∙◌, arith, IsTrue}
+use Rattle.std.proofs.Common.{◌≡◌, ◌≢◌, ℕ, zero, suc, ◌+◌, ◌≤◌, ◌<◌, true, cond, List, [], ◌∷◌, ◌++◌, Some, None, unwrap_or, is_some, refl, sym, ap, ◌∙◌, arith, IsTrue}
 use Rattle.std.proofs.lemmas.Bool.Decides.{nat_tests}
 use Rattle.lattice.specs.declared.Point.{Point}
 use Rattle.lattice.specs.Point.{IsInRange}
@@ -9,11 +9,11 @@ use Rattle.cyclic_list.specs.Rings.{canonical, upto, onward}
 use Rattle.cyclic_list.specs.Rings as rings
 use Rattle.cyclic_list.specs.Edits.{insert_before}
 use Rattle.cyclic_list.proofs.Lists.{count-append, tick_same}
-use Rattle.boundary_model.specs.HalfEdge.{code, mate, edge_of, is_first, plus, minus}
+use Rattle.boundary_model.specs.HalfEdge.{code, mate, edge_of, plus, minus}
 use Rattle.boundary_model.specs.Table as table
 use Rattle.boundary_model.specs.Table.{Table}
-use Rattle.boundary_model.specs.Model.{Model, LoopContent, lone, cycle, FaceRow, LoopRow, EdgeRow, no_point, no_face, no_loop, items_of, tail_in, content, face_of, solid_of, outer, tail, loop_of, cycle_of, arc, holds, is_number}
-use Rattle.boundary_model.specs.Sound.{Sound, Has, HasHalf, StandsIn}
+use Rattle.boundary_model.specs.Model.{Model, LoopContent, cycle, EdgeRow, no_point, no_face, items_of, tail_in, content, face_of, solid_of, outer, tail, loop_of, cycle_of, arc, holds, is_number}
+use Rattle.boundary_model.specs.Sound.{Sound}
 use Rattle.boundary_model.proofs.Halves.{plus_row, minus_row}
 use Rattle.boundary_model.proofs.Models.{in-holds, holds-none, not_held, content_row, face_row, tail_row}
 use Rattle.boundary_model.proofs.Tables.{map_same}
@@ -31,7 +31,7 @@ use Rattle.fresh_laws.proofs.Tests.{Left, number_fits}
 use Rattle.shapes.specs.Fresh.{Taken, numbers_after}
 use Rattle.shapes.specs.Lamina.{with_points, with_path, with_ring, lamina_at}
 use Rattle.lamina_laws.specs.Path.{out, back, path_content, path_at, first_half, second_half, first_point, next_point, last_edge}
-use Rattle.lamina_laws.proofs.Lists.{two_halves, longer_plus, longer_minus, ring_plus, ring_minus, no_minus, out_first, plus_halves, minus_halves}
+use Rattle.lamina_laws.proofs.Lists.{two_halves, longer_plus, longer_minus, ring_plus, ring_minus, out_first, plus_halves, minus_halves}
 
 -- ---- the tables of a path
 

@@ -1,14 +1,13 @@
 -- From the conditions of a lamina: its operators in order, and the model that they leave.
-use Rattle.std.specs.Prelude.{length, get_or, nat_eq, nat_le, ◌-◌}
-use Rattle.std.proofs.Common.{◌≡◌, ◌≢◌, ℕ, zero, suc, ◌+◌, ◌≤◌, ◌<◌, Bool, true, false, cond, not, List, [], ◌∷◌, ◌++◌, None, refl, sym, ap, subst, ◌∙◌, arith, IsTrue}
+use Rattle.std.specs.Prelude.{length, get_or, nat_le, ◌-◌}
+use Rattle.std.proofs.Common.{◌≡◌, ℕ, zero, suc, ◌+◌, ◌≤◌, ◌<◌, true, false, cond, List, [], ◌∷◌, ◌++◌, None, refl, sym, ap, subst, ◌∙◌, arith}
 use Rattle.std.proofs.lemmas.Bool.Decides.{nat_tests}
 use Rattle.lattice.specs.declared.Point.{Point}
 use Rattle.lattice.specs.Point.{is_in_range}
-use Rattle.boundary_model.specs.Table as table
 use Rattle.boundary_model.specs.Model.{Model, no_point}
 use Rattle.boundary_model.specs.Sound.{Sound}
 use Rattle.euler_operators.specs.declared.Op.{Op}
-use Rattle.euler_operators.specs.Conditions.{first_false, numbers_in_range}
+use Rattle.euler_operators.specs.Conditions.{first_false}
 use Rattle.euler_operators.specs.Effect.{effect}
 use Rattle.euler_laws_shared.proofs.Goes.{all_hold, not_true, free, equal}
 use Rattle.euler_laws.proofs.Cases.{effect_keeps_sound}

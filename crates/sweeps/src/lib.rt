@@ -4,5 +4,7 @@
 mod fresh;
 mod laminas;
 mod steps;
+#[cfg(test)]
+mod tests;
 
 pub use laminas::lamina;
