@@ -134,14 +134,33 @@ blocks_have_bases M s p dx dy dz e =
     let x_grows = grown_other p.x dx w.1.1.0 in
     let y_grows = grown_other p.y dy w.1.1.1.0 in
     let near = all_near p b g h w.1.1.1.1.1.0
-          (in_range b (p.x +ℤ dx) p.y p.z refl (add_none p.y) (add_none p.z) r.qx r.py r.pz)
-          (in_range g (p.x +ℤ dx) (p.y +ℤ dy) p.z refl refl (add_none p.z) r.qx r.qy r.pz)
-          (in_range h p.x (p.y +ℤ dy) p.z (add_none p.x) refl (add_none p.z) r.px r.qy r.pz) in
+    (in_range b (p.x +ℤ dx) p.y p.z refl (add_none p.y) (add_none p.z) r.qx r.py r.pz)
+    (in_range g (p.x +ℤ dx) (p.y +ℤ dy) p.z refl refl (add_none p.z) r.qx r.qy r.pz)
+    (in_range h p.x (p.y +ℤ dy) p.z (add_none p.x) refl (add_none p.z) r.px r.qy r.pz) in
     let apart = none_repeated p b g h (other_x b p x_grows) (other_x g p x_grows) (other_y g b (λ t. y_grows (t ∙ add_none p.y)))
-          (other_y h p y_grows) (other_x h b (λ t. x_grows (sym t ∙ add_none p.x))) (other_x h g (λ t. x_grows (sym t ∙ add_none p.x))) in
-    none_refuses (lamina_conditions M s (base_of p dx dy)) (w.0, (w.1.0, (refl, (equals _ _ near, (equals _ _ apart,
-      (fewer (taken_in M).face 6 2 (omega arith) left.0, (fewer (taken_in M).loop 6 2 (omega arith) left.1.0,
-      (fewer (taken_in M).edge 12 4 (omega arith) left.1.1.0, (fewer (taken_in M).vertex 8 4 (omega arith) left.1.1.1.0, tt)))))))))
+    (other_y h p y_grows) (other_x h b (λ t. x_grows (sym t ∙ add_none p.x))) (other_x h g (λ t. x_grows (sym t ∙ add_none p.x))) in
+    none_refuses (lamina_conditions M s (base_of p dx dy)) (
+      w.0,
+      (
+        w.1.0,
+        (
+          refl,
+          (
+            equals _ _ near,
+            (
+              equals _ _ apart,
+              (
+                fewer (taken_in M).face 6 2 (omega arith) left.0,
+                (
+                  fewer (taken_in M).loop 6 2 (omega arith) left.1.0,
+                  (fewer (taken_in M).edge 12 4 (omega arith) left.1.1.0, (fewer (taken_in M).vertex 8 4 (omega arith) left.1.1.1.0, tt)),
+                ),
+              ),
+            ),
+          ),
+        ),
+      ),
+    )
 
 -- ---- the tables of a lamina
 
@@ -243,6 +262,7 @@ module _ (M : Model) (sound : Sound M) (c : Taken) (is : c ≡ taken_in M) (s : 
   ])) where
     other : (k f : ℕ) → f ≡ k + 2 → f ≡ k + 1 → ⊥
     other k f p e = absurd (omega arith)
+
     low : (k f : ℕ) → f ≤ k → f ≡ k + 1 → ⊥
     low k f p e = absurd (omega arith)
 
@@ -298,7 +318,7 @@ module _ (M : Model) (sound : Sound M) (c : Taken) (is : c ≡ taken_in M) (s : 
       first_such (λ v. not (is_in_range (moved (point_of base v) d))) base_vertices ≡ 0
   all_in_range d ra rb rg rh =
       (λ i. cond (not (is_in_range (moved (point_at 0 (omega arith) i) d))) (c.vertex + 1) (cond (not (is_in_range (moved (point_at 1 (omega arith) i) d))) (c.vertex + 2)
-        (cond (not (is_in_range (moved (point_at 2 (omega arith) i) d))) (c.vertex + 3) (cond (not (is_in_range (moved (point_at 3 (omega arith) i) d))) (c.vertex + 4) 0))))
+      (cond (not (is_in_range (moved (point_at 2 (omega arith) i) d))) (c.vertex + 3) (cond (not (is_in_range (moved (point_at 3 (omega arith) i) d))) (c.vertex + 4) 0))))
       ∙ (λ i. cond (not (ra i)) (c.vertex + 1) (cond (not (rb i)) (c.vertex + 2) (cond (not (rg i)) (c.vertex + 3) (cond (not (rh i)) (c.vertex + 4) 0))))
 
   base_left : Left c 6 6 12 8 → Left (taken_in base) 4 4 8 4
@@ -312,9 +332,11 @@ module _ (M : Model) (sound : Sound M) (c : Taken) (is : c ≡ taken_in M) (s : 
     greatest_faces : table.greatest base.faces ≡ c.face + 2
     greatest_faces = greatest-put_last (table.put M.faces (c.face + 1) first_face) (c.face + 2) second_face
         (omega (arith, greatest-put_last M.faces (c.face + 1) first_face (omega (arith, greatest_face))))
+
     greatest_loops : table.greatest base.loops ≡ c.loop + 2
     greatest_loops = greatest-put_last (table.put M.loops (c.loop + 1) first_loop) (c.loop + 2) second_loop
         (omega (arith, greatest-put_last M.loops (c.loop + 1) first_loop (omega (arith, greatest_loop))))
+
     greatest_edges : table.greatest base.edges ≡ c.edge + 4
     greatest_edges = greatest-put_last (with_path M.edges c.edge c.vertex 3) (c.edge + 4) ring_row (omega (arith, greatest-with_path M.edges c.edge c.vertex 3 greatest_edge))
 
@@ -322,8 +344,16 @@ module _ (M : Model) (sound : Sound M) (c : Taken) (is : c ≡ taken_in M) (s : 
       Left c 6 6 12 8 → prism_refusal base (c.face + 1) d ≡ None
   unfolding prism_conditions
   rises d apart ra rb rg rh left = ap (λ vs. first_refusal (swept_conditions d vs)) corners_are
-      ∙ none_refuses (swept_conditions d base_vertices) (number_fits (c.face + 1) (omega arith) (omega (arith, left.faces)), (ap is_some face_one, (ap not apart,
-        (equals _ _ none_lone, (equals _ _ (all_in_range d ra rb rg rh), left_numbers_hold (taken_in base) 4 4 8 4 (base_left left))))))
+      ∙ none_refuses (swept_conditions d base_vertices) (
+        number_fits (c.face + 1) (omega arith) (omega (arith, left.faces)),
+        (
+          ap is_some face_one,
+          (
+            ap not apart,
+            (equals _ _ none_lone, (equals _ _ (all_in_range d ra rb rg rh), left_numbers_hold (taken_in base) 4 4 8 4 (base_left left))),
+          ),
+        ),
+      )
 
 pub bases_rise : BasesRise
 unfolding block_conditions lamina_model

@@ -211,7 +211,7 @@ module _ (M : Model) (c : Taken) (s : ℕ) (ps : List Point) (n : ℕ) (goes : G
     faces = table.put M.faces (c.face + 1) (record { solid = s; outer = c.loop + 1 });
     loops = second_loop i;
     edges = second_edge i;
-    vertices = with_points M.vertices c.vertex ps 2
+    vertices = with_points M.vertices c.vertex ps 2;
   }
 
   -- ---- a further point
@@ -277,7 +277,7 @@ module _ (M : Model) (c : Taken) (s : ℕ) (ps : List Point) (n : ℕ) (goes : G
       faces = table.put M.faces (c.face + 1) (record { solid = s; outer = c.loop + 1 });
       loops = further_loop i;
       edges = further_edges i;
-      vertices = with_points M.vertices c.vertex ps (suc (suc (suc j)))
+      vertices = with_points M.vertices c.vertex ps (suc (suc (suc j)));
     }
 
   -- ---- the last edge
@@ -360,12 +360,12 @@ module _ (M : Model) (c : Taken) (s : ℕ) (ps : List Point) (n : ℕ) (goes : G
     -- the lamina over n points
     abbrev pub closed_at : ℕ → Model
     closed_at k = record {
-        solids = table.put M.solids s tt;
-        faces = table.put (table.put M.faces (c.face + 1) (record { solid = s; outer = c.loop + 1 })) (c.face + 2) (record { solid = s; outer = c.loop + 2 });
-        loops = table.put (table.put M.loops (c.loop + 1) (record { face = c.face + 1; content = cycle (map plus (numbers_after c.edge k)) })) (c.loop + 2) (record { face = c.face + 2; content = cycle (canonical (reverse (map minus (numbers_after c.edge k)))) });
-        edges = with_ring M.edges c.edge c.vertex k;
-        vertices = with_points M.vertices c.vertex ps k
-      }
+      solids = table.put M.solids s tt;
+      faces = table.put (table.put M.faces (c.face + 1) (record { solid = s; outer = c.loop + 1 })) (c.face + 2) (record { solid = s; outer = c.loop + 2 });
+      loops = table.put (table.put M.loops (c.loop + 1) (record { face = c.face + 1; content = cycle (map plus (numbers_after c.edge k)) })) (c.loop + 2) (record { face = c.face + 2; content = cycle (canonical (reverse (map minus (numbers_after c.edge k)))) });
+      edges = with_ring M.edges c.edge c.vertex k;
+      vertices = with_points M.vertices c.vertex ps k;
+    }
 
     closes : mef (path_at M c s ps (suc j)) (minus (c.edge + suc j)) (plus (c.edge + 1)) (plus (c.edge + suc (suc j))) (c.face + 2) (c.loop + 2) ≡ closed_at (suc (suc j))
     unfolding mef path_at
@@ -374,7 +374,7 @@ module _ (M : Model) (c : Taken) (s : ℕ) (ps : List Point) (n : ℕ) (goes : G
       faces = last_faces i;
       loops = table.put (old_loop i) (c.loop + 2) (record { face = c.face + 2; content = cycle (new_list i) });
       edges = last_edges i;
-      vertices = with_points M.vertices c.vertex ps (suc (suc j))
+      vertices = with_points M.vertices c.vertex ps (suc (suc j));
     }
 
     pub last_made : length ps ≡ suc (suc j) → effect (path_at M c s ps (suc j)) (last_edge c (suc j)) ≡ lamina_at M c s ps

@@ -90,16 +90,17 @@ module _ (M : Model) (c : Taken) (s : ℕ) (ps : List Point) (n : ℕ) (goes : G
   walked zero l = (tt, refl)
   walked (suc j) l =
       let so_far = walked j (omega (arith, l)) in
-      let accepted : first_false (path_at M c s ps j) (next_point c ps j) ≡ None = next_accepted M c s ps n goes j l (path_sound M c s ps n goes j (omega (arith, l))) in
-      (
+      let accepted : first_false (path_at M c s ps j) (next_point c ps j) ≡ None = next_accepted M c s ps n goes j l (path_sound M c s ps n goes j (omega (arith, l))) in (
         accepted-append (path_at M c s ps 0) (further_points c ps j) (next_point c ps j ∷ []) so_far.0 (subst (λ N. AreAccepted N (next_point c ps j ∷ [])) (sym so_far.1) (accepted, tt)),
-        effects-append (path_at M c s ps 0) (further_points c ps j) (next_point c ps j ∷ []) ∙ ap (λ N. effect N (next_point c ps j)) so_far.1 ∙ next_made M c s ps n goes j
+        effects-append (path_at M c s ps 0) (further_points c ps j) (next_point c ps j ∷ []) ∙ ap (λ N. effect N (next_point c ps j)) so_far.1 ∙ next_made M c s ps n goes j,
       )
 
   all_accepted : (j : ℕ) → n ≡ suc j → AreAccepted M (first_point c s ps ∷ further_points c ps j ++ last_edge c j ∷ [])
-  all_accepted j all = let way = walked j (omega (arith, all)) in
-      (first_accepted M c s ps n goes, subst (λ N. AreAccepted N (further_points c ps j ++ last_edge c j ∷ [])) (sym (first_made M c s ps n goes))
-        (accepted-append (path_at M c s ps 0) (further_points c ps j) (last_edge c j ∷ []) way.0 (subst (λ N. AreAccepted N (last_edge c j ∷ [])) (sym way.1) (close_accepted M c s ps n goes j all, tt))))
+  all_accepted j all = let way = walked j (omega (arith, all)) in (
+    first_accepted M c s ps n goes,
+    subst (λ N. AreAccepted N (further_points c ps j ++ last_edge c j ∷ [])) (sym (first_made M c s ps n goes))
+        (accepted-append (path_at M c s ps 0) (further_points c ps j) (last_edge c j ∷ []) way.0 (subst (λ N. AreAccepted N (last_edge c j ∷ [])) (sym way.1) (close_accepted M c s ps n goes j all, tt))),
+  )
 
   all_made : (j : ℕ) → n ≡ suc j → length ps ≡ n → effects M (first_point c s ps ∷ further_points c ps j ++ last_edge c j ∷ []) ≡ lamina_at M c s ps
   all_made j all is = ap (λ N. effects N (further_points c ps j ++ last_edge c j ∷ [])) (first_made M c s ps n goes)

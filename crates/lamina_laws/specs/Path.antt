@@ -29,12 +29,12 @@ path_content c (suc j) = cycle (out c.edge (suc j) ++ back c.edge (suc j))
 -- a new solid with one face and one loop, which leads along j new edges, from point to point, and back
 unfoldable pub path_at : Model → Taken → ℕ → List Point → ℕ → Model
 path_at M c s ps j = record {
-    solids = table.put M.solids s tt;
-    faces = table.put M.faces (c.face + 1) (record { solid = s; outer = c.loop + 1 });
-    loops = table.put M.loops (c.loop + 1) (record { face = c.face + 1; content = path_content c j });
-    edges = with_path M.edges c.edge c.vertex j;
-    vertices = with_points M.vertices c.vertex ps (suc j)
-  }
+  solids = table.put M.solids s tt;
+  faces = table.put M.faces (c.face + 1) (record { solid = s; outer = c.loop + 1 });
+  loops = table.put M.loops (c.loop + 1) (record { face = c.face + 1; content = path_content c j });
+  edges = with_path M.edges c.edge c.vertex j;
+  vertices = with_points M.vertices c.vertex ps (suc j);
+}
 
 abbrev pub first_half : ℕ → HalfEdge
 first_half e = record { edge = e; first = true }
