@@ -1,14 +1,13 @@
 -- Sums of cross products over half-edges: joined, turned, and how great they are.
-use Rattle.std.proofs.Common.{◌≡◌, ℕ, ◌+◌, ◌*◌, ◌≤◌, ◌<◌, true, ℤ, pos, List, [], ◌∷◌, ◌++◌, length, Some, None, Option, refl, sym, ap, subst, ◌∙◌, arith}
-use Rattle.std.specs.Prelude.{◌+ℤ◌, ◌-ℤ◌, ◌*ℤ◌, unwrap_or}
-use Rattle.std.specs.Int.RustNames.{unsigned_abs}
+use Rattle.std.proofs.Common.{◌≡◌, ℕ, ◌+◌, ◌*◌, ◌≤◌, List, [], ◌∷◌, ◌++◌, length, Some, None, Option, refl, sym, ap, ◌∙◌, arith}
+use Rattle.std.specs.Prelude.{◌*ℤ◌, unwrap_or}
 use Rattle.std.proofs.Math.IntN.{+ℤ_comm, +ℤ_assoc, +ℤ_idl, +ℤ_idr}
 use Rattle.lattice.specs.declared.Point.{Point}
 use Rattle.lattice.specs.Point.{IsInRange}
-use Rattle.lattice.specs.Ranges.{IsWithin, IsVectorWithin}
+use Rattle.lattice.specs.Ranges.{IsVectorWithin}
 use Rattle.lattice.specs.Vectors.{origin, moved, cross}
 use Rattle.lattice.proofs.Magnitudes.{coordinates, coordinate_within, product_within, sum_within, difference_within}
-use Rattle.cyclic_list.specs.Items.{count, IsIn, IsApart}
+use Rattle.cyclic_list.specs.Items.{IsIn, IsApart}
 use Rattle.cyclic_list.specs.Rings.{IsRotation}
 use Rattle.boundary_model.specs.HalfEdge.{mate}
 use Rattle.boundary_model.specs.Table as table

@@ -1,5 +1,5 @@
 -- The half-edges of some loops are different ones.
-use Rattle.std.proofs.Common.{◌≡◌, ℕ, ◌+◌, ◌≤◌, ◌<◌, Bool, true, false, not, nat_eq, nat_le, ◌&&◌, cond, List, [], ◌∷◌, ◌++◌, Some, None, Option, is_some, refl, sym, ap, subst, ◌∙◌, arith, true≢false, inl, inr}
+use Rattle.std.proofs.Common.{◌≡◌, ℕ, ◌≤◌, ◌<◌, Bool, true, false, not, nat_eq, nat_le, ◌&&◌, List, [], ◌∷◌, ◌++◌, Some, None, is_some, refl, sym, ap, ◌∙◌, arith, true≢false, inl, inr}
 use Rattle.std.specs.Prelude.{unwrap_or}
 use Rattle.std.proofs.lemmas.Bool.Decides.{nat_tests, eqb_tells}
 use Rattle.std.proofs.lemmas.List.{append-nil, append_assoc}
@@ -7,13 +7,12 @@ use Rattle.cyclic_list.specs.Items.{count, tick, IsIn, IsApart}
 use Rattle.cyclic_list.proofs.Lists.{count-append, tick_same, tick_other, IsIn_or_not}
 use Rattle.boundary_model.specs.Table as table
 use Rattle.boundary_model.specs.Model.{Model, LoopRow, no_loop, items_of, content, loop_of, outer, face_of, rings_of, is_ring_of}
-use Rattle.boundary_model.specs.Sound.{Sound, Has, HasHalf}
+use Rattle.boundary_model.specs.Sound.{Sound, HasHalf}
 use Rattle.boundary_model.proofs.Models.{in-holds}
 use Rattle.arena_rows.specs.Store.{IsNextRing}
 use Rattle.euler_operators.specs.Conditions.{lists, strictly_rises}
 use Rattle.euler_laws_shared.proofs.Listed.{listed_passes, passes_listed, all_where-rises}
 use Rattle.euler_laws_shared.proofs.Loops.{some_row}
-use Rattle.euler_laws_shared.proofs.Goes.{equal, equals}
 use Rattle.euler_conditions.proofs.Borders.{ring_there}
 use Rattle.lattice.specs.declared.Point.{Point}
 use Rattle.lattice.specs.Ranges.{IsVectorWithin}
@@ -21,7 +20,7 @@ use Rattle.lattice.specs.Vectors.{origin, moved}
 use Rattle.shapes.specs.Faces.{items_in, loops_of, boundary}
 use Rattle.solid_measure.specs.Measure.{area, area_limit, normal}
 use Rattle.solid_measure.proofs.Rounds.{half_in, items_apart}
-use Rattle.solid_measure.proofs.Areas.{AreHalves, area-append, area_limited, moved_nothing, nothing_moved}
+use Rattle.solid_measure.proofs.Areas.{AreHalves, area-append, area_limited, nothing_moved}
 use Rattle.solid_measure.proofs.Rising.{up_to, below_or, up_to_none, up_to_all, up_to_next, count_up_to, counted_once, none_counted}
 
 -- the outer loop of a face and its rings that don't pass n
@@ -77,6 +76,7 @@ module _ (M : Model) (sound : Sound M) where
       no_ring : (a : Bool) → (a && not (nat_eq (outer M f) (outer M f))) ≡ true → ⊥
       no_ring true e = let s : nat_eq (outer M f) (outer M f) ≡ true = grind (arith, nat_tests) in true≢false (sym e ∙ ap not s)
       no_ring false e = true≢false (sym e)
+
       go : (b : Bool) → lists (rings_of M f) (outer M f) ≡ b → b ≡ false
       go true e = absurd (no_ring (table.has M.loops (outer M f) && nat_eq (face_of M (outer M f)) f) (listed_ring (outer M f) e))
       go false e = refl
@@ -117,8 +117,8 @@ module _ (M : Model) (sound : Sound M) where
         up_to_next last ring (rings_of M f) rings_rise (ring_listed ring next.1) next.0 (λ k i l. not_before k (listed_ring k i) l (next.2 k l)) in
         sym (ap (λ ls. area M (items_in M (outer M f ∷ ls))) more ∙ ap (area M) (items_joined M (loops_to M f last) (ring ∷ []))
         ∙ area-append M (items_in M (loops_to M f last)) (items_of (content M ring) ++ []) ∙ ap (λ xs. moved (area M (items_in M (loops_to M f last))) (area M xs)) (append-nil (items_of (content M ring)))) where
-      not_before : (k : ℕ) → is_ring_of M f k ≡ true → last < k → (k < ring → is_ring_of M f k ≡ false) → ring ≤ k
-      not_before k e l none = elim (below_or ring k) [ inl s ↦ s | inr s ↦ absurd (true≢false (sym e ∙ none s)) ]
+          not_before : (k : ℕ) → is_ring_of M f k ≡ true → last < k → (k < ring → is_ring_of M f k ≡ false) → ring ≤ k
+          not_before k e l none = elim (below_or ring k) [ inl s ↦ s | inr s ↦ absurd (true≢false (sym e ∙ none s)) ]
 
     pub area_to_end : (last : ℕ) → IsNextRing M f last None → area_to M f last ≡ normal M f
     unfolding area_to normal boundary loops_of

@@ -1,15 +1,14 @@
 -- The least half-edge that a walk round a loop has met.
-use Rattle.std.proofs.Common.{◌≡◌, ◌≢◌, ℕ, ◌+◌, ◌≤◌, min, List, [], ◌∷◌, ◌++◌, refl, sym, ap, subst, ◌∙◌, arith, ◌⊎◌, inl, inr}
-use Rattle.std.proofs.lemmas.Bool.Decides.{nat_tests, eqb_tells}
-use Rattle.cyclic_list.specs.Items.{count, least, head_or, IsIn, IsApart}
-use Rattle.cyclic_list.specs.Rings.{canonical, IsRotation}
+use Rattle.std.proofs.Common.{◌≡◌, ◌≢◌, ℕ, ◌+◌, ◌≤◌, min, List, [], ◌∷◌, ◌++◌, sym, ap, subst, ◌∙◌, arith, ◌⊎◌, inl, inr}
+use Rattle.std.proofs.lemmas.Bool.Decides.{eqb_tells}
+use Rattle.cyclic_list.specs.Items.{least, head_or, IsIn}
+use Rattle.cyclic_list.specs.Rings.{IsRotation}
 use Rattle.cyclic_list.proofs.Lists.{count-append, tick_other, least_le, least_in}
 use Rattle.cyclic_list.proofs.Rotations.{IsRotation-same, head_canonical}
 use Rattle.boundary_model.specs.Model.{Model, items_of, content, after}
 use Rattle.boundary_model.specs.Sound.{Sound}
-use Rattle.boundary_model.proofs.Models.{cycle_sound}
 use Rattle.euler_conditions.proofs.Parallel.{steps}
-use Rattle.solid_measure.proofs.Rounds.{Round, round_start, round_more, round_closed, round_ended, half_in, items_from_least}
+use Rattle.solid_measure.proofs.Rounds.{Round, round_start, round_more, round_closed, round_ended, items_from_least}
 
 -- the walk has come to h; k is an item, and nothing that was met is less
 pub record LeastRound (M : Model) (l first h n k : ℕ) : Type 0 where

@@ -1,11 +1,11 @@
 -- The walk round a loop, which meets each of its half-edges once.
-use Rattle.std.proofs.Common.{◌≡◌, ◌≢◌, ℕ, ◌+◌, ◌≤◌, ◌<◌, true, List, [], ◌∷◌, ◌++◌, length, refl, sym, ap, subst, ◌∙◌, arith, inl, inr}
+use Rattle.std.proofs.Common.{◌≡◌, ◌≢◌, ℕ, ◌+◌, ◌≤◌, ◌<◌, true, List, [], ◌∷◌, ◌++◌, refl, sym, ap, subst, ◌∙◌, arith}
 use Rattle.std.proofs.lemmas.Bool.Decides.{nat_tests}
 use Rattle.cyclic_list.specs.Items.{count, IsIn, IsApart}
 use Rattle.cyclic_list.specs.Rings.{canonical, rotate_to, walk_to, orbit, successor, IsRing, IsRotation}
 use Rattle.cyclic_list.proofs.Lists.{count-append}
 use Rattle.cyclic_list.proofs.Rings.{orbit_from, IsRing-from_successor, IsIn_successor}
-use Rattle.cyclic_list.proofs.Rotations.{count-rotate_to, rotate_to-rotates, IsApart-rotate_to}
+use Rattle.cyclic_list.proofs.Rotations.{count-rotate_to, rotate_to-rotates}
 use Rattle.cyclic_list.proofs.Places.{walk_done, walk_on, walk_over}
 use Rattle.boundary_model.specs.declared.HalfEdge.{HalfEdge}
 use Rattle.boundary_model.specs.HalfEdge.{code, edge_of}

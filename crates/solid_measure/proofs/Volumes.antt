@@ -1,8 +1,7 @@
 -- Sums over the faces of a solid, and how great they are.
-use Rattle.std.proofs.Common.{◌≡◌, ℕ, ◌+◌, ◌*◌, ◌≤◌, ◌<◌, true, false, nat_eq, nat_le, ◌&&◌, ℤ, pos, List, [], ◌∷◌, ◌++◌, length, Some, None, Option, is_some, refl, sym, ap, subst, ◌∙◌, arith, true≢false, Bool, inl, inr}
+use Rattle.std.proofs.Common.{◌≡◌, ℕ, ◌*◌, ◌≤◌, ◌<◌, true, false, nat_eq, nat_le, ◌&&◌, ℤ, pos, List, [], ◌∷◌, ◌++◌, length, Some, is_some, refl, sym, ap, ◌∙◌, arith, true≢false, inl, inr}
 use Rattle.std.specs.Prelude.{◌+ℤ◌, ◌*ℤ◌, unwrap_or, FitsSigned}
 use mir.Syntax.{w128}
-use Rattle.std.specs.Int.RustNames.{unsigned_abs}
 use Rattle.std.proofs.lemmas.Bool.Decides.{nat_tests, eqb_tells}
 use Rattle.std.proofs.lemmas.List.{length-append}
 use Rattle.std.proofs.Math.IntN.{+ℤ_assoc, +ℤ_idl, +ℤ_idr, *ℤ_comm}
@@ -11,20 +10,18 @@ use Rattle.lattice.specs.Point.{IsInRange}
 use Rattle.lattice.specs.Ranges.{IsWithin, IsVectorWithin}
 use Rattle.lattice.specs.Vectors.{dot}
 use Rattle.lattice.proofs.Magnitudes.{coordinates, coordinate_within, product_within, sum_within, fits, fits_as, held, held_is, held_as}
-use Rattle.cyclic_list.specs.Items.{count, tick, IsIn, IsApart}
-use Rattle.cyclic_list.proofs.Lists.{count-append, tick_same, tick_other, IsIn_or_not}
-use Rattle.boundary_model.specs.declared.Kind.{Kind}
+use Rattle.cyclic_list.specs.Items.{count, tick, IsIn}
+use Rattle.cyclic_list.proofs.Lists.{count-append, tick_same, IsIn_or_not}
 use Rattle.boundary_model.specs.Table as table
 use Rattle.boundary_model.specs.Model.{Model, FaceRow, no_face, outer, face_of, loop_of, rings_of, faces_of, solid_of}
 use Rattle.boundary_model.specs.Sound.{Sound, Has, HasHalf}
-use Rattle.arena_rows.specs.Store.{Store, IsNextNumber}
 use Rattle.euler_operators.specs.Conditions.{lists, strictly_rises, face_at}
 use Rattle.euler_laws_shared.proofs.Listed.{first_listed, rest_listed, listed_cases, listed_passes, passes_listed, all_where-rises}
 use Rattle.euler_laws_shared.proofs.Loops.{some_row}
 use Rattle.euler_laws_shared.proofs.Goes.{equal, equals}
 use Rattle.euler_conditions.proofs.Borders.{ring_there}
 use Rattle.shapes.specs.Faces.{items_in, loops_of, boundary}
-use Rattle.solid_measure.specs.Measure.{area, anchor, first_vertex, normal, six_volume, volume_in}
+use Rattle.solid_measure.specs.Measure.{anchor, normal, six_volume, volume_in}
 use Rattle.solid_measure.proofs.Areas.{AreHalves, point_fits, area_within, halves_short}
 use Rattle.solid_measure.proofs.Rising.{up_to, below_or, up_to_none, up_to_all, up_to_same, up_to_next, count_up_to, counted_once, in_listed, listed_up_to}
 use Rattle.solid_measure.proofs.Boundaries.{items_counted, items_there, listed_ring, loops_of_apart}
@@ -134,8 +131,8 @@ module _ (M : Model) (sound : Sound M) where
     volume_next last f l t none e =
         let more : up_to f (faces_of M s) ≡ up_to last (faces_of M s) ++ f ∷ [] = up_to_next last f (faces_of M s) faces_rise (face_listed f t e) l (λ k i q. not_before k (listed_face k i).0 q) in
         sym (volume_push M (up_to last (faces_of M s)) f) ∙ sym (ap (volume_in M) more) where
-      not_before : (k : ℕ) → Has M.faces k → last < k → f ≤ k
-      not_before k h q = elim (below_or f k) [ inl b ↦ b | inr b ↦ absurd (true≢false (sym h ∙ none k q b)) ]
+          not_before : (k : ℕ) → Has M.faces k → last < k → f ≤ k
+          not_before k h q = elim (below_or f k) [ inl b ↦ b | inr b ↦ absurd (true≢false (sym h ∙ none k q b)) ]
 
     pub volume_other : (last f : ℕ) → last < f → ((k : ℕ) → last < k → k < f → table.has M.faces k ≡ false) → (solid_of M f ≡ s → ⊥) → volume_to M s last ≡ volume_to M s f
     unfolding volume_to

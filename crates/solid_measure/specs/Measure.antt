@@ -1,17 +1,16 @@
--- Normals, planes, volumes and counts.
-use Rattle.std.specs.Prelude.{◌≡◌, ℕ, ◌+◌, ℤ, pos, ◌+ℤ◌, ◌-ℤ◌, neg_ℤ, Bool, true, false, not, ◌&&◌, List, [], ◌∷◌, ◌++◌, length, Option, Some, None, Result, Ok, Err}
+-- Normals, planes and volumes.
+use Rattle.std.specs.Prelude.{ℕ, ℤ, pos, ◌+ℤ◌, neg_ℤ, Bool, not, ◌&&◌, List, [], ◌∷◌, ◌++◌, Option, Some, None, Result, Ok, Err}
 use Rattle.std.specs.List.{list_all}
 use Rattle.lattice.specs.declared.Point.{Point}
 use Rattle.lattice.specs.declared.Plane.{Plane}
 use Rattle.lattice.specs.Vectors.{origin, moved, dot, cross, same_point, is_on, direction}
 use Rattle.cyclic_list.specs.Items.{head_or}
 use Rattle.boundary_model.specs.Table as table
-use Rattle.boundary_model.specs.Model.{Model, LoopContent, lone, cycle, tail, content, outer, point_of, faces_of, rings_of}
-use Rattle.euler_operators.specs.Conditions.{need, first_refusal, numbers_in_range, lists}
-use Rattle.shapes.specs.Faces.{boundary, corners, start, finish, edges_of}
+use Rattle.boundary_model.specs.Model.{Model, LoopContent, lone, cycle, tail, content, outer, point_of, faces_of}
+use Rattle.euler_operators.specs.Conditions.{need, first_refusal, numbers_in_range}
+use Rattle.shapes.specs.Faces.{boundary, corners, start, finish}
 use Rattle.euler_operators.specs.declared.Refusal.{Refusal}
 use Rattle.euler_operators.specs.declared.Why.TheVariants.{NoFace, NoSolid}
-use Rattle.solid_measure.specs.declared.Tally.{Tally}
 use Rattle.solid_measure.specs.declared.Vector.{Vector}
 
 -- a sum of the code
@@ -61,29 +60,6 @@ volume_in M (f ∷ fs) = dot (anchor M f) (normal M f) +ℤ volume_in M fs
 -- six times the volume of a solid
 unfoldable pub six_volume : Model → ℕ → ℤ
 six_volume M s = volume_in M (faces_of M s)
-
--- the corners of some faces, and their rings
-abbrev pub corners_in : Model → List ℕ → List ℕ
-corners_in M [] = []
-corners_in M (f ∷ fs) = corners M f ++ corners_in M fs
-
-abbrev pub rings_in : Model → List ℕ → List ℕ
-rings_in M [] = []
-rings_in M (f ∷ fs) = rings_of M f ++ rings_in M fs
-
--- the vertices that stand in a list, rising
-abbrev pub vertices_listed : Model → List ℕ → List ℕ
-vertices_listed M vs = table.all_where (λ v _. lists vs v) M.vertices
-
--- the vertices of a solid
-abbrev pub vertices_of : Model → ℕ → List ℕ
-vertices_of M s = vertices_listed M (corners_in M (faces_of M s))
-
-abbrev pub tally_of : ℕ → ℕ → ℕ → ℕ → Tally
-tally_of v e f r = record { v = v; e = e; f = f; r = r; sum = pos (v + f) -ℤ pos (e + r) }
-
-unfoldable pub counts : Model → ℕ → Tally
-counts M s = tally_of (length (vertices_of M s)) (length (edges_of M s)) (length (faces_of M s)) (length (rings_in M (faces_of M s)))
 
 -- where a query is refused
 abbrev pub face_refusal : Model → ℕ → Option Refusal

@@ -54,7 +54,12 @@ pub(crate) fn plane_of(arena: &Arena, f: u32) -> Plane
 {
     let n = normal_of(arena, f);
     let d = -dot([n.x, n.y, n.z], anchor_of(arena, f));
-    Plane { a: n.x, b: n.y, c: n.z, d }
+    Plane {
+        a: n.x,
+        b: n.y,
+        c: n.z,
+        d,
+    }
 }
 
 /// Whether each vertex on the rings of the face lies on the plane.

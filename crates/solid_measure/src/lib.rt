@@ -1,4 +1,4 @@
-//! Measures of a boundary model: normals, planes, volumes and counts. Nothing here takes memory, and every number is exact.
+//! Measures of a boundary model: normals, planes and volumes. Nothing here takes memory, and every number is exact.
 #![tactic(auto)]
 
 mod faces;
@@ -7,16 +7,6 @@ mod loops;
 mod measures;
 
 pub use measures::{is_flat, normal, plane, six_volume};
-
-/// The vertices, edges, faces and rings of a solid, and v - e + f - r.
-#[derive(Clone, Copy, Debug, PartialEq, Eq)]
-pub struct Tally {
-    pub v: u32,
-    pub e: u32,
-    pub f: u32,
-    pub r: u32,
-    pub sum: i64,
-}
 
 /// A sum of cross products of points.
 #[derive(Clone, Copy, Debug, PartialEq, Eq)]

@@ -26,7 +26,11 @@ fn half_added(arena: &Arena, n: Vector, h: HalfEdge) -> Vector
     requires n { IsVectorWithin normal_limit (read n) }
     ensures { read result ≡ moved (read n) (cross (start arena.now.model (code h)) (finish arena.now.model (code h))) }
 {
-    let [x, y, z] = cross_add([n.x, n.y, n.z], halves::start(arena, h), halves::finish(arena, h));
+    let [x, y, z] = cross_add(
+        [n.x, n.y, n.z],
+        halves::start(arena, h),
+        halves::finish(arena, h),
+    );
     Vector { x, y, z }
 }
 

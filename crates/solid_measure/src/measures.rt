@@ -23,10 +23,16 @@ fn refusal_of_face(arena: &Arena, f: u32) -> Option<Refusal>
     ensures { result ≡ face_refusal arena.now.model f }
 {
     if !is_number(f) {
-        return Some(Refusal { why: Why::NumberRange, number: f });
+        return Some(Refusal {
+            why: Why::NumberRange,
+            number: f,
+        });
     }
     if !arena.has(Kind::Face, f) {
-        return Some(Refusal { why: Why::NoFace, number: f });
+        return Some(Refusal {
+            why: Why::NoFace,
+            number: f,
+        });
     }
     None
 }
@@ -78,10 +84,16 @@ fn refusal_of_solid(arena: &Arena, s: u32) -> Option<Refusal>
     ensures { result ≡ solid_refusal arena.now.model s }
 {
     if !is_number(s) {
-        return Some(Refusal { why: Why::NumberRange, number: s });
+        return Some(Refusal {
+            why: Why::NumberRange,
+            number: s,
+        });
     }
     if !arena.has(Kind::Solid, s) {
-        return Some(Refusal { why: Why::NoSolid, number: s });
+        return Some(Refusal {
+            why: Why::NoSolid,
+            number: s,
+        });
     }
     None
 }

@@ -1,4 +1,4 @@
-use Rattle.std.proofs.Common.{◌≡◌, sym, ap, ◌∙◌}
+use Rattle.std.proofs.Common.{sym, ◌∙◌}
 use Rattle.lattice.specs.Vectors.{is_on}
 use Rattle.boundary_model.specs.Model.{point_of, rings_of}
 use Rattle.euler_conditions.proofs.Borders.{ring_there, ring_number}

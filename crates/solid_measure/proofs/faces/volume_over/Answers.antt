@@ -1,4 +1,4 @@
-use Rattle.std.proofs.Common.{◌≡◌, ap, ◌∙◌, arith}
+use Rattle.std.proofs.Common.{ap, ◌∙◌, arith}
 use Rattle.lattice.specs.Vectors.{dot}
 use Rattle.lattice.proofs.Magnitudes.{fits, held_is}
 use Rattle.solid_measure.specs.Measure.{read}

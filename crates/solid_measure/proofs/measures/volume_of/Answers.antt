@@ -1,7 +1,7 @@
-use Rattle.std.proofs.Common.{◌≡◌, sym, ◌∙◌, arith}
+use Rattle.std.proofs.Common.{sym, ◌∙◌, arith}
 use mir.Syntax.{w128}
 use mir.Val.{to_z}
-use Rattle.solid_measure.proofs.Volumes.{volume_to, face_number, volume_start, volume_other, volume_end, sum_fits, sum_held}
+use Rattle.solid_measure.proofs.Volumes.{face_number, volume_start, volume_other, volume_end, sum_fits, sum_held}
 use Rattle.solid_measure.proofs.measures.volume_of.Goals as goal
 
 pub faces-init : goal.faces-init
