@@ -1,4 +1,4 @@
-mod Magnitudes
+pub mod Magnitudes
 mod Orders
 mod Cuts
 mod Coordinates

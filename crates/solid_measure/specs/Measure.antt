@@ -1,22 +1,30 @@
--- Normals, planes, volumes and counts.
-use Rattle.std.specs.Prelude.{◌≡◌, ℕ, ◌+◌, ℤ, pos, ◌+ℤ◌, ◌-ℤ◌, neg_ℤ, Bool, true, false, not, ◌&&◌, List, [], ◌∷◌, ◌++◌, length, Option}
+-- Normals, planes and volumes.
+use Rattle.std.specs.Prelude.{ℕ, ℤ, pos, ◌+ℤ◌, neg_ℤ, Bool, not, ◌&&◌, List, [], ◌∷◌, ◌++◌, Option, Some, None, Result, Ok, Err}
 use Rattle.std.specs.List.{list_all}
 use Rattle.lattice.specs.declared.Point.{Point}
 use Rattle.lattice.specs.declared.Plane.{Plane}
 use Rattle.lattice.specs.Vectors.{origin, moved, dot, cross, same_point, is_on, direction}
 use Rattle.cyclic_list.specs.Items.{head_or}
 use Rattle.boundary_model.specs.Table as table
-use Rattle.boundary_model.specs.Model.{Model, LoopContent, lone, cycle, tail, content, outer, point_of, faces_of, rings_of}
-use Rattle.euler_operators.specs.Conditions.{need, first_refusal, numbers_in_range, lists}
-use Rattle.shapes.specs.Faces.{boundary, corners, start, finish, edges_of}
+use Rattle.boundary_model.specs.Model.{Model, LoopContent, lone, cycle, tail, content, outer, point_of, faces_of}
+use Rattle.euler_operators.specs.Conditions.{need, first_refusal, numbers_in_range}
+use Rattle.shapes.specs.Faces.{boundary, corners, start, finish}
 use Rattle.euler_operators.specs.declared.Refusal.{Refusal}
 use Rattle.euler_operators.specs.declared.Why.TheVariants.{NoFace, NoSolid}
-use Rattle.solid_measure.specs.declared.Tally.{Tally}
+use Rattle.solid_measure.specs.declared.Vector.{Vector}
+
+-- a sum of the code
+abbrev pub read : Vector → Point
+read v = record { x = v.x; y = v.y; z = v.z }
 
 -- the sum of p x q over half-edges that go from p to q
 abbrev pub area : Model → List ℕ → Point
 area M [] = origin
 area M (h ∷ hs) = moved (cross (start M h) (finish M h)) (area M hs)
+
+-- no number of such a sum over different half-edges is greater, either way
+abbrev pub area_limit : ℕ
+area_limit = 4000004000000000000000000
 
 -- twice the area of a face, as a vector across it
 unfoldable pub normal : Model → ℕ → Point
@@ -53,32 +61,14 @@ volume_in M (f ∷ fs) = dot (anchor M f) (normal M f) +ℤ volume_in M fs
 unfoldable pub six_volume : Model → ℕ → ℤ
 six_volume M s = volume_in M (faces_of M s)
 
--- the corners of some faces, and their rings
-abbrev pub corners_in : Model → List ℕ → List ℕ
-corners_in M [] = []
-corners_in M (f ∷ fs) = corners M f ++ corners_in M fs
-
-abbrev pub rings_in : Model → List ℕ → List ℕ
-rings_in M [] = []
-rings_in M (f ∷ fs) = rings_of M f ++ rings_in M fs
-
--- the vertices that stand in a list, rising
-abbrev pub vertices_listed : Model → List ℕ → List ℕ
-vertices_listed M vs = table.all_where (λ v _. lists vs v) M.vertices
-
--- the vertices of a solid
-abbrev pub vertices_of : Model → ℕ → List ℕ
-vertices_of M s = vertices_listed M (corners_in M (faces_of M s))
-
-abbrev pub tally_of : ℕ → ℕ → ℕ → ℕ → Tally
-tally_of v e f r = record { v = v; e = e; f = f; r = r; sum = pos (v + f) -ℤ pos (e + r) }
-
-unfoldable pub counts : Model → ℕ → Tally
-counts M s = tally_of (length (vertices_of M s)) (length (edges_of M s)) (length (faces_of M s)) (length (rings_in M (faces_of M s)))
-
 -- where a query is refused
 abbrev pub face_refusal : Model → ℕ → Option Refusal
 face_refusal M f = first_refusal (numbers_in_range (f ∷ []) ++ need (table.has M.faces f) NoFace f ∷ [])
 
 abbrev pub solid_refusal : Model → ℕ → Option Refusal
 solid_refusal M s = first_refusal (numbers_in_range (s ∷ []) ++ need (table.has M.solids s) NoSolid s ∷ [])
+
+-- what a query answers: a value, or the refusal where there is one
+abbrev pub answer : {A : Type 0} → Option Refusal → A → Result A Refusal
+answer None a = Ok a
+answer (Some r) a = Err r

@@ -1,0 +1,55 @@
+-- The sum of cross products that a walk round a loop makes.
+use Rattle.std.proofs.Common.{◌≡◌, ◌≢◌, ℕ, ◌+◌, [], ◌∷◌, ◌++◌, sym, ap, subst, ◌∙◌, arith}
+use Rattle.lattice.specs.declared.Point.{Point}
+use Rattle.lattice.specs.Ranges.{IsVectorWithin, normal_limit}
+use Rattle.lattice.specs.Vectors.{moved, cross}
+use Rattle.cyclic_list.specs.Items.{IsIn}
+use Rattle.boundary_model.specs.declared.Content.{Content}
+use Rattle.boundary_model.specs.Model.{Model, LoopContent, lone, cycle, items_of, content, after}
+use Rattle.boundary_model.specs.Sound.{Sound}
+use Rattle.arena_rows.specs.Store.{Tells}
+use Rattle.euler_conditions.proofs.Parallel.{steps}
+use Rattle.shapes.specs.Faces.{start, finish}
+use Rattle.solid_measure.specs.Measure.{area, area_limit}
+use Rattle.solid_measure.proofs.Rounds.{Round, round_start, round_more, round_closed, round_ended, half_in, met_once, items_apart}
+use Rattle.solid_measure.proofs.Areas.{AreHalves, area_turned, area_push, area_limited, moved_more, moved_nothing, moved_within}
+
+-- a lone loop adds nothing
+pub lone_adds : (M : Model) (c : LoopContent) (v : ℕ) (n : Point) → Tells c (Content.Lone v) → n ≡ moved n (area M (items_of c))
+lone_adds M (lone w) v n t = sym (moved_nothing n)
+lone_adds M (cycle hs) v n t = absurd t
+
+-- the walk has come to h, and the sum is now that of what was met
+pub record AreaRound (M : Model) (l first h n : ℕ) (from now : Point) : Type 0 where
+  pub round : Round M l first h n
+  pub summed : now ≡ moved from (area M round.met)
+
+module _ (M : Model) (sound : Sound M) (l first : ℕ) (item : IsIn first (items_of (content M l))) (from : Point) where
+  pub area_start : AreaRound M l first first steps from from
+  area_start = record { round = round_start M sound l first item; summed = sym (moved_nothing from) }
+
+  module _ (h n : ℕ) (now : Point) (w : AreaRound M l first h n from now) where
+    met_halves : AreHalves M w.round.met
+    met_halves = record {
+      apart = λ x. omega (arith, met_once M sound l first item h n w.round x, items_apart M sound l first item x);
+      there = λ x i. half_in M sound l first item x (omega (arith, met_once M sound l first item h n w.round x));
+    }
+
+    pub area_room : IsVectorWithin area_limit from → IsVectorWithin normal_limit now
+    area_room b =
+        let m = area_limited M sound w.round.met met_halves in
+        let s = moved_within from (area M w.round.met) _ _ 10000000000000000000000000 b m (omega arith) in
+        subst (IsVectorWithin normal_limit) (sym w.summed) s
+
+    pub area_ended : n ≡ 0 → now ≡ moved from (area M (items_of (content M l)))
+    area_ended z = w.summed ∙ ap (moved from) (sym (area_turned M (items_of (content M l)) w.round.met (round_ended M sound l first item h n w.round z)))
+
+    module _ (k : ℕ) (more : n ≡ k + 1) (next : Point) (adds : next ≡ moved now (cross (start M h) (finish M h))) where
+      summed_more : next ≡ moved from (area M (w.round.met ++ h ∷ []))
+      summed_more = adds ∙ ap (λ p. moved p (cross (start M h) (finish M h))) w.summed ∙ moved_more from (area M w.round.met) (cross (start M h) (finish M h)) ∙ ap (moved from) (sym (area_push M w.round.met h))
+
+      pub area_closed : after M h ≡ first → next ≡ moved from (area M (items_of (content M l)))
+      area_closed e = summed_more ∙ ap (moved from) (sym (area_turned M (items_of (content M l)) (w.round.met ++ h ∷ []) (round_closed M sound l first item h n k w.round more e)))
+
+      pub area_more : after M h ≢ first → AreaRound M l first (after M h) k from next
+      area_more ne = record { round = round_more M sound l first item h n k w.round more ne; summed = summed_more }

@@ -1,0 +1,86 @@
+-- Sums of cross products over half-edges: joined, turned, and how great they are.
+use Rattle.std.proofs.Common.{◌≡◌, ℕ, ◌+◌, ◌*◌, ◌≤◌, List, [], ◌∷◌, ◌++◌, length, Some, None, Option, refl, sym, ap, ◌∙◌, arith}
+use Rattle.std.specs.Prelude.{◌*ℤ◌, unwrap_or}
+use Rattle.std.proofs.Math.IntN.{+ℤ_comm, +ℤ_assoc, +ℤ_idl, +ℤ_idr}
+use Rattle.lattice.specs.declared.Point.{Point}
+use Rattle.lattice.specs.Point.{IsInRange}
+use Rattle.lattice.specs.Ranges.{IsVectorWithin}
+use Rattle.lattice.specs.Vectors.{origin, moved, cross}
+use Rattle.lattice.proofs.Magnitudes.{coordinates, coordinate_within, product_within, sum_within, difference_within}
+use Rattle.cyclic_list.specs.Items.{IsIn, IsApart}
+use Rattle.cyclic_list.specs.Rings.{IsRotation}
+use Rattle.boundary_model.specs.HalfEdge.{mate}
+use Rattle.boundary_model.specs.Table as table
+use Rattle.boundary_model.specs.Model.{Model, tail, point_of, no_point}
+use Rattle.boundary_model.specs.Sound.{Sound, HasHalf}
+use Rattle.euler_conditions.proofs.Parallel.{steps, steps_are, length_below}
+use Rattle.shapes.specs.Faces.{start, finish}
+use Rattle.solid_measure.specs.Measure.{area, area_limit}
+use Rattle.solid_measure.proofs.Rounds.{half_below}
+
+pub same_vector : (p q : Point) → p.x ≡ q.x → p.y ≡ q.y → p.z ≡ q.z → p ≡ q
+same_vector p q a b c = λ i. record { x = a i; y = b i; z = c i }
+
+pub moved_more : (p q r : Point) → moved (moved p q) r ≡ moved p (moved q r)
+moved_more p q r = same_vector _ _ (+ℤ_assoc p.x q.x r.x) (+ℤ_assoc p.y q.y r.y) (+ℤ_assoc p.z q.z r.z)
+
+pub moved_turned : (p q : Point) → moved p q ≡ moved q p
+moved_turned p q = same_vector _ _ (+ℤ_comm p.x q.x) (+ℤ_comm p.y q.y) (+ℤ_comm p.z q.z)
+
+pub moved_nothing : (p : Point) → moved p origin ≡ p
+moved_nothing p = same_vector _ _ (+ℤ_idr p.x) (+ℤ_idr p.y) (+ℤ_idr p.z)
+
+pub nothing_moved : (p : Point) → moved origin p ≡ p
+nothing_moved p = same_vector _ _ (+ℤ_idl p.x) (+ℤ_idl p.y) (+ℤ_idl p.z)
+
+pub area-append : (M : Model) (hs ks : List ℕ) → area M (hs ++ ks) ≡ moved (area M hs) (area M ks)
+area-append M [] ks = sym (nothing_moved (area M ks))
+area-append M (h ∷ hs) ks = ap (moved (cross (start M h) (finish M h))) (area-append M hs ks) ∙ sym (moved_more (cross (start M h) (finish M h)) (area M hs) (area M ks))
+
+-- a loop's sum doesn't depend on where it starts
+pub area_turned : (M : Model) (hs ks : List ℕ) → IsRotation hs ks → area M hs ≡ area M ks
+area_turned M hs ks r = (λ i. area M (r.here i)) ∙ area-append M r.front r.back ∙ moved_turned (area M r.front) (area M r.back) ∙ sym (area-append M r.back r.front) ∙ (λ i. area M (sym r.there i))
+
+pub area_push : (M : Model) (hs : List ℕ) (h : ℕ) → area M (hs ++ h ∷ []) ≡ moved (area M hs) (cross (start M h) (finish M h))
+area_push M hs h = area-append M hs (h ∷ []) ∙ ap (moved (area M hs)) (moved_nothing (cross (start M h) (finish M h)))
+
+-- ---- how great they are
+
+pub point_fits : (M : Model) → Sound M → (v : ℕ) → IsInRange (point_of M v)
+unfolding point_of
+point_fits M sound v = go (table.get M.vertices v) refl where
+  go : (o : Option Point) → table.get M.vertices v ≡ o → IsInRange (unwrap_or o no_point)
+  go None e = refl
+  go (Some p) e = sound.points_fit v p e
+
+pub cross_within : (p q : Point) → IsInRange p → IsInRange q → IsVectorWithin 2000000000000000000 (cross p q)
+cross_within p q rp rq =
+    let ps = coordinates p rp in let qs = coordinates q rq in
+    let px = coordinate_within p.x ps.0 in let py = coordinate_within p.y ps.1 in let pz = coordinate_within p.z ps.2 in
+    let qx = coordinate_within q.x qs.0 in let qy = coordinate_within q.y qs.1 in let qz = coordinate_within q.z qs.2 in (
+      difference_within (p.y *ℤ q.z) (p.z *ℤ q.y) _ _ _ (product_within p.y q.z _ _ 1000000000000000000 py qz refl) (product_within p.z q.y _ _ 1000000000000000000 pz qy refl) (omega arith),
+      difference_within (p.z *ℤ q.x) (p.x *ℤ q.z) _ _ _ (product_within p.z q.x _ _ 1000000000000000000 pz qx refl) (product_within p.x q.z _ _ 1000000000000000000 px qz refl) (omega arith),
+      difference_within (p.x *ℤ q.y) (p.y *ℤ q.x) _ _ _ (product_within p.x q.y _ _ 1000000000000000000 px qy refl) (product_within p.y q.x _ _ 1000000000000000000 py qx refl) (omega arith),
+    )
+
+pub moved_within : (p q : Point) (m n k : ℕ) → IsVectorWithin m p → IsVectorWithin n q → m + n ≤ k → IsVectorWithin k (moved p q)
+moved_within p q m n k a b l = (sum_within p.x q.x m n k a.0 b.0 l, sum_within p.y q.y m n k a.1 b.1 l, sum_within p.z q.z m n k a.2 b.2 l)
+
+pub area_within : (M : Model) → Sound M → (hs : List ℕ) → IsVectorWithin (2000000000000000000 * length hs) (area M hs)
+area_within M sound [] = (omega arith, omega arith, omega arith)
+area_within M sound (h ∷ hs) =
+    moved_within (cross (start M h) (finish M h)) (area M hs) _ _ _ (cross_within (start M h) (finish M h) (point_fits M sound (tail M h)) (point_fits M sound (tail M (mate h)))) (area_within M sound hs) (omega arith)
+
+-- different half-edges that are there
+pub record AreHalves (M : Model) (hs : List ℕ) : Type 0 where
+  pub apart : IsApart hs
+  pub there : (x : ℕ) → IsIn x hs → HasHalf M x
+
+wider : (v : Point) (m n : ℕ) → IsVectorWithin m v → m ≤ n → IsVectorWithin n v
+wider v m n w l = (omega (arith, w.0, l), omega (arith, w.1, l), omega (arith, w.2, l))
+
+pub halves_short : (M : Model) → Sound M → (hs : List ℕ) → AreHalves M hs → length hs ≤ 2000002
+halves_short M sound hs a = omega (arith, steps_are, length_below steps hs a.apart (λ x i. half_below M sound x (a.there x i)))
+
+pub area_limited : (M : Model) → Sound M → (hs : List ℕ) → AreHalves M hs → IsVectorWithin area_limit (area M hs)
+area_limited M sound hs a = wider (area M hs) _ area_limit (area_within M sound hs) (omega (arith, halves_short M sound hs a))

@@ -1,0 +1,49 @@
+-- The plane through a point across a normal, as the code makes it.
+use Rattle.std.proofs.Common.{◌≡◌, ℕ, ◌≤◌, ℤ, pos, sym, ap, subst, ◌∙◌, arith}
+use Rattle.std.specs.Prelude.{◌-ℤ◌, neg_ℤ, FitsSigned}
+use Rattle.std.proofs.lemmas.Int.{ints}
+use mir.Syntax.{w128}
+use Rattle.lattice.specs.declared.Point.{Point}
+use Rattle.lattice.specs.declared.Plane.{Plane}
+use Rattle.lattice.specs.Ranges.{IsWithin, IsVectorWithin, IsPlane, normal_limit, offset_limit}
+use Rattle.lattice.specs.Vectors.{dot}
+use Rattle.lattice.proofs.Magnitudes.{fits, fits_as, held, held_is, held_as}
+use Rattle.boundary_model.specs.Model.{Model}
+use Rattle.solid_measure.specs.Measure.{area_limit, anchor, normal, plane_of, plane_through}
+
+abbrev held_vector : Point → Point
+held_vector n = record { x = held n.x; y = held n.y; z = held n.z }
+
+module _ (n a : Point) (t : ℤ) (wn : IsVectorWithin area_limit n) (wt : IsWithin 30000000000000000000000000000000000 t) where
+  pub held_vector_is : held_vector n ≡ n
+  held_vector_is = λ i. record { x = held_is n.x (fits _ _ wn.0 (omega arith)) i; y = held_is n.y (fits _ _ wn.1 (omega arith)) i; z = held_is n.z (fits _ _ wn.2 (omega arith)) i }
+
+  turned : pos 0 -ℤ held t ≡ neg_ℤ t
+  turned = ap (λ z. pos 0 -ℤ z) (held_is t (fits _ _ wt (omega arith))) ∙ omega (arith, ints)
+
+  turned_within : IsWithin 30000000000000000000000000000000000 (neg_ℤ t)
+  turned_within = omega (arith, ints, wt)
+
+  pub turned_fits : FitsSigned w128 (pos 0 -ℤ held t)
+  turned_fits = fits_as (pos 0 -ℤ held t) (neg_ℤ t) turned (fits _ _ turned_within (omega arith))
+
+  turned_held : held (pos 0 -ℤ held t) ≡ neg_ℤ t
+  turned_held = held_as (pos 0 -ℤ held t) (neg_ℤ t) turned (fits _ _ turned_within (omega arith))
+
+  abbrev pub plane_made : Plane
+  plane_made = record { a = held n.x; b = held n.y; c = held n.z; d = held (pos 0 -ℤ held t) }
+
+  pub plane_is : (M : Model) (f : ℕ) → t ≡ dot (held_vector n) a → n ≡ normal M f → a ≡ anchor M f → plane_made ≡ plane_of M f
+  unfolding plane_of
+  plane_is M f e en ea =
+      let d : t ≡ dot n a = e ∙ ap (λ v. dot v a) held_vector_is in
+      (λ i. record { a = (held_vector_is i).x; b = (held_vector_is i).y; c = (held_vector_is i).z; d = (turned_held ∙ ap neg_ℤ d) i }) ∙ (λ i. plane_through (en i) (ea i))
+
+  wider : (m k : ℕ) (z y : ℤ) → z ≡ y → IsWithin m y → m ≤ k → IsWithin k z
+  wider m k z y e w l = subst (IsWithin k) (sym e) (omega (arith, w, l))
+
+  pub plane_ranges : IsPlane plane_made
+  plane_ranges = (
+    (wider area_limit normal_limit _ n.x (ap (λ v. v.x) held_vector_is) wn.0 (omega arith), wider area_limit normal_limit _ n.y (ap (λ v. v.y) held_vector_is) wn.1 (omega arith), wider area_limit normal_limit _ n.z (ap (λ v. v.z) held_vector_is) wn.2 (omega arith)),
+    wider _ offset_limit _ (neg_ℤ t) turned_held turned_within (omega arith),
+  )

@@ -1,0 +1,118 @@
+//! Normals and planes of faces that are there.
+ghost use Rattle.std.specs.Prelude.{◌≡◌, true, not};
+ghost use Rattle.std.specs.List.{list_all};
+ghost use Rattle.lattice.specs.Point.{IsInRange};
+ghost use Rattle.lattice.specs.Ranges.{IsPlane, IsVectorWithin, IsWithin};
+ghost use Rattle.lattice.specs.Vectors.{direction, dot, is_on, origin, same_point};
+ghost use Rattle.boundary_model.specs.Model.{point_of, rings_of};
+ghost use Rattle.arena_rows.specs.Store.{has_number};
+ghost use Rattle.euler_conditions.specs.Ready.{IsReady};
+ghost use Rattle.shapes.specs.Faces.{corners, vertices_in};
+ghost use Rattle.solid_measure.specs.Measure.{anchor, area_limit, is_flat, normal, plane_of, read};
+
+use crate::loops::{least_item, loop_added, loop_lies_on};
+use crate::{Vector, halves};
+use halfedge_arena::{Arena, Content, Kind};
+use lattice::{Plane, Point, dot};
+
+/// The face's normal: the sum of the cross products over the half-edges of its loops.
+pub(crate) fn normal_of(arena: &Arena, f: u32) -> Vector
+    requires ready { IsReady arena.now }
+    requires there { has_number arena.now Kind.Face f ≡ true }
+    ensures is { read result ≡ normal arena.now.model f }
+    ensures within { IsVectorWithin area_limit (read result) }
+{
+    let mut sum = loop_added(arena, Vector { x: 0, y: 0, z: 0 }, arena.outer(f));
+    let mut last = 0;
+    'rings: while let Some(ring) = arena.ring_after(f, last) {
+        sum = loop_added(arena, sum, ring);
+        last = ring;
+    }
+    sum
+}
+
+/// The point of the face's first corner: where the first item of its outer loop starts, or where that loop is lone.
+pub(crate) fn anchor_of(arena: &Arena, f: u32) -> Point
+    requires ready { IsReady arena.now }
+    requires there { has_number arena.now Kind.Face f ≡ true }
+    ensures point { result ≡ anchor arena.now.model f }
+    ensures range { IsInRange result }
+{
+    let outer = arena.outer(f);
+    match arena.content(outer) {
+        Content::Lone(v) => arena.point(v),
+        Content::Ring(first) => halves::start(arena, least_item(arena, outer, first)),
+    }
+}
+
+/// The plane through the face's anchor, across its normal.
+pub(crate) fn plane_of(arena: &Arena, f: u32) -> Plane
+    requires ready { IsReady arena.now }
+    requires there { has_number arena.now Kind.Face f ≡ true }
+    ensures is { result ≡ plane_of arena.now.model f }
+    ensures range { IsPlane result }
+{
+    let n = normal_of(arena, f);
+    let d = -dot([n.x, n.y, n.z], anchor_of(arena, f));
+    Plane {
+        a: n.x,
+        b: n.y,
+        c: n.z,
+        d,
+    }
+}
+
+/// Whether each vertex on the rings of the face lies on the plane.
+fn rings_lie_on(arena: &Arena, plane: Plane, f: u32) -> bool
+    requires ready { IsReady arena.now }
+    requires there { has_number arena.now Kind.Face f ≡ true }
+    requires plane { IsPlane plane }
+    ensures { result ≡ list_all (λ v. is_on plane (point_of arena.now.model v)) (vertices_in arena.now.model (rings_of arena.now.model f)) }
+{
+    let mut last = 0;
+    'rings: while let Some(ring) = arena.ring_after(f, last) {
+        if !loop_lies_on(arena, plane, ring) {
+            return false;
+        }
+        last = ring;
+    }
+    true
+}
+
+/// Whether each vertex on the loops of the face lies on the plane.
+fn face_lies_on(arena: &Arena, plane: Plane, f: u32) -> bool
+    requires ready { IsReady arena.now }
+    requires there { has_number arena.now Kind.Face f ≡ true }
+    requires plane { IsPlane plane }
+    ensures { result ≡ list_all (λ v. is_on plane (point_of arena.now.model v)) (corners arena.now.model f) }
+{
+    loop_lies_on(arena, plane, arena.outer(f)) && rings_lie_on(arena, plane, f)
+}
+
+/// Whether one of the plane's first three numbers isn't zero.
+fn has_direction(plane: Plane) -> bool
+    ensures { result ≡ not (same_point (direction plane) origin) }
+{
+    !(plane.a == 0 && (plane.b == 0 && plane.c == 0))
+}
+
+/// Whether the face's normal isn't zero, and its plane goes through each vertex on its loops.
+pub(crate) fn is_flat(arena: &Arena, f: u32) -> bool
+    requires ready { IsReady arena.now }
+    requires there { has_number arena.now Kind.Face f ≡ true }
+    ensures { result ≡ is_flat arena.now.model f }
+{
+    let plane = plane_of(arena, f);
+    has_direction(plane) && face_lies_on(arena, plane, f)
+}
+
+/// The product of the face's anchor with its normal, at most 3 * 10^34 in magnitude.
+pub(crate) fn volume_over(arena: &Arena, f: u32) -> i128
+    requires ready { IsReady arena.now }
+    requires there { has_number arena.now Kind.Face f ≡ true }
+    ensures is { result ≡ dot (anchor arena.now.model f) (normal arena.now.model f) }
+    ensures within { IsWithin 30000000000000000000000000000000000 result }
+{
+    let n = normal_of(arena, f);
+    dot([n.x, n.y, n.z], anchor_of(arena, f))
+}

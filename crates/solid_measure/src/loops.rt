@@ -1,0 +1,130 @@
+//! Walks round the loops of a face.
+ghost use Rattle.std.specs.Prelude.{◌≡◌, ◌≤◌, true, min, map};
+ghost use Rattle.std.specs.List.{list_all};
+ghost use Rattle.lattice.specs.Point.{IsInRange};
+ghost use Rattle.lattice.specs.Ranges.{IsPlane, IsVectorWithin, normal_limit};
+ghost use Rattle.lattice.specs.Vectors.{moved, cross, is_on};
+ghost use Rattle.cyclic_list.specs.Items.{IsIn, head_or};
+ghost use Rattle.boundary_model.specs.HalfEdge.{code};
+ghost use Rattle.boundary_model.specs.Model.{items_of, content, point_of, tail};
+ghost use Rattle.arena_rows.specs.Store.{has_number};
+ghost use Rattle.euler_conditions.specs.Ready.{IsReady};
+ghost use Rattle.shapes.specs.Faces.{start, finish, vertices_on};
+ghost use Rattle.solid_measure.specs.Measure.{area, area_limit, read};
+
+use crate::{Vector, halves};
+use halfedge_arena::{Arena, Content, HalfEdge, Kind};
+use lattice::{Plane, Point, Sign, cross_add, side};
+
+/// More than the half-edges that an arena can have.
+const HALVES: u32 = 2_000_002;
+
+/// The vector n plus the cross product of the points at which the half-edge starts and ends.
+fn half_added(arena: &Arena, n: Vector, h: HalfEdge) -> Vector
+    requires ready { IsReady arena.now }
+    requires there { has_number arena.now Kind.Edge h.edge ≡ true }
+    requires n { IsVectorWithin normal_limit (read n) }
+    ensures { read result ≡ moved (read n) (cross (start arena.now.model (code h)) (finish arena.now.model (code h))) }
+{
+    let [x, y, z] = cross_add(
+        [n.x, n.y, n.z],
+        halves::start(arena, h),
+        halves::finish(arena, h),
+    );
+    Vector { x, y, z }
+}
+
+/// The vector n plus the cross products over the half-edges of the loop.
+pub(crate) fn loop_added(arena: &Arena, n: Vector, l: u32) -> Vector
+    requires ready { IsReady arena.now }
+    requires there { has_number arena.now Kind.Loop l ≡ true }
+    requires n { IsVectorWithin area_limit (read n) }
+    ensures { read result ≡ moved (read n) (area arena.now.model (items_of (content arena.now.model l))) }
+{
+    let Content::Ring(first) = arena.content(l) else {
+        return n;
+    };
+    let mut sum = n;
+    let mut h = first;
+    'round: for _ in 0..HALVES {
+        sum = half_added(arena, sum, h);
+        h = halves::next(arena, h);
+        if halves::same(h, first) {
+            return sum;
+        }
+    }
+    sum
+}
+
+/// The lesser of two half-edges in the order of listings.
+fn lesser(a: HalfEdge, b: HalfEdge) -> HalfEdge
+    requires a { a.edge ≤ 1000000 }
+    requires b { b.edge ≤ 1000000 }
+    ensures { code result ≡ min (code a) (code b) }
+{
+    if b.code() < a.code() { b } else { a }
+}
+
+/// The first item, in the order of listings, of loop l, in which `first` stands.
+pub(crate) fn least_item(arena: &Arena, l: u32, first: HalfEdge) -> HalfEdge
+    requires ready { IsReady arena.now }
+    requires item { IsIn (code first) (items_of (content arena.now.model l)) }
+    ensures least { code result ≡ head_or 0 (items_of (content arena.now.model l)) }
+    ensures there { has_number arena.now Kind.Edge result.edge ≡ true }
+{
+    let mut least = first;
+    let mut h = first;
+    'round: for _ in 0..HALVES {
+        least = lesser(least, h);
+        h = halves::next(arena, h);
+        if halves::same(h, first) {
+            return least;
+        }
+    }
+    least
+}
+
+/// Whether the point lies on the plane.
+fn lies_on(plane: Plane, p: Point) -> bool
+    requires plane { IsPlane plane }
+    requires p { IsInRange p }
+    ensures { result ≡ is_on plane p }
+{
+    match side(plane, p) {
+        Sign::On => true,
+        Sign::Below | Sign::Above => false,
+    }
+}
+
+/// Whether each half-edge of loop l, in which `first` stands, starts on the plane.
+fn ring_lies_on(arena: &Arena, plane: Plane, l: u32, first: HalfEdge) -> bool
+    requires ready { IsReady arena.now }
+    requires plane { IsPlane plane }
+    requires item { IsIn (code first) (items_of (content arena.now.model l)) }
+    ensures { result ≡ list_all (λ v. is_on plane (point_of arena.now.model v)) (map (tail arena.now.model) (items_of (content arena.now.model l))) }
+{
+    let mut h = first;
+    'round: for _ in 0..HALVES {
+        if !lies_on(plane, halves::start(arena, h)) {
+            return false;
+        }
+        h = halves::next(arena, h);
+        if halves::same(h, first) {
+            return true;
+        }
+    }
+    true
+}
+
+/// Whether each vertex on the loop lies on the plane.
+pub(crate) fn loop_lies_on(arena: &Arena, plane: Plane, l: u32) -> bool
+    requires ready { IsReady arena.now }
+    requires there { has_number arena.now Kind.Loop l ≡ true }
+    requires plane { IsPlane plane }
+    ensures { result ≡ list_all (λ v. is_on plane (point_of arena.now.model v)) (vertices_on arena.now.model (content arena.now.model l)) }
+{
+    match arena.content(l) {
+        Content::Lone(v) => lies_on(plane, arena.point(v)),
+        Content::Ring(first) => ring_lies_on(arena, plane, l, first),
+    }
+}

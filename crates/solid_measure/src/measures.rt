@@ -1,0 +1,130 @@
+//! Measures of faces and solids by number.
+ghost use Rattle.std.specs.Prelude.{◌≡◌};
+ghost use Rattle.lattice.specs.Vectors.{numbers_of};
+ghost use Rattle.boundary_model.specs.Model.{is_number};
+ghost use Rattle.arena_rows.specs.Store.{has_number};
+ghost use Rattle.euler_conditions.specs.Ready.{IsReady};
+ghost use Rattle.solid_measure.specs.Measure.{answer, face_refusal, is_flat, normal, plane_of, six_volume, solid_refusal};
+
+use crate::faces;
+use euler_operators::{Refusal, Why};
+use halfedge_arena::{Arena, Kind};
+use lattice::Plane;
+
+/// Whether the number lies from 1 to the limit.
+fn is_number(n: u32) -> bool
+    ensures { result ≡ is_number n }
+{
+    1 <= n && n <= 1_000_000
+}
+
+/// The refusal of a query about face f, if there is one.
+fn refusal_of_face(arena: &Arena, f: u32) -> Option<Refusal>
+    ensures { result ≡ face_refusal arena.now.model f }
+{
+    if !is_number(f) {
+        return Some(Refusal {
+            why: Why::NumberRange,
+            number: f,
+        });
+    }
+    if !arena.has(Kind::Face, f) {
+        return Some(Refusal {
+            why: Why::NoFace,
+            number: f,
+        });
+    }
+    None
+}
+
+/// The normal of face f: the sum of the cross products `p x q` over the half-edges of all its loops, each from point p to
+/// point q. Each number is below 10^25 in magnitude.
+///
+/// Refused, in this order: NumberRange, NoFace. It walks once round each loop of the face, and where the face has rings over
+/// the numbers of loops.
+pub fn normal(arena: &Arena, f: u32) -> Result<[i128; 3], Refusal>
+    requires { IsReady arena.now }
+    ensures { result ≡ answer (face_refusal arena.now.model f) (numbers_of (normal arena.now.model f)) }
+{
+    if let Some(refusal) = refusal_of_face(arena, f) {
+        return Err(refusal);
+    }
+    let n = faces::normal_of(arena, f);
+    Ok([n.x, n.y, n.z])
+}
+
+/// The plane of face f: across its normal, through its anchor.
+///
+/// Refused as `normal`, and as dear.
+pub fn plane(arena: &Arena, f: u32) -> Result<Plane, Refusal>
+    requires { IsReady arena.now }
+    ensures { result ≡ answer (face_refusal arena.now.model f) (plane_of arena.now.model f) }
+{
+    if let Some(refusal) = refusal_of_face(arena, f) {
+        return Err(refusal);
+    }
+    Ok(faces::plane_of(arena, f))
+}
+
+/// Whether face f is flat: its normal isn't zero, and its plane goes through each vertex on its loops.
+///
+/// Refused as `normal`, and as dear.
+pub fn is_flat(arena: &Arena, f: u32) -> Result<bool, Refusal>
+    requires { IsReady arena.now }
+    ensures { result ≡ answer (face_refusal arena.now.model f) (is_flat arena.now.model f) }
+{
+    if let Some(refusal) = refusal_of_face(arena, f) {
+        return Err(refusal);
+    }
+    Ok(faces::is_flat(arena, f))
+}
+
+/// The refusal of a query about solid s, if there is one.
+fn refusal_of_solid(arena: &Arena, s: u32) -> Option<Refusal>
+    ensures { result ≡ solid_refusal arena.now.model s }
+{
+    if !is_number(s) {
+        return Some(Refusal {
+            why: Why::NumberRange,
+            number: s,
+        });
+    }
+    if !arena.has(Kind::Solid, s) {
+        return Some(Refusal {
+            why: Why::NoSolid,
+            number: s,
+        });
+    }
+    None
+}
+
+/// The sum over the faces of solid s of the products of anchor and normal.
+fn volume_of(arena: &Arena, s: u32) -> i128
+    requires { IsReady arena.now }
+    ensures { result ≡ six_volume arena.now.model s }
+{
+    let mut sum = 0;
+    let mut last = 0;
+    'faces: while let Some(f) = arena.after_number(Kind::Face, last) {
+        if arena.solid_of(f) == s {
+            sum += faces::volume_over(arena, f);
+        }
+        last = f;
+    }
+    sum
+}
+
+/// Six times the volume of solid s: the sum over its faces of the product of the anchor with the normal. It is below 3 * 10^34
+/// in magnitude.
+///
+/// Refused, in this order: NumberRange, NoSolid. It walks over the numbers of faces, and once round each loop of the solid's
+/// faces; a face with rings costs one walk over the numbers of loops more.
+pub fn six_volume(arena: &Arena, s: u32) -> Result<i128, Refusal>
+    requires { IsReady arena.now }
+    ensures { result ≡ answer (solid_refusal arena.now.model s) (six_volume arena.now.model s) }
+{
+    if let Some(refusal) = refusal_of_solid(arena, s) {
+        return Err(refusal);
+    }
+    Ok(volume_of(arena, s))
+}
