@@ -2,6 +2,8 @@
 use Rattle.std.specs.Prelude.{◌≡◌, ◌⊎◌, ℕ, ◌+◌, Bool, true, false, List, [], Option, Some, None, Result, Ok, Err}
 use Rattle.euler_operators.specs.declared.Refusal.{Refusal}
 use Rattle.euler_operators.specs.Refusal as refusal
+use Rattle.boundary_model.specs.Model.{Model}
+use Rattle.solid_measure.specs.Measure.{answer, face_refusal, solid_refusal, plane_of, is_flat, six_volume}
 use Rattle.shapes.specs.Lamina.{lamina_refusal, lamina_model}
 use Rattle.undo_journal.specs.Machine.{Machine, held, accepted, act, act_refusal, undo, undo_refusal, redo, redo_refusal}
 use Rattle.undo_journal.specs.declared.session.Failure.{Failure}
@@ -45,6 +47,18 @@ Acts (Some r) s acted a t = (a ≡ refused r) × (t ≡ s)
 abbrev pub Unknown : Machine → Answer → Machine → Type 0
 Unknown s a t = (a ≡ Told (reply.Fault 1)) × (t ≡ s)
 
+-- a query is told a reply, or refused
+abbrev pub told : Result Reply Refusal → Answer
+told (Ok r) = Told r
+told (Err r) = refused r
+
+-- what a query of a face's plane, and of a solid's volume, gives
+abbrev pub plane_reply : Model → ℕ → Result Reply Refusal
+plane_reply M f = answer (face_refusal M f) (reply.Plane (plane_of M f) (is_flat M f))
+
+abbrev pub volume_reply : Model → ℕ → Result Reply Refusal
+volume_reply M s = answer (solid_refusal M s) (reply.Volume (six_volume M s))
+
 -- from s the machine may answer a command so, and go on to t
 abbrev pub Obeys : Machine → Command → Answer → Machine → Type 0
 Obeys s command.Nothing a t = (a ≡ Silent) × (t ≡ s)
@@ -54,8 +68,8 @@ Obeys s (command.Block n p dx dy dz) a t = Unknown s a t
 Obeys s (command.Sweep f d) a t = Unknown s a t
 Obeys s (command.Glue f g) a t = Unknown s a t
 Obeys s (command.Split n plane m) a t = Unknown s a t
-Obeys s (command.Plane f) a t = Unknown s a t
-Obeys s (command.Volume n) a t = Unknown s a t
+Obeys s (command.Plane f) a t = (a ≡ told (plane_reply (held s) f)) × (t ≡ s)
+Obeys s (command.Volume n) a t = (a ≡ told (volume_reply (held s) n)) × (t ≡ s)
 Obeys s (command.Count n) a t = Unknown s a t
 Obeys s command.Undo a t = Moves (undo_refusal s) s (undo s) a t
 Obeys s command.Redo a t = Moves (redo_refusal s) s (redo s) a t

@@ -1,14 +1,16 @@
 //! What a line is answered.
 ghost use Rattle.std.specs.Prelude.{◌≡◌, ◌<◌, ◌≤◌, ◌↔◌, IsTrue};
 ghost use Rattle.euler_conditions.specs.Ready.{IsReady};
-ghost use Rattle.gwb.specs.Judging.{refused, outcome, Moves, Acts, Obeys, Judges, answer_text, complains, one_line, counted};
+ghost use Rattle.gwb.specs.Judging.{refused, outcome, told, plane_reply, volume_reply, Moves, Acts, Obeys, Judges, answer_text, complains, one_line, counted};
 ghost use Rattle.shapes.specs.Lamina.{lamina_refusal, lamina_model};
 ghost use Rattle.undo_journal.specs.Machine.{held, accepted};
 ghost use Rattle.undo_journal.specs.Machine as machine;
 
 use euler_conditions::{Op, Refusal};
+use halfedge_arena::Arena;
 use script_reader::{Command, Corners, Fault, read_line};
 use solid_listing::{Reply, WriteFault};
+use solid_measure::{is_flat, plane, six_volume};
 use std::alloc::Global;
 use sweeps::lamina;
 use undo_journal::{Failure, Session};
@@ -139,6 +141,51 @@ fn redo(session: Session) -> (Session, Answer)
     }
 }
 
+/// What a query gives.
+fn told(given: Result<Reply, Refusal>) -> Answer
+    ensures { result ≡ told given }
+{
+    match given {
+        Ok(reply) => Answer::Reply(reply),
+        Err(refusal) => told_refusal(refusal),
+    }
+}
+
+/// The plane of a face, and whether the face is flat.
+fn plane_reply(arena: &Arena, face: u32) -> Result<Reply, Refusal>
+    requires { IsReady arena.now }
+    ensures { result ≡ plane_reply arena.now.model face }
+{
+    let plane = plane(arena, face)?;
+    Ok(Reply::Plane(plane, is_flat(arena, face)?))
+}
+
+/// Six times the volume of a solid.
+fn volume_reply(arena: &Arena, solid: u32) -> Result<Reply, Refusal>
+    requires { IsReady arena.now }
+    ensures { result ≡ volume_reply arena.now.model solid }
+{
+    Ok(Reply::Volume(six_volume(arena, solid)?))
+}
+
+/// The plane of a face of the model held.
+fn tell_plane(session: Session, face: u32) -> (Session, Answer)
+    ensures answer { result.1 ≡ told (plane_reply (held session) face) }
+    ensures kept { result.0 ≡ session }
+{
+    let answer = told(plane_reply(session.arena(), face));
+    (session, answer)
+}
+
+/// The volume of a solid of the model held.
+fn tell_volume(session: Session, solid: u32) -> (Session, Answer)
+    ensures answer { result.1 ≡ told (volume_reply (held session) solid) }
+    ensures kept { result.0 ≡ session }
+{
+    let answer = told(volume_reply(session.arena(), solid));
+    (session, answer)
+}
+
 /// Carries a command out. A command that the workbench doesn't know yet is answered as an unknown word.
 fn obey(alloc: Global, session: Session, command: Command) -> (Session, Answer)
     ensures { Obeys session command result.1 result.0 }
@@ -147,6 +194,8 @@ fn obey(alloc: Global, session: Session, command: Command) -> (Session, Answer)
         Command::Nothing => (session, Answer::Silent),
         Command::Act(op) => act(session, op),
         Command::Lamina(solid, corners) => draw_lamina(alloc, session, solid, &corners),
+        Command::Plane(face) => tell_plane(session, face),
+        Command::Volume(solid) => tell_volume(session, solid),
         Command::Undo => undo(session),
         Command::Redo => redo(session),
         Command::List => (session, Answer::Listing),
@@ -154,8 +203,6 @@ fn obey(alloc: Global, session: Session, command: Command) -> (Session, Answer)
         | Command::Sweep(_, _)
         | Command::Glue(_, _)
         | Command::Split(_, _, _)
-        | Command::Plane(_)
-        | Command::Volume(_)
         | Command::Count(_) => (session, unknown()),
     }
 }
