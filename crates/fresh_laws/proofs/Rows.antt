@@ -4,7 +4,7 @@ use Rattle.std.proofs.Common.{◌≡◌, ◌≢◌, ℕ, ◌≤◌, ◌<◌, Boo
 use Rattle.std.proofs.lemmas.Bool.Decides.{nat_tests, eqb_tells}
 use Rattle.std.specs.Ordering.{nat_cmp, is_lt, eq_by_cmp}
 use Rattle.std.specs.FinMap.Entries as entries
-use Rattle.std.specs.FinMap.Entries.{find, is_sorted, below_all, by_order}
+use Rattle.std.specs.FinMap.Entries.{find, is_sorted, by_order}
 use Rattle.std.specs.Cmp.{unsigned_tied}
 use Rattle.std.specs.declared.cmp.Ordering.TheVariants.{Greater}
 use Rattle.boundary_model.proofs.Tables.{and_left, and_right, map-put, map_same}

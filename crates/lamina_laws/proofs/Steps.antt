@@ -1,6 +1,6 @@
 -- Each operator of a lamina is accepted, and leads from one model of the path to the next.
 use Rattle.std.specs.Prelude.{map, reverse, length, get_or, nat_eq, ◌-◌}
-use Rattle.std.proofs.Common.{◌≡◌, ◌≢◌, ℕ, zero, suc, ◌+◌, ◌*◌, ◌≤◌, ◌<◌, Bool, true, false, cond, List, [], ◌∷◌, ◌++◌, Option, Some, None, unwrap_or, is_some, refl, sym, ap, subst, ◌∙◌, arith, IsTrue}
+use Rattle.std.proofs.Common.{◌≡◌, ◌≢◌, ℕ, zero, suc, ◌+◌, ◌≤◌, ◌<◌, true, cond, List, [], ◌∷◌, ◌++◌, Some, None, unwrap_or, is_some, refl, sym, ap, ◌∙◌, arith, IsTrue}
 use Rattle.std.proofs.lemmas.Bool.Decides.{nat_tests}
 use Rattle.lattice.specs.declared.Point.{Point}
 use Rattle.lattice.specs.Point.{IsInRange}
@@ -9,11 +9,11 @@ use Rattle.cyclic_list.specs.Rings.{canonical, upto, onward}
 use Rattle.cyclic_list.specs.Rings as rings
 use Rattle.cyclic_list.specs.Edits.{insert_before}
 use Rattle.cyclic_list.proofs.Lists.{count-append, tick_same}
-use Rattle.boundary_model.specs.HalfEdge.{code, mate, edge_of, is_first, plus, minus}
+use Rattle.boundary_model.specs.HalfEdge.{code, mate, edge_of, plus, minus}
 use Rattle.boundary_model.specs.Table as table
 use Rattle.boundary_model.specs.Table.{Table}
-use Rattle.boundary_model.specs.Model.{Model, LoopContent, lone, cycle, FaceRow, LoopRow, EdgeRow, no_point, no_face, no_loop, items_of, tail_in, content, face_of, solid_of, outer, tail, loop_of, cycle_of, arc, holds, is_number}
-use Rattle.boundary_model.specs.Sound.{Sound, Has, HasHalf, StandsIn}
+use Rattle.boundary_model.specs.Model.{Model, LoopContent, cycle, EdgeRow, no_point, no_face, items_of, tail_in, content, face_of, solid_of, outer, tail, loop_of, cycle_of, arc, holds, is_number}
+use Rattle.boundary_model.specs.Sound.{Sound}
 use Rattle.boundary_model.proofs.Halves.{plus_row, minus_row}
 use Rattle.boundary_model.proofs.Models.{in-holds, holds-none, not_held, content_row, face_row, tail_row}
 use Rattle.boundary_model.proofs.Tables.{map_same}
@@ -31,7 +31,7 @@ use Rattle.fresh_laws.proofs.Tests.{Left, number_fits}
 use Rattle.shapes.specs.Fresh.{Taken, numbers_after}
 use Rattle.shapes.specs.Lamina.{with_points, with_path, with_ring, lamina_at}
 use Rattle.lamina_laws.specs.Path.{out, back, path_content, path_at, first_half, second_half, first_point, next_point, last_edge}
-use Rattle.lamina_laws.proofs.Lists.{two_halves, longer_plus, longer_minus, ring_plus, ring_minus, no_minus, out_first, plus_halves, minus_halves}
+use Rattle.lamina_laws.proofs.Lists.{two_halves, longer_plus, longer_minus, ring_plus, ring_minus, out_first, plus_halves, minus_halves}
 
 -- ---- the tables of a path
 
@@ -211,7 +211,7 @@ module _ (M : Model) (c : Taken) (s : ℕ) (ps : List Point) (n : ℕ) (goes : G
     faces = table.put M.faces (c.face + 1) (record { solid = s; outer = c.loop + 1 });
     loops = second_loop i;
     edges = second_edge i;
-    vertices = with_points M.vertices c.vertex ps 2
+    vertices = with_points M.vertices c.vertex ps 2;
   }
 
   -- ---- a further point
@@ -277,7 +277,7 @@ module _ (M : Model) (c : Taken) (s : ℕ) (ps : List Point) (n : ℕ) (goes : G
       faces = table.put M.faces (c.face + 1) (record { solid = s; outer = c.loop + 1 });
       loops = further_loop i;
       edges = further_edges i;
-      vertices = with_points M.vertices c.vertex ps (suc (suc (suc j)))
+      vertices = with_points M.vertices c.vertex ps (suc (suc (suc j)));
     }
 
   -- ---- the last edge
@@ -360,12 +360,12 @@ module _ (M : Model) (c : Taken) (s : ℕ) (ps : List Point) (n : ℕ) (goes : G
     -- the lamina over n points
     abbrev pub closed_at : ℕ → Model
     closed_at k = record {
-        solids = table.put M.solids s tt;
-        faces = table.put (table.put M.faces (c.face + 1) (record { solid = s; outer = c.loop + 1 })) (c.face + 2) (record { solid = s; outer = c.loop + 2 });
-        loops = table.put (table.put M.loops (c.loop + 1) (record { face = c.face + 1; content = cycle (map plus (numbers_after c.edge k)) })) (c.loop + 2) (record { face = c.face + 2; content = cycle (canonical (reverse (map minus (numbers_after c.edge k)))) });
-        edges = with_ring M.edges c.edge c.vertex k;
-        vertices = with_points M.vertices c.vertex ps k
-      }
+      solids = table.put M.solids s tt;
+      faces = table.put (table.put M.faces (c.face + 1) (record { solid = s; outer = c.loop + 1 })) (c.face + 2) (record { solid = s; outer = c.loop + 2 });
+      loops = table.put (table.put M.loops (c.loop + 1) (record { face = c.face + 1; content = cycle (map plus (numbers_after c.edge k)) })) (c.loop + 2) (record { face = c.face + 2; content = cycle (canonical (reverse (map minus (numbers_after c.edge k)))) });
+      edges = with_ring M.edges c.edge c.vertex k;
+      vertices = with_points M.vertices c.vertex ps k;
+    }
 
     closes : mef (path_at M c s ps (suc j)) (minus (c.edge + suc j)) (plus (c.edge + 1)) (plus (c.edge + suc (suc j))) (c.face + 2) (c.loop + 2) ≡ closed_at (suc (suc j))
     unfolding mef path_at
@@ -374,7 +374,7 @@ module _ (M : Model) (c : Taken) (s : ℕ) (ps : List Point) (n : ℕ) (goes : G
       faces = last_faces i;
       loops = table.put (old_loop i) (c.loop + 2) (record { face = c.face + 2; content = cycle (new_list i) });
       edges = last_edges i;
-      vertices = with_points M.vertices c.vertex ps (suc (suc j))
+      vertices = with_points M.vertices c.vertex ps (suc (suc j));
     }
 
     pub last_made : length ps ≡ suc (suc j) → effect (path_at M c s ps (suc j)) (last_edge c (suc j)) ≡ lamina_at M c s ps

@@ -1,14 +1,13 @@
 -- From the conditions of a lamina: its operators in order, and the model that they leave.
-use Rattle.std.specs.Prelude.{length, get_or, nat_eq, nat_le, ◌-◌}
-use Rattle.std.proofs.Common.{◌≡◌, ◌≢◌, ℕ, zero, suc, ◌+◌, ◌≤◌, ◌<◌, Bool, true, false, cond, not, List, [], ◌∷◌, ◌++◌, None, refl, sym, ap, subst, ◌∙◌, arith, IsTrue}
+use Rattle.std.specs.Prelude.{length, get_or, nat_le, ◌-◌}
+use Rattle.std.proofs.Common.{◌≡◌, ℕ, zero, suc, ◌+◌, ◌≤◌, ◌<◌, true, false, cond, List, [], ◌∷◌, ◌++◌, None, refl, sym, ap, subst, ◌∙◌, arith}
 use Rattle.std.proofs.lemmas.Bool.Decides.{nat_tests}
 use Rattle.lattice.specs.declared.Point.{Point}
 use Rattle.lattice.specs.Point.{is_in_range}
-use Rattle.boundary_model.specs.Table as table
 use Rattle.boundary_model.specs.Model.{Model, no_point}
 use Rattle.boundary_model.specs.Sound.{Sound}
 use Rattle.euler_operators.specs.declared.Op.{Op}
-use Rattle.euler_operators.specs.Conditions.{first_false, numbers_in_range}
+use Rattle.euler_operators.specs.Conditions.{first_false}
 use Rattle.euler_operators.specs.Effect.{effect}
 use Rattle.euler_laws_shared.proofs.Goes.{all_hold, not_true, free, equal}
 use Rattle.euler_laws.proofs.Cases.{effect_keeps_sound}
@@ -91,16 +90,17 @@ module _ (M : Model) (c : Taken) (s : ℕ) (ps : List Point) (n : ℕ) (goes : G
   walked zero l = (tt, refl)
   walked (suc j) l =
       let so_far = walked j (omega (arith, l)) in
-      let accepted : first_false (path_at M c s ps j) (next_point c ps j) ≡ None = next_accepted M c s ps n goes j l (path_sound M c s ps n goes j (omega (arith, l))) in
-      (
+      let accepted : first_false (path_at M c s ps j) (next_point c ps j) ≡ None = next_accepted M c s ps n goes j l (path_sound M c s ps n goes j (omega (arith, l))) in (
         accepted-append (path_at M c s ps 0) (further_points c ps j) (next_point c ps j ∷ []) so_far.0 (subst (λ N. AreAccepted N (next_point c ps j ∷ [])) (sym so_far.1) (accepted, tt)),
-        effects-append (path_at M c s ps 0) (further_points c ps j) (next_point c ps j ∷ []) ∙ ap (λ N. effect N (next_point c ps j)) so_far.1 ∙ next_made M c s ps n goes j
+        effects-append (path_at M c s ps 0) (further_points c ps j) (next_point c ps j ∷ []) ∙ ap (λ N. effect N (next_point c ps j)) so_far.1 ∙ next_made M c s ps n goes j,
       )
 
   all_accepted : (j : ℕ) → n ≡ suc j → AreAccepted M (first_point c s ps ∷ further_points c ps j ++ last_edge c j ∷ [])
-  all_accepted j all = let way = walked j (omega (arith, all)) in
-      (first_accepted M c s ps n goes, subst (λ N. AreAccepted N (further_points c ps j ++ last_edge c j ∷ [])) (sym (first_made M c s ps n goes))
-        (accepted-append (path_at M c s ps 0) (further_points c ps j) (last_edge c j ∷ []) way.0 (subst (λ N. AreAccepted N (last_edge c j ∷ [])) (sym way.1) (close_accepted M c s ps n goes j all, tt))))
+  all_accepted j all = let way = walked j (omega (arith, all)) in (
+    first_accepted M c s ps n goes,
+    subst (λ N. AreAccepted N (further_points c ps j ++ last_edge c j ∷ [])) (sym (first_made M c s ps n goes))
+        (accepted-append (path_at M c s ps 0) (further_points c ps j) (last_edge c j ∷ []) way.0 (subst (λ N. AreAccepted N (last_edge c j ∷ [])) (sym way.1) (close_accepted M c s ps n goes j all, tt))),
+  )
 
   all_made : (j : ℕ) → n ≡ suc j → length ps ≡ n → effects M (first_point c s ps ∷ further_points c ps j ++ last_edge c j ∷ []) ≡ lamina_at M c s ps
   all_made j all is = ap (λ N. effects N (further_points c ps j ++ last_edge c j ∷ [])) (first_made M c s ps n goes)

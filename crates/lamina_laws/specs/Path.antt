@@ -1,13 +1,12 @@
 -- A lamina in the making: the models between its operators, and the operators.
-use Rattle.std.specs.Prelude.{◌≡◌, ℕ, zero, suc, ◌+◌, ◌-◌, true, false, List, [], ◌∷◌, ◌++◌, length, get_or, None}
+use Rattle.std.specs.Prelude.{ℕ, zero, suc, ◌+◌, ◌-◌, true, false, List, [], ◌∷◌, ◌++◌, length, get_or}
 use Rattle.lattice.specs.declared.Point.{Point}
 use Rattle.boundary_model.specs.declared.HalfEdge.{HalfEdge}
 use Rattle.boundary_model.specs.declared.Corner.{Corner}
 use Rattle.boundary_model.specs.declared.Corner.TheVariants.{At, Lone}
 use Rattle.boundary_model.specs.HalfEdge.{plus, minus}
 use Rattle.boundary_model.specs.Table as table
-use Rattle.boundary_model.specs.Model.{Model, LoopContent, LoopRow, FaceRow, lone, cycle, no_point}
-use Rattle.boundary_model.specs.Sound.{Sound}
+use Rattle.boundary_model.specs.Model.{Model, LoopContent, lone, cycle, no_point}
 use Rattle.euler_operators.specs.declared.Op.{Op}
 use Rattle.euler_operators.specs.declared.Op.TheVariants.{Mvfs, Mev, Mef}
 use Rattle.shapes.specs.Fresh.{Taken, taken_in}
@@ -30,12 +29,12 @@ path_content c (suc j) = cycle (out c.edge (suc j) ++ back c.edge (suc j))
 -- a new solid with one face and one loop, which leads along j new edges, from point to point, and back
 unfoldable pub path_at : Model → Taken → ℕ → List Point → ℕ → Model
 path_at M c s ps j = record {
-    solids = table.put M.solids s tt;
-    faces = table.put M.faces (c.face + 1) (record { solid = s; outer = c.loop + 1 });
-    loops = table.put M.loops (c.loop + 1) (record { face = c.face + 1; content = path_content c j });
-    edges = with_path M.edges c.edge c.vertex j;
-    vertices = with_points M.vertices c.vertex ps (suc j)
-  }
+  solids = table.put M.solids s tt;
+  faces = table.put M.faces (c.face + 1) (record { solid = s; outer = c.loop + 1 });
+  loops = table.put M.loops (c.loop + 1) (record { face = c.face + 1; content = path_content c j });
+  edges = with_path M.edges c.edge c.vertex j;
+  vertices = with_points M.vertices c.vertex ps (suc j);
+}
 
 abbrev pub first_half : ℕ → HalfEdge
 first_half e = record { edge = e; first = true }

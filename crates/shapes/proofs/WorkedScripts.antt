@@ -1,5 +1,5 @@
 -- Worked examples of laminas, sweeps and blocks, computed.
-use Rattle.std.specs.Prelude.{◌≡◌, ℕ, ℤ, pos, negsuc, List, [], ◌∷◌, Option, Some, None, refl}
+use Rattle.std.specs.Prelude.{◌≡◌, ℕ, ℤ, pos, List, [], ◌∷◌, Some, None, refl}
 use Rattle.lattice.specs.declared.Point.{Point}
 use Rattle.boundary_model.specs.declared.Corner.TheVariants.{At, Lone}
 use Rattle.boundary_model.specs.Model.{Model, FaceRow, EdgeRow, empty_model, content}

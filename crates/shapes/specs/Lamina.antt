@@ -54,13 +54,13 @@ with_ring t e v n = table.put (with_path t e v (n - 1)) (e + n) (record { plus_t
 -- a ring of new edges through the points, with a new face on either side
 abbrev pub lamina_at : Model → Taken → ℕ → List Point → Model
 lamina_at M c s ps = let n = length ps in let es = numbers_after c.edge n in record {
-    solids = table.put M.solids s tt;
-    faces = table.put (table.put M.faces (c.face + 1) (record { solid = s; outer = c.loop + 1 })) (c.face + 2) (record { solid = s; outer = c.loop + 2 });
-    loops = table.put (table.put M.loops (c.loop + 1) (record { face = c.face + 1; content = cycle (map plus es) }))
+  solids = table.put M.solids s tt;
+  faces = table.put (table.put M.faces (c.face + 1) (record { solid = s; outer = c.loop + 1 })) (c.face + 2) (record { solid = s; outer = c.loop + 2 });
+  loops = table.put (table.put M.loops (c.loop + 1) (record { face = c.face + 1; content = cycle (map plus es) }))
       (c.loop + 2) (record { face = c.face + 2; content = cycle (canonical (reverse (map minus es))) });
-    edges = with_ring M.edges c.edge c.vertex n;
-    vertices = with_points M.vertices c.vertex ps n
-  }
+  edges = with_ring M.edges c.edge c.vertex n;
+  vertices = with_points M.vertices c.vertex ps n;
+}
 
 -- the model that an accepted lamina makes
 unfoldable pub lamina_model : Model → ℕ → List Point → Model

@@ -40,15 +40,15 @@ next_place n i = cond (nat_eq (i + 1) n) 0 (i + 1)
 -- the side over item i: the item, up the next riser, back along the top edge, and down its own riser
 unfoldable pub with_side : Taken → ℕ → Point → List ℕ → ℕ → Model → Model
 with_side c s d hs i M = let n = length hs in let h = get_or hs i 0 in let j = next_place n i in record M {
-    faces = table.put M.faces (c.face + 1 + i) (record { solid = s; outer = c.loop + 1 + i });
-    loops = table.put M.loops (c.loop + 1 + i) (record {
-        face = c.face + 1 + i;
-        content = cycle (canonical (h ∷ plus (riser c.edge j) ∷ minus (top_edge c.edge n i) ∷ minus (riser c.edge i) ∷ []))
-      });
-    edges = table.put (table.put M.edges (riser c.edge i) (record { plus_tail = tail M h; minus_tail = c.vertex + 1 + i }))
+  faces = table.put M.faces (c.face + 1 + i) (record { solid = s; outer = c.loop + 1 + i });
+  loops = table.put M.loops (c.loop + 1 + i) (record {
+    face = c.face + 1 + i;
+    content = cycle (canonical (h ∷ plus (riser c.edge j) ∷ minus (top_edge c.edge n i) ∷ minus (riser c.edge i) ∷ []));
+  });
+  edges = table.put (table.put M.edges (riser c.edge i) (record { plus_tail = tail M h; minus_tail = c.vertex + 1 + i }))
       (top_edge c.edge n i) (record { plus_tail = c.vertex + 1 + i; minus_tail = c.vertex + 1 + j });
-    vertices = table.put M.vertices (c.vertex + 1 + i) (moved (start M h) d)
-  }
+  vertices = table.put M.vertices (c.vertex + 1 + i) (moved (start M h) d);
+}
 
 -- the sides over the first i items
 abbrev pub with_sides : Taken → ℕ → Point → List ℕ → ℕ → Model → Model
@@ -67,9 +67,9 @@ lifted M f l hs = record M { loops = table.put M.loops l (record { face = f; con
 -- a whole loop swept: a side over each item, and the loop lifted
 abbrev pub raised_over : ℕ → Point → Growing → ℕ → List ℕ → Growing
 raised_over f d g l hs = let c = g.taken in let n = length hs in record {
-    model = lifted (with_sides c (solid_of g.model f) d hs n g.model) f l (top_items c.edge n n);
-    taken = record { face = c.face + n; loop = c.loop + n; edge = c.edge + 2 * n; vertex = c.vertex + n }
-  }
+  model = lifted (with_sides c (solid_of g.model f) d hs n g.model) f l (top_items c.edge n n);
+  taken = record { face = c.face + n; loop = c.loop + n; edge = c.edge + 2 * n; vertex = c.vertex + n };
+}
 
 unfoldable pub raised : ℕ → Point → Growing → ℕ → Growing
 raised f d g l = raised_over f d g l (items_of (content g.model l))

@@ -1,5 +1,5 @@
 -- The greatest numbers in use, as the code keeps them.
-use Rattle.std.specs.Prelude.{ℕ, ◌≤◌}
+use Rattle.std.specs.Prelude.{◌≤◌}
 use Rattle.shapes.specs.Fresh.{Taken}
 use Rattle.sweeps.specs.declared.fresh.Counters.{Counters}
 

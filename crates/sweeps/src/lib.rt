@@ -5,5 +5,7 @@ mod fresh;
 mod laminas;
 mod raising;
 mod steps;
+#[cfg(test)]
+mod tests;
 
 pub use laminas::lamina;

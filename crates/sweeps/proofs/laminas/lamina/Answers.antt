@@ -7,8 +7,7 @@ use Rattle.sweeps.proofs.laminas.lamina.Goals as goal
 pub returns-in-Ok-draw_lamina-clause-ok : goal.returns-in-Ok-draw_lamina-clause-ok
 returns-in-Ok-draw_lamina-clause-ok c =
     let model = c.in-Ok-draw_lamina.ensures.ok ∙ ap (λ (d : DraftState). lamina_model d.model c.args.solid c.args.points.now.items) c.in-Ok.ensures.ok in
-    let session = c.in-Ok-draw_lamina.ensures.session ∙ ap (λ (d : DraftState). d.session) c.in-Ok.ensures.ok in
-    (
+    let session = c.in-Ok-draw_lamina.ensures.session ∙ ap (λ (d : DraftState). d.session) c.in-Ok.ensures.ok in (
       sym (ap (λ M. lamina_refusal M c.args.solid c.args.points.now.items) c.arena.ensures.model) ∙ passed _ _ (sym c.check_lamina.ensures ∙ c.in_default.is),
-      c.commit.ensures ∙ (λ t. accepted (session t) (model t))
+      c.commit.ensures ∙ (λ t. accepted (session t) (model t)),
     )
