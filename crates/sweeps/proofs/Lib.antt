@@ -1,3 +1,4 @@
 mod Drawing
 mod RaisedItems
 mod RaisedLoops
+mod BlockSteps

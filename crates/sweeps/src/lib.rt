@@ -1,6 +1,7 @@
 //! Commands that make shapes: a lamina, a block, a sweep of a face. Each is one command of the journal.
 #![tactic(auto)]
 
+mod blocks;
 mod fresh;
 mod laminas;
 mod raising;
@@ -8,4 +9,5 @@ mod steps;
 #[cfg(test)]
 mod tests;
 
+pub use blocks::block;
 pub use laminas::lamina;

@@ -1,0 +1,171 @@
+//! The block: a lamina swept up, as one command.
+ghost use Rattle.std.specs.Prelude.{◌≡◌, ◌↔◌, pos, None, Some, Err, OnOk, OnErr};
+ghost use Rattle.lattice.specs.Point.{IsInRange, is_in_range};
+ghost use Rattle.lattice.specs.Vectors.{moved};
+ghost use Rattle.boundary_model.specs.Model.{is_number};
+ghost use Rattle.euler_operators.specs.Conditions.{verdict};
+ghost use Rattle.euler_operators.specs.declared.Refusal.{Refusal};
+ghost use Rattle.euler_conditions.specs.Ready.{IsReady};
+ghost use Rattle.undo_journal.specs.Machine.{held, accepted};
+ghost use Rattle.shapes.specs.Block.{vector, base_of, block_refusal, block_model};
+
+use crate::fresh::{check_left, counters_of, refused};
+use crate::laminas::draw_lamina;
+use crate::raising::raise;
+use arrayvec::ArrayVec;
+use euler_conditions::{Refusal, Why};
+use halfedge_arena::{Arena, Kind};
+use lattice::{Point, point_in_range, sum, sum_in_range};
+use std::alloc::{AllocError, Global};
+use undo_journal::{Draft, Failure, Session};
+
+/// Whether a point's coordinates are within the limit.
+fn is_near(point: Point) -> bool
+    ensures { result ≡ is_in_range point }
+{
+    point_in_range(point)
+}
+
+fn is_number(n: u32) -> bool
+    ensures { result ≡ is_number n }
+{
+    1 <= n && n <= 1_000_000
+}
+
+/// Whether a block can be made as the new solid, from a corner and by sizes along x, y and z.
+///
+/// Refused, in this order: NumberRange; SolidTaken; SizeRange with 1, 2 or 3 for the first size below 1; PointRange with 1 for
+/// the corner, 2 for the opposite one; NumbersSpent with 2 for faces, 3 for loops, 4 for edges, 5 for vertices.
+#[tactic(auto, unfolding(shapes::specs::Block::block_conditions))]
+fn check_block(
+    arena: &Arena,
+    solid: u32,
+    corner: Point,
+    size: Point,
+) -> Result<(), Refusal>
+    requires { IsReady arena.now }
+    ensures { result ≡ verdict (block_refusal arena.now.model solid corner size.x size.y size.z) }
+{
+    if !is_number(solid) {
+        return refused(Why::NumberRange, solid);
+    }
+    if arena.has(Kind::Solid, solid) {
+        return refused(Why::SolidTaken, solid);
+    }
+    if !(1 <= size.x) {
+        return refused(Why::SizeRange, 1);
+    }
+    if !(1 <= size.y) {
+        return refused(Why::SizeRange, 2);
+    }
+    if !(1 <= size.z) {
+        return refused(Why::SizeRange, 3);
+    }
+    if !is_near(corner) {
+        return refused(Why::PointRange, 1);
+    }
+    if !sum_in_range(corner, size) {
+        return refused(Why::PointRange, 2);
+    }
+    check_left(&counters_of(arena), 6, 6, 12, 8)
+}
+
+/// The corners of a block's base.
+fn base(corner: Point, size: Point) -> ArrayVec<Point, 64>
+    requires second { IsInRange (moved corner (vector size.x (pos 0) (pos 0))) }
+    requires third { IsInRange (moved corner (vector size.x size.y (pos 0))) }
+    requires fourth { IsInRange (moved corner (vector (pos 0) size.y (pos 0))) }
+    ensures { result.items ≡ base_of corner size.x size.y }
+{
+    let mut along = size;
+    along.y = 0;
+    along.z = 0;
+    let mut across = size;
+    across.z = 0;
+    let mut beside = size;
+    beside.x = 0;
+    beside.z = 0;
+    let second = sum(corner, along);
+    let third = sum(corner, across);
+    let fourth = sum(corner, beside);
+    let mut points = ArrayVec::new();
+    points.push(corner);
+    points.push(second);
+    points.push(third);
+    points.push(fourth);
+    points
+}
+
+/// Draws a block whose conditions hold: the lamina of its base, and then the sweep of the lamina's first face. Where memory is
+/// refused the draft holds what was drawn so far.
+fn draw_block(
+    alloc: Global,
+    draft: &mut Draft,
+    solid: u32,
+    corner: Point,
+    size: Point,
+) -> Result<(), AllocError>
+    requires { block_refusal draft.old.model solid corner size.x size.y size.z ≡ None }
+    ensures ok { OnOk result (draft.new.model ≡ block_model draft.old.model solid corner size.x size.y size.z) }
+    ensures session { draft.new.session ≡ draft.old.session }
+{
+    let taken = counters_of(draft.arena());
+    let corners = base(corner, size);
+    draw_lamina(draft, solid, &corners)?;
+    let mut up = size;
+    up.x = 0;
+    up.y = 0;
+    raise(alloc, draft, taken.faces + 1, up)
+}
+
+/// A block as one command, by its sizes in one vector.
+fn block_of(
+    alloc: Global,
+    session: Session,
+    solid: u32,
+    corner: Point,
+    size: Point,
+) -> (Session, Result<(), Failure>)
+    ensures ok { OnOk result.1 ((block_refusal (held session) solid corner size.x size.y size.z ≡ None) × (result.0 ≡ accepted session (block_model (held session) solid corner size.x size.y size.z))) }
+    ensures refused { (refusal : Refusal) → ((result.1 ≡ Err (Failure.Refused refusal)) ↔ (block_refusal (held session) solid corner size.x size.y size.z ≡ Some refusal)) }
+    ensures err { OnErr result.1 (result.0 ≡ session) }
+{
+    if let Err(refusal) = check_block(session.arena(), solid, corner, size) {
+        return (session, Err(Failure::Refused(refusal)));
+    }
+    let mut draft = match Draft::open(session) {
+        Ok(draft) => draft,
+        Err((session, error)) => return (session, Err(Failure::Memory(error))),
+    };
+    match draw_block(alloc, &mut draft, solid, corner, size) {
+        Ok(()) => (draft.commit(), Ok(())),
+        Err(error) => (draft.abandon(), Err(Failure::Memory(error))),
+    }
+}
+
+/// A block as one command: the new solid with its edges along the axes, from a corner and by sizes along x, y and z. It is the
+/// lamina of its base, swept up.
+///
+/// Refused, in this order: NumberRange; SolidTaken; SizeRange with 1, 2 or 3 for the first size below 1; PointRange with 1 for
+/// the corner, 2 for the opposite one; NumbersSpent with 2 for faces, 3 for loops, 4 for edges, 5 for vertices. Where memory is
+/// refused `Memory` is answered. On any failure the session is as it was.
+pub fn block(
+    alloc: Global,
+    session: Session,
+    solid: u32,
+    corner: Point,
+    dx: i64,
+    dy: i64,
+    dz: i64,
+) -> (Session, Result<(), Failure>)
+    ensures ok { OnOk result.1 ((block_refusal (held session) solid corner dx dy dz ≡ None) × (result.0 ≡ accepted session (block_model (held session) solid corner dx dy dz))) }
+    ensures refused { (refusal : Refusal) → ((result.1 ≡ Err (Failure.Refused refusal)) ↔ (block_refusal (held session) solid corner dx dy dz ≡ Some refusal)) }
+    ensures err { OnErr result.1 (result.0 ≡ session) }
+{
+    let size = Point {
+        x: dx,
+        y: dy,
+        z: dz,
+    };
+    block_of(alloc, session, solid, corner, size)
+}
