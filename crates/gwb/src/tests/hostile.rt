@@ -1,6 +1,6 @@
 //! Scripts that never end, are cut or too long, and readers and writers that fail.
 use super::super::{RunFault, run};
-use super::streams::{Halt, Pieces, Repeated, Taker};
+use super::streams::{Flushed, Halt, Pieces, Repeated, Taker};
 use super::{FAULTS, FAULTS_TOLD, WIRE, WIRE_TOLD, answers, told};
 use std::alloc::Global;
 use std::process::Abort;
@@ -142,6 +142,22 @@ fn each_write_fails(rt: HostRuntime) -> Result<(), Fail> {
         }
     }
     Ok(())
+}
+
+/// A run flushes before each of its two reads and at its end.
+#[test]
+fn each_flush_fails(rt: HostRuntime) {
+    for flushes in 0..3u32 {
+        let mut writer = Flushed { left: flushes };
+        let ended = run(rt.alloc(), WIRE, &mut writer, false);
+        assert_eq!(rt;
+            ended.err(),
+            Some(RunFault::Write),
+            "after {flushes} flushes"
+        );
+    }
+    let mut writer = Flushed { left: 3 };
+    assert!(rt; run(rt.alloc(), WIRE, &mut writer, false).is_ok());
 }
 
 #[test]

@@ -1,6 +1,6 @@
 //! The command line, the exit statuses and the texts of the program.
 use super::super::{Choice, RunFault, Summary, Trouble, WordsFault, read_words, status_of};
-use std::alloc::Global;
+use std::alloc::{AllocError, Global};
 use std::process::Abort;
 use std::test::Fail;
 
@@ -77,6 +77,10 @@ fn texts(rt: HostRuntime) -> Result<(), Fail> {
         (Trouble::Run(RunFault::Write), "write fault"),
         (Trouble::Run(RunFault::TooLong), "script too long"),
         (Trouble::Run(RunFault::Memory), "out of memory"),
+        (
+            Trouble::from(WordsFault::Memory(AllocError)),
+            "out of memory",
+        ),
     ] {
         assert_eq!(rt; format!(in alloc; "{trouble}")?.as_str(), text);
     }

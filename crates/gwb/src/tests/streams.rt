@@ -72,3 +72,23 @@ impl Write for Taker {
         Ok(())
     }
 }
+
+/// A writer that takes everything, and fails after so many flushes.
+#[derive(Drop)]
+pub struct Flushed {
+    pub left: u32,
+}
+
+impl Write for Flushed {
+    fn write(&mut self, buf: &[u8]) -> io::Result<usize> {
+        Ok(buf.len())
+    }
+
+    fn flush(&mut self) -> io::Result<()> {
+        if self.left == 0 {
+            return Err(io::Error::from(ErrorKind::Other));
+        }
+        self.left -= 1;
+        Ok(())
+    }
+}
