@@ -2,17 +2,19 @@
 ghost use Rattle.std.specs.Prelude.{◌≡◌, ◌<◌, ◌≤◌, ◌↔◌, IsTrue};
 ghost use Rattle.euler_conditions.specs.Ready.{IsReady};
 ghost use Rattle.gwb.specs.Judging.{refused, outcome, told, plane_reply, volume_reply, Moves, Acts, Obeys, Judges, answer_text, complains, one_line, counted};
+ghost use Rattle.shapes.specs.Block.{block_refusal, block_model};
 ghost use Rattle.shapes.specs.Lamina.{lamina_refusal, lamina_model};
 ghost use Rattle.undo_journal.specs.Machine.{held, accepted};
 ghost use Rattle.undo_journal.specs.Machine as machine;
 
 use euler_conditions::{Op, Refusal};
 use halfedge_arena::Arena;
+use lattice::Point;
 use script_reader::{Command, Corners, Fault, read_line};
 use solid_listing::{Reply, WriteFault};
 use solid_measure::{is_flat, plane, six_volume};
 use std::alloc::Global;
-use sweeps::lamina;
+use sweeps::{block, lamina};
 use undo_journal::{Failure, Session};
 
 /// What a line is answered.
@@ -121,6 +123,23 @@ fn draw_lamina(
     (session, outcome(ended))
 }
 
+/// A block from a corner and by its sizes.
+#[tactic(auto, using(crate::proofs::Acted::acts))]
+fn draw_block(
+    alloc: Global,
+    session: Session,
+    solid: u32,
+    corner: Point,
+    dx: i64,
+    dy: i64,
+    dz: i64,
+) -> (Session, Answer)
+    ensures { Acts (block_refusal (held session) solid corner dx dy dz) session (accepted session (block_model (held session) solid corner dx dy dz)) result.1 result.0 }
+{
+    let (session, ended) = block(alloc, session, solid, corner, dx, dy, dz);
+    (session, outcome(ended))
+}
+
 fn undo(session: Session) -> (Session, Answer)
     ensures { Moves (machine.undo_refusal session) session (machine.undo session) result.1 result.0 }
 {
@@ -194,13 +213,15 @@ fn obey(alloc: Global, session: Session, command: Command) -> (Session, Answer)
         Command::Nothing => (session, Answer::Silent),
         Command::Act(op) => act(session, op),
         Command::Lamina(solid, corners) => draw_lamina(alloc, session, solid, &corners),
+        Command::Block(solid, corner, dx, dy, dz) => {
+            draw_block(alloc, session, solid, corner, dx, dy, dz)
+        }
         Command::Plane(face) => tell_plane(session, face),
         Command::Volume(solid) => tell_volume(session, solid),
         Command::Undo => undo(session),
         Command::Redo => redo(session),
         Command::List => (session, Answer::Listing),
-        Command::Block(_, _, _, _, _)
-        | Command::Sweep(_, _)
+        Command::Sweep(_, _)
         | Command::Glue(_, _)
         | Command::Split(_, _, _)
         | Command::Count(_) => (session, unknown()),

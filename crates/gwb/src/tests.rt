@@ -255,3 +255,19 @@ fn a_copy_lists_the_same(rt: HostRuntime) -> Result<(), Fail> {
     assert_eq!(rt; out.as_slice(), &WIRE_TOLD[6..]);
     Ok(())
 }
+
+#[test]
+fn measures(rt: HostRuntime) -> Result<(), Fail> {
+    told(
+        &rt,
+        rt.alloc(),
+        b"mvfs 1 1 1 1 0 0 0\nmev @1 @1 1 2 5 0 0\nplane 1\nplane 2\nvolume 1000001\nundo\nvolume 1\n",
+        b"ok\nok\nplane 0 0 0 0 bent\nrefused 3 2\nrefused 1 1000001\nok\nvolume 0\n",
+    )?;
+    told(
+        &rt,
+        rt.alloc(),
+        b"mvfs 1 1 1 1 0 0 0\nmev @1 @1 1 2 3 0 0\nmev -1 -1 2 3 0 3 0\nmef -2 +1 3 2 2\nplane 1\nplane 2\nvolume 1\nmev +1 +1 4 4 0 0 3\nplane 1\nmef -4 +2 5 3 3\nmef +5 +3 6 4 4\nplane 4\nvolume 1\nvolume 2\n",
+        b"ok\nok\nok\nok\nplane 0 0 9 0 flat\nplane 0 0 -9 0 flat\nvolume 0\nok\nplane 0 0 9 0 bent\nok\nok\nplane 9 9 9 -27 flat\nvolume 27\nrefused 2 2\n",
+    )
+}
