@@ -271,3 +271,77 @@ fn measures(rt: HostRuntime) -> Result<(), Fail> {
         b"ok\nok\nok\nok\nplane 0 0 9 0 flat\nplane 0 0 -9 0 flat\nvolume 0\nok\nplane 0 0 9 0 bent\nok\nok\nplane 9 9 9 -27 flat\nvolume 27\nrefused 2 2\n",
     )
 }
+
+const BLOCK_TOLD: &[u8] = b"\
+ok\n\
+volume 384\n\
+plane 0 0 32 -128 flat\n\
+plane 0 -32 0 0 flat\n\
+solid 1\n\
+face 1 1 1\n\
+face 2 1 2\n\
+face 3 1 3\n\
+face 4 1 4\n\
+face 5 1 5\n\
+face 6 1 6\n\
+loop 1 +7 +9 +11 +12\n\
+loop 2 -1 -4 -3 -2\n\
+loop 3 +1 +6 -7 -5\n\
+loop 4 +2 +8 -9 -6\n\
+loop 5 +3 +10 -11 -8\n\
+loop 6 +4 +5 -12 -10\n\
+edge 1 1 2\n\
+edge 2 2 3\n\
+edge 3 3 4\n\
+edge 4 4 1\n\
+edge 5 1 5\n\
+edge 6 2 6\n\
+edge 7 5 6\n\
+edge 8 3 7\n\
+edge 9 6 7\n\
+edge 10 4 8\n\
+edge 11 7 8\n\
+edge 12 8 5\n\
+vertex 1 0 0 0\n\
+vertex 2 4 0 0\n\
+vertex 3 4 4 0\n\
+vertex 4 0 4 0\n\
+vertex 5 0 0 4\n\
+vertex 6 4 0 4\n\
+vertex 7 4 4 4\n\
+vertex 8 0 4 4\n\
+ok\n\
+empty\n\
+";
+
+#[test]
+fn a_block(rt: HostRuntime) -> Result<(), Fail> {
+    told(
+        &rt,
+        rt.alloc(),
+        b"block 1 0 0 0 4 4 4\nvolume 1\nplane 1\nplane 3\nlist\nundo\nlist\n",
+        BLOCK_TOLD,
+    )?;
+    told(
+        &rt,
+        rt.alloc(),
+        b"block 1 0 0 0 4 0 4\nblock 1 1000000001 0 0 1 1 1\nblock 1 1000000000 0 0 1 1 1\nblock 0 0 0 0 1 1 1\nblock 1 0 0 0 1 1 1\nblock 1 0 0 0 1 1 1\n",
+        b"refused 43 2\nrefused 11 1\nrefused 11 2\nrefused 1 0\nok\nrefused 6 1\n",
+    )
+}
+
+#[test]
+fn laminas(rt: HostRuntime) -> Result<(), Fail> {
+    told(
+        &rt,
+        rt.alloc(),
+        b"lamina 1\nlamina 1 0 0 0 1 0 0\nlamina 1 0 0 0 1 0 0 0 0 0\nlamina 1 0 0\nlamina 1 0 0 0 3 0 0 0 3 0\nmev +1 -3 4 4 1 1 0\nkev +4\nplane 1\nvolume 1\nundo\nlist\n",
+        b"refused 28 0\nrefused 28 2\nrefused 33 3\nfault 3\nok\nok\nok\nplane 0 0 9 0 flat\nvolume 0\nok\nsolid 1\nface 1 1 1\nface 2 1 2\nloop 1 +1 +2 +3 +4\nloop 2 -1 -4 -3 -2\nedge 1 4 2\nedge 2 2 3\nedge 3 3 1\nedge 4 1 4\nvertex 1 0 0 0\nvertex 2 3 0 0\nvertex 3 0 3 0\nvertex 4 1 1 0\n",
+    )?;
+    told(
+        &rt,
+        rt.alloc(),
+        b"mvfs 1 1000000 1 1 0 0 0\nlamina 2 0 0 0 3 0 0 0 3 0\n",
+        b"ok\nrefused 27 2\n",
+    )
+}
