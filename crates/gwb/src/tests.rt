@@ -12,7 +12,7 @@ use solid_listing::write_listing;
 use std::alloc::Global;
 use std::process::Abort;
 use std::test::Fail;
-use undo_journal::{Failure, Session};
+use undo_journal::{Draft, Failure, Session};
 
 /// What a run writes, with its counts.
 fn answers(alloc: Global, script: &[u8], stop: bool) -> Result<(Vec<u8>, Summary), Fail> {
@@ -252,6 +252,42 @@ fn a_copy_lists_the_same(rt: HostRuntime) -> Result<(), Fail> {
     let copy = session.arena().copy(alloc)?;
     let mut out = Vec::new(alloc);
     write_listing(&copy, &mut out)?;
+    assert_eq!(rt; out.as_slice(), &WIRE_TOLD[6..]);
+    Ok(())
+}
+
+#[test]
+fn a_draft_abandoned(rt: HostRuntime) -> Result<(), Fail> {
+    let alloc = rt.alloc();
+    let mut session = Session::new(alloc)?;
+    let origin = Point { x: 0, y: 0, z: 0 };
+    let end = Point { x: 5, y: 0, z: 0 };
+    let far = Point { x: 1, y: 1, z: 1 };
+    let edge = HalfEdge {
+        edge: 1,
+        first: true,
+    };
+    let other = HalfEdge {
+        edge: 5,
+        first: true,
+    };
+    let lone = Corner::Lone(1);
+    session
+        .act(Op::Mvfs(1, 1, 1, 1, origin))
+        .map_err(|_| "mvfs")?;
+    session
+        .act(Op::Mev(lone, lone, edge, 2, end))
+        .map_err(|_| "mev")?;
+    session.undo().map_err(|_| "undo")?;
+    let mut draft = Draft::open(session).map_err(|_| "open")?;
+    let unknown = draft.step(Op::Kvfs(9));
+    let step = draft.step(Op::Mev(lone, lone, other, 5, far));
+    let mut session = draft.abandon();
+    refused(&rt, unknown, Why::NoSolid, 9);
+    assert!(rt; step.is_ok());
+    session.redo().map_err(|_| "redo")?;
+    let mut out = Vec::new(alloc);
+    write_listing(session.arena(), &mut out)?;
     assert_eq!(rt; out.as_slice(), &WIRE_TOLD[6..]);
     Ok(())
 }
