@@ -1,6 +1,6 @@
 -- What a command is answered, from how it ended.
 use Rattle.std.proofs.Common.{◌≡◌, inl, inr, ℕ, Option, Some, None, Ok, Err, refl, sym, subst, ◌∙◌}
-use Rattle.std.specs.Prelude.{◌↔◌, Result, OnOk, OnErr}
+use Rattle.std.specs.Prelude.{◌↔◌, ℤ, Result, OnOk, OnErr}
 use Rattle.euler_operators.specs.declared.Refusal.{Refusal}
 use Rattle.undo_journal.specs.Machine.{Machine}
 use Rattle.undo_journal.specs.declared.session.Failure.{Failure}
@@ -19,3 +19,7 @@ pub acts : (o : Option Refusal) (s acted t : Machine) (ended : Result (Unit {0})
 acts o s acted t (Ok u) ok iff err = subst (λ (p : Option Refusal). Acts p s acted (outcome (Ok u)) t) (sym ok.0) (inl (refl, ok.1))
 acts o s acted t (Err (failure.Refused r)) ok iff err = subst (λ (p : Option Refusal). Acts p s acted (refused r) t) (sym ((iff r).0 refl)) (refl, err)
 acts o s acted t (Err (failure.Memory e)) ok iff err = memory_told o s acted t (λ r is. let h = (iff r).1 is in cc h) err
+
+-- what is told of three sizes is told of those that equal them
+pub of_sizes : (P : ℤ → ℤ → ℤ → Type 0) (a b g x y z : ℤ) → a ≡ x → b ≡ y → g ≡ z → P a b g → P x y z
+of_sizes P a b g x y z ex ey ez h = subst (λ i. P i y z) ex (subst (λ i. P a i z) ey (subst (λ i. P a b i) ez h))

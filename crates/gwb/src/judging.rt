@@ -124,7 +124,6 @@ fn draw_lamina(
 }
 
 /// A block from a corner and by its sizes.
-#[tactic(auto, using(crate::proofs::Acted::acts))]
 fn draw_block(
     alloc: Global,
     session: Session,
