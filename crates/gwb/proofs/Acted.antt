@@ -1,25 +1,23 @@
--- What a command is answered, from how it ended.
-use Rattle.std.proofs.Common.{◌≡◌, inl, inr, ℕ, Option, Some, None, Ok, Err, refl, sym, subst, ◌∙◌}
-use Rattle.std.specs.Prelude.{◌↔◌, ℤ, Result, OnOk, OnErr}
+-- What an operator is answered, from what the session answers.
+use Rattle.std.proofs.Common.{◌≡◌, inl, inr, ℕ, Bool, true, Option, Some, None, Err, refl, sym, ap, subst, ◌∙◌}
+use Rattle.std.specs.Prelude.{◌↔◌, Result}
+use Rattle.std.specs.declared.alloc.AllocError.{AllocError}
+use Rattle.euler_operators.specs.declared.Op.{Op}
 use Rattle.euler_operators.specs.declared.Refusal.{Refusal}
-use Rattle.undo_journal.specs.Machine.{Machine}
+use Rattle.undo_journal.specs.Machine.{Machine, act, act_refusal}
 use Rattle.undo_journal.specs.declared.session.Failure.{Failure}
 use Rattle.undo_journal.specs.declared.session.Failure.TheVariants as failure
 use Rattle.solid_listing.specs.declared.reply.Reply.TheVariants as reply
-use Rattle.gwb.specs.Judging.{Acts, outcome, refused}
+use Rattle.gwb.specs.Judging.{Acts, refused}
+use Rattle.gwb.specs.declared.judging.Answer.{Answer}
 use Rattle.gwb.specs.declared.judging.Answer.TheVariants.{Reply as Told}
 
--- a memory fault is no refusal
-memory_told : (o : Option Refusal) (s acted t : Machine) → ((r : Refusal) → o ≡ Some r → ⊥) → t ≡ s → Acts o s acted (Told reply.Memory) t
-memory_told None s acted t never e = inr (refl, e)
-memory_told (Some r) s acted t never e = absurd (never r refl)
+pub told_refused : (s t : Machine) (op : Op) (r : Refusal) (a : Answer) → act_refusal s op ≡ Some r → t ≡ s → a ≡ refused r → Acts (act_refusal s op) s (act s op) a t
+told_refused s t op r a er et ea = subst (λ (o : Option Refusal). Acts o s (act s op) a t) (sym er) (ea, et)
 
-pub acts : (o : Option Refusal) (s acted t : Machine) (ended : Result (Unit {0}) Failure)
-    → OnOk ended ((o ≡ None) × (t ≡ acted)) → ((r : Refusal) → (ended ≡ Err (failure.Refused r)) ↔ (o ≡ Some r)) → OnErr ended (t ≡ s) → Acts o s acted (outcome ended) t
-acts o s acted t (Ok u) ok iff err = subst (λ (p : Option Refusal). Acts p s acted (outcome (Ok u)) t) (sym ok.0) (inl (refl, ok.1))
-acts o s acted t (Err (failure.Refused r)) ok iff err = subst (λ (p : Option Refusal). Acts p s acted (refused r) t) (sym ((iff r).0 refl)) (refl, err)
-acts o s acted t (Err (failure.Memory e)) ok iff err = memory_told o s acted t (λ r is. let h = (iff r).1 is in cc h) err
-
--- what is told of three sizes is told of those that equal them
-pub of_sizes : (P : ℤ → ℤ → ℤ → Type 0) (a b g x y z : ℤ) → a ≡ x → b ≡ y → g ≡ z → P a b g → P x y z
-of_sizes P a b g x y z ex ey ez h = subst (λ i. P i y z) ex (subst (λ i. P a i z) ey (subst (λ i. P a b i) ez h))
+pub told_memory : (s t : Machine) (op : Op) (e : AllocError) (result : Result (Unit {0}) Failure) → result ≡ Err (failure.Memory e)
+    → ((r : Refusal) → (result ≡ Err (failure.Refused r)) ↔ (act_refusal s op ≡ Some r)) → t ≡ s → Acts (act_refusal s op) s (act s op) (Told reply.Memory) t
+told_memory s t op e result is iff et = on (act_refusal s op) refl where
+  on : (o : Option Refusal) → act_refusal s op ≡ o → Acts o s (act s op) (Told reply.Memory) t
+  on None f = inr (refl, et)
+  on (Some r) f = let h = (iff r).1 f in absurd (cc (is, h))

@@ -1,20 +1,14 @@
 //! What a line is answered.
 ghost use Rattle.std.specs.Prelude.{◌≡◌, ◌<◌, ◌≤◌, ◌↔◌, IsTrue};
 ghost use Rattle.euler_conditions.specs.Ready.{IsReady};
-ghost use Rattle.gwb.specs.Judging.{refused, outcome, told, plane_reply, volume_reply, Moves, Acts, Obeys, Judges, answer_text, complains, one_line, counted};
-ghost use Rattle.shapes.specs.Block.{block_refusal, block_model};
-ghost use Rattle.shapes.specs.Lamina.{lamina_refusal, lamina_model};
-ghost use Rattle.undo_journal.specs.Machine.{held, accepted};
+ghost use Rattle.gwb.specs.Judging.{refused, told, plane_reply, volume_reply, Moves, Acts, Obeys, Judges, answer_text, complains, one_line, counted};
 ghost use Rattle.undo_journal.specs.Machine as machine;
 
 use euler_conditions::{Op, Refusal};
 use halfedge_arena::Arena;
-use lattice::Point;
-use script_reader::{Command, Corners, Fault, read_line};
+use script_reader::{Command, Fault, read_line};
 use solid_listing::{Reply, WriteFault};
 use solid_measure::{is_flat, plane, six_volume};
-use std::alloc::Global;
-use sweeps::{block, lamina};
 use undo_journal::{Failure, Session};
 
 /// What a line is answered.
@@ -89,73 +83,31 @@ fn told_refusal(refusal: Refusal) -> Answer
     Answer::Reply(Reply::Refused(refusal.why.code(), refusal.number))
 }
 
-/// How a command ended.
-fn outcome(ended: Result<(), Failure>) -> Answer
-    ensures { result ≡ outcome ended }
+fn act(session: &mut Session, op: Op) -> Answer
+    ensures { Acts (machine.act_refusal session.old op) session.old (machine.act session.old op) result session.new }
 {
-    match ended {
+    match session.act(op) {
         Ok(()) => Answer::Reply(Reply::Done),
         Err(Failure::Refused(refusal)) => told_refusal(refusal),
         Err(Failure::Memory(_)) => Answer::Reply(Reply::Memory),
     }
 }
 
-/// One operator.
-#[tactic(auto, using(crate::proofs::Acted::acts))]
-fn act(session: Session, op: Op) -> (Session, Answer)
-    ensures { Acts (machine.act_refusal session op) session (machine.act session op) result.1 result.0 }
+fn undo(session: &mut Session) -> Answer
+    ensures { Moves (machine.undo_refusal session.old) session.old (machine.undo session.old) result session.new }
 {
-    let mut session = session;
-    let ended = session.act(op);
-    (session, outcome(ended))
-}
-
-/// A lamina through some corners.
-fn draw_lamina(
-    alloc: Global,
-    session: Session,
-    solid: u32,
-    corners: &Corners,
-) -> (Session, Answer)
-    ensures { Acts (lamina_refusal (held session) solid corners.now) session (accepted session (lamina_model (held session) solid corners.now)) result.1 result.0 }
-{
-    let (session, ended) = lamina(alloc, session, solid, corners.points());
-    (session, outcome(ended))
-}
-
-/// A block from a corner and by its sizes.
-fn draw_block(
-    alloc: Global,
-    session: Session,
-    solid: u32,
-    corner: Point,
-    dx: i64,
-    dy: i64,
-    dz: i64,
-) -> (Session, Answer)
-    ensures { Acts (block_refusal (held session) solid corner dx dy dz) session (accepted session (block_model (held session) solid corner dx dy dz)) result.1 result.0 }
-{
-    let (session, ended) = block(alloc, session, solid, corner, dx, dy, dz);
-    (session, outcome(ended))
-}
-
-fn undo(session: Session) -> (Session, Answer)
-    ensures { Moves (machine.undo_refusal session) session (machine.undo session) result.1 result.0 }
-{
-    let mut session = session;
     match session.undo() {
-        Ok(()) => (session, Answer::Reply(Reply::Done)),
-        Err(refusal) => (session, told_refusal(refusal)),
+        Ok(()) => Answer::Reply(Reply::Done),
+        Err(refusal) => told_refusal(refusal),
     }
 }
 
-fn redo(session: Session) -> (Session, Answer)
-    ensures { Moves (machine.redo_refusal session) session (machine.redo session) result.1 result.0 }
+fn redo(session: &mut Session) -> Answer
+    ensures { Moves (machine.redo_refusal session.old) session.old (machine.redo session.old) result session.new }
 {
-    let mut session = session;
     match session.redo() {
-        Ok(()) => (session, Answer::Reply(Reply::Done)),
-        Err(refusal) => (session, told_refusal(refusal)),
+        Ok(()) => Answer::Reply(Reply::Done),
+        Err(refusal) => told_refusal(refusal),
     }
 }
 
@@ -186,53 +138,33 @@ fn volume_reply(arena: &Arena, solid: u32) -> Result<Reply, Refusal>
     Ok(Reply::Volume(six_volume(arena, solid)?))
 }
 
-/// The plane of a face of the model held.
-fn tell_plane(session: Session, face: u32) -> (Session, Answer)
-    ensures answer { result.1 ≡ told (plane_reply (held session) face) }
-    ensures kept { result.0 ≡ session }
-{
-    let answer = told(plane_reply(session.arena(), face));
-    (session, answer)
-}
-
-/// The volume of a solid of the model held.
-fn tell_volume(session: Session, solid: u32) -> (Session, Answer)
-    ensures answer { result.1 ≡ told (volume_reply (held session) solid) }
-    ensures kept { result.0 ≡ session }
-{
-    let answer = told(volume_reply(session.arena(), solid));
-    (session, answer)
-}
-
 /// Carries a command out. A command that the workbench doesn't know yet is answered as an unknown word.
-fn obey(alloc: Global, session: Session, command: Command) -> (Session, Answer)
-    ensures { Obeys session command result.1 result.0 }
+fn obey(session: &mut Session, command: Command) -> Answer
+    ensures { Obeys session.old command result session.new }
 {
     match command {
-        Command::Nothing => (session, Answer::Silent),
+        Command::Nothing => Answer::Silent,
         Command::Act(op) => act(session, op),
-        Command::Lamina(solid, corners) => draw_lamina(alloc, session, solid, &corners),
-        Command::Block(solid, corner, dx, dy, dz) => {
-            draw_block(alloc, session, solid, corner, dx, dy, dz)
-        }
-        Command::Plane(face) => tell_plane(session, face),
-        Command::Volume(solid) => tell_volume(session, solid),
         Command::Undo => undo(session),
         Command::Redo => redo(session),
-        Command::List => (session, Answer::Listing),
-        Command::Sweep(_, _)
+        Command::List => Answer::Listing,
+        Command::Plane(face) => told(plane_reply(session.arena(), face)),
+        Command::Volume(solid) => told(volume_reply(session.arena(), solid)),
+        Command::Lamina(_, _)
+        | Command::Block(_, _, _, _, _)
+        | Command::Sweep(_, _)
         | Command::Glue(_, _)
         | Command::Split(_, _, _)
-        | Command::Count(_) => (session, unknown()),
+        | Command::Count(_) => unknown(),
     }
 }
 
 /// Judges a line.
-pub(crate) fn judge(alloc: Global, session: Session, line: &[u8]) -> (Session, Answer)
-    ensures { Judges session line.now result.1 result.0 }
+pub(crate) fn judge(session: &mut Session, line: &[u8]) -> Answer
+    ensures { Judges session.old line.now result session.new }
 {
     match read_line(line) {
-        Ok(command) => obey(alloc, session, command),
-        Err(fault) => (session, Answer::Reply(Reply::Fault(fault.code()))),
+        Ok(command) => obey(session, command),
+        Err(fault) => Answer::Reply(Reply::Fault(fault.code())),
     }
 }

@@ -41,21 +41,15 @@ enum Heard {
 }
 
 /// The answer to the next line.
-fn hear<R: Read>(alloc: Global, lines: &mut Lines<R>, session: Session) -> (Session, Heard)
-    ensures { Hears R.remaining lines.old lines.new session result.0 result.1 }
+fn hear<R: Read>(lines: &mut Lines<R>, session: &mut Session) -> Heard
+    ensures { Hears R.remaining lines.old lines.new session.old session.new result }
 {
     match lines.next_line() {
-        NextLine::Line(line) => {
-            let (session, answer) = judge(alloc, session, line);
-            (session, Heard::Line(answer))
-        }
-        NextLine::Long => {
-            let answer = Answer::Reply(Reply::Fault(Fault::LongLine.code()));
-            (session, Heard::Line(answer))
-        }
-        NextLine::End => (session, Heard::End),
-        NextLine::Read => (session, Heard::Read),
-        NextLine::TooLong => (session, Heard::TooLong),
+        NextLine::Line(line) => Heard::Line(judge(session, line)),
+        NextLine::Long => Heard::Line(Answer::Reply(Reply::Fault(Fault::LongLine.code()))),
+        NextLine::End => Heard::End,
+        NextLine::Read => Heard::Read,
+        NextLine::TooLong => Heard::TooLong,
     }
 }
 
@@ -124,9 +118,7 @@ pub fn run<R: Read + Drop, W: Write>(
     let mut summary = Summary::default();
     'script: loop {
         flush(&lines, writer)?;
-        let (next, heard) = hear(alloc, &mut lines, session);
-        session = next;
-        let answer = match heard {
+        let answer = match hear(&mut lines, &mut session) {
             Heard::Line(answer) => answer,
             Heard::End => return finish(writer, summary),
             Heard::Read => return Err(RunFault::Read),

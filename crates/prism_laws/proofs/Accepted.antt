@@ -49,9 +49,9 @@ rises_over n (m ∷ ns) q r i =
 
 apart_over : (n : ℕ) (ns : List ℕ) → count n ns ≡ 0 → IsApart ns → IsApart (n ∷ ns)
 apart_over n ns z d x = elim (eqb_tells x n) [
-    | inl e ↦ omega (arith, ap (λ q. count q ns) e.1, ap (λ q. tick q n) e.1, tick_same n, z)
-    | inr e ↦ omega (arith, tick_other x n e.1, d x)
-  ]
+  | inl e ↦ omega (arith, ap (λ q. count q ns) e.1, ap (λ q. tick q n) e.1, tick_same n, z)
+  | inr e ↦ omega (arith, tick_other x n e.1, d x)
+]
 
 not_in : (n : ℕ) (ns : List ℕ) → (IsIn n ns → ⊥) → count n ns ≡ 0
 not_in n ns never = elim (eqb_tells (count n ns) 0) [ inl e ↦ e.1 | inr e ↦ absurd (never (let s : count n ns ≢ 0 = e.1 in omega arith)) ]
@@ -67,14 +67,15 @@ rises_apart (n ∷ ns) r = apart_over n ns (not_in n ns (λ i. let s : n < n = r
 listed_in : (q : ℕ) (ns : List ℕ) → IsIn q ns → lists ns q ≡ true
 listed_in q [] i = absurd (omega arith)
 listed_in q (n ∷ ns) i = elim (eqb_tells q n) [
-    | inl e ↦ here (nat_eq n q) (lists ns q) (let s : n ≡ q = sym e.1 in grind (arith, nat_tests))
-    | inr e ↦ later (nat_eq n q) (lists ns q) (listed_in q ns (omega (arith, i, tick_other q n e.1)))
-  ] where
-    here : (a b : Bool) → a ≡ true → (a || b) ≡ true
-    here a b e = ap (λ x. x || b) e
-    later : (a b : Bool) → b ≡ true → (a || b) ≡ true
-    later true b e = refl
-    later false b e = e
+  | inl e ↦ here (nat_eq n q) (lists ns q) (let s : n ≡ q = sym e.1 in grind (arith, nat_tests))
+  | inr e ↦ later (nat_eq n q) (lists ns q) (listed_in q ns (omega (arith, i, tick_other q n e.1)))
+] where
+  here : (a b : Bool) → a ≡ true → (a || b) ≡ true
+  here a b e = ap (λ x. x || b) e
+
+  later : (a b : Bool) → b ≡ true → (a || b) ≡ true
+  later true b e = refl
+  later false b e = e
 
 -- ---- a sweep that isn't refused
 
@@ -105,21 +106,21 @@ module _ (M : Model) (f : ℕ) (d : Point) (sound : Sound M) (accepted : prism_r
   of_face : (l : ℕ) → IsIn l (loops_of M f) → Has M.loops l × (face_of M l ≡ f)
   unfolding loops_of
   of_face l i = elim (eqb_tells l (outer M f)) [
-      | inl e ↦ subst (λ q. Has M.loops q × (face_of M q ≡ f)) (sym e.1) (sound.outers_there f face_there)
-      | inr e ↦
-          let p = listed_passes (λ k row. nat_eq row.face f && not (nat_eq (outer M f) k)) M.loops l (listed_in l (rings_of M f) (omega (arith, i, tick_other l (outer M f) e.1))) in
-          (ap is_some p.1, face_row M l p.0 p.1 ∙ equal p.0.face f (first_of (nat_eq p.0.face f) (not (nat_eq (outer M f) l)) p.2))
-    ] where
-      first_of : (a b : Bool) → (a && b) ≡ true → a ≡ true
-      first_of true b e = refl
-      first_of false b e = absurd (true≢false (sym e))
+    | inl e ↦ subst (λ q. Has M.loops q × (face_of M q ≡ f)) (sym e.1) (sound.outers_there f face_there)
+    | inr e ↦
+        let p = listed_passes (λ k row. nat_eq row.face f && not (nat_eq (outer M f) k)) M.loops l (listed_in l (rings_of M f) (omega (arith, i, tick_other l (outer M f) e.1))) in
+        (ap is_some p.1, face_row M l p.0 p.1 ∙ equal p.0.face f (first_of (nat_eq p.0.face f) (not (nat_eq (outer M f) l)) p.2))
+  ] where
+    first_of : (a b : Bool) → (a && b) ≡ true → a ≡ true
+    first_of true b e = refl
+    first_of false b e = absurd (true≢false (sym e))
 
   loops_apart : IsApart (loops_of M f)
   unfolding loops_of
   loops_apart = apart_over (outer M f) (rings_of M f)
       (not_in (outer M f) (rings_of M f) (λ i.
-        let p = listed_passes (λ k row. nat_eq row.face f && not (nat_eq (outer M f) k)) M.loops (outer M f) (listed_in (outer M f) (rings_of M f) i) in
-        never (nat_eq p.0.face f) (outer M f) p.2))
+      let p = listed_passes (λ k row. nat_eq row.face f && not (nat_eq (outer M f) k)) M.loops (outer M f) (listed_in (outer M f) (rings_of M f) i) in
+      never (nat_eq p.0.face f) (outer M f) p.2))
       (rises_apart (rings_of M f) (all_where-rises (λ k row. nat_eq row.face f && not (nat_eq (outer M f) k)) M.loops)) where
         never : (a : Bool) (n : ℕ) → (a && not (nat_eq n n)) ≡ true → ⊥
         never true n e = absurd (true≢false (grind (arith, nat_tests)))
@@ -134,9 +135,11 @@ module _ (M : Model) (f : ℕ) (d : Point) (sound : Sound M) (accepted : prism_r
       go (content M l) (left_false (is_lone (content M l)) (lists (f ∷ []) (face_of M l)) (listed (face_of M l) p.1) not_both) where
         listed : (k : ℕ) → k ≡ f → lists (f ∷ []) k ≡ true
         listed k e = let s : nat_eq f k ≡ true = grind (arith, nat_tests) in ap (λ b. b || false) s
+
         left_false : (a b : Bool) → b ≡ true → (a && b) ≡ false → a ≡ false
         left_false false b t e = refl
         left_false true b t e = absurd (true≢false (sym t ∙ e))
+
         go : (c : LoopContent) → is_lone c ≡ false → c ≡ cycle (items_of c)
         go (lone v) e = absurd (true≢false e)
         go (cycle hs) e = refl
@@ -164,8 +167,8 @@ module _ (M : Model) (f : ℕ) (d : Point) (sound : Sound M) (accepted : prism_r
   corners_no_zero [] are = tt
   corners_no_zero (l ∷ ls) are =
       no_zero-append (vertices_on M (content M l)) (vertices_in M ls)
-        (subst (λ c. NoZero (vertices_on M c)) (sym (are l (omega (arith, tick_same l)))) (tails_no_zero (items_of (content M l)) (item_there l)))
-        (corners_no_zero ls (λ k i. are k (omega (arith, i))))
+      (subst (λ c. NoZero (vertices_on M c)) (sym (are l (omega (arith, tick_same l)))) (tails_no_zero (items_of (content M l)) (item_there l)))
+      (corners_no_zero ls (λ k i. are k (omega (arith, i))))
 
   all_near : NoneSuch far (vertices_in M (loops_of M f))
   unfolding corners
@@ -174,9 +177,9 @@ module _ (M : Model) (f : ℕ) (d : Point) (sound : Sound M) (accepted : prism_r
   near_item : (hs : List ℕ) → NoneSuch far (map (tail M) hs) → (h : ℕ) → IsIn h hs → IsInRange (moved (start M h) d)
   near_item [] n h i = absurd (omega arith)
   near_item (g ∷ hs) n h i = elim (eqb_tells h g) [
-      | inl e ↦ subst (λ q. IsInRange (moved (start M q) d)) (sym e.1) (not_back (is_in_range (moved (start M g) d)) n.0)
-      | inr e ↦ near_item hs n.1 h (omega (arith, i, tick_other h g e.1))
-    ]
+    | inl e ↦ subst (λ q. IsInRange (moved (start M q) d)) (sym e.1) (not_back (is_in_range (moved (start M g) d)) n.0)
+    | inr e ↦ near_item hs n.1 h (omega (arith, i, tick_other h g e.1))
+  ]
 
   near : (ls : List ℕ) → ((l : ℕ) → IsIn l ls → content M l ≡ cycle (items_of (content M l))) → NoneSuch far (vertices_in M ls) → (l : ℕ) → IsIn l ls → (h : ℕ) → IsIn h (items_of (content M l)) → IsInRange (moved (start M h) d)
   near [] are n l i = absurd (omega arith)
@@ -191,23 +194,23 @@ module _ (M : Model) (f : ℕ) (d : Point) (sound : Sound M) (accepted : prism_r
   pub begins : Going M M (taken_in M) f d (loops_of M f)
   unfolding taken_in corners
   begins = record {
-      sound = sound;
-      faces_free = λ q a. none_above M.faces q a;
-      loops_free = λ q a. none_above M.loops q a;
-      edges_free = λ q a. none_above M.edges q a;
-      vertices_free = λ q a. none_above M.vertices q a;
-      faces_left = left.faces;
-      loops_left = left.loops;
-      edges_left = left.edges;
-      vertices_left = left.vertices;
-      halves = λ h there. there;
-      starts = λ h there. refl;
-      apart = loops_apart;
-      rows = row_is;
-      items_there = λ l i h j. item_there l h j;
-      contents = is_cycle;
-      points_fit = near (loops_of M f) is_cycle all_near;
-    }
+    sound = sound;
+    faces_free = λ q a. none_above M.faces q a;
+    loops_free = λ q a. none_above M.loops q a;
+    edges_free = λ q a. none_above M.edges q a;
+    vertices_free = λ q a. none_above M.vertices q a;
+    faces_left = left.faces;
+    loops_left = left.loops;
+    edges_left = left.edges;
+    vertices_left = left.vertices;
+    halves = λ h there. there;
+    starts = λ h there. refl;
+    apart = loops_apart;
+    rows = row_is;
+    items_there = λ l i h j. item_there l h j;
+    contents = is_cycle;
+    points_fit = near (loops_of M f) is_cycle all_near;
+  }
 
   -- no operator of a sweep is refused
   pub sweep_accepted : AreAccepted M (sweep_ops M f d)

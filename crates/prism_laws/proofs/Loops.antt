@@ -47,9 +47,9 @@ tops_head e n (suc i) = let h = tops_head e n i in (h.0 ++ plus (top_edge e n (s
 tops_above : (e n i y : ℕ) → 2 ≤ n → IsIn y (top_items e n i) → plus (top_edge e n 0) ≤ y
 tops_above e n zero y two h = absurd (omega arith)
 tops_above e n (suc i) y two h = elim (eqb_tells y (plus (top_edge e n i))) [
-    | inl p ↦ let s : y ≡ plus (top_edge e n i) = p.1 in omega (arith, top_is e n 0, top_is e n i)
-    | inr p ↦ tops_above e n i y two (omega (arith, h, count-append y (top_items e n i) (plus (top_edge e n i) ∷ []), tick_other y (plus (top_edge e n i)) p.1))
-  ]
+  | inl p ↦ let s : y ≡ plus (top_edge e n i) = p.1 in omega (arith, top_is e n 0, top_is e n i)
+  | inr p ↦ tops_above e n i y two (omega (arith, h, count-append y (top_items e n i) (plus (top_edge e n i) ∷ []), tick_other y (plus (top_edge e n i)) p.1))
+]
 
 put_last_over : {X : Type 0} (t : Table X) (l r : ℕ) (a x y : X) → l ≢ r → table.put (table.put (table.put t l a) l x) r y ≡ table.put (table.put t r y) l x
 put_last_over t l r a x y ne = same_table _ _ (λ q. grind (arith, nat_tests, tables))
@@ -84,7 +84,7 @@ module _ (M : Model) (c : Taken) (f l : ℕ) (d : Point) (hs : List ℕ) (w : Re
       ∙ (λ i. record M {
         loops = table.put M.loops l (record { face = f; content = cycle (canonical (plus (riser c.edge 0) ∷ minus (riser c.edge 0) ∷ (sym items_are) i)) });
         edges = table.put M.edges (riser c.edge 0) (record { plus_tail = tail M first_item; minus_tail = c.vertex + 1 + 0 });
-        vertices = table.put M.vertices (c.vertex + 1 + 0) (moved (start M first_item) d)
+        vertices = table.put M.vertices (c.vertex + 1 + 0) (moved (start M first_item) d);
       })
 
   -- ---- the rounds
@@ -99,12 +99,11 @@ module _ (M : Model) (c : Taken) (f l : ℕ) (d : Point) (hs : List ℕ) (w : Re
   rounds_go zero lt = ((first_accepted, tt), first_is)
   rounds_go (suc i) lt =
       let r : Rounds i = rounds_go i (omega arith) in
-      let s : Sound (prism_part c f l d hs i M) = part_sound i r in
-      (
+      let s : Sound (prism_part c f l d hs i M) = part_sound i r in (
         AreAccepted-append M (rounds M c d hs i) (raise M c d hs (suc i) ∷ close c (length hs) i ∷ []) r.0
-        (subst (λ X. AreAccepted X (raise M c d hs (suc i) ∷ close c (length hs) i ∷ [])) (sym r.1) (round_accepted M c f l d hs w i lt s)),
+            (subst (λ X. AreAccepted X (raise M c d hs (suc i) ∷ close c (length hs) i ∷ [])) (sym r.1) (round_accepted M c f l d hs w i lt s)),
         effects-append M (rounds M c d hs i) (raise M c d hs (suc i) ∷ close c (length hs) i ∷ [])
-        ∙ ap (λ X. effects X (raise M c d hs (suc i) ∷ close c (length hs) i ∷ [])) r.1 ∙ round_is M c f l d hs w i lt s,
+            ∙ ap (λ X. effects X (raise M c d hs (suc i) ∷ close c (length hs) i ∷ [])) r.1 ∙ round_is M c f l d hs w i lt s,
       )
 
   -- the row of the first top edge
@@ -270,8 +269,7 @@ module _ (M : Model) (c : Taken) (f l : ℕ) (d : Point) (hs : List ℕ) (w : Re
   swept_at : (j : ℕ) → suc (suc j) ≡ length hs → Swept (rounds M c d hs (suc j) ++ close_last c (length hs) (suc j) ∷ [])
   swept_at j last =
       let r : Rounds (suc j) = rounds_go (suc j) (omega (arith, last)) in
-      let s : Sound (prism_part c f l d hs (suc j) M) = part_sound (suc j) r in
-      (
+      let s : Sound (prism_part c f l d hs (suc j) M) = part_sound (suc j) r in (
         AreAccepted-append M (rounds M c d hs (suc j)) (close_last c (length hs) (suc j) ∷ []) r.0 (subst (λ X. AreAccepted X (close_last c (length hs) (suc j) ∷ [])) (sym r.1) (last_accepted j last s)),
         effects-append M (rounds M c d hs (suc j)) (close_last c (length hs) (suc j) ∷ []) ∙ ap (λ X. effects X (close_last c (length hs) (suc j) ∷ [])) r.1 ∙ last_is j last s,
       )

@@ -245,7 +245,7 @@ module _ (M : Model) (c : Taken) (f l : ℕ) (d : Point) (hs : List ℕ) (w : Re
         let there : HasHalf M g = half_there M c f l d hs w g g_in in
         put_exchanged _ u t _ _ (λ e. t_u (sym e))
         ∙ (λ j. table.put (table.put P.edges t (record { plus_tail = tail_b j; minus_tail = (tail_u ∙ ap (λ k. c.vertex + 1 + k) (sym next_is)) j })) u
-          (record { plus_tail = (part_tail i g there ∙ sym (old_tail M c f l d hs w (suc i) g there)) j; minus_tail = v }))
+        (record { plus_tail = (part_tail i g there ∙ sym (old_tail M c f l d hs w (suc i) g there)) j; minus_tail = v }))
 
     vertices_are : N2.vertices ≡ (prism_part c f l d hs (suc i) M).vertices
     unfolding prism_part with_side

@@ -27,15 +27,15 @@ fits n a b = grind (arith, nat_tests)
 
 pub riser_is : (e i : ℕ) → ((i ≡ 0) × (riser e i ≡ e + 1)) ⊎ ((1 ≤ i) × (riser e i ≡ e + 2 * i))
 riser_is e i = elim (cases_eq i 0) [
-    | inl p ↦ inl (p, ap (λ b. cond b (e + 1) (e + 2 * i)) (eq-eqb i 0 p))
-    | inr p ↦ inr (omega arith, ap (λ b. cond b (e + 1) (e + 2 * i)) (ne_eqb i 0 p))
-  ]
+  | inl p ↦ inl (p, ap (λ b. cond b (e + 1) (e + 2 * i)) (eq-eqb i 0 p))
+  | inr p ↦ inr (omega arith, ap (λ b. cond b (e + 1) (e + 2 * i)) (ne_eqb i 0 p))
+]
 
 pub top_is : (e n i : ℕ) → ((i + 1 ≡ n) × (top_edge e n i ≡ e + 2 * n)) ⊎ ((i + 1 ≢ n) × (top_edge e n i ≡ e + 2 * i + 3))
 top_is e n i = elim (cases_eq (i + 1) n) [
-    | inl p ↦ inl (p, ap (λ b. cond b (e + 2 * n) (e + 2 * i + 3)) (eq-eqb (i + 1) n p))
-    | inr p ↦ inr (p, ap (λ b. cond b (e + 2 * n) (e + 2 * i + 3)) (ne_eqb (i + 1) n p))
-  ]
+  | inl p ↦ inl (p, ap (λ b. cond b (e + 2 * n) (e + 2 * i + 3)) (eq-eqb (i + 1) n p))
+  | inr p ↦ inr (p, ap (λ b. cond b (e + 2 * n) (e + 2 * i + 3)) (ne_eqb (i + 1) n p))
+]
 
 pub top_inner : (e n i : ℕ) → i + 1 < n → top_edge e n i ≡ e + 2 * i + 3
 top_inner e n i h = ap (λ b. cond b (e + 2 * n) (e + 2 * i + 3)) (ne_eqb (i + 1) n (λ s. omega arith))

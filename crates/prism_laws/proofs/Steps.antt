@@ -83,10 +83,10 @@ module _ (M : Model) (l f : ℕ) (xs : List ℕ) (a : Around M l f xs) where
 -- the model with another cycle in loop l, one more edge and one more vertex
 abbrev pub with_spur : Model → ℕ → ℕ → List ℕ → ℕ → EdgeRow → ℕ → Point → Model
 with_spur M l f xs u row v p = record M {
-    loops = table.put M.loops l (record { face = f; content = cycle (canonical xs) });
-    edges = table.put M.edges u row;
-    vertices = table.put M.vertices v p
-  }
+  loops = table.put M.loops l (record { face = f; content = cycle (canonical xs) });
+  edges = table.put M.edges u row;
+  vertices = table.put M.vertices v p;
+}
 
 -- mev at one corner: the new edge stands before g, there and back
 module _ (M : Model) (l f : ℕ) (ps qs : List ℕ) (g u v : ℕ) (p : Point) (a : Around M l f (ps ++ g ∷ qs)) (edge_free : table.get M.edges u ≡ None) where
@@ -111,7 +111,7 @@ module _ (M : Model) (l f : ℕ) (ps qs : List ℕ) (g u v : ℕ) (p : Point) (a
   put_in_loop : (x : ℕ) → table.map_rows (with_before g x) M.loops ≡ table.put M.loops l (record { face = f; content = cycle (canonical (insert_before g x (canonical (ps ++ g ∷ qs)))) })
   put_in_loop x =
       map_one (with_before g x) M.loops l (record { face = f; content = cycle (canonical (ps ++ g ∷ qs)) }) a.at
-        (λ q row ne at. where_held_none g (λ hs. cycle (canonical (insert_before g x hs))) q row (other_loop M a.sound g q row (λ e. ne (e ∙ loop_is M l f (ps ++ g ∷ qs) a g g_in)) at))
+      (λ q row ne at. where_held_none g (λ hs. cycle (canonical (insert_before g x hs))) q row (other_loop M a.sound g q row (λ e. ne (e ∙ loop_is M l f (ps ++ g ∷ qs) a g g_in)) at))
       ∙ ap (table.put M.loops l) (where_held_there g (λ hs. cycle (canonical (insert_before g x hs))) l (record { face = f; content = cycle (canonical (ps ++ g ∷ qs)) }) (in-holds g (cycle (canonical (ps ++ g ∷ qs))) g_here))
 
   turned_apart : IsApart (plus u ∷ minus u ∷ g ∷ (qs ++ ps))
@@ -141,8 +141,8 @@ module _ (M : Model) (l f : ℕ) (ps qs : List ℕ) (g u v : ℕ) (p : Point) (a
       ∙ ap (λ t. table.put t l (with_before g (minus u) l (record { face = f; content = cycle (canonical (insert_before g (plus u) (canonical (ps ++ g ∷ qs)))) }))) (put_in_loop (minus u))
       ∙ put_twice M.loops l _ _
       ∙ ap (table.put M.loops l) (where_held_there g (λ hs. cycle (canonical (insert_before g (minus u) hs))) l (record { face = f; content = cycle (canonical (insert_before g (plus u) (canonical (ps ++ g ∷ qs)))) })
-          (in-holds g (cycle (canonical (insert_before g (plus u) (canonical (ps ++ g ∷ qs))))) still_here)
-        ∙ ap (λ xs. record { face = f; content = cycle xs }) items_are)
+      (in-holds g (cycle (canonical (insert_before g (plus u) (canonical (ps ++ g ∷ qs))))) still_here)
+      ∙ ap (λ xs. record { face = f; content = cycle xs }) items_are)
 
   arc_is_none : arc M g g ≡ []
   unfolding arc
@@ -156,10 +156,10 @@ module _ (M : Model) (l f : ℕ) (ps qs : List ℕ) (g u v : ℕ) (p : Point) (a
   pub mev_here : mev_at M g g (plus u) v p ≡ with_spur M l f (ps ++ plus u ∷ minus u ∷ g ∷ qs) u (record { plus_tail = tail M g; minus_tail = v }) v p
   unfolding mev_at
   mev_here = λ i. record M {
-      loops = ((λ j. table.map_rows (with_before g (mate_plus u j)) (table.map_rows (with_before g (plus u)) M.loops)) ∙ loops_are) i;
-      edges = edges_are i;
-      vertices = table.put M.vertices v p
-    }
+    loops = ((λ j. table.map_rows (with_before g (mate_plus u j)) (table.map_rows (with_before g (plus u)) M.loops)) ∙ loops_are) i;
+    edges = edges_are i;
+    vertices = table.put M.vertices v p;
+  }
 
   pub mev_does : effect M (Mev (At (half g)) (At (half g)) (half (plus u)) v p) ≡ with_spur M l f (ps ++ plus u ∷ minus u ∷ g ∷ qs) u (record { plus_tail = tail M g; minus_tail = v }) v p
   unfolding effect
@@ -169,25 +169,25 @@ module _ (M : Model) (l f : ℕ) (ps qs : List ℕ) (g u v : ℕ) (p : Point) (a
   mev_fits vertex_free edge_fits vertex_fits point_fits =
       let there : HasHalf M g = half_is M l f (ps ++ g ∷ qs) a g g_in in
       let goes : MevGoes M g g (plus u) v p = record {
-            g_there = there;
-            k_there = there;
-            edge_free = ap (table.get M.edges) (edge_plus u) ∙ edge_free;
-            vertex_free = vertex_free;
-            one_tail = refl;
-            edge_fits = ap is_number (edge_plus u) ∙ edge_fits;
-            vertex_fits = vertex_fits;
-            point_fits = point_fits;
-          } in
+        g_there = there;
+        k_there = there;
+        edge_free = ap (table.get M.edges) (edge_plus u) ∙ edge_free;
+        vertex_free = vertex_free;
+        one_tail = refl;
+        edge_fits = ap is_number (edge_plus u) ∙ edge_fits;
+        vertex_fits = vertex_fits;
+        point_fits = point_fits;
+      } in
       mev_accepted M (half g) (half g) (half (plus u)) v p a.sound
-        (subst (λ x. MevGoes M x x (code (half (plus u))) v p) (sym (code-half g)) (subst (λ x. MevGoes M g g x v p) (sym (code-half (plus u))) goes))
+      (subst (λ x. MevGoes M x x (code (half (plus u))) v p) (sym (code-half g)) (subst (λ x. MevGoes M g g x v p) (sym (code-half (plus u))) goes))
 
 -- the model with loop l parted in two, and one more edge and face
 abbrev pub with_chord : Model → ℕ → ℕ → List ℕ → ℕ → EdgeRow → ℕ → ℕ → List ℕ → Model
 with_chord M l f xs t row s r ys = record M {
-    faces = table.put M.faces s (record { solid = solid_of M f; outer = r });
-    loops = table.put (table.put M.loops l (record { face = f; content = cycle (canonical xs) })) r (record { face = s; content = cycle (canonical ys) });
-    edges = table.put M.edges t row
-  }
+  faces = table.put M.faces s (record { solid = solid_of M f; outer = r });
+  loops = table.put (table.put M.loops l (record { face = f; content = cycle (canonical xs) })) r (record { face = s; content = cycle (canonical ys) });
+  edges = table.put M.edges t row;
+}
 
 -- mef between g and k of one loop
 module _ (M : Model) (l f : ℕ) (g k : ℕ) (ps qs : List ℕ) (t s r : ℕ) (a : Around M l f ((g ∷ ps) ++ k ∷ qs)) (edge_free : table.get M.edges t ≡ None) (loop_free : table.get M.loops r ≡ None) where
@@ -199,7 +199,7 @@ module _ (M : Model) (l f : ℕ) (g k : ℕ) (ps qs : List ℕ) (t s r : ℕ) (a
 
   parts : (upto g k (cycle_of M g) ≡ g ∷ ps) × (onward g k (cycle_of M g) ≡ k ∷ qs)
   parts = let w = upto_once g k (canonical ((g ∷ ps) ++ k ∷ qs)) (g ∷ ps) qs (canonical_apart M l f ((g ∷ ps) ++ k ∷ qs) a)
-            (rotated_canonical M l f ((g ∷ ps) ++ k ∷ qs) a g first_in ∙ rotate_to_head g (ps ++ k ∷ qs)) in
+      (rotated_canonical M l f ((g ∷ ps) ++ k ∷ qs) a g first_in ∙ rotate_to_head g (ps ++ k ∷ qs)) in
       let c : cycle_of M g ≡ canonical ((g ∷ ps) ++ k ∷ qs) = cycle_is M l f ((g ∷ ps) ++ k ∷ qs) a g first_in in
       (ap (upto g k) c ∙ w.0, ap (onward g k) c ∙ w.1)
 
@@ -207,15 +207,15 @@ module _ (M : Model) (l f : ℕ) (g k : ℕ) (ps qs : List ℕ) (t s r : ℕ) (a
   chord_loops = let at : loop_of M g ≡ l = loop_is M l f ((g ∷ ps) ++ k ∷ qs) a g first_in in
       loops-mef M a.sound g k (plus t) s r (half_is M l f ((g ∷ ps) ++ k ∷ qs) a g first_in) (ap (table.get M.edges) (edge_plus t) ∙ edge_free) loop_free
       ∙ (λ i. table.put (table.put M.loops (at i) (record { face = (ap (face_of M) at ∙ face_is M l f ((g ∷ ps) ++ k ∷ qs) a) i; content = cycle (canonical (plus t ∷ parts.1 i)) })) r
-          (record { face = s; content = cycle (canonical (parts.0 i ++ mate_plus t i ∷ [])) }))
+      (record { face = s; content = cycle (canonical (parts.0 i ++ mate_plus t i ∷ [])) }))
 
   pub mef_here : mef M g k (plus t) s r ≡ with_chord M l f (plus t ∷ k ∷ qs) t (record { plus_tail = tail M g; minus_tail = tail M k }) s r ((g ∷ ps) ++ minus t ∷ [])
   unfolding mef
   mef_here = let at : face_at M g ≡ f = ap (face_of M) (loop_is M l f ((g ∷ ps) ++ k ∷ qs) a g first_in) ∙ face_is M l f ((g ∷ ps) ++ k ∷ qs) a in λ i. record M {
-      faces = table.put M.faces s (record { solid = solid_of M (at i); outer = r });
-      loops = chord_loops i;
-      edges = table.put M.edges (edge_plus t i) (row_plus t (tail M g) (tail M k) i)
-    }
+    faces = table.put M.faces s (record { solid = solid_of M (at i); outer = r });
+    loops = chord_loops i;
+    edges = table.put M.edges (edge_plus t i) (row_plus t (tail M g) (tail M k) i);
+  }
 
   pub mef_does : effect M (Mef (half g) (half k) (half (plus t)) s r) ≡ with_chord M l f (plus t ∷ k ∷ qs) t (record { plus_tail = tail M g; minus_tail = tail M k }) s r ((g ∷ ps) ++ minus t ∷ [])
   unfolding effect
@@ -224,16 +224,16 @@ module _ (M : Model) (l f : ℕ) (g k : ℕ) (ps qs : List ℕ) (t s r : ℕ) (a
   pub mef_fits : table.get M.faces s ≡ None → tail M g ≢ tail M k → IsTrue (is_number t) → IsTrue (is_number s) → IsTrue (is_number r) → first_false M (Mef (half g) (half k) (half (plus t)) s r) ≡ None
   mef_fits face_free ends_apart edge_fits face_fits loop_fits =
       let goes : MefGoes M g k (plus t) s r = record {
-            g_there = half_is M l f ((g ∷ ps) ++ k ∷ qs) a g first_in;
-            k_there = half_is M l f ((g ∷ ps) ++ k ∷ qs) a k second_in;
-            edge_free = ap (table.get M.edges) (edge_plus t) ∙ edge_free;
-            face_free = face_free;
-            loop_free = loop_free;
-            one_loop = loop_is M l f ((g ∷ ps) ++ k ∷ qs) a k second_in ∙ sym (loop_is M l f ((g ∷ ps) ++ k ∷ qs) a g first_in);
-            ends_apart = ends_apart;
-            edge_fits = ap is_number (edge_plus t) ∙ edge_fits;
-            face_fits = face_fits;
-            loop_fits = loop_fits;
-          } in
+        g_there = half_is M l f ((g ∷ ps) ++ k ∷ qs) a g first_in;
+        k_there = half_is M l f ((g ∷ ps) ++ k ∷ qs) a k second_in;
+        edge_free = ap (table.get M.edges) (edge_plus t) ∙ edge_free;
+        face_free = face_free;
+        loop_free = loop_free;
+        one_loop = loop_is M l f ((g ∷ ps) ++ k ∷ qs) a k second_in ∙ sym (loop_is M l f ((g ∷ ps) ++ k ∷ qs) a g first_in);
+        ends_apart = ends_apart;
+        edge_fits = ap is_number (edge_plus t) ∙ edge_fits;
+        face_fits = face_fits;
+        loop_fits = loop_fits;
+      } in
       mef_accepted M (half g) (half k) (half (plus t)) s r a.sound
-        (subst (λ x. MefGoes M x (code (half k)) (code (half (plus t))) s r) (sym (code-half g)) (subst (λ x. MefGoes M g x (code (half (plus t))) s r) (sym (code-half k)) (subst (λ x. MefGoes M g k x s r) (sym (code-half (plus t))) goes)))
+      (subst (λ x. MefGoes M x (code (half k)) (code (half (plus t))) s r) (sym (code-half g)) (subst (λ x. MefGoes M g x (code (half (plus t))) s r) (sym (code-half k)) (subst (λ x. MefGoes M g k x s r) (sym (code-half (plus t))) goes)))

@@ -73,18 +73,18 @@ module _ (M N : Model) (c : Taken) (f l : ℕ) (d : Point) (ls : List ℕ) (g : 
 
   ready : Ready N c f l d hs
   ready = record {
-      sound = g.sound;
-      at = g.rows l l_in;
-      faces_free = g.faces_free;
-      loops_free = g.loops_free;
-      edges_free = g.edges_free;
-      vertices_free = g.vertices_free;
-      faces_left = omega (arith, g.faces_left, corners_are);
-      loops_left = omega (arith, g.loops_left, corners_are);
-      edges_left = omega (arith, g.edges_left, corners_are);
-      vertices_left = omega (arith, g.vertices_left, corners_are);
-      points_fit = λ h i. subst (λ p. IsInRange (moved p d)) (sym (g.starts h (g.items_there l l_in h i))) (g.points_fit l l_in h i);
-    }
+    sound = g.sound;
+    at = g.rows l l_in;
+    faces_free = g.faces_free;
+    loops_free = g.loops_free;
+    edges_free = g.edges_free;
+    vertices_free = g.vertices_free;
+    faces_left = omega (arith, g.faces_left, corners_are);
+    loops_left = omega (arith, g.loops_left, corners_are);
+    edges_left = omega (arith, g.edges_left, corners_are);
+    vertices_left = omega (arith, g.vertices_left, corners_are);
+    points_fit = λ h i. subst (λ p. IsInRange (moved p d)) (sym (g.starts h (g.items_there l l_in h i))) (g.points_fit l l_in h i);
+  }
 
   -- the model with this loop swept
   abbrev N' : Model
@@ -117,23 +117,23 @@ module _ (M N : Model) (c : Taken) (f l : ℕ) (d : Point) (ls : List ℕ) (g : 
 
   next : Going M N' (taken_after c (length hs)) f d ls
   next = record {
-      sound = sound_after;
-      faces_free = λ q a. sides_faces N c f l d hs ready (length hs) q (λ j lt s. omega arith) ∙ g.faces_free q (omega arith);
-      loops_free = λ q a. put_other _ l _ q (λ s. omega (arith, loop_within N c f l d hs ready)) ∙ sides_loops N c f l d hs ready (length hs) q (λ j lt s. omega arith) ∙ g.loops_free q (omega arith);
-      edges_free = λ q a. sides_edges N c f l d hs ready (length hs) q (λ j lt. ((λ s. omega (arith, riser_is c.edge j)), (λ s. omega (arith, top_is c.edge (length hs) j)))) ∙ g.edges_free q (omega arith);
-      vertices_free = λ q a. sides_vertices N c f l d hs ready (length hs) q (λ j lt s. omega arith) ∙ g.vertices_free q (omega arith);
-      faces_left = omega (arith, g.faces_left, corners_are);
-      loops_left = omega (arith, g.loops_left, corners_are);
-      edges_left = omega (arith, g.edges_left, corners_are);
-      vertices_left = omega (arith, g.vertices_left, corners_are);
-      halves = λ h there. ap is_some (old_edge N c f l d hs ready (length hs) (edge_of h) (g.halves h there)) ∙ g.halves h there;
-      starts = λ h there. start_after h (g.halves h there) ∙ g.starts h there;
-      apart = λ x. omega (arith, g.apart x);
-      rows = λ k i. loop_after k i ∙ g.rows k (later k i);
-      items_there = λ k i. g.items_there k (later k i);
-      contents = λ k i. g.contents k (later k i);
-      points_fit = λ k i. g.points_fit k (later k i);
-    }
+    sound = sound_after;
+    faces_free = λ q a. sides_faces N c f l d hs ready (length hs) q (λ j lt s. omega arith) ∙ g.faces_free q (omega arith);
+    loops_free = λ q a. put_other _ l _ q (λ s. omega (arith, loop_within N c f l d hs ready)) ∙ sides_loops N c f l d hs ready (length hs) q (λ j lt s. omega arith) ∙ g.loops_free q (omega arith);
+    edges_free = λ q a. sides_edges N c f l d hs ready (length hs) q (λ j lt. ((λ s. omega (arith, riser_is c.edge j)), (λ s. omega (arith, top_is c.edge (length hs) j)))) ∙ g.edges_free q (omega arith);
+    vertices_free = λ q a. sides_vertices N c f l d hs ready (length hs) q (λ j lt s. omega arith) ∙ g.vertices_free q (omega arith);
+    faces_left = omega (arith, g.faces_left, corners_are);
+    loops_left = omega (arith, g.loops_left, corners_are);
+    edges_left = omega (arith, g.edges_left, corners_are);
+    vertices_left = omega (arith, g.vertices_left, corners_are);
+    halves = λ h there. ap is_some (old_edge N c f l d hs ready (length hs) (edge_of h) (g.halves h there)) ∙ g.halves h there;
+    starts = λ h there. start_after h (g.halves h there) ∙ g.starts h there;
+    apart = λ x. omega (arith, g.apart x);
+    rows = λ k i. loop_after k i ∙ g.rows k (later k i);
+    items_there = λ k i. g.items_there k (later k i);
+    contents = λ k i. g.contents k (later k i);
+    points_fit = λ k i. g.points_fit k (later k i);
+  }
 
   raised_is : raised f d (record { model = N; taken = c }) l ≡ record { model = N'; taken = taken_after c (length hs) }
   unfolding raised
@@ -162,8 +162,7 @@ loops_swept M N c f d [] g = (tt, refl)
 loops_swept M N c f d (l ∷ ls) g =
     let hs : List ℕ = items_of (content M l) in
     let more : List Op = ops_from M d (taken_after c (length hs)) ls in
-    let rest = loops_swept M (N' M N c f l d ls g) (taken_after c (length hs)) f d ls (next M N c f l d ls g) in
-    (
+    let rest = loops_swept M (N' M N c f l d ls g) (taken_after c (length hs)) f d ls (next M N c f l d ls g) in (
       AreAccepted-append N (loop_ops M c d hs) more (accepted M N c f l d ls g) (subst (λ X. AreAccepted X more) (sym (swept M N c f l d ls g)) rest.0),
       effects-append N (loop_ops M c d hs) more ∙ ap (λ X. effects X more) (swept M N c f l d ls g) ∙ rest.1 ∙ ap (λ q. (prism_from f d q ls).model) (sym (raised_is M N c f l d ls g)),
     )

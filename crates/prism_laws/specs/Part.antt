@@ -17,7 +17,7 @@ lifted_part c hs i = plus (riser c.edge 0) ∷ top_items c.edge (length hs) i ++
 -- the sides over the items before item i stand, and the riser at item i
 unfoldable pub prism_part : Taken → ℕ → ℕ → Point → List ℕ → ℕ → Model → Model
 prism_part c f l d hs i M = let N = with_sides c (solid_of M f) d hs i M in let h = get_or hs i 0 in record N {
-    loops = table.put N.loops l (record { face = f; content = cycle (canonical (lifted_part c hs i)) });
-    edges = table.put N.edges (riser c.edge i) (record { plus_tail = tail N h; minus_tail = c.vertex + 1 + i });
-    vertices = table.put N.vertices (c.vertex + 1 + i) (moved (start N h) d)
-  }
+  loops = table.put N.loops l (record { face = f; content = cycle (canonical (lifted_part c hs i)) });
+  edges = table.put N.edges (riser c.edge i) (record { plus_tail = tail N h; minus_tail = c.vertex + 1 + i });
+  vertices = table.put N.vertices (c.vertex + 1 + i) (moved (start N h) d);
+}

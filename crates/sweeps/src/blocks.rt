@@ -37,12 +37,7 @@ fn is_number(n: u32) -> bool
 /// Refused, in this order: NumberRange; SolidTaken; SizeRange with 1, 2 or 3 for the first size below 1; PointRange with 1 for
 /// the corner, 2 for the opposite one; NumbersSpent with 2 for faces, 3 for loops, 4 for edges, 5 for vertices.
 #[tactic(auto, unfolding(shapes::specs::Block::block_conditions))]
-fn check_block(
-    arena: &Arena,
-    solid: u32,
-    corner: Point,
-    size: Point,
-) -> Result<(), Refusal>
+fn check_block(arena: &Arena, solid: u32, corner: Point, size: Point) -> Result<(), Refusal>
     requires { IsReady arena.now }
     ensures { result ≡ verdict (block_refusal arena.now.model solid corner size.x size.y size.z) }
 {

@@ -5,8 +5,6 @@ use Rattle.gwb.specs.declared.judging.Summary.{Summary}
 use Rattle.gwb.specs.Judging.{no_lines}
 use Rattle.gwb.proofs.Counting.{IsWithin, same_counts, counted_within, one_more}
 use Rattle.gwb.proofs.RunLaws.{Progress, begins, flushed, turn_of, goes_on, stopped, ends, finished, read_fails, too_long, write_fails, flush_fails, nothing_begins, falls, stop_is}
-use Rattle.gwb.specs.Hearing.{Hears}
-use Rattle.gwb.specs.declared.running.Heard.{Heard}
 use Rattle.gwb.proofs.running.run.Goals as goal
 
 pub returns-in_default : goal.returns-in_default
@@ -35,62 +33,53 @@ returns-in_err-flush g c =
 
 pub returns-in-End : goal.returns-in-End
 returns-in-End g c =
-    let heard = subst (λ (h : Heard). Hears g.R.Read.remaining c.script.lines c.hear-next.new.lines c.script.session c.hear-next.result.0 h) c.in-End.is c.hear-next.ensures in
     let at = flushed g.R.Read.remaining _ c.script.lines _ (g.W.Write.contents c.script.writer) (g.W.Write.contents c.flush.new.writer) _ _ _ c.script.invariant.progress c.in_ok-flush.ensures.kept in
-    finished _ _ (g.W.Write.contents c.flush.new.writer) _ _ _ c.finish.result (ends g.R.Read.remaining _ c.script.lines c.hear-next.new.lines _ _ _ _ _ at heard.0) c.finish.ensures.kept c.finish.ensures.ok c.finish.ensures.fault
+    finished _ _ (g.W.Write.contents c.flush.new.writer) _ _ _ c.finish.result (ends g.R.Read.remaining _ c.script.lines c.hear.new.lines _ _ _ _ _ at c.in-End.ensures.0) c.finish.ensures.kept c.finish.ensures.ok c.finish.ensures.fault
 
 pub returns-in-Read : goal.returns-in-Read
 returns-in-Read g c =
-    let heard = subst (λ (h : Heard). Hears g.R.Read.remaining c.script.lines c.hear-next.new.lines c.script.session c.hear-next.result.0 h) c.in-Read.is c.hear-next.ensures in
     let at = flushed g.R.Read.remaining _ c.script.lines _ (g.W.Write.contents c.script.writer) (g.W.Write.contents c.flush.new.writer) _ _ _ c.script.invariant.progress c.in_ok-flush.ensures.kept in
-    read_fails g.R.Read.remaining _ c.script.lines c.hear-next.new.lines _ _ _ _ _ at heard.0
+    read_fails g.R.Read.remaining _ c.script.lines c.hear.new.lines _ _ _ _ _ at c.in-Read.ensures.0
 
 pub returns-in-TooLong : goal.returns-in-TooLong
 returns-in-TooLong g c =
-    let heard = subst (λ (h : Heard). Hears g.R.Read.remaining c.script.lines c.hear-next.new.lines c.script.session c.hear-next.result.0 h) c.in-TooLong.is c.hear-next.ensures in
     let at = flushed g.R.Read.remaining _ c.script.lines _ (g.W.Write.contents c.script.writer) (g.W.Write.contents c.flush.new.writer) _ _ _ c.script.invariant.progress c.in_ok-flush.ensures.kept in
-    too_long g.R.Read.remaining _ c.script.lines c.hear-next.new.lines _ _ _ _ _ at heard.0
+    too_long g.R.Read.remaining _ c.script.lines c.hear.new.lines _ _ _ _ _ at c.in-TooLong.ensures.0
 
 pub count-requires-clause-lines : goal.count-requires-clause-lines
 count-requires-clause-lines g c =
-    let heard = subst (λ (h : Heard). Hears g.R.Read.remaining c.script.lines c.hear-next.new.lines c.script.session c.hear-next.result.0 h) c.in-Line.is c.hear-next.ensures in
-    let less = falls g.R.Read.remaining c.script.lines c.hear-next.new.lines c.script.session c.in-Line.answer c.hear-next.result.0 heard in
+    let less = falls g.R.Read.remaining c.script.lines c.hear.new.lines c.script.session c.in-Line.answer c.hear.new.session c.in-Line.ensures in
     omega (arith, less, c.script.invariant.bound)
 
 pub returns-in_err-say : goal.returns-in_err-say
 returns-in_err-say g c =
-    let heard = subst (λ (h : Heard). Hears g.R.Read.remaining c.script.lines c.hear-next.new.lines c.script.session c.hear-next.result.0 h) c.in-Line.is c.hear-next.ensures in
     let p = err_from_is_err_and c.from_residual-in_err-say.result c.from_residual-in_err-say.ensures.1 in
     let at = flushed g.R.Read.remaining _ c.script.lines _ (g.W.Write.contents c.script.writer) (g.W.Write.contents c.flush.new.writer) _ _ _ c.script.invariant.progress c.in_ok-flush.ensures.kept in
-    let turn = turn_of g.R.Read.remaining _ c.script.lines c.hear-next.new.lines _ _ _ _ _ c.in-Line.answer c.hear-next.result.0 at heard in
-    rw (p.1, p.2) (write_fails g.R.Read.remaining _ c.hear-next.new.lines _ (g.W.Write.contents c.flush.new.writer) (g.W.Write.contents c.say.new.writer) _ _ _ c.in-Line.answer c.hear-next.result.0 c.in_err-say.field-0.0 turn c.in_err-say.ensures.puts c.in_err-say.ensures.fault)
+    let turn = turn_of g.R.Read.remaining _ c.script.lines c.hear.new.lines _ _ _ _ _ c.in-Line.answer c.hear.new.session at c.in-Line.ensures in
+    rw (p.1, p.2) (write_fails g.R.Read.remaining _ c.hear.new.lines _ (g.W.Write.contents c.flush.new.writer) (g.W.Write.contents c.say.new.writer) _ _ _ c.in-Line.answer c.hear.new.session c.in_err-say.field-0.0 turn c.in_err-say.ensures.puts c.in_err-say.ensures.fault)
 
 pub returns-then-stops : goal.returns-then-stops
 returns-then-stops g c =
-    let heard = subst (λ (h : Heard). Hears g.R.Read.remaining c.script.lines c.hear-next.new.lines c.script.session c.hear-next.result.0 h) c.in-Line.is c.hear-next.ensures in
     let at = flushed g.R.Read.remaining _ c.script.lines _ (g.W.Write.contents c.script.writer) (g.W.Write.contents c.flush.new.writer) _ _ _ c.script.invariant.progress c.in_ok-flush.ensures.kept in
-    let turn = turn_of g.R.Read.remaining _ c.script.lines c.hear-next.new.lines _ _ _ _ _ c.in-Line.answer c.hear-next.result.0 at heard in
+    let turn = turn_of g.R.Read.remaining _ c.script.lines c.hear.new.lines _ _ _ _ _ c.in-Line.answer c.hear.new.session at c.in-Line.ensures in
     let bad = sym c.stops.ensures ∙ c.if-stops.true in
     finished _ _ (g.W.Write.contents c.say.new.writer) _ _ _ c.finish-then-stops.result
-    (stopped g.R.Read.remaining _ c.hear-next.new.lines _ (g.W.Write.contents c.flush.new.writer) (g.W.Write.contents c.say.new.writer) _ _ _ _ c.in-Line.answer c.hear-next.result.0 turn (stop_is c.args.stop c.in-Line.answer bad) bad c.in_ok-say.ensures.puts c.count.ensures)
+    (stopped g.R.Read.remaining _ c.hear.new.lines _ (g.W.Write.contents c.flush.new.writer) (g.W.Write.contents c.say.new.writer) _ _ _ _ c.in-Line.answer c.hear.new.session turn (stop_is c.args.stop c.in-Line.answer bad) bad c.in_ok-say.ensures.puts c.count.ensures)
     c.finish-then-stops.ensures.kept c.finish-then-stops.ensures.ok c.finish-then-stops.ensures.fault
 
 pub script-smaller : goal.script-smaller
-script-smaller g c =
-    let heard = subst (λ (h : Heard). Hears g.R.Read.remaining c.script.lines c.hear-next.new.lines c.script.session c.hear-next.result.0 h) c.in-Line.is c.hear-next.ensures in
-    falls g.R.Read.remaining c.script.lines c.hear-next.new.lines c.script.session c.in-Line.answer c.hear-next.result.0 heard
+script-smaller g c = falls g.R.Read.remaining c.script.lines c.hear.new.lines c.script.session c.in-Line.answer c.hear.new.session c.in-Line.ensures
 
 pub script-preserved : goal.script-preserved
 script-preserved g c =
-    let heard = subst (λ (h : Heard). Hears g.R.Read.remaining c.script.lines c.hear-next.new.lines c.script.session c.hear-next.result.0 h) c.in-Line.is c.hear-next.ensures in
     let at = flushed g.R.Read.remaining _ c.script.lines _ (g.W.Write.contents c.script.writer) (g.W.Write.contents c.flush.new.writer) _ _ _ c.script.invariant.progress c.in_ok-flush.ensures.kept in
-    let turn = turn_of g.R.Read.remaining _ c.script.lines c.hear-next.new.lines _ _ _ _ _ c.in-Line.answer c.hear-next.result.0 at heard in
+    let turn = turn_of g.R.Read.remaining _ c.script.lines c.hear.new.lines _ _ _ _ _ c.in-Line.answer c.hear.new.session at c.in-Line.ensures in
     let calm = sym c.stops.ensures ∙ c.if-stops.false in
-    let less = falls g.R.Read.remaining c.script.lines c.hear-next.new.lines c.script.session c.in-Line.answer c.hear-next.result.0 heard in
+    let less = falls g.R.Read.remaining c.script.lines c.hear.new.lines c.script.session c.in-Line.answer c.hear.new.session c.in-Line.ensures in
     let one : c.count.new.self.lines ≡ c.script.summary.lines + 1 = ap (λ (n : Summary). n.lines) c.count.ensures ∙ ap (λ (k : ℕ). c.script.summary.lines + k) (one_more c.in-Line.answer) in
     record {
-      progress = subst (λ (n : Summary). Progress g.R.Read.remaining (g.R.Read.remaining c.args.reader) c.hear-next.new.lines (g.W.Write.contents c.args.writer.now) (g.W.Write.contents c.say.new.writer) c.args.stop c.hear-next.result.0 n) (sym c.count.ensures)
-          (goes_on g.R.Read.remaining _ c.hear-next.new.lines _ (g.W.Write.contents c.flush.new.writer) (g.W.Write.contents c.say.new.writer) _ _ _ c.in-Line.answer c.hear-next.result.0 turn calm c.in_ok-say.ensures.puts);
+      progress = subst (λ (n : Summary). Progress g.R.Read.remaining (g.R.Read.remaining c.args.reader) c.hear.new.lines (g.W.Write.contents c.args.writer.now) (g.W.Write.contents c.say.new.writer) c.args.stop c.hear.new.session n) (sym c.count.ensures)
+          (goes_on g.R.Read.remaining _ c.hear.new.lines _ (g.W.Write.contents c.flush.new.writer) (g.W.Write.contents c.say.new.writer) _ _ _ c.in-Line.answer c.hear.new.session turn calm c.in_ok-say.ensures.puts);
       within = subst IsWithin (sym c.count.ensures) (counted_within c.script.summary c.in-Line.answer c.script.invariant.within);
       bound = omega (arith, less, one, c.script.invariant.bound);
     }

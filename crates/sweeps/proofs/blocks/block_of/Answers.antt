@@ -7,8 +7,7 @@ use Rattle.sweeps.proofs.blocks.block_of.Goals as goal
 pub returns-in-Ok-draw_block-clause-ok : goal.returns-in-Ok-draw_block-clause-ok
 returns-in-Ok-draw_block-clause-ok c =
     let model = c.in-Ok-draw_block.ensures.ok ∙ ap (λ (d : DraftState). block_model d.model c.args.solid c.args.corner c.args.size.x c.args.size.y c.args.size.z) c.in-Ok.ensures.ok in
-    let session = c.in-Ok-draw_block.ensures.session ∙ ap (λ (d : DraftState). d.session) c.in-Ok.ensures.ok in
-    (
+    let session = c.in-Ok-draw_block.ensures.session ∙ ap (λ (d : DraftState). d.session) c.in-Ok.ensures.ok in (
       sym (ap (λ M. block_refusal M c.args.solid c.args.corner c.args.size.x c.args.size.y c.args.size.z) c.arena.ensures.model) ∙ passed _ _ (sym c.check_block.ensures ∙ c.in_default.is),
-      c.commit.ensures ∙ (λ t. accepted (session t) (model t))
+      c.commit.ensures ∙ (λ t. accepted (session t) (model t)),
     )

@@ -34,10 +34,10 @@ raise_item-requires-clause-accepted c = raised.accepted_first _ _ _ _ _ _ c.requ
 
 pub items-init : goal.items-init
 items-init c = record {
-    inside = omega (arith, two_items _ _ _ _ _ _ c.requires);
-    model = ap (λ (x : DraftState). x.model) c.in_ok-raise_item.ensures.ok ∙ raised.after_first _ _ _ _ _ _ c.requires c.in_ok-items.items.items (c.in_ok-items.ensures ∙ ap (λ X. items_of (content X c.args.l)) c.arena.ensures.model) c.index.result.now c.index.ensures;
-    session = ap (λ (x : DraftState). x.session) c.in_ok-raise_item.ensures.ok;
-  }
+  inside = omega (arith, two_items _ _ _ _ _ _ c.requires);
+  model = ap (λ (x : DraftState). x.model) c.in_ok-raise_item.ensures.ok ∙ raised.after_first _ _ _ _ _ _ c.requires c.in_ok-items.items.items (c.in_ok-items.ensures ∙ ap (λ X. items_of (content X c.args.l)) c.arena.ensures.model) c.index.result.now c.index.ensures;
+  session = ap (λ (x : DraftState). x.session) c.in_ok-raise_item.ensures.ok;
+}
 
 more : (n k : ℕ) → k ≡ n → (i : ℕ) → i + 1 < k → i + 1 < n
 more n k e i lt = omega arith
@@ -54,17 +54,17 @@ raise_item-requires-in-items-clause-accepted c = raised.accepted_next _ _ _ _ _ 
 pub close_side-requires-clause-accepted : goal.close_side-requires-clause-accepted
 close_side-requires-clause-accepted c = ap (λ n. first_false c.raise_item-in-items.new.draft.model (close (taken_of c.args.taken.now) n c.items.done)) (c.len-count.ensures ∙ c.in_ok-items.items.ok.0 ∙ raised.how_many _ _ _ _ _ _ c.requires c.in_ok-items.items.items (c.in_ok-items.ensures ∙ ap (λ X. items_of (content X c.args.l)) c.arena.ensures.model))
     ∙ raised.closes_next _ _ _ _ _ _ c.requires c.in_ok-items.items.items (c.in_ok-items.ensures ∙ ap (λ X. items_of (content X c.args.l)) c.arena.ensures.model) c.items.done c.items.draft.model c.items.invariant.model (more _ _ (c.len-count.ensures ∙ c.in_ok-items.items.ok.0 ∙ raised.how_many _ _ _ _ _ _ c.requires c.in_ok-items.items.items (c.in_ok-items.ensures ∙ ap (λ X. items_of (content X c.args.l)) c.arena.ensures.model)) c.items.done c.items-test.true) c.index-in-items.result.now c.index-in-items.ensures
-      c.raise_item-in-items.new.draft.model (ap (λ (x : DraftState). x.model) c.in_ok-raise_item-2.ensures.ok)
+    c.raise_item-in-items.new.draft.model (ap (λ (x : DraftState). x.model) c.in_ok-raise_item-2.ensures.ok)
 
 pub items-preserved : goal.items-preserved
 items-preserved c = record {
-    inside = more _ _ (c.len-count.ensures ∙ c.in_ok-items.items.ok.0 ∙ raised.how_many _ _ _ _ _ _ c.requires c.in_ok-items.items.items (c.in_ok-items.ensures ∙ ap (λ X. items_of (content X c.args.l)) c.arena.ensures.model)) c.items.done c.items-test.true;
-    model = ap (λ (x : DraftState). x.model) c.in_ok-close_side.ensures.ok
+  inside = more _ _ (c.len-count.ensures ∙ c.in_ok-items.items.ok.0 ∙ raised.how_many _ _ _ _ _ _ c.requires c.in_ok-items.items.items (c.in_ok-items.ensures ∙ ap (λ X. items_of (content X c.args.l)) c.arena.ensures.model)) c.items.done c.items-test.true;
+  model = ap (λ (x : DraftState). x.model) c.in_ok-close_side.ensures.ok
       ∙ ap (λ n. effect c.raise_item-in-items.new.draft.model (close (taken_of c.args.taken.now) n c.items.done)) (c.len-count.ensures ∙ c.in_ok-items.items.ok.0 ∙ raised.how_many _ _ _ _ _ _ c.requires c.in_ok-items.items.items (c.in_ok-items.ensures ∙ ap (λ X. items_of (content X c.args.l)) c.arena.ensures.model))
       ∙ raised.after_next _ _ _ _ _ _ c.requires c.in_ok-items.items.items (c.in_ok-items.ensures ∙ ap (λ X. items_of (content X c.args.l)) c.arena.ensures.model) c.items.done c.items.draft.model c.items.invariant.model (more _ _ (c.len-count.ensures ∙ c.in_ok-items.items.ok.0 ∙ raised.how_many _ _ _ _ _ _ c.requires c.in_ok-items.items.items (c.in_ok-items.ensures ∙ ap (λ X. items_of (content X c.args.l)) c.arena.ensures.model)) c.items.done c.items-test.true) c.index-in-items.result.now c.index-in-items.ensures
-        c.raise_item-in-items.new.draft.model (ap (λ (x : DraftState). x.model) c.in_ok-raise_item-2.ensures.ok);
-    session = ap (λ (x : DraftState). x.session) c.in_ok-close_side.ensures.ok ∙ ap (λ (x : DraftState). x.session) c.in_ok-raise_item-2.ensures.ok ∙ c.items.invariant.session;
-  }
+      c.raise_item-in-items.new.draft.model (ap (λ (x : DraftState). x.model) c.in_ok-raise_item-2.ensures.ok);
+  session = ap (λ (x : DraftState). x.session) c.in_ok-close_side.ensures.ok ∙ ap (λ (x : DraftState). x.session) c.in_ok-raise_item-2.ensures.ok ∙ c.items.invariant.session;
+}
 
 pub close_last-requires-clause-some : goal.close_last-requires-clause-some
 close_last-requires-clause-some c = let t = two_items _ _ _ _ _ _ c.requires in omega (arith, t, c.len-count.ensures ∙ c.in_ok-items.items.ok.0 ∙ raised.how_many _ _ _ _ _ _ c.requires c.in_ok-items.items.items (c.in_ok-items.ensures ∙ ap (λ X. items_of (content X c.args.l)) c.arena.ensures.model))
@@ -79,6 +79,8 @@ close_last-requires-clause-accepted c = ap (λ n. first_false c.items.draft.mode
 pub returns-clause-ok : goal.returns-clause-ok
 returns-clause-ok c =
     let e = c.in_ok-close_last.ensures.ok in
-    e ∙ (λ j. record { session = c.items.invariant.session j;
+    e ∙ (λ j. record {
+      session = c.items.invariant.session j;
       model = (ap (λ n. effect c.items.draft.model (close_last (taken_of c.args.taken.now) n (n - 1))) (c.len-count.ensures ∙ c.in_ok-items.items.ok.0 ∙ raised.how_many _ _ _ _ _ _ c.requires c.in_ok-items.items.items (c.in_ok-items.ensures ∙ ap (λ X. items_of (content X c.args.l)) c.arena.ensures.model))
-        ∙ raised.after_last _ _ _ _ _ _ c.requires c.in_ok-items.items.items (c.in_ok-items.ensures ∙ ap (λ X. items_of (content X c.args.l)) c.arena.ensures.model) c.items.done c.items.draft.model c.items.invariant.model c.items.invariant.inside (ends _ _ (c.len-count.ensures ∙ c.in_ok-items.items.ok.0 ∙ raised.how_many _ _ _ _ _ _ c.requires c.in_ok-items.items.items (c.in_ok-items.ensures ∙ ap (λ X. items_of (content X c.args.l)) c.arena.ensures.model)) c.items.done c.items-test.false)) j })
+          ∙ raised.after_last _ _ _ _ _ _ c.requires c.in_ok-items.items.items (c.in_ok-items.ensures ∙ ap (λ X. items_of (content X c.args.l)) c.arena.ensures.model) c.items.done c.items.draft.model c.items.invariant.model c.items.invariant.inside (ends _ _ (c.len-count.ensures ∙ c.in_ok-items.items.ok.0 ∙ raised.how_many _ _ _ _ _ _ c.requires c.in_ok-items.items.items (c.in_ok-items.ensures ∙ ap (λ X. items_of (content X c.args.l)) c.arena.ensures.model)) c.items.done c.items-test.false)) j;
+    })
