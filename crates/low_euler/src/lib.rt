@@ -1,7 +1,6 @@
-//! The Euler operators, applied to an arena in place.
-//!
-//! A caller tests an operator by `euler_conditions::check`, asks for its room by `room_op`, and then applies it by `apply`,
-//! which answers the operator that takes it back, or by `replay`, which answers nothing. Only `room_op` takes memory.
+//! The Euler operators in place. A caller tests an operator by `euler_conditions::check`, asks for its room by `room_op`,
+//! the only call that takes memory, and then applies it: by `apply`, which answers the operator that takes it back, or by
+//! `replay`, which answers nothing.
 //! A number that once had its room keeps it, so that an operator can be taken back, and applied again, when memory is spent.
 #![tactic(auto)]
 

@@ -26,11 +26,11 @@ half_start sp R from l n a e =
       ];
     }
 
-pub half_next : (sp now : Spots) (l : ℕ) (hs todo : List ℕ) → HalfDone sp now l hs todo → (q : ℕ) → next now q ≡ next sp q
-half_next sp now l hs todo d q = ap (λ o. or_zero (of_spot (λ s. s.next) o)) (d.at q) ∙ either (λ o. or_zero (of_spot (λ s. s.next) o)) (is_in q todo) _ _ _ refl (next-labelled sp l hs q)
+pub half_next : (sp now : Spots) (l : ℕ) (hs waiting : List ℕ) → HalfDone sp now l hs waiting → (q : ℕ) → next now q ≡ next sp q
+half_next sp now l hs waiting d q = ap (λ o. or_zero (of_spot (λ s. s.next) o)) (d.at q) ∙ either (λ o. or_zero (of_spot (λ s. s.next) o)) (is_in q waiting) _ _ _ refl (next-labelled sp l hs q)
 
-pub half_live : (sp now : Spots) (l : ℕ) (hs todo : List ℕ) → HalfDone sp now l hs todo → (q : ℕ) → live now q ≡ live sp q
-half_live sp now l hs todo d q = ap is_some (d.at q) ∙ either is_some (is_in q todo) _ _ _ refl (live-labelled sp l hs q)
+pub half_live : (sp now : Spots) (l : ℕ) (hs waiting : List ℕ) → HalfDone sp now l hs waiting → (q : ℕ) → live now q ≡ live sp q
+half_live sp now l hs waiting d q = ap is_some (d.at q) ∙ either is_some (is_in q waiting) _ _ _ refl (live-labelled sp l hs q)
 
 pub half_step : (sp now new : Spots) (l h : ℕ) (hs rest : List ℕ) → HalfDone sp now l hs (h ∷ rest) → ((q : ℕ) → new q ≡ cond (nat_eq q h) (map_spot (λ s. record s { label = l }) (now q)) (now q)) → HalfDone sp new l hs rest
 half_step sp now new l h hs rest d is = record {
