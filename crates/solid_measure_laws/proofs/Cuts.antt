@@ -1,8 +1,9 @@
 -- Where a segment meets a plane: the point lies on the plane, and divides the segment as the heights of its ends.
-use Rattle.std.proofs.Common.{◌≡◌, ◌≢◌, ◌⊎◌, inl, inr, ℕ, ◌+◌, ◌<◌, Bool, true, false, ◌&&◌, ℤ, pos, ◌+ℤ◌, ◌-ℤ◌, ◌*ℤ◌, neg_ℤ, unsigned_abs, int_div, int_rem, refl, sym, ap, ◌∙◌, arith, true≢false}
+use Rattle.std.proofs.Common.{◌≡◌, ◌≢◌, ◌⊎◌, inl, inr, ℕ, zero, suc, ◌+◌, ◌/◌, ◌%◌, ◌<◌, Bool, true, false, ◌&&◌, ℤ, pos, negsuc, ◌+ℤ◌, ◌-ℤ◌, ◌*ℤ◌, neg_ℤ, unsigned_abs, int_div, int_rem, refl, sym, ap, ◌∙◌, arith, true≢false}
 use Rattle.std.specs.Ordering.{int_eq}
 use Rattle.std.specs.Cmp.{signed_Decides}
 use Rattle.std.proofs.lemmas.Int.{ints, quot-rem}
+use Rattle.std.proofs.Math.Nat.{div-zero, zero-div, zero-mod}
 use Rattle.lattice.specs.declared.Point.{Point}
 use Rattle.lattice.specs.declared.Plane.{Plane}
 use Rattle.lattice.specs.Vectors.{height, is_on, opposite, are_opposite, cut_multiple, cuts_lattice, cut_between}
@@ -150,3 +151,73 @@ module _ (s : Plane) (p q : Point) (o : are_opposite s p q ≡ true) (cuts : cut
       (ratio m n (q.x -ℤ p.x) (cut.x -ℤ p.x) o (divided p.x q.x m n cut.x x_is))
       (ratio m n (q.y -ℤ p.y) (cut.y -ℤ p.y) o (divided p.y q.y m n cut.y y_is))
       (ratio m n (q.z -ℤ p.z) (cut.z -ℤ p.z) o (divided p.z q.z m n cut.z z_is))
+
+-- ---- from the other end
+
+multiple_dif : (p q m n p' q' m' n' : ℕ) → dif p p' *ℤ dif n n' -ℤ dif q q' *ℤ dif m m' ≡ neg_ℤ (dif q q' *ℤ dif m m' -ℤ dif p p' *ℤ dif n n')
+multiple_dif p q m n p' q' m' n' = simp (difs, neg-dif) (same_dif _ _ _ _ (omega arith))
+
+multiple_turned : (p q m n : ℤ) → p *ℤ n -ℤ q *ℤ m ≡ neg_ℤ (q *ℤ m -ℤ p *ℤ n)
+multiple_turned p q m n = rw (dif-parts p, dif-parts q, dif-parts m, dif-parts n) (multiple_dif _ _ _ _ _ _ _ _)
+
+gap_turned : (m n : ℤ) → n -ℤ m ≡ neg_ℤ (m -ℤ n)
+gap_turned m n = omega (arith, ints)
+
+none_over : (n : ℕ) → neg_ℤ (pos (0 / n)) ≡ pos (0 / n)
+none_over n = ap (λ k. neg_ℤ (pos k)) (zero-div n) ∙ sym (ap pos (zero-div n))
+
+by_none : (n : ℕ) → neg_ℤ (pos (n / 0)) ≡ pos (n / 0)
+by_none n = ap (λ k. neg_ℤ (pos k)) (div-zero n) ∙ sym (ap pos (div-zero n))
+
+quotient_turned : (a w : ℤ) → int_div (neg_ℤ a) (neg_ℤ w) ≡ int_div a w
+quotient_turned (pos zero) (pos zero) = refl
+quotient_turned (pos zero) (pos (suc w)) = none_over (suc w)
+quotient_turned (pos zero) (negsuc w) = sym (none_over (suc w))
+quotient_turned (pos (suc a)) (pos zero) = by_none (suc a)
+quotient_turned (pos (suc a)) (pos (suc w)) = refl
+quotient_turned (pos (suc a)) (negsuc w) = refl
+quotient_turned (negsuc a) (pos zero) = sym (by_none (suc a))
+quotient_turned (negsuc a) (pos (suc w)) = refl
+quotient_turned (negsuc a) (negsuc w) = refl
+
+same_size : (w : ℤ) → unsigned_abs (neg_ℤ w) ≡ unsigned_abs w
+same_size (pos zero) = refl
+same_size (pos (suc w)) = refl
+same_size (negsuc w) = refl
+
+twice_turned : (n : ℕ) → neg_ℤ (neg_ℤ (pos n)) ≡ pos n
+twice_turned zero = refl
+twice_turned (suc n) = refl
+
+remainder_turned : (a w : ℤ) → int_rem (neg_ℤ a) (neg_ℤ w) ≡ neg_ℤ (int_rem a w)
+remainder_turned (pos zero) w = ap (λ k. pos (0 % k)) (same_size w) ∙ ap pos (zero-mod (unsigned_abs w)) ∙ sym (ap (λ k. neg_ℤ (pos k)) (zero-mod (unsigned_abs w)))
+remainder_turned (pos (suc a)) w = ap (λ k. neg_ℤ (pos (suc a % k))) (same_size w)
+remainder_turned (negsuc a) w = ap (λ k. pos (suc a % k)) (same_size w) ∙ sym (twice_turned (suc a % unsigned_abs w))
+
+still_none : (r : ℤ) → int_eq (neg_ℤ r) (pos 0) ≡ int_eq r (pos 0)
+still_none r = grind (arith, ints)
+
+module _ (s : Plane) (p q : Point) where
+  abbrev multiple : ℤ → ℤ → ℤ
+  multiple a b = cut_multiple s p q a b
+
+  abbrev gap : ℤ
+  gap = height s p -ℤ height s q
+
+  turned_multiple : (a b : ℤ) → cut_multiple s q p b a ≡ neg_ℤ (multiple a b)
+  turned_multiple a b = multiple_turned a b (height s p) (height s q)
+
+  turned_gap : height s q -ℤ height s p ≡ neg_ℤ gap
+  turned_gap = gap_turned (height s p) (height s q)
+
+  quotient : (a b : ℤ) → int_div (cut_multiple s q p b a) (height s q -ℤ height s p) ≡ int_div (multiple a b) gap
+  quotient a b = (λ i. int_div (turned_multiple a b i) (turned_gap i)) ∙ quotient_turned (multiple a b) gap
+
+  remainder : (a b : ℤ) → int_eq (int_rem (cut_multiple s q p b a) (height s q -ℤ height s p)) (pos 0) ≡ int_eq (int_rem (multiple a b) gap) (pos 0)
+  remainder a b = (λ i. int_eq (int_rem (turned_multiple a b i) (turned_gap i)) (pos 0)) ∙ ap (λ r. int_eq r (pos 0)) (remainder_turned (multiple a b) gap) ∙ still_none (int_rem (multiple a b) gap)
+
+  pub cuts_either_way : (cuts_lattice s q p ≡ cuts_lattice s p q) × (cut_between s q p ≡ cut_between s p q)
+  cuts_either_way = (
+    λ i. remainder p.x q.x i && remainder p.y q.y i && remainder p.z q.z i,
+    same_vector _ _ (quotient p.x q.x) (quotient p.y q.y) (quotient p.z q.z),
+  )

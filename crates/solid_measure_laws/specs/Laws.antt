@@ -1,13 +1,14 @@
 -- What normals and volumes obey.
-use Rattle.std.specs.Prelude.{◌≡◌, ℕ, true}
+use Rattle.std.specs.Prelude.{◌≡◌, ℕ, ◌+◌, ◌<◌, pos, unsigned_abs, true}
 use Rattle.lattice.specs.declared.Point.{Point}
 use Rattle.lattice.specs.declared.Plane.{Plane}
-use Rattle.lattice.specs.Vectors.{dot, is_on}
+use Rattle.lattice.specs.Vectors.{dot, height, is_on, are_opposite, cuts_lattice, cut_between}
 use Rattle.boundary_model.specs.Model.{Model, point_of}
 use Rattle.boundary_model.specs.Sound.{Sound, Has}
 use Rattle.euler_operators.specs.Conditions.{lists}
 use Rattle.shapes.specs.Faces.{corners}
 use Rattle.solid_measure.specs.Measure.{normal, anchor, is_plane_of, is_flat}
+use Rattle.solid_measure_laws.specs.Vectors.{scaled, towards}
 
 -- any two points of a plane on which all corners of a face lie have the same product along the face's normal
 abbrev pub FlatFaces : Type 0
@@ -20,3 +21,19 @@ ToldAnywhere = (M : Model) (f : ℕ) (s : Plane) (r : Point) → Sound M → Has
 -- and of a flat face from any of its corners
 abbrev pub ToldFromCorners : Type 0
 ToldFromCorners = (M : Model) (f v : ℕ) → is_flat M f ≡ true → lists (corners M f) v ≡ true → dot (point_of M v) (normal M f) ≡ dot (anchor M f) (normal M f)
+
+-- where the ends of a segment lie strictly on opposite sides of a plane, and the cut point is on the lattice, it lies on the plane
+abbrev pub CutsOnPlane : Type 0
+CutsOnPlane = (s : Plane) (p q : Point) → are_opposite s p q ≡ true → cuts_lattice s p q ≡ true → is_on s (cut_between s p q) ≡ true
+
+-- c lies inside the segment from p to q, and divides it as m to n
+abbrev pub Divides : ℕ → ℕ → Point → Point → Point → Type 0
+Divides m n p q c = (0 < m) × (0 < n) × (scaled (pos (m + n)) (towards p c) ≡ scaled (pos m) (towards p q))
+
+-- and inside the segment, which it divides as the heights of the ends
+abbrev pub CutsInside : Type 0
+CutsInside = (s : Plane) (p q : Point) → are_opposite s p q ≡ true → cuts_lattice s p q ≡ true → Divides (unsigned_abs (height s p)) (unsigned_abs (height s q)) p q (cut_between s p q)
+
+-- and it is the same from either end
+abbrev pub CutsEitherWay : Type 0
+CutsEitherWay = (s : Plane) (p q : Point) → (cuts_lattice s q p ≡ cuts_lattice s p q) × (cut_between s q p ≡ cut_between s p q)

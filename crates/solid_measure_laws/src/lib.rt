@@ -1,7 +1,7 @@
-//! The laws of normals and volumes. Each function does nothing: its contract is what is proved, over every sound model.
+//! The laws of normals, volumes and cut points. Each function does nothing: its contract is what is proved, over every sound model.
 #![tactic(auto)]
 
-ghost use Rattle.solid_measure_laws.specs.Laws.{FlatFaces, ToldAnywhere, ToldFromCorners};
+ghost use Rattle.solid_measure_laws.specs.Laws.{FlatFaces, ToldAnywhere, ToldFromCorners, CutsOnPlane, CutsInside, CutsEitherWay};
 
 /// Points of a plane on which all corners of a face lie tell the same along the face's normal. So what a flat face adds to the
 /// six volumes may be told from any of its corners, and from any point of its plane.
@@ -9,4 +9,12 @@ pub fn flat_faces()
     ensures alike { FlatFaces }
     ensures anywhere { ToldAnywhere }
     ensures corners { ToldFromCorners }
+{}
+
+/// Where the ends of a segment lie strictly on opposite sides of a plane, and the point between them on the plane has whole
+/// coordinates, the cut point lies on the plane, and divides the segment as the heights of its ends. It is the same from either end.
+pub fn cut_points()
+    ensures on_plane { CutsOnPlane }
+    ensures inside { CutsInside }
+    ensures either_way { CutsEitherWay }
 {}
