@@ -1,4 +1,6 @@
 pub mod Products
 pub mod Paths
 pub mod FlatFaces
+pub mod Sums
+pub mod Turned
 pub mod Cuts

@@ -1,14 +1,17 @@
 -- What normals and volumes obey.
-use Rattle.std.specs.Prelude.{◌≡◌, ℕ, ◌+◌, ◌<◌, pos, unsigned_abs, true}
+use Rattle.std.specs.Prelude.{◌≡◌, ℕ, ◌+◌, ◌<◌, pos, unsigned_abs, true, List, map, reverse}
 use Rattle.lattice.specs.declared.Point.{Point}
 use Rattle.lattice.specs.declared.Plane.{Plane}
 use Rattle.lattice.specs.Vectors.{dot, height, is_on, are_opposite, cuts_lattice, cut_between}
+use Rattle.cyclic_list.specs.Items.{SameItems}
+use Rattle.boundary_model.specs.HalfEdge.{mate}
 use Rattle.boundary_model.specs.Model.{Model, point_of}
 use Rattle.boundary_model.specs.Sound.{Sound, Has}
 use Rattle.euler_operators.specs.Conditions.{lists}
-use Rattle.shapes.specs.Faces.{corners}
-use Rattle.solid_measure.specs.Measure.{normal, anchor, is_plane_of, is_flat}
-use Rattle.solid_measure_laws.specs.Vectors.{scaled, towards}
+use Rattle.shapes.specs.Faces.{boundary, corners}
+use Rattle.solid_measure.specs.Measure.{area, normal, anchor, is_plane_of, is_flat}
+use Rattle.solid_measure_laws.specs.Vectors.{negated, scaled, towards}
+use Rattle.solid_measure_laws.specs.Models.{turned}
 
 -- any two points of a plane on which all corners of a face lie have the same product along the face's normal
 abbrev pub FlatFaces : Type 0
@@ -21,6 +24,18 @@ ToldAnywhere = (M : Model) (f : ℕ) (s : Plane) (r : Point) → Sound M → Has
 -- and of a flat face from any of its corners
 abbrev pub ToldFromCorners : Type 0
 ToldFromCorners = (M : Model) (f v : ℕ) → is_flat M f ≡ true → lists (corners M f) v ≡ true → dot (point_of M v) (normal M f) ≡ dot (anchor M f) (normal M f)
+
+-- half-edges run the other way have the opposite area
+abbrev pub TurnedPaths : Type 0
+TurnedPaths = (M : Model) (hs : List ℕ) → area M (reverse (map mate hs)) ≡ negated (area M hs)
+
+-- a face that is bounded by the other halves of a face's edges has the opposite normal
+abbrev pub OpposedFaces : Type 0
+OpposedFaces = (M : Model) (f g : ℕ) → SameItems (boundary M g) (map mate (boundary M f)) → normal M g ≡ negated (normal M f)
+
+-- so has each face where all loops are run the other way
+abbrev pub TurnedFaces : Type 0
+TurnedFaces = (M : Model) (f : ℕ) → normal (turned M) f ≡ negated (normal M f)
 
 -- where the ends of a segment lie strictly on opposite sides of a plane, and the cut point is on the lattice, it lies on the plane
 abbrev pub CutsOnPlane : Type 0

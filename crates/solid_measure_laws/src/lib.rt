@@ -1,7 +1,7 @@
 //! The laws of normals, volumes and cut points. Each function does nothing: its contract is what is proved, over every sound model.
 #![tactic(auto)]
 
-ghost use Rattle.solid_measure_laws.specs.Laws.{FlatFaces, ToldAnywhere, ToldFromCorners, CutsOnPlane, CutsInside, CutsEitherWay};
+ghost use Rattle.solid_measure_laws.specs.Laws.{FlatFaces, ToldAnywhere, ToldFromCorners, TurnedPaths, OpposedFaces, TurnedFaces, CutsOnPlane, CutsInside, CutsEitherWay};
 
 /// Points of a plane on which all corners of a face lie tell the same along the face's normal. So what a flat face adds to the
 /// six volumes may be told from any of its corners, and from any point of its plane.
@@ -9,6 +9,13 @@ pub fn flat_faces()
     ensures alike { FlatFaces }
     ensures anywhere { ToldAnywhere }
     ensures corners { ToldFromCorners }
+{}
+
+/// Run the other way, along the other halves of their edges, loops have the opposite area, and so faces the opposite normal.
+pub fn turned_loops()
+    ensures paths { TurnedPaths }
+    ensures opposed { OpposedFaces }
+    ensures faces { TurnedFaces }
 {}
 
 /// Where the ends of a segment lie strictly on opposite sides of a plane, and the point between them on the plane has whole
