@@ -3,4 +3,6 @@ pub mod Paths
 pub mod FlatFaces
 pub mod Sums
 pub mod Turned
+pub mod Shifted
+pub mod Closed
 pub mod Cuts

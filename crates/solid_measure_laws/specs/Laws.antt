@@ -1,17 +1,17 @@
 -- What normals and volumes obey.
-use Rattle.std.specs.Prelude.{◌≡◌, ℕ, ◌+◌, ◌<◌, pos, unsigned_abs, true, List, map, reverse}
+use Rattle.std.specs.Prelude.{◌≡◌, ℕ, ◌+◌, ◌<◌, pos, ◌+ℤ◌, unsigned_abs, true, List, map, reverse}
 use Rattle.lattice.specs.declared.Point.{Point}
 use Rattle.lattice.specs.declared.Plane.{Plane}
-use Rattle.lattice.specs.Vectors.{dot, height, is_on, are_opposite, cuts_lattice, cut_between}
+use Rattle.lattice.specs.Vectors.{origin, dot, height, is_on, are_opposite, cuts_lattice, cut_between}
 use Rattle.cyclic_list.specs.Items.{SameItems}
 use Rattle.boundary_model.specs.HalfEdge.{mate}
-use Rattle.boundary_model.specs.Model.{Model, point_of}
+use Rattle.boundary_model.specs.Model.{Model, point_of, faces_of}
 use Rattle.boundary_model.specs.Sound.{Sound, Has}
 use Rattle.euler_operators.specs.Conditions.{lists}
 use Rattle.shapes.specs.Faces.{boundary, corners}
-use Rattle.solid_measure.specs.Measure.{area, normal, anchor, is_plane_of, is_flat}
+use Rattle.solid_measure.specs.Measure.{area, normal, anchor, is_plane_of, is_flat, six_volume}
 use Rattle.solid_measure_laws.specs.Vectors.{negated, scaled, towards}
-use Rattle.solid_measure_laws.specs.Models.{turned}
+use Rattle.solid_measure_laws.specs.Models.{turned, shifted, normals_in}
 
 -- any two points of a plane on which all corners of a face lie have the same product along the face's normal
 abbrev pub FlatFaces : Type 0
@@ -36,6 +36,22 @@ OpposedFaces = (M : Model) (f g : ℕ) → SameItems (boundary M g) (map mate (b
 -- so has each face where all loops are run the other way
 abbrev pub TurnedFaces : Type 0
 TurnedFaces = (M : Model) (f : ℕ) → normal (turned M) f ≡ negated (normal M f)
+
+-- a face keeps its normal where the model is moved
+abbrev pub ShiftedFaces : Type 0
+ShiftedFaces = (M : Model) (d : Point) (f : ℕ) → Sound M → normal (shifted M d) f ≡ normal M f
+
+-- and a solid's six volumes grow by the sum of its faces' normals along the way
+abbrev pub ShiftedSolids : Type 0
+ShiftedSolids = (M : Model) (d : Point) (s : ℕ) → Sound M → six_volume (shifted M d) s ≡ six_volume M s +ℤ dot d (normals_in M (faces_of M s))
+
+-- the normals of a solid's faces sum to nothing
+abbrev pub ClosedSolids : Type 0
+ClosedSolids = (M : Model) (s : ℕ) → Sound M → normals_in M (faces_of M s) ≡ origin
+
+-- so a solid that is moved keeps its six volumes
+abbrev pub MovedSolids : Type 0
+MovedSolids = (M : Model) (d : Point) (s : ℕ) → Sound M → six_volume (shifted M d) s ≡ six_volume M s
 
 -- where the ends of a segment lie strictly on opposite sides of a plane, and the cut point is on the lattice, it lies on the plane
 abbrev pub CutsOnPlane : Type 0
