@@ -58,13 +58,13 @@ ClosedSolids = (M : Model) (s : ℕ) → Sound M → normals_in M (faces_of M s)
 abbrev pub MovedSolids : Type 0
 MovedSolids = (M : Model) (d : Point) (s : ℕ) → Sound M → six_volume (shifted M d) s ≡ six_volume M s
 
--- where the ends of a segment lie strictly on opposite sides of a plane, and the cut point is on the lattice, it lies on the plane
-abbrev pub CutsOnPlane : Type 0
-CutsOnPlane = (s : Plane) (p q : Point) → are_opposite s p q ≡ true → cuts_lattice s p q ≡ true → is_on s (cut_between s p q) ≡ true
-
 -- c lies inside the segment from p to q, and divides it as m to n
 abbrev pub Divides : ℕ → ℕ → Point → Point → Point → Type 0
 Divides m n p q c = (0 < m) × (0 < n) × (scaled (pos (m + n)) (towards p c) ≡ scaled (pos m) (towards p q))
+
+-- where the ends of a segment lie strictly on opposite sides of a plane, and the cut point is on the lattice, it lies on the plane
+abbrev pub CutsOnPlane : Type 0
+CutsOnPlane = (s : Plane) (p q : Point) → are_opposite s p q ≡ true → cuts_lattice s p q ≡ true → is_on s (cut_between s p q) ≡ true
 
 -- and inside the segment, which it divides as the heights of the ends
 abbrev pub CutsInside : Type 0

@@ -1,4 +1,4 @@
-//! The laws of normals, volumes and cut points. Each function does nothing: its contract is what is proved, over every sound model.
+//! The laws of normals, volumes and cut points. Each function does nothing: its contract is what is proved.
 #![tactic(auto)]
 
 ghost use Rattle.solid_measure_laws.specs.Laws.{FlatFaces, ToldAnywhere, ToldFromCorners, TurnedPaths, OpposedFaces, TurnedFaces, InvertedSolids, ShiftedFaces, ShiftedSolids, ClosedSolids, MovedSolids, CutsOnPlane, CutsInside, CutsOnEachPlane, CutsKeepAreas, CutsEitherWay};
