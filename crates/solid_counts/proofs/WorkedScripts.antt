@@ -1,6 +1,5 @@
 -- Worked examples of counts, computed.
-use Rattle.std.specs.Prelude.{◌≡◌, ℕ, pos, [], ◌∷◌, Some, None, refl}
-use Rattle.lattice.specs.declared.Point.{Point}
+use Rattle.std.specs.Prelude.{◌≡◌, ℕ, pos, [], ◌∷◌, None, refl}
 use Rattle.cyclic_list.specs.Rings.{rotate_to, canonical, rest}
 use Rattle.boundary_model.specs.declared.Corner.TheVariants.{Lone}
 use Rattle.boundary_model.specs.HalfEdge.{mate, code, half, edge_of, is_first}
