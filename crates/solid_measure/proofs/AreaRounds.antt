@@ -11,8 +11,9 @@ use Rattle.arena_rows.specs.Store.{Tells}
 use Rattle.euler_conditions.proofs.Parallel.{steps}
 use Rattle.shapes.specs.Faces.{start, finish}
 use Rattle.solid_measure.specs.Measure.{area, area_limit}
-use Rattle.solid_measure.proofs.Rounds.{Round, round_start, round_more, round_closed, round_ended, half_in, met_once, items_apart}
-use Rattle.solid_measure.proofs.Areas.{AreHalves, area_turned, area_push, area_limited, moved_more, moved_nothing, moved_within}
+use Rattle.solid_walks.proofs.Rounds.{Round, round_start, round_more, round_closed, round_ended, half_in, met_once, items_apart}
+use Rattle.solid_walks.proofs.FaceLoops.{AreHalves}
+use Rattle.solid_measure.proofs.Areas.{area_turned, area_push, area_limited, moved_more, moved_nothing, moved_within}
 
 -- a lone loop adds nothing
 pub lone_adds : (M : Model) (c : LoopContent) (v : ℕ) (n : Point) → Tells c (Content.Lone v) → n ≡ moved n (area M (items_of c))

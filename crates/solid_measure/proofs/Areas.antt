@@ -7,16 +7,14 @@ use Rattle.lattice.specs.Point.{IsInRange}
 use Rattle.lattice.specs.Ranges.{IsVectorWithin}
 use Rattle.lattice.specs.Vectors.{origin, moved, cross}
 use Rattle.lattice.proofs.Magnitudes.{coordinates, coordinate_within, product_within, sum_within, difference_within}
-use Rattle.cyclic_list.specs.Items.{IsIn, IsApart}
 use Rattle.cyclic_list.specs.Rings.{IsRotation}
 use Rattle.boundary_model.specs.HalfEdge.{mate}
 use Rattle.boundary_model.specs.Table as table
 use Rattle.boundary_model.specs.Model.{Model, tail, point_of, no_point}
-use Rattle.boundary_model.specs.Sound.{Sound, HasHalf}
-use Rattle.euler_conditions.proofs.Parallel.{steps, steps_are, length_below}
+use Rattle.boundary_model.specs.Sound.{Sound}
 use Rattle.shapes.specs.Faces.{start, finish}
 use Rattle.solid_measure.specs.Measure.{area, area_limit}
-use Rattle.solid_measure.proofs.Rounds.{half_below}
+use Rattle.solid_walks.proofs.FaceLoops.{AreHalves, halves_short}
 
 pub same_vector : (p q : Point) → p.x ≡ q.x → p.y ≡ q.y → p.z ≡ q.z → p ≡ q
 same_vector p q a b c = λ i. record { x = a i; y = b i; z = c i }
@@ -71,16 +69,8 @@ area_within M sound [] = (omega arith, omega arith, omega arith)
 area_within M sound (h ∷ hs) =
     moved_within (cross (start M h) (finish M h)) (area M hs) _ _ _ (cross_within (start M h) (finish M h) (point_fits M sound (tail M h)) (point_fits M sound (tail M (mate h)))) (area_within M sound hs) (omega arith)
 
--- different half-edges that are there
-pub record AreHalves (M : Model) (hs : List ℕ) : Type 0 where
-  pub apart : IsApart hs
-  pub there : (x : ℕ) → IsIn x hs → HasHalf M x
-
 wider : (v : Point) (m n : ℕ) → IsVectorWithin m v → m ≤ n → IsVectorWithin n v
 wider v m n w l = (omega (arith, w.0, l), omega (arith, w.1, l), omega (arith, w.2, l))
-
-pub halves_short : (M : Model) → Sound M → (hs : List ℕ) → AreHalves M hs → length hs ≤ 2000002
-halves_short M sound hs a = omega (arith, steps_are, length_below steps hs a.apart (λ x i. half_below M sound x (a.there x i)))
 
 pub area_limited : (M : Model) → Sound M → (hs : List ℕ) → AreHalves M hs → IsVectorWithin area_limit (area M hs)
 area_limited M sound hs a = wider (area M hs) _ area_limit (area_within M sound hs) (omega (arith, halves_short M sound hs a))

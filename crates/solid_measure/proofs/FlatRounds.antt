@@ -18,8 +18,8 @@ use Rattle.euler_laws_shared.proofs.Listed.{first_listed, rest_listed, listed_ca
 use Rattle.euler_conditions.proofs.Parallel.{steps}
 use Rattle.shapes.specs.Faces.{start, vertices_on, vertices_in, corners, loops_of}
 use Rattle.solid_measure.specs.Measure.{plane_of, is_flat}
-use Rattle.solid_measure.proofs.Rising.{below_or}
-use Rattle.solid_measure.proofs.Rounds.{Round, round_start, round_more, round_closed, round_ended}
+use Rattle.solid_walks.proofs.Rising.{below_or}
+use Rattle.solid_walks.proofs.Rounds.{Round, round_start, round_more, round_closed, round_ended}
 
 both_true : (a b : Bool) → a ≡ true → b ≡ true → (a && b) ≡ true
 both_true a b p q = ap (λ c. c && b) p ∙ q

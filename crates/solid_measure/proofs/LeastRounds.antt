@@ -8,7 +8,7 @@ use Rattle.cyclic_list.proofs.Rotations.{IsRotation-same, head_canonical}
 use Rattle.boundary_model.specs.Model.{Model, items_of, content, after}
 use Rattle.boundary_model.specs.Sound.{Sound}
 use Rattle.euler_conditions.proofs.Parallel.{steps}
-use Rattle.solid_measure.proofs.Rounds.{Round, round_start, round_more, round_closed, round_ended, items_from_least}
+use Rattle.solid_walks.proofs.Rounds.{Round, round_start, round_more, round_closed, round_ended, items_from_least}
 
 -- the walk has come to h; k is an item, and nothing that was met is less
 pub record LeastRound (M : Model) (l first h n k : ℕ) : Type 0 where

@@ -1,9 +1,7 @@
-pub mod Rounds
 pub mod Areas
 pub mod AreaRounds
 pub mod LeastRounds
 pub mod FlatRounds
-pub mod Rising
 pub mod Boundaries
 pub mod Planes
 pub mod Volumes

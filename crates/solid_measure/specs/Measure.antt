@@ -1,5 +1,5 @@
 -- Normals, planes and volumes.
-use Rattle.std.specs.Prelude.{ℕ, ℤ, pos, ◌+ℤ◌, neg_ℤ, Bool, not, ◌&&◌, List, [], ◌∷◌, ◌++◌, Option, Some, None, Result, Ok, Err}
+use Rattle.std.specs.Prelude.{ℕ, ℤ, pos, ◌+ℤ◌, neg_ℤ, Bool, not, ◌&&◌, List, [], ◌∷◌, ◌++◌, Option}
 use Rattle.std.specs.List.{list_all}
 use Rattle.lattice.specs.declared.Point.{Point}
 use Rattle.lattice.specs.declared.Plane.{Plane}
@@ -10,7 +10,8 @@ use Rattle.boundary_model.specs.Model.{Model, LoopContent, lone, cycle, tail, co
 use Rattle.euler_operators.specs.Conditions.{need, first_refusal, numbers_in_range}
 use Rattle.shapes.specs.Faces.{boundary, corners, start, finish}
 use Rattle.euler_operators.specs.declared.Refusal.{Refusal}
-use Rattle.euler_operators.specs.declared.Why.TheVariants.{NoFace, NoSolid}
+use Rattle.euler_operators.specs.declared.Why.TheVariants.{NoFace}
+pub use Rattle.solid_counts.specs.Counts.{answer, counts, solid_refusal}
 use Rattle.solid_measure.specs.declared.Vector.{Vector}
 
 -- a sum of the code
@@ -61,14 +62,6 @@ volume_in M (f ∷ fs) = dot (anchor M f) (normal M f) +ℤ volume_in M fs
 unfoldable pub six_volume : Model → ℕ → ℤ
 six_volume M s = volume_in M (faces_of M s)
 
--- where a query is refused
+-- where a query about a face is refused
 abbrev pub face_refusal : Model → ℕ → Option Refusal
 face_refusal M f = first_refusal (numbers_in_range (f ∷ []) ++ need (table.has M.faces f) NoFace f ∷ [])
-
-abbrev pub solid_refusal : Model → ℕ → Option Refusal
-solid_refusal M s = first_refusal (numbers_in_range (s ∷ []) ++ need (table.has M.solids s) NoSolid s ∷ [])
-
--- what a query answers: a value, or the refusal where there is one
-abbrev pub answer : {A : Type 0} → Option Refusal → A → Result A Refusal
-answer None a = Ok a
-answer (Some r) a = Err r

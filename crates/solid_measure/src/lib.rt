@@ -1,4 +1,4 @@
-//! Measures of a boundary model: normals, planes and volumes. Nothing here takes memory, and every number is exact.
+//! Measures of a boundary model: normals, planes, volumes and counts. Nothing here takes memory, and every number is exact.
 #![tactic(auto)]
 
 mod faces;
@@ -7,6 +7,7 @@ mod loops;
 mod measures;
 
 pub use measures::{is_flat, normal, plane, six_volume};
+pub use solid_counts::{Tally, counts};
 
 /// A sum of cross products of points.
 #[derive(Clone, Copy, Debug, PartialEq, Eq)]

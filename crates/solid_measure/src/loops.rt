@@ -15,6 +15,7 @@ ghost use Rattle.solid_measure.specs.Measure.{area, area_limit, read};
 use crate::{Vector, halves};
 use halfedge_arena::{Arena, Content, HalfEdge, Kind};
 use lattice::{Plane, Point, Sign, cross_add, side};
+use solid_walks::{next, same};
 
 /// More than the half-edges that an arena can have.
 const HALVES: u32 = 2_000_002;
@@ -48,8 +49,8 @@ pub(crate) fn loop_added(arena: &Arena, n: Vector, l: u32) -> Vector
     let mut h = first;
     'round: for _ in 0..HALVES {
         sum = half_added(arena, sum, h);
-        h = halves::next(arena, h);
-        if halves::same(h, first) {
+        h = next(arena, h);
+        if same(h, first) {
             return sum;
         }
     }
@@ -76,8 +77,8 @@ pub(crate) fn least_item(arena: &Arena, l: u32, first: HalfEdge) -> HalfEdge
     let mut h = first;
     'round: for _ in 0..HALVES {
         least = lesser(least, h);
-        h = halves::next(arena, h);
-        if halves::same(h, first) {
+        h = next(arena, h);
+        if same(h, first) {
             return least;
         }
     }
@@ -108,8 +109,8 @@ fn ring_lies_on(arena: &Arena, plane: Plane, l: u32, first: HalfEdge) -> bool
         if !lies_on(plane, halves::start(arena, h)) {
             return false;
         }
-        h = halves::next(arena, h);
-        if halves::same(h, first) {
+        h = next(arena, h);
+        if same(h, first) {
             return true;
         }
     }

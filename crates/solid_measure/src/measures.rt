@@ -10,6 +10,7 @@ use crate::faces;
 use euler_operators::{Refusal, Why};
 use halfedge_arena::{Arena, Kind};
 use lattice::Plane;
+use solid_counts::refusal_of_solid;
 
 /// Whether the number lies from 1 to the limit.
 fn is_number(n: u32) -> bool
@@ -40,8 +41,7 @@ fn refusal_of_face(arena: &Arena, f: u32) -> Option<Refusal>
 /// The normal of face f: the sum of the cross products `p x q` over the half-edges of all its loops, each from point p to
 /// point q. Each number is below 10^25 in magnitude.
 ///
-/// Refused, in this order: NumberRange, NoFace. It walks once round each loop of the face, and where the face has rings over
-/// the numbers of loops.
+/// Refused, in this order: NumberRange, NoFace. It walks once round each loop of the face, and over nothing else.
 pub fn normal(arena: &Arena, f: u32) -> Result<[i128; 3], Refusal>
     requires { IsReady arena.now }
     ensures { result ≡ answer (face_refusal arena.now.model f) (numbers_of (normal arena.now.model f)) }
@@ -79,25 +79,6 @@ pub fn is_flat(arena: &Arena, f: u32) -> Result<bool, Refusal>
     Ok(faces::is_flat(arena, f))
 }
 
-/// The refusal of a query about solid s, if there is one.
-fn refusal_of_solid(arena: &Arena, s: u32) -> Option<Refusal>
-    ensures { result ≡ solid_refusal arena.now.model s }
-{
-    if !is_number(s) {
-        return Some(Refusal {
-            why: Why::NumberRange,
-            number: s,
-        });
-    }
-    if !arena.has(Kind::Solid, s) {
-        return Some(Refusal {
-            why: Why::NoSolid,
-            number: s,
-        });
-    }
-    None
-}
-
 /// The sum over the faces of solid s of the products of anchor and normal.
 fn volume_of(arena: &Arena, s: u32) -> i128
     requires { IsReady arena.now }
@@ -105,10 +86,8 @@ fn volume_of(arena: &Arena, s: u32) -> i128
 {
     let mut sum = 0;
     let mut last = 0;
-    'faces: while let Some(f) = arena.after_number(Kind::Face, last) {
-        if arena.solid_of(f) == s {
-            sum += faces::volume_over(arena, f);
-        }
+    'faces: while let Some(f) = arena.face_after(s, last) {
+        sum += faces::volume_over(arena, f);
         last = f;
     }
     sum
@@ -117,8 +96,7 @@ fn volume_of(arena: &Arena, s: u32) -> i128
 /// Six times the volume of solid s: the sum over its faces of the product of the anchor with the normal. It is below 3 * 10^34
 /// in magnitude.
 ///
-/// Refused, in this order: NumberRange, NoSolid. It walks over the numbers of faces, and once round each loop of the solid's
-/// faces; a face with rings costs one walk over the numbers of loops more.
+/// Refused, in this order: NumberRange, NoSolid. It walks over the solid's own faces, and once or twice round each of their loops.
 pub fn six_volume(arena: &Arena, s: u32) -> Result<i128, Refusal>
     requires { IsReady arena.now }
     ensures { result ≡ answer (solid_refusal arena.now.model s) (six_volume arena.now.model s) }

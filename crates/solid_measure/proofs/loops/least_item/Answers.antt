@@ -3,7 +3,7 @@ use Rattle.boundary_model.specs.HalfEdge.{code}
 use Rattle.euler_laws_shared.proofs.Goes.{equal, unequal}
 use Rattle.euler_conditions.proofs.Known.{edge_there}
 use Rattle.euler_conditions.proofs.Parallel.{steps, steps_are}
-use Rattle.solid_measure.proofs.Rounds.{half_in, edge_number}
+use Rattle.solid_walks.proofs.Rounds.{half_in, edge_number}
 use Rattle.solid_measure.proofs.LeastRounds.{LeastRound, least_start, least_closed, least_more, least_ended, lower_item}
 use Rattle.solid_measure.proofs.loops.least_item.Goals as goal
 

@@ -3,7 +3,7 @@ use Rattle.boundary_model.specs.HalfEdge.{code}
 use Rattle.boundary_model.specs.Model.{after}
 use Rattle.boundary_model.specs.Sound.{HasHalf}
 use Rattle.euler_conditions.proofs.Known.{half_there, edge_there, in_a_loop, after_there}
-use Rattle.solid_measure.proofs.halves.next.Goals as goal
+use Rattle.solid_walks.proofs.halves.next.Goals as goal
 
 pub next-requires : goal.next-requires
 next-requires c = half_there c.args.arena.now.model c.args.h c.requires.there

@@ -1,0 +1,102 @@
+-- How many items of a list pass a test, and lists that have equally many items.
+use Rattle.std.proofs.Common.{◌≡◌, ℕ, ◌+◌, ◌≤◌, Bool, true, false, cond, List, [], ◌∷◌, ◌++◌, length, map, refl, sym, ap, subst, ◌∙◌, arith, inl, inr}
+use Rattle.std.proofs.lemmas.Bool.Decides.{eqb_tells}
+use Rattle.std.proofs.lemmas.List.{length-append}
+use Rattle.cyclic_list.specs.Items.{count, tick, IsIn, IsApart, before, after}
+use Rattle.cyclic_list.specs.Rings.{IsRotation}
+use Rattle.cyclic_list.proofs.Lists.{count-append, tick_same, tick_other, split_at, IsIn_or_not}
+
+-- how many items pass a test, and which
+abbrev pub how_many : (ℕ → Bool) → List ℕ → ℕ
+how_many p [] = 0
+how_many p (x ∷ xs) = cond (p x) 1 0 + how_many p xs
+
+abbrev pub passing : (ℕ → Bool) → List ℕ → List ℕ
+passing p [] = []
+passing p (x ∷ xs) = cond (p x) (x ∷ passing p xs) (passing p xs)
+
+module _ (p : ℕ → Bool) where
+  pub how_many-append : (xs ys : List ℕ) → how_many p (xs ++ ys) ≡ how_many p xs + how_many p ys
+  how_many-append [] ys = omega arith
+  how_many-append (x ∷ xs) ys = omega (arith, how_many-append xs ys)
+
+  pub how_many_turned : (xs ys : List ℕ) → IsRotation xs ys → how_many p xs ≡ how_many p ys
+  how_many_turned xs ys r = omega (arith, ap (how_many p) r.here, ap (how_many p) r.there, how_many-append r.front r.back, how_many-append r.back r.front)
+
+  pub how_many_short : (xs : List ℕ) → how_many p xs ≤ length xs
+  how_many_short [] = omega arith
+  how_many_short (x ∷ xs) = elim (p x) as (λ b. cond b 1 0 + how_many p xs ≤ length (x ∷ xs)) [ true ↦ omega (arith, how_many_short xs) | false ↦ omega (arith, how_many_short xs) ]
+
+  pub passing_are : (xs : List ℕ) → length (passing p xs) ≡ how_many p xs
+  passing_are [] = refl
+  passing_are (x ∷ xs) = elim (p x) as (λ b. length (cond b (x ∷ passing p xs) (passing p xs)) ≡ cond b 1 0 + how_many p xs) [ true ↦ omega (arith, passing_are xs) | false ↦ omega (arith, passing_are xs) ]
+
+  count_passing : (x : ℕ) (xs : List ℕ) → count x (passing p xs) ≤ count x xs
+  count_passing x [] = omega arith
+  count_passing x (y ∷ ys) = elim (p y) as (λ b. count x (cond b (y ∷ passing p ys) (passing p ys)) ≤ count x (y ∷ ys)) [ true ↦ omega (arith, count_passing x ys) | false ↦ omega (arith, count_passing x ys) ]
+
+  pub passing_apart : (xs : List ℕ) → IsApart xs → IsApart (passing p xs)
+  passing_apart xs d x = omega (arith, d x, count_passing x xs)
+
+  pub of_passing : (x : ℕ) (xs : List ℕ) → IsIn x (passing p xs) → IsIn x xs × (p x ≡ true)
+  of_passing x [] i = absurd (omega arith)
+  of_passing x (y ∷ ys) i = elim (p y) as (λ b. p y ≡ b → IsIn x (cond b (y ∷ passing p ys) (passing p ys)) → IsIn x (y ∷ ys) × (p x ≡ true)) [
+    | true ↦ λ e j. elim (eqb_tells x y) [
+      | inl s ↦ (omega (arith, ap (λ k. tick k y) s.1, tick_same y), ap p s.1 ∙ e)
+      | inr n ↦ let r = of_passing x ys (omega (arith, j, tick_other x y n.1)) in (omega (arith, r.0), r.1)
+    ]
+    | false ↦ λ e j. let r = of_passing x ys j in (omega (arith, r.0), r.1)
+  ] refl i
+
+  pub in_passing : (x : ℕ) (xs : List ℕ) → IsIn x xs → p x ≡ true → IsIn x (passing p xs)
+  in_passing x [] i e = absurd (omega arith)
+  in_passing x (y ∷ ys) i e = elim (eqb_tells x y) [
+    | inl s ↦ let t : p y ≡ true = sym (ap p s.1) ∙ e in subst (λ b. IsIn x (cond b (y ∷ passing p ys) (passing p ys))) (sym t) (omega (arith, ap (λ k. tick k y) s.1, tick_same y))
+    | inr n ↦
+        let r = in_passing x ys (omega (arith, i, tick_other x y n.1)) e in
+        elim (p y) as (λ b. IsIn x (cond b (y ∷ passing p ys) (passing p ys))) [ true ↦ omega (arith, r) | false ↦ r ]
+  ]
+
+-- ---- images
+
+module _ (f : ℕ → ℕ) where
+  pub of_map : (y : ℕ) (xs : List ℕ) → IsIn y (map f xs) → (x : ℕ) × IsIn x xs × (f x ≡ y)
+  of_map y [] i = absurd (omega arith)
+  of_map y (x ∷ xs) i = elim (eqb_tells y (f x)) [
+    | inl s ↦ (x, omega (arith, tick_same x), sym s.1)
+    | inr n ↦ let r = of_map y xs (omega (arith, i, tick_other y (f x) n.1)) in (r.0, omega (arith, r.1), r.2)
+  ]
+
+  pub in_map : (x : ℕ) (xs : List ℕ) → IsIn x xs → IsIn (f x) (map f xs)
+  in_map x [] i = absurd (omega arith)
+  in_map x (y ∷ ys) i = elim (eqb_tells x y) [
+    | inl s ↦ omega (arith, ap (λ k. tick (f k) (f y)) s.1, tick_same (f y))
+    | inr n ↦ omega (arith, in_map x ys (omega (arith, i, tick_other x y n.1)))
+  ]
+
+  -- different items have different images
+  pub map_apart : (xs : List ℕ) → IsApart xs → ((x y : ℕ) → IsIn x xs → IsIn y xs → f x ≡ f y → x ≡ y) → IsApart (map f xs)
+  map_apart [] d one z = omega arith
+  map_apart (x ∷ xs) d one z = let rest = map_apart xs (λ y. omega (arith, d y)) (λ y w i j. one y w (omega (arith, i)) (omega (arith, j))) z in elim (eqb_tells z (f x)) [
+    | inl s ↦ elim (IsIn_or_not z (map f xs)) [
+      | inl i ↦ let r = of_map z xs i in absurd (let e : r.0 ≡ x = one r.0 x (omega (arith, r.1)) (omega (arith, tick_same x)) (r.2 ∙ s.1) in omega (arith, d x, tick_same x, r.1, ap (λ k. count k xs) e))
+      | inr n ↦ omega (arith, n, ap (λ k. tick k (f x)) s.1, tick_same (f x))
+    ]
+    | inr n ↦ omega (arith, tick_other z (f x) n.1, rest)
+  ]
+
+-- ---- lists of the same items
+
+-- different items that all stand in another list are no more than its items
+no_more : (xs ys : List ℕ) → IsApart xs → ((x : ℕ) → IsIn x xs → IsIn x ys) → length xs ≤ length ys
+no_more [] ys d h = omega arith
+no_more (x ∷ xs) ys d h =
+    let s : ys ≡ before x ys ++ x ∷ after x ys = split_at x ys (h x (omega (arith, tick_same x))) in
+    let l = no_more xs (before x ys ++ after x ys) (λ y. omega (arith, d y)) (λ y i. elim (eqb_tells y x) [
+      | inl e ↦ absurd (omega (arith, d x, tick_same x, i, ap (λ k. count k xs) e.1))
+      | inr n ↦ omega (arith, h y (omega (arith, i)), ap (count y) s, count-append y (before x ys) (x ∷ after x ys), count-append y (before x ys) (after x ys), tick_other y x n.1)
+    ]) in
+    omega (arith, l, ap (λ (zs : List ℕ). length zs) s, length-append (before x ys) (x ∷ after x ys), length-append (before x ys) (after x ys))
+
+pub equally_many : (xs ys : List ℕ) → IsApart xs → IsApart ys → ((x : ℕ) → IsIn x xs → IsIn x ys) → ((x : ℕ) → IsIn x ys → IsIn x xs) → length xs ≡ length ys
+equally_many xs ys d e h k = omega (arith, no_more xs ys d h, no_more ys xs e k)

@@ -1,0 +1,6 @@
+pub mod Rising
+pub mod Rounds
+pub mod FaceLoops
+pub mod SolidFaces
+pub mod FirstEdges
+pub mod TwoWays

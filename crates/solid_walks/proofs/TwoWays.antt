@@ -1,0 +1,192 @@
+-- The walk round a vertex from h both ways, which leaves a stretch between its two ends unseen.
+use Rattle.std.proofs.Common.{◌≡◌, ◌≢◌, ℕ, ◌+◌, ◌≤◌, ◌<◌, true, false, List, [], ◌∷◌, ◌++◌, length, refl, sym, ap, subst, ◌∙◌, arith, ◌⊎◌, inl, inr}
+use Rattle.std.proofs.lemmas.Bool.Decides.{eqb_tells}
+use Rattle.std.proofs.lemmas.List.{length-append}
+use Rattle.cyclic_list.specs.Items.{count, tick, IsIn, IsApart, last_or}
+use Rattle.cyclic_list.specs.Rings.{rest, successor, predecessor, IsPath}
+use Rattle.cyclic_list.proofs.Lists.{count-append, tick_same, tick_other}
+use Rattle.cyclic_list.proofs.Rings.{rotation_at, count_at, IsRing-same, front_of, IsPath-left, IsPath_at, IsIn_predecessor, predecessor-successor}
+use Rattle.boundary_model.specs.declared.HalfEdge.{HalfEdge}
+use Rattle.boundary_model.specs.HalfEdge.{code, mate, edge_of}
+use Rattle.boundary_model.specs.Model.{Model, items_of, content, cycle_of, loop_of, tail, after, before, round}
+use Rattle.boundary_model.specs.Sound.{Sound, HasHalf}
+use Rattle.boundary_model.proofs.Halves.{edge_of-code, mate-mate}
+use Rattle.boundary_model.proofs.Models.{in-holds, cycle_there, cycle_sound}
+use Rattle.euler_laws_shared.proofs.Fans.{Fan, fan_of, half_mate, loop_after}
+use Rattle.euler_conditions.proofs.Parallel.{steps, length_below}
+use Rattle.solid_walks.specs.Walks.{leads}
+use Rattle.solid_walks.proofs.Rounds.{half_below}
+use Rattle.solid_walks.proofs.FirstEdges.{leads_true, leads_false}
+
+pub before_there : (M : Model) → Sound M → (x : ℕ) → HasHalf M x → HasHalf M (before M x)
+unfolding before
+before_there M sound x t = sound.only_edges (predecessor (cycle_of M x) x) (loop_of M x) (in-holds _ (content M (loop_of M x)) (IsIn_predecessor x (cycle_of M x) (cycle_there M sound x t)))
+
+before_after : (M : Model) → Sound M → (x : ℕ) → HasHalf M x → before M (after M x) ≡ x
+unfolding before after
+before_after M sound x t = ap (λ l. predecessor (items_of (content M l)) (successor (cycle_of M x) x)) (loop_after M sound x t) ∙ predecessor-successor x (cycle_of M x) (cycle_sound M sound x t).apart (cycle_there M sound x t)
+
+-- the walk has come to a on one side and to b on the other. The half-edges between are unseen, at most n
+pub record Unseen (M : Model) (h a b n : ℕ) : Type 0 where
+  pub between : List ℕ
+  pub path : IsPath (round M) (a ∷ between) b
+  pub apart : IsApart between
+  pub not_ahead : count a between ≡ 0
+  pub not_behind : count b between ≡ 0
+  pub at_vertex : (x : ℕ) → IsIn x between → HasHalf M x × (tail M x ≡ tail M h)
+  pub ahead_there : HasHalf M a
+  pub behind_there : HasHalf M b
+  pub seen : (x : ℕ) → HasHalf M x → tail M x ≡ tail M h → (edge_of h ≤ edge_of x) ⊎ IsIn x between
+  pub short : length between ≤ n
+
+-- edges compared by their numbers
+pub less : (g h : HalfEdge) (x : ℕ) → code g ≡ x → g.edge < h.edge → edge_of x < edge_of (code h)
+less g h x e l = omega (arith, l, edge_of-code g, edge_of-code h, ap edge_of e)
+
+pub not_less : (g h : HalfEdge) (x : ℕ) → code g ≡ x → h.edge ≤ g.edge → edge_of (code h) ≤ edge_of x
+not_less g h x e l = omega (arith, l, edge_of-code g, edge_of-code h, ap edge_of e)
+
+no_first : (x y : ℕ) (xs : List ℕ) → y ≡ x → count x (y ∷ xs) ≡ 0 → ⊥
+no_first x y xs e n = absurd (omega (arith, n, ap (tick x) e, tick_same x))
+
+module _ (M : Model) (sound : Sound M) (h : ℕ) (there : HasHalf M h) where
+  pub unseen_start : Unseen M h h h steps
+  unseen_start =
+      let fan : Fan (after M) M (tail M h) = fan_of M sound h there in
+      let xs : List ℕ = fan.items in
+      let i : IsIn h xs = fan.all h there refl in
+      let ys : List ℕ = rest h xs in
+      let same : (x : ℕ) → tick x h + count x ys ≡ count x xs = λ x. count_at x h xs i in
+      let d : IsApart ys = λ x. omega (arith, same x, fan.apart x) in
+      let once : count h ys ≡ 0 = omega (arith, same h, fan.apart h, tick_same h) in
+      let of_it : (x : ℕ) → IsIn x ys → HasHalf M x × (tail M x ≡ tail M h) = λ x j. fan.of_it x (omega (arith, same x, j)) in
+      record {
+        between = ys;
+        path = IsRing-same (round M) xs (h ∷ ys) (rotation_at h xs i) fan.ring;
+        apart = d;
+        not_ahead = once;
+        not_behind = once;
+        at_vertex = of_it;
+        ahead_there = there;
+        behind_there = there;
+        seen = λ x t e. elim (eqb_tells x h) [ inl s ↦ inl (omega (arith, ap edge_of s.1)) | inr n ↦ inr (omega (arith, same x, fan.all x t e, tick_other x h n.1)) ];
+        short = length_below steps ys d (λ x j. half_below M sound x (of_it x j).0);
+      }
+
+  -- nothing is unseen
+  none_unseen : (a b n : ℕ) (w : Unseen M h a b n) → w.between ≡ [] → leads M h ≡ true
+  none_unseen a b n w z = leads_true M h there (λ x t e. elim (w.seen x t e) [ inl l ↦ l | inr i ↦ absurd (omega (arith, i, ap (count x) z)) ])
+
+  pub unseen_ended : (a b n : ℕ) → Unseen M h a b n → n ≡ 0 → leads M h ≡ true
+  unseen_ended a b n w z = none_unseen a b n w (empty w.between (omega (arith, z, w.short))) where
+    empty : (xs : List ℕ) → length xs ≤ 0 → xs ≡ []
+    empty [] l = refl
+    empty (x ∷ xs) l = absurd (omega arith)
+
+  -- what the walk's next step ahead finds, and what it leaves
+  record NextAhead (a b n : ℕ) (w : Unseen M h a b n) : Type 0 where
+    left : List ℕ
+    split : w.between ≡ round M a ∷ left
+
+  record NextBehind (a b n : ℕ) (w : Unseen M h a b n) : Type 0 where
+    left : List ℕ
+    split : w.between ≡ left ++ mate (before M b) ∷ []
+
+  module _ (a b n : ℕ) (w : Unseen M h a b n) where
+    ahead_cases : ((w.between ≡ []) × (round M a ≡ b)) ⊎ NextAhead a b n w
+    ahead_cases = go w.between refl w.path where
+      go : (xs : List ℕ) → w.between ≡ xs → IsPath (round M) (a ∷ xs) b → ((w.between ≡ []) × (round M a ≡ b)) ⊎ NextAhead a b n w
+      go [] e p = inl (e, p.0)
+      go (x ∷ xs) e p = inr (record { left = xs; split = e ∙ ap (λ y. y ∷ xs) (sym p.0) })
+
+    -- one comes back to where the walk goes ahead from, or to the last unseen one
+    back_is : mate (before M b) ≡ last_or a w.between
+    back_is =
+        let f = front_of a w.between in
+        let l : ℕ = last_or a w.between in
+        let e : round M l ≡ b = IsPath_at (round M) f.0 l [] b (subst (λ q. IsPath (round M) q b) f.1 w.path) in
+        let t : HasHalf M l = last_there w.between refl in
+        ap (λ x. mate (before M x)) (sym e) ∙ ap mate (before_after M sound (mate l) (half_mate M sound l t)) ∙ mate-mate l where
+          last_there : (xs : List ℕ) → w.between ≡ xs → HasHalf M (last_or a xs)
+          last_there [] e = w.ahead_there
+          last_there (x ∷ xs) e = let p = front_of x xs in (w.at_vertex (last_or x xs) (omega (arith, ap (count (last_or x xs)) e, ap (count (last_or x xs)) p.1, count-append (last_or x xs) p.0 (last_or x xs ∷ []), tick_same (last_or x xs)))).0
+
+    behind_cases : ((w.between ≡ []) × (mate (before M b) ≡ a)) ⊎ NextBehind a b n w
+    behind_cases = go w.between refl where
+      go : (xs : List ℕ) → w.between ≡ xs → ((w.between ≡ []) × (mate (before M b) ≡ a)) ⊎ NextBehind a b n w
+      go [] e = inl (e, back_is ∙ ap (last_or a) e)
+      go (x ∷ xs) e = let f = front_of x xs in inr (record { left = f.0; split = e ∙ f.1 ∙ ap (λ y. f.0 ++ y ∷ []) (sym (back_is ∙ ap (last_or a) e)) })
+
+    -- ---- a step ahead
+
+    pub met_ahead : round M a ≡ b → leads M h ≡ true
+    met_ahead e = elim ahead_cases [
+      | inl z ↦ none_unseen a b n w z.0
+      | inr s ↦ absurd (no_first b (round M a) s.left e (sym (ap (count b) s.split) ∙ w.not_behind))
+    ]
+
+    first_unseen : (s : NextAhead a b n w) → HasHalf M (round M a) × (tail M (round M a) ≡ tail M h)
+    first_unseen s = w.at_vertex (round M a) (omega (arith, ap (count (round M a)) s.split, tick_same (round M a)))
+
+    pub lesser_ahead : round M a ≢ b → edge_of (round M a) < edge_of h → leads M h ≡ false
+    lesser_ahead ne l = elim ahead_cases [
+      | inl z ↦ absurd (ne z.1)
+      | inr s ↦ let v = first_unseen s in leads_false M h (round M a) v.0 v.1 l
+    ]
+
+    pub step_ahead : (k : ℕ) → n ≡ k + 1 → round M a ≢ b → edge_of h ≤ edge_of (round M a) → Unseen M h (round M a) b k
+    step_ahead k m ne l = elim ahead_cases [
+      | inl z ↦ absurd (ne z.1)
+      | inr s ↦ let c : (x : ℕ) → count x w.between ≡ tick x (round M a) + count x s.left = λ x. ap (count x) s.split in record {
+        between = s.left;
+        path = (subst (λ q. IsPath (round M) (a ∷ q) b) s.split w.path).1;
+        apart = λ x. omega (arith, c x, w.apart x);
+        not_ahead = omega (arith, c (round M a), w.apart (round M a), tick_same (round M a));
+        not_behind = omega (arith, c b, w.not_behind);
+        at_vertex = λ x i. w.at_vertex x (omega (arith, c x, i));
+        ahead_there = (first_unseen s).0;
+        behind_there = w.behind_there;
+        seen = λ x t e. elim (w.seen x t e) [
+          | inl q ↦ inl q
+          | inr i ↦ elim (eqb_tells x (round M a)) [ inl q ↦ inl (omega (arith, l, ap edge_of q.1)) | inr q ↦ inr (omega (arith, c x, i, tick_other x (round M a) q.1)) ]
+        ];
+        short = omega (arith, m, w.short, ap (λ (q : List ℕ). length q) s.split);
+      }
+    ]
+
+    -- ---- a step back
+
+    pub met_behind : mate (before M b) ≡ a → leads M h ≡ true
+    met_behind e = elim behind_cases [
+      | inl z ↦ none_unseen a b n w z.0
+      | inr s ↦ absurd (omega (arith, w.not_ahead, ap (count a) s.split, count-append a s.left (mate (before M b) ∷ []), ap (tick a) e, tick_same a))
+    ]
+
+    last_unseen : (s : NextBehind a b n w) → HasHalf M (mate (before M b)) × (tail M (mate (before M b)) ≡ tail M h)
+    last_unseen s = let x = mate (before M b) in w.at_vertex x (omega (arith, ap (count x) s.split, count-append x s.left (x ∷ []), tick_same x))
+
+    pub lesser_behind : mate (before M b) ≢ a → edge_of (mate (before M b)) < edge_of h → leads M h ≡ false
+    lesser_behind ne l = elim behind_cases [
+      | inl z ↦ absurd (ne z.1)
+      | inr s ↦ let v = last_unseen s in leads_false M h (mate (before M b)) v.0 v.1 l
+    ]
+
+    pub step_behind : mate (before M b) ≢ a → edge_of h ≤ edge_of (mate (before M b)) → Unseen M h a (mate (before M b)) n
+    step_behind ne l = elim behind_cases [
+      | inl z ↦ absurd (ne z.1)
+      | inr s ↦ let y : ℕ = mate (before M b) in let c : (x : ℕ) → count x w.between ≡ count x s.left + tick x y = λ x. omega (arith, ap (count x) s.split, count-append x s.left (y ∷ [])) in record {
+        between = s.left;
+        path = IsPath-left (round M) (a ∷ s.left) (y ∷ []) b (subst (λ q. IsPath (round M) (a ∷ q) b) s.split w.path);
+        apart = λ x. omega (arith, c x, w.apart x);
+        not_ahead = omega (arith, c a, w.not_ahead);
+        not_behind = omega (arith, c y, w.apart y, tick_same y);
+        at_vertex = λ x i. w.at_vertex x (omega (arith, c x, i));
+        ahead_there = w.ahead_there;
+        behind_there = (last_unseen s).0;
+        seen = λ x t e. elim (w.seen x t e) [
+          | inl q ↦ inl q
+          | inr i ↦ elim (eqb_tells x y) [ inl q ↦ inl (omega (arith, l, ap edge_of q.1)) | inr q ↦ inr (omega (arith, c x, i, tick_other x y q.1)) ]
+        ];
+        short = omega (arith, w.short, ap (λ (q : List ℕ). length q) s.split, length-append s.left (y ∷ []));
+      }
+    ]

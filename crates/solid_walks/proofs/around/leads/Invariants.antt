@@ -1,0 +1,8 @@
+use Rattle.std.proofs.Common.{◌-◌}
+use Rattle.boundary_model.specs.HalfEdge.{code}
+use Rattle.euler_conditions.proofs.Parallel.{steps}
+use Rattle.solid_walks.proofs.TwoWays.{Unseen}
+use Rattle.solid_walks.proofs.around.leads.Given as goal
+
+abbrev pub invariant-round : goal.invariant-round
+invariant-round l = Unseen l.arena.model (code l.h) (code l.ahead) (code l.behind) (steps - l.counter)

@@ -1,0 +1,44 @@
+//! Walks round a vertex.
+ghost use Rattle.std.specs.Prelude.{◌≡◌, true};
+ghost use Rattle.boundary_model.specs.HalfEdge.{code};
+ghost use Rattle.arena_rows.specs.Store.{has_number};
+ghost use Rattle.euler_conditions.specs.Ready.{IsReady};
+ghost use Rattle.solid_walks.specs.Walks.{leads};
+
+use crate::halves;
+use halfedge_arena::{Arena, HalfEdge, Kind};
+
+/// More than the half-edges that an arena can have.
+const HALVES: u32 = 2_000_002;
+
+/// Whether h is of the least edge at its vertex.
+///
+/// It goes round the vertex both ways, a step ahead and a step back in turn, to the first lesser edge or until all were seen.
+/// So to ask this of all d half-edges at a vertex takes about d log d steps, in whatever order their numbers stand.
+pub fn leads(arena: &Arena, h: HalfEdge) -> bool
+    requires ready { IsReady arena.now }
+    requires there { has_number arena.now Kind.Edge h.edge ≡ true }
+    ensures { result ≡ leads arena.now.model (code h) }
+{
+    let mut ahead = h;
+    let mut behind = h;
+    'round: for _ in 0..HALVES {
+        let next = halves::round(arena, ahead);
+        if halves::same(next, behind) {
+            return true;
+        }
+        if next.edge < h.edge {
+            return false;
+        }
+        let before = halves::back(arena, behind);
+        if halves::same(before, next) {
+            return true;
+        }
+        if before.edge < h.edge {
+            return false;
+        }
+        ahead = next;
+        behind = before;
+    }
+    true
+}
