@@ -22,6 +22,9 @@ SCRIPTS = {
     'triangle': 'mvfs 1 1 1 1 0 0 0;mev @1 @1 1 2 3 0 0;mev -1 -1 2 3 0 3 0;mef -2 +1 3 2 2;mev +1 -3 4 4 1 1 0;list',
     'undone and redone': 'mvfs 1 1 1 1 0 0 0;mev @1 @1 1 2 5 0 0;undo;undo;redo;redo;mev -1 -1 2 3 5 5 0;undo;redo;list',
     'command before redo': 'mvfs 1 1 1 1 0 0 0;mev @1 @1 1 2 5 0 0;undo;mvfs 9 9 9 9 0 0 0;redo;list',
+    'block': 'block 1 0 0 0 4 4 4;undo;redo;count 1;list',
+    'sweep with a ring': 'lamina 1 0 0 0 9 0 0 9 9 0 0 9 0;mev +1 +1 5 5 3 3 0;kemr +5 3;mev @3 @3 5 6 3 6 0;mev -5 -5 6 7 6 6 0;mef -6 +5 7 3 4;'
+                         'sweep 1 0 0 4;volume 1;undo;sweep 1 0 0 5;list',
     'redo behind a refusal': 'mvfs 1 1 1 1 0 0 0;mev @1 @1 1 2 5 0 0;undo;mvfs 9 9 9 9 0 0 0;undo;kvfs 1;undo;list',
 }
 

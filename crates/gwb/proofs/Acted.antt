@@ -1,23 +1,30 @@
--- What an operator is answered, from what the session answers.
-use Rattle.std.proofs.Common.{◌≡◌, inl, inr, ℕ, Bool, true, Option, Some, None, Err, refl, sym, ap, subst, ◌∙◌}
-use Rattle.std.specs.Prelude.{◌↔◌, Result}
-use Rattle.std.specs.declared.alloc.AllocError.{AllocError}
-use Rattle.euler_operators.specs.declared.Op.{Op}
+-- What a command is answered, from how the session's call ended.
+use Rattle.std.proofs.Common.{◌≡◌, inl, inr, Option, Some, None, Ok, Err, refl, sym, subst, OnOk, OnErr}
+use Rattle.std.specs.Prelude.{◌↔◌, ℤ, Result}
 use Rattle.euler_operators.specs.declared.Refusal.{Refusal}
-use Rattle.undo_journal.specs.Machine.{Machine, act, act_refusal}
+use Rattle.undo_journal.specs.Machine.{Machine}
 use Rattle.undo_journal.specs.declared.session.Failure.{Failure}
 use Rattle.undo_journal.specs.declared.session.Failure.TheVariants as failure
 use Rattle.solid_listing.specs.declared.reply.Reply.TheVariants as reply
-use Rattle.gwb.specs.Judging.{Acts, refused}
+use Rattle.gwb.specs.Judging.{Acts, refused, outcome}
 use Rattle.gwb.specs.declared.judging.Answer.{Answer}
 use Rattle.gwb.specs.declared.judging.Answer.TheVariants.{Reply as Told}
 
-pub told_refused : (s t : Machine) (op : Op) (r : Refusal) (a : Answer) → act_refusal s op ≡ Some r → t ≡ s → a ≡ refused r → Acts (act_refusal s op) s (act s op) a t
-told_refused s t op r a er et ea = subst (λ (o : Option Refusal). Acts o s (act s op) a t) (sym er) (ea, et)
+-- memory is told only where the command isn't refused
+told_memory : (o : Option Refusal) (s acted t : Machine) → ((r : Refusal) → o ≡ Some r → ⊥) → t ≡ s → Acts o s acted (Told reply.Memory) t
+told_memory None s acted t never et = inr (refl, et)
+told_memory (Some r) s acted t never et = absurd (never r refl)
 
-pub told_memory : (s t : Machine) (op : Op) (e : AllocError) (result : Result (Unit {0}) Failure) → result ≡ Err (failure.Memory e)
-    → ((r : Refusal) → (result ≡ Err (failure.Refused r)) ↔ (act_refusal s op ≡ Some r)) → t ≡ s → Acts (act_refusal s op) s (act s op) (Told reply.Memory) t
-told_memory s t op e result is iff et = on (act_refusal s op) refl where
-  on : (o : Option Refusal) → act_refusal s op ≡ o → Acts o s (act s op) (Told reply.Memory) t
-  on None f = inr (refl, et)
-  on (Some r) f = let h = (iff r).1 f in absurd (cc (is, h))
+pub acts : (o : Option Refusal) (s acted : Machine) (ended : Result (Unit {0}) Failure) (t : Machine) → OnOk ended ((o ≡ None) × (t ≡ acted))
+    → ((r : Refusal) → (ended ≡ Err (failure.Refused r)) ↔ (o ≡ Some r)) → OnErr ended (t ≡ s) → Acts o s acted (outcome ended) t
+acts o s acted (Ok _) t ok iff err = subst (λ (q : Option Refusal). Acts q s acted (outcome (Ok tt)) t) (sym ok.0) (inl (refl, ok.1))
+acts o s acted (Err (failure.Refused r)) t ok iff err = subst (λ (q : Option Refusal). Acts q s acted (refused r) t) (sym ((iff r).0 refl)) (refl, err)
+acts o s acted (Err (failure.Memory e)) t ok iff err = told_memory o s acted t (λ r h. absurd (cc ((iff r).1 h))) err
+
+pub acts_told : (o : Option Refusal) (s acted : Machine) (ended : Result (Unit {0}) Failure) (t : Machine) (a : Answer) → a ≡ outcome ended → OnOk ended ((o ≡ None) × (t ≡ acted))
+    → ((r : Refusal) → (ended ≡ Err (failure.Refused r)) ↔ (o ≡ Some r)) → OnErr ended (t ≡ s) → Acts o s acted a t
+acts_told o s acted ended t a is ok iff err = subst (λ (b : Answer). Acts o s acted b t) (sym is) (acts o s acted ended t ok iff err)
+
+-- a fact about sizes as the code keeps them is one about the sizes
+pub of_sizes : (P : ℤ → ℤ → ℤ → Type 0) (a b g x y z : ℤ) → a ≡ x → b ≡ y → g ≡ z → P a b g → P x y z
+of_sizes P a b g x y z ea eb eg h = subst (λ i. P i y z) ea (subst (λ i. P a i z) eb (subst (λ i. P a b i) eg h))

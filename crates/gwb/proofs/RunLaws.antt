@@ -21,11 +21,13 @@ use Rattle.script_reader.specs.declared.lines.Found.TheVariants as found
 use Rattle.script_reader.proofs.ScriptLaws.{has_begun, has_line_more, has_long_more, is_read_out, breaks_at_fault, breaks_at_limit, so_far, falls_by_line, falls_by_long}
 use Rattle.solid_listing.specs.Writing.{Stops}
 use Rattle.undo_journal.specs.Machine.{Machine, start}
-use Rattle.gwb.specs.Judging.{Judges, Answers, answer_text, no_lines, one_line, counted}
+use Rattle.gwb.specs.Judging.{Obeys, Judges, Answers, answer_text, no_lines, one_line, counted}
+use Rattle.gwb.specs.Settling.{spelled}
 use Rattle.gwb.specs.Outs.{stops, Outs, Served, Breaks, Runs}
 use Rattle.gwb.specs.Hearing.{Hears}
 use Rattle.gwb.specs.declared.judging.Answer.{Answer}
 use Rattle.gwb.specs.declared.judging.Summary.{Summary}
+use Rattle.gwb.specs.declared.larger.Larger.{Larger}
 use Rattle.gwb.specs.declared.running.Heard.TheVariants as heard
 use Rattle.gwb.specs.declared.running.RunFault.{RunFault}
 use Rattle.gwb.specs.declared.running.RunFault.TheVariants as faults
@@ -70,6 +72,18 @@ flushed remaining first lines old mid new stop s n p k = record { heard = p.hear
 long_told : (line : List ℕ) → 65536 < length line → command_of line ≡ Err LongLine
 long_told line h = let e : nat_lt 65536 (length line) ≡ true = grind (arith, nat_tests) in
     ap (λ (b : Bool). if b then Err LongLine else (if is_ascii line then command_of_words (words line) else Err NotAscii)) e
+
+pub heard_same : {R : Type 0} (remaining : R → Option (List ℕ)) (lines next : Lines R) (s t u : Machine) (a b : Answer)
+    → Hears remaining lines next s t (heard.Line a) → b ≡ a → u ≡ t → Hears remaining lines next s u (heard.Line b)
+heard_same remaining lines next s t u a b h ea et = rw (ea, et) h
+
+-- a larger command that was heard is answered as it is carried out
+pub carried : {R : Type 0} (remaining : R → Option (List ℕ)) (lines next : Lines R) (s m t u : Machine) (l : Larger) (a b : Answer)
+    → Hears remaining lines next s m (heard.Larger l) → Obeys m (spelled l) a t → b ≡ a → u ≡ t → Hears remaining lines next s u (heard.Line b)
+carried remaining lines next s m t u l a b h obeys ea et = heard_same remaining lines next s t u a b (inl (
+  h.0,
+  subst (λ (r : Result Command Fault). Answers s r a t) (sym h.1) (subst (λ (q : Machine). Obeys q (spelled l) a t) h.2 obeys),
+)) ea et
 
 pub turn_of : {R : Type 0} (remaining : R → Option (List ℕ)) (first : Option (List ℕ)) (lines next : Lines R) (old new : Option (List ℕ)) (stop : Bool) (s : Machine) (n : Summary) (a : Answer) (t : Machine)
     → Progress remaining first lines old new stop s n → Hears remaining lines next s t (heard.Line a) → Turn remaining first next old new stop s n a t

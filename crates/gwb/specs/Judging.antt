@@ -3,8 +3,13 @@ use Rattle.std.specs.Prelude.{◌≡◌, ◌⊎◌, ℕ, ◌+◌, Bool, true, fa
 use Rattle.euler_operators.specs.declared.Refusal.{Refusal}
 use Rattle.euler_operators.specs.Refusal as refusal
 use Rattle.boundary_model.specs.Model.{Model}
+use Rattle.shapes.specs.Lamina.{lamina_refusal, lamina_model}
+use Rattle.shapes.specs.Block.{block_refusal, block_model}
+use Rattle.shapes.specs.Prism.{prism_refusal, prism_model}
 use Rattle.solid_measure.specs.Measure.{answer, face_refusal, solid_refusal, plane_of, is_flat, six_volume}
-use Rattle.undo_journal.specs.Machine.{Machine, held, act, act_refusal, undo, undo_refusal, redo, redo_refusal}
+use Rattle.undo_journal.specs.Machine.{Machine, held, accepted, act, act_refusal, undo, undo_refusal, redo, redo_refusal}
+use Rattle.undo_journal.specs.declared.session.Failure.{Failure}
+use Rattle.undo_journal.specs.declared.session.Failure.TheVariants as failure
 use Rattle.script_reader.specs.declared.command.Command.{Command}
 use Rattle.script_reader.specs.declared.command.Command.TheVariants as command
 use Rattle.script_reader.specs.declared.command.Fault.{Fault}
@@ -23,6 +28,12 @@ done = Told reply.Done
 
 abbrev pub refused : Refusal → Answer
 refused r = Told (reply.Refused (refusal.code_of r.why) r.number)
+
+-- what a command is answered that ended so
+abbrev pub outcome : Result (Unit {0}) Failure → Answer
+outcome (Ok _) = done
+outcome (Err (failure.Refused r)) = refused r
+outcome (Err (failure.Memory e)) = Told reply.Memory
 
 -- undo and redo go on to a state, or are refused
 abbrev pub Moves : Option Refusal → Machine → Machine → Answer → Machine → Type 0
@@ -54,9 +65,9 @@ volume_reply M s = answer (solid_refusal M s) (reply.Volume (six_volume M s))
 abbrev pub Obeys : Machine → Command → Answer → Machine → Type 0
 Obeys s command.Nothing a t = (a ≡ Silent) × (t ≡ s)
 Obeys s (command.Act op) a t = Acts (act_refusal s op) s (act s op) a t
-Obeys s (command.Lamina n ps) a t = Unknown s a t
-Obeys s (command.Block n p dx dy dz) a t = Unknown s a t
-Obeys s (command.Sweep f d) a t = Unknown s a t
+Obeys s (command.Lamina n ps) a t = Acts (lamina_refusal (held s) n ps) s (accepted s (lamina_model (held s) n ps)) a t
+Obeys s (command.Block n p dx dy dz) a t = Acts (block_refusal (held s) n p dx dy dz) s (accepted s (block_model (held s) n p dx dy dz)) a t
+Obeys s (command.Sweep f d) a t = Acts (prism_refusal (held s) f d) s (accepted s (prism_model (held s) f d)) a t
 Obeys s (command.Glue f g) a t = Unknown s a t
 Obeys s (command.Split n plane m) a t = Unknown s a t
 Obeys s (command.Plane f) a t = (a ≡ told (plane_reply (held s) f)) × (t ≡ s)

@@ -1,4 +1,5 @@
 pub mod Judging
+pub mod Settling
 pub mod Outs
 pub mod Hearing
 pub mod Words

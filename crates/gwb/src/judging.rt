@@ -1,9 +1,11 @@
 //! What a line is answered.
 ghost use Rattle.std.specs.Prelude.{◌≡◌, ◌<◌, ◌≤◌, ◌↔◌, IsTrue};
 ghost use Rattle.euler_conditions.specs.Ready.{IsReady};
-ghost use Rattle.gwb.specs.Judging.{refused, told, plane_reply, volume_reply, Moves, Acts, Obeys, Judges, answer_text, complains, one_line, counted};
+ghost use Rattle.gwb.specs.Judging.{refused, outcome, told, plane_reply, volume_reply, Moves, Acts, complains, one_line, counted};
+ghost use Rattle.gwb.specs.Settling.{Settles, Decides};
 ghost use Rattle.undo_journal.specs.Machine as machine;
 
+use crate::larger::Larger;
 use euler_conditions::{Op, Refusal};
 use halfedge_arena::Arena;
 use script_reader::{Command, Fault, read_line};
@@ -19,6 +21,13 @@ pub enum Answer {
     Reply(Reply),
     /// The listing of the model held.
     Listing,
+}
+
+/// What a line comes to before the session moves.
+pub(crate) enum Judged {
+    Answered(Answer),
+    /// A command that takes the session, yet to be carried out.
+    Larger(Larger),
 }
 
 /// What a run counted.
@@ -83,14 +92,22 @@ fn told_refusal(refusal: Refusal) -> Answer
     Answer::Reply(Reply::Refused(refusal.why.code(), refusal.number))
 }
 
-fn act(session: &mut Session, op: Op) -> Answer
-    ensures { Acts (machine.act_refusal session.old op) session.old (machine.act session.old op) result session.new }
+/// The answer to a command that ended so.
+pub(crate) fn outcome(ended: Result<(), Failure>) -> Answer
+    ensures { result ≡ outcome ended }
 {
-    match session.act(op) {
+    match ended {
         Ok(()) => Answer::Reply(Reply::Done),
         Err(Failure::Refused(refusal)) => told_refusal(refusal),
         Err(Failure::Memory(_)) => Answer::Reply(Reply::Memory),
     }
+}
+
+#[tactic(auto, using(crate::proofs::Acted::acts))]
+fn act(session: &mut Session, op: Op) -> Answer
+    ensures { Acts (machine.act_refusal session.old op) session.old (machine.act session.old op) result session.new }
+{
+    outcome(session.act(op))
 }
 
 fn undo(session: &mut Session) -> Answer
@@ -138,33 +155,35 @@ fn volume_reply(arena: &Arena, solid: u32) -> Result<Reply, Refusal>
     Ok(Reply::Volume(six_volume(arena, solid)?))
 }
 
-/// Carries a command out. A command that the workbench doesn't know yet is answered as an unknown word.
-fn obey(session: &mut Session, command: Command) -> Answer
-    ensures { Obeys session.old command result session.new }
+/// Answers a command, or finds it to be a larger one. A command that the workbench doesn't know yet is answered as an unknown word.
+fn obey(session: &mut Session, command: Command) -> Judged
+    ensures { Settles session.old command result session.new }
 {
     match command {
-        Command::Nothing => Answer::Silent,
-        Command::Act(op) => act(session, op),
-        Command::Undo => undo(session),
-        Command::Redo => redo(session),
-        Command::List => Answer::Listing,
-        Command::Plane(face) => told(plane_reply(session.arena(), face)),
-        Command::Volume(solid) => told(volume_reply(session.arena(), solid)),
-        Command::Lamina(_, _)
-        | Command::Block(_, _, _, _, _)
-        | Command::Sweep(_, _)
-        | Command::Glue(_, _)
-        | Command::Split(_, _, _)
-        | Command::Count(_) => unknown(),
+        Command::Nothing => Judged::Answered(Answer::Silent),
+        Command::Act(op) => Judged::Answered(act(session, op)),
+        Command::Lamina(solid, corners) => Judged::Larger(Larger::Lamina(solid, corners)),
+        Command::Block(solid, corner, dx, dy, dz) => {
+            Judged::Larger(Larger::Block(solid, corner, dx, dy, dz))
+        }
+        Command::Sweep(face, way) => Judged::Larger(Larger::Sweep(face, way)),
+        Command::Plane(face) => Judged::Answered(told(plane_reply(session.arena(), face))),
+        Command::Volume(solid) => Judged::Answered(told(volume_reply(session.arena(), solid))),
+        Command::Undo => Judged::Answered(undo(session)),
+        Command::Redo => Judged::Answered(redo(session)),
+        Command::List => Judged::Answered(Answer::Listing),
+        Command::Glue(_, _) | Command::Split(_, _, _) | Command::Count(_) => Judged::Answered(
+            unknown(),
+        ),
     }
 }
 
 /// Judges a line.
-pub(crate) fn judge(session: &mut Session, line: &[u8]) -> Answer
-    ensures { Judges session.old line.now result session.new }
+pub(crate) fn judge(session: &mut Session, line: &[u8]) -> Judged
+    ensures { Decides session.old line.now result session.new }
 {
     match read_line(line) {
         Ok(command) => obey(session, command),
-        Err(fault) => Answer::Reply(Reply::Fault(fault.code())),
+        Err(fault) => Judged::Answered(Answer::Reply(Reply::Fault(fault.code()))),
     }
 }

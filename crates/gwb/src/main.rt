@@ -7,6 +7,7 @@
 
 mod ending;
 mod judging;
+mod larger;
 mod running;
 #[cfg(test)]
 mod tests;

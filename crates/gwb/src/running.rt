@@ -7,7 +7,8 @@ ghost use Rattle.gwb.specs.Judging.{answer_text};
 ghost use Rattle.gwb.specs.Outs.{Runs, stops};
 ghost use Rattle.gwb.specs.Hearing.{Hears};
 
-use crate::judging::{Answer, Summary, complains, judge};
+use crate::judging::{Answer, Judged, Summary, complains, judge};
+use crate::larger::{Larger, carry_out};
 use script_reader::{Fault, Lines, NextLine};
 use solid_listing::{Reply, write_listing, write_reply};
 use std::alloc::Global;
@@ -35,17 +36,22 @@ pub enum RunFault {
 /// What a step of a run heard.
 enum Heard {
     Line(Answer),
+    /// A command that takes the session, yet to be carried out.
+    Larger(Larger),
     End,
     Read,
     TooLong,
 }
 
-/// The answer to the next line.
+/// The next line judged.
 fn hear<R: Read>(lines: &mut Lines<R>, session: &mut Session) -> Heard
     ensures { Hears R.remaining lines.old lines.new session.old session.new result }
 {
     match lines.next_line() {
-        NextLine::Line(line) => Heard::Line(judge(session, line)),
+        NextLine::Line(line) => match judge(session, line) {
+            Judged::Answered(answer) => Heard::Line(answer),
+            Judged::Larger(larger) => Heard::Larger(larger),
+        },
         NextLine::Long => Heard::Line(Answer::Reply(Reply::Fault(Fault::LongLine.code()))),
         NextLine::End => Heard::End,
         NextLine::Read => Heard::Read,
@@ -120,6 +126,11 @@ pub fn run<R: Read + Drop, W: Write>(
         flush(&lines, writer)?;
         let answer = match hear(&mut lines, &mut session) {
             Heard::Line(answer) => answer,
+            Heard::Larger(larger) => {
+                let (next, answer) = carry_out(alloc, session, larger);
+                session = next;
+                answer
+            }
             Heard::End => return finish(writer, summary),
             Heard::Read => return Err(RunFault::Read),
             Heard::TooLong => return Err(RunFault::TooLong),

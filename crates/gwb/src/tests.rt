@@ -2,6 +2,7 @@
 mod examples;
 mod hostile;
 mod program;
+mod solids;
 mod streams;
 
 use super::{Summary, run};
@@ -168,16 +169,6 @@ fn stops_and_counts(rt: HostRuntime) -> Result<(), Fail> {
     Ok(())
 }
 
-#[test]
-fn triangle_with_spoke(rt: HostRuntime) -> Result<(), Fail> {
-    told(
-        &rt,
-        rt.alloc(),
-        b"mvfs 1 1 1 1 0 0 0\nmev @1 @1 1 2 3 0 0\nmev -1 -1 2 3 0 3 0\nmef -2 +1 3 2 2\nmev +1 -3 4 4 1 1 0\nlist\nkev +4\nlist\n",
-        b"ok\nok\nok\nok\nok\nsolid 1\nface 1 1 1\nface 2 1 2\nloop 1 +1 +2 +3 +4\nloop 2 -1 -4 -3 -2\nedge 1 4 2\nedge 2 2 3\nedge 3 3 1\nedge 4 1 4\nvertex 1 0 0 0\nvertex 2 3 0 0\nvertex 3 0 3 0\nvertex 4 1 1 0\nok\nsolid 1\nface 1 1 1\nface 2 1 2\nloop 1 +1 +2 +3\nloop 2 -1 -3 -2\nedge 1 1 2\nedge 2 2 3\nedge 3 3 1\nvertex 1 0 0 0\nvertex 2 3 0 0\nvertex 3 0 3 0\n",
-    )
-}
-
 /// Whether the session refuses an operator so.
 fn refused(rt: &impl Abort, answer: Result<(), Failure>, why: Why, number: u32) {
     match answer {
@@ -290,20 +281,4 @@ fn a_draft_abandoned(rt: HostRuntime) -> Result<(), Fail> {
     write_listing(session.arena(), &mut out)?;
     assert_eq!(rt; out.as_slice(), &WIRE_TOLD[6..]);
     Ok(())
-}
-
-#[test]
-fn measures(rt: HostRuntime) -> Result<(), Fail> {
-    told(
-        &rt,
-        rt.alloc(),
-        b"mvfs 1 1 1 1 0 0 0\nmev @1 @1 1 2 5 0 0\nplane 1\nplane 2\nvolume 1000001\nundo\nvolume 1\n",
-        b"ok\nok\nplane 0 0 0 0 bent\nrefused 3 2\nrefused 1 1000001\nok\nvolume 0\n",
-    )?;
-    told(
-        &rt,
-        rt.alloc(),
-        b"mvfs 1 1 1 1 0 0 0\nmev @1 @1 1 2 3 0 0\nmev -1 -1 2 3 0 3 0\nmef -2 +1 3 2 2\nplane 1\nplane 2\nvolume 1\nmev +1 +1 4 4 0 0 3\nplane 1\nmef -4 +2 5 3 3\nmef +5 +3 6 4 4\nplane 4\nvolume 1\nvolume 2\n",
-        b"ok\nok\nok\nok\nplane 0 0 9 0 flat\nplane 0 0 -9 0 flat\nvolume 0\nok\nplane 0 0 9 0 bent\nok\nok\nplane 9 9 9 -27 flat\nvolume 27\nrefused 2 2\n",
-    )
 }

@@ -2,3 +2,5 @@ mod Drawing
 mod RaisedItems
 mod RaisedLoops
 mod BlockSteps
+mod LoneLoops
+mod Tallies

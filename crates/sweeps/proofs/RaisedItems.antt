@@ -1,5 +1,5 @@
 -- The items of a loop that is swept, as the code holds them, and the steps that it takes with them.
-use Rattle.std.proofs.Common.{◌≡◌, ◌≢◌, ℕ, suc, zero, ◌+◌, ◌-◌, ◌<◌, ◌≤◌, List, [], ◌∷◌, ◌++◌, map, length, None, sym, ap, ◌∙◌, subst, arith}
+use Rattle.std.proofs.Common.{◌≡◌, ℕ, suc, zero, ◌+◌, ◌-◌, ◌<◌, ◌≤◌, List, [], ◌∷◌, map, length, None, sym, ap, ◌∙◌, subst, arith}
 use Rattle.std.specs.Prelude.{get_or}
 use Rattle.std.proofs.lemmas.List.{get_or-map}
 use Rattle.lattice.specs.declared.Point.{Point}
@@ -12,11 +12,9 @@ use Rattle.boundary_model.specs.declared.Corner.TheVariants.{At}
 use Rattle.boundary_model.specs.HalfEdge.{code, half, plus}
 use Rattle.boundary_model.proofs.Halves.{half-code}
 use Rattle.boundary_model.specs.Model.{Model, LoopContent, lone, cycle, items_of}
-use Rattle.boundary_model.specs.declared.Content.{Content}
 use Rattle.boundary_model.specs.declared.Content.TheVariants.{Ring}
 use Rattle.boundary_model.specs.Sound.{HasHalf}
 use Rattle.arena_rows.specs.Store.{Tells}
-use Rattle.euler_operators.specs.declared.Op.{Op}
 use Rattle.euler_operators.specs.declared.Op.TheVariants.{Mev}
 use Rattle.euler_operators.specs.Conditions.{first_false}
 use Rattle.euler_operators.specs.Effect.{effect}

@@ -2,14 +2,13 @@
 ghost use Rattle.std.specs.Prelude.{◌≡◌, ◌↔◌, pos, None, Some, Err, OnOk, OnErr};
 ghost use Rattle.lattice.specs.Point.{IsInRange, is_in_range};
 ghost use Rattle.lattice.specs.Vectors.{moved};
-ghost use Rattle.boundary_model.specs.Model.{is_number};
 ghost use Rattle.euler_operators.specs.Conditions.{verdict};
 ghost use Rattle.euler_operators.specs.declared.Refusal.{Refusal};
 ghost use Rattle.euler_conditions.specs.Ready.{IsReady};
 ghost use Rattle.undo_journal.specs.Machine.{held, accepted};
 ghost use Rattle.shapes.specs.Block.{vector, base_of, block_refusal, block_model};
 
-use crate::fresh::{check_left, counters_of, refused};
+use crate::fresh::{check_left, counters_of, is_number, refused};
 use crate::laminas::draw_lamina;
 use crate::raising::raise;
 use arrayvec::ArrayVec;
@@ -24,12 +23,6 @@ fn is_near(point: Point) -> bool
     ensures { result ≡ is_in_range point }
 {
     point_in_range(point)
-}
-
-fn is_number(n: u32) -> bool
-    ensures { result ≡ is_number n }
-{
-    1 <= n && n <= 1_000_000
 }
 
 /// Whether a block can be made as the new solid, from a corner and by sizes along x, y and z.

@@ -1,5 +1,6 @@
 //! Fresh numbers: those after the greatest in use as a command begins.
 ghost use Rattle.std.specs.Prelude.{◌≡◌, ◌+◌, ◌≤◌, nat_le, Err};
+ghost use Rattle.boundary_model.specs.Model.{is_number};
 ghost use Rattle.euler_operators.specs.Conditions.{first_refusal, verdict};
 ghost use Rattle.euler_conditions.specs.Ready.{IsReady};
 ghost use Rattle.shapes.specs.Fresh.{taken_in, numbers_left};
@@ -29,6 +30,13 @@ pub(crate) fn counters_of(arena: &Arena) -> Counters
         edges: arena.greatest(Kind::Edge),
         vertices: arena.greatest(Kind::Vertex),
     }
+}
+
+/// Whether n lies from 1 to the limit of numbers.
+pub(crate) fn is_number(n: u32) -> bool
+    ensures { result ≡ is_number n }
+{
+    1 <= n && n <= 1_000_000
 }
 
 /// A refusal.

@@ -2,12 +2,15 @@
 #![tactic(auto)]
 
 mod blocks;
+mod corners;
 mod fresh;
 mod laminas;
 mod raising;
 mod steps;
+mod sweeping;
 #[cfg(test)]
 mod tests;
 
 pub use blocks::block;
 pub use laminas::lamina;
+pub use sweeping::sweep;

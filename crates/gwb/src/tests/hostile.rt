@@ -1,5 +1,6 @@
 //! Scripts that never end, are cut or too long, and readers and writers that fail.
 use super::super::{RunFault, run};
+use super::solids::BLOCK;
 use super::streams::{Flushed, Halt, Pieces, Repeated, Taker};
 use super::{FAULTS, FAULTS_TOLD, WIRE, WIRE_TOLD, answers, told};
 use std::alloc::Global;
@@ -72,8 +73,8 @@ fn whole_lines(text: &[u8]) -> &[u8] {
 #[test]
 fn cut_after_each_byte(rt: HostRuntime) -> Result<(), Fail> {
     let alloc = rt.alloc();
-    for n in 0..=RINGS.len() {
-        let cut = &RINGS[..n];
+    for n in 0..=BLOCK.len() {
+        let cut = &BLOCK[..n];
         let (out, summary) = answers(alloc, cut, false)?;
         let (front, lines) = answers(alloc, whole_lines(cut), false)?;
         assert!(rt; out.starts_with(front.as_slice()), "cut after {n} bytes");

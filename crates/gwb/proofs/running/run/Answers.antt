@@ -4,7 +4,10 @@ use Rattle.std.proofs.KnownBytes.{Consumes-nil}
 use Rattle.gwb.specs.declared.judging.Summary.{Summary}
 use Rattle.gwb.specs.Judging.{no_lines}
 use Rattle.gwb.proofs.Counting.{IsWithin, same_counts, counted_within, one_more}
-use Rattle.gwb.proofs.RunLaws.{Progress, begins, flushed, turn_of, goes_on, stopped, ends, finished, read_fails, too_long, write_fails, flush_fails, nothing_begins, falls, stop_is}
+use Rattle.gwb.proofs.RunLaws.{Progress, begins, flushed, turn_of, goes_on, heard_same, carried, stopped, ends, finished, read_fails, too_long, write_fails, flush_fails, nothing_begins, falls, stop_is}
+use Rattle.gwb.specs.Hearing.{Hears}
+use Rattle.gwb.specs.declared.running.Heard.TheVariants as heard
+use Rattle.gwb.proofs.running.run.Goals.{in-Line, in-Larger}
 use Rattle.gwb.proofs.running.run.Goals as goal
 
 pub returns-in_default : goal.returns-in_default
@@ -48,38 +51,59 @@ returns-in-TooLong g c =
 
 pub count-requires-clause-lines : goal.count-requires-clause-lines
 count-requires-clause-lines g c =
-    let less = falls g.R.Read.remaining c.script.lines c.hear.new.lines c.script.session c.in-Line.answer c.hear.new.session c.in-Line.ensures in
+    let told : Hears g.R.Read.remaining c.script.lines c.hear.new.lines c.script.session c.match-hear.session (heard.Line c.match-hear.answer) = elim c.match-hear.branch [
+      | in-Line w ↦ heard_same g.R.Read.remaining _ _ _ _ _ _ _ w.in-Line.ensures w.answer-is w.session-is
+      | in-Larger w ↦ carried g.R.Read.remaining _ _ _ _ _ _ _ _ _ w.in-Larger.ensures w.carry_out-next.ensures w.answer-is w.session-is
+    ] in
+    let less = falls g.R.Read.remaining c.script.lines c.hear.new.lines c.script.session c.match-hear.answer c.match-hear.session told in
     omega (arith, less, c.script.invariant.bound)
 
 pub returns-in_err-say : goal.returns-in_err-say
 returns-in_err-say g c =
+    let told : Hears g.R.Read.remaining c.script.lines c.hear.new.lines c.script.session c.match-hear.session (heard.Line c.match-hear.answer) = elim c.match-hear.branch [
+      | in-Line w ↦ heard_same g.R.Read.remaining _ _ _ _ _ _ _ w.in-Line.ensures w.answer-is w.session-is
+      | in-Larger w ↦ carried g.R.Read.remaining _ _ _ _ _ _ _ _ _ w.in-Larger.ensures w.carry_out-next.ensures w.answer-is w.session-is
+    ] in
     let p = err_from_is_err_and c.from_residual-in_err-say.result c.from_residual-in_err-say.ensures.1 in
     let at = flushed g.R.Read.remaining _ c.script.lines _ (g.W.Write.contents c.script.writer) (g.W.Write.contents c.flush.new.writer) _ _ _ c.script.invariant.progress c.in_ok-flush.ensures.kept in
-    let turn = turn_of g.R.Read.remaining _ c.script.lines c.hear.new.lines _ _ _ _ _ c.in-Line.answer c.hear.new.session at c.in-Line.ensures in
-    rw (p.1, p.2) (write_fails g.R.Read.remaining _ c.hear.new.lines _ (g.W.Write.contents c.flush.new.writer) (g.W.Write.contents c.say.new.writer) _ _ _ c.in-Line.answer c.hear.new.session c.in_err-say.field-0.0 turn c.in_err-say.ensures.puts c.in_err-say.ensures.fault)
+    let turn = turn_of g.R.Read.remaining _ c.script.lines c.hear.new.lines _ _ _ _ _ c.match-hear.answer c.match-hear.session at told in
+    rw (p.1, p.2) (write_fails g.R.Read.remaining _ c.hear.new.lines _ (g.W.Write.contents c.flush.new.writer) (g.W.Write.contents c.say.new.writer) _ _ _ c.match-hear.answer c.match-hear.session c.in_err-say.field-0.0 turn c.in_err-say.ensures.puts c.in_err-say.ensures.fault)
 
 pub returns-then-stops : goal.returns-then-stops
 returns-then-stops g c =
+    let told : Hears g.R.Read.remaining c.script.lines c.hear.new.lines c.script.session c.match-hear.session (heard.Line c.match-hear.answer) = elim c.match-hear.branch [
+      | in-Line w ↦ heard_same g.R.Read.remaining _ _ _ _ _ _ _ w.in-Line.ensures w.answer-is w.session-is
+      | in-Larger w ↦ carried g.R.Read.remaining _ _ _ _ _ _ _ _ _ w.in-Larger.ensures w.carry_out-next.ensures w.answer-is w.session-is
+    ] in
     let at = flushed g.R.Read.remaining _ c.script.lines _ (g.W.Write.contents c.script.writer) (g.W.Write.contents c.flush.new.writer) _ _ _ c.script.invariant.progress c.in_ok-flush.ensures.kept in
-    let turn = turn_of g.R.Read.remaining _ c.script.lines c.hear.new.lines _ _ _ _ _ c.in-Line.answer c.hear.new.session at c.in-Line.ensures in
+    let turn = turn_of g.R.Read.remaining _ c.script.lines c.hear.new.lines _ _ _ _ _ c.match-hear.answer c.match-hear.session at told in
     let bad = sym c.stops.ensures ∙ c.if-stops.true in
     finished _ _ (g.W.Write.contents c.say.new.writer) _ _ _ c.finish-then-stops.result
-    (stopped g.R.Read.remaining _ c.hear.new.lines _ (g.W.Write.contents c.flush.new.writer) (g.W.Write.contents c.say.new.writer) _ _ _ _ c.in-Line.answer c.hear.new.session turn (stop_is c.args.stop c.in-Line.answer bad) bad c.in_ok-say.ensures.puts c.count.ensures)
+    (stopped g.R.Read.remaining _ c.hear.new.lines _ (g.W.Write.contents c.flush.new.writer) (g.W.Write.contents c.say.new.writer) _ _ _ _ c.match-hear.answer c.match-hear.session turn (stop_is c.args.stop c.match-hear.answer bad) bad c.in_ok-say.ensures.puts c.count.ensures)
     c.finish-then-stops.ensures.kept c.finish-then-stops.ensures.ok c.finish-then-stops.ensures.fault
 
 pub script-smaller : goal.script-smaller
-script-smaller g c = falls g.R.Read.remaining c.script.lines c.hear.new.lines c.script.session c.in-Line.answer c.hear.new.session c.in-Line.ensures
+script-smaller g c =
+    let told : Hears g.R.Read.remaining c.script.lines c.hear.new.lines c.script.session c.match-hear.session (heard.Line c.match-hear.answer) = elim c.match-hear.branch [
+      | in-Line w ↦ heard_same g.R.Read.remaining _ _ _ _ _ _ _ w.in-Line.ensures w.answer-is w.session-is
+      | in-Larger w ↦ carried g.R.Read.remaining _ _ _ _ _ _ _ _ _ w.in-Larger.ensures w.carry_out-next.ensures w.answer-is w.session-is
+    ] in
+    falls g.R.Read.remaining c.script.lines c.hear.new.lines c.script.session c.match-hear.answer c.match-hear.session told
 
 pub script-preserved : goal.script-preserved
 script-preserved g c =
+    let told : Hears g.R.Read.remaining c.script.lines c.hear.new.lines c.script.session c.match-hear.session (heard.Line c.match-hear.answer) = elim c.match-hear.branch [
+      | in-Line w ↦ heard_same g.R.Read.remaining _ _ _ _ _ _ _ w.in-Line.ensures w.answer-is w.session-is
+      | in-Larger w ↦ carried g.R.Read.remaining _ _ _ _ _ _ _ _ _ w.in-Larger.ensures w.carry_out-next.ensures w.answer-is w.session-is
+    ] in
     let at = flushed g.R.Read.remaining _ c.script.lines _ (g.W.Write.contents c.script.writer) (g.W.Write.contents c.flush.new.writer) _ _ _ c.script.invariant.progress c.in_ok-flush.ensures.kept in
-    let turn = turn_of g.R.Read.remaining _ c.script.lines c.hear.new.lines _ _ _ _ _ c.in-Line.answer c.hear.new.session at c.in-Line.ensures in
+    let turn = turn_of g.R.Read.remaining _ c.script.lines c.hear.new.lines _ _ _ _ _ c.match-hear.answer c.match-hear.session at told in
     let calm = sym c.stops.ensures ∙ c.if-stops.false in
-    let less = falls g.R.Read.remaining c.script.lines c.hear.new.lines c.script.session c.in-Line.answer c.hear.new.session c.in-Line.ensures in
-    let one : c.count.new.self.lines ≡ c.script.summary.lines + 1 = ap (λ (n : Summary). n.lines) c.count.ensures ∙ ap (λ (k : ℕ). c.script.summary.lines + k) (one_more c.in-Line.answer) in
+    let less = falls g.R.Read.remaining c.script.lines c.hear.new.lines c.script.session c.match-hear.answer c.match-hear.session told in
+    let one : c.count.new.self.lines ≡ c.script.summary.lines + 1 = ap (λ (n : Summary). n.lines) c.count.ensures ∙ ap (λ (k : ℕ). c.script.summary.lines + k) (one_more c.match-hear.answer) in
     record {
-      progress = subst (λ (n : Summary). Progress g.R.Read.remaining (g.R.Read.remaining c.args.reader) c.hear.new.lines (g.W.Write.contents c.args.writer.now) (g.W.Write.contents c.say.new.writer) c.args.stop c.hear.new.session n) (sym c.count.ensures)
-          (goes_on g.R.Read.remaining _ c.hear.new.lines _ (g.W.Write.contents c.flush.new.writer) (g.W.Write.contents c.say.new.writer) _ _ _ c.in-Line.answer c.hear.new.session turn calm c.in_ok-say.ensures.puts);
-      within = subst IsWithin (sym c.count.ensures) (counted_within c.script.summary c.in-Line.answer c.script.invariant.within);
+      progress = subst (λ (n : Summary). Progress g.R.Read.remaining (g.R.Read.remaining c.args.reader) c.hear.new.lines (g.W.Write.contents c.args.writer.now) (g.W.Write.contents c.say.new.writer) c.args.stop c.match-hear.session n) (sym c.count.ensures)
+          (goes_on g.R.Read.remaining _ c.hear.new.lines _ (g.W.Write.contents c.flush.new.writer) (g.W.Write.contents c.say.new.writer) _ _ _ c.match-hear.answer c.match-hear.session turn calm c.in_ok-say.ensures.puts);
+      within = subst IsWithin (sym c.count.ensures) (counted_within c.script.summary c.match-hear.answer c.script.invariant.within);
       bound = omega (arith, less, one, c.script.invariant.bound);
     }

@@ -1,5 +1,4 @@
 use Rattle.std.proofs.Common.{◌∙◌, ap, sym, true}
-use Rattle.boundary_model.specs.declared.HalfEdge.{HalfEdge}
 use Rattle.boundary_model.specs.HalfEdge.{half}
 use Rattle.boundary_model.proofs.Halves.{half-code}
 use Rattle.face_walks.proofs.HalfCodes.{code_plus}

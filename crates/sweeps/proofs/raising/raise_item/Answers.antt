@@ -1,4 +1,4 @@
-use Rattle.std.proofs.Common.{◌≡◌, ◌∙◌, ap, sym, subst, None, true}
+use Rattle.std.proofs.Common.{◌≡◌, ◌∙◌, ap, sym, subst, true}
 use Rattle.lattice.specs.Vectors.{moved}
 use Rattle.boundary_model.specs.HalfEdge.{code, half, plus}
 use Rattle.boundary_model.specs.Model.{has_half, point_of}

@@ -1,10 +1,8 @@
-use Rattle.std.proofs.Common.{◌≡◌, ◌∙◌, ap, sym, subst, ℕ, ◌+◌, ◌-◌, ◌<◌, ◌≤◌, map, length, None, arith, List}
-use Rattle.boundary_model.specs.HalfEdge.{code}
-use Rattle.boundary_model.specs.Model.{Model, items_of, content, face_of, cycle_of}
+use Rattle.std.proofs.Common.{◌≡◌, ◌∙◌, ap, ℕ, ◌+◌, ◌-◌, ◌<◌, ◌≤◌, arith}
+use Rattle.boundary_model.specs.Model.{items_of, content}
 use Rattle.euler_operators.specs.Conditions.{first_false, is_lone}
 use Rattle.euler_operators.specs.Effect.{effect}
 use Rattle.undo_journal.specs.Machine.{DraftState}
-use Rattle.shapes.specs.Fresh.{Taken}
 use Rattle.prism_laws.specs.SweepOps.{close, close_last}
 use Rattle.prism_laws.proofs.Sides.{content_is, two_items}
 use Rattle.sweeps.specs.Counters.{taken_of}

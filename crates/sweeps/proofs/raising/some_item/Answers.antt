@@ -1,5 +1,4 @@
-use Rattle.std.proofs.Common.{◌∙◌, ap, sym, subst, refl}
-use Rattle.cyclic_list.specs.Items.{IsIn}
+use Rattle.std.proofs.Common.{ap, subst, refl}
 use Rattle.boundary_model.specs.HalfEdge.{code}
 use Rattle.boundary_model.specs.Model.{content, items_of}
 use Rattle.boundary_model.specs.Sound.{StandsIn}

@@ -1,0 +1,69 @@
+//! Commands that make shapes: each takes the session, and gives it back with its answer.
+ghost use Rattle.std.specs.Prelude.{◌≡◌};
+ghost use Rattle.shapes.specs.Lamina.{lamina_refusal, lamina_model};
+ghost use Rattle.shapes.specs.Block.{block_refusal, block_model};
+ghost use Rattle.shapes.specs.Prism.{prism_refusal, prism_model};
+ghost use Rattle.undo_journal.specs.Machine.{held, accepted};
+ghost use Rattle.gwb.specs.Judging.{Acts, Obeys};
+ghost use Rattle.gwb.specs.Settling.{spelled};
+
+use crate::judging::{Answer, outcome};
+use lattice::Point;
+use script_reader::Corners;
+use std::alloc::Global;
+use sweeps::{block, lamina, sweep};
+use undo_journal::Session;
+
+/// A command of several operators.
+#[derive(Drop)]
+pub(crate) enum Larger {
+    /// The new solid, and the points of its polygon.
+    Lamina(u32, Corners),
+    /// The new solid, a corner, and the sizes along x, y and z.
+    Block(u32, Point, i64, i64, i64),
+    /// The face, and the vector by which it moves.
+    Sweep(u32, Point),
+}
+
+fn make_lamina(alloc: Global, session: Session, solid: u32, corners: &Corners) -> (Session, Answer)
+    ensures { Acts (lamina_refusal (held session) solid corners.now) session (accepted session (lamina_model (held session) solid corners.now)) result.1 result.0 }
+{
+    let (session, ended) = lamina(alloc, session, solid, corners.points());
+    (session, outcome(ended))
+}
+
+fn make_block(
+    alloc: Global,
+    session: Session,
+    solid: u32,
+    corner: Point,
+    dx: i64,
+    dy: i64,
+    dz: i64,
+) -> (Session, Answer)
+    ensures { Acts (block_refusal (held session) solid corner dx dy dz) session (accepted session (block_model (held session) solid corner dx dy dz)) result.1 result.0 }
+{
+    let (session, ended) = block(alloc, session, solid, corner, dx, dy, dz);
+    (session, outcome(ended))
+}
+
+#[tactic(auto, using(crate::proofs::Acted::acts))]
+fn make_sweep(alloc: Global, session: Session, face: u32, way: Point) -> (Session, Answer)
+    ensures { Acts (prism_refusal (held session) face way) session (accepted session (prism_model (held session) face way)) result.1 result.0 }
+{
+    let (session, ended) = sweep(alloc, session, face, way);
+    (session, outcome(ended))
+}
+
+/// Carries a larger command out.
+pub(crate) fn carry_out(alloc: Global, session: Session, larger: Larger) -> (Session, Answer)
+    ensures { Obeys session (spelled larger) result.1 result.0 }
+{
+    match larger {
+        Larger::Lamina(solid, corners) => make_lamina(alloc, session, solid, &corners),
+        Larger::Block(solid, corner, dx, dy, dz) => {
+            make_block(alloc, session, solid, corner, dx, dy, dz)
+        }
+        Larger::Sweep(face, way) => make_sweep(alloc, session, face, way),
+    }
+}

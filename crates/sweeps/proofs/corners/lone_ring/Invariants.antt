@@ -1,0 +1,11 @@
+use Rattle.std.proofs.Common.{length}
+use Rattle.boundary_model.specs.Model.{rings_of}
+use Rattle.face_walks.proofs.Rising.{above}
+use Rattle.sweeps.proofs.LoneLoops.{NoneLone}
+use Rattle.sweeps.proofs.corners.lone_ring.Given as goal
+
+abbrev pub invariant-rings : goal.invariant-rings
+invariant-rings l = NoneLone l.arena.model l.f l.last
+
+abbrev pub decreases-rings : goal.decreases-rings
+decreases-rings l = length (above l.last (rings_of l.arena.model l.f))

@@ -1,0 +1,80 @@
+//! The sweep of a face, as one command.
+ghost use Rattle.std.specs.Prelude.{◌≡◌, ◌↔◌, None, Some, Err, OnOk, OnErr};
+ghost use Rattle.lattice.specs.Vectors.{origin, same_point};
+ghost use Rattle.euler_operators.specs.Conditions.{verdict};
+ghost use Rattle.euler_operators.specs.declared.Refusal.{Refusal};
+ghost use Rattle.euler_conditions.specs.Ready.{IsReady};
+ghost use Rattle.undo_journal.specs.Machine.{held, accepted};
+ghost use Rattle.shapes.specs.Prism.{prism_refusal, prism_model};
+
+use crate::corners::{face_tally, lone_loop};
+use crate::fresh::{check_left, counters_of, is_number, refused};
+use crate::raising::raise;
+use euler_conditions::{Refusal, Why};
+use halfedge_arena::{Arena, Kind};
+use lattice::Point;
+use std::alloc::Global;
+use undo_journal::{Draft, Failure, Session};
+
+/// Whether a vector is zero.
+fn is_zero(d: Point) -> bool
+    ensures { result ≡ same_point d origin }
+{
+    d.x == 0 && (d.y == 0 && d.z == 0)
+}
+
+/// Whether face f can be swept along d.
+///
+/// Refused, in this order: NumberRange; NoFace; ZeroSweep with the face; LoneLoop with the least lone loop of the face; PointRange
+/// with the vertex of the first corner whose moved point is out of range; NumbersSpent with 2 for faces, 3 for loops, 4 for edges,
+/// 5 for vertices.
+#[tactic(auto, unfolding(shapes::specs::Prism::prism_conditions))]
+fn check_sweep(arena: &Arena, f: u32, d: Point) -> Result<(), Refusal>
+    requires { IsReady arena.now }
+    ensures { result ≡ verdict (prism_refusal arena.now.model f d) }
+{
+    if !is_number(f) {
+        return refused(Why::NumberRange, f);
+    }
+    if !arena.has(Kind::Face, f) {
+        return refused(Why::NoFace, f);
+    }
+    if is_zero(d) {
+        return refused(Why::ZeroSweep, f);
+    }
+    let lone = lone_loop(arena, f);
+    if lone > 0 {
+        return refused(Why::LoneLoop, lone);
+    }
+    let tally = face_tally(arena, d, f);
+    if tally.far > 0 {
+        return refused(Why::PointRange, tally.far);
+    }
+    let count = tally.count;
+    check_left(&counters_of(arena), count, count, 2 * count, count)
+}
+
+/// A sweep as one command: face f moves along d. At each corner of its loops a new edge rises to a new vertex, and each edge of
+/// its loops gets a side face. Face f keeps its number and is the far face, with the new edges between the new vertices.
+///
+/// Refused, in this order: NumberRange; NoFace; ZeroSweep with the face; LoneLoop with the least lone loop of the face; PointRange
+/// with the vertex of the first corner whose moved point is out of range, in the order of the outer loop and then the rings,
+/// rising; NumbersSpent with 2 for faces, 3 for loops, 4 for edges, 5 for vertices. Where memory is refused `Memory` is answered.
+/// On any failure the session is as it was.
+pub fn sweep(alloc: Global, session: Session, f: u32, d: Point) -> (Session, Result<(), Failure>)
+    ensures ok { OnOk result.1 ((prism_refusal (held session) f d ≡ None) × (result.0 ≡ accepted session (prism_model (held session) f d))) }
+    ensures refused { (refusal : Refusal) → ((result.1 ≡ Err (Failure.Refused refusal)) ↔ (prism_refusal (held session) f d ≡ Some refusal)) }
+    ensures err { OnErr result.1 (result.0 ≡ session) }
+{
+    if let Err(refusal) = check_sweep(session.arena(), f, d) {
+        return (session, Err(Failure::Refused(refusal)));
+    }
+    let mut draft = match Draft::open(session) {
+        Ok(draft) => draft,
+        Err((session, error)) => return (session, Err(Failure::Memory(error))),
+    };
+    match raise(alloc, &mut draft, f, d) {
+        Ok(()) => (draft.commit(), Ok(())),
+        Err(error) => (draft.abandon(), Err(Failure::Memory(error))),
+    }
+}
