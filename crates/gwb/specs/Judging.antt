@@ -1,12 +1,13 @@
 -- What a line is answered.
-use Rattle.std.specs.Prelude.{◌≡◌, ◌⊎◌, ℕ, ◌+◌, Bool, true, false, List, [], Option, Some, None, Result, Ok, Err}
+use Rattle.std.specs.Prelude.{◌≡◌, ◌⊎◌, ℕ, ◌+◌, ℤ, pos, Bool, true, false, List, [], ◌∷◌, Option, Some, None, Result, Ok, Err}
 use Rattle.euler_operators.specs.declared.Refusal.{Refusal}
 use Rattle.euler_operators.specs.Refusal as refusal
 use Rattle.boundary_model.specs.Model.{Model}
 use Rattle.shapes.specs.Lamina.{lamina_refusal, lamina_model}
 use Rattle.shapes.specs.Block.{block_refusal, block_model}
 use Rattle.shapes.specs.Prism.{prism_refusal, prism_model}
-use Rattle.solid_measure.specs.Measure.{answer, face_refusal, solid_refusal, plane_of, is_flat, six_volume}
+use Rattle.solid_counts.specs.declared.Tally.{Tally}
+use Rattle.solid_measure.specs.Measure.{answer, face_refusal, solid_refusal, plane_of, is_flat, six_volume, counts}
 use Rattle.undo_journal.specs.Machine.{Machine, held, accepted, act, act_refusal, undo, undo_refusal, redo, redo_refusal}
 use Rattle.undo_journal.specs.declared.session.Failure.{Failure}
 use Rattle.undo_journal.specs.declared.session.Failure.TheVariants as failure
@@ -61,6 +62,13 @@ plane_reply M f = answer (face_refusal M f) (reply.Plane (plane_of M f) (is_flat
 abbrev pub volume_reply : Model → ℕ → Result Reply Refusal
 volume_reply M s = answer (solid_refusal M s) (reply.Volume (six_volume M s))
 
+-- the words of a count: vertices, edges, faces, rings, and the sum
+abbrev pub tally_words : Tally → List ℤ
+tally_words n = pos n.v ∷ pos n.e ∷ pos n.f ∷ pos n.r ∷ n.sum ∷ []
+
+abbrev pub count_reply : Model → ℕ → Result Reply Refusal
+count_reply M s = answer (solid_refusal M s) (reply.Count (tally_words (counts M s)))
+
 -- from s the machine may answer a command so, and go on to t
 abbrev pub Obeys : Machine → Command → Answer → Machine → Type 0
 Obeys s command.Nothing a t = (a ≡ Silent) × (t ≡ s)
@@ -72,7 +80,7 @@ Obeys s (command.Glue f g) a t = Unknown s a t
 Obeys s (command.Split n plane m) a t = Unknown s a t
 Obeys s (command.Plane f) a t = (a ≡ told (plane_reply (held s) f)) × (t ≡ s)
 Obeys s (command.Volume n) a t = (a ≡ told (volume_reply (held s) n)) × (t ≡ s)
-Obeys s (command.Count n) a t = Unknown s a t
+Obeys s (command.Count n) a t = (a ≡ told (count_reply (held s) n)) × (t ≡ s)
 Obeys s command.Undo a t = Moves (undo_refusal s) s (undo s) a t
 Obeys s command.Redo a t = Moves (redo_refusal s) s (redo s) a t
 Obeys s command.List a t = (a ≡ Listing) × (t ≡ s)

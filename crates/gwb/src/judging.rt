@@ -1,7 +1,7 @@
 //! What a line is answered.
 ghost use Rattle.std.specs.Prelude.{◌≡◌, ◌<◌, ◌≤◌, ◌↔◌, IsTrue};
 ghost use Rattle.euler_conditions.specs.Ready.{IsReady};
-ghost use Rattle.gwb.specs.Judging.{refused, outcome, told, plane_reply, volume_reply, Moves, Acts, complains, one_line, counted};
+ghost use Rattle.gwb.specs.Judging.{refused, outcome, told, plane_reply, volume_reply, count_reply, Moves, Acts, complains, one_line, counted};
 ghost use Rattle.gwb.specs.Settling.{Settles, Decides};
 ghost use Rattle.undo_journal.specs.Machine as machine;
 
@@ -10,7 +10,7 @@ use euler_conditions::{Op, Refusal};
 use halfedge_arena::Arena;
 use script_reader::{Command, Fault, read_line};
 use solid_listing::{Reply, WriteFault};
-use solid_measure::{is_flat, plane, six_volume};
+use solid_measure::{counts, is_flat, plane, six_volume};
 use undo_journal::{Failure, Session};
 
 /// What a line is answered.
@@ -155,6 +155,21 @@ fn volume_reply(arena: &Arena, solid: u32) -> Result<Reply, Refusal>
     Ok(Reply::Volume(six_volume(arena, solid)?))
 }
 
+/// How many vertices, edges, faces and rings a solid has, and `v - e + f - r`.
+fn count_reply(arena: &Arena, solid: u32) -> Result<Reply, Refusal>
+    requires { IsReady arena.now }
+    ensures { result ≡ count_reply arena.now.model solid }
+{
+    let tally = counts(arena, solid)?;
+    Ok(Reply::Count([
+        tally.v as i64,
+        tally.e as i64,
+        tally.f as i64,
+        tally.r as i64,
+        tally.sum,
+    ]))
+}
+
 /// Answers a command, or finds it to be a larger one. A command that the workbench doesn't know yet is answered as an unknown word.
 fn obey(session: &mut Session, command: Command) -> Judged
     ensures { Settles session.old command result session.new }
@@ -169,12 +184,11 @@ fn obey(session: &mut Session, command: Command) -> Judged
         Command::Sweep(face, way) => Judged::Larger(Larger::Sweep(face, way)),
         Command::Plane(face) => Judged::Answered(told(plane_reply(session.arena(), face))),
         Command::Volume(solid) => Judged::Answered(told(volume_reply(session.arena(), solid))),
+        Command::Count(solid) => Judged::Answered(told(count_reply(session.arena(), solid))),
         Command::Undo => Judged::Answered(undo(session)),
         Command::Redo => Judged::Answered(redo(session)),
         Command::List => Judged::Answered(Answer::Listing),
-        Command::Glue(_, _) | Command::Split(_, _, _) | Command::Count(_) => Judged::Answered(
-            unknown(),
-        ),
+        Command::Glue(_, _) | Command::Split(_, _, _) => Judged::Answered(unknown()),
     }
 }
 
