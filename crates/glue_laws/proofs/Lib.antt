@@ -1,2 +1,3 @@
+pub mod Renamings
 pub mod Round
 mod WorkedGlues
