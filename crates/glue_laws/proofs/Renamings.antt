@@ -1,11 +1,11 @@
 -- Renamings by lists of pairs, one pair more; and what they make of a ring.
-use Rattle.std.proofs.Common.{◌≡◌, ◌≢◌, ℕ, ◌+◌, true, false, cond, nat_eq, List, [], ◌∷◌, ◌++◌, Option, Some, None, refl, sym, ap, ◌∙◌, subst, arith, ◌⊎◌, inl, inr}
-use Rattle.std.specs.Prelude.{map, fold, reverse}
+use Rattle.std.proofs.Common.{◌≡◌, ◌≢◌, ℕ, ◌+◌, true, false, cond, nat_eq, List, [], ◌∷◌, ◌++◌, None, refl, sym, ap, ◌∙◌, subst, arith, ◌⊎◌, inl, inr}
+use Rattle.std.specs.Prelude.{map}
 use Rattle.std.proofs.lemmas.Bool.Decides.{nat_tests, eqb_tells}
 use Rattle.cyclic_list.specs.Items.{count, IsIn, IsApart, before, after}
-use Rattle.cyclic_list.specs.Rings.{canonical, rest, IsRotation}
-use Rattle.cyclic_list.proofs.Lists.{count-append, tick_same, tick_other, IsIn_or_not, split_at, count-before}
-use Rattle.cyclic_list.proofs.Rotations.{canonical-rotates, rest_same, rest_parts, canonical_same, count-canonical}
+use Rattle.cyclic_list.specs.Rings.{canonical, rest}
+use Rattle.cyclic_list.proofs.Lists.{count-append, tick_same, tick_other, split_at, count-before}
+use Rattle.cyclic_list.proofs.Rotations.{canonical-rotates, rest_same, rest_parts, canonical_same}
 use Rattle.boundary_model.specs.Table as table
 use Rattle.boundary_model.specs.Table.{Table, tables, same_table}
 use Rattle.shapes.specs.Rewriting.{renamed, without_rows}
