@@ -3,5 +3,7 @@ pub mod Round
 pub mod Swapped
 pub mod Facing
 pub mod Stages
+pub mod Mates
 pub mod Turn
+pub mod Ending
 mod WorkedGlues

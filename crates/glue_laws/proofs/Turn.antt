@@ -31,35 +31,8 @@ use Rattle.glue_laws.proofs.Facing as facing
 use Rattle.glue_laws.proofs.Facing.{Facing, side, in_map}
 use Rattle.glue_laws.proofs.Stages as stages
 use Rattle.glue_laws.proofs.Stages.{Stage}
+use Rattle.glue_laws.proofs.Mates as mates
 use Rattle.glue_laws.proofs.Round.{Closes, closed, closing_accepted, closing_is}
-
--- ---- what is asked of the next item
-
-module _ (M : Model) (f g : ℕ) (partner_of : ℕ → ℕ) (hs : List ℕ) (x last : ℕ) (done more : List ℕ) (w : Stage M f g partner_of hs x last done more) where
-  abbrev S : Model
-  S = glued_part M f g partner_of last done more
-
-  -- the mate of a partner that isn't glued yet stands in another loop
-  pub mate_else : (h : ℕ) → IsIn h more → HasHalf S (partner_of h) → loop_of S (mate (partner_of h)) ≢ outer M f
-  mate_else h i there e =
-      let m : ℕ = mate (partner_of h) in
-      let F : Facing M f g partner_of hs x = w.facing in
-      let hi : IsIn h hs = stages.all_in M f g partner_of hs x last done more w h i in
-      let stands : StandsIn S m (outer M f) = subst (StandsIn S m) e (w.sound.stands m (half_mate S w.sound (partner_of h) there)) in
-      let here : IsIn m (seam partner_of more) = omega (
-        arith,
-        holds_in m (content S (outer M f)) stands,
-        ap (λ c. count m (items_of c)) (content_row S (outer M f) _ (stages.at_l M f g partner_of hs x last done more w)),
-        count-canonical m (seam partner_of more),
-      ) in
-      elim (IsIn_or_not m more) [
-        | inl j ↦ F.solids_apart (sym (facing.side_f M f g partner_of hs x F m (stages.all_in M f g partner_of hs x last done more w m j))
-            ∙ facing.side_mate M f g partner_of hs x F (partner_of h) (facing.half_g M f g partner_of hs x F h hi) ∙ facing.side_g M f g partner_of hs x F h hi)
-        | inr n ↦
-            let b : IsIn m (map partner_of more) = omega (arith, here, n, count-append m more (reverse (map partner_of more)), count-reverse m (map partner_of more)) in
-            let p = from_map partner_of m more b in
-            F.no_fold h p.0 hi (stages.all_in M f g partner_of hs x last done more w p.0 p.1) p.2
-      ]
 
 module _ (M : Model) (f g : ℕ) (partner_of : ℕ → ℕ) (hs : List ℕ) (x last : ℕ) (done : List ℕ) (h k : ℕ) (more : List ℕ) (w : Stage M f g partner_of hs x last done (h ∷ k ∷ more)) (later : IsIn last (k ∷ more)) where
   abbrev N : Model
@@ -118,7 +91,7 @@ module _ (M : Model) (f g : ℕ) (partner_of : ℕ → ℕ) (hs : List ℕ) (x l
   around_here = record { sound = w.sound; at = stages.at_l M f g partner_of hs x last done (h ∷ k ∷ more) w ∙ ap (λ t. Some (record { face = f; content = cycle t })) turned_is }
 
   g_there : HasHalf N (partner_of h)
-  g_there = half_is N l f ((partner_of h ∷ h ∷ []) ++ k ∷ qs) around_here (partner_of h) (omega (arith, tick_same (partner_of h)))
+  g_there = mates.g_there M f g partner_of hs x last done (h ∷ k ∷ more) w h h_more
 
   k_there : HasHalf N k
   k_there = half_is N l f ((partner_of h ∷ h ∷ []) ++ k ∷ qs) around_here k (omega (arith, tick_same k, count-append k (partner_of h ∷ h ∷ []) (k ∷ qs)))
@@ -168,7 +141,7 @@ module _ (M : Model) (f g : ℕ) (partner_of : ℕ → ℕ) (hs : List ℕ) (x l
     loop_fits = F.sound.loops_fit r (ap is_some F.second);
     ends_apart = λ e. facing.never_met M f g partner_of hs x F h k h_in k_in (sym tail_g ∙ e ∙ tail_k);
     no_parallel = no_parallel;
-    mate_else = mate_else M f g partner_of hs x last done (h ∷ k ∷ more) w h h_more g_there;
+    mate_else = mates.mate_else M f g partner_of hs x last done (h ∷ k ∷ more) w h h_more;
   }
 
   -- ---- the model after
@@ -192,57 +165,7 @@ module _ (M : Model) (f g : ℕ) (partner_of : ℕ → ℕ) (hs : List ℕ) (x l
   kept = table.remove (table.remove M.loops l) r
 
   abbrev turned_row : LoopRow
-  turned_row = record { face = face_of N q; content = cycle (canonical (h ∷ rest m (cycle_of N m))) }
-
-  -- items of f aren't mates of items of g
-  not_mate : (j : ℕ) → IsIn j done → j ≢ m
-  not_mate j i e = F.solids_apart (sym (facing.side_f M f g partner_of hs x F j (stages.done_in M f g partner_of hs x last done (h ∷ k ∷ more) w j i))
-      ∙ ap (side M f g partner_of hs x F) e ∙ facing.side_mate M f g partner_of hs x F (partner_of h) (facing.half_g M f g partner_of hs x F h h_in) ∙ facing.side_g M f g partner_of hs x F h h_in)
-
-  swaps_on : (u : ℕ) → swap_more u ≡ replaced m h (swap u)
-  swaps_on u = renamed_more (λ j. mate (partner_of j)) (λ j. j) done h not_mate u
-
-  m_there : HasHalf N m
-  m_there = half_mate N w.sound (partner_of h) g_there
-
-  q_l : q ≢ l
-  q_l = closes.mate_else
-
-  row_q : table.get N.loops q ≡ Some (record { face = face_of N q; content = cycle (cycle_of N m) })
-  row_q = row_of N w.sound m m_there
-
-  -- h isn't in m's loop
-  h_else : count h (cycle_of N m) ≡ 0
-  h_else = none-holds h (cycle (cycle_of N m)) (other_loop N w.sound h q (record { face = face_of N q; content = cycle (cycle_of N m) })
-      (λ e. q_l (e ∙ loop_is N l f ((partner_of h ∷ h ∷ []) ++ k ∷ qs) around_here h (omega (arith, tick_same h)))) row_q)
-
-  at_kept : (p : ℕ) → p ≢ l → table.get N.loops p ≡ option_map (rewritten_row (map swap) p) (table.get kept p)
-  at_kept = stages.at_kept M f g partner_of hs x last done (h ∷ k ∷ more) w
-
-  kept_l : table.get kept l ≡ None
-  kept_l = grind (arith, nat_tests, tables)
-
-  -- each row of the others, before and after
-  turned_at : (o : Option LoopRow) → option_map (rewritten_row (map swap) q) o ≡ Some (record { face = face_of N q; content = cycle (cycle_of N m) }) → option_map (rewritten_row (map swap_more) q) o ≡ Some turned_row
-  turned_at None e = absurd (true≢false (sym (ap is_some e)))
-  turned_at (Some row) e = ap Some (row_turns swap swap_more m h swaps_on q (face_of N q) row (cycle_of N m) (one_row e) (cycle_sound N w.sound m m_there).apart (cycle_there N w.sound m m_there) h_else)
-
-  stays_at : (p : ℕ) → p ≢ q → (o : Option LoopRow) → ((y : LoopRow) → option_map (rewritten_row (map swap) p) o ≡ Some y → table.get N.loops p ≡ Some y) → option_map (rewritten_row (map swap_more) p) o ≡ option_map (rewritten_row (map swap) p) o
-  stays_at p ne None e = refl
-  stays_at p ne (Some row) e = ap Some (row_stays swap swap_more m h swaps_on p row (none-holds m (rewritten_row (map swap) p row).content (other_loop N w.sound m p (rewritten_row (map swap) p row) ne (e (rewritten_row (map swap) p row) refl))))
-
-  others : table.map_rows (rewritten_row (map swap_more)) kept ≡ table.put (table.map_rows (rewritten_row (map swap)) kept) q turned_row
-  others = same_table _ _ (λ p. get-map_rows (rewritten_row (map swap_more)) kept p ∙ elim (eqb_tells p q) [
-    | inl e ↦ ap (λ n. option_map (rewritten_row (map swap_more) n) (table.get kept n)) e.1
-        ∙ turned_at (table.get kept q) (sym (at_kept q q_l) ∙ row_q)
-        ∙ sym (get-put (table.map_rows (rewritten_row (map swap)) kept) q turned_row p ∙ ap (λ b. cond b (Some turned_row) (table.get (table.map_rows (rewritten_row (map swap)) kept) p)) e.0)
-    | inr ne ↦ elim (eqb_tells p l) [
-      | inl e ↦ ap (option_map (rewritten_row (map swap_more) p)) (ap (table.get kept) e.1 ∙ kept_l) ∙ sym (ap (option_map (rewritten_row (map swap) p)) (ap (table.get kept) e.1 ∙ kept_l))
-      | inr nl ↦ stays_at p ne.1 (table.get kept p) (λ y at. at_kept p nl.1 ∙ at)
-    ]
-        ∙ sym (get-map_rows (rewritten_row (map swap)) kept p)
-        ∙ sym (get-put (table.map_rows (rewritten_row (map swap)) kept) q turned_row p ∙ ap (λ b. cond b (Some turned_row) (table.get (table.map_rows (rewritten_row (map swap)) kept) p)) ne.0)
-  ])
+  turned_row = mates.turned_row M f g partner_of hs x last done (h ∷ k ∷ more) w h h_more
 
   swap_puts : {Y : Type 0} (t : Table Y) (a b : ℕ) (u v z : Y) → b ≢ a → table.put (table.put (table.put t a u) a v) b z ≡ table.put (table.put t b z) a v
   swap_puts t a b u v z ne = same_table _ _ (λ n. grind (arith, nat_tests, tables))
@@ -257,8 +180,8 @@ module _ (M : Model) (f g : ℕ) (partner_of : ℕ → ℕ) (hs : List ℕ) (x l
   loops_next : after_round.loops ≡ X.loops
   loops_next =
       ap (λ t. table.put (table.put t l (record { face = f; content = cycle (canonical (k ∷ qs)) })) q turned_row) (stages.loops_are M f g partner_of hs x last done (h ∷ k ∷ more) w)
-      ∙ swap_puts (table.map_rows (rewritten_row (map swap)) kept) l q _ _ turned_row q_l
-      ∙ ap (λ t. table.put t l (record { face = f; content = cycle (canonical (k ∷ qs)) })) (sym others)
+      ∙ swap_puts (table.map_rows (rewritten_row (map swap)) kept) l q _ _ turned_row closes.mate_else
+      ∙ ap (λ t. table.put t l (record { face = f; content = cycle (canonical (k ∷ qs)) })) (sym (mates.others M f g partner_of hs x last done (h ∷ k ∷ more) w h h_more))
       ∙ X_loops
 
   abbrev moves_before : List (ℕ × ℕ)
