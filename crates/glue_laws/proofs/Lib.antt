@@ -7,4 +7,6 @@ pub mod Mates
 pub mod Turn
 pub mod Ending
 pub mod Opening
+pub mod Whole
+pub mod Points
 mod WorkedGlues
