@@ -9,4 +9,6 @@ pub mod Ending
 pub mod Opening
 pub mod Whole
 pub mod Points
+pub mod Facts
+pub mod Accepted
 mod WorkedGlues

@@ -4,6 +4,7 @@ use Rattle.std.specs.Prelude.{map, reverse}
 use Rattle.std.proofs.lemmas.List.{append_assoc}
 use Rattle.cyclic_list.specs.Items.{count, IsIn, last_or}
 use Rattle.cyclic_list.proofs.Lists.{tick_same}
+use Rattle.cyclic_list.proofs.Rings.{last_or_push}
 use Rattle.boundary_model.specs.HalfEdge.{mate, half}
 use Rattle.boundary_model.specs.Model.{Model, outer}
 use Rattle.boundary_model.specs.Sound.{Sound}
@@ -57,21 +58,17 @@ module _ (M : Model) (f g : ℕ) (partner_of : ℕ → ℕ) (h : ℕ) (mid : Lis
   abbrev other_ops : List Op
   other_ops = closings partner_of x g (outer M g) hs
 
-  last_is : (k : ℕ) (ks : List ℕ) → last_or k (ks ++ last ∷ []) ≡ last
-  last_is k [] = refl
-  last_is k (j ∷ ks) = last_is j ks
-
   begins : Stage M f g partner_of hs x last [] hs
   begins = record {
     facing = w;
     split = refl;
-    last_in = subst (λ n. IsIn n hs) (last_is h mid) (last_in h (mid ++ last ∷ []));
+    last_in = subst (λ n. IsIn n hs) (last_or_push h last mid) (last_in h (mid ++ last ∷ []));
     sound = subst Sound (opening_is M f g partner_of h mid last x w) (effects_keep_sound M start_ops w.sound (opening_accepted M f g partner_of h mid last x w));
   }
 
   goes : AreAccepted (glued_part M f g partner_of last [] hs) other_ops × (effects (glued_part M f g partner_of last [] hs) other_ops ≡ glued_all M f g partner_of hs)
   goes = subst (λ n. Stage M f g partner_of hs x n [] hs → AreAccepted (glued_part M f g partner_of n [] hs) other_ops × (effects (glued_part M f g partner_of n [] hs) other_ops ≡ glued_all M f g partner_of hs))
-      (last_is h mid) (closings_go M f g partner_of hs x [] h (mid ++ last ∷ [])) begins
+      (last_or_push h last mid) (closings_go M f g partner_of hs x [] h (mid ++ last ∷ [])) begins
 
   pub all_accepted : AreAccepted M (start_ops ++ other_ops)
   all_accepted = AreAccepted-append M start_ops other_ops (opening_accepted M f g partner_of h mid last x w) (subst (λ X. AreAccepted X other_ops) (sym (opening_is M f g partner_of h mid last x w)) goes.0)
