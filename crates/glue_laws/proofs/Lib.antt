@@ -6,4 +6,5 @@ pub mod Stages
 pub mod Mates
 pub mod Turn
 pub mod Ending
+pub mod Opening
 mod WorkedGlues
