@@ -7,4 +7,8 @@ pub mod Mates
 pub mod Turn
 pub mod Ending
 pub mod Opening
+pub mod Whole
+pub mod Points
+pub mod Facts
+pub mod Accepted
 mod WorkedGlues

@@ -1,3 +1,4 @@
 pub mod Glue
 pub mod GlueOps
 pub mod Part
+pub mod Laws
