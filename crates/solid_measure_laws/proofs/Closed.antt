@@ -9,7 +9,7 @@ use Rattle.boundary_model.specs.HalfEdge.{mate}
 use Rattle.boundary_model.specs.Table as table
 use Rattle.boundary_model.specs.Model.{Model, has_half, items_of, holds, content, loop_of, face_of, outer, solid_of, rings_of, faces_of}
 use Rattle.boundary_model.specs.Sound.{Sound, Has, HasHalf}
-use Rattle.boundary_model.proofs.Halves.{edge_of-mate, mate-mate}
+use Rattle.boundary_model.proofs.Halves.{edge_of-mate}
 use Rattle.boundary_model.proofs.Models.{in-holds, holds_in, held_row}
 use Rattle.euler_operators.specs.Conditions.{lists, strictly_rises}
 use Rattle.euler_laws_shared.proofs.Listed.{first_listed, rest_listed, listed_cases, listed_passes, listed_as, all_where-rises}
@@ -23,7 +23,7 @@ use Rattle.solid_measure.proofs.Rising.{counted_once, none_counted}
 use Rattle.vector_laws.proofs.Vectors.{dot_turned, dot_origin, add_none}
 use Rattle.solid_measure_laws.specs.Models.{shifted, normals_in}
 use Rattle.solid_measure_laws.proofs.Paths.{rest_in}
-use Rattle.solid_measure_laws.proofs.Sums.{area_same, area_mates, own_opposite}
+use Rattle.solid_measure_laws.proofs.Sums.{area_same, area_mates, own_opposite, count-mates}
 use Rattle.solid_measure_laws.proofs.Shifted.{volume_moved}
 
 -- ---- counting
@@ -44,17 +44,6 @@ count_listed q ns up = go (lists ns q) refl where
   go : (b : Bool) → lists ns q ≡ b → count q ns ≡ cond b 1 0
   go true e = once (count q ns) (counted_once q ns up) (in_listed q ns e)
   go false e = none_counted q ns e
-
--- an item stands among the other halves as often as its own other half stands in the list
-tick-mate : (x h : ℕ) → tick x (mate h) ≡ tick (mate x) h
-tick-mate x h = elim (eqb_tells x (mate h)) [
-  | inl e ↦ ap (λ k. tick k (mate h)) e.1 ∙ tick_same (mate h) ∙ sym (ap (λ k. tick k h) (ap mate e.1 ∙ mate-mate h) ∙ tick_same h)
-  | inr e ↦ tick_other x (mate h) e.1 ∙ sym (tick_other (mate x) h (λ s. e.1 (sym (mate-mate x) ∙ ap mate s)))
-]
-
-count-mates : (x : ℕ) (hs : List ℕ) → count x (map mate hs) ≡ count (mate x) hs
-count-mates x [] = refl
-count-mates x (h ∷ hs) = λ i. tick-mate x h i + count-mates x hs i
 
 -- the half-edges of some faces
 abbrev pub halves_in : Model → List ℕ → List ℕ

@@ -1,4 +1,5 @@
 -- Where a segment meets a plane: the point lies on the plane, and divides the segment as the heights of its ends.
+-- Cut there, the segment keeps its part of an area.
 use Rattle.std.proofs.Common.{◌≡◌, ◌≢◌, ◌⊎◌, inl, inr, ℕ, zero, suc, ◌+◌, ◌/◌, ◌%◌, ◌<◌, Bool, true, false, ◌&&◌, ℤ, pos, negsuc, ◌+ℤ◌, ◌-ℤ◌, ◌*ℤ◌, neg_ℤ, unsigned_abs, int_div, int_rem, refl, sym, ap, ◌∙◌, arith, true≢false}
 use Rattle.std.specs.Ordering.{int_eq}
 use Rattle.std.specs.Cmp.{signed_Decides}
@@ -6,9 +7,9 @@ use Rattle.std.proofs.lemmas.Int.{ints, quot-rem}
 use Rattle.std.proofs.Math.Nat.{div-zero, zero-div, zero-mod}
 use Rattle.lattice.specs.declared.Point.{Point}
 use Rattle.lattice.specs.declared.Plane.{Plane}
-use Rattle.lattice.specs.Vectors.{height, is_on, opposite, are_opposite, cut_multiple, cuts_lattice, cut_between}
+use Rattle.lattice.specs.Vectors.{origin, moved, cross, height, is_on, opposite, are_opposite, cut_multiple, cuts_lattice, cut_between}
 use Rattle.vector_laws.proofs.Integers.{dif, dif-parts, difs, neg-dif, same_dif, number}
-use Rattle.vector_laws.proofs.Vectors.{same_vector}
+use Rattle.vector_laws.proofs.Vectors.{same_vector, moved_none}
 use Rattle.solid_measure_laws.specs.Vectors.{scaled, towards}
 use Rattle.solid_measure_laws.proofs.Products.{no_product}
 
@@ -59,19 +60,26 @@ both : (a b c d e f g m n : ℤ) →
     (a *ℤ m -ℤ e *ℤ n) +ℤ (b *ℤ m -ℤ f *ℤ n) +ℤ (c *ℤ m -ℤ g *ℤ n) +ℤ d *ℤ (m -ℤ n) ≡ (a +ℤ b +ℤ c +ℤ d) *ℤ m -ℤ (e +ℤ f +ℤ g +ℤ d) *ℤ n
 both a b c d e f g m n = rw (dif-parts a, dif-parts b, dif-parts c, dif-parts d, dif-parts e, dif-parts f, dif-parts g, dif-parts m, dif-parts n) (both_dif _ _ _ _ _ _ _ _ _ _ _ _ _ _ _ _ _ _)
 
+-- u and v are the heights of p and q over the plane
+height_at : (a b c d px py pz qx qy qz x y z m n u v : ℤ) → a *ℤ px +ℤ b *ℤ py +ℤ c *ℤ pz +ℤ d ≡ u → a *ℤ qx +ℤ b *ℤ qy +ℤ c *ℤ qz +ℤ d ≡ v →
+    x *ℤ (m -ℤ n) ≡ qx *ℤ m -ℤ px *ℤ n → y *ℤ (m -ℤ n) ≡ qy *ℤ m -ℤ py *ℤ n → z *ℤ (m -ℤ n) ≡ qz *ℤ m -ℤ pz *ℤ n →
+    (a *ℤ x +ℤ b *ℤ y +ℤ c *ℤ z +ℤ d) *ℤ (m -ℤ n) ≡ v *ℤ m -ℤ u *ℤ n
+height_at a b c d px py pz qx qy qz x y z m n u v at_p at_q ex ey ez = height_part a b c d x y z (m -ℤ n)
+    ∙ (λ i. (ap (λ t. a *ℤ t) ex ∙ share a px qx m n) i +ℤ (ap (λ t. b *ℤ t) ey ∙ share b py qy m n) i +ℤ (ap (λ t. c *ℤ t) ez ∙ share c pz qz m n) i +ℤ d *ℤ (m -ℤ n))
+    ∙ both (a *ℤ qx) (b *ℤ qy) (c *ℤ qz) d (a *ℤ px) (b *ℤ py) (c *ℤ pz) m n
+    ∙ (λ i. at_q i *ℤ m -ℤ at_p i *ℤ n)
+
 cancel_dif : (m n m' n' : ℕ) → dif n n' *ℤ dif m m' -ℤ dif m m' *ℤ dif n n' ≡ dif 0 0
 cancel_dif m n m' n' = simp difs (same_dif _ _ _ _ (omega arith))
 
 cancel : (m n : ℤ) → n *ℤ m -ℤ m *ℤ n ≡ pos 0
 cancel m n = rw (dif-parts m, dif-parts n, number 0) (cancel_dif _ _ _ _)
 
-level : (a b c d px py pz qx qy qz x y z m n : ℤ) → a *ℤ px +ℤ b *ℤ py +ℤ c *ℤ pz +ℤ d ≡ m → a *ℤ qx +ℤ b *ℤ qy +ℤ c *ℤ qz +ℤ d ≡ n →
-    x *ℤ (m -ℤ n) ≡ qx *ℤ m -ℤ px *ℤ n → y *ℤ (m -ℤ n) ≡ qy *ℤ m -ℤ py *ℤ n → z *ℤ (m -ℤ n) ≡ qz *ℤ m -ℤ pz *ℤ n →
-    (a *ℤ x +ℤ b *ℤ y +ℤ c *ℤ z +ℤ d) *ℤ (m -ℤ n) ≡ pos 0
-level a b c d px py pz qx qy qz x y z m n at_p at_q ex ey ez = height_part a b c d x y z (m -ℤ n)
-    ∙ (λ i. (ap (λ t. a *ℤ t) ex ∙ share a px qx m n) i +ℤ (ap (λ t. b *ℤ t) ey ∙ share b py qy m n) i +ℤ (ap (λ t. c *ℤ t) ez ∙ share c pz qz m n) i +ℤ d *ℤ (m -ℤ n))
-    ∙ both (a *ℤ qx) (b *ℤ qy) (c *ℤ qz) d (a *ℤ px) (b *ℤ py) (c *ℤ pz) m n
-    ∙ (λ i. at_q i *ℤ m -ℤ at_p i *ℤ n) ∙ cancel m n
+level_dif : (m n m' n' : ℕ) → dif 0 0 *ℤ dif m m' -ℤ dif 0 0 *ℤ dif n n' ≡ dif 0 0
+level_dif m n m' n' = simp difs (same_dif _ _ _ _ (omega arith))
+
+level_part : (m n z : ℤ) → z ≡ pos 0 → z *ℤ m -ℤ z *ℤ n ≡ z
+level_part m n z e = rw (dif-parts m, dif-parts n, e ∙ number 0) (level_dif _ _ _ _)
 
 -- ---- heights of opposite signs
 
@@ -107,6 +115,42 @@ ratio m n d g o e = elim (signs m n o) [
   | inr s ↦ turned_back _ _ (sym (turned g (pos (unsigned_abs m + unsigned_abs n))) ∙ ap (λ w. g *ℤ w) (sym s.1) ∙ e ∙ ap (λ w. d *ℤ w) s.0 ∙ turned d (pos (unsigned_abs m)))
 ]
 
+-- ---- a point of the line through p and q
+
+line_dif : (w a b c e w' a' b' c' e' : ℕ) → (dif a a' *ℤ dif c c' -ℤ dif b b' *ℤ dif e e') *ℤ dif w w' ≡ (dif w w' *ℤ dif a a') *ℤ dif c c' -ℤ (dif w w' *ℤ dif b b') *ℤ dif e e'
+line_dif w a b c e w' a' b' c' e' = simp difs (same_dif _ _ _ _ (omega arith))
+
+line_part : (w a b c e : ℤ) → (a *ℤ c -ℤ b *ℤ e) *ℤ w ≡ (w *ℤ a) *ℤ c -ℤ (w *ℤ b) *ℤ e
+line_part w a b c e = rw (dif-parts w, dif-parts a, dif-parts b, dif-parts c, dif-parts e) (line_dif _ _ _ _ _ _ _ _ _ _)
+
+same_line_dif : (k c e k' c' e' : ℕ) → (dif k k' *ℤ dif e e') *ℤ dif c c' -ℤ (dif k k' *ℤ dif c c') *ℤ dif e e' ≡ dif 0 0
+same_line_dif k c e k' c' e' = simp difs (same_dif _ _ _ _ (omega arith))
+
+same_line : (k c e : ℤ) → (k *ℤ e) *ℤ c -ℤ (k *ℤ c) *ℤ e ≡ pos 0
+same_line k c e = rw (dif-parts k, dif-parts c, dif-parts e, number 0) (same_line_dif _ _ _ _ _ _)
+
+along : (w k a b c e : ℤ) → w ≢ pos 0 → w *ℤ a ≡ k *ℤ e → w *ℤ b ≡ k *ℤ c → a *ℤ c -ℤ b *ℤ e ≡ pos 0
+along w k a b c e some ea eb = no_product w (a *ℤ c -ℤ b *ℤ e) (line_part w a b c e ∙ (λ i. ea i *ℤ c -ℤ eb i *ℤ e) ∙ same_line k c e) some
+
+through_dif : (a b e f h k a' b' e' f' h' k' : ℕ) →
+    (dif a a' *ℤ dif k k' -ℤ dif b b' *ℤ dif h h') +ℤ (dif h h' *ℤ dif f f' -ℤ dif k k' *ℤ dif e e')
+    ≡ (dif a a' *ℤ dif f f' -ℤ dif b b' *ℤ dif e e') +ℤ ((dif h h' -ℤ dif a a') *ℤ (dif f f' -ℤ dif b b') -ℤ (dif k k' -ℤ dif b b') *ℤ (dif e e' -ℤ dif a a'))
+through_dif a b e f h k a' b' e' f' h' k' = simp difs (same_dif _ _ _ _ (omega arith))
+
+-- from (a, b) over (h, k) to (e, f)
+through_part : (a b e f h k : ℤ) → (a *ℤ k -ℤ b *ℤ h) +ℤ (h *ℤ f -ℤ k *ℤ e) ≡ (a *ℤ f -ℤ b *ℤ e) +ℤ ((h -ℤ a) *ℤ (f -ℤ b) -ℤ (k -ℤ b) *ℤ (e -ℤ a))
+through_part a b e f h k = rw (dif-parts a, dif-parts b, dif-parts e, dif-parts f, dif-parts h, dif-parts k) (through_dif _ _ _ _ _ _ _ _ _ _ _ _)
+
+-- a step that is cut at a point of its line keeps its part of an area
+pub cut_area : (w k : ℤ) (p q c : Point) → w ≢ pos 0 → scaled w (towards p c) ≡ scaled k (towards p q) → moved (cross p c) (cross c q) ≡ cross p q
+cut_area w k p q c some e =
+    same_vector _ (moved (cross p q) (cross (towards p c) (towards p q))) (through_part p.y p.z q.y q.z c.y c.z) (through_part p.z p.x q.z q.x c.z c.x) (through_part p.x p.y q.x q.y c.x c.y)
+    ∙ ap (moved (cross p q)) (same_vector _ origin
+    (along w k (c.y -ℤ p.y) (c.z -ℤ p.z) (q.z -ℤ p.z) (q.y -ℤ p.y) some (ap (λ v. v.y) e) (ap (λ v. v.z) e))
+    (along w k (c.z -ℤ p.z) (c.x -ℤ p.x) (q.x -ℤ p.x) (q.z -ℤ p.z) some (ap (λ v. v.z) e) (ap (λ v. v.x) e))
+    (along w k (c.x -ℤ p.x) (c.y -ℤ p.y) (q.y -ℤ p.y) (q.x -ℤ p.x) some (ap (λ v. v.x) e) (ap (λ v. v.y) e)))
+    ∙ moved_none (cross p q)
+
 -- ---- the cut
 
 module _ (s : Plane) (p q : Point) (o : are_opposite s p q ≡ true) (cuts : cuts_lattice s p q ≡ true) where
@@ -140,17 +184,31 @@ module _ (s : Plane) (p q : Point) (o : are_opposite s p q ≡ true) (cuts : cut
   z_is : cut.z *ℤ (m -ℤ n) ≡ q.z *ℤ m -ℤ p.z *ℤ n
   z_is = whole (cut_multiple s p q p.z q.z) (m -ℤ n) all_whole.2
 
-  pub cut_height : height s (cut_between s p q) ≡ pos 0
-  cut_height = no_product (m -ℤ n) (height s cut) (level s.a s.b s.c s.d p.x p.y p.z q.x q.y q.z cut.x cut.y cut.z m n refl refl x_is y_is z_is) (apart m n o)
+  -- its height over any plane
+  height_told : (t : Plane) (u v : ℤ) → height t p ≡ u → height t q ≡ v → height t cut *ℤ (m -ℤ n) ≡ v *ℤ m -ℤ u *ℤ n
+  height_told t u v at_p at_q = height_at t.a t.b t.c t.d p.x p.y p.z q.x q.y q.z cut.x cut.y cut.z m n u v at_p at_q x_is y_is z_is
+
+  height_none : (t : Plane) → height t cut *ℤ (m -ℤ n) ≡ pos 0 → is_on t cut ≡ true
+  height_none t e = (signed_Decides (height t cut) (pos 0)).1 (no_product (m -ℤ n) (height t cut) e (apart m n o))
 
   pub cut_on : is_on s (cut_between s p q) ≡ true
-  cut_on = (signed_Decides (height s cut) (pos 0)).1 cut_height
+  cut_on = height_none s (height_told s m n refl refl ∙ cancel m n)
+
+  -- it lies on each plane on which both ends lie
+  pub cut_on_each : (t : Plane) → is_on t p ≡ true → is_on t q ≡ true → is_on t (cut_between s p q) ≡ true
+  cut_on_each t on_p on_q = height_none t (height_told t (pos 0) (pos 0) ((signed_Decides (height t p) (pos 0)).0 on_p) ((signed_Decides (height t q) (pos 0)).0 on_q) ∙ level_part m n (pos 0) refl)
 
   pub cut_divides : scaled (pos (unsigned_abs (height s p) + unsigned_abs (height s q))) (towards p (cut_between s p q)) ≡ scaled (pos (unsigned_abs (height s p))) (towards p q)
   cut_divides = same_vector _ _
       (ratio m n (q.x -ℤ p.x) (cut.x -ℤ p.x) o (divided p.x q.x m n cut.x x_is))
       (ratio m n (q.y -ℤ p.y) (cut.y -ℤ p.y) o (divided p.y q.y m n cut.y y_is))
       (ratio m n (q.z -ℤ p.z) (cut.z -ℤ p.z) o (divided p.z q.z m n cut.z z_is))
+
+  -- and cuts the step from p to q into two with the same area
+  pub cut_keeps_area : moved (cross p (cut_between s p q)) (cross (cut_between s p q) q) ≡ cross p q
+  cut_keeps_area = cut_area (pos (unsigned_abs m + unsigned_abs n)) (pos (unsigned_abs m)) p q cut (some (unsigned_abs m) (unsigned_abs n) (some_height m n o).0) cut_divides where
+    some : (a b : ℕ) → 0 < a → pos (a + b) ≢ pos 0
+    some a b l e = absurd (omega (arith, l, ap unsigned_abs e))
 
 -- ---- from the other end
 

@@ -20,11 +20,11 @@ use Rattle.solid_measure_laws.proofs.Paths.{begins, Leads, IsClosed, loop_closed
 
 -- ---- tests
 
-and_parts : (a b : Bool) → (a && b) ≡ true → (a ≡ true) × (b ≡ true)
+pub and_parts : (a b : Bool) → (a && b) ≡ true → (a ≡ true) × (b ≡ true)
 and_parts true b e = (refl, e)
 and_parts false b e = absurd (true≢false (sym e))
 
-list_parts : (p : ℕ → Bool) (xs ys : List ℕ) → list_all p (xs ++ ys) ≡ true → (list_all p xs ≡ true) × (list_all p ys ≡ true)
+pub list_parts : (p : ℕ → Bool) (xs ys : List ℕ) → list_all p (xs ++ ys) ≡ true → (list_all p xs ≡ true) × (list_all p ys ≡ true)
 list_parts p [] ys e = (refl, e)
 list_parts p (x ∷ xs) ys e = let a = and_parts (p x) (list_all p (xs ++ ys)) e in let r = list_parts p xs ys a.1 in (λ i. a.0 i && r.0 i, r.1)
 

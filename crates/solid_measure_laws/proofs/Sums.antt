@@ -1,11 +1,12 @@
 -- The areas of lists of half-edges: the order doesn't matter, and the other halves of the edges have the opposite area.
-use Rattle.std.proofs.Common.{◌≡◌, ℕ, ℤ, pos, ◌+ℤ◌, ◌-ℤ◌, ◌*ℤ◌, neg_ℤ, List, [], ◌∷◌, ◌++◌, map, reverse, refl, sym, ap, ◌∙◌, arith}
+use Rattle.std.proofs.Common.{◌≡◌, ℕ, ◌+◌, ℤ, pos, ◌+ℤ◌, ◌-ℤ◌, ◌*ℤ◌, neg_ℤ, List, [], ◌∷◌, ◌++◌, map, reverse, refl, sym, ap, ◌∙◌, arith, inl, inr}
+use Rattle.std.proofs.lemmas.Bool.Decides.{eqb_tells}
 use Rattle.std.proofs.lemmas.Int.{ints}
 use Rattle.std.proofs.lemmas.List.Sorted.{IsPermutation-reverse}
 use Rattle.lattice.specs.declared.Point.{Point}
-use Rattle.lattice.specs.Vectors.{origin, moved, cross}
-use Rattle.cyclic_list.specs.Items.{count, IsIn, SameItems, before, after}
-use Rattle.cyclic_list.proofs.Lists.{count-append, tick_same, split_at}
+use Rattle.lattice.specs.Vectors.{origin, moved, dot, cross}
+use Rattle.cyclic_list.specs.Items.{count, tick, IsIn, SameItems, before, after}
+use Rattle.cyclic_list.proofs.Lists.{count-append, tick_same, tick_other, split_at}
 use Rattle.cyclic_list.proofs.Std.{SameItems-from_permutation}
 use Rattle.boundary_model.specs.HalfEdge.{mate}
 use Rattle.boundary_model.specs.Model.{Model}
@@ -35,6 +36,22 @@ sum_back a b = omega (arith, ints)
 
 pub moved_back : (p q : Point) → moved (negated p) (negated q) ≡ negated (moved p q)
 moved_back p q = same_vector _ _ (sum_back p.x q.x) (sum_back p.y q.y) (sum_back p.z q.z)
+
+along_dif : (a b c e f g a' b' c' e' f' g' : ℕ) →
+    dif e e' *ℤ neg_ℤ (dif a a') +ℤ dif f f' *ℤ neg_ℤ (dif b b') +ℤ dif g g' *ℤ neg_ℤ (dif c c') ≡ neg_ℤ (dif e e' *ℤ dif a a' +ℤ dif f f' *ℤ dif b b' +ℤ dif g g' *ℤ dif c c')
+along_dif a b c e f g a' b' c' e' f' g' = simp (difs, neg-dif) (same_dif _ _ _ _ (omega arith))
+
+along_part : (a b c e f g : ℤ) → e *ℤ neg_ℤ a +ℤ f *ℤ neg_ℤ b +ℤ g *ℤ neg_ℤ c ≡ neg_ℤ (e *ℤ a +ℤ f *ℤ b +ℤ g *ℤ c)
+along_part a b c e f g = rw (dif-parts a, dif-parts b, dif-parts c, dif-parts e, dif-parts f, dif-parts g) (along_dif _ _ _ _ _ _ _ _ _ _ _ _)
+
+pub dot_back : (r p : Point) → dot r (negated p) ≡ neg_ℤ (dot r p)
+dot_back r p = along_part p.x p.y p.z r.x r.y r.z
+
+-- a vector and its opposite
+pub none_left : (p : Point) → moved p (negated p) ≡ origin
+none_left p = same_vector _ origin (none p.x) (none p.y) (none p.z) where
+  none : (a : ℤ) → a +ℤ neg_ℤ a ≡ pos 0
+  none a = omega (arith, ints)
 
 -- a vector that is its own opposite
 pub own_opposite : (p : Point) → p ≡ negated p → p ≡ origin
@@ -85,3 +102,25 @@ module _ (M : Model) where
   -- a path run the other way
   pub area_back : (hs : List ℕ) → area M (reverse (map mate hs)) ≡ negated (area M hs)
   area_back hs = area_reverse (map mate hs) ∙ area_mates hs
+
+  -- the two halves of an edge have no area together
+  pub halves_cancel : (h : ℕ) → moved (part h) (part (mate h)) ≡ origin
+  halves_cancel h = ap (moved (part h)) ((λ i. cross (finish M h) (start M (mate-mate h i))) ∙ cross_back (start M h) (finish M h)) ∙ none_left (part h)
+
+-- half-edges renamed, where they start and end as they did
+pub area_renamed : (M N : Model) (g : ℕ → ℕ) (hs : List ℕ) → ((h : ℕ) → IsIn h hs → (start N (g h) ≡ start M h) × (finish N (g h) ≡ finish M h)) → area N (map g hs) ≡ area M hs
+area_renamed M N g [] e = refl
+area_renamed M N g (h ∷ hs) e = let p = e h (first_in h hs) in λ i. moved (cross (p.0 i) (p.1 i)) (area_renamed M N g hs (λ x j. e x (rest_in x h hs j)) i)
+
+-- ---- counting
+
+-- an item stands among the other halves as often as its own other half stands in the list
+tick-mate : (x h : ℕ) → tick x (mate h) ≡ tick (mate x) h
+tick-mate x h = elim (eqb_tells x (mate h)) [
+  | inl e ↦ ap (λ k. tick k (mate h)) e.1 ∙ tick_same (mate h) ∙ sym (ap (λ k. tick k h) (ap mate e.1 ∙ mate-mate h) ∙ tick_same h)
+  | inr e ↦ tick_other x (mate h) e.1 ∙ sym (tick_other (mate x) h (λ s. e.1 (sym (mate-mate x) ∙ ap mate s)))
+]
+
+pub count-mates : (x : ℕ) (hs : List ℕ) → count x (map mate hs) ≡ count (mate x) hs
+count-mates x [] = refl
+count-mates x (h ∷ hs) = λ i. tick-mate x h i + count-mates x hs i

@@ -34,7 +34,7 @@ module _ (M : Model) where
   area_kept [] = refl
   area_kept (h ∷ hs) = λ i. moved (cross (start_kept h i) (start_kept (mate h) i)) (area_kept hs i)
 
-  outer_kept : (f : ℕ) → outer (turned M) f ≡ outer M f
+  pub outer_kept : (f : ℕ) → outer (turned M) f ≡ outer M f
   unfolding turned outer
   outer_kept f = refl
 

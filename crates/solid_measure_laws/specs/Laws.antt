@@ -1,8 +1,9 @@
 -- What normals and volumes obey.
-use Rattle.std.specs.Prelude.{◌≡◌, ℕ, ◌+◌, ◌<◌, pos, ◌+ℤ◌, unsigned_abs, true, List, map, reverse}
+use Rattle.std.specs.Prelude.{◌≡◌, ℕ, ◌+◌, ◌<◌, pos, ◌+ℤ◌, neg_ℤ, unsigned_abs, true, List, map, reverse}
+use Rattle.std.specs.List.{list_all}
 use Rattle.lattice.specs.declared.Point.{Point}
 use Rattle.lattice.specs.declared.Plane.{Plane}
-use Rattle.lattice.specs.Vectors.{origin, dot, height, is_on, are_opposite, cuts_lattice, cut_between}
+use Rattle.lattice.specs.Vectors.{origin, moved, dot, cross, height, is_on, are_opposite, cuts_lattice, cut_between}
 use Rattle.cyclic_list.specs.Items.{SameItems}
 use Rattle.boundary_model.specs.HalfEdge.{mate}
 use Rattle.boundary_model.specs.Model.{Model, point_of, faces_of}
@@ -37,6 +38,10 @@ OpposedFaces = (M : Model) (f g : ℕ) → SameItems (boundary M g) (map mate (b
 abbrev pub TurnedFaces : Type 0
 TurnedFaces = (M : Model) (f : ℕ) → normal (turned M) f ≡ negated (normal M f)
 
+-- and a solid with flat faces is turned inside out, with the opposite six volumes
+abbrev pub InvertedSolids : Type 0
+InvertedSolids = (M : Model) (s : ℕ) → Sound M → list_all (is_flat M) (faces_of M s) ≡ true → six_volume (turned M) s ≡ neg_ℤ (six_volume M s)
+
 -- a face keeps its normal where the model is moved
 abbrev pub ShiftedFaces : Type 0
 ShiftedFaces = (M : Model) (d : Point) (f : ℕ) → Sound M → normal (shifted M d) f ≡ normal M f
@@ -53,18 +58,26 @@ ClosedSolids = (M : Model) (s : ℕ) → Sound M → normals_in M (faces_of M s)
 abbrev pub MovedSolids : Type 0
 MovedSolids = (M : Model) (d : Point) (s : ℕ) → Sound M → six_volume (shifted M d) s ≡ six_volume M s
 
--- where the ends of a segment lie strictly on opposite sides of a plane, and the cut point is on the lattice, it lies on the plane
-abbrev pub CutsOnPlane : Type 0
-CutsOnPlane = (s : Plane) (p q : Point) → are_opposite s p q ≡ true → cuts_lattice s p q ≡ true → is_on s (cut_between s p q) ≡ true
-
 -- c lies inside the segment from p to q, and divides it as m to n
 abbrev pub Divides : ℕ → ℕ → Point → Point → Point → Type 0
 Divides m n p q c = (0 < m) × (0 < n) × (scaled (pos (m + n)) (towards p c) ≡ scaled (pos m) (towards p q))
+
+-- where the ends of a segment lie strictly on opposite sides of a plane, and the cut point is on the lattice, it lies on the plane
+abbrev pub CutsOnPlane : Type 0
+CutsOnPlane = (s : Plane) (p q : Point) → are_opposite s p q ≡ true → cuts_lattice s p q ≡ true → is_on s (cut_between s p q) ≡ true
 
 -- and inside the segment, which it divides as the heights of the ends
 abbrev pub CutsInside : Type 0
 CutsInside = (s : Plane) (p q : Point) → are_opposite s p q ≡ true → cuts_lattice s p q ≡ true → Divides (unsigned_abs (height s p)) (unsigned_abs (height s q)) p q (cut_between s p q)
 
--- and it is the same from either end
+-- and on each plane on which both ends lie
+abbrev pub CutsOnEachPlane : Type 0
+CutsOnEachPlane = (s t : Plane) (p q : Point) → are_opposite s p q ≡ true → cuts_lattice s p q ≡ true → is_on t p ≡ true → is_on t q ≡ true → is_on t (cut_between s p q) ≡ true
+
+-- a half-edge that is cut there keeps its part of an area
+abbrev pub CutsKeepAreas : Type 0
+CutsKeepAreas = (s : Plane) (p q : Point) → are_opposite s p q ≡ true → cuts_lattice s p q ≡ true → let c = cut_between s p q in moved (cross p c) (cross c q) ≡ cross p q
+
+-- the cut point is the same from either end
 abbrev pub CutsEitherWay : Type 0
 CutsEitherWay = (s : Plane) (p q : Point) → (cuts_lattice s q p ≡ cuts_lattice s p q) × (cut_between s q p ≡ cut_between s p q)
