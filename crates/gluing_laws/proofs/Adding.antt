@@ -5,12 +5,11 @@ use Rattle.std.proofs.lemmas.Int.{ints}
 use Rattle.std.proofs.lemmas.Bool.Decides.{nat_tests, eqb_tells}
 use Rattle.lattice.specs.declared.Point.{Point}
 use Rattle.lattice.specs.Vectors.{dot}
-use Rattle.cyclic_list.specs.Items.{count, tick, IsIn, SameItems, head_or}
+use Rattle.cyclic_list.specs.Items.{count, IsIn, SameItems, head_or}
 use Rattle.cyclic_list.specs.Rings.{successor}
 use Rattle.cyclic_list.proofs.Lists.{count-append, tick_same, tick_other}
 use Rattle.cyclic_list.proofs.Rings.{IsIn_successor}
 use Rattle.cyclic_list.proofs.Rotations.{IsIn_head}
-use Rattle.boundary_model.specs.HalfEdge.{mate}
 use Rattle.boundary_model.specs.Table as table
 use Rattle.boundary_model.specs.Table.{Table, tables}
 use Rattle.boundary_model.specs.Model.{Model, cycle, FaceRow, items_of, tail, content, outer, solid_of, point_of, rings_of, faces_of, after, cycle_of}

@@ -1,8 +1,7 @@
 -- What the conditions of a glue say, and the laws.
-use Rattle.std.proofs.Common.{◌≡◌, ◌≢◌, ℕ, ◌+ℤ◌, true, false, not, nat_eq, Bool, ◌&&◌, ◌||◌, List, [], ◌∷◌, map, reverse, None, is_some, refl, sym, ap, ◌∙◌, subst, true≢false, ◌⊎◌, inl, inr}
+use Rattle.std.proofs.Common.{◌≡◌, ◌≢◌, ℕ, ◌+ℤ◌, true, false, not, nat_eq, Bool, ◌&&◌, ◌||◌, List, [], ◌∷◌, reverse, None, is_some, refl, sym, ap, ◌∙◌, true≢false, ◌⊎◌, inl, inr}
 use Rattle.cyclic_list.specs.Items.{IsIn}
-use Rattle.boundary_model.specs.Table as table
-use Rattle.boundary_model.specs.Model.{Model, LoopContent, lone, cycle, FaceRow, items_of, content, face_of, outer, solid_of, rings_of}
+use Rattle.boundary_model.specs.Model.{Model, LoopContent, lone, cycle, items_of, content, face_of, outer, solid_of, rings_of}
 use Rattle.boundary_model.specs.Sound.{Sound, Has}
 use Rattle.boundary_model.proofs.Tables.{zero_first_where}
 use Rattle.euler_operators.specs.Conditions.{has_rings, is_empty, is_lone, lists}

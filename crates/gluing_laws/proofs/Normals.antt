@@ -1,32 +1,31 @@
 -- The other faces of the glued solid: their loops, normals and volumes are what they were.
-use Rattle.std.proofs.Common.{◌≡◌, ◌≢◌, ℕ, ℤ, true, false, cond, not, nat_eq, ◌&&◌, Bool, List, [], ◌∷◌, ◌++◌, Option, Some, None, is_some, unwrap_or, refl, sym, ap, ◌∙◌, arith, true≢false, ◌⊎◌, inl, inr}
+use Rattle.std.proofs.Common.{◌≡◌, ◌≢◌, ℕ, true, false, cond, not, nat_eq, ◌&&◌, Bool, List, [], ◌∷◌, ◌++◌, Option, Some, None, unwrap_or, refl, sym, ap, ◌∙◌, arith, true≢false, inl, inr}
 use Rattle.std.specs.Prelude.{map}
 use Rattle.std.specs.Option.{option_map}
 use Rattle.std.proofs.lemmas.Bool.Decides.{nat_tests, eqb_tells}
-use Rattle.lattice.specs.declared.Point.{Point}
 use Rattle.lattice.specs.Vectors.{moved, dot, cross}
-use Rattle.cyclic_list.specs.Items.{count, tick, IsIn, head_or}
+use Rattle.cyclic_list.specs.Items.{count, IsIn, head_or}
 use Rattle.cyclic_list.specs.Rings.{canonical}
 use Rattle.cyclic_list.proofs.Lists.{tick_same}
 use Rattle.cyclic_list.proofs.Rotations.{count-canonical, canonical_nil, IsIn_head}
 use Rattle.cyclic_list.proofs.Maps.{from_map}
 use Rattle.boundary_model.specs.Table as table
 use Rattle.boundary_model.specs.Table.{Table, tables, get-map_rows}
-use Rattle.boundary_model.specs.Model.{Model, LoopContent, lone, cycle, FaceRow, LoopRow, no_face, no_loop, items_of, tail, loop_of, content, face_of, outer, solid_of, point_of, rings_of}
+use Rattle.boundary_model.specs.Model.{Model, LoopContent, lone, cycle, FaceRow, LoopRow, no_face, no_loop, items_of, tail, content, face_of, outer, solid_of, point_of, rings_of}
 use Rattle.boundary_model.specs.Sound.{Has, StandsIn}
 use Rattle.boundary_model.proofs.Models.{in-holds, face_row}
 use Rattle.euler_operators.specs.Conditions.{lists}
 use Rattle.euler_operators.specs.Effect.{faces_to_solid}
 use Rattle.euler_laws_shared.proofs.Goes.{equal, differs}
 use Rattle.euler_laws_shared.proofs.Listed.{first_listed, rest_listed, listed_cases, listed_passes}
-use Rattle.shapes.specs.Faces.{start, finish, items_in, loops_of, boundary, corners, vertices_on}
+use Rattle.shapes.specs.Faces.{start, items_in, loops_of, boundary, corners, vertices_on}
 use Rattle.shapes.specs.Rewriting.{rewritten, rewritten_row}
 use Rattle.solid_measure.specs.Measure.{area, normal, anchor, first_vertex, is_flat}
 use Rattle.solid_measure.proofs.Areas.{area-append}
 use Rattle.solid_measure_laws.proofs.FlatFaces.{corner_told}
 use Rattle.solid_measure_laws.proofs.Paths.{first_in, rest_in}
 use Rattle.solid_measure_laws.proofs.Sums.{area_same}
-use Rattle.gluing_laws.proofs.Listed.{one_if, passed, same_search, listed_in, volume_of}
+use Rattle.gluing_laws.proofs.Listed.{one_if, passed, same_search, volume_of}
 use Rattle.gluing_laws.proofs.Seams as seams
 use Rattle.gluing_laws.proofs.Seams.{Seamed, Glued}
 use Rattle.gluing_laws.proofs.Places as places

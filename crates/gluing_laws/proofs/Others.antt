@@ -9,7 +9,7 @@ use Rattle.cyclic_list.proofs.Rotations.{IsIn_head}
 use Rattle.boundary_model.specs.HalfEdge.{mate}
 use Rattle.boundary_model.specs.Table as table
 use Rattle.boundary_model.specs.Table.{Table, tables}
-use Rattle.boundary_model.specs.Model.{Model, LoopContent, lone, cycle, FaceRow, items_of, holds, tail, loop_of, content, face_of, outer, solid_of, point_of, faces_of}
+use Rattle.boundary_model.specs.Model.{Model, LoopContent, lone, cycle, FaceRow, holds, tail, content, face_of, outer, solid_of, point_of, faces_of}
 use Rattle.boundary_model.specs.Sound.{Has, StandsIn}
 use Rattle.boundary_model.proofs.Models.{in-holds}
 use Rattle.euler_operators.specs.Conditions.{lists}

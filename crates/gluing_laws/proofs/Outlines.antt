@@ -13,9 +13,9 @@ use Rattle.cyclic_list.proofs.Lists.{tick_same, tick_other, IsIn_or_not}
 use Rattle.cyclic_list.proofs.Rotations.{IsRotation-same, IsApart-same}
 use Rattle.cyclic_list.proofs.Rings.{IsIn_successor, IsIn_predecessor, predecessor_same, predecessor-successor, successor-predecessor}
 use Rattle.cyclic_list.proofs.Maps.{IsSeparate, from_map, count-reverse, successor-map, successor-reverse, IsApart-map}
-use Rattle.boundary_model.specs.HalfEdge.{mate, edge_of}
+use Rattle.boundary_model.specs.HalfEdge.{edge_of}
 use Rattle.boundary_model.specs.Table as table
-use Rattle.boundary_model.specs.Model.{Model, cycle, holds, items_of, tail, loop_of, content, outer, after, cycle_of, point_of}
+use Rattle.boundary_model.specs.Model.{Model, cycle, holds, items_of, tail, content, after, cycle_of, point_of}
 use Rattle.boundary_model.specs.Sound.{Sound, Has, HasHalf, StandsIn}
 use Rattle.boundary_model.proofs.Models.{in-holds}
 use Rattle.euler_laws_shared.proofs.Goes.{no_zero}
