@@ -1,10 +1,6 @@
 -- Two loops whose outlines are each other's reverse: the partners of the items of one are the items of the other, back along them.
-use Rattle.std.proofs.Common.{◌≡◌, ◌≢◌, ℕ, zero, suc, true, false, cond, Bool, ◌&&◌, ◌||◌, List, [], ◌∷◌, ◌++◌, map, reverse, length, take, drop, refl, sym, ap, ◌∙◌, subst, arith, true≢false, inl, inr}
-use Rattle.std.specs.List.{list_any}
-use Rattle.std.specs.Ordering.{int_eq}
-use Rattle.std.specs.Cmp.{signed_Decides}
-use Rattle.std.proofs.lemmas.Bool.Decides.{eqb_tells}
-use Rattle.std.proofs.lemmas.List.{append-nil, map-append, reverse-append, reverse-reverse}
+use Rattle.std.proofs.Common.{◌≡◌, ◌≢◌, ℕ, zero, suc, true, false, cond, Bool, List, [], ◌∷◌, ◌++◌, map, reverse, length, take, drop, refl, sym, ap, ◌∙◌, subst, arith, true≢false, inl, inr}
+use Rattle.std.proofs.lemmas.List.{map-append, reverse-append, reverse-reverse}
 use Rattle.lattice.specs.declared.Point.{Point}
 use Rattle.lattice.specs.Vectors.{same_point}
 use Rattle.cyclic_list.specs.Items.{count, IsIn, IsApart, SameItems}
@@ -21,28 +17,9 @@ use Rattle.boundary_model.proofs.Models.{in-holds}
 use Rattle.euler_laws_shared.proofs.Goes.{no_zero}
 use Rattle.shapes.specs.Faces.{start, finish}
 use Rattle.shapes.specs.Fresh.{first_such}
-use Rattle.glue_laws.specs.Glue.{has_repeats, same_points, is_turned, is_rotation, partner}
+use Rattle.glue_laws.specs.Glue.{has_repeats, is_rotation, partner}
 use Rattle.glue_laws.proofs.Facing.{in_map}
-
--- ---- tests
-
-and_parts : (a b : Bool) → (a && b) ≡ true → (a ≡ true) × (b ≡ true)
-and_parts true b e = (refl, e)
-and_parts false b e = absurd (true≢false (sym e))
-
-or_parts : (a b : Bool) → (a || b) ≡ false → (a ≡ false) × (b ≡ false)
-or_parts true b e = absurd (true≢false e)
-or_parts false b e = (refl, e)
-
-or_true : (a : Bool) → (a || true) ≡ true
-or_true true = refl
-or_true false = refl
-
-pub point_is : (p q : Point) → same_point p q ≡ true → p ≡ q
-point_is p q e =
-    let a = and_parts (int_eq p.x q.x && int_eq p.y q.y) (int_eq p.z q.z) e in
-    let b = and_parts (int_eq p.x q.x) (int_eq p.y q.y) a.0 in
-    λ i. record { x = (signed_Decides p.x q.x).0 b.0 i; y = (signed_Decides p.y q.y).0 b.1 i; z = (signed_Decides p.z q.z).0 a.1 i }
+use Rattle.glue_laws.proofs.Points.{same_is, is_same, once, turned_by}
 
 -- ---- searches
 
@@ -64,19 +41,6 @@ such_there p (n ∷ ns) x i e = elim (p n) as (λ b. p n ≡ b → (p (cond b n 
 
 -- ---- lists of points
 
-same_points_is : (ps qs : List Point) → same_points ps qs ≡ true → ps ≡ qs
-same_points_is [] [] e = refl
-same_points_is [] (q ∷ qs) e = absurd (true≢false (sym e))
-same_points_is (p ∷ ps) [] e = absurd (true≢false (sym e))
-same_points_is (p ∷ ps) (q ∷ qs) e = let a = and_parts (same_point p q) (same_points ps qs) e in λ i. point_is p q a.0 i ∷ same_points_is ps qs a.1 i
-
-turned_by : (n : ℕ) (ps qs : List Point) → is_turned n ps qs ≡ true → (k : ℕ) × (ps ≡ drop k qs ++ take k qs)
-turned_by zero ps qs e = (0, same_points_is ps qs e ∙ sym (append-nil qs))
-turned_by (suc n) ps qs e = elim (same_points ps (drop (suc n) qs ++ take (suc n) qs)) as (λ b. same_points ps (drop (suc n) qs ++ take (suc n) qs) ≡ b → (b || is_turned n ps qs) ≡ true → (k : ℕ) × (ps ≡ drop k qs ++ take k qs)) [
-  | true ↦ λ t r. (suc n, same_points_is ps (drop (suc n) qs ++ take (suc n) qs) t)
-  | false ↦ λ t r. turned_by n ps qs r
-] refl e
-
 take_rest : (k : ℕ) (qs : List Point) → qs ≡ take k qs ++ drop k qs
 take_rest zero qs = refl
 take_rest (suc k) [] = refl
@@ -85,33 +49,6 @@ take_rest (suc k) (q ∷ qs) = ap (λ t. q ∷ t) (take_rest k qs)
 map_reverse : (a : Point → ℕ) (ps : List Point) → map a (reverse ps) ≡ reverse (map a ps)
 map_reverse a [] = refl
 map_reverse a (p ∷ ps) = ap (map a) (reverse-append (p ∷ []) ps) ∙ map-append a (reverse ps) (p ∷ []) ∙ ap (λ q. q ++ a p ∷ []) (map_reverse a ps) ∙ sym (reverse-append (a p ∷ []) (map a ps))
-
-module _ (M : Model) where
-  same_itself : (p q : Point) → p ≡ q → same_point p q ≡ true
-  same_itself p q e = λ i. (signed_Decides p.x q.x).1 (ap (λ v. v.x) e) i && (signed_Decides p.y q.y).1 (ap (λ v. v.y) e) i && (signed_Decides p.z q.z).1 (ap (λ v. v.z) e) i
-
-  any_in : (p : Point) (k : ℕ) (xs : List ℕ) → IsIn k xs → p ≡ start M k → list_any (same_point p) (map (start M) xs) ≡ true
-  any_in p k [] i e = absurd (omega (arith, i))
-  any_in p k (y ∷ ys) i e = elim (eqb_tells k y) [
-    | inl s ↦ ap (λ b. b || list_any (same_point p) (map (start M) ys)) (same_itself p (start M y) (e ∙ ap (start M) s.1))
-    | inr ne ↦ ap (λ b. same_point p (start M y) || b) (any_in p k ys (omega (arith, i, tick_other k y ne.1)) e) ∙ or_true (same_point p (start M y))
-  ]
-
-  -- where no point is repeated, no two items start at one
-  pub start_once : (xs : List ℕ) → has_repeats (map (start M) xs) ≡ false → (h k : ℕ) → IsIn h xs → IsIn k xs → start M h ≡ start M k → h ≡ k
-  start_once [] r h k i j e = absurd (omega (arith, i))
-  start_once (x ∷ xs) r h k i j e =
-      let a = or_parts (list_any (same_point (start M x)) (map (start M) xs)) (has_repeats (map (start M) xs)) r in
-      elim (eqb_tells h x) [
-        | inl p ↦ elim (eqb_tells k x) [
-          | inl q ↦ p.1 ∙ sym q.1
-          | inr q ↦ absurd (true≢false (sym (any_in (start M x) k xs (omega (arith, j, tick_other k x q.1)) (ap (start M) (sym p.1) ∙ e)) ∙ a.0))
-        ]
-        | inr p ↦ elim (eqb_tells k x) [
-          | inl q ↦ absurd (true≢false (sym (any_in (start M x) h xs (omega (arith, i, tick_other h x p.1)) (ap (start M) (sym q.1) ∙ sym e)) ∙ a.0))
-          | inr q ↦ start_once xs a.1 h k (omega (arith, i, tick_other h x p.1)) (omega (arith, j, tick_other k x q.1)) e
-        ]
-      ]
 
 -- the outlines of two loops match
 pub record Outlined (M : Model) (l r : ℕ) (hs gs : List ℕ) : Type 0 where
@@ -154,17 +91,17 @@ module _ (M : Model) (l r : ℕ) (hs gs : List ℕ) (w : Outlined M l r hs gs) w
   not_zero h i e = no_half_zero (subst (λ k. HasHalf M k) e (item_ends l hs w.first h i).0)
 
   once_f : (h k : ℕ) → IsIn h hs → IsIn k hs → start M h ≡ start M k → h ≡ k
-  once_f = start_once M hs w.once_first
+  once_f = once (start M) hs w.once_first
 
   once_g : (h k : ℕ) → IsIn h gs → IsIn k gs → start M h ≡ start M k → h ≡ k
-  once_g = start_once M gs w.once_second
+  once_g = once (start M) gs w.once_second
 
   -- the item of the first loop that starts at a point
   abbrev item_at : Point → ℕ
   item_at p = first_such (λ h. same_point (start M h) p) hs
 
   item_again : (h : ℕ) → IsIn h hs → item_at (start M h) ≡ h
-  item_again h i = let s = such_there (λ k. same_point (start M k) (start M h)) hs h i (same_itself M (start M h) (start M h) refl) in once_f (item_at (start M h)) h s.1 i (point_is (start M (item_at (start M h))) (start M h) s.0)
+  item_again h i = let s = such_there (λ k. same_point (start M k) (start M h)) hs h i (is_same (start M h) (start M h) refl) in once_f (item_at (start M h)) h s.1 i (same_is (start M (item_at (start M h))) (start M h) s.0)
 
   all_again : (xs : List ℕ) → ((x : ℕ) → IsIn x xs → IsIn x hs) → map item_at (map (start M) xs) ≡ xs
   all_again [] within = refl
@@ -196,7 +133,7 @@ module _ (M : Model) (l r : ℕ) (hs gs : List ℕ) (w : Outlined M l r hs gs) w
   faces_item : (k : ℕ) → IsIn k gs → IsIn (facing k) hs × (start M (facing k) ≡ start M k)
   faces_item k i =
       let j : IsIn (facing k) hs = omega (arith, in_map facing k gs i, counts (facing k)) in
-      (j, point_is (start M (facing k)) (start M k) (found_such (λ h. same_point (start M h) (start M k)) hs (not_zero (facing k) j)).0)
+      (j, same_is (start M (facing k)) (start M k) (found_such (λ h. same_point (start M h) (start M k)) hs (not_zero (facing k) j)).0)
 
   separate : (k : ℕ) → IsIn k gs → IsSeparate facing k gs
   separate k i y j e = once_g k y i j (sym (faces_item k i).1 ∙ ap (start M) e ∙ (faces_item y j).1)
@@ -223,10 +160,10 @@ module _ (M : Model) (l r : ℕ) (hs gs : List ℕ) (w : Outlined M l r hs gs) w
   partner_found h i =
       let n = IsIn_successor h hs i in
       let k = from_map facing (successor hs h) gs (omega (arith, n, counts (successor hs h))) in
-      such_there (λ g. same_point (start M g) (finish M h)) gs k.0 k.1 (same_itself M (start M k.0) (finish M h) (sym (faces_item k.0 k.1).1 ∙ ap (start M) (sym k.2) ∙ sym (next_f h i)))
+      such_there (λ g. same_point (start M g) (finish M h)) gs k.0 k.1 (is_same (start M k.0) (finish M h) (sym (faces_item k.0 k.1).1 ∙ ap (start M) (sym k.2) ∙ sym (next_f h i)))
 
   pub partner_starts : (h : ℕ) → IsIn h hs → start M (partner M gs h) ≡ finish M h
-  partner_starts h i = point_is (start M (partner M gs h)) (finish M h) (partner_found h i).0
+  partner_starts h i = same_is (start M (partner M gs h)) (finish M h) (partner_found h i).0
 
   partner_in : (h : ℕ) → IsIn h hs → IsIn (partner M gs h) gs
   partner_in h i = (partner_found h i).1
