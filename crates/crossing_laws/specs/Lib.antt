@@ -1,0 +1,2 @@
+pub mod CrossingOps
+pub mod Kept
