@@ -1,3 +1,5 @@
 pub mod Doubled
 pub mod OneCut
 pub mod Steps
+pub mod Counters
+pub mod Runs

@@ -115,13 +115,13 @@ module _ (M : Model) (e k v : ℕ) (q : Point) (goes : CutGoes M e k v q) where
       (ap (holds h) (content-new M (edge_cut M e k v q) (rewritten (flat_map (doubled e k))) rewrites (loop_of M h))
       ∙ still_held e k h (content M (loop_of M h)) (holds_in h (content M (loop_of M h)) (goes.can.sound.stands h there)))
 
-  apart_new : (x : ℕ) → Has M.edges x → x ≢ k
+  pub apart_new : (x : ℕ) → Has M.edges x → x ≢ k
   apart_new x there is = true≢false (sym there ∙ ap is_some (ap (table.get M.edges) is ∙ goes.can.edge_free))
 
   e_there : Has M.edges e
   e_there = goes.can.there
 
-  edge_other : (x : ℕ) → x ≢ e → x ≢ k → table.get (edge_cut M e k v q).edges x ≡ table.get M.edges x
+  pub edge_other : (x : ℕ) → x ≢ e → x ≢ k → table.get (edge_cut M e k v q).edges x ≡ table.get M.edges x
   unfolding edge_cut
   edge_other x a b = get-put_other _ e _ x a ∙ get-put_other M.edges k _ x b
 
