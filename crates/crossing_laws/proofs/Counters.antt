@@ -40,7 +40,7 @@ module _ (M : Model) (e k v : ℕ) (q : Point) (there : Has M.edges e) (k_above 
       let apart : k ≢ e = λ s. let l : e ≤ table.greatest M.edges = at_most_greatest M.edges e there in absurd (omega arith) in
       ap table.greatest (put_turned M.edges k e (record { plus_tail = tail M (plus e); minus_tail = v }) (record { plus_tail = v; minus_tail = tail M (minus e) }) apart)
       ∙ greatest-put_last (table.put M.edges e (record { plus_tail = v; minus_tail = tail M (minus e) })) k (record { plus_tail = tail M (plus e); minus_tail = v })
-          (subst (λ n. n < k) (sym (greatest-put_old M.edges e (record { plus_tail = v; minus_tail = tail M (minus e) }) there)) k_above)
+      (subst (λ n. n < k) (sym (greatest-put_old M.edges e (record { plus_tail = v; minus_tail = tail M (minus e) }) there)) k_above)
 
   vertices_greatest : table.greatest (edge_cut M e k v q).vertices ≡ v
   unfolding edge_cut

@@ -1,3 +1,4 @@
+pub mod Levels
 pub mod Doubled
 pub mod OneCut
 pub mod Steps

@@ -23,6 +23,7 @@ use Rattle.split_shapes.specs.Sides.{crosses}
 use Rattle.split_shapes.specs.Crossings.{edge_cut, next_cut, all_cut}
 use Rattle.crossing_laws.specs.CrossingOps.{cut_edge, ops_from}
 use Rattle.crossing_laws.specs.Kept.{Kept}
+use Rattle.crossing_laws.proofs.Levels.{level_first, level_second}
 use Rattle.crossing_laws.proofs.OneCut.{CanCut}
 use Rattle.crossing_laws.proofs.Steps.{CutGoes, cut_accepted, cut_made, cut_sound, cut_keeps, edge_other, apart_new, point_new, tail_old, tail_new, tail_other}
 use Rattle.crossing_laws.proofs.Counters.{taken_then}
@@ -47,12 +48,6 @@ pub record AreCut (M N : Model) (p : Plane) (ds : List ℕ) : Type 0 where
   pub plus_tails : (x : ℕ) → Has M.edges x → count x ds ≡ 0 → tail N (plus x) ≡ tail M (plus x)
   pub cut_starts : (x : ℕ) → Has M.edges x → IsIn x ds → start N (plus x) ≡ cut_at M p x
   pub cleared : (x : ℕ) → Has N.edges x → (Has M.edges x × (count x ds ≡ 0)) ⊎ (crosses N p (plus x) ≡ false)
-
-level_first : (m n : ℤ) → m ≡ pos 0 → opposite m n ≡ false
-level_first m n e = grind (arith, ints)
-
-level_second : (m n : ℤ) → n ≡ pos 0 → opposite m n ≡ false
-level_second m n e = grind (arith, ints)
 
 plus_half : (M : Model) (x : ℕ) → Has M.edges x → HasHalf M (plus x)
 plus_half M x there = ap (table.has M.edges) (plus_row x).0 ∙ there
@@ -164,3 +159,111 @@ module _ (M N : Model) (p : Plane) (ds : List ℕ) (sound : Sound M) (a : AreCut
     ];
     cleared = clear_now;
   }
+
+-- ---- all of a list
+
+-- the model of g is M with the edges of ds cut, and those of rs are still to be cut
+pub record Going (M : Model) (p : Plane) (g : Growing) (ds rs : List ℕ) : Type 0 where
+  pub cut : AreCut M g.model p ds
+  pub counted : g.taken ≡ taken_in g.model
+  pub crossing : (x : ℕ) → IsIn x rs → Crossing M p x
+  pub apart : (x : ℕ) → count x ds + count x rs ≤ 1
+  pub edges_left : g.taken.edge + length rs ≤ 1000000
+  pub vertices_left : g.taken.vertex + length rs ≤ 1000000
+
+-- its operators are accepted in turn and leave the model in which all are cut, and the counters are right
+pub record Gone (M : Model) (p : Plane) (g : Growing) (ds rs : List ℕ) : Type 0 where
+  pub accepted : AreAccepted g.model (ops_from p g rs)
+  pub made : effects g.model (ops_from p g rs) ≡ (all_cut p g rs).model
+  pub counted : (all_cut p g rs).taken ≡ taken_in (all_cut p g rs).model
+  pub list : List ℕ
+  pub cut : AreCut M (all_cut p g rs).model p list
+  pub same : (x : ℕ) → count x list ≡ count x ds + count x rs
+
+module _ (M : Model) (p : Plane) (sound : Sound M) (g : Growing) (ds : List ℕ) (e : ℕ) (rs : List ℕ) (w : Going M p g ds (e ∷ rs)) where
+  crossing_now : Crossing M p e
+  crossing_now = w.crossing e (omega (arith, tick_same e))
+
+  edge_is : g.taken.edge ≡ table.greatest g.model.edges
+  unfolding taken_in
+  edge_is = ap (λ c. c.edge) w.counted
+
+  vertex_is : g.taken.vertex ≡ table.greatest g.model.vertices
+  unfolding taken_in
+  vertex_is = ap (λ c. c.vertex) w.counted
+
+  edge_above : table.greatest g.model.edges < g.taken.edge + 1
+  edge_above = omega (arith, edge_is)
+
+  vertex_above : table.greatest g.model.vertices < g.taken.vertex + 1
+  vertex_above = omega (arith, vertex_is)
+
+  uncut_now : count e ds ≡ 0
+  uncut_now = omega (arith, w.apart e, tick_same e)
+
+  edge_free_now : table.get g.model.edges (g.taken.edge + 1) ≡ None
+  edge_free_now = none_above g.model.edges (g.taken.edge + 1) edge_above
+
+  vertex_free_now : table.get g.model.vertices (g.taken.vertex + 1) ≡ None
+  vertex_free_now = none_above g.model.vertices (g.taken.vertex + 1) vertex_above
+
+  edge_fits_now : IsTrue (is_number (g.taken.edge + 1))
+  edge_fits_now = number_fits (g.taken.edge + 1) (omega arith) (omega (arith, w.edges_left))
+
+  vertex_fits_now : IsTrue (is_number (g.taken.vertex + 1))
+  vertex_fits_now = number_fits (g.taken.vertex + 1) (omega arith) (omega (arith, w.vertices_left))
+
+  goes_now : CutGoes g.model e (g.taken.edge + 1) (g.taken.vertex + 1) (cut_at g.model p e)
+  goes_now = goes M g.model p ds sound w.cut e (g.taken.edge + 1) (g.taken.vertex + 1) crossing_now uncut_now edge_free_now vertex_free_now edge_fits_now vertex_fits_now
+
+  next_model : (next_cut p g e).model ≡ edge_cut g.model e (g.taken.edge + 1) (g.taken.vertex + 1) (cut_at g.model p e)
+  unfolding next_cut
+  next_model = refl
+
+  next_taken : (next_cut p g e).taken ≡ record g.taken { edge = g.taken.edge + 1; vertex = g.taken.vertex + 1 }
+  unfolding next_cut
+  next_taken = refl
+
+  accepted_now : AreAccepted g.model (cut_edge p g e ∷ [])
+  accepted_now = (cut_accepted g.model e (g.taken.edge + 1) (g.taken.vertex + 1) (cut_at g.model p e) goes_now, tt)
+
+  made_now : effects g.model (cut_edge p g e ∷ []) ≡ (next_cut p g e).model
+  made_now = cut_made g.model e (g.taken.edge + 1) (g.taken.vertex + 1) (cut_at g.model p e) goes_now ∙ sym next_model
+
+  going_on : Going M p (next_cut p g e) (e ∷ ds) rs
+  going_on = record {
+    cut = subst (λ K. AreCut M K p (e ∷ ds)) (sym next_model)
+        (cut_more M g.model p ds sound w.cut e (g.taken.edge + 1) (g.taken.vertex + 1) crossing_now uncut_now edge_free_now vertex_free_now edge_fits_now vertex_fits_now);
+    counted = next_taken ∙ (λ i. record (w.counted i) { edge = g.taken.edge + 1; vertex = g.taken.vertex + 1 })
+        ∙ sym (taken_then g.model e (g.taken.edge + 1) (g.taken.vertex + 1) (cut_at g.model p e) goes_now.can.there edge_above vertex_above)
+        ∙ ap taken_in (sym next_model);
+    crossing = λ x i. w.crossing x (omega (arith, i));
+    apart = λ x. omega (arith, w.apart x);
+    edges_left = subst (λ c. c.edge + length rs ≤ 1000000) (sym next_taken) (omega (arith, w.edges_left));
+    vertices_left = subst (λ c. c.vertex + length rs ≤ 1000000) (sym next_taken) (omega (arith, w.vertices_left));
+  }
+
+pub all_gone : (M : Model) (p : Plane) → Sound M → (g : Growing) (ds rs : List ℕ) → Going M p g ds rs → Gone M p g ds rs
+all_gone M p sound g ds [] w = record { accepted = tt; made = refl; counted = w.counted; list = ds; cut = w.cut; same = λ x. omega arith }
+all_gone M p sound g ds (e ∷ rs) w =
+    let r : Gone M p (next_cut p g e) (e ∷ ds) rs = all_gone M p sound (next_cut p g e) (e ∷ ds) rs (going_on M p sound g ds e rs w) in
+    let m : effects g.model (cut_edge p g e ∷ []) ≡ (next_cut p g e).model = made_now M p sound g ds e rs w in
+    record {
+      accepted = ((accepted_now M p sound g ds e rs w).0, subst (λ X. AreAccepted X (ops_from p (next_cut p g e) rs)) (sym m) r.accepted);
+      made = ap (λ X. effects X (ops_from p (next_cut p g e) rs)) m ∙ r.made;
+      counted = r.counted;
+      list = r.list;
+      cut = r.cut;
+      same = λ x. omega (arith, r.same x);
+    }
+
+-- none is cut
+pub none_cut : (M : Model) (p : Plane) → Sound M → AreCut M M p []
+none_cut M p sound = record {
+  sound = sound;
+  kept = record { solids = refl; faces = refl; loops = λ l. refl; face = λ l. refl; halves = λ h there. there; loop = λ h there. refl; points = λ v there. refl };
+  minus_tails = λ x there. refl;
+  plus_tails = λ x there none. refl;
+  cut_starts = λ x there i. absurd (omega (arith, i));
+  cleared = λ x there. inl (there, refl);
+}
