@@ -6,3 +6,4 @@ pub mod Counters
 pub mod Runs
 pub mod Listed
 pub mod Premises
+pub mod Whole

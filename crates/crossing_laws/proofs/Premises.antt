@@ -137,24 +137,24 @@ module _ (M : Model) (sound : Sound M) (s : ℕ) (p : Plane) where
     near_end : finish M (minus e) ≡ start M (plus e)
     near_end = ap (start M) (mate_minus e)
 
-    plus_crosses : are_opposite p (start M (plus e)) (start M (minus e)) ≡ true
+    pub plus_crosses : are_opposite p (start M (plus e)) (start M (minus e)) ≡ true
     plus_crosses = ap (are_opposite p (start M (plus e))) (sym far_end) ∙ (edge_facts e i).2
 
-    minus_crosses : are_opposite p (start M (minus e)) (start M (plus e)) ≡ true
+    pub minus_crosses : are_opposite p (start M (minus e)) (start M (plus e)) ≡ true
     minus_crosses = opposite_back (height p (start M (plus e))) (height p (start M (minus e))) plus_crosses
 
-    minus_is : crosses M p (minus e) ≡ true
+    pub minus_is : crosses M p (minus e) ≡ true
     minus_is = ap (are_opposite p (start M (minus e))) near_end ∙ minus_crosses
 
     crossing_is_place : (h : ℕ) → crosses M p h ≡ true → is_place M p h ≡ true
     unfolding is_place
     crossing_is_place h x = ap (λ b. b || (is_on p (start M h) && are_opposite p (start M (before M h)) (finish M h))) x
 
-    crossing_point : (h : ℕ) → crosses M p h ≡ true → place_point M p h ≡ cut_between p (start M h) (finish M h)
+    pub crossing_point : (h : ℕ) → crosses M p h ≡ true → place_point M p h ≡ cut_between p (start M h) (finish M h)
     unfolding place_point
     crossing_point h x = ap (λ b. cond b (start M h) (cut_between p (start M h) (finish M h))) (not_level (height p (start M h)) (height p (finish M h)) x)
 
-    one_point : place_point M p (plus e) ≡ place_point M p (minus e)
+    pub one_point : place_point M p (plus e) ≡ place_point M p (minus e)
     one_point = crossing_point (plus e) (edge_facts e i).2
         ∙ ap (cut_between p (start M (plus e))) far_end
         ∙ sym (cut_back p (start M (plus e)) (start M (minus e)) plus_crosses)
