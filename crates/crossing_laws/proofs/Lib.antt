@@ -7,3 +7,5 @@ pub mod Runs
 pub mod Listed
 pub mod Premises
 pub mod Whole
+pub mod Places
+mod WorkedCrossings

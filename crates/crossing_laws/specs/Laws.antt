@@ -1,16 +1,18 @@
 -- The laws of the first rewriting of a split, over every sound model in which the first conditions hold.
-use Rattle.std.specs.Prelude.{◌≡◌, ℕ, List, [], None}
+use Rattle.std.specs.Prelude.{◌≡◌, ℕ, true, [], None}
 use Rattle.lattice.specs.declared.Plane.{Plane}
 use Rattle.boundary_model.specs.Model.{Model}
 use Rattle.boundary_model.specs.Sound.{Sound}
-use Rattle.euler_operators.specs.Conditions.{first_refusal}
+use Rattle.euler_operators.specs.Conditions.{first_refusal, lists}
 use Rattle.euler_laws.specs.Laws.{AreAccepted, effects}
 use Rattle.shapes.specs.Fresh.{taken_in}
-use Rattle.split_shapes.specs.Sides.{crossing_edges}
+use Rattle.split_shapes.specs.Sides.{crossing_edges, straddling_faces}
+use Rattle.split_shapes.specs.Places.{places}
 use Rattle.split_shapes.specs.Crossings.{with_crossings}
 use Rattle.split_shapes.specs.Split.{first_conditions}
 use Rattle.crossing_laws.specs.CrossingOps.{crossing_ops}
 use Rattle.crossing_laws.specs.Kept.{Kept}
+use Rattle.crossing_laws.specs.AtPlace.{AtPlace}
 
 -- the conditions that are tested before anything is changed hold
 abbrev pub CanBegin : Model → ℕ → Plane → ℕ → Type 0
@@ -38,3 +40,7 @@ CrossingsKeep = (M : Model) (s : ℕ) (p : Plane) (t : ℕ) → Sound M → CanB
 -- no edge of the solid crosses the plane any more
 abbrev pub NoneCrosses : Type 0
 NoneCrosses = (M : Model) (s : ℕ) (p : Plane) (t : ℕ) → Sound M → CanBegin M s p t → crossing_edges (with_crossings M s p).model p s ≡ []
+
+-- each cut place of a face that straddles is where edges are drawn from then: a half-edge starts at its point, in its loop
+abbrev pub PlacesStart : Type 0
+PlacesStart = (M : Model) (s : ℕ) (p : Plane) (t : ℕ) → Sound M → CanBegin M s p t → (f h : ℕ) → lists (straddling_faces M p s) f ≡ true → lists (places M p f) h ≡ true → AtPlace M (with_crossings M s p).model p h

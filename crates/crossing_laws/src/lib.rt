@@ -2,7 +2,7 @@
 //! contracts are what is proved, over every sound model in which the first conditions of a split hold.
 #![tactic(auto)]
 
-ghost use Rattle.crossing_laws.specs.Laws.{CrossingsAreAccepted, CrossingsAreMade, CrossingsAreSound, CrossingsAreCounted, CrossingsKeep, NoneCrosses};
+ghost use Rattle.crossing_laws.specs.Laws.{CrossingsAreAccepted, CrossingsAreMade, CrossingsAreSound, CrossingsAreCounted, CrossingsKeep, NoneCrosses, PlacesStart};
 
 /// None of the operators that cut the crossing edges is refused; together they make the first rewriting, a sound model in
 /// which the numbers taken are the greatest in use.
@@ -14,8 +14,9 @@ pub fn operators_cut_crossings()
 {}
 
 /// Solids and faces stay, each loop keeps its face, each half-edge its loop and each vertex its point; no edge of the
-/// solid crosses the plane any more.
+/// solid crosses the plane any more; and at each cut place of a face that straddles, a half-edge starts at its point.
 pub fn crossings_leave()
     ensures kept { CrossingsKeep }
     ensures cleared { NoneCrosses }
+    ensures starts { PlacesStart }
 {}
