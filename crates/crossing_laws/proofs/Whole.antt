@@ -10,13 +10,13 @@ use Rattle.boundary_model.specs.Table as table
 use Rattle.boundary_model.specs.Model.{Model, tail, loop_of, face_of, solid_of, no_face, after, point_of}
 use Rattle.boundary_model.specs.Sound.{Sound, Has, HasHalf}
 use Rattle.boundary_model.proofs.Halves.{plus_row, minus_row}
-use Rattle.euler_operators.specs.Conditions.{first_refusal, face_at}
+use Rattle.euler_operators.specs.Conditions.{first_refusal, face_at, lists}
 use Rattle.euler_laws.specs.Laws.{AreAccepted, effects}
 use Rattle.euler_laws_shared.proofs.Goes.{all_hold, equal, equals}
 use Rattle.euler_laws_shared.proofs.Listed.{all_where-rises}
 use Rattle.euler_laws_shared.proofs.Loops.{some_row}
 use Rattle.euler_laws_shared.proofs.Undo.{mate_plus}
-use Rattle.solid_measure.proofs.Rising.{counted_once}
+use Rattle.solid_measure.proofs.Rising.{counted_once, none_counted}
 use Rattle.shapes.specs.Faces.{start, finish, edges_of}
 use Rattle.shapes.specs.Fresh.{taken_in, growing}
 use Rattle.split_shapes.specs.Sides.{crosses, crossing_edges}
@@ -121,3 +121,6 @@ module _ (M : Model) (s : ℕ) (p : Plane) (t : ℕ) (sound : Sound M) (accepted
         | inl o ↦ old_crossing x o.0 o.1 (equal (solid_of N (face_at N (plus x))) s w.2)
         | inr o ↦ o
       ])
+
+  pub tails_stay : (e : ℕ) → Has M.edges e → (tail (with_crossings M s p).model (minus e) ≡ tail M (minus e)) × (lists (crossing_edges M p s) e ≡ false → tail (with_crossings M s p).model (plus e) ≡ tail M (plus e))
+  tails_stay e there = (crossings_cut.minus_tails e there, λ l. crossings_cut.plus_tails e there (not_cut e (none_counted e (crossing_edges M p s) l)))

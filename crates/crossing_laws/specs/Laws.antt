@@ -1,8 +1,9 @@
 -- The laws of the first rewriting of a split, over every sound model in which the first conditions hold.
-use Rattle.std.specs.Prelude.{◌≡◌, ℕ, true, [], None}
+use Rattle.std.specs.Prelude.{◌≡◌, ℕ, true, false, [], None}
 use Rattle.lattice.specs.declared.Plane.{Plane}
-use Rattle.boundary_model.specs.Model.{Model}
-use Rattle.boundary_model.specs.Sound.{Sound}
+use Rattle.boundary_model.specs.HalfEdge.{plus, minus}
+use Rattle.boundary_model.specs.Model.{Model, tail}
+use Rattle.boundary_model.specs.Sound.{Sound, Has}
 use Rattle.euler_operators.specs.Conditions.{first_refusal, lists}
 use Rattle.euler_laws.specs.Laws.{AreAccepted, effects}
 use Rattle.shapes.specs.Fresh.{taken_in}
@@ -44,3 +45,8 @@ NoneCrosses = (M : Model) (s : ℕ) (p : Plane) (t : ℕ) → Sound M → CanBeg
 -- each cut place of a face that straddles is where edges are drawn from then: a half-edge starts at its point, in its loop
 abbrev pub PlacesStart : Type 0
 PlacesStart = (M : Model) (s : ℕ) (p : Plane) (t : ℕ) → Sound M → CanBegin M s p t → (f h : ℕ) → lists (straddling_faces M p s) f ≡ true → lists (places M p f) h ≡ true → AtPlace M (with_crossings M s p).model p h
+
+-- each old half-edge starts where it did, but for the plus halves of the edges that were cut
+abbrev pub TailsStay : Type 0
+TailsStay = (M : Model) (s : ℕ) (p : Plane) (t : ℕ) → Sound M → CanBegin M s p t → (e : ℕ) → Has M.edges e →
+    (tail (with_crossings M s p).model (minus e) ≡ tail M (minus e)) × (lists (crossing_edges M p s) e ≡ false → tail (with_crossings M s p).model (plus e) ≡ tail M (plus e))
