@@ -1,0 +1,2 @@
+//! The laws of drawing edges between the cut places of faces, the second rewriting of a split.
+#![tactic(auto)]
