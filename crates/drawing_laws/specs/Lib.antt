@@ -1,1 +1,2 @@
 pub mod DrawingOps
+pub mod DrawnIn
