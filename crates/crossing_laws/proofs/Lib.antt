@@ -4,3 +4,6 @@ pub mod OneCut
 pub mod Steps
 pub mod Counters
 pub mod Runs
+pub mod Listed
+pub mod Premises
+pub mod Whole

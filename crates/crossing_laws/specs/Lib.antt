@@ -1,2 +1,3 @@
 pub mod CrossingOps
 pub mod Kept
+pub mod Laws

@@ -1,0 +1,5 @@
+use Rattle.crossing_laws.proofs.Whole.{crossings_keep, none_crosses}
+use Rattle.crossing_laws.proofs.crossings_leave.Goals as goal
+
+pub returns : goal.returns
+returns c = record { kept = crossings_keep; cleared = none_crosses }
