@@ -1,22 +1,20 @@
 -- What is drawn in a face is what the operators make, and none of them is refused.
-use Rattle.std.proofs.Common.{◌≡◌, ◌≢◌, ℕ, ◌+◌, Bool, true, false, cond, not, nat_eq, ◌&&◌, List, [], ◌∷◌, ◌++◌, Some, None, is_some, IsTrue, refl, sym, ap, ◌∙◌, subst, arith, inl, inr}
-use Rattle.std.specs.Prelude.{fold}
-use Rattle.std.proofs.lemmas.Bool.Decides.{nat_tests, eqb_tells}
+use Rattle.std.proofs.Common.{◌≡◌, ◌≢◌, ℕ, cond, List, ◌∷◌, None, is_some, IsTrue, refl, sym, ap, ◌∙◌, subst, arith}
+use Rattle.std.proofs.lemmas.Bool.Decides.{nat_tests}
 use Rattle.cyclic_list.specs.Rings.{rotate_to}
 use Rattle.cyclic_list.specs.Operators.{mef_old, mef_new, mekr_ring}
 use Rattle.boundary_model.specs.declared.HalfEdge.{HalfEdge}
 use Rattle.boundary_model.specs.declared.Corner.TheVariants.{At}
-use Rattle.boundary_model.specs.HalfEdge.{mate, edge_of, is_first, plus, minus, code, half}
+use Rattle.boundary_model.specs.HalfEdge.{edge_of, plus, minus, code, half}
 use Rattle.boundary_model.specs.Table as table
 use Rattle.boundary_model.specs.Table.{Table, tables, same_table}
-use Rattle.boundary_model.specs.Model.{Model, LoopRow, cycle, tail, loop_of, cycle_of, face_of, solid_of, outer, is_number, is_ring_of}
-use Rattle.boundary_model.specs.Sound.{Sound, Has, HasHalf}
-use Rattle.boundary_model.proofs.Halves.{plus_row, minus_row, code-half, edge_of-code}
+use Rattle.boundary_model.specs.Model.{Model, LoopRow, cycle, tail, loop_of, cycle_of, solid_of, outer, is_number}
+use Rattle.boundary_model.specs.Sound.{Sound, HasHalf}
+use Rattle.boundary_model.proofs.Halves.{plus_row, code-half, edge_of-code}
 use Rattle.boundary_model.proofs.Models.{row_of}
 use Rattle.euler_operators.specs.Conditions.{first_false, face_at}
 use Rattle.euler_operators.specs.Effect.{effect, mef, mekr, ring_in, edge_row}
-use Rattle.euler_operators.specs.declared.Op.{Op}
-use Rattle.euler_operators.specs.declared.Op.TheVariants.{Mef, Mekr, RingIn}
+use Rattle.euler_operators.specs.declared.Op.TheVariants.{RingIn}
 use Rattle.euler_laws_shared.proofs.Undo.{mate_plus}
 use Rattle.euler_laws_shared.proofs.Rows.{of_half}
 use Rattle.euler_laws_mef.proofs.MefUndo.{loops-mef}

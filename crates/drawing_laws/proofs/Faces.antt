@@ -1,25 +1,19 @@
 -- Whole faces drawn, one after the other.
-use Rattle.std.proofs.Common.{◌≡◌, ◌≢◌, ℕ, zero, suc, ◌+◌, ◌≤◌, ◌<◌, Bool, true, false, cond, nat_eq, nat_lt, ◌&&◌, List, [], ◌∷◌, ◌++◌, length, Some, None, refl, sym, ap, ◌∙◌, subst, arith, inl, inr}
-use Rattle.std.specs.Prelude.{fold}
-use Rattle.std.proofs.lemmas.Bool.Decides.{nat_tests, eqb_tells}
+use Rattle.std.proofs.Common.{◌≡◌, ℕ, suc, ◌+◌, Bool, true, false, cond, nat_eq, nat_lt, ◌&&◌, List, [], ◌∷◌, length, refl, sym, ap, ◌∙◌, subst, arith}
 use Rattle.lattice.specs.declared.Plane.{Plane}
-use Rattle.cyclic_list.specs.Items.{count, tick, IsIn, IsApart}
-use Rattle.cyclic_list.proofs.Lists.{tick_same, tick_other}
-use Rattle.boundary_model.specs.Table as table
-use Rattle.boundary_model.specs.Model.{Model, tail, loop_of, face_of, content}
-use Rattle.boundary_model.specs.Sound.{Sound, Has, HasHalf}
+use Rattle.boundary_model.specs.Model.{Model, content}
+use Rattle.boundary_model.specs.Sound.{Sound}
 use Rattle.euler_operators.specs.declared.Op.{Op}
-use Rattle.euler_operators.specs.Conditions.{face_at, has_rings}
+use Rattle.euler_operators.specs.Conditions.{has_rings}
 use Rattle.euler_laws_shared.proofs.Goes.{equal}
-use Rattle.shapes.specs.Fresh.{Taken, Growing}
 use Rattle.shapes.specs.Faces.{vertices_on}
 use Rattle.split_shapes.specs.Sides.{some_above}
-use Rattle.split_shapes.specs.Drawing.{Drawing, stuck_at, in_one_loop, join_next, all_joined, ring_free, draw_next, all_drawn, rings_above, with_rings, rings_shared, drawn_between, drawn_pairs, next_drawn, faces_drawn}
-use Rattle.drawing_laws.specs.DrawingOps.{draw_ops, ring_ops, share_ops, drawn_ops, join_ops, face_ops, ops_from, drawing_ops}
-use Rattle.drawing_laws.specs.DrawnIn.{Stays, DrawnIn, Fresh, Room}
-use Rattle.drawing_laws.specs.Pairs.{Fits, AllFit, LoneInOneLoop, FacesFit, pairs_in}
-use Rattle.drawing_laws.proofs.Pairs.{JoinedIn, none_joined, joined_drawn, drawn_newer}
-use Rattle.drawing_laws.proofs.Passes.{Joining, Joins, joins_go, join_next_one, Going, Draws, draws_go, draw_next_one, cut_off, room_as, edge_fits, face_fits, loop_fits}
+use Rattle.split_shapes.specs.Drawing.{Drawing, stuck_at, all_joined, ring_free, all_drawn, rings_above, with_rings, drawn_between}
+use Rattle.drawing_laws.specs.DrawingOps.{draw_ops, ring_ops, share_ops, drawn_ops, join_ops, face_ops}
+use Rattle.drawing_laws.specs.DrawnIn.{DrawnIn, Fresh, Room}
+use Rattle.drawing_laws.specs.Pairs.{AllFit, LoneInOneLoop}
+use Rattle.drawing_laws.proofs.Pairs.{none_joined, joined_drawn, drawn_newer}
+use Rattle.drawing_laws.proofs.Passes.{Joins, joins_go, join_next_one, Going, Draws, draws_go, draw_next_one, cut_off, room_as, edge_fits, face_fits, loop_fits}
 use Rattle.drawing_laws.proofs.Rings.{Newer, Moved, rings_move, rings_are, rings_apart}
 use Rattle.drawing_laws.proofs.Runs.{Leads, leads_none, leads_on}
 

@@ -1,5 +1,5 @@
 -- The two passes over the pairs of a face.
-use Rattle.std.proofs.Common.{◌≡◌, ◌≢◌, ℕ, suc, ◌+◌, ◌≤◌, ◌<◌, Bool, true, false, cond, nat_eq, List, [], ◌∷◌, ◌++◌, length, None, refl, sym, ap, ◌∙◌, subst, arith, IsTrue}
+use Rattle.std.proofs.Common.{◌≡◌, ℕ, suc, ◌+◌, ◌<◌, Bool, true, false, cond, List, [], ◌∷◌, ◌++◌, length, None, refl, sym, ap, subst, arith, IsTrue}
 use Rattle.std.specs.Prelude.{fold}
 use Rattle.boundary_model.specs.Table as table
 use Rattle.boundary_model.specs.Model.{Model, is_number}

@@ -1,12 +1,12 @@
 -- Rings of a face given to a new one.
-use Rattle.std.proofs.Common.{◌≡◌, ◌≢◌, ℕ, ◌+◌, ◌≤◌, ◌<◌, Bool, true, false, cond, not, nat_eq, ◌&&◌, List, [], ◌∷◌, Some, None, is_some, unwrap_or, refl, sym, ap, ◌∙◌, subst, arith, inl, inr, true≢false}
+use Rattle.std.proofs.Common.{◌≡◌, ◌≢◌, ℕ, ◌+◌, ◌≤◌, Bool, true, false, cond, not, nat_eq, ◌&&◌, List, [], ◌∷◌, None, is_some, unwrap_or, refl, sym, ap, ◌∙◌, subst, arith, inl, inr, true≢false}
 use Rattle.std.specs.Prelude.{filter}
-use Rattle.std.proofs.lemmas.Bool.Decides.{nat_tests, eqb_tells}
+use Rattle.std.proofs.lemmas.Bool.Decides.{eqb_tells}
 use Rattle.cyclic_list.specs.Items.{count, tick, IsIn, IsApart}
-use Rattle.cyclic_list.proofs.Lists.{tick_same, tick_other}
+use Rattle.cyclic_list.proofs.Lists.{tick_same}
 use Rattle.boundary_model.specs.HalfEdge.{edge_of, is_first}
 use Rattle.boundary_model.specs.Table as table
-use Rattle.boundary_model.specs.Model.{Model, LoopRow, no_edge, holds, tail, tail_in, loop_of, face_of, solid_of, outer, rings_of}
+use Rattle.boundary_model.specs.Model.{Model, no_edge, holds, tail, tail_in, loop_of, face_of, solid_of, outer, rings_of}
 use Rattle.boundary_model.specs.Sound.{Sound, Has, HasHalf}
 use Rattle.boundary_model.proofs.Models.{face_row}
 use Rattle.euler_operators.specs.declared.Op.TheVariants.{RingIn}

@@ -1,5 +1,5 @@
 -- What stays as an edge is drawn, as two loops are joined, and as a ring is moved.
-use Rattle.std.proofs.Common.{◌≡◌, ◌≢◌, ℕ, ◌+◌, ◌≤◌, ◌<◌, true, false, cond, List, [], ◌∷◌, ◌++◌, Option, Some, None, is_some, unwrap_or, refl, sym, ap, ◌∙◌, subst, arith, ◌⊎◌, inl, inr, true≢false}
+use Rattle.std.proofs.Common.{◌≡◌, ◌≢◌, ℕ, ◌+◌, ◌≤◌, ◌<◌, true, false, List, ◌∷◌, ◌++◌, Some, None, is_some, unwrap_or, refl, sym, ap, ◌∙◌, subst, arith, ◌⊎◌, inl, inr, true≢false}
 use Rattle.std.proofs.lemmas.Bool.Decides.{nat_tests, eqb_tells}
 use Rattle.cyclic_list.specs.Items.{count, IsIn}
 use Rattle.cyclic_list.specs.Rings.{rotate_to}
@@ -9,14 +9,13 @@ use Rattle.cyclic_list.proofs.Rotations.{count-canonical, count-rotate_to}
 use Rattle.boundary_model.specs.HalfEdge.{edge_of, is_first, plus, minus}
 use Rattle.boundary_model.specs.Table as table
 use Rattle.boundary_model.specs.Table.{Table, tables}
-use Rattle.boundary_model.specs.Model.{Model, LoopRow, FaceRow, cycle, no_edge, no_loop, no_face, items_of, holds, tail, tail_in, loop_of, content, face_of, solid_of, outer, cycle_of}
-use Rattle.boundary_model.specs.Sound.{Sound, Has, HasHalf, StandsIn}
-use Rattle.boundary_model.proofs.Models.{content_row, face_row, in-holds, holds_in, cycle_there, row_of}
+use Rattle.boundary_model.specs.Model.{Model, cycle, no_edge, no_loop, no_face, items_of, holds, tail, tail_in, loop_of, content, face_of, solid_of, outer, cycle_of}
+use Rattle.boundary_model.specs.Sound.{Sound, Has, HasHalf}
+use Rattle.boundary_model.proofs.Models.{content_row, face_row, in-holds, cycle_there, row_of}
 use Rattle.euler_operators.specs.Conditions.{face_at}
 use Rattle.euler_laws_shared.proofs.Rows.{count-halves}
 use Rattle.euler_laws_mef.proofs.MefUndo.{count-mef_old, count-mef_new}
 use Rattle.fresh_laws.proofs.Rows.{get-put_here, get-put_other}
-use Rattle.shapes.specs.Fresh.{Taken}
 use Rattle.split_shapes.specs.Drawing.{face_drawn, loops_joined}
 use Rattle.drawing_laws.specs.DrawnIn.{Stays}
 use Rattle.drawing_laws.proofs.Drawn.{CanDraw, draw_sound, CanJoin, join_sound}

@@ -1,17 +1,16 @@
 -- The drawing of some faces, from its first operator to its model.
-use Rattle.std.proofs.Common.{◌≡◌, ◌≢◌, ℕ, ◌+◌, ◌≤◌, true, List, [], ◌∷◌, ◌++◌, length, refl, sym, ap, ◌∙◌, subst, arith, inl, inr}
+use Rattle.std.proofs.Common.{◌≡◌, ◌≢◌, ℕ, ◌+◌, List, [], ◌∷◌, length, refl, sym, ap, ◌∙◌, subst, arith}
 use Rattle.std.specs.Prelude.{fold, nat_eq}
-use Rattle.std.proofs.lemmas.Bool.Decides.{nat_tests, eqb_tells}
 use Rattle.lattice.specs.declared.Plane.{Plane}
-use Rattle.cyclic_list.specs.Items.{count, tick, IsIn, IsApart}
-use Rattle.cyclic_list.proofs.Lists.{tick_same, tick_other}
-use Rattle.boundary_model.specs.Model.{Model, tail, loop_of}
+use Rattle.cyclic_list.specs.Items.{count, tick, IsApart}
+use Rattle.cyclic_list.proofs.Lists.{tick_same}
+use Rattle.boundary_model.specs.Model.{Model, loop_of}
 use Rattle.boundary_model.specs.Sound.{Sound, HasHalf}
 use Rattle.euler_operators.specs.declared.Op.{Op}
 use Rattle.euler_operators.specs.Conditions.{face_at}
 use Rattle.euler_laws.specs.Laws.{AreAccepted, effects}
-use Rattle.shapes.specs.Fresh.{Taken, Growing}
-use Rattle.split_shapes.specs.Drawing.{Drawing, in_one_loop, drawn_between, drawn_pairs, next_drawn, faces_drawn}
+use Rattle.shapes.specs.Fresh.{Growing}
+use Rattle.split_shapes.specs.Drawing.{Drawing, drawn_between, drawn_pairs, next_drawn, faces_drawn}
 use Rattle.drawing_laws.specs.DrawingOps.{face_ops, ops_from, drawing_ops}
 use Rattle.drawing_laws.specs.DrawnIn.{Stays, DrawnIn, Fresh, Room}
 use Rattle.drawing_laws.specs.Pairs.{Fits, AllFit, LoneInOneLoop, FacesFit, pairs_in}
