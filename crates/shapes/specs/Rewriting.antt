@@ -1,0 +1,23 @@
+-- Whole tables rewritten: the lists of all loops, numbers by a list of pairs, rows that go.
+use Rattle.std.specs.Prelude.{ℕ, cond, nat_eq, List, [], ◌∷◌, fold}
+use Rattle.cyclic_list.specs.Rings.{canonical}
+use Rattle.boundary_model.specs.Table as table
+use Rattle.boundary_model.specs.Table.{Table}
+use Rattle.boundary_model.specs.Model.{LoopContent, LoopRow, lone, cycle}
+
+-- a loop with its cycle rewritten; a lone one stays
+abbrev pub rewritten : (List ℕ → List ℕ) → LoopContent → LoopContent
+rewritten new (lone v) = lone v
+rewritten new (cycle hs) = cycle (canonical (new hs))
+
+abbrev pub rewritten_row : (List ℕ → List ℕ) → ℕ → LoopRow → LoopRow
+rewritten_row new l row = record row { content = rewritten new row.content }
+
+-- what a list of pairs gives for a number, and the number itself where it isn't there
+abbrev pub renamed : List (ℕ × ℕ) → ℕ → ℕ
+renamed [] n = n
+renamed (p ∷ ps) n = cond (nat_eq p.0 n) p.1 (renamed ps n)
+
+-- the rows of some numbers go
+abbrev pub without_rows : {X : Type 0} → Table X → List ℕ → Table X
+without_rows t ns = fold table.remove t ns
