@@ -1,8 +1,8 @@
 -- The conditions of a glue, part by part.
-use Rattle.std.proofs.Common.{◌≡◌, ◌≢◌, ℕ, ◌<◌, ◌≤◌, ◌+◌, Bool, true, false, cond, not, ◌&&◌, ◌||◌, nat_eq, nat_le, nat_lt, List, length, [], ◌∷◌, ◌++◌, Option, Some, None, Result, Ok, Err, is_err, is_some, unwrap_or, refl, sym, ap, ◌∙◌, arith, true≢false, inl, inr}
+use Rattle.std.proofs.Common.{◌≡◌, ◌≢◌, ℕ, ◌≤◌, ◌+◌, Bool, true, false, cond, not, ◌&&◌, ◌||◌, nat_eq, nat_le, List, [], ◌∷◌, ◌++◌, Option, Some, None, Result, Ok, Err, is_err, is_some, unwrap_or, refl, sym, ap, ◌∙◌, arith, true≢false, inl, inr}
 use Rattle.std.proofs.lemmas.Bool.Decides.{nat_tests}
 use Rattle.std.proofs.lemmas.Bool.{cases_eq}
-use Rattle.boundary_model.specs.Table.{Table, get, has, greatest}
+use Rattle.boundary_model.specs.Table.{Table, get, greatest}
 use Rattle.boundary_model.specs.Model.{Model, LoopRow, no_loop, content, face_of, solid_of, outer, faces_of, is_number}
 use Rattle.boundary_model.specs.Sound.{Sound, Has, NumbersFit}
 use Rattle.boundary_model.proofs.Tables.{zero_first_where}

@@ -1,6 +1,6 @@
 -- The half-edges of a loop, as an arena holds them.
-use Rattle.std.proofs.Common.{◌≡◌, ℕ, ◌≤◌, List, [], ◌∷◌, map, length, slice_index_or, arith}
-use Rattle.cyclic_list.specs.Items.{IsIn, count}
+use Rattle.std.proofs.Common.{ℕ, ◌≤◌, List, [], ◌∷◌, map, length, slice_index_or, arith}
+use Rattle.cyclic_list.specs.Items.{IsIn}
 use Rattle.cyclic_list.proofs.Lists.{tick_same}
 use Rattle.boundary_model.specs.declared.HalfEdge.{HalfEdge}
 use Rattle.boundary_model.specs.declared.Content.TheVariants.{Ring}

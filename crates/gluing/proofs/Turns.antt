@@ -1,5 +1,5 @@
 -- Lists of points that are turns of one another.
-use Rattle.std.proofs.Common.{◌≡◌, ◌≢◌, ℕ, zero, suc, ◌+◌, ◌-◌, ◌<◌, ◌≤◌, Bool, true, false, cond, ◌&&◌, ◌||◌, List, [], ◌∷◌, ◌++◌, length, Option, Some, None, refl, sym, ap, subst, ◌∙◌, arith, true≢false, ◌⊎◌, inl, inr}
+use Rattle.std.proofs.Common.{◌≡◌, ◌≢◌, ℕ, zero, suc, ◌+◌, ◌-◌, ◌<◌, ◌≤◌, Bool, true, false, cond, ◌&&◌, ◌||◌, List, [], ◌∷◌, ◌++◌, length, Some, None, refl, sym, ap, subst, ◌∙◌, arith, true≢false, inl, inr}
 use Rattle.std.specs.Prelude.{get_or, take, drop, is_some, slice_index_or}
 use Rattle.std.proofs.lemmas.List.{append-nil, get_or-drop, take_all, drop_all, length-drop, length-take-le}
 use Rattle.std.proofs.lemmas.Bool.{or_cases, and_parts, cases_eq}

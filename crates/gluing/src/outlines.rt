@@ -34,7 +34,7 @@ pub(crate) fn backwards(points: Vec<Point>) -> Vec<Point>
     ensures { result.items ≡ reverse points.items }
 {
     let mut turned = points;
-    turned.as_mut_slice().reverse();
+    turned.reverse();
     turned
 }
 

@@ -1,4 +1,4 @@
-use Rattle.std.proofs.Common.{◌≡◌, ◌∙◌, sym}
+use Rattle.std.proofs.Common.{◌∙◌, sym}
 use Rattle.fresh_laws.proofs.Rows.{greatest_is}
 use Rattle.gluing.proofs.Conditions.{none_left, one_left}
 use Rattle.gluing.proofs.checks.check_left.Goals as goal

@@ -1,4 +1,4 @@
-use Rattle.std.proofs.Common.{◌≡◌, ◌∙◌, sym, arith}
+use Rattle.std.proofs.Common.{◌∙◌, sym}
 use Rattle.gluing.proofs.Turns.{other_length, turn_inside, turn_found, no_turn_found}
 use Rattle.gluing.proofs.outlines.is_rotation.Goals as goal
 

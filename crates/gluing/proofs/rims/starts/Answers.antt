@@ -1,5 +1,4 @@
 use Rattle.std.proofs.Common.{sym, subst}
-use Rattle.boundary_model.specs.HalfEdge.{code}
 use Rattle.boundary_model.specs.Sound.{Has}
 use Rattle.gluing.proofs.Halves.{first_there}
 use Rattle.gluing.proofs.rims.starts.Goals as goal
