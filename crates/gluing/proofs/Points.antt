@@ -1,0 +1,114 @@
+-- The test for equal points, and points that are met twice.
+use Rattle.std.proofs.Common.{◌≡◌, ℕ, zero, suc, ◌<◌, ℤ, Bool, true, false, ◌&&◌, ◌||◌, List, [], ◌∷◌, ◌++◌, length, refl, sym, ap, ◌∙◌, arith, true≢false}
+use Rattle.std.specs.Prelude.{get_or, reverse}
+use Rattle.std.specs.List.{list_any}
+use Rattle.std.specs.Ordering.{int_eq}
+use Rattle.std.proofs.lemmas.Bool.{or_parts}
+use Rattle.std.proofs.lemmas.List.{reverse-append}
+use Rattle.lattice.specs.declared.Point.{Point}
+use Rattle.lattice.specs.Vectors.{same_point}
+use Rattle.glue_laws.specs.Glue.{has_repeats}
+
+same_number : (m n : ℤ) → int_eq m n ≡ true → m ≡ n
+same_number m n e = grind arith
+
+number_itself : (m : ℤ) → int_eq m m ≡ true
+number_itself m = grind arith
+
+numbers_turned : (m n : ℤ) → int_eq m n ≡ int_eq n m
+numbers_turned m n = grind arith
+
+pub same_is : (p q : Point) → same_point p q ≡ true → p ≡ q
+same_is p q e = go (int_eq p.x q.x) (int_eq p.y q.y) (int_eq p.z q.z) refl refl refl e where
+  go : (a b c : Bool) → int_eq p.x q.x ≡ a → int_eq p.y q.y ≡ b → int_eq p.z q.z ≡ c → a && b && c ≡ true → p ≡ q
+  go true true true x y z e = λ i. record { x = same_number p.x q.x x i; y = same_number p.y q.y y i; z = same_number p.z q.z z i }
+  go true true false x y z e = absurd (true≢false (sym e))
+  go true false c x y z e = absurd (true≢false (sym e))
+  go false b c x y z e = absurd (true≢false (sym e))
+
+pub same_itself : (p : Point) → same_point p p ≡ true
+same_itself p = λ i. number_itself p.x i && number_itself p.y i && number_itself p.z i
+
+pub same_turned : (p q : Point) → same_point p q ≡ same_point q p
+same_turned p q = λ i. numbers_turned p.x q.x i && numbers_turned p.y q.y i && numbers_turned p.z q.z i
+
+-- one point more is met
+four : (a b c d : Bool) → (a || b) || (c || d) ≡ (c || b) || (a || d)
+four true b true d = refl
+four true true false d = refl
+four true false false d = refl
+four false true true d = refl
+four false true false d = refl
+four false false true d = refl
+four false false false d = refl
+
+any_more : (p : Point) (old new : Point → Bool) → ((q : Point) → new q ≡ same_point p q || old q) → (ps : List Point) → list_any new ps ≡ list_any (same_point p) ps || list_any old ps
+any_more p old new e [] = refl
+any_more p old new e (q ∷ qs) = (λ i. e q i || any_more p old new e qs i) ∙ mixed (same_point p q) (old q) (list_any (same_point p) qs) (list_any old qs) where
+  mixed : (a b c d : Bool) → (a || b) || (c || d) ≡ (a || c) || (b || d)
+  mixed true b c d = refl
+  mixed false true true d = refl
+  mixed false true false d = refl
+  mixed false false c d = refl
+
+-- the first of some points isn't among those met before
+pub new_point : (p : Point) (ps : List Point) (old new : Point → Bool) → old p ≡ false → ((q : Point) → new q ≡ same_point p q || old q) → list_any new ps || has_repeats ps ≡ list_any old (p ∷ ps) || has_repeats (p ∷ ps)
+new_point p ps old new absent e = ap (λ b. b || has_repeats ps) (any_more p old new e ps) ∙ swapped (list_any (same_point p) ps) (list_any old ps) (has_repeats ps) ∙ sym (ap (λ b. (b || list_any old ps) || (list_any (same_point p) ps || has_repeats ps)) absent) where
+  swapped : (a b c : Bool) → (a || b) || c ≡ b || (a || c)
+  swapped true true c = refl
+  swapped true false c = refl
+  swapped false b c = refl
+
+-- or it is
+pub old_point : (p : Point) (ps : List Point) (old : Point → Bool) → old p ≡ true → true ≡ list_any old (p ∷ ps) || has_repeats (p ∷ ps)
+old_point p ps old met = sym (ap (λ b. (b || list_any old ps) || has_repeats (p ∷ ps)) met)
+
+-- a list read backwards has the same repeats
+any_push : (p : Point) (ps : List Point) (q : Point) → list_any (same_point p) (ps ++ q ∷ []) ≡ list_any (same_point p) ps || same_point p q
+any_push p [] q = last (same_point p q) where
+  last : (b : Bool) → b || false ≡ b
+  last true = refl
+  last false = refl
+any_push p (r ∷ rs) q = ap (λ b. same_point p r || b) (any_push p rs q) ∙ grouped (same_point p r) (list_any (same_point p) rs) (same_point p q) where
+  grouped : (a b c : Bool) → a || (b || c) ≡ (a || b) || c
+  grouped true b c = refl
+  grouped false b c = refl
+
+repeats_push : (ps : List Point) (q : Point) → has_repeats (ps ++ q ∷ []) ≡ list_any (same_point q) ps || has_repeats ps
+repeats_push [] q = refl
+repeats_push (p ∷ ps) q = (λ i. any_push p ps q i || repeats_push ps q i) ∙ ap (λ b. (list_any (same_point p) ps || b) || (list_any (same_point q) ps || has_repeats ps)) (same_turned p q) ∙ four (list_any (same_point p) ps) (same_point q p) (list_any (same_point q) ps) (has_repeats ps)
+    ∙ crossed (list_any (same_point q) ps) (same_point q p) (list_any (same_point p) ps || has_repeats ps) where
+      crossed : (a b c : Bool) → (a || b) || c ≡ (b || a) || c
+      crossed true true c = refl
+      crossed true false c = refl
+      crossed false true c = refl
+      crossed false false c = refl
+
+any_turned : (p : Point) (ps : List Point) → list_any (same_point p) (reverse ps) ≡ list_any (same_point p) ps
+any_turned p [] = refl
+any_turned p (q ∷ qs) = ap (list_any (same_point p)) (reverse-append (q ∷ []) qs) ∙ any_push p (reverse qs) q ∙ ap (λ b. b || same_point p q) (any_turned p qs) ∙ other_way (list_any (same_point p) qs) (same_point p q) where
+  other_way : (a b : Bool) → a || b ≡ b || a
+  other_way true true = refl
+  other_way true false = refl
+  other_way false true = refl
+  other_way false false = refl
+
+pub repeats_turned : (ps : List Point) → has_repeats (reverse ps) ≡ has_repeats ps
+repeats_turned [] = refl
+repeats_turned (p ∷ ps) = ap has_repeats (reverse-append (p ∷ []) ps) ∙ repeats_push (reverse ps) p ∙ (λ i. any_turned p ps i || repeats_turned ps i)
+
+any_at : (p : Point) (ps : List Point) (i : ℕ) (d : Point) → i < length ps → p ≡ get_or ps i d → list_any (same_point p) ps ≡ true
+any_at p [] i d l e = absurd (omega arith)
+any_at p (q ∷ qs) zero d l e = ap (λ b. b || list_any (same_point p) qs) (ap (same_point p) (sym e) ∙ same_itself p)
+any_at p (q ∷ qs) (suc i) d l e = later (same_point p q) (any_at p qs i d (omega (arith, l)) e) where
+  later : (a : Bool) {b : Bool} → b ≡ true → a || b ≡ true
+  later true e = refl
+  later false e = e
+
+-- without repeats each point stands in one place
+pub one_place : (ps : List Point) → has_repeats ps ≡ false → (i j : ℕ) (d : Point) → i < length ps → j < length ps → get_or ps i d ≡ get_or ps j d → i ≡ j
+one_place [] apart i j d li lj e = absurd (omega arith)
+one_place (p ∷ ps) apart zero zero d li lj e = refl
+one_place (p ∷ ps) apart zero (suc j) d li lj e = absurd (true≢false (sym (any_at p ps j d (omega (arith, lj)) e) ∙ (or_parts (list_any (same_point p) ps) (has_repeats ps) apart).0))
+one_place (p ∷ ps) apart (suc i) zero d li lj e = absurd (true≢false (sym (any_at p ps i d (omega (arith, li)) (sym e)) ∙ (or_parts (list_any (same_point p) ps) (has_repeats ps) apart).0))
+one_place (p ∷ ps) apart (suc i) (suc j) d li lj e = ap suc (one_place ps (or_parts (list_any (same_point p) ps) (has_repeats ps) apart).1 i j d (omega (arith, li)) (omega (arith, lj)) e)

@@ -1,0 +1,21 @@
+-- The least of some numbers, where there is one.
+use Rattle.std.specs.Prelude.{ℕ, Bool, cond, nat_eq, nat_le, List, [], ◌∷◌, Option, Some, None}
+
+-- what a search has found, where 0 is nothing
+abbrev pub found : ℕ → Option ℕ
+found n = cond (nat_eq n 0) None (Some n)
+
+-- the number alone, if it is wanted
+abbrev pub only : Bool → ℕ → Option ℕ
+only b n = cond b (Some n) None
+
+-- the lesser of two; of one alone, that one
+abbrev pub lesser : Option ℕ → Option ℕ → Option ℕ
+lesser None n = n
+lesser (Some m) None = Some m
+lesser (Some m) (Some n) = Some (cond (nat_le m n) m n)
+
+-- the least number of a list that passes a test
+abbrev pub least_such : (ℕ → Bool) → List ℕ → Option ℕ
+least_such p [] = None
+least_such p (n ∷ ns) = lesser (only (p n) n) (least_such p ns)
