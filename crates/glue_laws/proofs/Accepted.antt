@@ -1,5 +1,5 @@
 -- A glue from its first operator to the glued solids.
-use Rattle.std.proofs.Common.{◌≡◌, ℕ, List, [], ◌∷◌, ◌++◌, None, refl, sym, ap, ◌∙◌, subst}
+use Rattle.std.proofs.Common.{◌≡◌, ℕ, List, [], ◌∷◌, ◌++◌, None, sym, ◌∙◌, subst}
 use Rattle.cyclic_list.specs.Items.{head_or, last_or}
 use Rattle.cyclic_list.proofs.Rings.{last_or_push}
 use Rattle.boundary_model.specs.Model.{Model, outer}

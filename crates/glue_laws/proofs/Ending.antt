@@ -1,25 +1,24 @@
 -- The last item: only its partner's edge goes, with face f.
 use Rattle.std.proofs.Common.{◌≡◌, ◌≢◌, ℕ, true, false, cond, nat_eq, Bool, List, [], ◌∷◌, ◌++◌, Option, Some, None, is_some, unwrap_or, refl, sym, ap, ◌∙◌, subst, arith, true≢false, inl, inr}
-use Rattle.std.specs.Prelude.{map, reverse}
+use Rattle.std.specs.Prelude.{map}
 use Rattle.std.specs.Option.{option_map}
 use Rattle.std.proofs.lemmas.Bool.Decides.{nat_tests, eqb_tells}
 use Rattle.std.proofs.lemmas.List.{map-append}
 use Rattle.cyclic_list.specs.Items.{count, IsIn, IsApart}
 use Rattle.cyclic_list.specs.Rings.{canonical, rest}
-use Rattle.cyclic_list.proofs.Lists.{count-append, tick_same, tick_other}
-use Rattle.cyclic_list.proofs.Rotations.{canonical_same, rest_same, rest_at, canonical-rotates}
-use Rattle.boundary_model.specs.HalfEdge.{mate, edge_of, half, code}
+use Rattle.cyclic_list.proofs.Lists.{count-append, tick_same}
+use Rattle.cyclic_list.proofs.Rotations.{rest_same, rest_at, canonical-rotates}
+use Rattle.boundary_model.specs.HalfEdge.{mate, edge_of, half}
 use Rattle.boundary_model.specs.Table as table
 use Rattle.boundary_model.specs.Table.{Table, tables, same_table, get-map_rows, get-put}
-use Rattle.boundary_model.specs.Model.{Model, FaceRow, LoopRow, cycle, items_of, tail, loop_of, content, face_of, solid_of, outer, cycle_of, no_face, no_loop}
-use Rattle.boundary_model.specs.Sound.{Sound, Has, HasHalf}
+use Rattle.boundary_model.specs.Model.{Model, FaceRow, LoopRow, cycle, tail, loop_of, face_of, solid_of, outer, cycle_of, no_face}
+use Rattle.boundary_model.specs.Sound.{Has, HasHalf}
 use Rattle.boundary_model.proofs.Halves.{code-half, mate-mate, edge_of-mate}
-use Rattle.boundary_model.proofs.Models.{content_row, face_row, row_of}
+use Rattle.boundary_model.proofs.Models.{face_row, row_of}
 use Rattle.euler_operators.specs.declared.Op.TheVariants.{Kef}
 use Rattle.euler_operators.specs.Conditions.{face_at, first_false}
 use Rattle.euler_operators.specs.Effect.{effect, kef, faces_to_solid}
 use Rattle.euler_laws_shared.proofs.Fans.{half_mate}
-use Rattle.euler_laws_shared.proofs.Same.{mapped_some}
 use Rattle.euler_laws_shared.proofs.Rows.{face_there}
 use Rattle.euler_laws_mef.proofs.KefSound as kill
 use Rattle.euler_laws_mef.proofs.KefSound.{KefGoes}
@@ -27,7 +26,7 @@ use Rattle.euler_laws_mef.proofs.Kef.{kef_accepted}
 use Rattle.prism_laws.proofs.Steps.{Around, half_is, loop_is, apart_xs, cycle_is}
 use Rattle.shapes.specs.Rewriting.{rewritten_row, renamed, without_rows}
 use Rattle.glue_laws.specs.Glue.{glued_along, renamed_tails, moves, partner, partners}
-use Rattle.glue_laws.specs.Part.{paired, seam, glued_part}
+use Rattle.glue_laws.specs.Part.{paired, glued_part}
 use Rattle.glue_laws.proofs.Renamings.{renamed_last, without_first, without_more}
 use Rattle.glue_laws.proofs.Swapped.{map_agree, map_removed}
 use Rattle.glue_laws.proofs.Facing as facing

@@ -1,19 +1,19 @@
 -- What it says that a glue isn't refused.
-use Rattle.std.proofs.Common.{◌≡◌, ◌≢◌, ℕ, suc, zero, ◌+◌, ◌≤◌, Bool, true, false, not, cond, nat_eq, ◌&&◌, ◌||◌, List, [], ◌∷◌, ◌++◌, length, Some, None, is_some, refl, sym, ap, ◌∙◌, subst, arith, inl, inr, true≢false}
+use Rattle.std.proofs.Common.{◌≡◌, ◌≢◌, ℕ, suc, ◌≤◌, Bool, true, false, not, nat_eq, ◌&&◌, ◌||◌, List, [], ◌∷◌, ◌++◌, length, Some, None, is_some, refl, sym, ap, ◌∙◌, subst, arith, inl, inr, true≢false}
 use Rattle.std.specs.Prelude.{map, reverse}
-use Rattle.std.proofs.lemmas.Bool.Decides.{nat_tests, eqb_tells}
+use Rattle.std.proofs.lemmas.Bool.Decides.{nat_tests}
 use Rattle.std.proofs.lemmas.List.{append-nil}
 use Rattle.lattice.specs.declared.Point.{Point}
 use Rattle.lattice.specs.Vectors.{same_point, origin, moved, cross}
 use Rattle.cyclic_list.specs.Items.{count, tick, IsIn, IsApart, head_or, last_or}
-use Rattle.cyclic_list.specs.Rings.{canonical, IsPath, IsRing, IsRotation, predecessor, successor, rest, rotate_to}
-use Rattle.cyclic_list.proofs.Lists.{count-append, tick_same, tick_other}
-use Rattle.cyclic_list.proofs.Rotations.{canonical_same, IsApart-same, IsRotation-same, IsRotation-length, rotate_to_is, rotate_to-rotates, length-rotate_to}
-use Rattle.cyclic_list.proofs.Rings.{IsRing-same, IsIn_successor, predecessor-successor, front_of, apart_at, rotation_at, next_is_successor, IsPath_at}
+use Rattle.cyclic_list.specs.Rings.{canonical, IsPath, IsRing, IsRotation, predecessor, rest}
+use Rattle.cyclic_list.proofs.Lists.{tick_same}
+use Rattle.cyclic_list.proofs.Rotations.{canonical_same, IsApart-same, IsRotation-same, IsRotation-length}
+use Rattle.cyclic_list.proofs.Rings.{IsRing-same, IsIn_successor, predecessor-successor, front_of, apart_at, rotation_at, next_is_successor}
 use Rattle.cyclic_list.proofs.Maps.{reverse-cons, reverse_at, count-reverse}
-use Rattle.boundary_model.specs.HalfEdge.{mate, edge_of}
+use Rattle.boundary_model.specs.HalfEdge.{mate}
 use Rattle.boundary_model.specs.Table as table
-use Rattle.boundary_model.specs.Model.{Model, LoopContent, LoopRow, lone, cycle, items_of, holds, content, face_of, solid_of, outer, tail, point_of, loop_of, cycle_of, after, rings_of, faces_of}
+use Rattle.boundary_model.specs.Model.{Model, LoopContent, LoopRow, lone, cycle, items_of, holds, content, face_of, solid_of, outer, tail, point_of, after, rings_of}
 use Rattle.boundary_model.specs.Sound.{Sound, Has, HasHalf, StandsIn, IsCycle}
 use Rattle.boundary_model.proofs.Halves.{mate-mate, mate_other}
 use Rattle.boundary_model.proofs.Tables.{zero_first_where}
@@ -23,10 +23,9 @@ use Rattle.euler_laws_shared.proofs.Goes.{all_hold, not_true, not_back, equal, u
 use Rattle.euler_laws_shared.proofs.Listed.{listed_as, listed_cases, listed_passes}
 use Rattle.euler_laws_shared.proofs.Rows.{loop_row, face_there, no_rings_means}
 use Rattle.euler_laws_shared.proofs.Loops.{IsLoop, loop_sound}
-use Rattle.euler_laws_shared.proofs.Fans.{half_mate}
 use Rattle.fresh_laws.proofs.Rows.{none_above}
 use Rattle.fresh_laws.proofs.Tests.{NoneSuch, NoZero, none_such, Left, numbers_are_left, number_fits}
-use Rattle.shapes.specs.Faces.{start, finish, boundary, items_in, loops_of, corners, faces_of_both, least_lone}
+use Rattle.shapes.specs.Faces.{start, finish, boundary, items_in, loops_of, faces_of_both, least_lone}
 use Rattle.shapes.specs.Fresh.{first_such, taken_in}
 use Rattle.solid_measure.specs.Measure.{area, normal, is_flat, plane_of}
 use Rattle.glue_laws.specs.Glue.{rim, outline, has_repeats, is_rotation, partner, glue_conditions, glue_refusal}

@@ -1,18 +1,17 @@
 -- The first four operators of a glue: the solids become one, and the two loops one loop.
-use Rattle.std.proofs.Common.{◌≡◌, ◌≢◌, ℕ, true, false, cond, nat_eq, Bool, ◌||◌, List, [], ◌∷◌, ◌++◌, Option, Some, None, is_some, unwrap_or, refl, sym, ap, ◌∙◌, subst, arith, true≢false, inl, inr}
+use Rattle.std.proofs.Common.{◌≡◌, ◌≢◌, ℕ, true, false, cond, nat_eq, Bool, ◌||◌, List, [], ◌∷◌, ◌++◌, Option, Some, None, is_some, unwrap_or, refl, sym, ap, ◌∙◌, subst, arith, true≢false}
 use Rattle.std.specs.Prelude.{map, reverse}
 use Rattle.std.specs.Option.{option_map}
-use Rattle.std.proofs.lemmas.Bool.Decides.{nat_tests, eqb_tells}
+use Rattle.std.proofs.lemmas.Bool.Decides.{nat_tests}
 use Rattle.std.proofs.lemmas.List.{map-append, reverse-append}
 use Rattle.cyclic_list.specs.Items.{count, IsIn, IsApart, before, after}
-use Rattle.cyclic_list.specs.Items as items
-use Rattle.cyclic_list.specs.Rings.{canonical, rest, between, beyond, successor}
+use Rattle.cyclic_list.specs.Rings.{canonical, rest, successor}
 use Rattle.cyclic_list.specs.Edits.{without}
-use Rattle.cyclic_list.proofs.Lists.{count-append, tick_same, tick_other, before_at, after_at}
+use Rattle.cyclic_list.proofs.Lists.{count-append, tick_same, before_at, after_at}
 use Rattle.cyclic_list.proofs.Rotations.{canonical_same, count-canonical, canonical-rotates, IsApart-canonical}
 use Rattle.cyclic_list.proofs.Rings.{successor_inner, successor_same}
 use Rattle.cyclic_list.proofs.Cuts.{rest_canonical}
-use Rattle.boundary_model.specs.HalfEdge.{mate, edge_of, half, code, plus, minus}
+use Rattle.boundary_model.specs.HalfEdge.{mate, edge_of, half, plus, minus}
 use Rattle.boundary_model.specs.Table as table
 use Rattle.boundary_model.specs.Table.{Table, tables, same_table, get-map_rows}
 use Rattle.boundary_model.specs.declared.Corner.TheVariants.{At}
@@ -23,8 +22,8 @@ use Rattle.boundary_model.proofs.Halves.{code-half, plus_row, minus_row, edge_of
 use Rattle.boundary_model.proofs.Tables.{map-put, map_same, map_one, remove-put}
 use Rattle.boundary_model.proofs.Models.{content_row, face_row, tail_row, in-holds, holds-none, not_held}
 use Rattle.euler_operators.specs.declared.Op.TheVariants.{Kev, Mekr, Kfmrh, Merge}
-use Rattle.euler_operators.specs.Conditions.{first_false, corner_loop, corner_tail, corner_list}
-use Rattle.euler_operators.specs.Effect.{effect, merge, kfmrh, mekr, kev, faces_to_solid, loop_to_face, moved_tail, cycle_or_lone, edge_row}
+use Rattle.euler_operators.specs.Conditions.{first_false}
+use Rattle.euler_operators.specs.Effect.{effect, merge, kfmrh, mekr, kev, faces_to_solid, loop_to_face, moved_tail, edge_row}
 use Rattle.euler_laws_shared.proofs.Undo.{mate_plus, both_out}
 use Rattle.euler_laws_shared.proofs.Rows.{face_there}
 use Rattle.euler_laws_shared.proofs.Goes.{equals, differs}
@@ -38,7 +37,7 @@ use Rattle.euler_laws.specs.Laws.{effects, AreAccepted}
 use Rattle.euler_laws.proofs.Cases.{effect_keeps_sound}
 use Rattle.fresh_laws.proofs.Rows.{get-put_here, get-put_other}
 use Rattle.prism_laws.proofs.Steps.{Around, half_is, loop_is, cycle_is, apart_xs, edge_plus, row_plus}
-use Rattle.shapes.specs.Rewriting.{rewritten, rewritten_row, renamed, without_rows}
+use Rattle.shapes.specs.Rewriting.{rewritten, rewritten_row, renamed}
 use Rattle.glue_laws.specs.Glue.{renamed_tails}
 use Rattle.glue_laws.specs.GlueOps.{opening}
 use Rattle.glue_laws.specs.Part.{paired, seam, glued_part}

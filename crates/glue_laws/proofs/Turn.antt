@@ -1,32 +1,29 @@
 -- One item more is glued.
-use Rattle.std.proofs.Common.{◌≡◌, ◌≢◌, ℕ, cond, nat_eq, List, [], ◌∷◌, ◌++◌, Option, Some, None, is_some, refl, sym, ap, ◌∙◌, subst, arith, true≢false, inl, inr}
+use Rattle.std.proofs.Common.{◌≡◌, ◌≢◌, ℕ, cond, nat_eq, List, [], ◌∷◌, ◌++◌, Some, is_some, refl, sym, ap, ◌∙◌, subst, arith, inl, inr}
 use Rattle.std.specs.Prelude.{map, reverse}
-use Rattle.std.specs.Option.{option_map}
-use Rattle.std.proofs.lemmas.Bool.Decides.{nat_tests, eqb_tells}
+use Rattle.std.proofs.lemmas.Bool.Decides.{nat_tests}
 use Rattle.std.proofs.lemmas.List.{append_assoc, map-append}
 use Rattle.cyclic_list.specs.Items.{count, IsIn}
-use Rattle.cyclic_list.specs.Rings.{canonical, rest}
-use Rattle.cyclic_list.proofs.Lists.{count-append, tick_same, tick_other, IsIn_or_not}
-use Rattle.cyclic_list.proofs.Rotations.{count-canonical, canonical_same}
-use Rattle.cyclic_list.proofs.Maps.{from_map, count-reverse, reverse-cons}
+use Rattle.cyclic_list.specs.Rings.{canonical}
+use Rattle.cyclic_list.proofs.Lists.{count-append, tick_same, tick_other}
+use Rattle.cyclic_list.proofs.Rotations.{canonical_same}
+use Rattle.cyclic_list.proofs.Maps.{reverse-cons}
 use Rattle.boundary_model.specs.HalfEdge.{mate, edge_of}
 use Rattle.boundary_model.specs.Table as table
 use Rattle.boundary_model.specs.Table.{Table, tables, same_table, get-map_rows, get-put, get-remove}
-use Rattle.boundary_model.specs.Model.{Model, LoopRow, cycle, items_of, tail, loop_of, content, face_of, solid_of, outer, cycle_of}
-use Rattle.boundary_model.specs.Sound.{HasHalf, StandsIn}
-use Rattle.boundary_model.proofs.Models.{content_row, holds_in, none-holds, other_loop, row_of, cycle_there, cycle_sound}
+use Rattle.boundary_model.specs.Model.{Model, LoopRow, cycle, tail, loop_of, solid_of, outer}
+use Rattle.boundary_model.specs.Sound.{HasHalf}
 use Rattle.euler_operators.specs.Effect.{moved_tail}
 use Rattle.euler_laws_shared.proofs.Fans.{half_mate}
 use Rattle.euler_laws_shared.proofs.Same.{map_twice}
-use Rattle.euler_laws_shared.proofs.Rows.{one_row}
 use Rattle.euler_laws.specs.Laws.{effects, AreAccepted}
-use Rattle.prism_laws.proofs.Steps.{Around, half_is, loop_is, apart_xs}
+use Rattle.prism_laws.proofs.Steps.{Around, half_is, apart_xs}
 use Rattle.shapes.specs.Rewriting.{rewritten_row, renamed, without_rows}
 use Rattle.glue_laws.specs.Glue.{renamed_tails}
 use Rattle.glue_laws.specs.GlueOps.{closing}
 use Rattle.glue_laws.specs.Part.{paired, seam, glued_part}
-use Rattle.glue_laws.proofs.Renamings.{renamed_cases, renamed_more, without_more, replaced}
-use Rattle.glue_laws.proofs.Swapped.{row_stays, row_turns, map_agree, map_removed}
+use Rattle.glue_laws.proofs.Renamings.{renamed_cases, renamed_more, without_more}
+use Rattle.glue_laws.proofs.Swapped.{map_agree, map_removed}
 use Rattle.glue_laws.proofs.Facing as facing
 use Rattle.glue_laws.proofs.Facing.{Facing, side, in_map}
 use Rattle.glue_laws.proofs.Stages as stages
