@@ -56,7 +56,7 @@ some_head (x ∷ xs) ne = IsIn_head x xs
 
 -- ---- rows of faces
 
-moved_solid : (b : Bool) (row : FaceRow) (s : ℕ) → (cond b (record row { solid = s }) row).solid ≡ cond b s row.solid
+pub moved_solid : (b : Bool) (row : FaceRow) (s : ℕ) → (cond b (record row { solid = s }) row).solid ≡ cond b s row.solid
 moved_solid true row s = refl
 moved_solid false row s = refl
 

@@ -1,5 +1,5 @@
 -- The solids that aren't glued keep their six volumes.
-use Rattle.std.proofs.Common.{◌≡◌, ◌≢◌, ℕ, true, false, cond, nat_eq, Bool, List, [], ◌∷◌, map, Option, Some, None, is_some, refl, sym, ap, ◌∙◌, arith, inl, inr}
+use Rattle.std.proofs.Common.{◌≡◌, ◌≢◌, ℕ, true, cond, nat_eq, Bool, List, [], ◌∷◌, map, Option, Some, None, is_some, refl, sym, ap, ◌∙◌, arith, inl, inr}
 use Rattle.std.specs.Option.{option_map}
 use Rattle.std.proofs.lemmas.Bool.Decides.{nat_tests, eqb_tells}
 use Rattle.lattice.specs.Vectors.{dot}
@@ -22,13 +22,11 @@ use Rattle.shapes.specs.Rewriting.{rewritten}
 use Rattle.solid_measure.specs.Measure.{anchor, first_vertex, volume_in, six_volume}
 use Rattle.glue_laws.proofs.Renamings.{renamed_not}
 use Rattle.gluing_laws.proofs.Listed.{one_if, passed, same_search, volume_of, same_volumes}
+use Rattle.gluing_laws.proofs.Adding.{moved_solid}
 use Rattle.gluing_laws.proofs.Seams as seams
 use Rattle.gluing_laws.proofs.Seams.{Seamed, Glued, side}
 use Rattle.gluing_laws.proofs.Places as places
 use Rattle.gluing_laws.proofs.Normals as normals
-
-moved_solid : (b : Bool) (row : FaceRow) (s : ℕ) → (cond b (record row { solid = s }) row).solid ≡ cond b s row.solid
-moved_solid b row s = elim b as (λ b. (cond b (record row { solid = s }) row).solid ≡ cond b s row.solid) [ true ↦ refl | false ↦ refl ]
 
 -- a solid that is neither s nor t has the faces that it had
 of_neither : (a s t u : ℕ) → u ≢ s → u ≢ t → one_if (nat_eq (cond (nat_eq a t) s a) u) ≡ one_if (nat_eq a u)

@@ -4,8 +4,8 @@
 
 ghost use Rattle.gluing_laws.specs.Laws.{GlueAdds, OthersStay};
 
-/// A glue adds the six volumes of the second solid to those of the first: the two faces, which go, lay on one plane and looked at
-/// each other. All other solids keep theirs.
+/// A glue adds the six volumes of the second solid to those of the first: the two faces, which go, lie on one plane and
+/// face each other, so together they add nothing. All other solids keep theirs.
 pub fn glues_add()
     ensures sum { GlueAdds }
     ensures others { OthersStay }
