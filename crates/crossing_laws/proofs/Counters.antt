@@ -1,15 +1,15 @@
 -- The greatest numbers in use, as an edge is cut.
 use Rattle.std.specs.Prelude.{flat_map}
-use Rattle.std.proofs.Common.{◌≡◌, ◌≢◌, ℕ, ◌+◌, ◌≤◌, ◌<◌, true, false, List, [], ◌∷◌, is_some, refl, sym, ap, ◌∙◌, subst, arith, inl, inr}
-use Rattle.std.proofs.lemmas.Bool.Decides.{nat_tests, eqb_tells}
+use Rattle.std.proofs.Common.{◌≡◌, ◌≢◌, ℕ, ◌≤◌, ◌<◌, List, [], ◌∷◌, is_some, refl, sym, ap, ◌∙◌, subst, arith, inl, inr}
+use Rattle.std.proofs.lemmas.Bool.Decides.{eqb_tells}
 use Rattle.lattice.specs.declared.Point.{Point}
 use Rattle.boundary_model.specs.HalfEdge.{plus, minus}
 use Rattle.boundary_model.specs.Table as table
 use Rattle.boundary_model.specs.Table.{Table, greatest_in, map_entries}
-use Rattle.boundary_model.specs.Model.{Model, EdgeRow, tail}
+use Rattle.boundary_model.specs.Model.{Model, tail}
 use Rattle.boundary_model.specs.Sound.{Has}
 use Rattle.fresh_laws.proofs.Rows.{greatest-put_last, greatest_is, greatest_used, free_above, at_most_greatest, get-put_here, get-put_other, put_turned}
-use Rattle.shapes.specs.Fresh.{Taken, taken_in}
+use Rattle.shapes.specs.Fresh.{taken_in}
 use Rattle.shapes.specs.Rewriting.{rewritten_row}
 use Rattle.split_shapes.specs.Crossings.{doubled, edge_cut}
 

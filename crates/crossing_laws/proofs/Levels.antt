@@ -1,5 +1,5 @@
 -- Where a segment meets a plane: the same from either end, and in range.
-use Rattle.std.proofs.Common.{◌≡◌, ◌≢◌, ℕ, zero, suc, ◌+◌, ◌*◌, ◌/◌, ◌≤◌, Bool, true, false, ◌&&◌, ℤ, pos, negsuc, refl, sym, ap, subst, ◌∙◌, arith, true≢false}
+use Rattle.std.proofs.Common.{◌≡◌, ◌≢◌, ℕ, zero, suc, ◌+◌, ◌*◌, ◌/◌, ◌≤◌, true, false, ◌&&◌, ℤ, pos, negsuc, refl, sym, ap, subst, ◌∙◌, arith}
 use Rattle.std.specs.Prelude.{◌-ℤ◌, ◌*ℤ◌, neg_ℤ}
 use Rattle.std.specs.Int.RustNames.{unsigned_abs, int_div}
 use Rattle.std.specs.Ordering.{int_eq}
@@ -9,7 +9,7 @@ use Rattle.lattice.specs.declared.Point.{Point}
 use Rattle.lattice.specs.declared.Plane.{Plane}
 use Rattle.lattice.specs.Point.{is_coordinate, IsInRange}
 use Rattle.lattice.specs.Ranges.{IsWithin}
-use Rattle.lattice.specs.Vectors.{height, opposite, are_opposite, same_point, cut_multiple, cut_between}
+use Rattle.lattice.specs.Vectors.{height, opposite, are_opposite, same_point, cut_between}
 use Rattle.lattice.proofs.Magnitudes.{coordinates, coordinate_within, product_within}
 
 -- ---- signs

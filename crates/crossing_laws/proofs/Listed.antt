@@ -1,8 +1,8 @@
 -- Lists that tests pick from, and the items and corners of faces.
 use Rattle.std.specs.Prelude.{map, filter}
 use Rattle.std.specs.List.{list_any}
-use Rattle.std.proofs.Common.{◌≡◌, ◌≢◌, ℕ, ◌+◌, ◌≤◌, Bool, true, false, cond, not, nat_eq, ◌&&◌, ◌||◌, List, [], ◌∷◌, ◌++◌, Some, is_some, refl, sym, ap, ◌∙◌, subst, arith, inl, inr, true≢false}
-use Rattle.std.proofs.lemmas.Bool.Decides.{nat_tests, eqb_tells}
+use Rattle.std.proofs.Common.{◌≡◌, ◌≢◌, ℕ, ◌+◌, ◌≤◌, Bool, true, false, cond, not, nat_eq, ◌&&◌, ◌||◌, List, [], ◌∷◌, Some, refl, sym, ap, ◌∙◌, subst, arith, inl, inr, true≢false}
+use Rattle.std.proofs.lemmas.Bool.Decides.{eqb_tells}
 use Rattle.cyclic_list.specs.Items.{count, tick, IsIn}
 use Rattle.cyclic_list.proofs.Lists.{count-append, tick_same, tick_other}
 use Rattle.boundary_model.specs.Table as table
@@ -12,7 +12,7 @@ use Rattle.boundary_model.specs.Sound.{Has}
 use Rattle.euler_operators.specs.Conditions.{lists}
 use Rattle.euler_laws_shared.proofs.Goes.{equals, differs, not_false}
 use Rattle.euler_laws_shared.proofs.Rows.{loop_row}
-use Rattle.euler_laws_shared.proofs.Listed.{listed_passes, passes_listed, first_listed, listed_cases}
+use Rattle.euler_laws_shared.proofs.Listed.{listed_passes, passes_listed, listed_cases}
 use Rattle.solid_measure.proofs.Rising.{in_listed}
 use Rattle.fresh_laws.proofs.Tests.{NoneSuch, NoZero}
 use Rattle.shapes.specs.Faces.{loops_of, items_in, boundary, vertices_on, vertices_in, corners}

@@ -1,16 +1,16 @@
 -- Where the cut places of a face are, once the edges are cut.
 use Rattle.std.specs.Prelude.{filter}
-use Rattle.std.proofs.Common.{◌≡◌, ◌≢◌, ℕ, ◌≤◌, Bool, true, false, cond, not, nat_eq, ◌&&◌, ◌||◌, ℤ, pos, List, [], ◌∷◌, None, is_some, unwrap_or, refl, sym, ap, ◌∙◌, subst, arith, ◌⊎◌, inl, inr, true≢false}
-use Rattle.std.proofs.lemmas.Bool.Decides.{nat_tests, eqb_tells}
+use Rattle.std.proofs.Common.{◌≡◌, ℕ, Bool, true, false, cond, not, nat_eq, ◌&&◌, ◌||◌, ℤ, pos, None, is_some, unwrap_or, refl, sym, ap, ◌∙◌, subst, arith, inl, inr, true≢false}
+use Rattle.std.proofs.lemmas.Bool.Decides.{eqb_tells}
 use Rattle.std.proofs.lemmas.Int.{ints}
 use Rattle.std.specs.Ordering.{int_eq}
 use Rattle.lattice.specs.declared.Plane.{Plane}
 use Rattle.lattice.specs.Vectors.{height, opposite, are_opposite, is_on, cut_between}
-use Rattle.cyclic_list.specs.Items.{count, tick, IsIn}
+use Rattle.cyclic_list.specs.Items.{count, IsIn}
 use Rattle.cyclic_list.proofs.Lists.{tick_other, IsIn_or_not}
-use Rattle.boundary_model.specs.HalfEdge.{mate, edge_of, plus, minus}
+use Rattle.boundary_model.specs.HalfEdge.{edge_of, plus, minus}
 use Rattle.boundary_model.specs.Table as table
-use Rattle.boundary_model.specs.Model.{Model, tail, loop_of, face_of, solid_of, no_face, outer, after, before, point_of, faces_of, rings_of}
+use Rattle.boundary_model.specs.Model.{Model, tail, loop_of, face_of, solid_of, no_face, outer, after, before, point_of, faces_of}
 use Rattle.boundary_model.specs.Sound.{Sound, Has, HasHalf}
 use Rattle.boundary_model.proofs.Halves.{plus_row, minus_row}
 use Rattle.boundary_model.proofs.Models.{face_row}
@@ -18,7 +18,6 @@ use Rattle.euler_operators.specs.Conditions.{first_refusal, face_at, lists}
 use Rattle.euler_laws_shared.proofs.Arcs.{halves_of_edge}
 use Rattle.euler_laws_shared.proofs.Fans.{half_after, loop_after}
 use Rattle.euler_laws_shared.proofs.Goes.{equal, equals}
-use Rattle.euler_laws_shared.proofs.Rows.{face_there}
 use Rattle.euler_laws_shared.proofs.Undo.{mate_plus, mate_minus}
 use Rattle.solid_measure.proofs.Boundaries.{items_counted, items_there}
 use Rattle.shapes.specs.Faces.{start, finish, loops_of, boundary, edges_of}
@@ -30,8 +29,8 @@ use Rattle.split_shapes.specs.Split.{first_conditions}
 use Rattle.crossing_laws.specs.AtPlace.{AtPlace}
 use Rattle.crossing_laws.proofs.Levels.{opposite_back, not_level}
 use Rattle.crossing_laws.proofs.Listed.{listed_in, picked, picked_count, picked_passes, all_where_has}
-use Rattle.crossing_laws.proofs.Runs.{kept_start, cut_at}
-use Rattle.crossing_laws.proofs.Premises.{crossing_here, crossing_point, one_point, minus_crosses, minus_is}
+use Rattle.crossing_laws.proofs.Runs.{kept_start}
+use Rattle.crossing_laws.proofs.Premises.{crossing_here, crossing_point, one_point, minus_crosses}
 use Rattle.crossing_laws.proofs.Whole.{can_cut, gone, is_cut, listed_edge, crossings_cut, crossings_keep, crossings_sound}
 
 level_on : (m : ℤ) → m ≡ pos 0 → int_eq m (pos 0) ≡ true

@@ -1,39 +1,34 @@
 -- What it says that the first conditions of a split hold: each edge that crosses the plane can be cut there.
 use Rattle.std.specs.Prelude.{filter}
 use Rattle.std.specs.List.{list_any, list_all}
-use Rattle.std.proofs.Common.{◌≡◌, ◌≢◌, ℕ, ◌+◌, ◌≤◌, Bool, true, false, cond, not, nat_eq, ◌&&◌, ◌||◌, ℤ, pos, List, [], ◌∷◌, ◌++◌, length, Some, None, is_some, refl, sym, ap, ◌∙◌, subst, arith, ◌⊎◌, inl, inr, true≢false}
+use Rattle.std.proofs.Common.{◌≡◌, ◌≢◌, ℕ, ◌+◌, ◌≤◌, Bool, true, false, cond, not, nat_eq, ◌&&◌, ◌||◌, ℤ, pos, List, [], ◌∷◌, length, is_some, refl, sym, ap, ◌∙◌, subst, arith, ◌⊎◌, inl, inr, true≢false}
 use Rattle.std.specs.Prelude.{int_lt}
-use Rattle.std.specs.Ordering.{int_eq}
-use Rattle.std.proofs.lemmas.Bool.Decides.{nat_tests, eqb_tells}
-use Rattle.std.proofs.lemmas.Int.{ints}
-use Rattle.lattice.specs.declared.Point.{Point}
+use Rattle.std.proofs.lemmas.Bool.Decides.{eqb_tells}
 use Rattle.lattice.specs.declared.Plane.{Plane}
 use Rattle.lattice.specs.Point.{IsInRange}
 use Rattle.lattice.specs.Vectors.{height, opposite, are_opposite, is_above, is_below, is_on, same_point, cuts_lattice, cut_between}
-use Rattle.cyclic_list.specs.Items.{count, IsIn, IsApart}
+use Rattle.cyclic_list.specs.Items.{count, IsIn}
 use Rattle.cyclic_list.proofs.Lists.{tick_other}
-use Rattle.boundary_model.specs.HalfEdge.{mate, plus, minus}
+use Rattle.boundary_model.specs.HalfEdge.{plus, minus}
 use Rattle.boundary_model.specs.Table as table
 use Rattle.boundary_model.specs.Model.{Model, items_of, content, tail, loop_of, face_of, solid_of, point_of, before, faces_of}
 use Rattle.boundary_model.specs.Sound.{Sound, Has, HasHalf, StandsIn}
 use Rattle.boundary_model.proofs.Halves.{plus_row, minus_row}
 use Rattle.boundary_model.proofs.Models.{held_row, cycle_there}
-use Rattle.euler_operators.specs.Conditions.{AllHold, first_refusal, face_at}
-use Rattle.euler_laws_shared.proofs.Goes.{all_hold, not_true, not_back, equal, equals, no_zero}
-use Rattle.euler_laws_shared.proofs.Listed.{all_where-rises}
+use Rattle.euler_operators.specs.Conditions.{AllHold, face_at}
+use Rattle.euler_laws_shared.proofs.Goes.{not_back, equal, equals, no_zero}
 use Rattle.euler_laws_shared.proofs.Rows.{face_there, point_row}
 use Rattle.euler_laws_shared.proofs.Undo.{mate_plus, mate_minus}
-use Rattle.solid_measure.proofs.Rising.{counted_once}
 use Rattle.solid_measure_laws.proofs.Cuts.{cut_height}
 use Rattle.fresh_laws.proofs.Tests.{none_such, Left, numbers_are_left}
 use Rattle.shapes.specs.Faces.{start, finish, edges_of, boundary, corners}
 use Rattle.shapes.specs.Fresh.{first_such, taken_in}
-use Rattle.split_shapes.specs.Sides.{crosses, straddles, straddling_faces, crossing_edges, reaches_above, reaches_below, some_above, some_below}
+use Rattle.split_shapes.specs.Sides.{crosses, straddles, straddling_faces, crossing_edges, reaches_above, reaches_below}
 use Rattle.split_shapes.specs.Places.{is_place, place_point, places, some_meet, is_touched, is_cut_often, is_crossed, is_up_and_down, sorted_pairs, pair_count}
 use Rattle.split_shapes.specs.Split.{first_conditions}
 use Rattle.crossing_laws.proofs.Levels.{opposite_back, not_level, same_as, cut_back, cut_fits}
-use Rattle.crossing_laws.proofs.Listed.{here, picked, picked_count, picked_passes, any_passes, none_at, all_not_zero, all_where_has, all_where_in, item_in_face, tail_in_face}
-use Rattle.crossing_laws.proofs.Runs.{Crossing, cut_at}
+use Rattle.crossing_laws.proofs.Listed.{picked, picked_count, picked_passes, any_passes, none_at, all_not_zero, all_where_has, all_where_in, item_in_face, tail_in_face}
+use Rattle.crossing_laws.proofs.Runs.{Crossing}
 
 -- ---- two places of a face with equal points
 

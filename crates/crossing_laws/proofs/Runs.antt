@@ -1,11 +1,10 @@
 -- Edges cut one after the other.
-use Rattle.std.proofs.Common.{◌≡◌, ◌≢◌, ℕ, ◌+◌, ◌≤◌, ◌<◌, true, false, ℤ, pos, List, [], ◌∷◌, length, Some, None, is_some, unwrap_or, IsTrue, refl, sym, ap, ◌∙◌, subst, arith, ◌⊎◌, inl, inr}
-use Rattle.std.proofs.lemmas.Bool.Decides.{nat_tests, eqb_tells}
-use Rattle.std.proofs.lemmas.Int.{ints}
+use Rattle.std.proofs.Common.{◌≡◌, ◌≢◌, ℕ, ◌+◌, ◌≤◌, ◌<◌, true, false, pos, List, [], ◌∷◌, length, None, is_some, unwrap_or, IsTrue, refl, sym, ap, ◌∙◌, subst, arith, ◌⊎◌, inl, inr}
+use Rattle.std.proofs.lemmas.Bool.Decides.{eqb_tells}
 use Rattle.lattice.specs.declared.Point.{Point}
 use Rattle.lattice.specs.declared.Plane.{Plane}
 use Rattle.lattice.specs.Point.{IsInRange}
-use Rattle.lattice.specs.Vectors.{height, opposite, are_opposite, cut_between}
+use Rattle.lattice.specs.Vectors.{height, are_opposite, cut_between}
 use Rattle.cyclic_list.specs.Items.{count, tick, IsIn}
 use Rattle.cyclic_list.proofs.Lists.{tick_same, tick_other}
 use Rattle.boundary_model.specs.HalfEdge.{mate, edge_of, plus, minus}
@@ -14,18 +13,17 @@ use Rattle.boundary_model.specs.Model.{Model, tail, loop_of, point_of, no_point,
 use Rattle.boundary_model.specs.Sound.{Sound, Has, HasHalf}
 use Rattle.boundary_model.proofs.Halves.{plus_row, minus_row, edge_of-mate}
 use Rattle.euler_laws.specs.Laws.{AreAccepted, effects}
-use Rattle.euler_laws_shared.proofs.Undo.{mate_plus, mate_minus}
+use Rattle.euler_laws_shared.proofs.Undo.{mate_plus}
 use Rattle.fresh_laws.proofs.Rows.{none_above}
 use Rattle.fresh_laws.proofs.Tests.{number_fits}
 use Rattle.shapes.specs.Faces.{start, finish}
-use Rattle.shapes.specs.Fresh.{Taken, taken_in, Growing}
+use Rattle.shapes.specs.Fresh.{taken_in, Growing}
 use Rattle.split_shapes.specs.Sides.{crosses}
 use Rattle.split_shapes.specs.Crossings.{edge_cut, next_cut, all_cut}
 use Rattle.crossing_laws.specs.CrossingOps.{cut_edge, ops_from}
 use Rattle.crossing_laws.specs.Kept.{Kept}
 use Rattle.crossing_laws.proofs.Levels.{level_first, level_second}
-use Rattle.crossing_laws.proofs.OneCut.{CanCut}
-use Rattle.crossing_laws.proofs.Steps.{CutGoes, cut_accepted, cut_made, cut_sound, cut_keeps, edge_other, apart_new, point_new, tail_old, tail_new, tail_other}
+use Rattle.crossing_laws.proofs.Steps.{CutGoes, cut_accepted, cut_made, cut_sound, cut_keeps, edge_other, point_new, tail_old, tail_new, tail_other}
 use Rattle.crossing_laws.proofs.Counters.{taken_then}
 
 -- where edge e meets the plane

@@ -1,6 +1,6 @@
 -- One edge cut: the operator that does it, and what stays.
 use Rattle.std.specs.Prelude.{flat_map}
-use Rattle.std.proofs.Common.{◌≡◌, ◌≢◌, ℕ, ◌+◌, ◌≤◌, ◌<◌, true, false, cond, nat_eq, List, [], ◌∷◌, ◌++◌, Option, Some, None, is_some, unwrap_or, IsTrue, refl, sym, ap, ◌∙◌, subst, arith, inl, inr, true≢false}
+use Rattle.std.proofs.Common.{◌≡◌, ◌≢◌, ℕ, ◌≤◌, true, cond, nat_eq, List, [], ◌∷◌, Some, None, is_some, unwrap_or, IsTrue, refl, sym, ap, ◌∙◌, subst, arith, inl, inr, true≢false}
 use Rattle.std.proofs.lemmas.Bool.Decides.{nat_tests, eqb_tells}
 use Rattle.lattice.specs.declared.Point.{Point}
 use Rattle.lattice.specs.Point.{IsInRange}
@@ -9,11 +9,11 @@ use Rattle.cyclic_list.specs.Rings.{rotate_to, canonical}
 use Rattle.cyclic_list.proofs.Lists.{count-append, tick_same, tick_other}
 use Rattle.cyclic_list.proofs.Rotations.{count-canonical}
 use Rattle.boundary_model.specs.declared.Corner.TheVariants.{At}
-use Rattle.boundary_model.specs.HalfEdge.{mate, edge_of, is_first, plus, minus, half, code}
+use Rattle.boundary_model.specs.HalfEdge.{edge_of, is_first, plus, minus, half, code}
 use Rattle.boundary_model.specs.Table as table
 use Rattle.boundary_model.specs.Table.{Table}
-use Rattle.boundary_model.specs.Model.{Model, LoopContent, lone, cycle, EdgeRow, items_of, holds, tail, tail_in, loop_of, content, face_of, cycle_of, after, point_of, no_point, is_number}
-use Rattle.boundary_model.specs.Sound.{Sound, Has, HasHalf, StandsIn}
+use Rattle.boundary_model.specs.Model.{Model, LoopContent, lone, cycle, EdgeRow, items_of, holds, tail, tail_in, loop_of, content, after, point_of, no_point, is_number}
+use Rattle.boundary_model.specs.Sound.{Sound, Has, HasHalf}
 use Rattle.boundary_model.proofs.Halves.{plus_row, minus_row, code-half}
 use Rattle.boundary_model.proofs.Models.{in-holds, holds_in, tail_row}
 use Rattle.euler_operators.specs.declared.Op.{Op}
@@ -22,7 +22,6 @@ use Rattle.euler_operators.specs.Conditions.{first_false}
 use Rattle.euler_operators.specs.Effect.{effect, mev_at}
 use Rattle.euler_laws_shared.proofs.Same.{Rewritten, content-new, face-same, loop-same}
 use Rattle.euler_laws_shared.proofs.Undo.{mate_minus}
-use Rattle.euler_laws_shared.proofs.Goes.{differs}
 use Rattle.euler_laws_mev.proofs.MevSound.{MevGoes}
 use Rattle.euler_laws_mev.proofs.Mev.{mev_accepted}
 use Rattle.euler_laws.proofs.Cases.{effect_keeps_sound}

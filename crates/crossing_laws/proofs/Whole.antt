@@ -1,13 +1,11 @@
 -- All edges of a solid that cross a plane cut: from the first conditions of a split to the model.
-use Rattle.std.proofs.Common.{◌≡◌, ◌≢◌, ℕ, ◌+◌, ◌≤◌, Bool, true, false, cond, not, nat_eq, ◌&&◌, pos, List, [], ◌∷◌, length, None, is_some, unwrap_or, refl, sym, ap, ◌∙◌, subst, arith, ◌⊎◌, inl, inr, true≢false}
-use Rattle.std.proofs.lemmas.Bool.Decides.{nat_tests, eqb_tells}
-use Rattle.std.specs.Ordering.{int_eq}
+use Rattle.std.proofs.Common.{◌≡◌, ℕ, ◌≤◌, Bool, true, false, nat_eq, [], None, is_some, unwrap_or, refl, sym, ap, ◌∙◌, arith, inl, inr}
 use Rattle.lattice.specs.declared.Plane.{Plane}
-use Rattle.lattice.specs.Vectors.{height, are_opposite, is_on}
+use Rattle.lattice.specs.Vectors.{are_opposite}
 use Rattle.cyclic_list.specs.Items.{count, IsIn}
-use Rattle.boundary_model.specs.HalfEdge.{mate, plus, minus}
+use Rattle.boundary_model.specs.HalfEdge.{plus, minus}
 use Rattle.boundary_model.specs.Table as table
-use Rattle.boundary_model.specs.Model.{Model, tail, loop_of, face_of, solid_of, no_face, after, point_of}
+use Rattle.boundary_model.specs.Model.{Model, tail, loop_of, face_of, solid_of, no_face}
 use Rattle.boundary_model.specs.Sound.{Sound, Has, HasHalf}
 use Rattle.boundary_model.proofs.Halves.{plus_row, minus_row}
 use Rattle.euler_operators.specs.Conditions.{first_refusal, face_at, lists}
@@ -17,7 +15,7 @@ use Rattle.euler_laws_shared.proofs.Listed.{all_where-rises}
 use Rattle.euler_laws_shared.proofs.Loops.{some_row}
 use Rattle.euler_laws_shared.proofs.Undo.{mate_plus}
 use Rattle.solid_measure.proofs.Rising.{counted_once, none_counted}
-use Rattle.shapes.specs.Faces.{start, finish, edges_of}
+use Rattle.shapes.specs.Faces.{start, edges_of}
 use Rattle.shapes.specs.Fresh.{taken_in, growing}
 use Rattle.split_shapes.specs.Sides.{crosses, crossing_edges}
 use Rattle.split_shapes.specs.Crossings.{with_crossings}
