@@ -8,7 +8,6 @@ use Rattle.undo_journal.specs.Machine.{Machine}
 use Rattle.solid_listing.specs.declared.reply.Reply.TheVariants as reply
 use Rattle.gwb.specs.Judging.{Judges}
 use Rattle.gwb.specs.Settling.{Decides}
-use Rattle.gwb.specs.declared.judging.Answer.{Answer}
 use Rattle.gwb.specs.declared.judging.Answer.TheVariants.{Reply as Told}
 use Rattle.gwb.specs.declared.larger.Larger.{Larger}
 use Rattle.gwb.specs.declared.running.Heard.{Heard}
