@@ -1,5 +1,5 @@
 -- One line after another.
-use Rattle.std.proofs.Common.{◌≡◌, ◌≢◌, inl, inr, ℕ, ◌<◌, Bool, true, false, List, [], ◌∷◌, ◌++◌, length, refl, sym, ap, subst, ◌∙◌, arith, append_assoc, Option, Ok, Err}
+use Rattle.std.proofs.Common.{◌≡◌, ◌≢◌, inl, inr, ℕ, ◌<◌, Bool, true, false, List, [], ◌∷◌, ◌++◌, length, refl, sym, ap, subst, ◌∙◌, arith, append_assoc, Option, Some, None, Ok, Err}
 use Rattle.std.proofs.lemmas.List.{append-nil}
 use Rattle.std.proofs.lemmas.Bool.{cases_Bool}
 use Rattle.std.proofs.lemmas.Bool.Decides.{nat_tests}
@@ -73,20 +73,23 @@ long_told : (line : List ℕ) → 65536 < length line → command_of line ≡ Er
 long_told line h = let e : nat_lt 65536 (length line) ≡ true = grind (arith, nat_tests) in
     ap (λ (b : Bool). if b then Err LongLine else (if is_ascii line then command_of_words (words line) else Err NotAscii)) e
 
-pub heard_same : {R : Type 0} (remaining : R → Option (List ℕ)) (lines next : Lines R) (s t u : Machine) (a b : Answer)
-    → Hears remaining lines next s t (heard.Line a) → b ≡ a → u ≡ t → Hears remaining lines next s u (heard.Line b)
-heard_same remaining lines next s t u a b h ea et = rw (ea, et) h
+-- a line that was heard is answered, wherever a larger command was put
+pub answered_line : {R : Type 0} (remaining : R → Option (List ℕ)) (lines next : Lines R) (s t u : Machine) (later : Option Larger) (a b : Answer)
+    → Hears remaining lines next s t later (heard.Line a) → b ≡ a → u ≡ t → Hears remaining lines next s u None (heard.Line b)
+answered_line remaining lines next s t u later a b h ea et = rw (ea, et) h
 
 -- a larger command that was heard is answered as it is carried out
-pub carried : {R : Type 0} (remaining : R → Option (List ℕ)) (lines next : Lines R) (s m t u : Machine) (l : Larger) (a b : Answer)
-    → Hears remaining lines next s m (heard.Larger l) → Obeys m (spelled l) a t → b ≡ a → u ≡ t → Hears remaining lines next s u (heard.Line b)
-carried remaining lines next s m t u l a b h obeys ea et = heard_same remaining lines next s t u a b (inl (
-  h.0,
-  subst (λ (r : Result Command Fault). Answers s r a t) (sym h.1) (subst (λ (q : Machine). Obeys q (spelled l) a t) h.2 obeys),
-)) ea et
+pub carried : {R : Type 0} (remaining : R → Option (List ℕ)) (lines next : Lines R) (s m t u : Machine) (later : Option Larger) (l : Larger) (a b : Answer)
+    → Hears remaining lines next s m later heard.Larger → later ≡ Some l → Obeys m (spelled l) a t → b ≡ a → u ≡ t → Hears remaining lines next s u None (heard.Line b)
+carried remaining lines next s m t u later l a b h is obeys ea et =
+    let same : h.1.0 ≡ l = cc (h.1.1, is) in
+    answered_line remaining lines next s t u None a b (inl (
+      h.0,
+      subst (λ (r : Result Command Fault). Answers s r a t) (sym h.1.2) (subst (λ (j : Larger). Obeys s (spelled j) a t) (sym same) (subst (λ (q : Machine). Obeys q (spelled l) a t) h.1.3 obeys)),
+    )) ea et
 
 pub turn_of : {R : Type 0} (remaining : R → Option (List ℕ)) (first : Option (List ℕ)) (lines next : Lines R) (old new : Option (List ℕ)) (stop : Bool) (s : Machine) (n : Summary) (a : Answer) (t : Machine)
-    → Progress remaining first lines old new stop s n → Hears remaining lines next s t (heard.Line a) → Turn remaining first next old new stop s n a t
+    → Progress remaining first lines old new stop s n → Hears remaining lines next s t None (heard.Line a) → Turn remaining first next old new stop s n a t
 turn_of remaining first lines next old new stop s n a t p h = elim h [
   | inl short ↦ record { heard = p.heard; line = line_of next; read = (has_line_more remaining first lines next p.heard p.read short.0).0; out = p.out; appended = p.appended; runs = p.runs; judges = short.1 }
   | inr long ↦
@@ -242,7 +245,7 @@ nothing_begins first last old stop none = record {
 }
 
 -- a line takes its bytes from what is to come
-pub falls : {R : Type 0} (remaining : R → Option (List ℕ)) (lines next : Lines R) (s : Machine) (a : Answer) (t : Machine) → Hears remaining lines next s t (heard.Line a)
+pub falls : {R : Type 0} (remaining : R → Option (List ℕ)) (lines next : Lines R) (s : Machine) (a : Answer) (t : Machine) → Hears remaining lines next s t None (heard.Line a)
     → to_come (taken_of next) (unread_of next) < to_come (taken_of lines) (unread_of lines)
 falls remaining lines next s a t h = elim h [ inl short ↦ falls_by_line remaining lines next short.0 | inr long ↦ falls_by_long remaining lines next long.0 ]
 

@@ -1,6 +1,5 @@
 -- What a step of a run hears.
-use Rattle.std.specs.Prelude.{◌≡◌, ◌⊎◌, ℕ, List, Option, Ok}
-use Rattle.script_reader.specs.Grammar.{command_of}
+use Rattle.std.specs.Prelude.{◌≡◌, ◌⊎◌, ℕ, List, Option, None}
 use Rattle.script_reader.specs.Next.{Went}
 use Rattle.script_reader.specs.State.{line_of}
 use Rattle.script_reader.specs.declared.lines.Lines.{Lines}
@@ -8,16 +7,16 @@ use Rattle.script_reader.specs.declared.lines.Found.TheVariants as found
 use Rattle.undo_journal.specs.Machine.{Machine}
 use Rattle.solid_listing.specs.declared.reply.Reply.TheVariants as reply
 use Rattle.gwb.specs.Judging.{Judges}
-use Rattle.gwb.specs.Settling.{spelled}
-use Rattle.gwb.specs.declared.judging.Answer.{Answer}
+use Rattle.gwb.specs.Settling.{Decides}
 use Rattle.gwb.specs.declared.judging.Answer.TheVariants.{Reply as Told}
+use Rattle.gwb.specs.declared.larger.Larger.{Larger}
 use Rattle.gwb.specs.declared.running.Heard.{Heard}
 use Rattle.gwb.specs.declared.running.Heard.TheVariants as heard
 
 -- the next line was read and answered, or skipped as too long, or spells a larger command
-abbrev pub Hears : {R : Type 0} → (R → Option (List ℕ)) → Lines R → Lines R → Machine → Machine → Heard → Type 0
-Hears remaining old new s t (heard.Line a) = (Went remaining old new found.Line × Judges s (line_of new) a t) ⊎ (Went remaining old new found.Long × (a ≡ Told (reply.Fault 6)) × (t ≡ s))
-Hears remaining old new s t (heard.Larger l) = Went remaining old new found.Line × (command_of (line_of new) ≡ Ok (spelled l)) × (t ≡ s)
-Hears remaining old new s t heard.End = Went remaining old new found.End × (t ≡ s)
-Hears remaining old new s t heard.Read = Went remaining old new found.Read × (t ≡ s)
-Hears remaining old new s t heard.TooLong = Went remaining old new found.TooLong × (t ≡ s)
+abbrev pub Hears : {R : Type 0} → (R → Option (List ℕ)) → Lines R → Lines R → Machine → Machine → Option Larger → Heard → Type 0
+Hears remaining old new s t later (heard.Line a) = (Went remaining old new found.Line × Judges s (line_of new) a t) ⊎ (Went remaining old new found.Long × (a ≡ Told (reply.Fault 6)) × (t ≡ s))
+Hears remaining old new s t later heard.Larger = Went remaining old new found.Line × Decides s (line_of new) None t later
+Hears remaining old new s t later heard.End = Went remaining old new found.End × (t ≡ s)
+Hears remaining old new s t later heard.Read = Went remaining old new found.Read × (t ≡ s)
+Hears remaining old new s t later heard.TooLong = Went remaining old new found.TooLong × (t ≡ s)

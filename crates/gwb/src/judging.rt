@@ -23,13 +23,6 @@ pub enum Answer {
     Listing,
 }
 
-/// What a line comes to before the session moves.
-pub(crate) enum Judged {
-    Answered(Answer),
-    /// A command that takes the session, yet to be carried out.
-    Larger(Larger),
-}
-
 /// What a run counted.
 #[derive(Clone, Copy, Debug, Default, PartialEq, Eq)]
 pub struct Summary {
@@ -170,34 +163,45 @@ fn count_reply(arena: &Arena, solid: u32) -> Result<Reply, Refusal>
     ]))
 }
 
-/// Answers a command, or finds it to be a larger one. A command that the workbench doesn't know yet is answered as an unknown word.
-fn obey(session: &mut Session, command: Command) -> Judged
-    ensures { Settles session.old command result session.new }
+/// Answers a command, or puts a larger one in `later`. A command that the workbench doesn't know yet is answered as an unknown word.
+fn obey(session: &mut Session, command: Command, later: &mut Option<Larger>) -> Option<Answer>
+    ensures { Settles session.old command result session.new later.new }
 {
     match command {
-        Command::Nothing => Judged::Answered(Answer::Silent),
-        Command::Act(op) => Judged::Answered(act(session, op)),
-        Command::Lamina(solid, corners) => Judged::Larger(Larger::Lamina(solid, corners)),
-        Command::Block(solid, corner, dx, dy, dz) => {
-            Judged::Larger(Larger::Block(solid, corner, dx, dy, dz))
+        Command::Nothing => Some(Answer::Silent),
+        Command::Act(op) => Some(act(session, op)),
+        Command::Lamina(solid, corners) => {
+            *later = Some(Larger::Lamina(solid, corners));
+            None
         }
-        Command::Sweep(face, way) => Judged::Larger(Larger::Sweep(face, way)),
-        Command::Plane(face) => Judged::Answered(told(plane_reply(session.arena(), face))),
-        Command::Volume(solid) => Judged::Answered(told(volume_reply(session.arena(), solid))),
-        Command::Count(solid) => Judged::Answered(told(count_reply(session.arena(), solid))),
-        Command::Undo => Judged::Answered(undo(session)),
-        Command::Redo => Judged::Answered(redo(session)),
-        Command::List => Judged::Answered(Answer::Listing),
-        Command::Glue(_, _) | Command::Split(_, _, _) => Judged::Answered(unknown()),
+        Command::Block(solid, corner, dx, dy, dz) => {
+            *later = Some(Larger::Block(solid, corner, dx, dy, dz));
+            None
+        }
+        Command::Sweep(face, way) => {
+            *later = Some(Larger::Sweep(face, way));
+            None
+        }
+        Command::Plane(face) => Some(told(plane_reply(session.arena(), face))),
+        Command::Volume(solid) => Some(told(volume_reply(session.arena(), solid))),
+        Command::Count(solid) => Some(told(count_reply(session.arena(), solid))),
+        Command::Undo => Some(undo(session)),
+        Command::Redo => Some(redo(session)),
+        Command::List => Some(Answer::Listing),
+        Command::Glue(_, _) | Command::Split(_, _, _) => Some(unknown()),
     }
 }
 
-/// Judges a line.
-pub(crate) fn judge(session: &mut Session, line: &[u8]) -> Judged
-    ensures { Decides session.old line.now result session.new }
+/// Judges a line: its answer, or none where it spells a larger command, which is put in `later`.
+pub(crate) fn judge(
+    session: &mut Session,
+    line: &[u8],
+    later: &mut Option<Larger>,
+) -> Option<Answer>
+    ensures { Decides session.old line.now result session.new later.new }
 {
     match read_line(line) {
-        Ok(command) => obey(session, command),
-        Err(fault) => Judged::Answered(Answer::Reply(Reply::Fault(fault.code()))),
+        Ok(command) => obey(session, command, later),
+        Err(fault) => Some(Answer::Reply(Reply::Fault(fault.code()))),
     }
 }

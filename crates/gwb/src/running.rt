@@ -7,7 +7,7 @@ ghost use Rattle.gwb.specs.Judging.{answer_text};
 ghost use Rattle.gwb.specs.Outs.{Runs, stops};
 ghost use Rattle.gwb.specs.Hearing.{Hears};
 
-use crate::judging::{Answer, Judged, Summary, complains, judge};
+use crate::judging::{Answer, Summary, complains, judge};
 use crate::larger::{Larger, carry_out};
 use script_reader::{Fault, Lines, NextLine};
 use solid_listing::{Reply, write_listing, write_reply};
@@ -36,21 +36,21 @@ pub enum RunFault {
 /// What a step of a run heard.
 enum Heard {
     Line(Answer),
-    /// A command that takes the session, yet to be carried out.
-    Larger(Larger),
+    /// A command that takes the session was put aside.
+    Larger,
     End,
     Read,
     TooLong,
 }
 
 /// The next line judged.
-fn hear<R: Read>(lines: &mut Lines<R>, session: &mut Session) -> Heard
-    ensures { Hears R.remaining lines.old lines.new session.old session.new result }
+fn hear<R: Read>(lines: &mut Lines<R>, session: &mut Session, later: &mut Option<Larger>) -> Heard
+    ensures { Hears R.remaining lines.old lines.new session.old session.new later.new result }
 {
     match lines.next_line() {
-        NextLine::Line(line) => match judge(session, line) {
-            Judged::Answered(answer) => Heard::Line(answer),
-            Judged::Larger(larger) => Heard::Larger(larger),
+        NextLine::Line(line) => match judge(session, line, later) {
+            Some(answer) => Heard::Line(answer),
+            None => Heard::Larger,
         },
         NextLine::Long => Heard::Line(Answer::Reply(Reply::Fault(Fault::LongLine.code()))),
         NextLine::End => Heard::End,
@@ -121,12 +121,14 @@ pub fn run<R: Read + Drop, W: Write>(
     let Ok(mut session) = Session::new(alloc) else {
         return Err(RunFault::Memory);
     };
+    let mut later = None;
     let mut summary = Summary::default();
     'script: loop {
         flush(&lines, writer)?;
-        let answer = match hear(&mut lines, &mut session) {
+        let answer = match hear(&mut lines, &mut session, &mut later) {
             Heard::Line(answer) => answer,
-            Heard::Larger(larger) => {
+            Heard::Larger => {
+                let larger = later.take().unwrap();
                 let (next, answer) = carry_out(alloc, session, larger);
                 session = next;
                 answer

@@ -1,10 +1,10 @@
-use Rattle.std.proofs.Common.{◌≡◌, ◌+◌, ℕ, sym, ap, subst, ◌∙◌, arith}
+use Rattle.std.proofs.Common.{◌≡◌, ◌+◌, ℕ, sym, ap, subst, ◌∙◌, arith, None}
 use Rattle.std.proofs.lemmas.Result.{err_from_is_err_and}
 use Rattle.std.proofs.KnownBytes.{Consumes-nil}
 use Rattle.gwb.specs.declared.judging.Summary.{Summary}
 use Rattle.gwb.specs.Judging.{no_lines}
 use Rattle.gwb.proofs.Counting.{IsWithin, same_counts, counted_within, one_more}
-use Rattle.gwb.proofs.RunLaws.{Progress, begins, flushed, turn_of, goes_on, heard_same, carried, stopped, ends, finished, read_fails, too_long, write_fails, flush_fails, nothing_begins, falls, stop_is}
+use Rattle.gwb.proofs.RunLaws.{Progress, begins, flushed, turn_of, goes_on, answered_line, carried, stopped, ends, finished, read_fails, too_long, write_fails, flush_fails, nothing_begins, falls, stop_is}
 use Rattle.gwb.specs.Hearing.{Hears}
 use Rattle.gwb.specs.declared.running.Heard.TheVariants as heard
 use Rattle.gwb.proofs.running.run.Goals.{in-Line, in-Larger}
@@ -51,18 +51,18 @@ returns-in-TooLong g c =
 
 pub count-requires-clause-lines : goal.count-requires-clause-lines
 count-requires-clause-lines g c =
-    let told : Hears g.R.Read.remaining c.script.lines c.hear.new.lines c.script.session c.match-hear.session (heard.Line c.match-hear.answer) = elim c.match-hear.branch [
-      | in-Line w ↦ heard_same g.R.Read.remaining _ _ _ _ _ _ _ w.in-Line.ensures w.answer-is w.session-is
-      | in-Larger w ↦ carried g.R.Read.remaining _ _ _ _ _ _ _ _ _ w.in-Larger.ensures w.carry_out-next.ensures w.answer-is w.session-is
+    let told : Hears g.R.Read.remaining c.script.lines c.hear.new.lines c.script.session c.match-hear.session None (heard.Line c.match-hear.answer) = elim c.match-hear.branch [
+      | in-Line w ↦ answered_line g.R.Read.remaining _ _ _ _ _ None _ _ w.in-Line.ensures w.answer-is w.session-is
+      | in-Larger w ↦ carried g.R.Read.remaining _ _ _ _ _ _ _ _ _ _ w.in-Larger.ensures (sym w.take.ensures.value ∙ w.unwrap-larger.ensures) w.carry_out-next.ensures w.answer-is w.session-is
     ] in
     let less = falls g.R.Read.remaining c.script.lines c.hear.new.lines c.script.session c.match-hear.answer c.match-hear.session told in
     omega (arith, less, c.script.invariant.bound)
 
 pub returns-in_err-say : goal.returns-in_err-say
 returns-in_err-say g c =
-    let told : Hears g.R.Read.remaining c.script.lines c.hear.new.lines c.script.session c.match-hear.session (heard.Line c.match-hear.answer) = elim c.match-hear.branch [
-      | in-Line w ↦ heard_same g.R.Read.remaining _ _ _ _ _ _ _ w.in-Line.ensures w.answer-is w.session-is
-      | in-Larger w ↦ carried g.R.Read.remaining _ _ _ _ _ _ _ _ _ w.in-Larger.ensures w.carry_out-next.ensures w.answer-is w.session-is
+    let told : Hears g.R.Read.remaining c.script.lines c.hear.new.lines c.script.session c.match-hear.session None (heard.Line c.match-hear.answer) = elim c.match-hear.branch [
+      | in-Line w ↦ answered_line g.R.Read.remaining _ _ _ _ _ None _ _ w.in-Line.ensures w.answer-is w.session-is
+      | in-Larger w ↦ carried g.R.Read.remaining _ _ _ _ _ _ _ _ _ _ w.in-Larger.ensures (sym w.take.ensures.value ∙ w.unwrap-larger.ensures) w.carry_out-next.ensures w.answer-is w.session-is
     ] in
     let p = err_from_is_err_and c.from_residual-in_err-say.result c.from_residual-in_err-say.ensures.1 in
     let at = flushed g.R.Read.remaining _ c.script.lines _ (g.W.Write.contents c.script.writer) (g.W.Write.contents c.flush.new.writer) _ _ _ c.script.invariant.progress c.in_ok-flush.ensures.kept in
@@ -71,9 +71,9 @@ returns-in_err-say g c =
 
 pub returns-then-stops : goal.returns-then-stops
 returns-then-stops g c =
-    let told : Hears g.R.Read.remaining c.script.lines c.hear.new.lines c.script.session c.match-hear.session (heard.Line c.match-hear.answer) = elim c.match-hear.branch [
-      | in-Line w ↦ heard_same g.R.Read.remaining _ _ _ _ _ _ _ w.in-Line.ensures w.answer-is w.session-is
-      | in-Larger w ↦ carried g.R.Read.remaining _ _ _ _ _ _ _ _ _ w.in-Larger.ensures w.carry_out-next.ensures w.answer-is w.session-is
+    let told : Hears g.R.Read.remaining c.script.lines c.hear.new.lines c.script.session c.match-hear.session None (heard.Line c.match-hear.answer) = elim c.match-hear.branch [
+      | in-Line w ↦ answered_line g.R.Read.remaining _ _ _ _ _ None _ _ w.in-Line.ensures w.answer-is w.session-is
+      | in-Larger w ↦ carried g.R.Read.remaining _ _ _ _ _ _ _ _ _ _ w.in-Larger.ensures (sym w.take.ensures.value ∙ w.unwrap-larger.ensures) w.carry_out-next.ensures w.answer-is w.session-is
     ] in
     let at = flushed g.R.Read.remaining _ c.script.lines _ (g.W.Write.contents c.script.writer) (g.W.Write.contents c.flush.new.writer) _ _ _ c.script.invariant.progress c.in_ok-flush.ensures.kept in
     let turn = turn_of g.R.Read.remaining _ c.script.lines c.hear.new.lines _ _ _ _ _ c.match-hear.answer c.match-hear.session at told in
@@ -84,17 +84,17 @@ returns-then-stops g c =
 
 pub script-smaller : goal.script-smaller
 script-smaller g c =
-    let told : Hears g.R.Read.remaining c.script.lines c.hear.new.lines c.script.session c.match-hear.session (heard.Line c.match-hear.answer) = elim c.match-hear.branch [
-      | in-Line w ↦ heard_same g.R.Read.remaining _ _ _ _ _ _ _ w.in-Line.ensures w.answer-is w.session-is
-      | in-Larger w ↦ carried g.R.Read.remaining _ _ _ _ _ _ _ _ _ w.in-Larger.ensures w.carry_out-next.ensures w.answer-is w.session-is
+    let told : Hears g.R.Read.remaining c.script.lines c.hear.new.lines c.script.session c.match-hear.session None (heard.Line c.match-hear.answer) = elim c.match-hear.branch [
+      | in-Line w ↦ answered_line g.R.Read.remaining _ _ _ _ _ None _ _ w.in-Line.ensures w.answer-is w.session-is
+      | in-Larger w ↦ carried g.R.Read.remaining _ _ _ _ _ _ _ _ _ _ w.in-Larger.ensures (sym w.take.ensures.value ∙ w.unwrap-larger.ensures) w.carry_out-next.ensures w.answer-is w.session-is
     ] in
     falls g.R.Read.remaining c.script.lines c.hear.new.lines c.script.session c.match-hear.answer c.match-hear.session told
 
 pub script-preserved : goal.script-preserved
 script-preserved g c =
-    let told : Hears g.R.Read.remaining c.script.lines c.hear.new.lines c.script.session c.match-hear.session (heard.Line c.match-hear.answer) = elim c.match-hear.branch [
-      | in-Line w ↦ heard_same g.R.Read.remaining _ _ _ _ _ _ _ w.in-Line.ensures w.answer-is w.session-is
-      | in-Larger w ↦ carried g.R.Read.remaining _ _ _ _ _ _ _ _ _ w.in-Larger.ensures w.carry_out-next.ensures w.answer-is w.session-is
+    let told : Hears g.R.Read.remaining c.script.lines c.hear.new.lines c.script.session c.match-hear.session None (heard.Line c.match-hear.answer) = elim c.match-hear.branch [
+      | in-Line w ↦ answered_line g.R.Read.remaining _ _ _ _ _ None _ _ w.in-Line.ensures w.answer-is w.session-is
+      | in-Larger w ↦ carried g.R.Read.remaining _ _ _ _ _ _ _ _ _ _ w.in-Larger.ensures (sym w.take.ensures.value ∙ w.unwrap-larger.ensures) w.carry_out-next.ensures w.answer-is w.session-is
     ] in
     let at = flushed g.R.Read.remaining _ c.script.lines _ (g.W.Write.contents c.script.writer) (g.W.Write.contents c.flush.new.writer) _ _ _ c.script.invariant.progress c.in_ok-flush.ensures.kept in
     let turn = turn_of g.R.Read.remaining _ c.script.lines c.hear.new.lines _ _ _ _ _ c.match-hear.answer c.match-hear.session at told in
