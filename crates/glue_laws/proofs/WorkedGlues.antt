@@ -8,8 +8,8 @@ use Rattle.boundary_model.specs.declared.Corner.TheVariants.{At, Lone}
 use Rattle.boundary_model.specs.Model.{Model, FaceRow, EdgeRow, empty_model, content, tail, loop_of, face_of, solid_of, outer, arc, holds, after, point_of}
 use Rattle.euler_operators.specs.Conditions.{conditions, first_false, has_rings}
 use Rattle.euler_operators.specs.Effect.{effect, inverse, mvfs, kvfs_at, mev_lone, mev_at, kev, mef, kef, kemr, mekr, kfmrh, mfkrh, ring_in, ring_out, take_outer, merge, part}
-use Rattle.euler_operators.specs.declared.Op.TheVariants.{Mev, Mef, Kemr, Kfmrh}
-use Rattle.euler_operators.specs.declared.Why.TheVariants.{SameSolid, HasRings, NoMatch}
+use Rattle.euler_operators.specs.declared.Op.TheVariants.{Mvfs, Mev, Mef, Kemr, Kfmrh}
+use Rattle.euler_operators.specs.declared.Why.TheVariants.{NoFace, SameSolid, HasRings, LoneLoop, NotFlat, NoMatch}
 use Rattle.euler_operators.proofs.WorkedScripts.{run, after_run, refused, plus, minus, at, loop}
 use Rattle.shapes.specs.Faces.{loops_of, boundary, corners}
 use Rattle.shapes.specs.Fresh.{taken_in}
@@ -128,6 +128,19 @@ with_small = block_model through 2 (at 0 0 6) (pos 1) (pos 1) (pos 1)
 glue-refused : (glue_refusal with_small 1 12 ≡ refused HasRings 1) × (glue_refusal with_small 3 12 ≡ refused NoMatch 12)
 unfolding computed
 glue-refused = (refl, refl)
+
+-- ---- points and wires
+
+abbrev points : Model
+points = after_run empty_model (Mvfs 1 1 1 1 (at 0 0 0) ∷ Mvfs 2 2 2 2 (at 0 0 0) ∷ [])
+
+abbrev wires : Model
+wires = after_run points (Mev (Lone 1) (Lone 1) (plus 1) 3 (at 5 0 0) ∷ Mev (Lone 2) (Lone 2) (plus 2) 4 (at 5 0 0) ∷ [])
+
+-- a loop that goes back along its own edge lies on no plane
+wire-answers : (glue_refusal points 1 2 ≡ refused LoneLoop 1) × (glue_refusal wires 1 2 ≡ refused NotFlat 1) × (glue_refusal wires 1 1 ≡ refused SameSolid 1) × (glue_refusal wires 1 3 ≡ refused NoFace 3)
+unfolding computed
+wire-answers = (refl, refl, refl, refl)
 
 -- ---- the operators
 
