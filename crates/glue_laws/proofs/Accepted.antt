@@ -7,11 +7,11 @@ use Rattle.boundary_model.specs.Sound.{Sound}
 use Rattle.euler_operators.specs.declared.Op.{Op}
 use Rattle.euler_laws.specs.Laws.{AreAccepted, effects}
 use Rattle.euler_laws.proofs.Runs.{effects_keep_sound}
-use Rattle.glue_laws.specs.Glue.{rim, partner, glue_refusal, glue_model}
-use Rattle.glue_laws.specs.GlueOps.{fresh_edge, opening, closings, glue_ops}
-use Rattle.glue_laws.proofs.Facing.{Facing}
+use Rattle.glue_shapes.specs.Glue.{rim, partner, glue_refusal, glue_model}
+use Rattle.glue_shapes.specs.GlueOps.{fresh_edge, opening, closings, glue_ops}
+use Rattle.glue_shapes.proofs.Facing.{Facing}
 use Rattle.glue_laws.proofs.Ending.{glued_all, glued_along_is}
-use Rattle.glue_laws.proofs.Facts.{facing, shape}
+use Rattle.glue_shapes.proofs.Facts.{facing, shape}
 use Rattle.glue_laws.proofs.Whole.{all_accepted, all_is}
 
 -- the operators along the items hs

@@ -25,12 +25,12 @@ use Rattle.euler_laws_mef.proofs.KefSound.{KefGoes}
 use Rattle.euler_laws_mef.proofs.Kef.{kef_accepted}
 use Rattle.prism_laws.proofs.Steps.{Around, half_is, loop_is, apart_xs, cycle_is}
 use Rattle.shapes.specs.Rewriting.{rewritten_row, renamed, without_rows}
-use Rattle.glue_laws.specs.Glue.{glued_along, renamed_tails, moves, partner, partners}
-use Rattle.glue_laws.specs.Part.{paired, glued_part}
-use Rattle.glue_laws.proofs.Renamings.{renamed_last, without_first, without_more}
-use Rattle.glue_laws.proofs.Swapped.{map_agree, map_removed}
-use Rattle.glue_laws.proofs.Facing as facing
-use Rattle.glue_laws.proofs.Facing.{Facing}
+use Rattle.glue_shapes.specs.Glue.{glued_along, renamed_tails, moves, partner, partners}
+use Rattle.glue_shapes.specs.Part.{paired, glued_part}
+use Rattle.glue_shapes.proofs.Renamings.{renamed_last, without_first, without_more}
+use Rattle.glue_shapes.proofs.Swapped.{map_agree, map_removed}
+use Rattle.glue_shapes.proofs.Facing as facing
+use Rattle.glue_shapes.proofs.Facing.{Facing}
 use Rattle.glue_laws.proofs.Stages as stages
 use Rattle.glue_laws.proofs.Stages.{Stage}
 use Rattle.glue_laws.proofs.Mates as mates

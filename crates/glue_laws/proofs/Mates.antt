@@ -18,11 +18,11 @@ use Rattle.euler_laws_shared.proofs.Fans.{half_mate}
 use Rattle.euler_laws_shared.proofs.Rows.{one_row}
 use Rattle.prism_laws.proofs.Steps.{Around, half_is, loop_is}
 use Rattle.shapes.specs.Rewriting.{rewritten_row, renamed}
-use Rattle.glue_laws.specs.Part.{paired, seam, glued_part}
-use Rattle.glue_laws.proofs.Renamings.{renamed_more, replaced}
-use Rattle.glue_laws.proofs.Swapped.{row_stays, row_turns}
-use Rattle.glue_laws.proofs.Facing as facing
-use Rattle.glue_laws.proofs.Facing.{Facing, side, in_map}
+use Rattle.glue_shapes.specs.Part.{paired, seam, glued_part}
+use Rattle.glue_shapes.proofs.Renamings.{renamed_more, replaced}
+use Rattle.glue_shapes.proofs.Swapped.{row_stays, row_turns}
+use Rattle.glue_shapes.proofs.Facing as facing
+use Rattle.glue_shapes.proofs.Facing.{Facing, side, in_map}
 use Rattle.glue_laws.proofs.Stages as stages
 use Rattle.glue_laws.proofs.Stages.{Stage}
 

@@ -38,13 +38,13 @@ use Rattle.euler_laws.proofs.Cases.{effect_keeps_sound}
 use Rattle.fresh_laws.proofs.Rows.{get-put_here, get-put_other}
 use Rattle.prism_laws.proofs.Steps.{Around, half_is, loop_is, cycle_is, apart_xs, edge_plus, row_plus}
 use Rattle.shapes.specs.Rewriting.{rewritten, rewritten_row, renamed}
-use Rattle.glue_laws.specs.Glue.{renamed_tails}
-use Rattle.glue_laws.specs.GlueOps.{opening}
-use Rattle.glue_laws.specs.Part.{paired, seam, glued_part}
-use Rattle.glue_laws.proofs.Renamings.{renamed_more}
-use Rattle.glue_laws.proofs.Swapped.{map_agree, map_removed}
-use Rattle.glue_laws.proofs.Facing as facing
-use Rattle.glue_laws.proofs.Facing.{Facing, side}
+use Rattle.glue_shapes.specs.Glue.{renamed_tails}
+use Rattle.glue_shapes.specs.GlueOps.{opening}
+use Rattle.glue_shapes.specs.Part.{paired, seam, glued_part}
+use Rattle.glue_shapes.proofs.Renamings.{renamed_more}
+use Rattle.glue_shapes.proofs.Swapped.{map_agree, map_removed}
+use Rattle.glue_shapes.proofs.Facing as facing
+use Rattle.glue_shapes.proofs.Facing.{Facing, side}
 use Rattle.glue_laws.proofs.Round.{out_edge, out_here, out_none, same_edge_row}
 
 same_items : (cs : List ℕ) → map (renamed []) cs ≡ cs

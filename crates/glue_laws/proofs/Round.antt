@@ -33,7 +33,7 @@ use Rattle.euler_laws.specs.Laws.{effects, AreAccepted}
 use Rattle.euler_laws.proofs.Cases.{effect_keeps_sound}
 use Rattle.fresh_laws.proofs.Rows.{get-put_here, get-put_other}
 use Rattle.prism_laws.proofs.Steps.{Around, with_chord, mef_does, mef_fits, apart_xs, loop_is, half_is}
-use Rattle.glue_laws.specs.GlueOps.{closing}
+use Rattle.glue_shapes.specs.GlueOps.{closing}
 
 -- an item taken out of a loop
 pub taken_from : (e v : ℕ) (ps : List ℕ) (z : ℕ) (zs : List ℕ) → IsApart ps → IsIn e ps → rest e ps ≡ z ∷ zs → cycle_or_lone (without e (canonical ps)) v ≡ cycle (canonical (z ∷ zs))

@@ -16,11 +16,11 @@ use Rattle.euler_laws_shared.proofs.Same.{mapped_some}
 use Rattle.fresh_laws.proofs.Rows.{get-put_here, get-put_other}
 use Rattle.prism_laws.proofs.Steps.{Around}
 use Rattle.shapes.specs.Rewriting.{rewritten_row, renamed, without_rows}
-use Rattle.glue_laws.specs.Glue.{renamed_tails}
-use Rattle.glue_laws.specs.Part.{paired, seam, glued_part}
-use Rattle.glue_laws.proofs.Renamings.{renamed_not, without_there, without_gone}
-use Rattle.glue_laws.proofs.Facing as facing
-use Rattle.glue_laws.proofs.Facing.{Facing, side, in_map}
+use Rattle.glue_shapes.specs.Glue.{renamed_tails}
+use Rattle.glue_shapes.specs.Part.{paired, seam, glued_part}
+use Rattle.glue_shapes.proofs.Renamings.{renamed_not, without_there, without_gone}
+use Rattle.glue_shapes.proofs.Facing as facing
+use Rattle.glue_shapes.proofs.Facing.{Facing, side, in_map}
 
 -- some items are glued, the others aren't yet; last is the last item
 pub record Stage (M : Model) (f g : ℕ) (partner_of : ℕ → ℕ) (hs : List ℕ) (x last : ℕ) (done more : List ℕ) : Type 0 where

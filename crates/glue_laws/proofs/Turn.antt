@@ -19,13 +19,13 @@ use Rattle.euler_laws_shared.proofs.Same.{map_twice}
 use Rattle.euler_laws.specs.Laws.{effects, AreAccepted}
 use Rattle.prism_laws.proofs.Steps.{Around, half_is, apart_xs}
 use Rattle.shapes.specs.Rewriting.{rewritten_row, renamed, without_rows}
-use Rattle.glue_laws.specs.Glue.{renamed_tails}
-use Rattle.glue_laws.specs.GlueOps.{closing}
-use Rattle.glue_laws.specs.Part.{paired, seam, glued_part}
-use Rattle.glue_laws.proofs.Renamings.{renamed_cases, renamed_more, without_more}
-use Rattle.glue_laws.proofs.Swapped.{map_agree, map_removed}
-use Rattle.glue_laws.proofs.Facing as facing
-use Rattle.glue_laws.proofs.Facing.{Facing, side, in_map}
+use Rattle.glue_shapes.specs.Glue.{renamed_tails}
+use Rattle.glue_shapes.specs.GlueOps.{closing}
+use Rattle.glue_shapes.specs.Part.{paired, seam, glued_part}
+use Rattle.glue_shapes.proofs.Renamings.{renamed_cases, renamed_more, without_more}
+use Rattle.glue_shapes.proofs.Swapped.{map_agree, map_removed}
+use Rattle.glue_shapes.proofs.Facing as facing
+use Rattle.glue_shapes.proofs.Facing.{Facing, side, in_map}
 use Rattle.glue_laws.proofs.Stages as stages
 use Rattle.glue_laws.proofs.Stages.{Stage}
 use Rattle.glue_laws.proofs.Mates as mates

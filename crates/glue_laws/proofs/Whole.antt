@@ -9,9 +9,9 @@ use Rattle.boundary_model.specs.Sound.{Sound}
 use Rattle.euler_operators.specs.declared.Op.{Op}
 use Rattle.euler_laws.specs.Laws.{effects, AreAccepted}
 use Rattle.euler_laws.proofs.Runs.{effects-append, AreAccepted-append, effects_keep_sound}
-use Rattle.glue_laws.specs.GlueOps.{opening, closing, closings}
-use Rattle.glue_laws.specs.Part.{glued_part}
-use Rattle.glue_laws.proofs.Facing.{Facing}
+use Rattle.glue_shapes.specs.GlueOps.{opening, closing, closings}
+use Rattle.glue_shapes.specs.Part.{glued_part}
+use Rattle.glue_shapes.proofs.Facing.{Facing}
 use Rattle.glue_laws.proofs.Stages.{Stage}
 use Rattle.glue_laws.proofs.Turn.{turn_accepted, turn_is}
 use Rattle.glue_laws.proofs.Ending.{glued_all, ending_ok, ending_is}

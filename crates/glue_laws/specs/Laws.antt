@@ -3,8 +3,8 @@ use Rattle.std.specs.Prelude.{◌≡◌, ℕ, None}
 use Rattle.boundary_model.specs.Model.{Model}
 use Rattle.boundary_model.specs.Sound.{Sound}
 use Rattle.euler_laws.specs.Laws.{effects, AreAccepted}
-use Rattle.glue_laws.specs.Glue.{glue_refusal, glue_model}
-use Rattle.glue_laws.specs.GlueOps.{glue_ops}
+use Rattle.glue_shapes.specs.Glue.{glue_refusal, glue_model}
+use Rattle.glue_shapes.specs.GlueOps.{glue_ops}
 
 -- each operator is accepted in its turn
 abbrev pub GluesAreAccepted : Type 0

@@ -16,7 +16,7 @@ use Rattle.face_walks.proofs.Rising.{member}
 use Rattle.solid_checks.proofs.FaceWalks.{lists_member, member_faces, member_both}
 use Rattle.solid_measure.specs.Measure.{is_flat}
 use Rattle.fresh_laws.proofs.Rows.{greatest_used}
-use Rattle.glue_laws.specs.Glue.{glue_conditions}
+use Rattle.glue_shapes.specs.Glue.{glue_conditions}
 use Rattle.gluing.specs.Conditions.{face_conditions, solid_conditions, outline_conditions}
 
 -- a list of conditions in two parts

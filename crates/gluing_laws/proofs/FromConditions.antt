@@ -12,7 +12,7 @@ use Rattle.shapes.specs.Faces.{least_lone, faces_of_both}
 use Rattle.shapes.specs.Fresh.{first_such}
 use Rattle.solid_measure.specs.Measure.{is_flat, six_volume}
 use Rattle.solid_measure.proofs.Rising.{in_listed}
-use Rattle.glue_laws.specs.Glue.{rim, outline, has_repeats, is_rotation, glue_conditions, glue_refusal, partner, glue_model}
+use Rattle.glue_shapes.specs.Glue.{rim, outline, has_repeats, is_rotation, glue_conditions, glue_refusal, partner, glue_model}
 use Rattle.glue_laws.proofs.Ending.{glued_all, glued_along_is}
 use Rattle.gluing_laws.proofs.Listed.{listed_in}
 use Rattle.gluing_laws.proofs.Seams.{Seamed, Glued}

@@ -17,9 +17,9 @@ use Rattle.boundary_model.proofs.Models.{in-holds}
 use Rattle.euler_laws_shared.proofs.Goes.{no_zero}
 use Rattle.shapes.specs.Faces.{start, finish}
 use Rattle.shapes.specs.Fresh.{first_such}
-use Rattle.glue_laws.specs.Glue.{has_repeats, is_rotation, partner}
-use Rattle.glue_laws.proofs.Facing.{in_map}
-use Rattle.glue_laws.proofs.Points.{same_is, is_same, once, turned_by}
+use Rattle.glue_shapes.specs.Glue.{has_repeats, is_rotation, partner}
+use Rattle.glue_shapes.proofs.Facing.{in_map}
+use Rattle.glue_shapes.proofs.Points.{same_is, is_same, once, turned_by}
 
 -- ---- searches
 

@@ -14,9 +14,9 @@ use Rattle.boundary_model.proofs.Halves.{mate-mate, edge_of-mate, same_edge}
 use Rattle.euler_laws_shared.proofs.Fans.{half_mate}
 use Rattle.shapes.specs.Faces.{start, finish}
 use Rattle.shapes.specs.Rewriting.{renamed, without_rows}
-use Rattle.glue_laws.specs.Glue.{renamed_tails}
-use Rattle.glue_laws.specs.Part.{paired}
-use Rattle.glue_laws.proofs.Renamings.{renamed_cases, without_there}
+use Rattle.glue_shapes.specs.Glue.{renamed_tails}
+use Rattle.glue_shapes.specs.Part.{paired}
+use Rattle.glue_shapes.proofs.Renamings.{renamed_cases, without_there}
 use Rattle.gluing_laws.proofs.Seams as seams
 use Rattle.gluing_laws.proofs.Seams.{Seamed, Glued, side}
 

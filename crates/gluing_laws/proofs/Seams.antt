@@ -13,9 +13,9 @@ use Rattle.euler_laws_shared.proofs.Same.{one_solid_round}
 use Rattle.shapes.specs.Faces.{start, finish}
 use Rattle.shapes.specs.Rewriting.{rewritten_row, renamed, without_rows}
 use Rattle.solid_measure.specs.Measure.{is_flat}
-use Rattle.glue_laws.specs.Glue.{renamed_tails}
-use Rattle.glue_laws.specs.Part.{paired}
-use Rattle.glue_laws.proofs.Facing.{in_map}
+use Rattle.glue_shapes.specs.Glue.{renamed_tails}
+use Rattle.glue_shapes.specs.Part.{paired}
+use Rattle.glue_shapes.proofs.Facing.{in_map}
 
 -- the items hs of f have partners, the items gs of g, which go back along them
 pub record Seamed (M : Model) (f g : ℕ) (partner_of : ℕ → ℕ) (hs gs : List ℕ) : Type 0 where

@@ -1,5 +1,5 @@
 use Rattle.std.proofs.Common.{◌∙◌, ap, sym}
-use Rattle.glue_laws.specs.Glue.{has_repeats}
+use Rattle.glue_shapes.specs.Glue.{has_repeats}
 use Rattle.gluing.proofs.Points.{repeats_turned}
 use Rattle.gluing.proofs.checks.check_outlines.Goals as goal
 

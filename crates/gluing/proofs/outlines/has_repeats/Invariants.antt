@@ -1,6 +1,6 @@
 use Rattle.std.proofs.Common.{◌≡◌, ◌||◌, length}
 use Rattle.std.specs.List.{list_any}
-use Rattle.glue_laws.specs.Glue.{has_repeats}
+use Rattle.glue_shapes.specs.Glue.{has_repeats}
 use Rattle.gluing.proofs.Keys.{is_met}
 use Rattle.gluing.proofs.outlines.has_repeats.Given as goal
 

@@ -1,5 +1,5 @@
 use Rattle.std.proofs.Common.{◌≡◌, length}
-use Rattle.glue_laws.specs.Glue.{same_points}
+use Rattle.glue_shapes.specs.Glue.{same_points}
 use Rattle.gluing.proofs.outlines.same_points.Given as goal
 
 abbrev pub invariant-points : goal.invariant-points

@@ -7,7 +7,7 @@ use Rattle.boundary_model.specs.Model.{Model, outer, solid_of}
 use Rattle.euler_operators.specs.declared.Op.{Op}
 use Rattle.euler_operators.specs.declared.Op.TheVariants.{Kev, Mef, Kef, Mekr, Kfmrh, Merge}
 use Rattle.shapes.specs.Fresh.{taken_in}
-use Rattle.glue_laws.specs.Glue.{rim, partner}
+use Rattle.glue_shapes.specs.Glue.{rim, partner}
 
 -- the one fresh edge
 abbrev pub fresh_edge : Model → ℕ

@@ -15,7 +15,7 @@ use Rattle.cyclic_list.proofs.Maps.{reverse-cons}
 use Rattle.shapes.specs.Fresh.{first_such}
 use Rattle.vector_laws.proofs.Integers.{dif, dif-parts, difs, same_dif, number}
 use Rattle.vector_laws.proofs.Vectors.{same_vector}
-use Rattle.glue_laws.specs.Glue.{has_repeats, same_points, is_turned, is_rotation}
+use Rattle.glue_shapes.specs.Glue.{has_repeats, same_points, is_turned, is_rotation}
 
 -- ---- equal points
 

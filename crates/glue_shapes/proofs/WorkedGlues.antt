@@ -17,8 +17,8 @@ use Rattle.shapes.specs.Lamina.{lamina_model}
 use Rattle.shapes.specs.Prism.{with_side, raised, prism_model}
 use Rattle.shapes.specs.Block.{block_model}
 use Rattle.solid_measure.specs.Measure.{normal, plane_of, is_flat, six_volume}
-use Rattle.glue_laws.specs.Glue.{glue_conditions, glue_refusal, glue_model}
-use Rattle.glue_laws.specs.GlueOps.{glue_ops}
+use Rattle.glue_shapes.specs.Glue.{glue_conditions, glue_refusal, glue_model}
+use Rattle.glue_shapes.specs.GlueOps.{glue_ops}
 
 unfoldable pub computed : ℕ
 unfolding mate code half edge_of is_first rotate_to canonical rest holds after table.empty table.get table.put table.remove table.map_rows table.first_where table.all_where table.greatest empty_model content tail loop_of face_of solid_of outer arc conditions first_false has_rings effect inverse mvfs kvfs_at mev_lone mev_at kev mef kef kemr mekr kfmrh mfkrh ring_in ring_out take_outer merge part point_of loops_of boundary corners taken_in lamina_model with_side raised prism_model block_model normal plane_of is_flat six_volume glue_conditions glue_model glue_ops

@@ -6,7 +6,7 @@ use Rattle.boundary_model.specs.Table as table
 use Rattle.boundary_model.specs.Model.{Model, cycle, tail, outer, solid_of}
 use Rattle.euler_operators.specs.Effect.{faces_to_solid}
 use Rattle.shapes.specs.Rewriting.{rewritten_row, renamed, without_rows}
-use Rattle.glue_laws.specs.Glue.{renamed_tails}
+use Rattle.glue_shapes.specs.Glue.{renamed_tails}
 
 -- what two functions say of some items, in pairs
 abbrev pub paired : (ℕ → ℕ) → (ℕ → ℕ) → List ℕ → List (ℕ × ℕ)

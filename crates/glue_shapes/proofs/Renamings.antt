@@ -9,7 +9,7 @@ use Rattle.cyclic_list.proofs.Rotations.{canonical-rotates, rest_same, rest_part
 use Rattle.boundary_model.specs.Table as table
 use Rattle.boundary_model.specs.Table.{Table, tables, same_table}
 use Rattle.shapes.specs.Rewriting.{renamed, without_rows}
-use Rattle.glue_laws.specs.Part.{paired}
+use Rattle.glue_shapes.specs.Part.{paired}
 
 -- ---- renamings
 

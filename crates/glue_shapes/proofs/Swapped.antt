@@ -10,7 +10,7 @@ use Rattle.boundary_model.specs.Table as table
 use Rattle.boundary_model.specs.Table.{Table, tables, same_table, get-map_rows}
 use Rattle.boundary_model.specs.Model.{LoopContent, LoopRow, lone, cycle, items_of}
 use Rattle.shapes.specs.Rewriting.{rewritten, rewritten_row}
-use Rattle.glue_laws.proofs.Renamings.{replaced, replaced_none, replaced_ring, map_agrees}
+use Rattle.glue_shapes.proofs.Renamings.{replaced, replaced_none, replaced_ring, map_agrees}
 
 pub same_cycle : (xs ys : List ℕ) → cycle xs ≡ cycle ys → xs ≡ ys
 same_cycle xs ys e = cc
