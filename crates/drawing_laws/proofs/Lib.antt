@@ -11,3 +11,4 @@ pub mod After
 pub mod Parting
 pub mod Counted
 pub mod SidesPassed
+pub mod SidesFaces

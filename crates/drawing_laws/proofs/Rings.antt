@@ -158,7 +158,7 @@ pub record Moved (M N : Model) (f k : ℕ) (ls : List ℕ) (c : Taken) : Type 0 
   pub drawn : DrawnIn M (with_rings N ls k) f
   pub fresh : Fresh (with_rings N ls k) c
 
-rings_on : (N : Model) (l k : ℕ) (ls : List ℕ) → with_rings (ring_in N l k) ls k ≡ with_rings N (l ∷ ls) k
+pub rings_on : (N : Model) (l k : ℕ) (ls : List ℕ) → with_rings (ring_in N l k) ls k ≡ with_rings N (l ∷ ls) k
 unfolding ring_in
 rings_on N l k ls = refl
 

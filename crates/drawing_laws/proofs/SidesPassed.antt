@@ -24,9 +24,13 @@ append_last : (ls : List (ℕ × ℕ)) (q : ℕ × ℕ) (qs : List (ℕ × ℕ))
 append_last [] q qs = refl
 append_last (l ∷ ls) q qs = ap (λ xs. l ∷ xs) (append_last ls q qs)
 
-append_none : (ls : List (ℕ × ℕ)) → ls ++ [] ≡ ls
+pub append_none : (ls : List (ℕ × ℕ)) → ls ++ [] ≡ ls
 append_none [] = refl
 append_none (l ∷ ls) = ap (λ xs. l ∷ xs) (append_none ls)
+
+all_cross_last : (B : Model) (p : Plane) (first : ℕ → Bool) (qs : List (ℕ × ℕ)) (q : ℕ × ℕ) → AllCross B p first qs → Crosses B p first q → AllCross B p first (qs ++ q ∷ [])
+all_cross_last B p first [] q a w = (w, tt)
+all_cross_last B p first (r ∷ qs) q a w = (a.0, all_cross_last B p first qs q a.1 w)
 
 not_turned : (a b : Bool) → a ≡ not b → b ≡ not a
 not_turned a true e = sym (ap not e)
@@ -83,16 +87,20 @@ module _ (B : Model) (p : Plane) (first : ℕ → Bool) (S : ℕ → Type 0) (ot
   -- ---- first pass
 
   abbrev pub AtJoin : Drawing → List (ℕ × ℕ) → Type 0
-  AtJoin d qs = Open B (now (d.left ++ qs)) × Parted B d.model p first S (now (d.left ++ qs))
+  AtJoin d qs = AllCross B p first d.left × Open B (now (d.left ++ qs)) × Parted B d.model p first S (now (d.left ++ qs))
 
   join_part : (d : Drawing) (q : ℕ × ℕ) (qs : List (ℕ × ℕ)) (n : ℕ) → Fits M f q → Joining M f d (q ∷ qs) n → Crosses B p first q → AtJoin d (q ∷ qs) → AtJoin (join_next d q) qs
   join_part d q qs n fits w cross a = go (in_one_loop d.model q) refl where
     go : (b : Bool) → in_one_loop d.model q ≡ b → AtJoin (join_next d q) qs
-    go true e = subst (λ x. AtJoin x qs) (sym (join_next_one d q e))
-        (subst (λ ps. Open B (now ps) × Parted B d.model p first S (now ps)) (sym (append_last d.left q qs)) a)
+    go true e = subst (λ x. AtJoin x qs) (sym (join_next_one d q e)) (
+      all_cross_last B p first d.left q a.0 cross,
+      subst (λ ps. Open B (now ps)) (sym (append_last d.left q qs)) a.1,
+      subst (λ ps. Parted B d.model p first S (now ps)) (sym (append_last d.left q qs)) a.2,
+    )
     go false e = subst (λ x. AtJoin x qs) (sym (join_next_two d q e)) (
-      fewer B (now (d.left ++ q ∷ qs)) (now (d.left ++ qs)) q.0 q.1 (closed_between d.left q qs) a.0,
-      pair_parted d.model q (d.taken.edge + 1) (now (d.left ++ q ∷ qs)) (now (d.left ++ qs)) w.joined fits e (edge_free M f d q qs n fits w) (edge_fits_now M f d q qs n fits w) cross a.0 (closed_between d.left q qs) a.1,
+      a.0,
+      fewer B (now (d.left ++ q ∷ qs)) (now (d.left ++ qs)) q.0 q.1 (closed_between d.left q qs) a.1,
+      pair_parted d.model q (d.taken.edge + 1) (now (d.left ++ q ∷ qs)) (now (d.left ++ qs)) w.joined fits e (edge_free M f d q qs n fits w) (edge_fits_now M f d q qs n fits w) cross a.1 (closed_between d.left q qs) a.2,
     )
 
   pub joins_part : (d : Drawing) (qs : List (ℕ × ℕ)) (n : ℕ) → AllFit M f qs → Joining M f d qs n → AllCross B p first qs → AtJoin d qs → AtJoin (fold join_next d qs) []
