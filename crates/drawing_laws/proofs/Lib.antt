@@ -12,3 +12,4 @@ pub mod Parting
 pub mod Counted
 pub mod SidesPassed
 pub mod SidesFaces
+pub mod SidesWhole

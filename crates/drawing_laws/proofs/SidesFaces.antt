@@ -1,7 +1,7 @@
 -- The sides of half-edges once a whole face is drawn.
-use Rattle.std.proofs.Common.{◌≡◌, ◌≢◌, ℕ, Bool, true, false, cond, nat_eq, nat_lt, ◌&&◌, List, [], ◌∷◌, ◌++◌, length, refl, sym, ap, ◌∙◌, subst, arith}
+use Rattle.std.proofs.Common.{◌≡◌, ◌≢◌, ℕ, Bool, true, false, cond, nat_eq, nat_lt, ◌&&◌, List, [], ◌∷◌, ◌++◌, length, refl, sym, ap, subst, arith}
 use Rattle.lattice.specs.declared.Plane.{Plane}
-use Rattle.cyclic_list.specs.Items.{tick, IsIn, IsApart}
+use Rattle.cyclic_list.specs.Items.{tick, IsApart}
 use Rattle.cyclic_list.proofs.Lists.{tick_same}
 use Rattle.boundary_model.specs.Model.{Model, content}
 use Rattle.euler_operators.specs.Conditions.{has_rings}
@@ -12,7 +12,6 @@ use Rattle.split_shapes.specs.Sides.{some_above}
 use Rattle.split_shapes.specs.Drawing.{Drawing, stuck_at, all_joined, ring_free, all_drawn, rings_above, with_rings, drawn_between}
 use Rattle.drawing_laws.specs.DrawnIn.{DrawnIn}
 use Rattle.drawing_laws.specs.Parted.{Parted, ends, AllCross, Open}
-use Rattle.drawing_laws.proofs.Passes.{Going, Joining}
 use Rattle.drawing_laws.proofs.Rings.{RingOf, AreRings, Newer, rings_on, rings_are, rings_apart, moved_drawn, moved_ring, moved_newer}
 use Rattle.drawing_laws.proofs.Faces.{Ready, going_on, fitting_on, joins, going, last, newer_face, begun_joining}
 use Rattle.drawing_laws.proofs.Parting.{parted_moved}

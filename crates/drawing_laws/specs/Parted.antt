@@ -1,5 +1,5 @@
 -- On which side of a plane half-edges lie while edges are drawn.
-use Rattle.std.specs.Prelude.{◌≡◌, ◌≢◌, ℕ, Bool, true, false, not, List, [], ◌∷◌}
+use Rattle.std.specs.Prelude.{◌≡◌, ◌≢◌, ℕ, Bool, true, false, not, List, [], ◌∷◌, ◌++◌}
 use Rattle.lattice.specs.declared.Point.{Point}
 use Rattle.lattice.specs.declared.Plane.{Plane}
 use Rattle.lattice.specs.Vectors.{is_above, is_below, is_on}
@@ -7,6 +7,7 @@ use Rattle.cyclic_list.specs.Items.{count, IsIn, IsApart}
 use Rattle.boundary_model.specs.Model.{Model, after}
 use Rattle.boundary_model.specs.Sound.{HasHalf}
 use Rattle.shapes.specs.Faces.{start}
+use Rattle.split_shapes.specs.Drawing.{drawn_pairs}
 use Rattle.drawing_laws.specs.DrawnIn.{Stays}
 
 -- going on from x the side stays, but where one comes to an open place it changes
@@ -50,3 +51,12 @@ AllCross B p first (q ∷ qs) = Crosses B p first q × AllCross B p first qs
 pub record Open (B : Model) (places : List ℕ) : Type 0 where
   pub there : (x : ℕ) → IsIn x places → HasHalf B x
   pub apart : IsApart places
+
+-- so it is with the pairs of each of some faces, and the half-edges of all their pairs
+abbrev pub FacesCross : Model → Plane → (ℕ → Bool) → Model → Model → List ℕ → Type 0
+FacesCross B p first M N [] = Unit {0}
+FacesCross B p first M N (f ∷ fs) = AllCross B p first (drawn_pairs M N p f) × FacesCross B p first M N fs
+
+abbrev pub all_ends : Model → Model → Plane → List ℕ → List ℕ
+all_ends M N p [] = []
+all_ends M N p (f ∷ fs) = ends (drawn_pairs M N p f) ++ all_ends M N p fs
