@@ -1,5 +1,5 @@
 -- What follows what in a model, once an edge is drawn or loops are joined.
-use Rattle.std.proofs.Common.{◌≡◌, ◌≢◌, ℕ, ◌+◌, true, false, ◌++◌, None, is_some, sym, ap, ◌∙◌, subst, arith, ◌⊎◌, inl, inr, true≢false}
+use Rattle.std.proofs.Common.{◌≡◌, ◌≢◌, ℕ, ◌++◌, None, is_some, sym, ap, ◌∙◌, subst, arith, ◌⊎◌, inl, inr, true≢false}
 use Rattle.std.proofs.lemmas.Bool.Decides.{eqb_tells}
 use Rattle.cyclic_list.specs.Items.{count, IsIn, IsApart}
 use Rattle.cyclic_list.specs.Rings.{IsRing}

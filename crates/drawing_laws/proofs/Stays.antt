@@ -1,5 +1,5 @@
 -- What stays as an edge is drawn, as two loops are joined, and as a ring is moved.
-use Rattle.std.proofs.Common.{◌≡◌, ◌≢◌, ℕ, ◌+◌, ◌≤◌, ◌<◌, true, false, List, ◌∷◌, ◌++◌, Some, None, is_some, unwrap_or, refl, sym, ap, ◌∙◌, subst, arith, ◌⊎◌, inl, inr, true≢false}
+use Rattle.std.proofs.Common.{◌≡◌, ◌≢◌, ℕ, ◌+◌, ◌≤◌, ◌<◌, List, ◌∷◌, ◌++◌, Some, None, is_some, unwrap_or, refl, sym, ap, ◌∙◌, subst, arith, ◌⊎◌, inl, inr, true≢false}
 use Rattle.std.proofs.lemmas.Bool.Decides.{nat_tests, eqb_tells}
 use Rattle.cyclic_list.specs.Items.{count, IsIn}
 use Rattle.cyclic_list.specs.Rings.{rotate_to}
@@ -9,7 +9,7 @@ use Rattle.cyclic_list.proofs.Rotations.{count-canonical, count-rotate_to}
 use Rattle.boundary_model.specs.HalfEdge.{edge_of, is_first, plus, minus}
 use Rattle.boundary_model.specs.Table as table
 use Rattle.boundary_model.specs.Table.{Table, tables}
-use Rattle.boundary_model.specs.Model.{Model, cycle, no_edge, no_loop, no_face, items_of, holds, tail, tail_in, loop_of, content, face_of, solid_of, outer, cycle_of}
+use Rattle.boundary_model.specs.Model.{Model, cycle, no_edge, no_loop, no_face, items_of, holds, tail, tail_in, loop_of, content, face_of, solid_of, cycle_of}
 use Rattle.boundary_model.specs.Sound.{Sound, Has, HasHalf}
 use Rattle.boundary_model.proofs.Halves.{plus_row, minus_row}
 use Rattle.boundary_model.proofs.Models.{content_row, face_row, tail_row, in-holds, cycle_there, row_of}
