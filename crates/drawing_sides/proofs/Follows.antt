@@ -5,7 +5,7 @@ use Rattle.std.proofs.lemmas.Bool.Decides.{eqb_tells}
 use Rattle.cyclic_list.specs.Items.{count, tick, IsIn, IsApart}
 use Rattle.cyclic_list.specs.Edits.{redirect, led_over}
 use Rattle.cyclic_list.specs.Operators.{after_mev, after_mef}
-use Rattle.drawing_laws.specs.Parted.{Sided}
+use Rattle.drawing_sides.specs.Parted.{Sided}
 use Rattle.cyclic_list.proofs.Cuts.{splice_at, splice_at_other, splice_elsewhere}
 use Rattle.cyclic_list.proofs.Lists.{tick_same, tick_other}
 

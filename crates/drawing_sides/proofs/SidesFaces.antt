@@ -11,11 +11,11 @@ use Rattle.shapes.specs.Faces.{vertices_on}
 use Rattle.split_shapes.specs.Sides.{some_above}
 use Rattle.split_shapes.specs.Drawing.{Drawing, stuck_at, all_joined, ring_free, all_drawn, rings_above, with_rings, drawn_between}
 use Rattle.drawing_laws.specs.DrawnIn.{DrawnIn}
-use Rattle.drawing_laws.specs.Parted.{Parted, ends, AllCross, Open}
+use Rattle.drawing_sides.specs.Parted.{Parted, ends, AllCross, Open}
 use Rattle.drawing_laws.proofs.Rings.{RingOf, AreRings, Newer, rings_on, rings_are, rings_apart, moved_drawn, moved_ring, moved_newer}
 use Rattle.drawing_laws.proofs.Faces.{Ready, going_on, fitting_on, joins, going, last, newer_face, begun_joining}
-use Rattle.drawing_laws.proofs.Parting.{parted_moved}
-use Rattle.drawing_laws.proofs.SidesPassed.{append_none, AtJoin, joins_part, AtDraw, draws_part}
+use Rattle.drawing_sides.proofs.Parting.{parted_moved}
+use Rattle.drawing_sides.proofs.SidesPassed.{append_none, AtJoin, joins_part, AtDraw, draws_part}
 
 -- rings moved
 rings_part : (M B N : Model) (p : Plane) (first : ℕ → Bool) (S : ℕ → Type 0) (f k : ℕ) (ls places : List ℕ) → DrawnIn M N f → AreRings N f ls → IsApart ls → Newer M N f k →
