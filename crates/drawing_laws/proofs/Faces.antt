@@ -13,16 +13,16 @@ use Rattle.drawing_laws.specs.DrawingOps.{draw_ops, ring_ops, share_ops, drawn_o
 use Rattle.drawing_laws.specs.DrawnIn.{DrawnIn, Fresh, Room}
 use Rattle.drawing_laws.specs.Pairs.{AllFit, LoneInOneLoop}
 use Rattle.drawing_laws.proofs.Pairs.{none_joined, joined_drawn, drawn_newer}
-use Rattle.drawing_laws.proofs.Passes.{Joins, joins_go, join_next_one, Going, Draws, draws_go, draw_next_one, cut_off, room_as, edge_fits, face_fits, loop_fits}
+use Rattle.drawing_laws.proofs.Passes.{Joining, Joins, joins_go, join_next_one, Going, Draws, draws_go, draw_next_one, cut_off, room_as, edge_fits, face_fits, loop_fits}
 use Rattle.drawing_laws.proofs.Rings.{Newer, Moved, rings_move, rings_are, rings_apart}
 use Rattle.drawing_laws.proofs.Runs.{Leads, leads_none, leads_on}
 
 -- being stuck changes nothing else
-going_on : (M : Model) (f n : ℕ) (b : Bool) (d : Drawing) → Going M f d d.left n → Going M f (cond b (stuck_at f d) d) (cond b (stuck_at f d) d).left n
+pub going_on : (M : Model) (f n : ℕ) (b : Bool) (d : Drawing) → Going M f d d.left n → Going M f (cond b (stuck_at f d) d) (cond b (stuck_at f d) d).left n
 going_on M f n true d g = record { drawn = g.drawn; fresh = g.fresh; room = g.room }
 going_on M f n false d g = g
 
-fitting_on : (M : Model) (f g : ℕ) (b : Bool) (d : Drawing) → AllFit M f d.left → AllFit M f (cond b (stuck_at g d) d).left
+pub fitting_on : (M : Model) (f g : ℕ) (b : Bool) (d : Drawing) → AllFit M f d.left → AllFit M f (cond b (stuck_at g d) d).left
 fitting_on M f g true d a = a
 fitting_on M f g false d a = a
 
@@ -62,10 +62,13 @@ module _ (p : Plane) (f : ℕ) (qs : List (ℕ × ℕ)) (d : Drawing) (n : ℕ) 
   abbrev D : Drawing
   D = all_drawn f R
 
-  joins : Joins d.model f begun qs n
-  joins = joins_go d.model f begun qs n w.fit (record { joined = none_joined d.model f w.sound; fresh = w.fresh; room = room_as d.taken (length qs + n) (0 + length qs + n) (omega arith) w.room; pairs = tt })
+  pub begun_joining : Joining d.model f begun qs n
+  begun_joining = record { joined = none_joined d.model f w.sound; fresh = w.fresh; room = room_as d.taken (length qs + n) (0 + length qs + n) (omega arith) w.room; pairs = tt }
 
-  going : Going d.model f J J.left n
+  pub joins : Joins d.model f begun qs n
+  joins = joins_go d.model f begun qs n w.fit begun_joining
+
+  pub going : Going d.model f J J.left n
   going = record {
     drawn = joined_drawn d.model J.model f joins.state.joined;
     fresh = joins.state.fresh;
@@ -100,7 +103,7 @@ module _ (p : Plane) (f : ℕ) (q : ℕ × ℕ) (d : Drawing) (n : ℕ) (w : Rea
   newer_one : Newer d.model (all_drawn f (ring_free f (q ∷ []) (all_joined (q ∷ []) d))).model f (all_drawn f (ring_free f (q ∷ []) (all_joined (q ∷ []) d))).taken.face
   newer_one = subst (λ x. Newer d.model x.model f x.taken.face) (sym drawn_is) cut_newer
 
-newer_face : (p : Plane) (f : ℕ) (qs : List (ℕ × ℕ)) (d : Drawing) (n : ℕ) → Ready p f qs d n → length qs ≡ 1 →
+pub newer_face : (p : Plane) (f : ℕ) (qs : List (ℕ × ℕ)) (d : Drawing) (n : ℕ) → Ready p f qs d n → length qs ≡ 1 →
     Newer d.model (all_drawn f (ring_free f qs (all_joined qs d))).model f (all_drawn f (ring_free f qs (all_joined qs d))).taken.face
 newer_face p f [] d n w e = absurd (omega arith)
 newer_face p f (q ∷ []) d n w e = newer_one p f q d n w
@@ -110,7 +113,7 @@ module _ (p : Plane) (f : ℕ) (qs : List (ℕ × ℕ)) (d : Drawing) (n : ℕ) 
   abbrev L : Drawing
   L = all_drawn f (ring_free f qs (all_joined qs d))
 
-  last : Going d.model f L [] n
+  pub last : Going d.model f L [] n
   last = (draws p f qs d n w).state
 
   room_last : Room L.taken n

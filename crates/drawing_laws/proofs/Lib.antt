@@ -6,3 +6,4 @@ pub mod Pairs
 pub mod Passes
 pub mod Faces
 pub mod Whole
+pub mod Counted

@@ -80,7 +80,7 @@ module _ (M N : Model) (f : ℕ) (q : ℕ × ℕ) (e : ℕ) (joined : JoinedIn M
   abbrev ringed : Bool
   ringed = is_ring_of N (face_at N q.0) (loop_of N q.0)
 
-  can_back : is_ring_of N (face_at N q.0) (loop_of N q.0) ≡ true → CanJoin N q.1 q.0 e
+  pub can_back : is_ring_of N (face_at N q.0) (loop_of N q.0) ≡ true → CanJoin N q.1 q.0 e
   can_back r = record {
     sound = joined.sound;
     c_there = k_there;
@@ -93,7 +93,7 @@ module _ (M N : Model) (f : ℕ) (q : ℕ × ℕ) (e : ℕ) (joined : JoinedIn M
     edge_fits = edge_fits;
   }
 
-  can_on : is_ring_of N (face_at N q.0) (loop_of N q.0) ≡ false → CanJoin N q.0 q.1 e
+  pub can_on : is_ring_of N (face_at N q.0) (loop_of N q.0) ≡ false → CanJoin N q.0 q.1 e
   can_on r = record {
     sound = joined.sound;
     c_there = u_there;

@@ -57,7 +57,7 @@ pub join_next_one : (d : Drawing) (q : ℕ × ℕ) → in_one_loop d.model q ≡
 unfolding join_next
 join_next_one d q e = ap (λ b. cond b (record d { left = d.left ++ q ∷ [] }) (record d { model = joined_pair d.model q (d.taken.edge + 1); taken = record d.taken { edge = d.taken.edge + 1 } })) e
 
-join_next_two : (d : Drawing) (q : ℕ × ℕ) → in_one_loop d.model q ≡ false → join_next d q ≡ record d { model = joined_pair d.model q (d.taken.edge + 1); taken = record d.taken { edge = d.taken.edge + 1 } }
+pub join_next_two : (d : Drawing) (q : ℕ × ℕ) → in_one_loop d.model q ≡ false → join_next d q ≡ record d { model = joined_pair d.model q (d.taken.edge + 1); taken = record d.taken { edge = d.taken.edge + 1 } }
 unfolding join_next
 join_next_two d q e = ap (λ b. cond b (record d { left = d.left ++ q ∷ [] }) (record d { model = joined_pair d.model q (d.taken.edge + 1); taken = record d.taken { edge = d.taken.edge + 1 } })) e
 
@@ -80,10 +80,10 @@ module _ (M : Model) (f : ℕ) (d : Drawing) (q : ℕ × ℕ) (qs : List (ℕ ×
     },
   )
 
-  edge_free : table.get d.model.edges (d.taken.edge + 1) ≡ None
+  pub edge_free : table.get d.model.edges (d.taken.edge + 1) ≡ None
   edge_free = w.fresh.edges (d.taken.edge + 1) (next_above d.taken.edge)
 
-  edge_fits_now : IsTrue (is_number (d.taken.edge + 1))
+  pub edge_fits_now : IsTrue (is_number (d.taken.edge + 1))
   edge_fits_now = edge_fits d.taken (length d.left + length qs + n) room_now
 
   made : in_one_loop d.model q ≡ false → Next (join_next d q)
@@ -137,7 +137,7 @@ pub draw_next_one : (f : ℕ) (d : Drawing) (q : ℕ × ℕ) → in_one_loop d.m
 unfolding draw_next
 draw_next_one f d q e = ap (λ b. cond b (cut_off d q) (stuck_at f d)) e
 
-draw_next_two : (f : ℕ) (d : Drawing) (q : ℕ × ℕ) → in_one_loop d.model q ≡ false → draw_next f d q ≡ stuck_at f d
+pub draw_next_two : (f : ℕ) (d : Drawing) (q : ℕ × ℕ) → in_one_loop d.model q ≡ false → draw_next f d q ≡ stuck_at f d
 unfolding draw_next
 draw_next_two f d q e = ap (λ b. cond b (cut_off d q) (stuck_at f d)) e
 
@@ -145,7 +145,7 @@ module _ (M : Model) (f : ℕ) (sound : Sound M) (d : Drawing) (q : ℕ × ℕ) 
   abbrev After : Drawing → Type 0
   After x = Leads d.model x.model (cond (in_one_loop d.model q) (draw_pair d.taken q ∷ []) []) × Going M f x qs n
 
-  room_here : Room d.taken (suc (length qs + n))
+  pub room_here : Room d.taken (suc (length qs + n))
   room_here = room_as d.taken (length (q ∷ qs) + n) (suc (length qs + n)) (omega arith) w.room
 
   left_out : in_one_loop d.model q ≡ false → After (draw_next f d q)
@@ -158,13 +158,13 @@ module _ (M : Model) (f : ℕ) (sound : Sound M) (d : Drawing) (q : ℕ × ℕ) 
     },
   )
 
-  edge_open : table.get d.model.edges (d.taken.edge + 1) ≡ None
+  pub edge_open : table.get d.model.edges (d.taken.edge + 1) ≡ None
   edge_open = w.fresh.edges (d.taken.edge + 1) (next_above d.taken.edge)
 
-  face_open : table.get d.model.faces (d.taken.face + 1) ≡ None
+  pub face_open : table.get d.model.faces (d.taken.face + 1) ≡ None
   face_open = w.fresh.faces (d.taken.face + 1) (next_above d.taken.face)
 
-  loop_open : table.get d.model.loops (d.taken.loop + 1) ≡ None
+  pub loop_open : table.get d.model.loops (d.taken.loop + 1) ≡ None
   loop_open = w.fresh.loops (d.taken.loop + 1) (next_above d.taken.loop)
 
   cut : in_one_loop d.model q ≡ true → After (draw_next f d q)
@@ -182,7 +182,7 @@ module _ (M : Model) (f : ℕ) (sound : Sound M) (d : Drawing) (q : ℕ × ℕ) 
     },
   )
 
-  draw_one : After (draw_next f d q)
+  pub draw_one : After (draw_next f d q)
   draw_one = go (in_one_loop d.model q) refl where
     go : (b : Bool) → in_one_loop d.model q ≡ b → After (draw_next f d q)
     go true e = cut e

@@ -2,11 +2,12 @@
 use Rattle.std.proofs.Common.{◌≡◌, ◌≢◌, ℕ, ◌+◌, ◌≤◌, Bool, true, false, cond, not, nat_eq, ◌&&◌, List, [], ◌∷◌, None, is_some, unwrap_or, refl, sym, ap, ◌∙◌, subst, arith, inl, inr, true≢false}
 use Rattle.std.specs.Prelude.{filter}
 use Rattle.std.proofs.lemmas.Bool.Decides.{eqb_tells}
+use Rattle.cyclic_list.specs.Rings.{successor}
 use Rattle.cyclic_list.specs.Items.{count, tick, IsIn, IsApart}
 use Rattle.cyclic_list.proofs.Lists.{tick_same}
 use Rattle.boundary_model.specs.HalfEdge.{edge_of, is_first}
 use Rattle.boundary_model.specs.Table as table
-use Rattle.boundary_model.specs.Model.{Model, no_edge, holds, tail, tail_in, loop_of, face_of, solid_of, outer, rings_of}
+use Rattle.boundary_model.specs.Model.{Model, no_edge, holds, tail, tail_in, items_of, content, loop_of, face_of, solid_of, outer, after, rings_of}
 use Rattle.boundary_model.specs.Sound.{Sound, Has, HasHalf}
 use Rattle.boundary_model.proofs.Models.{face_row}
 use Rattle.euler_operators.specs.declared.Op.TheVariants.{RingIn}
@@ -127,6 +128,22 @@ module _ (M N : Model) (f l k : ℕ) (drawn : DrawnIn M N f) (ring : RingOf N f 
     inner = λ e. r.inner (sym (moved.outer_same N drawn.sound l k goes f) ∙ e);
   }
 
+  pub now_stays : Stays N (ring_in N l k)
+  now_stays = record {
+    halves = λ h there. subst (λ t. Has t (edge_of h)) (sym same.edges) there;
+    tails = λ h there. tail_is h;
+    vertices = same.vertices;
+    faces = λ g there. subst (λ t. Has t g) (sym faces_are) there;
+  }
+
+  -- what follows what stays
+  pub moved_after : (h : ℕ) → HasHalf N h → after (ring_in N l k) h ≡ after N h
+  unfolding after
+  moved_after h there = ap (λ xs. successor xs h) (ap (λ q. items_of (content (ring_in N l k) q)) (place_is h there) ∙ ap items_of (same.contents (loop_of N h)))
+
+  pub moved_halves : (h : ℕ) → HasHalf (ring_in N l k) h → HasHalf N h
+  moved_halves h there = subst (λ t. Has t (edge_of h)) same.edges there
+
   pub moved_fresh : (c : Taken) → Fresh N c → Fresh (ring_in N l k) c
   moved_fresh c w = record {
     faces = λ q above. ap (λ t. table.get t q) faces_are ∙ w.faces q above;
@@ -141,7 +158,7 @@ pub record Moved (M N : Model) (f k : ℕ) (ls : List ℕ) (c : Taken) : Type 0 
   pub drawn : DrawnIn M (with_rings N ls k) f
   pub fresh : Fresh (with_rings N ls k) c
 
-rings_on : (N : Model) (l k : ℕ) (ls : List ℕ) → with_rings (ring_in N l k) ls k ≡ with_rings N (l ∷ ls) k
+pub rings_on : (N : Model) (l k : ℕ) (ls : List ℕ) → with_rings (ring_in N l k) ls k ≡ with_rings N (l ∷ ls) k
 unfolding ring_in
 rings_on N l k ls = refl
 

@@ -1,5 +1,5 @@
 -- What stays as an edge is drawn, as two loops are joined, and as a ring is moved.
-use Rattle.std.proofs.Common.{◌≡◌, ◌≢◌, ℕ, ◌+◌, ◌≤◌, ◌<◌, true, false, List, ◌∷◌, ◌++◌, Some, None, is_some, unwrap_or, refl, sym, ap, ◌∙◌, subst, arith, ◌⊎◌, inl, inr, true≢false}
+use Rattle.std.proofs.Common.{◌≡◌, ◌≢◌, ℕ, ◌+◌, ◌≤◌, ◌<◌, List, ◌∷◌, ◌++◌, Some, None, is_some, unwrap_or, refl, sym, ap, ◌∙◌, subst, arith, ◌⊎◌, inl, inr, true≢false}
 use Rattle.std.proofs.lemmas.Bool.Decides.{nat_tests, eqb_tells}
 use Rattle.cyclic_list.specs.Items.{count, IsIn}
 use Rattle.cyclic_list.specs.Rings.{rotate_to}
@@ -9,9 +9,10 @@ use Rattle.cyclic_list.proofs.Rotations.{count-canonical, count-rotate_to}
 use Rattle.boundary_model.specs.HalfEdge.{edge_of, is_first, plus, minus}
 use Rattle.boundary_model.specs.Table as table
 use Rattle.boundary_model.specs.Table.{Table, tables}
-use Rattle.boundary_model.specs.Model.{Model, cycle, no_edge, no_loop, no_face, items_of, holds, tail, tail_in, loop_of, content, face_of, solid_of, outer, cycle_of}
+use Rattle.boundary_model.specs.Model.{Model, cycle, no_edge, no_loop, no_face, items_of, holds, tail, tail_in, loop_of, content, face_of, solid_of, cycle_of}
 use Rattle.boundary_model.specs.Sound.{Sound, Has, HasHalf}
-use Rattle.boundary_model.proofs.Models.{content_row, face_row, in-holds, cycle_there, row_of}
+use Rattle.boundary_model.proofs.Halves.{plus_row, minus_row}
+use Rattle.boundary_model.proofs.Models.{content_row, face_row, tail_row, in-holds, cycle_there, row_of}
 use Rattle.euler_operators.specs.Conditions.{face_at}
 use Rattle.euler_laws_shared.proofs.Rows.{count-halves}
 use Rattle.euler_laws_mef.proofs.MefUndo.{count-mef_old, count-mef_new}
@@ -25,17 +26,17 @@ pub not_free : {X : Type 0} (t : Table X) (n k : ℕ) → Has t n → table.get 
 not_free t n k there free e = true≢false (sym there ∙ ap is_some (ap (table.get t) e ∙ free))
 
 -- a half-edge stands where the content says so
-stands_at : (N : Model) → Sound N → (x q : ℕ) (xs : List ℕ) → content N q ≡ cycle xs → IsIn x xs → loop_of N x ≡ q
+pub stands_at : (N : Model) → Sound N → (x q : ℕ) (xs : List ℕ) → content N q ≡ cycle xs → IsIn x xs → loop_of N x ≡ q
 stands_at N sound x q xs e i = sound.one_loop x q (ap (holds x) e ∙ in-holds x (cycle xs) i)
 
-has_loop : (M : Model) → Sound M → (x : ℕ) → HasHalf M x → Has M.loops (loop_of M x)
+pub has_loop : (M : Model) → Sound M → (x : ℕ) → HasHalf M x → Has M.loops (loop_of M x)
 has_loop M sound x there = ap is_some (row_of M sound x there)
 
 pub has_face : (M : Model) → Sound M → (x : ℕ) → HasHalf M x → Has M.faces (face_at M x)
 has_face M sound x there = sound.loops_of_faces (loop_of M x) (has_loop M sound x there)
 
 -- where a loop's row stays, so does what stands in it
-same_content : (M N : Model) (q : ℕ) → table.get N.loops q ≡ table.get M.loops q → content N q ≡ content M q
+pub same_content : (M N : Model) (q : ℕ) → table.get N.loops q ≡ table.get M.loops q → content N q ≡ content M q
 unfolding content
 same_content M N q e = ap (λ o. (unwrap_or o no_loop).content) e
 
@@ -62,6 +63,15 @@ module _ (M N : Model) (e a b : ℕ) (is : N.edges ≡ table.put M.edges e (reco
   unfolding tail
   tail_stays h there = ap (λ o. tail_in (unwrap_or o no_edge) (is_first h)) (edge_stays h there)
 
+  new_row : table.get N.edges e ≡ Some (record { plus_tail = a; minus_tail = b })
+  new_row = ap (λ t. table.get t e) is ∙ get-put_here M.edges e _
+
+  new_tails : (tail N (plus e) ≡ a) × (tail N (minus e) ≡ b)
+  new_tails = (
+    tail_row N (plus e) _ (ap (table.get N.edges) (plus_row e).0 ∙ new_row) ∙ ap (tail_in (record { plus_tail = a; minus_tail = b })) (plus_row e).1,
+    tail_row N (minus e) _ (ap (table.get N.edges) (minus_row e).0 ∙ new_row) ∙ ap (tail_in (record { plus_tail = a; minus_tail = b })) (minus_row e).1,
+  )
+
 -- ---- an edge drawn
 
 module _ (M : Model) (u k e f l : ℕ) (can : CanDraw M u k e f l) where
@@ -74,18 +84,18 @@ module _ (M : Model) (u k e f l : ℕ) (can : CanDraw M u k e f l) where
   new_sound : Sound (face_drawn M u k e f l)
   new_sound = draw_sound M u k e f l can
 
-  r_l : loop_of M u ≢ l
+  pub r_l : loop_of M u ≢ l
   r_l = not_free M.loops (loop_of M u) l (has_loop M can.sound u can.u_there) can.loop_free
 
-  row_old : table.get (face_drawn M u k e f l).loops (loop_of M u) ≡ Some (record { face = face_at M u; content = cycle (mef_old (plus e) u k (cycle_of M u)) })
+  pub row_old : table.get (face_drawn M u k e f l).loops (loop_of M u) ≡ Some (record { face = face_at M u; content = cycle (mef_old (plus e) u k (cycle_of M u)) })
   unfolding face_drawn
   row_old = get-put_other _ l _ (loop_of M u) r_l ∙ get-put_here M.loops (loop_of M u) _
 
-  row_new : table.get (face_drawn M u k e f l).loops l ≡ Some (record { face = f; content = cycle (mef_new (minus e) u k (cycle_of M u)) })
+  pub row_new : table.get (face_drawn M u k e f l).loops l ≡ Some (record { face = f; content = cycle (mef_new (minus e) u k (cycle_of M u)) })
   unfolding face_drawn
   row_new = get-put_here _ l _
 
-  row_else : (q : ℕ) → q ≢ loop_of M u → q ≢ l → table.get (face_drawn M u k e f l).loops q ≡ table.get M.loops q
+  pub row_else : (q : ℕ) → q ≢ loop_of M u → q ≢ l → table.get (face_drawn M u k e f l).loops q ≡ table.get M.loops q
   unfolding face_drawn
   row_else q a b = get-put_other _ l _ q b ∙ get-put_other M.loops (loop_of M u) _ q a
 
@@ -97,7 +107,7 @@ module _ (M : Model) (u k e f l : ℕ) (can : CanDraw M u k e f l) where
   unfolding face_drawn
   face_else q a = get-put_other M.faces f _ q a
 
-  edges_are : (face_drawn M u k e f l).edges ≡ table.put M.edges e (record { plus_tail = tail M u; minus_tail = tail M k })
+  pub edges_are : (face_drawn M u k e f l).edges ≡ table.put M.edges e (record { plus_tail = tail M u; minus_tail = tail M k })
   unfolding face_drawn
   edges_are = refl
 
@@ -112,6 +122,9 @@ module _ (M : Model) (u k e f l : ℕ) (can : CanDraw M u k e f l) where
     vertices = vertices_are;
     faces = λ g there. ap is_some (face_else g (not_free M.faces g f there can.face_free)) ∙ there;
   }
+
+  pub draw_tails : (tail (face_drawn M u k e f l) (plus e) ≡ tail M u) × (tail (face_drawn M u k e f l) (minus e) ≡ tail M k)
+  draw_tails = new_tails M N e (tail M u) (tail M k) edges_are can.edge_free
 
   -- what stands in another loop keeps loop and face
   pub draw_beside : (h : ℕ) → HasHalf M h → loop_of M h ≢ loop_of M u → (loop_of (face_drawn M u k e f l) h ≡ loop_of M h) × (face_at (face_drawn M u k e f l) h ≡ face_at M h)
@@ -162,20 +175,26 @@ module _ (M : Model) (c d e : ℕ) (can : CanJoin M c d e) where
   join_new : Sound (loops_joined M c d e)
   join_new = join_sound M c d e can
 
-  row_joined : table.get (loops_joined M c d e).loops (loop_of M c) ≡ Some (record { face = face_at M c; content = cycle (mekr_ring (plus e) (minus e) c d (cycle_of M c) (cycle_of M d)) })
+  pub row_joined : table.get (loops_joined M c d e).loops (loop_of M c) ≡ Some (record { face = face_at M c; content = cycle (mekr_ring (plus e) (minus e) c d (cycle_of M c) (cycle_of M d)) })
   unfolding loops_joined
   row_joined = get-put_here _ (loop_of M c) _
 
-  row_other : (q : ℕ) → q ≢ loop_of M c → q ≢ loop_of M d → table.get (loops_joined M c d e).loops q ≡ table.get M.loops q
+  pub row_other : (q : ℕ) → q ≢ loop_of M c → q ≢ loop_of M d → table.get (loops_joined M c d e).loops q ≡ table.get M.loops q
   unfolding loops_joined
   row_other q a b = get-put_other _ (loop_of M c) _ q a ∙ removed M.loops (loop_of M d) q b where
     removed : {X : Type 0} (t : Table X) (n q : ℕ) → q ≢ n → table.get (table.remove t n) q ≡ table.get t q
     removed t n q ne = grind (arith, nat_tests, tables)
 
+  pub row_gone : table.get (loops_joined M c d e).loops (loop_of M d) ≡ None
+  unfolding loops_joined
+  row_gone = get-put_other _ (loop_of M c) _ (loop_of M d) (λ s. can.loops_apart (sym s)) ∙ removed M.loops (loop_of M d) where
+    removed : {X : Type 0} (t : Table X) (n : ℕ) → table.get (table.remove t n) n ≡ None
+    removed t n = grind (arith, nat_tests, tables)
+
   row_free : (q : ℕ) → table.get M.loops q ≡ None → table.get (loops_joined M c d e).loops q ≡ None
   row_free q none = row_other q (λ s. not_free M.loops (loop_of M c) q (has_loop M can.sound c can.c_there) none (sym s)) (λ s. not_free M.loops (loop_of M d) q (has_loop M can.sound d can.d_there) none (sym s)) ∙ none
 
-  joined_edges : (loops_joined M c d e).edges ≡ table.put M.edges e (record { plus_tail = tail M c; minus_tail = tail M d })
+  pub joined_edges : (loops_joined M c d e).edges ≡ table.put M.edges e (record { plus_tail = tail M c; minus_tail = tail M d })
   unfolding loops_joined
   joined_edges = refl
 
@@ -194,6 +213,9 @@ module _ (M : Model) (c d e : ℕ) (can : CanJoin M c d e) where
     vertices = joined_vertices;
     faces = λ g there. subst (λ t. Has t g) (sym joined_faces) there;
   }
+
+  pub join_tails : (tail (loops_joined M c d e) (plus e) ≡ tail M c) × (tail (loops_joined M c d e) (minus e) ≡ tail M d)
+  join_tails = new_tails M J e (tail M c) (tail M d) joined_edges can.edge_free
 
   pub join_beside : (h : ℕ) → HasHalf M h → loop_of M h ≢ loop_of M c → loop_of M h ≢ loop_of M d → (loop_of (loops_joined M c d e) h ≡ loop_of M h) × (face_at (loops_joined M c d e) h ≡ face_at M h)
   join_beside h there a b = kept_place M J can.sound join_new h there (row_other (loop_of M h) a b)

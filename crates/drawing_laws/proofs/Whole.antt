@@ -70,11 +70,11 @@ pub record AllGone (d D : Drawing) (ops : List Op) (n : ℕ) : Type 0 where
 
 -- one face more
 module _ (M N : Model) (p : Plane) (d : Drawing) (f : ℕ) (fs : List ℕ) (n : ℕ) (w : Drawable M N p d (f ∷ fs) n) where
-  next_is : next_drawn M N p d f ≡ drawn_between p f (drawn_pairs M N p f) d
+  pub next_is : next_drawn M N p d f ≡ drawn_between p f (drawn_pairs M N p f) d
   unfolding next_drawn
   next_is = refl
 
-  ready : Ready p f (drawn_pairs M N p f) d (pairs_in M N p fs + n)
+  pub ready : Ready p f (drawn_pairs M N p f) d (pairs_in M N p fs + n)
   ready = record {
     sound = w.sound;
     fresh = w.fresh;
@@ -86,7 +86,7 @@ module _ (M N : Model) (p : Plane) (d : Drawing) (f : ℕ) (fs : List ℕ) (n : 
   gone : Gone d (next_drawn M N p d f) f (face_ops p f (drawn_pairs M N p f) d) (pairs_in M N p fs + n)
   gone = subst (λ x. Gone d x f (face_ops p f (drawn_pairs M N p f) d) (pairs_in M N p fs + n)) (sym next_is) (face_goes p f (drawn_pairs M N p f) d (pairs_in M N p fs + n) ready)
 
-  drawable_on : Drawable M N p (next_drawn M N p d f) fs n
+  pub drawable_on : Drawable M N p (next_drawn M N p d f) fs n
   drawable_on = record {
     sound = gone.drawn.sound;
     fresh = gone.fresh;
@@ -122,14 +122,17 @@ module _ (M : Model) (p : Plane) (g : Growing) (fs : List ℕ) (can : CanBeDrawn
   abbrev start_of : Drawing
   start_of = record { model = g.model; taken = g.taken; left = []; stuck = 0 }
 
-  all : AllGone start_of (faces_drawn M p g fs) (ops_from M g.model p start_of fs) 0
-  all = all_go M g.model p start_of fs 0 (record {
+  pub drawable : Drawable M g.model p start_of fs 0
+  drawable = record {
     sound = can.sound;
     fresh = can.fresh;
     room = subst (Room g.taken) (let s : pairs_in M g.model p fs ≡ pairs_in M g.model p fs + 0 = omega arith in s) can.room;
     fit = can.fit;
     apart = can.apart;
-  })
+  }
+
+  all : AllGone start_of (faces_drawn M p g fs) (ops_from M g.model p start_of fs) 0
+  all = all_go M g.model p start_of fs 0 drawable
 
   pub drawing_accepted : AreAccepted g.model (drawing_ops M p g fs)
   unfolding drawing_ops
