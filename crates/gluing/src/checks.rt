@@ -129,7 +129,7 @@ fn check_left(arena: &Arena) -> Result<(), Refusal>
 ///
 /// It looks once at each face of the two solids, and takes n log n steps for n corners of f and g. `AllocError` where memory is
 /// refused.
-pub(crate) fn check_glue(
+pub fn check_glue(
     alloc: Global,
     arena: &Arena,
     f: u32,
