@@ -1,4 +1,0 @@
-pub mod CrossingOps
-pub mod Kept
-pub mod AtPlace
-pub mod Laws

@@ -1,4 +1,0 @@
-pub mod DrawingOps
-pub mod DrawnIn
-pub mod Pairs
-pub mod Laws

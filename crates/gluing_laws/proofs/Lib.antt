@@ -1,8 +1,0 @@
-mod Listed
-mod Seams
-mod Places
-mod Normals
-mod Adding
-mod Others
-mod Outlines
-mod FromConditions

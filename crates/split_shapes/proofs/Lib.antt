@@ -1,3 +1,0 @@
-pub mod WorkedSplits
-pub mod WorkedSections
-pub mod WorkedRefusals
