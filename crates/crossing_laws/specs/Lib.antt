@@ -1,0 +1,4 @@
+pub mod CrossingOps
+pub mod Kept
+pub mod AtPlace
+pub mod Laws

@@ -1,0 +1,9 @@
+pub mod Drawn
+pub mod Stays
+pub mod Runs
+pub mod Rings
+pub mod Pairs
+pub mod Passes
+pub mod Faces
+pub mod Whole
+pub mod Counted

@@ -1,0 +1,33 @@
+-- What stays while edges are drawn in a face.
+use Rattle.std.specs.Prelude.{◌≡◌, ◌≢◌, ◌⊎◌, ℕ, ◌+◌, ◌≤◌, ◌<◌, None}
+use Rattle.boundary_model.specs.Table as table
+use Rattle.boundary_model.specs.Model.{Model, tail, loop_of}
+use Rattle.boundary_model.specs.Sound.{Sound, Has, HasHalf}
+use Rattle.euler_operators.specs.Conditions.{face_at}
+use Rattle.shapes.specs.Fresh.{Taken}
+
+-- each half-edge stays and starts where it did, and vertices and faces stay
+pub record Stays (M N : Model) : Type 0 where
+  pub halves : (h : ℕ) → HasHalf M h → HasHalf N h
+  pub tails : (h : ℕ) → HasHalf M h → tail N h ≡ tail M h
+  pub vertices : N.vertices ≡ M.vertices
+  pub faces : (g : ℕ) → Has M.faces g → Has N.faces g
+
+-- N is M with edges drawn in face f: half-edges of other faces keep loop and face, and those of f are now of f or of a new face
+pub record DrawnIn (M N : Model) (f : ℕ) : Type 0 where
+  pub sound : Sound N
+  pub stays : Stays M N
+  pub beside : (h : ℕ) → HasHalf M h → face_at M h ≢ f → (loop_of N h ≡ loop_of M h) × (face_at N h ≡ face_at M h)
+  pub within : (h : ℕ) → HasHalf M h → face_at M h ≡ f → (face_at N h ≡ f) ⊎ (table.get M.faces (face_at N h) ≡ None)
+
+-- the numbers above those taken are free
+pub record Fresh (M : Model) (c : Taken) : Type 0 where
+  pub faces : (q : ℕ) → c.face < q → table.get M.faces q ≡ None
+  pub loops : (q : ℕ) → c.loop < q → table.get M.loops q ≡ None
+  pub edges : (q : ℕ) → c.edge < q → table.get M.edges q ≡ None
+
+-- a face, a loop and an edge for each of n pairs are left
+pub record Room (c : Taken) (n : ℕ) : Type 0 where
+  pub faces : c.face + n ≤ 1000000
+  pub loops : c.loop + n ≤ 1000000
+  pub edges : c.edge + n ≤ 1000000

@@ -1,0 +1,4 @@
+pub mod DrawingOps
+pub mod DrawnIn
+pub mod Pairs
+pub mod Laws

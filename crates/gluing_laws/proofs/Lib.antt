@@ -1,0 +1,8 @@
+mod Listed
+mod Seams
+mod Places
+mod Normals
+mod Adding
+mod Others
+mod Outlines
+mod FromConditions

@@ -1,0 +1,237 @@
+-- The other faces of the glued solid: their loops, normals and volumes are what they were.
+use Rattle.std.proofs.Common.{◌≡◌, ◌≢◌, ℕ, true, false, cond, not, nat_eq, ◌&&◌, Bool, List, [], ◌∷◌, ◌++◌, Option, Some, None, unwrap_or, refl, sym, ap, ◌∙◌, arith, true≢false, inl, inr}
+use Rattle.std.specs.Prelude.{map}
+use Rattle.std.specs.Option.{option_map}
+use Rattle.std.proofs.lemmas.Bool.Decides.{nat_tests, eqb_tells}
+use Rattle.lattice.specs.Vectors.{moved, dot, cross}
+use Rattle.cyclic_list.specs.Items.{count, IsIn, head_or}
+use Rattle.cyclic_list.specs.Rings.{canonical}
+use Rattle.cyclic_list.proofs.Lists.{tick_same}
+use Rattle.cyclic_list.proofs.Rotations.{count-canonical, canonical_nil, IsIn_head}
+use Rattle.cyclic_list.proofs.Maps.{from_map}
+use Rattle.boundary_model.specs.Table as table
+use Rattle.boundary_model.specs.Table.{Table, tables, get-map_rows}
+use Rattle.boundary_model.specs.Model.{Model, LoopContent, lone, cycle, FaceRow, LoopRow, no_face, no_loop, items_of, tail, content, face_of, outer, solid_of, point_of, rings_of}
+use Rattle.boundary_model.specs.Sound.{Has, StandsIn}
+use Rattle.boundary_model.proofs.Models.{in-holds, face_row}
+use Rattle.euler_operators.specs.Conditions.{lists}
+use Rattle.euler_operators.specs.Effect.{faces_to_solid}
+use Rattle.euler_laws_shared.proofs.Goes.{equal, differs}
+use Rattle.euler_laws_shared.proofs.Listed.{first_listed, rest_listed, listed_cases, listed_passes}
+use Rattle.shapes.specs.Faces.{start, items_in, loops_of, boundary, corners, vertices_on}
+use Rattle.shapes.specs.Rewriting.{rewritten, rewritten_row}
+use Rattle.solid_measure.specs.Measure.{area, normal, anchor, first_vertex, is_flat}
+use Rattle.solid_measure.proofs.Areas.{area-append}
+use Rattle.solid_measure_laws.proofs.FlatFaces.{corner_told}
+use Rattle.solid_measure_laws.proofs.Paths.{first_in, rest_in}
+use Rattle.solid_measure_laws.proofs.Sums.{area_same}
+use Rattle.gluing_laws.proofs.Listed.{one_if, passed, same_search, volume_of}
+use Rattle.gluing_laws.proofs.Seams as seams
+use Rattle.gluing_laws.proofs.Seams.{Seamed, Glued}
+use Rattle.gluing_laws.proofs.Places as places
+use Rattle.gluing_laws.proofs.Places.{Stays}
+
+-- ---- corners
+
+and_first : (a b : Bool) → (a && b) ≡ true → a ≡ true
+and_first true b e = refl
+and_first false b e = absurd (true≢false (sym e))
+
+listed_front : (xs ys : List ℕ) (q : ℕ) → lists xs q ≡ true → lists (xs ++ ys) q ≡ true
+listed_front [] ys q e = absurd (true≢false (sym e))
+listed_front (x ∷ xs) ys q e = elim (listed_cases x q xs e) [
+  | inl s ↦ ap (λ k. lists (x ∷ (xs ++ ys)) k) s ∙ first_listed x (xs ++ ys)
+  | inr i ↦ rest_listed x q (xs ++ ys) (listed_front xs ys q i)
+]
+
+listed_map : (a : ℕ → ℕ) (x : ℕ) (xs : List ℕ) → IsIn x xs → lists (map a xs) (a x) ≡ true
+listed_map a x [] i = absurd (omega (arith, i))
+listed_map a x (y ∷ ys) i = elim (eqb_tells x y) [
+  | inl e ↦ ap (λ k. lists (a y ∷ map a ys) (a k)) e.1 ∙ first_listed (a y) (map a ys)
+  | inr e ↦ rest_listed (a y) (a x) (map a ys) (listed_map a x ys (later x y ys i e.1))
+] where
+  later : (x y : ℕ) (ys : List ℕ) → IsIn x (y ∷ ys) → x ≢ y → IsIn x ys
+  later x y ys i ne = grind (arith, nat_tests)
+
+-- the items of a face's outer loop start at corners
+pub corner_at : (M : Model) (k : ℕ) (cs : List ℕ) (y : ℕ) → content M (outer M k) ≡ cycle cs → IsIn y cs → lists (corners M k) (tail M y) ≡ true
+unfolding corners loops_of
+corner_at M k cs y is i = listed_front (vertices_on M (content M (outer M k))) _ (tail M y) (ap (λ c. lists (vertices_on M c) (tail M y)) is ∙ listed_map (tail M) y cs i)
+
+-- and so tell what the anchor does
+pub item_told : (M : Model) (k : ℕ) (cs : List ℕ) (y : ℕ) → is_flat M k ≡ true → content M (outer M k) ≡ cycle cs → IsIn y cs → dot (start M y) (normal M k) ≡ dot (anchor M k) (normal M k)
+item_told M k cs y flat is i = corner_told M k (tail M y) flat (corner_at M k cs y is i)
+
+-- the loops of a face are of it
+loop_face : (M : Model) (k l : ℕ) → face_of M (outer M k) ≡ k → lists (loops_of M k) l ≡ true → face_of M l ≡ k
+unfolding loops_of
+loop_face M k l own i = elim (listed_cases (outer M k) l (rings_of M k) i) [
+  | inl e ↦ ap (face_of M) e ∙ own
+  | inr j ↦ let r = listed_passes (λ q row. nat_eq row.face k && not (nat_eq (outer M k) q)) M.loops l j in face_row M l r.0 r.1 ∙ equal r.0.face k (and_first _ _ r.2)
+]
+
+head_in : (xs : List ℕ) (y : ℕ) → IsIn y xs → IsIn (head_or 0 xs) xs
+head_in [] y i = absurd (omega (arith, i))
+head_in (x ∷ xs) y i = IsIn_head x xs
+
+module _ (M N : Model) (f g : ℕ) (partner_of : ℕ → ℕ) (hs gs : List ℕ) (w : Seamed M f g partner_of hs gs) (n : Glued M N f g partner_of hs) where
+  abbrev swap : ℕ → ℕ
+  swap = places.swap M N f g partner_of hs gs w n
+
+  abbrev StaysHere : ℕ → ℕ → Type 0
+  StaysHere = Stays M N f g partner_of hs gs w n
+
+  -- ---- loops
+
+  abbrev kept : Table LoopRow
+  kept = table.remove (table.remove M.loops (outer M f)) (outer M g)
+
+  kept_else : (l : ℕ) → l ≢ outer M f → l ≢ outer M g → table.get kept l ≡ table.get M.loops l
+  kept_else l a b = grind (arith, nat_tests, tables)
+
+  kept_f : (l : ℕ) → l ≡ outer M f → table.get kept l ≡ None
+  kept_f l e = grind (arith, nat_tests, tables)
+
+  kept_g : (l : ℕ) → l ≡ outer M g → table.get kept l ≡ None
+  kept_g l e = grind (arith, nat_tests, tables)
+
+  row_in : (l : ℕ) → table.get N.loops l ≡ option_map (rewritten_row (map swap) l) (table.get kept l)
+  row_in l = ap (λ t. table.get t l) n.loops ∙ get-map_rows (rewritten_row (map swap)) kept l
+
+  loop_row : (l : ℕ) → l ≢ outer M f → l ≢ outer M g → table.get N.loops l ≡ option_map (rewritten_row (map swap) l) (table.get M.loops l)
+  loop_row l a b = row_in l ∙ ap (option_map (rewritten_row (map swap) l)) (kept_else l a b)
+
+  content_in : (l : ℕ) (o : Option LoopRow) → (unwrap_or (option_map (rewritten_row (map swap) l) o) no_loop).content ≡ rewritten (map swap) (unwrap_or o no_loop).content
+  content_in l None = ap cycle (sym canonical_nil)
+  content_in l (Some row) = refl
+
+  pub content_is : (l : ℕ) → l ≢ outer M f → l ≢ outer M g → content N l ≡ rewritten (map swap) (content M l)
+  unfolding content
+  content_is l a b = ap (λ o. (unwrap_or o no_loop).content) (loop_row l a b) ∙ content_in l (table.get M.loops l)
+
+  swapped_area : (cs : List ℕ) → ((y : ℕ) → IsIn y cs → StaysHere (swap y) y) → area N (map swap cs) ≡ area M cs
+  swapped_area [] e = refl
+  swapped_area (y ∷ ys) e = let p = e y (first_in y ys) in λ i. moved (cross (p.0 i) (p.1 i)) (swapped_area ys (λ z j. e z (rest_in z y ys j)) i)
+
+  content_area : (c : LoopContent) → ((y : ℕ) → IsIn y (items_of c) → StaysHere (swap y) y) → area N (items_of (rewritten (map swap) c)) ≡ area M (items_of c)
+  content_area (lone v) e = refl
+  content_area (cycle cs) e = area_same N (canonical (map swap cs)) (map swap cs) (λ x. count-canonical x (map swap cs)) ∙ swapped_area cs e
+
+  each_swapped : (l : ℕ) → l ≢ outer M g → (y : ℕ) → IsIn y (items_of (content M l)) → StaysHere (swap y) y
+  each_swapped l b y i =
+      let s : StandsIn M y l = in-holds y (content M l) i in
+      places.swapped M N f g partner_of hs gs w n y (w.sound.only_edges y l s) (λ e. b (sym (w.sound.one_loop y l s) ∙ e))
+
+  loop_area : (l : ℕ) → l ≢ outer M f → l ≢ outer M g → area N (items_of (content N l)) ≡ area M (items_of (content M l))
+  loop_area l a b = ap (λ c. area N (items_of c)) (content_is l a b) ∙ content_area (content M l) (each_swapped l b)
+
+  loops_area : (ls : List ℕ) → ((l : ℕ) → lists ls l ≡ true → (l ≢ outer M f) × (l ≢ outer M g)) → area N (items_in N ls) ≡ area M (items_in M ls)
+  loops_area [] e = refl
+  loops_area (l ∷ ls) e =
+      let p = e l (first_listed l ls) in
+      area-append N (items_of (content N l)) (items_in N ls)
+      ∙ (λ i. moved (loop_area l p.0 p.1 i) (loops_area ls (λ q j. e q (rest_listed l q ls j)) i))
+      ∙ sym (area-append M (items_of (content M l)) (items_in M ls))
+
+  -- ---- faces
+
+  abbrev pub to_s : ℕ → FaceRow → FaceRow
+  to_s = faces_to_solid (λ _ row. nat_eq row.solid (solid_of M g)) (solid_of M f)
+
+  abbrev pub faces_left : Table FaceRow
+  faces_left = table.remove (table.remove M.faces f) g
+
+  left_else : (k : ℕ) → k ≢ f → k ≢ g → table.get faces_left k ≡ table.get M.faces k
+  left_else k a b = grind (arith, nat_tests, tables)
+
+  pub face_at_row : (k : ℕ) → table.get N.faces k ≡ option_map (to_s k) (table.get faces_left k)
+  face_at_row k = ap (λ t. table.get t k) n.faces ∙ get-map_rows to_s faces_left k
+
+  pub other_face : (k : ℕ) → k ≢ f → k ≢ g → table.get N.faces k ≡ option_map (to_s k) (table.get M.faces k)
+  other_face k a b = face_at_row k ∙ ap (option_map (to_s k)) (left_else k a b)
+
+  outer_either : (b : Bool) (row : FaceRow) → (cond b (record row { solid = solid_of M f }) row).outer ≡ row.outer
+  outer_either true row = refl
+  outer_either false row = refl
+
+  outer_in : (k : ℕ) (o : Option FaceRow) → (unwrap_or (option_map (to_s k) o) no_face).outer ≡ (unwrap_or o no_face).outer
+  outer_in k None = refl
+  outer_in k (Some row) = outer_either (nat_eq row.solid (solid_of M g)) row
+
+  -- face k is neither f nor g
+  module _ (k : ℕ) (there : Has M.faces k) (not_f : k ≢ f) (not_g : k ≢ g) where
+    pub outer_is : outer N k ≡ outer M k
+    unfolding outer
+    outer_is = ap (λ o. (unwrap_or o no_face).outer) (other_face k not_f not_g) ∙ outer_in k (table.get M.faces k)
+
+    abbrev ring_before : ℕ → LoopRow → Bool
+    ring_before l row = nat_eq row.face k && not (nat_eq (outer M k) l)
+
+    abbrev ring_after : ℕ → LoopRow → Bool
+    ring_after l row = nat_eq row.face k && not (nat_eq (outer N k) l)
+
+    same_row : (l : ℕ) (o : Option LoopRow) → passed ring_after l (option_map (rewritten_row (map swap) l) o) ≡ passed ring_before l o
+    same_row l None = refl
+    same_row l (Some row) = ap (λ o. one_if (nat_eq row.face k && not (nat_eq o l))) outer_is
+
+    none_passes : (l : ℕ) → face_of M l ≢ k → passed ring_before l (table.get M.loops l) ≡ 0
+    none_passes l ne = go (table.get M.loops l) refl where
+      go : (o : Option LoopRow) → table.get M.loops l ≡ o → passed ring_before l o ≡ 0
+      go None e = refl
+      go (Some row) e = ap (λ b. one_if (b && not (nat_eq (outer M k) l))) (differs row.face k (λ s. ne (face_row M l row e ∙ s)))
+
+    loop_gone : (l : ℕ) → table.get kept l ≡ None → face_of M l ≢ k → passed ring_after l (table.get N.loops l) ≡ passed ring_before l (table.get M.loops l)
+    loop_gone l e ne = ap (passed ring_after l) (row_in l ∙ ap (option_map (rewritten_row (map swap) l)) e) ∙ sym (none_passes l ne)
+
+    rings_are : rings_of N k ≡ rings_of M k
+    rings_are = same_search ring_after ring_before N.loops M.loops (λ l. elim (eqb_tells l (outer M f)) [
+      | inl e ↦ loop_gone l (kept_f l e.1) (λ s. not_f (sym s ∙ ap (face_of M) e.1 ∙ seams.face_f M f g partner_of hs gs w))
+      | inr a ↦ elim (eqb_tells l (outer M g)) [
+        | inl e ↦ loop_gone l (kept_g l e.1) (λ s. not_g (sym s ∙ ap (face_of M) e.1 ∙ seams.face_g M f g partner_of hs gs w))
+        | inr b ↦ ap (passed ring_after l) (loop_row l a.1 b.1) ∙ same_row l (table.get M.loops l)
+      ]
+    ])
+
+    loops_are : loops_of N k ≡ loops_of M k
+    unfolding loops_of
+    loops_are = λ i. outer_is i ∷ rings_are i
+
+    pub own : face_of M (outer M k) ≡ k
+    own = (w.sound.outers_there k there).1
+
+    pub loop_else : (l : ℕ) → face_of M l ≡ k → (l ≢ outer M f) × (l ≢ outer M g)
+    loop_else l of = (
+      λ e. not_f (sym of ∙ ap (face_of M) e ∙ seams.face_f M f g partner_of hs gs w),
+      λ e. not_g (sym of ∙ ap (face_of M) e ∙ seams.face_g M f g partner_of hs gs w),
+    )
+
+    pub normal_is : normal N k ≡ normal M k
+    unfolding normal boundary
+    normal_is = ap (λ ls. area N (items_in N ls)) loops_are ∙ loops_area (loops_of M k) (λ l i. loop_else l (loop_face M k l own i))
+
+    -- ---- anchors
+
+    anchor_in : (c : LoopContent) → c ≢ cycle [] → content M (outer M k) ≡ c → is_flat M k ≡ true → dot (point_of N (first_vertex N (rewritten (map swap) c))) (normal M k) ≡ dot (anchor M k) (normal M k)
+    anchor_in (lone v) ne is flat =
+        ap (λ p. dot p (normal M k)) (places.point_kept M N f g partner_of hs gs w n v (λ h i e. w.sound.lone_is_no_tail (outer M k) (partner_of h) (seams.half_g M f g partner_of hs gs w (partner_of h) (seams.partner_in M f g partner_of hs gs w h i)) (is ∙ ap lone (sym e)))
+        ∙ sym (ap (λ c. point_of M (first_vertex M c)) is))
+    anchor_in (cycle []) ne is flat = absurd (ne refl)
+    anchor_in (cycle (c ∷ cs)) ne is flat =
+        let zs : List ℕ = canonical (map swap (c ∷ cs)) in
+        let some : IsIn (swap c) zs = omega (arith, count-canonical (swap c) (map swap (c ∷ cs)), tick_same (swap c)) in
+        let first : IsIn (head_or 0 zs) (map swap (c ∷ cs)) = omega (arith, head_in zs (swap c) some, count-canonical (head_or 0 zs) (map swap (c ∷ cs))) in
+        let y = from_map swap (head_or 0 zs) (c ∷ cs) first in
+        ap (λ p. dot p (normal M k)) (ap (start N) y.2 ∙ (each_swapped (outer M k) (loop_else (outer M k) own).1 y.0 (ap_in y.0 (c ∷ cs) is y.1)).0)
+        ∙ item_told M k (c ∷ cs) y.0 flat is y.1 where
+          ap_in : (y : ℕ) (cs : List ℕ) → content M (outer M k) ≡ cycle cs → IsIn y cs → IsIn y (items_of (content M (outer M k)))
+          ap_in y cs is i = omega (arith, i, ap (λ c. count y (items_of c)) is)
+
+    anchor_told : is_flat M k ≡ true → dot (anchor N k) (normal M k) ≡ dot (anchor M k) (normal M k)
+    anchor_told flat =
+        let l = outer M k in
+        ap (λ c. dot (point_of N (first_vertex N c)) (normal M k)) (ap (content N) outer_is ∙ content_is l (loop_else l own).0 (loop_else l own).1)
+        ∙ anchor_in (content M l) (λ e. (w.sound.cycles l [] (w.sound.outers_there k there).0 e).some_item refl) refl flat
+
+    -- the face adds what it did
+    pub volume_is : is_flat M k ≡ true → volume_of N k ≡ volume_of M k
+    volume_is flat = ap (dot (anchor N k)) normal_is ∙ anchor_told flat

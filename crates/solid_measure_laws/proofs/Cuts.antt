@@ -1,0 +1,281 @@
+-- Where a segment meets a plane: the point lies on the plane, and divides the segment as the heights of its ends.
+-- Cut there, the segment keeps its part of an area.
+use Rattle.std.proofs.Common.{◌≡◌, ◌≢◌, ◌⊎◌, inl, inr, ℕ, zero, suc, ◌+◌, ◌/◌, ◌%◌, ◌<◌, Bool, true, false, ◌&&◌, ℤ, pos, negsuc, ◌+ℤ◌, ◌-ℤ◌, ◌*ℤ◌, neg_ℤ, unsigned_abs, int_div, int_rem, refl, sym, ap, ◌∙◌, arith, true≢false}
+use Rattle.std.specs.Ordering.{int_eq}
+use Rattle.std.specs.Cmp.{signed_Decides}
+use Rattle.std.proofs.lemmas.Int.{ints, quot-rem}
+use Rattle.std.proofs.Math.Nat.{div-zero, zero-div, zero-mod}
+use Rattle.lattice.specs.declared.Point.{Point}
+use Rattle.lattice.specs.declared.Plane.{Plane}
+use Rattle.lattice.specs.Vectors.{origin, moved, cross, height, is_on, opposite, are_opposite, cut_multiple, cuts_lattice, cut_between}
+use Rattle.vector_laws.proofs.Integers.{dif, dif-parts, difs, neg-dif, same_dif, number}
+use Rattle.vector_laws.proofs.Vectors.{same_vector, moved_none}
+use Rattle.solid_measure_laws.specs.Vectors.{scaled, towards}
+use Rattle.solid_measure_laws.proofs.Products.{no_product}
+
+-- ---- one coordinate: from p to q, m and n the heights there, x the coordinate of the cut
+
+whole : (t w : ℤ) → int_eq (int_rem t w) (pos 0) ≡ true → int_div t w *ℤ (w) ≡ t
+whole t w e = none (int_div t w *ℤ w) (int_rem t w) t (quot-rem t w) ((signed_Decides (int_rem t w) (pos 0)).0 e) where
+  none : (a r t : ℤ) → a +ℤ r ≡ t → r ≡ pos 0 → a ≡ t
+  none a r t e z = omega (arith, ints)
+
+spread_dif : (x p w x' p' w' : ℕ) → (dif x x' -ℤ dif p p') *ℤ dif w w' ≡ dif x x' *ℤ dif w w' -ℤ dif p p' *ℤ dif w w'
+spread_dif x p w x' p' w' = simp difs (same_dif _ _ _ _ (omega arith))
+
+spread : (x p w : ℤ) → (x -ℤ p) *ℤ w ≡ x *ℤ w -ℤ p *ℤ w
+spread x p w = rw (dif-parts x, dif-parts p, dif-parts w) (spread_dif _ _ _ _ _ _)
+
+rest_dif : (p q m n p' q' m' n' : ℕ) → (dif q q' *ℤ dif m m' -ℤ dif p p' *ℤ dif n n') -ℤ dif p p' *ℤ (dif m m' -ℤ dif n n') ≡ (dif q q' -ℤ dif p p') *ℤ dif m m'
+rest_dif p q m n p' q' m' n' = simp difs (same_dif _ _ _ _ (omega arith))
+
+rest_part : (p q m n : ℤ) → (q *ℤ m -ℤ p *ℤ n) -ℤ p *ℤ (m -ℤ n) ≡ (q -ℤ p) *ℤ m
+rest_part p q m n = rw (dif-parts p, dif-parts q, dif-parts m, dif-parts n) (rest_dif _ _ _ _ _ _ _ _)
+
+divided : (p q m n x : ℤ) → x *ℤ (m -ℤ n) ≡ q *ℤ m -ℤ p *ℤ n → (x -ℤ p) *ℤ (m -ℤ n) ≡ (q -ℤ p) *ℤ m
+divided p q m n x e = spread x p (m -ℤ n) ∙ ap (λ t. t -ℤ p *ℤ (m -ℤ n)) e ∙ rest_part p q m n
+
+-- ---- the height of the cut
+
+height_dif : (a b c d x y z w a' b' c' d' x' y' z' w' : ℕ) →
+    (dif a a' *ℤ dif x x' +ℤ dif b b' *ℤ dif y y' +ℤ dif c c' *ℤ dif z z' +ℤ dif d d') *ℤ dif w w'
+    ≡ dif a a' *ℤ (dif x x' *ℤ dif w w') +ℤ dif b b' *ℤ (dif y y' *ℤ dif w w') +ℤ dif c c' *ℤ (dif z z' *ℤ dif w w') +ℤ dif d d' *ℤ dif w w'
+height_dif a b c d x y z w a' b' c' d' x' y' z' w' = simp difs (same_dif _ _ _ _ (omega arith))
+
+height_part : (a b c d x y z w : ℤ) → (a *ℤ x +ℤ b *ℤ y +ℤ c *ℤ z +ℤ d) *ℤ w ≡ a *ℤ (x *ℤ w) +ℤ b *ℤ (y *ℤ w) +ℤ c *ℤ (z *ℤ w) +ℤ d *ℤ w
+height_part a b c d x y z w = rw (dif-parts a, dif-parts b, dif-parts c, dif-parts d, dif-parts x, dif-parts y, dif-parts z, dif-parts w) (height_dif _ _ _ _ _ _ _ _ _ _ _ _ _ _ _ _)
+
+share_dif : (a p q m n a' p' q' m' n' : ℕ) → dif a a' *ℤ (dif q q' *ℤ dif m m' -ℤ dif p p' *ℤ dif n n') ≡ (dif a a' *ℤ dif q q') *ℤ dif m m' -ℤ (dif a a' *ℤ dif p p') *ℤ dif n n'
+share_dif a p q m n a' p' q' m' n' = simp difs (same_dif _ _ _ _ (omega arith))
+
+share : (a p q m n : ℤ) → a *ℤ (q *ℤ m -ℤ p *ℤ n) ≡ (a *ℤ q) *ℤ m -ℤ (a *ℤ p) *ℤ n
+share a p q m n = rw (dif-parts a, dif-parts p, dif-parts q, dif-parts m, dif-parts n) (share_dif _ _ _ _ _ _ _ _ _ _)
+
+both_dif : (a b c d e f g m n a' b' c' d' e' f' g' m' n' : ℕ) →
+    (dif a a' *ℤ dif m m' -ℤ dif e e' *ℤ dif n n') +ℤ (dif b b' *ℤ dif m m' -ℤ dif f f' *ℤ dif n n') +ℤ (dif c c' *ℤ dif m m' -ℤ dif g g' *ℤ dif n n') +ℤ dif d d' *ℤ (dif m m' -ℤ dif n n')
+    ≡ (dif a a' +ℤ dif b b' +ℤ dif c c' +ℤ dif d d') *ℤ dif m m' -ℤ (dif e e' +ℤ dif f f' +ℤ dif g g' +ℤ dif d d') *ℤ dif n n'
+both_dif a b c d e f g m n a' b' c' d' e' f' g' m' n' = simp difs (same_dif _ _ _ _ (omega arith))
+
+both : (a b c d e f g m n : ℤ) →
+    (a *ℤ m -ℤ e *ℤ n) +ℤ (b *ℤ m -ℤ f *ℤ n) +ℤ (c *ℤ m -ℤ g *ℤ n) +ℤ d *ℤ (m -ℤ n) ≡ (a +ℤ b +ℤ c +ℤ d) *ℤ m -ℤ (e +ℤ f +ℤ g +ℤ d) *ℤ n
+both a b c d e f g m n = rw (dif-parts a, dif-parts b, dif-parts c, dif-parts d, dif-parts e, dif-parts f, dif-parts g, dif-parts m, dif-parts n) (both_dif _ _ _ _ _ _ _ _ _ _ _ _ _ _ _ _ _ _)
+
+-- u and v are the heights of p and q over the plane
+height_at : (a b c d px py pz qx qy qz x y z m n u v : ℤ) → a *ℤ px +ℤ b *ℤ py +ℤ c *ℤ pz +ℤ d ≡ u → a *ℤ qx +ℤ b *ℤ qy +ℤ c *ℤ qz +ℤ d ≡ v →
+    x *ℤ (m -ℤ n) ≡ qx *ℤ m -ℤ px *ℤ n → y *ℤ (m -ℤ n) ≡ qy *ℤ m -ℤ py *ℤ n → z *ℤ (m -ℤ n) ≡ qz *ℤ m -ℤ pz *ℤ n →
+    (a *ℤ x +ℤ b *ℤ y +ℤ c *ℤ z +ℤ d) *ℤ (m -ℤ n) ≡ v *ℤ m -ℤ u *ℤ n
+height_at a b c d px py pz qx qy qz x y z m n u v at_p at_q ex ey ez = height_part a b c d x y z (m -ℤ n)
+    ∙ (λ i. (ap (λ t. a *ℤ t) ex ∙ share a px qx m n) i +ℤ (ap (λ t. b *ℤ t) ey ∙ share b py qy m n) i +ℤ (ap (λ t. c *ℤ t) ez ∙ share c pz qz m n) i +ℤ d *ℤ (m -ℤ n))
+    ∙ both (a *ℤ qx) (b *ℤ qy) (c *ℤ qz) d (a *ℤ px) (b *ℤ py) (c *ℤ pz) m n
+    ∙ (λ i. at_q i *ℤ m -ℤ at_p i *ℤ n)
+
+cancel_dif : (m n m' n' : ℕ) → dif n n' *ℤ dif m m' -ℤ dif m m' *ℤ dif n n' ≡ dif 0 0
+cancel_dif m n m' n' = simp difs (same_dif _ _ _ _ (omega arith))
+
+cancel : (m n : ℤ) → n *ℤ m -ℤ m *ℤ n ≡ pos 0
+cancel m n = rw (dif-parts m, dif-parts n, number 0) (cancel_dif _ _ _ _)
+
+level_dif : (m n m' n' : ℕ) → dif 0 0 *ℤ dif m m' -ℤ dif 0 0 *ℤ dif n n' ≡ dif 0 0
+level_dif m n m' n' = simp difs (same_dif _ _ _ _ (omega arith))
+
+level_part : (m n z : ℤ) → z ≡ pos 0 → z *ℤ m -ℤ z *ℤ n ≡ z
+level_part m n z e = rw (dif-parts m, dif-parts n, e ∙ number 0) (level_dif _ _ _ _)
+
+-- ---- heights of opposite signs
+
+apart : (m n : ℤ) → opposite m n ≡ true → m -ℤ n ≢ pos 0
+apart m n e z = grind (arith, ints)
+
+pub some_height : (m n : ℤ) → opposite m n ≡ true → (0 < unsigned_abs m) × (0 < unsigned_abs n)
+some_height m n e = grind (arith, ints)
+
+signs : (m n : ℤ) → opposite m n ≡ true →
+    ((m ≡ pos (unsigned_abs m)) × (m -ℤ n ≡ pos (unsigned_abs m + unsigned_abs n))) ⊎ ((m ≡ neg_ℤ (pos (unsigned_abs m))) × (m -ℤ n ≡ neg_ℤ (pos (unsigned_abs m + unsigned_abs n))))
+signs m n e = grind (arith, ints)
+
+order_dif : (x w x' w' : ℕ) → dif x x' *ℤ dif w w' ≡ dif w w' *ℤ dif x x'
+order_dif x w x' w' = simp difs (same_dif _ _ _ _ (omega arith))
+
+order : (x w : ℤ) → x *ℤ w ≡ w *ℤ x
+order x w = rw (dif-parts x, dif-parts w) (order_dif _ _ _ _)
+
+turned_dif : (x w x' w' : ℕ) → dif x x' *ℤ neg_ℤ (dif w w') ≡ neg_ℤ (dif w w' *ℤ dif x x')
+turned_dif x w x' w' = simp (difs, neg-dif) (same_dif _ _ _ _ (omega arith))
+
+turned : (x w : ℤ) → x *ℤ neg_ℤ w ≡ neg_ℤ (w *ℤ x)
+turned x w = rw (dif-parts x, dif-parts w) (turned_dif _ _ _ _)
+
+turned_back : (a b : ℤ) → neg_ℤ a ≡ neg_ℤ b → a ≡ b
+turned_back a b e = omega (arith, ints)
+
+-- (x - p) in units of both heights is (q - p) in units of the first
+pub ratio : (m n d g : ℤ) → opposite m n ≡ true → g *ℤ (m -ℤ n) ≡ d *ℤ m → pos (unsigned_abs m + unsigned_abs n) *ℤ g ≡ pos (unsigned_abs m) *ℤ d
+ratio m n d g o e = elim (signs m n o) [
+  | inl s ↦ sym (order g (pos (unsigned_abs m + unsigned_abs n))) ∙ ap (λ w. g *ℤ w) (sym s.1) ∙ e ∙ ap (λ w. d *ℤ w) s.0 ∙ order d (pos (unsigned_abs m))
+  | inr s ↦ turned_back _ _ (sym (turned g (pos (unsigned_abs m + unsigned_abs n))) ∙ ap (λ w. g *ℤ w) (sym s.1) ∙ e ∙ ap (λ w. d *ℤ w) s.0 ∙ turned d (pos (unsigned_abs m)))
+]
+
+-- ---- a point of the line through p and q
+
+line_dif : (w a b c e w' a' b' c' e' : ℕ) → (dif a a' *ℤ dif c c' -ℤ dif b b' *ℤ dif e e') *ℤ dif w w' ≡ (dif w w' *ℤ dif a a') *ℤ dif c c' -ℤ (dif w w' *ℤ dif b b') *ℤ dif e e'
+line_dif w a b c e w' a' b' c' e' = simp difs (same_dif _ _ _ _ (omega arith))
+
+line_part : (w a b c e : ℤ) → (a *ℤ c -ℤ b *ℤ e) *ℤ w ≡ (w *ℤ a) *ℤ c -ℤ (w *ℤ b) *ℤ e
+line_part w a b c e = rw (dif-parts w, dif-parts a, dif-parts b, dif-parts c, dif-parts e) (line_dif _ _ _ _ _ _ _ _ _ _)
+
+same_line_dif : (k c e k' c' e' : ℕ) → (dif k k' *ℤ dif e e') *ℤ dif c c' -ℤ (dif k k' *ℤ dif c c') *ℤ dif e e' ≡ dif 0 0
+same_line_dif k c e k' c' e' = simp difs (same_dif _ _ _ _ (omega arith))
+
+same_line : (k c e : ℤ) → (k *ℤ e) *ℤ c -ℤ (k *ℤ c) *ℤ e ≡ pos 0
+same_line k c e = rw (dif-parts k, dif-parts c, dif-parts e, number 0) (same_line_dif _ _ _ _ _ _)
+
+along : (w k a b c e : ℤ) → w ≢ pos 0 → w *ℤ a ≡ k *ℤ e → w *ℤ b ≡ k *ℤ c → a *ℤ c -ℤ b *ℤ e ≡ pos 0
+along w k a b c e some ea eb = no_product w (a *ℤ c -ℤ b *ℤ e) (line_part w a b c e ∙ (λ i. ea i *ℤ c -ℤ eb i *ℤ e) ∙ same_line k c e) some
+
+through_dif : (a b e f h k a' b' e' f' h' k' : ℕ) →
+    (dif a a' *ℤ dif k k' -ℤ dif b b' *ℤ dif h h') +ℤ (dif h h' *ℤ dif f f' -ℤ dif k k' *ℤ dif e e')
+    ≡ (dif a a' *ℤ dif f f' -ℤ dif b b' *ℤ dif e e') +ℤ ((dif h h' -ℤ dif a a') *ℤ (dif f f' -ℤ dif b b') -ℤ (dif k k' -ℤ dif b b') *ℤ (dif e e' -ℤ dif a a'))
+through_dif a b e f h k a' b' e' f' h' k' = simp difs (same_dif _ _ _ _ (omega arith))
+
+-- from (a, b) over (h, k) to (e, f)
+through_part : (a b e f h k : ℤ) → (a *ℤ k -ℤ b *ℤ h) +ℤ (h *ℤ f -ℤ k *ℤ e) ≡ (a *ℤ f -ℤ b *ℤ e) +ℤ ((h -ℤ a) *ℤ (f -ℤ b) -ℤ (k -ℤ b) *ℤ (e -ℤ a))
+through_part a b e f h k = rw (dif-parts a, dif-parts b, dif-parts e, dif-parts f, dif-parts h, dif-parts k) (through_dif _ _ _ _ _ _ _ _ _ _ _ _)
+
+-- a step that is cut at a point of its line keeps its part of an area
+pub cut_area : (w k : ℤ) (p q c : Point) → w ≢ pos 0 → scaled w (towards p c) ≡ scaled k (towards p q) → moved (cross p c) (cross c q) ≡ cross p q
+cut_area w k p q c some e =
+    same_vector _ (moved (cross p q) (cross (towards p c) (towards p q))) (through_part p.y p.z q.y q.z c.y c.z) (through_part p.z p.x q.z q.x c.z c.x) (through_part p.x p.y q.x q.y c.x c.y)
+    ∙ ap (moved (cross p q)) (same_vector _ origin
+    (along w k (c.y -ℤ p.y) (c.z -ℤ p.z) (q.z -ℤ p.z) (q.y -ℤ p.y) some (ap (λ v. v.y) e) (ap (λ v. v.z) e))
+    (along w k (c.z -ℤ p.z) (c.x -ℤ p.x) (q.x -ℤ p.x) (q.z -ℤ p.z) some (ap (λ v. v.z) e) (ap (λ v. v.x) e))
+    (along w k (c.x -ℤ p.x) (c.y -ℤ p.y) (q.y -ℤ p.y) (q.x -ℤ p.x) some (ap (λ v. v.x) e) (ap (λ v. v.y) e)))
+    ∙ moved_none (cross p q)
+
+-- ---- the cut
+
+module _ (s : Plane) (p q : Point) (o : are_opposite s p q ≡ true) (cuts : cuts_lattice s p q ≡ true) where
+  parts : (a b c : Bool) → (a && b && c) ≡ true → (a ≡ true) × (b ≡ true) × (c ≡ true)
+  parts true true true e = (refl, refl, refl)
+  parts true true false e = absurd (true≢false (sym e))
+  parts true false c e = absurd (true≢false (sym e))
+  parts false b c e = absurd (true≢false (sym e))
+
+  abbrev m : ℤ
+  m = height s p
+
+  abbrev n : ℤ
+  n = height s q
+
+  abbrev cut : Point
+  cut = cut_between s p q
+
+  abbrev rem_none : ℤ → ℤ → Bool
+  rem_none a b = int_eq (int_rem (cut_multiple s p q a b) (m -ℤ n)) (pos 0)
+
+  all_whole : (rem_none p.x q.x ≡ true) × (rem_none p.y q.y ≡ true) × (rem_none p.z q.z ≡ true)
+  all_whole = parts (rem_none p.x q.x) (rem_none p.y q.y) (rem_none p.z q.z) cuts
+
+  x_is : cut.x *ℤ (m -ℤ n) ≡ q.x *ℤ m -ℤ p.x *ℤ n
+  x_is = whole (cut_multiple s p q p.x q.x) (m -ℤ n) all_whole.0
+
+  y_is : cut.y *ℤ (m -ℤ n) ≡ q.y *ℤ m -ℤ p.y *ℤ n
+  y_is = whole (cut_multiple s p q p.y q.y) (m -ℤ n) all_whole.1
+
+  z_is : cut.z *ℤ (m -ℤ n) ≡ q.z *ℤ m -ℤ p.z *ℤ n
+  z_is = whole (cut_multiple s p q p.z q.z) (m -ℤ n) all_whole.2
+
+  -- its height over any plane
+  height_told : (t : Plane) (u v : ℤ) → height t p ≡ u → height t q ≡ v → height t cut *ℤ (m -ℤ n) ≡ v *ℤ m -ℤ u *ℤ n
+  height_told t u v at_p at_q = height_at t.a t.b t.c t.d p.x p.y p.z q.x q.y q.z cut.x cut.y cut.z m n u v at_p at_q x_is y_is z_is
+
+  height_none : (t : Plane) → height t cut *ℤ (m -ℤ n) ≡ pos 0 → is_on t cut ≡ true
+  height_none t e = (signed_Decides (height t cut) (pos 0)).1 (no_product (m -ℤ n) (height t cut) e (apart m n o))
+
+  pub cut_on : is_on s (cut_between s p q) ≡ true
+  cut_on = height_none s (height_told s m n refl refl ∙ cancel m n)
+
+  -- it lies on each plane on which both ends lie
+  pub cut_on_each : (t : Plane) → is_on t p ≡ true → is_on t q ≡ true → is_on t (cut_between s p q) ≡ true
+  cut_on_each t on_p on_q = height_none t (height_told t (pos 0) (pos 0) ((signed_Decides (height t p) (pos 0)).0 on_p) ((signed_Decides (height t q) (pos 0)).0 on_q) ∙ level_part m n (pos 0) refl)
+
+  pub cut_divides : scaled (pos (unsigned_abs (height s p) + unsigned_abs (height s q))) (towards p (cut_between s p q)) ≡ scaled (pos (unsigned_abs (height s p))) (towards p q)
+  cut_divides = same_vector _ _
+      (ratio m n (q.x -ℤ p.x) (cut.x -ℤ p.x) o (divided p.x q.x m n cut.x x_is))
+      (ratio m n (q.y -ℤ p.y) (cut.y -ℤ p.y) o (divided p.y q.y m n cut.y y_is))
+      (ratio m n (q.z -ℤ p.z) (cut.z -ℤ p.z) o (divided p.z q.z m n cut.z z_is))
+
+  -- and cuts the step from p to q into two with the same area
+  pub cut_keeps_area : moved (cross p (cut_between s p q)) (cross (cut_between s p q) q) ≡ cross p q
+  cut_keeps_area = cut_area (pos (unsigned_abs m + unsigned_abs n)) (pos (unsigned_abs m)) p q cut (some (unsigned_abs m) (unsigned_abs n) (some_height m n o).0) cut_divides where
+    some : (a b : ℕ) → 0 < a → pos (a + b) ≢ pos 0
+    some a b l e = absurd (omega (arith, l, ap unsigned_abs e))
+
+-- ---- from the other end
+
+multiple_dif : (p q m n p' q' m' n' : ℕ) → dif p p' *ℤ dif n n' -ℤ dif q q' *ℤ dif m m' ≡ neg_ℤ (dif q q' *ℤ dif m m' -ℤ dif p p' *ℤ dif n n')
+multiple_dif p q m n p' q' m' n' = simp (difs, neg-dif) (same_dif _ _ _ _ (omega arith))
+
+multiple_turned : (p q m n : ℤ) → p *ℤ n -ℤ q *ℤ m ≡ neg_ℤ (q *ℤ m -ℤ p *ℤ n)
+multiple_turned p q m n = rw (dif-parts p, dif-parts q, dif-parts m, dif-parts n) (multiple_dif _ _ _ _ _ _ _ _)
+
+gap_turned : (m n : ℤ) → n -ℤ m ≡ neg_ℤ (m -ℤ n)
+gap_turned m n = omega (arith, ints)
+
+none_over : (n : ℕ) → neg_ℤ (pos (0 / n)) ≡ pos (0 / n)
+none_over n = ap (λ k. neg_ℤ (pos k)) (zero-div n) ∙ sym (ap pos (zero-div n))
+
+by_none : (n : ℕ) → neg_ℤ (pos (n / 0)) ≡ pos (n / 0)
+by_none n = ap (λ k. neg_ℤ (pos k)) (div-zero n) ∙ sym (ap pos (div-zero n))
+
+quotient_turned : (a w : ℤ) → int_div (neg_ℤ a) (neg_ℤ w) ≡ int_div a w
+quotient_turned (pos zero) (pos zero) = refl
+quotient_turned (pos zero) (pos (suc w)) = none_over (suc w)
+quotient_turned (pos zero) (negsuc w) = sym (none_over (suc w))
+quotient_turned (pos (suc a)) (pos zero) = by_none (suc a)
+quotient_turned (pos (suc a)) (pos (suc w)) = refl
+quotient_turned (pos (suc a)) (negsuc w) = refl
+quotient_turned (negsuc a) (pos zero) = sym (by_none (suc a))
+quotient_turned (negsuc a) (pos (suc w)) = refl
+quotient_turned (negsuc a) (negsuc w) = refl
+
+same_size : (w : ℤ) → unsigned_abs (neg_ℤ w) ≡ unsigned_abs w
+same_size (pos zero) = refl
+same_size (pos (suc w)) = refl
+same_size (negsuc w) = refl
+
+twice_turned : (n : ℕ) → neg_ℤ (neg_ℤ (pos n)) ≡ pos n
+twice_turned zero = refl
+twice_turned (suc n) = refl
+
+remainder_turned : (a w : ℤ) → int_rem (neg_ℤ a) (neg_ℤ w) ≡ neg_ℤ (int_rem a w)
+remainder_turned (pos zero) w = ap (λ k. pos (0 % k)) (same_size w) ∙ ap pos (zero-mod (unsigned_abs w)) ∙ sym (ap (λ k. neg_ℤ (pos k)) (zero-mod (unsigned_abs w)))
+remainder_turned (pos (suc a)) w = ap (λ k. neg_ℤ (pos (suc a % k))) (same_size w)
+remainder_turned (negsuc a) w = ap (λ k. pos (suc a % k)) (same_size w) ∙ sym (twice_turned (suc a % unsigned_abs w))
+
+still_none : (r : ℤ) → int_eq (neg_ℤ r) (pos 0) ≡ int_eq r (pos 0)
+still_none r = grind (arith, ints)
+
+module _ (s : Plane) (p q : Point) where
+  abbrev multiple : ℤ → ℤ → ℤ
+  multiple a b = cut_multiple s p q a b
+
+  abbrev gap : ℤ
+  gap = height s p -ℤ height s q
+
+  turned_multiple : (a b : ℤ) → cut_multiple s q p b a ≡ neg_ℤ (multiple a b)
+  turned_multiple a b = multiple_turned a b (height s p) (height s q)
+
+  turned_gap : height s q -ℤ height s p ≡ neg_ℤ gap
+  turned_gap = gap_turned (height s p) (height s q)
+
+  quotient : (a b : ℤ) → int_div (cut_multiple s q p b a) (height s q -ℤ height s p) ≡ int_div (multiple a b) gap
+  quotient a b = (λ i. int_div (turned_multiple a b i) (turned_gap i)) ∙ quotient_turned (multiple a b) gap
+
+  remainder : (a b : ℤ) → int_eq (int_rem (cut_multiple s q p b a) (height s q -ℤ height s p)) (pos 0) ≡ int_eq (int_rem (multiple a b) gap) (pos 0)
+  remainder a b = (λ i. int_eq (int_rem (turned_multiple a b i) (turned_gap i)) (pos 0)) ∙ ap (λ r. int_eq r (pos 0)) (remainder_turned (multiple a b) gap) ∙ still_none (int_rem (multiple a b) gap)
+
+  pub cuts_either_way : (cuts_lattice s q p ≡ cuts_lattice s p q) × (cut_between s q p ≡ cut_between s p q)
+  cuts_either_way = (
+    λ i. remainder p.x q.x i && remainder p.y q.y i && remainder p.z q.z i,
+    same_vector _ _ (quotient p.x q.x) (quotient p.y q.y) (quotient p.z q.z),
+  )

@@ -1,0 +1,9 @@
+pub mod Products
+pub mod Paths
+pub mod FlatFaces
+pub mod Sums
+pub mod Turned
+pub mod Inverted
+pub mod Shifted
+pub mod Closed
+pub mod Cuts

@@ -1,0 +1,52 @@
+-- Paths of half-edges, each of which ends where the next one starts; the loops of a sound model are closed ones.
+use Rattle.std.proofs.Common.{◌≡◌, ℕ, List, [], ◌∷◌, refl, sym, ap, ◌∙◌, arith}
+use Rattle.lattice.specs.declared.Point.{Point}
+use Rattle.lattice.specs.Vectors.{origin}
+use Rattle.cyclic_list.specs.Items.{IsIn, head_or}
+use Rattle.cyclic_list.specs.Rings.{IsPath, IsRing}
+use Rattle.cyclic_list.proofs.Lists.{tick_same}
+use Rattle.boundary_model.specs.Model.{Model, items_of, content, point_of, after}
+use Rattle.boundary_model.specs.Sound.{Sound}
+use Rattle.boundary_model.proofs.Models.{in-holds}
+use Rattle.euler_laws_shared.proofs.Loops.{light}
+use Rattle.shapes.specs.Faces.{start, finish}
+
+-- where a path begins that ends at e
+abbrev pub begins : Model → List ℕ → Point → Point
+begins M [] e = e
+begins M (h ∷ hs) e = start M h
+
+-- each half-edge ends where the next one starts, and the last one at e
+abbrev pub Leads : Model → List ℕ → Point → Type 0
+Leads M [] e = Unit {0}
+Leads M (h ∷ hs) e = (finish M h ≡ begins M hs e) × Leads M hs e
+
+-- a closed path
+abbrev pub IsClosed : Model → List ℕ → Type 0
+IsClosed M hs = Leads M hs (begins M hs origin)
+
+-- the first of a list stands in it, and what stands in the rest does
+pub first_in : (x : ℕ) (xs : List ℕ) → IsIn x (x ∷ xs)
+first_in x xs = omega (arith, tick_same x)
+
+pub rest_in : (x y : ℕ) (ys : List ℕ) → IsIn x ys → IsIn x (y ∷ ys)
+rest_in x y ys i = omega arith
+
+module _ (M : Model) (next : ℕ → ℕ) where
+  heads : (hs : List ℕ) (d : ℕ) → start M (head_or d hs) ≡ begins M hs (start M d)
+  heads [] d = refl
+  heads (h ∷ hs) d = refl
+
+  -- where next leads from each half-edge to one that starts at its end
+  path_leads : (hs : List ℕ) (d : ℕ) → IsPath next hs d → ((h : ℕ) → IsIn h hs → finish M h ≡ start M (next h)) → Leads M hs (start M d)
+  path_leads [] d p meet = tt
+  path_leads (h ∷ hs) d p meet = (meet h (first_in h hs) ∙ ap (start M) p.0 ∙ heads hs d, path_leads hs d p.1 (λ g i. meet g (rest_in g h hs i)))
+
+  pub ring_closed : (hs : List ℕ) → IsRing next hs → ((h : ℕ) → IsIn h hs → finish M h ≡ start M (next h)) → IsClosed M hs
+  ring_closed [] r meet = tt
+  ring_closed (h ∷ hs) r meet = path_leads (h ∷ hs) h r meet
+
+module _ (M : Model) (sound : Sound M) where
+  pub loop_closed : (l : ℕ) → IsClosed M (items_of (content M l))
+  loop_closed l = ring_closed M (after M) (items_of (content M l)) (light M sound l).1
+      (λ h i. ap (point_of M) (sym (sound.ends_meet h (sound.only_edges h l (in-holds h (content M l) i)))))

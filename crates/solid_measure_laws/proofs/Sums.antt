@@ -1,0 +1,126 @@
+-- The areas of lists of half-edges: the order doesn't matter, and the other halves of the edges have the opposite area.
+use Rattle.std.proofs.Common.{◌≡◌, ℕ, ◌+◌, ℤ, pos, ◌+ℤ◌, ◌-ℤ◌, ◌*ℤ◌, neg_ℤ, List, [], ◌∷◌, ◌++◌, map, reverse, refl, sym, ap, ◌∙◌, arith, inl, inr}
+use Rattle.std.proofs.lemmas.Bool.Decides.{eqb_tells}
+use Rattle.std.proofs.lemmas.Int.{ints}
+use Rattle.std.proofs.lemmas.List.Sorted.{IsPermutation-reverse}
+use Rattle.lattice.specs.declared.Point.{Point}
+use Rattle.lattice.specs.Vectors.{origin, moved, dot, cross}
+use Rattle.cyclic_list.specs.Items.{count, tick, IsIn, SameItems, before, after}
+use Rattle.cyclic_list.proofs.Lists.{count-append, tick_same, tick_other, split_at}
+use Rattle.cyclic_list.proofs.Std.{SameItems-from_permutation}
+use Rattle.boundary_model.specs.HalfEdge.{mate}
+use Rattle.boundary_model.specs.Model.{Model}
+use Rattle.boundary_model.proofs.Halves.{mate-mate}
+use Rattle.euler_laws_shared.proofs.Rows.{no_items}
+use Rattle.shapes.specs.Faces.{start, finish}
+use Rattle.solid_measure.specs.Measure.{area}
+use Rattle.solid_measure.proofs.Areas.{area-append}
+use Rattle.vector_laws.proofs.Integers.{dif, dif-parts, difs, neg-dif, same_dif}
+use Rattle.vector_laws.proofs.Vectors.{same_vector}
+use Rattle.solid_measure_laws.specs.Vectors.{negated}
+use Rattle.solid_measure_laws.proofs.Paths.{first_in, rest_in}
+
+-- ---- opposite vectors
+
+back_dif : (a b e f a' b' e' f' : ℕ) → dif e e' *ℤ dif b b' -ℤ dif f f' *ℤ dif a a' ≡ neg_ℤ (dif a a' *ℤ dif f f' -ℤ dif b b' *ℤ dif e e')
+back_dif a b e f a' b' e' f' = simp (difs, neg-dif) (same_dif _ _ _ _ (omega arith))
+
+back_part : (a b e f : ℤ) → e *ℤ b -ℤ f *ℤ a ≡ neg_ℤ (a *ℤ f -ℤ b *ℤ e)
+back_part a b e f = rw (dif-parts a, dif-parts b, dif-parts e, dif-parts f) (back_dif _ _ _ _ _ _ _ _)
+
+pub cross_back : (p q : Point) → cross q p ≡ negated (cross p q)
+cross_back p q = same_vector _ _ (back_part p.y p.z q.y q.z) (back_part p.z p.x q.z q.x) (back_part p.x p.y q.x q.y)
+
+sum_back : (a b : ℤ) → neg_ℤ a +ℤ neg_ℤ b ≡ neg_ℤ (a +ℤ b)
+sum_back a b = omega (arith, ints)
+
+pub moved_back : (p q : Point) → moved (negated p) (negated q) ≡ negated (moved p q)
+moved_back p q = same_vector _ _ (sum_back p.x q.x) (sum_back p.y q.y) (sum_back p.z q.z)
+
+along_dif : (a b c e f g a' b' c' e' f' g' : ℕ) →
+    dif e e' *ℤ neg_ℤ (dif a a') +ℤ dif f f' *ℤ neg_ℤ (dif b b') +ℤ dif g g' *ℤ neg_ℤ (dif c c') ≡ neg_ℤ (dif e e' *ℤ dif a a' +ℤ dif f f' *ℤ dif b b' +ℤ dif g g' *ℤ dif c c')
+along_dif a b c e f g a' b' c' e' f' g' = simp (difs, neg-dif) (same_dif _ _ _ _ (omega arith))
+
+along_part : (a b c e f g : ℤ) → e *ℤ neg_ℤ a +ℤ f *ℤ neg_ℤ b +ℤ g *ℤ neg_ℤ c ≡ neg_ℤ (e *ℤ a +ℤ f *ℤ b +ℤ g *ℤ c)
+along_part a b c e f g = rw (dif-parts a, dif-parts b, dif-parts c, dif-parts e, dif-parts f, dif-parts g) (along_dif _ _ _ _ _ _ _ _ _ _ _ _)
+
+pub dot_back : (r p : Point) → dot r (negated p) ≡ neg_ℤ (dot r p)
+dot_back r p = along_part p.x p.y p.z r.x r.y r.z
+
+-- a vector and its opposite
+pub none_left : (p : Point) → moved p (negated p) ≡ origin
+none_left p = same_vector _ origin (none p.x) (none p.y) (none p.z) where
+  none : (a : ℤ) → a +ℤ neg_ℤ a ≡ pos 0
+  none a = omega (arith, ints)
+
+-- a vector that is its own opposite
+pub own_opposite : (p : Point) → p ≡ negated p → p ≡ origin
+own_opposite p e = same_vector p origin (none p.x (ap (λ v. v.x) e)) (none p.y (ap (λ v. v.y) e)) (none p.z (ap (λ v. v.z) e)) where
+  none : (a : ℤ) → a ≡ neg_ℤ a → a ≡ pos 0
+  none a e = omega (arith, ints)
+
+exchange_part : (a b c : ℤ) → a +ℤ (b +ℤ c) ≡ b +ℤ (a +ℤ c)
+exchange_part a b c = omega (arith, ints)
+
+exchanged : (p q r : Point) → moved p (moved q r) ≡ moved q (moved p r)
+exchanged p q r = same_vector _ _ (exchange_part p.x q.x r.x) (exchange_part p.y q.y r.y) (exchange_part p.z q.z r.z)
+
+module _ (M : Model) where
+  -- ---- the same half-edges in any order
+
+  abbrev part : ℕ → Point
+  part h = cross (start M h) (finish M h)
+
+  taken : (x y : ℕ) (xs ys : List ℕ) → SameItems (x ∷ xs) ys → ys ≡ before x ys ++ x ∷ after x ys → count y xs ≡ count y (before x ys ++ after x ys)
+  taken x y xs ys s e = omega (arith, s y, ap (count y) e, count-append y (before x ys) (x ∷ after x ys), count-append y (before x ys) (after x ys))
+
+  pub area_same : (xs ys : List ℕ) → SameItems xs ys → area M xs ≡ area M ys
+  area_same [] ys s = ap (area M) (sym (no_items ys (λ x. sym (s x))))
+  area_same (x ∷ xs) ys s =
+      let i : IsIn x ys = omega (arith, s x, tick_same x) in
+      let e = split_at x ys i in
+      ap (moved (part x)) (area_same xs (before x ys ++ after x ys) (λ y. taken x y xs ys s e) ∙ area-append M (before x ys) (after x ys))
+      ∙ exchanged (part x) (area M (before x ys)) (area M (after x ys))
+      ∙ sym (ap (area M) e ∙ area-append M (before x ys) (x ∷ after x ys))
+
+  -- ---- half-edges run the other way
+
+  -- what goes where the half-edges came from has the opposite area
+  pub area_opposed : (g : ℕ → ℕ) (hs : List ℕ) → ((h : ℕ) → IsIn h hs → (start M (g h) ≡ finish M h) × (finish M (g h) ≡ start M h)) → area M (map g hs) ≡ negated (area M hs)
+  area_opposed g [] e = refl
+  area_opposed g (h ∷ hs) e =
+      let p = e h (first_in h hs) in
+      (λ i. moved (cross (p.0 i) (p.1 i)) (area_opposed g hs (λ x j. e x (rest_in x h hs j)) i))
+      ∙ ap (λ v. moved v (negated (area M hs))) (cross_back (start M h) (finish M h)) ∙ moved_back (part h) (area M hs)
+
+  pub area_mates : (hs : List ℕ) → area M (map mate hs) ≡ negated (area M hs)
+  area_mates hs = area_opposed mate hs (λ h i. (refl, ap (start M) (mate-mate h)))
+
+  pub area_reverse : (hs : List ℕ) → area M (reverse hs) ≡ area M hs
+  area_reverse hs = sym (area_same hs (reverse hs) (SameItems-from_permutation hs (reverse hs) (IsPermutation-reverse hs)))
+
+  -- a path run the other way
+  pub area_back : (hs : List ℕ) → area M (reverse (map mate hs)) ≡ negated (area M hs)
+  area_back hs = area_reverse (map mate hs) ∙ area_mates hs
+
+  -- the two halves of an edge have no area together
+  pub halves_cancel : (h : ℕ) → moved (part h) (part (mate h)) ≡ origin
+  halves_cancel h = ap (moved (part h)) ((λ i. cross (finish M h) (start M (mate-mate h i))) ∙ cross_back (start M h) (finish M h)) ∙ none_left (part h)
+
+-- half-edges renamed, where they start and end as they did
+pub area_renamed : (M N : Model) (g : ℕ → ℕ) (hs : List ℕ) → ((h : ℕ) → IsIn h hs → (start N (g h) ≡ start M h) × (finish N (g h) ≡ finish M h)) → area N (map g hs) ≡ area M hs
+area_renamed M N g [] e = refl
+area_renamed M N g (h ∷ hs) e = let p = e h (first_in h hs) in λ i. moved (cross (p.0 i) (p.1 i)) (area_renamed M N g hs (λ x j. e x (rest_in x h hs j)) i)
+
+-- ---- counting
+
+-- an item stands among the other halves as often as its own other half stands in the list
+tick-mate : (x h : ℕ) → tick x (mate h) ≡ tick (mate x) h
+tick-mate x h = elim (eqb_tells x (mate h)) [
+  | inl e ↦ ap (λ k. tick k (mate h)) e.1 ∙ tick_same (mate h) ∙ sym (ap (λ k. tick k h) (ap mate e.1 ∙ mate-mate h) ∙ tick_same h)
+  | inr e ↦ tick_other x (mate h) e.1 ∙ sym (tick_other (mate x) h (λ s. e.1 (sym (mate-mate x) ∙ ap mate s)))
+]
+
+pub count-mates : (x : ℕ) (hs : List ℕ) → count x (map mate hs) ≡ count (mate x) hs
+count-mates x [] = refl
+count-mates x (h ∷ hs) = λ i. tick-mate x h i + count-mates x hs i

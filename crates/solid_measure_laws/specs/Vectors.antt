@@ -1,0 +1,14 @@
+-- Vectors turned, multiplied, and from one point to another.
+use Rattle.std.specs.Prelude.{ℤ, ◌-ℤ◌, ◌*ℤ◌, neg_ℤ}
+use Rattle.lattice.specs.declared.Point.{Point}
+
+-- the opposite vector
+abbrev pub negated : Point → Point
+negated p = record { x = neg_ℤ p.x; y = neg_ℤ p.y; z = neg_ℤ p.z }
+
+abbrev pub scaled : ℤ → Point → Point
+scaled k p = record { x = k *ℤ p.x; y = k *ℤ p.y; z = k *ℤ p.z }
+
+-- the vector from p to q
+abbrev pub towards : Point → Point → Point
+towards p q = record { x = q.x -ℤ p.x; y = q.y -ℤ p.y; z = q.z -ℤ p.z }

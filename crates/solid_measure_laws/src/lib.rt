@@ -1,0 +1,41 @@
+//! The laws of normals, volumes and cut points. Each function does nothing: its contract is what is proved.
+#![tactic(auto)]
+
+ghost use Rattle.solid_measure_laws.specs.Laws.{FlatFaces, ToldAnywhere, ToldFromCorners, TurnedPaths, OpposedFaces, TurnedFaces, InvertedSolids, ShiftedFaces, ShiftedSolids, ClosedSolids, MovedSolids, CutsOnPlane, CutsInside, CutsOnEachPlane, CutsKeepAreas, CutsEitherWay};
+
+/// Points of a plane on which all corners of a face lie tell the same along the face's normal. So what a flat face adds to the
+/// six volumes may be told from any of its corners, and from any point of its plane.
+pub fn flat_faces()
+    ensures alike { FlatFaces }
+    ensures anywhere { ToldAnywhere }
+    ensures corners { ToldFromCorners }
+{}
+
+/// Run the other way, along the other halves of their edges, loops have the opposite area, and so faces the opposite normal. A
+/// solid with flat faces is turned inside out so, and has the opposite volume.
+pub fn turned_loops()
+    ensures paths { TurnedPaths }
+    ensures opposed { OpposedFaces }
+    ensures faces { TurnedFaces }
+    ensures inside_out { InvertedSolids }
+{}
+
+/// Where every vertex is moved by one vector, each face keeps its normal, and each solid its six volumes: these grow by the sum of
+/// its faces' normals along the vector, and that sum is nothing.
+pub fn moved_solids_keep_volumes()
+    ensures faces { ShiftedFaces }
+    ensures grown { ShiftedSolids }
+    ensures closed { ClosedSolids }
+    ensures kept { MovedSolids }
+{}
+
+/// Where the ends of a segment lie strictly on opposite sides of a plane, and the point between them on the plane has whole
+/// coordinates, that cut point lies on the plane, and divides the segment as the heights of its ends. It lies on each plane on
+/// which both ends lie; a half-edge that is cut there keeps its part of an area; and it is the same from either end.
+pub fn cut_points()
+    ensures on_plane { CutsOnPlane }
+    ensures inside { CutsInside }
+    ensures on_each { CutsOnEachPlane }
+    ensures areas { CutsKeepAreas }
+    ensures either_way { CutsEitherWay }
+{}

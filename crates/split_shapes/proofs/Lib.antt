@@ -1,0 +1,3 @@
+pub mod WorkedSplits
+pub mod WorkedSections
+pub mod WorkedRefusals
