@@ -59,11 +59,11 @@ module _ (M : Model) (sound : Sound M) (f : ℕ) (there : Has M.faces f) where
     first_of true b e = refl
     first_of false b e = absurd (true≢false (sym e))
 
-  item_there : (h : ℕ) → IsIn h (boundary M f) → HasHalf M h
+  pub item_there : (h : ℕ) → IsIn h (boundary M f) → HasHalf M h
   unfolding boundary
   item_there h i = items_there M sound (loops_of M f) h i
 
-  item_face : (h : ℕ) → IsIn h (boundary M f) → face_at M h ≡ f
+  pub item_face : (h : ℕ) → IsIn h (boundary M f) → face_at M h ≡ f
   unfolding boundary
   item_face h i = of_face (loop_of M h) (omega (arith, i, items_counted M sound (loops_of M f) h))
 
@@ -99,17 +99,17 @@ module _ (M : Model) (s : ℕ) (p : Plane) (t : ℕ) (sound : Sound M) (accepted
     plus_starts = (crossings_cut M s p t sound accepted).cut_starts e e_there (is_cut M s p t sound accepted e i)
         ∙ sym (crossing_point M sound s p (can_cut M s p t sound accepted) e i (plus e) crossing)
 
-    plus_on : is_on p (start N (plus e)) ≡ true
+    pub plus_on : is_on p (start N (plus e)) ≡ true
     plus_on = level_on (height p (start N (plus e)))
         (ap (height p) ((crossings_cut M s p t sound accepted).cut_starts e e_there (is_cut M s p t sound accepted e i)) ∙ (crossing_here M sound s p (can_cut M s p t sound accepted) e i).level)
 
     at_plus : AtPlace M N p (plus e)
     at_plus = at_itself (plus e) (plus_half e e_there) plus_starts plus_on
 
-    minus_stays : start N (minus e) ≡ start M (minus e)
+    pub minus_stays : start N (minus e) ≡ start M (minus e)
     minus_stays = kept_start M N sound (crossings_keep M s p t sound accepted) (minus e) (minus_half e e_there) ((crossings_cut M s p t sound accepted).minus_tails e e_there)
 
-    minus_off : is_on p (start N (minus e)) ≡ false
+    pub minus_off : is_on p (start N (minus e)) ≡ false
     minus_off = ap (is_on p) minus_stays ∙ not_level (height p (start M (minus e))) (height p (start M (plus e))) (minus_crosses M sound s p (can_cut M s p t sound accepted) e i)
 
     minus_in_N : HasHalf N (minus e)
@@ -146,7 +146,7 @@ module _ (M : Model) (s : ℕ) (p : Plane) (t : ℕ) (sound : Sound M) (accepted
   at_corner : (h : ℕ) → HasHalf M h → is_on p (start M h) ≡ true → start N h ≡ start M h → AtPlace M N p h
   at_corner h there on same = at_itself h there (same ∙ sym (on_place h on)) (ap (is_on p) same ∙ on)
 
-  on_when : (h : ℕ) → is_place M p h ≡ true → crosses M p h ≡ false → is_on p (start M h) ≡ true
+  pub on_when : (h : ℕ) → is_place M p h ≡ true → crosses M p h ≡ false → is_on p (start M h) ≡ true
   unfolding is_place
   on_when h place off = go (crosses M p h) (is_on p (start M h)) (are_opposite p (start M (before M h)) (finish M h)) place off where
     go : (a b c : Bool) → (a || (b && c)) ≡ true → a ≡ false → b ≡ true
@@ -154,11 +154,11 @@ module _ (M : Model) (s : ℕ) (p : Plane) (t : ℕ) (sound : Sound M) (accepted
     go false true c e n = refl
     go false false c e n = absurd (true≢false (sym e))
 
-  turned : (e : ℕ) (b : Bool) → crosses M p (minus e) ≡ b → crosses M p (plus e) ≡ b
+  pub turned : (e : ℕ) (b : Bool) → crosses M p (minus e) ≡ b → crosses M p (plus e) ≡ b
   turned e b is = ap (are_opposite p (start M (plus e))) (ap (start M) (mate_plus e)) ∙ opposite_turned (height p (start M (plus e))) (height p (start M (minus e)))
       ∙ sym (ap (are_opposite p (start M (minus e))) (ap (start M) (mate_minus e))) ∙ is
 
-  in_crossing : (e : ℕ) → Has M.edges e → solid_of M (face_at M (plus e)) ≡ s → crosses M p (plus e) ≡ true → IsIn e (crossing_edges M p s)
+  pub in_crossing : (e : ℕ) → Has M.edges e → solid_of M (face_at M (plus e)) ≡ s → crosses M p (plus e) ≡ true → IsIn e (crossing_edges M p s)
   in_crossing e there of_s c = picked (λ x. crosses M p (plus x)) e (edges_of M s) (listed_edge M s p t sound accepted e there (equals (solid_of M (face_at M (plus e))) s of_s)) c
 
   of_plus : (e : ℕ) → Has M.edges e → solid_of M (face_at M (plus e)) ≡ s → is_place M p (plus e) ≡ true → AtPlace M N p (plus e)
@@ -173,7 +173,7 @@ module _ (M : Model) (s : ℕ) (p : Plane) (t : ℕ) (sound : Sound M) (accepted
     go true c = at_minus e (in_crossing e there of_s (turned e true c))
     go false c = at_corner (minus e) (minus_half e there) (on_when (minus e) place c) (stays_minus e there (turned e false c))
 
-  face_facts : (f : ℕ) → IsIn f (straddling_faces M p s) → Has M.faces f × (solid_of M f ≡ s)
+  pub face_facts : (f : ℕ) → IsIn f (straddling_faces M p s) → Has M.faces f × (solid_of M f ≡ s)
   unfolding solid_of
   face_facts f i =
       let w = all_where_has (λ _ row. nat_eq row.solid s) M.faces f (omega (arith, i, picked_count (straddles M p) f (faces_of M s))) in

@@ -35,7 +35,7 @@ use Rattle.crossing_laws.proofs.Runs.{Crossing}
 meets_first : (M : Model) (p : Plane) (x y : ℕ) (hs : List ℕ) → same_point (place_point M p x) (place_point M p y) ≡ true → IsIn y hs → list_any (λ k. same_point (place_point M p x) (place_point M p k)) hs ≡ true
 meets_first M p x y hs e i = any_passes (λ k. same_point (place_point M p x) (place_point M p k)) y hs i e
 
-two_meet : (M : Model) (p : Plane) (x y : ℕ) (hs : List ℕ) → x ≢ y → place_point M p x ≡ place_point M p y → IsIn x hs → IsIn y hs → some_meet M p hs ≡ true
+pub two_meet : (M : Model) (p : Plane) (x y : ℕ) (hs : List ℕ) → x ≢ y → place_point M p x ≡ place_point M p y → IsIn x hs → IsIn y hs → some_meet M p hs ≡ true
 two_meet M p x y [] ne e i j = absurd (omega (arith, i))
 two_meet M p x y (h ∷ hs) ne e i j = elim (eqb_tells x h) [
   | inl s ↦ ap (λ b. b || some_meet M p hs) (meets_first M p h y hs (same_as (place_point M p h) (place_point M p y) (ap (place_point M p) (sym s.1) ∙ e)) (rest y h hs (λ t. ne (s.1 ∙ sym t)) j))
@@ -62,7 +62,7 @@ pub record Cuttable (M : Model) (s : ℕ) (p : Plane) : Type 0 where
       (length (crossing_edges M p s) + pair_count M p (straddling_faces M p s)) (length (crossing_edges M p s))
 
 module _ (M : Model) (sound : Sound M) (s : ℕ) (p : Plane) where
-  edge_facts : (e : ℕ) → IsIn e (crossing_edges M p s) → Has M.edges e × (solid_of M (face_at M (plus e)) ≡ s) × (crosses M p (plus e) ≡ true)
+  pub edge_facts : (e : ℕ) → IsIn e (crossing_edges M p s) → Has M.edges e × (solid_of M (face_at M (plus e)) ≡ s) × (crosses M p (plus e) ≡ true)
   edge_facts e i =
       let l : count e (crossing_edges M p s) ≤ count e (edges_of M s) = picked_count (λ x. crosses M p (plus x)) e (edges_of M s) in
       let w = all_where_has (λ x _. nat_eq (solid_of M (face_at M (plus x))) s) M.edges e (omega (arith, i, l)) in
@@ -71,7 +71,7 @@ module _ (M : Model) (sound : Sound M) (s : ℕ) (p : Plane) where
   edges_not_zero : (e : ℕ) → IsIn e (crossing_edges M p s) → e ≢ 0
   edges_not_zero e i z = no_zero e z (sound.edges_fit e (edge_facts e i).0)
 
-  faces_not_zero : (f : ℕ) → IsIn f (straddling_faces M p s) → f ≢ 0
+  pub faces_not_zero : (f : ℕ) → IsIn f (straddling_faces M p s) → f ≢ 0
   faces_not_zero f i z =
       let l : count f (straddling_faces M p s) ≤ count f (faces_of M s) = picked_count (straddles M p) f (faces_of M s) in
       let w = all_where_has (λ _ row. nat_eq row.solid s) M.faces f (omega (arith, i, l)) in

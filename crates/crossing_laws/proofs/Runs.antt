@@ -211,10 +211,10 @@ module _ (M : Model) (p : Plane) (sound : Sound M) (g : Growing) (ds : List ℕ)
   vertex_fits_now : IsTrue (is_number (g.taken.vertex + 1))
   vertex_fits_now = number_fits (g.taken.vertex + 1) (omega arith) (omega (arith, w.vertices_left))
 
-  goes_now : CutGoes g.model e (g.taken.edge + 1) (g.taken.vertex + 1) (cut_at g.model p e)
+  pub goes_now : CutGoes g.model e (g.taken.edge + 1) (g.taken.vertex + 1) (cut_at g.model p e)
   goes_now = goes M g.model p ds sound w.cut e (g.taken.edge + 1) (g.taken.vertex + 1) crossing_now uncut_now edge_free_now vertex_free_now edge_fits_now vertex_fits_now
 
-  next_model : (next_cut p g e).model ≡ edge_cut g.model e (g.taken.edge + 1) (g.taken.vertex + 1) (cut_at g.model p e)
+  pub next_model : (next_cut p g e).model ≡ edge_cut g.model e (g.taken.edge + 1) (g.taken.vertex + 1) (cut_at g.model p e)
   unfolding next_cut
   next_model = refl
 
@@ -228,7 +228,7 @@ module _ (M : Model) (p : Plane) (sound : Sound M) (g : Growing) (ds : List ℕ)
   made_now : effects g.model (cut_edge p g e ∷ []) ≡ (next_cut p g e).model
   made_now = cut_made g.model e (g.taken.edge + 1) (g.taken.vertex + 1) (cut_at g.model p e) goes_now ∙ sym next_model
 
-  going_on : Going M p (next_cut p g e) (e ∷ ds) rs
+  pub going_on : Going M p (next_cut p g e) (e ∷ ds) rs
   going_on = record {
     cut = subst (λ K. AreCut M K p (e ∷ ds)) (sym next_model)
         (cut_more M g.model p ds sound w.cut e (g.taken.edge + 1) (g.taken.vertex + 1) crossing_now uncut_now edge_free_now vertex_free_now edge_fits_now vertex_fits_now);

@@ -78,7 +78,7 @@ module _ (M : Model) (e k v : ℕ) (q : Point) (goes : CutGoes M e k v q) where
   unfolding after
   next_is_there = next_half M e k v q goes.can
 
-  mev_goes : MevGoes M (plus e) (after M (minus e)) (plus k) v q
+  pub mev_goes : MevGoes M (plus e) (after M (minus e)) (plus k) v q
   mev_goes = record {
     g_there = plus_there M e k v q goes.can;
     k_there = next_is_there;
@@ -128,7 +128,7 @@ module _ (M : Model) (e k v : ℕ) (q : Point) (goes : CutGoes M e k v q) where
   unfolding edge_cut
   edge_old = get-put_here _ e _
 
-  edge_new : table.get (edge_cut M e k v q).edges k ≡ Some (record { plus_tail = tail M (plus e); minus_tail = v })
+  pub edge_new : table.get (edge_cut M e k v q).edges k ≡ Some (record { plus_tail = tail M (plus e); minus_tail = v })
   unfolding edge_cut
   edge_new = get-put_other _ e _ k (λ s. apart_new e e_there (sym s)) ∙ get-put_here M.edges k _
 

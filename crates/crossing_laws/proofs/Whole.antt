@@ -33,7 +33,7 @@ module _ (M : Model) (s : ℕ) (p : Plane) (t : ℕ) (sound : Sound M) (accepted
   once : (x : ℕ) → count x (crossing_edges M p s) ≤ 1
   once x = omega (arith, picked_count (λ e. crosses M p (plus e)) x (edges_of M s), counted_once x (edges_of M s) (all_where-rises (λ e _. nat_eq (solid_of M (face_at M (plus e))) s) M.edges))
 
-  begins : Going M p (growing M) [] (crossing_edges M p s)
+  pub begins : Going M p (growing M) [] (crossing_edges M p s)
   begins = record {
     cut = none_cut M p sound;
     counted = refl;
@@ -85,11 +85,11 @@ module _ (M : Model) (s : ℕ) (p : Plane) (t : ℕ) (sound : Sound M) (accepted
   minus_half : (x : ℕ) → Has M.edges x → HasHalf M (minus x)
   minus_half x there = ap (table.has M.edges) (minus_row x).0 ∙ there
 
-  same_solid : (f : ℕ) → solid_of N f ≡ solid_of M f
+  pub same_solid : (f : ℕ) → solid_of N f ≡ solid_of M f
   unfolding solid_of
   same_solid f = ap (λ u. (unwrap_or (table.get u f) no_face).solid) crossings_keep.faces
 
-  same_face : (x : ℕ) → Has M.edges x → face_at N (plus x) ≡ face_at M (plus x)
+  pub same_face : (x : ℕ) → Has M.edges x → face_at N (plus x) ≡ face_at M (plus x)
   same_face x there = ap (face_of N) (crossings_keep.loop (plus x) (plus_half x there)) ∙ crossings_keep.face (loop_of M (plus x))
 
   same_crossing : (x : ℕ) → Has M.edges x → count x gone.list ≡ 0 → crosses N p (plus x) ≡ crosses M p (plus x)
