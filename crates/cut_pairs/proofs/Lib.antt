@@ -2,6 +2,7 @@ pub mod Turns
 pub mod Levels
 pub mod Sorted
 pub mod Fitting
+pub mod Members
 pub mod LoopPlaces
 pub mod Meetings
 pub mod Numbers

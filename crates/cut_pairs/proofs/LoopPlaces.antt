@@ -92,12 +92,11 @@ module _ (M : Model) (sound : Sound M) (p : Plane) where
   some_even : (ls : List ℕ) → ((h : ℕ) → IsIn h (items_in M ls) → is_on p (start M h) ≡ true → is_place M p h ≡ true) → IsEven (length (filter (is_place M p) (items_in M ls)))
   some_even [] untouched = (0, refl)
   some_even (l ∷ ls) untouched =
-      let hs : List ℕ = items_of (content M l) in
       let first = items_even l (λ h i. untouched h (omega (arith, i, count-append h (items_of (content M l)) (items_in M ls)))) in
       let later = some_even ls (λ h i. untouched h (omega (arith, i, count-append h (items_of (content M l)) (items_in M ls)))) in
       subst IsEven
-      (sym (ap length (filter-append (is_place M p) hs (items_in M ls)) ∙ length-append (filter (is_place M p) hs) (filter (is_place M p) (items_in M ls))))
-      (even_sum (length (filter (is_place M p) hs)) (length (filter (is_place M p) (items_in M ls))) first later)
+      (sym (ap length (filter-append (is_place M p) (items_of (content M l)) (items_in M ls)) ∙ length-append (filter (is_place M p) (items_of (content M l))) (filter (is_place M p) (items_in M ls))))
+      (even_sum (length (filter (is_place M p) (items_of (content M l)))) (length (filter (is_place M p) (items_in M ls))) first later)
 
   -- ---- a face
 
@@ -112,11 +111,17 @@ module _ (M : Model) (sound : Sound M) (p : Plane) where
     abbrev later_items : List ℕ
     later_items = items_in M (rings_of M f)
 
+    abbrev first_places : List ℕ
+    first_places = filter (is_place M p) first_items
+
+    abbrev later_places : List ℕ
+    later_places = filter (is_place M p) later_items
+
     boundary_is : boundary M f ≡ first_items ++ later_items
     unfolding boundary loops_of
     boundary_is = refl
 
-    places_are : places M p f ≡ filter (is_place M p) first_items ++ filter (is_place M p) later_items
+    places_are : places M p f ≡ first_places ++ later_places
     unfolding places
     places_are = ap (filter (is_place M p)) boundary_is ∙ filter-append (is_place M p) first_items later_items
 
@@ -130,13 +135,17 @@ module _ (M : Model) (sound : Sound M) (p : Plane) where
     -- two cut places in all are both in the outer loop, if that has one
     pub two_outer : loop_is_cut M p (outer M f) ≡ true → length (places M p f) ≡ 2 → (x : ℕ) → IsIn x (places M p f) → loop_of M x ≡ outer M f
     two_outer cut two x i =
-        let as : List ℕ = filter (is_place M p) first_items in
-        let bs : List ℕ = filter (is_place M p) later_items in
         let even = items_even (outer M f) (λ h j. on_place h (in_first h j)) in
-        let some : 1 ≤ length (filter (is_place M p) first_items) = some_picked (is_place M p) first_items cut in
-        let sum : length (filter (is_place M p) first_items) + length (filter (is_place M p) later_items) ≡ 2 =
-        sym (ap length places_are ∙ length-append (filter (is_place M p) first_items) (filter (is_place M p) later_items)) ∙ two in
-        let none : length (filter (is_place M p) later_items) ≡ 0 = omega (arith, even.1, some, sum) in
-        let here : IsIn x (filter (is_place M p) first_items) = omega (arith, i, ap (count x) places_are, count-append x (filter (is_place M p) first_items) (filter (is_place M p) later_items),
-        count_within x (filter (is_place M p) later_items), none) in
+        let some : 1 ≤ length first_places = some_picked (is_place M p) first_items cut in
+        let sum : length first_places + length later_places ≡ 2 =
+        sym (ap length places_are ∙ length-append first_places later_places) ∙ two in
+        let none : length later_places ≡ 0 = omega (arith, even.1, some, sum) in
+        let here : IsIn x first_places = omega (
+          arith,
+          i,
+          ap (count x) places_are,
+          count-append x first_places later_places,
+          count_within x later_places,
+          none,
+        ) in
         sound.one_loop x (outer M f) (in-holds x (content M (outer M f)) (omega (arith, here, picked_count (is_place M p) x first_items)))
