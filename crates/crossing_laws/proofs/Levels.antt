@@ -26,6 +26,9 @@ opposite_back m n e = grind (arith, ints)
 pub not_level : (m n : ℤ) → opposite m n ≡ true → int_eq m (pos 0) ≡ false
 not_level m n e = grind (arith, ints)
 
+pub level_is : (n : ℤ) → int_eq n (pos 0) ≡ true → n ≡ pos 0
+level_is n e = grind (arith, ints)
+
 apart : (m n : ℤ) → opposite m n ≡ true → m -ℤ n ≢ pos 0
 apart m n e z = grind (arith, ints)
 

@@ -19,14 +19,14 @@ use Rattle.euler_operators.specs.Conditions.{AllHold, face_at}
 use Rattle.euler_laws_shared.proofs.Goes.{not_back, equal, equals, no_zero}
 use Rattle.euler_laws_shared.proofs.Rows.{face_there, point_row}
 use Rattle.euler_laws_shared.proofs.Undo.{mate_plus, mate_minus}
-use Rattle.solid_measure_laws.proofs.Cuts.{cut_height}
+use Rattle.solid_measure_laws.proofs.Cuts.{cut_on}
 use Rattle.fresh_laws.proofs.Tests.{none_such, Left, numbers_are_left}
 use Rattle.shapes.specs.Faces.{start, finish, edges_of, boundary, corners}
 use Rattle.shapes.specs.Fresh.{first_such, taken_in}
 use Rattle.split_shapes.specs.Sides.{crosses, straddles, straddling_faces, crossing_edges, reaches_above, reaches_below}
 use Rattle.split_shapes.specs.Places.{is_place, place_point, places, some_meet, is_touched, is_cut_often, is_crossed, is_up_and_down, sorted_pairs, pair_count}
 use Rattle.split_shapes.specs.Split.{first_conditions}
-use Rattle.crossing_laws.proofs.Levels.{opposite_back, not_level, same_as, cut_back, cut_fits}
+use Rattle.crossing_laws.proofs.Levels.{opposite_back, not_level, same_as, level_is, cut_back, cut_fits}
 use Rattle.crossing_laws.proofs.Listed.{picked, picked_count, picked_passes, any_passes, none_at, all_not_zero, all_where_has, all_where_in, item_in_face, tail_in_face}
 use Rattle.crossing_laws.proofs.Runs.{Crossing}
 
@@ -35,7 +35,7 @@ use Rattle.crossing_laws.proofs.Runs.{Crossing}
 meets_first : (M : Model) (p : Plane) (x y : ℕ) (hs : List ℕ) → same_point (place_point M p x) (place_point M p y) ≡ true → IsIn y hs → list_any (λ k. same_point (place_point M p x) (place_point M p k)) hs ≡ true
 meets_first M p x y hs e i = any_passes (λ k. same_point (place_point M p x) (place_point M p k)) y hs i e
 
-pub two_meet : (M : Model) (p : Plane) (x y : ℕ) (hs : List ℕ) → x ≢ y → place_point M p x ≡ place_point M p y → IsIn x hs → IsIn y hs → some_meet M p hs ≡ true
+two_meet : (M : Model) (p : Plane) (x y : ℕ) (hs : List ℕ) → x ≢ y → place_point M p x ≡ place_point M p y → IsIn x hs → IsIn y hs → some_meet M p hs ≡ true
 two_meet M p x y [] ne e i j = absurd (omega (arith, i))
 two_meet M p x y (h ∷ hs) ne e i j = elim (eqb_tells x h) [
   | inl s ↦ ap (λ b. b || some_meet M p hs) (meets_first M p h y hs (same_as (place_point M p h) (place_point M p y) (ap (place_point M p) (sym s.1) ∙ e)) (rest y h hs (λ t. ne (s.1 ∙ sym t)) j))
@@ -227,6 +227,6 @@ module _ (M : Model) (sound : Sound M) (s : ℕ) (p : Plane) where
       there = e_there;
       apart = λ q. one_loop_absurd (loop_of M (minus e)) q refl;
       crossing = (edge_facts e i).2;
-      level = cut_height p (start M (plus e)) (finish M (plus e)) (edge_facts e i).2 (c.whole e i);
+      level = level_is (height p (cut_between p (start M (plus e)) (finish M (plus e)))) (cut_on p (start M (plus e)) (finish M (plus e)) (edge_facts e i).2 (c.whole e i));
       fits = cut_fits p (start M (plus e)) (finish M (plus e)) (point_there (plus e) plus_there) (subst IsInRange (sym far_end) (point_there (minus e) minus_there)) (edge_facts e i).2;
     }

@@ -89,7 +89,7 @@ module _ (M : Model) (s : ℕ) (p : Plane) (t : ℕ) (sound : Sound M) (accepted
   unfolding solid_of
   same_solid f = ap (λ u. (unwrap_or (table.get u f) no_face).solid) crossings_keep.faces
 
-  pub same_face : (x : ℕ) → Has M.edges x → face_at N (plus x) ≡ face_at M (plus x)
+  same_face : (x : ℕ) → Has M.edges x → face_at N (plus x) ≡ face_at M (plus x)
   same_face x there = ap (face_of N) (crossings_keep.loop (plus x) (plus_half x there)) ∙ crossings_keep.face (loop_of M (plus x))
 
   same_crossing : (x : ℕ) → Has M.edges x → count x gone.list ≡ 0 → crosses N p (plus x) ≡ crosses M p (plus x)

@@ -34,7 +34,7 @@ joins_stuck d (q ∷ qs) is = joins_stuck (join_next d q) qs (go (in_one_loop d.
   go true e = subst (λ x. x.stuck ≢ 0) (sym (join_next_one d q e)) is
   go false e = subst (λ x. x.stuck ≢ 0) (sym (join_next_two d q e)) is
 
-draws_stuck : (f : ℕ) (d : Drawing) (qs : List (ℕ × ℕ)) → d.stuck ≢ 0 → (fold (draw_next f) d qs).stuck ≢ 0
+pub draws_stuck : (f : ℕ) (d : Drawing) (qs : List (ℕ × ℕ)) → d.stuck ≢ 0 → (fold (draw_next f) d qs).stuck ≢ 0
 draws_stuck f d [] is = is
 draws_stuck f d (q ∷ qs) is = draws_stuck f (draw_next f d q) qs (go (in_one_loop d.model q) refl) where
   go : (b : Bool) → in_one_loop d.model q ≡ b → (draw_next f d q).stuck ≢ 0
@@ -58,7 +58,7 @@ unfolding next_drawn
 faces_stuck M N p d [] is = is
 faces_stuck M N p d (f ∷ fs) is = faces_stuck M N p (next_drawn M N p d f) fs (face_stuck p f (drawn_pairs M N p f) d is)
 
-not_stuck : (M N : Model) (p : Plane) (d : Drawing) (fs : List ℕ) → (fold (next_drawn M N p) d fs).stuck ≡ 0 → d.stuck ≡ 0
+pub not_stuck : (M N : Model) (p : Plane) (d : Drawing) (fs : List ℕ) → (fold (next_drawn M N p) d fs).stuck ≡ 0 → d.stuck ≡ 0
 not_stuck M N p d fs free = elim (eqb_tells d.stuck 0) [ inl e ↦ e.1 | inr e ↦ absurd (faces_stuck M N p d fs e.1 free) ]
 
 -- ---- all faces
@@ -88,7 +88,7 @@ module _ (M : Model) (p : Plane) (g : Growing) (fs : List ℕ) (first mine : ℕ
     level = sides.level;
   }
 
-  all_drawn_parted : Parted g.model (faces_drawn M p g fs).model p first (λ h. mine h ≡ true) []
+  pub all_drawn_parted : Parted g.model (faces_drawn M p g fs).model p first (λ h. mine h ≡ true) []
   all_drawn_parted = faces_parted g.model first (λ h. mine h ≡ true) M g.model p begun fs 0 (drawable M p g fs can) sides.some sides.cross free sides.fine none_drawn
 
   pub loops_on_one_side : (x y : ℕ) → HasHalf (faces_drawn M p g fs).model x → HasHalf (faces_drawn M p g fs).model y →

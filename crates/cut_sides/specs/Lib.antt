@@ -1,0 +1,2 @@
+pub mod HalfSides
+pub mod Laws
