@@ -2,7 +2,7 @@
 use Rattle.std.specs.Prelude.{map}
 use Rattle.std.proofs.Common.{◌≡◌, ◌≢◌, ℕ, Bool, true, false, cond, List, [], ◌∷◌, length, refl, sym, ap, ◌∙◌, arith}
 use Rattle.lattice.specs.declared.Plane.{Plane}
-use Rattle.cyclic_list.specs.Items.{count, tick, IsIn, IsApart}
+use Rattle.cyclic_list.specs.Items.{tick, IsIn, IsApart}
 use Rattle.cyclic_list.proofs.Lists.{tick_same}
 use Rattle.boundary_model.specs.Model.{Model, loop_of}
 use Rattle.euler_laws_shared.proofs.Goes.{equals}

@@ -33,10 +33,10 @@ count_within x (y ∷ ys) = omega (arith, count_within x ys, tick_most x y) wher
 
 some_picked : (t : ℕ → Bool) (xs : List ℕ) → list_any t xs ≡ true → 1 ≤ length (filter t xs)
 some_picked t [] e = absurd (true≢false (sym e))
-some_picked t (x ∷ xs) e = go (t x) e where
-  go : (b : Bool) → (b || list_any t xs) ≡ true → 1 ≤ length (cond b (x ∷ filter t xs) (filter t xs))
-  go true e = omega arith
-  go false e = some_picked t xs e
+some_picked t (x ∷ xs) e = go (t x) e (some_picked t xs) where
+  go : (b : Bool) → (b || list_any t xs) ≡ true → (list_any t xs ≡ true → 1 ≤ length (filter t xs)) → 1 ≤ length (cond b (x ∷ filter t xs) (filter t xs))
+  go true e more = omega arith
+  go false e more = more e
 
 -- a test that no item passes is false of each
 none_passes : (t : ℕ → Bool) (x : ℕ) (xs : List ℕ) → list_any t xs ≡ false → IsIn x xs → t x ≡ false

@@ -1,10 +1,9 @@
 -- From the first conditions of a split to the drawing of its faces.
-use Rattle.std.specs.Prelude.{filter}
-use Rattle.std.proofs.Common.{◌≡◌, ◌≢◌, ℕ, Bool, true, false, not, nat_eq, ◌&&◌, ◌||◌, List, [], ◌∷◌, ◌++◌, length, is_some, refl, sym, ap, ◌∙◌, subst, arith, inl, inr, true≢false}
+use Rattle.std.proofs.Common.{◌≡◌, ◌≢◌, ℕ, Bool, true, false, not, nat_eq, ◌&&◌, ◌||◌, List, [], ◌∷◌, length, is_some, refl, sym, ap, ◌∙◌, subst, arith, inl, inr, true≢false}
 use Rattle.std.proofs.lemmas.Bool.Decides.{eqb_tells}
 use Rattle.std.specs.List.{list_all}
 use Rattle.lattice.specs.declared.Plane.{Plane}
-use Rattle.cyclic_list.specs.Items.{count, IsIn, IsApart}
+use Rattle.cyclic_list.specs.Items.{IsIn, IsApart}
 use Rattle.cyclic_list.proofs.Lists.{tick_same, tick_other}
 use Rattle.boundary_model.specs.Table as table
 use Rattle.boundary_model.specs.Model.{Model, tail, loop_of, face_of, outer, point_of, faces_of, rings_of}
@@ -13,11 +12,10 @@ use Rattle.boundary_model.proofs.Models.{face_row}
 use Rattle.euler_operators.specs.Conditions.{face_at}
 use Rattle.euler_laws.specs.Laws.{AreAccepted, effects}
 use Rattle.euler_laws.proofs.Runs.{AreAccepted-append, effects-append}
-use Rattle.euler_laws_shared.proofs.Goes.{equal, not_back}
+use Rattle.euler_laws_shared.proofs.Goes.{equal}
 use Rattle.solid_walks.proofs.FaceLoops.{items_counted, different_items, loops_of_apart}
 use Rattle.solid_walks.proofs.Rising.{in_listed}
 use Rattle.shapes.specs.Faces.{loops_of, boundary}
-use Rattle.shapes.specs.Fresh.{taken_in}
 use Rattle.split_shapes.specs.Sides.{straddles, straddling_faces}
 use Rattle.split_shapes.specs.Places.{is_place, places, loop_is_cut, is_cut_often, sorted, sorted_pairs, place_pairs}
 use Rattle.split_shapes.specs.Crossings.{with_crossings}
