@@ -19,7 +19,7 @@ use Rattle.euler_laws_shared.proofs.Undo.{mate_plus}
 use Rattle.solid_walks.proofs.FaceLoops.{items_counted, loops_of_apart}
 use Rattle.solid_walks.proofs.Rising.{in_listed}
 use Rattle.shapes.specs.Faces.{start, finish, loops_of, boundary}
-use Rattle.split_shapes.specs.Sides.{crosses, straddling_faces, crossing_edges}
+use Rattle.split_shapes.specs.Sides.{crosses, reaches_above, straddling_faces, crossing_edges}
 use Rattle.split_shapes.specs.Places.{is_place, place_point, places, goes_up, some_meet, is_crossed, is_up_and_down, in_pairs, sorted, sorted_pairs, place_pairs}
 use Rattle.split_shapes.specs.Crossings.{with_crossings}
 use Rattle.split_shapes.specs.Drawing.{from_place, drawn_pairs}
@@ -50,7 +50,7 @@ module _ (M : Model) (s : ℕ) (p : Plane) (t : ℕ) (sound : Sound M) (begins :
   -- in a face that straddles the side of a half-edge is its own
   pub side_within : (h : ℕ) → IsIn (face_at N h) fs → side_of M s p h ≡ half_is_above N p h
   unfolding side_of
-  side_within h i = ap (λ b. cond b (half_is_above N p h) _) (in_listed (face_at N h) fs i)
+  side_within h i = ap (λ b. cond b (half_is_above N p h) (reaches_above M p (face_at N h))) (in_listed (face_at N h) fs i)
 
   module _ (f : ℕ) (i : IsIn f (straddling_faces M p s)) where
     at : (h : ℕ) → IsIn h (places M p f) → AtPlace M N p h
@@ -130,7 +130,6 @@ module _ (M : Model) (s : ℕ) (p : Plane) (t : ℕ) (sound : Sound M) (begins :
         ap (finish N) (sym b.2) ∙ w.ends ∙ ap (finish M) same
 
     pub side_at : (h : ℕ) → IsIn h (places M p f) → side_of M s p (from_place N p h) ≡ goes_up M p h
-    unfolding goes_up
     side_at h j = side_within (from_place N p h) (subst (λ z. IsIn z fs) (sym (place_face h j)) i)
         ∙ side_ahead (height p (start N (from_place N p h))) (height p (finish N (from_place N p h))) (place_on h j)
         ∙ ap (is_above p) (finish_is h j)

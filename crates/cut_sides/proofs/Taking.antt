@@ -90,6 +90,10 @@ module _ (M : Model) (s : ℕ) (p : Plane) (t : ℕ) (sound : Sound M) (begins :
 
   -- ---- where a half-edge starts
 
+  both_ways : (f : ℕ) → reaches_above M p f ≡ true → reaches_below M p f ≡ true → straddles M p f ≡ true
+  unfolding straddles
+  both_ways f a b = λ i. a i && b i
+
   -- a corner of a face that doesn't straddle lies on its side
   corner_lies : (g : ℕ) → HasHalf M g → solid_of M (face_at M g) ≡ s → lists fs (face_at M g) ≡ false → LiesOn p (reaches_above M p (face_at M g)) (start M g)
   corner_lies g there of_s beside = go (reaches_above M p f) refl where
@@ -106,14 +110,10 @@ module _ (M : Model) (s : ℕ) (p : Plane) (t : ℕ) (sound : Sound M) (begins :
     above_then false a none = a
     above_then true a none = absurd (true≢false (sym (any_passes (λ v. is_above p (point_of M v)) (tail M g) (corners M f) corner a) ∙ none))
 
-    both_ways : reaches_above M p f ≡ true → reaches_below M p f ≡ true → straddles M p f ≡ true
-    unfolding straddles
-    both_ways a b = λ i. a i && b i
-
     below_then : (b : Bool) → is_below p (start M g) ≡ b → reaches_above M p f ≡ true → is_below p (start M g) ≡ false
     below_then false a up = a
     below_then true a up = absurd (true≢false
-        (sym (in_listed f fs (picked (straddles M p) f (faces_of M s) of_solid (both_ways up (any_passes (λ v. is_below p (point_of M v)) (tail M g) (corners M f) corner a)))) ∙ beside))
+        (sym (in_listed f fs (picked (straddles M p) f (faces_of M s) of_solid (both_ways f up (any_passes (λ v. is_below p (point_of M v)) (tail M g) (corners M f) corner a)))) ∙ beside))
 
     go : (b : Bool) → reaches_above M p f ≡ b → LiesOn p b (start M g)
     go true up = below_then (is_below p (start M g)) refl up

@@ -56,8 +56,8 @@ module _ (M N : Model) (f c d e : ℕ) (can : CanJoin N c d e) (at : face_at N c
   unfolding loops_joined
   faces_joined = refl
 
-  pub join_beside : Beside M (loops_joined N c d e) f
-  join_beside = record {
+  pub joined_beside : Beside M (loops_joined N c d e) f
+  joined_beside = record {
     faces = λ g there. ap (λ t. table.get t g) faces_joined ∙ w.faces g there;
     loops = λ q there ne old. elim (eqb_tells q (loop_of N c)) [
       | inl a ↦ absurd (ne (ap (face_of J) a.1 ∙ face_row J (loop_of N c) _ (row_joined N c d e can) ∙ at))
@@ -98,8 +98,8 @@ module _ (N : Model) (u k e g l : ℕ) (can : CanDraw N u k e g l) where
       | inr a ↦ never_free M.faces h old (ap (table.get M.faces) (sym s) ∙ a)
     ]
 
-    pub draw_beside : Beside M (face_drawn N u k e g l) f
-    draw_beside = record {
+    pub drawn_beside : Beside M (face_drawn N u k e g l) f
+    drawn_beside = record {
       faces = λ h there. face_else h (λ s. never_free M.faces h there (ap (table.get M.faces) s ∙ new)) ∙ w.faces h there;
       loops = λ q there ne old. elim (eqb_tells q (loop_of N u)) [
         | inl a ↦ absurd (not_drawn (face_of K q) ne old (sym (ap (face_of K) a.1 ∙ old_loop_face)))
