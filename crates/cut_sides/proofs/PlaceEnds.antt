@@ -40,6 +40,11 @@ use Rattle.cut_sides.proofs.EndLists.{mapped_in, mapped_from, mapped_apart, ends
 use Rattle.cut_sides.proofs.Heights.{side_ahead, level}
 use Rattle.cut_sides.proofs.Starts.{TurnAt, turn_at}
 
+-- of each pair the first is above and the second below
+abbrev pub AllUp : (ℕ → Bool) → List (ℕ × ℕ) → Type 0
+AllUp side [] = Unit {0}
+AllUp side (q ∷ qs) = ((side q.0 ≡ true) × (side q.1 ≡ false)) × AllUp side qs
+
 module _ (M : Model) (s : ℕ) (p : Plane) (t : ℕ) (sound : Sound M) (begins : CanBegin M s p t) where
   abbrev N : Model
   N = (with_crossings M s p).model
@@ -188,6 +193,26 @@ module _ (M : Model) (s : ℕ) (p : Plane) (t : ℕ) (sound : Sound M) (begins :
     pub pairs_cross : AllCross N p (side_of M s p) (drawn_pairs M N p f)
     unfolding drawn_pairs place_pairs sorted_pairs
     pairs_cross = all_cross (sorted M p (places M p f)) (λ x j. omega (arith, j, count-sorted M p x (places M p f))) (sorted_apart M p (places M p f) places_apart) all_up_and_down
+
+    -- ---- the up place stands first
+
+    either_up : (c : Bool) (a b : ℕ) → IsIn a (places M p f) → IsIn b (places M p f) → goes_up M p a ≡ c → goes_up M p b ≡ not c →
+        (side_of M s p (between M N p (cond c (a, b) (b, a))).0 ≡ true) × (side_of M s p (between M N p (cond c (a, b) (b, a))).1 ≡ false)
+    either_up true a b j k x y = (side_at a j ∙ x, side_at b k ∙ y)
+    either_up false a b j k x y = (side_at b k ∙ y, side_at a j ∙ x)
+
+    all_up : (hs : List ℕ) → ((x : ℕ) → IsIn x hs → IsIn x (places M p f)) → list_all (is_up_and_down M p) (in_pairs hs) ≡ true → AllUp (side_of M s p) (drawn M N p hs)
+    all_up [] within e = tt
+    all_up (h ∷ []) within e = tt
+    all_up (h ∷ k ∷ ks) within e =
+        let b = both (is_up_and_down M p (h, k)) (list_all (is_up_and_down M p) (in_pairs ks)) e in (
+          either_up (goes_up M p h) h k (within h (omega (arith, tick_same h))) (within k (omega (arith, tick_same k))) refl (differing (goes_up M p h) (goes_up M p k) b.0).1,
+          all_up ks (λ x i. within x (omega (arith, i))) b.1,
+        )
+
+    pub pairs_up : AllUp (side_of M s p) (drawn_pairs M N p f)
+    unfolding drawn_pairs place_pairs sorted_pairs
+    pairs_up = all_up (sorted M p (places M p f)) (λ x j. omega (arith, j, count-sorted M p x (places M p f))) all_up_and_down
 
     -- ---- the half-edges of the pairs
 

@@ -1,5 +1,5 @@
 -- The two passes over the pairs of a face: what stays beside it, and that it stays without rings.
-use Rattle.std.proofs.Common.{◌≡◌, ◌≢◌, ℕ, ◌+◌, Bool, true, false, cond, List, [], ◌∷◌, None, is_some, IsTrue, refl, sym, ap, ◌∙◌, subst, true≢false}
+use Rattle.std.proofs.Common.{◌≡◌, ◌≢◌, ℕ, ◌+◌, Bool, true, false, cond, List, [], ◌∷◌, ◌++◌, None, is_some, IsTrue, refl, sym, ap, ◌∙◌, subst, true≢false}
 use Rattle.std.specs.Prelude.{fold}
 use Rattle.boundary_model.specs.Table as table
 use Rattle.boundary_model.specs.Model.{Model, loop_of, is_ring_of, is_number}
@@ -23,13 +23,23 @@ free_before M N stays g none = free (table.get M.faces g) (go (table.has M.faces
   go true t = absurd (true≢false (sym (stays.faces g t) ∙ ap is_some none))
   go false t = t
 
-module _ (M : Model) (f : ℕ) where
+-- the half-edges of pairs are in B
+abbrev pub AllOld : Model → List (ℕ × ℕ) → Type 0
+AllOld B [] = Unit {0}
+AllOld B (q ∷ qs) = (HasHalf B q.0 × HasHalf B q.1) × AllOld B qs
+
+all_old_last : (B : Model) (qs : List (ℕ × ℕ)) (q : ℕ × ℕ) → AllOld B qs → HasHalf B q.0 × HasHalf B q.1 → AllOld B (qs ++ q ∷ [])
+all_old_last B [] q a w = (w, tt)
+all_old_last B (r ∷ qs) q a w = (a.0, all_old_last B qs q a.1 w)
+
+module _ (B M : Model) (f : ℕ) where
   -- ---- first pass
 
   -- what stands beside stays, and so do all faces
   pub record Joined (d : Drawing) : Type 0 where
     pub beside : Beside M d.model f
     pub faces : d.model.faces ≡ M.faces
+    pub old : AllOld B d.left
 
   pair_beside : (N : Model) (q : ℕ × ℕ) (e : ℕ) → JoinedIn M N f → Fits M f q → in_one_loop N q ≡ false → table.get N.edges e ≡ None → IsTrue (is_number e) → Beside M N f → N.faces ≡ M.faces →
       Beside M (joined_pair N q e) f × ((joined_pair N q e).faces ≡ M.faces)
@@ -45,30 +55,25 @@ module _ (M : Model) (f : ℕ) where
         let at : face_at N q.0 ≡ f = joined.faces q.0 fits.u_there ∙ fits.u_face in
         (joined_beside M N f q.0 q.1 e can at w, faces_joined M N f q.0 q.1 e can at w ∙ same)
 
-  join_step : (d : Drawing) (q : ℕ × ℕ) (qs : List (ℕ × ℕ)) (n : ℕ) → Fits M f q → Joining M f d (q ∷ qs) n → Joined d → Joined (join_next d q)
-  join_step d q qs n fits w a = go (in_one_loop d.model q) refl where
+  join_step : (d : Drawing) (q : ℕ × ℕ) (qs : List (ℕ × ℕ)) (n : ℕ) → Fits M f q → HasHalf B q.0 × HasHalf B q.1 → Joining M f d (q ∷ qs) n → Joined d → Joined (join_next d q)
+  join_step d q qs n fits in_b w a = go (in_one_loop d.model q) refl where
     go : (b : Bool) → in_one_loop d.model q ≡ b → Joined (join_next d q)
-    go true e = subst Joined (sym (join_next_one d q e)) (record { beside = a.beside; faces = a.faces })
+    go true e = subst Joined (sym (join_next_one d q e)) (record { beside = a.beside; faces = a.faces; old = all_old_last B d.left q a.old in_b })
     go false e =
         let r = pair_beside d.model q (d.taken.edge + 1) w.joined fits e (edge_free M f d q qs n fits w) (edge_fits_now M f d q qs n fits w) a.beside a.faces in
-        subst Joined (sym (join_next_two d q e)) (record { beside = r.0; faces = r.1 })
+        subst Joined (sym (join_next_two d q e)) (record { beside = r.0; faces = r.1; old = a.old })
 
-  pub joins_beside : (d : Drawing) (qs : List (ℕ × ℕ)) (n : ℕ) → AllFit M f qs → Joining M f d qs n → Joined d → Joined (fold join_next d qs)
-  joins_beside d [] n fit w a = a
-  joins_beside d (q ∷ qs) n fit w a = joins_beside (join_next d q) qs n fit.1 (join_one M f d q qs n fit.0 w).1 (join_step d q qs n fit.0 w a)
+  pub joins_beside : (d : Drawing) (qs : List (ℕ × ℕ)) (n : ℕ) → AllFit M f qs → AllOld B qs → Joining M f d qs n → Joined d → Joined (fold join_next d qs)
+  joins_beside d [] n fit in_b w a = a
+  joins_beside d (q ∷ qs) n fit in_b w a = joins_beside (join_next d q) qs n fit.1 in_b.1 (join_one M f d q qs n fit.0 w).1 (join_step d q qs n fit.0 in_b.0 w a)
 
   -- ---- second pass, where no loop of the face is a ring
 
-  module _ (B : Model) (sound : Sound M) where
+  module _ (sound : Sound M) where
     pub record Parting (d : Drawing) : Type 0 where
       pub beside : Beside M d.model f
       pub stays : Stays B d.model
       pub alone : Alone B M d.model f
-
-    -- the half-edges of pairs are in B
-    abbrev pub AllOld : List (ℕ × ℕ) → Type 0
-    AllOld [] = Unit {0}
-    AllOld (q ∷ qs) = (HasHalf B q.0 × HasHalf B q.1) × AllOld qs
 
     draw_step : (d : Drawing) (q : ℕ × ℕ) (qs : List (ℕ × ℕ)) (n : ℕ) → Fits M f q → Going M f d (q ∷ qs) n → HasHalf B q.0 → HasHalf B q.1 → Parting d → Parting (draw_next f d q)
     draw_step d q qs n fits w u_old k_old a = go (in_one_loop d.model q) refl where
@@ -87,6 +92,6 @@ module _ (M : Model) (f : ℕ) where
           })
       go false e = subst Parting (sym (draw_next_two f d q e)) (record { beside = a.beside; stays = a.stays; alone = a.alone })
 
-    pub draws_part : (d : Drawing) (qs : List (ℕ × ℕ)) (n : ℕ) → AllFit M f qs → AllOld qs → Going M f d qs n → Parting d → Parting (fold (draw_next f) d qs)
+    pub draws_part : (d : Drawing) (qs : List (ℕ × ℕ)) (n : ℕ) → AllFit M f qs → AllOld B qs → Going M f d qs n → Parting d → Parting (fold (draw_next f) d qs)
     draws_part d [] n fit old w a = a
     draws_part d (q ∷ qs) n fit old w a = draws_part (draw_next f d q) qs n fit.1 old.1 (draw_one M f sound d q qs n fit.0 w).1 (draw_step d q qs n fit.0 w old.0.0 old.0.1 a)
