@@ -106,7 +106,7 @@ module _ (M : Model) (s : ℕ) (p : Plane) (t : ℕ) (sound : Sound M) (accepted
     at_plus : AtPlace M N p (plus e)
     at_plus = at_itself (plus e) (plus_half e e_there) plus_starts plus_on
 
-    pub minus_stays : start N (minus e) ≡ start M (minus e)
+    minus_stays : start N (minus e) ≡ start M (minus e)
     minus_stays = kept_start M N sound (crossings_keep M s p t sound accepted) (minus e) (minus_half e e_there) ((crossings_cut M s p t sound accepted).minus_tails e e_there)
 
     pub minus_off : is_on p (start N (minus e)) ≡ false

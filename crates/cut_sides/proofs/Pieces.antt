@@ -14,8 +14,7 @@ use Rattle.shapes.specs.Fresh.{Growing, growing}
 use Rattle.split_shapes.specs.Sides.{crossing_edges}
 use Rattle.split_shapes.specs.Crossings.{edge_cut, next_cut, all_cut, with_crossings}
 use Rattle.split_shapes.specs.Split.{first_conditions}
-use Rattle.crossing_laws.specs.Kept.{Kept}
-use Rattle.crossing_laws.proofs.Steps.{CutGoes, cut_keeps, edge_stays, edge_other, edge_new, tail_new, tail_other}
+use Rattle.crossing_laws.proofs.Steps.{CutGoes, edge_stays, edge_other, edge_new, tail_new, tail_other}
 use Rattle.crossing_laws.proofs.Runs.{AreCut, Crossing, Going, cut_at, goes_now, next_model, going_on}
 use Rattle.crossing_laws.proofs.Whole.{begins}
 use Rattle.cut_sides.proofs.Follows.{after_first, after_second, after_else}
@@ -35,10 +34,11 @@ pub record Pieces (M N : Model) (ds : List ℕ) : Type 0 where
   pub cuts : (e : ℕ) → IsIn e ds → (k : ℕ) × CutBy M N e k
   pub follows : (x : ℕ) → HasHalf M x → count (edge_of x) ds ≡ 0 → count (edge_of (after M x)) ds ≡ 0 → after N x ≡ after M x
 
-half_plus : (M : Model) (x : ℕ) → Has M.edges x → HasHalf M (plus x)
+-- both halves of an edge that is there
+pub half_plus : (M : Model) (x : ℕ) → Has M.edges x → HasHalf M (plus x)
 half_plus M x there = ap (table.has M.edges) (plus_row x).0 ∙ there
 
-half_minus : (M : Model) (x : ℕ) → Has M.edges x → HasHalf M (minus x)
+pub half_minus : (M : Model) (x : ℕ) → Has M.edges x → HasHalf M (minus x)
 half_minus M x there = ap (table.has M.edges) (minus_row x).0 ∙ there
 
 half_edge : (M : Model) (x : ℕ) → HasHalf M (plus x) → Has M.edges x

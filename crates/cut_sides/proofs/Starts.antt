@@ -1,5 +1,5 @@
 -- Where half-edges start once the crossing edges of a solid are cut, and where its loops then turn at the plane.
-use Rattle.std.proofs.Common.{◌≡◌, ◌≢◌, ℕ, Bool, true, false, cond, ◌&&◌, ◌||◌, List, refl, sym, ap, ◌∙◌, subst, arith, ◌⊎◌, inl, inr, true≢false}
+use Rattle.std.proofs.Common.{◌≡◌, ℕ, Bool, true, false, cond, ◌&&◌, ◌||◌, List, sym, ap, ◌∙◌, subst, ◌⊎◌, inl, inr, true≢false}
 use Rattle.lattice.specs.declared.Plane.{Plane}
 use Rattle.lattice.specs.Vectors.{height, are_opposite, is_on}
 use Rattle.cyclic_list.specs.Items.{count, IsIn}
@@ -30,7 +30,7 @@ use Rattle.cut_pairs.proofs.LoopPlaces.{on_place}
 use Rattle.drawing_laws.proofs.Stays.{has_loop}
 use Rattle.cut_sides.proofs.Follows.{before_after, after_once}
 use Rattle.cut_sides.proofs.Heights.{level_start, level_end}
-use Rattle.cut_sides.proofs.Pieces.{CutBy, Pieces, crossing_pieces}
+use Rattle.cut_sides.proofs.Pieces.{CutBy, Pieces, half_plus, half_minus, crossing_pieces}
 
 -- what follows x in N starts at a cut place of M, and there the loop comes from one side and goes to the other
 pub record TurnAt (M N : Model) (p : Plane) (x : ℕ) : Type 0 where
@@ -58,12 +58,6 @@ module _ (M : Model) (s : ℕ) (p : Plane) (t : ℕ) (sound : Sound M) (begins :
 
   new_sound : Sound N
   new_sound = crossings_sound M s p t sound begins
-
-  half_plus : (X : Model) (e : ℕ) → Has X.edges e → HasHalf X (plus e)
-  half_plus X e there = ap (table.has X.edges) (plus_row e).0 ∙ there
-
-  half_minus : (X : Model) (e : ℕ) → Has X.edges e → HasHalf X (minus e)
-  half_minus X e there = ap (table.has X.edges) (minus_row e).0 ∙ there
 
   -- ---- old half-edges
 

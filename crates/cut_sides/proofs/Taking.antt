@@ -1,13 +1,12 @@
 -- From the first conditions of a split to the sides that half-edges take.
-use Rattle.std.specs.Prelude.{int_lt, nat_eq}
-use Rattle.std.specs.List.{list_any}
-use Rattle.std.proofs.Common.{◌≡◌, ◌≢◌, ℕ, Bool, true, false, cond, not, ◌&&◌, ◌||◌, pos, List, [], ◌∷◌, is_some, refl, sym, ap, ◌∙◌, subst, arith, inl, inr, true≢false}
+use Rattle.std.specs.Prelude.{nat_eq}
+use Rattle.std.proofs.Common.{◌≡◌, ℕ, Bool, true, false, cond, not, ◌&&◌, ◌||◌, List, [], ◌∷◌, refl, sym, ap, ◌∙◌, subst, arith, inl, inr, true≢false}
 use Rattle.lattice.specs.declared.Point.{Point}
 use Rattle.lattice.specs.declared.Plane.{Plane}
 use Rattle.lattice.specs.Vectors.{height, are_opposite, is_above, is_below, is_on}
 use Rattle.cyclic_list.specs.Items.{count, IsIn}
 use Rattle.cyclic_list.proofs.Lists.{tick_same}
-use Rattle.boundary_model.specs.HalfEdge.{mate, edge_of, plus, minus}
+use Rattle.boundary_model.specs.HalfEdge.{edge_of, plus, minus}
 use Rattle.boundary_model.specs.Table as table
 use Rattle.boundary_model.specs.Model.{Model, has_half, tail, loop_of, face_of, solid_of, after, point_of, faces_of}
 use Rattle.boundary_model.specs.Sound.{Sound, Has, HasHalf}
@@ -20,11 +19,11 @@ use Rattle.euler_laws_shared.proofs.Goes.{equal, equals}
 use Rattle.euler_laws_shared.proofs.Loops.{some_row}
 use Rattle.euler_laws_shared.proofs.Rows.{face_there}
 use Rattle.euler_laws_shared.proofs.Undo.{mate_plus, mate_minus}
-use Rattle.solid_walks.proofs.Rising.{in_listed, none_counted}
+use Rattle.solid_walks.proofs.Rising.{in_listed}
 use Rattle.shapes.specs.Faces.{start, finish, corners, edges_of}
-use Rattle.split_shapes.specs.Sides.{crosses, straddles, straddling_faces, crossing_edges, reaches_above, reaches_below}
+use Rattle.split_shapes.specs.Sides.{crosses, straddles, straddling_faces, reaches_above, reaches_below}
 use Rattle.split_shapes.specs.Crossings.{with_crossings}
-use Rattle.split_shapes.specs.Drawing.{from_place, drawn_pairs}
+use Rattle.split_shapes.specs.Drawing.{drawn_pairs}
 use Rattle.crossing_laws.specs.Laws.{CanBegin}
 use Rattle.crossing_laws.proofs.Listed.{listed_in, picked, any_passes, all_where_in, tail_in_face}
 use Rattle.crossing_laws.proofs.Places.{face_facts}
@@ -33,7 +32,7 @@ use Rattle.crossing_laws.proofs.Whole.{crossings_sound, same_solid, none_crosses
 use Rattle.drawing_laws.proofs.Counted.{straddling_apart}
 use Rattle.drawing_laws.proofs.Stays.{has_face, has_loop}
 use Rattle.drawing_sides.specs.Laws.{TakeSides}
-use Rattle.drawing_sides.specs.Parted.{Sided, LiesOn, Open, FacesCross, ends, all_ends}
+use Rattle.drawing_sides.specs.Parted.{LiesOn, FacesCross, ends, all_ends}
 use Rattle.cut_sides.specs.HalfSides.{half_is_above, side_of, is_own}
 use Rattle.cut_sides.proofs.EndLists.{in_all_ends, from_all_ends, all_ends_apart}
 use Rattle.cut_sides.proofs.Heights.{side_kept, side_changed, starts_above, starts_below, crosses_back, level_not_below, level_not_above}

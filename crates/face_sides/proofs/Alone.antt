@@ -16,7 +16,7 @@ use Rattle.split_shapes.specs.Drawing.{face_drawn}
 use Rattle.drawing_laws.specs.DrawnIn.{Stays}
 use Rattle.drawing_laws.proofs.Drawn.{CanDraw, draw_sound}
 use Rattle.drawing_laws.proofs.Stays.{not_free, stands_at, has_loop, has_face, row_old, row_new, row_else, draw_beside}
-use Rattle.face_sides.proofs.Beside.{IsDrawn, face_same, outer_same, outer_row, face_new, face_else, old_loop_face, new_loop_face}
+use Rattle.face_sides.proofs.Beside.{ComesOf, face_same, outer_same, outer_row, face_new, face_else, old_loop_face, new_loop_face}
 
 -- loop q of N holds a half-edge of B
 pub record Held (B N : Model) (q : ℕ) : Type 0 where
@@ -31,7 +31,7 @@ pub record Lone (B N : Model) (q : ℕ) : Type 0 where
 
 -- so is each loop of f, and of the faces that are new since M
 abbrev pub Alone : Model → Model → Model → ℕ → Type 0
-Alone B M N f = (q : ℕ) → Has N.loops q → IsDrawn M f (face_of N q) → Lone B N q
+Alone B M N f = (q : ℕ) → Has N.loops q → ComesOf M f (face_of N q) → Lone B N q
 
 in_upto : (u k : ℕ) (xs : List ℕ) → u ≢ k → IsIn u xs → IsIn u (upto u k xs)
 in_upto u k xs ne i = subst (λ ys. IsIn u (before k ys)) (sym (rotate_to_is u xs i))
@@ -60,7 +60,7 @@ module _ (N : Model) (u k e g l : ℕ) (can : CanDraw N u k e g l) where
   pub outer_kept : (h : ℕ) → Has N.faces h → outer (face_drawn N u k e g l) h ≡ outer N h
   outer_kept h there = outer_same N K h (face_else N u k e g l can h (not_free N.faces h g there can.face_free))
 
-  module _ (B M : Model) (f : ℕ) (stays : Stays B N) (u_old : HasHalf B u) (k_old : HasHalf B k) (drawn : IsDrawn M f (face_at N u)) (a : Alone B M N f) where
+  module _ (B M : Model) (f : ℕ) (stays : Stays B N) (u_old : HasHalf B u) (k_old : HasHalf B k) (drawn : ComesOf M f (face_at N u)) (a : Alone B M N f) where
     at_new : Lone B K l
     at_new = record {
       outer_is = ap (outer K) (new_loop_face N u k e g l can) ∙ outer_row K g _ (face_new N u k e g l can);
@@ -73,12 +73,12 @@ module _ (N : Model) (u k e g l : ℕ) (can : CanDraw N u k e g l) where
       held = record { half = k; old = k_old; at = k_stays };
     }
 
-    at_other : (q : ℕ) → q ≢ loop_of N u → q ≢ l → Has K.loops q → IsDrawn M f (face_of K q) → Lone B K q
+    at_other : (q : ℕ) → q ≢ loop_of N u → q ≢ l → Has K.loops q → ComesOf M f (face_of K q) → Lone B K q
     at_other q x y there d =
         let same : table.get K.loops q ≡ table.get N.loops q = row_else N u k e g l can q x y in
         let face : face_of K q ≡ face_of N q = face_same N K q same in
         let was : Has N.loops q = ap is_some (sym same) ∙ there in
-        let r : Lone B N q = a q was (subst (IsDrawn M f) face d) in
+        let r : Lone B N q = a q was (subst (ComesOf M f) face d) in
         record {
           outer_is = ap (outer K) face ∙ outer_kept (face_of N q) (can.sound.loops_of_faces q was) ∙ r.outer_is;
           held = record {

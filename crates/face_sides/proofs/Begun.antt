@@ -1,15 +1,14 @@
 -- What the first conditions of a split say of the loops of its solid, once edges are cut: each holds a half-edge, which tells its side.
 use Rattle.std.specs.Prelude.{map}
-use Rattle.std.specs.List.{list_any, list_all}
-use Rattle.std.proofs.Common.{◌≡◌, ◌≢◌, ℕ, ◌+◌, Bool, true, false, cond, not, nat_eq, ◌&&◌, ◌||◌, List, [], ◌∷◌, length, is_some, refl, sym, ap, ◌∙◌, subst, arith, inl, inr, true≢false}
+use Rattle.std.specs.List.{list_all}
+use Rattle.std.proofs.Common.{◌≡◌, ◌≢◌, ℕ, Bool, true, false, not, nat_eq, ◌&&◌, ◌||◌, List, [], ◌∷◌, length, is_some, refl, sym, ap, ◌∙◌, subst, arith, inl, inr, true≢false}
 use Rattle.std.proofs.lemmas.Bool.Decides.{eqb_tells}
 use Rattle.lattice.specs.declared.Plane.{Plane}
 use Rattle.lattice.specs.Vectors.{is_above}
-use Rattle.cyclic_list.specs.Items.{count, tick, IsIn}
+use Rattle.cyclic_list.specs.Items.{count, IsIn}
 use Rattle.cyclic_list.proofs.Lists.{tick_same, tick_other}
-use Rattle.cyclic_list.proofs.Rings.{IsIn_successor}
 use Rattle.boundary_model.specs.Table as table
-use Rattle.boundary_model.specs.Model.{Model, LoopContent, LoopRow, lone, cycle, items_of, content, tail, loop_of, face_of, solid_of, outer, after, cycle_of, point_of, faces_of, rings_of}
+use Rattle.boundary_model.specs.Model.{Model, LoopContent, lone, cycle, items_of, content, tail, loop_of, face_of, solid_of, outer, after, cycle_of, point_of, faces_of, rings_of}
 use Rattle.boundary_model.specs.Sound.{Sound, Has, HasHalf}
 use Rattle.boundary_model.proofs.Models.{in-holds, content_cycle, cycle_there}
 use Rattle.boundary_model.proofs.Tables.{zero_first_where}
@@ -18,11 +17,11 @@ use Rattle.euler_laws_shared.proofs.Fans.{half_after, loop_after}
 use Rattle.euler_laws_shared.proofs.Goes.{all_hold, equal, equals, no_zero}
 use Rattle.euler_laws_shared.proofs.Rows.{loop_row, face_there}
 use Rattle.solid_walks.proofs.Rising.{in_listed}
-use Rattle.shapes.specs.Faces.{start, finish, least_lone, loops_of, items_in, boundary, vertices_on}
+use Rattle.shapes.specs.Faces.{start, finish, least_lone, boundary, vertices_on}
 use Rattle.split_shapes.specs.Sides.{some_above, reaches_above, straddling_faces}
-use Rattle.split_shapes.specs.Places.{is_place, places, goes_up, loop_is_cut, is_cut_often, is_up_and_down, in_pairs, sorted, sorted_pairs, place_pairs}
+use Rattle.split_shapes.specs.Places.{is_place, places, loop_is_cut, is_cut_often}
 use Rattle.split_shapes.specs.Crossings.{with_crossings}
-use Rattle.split_shapes.specs.Drawing.{from_place, in_one_loop, drawn_pairs}
+use Rattle.split_shapes.specs.Drawing.{from_place, drawn_pairs}
 use Rattle.split_shapes.specs.Split.{first_conditions}
 use Rattle.crossing_laws.specs.Kept.{Kept}
 use Rattle.crossing_laws.specs.Laws.{CanBegin}
@@ -34,7 +33,7 @@ use Rattle.drawing_laws.specs.Pairs.{AllFit, LoneInOneLoop, FacesFit}
 use Rattle.drawing_sides.specs.Parted.{ends}
 use Rattle.cut_sides.specs.HalfSides.{half_is_above, side_of}
 use Rattle.cut_sides.proofs.EndLists.{mapped_in, mapped_from}
-use Rattle.cut_sides.proofs.PlaceEnds.{AllUp, side_within, place_in_ends, pairs_up}
+use Rattle.cut_sides.proofs.PlaceEnds.{side_within, place_in_ends, pairs_up}
 use Rattle.cut_sides.proofs.Taking.{side_beside}
 use Rattle.face_sides.proofs.Alone.{Held}
 use Rattle.face_sides.proofs.Beside.{outer_same}
@@ -120,10 +119,13 @@ module _ (M : Model) (s : ℕ) (p : Plane) (t : ℕ) (sound : Sound M) (begins :
 
   -- a face that doesn't straddle lies on one side
   pub sided_first : (g : ℕ) → Has (with_crossings M s p).model.faces g → solid_of (with_crossings M s p).model g ≡ s → count g (straddling_faces M p s) ≡ 0 → IsSided (with_crossings M s p).model (with_crossings M s p).model (side_of M s p) g
-  sided_first g there of_s z = (reaches_above M p g, λ q q_there at.
-      let a : Held N N q = loop_holds q q_there (ap (solid_of N) at ∙ of_s) in
-      let face : face_at N a.half ≡ g = ap (face_of N) a.at ∙ at in
-      record { held = a; on = side_beside M s p t sound begins a.half (ap (lists fs) face ∙ not_listed g z) ∙ ap (reaches_above M p) face })
+  sided_first g there of_s z = (
+    reaches_above M p g,
+    λ q q_there at.
+        let a : Held N N q = loop_holds q q_there (ap (solid_of N) at ∙ of_s) in
+        let face : face_at N a.half ≡ g = ap (face_of N) a.at ∙ at in
+        record { held = a; on = side_beside M s p t sound begins a.half (ap (lists fs) face ∙ not_listed g z) ∙ ap (reaches_above M p) face },
+  )
 
   -- ---- the faces that straddle
 

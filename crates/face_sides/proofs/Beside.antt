@@ -6,7 +6,7 @@ use Rattle.std.proofs.lemmas.Bool.Decides.{nat_tests, eqb_tells}
 use Rattle.boundary_model.specs.Table as table
 use Rattle.boundary_model.specs.Table.{Table, get-map_rows}
 use Rattle.boundary_model.specs.Model.{Model, LoopRow, FaceRow, no_face, no_loop, loop_of, face_of, solid_of, outer, content}
-use Rattle.boundary_model.specs.Sound.{Sound, Has, HasHalf}
+use Rattle.boundary_model.specs.Sound.{Has}
 use Rattle.boundary_model.proofs.Models.{face_row}
 use Rattle.euler_operators.specs.Conditions.{face_at, lists}
 use Rattle.euler_operators.specs.Effect.{loop_to_face}
@@ -37,8 +37,8 @@ pub record Beside (M N : Model) (f : ℕ) : Type 0 where
   pub loops : (q : ℕ) → Has N.loops q → face_of N q ≢ f → Has M.faces (face_of N q) → table.get N.loops q ≡ table.get M.loops q
 
 -- face g is f, or a new one
-abbrev pub IsDrawn : Model → ℕ → ℕ → Type 0
-IsDrawn M f g = (g ≡ f) ⊎ (table.get M.faces g ≡ None)
+abbrev pub ComesOf : Model → ℕ → ℕ → Type 0
+ComesOf M f g = (g ≡ f) ⊎ (table.get M.faces g ≡ None)
 
 pub nothing_beside : (M : Model) (f : ℕ) → Beside M M f
 nothing_beside M f = record { faces = λ g there. refl; loops = λ q there ne old. refl }
@@ -91,7 +91,7 @@ module _ (N : Model) (u k e g l : ℕ) (can : CanDraw N u k e g l) where
   pub new_loop_face : face_of (face_drawn N u k e g l) l ≡ g
   new_loop_face = face_row K l _ (row_new N u k e g l can)
 
-  module _ (M : Model) (f : ℕ) (drawn : IsDrawn M f (face_at N u)) (new : table.get M.faces g ≡ None) (w : Beside M N f) where
+  module _ (M : Model) (f : ℕ) (drawn : ComesOf M f (face_at N u)) (new : table.get M.faces g ≡ None) (w : Beside M N f) where
     not_drawn : (h : ℕ) → h ≢ f → Has M.faces h → face_at N u ≢ h
     not_drawn h ne old s = elim drawn [
       | inl a ↦ ne (sym s ∙ a)

@@ -1,12 +1,10 @@
 -- From the first conditions of a split to the sides of its loops and faces.
-use Rattle.std.specs.Prelude.{map}
 use Rattle.std.proofs.Common.{◌≡◌, ℕ, Bool, true, false, not, nat_eq, ◌&&◌, ◌||◌, List, [], ◌∷◌, is_some, unwrap_or, refl, sym, ap, ◌∙◌, subst, arith, inl, inr, true≢false}
 use Rattle.std.proofs.lemmas.Bool.Decides.{eqb_tells}
 use Rattle.lattice.specs.declared.Plane.{Plane}
 use Rattle.lattice.specs.Vectors.{is_above, is_below}
-use Rattle.cyclic_list.specs.Items.{count, IsIn}
+use Rattle.cyclic_list.specs.Items.{IsIn}
 use Rattle.cyclic_list.proofs.Lists.{count-append, tick_same, tick_other, IsIn_or_not}
-use Rattle.boundary_model.specs.Table as table
 use Rattle.boundary_model.specs.Model.{Model, LoopContent, cycle, items_of, content, has_half, tail, loop_of, face_of, solid_of, outer, point_of, faces_of, no_face}
 use Rattle.boundary_model.specs.Sound.{Sound, Has, HasHalf}
 use Rattle.boundary_model.proofs.Models.{in-holds, content_cycle, face_row}
@@ -16,7 +14,7 @@ use Rattle.solid_walks.proofs.Rising.{none_counted}
 use Rattle.shapes.specs.Faces.{start, loops_of, vertices_on, vertices_in, corners}
 use Rattle.split_shapes.specs.Sides.{straddles, straddling_faces, reaches_above, reaches_below}
 use Rattle.split_shapes.specs.Crossings.{with_crossings}
-use Rattle.split_shapes.specs.Drawing.{Drawing, drawn_pairs, faces_drawn, with_drawings}
+use Rattle.split_shapes.specs.Drawing.{Drawing, faces_drawn, with_drawings}
 use Rattle.crossing_laws.specs.Laws.{CanBegin}
 use Rattle.crossing_laws.proofs.Listed.{listed_in, all_where_has}
 use Rattle.crossing_laws.proofs.Places.{face_facts}
@@ -38,7 +36,6 @@ use Rattle.face_sides.proofs.Begun.{sided_first, pairs_of}
 use Rattle.face_sides.proofs.Beside.{solid_same}
 use Rattle.face_sides.proofs.OneFace.{IsSided}
 use Rattle.face_sides.proofs.Same.{none_from}
-use Rattle.face_sides.proofs.Shared.{LiesOnSide}
 use Rattle.face_sides.proofs.Stages.{Stage, all_done}
 
 cycle_of_items : (c : LoopContent) (zs : List ℕ) → c ≡ cycle zs → c ≡ cycle (items_of c)

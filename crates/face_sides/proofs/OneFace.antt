@@ -10,7 +10,7 @@ use Rattle.euler_laws_shared.proofs.Rows.{no_rings_means}
 use Rattle.shapes.specs.Faces.{vertices_on}
 use Rattle.split_shapes.specs.Sides.{some_above}
 use Rattle.split_shapes.specs.Drawing.{Drawing, face_drawn, stuck_at, all_joined, ring_free, all_drawn, rings_above, with_rings, rings_shared, drawn_between}
-use Rattle.drawing_laws.specs.DrawnIn.{Stays, DrawnIn}
+use Rattle.drawing_laws.specs.DrawnIn.{Stays}
 use Rattle.drawing_laws.proofs.Drawn.{CanDraw}
 use Rattle.drawing_laws.proofs.Faces.{Ready, face_goes, begun_joining, joins, going}
 use Rattle.drawing_laws.proofs.Pairs.{none_joined, joined_drawn, pair_can, stays_on}
@@ -19,8 +19,8 @@ use Rattle.drawing_laws.proofs.Stays.{not_free, has_loop, same_content, row_else
 use Rattle.drawing_laws.specs.DrawnIn.{Room}
 use Rattle.drawing_sides.proofs.SidesWhole.{draws_stuck}
 use Rattle.cut_sides.proofs.PlaceEnds.{AllUp}
-use Rattle.face_sides.proofs.Alone.{Held, Lone, Alone}
-use Rattle.face_sides.proofs.Beside.{Beside, IsDrawn, nothing_beside, drawn_beside, never_free, face_same, outer_same, face_else, given_has, given_else, given_face}
+use Rattle.face_sides.proofs.Alone.{Lone, Alone}
+use Rattle.face_sides.proofs.Beside.{Beside, ComesOf, nothing_beside, drawn_beside, never_free, face_same, outer_same, face_else, given_has, given_else, given_face}
 use Rattle.face_sides.proofs.Passing.{AllOld, Joined, joins_beside, Parting, draws_part}
 use Rattle.face_sides.proofs.Same.{above_stays}
 use Rattle.face_sides.proofs.Shared.{HeldOn, LiesOnSide, Cut, old_lies, new_lies}
@@ -46,7 +46,7 @@ pub record PairsOf (B : Model) (side : ℕ → Bool) (p : Plane) (f : ℕ) (qs :
 -- what is drawn then
 pub record FaceDone (B M N : Model) (side : ℕ → Bool) (f : ℕ) : Type 0 where
   pub beside : Beside M N f
-  pub sided : (g : ℕ) → Has N.faces g → IsDrawn M f g → IsSided B N side g
+  pub sided : (g : ℕ) → Has N.faces g → ComesOf M f g → IsSided B N side g
 
 -- a half-edge of a loop that is as in B stands in the same loop
 module _ (B X : Model) (B_sound : Sound B) (X_sound : Sound X) where
@@ -147,7 +147,7 @@ module _ (B : Model) (side : ℕ → Bool) (p : Plane) (f : ℕ) (q : ℕ × ℕ
         let face : face_of W r ≡ face_of K r = face_same K W r row in
         row ∙ K_beside.loops r (ap is_some (sym row) ∙ there) (λ s. ne (face ∙ s)) (subst (Has X.faces) face old)
 
-  W_sided : (h : ℕ) → Has W.faces h → IsDrawn X f h → IsSided B W side h
+  W_sided : (h : ℕ) → Has W.faces h → ComesOf X f h → IsSided B W side h
   W_sided h there drawn = elim drawn [
     | inl a ↦ (false, subst (λ z. LiesOnSide B W side z false) (sym a) (old_lies B X side p f q.0 q.1 e g l cut K_stays W_sound))
     | inr none ↦ elim (eqb_tells h g) [
@@ -236,13 +236,15 @@ module _ (B : Model) (side : ℕ → Bool) (p : Plane) (f : ℕ) (q r : ℕ × �
   D_sound : Sound D.model
   D_sound = subst (λ x. Sound x.model) many_is (face_goes p f ps d n w).drawn.sound
 
-  D_sided : (h : ℕ) → Has D.model.faces h → IsDrawn d.model f h → IsSided B D.model side h
+  D_sided : (h : ℕ) → Has D.model.faces h → ComesOf d.model f h → IsSided B D.model side h
   D_sided h there drawn =
       let o = D_sound.outers_there h there in
-      let a : Lone B D.model (outer D.model h) = parting.alone (outer D.model h) o.0 (subst (IsDrawn d.model f) (sym o.1) drawn) in
-      (side a.held.half, λ z z_there face.
-          let b : Lone B D.model z = parting.alone z z_there (subst (IsDrawn d.model f) (sym face) drawn) in
-          subst (λ y. HeldOn B D.model side y (side a.held.half)) (sym (ap (outer D.model) face) ∙ b.outer_is) (record { held = a.held; on = refl }))
+      let a : Lone B D.model (outer D.model h) = parting.alone (outer D.model h) o.0 (subst (ComesOf d.model f) (sym o.1) drawn) in (
+        side a.held.half,
+        λ z z_there face.
+            let b : Lone B D.model z = parting.alone z z_there (subst (ComesOf d.model f) (sym face) drawn) in
+            subst (λ y. HeldOn B D.model side y (side a.held.half)) (sym (ap (outer D.model) face) ∙ b.outer_is) (record { held = a.held; on = refl }),
+      )
 
   pub many_done : FaceDone B d.model (drawn_between p f (q ∷ r ∷ qs) d).model side f
   many_done = subst (λ x. FaceDone B d.model x.model side f) (sym many_is) (record { beside = parting.beside; sided = D_sided })

@@ -1,20 +1,19 @@
 -- The two passes over the pairs of a face: what stays beside it, and that it stays without rings.
-use Rattle.std.proofs.Common.{◌≡◌, ◌≢◌, ℕ, ◌+◌, Bool, true, false, cond, List, [], ◌∷◌, ◌++◌, None, is_some, IsTrue, refl, sym, ap, ◌∙◌, subst, true≢false}
+use Rattle.std.proofs.Common.{◌≡◌, ℕ, ◌+◌, Bool, true, false, cond, List, [], ◌∷◌, ◌++◌, None, is_some, IsTrue, refl, sym, ap, ◌∙◌, subst, true≢false}
 use Rattle.std.specs.Prelude.{fold}
 use Rattle.boundary_model.specs.Table as table
 use Rattle.boundary_model.specs.Model.{Model, loop_of, is_ring_of, is_number}
-use Rattle.boundary_model.specs.Sound.{Sound, Has, HasHalf}
+use Rattle.boundary_model.specs.Sound.{Sound, HasHalf}
 use Rattle.euler_operators.specs.Conditions.{face_at}
 use Rattle.euler_laws_shared.proofs.Goes.{free}
-use Rattle.split_shapes.specs.Drawing.{Drawing, loops_joined, face_drawn, in_one_loop, joined_pair, join_next, draw_next, stuck_at}
+use Rattle.split_shapes.specs.Drawing.{Drawing, loops_joined, in_one_loop, joined_pair, join_next, draw_next}
 use Rattle.drawing_laws.specs.DrawnIn.{Stays}
 use Rattle.drawing_laws.specs.Pairs.{Fits, AllFit}
-use Rattle.drawing_laws.proofs.Drawn.{CanDraw}
 use Rattle.drawing_laws.proofs.Pairs.{JoinedIn, stays_on, can_back, can_on, pair_can}
 use Rattle.drawing_laws.proofs.Passes.{Joining, join_one, join_next_one, join_next_two, Going, draw_one, draw_next_one, draw_next_two, cut_off, edge_free, edge_fits_now, edge_open, face_open, loop_open, room_here, edge_fits, face_fits, loop_fits}
 use Rattle.drawing_laws.proofs.Stays.{draw_stays}
 use Rattle.face_sides.proofs.Alone.{Alone, draw_alone}
-use Rattle.face_sides.proofs.Beside.{Beside, IsDrawn, faces_joined, joined_beside, drawn_beside}
+use Rattle.face_sides.proofs.Beside.{Beside, ComesOf, faces_joined, joined_beside, drawn_beside}
 
 -- a number that is free now was free before
 pub free_before : (M N : Model) → Stays M N → (g : ℕ) → table.get N.faces g ≡ None → table.get M.faces g ≡ None
@@ -77,7 +76,7 @@ module _ (B M : Model) (f : ℕ) where
 
     draw_step : (d : Drawing) (q : ℕ × ℕ) (qs : List (ℕ × ℕ)) (n : ℕ) → Fits M f q → Going M f d (q ∷ qs) n → HasHalf B q.0 → HasHalf B q.1 → Parting d → Parting (draw_next f d q)
     draw_step d q qs n fits w u_old k_old a = go (in_one_loop d.model q) refl where
-      drawn : IsDrawn M f (face_at d.model q.0)
+      drawn : ComesOf M f (face_at d.model q.0)
       drawn = w.drawn.within q.0 fits.u_there fits.u_face
 
       go : (b : Bool) → in_one_loop d.model q ≡ b → Parting (draw_next f d q)

@@ -1,24 +1,23 @@
 -- A face with one pair: its loop is cut in two, and the rings above go to the new face.
-use Rattle.std.proofs.Common.{◌≡◌, ◌≢◌, ℕ, Bool, true, false, not, nat_eq, ◌&&◌, None, is_some, refl, sym, ap, ◌∙◌, subst, arith, inl, inr, true≢false}
+use Rattle.std.proofs.Common.{◌≡◌, ◌≢◌, ℕ, Bool, true, false, not, nat_eq, ◌&&◌, is_some, refl, sym, ap, ◌∙◌, subst, inl, inr, true≢false}
 use Rattle.std.proofs.lemmas.Bool.Decides.{eqb_tells}
-use Rattle.std.specs.Prelude.{List, filter}
-use Rattle.cyclic_list.specs.Items.{IsIn}
+use Rattle.std.specs.Prelude.{List}
 use Rattle.lattice.specs.declared.Plane.{Plane}
 use Rattle.boundary_model.specs.Table as table
 use Rattle.boundary_model.specs.Model.{Model, content, holds, loop_of, face_of, outer, rings_of, is_ring_of}
 use Rattle.boundary_model.specs.Sound.{Sound, Has, HasHalf, StandsIn}
 use Rattle.euler_operators.specs.Conditions.{face_at, lists}
-use Rattle.euler_laws_shared.proofs.Goes.{equals, differs, not_false}
+use Rattle.euler_laws_shared.proofs.Goes.{equals, differs}
 use Rattle.solid_walks.proofs.FaceLoops.{ring_listed}
 use Rattle.solid_walks.proofs.Rising.{in_listed}
 use Rattle.shapes.specs.Faces.{vertices_on}
 use Rattle.split_shapes.specs.Sides.{some_above}
 use Rattle.split_shapes.specs.Drawing.{face_drawn, rings_above, with_rings}
-use Rattle.crossing_laws.proofs.Listed.{listed_in, picked, picked_count, picked_passes}
+use Rattle.crossing_laws.proofs.Listed.{listed_in, picked, picked_passes}
 use Rattle.drawing_laws.specs.DrawnIn.{Stays}
 use Rattle.drawing_laws.proofs.Drawn.{CanDraw, draw_sound}
 use Rattle.drawing_laws.proofs.Rings.{RingOf, rings_are}
-use Rattle.drawing_laws.proofs.Stays.{row_old, row_else, draw_beside}
+use Rattle.drawing_laws.proofs.Stays.{row_else, draw_beside}
 use Rattle.face_sides.proofs.Alone.{Held, u_goes, k_stays, outer_kept}
 use Rattle.face_sides.proofs.Beside.{face_same, old_loop_face, new_loop_face, never_free, given_content, given_has, given_else, given_face}
 

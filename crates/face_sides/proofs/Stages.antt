@@ -1,12 +1,12 @@
 -- Faces drawn one after the other: those that are done lie each on one side, and the others are as they were.
-use Rattle.std.proofs.Common.{◌≡◌, ◌≢◌, ℕ, ◌+◌, Bool, true, false, List, [], ◌∷◌, None, is_some, refl, sym, ap, ◌∙◌, subst, arith, inl, inr}
+use Rattle.std.proofs.Common.{◌≡◌, ◌≢◌, ℕ, ◌+◌, Bool, true, false, List, [], ◌∷◌, is_some, refl, sym, ap, ◌∙◌, subst, arith, inl, inr}
 use Rattle.std.specs.Prelude.{fold}
 use Rattle.std.proofs.lemmas.Bool.Decides.{eqb_tells}
 use Rattle.lattice.specs.declared.Plane.{Plane}
-use Rattle.cyclic_list.specs.Items.{count, tick, IsIn}
+use Rattle.cyclic_list.specs.Items.{count, IsIn}
 use Rattle.cyclic_list.proofs.Lists.{tick_same, tick_other}
 use Rattle.boundary_model.specs.Table as table
-use Rattle.boundary_model.specs.Model.{Model, loop_of, face_of, solid_of}
+use Rattle.boundary_model.specs.Model.{Model, face_of, solid_of}
 use Rattle.boundary_model.specs.Sound.{Sound, Has, HasHalf}
 use Rattle.euler_operators.specs.Conditions.{face_at}
 use Rattle.euler_laws_shared.proofs.Goes.{free}
