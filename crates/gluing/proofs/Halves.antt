@@ -1,13 +1,14 @@
 -- The half-edges of a loop, as an arena holds them.
-use Rattle.std.proofs.Common.{ℕ, ◌≤◌, List, [], ◌∷◌, map, length, slice_index_or, arith}
+use Rattle.std.proofs.Common.{◌≡◌, ℕ, ◌≤◌, false, List, [], ◌∷◌, map, length, slice_index_or, refl, ap, arith}
 use Rattle.cyclic_list.specs.Items.{IsIn}
 use Rattle.cyclic_list.proofs.Lists.{tick_same}
 use Rattle.boundary_model.specs.declared.HalfEdge.{HalfEdge}
 use Rattle.boundary_model.specs.declared.Content.TheVariants.{Ring}
 use Rattle.boundary_model.specs.HalfEdge.{code}
-use Rattle.boundary_model.specs.Model.{Model, LoopContent, lone, cycle, items_of, content, outer}
+use Rattle.boundary_model.specs.Model.{Model, LoopContent, lone, cycle, items_of, content, outer, cycle_of}
 use Rattle.boundary_model.specs.Sound.{Sound, HasHalf}
 use Rattle.boundary_model.proofs.Models.{in-holds}
+use Rattle.euler_operators.specs.Conditions.{is_lone}
 use Rattle.arena_rows.specs.Store.{Tells}
 use Rattle.glue_shapes.specs.Glue.{rim}
 use Rattle.gluing.specs.Rims.{AreThere}
@@ -26,6 +27,16 @@ all_there M (h ∷ hs) each = (each h (omega (arith, tick_same h)), all_there M 
 -- the edges of a loop's half-edges are there
 pub rim_there : (M : Model) → Sound M → (f : ℕ) → AreThere M (rim M f)
 rim_there M sound f = all_there M (rim M f) (λ h i. sound.only_edges h (outer M f) (in-holds h (content M (outer M f)) i))
+
+-- an item of a face's outer loop, which isn't lone then
+pub rim_item : (M : Model) → Sound M → (f h : ℕ) → IsIn h (rim M f) → HasHalf M h × (cycle_of M h ≡ rim M f)
+rim_item M sound f h i =
+    let stands = in-holds h (content M (outer M f)) i in
+    (sound.only_edges h (outer M f) stands, ap (λ q. items_of (content M q)) (sound.one_loop h (outer M f) stands))
+
+pub rim_held : (c : LoopContent) (h : ℕ) → IsIn h (items_of c) → is_lone c ≡ false
+rim_held (lone v) h i = absurd (omega (arith, i))
+rim_held (cycle hs) h i = refl
 
 -- so is the edge of the first of some
 pub first_there : (M : Model) (hs : List HalfEdge) (d : HalfEdge) → 1 ≤ length hs → AreThere M (map code hs) → HasHalf M (code (slice_index_or hs 0 d))
