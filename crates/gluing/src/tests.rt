@@ -10,8 +10,8 @@ use sweeps::{block, lamina};
 use undo_journal::{Failure, Session};
 
 /// What a command was refused for. Its memory wasn't refused.
-fn refused_by(rt: &impl Abort, result: Result<(), Failure>) -> Option<Refusal> {
-    match result {
+fn refused_by(rt: &impl Abort, answer: Result<(), Failure>) -> Option<Refusal> {
+    match answer {
         Ok(()) => None,
         Err(Failure::Refused(refusal)) => Some(refusal),
         Err(Failure::Memory(_)) => {
