@@ -1,17 +1,28 @@
 -- A walk round a face's outer loop to the one half-edge that starts at a point.
-use Rattle.std.proofs.Common.{◌≡◌, ◌≢◌, ℕ, ◌<◌, false, ◌∷◌, length, sym, ap, ◌∙◌, subst, arith}
+use Rattle.std.proofs.Common.{◌≡◌, ◌≢◌, ℕ, ◌<◌, false, ◌∷◌, length, refl, sym, ap, ◌∙◌, subst, arith}
 use Rattle.lattice.specs.declared.Point.{Point}
 use Rattle.cyclic_list.specs.Items.{IsIn}
 use Rattle.cyclic_list.proofs.Rings.{IsIn_successor}
-use Rattle.boundary_model.specs.Model.{Model, cycle_of, loop_of}
+use Rattle.boundary_model.specs.Model.{Model, LoopContent, lone, cycle, items_of, content, outer, cycle_of, loop_of}
 use Rattle.boundary_model.specs.Model as model
 use Rattle.boundary_model.specs.Sound.{Sound, HasHalf}
+use Rattle.boundary_model.proofs.Models.{in-holds}
+use Rattle.euler_operators.specs.Conditions.{is_lone}
 use Rattle.shapes.specs.Faces.{start}
 use Rattle.glue_shapes.specs.Glue.{rim, outline, has_repeats}
 use Rattle.glue_shapes.proofs.Points.{once}
 use Rattle.face_walks.proofs.CycleWalks.{to_come, item_there, item_in, next_item, goes_on}
 use Rattle.gluing.specs.Rims.{item_at}
-use Rattle.gluing.proofs.Halves.{rim_item}
+
+-- an item of a face's outer loop, which isn't lone then
+rim_item : (M : Model) → Sound M → (f h : ℕ) → IsIn h (rim M f) → HasHalf M h × (cycle_of M h ≡ rim M f)
+rim_item M sound f h i =
+    let stands = in-holds h (content M (outer M f)) i in
+    (sound.only_edges h (outer M f) stands, ap (λ q. items_of (content M q)) (sound.one_loop h (outer M f) stands))
+
+pub rim_held : (c : LoopContent) (h : ℕ) → IsIn h (items_of c) → is_lone c ≡ false
+rim_held (lone v) h i = absurd (omega (arith, i))
+rim_held (cycle hs) h i = refl
 
 module _ (M : Model) (sound : Sound M) (g : ℕ) (point : Point) (inside : IsIn (item_at M g point) (rim M g)) where
   abbrev y : ℕ

@@ -5,8 +5,8 @@ ghost use Rattle.euler_conditions.specs.Ready.{IsReady};
 ghost use Rattle.undo_journal.specs.Machine.{held, accepted};
 ghost use Rattle.glue_shapes.specs.Glue.{glue_refusal, glue_model};
 
-use crate::checks::check_glue;
 use crate::joining::join;
+use glue_checks::check_glue;
 use halfedge_arena::Arena;
 use std::alloc::Global;
 use undo_journal::{Draft, Failure, Session};

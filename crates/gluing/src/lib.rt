@@ -1,14 +1,11 @@
-//! Gluing: two solids become one along a face of each. `check_glue` tests the conditions, `glue` is the command.
+//! Gluing: two solids become one along a face of each, as one command.
 #![tactic(auto)]
 
-mod checks;
 mod command;
 mod joining;
-mod outlines;
 mod rims;
 mod steps;
 #[cfg(test)]
 mod tests;
 
-pub use checks::check_glue;
 pub use command::glue;

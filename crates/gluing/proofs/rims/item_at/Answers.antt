@@ -5,8 +5,7 @@ use Rattle.boundary_model.specs.Model.{content, outer, point_of}
 use Rattle.boundary_model.specs.Sound.{Has}
 use Rattle.glue_shapes.proofs.Points.{is_same, same_is}
 use Rattle.gluing.specs.Rims.{item_at}
-use Rattle.gluing.proofs.Halves.{rim_held}
-use Rattle.gluing.proofs.Found.{walk_begins, walked_there, walk_stays, walk_finds, walk_nears}
+use Rattle.gluing.proofs.Found.{rim_held, walk_begins, walked_there, walk_stays, walk_finds, walk_nears}
 use Rattle.gluing.proofs.rims.item_at.Goals as goal
 
 -- the test for equal points, as the code has it
