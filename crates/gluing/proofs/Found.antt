@@ -1,5 +1,5 @@
 -- A walk round a face's outer loop to the one half-edge that starts at a point.
-use Rattle.std.proofs.Common.{◌≡◌, ◌≢◌, ℕ, ◌<◌, false, ◌∷◌, length, refl, sym, ap, ◌∙◌, subst, arith}
+use Rattle.std.proofs.Common.{◌≡◌, ◌≢◌, ℕ, ◌<◌, false, length, refl, sym, ap, ◌∙◌, subst, arith}
 use Rattle.lattice.specs.declared.Point.{Point}
 use Rattle.cyclic_list.specs.Items.{IsIn}
 use Rattle.cyclic_list.proofs.Rings.{IsIn_successor}

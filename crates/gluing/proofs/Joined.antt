@@ -1,8 +1,8 @@
 -- Two faces that are being glued: the items that are left, what stands beside the next one, and what its steps make.
-use Rattle.std.proofs.Common.{◌≡◌, ◌≢◌, ℕ, ◌≤◌, ◌<◌, List, [], ◌∷◌, ◌++◌, length, None, refl, sym, ap, ◌∙◌, subst, arith}
+use Rattle.std.proofs.Common.{◌≡◌, ◌≢◌, ℕ, ◌<◌, List, [], ◌∷◌, ◌++◌, length, None, refl, sym, ap, ◌∙◌, subst, arith}
 use Rattle.std.specs.Prelude.{map, reverse}
 use Rattle.std.proofs.lemmas.List.{append_assoc, length-append, length-map, length-reverse}
-use Rattle.cyclic_list.specs.Items.{count, IsIn, IsApart, head_or, last_or}
+use Rattle.cyclic_list.specs.Items.{IsIn, IsApart, head_or, last_or}
 use Rattle.cyclic_list.specs.Rings.{canonical, successor, predecessor}
 use Rattle.cyclic_list.proofs.Lists.{count-append, tick_same}
 use Rattle.cyclic_list.proofs.Rotations.{canonical-rotates, length-canonical}

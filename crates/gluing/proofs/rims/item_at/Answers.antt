@@ -1,5 +1,4 @@
 use Rattle.std.proofs.Common.{◌≡◌, ◌∙◌, Bool, true, false, ◌&&◌, int_eq, refl, ap, sym, subst, true≢false}
-use Rattle.lattice.specs.Vectors.{same_point}
 use Rattle.boundary_model.specs.HalfEdge.{code}
 use Rattle.boundary_model.specs.Model.{content, outer, point_of}
 use Rattle.boundary_model.specs.Sound.{Has}
