@@ -1,3 +1,1 @@
 pub mod Rims
-pub mod Places
-pub mod Conditions

@@ -1,8 +1,11 @@
-//! Gluing: whether two solids can become one along a face of each.
+//! Gluing: two solids become one along a face of each, as one command.
 #![tactic(auto)]
 
-mod checks;
-mod outlines;
+mod command;
+mod joining;
 mod rims;
+mod steps;
+#[cfg(test)]
+mod tests;
 
-pub use checks::check_glue;
+pub use command::glue;

@@ -1,0 +1,5 @@
+pub mod Points
+pub mod Turns
+pub mod Conditions
+pub mod Halves
+pub mod Keys

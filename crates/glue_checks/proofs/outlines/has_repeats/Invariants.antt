@@ -1,0 +1,11 @@
+use Rattle.std.proofs.Common.{◌≡◌, ◌||◌, length}
+use Rattle.std.specs.List.{list_any}
+use Rattle.glue_shapes.specs.Glue.{has_repeats}
+use Rattle.glue_checks.proofs.Keys.{is_met}
+use Rattle.glue_checks.proofs.outlines.has_repeats.Given as goal
+
+abbrev pub invariant-points : goal.invariant-points
+invariant-points l = has_repeats l.points ≡ list_any (is_met l.met) l.rest || has_repeats l.rest
+
+abbrev pub decreases-points : goal.decreases-points
+decreases-points l = length l.rest

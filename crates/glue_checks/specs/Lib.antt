@@ -1,0 +1,3 @@
+pub mod Rims
+pub mod Places
+pub mod Conditions

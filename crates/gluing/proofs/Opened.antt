@@ -1,0 +1,153 @@
+-- Before two faces are glued: the first item of the one, and the half-edge of the other that starts where it does. And what opens
+-- the seam.
+use Rattle.std.proofs.Common.{◌≡◌, ◌≢◌, ℕ, ◌≤◌, Bool, true, false, cond, List, [], ◌∷◌, ◌++◌, refl, sym, ap, ◌∙◌, subst, None, arith, true≢false}
+use Rattle.std.proofs.lemmas.Bool.Decides.{nat_tests}
+use Rattle.lattice.specs.declared.Point.{Point}
+use Rattle.lattice.specs.Vectors.{same_point}
+use Rattle.cyclic_list.specs.Items.{IsIn, head_or, last_or}
+use Rattle.cyclic_list.proofs.Rings.{last_or_push}
+use Rattle.boundary_model.specs.HalfEdge.{edge_of}
+use Rattle.boundary_model.specs.Model.{Model, items_of, content, outer, point_of, is_number}
+use Rattle.boundary_model.specs.Sound.{Sound, Has, HasHalf}
+use Rattle.euler_operators.specs.Conditions.{is_lone}
+use Rattle.euler_operators.specs.declared.Op.{Op}
+use Rattle.euler_laws.specs.Laws.{effects, AreAccepted}
+use Rattle.euler_laws.proofs.Runs.{effects_keep_sound}
+use Rattle.euler_laws_shared.proofs.Goes.{all_hold, not_true}
+use Rattle.shapes.specs.Faces.{start, finish}
+use Rattle.shapes.specs.Fresh.{first_such}
+use Rattle.glue_shapes.specs.Glue.{rim, outline, partner, has_repeats, glue_conditions, glue_refusal}
+use Rattle.glue_shapes.specs.GlueOps.{fresh_edge, opening}
+use Rattle.glue_shapes.specs.Part.{glued_part}
+use Rattle.glue_shapes.proofs.Facing as facing
+use Rattle.glue_shapes.proofs.Facing.{Facing}
+use Rattle.glue_shapes.proofs.Facts as facts
+use Rattle.glue_shapes.proofs.Points.{same_is}
+use Rattle.glue_laws.proofs.Opening.{opening_accepted, opening_is}
+use Rattle.glue_laws.proofs.Whole.{last_in}
+use Rattle.gluing.specs.Rims.{item_at}
+use Rattle.gluing.proofs.Joined.{Joining}
+
+-- a number that a search finds passes its test
+such_passes : (test : ℕ → Bool) (ns : List ℕ) → first_such test ns ≢ 0 → test (first_such test ns) ≡ true
+such_passes test [] some = absurd (some refl)
+such_passes test (n ∷ ns) some = elim (test n) as (λ b. test n ≡ b → cond b n (first_such test ns) ≢ 0 → test (cond b n (first_such test ns)) ≡ true) [
+  | true ↦ λ e _. e
+  | false ↦ λ _ more. such_passes test ns more
+] refl some
+
+number_fits : (n : ℕ) → is_number n ≡ true → n ≤ 1000000
+number_fits n e = grind (arith, nat_tests)
+
+-- no half-edge has the code 0
+never_zero : (M : Model) → Sound M → (h : ℕ) → HasHalf M h → h ≢ 0
+unfolding edge_of
+never_zero M sound h there z = true≢false (sym (sound.edges_fit (edge_of h) there) ∙ ap (λ k. is_number (edge_of k)) z)
+
+module _ (M : Model) (f g : ℕ) (sound : Sound M) (accepted : glue_refusal M f g ≡ None) where
+  abbrev hs : List ℕ
+  hs = rim M f
+
+  abbrev p : ℕ → ℕ
+  p = partner M (rim M g)
+
+  w : Facing M f g p hs (fresh_edge M)
+  w = facts.facing M f g sound accepted
+
+  pub first_there : Has M.faces f
+  first_there = w.f_there
+
+  pub second_there : Has M.faces g
+  second_there = w.g_there
+
+  pub edge_left : fresh_edge M ≤ 1000000
+  edge_left = number_fits (fresh_edge M) w.edge_fits
+
+  pub first_held : is_lone (content M (outer M f)) ≡ false
+  first_held = ap is_lone (facing.content_f M f g p hs (fresh_edge M) w)
+
+  pub points_apart : has_repeats (outline M g) ≡ false
+  unfolding glue_conditions
+  points_apart = not_true _ (all_hold (glue_conditions M f g) accepted).1.1.1.1.1.1.1.1.1.1.0
+
+  shape : (h : ℕ) × (mid : List ℕ) × (last : ℕ) × (hs ≡ h ∷ (mid ++ last ∷ []))
+  shape = facts.shape M f g sound accepted
+
+  abbrev last : ℕ
+  last = last_or 0 hs
+
+  last_there : IsIn last hs
+  last_there = subst (λ q. IsIn (last_or 0 q) q) (sym shape.3) (last_in shape.0 (shape.1 ++ shape.2 ∷ []))
+
+  last_is : last ≡ shape.2
+  last_is = ap (last_or 0) shape.3 ∙ last_or_push shape.0 shape.2 shape.1
+
+  -- the last item ends where the first one starts
+  ends : start M (head_or 0 hs) ≡ finish M last
+  ends = ap (λ q. start M (head_or 0 q)) shape.3 ∙ ap (point_of M) (facing.meets_round M f g p hs (fresh_edge M) w shape.0 shape.1 shape.2 shape.3) ∙ ap (finish M) (sym last_is)
+
+  partner_in : IsIn (p last) (rim M g)
+  partner_in = subst (IsIn (p last)) (sym (ap items_of (facing.content_g M f g p hs (fresh_edge M) w))) (facing.partner_in M f g p hs (fresh_edge M) w last last_there)
+
+  partner_starts : start M (p last) ≡ finish M last
+  partner_starts = same_is (start M (p last)) (finish M last)
+      (such_passes (λ k. same_point (start M k) (finish M last)) (rim M g) (never_zero M sound (p last) (facing.half_g M f g p hs (fresh_edge M) w last last_there)))
+
+  module _ (point : Point) (at : point ≡ start M (head_or 0 hs)) where
+    -- the partner of the last item starts there
+    pub across_is : item_at M g point ≡ p last
+    across_is = ap (item_at M g) (at ∙ ends)
+
+    pub across_in : IsIn (item_at M g point) (rim M g)
+    across_in = subst (λ k. IsIn k (rim M g)) (sym across_is) partner_in
+
+    pub across_starts : start M (item_at M g point) ≡ point
+    across_starts = ap (start M) across_is ∙ partner_starts ∙ sym (at ∙ ends)
+
+  -- ---- as the seam is opened
+
+  abbrev all : List ℕ
+  all = shape.0 ∷ (shape.1 ++ shape.2 ∷ [])
+
+  abbrev first_ops : ℕ → ℕ → List Op
+  first_ops h k = opening M f g h (p k) (fresh_edge M)
+
+  w_all : Facing M f g p all (fresh_edge M)
+  w_all = subst (λ q. Facing M f g p q (fresh_edge M)) shape.3 w
+
+  goes : AreAccepted M (first_ops shape.0 shape.2)
+  goes = opening_accepted M f g p shape.0 shape.1 shape.2 (fresh_edge M) w_all
+
+  makes : effects M (first_ops shape.0 shape.2) ≡ glued_part M f g p shape.2 [] all
+  makes = opening_is M f g p shape.0 shape.1 shape.2 (fresh_edge M) w_all
+
+  made : effects M (first_ops shape.0 shape.2) ≡ glued_part M f g p (last_or shape.0 (shape.1 ++ shape.2 ∷ [])) [] all
+  made = makes ∙ ap (λ n. glued_part M f g p n [] all) (sym (last_or_push shape.0 shape.2 shape.1))
+
+  begins : Joining M f g (effects M (first_ops shape.0 shape.2)) shape.0
+  begins = record {
+    done = [];
+    later = shape.1 ++ shape.2 ∷ [];
+    stage = record {
+      facing = w;
+      split = shape.3;
+      last_in = last_in shape.0 (shape.1 ++ shape.2 ∷ []);
+      sound = subst Sound made (effects_keep_sound M (first_ops shape.0 shape.2) sound goes);
+    };
+    model = made;
+  }
+
+  module _ (h k e : ℕ) (first : h ≡ head_or 0 hs) (across : k ≡ p last) (edge : e ≡ fresh_edge M) where
+    h_is : h ≡ shape.0
+    h_is = first ∙ ap (head_or 0) shape.3
+
+    ops_are : opening M f g h k e ≡ first_ops shape.0 shape.2
+    ops_are = λ i. opening M f g (h_is i) ((across ∙ ap p last_is) i) (edge i)
+
+    -- no operator of the opening is refused
+    pub opening_goes : AreAccepted M (opening M f g h k e)
+    opening_goes = subst (AreAccepted M) (sym ops_are) goes
+
+    -- and then all items are left
+    pub opening_makes : (K : Model) → K ≡ effects M (opening M f g h k e) → Joining M f g K h
+    opening_makes K is = subst (λ Y. Joining M f g Y h) (sym (is ∙ ap (effects M) ops_are)) (subst (Joining M f g (effects M (first_ops shape.0 shape.2))) (sym h_is) begins)

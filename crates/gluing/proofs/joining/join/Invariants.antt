@@ -1,0 +1,14 @@
+use Rattle.std.proofs.Common.{◌≡◌, length}
+use Rattle.boundary_model.specs.HalfEdge.{code}
+use Rattle.boundary_model.specs.Model.{cycle_of}
+use Rattle.gluing.proofs.Joined.{Joining}
+use Rattle.gluing.proofs.joining.join.Given as goal
+
+abbrev pub invariant-items : goal.invariant-items
+invariant-items l = record {
+  joining : Joining l.fn.draft.model l.f l.g l.draft.model (code l.item);
+  session : l.draft.session ≡ l.fn.draft.session;
+}
+
+abbrev pub decreases-items : goal.decreases-items
+decreases-items l = length (cycle_of l.draft.model (code l.item))

@@ -1,0 +1,13 @@
+use Rattle.std.proofs.Common.{length}
+use Rattle.cyclic_list.specs.Items.{IsIn}
+use Rattle.boundary_model.specs.HalfEdge.{code}
+use Rattle.boundary_model.specs.Model.{cycle_of}
+use Rattle.face_walks.proofs.CycleWalks.{to_come}
+use Rattle.gluing.specs.Rims.{item_at}
+use Rattle.gluing.proofs.rims.item_at.Given as goal
+
+abbrev pub invariant-round : goal.invariant-round
+invariant-round l = IsIn (code l.at) (cycle_of l.arena.model (item_at l.arena.model l.g l.point))
+
+abbrev pub decreases-round : goal.decreases-round
+decreases-round l = length (to_come (item_at l.arena.model l.g l.point) (cycle_of l.arena.model (item_at l.arena.model l.g l.point)) (code l.at))

@@ -1,0 +1,145 @@
+//! Two faces glued operator by operator in a draft.
+ghost use Rattle.std.specs.Prelude.{◌≡◌, ◌≤◌, true, None, OnOk, OnErr};
+ghost use Rattle.boundary_model.specs.HalfEdge as half_edge;
+ghost use Rattle.boundary_model.specs.HalfEdge.{code, half};
+ghost use Rattle.boundary_model.specs.Model.{after, before, has_half, outer};
+ghost use Rattle.boundary_model.specs.Sound.{Has};
+ghost use Rattle.euler_conditions.specs.Ready.{IsReady};
+ghost use Rattle.euler_laws.specs.Laws.{AreAccepted, effects};
+ghost use Rattle.halfedge_arena.specs.Store.{has_number};
+ghost use Rattle.glue_shapes.specs.Glue.{glue_model, glue_refusal};
+ghost use Rattle.glue_shapes.specs.GlueOps.{closing, fresh_edge, opening};
+
+use crate::rims::{first_item, item_at};
+use crate::steps::take;
+use euler_conditions::Op;
+use halfedge_arena::{Arena, Corner, HalfEdge, Kind};
+use std::alloc::AllocError;
+use undo_journal::Draft;
+
+/// The edge, the face and the loop that each closing makes, and kills again.
+#[derive(Clone, Copy)]
+struct Spare {
+    edge: u32,
+    face: u32,
+    ring: u32,
+}
+
+/// The first half-edge of an edge.
+fn plus(edge: u32) -> HalfEdge
+    ensures { result ≡ half (half_edge.plus edge) }
+{
+    HalfEdge { edge, first: true }
+}
+
+/// The second half-edge of an edge.
+fn minus(edge: u32) -> HalfEdge
+    ensures { result ≡ half (half_edge.minus edge) }
+{
+    HalfEdge { edge, first: false }
+}
+
+/// The first edge number after those in use.
+fn fresh_edge(arena: &Arena) -> u32
+    requires { fresh_edge arena.now.model ≤ 1000000 }
+    ensures { result ≡ fresh_edge arena.now.model }
+{
+    arena.greatest(Kind::Edge) + 1
+}
+
+/// The spare numbers of a glue of face g: the one fresh edge, and those of g and its outer loop, which go first.
+fn spare_of(arena: &Arena, g: u32) -> Spare
+    requires there { has_number arena.now Kind.Face g ≡ true }
+    requires left { fresh_edge arena.now.model ≤ 1000000 }
+    ensures edge { result.edge ≡ fresh_edge arena.now.model }
+    ensures face { result.face ≡ g }
+    ensures ring { result.ring ≡ outer arena.now.model g }
+{
+    Spare {
+        edge: fresh_edge(arena),
+        face: g,
+        ring: arena.outer(g),
+    }
+}
+
+/// The items before and after a half-edge in its loop.
+fn neighbours(arena: &Arena, item: HalfEdge) -> (HalfEdge, HalfEdge)
+    requires ready { IsReady arena.now }
+    requires there { has_half arena.now.model (code item) ≡ true }
+    ensures previous { code result.0 ≡ before arena.now.model (code item) }
+    ensures next { code result.1 ≡ after arena.now.model (code item) }
+{
+    (arena.prev(item), arena.next(item))
+}
+
+/// Makes the two solids one, and the outer loops of the two faces one loop: `partner`, of face g, comes before `first`, of face f.
+fn open_seam(
+    draft: &mut Draft,
+    f: u32,
+    g: u32,
+    first: HalfEdge,
+    partner: HalfEdge,
+    edge: u32,
+) -> Result<(), AllocError>
+    requires first_there { Has draft.old.model.faces f }
+    requires second_there { Has draft.old.model.faces g }
+    requires accepted { AreAccepted draft.old.model (opening draft.old.model f g (code first) (code partner) edge) }
+    ensures ok { OnOk result (draft.new ≡ record draft.old { model = effects draft.old.model (opening draft.old.model f g (code first) (code partner) edge) }) }
+    ensures err { OnErr result (draft.new.session ≡ draft.old.session) }
+{
+    let solid = draft.arena().solid_of(f);
+    let other = draft.arena().solid_of(g);
+    take(draft, Op::Merge(solid, other))?;
+    take(draft, Op::Kfmrh(f, g))?;
+    take(
+        draft,
+        Op::Mekr(Corner::At(first), Corner::At(partner), plus(edge)),
+    )?;
+    take(draft, Op::Kev(plus(edge)))
+}
+
+/// Glues the item between its partner and the next item: both get a loop of their own, then their ends become one, and then the
+/// partner's edge goes.
+fn close_item(
+    draft: &mut Draft,
+    partner: HalfEdge,
+    next: HalfEdge,
+    spare: Spare,
+) -> Result<(), AllocError>
+    requires { AreAccepted draft.old.model (closing (code partner) (code next) spare.edge spare.face spare.ring) }
+    ensures ok { OnOk result (draft.new ≡ record draft.old { model = effects draft.old.model (closing (code partner) (code next) spare.edge spare.face spare.ring) }) }
+    ensures err { OnErr result (draft.new.session ≡ draft.old.session) }
+{
+    take(
+        draft,
+        Op::Mef(partner, next, plus(spare.edge), spare.face, spare.ring),
+    )?;
+    take(draft, Op::Kev(minus(spare.edge)))?;
+    take(draft, Op::Kef(partner.mate()))
+}
+
+/// Glues face g of the draft's model to face f, where that isn't refused. On `AllocError` the draft may have taken some steps.
+///
+/// Once the seam is open it holds the items that aren't glued yet and, back along them, their partners: the partner of the first
+/// one comes before it.
+pub(crate) fn join(draft: &mut Draft, f: u32, g: u32) -> Result<(), AllocError>
+    requires { glue_refusal draft.old.model f g ≡ None }
+    ensures ok { OnOk result (draft.new ≡ record draft.old { model = glue_model draft.old.model f g }) }
+    ensures err { OnErr result (draft.new.session ≡ draft.old.session) }
+{
+    let arena = draft.arena();
+    let spare = spare_of(arena, g);
+    let first = first_item(arena, f);
+    let start = arena.point(arena.tail(first));
+    let across = item_at(arena, g, start);
+    open_seam(draft, f, g, first, across, spare.edge)?;
+    let mut item = first;
+    'items: loop {
+        let (partner, next) = neighbours(draft.arena(), item);
+        if next == partner {
+            return take(draft, Op::Kef(partner.mate()));
+        }
+        close_item(draft, partner, next, spare)?;
+        item = next;
+    }
+}
