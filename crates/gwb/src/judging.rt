@@ -182,13 +182,17 @@ fn obey(session: &mut Session, command: Command, later: &mut Option<Larger>) -> 
             *later = Some(Larger::Sweep(face, way));
             None
         }
+        Command::Glue(face, other) => {
+            *later = Some(Larger::Glue(face, other));
+            None
+        }
         Command::Plane(face) => Some(told(plane_reply(session.arena(), face))),
         Command::Volume(solid) => Some(told(volume_reply(session.arena(), solid))),
         Command::Count(solid) => Some(told(count_reply(session.arena(), solid))),
         Command::Undo => Some(undo(session)),
         Command::Redo => Some(redo(session)),
         Command::List => Some(Answer::Listing),
-        Command::Glue(_, _) | Command::Split(_, _, _) => Some(unknown()),
+        Command::Split(_, _, _) => Some(unknown()),
     }
 }
 
