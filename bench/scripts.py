@@ -5,6 +5,7 @@
     chain      a solid that grows by an edge a line
     undone     such a chain in the first half; then each command undone and half of them redone
     blocks     blocks made by operators, 13 lines each
+    glued      two blocks made and glued, and all three undone, 6 lines each
 """
 import sys
 
@@ -52,7 +53,13 @@ def blocks(n):
         yield ''
 
 
-FAMILIES = {'refusals': refusals, 'chain': chain, 'undone': undone, 'blocks': blocks}
+def glued(n):
+    lines = ['block 1 0 0 0 4 4 4', 'block 2 0 0 4 4 4 4', 'glue 1 8', 'undo', 'undo', 'undo']
+    for k in range(n):
+        yield lines[k % 6]
+
+
+FAMILIES = {'refusals': refusals, 'chain': chain, 'undone': undone, 'blocks': blocks, 'glued': glued}
 
 
 def text(family, lines):

@@ -25,6 +25,8 @@ SCRIPTS = {
     'block': 'block 1 0 0 0 4 4 4;undo;redo;count 1;list',
     'sweep with a ring': 'lamina 1 0 0 0 9 0 0 9 9 0 0 9 0;mev +1 +1 5 5 3 3 0;kemr +5 3;mev @3 @3 5 6 3 6 0;mev -5 -5 6 7 6 6 0;mef -6 +5 7 3 4;'
                          'sweep 1 0 0 4;volume 1;undo;sweep 1 0 0 5;list',
+    'glued blocks': 'block 1 0 0 0 4 4 4;block 2 0 0 4 4 4 4;glue 1 8;count 1;volume 1;list',
+    'glued and undone': 'block 1 0 0 0 4 4 4;block 2 0 0 4 4 4 4;glue 1 8;undo;undo;undo;list',
     'redo behind a refusal': 'mvfs 1 1 1 1 0 0 0;mev @1 @1 1 2 5 0 0;undo;mvfs 9 9 9 9 0 0 0;undo;kvfs 1;undo;list',
 }
 

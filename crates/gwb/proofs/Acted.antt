@@ -6,7 +6,7 @@ use Rattle.undo_journal.specs.Machine.{Machine}
 use Rattle.undo_journal.specs.declared.session.Failure.{Failure}
 use Rattle.undo_journal.specs.declared.session.Failure.TheVariants as failure
 use Rattle.solid_listing.specs.declared.reply.Reply.TheVariants as reply
-use Rattle.gwb.specs.Judging.{Acts, refused, outcome}
+use Rattle.gwb.specs.Judging.{Acts, Tries, refused, outcome}
 use Rattle.gwb.specs.declared.judging.Answer.{Answer}
 use Rattle.gwb.specs.declared.judging.Answer.TheVariants.{Reply as Told}
 
@@ -24,6 +24,13 @@ acts o s acted (Err (failure.Memory e)) t ok iff err = told_memory o s acted t (
 pub acts_told : (o : Option Refusal) (s acted : Machine) (ended : Result (Unit {0}) Failure) (t : Machine) (a : Answer) → a ≡ outcome ended → OnOk ended ((o ≡ None) × (t ≡ acted))
     → ((r : Refusal) → (ended ≡ Err (failure.Refused r)) ↔ (o ≡ Some r)) → OnErr ended (t ≡ s) → Acts o s acted a t
 acts_told o s acted ended t a is ok iff err = subst (λ (b : Answer). Acts o s acted b t) (sym is) (acts o s acted ended t ok iff err)
+
+-- where a refusal names a false condition, and memory may have been refused before the conditions were tested
+pub tries : (o : Option Refusal) (s acted : Machine) (ended : Result (Unit {0}) Failure) (t : Machine) → OnOk ended ((o ≡ None) × (t ≡ acted))
+    → ((r : Refusal) → ended ≡ Err (failure.Refused r) → o ≡ Some r) → OnErr ended (t ≡ s) → Tries o s acted (outcome ended) t
+tries o s acted (Ok _) t ok told err = inl (subst (λ (q : Option Refusal). Acts q s acted (outcome (Ok tt)) t) (sym ok.0) (inl (refl, ok.1)))
+tries o s acted (Err (failure.Refused r)) t ok told err = inl (subst (λ (q : Option Refusal). Acts q s acted (refused r) t) (sym (told r refl)) (refl, err))
+tries o s acted (Err (failure.Memory e)) t ok told err = inr (refl, err)
 
 -- a fact about sizes as the code keeps them is one about the sizes
 pub of_sizes : (P : ℤ → ℤ → ℤ → Type 0) (a b g x y z : ℤ) → a ≡ x → b ≡ y → g ≡ z → P a b g → P x y z

@@ -6,6 +6,7 @@ use Rattle.boundary_model.specs.Model.{Model}
 use Rattle.shapes.specs.Lamina.{lamina_refusal, lamina_model}
 use Rattle.shapes.specs.Block.{block_refusal, block_model}
 use Rattle.shapes.specs.Prism.{prism_refusal, prism_model}
+use Rattle.glue_shapes.specs.Glue.{glue_refusal, glue_model}
 use Rattle.solid_counts.specs.declared.Tally.{Tally}
 use Rattle.solid_measure.specs.Measure.{answer, face_refusal, solid_refusal, plane_of, is_flat, six_volume, counts}
 use Rattle.undo_journal.specs.Machine.{Machine, held, accepted, act, act_refusal, undo, undo_refusal, redo, redo_refusal}
@@ -46,6 +47,10 @@ abbrev pub Acts : Option Refusal → Machine → Machine → Answer → Machine 
 Acts None s acted a t = ((a ≡ done) × (t ≡ acted)) ⊎ ((a ≡ Told reply.Memory) × (t ≡ s))
 Acts (Some r) s acted a t = (a ≡ refused r) × (t ≡ s)
 
+-- a command whose tests take memory may be told that it was refused, whatever its conditions are
+abbrev pub Tries : Option Refusal → Machine → Machine → Answer → Machine → Type 0
+Tries o s acted a t = Acts o s acted a t ⊎ ((a ≡ Told reply.Memory) × (t ≡ s))
+
 -- a command word that isn't known
 abbrev pub Unknown : Machine → Answer → Machine → Type 0
 Unknown s a t = (a ≡ Told (reply.Fault 1)) × (t ≡ s)
@@ -76,7 +81,7 @@ Obeys s (command.Act op) a t = Acts (act_refusal s op) s (act s op) a t
 Obeys s (command.Lamina n ps) a t = Acts (lamina_refusal (held s) n ps) s (accepted s (lamina_model (held s) n ps)) a t
 Obeys s (command.Block n p dx dy dz) a t = Acts (block_refusal (held s) n p dx dy dz) s (accepted s (block_model (held s) n p dx dy dz)) a t
 Obeys s (command.Sweep f d) a t = Acts (prism_refusal (held s) f d) s (accepted s (prism_model (held s) f d)) a t
-Obeys s (command.Glue f g) a t = Unknown s a t
+Obeys s (command.Glue f g) a t = Tries (glue_refusal (held s) f g) s (accepted s (glue_model (held s) f g)) a t
 Obeys s (command.Split n plane m) a t = Unknown s a t
 Obeys s (command.Plane f) a t = (a ≡ told (plane_reply (held s) f)) × (t ≡ s)
 Obeys s (command.Volume n) a t = (a ≡ told (volume_reply (held s) n)) × (t ≡ s)

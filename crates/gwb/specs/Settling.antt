@@ -14,6 +14,7 @@ abbrev pub spelled : Larger → Command
 spelled (larger.Lamina n ps) = command.Lamina n ps
 spelled (larger.Block n p dx dy dz) = command.Block n p dx dy dz
 spelled (larger.Sweep f d) = command.Sweep f d
+spelled (larger.Glue f g) = command.Glue f g
 
 -- a command is answered, or is a larger one that was put aside, and nothing has changed
 abbrev pub Settles : Machine → Command → Option Answer → Machine → Option Larger → Type 0

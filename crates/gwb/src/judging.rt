@@ -8,7 +8,7 @@ ghost use Rattle.undo_journal.specs.Machine as machine;
 use crate::larger::Larger;
 use euler_conditions::{Op, Refusal};
 use halfedge_arena::Arena;
-use script_reader::{Command, Fault, read_line};
+use script_reader::{Command, Fault, Short, read_line, read_short};
 use solid_listing::{Reply, WriteFault};
 use solid_measure::{counts, is_flat, plane, six_volume};
 use undo_journal::{Failure, Session};
@@ -182,17 +182,33 @@ fn obey(session: &mut Session, command: Command, later: &mut Option<Larger>) -> 
             *later = Some(Larger::Sweep(face, way));
             None
         }
+        Command::Glue(face, other) => {
+            *later = Some(Larger::Glue(face, other));
+            None
+        }
         Command::Plane(face) => Some(told(plane_reply(session.arena(), face))),
         Command::Volume(solid) => Some(told(volume_reply(session.arena(), solid))),
         Command::Count(solid) => Some(told(count_reply(session.arena(), solid))),
         Command::Undo => Some(undo(session)),
         Command::Redo => Some(redo(session)),
         Command::List => Some(Answer::Listing),
-        Command::Glue(_, _) | Command::Split(_, _, _) => Some(unknown()),
+        Command::Split(_, _, _) => Some(unknown()),
     }
 }
 
-/// Judges a line: its answer, or none where it spells a larger command, which is put in `later`.
+/// Judges a line by its command.
+#[inline(never)]
+fn judge_command(session: &mut Session, line: &[u8], later: &mut Option<Larger>) -> Option<Answer>
+    ensures { Decides session.old line.now result session.new later.new }
+{
+    match read_line(line) {
+        Ok(command) => obey(session, command, later),
+        Err(fault) => Some(Answer::Reply(Reply::Fault(fault.code()))),
+    }
+}
+
+/// Judges a line: its answer, or none where it spells a larger command, which is put in `later`. A blank line, a comment or an operator
+/// is answered without a command, which has room for a lamina's points and so costs more to make than most lines to answer.
 pub(crate) fn judge(
     session: &mut Session,
     line: &[u8],
@@ -200,8 +216,9 @@ pub(crate) fn judge(
 ) -> Option<Answer>
     ensures { Decides session.old line.now result session.new later.new }
 {
-    match read_line(line) {
-        Ok(command) => obey(session, command, later),
-        Err(fault) => Some(Answer::Reply(Reply::Fault(fault.code()))),
+    match read_short(line) {
+        Short::Nothing => Some(Answer::Silent),
+        Short::Act(op) => Some(act(session, op)),
+        Short::Other => judge_command(session, line, later),
     }
 }

@@ -3,11 +3,13 @@ ghost use Rattle.std.specs.Prelude.{◌≡◌};
 ghost use Rattle.shapes.specs.Lamina.{lamina_refusal, lamina_model};
 ghost use Rattle.shapes.specs.Block.{block_refusal, block_model};
 ghost use Rattle.shapes.specs.Prism.{prism_refusal, prism_model};
+ghost use Rattle.glue_shapes.specs.Glue.{glue_refusal, glue_model};
 ghost use Rattle.undo_journal.specs.Machine.{held, accepted};
-ghost use Rattle.gwb.specs.Judging.{Acts, Obeys};
+ghost use Rattle.gwb.specs.Judging.{Acts, Obeys, Tries};
 ghost use Rattle.gwb.specs.Settling.{spelled};
 
 use crate::judging::{Answer, outcome};
+use gluing::glue;
 use lattice::Point;
 use script_reader::Corners;
 use std::alloc::Global;
@@ -23,6 +25,8 @@ pub(crate) enum Larger {
     Block(u32, Point, i64, i64, i64),
     /// The face, and the vector by which it moves.
     Sweep(u32, Point),
+    /// The face of the solid that stays, and the face of the one that is glued to it.
+    Glue(u32, u32),
 }
 
 fn make_lamina(alloc: Global, session: Session, solid: u32, corners: &Corners) -> (Session, Answer)
@@ -55,6 +59,14 @@ fn make_sweep(alloc: Global, session: Session, face: u32, way: Point) -> (Sessio
     (session, outcome(ended))
 }
 
+#[tactic(auto, using(crate::proofs::Acted::tries))]
+fn make_glue(alloc: Global, session: Session, face: u32, other: u32) -> (Session, Answer)
+    ensures { Tries (glue_refusal (held session) face other) session (accepted session (glue_model (held session) face other)) result.1 result.0 }
+{
+    let (session, ended) = glue(alloc, session, face, other);
+    (session, outcome(ended))
+}
+
 /// Carries a larger command out.
 pub(crate) fn carry_out(alloc: Global, session: Session, larger: Larger) -> (Session, Answer)
     ensures { Obeys session (spelled larger) result.1 result.0 }
@@ -65,5 +77,6 @@ pub(crate) fn carry_out(alloc: Global, session: Session, larger: Larger) -> (Ses
             make_block(alloc, session, solid, corner, dx, dy, dz)
         }
         Larger::Sweep(face, way) => make_sweep(alloc, session, face, way),
+        Larger::Glue(face, other) => make_glue(alloc, session, face, other),
     }
 }

@@ -1,5 +1,6 @@
 //! Worked scripts over memory.
 mod examples;
+mod glues;
 mod hostile;
 mod program;
 mod solids;

@@ -7,5 +7,6 @@ pub mod Next
 pub mod Numbers
 pub mod Places
 pub mod Script
+pub mod Short
 pub mod State
 pub mod Words

@@ -1,22 +1,14 @@
 //! Reads the words after each command word.
 ghost use Rattle.std.specs.Prelude.{◌≡◌, []};
 ghost use Rattle.script_reader.specs.Words.{words};
-ghost use Rattle.script_reader.specs.Grammar.{plus, read_all, arguments};
+ghost use Rattle.script_reader.specs.Grammar.{read_all, arguments};
 ghost use Rattle.script_reader.specs.declared.name.Name.TheVariants as name;
 
 use super::command::{Command, Fault};
 use super::name::Name;
-use super::places::{Way, corner, half, in_or_out, number, point, points, whole};
+use super::operators::{kef, kemr, kev, kfmrh, kvfs, mef, mekr, mev, mfkrh, mvfs, ringmv};
+use super::places::{number, point, points, whole};
 use super::words::next_word;
-use boundary_model::HalfEdge;
-use euler_operators::Op;
-
-/// The half-edge with `+` of an edge, which is how a script gives a new edge.
-fn plus(edge: u32) -> HalfEdge
-    ensures { result ≡ plus edge }
-{
-    HalfEdge { edge, first: true }
-}
 
 /// The command, where no word is left over.
 fn finish(command: Command, rest: &[u8]) -> Result<Command, Fault>
@@ -26,126 +18,6 @@ fn finish(command: Command, rest: &[u8]) -> Result<Command, Fault>
         None => Ok(command),
         Some(_) => Err(Fault::ExtraWord),
     }
-}
-
-#[tactic(auto, unfolding(crate::specs::Grammar::arguments))]
-fn mvfs(line: &[u8]) -> Result<Command, Fault>
-    ensures { result ≡ arguments name.Mvfs (words line.now) }
-{
-    let (solid, rest) = number(line)?;
-    let (face, rest) = number(rest)?;
-    let (outer, rest) = number(rest)?;
-    let (vertex, rest) = number(rest)?;
-    let (place, rest) = point(rest)?;
-    finish(
-        Command::Act(Op::Mvfs(solid, face, outer, vertex, place)),
-        rest,
-    )
-}
-
-#[tactic(auto, unfolding(crate::specs::Grammar::arguments))]
-fn kvfs(line: &[u8]) -> Result<Command, Fault>
-    ensures { result ≡ arguments name.Kvfs (words line.now) }
-{
-    let (solid, rest) = number(line)?;
-    finish(Command::Act(Op::Kvfs(solid)), rest)
-}
-
-#[tactic(auto, unfolding(crate::specs::Grammar::arguments))]
-fn mev(line: &[u8]) -> Result<Command, Fault>
-    ensures { result ≡ arguments name.Mev (words line.now) }
-{
-    let (from, rest) = corner(line)?;
-    let (to, rest) = corner(rest)?;
-    let (edge, rest) = number(rest)?;
-    let (vertex, rest) = number(rest)?;
-    let (place, rest) = point(rest)?;
-    finish(
-        Command::Act(Op::Mev(from, to, plus(edge), vertex, place)),
-        rest,
-    )
-}
-
-#[tactic(auto, unfolding(crate::specs::Grammar::arguments))]
-fn kev(line: &[u8]) -> Result<Command, Fault>
-    ensures { result ≡ arguments name.Kev (words line.now) }
-{
-    let (half, rest) = half(line)?;
-    finish(Command::Act(Op::Kev(half)), rest)
-}
-
-#[tactic(auto, unfolding(crate::specs::Grammar::arguments))]
-fn mef(line: &[u8]) -> Result<Command, Fault>
-    ensures { result ≡ arguments name.Mef (words line.now) }
-{
-    let (from, rest) = half(line)?;
-    let (to, rest) = half(rest)?;
-    let (edge, rest) = number(rest)?;
-    let (face, rest) = number(rest)?;
-    let (outer, rest) = number(rest)?;
-    finish(
-        Command::Act(Op::Mef(from, to, plus(edge), face, outer)),
-        rest,
-    )
-}
-
-#[tactic(auto, unfolding(crate::specs::Grammar::arguments))]
-fn kef(line: &[u8]) -> Result<Command, Fault>
-    ensures { result ≡ arguments name.Kef (words line.now) }
-{
-    let (half, rest) = half(line)?;
-    finish(Command::Act(Op::Kef(half)), rest)
-}
-
-#[tactic(auto, unfolding(crate::specs::Grammar::arguments))]
-fn kemr(line: &[u8]) -> Result<Command, Fault>
-    ensures { result ≡ arguments name.Kemr (words line.now) }
-{
-    let (half, rest) = half(line)?;
-    let (ring, rest) = number(rest)?;
-    finish(Command::Act(Op::Kemr(half, ring)), rest)
-}
-
-#[tactic(auto, unfolding(crate::specs::Grammar::arguments))]
-fn mekr(line: &[u8]) -> Result<Command, Fault>
-    ensures { result ≡ arguments name.Mekr (words line.now) }
-{
-    let (from, rest) = corner(line)?;
-    let (to, rest) = corner(rest)?;
-    let (edge, rest) = number(rest)?;
-    finish(Command::Act(Op::Mekr(from, to, plus(edge))), rest)
-}
-
-#[tactic(auto, unfolding(crate::specs::Grammar::arguments))]
-fn kfmrh(line: &[u8]) -> Result<Command, Fault>
-    ensures { result ≡ arguments name.Kfmrh (words line.now) }
-{
-    let (kept, rest) = number(line)?;
-    let (killed, rest) = number(rest)?;
-    finish(Command::Act(Op::Kfmrh(kept, killed)), rest)
-}
-
-#[tactic(auto, unfolding(crate::specs::Grammar::arguments))]
-fn mfkrh(line: &[u8]) -> Result<Command, Fault>
-    ensures { result ≡ arguments name.Mfkrh (words line.now) }
-{
-    let (ring, rest) = number(line)?;
-    let (face, rest) = number(rest)?;
-    finish(Command::Act(Op::Mfkrh(ring, face)), rest)
-}
-
-#[tactic(auto, unfolding(crate::specs::Grammar::arguments))]
-fn ringmv(line: &[u8]) -> Result<Command, Fault>
-    ensures { result ≡ arguments name.Ringmv (words line.now) }
-{
-    let (ring, rest) = number(line)?;
-    let (face, rest) = number(rest)?;
-    let (way, rest) = in_or_out(rest)?;
-    let op = match way {
-        Way::In => Op::RingIn(ring, face),
-        Way::Out => Op::RingOut(ring, face),
-    };
-    finish(Command::Act(op), rest)
 }
 
 #[tactic(auto, unfolding(crate::specs::Grammar::arguments))]
@@ -250,17 +122,17 @@ pub fn arguments(name: Name, rest: &[u8]) -> Result<Command, Fault>
     ensures { result ≡ arguments name (words rest.now) }
 {
     match name {
-        Name::Mvfs => mvfs(rest),
-        Name::Kvfs => kvfs(rest),
-        Name::Mev => mev(rest),
-        Name::Kev => kev(rest),
-        Name::Mef => mef(rest),
-        Name::Kef => kef(rest),
-        Name::Kemr => kemr(rest),
-        Name::Mekr => mekr(rest),
-        Name::Kfmrh => kfmrh(rest),
-        Name::Mfkrh => mfkrh(rest),
-        Name::Ringmv => ringmv(rest),
+        Name::Mvfs => Ok(Command::Act(mvfs(rest)?)),
+        Name::Kvfs => Ok(Command::Act(kvfs(rest)?)),
+        Name::Mev => Ok(Command::Act(mev(rest)?)),
+        Name::Kev => Ok(Command::Act(kev(rest)?)),
+        Name::Mef => Ok(Command::Act(mef(rest)?)),
+        Name::Kef => Ok(Command::Act(kef(rest)?)),
+        Name::Kemr => Ok(Command::Act(kemr(rest)?)),
+        Name::Mekr => Ok(Command::Act(mekr(rest)?)),
+        Name::Kfmrh => Ok(Command::Act(kfmrh(rest)?)),
+        Name::Mfkrh => Ok(Command::Act(mfkrh(rest)?)),
+        Name::Ringmv => Ok(Command::Act(ringmv(rest)?)),
         Name::Lamina => lamina(rest),
         Name::Block => block(rest),
         Name::Sweep => sweep(rest),

@@ -8,11 +8,12 @@ mod line;
 mod lines;
 mod name;
 mod numbers;
+mod operators;
 mod places;
 mod words;
 
 pub use command::{Command, Corners, Fault};
-pub use line::read_line;
+pub use line::{Short, read_line, read_short};
 pub use lines::{Lines, NextLine};
 
 #[cfg(test)]

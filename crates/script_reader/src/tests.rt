@@ -1,5 +1,5 @@
 //! What no clause says: that a reading succeeds, and the answers to worked lines.
-use super::{Command, Fault, Lines, NextLine, read_line};
+use super::{Command, Fault, Lines, NextLine, Short, read_line, read_short};
 use std::alloc::{AllocError, Global};
 use std::io::{self, Read};
 use std::test::Fail;
@@ -131,4 +131,11 @@ fn points_of_a_lamina(rt: HostRuntime) {
         _ => 0,
     };
     assert_eq!(rt; count, 3);
+}
+
+#[test]
+fn short_lines(rt: HostRuntime) {
+    assert!(rt; matches!(read_short(b"# note"), Short::Nothing));
+    assert!(rt; matches!(read_short(b"kvfs 1"), Short::Act(_)));
+    assert!(rt; matches!(read_short(b"list"), Short::Other));
 }
