@@ -5,10 +5,9 @@ use Rattle.lattice.specs.Vectors.{height, are_opposite, is_on}
 use Rattle.cyclic_list.specs.Items.{count, IsIn}
 use Rattle.cyclic_list.proofs.Lists.{IsIn_or_not}
 use Rattle.boundary_model.specs.HalfEdge.{mate, edge_of, plus, minus}
-use Rattle.boundary_model.specs.Table as table
 use Rattle.boundary_model.specs.Model.{Model, tail, loop_of, face_of, after, before, point_of}
 use Rattle.boundary_model.specs.Sound.{Sound, Has, HasHalf}
-use Rattle.boundary_model.proofs.Halves.{plus_row, minus_row, edge_of-mate}
+use Rattle.boundary_model.proofs.Halves.{edge_of-mate}
 use Rattle.boundary_model.proofs.Models.{cycle_there}
 use Rattle.euler_operators.specs.Conditions.{face_at}
 use Rattle.euler_laws_shared.proofs.Arcs.{halves_of_edge}
