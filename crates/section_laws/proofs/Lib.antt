@@ -1,0 +1,4 @@
+pub mod Meets
+pub mod Changes
+pub mod Orbits
+pub mod Covers
