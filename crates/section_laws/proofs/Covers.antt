@@ -1,12 +1,12 @@
 -- The orbits of a function that permutes the items of a list, each from its least item on: each item stands in one of them.
-use Rattle.std.proofs.Common.{◌≡◌, ℕ, ◌+◌, ◌≤◌, Bool, true, nat_eq, List, [], ◌∷◌, length, refl, sym, ap, subst, ◌∙◌, arith, ◌⊎◌, inl, inr}
+use Rattle.std.proofs.Common.{◌≡◌, ℕ, Bool, true, nat_eq, List, [], ◌∷◌, refl, sym, ap, ◌∙◌, arith, inl, inr}
 use Rattle.std.specs.Prelude.{filter, flat_map}
 use Rattle.std.proofs.lemmas.Bool.Decides.{eqb_tells}
 use Rattle.cyclic_list.specs.Items.{tick, count, IsIn, SameItems, least}
 use Rattle.cyclic_list.proofs.Lists.{tick_same, tick_other, least_in, least_same, IsIn_or_not}
 use Rattle.euler_laws_shared.proofs.Goes.{equal, equals}
 use Rattle.section_laws.specs.Permuting.{Permutes}
-use Rattle.section_laws.proofs.Meets.{total, total_same, tick_turned, total_ticks, count_filter, filter_less, filter_passes, count_flat}
+use Rattle.section_laws.proofs.Meets.{total, total_same, total_ticks, count_filter, filter_less, filter_passes, count_flat}
 use Rattle.section_laws.proofs.Orbits.{around, around_apart, around_within, around_here, around_same, around_shared}
 
 module _ (next : ℕ → ℕ) (xs : List ℕ) (w : Permutes next xs) where

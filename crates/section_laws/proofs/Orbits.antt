@@ -2,12 +2,12 @@
 use Rattle.std.proofs.Common.{◌≡◌, ℕ, zero, suc, ◌+◌, ◌≤◌, List, [], ◌∷◌, ◌++◌, length, map, refl, sym, ap, subst, ◌∙◌, arith, inl, inr}
 use Rattle.std.proofs.lemmas.Bool.Decides.{eqb_tells}
 use Rattle.std.proofs.lemmas.List.{length-append}
-use Rattle.cyclic_list.specs.Items.{tick, count, IsIn, IsApart, SameItems, last_or, least}
+use Rattle.cyclic_list.specs.Items.{tick, count, IsIn, IsApart, SameItems, last_or}
 use Rattle.cyclic_list.specs.Rings.{IsPath, IsRing, orbit, rotate_to}
-use Rattle.cyclic_list.proofs.Lists.{tick_same, tick_other, count-append, least_in, least_same}
+use Rattle.cyclic_list.proofs.Lists.{tick_same, tick_other, count-append}
 use Rattle.cyclic_list.proofs.Rotations.{count-rotate_to}
 use Rattle.cyclic_list.proofs.Operators.{apart_back}
-use Rattle.cyclic_list.proofs.Maps.{KeepsApart, IsApart-map}
+use Rattle.cyclic_list.proofs.Maps.{IsApart-map}
 use Rattle.cyclic_list.proofs.Rings.{IsPath-append, front_of, orbit_ring, orbit_from}
 use Rattle.cyclic_list.proofs.Closed.{IsPath_last}
 use Rattle.section_laws.specs.Permuting.{Permutes}

@@ -1,1 +1,4 @@
+pub mod Tmp
 pub mod Permuting
+pub mod SectionCycles
+pub mod Laws
