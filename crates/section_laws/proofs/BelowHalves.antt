@@ -20,7 +20,7 @@ use Rattle.euler_conditions.proofs.Rising.{rest_rises}
 use Rattle.shapes.specs.Faces.{edges_of}
 use Rattle.solid_walks.proofs.Rising.{counted_once, in_listed}
 use Rattle.solid_walks.proofs.SolidFaces.{listed_in}
-use Rattle.section_laws.specs.Tmp.{below_half, below_halves}
+use Rattle.split_shapes.specs.Section.{below_half, below_halves}
 use Rattle.section_laws.specs.SectionCycles.{IsBelowHalf}
 use Rattle.section_laws.proofs.Meets.{total_same, total_ticks, count_flat}
 use Rattle.section_laws.proofs.Changes.{bit}

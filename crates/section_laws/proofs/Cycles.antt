@@ -15,12 +15,12 @@ use Rattle.euler_operators.specs.Conditions.{face_at, lists, strictly_rises}
 use Rattle.euler_laws_shared.proofs.Fans.{half_mate}
 use Rattle.euler_laws_shared.proofs.Goes.{equals, differs}
 use Rattle.shapes.specs.Prism.{next_place}
-use Rattle.section_laws.specs.Tmp.{below_halves, next_below, cycle_from, section_cycles}
+use Rattle.split_shapes.specs.Section.{below_halves, next_below, cycle_from, section_cycles}
 use Rattle.section_laws.specs.Permuting.{Permutes}
-use Rattle.section_laws.specs.SectionCycles.{AreOf, IsUnbranched, IsSectionCycle, AreSectionCycles}
+use Rattle.section_laws.specs.SectionCycles.{AreOf, IsUnbranched, IsSectionCycle, AreSectionCycles, AreApartCycles}
 use Rattle.section_laws.proofs.Meets.{known_by}
 use Rattle.section_laws.proofs.RisingLists.{filter_rises}
-use Rattle.section_laws.proofs.BelowHalves.{halves_rise, halves_are}
+use Rattle.section_laws.proofs.BelowHalves.{halves_rise, halves_apart, halves_are}
 use Rattle.section_laws.proofs.Ends.{half_there, is_half}
 use Rattle.section_laws.proofs.NextBelow.{starts_apart, finishes_apart, next_starts, permutes}
 use Rattle.section_laws.proofs.Orbits.{around, around_is, around_ring, around_apart, around_within}
@@ -176,3 +176,13 @@ module _ (M : Model) (above : List ℕ) (s : ℕ) (sound : Sound M) (faces : Are
   pub cycles_rise : strictly_rises (map least (section_cycles M (below_halves M above s))) ≡ true
   unfolding section_cycles
   cycles_rise = ap strictly_rises (leasts_are (around next halves w) (leaders next halves w) (leader_least next halves w)) ∙ filter_rises _ halves (halves_rise M above s sound)
+
+  pub cycles_apart : AreApartCycles M above s (section_cycles M (below_halves M above s))
+  cycles_apart =
+      let all : List ℕ = flat_map (λ bs. bs) (section_cycles M halves) in
+      record {
+        cycles = cycles_lead_round;
+        starts_apart = IsApart-map (tail M) all
+            (λ x i y j e. known_by (tail M) halves (starts_apart M above s sound faces unbranched) x y (omega (arith, i, cycles_cover x)) (omega (arith, j, cycles_cover y)) e)
+            (λ x. omega (arith, cycles_cover x, halves_apart M above s sound x));
+      }

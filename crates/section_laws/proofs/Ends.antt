@@ -10,7 +10,7 @@ use Rattle.boundary_model.specs.Sound.{Sound, HasHalf}
 use Rattle.boundary_model.proofs.Halves.{mate-mate}
 use Rattle.euler_operators.specs.Conditions.{face_at, lists}
 use Rattle.euler_laws_shared.proofs.Fans.{Fan, fan_of, half_mate, loop_after}
-use Rattle.section_laws.specs.Tmp.{below_halves}
+use Rattle.split_shapes.specs.Section.{below_halves}
 use Rattle.section_laws.specs.SectionCycles.{AreOf, IsBelowHalf}
 use Rattle.section_laws.proofs.Meets.{total, total_same, meet_turned, count_map}
 use Rattle.section_laws.proofs.Changes.{bit, changes_round_ring}

@@ -12,7 +12,7 @@ use Rattle.boundary_model.proofs.Tables.{zero_first_where}
 use Rattle.euler_laws_shared.proofs.Goes.{equal, equals, no_zero}
 use Rattle.euler_laws_shared.proofs.Loops.{some_row}
 use Rattle.shapes.specs.Fresh.{first_such}
-use Rattle.section_laws.specs.Tmp.{below_halves, section_ends, next_below}
+use Rattle.split_shapes.specs.Section.{below_halves, section_ends, next_below}
 use Rattle.section_laws.specs.Permuting.{Permutes}
 use Rattle.section_laws.specs.SectionCycles.{AreOf, IsUnbranched}
 use Rattle.section_laws.proofs.Meets.{in_map, known_by}

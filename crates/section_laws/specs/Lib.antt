@@ -1,4 +1,3 @@
-pub mod Tmp
 pub mod Permuting
 pub mod SectionCycles
 pub mod Laws

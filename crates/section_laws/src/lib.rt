@@ -1,2 +1,36 @@
-//! The laws of a section's cycles. The functions do nothing: their contracts are what is proved.
+//! The laws of a section's cycles. The edges between the faces above and the other faces of a solid form cycles where no vertex is an
+//! end of more than two of them. The functions do nothing: their contracts are what is proved, over every sound model and every list
+//! of faces of a solid. No point is looked at.
 #![tactic(auto)]
+
+ghost use Rattle.section_laws.specs.Laws.{BelowHalvesRise, BelowHalvesAre, AsManyStartAsEnd, OneStartsAndOneEnds, NextBelowPermutes, CyclesCover, CyclesRise, CyclesLeadRound, CyclesAreApart, CyclesStay, NumbersStayFree};
+
+/// The below halves of a section: which half-edges they are, by rising edge.
+pub fn below_halves_are()
+    ensures rising { BelowHalvesRise }
+    ensures members { BelowHalvesAre }
+{}
+
+/// As many below halves start at a vertex as end there. Where no vertex is branched, that is one and one, and each leads to the
+/// next.
+pub fn halves_lead_on()
+    ensures balanced { AsManyStartAsEnd }
+    ensures one { OneStartsAndOneEnds }
+    ensures next { NextBelowPermutes }
+{}
+
+/// Where no vertex is branched: the cycles have each below half once, begin each with its least half and rise by these, and each
+/// leads once round, with no other section edge at its vertices.
+pub fn halves_form_cycles()
+    ensures covering { CyclesCover }
+    ensures rising { CyclesRise }
+    ensures round { CyclesLeadRound }
+{}
+
+/// No two halves of these cycles start at one vertex. So once the solid is opened along one, the others are still such cycles, and
+/// the numbers above those that the opening took are free.
+pub fn cycles_open_in_turn()
+    ensures apart { CyclesAreApart }
+    ensures staying { CyclesStay }
+    ensures free { NumbersStayFree }
+{}
