@@ -18,7 +18,7 @@ use Rattle.shapes.specs.Prism.{next_place}
 use Rattle.split_shapes.specs.Section.{below_halves, next_below, cycle_from, section_cycles}
 use Rattle.section_laws.specs.Permuting.{Permutes}
 use Rattle.section_laws.specs.SectionCycles.{AreOf, IsUnbranched, IsSectionCycle, AreSectionCycles, AreApartCycles}
-use Rattle.section_laws.proofs.Meets.{known_by}
+use Rattle.section_laws.proofs.Meets.{known_by, apart_within}
 use Rattle.section_laws.proofs.RisingLists.{filter_rises}
 use Rattle.section_laws.proofs.BelowHalves.{halves_rise, halves_apart, halves_are}
 use Rattle.section_laws.proofs.Ends.{half_there, is_half}
@@ -186,3 +186,13 @@ module _ (M : Model) (above : List ℕ) (s : ℕ) (sound : Sound M) (faces : Are
             (λ x i y j e. known_by (tail M) halves (starts_apart M above s sound faces unbranched) x y (omega (arith, i, cycles_cover x)) (omega (arith, j, cycles_cover y)) e)
             (λ x. omega (arith, cycles_cover x, halves_apart M above s sound x));
       }
+
+  -- and they are as long as the list of all
+  pub cycles_long : length (flat_map (λ bs. bs) (section_cycles M (below_halves M above s))) ≡ length (below_halves M above s)
+  cycles_long =
+      let all : List ℕ = flat_map (λ bs. bs) (section_cycles M halves) in
+      omega (
+        arith,
+        apart_within all halves (λ x. omega (arith, cycles_cover x, halves_apart M above s sound x)) (λ x i. omega (arith, i, cycles_cover x)),
+        apart_within halves all (halves_apart M above s sound) (λ x i. omega (arith, i, cycles_cover x)),
+      )

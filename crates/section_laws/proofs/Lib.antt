@@ -7,7 +7,3 @@ pub mod BelowHalves
 pub mod Ends
 pub mod NextBelow
 pub mod Cycles
-pub mod Pairs
-pub mod OpenedRows
-pub mod CyclesStay
-pub mod StillFree

@@ -1,16 +1,13 @@
 -- The laws of a section's cycles, over every sound model and all lists of faces of a solid.
-use Rattle.std.specs.Prelude.{◌≡◌, ℕ, true, List, ◌∷◌, map, flat_map}
+use Rattle.std.specs.Prelude.{◌≡◌, ℕ, true, List, map, flat_map, length}
 use Rattle.cyclic_list.specs.Items.{count, IsIn, IsApart, SameItems, head_or, least}
 use Rattle.boundary_model.specs.HalfEdge.{mate}
 use Rattle.boundary_model.specs.Model.{Model, tail}
 use Rattle.boundary_model.specs.Sound.{Sound}
 use Rattle.euler_operators.specs.Conditions.{strictly_rises}
-use Rattle.lattice.specs.declared.Plane.{Plane}
-use Rattle.shapes.specs.Fresh.{Taken}
-use Rattle.split_shapes.specs.Opening.{opened_along, Opening, next_opened}
 use Rattle.split_shapes.specs.Section.{below_halves, section_ends, next_below, section_cycles}
 use Rattle.section_laws.specs.Permuting.{Permutes}
-use Rattle.section_laws.specs.SectionCycles.{AreOf, IsBelowHalf, IsUnbranched, AreSectionCycles, AreApartCycles, AreFree}
+use Rattle.section_laws.specs.SectionCycles.{AreOf, IsBelowHalf, IsUnbranched, AreSectionCycles, AreApartCycles}
 
 -- the below halves rise, and so none stands twice
 abbrev pub BelowHalvesRise : Type 0
@@ -42,6 +39,7 @@ NextBelowPermutes = (M : Model) (above : List ℕ) (s : ℕ) → Sound M → Are
 abbrev pub CyclesCover : Type 0
 CyclesCover = (M : Model) (above : List ℕ) (s : ℕ) → Sound M → AreOf M above s → IsUnbranched M (below_halves M above s) →
     SameItems (flat_map (λ bs. bs) (section_cycles M (below_halves M above s))) (below_halves M above s)
+    × (length (flat_map (λ bs. bs) (section_cycles M (below_halves M above s))) ≡ length (below_halves M above s))
 
 -- each begins with its least half, and by these they rise
 abbrev pub CyclesRise : Type 0
@@ -58,13 +56,3 @@ CyclesLeadRound = (M : Model) (above : List ℕ) (s : ℕ) → Sound M → AreOf
 abbrev pub CyclesAreApart : Type 0
 CyclesAreApart = (M : Model) (above : List ℕ) (s : ℕ) → Sound M → AreOf M above s → IsUnbranched M (below_halves M above s) →
     AreApartCycles M above s (section_cycles M (below_halves M above s))
-
--- once the solid is opened along one of some cycles, the others are still such cycles
-abbrev pub CyclesStay : Type 0
-CyclesStay = (M : Model) (above : List ℕ) (s : ℕ) (c : Taken) (bs : List ℕ) (cs : List (List ℕ)) → Sound M → AreFree M c →
-    AreApartCycles M above s (bs ∷ cs) → AreApartCycles (opened_along M above s c bs) above s cs
-
--- and the numbers above those that the opening takes are free
-abbrev pub NumbersStayFree : Type 0
-NumbersStayFree = (M : Model) (above : List ℕ) (s : ℕ) (p : Plane) (o : Opening) (bs : List ℕ) → AreFree o.model o.taken →
-    AreFree (next_opened p above s o bs).model (next_opened p above s o bs).taken

@@ -1,12 +1,10 @@
 -- What the below halves of a section are, and the cycles that they form.
-use Rattle.std.specs.Prelude.{◌≡◌, ◌≢◌, ◌⊎◌, ℕ, ◌≤◌, ◌<◌, true, false, List, [], ◌∷◌, map, flat_map, length, get_or, None}
+use Rattle.std.specs.Prelude.{◌≡◌, ◌≢◌, ◌⊎◌, ℕ, ◌≤◌, ◌<◌, true, false, List, [], ◌∷◌, map, flat_map, length, get_or}
 use Rattle.cyclic_list.specs.Items.{IsIn, IsApart}
 use Rattle.boundary_model.specs.HalfEdge.{mate}
-use Rattle.boundary_model.specs.Table as table
 use Rattle.boundary_model.specs.Model.{Model, tail, solid_of}
 use Rattle.boundary_model.specs.Sound.{HasHalf}
 use Rattle.euler_operators.specs.Conditions.{face_at, lists}
-use Rattle.shapes.specs.Fresh.{Taken}
 use Rattle.shapes.specs.Prism.{next_place}
 use Rattle.split_shapes.specs.Section.{section_ends, least_branched}
 
@@ -50,10 +48,3 @@ AreSectionCycles M above s (bs ∷ cs) = IsSectionCycle M above s bs × AreSecti
 pub record AreApartCycles (M : Model) (above : List ℕ) (s : ℕ) (cs : List (List ℕ)) : Type 0 where
   pub cycles : AreSectionCycles M above s cs
   pub starts_apart : IsApart (map (tail M) (flat_map (λ bs. bs) cs))
-
--- the numbers above those taken are free
-pub record AreFree (M : Model) (c : Taken) : Type 0 where
-  pub faces : (q : ℕ) → c.face < q → table.get M.faces q ≡ None
-  pub loops : (q : ℕ) → c.loop < q → table.get M.loops q ≡ None
-  pub edges : (q : ℕ) → c.edge < q → table.get M.edges q ≡ None
-  pub vertices : (q : ℕ) → c.vertex < q → table.get M.vertices q ≡ None

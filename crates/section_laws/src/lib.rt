@@ -3,7 +3,7 @@
 //! of faces of a solid. No point is looked at.
 #![tactic(auto)]
 
-ghost use Rattle.section_laws.specs.Laws.{BelowHalvesRise, BelowHalvesAre, AsManyStartAsEnd, OneStartsAndOneEnds, NextBelowPermutes, CyclesCover, CyclesRise, CyclesLeadRound, CyclesAreApart, CyclesStay, NumbersStayFree};
+ghost use Rattle.section_laws.specs.Laws.{BelowHalvesRise, BelowHalvesAre, AsManyStartAsEnd, OneStartsAndOneEnds, NextBelowPermutes, CyclesCover, CyclesRise, CyclesLeadRound, CyclesAreApart};
 
 /// The below halves of a section: which half-edges they are, by rising edge.
 pub fn below_halves_are()
@@ -20,17 +20,10 @@ pub fn halves_lead_on()
 {}
 
 /// Where no vertex is branched: the cycles have each below half once, begin each with its least half and rise by these, and each
-/// leads once round, with no other section edge at its vertices.
+/// leads once round, with no other section edge at its vertices. No two of their halves start at one vertex.
 pub fn halves_form_cycles()
     ensures covering { CyclesCover }
     ensures rising { CyclesRise }
     ensures round { CyclesLeadRound }
-{}
-
-/// No two halves of these cycles start at one vertex. So once the solid is opened along one, the others are still such cycles, and
-/// the numbers above those that the opening took are free.
-pub fn cycles_open_in_turn()
     ensures apart { CyclesAreApart }
-    ensures staying { CyclesStay }
-    ensures free { NumbersStayFree }
 {}

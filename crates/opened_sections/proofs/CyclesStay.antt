@@ -17,9 +17,10 @@ use Rattle.euler_laws_shared.proofs.Fans.{half_mate}
 use Rattle.shapes.specs.Fresh.{Taken}
 use Rattle.shapes.specs.Prism.{next_place}
 use Rattle.split_shapes.specs.Opening.{opened_along}
-use Rattle.section_laws.specs.SectionCycles.{IsSectionCycle, AreSectionCycles, AreApartCycles, AreFree}
+use Rattle.section_laws.specs.SectionCycles.{IsSectionCycle, AreSectionCycles, AreApartCycles}
+use Rattle.opened_sections.specs.InTurn.{AreFree}
 use Rattle.section_laws.proofs.Meets.{in_map}
-use Rattle.section_laws.proofs.OpenedRows.{at_most, solid_kept, face_kept, half_kept, tail_cases, tail_kept, half_cases}
+use Rattle.opened_sections.proofs.OpenedRows.{at_most, solid_kept, face_kept, half_kept, tail_cases, tail_kept, half_cases}
 
 place_within : (n i : ℕ) → i < n → next_place n i < n
 place_within n i l = elim (eqb_tells (i + 1) n) [
@@ -53,13 +54,13 @@ module _ (M : Model) (above : List ℕ) (s : ℕ) (c : Taken) (bs : List ℕ) (s
   mate_vertex b i = let r = follows M above s bs first b i in subst (λ v. IsIn v vertices) r.2 (in_map (tail M) r.0 bs r.1)
 
   -- what starts elsewhere is no mate of the cycle, nor is its mate
-  no_mate : (h : ℕ) → count (tail M h) vertices ≡ 0 → count h (map mate bs) ≡ 0
+  pub no_mate : (h : ℕ) → count (tail M h) vertices ≡ 0 → count h (map mate bs) ≡ 0
   no_mate h z = elim (IsIn_or_not h (map mate bs)) [
     | inl i ↦ let r = from_map mate h bs i in absurd (omega (arith, z, ap (λ x. count (tail M x) vertices) r.2, mate_vertex r.0 r.1))
     | inr n ↦ n
   ]
 
-  no_mates_mate : (h : ℕ) → count (tail M h) vertices ≡ 0 → count (mate h) (map mate bs) ≡ 0
+  pub no_mates_mate : (h : ℕ) → count (tail M h) vertices ≡ 0 → count (mate h) (map mate bs) ≡ 0
   no_mates_mate h z = elim (IsIn_or_not (mate h) (map mate bs)) [
     | inl i ↦ let r = from_map mate (mate h) bs i in
         absurd (omega (arith, z, ap (λ x. count (tail M x) vertices) (sym (mate-mate h) ∙ ap mate r.2 ∙ mate-mate r.0), in_map (tail M) r.0 bs r.1))
@@ -122,18 +123,22 @@ module _ (M : Model) (above : List ℕ) (s : ℕ) (c : Taken) (bs : List ℕ) (s
     all_stay cs w.1 (λ d i. e d (omega (arith, i, count-append d ds (flat_map (λ bs. bs) cs)))),
   )
 
-  there_in : (cs : List (List ℕ)) → AreSectionCycles M above s cs → (d : ℕ) → IsIn d (flat_map (λ bs. bs) cs) → HasHalf M d
+  pub there_in : (cs : List (List ℕ)) → AreSectionCycles M above s cs → (d : ℕ) → IsIn d (flat_map (λ bs. bs) cs) → HasHalf M d
   there_in [] w d i = absurd (omega arith)
   there_in (ds ∷ cs) w d i = elim (IsIn_or_not d ds) [
     | inl j ↦ w.0.there d j
     | inr z ↦ there_in cs w.1 d (omega (arith, i, z, count-append d ds (flat_map (λ bs. bs) cs)))
   ]
 
+-- the halves of the others start elsewhere
+pub starts_elsewhere : (M : Model) (above : List ℕ) (s : ℕ) (bs : List ℕ) (cs : List (List ℕ)) → AreApartCycles M above s (bs ∷ cs) → (d : ℕ) → IsIn d (flat_map (λ bs. bs) cs) → count (tail M d) (map (tail M) bs) ≡ 0
+starts_elsewhere M above s bs cs w d i = let rest : List ℕ = flat_map (λ bs. bs) cs in
+    omega (arith, w.starts_apart (tail M d), ap (count (tail M d)) (map-append (tail M) bs rest), count-append (tail M d) (map (tail M) bs) (map (tail M) rest), in_map (tail M) d rest i)
+
 pub cycles_stay : (M : Model) (above : List ℕ) (s : ℕ) (c : Taken) (bs : List ℕ) (cs : List (List ℕ)) → Sound M → AreFree M c → AreApartCycles M above s (bs ∷ cs) → AreApartCycles (opened_along M above s c bs) above s cs
 cycles_stay M above s c bs cs sound free w =
     let rest : List ℕ = flat_map (λ bs. bs) cs in
-    let elsewhere : (d : ℕ) → IsIn d rest → count (tail M d) (map (tail M) bs) ≡ 0 =
-    λ d i. omega (arith, w.starts_apart (tail M d), ap (count (tail M d)) (map-append (tail M) bs rest), count-append (tail M d) (map (tail M) bs) (map (tail M) rest), in_map (tail M) d rest i) in
+    let elsewhere : (d : ℕ) → IsIn d rest → count (tail M d) (map (tail M) bs) ≡ 0 = starts_elsewhere M above s bs cs w in
     record {
       cycles = all_stay M above s c bs sound free w.cycles.0 cs w.cycles.1 elsewhere;
       starts_apart = subst IsApart

@@ -14,9 +14,9 @@ use Rattle.fresh_laws.proofs.Rows.{get-put_other}
 use Rattle.shapes.specs.Fresh.{Taken, numbers_after}
 use Rattle.shapes.specs.Rewriting.{rewritten_row, renamed}
 use Rattle.split_shapes.specs.Opening.{opened_row, with_copies, both_lists, opened_along, Opening, next_opened}
-use Rattle.section_laws.specs.SectionCycles.{AreFree}
-use Rattle.section_laws.proofs.Pairs.{in_numbers}
-use Rattle.section_laws.proofs.OpenedRows.{faces_are, loops_are, edges_are, vertices_are, rim_above}
+use Rattle.opened_sections.specs.InTurn.{AreFree}
+use Rattle.opened_sections.proofs.Pairs.{in_numbers}
+use Rattle.opened_sections.proofs.OpenedRows.{faces_are, loops_are, edges_are, vertices_are, rim_above}
 
 past : (q n k : ℕ) → n < q → k ≤ n → q ≢ k
 past q n k l m e = absurd (omega (arith, l, m, e))
@@ -64,9 +64,9 @@ module _ (M : Model) (above : List ℕ) (s : ℕ) (c : Taken) (bs : List ℕ) (f
       ∙ copied_other M M.vertices (map (tail M) bs) (numbers_after c.vertex m) q (none_past c.vertex m q l)
       ∙ free.vertices q (omega (arith, l))
 
-pub still_free : (M : Model) (above : List ℕ) (s : ℕ) (p : Plane) (o : Opening) (bs : List ℕ) → AreFree o.model o.taken → AreFree (next_opened p above s o bs).model (next_opened p above s o bs).taken
+pub still_free : (above : List ℕ) (s : ℕ) (p : Plane) (o : Opening) (bs : List ℕ) → AreFree o.model o.taken → AreFree (next_opened p above s o bs).model (next_opened p above s o bs).taken
 unfolding next_opened
-still_free M above s p o bs free = record {
+still_free above s p o bs free = record {
   faces = faces_free o.model above s o.taken bs free;
   loops = loops_free o.model above s o.taken bs free;
   edges = edges_free o.model above s o.taken bs free;

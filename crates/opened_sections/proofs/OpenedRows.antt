@@ -25,9 +25,9 @@ use Rattle.shapes.specs.Fresh.{Taken, numbers_after}
 use Rattle.shapes.specs.Rewriting.{rewritten_row, renamed}
 use Rattle.solid_walks.proofs.Rising.{below_or}
 use Rattle.split_shapes.specs.Opening.{opened_tail, opened_row, with_rim, with_copies, both_lists, opened_along}
-use Rattle.section_laws.specs.SectionCycles.{AreFree}
+use Rattle.opened_sections.specs.InTurn.{AreFree}
 use Rattle.section_laws.proofs.Meets.{in_map}
-use Rattle.section_laws.proofs.Pairs.{renamed_one, renamed_not, in_numbers}
+use Rattle.opened_sections.proofs.Pairs.{renamed_one, renamed_not, in_numbers, numbers_in}
 
 -- where all numbers above n are free, a number in use is at most n
 pub at_most : {X : Type 0} (t : Table X) (n : ℕ) → ((q : ℕ) → n < q → table.get t q ≡ None) → (q : ℕ) → Has t q → q ≤ n
@@ -62,6 +62,17 @@ rim_cases t k y m (suc i) q row at = elim (get-put_cases (with_rim t k y m i) (k
 
   past : (a b : ℕ) → a < a + suc b
   past a b = omega arith
+
+-- an edge was there, or has one of the next i numbers
+rim_numbers : (t : Table EdgeRow) (k y m i q : ℕ) (row : EdgeRow) → table.get (with_rim t k y m i) q ≡ Some row → (table.get t q ≡ Some row) ⊎ ((k < q) × (q ≤ k + i))
+rim_numbers t k y m zero q row at = inl at
+rim_numbers t k y m (suc i) q row at = elim (get-put_cases (with_rim t k y m i) (k + suc i) _ q row at) [
+  | inl p ↦ inr (omega (arith, p.0), omega (arith, p.0))
+  | inr p ↦ elim (rim_numbers t k y m i q row p.1) [
+    | inl r ↦ inl r
+    | inr r ↦ inr (r.0, omega (arith, r.1))
+  ]
+]
 
 module _ (M : Model) (above : List ℕ) (s : ℕ) (c : Taken) (bs : List ℕ) where
   abbrev m : ℕ
@@ -116,14 +127,18 @@ module _ (M : Model) (above : List ℕ) (s : ℕ) (c : Taken) (bs : List ℕ) wh
 
     -- ---- faces and loops
 
+    pub face_still : (f : ℕ) → Has M.faces f → table.get opened.faces f ≡ table.get M.faces f
+    face_still f there = let l = at_most M.faces c.face free.faces f there in
+        ap (λ t. table.get t f) faces_are
+        ∙ get-put_other (table.put M.faces (c.face + 1) below_cap) (c.face + m + 1) above_cap f (other_number f c.face (c.face + m + 1) l (omega arith))
+        ∙ get-put_other M.faces (c.face + 1) below_cap f (other_number f c.face (c.face + 1) l (omega arith))
+
     pub solid_kept : (f : ℕ) → Has M.faces f → solid_of opened f ≡ solid_of M f
     unfolding solid_of
-    solid_kept f there = let l = at_most M.faces c.face free.faces f there in
-        ap (λ o. (unwrap_or o no_face).solid) (ap (λ t. table.get t f) faces_are
-        ∙ get-put_other (table.put M.faces (c.face + 1) below_cap) (c.face + m + 1) above_cap f (other_number f c.face (c.face + m + 1) l (omega arith))
-        ∙ get-put_other M.faces (c.face + 1) below_cap f (other_number f c.face (c.face + 1) l (omega arith)))
+    solid_kept f there = ap (λ o. (unwrap_or o no_face).solid) (face_still f there)
 
-    loop_row : (q : ℕ) (row : LoopRow) → table.get M.loops q ≡ Some row → table.get opened.loops q ≡ Some (rewritten_row (map (renamed swaps)) q row)
+    -- an old loop is rewritten
+    pub loop_row : (q : ℕ) (row : LoopRow) → table.get M.loops q ≡ Some row → table.get opened.loops q ≡ Some (rewritten_row (map (renamed swaps)) q row)
     loop_row q row at = let l = at_most M.loops c.loop free.loops q (ap is_some at) in
         ap (λ t. table.get t q) loops_are
         ∙ get-put_other (table.put (table.map_rows (rewritten_row (map (renamed swaps))) M.loops) (c.loop + 1) below_rim) (c.loop + m + 1) above_rim q (other_number q c.loop (c.loop + m + 1) l (omega arith))
@@ -240,3 +255,16 @@ module _ (M : Model) (above : List ℕ) (s : ℕ) (c : Taken) (bs : List ℕ) wh
         either : (b : Bool) (row : EdgeRow) → c.vertex < row.plus_tail → c.vertex < row.minus_tail → c.vertex < tail_in row b
         either true row a d = a
         either false row a d = d
+
+    -- a half-edge was there, or is of an edge round a cap
+    pub half_back : (h : ℕ) → HasHalf opened h → HasHalf M h ⊎ IsIn (edge_of h) (numbers_after c.edge (length bs))
+    half_back h there =
+        let r = some_row (table.get opened.edges (edge_of h)) there in
+        elim (rim_numbers (table.map_rows (opened_row M above mates copies) M.edges) c.edge c.vertex m m (edge_of h) r.0 (sym (ap (λ t. table.get t (edge_of h)) edges_are) ∙ r.1)) [
+          | inl at ↦ inl (sym (mapped (table.get M.edges (edge_of h))) ∙ ap is_some (sym (get-map_rows (opened_row M above mates copies) M.edges (edge_of h)) ∙ at))
+          | inr l ↦ inr (numbers_in c.edge m (edge_of h) l.0 l.1)
+        ]
+      where
+        mapped : (o : Option EdgeRow) → is_some (option_map (opened_row M above mates copies (edge_of h)) o) ≡ is_some o
+        mapped None = refl
+        mapped (Some x) = refl
