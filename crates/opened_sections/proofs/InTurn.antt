@@ -1,9 +1,9 @@
 -- A solid is opened along the cycles of its section one after the other, and then nothing holds its upper faces to the others.
-use Rattle.std.proofs.Common.{◌≡◌, ◌≢◌, ℕ, ◌+◌, ◌*◌, ◌≤◌, ◌<◌, Bool, true, false, cond, not, nat_eq, ◌||◌, List, [], ◌∷◌, ◌++◌, length, map, Some, is_some, unwrap_or, refl, sym, ap, subst, ◌∙◌, arith, true≢false, ◌⊎◌, inl, inr, length-append}
-use Rattle.std.proofs.lemmas.Bool.Decides.{nat_tests, eqb_tells}
+use Rattle.std.proofs.Common.{◌≡◌, ◌≢◌, ℕ, ◌+◌, ◌*◌, ◌≤◌, Bool, true, false, nat_eq, ◌||◌, List, [], ◌∷◌, ◌++◌, length, map, is_some, unwrap_or, refl, sym, ap, subst, ◌∙◌, arith, true≢false, inl, inr, length-append}
+use Rattle.std.proofs.lemmas.Bool.Decides.{eqb_tells}
 use Rattle.std.proofs.lemmas.List.{append_assoc, append-nil, map-append}
 use Rattle.lattice.specs.declared.Plane.{Plane}
-use Rattle.cyclic_list.specs.Items.{count, IsIn, IsApart}
+use Rattle.cyclic_list.specs.Items.{count, IsIn}
 use Rattle.cyclic_list.proofs.Lists.{count-append, IsIn_or_not}
 use Rattle.cyclic_list.proofs.Maps.{from_map}
 use Rattle.boundary_model.specs.HalfEdge.{mate, edge_of, plus, minus}
@@ -17,7 +17,7 @@ use Rattle.euler_operators.specs.Conditions.{face_at, lists, differ, torn_edge}
 use Rattle.euler_laws_shared.proofs.Arcs.{halves_of_edge}
 use Rattle.euler_laws_shared.proofs.Fans.{half_mate}
 use Rattle.euler_laws_shared.proofs.Goes.{differs}
-use Rattle.euler_laws_shared.proofs.Listed.{first_listed, rest_listed}
+use Rattle.euler_laws_shared.proofs.Listed.{first_listed, rest_listed, listed_cases}
 use Rattle.euler_laws_shared.proofs.Undo.{mate_plus, mate_minus}
 use Rattle.shapes.specs.Fresh.{Taken, numbers_after}
 use Rattle.split_shapes.specs.Section.{below_halves, section_cycles, is_hole}
@@ -171,6 +171,17 @@ module _ (M : Model) (above : List ℕ) (s : ℕ) (c : Taken) (bs : List ℕ) (c
   ]
 
 -- ---- in turn
+
+listed_front : (fs gs : List ℕ) (f : ℕ) → lists fs f ≡ true → lists (fs ++ gs) f ≡ true
+listed_front [] gs f l = absurd (true≢false (sym l))
+listed_front (n ∷ ns) gs f l = elim (listed_cases n f ns l) [
+  | inl e ↦ ap (λ k. lists (k ∷ (ns ++ gs)) f) (sym e) ∙ first_listed f (ns ++ gs)
+  | inr r ↦ rest_listed n f (ns ++ gs) (listed_front ns gs f r)
+]
+
+-- the faces above are there
+pub above_there : (above : List ℕ) (s : ℕ) (o : Opening) (cs : List (List ℕ)) → CanBeOpenedInTurn above s o cs → (f : ℕ) → lists above f ≡ true → Has o.model.faces f
+above_there above s o cs w f l = w.upper_there f (listed_front above (map (λ k. k.upper) o.caps) f l)
 
 pub can_be_opened : (M : Model) (above : List ℕ) (s : ℕ) (c : Taken) → Sound M → AreFree M c → AreOf M above s → ((f : ℕ) → lists above f ≡ true → Has M.faces f) →
     IsUnbranched M (below_halves M above s) → AreLeft c (length (below_halves M above s)) (length (section_cycles M (below_halves M above s))) →

@@ -1,17 +1,14 @@
 -- What the tables say once a solid is opened along a cycle.
-use Rattle.std.proofs.Common.{◌≡◌, ◌≢◌, ℕ, zero, suc, ◌+◌, ◌*◌, ◌≤◌, ◌<◌, Bool, true, false, cond, not, nat_eq, ◌&&◌, List, [], ◌∷◌, length, map, reverse, Option, Some, None, is_some, unwrap_or, refl, sym, ap, subst, ◌∙◌, arith, true≢false, ◌⊎◌, inl, inr}
-use Rattle.std.specs.Prelude.{fold}
+use Rattle.std.proofs.Common.{◌≡◌, ◌≢◌, ℕ, zero, suc, ◌+◌, ◌≤◌, ◌<◌, Bool, true, false, cond, not, nat_eq, ◌&&◌, List, length, map, reverse, Option, Some, None, is_some, unwrap_or, refl, sym, ap, subst, ◌∙◌, arith, true≢false, ◌⊎◌, inl, inr}
 use Rattle.std.specs.Option.{option_map}
-use Rattle.lattice.specs.declared.Point.{Point}
 use Rattle.cyclic_list.specs.Items.{count, IsIn}
 use Rattle.cyclic_list.specs.Rings.{canonical}
-use Rattle.cyclic_list.proofs.Lists.{tick_same, IsIn_or_not}
 use Rattle.cyclic_list.proofs.Rotations.{count-canonical}
 use Rattle.cyclic_list.proofs.Maps.{from_map, count-reverse}
 use Rattle.boundary_model.specs.HalfEdge.{mate, edge_of, is_first, plus, minus}
 use Rattle.boundary_model.specs.Table as table
 use Rattle.boundary_model.specs.Table.{Table, get-map_rows}
-use Rattle.boundary_model.specs.Model.{Model, LoopContent, LoopRow, FaceRow, EdgeRow, lone, cycle, no_face, holds, items_of, tail, tail_in, content, cycle_of, loop_of, face_of, solid_of, point_of}
+use Rattle.boundary_model.specs.Model.{Model, LoopContent, LoopRow, FaceRow, EdgeRow, lone, cycle, no_face, holds, items_of, tail, tail_in, content, cycle_of, loop_of, face_of, solid_of}
 use Rattle.boundary_model.specs.Sound.{Sound, Has, HasHalf}
 use Rattle.boundary_model.proofs.Halves.{plus_row, minus_row}
 use Rattle.boundary_model.proofs.Models.{holds_in, in-holds, face_row, content_row, tail_row, cycle_there, row_of}
@@ -19,7 +16,6 @@ use Rattle.boundary_model.proofs.Tables.{first_where_is}
 use Rattle.euler_operators.specs.Conditions.{face_at, lists}
 use Rattle.euler_laws_shared.proofs.Arcs.{halves_of_edge}
 use Rattle.euler_laws_shared.proofs.Loops.{some_row}
-use Rattle.euler_laws_shared.proofs.Same.{mapped_some}
 use Rattle.fresh_laws.proofs.Rows.{get-put_cases, get-put_other}
 use Rattle.shapes.specs.Fresh.{Taken, numbers_after}
 use Rattle.shapes.specs.Rewriting.{rewritten_row, renamed}

@@ -1,10 +1,10 @@
 -- The numbers above those that an opening takes are free after it.
-use Rattle.std.proofs.Common.{◌≡◌, ◌≢◌, ℕ, zero, suc, ◌+◌, ◌*◌, ◌≤◌, ◌<◌, List, [], ◌∷◌, length, map, None, refl, sym, ap, ◌∙◌, arith, inl, inr}
+use Rattle.std.proofs.Common.{◌≡◌, ◌≢◌, ℕ, ◌+◌, ◌*◌, ◌≤◌, ◌<◌, List, [], ◌∷◌, length, map, None, refl, ap, ◌∙◌, arith, inl, inr}
 use Rattle.std.specs.Prelude.{fold}
 use Rattle.std.specs.Option.{option_map}
 use Rattle.lattice.specs.declared.Point.{Point}
 use Rattle.lattice.specs.declared.Plane.{Plane}
-use Rattle.cyclic_list.specs.Items.{count, IsIn}
+use Rattle.cyclic_list.specs.Items.{count}
 use Rattle.cyclic_list.proofs.Lists.{tick_same, IsIn_or_not}
 use Rattle.boundary_model.specs.HalfEdge.{mate, plus}
 use Rattle.boundary_model.specs.Table as table
@@ -13,7 +13,7 @@ use Rattle.boundary_model.specs.Model.{Model, tail, point_of}
 use Rattle.fresh_laws.proofs.Rows.{get-put_other}
 use Rattle.shapes.specs.Fresh.{Taken, numbers_after}
 use Rattle.shapes.specs.Rewriting.{rewritten_row, renamed}
-use Rattle.split_shapes.specs.Opening.{opened_row, with_copies, both_lists, opened_along, Opening, next_opened}
+use Rattle.split_shapes.specs.Opening.{opened_row, both_lists, opened_along, Opening, next_opened}
 use Rattle.opened_sections.specs.InTurn.{AreFree}
 use Rattle.opened_sections.proofs.Pairs.{in_numbers}
 use Rattle.opened_sections.proofs.OpenedRows.{faces_are, loops_are, edges_are, vertices_are, rim_above}
