@@ -20,7 +20,8 @@ use Rattle.split_shapes.specs.Opening.{opened_along}
 use Rattle.section_laws.specs.SectionCycles.{IsSectionCycle, AreSectionCycles, AreApartCycles}
 use Rattle.opened_sections.specs.InTurn.{AreFree}
 use Rattle.section_laws.proofs.Meets.{in_map}
-use Rattle.opened_sections.proofs.OpenedRows.{at_most, solid_kept, face_kept, half_kept, tail_cases, tail_kept, half_cases}
+use Rattle.opened_sections.proofs.Rims.{at_most}
+use Rattle.opened_sections.proofs.OpenedRows.{solid_kept, face_kept, half_kept, tail_cases, tail_kept, half_cases}
 
 place_within : (n i : ℕ) → i < n → next_place n i < n
 place_within n i l = elim (eqb_tells (i + 1) n) [

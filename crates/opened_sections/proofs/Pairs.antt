@@ -10,24 +10,24 @@ use Rattle.split_shapes.specs.Opening.{both_lists}
 -- a number keeps its name or takes one of the second list
 pub renamed_one : (xs ys : List ℕ) (x : ℕ) → (renamed (both_lists xs ys) x ≡ x) ⊎ IsIn (renamed (both_lists xs ys) x) ys
 renamed_one [] ys x = inl refl
-renamed_one (a ∷ as_) [] x = inl refl
-renamed_one (a ∷ as_) (y ∷ ys) x = elim (eqb_tells a x) [
-  | inl e ↦ inr (subst (λ z. IsIn z (y ∷ ys)) (sym (ap (λ b. cond b y (renamed (both_lists as_ ys) x)) e.0)) (omega (arith, tick_same y)))
-  | inr e ↦ elim (renamed_one as_ ys x) [
-    | inl r ↦ inl (ap (λ b. cond b y (renamed (both_lists as_ ys) x)) e.0 ∙ r)
-    | inr r ↦ inr (subst (λ z. IsIn z (y ∷ ys)) (sym (ap (λ b. cond b y (renamed (both_lists as_ ys) x)) e.0)) (later r))
+renamed_one (a ∷ others) [] x = inl refl
+renamed_one (a ∷ others) (y ∷ ys) x = elim (eqb_tells a x) [
+  | inl e ↦ inr (subst (λ z. IsIn z (y ∷ ys)) (sym (ap (λ b. cond b y (renamed (both_lists others ys) x)) e.0)) (omega (arith, tick_same y)))
+  | inr e ↦ elim (renamed_one others ys x) [
+    | inl r ↦ inl (ap (λ b. cond b y (renamed (both_lists others ys) x)) e.0 ∙ r)
+    | inr r ↦ inr (subst (λ z. IsIn z (y ∷ ys)) (sym (ap (λ b. cond b y (renamed (both_lists others ys) x)) e.0)) (later r))
   ]
 ] where
-  later : IsIn (renamed (both_lists as_ ys) x) ys → IsIn (renamed (both_lists as_ ys) x) (y ∷ ys)
+  later : IsIn (renamed (both_lists others ys) x) ys → IsIn (renamed (both_lists others ys) x) (y ∷ ys)
   later i = omega (arith, i)
 
 -- one that isn't in the first list keeps its name
 pub renamed_not : (xs ys : List ℕ) (x : ℕ) → count x xs ≡ 0 → renamed (both_lists xs ys) x ≡ x
 renamed_not [] ys x z = refl
-renamed_not (a ∷ as_) [] x z = refl
-renamed_not (a ∷ as_) (y ∷ ys) x z = elim (eqb_tells a x) [
+renamed_not (a ∷ others) [] x z = refl
+renamed_not (a ∷ others) (y ∷ ys) x z = elim (eqb_tells a x) [
   | inl e ↦ absurd (omega (arith, z, ap (tick x) e.1, tick_same x))
-  | inr e ↦ ap (λ b. cond b y (renamed (both_lists as_ ys) x)) e.0 ∙ renamed_not as_ ys x (omega (arith, z))
+  | inr e ↦ ap (λ b. cond b y (renamed (both_lists others ys) x)) e.0 ∙ renamed_not others ys x (omega (arith, z))
 ]
 
 pub in_numbers : (k n x : ℕ) → IsIn x (numbers_after k n) → (k < x) × (x ≤ k + n)

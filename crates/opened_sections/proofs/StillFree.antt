@@ -16,7 +16,8 @@ use Rattle.shapes.specs.Rewriting.{rewritten_row, renamed}
 use Rattle.split_shapes.specs.Opening.{opened_row, both_lists, opened_along, Opening, next_opened}
 use Rattle.opened_sections.specs.InTurn.{AreFree}
 use Rattle.opened_sections.proofs.Pairs.{in_numbers}
-use Rattle.opened_sections.proofs.OpenedRows.{faces_are, loops_are, edges_are, vertices_are, rim_above}
+use Rattle.opened_sections.proofs.Rims.{rim_above}
+use Rattle.opened_sections.proofs.OpenedRows.{faces_are, loops_are, edges_are, vertices_are}
 
 past : (q n k : ℕ) → n < q → k ≤ n → q ≢ k
 past q n k l m e = absurd (omega (arith, l, m, e))
