@@ -25,7 +25,7 @@ use Rattle.opened_sections.proofs.CyclesStay.{cycles_stay}
 use Rattle.opened_sections.proofs.StillFree.{still_free}
 use Rattle.opened_sections.proofs.StillBetween.{still_between, still_there, still_of_solid}
 
-upper_next : (above : List ℕ) (ks : List Caps) (k : Caps) → upper_faces above (ks ++ k ∷ []) ≡ upper_faces above ks ++ k.upper ∷ []
+pub upper_next : (above : List ℕ) (ks : List Caps) (k : Caps) → upper_faces above (ks ++ k ∷ []) ≡ upper_faces above ks ++ k.upper ∷ []
 upper_next above ks k = ap (λ q. above ++ q) (map-append (λ k. k.upper) ks (k ∷ [])) ∙ sym (append_assoc above (map (λ k. k.upper) ks) (k.upper ∷ []))
 
 listed_front : (fs gs : List ℕ) (f : ℕ) → lists fs f ≡ true → lists (fs ++ gs) f ≡ true

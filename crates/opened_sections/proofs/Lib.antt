@@ -6,3 +6,4 @@ pub mod StillFree
 pub mod OpenedFaces
 pub mod StillBetween
 pub mod InTurn
+pub mod Capping

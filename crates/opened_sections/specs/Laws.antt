@@ -8,6 +8,7 @@ use Rattle.shapes.specs.Fresh.{Taken}
 use Rattle.split_shapes.specs.Section.{below_halves, section_cycles}
 use Rattle.split_shapes.specs.Opening.{opened_along, Opening, next_opened, all_opened}
 use Rattle.section_laws.specs.SectionCycles.{AreOf, IsUnbranched, AreApartCycles}
+use Rattle.opened_sections.specs.Capped.{HasCaps}
 use Rattle.opened_sections.specs.InTurn.{AreFree, AreLeft, upper_faces, CanBeOpenedInTurn}
 
 -- once the solid is opened along one of some cycles, the others are still such cycles
@@ -43,3 +44,13 @@ AllAreOpened = OpeningsAreSound → (above : List ℕ) (s : ℕ) (p : Plane) (o 
 -- and no edge is left between an upper face and another one
 abbrev pub NoneIsTorn : Type 0
 NoneIsTorn = (above : List ℕ) (s : ℕ) (o : Opening) → CanBeOpenedInTurn above s o [] → torn_edge o.model (upper_faces above o.caps) ≡ 0
+
+-- where the faces above rise, an opening leaves caps without rings, which rise after them
+abbrev pub CapsStay : Type 0
+CapsStay = (above : List ℕ) (s : ℕ) (p : Plane) (o : Opening) (bs : List ℕ) (cs : List (List ℕ)) → CanBeOpenedInTurn above s o (bs ∷ cs) →
+    HasCaps above s o → HasCaps above s (next_opened p above s o bs)
+
+-- and so do all openings in turn
+abbrev pub CapsRise : Type 0
+CapsRise = OpeningsAreSound → (above : List ℕ) (s : ℕ) (p : Plane) (o : Opening) (cs : List (List ℕ)) → CanBeOpenedInTurn above s o cs →
+    HasCaps above s o → HasCaps above s (all_opened p above s o cs)

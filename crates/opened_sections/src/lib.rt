@@ -2,7 +2,7 @@
 //! is proved, over every sound model and all cycles that lie apart from one another.
 #![tactic(auto)]
 
-ghost use Rattle.opened_sections.specs.Laws.{CyclesStay, NumbersStayFree, SectionsCanBeOpened, OthersCanBeOpened, AllAreOpened, NoneIsTorn};
+ghost use Rattle.opened_sections.specs.Laws.{CyclesStay, NumbersStayFree, SectionsCanBeOpened, OthersCanBeOpened, AllAreOpened, NoneIsTorn, CapsStay, CapsRise};
 
 /// A solid opened along one cycle of its section: the others are still such cycles, and the numbers above those that the opening
 /// took are free.
@@ -19,4 +19,10 @@ pub fn cycles_open_in_turn()
     ensures others { OthersCanBeOpened }
     ensures all { AllAreOpened }
     ensures parted { NoneIsTorn }
+{}
+
+/// The caps that these openings leave have no rings, and they rise after the faces above, if those rise.
+pub fn caps_have_no_rings()
+    ensures next { CapsStay }
+    ensures all { CapsRise }
 {}
