@@ -1,9 +1,8 @@
 -- The caps that openings leave: they have no rings, and rise.
-use Rattle.std.proofs.Common.{◌≡◌, ◌≢◌, ℕ, ◌+◌, ◌≤◌, ◌<◌, true, List, [], ◌∷◌, ◌++◌, length, map, Option, Some, None, is_some, unwrap_or, refl, sym, ap, subst, ◌∙◌, arith, true≢false, ◌⊎◌, inl, inr}
-use Rattle.std.specs.Prelude.{flat_map}
+use Rattle.std.proofs.Common.{◌≡◌, ℕ, ◌+◌, ◌≤◌, ◌<◌, true, List, [], ◌∷◌, ◌++◌, length, map, Option, Some, None, is_some, unwrap_or, refl, sym, ap, subst, ◌∙◌, arith, true≢false, ◌⊎◌, inl, inr}
 use Rattle.std.specs.Option.{option_map}
 use Rattle.std.proofs.lemmas.Bool.Decides.{eqb_tells}
-use Rattle.std.proofs.lemmas.List.{append_assoc, length-append}
+use Rattle.std.proofs.lemmas.List.{append_assoc}
 use Rattle.std.proofs.lemmas.Grind.{flat_map-append}
 use Rattle.lattice.specs.declared.Plane.{Plane}
 use Rattle.cyclic_list.specs.Items.{count, IsIn}
@@ -14,7 +13,7 @@ use Rattle.boundary_model.specs.Table.{get-map_rows}
 use Rattle.boundary_model.specs.Model.{Model, LoopRow, no_face, face_of, solid_of, outer}
 use Rattle.boundary_model.specs.Sound.{Sound, Has}
 use Rattle.boundary_model.proofs.Models.{face_row}
-use Rattle.euler_operators.specs.Conditions.{lists, strictly_rises}
+use Rattle.euler_operators.specs.Conditions.{strictly_rises}
 use Rattle.euler_laws_shared.proofs.Loops.{some_row}
 use Rattle.euler_conditions.proofs.Rising.{rest_rises}
 use Rattle.fresh_laws.proofs.Rows.{get-put_here, get-put_other, get-put_cases}
