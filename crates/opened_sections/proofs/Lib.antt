@@ -1,0 +1,9 @@
+pub mod Pairs
+pub mod Rims
+pub mod OpenedRows
+pub mod CyclesStay
+pub mod StillFree
+pub mod OpenedFaces
+pub mod StillBetween
+pub mod InTurn
+pub mod Capping

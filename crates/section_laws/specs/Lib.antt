@@ -1,0 +1,3 @@
+pub mod Permuting
+pub mod SectionCycles
+pub mod Laws
