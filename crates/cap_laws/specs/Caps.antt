@@ -1,0 +1,31 @@
+-- Strips joined into one, and parted along the first rung into the two caps.
+use Rattle.std.specs.Prelude.{ℕ, suc, ◌+◌, ◌-◌, List, [], ◌∷◌, ◌++◌, map, reverse, length, take}
+use Rattle.cyclic_list.specs.Rings.{canonical}
+use Rattle.boundary_model.specs.HalfEdge.{plus, minus}
+use Rattle.boundary_model.specs.Table as table
+use Rattle.boundary_model.specs.Model.{Model, cycle}
+use Rattle.shapes.specs.Fresh.{Taken, numbers_after}
+use Rattle.shapes.specs.Rewriting.{without_rows}
+use Rattle.cap_laws.specs.Strips.{rung}
+
+-- the first strip with the n next ones: back along their mates, up the first rung, along their copies, and down the next rung
+abbrev pub joined_loop : Taken → List ℕ → ℕ → List ℕ
+joined_loop c hs n = reverse (take (suc n) hs) ++ plus (c.edge + length hs + 1) ∷ (map minus (numbers_after c.edge (suc n)) ++ minus (rung c (length hs) (suc n)) ∷ [])
+
+-- the first strip has taken in the n next ones
+unfoldable pub joined_part : Model → Taken → List ℕ → ℕ → Model
+joined_part N c hs n = record N {
+  faces = without_rows N.faces (numbers_after (c.face + 1) n);
+  loops = table.put (without_rows N.loops (numbers_after (c.loop + 1) n)) (c.loop + 1) (record { face = c.face + 1; content = cycle (canonical (joined_loop c hs n)) });
+  edges = without_rows N.edges (numbers_after (c.edge + length hs + 1) n);
+}
+
+-- all strips and rungs are gone. The first face is the cap below, with the mates, last first, and a new face the cap above, with the copies
+unfoldable pub capped : Model → ℕ → Taken → List ℕ → Model
+capped N s c hs = let m = length hs in record N {
+  faces = table.put (without_rows N.faces (numbers_after (c.face + 1) (m - 1))) (c.face + m + 1) (record { solid = s; outer = c.loop + m + 1 });
+  loops = table.put (table.put (without_rows N.loops (numbers_after (c.loop + 1) (m - 1)))
+      (c.loop + 1) (record { face = c.face + 1; content = cycle (canonical (reverse hs)) }))
+      (c.loop + m + 1) (record { face = c.face + m + 1; content = cycle (map minus (numbers_after c.edge m)) });
+  edges = without_rows N.edges (numbers_after (c.edge + m) m);
+}

@@ -1,0 +1,27 @@
+-- The strips of faces along a cycle of section edges, one beside the other, and what is asked of them.
+use Rattle.std.specs.Prelude.{◌≡◌, ◌≤◌, ◌<◌, ℕ, suc, ◌+◌, cond, nat_eq, IsTrue, List, [], ◌∷◌, length, get_or, Some, None}
+use Rattle.cyclic_list.specs.Rings.{canonical}
+use Rattle.boundary_model.specs.HalfEdge.{plus, minus}
+use Rattle.boundary_model.specs.Table as table
+use Rattle.boundary_model.specs.Model.{Model, cycle, face_of, is_number}
+use Rattle.boundary_model.specs.Sound.{Has}
+use Rattle.shapes.specs.Fresh.{Taken}
+
+-- the edge between the strips at place i and before it, of m strips in a ring: after the last place comes the first again
+abbrev pub rung : Taken → ℕ → ℕ → ℕ
+rung c m i = cond (nat_eq i m) (c.edge + m + 1) (c.edge + m + suc i)
+
+-- the strip at place i: the mate that is kept below, up the rung, back along the copy for above, and down the next rung
+abbrev pub strip_loop : Taken → List ℕ → ℕ → List ℕ
+strip_loop c hs i = get_or hs i 0 ∷ plus (rung c (length hs) i) ∷ minus (c.edge + suc i) ∷ minus (rung c (length hs) (suc i)) ∷ []
+
+-- along the mates hs there are strips, faces of solid s with that loop and no other; the numbers after them are free
+pub record HasStrips (N : Model) (s : ℕ) (c : Taken) (hs : List ℕ) : Type 0 where
+  pub some : 1 ≤ length hs
+  pub loops : (i : ℕ) → i < length hs → table.get N.loops (c.loop + suc i) ≡ Some (record { face = c.face + suc i; content = cycle (canonical (strip_loop c hs i)) })
+  pub faces : (i : ℕ) → i < length hs → table.get N.faces (c.face + suc i) ≡ Some (record { solid = s; outer = c.loop + suc i })
+  pub alone : (i q : ℕ) → i < length hs → Has N.loops q → face_of N q ≡ c.face + suc i → c.loop + suc i ≡ q
+  pub face_free : table.get N.faces (c.face + length hs + 1) ≡ None
+  pub loop_free : table.get N.loops (c.loop + length hs + 1) ≡ None
+  pub face_fits : IsTrue (is_number (c.face + length hs + 1))
+  pub loop_fits : IsTrue (is_number (c.loop + length hs + 1))
