@@ -1,4 +1,4 @@
--- One strip more joined to the first ones: kef of the rung between them.
+-- One strip more joined to the first ones: kef of the riser between them.
 use Rattle.std.proofs.Common.{◌≡◌, ◌≢◌, ℕ, suc, ◌+◌, ◌<◌, cond, List, [], ◌∷◌, ◌++◌, map, length, Option, Some, None, is_some, unwrap_or, refl, sym, ap, ◌∙◌, subst, arith, inl, inr}
 use Rattle.std.specs.Prelude.{reverse, take, get_or}
 use Rattle.std.proofs.Math.Seq.{take-suc}
@@ -25,17 +25,13 @@ use Rattle.euler_laws_mef.proofs.KefSound.{KefGoes}
 use Rattle.euler_laws_mef.proofs.Kef.{kef_accepted}
 use Rattle.fresh_laws.proofs.Rows.{get-put_here, get-put_other}
 use Rattle.prism_laws.proofs.Steps.{Around, apart_xs, loop_is, half_is, cycle_is, face_is}
+use Rattle.prism_laws.proofs.Sides.{next_inner}
 use Rattle.shapes.specs.Fresh.{Taken, numbers_after}
+use Rattle.shapes.specs.Prism.{next_place}
 use Rattle.shapes.specs.Rewriting.{without_rows}
-use Rattle.cap_laws.specs.Strips.{HasStrips, rung, strip_loop}
+use Rattle.cap_laws.specs.Strips.{HasStrips, riser}
 use Rattle.cap_laws.specs.Caps.{joined_loop, joined_part}
 use Rattle.cap_laws.proofs.Gone.{next_number, numbers_last, gone_more, gone_back, gone_above}
-
-pub rung_inner : (c : Taken) (m i : ℕ) → i < m → rung c m i ≡ c.edge + m + suc i
-rung_inner c m i l = ap (λ b. cond b (c.edge + m + 1) (c.edge + m + suc i)) (ne_eqb i m (λ e. omega (arith, l, e)))
-
-pub rung_last : (c : Taken) (m : ℕ) → rung c m m ≡ c.edge + m + 1
-rung_last c m = ap (λ b. cond b (c.edge + m + 1) (c.edge + m + suc m)) (eq-eqb m m refl)
 
 -- loops with one row are of one face
 same_face : (M N : Model) (q : ℕ) → table.get M.loops q ≡ table.get N.loops q → face_of M q ≡ face_of N q
@@ -69,7 +65,7 @@ module _ (N : Model) (s : ℕ) (c : Taken) (hs : List ℕ) (w : HasStrips N s c 
   abbrev P : Model
   P = joined_part N c hs n
 
-  -- the first face and loop, those of the next strip, and the rung between them
+  -- the first face and loop, those of the next strip, and the riser between them
   abbrev f1 : ℕ
   f1 = c.face + 1
 
@@ -83,17 +79,17 @@ module _ (N : Model) (s : ℕ) (c : Taken) (hs : List ℕ) (w : HasStrips N s c 
   l = c.loop + suc (suc n)
 
   abbrev x : ℕ
-  x = c.edge + m + suc (suc n)
+  x = riser c m (suc n)
 
   abbrev a : ℕ
   a = get_or hs (suc n) 0
 
-  -- the copy of the next strip, and the rung behind it
+  -- the copy of the next strip, and the riser behind it
   abbrev e : ℕ
   e = minus (c.edge + suc (suc n))
 
   abbrev z : ℕ
-  z = minus (rung c m (suc (suc n)))
+  z = minus (riser c m (next_place m (suc n)))
 
   abbrev mates : List ℕ
   mates = reverse (take (suc n) hs)
@@ -108,7 +104,7 @@ module _ (N : Model) (s : ℕ) (c : Taken) (hs : List ℕ) (w : HasStrips N s c 
   strip = a ∷ plus x ∷ e ∷ z ∷ []
 
   loop_here : joined_loop c hs n ≡ front ++ minus x ∷ []
-  loop_here = ap (λ r. mates ++ plus (c.edge + m + 1) ∷ (copies ++ minus r ∷ [])) (rung_inner c m (suc n) later)
+  loop_here = ap (λ i. mates ++ plus (riser c m 0) ∷ (copies ++ minus (riser c m i) ∷ [])) (next_inner m n (omega (arith, later)))
       ∙ sym (append_assoc mates (plus (c.edge + m + 1) ∷ copies) (minus x ∷ []))
 
   around_first : Around P l1 f1 (front ++ minus x ∷ [])
@@ -119,7 +115,6 @@ module _ (N : Model) (s : ℕ) (c : Taken) (hs : List ℕ) (w : HasStrips N s c 
 
   at_next : table.get P.loops l ≡ Some (record { face = f; content = cycle (canonical strip) })
   at_next = at_else N s c hs w n l l_else ∙ gone_above N.loops l1 n l (omega arith) ∙ w.loops (suc n) later
-      ∙ ap (λ r. Some (record { face = f; content = cycle (canonical (a ∷ plus r ∷ e ∷ z ∷ [])) })) (rung_inner c m (suc n) later)
 
   around_next : Around P l f strip
   around_next = record { sound = sound; at = at_next }
@@ -172,8 +167,8 @@ module _ (N : Model) (s : ℕ) (c : Taken) (hs : List ℕ) (w : HasStrips N s c 
     no_rings = λ q there is. ap (outer P) face_k ∙ outer_f ∙ only_l q there (is ∙ face_k);
   }
 
-  rung_is : c.edge + m + 1 + suc n ≡ x
-  rung_is = next_number (c.edge + m) n
+  riser_is : c.edge + m + 1 + suc n ≡ x
+  riser_is = next_number (c.edge + m) n
 
   next_ok : first_false P (Kef (half (minus x))) ≡ None
   next_ok = kef_accepted P (half (minus x)) sound (subst (KefGoes P) (sym (code-half (minus x))) goes)
@@ -244,6 +239,6 @@ module _ (N : Model) (s : ℕ) (c : Taken) (hs : List ℕ) (w : HasStrips N s c 
   unfolding effect
   next_is = ap (kef P) (code-half (minus x)) ∙ kef_is
 
-  -- the next rung goes, and its strip is joined too
+  -- the next riser goes, and its strip is joined too
   pub next_joined : (first_false P (Kef (half (minus (c.edge + m + 1 + suc n)))) ≡ None) × (effect P (Kef (half (minus (c.edge + m + 1 + suc n)))) ≡ X)
-  next_joined = subst (λ r. (first_false P (Kef (half (minus r))) ≡ None) × (effect P (Kef (half (minus r))) ≡ X)) (sym rung_is) (next_ok, next_is)
+  next_joined = subst (λ r. (first_false P (Kef (half (minus r))) ≡ None) × (effect P (Kef (half (minus r))) ≡ X)) (sym riser_is) (next_ok, next_is)

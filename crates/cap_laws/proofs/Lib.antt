@@ -1,2 +1,4 @@
 pub mod Gone
 pub mod Joined
+pub mod Parted
+pub mod Whole

@@ -5,12 +5,13 @@ use Rattle.boundary_model.specs.HalfEdge.{plus, minus}
 use Rattle.boundary_model.specs.Table as table
 use Rattle.boundary_model.specs.Model.{Model, cycle}
 use Rattle.shapes.specs.Fresh.{Taken, numbers_after}
+use Rattle.shapes.specs.Prism.{next_place}
 use Rattle.shapes.specs.Rewriting.{without_rows}
-use Rattle.cap_laws.specs.Strips.{rung}
+use Rattle.cap_laws.specs.Strips.{riser}
 
--- the first strip with the n next ones: back along their mates, up the first rung, along their copies, and down the next rung
+-- the first strip with the n next ones: back along their mates, up the first riser, along their copies, and down the next riser
 abbrev pub joined_loop : Taken → List ℕ → ℕ → List ℕ
-joined_loop c hs n = reverse (take (suc n) hs) ++ plus (c.edge + length hs + 1) ∷ (map minus (numbers_after c.edge (suc n)) ++ minus (rung c (length hs) (suc n)) ∷ [])
+joined_loop c hs n = let m = length hs in reverse (take (suc n) hs) ++ plus (riser c m 0) ∷ (map minus (numbers_after c.edge (suc n)) ++ minus (riser c m (next_place m n)) ∷ [])
 
 -- the first strip has taken in the n next ones
 unfoldable pub joined_part : Model → Taken → List ℕ → ℕ → Model
@@ -20,7 +21,7 @@ joined_part N c hs n = record N {
   edges = without_rows N.edges (numbers_after (c.edge + length hs + 1) n);
 }
 
--- all strips and rungs are gone. The first face is the cap below, with the mates, last first, and a new face the cap above, with the copies
+-- all strips and risers are gone. The first face is the cap below, with the mates, last first, and a new face the cap above, with the copies
 unfoldable pub capped : Model → ℕ → Taken → List ℕ → Model
 capped N s c hs = let m = length hs in record N {
   faces = table.put (without_rows N.faces (numbers_after (c.face + 1) (m - 1))) (c.face + m + 1) (record { solid = s; outer = c.loop + m + 1 });

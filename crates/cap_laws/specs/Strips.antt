@@ -1,19 +1,20 @@
 -- The strips of faces along a cycle of section edges, one beside the other, and what is asked of them.
-use Rattle.std.specs.Prelude.{◌≡◌, ◌≤◌, ◌<◌, ℕ, suc, ◌+◌, cond, nat_eq, IsTrue, List, [], ◌∷◌, length, get_or, Some, None}
+use Rattle.std.specs.Prelude.{◌≡◌, ◌≤◌, ◌<◌, ℕ, suc, ◌+◌, IsTrue, List, [], ◌∷◌, length, get_or, Some, None}
 use Rattle.cyclic_list.specs.Rings.{canonical}
 use Rattle.boundary_model.specs.HalfEdge.{plus, minus}
 use Rattle.boundary_model.specs.Table as table
 use Rattle.boundary_model.specs.Model.{Model, cycle, face_of, is_number}
 use Rattle.boundary_model.specs.Sound.{Has}
 use Rattle.shapes.specs.Fresh.{Taken}
+use Rattle.shapes.specs.Prism.{next_place}
 
--- the edge between the strips at place i and before it, of m strips in a ring: after the last place comes the first again
-abbrev pub rung : Taken → ℕ → ℕ → ℕ
-rung c m i = cond (nat_eq i m) (c.edge + m + 1) (c.edge + m + suc i)
+-- the edge that rises from the start of the strip at place i, of m strips in a ring
+abbrev pub riser : Taken → ℕ → ℕ → ℕ
+riser c m i = c.edge + m + suc i
 
--- the strip at place i: the mate that is kept below, up the rung, back along the copy for above, and down the next rung
+-- the strip at place i: the mate that is kept below, up its riser, back along the copy for above, and down the next riser
 abbrev pub strip_loop : Taken → List ℕ → ℕ → List ℕ
-strip_loop c hs i = get_or hs i 0 ∷ plus (rung c (length hs) i) ∷ minus (c.edge + suc i) ∷ minus (rung c (length hs) (suc i)) ∷ []
+strip_loop c hs i = let m = length hs in get_or hs i 0 ∷ plus (riser c m i) ∷ minus (c.edge + suc i) ∷ minus (riser c m (next_place m i)) ∷ []
 
 -- along the mates hs there are strips, faces of solid s with that loop and no other; the numbers after them are free
 pub record HasStrips (N : Model) (s : ℕ) (c : Taken) (hs : List ℕ) : Type 0 where
