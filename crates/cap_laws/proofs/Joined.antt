@@ -1,11 +1,10 @@
 -- One strip more joined to the first ones: kef of the riser between them.
-use Rattle.std.proofs.Common.{◌≡◌, ◌≢◌, ℕ, suc, ◌+◌, ◌<◌, cond, List, [], ◌∷◌, ◌++◌, map, length, Option, Some, None, is_some, unwrap_or, refl, sym, ap, ◌∙◌, subst, arith, inl, inr}
+use Rattle.std.proofs.Common.{◌≡◌, ◌≢◌, ℕ, suc, ◌+◌, ◌<◌, List, [], ◌∷◌, ◌++◌, map, length, Some, None, is_some, unwrap_or, refl, sym, ap, ◌∙◌, subst, arith, inl, inr}
 use Rattle.std.specs.Prelude.{reverse, take, get_or}
 use Rattle.std.proofs.Math.Seq.{take-suc}
-use Rattle.std.proofs.lemmas.Bool.{eq-eqb, ne_eqb}
 use Rattle.std.proofs.lemmas.Bool.Decides.{nat_tests, eqb_tells}
 use Rattle.std.proofs.lemmas.List.{append_assoc, map-append, reverse-append}
-use Rattle.cyclic_list.specs.Items.{count, IsIn, IsApart}
+use Rattle.cyclic_list.specs.Items.{IsIn, IsApart}
 use Rattle.cyclic_list.specs.Rings.{canonical, rest}
 use Rattle.cyclic_list.proofs.Lists.{count-append, tick_same}
 use Rattle.cyclic_list.proofs.Rotations.{canonical-rotates, canonical_same, rest_same, rest_at}
@@ -15,7 +14,6 @@ use Rattle.boundary_model.specs.Table.{Table, tables, same_table}
 use Rattle.boundary_model.specs.Model.{Model, cycle, no_face, no_loop, loop_of, face_of, outer, cycle_of}
 use Rattle.boundary_model.specs.Sound.{Sound, Has}
 use Rattle.boundary_model.proofs.Halves.{minus_row, code-half}
-use Rattle.boundary_model.proofs.Models.{face_row}
 use Rattle.euler_operators.specs.declared.Op.TheVariants.{Kef}
 use Rattle.euler_operators.specs.Conditions.{face_at, first_false}
 use Rattle.euler_operators.specs.Effect.{effect, kef}

@@ -1,4 +1,5 @@
-pub mod Gone
-pub mod Joined
-pub mod Parted
+mod Gone
+mod Joined
+mod Parted
+mod Two
 pub mod Whole

@@ -1,23 +1,22 @@
 -- All strips joined: kemr of the first riser parts their loop, and mfkrh makes a face of the ring.
-use Rattle.std.proofs.Common.{◌≡◌, ◌≢◌, ℕ, suc, ◌+◌, ◌-◌, ◌≤◌, List, [], ◌∷◌, ◌++◌, map, length, Option, Some, None, is_some, unwrap_or, cond, refl, sym, ap, ◌∙◌, subst, arith}
+use Rattle.std.proofs.Common.{◌≡◌, ◌≢◌, ℕ, suc, ◌+◌, ◌-◌, ◌≤◌, List, [], ◌∷◌, ◌++◌, map, length, Some, None, is_some, unwrap_or, cond, refl, sym, ap, ◌∙◌, subst, arith}
 use Rattle.std.specs.Prelude.{reverse, take}
 use Rattle.std.proofs.lemmas.Bool.{eq-eqb, ne_eqb}
-use Rattle.std.proofs.lemmas.Bool.Decides.{nat_tests}
 use Rattle.std.proofs.lemmas.List.{append_assoc, length-reverse, take_all}
 use Rattle.cyclic_list.specs.Items.{count, IsIn, IsApart, before, after}
 use Rattle.cyclic_list.specs.Rings.{canonical, rest, between, beyond}
 use Rattle.cyclic_list.proofs.Lists.{count-append, tick_same, before_at, after_at}
 use Rattle.cyclic_list.proofs.Rotations.{canonical-rotates, rest_same, rest_at}
-use Rattle.boundary_model.specs.HalfEdge.{edge_of, mate, plus, minus, half}
+use Rattle.boundary_model.specs.HalfEdge.{mate, plus, minus, half}
 use Rattle.boundary_model.specs.Table as table
 use Rattle.boundary_model.specs.Table.{Table, tables, same_table}
-use Rattle.boundary_model.specs.Model.{Model, LoopRow, LoopContent, cycle, no_face, tail, loop_of, face_of, solid_of, outer, cycle_of}
+use Rattle.boundary_model.specs.Model.{Model, LoopRow, cycle, no_face, tail, loop_of, face_of, solid_of, outer, cycle_of}
 use Rattle.boundary_model.specs.Sound.{Sound}
 use Rattle.boundary_model.proofs.Halves.{plus_row, code-half}
 use Rattle.boundary_model.proofs.Tables.{map_one}
 use Rattle.boundary_model.proofs.Models.{face_row}
 use Rattle.euler_operators.specs.declared.Op.TheVariants.{Kemr, Mfkrh}
-use Rattle.euler_operators.specs.Conditions.{face_at, first_false}
+use Rattle.euler_operators.specs.Conditions.{first_false}
 use Rattle.euler_operators.specs.Effect.{effect, kemr, mfkrh, cycle_or_lone, loop_to_face}
 use Rattle.euler_laws_shared.proofs.Undo.{mate_plus}
 use Rattle.euler_laws_kemr.proofs.KemrSound as parted
@@ -26,11 +25,10 @@ use Rattle.euler_laws_mekr.proofs.Mekr.{kemr_accepted}
 use Rattle.euler_laws_faces.proofs.Kfmrh.{MakeGoes, mfkrh_accepted}
 use Rattle.euler_laws.proofs.Cases.{effect_keeps_sound}
 use Rattle.euler_laws.specs.Laws.{effects, AreAccepted}
-use Rattle.fresh_laws.proofs.Rows.{get-put_here, get-put_other, put-put}
+use Rattle.fresh_laws.proofs.Rows.{get-put_here, put-put}
 use Rattle.prism_laws.proofs.Steps.{Around, apart_xs, loop_is, half_is, cycle_is, face_is}
 use Rattle.prism_laws.proofs.Sides.{next_last}
 use Rattle.shapes.specs.Fresh.{Taken, numbers_after}
-use Rattle.shapes.specs.Prism.{next_place}
 use Rattle.shapes.specs.Rewriting.{without_rows}
 use Rattle.cap_laws.specs.Strips.{HasStrips, riser}
 use Rattle.cap_laws.specs.Caps.{joined_loop, joined_part, capped}

@@ -1,12 +1,10 @@
 -- From the strips to the caps, operator by operator.
-use Rattle.std.proofs.Common.{◌≡◌, ◌≢◌, ℕ, zero, suc, ◌+◌, ◌-◌, ◌≤◌, ◌<◌, List, [], ◌∷◌, ◌++◌, map, length, Some, refl, sym, ap, ◌∙◌, subst, arith, inl, inr}
-use Rattle.std.specs.Prelude.{reverse, take, get_or}
+use Rattle.std.proofs.Common.{◌≡◌, ℕ, zero, suc, ◌+◌, ◌-◌, ◌<◌, List, [], ◌∷◌, ◌++◌, map, length, Some, sym, ap, ◌∙◌, subst, arith}
+use Rattle.std.specs.Prelude.{reverse}
 use Rattle.std.proofs.Math.Seq.{take-suc}
-use Rattle.std.proofs.lemmas.Bool.{cases_lt}
 use Rattle.std.proofs.lemmas.List.{map-append}
 use Rattle.cyclic_list.specs.Rings.{canonical}
 use Rattle.boundary_model.specs.HalfEdge.{plus, minus, half}
-use Rattle.boundary_model.specs.Table as table
 use Rattle.boundary_model.specs.Model.{Model, cycle}
 use Rattle.boundary_model.specs.Sound.{Sound}
 use Rattle.boundary_model.proofs.Tables.{put_same}
