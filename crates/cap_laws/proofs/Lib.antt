@@ -1,4 +1,4 @@
-mod Gone
+pub mod Gone
 mod Joined
 mod Parted
 mod Two

@@ -1,0 +1,4 @@
+mod Kept
+mod Rim
+pub mod Strips
+pub mod Opened
