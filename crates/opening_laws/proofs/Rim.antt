@@ -1,13 +1,11 @@
 -- The edges round the cap above lead from copy to copy.
-use Rattle.std.proofs.Common.{◌≡◌, ◌≢◌, ℕ, zero, suc, ◌+◌, ◌≤◌, ◌<◌, cond, nat_eq, List, length, refl, sym, ap, ◌∙◌, arith, inl, inr}
+use Rattle.std.proofs.Common.{◌≡◌, ℕ, zero, suc, ◌+◌, ◌≤◌, ◌<◌, cond, nat_eq, List, length, refl, sym, ap, ◌∙◌, arith, inl, inr}
 use Rattle.std.specs.Prelude.{map, get_or}
-use Rattle.std.proofs.lemmas.Bool.Decides.{eqb_tells}
 use Rattle.std.proofs.lemmas.List.{length-map, get_or-map}
-use Rattle.boundary_model.specs.HalfEdge.{mate}
 use Rattle.boundary_model.specs.Table as table
 use Rattle.boundary_model.specs.Table.{Table}
 use Rattle.boundary_model.specs.Model.{Model, EdgeRow, tail}
-use Rattle.prism_laws.proofs.Sides.{next_inner, next_last}
+use Rattle.euler_laws_shared.proofs.Goes.{equals, differs}
 use Rattle.shapes.specs.Fresh.{Taken, numbers_after}
 use Rattle.shapes.specs.Prism.{next_place}
 use Rattle.shapes.specs.Rewriting.{renamed}
@@ -15,7 +13,7 @@ use Rattle.split_shapes.specs.Opening.{with_rim}
 use Rattle.strip_laws.specs.Strips.{with_rows, copied, raised_edge}
 use Rattle.strip_laws.specs.Opened.{CanBeOpened}
 use Rattle.strip_laws.proofs.Rows.{length-numbers_after, numbers_at, renamed_cases}
-use Rattle.strip_laws.proofs.Cycle.{starts_differ}
+use Rattle.strip_laws.proofs.Cycle.{starts_differ, next_cases, next_below}
 
 module _ (M : Model) (above : List ℕ) (s : ℕ) (c : Taken) (bs : List ℕ) (w : CanBeOpened M above s c bs) where
   abbrev m : ℕ
@@ -34,29 +32,19 @@ module _ (M : Model) (above : List ℕ) (s : ℕ) (c : Taken) (bs : List ℕ) (w
     | inr p ↦ absurd (p.1 j (omega (arith, lt, length-map bs (tail M))) (omega (arith, lt, length-numbers_after c.vertex m)) (start_get j lt))
   ]
 
-  -- the place before which the edge at a place ends
-  next_is : (j : ℕ) → j < m → c.vertex + suc (next_place m j) ≡ cond (nat_eq (suc j) m) (c.vertex + 1) (c.vertex + suc j + 1)
-  next_is j lt = elim (eqb_tells (suc j) m) [
-    | inl e ↦ ap (λ i. c.vertex + suc i) (next_last m j (omega (arith, e.1))) ∙ sym (ap (λ b. cond b (c.vertex + 1) (c.vertex + suc j + 1)) e.0)
-    | inr e ↦ ap (λ i. c.vertex + suc i) (next_inner m j (less j m lt e.1)) ∙ omega arith ∙ sym (ap (λ b. cond b (c.vertex + 1) (c.vertex + suc j + 1)) e.0)
-  ] where
-    less : (j m : ℕ) → j < m → suc j ≢ m → j + 1 < m
-    less j m lt ne = grind arith
-
-  next_within : (j : ℕ) → j < m → next_place m j < m
-  next_within j lt = elim (eqb_tells (j + 1) m) [
-    | inl e ↦ omega (arith, lt, ap (λ b. cond b 0 (j + 1)) e.0)
-    | inr e ↦ less (next_place m j) j m lt e.1 (ap (λ b. cond b 0 (j + 1)) e.0)
-  ] where
-    less : (n j m : ℕ) → j < m → j + 1 ≢ m → n ≡ j + 1 → n < m
-    less n j m lt ne e = grind arith
+  -- the edge at a place ends at the copy of the next one
+  next_is : (j : ℕ) → c.vertex + suc (next_place m j) ≡ cond (nat_eq (suc j) m) (c.vertex + 1) (c.vertex + suc j + 1)
+  next_is j = elim (next_cases m j) [
+    | inl p ↦ ap (λ i. c.vertex + suc i) p.1 ∙ sym (ap (λ b. cond b (c.vertex + 1) (c.vertex + suc j + 1)) (equals (suc j) m (omega (arith, p.0))))
+    | inr p ↦ ap (λ i. c.vertex + suc i) p.1 ∙ omega arith ∙ sym (ap (λ b. cond b (c.vertex + 1) (c.vertex + suc j + 1)) (differs (suc j) m (λ e. p.0 (omega (arith, e)))))
+  ]
 
   abbrev rim : ℕ → EdgeRow
   rim j = record { plus_tail = cond (nat_eq (suc j) m) (c.vertex + 1) (c.vertex + suc j + 1); minus_tail = c.vertex + suc j }
 
   row_is : (j : ℕ) → j < m → raised_edge M bs (copied M c bs m) j ≡ rim j
   row_is j lt = λ i. record {
-    plus_tail = (ap (renamed (copied M c bs m)) (sym (w.meet j lt)) ∙ copy_at (next_place m j) (next_within j lt) ∙ next_is j lt) i;
+    plus_tail = (ap (renamed (copied M c bs m)) (sym (w.meet j lt)) ∙ copy_at (next_place m j) (next_below m j lt) ∙ next_is j) i;
     minus_tail = copy_at j lt i;
   }
 

@@ -1,35 +1,27 @@
 -- Once the copies are raised there are strips along the mates.
-use Rattle.std.proofs.Common.{◌≡◌, ◌≢◌, ℕ, zero, suc, ◌+◌, ◌≤◌, ◌<◌, true, cond, nat_eq, nat_lt, List, [], ◌∷◌, ◌++◌, length, Option, Some, None, is_some, IsTrue, refl, sym, ap, ◌∙◌, subst, arith, inl, inr, true≢false}
+use Rattle.std.proofs.Common.{◌≡◌, ◌≢◌, ℕ, suc, ◌+◌, ◌≤◌, ◌<◌, true, cond, nat_lt, List, [], ◌∷◌, ◌++◌, length, Option, Some, None, is_some, refl, sym, ap, ◌∙◌, subst, arith, inl, inr, true≢false}
 use Rattle.std.specs.Prelude.{map, get_or}
 use Rattle.std.specs.Option.{option_map}
-use Rattle.std.proofs.lemmas.Bool.Decides.{nat_tests, eqb_tells}
+use Rattle.std.proofs.lemmas.Bool.Decides.{nat_tests}
 use Rattle.std.proofs.lemmas.List.{length-map, get_or-map}
 use Rattle.cyclic_list.specs.Rings.{canonical}
 use Rattle.boundary_model.specs.HalfEdge.{mate, plus, minus}
 use Rattle.boundary_model.specs.Table as table
 use Rattle.boundary_model.specs.Table.{Table, get-map_rows}
-use Rattle.boundary_model.specs.Model.{Model, LoopRow, cycle, face_of, is_number}
+use Rattle.boundary_model.specs.Model.{Model, LoopRow, cycle, face_of}
 use Rattle.boundary_model.specs.Sound.{Has}
 use Rattle.boundary_model.proofs.Models.{face_row}
-use Rattle.euler_laws_shared.proofs.Loops.{some_row}
 use Rattle.prism_laws.proofs.Sides.{fits}
-use Rattle.shapes.specs.Fresh.{Taken, numbers_after}
+use Rattle.shapes.specs.Fresh.{Taken}
 use Rattle.shapes.specs.Prism.{next_place}
 use Rattle.shapes.specs.Rewriting.{rewritten_row, renamed}
 use Rattle.strip_laws.specs.Strips.{with_rows, put_out, strip_face, raised_items, raised_loop, copies_raised}
 use Rattle.strip_laws.specs.Opened.{CanBeOpened}
 use Rattle.strip_laws.proofs.Rows.{rows_at, rows_high, rows_split}
+use Rattle.strip_laws.proofs.Cycle.{next_below}
 use Rattle.cap_laws.specs.Strips.{HasStrips, strip_loop}
-use Rattle.cap_laws.specs.Strips as caps
 
-pub next_within : (n j : ℕ) → j < n → next_place n j < n
-next_within n j lt = elim (eqb_tells (j + 1) n) [
-  | inl e ↦ omega (arith, lt, ap (λ b. cond b 0 (j + 1)) e.0)
-  | inr e ↦ less (next_place n j) j n lt e.1 (ap (λ b. cond b 0 (j + 1)) e.0)
-] where
-  less : (k j n : ℕ) → j < n → j + 1 ≢ n → k ≡ j + 1 → k < n
-  less k j n lt ne e = grind arith
-
+-- a list that isn't empty has an item
 pub some_length : (bs : List ℕ) → bs ≢ [] → 1 ≤ length bs
 some_length [] ne = absurd (ne refl)
 some_length (b ∷ bs) ne = omega arith
@@ -69,7 +61,7 @@ module _ (M : Model) (above : List ℕ) (s : ℕ) (c : Taken) (bs : List ℕ) (w
   items_are j lt =
       let k : ℕ = next_place m j in
       ap (λ b. mate (get_or bs j 0) ∷ cond b (plus (c.edge + m + suc j) ∷ []) [] ++ minus (c.edge + suc j) ∷ cond (nat_lt k m) (minus (c.edge + m + suc k) ∷ []) []) (less_is j m lt)
-      ∙ ap (λ b. mate (get_or bs j 0) ∷ plus (c.edge + m + suc j) ∷ minus (c.edge + suc j) ∷ cond b (minus (c.edge + m + suc k) ∷ []) []) (less_is k m (next_within m j lt))
+      ∙ ap (λ b. mate (get_or bs j 0) ∷ plus (c.edge + m + suc j) ∷ minus (c.edge + suc j) ∷ cond b (minus (c.edge + m + suc k) ∷ []) []) (less_is k m (next_below m j lt))
       ∙ (λ i. sym (get_or-map mate bs j 0 0 lt) i ∷ plus (c.edge + sym size i + suc j) ∷ minus (c.edge + suc j) ∷ minus (c.edge + sym size i + suc (next_place (sym size i) j)) ∷ [])
 
   row_at : (j : ℕ) → j < m → table.get N.loops (c.loop + suc j) ≡ Some (raised_loop c bs m j)
@@ -92,7 +84,7 @@ module _ (M : Model) (above : List ℕ) (s : ℕ) (c : Taken) (bs : List ℕ) (w
     | inr p ↦ absurd (true≢false (sym (old_face q (c.face + suc j) (ap (λ t. table.get t q) raised_loops ∙ p) there is) ∙ ap is_some (w.faces_free (c.face + suc j) (omega arith))))
   ]
 
-  raised_strips : HasStrips N s c hs
+  pub raised_strips : HasStrips N s c hs
   raised_strips = record {
     some = omega (arith, size, some_length bs w.some_half);
     loops = λ j lt. row_at j (within j lt) ∙ ap (λ xs. Some (record { face = c.face + suc j; content = cycle (canonical xs) })) (items_are j (within j lt));

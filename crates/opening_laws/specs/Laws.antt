@@ -16,7 +16,16 @@ use Rattle.cap_laws.specs.CapOps.{cap_ops}
 abbrev pub CopiesLeaveStrips : Type 0
 CopiesLeaveStrips = (M : Model) (above : List ℕ) (s : ℕ) (c : Taken) (bs : List ℕ) → CanBeOpened M above s c bs → HasStrips (copies_raised M above s c bs (length bs)) s c (map mate bs)
 
--- and with two caps made of them the solid is open
+-- with two caps made of them the solid is open
 abbrev pub CappedAreOpened : Type 0
 CappedAreOpened = (M : Model) (above : List ℕ) (s : ℕ) (c : Taken) (bs : List ℕ) → CanBeOpened M above s c bs →
     capped (copies_raised M above s c bs (length bs)) s c (map mate bs) ≡ opened_along M above s c bs
+
+-- so the operators that make caps are accepted in turn, and open it
+abbrev pub LastAreAccepted : Type 0
+LastAreAccepted = (M : Model) (above : List ℕ) (s : ℕ) (c : Taken) (bs : List ℕ) → CanBeOpened M above s c bs → Sound (copies_raised M above s c bs (length bs)) →
+    AreAccepted (copies_raised M above s c bs (length bs)) (cap_ops c (length bs))
+
+abbrev pub LastOpen : Type 0
+LastOpen = (M : Model) (above : List ℕ) (s : ℕ) (c : Taken) (bs : List ℕ) → CanBeOpened M above s c bs → Sound (copies_raised M above s c bs (length bs)) →
+    effects (copies_raised M above s c bs (length bs)) (cap_ops c (length bs)) ≡ opened_along M above s c bs
