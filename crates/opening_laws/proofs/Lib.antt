@@ -3,3 +3,4 @@ mod Rim
 pub mod Strips
 pub mod Opened
 pub mod Caps
+pub mod Whole
