@@ -1,4 +1,4 @@
--- Strips joined into one, and parted along the first rung into the two caps.
+-- Strips joined into one, and that one parted along the first riser into the two caps.
 use Rattle.std.specs.Prelude.{ℕ, suc, ◌+◌, ◌-◌, List, [], ◌∷◌, ◌++◌, map, reverse, length, take}
 use Rattle.cyclic_list.specs.Rings.{canonical}
 use Rattle.boundary_model.specs.HalfEdge.{plus, minus}
@@ -21,7 +21,8 @@ joined_part N c hs n = record N {
   edges = without_rows N.edges (numbers_after (c.edge + length hs + 1) n);
 }
 
--- all strips and risers are gone. The first face is the cap below, with the mates, last first, and a new face the cap above, with the copies
+-- all risers are gone, and all strips but the first, which is the cap below: its loop is the mates, last first. A new face is the cap
+-- above: its loop is the copies
 unfoldable pub capped : Model → ℕ → Taken → List ℕ → Model
 capped N s c hs = let m = length hs in record N {
   faces = table.put (without_rows N.faces (numbers_after (c.face + 1) (m - 1))) (c.face + m + 1) (record { solid = s; outer = c.loop + m + 1 });
