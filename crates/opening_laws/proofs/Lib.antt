@@ -2,5 +2,4 @@ mod Kept
 mod Rim
 pub mod Strips
 pub mod Opened
-pub mod Caps
 pub mod Whole

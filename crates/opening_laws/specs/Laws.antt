@@ -1,4 +1,4 @@
--- The laws of solids opened along one cycle of section edges, from the copies to the two caps.
+-- The laws of solids opened along one cycle of section edges, each over every model and every cycle along which a solid can be opened.
 use Rattle.std.specs.Prelude.{◌≡◌, ℕ, List, map, length}
 use Rattle.boundary_model.specs.HalfEdge.{mate}
 use Rattle.boundary_model.specs.Model.{Model}
@@ -10,7 +10,7 @@ use Rattle.strip_laws.specs.Strips.{copies_raised}
 use Rattle.strip_laws.specs.Opened.{CanBeOpened}
 use Rattle.cap_laws.specs.Strips.{HasStrips}
 use Rattle.cap_laws.specs.Caps.{capped}
-use Rattle.cap_laws.specs.CapOps.{cap_ops}
+use Rattle.opening_laws.specs.OpeningOps.{opening_ops}
 
 -- once the copies are raised there are strips along the mates
 abbrev pub CopiesLeaveStrips : Type 0
@@ -21,11 +21,13 @@ abbrev pub CappedAreOpened : Type 0
 CappedAreOpened = (M : Model) (above : List ℕ) (s : ℕ) (c : Taken) (bs : List ℕ) → CanBeOpened M above s c bs →
     capped (copies_raised M above s c bs (length bs)) s c (map mate bs) ≡ opened_along M above s c bs
 
--- so the operators that make caps are accepted in turn, and open it
-abbrev pub LastAreAccepted : Type 0
-LastAreAccepted = (M : Model) (above : List ℕ) (s : ℕ) (c : Taken) (bs : List ℕ) → CanBeOpened M above s c bs → Sound (copies_raised M above s c bs (length bs)) →
-    AreAccepted (copies_raised M above s c bs (length bs)) (cap_ops c (length bs))
+-- so each operator, from the first strip to the caps, is accepted in its turn
+abbrev pub OpeningsAreAccepted : Type 0
+OpeningsAreAccepted = (M : Model) (above : List ℕ) (s : ℕ) (c : Taken) (bs : List ℕ) → CanBeOpened M above s c bs → AreAccepted M (opening_ops M s c bs)
 
-abbrev pub LastOpen : Type 0
-LastOpen = (M : Model) (above : List ℕ) (s : ℕ) (c : Taken) (bs : List ℕ) → CanBeOpened M above s c bs → Sound (copies_raised M above s c bs (length bs)) →
-    effects (copies_raised M above s c bs (length bs)) (cap_ops c (length bs)) ≡ opened_along M above s c bs
+-- and together they open the solid
+abbrev pub OpeningsOpen : Type 0
+OpeningsOpen = (M : Model) (above : List ℕ) (s : ℕ) (c : Taken) (bs : List ℕ) → CanBeOpened M above s c bs → effects M (opening_ops M s c bs) ≡ opened_along M above s c bs
+
+abbrev pub OpenedAreSound : Type 0
+OpenedAreSound = (M : Model) (above : List ℕ) (s : ℕ) (c : Taken) (bs : List ℕ) → CanBeOpened M above s c bs → Sound (opened_along M above s c bs)
