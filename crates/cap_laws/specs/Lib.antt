@@ -1,0 +1,4 @@
+pub mod Strips
+pub mod Caps
+pub mod CapOps
+pub mod Laws

@@ -1,0 +1,32 @@
+-- Strips, which are faces of four edges one beside the other along a cycle of section edges, and what is asked of them. Numbers are
+-- taken from c on: the strip at place i, from 0 on, of m has face c.face + i + 1, loop c.loop + i + 1 and edge c.edge + i + 1, its copy
+-- of a section edge, and edge c.edge + m + i + 1, its riser.
+use Rattle.std.specs.Prelude.{◌≡◌, ◌≤◌, ◌<◌, ℕ, suc, ◌+◌, IsTrue, List, [], ◌∷◌, length, get_or, Some, None}
+use Rattle.cyclic_list.specs.Rings.{canonical}
+use Rattle.boundary_model.specs.HalfEdge.{plus, minus}
+use Rattle.boundary_model.specs.Table as table
+use Rattle.boundary_model.specs.Model.{Model, cycle, face_of, is_number}
+use Rattle.boundary_model.specs.Sound.{Has}
+use Rattle.shapes.specs.Fresh.{Taken}
+use Rattle.shapes.specs.Prism.{next_place}
+
+-- the edge that rises from the start of the strip at place i, of m strips in a ring
+abbrev pub riser : Taken → ℕ → ℕ → ℕ
+riser c m i = c.edge + m + suc i
+
+-- the strip at place i: the mate that is kept below, up its riser, back along the copy for above, and down the next riser
+abbrev pub strip_loop : Taken → List ℕ → ℕ → List ℕ
+strip_loop c hs i = let m = length hs in get_or hs i 0 ∷ plus (riser c m i) ∷ minus (c.edge + suc i) ∷ minus (riser c m (next_place m i)) ∷ []
+
+-- along the mates hs there are strips of solid s
+pub record HasStrips (N : Model) (s : ℕ) (c : Taken) (hs : List ℕ) : Type 0 where
+  pub some : 1 ≤ length hs
+  -- each is a face with its loop, and no ring
+  pub loops : (i : ℕ) → i < length hs → table.get N.loops (c.loop + suc i) ≡ Some (record { face = c.face + suc i; content = cycle (canonical (strip_loop c hs i)) })
+  pub faces : (i : ℕ) → i < length hs → table.get N.faces (c.face + suc i) ≡ Some (record { solid = s; outer = c.loop + suc i })
+  pub alone : (i q : ℕ) → i < length hs → Has N.loops q → face_of N q ≡ c.face + suc i → c.loop + suc i ≡ q
+  -- the next numbers of a face and a loop are free
+  pub face_free : table.get N.faces (c.face + length hs + 1) ≡ None
+  pub loop_free : table.get N.loops (c.loop + length hs + 1) ≡ None
+  pub face_fits : IsTrue (is_number (c.face + length hs + 1))
+  pub loop_fits : IsTrue (is_number (c.loop + length hs + 1))

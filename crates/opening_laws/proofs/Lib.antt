@@ -1,0 +1,5 @@
+mod Kept
+mod Rim
+pub mod Strips
+pub mod Opened
+pub mod Whole

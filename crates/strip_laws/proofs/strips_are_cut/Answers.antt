@@ -1,0 +1,5 @@
+use Rattle.strip_laws.proofs.Whole.{strips_accepted, strips_are_cut}
+use Rattle.strip_laws.proofs.strips_are_cut.Goals as goal
+
+pub returns : goal.returns
+returns c = record { accepted = strips_accepted; cut = strips_are_cut }

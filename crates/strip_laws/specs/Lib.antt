@@ -1,0 +1,4 @@
+pub mod Strips
+pub mod StripOps
+pub mod Opened
+pub mod Laws
