@@ -1,4 +1,4 @@
--- Worked examples, computed: a block cut diagonally, once its faces are drawn.
+-- Worked examples, computed: a block cut diagonally, once the diagonals are drawn.
 use Rattle.std.specs.Prelude.{◌≡◌, ℕ, pos, negsuc, List, [], ◌∷◌, refl}
 use Rattle.boundary_model.specs.declared.Corner.TheVariants.{At}
 use Rattle.boundary_model.specs.Model.{Model}
@@ -8,7 +8,6 @@ use Rattle.euler_operators.proofs.WorkedScripts.{at, after_run, plus, minus}
 use Rattle.shapes.specs.Fresh.{Taken, taken_in}
 use Rattle.split_shapes.specs.Sides.{faces_above}
 use Rattle.split_shapes.specs.Section.{below_halves, section_cycles}
-use Rattle.split_shapes.specs.Drawing.{with_drawings}
 use Rattle.split_shapes.specs.Opening.{opened_along}
 use Rattle.split_shapes.proofs.WorkedSplits.{computed, plane, rows_of, block4}
 use Rattle.strip_laws.specs.Strips.{strips_cut, copies_raised}
@@ -20,7 +19,7 @@ unfolding strips_cut copies_raised
 opened = 0
 
 abbrev pub drawn : Model
-drawn = (with_drawings block4 1 (plane (pos 1) (negsuc 0) (pos 0) (pos 0))).model
+drawn = after_run block4 (Mef (plus 7) (plus 11) (plus 13) 7 7 ∷ Mef (minus 2) (minus 4) (plus 14) 8 8 ∷ [])
 
 abbrev pub above : List ℕ
 above = 3 ∷ 4 ∷ 7 ∷ 8 ∷ []

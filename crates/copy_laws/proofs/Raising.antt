@@ -21,8 +21,8 @@ use Rattle.strip_laws.specs.StripOps.{raise_copy, copy_ops}
 use Rattle.strip_laws.specs.Opened.{CanBeOpened}
 use Rattle.strip_laws.proofs.Rows.{rows_same}
 use Rattle.strip_laws.proofs.Copied as copy
-use Rattle.strip_laws.proofs.Raised.{not_less}
-use Rattle.strip_laws.proofs.Copies.{copy_accepted, copy_is}
+use Rattle.copy_laws.proofs.Raised.{not_less}
+use Rattle.copy_laws.proofs.Copies.{copy_accepted, copy_is}
 use Rattle.strip_laws.proofs.Whole.{cut_sound}
 
 either_way : (b : Bool) (v : ℕ) → cond b v v ≡ v
