@@ -1,0 +1,2 @@
+pub mod SplitOps
+pub mod Laws

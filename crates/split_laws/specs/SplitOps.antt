@@ -1,0 +1,48 @@
+-- The Euler operators of a split, in turn.
+use Rattle.std.specs.Prelude.{ℕ, List, [], ◌∷◌, ◌++◌, map, filter, flat_map}
+use Rattle.lattice.specs.declared.Plane.{Plane}
+use Rattle.boundary_model.specs.Table as table
+use Rattle.boundary_model.specs.Model.{Model}
+use Rattle.euler_operators.specs.declared.Op.{Op}
+use Rattle.euler_operators.specs.declared.Op.TheVariants.{Kfmrh, Part}
+use Rattle.split_shapes.specs.Sides.{faces_above}
+use Rattle.split_shapes.specs.Section.{below_halves, section_cycles}
+use Rattle.split_shapes.specs.Drawing.{Drawing, with_drawings}
+use Rattle.split_shapes.specs.Opening.{Caps, Opening, next_opened, outer_caps, holes_closed}
+use Rattle.split_shapes.specs.Split.{opened_at}
+use Rattle.cut_pairs.specs.Laws.{rewriting_ops}
+use Rattle.opened_sections.specs.InTurn.{upper_faces}
+use Rattle.opening_laws.specs.OpeningOps.{opening_ops}
+
+-- solid s opened along some cycles, in their order
+abbrev pub openings_ops : List ℕ → ℕ → Plane → Opening → List (List ℕ) → List Op
+openings_ops above s p o [] = []
+openings_ops above s p o (bs ∷ cs) = opening_ops o.model s o.taken bs ++ openings_ops above s p (next_opened p above s o bs) cs
+
+-- the caps of each hole become rings of the caps o
+abbrev pub closing_ops : Caps → List Caps → List Op
+closing_ops o ks = flat_map (λ k. Kfmrh o.lower k.lower ∷ Kfmrh o.upper k.upper ∷ []) ks
+
+abbrev pub hole_ops : List Caps → List Op
+hole_ops ks = closing_ops (outer_caps ks) (filter (λ k. k.hole) ks)
+
+-- those of some faces that are there
+abbrev pub still_there : Model → List ℕ → List ℕ
+still_there M fs = filter (table.has M.faces) fs
+
+-- the holes closed, and then the upper faces that are left parted from solid s as solid t
+abbrev pub upper_ops : Opening → List ℕ → ℕ → ℕ → List Op
+upper_ops o above s t = hole_ops o.caps ++ Part s t (still_there (holes_closed o.model o.caps) (upper_faces above o.caps)) ∷ []
+
+-- from the drawing on: the openings, then the upper faces parted
+abbrev pub later_ops : Drawing → List ℕ → ℕ → Plane → ℕ → List Op
+later_ops d above s p t =
+    openings_ops above s p (record { model = d.model; taken = d.taken; caps = [] }) (section_cycles d.model (below_halves d.model above s))
+    ++ upper_ops (opened_at d above s p) above s t
+
+abbrev pub ops_above : Drawing → ℕ → Plane → ℕ → List Op
+ops_above d s p t = later_ops d (faces_above d.model p s) s p t
+
+-- all operators of a split: edges cut, faces drawn, the solid opened along its section, and what is above parted
+unfoldable pub split_ops : Model → ℕ → Plane → ℕ → List Op
+split_ops M s p t = rewriting_ops M s p ++ ops_above (with_drawings M s p) s p t
