@@ -1,1 +1,4 @@
 pub mod Openings
+pub mod Closing
+pub mod Holes
+pub mod Parting

@@ -1,0 +1,204 @@
+-- The caps of the holes become rings of the outer cycle's caps.
+use Rattle.std.proofs.Common.{◌≡◌, ◌≢◌, ℕ, ◌+◌, ◌≤◌, ◌<◌, suc, Bool, true, false, cond, List, [], ◌∷◌, ◌++◌, length, refl, sym, ap, ◌∙◌, subst, arith}
+use Rattle.std.specs.Prelude.{fold, filter}
+use Rattle.cyclic_list.specs.Items.{tick, count, IsIn, IsApart}
+use Rattle.cyclic_list.proofs.Lists.{tick_same}
+use Rattle.boundary_model.specs.Table as table
+use Rattle.boundary_model.specs.Model.{Model, solid_of}
+use Rattle.boundary_model.specs.Sound.{Sound, Has}
+use Rattle.euler_operators.specs.Conditions.{lists}
+use Rattle.euler_operators.specs.declared.Op.{Op}
+use Rattle.euler_operators.specs.declared.Op.TheVariants.{Kfmrh}
+use Rattle.euler_operators.specs.Effect.{kfmrh}
+use Rattle.euler_laws_faces.proofs.Kfmrh.{KillGoes, kill_solid}
+use Rattle.split_shapes.specs.Opening.{Caps, outer_caps, hole_closed}
+use Rattle.drawing_laws.proofs.Runs.{Leads, leads_none, leads_on}
+use Rattle.opened_sections.specs.Capped.{IsPlain, ArePlain, cap_faces}
+use Rattle.split_laws.specs.SplitOps.{closing_ops}
+use Rattle.split_laws.proofs.Closing.{CanPart, solids_kept, row_kept, kill_leads, face_stays, part_stays, plain_stays, plains_stay}
+
+-- of each caps the one above is listed and the one below isn't
+abbrev pub AreLevel : List ℕ → List Caps → Type 0
+AreLevel us [] = Unit {0}
+AreLevel us (k ∷ ks) = (lists us k.lower ≡ false) × (lists us k.upper ≡ true) × AreLevel us ks
+
+-- f is a face of solid s
+pub record IsOf (N : Model) (s f : ℕ) : Type 0 where
+  pub there : Has N.faces f
+  pub of_solid : solid_of N f ≡ s
+
+-- the caps ks can become rings of the caps o
+pub record CanClose (N : Model) (s : ℕ) (us : List ℕ) (o : Caps) (ks : List Caps) : Type 0 where
+  pub part : CanPart N s us
+  pub lower : IsOf N s o.lower
+  pub upper : IsOf N s o.upper
+  pub plain : ArePlain N s ks
+  pub apart : IsApart (cap_faces (o ∷ ks))
+  pub level : AreLevel us (o ∷ ks)
+
+-- then they have, and other faces stay
+pub record AreClosed (N K : Model) (s : ℕ) (us : List ℕ) (ops : List Op) (ks : List Caps) : Type 0 where
+  pub leads : Leads N K ops
+  pub part : CanPart K s us
+  pub solids : K.solids ≡ N.solids
+  pub rows : (q : ℕ) → count q (cap_faces ks) ≡ 0 → table.get K.faces q ≡ table.get N.faces q
+
+pub none_closed : (N : Model) (s : ℕ) (us : List ℕ) → CanPart N s us → AreClosed N N s us [] []
+none_closed N s us w = record { leads = leads_none N; part = w; solids = refl; rows = λ q z. refl }
+
+-- the first of some items that lie apart is none of the others
+first_other : (x y : ℕ) (xs : List ℕ) → IsApart (x ∷ xs) → IsIn y xs → x ≢ y
+first_other x y xs a i e = absurd (omega (arith, a y, i, ap (λ z. tick y z) e, tick_same y))
+
+of_stays : (N : Model) (sound : Sound N) (s f g p : ℕ) → KillGoes N f g → p ≢ g → IsOf N s p → IsOf (kfmrh N f g) s p
+of_stays N sound s f g p goes a w = record { there = face_stays N sound f g goes p a w.there; of_solid = kill_solid N sound f g goes p a ∙ w.of_solid }
+
+can_kill : (N : Model) (s f g : ℕ) → f ≢ g → IsOf N s f → IsPlain N s g → KillGoes N f g
+can_kill N s f g a w v = record {
+  f_there = w.there;
+  g_there = v.there;
+  apart = a;
+  one_solid = w.of_solid ∙ sym v.of_solid;
+  no_rings = λ q t e. sym (v.no_ring q t e);
+}
+
+-- one hole
+module _ (N : Model) (s : ℕ) (us : List ℕ) (o k : Caps) (ks : List Caps) (w : CanClose N s us o (k ∷ ks)) where
+  abbrev first : Model
+  first = kfmrh N o.lower k.lower
+
+  abbrev next : Model
+  next = hole_closed o N k
+
+  low_apart : o.lower ≢ k.lower
+  low_apart = first_other o.lower k.lower (o.upper ∷ cap_faces (k ∷ ks)) w.apart (omega (arith, tick_same k.lower))
+
+  low_up : o.upper ≢ k.lower
+  low_up = first_other o.upper k.lower (cap_faces (k ∷ ks)) (λ x. omega (arith, w.apart x)) (omega (arith, tick_same k.lower))
+
+  up_apart : o.upper ≢ k.upper
+  up_apart = first_other o.upper k.upper (cap_faces (k ∷ ks)) (λ x. omega (arith, w.apart x)) (omega (arith, tick_same k.upper))
+
+  up_low : o.lower ≢ k.upper
+  up_low = first_other o.lower k.upper (o.upper ∷ cap_faces (k ∷ ks)) w.apart (omega (arith, tick_same k.upper))
+
+  own_apart : k.lower ≢ k.upper
+  own_apart = first_other k.lower k.upper (k.upper ∷ cap_faces ks) (λ x. omega (arith, w.apart x)) (omega (arith, tick_same k.upper))
+
+  goes_low : KillGoes N o.lower k.lower
+  goes_low = can_kill N s o.lower k.lower low_apart w.lower w.plain.0
+
+  part_low : CanPart first s us
+  part_low = part_stays N w.part.sound o.lower k.lower goes_low s us (w.level.0 ∙ sym w.level.2.0) w.part
+
+  plain_up : IsPlain first s k.upper
+  plain_up = plain_stays N w.part.sound o.lower k.lower goes_low s k.upper (λ e. up_low (sym e)) (λ e. own_apart (sym e)) w.plain.1
+
+  goes_up : KillGoes first o.upper k.upper
+  goes_up = can_kill first s o.upper k.upper up_apart (of_stays N w.part.sound s o.lower k.lower o.upper goes_low low_up w.upper) plain_up
+
+  part_up : CanPart next s us
+  part_up = part_stays first part_low.sound o.upper k.upper goes_up s us (w.level.1 ∙ sym w.level.2.1) part_low
+
+  pub one_leads : Leads N (hole_closed o N k) (Kfmrh o.lower k.lower ∷ Kfmrh o.upper k.upper ∷ [])
+  one_leads = leads_on N first next (Kfmrh o.lower k.lower ∷ []) (Kfmrh o.upper k.upper ∷ [])
+      (kill_leads N w.part.sound o.lower k.lower goes_low) (kill_leads first part_low.sound o.upper k.upper goes_up)
+
+  pub others_can : CanClose (hole_closed o N k) s us o ks
+  others_can = record {
+    part = part_up;
+    lower = of_stays first part_low.sound s o.upper k.upper o.lower goes_up up_low (of_stays N w.part.sound s o.lower k.lower o.lower goes_low low_apart w.lower);
+    upper = of_stays first part_low.sound s o.upper k.upper o.upper goes_up up_apart (of_stays N w.part.sound s o.lower k.lower o.upper goes_low low_up w.upper);
+    plain = plains_stay first part_low.sound o.upper k.upper goes_up s ks (omega (arith, w.apart o.upper, tick_same o.upper)) (omega (arith, w.apart k.upper, tick_same k.upper))
+        (plains_stay N w.part.sound o.lower k.lower goes_low s ks (omega (arith, w.apart o.lower, tick_same o.lower)) (omega (arith, w.apart k.lower, tick_same k.lower)) w.plain.2);
+    apart = λ x. omega (arith, w.apart x);
+    level = (w.level.0, w.level.1, w.level.2.2);
+  }
+
+  pub one_solids : (hole_closed o N k).solids ≡ N.solids
+  one_solids = solids_kept first o.upper k.upper ∙ solids_kept N o.lower k.lower
+
+  pub one_rows : (q : ℕ) → count q (cap_faces (k ∷ ks)) ≡ 0 → table.get (hole_closed o N k).faces q ≡ table.get N.faces q
+  one_rows q z = row_kept first o.upper k.upper q (λ e. absurd (omega (arith, z, tick_same q, ap (λ x. tick q x) e)))
+      ∙ row_kept N o.lower k.lower q (λ e. absurd (omega (arith, z, tick_same q, ap (λ x. tick q x) e)))
+
+-- all of them
+pub all_close : (N : Model) (s : ℕ) (us : List ℕ) (o : Caps) (ks : List Caps) → CanClose N s us o ks → AreClosed N (fold (hole_closed o) N ks) s us (closing_ops o ks) ks
+all_close N s us o [] w = none_closed N s us w.part
+all_close N s us o (k ∷ ks) w =
+    let next : Model = hole_closed o N k in
+    let r : AreClosed next (fold (hole_closed o) next ks) s us (closing_ops o ks) ks = all_close next s us o ks (others_can N s us o k ks w) in
+    record {
+      leads = leads_on N next (fold (hole_closed o) next ks) (Kfmrh o.lower k.lower ∷ Kfmrh o.upper k.upper ∷ []) (closing_ops o ks) (one_leads N s us o k ks w) r.leads;
+      part = r.part;
+      solids = r.solids ∙ one_solids N s us o k ks w;
+      rows = λ q z. r.rows q (omega (arith, z)) ∙ one_rows N s us o k ks w q z;
+    }
+
+-- ---- the outer cycle's caps and those of the holes, among all
+
+module _ (us : List ℕ) where
+  holes_level : (ks : List Caps) → AreLevel us ks → AreLevel us (filter (λ k. k.hole) ks)
+  holes_level [] w = tt
+  holes_level (k ∷ ks) w = go k.hole (holes_level ks w.2) where
+    go : (b : Bool) → AreLevel us (filter (λ k. k.hole) ks) → AreLevel us (cond b (k ∷ filter (λ k. k.hole) ks) (filter (λ k. k.hole) ks))
+    go true r = (w.0, w.1, r)
+    go false r = r
+
+  outer_level : (ks : List Caps) → AreLevel us ks → length (filter (λ k. k.hole) ks) < length ks → (lists us (outer_caps ks).lower ≡ false) × (lists us (outer_caps ks).upper ≡ true)
+  outer_level [] w l = absurd (omega (arith, l))
+  outer_level (k ∷ ks) w l = go k.hole (outer_level ks w.2) l where
+    go : (b : Bool) → (length (filter (λ k. k.hole) ks) < length ks → (lists us (outer_caps ks).lower ≡ false) × (lists us (outer_caps ks).upper ≡ true)) →
+        length (cond b (k ∷ filter (λ k. k.hole) ks) (filter (λ k. k.hole) ks)) < suc (length ks) → (lists us (cond b (outer_caps ks) k).lower ≡ false) × (lists us (cond b (outer_caps ks) k).upper ≡ true)
+    go true r l = r (omega (arith, l))
+    go false r l = (w.0, w.1)
+
+module _ (N : Model) (s : ℕ) where
+  holes_plain : (ks : List Caps) → ArePlain N s ks → ArePlain N s (filter (λ k. k.hole) ks)
+  holes_plain [] w = tt
+  holes_plain (k ∷ ks) w = go k.hole (holes_plain ks w.2) where
+    go : (b : Bool) → ArePlain N s (filter (λ k. k.hole) ks) → ArePlain N s (cond b (k ∷ filter (λ k. k.hole) ks) (filter (λ k. k.hole) ks))
+    go true r = (w.0, w.1, r)
+    go false r = r
+
+  plain_of : (f : ℕ) → IsPlain N s f → IsOf N s f
+  plain_of f w = record { there = w.there; of_solid = w.of_solid }
+
+  outer_of : (ks : List Caps) → ArePlain N s ks → length (filter (λ k. k.hole) ks) < length ks → IsOf N s (outer_caps ks).lower × IsOf N s (outer_caps ks).upper
+  outer_of [] w l = absurd (omega (arith, l))
+  outer_of (k ∷ ks) w l = go k.hole (outer_of ks w.2) l where
+    go : (b : Bool) → (length (filter (λ k. k.hole) ks) < length ks → IsOf N s (outer_caps ks).lower × IsOf N s (outer_caps ks).upper) →
+        length (cond b (k ∷ filter (λ k. k.hole) ks) (filter (λ k. k.hole) ks)) < suc (length ks) → IsOf N s (cond b (outer_caps ks) k).lower × IsOf N s (cond b (outer_caps ks) k).upper
+    go true r l = r (omega (arith, l))
+    go false r l = (plain_of k.lower w.0, plain_of k.upper w.1)
+
+pub holes_counted : (x : ℕ) (ks : List Caps) → count x (cap_faces (filter (λ k. k.hole) ks)) ≤ count x (cap_faces ks)
+holes_counted x [] = omega arith
+holes_counted x (k ∷ ks) = go k.hole (holes_counted x ks) where
+  go : (b : Bool) → count x (cap_faces (filter (λ k. k.hole) ks)) ≤ count x (cap_faces ks) → count x (cap_faces (cond b (k ∷ filter (λ k. k.hole) ks) (filter (λ k. k.hole) ks))) ≤ count x (cap_faces (k ∷ ks))
+  go true r = omega (arith, r)
+  go false r = omega (arith, r)
+
+outer_counted : (x : ℕ) (ks : List Caps) → length (filter (λ k. k.hole) ks) < length ks → count x (cap_faces (outer_caps ks ∷ filter (λ k. k.hole) ks)) ≤ count x (cap_faces ks)
+outer_counted x [] l = absurd (omega (arith, l))
+outer_counted x (k ∷ ks) l = go k.hole (outer_counted x ks) l where
+  go : (b : Bool) → (length (filter (λ k. k.hole) ks) < length ks → count x (cap_faces (outer_caps ks ∷ filter (λ k. k.hole) ks)) ≤ count x (cap_faces ks)) →
+      length (cond b (k ∷ filter (λ k. k.hole) ks) (filter (λ k. k.hole) ks)) < suc (length ks) →
+      count x (cap_faces (cond b (outer_caps ks) k ∷ cond b (k ∷ filter (λ k. k.hole) ks) (filter (λ k. k.hole) ks))) ≤ count x (cap_faces (k ∷ ks))
+  go true r l = let e : length (filter (λ k. k.hole) ks) < length ks = omega (arith, l) in omega (arith, r e)
+  go false r l = omega (arith, holes_counted x ks)
+
+-- where some caps are no hole's, those of the holes can become rings
+pub can_close : (N : Model) (s : ℕ) (us : List ℕ) (ks : List Caps) → CanPart N s us → ArePlain N s ks → IsApart (cap_faces ks) → AreLevel us ks → length (filter (λ k. k.hole) ks) < length ks →
+    CanClose N s us (outer_caps ks) (filter (λ k. k.hole) ks)
+can_close N s us ks part plain apart level l =
+    let o = outer_of N s ks plain l in
+    let v = outer_level us ks level l in
+    record {
+      part = part;
+      lower = o.0;
+      upper = o.1;
+      plain = holes_plain N s ks plain;
+      apart = λ x. omega (arith, apart x, outer_counted x ks l);
+      level = (v.0, v.1, holes_level us ks level);
+    }

@@ -1,0 +1,110 @@
+-- The upper faces that are left parted from the solid.
+use Rattle.std.proofs.Common.{◌≡◌, ◌≢◌, ℕ, Bool, true, false, cond, ◌&&◌, List, [], ◌∷◌, Option, Some, None, is_some, IsTrue, refl, sym, ap, ◌∙◌, subst, arith, inl, inr, true≢false}
+use Rattle.std.specs.Prelude.{filter}
+use Rattle.std.specs.Option.{option_map}
+use Rattle.std.proofs.lemmas.Bool.Decides.{eqb_tells}
+use Rattle.boundary_model.specs.HalfEdge.{mate}
+use Rattle.boundary_model.specs.Table as table
+use Rattle.boundary_model.specs.Table.{Table, same_table, get-map_rows}
+use Rattle.boundary_model.specs.Model.{Model, FaceRow, loop_of, solid_of, is_number}
+use Rattle.boundary_model.specs.Sound.{Sound, Has, HasHalf}
+use Rattle.boundary_model.proofs.Models.{row_of}
+use Rattle.euler_operators.specs.declared.Op.TheVariants.{Part}
+use Rattle.euler_operators.specs.Conditions.{face_at, lists, strictly_rises}
+use Rattle.euler_operators.specs.Effect.{effect, part, faces_to_solid}
+use Rattle.euler_laws_shared.proofs.Fans.{half_mate}
+use Rattle.euler_laws_shared.proofs.Listed.{first_listed, rest_listed, listed_cases}
+use Rattle.euler_laws_merge.proofs.Part.{PartGoes, part_accepted}
+use Rattle.drawing_laws.proofs.Runs.{Leads, leads_one}
+use Rattle.section_laws.proofs.RisingLists.{filter_rises}
+use Rattle.split_laws.specs.SplitOps.{still_there}
+use Rattle.split_laws.proofs.Closing.{CanPart}
+
+-- what is listed in a thinned list passes the test and stands in the whole
+filter_lists : (p : ℕ → Bool) (fs : List ℕ) (f : ℕ) → lists (filter p fs) f ≡ true → (p f ≡ true) × (lists fs f ≡ true)
+filter_lists p [] f l = absurd (true≢false (sym l))
+filter_lists p (g ∷ fs) f l = go (p g) refl (filter_lists p fs f) l where
+  go : (b : Bool) → p g ≡ b → (lists (filter p fs) f ≡ true → (p f ≡ true) × (lists fs f ≡ true)) → lists (cond b (g ∷ filter p fs) (filter p fs)) f ≡ true → (p f ≡ true) × (lists (g ∷ fs) f ≡ true)
+  go false e r l = let w = r l in (w.0, rest_listed g f fs w.1)
+  go true e r l = elim (listed_cases g f (filter p fs) l) [
+    | inl s ↦ (ap p s ∙ e, ap (lists (g ∷ fs)) s ∙ first_listed g fs)
+    | inr t ↦ let w = r t in (w.0, rest_listed g f fs w.1)
+  ]
+
+-- and the other way
+lists_filter : (p : ℕ → Bool) (fs : List ℕ) (f : ℕ) → p f ≡ true → lists fs f ≡ true → lists (filter p fs) f ≡ true
+lists_filter p [] f t l = l
+lists_filter p (g ∷ fs) f t l = go (p g) refl (lists_filter p fs f t) where
+  go : (b : Bool) → p g ≡ b → (lists fs f ≡ true → lists (filter p fs) f ≡ true) → lists (cond b (g ∷ filter p fs) (filter p fs)) f ≡ true
+  go true e r = elim (listed_cases g f fs l) [
+    | inl s ↦ ap (lists (g ∷ filter p fs)) s ∙ first_listed g (filter p fs)
+    | inr k ↦ rest_listed g f (filter p fs) (r k)
+  ]
+  go false e r = elim (listed_cases g f fs l) [
+    | inl s ↦ absurd (true≢false (sym t ∙ ap p s ∙ e))
+    | inr k ↦ r k
+  ]
+
+same_truth : (a b : Bool) → (a ≡ true → b ≡ true) → (b ≡ true → a ≡ true) → a ≡ b
+same_truth true b f g = sym (f refl)
+same_truth false false f g = refl
+same_truth false true f g = g refl
+
+-- of what is there, all that is listed is still
+pub still_lists : (N : Model) (us : List ℕ) (f : ℕ) → Has N.faces f → lists (still_there N us) f ≡ lists us f
+still_lists N us f t = same_truth (lists (still_there N us) f) (lists us f) (λ l. (filter_lists (table.has N.faces) us f l).1) (λ l. lists_filter (table.has N.faces) us f t l)
+
+-- rows that are there alone tell what a rewriting makes of a table
+maps_same : {X : Type 0} (g h : ℕ → X → X) (t : Table X) → ((q : ℕ) (x : X) → table.get t q ≡ Some x → g q x ≡ h q x) → table.map_rows g t ≡ table.map_rows h t
+maps_same {X} g h t e = same_table (table.map_rows g t) (table.map_rows h t) (λ q. get-map_rows g t q ∙ go q (table.get t q) refl ∙ sym (get-map_rows h t q)) where
+  go : (q : ℕ) (o : Option X) → table.get t q ≡ o → option_map (g q) o ≡ option_map (h q) o
+  go q None at = refl
+  go q (Some x) at = ap Some (e q x at)
+
+-- listing also faces that are gone changes nothing
+part_same : (N : Model) (s t : ℕ) (us : List ℕ) → part N s t (still_there N us) ≡ part N s t us
+unfolding part
+part_same N s t us = λ i. record {
+  solids = table.put N.solids t tt;
+  faces = maps_same (faces_to_solid (λ f _. lists (still_there N us) f) t) (faces_to_solid (λ f _. lists us f) t) N.faces
+      (λ q x at. ap (λ b. cond b (record x { solid = t }) x) (still_lists N us q (ap is_some at))) i;
+  loops = N.loops;
+  edges = N.edges;
+  vertices = N.vertices;
+}
+
+effect_is : (N : Model) (s t : ℕ) (fs : List ℕ) → effect N (Part s t fs) ≡ part N s t fs
+unfolding effect
+effect_is N s t fs = refl
+
+-- a face of solid s on either side
+pub record BothSides (N : Model) (s : ℕ) (us : List ℕ) : Type 0 where
+  pub upper : ℕ
+  pub upper_there : Has N.faces upper
+  pub upper_listed : lists us upper ≡ true
+  pub lower : ℕ
+  pub lower_there : Has N.faces lower
+  pub lower_of : solid_of N lower ≡ s
+  pub lower_unlisted : lists us lower ≡ false
+
+module _ (N : Model) (s t : ℕ) (us : List ℕ) (w : CanPart N s us) (both : BothSides N s us) (rises : strictly_rises us ≡ true) (t_free : table.get N.solids t ≡ None) (t_fits : IsTrue (is_number t)) where
+  abbrev fs : List ℕ
+  fs = still_there N us
+
+  face_there : (x : ℕ) → HasHalf N x → Has N.faces (face_at N x)
+  face_there x h = w.sound.loops_of_faces (loop_of N x) (ap is_some (row_of N w.sound x h))
+
+  goes : PartGoes N s t fs
+  goes = record {
+    s_there = subst (Has N.solids) both.lower_of (w.sound.faces_of_solids both.lower both.lower_there);
+    t_free = t_free;
+    t_fits = t_fits;
+    each = λ f l. let k = filter_lists (table.has N.faces) us f l in (k.0, w.of_solid f k.1 k.0);
+    listed = (both.upper, still_lists N us both.upper both.upper_there ∙ both.upper_listed);
+    rises = filter_rises (table.has N.faces) us rises;
+    left = (both.lower, both.lower_there, both.lower_of, still_lists N us both.lower both.lower_there ∙ both.lower_unlisted);
+    whole = λ x h. still_lists N us (face_at N x) (face_there x h) ∙ w.whole x h ∙ sym (still_lists N us (face_at N (mate x)) (face_there (mate x) (half_mate N w.sound x h)));
+  }
+
+  pub part_leads : Leads N (part N s t us) (Part s t (still_there N us) ∷ [])
+  part_leads = leads_one N (part N s t us) (Part s t fs) (part_accepted N s t fs w.sound goes) (effect_is N s t fs ∙ part_same N s t us)
