@@ -42,14 +42,14 @@ cycle_of_items : (c : LoopContent) (zs : List ℕ) → c ≡ cycle zs → c ≡ 
 cycle_of_items c zs e = e ∙ ap (λ d. cycle (items_of d)) (sym e)
 
 -- a vertex on loops that aren't lone is the tail of one of their half-edges
-record TailIn (D : Model) (v : ℕ) (ls : List ℕ) : Type 0 where
-  half : ℕ
-  loop : ℕ
-  loop_in : IsIn loop ls
-  half_in : IsIn half (items_of (content D loop))
-  is : v ≡ tail D half
+pub record TailIn (D : Model) (v : ℕ) (ls : List ℕ) : Type 0 where
+  pub half : ℕ
+  pub loop : ℕ
+  pub loop_in : IsIn loop ls
+  pub half_in : IsIn half (items_of (content D loop))
+  pub is : v ≡ tail D half
 
-tail_in : (D : Model) (v : ℕ) (ls : List ℕ) → ((q : ℕ) → IsIn q ls → content D q ≡ cycle (items_of (content D q))) → IsIn v (vertices_in D ls) → TailIn D v ls
+pub tail_in : (D : Model) (v : ℕ) (ls : List ℕ) → ((q : ℕ) → IsIn q ls → content D q ≡ cycle (items_of (content D q))) → IsIn v (vertices_in D ls) → TailIn D v ls
 tail_in D v [] cycles i = absurd (omega (arith, i))
 tail_in D v (l ∷ ls) cycles i = elim (IsIn_or_not v (vertices_on D (content D l))) [
   | inl j ↦

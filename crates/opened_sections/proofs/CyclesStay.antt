@@ -78,10 +78,10 @@ module _ (M : Model) (above : List ℕ) (s : ℕ) (c : Taken) (bs : List ℕ) (s
   -- ---- another cycle
 
   module _ (ds : List ℕ) (w : IsSectionCycle M above s ds) (elsewhere : (d : ℕ) → IsIn d ds → count (tail M d) (map (tail M) bs) ≡ 0) where
-    start_same : (d : ℕ) → IsIn d ds → tail N d ≡ tail M d
+    pub start_same : (d : ℕ) → IsIn d ds → tail N d ≡ tail M d
     start_same d i = tail_kept M above s c bs sound free d (w.there d i) (elsewhere d i)
 
-    end_same : (d : ℕ) → IsIn d ds → tail N (mate d) ≡ tail M (mate d)
+    pub end_same : (d : ℕ) → IsIn d ds → tail N (mate d) ≡ tail M (mate d)
     end_same d i =
         let r = follows M above s ds w d i in
         tail_kept M above s c bs sound free (mate d) (half_mate M sound d (w.there d i)) (sym (ap (λ v. count v vertices) r.2) ∙ elsewhere r.0 r.1)

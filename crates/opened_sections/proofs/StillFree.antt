@@ -22,7 +22,7 @@ use Rattle.opened_sections.proofs.OpenedRows.{faces_are, loops_are, edges_are, v
 past : (q n k : ℕ) → n < q → k ≤ n → q ≢ k
 past q n k l m e = absurd (omega (arith, l, m, e))
 
-copied_other : (M : Model) (t : Table Point) (xs ys : List ℕ) (q : ℕ) → count q ys ≡ 0 → table.get (fold (λ t p. table.put t p.1 (point_of M p.0)) t (both_lists xs ys)) q ≡ table.get t q
+pub copied_other : (M : Model) (t : Table Point) (xs ys : List ℕ) (q : ℕ) → count q ys ≡ 0 → table.get (fold (λ t p. table.put t p.1 (point_of M p.0)) t (both_lists xs ys)) q ≡ table.get t q
 copied_other M t [] ys q z = refl
 copied_other M t (x ∷ xs) [] q z = refl
 copied_other M t (x ∷ xs) (y ∷ ys) q z =

@@ -1,0 +1,131 @@
+-- Whether a cycle is a hole is told by the model before the openings.
+use Rattle.std.proofs.Common.{◌≡◌, ◌≤◌, ◌<◌, ℕ, suc, ◌+◌, Bool, true, false, cond, not, nat_eq, nat_lt, ◌&&◌, pos, List, [], ◌∷◌, ◌++◌, length, map, unwrap_or, refl, sym, ap, ◌∙◌, subst, arith, inl, inr, true≢false}
+use Rattle.std.specs.Prelude.{filter, flat_map, int_lt}
+use Rattle.std.proofs.lemmas.Bool.Decides.{nat_tests}
+use Rattle.std.proofs.lemmas.List.{append_assoc, append-nil, map-append}
+use Rattle.lattice.specs.declared.Point.{Point}
+use Rattle.lattice.specs.declared.Plane.{Plane}
+use Rattle.lattice.specs.Vectors.{dot, direction, cross, moved}
+use Rattle.cyclic_list.specs.Items.{count, IsIn}
+use Rattle.cyclic_list.proofs.Lists.{tick_same, count-append, IsIn_or_not}
+use Rattle.boundary_model.specs.HalfEdge.{mate}
+use Rattle.boundary_model.specs.Table as table
+use Rattle.boundary_model.specs.Model.{Model, tail, point_of, no_point}
+use Rattle.boundary_model.specs.Sound.{Sound, Has, HasHalf}
+use Rattle.boundary_model.proofs.Halves.{mate-mate}
+use Rattle.euler_laws_shared.proofs.Fans.{half_mate}
+use Rattle.shapes.specs.Faces.{start, finish}
+use Rattle.shapes.specs.Fresh.{Taken, numbers_after}
+use Rattle.solid_measure.specs.Measure.{area}
+use Rattle.split_shapes.specs.Section.{is_hole, has_stray_hole, holes_in}
+use Rattle.split_shapes.specs.Opening.{Caps, Opening, opened_along, next_opened, all_opened}
+use Rattle.section_laws.specs.SectionCycles.{IsSectionCycle, AreSectionCycles}
+use Rattle.opened_sections.specs.InTurn.{AreFree, CanBeOpenedInTurn}
+use Rattle.opened_sections.proofs.Pairs.{in_numbers}
+use Rattle.opened_sections.proofs.Rims.{at_most}
+use Rattle.opened_sections.proofs.OpenedRows.{vertices_are}
+use Rattle.opened_sections.proofs.StillFree.{copied_other}
+use Rattle.opened_sections.proofs.CyclesStay.{start_same, end_same, starts_elsewhere}
+use Rattle.opened_sections.proofs.InTurn.{others_on}
+use Rattle.split_laws.proofs.Openings.{openings_sound}
+
+-- ---- one opening
+
+module _ (M : Model) (above : List ℕ) (s : ℕ) (c : Taken) (bs : List ℕ) (sound : Sound M) (free : AreFree M c) (first : IsSectionCycle M above s bs) where
+  abbrev N : Model
+  N = opened_along M above s c bs
+
+  -- a vertex stays at its point
+  point_still : (v : ℕ) → Has M.vertices v → point_of N v ≡ point_of M v
+  unfolding point_of
+  point_still v there = ap (λ o. unwrap_or o no_point) (ap (λ t. table.get t v) (vertices_are M above s c bs) ∙ copied_other M M.vertices (map (tail M) bs) (numbers_after c.vertex (length bs)) v none) where
+    none : count v (numbers_after c.vertex (length bs)) ≡ 0
+    none = elim (IsIn_or_not v (numbers_after c.vertex (length bs))) [
+      | inl i ↦ absurd (omega (arith, (in_numbers c.vertex (length bs) v i).0, at_most M.vertices c.vertex free.vertices v there))
+      | inr z ↦ z
+    ]
+
+  start_still : (h : ℕ) → HasHalf M h → tail N h ≡ tail M h → start N h ≡ start M h
+  start_still h there e = ap (point_of N) e ∙ point_still (tail M h) (sound.tails_there h there)
+
+  -- another cycle
+  module _ (ds : List ℕ) (w : IsSectionCycle M above s ds) (elsewhere : (d : ℕ) → IsIn d ds → count (tail M d) (map (tail M) bs) ≡ 0) where
+    begins_still : (d : ℕ) → IsIn d ds → start N d ≡ start M d
+    begins_still d i = start_still d (w.there d i) (start_same M above s c bs sound free first ds w elsewhere d i)
+
+    ends_still : (d : ℕ) → IsIn d ds → start N (mate d) ≡ start M (mate d)
+    ends_still d i = start_still (mate d) (half_mate M sound d (w.there d i)) (end_same M above s c bs sound free first ds w elsewhere d i)
+
+    area_still : (hs : List ℕ) → ((d : ℕ) → IsIn d hs → IsIn d ds) → area N (map mate hs) ≡ area M (map mate hs)
+    area_still [] within = refl
+    area_still (d ∷ hs) within =
+        let i : IsIn d ds = within d (omega (arith, tick_same d)) in
+        let back : finish N (mate d) ≡ finish M (mate d) = ap (start N) (mate-mate d) ∙ begins_still d i ∙ sym (ap (start M) (mate-mate d)) in
+        λ k. moved (cross (ends_still d i k) (back k)) (area_still hs (λ e j. within e (omega (arith, j))) k)
+
+    hole_still : (p : Plane) → is_hole N p ds ≡ is_hole M p ds
+    unfolding is_hole
+    hole_still p = ap (λ a. int_lt (dot a (direction p)) (pos 0)) (area_still ds (λ d i. i))
+
+  holes_still : (p : Plane) (cs : List (List ℕ)) → AreSectionCycles M above s cs → ((d : ℕ) → IsIn d (flat_map (λ bs. bs) cs) → count (tail M d) (map (tail M) bs) ≡ 0) → map (is_hole N p) cs ≡ map (is_hole M p) cs
+  holes_still p [] w e = refl
+  holes_still p (ds ∷ cs) w e = λ k.
+      hole_still ds w.0 (λ d i. e d (omega (arith, i, count-append d ds (flat_map (λ bs. bs) cs)))) p k
+      ∷ holes_still p cs w.1 (λ d i. e d (omega (arith, i, count-append d ds (flat_map (λ bs. bs) cs)))) k
+
+next_holes : (above : List ℕ) (s : ℕ) (p : Plane) (o : Opening) (bs : List ℕ) (cs : List (List ℕ)) → CanBeOpenedInTurn above s o (bs ∷ cs) → map (is_hole (next_opened p above s o bs).model p) cs ≡ map (is_hole o.model p) cs
+unfolding next_opened
+next_holes above s p o bs cs w = holes_still o.model above s o.taken bs w.sound w.free w.cycles.cycles.0 p cs w.cycles.cycles.1 (starts_elsewhere o.model above s bs cs w.cycles)
+
+next_flags : (above : List ℕ) (s : ℕ) (p : Plane) (o : Opening) (bs : List ℕ) → map (λ k. k.hole) (next_opened p above s o bs).caps ≡ map (λ k. k.hole) o.caps ++ is_hole o.model p bs ∷ []
+unfolding next_opened
+next_flags above s p o bs = map-append (λ k. k.hole) o.caps (record { lower = o.taken.face + 1; upper = o.taken.face + length bs + 1; hole = is_hole o.model p bs } ∷ [])
+
+-- ---- all openings
+
+pub flags_are : (above : List ℕ) (s : ℕ) (p : Plane) (o : Opening) (cs : List (List ℕ)) → CanBeOpenedInTurn above s o cs →
+    map (λ k. k.hole) (all_opened p above s o cs).caps ≡ map (λ k. k.hole) o.caps ++ map (is_hole o.model p) cs
+flags_are above s p o [] w = sym (append-nil (map (λ k. k.hole) o.caps))
+flags_are above s p o (bs ∷ cs) w =
+    let n : Opening = next_opened p above s o bs in
+    flags_are above s p n cs (others_on above s p o bs cs w (openings_sound above s p o bs cs w))
+    ∙ (λ i. next_flags above s p o bs i ++ next_holes above s p o bs cs w i)
+    ∙ append_assoc (map (λ k. k.hole) o.caps) (is_hole o.model p bs ∷ []) (map (is_hole o.model p) cs)
+
+-- ---- how many are holes
+
+abbrev trues : List Bool → ℕ
+trues [] = 0
+trues (b ∷ bs) = cond b (suc (trues bs)) (trues bs)
+
+filter_trues : {X : Type 0} (f : X → Bool) (xs : List X) → length (filter f xs) ≡ trues (map f xs)
+filter_trues f [] = refl
+filter_trues f (x ∷ xs) = go (f x) (filter_trues f xs) where
+  go : (b : Bool) → length (filter f xs) ≡ trues (map f xs) → length (cond b (x ∷ filter f xs) (filter f xs)) ≡ cond b (suc (trues (map f xs))) (trues (map f xs))
+  go true e = ap suc e
+  go false e = e
+
+map_length : {X : Type 0} (f : X → Bool) (xs : List X) → length (map f xs) ≡ length xs
+map_length f [] = refl
+map_length f (x ∷ xs) = ap suc (map_length f xs)
+
+not_stray : (n m : ℕ) → (nat_lt 0 n && not (nat_eq m (n + 1))) ≡ false → 0 < n → m ≡ n + 1
+not_stray n m e l = go (nat_lt 0 n) (nat_eq m (n + 1)) less e refl where
+  less : nat_lt 0 n ≡ true
+  less = grind (arith, nat_tests)
+
+  same : nat_eq m (n + 1) ≡ true → m ≡ n + 1
+  same t = grind (arith, nat_tests)
+
+  go : (a b : Bool) → a ≡ true → (a && not b) ≡ false → nat_eq m (n + 1) ≡ b → m ≡ n + 1
+  go true true t f is = same is
+  go true false t f is = absurd (true≢false f)
+  go false b t f is = absurd (true≢false (sym t))
+
+-- where a hole isn't stray and there is one, not all caps are of holes
+pub some_outer : (M : Model) (p : Plane) (cs : List (List ℕ)) (ks : List Caps) → map (λ k. k.hole) ks ≡ map (is_hole M p) cs → has_stray_hole M p cs ≡ false → 0 < length (filter (λ k. k.hole) ks) →
+    length (filter (λ k. k.hole) ks) < length ks
+some_outer M p cs ks flags stray some =
+    let holes : length (filter (λ k. k.hole) ks) ≡ length (holes_in M p cs) = filter_trues (λ k. k.hole) ks ∙ ap trues flags ∙ sym (filter_trues (is_hole M p) cs) in
+    let all : length ks ≡ length cs = sym (map_length (λ k. k.hole) ks) ∙ ap length flags ∙ map_length (is_hole M p) cs in
+    omega (arith, holes, all, not_stray (length (holes_in M p cs)) (length cs) stray (omega (arith, holes, some)))
