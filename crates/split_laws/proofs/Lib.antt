@@ -5,3 +5,5 @@ pub mod Parting
 pub mod Flags
 pub mod Solids
 pub mod Drawn
+pub mod BothSides
+pub mod OldFaces

@@ -1,0 +1,53 @@
+-- The faces that were there before the openings stay, and are none of the caps.
+use Rattle.std.proofs.Common.{◌≡◌, ℕ, ◌+◌, List, [], ◌∷◌, ◌++◌, length, is_some, refl, sym, ap, ◌∙◌, subst, arith}
+use Rattle.std.proofs.lemmas.Grind.{flat_map-append}
+use Rattle.lattice.specs.declared.Plane.{Plane}
+use Rattle.cyclic_list.specs.Items.{tick, count}
+use Rattle.cyclic_list.proofs.Lists.{count-append, tick_other}
+use Rattle.boundary_model.specs.Table as table
+use Rattle.boundary_model.specs.Model.{Model}
+use Rattle.boundary_model.specs.Sound.{Has}
+use Rattle.shapes.specs.Fresh.{Taken}
+use Rattle.split_shapes.specs.Section.{is_hole}
+use Rattle.split_shapes.specs.Opening.{Caps, Opening, opened_along, next_opened, all_opened}
+use Rattle.opened_sections.specs.Capped.{cap_faces}
+use Rattle.opened_sections.specs.InTurn.{CanBeOpenedInTurn}
+use Rattle.opened_sections.proofs.Rims.{at_most, other_number}
+use Rattle.opened_sections.proofs.OpenedRows.{face_still}
+use Rattle.opened_sections.proofs.InTurn.{others_on}
+use Rattle.split_laws.proofs.Openings.{openings_sound}
+
+-- face f has its row of M, and is none of the caps
+pub record IsOld (M : Model) (o : Opening) (f : ℕ) : Type 0 where
+  pub row : table.get o.model.faces f ≡ table.get M.faces f
+  pub no_cap : count f (cap_faces o.caps) ≡ 0
+
+old_next : (M : Model) (above : List ℕ) (s : ℕ) (p : Plane) (o : Opening) (bs : List ℕ) (cs : List (List ℕ)) → CanBeOpenedInTurn above s o (bs ∷ cs) → (f : ℕ) → Has M.faces f → IsOld M o f → IsOld M (next_opened p above s o bs) f
+unfolding next_opened
+old_next M above s p o bs cs w f there a =
+    let c : Taken = o.taken in
+    let here : Has o.model.faces f = ap is_some a.row ∙ there in
+    let low = at_most o.model.faces c.face w.free.faces f here in
+    let k : Caps = record { lower = c.face + 1; upper = c.face + length bs + 1; hole = is_hole o.model p bs } in
+    record {
+      row = face_still o.model above s c bs w.sound w.free f here ∙ a.row;
+      no_cap = ap (count f) (flat_map-append (λ k. k.lower ∷ k.upper ∷ []) o.caps (k ∷ [])) ∙ none (count-append f (cap_faces o.caps) (k.lower ∷ k.upper ∷ []))
+          (tick_other f (c.face + 1) (other_number f c.face (c.face + 1) low (omega arith))) (tick_other f (c.face + length bs + 1) (other_number f c.face (c.face + length bs + 1) low (omega arith)));
+    } where
+      none : count f (cap_faces o.caps ++ (o.taken.face + 1) ∷ (o.taken.face + length bs + 1) ∷ []) ≡ count f (cap_faces o.caps) + count f ((o.taken.face + 1) ∷ (o.taken.face + length bs + 1) ∷ []) →
+          tick f (o.taken.face + 1) ≡ 0 → tick f (o.taken.face + length bs + 1) ≡ 0 →
+          count f (cap_faces o.caps ++ (o.taken.face + 1) ∷ (o.taken.face + length bs + 1) ∷ []) ≡ 0
+      none e y z = omega (arith, e, y, z, a.no_cap)
+
+pub all_old : (M : Model) (above : List ℕ) (s : ℕ) (p : Plane) (o : Opening) (cs : List (List ℕ)) → CanBeOpenedInTurn above s o cs → (f : ℕ) → Has M.faces f → IsOld M o f → IsOld M (all_opened p above s o cs) f
+all_old M above s p o [] w f there a = a
+all_old M above s p o (bs ∷ cs) w f there a = all_old M above s p (next_opened p above s o bs) cs (others_on above s p o bs cs w (openings_sound above s p o bs cs w)) f there (old_next M above s p o bs cs w f there a)
+
+next_solids : (above : List ℕ) (s : ℕ) (p : Plane) (o : Opening) (bs : List ℕ) → (next_opened p above s o bs).model.solids ≡ o.model.solids
+unfolding next_opened opened_along
+next_solids above s p o bs = refl
+
+-- openings change no solid
+pub solids_still : (above : List ℕ) (s : ℕ) (p : Plane) (o : Opening) (cs : List (List ℕ)) → (all_opened p above s o cs).model.solids ≡ o.model.solids
+solids_still above s p o [] = refl
+solids_still above s p o (bs ∷ cs) = solids_still above s p (next_opened p above s o bs) cs ∙ next_solids above s p o bs
