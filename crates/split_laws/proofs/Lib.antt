@@ -7,3 +7,4 @@ pub mod Solids
 pub mod Drawn
 pub mod BothSides
 pub mod OldFaces
+pub mod Whole

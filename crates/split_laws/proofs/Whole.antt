@@ -1,0 +1,195 @@
+-- A split from its first operator to its two solids.
+use Rattle.std.proofs.Common.{◌≡◌, ℕ, ◌+◌, ◌≤◌, ◌<◌, suc, Bool, true, false, List, [], ◌∷◌, ◌++◌, length, None, is_some, unwrap_or, IsTrue, refl, sym, ap, ◌∙◌, subst, arith, true≢false}
+use Rattle.std.specs.Prelude.{map, filter, fold}
+use Rattle.lattice.specs.declared.Plane.{Plane}
+use Rattle.cyclic_list.specs.Items.{count, IsIn, IsApart}
+use Rattle.cyclic_list.proofs.Lists.{tick_same, count-append}
+use Rattle.boundary_model.specs.HalfEdge.{mate}
+use Rattle.boundary_model.specs.Table as table
+use Rattle.boundary_model.specs.Model.{Model, no_face, solid_of}
+use Rattle.boundary_model.specs.Sound.{Sound, Has, HasHalf}
+use Rattle.boundary_model.proofs.Halves.{mate-mate}
+use Rattle.euler_operators.specs.Conditions.{face_at, lists}
+use Rattle.euler_operators.specs.declared.Op.{Op}
+use Rattle.euler_operators.specs.declared.Op.TheVariants.{Part}
+use Rattle.euler_operators.specs.Effect.{part}
+use Rattle.euler_laws.specs.Laws.{AreAccepted, effects}
+use Rattle.euler_laws.proofs.Runs.{effects_keep_sound}
+use Rattle.euler_laws_shared.proofs.Fans.{half_mate}
+use Rattle.solid_walks.proofs.Rising.{none_counted, counted_once, in_listed}
+use Rattle.split_shapes.specs.Sides.{faces_above}
+use Rattle.split_shapes.specs.Drawing.{Drawing, with_drawings}
+use Rattle.split_shapes.specs.Section.{below_halves, section_cycles, has_stray_hole}
+use Rattle.split_shapes.specs.Opening.{Caps, Opening, all_opened, outer_caps, hole_closed, holes_closed}
+use Rattle.split_shapes.specs.Split.{opened_at, upper_part, split_above, split_refusal, split_model}
+use Rattle.crossing_laws.proofs.Listed.{listed_in}
+use Rattle.cut_pairs.specs.Laws.{rewriting_ops}
+use Rattle.cut_pairs.proofs.Whole.{rewritings_accepted, rewritings_made}
+use Rattle.drawing_laws.proofs.Runs.{Leads, leads_on}
+use Rattle.opened_sections.specs.Capped.{HasCaps, cap_faces}
+use Rattle.opened_sections.specs.InTurn.{upper_faces, CanBeOpenedInTurn}
+use Rattle.opened_sections.proofs.InTurn.{all_on}
+use Rattle.opened_sections.proofs.Capping.{caps_rise}
+use Rattle.split_laws.specs.SplitOps.{openings_ops, closing_ops, hole_ops, still_there, upper_ops, ops_above, split_ops}
+use Rattle.split_laws.proofs.Openings.{openings_sound, openings_go}
+use Rattle.split_laws.proofs.Closing.{CanPart}
+use Rattle.split_laws.proofs.Holes.{AreLevel, CanClose, AreClosed, none_closed, all_close, can_close, holes_counted}
+use Rattle.split_laws.proofs.Parting.{BothSides, part_leads}
+use Rattle.split_laws.proofs.Flags.{flags_are, some_outer}
+use Rattle.split_laws.proofs.Drawn.{begins, t_fits, no_stray, drawn_sound, t_free, can_open_all, no_caps}
+use Rattle.split_laws.proofs.BothSides.{FaceThen, some_above, some_below}
+use Rattle.split_laws.proofs.OldFaces.{IsOld, all_old, solids_still}
+
+-- ---- which of the caps are listed
+
+not_listed : (x : ℕ) (ns : List ℕ) → count x ns ≡ 0 → lists ns x ≡ false
+not_listed x ns z = go (lists ns x) refl where
+  go : (b : Bool) → lists ns x ≡ b → lists ns x ≡ false
+  go false e = e
+  go true e = absurd (omega (arith, z, listed_in x ns e))
+
+caps_counted : (x : ℕ) (ks : List Caps) → count x (cap_faces ks) ≡ count x (map (λ k. k.lower) ks) + count x (map (λ k. k.upper) ks)
+caps_counted x [] = refl
+caps_counted x (k ∷ ks) = omega (arith, caps_counted x ks)
+
+module _ (above : List ℕ) (all : List Caps) (once : (x : ℕ) → count x above + count x (cap_faces all) ≤ 1) where
+  level_in : (ks : List Caps) → ((x : ℕ) → count x (map (λ k. k.lower) ks) ≤ count x (map (λ k. k.lower) all)) → ((x : ℕ) → count x (map (λ k. k.upper) ks) ≤ count x (map (λ k. k.upper) all)) → AreLevel (upper_faces above all) ks
+  level_in [] low up = tt
+  level_in (k ∷ ks) low up = (
+    not_listed k.lower (upper_faces above all) (omega (arith, once k.lower, caps_counted k.lower all, low k.lower, tick_same k.lower, count-append k.lower above (map (λ k. k.upper) all))),
+    in_listed k.upper (upper_faces above all) (omega (arith, up k.upper, tick_same k.upper, count-append k.upper above (map (λ k. k.upper) all))),
+    level_in ks (λ x. omega (arith, low x)) (λ x. omega (arith, up x)),
+  )
+
+some_length : (k : Caps) (ks : List Caps) → 0 < length (k ∷ ks)
+some_length k ks = omega arith
+
+-- ---- all openings made
+
+module _ (M : Model) (s : ℕ) (p : Plane) (t : ℕ) (sound : Sound M) (accepted : split_refusal M s p t ≡ None) where
+  abbrev d : Drawing
+  d = with_drawings M s p
+
+  abbrev D : Model
+  D = (with_drawings M s p).model
+
+  abbrev above : List ℕ
+  above = faces_above (with_drawings M s p).model p s
+
+  abbrev cycles : List (List ℕ)
+  cycles = section_cycles (with_drawings M s p).model (below_halves (with_drawings M s p).model (faces_above (with_drawings M s p).model p s) s)
+
+  abbrev begun : Opening
+  begun = record { model = (with_drawings M s p).model; taken = (with_drawings M s p).taken; caps = [] }
+
+  abbrev X : Opening
+  X = all_opened p above s begun cycles
+
+  abbrev ks : List Caps
+  ks = X.caps
+
+  abbrev us : List ℕ
+  us = upper_faces above ks
+
+  abbrev K : Model
+  K = holes_closed X.model ks
+
+  opened : CanBeOpenedInTurn above s X []
+  opened = all_on openings_sound above s p begun cycles (can_open_all M s p t sound accepted)
+
+  caps : HasCaps above s X
+  caps = caps_rise openings_sound above s p begun cycles (can_open_all M s p t sound accepted) (no_caps M s p t sound accepted)
+
+  old : (f : ℕ) → Has D.faces f → IsOld D X f
+  old f there = all_old D above s p begun cycles (can_open_all M s p t sound accepted) f there (record { row = refl; no_cap = refl })
+
+  once : (x : ℕ) → count x above + count x (cap_faces ks) ≤ 1
+  once x = omega (arith, counted_once x (above ++ cap_faces ks) caps.all_rise, count-append x above (cap_faces ks))
+
+  never_across : (x : ℕ) → HasHalf X.model x → lists us (face_at X.model x) ≡ false → lists us (face_at X.model (mate x)) ≡ true → ⊥
+  never_across x there f g = absurd (omega (arith, opened.between.only x there f g))
+
+  whole : (x : ℕ) → HasHalf X.model x → lists us (face_at X.model x) ≡ lists us (face_at X.model (mate x))
+  whole x there = go (lists us (face_at X.model x)) (lists us (face_at X.model (mate x))) refl refl where
+    go : (a b : Bool) → lists us (face_at X.model x) ≡ a → lists us (face_at X.model (mate x)) ≡ b → lists us (face_at X.model x) ≡ lists us (face_at X.model (mate x))
+    go true true e f = e ∙ sym f
+    go false false e f = e ∙ sym f
+    go false true e f = absurd (never_across x there e f)
+    go true false e f = absurd (never_across (mate x) (half_mate X.model opened.sound x there) f (ap (λ y. lists us (face_at X.model y)) (mate-mate x) ∙ e))
+
+  can_part : CanPart X.model s us
+  can_part = record { sound = opened.sound; of_solid = λ f l there. opened.upper_of_solid f l; whole = whole }
+
+  -- ---- the holes closed
+
+  level : AreLevel us ks
+  level = level_in above ks once ks (λ x. omega arith) (λ x. omega arith)
+
+  abbrev holes : List Caps
+  holes = filter (λ k. k.hole) ks
+
+  outer_left : (hs : List Caps) → holes ≡ hs → 0 < length hs → length holes < length ks
+  outer_left hs e l = some_outer D p cycles ks (flags_are above s p begun cycles (can_open_all M s p t sound accepted)) (no_stray M s p t sound accepted) (subst (λ x. 0 < length x) (sym e) l)
+
+  close : (hs : List Caps) → holes ≡ hs → AreClosed X.model (fold (hole_closed (outer_caps ks)) X.model hs) s us (closing_ops (outer_caps ks) hs) hs
+  close [] e = none_closed X.model s us can_part
+  close (h ∷ hs) e = all_close X.model s us (outer_caps ks) (h ∷ hs) (subst (CanClose X.model s us (outer_caps ks)) e
+      (can_close X.model s us ks can_part caps.plain (λ x. omega (arith, once x)) level (outer_left (h ∷ hs) e (some_length h hs))))
+
+  closed : AreClosed X.model K s us (hole_ops ks) holes
+  closed = close holes refl
+
+  -- ---- a face on either side is left
+
+  left_row : (f : ℕ) → Has D.faces f → table.get K.faces f ≡ table.get D.faces f
+  left_row f there = let o = old f there in closed.rows f (omega (arith, o.no_cap, holes_counted f ks)) ∙ o.row
+
+  solid_left : (f : ℕ) → Has D.faces f → solid_of K f ≡ solid_of D f
+  unfolding solid_of
+  solid_left f there = ap (λ o. (unwrap_or o no_face).solid) (left_row f there)
+
+  sides : BothSides K s us
+  sides =
+      let a : FaceThen M s p t sound accepted true = some_above M s p t sound accepted in
+      let b : FaceThen M s p t sound accepted false = some_below M s p t sound accepted in
+      let o = old b.face b.there in
+      record {
+        upper = a.face;
+        upper_there = ap is_some (left_row a.face a.there) ∙ a.there;
+        upper_listed = in_listed a.face us (omega (arith, listed_in a.face above a.listed, count-append a.face above (map (λ k. k.upper) ks)));
+        lower = b.face;
+        lower_there = ap is_some (left_row b.face b.there) ∙ b.there;
+        lower_of = solid_left b.face b.there ∙ b.of_solid;
+        lower_unlisted = not_listed b.face us (omega (arith, none_counted b.face above b.listed, o.no_cap, caps_counted b.face ks, count-append b.face above (map (λ k. k.upper) ks)));
+      }
+
+  t_left : table.get K.solids t ≡ None
+  t_left = ap (λ u. table.get u t) (closed.solids ∙ solids_still above s p begun cycles) ∙ t_free M s p t sound accepted
+
+  parted : Leads K (part K s t us) (Part s t (still_there K us) ∷ [])
+  parted = part_leads K s t us closed.part sides caps.upper_rise t_left (t_fits M s p t sound accepted)
+
+  -- ---- all operators
+
+  later : Leads D (split_above (with_drawings M s p) s p t) (ops_above (with_drawings M s p) s p t)
+  later = leads_on D X.model (part K s t us) (openings_ops above s p begun cycles) (upper_ops X above s t) (openings_go above s p begun cycles (can_open_all M s p t sound accepted))
+      (leads_on X.model K (part K s t us) (hole_ops ks) (Part s t (still_there K us) ∷ []) closed.leads parted)
+
+  first : Leads M D (rewriting_ops M s p)
+  first = record { accepted = rewritings_accepted M s p t sound (begins M s p t sound accepted); made = rewritings_made M s p t sound (begins M s p t sound accepted) }
+
+  all : Leads M (split_above (with_drawings M s p) s p t) (rewriting_ops M s p ++ ops_above (with_drawings M s p) s p t)
+  all = leads_on M D (split_above (with_drawings M s p) s p t) (rewriting_ops M s p) (ops_above (with_drawings M s p) s p t) first later
+
+  -- no operator of a split is refused
+  pub split_accepted : AreAccepted M (split_ops M s p t)
+  unfolding split_ops
+  split_accepted = all.accepted
+
+  -- and they make its model
+  pub split_made : effects M (split_ops M s p t) ≡ split_model M s p t
+  unfolding split_ops split_model
+  split_made = all.made
+
+  pub split_sound : Sound (split_model M s p t)
+  split_sound = subst Sound split_made (effects_keep_sound M (split_ops M s p t) sound split_accepted)
