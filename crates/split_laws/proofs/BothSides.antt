@@ -1,15 +1,14 @@
 -- Once the faces are drawn the solid has a face above and one that isn't.
-use Rattle.std.proofs.Common.{◌≡◌, ℕ, Bool, true, false, not, nat_eq, ◌&&◌, ◌||◌, List, [], ◌∷◌, Some, None, is_some, unwrap_or, refl, sym, ap, ◌∙◌, subst, arith, inl, inr, true≢false}
+use Rattle.std.proofs.Common.{◌≡◌, ℕ, Bool, true, false, not, nat_eq, ◌&&◌, ◌||◌, List, None, is_some, unwrap_or, refl, sym, ap, ◌∙◌, subst, inl, inr, true≢false}
 use Rattle.std.specs.Prelude.{pos, int_lt}
 use Rattle.lattice.specs.declared.Plane.{Plane}
 use Rattle.lattice.specs.Vectors.{is_above, is_below, dot, direction}
 use Rattle.cyclic_list.specs.Items.{IsIn}
 use Rattle.cyclic_list.proofs.Lists.{IsIn_or_not}
-use Rattle.boundary_model.specs.HalfEdge.{mate, edge_of, plus, minus}
+use Rattle.boundary_model.specs.HalfEdge.{edge_of, plus, minus}
 use Rattle.boundary_model.specs.Table as table
 use Rattle.boundary_model.specs.Model.{Model, LoopContent, lone, cycle, no_face, no_point, items_of, content, tail, loop_of, face_of, solid_of, point_of, faces_of}
 use Rattle.boundary_model.specs.Sound.{Sound, Has, HasHalf}
-use Rattle.boundary_model.proofs.Halves.{plus_row, minus_row}
 use Rattle.boundary_model.proofs.Models.{in-holds, cycle_there}
 use Rattle.boundary_model.proofs.Tables.{zero_first_where}
 use Rattle.euler_operators.specs.Conditions.{face_at, lists, is_lone}
@@ -20,14 +19,13 @@ use Rattle.euler_laws_shared.proofs.Rows.{face_there, loop_row}
 use Rattle.solid_walks.proofs.Rising.{in_listed}
 use Rattle.solid_walks.proofs.SolidFaces.{face_of_loop}
 use Rattle.solid_measure.specs.Measure.{normal}
-use Rattle.shapes.specs.Faces.{start, loops_of, corners, least_lone}
-use Rattle.split_shapes.specs.Sides.{reaches_above, reaches_below, straddles, straddling_faces, crossing_edges, face_is_above, faces_above}
+use Rattle.shapes.specs.Faces.{loops_of, corners}
+use Rattle.split_shapes.specs.Sides.{reaches_above, reaches_below, straddles, crossing_edges, face_is_above, faces_above}
 use Rattle.split_shapes.specs.Crossings.{with_crossings}
 use Rattle.split_shapes.specs.Drawing.{with_drawings}
 use Rattle.split_shapes.specs.Split.{split_refusal}
 use Rattle.crossing_laws.specs.Laws.{CanBegin}
 use Rattle.crossing_laws.proofs.Listed.{listed_in, picked, picked_passes, any_passes, all_where_has, all_where_in, tail_in_face}
-use Rattle.crossing_laws.proofs.Runs.{kept_point}
 use Rattle.crossing_laws.proofs.Whole.{crossings_cut, crossings_keep, crossings_sound, same_solid, not_cut}
 use Rattle.drawing_laws.proofs.Stays.{has_loop, has_face}
 use Rattle.cut_sides.proofs.Pieces.{CutBy, half_plus, half_minus, crossing_pieces}

@@ -13,10 +13,10 @@ use Rattle.euler_laws_shared.proofs.Listed.{all_where-rises}
 use Rattle.fresh_laws.proofs.Rows.{none_above}
 use Rattle.fresh_laws.proofs.Tests.{all_hold-front, all_hold-back, Left, numbers_are_left}
 use Rattle.shapes.specs.Faces.{least_lone}
-use Rattle.shapes.specs.Fresh.{Taken, Growing, taken_in}
+use Rattle.shapes.specs.Fresh.{Growing, taken_in}
 use Rattle.split_shapes.specs.Sides.{straddling_faces, reaches_above, reaches_below, face_is_above, faces_above}
 use Rattle.split_shapes.specs.Crossings.{with_crossings}
-use Rattle.split_shapes.specs.Drawing.{Drawing, stuck_at, in_one_loop, join_next, all_joined, ring_free, draw_next, all_drawn, rings_above, with_rings, rings_shared, drawn_between, drawn_pairs, next_drawn, faces_drawn, with_drawings}
+use Rattle.split_shapes.specs.Drawing.{Drawing, stuck_at, in_one_loop, join_next, all_joined, ring_free, draw_next, all_drawn, rings_above, with_rings, drawn_between, drawn_pairs, next_drawn, faces_drawn, with_drawings}
 use Rattle.split_shapes.specs.Section.{below_halves, section_cycles, has_stray_hole}
 use Rattle.split_shapes.specs.Split.{first_conditions, later_conditions, section_conditions, split_conditions, split_refusal}
 use Rattle.crossing_laws.specs.Laws.{CanBegin}

@@ -1,5 +1,5 @@
 -- The caps of the holes become rings of the outer cycle's caps.
-use Rattle.std.proofs.Common.{◌≡◌, ◌≢◌, ℕ, ◌+◌, ◌≤◌, ◌<◌, suc, Bool, true, false, cond, List, [], ◌∷◌, ◌++◌, length, refl, sym, ap, ◌∙◌, subst, arith}
+use Rattle.std.proofs.Common.{◌≡◌, ◌≢◌, ℕ, ◌≤◌, ◌<◌, suc, Bool, true, false, cond, List, [], ◌∷◌, length, refl, sym, ap, ◌∙◌, arith}
 use Rattle.std.specs.Prelude.{fold, filter}
 use Rattle.cyclic_list.specs.Items.{tick, count, IsIn, IsApart}
 use Rattle.cyclic_list.proofs.Lists.{tick_same}

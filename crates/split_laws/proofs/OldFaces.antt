@@ -1,5 +1,5 @@
 -- The faces that were there before the openings stay, and are none of the caps.
-use Rattle.std.proofs.Common.{◌≡◌, ℕ, ◌+◌, List, [], ◌∷◌, ◌++◌, length, is_some, refl, sym, ap, ◌∙◌, subst, arith}
+use Rattle.std.proofs.Common.{◌≡◌, ℕ, ◌+◌, List, [], ◌∷◌, ◌++◌, length, is_some, refl, ap, ◌∙◌, arith}
 use Rattle.std.proofs.lemmas.Grind.{flat_map-append}
 use Rattle.lattice.specs.declared.Plane.{Plane}
 use Rattle.cyclic_list.specs.Items.{tick, count}

@@ -1,10 +1,7 @@
 -- The operators that open a solid along all cycles of its section, in turn.
-use Rattle.std.proofs.Common.{◌≡◌, ℕ, ◌+◌, ◌*◌, List, [], ◌∷◌, ◌++◌, length, sym, refl, ap, ◌∙◌, subst, arith, length-append}
+use Rattle.std.proofs.Common.{◌≡◌, ℕ, ◌+◌, List, [], ◌∷◌, length, refl, ◌∙◌, arith, length-append}
 use Rattle.lattice.specs.declared.Plane.{Plane}
-use Rattle.boundary_model.specs.Model.{Model}
 use Rattle.boundary_model.specs.Sound.{Sound}
-use Rattle.euler_operators.specs.declared.Op.{Op}
-use Rattle.shapes.specs.Fresh.{Taken}
 use Rattle.split_shapes.specs.Opening.{Opening, opened_along, next_opened, all_opened}
 use Rattle.drawing_laws.proofs.Runs.{Leads, leads_none, leads_on}
 use Rattle.section_laws.specs.SectionCycles.{IsSectionCycle}

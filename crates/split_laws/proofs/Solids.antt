@@ -4,18 +4,17 @@ use Rattle.std.specs.Prelude.{fold}
 use Rattle.std.proofs.lemmas.Bool.Decides.{eqb_tells}
 use Rattle.lattice.specs.declared.Plane.{Plane}
 use Rattle.boundary_model.specs.Table as table
-use Rattle.boundary_model.specs.Model.{Model, FaceRow, no_face, loop_of, face_of, solid_of, is_ring_of}
+use Rattle.boundary_model.specs.Model.{Model, FaceRow, no_face, loop_of, solid_of, is_ring_of}
 use Rattle.boundary_model.specs.Sound.{Sound, Has, HasHalf}
 use Rattle.euler_operators.specs.Conditions.{face_at, has_rings}
-use Rattle.euler_laws_shared.proofs.Goes.{free}
 use Rattle.fresh_laws.proofs.Rows.{get-put_here, get-put_other}
 use Rattle.shapes.specs.Fresh.{Growing}
 use Rattle.split_shapes.specs.Drawing.{Drawing, face_drawn, loops_joined, stuck_at, in_one_loop, joined_pair, join_next, all_joined, ring_free, draw_next, all_drawn, rings_above, with_rings, rings_shared, drawn_between, drawn_pairs, next_drawn, faces_drawn}
-use Rattle.drawing_laws.specs.DrawnIn.{Stays, DrawnIn}
+use Rattle.drawing_laws.specs.DrawnIn.{DrawnIn}
 use Rattle.drawing_laws.specs.Pairs.{Fits, AllFit, pairs_in}
 use Rattle.drawing_laws.specs.Laws.{CanBeDrawn}
 use Rattle.drawing_laws.proofs.Stays.{has_face}
-use Rattle.drawing_laws.proofs.Passes.{Going, cut_off, draw_next_one, draw_next_two, draw_one, join_next_one, join_next_two}
+use Rattle.drawing_laws.proofs.Passes.{Going, draw_next_one, draw_next_two, draw_one, join_next_one, join_next_two}
 use Rattle.drawing_laws.proofs.Faces.{Ready, joins, going, going_on, fitting_on, face_goes}
 use Rattle.drawing_laws.proofs.Whole.{Drawable, ready, drawable, drawable_on, next_is}
 

@@ -1,8 +1,8 @@
 -- A split from its first operator to its two solids.
-use Rattle.std.proofs.Common.{◌≡◌, ℕ, ◌+◌, ◌≤◌, ◌<◌, suc, Bool, true, false, List, [], ◌∷◌, ◌++◌, length, None, is_some, unwrap_or, IsTrue, refl, sym, ap, ◌∙◌, subst, arith, true≢false}
+use Rattle.std.proofs.Common.{◌≡◌, ℕ, ◌+◌, ◌≤◌, ◌<◌, Bool, true, false, List, [], ◌∷◌, ◌++◌, length, None, is_some, unwrap_or, refl, sym, ap, ◌∙◌, subst, arith}
 use Rattle.std.specs.Prelude.{map, filter, fold}
 use Rattle.lattice.specs.declared.Plane.{Plane}
-use Rattle.cyclic_list.specs.Items.{count, IsIn, IsApart}
+use Rattle.cyclic_list.specs.Items.{count}
 use Rattle.cyclic_list.proofs.Lists.{tick_same, count-append}
 use Rattle.boundary_model.specs.HalfEdge.{mate}
 use Rattle.boundary_model.specs.Table as table
@@ -10,7 +10,6 @@ use Rattle.boundary_model.specs.Model.{Model, no_face, solid_of}
 use Rattle.boundary_model.specs.Sound.{Sound, Has, HasHalf}
 use Rattle.boundary_model.proofs.Halves.{mate-mate}
 use Rattle.euler_operators.specs.Conditions.{face_at, lists}
-use Rattle.euler_operators.specs.declared.Op.{Op}
 use Rattle.euler_operators.specs.declared.Op.TheVariants.{Part}
 use Rattle.euler_operators.specs.Effect.{part}
 use Rattle.euler_laws.specs.Laws.{AreAccepted, effects}
@@ -19,9 +18,9 @@ use Rattle.euler_laws_shared.proofs.Fans.{half_mate}
 use Rattle.solid_walks.proofs.Rising.{none_counted, counted_once, in_listed}
 use Rattle.split_shapes.specs.Sides.{faces_above}
 use Rattle.split_shapes.specs.Drawing.{Drawing, with_drawings}
-use Rattle.split_shapes.specs.Section.{below_halves, section_cycles, has_stray_hole}
+use Rattle.split_shapes.specs.Section.{below_halves, section_cycles}
 use Rattle.split_shapes.specs.Opening.{Caps, Opening, all_opened, outer_caps, hole_closed, holes_closed}
-use Rattle.split_shapes.specs.Split.{opened_at, upper_part, split_above, split_refusal, split_model}
+use Rattle.split_shapes.specs.Split.{split_above, split_refusal, split_model}
 use Rattle.crossing_laws.proofs.Listed.{listed_in}
 use Rattle.cut_pairs.specs.Laws.{rewriting_ops}
 use Rattle.cut_pairs.proofs.Whole.{rewritings_accepted, rewritings_made}
@@ -36,7 +35,7 @@ use Rattle.split_laws.proofs.Closing.{CanPart}
 use Rattle.split_laws.proofs.Holes.{AreLevel, CanClose, AreClosed, none_closed, all_close, can_close, holes_counted}
 use Rattle.split_laws.proofs.Parting.{BothSides, part_leads}
 use Rattle.split_laws.proofs.Flags.{flags_are, some_outer}
-use Rattle.split_laws.proofs.Drawn.{begins, t_fits, no_stray, drawn_sound, t_free, can_open_all, no_caps}
+use Rattle.split_laws.proofs.Drawn.{begins, t_fits, no_stray, t_free, can_open_all, no_caps}
 use Rattle.split_laws.proofs.BothSides.{FaceThen, some_above, some_below}
 use Rattle.split_laws.proofs.OldFaces.{IsOld, all_old, solids_still}
 
