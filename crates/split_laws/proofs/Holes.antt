@@ -1,8 +1,9 @@
 -- The caps of the holes become rings of the outer cycle's caps.
-use Rattle.std.proofs.Common.{◌≡◌, ◌≢◌, ℕ, ◌≤◌, ◌<◌, suc, Bool, true, false, cond, List, [], ◌∷◌, length, refl, sym, ap, ◌∙◌, arith}
+use Rattle.std.proofs.Common.{◌≡◌, ◌≢◌, ℕ, ◌≤◌, ◌<◌, suc, Bool, true, false, cond, List, [], ◌∷◌, length, None, refl, sym, ap, ◌∙◌, arith, inl, inr}
 use Rattle.std.specs.Prelude.{fold, filter}
+use Rattle.std.proofs.lemmas.Bool.Decides.{eqb_tells}
 use Rattle.cyclic_list.specs.Items.{tick, count, IsIn, IsApart}
-use Rattle.cyclic_list.proofs.Lists.{tick_same}
+use Rattle.cyclic_list.proofs.Lists.{tick_same, tick_other, IsIn_or_not}
 use Rattle.boundary_model.specs.Table as table
 use Rattle.boundary_model.specs.Model.{Model, solid_of}
 use Rattle.boundary_model.specs.Sound.{Sound, Has}
@@ -10,7 +11,7 @@ use Rattle.euler_operators.specs.Conditions.{lists}
 use Rattle.euler_operators.specs.declared.Op.{Op}
 use Rattle.euler_operators.specs.declared.Op.TheVariants.{Kfmrh}
 use Rattle.euler_operators.specs.Effect.{kfmrh}
-use Rattle.euler_laws_faces.proofs.Kfmrh.{KillGoes, kill_solid}
+use Rattle.euler_laws_faces.proofs.Kfmrh.{KillGoes, g_gone, kill_solid}
 use Rattle.split_shapes.specs.Opening.{Caps, outer_caps, hole_closed}
 use Rattle.drawing_laws.proofs.Runs.{Leads, leads_none, leads_on}
 use Rattle.opened_sections.specs.Capped.{IsPlain, ArePlain, cap_faces}
@@ -42,9 +43,10 @@ pub record AreClosed (N K : Model) (s : ℕ) (us : List ℕ) (ops : List Op) (ks
   pub part : CanPart K s us
   pub solids : K.solids ≡ N.solids
   pub rows : (q : ℕ) → count q (cap_faces ks) ≡ 0 → table.get K.faces q ≡ table.get N.faces q
+  pub gone : (q : ℕ) → IsIn q (cap_faces ks) → table.get K.faces q ≡ None
 
 pub none_closed : (N : Model) (s : ℕ) (us : List ℕ) → CanPart N s us → AreClosed N N s us [] []
-none_closed N s us w = record { leads = leads_none N; part = w; solids = refl; rows = λ q z. refl }
+none_closed N s us w = record { leads = leads_none N; part = w; solids = refl; rows = λ q z. refl; gone = λ q i. absurd (omega (arith, i)) }
 
 -- the first of some items that lie apart is none of the others
 first_other : (x y : ℕ) (xs : List ℕ) → IsApart (x ∷ xs) → IsIn y xs → x ≢ y
@@ -122,6 +124,19 @@ module _ (N : Model) (s : ℕ) (us : List ℕ) (o k : Caps) (ks : List Caps) (w 
   one_rows q z = row_kept first o.upper k.upper q (λ e. absurd (omega (arith, z, tick_same q, ap (λ x. tick q x) e)))
       ∙ row_kept N o.lower k.lower q (λ e. absurd (omega (arith, z, tick_same q, ap (λ x. tick q x) e)))
 
+  lower_gone : table.get next.faces k.lower ≡ None
+  lower_gone = row_kept first o.upper k.upper k.lower own_apart ∙ g_gone N w.part.sound o.lower k.lower goes_low
+
+  -- the caps of the hole are gone
+  pub one_gone : (q : ℕ) → IsIn q (cap_faces (k ∷ ks)) → count q (cap_faces ks) ≡ 0 → table.get (hole_closed o N k).faces q ≡ None
+  one_gone q i z = elim (eqb_tells q k.lower) [
+    | inl e ↦ ap (table.get next.faces) e.1 ∙ lower_gone
+    | inr e ↦ elim (eqb_tells q k.upper) [
+      | inl e ↦ ap (table.get next.faces) e.1 ∙ g_gone first part_low.sound o.upper k.upper goes_up
+      | inr f ↦ absurd (omega (arith, i, z, tick_other q k.lower e.1, tick_other q k.upper f.1))
+    ]
+  ]
+
 -- all of them
 pub all_close : (N : Model) (s : ℕ) (us : List ℕ) (o : Caps) (ks : List Caps) → CanClose N s us o ks → AreClosed N (fold (hole_closed o) N ks) s us (closing_ops o ks) ks
 all_close N s us o [] w = none_closed N s us w.part
@@ -133,6 +148,10 @@ all_close N s us o (k ∷ ks) w =
       part = r.part;
       solids = r.solids ∙ one_solids N s us o k ks w;
       rows = λ q z. r.rows q (omega (arith, z)) ∙ one_rows N s us o k ks w q z;
+      gone = λ q i. elim (IsIn_or_not q (cap_faces ks)) [
+        | inl j ↦ r.gone q j
+        | inr z ↦ r.rows q z ∙ one_gone N s us o k ks w q i z
+      ];
     }
 
 -- ---- the outer cycle's caps and those of the holes, among all

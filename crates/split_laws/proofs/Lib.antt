@@ -2,6 +2,7 @@ pub mod Openings
 pub mod Closing
 pub mod Holes
 pub mod Parting
+pub mod Left
 pub mod Flags
 pub mod Solids
 pub mod Drawn

@@ -16,8 +16,11 @@ use Rattle.euler_laws_shared.proofs.Listed.{first_listed, rest_listed, listed_ca
 use Rattle.euler_laws_merge.proofs.Part.{PartGoes, part_accepted}
 use Rattle.drawing_laws.proofs.Runs.{Leads, leads_one}
 use Rattle.section_laws.proofs.RisingLists.{filter_rises}
-use Rattle.split_laws.specs.SplitOps.{still_there}
 use Rattle.split_laws.proofs.Closing.{CanPart}
+
+-- those of some faces that are there
+abbrev pub still_there : Model → List ℕ → List ℕ
+still_there N fs = filter (table.has N.faces) fs
 
 -- what is listed in a thinned list passes the test and stands in the whole
 filter_lists : (p : ℕ → Bool) (fs : List ℕ) (f : ℕ) → lists (filter p fs) f ≡ true → (p f ≡ true) × (lists fs f ≡ true)

@@ -29,13 +29,14 @@ use Rattle.opened_sections.specs.Capped.{HasCaps, cap_faces}
 use Rattle.opened_sections.specs.InTurn.{upper_faces, CanBeOpenedInTurn}
 use Rattle.opened_sections.proofs.InTurn.{all_on}
 use Rattle.opened_sections.proofs.Capping.{caps_rise}
-use Rattle.split_laws.specs.SplitOps.{openings_ops, closing_ops, hole_ops, still_there, upper_ops, ops_above, split_ops}
+use Rattle.split_laws.specs.SplitOps.{openings_ops, closing_ops, hole_ops, upper_left, upper_ops, ops_above, split_ops}
 use Rattle.split_laws.proofs.Openings.{openings_sound, openings_go}
 use Rattle.split_laws.proofs.Closing.{CanPart}
 use Rattle.split_laws.proofs.Holes.{AreLevel, CanClose, AreClosed, none_closed, all_close, can_close, holes_counted}
-use Rattle.split_laws.proofs.Parting.{BothSides, part_leads}
+use Rattle.split_laws.proofs.Parting.{still_there, BothSides, part_leads}
+use Rattle.split_laws.proofs.Left.{left_are}
 use Rattle.split_laws.proofs.Flags.{flags_are, some_outer}
-use Rattle.split_laws.proofs.Drawn.{begins, t_fits, no_stray, t_free, can_open_all, no_caps}
+use Rattle.split_laws.proofs.Drawn.{begins, t_fits, no_stray, t_free, above_facts, can_open_all, no_caps}
 use Rattle.split_laws.proofs.BothSides.{FaceThen, some_above, some_below}
 use Rattle.split_laws.proofs.OldFaces.{IsOld, all_old, solids_still}
 
@@ -165,14 +166,18 @@ module _ (M : Model) (s : ℕ) (p : Plane) (t : ℕ) (sound : Sound M) (accepted
   t_left : table.get K.solids t ≡ None
   t_left = ap (λ u. table.get u t) (closed.solids ∙ solids_still above s p begun cycles) ∙ t_free M s p t sound accepted
 
-  parted : Leads K (part K s t us) (Part s t (still_there K us) ∷ [])
-  parted = part_leads K s t us closed.part sides caps.upper_rise t_left (t_fits M s p t sound accepted)
+  faces_left : still_there K us ≡ upper_left above ks
+  faces_left = left_are X.model K s us above ks (hole_ops ks) closed caps.plain (λ x. omega (arith, once x)) (λ f i. let l = in_listed f above i in
+      let there : Has D.faces f = (above_facts M s p t sound accepted f l).0 in ap is_some (left_row f there) ∙ there)
+
+  parted : Leads K (part K s t us) (Part s t (upper_left above ks) ∷ [])
+  parted = subst (λ fs. Leads K (part K s t us) (Part s t fs ∷ [])) faces_left (part_leads K s t us closed.part sides caps.upper_rise t_left (t_fits M s p t sound accepted))
 
   -- ---- all operators
 
   later : Leads D (split_above (with_drawings M s p) s p t) (ops_above (with_drawings M s p) s p t)
   later = leads_on D X.model (part K s t us) (openings_ops above s p begun cycles) (upper_ops X above s t) (openings_go above s p begun cycles (can_open_all M s p t sound accepted))
-      (leads_on X.model K (part K s t us) (hole_ops ks) (Part s t (still_there K us) ∷ []) closed.leads parted)
+      (leads_on X.model K (part K s t us) (hole_ops ks) (Part s t (upper_left above ks) ∷ []) closed.leads parted)
 
   first : Leads M D (rewriting_ops M s p)
   first = record { accepted = rewritings_accepted M s p t sound (begins M s p t sound accepted); made = rewritings_made M s p t sound (begins M s p t sound accepted) }

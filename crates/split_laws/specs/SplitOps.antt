@@ -1,7 +1,6 @@
 -- The Euler operators of a split, in turn.
-use Rattle.std.specs.Prelude.{ℕ, List, [], ◌∷◌, ◌++◌, filter, flat_map}
+use Rattle.std.specs.Prelude.{ℕ, not, List, [], ◌∷◌, ◌++◌, map, filter, flat_map}
 use Rattle.lattice.specs.declared.Plane.{Plane}
-use Rattle.boundary_model.specs.Table as table
 use Rattle.boundary_model.specs.Model.{Model}
 use Rattle.euler_operators.specs.declared.Op.{Op}
 use Rattle.euler_operators.specs.declared.Op.TheVariants.{Kfmrh, Part}
@@ -11,7 +10,6 @@ use Rattle.split_shapes.specs.Drawing.{Drawing, with_drawings}
 use Rattle.split_shapes.specs.Opening.{Caps, Opening, next_opened, outer_caps, holes_closed}
 use Rattle.split_shapes.specs.Split.{opened_at}
 use Rattle.cut_pairs.specs.Laws.{rewriting_ops}
-use Rattle.opened_sections.specs.InTurn.{upper_faces}
 use Rattle.opening_laws.specs.OpeningOps.{opening_ops}
 
 -- solid s opened along some cycles, in their order
@@ -26,13 +24,13 @@ closing_ops o ks = flat_map (λ k. Kfmrh o.lower k.lower ∷ Kfmrh o.upper k.upp
 abbrev pub hole_ops : List Caps → List Op
 hole_ops ks = closing_ops (outer_caps ks) (filter (λ k. k.hole) ks)
 
--- those of some faces that are there
-abbrev pub still_there : Model → List ℕ → List ℕ
-still_there M fs = filter (table.has M.faces) fs
+-- the upper faces that are left when the holes are closed: the faces above, and the caps above of the outer cycles
+abbrev pub upper_left : List ℕ → List Caps → List ℕ
+upper_left above ks = above ++ map (λ k. k.upper) (filter (λ k. not k.hole) ks)
 
 -- the holes closed, and then the upper faces that are left parted from solid s as solid t
 abbrev pub upper_ops : Opening → List ℕ → ℕ → ℕ → List Op
-upper_ops o above s t = hole_ops o.caps ++ Part s t (still_there (holes_closed o.model o.caps) (upper_faces above o.caps)) ∷ []
+upper_ops o above s t = hole_ops o.caps ++ Part s t (upper_left above o.caps) ∷ []
 
 -- from the drawing on: the openings, then the upper faces parted
 abbrev pub later_ops : Drawing → List ℕ → ℕ → Plane → ℕ → List Op
