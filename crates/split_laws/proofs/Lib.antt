@@ -4,8 +4,5 @@ pub mod Holes
 pub mod Parting
 pub mod Left
 pub mod Flags
-pub mod Solids
-pub mod Drawn
-pub mod BothSides
 pub mod OldFaces
 pub mod Whole

@@ -36,8 +36,9 @@ use Rattle.split_laws.proofs.Holes.{AreLevel, CanClose, AreClosed, none_closed, 
 use Rattle.split_laws.proofs.Parting.{still_there, BothSides, part_leads}
 use Rattle.split_laws.proofs.Left.{left_are}
 use Rattle.split_laws.proofs.Flags.{flags_are, some_outer}
-use Rattle.split_laws.proofs.Drawn.{begins, t_fits, no_stray, t_free, above_facts, can_open_all, no_caps}
-use Rattle.split_laws.proofs.BothSides.{FaceThen, some_above, some_below}
+use Rattle.drawn_splits.specs.Kept.{HasFace}
+use Rattle.drawn_splits.proofs.Drawn.{begins, t_fits, no_stray, t_free, above_facts, can_open_all, no_caps}
+use Rattle.drawn_splits.proofs.BothSides.{some_above, some_below}
 use Rattle.split_laws.proofs.OldFaces.{IsOld, all_old, solids_still}
 
 -- ---- which of the caps are listed
@@ -150,17 +151,17 @@ module _ (M : Model) (s : ℕ) (p : Plane) (t : ℕ) (sound : Sound M) (accepted
 
   sides : BothSides K s us
   sides =
-      let a : FaceThen M s p t sound accepted true = some_above M s p t sound accepted in
-      let b : FaceThen M s p t sound accepted false = some_below M s p t sound accepted in
+      let a : HasFace D s above true = some_above M s p t sound accepted in
+      let b : HasFace D s above false = some_below M s p t sound accepted in
       let o = old b.face b.there in
       record {
         upper = a.face;
         upper_there = ap is_some (left_row a.face a.there) ∙ a.there;
-        upper_listed = in_listed a.face us (omega (arith, listed_in a.face above a.listed, count-append a.face above (map (λ k. k.upper) ks)));
+        upper_listed = in_listed a.face us (omega (arith, listed_in a.face above a.is, count-append a.face above (map (λ k. k.upper) ks)));
         lower = b.face;
         lower_there = ap is_some (left_row b.face b.there) ∙ b.there;
         lower_of = solid_left b.face b.there ∙ b.of_solid;
-        lower_unlisted = not_listed b.face us (omega (arith, none_counted b.face above b.listed, o.no_cap, caps_counted b.face ks, count-append b.face above (map (λ k. k.upper) ks)));
+        lower_unlisted = not_listed b.face us (omega (arith, none_counted b.face above b.is, o.no_cap, caps_counted b.face ks, count-append b.face above (map (λ k. k.upper) ks)));
       }
 
   t_left : table.get K.solids t ≡ None

@@ -32,7 +32,8 @@ use Rattle.section_laws.proofs.RisingLists.{filter_rises}
 use Rattle.opened_sections.specs.Capped.{HasCaps}
 use Rattle.opened_sections.specs.InTurn.{AreFree, AreLeft, CanBeOpenedInTurn}
 use Rattle.opened_sections.proofs.InTurn.{can_be_opened}
-use Rattle.split_laws.proofs.Solids.{KeepsSolids, drawing_keeps}
+use Rattle.drawn_splits.specs.Kept.{KeepsSolids}
+use Rattle.drawn_splits.proofs.Solids.{drawing_keeps}
 
 -- ---- drawing takes no vertex
 

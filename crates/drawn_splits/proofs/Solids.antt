@@ -17,6 +17,7 @@ use Rattle.drawing_laws.proofs.Stays.{has_face}
 use Rattle.drawing_laws.proofs.Passes.{Going, draw_next_one, draw_next_two, draw_one, join_next_one, join_next_two}
 use Rattle.drawing_laws.proofs.Faces.{Ready, joins, going, going_on, fitting_on, face_goes}
 use Rattle.drawing_laws.proofs.Whole.{Drawable, ready, drawable, drawable_on, next_is}
+use Rattle.drawn_splits.specs.Kept.{KeepsSolids}
 
 -- ---- joining changes no face and no solid
 
@@ -147,10 +148,6 @@ face_new p f qs d n w =
     (shared_same p f qs (all_drawn f R))
 
 -- ---- each half-edge stays in its solid
-
-pub record KeepsSolids (M N : Model) : Type 0 where
-  pub halves : (h : ℕ) → HasHalf M h → solid_of N (face_at N h) ≡ solid_of M (face_at M h)
-  pub solids : N.solids ≡ M.solids
 
 one_keeps : (X Y : Model) (f : ℕ) → Sound X → DrawnIn X Y f → NewOf X Y f → KeepsSolids X Y
 one_keeps X Y f sound drawn a = record {

@@ -32,7 +32,8 @@ use Rattle.cut_sides.proofs.Pieces.{CutBy, half_plus, half_minus, crossing_piece
 use Rattle.cut_sides.proofs.Starts.{old_face}
 use Rattle.face_sides.proofs.Final.{TailIn, tail_in, none_straddles}
 use Rattle.face_sides.proofs.Same.{any_from}
-use Rattle.split_laws.proofs.Drawn.{begins, none_lone, meets, never_stuck, drawn_sound, drawn_stays, drawn_keeps}
+use Rattle.drawn_splits.specs.Kept.{HasFace}
+use Rattle.drawn_splits.proofs.Drawn.{begins, none_lone, meets, never_stuck, drawn_sound, drawn_stays, drawn_keeps}
 
 cycle_of_items : (c : LoopContent) → is_lone c ≡ false → c ≡ cycle (items_of c)
 cycle_of_items (lone v) e = absurd (true≢false e)
@@ -149,12 +150,6 @@ module _ (M : Model) (s : ℕ) (p : Plane) (t : ℕ) (sound : Sound M) (accepted
 
   -- ---- the two faces
 
-  pub record FaceThen (b : Bool) : Type 0 where
-    pub face : ℕ
-    pub there : Has (with_drawings M s p).model.faces face
-    pub of_solid : solid_of (with_drawings M s p).model face ≡ s
-    pub listed : lists (faces_above (with_drawings M s p).model p s) face ≡ b
-
   above_is : (f : ℕ) → reaches_above D p f ≡ true → face_is_above D p f ≡ true
   unfolding face_is_above
   above_is f e = ap (λ b. b || (not (reaches_below D p f) && not (int_lt (pos 0) (dot (normal D f) (direction p))))) e
@@ -171,7 +166,7 @@ module _ (M : Model) (s : ℕ) (p : Plane) (t : ℕ) (sound : Sound M) (accepted
     go false n = n
     go true l = absurd (true≢false (sym (picked_passes (face_is_above D p) f (faces_of D s) (listed_in f (faces_above D p s) l)) ∙ e))
 
-  pub some_above : FaceThen true
+  pub some_above : HasFace (with_drawings M s p).model s (faces_above (with_drawings M s p).model p s) true
   some_above =
       let f = any_from (reaches_above M p) (faces_of M s) (meets M s p t sound accepted).0 in
       let v = any_from (λ v. is_above p (point_of M v)) (corners M f.0) f.2 in
@@ -181,10 +176,10 @@ module _ (M : Model) (s : ℕ) (p : Plane) (t : ℕ) (sound : Sound M) (accepted
         face = c.face;
         there = c.there;
         of_solid = c.of_solid;
-        listed = in_listed c.face (faces_above D p s) (picked (face_is_above D p) c.face (faces_of D s) (in_solid c.face c.there c.of_solid) (above_is c.face reaches));
+        is = in_listed c.face (faces_above D p s) (picked (face_is_above D p) c.face (faces_of D s) (in_solid c.face c.there c.of_solid) (above_is c.face reaches));
       }
 
-  pub some_below : FaceThen false
+  pub some_below : HasFace (with_drawings M s p).model s (faces_above (with_drawings M s p).model p s) false
   some_below =
       let f = any_from (reaches_below M p) (faces_of M s) (meets M s p t sound accepted).1 in
       let v = any_from (λ v. is_below p (point_of M v)) (corners M f.0) f.2 in
@@ -195,5 +190,5 @@ module _ (M : Model) (s : ℕ) (p : Plane) (t : ℕ) (sound : Sound M) (accepted
         face = c.face;
         there = c.there;
         of_solid = c.of_solid;
-        listed = unlisted c.face (below_is c.face reaches whole);
+        is = unlisted c.face (below_is c.face reaches whole);
       }
