@@ -1,5 +1,5 @@
 -- Which of the upper faces are left when the holes are closed.
-use Rattle.std.proofs.Common.{◌≡◌, ℕ, suc, ◌+◌, ◌≤◌, Bool, true, false, cond, not, List, [], ◌∷◌, ◌++◌, is_some, refl, sym, ap, ◌∙◌, subst, arith}
+use Rattle.std.proofs.Common.{◌≡◌, ℕ, ◌+◌, ◌≤◌, Bool, true, false, cond, not, List, [], ◌∷◌, ◌++◌, is_some, refl, ap, ◌∙◌, arith}
 use Rattle.std.specs.Prelude.{map, filter}
 use Rattle.cyclic_list.specs.Items.{count, IsIn, IsApart}
 use Rattle.cyclic_list.proofs.Lists.{tick_same}

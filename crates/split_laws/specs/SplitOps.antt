@@ -7,7 +7,7 @@ use Rattle.euler_operators.specs.declared.Op.TheVariants.{Kfmrh, Part}
 use Rattle.split_shapes.specs.Sides.{faces_above}
 use Rattle.split_shapes.specs.Section.{below_halves, section_cycles}
 use Rattle.split_shapes.specs.Drawing.{Drawing, with_drawings}
-use Rattle.split_shapes.specs.Opening.{Caps, Opening, next_opened, outer_caps, holes_closed}
+use Rattle.split_shapes.specs.Opening.{Caps, Opening, next_opened, outer_caps}
 use Rattle.split_shapes.specs.Split.{opened_at}
 use Rattle.cut_pairs.specs.Laws.{rewriting_ops}
 use Rattle.opening_laws.specs.OpeningOps.{opening_ops}
