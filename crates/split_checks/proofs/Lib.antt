@@ -1,1 +1,3 @@
 pub mod Walks
+pub mod Signs
+pub mod Lists

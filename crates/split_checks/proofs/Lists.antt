@@ -1,0 +1,24 @@
+-- Lists that a walk takes apart.
+use Rattle.std.proofs.Common.{◌≡◌, ℕ, ◌-◌, ◌≤◌, Bool, true, false, cond, ◌&&◌, ◌||◌, List, [], ◌∷◌, ◌++◌, map, length, slice_index_or, refl, sym, ap, ◌∙◌, arith}
+use Rattle.std.specs.Prelude.{take, drop, filter}
+use Rattle.std.specs.List.{list_any, list_all}
+use Rattle.std.proofs.lemmas.List.{take_rest}
+use Rattle.std.proofs.lemmas.List.Folds.{list_any-append}
+
+-- the first of a list, and the others
+abbrev pub others : {A : Type 0} → List A → List A
+others xs = take (length xs - 1) (drop 1 xs)
+
+pub parts : {A : Type 0} (xs : List A) (d : A) → 1 ≤ length xs → xs ≡ slice_index_or xs 0 d ∷ others xs
+parts [] d l = absurd (omega arith)
+parts {A} (x ∷ xs) d l = ap (λ (ys : List A). x ∷ ys) (sym (take_rest (x ∷ xs) 1))
+
+pub any_first : (p : ℕ → Bool) (xs ys : List ℕ) → list_any p xs ≡ true → list_any p (xs ++ ys) ≡ true
+any_first p xs ys e = list_any-append p xs ys ∙ ap (λ b. b || list_any p ys) e
+
+pub any_later : (p : ℕ → Bool) (xs ys : List ℕ) → list_any p xs ≡ false → list_any p (xs ++ ys) ≡ list_any p ys
+any_later p xs ys e = list_any-append p xs ys ∙ ap (λ b. b || list_any p ys) e
+
+pub any_map : (p : ℕ → Bool) (f : ℕ → ℕ) (xs : List ℕ) → list_any p (map f xs) ≡ list_any (λ x. p (f x)) xs
+any_map p f [] = refl
+any_map p f (x ∷ xs) = ap (λ b. p (f x) || b) (any_map p f xs)
