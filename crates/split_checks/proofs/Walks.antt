@@ -1,5 +1,5 @@
 -- What stands in loops and faces that are there is there.
-use Rattle.std.proofs.Common.{◌≡◌, ℕ, ◌≤◌, true, List, [], ◌∷◌, map, length, slice_index_or, ap, sym, ◌∙◌, subst, arith, is_some}
+use Rattle.std.proofs.Common.{◌≡◌, ℕ, ◌≤◌, true, List, [], ◌∷◌, map, length, slice_index_or, refl, ap, subst, arith}
 use Rattle.cyclic_list.specs.Items.{count, IsIn}
 use Rattle.cyclic_list.proofs.Lists.{tick_same}
 use Rattle.boundary_model.specs.declared.HalfEdge.{HalfEdge}
@@ -7,17 +7,18 @@ use Rattle.boundary_model.specs.declared.Content.TheVariants.{Ring}
 use Rattle.boundary_model.specs.HalfEdge.{code}
 use Rattle.boundary_model.specs.Table as table
 use Rattle.boundary_model.specs.Table.{Table}
-use Rattle.boundary_model.specs.Model.{Model, items_of, content, loop_of}
+use Rattle.boundary_model.specs.Model.{Model, LoopContent, lone, cycle, items_of, content, loop_of, tail}
 use Rattle.boundary_model.specs.Sound.{Sound, Has, HasHalf, StandsIn}
 use Rattle.boundary_model.proofs.Models.{in-holds}
 use Rattle.arena_rows.specs.Store.{Tells}
 use Rattle.euler_operators.specs.Conditions.{lists}
 use Rattle.euler_laws_shared.proofs.Listed.{first_listed, rest_listed}
 use Rattle.euler_conditions.proofs.Borders.{ring_has}
-use Rattle.shapes.specs.Faces.{loops_of, items_in, boundary}
+use Rattle.shapes.specs.Faces.{loops_of, items_in, boundary, vertices_on}
 use Rattle.solid_walks.proofs.FaceLoops.{items_there}
 use Rattle.solid_walks.proofs.SolidFaces.{face_of_loop}
 use Rattle.split_checks.specs.Walks.{AreThere, AreIn}
+use Rattle.split_checks.proofs.Lists.{others, parts}
 
 pub all_in : {X : Type 0} (t : Table X) (ns : List ℕ) → ((n : ℕ) → lists ns n ≡ true → Has t n) → AreIn t ns
 all_in t [] each = tt
@@ -34,10 +35,17 @@ pub first_there : (M : Model) (hs : List HalfEdge) (d : HalfEdge) → 1 ≤ leng
 first_there M [] d l there = absurd (omega arith)
 first_there M (h ∷ hs) d l there = there.0
 
--- the first of some numbers
+-- and those of the others
+pub rest_there : (M : Model) (hs : List HalfEdge) (d : HalfEdge) → 1 ≤ length hs → AreThere M (map code hs) → AreThere M (map code (others hs))
+rest_there M hs d l there = (subst (λ (xs : List HalfEdge). AreThere M (map code xs)) (parts hs d l) there).1
+
+-- the first of some numbers, and the others
 pub first_in : {X : Type 0} (t : Table X) (ns : List ℕ) (d : ℕ) → 1 ≤ length ns → AreIn t ns → Has t (slice_index_or ns 0 d)
 first_in t [] d l there = absurd (omega arith)
 first_in t (n ∷ ns) d l there = there.0
+
+pub rest_in : {X : Type 0} (t : Table X) (ns : List ℕ) (d : ℕ) → 1 ≤ length ns → AreIn t ns → AreIn t (others ns)
+rest_in t ns d l there = (subst (AreIn t) (parts ns d l) there).1
 
 module _ (M : Model) (sound : Sound M) where
   -- what an arena answers of a loop with half-edges stands in it
@@ -59,3 +67,8 @@ module _ (M : Model) (sound : Sound M) where
   pub boundary_there : (f : ℕ) → AreThere M (boundary M f)
   unfolding boundary
   boundary_there f = all_there M (items_in M (loops_of M f)) (items_there M sound (loops_of M f))
+
+-- the vertices on a loop with half-edges
+pub ring_vertices : (M : Model) (t : LoopContent) (h : HalfEdge) → Tells t (Ring h) → vertices_on M t ≡ map (tail M) (items_of t)
+ring_vertices M (lone v) h tells = absurd tells
+ring_vertices M (cycle hs) h tells = refl

@@ -7,7 +7,7 @@ use Rattle.lattice.specs.declared.Sign.{Sign}
 use Rattle.lattice.specs.declared.Sign.TheVariants.{Below, On, Above}
 use Rattle.lattice.specs.Vectors.{is_above, is_below, is_on}
 use Rattle.boundary_model.specs.Model.{Model, point_of}
-use Rattle.shapes.specs.Faces.{corners}
+use Rattle.shapes.specs.Faces.{corners, start}
 
 abbrev pub same_sign : Sign → Sign → Bool
 same_sign Below Below = true
@@ -30,6 +30,10 @@ lies Above p q = is_above p q
 -- whether some of the vertices lie there
 abbrev pub some_lie : Sign → Model → Plane → List ℕ → Bool
 some_lie side M p vs = list_any (λ v. lies side p (point_of M v)) vs
+
+-- whether some of the half-edges start there
+abbrev pub some_start : Sign → Model → Plane → List ℕ → Bool
+some_start side M p hs = list_any (λ h. lies side p (start M h)) hs
 
 -- whether a face has a corner there
 abbrev pub reaches : Sign → Model → Plane → ℕ → Bool

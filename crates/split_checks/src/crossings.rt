@@ -1,22 +1,27 @@
 //! The edges that cross a plane.
-ghost use Rattle.std.specs.Prelude.{◌≡◌, true, not, map, IfOk};
-ghost use Rattle.boundary_model.specs.HalfEdge.{code, plus};
+ghost use Rattle.std.specs.Prelude.{◌≡◌, true, map, IfOk, Some};
+ghost use Rattle.boundary_model.specs.HalfEdge.{code, edge_of};
 ghost use Rattle.boundary_model.specs.Model.{faces_of, has_half};
 ghost use Rattle.euler_conditions.specs.Ready.{IsReady};
 ghost use Rattle.halfedge_arena.specs.Store.{has_number};
 ghost use Rattle.lattice.specs.Ranges.{IsCutPlane};
-ghost use Rattle.lattice.specs.Vectors.{cuts_lattice};
-ghost use Rattle.shapes.specs.Faces.{boundary, finish, start};
+ghost use Rattle.shapes.specs.Faces.{boundary};
 ghost use Rattle.solid_checks.specs.Least.{least_such, lesser};
 ghost use Rattle.split_checks.specs.Crossings.{AreCrossing, IsCrossing, crossings_in, crossings_met, is_off, leads_across};
 ghost use Rattle.split_checks.specs.Walks.{AreThere};
-ghost use Rattle.split_shapes.specs.Sides.{crosses};
 
 use crate::halves::{crosses, finish, start};
 use crate::loops::boundary;
 use halfedge_arena::{Arena, HalfEdge, Kind};
 use lattice::{Plane, cut_point};
 use std::alloc::{AllocError, Global};
+
+/// The edge of the half-edge.
+fn edge_of(h: HalfEdge) -> u32
+    ensures { result ≡ edge_of (code h) }
+{
+    h.edge
+}
 
 /// Whether the half-edge is the plus one of an edge that crosses the plane.
 fn leads_across(arena: &Arena, plane: Plane, h: HalfEdge) -> bool
@@ -44,7 +49,7 @@ fn crossings_in(
     let mut rest = items;
     'items: while let [h, others @ ..] = rest {
         if leads_across(arena, plane, *h) {
-            edges.push(h.edge)?;
+            edges.push(edge_of(*h))?;
         }
         rest = others;
     }
@@ -112,6 +117,7 @@ fn lesser(found: Option<u32>, n: u32) -> Option<u32>
     }
 }
 
+#[tactic(auto, using(solid_checks::proofs::Searches::lesser_of_three))]
 /// The least of some edges that cross the plane that meets it off the lattice, if there is one.
 pub(crate) fn least_off(arena: &Arena, plane: Plane, edges: &[u32]) -> Option<u32>
     requires ready { IsReady arena.now }

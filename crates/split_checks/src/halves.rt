@@ -7,6 +7,7 @@ ghost use Rattle.lattice.specs.Point.{IsInRange};
 ghost use Rattle.lattice.specs.Ranges.{IsCutPlane};
 ghost use Rattle.lattice.specs.Vectors.{are_opposite, is_on};
 ghost use Rattle.shapes.specs.Faces.{finish, start};
+ghost use Rattle.split_checks.specs.Sides.{lies};
 ghost use Rattle.split_shapes.specs.Places.{goes_up, is_place};
 ghost use Rattle.split_shapes.specs.Sides.{crosses};
 
@@ -54,6 +55,16 @@ pub(crate) fn crosses(arena: &Arena, plane: Plane, h: HalfEdge) -> bool
     are_opposite(plane, start(arena, h), finish(arena, h))
 }
 
+/// Whether the half-edge starts on that side of the plane.
+pub(crate) fn starts_at(arena: &Arena, plane: Plane, side: Sign, h: HalfEdge) -> bool
+    requires ready { IsReady arena.now }
+    requires there { has_half arena.now.model (code h) ≡ true }
+    requires plane { IsCutPlane plane }
+    ensures { result ≡ lies side plane (start arena.now.model (code h)) }
+{
+    lies(plane, start(arena, h), side)
+}
+
 /// Whether the half-edge starts on the plane.
 pub(crate) fn starts_on(arena: &Arena, plane: Plane, h: HalfEdge) -> bool
     requires ready { IsReady arena.now }
@@ -61,7 +72,7 @@ pub(crate) fn starts_on(arena: &Arena, plane: Plane, h: HalfEdge) -> bool
     requires plane { IsCutPlane plane }
     ensures { result ≡ is_on plane (start arena.now.model (code h)) }
 {
-    lies(plane, start(arena, h), Sign::On)
+    starts_at(arena, plane, Sign::On, h)
 }
 
 /// Whether the corners before and after the half-edge's own lie strictly on opposite sides of the plane.

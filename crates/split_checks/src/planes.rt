@@ -1,9 +1,9 @@
 //! The range of a plane that splits, and the sides of such a plane.
-ghost use Rattle.std.specs.Prelude.{◌≡◌};
+ghost use Rattle.std.specs.Prelude.{◌≡◌, not};
 ghost use Rattle.euler_operators.specs.Conditions.{first_refusal, verdict};
 ghost use Rattle.lattice.specs.Point.{IsInRange, is_coordinate};
 ghost use Rattle.lattice.specs.Ranges.{IsCutPlane};
-ghost use Rattle.lattice.specs.Vectors.{are_opposite, height, is_offset, sign_of};
+ghost use Rattle.lattice.specs.Vectors.{are_opposite, direction, height, is_offset, origin, same_point, sign_of};
 ghost use Rattle.split_checks.specs.Sides.{lies, opposite_signs, same_sign};
 ghost use Rattle.split_shapes.specs.Split.{plane_in_range};
 
@@ -25,6 +25,13 @@ fn is_offset(n: i128) -> bool
     -3_000_000_000_000_000_000 <= n && n <= 3_000_000_000_000_000_000
 }
 
+/// Whether one of the plane's first three numbers isn't zero.
+fn has_direction(plane: Plane) -> bool
+    ensures { result ≡ not (same_point (direction plane) origin) }
+{
+    !(plane.a == 0 && (plane.b == 0 && plane.c == 0))
+}
+
 /// Whether the plane's numbers are in range, and the first three aren't all zero. Else PlaneRange, with 1 to 4 for the first number
 /// out of range, or 0.
 pub(crate) fn check_plane(plane: Plane) -> Result<(), Refusal>
@@ -42,7 +49,7 @@ pub(crate) fn check_plane(plane: Plane) -> Result<(), Refusal>
     if !is_offset(plane.d) {
         return refused(Why::PlaneRange, 4);
     }
-    if plane.a == 0 && (plane.b == 0 && plane.c == 0) {
+    if !has_direction(plane) {
         return refused(Why::PlaneRange, 0);
     }
     Ok(())

@@ -6,12 +6,12 @@ ghost use Rattle.boundary_model.specs.Model.{content, faces_of};
 ghost use Rattle.euler_conditions.specs.Ready.{IsReady};
 ghost use Rattle.halfedge_arena.specs.Store.{has_number};
 ghost use Rattle.lattice.specs.Ranges.{IsCutPlane};
-ghost use Rattle.shapes.specs.Faces.{start, vertices_in, vertices_on};
-ghost use Rattle.split_checks.specs.Sides.{lies, reaches, some_lie};
+ghost use Rattle.shapes.specs.Faces.{vertices_in, vertices_on};
+ghost use Rattle.split_checks.specs.Sides.{reaches, some_lie, some_start};
 ghost use Rattle.split_checks.specs.Walks.{AreIn, AreThere};
 ghost use Rattle.split_shapes.specs.Sides.{straddles, straddling_faces};
 
-use crate::halves::start;
+use crate::halves::starts_at;
 use crate::planes::lies;
 use face_walks::{face_loops, items_from};
 use halfedge_arena::{Arena, Content, HalfEdge, Kind};
@@ -23,11 +23,11 @@ fn some_start(arena: &Arena, plane: Plane, side: Sign, items: &[HalfEdge]) -> bo
     requires ready { IsReady arena.now }
     requires there { AreThere arena.now.model (map code items.now) }
     requires plane { IsCutPlane plane }
-    ensures { result ≡ list_any (λ h. lies side plane (start arena.now.model h)) (map code items.now) }
+    ensures { result ≡ some_start side arena.now.model plane (map code items.now) }
 {
     let mut rest = items;
     'items: while let [h, others @ ..] = rest {
-        if lies(plane, start(arena, *h), side) {
+        if starts_at(arena, plane, side, *h) {
             return true;
         }
         rest = others;
