@@ -5,3 +5,8 @@ pub mod Cuts
 pub mod PlacePoints
 pub mod Sorting
 pub mod Often
+pub mod Leasts
+pub mod Crossed
+pub mod Firsts
+pub mod Edges
+pub mod Stages

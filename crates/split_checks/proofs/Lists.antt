@@ -1,11 +1,17 @@
 -- Lists that a walk takes apart.
-use Rattle.std.proofs.Common.{◌≡◌, ℕ, ◌-◌, ◌≤◌, Bool, true, false, cond, ◌&&◌, ◌||◌, List, [], ◌∷◌, ◌++◌, map, length, slice_index_or, refl, sym, ap, ◌∙◌, arith}
+use Rattle.std.proofs.Common.{◌≡◌, ℕ, ◌-◌, ◌≤◌, ◌<◌, Bool, true, false, cond, ◌&&◌, ◌||◌, List, [], ◌∷◌, ◌++◌, map, length, slice_index_or, refl, sym, ap, ◌∙◌, subst, arith, inl, inr}
 use Rattle.std.specs.Prelude.{take, drop, filter}
 use Rattle.std.specs.List.{list_any, list_all}
 use Rattle.std.proofs.lemmas.List.{take_rest}
 use Rattle.std.proofs.lemmas.List.Folds.{list_any-append}
+use Rattle.std.proofs.lemmas.Bool.Decides.{eqb_tells}
+use Rattle.cyclic_list.specs.Items.{count, IsIn, IsApart}
+use Rattle.cyclic_list.proofs.Lists.{tick_other}
 use Rattle.boundary_model.specs.declared.HalfEdge.{HalfEdge}
 use Rattle.boundary_model.specs.HalfEdge.{code}
+use Rattle.shapes.specs.Fresh.{first_such}
+use Rattle.face_walks.proofs.Rising.{AllAbove, Rising}
+use Rattle.solid_counts.proofs.HowMany.{passing, of_passing, in_passing, passing_apart}
 
 -- the first of a list, and the others
 abbrev pub others : {A : Type 0} → List A → List A
@@ -38,3 +44,38 @@ module _ (p : ℕ → Bool) (hs : List HalfEdge) (d : HalfEdge) (some : 1 ≤ le
 
   pub filter_left : p (code (slice_index_or hs 0 d)) ≡ false → filter p (map code hs) ≡ filter p (map code (others hs))
   filter_left off = ap (λ (xs : List HalfEdge). filter p (map code xs)) (parts hs d some) ∙ ap (λ b. cond b (code (slice_index_or hs 0 d) ∷ filter p (map code (others hs))) (filter p (map code (others hs)))) off
+
+pub filter_passing : (p : ℕ → Bool) (xs : List ℕ) → filter p xs ≡ passing p xs
+filter_passing p [] = refl
+filter_passing p (x ∷ xs) = ap (λ (ys : List ℕ). cond (p x) (x ∷ ys) ys) (filter_passing p xs)
+
+-- what stands among the picked stands in the list and passes, and the other way
+pub of_picked : (p : ℕ → Bool) (x : ℕ) (xs : List ℕ) → IsIn x (filter p xs) → IsIn x xs × (p x ≡ true)
+of_picked p x xs i = of_passing p x xs (subst (IsIn x) (filter_passing p xs) i)
+
+pub in_picked : (p : ℕ → Bool) (x : ℕ) (xs : List ℕ) → IsIn x xs → p x ≡ true → IsIn x (filter p xs)
+in_picked p x xs i e = subst (IsIn x) (sym (filter_passing p xs)) (in_passing p x xs i e)
+
+pub picked_apart : (p : ℕ → Bool) (xs : List ℕ) → IsApart xs → IsApart (filter p xs)
+picked_apart p xs d = subst IsApart (sym (filter_passing p xs)) (passing_apart p xs d)
+
+above_picked : (p : ℕ → Bool) (n : ℕ) (xs : List ℕ) → AllAbove n xs → AllAbove n (filter p xs)
+above_picked p n [] a = tt
+above_picked p n (x ∷ xs) a = elim (p x) as (λ b. AllAbove n (cond b (x ∷ filter p xs) (filter p xs))) [ true ↦ (a.0, above_picked p n xs a.1) | false ↦ above_picked p n xs a.1 ]
+
+pub picked_rise : (p : ℕ → Bool) (xs : List ℕ) → Rising xs → Rising (filter p xs)
+picked_rise p [] r = tt
+picked_rise p (x ∷ xs) r = elim (p x) as (λ b. Rising (cond b (x ∷ filter p xs) (filter p xs))) [ true ↦ (above_picked p x xs r.0, picked_rise p xs r.1) | false ↦ picked_rise p xs r.1 ]
+
+-- where a search finds none, none passes
+pub none_passes : (p : ℕ → Bool) (xs : List ℕ) → AllAbove 0 xs → first_such p xs ≡ 0 → (x : ℕ) → IsIn x xs → p x ≡ false
+none_passes p [] a e x i = absurd (omega arith)
+none_passes p (y ∷ ys) a e x i = elim (p y) as (λ b. p y ≡ b → cond b y (first_such p ys) ≡ 0 → p x ≡ false) [
+  | true ↦ λ t e. absurd (above_zero y a.0 e)
+  | false ↦ λ t e. elim (eqb_tells x y) [
+    | inl s ↦ ap p s.1 ∙ t
+    | inr n ↦ none_passes p ys a.1 e x (omega (arith, i, tick_other x y n.1))
+  ]
+] refl e where
+  above_zero : (n : ℕ) → 0 < n → n ≡ 0 → ⊥
+  above_zero n l e = omega arith

@@ -7,6 +7,9 @@ use Rattle.shapes.specs.Faces.{loops_of}
 use Rattle.split_shapes.specs.Places.{loop_is_cut, is_cut_often, places}
 
 module _ (M : Model) (p : Plane) (f : ℕ) where
+  pub outer_is_cut : (l : ℕ) (b : Bool) → l ≡ outer M f → b ≡ loop_is_cut M p l → b ≡ true → loop_is_cut M p (outer M f) ≡ true
+  outer_is_cut l b e is on = ap (loop_is_cut M p) (sym e) ∙ sym is ∙ on
+
   pub often_outer : loop_is_cut M p (outer M f) ≡ false → true ≡ is_cut_often M p f
   unfolding is_cut_often
   often_outer off = sym (ap (λ b. not b || (not (list_all (loop_is_cut M p) (rings_of M f)) && not (nat_eq (length (places M p f)) 2))) off)

@@ -1,13 +1,16 @@
 -- Places put one by one into a map under their points stand there in the order of `sorted`.
-use Rattle.std.proofs.Common.{◌≡◌, ℕ, ℤ, Bool, true, false, cond, not, ◌&&◌, ◌||◌, int_cmp, Ordering, Less, Equal, Greater, List, [], ◌∷◌, ◌++◌, map, is_some, Option, Some, None, refl, sym, ap, ◌∙◌, arith, true≢false, append_assoc}
+use Rattle.std.proofs.Common.{◌≡◌, ℕ, ℤ, Bool, true, false, cond, not, ◌&&◌, ◌||◌, int_cmp, Ordering, Less, Equal, Greater, List, [], ◌∷◌, ◌++◌, map, is_some, Option, Some, None, refl, sym, ap, ◌∙◌, arith, true≢false, subst, append_assoc}
 use Rattle.std.specs.Prelude.{int_lt}
 use Rattle.std.specs.Ordering.{ordering_then, is_eq, is_gt, int_eq, match_ordering}
 use Rattle.std.specs.BTreeMap.{insert_entry}
+use Rattle.std.specs.Map.{lookup}
 use Rattle.std.specs.List.{list_any, list_all}
 use Rattle.std.proofs.lemmas.List.{append-nil}
 use Rattle.lattice.specs.declared.Point.{Point}
 use Rattle.lattice.specs.declared.Plane.{Plane}
 use Rattle.lattice.specs.Vectors.{same_point, lex_less}
+use Rattle.cyclic_list.specs.Items.{count, IsIn}
+use Rattle.cyclic_list.proofs.Lists.{count-append, tick_same}
 use Rattle.boundary_model.specs.Model.{Model}
 use Rattle.euler_operators.specs.Conditions.{differ}
 use Rattle.split_shapes.specs.Places.{place_point, goes_up, some_meet, sorted_in, sorted, in_pairs, is_up_and_down}
@@ -68,18 +71,29 @@ module _ (M : Model) (p : Plane) where
   abbrev pub meets : ℕ → ℕ → Bool
   meets h k = same_point (at h) (at k)
 
+  inserted_by : (h k : ℕ) (ks : List ℕ) → insert_entry key_cmp (entries_of M p ks) (key (at h)) (goes_up M p h) ≡ entries_of M p (sorted_in M p h ks)
+      → (o : Ordering) → is_eq o ≡ false → is_gt o ≡ lex_less (at k) (at h)
+      → match_ordering o (entry h ∷ entries_of M p (k ∷ ks)) ((key (at k), goes_up M p h) ∷ entries_of M p ks) (entry k ∷ insert_entry key_cmp (entries_of M p ks) (key (at h)) (goes_up M p h))
+      ≡ entries_of M p (cond (lex_less (at k) (at h)) (k ∷ sorted_in M p h ks) (h ∷ k ∷ ks))
+  inserted_by h k ks rest Less e g = ap (λ b. entries_of M p (cond b (k ∷ sorted_in M p h ks) (h ∷ k ∷ ks))) g
+  inserted_by h k ks rest Equal e g = absurd (true≢false e)
+  inserted_by h k ks rest Greater e g = ap (λ (es : List (Key × Bool)). entry k ∷ es) rest ∙ ap (λ b. entries_of M p (cond b (k ∷ sorted_in M p h ks) (h ∷ k ∷ ks))) g
+
   -- a place whose point is new comes where it belongs
   pub inserted : (h : ℕ) (ks : List ℕ) → list_any (meets h) ks ≡ false → insert_entry key_cmp (entries_of M p ks) (key (at h)) (goes_up M p h) ≡ entries_of M p (sorted_in M p h ks)
   inserted h [] new = refl
-  inserted h (k ∷ ks) new = go (key_cmp (key (at h)) (key (at k))) (key_equal (at h) (at k) ∙ apart.0) (key_greater (at h) (at k)) where
-    apart : (meets h k ≡ false) × (list_any (meets h) ks ≡ false)
-    apart = either_false (meets h k) (list_any (meets h) ks) new
+  inserted h (k ∷ ks) new =
+      let apart = either_false (meets h k) (list_any (meets h) ks) new in
+      inserted_by h k ks (inserted h ks apart.1) (key_cmp (key (at h)) (key (at k))) (key_equal (at h) (at k) ∙ apart.0) (key_greater (at h) (at k))
 
-    go : (o : Ordering) → is_eq o ≡ false → is_gt o ≡ lex_less (at k) (at h) → match_ordering o (entry h ∷ entries_of M p (k ∷ ks)) ((key (at k), goes_up M p h) ∷ entries_of M p ks) (entry k ∷ insert_entry key_cmp (entries_of M p ks) (key (at h)) (goes_up M p h))
-        ≡ entries_of M p (cond (lex_less (at k) (at h)) (k ∷ sorted_in M p h ks) (h ∷ k ∷ ks))
-    go Less e g = ap (λ b. entries_of M p (cond b (k ∷ sorted_in M p h ks) (h ∷ k ∷ ks))) g
-    go Equal e g = absurd (true≢false e)
-    go Greater e g = ap (λ (es : List (Key × Bool)). entry k ∷ es) (inserted h ks apart.1) ∙ ap (λ b. entries_of M p (cond b (k ∷ sorted_in M p h ks) (h ∷ k ∷ ks))) g
+  -- the map has a point where one of its places has
+  pub found_meets : (h : ℕ) (ks : List ℕ) → is_some (lookup (λ k. is_eq (key_cmp (key (at h)) k)) (entries_of M p ks)) ≡ list_any (meets h) ks
+  found_meets h [] = refl
+  found_meets h (k ∷ ks) = ap (λ b. is_some (cond b (Some (goes_up M p k)) (lookup (λ k. is_eq (key_cmp (key (at h)) k)) (entries_of M p ks)))) (key_equal (at h) (at k))
+      ∙ either (meets h k) (goes_up M p k) (lookup (λ k. is_eq (key_cmp (key (at h)) k)) (entries_of M p ks)) (list_any (meets h) ks) (found_meets h ks) where
+        either : (b up : Bool) (o : Option Bool) (c : Bool) → is_some o ≡ c → is_some (cond b (Some up) o) ≡ b || c
+        either true up o c e = refl
+        either false up o c e = e
 
   -- sorting keeps what a test finds
   any_sorted_in : (q : ℕ → Bool) (h : ℕ) (ks : List ℕ) → list_any q (sorted_in M p h ks) ≡ list_any q (h ∷ ks)
@@ -124,7 +138,11 @@ module _ (M : Model) (p : Plane) where
       whole_still : fewer ++ (h ∷ s.done) ≡ all
       whole_still = sym (append_assoc fewer (h ∷ []) s.done) ∙ sym (ap (λ (hs : List ℕ). hs ++ s.done) last) ∙ s.whole
 
-      -- the next place meets one of them
+      -- the next place is one of all
+      pub place_in : IsIn h all
+      place_in = subst (IsIn h) whole_still (omega (arith, count-append h fewer (h ∷ s.done), tick_same h))
+
+      -- it meets one of the others
       pub one_met : list_any (meets h) (sorted M p s.done) ≡ true → some_meet M p all ≡ true
       one_met met = sym (ap (some_meet M p) whole_still) ∙ still_meet fewer (h ∷ s.done) (ap (λ b. b || some_meet M p s.done) (sym (any_sorted (meets h) s.done) ∙ met))
 
@@ -136,3 +154,8 @@ module _ (M : Model) (p : Plane) where
         apart = (λ i. (sym (any_sorted (meets h) s.done) ∙ new) i || s.apart i);
         placed = is ∙ ap (λ fs. insert_entry key_cmp fs (key (at h)) (goes_up M p h)) s.placed ∙ inserted h (sorted M p s.done) new;
       }
+
+  -- what the code makes of a place that comes
+  module _ (h : ℕ) (ks : List ℕ) (es : List (Key × Bool)) (k : Key) (met : Option Bool) (placed : es ≡ entries_of M p ks) (keyed : k ≡ key (at h)) (old : met ≡ lookup (λ q. is_eq (key_cmp k q)) es) where
+    pub met_is : is_some met ≡ list_any (meets h) ks
+    met_is = ap is_some old ∙ (λ i. is_some (lookup (λ q. is_eq (key_cmp (keyed i) q)) (placed i))) ∙ found_meets h ks

@@ -117,7 +117,6 @@ fn lesser(found: Option<u32>, n: u32) -> Option<u32>
     }
 }
 
-#[tactic(auto, using(solid_checks::proofs::Searches::lesser_of_three))]
 /// The least of some edges that cross the plane that meets it off the lattice, if there is one.
 pub(crate) fn least_off(arena: &Arena, plane: Plane, edges: &[u32]) -> Option<u32>
     requires ready { IsReady arena.now }
