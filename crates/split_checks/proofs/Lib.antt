@@ -6,7 +6,6 @@ pub mod PlacePoints
 pub mod Sorting
 pub mod Often
 pub mod Leasts
-pub mod Crossed
-pub mod Firsts
+pub mod Meetings
 pub mod Edges
 pub mod Stages

@@ -83,9 +83,6 @@ module _ (M : Model) (s : ℕ) (p : Plane) where
   abbrev numbers : List Condition
   numbers = numbers_left (taken_in M) (pair_count M p fs) (pair_count M p fs) (length es + pair_count M p fs) (length es)
 
-  grouped : sectioning_conditions M s p ≡ side_conditions M s p ++ (edge_conditions M p es ++ (face_conditions M p fs ++ numbers))
-  grouped = refl
-
   module _ (met : list_any (reaches_above M p) (faces_of M s) && list_any (reaches_below M p) (faces_of M s) ≡ true) where
     after_side : first_refusal (sectioning_conditions M s p) ≡ first_refusal (edge_conditions M p es ++ (face_conditions M p fs ++ numbers))
     after_side = ap (λ b. cond b (first_refusal (edge_conditions M p es ++ (face_conditions M p fs ++ numbers))) (Some (record { why = PlaneMisses; number = s }))) met

@@ -23,7 +23,7 @@ least_off-requires-clause-crossing c =
 pub returns-in-Some : goal.returns-in-Some
 returns-in-Some c =
     let M = c.args.arena.now.model in let p = c.args.plane in let s = c.args.s in
-    c.refused.ensures ∙ edge_refused M s p (sym c.in_ok-is_met.ensures ∙ c.if-not-branch.false) c.in-Some.e
+    c.refused-in-Some.ensures ∙ edge_refused M s p (sym c.in_ok-is_met.ensures ∙ c.if-not-branch.false) c.in-Some.e
     (c.in-Some.ensures ∙ ap (least_such (is_off M p)) (c.as_slice.ensures.value ∙ c.in_ok-edges.ensures) ∙ least_met M c.requires.ready.sound s p)
 
 pub check_faces-requires-clause-whole : goal.check_faces-requires-clause-whole

@@ -2,7 +2,7 @@ use Rattle.std.proofs.Common.{◌≡◌, ◌∙◌, List, ℕ, true, false, not,
 use Rattle.boundary_model.specs.HalfEdge.{code}
 use Rattle.split_shapes.specs.Places.{some_meet, sorted}
 use Rattle.split_checks.specs.Places.{AreWholePlaces, entries_of}
-use Rattle.split_checks.proofs.Crossed.{at_some, at_none, places_whole, crossed_by, ordered}
+use Rattle.split_checks.proofs.Meetings.{at_some, at_none, places_whole, crossed_by, ordered}
 use Rattle.split_checks.proofs.crossed.is_crossed.Goals as goal
 
 pub in_order-requires-clause-whole : goal.in_order-requires-clause-whole
