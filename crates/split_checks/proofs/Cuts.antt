@@ -2,7 +2,6 @@
 use Rattle.std.proofs.Common.{◌≡◌, ◌≢◌, ℕ, zero, suc, ◌/◌, ◌≤◌, Bool, true, false, cond, not, ℤ, pos, negsuc, Option, Some, None, is_some, refl, sym, ap, ◌∙◌, arith, true≢false}
 use Rattle.std.specs.Prelude.{◌-ℤ◌, ◌*ℤ◌, neg_ℤ}
 use Rattle.std.specs.Int.RustNames.{int_div}
-use Rattle.std.specs.Ordering.{int_eq}
 use Rattle.std.proofs.lemmas.Int.{ints}
 use Rattle.std.proofs.Math.Nat.{div-le_of_le-mul}
 use Rattle.lattice.specs.declared.Point.{Point}
@@ -13,9 +12,6 @@ use Rattle.lattice.specs.Vectors.{height, opposite, are_opposite, cuts_lattice, 
 
 pub opposite_turned : (m n : ℤ) → opposite m n ≡ opposite n m
 opposite_turned m n = grind (arith, ints)
-
-pub not_level : (m n : ℤ) → opposite m n ≡ true → int_eq m (pos 0) ≡ false
-not_level m n e = grind (arith, ints)
 
 apart : (m n : ℤ) → opposite m n ≡ true → m -ℤ n ≢ pos 0
 apart m n e z = grind (arith, ints)

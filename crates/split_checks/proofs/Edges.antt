@@ -1,6 +1,6 @@
 -- The edges that a walk over the faces of a solid meets as crossing a plane are those of the solid that do.
 use Rattle.std.specs.Prelude.{filter}
-use Rattle.std.proofs.Common.{◌≡◌, ℕ, ◌<◌, Bool, true, false, ◌&&◌, nat_eq, List, [], ◌∷◌, ◌++◌, length, map, is_some, refl, sym, ap, subst, ◌∙◌, arith, true≢false, inl, inr}
+use Rattle.std.proofs.Common.{◌≡◌, ℕ, Bool, true, false, ◌&&◌, nat_eq, List, [], ◌∷◌, ◌++◌, length, map, is_some, refl, sym, ap, subst, ◌∙◌, arith, true≢false, inl, inr}
 use Rattle.std.proofs.lemmas.Bool.{and_parts}
 use Rattle.std.proofs.lemmas.Bool.Decides.{eqb_tells}
 use Rattle.std.proofs.lemmas.List.{map-append}
@@ -10,7 +10,7 @@ use Rattle.cyclic_list.specs.Items.{count, IsIn, IsApart}
 use Rattle.cyclic_list.proofs.Lists.{count-append, tick_same, tick_other}
 use Rattle.boundary_model.specs.HalfEdge.{edge_of, is_first, mate, plus}
 use Rattle.boundary_model.specs.Table as table
-use Rattle.boundary_model.specs.Model.{Model, items_of, content, loop_of, face_of, solid_of, faces_of}
+use Rattle.boundary_model.specs.Model.{Model, items_of, content, loop_of, solid_of, faces_of}
 use Rattle.boundary_model.specs.Sound.{Sound, Has, HasHalf}
 use Rattle.boundary_model.proofs.Halves.{plus_row}
 use Rattle.boundary_model.proofs.Models.{cycle_there}
@@ -32,9 +32,9 @@ use Rattle.solid_walks.proofs.SolidFaces.{listed_in, solid_loops, all_loops_apar
 use Rattle.solid_counts.proofs.HowMany.{of_map, in_map, map_apart, equally_many}
 use Rattle.solid_checks.specs.Least.{found, least_such}
 use Rattle.solid_checks.proofs.FaceWalks.{one_or_more, lists_member}
-use Rattle.solid_checks.proofs.Searches.{IsLeast, one_least, least_same, least_listed, least_rising}
+use Rattle.solid_checks.proofs.Searches.{one_least, least_same, least_listed, least_rising}
 use Rattle.split_shapes.specs.Sides.{crosses, straddles, straddling_faces, crossing_edges}
-use Rattle.split_checks.specs.Crossings.{leads_across, crossings_in, crossings_met, IsCrossing, AreCrossing, is_off}
+use Rattle.split_checks.specs.Crossings.{leads_across, crossings_met, IsCrossing, AreCrossing, is_off}
 use Rattle.split_checks.specs.Places.{IsWholeFace, AreWholeFaces}
 use Rattle.split_checks.specs.Walks.{AreIn}
 use Rattle.split_checks.proofs.Lists.{of_picked, in_picked, picked_apart, picked_rise, none_passes}

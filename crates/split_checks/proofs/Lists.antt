@@ -1,14 +1,11 @@
 -- Lists that a walk takes apart.
-use Rattle.std.proofs.Common.{◌≡◌, ℕ, ◌-◌, ◌≤◌, ◌<◌, Bool, true, false, cond, ◌&&◌, ◌||◌, List, [], ◌∷◌, ◌++◌, map, length, slice_index_or, refl, sym, ap, ◌∙◌, subst, arith, inl, inr}
+use Rattle.std.proofs.Common.{◌≡◌, ℕ, ◌-◌, ◌≤◌, ◌<◌, Bool, true, false, cond, ◌||◌, List, [], ◌∷◌, map, length, slice_index_or, refl, sym, ap, ◌∙◌, subst, arith, inl, inr}
 use Rattle.std.specs.Prelude.{take, drop, filter}
-use Rattle.std.specs.List.{list_any, list_all}
+use Rattle.std.specs.List.{list_any}
 use Rattle.std.proofs.lemmas.List.{take_rest}
-use Rattle.std.proofs.lemmas.List.Folds.{list_any-append}
 use Rattle.std.proofs.lemmas.Bool.Decides.{eqb_tells}
-use Rattle.cyclic_list.specs.Items.{count, IsIn, IsApart}
+use Rattle.cyclic_list.specs.Items.{IsIn, IsApart}
 use Rattle.cyclic_list.proofs.Lists.{tick_other}
-use Rattle.boundary_model.specs.declared.HalfEdge.{HalfEdge}
-use Rattle.boundary_model.specs.HalfEdge.{code}
 use Rattle.shapes.specs.Fresh.{first_such}
 use Rattle.face_walks.proofs.Rising.{AllAbove, Rising}
 use Rattle.solid_counts.proofs.HowMany.{passing, of_passing, in_passing, passing_apart}
@@ -21,31 +18,13 @@ pub parts : {A : Type 0} (xs : List A) (d : A) → 1 ≤ length xs → xs ≡ sl
 parts [] d l = absurd (omega arith)
 parts {A} (x ∷ xs) d l = ap (λ (ys : List A). x ∷ ys) (sym (take_rest (x ∷ xs) 1))
 
-pub any_first : (p : ℕ → Bool) (xs ys : List ℕ) → list_any p xs ≡ true → list_any p (xs ++ ys) ≡ true
-any_first p xs ys e = list_any-append p xs ys ∙ ap (λ b. b || list_any p ys) e
-
-pub any_later : (p : ℕ → Bool) (xs ys : List ℕ) → list_any p xs ≡ false → list_any p (xs ++ ys) ≡ list_any p ys
-any_later p xs ys e = list_any-append p xs ys ∙ ap (λ b. b || list_any p ys) e
-
+-- a test of what is made of each item
 pub any_map : (p : ℕ → Bool) (f : ℕ → ℕ) (xs : List ℕ) → list_any p (map f xs) ≡ list_any (λ x. p (f x)) xs
 any_map p f [] = refl
 any_map p f (x ∷ xs) = ap (λ b. p (f x) || b) (any_map p f xs)
 
--- a walk over half-edges takes the first off
-module _ (p : ℕ → Bool) (hs : List HalfEdge) (d : HalfEdge) (some : 1 ≤ length hs) where
-  pub any_step : p (code (slice_index_or hs 0 d)) ≡ false → list_any p (map code (others hs)) ≡ list_any p (map code hs)
-  any_step off = sym (ap (λ (xs : List HalfEdge). list_any p (map code xs)) (parts hs d some) ∙ ap (λ b. b || list_any p (map code (others hs))) off)
-
-  pub any_found : p (code (slice_index_or hs 0 d)) ≡ true → true ≡ list_any p (map code hs)
-  any_found on = sym (ap (λ (xs : List HalfEdge). list_any p (map code xs)) (parts hs d some) ∙ ap (λ b. b || list_any p (map code (others hs))) on)
-
-  pub filter_kept : p (code (slice_index_or hs 0 d)) ≡ true → filter p (map code hs) ≡ code (slice_index_or hs 0 d) ∷ filter p (map code (others hs))
-  filter_kept on = ap (λ (xs : List HalfEdge). filter p (map code xs)) (parts hs d some) ∙ ap (λ b. cond b (code (slice_index_or hs 0 d) ∷ filter p (map code (others hs))) (filter p (map code (others hs)))) on
-
-  pub filter_left : p (code (slice_index_or hs 0 d)) ≡ false → filter p (map code hs) ≡ filter p (map code (others hs))
-  filter_left off = ap (λ (xs : List HalfEdge). filter p (map code xs)) (parts hs d some) ∙ ap (λ b. cond b (code (slice_index_or hs 0 d) ∷ filter p (map code (others hs))) (filter p (map code (others hs)))) off
-
-pub filter_passing : (p : ℕ → Bool) (xs : List ℕ) → filter p xs ≡ passing p xs
+-- the two words for what passes are one
+filter_passing : (p : ℕ → Bool) (xs : List ℕ) → filter p xs ≡ passing p xs
 filter_passing p [] = refl
 filter_passing p (x ∷ xs) = ap (λ (ys : List ℕ). cond (p x) (x ∷ ys) ys) (filter_passing p xs)
 
@@ -59,6 +38,7 @@ in_picked p x xs i e = subst (IsIn x) (sym (filter_passing p xs)) (in_passing p 
 pub picked_apart : (p : ℕ → Bool) (xs : List ℕ) → IsApart xs → IsApart (filter p xs)
 picked_apart p xs d = subst IsApart (sym (filter_passing p xs)) (passing_apart p xs d)
 
+-- what is picked from a rising list rises
 above_picked : (p : ℕ → Bool) (n : ℕ) (xs : List ℕ) → AllAbove n xs → AllAbove n (filter p xs)
 above_picked p n [] a = tt
 above_picked p n (x ∷ xs) a = elim (p x) as (λ b. AllAbove n (cond b (x ∷ filter p xs) (filter p xs))) [ true ↦ (a.0, above_picked p n xs a.1) | false ↦ above_picked p n xs a.1 ]

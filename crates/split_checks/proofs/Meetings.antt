@@ -8,7 +8,7 @@ use Rattle.boundary_model.specs.Sound.{Sound, HasHalf}
 use Rattle.shapes.specs.Faces.{boundary, loops_of}
 use Rattle.solid_walks.proofs.FaceLoops.{items_there}
 use Rattle.split_shapes.specs.Places.{is_place, places, some_meet, sorted, in_pairs, sorted_pairs, is_up_and_down, is_crossed}
-use Rattle.split_checks.specs.Places.{Key, IsWholePlace, AreWholePlaces, IsWholeFace, entries_of, pairs_differ}
+use Rattle.split_checks.specs.Places.{Key, AreWholePlaces, IsWholeFace, entries_of, pairs_differ}
 use Rattle.split_checks.proofs.Lists.{of_picked}
 use Rattle.split_checks.proofs.Sorting.{pairs_are}
 

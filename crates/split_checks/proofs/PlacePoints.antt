@@ -2,7 +2,7 @@
 use Rattle.std.proofs.Common.{◌≡◌, ℕ, Bool, true, false, cond, ◌&&◌, ◌||◌, sym, ap, ◌∙◌, refl, inl, inr, true≢false}
 use Rattle.lattice.specs.declared.Plane.{Plane}
 use Rattle.lattice.specs.Vectors.{height, are_opposite, is_on, cut_between}
-use Rattle.boundary_model.specs.HalfEdge.{edge_of, mate, plus, minus}
+use Rattle.boundary_model.specs.HalfEdge.{edge_of, plus, minus}
 use Rattle.boundary_model.specs.Model.{Model, before}
 use Rattle.euler_laws_shared.proofs.Arcs.{halves_of_edge}
 use Rattle.euler_laws_shared.proofs.Undo.{mate_plus, mate_minus}

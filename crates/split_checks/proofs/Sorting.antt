@@ -1,5 +1,5 @@
 -- Places put one by one into a map under their points stand there in the order of `sorted`.
-use Rattle.std.proofs.Common.{◌≡◌, ℕ, ℤ, Bool, true, false, cond, not, ◌&&◌, ◌||◌, int_cmp, Ordering, Less, Equal, Greater, List, [], ◌∷◌, ◌++◌, map, is_some, Option, Some, None, refl, sym, ap, ◌∙◌, arith, true≢false, subst, append_assoc}
+use Rattle.std.proofs.Common.{◌≡◌, ℕ, ℤ, Bool, true, false, cond, ◌&&◌, ◌||◌, int_cmp, Ordering, Less, Equal, Greater, List, [], ◌∷◌, ◌++◌, is_some, Option, Some, refl, sym, ap, ◌∙◌, arith, true≢false, subst, append_assoc}
 use Rattle.std.specs.Prelude.{int_lt}
 use Rattle.std.specs.Ordering.{ordering_then, is_eq, is_gt, int_eq, match_ordering}
 use Rattle.std.specs.BTreeMap.{insert_entry}
@@ -9,7 +9,7 @@ use Rattle.std.proofs.lemmas.List.{append-nil}
 use Rattle.lattice.specs.declared.Point.{Point}
 use Rattle.lattice.specs.declared.Plane.{Plane}
 use Rattle.lattice.specs.Vectors.{same_point, lex_less}
-use Rattle.cyclic_list.specs.Items.{count, IsIn}
+use Rattle.cyclic_list.specs.Items.{IsIn}
 use Rattle.cyclic_list.proofs.Lists.{count-append, tick_same}
 use Rattle.boundary_model.specs.Model.{Model}
 use Rattle.euler_operators.specs.Conditions.{differ}

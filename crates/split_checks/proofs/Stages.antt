@@ -1,8 +1,7 @@
 -- The conditions with which a split begins, part by part.
 use Rattle.std.specs.Prelude.{min}
 use Rattle.std.specs.List.{list_any}
-use Rattle.std.specs.Int.RustNames.{unsigned_abs}
-use Rattle.std.proofs.Common.{◌≡◌, ℕ, ◌+◌, ◌≤◌, ℤ, Bool, true, false, cond, ◌&&◌, nat_eq, nat_le, List, [], ◌∷◌, ◌++◌, length, Option, Some, None, Result, Ok, Err, is_err, is_some, refl, sym, ap, ◌∙◌, arith, true≢false}
+use Rattle.std.proofs.Common.{◌≡◌, ℕ, ◌+◌, ℤ, true, false, cond, ◌&&◌, nat_eq, nat_le, List, [], ◌∷◌, ◌++◌, length, Option, Some, None, Result, Ok, Err, is_err, is_some, refl, sym, ap, ◌∙◌, arith, true≢false}
 use Rattle.std.proofs.lemmas.Bool.Decides.{nat_tests}
 use Rattle.std.proofs.lemmas.Int.{ints}
 use Rattle.lattice.specs.declared.Plane.{Plane}
@@ -20,7 +19,7 @@ use Rattle.solid_checks.specs.Least.{found}
 use Rattle.split_shapes.specs.Places.{pair_count}
 use Rattle.split_shapes.specs.Sides.{reaches_above, reaches_below, straddling_faces, crossing_edges}
 use Rattle.split_shapes.specs.Split.{plane_in_range, first_conditions}
-use Rattle.split_checks.specs.Conditions.{number_conditions, solid_conditions, side_conditions, edge_conditions, face_conditions, sectioning_conditions}
+use Rattle.split_checks.specs.Conditions.{number_conditions, solid_conditions, edge_conditions, face_conditions, sectioning_conditions}
 use Rattle.split_checks.specs.Crossings.{is_off}
 
 abbrev Verdict : Type 0

@@ -1,11 +1,10 @@
 -- What stands in loops and faces that are there is there.
-use Rattle.std.proofs.Common.{◌≡◌, ℕ, ◌≤◌, true, List, [], ◌∷◌, map, length, slice_index_or, refl, ap, subst, arith}
-use Rattle.cyclic_list.specs.Items.{count, IsIn}
+use Rattle.std.proofs.Common.{◌≡◌, ℕ, true, List, [], ◌∷◌, map, refl, ap, arith}
+use Rattle.cyclic_list.specs.Items.{IsIn}
 use Rattle.cyclic_list.proofs.Lists.{tick_same}
 use Rattle.boundary_model.specs.declared.HalfEdge.{HalfEdge}
 use Rattle.boundary_model.specs.declared.Content.TheVariants.{Ring}
 use Rattle.boundary_model.specs.HalfEdge.{code}
-use Rattle.boundary_model.specs.Table as table
 use Rattle.boundary_model.specs.Table.{Table}
 use Rattle.boundary_model.specs.Model.{Model, LoopContent, lone, cycle, items_of, content, loop_of, tail}
 use Rattle.boundary_model.specs.Sound.{Sound, Has, HasHalf, StandsIn}
@@ -18,8 +17,8 @@ use Rattle.shapes.specs.Faces.{loops_of, items_in, boundary, vertices_on}
 use Rattle.solid_walks.proofs.FaceLoops.{items_there}
 use Rattle.solid_walks.proofs.SolidFaces.{face_of_loop}
 use Rattle.split_checks.specs.Walks.{AreThere, AreIn}
-use Rattle.split_checks.proofs.Lists.{others, parts}
 
+-- each of some numbers is in use, and the edge of each of some half-edges is there
 pub all_in : {X : Type 0} (t : Table X) (ns : List ℕ) → ((n : ℕ) → lists ns n ≡ true → Has t n) → AreIn t ns
 all_in t [] each = tt
 all_in t (n ∷ ns) each = (each n (first_listed n ns), all_in t ns (λ k l. each k (rest_listed n k ns l)))
@@ -29,23 +28,6 @@ all_there M [] each = tt
 all_there M (h ∷ hs) each = (each h (omega (arith, tick_same h)), all_there M hs (λ k i. each k (later k i))) where
   later : (k : ℕ) → IsIn k hs → IsIn k (h ∷ hs)
   later k i = omega (arith, i)
-
--- the edge of the first of some half-edges
-pub first_there : (M : Model) (hs : List HalfEdge) (d : HalfEdge) → 1 ≤ length hs → AreThere M (map code hs) → HasHalf M (code (slice_index_or hs 0 d))
-first_there M [] d l there = absurd (omega arith)
-first_there M (h ∷ hs) d l there = there.0
-
--- and those of the others
-pub rest_there : (M : Model) (hs : List HalfEdge) (d : HalfEdge) → 1 ≤ length hs → AreThere M (map code hs) → AreThere M (map code (others hs))
-rest_there M hs d l there = (subst (λ (xs : List HalfEdge). AreThere M (map code xs)) (parts hs d l) there).1
-
--- the first of some numbers, and the others
-pub first_in : {X : Type 0} (t : Table X) (ns : List ℕ) (d : ℕ) → 1 ≤ length ns → AreIn t ns → Has t (slice_index_or ns 0 d)
-first_in t [] d l there = absurd (omega arith)
-first_in t (n ∷ ns) d l there = there.0
-
-pub rest_in : {X : Type 0} (t : Table X) (ns : List ℕ) (d : ℕ) → 1 ≤ length ns → AreIn t ns → AreIn t (others ns)
-rest_in t ns d l there = (subst (AreIn t) (parts ns d l) there).1
 
 module _ (M : Model) (sound : Sound M) where
   -- what an arena answers of a loop with half-edges stands in it

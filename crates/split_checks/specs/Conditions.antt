@@ -11,7 +11,7 @@ use Rattle.shapes.specs.Fresh.{no_such, first_such}
 use Rattle.solid_measure.specs.Measure.{is_flat}
 use Rattle.split_shapes.specs.Sides.{reaches_above, reaches_below}
 use Rattle.split_shapes.specs.Places.{is_touched, is_cut_often, is_crossed}
-use Rattle.split_shapes.specs.Split.{plane_in_range, cut_conditions}
+use Rattle.split_shapes.specs.Split.{cut_conditions}
 use Rattle.split_shapes.specs.Sides.{crossing_edges, straddling_faces}
 use Rattle.split_checks.specs.Crossings.{is_off}
 

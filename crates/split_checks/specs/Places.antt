@@ -1,17 +1,17 @@
 -- Cut places, their points and the order of these.
-use Rattle.std.specs.Prelude.{◌≡◌, ℕ, ℤ, Bool, true, false, not, ◌&&◌, List, [], ◌∷◌, map, Option, Some, None}
+use Rattle.std.specs.Prelude.{◌≡◌, ℕ, ℤ, Bool, true, false, not, ◌&&◌, List, [], ◌∷◌, map}
 use Rattle.std.specs.List.{list_any}
 use Rattle.lattice.specs.declared.Point.{Point}
 use Rattle.lattice.specs.declared.Plane.{Plane}
 use Rattle.lattice.specs.Vectors.{is_on}
 use Rattle.cyclic_list.specs.Items.{IsIn}
-use Rattle.boundary_model.specs.HalfEdge.{edge_of, plus}
+use Rattle.boundary_model.specs.HalfEdge.{edge_of}
 use Rattle.boundary_model.specs.Model.{Model}
 use Rattle.boundary_model.specs.Sound.{Has, HasHalf}
 use Rattle.euler_operators.specs.Conditions.{differ}
 use Rattle.shapes.specs.Faces.{boundary, start}
 use Rattle.split_shapes.specs.Sides.{crosses}
-use Rattle.split_shapes.specs.Places.{is_place, place_point, goes_up, some_meet, sorted}
+use Rattle.split_shapes.specs.Places.{is_place, place_point, goes_up}
 use Rattle.split_checks.specs.Crossings.{is_off}
 
 -- one of the half-edges starts on the plane at a corner that is no cut place
@@ -52,8 +52,3 @@ abbrev pub pairs_differ : List (Key × Bool) → Bool
 pairs_differ [] = true
 pairs_differ (e ∷ []) = true
 pairs_differ (e ∷ f ∷ es) = differ e.1 f.1 && pairs_differ es
-
--- what ordering finds of some places: that two have equal points, or the entries in the order of their points
-abbrev pub IsOrdering : Model → Plane → List ℕ → Option (List (Key × Bool)) → Type 0
-IsOrdering M p hs None = some_meet M p hs ≡ true
-IsOrdering M p hs (Some es) = (some_meet M p hs ≡ false) × (es ≡ entries_of M p (sorted M p hs))

@@ -1,11 +1,7 @@
-use Rattle.std.proofs.Common.{◌≡◌, ◌∙◌, ℕ, List, ◌&&◌, true, length, vec_len, sym, ap, subst, arith}
+use Rattle.std.proofs.Common.{◌≡◌, ◌∙◌, ℕ, List, length, vec_len, sym, ap, subst, arith}
 use Rattle.std.specs.Prelude.{min}
-use Rattle.std.specs.List.{list_any}
-use Rattle.boundary_model.specs.Model.{faces_of}
 use Rattle.euler_operators.specs.Conditions.{first_refusal, verdict}
-use Rattle.shapes.specs.Fresh.{first_such}
-use Rattle.solid_checks.specs.Least.{found, least_such}
-use Rattle.split_shapes.specs.Sides.{reaches_above, reaches_below, crossing_edges, straddling_faces}
+use Rattle.solid_checks.specs.Least.{least_such}
 use Rattle.split_shapes.specs.Places.{pair_count}
 use Rattle.split_checks.specs.Conditions.{face_conditions}
 use Rattle.split_checks.specs.Crossings.{AreCrossing, is_off}

@@ -1,4 +1,4 @@
-use Rattle.std.proofs.Common.{◌≡◌, ◌∙◌, ap, sym, true, not}
+use Rattle.std.proofs.Common.{◌∙◌, ap, not}
 use Rattle.lattice.specs.Vectors.{are_opposite, cuts_lattice}
 use Rattle.face_walks.proofs.HalfCodes.{plus_there, code_plus}
 use Rattle.shapes.specs.Faces.{start, finish}

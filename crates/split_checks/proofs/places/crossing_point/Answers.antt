@@ -1,11 +1,10 @@
-use Rattle.std.proofs.Common.{◌≡◌, ◌∙◌, ap, sym, not, true, true≢false}
+use Rattle.std.proofs.Common.{◌∙◌, ap, sym, not, true≢false}
 use Rattle.lattice.specs.Vectors.{are_opposite, cuts_lattice, cut_between}
-use Rattle.boundary_model.specs.HalfEdge.{code, edge_of, plus}
+use Rattle.boundary_model.specs.HalfEdge.{code, plus}
 use Rattle.boundary_model.proofs.Halves.{edge_of-code}
 use Rattle.euler_conditions.proofs.Known.{edge_there}
 use Rattle.face_walks.proofs.HalfCodes.{plus_there, code_plus}
 use Rattle.shapes.specs.Faces.{start, finish}
-use Rattle.split_checks.specs.Crossings.{is_off}
 use Rattle.split_checks.proofs.Cuts.{told_point, told_none}
 use Rattle.split_checks.proofs.PlacePoints.{plus_crosses, one_cut}
 use Rattle.split_checks.proofs.places.crossing_point.Goals as goal

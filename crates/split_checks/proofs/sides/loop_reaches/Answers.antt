@@ -1,4 +1,4 @@
-use Rattle.std.proofs.Common.{◌≡◌, ◌∙◌, ap, sym, subst, map}
+use Rattle.std.proofs.Common.{◌∙◌, ap, sym, subst, map}
 use Rattle.std.specs.List.{list_any}
 use Rattle.boundary_model.specs.HalfEdge.{code}
 use Rattle.boundary_model.specs.Model.{content, items_of, point_of, tail}

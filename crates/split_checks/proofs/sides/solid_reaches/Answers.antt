@@ -1,4 +1,4 @@
-use Rattle.std.proofs.Common.{◌≡◌, ◌∙◌, ap, sym, ◌||◌, length, arith}
+use Rattle.std.proofs.Common.{◌∙◌, ap, sym, ◌||◌, length, arith}
 use Rattle.std.specs.List.{list_any}
 use Rattle.boundary_model.specs.Model.{faces_of}
 use Rattle.face_walks.proofs.Rising.{above}
