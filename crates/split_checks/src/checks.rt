@@ -1,5 +1,5 @@
 //! The conditions with which a split begins, in the order in which they are tested.
-ghost use Rattle.std.specs.Prelude.{◌≡◌, not, ◌&&◌, IfOk};
+ghost use Rattle.std.specs.Prelude.{◌≡◌, ◌&&◌, IfOk};
 ghost use Rattle.std.specs.List.{list_any};
 ghost use Rattle.boundary_model.specs.Model.{faces_of};
 ghost use Rattle.euler_conditions.specs.Ready.{IsReady};

@@ -1,5 +1,5 @@
 //! Flaws in the cut places of faces that straddle, and how many pairs these make.
-ghost use Rattle.std.specs.Prelude.{◌≡◌, ◌≤◌, true, false, min, IfOk};
+ghost use Rattle.std.specs.Prelude.{◌≡◌, true, min, IfOk};
 ghost use Rattle.euler_conditions.specs.Ready.{IsReady};
 ghost use Rattle.halfedge_arena.specs.Store.{has_number};
 ghost use Rattle.lattice.specs.Ranges.{IsCutPlane};

@@ -1,5 +1,5 @@
 //! On which sides of a plane faces have corners.
-ghost use Rattle.std.specs.Prelude.{◌≡◌, true, filter, map, IfOk};
+ghost use Rattle.std.specs.Prelude.{◌≡◌, true, map, IfOk};
 ghost use Rattle.std.specs.List.{list_any};
 ghost use Rattle.boundary_model.specs.HalfEdge.{code};
 ghost use Rattle.boundary_model.specs.Model.{content, faces_of};
