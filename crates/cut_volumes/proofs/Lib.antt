@@ -4,3 +4,8 @@ pub mod CutPlanes
 pub mod CutRuns
 pub mod Told
 pub mod CutWhole
+pub mod Bounds
+pub mod Edges
+pub mod Draws
+pub mod Joins
+pub mod Moves
