@@ -9,3 +9,5 @@ pub mod Edges
 pub mod Draws
 pub mod Joins
 pub mod Moves
+pub mod Solids
+pub mod Volumes
