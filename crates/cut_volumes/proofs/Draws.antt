@@ -1,5 +1,5 @@
 -- An edge drawn between two half-edges of a loop: the two faces lie on the planes of the one that was, and their normals sum to its.
-use Rattle.std.proofs.Common.{◌≡◌, ◌≢◌, ℕ, ◌+◌, Bool, true, false, List, [], ◌∷◌, ◌++◌, Some, is_some, refl, sym, ap, ◌∙◌, subst, arith, ◌⊎◌, inl, inr, true≢false}
+use Rattle.std.proofs.Common.{◌≡◌, ◌≢◌, ℕ, ◌+◌, Bool, true, false, List, [], ◌∷◌, ◌++◌, Some, is_some, unwrap_or, refl, sym, ap, ◌∙◌, subst, arith, ◌⊎◌, inl, inr, true≢false}
 use Rattle.std.proofs.lemmas.Bool.Decides.{eqb_tells}
 use Rattle.lattice.specs.declared.Plane.{Plane}
 use Rattle.lattice.specs.Vectors.{origin, moved, cross, is_on}
@@ -8,7 +8,7 @@ use Rattle.cyclic_list.specs.Operators.{mef_old, mef_new}
 use Rattle.cyclic_list.proofs.Lists.{count-append, tick_same, tick_other}
 use Rattle.boundary_model.specs.HalfEdge.{mate, edge_of, plus, minus}
 use Rattle.boundary_model.specs.Table as table
-use Rattle.boundary_model.specs.Model.{Model, FaceRow, LoopContent, lone, cycle, items_of, tail, content, outer, point_of, loop_of, face_of, solid_of, cycle_of}
+use Rattle.boundary_model.specs.Model.{Model, no_face, FaceRow, LoopContent, lone, cycle, items_of, tail, content, outer, point_of, loop_of, face_of, solid_of, cycle_of}
 use Rattle.boundary_model.specs.Sound.{Sound, Has, HasHalf}
 use Rattle.boundary_model.proofs.Halves.{plus_row, minus_row, same_edge}
 use Rattle.boundary_model.proofs.Models.{content_row, face_row}
@@ -47,6 +47,10 @@ module _ (N : Model) (u k e g l : ℕ) (can : CanDraw N u k e g l) where
   pub face_new : table.get (face_drawn N u k e g l).faces g ≡ Some (record { solid = solid_of N (face_at N u); outer = l })
   unfolding face_drawn
   face_new = get-put_here N.faces g _
+
+  pub solid_new : solid_of (face_drawn N u k e g l) g ≡ solid_of N (face_at N u)
+  unfolding solid_of
+  solid_new = ap (λ o. (unwrap_or o no_face).solid) face_new
 
   F_there : Has N.faces F
   F_there = has_face N can.sound u can.u_there

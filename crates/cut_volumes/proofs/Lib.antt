@@ -11,3 +11,5 @@ pub mod Joins
 pub mod Moves
 pub mod Solids
 pub mod Volumes
+pub mod Passes
+pub mod Spread

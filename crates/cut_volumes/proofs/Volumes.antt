@@ -77,8 +77,7 @@ module _ (N : Model) (u k e g l : ℕ) (can : CanDraw N u k e g l) (r : Plane) (
   g_was v = counted_out N g v (λ there _. draws.not_new N u k e g l can g there refl)
 
   g_solid : solid_of K g ≡ solid_of N F
-  unfolding solid_of
-  g_solid = ap (λ o. (unwrap_or o no_face).solid) (draws.face_new N u k e g l can)
+  g_solid = draws.solid_new N u k e g l can
 
   else_count : (v f : ℕ) → f ≢ g → count f (faces_of K v) ≡ count f (faces_of N v)
   else_count v f ne = same_count N K v f (draws.face_else N u k e g l can f ne)
