@@ -1,25 +1,23 @@
 -- An edge drawn between two half-edges of a loop: the two faces lie on the planes of the one that was, and their normals sum to its.
-use Rattle.std.proofs.Common.{◌≡◌, ◌≢◌, ℕ, ◌+◌, Bool, true, false, List, [], ◌∷◌, ◌++◌, Some, is_some, unwrap_or, refl, sym, ap, ◌∙◌, subst, arith, ◌⊎◌, inl, inr, true≢false}
+use Rattle.std.proofs.Common.{◌≡◌, ◌≢◌, ℕ, ◌+◌, true, ◌∷◌, ◌++◌, Some, is_some, unwrap_or, sym, ap, ◌∙◌, subst, arith, ◌⊎◌, inl, inr, true≢false}
 use Rattle.std.proofs.lemmas.Bool.Decides.{eqb_tells}
 use Rattle.lattice.specs.declared.Plane.{Plane}
-use Rattle.lattice.specs.Vectors.{origin, moved, cross, is_on}
-use Rattle.cyclic_list.specs.Items.{count, IsIn, SameItems, head_or}
-use Rattle.cyclic_list.specs.Operators.{mef_old, mef_new}
-use Rattle.cyclic_list.proofs.Lists.{count-append, tick_same, tick_other}
-use Rattle.boundary_model.specs.HalfEdge.{mate, edge_of, plus, minus}
+use Rattle.lattice.specs.Vectors.{moved, is_on}
+use Rattle.cyclic_list.specs.Items.{count, SameItems}
+use Rattle.cyclic_list.proofs.Lists.{tick_same}
+use Rattle.boundary_model.specs.HalfEdge.{plus, minus}
 use Rattle.boundary_model.specs.Table as table
-use Rattle.boundary_model.specs.Model.{Model, no_face, FaceRow, LoopContent, lone, cycle, items_of, tail, content, outer, point_of, loop_of, face_of, solid_of, cycle_of}
+use Rattle.boundary_model.specs.Model.{Model, no_face, lone, tail, content, outer, point_of, loop_of, face_of, solid_of, cycle_of}
 use Rattle.boundary_model.specs.Sound.{Sound, Has, HasHalf}
-use Rattle.boundary_model.proofs.Halves.{plus_row, minus_row, same_edge}
+use Rattle.boundary_model.proofs.Halves.{plus_row, minus_row}
 use Rattle.boundary_model.proofs.Models.{content_row, face_row}
 use Rattle.euler_operators.specs.Conditions.{face_at}
-use Rattle.euler_laws_shared.proofs.Undo.{mate_plus}
 use Rattle.euler_laws_mef.proofs.MefUndo.{count-mef_old, count-mef_new}
 use Rattle.fresh_laws.proofs.Rows.{get-put_here, get-put_other}
-use Rattle.shapes.specs.Faces.{start, finish, boundary}
-use Rattle.solid_measure.specs.Measure.{area, normal, anchor}
-use Rattle.solid_measure.proofs.Areas.{area-append, moved_more, nothing_moved}
-use Rattle.solid_measure_laws.proofs.Sums.{area_same, halves_cancel}
+use Rattle.shapes.specs.Faces.{start, boundary}
+use Rattle.solid_measure.specs.Measure.{normal, anchor}
+use Rattle.solid_measure.proofs.Areas.{area-append}
+use Rattle.solid_measure_laws.proofs.Sums.{area_same}
 use Rattle.split_shapes.specs.Drawing.{face_drawn}
 use Rattle.drawing_laws.specs.DrawnIn.{Stays}
 use Rattle.drawing_laws.proofs.Drawn.{CanDraw, draw_sound}
@@ -165,9 +163,9 @@ module _ (N : Model) (u k e g l : ℕ) (can : CanDraw N u k e g l) where
   both : SameItems (boundary K F ++ boundary K g) (plus e ∷ minus e ∷ boundary N F)
   both h = two_halves h e (boundary K F) (boundary K g) (boundary N F)
       (λ is. let now : HasHalf K h = subst (HasHalf K) (sym is) (plus_there N K e _ (edges_are N u k e g l can)) in
-          (bound_one K K_sound F h now (ap (face_at K) is ∙ plus_face), bound_none K K_sound g h g_now (λ t s. not_new F F_there (sym plus_face ∙ sym (ap (face_at K) is) ∙ s)), bound_none N can.sound F h F_there (λ t s. no_plus (subst (HasHalf N) is t))))
+      (bound_one K K_sound F h now (ap (face_at K) is ∙ plus_face), bound_none K K_sound g h g_now (λ t s. not_new F F_there (sym plus_face ∙ sym (ap (face_at K) is) ∙ s)), bound_none N can.sound F h F_there (λ t s. no_plus (subst (HasHalf N) is t))))
       (λ is. let now : HasHalf K h = subst (HasHalf K) (sym is) (minus_there N K e _ (edges_are N u k e g l can)) in
-          (bound_none K K_sound F h F_now (λ t s. not_new F F_there (sym s ∙ ap (face_at K) is ∙ minus_face)), bound_one K K_sound g h now (ap (face_at K) is ∙ minus_face), bound_none N can.sound F h F_there (λ t s. no_minus (subst (HasHalf N) is t))))
+      (bound_none K K_sound F h F_now (λ t s. not_new F F_there (sym s ∙ ap (face_at K) is ∙ minus_face)), bound_one K K_sound g h now (ap (face_at K) is ∙ minus_face), bound_none N can.sound F h F_there (λ t s. no_minus (subst (HasHalf N) is t))))
       (λ a b. elim (half_there N h) [
         | inl was ↦ old_counts h was
         | inr not_was ↦

@@ -1,14 +1,13 @@
 -- Two loops of a face joined by an edge: the face lies on its planes and keeps its normal.
-use Rattle.std.proofs.Common.{◌≡◌, ◌≢◌, ℕ, true, [], ◌∷◌, ◌++◌, is_some, refl, sym, ap, ◌∙◌, subst, arith, ◌⊎◌, inl, inr, true≢false}
+use Rattle.std.proofs.Common.{◌≡◌, ◌≢◌, ℕ, [], ◌∷◌, ◌++◌, is_some, refl, sym, ap, ◌∙◌, subst, arith, ◌⊎◌, inl, inr, true≢false}
 use Rattle.std.proofs.lemmas.Bool.Decides.{eqb_tells}
 use Rattle.lattice.specs.declared.Plane.{Plane}
 use Rattle.lattice.specs.Vectors.{is_on}
 use Rattle.cyclic_list.specs.Items.{count, tick}
 use Rattle.cyclic_list.specs.Rings.{rotate_to}
-use Rattle.cyclic_list.specs.Operators.{mekr_ring}
 use Rattle.cyclic_list.proofs.Lists.{count-append, tick_same, tick_other}
 use Rattle.cyclic_list.proofs.Rotations.{count-canonical}
-use Rattle.boundary_model.specs.HalfEdge.{edge_of, plus, minus}
+use Rattle.boundary_model.specs.HalfEdge.{plus, minus}
 use Rattle.boundary_model.specs.Table as table
 use Rattle.boundary_model.specs.Model.{Model, lone, tail, content, outer, point_of, loop_of, face_of, cycle_of}
 use Rattle.boundary_model.specs.Sound.{Sound, Has, HasHalf}

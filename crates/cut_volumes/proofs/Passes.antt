@@ -3,7 +3,7 @@ use Rattle.std.proofs.Common.{◌≡◌, ◌≢◌, ℕ, ◌+◌, Bool, true, fa
 use Rattle.std.specs.Prelude.{fold}
 use Rattle.std.proofs.lemmas.Bool.Decides.{eqb_tells}
 use Rattle.lattice.specs.declared.Plane.{Plane}
-use Rattle.cyclic_list.specs.Items.{tick, IsIn, IsApart}
+use Rattle.cyclic_list.specs.Items.{tick, IsApart}
 use Rattle.cyclic_list.proofs.Lists.{tick_same}
 use Rattle.boundary_model.specs.Table as table
 use Rattle.boundary_model.specs.Model.{Model, loop_of, outer, solid_of, is_ring_of, is_number}
@@ -16,7 +16,7 @@ use Rattle.drawing_laws.specs.DrawnIn.{DrawnIn}
 use Rattle.drawing_laws.specs.Pairs.{Fits, AllFit}
 use Rattle.drawing_laws.proofs.Drawn.{CanDraw, CanJoin}
 use Rattle.drawing_laws.proofs.Pairs.{JoinedIn, can_back, can_on, pair_can}
-use Rattle.drawing_laws.proofs.Passes.{Joining, join_one, join_next_one, join_next_two, Going, draw_one, draw_next_one, draw_next_two, cut_off, edge_free, edge_fits_now, edge_open, face_open, loop_open, room_here, edge_fits, face_fits, loop_fits}
+use Rattle.drawing_laws.proofs.Passes.{Joining, join_one, join_next_one, join_next_two, Going, draw_one, draw_next_one, draw_next_two, edge_free, edge_fits_now, edge_open, face_open, loop_open, room_here, edge_fits, face_fits, loop_fits}
 use Rattle.drawing_laws.proofs.Rings.{RingOf, AreRings, Newer, moved_drawn, moved_newer, moved_ring, rings_on}
 use Rattle.drawing_laws.proofs.Stays.{has_face}
 use Rattle.cut_volumes.proofs.Bounds.{OnFace}

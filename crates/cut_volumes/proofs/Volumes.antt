@@ -1,27 +1,26 @@
 -- An edge drawn, two loops joined, a ring moved: each solid keeps its six volumes, where the face lies on a plane.
-use Rattle.std.proofs.Common.{◌≡◌, ◌≢◌, ℕ, ℤ, pos, ◌+ℤ◌, ◌-ℤ◌, true, not, cond, nat_eq, ◌&&◌, ◌∷◌, is_some, unwrap_or, refl, sym, ap, ◌∙◌, subst, arith, inl, inr, true≢false}
+use Rattle.std.proofs.Common.{◌≡◌, ◌≢◌, ℕ, ℤ, ◌+ℤ◌, ◌-ℤ◌, true, not, cond, nat_eq, ◌&&◌, ◌∷◌, is_some, refl, sym, ap, ◌∙◌, subst, arith, inl, inr}
 use Rattle.std.proofs.lemmas.Int.{ints}
 use Rattle.std.proofs.lemmas.Bool.Decides.{eqb_tells}
 use Rattle.lattice.specs.declared.Point.{Point}
 use Rattle.lattice.specs.declared.Plane.{Plane}
 use Rattle.lattice.specs.Vectors.{origin, moved, dot, same_point, is_on, direction}
-use Rattle.cyclic_list.specs.Items.{count, tick, IsIn, SameItems}
+use Rattle.cyclic_list.specs.Items.{count, tick, SameItems}
 use Rattle.cyclic_list.proofs.Lists.{tick_same, tick_other}
 use Rattle.boundary_model.specs.Table as table
-use Rattle.boundary_model.specs.Model.{Model, no_face, solid_of, faces_of}
+use Rattle.boundary_model.specs.Model.{Model, solid_of, faces_of}
 use Rattle.boundary_model.specs.Sound.{Sound, Has}
 use Rattle.euler_operators.specs.Conditions.{face_at}
 use Rattle.euler_operators.specs.Effect.{ring_in}
 use Rattle.euler_laws_shared.proofs.Goes.{equals, differs}
 use Rattle.solid_measure.specs.Measure.{normal, anchor, six_volume}
-use Rattle.solid_measure_laws.proofs.FlatFaces.{are_on, anchor_on, told_anywhere}
+use Rattle.solid_measure_laws.proofs.FlatFaces.{anchor_on, told_anywhere}
 use Rattle.split_shapes.specs.Drawing.{face_drawn, loops_joined}
 use Rattle.drawing_laws.proofs.Drawn.{CanDraw, CanJoin}
 use Rattle.drawing_laws.proofs.Stays.{has_face}
 use Rattle.vector_laws.proofs.Vectors.{dot_moved, dot_turned}
 use Rattle.cut_volumes.proofs.Bounds.{OnFace, face_on}
 use Rattle.cut_volumes.proofs.Draws as draws
-use Rattle.cut_volumes.proofs.Edges.{same_solid}
 use Rattle.cut_volumes.proofs.Joins as joins
 use Rattle.cut_volumes.proofs.Moves as moves
 use Rattle.cut_volumes.proofs.Moves.{CanMove}
