@@ -3,14 +3,5 @@ pub mod OneCut
 pub mod CutPlanes
 pub mod Told
 pub mod CutRuns
-pub mod Bounds
-pub mod Edges
 pub mod Solids
 pub mod CutWhole
-pub mod Draws
-pub mod Joins
-pub mod Moves
-pub mod Volumes
-pub mod Passes
-pub mod Spread
-pub mod DrawWhole

@@ -15,7 +15,6 @@ use Rattle.solid_walks.proofs.Rising.{counted_once}
 use Rattle.solid_measure.specs.Measure.{normal, anchor, volume_in, six_volume}
 use Rattle.solid_measure_laws.proofs.Paths.{first_in, rest_in}
 use Rattle.crossing_laws.proofs.Listed.{all_where_has, all_where_in}
-use Rattle.cut_volumes.proofs.Edges.{same_solid}
 
 -- ---- the faces of a solid
 
@@ -42,6 +41,10 @@ pub counted_out : (M : Model) (f u : ℕ) → (Has M.faces f → solid_of M f �
 counted_out M f u never = elim (IsIn_or_not f (faces_of M u)) [ inl i ↦ let w = solid_facts M u f i in absurd (never w.0 w.1) | inr z ↦ z ]
 
 -- a face whose row stays is of the same solid
+pub same_solid : (N K : Model) (f : ℕ) → table.get K.faces f ≡ table.get N.faces f → solid_of K f ≡ solid_of N f
+unfolding solid_of
+same_solid N K f e = ap (λ o. (unwrap_or o no_face).solid) e
+
 pub same_count : (M N : Model) (u f : ℕ) → table.get N.faces f ≡ table.get M.faces f → count f (faces_of N u) ≡ count f (faces_of M u)
 same_count M N u f e = elim (IsIn_or_not f (faces_of M u)) [
   | inl i ↦

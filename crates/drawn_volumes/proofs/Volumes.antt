@@ -19,11 +19,11 @@ use Rattle.split_shapes.specs.Drawing.{face_drawn, loops_joined}
 use Rattle.drawing_laws.proofs.Drawn.{CanDraw, CanJoin}
 use Rattle.drawing_laws.proofs.Stays.{has_face}
 use Rattle.vector_laws.proofs.Vectors.{dot_moved, dot_turned}
-use Rattle.cut_volumes.proofs.Bounds.{OnFace, face_on}
-use Rattle.cut_volumes.proofs.Draws as draws
-use Rattle.cut_volumes.proofs.Joins as joins
-use Rattle.cut_volumes.proofs.Moves as moves
-use Rattle.cut_volumes.proofs.Moves.{CanMove}
+use Rattle.drawn_volumes.proofs.Bounds.{OnFace, face_on}
+use Rattle.drawn_volumes.proofs.Draws as draws
+use Rattle.drawn_volumes.proofs.Joins as joins
+use Rattle.drawn_volumes.proofs.Moves as moves
+use Rattle.drawn_volumes.proofs.Moves.{CanMove}
 use Rattle.cut_volumes.proofs.Solids.{solid_facts, counted_in, counted_out, same_count, total, told, six_is, unchanged, changed_one, total_same}
 
 -- the plane has a direction

@@ -21,8 +21,8 @@ use Rattle.split_shapes.specs.Drawing.{loops_joined}
 use Rattle.drawing_laws.specs.DrawnIn.{Stays}
 use Rattle.drawing_laws.proofs.Drawn.{CanJoin, join_sound}
 use Rattle.drawing_laws.proofs.Stays.{stands_at, has_face, row_joined, row_other, row_gone, joined_edges, join_stays, join_tails, join_faces}
-use Rattle.cut_volumes.proofs.Bounds.{OnFace, anchor_still, never_lone, lone_there, bound_halves, bound_one, bound_none, point_still, start_still, area_still}
-use Rattle.cut_volumes.proofs.Edges.{half_there, plus_there, minus_there, half_cases, two_in, no_area, normal_is, same_row_content, same_row_face, same_outer}
+use Rattle.drawn_volumes.proofs.Bounds.{OnFace, anchor_still, never_lone, lone_there, bound_halves, bound_one, bound_none, point_still, start_still, area_still}
+use Rattle.drawn_volumes.proofs.Edges.{half_there, plus_there, minus_there, half_cases, two_in, no_area, normal_is, same_row_content, same_row_face, same_outer}
 
 module _ (N : Model) (c d e : ℕ) (can : CanJoin N c d e) where
   abbrev K : Model

@@ -17,13 +17,13 @@ use Rattle.crossing_laws.proofs.Whole.{crossings_sound}
 use Rattle.cut_pairs.proofs.Whole.{can_be_drawn}
 use Rattle.drawing_laws.specs.Laws.{CanBeDrawn}
 use Rattle.drawing_laws.proofs.Whole.{drawable, drawing_sound}
-use Rattle.cut_volumes.specs.Laws.{LiesOnOld}
-use Rattle.cut_volumes.proofs.Bounds.{OnFace, on_face, face_on}
+use Rattle.drawn_volumes.specs.Laws.{LiesOnOld}
+use Rattle.drawn_volumes.proofs.Bounds.{OnFace, on_face, face_on}
 use Rattle.cut_volumes.proofs.CutWhole.{all_flat, crossings_measured, crossings_volumes}
 use Rattle.cut_volumes.proofs.Solids.{solid_facts, in_solid}
-use Rattle.cut_volumes.proofs.Spread.{Comes, Spread, LiesFlat, nothing_spread, all_spread}
+use Rattle.drawn_volumes.proofs.Spread.{Comes, Spread, LiesFlat, nothing_spread, all_spread}
 use Rattle.cut_volumes.proofs.Told.{flat_on, solid_stays}
-use Rattle.cut_volumes.proofs.Volumes.{IsPlane}
+use Rattle.drawn_volumes.proofs.Volumes.{IsPlane}
 
 module _ (M : Model) (s : ℕ) (p : Plane) (t : ℕ) (sound : Sound M) (accepted : first_refusal (first_conditions M s p t) ≡ None) where
   abbrev N : Model

@@ -19,13 +19,13 @@ use Rattle.drawing_laws.proofs.Pairs.{JoinedIn, can_back, can_on, pair_can}
 use Rattle.drawing_laws.proofs.Passes.{Joining, join_one, join_next_one, join_next_two, Going, draw_one, draw_next_one, draw_next_two, edge_free, edge_fits_now, edge_open, face_open, loop_open, room_here, edge_fits, face_fits, loop_fits}
 use Rattle.drawing_laws.proofs.Rings.{RingOf, AreRings, Newer, moved_drawn, moved_newer, moved_ring, rings_on}
 use Rattle.drawing_laws.proofs.Stays.{has_face}
-use Rattle.cut_volumes.proofs.Bounds.{OnFace}
-use Rattle.cut_volumes.proofs.Draws as draws
-use Rattle.cut_volumes.proofs.Edges.{same_solid}
-use Rattle.cut_volumes.proofs.Joins as joins
-use Rattle.cut_volumes.proofs.Moves as moves
-use Rattle.cut_volumes.proofs.Moves.{CanMove}
-use Rattle.cut_volumes.proofs.Volumes.{IsPlane, draw_volumes, join_volumes, move_volumes}
+use Rattle.cut_volumes.proofs.Solids.{same_solid}
+use Rattle.drawn_volumes.proofs.Bounds.{OnFace}
+use Rattle.drawn_volumes.proofs.Draws as draws
+use Rattle.drawn_volumes.proofs.Joins as joins
+use Rattle.drawn_volumes.proofs.Moves as moves
+use Rattle.drawn_volumes.proofs.Moves.{CanMove}
+use Rattle.drawn_volumes.proofs.Volumes.{IsPlane, draw_volumes, join_volumes, move_volumes}
 
 -- X is M with edges drawn in face f: volumes stay, faces lie on the planes on which they lay, and new ones on those of f
 pub record Within (M X : Model) (f : ℕ) : Type 0 where

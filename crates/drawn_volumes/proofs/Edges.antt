@@ -7,7 +7,7 @@ use Rattle.cyclic_list.specs.Items.{count, tick}
 use Rattle.cyclic_list.proofs.Lists.{count-append, tick_same, tick_other}
 use Rattle.boundary_model.specs.HalfEdge.{mate, edge_of, plus, minus}
 use Rattle.boundary_model.specs.Table as table
-use Rattle.boundary_model.specs.Model.{Model, EdgeRow, no_loop, no_face, content, face_of, outer, solid_of, has_half}
+use Rattle.boundary_model.specs.Model.{Model, EdgeRow, no_loop, no_face, content, face_of, outer, has_half}
 use Rattle.boundary_model.specs.Sound.{HasHalf}
 use Rattle.boundary_model.proofs.Halves.{plus_row, minus_row, same_edge}
 use Rattle.euler_laws_shared.proofs.Undo.{mate_plus}
@@ -38,10 +38,6 @@ same_row_face N K q e = ap (λ o. (unwrap_or o no_loop).face) e
 pub same_outer : (N K : Model) (f : ℕ) → table.get K.faces f ≡ table.get N.faces f → outer K f ≡ outer N f
 unfolding outer
 same_outer N K f e = ap (λ o. (unwrap_or o no_face).outer) e
-
-pub same_solid : (N K : Model) (f : ℕ) → table.get K.faces f ≡ table.get N.faces f → solid_of K f ≡ solid_of N f
-unfolding solid_of
-same_solid N K f e = ap (λ o. (unwrap_or o no_face).solid) e
 
 -- K has edge e more
 module _ (N K : Model) (e : ℕ) (row : EdgeRow) (is : K.edges ≡ table.put N.edges e row) where

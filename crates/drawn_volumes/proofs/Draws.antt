@@ -22,8 +22,8 @@ use Rattle.split_shapes.specs.Drawing.{face_drawn}
 use Rattle.drawing_laws.specs.DrawnIn.{Stays}
 use Rattle.drawing_laws.proofs.Drawn.{CanDraw, draw_sound}
 use Rattle.drawing_laws.proofs.Stays.{not_free, stands_at, has_face, row_old, row_new, row_else, edges_are, draw_stays, draw_tails, draw_beside, draw_within}
-use Rattle.cut_volumes.proofs.Bounds.{OnFace, anchor_still, never_lone, lone_there, bound_halves, bound_one, bound_none, point_still, start_still, area_still}
-use Rattle.cut_volumes.proofs.Edges.{half_there, plus_there, minus_there, half_cases, two_halves, no_area, normal_is, same_row_content, same_row_face, same_outer}
+use Rattle.drawn_volumes.proofs.Bounds.{OnFace, anchor_still, never_lone, lone_there, bound_halves, bound_one, bound_none, point_still, start_still, area_still}
+use Rattle.drawn_volumes.proofs.Edges.{half_there, plus_there, minus_there, half_cases, two_halves, no_area, normal_is, same_row_content, same_row_face, same_outer}
 
 module _ (N : Model) (u k e g l : ℕ) (can : CanDraw N u k e g l) where
   abbrev K : Model

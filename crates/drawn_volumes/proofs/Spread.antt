@@ -17,9 +17,9 @@ use Rattle.drawing_laws.specs.Pairs.{pairs_in}
 use Rattle.drawing_laws.proofs.Faces.{Ready, begun_joining, joins, going, going_on, fitting_on, last, newer_face}
 use Rattle.drawing_laws.proofs.Rings.{rings_are, rings_apart}
 use Rattle.drawing_laws.proofs.Whole.{Drawable, ready, drawable_on, next_is}
-use Rattle.cut_volumes.proofs.Bounds.{OnFace}
-use Rattle.cut_volumes.proofs.Passes.{Within, never_free, nothing_within, joins_within, draws_within, rings_within}
-use Rattle.cut_volumes.proofs.Volumes.{IsPlane}
+use Rattle.drawn_volumes.proofs.Bounds.{OnFace}
+use Rattle.drawn_volumes.proofs.Passes.{Within, never_free, nothing_within, joins_within, draws_within, rings_within}
+use Rattle.drawn_volumes.proofs.Volumes.{IsPlane}
 
 staying : (M : Model) (f : ℕ) (b : Bool) (d : Drawing) → Within M d.model f → Within M (cond b (stuck_at f d) d).model f
 staying M f true d w = w

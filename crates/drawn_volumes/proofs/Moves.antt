@@ -19,8 +19,8 @@ use Rattle.solid_measure.specs.Measure.{area, normal, anchor}
 use Rattle.solid_measure.proofs.Areas.{area-append}
 use Rattle.solid_measure_laws.proofs.Sums.{area_same}
 use Rattle.drawing_laws.specs.DrawnIn.{Stays}
-use Rattle.cut_volumes.proofs.Bounds.{OnFace, anchor_still, bound_halves, bound_one, bound_none, point_still, start_still, area_still}
-use Rattle.cut_volumes.proofs.Edges.{half_there, normal_is}
+use Rattle.drawn_volumes.proofs.Bounds.{OnFace, anchor_still, bound_halves, bound_one, bound_none, point_still, start_still, area_still}
+use Rattle.drawn_volumes.proofs.Edges.{half_there, normal_is}
 
 -- loop l is a ring of face f and goes to another face k
 pub record CanMove (N : Model) (f l k : ℕ) : Type 0 where
