@@ -1,0 +1,4 @@
+pub mod Starts
+pub mod Kept
+pub mod Caps
+pub mod Opened
