@@ -14,7 +14,7 @@ use Rattle.strip_laws.specs.Strips.{strips_cut, copies_raised}
 use Rattle.strip_laws.specs.StripOps.{strip_ops, copy_ops}
 use Rattle.strip_laws.specs.Opened.{CanBeOpened}
 use Rattle.strip_laws.proofs.Whole.{strips_accepted, strips_are_cut}
-use Rattle.strip_laws.proofs.Raising.{copies_accepted, copies_are_raised, raised_sound}
+use Rattle.copy_laws.proofs.Raising.{copies_accepted, copies_are_raised, raised_sound}
 use Rattle.cap_laws.specs.CapOps.{cap_ops}
 use Rattle.cap_laws.proofs.Whole.{caps_accepted, caps_made}
 use Rattle.opening_laws.specs.OpeningOps.{opening_ops}

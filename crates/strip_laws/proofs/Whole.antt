@@ -49,6 +49,9 @@ module _ (M : Model) (above : List ℕ) (s : ℕ) (c : Taken) (bs : List ℕ) (w
         effects-append M (strip_ops M s c bs i) (cut_strip N c bs i ∷ []) ∙ ap (λ X. effect X (cut_strip N c bs i)) r.1 ∙ strip_is M above s c bs w i (omega arith) sound,
       )
 
+  pub part_sound : (i : ℕ) → i ≤ length bs → Sound (strips_cut M s c bs i)
+  part_sound i le = let r = strips_go i le in subst Sound r.1 (effects_keep_sound M (strip_ops M s c bs i) w.sound r.0)
+
   -- no operator is refused, and they cut all strips off
   pub strips_accepted : AreAccepted M (strip_ops M s c bs (length bs))
   strips_accepted = (strips_go (length bs) (omega arith)).0
@@ -57,4 +60,4 @@ module _ (M : Model) (above : List ℕ) (s : ℕ) (c : Taken) (bs : List ℕ) (w
   strips_are_cut = (strips_go (length bs) (omega arith)).1
 
   pub cut_sound : Sound (strips_cut M s c bs (length bs))
-  cut_sound = subst Sound strips_are_cut (effects_keep_sound M (strip_ops M s c bs (length bs)) w.sound strips_accepted)
+  cut_sound = part_sound (length bs) (omega arith)

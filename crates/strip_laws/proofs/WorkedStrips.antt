@@ -1,4 +1,4 @@
--- Worked examples, computed: a block cut diagonally, once its faces are drawn.
+-- Worked examples, computed: a block cut diagonally, once the diagonals are drawn.
 use Rattle.std.specs.Prelude.{◌≡◌, ℕ, pos, negsuc, List, [], ◌∷◌, refl}
 use Rattle.boundary_model.specs.declared.Corner.TheVariants.{At}
 use Rattle.boundary_model.specs.Model.{Model}
@@ -8,7 +8,6 @@ use Rattle.euler_operators.proofs.WorkedScripts.{at, after_run, plus, minus}
 use Rattle.shapes.specs.Fresh.{Taken, taken_in}
 use Rattle.split_shapes.specs.Sides.{faces_above}
 use Rattle.split_shapes.specs.Section.{below_halves, section_cycles}
-use Rattle.split_shapes.specs.Drawing.{with_drawings}
 use Rattle.split_shapes.specs.Opening.{opened_along}
 use Rattle.split_shapes.proofs.WorkedSplits.{computed, plane, rows_of, block4}
 use Rattle.strip_laws.specs.Strips.{strips_cut, copies_raised}
@@ -20,7 +19,7 @@ unfolding strips_cut copies_raised
 opened = 0
 
 abbrev pub drawn : Model
-drawn = (with_drawings block4 1 (plane (pos 1) (negsuc 0) (pos 0) (pos 0))).model
+drawn = after_run block4 (Mef (plus 7) (plus 11) (plus 13) 7 7 ∷ Mef (minus 2) (minus 4) (plus 14) 8 8 ∷ [])
 
 abbrev pub above : List ℕ
 above = 3 ∷ 4 ∷ 7 ∷ 8 ∷ []
@@ -87,3 +86,48 @@ pub then-opened : rows_of (after_run (copies_raised drawn above 1 taken cycle 4)
     ≡ rows_of (opened_along drawn above 1 taken cycle)
 unfolding computed opened
 then-opened = refl
+
+-- ---- the lid of a block, of which each edge is of the cycle
+
+abbrev pub lid : List ℕ
+lid = 15 ∷ 25 ∷ 23 ∷ 19 ∷ []
+
+abbrev pub block_taken : Taken
+block_taken = record { face = 6; loop = 6; edge = 12; vertex = 8 }
+
+abbrev pub lid_strips : List Op
+lid_strips = Mef (plus 7) (plus 9) (plus 13) 7 7
+    ∷ Mef (plus 12) (plus 13) (plus 14) 8 8
+    ∷ Mef (plus 11) (plus 14) (plus 15) 9 9
+    ∷ Mef (plus 9) (plus 15) (plus 16) 10 10
+    ∷ []
+
+abbrev pub lid_copies : List Op
+lid_copies = Mev (At (minus 13)) (At (plus 9)) (plus 17) 9 (at 4 0 4)
+    ∷ Mev (At (minus 14)) (At (plus 7)) (plus 18) 10 (at 0 0 4)
+    ∷ Mev (At (minus 15)) (At (plus 12)) (plus 19) 11 (at 0 4 4)
+    ∷ Mev (At (minus 16)) (At (plus 11)) (plus 20) 12 (at 4 4 4)
+    ∷ []
+
+-- it is the cycle round the face above
+pub lid-given : (section_cycles block4 (below_halves block4 (1 ∷ []) 1) ≡ lid ∷ []) × (taken_in block4 ≡ block_taken)
+unfolding computed
+lid-given = (refl, refl)
+
+-- what follows a mate may stand in place of another one
+pub lid-listed : (strip_ops block4 1 block_taken lid 4 ≡ lid_strips) × (copy_ops block4 block_taken lid 4 ≡ lid_copies)
+unfolding computed opened
+lid-listed = (refl, refl)
+
+pub lid-cut : rows_of (after_run block4 lid_strips) ≡ rows_of (strips_cut block4 1 block_taken lid 4)
+unfolding computed opened
+lid-cut = refl
+
+pub lid-raised : rows_of (after_run (strips_cut block4 1 block_taken lid 4) lid_copies) ≡ rows_of (copies_raised block4 (1 ∷ []) 1 block_taken lid 4)
+unfolding computed opened
+lid-raised = refl
+
+pub lid-opened : rows_of (after_run (copies_raised block4 (1 ∷ []) 1 block_taken lid 4) (Kef (minus 18) ∷ Kef (minus 19) ∷ Kef (minus 20) ∷ Kemr (plus 17) 11 ∷ Mfkrh 11 11 ∷ []))
+    ≡ rows_of (opened_along block4 (1 ∷ []) 1 block_taken lid)
+unfolding computed opened
+lid-opened = refl

@@ -1,31 +1,21 @@
--- The laws of strips and copies, each over every model and every cycle along which a solid can be opened.
+-- The laws of strips, each over every model and every cycle along which a solid can be opened.
 use Rattle.std.specs.Prelude.{◌≡◌, ℕ, List, length}
 use Rattle.boundary_model.specs.Model.{Model}
 use Rattle.boundary_model.specs.Sound.{Sound}
 use Rattle.euler_laws.specs.Laws.{effects, AreAccepted}
 use Rattle.shapes.specs.Fresh.{Taken}
-use Rattle.strip_laws.specs.Strips.{strips_cut, copies_raised}
-use Rattle.strip_laws.specs.StripOps.{strip_ops, copy_ops}
+use Rattle.strip_laws.specs.Strips.{strips_cut}
+use Rattle.strip_laws.specs.StripOps.{strip_ops}
 use Rattle.strip_laws.specs.Opened.{CanBeOpened}
 
--- each operator that cuts a strip off is accepted in its turn
+-- each operator is accepted in its turn
 abbrev pub StripsAreAccepted : Type 0
 StripsAreAccepted = (M : Model) (above : List ℕ) (s : ℕ) (c : Taken) (bs : List ℕ) → CanBeOpened M above s c bs → AreAccepted M (strip_ops M s c bs (length bs))
 
--- and together they cut all off
+-- together they cut all strips off
 abbrev pub StripsAreCut : Type 0
 StripsAreCut = (M : Model) (above : List ℕ) (s : ℕ) (c : Taken) (bs : List ℕ) → CanBeOpened M above s c bs →
     effects M (strip_ops M s c bs (length bs)) ≡ strips_cut M s c bs (length bs)
 
--- then each operator that raises a copy is accepted in its turn
-abbrev pub CopiesAreAccepted : Type 0
-CopiesAreAccepted = (M : Model) (above : List ℕ) (s : ℕ) (c : Taken) (bs : List ℕ) → CanBeOpened M above s c bs →
-    AreAccepted (strips_cut M s c bs (length bs)) (copy_ops M c bs (length bs))
-
--- and together they raise all
-abbrev pub CopiesAreRaised : Type 0
-CopiesAreRaised = (M : Model) (above : List ℕ) (s : ℕ) (c : Taken) (bs : List ℕ) → CanBeOpened M above s c bs →
-    effects (strips_cut M s c bs (length bs)) (copy_ops M c bs (length bs)) ≡ copies_raised M above s c bs (length bs)
-
-abbrev pub CopiesAreSound : Type 0
-CopiesAreSound = (M : Model) (above : List ℕ) (s : ℕ) (c : Taken) (bs : List ℕ) → CanBeOpened M above s c bs → Sound (copies_raised M above s c bs (length bs))
+abbrev pub StrippedIsSound : Type 0
+StrippedIsSound = (M : Model) (above : List ℕ) (s : ℕ) (c : Taken) (bs : List ℕ) → CanBeOpened M above s c bs → Sound (strips_cut M s c bs (length bs))

@@ -23,9 +23,9 @@ use Rattle.strip_laws.specs.Opened.{CanBeOpened}
 use Rattle.strip_laws.proofs.Cycle as on
 use Rattle.strip_laws.proofs.Cycle.{next_below, before_below, next-before, next_once}
 use Rattle.strip_laws.proofs.Copied as copy
-use Rattle.strip_laws.proofs.Raised as raised
-use Rattle.strip_laws.proofs.Raised.{not_less}
-use Rattle.strip_laws.proofs.Arc.{Splits}
+use Rattle.copy_laws.proofs.Raised as raised
+use Rattle.copy_laws.proofs.Raised.{not_less}
+use Rattle.copy_laws.proofs.Arc.{Splits}
 
 module _ (M : Model) (above : List ℕ) (s : ℕ) (c : Taken) (bs : List ℕ) (w : CanBeOpened M above s c bs) (i : ℕ) (lt : i < length bs) (sound : Sound (copies_raised M above s c bs i)) where
   abbrev N : Model

@@ -21,8 +21,8 @@ use Rattle.strip_laws.specs.StripOps.{raise_copy, copy_ops}
 use Rattle.strip_laws.specs.Opened.{CanBeOpened}
 use Rattle.strip_laws.proofs.Rows.{rows_same}
 use Rattle.strip_laws.proofs.Copied as copy
-use Rattle.strip_laws.proofs.Raised.{not_less}
-use Rattle.strip_laws.proofs.Copies.{copy_accepted, copy_is}
+use Rattle.copy_laws.proofs.Raised.{not_less}
+use Rattle.copy_laws.proofs.Copies.{copy_accepted, copy_is}
 use Rattle.strip_laws.proofs.Whole.{cut_sound}
 
 either_way : (b : Bool) (v : ℕ) → cond b v v ≡ v
@@ -72,6 +72,9 @@ module _ (M : Model) (above : List ℕ) (s : ℕ) (c : Taken) (bs : List ℕ) (w
         effects-append C (copy_ops M c bs i) (raise_copy M c bs i ∷ []) ∙ ap (λ X. effect X (raise_copy M c bs i)) r.1 ∙ copy_is M above s c bs w i (omega arith) sound,
       )
 
+  pub part_sound : (i : ℕ) → i ≤ length bs → Sound (copies_raised M above s c bs i)
+  part_sound i le = let r = copies_go i le in subst Sound r.1 (effects_keep_sound (strips_cut M s c bs (length bs)) (copy_ops M c bs i) (cut_sound M above s c bs w) r.0)
+
   -- no operator is refused, and they raise all copies
   pub copies_accepted : AreAccepted (strips_cut M s c bs (length bs)) (copy_ops M c bs (length bs))
   copies_accepted = (copies_go (length bs) (omega arith)).0
@@ -80,4 +83,4 @@ module _ (M : Model) (above : List ℕ) (s : ℕ) (c : Taken) (bs : List ℕ) (w
   copies_are_raised = (copies_go (length bs) (omega arith)).1
 
   pub raised_sound : Sound (copies_raised M above s c bs (length bs))
-  raised_sound = subst Sound copies_are_raised (effects_keep_sound (strips_cut M s c bs (length bs)) (copy_ops M c bs (length bs)) (cut_sound M above s c bs w) copies_accepted)
+  raised_sound = part_sound (length bs) (omega arith)

@@ -1,0 +1,70 @@
+-- Where a plane meets a segment: what is told of it, and the same from either end.
+use Rattle.std.proofs.Common.{◌≡◌, ◌≢◌, ℕ, zero, suc, ◌/◌, ◌≤◌, Bool, true, false, cond, not, ℤ, pos, negsuc, Option, Some, None, is_some, refl, sym, ap, ◌∙◌, arith, true≢false}
+use Rattle.std.specs.Prelude.{◌-ℤ◌, ◌*ℤ◌, neg_ℤ}
+use Rattle.std.specs.Int.RustNames.{int_div}
+use Rattle.std.proofs.lemmas.Int.{ints}
+use Rattle.std.proofs.Math.Nat.{div-le_of_le-mul}
+use Rattle.lattice.specs.declared.Point.{Point}
+use Rattle.lattice.specs.declared.Plane.{Plane}
+use Rattle.lattice.specs.Vectors.{height, opposite, are_opposite, cuts_lattice, cut_between, cut_point}
+
+-- ---- signs
+
+pub opposite_turned : (m n : ℤ) → opposite m n ≡ opposite n m
+opposite_turned m n = grind (arith, ints)
+
+apart : (m n : ℤ) → opposite m n ≡ true → m -ℤ n ≢ pos 0
+apart m n e z = grind (arith, ints)
+
+-- ---- what a cut point tells
+
+pub told_off : (s : Plane) (p q : Point) (found : Option Point) (off : Bool) → found ≡ cut_point s p q → is_some found ≡ not off → off ≡ not (cuts_lattice s p q)
+told_off s p q found off is e = back off (cuts_lattice s p q) (sym e ∙ ap is_some is ∙ some_where (cuts_lattice s p q)) where
+  some_where : (b : Bool) → is_some (cond b (Some (cut_between s p q)) None) ≡ b
+  some_where true = refl
+  some_where false = refl
+
+  back : (a b : Bool) → not a ≡ b → a ≡ not b
+  back true b e = ap not e
+  back false b e = ap not e
+
+pub told_point : (s : Plane) (p q r : Point) → Some r ≡ cut_point s p q → r ≡ cut_between s p q
+told_point s p q r e = elim (cuts_lattice s p q) as (λ b. Some r ≡ cond b (Some (cut_between s p q)) None → r ≡ cut_between s p q) [
+  | true ↦ λ f. same r (cut_between s p q) f
+  | false ↦ λ f. absurd (true≢false (ap is_some f))
+] e where
+  same : (x y : Point) → Some x ≡ Some y → x ≡ y
+  same x y f = cc
+
+pub told_none : (s : Plane) (p q : Point) → None ≡ cut_point s p q → cuts_lattice s p q ≡ false
+told_none s p q e = elim (cuts_lattice s p q) as (λ b. None ≡ cond b (Some (cut_between s p q)) None → b ≡ false) [
+  | true ↦ λ f. absurd (true≢false (sym (ap is_some f)))
+  | false ↦ λ f. refl
+] e
+
+-- ---- the same from either end
+
+nothing_divided : (n : ℕ) → 0 / suc n ≡ 0
+nothing_divided n = let l : 0 / suc n ≤ 0 = div-le_of_le-mul (suc n) (omega arith) in omega arith
+
+turned_quotient : (m w : ℤ) → w ≢ pos 0 → int_div (neg_ℤ m) (neg_ℤ w) ≡ int_div m w
+turned_quotient m (pos zero) ne = absurd (ne refl)
+turned_quotient (pos zero) (pos (suc b)) ne = ap (λ k. neg_ℤ (pos k)) (nothing_divided b) ∙ sym (ap pos (nothing_divided b))
+turned_quotient (pos (suc a)) (pos (suc b)) ne = refl
+turned_quotient (negsuc a) (pos (suc b)) ne = refl
+turned_quotient (pos zero) (negsuc b) ne = ap pos (nothing_divided b) ∙ sym (ap (λ k. neg_ℤ (pos k)) (nothing_divided b))
+turned_quotient (pos (suc a)) (negsuc b) ne = refl
+turned_quotient (negsuc a) (negsuc b) ne = refl
+
+turned_difference : (a b : ℤ) → b -ℤ a ≡ neg_ℤ (a -ℤ b)
+turned_difference a b = omega (arith, ints)
+
+back_quotient : (p q m n : ℤ) → m -ℤ n ≢ pos 0 → int_div (p *ℤ n -ℤ q *ℤ m) (n -ℤ m) ≡ int_div (q *ℤ m -ℤ p *ℤ n) (m -ℤ n)
+back_quotient p q m n ne = (λ i. int_div (turned_difference (q *ℤ m) (p *ℤ n) i) (turned_difference m n i)) ∙ turned_quotient (q *ℤ m -ℤ p *ℤ n) (m -ℤ n) ne
+
+pub cut_back : (s : Plane) (p q : Point) → are_opposite s p q ≡ true → cut_between s q p ≡ cut_between s p q
+cut_back s p q o = let ne : height s p -ℤ height s q ≢ pos 0 = apart (height s p) (height s q) o in λ i. record {
+  x = back_quotient p.x q.x (height s p) (height s q) ne i;
+  y = back_quotient p.y q.y (height s p) (height s q) ne i;
+  z = back_quotient p.z q.z (height s p) (height s q) ne i;
+}
