@@ -1,6 +1,6 @@
 -- Faces whose loops are rewritten: where what stands in the place of a half-edge starts and ends as that did, they keep their normals,
 -- and what they add to the six volumes.
-use Rattle.std.proofs.Common.{◌≡◌, ◌≢◌, ℕ, true, not, nat_eq, ◌&&◌, List, [], ◌∷◌, Option, Some, None, is_some, unwrap_or, refl, sym, ap, ◌∙◌, arith, true≢false, ◌⊎◌, inl, inr}
+use Rattle.std.proofs.Common.{◌≡◌, ◌≢◌, ℕ, Bool, true, not, nat_eq, ◌&&◌, List, [], ◌∷◌, Option, Some, None, is_some, unwrap_or, refl, sym, ap, ◌∙◌, arith, true≢false, ◌⊎◌, inl, inr}
 use Rattle.std.specs.Prelude.{map}
 use Rattle.lattice.specs.Vectors.{moved, dot}
 use Rattle.cyclic_list.specs.Items.{count, IsIn, head_or}
