@@ -96,7 +96,7 @@ back_area M N k (h ∷ hs) e = let q = e 0 (omega arith) in λ i. moved (cross (
       let n : k + 1 + suc j ≡ k + suc (suc j) = omega arith in
       (ap (λ x. start N (minus x)) n ∙ r.0, ap (λ x. finish N (minus x)) n ∙ r.1)
 
-area_kept : (M N : Model) (hs : List ℕ) → ((h : ℕ) → IsIn h hs → (start N h ≡ start M h) × (finish N h ≡ finish M h)) → area N hs ≡ area M hs
+pub area_kept : (M N : Model) (hs : List ℕ) → ((h : ℕ) → IsIn h hs → (start N h ≡ start M h) × (finish N h ≡ finish M h)) → area N hs ≡ area M hs
 area_kept M N [] e = refl
 area_kept M N (h ∷ hs) e = let q = e h (first_in h hs) in λ i. moved (cross (q.0 i) (q.1 i)) (area_kept M N hs (λ x j. e x (rest_in x h hs j)) i)
 
@@ -105,7 +105,7 @@ area_kept M N (h ∷ hs) e = let q = e h (first_in h hs) in λ i. moved (cross (
 cross_negated : (n a : Point) → cross n a ≡ origin → cross n (negated a) ≡ origin
 cross_negated n a e = sym (none_moved (cross n (negated a))) ∙ ap (λ v. moved v (cross n (negated a))) (sym e) ∙ sym (cross_moved n a (negated a)) ∙ ap (cross n) (none_left a) ∙ cross_nothing n
 
-only_loop : (M : Model) (k : ℕ) (cs : List ℕ) → rings_of M k ≡ [] → content M (outer M k) ≡ cycle cs → normal M k ≡ area M cs
+pub only_loop : (M : Model) (k : ℕ) (cs : List ℕ) → rings_of M k ≡ [] → content M (outer M k) ≡ cycle cs → normal M k ≡ area M cs
 unfolding normal boundary loops_of
 only_loop M k cs alone is = ap (λ rs. area M (items_in M (outer M k ∷ rs))) alone ∙ ap (λ c. area M (items_of c ++ [])) is ∙ area-append M cs [] ∙ moved_nothing (area M cs)
 

@@ -2,3 +2,4 @@ pub mod Starts
 pub mod Kept
 pub mod Caps
 pub mod Opened
+pub mod Parted

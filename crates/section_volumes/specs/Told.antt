@@ -3,7 +3,7 @@ use Rattle.std.specs.Prelude.{◌≡◌, ◌≢◌, ℕ, true, List, []}
 use Rattle.lattice.specs.declared.Plane.{Plane}
 use Rattle.lattice.specs.Vectors.{origin, dot, cross, direction, is_on}
 use Rattle.cyclic_list.specs.Items.{IsIn}
-use Rattle.boundary_model.specs.Model.{Model, cycle, items_of, content, outer, solid_of}
+use Rattle.boundary_model.specs.Model.{Model, cycle, items_of, content, face_of, outer, solid_of}
 use Rattle.boundary_model.specs.Sound.{Has}
 use Rattle.shapes.specs.Faces.{start}
 use Rattle.solid_measure.specs.Measure.{normal, anchor}
@@ -23,3 +23,7 @@ pub record LiesAlong (M : Model) (p : Plane) (f : ℕ) : Type 0 where
   pub outer_is : content M (outer M f) ≡ cycle items
   pub on_plane : (h : ℕ) → IsIn h items → is_on p (start M h) ≡ true
   pub across : cross (direction p) (normal M f) ≡ origin
+
+-- the outer loop of each face is there, and of that face
+abbrev pub OutersAreOwn : Model → Type 0
+OutersAreOwn M = (k : ℕ) → Has M.faces k → Has M.loops (outer M k) × (face_of M (outer M k) ≡ k)
