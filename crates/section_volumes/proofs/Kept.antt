@@ -121,7 +121,7 @@ module _ (M N : Model) (swap : ℕ → ℕ) (w : Rewritten M N swap) where
     unfolding normal boundary
     normal_is = ap (λ ls. area N (items_in N ls)) loops_are ∙ loops_area (loops_of M k) loop_there
 
-    outer_content : content N (outer N k) ≡ rewritten (map swap) (content M (outer M k))
+    pub outer_content : content N (outer N k) ≡ rewritten (map swap) (content M (outer M k))
     outer_content = ap (content N) outer_is ∙ content_is (outer M k) outer_there
 
     -- what stands in its outer loop starts where an item of that did

@@ -117,12 +117,12 @@ module _ (M : Model) (s t : ℕ) (fs : List ℕ) where
     shared_row k None e = refl
     shared_row k (Some row) e =
         (λ i. one_if (nat_eq (moved_solid (lists fs k) row t i) s) + one_if (nat_eq (moved_solid (lists fs k) row t i) t))
-        ∙ one_of_two (lists fs k) row.solid s t w.apart (λ l. sym (solid_row k row e) ∙ w.of_solid k l) (λ q. w.fresh k (ap is_some e) (solid_row k row e ∙ q))
+        ∙ one_of_two (lists fs k) row.solid s t w.apart (λ l. sym (solid_row k row e) ∙ w.of_solid k (ap is_some e) l) (λ q. w.fresh k (ap is_some e) (solid_row k row e ∙ q))
 
     other_row : (u : ℕ) → u ≢ s → u ≢ t → (k : ℕ) (o : Option FaceRow) → table.get M.faces k ≡ o → passed (of u) k (option_map (go k) o) ≡ passed (of u) k o
     other_row u not_s not_t k None e = refl
     other_row u not_s not_t k (Some row) e = ap (λ v. one_if (nat_eq v u)) (moved_solid (lists fs k) row t)
-        ∙ of_another (lists fs k) row.solid s t u not_s not_t (λ l. sym (solid_row k row e) ∙ w.of_solid k l)
+        ∙ of_another (lists fs k) row.solid s t u not_s not_t (λ l. sym (solid_row k row e) ∙ w.of_solid k (ap is_some e) l)
 
     both_faces : SameItems (faces_of M s) (faces_of N s ++ faces_of N t)
     both_faces k = omega (

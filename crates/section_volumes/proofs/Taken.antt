@@ -128,11 +128,15 @@ module _ (M : Model) (p : Plane) (f g : ℕ) (w : CanTake M p f g) where
   pub loop_there : (l : ℕ) → table.has N.loops l ≡ table.has M.loops l
   loop_there l = ap is_some (row_is l) ∙ there_in l (table.get M.loops l)
 
+  either_face : (b : Bool) (row : LoopRow) → (cond b (record row { face = f }) row).face ≡ cond b f row.face
+  either_face true row = refl
+  either_face false row = refl
+
   pub face_else : (l : ℕ) → Has M.loops l → l ≢ outer M g → face_of N l ≡ face_of M l
-  face_else l there ne = face_row N l _ (row_is l ∙ ap (option_map (loop_to_face (outer M g) f l)) (loop_row M l there)) ∙ ap (λ b. (cond b (record { face = f; content = content M l }) (record { face = face_of M l; content = content M l })).face) (differs l (outer M g) ne)
+  face_else l there ne = face_row N l _ (row_is l ∙ ap (option_map (loop_to_face (outer M g) f l)) (loop_row M l there)) ∙ either_face (nat_eq l (outer M g)) (record { face = face_of M l; content = content M l }) ∙ ap (λ b. cond b f (face_of M l)) (differs l (outer M g) ne)
 
   pub face_taken : (l : ℕ) → Has M.loops l → l ≡ outer M g → face_of N l ≡ f
-  face_taken l there e = face_row N l _ (row_is l ∙ ap (option_map (loop_to_face (outer M g) f l)) (loop_row M l there)) ∙ ap (λ b. (cond b (record { face = f; content = content M l }) (record { face = face_of M l; content = content M l })).face) (equals l (outer M g) e)
+  face_taken l there e = face_row N l _ (row_is l ∙ ap (option_map (loop_to_face (outer M g) f l)) (loop_row M l there)) ∙ either_face (nat_eq l (outer M g)) (record { face = face_of M l; content = content M l }) ∙ ap (λ b. cond b f (face_of M l)) (equals l (outer M g) e)
 
   tail_same : (h : ℕ) → tail N h ≡ tail M h
   unfolding kfmrh tail
