@@ -6,3 +6,4 @@ pub mod Parted
 pub mod Taken
 pub mod Closed
 pub mod InTurn
+pub mod Split

@@ -1,15 +1,19 @@
 -- What the six volumes of solids are once a solid is opened along cycles of its section that lie on a plane.
-use Rattle.std.specs.Prelude.{◌≡◌, ◌≢◌, ℕ, ◌+ℤ◌, true, false, List, map}
+use Rattle.std.specs.Prelude.{◌≡◌, ◌≢◌, ℕ, ◌+ℤ◌, true, false, List, [], map, None}
 use Rattle.lattice.specs.declared.Plane.{Plane}
 use Rattle.lattice.specs.Vectors.{origin, same_point, direction, is_on}
 use Rattle.cyclic_list.specs.Items.{IsIn}
+use Rattle.boundary_model.specs.Table as table
 use Rattle.boundary_model.specs.Model.{Model, tail, solid_of}
 use Rattle.boundary_model.specs.Sound.{Has}
-use Rattle.euler_operators.specs.Conditions.{lists}
+use Rattle.euler_operators.specs.Conditions.{lists, strictly_rises}
 use Rattle.euler_operators.specs.Effect.{part}
 use Rattle.shapes.specs.Faces.{start}
 use Rattle.shapes.specs.Fresh.{Taken}
 use Rattle.solid_measure.specs.Measure.{is_plane_of, six_volume}
+use Rattle.split_shapes.specs.Drawing.{Drawing}
+use Rattle.split_shapes.specs.Section.{below_halves, section_cycles, has_stray_hole}
+use Rattle.split_shapes.specs.Split.{split_drawn}
 use Rattle.split_shapes.specs.Opening.{Caps, Opening, opened_along, all_opened, holes_closed}
 use Rattle.strip_laws.specs.Opened.{CanBeOpened}
 use Rattle.opened_sections.specs.InTurn.{halves_in, CanBeOpenedInTurn}
@@ -54,3 +58,23 @@ OpeningsKeepVolumes = (above : List ℕ) (s : ℕ) (p : Plane) (o : Opening) (cs
 abbrev pub CapsLieAlong : Type 0
 CapsLieAlong = (above : List ℕ) (s : ℕ) (p : Plane) (o : Opening) (cs : List (List ℕ)) → CanBeOpenedInTurn above s o cs → HasCaps above s o → AllLieAlong o.model p o.caps → LieOn o.model p cs →
     AllLieAlong (all_opened p above s o cs).model p (all_opened p above s o cs).caps
+
+-- what is asked of a drawn model d that is split: solid s can be opened along the cycles of its section, all of which lie on the plane,
+-- and no hole of it is stray. t is the number of no solid
+pub record CanBeSplit (d : Drawing) (above : List ℕ) (s : ℕ) (p : Plane) (t : ℕ) : Type 0 where
+  pub opens : CanBeOpenedInTurn above s (record { model = d.model; taken = d.taken; caps = [] }) (section_cycles d.model (below_halves d.model above s))
+  pub above_rise : strictly_rises above ≡ true
+  pub alike : AllTellAlike d.model s
+  pub lie_on : LieOn d.model p (section_cycles d.model (below_halves d.model above s))
+  pub no_stray : has_stray_hole d.model p (section_cycles d.model (below_halves d.model above s)) ≡ false
+  pub apart : s ≢ t
+  pub fresh : table.get d.model.solids t ≡ None
+
+-- the two parts of a split solid share its six volumes
+abbrev pub SplitSharesVolumes : Type 0
+SplitSharesVolumes = (d : Drawing) (above : List ℕ) (s : ℕ) (p : Plane) (t : ℕ) → CanBeSplit d above s p t →
+    six_volume d.model s ≡ six_volume (split_drawn d above s p t) s +ℤ six_volume (split_drawn d above s p t) t
+
+-- and every other solid keeps its own
+abbrev pub SplitKeepsOthers : Type 0
+SplitKeepsOthers = (d : Drawing) (above : List ℕ) (s : ℕ) (p : Plane) (t u : ℕ) → CanBeSplit d above s p t → u ≢ s → u ≢ t → six_volume (split_drawn d above s p t) u ≡ six_volume d.model u
