@@ -29,8 +29,7 @@ use Rattle.opened_sections.proofs.CyclesStay.{there_in}
 use Rattle.opened_sections.proofs.OpenedRows.{faces_are}
 use Rattle.opened_sections.proofs.InTurn.{above_there, others_on}
 use Rattle.opened_sections.proofs.Capping.{caps_stay}
-use Rattle.section_volumes.specs.Told.{TellsAlike, AllTellAlike, LiesAlong}
-use Rattle.section_volumes.specs.Closing.{AllLieAlong}
+use Rattle.section_volumes.specs.Told.{TellsAlike, AllTellAlike, LiesAlong, AllLieAlong}
 use Rattle.section_volumes.specs.Laws.{LieOn}
 use Rattle.section_volumes.proofs.Starts.{swap, start_old}
 use Rattle.section_volumes.proofs.Kept as kept

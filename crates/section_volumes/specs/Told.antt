@@ -1,5 +1,5 @@
 -- What is asked of the faces of a solid that is opened, so that its six volumes stay.
-use Rattle.std.specs.Prelude.{◌≡◌, ◌≢◌, ℕ, true, List, []}
+use Rattle.std.specs.Prelude.{◌≡◌, ◌≢◌, ℕ, true, List, [], ◌∷◌}
 use Rattle.lattice.specs.declared.Plane.{Plane}
 use Rattle.lattice.specs.Vectors.{origin, dot, cross, direction, is_on}
 use Rattle.cyclic_list.specs.Items.{IsIn}
@@ -7,6 +7,7 @@ use Rattle.boundary_model.specs.Model.{Model, cycle, items_of, content, face_of,
 use Rattle.boundary_model.specs.Sound.{Has}
 use Rattle.shapes.specs.Faces.{start}
 use Rattle.solid_measure.specs.Measure.{normal, anchor}
+use Rattle.split_shapes.specs.Opening.{Caps}
 
 -- each corner of the face's outer loop has the same product along its normal, as those of a flat face have
 abbrev pub TellsAlike : Model → ℕ → Type 0
@@ -27,3 +28,8 @@ pub record LiesAlong (M : Model) (p : Plane) (f : ℕ) : Type 0 where
 -- the outer loop of each face is there, and of that face
 abbrev pub OutersAreOwn : Model → Type 0
 OutersAreOwn M = (k : ℕ) → Has M.faces k → Has M.loops (outer M k) × (face_of M (outer M k) ≡ k)
+
+-- the two caps of each cycle lie along the plane
+abbrev pub AllLieAlong : Model → Plane → List Caps → Type 0
+AllLieAlong M p [] = Unit {0}
+AllLieAlong M p (k ∷ ks) = LiesAlong M p k.lower × LiesAlong M p k.upper × AllLieAlong M p ks

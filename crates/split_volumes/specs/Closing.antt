@@ -1,5 +1,5 @@
 -- When the holes among the caps of a section can be closed.
-use Rattle.std.specs.Prelude.{◌≡◌, ◌≢◌, ◌⊎◌, ℕ, true, false, not, List, [], ◌∷◌, filter}
+use Rattle.std.specs.Prelude.{◌≡◌, ◌≢◌, ◌⊎◌, ℕ, true, false, not, List, [], filter}
 use Rattle.std.specs.List.{list_any}
 use Rattle.lattice.specs.declared.Plane.{Plane}
 use Rattle.lattice.specs.Vectors.{origin, direction}
@@ -7,12 +7,7 @@ use Rattle.cyclic_list.specs.Items.{IsApart}
 use Rattle.boundary_model.specs.Model.{Model}
 use Rattle.split_shapes.specs.Opening.{Caps}
 use Rattle.opened_sections.specs.Capped.{ArePlain, cap_faces}
-use Rattle.section_volumes.specs.Told.{LiesAlong, OutersAreOwn}
-
--- the two caps of each cycle lie along the plane
-abbrev pub AllLieAlong : Model → Plane → List Caps → Type 0
-AllLieAlong M p [] = Unit {0}
-AllLieAlong M p (k ∷ ks) = LiesAlong M p k.lower × LiesAlong M p k.upper × AllLieAlong M p ks
+use Rattle.section_volumes.specs.Told.{OutersAreOwn, AllLieAlong}
 
 -- the caps are different faces of solid s without rings, along the plane, and where one is a hole's, another one is an outer cycle's
 pub record CanClose (M : Model) (s : ℕ) (p : Plane) (ks : List Caps) : Type 0 where

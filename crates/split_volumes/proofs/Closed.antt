@@ -16,10 +16,10 @@ use Rattle.euler_operators.specs.Effect.{kfmrh}
 use Rattle.solid_measure.specs.Measure.{six_volume}
 use Rattle.split_shapes.specs.Opening.{Caps, no_caps, outer_caps, hole_closed, holes_closed}
 use Rattle.opened_sections.specs.Capped.{IsPlain, ArePlain, cap_faces}
-use Rattle.section_volumes.specs.Told.{LiesAlong, OutersAreOwn}
-use Rattle.section_volumes.specs.Closing.{AllLieAlong, CanClose}
-use Rattle.section_volumes.proofs.Taken as taken
-use Rattle.section_volumes.proofs.Taken.{CanTake}
+use Rattle.section_volumes.specs.Told.{LiesAlong, OutersAreOwn, AllLieAlong}
+use Rattle.split_volumes.specs.Closing.{CanClose}
+use Rattle.split_volumes.proofs.Taken as taken
+use Rattle.split_volumes.proofs.Taken.{CanTake}
 
 -- a cap of solid s along the plane
 pub record IsCap (M : Model) (p : Plane) (s f : ℕ) : Type 0 where

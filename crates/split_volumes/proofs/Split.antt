@@ -30,12 +30,12 @@ use Rattle.opened_sections.specs.Laws.{OpeningsAreSound}
 use Rattle.opened_sections.proofs.CyclesStay.{there_in}
 use Rattle.opened_sections.proofs.InTurn as in_turn
 use Rattle.opened_sections.proofs.Capping.{caps_rise}
-use Rattle.section_volumes.specs.Closing.{CanClose}
-use Rattle.section_volumes.specs.Laws.{CanBeParted, CanBeSplit}
+use Rattle.split_volumes.specs.Closing.{CanClose}
+use Rattle.split_volumes.specs.Laws.{CanBeParted, CanBeSplit}
 use Rattle.section_volumes.proofs.Starts.{start_old, finish_old}
 use Rattle.section_volumes.proofs.Caps.{area_kept}
-use Rattle.section_volumes.proofs.Parted.{part_shares, part_keeps}
-use Rattle.section_volumes.proofs.Closed.{closing, all_taken, closed_by, closing_keeps}
+use Rattle.split_volumes.proofs.Parted.{part_shares, part_keeps}
+use Rattle.split_volumes.proofs.Closed.{closing, all_taken, closed_by, closing_keeps}
 use Rattle.section_volumes.proofs.InTurn.{first_can, next_can, some_way, openings_keep, openings_lie}
 
 pub openings_sound : OpeningsAreSound
