@@ -169,11 +169,11 @@ module _ (M : Model) (above : List ℕ) (s : ℕ) (c : Taken) (bs : List ℕ) (w
 
   -- ---- the caps have one loop each
 
-  outer_lower : outer N (c.face + 1) ≡ c.loop + 1
+  pub outer_lower : outer N (c.face + 1) ≡ c.loop + 1
   unfolding outer
   outer_lower = ap (λ o. (unwrap_or o no_face).outer) lower_row
 
-  outer_upper : outer N (c.face + length bs + 1) ≡ c.loop + length bs + 1
+  pub outer_upper : outer N (c.face + length bs + 1) ≡ c.loop + length bs + 1
   unfolding outer
   outer_upper = ap (λ o. (unwrap_or o no_face).outer) (upper_row M above s c bs)
 

@@ -126,7 +126,7 @@ module _ (above : List ℕ) (s : ℕ) (p : Plane) (way : same_point (direction p
   abbrev pub StartsOn : Model → List (List ℕ) → Type 0
   StartsOn M cs = (b : ℕ) → IsIn b (halves_in cs) → is_on p (start M b) ≡ true
 
-  first_on : (o : Opening) (bs : List ℕ) (cs : List (List ℕ)) → StartsOn o.model (bs ∷ cs) → is_plane_of o.model p (map (tail o.model) bs) ≡ true
+  pub first_on : (o : Opening) (bs : List ℕ) (cs : List (List ℕ)) → StartsOn o.model (bs ∷ cs) → is_plane_of o.model p (map (tail o.model) bs) ≡ true
   first_on o bs cs on = λ i. not (way i) && all_on o.model p bs (λ h j. on h (omega (arith, j, count-append h bs (halves_in cs)))) i
 
   module _ (o : Opening) (bs : List ℕ) (cs : List (List ℕ)) (w : CanBeOpenedInTurn above s o (bs ∷ cs)) where

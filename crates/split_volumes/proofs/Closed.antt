@@ -61,9 +61,11 @@ module _ (M : Model) (p : Plane) (f g s : ℕ) (w : CanTake M p f g) where
     all_still qs clear.3 can.3,
   )
 
-pub all_keep : (M : Model) (p : Plane) (s : ℕ) (qs : List (ℕ × ℕ)) → OutersAreOwn M → direction p ≢ origin → AllCanBeTaken M p s qs → AllClear qs → (u : ℕ) → six_volume (all_taken M qs) u ≡ six_volume M u
-all_keep M p s [] outers way can clear u = refl
-all_keep M p s (q ∷ qs) outers way can clear u =
+-- what holds, and still does where one cap is taken, holds once all are
+pub all_carry : (M : Model) (p : Plane) (s : ℕ) (qs : List (ℕ × ℕ)) (holds : Model → Type 0) → ((A : Model) (f g : ℕ) → CanTake A p f g → holds A → holds (kfmrh A f g)) →
+    OutersAreOwn M → direction p ≢ origin → AllCanBeTaken M p s qs → AllClear qs → holds M → holds (all_taken M qs)
+all_carry M p s [] holds step outers way can clear now = now
+all_carry M p s (q ∷ qs) holds step outers way can clear now =
     let w : CanTake M p q.0 q.1 = record {
       outers = outers;
       f_there = can.0.there;
@@ -75,7 +77,7 @@ all_keep M p s (q ∷ qs) outers way can clear u =
       g_along = can.1.along;
       some_way = way;
     } in
-    all_keep (kfmrh M q.0 q.1) p s qs (taken.outers_still M p q.0 q.1 w) way (all_still M p q.0 q.1 s w qs clear.1 can.3) clear.2 u ∙ taken.taken_keeps M p q.0 q.1 w u
+    all_carry (kfmrh M q.0 q.1) p s qs holds step (taken.outers_still M p q.0 q.1 w) way (all_still M p q.0 q.1 s w qs clear.1 can.3) clear.2 (step M q.0 q.1 w now)
 
 -- ---- the caps of holes
 
@@ -196,14 +198,18 @@ all_less x (k ∷ ks) e = go k.hole refl (λ f. all_less x ks f) where
   go true q later = omega (arith, ap (told x k ks) q, later (sym (ap (λ b. not b || list_any (λ k. not k.hole) ks) q) ∙ e))
   go false q later = omega (arith, ap (told x k ks) q, holes_less x ks)
 
-pub closing_keeps : (M : Model) (s : ℕ) (p : Plane) (ks : List Caps) (u : ℕ) → CanClose M s p ks → six_volume (holes_closed M ks) u ≡ six_volume M u
-closing_keeps M s p ks u w = elim w.closable [
-  | inr none ↦ ap (λ hs. six_volume (fold (hole_closed (outer_caps ks)) M hs) u) none
+pub closing_carries : (M : Model) (s : ℕ) (p : Plane) (ks : List Caps) (holds : Model → Type 0) → ((A : Model) (f g : ℕ) → CanTake A p f g → holds A → holds (kfmrh A f g)) →
+    CanClose M s p ks → holds M → holds (holes_closed M ks)
+closing_carries M s p ks holds step w now = elim w.closable [
+  | inr none ↦ subst (λ hs. holds (fold (hole_closed (outer_caps ks)) M hs)) (sym none) now
   | inl some ↦
       let o : Caps = outer_caps ks in
       let hs : List Caps = filter (λ k. k.hole) ks in
       let c = outer_among M s p ks some w.plain w.along in
-      ap (λ N. six_volume N u) (closed_by M o hs)
-      ∙ all_keep M p s (closing o hs) w.outers w.some_way (taken_all M p s o hs c.0 c.1 (holes_plain M s p ks w.plain) (holes_along M s p ks w.along))
-      (all_clear o hs (λ x. omega (arith, all_less x ks some, w.apart x))) u
+      subst holds (sym (closed_by M o hs))
+      (all_carry M p s (closing o hs) holds step w.outers w.some_way (taken_all M p s o hs c.0 c.1 (holes_plain M s p ks w.plain) (holes_along M s p ks w.along))
+      (all_clear o hs (λ x. omega (arith, all_less x ks some, w.apart x))) now)
 ]
+
+pub closing_keeps : (M : Model) (s : ℕ) (p : Plane) (ks : List Caps) (u : ℕ) → CanClose M s p ks → six_volume (holes_closed M ks) u ≡ six_volume M u
+closing_keeps M s p ks u w = closing_carries M s p ks (λ A. six_volume A u ≡ six_volume M u) (λ A f g c e. taken.taken_keeps A p f g c u ∙ e) w refl

@@ -39,7 +39,7 @@ module _ (M : Model) (s t : ℕ) (fs : List ℕ) where
   abbrev N : Model
   N = part M s t fs
 
-  abbrev go : ℕ → FaceRow → FaceRow
+  abbrev pub go : ℕ → FaceRow → FaceRow
   go = faces_to_solid (λ f _. lists fs f) t
 
   pub row_is : (k : ℕ) → table.get N.faces k ≡ option_map (go k) (table.get M.faces k)

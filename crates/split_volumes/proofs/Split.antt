@@ -155,22 +155,22 @@ module _ (d : Drawing) (above : List ℕ) (s : ℕ) (p : Plane) (t : ℕ) (w : C
   abbrev cycles : List (List ℕ)
   cycles = section_cycles d.model (below_halves d.model above s)
 
-  abbrev o : Opening
+  abbrev pub o : Opening
   o = opened_at d above s p
 
-  abbrev C : Model
+  abbrev pub C : Model
   C = holes_closed (opened_at d above s p).model (opened_at d above s p).caps
 
   begun_caps : HasCaps above s begun
   begun_caps = record { plain = tt; all_rise = ap strictly_rises (append-nil above) ∙ w.above_rise; upper_rise = ap strictly_rises (append-nil above) ∙ w.above_rise }
 
-  ended : CanBeOpenedInTurn above s o []
+  pub ended : CanBeOpenedInTurn above s o []
   ended = in_turn.all_on openings_sound above s p begun cycles w.opens
 
   caps : HasCaps above s o
   caps = caps_rise openings_sound above s p begun cycles w.opens begun_caps
 
-  closes : CanClose o.model s p o.caps
+  pub closes : CanClose o.model s p o.caps
   closes = record {
     outers = ended.sound.outers_there;
     some_way = some_way p w.lie_on.some_way;
@@ -190,7 +190,7 @@ module _ (d : Drawing) (above : List ℕ) (s : ℕ) (p : Plane) (t : ℕ) (w : C
   was_there : (f : ℕ) → Has C.faces f → Has o.model.faces f
   was_there f there = ap is_some (sym (closed_row o.model o.caps f there)) ∙ there
 
-  parts : CanBeParted C s t (upper_faces above o.caps)
+  pub parts : CanBeParted C s t (upper_faces above o.caps)
   parts = record {
     apart = w.apart;
     fresh = λ f there e. true≢false (sym (ended.sound.faces_of_solids f (was_there f there)) ∙ ap is_some (ap (table.get o.model.solids) (sym (solid_there f there) ∙ e) ∙ ap (λ q. table.get q t) (solids_same p above s begun cycles) ∙ w.fresh));

@@ -103,7 +103,7 @@ module _ (M : Model) (p : Plane) (f g : ℕ) (w : CanTake M p f g) where
   unfolding kfmrh
   face_stays k ne = get-remove M.faces g k ∙ ap (λ b. cond b None (table.get M.faces k)) (differs k g ne)
 
-  face_goes : table.get N.faces g ≡ None
+  pub face_goes : table.get N.faces g ≡ None
   unfolding kfmrh
   face_goes = get-remove M.faces g g ∙ ap (λ b. cond b None (table.get M.faces g)) (equals g g refl)
 
