@@ -2,11 +2,12 @@
 //! every drawn model whose faces lie on one side each.
 #![tactic(auto)]
 
-ghost use Rattle.part_sides.specs.Laws.{OpeningsKeepSides, PartsLieOnTheirSides};
+ghost use Rattle.part_sides.specs.Laws.{FacesAreSided, OpeningsKeepSides, PartsLieOnTheirSides};
 
-/// Where the faces above lie on or above the plane and the others of a solid on or below it, so do the two parts of the solid: copies
-/// lie where their vertices do, and the corners of the caps lie on the plane.
+/// Where no face of a solid straddles the plane, its faces above lie on or above it and the others on or below it. So do the two parts
+/// of the solid then: copies lie where their vertices do, and the corners of the caps lie on the plane.
 pub fn parts_lie_on_their_sides()
+    ensures drawn { FacesAreSided }
     ensures opened { OpeningsKeepSides }
     ensures parts { PartsLieOnTheirSides }
 {}
