@@ -1,13 +1,12 @@
 -- The sides on which the faces of a drawn solid lie.
-use Rattle.std.proofs.Common.{◌≡◌, ℕ, Bool, true, false, not, nat_eq, ◌&&◌, ◌||◌, List, [], ◌∷◌, ◌++◌, is_some, refl, sym, ap, subst, ◌∙◌, arith, true≢false, inl, inr}
-use Rattle.std.specs.Prelude.{map, filter, pos, int_lt}
+use Rattle.std.proofs.Common.{◌≡◌, ℕ, Bool, true, false, not, nat_eq, ◌&&◌, ◌||◌, List, [], ◌∷◌, refl, sym, ap, subst, ◌∙◌, arith, true≢false, inl, inr}
+use Rattle.std.specs.Prelude.{pos, int_lt}
 use Rattle.std.specs.List.{list_any}
 use Rattle.std.proofs.lemmas.Bool.Decides.{nat_tests, eqb_tells}
 use Rattle.lattice.specs.declared.Plane.{Plane}
 use Rattle.lattice.specs.Vectors.{dot, direction, is_above, is_below}
 use Rattle.cyclic_list.specs.Items.{count, IsIn}
 use Rattle.cyclic_list.proofs.Lists.{count-append, tick_same, tick_other}
-use Rattle.boundary_model.specs.Table as table
 use Rattle.boundary_model.specs.Model.{Model, LoopContent, lone, cycle, items_of, tail, content, face_of, outer, solid_of, point_of, rings_of, faces_of}
 use Rattle.boundary_model.specs.Sound.{Sound, Has}
 use Rattle.euler_operators.specs.Conditions.{lists}
@@ -21,7 +20,7 @@ use Rattle.split_shapes.specs.Sides.{reaches_above, reaches_below, straddles, fa
 use Rattle.strip_laws.proofs.Cycle.{listed_in}
 use Rattle.strip_laws.proofs.Places.{IsIn-map}
 use Rattle.section_laws.proofs.Meets.{count_filter, filter_passes}
-use Rattle.part_sides.specs.Sided.{IsOnSide, IsOfSolid, AreSided}
+use Rattle.part_sides.specs.Sided.{IsOnSide, AreSided}
 
 none_such : (p : ℕ → Bool) (vs : List ℕ) → list_any p vs ≡ false → (v : ℕ) → IsIn v vs → p v ≡ false
 none_such p [] e v i = absurd (omega (arith, i))

@@ -7,10 +7,10 @@ use Rattle.std.proofs.lemmas.Bool.Decides.{eqb_tells}
 use Rattle.std.proofs.lemmas.List.{append-nil}
 use Rattle.lattice.specs.declared.Point.{Point}
 use Rattle.lattice.specs.declared.Plane.{Plane}
-use Rattle.lattice.specs.Vectors.{origin, same_point, direction, height, is_on, is_above, is_below}
+use Rattle.lattice.specs.Vectors.{height, is_on, is_above, is_below}
 use Rattle.cyclic_list.specs.Items.{count, IsIn}
 use Rattle.boundary_model.specs.Table as table
-use Rattle.boundary_model.specs.Model.{Model, FaceRow, LoopRow, no_face, items_of, tail, content, face_of, outer, solid_of}
+use Rattle.boundary_model.specs.Model.{Model, FaceRow, no_face, items_of, tail, content, face_of, outer, solid_of}
 use Rattle.boundary_model.specs.Sound.{Has}
 use Rattle.euler_operators.specs.Conditions.{lists}
 use Rattle.euler_operators.specs.Effect.{kfmrh, part}
@@ -21,7 +21,7 @@ use Rattle.shapes.specs.Fresh.{Taken}
 use Rattle.solid_measure.specs.Measure.{is_plane_of}
 use Rattle.split_shapes.specs.Drawing.{Drawing}
 use Rattle.split_shapes.specs.Section.{is_hole, below_halves, section_cycles}
-use Rattle.split_shapes.specs.Opening.{Caps, Opening, opened_along, next_opened, all_opened, holes_closed}
+use Rattle.split_shapes.specs.Opening.{Caps, Opening, opened_along, next_opened, all_opened}
 use Rattle.split_shapes.specs.Split.{split_drawn}
 use Rattle.strip_laws.specs.Opened.{CanBeOpened}
 use Rattle.opened_sections.specs.InTurn.{upper_faces, CanBeOpenedInTurn}

@@ -1,5 +1,5 @@
 -- The two caps that close a solid once it is opened along a cycle on a plane: they lie along the plane, and have opposite normals.
-use Rattle.std.proofs.Common.{◌≡◌, ◌≢◌, ℕ, zero, suc, ◌+◌, ◌≤◌, ◌<◌, Bool, true, false, not, nat_eq, ◌&&◌, List, [], ◌∷◌, ◌++◌, length, Option, Some, None, is_some, unwrap_or, refl, sym, ap, ◌∙◌, arith, true≢false, ◌⊎◌, inl, inr}
+use Rattle.std.proofs.Common.{◌≡◌, ◌≢◌, ℕ, zero, suc, ◌+◌, ◌≤◌, ◌<◌, true, false, not, nat_eq, ◌&&◌, List, [], ◌∷◌, ◌++◌, length, Option, Some, None, is_some, unwrap_or, refl, sym, ap, ◌∙◌, arith, true≢false, ◌⊎◌, inl, inr}
 use Rattle.std.specs.Prelude.{map, reverse, get_or}
 use Rattle.std.specs.List.{list_all}
 use Rattle.std.specs.Option.{option_map}
@@ -15,8 +15,8 @@ use Rattle.cyclic_list.proofs.Rotations.{count-canonical, IsIn_head}
 use Rattle.boundary_model.specs.HalfEdge.{mate, plus, minus}
 use Rattle.boundary_model.specs.Table as table
 use Rattle.boundary_model.specs.Table.{get-map_rows}
-use Rattle.boundary_model.specs.Model.{Model, LoopRow, cycle, no_face, items_of, tail, content, face_of, outer, solid_of, point_of, rings_of}
-use Rattle.boundary_model.specs.Sound.{Has, HasHalf}
+use Rattle.boundary_model.specs.Model.{Model, LoopRow, cycle, no_face, items_of, tail, content, face_of, outer, point_of, rings_of}
+use Rattle.boundary_model.specs.Sound.{Has}
 use Rattle.boundary_model.proofs.Models.{content_row, face_row}
 use Rattle.boundary_model.proofs.Tables.{all_where_none}
 use Rattle.euler_laws_shared.proofs.Fans.{half_mate}

@@ -1,16 +1,15 @@
 -- The six volumes of a solid that is opened along all cycles of its section, one after the other.
-use Rattle.std.proofs.Common.{◌≡◌, ◌≢◌, ℕ, ◌+◌, ◌*◌, true, false, not, ◌&&◌, List, [], ◌∷◌, ◌++◌, length, is_some, refl, sym, ap, subst, ◌∙◌, arith, true≢false, length-append, ◌⊎◌, inl, inr}
+use Rattle.std.proofs.Common.{◌≡◌, ◌≢◌, ℕ, ◌+◌, true, false, not, ◌&&◌, List, [], ◌∷◌, ◌++◌, length, is_some, refl, sym, ap, subst, ◌∙◌, arith, true≢false, length-append, ◌⊎◌, inl, inr}
 use Rattle.std.specs.Prelude.{map}
 use Rattle.std.specs.List.{list_all}
-use Rattle.std.proofs.lemmas.Bool.Decides.{eqb_tells}
 use Rattle.lattice.specs.declared.Plane.{Plane}
-use Rattle.lattice.specs.Vectors.{origin, dot, cross, same_point, direction, is_on}
+use Rattle.lattice.specs.Vectors.{origin, cross, same_point, direction, is_on}
 use Rattle.cyclic_list.specs.Items.{count, IsIn}
 use Rattle.cyclic_list.specs.Rings.{canonical}
 use Rattle.cyclic_list.proofs.Lists.{count-append, tick_same}
 use Rattle.cyclic_list.proofs.Rotations.{count-canonical, IsIn_head}
 use Rattle.boundary_model.specs.Table as table
-use Rattle.boundary_model.specs.Model.{Model, cycle, no_face, items_of, tail, content, outer, solid_of, point_of}
+use Rattle.boundary_model.specs.Model.{Model, cycle, items_of, tail, content, outer, point_of}
 use Rattle.boundary_model.specs.Sound.{Sound, Has, HasHalf}
 use Rattle.euler_laws_shared.proofs.Loops.{some_row}
 use Rattle.fresh_laws.proofs.Rows.{get-put_cases}
@@ -24,7 +23,7 @@ use Rattle.split_shapes.specs.Opening.{Caps, Opening, opened_along, next_opened,
 use Rattle.strip_laws.specs.Opened.{CanBeOpened}
 use Rattle.opening_laws.proofs.Whole.{opened_sound}
 use Rattle.opened_sections.specs.InTurn.{halves_in, CanBeOpenedInTurn}
-use Rattle.opened_sections.specs.Capped.{IsPlain, ArePlain, HasCaps}
+use Rattle.opened_sections.specs.Capped.{ArePlain, HasCaps}
 use Rattle.opened_sections.proofs.CyclesStay.{there_in}
 use Rattle.opened_sections.proofs.OpenedRows.{faces_are}
 use Rattle.opened_sections.proofs.InTurn.{above_there, others_on}

@@ -1,6 +1,6 @@
 -- Faces whose loops are rewritten: where what stands in the place of a half-edge starts and ends as that did, they keep their normals,
 -- and what they add to the six volumes.
-use Rattle.std.proofs.Common.{◌≡◌, ◌≢◌, ℕ, Bool, true, not, nat_eq, ◌&&◌, List, [], ◌∷◌, Option, Some, None, is_some, unwrap_or, refl, sym, ap, ◌∙◌, arith, true≢false, ◌⊎◌, inl, inr}
+use Rattle.std.proofs.Common.{◌≡◌, ℕ, Bool, true, not, nat_eq, ◌&&◌, List, [], ◌∷◌, Option, Some, None, is_some, unwrap_or, refl, sym, ap, ◌∙◌, arith, true≢false, ◌⊎◌, inl, inr}
 use Rattle.std.specs.Prelude.{map}
 use Rattle.lattice.specs.Vectors.{moved, dot}
 use Rattle.cyclic_list.specs.Items.{count, IsIn, head_or}
@@ -20,7 +20,6 @@ use Rattle.shapes.specs.Rewriting.{rewritten, rewritten_row}
 use Rattle.solid_measure.specs.Measure.{area, normal, anchor, first_vertex}
 use Rattle.solid_measure.proofs.Areas.{area-append}
 use Rattle.solid_measure_laws.proofs.Sums.{area_same, area_renamed}
-use Rattle.strip_laws.proofs.Places.{IsIn-map}
 use Rattle.gluing_laws.proofs.Listed.{one_if, passed, same_search, volume_of}
 use Rattle.section_volumes.specs.Told.{TellsAlike}
 

@@ -1,5 +1,5 @@
 -- The six volumes of a solid that is opened along a cycle on a plane, and those of the other solids.
-use Rattle.std.proofs.Common.{◌≡◌, ◌≢◌, ℕ, ◌+◌, ℤ, pos, ◌+ℤ◌, neg_ℤ, Bool, true, not, nat_eq, List, [], ◌∷◌, length, Option, Some, None, is_some, refl, sym, ap, subst, ◌∙◌, arith, true≢false, ◌⊎◌, inl, inr}
+use Rattle.std.proofs.Common.{◌≡◌, ◌≢◌, ℕ, ◌+◌, ℤ, pos, ◌+ℤ◌, neg_ℤ, Bool, true, not, nat_eq, List, ◌∷◌, length, None, is_some, refl, sym, ap, subst, ◌∙◌, arith, true≢false, inl, inr}
 use Rattle.std.specs.Prelude.{map}
 use Rattle.std.proofs.lemmas.Bool.Decides.{eqb_tells}
 use Rattle.std.proofs.lemmas.Int.{ints}
@@ -10,7 +10,7 @@ use Rattle.cyclic_list.proofs.Lists.{tick_same, tick_other, IsIn_or_not}
 use Rattle.cyclic_list.proofs.Maps.{from_map}
 use Rattle.boundary_model.specs.HalfEdge.{mate, plus}
 use Rattle.boundary_model.specs.Table as table
-use Rattle.boundary_model.specs.Model.{Model, FaceRow, LoopRow, items_of, tail, content, face_of, loop_of, outer, solid_of, faces_of}
+use Rattle.boundary_model.specs.Model.{Model, FaceRow, items_of, tail, content, face_of, loop_of, outer, solid_of, faces_of}
 use Rattle.boundary_model.specs.Sound.{Has}
 use Rattle.boundary_model.proofs.Models.{in-holds}
 use Rattle.euler_operators.specs.Conditions.{lists}
@@ -19,8 +19,7 @@ use Rattle.euler_laws_shared.proofs.Listed.{listed_passes, listed_as}
 use Rattle.euler_laws_shared.proofs.Rows.{face_there}
 use Rattle.fresh_laws.proofs.Rows.{get-put_other}
 use Rattle.shapes.specs.Fresh.{Taken, numbers_after}
-use Rattle.solid_measure.specs.Measure.{area, anchor, normal, is_plane_of, volume_in, six_volume}
-use Rattle.solid_measure_laws.specs.Vectors.{negated}
+use Rattle.solid_measure.specs.Measure.{area, anchor, is_plane_of, volume_in, six_volume}
 use Rattle.solid_measure_laws.proofs.FlatFaces.{and_parts, told_alike}
 use Rattle.solid_measure_laws.proofs.Sums.{dot_back}
 use Rattle.split_shapes.specs.Opening.{opened_along}

@@ -1,5 +1,5 @@
 -- The holes of a section closed, one cap after the other.
-use Rattle.std.proofs.Common.{◌≡◌, ◌≢◌, ℕ, ◌+◌, ◌≤◌, Bool, true, false, cond, not, nat_eq, ◌&&◌, ◌||◌, is_some, List, [], ◌∷◌, refl, sym, ap, subst, ◌∙◌, arith, true≢false, ◌⊎◌, inl, inr}
+use Rattle.std.proofs.Common.{◌≡◌, ◌≢◌, ℕ, ◌≤◌, Bool, true, false, cond, not, nat_eq, ◌&&◌, ◌||◌, is_some, List, [], ◌∷◌, refl, sym, ap, subst, ◌∙◌, arith, true≢false, inl, inr}
 use Rattle.std.specs.Prelude.{fold, filter}
 use Rattle.std.specs.List.{list_any}
 use Rattle.std.proofs.lemmas.Bool.Decides.{nat_tests}
@@ -7,14 +7,13 @@ use Rattle.lattice.specs.declared.Plane.{Plane}
 use Rattle.lattice.specs.Vectors.{origin, direction}
 use Rattle.cyclic_list.specs.Items.{count, tick, IsIn, IsApart}
 use Rattle.cyclic_list.proofs.Lists.{tick_same}
-use Rattle.boundary_model.specs.Table as table
-use Rattle.boundary_model.specs.Model.{Model, LoopRow, solid_of, outer, rings_of}
+use Rattle.boundary_model.specs.Model.{Model, solid_of, outer, rings_of}
 use Rattle.boundary_model.specs.Sound.{Has}
 use Rattle.boundary_model.proofs.Models.{face_row}
 use Rattle.boundary_model.proofs.Tables.{all_where_none}
 use Rattle.euler_operators.specs.Effect.{kfmrh}
 use Rattle.solid_measure.specs.Measure.{six_volume}
-use Rattle.split_shapes.specs.Opening.{Caps, no_caps, outer_caps, hole_closed, holes_closed}
+use Rattle.split_shapes.specs.Opening.{Caps, outer_caps, hole_closed, holes_closed}
 use Rattle.opened_sections.specs.Capped.{IsPlain, ArePlain, cap_faces}
 use Rattle.section_volumes.specs.Told.{LiesAlong, OutersAreOwn, AllLieAlong}
 use Rattle.split_volumes.specs.Closing.{CanClose}

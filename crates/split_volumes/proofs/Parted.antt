@@ -1,5 +1,5 @@
 -- The six volumes of a solid some of whose faces go to a new solid.
-use Rattle.std.proofs.Common.{◌≡◌, ◌≢◌, ℕ, ◌+◌, ◌+ℤ◌, Bool, true, false, cond, not, nat_eq, ◌&&◌, List, [], ◌∷◌, ◌++◌, Option, Some, None, is_some, unwrap_or, refl, sym, ap, ◌∙◌, arith, inl, inr}
+use Rattle.std.proofs.Common.{◌≡◌, ◌≢◌, ℕ, ◌+◌, ◌+ℤ◌, Bool, true, false, cond, not, nat_eq, ◌&&◌, List, [], ◌∷◌, ◌++◌, Option, Some, None, is_some, unwrap_or, refl, sym, ap, ◌∙◌, arith}
 use Rattle.std.specs.Option.{option_map}
 use Rattle.lattice.specs.Vectors.{dot}
 use Rattle.cyclic_list.specs.Items.{SameItems, head_or}
@@ -8,7 +8,6 @@ use Rattle.boundary_model.specs.HalfEdge.{mate}
 use Rattle.boundary_model.specs.Table as table
 use Rattle.boundary_model.specs.Table.{get-map_rows}
 use Rattle.boundary_model.specs.Model.{Model, LoopContent, lone, cycle, FaceRow, no_face, items_of, tail, content, outer, solid_of, point_of, rings_of, faces_of}
-use Rattle.boundary_model.specs.Sound.{Has}
 use Rattle.euler_operators.specs.Conditions.{lists}
 use Rattle.euler_operators.specs.Effect.{part, faces_to_solid}
 use Rattle.euler_laws_shared.proofs.Goes.{equals, differs}

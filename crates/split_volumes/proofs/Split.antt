@@ -1,27 +1,27 @@
 -- The six volumes of the two parts of a split solid.
-use Rattle.std.proofs.Common.{◌≡◌, ◌≢◌, ℕ, suc, ◌+◌, ◌≤◌, ◌<◌, ◌+ℤ◌, Bool, true, false, cond, not, nat_eq, nat_lt, ◌&&◌, ◌||◌, List, [], ◌∷◌, ◌++◌, length, Option, Some, None, is_some, unwrap_or, refl, sym, ap, subst, ◌∙◌, arith, true≢false, ◌⊎◌, inl, inr}
-use Rattle.std.specs.Prelude.{map, filter, fold, pos, int_lt}
+use Rattle.std.proofs.Common.{◌≡◌, ◌≢◌, ℕ, suc, ◌+◌, ◌<◌, ◌+ℤ◌, Bool, true, false, cond, not, nat_eq, nat_lt, ◌&&◌, ◌||◌, List, [], ◌∷◌, ◌++◌, length, None, is_some, unwrap_or, refl, sym, ap, subst, ◌∙◌, arith, true≢false, ◌⊎◌, inl, inr}
+use Rattle.std.specs.Prelude.{map, filter, pos, int_lt}
 use Rattle.std.specs.List.{list_any}
 use Rattle.std.proofs.lemmas.Bool.Decides.{nat_tests, eqb_tells}
 use Rattle.std.proofs.lemmas.List.{append_assoc, append-nil, map-append}
 use Rattle.lattice.specs.declared.Plane.{Plane}
 use Rattle.lattice.specs.Vectors.{dot, direction}
-use Rattle.cyclic_list.specs.Items.{IsIn, IsApart}
+use Rattle.cyclic_list.specs.Items.{IsIn}
 use Rattle.cyclic_list.proofs.Lists.{count-append}
 use Rattle.cyclic_list.proofs.Maps.{from_map}
 use Rattle.boundary_model.specs.HalfEdge.{mate}
 use Rattle.boundary_model.specs.Table as table
 use Rattle.boundary_model.specs.Table.{get-remove}
 use Rattle.boundary_model.specs.Model.{Model, no_face, solid_of}
-use Rattle.boundary_model.specs.Sound.{Sound, Has, HasHalf}
-use Rattle.euler_operators.specs.Conditions.{lists, strictly_rises}
-use Rattle.euler_operators.specs.Effect.{kfmrh, part}
+use Rattle.boundary_model.specs.Sound.{Has, HasHalf}
+use Rattle.euler_operators.specs.Conditions.{strictly_rises}
+use Rattle.euler_operators.specs.Effect.{kfmrh}
 use Rattle.euler_laws_shared.proofs.Fans.{half_mate}
-use Rattle.solid_measure.specs.Measure.{area, six_volume}
+use Rattle.solid_measure.specs.Measure.{six_volume}
 use Rattle.solid_walks.proofs.Rising.{counted_once}
 use Rattle.split_shapes.specs.Drawing.{Drawing}
 use Rattle.split_shapes.specs.Section.{is_hole, holes_in, below_halves, section_cycles, has_stray_hole}
-use Rattle.split_shapes.specs.Opening.{Caps, Opening, opened_along, next_opened, all_opened, outer_caps, hole_closed, holes_closed}
+use Rattle.split_shapes.specs.Opening.{Caps, Opening, opened_along, next_opened, all_opened, outer_caps, holes_closed}
 use Rattle.split_shapes.specs.Split.{opened_at, split_drawn}
 use Rattle.opening_laws.proofs.Whole.{opened_sound}
 use Rattle.opened_sections.specs.InTurn.{halves_in, upper_faces, CanBeOpenedInTurn}
@@ -36,7 +36,7 @@ use Rattle.section_volumes.proofs.Starts.{start_old, finish_old}
 use Rattle.section_volumes.proofs.Caps.{area_kept}
 use Rattle.split_volumes.proofs.Parted.{part_shares, part_keeps}
 use Rattle.split_volumes.proofs.Closed.{closing, all_taken, closed_by, closing_keeps}
-use Rattle.section_volumes.proofs.InTurn.{first_can, next_can, some_way, openings_keep, openings_lie}
+use Rattle.section_volumes.proofs.InTurn.{first_can, some_way, openings_keep, openings_lie}
 
 pub openings_sound : OpeningsAreSound
 unfolding next_opened
