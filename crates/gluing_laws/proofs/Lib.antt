@@ -1,4 +1,4 @@
-mod Listed
+pub mod Listed
 mod Seams
 mod Places
 mod Normals

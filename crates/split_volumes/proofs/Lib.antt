@@ -1,0 +1,4 @@
+pub mod Parted
+pub mod Taken
+pub mod Closed
+pub mod Split
