@@ -7,3 +7,4 @@ mod rising;
 mod steps;
 
 pub use cutting::cut_edges;
+pub use steps::take;

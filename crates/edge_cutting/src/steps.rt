@@ -8,7 +8,7 @@ use std::alloc::AllocError;
 use undo_journal::{Draft, Failure};
 
 /// A step that is accepted: only memory can be refused, and then nothing has changed.
-pub(crate) fn take(draft: &mut Draft, op: Op) -> Result<(), AllocError>
+pub fn take(draft: &mut Draft, op: Op) -> Result<(), AllocError>
     requires { first_false draft.old.model op ≡ None }
     ensures ok { OnOk result (draft.new ≡ draft_step draft.old op) }
     ensures err { OnErr result (draft.new ≡ draft.old) }
