@@ -1,6 +1,5 @@
 -- Operators on pairs as the code writes them.
 use Rattle.std.proofs.Common.{◌≡◌, ℕ, ◌+◌, true, false, cond, sym, ap, ◌∙◌}
-use Rattle.boundary_model.specs.declared.HalfEdge.{HalfEdge}
 use Rattle.boundary_model.specs.declared.Corner.TheVariants.{At}
 use Rattle.boundary_model.specs.HalfEdge.{code, half, plus}
 use Rattle.boundary_model.specs.Model.{Model, loop_of, is_ring_of}
