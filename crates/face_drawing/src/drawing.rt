@@ -48,7 +48,7 @@ fn draw_pair(draft: &mut Draft, progress: Progress, pair: Pair) -> Result<Progre
 }
 
 /// The progress once face f has proved not to be drawable: the first such face stays.
-fn stuck_at(progress: Progress, f: u32) -> Progress
+pub(crate) fn stuck_at(progress: Progress, f: u32) -> Progress
     ensures { result ≡ stuck_at progress f }
 {
     if progress.stuck == 0 {
