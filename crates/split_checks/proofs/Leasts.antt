@@ -5,8 +5,8 @@ use Rattle.lattice.specs.declared.Plane.{Plane}
 use Rattle.boundary_model.specs.Model.{Model}
 use Rattle.solid_checks.specs.Least.{only, lesser, least_such}
 use Rattle.solid_checks.proofs.Searches.{lesser_of_three}
-use Rattle.split_checks.specs.Crossings.{AreCrossing, is_off}
-use Rattle.split_checks.proofs.Lists.{others, parts}
+use Rattle.cut_places.specs.Crossings.{AreCrossing, is_off}
+use Rattle.cut_places.proofs.Lists.{others, parts}
 
 module _ (M : Model) (p : Plane) where
   pub rest_crossing : (es : List ℕ) → 1 ≤ length es → AreCrossing M p es → AreCrossing M p (others es)

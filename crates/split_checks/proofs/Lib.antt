@@ -1,11 +1,4 @@
-pub mod Walks
-pub mod Signs
-pub mod Lists
-pub mod Cuts
-pub mod PlacePoints
-pub mod Sorting
 pub mod Often
 pub mod Leasts
 pub mod Meetings
-pub mod Edges
 pub mod Stages

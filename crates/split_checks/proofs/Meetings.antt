@@ -8,9 +8,9 @@ use Rattle.boundary_model.specs.Sound.{Sound, HasHalf}
 use Rattle.shapes.specs.Faces.{boundary, loops_of}
 use Rattle.solid_walks.proofs.FaceLoops.{items_there}
 use Rattle.split_shapes.specs.Places.{is_place, places, some_meet, sorted, in_pairs, sorted_pairs, is_up_and_down, is_crossed}
-use Rattle.split_checks.specs.Places.{Key, AreWholePlaces, IsWholeFace, entries_of, pairs_differ}
-use Rattle.split_checks.proofs.Lists.{of_picked}
-use Rattle.split_checks.proofs.Sorting.{pairs_are}
+use Rattle.cut_places.specs.Places.{Key, AreWholePlaces, IsWholeFace, entries_of, pairs_differ}
+use Rattle.cut_places.proofs.Lists.{of_picked}
+use Rattle.cut_places.proofs.Sorting.{pairs_are}
 
 pub at_some : {X : Type 0} (o : Option X) (x : X) (P : Type 0) (Q : X → Type 0) → o ≡ Some x → MatchOption o P Q → Q x
 at_some o x P Q e h = subst (λ y. MatchOption y P Q) e h

@@ -20,7 +20,7 @@ use Rattle.split_shapes.specs.Places.{pair_count}
 use Rattle.split_shapes.specs.Sides.{reaches_above, reaches_below, straddling_faces, crossing_edges}
 use Rattle.split_shapes.specs.Split.{plane_in_range, first_conditions}
 use Rattle.split_checks.specs.Conditions.{number_conditions, solid_conditions, edge_conditions, face_conditions, sectioning_conditions}
-use Rattle.split_checks.specs.Crossings.{is_off}
+use Rattle.cut_places.specs.Crossings.{is_off}
 
 abbrev Verdict : Type 0
 Verdict = Result (Unit {0}) Refusal

@@ -13,7 +13,7 @@ use Rattle.split_shapes.specs.Sides.{reaches_above, reaches_below}
 use Rattle.split_shapes.specs.Places.{is_touched, is_cut_often, is_crossed}
 use Rattle.split_shapes.specs.Split.{cut_conditions}
 use Rattle.split_shapes.specs.Sides.{crossing_edges, straddling_faces}
-use Rattle.split_checks.specs.Crossings.{is_off}
+use Rattle.cut_places.specs.Crossings.{is_off}
 
 -- the solid is there, and the other number is free
 abbrev pub number_conditions : Model → ℕ → ℕ → List Condition

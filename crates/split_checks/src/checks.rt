@@ -6,15 +6,15 @@ ghost use Rattle.euler_conditions.specs.Ready.{IsReady};
 ghost use Rattle.euler_operators.specs.Conditions.{first_refusal, verdict};
 ghost use Rattle.lattice.specs.Ranges.{IsCutPlane};
 ghost use Rattle.split_checks.specs.Conditions.{face_conditions, number_conditions, sectioning_conditions, solid_conditions};
-ghost use Rattle.split_checks.specs.Places.{AreWholeFaces};
+ghost use Rattle.cut_places.specs.Places.{AreWholeFaces};
 ghost use Rattle.split_shapes.specs.Sides.{reaches_above, reaches_below};
 ghost use Rattle.split_shapes.specs.Split.{first_conditions};
 
 use crate::crossed::{Flaw, first_flawed, pair_count};
-use crate::crossings::{crossings, least_off};
+use crate::crossings::least_off;
 use crate::numbers::{TOO_MANY, check_left, is_number, refused};
 use crate::planes::check_plane;
-use crate::sides::{solid_reaches, straddling};
+use cut_places::{crossings, solid_reaches, straddling};
 use euler_conditions::{Refusal, Why};
 use halfedge_arena::{Arena, Kind};
 use lattice::{Plane, Sign};

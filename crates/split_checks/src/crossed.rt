@@ -6,13 +6,13 @@ ghost use Rattle.lattice.specs.Ranges.{IsCutPlane};
 ghost use Rattle.shapes.specs.Fresh.{first_such};
 ghost use Rattle.solid_checks.specs.Least.{found};
 ghost use Rattle.split_checks.specs.Flaws.{has_flaw};
-ghost use Rattle.split_checks.specs.Places.{AreWholeFaces, IsWholeFace};
-ghost use Rattle.split_checks.specs.Walks.{AreIn};
+ghost use Rattle.cut_places.specs.Places.{AreWholeFaces, IsWholeFace};
+ghost use Rattle.cut_places.specs.Walks.{AreIn};
 ghost use Rattle.split_shapes.specs.Places.{is_crossed, pair_count};
 
-use crate::faces::{is_cut_often, is_touched, places};
+use crate::faces::{is_cut_often, is_touched};
 use crate::numbers::TOO_MANY;
-use crate::places::{in_order, pairs_differ};
+use cut_places::{in_order, pairs_differ, places};
 use halfedge_arena::{Arena, Kind};
 use lattice::Plane;
 use std::alloc::{AllocError, Global};

@@ -1,16 +1,15 @@
 //! What the cut places of faces that straddle must not be.
-ghost use Rattle.std.specs.Prelude.{◌≡◌, true, not, filter, map, IfOk};
+ghost use Rattle.std.specs.Prelude.{◌≡◌, true, map, IfOk};
 ghost use Rattle.std.specs.List.{list_all, list_any};
 ghost use Rattle.boundary_model.specs.HalfEdge.{code};
 ghost use Rattle.euler_conditions.specs.Ready.{IsReady};
 ghost use Rattle.halfedge_arena.specs.Store.{has_number};
 ghost use Rattle.lattice.specs.Ranges.{IsCutPlane};
-ghost use Rattle.split_checks.specs.Walks.{AreIn, AreThere};
-ghost use Rattle.split_checks.specs.Places.{some_touch};
-ghost use Rattle.split_shapes.specs.Places.{is_cut_often, is_place, is_touched, loop_is_cut, places};
+ghost use Rattle.cut_places.specs.Walks.{AreIn, AreThere};
+ghost use Rattle.cut_places.specs.Places.{some_touch};
+ghost use Rattle.split_shapes.specs.Places.{is_cut_often, is_place, is_touched, loop_is_cut};
 
-use crate::halves::{is_place, touches};
-use crate::loops::{boundary, loop_items};
+use cut_places::{boundary, is_place, loop_items, places, touches};
 use face_walks::face_loops;
 use halfedge_arena::{Arena, HalfEdge, Kind};
 use lattice::Plane;
@@ -97,45 +96,6 @@ fn all_are_cut(
         rest = others;
     }
     Ok(true)
-}
-
-/// Those of the half-edges that tell cut places.
-fn places_in(
-    alloc: Global,
-    arena: &Arena,
-    plane: Plane,
-    items: &[HalfEdge],
-) -> Result<Vec<HalfEdge>, AllocError>
-    requires ready { IsReady arena.now }
-    requires there { AreThere arena.now.model (map code items.now) }
-    requires plane { IsCutPlane plane }
-    ensures { IfOk result (λ found. map code found.items ≡ filter (is_place arena.now.model plane) (map code items.now)) }
-{
-    let mut found = Vec::new(alloc);
-    let mut rest = items;
-    'items: while let [h, others @ ..] = rest {
-        if is_place(arena, plane, *h) {
-            found.push(*h)?;
-        }
-        rest = others;
-    }
-    Ok(found)
-}
-
-/// The cut places of face f.
-pub(crate) fn places(
-    alloc: Global,
-    arena: &Arena,
-    plane: Plane,
-    f: u32,
-) -> Result<Vec<HalfEdge>, AllocError>
-    requires ready { IsReady arena.now }
-    requires there { has_number arena.now Kind.Face f ≡ true }
-    requires plane { IsCutPlane plane }
-    ensures { IfOk result (λ found. map code found.items ≡ places arena.now.model plane f) }
-{
-    let items = boundary(alloc, arena, f)?;
-    places_in(alloc, arena, plane, items.as_slice())
 }
 
 /// Whether the outer loop of face f has no cut place, or a ring of it has none while the face hasn't exactly two.

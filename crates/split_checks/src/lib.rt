@@ -5,11 +5,7 @@ mod checks;
 mod crossed;
 mod crossings;
 mod faces;
-mod halves;
-mod loops;
 mod numbers;
-mod places;
 mod planes;
-mod sides;
 
 pub use checks::check_begin;

@@ -4,10 +4,10 @@ use Rattle.euler_operators.specs.Conditions.{first_refusal, verdict}
 use Rattle.solid_checks.specs.Least.{least_such}
 use Rattle.split_shapes.specs.Places.{pair_count}
 use Rattle.split_checks.specs.Conditions.{face_conditions}
-use Rattle.split_checks.specs.Crossings.{AreCrossing, is_off}
-use Rattle.split_checks.specs.Places.{AreWholeFaces}
-use Rattle.split_checks.specs.Walks.{AreIn}
-use Rattle.split_checks.proofs.Edges.{as_many, met_crossing, least_met, straddling_there, straddling_whole}
+use Rattle.cut_places.specs.Crossings.{AreCrossing, is_off}
+use Rattle.cut_places.specs.Places.{AreWholeFaces}
+use Rattle.cut_places.specs.Walks.{AreIn}
+use Rattle.cut_places.proofs.Edges.{as_many, met_crossing, least_met, straddling_there, straddling_whole}
 use Rattle.split_checks.proofs.Stages.{edge_refused, none_off, faces_failed, numbers_decide}
 use Rattle.split_checks.proofs.checks.check_section.Goals as goal
 

@@ -1,7 +1,7 @@
 use Rattle.std.proofs.Common.{◌≡◌, length}
 use Rattle.shapes.specs.Fresh.{first_such}
 use Rattle.split_checks.specs.Flaws.{has_flaw}
-use Rattle.split_checks.specs.Places.{AreWholeFaces}
+use Rattle.cut_places.specs.Places.{AreWholeFaces}
 use Rattle.split_checks.proofs.crossed.first_flawed.Given as goal
 
 abbrev pub invariant-faces : goal.invariant-faces

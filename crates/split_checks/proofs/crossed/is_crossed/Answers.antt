@@ -1,7 +1,7 @@
 use Rattle.std.proofs.Common.{◌≡◌, ◌∙◌, List, ℕ, true, false, not, map, sym, ap, subst}
 use Rattle.boundary_model.specs.HalfEdge.{code}
 use Rattle.split_shapes.specs.Places.{some_meet, sorted}
-use Rattle.split_checks.specs.Places.{AreWholePlaces, entries_of}
+use Rattle.cut_places.specs.Places.{AreWholePlaces, entries_of}
 use Rattle.split_checks.proofs.Meetings.{at_some, at_none, places_whole, crossed_by, ordered}
 use Rattle.split_checks.proofs.crossed.is_crossed.Goals as goal
 

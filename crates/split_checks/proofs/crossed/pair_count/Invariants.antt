@@ -1,7 +1,7 @@
 use Rattle.std.proofs.Common.{◌≡◌, ◌+◌, ◌≤◌, length}
 use Rattle.std.specs.Prelude.{min}
 use Rattle.split_shapes.specs.Places.{pair_count}
-use Rattle.split_checks.specs.Walks.{AreIn}
+use Rattle.cut_places.specs.Walks.{AreIn}
 use Rattle.split_checks.proofs.crossed.pair_count.Given as goal
 
 abbrev pub invariant-faces : goal.invariant-faces

@@ -2,7 +2,7 @@ use Rattle.std.proofs.Common.{◌∙◌, ap, not}
 use Rattle.lattice.specs.Vectors.{are_opposite, cuts_lattice}
 use Rattle.face_walks.proofs.HalfCodes.{plus_there, code_plus}
 use Rattle.shapes.specs.Faces.{start, finish}
-use Rattle.split_checks.proofs.Cuts.{told_off}
+use Rattle.cut_places.proofs.Cuts.{told_off}
 use Rattle.split_checks.proofs.crossings.is_off.Goals as goal
 
 pub start-requires-clause-there : goal.start-requires-clause-there

@@ -1,6 +1,6 @@
 use Rattle.std.proofs.Common.{◌≡◌, length}
 use Rattle.solid_checks.specs.Least.{lesser, least_such}
-use Rattle.split_checks.specs.Crossings.{AreCrossing, is_off}
+use Rattle.cut_places.specs.Crossings.{AreCrossing, is_off}
 use Rattle.split_checks.proofs.crossings.least_off.Given as goal
 
 abbrev pub invariant-edges : goal.invariant-edges

@@ -1,7 +1,7 @@
 use Rattle.std.proofs.Common.{◌≡◌, length}
 use Rattle.std.specs.List.{list_all}
 use Rattle.split_shapes.specs.Places.{loop_is_cut}
-use Rattle.split_checks.specs.Walks.{AreIn}
+use Rattle.cut_places.specs.Walks.{AreIn}
 use Rattle.split_checks.proofs.faces.all_are_cut.Given as goal
 
 abbrev pub invariant-loops : goal.invariant-loops

@@ -1,9 +1,9 @@
 use Rattle.std.proofs.Common.{◌∙◌, ap, sym, subst, map}
 use Rattle.boundary_model.specs.HalfEdge.{code}
 use Rattle.split_shapes.specs.Places.{is_touched}
-use Rattle.split_checks.specs.Places.{some_touch}
-use Rattle.split_checks.specs.Walks.{AreThere}
-use Rattle.split_checks.proofs.Walks.{boundary_there}
+use Rattle.cut_places.specs.Places.{some_touch}
+use Rattle.cut_places.specs.Walks.{AreThere}
+use Rattle.cut_places.proofs.Walks.{boundary_there}
 use Rattle.split_checks.proofs.faces.is_touched.Goals as goal
 
 pub some_touch-requires-clause-there : goal.some_touch-requires-clause-there

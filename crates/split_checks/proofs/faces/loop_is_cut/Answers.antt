@@ -1,7 +1,7 @@
 use Rattle.std.proofs.Common.{◌∙◌, ap, sym, subst, map}
 use Rattle.boundary_model.specs.HalfEdge.{code}
-use Rattle.split_checks.specs.Walks.{AreThere}
-use Rattle.split_checks.proofs.Walks.{loop_items_there}
+use Rattle.cut_places.specs.Walks.{AreThere}
+use Rattle.cut_places.proofs.Walks.{loop_items_there}
 use Rattle.split_checks.proofs.faces.loop_is_cut.Goals as goal
 
 pub some_place-requires-clause-there : goal.some_place-requires-clause-there

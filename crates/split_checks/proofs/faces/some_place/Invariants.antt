@@ -2,7 +2,7 @@ use Rattle.std.proofs.Common.{◌≡◌, map, length}
 use Rattle.boundary_model.specs.HalfEdge.{code}
 use Rattle.std.specs.List.{list_any}
 use Rattle.split_shapes.specs.Places.{is_place}
-use Rattle.split_checks.specs.Walks.{AreThere}
+use Rattle.cut_places.specs.Walks.{AreThere}
 use Rattle.split_checks.proofs.faces.some_place.Given as goal
 
 abbrev pub invariant-items : goal.invariant-items

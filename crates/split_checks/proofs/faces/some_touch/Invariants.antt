@@ -1,7 +1,7 @@
 use Rattle.std.proofs.Common.{◌≡◌, map, length}
 use Rattle.boundary_model.specs.HalfEdge.{code}
-use Rattle.split_checks.specs.Places.{some_touch}
-use Rattle.split_checks.specs.Walks.{AreThere}
+use Rattle.cut_places.specs.Places.{some_touch}
+use Rattle.cut_places.specs.Walks.{AreThere}
 use Rattle.split_checks.proofs.faces.some_touch.Given as goal
 
 abbrev pub invariant-items : goal.invariant-items

@@ -1,0 +1,4 @@
+pub mod Crossings
+pub mod Places
+pub mod Sides
+pub mod Walks

@@ -1,0 +1,3 @@
+mod Sorted
+mod Halves
+mod Remaining

@@ -1,0 +1,4 @@
+pub mod Steps
+mod PairOps
+mod Turns
+mod GivenRings
