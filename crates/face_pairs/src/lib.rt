@@ -1,0 +1,6 @@
+//! The cut places of faces in pairs, in the order of their points.
+#![tactic(auto)]
+
+mod pairs;
+
+pub use pairs::{FacePairs, face_pairs};

@@ -1,0 +1,6 @@
+//! Splitting: a solid is cut by a plane into two, as one command.
+#![tactic(auto)]
+
+mod command;
+
+pub use command::split;

@@ -1,0 +1,8 @@
+//! The section of a solid by a plane once its faces are drawn, and the conditions that are tested then.
+#![tactic(auto)]
+
+mod checks;
+mod section;
+
+pub use checks::check_later;
+pub use section::{Cycle, Section};

@@ -1,0 +1,24 @@
+-- Caps as the code has them, and the solid opened along a section.
+use Rattle.std.specs.Prelude.{ℕ, List, [], map}
+use Rattle.lattice.specs.declared.Plane.{Plane}
+use Rattle.boundary_model.specs.Model.{Model}
+use Rattle.split_shapes.specs.Opening.{Caps, Opening, all_opened}
+use Rattle.face_drawing.specs.Codes.{taken_of}
+use Rattle.face_drawing.specs.declared.progress.Progress.{Progress}
+use Rattle.section_checks.specs.Sections.{cycles_of}
+use Rattle.section_checks.specs.declared.section.Section.{Section}
+use Rattle.solid_opening.specs.declared.caps.Caps as declared
+
+abbrev pub caps_of : declared.Caps → Caps
+caps_of k = record { lower = k.lower; upper = k.upper; hole = k.hole }
+
+abbrev pub all_caps : List declared.Caps → List Caps
+all_caps ks = map caps_of ks
+
+-- nothing is opened yet
+abbrev pub unopened : Model → Progress → Opening
+unopened M c = record { model = M; taken = taken_of c; caps = [] }
+
+-- solid s opened along the cycles of a section
+abbrev pub opened_section : Model → Progress → ℕ → Plane → Section → Opening
+opened_section M c s p q = all_opened p q.above.items s (unopened M c) (cycles_of q)

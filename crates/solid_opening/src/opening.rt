@@ -1,0 +1,33 @@
+//! A solid opened along the cycles of its section.
+ghost use Rattle.std.specs.Prelude.{◌≡◌, map, IfOk};
+ghost use Rattle.split_shapes.specs.Section.{is_hole};
+ghost use Rattle.opened_sections.specs.InTurn.{CanBeOpenedInTurn};
+ghost use Rattle.section_checks.specs.Sections.{cycles_of, hole_flags};
+ghost use Rattle.solid_opening.specs.Capped.{all_caps, opened_section, unopened};
+
+use crate::caps::Caps;
+use face_drawing::Progress;
+use lattice::Plane;
+use section_checks::Section;
+use std::alloc::{AllocError, Global};
+use undo_journal::Draft;
+
+/// Opens solid s along each cycle of its section in turn, and closes it there by two caps: the caps of each cycle, in their order.
+///
+/// On `AllocError` some steps may be taken; the session that the draft came from stands, and `abandon` gives it back.
+pub fn open_section(
+    alloc: Global,
+    draft: &mut Draft,
+    s: u32,
+    plane: &Plane,
+    from: &Progress,
+    section: &Section,
+) -> Result<Vec<Caps>, AllocError>
+    requires opens { CanBeOpenedInTurn section.now.above.items s (unopened draft.old.model from.now) (cycles_of section.now) }
+    requires holes { hole_flags section.now ≡ map (is_hole draft.old.model plane.now) (cycles_of section.now) }
+    ensures opened { IfOk result (λ caps. (draft.new.model ≡ (opened_section draft.old.model from.now s plane.now section.now).model)
+        × (all_caps caps.items ≡ (opened_section draft.old.model from.now s plane.now section.now).caps)) }
+    ensures session { draft.new.session ≡ draft.old.session }
+{
+    Err(AllocError)
+}
