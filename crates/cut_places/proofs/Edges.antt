@@ -37,8 +37,8 @@ use Rattle.split_shapes.specs.Sides.{crosses, straddles, straddling_faces, cross
 use Rattle.cut_places.specs.Crossings.{leads_across, crossings_met, IsCrossing, AreCrossing, is_off}
 use Rattle.cut_places.specs.Places.{IsWholeFace, AreWholeFaces}
 use Rattle.cut_places.specs.Walks.{AreIn}
+use Rattle.cut_places.proofs.CrossingHalves.{plus_crosses}
 use Rattle.cut_places.proofs.Lists.{of_picked, in_picked, picked_apart, picked_rise, none_passes}
-use Rattle.cut_places.proofs.PlacePoints.{plus_crosses}
 use Rattle.cut_places.proofs.Walks.{all_in}
 
 member_in : (k : ℕ) (ks : List ℕ) → member k ks ≡ true → IsIn k ks

@@ -2,6 +2,5 @@ pub mod Walks
 pub mod Signs
 pub mod Lists
 pub mod Cuts
-pub mod PlacePoints
-pub mod Sorting
+pub mod CrossingHalves
 pub mod Edges

@@ -1,18 +1,20 @@
-//! The edges that cross a plane.
-ghost use Rattle.std.specs.Prelude.{◌≡◌, true, map, IfOk};
+//! The edges that cross a plane, and where they meet it.
+ghost use Rattle.std.specs.Prelude.{◌≡◌, true, false, map, IfOk};
 ghost use Rattle.boundary_model.specs.HalfEdge.{code, edge_of};
 ghost use Rattle.boundary_model.specs.Model.{faces_of, has_half};
 ghost use Rattle.euler_conditions.specs.Ready.{IsReady};
 ghost use Rattle.halfedge_arena.specs.Store.{has_number};
 ghost use Rattle.lattice.specs.Ranges.{IsCutPlane};
-ghost use Rattle.shapes.specs.Faces.{boundary};
-ghost use Rattle.cut_places.specs.Crossings.{crossings_in, crossings_met, leads_across};
+ghost use Rattle.lattice.specs.Vectors.{cut_between};
+ghost use Rattle.shapes.specs.Faces.{boundary, finish, start};
+ghost use Rattle.cut_places.specs.Crossings.{crossings_in, crossings_met, is_off, leads_across};
 ghost use Rattle.cut_places.specs.Walks.{AreThere};
+ghost use Rattle.split_shapes.specs.Sides.{crosses};
 
-use crate::halves::crosses;
+use crate::halves::{crosses, finish, start};
 use crate::loops::boundary;
 use halfedge_arena::{Arena, HalfEdge, Kind};
-use lattice::Plane;
+use lattice::{Plane, Point, cut_point};
 use std::alloc::{AllocError, Global};
 
 /// The edge of the half-edge.
@@ -85,4 +87,23 @@ pub fn crossings(alloc: Global, arena: &Arena, plane: Plane, s: u32) -> Result<V
         above = f;
     }
     Ok(edges)
+}
+
+/// The point at which the edge of a half-edge that crosses the plane meets it, on the lattice.
+pub fn crossing_point(arena: &Arena, plane: Plane, h: HalfEdge) -> Point
+    requires ready { IsReady arena.now }
+    requires there { has_half arena.now.model (code h) ≡ true }
+    requires plane { IsCutPlane plane }
+    requires crossing { crosses arena.now.model plane (code h) ≡ true }
+    requires whole { is_off arena.now.model plane (edge_of (code h)) ≡ false }
+    ensures { result ≡ cut_between plane (start arena.now.model (code h)) (finish arena.now.model (code h)) }
+{
+    let along = HalfEdge {
+        edge: h.edge,
+        first: true,
+    };
+    match cut_point(plane, start(arena, along), finish(arena, along)) {
+        Some(p) => p,
+        None => unreachable!(),
+    }
 }

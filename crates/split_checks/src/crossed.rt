@@ -12,9 +12,10 @@ ghost use Rattle.split_shapes.specs.Places.{is_crossed, pair_count};
 
 use crate::faces::{is_cut_often, is_touched};
 use crate::numbers::TOO_MANY;
-use cut_places::{in_order, pairs_differ, places};
+use cut_places::places;
 use halfedge_arena::{Arena, Kind};
 use lattice::Plane;
+use place_order::{in_order, pairs_differ};
 use std::alloc::{AllocError, Global};
 
 /// What a face that straddles must not be.
@@ -39,7 +40,7 @@ fn is_crossed(alloc: Global, arena: &Arena, plane: Plane, f: u32) -> Result<bool
 {
     let met = places(alloc, arena, plane, f)?;
     match in_order(alloc, arena, plane, met)? {
-        Some(order) => Ok(!pairs_differ(order)),
+        Some(order) => Ok(!pairs_differ(arena, plane, order)),
         None => Ok(true),
     }
 }

@@ -1,14 +1,13 @@
--- The two halves of an edge that crosses a plane, and cut places.
-use Rattle.std.proofs.Common.{◌≡◌, ℕ, Bool, true, false, cond, ◌&&◌, ◌||◌, sym, ap, ◌∙◌, refl, inl, inr, true≢false}
+-- The two halves of an edge that crosses a plane.
+use Rattle.std.proofs.Common.{◌≡◌, ℕ, true, sym, ap, ◌∙◌, inl, inr}
 use Rattle.lattice.specs.declared.Plane.{Plane}
-use Rattle.lattice.specs.Vectors.{height, are_opposite, is_on, cut_between}
+use Rattle.lattice.specs.Vectors.{height, are_opposite, cut_between}
 use Rattle.boundary_model.specs.HalfEdge.{edge_of, plus, minus}
-use Rattle.boundary_model.specs.Model.{Model, before}
+use Rattle.boundary_model.specs.Model.{Model}
 use Rattle.euler_laws_shared.proofs.Arcs.{halves_of_edge}
 use Rattle.euler_laws_shared.proofs.Undo.{mate_plus, mate_minus}
 use Rattle.shapes.specs.Faces.{start, finish}
 use Rattle.split_shapes.specs.Sides.{crosses}
-use Rattle.split_shapes.specs.Places.{is_place, place_point}
 use Rattle.cut_places.proofs.Cuts.{opposite_turned, cut_back}
 
 module _ (M : Model) (p : Plane) where
@@ -35,20 +34,3 @@ module _ (M : Model) (p : Plane) where
     | inl e ↦ sym (ap (λ g. cut_between p (start M g) (finish M g)) e.0)
     | inr e ↦ turned_cut (edge_of h) (sym (ap (crosses M p) e.0) ∙ c) ∙ sym (ap (λ g. cut_between p (start M g) (finish M g)) e.0)
   ]
-
-  -- a cut place off the plane's own points is a half-edge that crosses
-  pub place_off : (h : ℕ) → is_place M p h ≡ true → is_on p (start M h) ≡ false → crosses M p h ≡ true
-  unfolding is_place
-  place_off h place off = go (crosses M p h) (is_on p (start M h)) (are_opposite p (start M (before M h)) (finish M h)) place off where
-    go : (a b c : Bool) → a || (b && c) ≡ true → b ≡ false → a ≡ true
-    go true b c e f = refl
-    go false true c e f = absurd (true≢false f)
-    go false false c e f = e
-
-  pub point_on : (h : ℕ) → is_on p (start M h) ≡ true → start M h ≡ place_point M p h
-  unfolding place_point
-  point_on h on = sym (ap (λ b. cond b (start M h) (cut_between p (start M h) (finish M h))) on)
-
-  pub point_off : (h : ℕ) → is_on p (start M h) ≡ false → cut_between p (start M h) (finish M h) ≡ place_point M p h
-  unfolding place_point
-  point_off h off = sym (ap (λ b. cond b (start M h) (cut_between p (start M h) (finish M h))) off)

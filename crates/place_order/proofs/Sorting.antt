@@ -4,17 +4,18 @@ use Rattle.std.specs.Prelude.{int_lt}
 use Rattle.std.specs.Ordering.{ordering_then, is_eq, is_gt, int_eq, match_ordering}
 use Rattle.std.specs.BTreeMap.{insert_entry}
 use Rattle.std.specs.Map.{lookup}
-use Rattle.std.specs.List.{list_any, list_all}
+use Rattle.std.specs.List.{list_any}
 use Rattle.std.proofs.lemmas.List.{append-nil}
 use Rattle.lattice.specs.declared.Point.{Point}
 use Rattle.lattice.specs.declared.Plane.{Plane}
 use Rattle.lattice.specs.Vectors.{same_point, lex_less}
 use Rattle.cyclic_list.specs.Items.{IsIn}
 use Rattle.cyclic_list.proofs.Lists.{count-append, tick_same}
+use Rattle.boundary_model.specs.declared.HalfEdge.{HalfEdge}
+use Rattle.boundary_model.specs.HalfEdge.{half}
 use Rattle.boundary_model.specs.Model.{Model}
-use Rattle.euler_operators.specs.Conditions.{differ}
-use Rattle.split_shapes.specs.Places.{place_point, goes_up, some_meet, sorted_in, sorted, in_pairs, is_up_and_down}
-use Rattle.cut_places.specs.Places.{Key, key, entries_of, pairs_differ}
+use Rattle.split_shapes.specs.Places.{place_point, some_meet, sorted_in, sorted}
+use Rattle.place_order.specs.Order.{Key, key, entries_of}
 
 -- the order of keys
 abbrev pub key_cmp : Key → Key → Ordering
@@ -64,23 +65,23 @@ module _ (M : Model) (p : Plane) where
   abbrev at : ℕ → Point
   at h = place_point M p h
 
-  abbrev entry : ℕ → Key × Bool
-  entry h = (key (at h), goes_up M p h)
+  abbrev entry : ℕ → Key × HalfEdge
+  entry h = (key (at h), half h)
 
   -- whether a place has the point of another
   abbrev pub meets : ℕ → ℕ → Bool
   meets h k = same_point (at h) (at k)
 
-  inserted_by : (h k : ℕ) (ks : List ℕ) → insert_entry key_cmp (entries_of M p ks) (key (at h)) (goes_up M p h) ≡ entries_of M p (sorted_in M p h ks)
+  inserted_by : (h k : ℕ) (ks : List ℕ) → insert_entry key_cmp (entries_of M p ks) (key (at h)) (half h) ≡ entries_of M p (sorted_in M p h ks)
       → (o : Ordering) → is_eq o ≡ false → is_gt o ≡ lex_less (at k) (at h)
-      → match_ordering o (entry h ∷ entries_of M p (k ∷ ks)) ((key (at k), goes_up M p h) ∷ entries_of M p ks) (entry k ∷ insert_entry key_cmp (entries_of M p ks) (key (at h)) (goes_up M p h))
+      → match_ordering o (entry h ∷ entries_of M p (k ∷ ks)) ((key (at k), half h) ∷ entries_of M p ks) (entry k ∷ insert_entry key_cmp (entries_of M p ks) (key (at h)) (half h))
       ≡ entries_of M p (cond (lex_less (at k) (at h)) (k ∷ sorted_in M p h ks) (h ∷ k ∷ ks))
   inserted_by h k ks rest Less e g = ap (λ b. entries_of M p (cond b (k ∷ sorted_in M p h ks) (h ∷ k ∷ ks))) g
   inserted_by h k ks rest Equal e g = absurd (true≢false e)
-  inserted_by h k ks rest Greater e g = ap (λ (es : List (Key × Bool)). entry k ∷ es) rest ∙ ap (λ b. entries_of M p (cond b (k ∷ sorted_in M p h ks) (h ∷ k ∷ ks))) g
+  inserted_by h k ks rest Greater e g = ap (λ (es : List (Key × HalfEdge)). entry k ∷ es) rest ∙ ap (λ b. entries_of M p (cond b (k ∷ sorted_in M p h ks) (h ∷ k ∷ ks))) g
 
   -- a place whose point is new comes where it belongs
-  pub inserted : (h : ℕ) (ks : List ℕ) → list_any (meets h) ks ≡ false → insert_entry key_cmp (entries_of M p ks) (key (at h)) (goes_up M p h) ≡ entries_of M p (sorted_in M p h ks)
+  pub inserted : (h : ℕ) (ks : List ℕ) → list_any (meets h) ks ≡ false → insert_entry key_cmp (entries_of M p ks) (key (at h)) (half h) ≡ entries_of M p (sorted_in M p h ks)
   inserted h [] new = refl
   inserted h (k ∷ ks) new =
       let apart = either_false (meets h k) (list_any (meets h) ks) new in
@@ -89,11 +90,11 @@ module _ (M : Model) (p : Plane) where
   -- the map has a point where one of its places has
   pub found_meets : (h : ℕ) (ks : List ℕ) → is_some (lookup (λ k. is_eq (key_cmp (key (at h)) k)) (entries_of M p ks)) ≡ list_any (meets h) ks
   found_meets h [] = refl
-  found_meets h (k ∷ ks) = ap (λ b. is_some (cond b (Some (goes_up M p k)) (lookup (λ k. is_eq (key_cmp (key (at h)) k)) (entries_of M p ks)))) (key_equal (at h) (at k))
-      ∙ either (meets h k) (goes_up M p k) (lookup (λ k. is_eq (key_cmp (key (at h)) k)) (entries_of M p ks)) (list_any (meets h) ks) (found_meets h ks) where
-        either : (b up : Bool) (o : Option Bool) (c : Bool) → is_some o ≡ c → is_some (cond b (Some up) o) ≡ b || c
-        either true up o c e = refl
-        either false up o c e = e
+  found_meets h (k ∷ ks) = ap (λ b. is_some (cond b (Some (half k)) (lookup (λ k. is_eq (key_cmp (key (at h)) k)) (entries_of M p ks)))) (key_equal (at h) (at k))
+      ∙ either (meets h k) (half k) (lookup (λ k. is_eq (key_cmp (key (at h)) k)) (entries_of M p ks)) (list_any (meets h) ks) (found_meets h ks) where
+        either : (b : Bool) (old : HalfEdge) (o : Option HalfEdge) (c : Bool) → is_some o ≡ c → is_some (cond b (Some old) o) ≡ b || c
+        either true old o c e = refl
+        either false old o c e = e
 
   -- sorting keeps what a test finds
   any_sorted_in : (q : ℕ → Bool) (h : ℕ) (ks : List ℕ) → list_any q (sorted_in M p h ks) ≡ list_any q (h ∷ ks)
@@ -115,22 +116,17 @@ module _ (M : Model) (p : Plane) where
     later true f = refl
     later false f = f
 
-  pub pairs_are : (hs : List ℕ) → pairs_differ (entries_of M p hs) ≡ list_all (is_up_and_down M p) (in_pairs hs)
-  pairs_are [] = refl
-  pairs_are (h ∷ []) = refl
-  pairs_are (h ∷ k ∷ ks) = ap (λ b. differ (goes_up M p h) (goes_up M p k) && b) (pairs_are ks)
-
   -- of all places some are left, and the others are in the map
-  pub record Sorting (left all : List ℕ) (es : List (Key × Bool)) : Type 0 where
+  pub record Sorting (left all : List ℕ) (es : List (Key × HalfEdge)) : Type 0 where
     pub done : List ℕ
     pub whole : left ++ done ≡ all
     pub apart : some_meet M p done ≡ false
     pub placed : es ≡ entries_of M p (sorted M p done)
 
-  pub nothing_sorted : (all : List ℕ) (es : List (Key × Bool)) → es ≡ [] → Sorting all all es
+  pub nothing_sorted : (all : List ℕ) (es : List (Key × HalfEdge)) → es ≡ [] → Sorting all all es
   nothing_sorted all es e = record { done = []; whole = append-nil all; apart = refl; placed = e }
 
-  module _ (left all : List ℕ) (es : List (Key × Bool)) (s : Sorting left all es) where
+  module _ (left all : List ℕ) (es : List (Key × HalfEdge)) (s : Sorting left all es) where
     pub all_sorted : left ≡ [] → (some_meet M p all ≡ false) × (es ≡ entries_of M p (sorted M p all))
     all_sorted none = let e : s.done ≡ all = sym (ap (λ (hs : List ℕ). hs ++ s.done) none) ∙ s.whole in (sym (ap (some_meet M p) e) ∙ s.apart, s.placed ∙ ap (λ hs. entries_of M p (sorted M p hs)) e)
 
@@ -147,15 +143,15 @@ module _ (M : Model) (p : Plane) where
       one_met met = sym (ap (some_meet M p) whole_still) ∙ still_meet fewer (h ∷ s.done) (ap (λ b. b || some_meet M p s.done) (sym (any_sorted (meets h) s.done) ∙ met))
 
       -- or comes into the map
-      pub one_more : list_any (meets h) (sorted M p s.done) ≡ false → (more : List (Key × Bool)) → more ≡ insert_entry key_cmp es (key (at h)) (goes_up M p h) → Sorting fewer all more
+      pub one_more : list_any (meets h) (sorted M p s.done) ≡ false → (more : List (Key × HalfEdge)) → more ≡ insert_entry key_cmp es (key (at h)) (half h) → Sorting fewer all more
       one_more new more is = record {
         done = h ∷ s.done;
         whole = whole_still;
         apart = (λ i. (sym (any_sorted (meets h) s.done) ∙ new) i || s.apart i);
-        placed = is ∙ ap (λ fs. insert_entry key_cmp fs (key (at h)) (goes_up M p h)) s.placed ∙ inserted h (sorted M p s.done) new;
+        placed = is ∙ ap (λ fs. insert_entry key_cmp fs (key (at h)) (half h)) s.placed ∙ inserted h (sorted M p s.done) new;
       }
 
   -- what the code makes of a place that comes
-  module _ (h : ℕ) (ks : List ℕ) (es : List (Key × Bool)) (k : Key) (met : Option Bool) (placed : es ≡ entries_of M p ks) (keyed : k ≡ key (at h)) (old : met ≡ lookup (λ q. is_eq (key_cmp k q)) es) where
+  module _ (h : ℕ) (ks : List ℕ) (es : List (Key × HalfEdge)) (k : Key) (met : Option HalfEdge) (placed : es ≡ entries_of M p ks) (keyed : k ≡ key (at h)) (old : met ≡ lookup (λ q. is_eq (key_cmp k q)) es) where
     pub met_is : is_some met ≡ list_any (meets h) ks
     met_is = ap is_some old ∙ (λ i. is_some (lookup (λ q. is_eq (key_cmp (keyed i) q)) (placed i))) ∙ found_meets h ks

@@ -1,7 +1,7 @@
 use Rattle.std.proofs.Common.{◌∙◌, sym}
 use Rattle.boundary_model.specs.HalfEdge.{code}
-use Rattle.cut_places.proofs.PlacePoints.{place_off, point_on, point_off}
-use Rattle.cut_places.proofs.order.place_point.Goals as goal
+use Rattle.place_order.proofs.PlacePoints.{place_off, point_on, point_off}
+use Rattle.place_order.proofs.points.place_point.Goals as goal
 
 pub crossing_point-requires-clause-crossing : goal.crossing_point-requires-clause-crossing
 crossing_point-requires-clause-crossing c = place_off c.args.arena.now.model c.args.plane (code c.args.h) c.requires.place.place (sym c.starts_on.ensures ∙ c.if-starts_on.false)

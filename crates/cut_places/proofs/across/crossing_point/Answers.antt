@@ -6,8 +6,8 @@ use Rattle.euler_conditions.proofs.Known.{edge_there}
 use Rattle.face_walks.proofs.HalfCodes.{plus_there, code_plus}
 use Rattle.shapes.specs.Faces.{start, finish}
 use Rattle.cut_places.proofs.Cuts.{told_point, told_none}
-use Rattle.cut_places.proofs.PlacePoints.{plus_crosses, one_cut}
-use Rattle.cut_places.proofs.order.crossing_point.Goals as goal
+use Rattle.cut_places.proofs.CrossingHalves.{plus_crosses, one_cut}
+use Rattle.cut_places.proofs.across.crossing_point.Goals as goal
 
 pub start-requires-clause-there : goal.start-requires-clause-there
 start-requires-clause-there c = plus_there c.args.arena.now.model c.args.h.edge (edge_there c.args.arena.now.model c.args.h c.requires.there)

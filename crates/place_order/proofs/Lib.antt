@@ -1,0 +1,3 @@
+pub mod PlacePoints
+pub mod Sorting
+pub mod Ordered

@@ -1,0 +1,15 @@
+use Rattle.std.proofs.Common.{◌≡◌, length}
+use Rattle.std.specs.List.{list_all}
+use Rattle.split_shapes.specs.Places.{in_pairs, is_up_and_down}
+use Rattle.cut_places.specs.Walks.{AreThere}
+use Rattle.place_order.specs.Order.{places_of}
+use Rattle.place_order.proofs.order.pairs_differ.Given as goal
+
+abbrev pub invariant-pairs : goal.invariant-pairs
+invariant-pairs l = record {
+  there : AreThere l.arena.model (places_of l.left.entries);
+  same : list_all (is_up_and_down l.arena.model l.plane) (in_pairs (places_of l.left.entries)) ≡ list_all (is_up_and_down l.arena.model l.plane) (in_pairs (places_of l.fn.order.entries));
+}
+
+abbrev pub decreases-pairs : goal.decreases-pairs
+decreases-pairs l = length l.left.entries
