@@ -4,6 +4,8 @@ ghost use Rattle.euler_conditions.specs.Ready.{IsReady};
 ghost use Rattle.edge_cutting.specs.Begins.{CanBeCut};
 ghost use Rattle.face_pairs.specs.Paired.{paired, paired_faces};
 
+use crate::ordered::place_pairs;
+use cut_places::straddling;
 use face_drawing::Pair;
 use halfedge_arena::Arena;
 use lattice::Plane;
@@ -18,10 +20,23 @@ pub struct FacePairs {
 
 /// The faces of solid s that straddle the plane, rising, each with the pairs of its cut places, where the plane can begin to split s.
 /// It looks at the faces of s alone, and takes n log n steps for n cut places of a face. `AllocError` where memory is refused.
-pub fn face_pairs(alloc: Global, arena: &Arena, s: u32, plane: &Plane) -> Result<Vec<FacePairs>, AllocError>
+pub fn face_pairs(
+    alloc: Global,
+    arena: &Arena,
+    s: u32,
+    plane: &Plane,
+) -> Result<Vec<FacePairs>, AllocError>
     requires ready { IsReady arena.now }
     requires begins { CanBeCut arena.now.model s plane.now }
     ensures { IfOk result (λ found. map paired found.items ≡ paired_faces arena.now.model plane.now s) }
 {
-    Err(AllocError)
+    let faces = straddling(alloc, arena, *plane, s)?;
+    let mut found = Vec::new(alloc);
+    let mut rest = faces.as_slice();
+    'faces: while let [f, others @ ..] = rest {
+        let pairs = place_pairs(alloc, arena, *plane, *f)?;
+        found.push(FacePairs { face: *f, pairs })?;
+        rest = others;
+    }
+    Ok(found)
 }
