@@ -15,6 +15,10 @@ caps_of k = record { lower = k.lower; upper = k.upper; hole = k.hole }
 abbrev pub all_caps : List declared.Caps → List Caps
 all_caps ks = map caps_of ks
 
+-- so far a model is opened, and these are the caps
+abbrev pub opening_of : Model → Progress → List declared.Caps → Opening
+opening_of M c ks = record { model = M; taken = taken_of c; caps = all_caps ks }
+
 -- nothing is opened yet
 abbrev pub unopened : Model → Progress → Opening
 unopened M c = record { model = M; taken = taken_of c; caps = [] }

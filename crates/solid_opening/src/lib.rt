@@ -2,8 +2,13 @@
 #![tactic(auto)]
 
 mod caps;
+mod copies;
+mod cycle;
+mod halves;
+mod joinings;
 mod opening;
 mod parting;
+mod strips;
 
 pub use caps::Caps;
 pub use opening::open_section;

@@ -6,6 +6,7 @@ ghost use Rattle.section_checks.specs.Sections.{cycles_of, hole_flags};
 ghost use Rattle.solid_opening.specs.Capped.{all_caps, opened_section, unopened};
 
 use crate::caps::Caps;
+use crate::cycle::{caps_after, counted_on, open_cycle};
 use face_drawing::Progress;
 use lattice::Plane;
 use section_checks::Section;
@@ -29,5 +30,16 @@ pub fn open_section(
         × (all_caps caps.items ≡ (opened_section draft.old.model from.now s plane.now section.now).caps)) }
     ensures session { draft.new.session ≡ draft.old.session }
 {
-    Err(AllocError)
+    let mut progress = *from;
+    let mut caps = Vec::new(alloc);
+    let mut rest = section.cycles.as_slice();
+    'cycles: while let [cycle, others @ ..] = rest {
+        let halves = cycle.halves.as_slice();
+        let count = halves.len() as u32;
+        open_cycle(draft, s, &progress, halves)?;
+        caps.push(caps_after(&progress, count, cycle.hole))?;
+        progress = counted_on(&progress, count);
+        rest = others;
+    }
+    Ok(caps)
 }

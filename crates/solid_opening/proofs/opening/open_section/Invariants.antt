@@ -1,0 +1,18 @@
+use Rattle.std.proofs.Common.{◌≡◌, length, map}
+use Rattle.split_shapes.specs.Section.{is_hole}
+use Rattle.split_shapes.specs.Opening.{all_opened}
+use Rattle.opened_sections.specs.InTurn.{CanBeOpenedInTurn}
+use Rattle.section_checks.specs.Sections.{halves_of}
+use Rattle.solid_opening.specs.Capped.{opening_of, opened_section}
+use Rattle.solid_opening.proofs.opening.open_section.Given as goal
+
+abbrev pub invariant-cycles : goal.invariant-cycles
+invariant-cycles l = record {
+  opens : CanBeOpenedInTurn l.section.above.items l.s (opening_of l.draft.model l.progress l.caps.items) (map halves_of l.rest);
+  holes : map (λ q. q.hole) l.rest ≡ map (is_hole l.draft.model l.plane) (map halves_of l.rest);
+  made : all_opened l.plane l.section.above.items l.s (opening_of l.draft.model l.progress l.caps.items) (map halves_of l.rest) ≡ opened_section l.fn.draft.model l.fn.from l.s l.plane l.section;
+  session : l.draft.session ≡ l.fn.draft.session;
+}
+
+abbrev pub decreases-cycles : goal.decreases-cycles
+decreases-cycles l = length l.rest

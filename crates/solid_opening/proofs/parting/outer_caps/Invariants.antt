@@ -1,0 +1,10 @@
+use Rattle.std.proofs.Common.{◌≡◌, length}
+use Rattle.split_shapes.specs.Opening.{outer_caps}
+use Rattle.solid_opening.specs.Capped.{all_caps}
+use Rattle.solid_opening.proofs.parting.outer_caps.Given as goal
+
+abbrev pub invariant-caps : goal.invariant-caps
+invariant-caps l = outer_caps (all_caps l.rest) ≡ outer_caps (all_caps l.caps)
+
+abbrev pub decreases-caps : goal.decreases-caps
+decreases-caps l = length l.rest

@@ -1,0 +1,17 @@
+-- When a solid can be opened along a cycle, as the code asks it, and the model once the strips of the cycle are cut off.
+use Rattle.std.specs.Prelude.{◌≡◌, ℕ, List, length}
+use Rattle.boundary_model.specs.Model.{Model}
+use Rattle.shapes.specs.Fresh.{Taken}
+use Rattle.strip_laws.specs.Strips.{strips_cut}
+use Rattle.strip_laws.specs.Opened.{CanBeOpened}
+
+-- solid s can be opened along the cycle bs
+abbrev pub CanOpen : Model → ℕ → Taken → List ℕ → Type 0
+CanOpen M s c bs = (above : List ℕ) × CanBeOpened M above s c bs
+
+-- N is such a model with all strips of the cycle cut off
+pub record AreStripped (N : Model) (s : ℕ) (c : Taken) (bs : List ℕ) : Type 0 where
+  pub before : Model
+  pub above : List ℕ
+  pub can : CanBeOpened before above s c bs
+  pub model : N ≡ strips_cut before s c bs (length bs)
