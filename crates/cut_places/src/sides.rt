@@ -81,7 +81,7 @@ fn loops_reach(
 }
 
 /// Whether face f has a corner on that side of the plane.
-fn reaches(
+pub fn reaches(
     alloc: Global,
     arena: &Arena,
     plane: Plane,
