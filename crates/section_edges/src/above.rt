@@ -59,7 +59,7 @@ fn is_above(alloc: Global, arena: &Arena, plane: Plane, f: u32) -> Result<bool, 
 }
 
 /// The faces of solid s that are above the plane, rising: those with a corner above it, and those wholly on it whose normal doesn't
-/// point along the plane's direction. It walks once or twice over the corners of each face.
+/// point along the plane's direction. It walks at most three times over the corners of each face.
 pub fn faces_above(
     alloc: Global,
     arena: &Arena,
