@@ -12,4 +12,4 @@ pub use across::{crossing_point, crossings};
 pub use faces::places;
 pub use halves::{crosses, finish, goes_up, is_place, start, starts_on, touches};
 pub use loops::{boundary, loop_items};
-pub use sides::{solid_reaches, straddling};
+pub use sides::{loop_reaches, reaches, solid_reaches, straddling};

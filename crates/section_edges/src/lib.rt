@@ -1,6 +1,8 @@
 //! The faces above a plane, and the edges of the section between them and the faces below.
 #![tactic(auto)]
 
-mod edges;
+mod above;
+mod halves;
 
-pub use edges::{below_halves, faces_above};
+pub use above::faces_above;
+pub use halves::below_halves;

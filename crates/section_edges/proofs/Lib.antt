@@ -1,0 +1,4 @@
+pub mod Normals
+pub mod Searched
+pub mod Walked
+pub mod Sorted

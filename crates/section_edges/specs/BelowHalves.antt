@@ -1,0 +1,18 @@
+-- The halves of section edges in the faces below, as a walk over faces meets them.
+use Rattle.std.specs.Prelude.{ℕ, Bool, not, ◌&&◌, List, [], ◌∷◌, ◌++◌, filter}
+use Rattle.boundary_model.specs.HalfEdge.{mate}
+use Rattle.boundary_model.specs.Model.{Model}
+use Rattle.euler_operators.specs.Conditions.{face_at, lists}
+use Rattle.shapes.specs.Faces.{boundary}
+
+-- a half-edge lies in a face that isn't above, and its mate in one that is
+abbrev pub is_below : Model → List ℕ → ℕ → Bool
+is_below M above h = not (lists above (face_at M h)) && lists above (face_at M (mate h))
+
+-- those among some half-edges, and among the half-edges of some faces
+abbrev pub below_in : Model → List ℕ → List ℕ → List ℕ
+below_in M above hs = filter (is_below M above) hs
+
+abbrev pub below_met : Model → List ℕ → List ℕ → List ℕ
+below_met M above [] = []
+below_met M above (f ∷ fs) = below_in M above (boundary M f) ++ below_met M above fs
