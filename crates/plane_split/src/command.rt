@@ -1,13 +1,65 @@
 //! The split of a solid by a plane, as one command.
 ghost use Rattle.std.specs.Prelude.{◌≡◌, None, Some, Err, OnOk, OnErr};
 ghost use Rattle.euler_operators.specs.declared.Refusal.{Refusal};
+ghost use Rattle.euler_conditions.specs.Ready.{IsReady};
 ghost use Rattle.undo_journal.specs.Machine.{held, accepted};
 ghost use Rattle.split_shapes.specs.Split.{split_refusal, split_model};
+ghost use Rattle.crossing_laws.specs.Laws.{CanBegin};
 
-use std::alloc::{AllocError, Global};
-use undo_journal::{Failure, Session};
+use crate::steps::carry_out;
+use halfedge_arena::Arena;
+use lattice::Plane;
+use split_checks::check_begin;
+use std::alloc::Global;
+use undo_journal::{Draft, Failure, Session};
 
-/// A split as one command.
+/// The plane with these numbers.
+fn plane_of(a: i64, b: i64, c: i64, d: i64) -> Plane
+    ensures { result ≡ record { a = a; b = b; c = c; d = d } }
+{
+    Plane {
+        a: i128::from(a),
+        b: i128::from(b),
+        c: i128::from(c),
+        d: i128::from(d),
+    }
+}
+
+/// Whether the plane can begin to split solid s, whose upper part is to be solid t, and if it can't why.
+fn admit(alloc: Global, arena: &Arena, s: u32, plane: &Plane, t: u32) -> Result<(), Failure>
+    requires { IsReady arena.now }
+    ensures ok { OnOk result (CanBegin arena.now.model s plane.now t) }
+    ensures refused { (refusal : Refusal) → (result ≡ Err (Failure.Refused refusal)) → (split_refusal arena.now.model s plane.now t ≡ Some refusal) }
+{
+    match check_begin(alloc, arena, s, plane, t) {
+        Ok(Ok(())) => Ok(()),
+        Ok(Err(refusal)) => Err(Failure::Refused(refusal)),
+        Err(error) => Err(Failure::Memory(error)),
+    }
+}
+
+/// A split as one command: solid s keeps what is below the plane `a x + b y + c z + d = 0`, and what is above it, where that sum is
+/// positive, becomes solid t. A face that lies wholly on the plane stays in s where its normal points along (a, b, c), else it goes to
+/// t. Along the cycles of edges between the two, the edges of the section, both are closed by new faces: s keeps these edges and their
+/// vertices, and t gets copies.
+///
+/// Refused, in this order: NumberRange with s, then t; NoSolid with s; SolidTaken with t; PlaneRange with 1 to 4 for the first of a, b,
+/// c and d that is out of range (1,000,000,000 either way, for d 3,000,000,000,000,000,000), or with 0 where a, b and c are zero;
+/// LoneLoop with the least lone loop of s; NotFlat with its least face that isn't flat; PlaneMisses with s where it has no vertex above
+/// the plane, or none below; NotLattice with the least edge that crosses the plane off the lattice; TouchedFace with the least face that
+/// straddles the plane and touches it at a corner that is no cut place; CutOften with the least of them whose outer loop has no cut
+/// place, or of which a ring has none while the face hasn't exactly two; CutCrossed with the least of them that has two cut places at
+/// one point, or, with the places in the order of their points, a pair that isn't one up and one down; NumbersSpent with 2, 3, 4 or 5
+/// where no numbers are left for the faces, loops, edges or vertices that cutting the edges and the faces takes. And once that is done:
+/// CutCrossed with the first face between whose cut places edges can't be drawn; BranchedVertex with the least vertex at which more
+/// than two edges of the section meet; SectionHoles with s where one of its cycles is a hole and not exactly one is outer; NumbersSpent
+/// with 2, 3, 4 or 5 where no numbers are left for closing the two. The tests take memory, and so do the steps: where it is refused
+/// `Memory` is answered, also in place of a refusal. On any failure the session is as it was.
+///
+/// The operators are those of M. Mäntylä, *An Introduction to Solid Modeling* (1988): one for each edge that crosses the plane, one for
+/// each pair of cut places of a face and one for each ring that goes with a new face; 3 n + 1 for each cycle of n edges, which cut
+/// strips off the faces above, raise copies of the vertices and make the strips two caps; two for each hole, whose caps become rings;
+/// and last the solid is parted. Cost: the tests', that of sorting the edges and the cut places, and that of each operator.
 pub fn split(
     alloc: Global,
     session: Session,
@@ -22,5 +74,17 @@ pub fn split(
     ensures refused { (refusal : Refusal) → (result.1 ≡ Err (Failure.Refused refusal)) → (split_refusal (held session) s (record { a = a; b = b; c = c; d = d }) t ≡ Some refusal) }
     ensures err { OnErr result.1 (result.0 ≡ session) }
 {
-    (session, Err(Failure::Memory(AllocError)))
+    let plane = plane_of(a, b, c, d);
+    if let Err(failure) = admit(alloc, session.arena(), s, &plane, t) {
+        return (session, Err(failure));
+    }
+    let mut draft = match Draft::open(session) {
+        Ok(draft) => draft,
+        Err((session, error)) => return (session, Err(Failure::Memory(error))),
+    };
+    match carry_out(alloc, &mut draft, s, &plane, t) {
+        Ok(Ok(())) => (draft.commit(), Ok(())),
+        Ok(Err(refusal)) => (draft.abandon(), Err(Failure::Refused(refusal))),
+        Err(error) => (draft.abandon(), Err(Failure::Memory(error))),
+    }
 }

@@ -2,5 +2,6 @@
 #![tactic(auto)]
 
 mod command;
+mod steps;
 
 pub use command::split;

@@ -1,0 +1,72 @@
+-- The conditions of a split: those that are tested first and what they say, and those that are tested once the faces are drawn.
+use Rattle.std.proofs.Common.{◌≡◌, ℕ, ℤ, true, Option, None, Some, Result, Ok, Err, refl, sym, ap, ◌∙◌, arith}
+use Rattle.std.proofs.lemmas.Int.{ints}
+use Rattle.lattice.specs.declared.Plane.{Plane}
+use Rattle.lattice.specs.Ranges.{IsWithin, IsCutPlane}
+use Rattle.lattice.specs.Vectors.{is_offset}
+use Rattle.lattice.proofs.Magnitudes.{coordinate_within}
+use Rattle.boundary_model.specs.Table as table
+use Rattle.boundary_model.specs.Model.{Model}
+use Rattle.boundary_model.specs.Sound.{Sound, Has}
+use Rattle.euler_operators.specs.Conditions.{AllHold, first_refusal, verdict}
+use Rattle.euler_operators.specs.declared.Refusal.{Refusal}
+use Rattle.euler_laws_shared.proofs.Goes.{all_hold}
+use Rattle.fresh_laws.proofs.Tests.{first_refusal-append, first_refusal-refused}
+use Rattle.split_shapes.specs.Sides.{straddling_faces}
+use Rattle.split_shapes.specs.Crossings.{with_crossings}
+use Rattle.split_shapes.specs.Drawing.{Drawing, with_drawings}
+use Rattle.split_shapes.specs.Split.{first_conditions, later_conditions, split_conditions, split_refusal}
+use Rattle.crossing_laws.specs.Laws.{CanBegin}
+use Rattle.crossing_laws.proofs.Whole.{crossings_keep}
+use Rattle.cut_pairs.proofs.Whole.{can_be_drawn}
+use Rattle.drawn_splits.specs.Kept.{KeepsSolids}
+use Rattle.drawn_splits.proofs.Solids.{drawing_keeps}
+use Rattle.solid_drawing.specs.Drawn.{put_aside}
+use Rattle.undo_journal.specs.declared.session.Failure.{Failure}
+use Rattle.undo_journal.specs.declared.session.Failure.TheVariants as failure
+
+-- a verdict tells whether there is a refusal, and which
+pub passed : (o : Option Refusal) (u : Unit {0}) → Ok u ≡ verdict o → o ≡ None
+passed None u e = refl
+passed (Some r) u e = cc
+
+pub failed : (o : Option Refusal) (r : Refusal) → Err r ≡ verdict o → o ≡ Some r
+failed None r e = cc
+failed (Some q) r e = cc
+
+pub same_refusal : (q r : Refusal) → ◌≡◌ {A = Result (Unit {0}) Failure} (Err (failure.Refused q)) (Err (failure.Refused r)) → q ≡ r
+same_refusal q r e = cc
+
+offset_within : (d : ℤ) → is_offset d ≡ true → IsWithin 3000000000000000000 d
+offset_within d e = grind (arith, ints)
+
+module _ (M : Model) (s : ℕ) (p : Plane) (t : ℕ) where
+  -- a refusal before anything is changed is that of the split
+  pub refused_first : (r : Refusal) → first_refusal (first_conditions M s p t) ≡ Some r → split_refusal M s p t ≡ Some r
+  unfolding split_conditions
+  refused_first r e = first_refusal-refused (first_conditions M s p t) (later_conditions s p (with_drawings M s p)) r e
+
+  module _ (begun : CanBegin M s p t) where
+    -- after that the later conditions decide, in which the pairs left aren't read
+    pub later_decide : (d : Drawing) → d ≡ put_aside (with_drawings M s p) → first_refusal (later_conditions s p d) ≡ split_refusal M s p t
+    unfolding split_conditions
+    later_decide d e = ap (λ x. first_refusal (later_conditions s p x)) e ∙ sym (first_refusal-append (first_conditions M s p t) (later_conditions s p (with_drawings M s p)) begun)
+
+    first : AllHold (first_conditions M s p t)
+    first = all_hold (first_conditions M s p t) begun
+
+    pub plane_within : IsCutPlane p
+    unfolding first_conditions
+    plane_within = ((coordinate_within p.a first.1.1.1.1.0, coordinate_within p.b first.1.1.1.1.1.0, coordinate_within p.c first.1.1.1.1.1.1.0), offset_within p.d first.1.1.1.1.1.1.1.0)
+
+    s_there : Has M.solids s
+    unfolding first_conditions
+    s_there = first.1.1.0
+
+    drawn_keeps : Sound M → KeepsSolids (with_crossings M s p).model (with_drawings M s p).model
+    unfolding with_drawings
+    drawn_keeps sound = drawing_keeps M p (with_crossings M s p) (straddling_faces M p s) (can_be_drawn M s p t sound begun)
+
+    -- the solid is there once its faces are drawn
+    pub still_there : Sound M → (d : Drawing) → d ≡ put_aside (with_drawings M s p) → table.has d.model.solids s ≡ true
+    still_there sound d e = ap (λ x. table.has x.model.solids s) e ∙ ap (λ u. table.has u s) ((drawn_keeps sound).solids ∙ (crossings_keep M s p t sound begun).solids) ∙ s_there

@@ -1,0 +1,2 @@
+mod Conditions
+mod Parted

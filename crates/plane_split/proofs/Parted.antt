@@ -1,0 +1,101 @@
+-- A solid opened along its section and parted, once its faces are drawn.
+use Rattle.std.proofs.Common.{◌≡◌, ℕ, List, [], ◌∷◌, ◌++◌, None, refl, sym, ap, ◌∙◌, subst}
+use Rattle.lattice.specs.declared.Plane.{Plane}
+use Rattle.boundary_model.specs.Model.{Model}
+use Rattle.boundary_model.specs.Sound.{Sound}
+use Rattle.euler_operators.specs.declared.Op.{Op}
+use Rattle.euler_operators.specs.declared.Op.TheVariants.{Part}
+use Rattle.euler_laws.specs.Laws.{AreAccepted, effects}
+use Rattle.euler_laws.proofs.Runs.{effects-append}
+use Rattle.prism_laws.proofs.Turns.{AreAccepted-back}
+use Rattle.split_shapes.specs.Sides.{faces_above}
+use Rattle.split_shapes.specs.Section.{below_halves, section_cycles}
+use Rattle.split_shapes.specs.Drawing.{Drawing, with_drawings}
+use Rattle.split_shapes.specs.Opening.{Caps, all_opened}
+use Rattle.split_shapes.specs.Split.{opened_at, split_above, split_refusal, split_model}
+use Rattle.cut_pairs.specs.Laws.{rewriting_ops}
+use Rattle.cut_pairs.proofs.Whole.{rewritings_made}
+use Rattle.drawing_laws.proofs.Runs.{Leads}
+use Rattle.opened_sections.specs.InTurn.{CanBeOpenedInTurn}
+use Rattle.drawn_splits.proofs.Drawn.{begins, can_open_all}
+use Rattle.face_drawing.specs.Codes.{drawing_of}
+use Rattle.face_drawing.specs.declared.progress.Progress.{Progress}
+use Rattle.section_checks.specs.Sections.{IsSection, cycles_of}
+use Rattle.section_checks.specs.declared.section.Section.{Section}
+use Rattle.solid_drawing.specs.Drawn.{put_aside}
+use Rattle.solid_opening.specs.Capped.{opened_section, unopened}
+use Rattle.split_laws.specs.SplitOps.{openings_ops, hole_ops, upper_left, upper_ops, ops_above, split_ops}
+use Rattle.split_laws.proofs.Openings.{openings_go}
+use Rattle.split_laws.proofs.Whole.{split_accepted, split_made}
+use Rattle.plane_split.specs.Drawn.{IsDrawn}
+
+-- where some operators lead on from a model that the first of them make, the others lead on from there
+rest_leads : (M N K : Model) (ops more : List Op) → effects M ops ≡ N → Leads M K (ops ++ more) → Leads N K more
+rest_leads M N K ops more e a = record {
+  accepted = subst (λ X. AreAccepted X more) e (AreAccepted-back M ops more a.accepted);
+  made = ap (λ X. effects X more) (sym e) ∙ sym (effects-append M ops more) ∙ a.made;
+}
+
+module _ (M : Model) (s : ℕ) (p : Plane) (t : ℕ) (sound : Sound M) (accepted : split_refusal M s p t ≡ None) where
+  abbrev D : Drawing
+  D = with_drawings M s p
+
+  abbrev above : List ℕ
+  above = faces_above (with_drawings M s p).model p s
+
+  whole : Leads M (split_above (with_drawings M s p) s p t) (rewriting_ops M s p ++ ops_above (with_drawings M s p) s p t)
+  unfolding split_ops split_model
+  whole = record { accepted = split_accepted M s p t sound accepted; made = split_made M s p t sound accepted }
+
+  later : Leads (with_drawings M s p).model (split_above (with_drawings M s p) s p t) (ops_above (with_drawings M s p) s p t)
+  later = rest_leads M D.model (split_above D s p t) (rewriting_ops M s p) (ops_above D s p t) (rewritings_made M s p t sound (begins M s p t sound accepted)) whole
+
+  upper : Leads (opened_at (with_drawings M s p) (faces_above (with_drawings M s p).model p s) s p).model (split_above (with_drawings M s p) s p t)
+      (upper_ops (opened_at (with_drawings M s p) (faces_above (with_drawings M s p).model p s) s p) (faces_above (with_drawings M s p).model p s) s t)
+  upper = rest_leads D.model (opened_at D above s p).model (split_above D s p t)
+      (openings_ops above s p (record { model = D.model; taken = D.taken; caps = [] }) (section_cycles D.model (below_halves D.model above s))) (upper_ops (opened_at D above s p) above s t)
+      (openings_go above s p (record { model = D.model; taken = D.taken; caps = [] }) (section_cycles D.model (below_halves D.model above s)) (can_open_all M s p t sound accepted)).made later
+
+-- ---- from a drawing
+
+-- the pairs left aren't read
+pub split_is : (M : Model) (s : ℕ) (p : Plane) (t : ℕ) → split_above (put_aside (with_drawings M s p)) s p t ≡ split_model M s p t
+unfolding split_model
+split_is M s p t = refl
+
+-- the solid can be opened along its section
+abbrev Opens : Drawing → ℕ → Plane → Type 0
+Opens d s p = CanBeOpenedInTurn (faces_above d.model p s) s (record { model = d.model; taken = d.taken; caps = [] }) (section_cycles d.model (below_halves d.model (faces_above d.model p s) s))
+
+-- and what is above is parted then
+abbrev Parts : Drawing → ℕ → Plane → ℕ → Type 0
+Parts d s p t = Leads (opened_at d (faces_above d.model p s) s p).model (split_above d s p t) (upper_ops (opened_at d (faces_above d.model p s) s p) (faces_above d.model p s) s t)
+
+opens : (d : Drawing) (s : ℕ) (p : Plane) (t : ℕ) → IsDrawn d s p t → Opens d s p
+opens d s p t w = subst (λ x. Opens x s p) (sym w.drawn) (can_open_all w.before s p t w.sound w.accepted)
+
+parts : (d : Drawing) (s : ℕ) (p : Plane) (t : ℕ) → IsDrawn d s p t → Parts d s p t
+parts d s p t w = subst (λ x. Parts x s p t) (sym w.drawn) (upper w.before s p t w.sound w.accepted)
+
+-- ---- as the code has it
+
+module _ (N : Model) (c : Progress) (s : ℕ) (p : Plane) (t : ℕ) (q : Section) (w : IsDrawn (drawing_of c N []) s p t) (is : IsSection N s p q) where
+  pub section_opens : CanBeOpenedInTurn q.above.items s (unopened N c) (cycles_of q)
+  section_opens =
+      subst (λ a. CanBeOpenedInTurn a s (unopened N c) (cycles_of q)) (sym is.above)
+      (subst (λ cs. CanBeOpenedInTurn (faces_above N p s) s (unopened N c) cs) (sym is.cycles) (opens (drawing_of c N []) s p t w))
+
+  opened_is : opened_section N c s p q ≡ opened_at (drawing_of c N []) (faces_above N p s) s p
+  opened_is = λ i. all_opened p (is.above i) s (unopened N c) (is.cycles i)
+
+  upper_is : Leads (opened_section N c s p q).model (split_above (drawing_of c N []) s p t) (upper_ops (opened_section N c s p q) q.above.items s t)
+  upper_is = subst (λ a. Leads (opened_section N c s p q).model (split_above (drawing_of c N []) s p t) (upper_ops (opened_section N c s p q) a s t)) (sym is.above)
+      (subst (λ o. Leads o.model (split_above (drawing_of c N []) s p t) (upper_ops o (faces_above N p s) s t)) (sym opened_is) (parts (drawing_of c N []) s p t w))
+
+  -- from what the opening left, the operators of the upper part lead to the split
+  pub upper_leads : (K : Model) (above : List ℕ) (ks : List Caps) → K ≡ (opened_section N c s p q).model → above ≡ q.above.items → ks ≡ (opened_section N c s p q).caps →
+      Leads K (split_above (drawing_of c N []) s p t) (hole_ops ks ++ Part s t (upper_left above ks) ∷ [])
+  upper_leads K above ks is_model is_above is_caps =
+      subst (λ X. Leads X (split_above (drawing_of c N []) s p t) (hole_ops ks ++ Part s t (upper_left above ks) ∷ [])) (sym is_model)
+      (subst (λ a. Leads (opened_section N c s p q).model (split_above (drawing_of c N []) s p t) (hole_ops ks ++ Part s t (upper_left a ks) ∷ [])) (sym is_above)
+      (subst (λ x. Leads (opened_section N c s p q).model (split_above (drawing_of c N []) s p t) (hole_ops x ++ Part s t (upper_left q.above.items x) ∷ [])) (sym is_caps) upper_is))

@@ -1,0 +1,40 @@
+use mir.Val.{SFits, of_z, to_z}
+use Rattle.std.proofs.Common.{◌≡◌, w64, ℤ, Ok, Err, sym, ap, ◌∙◌}
+use Rattle.std.proofs.lemmas.Int.{to_z-of_z}
+use Rattle.lattice.specs.declared.Plane.{Plane}
+use Rattle.undo_journal.specs.Machine.{accepted, commit}
+use Rattle.split_shapes.specs.Split.{split_refusal, split_model}
+use Rattle.plane_split.proofs.Conditions.{passed, failed, same_refusal}
+use Rattle.plane_split.proofs.command.split.Goals as goal
+
+-- a plane of numbers that are passed
+abbrev passed_plane : ℤ → ℤ → ℤ → ℤ → Plane
+passed_plane a b c d = record { a = to_z w64 (of_z w64 a); b = to_z w64 (of_z w64 b); c = to_z w64 (of_z w64 c); d = to_z w64 (of_z w64 d) }
+
+plane_is : (a b c d : ℤ) → SFits w64 a → SFits w64 b → SFits w64 c → SFits w64 d → passed_plane a b c d ≡ record { a = a; b = b; c = c; d = d }
+plane_is a b c d fa fb fc fd = λ i. record { a = to_z-of_z w64 a fa i; b = to_z-of_z w64 b fb i; c = to_z-of_z w64 c fc i; d = to_z-of_z w64 d fd i }
+
+pub returns-in-Err-clause-refused : goal.returns-in-Err-clause-refused
+returns-in-Err-clause-refused c = λ refusal is.
+    let plane : c.plane_of-plane.result ≡ record { a = c.args.a; b = c.args.b; c = c.args.c; d = c.args.d } =
+    c.plane_of-plane.ensures ∙ plane_is c.args.a c.args.b c.args.c c.args.d c.ranges.a c.ranges.b c.ranges.c c.ranges.d in
+    sym (λ i. split_refusal (c.arena.ensures.model i) c.args.s (plane i) c.args.t) ∙ c.in-Err.ensures.refused refusal is
+
+pub returns-in-Ok-Ok-clause-ok : goal.returns-in-Ok-Ok-clause-ok
+returns-in-Ok-Ok-clause-ok c =
+    let plane : c.plane_of-plane.result ≡ record { a = c.args.a; b = c.args.b; c = c.args.c; d = c.args.d } =
+    c.plane_of-plane.ensures ∙ plane_is c.args.a c.args.b c.args.c c.args.d c.ranges.a c.ranges.b c.ranges.c c.ranges.d in
+    let opened = c.in-Ok.ensures.ok in (
+      sym (λ i. split_refusal (opened i).model c.args.s (plane i) c.args.t)
+          ∙ passed (split_refusal c.in-Ok.draft.model c.args.s c.plane_of-plane.result c.args.t) tt (sym c.in-Ok-Ok.field-0-is ∙ c.in-Ok-Ok.ensures.carried),
+      c.commit.ensures ∙ ap commit (c.in-Ok-Ok.ensures.ok (ap Ok c.in-Ok-Ok.field-0-is))
+          ∙ (λ i. accepted (opened i).session (split_model (opened i).model c.args.s (plane i) c.args.t)),
+    )
+
+pub returns-in-Ok-Err-clause-refused : goal.returns-in-Ok-Err-clause-refused
+returns-in-Ok-Err-clause-refused c = λ refusal is.
+    let plane : c.plane_of-plane.result ≡ record { a = c.args.a; b = c.args.b; c = c.args.c; d = c.args.d } =
+    c.plane_of-plane.ensures ∙ plane_is c.args.a c.args.b c.args.c c.args.d c.ranges.a c.ranges.b c.ranges.c c.ranges.d in
+    sym (λ i. split_refusal (c.in-Ok.ensures.ok i).model c.args.s (plane i) c.args.t)
+    ∙ failed (split_refusal c.in-Ok.draft.model c.args.s c.plane_of-plane.result c.args.t) refusal
+    (ap Err (sym (same_refusal c.in-Ok-Err.refusal refusal is)) ∙ sym c.in-Ok-Err.field-0-is ∙ c.in-Ok-Err.ensures.carried)

@@ -1,0 +1,15 @@
+-- What is drawn in a split that isn't refused.
+use Rattle.std.specs.Prelude.{◌≡◌, ℕ, None}
+use Rattle.lattice.specs.declared.Plane.{Plane}
+use Rattle.boundary_model.specs.Model.{Model}
+use Rattle.boundary_model.specs.Sound.{Sound}
+use Rattle.split_shapes.specs.Drawing.{Drawing, with_drawings}
+use Rattle.split_shapes.specs.Split.{split_refusal}
+use Rattle.solid_drawing.specs.Drawn.{put_aside}
+
+-- d is the drawing of a sound model whose split isn't refused, but for the pairs of the face drawn last
+pub record IsDrawn (d : Drawing) (s : ℕ) (p : Plane) (t : ℕ) : Type 0 where
+  pub before : Model
+  pub sound : Sound before
+  pub accepted : split_refusal before s p t ≡ None
+  pub drawn : d ≡ put_aside (with_drawings before s p)

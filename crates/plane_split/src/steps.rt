@@ -1,0 +1,64 @@
+//! The three rewritings of a split, one after the other in a draft.
+ghost use Rattle.std.specs.Prelude.{◌≡◌, [], Ok, OnOk, IfOk};
+ghost use Rattle.boundary_model.specs.Sound.{Sound};
+ghost use Rattle.euler_operators.specs.Conditions.{verdict};
+ghost use Rattle.split_shapes.specs.Split.{split_above, split_model, split_refusal};
+ghost use Rattle.crossing_laws.specs.Laws.{CanBegin};
+ghost use Rattle.face_drawing.specs.Codes.{drawing_of};
+ghost use Rattle.section_checks.specs.Sections.{IsSection};
+ghost use Rattle.plane_split.specs.Drawn.{IsDrawn};
+
+use euler_conditions::Refusal;
+use face_drawing::Progress;
+use lattice::Plane;
+use section_checks::{Section, check_later};
+use solid_drawing::draw_solid;
+use solid_opening::{open_section, part_upper};
+use std::alloc::{AllocError, Global};
+use undo_journal::Draft;
+
+/// Opens solid s along its section once its faces are drawn, and parts what is above the plane as solid t. On `AllocError` some
+/// steps may be taken.
+fn part_drawn(
+    alloc: Global,
+    draft: &mut Draft,
+    s: u32,
+    plane: &Plane,
+    t: u32,
+    drawn: &Progress,
+    section: &Section,
+) -> Result<(), AllocError>
+    requires drawn { IsDrawn (drawing_of drawn.now draft.old.model []) s plane.now t }
+    requires section { IsSection draft.old.model s plane.now section.now }
+    ensures ok { OnOk result (draft.new ≡ record draft.old { model = split_above (drawing_of drawn.now draft.old.model []) s plane.now t }) }
+    ensures session { draft.new.session ≡ draft.old.session }
+{
+    let caps = open_section(alloc, draft, s, plane, drawn, section)?;
+    let above = section.above.as_slice();
+    part_upper(alloc, draft, s, t, above, caps.as_slice())
+}
+
+/// Splits solid s of the draft's model by the plane, where that can begin: the edges that cross it are cut, the faces that straddle
+/// it are drawn, and then, where the solid can be opened along its section, what is above is parted as solid t. It tells the refusal
+/// where it can't. On a refusal or `AllocError` some steps may be taken.
+pub(crate) fn carry_out(
+    alloc: Global,
+    draft: &mut Draft,
+    s: u32,
+    plane: &Plane,
+    t: u32,
+) -> Result<Result<(), Refusal>, AllocError>
+    requires sound { Sound draft.old.model }
+    requires begins { CanBegin draft.old.model s plane.now t }
+    ensures carried { IfOk result (λ carried. carried ≡ verdict (split_refusal draft.old.model s plane.now t)) }
+    ensures ok { (result ≡ Ok (Ok tt)) → (draft.new ≡ record draft.old { model = split_model draft.old.model s plane.now t }) }
+    ensures session { draft.new.session ≡ draft.old.session }
+{
+    let drawn = draw_solid(alloc, draft, s, plane)?;
+    let section = match check_later(alloc, draft.arena(), s, plane, &drawn)? {
+        Ok(section) => section,
+        Err(refusal) => return Ok(Err(refusal)),
+    };
+    part_drawn(alloc, draft, s, plane, t, &drawn, &section)?;
+    Ok(Ok(()))
+}
