@@ -1,0 +1,2 @@
+pub mod Splittable
+pub mod Parts
