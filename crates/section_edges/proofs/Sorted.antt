@@ -60,13 +60,13 @@ module _ (M : Model) (above : List ℕ) (s : ℕ) where
   rises (g ∷ []) up apart are = refl
   rises (g ∷ h ∷ hs) up apart are = ap (λ b. b && strictly_rises (map code (h ∷ hs))) (below (code g) (code h) first)
       ∙ rises (h ∷ hs) (λ i j d l m. up (suc i) (suc j) d (omega (arith, l)) (omega (arith, m))) (λ z. omega (arith, apart z)) (λ m i. are m (omega (arith, i))) where
-    same : g.edge ≡ h.edge → ⊥
-    same e =
-        let o = one_half (code g) (code h) (are (code g) (omega (arith, tick_same (code g)))) (are (code h) (omega (arith, tick_same (code h)))) (edge_of-code g ∙ e ∙ sym (edge_of-code h)) in
-        omega (arith, apart (code g), tick_same (code g), ap (tick (code g)) o)
+        same : g.edge ≡ h.edge → ⊥
+        same e =
+            let o = one_half (code g) (code h) (are (code g) (omega (arith, tick_same (code g)))) (are (code h) (omega (arith, tick_same (code h)))) (edge_of-code g ∙ e ∙ sym (edge_of-code h)) in
+            omega (arith, apart (code g), tick_same (code g), ap (tick (code g)) o)
 
-    first : code g < code h
-    first = elim (less_or_same g.edge h.edge (up 0 1 g (omega arith) (omega arith))) [ inl l ↦ lesser_half g h l | inr e ↦ absurd (same e) ]
+        first : code g < code h
+        first = elim (less_or_same g.edge h.edge (up 0 1 g (omega arith) (omega arith))) [ inl l ↦ lesser_half g h l | inr e ↦ absurd (same e) ]
 
   -- what a walk met, sorted by edges, are the below halves of the solid
   pub sorted_met : Sound M → (found hs : List HalfEdge) → map code found ≡ below_met M above (faces_of M s) → IsPermutation found hs → IsNonDecreasingBy (λ h. h.edge) hs → map code hs ≡ below_halves M above s

@@ -23,8 +23,8 @@ faces-preserved c =
     let M = c.args.arena.now.model in let fs = c.args.above.now in let s = c.args.s in let f = c.in-Some.f in
     let old = map code c.faces.found.items in let here = below_in M fs (boundary M f) in let rest = below_met M fs (above f (faces_of M s)) in
     let more : map code c.extend_from_slice.new.self.items ≡ old ++ here =
-        ap (map code) c.in_ok-extend_from_slice.ensures.items ∙ map-append code c.faces.found.items c.as_slice.result.now
-        ∙ ap (λ (hs : List ℕ). old ++ hs) (ap (map code) c.as_slice.ensures.value ∙ c.in_ok-more.ensures) in
+    ap (map code) c.in_ok-extend_from_slice.ensures.items ∙ map-append code c.faces.found.items c.as_slice.result.now
+    ∙ ap (λ (hs : List ℕ). old ++ hs) (ap (map code) c.as_slice.ensures.value ∙ c.in_ok-more.ensures) in
     ap (λ (hs : List ℕ). hs ++ rest) more ∙ append_assoc old here rest
     ∙ ap (λ (gs : List ℕ). old ++ below_met M fs gs) (sym (next_face M s c.faces.last f c.in-Some.ensures)) ∙ c.faces.invariant
 
