@@ -14,4 +14,4 @@ pub use faces::places;
 pub use halves::{crosses, finish, goes_up, is_place, start, starts_on, touches};
 pub use loops::{boundary, loop_items};
 pub use order::{Places, crossing_point, in_order, pairs_differ, place_point};
-pub use sides::{solid_reaches, straddling};
+pub use sides::{loop_reaches, solid_reaches, straddling};

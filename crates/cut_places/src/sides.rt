@@ -36,7 +36,7 @@ fn some_start(arena: &Arena, plane: Plane, side: Sign, items: &[HalfEdge]) -> bo
 }
 
 /// Whether a vertex on loop l lies on that side of the plane.
-fn loop_reaches(
+pub fn loop_reaches(
     alloc: Global,
     arena: &Arena,
     plane: Plane,

@@ -1,3 +1,3 @@
 mod Sorted
 mod Halves
-mod Remaining
+pub mod Remaining
