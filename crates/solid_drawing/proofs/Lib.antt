@@ -1,0 +1,6 @@
+mod Starts
+mod RingSteps
+mod OneFace
+mod Faces
+mod FaceTurns
+mod WholeSolid

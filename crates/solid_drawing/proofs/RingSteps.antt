@@ -1,0 +1,24 @@
+-- Rings of a face given to a new one.
+use Rattle.std.proofs.Common.{◌≡◌, ℕ, Bool, true, false, ◌&&◌, not, nat_eq, List, [], ◌∷◌, Some, refl, sym, ◌∙◌}
+use Rattle.boundary_model.specs.Table as table
+use Rattle.boundary_model.specs.Model.{Model, face_of, outer}
+use Rattle.boundary_model.specs.Sound.{Has}
+use Rattle.euler_operators.specs.declared.Op.TheVariants.{RingIn}
+use Rattle.euler_operators.specs.Effect.{effect}
+use Rattle.euler_laws.specs.Laws.{effects}
+use Rattle.halfedge_arena.specs.Store.{IsNextRing}
+use Rattle.split_shapes.specs.Drawing.{with_rings}
+use Rattle.drawing_laws.specs.DrawingOps.{ring_ops}
+use Rattle.drawing_laws.proofs.Drawn.{ring_moved}
+
+-- a ring that an arena finds is there
+pub ring_there : (M : Model) (f n l : ℕ) → IsNextRing M f n (Some l) → Has M.loops l
+ring_there M f n l next = go (table.has M.loops l) (nat_eq (face_of M l) f) (not (nat_eq (outer M f) l)) next.1 where
+  go : (a b c : Bool) → a && b && c ≡ true → a ≡ true
+  go true b c e = refl
+  go false b c e = e
+
+-- given one after the other
+pub rings_given : (M : Model) (ls : List ℕ) (k : ℕ) → effects M (ring_ops ls k) ≡ with_rings M ls k
+rings_given M [] k = refl
+rings_given M (l ∷ ls) k = rings_given (effect M (RingIn l k)) ls k ∙ sym (ring_moved M l k ls)

@@ -1,0 +1,13 @@
+use Rattle.std.proofs.Common.{◌≡◌, ◌++◌, map, length}
+use Rattle.face_drawing.specs.Codes.{codes}
+use Rattle.solid_drawing.specs.Starts.{PairsThere, pairs_started}
+use Rattle.solid_drawing.proofs.places.pairs_started.Given as goal
+
+abbrev pub invariant-pairs : goal.invariant-pairs
+invariant-pairs l = record {
+  there : PairsThere l.arena.model (map codes l.rest);
+  made : map codes l.started.items ++ pairs_started l.arena.model l.plane (map codes l.rest) ≡ pairs_started l.arena.model l.plane (map codes l.pairs);
+}
+
+abbrev pub decreases-pairs : goal.decreases-pairs
+decreases-pairs l = length l.rest

@@ -1,0 +1,14 @@
+use Rattle.std.proofs.Common.{◌≡◌, ◌∙◌, OnOk, ap, subst}
+use Rattle.boundary_model.specs.Model.{Model}
+use Rattle.euler_laws.specs.Laws.{effects}
+use Rattle.split_shapes.specs.Drawing.{rings_above}
+use Rattle.drawing_laws.specs.DrawingOps.{ring_ops}
+use Rattle.solid_drawing.proofs.RingSteps.{rings_given}
+use Rattle.solid_drawing.proofs.rings.share_rings.Goals as goal
+
+pub returns-clause-ok : goal.returns-clause-ok
+returns-clause-ok c =
+    let M = c.args.draft.now.model in
+    let are = c.as_slice.ensures.value ∙ c.in_ok-rings.ensures ∙ ap (λ X. rings_above X c.args.plane c.args.f) c.arena.ensures.model in
+    subst (λ (N : Model). OnOk c.move_rings.result (c.move_rings.new.draft ≡ record { session = c.args.draft.now.session; model = N }))
+    (ap (λ ls. effects M (ring_ops ls c.args.k)) are ∙ rings_given M (rings_above M c.args.plane c.args.f) c.args.k) c.move_rings.ensures.ok
