@@ -33,7 +33,7 @@ run() {
 }
 
 : > "$dir/in"
-for example in wire triangle_with_hole block_with_hole u_profile glued_blocks; do
+for example in wire triangle_with_hole block_with_hole u_profile glued_blocks split_block; do
     run "examples/$example.gwb"; ended "$example" 0 ''; told "examples/$example.expected"
 done
 run examples/refusals.gwb; ended refusals 1 ''; told examples/refusals.expected

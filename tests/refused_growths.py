@@ -14,6 +14,8 @@ import sys
 import tempfile
 
 HERE = os.path.dirname(os.path.abspath(__file__))
+HOLED = ('block 1 0 0 0 6 6 6;mev +7 +7 13 9 2 2 6;kemr +13 7;mev @7 @7 13 10 2 4 6;mev -13 -13 14 11 4 4 6;mev -14 -14 15 12 4 2 6;mef -15 +13 16 7 8;'
+         'sweep 7 0 0 -6;kfmrh 2 7;')
 SCRIPTS = {
     'wire': 'mvfs 1 1 1 1 0 0 0;mev @1 @1 1 2 5 0 0;list',
     'wire cut': 'mvfs 1 1 1 1 0 0 0;mev @1 @1 1 2 5 0 0;kemr +1 2;list',
@@ -27,6 +29,10 @@ SCRIPTS = {
                          'sweep 1 0 0 4;volume 1;undo;sweep 1 0 0 5;list',
     'glued blocks': 'block 1 0 0 0 4 4 4;block 2 0 0 4 4 4 4;glue 1 8;count 1;volume 1;list',
     'glued and undone': 'block 1 0 0 0 4 4 4;block 2 0 0 4 4 4 4;glue 1 8;undo;undo;undo;list',
+    'halved block': 'block 1 0 0 0 4 4 4;split 1 1 0 0 -2 2;count 2;volume 1;undo;redo;list',
+    'split through a hole': HOLED + 'split 1 1 0 0 -3 2;volume 2;undo;split 1 0 0 1 -3 2;list',
+    'split refused late': 'lamina 1 2 0 2 0 2 -2 -2 0 2 0 -2 -2;mef -4 -2 5 3 3;mev +1 +1 6 5 0 0 0;mef -6 +2 7 4 4;mef +7 +3 8 5 5;mef +8 +4 9 6 6;'
+                          'split 1 0 0 1 0 2;undo;redo;list',
     'redo behind a refusal': 'mvfs 1 1 1 1 0 0 0;mev @1 @1 1 2 5 0 0;undo;mvfs 9 9 9 9 0 0 0;undo;kvfs 1;undo;list',
 }
 

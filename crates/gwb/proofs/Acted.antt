@@ -32,6 +32,14 @@ tries o s acted (Ok _) t ok told err = inl (subst (λ (q : Option Refusal). Acts
 tries o s acted (Err (failure.Refused r)) t ok told err = inl (subst (λ (q : Option Refusal). Acts q s acted (refused r) t) (sym (told r refl)) (refl, err))
 tries o s acted (Err (failure.Memory e)) t ok told err = inr (refl, err)
 
+pub tries_told : (o : Option Refusal) (s acted : Machine) (ended : Result (Unit {0}) Failure) (t : Machine) (a : Answer) → a ≡ outcome ended → OnOk ended ((o ≡ None) × (t ≡ acted))
+    → ((r : Refusal) → ended ≡ Err (failure.Refused r) → o ≡ Some r) → OnErr ended (t ≡ s) → Tries o s acted a t
+tries_told o s acted ended t a is ok told err = subst (λ (b : Answer). Tries o s acted b t) (sym is) (tries o s acted ended t ok told err)
+
 -- a fact about sizes as the code keeps them is one about the sizes
 pub of_sizes : (P : ℤ → ℤ → ℤ → Type 0) (a b g x y z : ℤ) → a ≡ x → b ≡ y → g ≡ z → P a b g → P x y z
 of_sizes P a b g x y z ea eb eg h = subst (λ i. P i y z) ea (subst (λ i. P a i z) eb (subst (λ i. P a b i) eg h))
+
+-- and so for the coefficients of a plane
+pub of_coefficients : (P : ℤ → ℤ → ℤ → ℤ → Type 0) (a b g e x y z w : ℤ) → a ≡ x → b ≡ y → g ≡ z → e ≡ w → P a b g e → P x y z w
+of_coefficients P a b g e x y z w ea eb eg ee h = of_sizes (λ i j k. P i j k w) a b g x y z ea eb eg (subst (P a b g) ee h)

@@ -1,5 +1,6 @@
 -- What a line is answered.
-use Rattle.std.specs.Prelude.{◌≡◌, ◌⊎◌, ℕ, ◌+◌, ℤ, pos, Bool, true, false, List, [], ◌∷◌, Option, Some, None, Result, Ok, Err}
+use Rattle.std.specs.Prelude.{◌≡◌, ◌⊎◌, ℕ, ◌+◌, ℤ, pos, Bool, true, false, List, [], ◌∷◌, get_or, Option, Some, None, Result, Ok, Err}
+use Rattle.lattice.specs.declared.Plane.{Plane}
 use Rattle.euler_operators.specs.declared.Refusal.{Refusal}
 use Rattle.euler_operators.specs.Refusal as refusal
 use Rattle.boundary_model.specs.Model.{Model}
@@ -7,6 +8,7 @@ use Rattle.shapes.specs.Lamina.{lamina_refusal, lamina_model}
 use Rattle.shapes.specs.Block.{block_refusal, block_model}
 use Rattle.shapes.specs.Prism.{prism_refusal, prism_model}
 use Rattle.glue_shapes.specs.Glue.{glue_refusal, glue_model}
+use Rattle.split_shapes.specs.Split.{split_refusal, split_model}
 use Rattle.solid_counts.specs.declared.Tally.{Tally}
 use Rattle.solid_measure.specs.Measure.{answer, face_refusal, solid_refusal, plane_of, is_flat, six_volume, counts}
 use Rattle.undo_journal.specs.Machine.{Machine, held, accepted, act, act_refusal, undo, undo_refusal, redo, redo_refusal}
@@ -51,9 +53,9 @@ Acts (Some r) s acted a t = (a ≡ refused r) × (t ≡ s)
 abbrev pub Tries : Option Refusal → Machine → Machine → Answer → Machine → Type 0
 Tries o s acted a t = Acts o s acted a t ⊎ ((a ≡ Told reply.Memory) × (t ≡ s))
 
--- a command word that isn't known
-abbrev pub Unknown : Machine → Answer → Machine → Type 0
-Unknown s a t = (a ≡ Told (reply.Fault 1)) × (t ≡ s)
+-- the plane that has the four coefficients
+abbrev pub given_plane : List ℤ → Plane
+given_plane cs = record { a = get_or cs 0 (pos 0); b = get_or cs 1 (pos 0); c = get_or cs 2 (pos 0); d = get_or cs 3 (pos 0) }
 
 -- a query is told a reply, or refused
 abbrev pub told : Result Reply Refusal → Answer
@@ -82,7 +84,7 @@ Obeys s (command.Lamina n ps) a t = Acts (lamina_refusal (held s) n ps) s (accep
 Obeys s (command.Block n p dx dy dz) a t = Acts (block_refusal (held s) n p dx dy dz) s (accepted s (block_model (held s) n p dx dy dz)) a t
 Obeys s (command.Sweep f d) a t = Acts (prism_refusal (held s) f d) s (accepted s (prism_model (held s) f d)) a t
 Obeys s (command.Glue f g) a t = Tries (glue_refusal (held s) f g) s (accepted s (glue_model (held s) f g)) a t
-Obeys s (command.Split n plane m) a t = Unknown s a t
+Obeys s (command.Split n cs m) a t = Tries (split_refusal (held s) n (given_plane cs) m) s (accepted s (split_model (held s) n (given_plane cs) m)) a t
 Obeys s (command.Plane f) a t = (a ≡ told (plane_reply (held s) f)) × (t ≡ s)
 Obeys s (command.Volume n) a t = (a ≡ told (volume_reply (held s) n)) × (t ≡ s)
 Obeys s (command.Count n) a t = (a ≡ told (count_reply (held s) n)) × (t ≡ s)

@@ -15,6 +15,7 @@ spelled (larger.Lamina n ps) = command.Lamina n ps
 spelled (larger.Block n p dx dy dz) = command.Block n p dx dy dz
 spelled (larger.Sweep f d) = command.Sweep f d
 spelled (larger.Glue f g) = command.Glue f g
+spelled (larger.Split n cs m) = command.Split n cs m
 
 -- a command is answered, or is a larger one that was put aside, and nothing has changed
 abbrev pub Settles : Machine → Command → Option Answer → Machine → Option Larger → Type 0

@@ -8,7 +8,7 @@ ghost use Rattle.undo_journal.specs.Machine as machine;
 use crate::larger::Larger;
 use euler_conditions::{Op, Refusal};
 use halfedge_arena::Arena;
-use script_reader::{Command, Fault, Short, read_line, read_short};
+use script_reader::{Command, Short, read_line, read_short};
 use solid_listing::{Reply, WriteFault};
 use solid_measure::{counts, is_flat, plane, six_volume};
 use undo_journal::{Failure, Session};
@@ -70,13 +70,6 @@ pub(crate) fn complains(answer: &Answer) -> bool
         answer,
         Answer::Reply(Reply::Refused(_, _) | Reply::Fault(_) | Reply::Memory)
     )
-}
-
-/// The answer to a command word that isn't known.
-fn unknown() -> Answer
-    ensures { result ≡ Answer.Reply (Reply.Fault 1) }
-{
-    Answer::Reply(Reply::Fault(Fault::BadWord.code()))
 }
 
 fn told_refusal(refusal: Refusal) -> Answer
@@ -163,7 +156,7 @@ fn count_reply(arena: &Arena, solid: u32) -> Result<Reply, Refusal>
     ]))
 }
 
-/// Answers a command, or puts a larger one in `later`. A command that the workbench doesn't know yet is answered as an unknown word.
+/// Answers a command, or puts a larger one in `later`.
 fn obey(session: &mut Session, command: Command, later: &mut Option<Larger>) -> Option<Answer>
     ensures { Settles session.old command result session.new later.new }
 {
@@ -186,13 +179,16 @@ fn obey(session: &mut Session, command: Command, later: &mut Option<Larger>) -> 
             *later = Some(Larger::Glue(face, other));
             None
         }
+        Command::Split(solid, plane, above) => {
+            *later = Some(Larger::Split(solid, plane, above));
+            None
+        }
         Command::Plane(face) => Some(told(plane_reply(session.arena(), face))),
         Command::Volume(solid) => Some(told(volume_reply(session.arena(), solid))),
         Command::Count(solid) => Some(told(count_reply(session.arena(), solid))),
         Command::Undo => Some(undo(session)),
         Command::Redo => Some(redo(session)),
         Command::List => Some(Answer::Listing),
-        Command::Split(_, _, _) => Some(unknown()),
     }
 }
 

@@ -1,16 +1,18 @@
-//! Commands that make shapes: each takes the session, and gives it back with its answer.
+//! Commands of several operators: each takes the session, and gives it back with its answer.
 ghost use Rattle.std.specs.Prelude.{◌≡◌};
 ghost use Rattle.shapes.specs.Lamina.{lamina_refusal, lamina_model};
 ghost use Rattle.shapes.specs.Block.{block_refusal, block_model};
 ghost use Rattle.shapes.specs.Prism.{prism_refusal, prism_model};
 ghost use Rattle.glue_shapes.specs.Glue.{glue_refusal, glue_model};
+ghost use Rattle.split_shapes.specs.Split.{split_refusal, split_model};
 ghost use Rattle.undo_journal.specs.Machine.{held, accepted};
-ghost use Rattle.gwb.specs.Judging.{Acts, Obeys, Tries};
+ghost use Rattle.gwb.specs.Judging.{Acts, Obeys, Tries, given_plane};
 ghost use Rattle.gwb.specs.Settling.{spelled};
 
 use crate::judging::{Answer, outcome};
 use gluing::glue;
 use lattice::Point;
+use plane_split::split;
 use script_reader::Corners;
 use std::alloc::Global;
 use sweeps::{block, lamina, sweep};
@@ -27,6 +29,8 @@ pub(crate) enum Larger {
     Sweep(u32, Point),
     /// The face of the solid that stays, and the face of the one that is glued to it.
     Glue(u32, u32),
+    /// The solid, the coefficients of the plane, and the new solid above it.
+    Split(u32, [i64; 4], u32),
 }
 
 fn make_lamina(alloc: Global, session: Session, solid: u32, corners: &Corners) -> (Session, Answer)
@@ -67,6 +71,36 @@ fn make_glue(alloc: Global, session: Session, face: u32, other: u32) -> (Session
     (session, outcome(ended))
 }
 
+fn make_split(
+    alloc: Global,
+    session: Session,
+    solid: u32,
+    a: i64,
+    b: i64,
+    c: i64,
+    d: i64,
+    above: u32,
+) -> (Session, Answer)
+    ensures { Tries (split_refusal (held session) solid (record { a = a; b = b; c = c; d = d }) above) session (accepted session (split_model (held session) solid (record { a = a; b = b; c = c; d = d }) above)) result.1 result.0 }
+{
+    let (session, ended) = split(alloc, session, solid, a, b, c, d, above);
+    (session, outcome(ended))
+}
+
+/// Splits by the plane of four coefficients.
+fn split_by(
+    alloc: Global,
+    session: Session,
+    solid: u32,
+    plane: [i64; 4],
+    above: u32,
+) -> (Session, Answer)
+    ensures { Tries (split_refusal (held session) solid (given_plane plane) above) session (accepted session (split_model (held session) solid (given_plane plane) above)) result.1 result.0 }
+{
+    let [a, b, c, d] = plane;
+    make_split(alloc, session, solid, a, b, c, d, above)
+}
+
 /// Carries a larger command out.
 pub(crate) fn carry_out(alloc: Global, session: Session, larger: Larger) -> (Session, Answer)
     ensures { Obeys session (spelled larger) result.1 result.0 }
@@ -78,5 +112,6 @@ pub(crate) fn carry_out(alloc: Global, session: Session, larger: Larger) -> (Ses
         }
         Larger::Sweep(face, way) => make_sweep(alloc, session, face, way),
         Larger::Glue(face, other) => make_glue(alloc, session, face, other),
+        Larger::Split(solid, plane, above) => split_by(alloc, session, solid, plane, above),
     }
 }

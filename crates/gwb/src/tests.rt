@@ -4,6 +4,7 @@ mod glues;
 mod hostile;
 mod program;
 mod solids;
+mod splits;
 mod streams;
 
 use super::{Summary, run};

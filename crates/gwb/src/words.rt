@@ -57,7 +57,6 @@ Commands, one a line (S, F, L, E, V are numbers of a solid, face, loop, edge, ve
   plane F, volume S, count S        a face's plane, a solid's volume times six, its counts
   undo, redo, list                  back, forth, the model held
 HALF is + or - and an edge number; CORNER is a HALF or @ and a lone loop's number.
-This version answers split with fault 1.
 
 Replies: ok, refused N X (condition N is false, with its value), fault N (no command), memory.
 

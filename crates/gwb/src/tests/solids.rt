@@ -19,12 +19,6 @@ fn blocks(rt: HostRuntime) -> Result<(), Fail> {
         rt.alloc(),
         b"block 1 0 0 0 4 0 4\nblock 1 1000000001 0 0 1 1 1\nblock 1 1000000000 0 0 1 1 1\nmvfs 1 1 1 1 0 0 0\nsweep 1 0 0 1\n",
         b"refused 43 2\nrefused 11 1\nrefused 11 2\nok\nrefused 30 1\n",
-    )?;
-    told(
-        &rt,
-        rt.alloc(),
-        b"block 1 -1000000000 -1000000000 -1000000000 2000000000 2000000000 2000000000\nvolume 1\nplane 1\n",
-        b"ok\nvolume 48000000000000000000000000000\nplane 0 0 8000000000000000000 -8000000000000000000000000000 flat\n",
     )
 }
 
