@@ -12,8 +12,7 @@ use Rattle.split_shapes.specs.Sides.{some_above}
 use Rattle.split_shapes.specs.Drawing as drawing
 use Rattle.split_shapes.specs.Drawing.{Drawing, join_next, draw_next, all_joined, ring_free, all_drawn, rings_above, with_rings, rings_shared, drawn_between}
 use Rattle.drawing_laws.specs.DrawingOps.{ring_ops}
-use Rattle.drawing_laws.specs.DrawnIn.{Room}
-use Rattle.drawing_laws.proofs.Faces.{Ready, begun_joining, joins, going, going_on, fitting_on, last, newer_face}
+use Rattle.drawing_laws.proofs.Faces.{begun_joining, joins, going, going_on, fitting_on, last, newer_face}
 use Rattle.drawing_laws.proofs.Rings.{Moved, rings_move, rings_are, rings_apart}
 use Rattle.face_drawing.specs.declared.pairs.Pair.{Pair}
 use Rattle.face_drawing.specs.declared.progress.Progress.{Progress}

@@ -1,5 +1,5 @@
 -- The cut places of the faces that straddle, in pairs, once the edges that cross the plane are cut.
-use Rattle.std.proofs.Common.{◌≡◌, ℕ, Bool, true, false, cond, List, [], ◌∷◌, map, refl, subst, arith}
+use Rattle.std.proofs.Common.{◌≡◌, ℕ, Bool, true, false, cond, List, [], ◌∷◌, map, refl, arith}
 use Rattle.lattice.specs.declared.Plane.{Plane}
 use Rattle.cyclic_list.specs.Items.{IsIn}
 use Rattle.cyclic_list.proofs.Lists.{tick_same}

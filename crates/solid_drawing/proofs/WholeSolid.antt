@@ -11,12 +11,11 @@ use Rattle.split_shapes.specs.Drawing.{Drawing, drawn_pairs, with_drawings}
 use Rattle.crossing_laws.specs.Kept.{Kept}
 use Rattle.crossing_laws.proofs.Listed.{all_where_has}
 use Rattle.crossing_laws.proofs.Whole.{crossings_keep, crossings_counted}
-use Rattle.drawing_laws.proofs.Whole.{Drawable, drawable}
+use Rattle.drawing_laws.proofs.Whole.{drawable}
 use Rattle.cut_pairs.proofs.Whole.{can_be_drawn}
 use Rattle.solid_walks.proofs.SolidFaces.{listed_in}
 use Rattle.cut_places.proofs.Lists.{of_picked}
 use Rattle.cut_places.proofs.Walks.{all_in}
-use Rattle.cut_places.specs.Walks.{AreIn}
 use Rattle.edge_cutting.specs.Begins.{CanBeCut}
 use Rattle.face_drawing.specs.declared.progress.Progress.{Progress}
 use Rattle.face_drawing.specs.Codes.{taken_of, drawing_of}

@@ -1,5 +1,5 @@
 -- Faces drawn between their pairs, one after the other.
-use Rattle.std.specs.Prelude.{◌≡◌, ℕ, List, [], ◌∷◌, map, fold}
+use Rattle.std.specs.Prelude.{◌≡◌, ℕ, List, [], map, fold}
 use Rattle.lattice.specs.declared.Plane.{Plane}
 use Rattle.boundary_model.specs.Model.{Model}
 use Rattle.boundary_model.specs.Sound.{Has}

@@ -1,9 +1,8 @@
-use Rattle.std.proofs.Common.{◌≡◌, ◌∙◌, [], map, sym, ap, subst}
+use Rattle.std.proofs.Common.{◌∙◌, [], map, sym, ap, subst}
 use Rattle.boundary_model.specs.Model.{Model}
 use Rattle.boundary_model.specs.Sound.{Has}
 use Rattle.undo_journal.specs.Machine.{DraftState}
 use Rattle.face_drawing.specs.Codes.{codes, drawing_of}
-use Rattle.solid_drawing.specs.Drawn.{put_aside}
 use Rattle.solid_drawing.proofs.OneFace.{can_join, then_there, then_draw, last_there, last_rings, with_shared, with_none}
 use Rattle.solid_drawing.proofs.face.draw_face.Goals as goal
 use Rattle.solid_drawing.proofs.face.draw_face.Goals.{then-pairs-eq1+in_ok-share_rings, else-pairs-eq1}

@@ -2,7 +2,7 @@ use Rattle.std.proofs.Common.{◌≡◌, ℕ, sym}
 use Rattle.boundary_model.specs.Table.{greatest}
 use Rattle.boundary_model.specs.Model.{Model}
 use Rattle.fresh_laws.proofs.Rows.{greatest_is}
-use Rattle.shapes.specs.Fresh.{Taken, taken_in}
+use Rattle.shapes.specs.Fresh.{taken_in}
 use Rattle.solid_drawing.proofs.solid.beginning.Goals as goal
 
 counted : (M : Model) (f l e v : ℕ) → greatest M.faces ≡ f → greatest M.loops ≡ l → greatest M.edges ≡ e → greatest M.vertices ≡ v → record { face = f; loop = l; edge = e; vertex = v } ≡ taken_in M

@@ -1,4 +1,4 @@
-use Rattle.std.proofs.Common.{◌≡◌, ◌∙◌, ◌∷◌, ap, sym}
+use Rattle.std.proofs.Common.{◌∙◌, ◌∷◌, ap, sym}
 use Rattle.cut_places.proofs.Lists.{others, parts}
 use Rattle.face_pairs.specs.declared.pairs.FacePairs.{FacePairs}
 use Rattle.solid_drawing.proofs.FaceTurns.{can_draw, can_go_on, made_on}
