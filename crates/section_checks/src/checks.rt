@@ -1,21 +1,70 @@
 //! The conditions of a split that are tested once the faces are drawn, in their order.
-ghost use Rattle.std.specs.Prelude.{◌≡◌, true, [], None, Some, Ok, Err};
+ghost use Rattle.std.specs.Prelude.{◌≡◌, true, [], None, Some, Ok, Err, Vec};
+ghost use Rattle.std.specs.declared.alloc.Global.{Global};
 ghost use Rattle.euler_conditions.specs.Ready.{IsReady};
-ghost use Rattle.euler_operators.specs.Conditions.{first_refusal};
+ghost use Rattle.euler_operators.specs.Conditions.{first_refusal, strictly_rises};
 ghost use Rattle.euler_operators.specs.declared.Refusal.{Refusal};
 ghost use Rattle.halfedge_arena.specs.Store.{has_number};
 ghost use Rattle.lattice.specs.Ranges.{IsCutPlane};
-ghost use Rattle.split_shapes.specs.Split.{later_conditions};
-ghost use Rattle.face_drawing.specs.Codes.{drawing_of};
+ghost use Rattle.section_laws.specs.SectionCycles.{AreOf};
+ghost use Rattle.split_shapes.specs.Section.{below_halves};
+ghost use Rattle.split_shapes.specs.Split.{later_conditions, section_conditions};
+ghost use Rattle.face_drawing.specs.Codes.{drawing_of, taken_of};
+ghost use Rattle.section_checks.specs.Cycles.{AreCyclesOf};
 ghost use Rattle.section_checks.specs.Sections.{IsSection};
+ghost use Rattle.section_checks.specs.declared.section.Cycle.{Cycle};
 ghost use Rattle.section_checks.specs.declared.section.Section.{Section};
 
-use crate::section::Section;
-use euler_conditions::Refusal;
+use crate::holes::{has_stray_hole, with_holes};
+use crate::numbers::check_left;
+use crate::section::{Cycle, Section};
+use euler_conditions::{Refusal, Why};
 use face_drawing::Progress;
 use halfedge_arena::{Arena, Kind};
 use lattice::Plane;
+use section_cycles::{cycles, least_branched};
+use section_edges::{below_halves, faces_above};
 use std::alloc::{AllocError, Global};
+
+/// The cycles of the section of solid s between these faces above, which rise, and its other faces, where the solid can be opened
+/// along them.
+fn check_cycles(
+    alloc: Global,
+    arena: &Arena,
+    s: u32,
+    plane: Plane,
+    drawn: &Progress,
+    above: &[u32],
+) -> Result<Result<Vec<Cycle>, Refusal>, AllocError>
+    requires ready { IsReady arena.now }
+    requires plane { IsCutPlane plane }
+    requires there { has_number arena.now Kind.Solid s ≡ true }
+    requires rising { strictly_rises above.now ≡ true }
+    requires of_solid { AreOf arena.now.model above.now s }
+    ensures refused { (refusal : Refusal) → (result ≡ Ok (Err refusal)) → (first_refusal (section_conditions arena.now.model s plane (taken_of drawn.now) (below_halves arena.now.model above.now s)) ≡ Some refusal) }
+    ensures open { (found : Vec Cycle Global) → (result ≡ Ok (Ok found)) → ((first_refusal (section_conditions arena.now.model s plane (taken_of drawn.now) (below_halves arena.now.model above.now s)) ≡ None) × AreCyclesOf arena.now.model plane (below_halves arena.now.model above.now s) found.items) }
+{
+    let halves = below_halves(alloc, arena, above, s)?;
+    let branched = least_branched(alloc, arena, halves.as_slice())?;
+    if let Some(v) = branched {
+        return Ok(Err(Refusal {
+            why: Why::BranchedVertex,
+            number: v,
+        }));
+    }
+    let found = cycles(alloc, arena, halves.as_slice())?;
+    let cycles = with_holes(alloc, arena, plane, found)?;
+    if has_stray_hole(cycles.as_slice()) {
+        return Ok(Err(Refusal {
+            why: Why::SectionHoles,
+            number: s,
+        }));
+    }
+    match check_left(drawn, halves.len(), cycles.len()) {
+        Ok(()) => Ok(Ok(cycles)),
+        Err(refusal) => Ok(Err(refusal)),
+    }
+}
 
 /// The section of solid s by the plane once its faces are drawn, where the solid can be opened along it.
 ///
@@ -35,5 +84,15 @@ pub fn check_later(
     ensures refused { (refusal : Refusal) → (result ≡ Ok (Err refusal)) → (first_refusal (later_conditions s plane.now (drawing_of drawn.now arena.now.model [])) ≡ Some refusal) }
     ensures open { (section : Section) → (result ≡ Ok (Ok section)) → ((first_refusal (later_conditions s plane.now (drawing_of drawn.now arena.now.model [])) ≡ None) × IsSection arena.now.model s plane.now section) }
 {
-    Err(AllocError)
+    if drawn.stuck != 0 {
+        return Ok(Err(Refusal {
+            why: Why::CutCrossed,
+            number: drawn.stuck,
+        }));
+    }
+    let above = faces_above(alloc, arena, *plane, s)?;
+    match check_cycles(alloc, arena, s, *plane, drawn, above.as_slice())? {
+        Ok(cycles) => Ok(Ok(Section { above, cycles })),
+        Err(refusal) => Ok(Err(refusal)),
+    }
 }

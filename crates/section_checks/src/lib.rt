@@ -2,6 +2,8 @@
 #![tactic(auto)]
 
 mod checks;
+mod holes;
+mod numbers;
 mod section;
 
 pub use checks::check_later;

@@ -1,0 +1,4 @@
+mod Above
+mod HoleFlags
+mod Stages
+mod Facts

@@ -1,0 +1,154 @@
+-- The cycles found half by half: a half that no cycle found so far has begins one, and is the least of it.
+use Rattle.std.proofs.Common.{◌≡◌, ℕ, ◌≤◌, ◌<◌, Bool, true, false, cond, ◌||◌, nat_eq, List, [], ◌∷◌, ◌++◌, map, length, refl, sym, ap, ◌∙◌, arith, true≢false, ◌⊎◌, inl, inr}
+use Rattle.std.specs.Prelude.{filter}
+use Rattle.std.proofs.lemmas.Bool.Decides.{eqb_tells}
+use Rattle.std.proofs.lemmas.List.{append_assoc, append-nil}
+use Rattle.cyclic_list.specs.Items.{count, IsIn, SameItems, least}
+use Rattle.cyclic_list.proofs.Lists.{tick_same, tick_other, count-append, IsIn_or_not, least_le, least_in, least_same}
+use Rattle.cyclic_list.specs.Rings.{orbit}
+use Rattle.euler_operators.specs.Conditions.{lists, strictly_rises}
+use Rattle.euler_conditions.proofs.Rising.{rest_rises}
+use Rattle.euler_laws_shared.proofs.Goes.{differs, equals}
+use Rattle.solid_walks.proofs.Rising.{in_listed}
+use Rattle.solid_walks.proofs.SolidFaces.{listed_in}
+use Rattle.section_laws.specs.Permuting.{Permutes}
+use Rattle.section_laws.proofs.RisingLists.{first_least}
+use Rattle.section_laws.proofs.Orbits.{around_within, around_here, around_same}
+
+-- what stands before an item of a rising list is less
+before_less : (done : List ℕ) (b : ℕ) (rest : List ℕ) → strictly_rises (done ++ b ∷ rest) ≡ true → (d : ℕ) → IsIn d done → d < b
+before_less [] b rest r d i = absurd (omega (arith, i))
+before_less (x ∷ xs) b rest r d i = elim (eqb_tells d x) [
+  | inl e ↦ omega (arith, e.1, first_least x b (xs ++ b ∷ rest) r (omega (arith, count-append b xs (b ∷ rest), tick_same b)))
+  | inr e ↦ before_less xs b rest (rest_rises x (xs ++ b ∷ rest) r) d (omega (arith, i, tick_other d x e.1))
+]
+
+from_rises : (done rest : List ℕ) → strictly_rises (done ++ rest) ≡ true → strictly_rises rest ≡ true
+from_rises [] rest r = r
+from_rises (x ∷ xs) rest r = from_rises xs rest (rest_rises x (xs ++ rest) r)
+
+-- the cycle from an item on, and whether the item is its least
+abbrev pub ring : (ℕ → ℕ) → List ℕ → ℕ → List ℕ
+ring next bs h = orbit next h (length bs)
+
+abbrev pub begins : (ℕ → ℕ) → List ℕ → ℕ → Bool
+begins next bs b = nat_eq (least (ring next bs b)) b
+
+-- these halves are left; the cycles of the others are found, and just their halves are met
+pub record Finding (next : ℕ → ℕ) (bs left : List ℕ) (found : List (List ℕ)) (met : ℕ → Bool) : Type 0 where
+  pub done : List ℕ
+  pub parts : bs ≡ done ++ left
+  pub listed : found ++ map (ring next bs) (filter (begins next bs) left) ≡ map (ring next bs) (filter (begins next bs) bs)
+  pub of_done : (x : ℕ) → met x ≡ true → (d : ℕ) × IsIn d done × IsIn x (ring next bs d)
+  pub is_met : (d x : ℕ) → IsIn d done → IsIn x (ring next bs d) → met x ≡ true
+
+module _ (next : ℕ → ℕ) (bs : List ℕ) where
+  pub none_found : (met : ℕ → Bool) → ((x : ℕ) → met x ≡ false) → Finding next bs bs [] met
+  none_found met none = record {
+    done = [];
+    parts = refl;
+    listed = refl;
+    of_done = λ x t. absurd (true≢false (sym t ∙ none x));
+    is_met = λ d x i j. absurd (omega (arith, i));
+  }
+
+  pub all_found : (left : List ℕ) (found : List (List ℕ)) (met : ℕ → Bool) → Finding next bs left found met → left ≡ [] → found ≡ map (ring next bs) (filter (begins next bs) bs)
+  all_found left found met f e = sym (append-nil found) ∙ sym (ap (λ ks. found ++ map (ring next bs) (filter (begins next bs) ks)) e) ∙ f.listed
+
+  module _ (w : Permutes next bs) (up : strictly_rises bs ≡ true) (left : List ℕ) (found : List (List ℕ)) (met : ℕ → Bool) (f : Finding next bs left found met) (b : ℕ) (rest : List ℕ) (e : left ≡ b ∷ rest) where
+    split : bs ≡ f.done ++ b ∷ rest
+    split = f.parts ∙ ap (λ ks. f.done ++ ks) e
+
+    rises : strictly_rises (f.done ++ b ∷ rest) ≡ true
+    rises = sym (ap strictly_rises split) ∙ up
+
+    pub now_in : IsIn b bs
+    now_in = omega (arith, ap (count b) split, count-append b f.done (b ∷ rest), tick_same b)
+
+    done_in : (d : ℕ) → IsIn d f.done → IsIn d bs
+    done_in d i = omega (arith, ap (count d) split, count-append d f.done (b ∷ rest), i)
+
+    earlier : (m : ℕ) → IsIn m bs → m < b → IsIn m f.done
+    earlier m i l = elim (IsIn_or_not m f.done) [
+      | inl j ↦ j
+      | inr z ↦ absurd (later (omega (arith, i, z, ap (count m) split, count-append m f.done (b ∷ rest))))
+    ] where
+      later : IsIn m (b ∷ rest) → ⊥
+      later j = elim (eqb_tells m b) [
+        | inl s ↦ omega (arith, l, s.1)
+        | inr s ↦ omega (arith, l, first_least b m rest (from_rises f.done (b ∷ rest) rises) (omega (arith, j, tick_other m b s.1)))
+      ]
+
+    -- a half that is met isn't the least of its cycle
+    met_follows : met b ≡ true → begins next bs b ≡ false
+    met_follows t =
+        let r = f.of_done b t in
+        let same : SameItems (ring next bs b) (ring next bs r.0) = around_same next bs w r.0 (done_in r.0 r.1) b r.2 in
+        let least_is : least (ring next bs b) ≡ least (ring next bs r.0) = least_same (ring next bs b) (ring next bs r.0) same in
+        let low : least (ring next bs r.0) ≤ r.0 = least_le (ring next bs r.0) r.0 (around_here next bs w r.0 (done_in r.0 r.1)) in
+        differs (least (ring next bs b)) b (λ s. absurd (omega (arith, s, least_is, low, before_less f.done b rest rises r.0 r.1)))
+
+    -- a half that isn't met is
+    new_leads : met b ≡ false → begins next bs b ≡ true
+    new_leads t = equals (least (ring next bs b)) b (at_least (least_le (ring next bs b) b (around_here next bs w b now_in))) where
+      m_in : IsIn (least (ring next bs b)) (ring next bs b)
+      m_in = least_in (ring next bs b) b (around_here next bs w b now_in)
+
+      known : least (ring next bs b) < b → met b ≡ true
+      known l = f.is_met (least (ring next bs b)) b (earlier (least (ring next bs b)) (around_within next bs w b now_in (least (ring next bs b)) m_in) l)
+          (omega (arith, around_same next bs w b now_in (least (ring next bs b)) m_in b, around_here next bs w b now_in))
+
+      less_or_same : (m n : ℕ) → m ≤ n → (m < n) ⊎ (m ≡ n)
+      less_or_same m n l = grind arith
+
+      at_least : least (ring next bs b) ≤ b → least (ring next bs b) ≡ b
+      at_least l = elim (less_or_same (least (ring next bs b)) b l) [
+        | inl s ↦ absurd (true≢false (sym (known s) ∙ t))
+        | inr s ↦ s
+      ]
+
+    in_more : (d : ℕ) → IsIn d (f.done ++ b ∷ []) → IsIn d f.done ⊎ (d ≡ b)
+    in_more d i = elim (eqb_tells d b) [ inl s ↦ inr s.1 | inr s ↦ inl (omega (arith, i, count-append d f.done (b ∷ []), tick_other d b s.1)) ]
+
+    still_in : (d : ℕ) → IsIn d f.done → IsIn d (f.done ++ b ∷ [])
+    still_in d i = omega (arith, i, count-append d f.done (b ∷ []))
+
+    new_in : IsIn b (f.done ++ b ∷ [])
+    new_in = omega (arith, count-append b f.done (b ∷ []), tick_same b)
+
+    pub found_before : met b ≡ true → Finding next bs rest found met
+    found_before t = record {
+      done = f.done ++ b ∷ [];
+      parts = split ∙ sym (append_assoc f.done (b ∷ []) rest);
+      listed = sym (ap (λ c. found ++ map (ring next bs) (cond c (b ∷ filter (begins next bs) rest) (filter (begins next bs) rest))) (met_follows t))
+          ∙ sym (ap (λ ks. found ++ map (ring next bs) (filter (begins next bs) ks)) e) ∙ f.listed;
+      of_done = λ x u. let r = f.of_done x u in (r.0, still_in r.0 r.1, r.2);
+      is_met = λ d x i j. elim (in_more d i) [
+        | inl k ↦ f.is_met d x k j
+        | inr s ↦
+            let r = f.of_done b t in
+            f.is_met r.0 x r.1 (omega (arith, ap (λ y. count x (ring next bs y)) s, j, around_same next bs w r.0 (done_in r.0 r.1) b r.2 x))
+      ];
+    }
+
+    pub found_now : met b ≡ false → (cycle : List ℕ) → cycle ≡ ring next bs b → (more : List (List ℕ)) → more ≡ found ++ cycle ∷ [] → (wider : ℕ → Bool) → ((x : ℕ) → wider x ≡ (lists cycle x || met x)) → Finding next bs rest more wider
+    found_now t cycle is more em wider ew = record {
+      done = f.done ++ b ∷ [];
+      parts = split ∙ sym (append_assoc f.done (b ∷ []) rest);
+      listed = ap (λ (cs : List (List ℕ)). cs ++ map (ring next bs) (filter (begins next bs) rest)) (em ∙ ap (λ c. found ++ c ∷ []) is)
+          ∙ append_assoc found (ring next bs b ∷ []) (map (ring next bs) (filter (begins next bs) rest))
+          ∙ sym (ap (λ c. found ++ map (ring next bs) (cond c (b ∷ filter (begins next bs) rest) (filter (begins next bs) rest))) (new_leads t))
+          ∙ sym (ap (λ ks. found ++ map (ring next bs) (filter (begins next bs) ks)) e) ∙ f.listed;
+      of_done = λ x u. from_wider x (lists cycle x) refl (sym (ew x) ∙ u);
+      is_met = λ d x i j. elim (in_more d i) [
+        | inl k ↦ ew x ∙ either_second (lists cycle x) (met x) (f.is_met d x k j)
+        | inr s ↦ ew x ∙ ap (λ c. c || met x) (in_listed x cycle (omega (arith, ap (count x) is, j, ap (λ y. count x (ring next bs y)) s)))
+      ];
+    } where
+      from_wider : (x : ℕ) (c : Bool) → lists cycle x ≡ c → (c || met x) ≡ true → (d : ℕ) × IsIn d (f.done ++ b ∷ []) × IsIn x (ring next bs d)
+      from_wider x true l u = (b, new_in, omega (arith, ap (count x) is, listed_in x cycle l))
+      from_wider x false l u = let r = f.of_done x u in (r.0, still_in r.0 r.1, r.2)
+
+      either_second : (p q : Bool) → q ≡ true → (p || q) ≡ true
+      either_second true q e = refl
+      either_second false q e = e

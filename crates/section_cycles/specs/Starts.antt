@@ -1,0 +1,21 @@
+-- Half-edges by the vertices at which they start.
+use Rattle.std.specs.Prelude.{◌≡◌, ℕ, nat_eq, List, Option, Some, None}
+use Rattle.std.specs.BTreeMap.{BTreeMap, get}
+use Rattle.std.specs.Ordering.{nat_cmp}
+use Rattle.boundary_model.specs.declared.HalfEdge.{HalfEdge}
+use Rattle.boundary_model.specs.HalfEdge.{code}
+use Rattle.boundary_model.specs.Model.{Model, tail}
+use Rattle.shapes.specs.Fresh.{first_such}
+
+-- the code of a half-edge, or 0
+abbrev pub code_or_none : Option HalfEdge → ℕ
+code_or_none None = 0
+code_or_none (Some h) = code h
+
+-- the half-edge that the map has at a vertex
+abbrev pub half_at : BTreeMap ℕ HalfEdge → ℕ → ℕ
+half_at starts v = code_or_none (get nat_cmp starts v)
+
+-- the map has at each vertex the first of these half-edges that starts there
+abbrev pub AreStarts : Model → List ℕ → BTreeMap ℕ HalfEdge → Type 0
+AreStarts M hs starts = (v : ℕ) → half_at starts v ≡ first_such (λ h. nat_eq (tail M h) v) hs
