@@ -69,7 +69,7 @@ module _ (above : List ℕ) (s : ℕ) (p : Plane) (M : Model) (c : Progress) (ca
   abbrev n : ℕ
   n = length k.halves.items
 
-  pub can_next : CanOpen M s (taken_of c) (halves_of k)
+  can_next : CanOpen M s (taken_of c) (halves_of k)
   can_next = (above, can_open above s o bs cs w)
 
   others_next : CanBeOpenedInTurn above s (next_opened p above s o bs) cs
@@ -100,15 +100,15 @@ module _ (above : List ℕ) (s : ℕ) (p : Plane) (M : Model) (c : Progress) (ca
     }
 
     -- then it can be opened along the others
-    pub opens_next : CanBeOpenedInTurn above s (opening_of K d more) (map halves_of ks)
+    opens_next : CanBeOpenedInTurn above s (opening_of K d more) (map halves_of ks)
     opens_next = subst (λ x. CanBeOpenedInTurn above s x cs) (sym opened) others_next
 
     -- these are the holes that they were
-    pub holes_next : map (λ q. q.hole) ks ≡ map (is_hole K p) (map halves_of ks)
+    holes_next : map (λ q. q.hole) ks ≡ map (is_hole K p) (map halves_of ks)
     holes_next = ap (drop 1) flags ∙ sym (next_holes above s p o bs cs w others_next) ∙ ap (λ (x : Opening). map (is_hole x.model p) cs) (sym opened)
 
     -- and what all of them make stays the same
-    pub made_next : all_opened p above s (opening_of K d more) (map halves_of ks) ≡ all_opened p above s (opening_of M c caps) (halves_of k ∷ map halves_of ks)
+    made_next : all_opened p above s (opening_of K d more) (map halves_of ks) ≡ all_opened p above s (opening_of M c caps) (halves_of k ∷ map halves_of ks)
     made_next = ap (λ x. all_opened p above s x cs) opened
 
 -- ---- the next cycle of a list, as the code opens it
@@ -141,12 +141,12 @@ module _ (above : List ℕ) (s : ℕ) (p : Plane) (M : Model) (c : Progress) (ca
     pushed_on : more ≡ caps ++ record { lower = c.faces + 1; upper = c.faces + length k.halves.items + 1; hole = k.hole } ∷ []
     pushed_on = pushed ∙ ap (λ (x : Caps). caps ++ x ∷ []) (cap_is ∙ ap (λ n. record { lower = c.faces + 1; upper = c.faces + n + 1; hole = k.hole }) (ap length value))
 
-    -- it can be opened along the others
-    pub others_open : CanBeOpenedInTurn above s (opening_of K d more) (map halves_of (others rest))
-    others_open = opens_next above s p M c caps k (others rest) w_next flags_next K made_of d counted_by more pushed_on
-
-    pub others_holes : map (λ q. q.hole) (others rest) ≡ map (is_hole K p) (map halves_of (others rest))
-    others_holes = holes_next above s p M c caps k (others rest) w_next flags_next K made_of d counted_by more pushed_on
-
-    pub others_made : all_opened p above s (opening_of K d more) (map halves_of (others rest)) ≡ all_opened p above s (opening_of M c caps) (map halves_of rest)
-    others_made = made_next above s p M c caps k (others rest) w_next flags_next K made_of d counted_by more pushed_on ∙ ap (λ (r : List Cycle). all_opened p above s (opening_of M c caps) (map halves_of r)) (sym whole)
+    -- it can be opened along the others, these are the holes that they were, and what all make stays the same
+    pub others_left : CanBeOpenedInTurn above s (opening_of K d more) (map halves_of (others rest))
+        × (map (λ q. q.hole) (others rest) ≡ map (is_hole K p) (map halves_of (others rest)))
+        × (all_opened p above s (opening_of K d more) (map halves_of (others rest)) ≡ all_opened p above s (opening_of M c caps) (map halves_of rest))
+    others_left = (
+      opens_next above s p M c caps k (others rest) w_next flags_next K made_of d counted_by more pushed_on,
+      holes_next above s p M c caps k (others rest) w_next flags_next K made_of d counted_by more pushed_on,
+      made_next above s p M c caps k (others rest) w_next flags_next K made_of d counted_by more pushed_on ∙ ap (λ (r : List Cycle). all_opened p above s (opening_of M c caps) (map halves_of r)) (sym whole),
+    )
