@@ -3,5 +3,7 @@
 
 mod command;
 mod steps;
+#[cfg(test)]
+mod tests;
 
 pub use command::split;
