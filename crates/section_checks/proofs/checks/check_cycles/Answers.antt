@@ -15,45 +15,98 @@ use Rattle.section_checks.proofs.checks.check_cycles.Goals as goal
 
 pub least_branched-requires-clause-there : goal.least_branched-requires-clause-there
 least_branched-requires-clause-there c =
-    there_now c.args.arena.now.model c.requires.ready.sound c.args.above.now c.args.s c.requires.of_solid c.as_slice.result.now (ap (λ (hs : List HalfEdge). map code hs) c.as_slice.ensures.value ∙ c.in_ok-halves.ensures)
+    let M = c.args.arena.now.model in let sound = c.requires.ready.sound in let above = c.args.above.now in let s = c.args.s in let p = c.args.plane in let faces = c.requires.of_solid in
+    let is = ap (λ (hs : List HalfEdge). map code hs) c.as_slice.ensures.value ∙ c.in_ok-halves.ensures in
+    there_now M sound above s faces c.as_slice.result.now is
+
+pub returns-in-Some-clause-refused : goal.returns-in-Some-clause-refused
+returns-in-Some-clause-refused c =
+    let M = c.args.arena.now.model in let sound = c.requires.ready.sound in let above = c.args.above.now in let s = c.args.s in let p = c.args.plane in let faces = c.requires.of_solid in
+    let is = ap (λ (hs : List HalfEdge). map code hs) c.as_slice.ensures.value ∙ c.in_ok-halves.ensures in
+    λ r e. told _ _ r (branched_now M sound above s faces c.as_slice.result.now is p (taken_of c.args.drawn.now) c.in-Some.v (sym c.in-Some.is ∙ c.in_ok-branched.ensures)) e
 
 pub cycles-requires-clause-there : goal.cycles-requires-clause-there
 cycles-requires-clause-there c =
-    there_now c.args.arena.now.model c.requires.ready.sound c.args.above.now c.args.s c.requires.of_solid c.as_slice-2.result.now (ap (λ (hs : List HalfEdge). map code hs) c.as_slice-2.ensures.value ∙ c.in_ok-halves.ensures)
+    let M = c.args.arena.now.model in let sound = c.requires.ready.sound in let above = c.args.above.now in let s = c.args.s in let p = c.args.plane in let faces = c.requires.of_solid in
+    let is = ap (λ (hs : List HalfEdge). map code hs) c.as_slice-2.ensures.value ∙ c.in_ok-halves.ensures in
+    there_now M sound above s faces c.as_slice-2.result.now is
 
 pub cycles-requires-clause-rising : goal.cycles-requires-clause-rising
 cycles-requires-clause-rising c =
-    rising_now c.args.arena.now.model c.requires.ready.sound c.args.above.now c.args.s c.requires.of_solid c.as_slice-2.result.now (ap (λ (hs : List HalfEdge). map code hs) c.as_slice-2.ensures.value ∙ c.in_ok-halves.ensures)
-
-pub returns-in-Some-clause-refused : goal.returns-in-Some-clause-refused
-returns-in-Some-clause-refused c = λ r e. told _ _ r (branched_now c.args.arena.now.model c.requires.ready.sound c.args.above.now c.args.s c.requires.of_solid c.as_slice.result.now (ap (λ (hs : List HalfEdge). map code hs) c.as_slice.ensures.value ∙ c.in_ok-halves.ensures) c.args.plane (taken_of c.args.drawn.now) c.in-Some.v (sym c.in-Some.is ∙ c.in_ok-branched.ensures)) e
+    let M = c.args.arena.now.model in let sound = c.requires.ready.sound in let above = c.args.above.now in let s = c.args.s in let p = c.args.plane in let faces = c.requires.of_solid in
+    let is = ap (λ (hs : List HalfEdge). map code hs) c.as_slice-2.ensures.value ∙ c.in_ok-halves.ensures in
+    rising_now M sound above s faces c.as_slice-2.result.now is
 
 pub cycles-requires-clause-next : goal.cycles-requires-clause-next
-cycles-requires-clause-next c = next_now c.args.arena.now.model c.requires.ready.sound c.args.above.now c.args.s c.requires.of_solid c.as_slice-2.result.now (ap (λ (hs : List HalfEdge). map code hs) c.as_slice-2.ensures.value ∙ c.in_ok-halves.ensures) (sym c.in_default.is ∙ c.in_ok-branched.ensures ∙ ap (λ (hs : List HalfEdge). found (least_branched c.args.arena.now.model (section_ends c.args.arena.now.model (map code hs)))) (c.as_slice.ensures.value ∙ sym c.as_slice-2.ensures.value))
+cycles-requires-clause-next c =
+    let M = c.args.arena.now.model in let sound = c.requires.ready.sound in let above = c.args.above.now in let s = c.args.s in let p = c.args.plane in let faces = c.requires.of_solid in
+    let is = ap (λ (hs : List HalfEdge). map code hs) c.as_slice-2.ensures.value ∙ c.in_ok-halves.ensures in
+    let none = sym c.in_default.is ∙ c.in_ok-branched.ensures ∙ ap (λ (hs : List HalfEdge). found (least_branched M (section_ends M (map code hs)))) (c.as_slice.ensures.value ∙ sym c.as_slice-2.ensures.value) in
+    next_now M sound above s faces c.as_slice-2.result.now is none
 
 pub with_holes-requires-clause-cycles : goal.with_holes-requires-clause-cycles
-with_holes-requires-clause-cycles c = cycles_now c.args.arena.now.model c.requires.ready.sound c.args.above.now c.args.s c.requires.of_solid c.as_slice-2.result.now (ap (λ (hs : List HalfEdge). map code hs) c.as_slice-2.ensures.value ∙ c.in_ok-halves.ensures) (sym c.in_default.is ∙ c.in_ok-branched.ensures ∙ ap (λ (hs : List HalfEdge). found (least_branched c.args.arena.now.model (section_ends c.args.arena.now.model (map code hs)))) (c.as_slice.ensures.value ∙ sym c.as_slice-2.ensures.value)) (map codes c.in_ok-found.found.items) c.in_ok-found.ensures
+with_holes-requires-clause-cycles c =
+    let M = c.args.arena.now.model in let sound = c.requires.ready.sound in let above = c.args.above.now in let s = c.args.s in let p = c.args.plane in let faces = c.requires.of_solid in
+    let is = ap (λ (hs : List HalfEdge). map code hs) c.as_slice-2.ensures.value ∙ c.in_ok-halves.ensures in
+    let none = sym c.in_default.is ∙ c.in_ok-branched.ensures ∙ ap (λ (hs : List HalfEdge). found (least_branched M (section_ends M (map code hs)))) (c.as_slice.ensures.value ∙ sym c.as_slice-2.ensures.value) in
+    cycles_now M sound above s faces c.as_slice-2.result.now is none (map codes c.in_ok-found.found.items) c.in_ok-found.ensures
 
 pub has_stray_hole-requires : goal.has_stray_hole-requires
-has_stray_hole-requires c = omega (arith, few_told c.args.arena.now.model c.requires.ready.sound c.args.above.now c.args.s c.requires.of_solid c.as_slice-2.result.now (ap (λ (hs : List HalfEdge). map code hs) c.as_slice-2.ensures.value ∙ c.in_ok-halves.ensures) (sym c.in_default.is ∙ c.in_ok-branched.ensures ∙ ap (λ (hs : List HalfEdge). found (least_branched c.args.arena.now.model (section_ends c.args.arena.now.model (map code hs)))) (c.as_slice.ensures.value ∙ sym c.as_slice-2.ensures.value)) (map codes c.in_ok-found.found.items) c.in_ok-found.ensures c.args.plane c.in_ok-cycles.cycles.items c.in_ok-cycles.ensures.halves c.in_ok-cycles.ensures.holes, ap (λ (cs : List Cycle). length cs) c.as_slice-3.ensures.value)
+has_stray_hole-requires c =
+    let M = c.args.arena.now.model in let sound = c.requires.ready.sound in let above = c.args.above.now in let s = c.args.s in let p = c.args.plane in let faces = c.requires.of_solid in
+    let is = ap (λ (hs : List HalfEdge). map code hs) c.as_slice-2.ensures.value ∙ c.in_ok-halves.ensures in
+    let none = sym c.in_default.is ∙ c.in_ok-branched.ensures ∙ ap (λ (hs : List HalfEdge). found (least_branched M (section_ends M (map code hs)))) (c.as_slice.ensures.value ∙ sym c.as_slice-2.ensures.value) in
+    omega (arith, few_told M sound above s faces c.as_slice-2.result.now is none (map codes c.in_ok-found.found.items) c.in_ok-found.ensures p c.in_ok-cycles.cycles.items c.in_ok-cycles.ensures.halves c.in_ok-cycles.ensures.holes, ap (λ (cs : List Cycle). length cs) c.as_slice-3.ensures.value)
 
 pub returns-then-has_stray_hole-clause-refused : goal.returns-then-has_stray_hole-clause-refused
-returns-then-has_stray_hole-clause-refused c = λ r e. told _ _ r (stray_now c.args.arena.now.model c.requires.ready.sound c.args.above.now c.args.s c.requires.of_solid c.as_slice-2.result.now (ap (λ (hs : List HalfEdge). map code hs) c.as_slice-2.ensures.value ∙ c.in_ok-halves.ensures) (sym c.in_default.is ∙ c.in_ok-branched.ensures ∙ ap (λ (hs : List HalfEdge). found (least_branched c.args.arena.now.model (section_ends c.args.arena.now.model (map code hs)))) (c.as_slice.ensures.value ∙ sym c.as_slice-2.ensures.value)) (map codes c.in_ok-found.found.items) c.in_ok-found.ensures c.args.plane c.in_ok-cycles.cycles.items c.in_ok-cycles.ensures.halves c.in_ok-cycles.ensures.holes (taken_of c.args.drawn.now) (ap (λ (cs : List Cycle). has_stray cs) (sym c.as_slice-3.ensures.value) ∙ sym c.has_stray_hole.ensures ∙ c.if-has_stray_hole.true)) e
+returns-then-has_stray_hole-clause-refused c =
+    let M = c.args.arena.now.model in let sound = c.requires.ready.sound in let above = c.args.above.now in let s = c.args.s in let p = c.args.plane in let faces = c.requires.of_solid in
+    let is = ap (λ (hs : List HalfEdge). map code hs) c.as_slice-2.ensures.value ∙ c.in_ok-halves.ensures in
+    let none = sym c.in_default.is ∙ c.in_ok-branched.ensures ∙ ap (λ (hs : List HalfEdge). found (least_branched M (section_ends M (map code hs)))) (c.as_slice.ensures.value ∙ sym c.as_slice-2.ensures.value) in
+    let stray = ap (λ (cs : List Cycle). has_stray cs) (sym c.as_slice-3.ensures.value) ∙ sym c.has_stray_hole.ensures ∙ c.if-has_stray_hole.true in
+    λ r e. told _ _ r (stray_now M sound above s faces c.as_slice-2.result.now is none (map codes c.in_ok-found.found.items) c.in_ok-found.ensures p c.in_ok-cycles.cycles.items c.in_ok-cycles.ensures.halves c.in_ok-cycles.ensures.holes (taken_of c.args.drawn.now) stray) e
 
 pub check_left-requires-clause-edges : goal.check_left-requires-clause-edges
 check_left-requires-clause-edges c =
-    let long : c.len.result ≡ length c.as_slice-2.result.now = (c.len.ensures ∙ (let e : vec_len c.in_ok-halves.halves ≡ length c.in_ok-halves.halves.items = omega (arith, c.in_ok-halves.halves.ok.0) in e) ∙ ap (λ (hs : List HalfEdge). length hs) (sym c.as_slice-2.ensures.value)) in
-    omega (arith, few_now c.args.arena.now.model c.requires.ready.sound c.args.above.now c.args.s c.requires.of_solid c.as_slice-2.result.now (ap (λ (hs : List HalfEdge). map code hs) c.as_slice-2.ensures.value ∙ c.in_ok-halves.ensures), long)
+    let M = c.args.arena.now.model in let sound = c.requires.ready.sound in let above = c.args.above.now in let s = c.args.s in let p = c.args.plane in let faces = c.requires.of_solid in
+    let is = ap (λ (hs : List HalfEdge). map code hs) c.as_slice-2.ensures.value ∙ c.in_ok-halves.ensures in
+    let held : vec_len c.in_ok-halves.halves ≡ length c.in_ok-halves.halves.items = omega (arith, c.in_ok-halves.halves.ok.0) in
+    let long = c.len.ensures ∙ held ∙ ap (λ (hs : List HalfEdge). length hs) (sym c.as_slice-2.ensures.value) in
+    omega (arith, few_now M sound above s faces c.as_slice-2.result.now is, long)
 
 pub check_left-requires-clause-cycles : goal.check_left-requires-clause-cycles
 check_left-requires-clause-cycles c =
-    let many : c.len-2.result ≡ length c.in_ok-cycles.cycles.items = (c.len-2.ensures ∙ (let e : vec_len c.in_ok-cycles.cycles ≡ length c.in_ok-cycles.cycles.items = omega (arith, c.in_ok-cycles.cycles.ok.0) in e)) in
-    omega (arith, few_told c.args.arena.now.model c.requires.ready.sound c.args.above.now c.args.s c.requires.of_solid c.as_slice-2.result.now (ap (λ (hs : List HalfEdge). map code hs) c.as_slice-2.ensures.value ∙ c.in_ok-halves.ensures) (sym c.in_default.is ∙ c.in_ok-branched.ensures ∙ ap (λ (hs : List HalfEdge). found (least_branched c.args.arena.now.model (section_ends c.args.arena.now.model (map code hs)))) (c.as_slice.ensures.value ∙ sym c.as_slice-2.ensures.value)) (map codes c.in_ok-found.found.items) c.in_ok-found.ensures c.args.plane c.in_ok-cycles.cycles.items c.in_ok-cycles.ensures.halves c.in_ok-cycles.ensures.holes, many)
+    let M = c.args.arena.now.model in let sound = c.requires.ready.sound in let above = c.args.above.now in let s = c.args.s in let p = c.args.plane in let faces = c.requires.of_solid in
+    let is = ap (λ (hs : List HalfEdge). map code hs) c.as_slice-2.ensures.value ∙ c.in_ok-halves.ensures in
+    let none = sym c.in_default.is ∙ c.in_ok-branched.ensures ∙ ap (λ (hs : List HalfEdge). found (least_branched M (section_ends M (map code hs)))) (c.as_slice.ensures.value ∙ sym c.as_slice-2.ensures.value) in
+    let told_held : vec_len c.in_ok-cycles.cycles ≡ length c.in_ok-cycles.cycles.items = omega (arith, c.in_ok-cycles.cycles.ok.0) in
+    let many = c.len-2.ensures ∙ told_held in
+    omega (arith, few_told M sound above s faces c.as_slice-2.result.now is none (map codes c.in_ok-found.found.items) c.in_ok-found.ensures p c.in_ok-cycles.cycles.items c.in_ok-cycles.ensures.halves c.in_ok-cycles.ensures.holes, many)
 
 pub returns-in-Ok-clause-open : goal.returns-in-Ok-clause-open
-returns-in-Ok-clause-open c = λ v e.
-    value_told (λ (v : Vec Cycle Global). (first_refusal (section_conditions c.args.arena.now.model c.args.s c.args.plane (taken_of c.args.drawn.now) (below_halves c.args.arena.now.model c.args.above.now c.args.s)) ≡ None) × AreCyclesOf c.args.arena.now.model c.args.plane (below_halves c.args.arena.now.model c.args.above.now c.args.s) v.items)
-    c.in_ok-cycles.cycles v (numbers_now c.args.arena.now.model c.requires.ready.sound c.args.above.now c.args.s c.requires.of_solid c.as_slice-2.result.now (ap (λ (hs : List HalfEdge). map code hs) c.as_slice-2.ensures.value ∙ c.in_ok-halves.ensures) (sym c.in_default.is ∙ c.in_ok-branched.ensures ∙ ap (λ (hs : List HalfEdge). found (least_branched c.args.arena.now.model (section_ends c.args.arena.now.model (map code hs)))) (c.as_slice.ensures.value ∙ sym c.as_slice-2.ensures.value)) (map codes c.in_ok-found.found.items) c.in_ok-found.ensures c.args.plane c.in_ok-cycles.cycles.items c.in_ok-cycles.ensures.halves c.in_ok-cycles.ensures.holes (taken_of c.args.drawn.now) (ap (λ (cs : List Cycle). has_stray cs) (sym c.as_slice-3.ensures.value) ∙ sym c.has_stray_hole.ensures ∙ c.if-has_stray_hole.false) c.len.result c.len-2.result (c.len.ensures ∙ (let e : vec_len c.in_ok-halves.halves ≡ length c.in_ok-halves.halves.items = omega (arith, c.in_ok-halves.halves.ok.0) in e) ∙ ap (λ (hs : List HalfEdge). length hs) (sym c.as_slice-2.ensures.value)) (c.len-2.ensures ∙ (let e : vec_len c.in_ok-cycles.cycles ≡ length c.in_ok-cycles.cycles.items = omega (arith, c.in_ok-cycles.cycles.ok.0) in e)) ∙ passed _ _ c.in-Ok.ensures, all_now c.args.arena.now.model c.requires.ready.sound c.args.above.now c.args.s c.requires.of_solid c.as_slice-2.result.now (ap (λ (hs : List HalfEdge). map code hs) c.as_slice-2.ensures.value ∙ c.in_ok-halves.ensures) (sym c.in_default.is ∙ c.in_ok-branched.ensures ∙ ap (λ (hs : List HalfEdge). found (least_branched c.args.arena.now.model (section_ends c.args.arena.now.model (map code hs)))) (c.as_slice.ensures.value ∙ sym c.as_slice-2.ensures.value)) (map codes c.in_ok-found.found.items) c.in_ok-found.ensures c.args.plane c.in_ok-cycles.cycles.items c.in_ok-cycles.ensures.halves c.in_ok-cycles.ensures.holes) e
+returns-in-Ok-clause-open c =
+    let M = c.args.arena.now.model in let sound = c.requires.ready.sound in let above = c.args.above.now in let s = c.args.s in let p = c.args.plane in let faces = c.requires.of_solid in
+    let is = ap (λ (hs : List HalfEdge). map code hs) c.as_slice-2.ensures.value ∙ c.in_ok-halves.ensures in
+    let none = sym c.in_default.is ∙ c.in_ok-branched.ensures ∙ ap (λ (hs : List HalfEdge). found (least_branched M (section_ends M (map code hs)))) (c.as_slice.ensures.value ∙ sym c.as_slice-2.ensures.value) in
+    let stray = ap (λ (cs : List Cycle). has_stray cs) (sym c.as_slice-3.ensures.value) ∙ sym c.has_stray_hole.ensures ∙ c.if-has_stray_hole.false in
+    let held : vec_len c.in_ok-halves.halves ≡ length c.in_ok-halves.halves.items = omega (arith, c.in_ok-halves.halves.ok.0) in
+    let long = c.len.ensures ∙ held ∙ ap (λ (hs : List HalfEdge). length hs) (sym c.as_slice-2.ensures.value) in
+    let told_held : vec_len c.in_ok-cycles.cycles ≡ length c.in_ok-cycles.cycles.items = omega (arith, c.in_ok-cycles.cycles.ok.0) in
+    let many = c.len-2.ensures ∙ told_held in
+    let numbers = numbers_now M sound above s faces c.as_slice-2.result.now is none (map codes c.in_ok-found.found.items) c.in_ok-found.ensures p c.in_ok-cycles.cycles.items c.in_ok-cycles.ensures.halves c.in_ok-cycles.ensures.holes (taken_of c.args.drawn.now) stray c.len.result c.len-2.result long many in
+    λ v e.
+    value_told (λ (v : Vec Cycle Global). (first_refusal (section_conditions M s p (taken_of c.args.drawn.now) (below_halves M above s)) ≡ None) × AreCyclesOf M p (below_halves M above s) v.items)
+    c.in_ok-cycles.cycles v (numbers ∙ passed _ _ c.in-Ok.ensures, all_now M sound above s faces c.as_slice-2.result.now is none (map codes c.in_ok-found.found.items) c.in_ok-found.ensures p c.in_ok-cycles.cycles.items c.in_ok-cycles.ensures.halves c.in_ok-cycles.ensures.holes) e
 
 pub returns-clause-refused : goal.returns-clause-refused
-returns-clause-refused c = λ r e. told _ _ r (numbers_now c.args.arena.now.model c.requires.ready.sound c.args.above.now c.args.s c.requires.of_solid c.as_slice-2.result.now (ap (λ (hs : List HalfEdge). map code hs) c.as_slice-2.ensures.value ∙ c.in_ok-halves.ensures) (sym c.in_default.is ∙ c.in_ok-branched.ensures ∙ ap (λ (hs : List HalfEdge). found (least_branched c.args.arena.now.model (section_ends c.args.arena.now.model (map code hs)))) (c.as_slice.ensures.value ∙ sym c.as_slice-2.ensures.value)) (map codes c.in_ok-found.found.items) c.in_ok-found.ensures c.args.plane c.in_ok-cycles.cycles.items c.in_ok-cycles.ensures.halves c.in_ok-cycles.ensures.holes (taken_of c.args.drawn.now) (ap (λ (cs : List Cycle). has_stray cs) (sym c.as_slice-3.ensures.value) ∙ sym c.has_stray_hole.ensures ∙ c.if-has_stray_hole.false) c.len.result c.len-2.result (c.len.ensures ∙ (let e : vec_len c.in_ok-halves.halves ≡ length c.in_ok-halves.halves.items = omega (arith, c.in_ok-halves.halves.ok.0) in e) ∙ ap (λ (hs : List HalfEdge). length hs) (sym c.as_slice-2.ensures.value)) (c.len-2.ensures ∙ (let e : vec_len c.in_ok-cycles.cycles ≡ length c.in_ok-cycles.cycles.items = omega (arith, c.in_ok-cycles.cycles.ok.0) in e)) ∙ failed _ _ c.in-Err.ensures) e
+returns-clause-refused c =
+    let M = c.args.arena.now.model in let sound = c.requires.ready.sound in let above = c.args.above.now in let s = c.args.s in let p = c.args.plane in let faces = c.requires.of_solid in
+    let is = ap (λ (hs : List HalfEdge). map code hs) c.as_slice-2.ensures.value ∙ c.in_ok-halves.ensures in
+    let none = sym c.in_default.is ∙ c.in_ok-branched.ensures ∙ ap (λ (hs : List HalfEdge). found (least_branched M (section_ends M (map code hs)))) (c.as_slice.ensures.value ∙ sym c.as_slice-2.ensures.value) in
+    let stray = ap (λ (cs : List Cycle). has_stray cs) (sym c.as_slice-3.ensures.value) ∙ sym c.has_stray_hole.ensures ∙ c.if-has_stray_hole.false in
+    let held : vec_len c.in_ok-halves.halves ≡ length c.in_ok-halves.halves.items = omega (arith, c.in_ok-halves.halves.ok.0) in
+    let long = c.len.ensures ∙ held ∙ ap (λ (hs : List HalfEdge). length hs) (sym c.as_slice-2.ensures.value) in
+    let told_held : vec_len c.in_ok-cycles.cycles ≡ length c.in_ok-cycles.cycles.items = omega (arith, c.in_ok-cycles.cycles.ok.0) in
+    let many = c.len-2.ensures ∙ told_held in
+    let numbers = numbers_now M sound above s faces c.as_slice-2.result.now is none (map codes c.in_ok-found.found.items) c.in_ok-found.ensures p c.in_ok-cycles.cycles.items c.in_ok-cycles.ensures.halves c.in_ok-cycles.ensures.holes (taken_of c.args.drawn.now) stray c.len.result c.len-2.result long many in
+    λ r e. told _ _ r (numbers ∙ failed _ _ c.in-Err.ensures) e
