@@ -6,6 +6,8 @@
     undone     such a chain in the first half; then each command undone and half of them redone
     blocks     blocks made by operators, 13 lines each
     glued      two blocks made and glued, and all three undone, 6 lines each
+    halved     a block made and split, and both undone, 4 lines each
+    sliced     a bar cut into 5,000 slices one by one, and all undone, 10,002 lines each
 """
 import sys
 
@@ -59,7 +61,23 @@ def glued(n):
         yield lines[k % 6]
 
 
-FAMILIES = {'refusals': refusals, 'chain': chain, 'undone': undone, 'blocks': blocks, 'glued': glued}
+def halved(n):
+    lines = ['block 1 0 0 0 4 4 4', 'split 1 1 0 0 -2 2', 'undo', 'undo']
+    for k in range(n):
+        yield lines[k % 4]
+
+
+def sliced(n):
+    for k in range(n):
+        i = k % 10002
+        if i == 0:
+            yield 'block 1 0 0 0 5001 4 4'
+        else:
+            yield 'split %d 1 0 0 -%d %d' % (i, i, i + 1) if i <= 5000 else 'undo'
+
+
+FAMILIES = {'refusals': refusals, 'chain': chain, 'undone': undone, 'blocks': blocks, 'glued': glued,
+            'halved': halved, 'sliced': sliced}
 
 
 def text(family, lines):

@@ -6,7 +6,7 @@ use lattice::Point;
 use std::alloc::Global;
 use std::process::Abort;
 use std::test::*;
-use sweeps::{block, lamina};
+use sweeps::{block, lamina, sweep};
 use undo_journal::{Failure, Session};
 
 /// What a command was refused for. Its memory wasn't refused.
@@ -45,15 +45,27 @@ fn refusal(why: Why, number: u32) -> Option<Refusal> {
     Some(Refusal { why, number })
 }
 
-/// A session with a cube of this size.
-fn with_cube(rt: &impl Abort, alloc: Global, session: Session, size: i64) -> Session {
-    let corner = Point { x: 0, y: 0, z: 0 };
-    let (mut session, mut result) = block(alloc, session, 1, corner, size, size, size);
+/// A session with another cube of this size, whose least corner has this x.
+fn with_cube_at(
+    rt: &impl Abort,
+    alloc: Global,
+    session: Session,
+    solid: u32,
+    x: i64,
+    size: i64,
+) -> Session {
+    let corner = Point { x, y: 0, z: 0 };
+    let (mut session, mut result) = block(alloc, session, solid, corner, size, size, size);
     if let Err(Failure::Memory(_)) = result {
-        (session, result) = block(alloc, session, 1, corner, size, size, size);
+        (session, result) = block(alloc, session, solid, corner, size, size, size);
     }
     assert_eq!(rt; refused_by(rt, result), None);
     session
+}
+
+/// A session with a cube of this size as solid 1.
+fn with_cube(rt: &impl Abort, alloc: Global, session: Session, size: i64) -> Session {
+    with_cube_at(rt, alloc, session, 1, 0, size)
 }
 
 #[test]
@@ -155,5 +167,51 @@ fn refused_once_the_faces_are_drawn(rt: HostRuntime) -> Result<(), Fail> {
     assert_eq!(rt; refused, refusal(Why::BranchedVertex, 5));
     assert_eq!(rt; session.depth(), 6);
     assert_eq!(rt; session.arena().greatest(Kind::Vertex), 5);
+    Ok(())
+}
+
+/// The operators that draw a square of 2 by 2 as face 7 within the upper face of a cube of 6.
+fn square(session: &mut Session) -> Result<(), Fail> {
+    let along = |edge, at, vertex, x, y| Op::Mev(
+        at,
+        at,
+        half(edge, true),
+        vertex,
+        Point { x, y, z: 6 },
+    );
+    let start = Corner::At(half(7, true));
+    session.act(along(13, start, 9, 2, 2)).map_err(|_| "spur")?;
+    session
+        .act(Op::Kemr(half(13, true), 7))
+        .map_err(|_| "ring")?;
+    session
+        .act(along(13, Corner::Lone(7), 10, 2, 4))
+        .map_err(|_| "first")?;
+    session
+        .act(along(14, Corner::At(half(13, false)), 11, 4, 4))
+        .map_err(|_| "second")?;
+    session
+        .act(along(15, Corner::At(half(14, false)), 12, 4, 2))
+        .map_err(|_| "third")?;
+    let closing = Op::Mef(half(15, false), half(13, true), half(16, true), 7, 8);
+    session.act(closing).map_err(|_| "last")?;
+    Ok(())
+}
+
+#[test]
+fn section_with_two_outer_cycles(rt: HostRuntime) -> Result<(), Fail> {
+    let alloc = rt.alloc();
+    let mut session = with_cube(&rt, alloc, Session::new(alloc)?, 6);
+    square(&mut session)?;
+    let down = Point { x: 0, y: 0, z: -6 };
+    let (mut session, swept) = sweep(alloc, session, 7, down);
+    assert_eq!(&rt; refused_by(&rt, swept), None);
+    session.act(Op::Kfmrh(2, 7)).map_err(|_| "hole")?;
+    let mut session = with_cube_at(&rt, alloc, session, 2, 100, 6);
+    session.act(Op::Merge(1, 2)).map_err(|_| "merge")?;
+    let depth = session.depth();
+    let (session, refused) = give(&rt, alloc, session, (0, 0, 1, -3), 3);
+    assert_eq!(rt; refused, refusal(Why::SectionHoles, 1));
+    assert_eq!(rt; session.depth(), depth);
     Ok(())
 }
