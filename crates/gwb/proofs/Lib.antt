@@ -1,5 +1,6 @@
 pub mod Counting
 pub mod RunLaws
+pub mod Outputs
 pub mod Acted
 pub mod CommandLine
 mod WorkedWords

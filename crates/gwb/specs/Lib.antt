@@ -4,3 +4,4 @@ pub mod Outs
 pub mod Hearing
 pub mod Words
 pub mod Endings
+pub mod Laws

@@ -8,6 +8,7 @@
 mod ending;
 mod judging;
 mod larger;
+mod laws;
 mod running;
 #[cfg(test)]
 mod tests;
@@ -15,6 +16,7 @@ mod words;
 
 pub use ending::{Trouble, status_of};
 pub use judging::Summary;
+pub use laws::one_output;
 pub use running::{RunFault, run};
 use std::alloc::AllocError;
 use std::env;
