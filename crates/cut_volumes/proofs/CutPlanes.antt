@@ -15,7 +15,7 @@ use Rattle.boundary_model.specs.Sound.{Has, HasHalf}
 use Rattle.euler_laws_shared.proofs.Undo.{mate_plus, mate_minus}
 use Rattle.shapes.specs.Faces.{start, finish, loops_of, vertices_on, vertices_in, corners}
 use Rattle.shapes.specs.Rewriting.{rewritten}
-use Rattle.solid_measure.specs.Measure.{anchor, first_vertex}
+use Rattle.measure_shapes.specs.Measure.{anchor, first_vertex}
 use Rattle.solid_measure_laws.proofs.FlatFaces.{are_on}
 use Rattle.solid_measure_laws.proofs.Paths.{first_in}
 use Rattle.split_shapes.specs.Crossings.{doubled, edge_cut}

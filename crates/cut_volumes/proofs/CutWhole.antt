@@ -10,7 +10,7 @@ use Rattle.euler_laws_shared.proofs.Goes.{all_hold, equal, not_back, no_zero}
 use Rattle.fresh_laws.proofs.Tests.{none_such}
 use Rattle.shapes.specs.Faces.{corners}
 use Rattle.shapes.specs.Fresh.{first_such, growing}
-use Rattle.solid_measure.specs.Measure.{normal, plane_of, is_plane_of, is_flat, six_volume}
+use Rattle.measure_shapes.specs.Measure.{normal, plane_of, is_plane_of, is_flat, six_volume}
 use Rattle.solid_measure_laws.proofs.FlatFaces.{and_parts, are_on}
 use Rattle.split_shapes.specs.Sides.{crossing_edges}
 use Rattle.split_shapes.specs.Crossings.{with_crossings}

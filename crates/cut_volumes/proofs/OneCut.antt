@@ -18,8 +18,8 @@ use Rattle.euler_laws_shared.proofs.Same.{Rewritten, content-new}
 use Rattle.euler_laws_shared.proofs.Undo.{mate_plus, mate_minus}
 use Rattle.shapes.specs.Faces.{start, finish, loops_of, items_in, boundary}
 use Rattle.shapes.specs.Rewriting.{rewritten, rewritten_row}
-use Rattle.solid_measure.specs.Measure.{area, normal}
-use Rattle.solid_measure.proofs.Areas.{area-append, moved_nothing, moved_turned}
+use Rattle.measure_shapes.specs.Measure.{area, normal}
+use Rattle.measure_shapes.proofs.Areas.{area-append, moved_nothing, moved_turned}
 use Rattle.solid_measure_laws.specs.Vectors.{negated}
 use Rattle.solid_measure_laws.proofs.Paths.{first_in, rest_in}
 use Rattle.solid_measure_laws.proofs.Sums.{area_same, cross_back, moved_back}

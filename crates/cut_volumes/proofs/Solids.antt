@@ -12,7 +12,7 @@ use Rattle.euler_laws_shared.proofs.Goes.{equal, equals}
 use Rattle.euler_laws_shared.proofs.Listed.{all_where-rises}
 use Rattle.euler_laws_shared.proofs.Rows.{face_there, no_items}
 use Rattle.solid_walks.proofs.Rising.{counted_once}
-use Rattle.solid_measure.specs.Measure.{normal, anchor, volume_in, six_volume}
+use Rattle.measure_shapes.specs.Measure.{normal, anchor, volume_in, six_volume}
 use Rattle.solid_measure_laws.proofs.Paths.{first_in, rest_in}
 use Rattle.crossing_laws.proofs.Listed.{all_where_has, all_where_in}
 

@@ -8,7 +8,7 @@ use Rattle.boundary_model.specs.Table as table
 use Rattle.boundary_model.specs.Model.{Model, no_face, solid_of, faces_of}
 use Rattle.boundary_model.specs.Sound.{Sound, Has}
 use Rattle.shapes.specs.Faces.{corners}
-use Rattle.solid_measure.specs.Measure.{normal, anchor, plane_through, plane_of, is_flat, volume_in, six_volume}
+use Rattle.measure_shapes.specs.Measure.{normal, anchor, plane_through, plane_of, is_flat, volume_in, six_volume}
 use Rattle.solid_measure_laws.proofs.FlatFaces.{and_parts, are_on, anchor_on, plane_told}
 use Rattle.solid_measure_laws.proofs.Paths.{first_in, rest_in}
 use Rattle.vector_laws.proofs.Vectors.{dot_turned}

@@ -5,7 +5,7 @@ use Rattle.boundary_model.specs.Model.{Model, faces_of}
 use Rattle.boundary_model.specs.Sound.{Sound}
 use Rattle.euler_operators.specs.Conditions.{lists}
 use Rattle.shapes.specs.Faces.{corners}
-use Rattle.solid_measure.specs.Measure.{normal, plane_of, is_plane_of, is_flat, six_volume}
+use Rattle.measure_shapes.specs.Measure.{normal, plane_of, is_plane_of, is_flat, six_volume}
 use Rattle.split_shapes.specs.Crossings.{with_crossings}
 use Rattle.crossing_laws.specs.Laws.{CanBegin}
 

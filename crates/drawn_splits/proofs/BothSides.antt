@@ -18,7 +18,7 @@ use Rattle.euler_laws_shared.proofs.Goes.{no_zero, equal, equals}
 use Rattle.euler_laws_shared.proofs.Rows.{face_there, loop_row}
 use Rattle.solid_walks.proofs.Rising.{in_listed}
 use Rattle.solid_walks.proofs.SolidFaces.{face_of_loop}
-use Rattle.solid_measure.specs.Measure.{normal}
+use Rattle.measure_shapes.specs.Measure.{normal}
 use Rattle.shapes.specs.Faces.{loops_of, corners}
 use Rattle.split_shapes.specs.Sides.{reaches_above, reaches_below, straddles, crossing_edges, face_is_above, faces_above}
 use Rattle.split_shapes.specs.Crossings.{with_crossings}

@@ -15,7 +15,7 @@ use Rattle.euler_laws_shared.proofs.Fans.{half_mate}
 use Rattle.euler_laws_shared.proofs.Goes.{equal}
 use Rattle.solid_walks.proofs.FaceLoops.{AreHalves, different_items, loops_of_apart}
 use Rattle.shapes.specs.Faces.{start, finish, loops_of, items_in, boundary, vertices_on, corners}
-use Rattle.solid_measure.specs.Measure.{area, anchor, first_vertex}
+use Rattle.measure_shapes.specs.Measure.{area, anchor, first_vertex}
 use Rattle.solid_measure_laws.proofs.FlatFaces.{and_parts, are_on}
 use Rattle.solid_measure_laws.proofs.Paths.{first_in, rest_in}
 use Rattle.crossing_laws.proofs.Listed.{all_where_has, loop_in_face, item_in_face}

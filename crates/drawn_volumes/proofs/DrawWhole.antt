@@ -6,7 +6,7 @@ use Rattle.boundary_model.specs.Model.{Model, solid_of, faces_of}
 use Rattle.boundary_model.specs.Sound.{Sound, Has}
 use Rattle.euler_operators.specs.Conditions.{first_refusal, lists}
 use Rattle.solid_walks.proofs.Rising.{in_listed}
-use Rattle.solid_measure.specs.Measure.{plane_of, is_flat, six_volume}
+use Rattle.measure_shapes.specs.Measure.{plane_of, is_flat, six_volume}
 use Rattle.split_shapes.specs.Sides.{straddling_faces}
 use Rattle.split_shapes.specs.Crossings.{with_crossings}
 use Rattle.split_shapes.specs.Drawing.{Drawing, faces_drawn, with_drawings}

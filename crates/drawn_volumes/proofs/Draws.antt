@@ -15,8 +15,8 @@ use Rattle.euler_operators.specs.Conditions.{face_at}
 use Rattle.euler_laws_mef.proofs.MefUndo.{count-mef_old, count-mef_new}
 use Rattle.fresh_laws.proofs.Rows.{get-put_here, get-put_other}
 use Rattle.shapes.specs.Faces.{start, boundary}
-use Rattle.solid_measure.specs.Measure.{normal, anchor}
-use Rattle.solid_measure.proofs.Areas.{area-append}
+use Rattle.measure_shapes.specs.Measure.{normal, anchor}
+use Rattle.measure_shapes.proofs.Areas.{area-append}
 use Rattle.solid_measure_laws.proofs.Sums.{area_same}
 use Rattle.split_shapes.specs.Drawing.{face_drawn}
 use Rattle.drawing_laws.specs.DrawnIn.{Stays}

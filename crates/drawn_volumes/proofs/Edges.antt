@@ -13,8 +13,8 @@ use Rattle.boundary_model.proofs.Halves.{plus_row, minus_row, same_edge}
 use Rattle.euler_laws_shared.proofs.Undo.{mate_plus}
 use Rattle.fresh_laws.proofs.Rows.{get-put_here, get-put_other}
 use Rattle.shapes.specs.Faces.{start, finish, boundary}
-use Rattle.solid_measure.specs.Measure.{area, normal}
-use Rattle.solid_measure.proofs.Areas.{moved_more, nothing_moved}
+use Rattle.measure_shapes.specs.Measure.{area, normal}
+use Rattle.measure_shapes.proofs.Areas.{moved_more, nothing_moved}
 use Rattle.solid_measure_laws.proofs.Sums.{halves_cancel}
 
 pub half_there : (N : Model) (h : ℕ) → HasHalf N h ⊎ (HasHalf N h → ⊥)

@@ -15,7 +15,7 @@ use Rattle.boundary_model.proofs.Halves.{plus_row, minus_row}
 use Rattle.boundary_model.proofs.Models.{content_row, face_row}
 use Rattle.euler_operators.specs.Conditions.{face_at}
 use Rattle.shapes.specs.Faces.{start, boundary}
-use Rattle.solid_measure.specs.Measure.{area, normal, anchor}
+use Rattle.measure_shapes.specs.Measure.{area, normal, anchor}
 use Rattle.solid_measure_laws.proofs.Sums.{area_same}
 use Rattle.split_shapes.specs.Drawing.{loops_joined}
 use Rattle.drawing_laws.specs.DrawnIn.{Stays}

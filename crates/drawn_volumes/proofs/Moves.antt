@@ -15,8 +15,8 @@ use Rattle.euler_laws_shared.proofs.Faces.{SameWalks}
 use Rattle.euler_laws_faces.proofs.RingIn as moving
 use Rattle.euler_laws_faces.proofs.RingIn.{RingGoes, sound-ring_in}
 use Rattle.shapes.specs.Faces.{boundary}
-use Rattle.solid_measure.specs.Measure.{area, normal, anchor}
-use Rattle.solid_measure.proofs.Areas.{area-append}
+use Rattle.measure_shapes.specs.Measure.{area, normal, anchor}
+use Rattle.measure_shapes.proofs.Areas.{area-append}
 use Rattle.solid_measure_laws.proofs.Sums.{area_same}
 use Rattle.drawing_laws.specs.DrawnIn.{Stays}
 use Rattle.drawn_volumes.proofs.Bounds.{OnFace, anchor_still, bound_halves, bound_one, bound_none, point_still, start_still, area_still}

@@ -11,7 +11,7 @@ use Rattle.boundary_model.specs.Sound.{Sound, Has}
 use Rattle.euler_operators.specs.Conditions.{face_at}
 use Rattle.euler_operators.specs.Effect.{ring_in}
 use Rattle.split_shapes.specs.Drawing.{Drawing, face_drawn, loops_joined, in_one_loop, joined_pair, join_next, draw_next, with_rings}
-use Rattle.solid_measure.specs.Measure.{six_volume}
+use Rattle.measure_shapes.specs.Measure.{six_volume}
 use Rattle.drawing_laws.specs.DrawnIn.{DrawnIn}
 use Rattle.drawing_laws.specs.Pairs.{Fits, AllFit}
 use Rattle.drawing_laws.proofs.Drawn.{CanDraw, CanJoin}

@@ -10,7 +10,7 @@ use Rattle.boundary_model.specs.Sound.{Has}
 use Rattle.euler_operators.specs.Conditions.{has_rings}
 use Rattle.euler_laws_shared.proofs.Goes.{equal, free}
 use Rattle.shapes.specs.Faces.{vertices_on}
-use Rattle.solid_measure.specs.Measure.{six_volume}
+use Rattle.measure_shapes.specs.Measure.{six_volume}
 use Rattle.split_shapes.specs.Sides.{some_above}
 use Rattle.split_shapes.specs.Drawing.{Drawing, stuck_at, all_joined, ring_free, all_drawn, rings_above, with_rings, drawn_between, drawn_pairs, next_drawn}
 use Rattle.drawing_laws.specs.Pairs.{pairs_in}

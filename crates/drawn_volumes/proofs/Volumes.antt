@@ -13,7 +13,7 @@ use Rattle.boundary_model.specs.Sound.{Sound, Has}
 use Rattle.euler_operators.specs.Conditions.{face_at}
 use Rattle.euler_operators.specs.Effect.{ring_in}
 use Rattle.euler_laws_shared.proofs.Goes.{equals, differs}
-use Rattle.solid_measure.specs.Measure.{normal, anchor, six_volume}
+use Rattle.measure_shapes.specs.Measure.{normal, anchor, six_volume}
 use Rattle.solid_measure_laws.proofs.FlatFaces.{anchor_on, told_anywhere}
 use Rattle.split_shapes.specs.Drawing.{face_drawn, loops_joined}
 use Rattle.drawing_laws.proofs.Drawn.{CanDraw, CanJoin}

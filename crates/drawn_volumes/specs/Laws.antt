@@ -5,7 +5,7 @@ use Rattle.boundary_model.specs.Model.{Model, faces_of}
 use Rattle.boundary_model.specs.Sound.{Sound, Has}
 use Rattle.euler_operators.specs.Conditions.{lists}
 use Rattle.shapes.specs.Faces.{corners}
-use Rattle.solid_measure.specs.Measure.{plane_of, is_plane_of, six_volume}
+use Rattle.measure_shapes.specs.Measure.{plane_of, is_plane_of, six_volume}
 use Rattle.split_shapes.specs.Drawing.{with_drawings}
 use Rattle.crossing_laws.specs.Laws.{CanBegin}
 

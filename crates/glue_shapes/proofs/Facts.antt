@@ -27,7 +27,7 @@ use Rattle.fresh_laws.proofs.Rows.{none_above}
 use Rattle.fresh_laws.proofs.Tests.{NoneSuch, NoZero, none_such, Left, numbers_are_left, number_fits}
 use Rattle.shapes.specs.Faces.{start, finish, boundary, items_in, loops_of, faces_of_both, least_lone}
 use Rattle.shapes.specs.Fresh.{first_such, taken_in}
-use Rattle.solid_measure.specs.Measure.{area, normal, is_flat, plane_of}
+use Rattle.measure_shapes.specs.Measure.{area, normal, is_flat, plane_of}
 use Rattle.glue_shapes.specs.Glue.{rim, outline, has_repeats, is_rotation, partner, glue_conditions, glue_refusal}
 use Rattle.glue_shapes.specs.GlueOps.{fresh_edge}
 use Rattle.glue_shapes.proofs.Facing.{Facing}

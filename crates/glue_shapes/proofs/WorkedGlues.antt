@@ -16,7 +16,7 @@ use Rattle.shapes.specs.Fresh.{taken_in}
 use Rattle.shapes.specs.Lamina.{lamina_model}
 use Rattle.shapes.specs.Prism.{with_side, raised, prism_model}
 use Rattle.shapes.specs.Block.{block_model}
-use Rattle.solid_measure.specs.Measure.{normal, plane_of, is_flat, six_volume}
+use Rattle.measure_shapes.specs.Measure.{normal, plane_of, is_flat, six_volume}
 use Rattle.glue_shapes.specs.Glue.{glue_conditions, glue_refusal, glue_model}
 use Rattle.glue_shapes.specs.GlueOps.{glue_ops}
 

@@ -13,7 +13,7 @@ use Rattle.euler_operators.specs.declared.Why.TheVariants.{NoFace, SameSolid, Ha
 use Rattle.shapes.specs.Faces.{least_lone, faces_of_both, start, finish}
 use Rattle.shapes.specs.Fresh.{taken_in, numbers_left, no_such, first_such}
 use Rattle.shapes.specs.Rewriting.{rewritten_row, renamed, without_rows}
-use Rattle.solid_measure.specs.Measure.{is_flat}
+use Rattle.measure_shapes.specs.Measure.{is_flat}
 
 -- the half-edges of a face's outer loop, and the points at which they start
 abbrev pub rim : Model → ℕ → List ℕ

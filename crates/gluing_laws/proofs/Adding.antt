@@ -21,8 +21,8 @@ use Rattle.euler_laws_shared.proofs.Listed.{listed_passes, listed_as}
 use Rattle.euler_laws_shared.proofs.Rows.{face_there}
 use Rattle.euler_laws_shared.proofs.Same.{mapped_some}
 use Rattle.shapes.specs.Faces.{start, finish, items_in, loops_of, boundary}
-use Rattle.solid_measure.specs.Measure.{area, normal, anchor, first_vertex, volume_in, six_volume}
-use Rattle.solid_measure.proofs.Areas.{area-append, moved_nothing}
+use Rattle.measure_shapes.specs.Measure.{area, normal, anchor, first_vertex, volume_in, six_volume}
+use Rattle.measure_shapes.proofs.Areas.{area-append, moved_nothing}
 use Rattle.vector_laws.proofs.Integers.{dif, dif-parts, difs, same_dif}
 use Rattle.solid_measure_laws.specs.Vectors.{negated}
 use Rattle.solid_measure_laws.proofs.Sums.{area_same, area_opposed}

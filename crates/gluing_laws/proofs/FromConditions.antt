@@ -10,7 +10,7 @@ use Rattle.euler_laws_shared.proofs.Listed.{listed_passes, passes_listed}
 use Rattle.euler_laws_shared.proofs.Rows.{loop_row, face_there}
 use Rattle.shapes.specs.Faces.{least_lone, faces_of_both}
 use Rattle.shapes.specs.Fresh.{first_such}
-use Rattle.solid_measure.specs.Measure.{is_flat, six_volume}
+use Rattle.measure_shapes.specs.Measure.{is_flat, six_volume}
 use Rattle.solid_walks.proofs.Rising.{in_listed}
 use Rattle.glue_shapes.specs.Glue.{rim, outline, has_repeats, is_rotation, glue_conditions, glue_refusal, partner, glue_model}
 use Rattle.glue_laws.proofs.Ending.{glued_all, glued_along_is}

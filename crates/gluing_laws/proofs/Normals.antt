@@ -20,8 +20,8 @@ use Rattle.euler_laws_shared.proofs.Goes.{equal, differs}
 use Rattle.euler_laws_shared.proofs.Listed.{first_listed, rest_listed, listed_cases, listed_passes}
 use Rattle.shapes.specs.Faces.{start, items_in, loops_of, boundary, corners, vertices_on}
 use Rattle.shapes.specs.Rewriting.{rewritten, rewritten_row}
-use Rattle.solid_measure.specs.Measure.{area, normal, anchor, first_vertex, is_flat}
-use Rattle.solid_measure.proofs.Areas.{area-append}
+use Rattle.measure_shapes.specs.Measure.{area, normal, anchor, first_vertex, is_flat}
+use Rattle.measure_shapes.proofs.Areas.{area-append}
 use Rattle.solid_measure_laws.proofs.FlatFaces.{corner_told}
 use Rattle.solid_measure_laws.proofs.Paths.{first_in, rest_in}
 use Rattle.solid_measure_laws.proofs.Sums.{area_same}

@@ -19,7 +19,7 @@ use Rattle.euler_laws_shared.proofs.Listed.{listed_passes, listed_as}
 use Rattle.euler_laws_shared.proofs.Rows.{face_there}
 use Rattle.shapes.specs.Faces.{start}
 use Rattle.shapes.specs.Rewriting.{rewritten}
-use Rattle.solid_measure.specs.Measure.{anchor, first_vertex, volume_in, six_volume}
+use Rattle.measure_shapes.specs.Measure.{anchor, first_vertex, volume_in, six_volume}
 use Rattle.glue_shapes.proofs.Renamings.{renamed_not}
 use Rattle.gluing_laws.proofs.Listed.{one_if, passed, same_search, volume_of, same_volumes}
 use Rattle.gluing_laws.proofs.Adding.{moved_solid}

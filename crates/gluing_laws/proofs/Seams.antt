@@ -12,7 +12,7 @@ use Rattle.euler_operators.specs.Effect.{faces_to_solid}
 use Rattle.euler_laws_shared.proofs.Same.{one_solid_round}
 use Rattle.shapes.specs.Faces.{start, finish}
 use Rattle.shapes.specs.Rewriting.{rewritten_row, renamed, without_rows}
-use Rattle.solid_measure.specs.Measure.{is_flat}
+use Rattle.measure_shapes.specs.Measure.{is_flat}
 use Rattle.glue_shapes.specs.Glue.{renamed_tails}
 use Rattle.glue_shapes.specs.Part.{paired}
 use Rattle.glue_shapes.proofs.Facing.{in_map}

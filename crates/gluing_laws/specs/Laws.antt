@@ -2,7 +2,7 @@
 use Rattle.std.specs.Prelude.{◌≡◌, ◌≢◌, ℕ, ◌+ℤ◌, None}
 use Rattle.boundary_model.specs.Model.{Model, solid_of}
 use Rattle.boundary_model.specs.Sound.{Sound}
-use Rattle.solid_measure.specs.Measure.{six_volume}
+use Rattle.measure_shapes.specs.Measure.{six_volume}
 use Rattle.glue_shapes.specs.Glue.{glue_refusal, glue_model}
 
 -- the six volumes of the glued solid are those of the two solids

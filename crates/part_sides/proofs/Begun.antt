@@ -14,7 +14,7 @@ use Rattle.euler_laws_shared.proofs.Goes.{equals}
 use Rattle.euler_laws_shared.proofs.Listed.{passes_listed}
 use Rattle.euler_laws_shared.proofs.Rows.{face_there, loop_row}
 use Rattle.shapes.specs.Faces.{start, loops_of, vertices_on, vertices_in, corners}
-use Rattle.solid_measure.specs.Measure.{normal}
+use Rattle.measure_shapes.specs.Measure.{normal}
 use Rattle.solid_walks.proofs.Rising.{in_listed}
 use Rattle.split_shapes.specs.Sides.{reaches_above, reaches_below, straddles, face_is_above, faces_above}
 use Rattle.strip_laws.proofs.Cycle.{listed_in}

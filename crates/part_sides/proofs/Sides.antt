@@ -18,7 +18,7 @@ use Rattle.euler_laws_shared.proofs.Goes.{differs}
 use Rattle.euler_laws_shared.proofs.Loops.{some_row}
 use Rattle.shapes.specs.Faces.{start}
 use Rattle.shapes.specs.Fresh.{Taken}
-use Rattle.solid_measure.specs.Measure.{is_plane_of}
+use Rattle.measure_shapes.specs.Measure.{is_plane_of}
 use Rattle.split_shapes.specs.Drawing.{Drawing}
 use Rattle.split_shapes.specs.Section.{is_hole, below_halves, section_cycles}
 use Rattle.split_shapes.specs.Opening.{Caps, Opening, opened_along, next_opened, all_opened}

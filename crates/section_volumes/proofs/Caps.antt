@@ -25,8 +25,8 @@ use Rattle.shapes.specs.Faces.{start, finish, items_in, loops_of, boundary}
 use Rattle.shapes.specs.Fresh.{Taken, numbers_after}
 use Rattle.shapes.specs.Prism.{next_place}
 use Rattle.shapes.specs.Rewriting.{rewritten_row, renamed}
-use Rattle.solid_measure.specs.Measure.{area, normal, anchor, first_vertex, is_plane_of}
-use Rattle.solid_measure.proofs.Areas.{area-append, moved_nothing}
+use Rattle.measure_shapes.specs.Measure.{area, normal, anchor, first_vertex, is_plane_of}
+use Rattle.measure_shapes.proofs.Areas.{area-append, moved_nothing}
 use Rattle.vector_laws.proofs.Vectors.{none_moved}
 use Rattle.solid_measure_laws.specs.Vectors.{negated}
 use Rattle.solid_measure_laws.proofs.FlatFaces.{and_parts, flat_closed}

@@ -16,7 +16,7 @@ use Rattle.fresh_laws.proofs.Rows.{get-put_cases}
 use Rattle.shapes.specs.Faces.{start}
 use Rattle.shapes.specs.Fresh.{Taken}
 use Rattle.shapes.specs.Rewriting.{rewritten}
-use Rattle.solid_measure.specs.Measure.{normal, anchor, is_plane_of, six_volume}
+use Rattle.measure_shapes.specs.Measure.{normal, anchor, is_plane_of, six_volume}
 use Rattle.solid_measure_laws.proofs.FlatFaces.{told_alike}
 use Rattle.split_shapes.specs.Section.{is_hole}
 use Rattle.split_shapes.specs.Opening.{Caps, Opening, opened_along, next_opened, all_opened}

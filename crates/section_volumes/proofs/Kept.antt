@@ -17,8 +17,8 @@ use Rattle.euler_laws_shared.proofs.Listed.{first_listed, rest_listed, listed_ca
 use Rattle.euler_laws_shared.proofs.Rows.{loop_row}
 use Rattle.shapes.specs.Faces.{start, finish, items_in, loops_of, boundary}
 use Rattle.shapes.specs.Rewriting.{rewritten, rewritten_row}
-use Rattle.solid_measure.specs.Measure.{area, normal, anchor, first_vertex}
-use Rattle.solid_measure.proofs.Areas.{area-append}
+use Rattle.measure_shapes.specs.Measure.{area, normal, anchor, first_vertex}
+use Rattle.measure_shapes.proofs.Areas.{area-append}
 use Rattle.solid_measure_laws.proofs.Sums.{area_same, area_renamed}
 use Rattle.gluing_laws.proofs.Listed.{one_if, passed, same_search, volume_of}
 use Rattle.section_volumes.specs.Told.{TellsAlike}

@@ -19,7 +19,7 @@ use Rattle.euler_laws_shared.proofs.Listed.{listed_passes, listed_as}
 use Rattle.euler_laws_shared.proofs.Rows.{face_there}
 use Rattle.fresh_laws.proofs.Rows.{get-put_other}
 use Rattle.shapes.specs.Fresh.{Taken, numbers_after}
-use Rattle.solid_measure.specs.Measure.{area, anchor, is_plane_of, volume_in, six_volume}
+use Rattle.measure_shapes.specs.Measure.{area, anchor, is_plane_of, volume_in, six_volume}
 use Rattle.solid_measure_laws.proofs.FlatFaces.{and_parts, told_alike}
 use Rattle.solid_measure_laws.proofs.Sums.{dot_back}
 use Rattle.split_shapes.specs.Opening.{opened_along}

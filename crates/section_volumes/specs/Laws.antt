@@ -6,7 +6,7 @@ use Rattle.cyclic_list.specs.Items.{IsIn}
 use Rattle.boundary_model.specs.Model.{Model, tail}
 use Rattle.shapes.specs.Faces.{start}
 use Rattle.shapes.specs.Fresh.{Taken}
-use Rattle.solid_measure.specs.Measure.{is_plane_of, six_volume}
+use Rattle.measure_shapes.specs.Measure.{is_plane_of, six_volume}
 use Rattle.split_shapes.specs.Opening.{Opening, opened_along, all_opened}
 use Rattle.strip_laws.specs.Opened.{CanBeOpened}
 use Rattle.opened_sections.specs.InTurn.{halves_in, CanBeOpenedInTurn}

@@ -6,7 +6,7 @@ use Rattle.cyclic_list.specs.Items.{IsIn}
 use Rattle.boundary_model.specs.Model.{Model, cycle, items_of, content, face_of, outer, solid_of}
 use Rattle.boundary_model.specs.Sound.{Has}
 use Rattle.shapes.specs.Faces.{start}
-use Rattle.solid_measure.specs.Measure.{normal, anchor}
+use Rattle.measure_shapes.specs.Measure.{normal, anchor}
 use Rattle.split_shapes.specs.Opening.{Caps}
 
 -- each corner of the face's outer loop has the same product along its normal, as those of a flat face have

@@ -1,4 +1,4 @@
--- Sums of cross products over half-edges: joined, turned, and how great they are.
+-- How great sums of cross products over half-edges are.
 use Rattle.std.proofs.Common.{◌≡◌, ℕ, ◌+◌, ◌*◌, ◌≤◌, List, [], ◌∷◌, ◌++◌, length, Some, None, Option, refl, sym, ap, ◌∙◌, arith}
 use Rattle.std.specs.Prelude.{◌*ℤ◌, unwrap_or}
 use Rattle.std.proofs.Math.IntN.{+ℤ_comm, +ℤ_assoc, +ℤ_idl, +ℤ_idr}
@@ -13,36 +13,9 @@ use Rattle.boundary_model.specs.Table as table
 use Rattle.boundary_model.specs.Model.{Model, tail, point_of, no_point}
 use Rattle.boundary_model.specs.Sound.{Sound}
 use Rattle.shapes.specs.Faces.{start, finish}
+pub use Rattle.measure_shapes.proofs.Areas.{same_vector, moved_more, moved_turned, moved_nothing, nothing_moved, area-append, area_turned, area_push}
 use Rattle.solid_measure.specs.Measure.{area, area_limit}
 use Rattle.solid_walks.proofs.FaceLoops.{AreHalves, halves_short}
-
-pub same_vector : (p q : Point) → p.x ≡ q.x → p.y ≡ q.y → p.z ≡ q.z → p ≡ q
-same_vector p q a b c = λ i. record { x = a i; y = b i; z = c i }
-
-pub moved_more : (p q r : Point) → moved (moved p q) r ≡ moved p (moved q r)
-moved_more p q r = same_vector _ _ (+ℤ_assoc p.x q.x r.x) (+ℤ_assoc p.y q.y r.y) (+ℤ_assoc p.z q.z r.z)
-
-pub moved_turned : (p q : Point) → moved p q ≡ moved q p
-moved_turned p q = same_vector _ _ (+ℤ_comm p.x q.x) (+ℤ_comm p.y q.y) (+ℤ_comm p.z q.z)
-
-pub moved_nothing : (p : Point) → moved p origin ≡ p
-moved_nothing p = same_vector _ _ (+ℤ_idr p.x) (+ℤ_idr p.y) (+ℤ_idr p.z)
-
-pub nothing_moved : (p : Point) → moved origin p ≡ p
-nothing_moved p = same_vector _ _ (+ℤ_idl p.x) (+ℤ_idl p.y) (+ℤ_idl p.z)
-
-pub area-append : (M : Model) (hs ks : List ℕ) → area M (hs ++ ks) ≡ moved (area M hs) (area M ks)
-area-append M [] ks = sym (nothing_moved (area M ks))
-area-append M (h ∷ hs) ks = ap (moved (cross (start M h) (finish M h))) (area-append M hs ks) ∙ sym (moved_more (cross (start M h) (finish M h)) (area M hs) (area M ks))
-
--- a loop's sum doesn't depend on where it starts
-pub area_turned : (M : Model) (hs ks : List ℕ) → IsRotation hs ks → area M hs ≡ area M ks
-area_turned M hs ks r = (λ i. area M (r.here i)) ∙ area-append M r.front r.back ∙ moved_turned (area M r.front) (area M r.back) ∙ sym (area-append M r.back r.front) ∙ (λ i. area M (sym r.there i))
-
-pub area_push : (M : Model) (hs : List ℕ) (h : ℕ) → area M (hs ++ h ∷ []) ≡ moved (area M hs) (cross (start M h) (finish M h))
-area_push M hs h = area-append M hs (h ∷ []) ∙ ap (moved (area M hs)) (moved_nothing (cross (start M h) (finish M h)))
-
--- ---- how great they are
 
 pub point_fits : (M : Model) → Sound M → (v : ℕ) → IsInRange (point_of M v)
 unfolding point_of

@@ -16,8 +16,8 @@ use Rattle.euler_laws_shared.proofs.Listed.{first_listed, rest_listed, listed_ca
 use Rattle.euler_laws_shared.proofs.Loops.{light}
 use Rattle.euler_laws_shared.proofs.Rows.{loop_row, face_there}
 use Rattle.shapes.specs.Faces.{items_in, loops_of, boundary}
-use Rattle.solid_measure.specs.Measure.{area, normal, six_volume}
-use Rattle.solid_measure.proofs.Areas.{area-append}
+use Rattle.measure_shapes.specs.Measure.{area, normal, six_volume}
+use Rattle.measure_shapes.proofs.Areas.{area-append}
 use Rattle.solid_walks.proofs.FaceLoops.{items_there}
 use Rattle.solid_walks.proofs.Rising.{counted_once, none_counted}
 use Rattle.vector_laws.proofs.Vectors.{dot_turned, dot_origin, add_none}

@@ -21,7 +21,7 @@ use Rattle.euler_laws_shared.proofs.Fans.{ring_stays}
 use Rattle.euler_laws_shared.proofs.Listed.{first_listed, rest_listed, listed_passes}
 use Rattle.euler_laws_shared.proofs.Loops.{light}
 use Rattle.shapes.specs.Faces.{vertices_on, corners, loops_of}
-use Rattle.solid_measure.specs.Measure.{normal, anchor, first_vertex, plane_of, is_flat, volume_in, six_volume}
+use Rattle.measure_shapes.specs.Measure.{normal, anchor, first_vertex, plane_of, is_flat, volume_in, six_volume}
 use Rattle.solid_measure_laws.specs.Models.{run_back, turned}
 use Rattle.solid_measure_laws.proofs.Paths.{first_in}
 use Rattle.solid_measure_laws.proofs.FlatFaces.{and_parts, list_parts, are_on, plane_told}

@@ -15,8 +15,8 @@ use Rattle.boundary_model.proofs.Models.{in-holds}
 use Rattle.euler_operators.specs.Conditions.{lists}
 use Rattle.euler_laws_shared.proofs.Listed.{first_listed, rest_listed, listed_passes}
 use Rattle.shapes.specs.Faces.{start, finish, loops_of, items_in, boundary}
-use Rattle.solid_measure.specs.Measure.{area, normal, anchor, first_vertex, volume_in, six_volume}
-use Rattle.solid_measure.proofs.Areas.{area-append}
+use Rattle.measure_shapes.specs.Measure.{area, normal, anchor, first_vertex, volume_in, six_volume}
+use Rattle.measure_shapes.proofs.Areas.{area-append}
 use Rattle.vector_laws.proofs.Integers.{dif, dif-parts, difs, same_dif}
 use Rattle.vector_laws.proofs.Vectors.{same_vector, moved_none, dot_moved, dot_turned, dot_origin}
 use Rattle.solid_measure_laws.specs.Vectors.{towards}

@@ -13,8 +13,8 @@ use Rattle.boundary_model.specs.Model.{Model}
 use Rattle.boundary_model.proofs.Halves.{mate-mate}
 use Rattle.euler_laws_shared.proofs.Rows.{no_items}
 use Rattle.shapes.specs.Faces.{start, finish}
-use Rattle.solid_measure.specs.Measure.{area}
-use Rattle.solid_measure.proofs.Areas.{area-append}
+use Rattle.measure_shapes.specs.Measure.{area}
+use Rattle.measure_shapes.proofs.Areas.{area-append}
 use Rattle.vector_laws.proofs.Integers.{dif, dif-parts, difs, neg-dif, same_dif}
 use Rattle.vector_laws.proofs.Vectors.{same_vector}
 use Rattle.solid_measure_laws.specs.Vectors.{negated}

@@ -15,7 +15,7 @@ use Rattle.boundary_model.proofs.Halves.{mate-mate}
 use Rattle.euler_laws_shared.proofs.Fans.{half_mate}
 use Rattle.shapes.specs.Faces.{start, finish}
 use Rattle.shapes.specs.Fresh.{Taken, numbers_after}
-use Rattle.solid_measure.specs.Measure.{area}
+use Rattle.measure_shapes.specs.Measure.{area}
 use Rattle.split_shapes.specs.Section.{is_hole, has_stray_hole, holes_in}
 use Rattle.split_shapes.specs.Opening.{Caps, Opening, opened_along, next_opened, all_opened}
 use Rattle.section_laws.specs.SectionCycles.{IsSectionCycle, AreSectionCycles}

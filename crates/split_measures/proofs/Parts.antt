@@ -5,7 +5,7 @@ use Rattle.lattice.specs.Vectors.{is_above, is_below}
 use Rattle.boundary_model.specs.Model.{Model}
 use Rattle.boundary_model.specs.Sound.{Sound}
 use Rattle.shapes.specs.Faces.{start}
-use Rattle.solid_measure.specs.Measure.{six_volume}
+use Rattle.measure_shapes.specs.Measure.{six_volume}
 use Rattle.split_shapes.specs.Sides.{faces_above}
 use Rattle.split_shapes.specs.Drawing.{with_drawings}
 use Rattle.split_shapes.specs.Split.{split_refusal, split_model}

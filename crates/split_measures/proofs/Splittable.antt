@@ -19,7 +19,7 @@ use Rattle.euler_laws_shared.proofs.Fans.{half_after, half_mate, loop_after}
 use Rattle.euler_laws_shared.proofs.Goes.{all_hold, not_true}
 use Rattle.solid_walks.proofs.Rising.{in_listed}
 use Rattle.shapes.specs.Faces.{start, corners}
-use Rattle.solid_measure.specs.Measure.{plane_of}
+use Rattle.measure_shapes.specs.Measure.{plane_of}
 use Rattle.solid_measure_laws.proofs.FlatFaces.{and_parts, are_on, told_anywhere}
 use Rattle.split_shapes.specs.Sides.{faces_above}
 use Rattle.split_shapes.specs.Drawing.{with_drawings}

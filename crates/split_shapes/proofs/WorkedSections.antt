@@ -7,7 +7,7 @@ use Rattle.euler_operators.proofs.WorkedScripts.{at, after_run, plus, minus}
 use Rattle.shapes.specs.Lamina.{lamina_model}
 use Rattle.shapes.specs.Prism.{prism_model}
 use Rattle.shapes.specs.Block.{block_model}
-use Rattle.solid_measure.specs.Measure.{six_volume}
+use Rattle.measure_shapes.specs.Measure.{six_volume}
 use Rattle.split_shapes.specs.Split.{split_refusal, split_model}
 use Rattle.split_shapes.proofs.WorkedSplits.{computed, point, plane, Rows, rows_of, face, loop, edge, vertex}
 

@@ -18,7 +18,7 @@ use Rattle.shapes.specs.Fresh.{taken_in}
 use Rattle.shapes.specs.Lamina.{lamina_conditions, lamina_model}
 use Rattle.shapes.specs.Prism.{prism_conditions, with_side, raised, prism_model}
 use Rattle.shapes.specs.Block.{block_conditions, block_model}
-use Rattle.solid_measure.specs.Measure.{normal, plane_of, is_flat, six_volume}
+use Rattle.measure_shapes.specs.Measure.{normal, plane_of, is_flat, six_volume}
 use Rattle.split_shapes.specs.Sides.{straddles, face_is_above}
 use Rattle.split_shapes.specs.Places.{is_place, place_point, places, is_touched, is_cut_often, is_crossed, sorted_pairs, place_pairs}
 use Rattle.split_shapes.specs.Crossings.{edge_cut, next_cut, with_crossings}

@@ -10,7 +10,7 @@ use Rattle.boundary_model.specs.Model.{Model, tail}
 use Rattle.euler_operators.specs.Conditions.{face_at, lists}
 use Rattle.shapes.specs.Faces.{edges_of}
 use Rattle.shapes.specs.Fresh.{first_such}
-use Rattle.solid_measure.specs.Measure.{area}
+use Rattle.measure_shapes.specs.Measure.{area}
 
 -- the half of a section edge in the face below. Nothing where the edge is none; `above` are the faces above
 abbrev pub below_half : Model → List ℕ → ℕ → List ℕ

@@ -6,7 +6,7 @@ use Rattle.lattice.specs.Vectors.{dot, direction, is_above, is_below, are_opposi
 use Rattle.boundary_model.specs.HalfEdge.{plus}
 use Rattle.boundary_model.specs.Model.{Model, point_of, faces_of}
 use Rattle.shapes.specs.Faces.{corners, start, finish, edges_of}
-use Rattle.solid_measure.specs.Measure.{normal}
+use Rattle.measure_shapes.specs.Measure.{normal}
 
 -- whether some of the vertices lie strictly above the plane, and strictly below
 abbrev pub some_above : Model → Plane → List ℕ → Bool

@@ -13,7 +13,7 @@ use Rattle.euler_operators.specs.declared.Refusal.{Refusal}
 use Rattle.euler_operators.specs.declared.Why.TheVariants.{NoSolid, SolidTaken, PlaneRange, LoneLoop, NotFlat, PlaneMisses, NotLattice, TouchedFace, CutOften, CutCrossed, BranchedVertex, SectionHoles}
 use Rattle.shapes.specs.Faces.{least_lone, start, finish}
 use Rattle.shapes.specs.Fresh.{Taken, taken_in, numbers_left, no_such, first_such}
-use Rattle.solid_measure.specs.Measure.{is_flat}
+use Rattle.measure_shapes.specs.Measure.{is_flat}
 use Rattle.split_shapes.specs.Sides.{reaches_above, reaches_below, straddling_faces, crossing_edges, faces_above}
 use Rattle.split_shapes.specs.Places.{is_touched, is_cut_often, is_crossed, pair_count}
 use Rattle.split_shapes.specs.Drawing.{Drawing, with_drawings}

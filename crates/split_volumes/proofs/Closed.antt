@@ -12,7 +12,7 @@ use Rattle.boundary_model.specs.Sound.{Has}
 use Rattle.boundary_model.proofs.Models.{face_row}
 use Rattle.boundary_model.proofs.Tables.{all_where_none}
 use Rattle.euler_operators.specs.Effect.{kfmrh}
-use Rattle.solid_measure.specs.Measure.{six_volume}
+use Rattle.measure_shapes.specs.Measure.{six_volume}
 use Rattle.split_shapes.specs.Opening.{Caps, outer_caps, hole_closed, holes_closed}
 use Rattle.opened_sections.specs.Capped.{IsPlain, ArePlain, cap_faces}
 use Rattle.section_volumes.specs.Told.{LiesAlong, OutersAreOwn, AllLieAlong}

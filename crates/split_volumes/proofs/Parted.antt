@@ -12,7 +12,7 @@ use Rattle.euler_operators.specs.Conditions.{lists}
 use Rattle.euler_operators.specs.Effect.{part, faces_to_solid}
 use Rattle.euler_laws_shared.proofs.Goes.{equals, differs}
 use Rattle.shapes.specs.Faces.{start, items_in, loops_of, boundary}
-use Rattle.solid_measure.specs.Measure.{area, normal, anchor, first_vertex, volume_in, six_volume}
+use Rattle.measure_shapes.specs.Measure.{area, normal, anchor, first_vertex, volume_in, six_volume}
 use Rattle.gluing_laws.proofs.Listed.{one_if, passed, count_where, same_search, volume_of, volume_append, volume_same, same_volumes}
 use Rattle.split_volumes.specs.Laws.{CanBeParted}
 use Rattle.section_volumes.proofs.Caps.{area_kept}

@@ -17,7 +17,7 @@ use Rattle.boundary_model.specs.Sound.{Has, HasHalf}
 use Rattle.euler_operators.specs.Conditions.{strictly_rises}
 use Rattle.euler_operators.specs.Effect.{kfmrh}
 use Rattle.euler_laws_shared.proofs.Fans.{half_mate}
-use Rattle.solid_measure.specs.Measure.{six_volume}
+use Rattle.measure_shapes.specs.Measure.{six_volume}
 use Rattle.solid_walks.proofs.Rising.{counted_once}
 use Rattle.split_shapes.specs.Drawing.{Drawing}
 use Rattle.split_shapes.specs.Section.{is_hole, holes_in, below_halves, section_cycles, has_stray_hole}

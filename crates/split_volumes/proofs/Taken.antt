@@ -18,8 +18,8 @@ use Rattle.euler_operators.specs.Effect.{kfmrh, loop_to_face}
 use Rattle.euler_laws_shared.proofs.Goes.{equals, differs}
 use Rattle.euler_laws_shared.proofs.Rows.{no_items, face_there, loop_row}
 use Rattle.shapes.specs.Faces.{start, items_in, loops_of, boundary}
-use Rattle.solid_measure.specs.Measure.{area, normal, anchor, first_vertex, volume_in, six_volume}
-use Rattle.solid_measure.proofs.Areas.{area-append}
+use Rattle.measure_shapes.specs.Measure.{area, normal, anchor, first_vertex, volume_in, six_volume}
+use Rattle.measure_shapes.proofs.Areas.{area-append}
 use Rattle.solid_walks.proofs.FaceLoops.{items_joined}
 use Rattle.vector_laws.proofs.Vectors.{dot_turned, dot_moved, none_moved}
 use Rattle.solid_measure_laws.proofs.FlatFaces.{told_alike}

@@ -6,7 +6,7 @@ use Rattle.boundary_model.specs.Model.{Model, solid_of}
 use Rattle.boundary_model.specs.Sound.{Has}
 use Rattle.euler_operators.specs.Conditions.{lists, strictly_rises}
 use Rattle.euler_operators.specs.Effect.{part}
-use Rattle.solid_measure.specs.Measure.{six_volume}
+use Rattle.measure_shapes.specs.Measure.{six_volume}
 use Rattle.split_shapes.specs.Drawing.{Drawing}
 use Rattle.split_shapes.specs.Section.{below_halves, section_cycles, has_stray_hole}
 use Rattle.split_shapes.specs.Opening.{Caps, holes_closed}

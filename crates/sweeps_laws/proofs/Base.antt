@@ -15,7 +15,7 @@ use Rattle.euler_operators.specs.Conditions.{is_lone, lists}
 use Rattle.shapes.specs.Faces.{start, finish, least_lone, items_in}
 use Rattle.shapes.specs.Fresh.{Taken, numbers_after}
 use Rattle.shapes.specs.Lamina.{with_path, with_points, lamina_at}
-use Rattle.solid_measure.specs.Measure.{area, normal, anchor, first_vertex, volume_in, six_volume}
+use Rattle.measure_shapes.specs.Measure.{area, normal, anchor, first_vertex, volume_in, six_volume}
 use Rattle.fresh_laws.proofs.Rows.{get-put_here, get-put_other, get-put_cases, all_where-put_last, greatest-put_last}
 use Rattle.lamina_laws.proofs.Lists.{plus_halves, minus_halves, back_apart, first_moved, canonical_first}
 use Rattle.vector_laws.proofs.Rectangles.{ring_area}

@@ -17,7 +17,7 @@ use Rattle.shapes.specs.Fresh.{taken_in}
 use Rattle.shapes.specs.Lamina.{first_far, first_repeated, lamina_conditions, lamina_refusal, lamina_at, lamina_model}
 use Rattle.shapes.specs.Prism.{prism_model}
 use Rattle.shapes.specs.Block.{vector, base_of, block_conditions, block_refusal, block_model}
-use Rattle.solid_measure.specs.Measure.{six_volume}
+use Rattle.measure_shapes.specs.Measure.{six_volume}
 use Rattle.lamina_laws.proofs.Walk.{lamina_is_sound}
 use Rattle.vector_laws.proofs.Vectors.{add_none, none_add}
 use Rattle.vector_laws.proofs.Rectangles.{second_corner, third_corner, fourth_corner, rectangle_flat, rectangle_raised}

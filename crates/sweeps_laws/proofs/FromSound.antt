@@ -19,7 +19,7 @@ use Rattle.euler_laws_shared.proofs.Loops.{some_row, loop_sound, IsLoop}
 use Rattle.shapes.specs.Faces.{least_lone}
 use Rattle.shapes.specs.Fresh.{taken_in}
 use Rattle.shapes.specs.Prism.{next_place, prism_conditions, prism_refusal, prism_model}
-use Rattle.solid_measure.specs.Measure.{normal, six_volume}
+use Rattle.measure_shapes.specs.Measure.{normal, six_volume}
 use Rattle.fresh_laws.proofs.Rows.{at_most_greatest}
 use Rattle.swept_loops.proofs.Numbers.{next_cases}
 use Rattle.swept_loops.proofs.Lifted.{Bounded, IsPathOf}

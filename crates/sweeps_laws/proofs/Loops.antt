@@ -13,7 +13,7 @@ use Rattle.euler_laws_shared.proofs.Listed.{first_listed, rest_listed, listed_ca
 use Rattle.shapes.specs.Faces.{start, finish, loops_of, items_in, boundary}
 use Rattle.shapes.specs.Fresh.{Taken}
 use Rattle.shapes.specs.Prism.{riser, top_edge, top_items, next_place}
-use Rattle.solid_measure.specs.Measure.{area, normal, anchor, first_vertex, volume_in}
+use Rattle.measure_shapes.specs.Measure.{area, normal, anchor, first_vertex, volume_in}
 use Rattle.fresh_laws.proofs.Rows.{at_most_greatest}
 use Rattle.vector_laws.proofs.Vectors.{dot_moved, add_assoc}
 use Rattle.vector_laws.proofs.Sweeps.{sum_to, moved_at, area_at, moved_ring, side_area, side_volume, Linked}

@@ -10,7 +10,7 @@ use Rattle.euler_operators.specs.Conditions.{lists}
 use Rattle.euler_laws_shared.proofs.Listed.{listed_passes, all_where-rises, passes_listed}
 use Rattle.euler_laws_shared.proofs.Rows.{face_there}
 use Rattle.shapes.specs.Fresh.{Taken}
-use Rattle.solid_measure.specs.Measure.{area, normal, volume_in, six_volume}
+use Rattle.measure_shapes.specs.Measure.{area, normal, volume_in, six_volume}
 use Rattle.fresh_laws.proofs.Rows.{at_most_greatest}
 use Rattle.vector_laws.proofs.Vectors.{add_none, add_assoc}
 use Rattle.vector_laws.proofs.Sweeps.{total_to, same_total, area_at, sides_volume}

@@ -10,7 +10,7 @@ use Rattle.euler_laws_shared.proofs.Listed.{first_listed, rest_listed}
 use Rattle.shapes.specs.Faces.{items_in, loops_of}
 use Rattle.shapes.specs.Fresh.{Taken, Growing, growing, taken_in}
 use Rattle.shapes.specs.Prism.{raised, prism_from, prism_model}
-use Rattle.solid_measure.specs.Measure.{area, normal, six_volume}
+use Rattle.measure_shapes.specs.Measure.{area, normal, six_volume}
 use Rattle.vector_laws.proofs.Vectors.{dot_moved, dot_origin, dot_turned, twice_sum, three_times, add_none, add_assoc}
 use Rattle.sweeps_laws.proofs.Areas.{area_append}
 use Rattle.swept_loops.proofs.Lifted.{Bounded, IsPathOf, swept, within}

@@ -1,0 +1,2 @@
+//! Normals, planes and volumes of models, as definitions.
+#![tactic(auto)]
