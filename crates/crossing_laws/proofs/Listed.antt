@@ -13,7 +13,7 @@ use Rattle.euler_operators.specs.Conditions.{lists}
 use Rattle.euler_laws_shared.proofs.Goes.{equals, differs, not_false}
 use Rattle.euler_laws_shared.proofs.Rows.{loop_row}
 use Rattle.euler_laws_shared.proofs.Listed.{listed_passes, passes_listed, listed_cases}
-use Rattle.solid_walks.proofs.Rising.{in_listed}
+use Rattle.solid_measure_laws.proofs.Rising.{in_listed}
 use Rattle.fresh_laws.proofs.Tests.{NoneSuch, NoZero}
 use Rattle.shapes.specs.Faces.{loops_of, items_in, boundary, vertices_on, vertices_in, corners}
 

@@ -19,7 +19,7 @@ use Rattle.euler_laws_shared.proofs.Arcs.{halves_of_edge}
 use Rattle.euler_laws_shared.proofs.Fans.{half_after, loop_after}
 use Rattle.euler_laws_shared.proofs.Goes.{equal, equals}
 use Rattle.euler_laws_shared.proofs.Undo.{mate_plus, mate_minus}
-use Rattle.solid_walks.proofs.FaceLoops.{items_counted, items_there}
+use Rattle.solid_measure_laws.proofs.FaceLoops.{items_counted, items_there}
 use Rattle.shapes.specs.Faces.{start, finish, loops_of, boundary, edges_of}
 use Rattle.split_shapes.specs.Sides.{crosses, straddles, straddling_faces, crossing_edges}
 use Rattle.split_shapes.specs.Places.{is_place, place_point, places}

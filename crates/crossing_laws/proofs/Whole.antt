@@ -14,7 +14,7 @@ use Rattle.euler_laws_shared.proofs.Goes.{all_hold, equal, equals}
 use Rattle.euler_laws_shared.proofs.Listed.{all_where-rises}
 use Rattle.euler_laws_shared.proofs.Loops.{some_row}
 use Rattle.euler_laws_shared.proofs.Undo.{mate_plus}
-use Rattle.solid_walks.proofs.Rising.{counted_once, none_counted}
+use Rattle.solid_measure_laws.proofs.Rising.{counted_once, none_counted}
 use Rattle.shapes.specs.Faces.{start, edges_of}
 use Rattle.shapes.specs.Fresh.{taken_in, growing}
 use Rattle.split_shapes.specs.Sides.{crosses, crossing_edges}

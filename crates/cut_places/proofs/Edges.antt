@@ -29,7 +29,7 @@ use Rattle.solid_walks.specs.Walks.{loops_in}
 use Rattle.solid_walks.proofs.Rising.{counted_once, in_listed}
 use Rattle.solid_walks.proofs.FaceLoops.{different_items, items_counted, items_there, items_joined}
 use Rattle.solid_walks.proofs.SolidFaces.{listed_in, solid_loops, all_loops_apart, loop_in_solid, solid_has_loop, face_of_loop, listed_face}
-use Rattle.solid_counts.proofs.HowMany.{of_map, in_map, map_apart, equally_many}
+use Rattle.solid_checks.proofs.HowMany.{of_map, in_map, map_apart, equally_many}
 use Rattle.solid_checks.specs.Least.{found, least_such}
 use Rattle.solid_checks.proofs.FaceWalks.{one_or_more, lists_member}
 use Rattle.solid_checks.proofs.Searches.{one_least, least_same, least_listed, least_rising}

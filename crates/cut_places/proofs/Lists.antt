@@ -8,7 +8,7 @@ use Rattle.cyclic_list.specs.Items.{IsIn, IsApart}
 use Rattle.cyclic_list.proofs.Lists.{tick_other}
 use Rattle.shapes.specs.Fresh.{first_such}
 use Rattle.face_walks.proofs.Rising.{AllAbove, Rising}
-use Rattle.solid_counts.proofs.HowMany.{passing, of_passing, in_passing, passing_apart}
+use Rattle.solid_checks.proofs.HowMany.{passing, of_passing, in_passing, passing_apart}
 
 -- the first of a list, and the others
 abbrev pub others : {A : Type 0} → List A → List A

@@ -9,7 +9,7 @@ use Rattle.boundary_model.specs.Table.{Table}
 use Rattle.boundary_model.specs.Model.{Model, LoopContent, lone, cycle, items_of, content, loop_of, tail}
 use Rattle.boundary_model.specs.Sound.{Sound, Has, HasHalf, StandsIn}
 use Rattle.boundary_model.proofs.Models.{in-holds}
-use Rattle.arena_rows.specs.Store.{Tells}
+use Rattle.euler_conditions.specs.Store.{Tells}
 use Rattle.euler_operators.specs.Conditions.{lists}
 use Rattle.euler_laws_shared.proofs.Listed.{first_listed, rest_listed}
 use Rattle.euler_conditions.proofs.Borders.{ring_has}

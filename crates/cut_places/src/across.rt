@@ -3,7 +3,7 @@ ghost use Rattle.std.specs.Prelude.{◌≡◌, true, false, map, IfOk};
 ghost use Rattle.boundary_model.specs.HalfEdge.{code, edge_of};
 ghost use Rattle.boundary_model.specs.Model.{faces_of, has_half};
 ghost use Rattle.euler_conditions.specs.Ready.{IsReady};
-ghost use Rattle.halfedge_arena.specs.Store.{has_number};
+ghost use Rattle.euler_conditions.specs.Store.{has_number};
 ghost use Rattle.lattice.specs.Ranges.{IsCutPlane};
 ghost use Rattle.lattice.specs.Vectors.{cut_between};
 ghost use Rattle.shapes.specs.Faces.{boundary, finish, start};
@@ -13,7 +13,7 @@ ghost use Rattle.split_shapes.specs.Sides.{crosses};
 
 use crate::halves::{crosses, finish, start};
 use crate::loops::boundary;
-use halfedge_arena::{Arena, HalfEdge, Kind};
+use euler_conditions::{Arena, HalfEdge, Kind};
 use lattice::{Plane, Point, cut_point};
 use std::alloc::{AllocError, Global};
 

@@ -2,14 +2,14 @@
 ghost use Rattle.std.specs.Prelude.{◌≡◌, true, filter, map, IfOk};
 ghost use Rattle.boundary_model.specs.HalfEdge.{code};
 ghost use Rattle.euler_conditions.specs.Ready.{IsReady};
-ghost use Rattle.halfedge_arena.specs.Store.{has_number};
+ghost use Rattle.euler_conditions.specs.Store.{has_number};
 ghost use Rattle.lattice.specs.Ranges.{IsCutPlane};
 ghost use Rattle.cut_places.specs.Walks.{AreThere};
 ghost use Rattle.split_shapes.specs.Places.{is_place, places};
 
 use crate::halves::is_place;
 use crate::loops::boundary;
-use halfedge_arena::{Arena, HalfEdge, Kind};
+use euler_conditions::{Arena, HalfEdge, Kind};
 use lattice::Plane;
 use std::alloc::{AllocError, Global};
 

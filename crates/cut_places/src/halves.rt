@@ -12,7 +12,7 @@ ghost use Rattle.split_shapes.specs.Places.{goes_up, is_place};
 ghost use Rattle.split_shapes.specs.Sides.{crosses};
 
 use crate::planes::{are_opposite, lies};
-use halfedge_arena::{Arena, HalfEdge};
+use euler_conditions::{Arena, HalfEdge};
 use lattice::{Plane, Point, Sign};
 
 /// The point at which the half-edge starts.

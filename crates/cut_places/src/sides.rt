@@ -4,7 +4,7 @@ ghost use Rattle.std.specs.List.{list_any};
 ghost use Rattle.boundary_model.specs.HalfEdge.{code};
 ghost use Rattle.boundary_model.specs.Model.{content, faces_of};
 ghost use Rattle.euler_conditions.specs.Ready.{IsReady};
-ghost use Rattle.halfedge_arena.specs.Store.{has_number};
+ghost use Rattle.euler_conditions.specs.Store.{has_number};
 ghost use Rattle.lattice.specs.Ranges.{IsCutPlane};
 ghost use Rattle.shapes.specs.Faces.{vertices_in, vertices_on};
 ghost use Rattle.cut_places.specs.Sides.{reaches, some_lie, some_start};
@@ -14,7 +14,7 @@ ghost use Rattle.split_shapes.specs.Sides.{straddles, straddling_faces};
 use crate::halves::starts_at;
 use crate::planes::lies;
 use face_walks::{face_loops, items_from};
-use halfedge_arena::{Arena, Content, HalfEdge, Kind};
+use euler_conditions::{Arena, Content, HalfEdge, Kind};
 use lattice::{Plane, Sign};
 use std::alloc::{AllocError, Global};
 

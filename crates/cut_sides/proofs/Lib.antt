@@ -5,3 +5,4 @@ pub mod Starts
 pub mod EndLists
 pub mod PlaceEnds
 pub mod Taking
+pub use Rattle.cut_pairs.proofs.Whole

@@ -10,7 +10,7 @@ use Rattle.cyclic_list.proofs.Rings.{IsIn_successor}
 use Rattle.boundary_model.specs.Model.{Model, LoopContent, lone, cycle, items_of, tail, content, point_of, loop_of, cycle_of, is_ring_of, rings_of, after}
 use Rattle.boundary_model.specs.Sound.{Sound, HasHalf}
 use Rattle.boundary_model.proofs.Models.{in-holds}
-use Rattle.euler_conditions.proofs.Rising.{within}
+use Rattle.solid_walks.proofs.RisingLists.{within}
 use Rattle.euler_operators.specs.Conditions.{lists, strictly_rises}
 use Rattle.solid_walks.proofs.FaceLoops.{listed_ring, ring_listed, rings_rise}
 use Rattle.shapes.specs.Faces.{start, finish, vertices_on, vertices_in}

@@ -28,8 +28,8 @@ use Rattle.crossing_laws.specs.Laws.{CanBegin}
 use Rattle.crossing_laws.proofs.Listed.{listed_in, picked, picked_passes, any_passes, all_where_has, all_where_in, tail_in_face}
 use Rattle.crossing_laws.proofs.Whole.{crossings_cut, crossings_keep, crossings_sound, same_solid, not_cut}
 use Rattle.drawing_laws.proofs.Stays.{has_loop, has_face}
-use Rattle.cut_sides.proofs.Pieces.{CutBy, half_plus, half_minus, crossing_pieces}
-use Rattle.cut_sides.proofs.Starts.{old_face}
+use Rattle.face_sides.proofs.Pieces.{CutBy, half_plus, half_minus, crossing_pieces}
+use Rattle.face_sides.proofs.Starts.{old_face}
 use Rattle.face_sides.proofs.Final.{TailIn, tail_in, none_straddles}
 use Rattle.face_sides.proofs.Same.{any_from}
 use Rattle.drawn_splits.specs.Kept.{HasFace}

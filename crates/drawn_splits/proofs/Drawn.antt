@@ -22,7 +22,7 @@ use Rattle.split_shapes.specs.Split.{first_conditions, later_conditions, section
 use Rattle.crossing_laws.specs.Laws.{CanBegin}
 use Rattle.crossing_laws.proofs.Listed.{listed_in, picked_count, all_where_has}
 use Rattle.crossing_laws.proofs.Whole.{crossings_counted, crossings_keep}
-use Rattle.cut_pairs.proofs.Whole.{can_be_drawn, rewritings_sound}
+use Rattle.face_sides.proofs.Whole.{can_be_drawn, rewritings_sound}
 use Rattle.drawing_laws.specs.DrawnIn.{Stays, Fresh}
 use Rattle.drawing_laws.specs.Laws.{CanBeDrawn}
 use Rattle.drawing_laws.proofs.Passes.{join_next_one, join_next_two, draw_next_one, draw_next_two}

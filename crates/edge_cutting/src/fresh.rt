@@ -2,7 +2,7 @@
 ghost use Rattle.std.specs.Prelude.{◌≡◌, ◌+◌, ◌≤◌};
 ghost use Rattle.shapes.specs.Fresh.{taken_in};
 
-use halfedge_arena::{Arena, Kind};
+use euler_conditions::{Arena, Kind};
 
 /// The first edge number after those in use.
 pub(crate) fn fresh_edge(arena: &Arena) -> u32

@@ -5,7 +5,7 @@ ghost use Rattle.lattice.specs.Ranges.{IsCutPlane};
 ghost use Rattle.split_shapes.specs.Sides.{crossing_edges};
 
 use cut_places::crossings;
-use halfedge_arena::Arena;
+use euler_conditions::Arena;
 use lattice::Plane;
 use std::alloc::{AllocError, Global};
 

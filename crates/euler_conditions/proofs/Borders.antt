@@ -12,7 +12,7 @@ use Rattle.boundary_model.specs.Sound.{Sound, Has, HasHalf}
 use Rattle.boundary_model.proofs.Halves.{plus_row, minus_row}
 use Rattle.boundary_model.proofs.Models.{in-holds, holds_in}
 use Rattle.boundary_model.proofs.Tables.{first_where_zero, zero_first_where}
-use Rattle.arena_rows.specs.Store.{Tells, IsNextRing}
+use Rattle.halfedge_arena.specs.Store.{Tells, IsNextRing}
 use Rattle.euler_operators.specs.Conditions.{Condition, AllHold, conditions, first_false, need, never, first_refusal, verdict, numbers_in_range, faces_known, faces_in, lists, lists_all, strictly_rises, is_empty, is_bad_part, face_at, torn_edge, differ, has_rings}
 use Rattle.euler_operators.specs.declared.Refusal.{Refusal}
 use Rattle.euler_operators.specs.declared.Why.TheVariants.{NoSolid, SolidTaken, BadPart}

@@ -2,7 +2,7 @@
 use Rattle.std.proofs.Common.{◌≡◌, ℕ, false, nat_eq, List, [], ◌∷◌, Some, None, is_some, refl, ap, ◌∙◌}
 use Rattle.boundary_model.specs.Model.{Model, faces_of}
 use Rattle.boundary_model.specs.Sound.{Has}
-use Rattle.arena_rows.specs.Store.{only_item}
+use Rattle.halfedge_arena.specs.Store.{only_item}
 use Rattle.euler_operators.specs.Conditions.{lists, bare_face}
 use Rattle.euler_laws_shared.proofs.Listed.{first_listed, listed_passes}
 

@@ -1,3 +1,4 @@
 pub mod Ready
 pub mod Ends
 pub mod Parts
+pub use Rattle.halfedge_arena.specs.Store

@@ -4,7 +4,7 @@ use Rattle.boundary_model.specs.declared.Kind.{Kind}
 use Rattle.boundary_model.specs.declared.Kind.TheVariants.{Solid, Face, Loop, Edge, Vertex}
 use Rattle.boundary_model.specs.Sound.{Sound}
 use Rattle.boundary_model.specs.Table as table
-use Rattle.arena_rows.specs.Store.{Store, has_room}
+use Rattle.halfedge_arena.specs.Store.{Store, has_room}
 use Rattle.euler_operators.specs.Conditions.{first_false}
 use Rattle.euler_operators.specs.Effect.{effect}
 use Rattle.euler_operators.specs.declared.Op.{Op}

@@ -1,7 +1,7 @@
 //! What an arena says of a corner.
 ghost use Rattle.std.specs.Prelude.{◌≡◌, true, [], ◌∷◌};
 ghost use Rattle.boundary_model.specs.Model.{content};
-ghost use Rattle.arena_rows.specs.Store.{has_number};
+ghost use Rattle.halfedge_arena.specs.Store.{has_number};
 ghost use Rattle.euler_operators.specs.Conditions.{corner_number, corner_known, corner_lone, corner_tail, corner_loop, is_lone, lone_vertex, first_refusal, verdict};
 ghost use Rattle.euler_conditions.specs.Ready.{IsReady};
 

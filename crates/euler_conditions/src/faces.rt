@@ -1,7 +1,7 @@
 //! What an arena says of loops and faces that are there.
 ghost use Rattle.std.specs.Prelude.{◌≡◌, true};
 ghost use Rattle.boundary_model.specs.Model.{face_of, is_ring_of};
-ghost use Rattle.arena_rows.specs.Store.{has_number};
+ghost use Rattle.halfedge_arena.specs.Store.{has_number};
 ghost use Rattle.euler_operators.specs.Conditions.{has_rings};
 ghost use Rattle.euler_conditions.specs.Ready.{IsReady};
 

@@ -2,7 +2,7 @@
 ghost use Rattle.std.specs.Prelude.{◌≡◌, true, nat_eq};
 ghost use Rattle.boundary_model.specs.HalfEdge.{code, mate};
 ghost use Rattle.boundary_model.specs.Model.{after, tail, loop_of};
-ghost use Rattle.arena_rows.specs.Store.{has_number};
+ghost use Rattle.halfedge_arena.specs.Store.{has_number};
 ghost use Rattle.euler_operators.specs.Conditions.{face_at};
 ghost use Rattle.euler_conditions.specs.Ready.{IsReady};
 

@@ -2,7 +2,7 @@
 ghost use Rattle.std.specs.Prelude.{◌≡◌, true};
 ghost use Rattle.euler_operators.specs.Conditions.{bare_face, first_false, verdict};
 ghost use Rattle.boundary_model.specs.Model.{faces_of};
-ghost use Rattle.arena_rows.specs.Store.{has_number};
+ghost use Rattle.halfedge_arena.specs.Store.{has_number};
 ghost use Rattle.euler_conditions.specs.Ready.{IsReady};
 
 use crate::single::{in_range, refused};

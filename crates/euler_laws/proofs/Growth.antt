@@ -15,13 +15,13 @@ use Rattle.euler_operators.specs.Conditions.{first_false, lone_vertex}
 use Rattle.euler_operators.specs.Effect.{effect, inverse, mvfs, mev_at, mev_lone, mef, kemr, mfkrh, ring_in, ring_out, take_outer, merge, part}
 use Rattle.euler_laws.specs.Laws.{size, euler_number, growth}
 use Rattle.euler_laws_shared.proofs.Loops.{some_row}
-use Rattle.euler_laws_mev.proofs.MevSound.{MevGoes}
-use Rattle.euler_laws_mev.proofs.MevLoneSound.{LoneGoes}
-use Rattle.euler_laws_mev.proofs.Mev.{mev_goes, lone_goes, mixed_first, mixed_second}
+use Rattle.euler_laws_kev.proofs.MevSound.{MevGoes}
+use Rattle.euler_laws_kev.proofs.MevLoneSound.{LoneGoes}
+use Rattle.euler_laws_kev.proofs.Mev.{mev_goes, lone_goes, mixed_first, mixed_second}
 use Rattle.euler_laws_mef.proofs.MefSound.{MefGoes}
 use Rattle.euler_laws_mef.proofs.Mef.{mef_goes}
-use Rattle.euler_laws_kemr.proofs.KemrSound.{KemrGoes}
-use Rattle.euler_laws_kemr.proofs.Kemr.{kemr_goes}
+use Rattle.euler_laws_mekr.proofs.KemrSound.{KemrGoes}
+use Rattle.euler_laws_mekr.proofs.Kemr.{kemr_goes}
 use Rattle.euler_laws_faces.proofs.OneSolid.{MvfsGoes}
 use Rattle.euler_laws_faces.proofs.Solids.{mvfs_goes}
 use Rattle.euler_laws_faces.proofs.Kfmrh.{MakeGoes, mfkrh_goes}

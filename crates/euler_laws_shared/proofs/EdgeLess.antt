@@ -1,12 +1,12 @@
 -- A model without one edge: its half-edges, and the fans of its vertices.
 use Rattle.std.proofs.Common.{◌≡◌, ◌≢◌, ℕ, ◌+◌, None, unwrap_or, is_some, sym, ap, ◌∙◌, arith, true≢false}
 use Rattle.std.proofs.lemmas.Bool.Decides.{nat_tests}
-use Rattle.cyclic_list.specs.Items.{count, tick, IsIn}
-use Rattle.cyclic_list.specs.Rings.{IsRing, rest}
-use Rattle.cyclic_list.specs.Operators.{take_ring}
-use Rattle.cyclic_list.proofs.Lists.{tick_same, tick_other}
-use Rattle.cyclic_list.proofs.Rotations.{count-canonical}
-use Rattle.cyclic_list.proofs.Rings.{count_at}
+use Rattle.boundary_model.specs.Items.{count, tick, IsIn}
+use Rattle.boundary_model.specs.Rings.{IsRing, rest}
+use Rattle.boundary_model.specs.Operators.{take_ring}
+use Rattle.boundary_model.proofs.Lists.{tick_same, tick_other}
+use Rattle.boundary_model.proofs.Rotations.{count-canonical}
+use Rattle.boundary_model.proofs.Rings.{count_at}
 use Rattle.boundary_model.specs.HalfEdge.{mate, edge_of, is_first}
 use Rattle.boundary_model.specs.Table as table
 use Rattle.boundary_model.specs.Table.{Table, tables}

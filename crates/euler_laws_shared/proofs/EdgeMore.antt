@@ -1,11 +1,11 @@
 -- A model with one edge more: its half-edges, and the fans of its vertices.
 use Rattle.std.proofs.Common.{◌≡◌, ◌≢◌, ℕ, ◌+◌, [], ◌∷◌, Some, None, unwrap_or, is_some, IsTrue, sym, ap, ◌∙◌, subst, arith, ◌⊎◌, inl, inr, true≢false}
 use Rattle.std.proofs.lemmas.Bool.Decides.{nat_tests, eqb_tells}
-use Rattle.cyclic_list.specs.Items.{count, tick, IsIn}
-use Rattle.cyclic_list.specs.Rings.{IsRing, rotate_to}
-use Rattle.cyclic_list.specs.Operators.{put_ring}
-use Rattle.cyclic_list.proofs.Lists.{tick_same, tick_other, tick_le, IsIn_or_not}
-use Rattle.cyclic_list.proofs.Rotations.{count-canonical, count-rotate_to}
+use Rattle.boundary_model.specs.Items.{count, tick, IsIn}
+use Rattle.boundary_model.specs.Rings.{IsRing, rotate_to}
+use Rattle.boundary_model.specs.Operators.{put_ring}
+use Rattle.boundary_model.proofs.Lists.{tick_same, tick_other, tick_le, IsIn_or_not}
+use Rattle.boundary_model.proofs.Rotations.{count-canonical, count-rotate_to}
 use Rattle.boundary_model.specs.HalfEdge.{mate, edge_of, is_first}
 use Rattle.boundary_model.specs.Table as table
 use Rattle.boundary_model.specs.Table.{Table, tables}

@@ -1,11 +1,11 @@
 -- The half-edges that leave a vertex, as a ring.
 use Rattle.std.proofs.Common.{◌≡◌, ℕ, ◌≤◌, cond, List, [], ◌∷◌, ◌++◌, is_some, refl, sym, ap, ◌∙◌, subst, arith, ◌⊎◌, inl, inr}
 use Rattle.std.proofs.lemmas.Bool.Decides.{nat_tests, eqb_tells}
-use Rattle.cyclic_list.specs.Items.{count, tick, IsIn, IsApart, head_or, before, after as after_item}
-use Rattle.cyclic_list.specs.Rings.{rest, successor, predecessor, IsPath, IsRing}
-use Rattle.cyclic_list.proofs.Lists.{count-append, tick_same, tick_other, split_at, IsIn_or_not}
-use Rattle.cyclic_list.proofs.Operators.{apart_back}
-use Rattle.cyclic_list.proofs.Rings.{rotation_at, count_at, IsRing-same, next_is_successor, IsIn_successor, IsIn_predecessor, successor-predecessor, IsPath-append, IsPath-left}
+use Rattle.boundary_model.specs.Items.{count, tick, IsIn, IsApart, head_or, before, after as after_item}
+use Rattle.boundary_model.specs.Rings.{rest, successor, predecessor, IsPath, IsRing}
+use Rattle.boundary_model.proofs.Lists.{count-append, tick_same, tick_other, split_at, IsIn_or_not}
+use Rattle.boundary_model.proofs.Operators.{apart_back}
+use Rattle.boundary_model.proofs.Rings.{rotation_at, count_at, IsRing-same, next_is_successor, IsIn_successor, IsIn_predecessor, successor-predecessor, IsPath-append, IsPath-left}
 use Rattle.boundary_model.specs.HalfEdge.{mate}
 use Rattle.boundary_model.specs.Table as table
 use Rattle.boundary_model.specs.Model.{Model, items_of, tail, loop_of, content, cycle_of, after, round}

@@ -1,14 +1,14 @@
 -- What a loop holds, changed one half-edge at a time; and how a model's walks follow from its loops and fans.
 use Rattle.std.proofs.Common.{◌≡◌, ◌≢◌, ℕ, ◌+◌, true, false, cond, List, [], Option, Some, None, is_some, unwrap_or, refl, sym, ap, ◌∙◌, subst, arith, ◌⊎◌, inl, inr, true≢false}
 use Rattle.std.proofs.lemmas.Bool.Decides.{eqb_tells}
-use Rattle.cyclic_list.specs.Items.{count, tick, IsIn, IsApart}
-use Rattle.cyclic_list.specs.Rings.{canonical, successor, IsRing}
-use Rattle.cyclic_list.specs.Edits.{insert_before, without, redirect, led_over}
-use Rattle.cyclic_list.proofs.Lists.{tick_same, tick_other, IsIn_or_not}
-use Rattle.cyclic_list.proofs.Rings.{IsRing-same, next_is_successor, IsRing-from_successor}
-use Rattle.cyclic_list.proofs.Rotations.{canonical-rotates, count-canonical, IsApart-canonical, canonical-canonical}
-use Rattle.cyclic_list.proofs.Edits.{count-insert_before, count-without, without_none, IsRing-insert_before, IsRing-without}
-use Rattle.cyclic_list.proofs.Leads.{IsRing-redirect_other, IsRing-led_over_other}
+use Rattle.boundary_model.specs.Items.{count, tick, IsIn, IsApart}
+use Rattle.boundary_model.specs.Rings.{canonical, successor, IsRing}
+use Rattle.boundary_model.specs.Edits.{insert_before, without, redirect, led_over}
+use Rattle.boundary_model.proofs.Lists.{tick_same, tick_other, IsIn_or_not}
+use Rattle.boundary_model.proofs.Rings.{IsRing-same, next_is_successor, IsRing-from_successor}
+use Rattle.boundary_model.proofs.Rotations.{canonical-rotates, count-canonical, IsApart-canonical, canonical-canonical}
+use Rattle.boundary_model.proofs.Edits.{count-insert_before, count-without, without_none, IsRing-insert_before, IsRing-without}
+use Rattle.boundary_model.proofs.Leads.{IsRing-redirect_other, IsRing-led_over_other}
 use Rattle.boundary_model.specs.HalfEdge.{mate, edge_of}
 use Rattle.boundary_model.specs.Table as table
 use Rattle.boundary_model.specs.Table.{Table, tables}

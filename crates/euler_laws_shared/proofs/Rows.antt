@@ -1,13 +1,13 @@
 -- What single rows and loops of a model say, and small facts that several operators share.
 use Rattle.std.proofs.Common.{◌≡◌, ◌≢◌, ℕ, ◌+◌, Bool, true, false, cond, not, nat_eq, ◌&&◌, List, [], ◌∷◌, ◌++◌, Option, Some, None, unwrap_or, is_some, refl, sym, ap, ◌∙◌, arith, true≢false}
 use Rattle.std.proofs.lemmas.Bool.Decides.{nat_tests}
-use Rattle.lattice.specs.declared.Point.{Point}
-use Rattle.cyclic_list.specs.Items.{count, IsIn, IsApart, head_or}
-use Rattle.cyclic_list.specs.Rings.{canonical, rotate_to, rest, upto, onward, between, beyond, successor, IsRing}
-use Rattle.cyclic_list.proofs.Rotations.{count-canonical, count-rotate_to, canonical_nil, rotate_to-rotates}
-use Rattle.cyclic_list.proofs.Rings.{successor_at, successor_same}
-use Rattle.cyclic_list.proofs.Cuts.{upto-onward, ring_split}
-use Rattle.cyclic_list.proofs.Lists.{count-append, tick_same, tick_other, count-before}
+use Rattle.boundary_model.specs.declared.Point.{Point}
+use Rattle.boundary_model.specs.Items.{count, IsIn, IsApart, head_or}
+use Rattle.boundary_model.specs.Rings.{canonical, rotate_to, rest, upto, onward, between, beyond, successor, IsRing}
+use Rattle.boundary_model.proofs.Rotations.{count-canonical, count-rotate_to, canonical_nil, rotate_to-rotates}
+use Rattle.boundary_model.proofs.Rings.{successor_at, successor_same}
+use Rattle.boundary_model.proofs.Cuts.{upto-onward, ring_split}
+use Rattle.boundary_model.proofs.Lists.{count-append, tick_same, tick_other, count-before}
 use Rattle.boundary_model.specs.declared.HalfEdge.{HalfEdge}
 use Rattle.boundary_model.specs.HalfEdge.{code, mate, edge_of, is_first}
 use Rattle.boundary_model.specs.Table as table

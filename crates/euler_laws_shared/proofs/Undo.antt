@@ -1,16 +1,16 @@
 -- Models that answer alike are equal; and lists that an operator and its inverse leave.
 use Rattle.std.proofs.Common.{◌≡◌, ◌≢◌, ℕ, ◌+◌, Bool, true, false, not, nat_eq, ◌&&◌, ◌||◌, List, [], ◌∷◌, ◌++◌, Option, Some, None, unwrap_or, is_some, IsTrue, refl, sym, ap, ◌∙◌, arith, inl, inr, true≢false}
 use Rattle.std.proofs.lemmas.Bool.Decides.{nat_tests, eqb_tells}
-use Rattle.cyclic_list.specs.Items.{count, tick, IsIn, IsApart, head_or}
-use Rattle.cyclic_list.specs.Rings.{canonical, rotate_to, rest, between, beyond, successor, IsRotation}
-use Rattle.cyclic_list.specs.Edits.{insert_before, without}
-use Rattle.cyclic_list.specs.Operators.{mev_ring, kev_ring, put_ring, take_ring}
-use Rattle.cyclic_list.proofs.Lists.{count-append, tick_same, tick_other}
-use Rattle.cyclic_list.proofs.Rotations.{canonical-rotates, canonical_same, rest_same, rotate_to_is}
-use Rattle.cyclic_list.proofs.Cuts.{ring_split, IsIn_rest}
-use Rattle.cyclic_list.proofs.Rings.{apart_at}
-use Rattle.cyclic_list.proofs.Edits.{count-insert_before, insert_before-rotates, insert_before_same, mev_ring_is, without-rotates}
-use Rattle.cyclic_list.proofs.Leads.{kev_ring_is}
+use Rattle.boundary_model.specs.Items.{count, tick, IsIn, IsApart, head_or}
+use Rattle.boundary_model.specs.Rings.{canonical, rotate_to, rest, between, beyond, successor, IsRotation}
+use Rattle.boundary_model.specs.Edits.{insert_before, without}
+use Rattle.boundary_model.specs.Operators.{mev_ring, kev_ring, put_ring, take_ring}
+use Rattle.boundary_model.proofs.Lists.{count-append, tick_same, tick_other}
+use Rattle.boundary_model.proofs.Rotations.{canonical-rotates, canonical_same, rest_same, rotate_to_is}
+use Rattle.boundary_model.proofs.Cuts.{ring_split, IsIn_rest}
+use Rattle.boundary_model.proofs.Rings.{apart_at}
+use Rattle.boundary_model.proofs.Edits.{count-insert_before, insert_before-rotates, insert_before_same, mev_ring_is, without-rotates}
+use Rattle.boundary_model.proofs.Leads.{kev_ring_is}
 use Rattle.boundary_model.specs.HalfEdge.{mate, edge_of, is_first, plus, minus}
 use Rattle.boundary_model.specs.Table as table
 use Rattle.boundary_model.specs.Table.{Table, same_table}

@@ -1,11 +1,11 @@
 -- Worked examples of the operators, computed.
 use Rattle.std.specs.Prelude.{◌≡◌, ℕ, Bool, true, false, List, [], ◌∷◌, Option, Some, None, pos, ℤ, refl, unwrap_or, is_some}
-use Rattle.lattice.specs.declared.Point.{Point}
+use Rattle.boundary_model.specs.declared.Point.{Point}
 use Rattle.boundary_model.specs.declared.HalfEdge.{HalfEdge}
 use Rattle.boundary_model.specs.declared.Corner.{Corner}
 use Rattle.boundary_model.specs.declared.Corner.TheVariants.{At, Lone}
 use Rattle.boundary_model.specs.HalfEdge.{mate, code, half, edge_of, is_first}
-use Rattle.cyclic_list.specs.Rings.{rotate_to, canonical, rest}
+use Rattle.boundary_model.specs.Rings.{rotate_to, canonical, rest}
 use Rattle.boundary_model.specs.Table as table
 use Rattle.boundary_model.specs.Model.{Model, LoopContent, lone, cycle, empty_model, content, tail, loop_of, face_of, solid_of, outer, arc, holds, after, point_of, rings_of}
 use Rattle.euler_operators.specs.Conditions.{conditions, first_false, has_rings}

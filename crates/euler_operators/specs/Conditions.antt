@@ -1,11 +1,11 @@
 -- The conditions of each operator, in the order in which they are tested.
 -- A condition is a test on a model, with the refusal that a false one gives.
 use Rattle.std.specs.Prelude.{◌≡◌, ℕ, Bool, true, false, cond, not, ◌&&◌, ◌||◌, nat_eq, nat_lt, List, [], ◌∷◌, ◌++◌, length, Option, Some, None, is_some, Result, Ok, Err}
-use Rattle.lattice.specs.declared.Point.{Point}
-use Rattle.lattice.specs.Point.{is_in_range}
+use Rattle.boundary_model.specs.declared.Point.{Point}
+use Rattle.boundary_model.specs.Points.{is_in_range}
 use Rattle.boundary_model.specs.declared.Corner.{Corner}
 use Rattle.boundary_model.specs.declared.Corner.TheVariants.{At, Lone}
-use Rattle.cyclic_list.specs.Rings.{rotate_to}
+use Rattle.boundary_model.specs.Rings.{rotate_to}
 use Rattle.boundary_model.specs.HalfEdge.{code, mate, edge_of, plus, minus}
 use Rattle.boundary_model.specs.Table as table
 use Rattle.boundary_model.specs.Table.{Table}

@@ -1,2 +1,3 @@
 pub mod Codes
 pub mod Passes
+pub use Rattle.edge_cutting.specs.Begins

@@ -10,8 +10,7 @@ ghost use Rattle.face_drawing.specs.Passes.{CanDraw};
 use crate::pairs::{Pair, in_one_loop};
 use crate::progress::Progress;
 use edge_cutting::take;
-use euler_conditions::Op;
-use halfedge_arena::HalfEdge;
+use euler_conditions::{HalfEdge, Op};
 use std::alloc::AllocError;
 use undo_journal::Draft;
 

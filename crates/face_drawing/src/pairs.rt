@@ -8,8 +8,7 @@ ghost use Rattle.split_shapes.specs.Drawing.{in_one_loop};
 ghost use Rattle.drawing_laws.specs.DrawingOps.{join_pair};
 ghost use Rattle.face_drawing.specs.Codes.{codes};
 
-use euler_conditions::Op;
-use halfedge_arena::{Arena, Corner, HalfEdge};
+use euler_conditions::{Arena, Corner, HalfEdge, Op};
 
 /// Two half-edges of a face that start at the cut places of a pair, the one that is up and the one that is down.
 #[derive(Clone, Copy)]

@@ -2,15 +2,14 @@
 ghost use Rattle.std.specs.Prelude.{◌≡◌, ◌&&◌, true, cond, nat_lt, OnOk};
 ghost use Rattle.euler_laws.specs.Laws.{AreAccepted, effects};
 ghost use Rattle.euler_operators.specs.Conditions.{has_rings};
-ghost use Rattle.halfedge_arena.specs.Store.{has_number};
+ghost use Rattle.euler_conditions.specs.Store.{has_number};
 ghost use Rattle.drawing_laws.specs.DrawingOps.{ring_ops};
 ghost use Rattle.face_drawing.specs.Codes.{stuck_at};
 
 use crate::drawing::stuck_at;
 use crate::progress::Progress;
 use edge_cutting::take;
-use euler_conditions::Op;
-use halfedge_arena::{Arena, Kind};
+use euler_conditions::{Arena, Kind, Op};
 use std::alloc::AllocError;
 use undo_journal::Draft;
 

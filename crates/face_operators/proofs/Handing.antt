@@ -7,7 +7,7 @@ use Rattle.boundary_model.specs.Table as table
 use Rattle.boundary_model.specs.Table.{Table, map_rows, put, same_table, get-map_rows, get-put}
 use Rattle.boundary_model.specs.Model.{Model, FaceRow, no_face, outer, faces_of}
 use Rattle.boundary_model.specs.Sound.{Has}
-use Rattle.arena_rows.specs.Store.{Store, set_solid}
+use Rattle.euler_conditions.specs.Store.{Store, set_solid}
 use Rattle.euler_operators.specs.Conditions.{Condition, AllHold, need, never, is_bad_part, lists, conditions, first_false, faces_known, faces_in, numbers_in_range}
 use Rattle.euler_operators.specs.declared.Op.TheVariants.{Part}
 use Rattle.euler_operators.specs.declared.Why.TheVariants.{NoSolid, SolidTaken, BadPart}

@@ -4,7 +4,7 @@ use Rattle.boundary_model.specs.Table as table
 use Rattle.boundary_model.specs.Table.{Table, map_rows, put, get-put}
 use Rattle.boundary_model.specs.Model.{Model, FaceRow, content, solid_of}
 use Rattle.boundary_model.specs.Sound.{Has}
-use Rattle.arena_rows.specs.Store.{Store, set_face, set_outer}
+use Rattle.euler_conditions.specs.Store.{Store, set_face, set_outer}
 use Rattle.euler_operators.specs.Effect.{loop_to_face, face_to_outer}
 use Rattle.euler_laws_shared.proofs.Goes.{equals}
 use Rattle.face_operators.proofs.Rows.{loop_moved, outer_changed}

@@ -1,10 +1,9 @@
 //! Operators on rings and outer loops.
 ghost use Rattle.std.specs.Prelude.{◌≡◌, true};
-ghost use Rattle.arena_rows.specs.Store.{has_number, set_face};
+ghost use Rattle.euler_conditions.specs.Store.{has_number, set_face};
 ghost use Rattle.euler_conditions.specs.Ready.{Accepts, after};
 
-use euler_conditions::Op;
-use halfedge_arena::{Arena, Kind};
+use euler_conditions::{Arena, Kind, Op};
 
 /// Gives loop l to face f, both of which are there.
 fn give_loop(arena: &mut Arena, l: u32, f: u32)

@@ -12,7 +12,7 @@ ghost use Rattle.split_shapes.specs.Places.{in_pairs, place_pairs, up_first};
 
 use cut_places::{goes_up, places};
 use face_drawing::Pair;
-use halfedge_arena::{Arena, HalfEdge};
+use euler_conditions::{Arena, HalfEdge};
 use lattice::Plane;
 use place_order::{Places, in_order};
 use std::alloc::{AllocError, Global};

@@ -28,7 +28,7 @@ use Rattle.crossing_laws.specs.Laws.{CanBegin}
 use Rattle.crossing_laws.proofs.Listed.{listed_in, all_where_in, any_passes, picked, item_in_face}
 use Rattle.crossing_laws.proofs.Places.{at_place, face_facts}
 use Rattle.crossing_laws.proofs.Whole.{can_cut, crossings_keep, crossings_sound, same_solid}
-use Rattle.cut_pairs.proofs.Whole.{can_be_drawn}
+use Rattle.cut_sides.proofs.Whole.{can_be_drawn}
 use Rattle.drawing_laws.specs.Pairs.{AllFit, LoneInOneLoop, FacesFit}
 use Rattle.drawing_sides.specs.Parted.{ends}
 use Rattle.cut_sides.specs.HalfSides.{half_is_above, side_of}

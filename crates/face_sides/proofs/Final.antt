@@ -20,7 +20,7 @@ use Rattle.crossing_laws.proofs.Listed.{listed_in, all_where_has}
 use Rattle.crossing_laws.proofs.Places.{face_facts}
 use Rattle.crossing_laws.proofs.Premises.{faces_not_zero}
 use Rattle.crossing_laws.proofs.Whole.{crossings_keep, crossings_sound, same_solid}
-use Rattle.cut_pairs.proofs.Whole.{can_be_drawn}
+use Rattle.cut_sides.proofs.Whole.{can_be_drawn}
 use Rattle.drawing_laws.specs.Laws.{CanBeDrawn}
 use Rattle.drawing_laws.proofs.Stays.{has_face}
 use Rattle.drawing_laws.proofs.Whole.{drawable, drawing_sound}

@@ -7,3 +7,6 @@ pub mod OneFace
 pub mod Stages
 pub mod Begun
 pub mod Final
+pub use Rattle.cut_sides.proofs.Pieces
+pub use Rattle.cut_sides.proofs.Starts
+pub use Rattle.cut_sides.proofs.Whole

@@ -8,7 +8,7 @@ use Rattle.boundary_model.specs.HalfEdge.{code}
 use Rattle.boundary_model.specs.Model.{Model, LoopContent, lone, cycle, items_of, content, outer}
 use Rattle.boundary_model.specs.Sound.{Sound, HasHalf}
 use Rattle.boundary_model.proofs.Models.{in-holds}
-use Rattle.arena_rows.specs.Store.{Tells}
+use Rattle.euler_conditions.specs.Store.{Tells}
 use Rattle.glue_shapes.specs.Glue.{rim}
 use Rattle.glue_checks.specs.Rims.{AreThere}
 

@@ -3,15 +3,14 @@ ghost use Rattle.std.specs.Prelude.{◌≡◌, true, false, Err, IfOk};
 ghost use Rattle.boundary_model.specs.Model.{content, is_number, outer};
 ghost use Rattle.euler_conditions.specs.Ready.{IsReady};
 ghost use Rattle.euler_operators.specs.Conditions.{first_refusal, has_rings, is_lone, verdict};
-ghost use Rattle.halfedge_arena.specs.Store.{has_number};
+ghost use Rattle.euler_conditions.specs.Store.{has_number};
 ghost use Rattle.shapes.specs.Fresh.{numbers_left, taken_in};
 ghost use Rattle.glue_shapes.specs.Glue.{glue_refusal};
 ghost use Rattle.glue_checks.specs.Conditions.{face_conditions, outline_conditions, solid_conditions};
 
 use crate::outlines::{backwards, has_repeats, is_rotation};
 use crate::rims::outline;
-use euler_conditions::{Refusal, Why};
-use halfedge_arena::{Arena, Kind};
+use euler_conditions::{Arena, Kind, Refusal, Why};
 use solid_checks::{least_bent_of_both, least_lone_of_both};
 use std::alloc::{AllocError, Global};
 

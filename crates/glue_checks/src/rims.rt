@@ -4,12 +4,12 @@ ghost use Rattle.boundary_model.specs.HalfEdge.{code};
 ghost use Rattle.boundary_model.specs.Model.{content, cycle_of, has_half, outer};
 ghost use Rattle.euler_conditions.specs.Ready.{IsReady};
 ghost use Rattle.euler_operators.specs.Conditions.{is_lone};
-ghost use Rattle.halfedge_arena.specs.Store.{has_number};
+ghost use Rattle.euler_conditions.specs.Store.{has_number};
 ghost use Rattle.glue_shapes.specs.Glue.{outline, rim};
 ghost use Rattle.glue_checks.specs.Rims.{AreThere, starts};
 
 use face_walks::items_from;
-use halfedge_arena::{Arena, Content, HalfEdge, Kind};
+use euler_conditions::{Arena, Content, HalfEdge, Kind};
 use lattice::Point;
 use std::alloc::{AllocError, Global};
 

@@ -7,7 +7,7 @@ ghost use Rattle.glue_shapes.specs.Glue.{glue_refusal, glue_model};
 
 use crate::joining::join;
 use glue_checks::check_glue;
-use halfedge_arena::Arena;
+use euler_conditions::Arena;
 use std::alloc::Global;
 use undo_journal::{Draft, Failure, Session};
 

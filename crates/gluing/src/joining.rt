@@ -6,14 +6,13 @@ ghost use Rattle.boundary_model.specs.Model.{after, before, has_half, outer};
 ghost use Rattle.boundary_model.specs.Sound.{Has};
 ghost use Rattle.euler_conditions.specs.Ready.{IsReady};
 ghost use Rattle.euler_laws.specs.Laws.{AreAccepted, effects};
-ghost use Rattle.halfedge_arena.specs.Store.{has_number};
+ghost use Rattle.euler_conditions.specs.Store.{has_number};
 ghost use Rattle.glue_shapes.specs.Glue.{glue_model, glue_refusal};
 ghost use Rattle.glue_shapes.specs.GlueOps.{closing, fresh_edge, opening};
 
 use crate::rims::{first_item, item_at};
 use crate::steps::take;
-use euler_conditions::Op;
-use halfedge_arena::{Arena, Corner, HalfEdge, Kind};
+use euler_conditions::{Arena, Corner, HalfEdge, Kind, Op};
 use std::alloc::AllocError;
 use undo_journal::Draft;
 

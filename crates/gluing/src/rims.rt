@@ -5,14 +5,14 @@ ghost use Rattle.boundary_model.specs.HalfEdge.{code};
 ghost use Rattle.boundary_model.specs.Model.{content, has_half, outer};
 ghost use Rattle.euler_conditions.specs.Ready.{IsReady};
 ghost use Rattle.euler_operators.specs.Conditions.{is_lone};
-ghost use Rattle.halfedge_arena.specs.Store.{has_number};
+ghost use Rattle.euler_conditions.specs.Store.{has_number};
 ghost use Rattle.shapes.specs.Faces.{start};
 ghost use Rattle.glue_shapes.specs.Glue.{has_repeats, outline, rim};
 ghost use Rattle.gluing.specs.Rims.{item_at};
 
 use face_walks::least_item;
 use glue_checks::some_item;
-use halfedge_arena::{Arena, HalfEdge, Kind};
+use euler_conditions::{Arena, HalfEdge, Kind};
 use lattice::Point;
 
 /// The first half-edge of the outer loop of face f, which isn't lone, in the order of listings.

@@ -1,7 +1,6 @@
 use super::glue;
 use arrayvec::ArrayVec;
-use euler_conditions::{Op, Refusal, Why};
-use halfedge_arena::{Arena, HalfEdge, Kind};
+use euler_conditions::{Arena, HalfEdge, Kind, Op, Refusal, Why};
 use lattice::Point;
 use std::alloc::Global;
 use std::process::Abort;

@@ -6,8 +6,7 @@ ghost use Rattle.gwb.specs.Settling.{Settles, Decides};
 ghost use Rattle.undo_journal.specs.Machine as machine;
 
 use crate::larger::Larger;
-use euler_conditions::{Op, Refusal};
-use halfedge_arena::Arena;
+use euler_conditions::{Arena, Op, Refusal};
 use script_reader::{Command, Short, read_line, read_short};
 use solid_listing::{Reply, WriteFault};
 use solid_measure::{counts, is_flat, plane, six_volume};

@@ -8,8 +8,7 @@ mod splits;
 mod streams;
 
 use super::{Summary, run};
-use euler_conditions::{FaceList, Op, Why};
-use halfedge_arena::{Corner, HalfEdge};
+use euler_conditions::{Corner, FaceList, HalfEdge, Op, Why};
 use lattice::Point;
 use solid_listing::write_listing;
 use std::alloc::Global;

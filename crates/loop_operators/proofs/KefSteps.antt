@@ -22,7 +22,7 @@ use Rattle.euler_conditions.specs.Ready.{Accepts, after}
 use Rattle.euler_laws_mef.proofs.KefSound as laws
 use Rattle.euler_laws_mef.proofs.KefSound.{KefGoes}
 use Rattle.euler_laws_mef.proofs.Kef.{kef_goes}
-use Rattle.halfedge_arena.specs.Store.{Store, join, take_edge, take_loop, take_face}
+use Rattle.euler_conditions.specs.Store.{Store, join, take_edge, take_loop, take_face}
 use Rattle.loop_steps.specs.Steps.{IsStanding, take_out}
 use Rattle.loop_steps.proofs.StoreSteps.{remove-put_same}
 use Rattle.loop_steps.proofs.RingSteps.{rest_joined, rest_both}

@@ -23,7 +23,7 @@ use Rattle.euler_laws_shared.proofs.Rows.{count_or_lone}
 use Rattle.euler_laws_kemr.proofs.KemrSound as laws
 use Rattle.euler_laws_kemr.proofs.KemrSound.{KemrGoes}
 use Rattle.euler_laws_kemr.proofs.Kemr.{kemr_goes}
-use Rattle.halfedge_arena.specs.Store.{Store, put_loop, cut, cut_loose, cut_to, take_edge}
+use Rattle.euler_conditions.specs.Store.{Store, put_loop, cut, cut_loose, cut_to, take_edge}
 use Rattle.loop_steps.specs.Steps.{IsStanding, take_out}
 use Rattle.loop_steps.proofs.RingSteps.{rest_left, rest_right}
 use Rattle.loop_steps.proofs.TwoLoops as two

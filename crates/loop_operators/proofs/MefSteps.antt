@@ -21,7 +21,7 @@ use Rattle.euler_laws_shared.proofs.Goes.{differs}
 use Rattle.euler_laws_mef.proofs.MefSound.{MefGoes}
 use Rattle.euler_laws_mef.proofs.Mef.{mef_goes}
 use Rattle.euler_laws_mef.proofs.MefUndo.{loops-mef}
-use Rattle.halfedge_arena.specs.Store.{Store, Room, within, put_loop, cut, cut_loose, cut_to, put_face}
+use Rattle.euler_conditions.specs.Store.{Store, Room, within, put_loop, cut, cut_loose, cut_to, put_face}
 use Rattle.loop_steps.specs.Steps.{IsStanding, IsLoose, with_edge, put_before}
 use Rattle.loop_steps.proofs.RingSteps.{cut_old, cut_new, count_put}
 use Rattle.loop_steps.proofs.TwoLoops as two

@@ -24,7 +24,7 @@ use Rattle.euler_conditions.specs.Ready.{Accepts, after}
 use Rattle.euler_laws_shared.proofs.Goes.{all_hold}
 use Rattle.euler_laws_shared.proofs.Rows.{half_of, loop_row}
 use Rattle.euler_laws_mekr.proofs.MekrSpots.{JoinGoes, join_goes, count_spot}
-use Rattle.halfedge_arena.specs.Store.{Store, join, take_loop, loose_key, loose_ring}
+use Rattle.euler_conditions.specs.Store.{Store, join, take_loop, loose_key, loose_ring}
 use Rattle.loop_steps.specs.Steps.{IsStanding, IsLoose, IsCorner, CanTake, with_edge, put_at}
 use Rattle.loop_steps.proofs.RingSteps.{canonical_one}
 use Rattle.loop_steps.proofs.StoreSteps.{remove-put_same}

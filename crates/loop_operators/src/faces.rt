@@ -2,8 +2,7 @@
 ghost use Rattle.std.specs.Prelude.{◌≡◌};
 ghost use Rattle.euler_conditions.specs.Ready.{Accepts, after};
 
-use euler_conditions::Op;
-use halfedge_arena::{Arena, HalfEdge, Kind};
+use euler_conditions::{Arena, HalfEdge, Kind, Op};
 use loop_steps::{put_before, put_edge, take_out};
 
 /// Makes an edge between two corners of one loop, which parts the loop's face. `half` starts at the first corner.

@@ -3,8 +3,7 @@
 ghost use Rattle.std.specs.Prelude.{◌≡◌};
 ghost use Rattle.euler_conditions.specs.Ready.{Accepts, after};
 
-use euler_conditions::Op;
-use halfedge_arena::{Arena, Corner, HalfEdge, Kind};
+use euler_conditions::{Arena, Corner, HalfEdge, Kind, Op};
 use loop_steps::{loop_at, put_at, put_edge, tail_at, take_out};
 
 /// Kills an edge that stands twice in one loop. What stands between the edge's mate and `half` keeps the loop; what

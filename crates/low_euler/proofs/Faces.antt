@@ -10,7 +10,7 @@ use Rattle.boundary_model.specs.Model.{Model, FaceRow, no_face, solid_of, faces_
 use Rattle.boundary_model.specs.Sound.{NumbersFit}
 use Rattle.boundary_model.proofs.Tables.{and_left, and_right, all_where_none}
 use Rattle.euler_laws_shared.proofs.Loops.{some_row}
-use Rattle.arena_rows.specs.Store.{is_face_of, IsNextFace}
+use Rattle.euler_conditions.specs.Store.{is_face_of, IsNextFace}
 
 -- ---- the numbers of a table whose rows pass a test
 

@@ -12,7 +12,7 @@ use Rattle.boundary_model.specs.Model.{Model, items_of, after, tail, loop_of, fa
 use Rattle.boundary_model.specs.Sound.{Sound, HasHalf}
 use Rattle.boundary_model.proofs.Halves.{code-half, mate_other, edge_of-mate}
 use Rattle.boundary_model.proofs.Models.{cycle_there, cycle_sound}
-use Rattle.arena_rows.specs.Store.{only_item}
+use Rattle.euler_conditions.specs.Store.{only_item}
 use Rattle.euler_operators.specs.declared.Op.{Op}
 use Rattle.euler_operators.specs.declared.Op.TheVariants.{Mvfs, Kvfs, Mev, Kev, Mef, Kef, Kemr, Mekr}
 use Rattle.euler_operators.specs.Conditions.{first_false, lone_vertex}

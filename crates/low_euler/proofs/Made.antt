@@ -4,7 +4,7 @@ use Rattle.std.proofs.lemmas.Bool.Decides.{nat_tests}
 use Rattle.std.proofs.lemmas.List.{take_more}
 use Rattle.boundary_model.specs.declared.Kind.{Kind}
 use Rattle.boundary_model.specs.Model.{Model, is_number}
-use Rattle.halfedge_arena.specs.Store.{Store, has_room, HasGrown}
+use Rattle.euler_conditions.specs.Store.{Store, has_room, HasGrown}
 use Rattle.euler_operators.specs.Conditions.{conditions, first_false}
 use Rattle.euler_operators.specs.declared.Op.{Op}
 use Rattle.euler_operators.specs.declared.Op.TheVariants as op

@@ -3,7 +3,7 @@ use Rattle.std.proofs.Common.{◌≡◌, ℕ, List, [], ◌∷◌, refl, sym, ap
 use Rattle.boundary_model.specs.declared.Kind.{Kind}
 use Rattle.boundary_model.specs.declared.Kind.TheVariants.{Solid, Face, Loop, Edge, Vertex}
 use Rattle.boundary_model.specs.Model.{Model, faces_of}
-use Rattle.halfedge_arena.specs.Store.{Store, has_room}
+use Rattle.euler_conditions.specs.Store.{Store, has_room}
 use Rattle.euler_operators.specs.Conditions.{first_false}
 use Rattle.euler_operators.specs.Effect.{effect, inverse}
 use Rattle.euler_operators.specs.declared.Op.{Op}

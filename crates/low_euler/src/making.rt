@@ -1,13 +1,13 @@
 //! What an operator takes with it: room for what it makes, and the faces that a merge moves.
 ghost use Rattle.std.specs.Prelude.{◌≡◌, OnOk, IfOk, None};
-ghost use Rattle.halfedge_arena.specs.Store.{HasGrown};
+ghost use Rattle.euler_conditions.specs.Store.{HasGrown};
 ghost use Rattle.euler_operators.specs.Conditions.{first_false};
 ghost use Rattle.euler_conditions.specs.Ready.{IsReady, AllRoom, HasRoomFor};
 ghost use Rattle.low_euler.specs.Room.{AllFit, faces_for};
 
 use crate::moving;
 use euler_operators::{FaceList, Op};
-use halfedge_arena::{Arena, Kind};
+use euler_conditions::{Arena, Kind};
 use std::alloc::{AllocError, Global};
 
 /// What an operator takes with it where it is applied: for a merge the faces that it moves, rising, else nothing.

@@ -4,7 +4,7 @@ ghost use Rattle.boundary_model.specs.Model.{faces_of};
 ghost use Rattle.euler_conditions.specs.Ready.{IsReady, Accepts, after};
 
 use euler_operators::{FaceList, Op};
-use halfedge_arena::{Arena, Kind};
+use euler_conditions::{Arena, Kind};
 use std::alloc::{AllocError, Global};
 
 /// The faces of a solid, rising. It looks at these alone.

@@ -1,9 +1,9 @@
 -- Sums of cross products over half-edges, joined and turned.
 use Rattle.std.proofs.Common.{◌≡◌, ℕ, List, [], ◌∷◌, ◌++◌, sym, ap, ◌∙◌}
 use Rattle.std.proofs.Math.IntN.{+ℤ_comm, +ℤ_assoc, +ℤ_idl, +ℤ_idr}
-use Rattle.lattice.specs.declared.Point.{Point}
-use Rattle.lattice.specs.Vectors.{origin, moved, cross}
-use Rattle.cyclic_list.specs.Rings.{IsRotation}
+use Rattle.boundary_model.specs.declared.Point.{Point}
+use Rattle.boundary_model.specs.Vectors.{origin, moved, cross}
+use Rattle.boundary_model.specs.Rings.{IsRotation}
 use Rattle.boundary_model.specs.Model.{Model}
 use Rattle.shapes.specs.Faces.{start, finish}
 use Rattle.measure_shapes.specs.Measure.{area}

@@ -1,10 +1,10 @@
 -- Normals, planes and volumes.
 use Rattle.std.specs.Prelude.{ℕ, ℤ, pos, ◌+ℤ◌, neg_ℤ, Bool, not, ◌&&◌, List, [], ◌∷◌, ◌++◌, Option}
 use Rattle.std.specs.List.{list_all}
-use Rattle.lattice.specs.declared.Point.{Point}
-use Rattle.lattice.specs.declared.Plane.{Plane}
-use Rattle.lattice.specs.Vectors.{origin, moved, dot, cross, same_point, is_on, direction}
-use Rattle.cyclic_list.specs.Items.{head_or}
+use Rattle.boundary_model.specs.declared.Point.{Point}
+use Rattle.boundary_model.specs.declared.Plane.{Plane}
+use Rattle.boundary_model.specs.Vectors.{origin, moved, dot, cross, same_point, is_on, direction}
+use Rattle.boundary_model.specs.Items.{head_or}
 use Rattle.boundary_model.specs.Table as table
 use Rattle.boundary_model.specs.Model.{Model, LoopContent, lone, cycle, tail, content, outer, point_of, faces_of}
 use Rattle.euler_operators.specs.Conditions.{need, first_refusal, numbers_in_range}

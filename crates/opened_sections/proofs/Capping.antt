@@ -15,7 +15,7 @@ use Rattle.boundary_model.specs.Sound.{Sound, Has}
 use Rattle.boundary_model.proofs.Models.{face_row}
 use Rattle.euler_operators.specs.Conditions.{strictly_rises}
 use Rattle.euler_laws_shared.proofs.Loops.{some_row}
-use Rattle.euler_conditions.proofs.Rising.{rest_rises}
+use Rattle.solid_walks.proofs.RisingLists.{rest_rises}
 use Rattle.fresh_laws.proofs.Rows.{get-put_here, get-put_other, get-put_cases}
 use Rattle.shapes.specs.Fresh.{Taken, numbers_after}
 use Rattle.shapes.specs.Rewriting.{rewritten_row, renamed}

@@ -8,8 +8,8 @@ use Rattle.std.proofs.lemmas.List.{length-append}
 use Rattle.std.specs.Ordering.{nat_cmp, is_lt}
 use Rattle.std.specs.FinMap.Entries.{find, is_sorted, below_all}
 use Rattle.std.specs.Cmp.{unsigned_tied}
-use Rattle.cyclic_list.specs.Items.{count, tick, IsIn, before, after}
-use Rattle.cyclic_list.proofs.Lists.{count-append, tick_same, tick_other, split_at}
+use Rattle.boundary_model.specs.Items.{count, tick, IsIn, before, after}
+use Rattle.boundary_model.proofs.Lists.{count-append, tick_same, tick_other, split_at}
 use Rattle.boundary_model.specs.Table.{Table, get, put, remove, all_where, all_in, get-put, get-remove}
 use Rattle.boundary_model.proofs.Tables.{and_left, and_right, put-remove}
 use Rattle.owner_chains.specs.Owners.{owned}

@@ -10,7 +10,7 @@ ghost use Rattle.split_shapes.specs.Places.{in_pairs, is_up_and_down, some_meet,
 
 use crate::points::{key_of, place_point};
 use cut_places::goes_up;
-use halfedge_arena::{Arena, HalfEdge};
+use euler_conditions::{Arena, HalfEdge};
 use lattice::Plane;
 use std::alloc::{AllocError, Global};
 use std::collections::BTreeMap;

@@ -7,7 +7,7 @@ ghost use Rattle.place_order.specs.Order.{IsWholePlace, key};
 ghost use Rattle.split_shapes.specs.Places.{place_point};
 
 use cut_places::{crossing_point, start, starts_on};
-use halfedge_arena::{Arena, HalfEdge};
+use euler_conditions::{Arena, HalfEdge};
 use lattice::{Plane, Point};
 
 /// The point of a cut place, which is on the lattice.

@@ -19,8 +19,8 @@ use Rattle.split_shapes.specs.Split.{first_conditions, later_conditions, split_c
 use Rattle.crossing_laws.specs.Laws.{CanBegin}
 use Rattle.crossing_laws.proofs.Whole.{crossings_keep}
 use Rattle.cut_pairs.proofs.Whole.{can_be_drawn}
-use Rattle.drawn_splits.specs.Kept.{KeepsSolids}
-use Rattle.drawn_splits.proofs.Solids.{drawing_keeps}
+use Rattle.solid_opening.specs.Kept.{KeepsSolids}
+use Rattle.solid_opening.proofs.Solids.{drawing_keeps}
 use Rattle.solid_drawing.specs.Drawn.{put_aside}
 use Rattle.undo_journal.specs.declared.session.Failure.{Failure}
 use Rattle.undo_journal.specs.declared.session.Failure.TheVariants as failure

@@ -16,17 +16,17 @@ use Rattle.split_shapes.specs.Split.{opened_at, split_above, split_refusal, spli
 use Rattle.cut_pairs.specs.Laws.{rewriting_ops}
 use Rattle.cut_pairs.proofs.Whole.{rewritings_made}
 use Rattle.drawing_laws.proofs.Runs.{Leads}
-use Rattle.opened_sections.specs.InTurn.{CanBeOpenedInTurn}
-use Rattle.drawn_splits.proofs.Drawn.{begins, can_open_all}
+use Rattle.solid_opening.specs.InTurn.{CanBeOpenedInTurn}
+use Rattle.solid_opening.proofs.Drawn.{begins, can_open_all}
 use Rattle.face_drawing.specs.Codes.{drawing_of}
 use Rattle.face_drawing.specs.declared.progress.Progress.{Progress}
 use Rattle.section_checks.specs.Sections.{IsSection, cycles_of}
 use Rattle.section_checks.specs.declared.section.Section.{Section}
 use Rattle.solid_drawing.specs.Drawn.{put_aside}
 use Rattle.solid_opening.specs.Capped.{opened_section, unopened}
-use Rattle.split_laws.specs.SplitOps.{openings_ops, hole_ops, upper_left, upper_ops, ops_above, split_ops}
-use Rattle.split_laws.proofs.Openings.{openings_go}
-use Rattle.split_laws.proofs.Whole.{split_accepted, split_made}
+use Rattle.solid_opening.specs.SplitOps.{openings_ops, hole_ops, upper_left, upper_ops, ops_above, split_ops}
+use Rattle.solid_opening.proofs.Openings.{openings_go}
+use Rattle.solid_opening.proofs.Whole.{split_accepted, split_made}
 use Rattle.plane_split.specs.Drawn.{IsDrawn}
 
 -- where some operators lead on from a model that the first of them make, the others lead on from there

@@ -7,7 +7,7 @@ ghost use Rattle.split_shapes.specs.Split.{split_refusal, split_model};
 ghost use Rattle.crossing_laws.specs.Laws.{CanBegin};
 
 use crate::steps::carry_out;
-use halfedge_arena::Arena;
+use euler_conditions::Arena;
 use lattice::Plane;
 use split_checks::check_begin;
 use std::alloc::Global;

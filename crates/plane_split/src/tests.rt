@@ -1,7 +1,6 @@
 use super::split;
 use arrayvec::ArrayVec;
-use euler_conditions::{Op, Refusal, Why};
-use halfedge_arena::{Corner, HalfEdge, Kind};
+use euler_conditions::{Corner, HalfEdge, Kind, Op, Refusal, Why};
 use lattice::Point;
 use std::alloc::Global;
 use std::process::Abort;

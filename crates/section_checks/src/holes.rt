@@ -8,7 +8,7 @@ ghost use Rattle.section_checks.specs.Cycles.{AreCycles, has_stray};
 ghost use Rattle.section_checks.specs.Sections.{halves_of};
 
 use crate::section::Cycle;
-use halfedge_arena::{Arena, HalfEdge};
+use euler_conditions::{Arena, HalfEdge};
 use lattice::Plane;
 use section_cycles::is_hole;
 use std::alloc::{AllocError, Global};

@@ -8,7 +8,7 @@ ghost use Rattle.solid_checks.specs.Least.{found, least_such};
 ghost use Rattle.split_shapes.specs.Section.{least_branched, section_ends};
 ghost use Rattle.section_cycles.specs.Halves.{AreThere, is_thrice};
 
-use halfedge_arena::{Arena, HalfEdge};
+use euler_conditions::{Arena, HalfEdge};
 use std::alloc::{AllocError, Global};
 
 /// The ends of the edges of these half-edges, edge by edge.

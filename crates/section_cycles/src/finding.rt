@@ -12,7 +12,7 @@ ghost use Rattle.section_cycles.specs.Halves.{AreThere, codes};
 ghost use Rattle.section_cycles.specs.Starts.{AreStarts};
 
 use crate::starts::{next_half, starts_of};
-use halfedge_arena::{Arena, HalfEdge};
+use euler_conditions::{Arena, HalfEdge};
 use solid_walks::same;
 use std::alloc::{AllocError, Global};
 use std::collections::{BTreeMap, BTreeSet};

@@ -13,7 +13,7 @@ ghost use Rattle.split_shapes.specs.Section.{is_hole};
 ghost use Rattle.section_cycles.specs.Halves.{AreThere};
 ghost use Rattle.section_cycles.specs.Sums.{read};
 
-use halfedge_arena::{Arena, HalfEdge};
+use euler_conditions::{Arena, HalfEdge};
 use lattice::{Plane, Point, cross_add, dot};
 
 /// A sum of cross products of points.

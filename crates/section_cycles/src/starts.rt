@@ -6,7 +6,7 @@ ghost use Rattle.euler_conditions.specs.Ready.{IsReady};
 ghost use Rattle.section_cycles.specs.Halves.{AreThere};
 ghost use Rattle.section_cycles.specs.Starts.{AreStarts, half_at};
 
-use halfedge_arena::{Arena, HalfEdge};
+use euler_conditions::{Arena, HalfEdge};
 use std::alloc::{AllocError, Global};
 use std::collections::BTreeMap;
 

@@ -1,7 +1,7 @@
 //! The faces above a plane.
 ghost use Rattle.std.specs.Prelude.{◌≡◌, pos, int_lt, true, IfOk};
 ghost use Rattle.euler_conditions.specs.Ready.{IsReady};
-ghost use Rattle.halfedge_arena.specs.Store.{has_number};
+ghost use Rattle.euler_conditions.specs.Store.{has_number};
 ghost use Rattle.lattice.specs.Point.{IsInRange};
 ghost use Rattle.lattice.specs.Ranges.{IsCutPlane};
 ghost use Rattle.lattice.specs.Vectors.{direction, dot};
@@ -9,7 +9,7 @@ ghost use Rattle.solid_measure.specs.Measure.{normal};
 ghost use Rattle.split_shapes.specs.Sides.{face_is_above, faces_above};
 
 use cut_places::reaches;
-use halfedge_arena::{Arena, Kind};
+use euler_conditions::{Arena, Kind};
 use lattice::{Plane, Point, Sign, dot};
 use solid_measure::normal;
 use std::alloc::{AllocError, Global};

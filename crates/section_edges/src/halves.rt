@@ -4,14 +4,14 @@ ghost use Rattle.boundary_model.specs.HalfEdge.{code};
 ghost use Rattle.boundary_model.specs.Model.{faces_of, has_half};
 ghost use Rattle.euler_conditions.specs.Ready.{IsReady};
 ghost use Rattle.euler_operators.specs.Conditions.{face_at, lists, strictly_rises};
-ghost use Rattle.halfedge_arena.specs.Store.{has_number};
+ghost use Rattle.euler_conditions.specs.Store.{has_number};
 ghost use Rattle.shapes.specs.Faces.{boundary};
 ghost use Rattle.cut_places.specs.Walks.{AreThere};
 ghost use Rattle.split_shapes.specs.Section.{below_halves};
 ghost use Rattle.section_edges.specs.BelowHalves.{below_in, below_met, is_below};
 
 use cut_places::boundary;
-use halfedge_arena::{Arena, HalfEdge, Kind};
+use euler_conditions::{Arena, HalfEdge, Kind};
 use std::alloc::{AllocError, Global};
 
 /// Whether n is one of the numbers, which rise.

@@ -16,7 +16,7 @@ use Rattle.euler_laws_shared.proofs.Goes.{equal, equals}
 use Rattle.euler_laws_shared.proofs.Listed.{listed_passes, passes_listed, all_where-rises}
 use Rattle.euler_laws_shared.proofs.Loops.{some_row}
 use Rattle.euler_laws_shared.proofs.Undo.{mate_plus, mate_minus}
-use Rattle.euler_conditions.proofs.Rising.{rest_rises}
+use Rattle.solid_walks.proofs.RisingLists.{rest_rises}
 use Rattle.shapes.specs.Faces.{edges_of}
 use Rattle.solid_walks.proofs.Rising.{counted_once, in_listed}
 use Rattle.solid_walks.proofs.SolidFaces.{listed_in}

@@ -5,7 +5,7 @@ use Rattle.std.proofs.lemmas.Bool.Decides.{nat_tests}
 use Rattle.cyclic_list.specs.Items.{IsIn}
 use Rattle.euler_operators.specs.Conditions.{strictly_rises}
 use Rattle.euler_laws_shared.proofs.Listed.{first_listed}
-use Rattle.euler_conditions.proofs.Rising.{rest_rises, above_first}
+use Rattle.solid_walks.proofs.RisingLists.{rest_rises, above_first}
 use Rattle.solid_walks.proofs.Rising.{in_listed}
 use Rattle.solid_walks.proofs.SolidFaces.{listed_in}
 use Rattle.section_laws.proofs.Meets.{filter_less}

@@ -3,3 +3,4 @@ pub mod Kept
 pub mod Caps
 pub mod Opened
 pub mod InTurn
+pub use Rattle.opening_laws.proofs.Whole

@@ -1,8 +1,8 @@
 -- A block with its edges along the axes.
 use Rattle.std.specs.Prelude.{◌≡◌, ℕ, ℤ, pos, int_le, Bool, List, [], ◌∷◌, ◌++◌, Option}
-use Rattle.lattice.specs.declared.Point.{Point}
-use Rattle.lattice.specs.Point.{is_in_range}
-use Rattle.lattice.specs.Vectors.{moved}
+use Rattle.boundary_model.specs.declared.Point.{Point}
+use Rattle.boundary_model.specs.Points.{is_in_range}
+use Rattle.boundary_model.specs.Vectors.{moved}
 use Rattle.boundary_model.specs.Table as table
 use Rattle.boundary_model.specs.Model.{Model}
 use Rattle.euler_operators.specs.Conditions.{Condition, need, never, first_refusal, numbers_in_range}

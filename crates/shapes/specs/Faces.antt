@@ -1,6 +1,6 @@
 -- What belongs to a face or a solid.
 use Rattle.std.specs.Prelude.{◌≡◌, ℕ, Bool, true, false, cond, ◌&&◌, ◌||◌, nat_eq, List, [], ◌∷◌, ◌++◌, map}
-use Rattle.lattice.specs.declared.Point.{Point}
+use Rattle.boundary_model.specs.declared.Point.{Point}
 use Rattle.boundary_model.specs.HalfEdge.{mate, plus}
 use Rattle.boundary_model.specs.Table as table
 use Rattle.boundary_model.specs.Model.{Model, LoopContent, lone, cycle, items_of, tail, content, outer, point_of, solid_of, rings_of}

@@ -1,10 +1,10 @@
 -- A flat ring of corners with a face on either side.
 use Rattle.std.specs.Prelude.{◌≡◌, ℕ, zero, suc, ◌+◌, ◌-◌, Bool, true, false, cond, not, ◌||◌, nat_eq, nat_le, List, [], ◌∷◌, ◌++◌, map, reverse, length, get_or, Option}
 use Rattle.std.specs.List.{list_any}
-use Rattle.lattice.specs.declared.Point.{Point}
-use Rattle.lattice.specs.Point.{is_in_range}
-use Rattle.lattice.specs.Vectors.{same_point}
-use Rattle.cyclic_list.specs.Rings.{canonical}
+use Rattle.boundary_model.specs.declared.Point.{Point}
+use Rattle.boundary_model.specs.Points.{is_in_range}
+use Rattle.boundary_model.specs.Vectors.{same_point}
+use Rattle.boundary_model.specs.Rings.{canonical}
 use Rattle.boundary_model.specs.HalfEdge.{plus, minus}
 use Rattle.boundary_model.specs.Table as table
 use Rattle.boundary_model.specs.Table.{Table}

@@ -1,9 +1,9 @@
 -- A face swept along a vector.
 use Rattle.std.specs.Prelude.{◌≡◌, ℕ, zero, suc, ◌+◌, ◌*◌, Bool, true, false, cond, not, ◌&&◌, nat_eq, List, [], ◌∷◌, ◌++◌, length, get_or, fold, Option}
-use Rattle.lattice.specs.declared.Point.{Point}
-use Rattle.lattice.specs.Point.{is_in_range}
-use Rattle.lattice.specs.Vectors.{origin, moved, same_point}
-use Rattle.cyclic_list.specs.Rings.{canonical}
+use Rattle.boundary_model.specs.declared.Point.{Point}
+use Rattle.boundary_model.specs.Points.{is_in_range}
+use Rattle.boundary_model.specs.Vectors.{origin, moved, same_point}
+use Rattle.boundary_model.specs.Rings.{canonical}
 use Rattle.boundary_model.specs.HalfEdge.{plus, minus}
 use Rattle.boundary_model.specs.Table as table
 use Rattle.boundary_model.specs.Table.{Table}

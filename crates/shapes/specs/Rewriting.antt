@@ -1,6 +1,6 @@
 -- Whole tables rewritten: the lists of all loops, numbers by a list of pairs, rows that go.
 use Rattle.std.specs.Prelude.{ℕ, cond, nat_eq, List, [], ◌∷◌, fold}
-use Rattle.cyclic_list.specs.Rings.{canonical}
+use Rattle.boundary_model.specs.Rings.{canonical}
 use Rattle.boundary_model.specs.Table as table
 use Rattle.boundary_model.specs.Table.{Table}
 use Rattle.boundary_model.specs.Model.{LoopContent, LoopRow, lone, cycle}

@@ -5,7 +5,7 @@ use Rattle.boundary_model.specs.Table.{get, has}
 use Rattle.boundary_model.specs.Model.{Model, FaceRow, no_face, solid_of, faces_of, is_number}
 use Rattle.boundary_model.specs.Sound.{Sound}
 use Rattle.euler_operators.specs.Conditions.{lists}
-use Rattle.halfedge_arena.specs.Store.{IsNextFace, is_face_of}
+use Rattle.euler_conditions.specs.Store.{IsNextFace, is_face_of}
 use Rattle.shapes.specs.Faces.{faces_of_both}
 use Rattle.face_walks.proofs.Rising.{above, member, AllAbove, Rising, all_above, next_above, none_above, all_above_members}
 use Rattle.face_walks.proofs.TableWalks.{passes, rising_passing, member_passing}

@@ -2,14 +2,14 @@
 ghost use Rattle.std.specs.Prelude.{◌≡◌, true, not};
 ghost use Rattle.boundary_model.specs.Model.{faces_of};
 ghost use Rattle.euler_conditions.specs.Ready.{IsReady};
-ghost use Rattle.halfedge_arena.specs.Store.{has_number};
+ghost use Rattle.euler_conditions.specs.Store.{has_number};
 ghost use Rattle.shapes.specs.Faces.{faces_of_both};
 ghost use Rattle.shapes.specs.Fresh.{first_such};
 ghost use Rattle.solid_measure.specs.Measure.{is_flat};
 ghost use Rattle.solid_checks.specs.Least.{found};
 
 use crate::least::lesser;
-use halfedge_arena::{Arena, Kind};
+use euler_conditions::{Arena, Kind};
 
 /// Whether face f, which is there, isn't flat.
 fn is_bent(arena: &Arena, f: u32) -> bool

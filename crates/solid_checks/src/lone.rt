@@ -3,12 +3,12 @@ ghost use Rattle.std.specs.Prelude.{◌≡◌, true};
 ghost use Rattle.boundary_model.specs.Model.{content, faces_of};
 ghost use Rattle.euler_conditions.specs.Ready.{IsReady};
 ghost use Rattle.euler_operators.specs.Conditions.{is_lone};
-ghost use Rattle.halfedge_arena.specs.Store.{has_number};
+ghost use Rattle.euler_conditions.specs.Store.{has_number};
 ghost use Rattle.shapes.specs.Faces.{faces_of_both, least_lone, loops_of};
 ghost use Rattle.solid_checks.specs.Least.{found, least_such, only};
 
 use crate::least::lesser;
-use halfedge_arena::{Arena, Content, Kind};
+use euler_conditions::{Arena, Content, Kind};
 
 /// Loop l, where it is lone.
 fn lone_loop(arena: &Arena, l: u32) -> Option<u32>

@@ -6,7 +6,7 @@ use Rattle.cyclic_list.proofs.Lists.{tick_le, tick_other}
 use Rattle.boundary_model.specs.Table as table
 use Rattle.boundary_model.specs.Model.{Model, content, outer, rings_of, faces_of}
 use Rattle.boundary_model.specs.Sound.{Sound, Has}
-use Rattle.arena_rows.specs.Store.{IsNextRing, IsNextFace}
+use Rattle.euler_conditions.specs.Store.{IsNextRing, IsNextFace}
 use Rattle.shapes.specs.Faces.{loops_of}
 use Rattle.solid_counts.specs.declared.Met.{Met}
 use Rattle.solid_counts.specs.Counts.{rings_in}

@@ -8,7 +8,7 @@ use Rattle.boundary_model.specs.declared.Content.TheVariants as Content
 use Rattle.boundary_model.specs.declared.HalfEdge.{HalfEdge}
 use Rattle.boundary_model.specs.Model.{Model, LoopContent, lone, cycle, items_of, content, after}
 use Rattle.boundary_model.specs.Sound.{Sound}
-use Rattle.arena_rows.specs.Store.{Tells}
+use Rattle.euler_conditions.specs.Store.{Tells}
 use Rattle.euler_conditions.proofs.Parallel.{steps}
 use Rattle.solid_counts.specs.declared.Met.{Met}
 use Rattle.solid_walks.specs.Walks.{leads}

@@ -6,7 +6,7 @@ use Rattle.boundary_model.specs.Sound.{Has}
 use Rattle.euler_operators.specs.declared.Op.TheVariants.{RingIn}
 use Rattle.euler_operators.specs.Effect.{effect}
 use Rattle.euler_laws.specs.Laws.{effects}
-use Rattle.halfedge_arena.specs.Store.{IsNextRing}
+use Rattle.euler_conditions.specs.Store.{IsNextRing}
 use Rattle.split_shapes.specs.Drawing.{with_rings}
 use Rattle.drawing_laws.specs.DrawingOps.{ring_ops}
 use Rattle.drawing_laws.proofs.Drawn.{ring_moved}

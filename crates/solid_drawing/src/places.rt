@@ -12,7 +12,7 @@ ghost use Rattle.solid_drawing.specs.Starts.{FacesThere, PairsThere, faces_start
 use cut_places::starts_on;
 use face_drawing::Pair;
 use face_pairs::FacePairs;
-use halfedge_arena::{Arena, HalfEdge};
+use euler_conditions::{Arena, HalfEdge};
 use lattice::Plane;
 use std::alloc::{AllocError, Global};
 

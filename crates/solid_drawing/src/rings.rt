@@ -3,14 +3,14 @@ ghost use Rattle.std.specs.Prelude.{◌≡◌, true, IfOk, OnOk};
 ghost use Rattle.boundary_model.specs.Table as table;
 ghost use Rattle.euler_conditions.specs.Ready.{IsReady};
 ghost use Rattle.euler_laws.specs.Laws.{AreAccepted};
-ghost use Rattle.halfedge_arena.specs.Store.{has_number};
+ghost use Rattle.euler_conditions.specs.Store.{has_number};
 ghost use Rattle.lattice.specs.Ranges.{IsCutPlane};
 ghost use Rattle.split_shapes.specs.Drawing.{rings_above, with_rings};
 ghost use Rattle.drawing_laws.specs.DrawingOps.{ring_ops};
 
 use cut_places::loop_reaches;
 use face_drawing::move_rings;
-use halfedge_arena::{Arena, Kind};
+use euler_conditions::{Arena, Kind};
 use lattice::{Plane, Sign};
 use std::alloc::{AllocError, Global};
 use undo_journal::Draft;

@@ -13,7 +13,7 @@ use crate::places::faces_started;
 use edge_cutting::cut_edges;
 use face_drawing::Progress;
 use face_pairs::{FacePairs, face_pairs};
-use halfedge_arena::{Arena, Kind};
+use euler_conditions::{Arena, Kind};
 use lattice::Plane;
 use std::alloc::{AllocError, Global};
 use undo_journal::Draft;

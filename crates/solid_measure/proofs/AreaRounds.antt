@@ -7,7 +7,7 @@ use Rattle.cyclic_list.specs.Items.{IsIn}
 use Rattle.boundary_model.specs.declared.Content.{Content}
 use Rattle.boundary_model.specs.Model.{Model, LoopContent, lone, cycle, items_of, content, after}
 use Rattle.boundary_model.specs.Sound.{Sound}
-use Rattle.arena_rows.specs.Store.{Tells}
+use Rattle.euler_conditions.specs.Store.{Tells}
 use Rattle.euler_conditions.proofs.Parallel.{steps}
 use Rattle.shapes.specs.Faces.{start, finish}
 use Rattle.solid_measure.specs.Measure.{area, area_limit}

@@ -3,7 +3,7 @@ use Rattle.std.proofs.Common.{◌≡◌, ℕ, [], ◌∷◌, ◌++◌, Some, Non
 use Rattle.std.proofs.lemmas.List.{append-nil}
 use Rattle.boundary_model.specs.Model.{Model, items_of, content, outer}
 use Rattle.boundary_model.specs.Sound.{Sound}
-use Rattle.arena_rows.specs.Store.{IsNextRing}
+use Rattle.euler_conditions.specs.Store.{IsNextRing}
 use Rattle.lattice.specs.declared.Point.{Point}
 use Rattle.lattice.specs.Ranges.{IsVectorWithin}
 use Rattle.lattice.specs.Vectors.{origin, moved}

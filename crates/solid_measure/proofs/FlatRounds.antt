@@ -12,7 +12,7 @@ use Rattle.boundary_model.specs.declared.HalfEdge.{HalfEdge}
 use Rattle.boundary_model.specs.declared.Content.{Content}
 use Rattle.boundary_model.specs.Model.{Model, LoopContent, lone, cycle, items_of, content, after, tail, point_of, outer, rings_of, is_ring_of}
 use Rattle.boundary_model.specs.Sound.{Sound}
-use Rattle.arena_rows.specs.Store.{IsNextRing, Tells}
+use Rattle.euler_conditions.specs.Store.{IsNextRing, Tells}
 use Rattle.euler_operators.specs.Conditions.{lists}
 use Rattle.euler_laws_shared.proofs.Listed.{first_listed, rest_listed, listed_cases}
 use Rattle.euler_conditions.proofs.Parallel.{steps}

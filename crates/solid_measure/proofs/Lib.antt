@@ -5,3 +5,4 @@ pub mod FlatRounds
 pub mod Boundaries
 pub mod Planes
 pub mod Volumes
+pub use Rattle.solid_counts.proofs.HowMany

@@ -11,7 +11,7 @@ use Rattle.lattice.specs.Vectors.{dot}
 use Rattle.lattice.proofs.Magnitudes.{coordinates, coordinate_within, product_within, sum_within, fits, fits_as, held, held_is, held_as}
 use Rattle.boundary_model.specs.Model.{Model, faces_of}
 use Rattle.boundary_model.specs.Sound.{Sound}
-use Rattle.arena_rows.specs.Store.{IsNextFace}
+use Rattle.euler_conditions.specs.Store.{IsNextFace}
 use Rattle.shapes.specs.Faces.{items_in, loops_of, boundary}
 use Rattle.solid_walks.specs.Walks.{loops_in}
 use Rattle.solid_walks.proofs.Rising.{up_to}

@@ -5,14 +5,14 @@ ghost use Rattle.lattice.specs.Point.{IsInRange};
 ghost use Rattle.lattice.specs.Ranges.{IsPlane, IsVectorWithin, IsWithin};
 ghost use Rattle.lattice.specs.Vectors.{direction, dot, is_on, origin, same_point};
 ghost use Rattle.boundary_model.specs.Model.{point_of, rings_of};
-ghost use Rattle.arena_rows.specs.Store.{has_number};
+ghost use Rattle.euler_conditions.specs.Store.{has_number};
 ghost use Rattle.euler_conditions.specs.Ready.{IsReady};
 ghost use Rattle.shapes.specs.Faces.{corners, vertices_in};
 ghost use Rattle.solid_measure.specs.Measure.{anchor, area_limit, is_flat, normal, plane_of, read};
 
 use crate::loops::{least_item, loop_added, loop_lies_on};
 use crate::{Vector, halves};
-use halfedge_arena::{Arena, Content, Kind};
+use euler_conditions::{Arena, Content, Kind};
 use lattice::{Plane, Point, dot};
 
 /// The face's normal: the sum of the cross products over the half-edges of its loops.

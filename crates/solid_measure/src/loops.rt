@@ -7,13 +7,13 @@ ghost use Rattle.lattice.specs.Vectors.{moved, cross, is_on};
 ghost use Rattle.cyclic_list.specs.Items.{IsIn, head_or};
 ghost use Rattle.boundary_model.specs.HalfEdge.{code};
 ghost use Rattle.boundary_model.specs.Model.{items_of, content, point_of, tail};
-ghost use Rattle.arena_rows.specs.Store.{has_number};
+ghost use Rattle.euler_conditions.specs.Store.{has_number};
 ghost use Rattle.euler_conditions.specs.Ready.{IsReady};
 ghost use Rattle.shapes.specs.Faces.{start, finish, vertices_on};
 ghost use Rattle.solid_measure.specs.Measure.{area, area_limit, read};
 
 use crate::{Vector, halves};
-use halfedge_arena::{Arena, Content, HalfEdge, Kind};
+use euler_conditions::{Arena, Content, HalfEdge, Kind};
 use lattice::{Plane, Point, Sign, cross_add, side};
 use solid_walks::{next, same};
 

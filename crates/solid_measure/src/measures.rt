@@ -2,13 +2,13 @@
 ghost use Rattle.std.specs.Prelude.{◌≡◌};
 ghost use Rattle.lattice.specs.Vectors.{numbers_of};
 ghost use Rattle.boundary_model.specs.Model.{is_number};
-ghost use Rattle.arena_rows.specs.Store.{has_number};
+ghost use Rattle.euler_conditions.specs.Store.{has_number};
 ghost use Rattle.euler_conditions.specs.Ready.{IsReady};
 ghost use Rattle.solid_measure.specs.Measure.{answer, face_refusal, is_flat, normal, plane_of, six_volume, solid_refusal};
 
 use crate::faces;
 use euler_operators::{Refusal, Why};
-use halfedge_arena::{Arena, Kind};
+use euler_conditions::{Arena, Kind};
 use lattice::Plane;
 use solid_counts::refusal_of_solid;
 

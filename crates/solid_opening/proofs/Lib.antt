@@ -6,3 +6,7 @@ mod Killed
 mod Cycles
 mod Turns
 mod Closed
+pub use Rattle.split_laws.proofs.Openings
+pub use Rattle.split_laws.proofs.Whole
+pub use Rattle.split_laws.proofs.Drawn
+pub use Rattle.split_laws.proofs.Solids

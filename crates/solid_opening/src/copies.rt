@@ -11,9 +11,8 @@ ghost use Rattle.solid_opening.specs.Stages.{AreStripped};
 
 use crate::halves::{minus, plus, start};
 use edge_cutting::take;
-use euler_conditions::Op;
+use euler_conditions::{Corner, HalfEdge, Op};
 use face_drawing::Progress;
-use halfedge_arena::{Corner, HalfEdge};
 use std::alloc::AllocError;
 use undo_journal::Draft;
 

@@ -11,7 +11,7 @@ use crate::copies::raise_copies;
 use crate::joinings::make_caps;
 use crate::strips::cut_strips;
 use face_drawing::Progress;
-use halfedge_arena::HalfEdge;
+use euler_conditions::HalfEdge;
 use std::alloc::AllocError;
 use undo_journal::Draft;
 

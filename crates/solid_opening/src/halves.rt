@@ -5,7 +5,7 @@ ghost use Rattle.boundary_model.specs.HalfEdge.{code, half};
 ghost use Rattle.boundary_model.specs.Model.{after, has_half, point_of, tail};
 ghost use Rattle.euler_conditions.specs.Ready.{IsReady};
 
-use halfedge_arena::{Arena, HalfEdge};
+use euler_conditions::{Arena, HalfEdge};
 use lattice::Point;
 
 /// The first half-edge of an edge.

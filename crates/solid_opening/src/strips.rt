@@ -11,9 +11,8 @@ ghost use Rattle.solid_opening.specs.Stages.{CanOpen};
 
 use crate::halves::{next_item, plus};
 use edge_cutting::take;
-use euler_conditions::Op;
+use euler_conditions::{HalfEdge, Op};
 use face_drawing::Progress;
-use halfedge_arena::HalfEdge;
 use std::alloc::AllocError;
 use undo_journal::Draft;
 

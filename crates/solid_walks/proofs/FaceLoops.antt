@@ -9,7 +9,7 @@ use Rattle.boundary_model.specs.Table as table
 use Rattle.boundary_model.specs.Model.{Model, LoopRow, no_loop, items_of, content, loop_of, outer, face_of, rings_of, is_ring_of}
 use Rattle.boundary_model.specs.Sound.{Sound, HasHalf}
 use Rattle.boundary_model.proofs.Models.{in-holds}
-use Rattle.arena_rows.specs.Store.{IsNextRing}
+use Rattle.euler_conditions.specs.Store.{IsNextRing}
 use Rattle.euler_operators.specs.Conditions.{lists, strictly_rises}
 use Rattle.euler_laws_shared.proofs.Listed.{listed_passes, passes_listed, all_where-rises}
 use Rattle.euler_laws_shared.proofs.Loops.{some_row}

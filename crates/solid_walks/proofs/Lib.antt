@@ -4,3 +4,4 @@ pub mod FaceLoops
 pub mod SolidFaces
 pub mod FirstEdges
 pub mod TwoWays
+pub use Rattle.euler_conditions.proofs.Rising as RisingLists

@@ -8,7 +8,7 @@ use Rattle.cyclic_list.proofs.Lists.{count-append, tick_same, IsIn_or_not}
 use Rattle.boundary_model.specs.Table as table
 use Rattle.boundary_model.specs.Model.{Model, FaceRow, no_face, outer, face_of, rings_of, faces_of, solid_of}
 use Rattle.boundary_model.specs.Sound.{Sound, Has}
-use Rattle.arena_rows.specs.Store.{IsNextFace, is_face_of}
+use Rattle.euler_conditions.specs.Store.{IsNextFace, is_face_of}
 use Rattle.euler_operators.specs.Conditions.{lists, strictly_rises}
 use Rattle.euler_laws_shared.proofs.Listed.{first_listed, rest_listed, listed_cases, listed_passes, passes_listed, all_where-rises}
 use Rattle.euler_laws_shared.proofs.Loops.{some_row}

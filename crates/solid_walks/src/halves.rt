@@ -2,10 +2,10 @@
 ghost use Rattle.std.specs.Prelude.{◌≡◌, true, nat_eq};
 ghost use Rattle.boundary_model.specs.HalfEdge.{code, mate};
 ghost use Rattle.boundary_model.specs.Model.{after, before, round};
-ghost use Rattle.arena_rows.specs.Store.{has_number};
+ghost use Rattle.euler_conditions.specs.Store.{has_number};
 ghost use Rattle.euler_conditions.specs.Ready.{IsReady};
 
-use halfedge_arena::{Arena, HalfEdge, Kind};
+use euler_conditions::{Arena, HalfEdge, Kind};
 
 /// Whether the two are the same half-edge.
 pub fn same(a: HalfEdge, b: HalfEdge) -> bool

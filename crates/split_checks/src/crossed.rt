@@ -1,7 +1,7 @@
 //! Flaws in the cut places of faces that straddle, and how many pairs these make.
 ghost use Rattle.std.specs.Prelude.{◌≡◌, true, min, IfOk};
 ghost use Rattle.euler_conditions.specs.Ready.{IsReady};
-ghost use Rattle.halfedge_arena.specs.Store.{has_number};
+ghost use Rattle.euler_conditions.specs.Store.{has_number};
 ghost use Rattle.lattice.specs.Ranges.{IsCutPlane};
 ghost use Rattle.shapes.specs.Fresh.{first_such};
 ghost use Rattle.solid_checks.specs.Least.{found};
@@ -13,7 +13,7 @@ ghost use Rattle.split_shapes.specs.Places.{is_crossed, pair_count};
 use crate::faces::{is_cut_often, is_touched};
 use crate::numbers::TOO_MANY;
 use cut_places::places;
-use halfedge_arena::{Arena, Kind};
+use euler_conditions::{Arena, Kind};
 use lattice::Plane;
 use place_order::{in_order, pairs_differ};
 use std::alloc::{AllocError, Global};

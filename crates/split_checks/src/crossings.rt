@@ -6,7 +6,7 @@ ghost use Rattle.solid_checks.specs.Least.{least_such, lesser};
 ghost use Rattle.cut_places.specs.Crossings.{AreCrossing, IsCrossing, is_off};
 
 use cut_places::{finish, start};
-use halfedge_arena::{Arena, HalfEdge};
+use euler_conditions::{Arena, HalfEdge};
 use lattice::{Plane, cut_point};
 
 /// Whether an edge that crosses the plane meets it off the lattice.

@@ -3,7 +3,7 @@ ghost use Rattle.std.specs.Prelude.{◌≡◌, true, map, IfOk};
 ghost use Rattle.std.specs.List.{list_all, list_any};
 ghost use Rattle.boundary_model.specs.HalfEdge.{code};
 ghost use Rattle.euler_conditions.specs.Ready.{IsReady};
-ghost use Rattle.halfedge_arena.specs.Store.{has_number};
+ghost use Rattle.euler_conditions.specs.Store.{has_number};
 ghost use Rattle.lattice.specs.Ranges.{IsCutPlane};
 ghost use Rattle.cut_places.specs.Walks.{AreIn, AreThere};
 ghost use Rattle.cut_places.specs.Places.{some_touch};
@@ -11,7 +11,7 @@ ghost use Rattle.split_shapes.specs.Places.{is_cut_often, is_place, is_touched, 
 
 use cut_places::{boundary, is_place, loop_items, places, touches};
 use face_walks::face_loops;
-use halfedge_arena::{Arena, HalfEdge, Kind};
+use euler_conditions::{Arena, HalfEdge, Kind};
 use lattice::Plane;
 use std::alloc::{AllocError, Global};
 

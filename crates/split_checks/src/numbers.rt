@@ -6,8 +6,7 @@ ghost use Rattle.euler_operators.specs.Conditions.{first_refusal, verdict};
 ghost use Rattle.shapes.specs.Fresh.{numbers_left, taken_in};
 ghost use Rattle.split_checks.specs.Counters.{AreWithin, taken_of};
 
-use euler_conditions::{Refusal, Why};
-use halfedge_arena::{Arena, Kind};
+use euler_conditions::{Arena, Kind, Refusal, Why};
 
 /// One more than the greatest number. Who wants so many more numbers, or more, finds too few.
 pub(crate) const TOO_MANY: usize = 1_000_001;

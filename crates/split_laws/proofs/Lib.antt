@@ -6,3 +6,5 @@ pub mod Left
 pub mod Flags
 pub mod OldFaces
 pub mod Whole
+pub use Rattle.drawn_splits.proofs.Drawn
+pub use Rattle.drawn_splits.proofs.Solids

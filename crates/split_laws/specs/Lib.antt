@@ -1,2 +1,3 @@
 pub mod SplitOps
 pub mod Laws
+pub use Rattle.drawn_splits.specs.Kept

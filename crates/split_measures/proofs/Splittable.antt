@@ -32,7 +32,7 @@ use Rattle.cut_volumes.proofs.Solids.{in_solid}
 use Rattle.drawn_volumes.specs.Laws.{LiesOnOld}
 use Rattle.drawn_volumes.proofs.Bounds.{OnFace, on_face}
 use Rattle.drawn_volumes.proofs.DrawWhole.{drawn_lies}
-use Rattle.face_sides.proofs.Final.{none_straddles}
+use Rattle.drawn_splits.proofs.Final.{none_straddles}
 use Rattle.opened_sections.specs.InTurn.{halves_in}
 use Rattle.section_volumes.specs.Laws.{LieOn}
 use Rattle.section_volumes.specs.Told.{AllTellAlike}

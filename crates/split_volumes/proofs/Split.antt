@@ -23,7 +23,7 @@ use Rattle.split_shapes.specs.Drawing.{Drawing}
 use Rattle.split_shapes.specs.Section.{is_hole, holes_in, below_halves, section_cycles, has_stray_hole}
 use Rattle.split_shapes.specs.Opening.{Caps, Opening, opened_along, next_opened, all_opened, outer_caps, holes_closed}
 use Rattle.split_shapes.specs.Split.{opened_at, split_drawn}
-use Rattle.opening_laws.proofs.Whole.{opened_sound}
+use Rattle.section_volumes.proofs.Whole.{opened_sound}
 use Rattle.opened_sections.specs.InTurn.{halves_in, upper_faces, CanBeOpenedInTurn}
 use Rattle.opened_sections.specs.Capped.{cap_faces, HasCaps}
 use Rattle.opened_sections.specs.Laws.{OpeningsAreSound}

@@ -7,7 +7,7 @@ use Rattle.boundary_model.specs.Model.{Model, LoopRow, no_loop, content, face_of
 use Rattle.boundary_model.specs.Sound.{Sound, Has}
 use Rattle.boundary_model.proofs.Models.{face_row}
 use Rattle.boundary_model.proofs.Tables.{first_where_zero}
-use Rattle.arena_rows.specs.Store.{IsNextRing}
+use Rattle.euler_conditions.specs.Store.{IsNextRing}
 use Rattle.euler_operators.specs.Conditions.{is_lone, lists}
 use Rattle.euler_laws_shared.proofs.Goes.{equals, no_zero}
 use Rattle.euler_laws_shared.proofs.Rows.{loop_row}

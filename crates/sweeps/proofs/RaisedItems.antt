@@ -14,7 +14,7 @@ use Rattle.boundary_model.proofs.Halves.{half-code}
 use Rattle.boundary_model.specs.Model.{Model, LoopContent, lone, cycle, items_of}
 use Rattle.boundary_model.specs.declared.Content.TheVariants.{Ring}
 use Rattle.boundary_model.specs.Sound.{HasHalf}
-use Rattle.arena_rows.specs.Store.{Tells}
+use Rattle.euler_conditions.specs.Store.{Tells}
 use Rattle.euler_operators.specs.declared.Op.TheVariants.{Mev}
 use Rattle.euler_operators.specs.Conditions.{first_false}
 use Rattle.euler_operators.specs.Effect.{effect}

@@ -13,7 +13,7 @@ use Rattle.boundary_model.specs.HalfEdge.{code}
 use Rattle.boundary_model.specs.Model.{Model, LoopContent, lone, cycle, items_of, content, tail, cycle_of, outer, rings_of}
 use Rattle.boundary_model.specs.Sound.{Sound, HasHalf, StandsIn}
 use Rattle.boundary_model.proofs.Models.{in-holds, cycle_sound}
-use Rattle.arena_rows.specs.Store.{IsNextRing, Tells}
+use Rattle.euler_conditions.specs.Store.{IsNextRing, Tells}
 use Rattle.euler_conditions.proofs.Borders.{ring_has}
 use Rattle.shapes.specs.Faces.{vertices_on, vertices_in, loops_of, corners}
 use Rattle.shapes.specs.Fresh.{first_such}

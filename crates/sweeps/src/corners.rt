@@ -2,14 +2,14 @@
 ghost use Rattle.std.specs.Prelude.{◌≡◌, ◌≤◌, ◌+◌, true, min, cond, nat_eq, map, [], ◌∷◌};
 ghost use Rattle.boundary_model.specs.HalfEdge.{code};
 ghost use Rattle.boundary_model.specs.Model.{has_half, content, cycle_of, tail};
-ghost use Rattle.halfedge_arena.specs.Store.{has_number};
+ghost use Rattle.euler_conditions.specs.Store.{has_number};
 ghost use Rattle.euler_operators.specs.Conditions.{is_lone};
 ghost use Rattle.euler_conditions.specs.Ready.{IsReady};
 ghost use Rattle.shapes.specs.Faces.{corners, least_lone, vertices_on};
 ghost use Rattle.sweeps.specs.Corners.{IsLoneRing, IsTally};
 
 use face_walks::least_item;
-use halfedge_arena::{Arena, Content, HalfEdge, Kind};
+use euler_conditions::{Arena, Content, HalfEdge, Kind};
 use lattice::{Point, sum_in_range};
 
 /// Whether the loop is lone.

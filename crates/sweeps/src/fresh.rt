@@ -6,8 +6,7 @@ ghost use Rattle.euler_conditions.specs.Ready.{IsReady};
 ghost use Rattle.shapes.specs.Fresh.{taken_in, numbers_left};
 ghost use Rattle.sweeps.specs.Counters.{taken_of, AreWithin};
 
-use euler_conditions::{Refusal, Why};
-use halfedge_arena::{Arena, Kind};
+use euler_conditions::{Arena, Kind, Refusal, Why};
 
 /// The greatest number of each kind but solids.
 #[derive(Clone, Copy)]

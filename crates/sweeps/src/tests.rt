@@ -1,7 +1,6 @@
 use super::{block, lamina, sweep};
 use arrayvec::ArrayVec;
-use euler_conditions::{Op, Refusal, Why};
-use halfedge_arena::Kind;
+use euler_conditions::{Kind, Op, Refusal, Why};
 use lattice::Point;
 use std::alloc::Global;
 use std::process::Abort;

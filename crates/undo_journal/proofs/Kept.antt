@@ -4,7 +4,7 @@ use Rattle.std.proofs.Common.{sym, ap, subst, ◌∙◌}
 use Rattle.std.proofs.lemmas.List.{reverse-append}
 use Rattle.boundary_model.specs.Model.{Model, empty_model}
 use Rattle.boundary_model.specs.Sound.{Sound}
-use Rattle.halfedge_arena.specs.Store.{Store, empty_store, HasGrown}
+use Rattle.euler_conditions.specs.Store.{Store, empty_store, HasGrown}
 use Rattle.euler_operators.specs.declared.Op.{Op}
 use Rattle.euler_operators.specs.Conditions.{first_false}
 use Rattle.euler_operators.specs.Effect.{effect, inverse}

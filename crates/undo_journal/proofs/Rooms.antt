@@ -4,7 +4,7 @@ use Rattle.std.proofs.Common.{sym, subst, arith}
 use Rattle.std.proofs.lemmas.List.{reverse-append}
 use Rattle.boundary_model.specs.declared.Kind.{Kind}
 use Rattle.boundary_model.specs.declared.Kind.TheVariants.{Solid, Face, Loop, Edge, Vertex}
-use Rattle.halfedge_arena.specs.Store.{Store}
+use Rattle.euler_conditions.specs.Store.{Store}
 use Rattle.euler_operators.specs.declared.Op.{Op}
 use Rattle.euler_conditions.specs.Ready.{AllRoom, HasRoomFor, made, after}
 use Rattle.undo_journal.specs.declared.record.Record.{Record}

@@ -2,7 +2,7 @@
 use Rattle.std.specs.Prelude.{◌≡◌, ℕ, ◌≤◌, true, List, [], ◌∷◌, ◌++◌, length, take, drop, reverse}
 use Rattle.boundary_model.specs.declared.Kind.{Kind}
 use Rattle.boundary_model.specs.Model.{Model, empty_model}
-use Rattle.halfedge_arena.specs.Store.{Store, has_room}
+use Rattle.euler_conditions.specs.Store.{Store, has_room}
 use Rattle.euler_operators.specs.declared.Op.{Op}
 use Rattle.euler_operators.specs.Effect.{effect, inverse}
 use Rattle.euler_laws.specs.Laws.{effects, AreAccepted}

@@ -8,8 +8,7 @@ ghost use Rattle.euler_operators.specs.declared.Refusal.{Refusal};
 use crate::record::{OpList, Record};
 use crate::session::{Failure, Session};
 use crate::steps::{replay_all, step};
-use euler_conditions::{Op, check};
-use halfedge_arena::Arena;
+use euler_conditions::{Arena, Op, check};
 use std::alloc::{AllocError, Global};
 use std::marker::Model;
 

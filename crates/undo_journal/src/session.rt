@@ -10,8 +10,7 @@ ghost use Rattle.undo_journal.specs.Machine as machine;
 
 use crate::record::{OpList, Record};
 use crate::steps::{replay_all, step};
-use euler_conditions::{Op, Refusal, Why, check};
-use halfedge_arena::Arena;
+use euler_conditions::{Arena, Op, Refusal, Why, check};
 use std::alloc::{AllocError, Global};
 use std::marker::Model;
 

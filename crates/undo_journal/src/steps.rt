@@ -1,14 +1,13 @@
 //! Operators applied in turn.
 ghost use Rattle.std.specs.Prelude.{◌≡◌, [], ◌∷◌, ◌++◌, OnOk, OnErr, None};
-ghost use Rattle.halfedge_arena.specs.Store.{HasGrown};
+ghost use Rattle.euler_conditions.specs.Store.{HasGrown};
 ghost use Rattle.euler_operators.specs.Conditions.{first_false};
 ghost use Rattle.euler_operators.specs.Effect.{inverse};
 ghost use Rattle.euler_laws.specs.Laws.{AreAccepted};
 ghost use Rattle.euler_conditions.specs.Ready.{IsReady};
 ghost use Rattle.undo_journal.specs.Held.{AllHaveRoom, all_after, IsStepped};
 
-use euler_conditions::Op;
-use halfedge_arena::Arena;
+use euler_conditions::{Arena, Op};
 use low_euler::{apply, replay, room_op};
 use std::alloc::{AllocError, Global};
 

@@ -1,6 +1,5 @@
 use super::{Draft, Failure, OpList, Session};
-use euler_conditions::{Op, Refusal, Why};
-use halfedge_arena::{Arena, Corner, HalfEdge, Kind};
+use euler_conditions::{Arena, Corner, HalfEdge, Kind, Op, Refusal, Why};
 use lattice::Point;
 use std::alloc::Global;
 use std::process::Abort;

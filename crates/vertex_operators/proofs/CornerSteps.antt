@@ -13,7 +13,7 @@ use Rattle.euler_operators.specs.declared.Op.TheVariants.{Mev}
 use Rattle.euler_operators.specs.Effect.{effect, mev_at}
 use Rattle.euler_laws_mev.proofs.MevSound.{MevGoes}
 use Rattle.euler_laws_mev.proofs.Mev.{mev_goes}
-use Rattle.halfedge_arena.specs.Store.{Store, put_vertex}
+use Rattle.euler_conditions.specs.Store.{Store, put_vertex}
 use Rattle.euler_conditions.specs.Ready.{Accepts, after}
 use Rattle.vertex_operators.specs.Steps.{IsPlaced, HasLoop, IsAlone, with_edge, put_before, with_tails_at}
 use Rattle.vertex_operators.proofs.StoreSteps.{placed_of, placed-same, loop-same, placed-edge, loops_E, alone-first, alone-second, placed-put, loop-put, alone-put}

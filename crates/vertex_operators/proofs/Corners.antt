@@ -11,7 +11,7 @@ use Rattle.euler_operators.specs.Conditions.{first_false, conditions, lone_verte
 use Rattle.euler_laws_shared.proofs.Goes.{all_hold, equal}
 use Rattle.euler_laws_mev.proofs.Mev.{mixed_first, mixed_second}
 use Rattle.euler_laws_shared.proofs.Rows.{lone_is}
-use Rattle.halfedge_arena.specs.Store.{Store}
+use Rattle.euler_conditions.specs.Store.{Store}
 use Rattle.euler_conditions.specs.Ready.{Accepts, after}
 
 -- two lone loops at one vertex are one

@@ -7,7 +7,7 @@ use Rattle.boundary_model.specs.HalfEdge.{code, half, mate, edge_of, is_first, p
 use Rattle.boundary_model.specs.Table as table
 use Rattle.boundary_model.specs.Table.{Table, tables, same_table}
 use Rattle.boundary_model.proofs.Halves.{code-mate, half-code, plus_row, minus_row}
-use Rattle.halfedge_arena.specs.Store.{Store, put_edge}
+use Rattle.euler_conditions.specs.Store.{Store, put_edge}
 use Rattle.vertex_operators.specs.Steps.{with_edge}
 
 mate_plus : (e : ℕ) → minus e ≡ mate (plus e)

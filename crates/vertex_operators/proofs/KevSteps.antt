@@ -28,7 +28,7 @@ use Rattle.euler_laws_shared.proofs.Rows.{was_empty}
 use Rattle.euler_laws_kev.proofs.KevSound as kill
 use Rattle.euler_laws_shared.proofs.Same.{mapped_some}
 use Rattle.euler_laws_kev.proofs.Kev.{kev_goes}
-use Rattle.halfedge_arena.specs.Store.{Store, take_edge, take_vertex, with_lone}
+use Rattle.euler_conditions.specs.Store.{Store, take_edge, take_vertex, with_lone}
 use Rattle.euler_conditions.specs.Ready.{Accepts, after as after_op}
 use Rattle.vertex_operators.specs.Steps.{IsPlaced, HasLoop, taken_out, with_tails_at}
 use Rattle.vertex_operators.proofs.RingSteps.{from_before}

@@ -23,7 +23,7 @@ use Rattle.euler_laws_shared.proofs.Goes.{equals}
 use Rattle.euler_laws_shared.proofs.Loops.{loop_at}
 use Rattle.euler_laws_mev.proofs.MevLoneSound.{LoneGoes}
 use Rattle.euler_laws_mev.proofs.Mev.{lone_goes}
-use Rattle.halfedge_arena.specs.Store.{Store, put_vertex, fill, with_loop, join, join_loose, join_loops, loose_key, loose_ring}
+use Rattle.euler_conditions.specs.Store.{Store, put_vertex, fill, with_loop, join, join_loose, join_loops, loose_key, loose_ring}
 use Rattle.euler_conditions.specs.Ready.{Accepts, after}
 use Rattle.vertex_operators.proofs.PutRows.{put_twice, put_row, put_other}
 use Rattle.vertex_operators.specs.Steps.{IsPlaced, IsAlone, with_edge}

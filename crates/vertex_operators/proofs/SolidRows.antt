@@ -10,7 +10,7 @@ use Rattle.euler_operators.specs.Conditions.{first_false, conditions, bare_face,
 use Rattle.euler_operators.specs.Effect.{effect, mvfs, kvfs_at, head_or_zero}
 use Rattle.euler_laws_shared.proofs.Goes.{all_hold, not_true}
 use Rattle.euler_laws_faces.proofs.Solids.{KvfsGoes, kvfs_goes}
-use Rattle.halfedge_arena.specs.Store.{Store, put_vertex, put_solid, put_face, put_loop, with_lone, only_item, take_solid, take_face, take_loop, take_vertex}
+use Rattle.euler_conditions.specs.Store.{Store, put_vertex, put_solid, put_face, put_loop, with_lone, only_item, take_solid, take_face, take_loop, take_vertex}
 use Rattle.vertex_operators.proofs.PutRows.{put_twice, put_row}
 use Rattle.euler_conditions.specs.Ready.{Accepts, after}
 

@@ -23,7 +23,7 @@ use Rattle.euler_laws_shared.proofs.Loops.{count_put_there, count_put_none, coun
 use Rattle.euler_laws_shared.proofs.Loops as loops
 use Rattle.euler_laws_shared.proofs.Same.{Rewritten, content-new, face-same}
 use Rattle.euler_laws_shared.proofs.Same as same
-use Rattle.halfedge_arena.specs.Store.{Store, loose_key, loose_ring, loosened, with_loop, join, join_loose, join_loops, cut, cut_loose, clear}
+use Rattle.euler_conditions.specs.Store.{Store, loose_key, loose_ring, loosened, with_loop, join, join_loose, join_loops, cut, cut_loose, clear}
 use Rattle.vertex_operators.specs.Steps.{IsPlaced, HasLoop, IsAlone, with_edge, put_before, taken_out}
 use Rattle.vertex_operators.proofs.RingSteps.{joined_before, cut_keeps, cut_takes, whole_ring, without_whole}
 

@@ -21,7 +21,7 @@ use Rattle.euler_laws_shared.proofs.Fans.{Fan, fan_of, half_mate}
 use Rattle.euler_laws_shared.proofs.Same.{mapped_some}
 use Rattle.euler_laws_mev.proofs.MevSound.{tails_of_row}
 use Rattle.euler_laws_shared.proofs.Arcs.{halves_of_edge, arc_is}
-use Rattle.halfedge_arena.specs.Store.{Store, set_tail}
+use Rattle.euler_conditions.specs.Store.{Store, set_tail}
 use Rattle.vertex_operators.specs.Steps.{with_tails_at}
 use Rattle.vertex_operators.proofs.StoreSteps.{loop_of-same, content-same}
 

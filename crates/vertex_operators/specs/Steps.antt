@@ -8,7 +8,7 @@ use Rattle.boundary_model.specs.Table as table
 use Rattle.boundary_model.specs.Model.{Model, cycle, items_of, content, loop_of}
 use Rattle.boundary_model.specs.Sound.{StandsIn, HasHalf}
 use Rattle.euler_operators.specs.Effect.{edge_row, where_held, with_before, with_tails}
-use Rattle.halfedge_arena.specs.Store.{Store}
+use Rattle.euler_conditions.specs.Store.{Store}
 
 -- loops hold half-edges of edges that are there, each once and in one loop only, and 0 is no loop
 pub record IsPlaced (M : Model) : Type 0 where

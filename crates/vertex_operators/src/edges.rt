@@ -3,8 +3,7 @@ ghost use Rattle.std.specs.Prelude.{◌≡◌};
 ghost use Rattle.euler_conditions.specs.Ready.{Accepts, after};
 
 use crate::steps;
-use euler_conditions::Op;
-use halfedge_arena::{Arena, Corner, HalfEdge};
+use euler_conditions::{Arena, Corner, HalfEdge, Op};
 use lattice::Point;
 
 /// Makes an edge from the vertex of two corners to a new vertex, in one of two ways. At half-edges `half` is put before

@@ -3,8 +3,7 @@ ghost use Rattle.std.specs.Prelude.{◌≡◌};
 ghost use Rattle.euler_conditions.specs.Ready.{Accepts, after};
 
 use crate::steps;
-use euler_conditions::Op;
-use halfedge_arena::Arena;
+use euler_conditions::{Arena, Op};
 use lattice::Point;
 
 /// Makes a solid with one face, whose outer loop is lone at a new vertex. The four numbers are free and have their

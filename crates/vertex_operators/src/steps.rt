@@ -4,11 +4,11 @@ ghost use Rattle.std.specs.Prelude.{◌≡◌, true, false};
 ghost use Rattle.boundary_model.specs.HalfEdge.{code};
 ghost use Rattle.boundary_model.specs.Model.{arc, content, tail};
 ghost use Rattle.boundary_model.specs.Sound.{Sound, HasHalf};
-ghost use Rattle.halfedge_arena.specs.Store.{has_number, has_room};
+ghost use Rattle.euler_conditions.specs.Store.{has_number, has_room};
 ghost use Rattle.euler_operators.specs.Conditions.{is_lone, lone_vertex};
 ghost use Rattle.vertex_operators.specs.Steps.{IsPlaced, HasLoop, IsAlone, with_edge, put_before, taken_out, with_tails_at};
 
-use halfedge_arena::{Arena, Content, HalfEdge, Kind};
+use euler_conditions::{Arena, Content, HalfEdge, Kind};
 
 /// The vertex of loop l, which is there and lone.
 pub(crate) fn lone_vertex(arena: &Arena, l: u32) -> u32

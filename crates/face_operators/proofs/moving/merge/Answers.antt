@@ -2,7 +2,7 @@ use Rattle.std.proofs.Common.{sym, ap, ◌∙◌, is_some, nat_eq}
 use Rattle.boundary_model.specs.Table as table
 use Rattle.boundary_model.specs.Table.{Table}
 use Rattle.boundary_model.specs.Model.{FaceRow}
-use Rattle.arena_rows.specs.Store.{Store, take_solid}
+use Rattle.euler_conditions.specs.Store.{Store, take_solid}
 use Rattle.euler_operators.specs.Conditions.{lists}
 use Rattle.euler_operators.specs.Effect.{effect, merge}
 use Rattle.euler_laws_shared.proofs.Listed.{listed_passes}

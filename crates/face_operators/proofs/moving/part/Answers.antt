@@ -1,6 +1,6 @@
 use Rattle.std.proofs.Common.{ap, ◌∙◌}
 use Rattle.boundary_model.specs.Table as table
-use Rattle.arena_rows.specs.Store.{Store}
+use Rattle.euler_conditions.specs.Store.{Store}
 use Rattle.euler_operators.specs.Effect.{effect, part}
 use Rattle.face_operators.specs.Moving.{moved}
 use Rattle.face_operators.proofs.Handing.{part_has}

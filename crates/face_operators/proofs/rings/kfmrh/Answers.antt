@@ -3,7 +3,7 @@ use Rattle.boundary_model.specs.Table as table
 use Rattle.boundary_model.specs.Table.{Table}
 use Rattle.boundary_model.specs.Model.{LoopRow, outer}
 use Rattle.boundary_model.specs.Sound.{Has}
-use Rattle.arena_rows.specs.Store.{Store, set_face, take_face}
+use Rattle.euler_conditions.specs.Store.{Store, set_face, take_face}
 use Rattle.euler_operators.specs.Effect.{effect, kfmrh}
 use Rattle.face_operators.proofs.Rows.{loop_moved}
 use Rattle.face_operators.proofs.Facts.{kfmrh_has}

@@ -3,7 +3,7 @@ use Rattle.boundary_model.specs.Table as table
 use Rattle.boundary_model.specs.Table.{Table, put}
 use Rattle.boundary_model.specs.Model.{FaceRow, face_of, solid_of}
 use Rattle.boundary_model.specs.Sound.{Has}
-use Rattle.arena_rows.specs.Store.{Store, put_face, set_face}
+use Rattle.euler_conditions.specs.Store.{Store, put_face, set_face}
 use Rattle.euler_operators.specs.Effect.{effect, mfkrh}
 use Rattle.face_operators.proofs.Swaps.{loop_given, face_put}
 use Rattle.face_operators.proofs.Facts.{mfkrh_has}

@@ -2,7 +2,7 @@ use Rattle.std.proofs.Common.{ap, subst, ◌∙◌}
 use Rattle.boundary_model.specs.Table as table
 use Rattle.boundary_model.specs.Model.{face_of, outer}
 use Rattle.boundary_model.specs.Sound.{Has}
-use Rattle.arena_rows.specs.Store.{Store, set_face, set_outer}
+use Rattle.euler_conditions.specs.Store.{Store, set_face, set_outer}
 use Rattle.euler_operators.specs.Effect.{effect, take_outer}
 use Rattle.face_operators.proofs.Facts.{outer_has}
 use Rattle.face_operators.proofs.Swaps.{swapped, face_stays}

@@ -1,6 +1,6 @@
 use Rattle.std.proofs.Common.{ap, ◌∙◌}
 use Rattle.boundary_model.specs.Table as table
-use Rattle.arena_rows.specs.Store.{Store, set_face}
+use Rattle.euler_conditions.specs.Store.{Store, set_face}
 use Rattle.euler_operators.specs.Effect.{effect, ring_out}
 use Rattle.face_operators.proofs.Facts.{ring_out_has}
 use Rattle.face_operators.proofs.Swaps.{swapped, face_stays}

@@ -4,7 +4,7 @@ use Rattle.boundary_model.specs.HalfEdge.{code}
 use Rattle.boundary_model.specs.Model.{content, outer, items_of}
 use Rattle.boundary_model.specs.Sound.{Has, StandsIn}
 use Rattle.boundary_model.proofs.Models.{in-holds}
-use Rattle.arena_rows.specs.Store.{Tells}
+use Rattle.euler_conditions.specs.Store.{Tells}
 use Rattle.glue_checks.proofs.Halves.{ring_in}
 use Rattle.glue_checks.proofs.rims.some_item.Goals as goal
 use Rattle.glue_checks.proofs.rims.some_item.Goals.{In-Ring}

@@ -3,7 +3,7 @@ use Rattle.boundary_model.specs.HalfEdge.{code}
 use Rattle.boundary_model.specs.Table as table
 use Rattle.boundary_model.specs.Model.{has_half, loop_of, content, items_of, face_of, solid_of}
 use Rattle.boundary_model.proofs.Halves.{mate_other, edge_of-code}
-use Rattle.halfedge_arena.specs.Store.{Store, within}
+use Rattle.euler_conditions.specs.Store.{Store, within}
 use Rattle.loop_steps.specs.Steps.{IsStanding, IsLoose}
 use Rattle.loop_operators.proofs.MefSteps as steps
 use Rattle.loop_operators.proofs.faces.mef.Goals as goal

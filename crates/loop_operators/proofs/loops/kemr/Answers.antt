@@ -3,7 +3,7 @@ use Rattle.boundary_model.specs.HalfEdge.{code}
 use Rattle.boundary_model.specs.Table as table
 use Rattle.boundary_model.specs.Model.{has_half, loop_of, content, items_of, face_of}
 use Rattle.boundary_model.proofs.Halves.{mate_other, edge_of-code}
-use Rattle.halfedge_arena.specs.Store.{Store}
+use Rattle.euler_conditions.specs.Store.{Store}
 use Rattle.loop_steps.specs.Steps.{IsStanding}
 use Rattle.loop_operators.proofs.KemrSteps as steps
 use Rattle.loop_operators.proofs.loops.kemr.Goals as goal

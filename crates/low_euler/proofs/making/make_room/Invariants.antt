@@ -1,5 +1,5 @@
 use Rattle.std.specs.Prelude.{take}
-use Rattle.halfedge_arena.specs.Store.{HasGrown}
+use Rattle.euler_conditions.specs.Store.{HasGrown}
 use Rattle.euler_conditions.specs.Ready.{AllRoom}
 use Rattle.low_euler.proofs.making.make_room.Given as goal
 

@@ -2,7 +2,7 @@ use Rattle.std.proofs.Common.{◌≡◌, length, true, false}
 use Rattle.boundary_model.specs.declared.Kind.TheVariants.{Solid}
 use Rattle.boundary_model.specs.Table as table
 use Rattle.boundary_model.specs.Model.{faces_of}
-use Rattle.arena_rows.specs.Store.{has_room, is_face_of}
+use Rattle.euler_conditions.specs.Store.{has_room, is_face_of}
 use Rattle.euler_operators.specs.declared.Op.TheVariants.{Merge}
 use Rattle.euler_conditions.specs.Ready.{after}
 use Rattle.low_euler.proofs.moving.merge.Given as goal

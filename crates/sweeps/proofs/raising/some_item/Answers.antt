@@ -3,7 +3,7 @@ use Rattle.boundary_model.specs.HalfEdge.{code}
 use Rattle.boundary_model.specs.Model.{content, items_of}
 use Rattle.boundary_model.specs.Sound.{StandsIn}
 use Rattle.boundary_model.proofs.Models.{in-holds}
-use Rattle.arena_rows.specs.Store.{Tells}
+use Rattle.euler_conditions.specs.Store.{Tells}
 use Rattle.sweeps.proofs.RaisedItems.{ring_in}
 use Rattle.sweeps.proofs.raising.some_item.Goals as goal
 use Rattle.sweeps.proofs.raising.some_item.Goals.{In-Ring}

@@ -3,7 +3,7 @@ use Rattle.boundary_model.specs.HalfEdge.{code, mate, plus, minus}
 use Rattle.boundary_model.specs.Table as table
 use Rattle.boundary_model.specs.Model.{has_half, tail, loop_of, after, arc, content, items_of}
 use Rattle.boundary_model.specs.Sound.{HasHalf}
-use Rattle.halfedge_arena.specs.Store.{Store, take_edge, take_vertex, with_lone}
+use Rattle.euler_conditions.specs.Store.{Store, take_edge, take_vertex, with_lone}
 use Rattle.vertex_operators.specs.Steps.{IsPlaced, HasLoop, taken_out, with_tails_at}
 use Rattle.vertex_operators.proofs.EdgeSteps.{same_half, other_half}
 use Rattle.vertex_operators.proofs.KevSteps.{A, B, C, G, half_there, mate_there, half_looped, mate_looped, following_there, one_tail, placed_A, half_in, placed_B, mate_in, plus_loose, minus_loose, vertex_there, loop_there, loop_bare, kev_made, kev_lone_made}

@@ -2,7 +2,7 @@ use Rattle.std.proofs.Common.{ap, sym, subst, ◌∙◌, ◌≡◌}
 use Rattle.boundary_model.specs.HalfEdge.{code}
 use Rattle.boundary_model.specs.Table as table
 use Rattle.boundary_model.specs.Model.{tail, arc}
-use Rattle.halfedge_arena.specs.Store.{Store, Room, within, put_vertex}
+use Rattle.euler_conditions.specs.Store.{Store, Room, within, put_vertex}
 use Rattle.vertex_operators.specs.Steps.{IsPlaced, HasLoop, IsAlone, with_edge, put_before}
 use Rattle.vertex_operators.proofs.Tails.{room-tails}
 use Rattle.vertex_operators.proofs.CornerSteps.{V, E, P, from_there, to_there, one_tail, point_fits, number_free, placed_E, from_in, first_alone, placed_P, to_placed, mate_alone, corner_made}

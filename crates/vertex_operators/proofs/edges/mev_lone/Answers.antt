@@ -2,7 +2,7 @@ use Rattle.std.proofs.Common.{ap, sym, ◌∙◌, ◌≡◌}
 use Rattle.boundary_model.specs.HalfEdge.{code}
 use Rattle.boundary_model.specs.Table as table
 use Rattle.boundary_model.specs.Model.{has_half, loop_of, content, items_of}
-use Rattle.halfedge_arena.specs.Store.{Store, fill, join}
+use Rattle.euler_conditions.specs.Store.{Store, fill, join}
 use Rattle.euler_operators.specs.Conditions.{lone_vertex}
 use Rattle.vertex_operators.specs.Steps.{with_edge}
 use Rattle.vertex_operators.proofs.LoneSteps.{E, F, there, is_lone_there, point_fits, edge_free, loop_there, loop_bare, first_alone, filled, half_first, half_second, looped, apart, lone_made}

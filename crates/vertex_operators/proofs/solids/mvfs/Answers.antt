@@ -1,7 +1,7 @@
 use Rattle.std.proofs.Common.{ap, ◌∙◌, ◌≡◌}
 use Rattle.boundary_model.specs.Table as table
 use Rattle.boundary_model.specs.Model.{items_of, content}
-use Rattle.halfedge_arena.specs.Store.{Store, put_solid, put_face, put_loop, with_lone}
+use Rattle.euler_conditions.specs.Store.{Store, put_solid, put_face, put_loop, with_lone}
 use Rattle.vertex_operators.proofs.SolidRows.{begun, mvfs_face_free, mvfs_loop_free, mvfs_point, new_loop_there, new_loop_bare, mvfs_made}
 use Rattle.vertex_operators.proofs.solids.mvfs.Goals as goal
 

@@ -1,7 +1,7 @@
 use Rattle.std.proofs.Common.{ap, sym, ◌∙◌, ◌≡◌}
 use Rattle.boundary_model.specs.HalfEdge.{code}
 use Rattle.boundary_model.specs.Model.{before, has_half, loop_of}
-use Rattle.halfedge_arena.specs.Store.{join}
+use Rattle.euler_conditions.specs.Store.{join}
 use Rattle.vertex_operators.proofs.StoreSteps.{never_zero, before_half, before_loop, join_puts}
 use Rattle.vertex_operators.proofs.steps.put_half.Goals as goal
 

@@ -3,7 +3,7 @@ use Rattle.boundary_model.specs.HalfEdge.{code}
 use Rattle.boundary_model.specs.Table as table
 use Rattle.boundary_model.specs.Model.{before, has_half, loop_of}
 use Rattle.boundary_model.proofs.Models.{held_row}
-use Rattle.halfedge_arena.specs.Store.{clear, cut}
+use Rattle.euler_conditions.specs.Store.{clear, cut}
 use Rattle.vertex_operators.proofs.EdgeSteps.{same_half, other_half}
 use Rattle.vertex_operators.proofs.StoreSteps.{never_zero, before_half, before_loop, clear_takes, cut_takes_out}
 use Rattle.vertex_operators.proofs.steps.take_half.Goals as goal

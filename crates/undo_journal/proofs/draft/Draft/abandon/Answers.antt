@@ -1,6 +1,6 @@
 use Rattle.std.specs.Prelude.{◌≡◌, reverse}
 use Rattle.std.proofs.Common.{sym, subst, ap, ◌∙◌}
-use Rattle.halfedge_arena.specs.Store.{Store}
+use Rattle.euler_conditions.specs.Store.{Store}
 use Rattle.euler_conditions.specs.Ready.{IsReady}
 use Rattle.undo_journal.specs.Held.{AllHaveRoom, IsKept, all_after}
 use Rattle.undo_journal.proofs.Rooms.{ops-reverse}

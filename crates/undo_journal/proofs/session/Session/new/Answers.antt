@@ -1,6 +1,6 @@
 use Rattle.std.specs.Prelude.{List}
 use Rattle.std.proofs.Common.{sym, subst, ap, ◌∙◌}
-use Rattle.halfedge_arena.specs.Store.{Store, empty_store}
+use Rattle.euler_conditions.specs.Store.{Store, empty_store}
 use Rattle.undo_journal.specs.declared.record.Record.{Record}
 use Rattle.undo_journal.specs.Held.{machine_of, IsKept}
 use Rattle.undo_journal.proofs.Kept.{kept_start, machine_start}

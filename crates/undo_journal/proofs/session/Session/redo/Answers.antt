@@ -1,6 +1,6 @@
 use Rattle.std.specs.Prelude.{◌≡◌, ◌+◌, ◌<◌, length}
 use Rattle.std.proofs.Common.{sym, subst, ap, ◌∙◌, arith}
-use Rattle.halfedge_arena.specs.Store.{Store}
+use Rattle.euler_conditions.specs.Store.{Store}
 use Rattle.euler_laws.specs.Laws.{AreAccepted}
 use Rattle.euler_conditions.specs.Ready.{IsReady}
 use Rattle.undo_journal.specs.Held.{machine_of, AllHaveRoom, IsKept, all_after}
