@@ -4,6 +4,7 @@
 
 ghost use Rattle.std.specs.Prelude.{◌≡◌, ◌≤◌};
 ghost use Rattle.boundary_model.specs.HalfEdge.{code, half, mate};
+
 pub use lattice::{Plane, Point};
 
 /// One of the two directions of an edge; `first` is the one that a script writes with a plus.

@@ -7,8 +7,8 @@ ghost use Rattle.euler_conditions.specs.Store.{has_number};
 ghost use Rattle.shapes.specs.Faces.{boundary, items_in};
 ghost use Rattle.cut_places.specs.Walks.{AreIn};
 
-use face_walks::{face_loops, items_from};
 use euler_conditions::{Arena, Content, HalfEdge, Kind};
+use face_walks::{face_loops, items_from};
 use std::alloc::{AllocError, Global};
 
 /// The half-edges of loop l, in the order of listings; none where it is lone.

@@ -13,8 +13,8 @@ ghost use Rattle.split_shapes.specs.Sides.{straddles, straddling_faces};
 
 use crate::halves::starts_at;
 use crate::planes::lies;
-use face_walks::{face_loops, items_from};
 use euler_conditions::{Arena, Content, HalfEdge, Kind};
+use face_walks::{face_loops, items_from};
 use lattice::{Plane, Sign};
 use std::alloc::{AllocError, Global};
 

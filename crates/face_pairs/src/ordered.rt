@@ -11,8 +11,8 @@ ghost use Rattle.place_order.specs.Order.{places_of};
 ghost use Rattle.split_shapes.specs.Places.{in_pairs, place_pairs, up_first};
 
 use cut_places::{goes_up, places};
-use face_drawing::Pair;
 use euler_conditions::{Arena, HalfEdge};
+use face_drawing::Pair;
 use lattice::Plane;
 use place_order::{Places, in_order};
 use std::alloc::{AllocError, Global};

@@ -6,8 +6,8 @@ ghost use Rattle.face_pairs.specs.Paired.{paired, paired_faces};
 
 use crate::ordered::place_pairs;
 use cut_places::straddling;
-use face_drawing::Pair;
 use euler_conditions::Arena;
+use face_drawing::Pair;
 use lattice::Plane;
 use std::alloc::{AllocError, Global};
 

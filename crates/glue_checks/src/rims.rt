@@ -8,8 +8,8 @@ ghost use Rattle.euler_conditions.specs.Store.{has_number};
 ghost use Rattle.glue_shapes.specs.Glue.{outline, rim};
 ghost use Rattle.glue_checks.specs.Rims.{AreThere, starts};
 
-use face_walks::items_from;
 use euler_conditions::{Arena, Content, HalfEdge, Kind};
+use face_walks::items_from;
 use lattice::Point;
 use std::alloc::{AllocError, Global};
 

@@ -6,8 +6,8 @@ ghost use Rattle.undo_journal.specs.Machine.{held, accepted};
 ghost use Rattle.glue_shapes.specs.Glue.{glue_refusal, glue_model};
 
 use crate::joining::join;
-use glue_checks::check_glue;
 use euler_conditions::Arena;
+use glue_checks::check_glue;
 use std::alloc::Global;
 use undo_journal::{Draft, Failure, Session};
 

@@ -10,9 +10,9 @@ ghost use Rattle.shapes.specs.Faces.{start};
 ghost use Rattle.glue_shapes.specs.Glue.{has_repeats, outline, rim};
 ghost use Rattle.gluing.specs.Rims.{item_at};
 
+use euler_conditions::{Arena, HalfEdge, Kind};
 use face_walks::least_item;
 use glue_checks::some_item;
-use euler_conditions::{Arena, HalfEdge, Kind};
 use lattice::Point;
 
 /// The first half-edge of the outer loop of face f, which isn't lone, in the order of listings.

@@ -7,9 +7,9 @@ ghost use Rattle.low_euler.specs.Room.{faces_for};
 use crate::inverse::inverse_of;
 use crate::making::Room;
 use crate::moving;
+use euler_conditions::Arena;
 use euler_operators::Op;
 use face_operators::{kfmrh, merge, mfkrh, outer, part, ring_in, ring_out};
-use euler_conditions::Arena;
 use loop_operators::{kef, kemr, mef, mekr};
 use vertex_operators::{kev, kvfs, mev, mvfs};
 

@@ -8,8 +8,8 @@ ghost use Rattle.low_euler.specs.Room.{faces_for};
 
 use crate::making::Room;
 use crate::reading;
-use euler_operators::Op;
 use euler_conditions::{Arena, Corner, HalfEdge, Kind};
+use euler_operators::Op;
 
 fn kvfs(arena: &Arena, solid: u32) -> Op
     requires ready { IsReady arena.now }

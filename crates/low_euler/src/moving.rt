@@ -3,8 +3,8 @@ ghost use Rattle.std.specs.Prelude.{◌≡◌, IfOk};
 ghost use Rattle.boundary_model.specs.Model.{faces_of};
 ghost use Rattle.euler_conditions.specs.Ready.{IsReady, Accepts, after};
 
-use euler_operators::{FaceList, Op};
 use euler_conditions::{Arena, Kind};
+use euler_operators::{FaceList, Op};
 use std::alloc::{AllocError, Global};
 
 /// The faces of a solid, rising. It looks at these alone.

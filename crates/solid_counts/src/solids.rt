@@ -8,8 +8,8 @@ ghost use Rattle.solid_counts.specs.Sums.{loops_met};
 
 use crate::loops::{face_met, together};
 use crate::{Met, Tally};
-use euler_operators::{Refusal, Why};
 use euler_conditions::{Arena, Kind};
+use euler_operators::{Refusal, Why};
 
 /// Whether the number lies from 1 to the limit.
 fn is_number(n: u32) -> bool

@@ -10,9 +10,9 @@ ghost use Rattle.face_pairs.specs.Paired.{paired};
 ghost use Rattle.solid_drawing.specs.Starts.{FacesThere, PairsThere, faces_started, pair_started, pairs_started};
 
 use cut_places::starts_on;
+use euler_conditions::{Arena, HalfEdge};
 use face_drawing::Pair;
 use face_pairs::FacePairs;
-use euler_conditions::{Arena, HalfEdge};
 use lattice::Plane;
 use std::alloc::{AllocError, Global};
 

@@ -9,8 +9,8 @@ ghost use Rattle.split_shapes.specs.Drawing.{rings_above, with_rings};
 ghost use Rattle.drawing_laws.specs.DrawingOps.{ring_ops};
 
 use cut_places::loop_reaches;
-use face_drawing::move_rings;
 use euler_conditions::{Arena, Kind};
+use face_drawing::move_rings;
 use lattice::{Plane, Sign};
 use std::alloc::{AllocError, Global};
 use undo_journal::Draft;

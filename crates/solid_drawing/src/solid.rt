@@ -11,9 +11,9 @@ ghost use Rattle.solid_drawing.specs.Drawn.{CanDrawFaces, faces_between, put_asi
 use crate::face::draw_face;
 use crate::places::faces_started;
 use edge_cutting::cut_edges;
+use euler_conditions::{Arena, Kind};
 use face_drawing::Progress;
 use face_pairs::{FacePairs, face_pairs};
-use euler_conditions::{Arena, Kind};
 use lattice::Plane;
 use std::alloc::{AllocError, Global};
 use undo_journal::Draft;

@@ -10,8 +10,8 @@ use crate::caps::Caps;
 use crate::copies::raise_copies;
 use crate::joinings::make_caps;
 use crate::strips::cut_strips;
-use face_drawing::Progress;
 use euler_conditions::HalfEdge;
+use face_drawing::Progress;
 use std::alloc::AllocError;
 use undo_journal::Draft;
 

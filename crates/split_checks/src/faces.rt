@@ -10,8 +10,8 @@ ghost use Rattle.cut_places.specs.Places.{some_touch};
 ghost use Rattle.split_shapes.specs.Places.{is_cut_often, is_place, is_touched, loop_is_cut};
 
 use cut_places::{boundary, is_place, loop_items, places, touches};
-use face_walks::face_loops;
 use euler_conditions::{Arena, HalfEdge, Kind};
+use face_walks::face_loops;
 use lattice::Plane;
 use std::alloc::{AllocError, Global};
 

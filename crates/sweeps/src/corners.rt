@@ -8,8 +8,8 @@ ghost use Rattle.euler_conditions.specs.Ready.{IsReady};
 ghost use Rattle.shapes.specs.Faces.{corners, least_lone, vertices_on};
 ghost use Rattle.sweeps.specs.Corners.{IsLoneRing, IsTally};
 
-use face_walks::least_item;
 use euler_conditions::{Arena, Content, HalfEdge, Kind};
+use face_walks::least_item;
 use lattice::{Point, sum_in_range};
 
 /// Whether the loop is lone.
