@@ -1,4 +1,3 @@
 mod Sorted
 mod Halves
 pub mod Remaining
-pub use Rattle.cut_places.proofs.Lists

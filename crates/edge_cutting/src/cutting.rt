@@ -15,7 +15,6 @@ ghost use Rattle.edge_cutting.specs.Begins.{CanBeCut};
 
 use crate::fresh::{fresh_edge, fresh_vertex};
 use crate::rising::rising_crossings;
-use crate::steps::take;
 use cut_places::crossing_point;
 use euler_conditions::{Arena, Corner, HalfEdge, Op};
 use lattice::Plane;
@@ -63,10 +62,7 @@ fn cut_edge(draft: &mut Draft, plane: Plane, e: u32) -> Result<(), AllocError>
     let edge = plus(fresh_edge(arena));
     let vertex = fresh_vertex(arena);
     let point = crossing_point(arena, plane, first);
-    take(
-        draft,
-        Op::Mev(Corner::At(first), Corner::At(next), edge, vertex, point),
-    )
+    draft.step_accepted(Op::Mev(Corner::At(first), Corner::At(next), edge, vertex, point))
 }
 
 /// Cuts each edge of solid s that crosses the plane where it meets it, from the least edge to the greatest: the first rewriting of

@@ -4,7 +4,5 @@
 mod cutting;
 mod fresh;
 mod rising;
-mod steps;
 
 pub use cutting::cut_edges;
-pub use steps::take;

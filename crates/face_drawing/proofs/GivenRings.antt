@@ -7,7 +7,7 @@ use Rattle.euler_operators.specs.Conditions.{first_false, has_rings, is_empty}
 use Rattle.euler_operators.specs.Effect.{effect}
 use Rattle.euler_laws.specs.Laws.{AreAccepted, effects}
 use Rattle.drawing_laws.specs.DrawingOps.{ring_ops}
-use Rattle.edge_cutting.proofs.Lists.{others, parts}
+use Rattle.cut_places.proofs.Lists.{others, parts}
 
 -- with more than one pair a face that has a ring can't be drawn
 module _ (M : Model) (f n : ℕ) where

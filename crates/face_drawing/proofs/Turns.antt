@@ -6,7 +6,7 @@ use Rattle.euler_operators.specs.Conditions.{first_false}
 use Rattle.euler_operators.specs.Effect.{effect}
 use Rattle.split_shapes.specs.Drawing.{Drawing, in_one_loop, join_next, draw_next}
 use Rattle.drawing_laws.specs.DrawingOps.{join_pair, draw_pair}
-use Rattle.edge_cutting.proofs.Lists.{others, parts}
+use Rattle.cut_places.proofs.Lists.{others, parts}
 use Rattle.face_drawing.specs.declared.pairs.Pair.{Pair}
 use Rattle.face_drawing.specs.declared.progress.Progress.{Progress}
 use Rattle.face_drawing.specs.Codes.{codes, taken_of, drawing_of, stuck_at}

@@ -9,7 +9,6 @@ ghost use Rattle.face_drawing.specs.Passes.{CanDraw};
 
 use crate::pairs::{Pair, in_one_loop};
 use crate::progress::Progress;
-use edge_cutting::take;
 use euler_conditions::{HalfEdge, Op};
 use std::alloc::AllocError;
 use undo_journal::Draft;
@@ -28,16 +27,13 @@ fn draw_pair(draft: &mut Draft, progress: Progress, pair: Pair) -> Result<Progre
         edge: progress.edges + 1,
         first: true,
     };
-    take(
-        draft,
-        Op::Mef(
-            pair.up,
-            pair.down,
-            made,
-            progress.faces + 1,
-            progress.loops + 1,
-        ),
-    )?;
+    draft.step_accepted(Op::Mef(
+        pair.up,
+        pair.down,
+        made,
+        progress.faces + 1,
+        progress.loops + 1,
+    ))?;
     Ok(Progress {
         faces: progress.faces + 1,
         loops: progress.loops + 1,

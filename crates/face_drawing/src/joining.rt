@@ -11,7 +11,6 @@ ghost use Rattle.face_drawing.specs.Passes.{CanJoin};
 
 use crate::pairs::{Pair, in_one_loop, join_op};
 use crate::progress::Progress;
-use edge_cutting::take;
 use std::alloc::{AllocError, Global};
 use undo_journal::Draft;
 
@@ -25,7 +24,7 @@ fn join_pair(draft: &mut Draft, progress: Progress, pair: Pair) -> Result<Progre
     ensures err { OnErr result (draft.new ≡ draft.old) }
 {
     let op = join_op(draft.arena(), pair, progress.edges + 1);
-    take(draft, op)?;
+    draft.step_accepted(op)?;
     Ok(Progress {
         edges: progress.edges + 1,
         ..progress

@@ -8,7 +8,6 @@ ghost use Rattle.face_drawing.specs.Codes.{stuck_at};
 
 use crate::drawing::stuck_at;
 use crate::progress::Progress;
-use edge_cutting::take;
 use euler_conditions::{Arena, Kind, Op};
 use std::alloc::AllocError;
 use undo_journal::Draft;
@@ -34,7 +33,7 @@ pub fn move_rings(draft: &mut Draft, rings: &[u32], k: u32) -> Result<(), AllocE
 {
     let mut rest = rings;
     'rings: while let [l, others @ ..] = rest {
-        take(draft, Op::RingIn(*l, k))?;
+        draft.step_accepted(Op::RingIn(*l, k))?;
         rest = others;
     }
     Ok(())

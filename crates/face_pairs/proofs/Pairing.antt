@@ -14,7 +14,7 @@ use Rattle.crossing_laws.proofs.Whole.{can_cut}
 use Rattle.cut_places.specs.Crossings.{is_off}
 use Rattle.cut_places.specs.Places.{AreWholeFaces}
 use Rattle.cut_places.proofs.Edges.{straddling_whole}
-use Rattle.face_drawing.specs.Begins.{CanBeCut}
+use Rattle.edge_cutting.specs.Begins.{CanBeCut}
 use Rattle.face_pairs.specs.Paired.{AllCanBePaired}
 
 -- a search among items of which none passes

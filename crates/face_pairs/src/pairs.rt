@@ -1,7 +1,7 @@
 //! The faces that straddle a plane, with the pairs of their cut places.
 ghost use Rattle.std.specs.Prelude.{◌≡◌, map, IfOk};
 ghost use Rattle.euler_conditions.specs.Ready.{IsReady};
-ghost use Rattle.face_drawing.specs.Begins.{CanBeCut};
+ghost use Rattle.edge_cutting.specs.Begins.{CanBeCut};
 ghost use Rattle.face_pairs.specs.Paired.{paired, paired_faces};
 
 use crate::ordered::place_pairs;

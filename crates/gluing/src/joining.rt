@@ -11,7 +11,6 @@ ghost use Rattle.glue_shapes.specs.Glue.{glue_model, glue_refusal};
 ghost use Rattle.glue_shapes.specs.GlueOps.{closing, fresh_edge, opening};
 
 use crate::rims::{first_item, item_at};
-use crate::steps::take;
 use euler_conditions::{Arena, Corner, HalfEdge, Kind, Op};
 use std::alloc::AllocError;
 use undo_journal::Draft;
@@ -88,13 +87,10 @@ fn open_seam(
 {
     let solid = draft.arena().solid_of(f);
     let other = draft.arena().solid_of(g);
-    take(draft, Op::Merge(solid, other))?;
-    take(draft, Op::Kfmrh(f, g))?;
-    take(
-        draft,
-        Op::Mekr(Corner::At(first), Corner::At(partner), plus(edge)),
-    )?;
-    take(draft, Op::Kev(plus(edge)))
+    draft.step_accepted(Op::Merge(solid, other))?;
+    draft.step_accepted(Op::Kfmrh(f, g))?;
+    draft.step_accepted(Op::Mekr(Corner::At(first), Corner::At(partner), plus(edge)))?;
+    draft.step_accepted(Op::Kev(plus(edge)))
 }
 
 /// Glues the item between its partner and the next item: both get a loop of their own, then their ends become one, and then the
@@ -109,12 +105,9 @@ fn close_item(
     ensures ok { OnOk result (draft.new ≡ record draft.old { model = effects draft.old.model (closing (code partner) (code next) spare.edge spare.face spare.ring) }) }
     ensures err { OnErr result (draft.new.session ≡ draft.old.session) }
 {
-    take(
-        draft,
-        Op::Mef(partner, next, plus(spare.edge), spare.face, spare.ring),
-    )?;
-    take(draft, Op::Kev(minus(spare.edge)))?;
-    take(draft, Op::Kef(partner.mate()))
+    draft.step_accepted(Op::Mef(partner, next, plus(spare.edge), spare.face, spare.ring))?;
+    draft.step_accepted(Op::Kev(minus(spare.edge)))?;
+    draft.step_accepted(Op::Kef(partner.mate()))
 }
 
 /// Glues face g of the draft's model to face f, where that isn't refused. On `AllocError` the draft may have taken some steps.
@@ -136,7 +129,7 @@ pub(crate) fn join(draft: &mut Draft, f: u32, g: u32) -> Result<(), AllocError>
     'items: loop {
         let (partner, next) = neighbours(draft.arena(), item);
         if next == partner {
-            return take(draft, Op::Kef(partner.mate()));
+            return draft.step_accepted(Op::Kef(partner.mate()));
         }
         close_item(draft, partner, next, spare)?;
         item = next;

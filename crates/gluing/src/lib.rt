@@ -4,7 +4,6 @@
 mod command;
 mod joining;
 mod rims;
-mod steps;
 #[cfg(test)]
 mod tests;
 

@@ -10,7 +10,6 @@ ghost use Rattle.strip_laws.specs.StripOps as ops;
 ghost use Rattle.solid_opening.specs.Stages.{AreStripped};
 
 use crate::halves::{minus, plus, start};
-use edge_cutting::take;
 use euler_conditions::{Corner, HalfEdge, Op};
 use face_drawing::Progress;
 use std::alloc::AllocError;
@@ -45,16 +44,13 @@ fn raise_copy(
     let before = halves[place_before(count, i) as usize].mate();
     let riser = plus(from.edges + count + i + 1);
     let point = start(draft.arena(), halves[i as usize]);
-    take(
-        draft,
-        Op::Mev(
-            Corner::At(back),
-            Corner::At(before),
-            riser,
-            from.vertices + i + 1,
-            point,
-        ),
-    )
+    draft.step_accepted(Op::Mev(
+        Corner::At(back),
+        Corner::At(before),
+        riser,
+        from.vertices + i + 1,
+        point,
+    ))
 }
 
 /// Raises a copy of each vertex of a cycle whose strips are cut off, with the numbers after those that the strips took. On

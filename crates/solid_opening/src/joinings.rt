@@ -5,7 +5,6 @@ ghost use Rattle.face_drawing.specs.Codes.{taken_of};
 ghost use Rattle.cap_laws.specs.CapOps.{cap_ops, joinings};
 
 use crate::halves::{minus, plus};
-use edge_cutting::take;
 use euler_conditions::Op;
 use face_drawing::Progress;
 use std::alloc::AllocError;
@@ -24,7 +23,7 @@ fn join_strips(draft: &mut Draft, from: &Progress, count: u32) -> Result<(), All
     let mut riser = from.edges + count + 1;
     'risers: while riser < last {
         riser += 1;
-        take(draft, Op::Kef(minus(riser)))?;
+        draft.step_accepted(Op::Kef(minus(riser)))?;
     }
     Ok(())
 }
@@ -41,6 +40,6 @@ pub(crate) fn make_caps(draft: &mut Draft, from: &Progress, count: u32) -> Resul
 {
     join_strips(draft, from, count)?;
     let ring = from.loops + count + 1;
-    take(draft, Op::Kemr(plus(from.edges + count + 1), ring))?;
-    take(draft, Op::Mfkrh(ring, from.faces + count + 1))
+    draft.step_accepted(Op::Kemr(plus(from.edges + count + 1), ring))?;
+    draft.step_accepted(Op::Mfkrh(ring, from.faces + count + 1))
 }

@@ -8,7 +8,6 @@ ghost use Rattle.solid_opening.specs.Capped.{all_caps, caps_of};
 ghost use Rattle.solid_opening.specs.Closing.{holes_ops, outer_uppers};
 
 use crate::caps::Caps;
-use edge_cutting::take;
 use euler_conditions::{FaceList, Op};
 use std::alloc::{AllocError, Global};
 use undo_journal::Draft;
@@ -37,8 +36,8 @@ fn close_hole(draft: &mut Draft, outer: Caps, hole: Caps) -> Result<(), AllocErr
     ensures ok { OnOk result (draft.new ≡ record draft.old { model = effects draft.old.model (Kfmrh outer.lower hole.lower ∷ Kfmrh outer.upper hole.upper ∷ []) }) }
     ensures session { draft.new.session ≡ draft.old.session }
 {
-    take(draft, Op::Kfmrh(outer.lower, hole.lower))?;
-    take(draft, Op::Kfmrh(outer.upper, hole.upper))
+    draft.step_accepted(Op::Kfmrh(outer.lower, hole.lower))?;
+    draft.step_accepted(Op::Kfmrh(outer.upper, hole.upper))
 }
 
 /// Makes the caps of each hole rings of the outer caps, where each of these operators is accepted in its turn. On `AllocError` some
@@ -102,5 +101,5 @@ pub fn part_upper(
     close_holes(draft, outer_caps(caps), caps)?;
     let mut faces = listed(alloc, above)?;
     push_outer(&mut faces, caps)?;
-    take(draft, Op::Part(s, t, faces))
+    draft.step_accepted(Op::Part(s, t, faces))
 }

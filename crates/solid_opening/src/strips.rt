@@ -10,7 +10,6 @@ ghost use Rattle.strip_laws.specs.StripOps as ops;
 ghost use Rattle.solid_opening.specs.Stages.{CanOpen};
 
 use crate::halves::{next_item, plus};
-use edge_cutting::take;
 use euler_conditions::{HalfEdge, Op};
 use face_drawing::Progress;
 use std::alloc::AllocError;
@@ -35,10 +34,7 @@ fn cut_strip(
     let mate = halves[i as usize].mate();
     let next = next_item(draft.arena(), mate);
     let edge = plus(from.edges + i + 1);
-    take(
-        draft,
-        Op::Mef(mate, next, edge, from.faces + i + 1, from.loops + i + 1),
-    )
+    draft.step_accepted(Op::Mef(mate, next, edge, from.faces + i + 1, from.loops + i + 1))
 }
 
 /// Cuts a strip off above each edge of a cycle along which solid s can be opened, with the numbers after those taken. On

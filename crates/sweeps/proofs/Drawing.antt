@@ -1,6 +1,6 @@
 -- A draft in which a lamina is being drawn.
 use Rattle.std.specs.Prelude.{length, get_or, ◌-◌}
-use Rattle.std.proofs.Common.{◌≡◌, ℕ, suc, ◌+◌, ◌≤◌, ◌<◌, List, Option, Some, None, Ok, is_some, true≢false, refl, sym, ap, subst, ◌∙◌, arith}
+use Rattle.std.proofs.Common.{◌≡◌, ℕ, suc, ◌+◌, ◌≤◌, ◌<◌, List, Option, Some, None, Ok, refl, sym, ap, subst, ◌∙◌, arith}
 use Rattle.lattice.specs.declared.Point.{Point}
 use Rattle.boundary_model.specs.declared.HalfEdge.{HalfEdge}
 use Rattle.boundary_model.specs.declared.Corner.{Corner}
@@ -28,10 +28,6 @@ begun M N k s ps qs same sound is alike e = subst (λ c. Goes M c s qs (length q
 pub passed : (o : Option Refusal) (u : Unit {0}) → verdict o ≡ Ok u → o ≡ None
 passed None u e = refl
 passed (Some r) u e = cc
-
--- an accepted step isn't refused
-pub not_refused : (o : Option Refusal) (r : Refusal) → o ≡ None → o ≡ Some r → ⊥
-not_refused o r n s = true≢false (sym (ap is_some s) ∙ ap is_some n)
 
 -- a path on its way: as it stands before edge i is drawn
 pub record Along (M : Model) (c : Taken) (s : ℕ) (ps : List Point) (i : ℕ) (N : Model) (end : Corner) : Type 0 where

@@ -12,7 +12,6 @@ ghost use Rattle.shapes.specs.Lamina.{lamina_refusal, lamina_model};
 ghost use Rattle.shapes.specs.Lamina as spec;
 
 use crate::fresh::{check_left, counters_of, refused};
-use crate::steps::take;
 use arrayvec::ArrayVec;
 use euler_conditions::{Arena, Corner, HalfEdge, Kind, Op, Refusal, Why};
 use lattice::{Point, point_in_range};
@@ -129,37 +128,31 @@ pub(crate) fn draw_lamina(
     let taken = counters_of(draft.arena());
     let corners = points.as_slice();
     let first = point_at(corners, 0);
-    take(
-        draft,
-        Op::Mvfs(
-            solid,
-            taken.faces + 1,
-            taken.loops + 1,
-            taken.vertices + 1,
-            first,
-        ),
-    )?;
+    draft.step_accepted(Op::Mvfs(
+        solid,
+        taken.faces + 1,
+        taken.loops + 1,
+        taken.vertices + 1,
+        first,
+    ))?;
     let mut end = Corner::Lone(taken.loops + 1);
     'further: for i in 1..corners.len() {
         let edge = taken.edges + i as u32;
         let vertex = taken.vertices + 1 + i as u32;
         let next = point_at(corners, i);
-        take(draft, Op::Mev(end, end, first_half(edge), vertex, next))?;
+        draft.step_accepted(Op::Mev(end, end, first_half(edge), vertex, next))?;
         end = Corner::At(second_half(edge));
     }
     let last = taken.edges + corners.len() as u32;
     let turn = second_half(last - 1);
     let start = first_half(taken.edges + 1);
-    take(
-        draft,
-        Op::Mef(
-            turn,
-            start,
-            first_half(last),
-            taken.faces + 2,
-            taken.loops + 2,
-        ),
-    )
+    draft.step_accepted(Op::Mef(
+        turn,
+        start,
+        first_half(last),
+        taken.faces + 2,
+        taken.loops + 2,
+    ))
 }
 
 /// A lamina as one command: the new solid with a ring of new edges through the points, at least 3 and all different, and a face

@@ -6,7 +6,6 @@ mod corners;
 mod fresh;
 mod laminas;
 mod raising;
-mod steps;
 mod sweeping;
 #[cfg(test)]
 mod tests;

@@ -18,7 +18,6 @@ ghost use Rattle.prism_laws.proofs.Sides.{Ready};
 ghost use Rattle.sweeps.specs.Counters.{taken_of};
 
 use crate::fresh::{Counters, counters_of};
-use crate::steps::take;
 use euler_conditions::{Arena, Content, Corner, HalfEdge, Kind, Op};
 use face_walks::{face_loops, items_from};
 use lattice::{Point, sum};
@@ -108,10 +107,7 @@ fn raise_item(
     let top = sum(arena.point(arena.tail(item)), d);
     let edge = plus(riser(taken, i));
     let vertex = taken.vertices + 1 + i;
-    take(
-        draft,
-        Op::Mev(Corner::At(item), Corner::At(item), edge, vertex, top),
-    )
+    draft.step_accepted(Op::Mev(Corner::At(item), Corner::At(item), edge, vertex, top))
 }
 
 /// Closes the side over item i of a loop, between the edges that rise at it and at the next.
@@ -127,10 +123,7 @@ fn close_side(draft: &mut Draft, taken: &Counters, count: u32, i: u32) -> Result
     let from = minus(riser(taken, i));
     let to = minus(riser(taken, i + 1));
     let top = plus(top_edge(taken, count, i));
-    take(
-        draft,
-        Op::Mef(from, to, top, taken.faces + 1 + i, taken.loops + 1 + i),
-    )
+    draft.step_accepted(Op::Mef(from, to, top, taken.faces + 1 + i, taken.loops + 1 + i))
 }
 
 /// Closes the side over the last item of a loop, up to the first top edge.
@@ -147,16 +140,13 @@ fn close_last(draft: &mut Draft, taken: &Counters, count: u32) -> Result<(), All
     let from = minus(riser(taken, last));
     let to = plus(top_edge(taken, count, 0));
     let top = plus(top_edge(taken, count, last));
-    take(
-        draft,
-        Op::Mef(
-            from,
-            to,
-            top,
-            taken.faces + 1 + last,
-            taken.loops + 1 + last,
-        ),
-    )
+    draft.step_accepted(Op::Mef(
+        from,
+        to,
+        top,
+        taken.faces + 1 + last,
+        taken.loops + 1 + last,
+    ))
 }
 
 /// Sweeps loop l and answers how many items it had.

@@ -75,8 +75,9 @@ impl Draft {
         &self.arena
     }
 
-    /// Applies an operator that is accepted, after it has taken the memory for it and for its inverse.
-    fn accept(&mut self, op: Op) -> Result<(), AllocError>
+    /// One operator that is accepted, as a step: its conditions aren't tested. All memory for it and for its inverse is taken before
+    /// the change. Where memory is refused nothing has changed, and the draft goes on.
+    pub fn step_accepted(&mut self, op: Op) -> Result<(), AllocError>
         requires { first_false self.old.model op ≡ None }
         ensures ok { OnOk result (self.new ≡ draft_step self.old op) }
         ensures err { OnErr result (self.new ≡ self.old) }
@@ -100,7 +101,7 @@ impl Draft {
         if let Err(refusal) = check(self.arena(), &op) {
             return Err(Failure::Refused(refusal));
         }
-        match self.accept(op) {
+        match self.step_accepted(op) {
             Ok(()) => Ok(()),
             Err(error) => Err(Failure::Memory(error)),
         }

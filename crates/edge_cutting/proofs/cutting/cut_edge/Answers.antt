@@ -23,8 +23,8 @@ crossing_point-point-requires-clause-crossing c = first_crosses c.arena-arena.re
 pub crossing_point-point-requires-clause-whole : goal.crossing_point-point-requires-clause-whole
 crossing_point-point-requires-clause-whole c = first_whole c.arena-arena.result.now.model c.args.plane c.args.e c.plus-first.result c.plus-first.ensures (ap (λ X. is_off X c.args.plane c.args.e) c.arena-arena.ensures.model ∙ c.requires.whole)
 
-pub take-requires : goal.take-requires
-take-requires c = ap (first_false c.args.draft.now.model) (same_cut c.args.draft.now.model c.args.plane c.args.e c.plus-first.result c.next_item-next.result c.plus-edge.result c.fresh_vertex-vertex.result c.crossing_point-point.result
+pub step_accepted-requires : goal.step_accepted-requires
+step_accepted-requires c = ap (first_false c.args.draft.now.model) (same_cut c.args.draft.now.model c.args.plane c.args.e c.plus-first.result c.next_item-next.result c.plus-edge.result c.fresh_vertex-vertex.result c.crossing_point-point.result
     c.plus-first.ensures
     (c.next_item-next.ensures ∙ (λ i. after (c.arena-arena.ensures.model i) (minus_code c.args.draft.now.model c.args.plane c.args.e c.minus.result c.minus.ensures i)))
     (c.plus-edge.ensures ∙ ap (λ n. half (plus n)) (c.fresh_edge.ensures ∙ ap (λ X. (taken_in X).edge + 1) c.arena-arena.ensures.model))
@@ -32,9 +32,9 @@ take-requires c = ap (first_false c.args.draft.now.model) (same_cut c.args.draft
     (c.crossing_point-point.ensures ∙ (λ i. let h = plus_code c.args.draft.now.model c.args.plane c.args.e c.plus-first.result c.plus-first.ensures i in cut_between c.args.plane (start (c.arena-arena.ensures.model i) h) (finish (c.arena-arena.ensures.model i) h)))) ∙ c.requires.accepted
 
 pub returns-clause-ok : goal.returns-clause-ok
-returns-clause-ok c = subst (λ op. OnOk c.take.result (c.take.new.draft ≡ draft_step c.args.draft.now op)) (same_cut c.args.draft.now.model c.args.plane c.args.e c.plus-first.result c.next_item-next.result c.plus-edge.result c.fresh_vertex-vertex.result c.crossing_point-point.result
+returns-clause-ok c = subst (λ op. OnOk c.step_accepted.result (c.step_accepted.new.self ≡ draft_step c.args.draft.now op)) (same_cut c.args.draft.now.model c.args.plane c.args.e c.plus-first.result c.next_item-next.result c.plus-edge.result c.fresh_vertex-vertex.result c.crossing_point-point.result
     c.plus-first.ensures
     (c.next_item-next.ensures ∙ (λ i. after (c.arena-arena.ensures.model i) (minus_code c.args.draft.now.model c.args.plane c.args.e c.minus.result c.minus.ensures i)))
     (c.plus-edge.ensures ∙ ap (λ n. half (plus n)) (c.fresh_edge.ensures ∙ ap (λ X. (taken_in X).edge + 1) c.arena-arena.ensures.model))
     (c.fresh_vertex-vertex.ensures ∙ ap (λ X. (taken_in X).vertex + 1) c.arena-arena.ensures.model)
-    (c.crossing_point-point.ensures ∙ (λ i. let h = plus_code c.args.draft.now.model c.args.plane c.args.e c.plus-first.result c.plus-first.ensures i in cut_between c.args.plane (start (c.arena-arena.ensures.model i) h) (finish (c.arena-arena.ensures.model i) h)))) c.take.ensures.ok
+    (c.crossing_point-point.ensures ∙ (λ i. let h = plus_code c.args.draft.now.model c.args.plane c.args.e c.plus-first.result c.plus-first.ensures i in cut_between c.args.plane (start (c.arena-arena.ensures.model i) h) (finish (c.arena-arena.ensures.model i) h)))) c.step_accepted.ensures.ok

@@ -4,8 +4,8 @@ use Rattle.undo_journal.specs.Machine.{draft_step}
 use Rattle.face_drawing.proofs.PairOps.{draw_op}
 use Rattle.face_drawing.proofs.drawing.draw_pair.Goals as goal
 
-pub take-requires : goal.take-requires
-take-requires c = ap (first_false c.args.draft.now.model) (draw_op c.args.progress c.args.pair) ∙ c.requires.accepted
+pub step_accepted-requires : goal.step_accepted-requires
+step_accepted-requires c = ap (first_false c.args.draft.now.model) (draw_op c.args.progress c.args.pair) ∙ c.requires.accepted
 
 pub returns-clause-ok : goal.returns-clause-ok
-returns-clause-ok c = c.in_ok-take.ensures.ok ∙ ap (draft_step c.args.draft.now) (draw_op c.args.progress c.args.pair)
+returns-clause-ok c = c.in_ok-step_accepted.ensures.ok ∙ ap (draft_step c.args.draft.now) (draw_op c.args.progress c.args.pair)

@@ -3,14 +3,14 @@ use Rattle.undo_journal.specs.Machine.{DraftState}
 use Rattle.face_drawing.proofs.GivenRings.{ring_goes, rings_go, rings_made}
 use Rattle.face_drawing.proofs.rings.move_rings.Goals as goal
 
-pub take-requires : goal.take-requires
-take-requires c = ring_goes c.rings.draft.model c.args.k c.rings.rest.now _ c.in-len1-up.len_at_least c.rings.invariant.accepted
+pub step_accepted-requires : goal.step_accepted-requires
+step_accepted-requires c = ring_goes c.rings.draft.model c.args.k c.rings.rest.now _ c.in-len1-up.len_at_least c.rings.invariant.accepted
 
 pub rings-preserved : goal.rings-preserved
 rings-preserved c =
-    let is = ap (λ (d : DraftState). d.model) c.in_ok-take.ensures.ok in
+    let is = ap (λ (d : DraftState). d.model) c.in_ok-step_accepted.ensures.ok in
     record {
-      accepted = rings_go c.rings.draft.model c.args.k c.rings.rest.now _ c.in-len1-up.len_at_least c.rings.invariant.accepted c.take.new.draft.model is;
-      made = rings_made c.rings.draft.model c.args.k c.rings.rest.now _ c.in-len1-up.len_at_least c.rings.invariant.accepted c.take.new.draft.model is ∙ c.rings.invariant.made;
-      session = ap (λ (d : DraftState). d.session) c.in_ok-take.ensures.ok ∙ c.rings.invariant.session;
+      accepted = rings_go c.rings.draft.model c.args.k c.rings.rest.now _ c.in-len1-up.len_at_least c.rings.invariant.accepted c.step_accepted.new.self.model is;
+      made = rings_made c.rings.draft.model c.args.k c.rings.rest.now _ c.in-len1-up.len_at_least c.rings.invariant.accepted c.step_accepted.new.self.model is ∙ c.rings.invariant.made;
+      session = ap (λ (d : DraftState). d.session) c.in_ok-step_accepted.ensures.ok ∙ c.rings.invariant.session;
     }

@@ -1,5 +1,5 @@
 use Rattle.std.proofs.Common.{◌∙◌, ℕ, List, ◌++◌, map, sym, ap, subst}
-use Rattle.face_drawing.proofs.Remaining.{cut_plane}
+use Rattle.edge_cutting.proofs.Remaining.{cut_plane}
 use Rattle.face_pairs.specs.Paired.{AllCanBePaired, paired, pairs_in}
 use Rattle.face_pairs.proofs.Pairing.{can_be_paired}
 use Rattle.face_pairs.proofs.pairs.face_pairs.Goals as goal

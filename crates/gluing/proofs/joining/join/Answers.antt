@@ -78,8 +78,8 @@ items-init c =
 pub neighbours-requires-clause-there : goal.neighbours-requires-clause-there
 neighbours-requires-clause-there c = subst (λ X. HasHalf X (code c.items.item)) (sym c.arena.ensures.model) (joined.item_there _ _ _ _ _ c.items.invariant.joining)
 
-pub take-requires : goal.take-requires
-take-requires c =
+pub step_accepted-requires : goal.step_accepted-requires
+step_accepted-requires c =
     let previous = c.neighbours.ensures.previous ∙ ap (λ X. before X (code c.items.item)) c.arena.ensures.model in
     let next = c.neighbours.ensures.next ∙ ap (λ X. after X (code c.items.item)) c.arena.ensures.model in
     let same = codes_same c.neighbours.result.1 c.neighbours.result.0 (sym c.eq.ensures ∙ c.if-eq.true) in
@@ -92,10 +92,10 @@ returns-then-eq-clause-ok c =
     let next = c.neighbours.ensures.next ∙ ap (λ X. after X (code c.items.item)) c.arena.ensures.model in
     let same = codes_same c.neighbours.result.1 c.neighbours.result.0 (sym c.eq.ensures ∙ c.if-eq.true) in
     let op = ap Kef (sym (half-code c.mate.result) ∙ ap half c.mate.ensures) in
-    on_ok_weaker c.take.result (λ step i. record {
+    on_ok_weaker c.step_accepted.result (λ step i. record {
       session = (ap (λ (d : DraftState). d.session) step ∙ c.items.invariant.session) i;
       model = (ap (λ (d : DraftState). d.model) step ∙ joined.last_makes _ _ _ _ _ c.items.invariant.joining (code c.neighbours.result.0) (code c.neighbours.result.1) previous next same (Kef c.mate.result) op) i;
-    }) c.take.ensures.ok
+    }) c.step_accepted.ensures.ok
 
 pub close_item-requires : goal.close_item-requires
 close_item-requires c =

@@ -15,18 +15,18 @@ risers-init c =
       session = refl;
     }
 
-pub take-requires : goal.take-requires
-take-requires c = kill_goes c.risers.draft.model c.risers.riser (c.args.from.now.edges + 2 * c.args.count) c.risers-test.true c.risers.invariant.accepted c.minus.result c.minus.ensures
+pub step_accepted-requires : goal.step_accepted-requires
+step_accepted-requires c = kill_goes c.risers.draft.model c.risers.riser (c.args.from.now.edges + 2 * c.args.count) c.risers-test.true c.risers.invariant.accepted c.minus.result c.minus.ensures
 
 pub risers-preserved : goal.risers-preserved
 risers-preserved c =
     let last = c.args.from.now.edges + 2 * c.args.count in
-    let is = ap (λ (d : DraftState). d.model) c.in_ok-take.ensures.ok in
+    let is = ap (λ (d : DraftState). d.model) c.in_ok-step_accepted.ensures.ok in
     record {
       inside = omega (arith, c.risers-test.true);
-      accepted = kills_go c.risers.draft.model c.risers.riser last c.risers-test.true c.risers.invariant.accepted c.minus.result c.minus.ensures c.take.new.draft.model is;
-      made = kills_made c.risers.draft.model c.risers.riser last c.risers-test.true c.risers.invariant.accepted c.minus.result c.minus.ensures c.take.new.draft.model is ∙ c.risers.invariant.made;
-      session = ap (λ (d : DraftState). d.session) c.in_ok-take.ensures.ok ∙ c.risers.invariant.session;
+      accepted = kills_go c.risers.draft.model c.risers.riser last c.risers-test.true c.risers.invariant.accepted c.minus.result c.minus.ensures c.step_accepted.new.self.model is;
+      made = kills_made c.risers.draft.model c.risers.riser last c.risers-test.true c.risers.invariant.accepted c.minus.result c.minus.ensures c.step_accepted.new.self.model is ∙ c.risers.invariant.made;
+      session = ap (λ (d : DraftState). d.session) c.in_ok-step_accepted.ensures.ok ∙ c.risers.invariant.session;
     }
 
 pub returns-clause-ok : goal.returns-clause-ok

@@ -9,8 +9,8 @@ use Rattle.solid_opening.proofs.parting.part_upper.Goals as goal
 pub close_holes-requires : goal.close_holes-requires
 close_holes-requires c = closings_go c.args.draft.now.model c.args.s c.args.t c.args.above.now c.args.caps.now c.outer_caps.result c.outer_caps.ensures c.requires
 
-pub take-requires : goal.take-requires
-take-requires c =
+pub step_accepted-requires : goal.step_accepted-requires
+step_accepted-requires c =
     let faces = c.in_ok-push_outer.ensures ∙ ap (λ fs. fs ++ outer_uppers c.args.caps.now) c.in_ok-faces.ensures in
     next_goes (part_left c.args.draft.now.model c.args.s c.args.t c.args.above.now c.args.caps.now c.outer_caps.result c.outer_caps.ensures c.requires c.close_holes.new.draft.model (ap (λ (d : DraftState). d.model) c.in_ok-close_holes.ensures.ok) c.push_outer.new.list faces)
 
@@ -18,7 +18,7 @@ pub returns-clause-ok : goal.returns-clause-ok
 returns-clause-ok c =
     let faces = c.in_ok-push_outer.ensures ∙ ap (λ fs. fs ++ outer_uppers c.args.caps.now) c.in_ok-faces.ensures in
     let one = part_left c.args.draft.now.model c.args.s c.args.t c.args.above.now c.args.caps.now c.outer_caps.result c.outer_caps.ensures c.requires c.close_holes.new.draft.model (ap (λ (d : DraftState). d.model) c.in_ok-close_holes.ensures.ok) c.push_outer.new.list faces in
-    on_ok_weaker c.take.result (λ step i. record {
+    on_ok_weaker c.step_accepted.result (λ step i. record {
       session = (ap (λ (d : DraftState). d.session) step ∙ ap (λ (d : DraftState). d.session) c.in_ok-close_holes.ensures.ok) i;
       model = all_taken (next_taken one (ap (λ (d : DraftState). d.model) step)) i;
-    }) c.take.ensures.ok
+    }) c.step_accepted.ensures.ok

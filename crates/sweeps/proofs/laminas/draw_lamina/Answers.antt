@@ -13,18 +13,18 @@ point_at-first-requires c =
     let g = begun _ _ c.counters_of-taken.result c.args.solid _ c.as_slice-corners.result.now c.arena.ensures.model c.arena.ensures.ready.sound c.counters_of-taken.ensures.is c.as_slice-corners.ensures.value c.requires in
     omega (arith, g.many)
 
-pub take-requires : goal.take-requires
-take-requires c =
+pub step_accepted-requires : goal.step_accepted-requires
+step_accepted-requires c =
     let g = begun _ _ c.counters_of-taken.result c.args.solid _ c.as_slice-corners.result.now c.arena.ensures.model c.arena.ensures.ready.sound c.counters_of-taken.ensures.is c.as_slice-corners.ensures.value c.requires in
     first_goes _ _ c.args.solid c.as_slice-corners.result.now g _ (first_is _ _ c.args.solid c.as_slice-corners.result.now g _ _ refl c.point_at-first.ensures)
 
 pub further-init : goal.further-init
 further-init c =
     let g = begun _ _ c.counters_of-taken.result c.args.solid _ c.as_slice-corners.result.now c.arena.ensures.model c.arena.ensures.ready.sound c.counters_of-taken.ensures.is c.as_slice-corners.ensures.value c.requires in
-    (first_along _ _ c.args.solid c.as_slice-corners.result.now g _ _ (ap (λ (d : DraftState). d.model) c.in_ok-take.ensures.ok) (first_is _ _ c.args.solid c.as_slice-corners.result.now g _ _ refl c.point_at-first.ensures), ap (λ (d : DraftState). d.session) c.in_ok-take.ensures.ok)
+    (first_along _ _ c.args.solid c.as_slice-corners.result.now g _ _ (ap (λ (d : DraftState). d.model) c.in_ok-step_accepted.ensures.ok) (first_is _ _ c.args.solid c.as_slice-corners.result.now g _ _ refl c.point_at-first.ensures), ap (λ (d : DraftState). d.session) c.in_ok-step_accepted.ensures.ok)
 
-pub take-requires-in-further : goal.take-requires-in-further
-take-requires-in-further c =
+pub step_accepted-requires-in-further : goal.step_accepted-requires-in-further
+step_accepted-requires-in-further c =
     let g = begun _ _ c.counters_of-taken.result c.args.solid _ c.as_slice-corners.result.now c.arena.ensures.model c.arena.ensures.ready.sound c.counters_of-taken.ensures.is c.as_slice-corners.ensures.value c.requires in
     let l : c.further.i < length c.as_slice-corners.result.now = search rules in
     next_goes _ _ c.args.solid c.as_slice-corners.result.now g c.further.i _ c.further.end c.further.invariant.0 _ _ _ _ refl c.first_half.ensures refl c.point_at-next.ensures l
@@ -33,12 +33,12 @@ pub further-preserved : goal.further-preserved
 further-preserved c =
     let g = begun _ _ c.counters_of-taken.result c.args.solid _ c.as_slice-corners.result.now c.arena.ensures.model c.arena.ensures.ready.sound c.counters_of-taken.ensures.is c.as_slice-corners.ensures.value c.requires in
     let l : c.further.i < length c.as_slice-corners.result.now = search rules in (
-      next_along _ _ c.args.solid c.as_slice-corners.result.now g c.further.i _ c.further.end c.further.invariant.0 _ _ _ _ refl c.first_half.ensures refl c.point_at-next.ensures l _ _ (ap (λ (d : DraftState). d.model) c.in_ok-take-2.ensures.ok) c.second_half.ensures,
-      ap (λ (d : DraftState). d.session) c.in_ok-take-2.ensures.ok ∙ c.further.invariant.1,
+      next_along _ _ c.args.solid c.as_slice-corners.result.now g c.further.i _ c.further.end c.further.invariant.0 _ _ _ _ refl c.first_half.ensures refl c.point_at-next.ensures l _ _ (ap (λ (d : DraftState). d.model) c.in_ok-step_accepted-2.ensures.ok) c.second_half.ensures,
+      ap (λ (d : DraftState). d.session) c.in_ok-step_accepted-2.ensures.ok ∙ c.further.invariant.1,
     )
 
-pub take-requires-2 : goal.take-requires-2
-take-requires-2 c =
+pub step_accepted-requires-2 : goal.step_accepted-requires-2
+step_accepted-requires-2 c =
     let g = begun _ _ c.counters_of-taken.result c.args.solid _ c.as_slice-corners.result.now c.arena.ensures.model c.arena.ensures.ready.sound c.counters_of-taken.ensures.is c.as_slice-corners.ensures.value c.requires in
     let e : c.further.i ≡ length c.as_slice-corners.result.now = grind (arith, nat_tests, c.further.invariant.0.within, c.further-test.false) in
     last_goes _ _ c.args.solid c.as_slice-corners.result.now g c.further.i _ c.further.end c.further.invariant.0 e _
@@ -48,7 +48,7 @@ pub returns-clause-ok : goal.returns-clause-ok
 returns-clause-ok c =
     let g = begun _ _ c.counters_of-taken.result c.args.solid _ c.as_slice-corners.result.now c.arena.ensures.model c.arena.ensures.ready.sound c.counters_of-taken.ensures.is c.as_slice-corners.ensures.value c.requires in
     let e : c.further.i ≡ length c.as_slice-corners.result.now = grind (arith, nat_tests, c.further.invariant.0.within, c.further-test.false) in
-    on_ok_weaker c.take-2.result (λ step. last_done _ _ c.args.solid c.as_slice-corners.result.now g c.further.i _ c.further.end c.further.invariant.0 e _
+    on_ok_weaker c.step_accepted-2.result (λ step. last_done _ _ c.args.solid c.as_slice-corners.result.now g c.further.i _ c.further.end c.further.invariant.0 e _
     (λ t. Mef (c.second_half-turn.ensures t) (c.first_half-start.ensures t) (c.first_half-2.ensures t) (c.counters_of-taken.result.faces + 2) (c.counters_of-taken.result.loops + 2))
     _ (ap (λ (d : DraftState). d.model) step) (c.counters_of-taken.ensures.is ∙ ap taken_in c.arena.ensures.model)
-    ∙ ap (lamina_model c.args.draft.now.model c.args.solid) c.as_slice-corners.ensures.value) c.take-2.ensures.ok
+    ∙ ap (lamina_model c.args.draft.now.model c.args.solid) c.as_slice-corners.ensures.value) c.step_accepted-2.ensures.ok

@@ -16,10 +16,10 @@ point-requires c =
     let there = subst (λ X. has_half X (code c.args.item) ≡ true) (sym c.arena-arena.ensures.model) c.requires.there in
     subst (Has c.arena-arena.result.now.model.vertices) (sym c.tail.ensures) (c.arena-arena.ensures.ready.sound.tails_there (code c.args.item) there)
 
-pub take-requires : goal.take-requires
-take-requires c = ap (first_false c.args.draft.now.model) (same_raise c.args.draft.now.model (taken_of c.args.taken.now) c.args.d c.args.item c.args.i c.plus-edge.result c.sum-top.result
+pub step_accepted-requires : goal.step_accepted-requires
+step_accepted-requires c = ap (first_false c.args.draft.now.model) (same_raise c.args.draft.now.model (taken_of c.args.taken.now) c.args.d c.args.item c.args.i c.plus-edge.result c.sum-top.result
     (c.plus-edge.ensures ∙ ap (λ e. half (plus e)) c.riser.ensures) (c.sum-top.ensures ∙ ap (λ p. moved p c.args.d) (c.point.ensures.point ∙ ap (point_of c.arena-arena.result.now.model) c.tail.ensures ∙ ap (λ X. start X (code c.args.item)) c.arena-arena.ensures.model))) ∙ c.requires.accepted
 
 pub returns-clause-ok : goal.returns-clause-ok
-returns-clause-ok c = subst (λ op. OnOk c.take.result (c.take.new.draft ≡ draft_step c.args.draft.now op)) (same_raise c.args.draft.now.model (taken_of c.args.taken.now) c.args.d c.args.item c.args.i c.plus-edge.result c.sum-top.result
-    (c.plus-edge.ensures ∙ ap (λ e. half (plus e)) c.riser.ensures) (c.sum-top.ensures ∙ ap (λ p. moved p c.args.d) (c.point.ensures.point ∙ ap (point_of c.arena-arena.result.now.model) c.tail.ensures ∙ ap (λ X. start X (code c.args.item)) c.arena-arena.ensures.model))) c.take.ensures.ok
+returns-clause-ok c = subst (λ op. OnOk c.step_accepted.result (c.step_accepted.new.self ≡ draft_step c.args.draft.now op)) (same_raise c.args.draft.now.model (taken_of c.args.taken.now) c.args.d c.args.item c.args.i c.plus-edge.result c.sum-top.result
+    (c.plus-edge.ensures ∙ ap (λ e. half (plus e)) c.riser.ensures) (c.sum-top.ensures ∙ ap (λ p. moved p c.args.d) (c.point.ensures.point ∙ ap (point_of c.arena-arena.result.now.model) c.tail.ensures ∙ ap (λ X. start X (code c.args.item)) c.arena-arena.ensures.model))) c.step_accepted.ensures.ok

@@ -10,7 +10,7 @@ use Rattle.undo_journal.specs.Machine.{DraftState, draft_step}
 use Rattle.undo_journal.specs.Held.{draft_of, IsDrafted, IsStepped}
 use Rattle.undo_journal.proofs.Kept.{drafted_step, drafted_grown}
 use Rattle.undo_journal.proofs.Seen.{step_seen}
-use Rattle.undo_journal.proofs.draft.Draft.accept.Goals as goal
+use Rattle.undo_journal.proofs.draft.Draft.step_accepted.Goals as goal
 
 module _ (s t : Store) (records : List Record) (place : ℕ) (forward back : List Op) (o : Op) (kept : IsDrafted s records place forward back) (goes : first_false s.model o ≡ None) (f b : List Op) where
   either : (r : Result (Unit {0}) AllocError) → OnOk r (IsStepped s o t) → OnOk r (f ≡ forward ++ o ∷ []) → OnOk r (b ≡ back ++ inverse s.model o ∷ []) → OnErr r (HasGrown s t) → OnErr r (f ≡ forward) → OnErr r (b ≡ back) → IsDrafted t records place f b
