@@ -1,6 +1,2 @@
-pub mod Counting
-pub mod RunLaws
-pub mod Outputs
-pub mod Acted
 pub mod CommandLine
 mod WorkedWords

@@ -1,7 +1,2 @@
-pub mod Judging
-pub mod Settling
-pub mod Outs
-pub mod Hearing
 pub mod Words
 pub mod Endings
-pub mod Laws

@@ -4,10 +4,10 @@ ghost use Rattle.clap.specs.Words.{kind_of};
 ghost use Rattle.clap.specs.declared.error.kind.ErrorKind.TheVariants as kind;
 ghost use Rattle.gwb.specs.Endings.{status};
 
-use crate::judging::Summary;
-use crate::running::RunFault;
 use crate::words::WordsFault;
 use clap::error::ErrorKind;
+use script_judging::Summary;
+use script_running::RunFault;
 use thiserror::Error;
 
 /// Why the program ends before its script is answered.

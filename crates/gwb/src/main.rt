@@ -6,18 +6,13 @@
 #![tactic(auto)]
 
 mod ending;
-mod judging;
-mod larger;
-mod laws;
-mod running;
 #[cfg(test)]
 mod tests;
 mod words;
 
 pub use ending::{Trouble, status_of};
-pub use judging::Summary;
-pub use laws::one_output;
-pub use running::{RunFault, run};
+pub use script_judging::Summary;
+pub use script_running::{RunFault, run};
 use std::alloc::AllocError;
 use std::env;
 use std::fs::File;

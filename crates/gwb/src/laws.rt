@@ -1,7 +1,0 @@
-//! A law of what a run writes. The function does nothing: its contract is what is proved.
-ghost use Rattle.gwb.specs.Laws.{OneOutput};
-
-/// Where no reply is `memory`, the lines of a script have one output, and one summary.
-pub fn one_output()
-    ensures { OneOutput }
-{}

@@ -1,0 +1,54 @@
+-- The counts of a run.
+use Rattle.std.proofs.Common.{◌≡◌, ◌≤◌, refl, arith}
+use Rattle.solid_listing.specs.declared.reply.Reply.TheVariants as reply
+use Rattle.script_judging.specs.Judging.{no_lines, one_line, counted}
+use Rattle.script_judging.specs.declared.judging.Answer.{Answer}
+use Rattle.script_judging.specs.declared.judging.Answer.TheVariants.{Silent, Reply as Told, Listing}
+use Rattle.script_judging.specs.declared.judging.Summary.{Summary}
+
+-- no reply is counted twice, nor without its line
+pub record IsWithin (n : Summary) : Type 0 where
+  pub refused : n.refused ≤ n.lines
+  pub faults : n.faults ≤ n.lines
+  pub memory : n.memory ≤ n.lines
+
+pub same_counts : (a b : Summary) → a.lines ≡ b.lines → a.refused ≡ b.refused → a.faults ≡ b.faults → a.memory ≡ b.memory → a ≡ b
+same_counts a b l r f m = λ i. record { lines = l i; refused = r i; faults = f i; memory = m i }
+
+pub counted_assoc : (a b c : Summary) → counted a (counted b c) ≡ counted (counted a b) c
+counted_assoc a b c = same_counts (counted a (counted b c)) (counted (counted a b) c) (omega arith) (omega arith) (omega arith) (omega arith)
+
+pub counted_none : (a : Summary) → counted a no_lines ≡ a
+counted_none a = same_counts (counted a no_lines) a (omega arith) (omega arith) (omega arith) (omega arith)
+
+pub none_counted : (a : Summary) → counted no_lines a ≡ a
+none_counted a = same_counts (counted no_lines a) a (omega arith) (omega arith) (omega arith) (omega arith)
+
+pub one_within : (a : Answer) → IsWithin (one_line a)
+one_within Silent = record { refused = omega arith; faults = omega arith; memory = omega arith }
+one_within (Told reply.Done) = record { refused = omega arith; faults = omega arith; memory = omega arith }
+one_within (Told (reply.Refused n x)) = record { refused = omega arith; faults = omega arith; memory = omega arith }
+one_within (Told (reply.Fault n)) = record { refused = omega arith; faults = omega arith; memory = omega arith }
+one_within (Told reply.Memory) = record { refused = omega arith; faults = omega arith; memory = omega arith }
+one_within (Told (reply.Plane p flat)) = record { refused = omega arith; faults = omega arith; memory = omega arith }
+one_within (Told (reply.Volume n)) = record { refused = omega arith; faults = omega arith; memory = omega arith }
+one_within (Told (reply.Count ns)) = record { refused = omega arith; faults = omega arith; memory = omega arith }
+one_within Listing = record { refused = omega arith; faults = omega arith; memory = omega arith }
+
+pub one_more : (a : Answer) → (one_line a).lines ≡ 1
+one_more Silent = refl
+one_more (Told reply.Done) = refl
+one_more (Told (reply.Refused n x)) = refl
+one_more (Told (reply.Fault n)) = refl
+one_more (Told reply.Memory) = refl
+one_more (Told (reply.Plane p flat)) = refl
+one_more (Told (reply.Volume n)) = refl
+one_more (Told (reply.Count ns)) = refl
+one_more Listing = refl
+
+pub counted_within : (n : Summary) (a : Answer) → IsWithin n → IsWithin (counted n (one_line a))
+counted_within n a h = let o = one_within a in record {
+  refused = omega (arith, h.refused, o.refused);
+  faults = omega (arith, h.faults, o.faults);
+  memory = omega (arith, h.memory, o.memory);
+}

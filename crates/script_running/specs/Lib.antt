@@ -1,0 +1,3 @@
+pub mod Outs
+pub mod Hearing
+pub mod Laws

@@ -1,0 +1,8 @@
+//! Running: a whole script answered, from the bytes of a reader to those of a writer.
+#![tactic(auto)]
+
+mod laws;
+mod running;
+
+pub use laws::one_output;
+pub use running::{RunFault, run};

@@ -1,0 +1,145 @@
+//! A whole run.
+ghost use Rattle.std.specs.Prelude.{◌≡◌, IfOk, IfErr};
+ghost use Rattle.std.specs.Io.KnownBytes.{Keeps};
+ghost use Rattle.solid_listing.specs.Writing.{Puts};
+ghost use Rattle.undo_journal.specs.Machine.{Machine};
+ghost use Rattle.script_judging.specs.Judging.{answer_text};
+ghost use Rattle.script_running.specs.Outs.{Runs, stops};
+ghost use Rattle.script_running.specs.Hearing.{Hears};
+
+use script_judging::{Answer, Larger, Summary, carry_out, complains, judge};
+use script_reader::{Fault, Lines, NextLine};
+use solid_listing::{Reply, write_listing, write_reply};
+use std::alloc::Global;
+use std::io::{Read, Write};
+use thiserror::Error;
+use undo_journal::Session;
+
+/// Why a run ended before the end of its script.
+#[derive(Clone, Copy, Debug, PartialEq, Eq, Error)]
+pub enum RunFault {
+    /// A read failed.
+    #[error("read fault")]
+    Read,
+    /// A write failed, or took no byte.
+    #[error("write fault")]
+    Write,
+    /// The reader gave a byte past 67,108,864.
+    #[error("script too long")]
+    TooLong,
+    /// The memory that a run begins with was refused.
+    #[error("out of memory")]
+    Memory,
+}
+
+/// What a step of a run heard.
+enum Heard {
+    Line(Answer),
+    /// A command that takes the session was put aside.
+    Larger,
+    End,
+    Read,
+    TooLong,
+}
+
+/// The next line judged.
+fn hear<R: Read>(lines: &mut Lines<R>, session: &mut Session, later: &mut Option<Larger>) -> Heard
+    ensures { Hears R.remaining lines.old lines.new session.old session.new later.new result }
+{
+    match lines.next_line() {
+        NextLine::Line(line) => match judge(session, line, later) {
+            Some(answer) => Heard::Line(answer),
+            None => Heard::Larger,
+        },
+        NextLine::Long => Heard::Line(Answer::Reply(Reply::Fault(Fault::LongLine.code()))),
+        NextLine::End => Heard::End,
+        NextLine::Read => Heard::Read,
+        NextLine::TooLong => Heard::TooLong,
+    }
+}
+
+/// Writes an answer.
+fn say<W: Write>(writer: &mut W, session: &Session, answer: &Answer) -> Result<(), RunFault>
+    ensures puts { Puts (W.contents writer.old) (W.contents writer.new) (answer_text session.now answer.now) result }
+    ensures fault { IfErr result (λ e. e ≡ RunFault.Write) }
+{
+    match answer {
+        Answer::Silent => Ok(()),
+        Answer::Reply(reply) => write_reply(reply, writer).map_err(|_| RunFault::Write),
+        Answer::Listing => write_listing(session.arena(), writer).map_err(|_| RunFault::Write),
+    }
+}
+
+/// Whether an answer ends the run.
+fn stops(stop: bool, answer: &Answer) -> bool
+    ensures { result ≡ stops stop answer.now }
+{
+    stop && complains(answer)
+}
+
+/// Brings the answers out before a read that may wait.
+fn flush<R: Read, W: Write>(lines: &Lines<R>, writer: &mut W) -> Result<(), RunFault>
+    ensures kept { Keeps (W.contents writer.old) (W.contents writer.new) }
+    ensures fault { IfErr result (λ e. e ≡ RunFault.Write) }
+{
+    if lines.has_line() {
+        return Ok(());
+    }
+    writer.flush().map_err(|_| RunFault::Write)
+}
+
+/// Brings the last answers out.
+fn finish<W: Write>(writer: &mut W, summary: Summary) -> Result<Summary, RunFault>
+    ensures kept { Keeps (W.contents writer.old) (W.contents writer.new) }
+    ensures ok { IfOk result (λ s. s ≡ summary) }
+    ensures fault { IfErr result (λ e. e ≡ RunFault.Write) }
+{
+    match writer.flush() {
+        Ok(()) => Ok(summary),
+        Err(_) => Err(RunFault::Write),
+    }
+}
+
+/// Runs a script: judges each line of what the reader gives, in order, and writes its answer. Answers are flushed
+/// before each read that may wait, and at the end. Where `stop` is set, the run ends behind the first reply that begins with `refused`,
+/// `fault` or `memory`; bytes behind that line may have been read.
+///
+/// `RunFault::Memory` comes only where the first memory was refused, and then nothing is written. After `Read`, `Write`
+/// or `TooLong` what was written is a front of the replies to the lines read so far.
+pub fn run<R: Read + Drop, W: Write>(
+    alloc: Global,
+    reader: R,
+    writer: &mut W,
+    stop: bool,
+) -> Result<Summary, RunFault>
+    ensures { Runs (R.remaining reader) (W.contents writer.old) (W.contents writer.new) stop result }
+{
+    let Ok(mut lines) = Lines::new(alloc, reader) else {
+        return Err(RunFault::Memory);
+    };
+    let Ok(mut session) = Session::new(alloc) else {
+        return Err(RunFault::Memory);
+    };
+    let mut later = None;
+    let mut summary = Summary::default();
+    'script: loop {
+        flush(&lines, writer)?;
+        let answer = match hear(&mut lines, &mut session, &mut later) {
+            Heard::Line(answer) => answer,
+            Heard::Larger => {
+                let larger = later.take().unwrap();
+                let (next, answer) = carry_out(alloc, session, larger);
+                session = next;
+                answer
+            }
+            Heard::End => return finish(writer, summary),
+            Heard::Read => return Err(RunFault::Read),
+            Heard::TooLong => return Err(RunFault::TooLong),
+        };
+        summary.count(&answer);
+        say(writer, &session, &answer)?;
+        if stops(stop, &answer) {
+            return finish(writer, summary);
+        }
+    }
+}
