@@ -4,19 +4,19 @@ use Rattle.std.proofs.lemmas.Bool.Decides.{eqb_tells}
 use Rattle.std.specs.Ordering.{nat_cmp}
 use Rattle.std.specs.Cmp.{unsigned_tied}
 use Rattle.std.specs.FinMap.Entries.{find}
-use Rattle.boundary_model.specs.Items.{count, tick, IsIn, IsApart, before as before_item, after as after_item}
-use Rattle.boundary_model.specs.Rings.{rest, canonical, upto, onward, IsRing}
-use Rattle.boundary_model.specs.Edits.{without}
-use Rattle.boundary_model.specs.Operators.{after_mev, after_mef, after_kev, after_kef, put_ring, take_ring}
-use Rattle.boundary_model.proofs.Lists.{tick_same, tick_other, split_at}
-use Rattle.boundary_model.proofs.Edits.{count-without}
-use Rattle.boundary_model.proofs.Cuts.{arc_ring}
-use Rattle.boundary_model.proofs.Vertices.{vertex_mev, vertex_mev_other, vertex_mef_first, vertex_mef_second, vertex_mef_other, vertex_kev, vertex_kev_other, vertex_kef_first, vertex_kef_second, vertex_kef_other}
-use Rattle.boundary_model.specs.HalfEdge.{mate, edge_of, is_first, plus, minus}
-use Rattle.boundary_model.specs.Table as table
-use Rattle.boundary_model.specs.Model.{Model, EdgeRow, round, arc}
-use Rattle.boundary_model.specs.Sound.{HasHalf}
-use Rattle.boundary_model.proofs.Halves.{mate_cases}
+use Rattle.euler_operators.specs.Items.{count, tick, IsIn, IsApart, before as before_item, after as after_item}
+use Rattle.euler_operators.specs.Rings.{rest, canonical, upto, onward, IsRing}
+use Rattle.euler_operators.specs.Edits.{without}
+use Rattle.euler_operators.specs.Operators.{after_mev, after_mef, after_kev, after_kef, put_ring, take_ring}
+use Rattle.euler_operators.proofs.Lists.{tick_same, tick_other, split_at}
+use Rattle.euler_operators.proofs.Edits.{count-without}
+use Rattle.euler_operators.proofs.Cuts.{arc_ring}
+use Rattle.euler_operators.proofs.Vertices.{vertex_mev, vertex_mev_other, vertex_mef_first, vertex_mef_second, vertex_mef_other, vertex_kev, vertex_kev_other, vertex_kef_first, vertex_kef_second, vertex_kef_other}
+use Rattle.euler_operators.specs.HalfEdge.{mate, edge_of, is_first, plus, minus}
+use Rattle.euler_operators.specs.Table as table
+use Rattle.euler_operators.specs.Model.{Model, EdgeRow, round, arc}
+use Rattle.euler_operators.specs.Sound.{HasHalf}
+use Rattle.euler_operators.proofs.Halves.{mate_cases}
 
 -- a list without repeats within another is no longer
 apart_within : (xs ys : List ℕ) → IsApart xs → ((x : ℕ) → IsIn x xs → IsIn x ys) → length xs ≤ length ys

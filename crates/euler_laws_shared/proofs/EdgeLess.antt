@@ -1,17 +1,17 @@
 -- A model without one edge: its half-edges, and the fans of its vertices.
 use Rattle.std.proofs.Common.{◌≡◌, ◌≢◌, ℕ, ◌+◌, None, unwrap_or, is_some, sym, ap, ◌∙◌, arith, true≢false}
 use Rattle.std.proofs.lemmas.Bool.Decides.{nat_tests}
-use Rattle.boundary_model.specs.Items.{count, tick, IsIn}
-use Rattle.boundary_model.specs.Rings.{IsRing, rest}
-use Rattle.boundary_model.specs.Operators.{take_ring}
-use Rattle.boundary_model.proofs.Lists.{tick_same, tick_other}
-use Rattle.boundary_model.proofs.Rotations.{count-canonical}
-use Rattle.boundary_model.proofs.Rings.{count_at}
-use Rattle.boundary_model.specs.HalfEdge.{mate, edge_of, is_first}
-use Rattle.boundary_model.specs.Table as table
-use Rattle.boundary_model.specs.Table.{Table, tables}
-use Rattle.boundary_model.specs.Model.{Model, tail, tail_in, no_edge}
-use Rattle.boundary_model.specs.Sound.{HasHalf, NumbersFit}
+use Rattle.euler_operators.specs.Items.{count, tick, IsIn}
+use Rattle.euler_operators.specs.Rings.{IsRing, rest}
+use Rattle.euler_operators.specs.Operators.{take_ring}
+use Rattle.euler_operators.proofs.Lists.{tick_same, tick_other}
+use Rattle.euler_operators.proofs.Rotations.{count-canonical}
+use Rattle.euler_operators.proofs.Rings.{count_at}
+use Rattle.euler_operators.specs.HalfEdge.{mate, edge_of, is_first}
+use Rattle.euler_operators.specs.Table as table
+use Rattle.euler_operators.specs.Table.{Table, tables}
+use Rattle.euler_operators.specs.Model.{Model, tail, tail_in, no_edge}
+use Rattle.euler_operators.specs.Sound.{HasHalf, NumbersFit}
 use Rattle.euler_laws_shared.proofs.Fans.{Fan}
 
 module _ (M N : Model) (h : ℕ) (is : N.edges ≡ table.remove M.edges (edge_of h)) where

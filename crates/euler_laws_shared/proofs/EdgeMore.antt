@@ -1,18 +1,18 @@
 -- A model with one edge more: its half-edges, and the fans of its vertices.
 use Rattle.std.proofs.Common.{◌≡◌, ◌≢◌, ℕ, ◌+◌, [], ◌∷◌, Some, None, unwrap_or, is_some, IsTrue, sym, ap, ◌∙◌, subst, arith, ◌⊎◌, inl, inr, true≢false}
 use Rattle.std.proofs.lemmas.Bool.Decides.{nat_tests, eqb_tells}
-use Rattle.boundary_model.specs.Items.{count, tick, IsIn}
-use Rattle.boundary_model.specs.Rings.{IsRing, rotate_to}
-use Rattle.boundary_model.specs.Operators.{put_ring}
-use Rattle.boundary_model.proofs.Lists.{tick_same, tick_other, tick_le, IsIn_or_not}
-use Rattle.boundary_model.proofs.Rotations.{count-canonical, count-rotate_to}
-use Rattle.boundary_model.specs.HalfEdge.{mate, edge_of, is_first}
-use Rattle.boundary_model.specs.Table as table
-use Rattle.boundary_model.specs.Table.{Table, tables}
-use Rattle.boundary_model.specs.Model.{Model, tail, tail_in, no_edge, is_number}
-use Rattle.boundary_model.specs.Sound.{HasHalf, NumbersFit}
-use Rattle.boundary_model.proofs.Halves.{edge_of-mate, same_edge}
-use Rattle.boundary_model.proofs.Models.{tail_row}
+use Rattle.euler_operators.specs.Items.{count, tick, IsIn}
+use Rattle.euler_operators.specs.Rings.{IsRing, rotate_to}
+use Rattle.euler_operators.specs.Operators.{put_ring}
+use Rattle.euler_operators.proofs.Lists.{tick_same, tick_other, tick_le, IsIn_or_not}
+use Rattle.euler_operators.proofs.Rotations.{count-canonical, count-rotate_to}
+use Rattle.euler_operators.specs.HalfEdge.{mate, edge_of, is_first}
+use Rattle.euler_operators.specs.Table as table
+use Rattle.euler_operators.specs.Table.{Table, tables}
+use Rattle.euler_operators.specs.Model.{Model, tail, tail_in, no_edge, is_number}
+use Rattle.euler_operators.specs.Sound.{HasHalf, NumbersFit}
+use Rattle.euler_operators.proofs.Halves.{edge_of-mate, same_edge}
+use Rattle.euler_operators.proofs.Models.{tail_row}
 use Rattle.euler_operators.specs.Effect.{edge_row}
 use Rattle.euler_laws_shared.proofs.Fans.{Fan}
 use Rattle.euler_laws_shared.proofs.Rows.{tail_first, tail_second}

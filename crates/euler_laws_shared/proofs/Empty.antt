@@ -1,11 +1,11 @@
 -- The model that has nothing is sound.
 use Rattle.std.proofs.Common.{◌≡◌, ℕ, [], unwrap_or, is_some, sym, ap, ◌∙◌, arith, true≢false}
-use Rattle.boundary_model.specs.HalfEdge.{edge_of}
-use Rattle.boundary_model.specs.Table as table
-use Rattle.boundary_model.specs.Table.{Table, get-empty}
-use Rattle.boundary_model.specs.Model.{cycle, no_loop, empty_model, holds, content}
-use Rattle.boundary_model.specs.Sound.{Sound, Has, HasHalf, StandsIn, IsLoneAt}
-use Rattle.boundary_model.proofs.Models.{holds_in}
+use Rattle.euler_operators.specs.HalfEdge.{edge_of}
+use Rattle.euler_operators.specs.Table as table
+use Rattle.euler_operators.specs.Table.{Table, get-empty}
+use Rattle.euler_operators.specs.Model.{cycle, no_loop, empty_model, holds, content}
+use Rattle.euler_operators.specs.Sound.{Sound, Has, HasHalf, StandsIn, IsLoneAt}
+use Rattle.euler_operators.proofs.Models.{holds_in}
 use Rattle.euler_laws_shared.proofs.Loops.{not_lone}
 
 has_nothing : (X : Type 0) (n : ℕ) → Has (table.empty {X = X}) n → ⊥

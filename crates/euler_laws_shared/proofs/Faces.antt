@@ -2,11 +2,11 @@
 use Rattle.std.proofs.Common.{◌≡◌, ◌≢◌, ℕ, Bool, true, false, cond, nat_eq, Option, Some, None, unwrap_or, is_some, refl, sym, ap, ◌∙◌, subst, arith, inl, inr, true≢false}
 use Rattle.std.specs.Option.{option_map}
 use Rattle.std.proofs.lemmas.Bool.Decides.{nat_tests}
-use Rattle.boundary_model.specs.HalfEdge.{mate}
-use Rattle.boundary_model.specs.Table as table
-use Rattle.boundary_model.specs.Table.{map_rows, get-map_rows}
-use Rattle.boundary_model.specs.Model.{Model, lone, LoopRow, no_loop, holds, tail, loop_of, content, face_of, solid_of, outer, after}
-use Rattle.boundary_model.specs.Sound.{Sound, Has, HasHalf, IsLoneAt, NumbersFit}
+use Rattle.euler_operators.specs.HalfEdge.{mate}
+use Rattle.euler_operators.specs.Table as table
+use Rattle.euler_operators.specs.Table.{map_rows, get-map_rows}
+use Rattle.euler_operators.specs.Model.{Model, lone, LoopRow, no_loop, holds, tail, loop_of, content, face_of, solid_of, outer, after}
+use Rattle.euler_operators.specs.Sound.{Sound, Has, HasHalf, IsLoneAt, NumbersFit}
 use Rattle.euler_operators.specs.Effect.{loop_to_face}
 use Rattle.euler_laws_shared.proofs.Fans.{half_mate}
 use Rattle.euler_laws_shared.proofs.Loops.{IsLoop, loop_sound, Walks, stands-walks, one_loop-walks, cycles-walks, ends_meet-walks, one_fan-walks}

@@ -1,17 +1,17 @@
 -- The half-edges that leave a vertex, as a ring.
 use Rattle.std.proofs.Common.{◌≡◌, ℕ, ◌≤◌, cond, List, [], ◌∷◌, ◌++◌, is_some, refl, sym, ap, ◌∙◌, subst, arith, ◌⊎◌, inl, inr}
 use Rattle.std.proofs.lemmas.Bool.Decides.{nat_tests, eqb_tells}
-use Rattle.boundary_model.specs.Items.{count, tick, IsIn, IsApart, head_or, before, after as after_item}
-use Rattle.boundary_model.specs.Rings.{rest, successor, predecessor, IsPath, IsRing}
-use Rattle.boundary_model.proofs.Lists.{count-append, tick_same, tick_other, split_at, IsIn_or_not}
-use Rattle.boundary_model.proofs.Operators.{apart_back}
-use Rattle.boundary_model.proofs.Rings.{rotation_at, count_at, IsRing-same, next_is_successor, IsIn_successor, IsIn_predecessor, successor-predecessor, IsPath-append, IsPath-left}
-use Rattle.boundary_model.specs.HalfEdge.{mate}
-use Rattle.boundary_model.specs.Table as table
-use Rattle.boundary_model.specs.Model.{Model, items_of, tail, loop_of, content, cycle_of, after, round}
-use Rattle.boundary_model.specs.Sound.{Sound, HasHalf, StandsIn, Reaches, here, further}
-use Rattle.boundary_model.proofs.Halves.{edge_of-mate, mate-mate}
-use Rattle.boundary_model.proofs.Models.{in-holds, cycle_there, cycle_sound}
+use Rattle.euler_operators.specs.Items.{count, tick, IsIn, IsApart, head_or, before, after as after_item}
+use Rattle.euler_operators.specs.Rings.{rest, successor, predecessor, IsPath, IsRing}
+use Rattle.euler_operators.proofs.Lists.{count-append, tick_same, tick_other, split_at, IsIn_or_not}
+use Rattle.euler_operators.proofs.Operators.{apart_back}
+use Rattle.euler_operators.proofs.Rings.{rotation_at, count_at, IsRing-same, next_is_successor, IsIn_successor, IsIn_predecessor, successor-predecessor, IsPath-append, IsPath-left}
+use Rattle.euler_operators.specs.HalfEdge.{mate}
+use Rattle.euler_operators.specs.Table as table
+use Rattle.euler_operators.specs.Model.{Model, items_of, tail, loop_of, content, cycle_of, after, round}
+use Rattle.euler_operators.specs.Sound.{Sound, HasHalf, StandsIn, Reaches, here, further}
+use Rattle.euler_operators.proofs.Halves.{edge_of-mate, mate-mate}
+use Rattle.euler_operators.proofs.Models.{in-holds, cycle_there, cycle_sound}
 
 pub reaches_trans : (next : ℕ → ℕ) (x y z : ℕ) → Reaches next x y → Reaches next y z → Reaches next x z
 reaches_trans next x y z p here = p

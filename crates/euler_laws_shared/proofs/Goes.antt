@@ -2,7 +2,7 @@
 use Rattle.std.proofs.Common.{◌≡◌, ◌≢◌, ℕ, Bool, true, false, cond, not, nat_eq, List, [], ◌∷◌, Option, Some, None, is_some, refl, sym, ap, ◌∙◌, arith, true≢false, IsTrue}
 use Rattle.std.proofs.lemmas.Bool.Decides.{nat_tests}
 use Rattle.euler_operators.specs.Conditions.{Condition, AllHold, first_refusal}
-use Rattle.boundary_model.specs.Model.{is_number}
+use Rattle.euler_operators.specs.Model.{is_number}
 
 all_step : (c : Condition) (cs : List Condition) (b : Bool) → c.holds ≡ b → cond b (first_refusal cs) (Some c.refusal) ≡ None → (first_refusal cs ≡ None → AllHold cs) → AllHold (c ∷ cs)
 all_step c cs true e is rest = (e, rest is)

@@ -4,8 +4,8 @@ use Rattle.std.specs.Ordering.{nat_cmp, is_lt}
 use Rattle.std.specs.Cmp.{unsigned_tied}
 use Rattle.std.specs.FinMap.Entries.{find, is_sorted, below_all}
 use Rattle.std.proofs.lemmas.Bool.Decides.{nat_tests, eqb_tells}
-use Rattle.boundary_model.specs.Table.{Table, get, all_where, all_in}
-use Rattle.boundary_model.proofs.Tables.{and_left, and_right}
+use Rattle.euler_operators.specs.Table.{Table, get, all_where, all_in}
+use Rattle.euler_operators.proofs.Tables.{and_left, and_right}
 use Rattle.euler_operators.specs.Conditions.{lists, strictly_rises}
 
 one_value : {X : Type 0} (x y : X) → Some x ≡ Some y → x ≡ y

@@ -1,22 +1,22 @@
 -- What a loop holds, changed one half-edge at a time; and how a model's walks follow from its loops and fans.
 use Rattle.std.proofs.Common.{◌≡◌, ◌≢◌, ℕ, ◌+◌, true, false, cond, List, [], Option, Some, None, is_some, unwrap_or, refl, sym, ap, ◌∙◌, subst, arith, ◌⊎◌, inl, inr, true≢false}
 use Rattle.std.proofs.lemmas.Bool.Decides.{eqb_tells}
-use Rattle.boundary_model.specs.Items.{count, tick, IsIn, IsApart}
-use Rattle.boundary_model.specs.Rings.{canonical, successor, IsRing}
-use Rattle.boundary_model.specs.Edits.{insert_before, without, redirect, led_over}
-use Rattle.boundary_model.proofs.Lists.{tick_same, tick_other, IsIn_or_not}
-use Rattle.boundary_model.proofs.Rings.{IsRing-same, next_is_successor, IsRing-from_successor}
-use Rattle.boundary_model.proofs.Rotations.{canonical-rotates, count-canonical, IsApart-canonical, canonical-canonical}
-use Rattle.boundary_model.proofs.Edits.{count-insert_before, count-without, without_none, IsRing-insert_before, IsRing-without}
-use Rattle.boundary_model.proofs.Leads.{IsRing-redirect_other, IsRing-led_over_other}
-use Rattle.boundary_model.specs.HalfEdge.{mate, edge_of}
-use Rattle.boundary_model.specs.Table as table
-use Rattle.boundary_model.specs.Table.{Table, tables}
-use Rattle.boundary_model.specs.Model.{Model, LoopContent, lone, cycle, LoopRow, no_loop, items_of, holds, tail, loop_of, content, cycle_of, after, round}
-use Rattle.boundary_model.specs.Sound.{Sound, Has, HasHalf, StandsIn, Reaches, here, further, IsCycle}
-use Rattle.boundary_model.proofs.Tables.{first_where_is}
-use Rattle.boundary_model.proofs.Models.{content_row, held_row, in-holds, holds_in, holds-none}
-use Rattle.boundary_model.proofs.Halves.{mate-mate}
+use Rattle.euler_operators.specs.Items.{count, tick, IsIn, IsApart}
+use Rattle.euler_operators.specs.Rings.{canonical, successor, IsRing}
+use Rattle.euler_operators.specs.Edits.{insert_before, without, redirect, led_over}
+use Rattle.euler_operators.proofs.Lists.{tick_same, tick_other, IsIn_or_not}
+use Rattle.euler_operators.proofs.Rings.{IsRing-same, next_is_successor, IsRing-from_successor}
+use Rattle.euler_operators.proofs.Rotations.{canonical-rotates, count-canonical, IsApart-canonical, canonical-canonical}
+use Rattle.euler_operators.proofs.Edits.{count-insert_before, count-without, without_none, IsRing-insert_before, IsRing-without}
+use Rattle.euler_operators.proofs.Leads.{IsRing-redirect_other, IsRing-led_over_other}
+use Rattle.euler_operators.specs.HalfEdge.{mate, edge_of}
+use Rattle.euler_operators.specs.Table as table
+use Rattle.euler_operators.specs.Table.{Table, tables}
+use Rattle.euler_operators.specs.Model.{Model, LoopContent, lone, cycle, LoopRow, no_loop, items_of, holds, tail, loop_of, content, cycle_of, after, round}
+use Rattle.euler_operators.specs.Sound.{Sound, Has, HasHalf, StandsIn, Reaches, here, further, IsCycle}
+use Rattle.euler_operators.proofs.Tables.{first_where_is}
+use Rattle.euler_operators.proofs.Models.{content_row, held_row, in-holds, holds_in, holds-none}
+use Rattle.euler_operators.proofs.Halves.{mate-mate}
 use Rattle.euler_laws_shared.proofs.Fans.{Fan, ring_reaches, ring_stays}
 
 pub some_row : {X : Type 0} (o : Option X) → is_some o ≡ true → (x : X) × (o ≡ Some x)

@@ -1,22 +1,22 @@
 -- What single rows and loops of a model say, and small facts that several operators share.
 use Rattle.std.proofs.Common.{◌≡◌, ◌≢◌, ℕ, ◌+◌, Bool, true, false, cond, not, nat_eq, ◌&&◌, List, [], ◌∷◌, ◌++◌, Option, Some, None, unwrap_or, is_some, refl, sym, ap, ◌∙◌, arith, true≢false}
 use Rattle.std.proofs.lemmas.Bool.Decides.{nat_tests}
-use Rattle.boundary_model.specs.declared.Point.{Point}
-use Rattle.boundary_model.specs.Items.{count, IsIn, IsApart, head_or}
-use Rattle.boundary_model.specs.Rings.{canonical, rotate_to, rest, upto, onward, between, beyond, successor, IsRing}
-use Rattle.boundary_model.proofs.Rotations.{count-canonical, count-rotate_to, canonical_nil, rotate_to-rotates}
-use Rattle.boundary_model.proofs.Rings.{successor_at, successor_same}
-use Rattle.boundary_model.proofs.Cuts.{upto-onward, ring_split}
-use Rattle.boundary_model.proofs.Lists.{count-append, tick_same, tick_other, count-before}
-use Rattle.boundary_model.specs.declared.HalfEdge.{HalfEdge}
-use Rattle.boundary_model.specs.HalfEdge.{code, mate, edge_of, is_first}
-use Rattle.boundary_model.specs.Table as table
-use Rattle.boundary_model.specs.Table.{Table, tables, same_table}
-use Rattle.boundary_model.specs.Model.{Model, LoopContent, lone, cycle, FaceRow, LoopRow, EdgeRow, no_face, no_edge, no_point, tail_in, items_of, holds, tail, face_of, outer, solid_of, point_of, no_loop, content, rings_of}
-use Rattle.boundary_model.specs.Sound.{Sound, Has, HasHalf, IsCycle}
-use Rattle.boundary_model.proofs.Halves.{edge_of-code, edge_of-mate, is_first-mate}
-use Rattle.boundary_model.proofs.Tables.{all_where_none, none_all_where}
-use Rattle.boundary_model.proofs.Models.{face_row}
+use Rattle.euler_operators.specs.declared.Point.{Point}
+use Rattle.euler_operators.specs.Items.{count, IsIn, IsApart, head_or}
+use Rattle.euler_operators.specs.Rings.{canonical, rotate_to, rest, upto, onward, between, beyond, successor, IsRing}
+use Rattle.euler_operators.proofs.Rotations.{count-canonical, count-rotate_to, canonical_nil, rotate_to-rotates}
+use Rattle.euler_operators.proofs.Rings.{successor_at, successor_same}
+use Rattle.euler_operators.proofs.Cuts.{upto-onward, ring_split}
+use Rattle.euler_operators.proofs.Lists.{count-append, tick_same, tick_other, count-before}
+use Rattle.euler_operators.specs.declared.HalfEdge.{HalfEdge}
+use Rattle.euler_operators.specs.HalfEdge.{code, mate, edge_of, is_first}
+use Rattle.euler_operators.specs.Table as table
+use Rattle.euler_operators.specs.Table.{Table, tables, same_table}
+use Rattle.euler_operators.specs.Model.{Model, LoopContent, lone, cycle, FaceRow, LoopRow, EdgeRow, no_face, no_edge, no_point, tail_in, items_of, holds, tail, face_of, outer, solid_of, point_of, no_loop, content, rings_of}
+use Rattle.euler_operators.specs.Sound.{Sound, Has, HasHalf, IsCycle}
+use Rattle.euler_operators.proofs.Halves.{edge_of-code, edge_of-mate, is_first-mate}
+use Rattle.euler_operators.proofs.Tables.{all_where_none, none_all_where}
+use Rattle.euler_operators.proofs.Models.{face_row}
 use Rattle.euler_operators.specs.Conditions.{has_rings, is_empty, is_lone, lone_vertex}
 use Rattle.euler_operators.specs.Effect.{where_held, edge_row, cycle_or_lone}
 use Rattle.euler_laws_shared.proofs.Loops.{some_row, IsLoop, canonical_cycle, canonical_ring}

@@ -1,10 +1,10 @@
 -- Models whose loops are rewritten row by row, and what stays where faces and solids stay.
 use Rattle.std.proofs.Common.{◌≡◌, ℕ, [], Option, Some, None, is_some, unwrap_or, refl, sym, ap, ◌∙◌, subst}
 use Rattle.std.specs.Option.{option_map}
-use Rattle.boundary_model.specs.Table as table
-use Rattle.boundary_model.specs.Table.{Table, tables, same_table, map_rows, get-map_rows}
-use Rattle.boundary_model.specs.Model.{Model, LoopContent, cycle, no_face, LoopRow, no_loop, content, face_of, solid_of, outer, loop_of, tail}
-use Rattle.boundary_model.specs.Sound.{Sound, Has, HasHalf, NumbersFit}
+use Rattle.euler_operators.specs.Table as table
+use Rattle.euler_operators.specs.Table.{Table, tables, same_table, map_rows, get-map_rows}
+use Rattle.euler_operators.specs.Model.{Model, LoopContent, cycle, no_face, LoopRow, no_loop, content, face_of, solid_of, outer, loop_of, tail}
+use Rattle.euler_operators.specs.Sound.{Sound, Has, HasHalf, NumbersFit}
 use Rattle.euler_laws_shared.proofs.Fans.{loop_after, kept_round}
 
 pub map_twice : {X : Type 0} (f g : ℕ → X → X) (t : Table X) → map_rows f (map_rows g t) ≡ map_rows (λ q x. f q (g q x)) t

@@ -1,1 +1,12 @@
 pub mod WorkedScripts
+pub use Rattle.boundary_model.proofs.Cuts
+pub use Rattle.boundary_model.proofs.Edits
+pub use Rattle.boundary_model.proofs.Halves
+pub use Rattle.boundary_model.proofs.Leads
+pub use Rattle.boundary_model.proofs.Lists
+pub use Rattle.boundary_model.proofs.Models
+pub use Rattle.boundary_model.proofs.Operators
+pub use Rattle.boundary_model.proofs.Rings
+pub use Rattle.boundary_model.proofs.Rotations
+pub use Rattle.boundary_model.proofs.Tables
+pub use Rattle.boundary_model.proofs.Vertices

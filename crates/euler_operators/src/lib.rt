@@ -4,7 +4,7 @@
 ghost use Rattle.std.specs.Prelude.{◌≡◌, ℕ, List, [], ◌++◌, ◌∷◌, length, OnOk, OnErr, slice_index, ◌<◌};
 ghost use Rattle.euler_operators.specs.Refusal.{code_of};
 
-use boundary_model::{Corner, HalfEdge, Point};
+pub use boundary_model::{Corner, HalfEdge, Point};
 use std::alloc::{AllocError, Global};
 use std::marker::Model;
 

@@ -1,9 +1,9 @@
 -- What belongs to a face or a solid.
 use Rattle.std.specs.Prelude.{◌≡◌, ℕ, Bool, true, false, cond, ◌&&◌, ◌||◌, nat_eq, List, [], ◌∷◌, ◌++◌, map}
-use Rattle.boundary_model.specs.declared.Point.{Point}
-use Rattle.boundary_model.specs.HalfEdge.{mate, plus}
-use Rattle.boundary_model.specs.Table as table
-use Rattle.boundary_model.specs.Model.{Model, LoopContent, lone, cycle, items_of, tail, content, outer, point_of, solid_of, rings_of}
+use Rattle.euler_operators.specs.declared.Point.{Point}
+use Rattle.euler_operators.specs.HalfEdge.{mate, plus}
+use Rattle.euler_operators.specs.Table as table
+use Rattle.euler_operators.specs.Model.{Model, LoopContent, lone, cycle, items_of, tail, content, outer, point_of, solid_of, rings_of}
 use Rattle.euler_operators.specs.Conditions.{face_at, is_lone, lists}
 
 -- the loops of a face: the outer one, then the rings, rising

@@ -1,14 +1,14 @@
 -- A flat ring of corners with a face on either side.
 use Rattle.std.specs.Prelude.{◌≡◌, ℕ, zero, suc, ◌+◌, ◌-◌, Bool, true, false, cond, not, ◌||◌, nat_eq, nat_le, List, [], ◌∷◌, ◌++◌, map, reverse, length, get_or, Option}
 use Rattle.std.specs.List.{list_any}
-use Rattle.boundary_model.specs.declared.Point.{Point}
-use Rattle.boundary_model.specs.Points.{is_in_range}
-use Rattle.boundary_model.specs.Vectors.{same_point}
-use Rattle.boundary_model.specs.Rings.{canonical}
-use Rattle.boundary_model.specs.HalfEdge.{plus, minus}
-use Rattle.boundary_model.specs.Table as table
-use Rattle.boundary_model.specs.Table.{Table}
-use Rattle.boundary_model.specs.Model.{Model, cycle, FaceRow, LoopRow, EdgeRow, no_point}
+use Rattle.euler_operators.specs.declared.Point.{Point}
+use Rattle.euler_operators.specs.Points.{is_in_range}
+use Rattle.euler_operators.specs.Vectors.{same_point}
+use Rattle.euler_operators.specs.Rings.{canonical}
+use Rattle.euler_operators.specs.HalfEdge.{plus, minus}
+use Rattle.euler_operators.specs.Table as table
+use Rattle.euler_operators.specs.Table.{Table}
+use Rattle.euler_operators.specs.Model.{Model, cycle, FaceRow, LoopRow, EdgeRow, no_point}
 use Rattle.euler_operators.specs.Conditions.{Condition, need, never, first_refusal, numbers_in_range}
 use Rattle.shapes.specs.Fresh.{Taken, taken_in, numbers_left, numbers_after, no_such}
 use Rattle.euler_operators.specs.declared.Refusal.{Refusal}
