@@ -4,7 +4,7 @@ use Rattle.arena_rows.proofs.rows.last_from.Given as goal
 
 abbrev pub invariant-down : goal.invariant-down
 invariant-down g l = record {
-  none : (k : ℕ) → l.m < k → has_row l.cells.now k ≡ false;
+  none : (k : ℕ) → l.m < k → has_row l.cells k ≡ false;
 }
 
 abbrev pub decreases-down : goal.decreases-down
