@@ -5,7 +5,7 @@ ghost use Rattle.boundary_model.specs.Model.{items_of, content, has_half, loop_o
 ghost use Rattle.arena_rows.specs.Store.{has_number, cut, join};
 
 use crate::arena::Arena;
-use arena_rows::{Held, LoopCell, rows};
+use arena_rows::{Held, LoopCell};
 use boundary_model::{HalfEdge, Kind};
 
 impl Arena {

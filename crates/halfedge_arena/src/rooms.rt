@@ -3,7 +3,6 @@ ghost use Rattle.std.specs.Prelude.{◌≡◌, ◌≤◌, true, OnOk};
 ghost use Rattle.arena_rows.specs.Store.{has_room, HasGrown};
 
 use crate::arena::Arena;
-use arena_rows::rows;
 use boundary_model::Kind;
 use std::alloc::AllocError;
 
