@@ -80,13 +80,6 @@ impl<T: Copy> Rows<T> {
         })
     }
 
-    /// Row n, where there is one.
-    pub fn find(&self, n: u32) -> Option<T>
-        ensures { result ≡ row_at self.now n }
-    {
-        find(&self.cells, n)
-    }
-
     /// Row n, which is there.
     pub fn known(&self, n: u32) -> T
         requires { IsSome (row_at self.now n) }
@@ -143,13 +136,15 @@ impl<T: Copy> Rows<T> {
     }
 }
 
-/// Whether loop l is there and names face f.
-pub fn names(loops: &Rows<LoopCell>, l: u32, f: u32) -> bool
-    ensures { result ≡ names f (row_at loops.now l) }
-{
-    match loops.find(l) {
-        Some(cell) => cell.face == f,
-        None => false,
+impl Rows<LoopCell> {
+    /// Whether loop l is there and names face f.
+    pub fn names(&self, l: u32, f: u32) -> bool
+        ensures { result ≡ names f (row_at self.now l) }
+    {
+        match find(&self.cells, l) {
+            Some(cell) => cell.face == f,
+            None => false,
+        }
     }
 }
 

@@ -7,7 +7,7 @@ ghost use Rattle.boundary_model.specs.Model.{cycle, point_of, solid_of, outer, f
 ghost use Rattle.arena_rows.specs.Store.{has_room, has_number, loose_ring, Tells, only_item};
 
 use crate::arena::Arena;
-use arena_rows::{Held, rows};
+use arena_rows::Held;
 use boundary_model::{Content, HalfEdge, Kind};
 use lattice::Point;
 
@@ -63,7 +63,7 @@ impl Arena {
     {
         let outer = self.faces.known(f).outer;
         let named = self.face_loops.count(f);
-        if rows::names(&self.loops, outer, f) {
+        if self.loops.names(outer, f) {
             named - 1
         } else {
             named
