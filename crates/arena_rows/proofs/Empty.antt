@@ -1,12 +1,14 @@
 -- The arena that holds nothing, numbers past the rows, and the room of numbers in use.
 use Rattle.std.proofs.Common.{◌-◌}
 use Rattle.ring_spots.proofs.SpotTables.{edge_live, edge_has_room, codes_are}
-use Rattle.arena_rows.specs.Rows.{row_at}
+use Rattle.arena_rows.specs.Rows.{row_at, has_row}
+use Rattle.ring_spots.specs.Last.{IsLast, is_edge}
+use Rattle.ring_spots.proofs.Lasts.{last_same}
 use Rattle.arena_rows.specs.Store.{within}
 use Rattle.arena_rows.specs.View.{Fits}
 use Rattle.arena_rows.proofs.Views.{row_within, row_not_zero}
 use Rattle.ring_spots.proofs.SpotTables.{and-false, nothing, edge_has}
-use Rattle.std.proofs.Common.{◌≡◌, ◌≢◌, ℕ, ◌+◌, ◌≤◌, ◌<◌, Bool, true, false, cond, nat_eq, nat_lt, nat_le, ◌&&◌, List, [], Option, Some, None, is_some, refl, sym, ap, ◌∙◌, arith, true≢false}
+use Rattle.std.proofs.Common.{◌≡◌, ◌≢◌, ℕ, ◌≤◌, Bool, true, false, cond, nat_eq, nat_lt, nat_le, ◌&&◌, List, [], Option, Some, None, is_some, sym, ap, ◌∙◌, arith, true≢false}
 use Rattle.std.proofs.lemmas.Bool.Decides.{nat_tests}
 use Rattle.lattice.specs.declared.Point.{Point}
 use Rattle.boundary_model.specs.HalfEdge.{plus, minus}
@@ -19,7 +21,7 @@ use Rattle.arena_rows.specs.View.{store_of, IsTied, solid_row, face_row, loop_ro
 use Rattle.ring_spots.specs.SpotTables.{edge_row, both_tails, edge_room, loose_row}
 use Rattle.arena_rows.specs.Rows.{table_of}
 use Rattle.std.proofs.Common.{length}
-use Rattle.arena_rows.proofs.Views.{table_of-empty, fits-empty, has_is, row_past}
+use Rattle.arena_rows.proofs.Views.{table_of-empty, fits-empty, has_is}
 
 module _ (sp : Spots) (known : ℕ → Bool) (none : (q : ℕ) → sp q ≡ None) (unknown : (q : ℕ) → known q ≡ false) where
   dead : (c : ℕ) → live sp c ≢ true
@@ -54,15 +56,12 @@ module _ (sp : Spots) (known : ℕ → Bool) (none : (q : ℕ) → sp q ≡ None
     room = record { solids = 0; faces = 0; loops = 0; edges = nothing (edge_room known) edges_end no_room_row i; vertices = 0 };
   }
 
--- no number passes the rows, or the limit
-pub no_row_past : {X Y : Type 0} (f : X → Y) (rows : List (Option X)) (t k : ℕ) → length rows ≤ t + 1 → t < k → is_some (get (table_of f rows) k) ≡ false
-no_row_past f rows t k l h = has_is f rows k ∙ ap is_some (row_past rows k (omega arith))
+-- the last row, or the last edge, is the greatest number in use
+pub greatest_row : {X Y : Type 0} (f : X → Y) (rows : List (Option X)) (m : ℕ) → IsLast (has_row rows) m → IsLast (λ k. is_some (get (table_of f rows) k)) m
+greatest_row f rows m last = last_same (has_row rows) (λ k. is_some (get (table_of f rows) k)) m (λ k. has_is f rows k) last
 
-pub no_edge_past : (sp : Spots) → AreRings sp → (known : ℕ → Bool) → ((c : ℕ) → live sp c ≡ true → known c ≡ true) → (t : ℕ) → ((e : ℕ) → known (plus e) ≡ true → e ≤ t) → (k : ℕ) → t < k → is_some (get (tabulate (edge_row sp) codes) k) ≡ false
-no_edge_past sp R known awake t bound k h = go (is_some (get (tabulate (edge_row sp) codes) k)) refl where
-  go : (b : Bool) → is_some (get (tabulate (edge_row sp) codes) k) ≡ b → b ≡ false
-  go true e = let l = bound k (awake (plus k) (edge_live sp R k e).0) in absurd (omega arith)
-  go false e = refl
+pub greatest_edge : (sp : Spots) → AreRings sp → (m : ℕ) → IsLast (is_edge sp) m → IsLast (λ k. is_some (get (tabulate (edge_row sp) codes) k)) m
+greatest_edge sp R m last = last_same (is_edge sp) (λ k. is_some (get (tabulate (edge_row sp) codes) k)) m (λ k. edge_has sp R k) last
 
 -- ---- a number in use has its room
 

@@ -1,11 +1,15 @@
 -- Rows by number.
-use Rattle.std.specs.Prelude.{ℕ, Bool, false, nat_eq, List, length, Option, Some, None, slice_index_or}
+use Rattle.std.specs.Prelude.{ℕ, Bool, false, nat_eq, List, length, Option, Some, None, is_some, slice_index_or}
 use Rattle.arena_rows.specs.declared.rows.LoopCell.{LoopCell}
 use Rattle.boundary_model.specs.Table.{Table, tabulate}
 
 -- row n, where there is one
 abbrev pub row_at : {X : Type 0} → List (Option X) → ℕ → Option X
 row_at rows n = slice_index_or rows n None
+
+-- whether there is a row n
+abbrev pub has_row : {X : Type 0} → List (Option X) → ℕ → Bool
+has_row rows n = is_some (row_at rows n)
 
 abbrev pub map_row : {X Y : Type 0} → (X → Y) → Option X → Option Y
 map_row f None = None

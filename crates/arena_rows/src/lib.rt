@@ -1,6 +1,6 @@
 //! Rows by number, and what an arena of rows and rings stands for.
 #![tactic(auto)]
 
-pub mod rows;
+mod rows;
 
-pub use rows::{FaceCell, Held, LoopCell};
+pub use rows::{FaceCell, Held, LoopCell, Rows};

@@ -1,9 +1,11 @@
 //! Rows by number.
-ghost use Rattle.std.specs.Prelude.{◌≡◌, ℕ, ◌<◌, ◌≤◌, ◌-◌, ◌+◌, true, cond, nat_eq, is_some, length, OnOk, IfOk, Option, Some, None, IsSome};
-ghost use Rattle.arena_rows.specs.Rows.{row_at, names};
+ghost use Rattle.std.specs.Prelude.{◌≡◌, ℕ, ◌<◌, ◌≤◌, ◌-◌, ◌+◌, true, false, cond, nat_eq, is_some, List, [], length, OnOk, IfOk, Option, Some, None, IsSome};
+ghost use Rattle.ring_spots.specs.Last.{IsLast};
+ghost use Rattle.arena_rows.specs.Rows.{row_at, has_row, names};
 ghost use Rattle.arena_rows.specs.Store.{within};
 
 use std::alloc::{AllocError, Global};
+use std::marker::Model;
 
 /// A face of a solid, with its outer loop.
 #[derive(Clone, Copy)]
@@ -34,92 +36,152 @@ pub struct LoopCell {
     pub held: Held,
 }
 
-/// Row n, where there is one.
-pub fn find<T: Copy>(rows: &[Option<T>], n: u32) -> Option<T>
-    ensures { result ≡ row_at rows.now n }
+/// Rows by number, with the greatest number that has one.
+///
+/// A contract sees the list of the cells, one for each number from 0 on. Only `reach` and `copy` take memory.
+#[derive(Drop)]
+pub struct Rows<T: Copy> {
+    cells: Vec<Option<T>>,
+    last: u32,
+}
+
+impl<T: Copy> Model for Rows<T> {
+    ghost use Rattle.std.specs.Prelude.{List, Option};
+
+    ghost Value = { List (Option T) };
+
+    ghost use Rattle.arena_rows.specs.Rows.{has_row};
+    ghost use Rattle.ring_spots.specs.Last.{IsLast};
+
+    ghost view = { λ a. a.cells.items };
+
+    ghost invariant = { λ a. IsLast (has_row a.cells.items) a.last };
+}
+
+impl<T: Copy> Rows<T> {
+    /// No row, and no room. It takes no memory.
+    pub fn new(alloc: Global) -> Self
+        ensures { result ≡ [] }
+    {
+        Self {
+            cells: Vec::new(alloc),
+            last: 0,
+        }
+    }
+
+    /// Rows that are equal, in memory of their own.
+    pub fn copy(&self, alloc: Global) -> Result<Rows<T>, AllocError>
+        requires { (x y : T) → T.is_clone x y → y ≡ x }
+        ensures { IfOk result (λ copy. copy ≡ self.now) }
+    {
+        Ok(Rows {
+            cells: self.cells.as_slice().to_vec(alloc)?,
+            last: self.last,
+        })
+    }
+
+    /// Row n, which is there.
+    pub fn known(&self, n: u32) -> T
+        requires { IsSome (row_at self.now n) }
+        ensures { row_at self.now n ≡ Some result }
+    {
+        match find(&self.cells, n) {
+            Some(row) => row,
+            None => unreachable!(),
+        }
+    }
+
+    /// Whether row n is there.
+    pub fn has(&self, n: u32) -> bool
+        ensures { result ≡ has_row self.now n }
+    {
+        find(&self.cells, n).is_some()
+    }
+
+    /// The greatest number that has a row, or 0 where none has. The number is kept, so this walks over nothing.
+    pub fn last(&self) -> u32
+        ensures { IsLast (has_row self.now) result }
+    {
+        self.last
+    }
+
+    /// Writes row n, or takes it away. Where the last row goes, it looks at each number below down to the next row.
+    pub fn write(&mut self, n: u32, row: Option<T>)
+        requires { n < length self.old }
+        ensures rows { (q : ℕ) → row_at self.new q ≡ cond (nat_eq q n) row (row_at self.old q) }
+        ensures len { length self.new ≡ length self.old }
+    {
+        self.cells[n as usize] = row;
+        if self.last <= n {
+            self.last = last_from(&self.cells, n);
+        }
+    }
+
+    /// Whether number n, from 1 on, has its room.
+    pub fn reaches(&self, n: u32) -> bool
+        ensures { result ≡ within n (length self.now - 1) }
+    {
+        n != 0 && (n as usize) < self.cells.len()
+    }
+
+    /// Makes the rows reach to number n.
+    pub fn reach(&mut self, n: u32) -> Result<(), AllocError>
+        requires { n ≤ 1000000 }
+        ensures same { (q : ℕ) → row_at self.new q ≡ row_at self.old q }
+        ensures grows { length self.old ≤ length self.new }
+        ensures limit { (k : ℕ) → n < k → length self.old ≤ k → length self.new ≤ k }
+        ensures ok { OnOk result (n < length self.new) }
+    {
+        reach(&mut self.cells, n)
+    }
+}
+
+impl Rows<LoopCell> {
+    /// Whether loop l is there and names face f.
+    pub fn names(&self, l: u32, f: u32) -> bool
+        ensures { result ≡ names f (row_at self.now l) }
+    {
+        match find(&self.cells, l) {
+            Some(cell) => cell.face == f,
+            None => false,
+        }
+    }
+}
+
+fn find<T: Copy>(cells: &[Option<T>], n: u32) -> Option<T>
+    ensures { result ≡ row_at cells.now n }
 {
-    match rows.get(n as usize) {
+    match cells.get(n as usize) {
         Some(row) => *row,
         None => None,
     }
 }
 
-/// Row n, which is there.
-pub fn known<T: Copy>(rows: &[Option<T>], n: u32) -> T
-    requires { IsSome (row_at rows.now n) }
-    ensures { row_at rows.now n ≡ Some result }
+/// The greatest number that has a row, or 0 where none has. None above n has one.
+fn last_from<T: Copy>(cells: &[Option<T>], n: u32) -> u32
+    requires { (k : ℕ) → n < k → has_row cells.now k ≡ false }
+    ensures { IsLast (has_row cells.now) result }
 {
-    match find(rows, n) {
-        Some(row) => row,
-        None => unreachable!(),
+    let mut m = n;
+    'down: while m > 0 {
+        if find(cells, m).is_some() {
+            return m;
+        }
+        m -= 1;
     }
+    m
 }
 
-/// Writes row n, or takes it away.
-pub fn write<T: Copy>(rows: &mut Vec<Option<T>>, n: u32, row: Option<T>)
-    requires { n < length rows.old.items }
-    ensures rows { (q : ℕ) → row_at rows.new.items q ≡ cond (nat_eq q n) row (row_at rows.old.items q) }
-    ensures len { length rows.new.items ≡ length rows.old.items }
-{
-    rows[n as usize] = row;
-}
-
-/// Whether row n is there.
-pub fn has<T: Copy>(rows: &[Option<T>], n: u32) -> bool
-    ensures { result ≡ is_some (row_at rows.now n) }
-{
-    find(rows, n).is_some()
-}
-
-/// Whether loop l is there and names face f.
-pub fn names(loops: &[Option<LoopCell>], l: u32, f: u32) -> bool
-    ensures { result ≡ names f (row_at loops.now l) }
-{
-    match find(loops, l) {
-        Some(cell) => cell.face == f,
-        None => false,
-    }
-}
-
-/// Whether number n, from 1 on, has its row.
-pub fn reaches<T: Copy>(rows: &[Option<T>], n: u32) -> bool
-    ensures { result ≡ within n (length rows.now - 1) }
-{
-    n != 0 && (n as usize) < rows.len()
-}
-
-/// Makes the rows reach to number n.
-pub fn reach<T: Copy>(rows: &mut Vec<Option<T>>, n: u32) -> Result<(), AllocError>
+fn reach<T: Copy>(cells: &mut Vec<Option<T>>, n: u32) -> Result<(), AllocError>
     requires { n ≤ 1000000 }
-    ensures same { (q : ℕ) → row_at rows.new.items q ≡ row_at rows.old.items q }
-    ensures grows { length rows.old.items ≤ length rows.new.items }
-    ensures limit { (k : ℕ) → n < k → length rows.old.items ≤ k → length rows.new.items ≤ k }
-    ensures ok { OnOk result (n < length rows.new.items) }
+    ensures same { (q : ℕ) → row_at cells.new.items q ≡ row_at cells.old.items q }
+    ensures grows { length cells.old.items ≤ length cells.new.items }
+    ensures limit { (k : ℕ) → n < k → length cells.old.items ≤ k → length cells.new.items ≤ k }
+    ensures ok { OnOk result (n < length cells.new.items) }
 {
     let index = n as usize;
-    if rows.len() <= index {
-        rows.resize(index + 1, None)?;
+    if cells.len() <= index {
+        cells.resize(index + 1, None)?;
     }
     Ok(())
-}
-
-/// A number that no row passes.
-pub fn top<T: Copy>(rows: &[Option<T>]) -> u32
-    requires { length rows.now ≤ 1000001 }
-    ensures limit { result ≤ 1000000 }
-    ensures passes { length rows.now ≤ result + 1 }
-{
-    let len = rows.len();
-    if len == 0 {
-        return 0;
-    }
-    (len - 1) as u32
-}
-
-/// A vector of the same items.
-pub fn copied<T: Copy>(alloc: Global, items: &[T]) -> Result<Vec<T>, AllocError>
-    requires { (x y : T) → T.is_clone x y → y ≡ x }
-    ensures { IfOk result (λ copy. copy.items ≡ items.now) }
-{
-    items.to_vec(alloc)
 }

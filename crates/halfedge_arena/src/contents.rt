@@ -5,7 +5,7 @@ ghost use Rattle.boundary_model.specs.Model.{items_of, content, has_half, loop_o
 ghost use Rattle.arena_rows.specs.Store.{has_number, clear, fill, with_lone, set_content, IsReady};
 
 use crate::arena::Arena;
-use arena_rows::{Held, LoopCell, rows};
+use arena_rows::{Held, LoopCell};
 use boundary_model::{Content, HalfEdge, Kind};
 
 impl Arena {
@@ -16,17 +16,17 @@ impl Arena {
         requires { has_number self.old Kind.Loop l ≡ true }
         ensures { self.new ≡ clear self.old l }
     {
-        let old = rows::known(&self.loops, l);
+        let old = self.loops.known(l);
         let cell = LoopCell {
             face: old.face,
             held: Held::Empty,
         };
         if let Held::At(c) = old.held {
-            ring_spots::relabel(&mut self.rings, c, 0);
-            rows::write(&mut self.loops, l, Some(cell));
+            self.rings.relabel(c, 0);
+            self.loops.write(l, Some(cell));
             return;
         }
-        rows::write(&mut self.loops, l, Some(cell));
+        self.loops.write(l, Some(cell));
     }
 
     /// Makes loop l lone at vertex v. It is there and holds no half-edge.
@@ -35,12 +35,12 @@ impl Arena {
         requires bare { items_of (content self.old.model l) ≡ [] }
         ensures { self.new ≡ with_lone self.old l v }
     {
-        let old = rows::known(&self.loops, l);
+        let old = self.loops.known(l);
         let cell = LoopCell {
             face: old.face,
             held: Held::Lone(v),
         };
-        rows::write(&mut self.loops, l, Some(cell));
+        self.loops.write(l, Some(cell));
     }
 
     /// Puts the loose ring of h into loop l, which is there and holds no half-edge.
@@ -55,13 +55,13 @@ impl Arena {
     {
         let _ = &self.rings;
         let item = h.code();
-        let old = rows::known(&self.loops, l);
+        let old = self.loops.known(l);
         let cell = LoopCell {
             face: old.face,
             held: Held::At(item),
         };
-        ring_spots::relabel(&mut self.rings, item, l);
-        rows::write(&mut self.loops, l, Some(cell));
+        self.rings.relabel(item, l);
+        self.loops.write(l, Some(cell));
     }
 
     /// Gives loop l, which is there, other content: what it held is a loose ring then, and l is lone at a vertex, or takes the

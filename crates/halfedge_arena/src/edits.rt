@@ -1,4 +1,6 @@
 //! Solids, faces, vertices, edges and loops that come, go or change their row.
+//!
+//! Where the greatest number in use of its kind goes, each number below it is looked at down to the next one in use.
 ghost use Rattle.std.specs.Prelude.{◌≡◌, true, false, [], ◌∷◌, Some};
 ghost use Rattle.lattice.specs.Point.{IsInRange};
 ghost use Rattle.boundary_model.specs.HalfEdge.{code, plus, minus};
@@ -7,7 +9,7 @@ ghost use Rattle.boundary_model.specs.Model.{items_of, content, has_half};
 ghost use Rattle.arena_rows.specs.Store.{has_room, has_number, put_solid, take_solid, put_face, take_face, set_outer, set_solid, put_vertex, take_vertex, put_loop, take_loop, set_face, set_tail, put_edge, take_edge};
 
 use crate::arena::Arena;
-use arena_rows::{FaceCell, Held, LoopCell, rows};
+use arena_rows::{FaceCell, Held, LoopCell};
 use boundary_model::{HalfEdge, Kind};
 use lattice::Point;
 
@@ -17,7 +19,7 @@ impl Arena {
         requires { has_room self.old Kind.Solid n ≡ true }
         ensures { self.new ≡ put_solid self.old n }
     {
-        rows::write(&mut self.solids, n, Some(true));
+        self.solids.write(n, Some(true));
     }
 
     /// Solid n goes, which is there.
@@ -25,7 +27,7 @@ impl Arena {
         requires { has_number self.old Kind.Solid n ≡ true }
         ensures { self.new ≡ take_solid self.old n }
     {
-        rows::write(&mut self.solids, n, None);
+        self.solids.write(n, None);
     }
 
     /// A new face f of solid n with outer loop l. Number f is free and has its room, and so has the solid's number its room.
@@ -39,7 +41,7 @@ impl Arena {
         ensures { self.new ≡ put_face self.old f n l }
     {
         let cell = FaceCell { solid: n, outer: l };
-        rows::write(&mut self.faces, f, Some(cell));
+        self.faces.write(f, Some(cell));
         self.solid_faces.insert(n, f);
     }
 
@@ -48,7 +50,7 @@ impl Arena {
         requires { has_number self.old Kind.Face f ≡ true }
         ensures { self.new ≡ take_face self.old f }
     {
-        rows::write(&mut self.faces, f, None);
+        self.faces.write(f, None);
         self.solid_faces.remove(f);
     }
 
@@ -57,9 +59,9 @@ impl Arena {
         requires { has_number self.old Kind.Face f ≡ true }
         ensures { self.new ≡ set_outer self.old f l }
     {
-        let solid = rows::known(&self.faces, f).solid;
+        let solid = self.faces.known(f).solid;
         let cell = FaceCell { solid, outer: l };
-        rows::write(&mut self.faces, f, Some(cell));
+        self.faces.write(f, Some(cell));
     }
 
     /// Face f, which is there, is of another solid, whose number has its room. Its place there is looked for as `put_face` does.
@@ -68,12 +70,12 @@ impl Arena {
         requires solid_room { has_room self.old Kind.Solid n ≡ true }
         ensures { self.new ≡ set_solid self.old f n }
     {
-        let old = rows::known(&self.faces, f);
+        let old = self.faces.known(f);
         let cell = FaceCell {
             solid: n,
             outer: old.outer,
         };
-        rows::write(&mut self.faces, f, Some(cell));
+        self.faces.write(f, Some(cell));
         self.solid_faces.remove(f);
         self.solid_faces.insert(n, f);
     }
@@ -84,7 +86,7 @@ impl Arena {
         requires range { IsInRange p }
         ensures { self.new ≡ put_vertex self.old v p }
     {
-        rows::write(&mut self.vertices, v, Some(p));
+        self.vertices.write(v, Some(p));
     }
 
     /// Vertex v goes, which is there.
@@ -92,7 +94,7 @@ impl Arena {
         requires { has_number self.old Kind.Vertex v ≡ true }
         ensures { self.new ≡ take_vertex self.old v }
     {
-        rows::write(&mut self.vertices, v, None);
+        self.vertices.write(v, None);
     }
 
     /// A new loop l of face f, which is empty. Number l is free and has its room, and so has the face's number its room.
@@ -109,7 +111,7 @@ impl Arena {
             face: f,
             held: Held::Empty,
         };
-        rows::write(&mut self.loops, l, Some(cell));
+        self.loops.write(l, Some(cell));
         self.face_loops.insert(f, l);
     }
 
@@ -119,7 +121,7 @@ impl Arena {
         requires bare { items_of (content self.old.model l) ≡ [] }
         ensures { self.new ≡ take_loop self.old l }
     {
-        rows::write(&mut self.loops, l, None);
+        self.loops.write(l, None);
         self.face_loops.remove(l);
     }
 
@@ -129,12 +131,12 @@ impl Arena {
         requires face_room { has_room self.old Kind.Face f ≡ true }
         ensures { self.new ≡ set_face self.old l f }
     {
-        let old = rows::known(&self.loops, l);
+        let old = self.loops.known(l);
         let cell = LoopCell {
             face: f,
             held: old.held,
         };
-        rows::write(&mut self.loops, l, Some(cell));
+        self.loops.write(l, Some(cell));
         self.face_loops.remove(l);
         self.face_loops.insert(f, l);
     }
@@ -146,7 +148,7 @@ impl Arena {
         requires free { has_number self.old Kind.Edge e ≡ false }
         ensures { self.new ≡ put_edge self.old e a b }
     {
-        ring_spots::wake_edge(&mut self.rings, e, a, b);
+        self.rings.wake_edge(e, a, b);
     }
 
     /// Edge e goes, whose half-edges are loose, each a ring of its own.
@@ -155,7 +157,7 @@ impl Arena {
         requires second { get self.old.loose (minus e) ≡ Some (minus e ∷ []) }
         ensures { self.new ≡ take_edge self.old e }
     {
-        ring_spots::sleep_edge(&mut self.rings, e);
+        self.rings.sleep_edge(e);
     }
 
     /// A half-edge, whose edge is there, starts at vertex v.
@@ -165,6 +167,6 @@ impl Arena {
     {
         let _ = &self.rings;
         let item = h.code();
-        ring_spots::retail(&mut self.rings, item, v);
+        self.rings.retail(item, v);
     }
 }

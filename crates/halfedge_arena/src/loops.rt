@@ -5,7 +5,7 @@ ghost use Rattle.boundary_model.specs.Model.{items_of, content, has_half, loop_o
 ghost use Rattle.arena_rows.specs.Store.{has_number, cut, join};
 
 use crate::arena::Arena;
-use arena_rows::{Held, LoopCell, rows};
+use arena_rows::{Held, LoopCell};
 use boundary_model::{HalfEdge, Kind};
 
 impl Arena {
@@ -26,23 +26,23 @@ impl Arena {
         let first = a.code();
         let second = b.code();
         let kept = self.rings.label(first);
-        let face = rows::known(&self.loops, kept).face;
-        ring_spots::exchange(&mut self.rings, first, second);
-        ring_spots::relabel(&mut self.rings, second, l);
+        let face = self.loops.known(kept).face;
+        self.rings.exchange(first, second);
+        self.rings.relabel(second, l);
         let cell = LoopCell {
             face,
             held: Held::At(first),
         };
-        rows::write(&mut self.loops, kept, Some(cell));
+        self.loops.write(kept, Some(cell));
         if l == 0 {
             return;
         }
-        let other = rows::known(&self.loops, l).face;
+        let other = self.loops.known(l).face;
         let cell = LoopCell {
             face: other,
             held: Held::At(second),
         };
-        rows::write(&mut self.loops, l, Some(cell));
+        self.loops.write(l, Some(cell));
     }
 
     /// Joins to a's loop another one, or a loose ring: `a Y` and `b X` become `a X b Y` under the number of a's loop. b's loop,
@@ -61,23 +61,23 @@ impl Arena {
         let second = b.code();
         let kept = self.rings.label(first);
         let gone = self.rings.label(second);
-        let face = rows::known(&self.loops, kept).face;
-        ring_spots::relabel(&mut self.rings, second, kept);
-        ring_spots::exchange(&mut self.rings, first, second);
+        let face = self.loops.known(kept).face;
+        self.rings.relabel(second, kept);
+        self.rings.exchange(first, second);
         let cell = LoopCell {
             face,
             held: Held::At(first),
         };
         if gone == 0 {
-            rows::write(&mut self.loops, kept, Some(cell));
+            self.loops.write(kept, Some(cell));
             return;
         }
-        let other = rows::known(&self.loops, gone).face;
+        let other = self.loops.known(gone).face;
         let empty = LoopCell {
             face: other,
             held: Held::Empty,
         };
-        rows::write(&mut self.loops, gone, Some(empty));
-        rows::write(&mut self.loops, kept, Some(cell));
+        self.loops.write(gone, Some(empty));
+        self.loops.write(kept, Some(cell));
     }
 }

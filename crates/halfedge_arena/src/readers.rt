@@ -7,7 +7,7 @@ ghost use Rattle.boundary_model.specs.Model.{cycle, point_of, solid_of, outer, f
 ghost use Rattle.arena_rows.specs.Store.{has_room, has_number, loose_ring, Tells, only_item};
 
 use crate::arena::Arena;
-use arena_rows::{Held, rows};
+use arena_rows::Held;
 use boundary_model::{Content, HalfEdge, Kind};
 use lattice::Point;
 
@@ -18,11 +18,11 @@ impl Arena {
         ensures room { result ≡ true → has_room self.now kind n ≡ true }
     {
         match kind {
-            Kind::Solid => rows::has(&self.solids, n),
-            Kind::Face => rows::has(&self.faces, n),
-            Kind::Loop => rows::has(&self.loops, n),
-            Kind::Edge => ring_spots::has_edge(&self.rings, n),
-            Kind::Vertex => rows::has(&self.vertices, n),
+            Kind::Solid => self.solids.has(n),
+            Kind::Face => self.faces.has(n),
+            Kind::Loop => self.loops.has(n),
+            Kind::Edge => self.rings.has_edge(n),
+            Kind::Vertex => self.vertices.has(n),
         }
     }
 
@@ -31,11 +31,11 @@ impl Arena {
         ensures { result ≡ has_room self.now kind n }
     {
         match kind {
-            Kind::Solid => rows::reaches(&self.solids, n),
-            Kind::Face => rows::reaches(&self.faces, n),
-            Kind::Loop => rows::reaches(&self.loops, n),
-            Kind::Edge => ring_spots::has_edge_room(&self.rings, n),
-            Kind::Vertex => rows::reaches(&self.vertices, n),
+            Kind::Solid => self.solids.reaches(n),
+            Kind::Face => self.faces.reaches(n),
+            Kind::Loop => self.loops.reaches(n),
+            Kind::Edge => self.rings.has_edge_room(n),
+            Kind::Vertex => self.vertices.reaches(n),
         }
     }
 
@@ -44,7 +44,7 @@ impl Arena {
         requires { has_number self.now Kind.Face f ≡ true }
         ensures { result ≡ solid_of self.now.model f }
     {
-        rows::known(&self.faces, f).solid
+        self.faces.known(f).solid
     }
 
     /// The outer loop of face f, which is there.
@@ -52,7 +52,7 @@ impl Arena {
         requires { has_number self.now Kind.Face f ≡ true }
         ensures { result ≡ outer self.now.model f }
     {
-        rows::known(&self.faces, f).outer
+        self.faces.known(f).outer
     }
 
     /// How many rings face f has, which is there: loops that name it, but its outer loop. The number is kept, so this walks
@@ -61,9 +61,9 @@ impl Arena {
         requires { has_number self.now Kind.Face f ≡ true }
         ensures { result ≡ length (rings_of self.now.model f) }
     {
-        let outer = rows::known(&self.faces, f).outer;
+        let outer = self.faces.known(f).outer;
         let named = self.face_loops.count(f);
-        if rows::names(&self.loops, outer, f) {
+        if self.loops.names(outer, f) {
             named - 1
         } else {
             named
@@ -101,7 +101,7 @@ impl Arena {
         requires { has_number self.now Kind.Loop l ≡ true }
         ensures { result ≡ face_of self.now.model l }
     {
-        rows::known(&self.loops, l).face
+        self.loops.known(l).face
     }
 
     /// What loop l holds, which is there and isn't empty: the vertex of a lone loop, or some half-edge that stands in it.
@@ -110,7 +110,7 @@ impl Arena {
         requires filled { content self.now.model l ≢ cycle [] }
         ensures { Tells (content self.now.model l) result }
     {
-        match rows::known(&self.loops, l).held {
+        match self.loops.known(l).held {
             Held::Lone(v) => Content::Lone(v),
             Held::At(c) => Content::Ring(HalfEdge::of_code(c)),
             Held::Empty => unreachable!(),
@@ -157,6 +157,6 @@ impl Arena {
         ensures point { result ≡ point_of self.now.model v }
         ensures range { IsInRange result }
     {
-        rows::known(&self.vertices, v)
+        self.vertices.known(v)
     }
 }

@@ -3,7 +3,6 @@ ghost use Rattle.std.specs.Prelude.{◌≡◌, ◌≤◌, true, OnOk};
 ghost use Rattle.arena_rows.specs.Store.{has_room, HasGrown};
 
 use crate::arena::Arena;
-use arena_rows::rows;
 use boundary_model::Kind;
 use std::alloc::AllocError;
 
@@ -33,7 +32,7 @@ impl Arena {
         ensures ok { OnOk result (has_room self.new Kind.Solid n ≡ true) }
     {
         self.solid_faces.reach_owner(n)?;
-        rows::reach(&mut self.solids, n)
+        self.solids.reach(n)
     }
 
     fn room_faces(&mut self, n: u32) -> Result<(), AllocError>
@@ -44,7 +43,7 @@ impl Arena {
     {
         self.solid_faces.reach_item(n)?;
         self.face_loops.reach_owner(n)?;
-        rows::reach(&mut self.faces, n)
+        self.faces.reach(n)
     }
 
     fn room_loops(&mut self, n: u32) -> Result<(), AllocError>
@@ -54,7 +53,7 @@ impl Arena {
         ensures ok { OnOk result (has_room self.new Kind.Loop n ≡ true) }
     {
         self.face_loops.reach_item(n)?;
-        rows::reach(&mut self.loops, n)
+        self.loops.reach(n)
     }
 
     fn room_edges(&mut self, n: u32) -> Result<(), AllocError>
@@ -63,7 +62,7 @@ impl Arena {
         ensures grown { HasGrown self.old self.new }
         ensures ok { OnOk result (has_room self.new Kind.Edge n ≡ true) }
     {
-        ring_spots::room_edge(&mut self.rings, n)
+        self.rings.room_edge(n)
     }
 
     fn room_vertices(&mut self, n: u32) -> Result<(), AllocError>
@@ -72,6 +71,6 @@ impl Arena {
         ensures grown { HasGrown self.old self.new }
         ensures ok { OnOk result (has_room self.new Kind.Vertex n ≡ true) }
     {
-        rows::reach(&mut self.vertices, n)
+        self.vertices.reach(n)
     }
 }

@@ -1,34 +1,19 @@
 //! Numbers in use, in order.
-ghost use Rattle.std.specs.Prelude.{◌≡◌, ◌≤◌, ◌<◌, ℕ, true, false};
+ghost use Rattle.std.specs.Prelude.{◌≡◌, ◌<◌, ℕ, true, false};
 ghost use Rattle.arena_rows.specs.Store.{has_number, IsNextNumber, IsGreatest, IsNextFace, IsNextRing};
 
 use crate::arena::Arena;
-use arena_rows::rows;
 use boundary_model::Kind;
 
 impl Arena {
-    /// A number of a kind that no number in use passes. It walks over nothing.
-    fn top(&self, kind: Kind) -> u32
-        ensures limit { result ≤ 1000000 }
-        ensures above { (k : ℕ) → result < k → has_number self.now kind k ≡ false }
-    {
-        match kind {
-            Kind::Solid => rows::top(&self.solids),
-            Kind::Face => rows::top(&self.faces),
-            Kind::Loop => rows::top(&self.loops),
-            Kind::Edge => ring_spots::last_edge(&self.rings),
-            Kind::Vertex => rows::top(&self.vertices),
-        }
-    }
-
     /// The least number of a kind in use above n, or none. It looks at each number from n on to the one that it finds, or to
-    /// the greatest that ever had room.
+    /// the greatest in use.
     pub fn after_number(&self, kind: Kind, n: u32) -> Option<u32>
         ensures { IsNextNumber self.now kind n result }
     {
-        let top = self.top(kind);
+        let greatest = self.greatest(kind);
         let mut m = n;
-        'up: while m < top {
+        'up: while m < greatest {
             m += 1;
             if self.has(kind, m) {
                 return Some(m);
@@ -37,19 +22,17 @@ impl Arena {
         None
     }
 
-    /// The greatest number of a kind in use, or 0 where none is. It looks at each number from the greatest that ever had room
-    /// down to the one that it finds.
+    /// The greatest number of a kind in use, or 0 where none is. The number is kept, so this walks over nothing.
     pub fn greatest(&self, kind: Kind) -> u32
         ensures { IsGreatest self.now kind result }
     {
-        let mut m = self.top(kind);
-        'down: while m > 0 {
-            if self.has(kind, m) {
-                return m;
-            }
-            m -= 1;
+        match kind {
+            Kind::Solid => self.solids.last(),
+            Kind::Face => self.faces.last(),
+            Kind::Loop => self.loops.last(),
+            Kind::Edge => self.rings.last_edge(),
+            Kind::Vertex => self.vertices.last(),
         }
-        m
     }
 
     /// The least face of solid s above n, or none. Where n is 0 or a face of the solid, this is one step; else it walks over the

@@ -3,3 +3,5 @@ pub mod RingMaps
 pub mod SpotTables
 pub mod EdgeSpots
 pub mod Relabelling
+pub mod Lasts
+pub mod LastEdges

@@ -1,2 +1,3 @@
 pub mod Spots
 pub mod SpotTables
+pub mod Last

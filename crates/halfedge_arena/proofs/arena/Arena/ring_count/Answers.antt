@@ -7,19 +7,19 @@ use Rattle.arena_rows.proofs.Indexed.{rings_counted}
 use Rattle.halfedge_arena.proofs.arena.Arena.ring_count.Goals as goal
 
 pub known-outer-requires : goal.known-outer-requires
-known-outer-requires c = rw c.deref.ensures.value (has-row face_row _ _ (rw (← c.self.view_is) at c.requires))
+known-outer-requires c = (has-row face_row _ _ (rw (← c.self.view_is) at c.requires))
 
 pub overflow_sub-result : goal.overflow_sub-result
 overflow_sub-result c =
-    let counted = rings_counted (spot c.self.inside.rings) (contains_key c.self.inside.rings) _ _ _ c.self.inside.vertices.items _ _ c.self.invariant.indexed c.args.f _ (rw c.deref.ensures.value at c.known-outer.ensures) true (sym (rw c.deref-2.ensures.value at c.names.ensures) ∙ c.if-names.true) in
+    let counted = rings_counted (spot c.self.inside.rings) (contains_key c.self.inside.rings) _ _ _ c.self.inside.vertices _ _ c.self.invariant.indexed c.args.f _ c.known-outer.ensures true (sym c.names.ensures ∙ c.if-names.true) in
     omega (arith, c.count-named.ensures, counted)
 
 pub returns-then-names : goal.returns-then-names
 returns-then-names c =
-    let counted = rings_counted (spot c.self.inside.rings) (contains_key c.self.inside.rings) _ _ _ c.self.inside.vertices.items _ _ c.self.invariant.indexed c.args.f _ (rw c.deref.ensures.value at c.known-outer.ensures) true (sym (rw c.deref-2.ensures.value at c.names.ensures) ∙ c.if-names.true) in
+    let counted = rings_counted (spot c.self.inside.rings) (contains_key c.self.inside.rings) _ _ _ c.self.inside.vertices _ _ c.self.invariant.indexed c.args.f _ c.known-outer.ensures true (sym c.names.ensures ∙ c.if-names.true) in
     rw (← c.self.view_is) (omega (arith, c.count-named.ensures, counted))
 
 pub returns-else-names : goal.returns-else-names
 returns-else-names c =
-    let counted = rings_counted (spot c.self.inside.rings) (contains_key c.self.inside.rings) _ _ _ c.self.inside.vertices.items _ _ c.self.invariant.indexed c.args.f _ (rw c.deref.ensures.value at c.known-outer.ensures) false (sym (rw c.deref-2.ensures.value at c.names.ensures) ∙ c.if-names.false) in
+    let counted = rings_counted (spot c.self.inside.rings) (contains_key c.self.inside.rings) _ _ _ c.self.inside.vertices _ _ c.self.invariant.indexed c.args.f _ c.known-outer.ensures false (sym c.names.ensures ∙ c.if-names.false) in
     rw (← c.self.view_is) (omega (arith, c.count-named.ensures, counted))
