@@ -1,7 +1,7 @@
 -- The store after a cut and after a join.
 use Rattle.std.proofs.Common.{◌≡◌, ◌≢◌, ℕ, Bool, true, cond, nat_eq, List, [], length, Option, Some, None, is_some, refl, sym, ap, subst, ◌∙◌, eq-eqb, ne_eqb, inl, inr}
 use Rattle.std.proofs.lemmas.Bool.Decides.{eqb_tells}
-use Rattle.lattice.specs.declared.Point.{Point}
+use Rattle.boundary_model.specs.declared.Point.{Point}
 use Rattle.arena_rows.specs.declared.rows.FaceCell.{FaceCell}
 use Rattle.arena_rows.specs.declared.rows.LoopCell.{LoopCell}
 use Rattle.arena_rows.specs.declared.rows.Held.TheVariants.{Empty, At}
@@ -9,10 +9,10 @@ use Rattle.boundary_model.specs.Table.{get, put, remove, get-put, same_table}
 use Rattle.arena_rows.specs.Rows.{row_at, map_row, table_of}
 use Rattle.boundary_model.specs.Model.{Model, cycle}
 use Rattle.arena_rows.specs.Store.{Store, loosened}
-use Rattle.ring_spots.specs.Spots.{Spots, live, label, ring, spliced_at, labelled, AreRings}
+use Rattle.arena_rows.specs.Spots.{Spots, live, label, ring, spliced_at, labelled, AreRings}
 use Rattle.arena_rows.specs.View.{store_of, IsTied, held_content, loop_row, AreLoops}
 use Rattle.arena_rows.proofs.Views.{get-table_of, some_is}
-use Rattle.cyclic_list.specs.Rings.{cut_left, cut_right, joined}
+use Rattle.boundary_model.specs.Rings.{cut_left, cut_right, joined}
 use Rattle.boundary_model.specs.Model.{has_half, loop_of, items_of, content, cycle_of}
 use Rattle.arena_rows.specs.Store.{cut_loose, cut_to, join_loops, join_loose, loose_ring, held_row}
 use Rattle.arena_rows.specs.View.{Fits}

@@ -1,8 +1,8 @@
 -- A cut and a join, as the nodes and rows do them.
 use Rattle.std.proofs.Common.{◌≡◌, ◌≢◌, ℕ, ◌+◌, Bool, true, false, cond, nat_eq, List, [], Option, Some, None, is_some, refl, sym, ap, subst, ◌∙◌, arith, true≢false, inl, inr}
 use Rattle.std.proofs.lemmas.Bool.Decides.{eqb_tells}
-use Rattle.cyclic_list.specs.Items.{count, IsIn, head_or}
-use Rattle.cyclic_list.proofs.Lists.{IsIn_or_not}
+use Rattle.boundary_model.specs.Items.{count, IsIn, head_or}
+use Rattle.boundary_model.proofs.Lists.{IsIn_or_not}
 use Rattle.arena_rows.specs.declared.rows.LoopCell.{LoopCell}
 use Rattle.arena_rows.specs.declared.rows.Held.{Held}
 use Rattle.arena_rows.specs.declared.rows.Held.TheVariants.{Empty, Lone, At}
@@ -10,14 +10,14 @@ use Rattle.boundary_model.specs.Table.{put, remove, tabulate}
 use Rattle.arena_rows.specs.Rows.{row_at, table_of}
 use Rattle.boundary_model.specs.Model.{cycle}
 use Rattle.arena_rows.specs.Store.{loosened}
-use Rattle.ring_spots.specs.Spots.{Spots, codes, live, label, ring, spliced_at, labelled, AreRings}
+use Rattle.arena_rows.specs.Spots.{Spots, codes, live, label, ring, spliced_at, labelled, AreRings}
 use Rattle.arena_rows.specs.View.{held_content, loop_row, HasEntry, AreLoops, StandsAt}
-use Rattle.ring_spots.specs.SpotTables.{edge_row, loose_row}
+use Rattle.arena_rows.specs.SpotTables.{edge_row, loose_row}
 use Rattle.arena_rows.proofs.Views.{some_is}
-use Rattle.cyclic_list.specs.Rings.{cut_left, cut_right, joined}
-use Rattle.cyclic_list.proofs.Cuts.{IsIn-cut}
-use Rattle.ring_spots.proofs.SpotLaws.{ring_left, ring_right, ring_beside, cut_items, AreRings-cut, AreRings-labelled, ring-labelled, live-labelled, live-spliced, label-spliced, label-labelled_in, label-labelled_out, ring_joint, ring_aside, join_items, AreRings-join}
-use Rattle.ring_spots.proofs.SpotTables.{loose_none, loose_dead, loose_alike, loose_removed, loose_same, edges_same, tails-labelled, tails-spliced}
+use Rattle.boundary_model.specs.Rings.{cut_left, cut_right, joined}
+use Rattle.boundary_model.proofs.Cuts.{IsIn-cut}
+use Rattle.arena_rows.proofs.SpotLaws.{ring_left, ring_right, ring_beside, cut_items, AreRings-cut, AreRings-labelled, ring-labelled, live-labelled, live-spliced, label-spliced, label-labelled_in, label-labelled_out, ring_joint, ring_aside, join_items, AreRings-join}
+use Rattle.arena_rows.proofs.SpotTables.{loose_none, loose_dead, loose_alike, loose_removed, loose_same, edges_same, tails-labelled, tails-spliced}
 use Rattle.arena_row_laws.proofs.Tellings.{loose_added, same_loop, loops_table}
 use Rattle.boundary_model.specs.Model.{items_of}
 

@@ -1,8 +1,8 @@
 -- A half-edge starts elsewhere; an edge is put, and one goes.
 use Rattle.std.proofs.Common.{◌≡◌, ◌≢◌, ℕ, ◌≤◌, Bool, true, false, List, [], ◌∷◌, Option, Some, is_some, sym, ap, subst, ◌∙◌, arith, inl, inr}
-use Rattle.lattice.specs.declared.Point.{Point}
+use Rattle.boundary_model.specs.declared.Point.{Point}
 use Rattle.raw_ring.specs.Rings.{or_zero, of_spot}
-use Rattle.cyclic_list.specs.Items.{IsIn}
+use Rattle.boundary_model.specs.Items.{IsIn}
 use Rattle.arena_rows.specs.declared.rows.FaceCell.{FaceCell}
 use Rattle.arena_rows.specs.declared.rows.LoopCell.{LoopCell}
 use Rattle.arena_rows.specs.declared.rows.Held.{Held}
@@ -10,16 +10,16 @@ use Rattle.arena_rows.specs.declared.rows.Held.TheVariants.{Empty, Lone, At}
 use Rattle.boundary_model.specs.HalfEdge.{plus, minus}
 use Rattle.boundary_model.specs.Model.{Model}
 use Rattle.arena_rows.specs.Store.{Store}
-use Rattle.ring_spots.specs.Spots.{Spots, live, label, retailed, AreRings}
+use Rattle.arena_rows.specs.Spots.{Spots, live, label, retailed, AreRings}
 use Rattle.arena_rows.specs.View.{store_of, IsTied, HasEntry, AreLoops, StandsAt}
-use Rattle.ring_spots.specs.SpotTables.{loose_row}
+use Rattle.arena_rows.specs.SpotTables.{loose_row}
 use Rattle.arena_rows.specs.Store.{set_tail, put_edge, take_edge}
-use Rattle.ring_spots.specs.Spots.{woken, asleep}
+use Rattle.arena_rows.specs.Spots.{woken, asleep}
 use Rattle.arena_rows.proofs.Views.{row_not_zero}
-use Rattle.ring_spots.proofs.SpotTables.{loose_alike, loose_same}
+use Rattle.arena_rows.proofs.SpotTables.{loose_alike, loose_same}
 use Rattle.arena_row_laws.proofs.Tellings.{loops_same}
-use Rattle.ring_spots.proofs.SpotLaws.{AreRings-retailed, live-retailed, label-retailed, ring-retailed}
-use Rattle.ring_spots.proofs.EdgeSpots.{edges_tail, w_plus, w_minus, w_other, w_old, w_cases, old_ring, w_rings, w_label, w_loose, w_edges, s_other, s_left, s_ring, s_rings, s_label, s_named, s_loose, s_edges}
+use Rattle.arena_rows.proofs.SpotLaws.{AreRings-retailed, live-retailed, label-retailed, ring-retailed}
+use Rattle.arena_rows.proofs.EdgeSpots.{edges_tail, w_plus, w_minus, w_other, w_old, w_cases, old_ring, w_rings, w_label, w_loose, w_edges, s_other, s_left, s_ring, s_rings, s_label, s_named, s_loose, s_edges}
 
 module _ (sp : Spots) (known : ℕ → Bool) (solids : List (Option Bool)) (faces : List (Option FaceCell)) (loops : List (Option LoopCell)) (vertices : List (Option Point)) (tied : IsTied sp known solids faces loops vertices) where
   abbrev S : Store

@@ -1,9 +1,9 @@
 -- A loop is cleared, takes a loose ring, and a half-edge starts elsewhere.
 use Rattle.std.proofs.Common.{◌≡◌, ◌≢◌, ℕ, Bool, true, cond, nat_eq, List, [], length, Option, Some, is_some, refl, sym, ap, subst, ◌∙◌, arith, eq-eqb, ne_eqb, inl, inr}
 use Rattle.std.proofs.lemmas.Bool.Decides.{eqb_tells}
-use Rattle.lattice.specs.declared.Point.{Point}
-use Rattle.cyclic_list.specs.Items.{count, IsIn}
-use Rattle.cyclic_list.proofs.Lists.{IsIn_or_not}
+use Rattle.boundary_model.specs.declared.Point.{Point}
+use Rattle.boundary_model.specs.Items.{count, IsIn}
+use Rattle.boundary_model.proofs.Lists.{IsIn_or_not}
 use Rattle.arena_rows.specs.declared.rows.FaceCell.{FaceCell}
 use Rattle.arena_rows.specs.declared.rows.LoopCell.{LoopCell}
 use Rattle.arena_rows.specs.declared.rows.Held.{Held}
@@ -12,7 +12,7 @@ use Rattle.boundary_model.specs.Table.{Table, get, put, remove, get-put}
 use Rattle.arena_rows.specs.Rows.{row_at}
 use Rattle.boundary_model.specs.Model.{Model, cycle}
 use Rattle.arena_rows.specs.Store.{Store, loosened}
-use Rattle.ring_spots.specs.Spots.{Spots, live, label, ring, labelled, AreRings}
+use Rattle.arena_rows.specs.Spots.{Spots, live, label, ring, labelled, AreRings}
 use Rattle.arena_rows.specs.View.{store_of, IsTied, held_content, loop_row, HasEntry, AreLoops, StandsAt}
 use Rattle.arena_rows.proofs.Views.{some_is}
 use Rattle.std.proofs.Common.{unwrap_or}
@@ -23,9 +23,9 @@ use Rattle.arena_rows.specs.View.{Fits}
 use Rattle.arena_rows.proofs.Views.{fits-write, table_of-put, row_not_zero}
 use Rattle.arena_rows.proofs.Writes.{row_here, loops_write, no_stand_bare, tied_loops, store_loops}
 use Rattle.arena_row_laws.proofs.Stands.{content_row, face_row_of, loose_key_is, loose_ring_is}
-use Rattle.ring_spots.proofs.SpotTables.{loose_none, loose_alike, loose_removed, edges_same, tails-labelled}
+use Rattle.arena_rows.proofs.SpotTables.{loose_none, loose_alike, loose_removed, edges_same, tails-labelled}
 use Rattle.arena_row_laws.proofs.Tellings.{loose_added, loops_table, store_is}
-use Rattle.ring_spots.proofs.SpotLaws.{live-labelled, label-labelled_in, label-labelled_out, ring-labelled, AreRings-labelled}
+use Rattle.arena_rows.proofs.SpotLaws.{live-labelled, label-labelled_in, label-labelled_out, ring-labelled, AreRings-labelled}
 
 module _ (sp : Spots) (known : ℕ → Bool) (solids : List (Option Bool)) (faces : List (Option FaceCell)) (loops : List (Option LoopCell)) (vertices : List (Option Point)) (tied : IsTied sp known solids faces loops vertices) where
   abbrev S : Store

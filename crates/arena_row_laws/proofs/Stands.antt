@@ -1,11 +1,11 @@
 -- What the model says, by the nodes.
-use Rattle.ring_spots.proofs.SpotTables.{half_is, half_live, row_live, edges_at, key_is, got_loose}
+use Rattle.arena_rows.proofs.SpotTables.{half_is, half_live, row_live, edges_at, key_is, got_loose}
 use Rattle.std.proofs.Common.{◌≡◌, ◌≢◌, ℕ, Bool, true, false, cond, List, [], Option, Some, None, unwrap_or, refl, sym, ap, subst, ◌∙◌, arith, inl, inr}
 use Rattle.std.proofs.lemmas.Bool.Decides.{eqb_tells}
-use Rattle.lattice.specs.declared.Point.{Point}
-use Rattle.cyclic_list.specs.Items.{IsIn, head_or}
-use Rattle.cyclic_list.specs.Rings.{successor, predecessor}
-use Rattle.cyclic_list.proofs.Rings.{next_is_successor, predecessor-successor}
+use Rattle.boundary_model.specs.declared.Point.{Point}
+use Rattle.boundary_model.specs.Items.{IsIn, head_or}
+use Rattle.boundary_model.specs.Rings.{successor, predecessor}
+use Rattle.boundary_model.proofs.Rings.{next_is_successor, predecessor-successor}
 use Rattle.arena_rows.specs.declared.rows.FaceCell.{FaceCell}
 use Rattle.arena_rows.specs.declared.rows.LoopCell.{LoopCell}
 use Rattle.arena_rows.specs.declared.rows.Held.{Held}
@@ -15,12 +15,12 @@ use Rattle.boundary_model.specs.Table.{get}
 use Rattle.arena_rows.specs.Rows.{row_at, map_row}
 use Rattle.boundary_model.specs.Model.{Model, lone, cycle, LoopRow, holds, items_of, has_half, tail, tail_in, loop_of, content, face_of, cycle_of, after, before, no_loop, no_edge}
 use Rattle.arena_rows.specs.Store.{Store, loose_key, loose_ring}
-use Rattle.ring_spots.specs.Spots.{Spots, live, next, label, tail_at, ring, AreRings}
+use Rattle.arena_rows.specs.Spots.{Spots, live, next, label, tail_at, ring, AreRings}
 use Rattle.arena_rows.specs.View.{store_of, IsTied, held_content, loop_row, HasEntry}
 use Rattle.boundary_model.proofs.Tables.{first_where_is, first_where_zero}
 use Rattle.boundary_model.proofs.Models.{holds_in, in-holds}
 use Rattle.arena_rows.proofs.Views.{get-table_of, some_is}
-use Rattle.ring_spots.proofs.SpotLaws.{ring_same, next_in_ring}
+use Rattle.arena_rows.proofs.SpotLaws.{ring_same, next_in_ring}
 
 module _ (sp : Spots) (known : ℕ → Bool) (solids : List (Option Bool)) (faces : List (Option FaceCell)) (loops : List (Option LoopCell)) (vertices : List (Option Point)) (tied : IsTied sp known solids faces loops vertices) where
   abbrev R : AreRings sp

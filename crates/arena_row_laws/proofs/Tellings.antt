@@ -1,9 +1,9 @@
 -- The tables of loops, edges and loose rings, where the nodes change.
-use Rattle.ring_spots.proofs.SpotTables.{loose_put}
+use Rattle.arena_rows.proofs.SpotTables.{loose_put}
 use Rattle.std.proofs.Common.{◌≡◌, ◌≢◌, ℕ, ◌-◌, Bool, true, cond, nat_eq, List, [], ◌∷◌, length, Option, Some, None, is_some, refl, sym, ap, subst, ◌∙◌, arith, true≢false, inl, inr}
 use Rattle.std.proofs.lemmas.Bool.Decides.{eqb_tells}
-use Rattle.lattice.specs.declared.Point.{Point}
-use Rattle.cyclic_list.specs.Items.{count, IsIn, head_or}
+use Rattle.boundary_model.specs.declared.Point.{Point}
+use Rattle.boundary_model.specs.Items.{count, IsIn, head_or}
 use Rattle.arena_rows.specs.declared.rows.FaceCell.{FaceCell}
 use Rattle.arena_rows.specs.declared.rows.LoopCell.{LoopCell}
 use Rattle.arena_rows.specs.declared.rows.Held.{Held}
@@ -12,11 +12,11 @@ use Rattle.boundary_model.specs.Table.{Table, get, put, tabulate, get-put, same_
 use Rattle.arena_rows.specs.Rows.{row_at, map_row, table_of}
 use Rattle.boundary_model.specs.Model.{cycle, LoopRow}
 use Rattle.arena_rows.specs.Store.{Store, loosened}
-use Rattle.ring_spots.specs.Spots.{Spots, codes, live, label, ring, AreRings}
+use Rattle.arena_rows.specs.Spots.{Spots, codes, live, label, ring, AreRings}
 use Rattle.arena_rows.specs.View.{store_of, held_content, loop_row, HasEntry, AreLoops, StandsAt}
-use Rattle.ring_spots.specs.SpotTables.{edge_row, loose_row}
+use Rattle.arena_rows.specs.SpotTables.{edge_row, loose_row}
 use Rattle.arena_rows.proofs.Views.{get-table_of, some_is}
-use Rattle.ring_spots.proofs.SpotLaws.{ring_same}
+use Rattle.arena_rows.proofs.SpotLaws.{ring_same}
 
 loosened_is : (hs : List ℕ) (t : Table (List ℕ)) (c : ℕ) → IsIn c hs → loosened hs t ≡ put t (head_or 0 hs) hs
 loosened_is [] t c i = absurd (omega arith)

@@ -10,13 +10,13 @@ use Rattle.arena_rows.proofs.Views.{row_within, row_not_zero}
 use Rattle.ring_spots.proofs.SpotTables.{and-false, nothing, edge_has}
 use Rattle.std.proofs.Common.{◌≡◌, ◌≢◌, ℕ, ◌≤◌, Bool, true, false, cond, nat_eq, nat_lt, nat_le, ◌&&◌, List, [], Option, Some, None, is_some, sym, ap, ◌∙◌, arith, true≢false}
 use Rattle.std.proofs.lemmas.Bool.Decides.{nat_tests}
-use Rattle.lattice.specs.declared.Point.{Point}
+use Rattle.boundary_model.specs.declared.Point.{Point}
 use Rattle.boundary_model.specs.HalfEdge.{plus, minus}
 use Rattle.boundary_model.specs.Table.{get, tabulate}
 use Rattle.boundary_model.specs.Model.{empty_model}
 use Rattle.arena_rows.specs.Store.{empty_store}
 use Rattle.ring_spots.specs.Spots.{Spots, codes, edges_end, live, label, ring, AreRings}
-use Rattle.cyclic_list.specs.Items.{head_or}
+use Rattle.boundary_model.specs.Items.{head_or}
 use Rattle.arena_rows.specs.View.{store_of, IsTied, solid_row, face_row, loop_row}
 use Rattle.ring_spots.specs.SpotTables.{edge_row, both_tails, edge_room, loose_row}
 use Rattle.arena_rows.specs.Rows.{table_of}

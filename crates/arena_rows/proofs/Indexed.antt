@@ -1,9 +1,9 @@
 -- What stands beside the rows: what it says of the model, and what keeps it.
 use Rattle.std.proofs.Common.{◌≡◌, ◌≢◌, ℕ, ◌+◌, ◌≤◌, Bool, true, false, cond, not, nat_eq, ◌&&◌, List, [], length, Option, Some, None, is_some, unwrap_or, refl, sym, ap, ◌∙◌, arith, true≢false, eq-eqb, ne_eqb, inl, inr}
 use Rattle.std.proofs.lemmas.Bool.Decides.{eqb_tells}
-use Rattle.lattice.specs.declared.Point.{Point}
-use Rattle.cyclic_list.specs.Items.{count, tick}
-use Rattle.cyclic_list.proofs.Lists.{tick_same, tick_other}
+use Rattle.boundary_model.specs.declared.Point.{Point}
+use Rattle.boundary_model.specs.Items.{count, tick}
+use Rattle.boundary_model.proofs.Lists.{tick_same, tick_other}
 use Rattle.boundary_model.specs.Table as table
 use Rattle.boundary_model.specs.Table.{Table, get, all_where, same_table, get-put, get-remove}
 use Rattle.boundary_model.specs.Model.{rings_of, outer, no_face}

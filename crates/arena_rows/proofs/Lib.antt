@@ -4,3 +4,7 @@ pub mod Rooms
 pub mod Empty
 pub mod Indexed
 pub mod Nexts
+pub use Rattle.ring_spots.proofs.EdgeSpots
+pub use Rattle.ring_spots.proofs.SpotLaws
+pub use Rattle.ring_spots.proofs.SpotTables
+pub use Rattle.ring_spots.proofs.RingMaps

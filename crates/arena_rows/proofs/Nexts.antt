@@ -1,9 +1,9 @@
 -- The next face of a solid and the next ring of a face, by what stands beside the rows.
 use Rattle.std.proofs.Common.{◌≡◌, ◌≢◌, ℕ, ◌<◌, Bool, true, false, cond, not, nat_eq, ◌&&◌, List, [], ◌∷◌, length, Option, Some, None, is_some, unwrap_or, refl, sym, ap, subst, ◌∙◌, arith, true≢false, eq-eqb, ne_eqb, inl, inr}
 use Rattle.std.proofs.lemmas.Bool.Decides.{eqb_tells, leb_tells}
-use Rattle.lattice.specs.declared.Point.{Point}
-use Rattle.cyclic_list.specs.Items.{count, IsIn}
-use Rattle.cyclic_list.proofs.Lists.{tick_same, tick_other}
+use Rattle.boundary_model.specs.declared.Point.{Point}
+use Rattle.boundary_model.specs.Items.{count, IsIn}
+use Rattle.boundary_model.proofs.Lists.{tick_same, tick_other}
 use Rattle.std.specs.Option.{option_eq}
 use Rattle.boundary_model.specs.Table.{get}
 use Rattle.boundary_model.specs.Model.{Model, FaceRow, solid_of, face_of, outer, is_ring_of, faces_of, no_face, no_loop}

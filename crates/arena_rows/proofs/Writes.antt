@@ -1,9 +1,9 @@
 -- What becomes of the store where one row is written.
 use Rattle.std.proofs.Common.{◌≡◌, ℕ, ◌-◌, Bool, true, false, cond, nat_eq, List, [], length, Option, Some, None, is_some, refl, sym, ap, subst, ◌∙◌, arith, true≢false, eq-eqb, inl, inr}
 use Rattle.std.proofs.lemmas.Bool.Decides.{eqb_tells}
-use Rattle.lattice.specs.declared.Point.{Point}
-use Rattle.lattice.specs.Point.{IsInRange}
-use Rattle.cyclic_list.specs.Items.{count}
+use Rattle.boundary_model.specs.declared.Point.{Point}
+use Rattle.boundary_model.specs.Points.{IsInRange}
+use Rattle.boundary_model.specs.Items.{count}
 use Rattle.arena_rows.specs.declared.rows.FaceCell.{FaceCell}
 use Rattle.arena_rows.specs.declared.rows.LoopCell.{LoopCell}
 use Rattle.arena_rows.specs.declared.rows.Held.{Held}

@@ -3,10 +3,10 @@ use Rattle.std.specs.Prelude.{◌≡◌, ◌≢◌, ◌<◌, ℕ, Bool, true, fa
 use Rattle.std.specs.Coded.{Coded, code_by, coded×, coded⊎, coded_ℕ, coded_list}
 use base.Stored.{coded_unit}
 use mathlib.Core.Logic.{inl, inr}
-use Rattle.lattice.specs.declared.Point.{Point}
-use Rattle.lattice.specs.Point.{coded_point}
-use Rattle.cyclic_list.specs.Rings.{cut_left, cut_right, joined}
-use Rattle.cyclic_list.specs.Items.{IsIn}
+use Rattle.boundary_model.specs.declared.Point.{Point}
+use Rattle.boundary_model.specs.Points.{coded_point}
+use Rattle.boundary_model.specs.Rings.{cut_left, cut_right, joined}
+use Rattle.boundary_model.specs.Items.{IsIn}
 use Rattle.boundary_model.specs.declared.Kind.{Kind}
 use Rattle.boundary_model.specs.declared.Kind.TheVariants.{Solid, Face, Loop, Edge, Vertex}
 use Rattle.boundary_model.specs.declared.Content.{Content}

@@ -1,9 +1,9 @@
 -- What an arena's rings and rows stand for, and what keeps them tied.
 use Rattle.ring_spots.specs.SpotTables.{edge_row, loose_row, edge_room}
 use Rattle.std.specs.Prelude.{◌≡◌, ◌≢◌, ℕ, ◌-◌, ◌≤◌, Bool, true, List, [], length, Option, Some, None}
-use Rattle.lattice.specs.declared.Point.{Point}
-use Rattle.lattice.specs.Point.{IsInRange}
-use Rattle.cyclic_list.specs.Items.{IsIn}
+use Rattle.boundary_model.specs.declared.Point.{Point}
+use Rattle.boundary_model.specs.Points.{IsInRange}
+use Rattle.boundary_model.specs.Items.{IsIn}
 use Rattle.arena_rows.specs.declared.rows.FaceCell.{FaceCell}
 use Rattle.arena_rows.specs.declared.rows.LoopCell.{LoopCell}
 use Rattle.arena_rows.specs.declared.rows.Held.{Held}

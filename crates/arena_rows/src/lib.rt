@@ -3,4 +3,6 @@
 
 mod rows;
 
+pub use owner_chains::Chains;
+pub use ring_spots::EdgeRings;
 pub use rows::{FaceCell, Held, LoopCell, Rows};

@@ -1,7 +1,7 @@
 //! What stands under a number.
 ghost use Rattle.std.specs.Prelude.{◌≡◌, ◌≢◌, true, length, []};
 ghost use Rattle.lattice.specs.Point.{IsInRange};
-ghost use Rattle.cyclic_list.specs.Rings.{successor, predecessor};
+ghost use Rattle.boundary_model.specs.Rings.{successor, predecessor};
 ghost use Rattle.boundary_model.specs.HalfEdge.{code};
 ghost use Rattle.boundary_model.specs.Model.{cycle, point_of, solid_of, outer, face_of, content, has_half, loop_of, after, before, tail, is_ring_of, rings_of, faces_of};
 ghost use Rattle.arena_rows.specs.Store.{has_room, has_number, loose_ring, Tells, only_item};

@@ -2,11 +2,11 @@
 use Rattle.std.proofs.Common.{◌≡◌, ◌≢◌, ℕ, ◌≤◌, ◌<◌, Bool, true, false, cond, nat_lt, nat_le, ◌&&◌, List, [], ◌∷◌, Option, Some, None, is_some, unwrap_or, refl, sym, ap, subst, ◌∙◌, arith, true≢false, eq-eqb, ne_eqb, ◌⊎◌, inl, inr}
 use Rattle.std.proofs.lemmas.Bool.Decides.{nat_tests, eqb_tells}
 use Rattle.raw_ring.specs.Rings.{Spot, or_zero, of_spot, ring_of_one}
-use Rattle.cyclic_list.specs.Items.{IsIn, head_or}
-use Rattle.cyclic_list.specs.Rings.{canonical}
-use Rattle.cyclic_list.proofs.Lists.{tick_other, tick_le}
-use Rattle.cyclic_list.proofs.Rotations.{canonical_is, rest_head, IsIn_head}
-use Rattle.cyclic_list.proofs.Rings.{IsPath-agree}
+use Rattle.boundary_model.specs.Items.{IsIn, head_or}
+use Rattle.boundary_model.specs.Rings.{canonical}
+use Rattle.boundary_model.proofs.Lists.{tick_other, tick_le}
+use Rattle.boundary_model.proofs.Rotations.{canonical_is, rest_head, IsIn_head}
+use Rattle.boundary_model.proofs.Rings.{IsPath-agree}
 use Rattle.boundary_model.specs.HalfEdge.{plus, minus, edge_of, is_first, mate}
 use Rattle.boundary_model.specs.Table.{Table, get, put, remove, tabulate, get-put, get-remove, same_table}
 use Rattle.boundary_model.specs.Model.{EdgeRow, no_edge}

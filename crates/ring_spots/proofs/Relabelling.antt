@@ -3,12 +3,12 @@ use Rattle.std.proofs.Common.{◌≡◌, ◌≢◌, ℕ, ◌+◌, ◌-◌, ◌<�
 use Rattle.std.proofs.lemmas.Bool.Decides.{eqb_tells}
 use Rattle.raw_ring.specs.Rings.{RingMap, or_zero, of_spot, spot, next_of, with_label}
 use Rattle.ring_spots.proofs.RingMaps.{spot-with}
-use Rattle.cyclic_list.specs.Items.{count, IsIn}
-use Rattle.cyclic_list.specs.Rings.{walk_to, rotate_to}
-use Rattle.cyclic_list.proofs.Lists.{IsIn_or_not, tick_same, tick_other}
-use Rattle.cyclic_list.proofs.Rotations.{count-rotate_to, IsIn_head}
-use Rattle.cyclic_list.proofs.Rings.{orbit_from}
-use Rattle.cyclic_list.proofs.Places.{walk_to_more}
+use Rattle.boundary_model.specs.Items.{count, IsIn}
+use Rattle.boundary_model.specs.Rings.{walk_to, rotate_to}
+use Rattle.boundary_model.proofs.Lists.{IsIn_or_not, tick_same, tick_other}
+use Rattle.boundary_model.proofs.Rotations.{count-rotate_to, IsIn_head}
+use Rattle.boundary_model.proofs.Rings.{orbit_from}
+use Rattle.boundary_model.proofs.Places.{walk_to_more}
 use Rattle.ring_spots.specs.Spots.{Spots, codes, live, next, ring, is_in, map_spot, labelled, AreRings, HalfDone}
 use Rattle.ring_spots.proofs.SpotLaws.{either, length_below, next-labelled, live-labelled, next_in_ring, ring_same, is_in-yes, is_in-no, next-label, live-map}
 

@@ -5,12 +5,12 @@
 use Rattle.std.proofs.Common.{◌≡◌, ◌≢◌, ℕ, zero, suc, ◌+◌, ◌≤◌, ◌<◌, Bool, true, false, cond, nat_eq, nat_lt, List, [], ◌∷◌, ◌++◌, length, Option, Some, None, is_some, refl, sym, ap, subst, ◌∙◌, arith, true≢false, inl, inr}
 use Rattle.std.proofs.lemmas.Bool.Decides.{nat_tests}
 use Rattle.raw_ring.specs.Rings.{Spot, or_zero, of_spot}
-use Rattle.cyclic_list.specs.Items.{count, IsIn, IsApart, head_or}
-use Rattle.cyclic_list.specs.Rings.{canonical, orbit, IsRing, splice, cut_left, cut_right, joined, rest, between, beyond}
-use Rattle.cyclic_list.proofs.Lists.{count-append, IsIn_or_not}
-use Rattle.cyclic_list.proofs.Rotations.{count-canonical, canonical-canonical, IsIn_head}
-use Rattle.cyclic_list.proofs.Rings.{IsPath-agree, canonical-orbit, next_is_successor, IsIn_successor}
-use Rattle.cyclic_list.proofs.Cuts.{splice_elsewhere, count-cut, IsApart-cut, IsRing-cut, count-joined, IsApart-joined, IsRing-join}
+use Rattle.boundary_model.specs.Items.{count, IsIn, IsApart, head_or}
+use Rattle.boundary_model.specs.Rings.{canonical, orbit, IsRing, splice, cut_left, cut_right, joined, rest, between, beyond}
+use Rattle.boundary_model.proofs.Lists.{count-append, IsIn_or_not}
+use Rattle.boundary_model.proofs.Rotations.{count-canonical, canonical-canonical, IsIn_head}
+use Rattle.boundary_model.proofs.Rings.{IsPath-agree, canonical-orbit, next_is_successor, IsIn_successor}
+use Rattle.boundary_model.proofs.Cuts.{splice_elsewhere, count-cut, IsApart-cut, IsRing-cut, count-joined, IsApart-joined, IsRing-join}
 use Rattle.boundary_model.specs.HalfEdge.{mate}
 use Rattle.ring_spots.specs.Spots.{Spots, codes, live, next, label, ring, is_in, map_spot, retailed, spliced_at, labelled, IsRingOf, AreRings}
 

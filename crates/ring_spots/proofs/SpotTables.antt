@@ -2,9 +2,9 @@
 use Rattle.std.proofs.Common.{◌≡◌, ◌≢◌, ℕ, ◌+◌, ◌*◌, ◌≤◌, ◌<◌, Bool, true, false, cond, nat_eq, nat_lt, nat_le, ◌&&◌, List, [], Option, Some, None, is_some, unwrap_or, refl, sym, ap, subst, ◌∙◌, arith, true≢false, eq-eqb, ne_eqb, ◌⊎◌, inl, inr}
 use Rattle.std.proofs.lemmas.Bool.Decides.{nat_tests, eqb_tells}
 use Rattle.raw_ring.specs.Rings.{Spot, or_zero, of_spot}
-use Rattle.cyclic_list.specs.Items.{count, IsIn, head_or, least}
-use Rattle.cyclic_list.proofs.Lists.{least_in, IsIn_or_not}
-use Rattle.cyclic_list.proofs.Rotations.{head_canonical}
+use Rattle.boundary_model.specs.Items.{count, IsIn, head_or, least}
+use Rattle.boundary_model.proofs.Lists.{least_in, IsIn_or_not}
+use Rattle.boundary_model.proofs.Rotations.{head_canonical}
 use Rattle.boundary_model.specs.HalfEdge.{plus, minus, edge_of, is_first, mate, code}
 use Rattle.boundary_model.specs.declared.HalfEdge.{HalfEdge}
 use Rattle.boundary_model.specs.Table.{get, put, remove, empty, tabulate, first_where, get-tabulate, get-empty, get-put, get-remove, same_table}

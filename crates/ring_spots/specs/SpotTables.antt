@@ -1,7 +1,7 @@
 -- The tables of edges and of loose rings that the nodes make, and the edges that have their room.
 use Rattle.std.specs.Prelude.{ℕ, Bool, cond, ◌&&◌, nat_eq, nat_lt, List, Option, Some, None}
 use Rattle.raw_ring.specs.Rings.{Spot}
-use Rattle.cyclic_list.specs.Items.{head_or}
+use Rattle.boundary_model.specs.Items.{head_or}
 use Rattle.boundary_model.specs.HalfEdge.{plus, minus}
 use Rattle.boundary_model.specs.Model.{EdgeRow}
 use Rattle.ring_spots.specs.Spots.{Spots, live, label, ring}

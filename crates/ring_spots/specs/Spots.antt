@@ -1,8 +1,8 @@
 -- What the nodes of an arena say: for each live code its successor, its tail and its loop's number.
 use Rattle.std.specs.Prelude.{◌≡◌, ℕ, Bool, true, cond, nat_eq, nat_lt, ◌<◌, List, Option, Some, None, is_some}
 use Rattle.raw_ring.specs.Rings.{Spot, or_zero, of_spot, ring_of_one}
-use Rattle.cyclic_list.specs.Items.{count, IsIn, IsApart}
-use Rattle.cyclic_list.specs.Rings.{canonical, orbit, IsRing, splice}
+use Rattle.boundary_model.specs.Items.{count, IsIn, IsApart}
+use Rattle.boundary_model.specs.Rings.{canonical, orbit, IsRing, splice}
 use Rattle.boundary_model.specs.HalfEdge.{mate}
 
 abbrev pub Spots : Type 0

@@ -1,7 +1,7 @@
 use Rattle.std.proofs.Common.{arith, ap, ◌∙◌, refl, subst, ◌-◌, ◌+◌}
 use Rattle.std.specs.FinMap.{contains_key}
 use Rattle.raw_ring.specs.Rings.{RingMap, spot}
-use Rattle.cyclic_list.specs.Items.{IsIn}
+use Rattle.boundary_model.specs.Items.{IsIn}
 use Rattle.ring_spots.specs.Spots.{codes, ring}
 use Rattle.ring_spots.proofs.RingMaps.{known-with}
 use Rattle.ring_spots.proofs.SpotTables.{codes_are}

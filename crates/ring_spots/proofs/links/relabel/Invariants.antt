@@ -1,8 +1,8 @@
 use Rattle.std.proofs.Common.{◌≡◌, ◌-◌}
 use Rattle.std.specs.FinMap.{contains_key}
 use Rattle.raw_ring.specs.Rings.{spot}
-use Rattle.cyclic_list.specs.Items.{IsIn}
-use Rattle.cyclic_list.specs.Rings.{walk_to}
+use Rattle.boundary_model.specs.Items.{IsIn}
+use Rattle.boundary_model.specs.Rings.{walk_to}
 use Rattle.ring_spots.specs.Spots.{codes, next, ring, HalfDone}
 use Rattle.ring_spots.proofs.links.relabel.Given as goal
 
