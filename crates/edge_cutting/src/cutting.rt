@@ -1,7 +1,6 @@
 //! Edges cut one after the other in a draft.
 ghost use Rattle.std.specs.Prelude.{◌≡◌, ◌≤◌, ◌+◌, true, false, None, OnOk, OnErr};
-ghost use Rattle.boundary_model.specs.HalfEdge as half_edge;
-ghost use Rattle.boundary_model.specs.HalfEdge.{code, half};
+ghost use Rattle.boundary_model.specs.HalfEdge.{code};
 ghost use Rattle.boundary_model.specs.Model.{after, has_half};
 ghost use Rattle.euler_conditions.specs.Ready.{IsReady};
 ghost use Rattle.euler_operators.specs.Conditions.{first_false};
@@ -17,23 +16,10 @@ use crate::fresh::{fresh_edge, fresh_vertex};
 use crate::rising::rising_crossings;
 use cut_places::crossing_point;
 use euler_conditions::{Arena, Corner, HalfEdge, Op};
+use face_walks::{minus, plus};
 use lattice::Plane;
 use std::alloc::{AllocError, Global};
 use undo_journal::Draft;
-
-/// The first half-edge of an edge.
-fn plus(edge: u32) -> HalfEdge
-    ensures { result ≡ half (half_edge.plus edge) }
-{
-    HalfEdge { edge, first: true }
-}
-
-/// The second half-edge of an edge.
-fn minus(edge: u32) -> HalfEdge
-    ensures { result ≡ half (half_edge.minus edge) }
-{
-    HalfEdge { edge, first: false }
-}
 
 /// The item after the half-edge in its loop.
 fn next_item(arena: &Arena, h: HalfEdge) -> HalfEdge

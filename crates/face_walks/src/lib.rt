@@ -1,8 +1,10 @@
-//! Walks along the loops of a face and the half-edges of a loop, in the order of listings.
+//! The two half-edges of an edge, and walks along the loops of a face and the half-edges of a loop, in the order of listings.
 #![tactic(auto)]
 
+mod halves;
 mod items;
 mod loops;
 
+pub use halves::{minus, plus};
 pub use items::{items_from, least_item};
 pub use loops::face_loops;

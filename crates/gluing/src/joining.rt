@@ -1,7 +1,6 @@
 //! Two faces glued operator by operator in a draft.
 ghost use Rattle.std.specs.Prelude.{◌≡◌, ◌≤◌, true, None, OnOk, OnErr};
-ghost use Rattle.boundary_model.specs.HalfEdge as half_edge;
-ghost use Rattle.boundary_model.specs.HalfEdge.{code, half};
+ghost use Rattle.boundary_model.specs.HalfEdge.{code};
 ghost use Rattle.boundary_model.specs.Model.{after, before, has_half, outer};
 ghost use Rattle.boundary_model.specs.Sound.{Has};
 ghost use Rattle.euler_conditions.specs.Ready.{IsReady};
@@ -12,6 +11,7 @@ ghost use Rattle.glue_shapes.specs.GlueOps.{closing, fresh_edge, opening};
 
 use crate::rims::{first_item, item_at};
 use euler_conditions::{Arena, Corner, HalfEdge, Kind, Op};
+use face_walks::{minus, plus};
 use std::alloc::AllocError;
 use undo_journal::Draft;
 
@@ -21,20 +21,6 @@ struct Spare {
     edge: u32,
     face: u32,
     ring: u32,
-}
-
-/// The first half-edge of an edge.
-fn plus(edge: u32) -> HalfEdge
-    ensures { result ≡ half (half_edge.plus edge) }
-{
-    HalfEdge { edge, first: true }
-}
-
-/// The second half-edge of an edge.
-fn minus(edge: u32) -> HalfEdge
-    ensures { result ≡ half (half_edge.minus edge) }
-{
-    HalfEdge { edge, first: false }
 }
 
 /// The first edge number after those in use.

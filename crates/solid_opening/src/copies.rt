@@ -9,9 +9,10 @@ ghost use Rattle.face_drawing.specs.Codes.{taken_of};
 ghost use Rattle.strip_laws.specs.StripOps as ops;
 ghost use Rattle.solid_opening.specs.Stages.{AreStripped};
 
-use crate::halves::{minus, plus, start};
+use crate::halves::start;
 use euler_conditions::{Corner, HalfEdge, Op};
 use face_drawing::Progress;
+use face_walks::{minus, plus};
 use std::alloc::AllocError;
 use undo_journal::Draft;
 

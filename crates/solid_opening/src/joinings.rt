@@ -4,9 +4,9 @@ ghost use Rattle.euler_laws.specs.Laws.{AreAccepted, effects};
 ghost use Rattle.face_drawing.specs.Codes.{taken_of};
 ghost use Rattle.cap_laws.specs.CapOps.{cap_ops, joinings};
 
-use crate::halves::{minus, plus};
 use euler_conditions::Op;
 use face_drawing::Progress;
+use face_walks::{minus, plus};
 use std::alloc::AllocError;
 use undo_journal::Draft;
 

@@ -9,9 +9,10 @@ ghost use Rattle.face_drawing.specs.Codes.{taken_of};
 ghost use Rattle.strip_laws.specs.StripOps as ops;
 ghost use Rattle.solid_opening.specs.Stages.{CanOpen};
 
-use crate::halves::{next_item, plus};
+use crate::halves::next_item;
 use euler_conditions::{HalfEdge, Op};
 use face_drawing::Progress;
+use face_walks::plus;
 use std::alloc::AllocError;
 use undo_journal::Draft;
 

@@ -2,8 +2,7 @@
 ghost use Rattle.std.specs.Prelude.{◌≡◌, ◌≤◌, ◌<◌, ◌+◌, ◌-◌, ◌*◌, true, false, None, OnOk, OnErr, IfOk, length, map};
 ghost use Rattle.lattice.specs.Point.{IsInRange};
 ghost use Rattle.lattice.specs.Vectors.{moved};
-ghost use Rattle.boundary_model.specs.HalfEdge as half_edge;
-ghost use Rattle.boundary_model.specs.HalfEdge.{code, half};
+ghost use Rattle.boundary_model.specs.HalfEdge.{code};
 ghost use Rattle.boundary_model.specs.Model.{has_half, items_of, content, face_of, cycle_of};
 ghost use Rattle.euler_conditions.specs.Ready.{IsReady};
 ghost use Rattle.euler_conditions.specs.Store.{has_number};
@@ -19,24 +18,10 @@ ghost use Rattle.sweeps.specs.Counters.{taken_of};
 
 use crate::fresh::{Counters, counters_of};
 use euler_conditions::{Arena, Content, Corner, HalfEdge, Kind, Op};
-use face_walks::{face_loops, items_from};
+use face_walks::{face_loops, items_from, minus, plus};
 use lattice::{Point, sum};
 use std::alloc::{AllocError, Global};
 use undo_journal::Draft;
-
-/// The first half-edge of an edge.
-fn plus(edge: u32) -> HalfEdge
-    ensures { result ≡ half (half_edge.plus edge) }
-{
-    HalfEdge { edge, first: true }
-}
-
-/// The second half-edge of an edge.
-fn minus(edge: u32) -> HalfEdge
-    ensures { result ≡ half (half_edge.minus edge) }
-{
-    HalfEdge { edge, first: false }
-}
 
 /// The edge that rises at item i of a loop.
 fn riser(taken: &Counters, i: u32) -> u32
