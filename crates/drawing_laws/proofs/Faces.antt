@@ -13,7 +13,8 @@ use Rattle.drawing_laws.specs.DrawingOps.{draw_ops, ring_ops, share_ops, drawn_o
 use Rattle.drawing_laws.specs.DrawnIn.{DrawnIn, Fresh, Room}
 use Rattle.drawing_laws.specs.Pairs.{AllFit, LoneInOneLoop}
 use Rattle.drawing_laws.proofs.Pairs.{none_joined, joined_drawn, drawn_newer}
-use Rattle.drawing_laws.proofs.Passes.{Joining, Joins, joins_go, join_next_one, Going, Draws, draws_go, draw_next_one, cut_off, room_as, edge_fits, face_fits, loop_fits}
+use Rattle.drawing_laws.specs.Passing.{Ready, Joining, Going}
+use Rattle.drawing_laws.proofs.Passes.{Joins, joins_go, join_next_one, Draws, draws_go, draw_next_one, cut_off, room_as, edge_fits, face_fits, loop_fits}
 use Rattle.drawing_laws.proofs.Rings.{Newer, Moved, rings_move, rings_are, rings_apart}
 use Rattle.drawing_laws.proofs.Runs.{Leads, leads_none, leads_on}
 
@@ -31,14 +32,6 @@ leading_on M f true d ops a = a
 leading_on M f false d ops a = a
 
 -- ---- one face
-
--- face f of d's model is drawn between the pairs qs, and numbers for n more pairs are left
-pub record Ready (p : Plane) (f : ℕ) (qs : List (ℕ × ℕ)) (d : Drawing) (n : ℕ) : Type 0 where
-  pub sound : Sound d.model
-  pub fresh : Fresh d.model d.taken
-  pub room : Room d.taken (length qs + n)
-  pub fit : AllFit d.model f qs
-  pub alone : LoneInOneLoop d.model qs
 
 pub record Gone (d D : Drawing) (f : ℕ) (ops : List Op) (n : ℕ) : Type 0 where
   pub leads : Leads d.model D.model ops

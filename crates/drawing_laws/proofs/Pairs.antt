@@ -10,7 +10,7 @@ use Rattle.euler_laws_shared.proofs.Goes.{free, equal, unequal}
 use Rattle.shapes.specs.Fresh.{Taken}
 use Rattle.split_shapes.specs.Drawing.{face_drawn, loops_joined, in_one_loop, joined_pair}
 use Rattle.drawing_laws.specs.DrawingOps.{join_edge, join_pair, draw_edge}
-use Rattle.drawing_laws.specs.DrawnIn.{Stays, DrawnIn, Fresh}
+use Rattle.drawing_laws.specs.DrawnIn.{JoinedIn, Stays, DrawnIn, Fresh}
 use Rattle.drawing_laws.specs.Pairs.{Fits}
 use Rattle.drawing_laws.proofs.Drawn.{CanDraw, draw_accepted, draw_made, draw_sound, CanJoin, join_accepted, join_made, join_sound}
 use Rattle.drawing_laws.proofs.Stays.{not_free, has_face, draw_stays, draw_beside, draw_within, draw_solid, draw_has, draw_free, join_stays, join_beside, join_faces, join_free}
@@ -24,13 +24,6 @@ stays_on M N K a b = record {
   vertices = b.vertices ∙ a.vertices;
   faces = λ g there. b.faces g (a.faces g there);
 }
-
--- N is M with loops of face f joined: each half-edge keeps its face
-pub record JoinedIn (M N : Model) (f : ℕ) : Type 0 where
-  pub sound : Sound N
-  pub stays : Stays M N
-  pub beside : (h : ℕ) → HasHalf M h → face_at M h ≢ f → loop_of N h ≡ loop_of M h
-  pub faces : (h : ℕ) → HasHalf M h → face_at N h ≡ face_at M h
 
 pub none_joined : (M : Model) (f : ℕ) → Sound M → JoinedIn M M f
 none_joined M f sound = record {

@@ -8,9 +8,10 @@ use Rattle.fresh_laws.proofs.Tests.{number_fits}
 use Rattle.shapes.specs.Fresh.{Taken}
 use Rattle.split_shapes.specs.Drawing.{Drawing, face_drawn, in_one_loop, joined_pair, join_next, draw_next, stuck_at}
 use Rattle.drawing_laws.specs.DrawingOps.{join_pair, join_ops, draw_pair, draw_ops}
-use Rattle.drawing_laws.specs.DrawnIn.{DrawnIn, Fresh, Room}
+use Rattle.drawing_laws.specs.DrawnIn.{JoinedIn, DrawnIn, Fresh, Room}
 use Rattle.drawing_laws.specs.Pairs.{Fits, AllFit}
-use Rattle.drawing_laws.proofs.Pairs.{JoinedIn, pair_leads, pair_joined, pair_fresh, pair_draws, pair_drawn, drawn_fresh}
+use Rattle.drawing_laws.specs.Passing.{Joining, Going}
+use Rattle.drawing_laws.proofs.Pairs.{pair_leads, pair_joined, pair_fresh, pair_draws, pair_drawn, drawn_fresh}
 use Rattle.drawing_laws.proofs.Runs.{Leads, leads_none, leads_on}
 
 length_last : (qs : List (ℕ × ℕ)) (q : ℕ × ℕ) → length (qs ++ q ∷ []) ≡ length qs + 1
@@ -45,13 +46,6 @@ next_above : (a : ℕ) → a < a + 1
 next_above a = omega arith
 
 -- ---- first pass
-
--- d is being joined in face f of M: qs are still to come, and numbers for n more pairs are left
-pub record Joining (M : Model) (f : ℕ) (d : Drawing) (qs : List (ℕ × ℕ)) (n : ℕ) : Type 0 where
-  pub joined : JoinedIn M d.model f
-  pub fresh : Fresh d.model d.taken
-  pub room : Room d.taken (length d.left + length qs + n)
-  pub pairs : AllFit M f d.left
 
 pub join_next_one : (d : Drawing) (q : ℕ × ℕ) → in_one_loop d.model q ≡ true → join_next d q ≡ record d { left = d.left ++ q ∷ [] }
 unfolding join_next
@@ -119,12 +113,6 @@ joins_go M f d (q ∷ qs) n fit w =
     }
 
 -- ---- second pass
-
--- d is being drawn in face f of M: qs are still to come, and numbers for n more pairs are left
-pub record Going (M : Model) (f : ℕ) (d : Drawing) (qs : List (ℕ × ℕ)) (n : ℕ) : Type 0 where
-  pub drawn : DrawnIn M d.model f
-  pub fresh : Fresh d.model d.taken
-  pub room : Room d.taken (length qs + n)
 
 -- the drawing in which a pair has cut a new face off
 abbrev pub cut_off : Drawing → ℕ × ℕ → Drawing

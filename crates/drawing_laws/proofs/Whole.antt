@@ -17,7 +17,8 @@ use Rattle.drawing_laws.specs.Pairs.{Fits, AllFit, LoneInOneLoop, FacesFit, pair
 use Rattle.drawing_laws.specs.Laws.{CanBeDrawn}
 use Rattle.drawing_laws.proofs.Pairs.{stays_on}
 use Rattle.drawing_laws.proofs.Passes.{room_as}
-use Rattle.drawing_laws.proofs.Faces.{Ready, Gone, face_goes}
+use Rattle.drawing_laws.specs.Passing.{Drawable, Ready}
+use Rattle.drawing_laws.proofs.Faces.{Gone, face_goes}
 use Rattle.drawing_laws.proofs.Runs.{Leads, leads_none, leads_on}
 
 -- ---- the pairs of the faces that are still to be drawn
@@ -53,13 +54,6 @@ faces_stay D K f drawn M N p (g ∷ fs) z w =
     )
 
 -- ---- one face after the other
-
-pub record Drawable (M N : Model) (p : Plane) (d : Drawing) (fs : List ℕ) (n : ℕ) : Type 0 where
-  pub sound : Sound d.model
-  pub fresh : Fresh d.model d.taken
-  pub room : Room d.taken (pairs_in M N p fs + n)
-  pub fit : FacesFit d.model M N p fs
-  pub apart : IsApart fs
 
 pub record AllGone (d D : Drawing) (ops : List Op) (n : ℕ) : Type 0 where
   pub leads : Leads d.model D.model ops

@@ -13,6 +13,13 @@ pub record Stays (M N : Model) : Type 0 where
   pub vertices : N.vertices ≡ M.vertices
   pub faces : (g : ℕ) → Has M.faces g → Has N.faces g
 
+-- N is M with loops of face f joined: each half-edge keeps its face
+pub record JoinedIn (M N : Model) (f : ℕ) : Type 0 where
+  pub sound : Sound N
+  pub stays : Stays M N
+  pub beside : (h : ℕ) → HasHalf M h → face_at M h ≢ f → loop_of N h ≡ loop_of M h
+  pub faces : (h : ℕ) → HasHalf M h → face_at N h ≡ face_at M h
+
 -- N is M with edges drawn in face f: half-edges of other faces keep loop and face, and those of f are now of f or of a new face
 pub record DrawnIn (M N : Model) (f : ℕ) : Type 0 where
   pub sound : Sound N

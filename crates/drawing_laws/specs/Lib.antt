@@ -1,4 +1,5 @@
 pub mod DrawingOps
 pub mod DrawnIn
 pub mod Pairs
+pub mod Passing
 pub mod Laws

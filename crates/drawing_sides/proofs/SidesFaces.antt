@@ -13,7 +13,8 @@ use Rattle.split_shapes.specs.Drawing.{Drawing, stuck_at, all_joined, ring_free,
 use Rattle.drawing_laws.specs.DrawnIn.{DrawnIn}
 use Rattle.drawing_sides.specs.Parted.{Parted, ends, AllCross, Open}
 use Rattle.drawing_laws.proofs.Rings.{RingOf, AreRings, Newer, rings_on, rings_are, rings_apart, moved_drawn, moved_ring, moved_newer}
-use Rattle.drawing_laws.proofs.Faces.{Ready, going_on, fitting_on, joins, going, last, newer_face, begun_joining}
+use Rattle.drawing_laws.specs.Passing.{Ready}
+use Rattle.drawing_laws.proofs.Faces.{going_on, fitting_on, joins, going, last, newer_face, begun_joining}
 use Rattle.drawing_sides.proofs.Parting.{parted_moved}
 use Rattle.drawing_sides.proofs.SidesPassed.{append_none, AtJoin, joins_part, AtDraw, draws_part}
 

@@ -12,8 +12,10 @@ use Rattle.euler_operators.specs.Conditions.{face_at}
 use Rattle.split_shapes.specs.Drawing.{Drawing, loops_joined, in_one_loop, joined_pair, join_next, draw_next, stuck_at}
 use Rattle.drawing_laws.specs.Pairs.{Fits, AllFit}
 use Rattle.drawing_sides.specs.Parted.{Parted, ends, Crosses, AllCross, Open}
-use Rattle.drawing_laws.proofs.Pairs.{JoinedIn, can_back, can_on, pair_can}
-use Rattle.drawing_laws.proofs.Passes.{Joining, join_one, join_next_one, join_next_two, Going, draw_one, draw_next_one, draw_next_two, edge_free, edge_fits_now, edge_open, face_open, loop_open, room_here, edge_fits, face_fits, loop_fits}
+use Rattle.drawing_laws.specs.DrawnIn.{JoinedIn}
+use Rattle.drawing_laws.specs.Passing.{Joining, Going}
+use Rattle.drawing_laws.proofs.Pairs.{can_back, can_on, pair_can}
+use Rattle.drawing_laws.proofs.Passes.{join_one, join_next_one, join_next_two, draw_one, draw_next_one, draw_next_two, edge_free, edge_fits_now, edge_open, face_open, loop_open, room_here, edge_fits, face_fits, loop_fits}
 use Rattle.drawing_sides.proofs.Parting.{Opposed, parted_drawn, parted_joined}
 
 count-ends : (x : ℕ) (as_ bs : List (ℕ × ℕ)) → count x (ends (as_ ++ bs)) ≡ count x (ends as_) + count x (ends bs)

@@ -16,7 +16,8 @@ use Rattle.euler_operators.specs.Conditions.{has_rings}
 use Rattle.split_shapes.specs.Drawing.{Drawing, stuck_at, in_one_loop, join_next, draw_next, all_joined, ring_free, all_drawn, rings_above, with_rings, drawn_between, drawn_pairs, next_drawn, faces_drawn}
 use Rattle.drawing_sides.specs.Parted.{Parted, LiesOn, Open, FacesCross, all_ends}
 use Rattle.drawing_laws.proofs.Passes.{join_next_one, join_next_two, draw_next_one, draw_next_two}
-use Rattle.drawing_laws.proofs.Whole.{Drawable, ready, drawable_on, next_is, drawable, drawing_sound}
+use Rattle.drawing_laws.specs.Passing.{Drawable}
+use Rattle.drawing_laws.proofs.Whole.{ready, drawable_on, next_is, drawable, drawing_sound}
 use Rattle.drawing_sides.proofs.SidesFaces.{face_parted}
 
 -- ---- a drawing that is stuck stays so

@@ -14,9 +14,10 @@ use Rattle.drawing_laws.specs.DrawnIn.{DrawnIn}
 use Rattle.drawing_laws.specs.Pairs.{Fits, AllFit, pairs_in}
 use Rattle.drawing_laws.specs.Laws.{CanBeDrawn}
 use Rattle.drawing_laws.proofs.Stays.{has_face}
-use Rattle.drawing_laws.proofs.Passes.{Going, draw_next_one, draw_next_two, draw_one, join_next_one, join_next_two}
-use Rattle.drawing_laws.proofs.Faces.{Ready, joins, going, going_on, fitting_on, face_goes}
-use Rattle.drawing_laws.proofs.Whole.{Drawable, ready, drawable, drawable_on, next_is}
+use Rattle.drawing_laws.specs.Passing.{Going, Ready, Drawable}
+use Rattle.drawing_laws.proofs.Passes.{draw_next_one, draw_next_two, draw_one, join_next_one, join_next_two}
+use Rattle.drawing_laws.proofs.Faces.{joins, going, going_on, fitting_on, face_goes}
+use Rattle.drawing_laws.proofs.Whole.{ready, drawable, drawable_on, next_is}
 use Rattle.drawn_splits.specs.Kept.{KeepsSolids}
 
 -- ---- joining changes no face and no solid

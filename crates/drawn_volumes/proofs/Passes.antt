@@ -12,11 +12,12 @@ use Rattle.euler_operators.specs.Conditions.{face_at}
 use Rattle.euler_operators.specs.Effect.{ring_in}
 use Rattle.split_shapes.specs.Drawing.{Drawing, face_drawn, loops_joined, in_one_loop, joined_pair, join_next, draw_next, with_rings}
 use Rattle.measure_shapes.specs.Measure.{six_volume}
-use Rattle.drawing_laws.specs.DrawnIn.{DrawnIn}
+use Rattle.drawing_laws.specs.DrawnIn.{JoinedIn, DrawnIn}
 use Rattle.drawing_laws.specs.Pairs.{Fits, AllFit}
 use Rattle.drawing_laws.proofs.Drawn.{CanDraw, CanJoin}
-use Rattle.drawing_laws.proofs.Pairs.{JoinedIn, can_back, can_on, pair_can}
-use Rattle.drawing_laws.proofs.Passes.{Joining, join_one, join_next_one, join_next_two, Going, draw_one, draw_next_one, draw_next_two, edge_free, edge_fits_now, edge_open, face_open, loop_open, room_here, edge_fits, face_fits, loop_fits}
+use Rattle.drawing_laws.specs.Passing.{Joining, Going}
+use Rattle.drawing_laws.proofs.Pairs.{can_back, can_on, pair_can}
+use Rattle.drawing_laws.proofs.Passes.{join_one, join_next_one, join_next_two, draw_one, draw_next_one, draw_next_two, edge_free, edge_fits_now, edge_open, face_open, loop_open, room_here, edge_fits, face_fits, loop_fits}
 use Rattle.drawing_laws.proofs.Rings.{RingOf, AreRings, Newer, moved_drawn, moved_newer, moved_ring, rings_on}
 use Rattle.drawing_laws.proofs.Stays.{has_face}
 use Rattle.cut_volumes.proofs.Solids.{same_solid}

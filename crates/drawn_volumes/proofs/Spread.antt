@@ -14,9 +14,10 @@ use Rattle.measure_shapes.specs.Measure.{six_volume}
 use Rattle.split_shapes.specs.Sides.{some_above}
 use Rattle.split_shapes.specs.Drawing.{Drawing, stuck_at, all_joined, ring_free, all_drawn, rings_above, with_rings, drawn_between, drawn_pairs, next_drawn}
 use Rattle.drawing_laws.specs.Pairs.{pairs_in}
-use Rattle.drawing_laws.proofs.Faces.{Ready, begun_joining, joins, going, going_on, fitting_on, last, newer_face}
+use Rattle.drawing_laws.specs.Passing.{Ready, Drawable}
+use Rattle.drawing_laws.proofs.Faces.{begun_joining, joins, going, going_on, fitting_on, last, newer_face}
 use Rattle.drawing_laws.proofs.Rings.{rings_are, rings_apart}
-use Rattle.drawing_laws.proofs.Whole.{Drawable, ready, drawable_on, next_is}
+use Rattle.drawing_laws.proofs.Whole.{ready, drawable_on, next_is}
 use Rattle.drawn_volumes.proofs.Bounds.{OnFace}
 use Rattle.drawn_volumes.proofs.Passes.{Within, never_free, nothing_within, joins_within, draws_within, rings_within}
 use Rattle.drawn_volumes.proofs.Volumes.{IsPlane}

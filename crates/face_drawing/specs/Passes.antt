@@ -4,7 +4,7 @@ use Rattle.boundary_model.specs.Model.{Model}
 use Rattle.boundary_model.specs.Sound.{Sound}
 use Rattle.split_shapes.specs.Drawing.{Drawing}
 use Rattle.drawing_laws.specs.Pairs.{AllFit}
-use Rattle.drawing_laws.proofs.Passes.{Joining, Going}
+use Rattle.drawing_laws.specs.Passing.{Joining, Going}
 
 -- d has come from a model by joining pairs of face f, and the pairs qs of f are still to come
 pub record CanJoin (f : ℕ) (d : Drawing) (qs : List (ℕ × ℕ)) : Type 0 where

@@ -12,7 +12,8 @@ use Rattle.split_shapes.specs.Sides.{some_above}
 use Rattle.split_shapes.specs.Drawing.{Drawing, face_drawn, stuck_at, all_joined, ring_free, all_drawn, rings_above, with_rings, rings_shared, drawn_between}
 use Rattle.drawing_laws.specs.DrawnIn.{Stays}
 use Rattle.drawing_laws.proofs.Drawn.{CanDraw}
-use Rattle.drawing_laws.proofs.Faces.{Ready, face_goes, begun_joining, joins, going}
+use Rattle.drawing_laws.specs.Passing.{Ready}
+use Rattle.drawing_laws.proofs.Faces.{face_goes, begun_joining, joins, going}
 use Rattle.drawing_laws.proofs.Pairs.{none_joined, joined_drawn, pair_can, stays_on}
 use Rattle.drawing_laws.proofs.Passes.{join_next_one, draw_next_one, cut_off, edge_fits, face_fits, loop_fits, room_as}
 use Rattle.drawing_laws.proofs.Stays.{not_free, has_loop, same_content, row_else, draw_stays}

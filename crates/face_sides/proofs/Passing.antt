@@ -7,10 +7,11 @@ use Rattle.boundary_model.specs.Sound.{Sound, HasHalf}
 use Rattle.euler_operators.specs.Conditions.{face_at}
 use Rattle.euler_laws_shared.proofs.Goes.{free}
 use Rattle.split_shapes.specs.Drawing.{Drawing, loops_joined, in_one_loop, joined_pair, join_next, draw_next}
-use Rattle.drawing_laws.specs.DrawnIn.{Stays}
+use Rattle.drawing_laws.specs.DrawnIn.{JoinedIn, Stays}
 use Rattle.drawing_laws.specs.Pairs.{Fits, AllFit}
-use Rattle.drawing_laws.proofs.Pairs.{JoinedIn, stays_on, can_back, can_on, pair_can}
-use Rattle.drawing_laws.proofs.Passes.{Joining, join_one, join_next_one, join_next_two, Going, draw_one, draw_next_one, draw_next_two, cut_off, edge_free, edge_fits_now, edge_open, face_open, loop_open, room_here, edge_fits, face_fits, loop_fits}
+use Rattle.drawing_laws.specs.Passing.{Joining, Going}
+use Rattle.drawing_laws.proofs.Pairs.{stays_on, can_back, can_on, pair_can}
+use Rattle.drawing_laws.proofs.Passes.{join_one, join_next_one, join_next_two, draw_one, draw_next_one, draw_next_two, cut_off, edge_free, edge_fits_now, edge_open, face_open, loop_open, room_here, edge_fits, face_fits, loop_fits}
 use Rattle.drawing_laws.proofs.Stays.{draw_stays}
 use Rattle.face_sides.proofs.Alone.{Alone, draw_alone}
 use Rattle.face_sides.proofs.Beside.{Beside, ComesOf, faces_joined, joined_beside, drawn_beside}

@@ -13,9 +13,10 @@ use Rattle.euler_laws_shared.proofs.Goes.{free}
 use Rattle.split_shapes.specs.Drawing.{Drawing, drawn_pairs, next_drawn}
 use Rattle.drawing_laws.specs.DrawnIn.{Stays, DrawnIn}
 use Rattle.drawing_laws.specs.Pairs.{pairs_in}
-use Rattle.drawing_laws.proofs.Faces.{Ready, face_goes}
+use Rattle.drawing_laws.specs.Passing.{Ready, Drawable}
+use Rattle.drawing_laws.proofs.Faces.{face_goes}
 use Rattle.drawing_laws.proofs.Pairs.{stays_on}
-use Rattle.drawing_laws.proofs.Whole.{Drawable, ready, drawable_on, next_is}
+use Rattle.drawing_laws.proofs.Whole.{ready, drawable_on, next_is}
 use Rattle.drawing_sides.proofs.SidesWhole.{not_stuck}
 use Rattle.face_sides.proofs.Beside.{face_same, solid_same}
 use Rattle.face_sides.proofs.OneFace.{Untouched, IsSided, PairsOf, FaceDone, face_done}

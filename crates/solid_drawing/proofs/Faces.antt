@@ -6,8 +6,9 @@ use Rattle.boundary_model.specs.Table.{Table}
 use Rattle.boundary_model.specs.Model.{Model}
 use Rattle.boundary_model.specs.Sound.{Has}
 use Rattle.split_shapes.specs.Drawing.{Drawing, drawn_pairs, drawn_between, next_drawn}
-use Rattle.drawing_laws.proofs.Faces.{Ready, face_goes}
-use Rattle.drawing_laws.proofs.Whole.{Drawable, next_is, ready, drawable_on}
+use Rattle.drawing_laws.specs.Passing.{Ready, Drawable}
+use Rattle.drawing_laws.proofs.Faces.{face_goes}
+use Rattle.drawing_laws.proofs.Whole.{next_is, ready, drawable_on}
 use Rattle.cut_places.specs.Walks.{AreIn}
 use Rattle.solid_drawing.specs.Drawn.{put_aside, faces_between, CanDrawFace, CanDrawFaces}
 

@@ -4,8 +4,7 @@ use Rattle.lattice.specs.declared.Plane.{Plane}
 use Rattle.boundary_model.specs.Model.{Model}
 use Rattle.boundary_model.specs.Sound.{Has}
 use Rattle.split_shapes.specs.Drawing.{Drawing, drawn_pairs, drawn_between}
-use Rattle.drawing_laws.proofs.Faces.{Ready}
-use Rattle.drawing_laws.proofs.Whole.{Drawable}
+use Rattle.drawing_laws.specs.Passing.{Ready, Drawable}
 use Rattle.cut_places.specs.Walks.{AreIn}
 
 -- the pairs that a face's first pass left, put aside
