@@ -1,4 +1,4 @@
--- The arena that holds nothing, numbers past the rows, and the room of numbers in use.
+-- The arena that holds nothing, the greatest number in use, and the room of numbers in use.
 use Rattle.std.proofs.Common.{◌-◌}
 use Rattle.ring_spots.proofs.SpotTables.{edge_live, edge_has_room, codes_are}
 use Rattle.arena_rows.specs.Rows.{row_at, has_row}

@@ -1,5 +1,5 @@
 -- The greatest number in use where one number comes or goes.
-use Rattle.std.proofs.Common.{◌≡◌, ◌≢◌, ℕ, ◌≤◌, ◌<◌, Bool, true, false, sym, subst, ◌∙◌, arith, refl, ap}
+use Rattle.std.proofs.Common.{◌≡◌, ◌≢◌, ℕ, ◌≤◌, ◌<◌, Bool, true, false, ◌∙◌, arith, refl}
 use Rattle.ring_spots.specs.Last.{IsLast}
 
 pub last_none : (used : ℕ → Bool) → ((k : ℕ) → used k ≡ false) → IsLast used 0
