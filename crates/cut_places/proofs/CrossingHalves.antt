@@ -4,10 +4,10 @@ use Rattle.lattice.specs.declared.Plane.{Plane}
 use Rattle.lattice.specs.Vectors.{height, are_opposite, cut_between}
 use Rattle.boundary_model.specs.HalfEdge.{edge_of, plus, minus}
 use Rattle.boundary_model.specs.Model.{Model}
-use Rattle.euler_laws_shared.proofs.Arcs.{halves_of_edge}
-use Rattle.euler_laws_shared.proofs.Undo.{mate_plus, mate_minus}
+use Rattle.euler_laws.proofs.shared.Arcs.{halves_of_edge}
+use Rattle.euler_laws.proofs.shared.Undo.{mate_plus, mate_minus}
 use Rattle.shapes.specs.Faces.{start, finish}
-use Rattle.split_shapes.specs.Sides.{crosses}
+use Rattle.shapes.specs.split.Sides.{crosses}
 use Rattle.cut_places.proofs.Cuts.{opposite_turned, cut_back}
 
 module _ (M : Model) (p : Plane) where

@@ -15,11 +15,11 @@ use Rattle.boundary_model.specs.Sound.{Sound, Has, HasHalf}
 use Rattle.boundary_model.proofs.Halves.{plus_row}
 use Rattle.boundary_model.proofs.Models.{cycle_there}
 use Rattle.euler_operators.specs.Conditions.{face_at}
-use Rattle.euler_laws_shared.proofs.Arcs.{halves_of_edge}
-use Rattle.euler_laws_shared.proofs.Goes.{equal, equals}
-use Rattle.euler_laws_shared.proofs.Listed.{listed_passes, passes_listed, all_where-rises}
-use Rattle.euler_laws_shared.proofs.Loops.{some_row}
-use Rattle.euler_laws_shared.proofs.Undo.{mate_minus}
+use Rattle.euler_laws.proofs.shared.Arcs.{halves_of_edge}
+use Rattle.euler_laws.proofs.shared.Goes.{equal, equals}
+use Rattle.euler_laws.proofs.shared.Listed.{listed_passes, passes_listed, all_where-rises}
+use Rattle.euler_laws.proofs.shared.Loops.{some_row}
+use Rattle.euler_laws.proofs.shared.Undo.{mate_minus}
 use Rattle.euler_conditions.proofs.Known.{loop_there}
 use Rattle.face_walks.proofs.Rising.{member, AllAbove, Rising, all_above_members}
 use Rattle.face_walks.proofs.TableWalks.{rising_passing}
@@ -33,7 +33,7 @@ use Rattle.solid_checks.proofs.HowMany.{of_map, in_map, map_apart, equally_many}
 use Rattle.solid_checks.specs.Least.{found, least_such}
 use Rattle.solid_checks.proofs.FaceWalks.{one_or_more, lists_member}
 use Rattle.solid_checks.proofs.Searches.{one_least, least_same, least_listed, least_rising}
-use Rattle.split_shapes.specs.Sides.{crosses, straddles, straddling_faces, crossing_edges}
+use Rattle.shapes.specs.split.Sides.{crosses, straddles, straddling_faces, crossing_edges}
 use Rattle.cut_places.specs.Crossings.{leads_across, crossings_met, IsCrossing, AreCrossing, is_off}
 use Rattle.cut_places.specs.Places.{IsWholeFace, AreWholeFaces}
 use Rattle.cut_places.specs.Walks.{AreIn}

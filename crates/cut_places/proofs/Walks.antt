@@ -11,7 +11,7 @@ use Rattle.boundary_model.specs.Sound.{Sound, Has, HasHalf, StandsIn}
 use Rattle.boundary_model.proofs.Models.{in-holds}
 use Rattle.euler_conditions.specs.Store.{Tells}
 use Rattle.euler_operators.specs.Conditions.{lists}
-use Rattle.euler_laws_shared.proofs.Listed.{first_listed, rest_listed}
+use Rattle.euler_laws.proofs.shared.Listed.{first_listed, rest_listed}
 use Rattle.euler_conditions.proofs.Borders.{ring_has}
 use Rattle.shapes.specs.Faces.{loops_of, items_in, boundary, vertices_on}
 use Rattle.solid_walks.proofs.FaceLoops.{items_there}

@@ -6,7 +6,7 @@ use Rattle.boundary_model.specs.HalfEdge.{plus, edge_of, is_first}
 use Rattle.boundary_model.specs.Model.{Model}
 use Rattle.boundary_model.specs.Sound.{Has}
 use Rattle.shapes.specs.Faces.{boundary, start, finish}
-use Rattle.split_shapes.specs.Sides.{crosses}
+use Rattle.shapes.specs.split.Sides.{crosses}
 
 -- a half-edge is the plus one of an edge that crosses the plane
 abbrev pub leads_across : Model → Plane → ℕ → Bool

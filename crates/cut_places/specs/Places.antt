@@ -8,8 +8,8 @@ use Rattle.boundary_model.specs.HalfEdge.{edge_of}
 use Rattle.boundary_model.specs.Model.{Model}
 use Rattle.boundary_model.specs.Sound.{Has}
 use Rattle.shapes.specs.Faces.{boundary, start}
-use Rattle.split_shapes.specs.Sides.{crosses}
-use Rattle.split_shapes.specs.Places.{is_place}
+use Rattle.shapes.specs.split.Sides.{crosses}
+use Rattle.shapes.specs.split.Places.{is_place}
 use Rattle.cut_places.specs.Crossings.{is_off}
 
 -- one of the half-edges starts on the plane at a corner that is no cut place

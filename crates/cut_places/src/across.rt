@@ -9,7 +9,7 @@ ghost use Rattle.lattice.specs.Vectors.{cut_between};
 ghost use Rattle.shapes.specs.Faces.{boundary, finish, start};
 ghost use Rattle.cut_places.specs.Crossings.{crossings_in, crossings_met, is_off, leads_across};
 ghost use Rattle.cut_places.specs.Walks.{AreThere};
-ghost use Rattle.split_shapes.specs.Sides.{crosses};
+ghost use Rattle.shapes.specs.split.Sides.{crosses};
 
 use crate::halves::{crosses, finish, start};
 use crate::loops::boundary;

@@ -5,7 +5,7 @@ ghost use Rattle.euler_conditions.specs.Ready.{IsReady};
 ghost use Rattle.euler_conditions.specs.Store.{has_number};
 ghost use Rattle.lattice.specs.Ranges.{IsCutPlane};
 ghost use Rattle.cut_places.specs.Walks.{AreThere};
-ghost use Rattle.split_shapes.specs.Places.{is_place, places};
+ghost use Rattle.shapes.specs.split.Places.{is_place, places};
 
 use crate::halves::is_place;
 use crate::loops::boundary;

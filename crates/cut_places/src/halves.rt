@@ -8,8 +8,8 @@ ghost use Rattle.lattice.specs.Ranges.{IsCutPlane};
 ghost use Rattle.lattice.specs.Vectors.{are_opposite, is_on};
 ghost use Rattle.shapes.specs.Faces.{finish, start};
 ghost use Rattle.cut_places.specs.Sides.{lies};
-ghost use Rattle.split_shapes.specs.Places.{goes_up, is_place};
-ghost use Rattle.split_shapes.specs.Sides.{crosses};
+ghost use Rattle.shapes.specs.split.Places.{goes_up, is_place};
+ghost use Rattle.shapes.specs.split.Sides.{crosses};
 
 use crate::planes::{are_opposite, lies};
 use euler_conditions::{Arena, HalfEdge};
@@ -86,7 +86,7 @@ fn passes(arena: &Arena, plane: Plane, h: HalfEdge) -> bool
 }
 
 /// Whether the half-edge tells a cut place.
-#[tactic(auto, unfolding(split_shapes::specs::Places::is_place))]
+#[tactic(auto, unfolding(shapes::specs::split::Places::is_place))]
 pub fn is_place(arena: &Arena, plane: Plane, h: HalfEdge) -> bool
     requires ready { IsReady arena.now }
     requires there { has_half arena.now.model (code h) ≡ true }

@@ -9,7 +9,7 @@ ghost use Rattle.lattice.specs.Ranges.{IsCutPlane};
 ghost use Rattle.shapes.specs.Faces.{vertices_in, vertices_on};
 ghost use Rattle.cut_places.specs.Sides.{reaches, some_lie, some_start};
 ghost use Rattle.cut_places.specs.Walks.{AreIn, AreThere};
-ghost use Rattle.split_shapes.specs.Sides.{straddles, straddling_faces};
+ghost use Rattle.shapes.specs.split.Sides.{straddles, straddling_faces};
 
 use crate::halves::starts_at;
 use crate::planes::lies;
@@ -120,7 +120,7 @@ pub fn solid_reaches(
 }
 
 /// Whether face f has a corner above the plane and one below.
-#[tactic(auto, unfolding(split_shapes::specs::Sides::straddles))]
+#[tactic(auto, unfolding(shapes::specs::split::Sides::straddles))]
 fn straddles(alloc: Global, arena: &Arena, plane: Plane, f: u32) -> Result<bool, AllocError>
     requires ready { IsReady arena.now }
     requires there { has_number arena.now Kind.Face f ≡ true }

@@ -13,8 +13,8 @@ use Rattle.boundary_model.proofs.Halves.{half-code, code-half, plus_row, minus_r
 use Rattle.euler_operators.specs.declared.Op.TheVariants.{Mev}
 use Rattle.shapes.specs.Faces.{start, finish}
 use Rattle.shapes.specs.Fresh.{taken_in, growing}
-use Rattle.split_shapes.specs.Sides.{crosses}
-use Rattle.crossing_laws.specs.CrossingOps.{cut_edge}
+use Rattle.shapes.specs.split.Sides.{crosses}
+use Rattle.split_drawing_laws.specs.crossings.CrossingOps.{cut_edge}
 use Rattle.cut_places.specs.Crossings.{IsCrossing, is_off}
 
 module _ (M : Model) (p : Plane) (e : ℕ) where

@@ -12,17 +12,17 @@ use Rattle.boundary_model.specs.Model.{Model}
 use Rattle.boundary_model.specs.Sound.{Sound}
 use Rattle.euler_operators.specs.Conditions.{AllHold, first_false}
 use Rattle.euler_operators.specs.Effect.{effect}
-use Rattle.euler_laws_shared.proofs.Goes.{all_hold}
-use Rattle.euler_laws_shared.proofs.Undo.{mate_plus}
+use Rattle.euler_laws.proofs.shared.Goes.{all_hold}
+use Rattle.euler_laws.proofs.shared.Undo.{mate_plus}
 use Rattle.shapes.specs.Faces.{start, finish}
 use Rattle.shapes.specs.Fresh.{taken_in, Growing, growing}
-use Rattle.split_shapes.specs.Sides.{crossing_edges}
-use Rattle.split_shapes.specs.Crossings.{next_cut, all_cut, with_crossings}
-use Rattle.split_shapes.specs.Split.{first_conditions}
-use Rattle.crossing_laws.specs.CrossingOps.{cut_edge}
-use Rattle.crossing_laws.proofs.Steps.{CutGoes, cut_accepted, cut_made}
-use Rattle.crossing_laws.proofs.Runs.{cut_at, Crossing, Going, kept_start, goes_now, next_model, going_on}
-use Rattle.crossing_laws.proofs.Whole as whole
+use Rattle.shapes.specs.split.Sides.{crossing_edges}
+use Rattle.shapes.specs.split.Crossings.{next_cut, all_cut, with_crossings}
+use Rattle.shapes.specs.split.Split.{first_conditions}
+use Rattle.split_drawing_laws.specs.crossings.CrossingOps.{cut_edge}
+use Rattle.split_drawing_laws.proofs.crossings.Steps.{CutGoes, cut_accepted, cut_made}
+use Rattle.split_drawing_laws.proofs.crossings.Runs.{cut_at, Crossing, Going, kept_start, goes_now, next_model, going_on}
+use Rattle.split_drawing_laws.proofs.crossings.Whole as whole
 use Rattle.cut_places.specs.Crossings.{IsCrossing, is_off}
 use Rattle.cut_places.proofs.Lists.{others, parts}
 use Rattle.edge_cutting.specs.Begins.{CanBeCut}

@@ -16,7 +16,7 @@ use Rattle.euler_conditions.proofs.Rising.{within}
 use Rattle.face_walks.proofs.Rising.{Rising}
 use Rattle.solid_walks.proofs.Rising.{in_listed}
 use Rattle.solid_walks.proofs.SolidFaces.{listed_in}
-use Rattle.split_shapes.specs.Sides.{crossing_edges}
+use Rattle.shapes.specs.split.Sides.{crossing_edges}
 use Rattle.cut_places.specs.Crossings.{crossings_met}
 use Rattle.cut_places.proofs.Edges.{as_many, met_apart, met_crosses, rising}
 

@@ -2,7 +2,7 @@
 use Rattle.std.specs.Prelude.{ℕ}
 use Rattle.lattice.specs.declared.Plane.{Plane}
 use Rattle.boundary_model.specs.Model.{Model}
-use Rattle.crossing_laws.specs.Laws.{CanBegin}
+use Rattle.split_drawing_laws.specs.crossings.Laws.{CanBegin}
 
 -- the conditions that are tested before anything is changed hold, with some number for the upper part
 abbrev pub CanBeCut : Model → ℕ → Plane → Type 0

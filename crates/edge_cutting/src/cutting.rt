@@ -7,8 +7,8 @@ ghost use Rattle.euler_operators.specs.Conditions.{first_false};
 ghost use Rattle.lattice.specs.Ranges.{IsCutPlane};
 ghost use Rattle.shapes.specs.Fresh.{growing, taken_in};
 ghost use Rattle.undo_journal.specs.Machine.{draft_step};
-ghost use Rattle.split_shapes.specs.Crossings.{with_crossings};
-ghost use Rattle.crossing_laws.specs.CrossingOps.{cut_edge};
+ghost use Rattle.shapes.specs.split.Crossings.{with_crossings};
+ghost use Rattle.split_drawing_laws.specs.crossings.CrossingOps.{cut_edge};
 ghost use Rattle.cut_places.specs.Crossings.{IsCrossing, is_off};
 ghost use Rattle.edge_cutting.specs.Begins.{CanBeCut};
 

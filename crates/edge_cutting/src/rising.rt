@@ -2,7 +2,7 @@
 ghost use Rattle.std.specs.Prelude.{◌≡◌, IfOk};
 ghost use Rattle.euler_conditions.specs.Ready.{IsReady};
 ghost use Rattle.lattice.specs.Ranges.{IsCutPlane};
-ghost use Rattle.split_shapes.specs.Sides.{crossing_edges};
+ghost use Rattle.shapes.specs.split.Sides.{crossing_edges};
 
 use cut_places::crossings;
 use euler_conditions::Arena;

@@ -17,11 +17,11 @@ use Rattle.euler_operators.specs.Conditions.{Condition, AllHold, conditions, fir
 use Rattle.euler_operators.specs.declared.Refusal.{Refusal}
 use Rattle.euler_operators.specs.declared.Why.TheVariants.{NoSolid, SolidTaken, BadPart}
 use Rattle.euler_operators.specs.declared.Op.TheVariants.{Part}
-use Rattle.euler_laws_shared.proofs.Arcs.{halves_of_edge}
-use Rattle.euler_laws_shared.proofs.Goes.{all_hold, equal, equals, differs, not_true}
-use Rattle.euler_laws_shared.proofs.Loops.{some_row}
-use Rattle.euler_laws_shared.proofs.Rows.{no_rings_means, face_there}
-use Rattle.euler_laws_shared.proofs.Listed.{all_where-rises, passes_listed, listed_cases}
+use Rattle.euler_laws.proofs.shared.Arcs.{halves_of_edge}
+use Rattle.euler_laws.proofs.shared.Goes.{all_hold, equal, equals, differs, not_true}
+use Rattle.euler_laws.proofs.shared.Loops.{some_row}
+use Rattle.euler_laws.proofs.shared.Rows.{no_rings_means, face_there}
+use Rattle.euler_laws.proofs.shared.Listed.{all_where-rises, passes_listed, listed_cases}
 use Rattle.euler_conditions.specs.Parts.{StaysIn, FaceLeadsOut, FaceStaysIn, AreFacesOf, parts_known}
 use Rattle.euler_conditions.proofs.Orders.{part_refuses, part_holds}
 use Rattle.euler_conditions.proofs.Rising.{all_listed}

@@ -17,11 +17,11 @@ use Rattle.boundary_model.proofs.Models.{tail_row}
 use Rattle.boundary_model.proofs.Tables.{first_where_zero}
 use Rattle.euler_operators.specs.Conditions.{lists, strictly_rises, parallel}
 use Rattle.euler_operators.specs.Effect.{head_or_zero}
-use Rattle.euler_laws_shared.proofs.Fans.{Fan, fan_of}
-use Rattle.euler_laws_shared.proofs.Arcs.{halves_of_edge}
-use Rattle.euler_laws_shared.proofs.Listed.{first_listed, listed_cases, listed_passes, passes_listed, all_where-rises}
-use Rattle.euler_laws_shared.proofs.Loops.{some_row}
-use Rattle.euler_laws_shared.proofs.Goes.{equal, equals, not_true}
+use Rattle.euler_laws.proofs.shared.Fans.{Fan, fan_of}
+use Rattle.euler_laws.proofs.shared.Arcs.{halves_of_edge}
+use Rattle.euler_laws.proofs.shared.Listed.{first_listed, listed_cases, listed_passes, passes_listed, all_where-rises}
+use Rattle.euler_laws.proofs.shared.Loops.{some_row}
+use Rattle.euler_laws.proofs.shared.Goes.{equal, equals, not_true}
 use Rattle.euler_conditions.specs.Ends.{leads_to, lesser}
 
 -- more than the half-edges that a model can have

@@ -2,7 +2,7 @@
 use Rattle.std.proofs.Common.{◌≡◌, ◌≢◌, ℕ, zero, suc, ◌+◌, ◌<◌, ◌≤◌, Bool, true, false, nat_eq, nat_lt, ◌&&◌, List, [], ◌∷◌, length, get_or, refl, sym, ap, ◌∙◌, arith, true≢false, ◌⊎◌, inl, inr}
 use Rattle.std.proofs.lemmas.Bool.Decides.{nat_tests, eqb_tells}
 use Rattle.euler_operators.specs.Conditions.{lists, lists_all, strictly_rises}
-use Rattle.euler_laws_shared.proofs.Listed.{first_listed, rest_listed, listed_cases}
+use Rattle.euler_laws.proofs.shared.Listed.{first_listed, rest_listed, listed_cases}
 
 pub rises_parts : (m k : ℕ) (ns : List ℕ) → strictly_rises (m ∷ k ∷ ns) ≡ true → (m < k) × (strictly_rises (k ∷ ns) ≡ true)
 rises_parts m k ns r = go m k (strictly_rises (k ∷ ns)) r where

@@ -4,7 +4,7 @@ use Rattle.boundary_model.specs.Model.{Model, faces_of}
 use Rattle.boundary_model.specs.Sound.{Has}
 use Rattle.halfedge_arena.specs.Store.{only_item}
 use Rattle.euler_operators.specs.Conditions.{lists, bare_face}
-use Rattle.euler_laws_shared.proofs.Listed.{first_listed, listed_passes}
+use Rattle.euler_laws.proofs.shared.Listed.{first_listed, listed_passes}
 
 -- the only face of a solid is there
 pub only_face_there : (M : Model) (s f : ℕ) → faces_of M s ≡ f ∷ [] → Has M.faces f

@@ -6,18 +6,18 @@ use Rattle.euler_operators.specs.declared.Op.{Op}
 use Rattle.euler_operators.specs.declared.Op.TheVariants.{Mvfs, Kvfs, Mev, Kev, Mef, Kef, Kemr, Mekr, Kfmrh, Mfkrh, RingIn, RingOut, Outer, Merge, Part}
 use Rattle.euler_operators.specs.Conditions.{first_false}
 use Rattle.euler_operators.specs.Effect.{effect, inverse}
-use Rattle.euler_laws_kev.proofs.Mev.{mev_keeps_sound}
-use Rattle.euler_laws_kev.proofs.Kev.{mev_is_undone, mev_inverse_goes, kev_keeps_sound, kev_is_undone, kev_inverse_goes}
-use Rattle.euler_laws_mef.proofs.Mef.{mef_keeps_sound, mef_is_undone}
-use Rattle.euler_laws_mef.proofs.Kef.{mef_inverse_goes, kef_keeps_sound, kef_is_undone, kef_inverse_goes}
-use Rattle.euler_laws_mekr.proofs.Kemr.{kemr_keeps_sound, kemr_is_undone, kemr_inverse_goes}
-use Rattle.euler_laws_mekr.proofs.Mekr.{mekr_keeps_sound, mekr_is_undone, mekr_inverse_goes}
-use Rattle.euler_laws_faces.proofs.Solids.{mvfs_keeps_sound, mvfs_is_undone, mvfs_inverse_goes, kvfs_keeps_sound, kvfs_is_undone, kvfs_inverse_goes}
-use Rattle.euler_laws_faces.proofs.RingIn.{ring_in_keeps_sound, ring_in_is_undone, ring_in_inverse_goes}
-use Rattle.euler_laws_faces.proofs.RingOut.{ring_out_keeps_sound, ring_out_is_undone, ring_out_inverse_goes, outer_keeps_sound, outer_is_undone, outer_inverse_goes}
-use Rattle.euler_laws_faces.proofs.Kfmrh.{kfmrh_keeps_sound, kfmrh_is_undone, kfmrh_inverse_goes, mfkrh_keeps_sound, mfkrh_is_undone, mfkrh_inverse_goes}
-use Rattle.euler_laws_merge.proofs.Merge.{merge_keeps_sound}
-use Rattle.euler_laws_merge.proofs.Part.{merge_is_undone, merge_inverse_goes, part_keeps_sound, part_is_undone, part_inverse_goes}
+use Rattle.euler_laws.proofs.mev.Mev.{mev_keeps_sound}
+use Rattle.euler_laws.proofs.kev.Kev.{mev_is_undone, mev_inverse_goes, kev_keeps_sound, kev_is_undone, kev_inverse_goes}
+use Rattle.euler_laws.proofs.mef.Mef.{mef_keeps_sound, mef_is_undone}
+use Rattle.euler_laws.proofs.mef.Kef.{mef_inverse_goes, kef_keeps_sound, kef_is_undone, kef_inverse_goes}
+use Rattle.euler_laws.proofs.kemr.Kemr.{kemr_keeps_sound, kemr_is_undone, kemr_inverse_goes}
+use Rattle.euler_laws.proofs.mekr.Mekr.{mekr_keeps_sound, mekr_is_undone, mekr_inverse_goes}
+use Rattle.euler_laws.proofs.faces.Solids.{mvfs_keeps_sound, mvfs_is_undone, mvfs_inverse_goes, kvfs_keeps_sound, kvfs_is_undone, kvfs_inverse_goes}
+use Rattle.euler_laws.proofs.faces.RingIn.{ring_in_keeps_sound, ring_in_is_undone, ring_in_inverse_goes}
+use Rattle.euler_laws.proofs.faces.RingOut.{ring_out_keeps_sound, ring_out_is_undone, ring_out_inverse_goes, outer_keeps_sound, outer_is_undone, outer_inverse_goes}
+use Rattle.euler_laws.proofs.faces.Kfmrh.{kfmrh_keeps_sound, kfmrh_is_undone, kfmrh_inverse_goes, mfkrh_keeps_sound, mfkrh_is_undone, mfkrh_inverse_goes}
+use Rattle.euler_laws.proofs.merge.Merge.{merge_keeps_sound}
+use Rattle.euler_laws.proofs.merge.Part.{merge_is_undone, merge_inverse_goes, part_keeps_sound, part_is_undone, part_inverse_goes}
 
 -- an accepted operator keeps a sound model sound
 pub effect_keeps_sound : (M : Model) (op : Op) → Sound M → first_false M op ≡ None → Sound (effect M op)

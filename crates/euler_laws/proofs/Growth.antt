@@ -14,17 +14,17 @@ use Rattle.euler_operators.specs.declared.Op.TheVariants.{Mvfs, Kvfs, Mev, Kev, 
 use Rattle.euler_operators.specs.Conditions.{first_false, lone_vertex}
 use Rattle.euler_operators.specs.Effect.{effect, inverse, mvfs, mev_at, mev_lone, mef, kemr, mfkrh, ring_in, ring_out, take_outer, merge, part}
 use Rattle.euler_laws.specs.Laws.{size, euler_number, growth}
-use Rattle.euler_laws_shared.proofs.Loops.{some_row}
-use Rattle.euler_laws_kev.proofs.MevSound.{MevGoes}
-use Rattle.euler_laws_kev.proofs.MevLoneSound.{LoneGoes}
-use Rattle.euler_laws_kev.proofs.Mev.{mev_goes, lone_goes, mixed_first, mixed_second}
-use Rattle.euler_laws_mef.proofs.MefSound.{MefGoes}
-use Rattle.euler_laws_mef.proofs.Mef.{mef_goes}
-use Rattle.euler_laws_mekr.proofs.KemrSound.{KemrGoes}
-use Rattle.euler_laws_mekr.proofs.Kemr.{kemr_goes}
-use Rattle.euler_laws_faces.proofs.OneSolid.{MvfsGoes}
-use Rattle.euler_laws_faces.proofs.Solids.{mvfs_goes}
-use Rattle.euler_laws_faces.proofs.Kfmrh.{MakeGoes, mfkrh_goes}
+use Rattle.euler_laws.proofs.shared.Loops.{some_row}
+use Rattle.euler_laws.proofs.mev.MevSound.{MevGoes}
+use Rattle.euler_laws.proofs.mev.MevLoneSound.{LoneGoes}
+use Rattle.euler_laws.proofs.mev.Mev.{mev_goes, lone_goes, mixed_first, mixed_second}
+use Rattle.euler_laws.proofs.mef.MefSound.{MefGoes}
+use Rattle.euler_laws.proofs.mef.Mef.{mef_goes}
+use Rattle.euler_laws.proofs.kemr.KemrSound.{KemrGoes}
+use Rattle.euler_laws.proofs.kemr.Kemr.{kemr_goes}
+use Rattle.euler_laws.proofs.faces.OneSolid.{MvfsGoes}
+use Rattle.euler_laws.proofs.faces.Solids.{mvfs_goes}
+use Rattle.euler_laws.proofs.faces.Kfmrh.{MakeGoes, mfkrh_goes}
 use Rattle.euler_laws.proofs.Sizes.{size-put_new, size-put_old, size-remove, size-map_rows, mapped_none, loops_are}
 use Rattle.euler_laws.proofs.Cases.{effect_keeps_sound, inverse_goes, inverse_undoes}
 

@@ -11,9 +11,9 @@ use Rattle.boundary_model.specs.Sound.{Sound, Has}
 use Rattle.boundary_model.proofs.Models.{face_row}
 use Rattle.euler_operators.specs.Conditions.{lists, strictly_rises}
 use Rattle.euler_laws.specs.Laws.{size, all_rings}
-use Rattle.euler_laws_shared.proofs.Goes.{equal, equals}
-use Rattle.euler_laws_shared.proofs.Loops.{some_row}
-use Rattle.euler_laws_shared.proofs.Listed.{listed_passes, passes_listed, all_where-rises, first_listed, rest_listed, listed_cases}
+use Rattle.euler_laws.proofs.shared.Goes.{equal, equals}
+use Rattle.euler_laws.proofs.shared.Loops.{some_row}
+use Rattle.euler_laws.proofs.shared.Listed.{listed_passes, passes_listed, all_where-rises, first_listed, rest_listed, listed_cases}
 
 -- ---- rows put, taken away and rewritten
 

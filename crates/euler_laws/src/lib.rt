@@ -1,5 +1,5 @@
 //! The laws of the Euler operators. Each function does nothing: its contract is what is proved, over every sound model
-//! and every operator whose conditions hold in it.
+//! and every operator whose conditions hold in it. The lemmas stand in a folder for each operator, and in `shared` those of several.
 #![tactic(auto)]
 
 ghost use Rattle.euler_laws.specs.Laws.{EmptyIsSound, EffectsAreSound, InversesAreAccepted, InversesUndo, RunsAreSound, InversesOfRunsAreAccepted, InversesOfRunsUndo, LoopsAreOuterOrRings, EulerNumberGrows};

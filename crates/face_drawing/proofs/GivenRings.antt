@@ -6,7 +6,7 @@ use Rattle.euler_operators.specs.declared.Op.TheVariants.{RingIn}
 use Rattle.euler_operators.specs.Conditions.{first_false, has_rings, is_empty}
 use Rattle.euler_operators.specs.Effect.{effect}
 use Rattle.euler_laws.specs.Laws.{AreAccepted, effects}
-use Rattle.drawing_laws.specs.DrawingOps.{ring_ops}
+use Rattle.split_drawing_laws.specs.drawings.DrawingOps.{ring_ops}
 use Rattle.cut_places.proofs.Lists.{others, parts}
 
 -- with more than one pair a face that has a ring can't be drawn

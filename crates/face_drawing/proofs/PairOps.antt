@@ -7,7 +7,7 @@ use Rattle.boundary_model.proofs.Halves.{half-code}
 use Rattle.euler_operators.specs.declared.Op.TheVariants.{Mef, Mekr}
 use Rattle.euler_operators.specs.Conditions.{face_at}
 use Rattle.face_walks.proofs.HalfCodes.{code_plus}
-use Rattle.drawing_laws.specs.DrawingOps.{join_edge, join_pair, draw_pair}
+use Rattle.split_drawing_laws.specs.drawings.DrawingOps.{join_edge, join_pair, draw_pair}
 use Rattle.face_drawing.specs.declared.pairs.Pair.{Pair}
 use Rattle.face_drawing.specs.declared.progress.Progress.{Progress}
 use Rattle.face_drawing.specs.Codes.{codes, taken_of}

@@ -5,12 +5,12 @@ use Rattle.boundary_model.specs.Model.{Model}
 use Rattle.boundary_model.specs.Sound.{HasHalf}
 use Rattle.euler_operators.specs.Conditions.{first_false}
 use Rattle.euler_operators.specs.Effect.{effect}
-use Rattle.split_shapes.specs.Drawing.{Drawing, in_one_loop, joined_pair, join_next, draw_next, stuck_at}
-use Rattle.drawing_laws.specs.DrawingOps.{join_pair, draw_pair}
-use Rattle.drawing_laws.proofs.Runs.{Leads}
-use Rattle.drawing_laws.proofs.Pairs.{pair_leads, pair_draws}
-use Rattle.drawing_laws.specs.Passing.{Joining, Going}
-use Rattle.drawing_laws.proofs.Passes.{join_next_one, join_next_two, join_one, draw_next_one, draw_next_two, draw_one, cut_off, room_here, edge_free, edge_fits_now, edge_open, face_open, loop_open, edge_fits, face_fits, loop_fits}
+use Rattle.shapes.specs.split.Drawing.{Drawing, in_one_loop, joined_pair, join_next, draw_next, stuck_at}
+use Rattle.split_drawing_laws.specs.drawings.DrawingOps.{join_pair, draw_pair}
+use Rattle.split_drawing_laws.proofs.drawings.Runs.{Leads}
+use Rattle.split_drawing_laws.proofs.drawings.Pairs.{pair_leads, pair_draws}
+use Rattle.split_drawing_laws.specs.drawings.Passing.{Joining, Going}
+use Rattle.split_drawing_laws.proofs.drawings.Passes.{join_next_one, join_next_two, join_one, draw_next_one, draw_next_two, draw_one, cut_off, room_here, edge_free, edge_fits_now, edge_open, face_open, loop_open, edge_fits, face_fits, loop_fits}
 use Rattle.face_drawing.specs.Passes.{CanJoin, CanDraw}
 
 -- ---- the first pass

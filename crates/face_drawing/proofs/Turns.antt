@@ -4,8 +4,8 @@ use Rattle.std.specs.Prelude.{fold}
 use Rattle.boundary_model.specs.Model.{Model}
 use Rattle.euler_operators.specs.Conditions.{first_false}
 use Rattle.euler_operators.specs.Effect.{effect}
-use Rattle.split_shapes.specs.Drawing.{Drawing, in_one_loop, join_next, draw_next}
-use Rattle.drawing_laws.specs.DrawingOps.{join_pair, draw_pair}
+use Rattle.shapes.specs.split.Drawing.{Drawing, in_one_loop, join_next, draw_next}
+use Rattle.split_drawing_laws.specs.drawings.DrawingOps.{join_pair, draw_pair}
 use Rattle.cut_places.proofs.Lists.{others, parts}
 use Rattle.face_drawing.specs.declared.pairs.Pair.{Pair}
 use Rattle.face_drawing.specs.declared.progress.Progress.{Progress}

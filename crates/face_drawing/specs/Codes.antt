@@ -3,7 +3,7 @@ use Rattle.std.specs.Prelude.{ℕ, cond, nat_eq, List}
 use Rattle.boundary_model.specs.HalfEdge.{code}
 use Rattle.boundary_model.specs.Model.{Model}
 use Rattle.shapes.specs.Fresh.{Taken}
-use Rattle.split_shapes.specs.Drawing.{Drawing}
+use Rattle.shapes.specs.split.Drawing.{Drawing}
 use Rattle.face_drawing.specs.declared.pairs.Pair.{Pair}
 use Rattle.face_drawing.specs.declared.progress.Progress.{Progress}
 

@@ -2,9 +2,9 @@
 use Rattle.std.specs.Prelude.{ℕ, List}
 use Rattle.boundary_model.specs.Model.{Model}
 use Rattle.boundary_model.specs.Sound.{Sound}
-use Rattle.split_shapes.specs.Drawing.{Drawing}
-use Rattle.drawing_laws.specs.Pairs.{AllFit}
-use Rattle.drawing_laws.specs.Passing.{Joining, Going}
+use Rattle.shapes.specs.split.Drawing.{Drawing}
+use Rattle.split_drawing_laws.specs.drawings.Pairs.{AllFit}
+use Rattle.split_drawing_laws.specs.drawings.Passing.{Joining, Going}
 
 -- d has come from a model by joining pairs of face f, and the pairs qs of f are still to come
 pub record CanJoin (f : ℕ) (d : Drawing) (qs : List (ℕ × ℕ)) : Type 0 where

@@ -2,8 +2,8 @@
 ghost use Rattle.std.specs.Prelude.{◌≡◌, ◌≤◌, ◌+◌, None, OnOk, OnErr, IfOk, fold, map};
 ghost use Rattle.euler_operators.specs.Conditions.{first_false};
 ghost use Rattle.undo_journal.specs.Machine.{draft_step};
-ghost use Rattle.split_shapes.specs.Drawing.{draw_next};
-ghost use Rattle.drawing_laws.specs.DrawingOps as ops;
+ghost use Rattle.shapes.specs.split.Drawing.{draw_next};
+ghost use Rattle.split_drawing_laws.specs.drawings.DrawingOps as ops;
 ghost use Rattle.face_drawing.specs.Codes.{codes, drawing_of, stuck_at, taken_of};
 ghost use Rattle.face_drawing.specs.Passes.{CanDraw};
 

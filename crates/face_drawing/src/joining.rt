@@ -4,8 +4,8 @@ ghost use Rattle.boundary_model.specs.HalfEdge.{code};
 ghost use Rattle.boundary_model.specs.Model.{has_half};
 ghost use Rattle.euler_operators.specs.Conditions.{first_false};
 ghost use Rattle.undo_journal.specs.Machine.{draft_step};
-ghost use Rattle.split_shapes.specs.Drawing.{join_next};
-ghost use Rattle.drawing_laws.specs.DrawingOps as ops;
+ghost use Rattle.shapes.specs.split.Drawing.{join_next};
+ghost use Rattle.split_drawing_laws.specs.drawings.DrawingOps as ops;
 ghost use Rattle.face_drawing.specs.Codes.{codes, drawing_of};
 ghost use Rattle.face_drawing.specs.Passes.{CanJoin};
 

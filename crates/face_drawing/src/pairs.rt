@@ -4,8 +4,8 @@ ghost use Rattle.boundary_model.specs.HalfEdge.{code};
 ghost use Rattle.boundary_model.specs.Model.{has_half, is_ring_of, loop_of};
 ghost use Rattle.euler_conditions.specs.Ready.{IsReady};
 ghost use Rattle.euler_operators.specs.Conditions.{face_at};
-ghost use Rattle.split_shapes.specs.Drawing.{in_one_loop};
-ghost use Rattle.drawing_laws.specs.DrawingOps.{join_pair};
+ghost use Rattle.shapes.specs.split.Drawing.{in_one_loop};
+ghost use Rattle.split_drawing_laws.specs.drawings.DrawingOps.{join_pair};
 ghost use Rattle.face_drawing.specs.Codes.{codes};
 
 use euler_conditions::{Arena, Corner, HalfEdge, Op};

@@ -3,7 +3,7 @@ ghost use Rattle.std.specs.Prelude.{◌≡◌, ◌&&◌, true, cond, nat_lt, OnO
 ghost use Rattle.euler_laws.specs.Laws.{AreAccepted, effects};
 ghost use Rattle.euler_operators.specs.Conditions.{has_rings};
 ghost use Rattle.euler_conditions.specs.Store.{has_number};
-ghost use Rattle.drawing_laws.specs.DrawingOps.{ring_ops};
+ghost use Rattle.split_drawing_laws.specs.drawings.DrawingOps.{ring_ops};
 ghost use Rattle.face_drawing.specs.Codes.{stuck_at};
 
 use crate::drawing::stuck_at;

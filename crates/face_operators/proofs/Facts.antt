@@ -5,7 +5,7 @@ use Rattle.boundary_model.specs.Model.{Model}
 use Rattle.boundary_model.specs.Sound.{Has}
 use Rattle.euler_operators.specs.declared.Op.TheVariants.{Kfmrh, Mfkrh, RingIn, RingOut, Outer, Merge}
 use Rattle.euler_operators.specs.Conditions.{conditions, first_false}
-use Rattle.euler_laws_shared.proofs.Goes.{all_hold, not_true}
+use Rattle.euler_laws.proofs.shared.Goes.{all_hold, not_true}
 
 module _ (M : Model) where
   pub kfmrh_has : (f g : ℕ) → first_false M (Kfmrh f g) ≡ None → Has M.faces f × Has M.faces g

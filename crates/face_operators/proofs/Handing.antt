@@ -12,9 +12,9 @@ use Rattle.euler_operators.specs.Conditions.{Condition, AllHold, need, never, is
 use Rattle.euler_operators.specs.declared.Op.TheVariants.{Part}
 use Rattle.euler_operators.specs.declared.Why.TheVariants.{NoSolid, SolidTaken, BadPart}
 use Rattle.euler_operators.specs.Effect.{faces_to_solid}
-use Rattle.euler_laws_shared.proofs.Goes.{all_hold}
-use Rattle.euler_laws_shared.proofs.Loops.{some_row}
-use Rattle.euler_laws_shared.proofs.Listed.{listed_cases, listed_as}
+use Rattle.euler_laws.proofs.shared.Goes.{all_hold}
+use Rattle.euler_laws.proofs.shared.Loops.{some_row}
+use Rattle.euler_laws.proofs.shared.Listed.{listed_cases, listed_as}
 use Rattle.face_operators.specs.Moving.{moved}
 
 abbrev given : List ℕ → ℕ → ℕ → FaceRow → FaceRow

@@ -6,8 +6,8 @@ use Rattle.boundary_model.specs.Model.{Model, FaceRow, LoopRow, no_loop, content
 use Rattle.boundary_model.specs.Sound.{Has}
 use Rattle.boundary_model.proofs.Tables.{map_one}
 use Rattle.euler_operators.specs.Effect.{loop_to_face, face_to_outer}
-use Rattle.euler_laws_shared.proofs.Goes.{equals, differs}
-use Rattle.euler_laws_shared.proofs.Rows.{face_there}
+use Rattle.euler_laws.proofs.shared.Goes.{equals, differs}
+use Rattle.euler_laws.proofs.shared.Rows.{face_there}
 
 -- the row of a loop that is there
 loop_row : (M : Model) (l : ℕ) → Has M.loops l → table.get M.loops l ≡ Some (record { face = face_of M l; content = content M l })

@@ -6,7 +6,7 @@ use Rattle.boundary_model.specs.Model.{Model, FaceRow, content, solid_of}
 use Rattle.boundary_model.specs.Sound.{Has}
 use Rattle.euler_conditions.specs.Store.{Store, set_face, set_outer}
 use Rattle.euler_operators.specs.Effect.{loop_to_face, face_to_outer}
-use Rattle.euler_laws_shared.proofs.Goes.{equals}
+use Rattle.euler_laws.proofs.shared.Goes.{equals}
 use Rattle.face_operators.proofs.Rows.{loop_moved, outer_changed}
 
 -- content is read from the loops alone

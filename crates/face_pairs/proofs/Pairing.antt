@@ -7,10 +7,10 @@ use Rattle.cyclic_list.proofs.Lists.{tick_same}
 use Rattle.boundary_model.specs.Model.{Model}
 use Rattle.boundary_model.specs.Sound.{Sound}
 use Rattle.shapes.specs.Fresh.{first_such}
-use Rattle.split_shapes.specs.Sides.{straddling_faces, crossing_edges}
-use Rattle.split_shapes.specs.Places.{places, some_meet, is_crossed, is_up_and_down, sorted_pairs}
-use Rattle.crossing_laws.proofs.Premises.{Cuttable}
-use Rattle.crossing_laws.proofs.Whole.{can_cut}
+use Rattle.shapes.specs.split.Sides.{straddling_faces, crossing_edges}
+use Rattle.shapes.specs.split.Places.{places, some_meet, is_crossed, is_up_and_down, sorted_pairs}
+use Rattle.split_drawing_laws.proofs.crossings.Premises.{Cuttable}
+use Rattle.split_drawing_laws.proofs.crossings.Whole.{can_cut}
 use Rattle.cut_places.specs.Crossings.{is_off}
 use Rattle.cut_places.specs.Places.{AreWholeFaces}
 use Rattle.cut_places.proofs.Edges.{straddling_whole}

@@ -4,7 +4,7 @@ use Rattle.std.proofs.lemmas.List.{append-nil}
 use Rattle.lattice.specs.declared.Plane.{Plane}
 use Rattle.boundary_model.specs.declared.HalfEdge.{HalfEdge}
 use Rattle.boundary_model.specs.Model.{Model}
-use Rattle.split_shapes.specs.Places.{in_pairs, up_first}
+use Rattle.shapes.specs.split.Places.{in_pairs, up_first}
 use Rattle.place_order.specs.Order.{Key, places_of}
 
 -- a place that is left alone makes no pair

@@ -3,8 +3,8 @@ use Rattle.std.specs.Prelude.{◌≡◌, ℕ, false, List, [], ◌∷◌, map}
 use Rattle.lattice.specs.declared.Plane.{Plane}
 use Rattle.boundary_model.specs.Model.{Model}
 use Rattle.boundary_model.specs.Sound.{Has}
-use Rattle.split_shapes.specs.Places.{places, place_pairs, some_meet}
-use Rattle.split_shapes.specs.Sides.{straddling_faces}
+use Rattle.shapes.specs.split.Places.{places, place_pairs, some_meet}
+use Rattle.shapes.specs.split.Sides.{straddling_faces}
 use Rattle.cut_places.specs.Places.{IsWholeFace}
 use Rattle.face_drawing.specs.Codes.{codes}
 use Rattle.face_pairs.specs.declared.pairs.FacePairs.{FacePairs}

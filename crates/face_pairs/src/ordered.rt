@@ -8,7 +8,7 @@ ghost use Rattle.face_drawing.specs.Codes.{codes};
 ghost use Rattle.face_pairs.specs.Paired.{CanBePaired};
 ghost use Rattle.lattice.specs.Ranges.{IsCutPlane};
 ghost use Rattle.place_order.specs.Order.{places_of};
-ghost use Rattle.split_shapes.specs.Places.{in_pairs, place_pairs, up_first};
+ghost use Rattle.shapes.specs.split.Places.{in_pairs, place_pairs, up_first};
 
 use cut_places::{goes_up, places};
 use euler_conditions::{Arena, HalfEdge};

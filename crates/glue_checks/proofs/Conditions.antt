@@ -9,14 +9,14 @@ use Rattle.boundary_model.proofs.Tables.{zero_first_where}
 use Rattle.euler_operators.specs.Conditions.{Condition, first_refusal, verdict, is_lone, lists, need}
 use Rattle.euler_operators.specs.declared.Why.TheVariants.{LoneLoop, NotFlat, NumbersSpent}
 use Rattle.euler_operators.specs.declared.Refusal.{Refusal}
-use Rattle.euler_laws_shared.proofs.Goes.{all_hold}
+use Rattle.euler_laws.proofs.shared.Goes.{all_hold}
 use Rattle.shapes.specs.Faces.{faces_of_both, least_lone}
 use Rattle.shapes.specs.Fresh.{taken_in, numbers_left, no_such, first_such}
 use Rattle.face_walks.proofs.Rising.{member}
 use Rattle.solid_checks.proofs.FaceWalks.{lists_member, member_faces, member_both}
 use Rattle.solid_measure.specs.Measure.{is_flat}
-use Rattle.fresh_laws.proofs.Rows.{greatest_used}
-use Rattle.glue_shapes.specs.Glue.{glue_conditions}
+use Rattle.shapes.proofs.fresh.Rows.{greatest_used}
+use Rattle.shapes.specs.glue.Glue.{glue_conditions}
 use Rattle.glue_checks.specs.Conditions.{face_conditions, solid_conditions, outline_conditions}
 
 -- a list of conditions in two parts

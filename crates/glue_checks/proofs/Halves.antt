@@ -9,7 +9,7 @@ use Rattle.boundary_model.specs.Model.{Model, LoopContent, lone, cycle, items_of
 use Rattle.boundary_model.specs.Sound.{Sound, HasHalf}
 use Rattle.boundary_model.proofs.Models.{in-holds}
 use Rattle.euler_conditions.specs.Store.{Tells}
-use Rattle.glue_shapes.specs.Glue.{rim}
+use Rattle.shapes.specs.glue.Glue.{rim}
 use Rattle.glue_checks.specs.Rims.{AreThere}
 
 -- what an arena answers of a loop with half-edges stands in it

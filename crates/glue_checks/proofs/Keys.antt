@@ -5,7 +5,7 @@ use Rattle.std.specs.BTreeSet as sorted
 use Rattle.std.specs.Prelude.{take, drop, slice_index_or}
 use Rattle.std.specs.List.{list_any}
 use Rattle.std.proofs.lemmas.List.{take_rest}
-use Rattle.glue_shapes.specs.Glue.{has_repeats}
+use Rattle.shapes.specs.glue.Glue.{has_repeats}
 use Rattle.glue_checks.proofs.Points.{new_point, old_point}
 use Rattle.lattice.specs.declared.Point.{Point}
 use Rattle.lattice.specs.Vectors.{same_point}

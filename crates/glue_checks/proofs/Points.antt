@@ -7,7 +7,7 @@ use Rattle.std.proofs.lemmas.Bool.{or_parts}
 use Rattle.std.proofs.lemmas.List.{reverse-append}
 use Rattle.lattice.specs.declared.Point.{Point}
 use Rattle.lattice.specs.Vectors.{same_point}
-use Rattle.glue_shapes.specs.Glue.{has_repeats}
+use Rattle.shapes.specs.glue.Glue.{has_repeats}
 
 same_number : (m n : ℤ) → int_eq m n ≡ true → m ≡ n
 same_number m n e = grind arith

@@ -5,7 +5,7 @@ use Rattle.std.proofs.lemmas.List.{append-nil, get_or-drop, take_all, drop_all, 
 use Rattle.std.proofs.lemmas.Bool.{or_cases, and_parts, cases_eq}
 use Rattle.lattice.specs.declared.Point.{Point}
 use Rattle.lattice.specs.Vectors.{same_point}
-use Rattle.glue_shapes.specs.Glue.{has_repeats, same_points, is_turned, is_rotation}
+use Rattle.shapes.specs.glue.Glue.{has_repeats, same_points, is_turned, is_rotation}
 use Rattle.glue_checks.specs.Places.{place_from}
 use Rattle.glue_checks.proofs.Points.{same_is, same_itself, one_place}
 

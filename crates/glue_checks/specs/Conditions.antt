@@ -7,7 +7,7 @@ use Rattle.euler_operators.specs.declared.Why.TheVariants.{NoFace, SameSolid, Ha
 use Rattle.shapes.specs.Faces.{least_lone, faces_of_both}
 use Rattle.shapes.specs.Fresh.{no_such, first_such}
 use Rattle.solid_measure.specs.Measure.{is_flat}
-use Rattle.glue_shapes.specs.Glue.{has_repeats, is_rotation, outline}
+use Rattle.shapes.specs.glue.Glue.{has_repeats, is_rotation, outline}
 
 -- the faces are there, of different solids, and without rings
 abbrev pub face_conditions : Model → ℕ → ℕ → List Condition

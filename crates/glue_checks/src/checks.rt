@@ -5,7 +5,7 @@ ghost use Rattle.euler_conditions.specs.Ready.{IsReady};
 ghost use Rattle.euler_operators.specs.Conditions.{first_refusal, has_rings, is_lone, verdict};
 ghost use Rattle.euler_conditions.specs.Store.{has_number};
 ghost use Rattle.shapes.specs.Fresh.{numbers_left, taken_in};
-ghost use Rattle.glue_shapes.specs.Glue.{glue_refusal};
+ghost use Rattle.shapes.specs.glue.Glue.{glue_refusal};
 ghost use Rattle.glue_checks.specs.Conditions.{face_conditions, outline_conditions, solid_conditions};
 
 use crate::outlines::{backwards, has_repeats, is_rotation};

@@ -1,6 +1,6 @@
 //! Lists of points compared: repeated points, and lists that are turns of one another.
 ghost use Rattle.std.specs.Prelude.{◌≡◌, ◌≤◌, ◌++◌, false, IfOk, drop, length, reverse, take};
-ghost use Rattle.glue_shapes.specs.Glue.{has_repeats, is_rotation, same_points};
+ghost use Rattle.shapes.specs.glue.Glue.{has_repeats, is_rotation, same_points};
 ghost use Rattle.glue_checks.specs.Places.{place_from};
 
 use lattice::Point;

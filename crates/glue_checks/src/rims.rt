@@ -5,7 +5,7 @@ ghost use Rattle.boundary_model.specs.Model.{content, cycle_of, has_half, outer}
 ghost use Rattle.euler_conditions.specs.Ready.{IsReady};
 ghost use Rattle.euler_operators.specs.Conditions.{is_lone};
 ghost use Rattle.euler_conditions.specs.Store.{has_number};
-ghost use Rattle.glue_shapes.specs.Glue.{outline, rim};
+ghost use Rattle.shapes.specs.glue.Glue.{outline, rim};
 ghost use Rattle.glue_checks.specs.Rims.{AreThere, starts};
 
 use euler_conditions::{Arena, Content, HalfEdge, Kind};

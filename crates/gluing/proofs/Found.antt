@@ -9,8 +9,8 @@ use Rattle.boundary_model.specs.Sound.{Sound, HasHalf}
 use Rattle.boundary_model.proofs.Models.{in-holds}
 use Rattle.euler_operators.specs.Conditions.{is_lone}
 use Rattle.shapes.specs.Faces.{start}
-use Rattle.glue_shapes.specs.Glue.{rim, outline, has_repeats}
-use Rattle.glue_shapes.proofs.Points.{once}
+use Rattle.shapes.specs.glue.Glue.{rim, outline, has_repeats}
+use Rattle.shapes.proofs.glue.Points.{once}
 use Rattle.face_walks.proofs.CycleWalks.{to_come, item_there, item_in, next_item, goes_on}
 use Rattle.gluing.specs.Rims.{item_at}
 

@@ -18,14 +18,14 @@ use Rattle.euler_operators.specs.Conditions.{first_false}
 use Rattle.euler_operators.specs.Effect.{effect}
 use Rattle.euler_laws.specs.Laws.{effects, AreAccepted}
 use Rattle.euler_laws.proofs.Runs.{effects_keep_sound}
-use Rattle.prism_laws.proofs.Steps.{Around, half_is, cycle_is, apart_xs}
-use Rattle.glue_shapes.specs.Glue.{rim, partner, glue_model}
-use Rattle.glue_shapes.specs.GlueOps.{fresh_edge, closing}
-use Rattle.glue_shapes.specs.Part.{seam, glued_part}
-use Rattle.glue_laws.proofs.Stages.{Stage, around_l}
-use Rattle.glue_laws.proofs.Turn.{turn_accepted, turn_is}
-use Rattle.glue_laws.proofs.Ending.{glued_all, ending_ok, ending_is, glued_along_is}
-use Rattle.glue_laws.proofs.Whole.{last_in}
+use Rattle.sweeps_laws.proofs.prism.Steps.{Around, half_is, cycle_is, apart_xs}
+use Rattle.shapes.specs.glue.Glue.{rim, partner, glue_model}
+use Rattle.shapes.specs.glue.GlueOps.{fresh_edge, closing}
+use Rattle.shapes.specs.glue.Part.{seam, glued_part}
+use Rattle.gluing_laws.proofs.glue.Stages.{Stage, around_l}
+use Rattle.gluing_laws.proofs.glue.Turn.{turn_accepted, turn_is}
+use Rattle.gluing_laws.proofs.glue.Ending.{glued_all, ending_ok, ending_is, glued_along_is}
+use Rattle.gluing_laws.proofs.glue.Whole.{last_in}
 
 -- of a glue of face g to face f, a model in which the items from `item` on are left
 pub record Joining (M : Model) (f g : ℕ) (N : Model) (item : ℕ) : Type 0 where

@@ -13,18 +13,18 @@ use Rattle.euler_operators.specs.Conditions.{is_lone}
 use Rattle.euler_operators.specs.declared.Op.{Op}
 use Rattle.euler_laws.specs.Laws.{effects, AreAccepted}
 use Rattle.euler_laws.proofs.Runs.{effects_keep_sound}
-use Rattle.euler_laws_shared.proofs.Goes.{all_hold, not_true}
+use Rattle.euler_laws.proofs.shared.Goes.{all_hold, not_true}
 use Rattle.shapes.specs.Faces.{start, finish}
 use Rattle.shapes.specs.Fresh.{first_such}
-use Rattle.glue_shapes.specs.Glue.{rim, outline, partner, has_repeats, glue_conditions, glue_refusal}
-use Rattle.glue_shapes.specs.GlueOps.{fresh_edge, opening}
-use Rattle.glue_shapes.specs.Part.{glued_part}
-use Rattle.glue_shapes.proofs.Facing as facing
-use Rattle.glue_shapes.proofs.Facing.{Facing}
-use Rattle.glue_shapes.proofs.Facts as facts
-use Rattle.glue_shapes.proofs.Points.{same_is}
-use Rattle.glue_laws.proofs.Opening.{opening_accepted, opening_is}
-use Rattle.glue_laws.proofs.Whole.{last_in}
+use Rattle.shapes.specs.glue.Glue.{rim, outline, partner, has_repeats, glue_conditions, glue_refusal}
+use Rattle.shapes.specs.glue.GlueOps.{fresh_edge, opening}
+use Rattle.shapes.specs.glue.Part.{glued_part}
+use Rattle.shapes.proofs.glue.Facing as facing
+use Rattle.shapes.proofs.glue.Facing.{Facing}
+use Rattle.shapes.proofs.glue.Facts as facts
+use Rattle.shapes.proofs.glue.Points.{same_is}
+use Rattle.gluing_laws.proofs.glue.Opening.{opening_accepted, opening_is}
+use Rattle.gluing_laws.proofs.glue.Whole.{last_in}
 use Rattle.gluing.specs.Rims.{item_at}
 use Rattle.gluing.proofs.Joined.{Joining}
 

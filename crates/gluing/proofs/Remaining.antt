@@ -10,7 +10,7 @@ use Rattle.euler_operators.specs.declared.Op.TheVariants.{Merge, Kfmrh, Mekr, Ke
 use Rattle.euler_operators.specs.Conditions.{first_false}
 use Rattle.euler_operators.specs.Effect.{effect}
 use Rattle.euler_laws.specs.Laws.{effects, AreAccepted}
-use Rattle.glue_shapes.specs.GlueOps.{opening, closing}
+use Rattle.shapes.specs.glue.GlueOps.{opening, closing}
 
 -- from N on each operator is accepted in its turn, and they make X
 pub record Remaining (N : Model) (ops : List Op) (X : Model) : Type 0 where

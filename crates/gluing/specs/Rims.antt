@@ -5,7 +5,7 @@ use Rattle.lattice.specs.Vectors.{same_point}
 use Rattle.boundary_model.specs.Model.{Model}
 use Rattle.shapes.specs.Faces.{start}
 use Rattle.shapes.specs.Fresh.{first_such}
-use Rattle.glue_shapes.specs.Glue.{rim}
+use Rattle.shapes.specs.glue.Glue.{rim}
 
 -- the half-edge of a face's outer loop that starts at a point
 abbrev pub item_at : Model → ℕ → Point → ℕ

@@ -3,7 +3,7 @@ ghost use Rattle.std.specs.Prelude.{◌≡◌, None, Some, Err, OnOk, OnErr};
 ghost use Rattle.euler_operators.specs.declared.Refusal.{Refusal};
 ghost use Rattle.euler_conditions.specs.Ready.{IsReady};
 ghost use Rattle.undo_journal.specs.Machine.{held, accepted};
-ghost use Rattle.glue_shapes.specs.Glue.{glue_refusal, glue_model};
+ghost use Rattle.shapes.specs.glue.Glue.{glue_refusal, glue_model};
 
 use crate::joining::join;
 use euler_conditions::Arena;

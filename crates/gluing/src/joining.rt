@@ -6,8 +6,8 @@ ghost use Rattle.boundary_model.specs.Sound.{Has};
 ghost use Rattle.euler_conditions.specs.Ready.{IsReady};
 ghost use Rattle.euler_laws.specs.Laws.{AreAccepted, effects};
 ghost use Rattle.euler_conditions.specs.Store.{has_number};
-ghost use Rattle.glue_shapes.specs.Glue.{glue_model, glue_refusal};
-ghost use Rattle.glue_shapes.specs.GlueOps.{closing, fresh_edge, opening};
+ghost use Rattle.shapes.specs.glue.Glue.{glue_model, glue_refusal};
+ghost use Rattle.shapes.specs.glue.GlueOps.{closing, fresh_edge, opening};
 
 use crate::rims::{first_item, item_at};
 use euler_conditions::{Arena, Corner, HalfEdge, Kind, Op};

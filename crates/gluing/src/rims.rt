@@ -7,7 +7,7 @@ ghost use Rattle.euler_conditions.specs.Ready.{IsReady};
 ghost use Rattle.euler_operators.specs.Conditions.{is_lone};
 ghost use Rattle.euler_conditions.specs.Store.{has_number};
 ghost use Rattle.shapes.specs.Faces.{start};
-ghost use Rattle.glue_shapes.specs.Glue.{has_repeats, outline, rim};
+ghost use Rattle.shapes.specs.glue.Glue.{has_repeats, outline, rim};
 ghost use Rattle.gluing.specs.Rims.{item_at};
 
 use euler_conditions::{Arena, HalfEdge, Kind};

@@ -16,14 +16,14 @@ use Rattle.boundary_model.specs.Model.{Model, cycle, FaceRow, items_of, tail, co
 use Rattle.boundary_model.specs.Sound.{Has}
 use Rattle.euler_operators.specs.Conditions.{lists}
 use Rattle.euler_operators.specs.Effect.{faces_to_solid}
-use Rattle.euler_laws_shared.proofs.Goes.{equal, equals, differs}
-use Rattle.euler_laws_shared.proofs.Listed.{listed_passes, listed_as}
-use Rattle.euler_laws_shared.proofs.Rows.{face_there}
-use Rattle.euler_laws_shared.proofs.Same.{mapped_some}
+use Rattle.euler_laws.proofs.shared.Goes.{equal, equals, differs}
+use Rattle.euler_laws.proofs.shared.Listed.{listed_passes, listed_as}
+use Rattle.euler_laws.proofs.shared.Rows.{face_there}
+use Rattle.euler_laws.proofs.shared.Same.{mapped_some}
 use Rattle.shapes.specs.Faces.{start, finish, items_in, loops_of, boundary}
-use Rattle.measure_shapes.specs.Measure.{area, normal, anchor, first_vertex, volume_in, six_volume}
-use Rattle.measure_shapes.proofs.Areas.{area-append, moved_nothing}
-use Rattle.vector_laws.proofs.Integers.{dif, dif-parts, difs, same_dif}
+use Rattle.shapes.specs.Measure.{area, normal, anchor, first_vertex, volume_in, six_volume}
+use Rattle.shapes.proofs.Areas.{area-append, moved_nothing}
+use Rattle.lattice.proofs.Integers.{dif, dif-parts, difs, same_dif}
 use Rattle.solid_measure_laws.specs.Vectors.{negated}
 use Rattle.solid_measure_laws.proofs.Sums.{area_same, area_opposed}
 use Rattle.gluing_laws.proofs.Listed.{one_if, passed, count_where, volume_of, volume_append, volume_same, same_volumes}

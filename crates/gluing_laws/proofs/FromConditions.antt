@@ -5,15 +5,15 @@ use Rattle.boundary_model.specs.Model.{Model, LoopContent, lone, cycle, items_of
 use Rattle.boundary_model.specs.Sound.{Sound, Has}
 use Rattle.boundary_model.proofs.Tables.{zero_first_where}
 use Rattle.euler_operators.specs.Conditions.{has_rings, is_empty, is_lone, lists}
-use Rattle.euler_laws_shared.proofs.Goes.{all_hold, no_zero, not_true, not_back, equal, unequal, equals}
-use Rattle.euler_laws_shared.proofs.Listed.{listed_passes, passes_listed}
-use Rattle.euler_laws_shared.proofs.Rows.{loop_row, face_there}
+use Rattle.euler_laws.proofs.shared.Goes.{all_hold, no_zero, not_true, not_back, equal, unequal, equals}
+use Rattle.euler_laws.proofs.shared.Listed.{listed_passes, passes_listed}
+use Rattle.euler_laws.proofs.shared.Rows.{loop_row, face_there}
 use Rattle.shapes.specs.Faces.{least_lone, faces_of_both}
 use Rattle.shapes.specs.Fresh.{first_such}
-use Rattle.measure_shapes.specs.Measure.{is_flat, six_volume}
+use Rattle.shapes.specs.Measure.{is_flat, six_volume}
 use Rattle.solid_walks.proofs.Rising.{in_listed}
-use Rattle.glue_shapes.specs.Glue.{rim, outline, has_repeats, is_rotation, glue_conditions, glue_refusal, partner, glue_model}
-use Rattle.glue_laws.proofs.Ending.{glued_all, glued_along_is}
+use Rattle.shapes.specs.glue.Glue.{rim, outline, has_repeats, is_rotation, glue_conditions, glue_refusal, partner, glue_model}
+use Rattle.gluing_laws.proofs.glue.Ending.{glued_all, glued_along_is}
 use Rattle.gluing_laws.proofs.Listed.{listed_in}
 use Rattle.gluing_laws.proofs.Seams.{Seamed, Glued}
 use Rattle.gluing_laws.proofs.Outlines as outlines

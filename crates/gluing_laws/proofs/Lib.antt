@@ -1,3 +1,4 @@
+pub mod glue
 pub mod Listed
 mod Seams
 mod Places

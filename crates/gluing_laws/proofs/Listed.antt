@@ -8,12 +8,12 @@ use Rattle.boundary_model.specs.Table as table
 use Rattle.boundary_model.specs.Table.{Table}
 use Rattle.boundary_model.specs.Model.{Model}
 use Rattle.euler_operators.specs.Conditions.{lists, strictly_rises}
-use Rattle.euler_laws_shared.proofs.Listed.{first_listed, listed_cases, listed_passes, listed_as, all_where-rises}
-use Rattle.euler_laws_shared.proofs.Rows.{no_items}
+use Rattle.euler_laws.proofs.shared.Listed.{first_listed, listed_cases, listed_passes, listed_as, all_where-rises}
+use Rattle.euler_laws.proofs.shared.Rows.{no_items}
 use Rattle.solid_walks.proofs.RisingLists.{within}
-use Rattle.measure_shapes.specs.Measure.{anchor, normal, volume_in}
+use Rattle.shapes.specs.Measure.{anchor, normal, volume_in}
 use Rattle.solid_walks.proofs.Rising.{counted_once, none_counted, in_listed}
-use Rattle.vector_laws.proofs.Vectors.{add_assoc, none_add}
+use Rattle.lattice.proofs.Vectors.{add_assoc, none_add}
 
 -- ---- lists
 

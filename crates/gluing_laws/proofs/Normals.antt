@@ -16,12 +16,12 @@ use Rattle.boundary_model.specs.Sound.{Has, StandsIn}
 use Rattle.boundary_model.proofs.Models.{in-holds, face_row}
 use Rattle.euler_operators.specs.Conditions.{lists}
 use Rattle.euler_operators.specs.Effect.{faces_to_solid}
-use Rattle.euler_laws_shared.proofs.Goes.{equal, differs}
-use Rattle.euler_laws_shared.proofs.Listed.{first_listed, rest_listed, listed_cases, listed_passes}
+use Rattle.euler_laws.proofs.shared.Goes.{equal, differs}
+use Rattle.euler_laws.proofs.shared.Listed.{first_listed, rest_listed, listed_cases, listed_passes}
 use Rattle.shapes.specs.Faces.{start, items_in, loops_of, boundary, corners, vertices_on}
 use Rattle.shapes.specs.Rewriting.{rewritten, rewritten_row}
-use Rattle.measure_shapes.specs.Measure.{area, normal, anchor, first_vertex, is_flat}
-use Rattle.measure_shapes.proofs.Areas.{area-append}
+use Rattle.shapes.specs.Measure.{area, normal, anchor, first_vertex, is_flat}
+use Rattle.shapes.proofs.Areas.{area-append}
 use Rattle.solid_measure_laws.proofs.FlatFaces.{corner_told}
 use Rattle.solid_measure_laws.proofs.Paths.{first_in, rest_in}
 use Rattle.solid_measure_laws.proofs.Sums.{area_same}

@@ -14,13 +14,13 @@ use Rattle.boundary_model.specs.Sound.{Has, StandsIn}
 use Rattle.boundary_model.proofs.Models.{in-holds}
 use Rattle.euler_operators.specs.Conditions.{lists}
 use Rattle.euler_operators.specs.Effect.{faces_to_solid}
-use Rattle.euler_laws_shared.proofs.Goes.{equal, differs}
-use Rattle.euler_laws_shared.proofs.Listed.{listed_passes, listed_as}
-use Rattle.euler_laws_shared.proofs.Rows.{face_there}
+use Rattle.euler_laws.proofs.shared.Goes.{equal, differs}
+use Rattle.euler_laws.proofs.shared.Listed.{listed_passes, listed_as}
+use Rattle.euler_laws.proofs.shared.Rows.{face_there}
 use Rattle.shapes.specs.Faces.{start}
 use Rattle.shapes.specs.Rewriting.{rewritten}
-use Rattle.measure_shapes.specs.Measure.{anchor, first_vertex, volume_in, six_volume}
-use Rattle.glue_shapes.proofs.Renamings.{renamed_not}
+use Rattle.shapes.specs.Measure.{anchor, first_vertex, volume_in, six_volume}
+use Rattle.shapes.proofs.glue.Renamings.{renamed_not}
 use Rattle.gluing_laws.proofs.Listed.{one_if, passed, same_search, volume_of, same_volumes}
 use Rattle.gluing_laws.proofs.Adding.{moved_solid}
 use Rattle.gluing_laws.proofs.Seams as seams

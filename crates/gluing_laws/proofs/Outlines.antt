@@ -14,12 +14,12 @@ use Rattle.boundary_model.specs.Table as table
 use Rattle.boundary_model.specs.Model.{Model, cycle, holds, items_of, tail, content, after, cycle_of, point_of}
 use Rattle.boundary_model.specs.Sound.{Sound, Has, HasHalf, StandsIn}
 use Rattle.boundary_model.proofs.Models.{in-holds}
-use Rattle.euler_laws_shared.proofs.Goes.{no_zero}
+use Rattle.euler_laws.proofs.shared.Goes.{no_zero}
 use Rattle.shapes.specs.Faces.{start, finish}
 use Rattle.shapes.specs.Fresh.{first_such}
-use Rattle.glue_shapes.specs.Glue.{has_repeats, is_rotation, partner}
-use Rattle.glue_shapes.proofs.Facing.{in_map}
-use Rattle.glue_shapes.proofs.Points.{same_is, is_same, once, turned_by}
+use Rattle.shapes.specs.glue.Glue.{has_repeats, is_rotation, partner}
+use Rattle.shapes.proofs.glue.Facing.{in_map}
+use Rattle.shapes.proofs.glue.Points.{same_is, is_same, once, turned_by}
 
 -- ---- searches
 

@@ -11,12 +11,12 @@ use Rattle.boundary_model.specs.Table.{get-map_rows}
 use Rattle.boundary_model.specs.Model.{Model, EdgeRow, tail, tail_in, no_edge, no_point, loop_of, outer, point_of}
 use Rattle.boundary_model.specs.Sound.{HasHalf}
 use Rattle.boundary_model.proofs.Halves.{mate-mate, edge_of-mate, same_edge}
-use Rattle.euler_laws_shared.proofs.Fans.{half_mate}
+use Rattle.euler_laws.proofs.shared.Fans.{half_mate}
 use Rattle.shapes.specs.Faces.{start, finish}
 use Rattle.shapes.specs.Rewriting.{renamed, without_rows}
-use Rattle.glue_shapes.specs.Glue.{renamed_tails}
-use Rattle.glue_shapes.specs.Part.{paired}
-use Rattle.glue_shapes.proofs.Renamings.{renamed_cases, without_there}
+use Rattle.shapes.specs.glue.Glue.{renamed_tails}
+use Rattle.shapes.specs.glue.Part.{paired}
+use Rattle.shapes.proofs.glue.Renamings.{renamed_cases, without_there}
 use Rattle.gluing_laws.proofs.Seams as seams
 use Rattle.gluing_laws.proofs.Seams.{Seamed, Glued, side}
 

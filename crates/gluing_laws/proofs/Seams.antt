@@ -9,13 +9,13 @@ use Rattle.boundary_model.specs.Model.{Model, cycle, holds, tail, loop_of, conte
 use Rattle.boundary_model.specs.Sound.{Sound, Has, HasHalf, StandsIn}
 use Rattle.boundary_model.proofs.Models.{in-holds}
 use Rattle.euler_operators.specs.Effect.{faces_to_solid}
-use Rattle.euler_laws_shared.proofs.Same.{one_solid_round}
+use Rattle.euler_laws.proofs.shared.Same.{one_solid_round}
 use Rattle.shapes.specs.Faces.{start, finish}
 use Rattle.shapes.specs.Rewriting.{rewritten_row, renamed, without_rows}
-use Rattle.measure_shapes.specs.Measure.{is_flat}
-use Rattle.glue_shapes.specs.Glue.{renamed_tails}
-use Rattle.glue_shapes.specs.Part.{paired}
-use Rattle.glue_shapes.proofs.Facing.{in_map}
+use Rattle.shapes.specs.Measure.{is_flat}
+use Rattle.shapes.specs.glue.Glue.{renamed_tails}
+use Rattle.shapes.specs.glue.Part.{paired}
+use Rattle.shapes.proofs.glue.Facing.{in_map}
 
 -- the items hs of f have partners, the items gs of g, which go back along them
 pub record Seamed (M : Model) (f g : ℕ) (partner_of : ℕ → ℕ) (hs gs : List ℕ) : Type 0 where

@@ -2,8 +2,8 @@
 use Rattle.std.specs.Prelude.{◌≡◌, ◌≢◌, ℕ, ◌+ℤ◌, None}
 use Rattle.boundary_model.specs.Model.{Model, solid_of}
 use Rattle.boundary_model.specs.Sound.{Sound}
-use Rattle.measure_shapes.specs.Measure.{six_volume}
-use Rattle.glue_shapes.specs.Glue.{glue_refusal, glue_model}
+use Rattle.shapes.specs.Measure.{six_volume}
+use Rattle.shapes.specs.glue.Glue.{glue_refusal, glue_model}
 
 -- the six volumes of the glued solid are those of the two solids
 abbrev pub GlueAdds : Type 0

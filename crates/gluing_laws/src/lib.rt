@@ -1,8 +1,16 @@
-//! The laws of volumes under glues. The function does nothing: its contract is what is proved, over every sound model in which the
-//! command's conditions hold.
+//! The laws of glues: two solids glued together operator by operator, at a face of each, and their volumes. Each function does
+//! nothing: its contract is what is proved, over every sound model and every glue that isn't refused.
 #![tactic(auto)]
 
+ghost use Rattle.gluing_laws.specs.glue.Laws.{GluesAreAccepted, GluesMakeGlued, GluedAreSound};
 ghost use Rattle.gluing_laws.specs.Laws.{GlueAdds, OthersStay};
+
+/// A glue that isn't refused: none of its operators is, they leave the solids glued, and that is a sound model.
+pub fn glues_make_glued()
+    ensures accepted { GluesAreAccepted }
+    ensures made { GluesMakeGlued }
+    ensures sound { GluedAreSound }
+{}
 
 /// A glue adds the six volumes of the second solid to those of the first: the two faces, which go, lie on one plane and
 /// face each other, so together they add nothing. All other solids keep theirs.

@@ -19,9 +19,9 @@ use Rattle.euler_operators.specs.declared.Op.TheVariants.{Kef}
 use Rattle.euler_operators.specs.Conditions.{face_at}
 use Rattle.euler_operators.specs.Effect.{effect, kef, cycle_or_lone}
 use Rattle.euler_conditions.specs.Ready.{Accepts, after}
-use Rattle.euler_laws_mef.proofs.KefSound as laws
-use Rattle.euler_laws_mef.proofs.KefSound.{KefGoes}
-use Rattle.euler_laws_mef.proofs.Kef.{kef_goes}
+use Rattle.euler_laws.proofs.mef.KefSound as laws
+use Rattle.euler_laws.proofs.mef.KefSound.{KefGoes}
+use Rattle.euler_laws.proofs.mef.Kef.{kef_goes}
 use Rattle.euler_conditions.specs.Store.{Store, join, take_edge, take_loop, take_face}
 use Rattle.loop_steps.specs.Steps.{IsStanding, take_out}
 use Rattle.loop_steps.proofs.StoreSteps.{remove-put_same}

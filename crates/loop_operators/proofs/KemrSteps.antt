@@ -18,11 +18,11 @@ use Rattle.euler_operators.specs.declared.Op.TheVariants.{Kemr}
 use Rattle.euler_operators.specs.Conditions.{face_at}
 use Rattle.euler_operators.specs.Effect.{effect, kemr, cycle_or_lone}
 use Rattle.euler_conditions.specs.Ready.{Accepts, after}
-use Rattle.euler_laws_shared.proofs.Goes.{differs}
-use Rattle.euler_laws_shared.proofs.Rows.{count_or_lone}
-use Rattle.euler_laws_kemr.proofs.KemrSound as laws
-use Rattle.euler_laws_kemr.proofs.KemrSound.{KemrGoes}
-use Rattle.euler_laws_kemr.proofs.Kemr.{kemr_goes}
+use Rattle.euler_laws.proofs.shared.Goes.{differs}
+use Rattle.euler_laws.proofs.shared.Rows.{count_or_lone}
+use Rattle.euler_laws.proofs.kemr.KemrSound as laws
+use Rattle.euler_laws.proofs.kemr.KemrSound.{KemrGoes}
+use Rattle.euler_laws.proofs.kemr.Kemr.{kemr_goes}
 use Rattle.euler_conditions.specs.Store.{Store, put_loop, cut, cut_loose, cut_to, take_edge}
 use Rattle.loop_steps.specs.Steps.{IsStanding, take_out}
 use Rattle.loop_steps.proofs.RingSteps.{rest_left, rest_right}

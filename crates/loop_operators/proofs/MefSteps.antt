@@ -17,10 +17,10 @@ use Rattle.euler_operators.specs.declared.Op.TheVariants.{Mef}
 use Rattle.euler_operators.specs.Conditions.{face_at}
 use Rattle.euler_operators.specs.Effect.{effect, mef, edge_row}
 use Rattle.euler_conditions.specs.Ready.{Accepts, after}
-use Rattle.euler_laws_shared.proofs.Goes.{differs}
-use Rattle.euler_laws_mef.proofs.MefSound.{MefGoes}
-use Rattle.euler_laws_mef.proofs.Mef.{mef_goes}
-use Rattle.euler_laws_mef.proofs.MefUndo.{loops-mef}
+use Rattle.euler_laws.proofs.shared.Goes.{differs}
+use Rattle.euler_laws.proofs.mef.MefSound.{MefGoes}
+use Rattle.euler_laws.proofs.mef.Mef.{mef_goes}
+use Rattle.euler_laws.proofs.mef.MefUndo.{loops-mef}
 use Rattle.euler_conditions.specs.Store.{Store, Room, within, put_loop, cut, cut_loose, cut_to, put_face}
 use Rattle.loop_steps.specs.Steps.{IsStanding, IsLoose, with_edge, put_before}
 use Rattle.loop_steps.proofs.RingSteps.{cut_old, cut_new, count_put}

@@ -21,9 +21,9 @@ use Rattle.euler_operators.specs.declared.Op.TheVariants.{Mekr}
 use Rattle.euler_operators.specs.Conditions.{first_false, conditions, corner_known, corner_lone, corner_loop, corner_tail, corner_list, is_lone}
 use Rattle.euler_operators.specs.Effect.{effect, mekr, edge_row}
 use Rattle.euler_conditions.specs.Ready.{Accepts, after}
-use Rattle.euler_laws_shared.proofs.Goes.{all_hold}
-use Rattle.euler_laws_shared.proofs.Rows.{half_of, loop_row}
-use Rattle.euler_laws_mekr.proofs.MekrSpots.{JoinGoes, join_goes, count_spot}
+use Rattle.euler_laws.proofs.shared.Goes.{all_hold}
+use Rattle.euler_laws.proofs.shared.Rows.{half_of, loop_row}
+use Rattle.euler_laws.proofs.mekr.MekrSpots.{JoinGoes, join_goes, count_spot}
 use Rattle.euler_conditions.specs.Store.{Store, join, take_loop, loose_key, loose_ring}
 use Rattle.loop_steps.specs.Steps.{IsStanding, IsLoose, IsCorner, CanTake, with_edge, put_at}
 use Rattle.loop_steps.proofs.RingSteps.{canonical_one}

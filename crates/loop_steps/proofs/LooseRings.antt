@@ -9,7 +9,7 @@ use Rattle.boundary_model.specs.Table.{Table, tables, same_table}
 use Rattle.boundary_model.specs.Model.{cycle, holds}
 use Rattle.boundary_model.proofs.Halves.{mate_cases}
 use Rattle.boundary_model.proofs.Tables.{first_where_is}
-use Rattle.euler_laws_shared.proofs.Rows.{one_row}
+use Rattle.euler_laws.proofs.shared.Rows.{one_row}
 use Rattle.boundary_model.proofs.Models.{in-holds, holds_in}
 use Rattle.halfedge_arena.specs.Store.{Store, loose_key, loose_ring}
 

@@ -14,7 +14,7 @@ use Rattle.boundary_model.proofs.Halves.{mate_cases, plus_row, minus_row, half-c
 use Rattle.boundary_model.proofs.Tables.{first_where_zero}
 use Rattle.boundary_model.proofs.Models.{content_row, face_row, holds-none, holds_in, held_row}
 use Rattle.euler_operators.specs.Effect.{edge_row, cycle_or_lone}
-use Rattle.euler_laws_shared.proofs.Goes.{equals}
+use Rattle.euler_laws.proofs.shared.Goes.{equals}
 use Rattle.halfedge_arena.specs.Store as store
 use Rattle.halfedge_arena.specs.Store.{Store, with_loop, with_lone, loosened, loose_key, loose_ring, join, join_loose, join_loops, cut, cut_loose, clear}
 use Rattle.loop_steps.specs.Steps.{IsStanding, IsLoose, with_edge, put_before, take_out}

@@ -12,7 +12,7 @@ use Rattle.boundary_model.specs.Sound.{HasHalf}
 use Rattle.boundary_model.proofs.Tables.{first_where_is}
 use Rattle.boundary_model.proofs.Models.{content_row, face_row, in-holds, holds_in}
 use Rattle.euler_operators.specs.Effect.{cycle_or_lone}
-use Rattle.euler_laws_shared.proofs.Goes.{differs}
+use Rattle.euler_laws.proofs.shared.Goes.{differs}
 use Rattle.halfedge_arena.specs.Store.{Store, Room, loose_key, loose_ring, fill, join, join_loose, join_loops, cut_to}
 use Rattle.loop_steps.specs.Steps.{IsStanding, put_before, take_out}
 use Rattle.loop_steps.proofs.StoreSteps.{put_again, put_apart}

@@ -8,7 +8,7 @@ use Rattle.boundary_model.specs.Model.{Model, loop_of}
 use Rattle.boundary_model.specs.Sound.{Has}
 use Rattle.euler_operators.specs.declared.Op.TheVariants.{Kev, Kef, Kemr, Mekr}
 use Rattle.euler_operators.specs.Conditions.{conditions, first_false, corner_known}
-use Rattle.euler_laws_shared.proofs.Goes.{all_hold, equal}
+use Rattle.euler_laws.proofs.shared.Goes.{all_hold, equal}
 use Rattle.euler_conditions.proofs.Known.{mate_edge}
 
 module _ (M : Model) where

@@ -9,7 +9,7 @@ use Rattle.boundary_model.specs.Table.{Table, get, all_where, all_in, map_rows, 
 use Rattle.boundary_model.specs.Model.{Model, FaceRow, no_face, solid_of, faces_of, is_number}
 use Rattle.boundary_model.specs.Sound.{NumbersFit}
 use Rattle.boundary_model.proofs.Tables.{and_left, and_right, all_where_none}
-use Rattle.euler_laws_shared.proofs.Loops.{some_row}
+use Rattle.euler_laws.proofs.shared.Loops.{some_row}
 use Rattle.euler_conditions.specs.Store.{is_face_of, IsNextFace}
 
 -- ---- the numbers of a table whose rows pass a test

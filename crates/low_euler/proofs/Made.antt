@@ -8,7 +8,7 @@ use Rattle.euler_conditions.specs.Store.{Store, has_room, HasGrown}
 use Rattle.euler_operators.specs.Conditions.{conditions, first_false}
 use Rattle.euler_operators.specs.declared.Op.{Op}
 use Rattle.euler_operators.specs.declared.Op.TheVariants as op
-use Rattle.euler_laws_shared.proofs.Goes.{all_hold}
+use Rattle.euler_laws.proofs.shared.Goes.{all_hold}
 use Rattle.euler_conditions.specs.Ready.{AllRoom, made}
 use Rattle.low_euler.specs.Room.{AllFit}
 

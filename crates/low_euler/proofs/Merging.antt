@@ -11,7 +11,7 @@ use Rattle.boundary_model.proofs.Tables.{map-put, put_same, map_same, all_where_
 use Rattle.euler_operators.specs.Conditions.{conditions, first_false}
 use Rattle.euler_operators.specs.Effect.{effect, merge, faces_to_solid}
 use Rattle.euler_operators.specs.declared.Op.TheVariants.{Merge}
-use Rattle.euler_laws_shared.proofs.Goes.{all_hold, not_true}
+use Rattle.euler_laws.proofs.shared.Goes.{all_hold, not_true}
 use Rattle.euler_conditions.specs.Store.{Store, set_solid, take_solid, is_face_of, IsNextFace}
 use Rattle.owner_chains.proofs.Counting.{passes, count-all_where, same_length}
 use Rattle.euler_conditions.specs.Ready.{after}

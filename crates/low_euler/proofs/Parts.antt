@@ -6,7 +6,7 @@ use Rattle.cyclic_list.specs.Rings.{rotate_to, rest, between, beyond, successor}
 use Rattle.cyclic_list.proofs.Lists.{count-append, count-before, before_at, after_at, tick_same, tick_other}
 use Rattle.cyclic_list.proofs.Rotations.{rest_same, rotate_to-rotates}
 use Rattle.cyclic_list.proofs.Cuts.{ring_split, apart_split}
-use Rattle.euler_laws_shared.proofs.Undo.{after_first}
+use Rattle.euler_laws.proofs.shared.Undo.{after_first}
 use Rattle.boundary_model.specs.declared.Corner.TheVariants.{At, Lone}
 use Rattle.boundary_model.specs.HalfEdge.{half}
 use Rattle.euler_operators.specs.Effect.{corner_of}

@@ -9,7 +9,7 @@ use Rattle.boundary_model.specs.Sound.{Sound, HasHalf}
 use Rattle.boundary_model.proofs.Halves.{code-half}
 use Rattle.shapes.specs.Faces.{boundary, loops_of}
 use Rattle.solid_walks.proofs.FaceLoops.{items_there}
-use Rattle.split_shapes.specs.Places.{is_place, place_point, places, sorted_in, sorted}
+use Rattle.shapes.specs.split.Places.{is_place, place_point, places, sorted_in, sorted}
 use Rattle.cut_places.specs.Places.{IsWholeFace}
 use Rattle.cut_places.specs.Walks.{AreThere}
 use Rattle.cut_places.proofs.Lists.{of_picked}

@@ -4,8 +4,8 @@ use Rattle.lattice.specs.declared.Plane.{Plane}
 use Rattle.lattice.specs.Vectors.{are_opposite, is_on, cut_between}
 use Rattle.boundary_model.specs.Model.{Model, before}
 use Rattle.shapes.specs.Faces.{start, finish}
-use Rattle.split_shapes.specs.Sides.{crosses}
-use Rattle.split_shapes.specs.Places.{is_place, place_point}
+use Rattle.shapes.specs.split.Sides.{crosses}
+use Rattle.shapes.specs.split.Places.{is_place, place_point}
 
 module _ (M : Model) (p : Plane) where
   -- a cut place off the plane's own points is a half-edge that crosses

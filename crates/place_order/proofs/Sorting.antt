@@ -14,7 +14,7 @@ use Rattle.cyclic_list.proofs.Lists.{count-append, tick_same}
 use Rattle.boundary_model.specs.declared.HalfEdge.{HalfEdge}
 use Rattle.boundary_model.specs.HalfEdge.{half}
 use Rattle.boundary_model.specs.Model.{Model}
-use Rattle.split_shapes.specs.Places.{place_point, some_meet, sorted_in, sorted}
+use Rattle.shapes.specs.split.Places.{place_point, some_meet, sorted_in, sorted}
 use Rattle.place_order.specs.Order.{Key, key, entries_of}
 
 -- the order of keys

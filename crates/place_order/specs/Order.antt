@@ -7,8 +7,8 @@ use Rattle.boundary_model.specs.declared.HalfEdge.{HalfEdge}
 use Rattle.boundary_model.specs.HalfEdge.{code, half, edge_of}
 use Rattle.boundary_model.specs.Model.{Model}
 use Rattle.boundary_model.specs.Sound.{HasHalf}
-use Rattle.split_shapes.specs.Sides.{crosses}
-use Rattle.split_shapes.specs.Places.{is_place, place_point}
+use Rattle.shapes.specs.split.Sides.{crosses}
+use Rattle.shapes.specs.split.Places.{is_place, place_point}
 use Rattle.cut_places.specs.Crossings.{is_off}
 
 -- a cut place whose point is on the lattice

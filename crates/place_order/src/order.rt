@@ -6,7 +6,7 @@ ghost use Rattle.cut_places.specs.Walks.{AreThere};
 ghost use Rattle.euler_conditions.specs.Ready.{IsReady};
 ghost use Rattle.lattice.specs.Ranges.{IsCutPlane};
 ghost use Rattle.place_order.specs.Order.{AreWholePlaces, entries_of, places_of};
-ghost use Rattle.split_shapes.specs.Places.{in_pairs, is_up_and_down, some_meet, sorted};
+ghost use Rattle.shapes.specs.split.Places.{in_pairs, is_up_and_down, some_meet, sorted};
 
 use crate::points::{key_of, place_point};
 use cut_places::goes_up;

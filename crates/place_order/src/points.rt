@@ -4,7 +4,7 @@ ghost use Rattle.boundary_model.specs.HalfEdge.{code};
 ghost use Rattle.euler_conditions.specs.Ready.{IsReady};
 ghost use Rattle.lattice.specs.Ranges.{IsCutPlane};
 ghost use Rattle.place_order.specs.Order.{IsWholePlace, key};
-ghost use Rattle.split_shapes.specs.Places.{place_point};
+ghost use Rattle.shapes.specs.split.Places.{place_point};
 
 use cut_places::{crossing_point, start, starts_on};
 use euler_conditions::{Arena, HalfEdge};

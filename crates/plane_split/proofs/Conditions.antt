@@ -10,15 +10,15 @@ use Rattle.boundary_model.specs.Model.{Model}
 use Rattle.boundary_model.specs.Sound.{Sound, Has}
 use Rattle.euler_operators.specs.Conditions.{AllHold, first_refusal, verdict}
 use Rattle.euler_operators.specs.declared.Refusal.{Refusal}
-use Rattle.euler_laws_shared.proofs.Goes.{all_hold}
-use Rattle.fresh_laws.proofs.Tests.{first_refusal-append, first_refusal-refused}
-use Rattle.split_shapes.specs.Sides.{straddling_faces}
-use Rattle.split_shapes.specs.Crossings.{with_crossings}
-use Rattle.split_shapes.specs.Drawing.{Drawing, with_drawings}
-use Rattle.split_shapes.specs.Split.{first_conditions, later_conditions, split_conditions, split_refusal}
-use Rattle.crossing_laws.specs.Laws.{CanBegin}
-use Rattle.crossing_laws.proofs.Whole.{crossings_keep}
-use Rattle.cut_pairs.proofs.Whole.{can_be_drawn}
+use Rattle.euler_laws.proofs.shared.Goes.{all_hold}
+use Rattle.shapes.proofs.fresh.Tests.{first_refusal-append, first_refusal-refused}
+use Rattle.shapes.specs.split.Sides.{straddling_faces}
+use Rattle.shapes.specs.split.Crossings.{with_crossings}
+use Rattle.shapes.specs.split.Drawing.{Drawing, with_drawings}
+use Rattle.shapes.specs.split.Split.{first_conditions, later_conditions, split_conditions, split_refusal}
+use Rattle.split_drawing_laws.specs.crossings.Laws.{CanBegin}
+use Rattle.split_drawing_laws.proofs.crossings.Whole.{crossings_keep}
+use Rattle.split_drawing_laws.proofs.pairs.Whole.{can_be_drawn}
 use Rattle.solid_opening.specs.Kept.{KeepsSolids}
 use Rattle.solid_opening.proofs.Solids.{drawing_keeps}
 use Rattle.solid_drawing.specs.Drawn.{put_aside}

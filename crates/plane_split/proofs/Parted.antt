@@ -7,15 +7,15 @@ use Rattle.euler_operators.specs.declared.Op.{Op}
 use Rattle.euler_operators.specs.declared.Op.TheVariants.{Part}
 use Rattle.euler_laws.specs.Laws.{AreAccepted, effects}
 use Rattle.euler_laws.proofs.Runs.{effects-append}
-use Rattle.prism_laws.proofs.Turns.{AreAccepted-back}
-use Rattle.split_shapes.specs.Sides.{faces_above}
-use Rattle.split_shapes.specs.Section.{below_halves, section_cycles}
-use Rattle.split_shapes.specs.Drawing.{Drawing, with_drawings}
-use Rattle.split_shapes.specs.Opening.{Caps, all_opened}
-use Rattle.split_shapes.specs.Split.{opened_at, split_above, split_refusal, split_model}
-use Rattle.cut_pairs.specs.Laws.{rewriting_ops}
-use Rattle.cut_pairs.proofs.Whole.{rewritings_made}
-use Rattle.drawing_laws.proofs.Runs.{Leads}
+use Rattle.sweeps_laws.proofs.prism.Turns.{AreAccepted-back}
+use Rattle.shapes.specs.split.Sides.{faces_above}
+use Rattle.shapes.specs.split.Section.{below_halves, section_cycles}
+use Rattle.shapes.specs.split.Drawing.{Drawing, with_drawings}
+use Rattle.shapes.specs.split.Opening.{Caps, all_opened}
+use Rattle.shapes.specs.split.Split.{opened_at, split_above, split_refusal, split_model}
+use Rattle.split_drawing_laws.specs.pairs.Laws.{rewriting_ops}
+use Rattle.split_drawing_laws.proofs.pairs.Whole.{rewritings_made}
+use Rattle.split_drawing_laws.proofs.drawings.Runs.{Leads}
 use Rattle.solid_opening.specs.InTurn.{CanBeOpenedInTurn}
 use Rattle.solid_opening.proofs.Drawn.{begins, can_open_all}
 use Rattle.face_drawing.specs.Codes.{drawing_of}

@@ -3,8 +3,8 @@ use Rattle.std.specs.Prelude.{◌≡◌, ℕ, None}
 use Rattle.lattice.specs.declared.Plane.{Plane}
 use Rattle.boundary_model.specs.Model.{Model}
 use Rattle.boundary_model.specs.Sound.{Sound}
-use Rattle.split_shapes.specs.Drawing.{Drawing, with_drawings}
-use Rattle.split_shapes.specs.Split.{split_refusal}
+use Rattle.shapes.specs.split.Drawing.{Drawing, with_drawings}
+use Rattle.shapes.specs.split.Split.{split_refusal}
 use Rattle.solid_drawing.specs.Drawn.{put_aside}
 
 -- d is the drawing of a sound model whose split isn't refused, but for the pairs of the face drawn last

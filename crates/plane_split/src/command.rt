@@ -3,8 +3,8 @@ ghost use Rattle.std.specs.Prelude.{◌≡◌, None, Some, Err, OnOk, OnErr};
 ghost use Rattle.euler_operators.specs.declared.Refusal.{Refusal};
 ghost use Rattle.euler_conditions.specs.Ready.{IsReady};
 ghost use Rattle.undo_journal.specs.Machine.{held, accepted};
-ghost use Rattle.split_shapes.specs.Split.{split_refusal, split_model};
-ghost use Rattle.crossing_laws.specs.Laws.{CanBegin};
+ghost use Rattle.shapes.specs.split.Split.{split_refusal, split_model};
+ghost use Rattle.split_drawing_laws.specs.crossings.Laws.{CanBegin};
 
 use crate::steps::carry_out;
 use euler_conditions::Arena;

@@ -2,8 +2,8 @@
 ghost use Rattle.std.specs.Prelude.{◌≡◌, [], Ok, OnOk, IfOk};
 ghost use Rattle.boundary_model.specs.Sound.{Sound};
 ghost use Rattle.euler_operators.specs.Conditions.{verdict};
-ghost use Rattle.split_shapes.specs.Split.{split_above, split_model, split_refusal};
-ghost use Rattle.crossing_laws.specs.Laws.{CanBegin};
+ghost use Rattle.shapes.specs.split.Split.{split_above, split_model, split_refusal};
+ghost use Rattle.split_drawing_laws.specs.crossings.Laws.{CanBegin};
 ghost use Rattle.face_drawing.specs.Codes.{drawing_of};
 ghost use Rattle.section_checks.specs.Sections.{IsSection};
 ghost use Rattle.plane_split.specs.Drawn.{IsDrawn};

@@ -7,8 +7,8 @@ use Rattle.boundary_model.specs.Model.{Model}
 use Rattle.shapes.specs.Lamina.{lamina_refusal, lamina_model}
 use Rattle.shapes.specs.Block.{block_refusal, block_model}
 use Rattle.shapes.specs.Prism.{prism_refusal, prism_model}
-use Rattle.glue_shapes.specs.Glue.{glue_refusal, glue_model}
-use Rattle.split_shapes.specs.Split.{split_refusal, split_model}
+use Rattle.shapes.specs.glue.Glue.{glue_refusal, glue_model}
+use Rattle.shapes.specs.split.Split.{split_refusal, split_model}
 use Rattle.solid_counts.specs.declared.Tally.{Tally}
 use Rattle.solid_measure.specs.Measure.{answer, face_refusal, solid_refusal, plane_of, is_flat, six_volume, counts}
 use Rattle.undo_journal.specs.Machine.{Machine, held, accepted, act, act_refusal, undo, undo_refusal, redo, redo_refusal}

@@ -6,3 +6,11 @@ pub mod NumberLaws
 pub mod PointLaws
 pub mod ScriptLaws
 pub mod WordLaws
+pub mod EndLaws
+pub mod LinedLaws
+pub mod LineLaws
+pub mod OptionLaws
+pub mod PartLaws
+pub mod PlaceLaws
+pub mod SayingLaws
+pub mod WorkedLines

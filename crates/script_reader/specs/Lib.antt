@@ -10,3 +10,6 @@ pub mod Script
 pub mod Short
 pub mod State
 pub mod Words
+pub mod Ends
+pub mod Lined
+pub mod Spelling

@@ -4,6 +4,7 @@
 mod buffer;
 mod command;
 mod commands;
+mod laws;
 mod line;
 mod lines;
 mod name;
@@ -13,6 +14,9 @@ mod places;
 mod words;
 
 pub use command::{Command, Corners, Fault};
+pub use laws::{
+    lines_and_words_are_parts, lines_come_in_order, reading_is_spelling, the_end_stays,
+};
 pub use line::{Short, read_line, read_short};
 pub use lines::{Lines, NextLine};
 

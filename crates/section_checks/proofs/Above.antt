@@ -6,18 +6,18 @@ use Rattle.cyclic_list.specs.Items.{least}
 use Rattle.boundary_model.specs.Model.{Model, solid_of, faces_of, no_face}
 use Rattle.boundary_model.specs.Sound.{Sound}
 use Rattle.euler_operators.specs.Conditions.{strictly_rises}
-use Rattle.crossing_laws.proofs.Listed.{all_where_has}
-use Rattle.euler_laws_shared.proofs.Goes.{equal}
-use Rattle.euler_laws_shared.proofs.Listed.{all_where-rises}
+use Rattle.split_drawing_laws.proofs.crossings.Listed.{all_where_has}
+use Rattle.euler_laws.proofs.shared.Goes.{equal}
+use Rattle.euler_laws.proofs.shared.Listed.{all_where-rises}
 use Rattle.solid_walks.proofs.SolidFaces.{listed_in}
 use Rattle.solid_walks.proofs.FaceLoops.{halves_short}
-use Rattle.split_shapes.specs.Sides.{face_is_above, faces_above}
-use Rattle.split_shapes.specs.Section.{below_halves, cycle_from, section_cycles}
-use Rattle.section_laws.specs.SectionCycles.{AreOf, IsUnbranched, AreSectionCycles}
-use Rattle.section_laws.proofs.Meets.{filter_less}
-use Rattle.section_laws.proofs.RisingLists.{filter_rises}
-use Rattle.section_laws.proofs.BelowHalves.{halves_apart, halves_are}
-use Rattle.section_laws.proofs.Cycles.{cycles_lead_round}
+use Rattle.shapes.specs.split.Sides.{face_is_above, faces_above}
+use Rattle.shapes.specs.split.Section.{below_halves, cycle_from, section_cycles}
+use Rattle.split_opening_laws.specs.cycles.SectionCycles.{AreOf, IsUnbranched, AreSectionCycles}
+use Rattle.split_opening_laws.proofs.cycles.Meets.{filter_less}
+use Rattle.split_opening_laws.proofs.cycles.RisingLists.{filter_rises}
+use Rattle.split_opening_laws.proofs.cycles.BelowHalves.{halves_apart, halves_are}
+use Rattle.split_opening_laws.proofs.cycles.Cycles.{cycles_lead_round}
 use Rattle.section_cycles.specs.Halves.{AreThere}
 use Rattle.section_checks.specs.Cycles.{AreCycles}
 

@@ -10,12 +10,12 @@ use Rattle.euler_operators.specs.Conditions.{first_refusal, strictly_rises}
 use Rattle.euler_operators.specs.declared.Why.TheVariants.{BranchedVertex, SectionHoles}
 use Rattle.shapes.specs.Fresh.{Taken, numbers_left}
 use Rattle.solid_checks.specs.Least.{found}
-use Rattle.split_shapes.specs.Section.{below_halves, section_ends, least_branched, next_below, section_cycles, is_hole, has_stray_hole}
-use Rattle.split_shapes.specs.Split.{section_conditions}
-use Rattle.section_laws.specs.Permuting.{Permutes}
-use Rattle.section_laws.specs.SectionCycles.{AreOf, IsUnbranched}
-use Rattle.section_laws.proofs.BelowHalves.{halves_rise}
-use Rattle.section_laws.proofs.NextBelow.{permutes}
+use Rattle.shapes.specs.split.Section.{below_halves, section_ends, least_branched, next_below, section_cycles, is_hole, has_stray_hole}
+use Rattle.shapes.specs.split.Split.{section_conditions}
+use Rattle.split_opening_laws.specs.cycles.Permuting.{Permutes}
+use Rattle.split_opening_laws.specs.cycles.SectionCycles.{AreOf, IsUnbranched}
+use Rattle.split_opening_laws.proofs.cycles.BelowHalves.{halves_rise}
+use Rattle.split_opening_laws.proofs.cycles.NextBelow.{permutes}
 use Rattle.section_cycles.specs.Halves.{AreThere}
 use Rattle.section_checks.specs.Cycles.{AreCycles, AreCyclesOf, has_stray}
 use Rattle.section_checks.specs.Sections.{halves_of}

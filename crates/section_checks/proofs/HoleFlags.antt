@@ -6,7 +6,7 @@ use Rattle.std.proofs.lemmas.List.{append_assoc, append-nil, map-append, reverse
 use Rattle.lattice.specs.declared.Plane.{Plane}
 use Rattle.boundary_model.specs.declared.HalfEdge.{HalfEdge}
 use Rattle.boundary_model.specs.Model.{Model}
-use Rattle.split_shapes.specs.Section.{is_hole, has_stray_hole}
+use Rattle.shapes.specs.split.Section.{is_hole, has_stray_hole}
 use Rattle.section_cycles.specs.Halves.{codes}
 use Rattle.section_checks.specs.Cycles.{AreCycles, has_stray}
 use Rattle.section_checks.specs.Sections.{halves_of}

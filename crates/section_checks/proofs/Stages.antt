@@ -5,13 +5,13 @@ use Rattle.boundary_model.specs.Model.{Model}
 use Rattle.euler_operators.specs.Conditions.{first_refusal, verdict}
 use Rattle.euler_operators.specs.declared.Refusal.{Refusal}
 use Rattle.euler_operators.specs.declared.Why.TheVariants.{CutCrossed, BranchedVertex, SectionHoles}
-use Rattle.euler_laws_shared.proofs.Goes.{equal, equals}
+use Rattle.euler_laws.proofs.shared.Goes.{equal, equals}
 use Rattle.shapes.specs.Fresh.{Taken, numbers_left}
 use Rattle.solid_checks.specs.Least.{found}
-use Rattle.split_shapes.specs.Drawing.{Drawing}
-use Rattle.split_shapes.specs.Sides.{faces_above}
-use Rattle.split_shapes.specs.Section.{below_halves, section_ends, least_branched, section_cycles, has_stray_hole}
-use Rattle.split_shapes.specs.Split.{section_conditions, later_conditions}
+use Rattle.shapes.specs.split.Drawing.{Drawing}
+use Rattle.shapes.specs.split.Sides.{faces_above}
+use Rattle.shapes.specs.split.Section.{below_halves, section_ends, least_branched, section_cycles, has_stray_hole}
+use Rattle.shapes.specs.split.Split.{section_conditions, later_conditions}
 
 pub found_none : (n : ℕ) → None ≡ found n → n ≡ 0
 found_none n e = go (nat_eq n 0) refl e where

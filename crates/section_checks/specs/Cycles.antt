@@ -3,7 +3,7 @@ use Rattle.std.specs.Prelude.{◌≡◌, ℕ, ◌+◌, Bool, not, ◌&&◌, nat_
 use Rattle.lattice.specs.declared.Plane.{Plane}
 use Rattle.cyclic_list.specs.Items.{IsApart}
 use Rattle.boundary_model.specs.Model.{Model}
-use Rattle.split_shapes.specs.Section.{section_cycles, is_hole}
+use Rattle.shapes.specs.split.Section.{section_cycles, is_hole}
 use Rattle.section_cycles.specs.Halves.{AreThere}
 use Rattle.section_checks.specs.Sections.{halves_of}
 use Rattle.section_checks.specs.declared.section.Cycle.{Cycle}

@@ -3,8 +3,8 @@ use Rattle.std.specs.Prelude.{◌≡◌, ℕ, Bool, List, map}
 use Rattle.lattice.specs.declared.Plane.{Plane}
 use Rattle.boundary_model.specs.HalfEdge.{code}
 use Rattle.boundary_model.specs.Model.{Model}
-use Rattle.split_shapes.specs.Section.{below_halves, section_cycles, is_hole}
-use Rattle.split_shapes.specs.Sides.{faces_above}
+use Rattle.shapes.specs.split.Section.{below_halves, section_cycles, is_hole}
+use Rattle.shapes.specs.split.Sides.{faces_above}
 use Rattle.section_checks.specs.declared.section.Cycle.{Cycle}
 use Rattle.section_checks.specs.declared.section.Section.{Section}
 

@@ -6,9 +6,9 @@ ghost use Rattle.euler_operators.specs.Conditions.{first_refusal, strictly_rises
 ghost use Rattle.euler_operators.specs.declared.Refusal.{Refusal};
 ghost use Rattle.euler_conditions.specs.Store.{has_number};
 ghost use Rattle.lattice.specs.Ranges.{IsCutPlane};
-ghost use Rattle.section_laws.specs.SectionCycles.{AreOf};
-ghost use Rattle.split_shapes.specs.Section.{below_halves};
-ghost use Rattle.split_shapes.specs.Split.{later_conditions, section_conditions};
+ghost use Rattle.split_opening_laws.specs.cycles.SectionCycles.{AreOf};
+ghost use Rattle.shapes.specs.split.Section.{below_halves};
+ghost use Rattle.shapes.specs.split.Split.{later_conditions, section_conditions};
 ghost use Rattle.face_drawing.specs.Codes.{drawing_of, taken_of};
 ghost use Rattle.section_checks.specs.Cycles.{AreCyclesOf};
 ghost use Rattle.section_checks.specs.Sections.{IsSection};

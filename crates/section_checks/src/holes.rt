@@ -2,7 +2,7 @@
 ghost use Rattle.std.specs.Prelude.{◌≡◌, ◌≤◌, IfOk, filter, length, map};
 ghost use Rattle.euler_conditions.specs.Ready.{IsReady};
 ghost use Rattle.lattice.specs.Ranges.{IsCutPlane};
-ghost use Rattle.split_shapes.specs.Section.{is_hole};
+ghost use Rattle.shapes.specs.split.Section.{is_hole};
 ghost use Rattle.section_cycles.specs.Halves.{codes};
 ghost use Rattle.section_checks.specs.Cycles.{AreCycles, has_stray};
 ghost use Rattle.section_checks.specs.Sections.{halves_of};

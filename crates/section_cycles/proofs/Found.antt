@@ -8,12 +8,12 @@ use Rattle.cyclic_list.proofs.Lists.{tick_same, tick_other, count-append, IsIn_o
 use Rattle.cyclic_list.specs.Rings.{orbit}
 use Rattle.euler_operators.specs.Conditions.{lists, strictly_rises}
 use Rattle.euler_conditions.proofs.Rising.{rest_rises}
-use Rattle.euler_laws_shared.proofs.Goes.{differs, equals}
+use Rattle.euler_laws.proofs.shared.Goes.{differs, equals}
 use Rattle.solid_walks.proofs.Rising.{in_listed}
 use Rattle.solid_walks.proofs.SolidFaces.{listed_in}
-use Rattle.section_laws.specs.Permuting.{Permutes}
-use Rattle.section_laws.proofs.RisingLists.{first_least}
-use Rattle.section_laws.proofs.Orbits.{around_within, around_here, around_same}
+use Rattle.split_opening_laws.specs.cycles.Permuting.{Permutes}
+use Rattle.split_opening_laws.proofs.cycles.RisingLists.{first_least}
+use Rattle.split_opening_laws.proofs.cycles.Orbits.{around_within, around_here, around_same}
 
 -- what stands before an item of a rising list is less
 before_less : (done : List ℕ) (b : ℕ) (rest : List ℕ) → strictly_rises (done ++ b ∷ rest) ≡ true → (d : ℕ) → IsIn d done → d < b

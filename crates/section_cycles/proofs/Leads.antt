@@ -6,7 +6,7 @@ use Rattle.boundary_model.specs.declared.HalfEdge.{HalfEdge}
 use Rattle.boundary_model.specs.HalfEdge.{mate, edge_of}
 use Rattle.boundary_model.specs.Model.{Model, tail, is_number}
 use Rattle.boundary_model.specs.Sound.{Sound, HasHalf}
-use Rattle.split_shapes.specs.Section.{next_below}
+use Rattle.shapes.specs.split.Section.{next_below}
 use Rattle.section_cycles.specs.Halves.{AreThere}
 use Rattle.section_cycles.specs.Starts.{half_at, AreStarts}
 

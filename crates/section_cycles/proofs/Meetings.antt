@@ -15,12 +15,12 @@ use Rattle.boundary_model.specs.HalfEdge.{code, mate}
 use Rattle.boundary_model.specs.Table as table
 use Rattle.boundary_model.specs.Model.{Model, tail, is_number}
 use Rattle.boundary_model.specs.Sound.{Sound, HasHalf, Has}
-use Rattle.euler_laws_shared.proofs.Fans.{half_mate}
+use Rattle.euler_laws.proofs.shared.Fans.{half_mate}
 use Rattle.face_walks.proofs.Rising.{AllAbove, all_above_members}
 use Rattle.face_walks.proofs.TableWalks.{passes, member_passing}
 use Rattle.solid_checks.specs.Least.{found, least_such}
 use Rattle.solid_checks.proofs.Searches.{IsLeast, one_least, least_same, least_row}
-use Rattle.split_shapes.specs.Section.{section_ends, least_branched}
+use Rattle.shapes.specs.split.Section.{section_ends, least_branched}
 use Rattle.cut_places.proofs.Lists.{others, parts}
 use Rattle.section_cycles.specs.Halves.{AreThere}
 use Rattle.section_cycles.proofs.Sorted.{often, least_often}

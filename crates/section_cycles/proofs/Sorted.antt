@@ -6,7 +6,7 @@ use Rattle.std.proofs.lemmas.List.{take_rest}
 use Rattle.cut_places.proofs.Lists.{others}
 use Rattle.cyclic_list.specs.Items.{tick, count, IsIn}
 use Rattle.cyclic_list.proofs.Lists.{tick_same, tick_other, tick_le, IsIn_or_not}
-use Rattle.euler_laws_shared.proofs.Goes.{equal, unequal}
+use Rattle.euler_laws.proofs.shared.Goes.{equal, unequal}
 use Rattle.face_walks.proofs.Rising.{member}
 use Rattle.solid_checks.specs.Least.{least_such}
 use Rattle.solid_checks.proofs.Searches.{IsLeast, one_least, least_same, least_listed}

@@ -11,7 +11,7 @@ use Rattle.boundary_model.specs.HalfEdge.{mate}
 use Rattle.boundary_model.specs.Model.{Model}
 use Rattle.boundary_model.specs.Sound.{Sound, HasHalf}
 use Rattle.boundary_model.proofs.Halves.{mate-mate}
-use Rattle.euler_laws_shared.proofs.Fans.{half_mate}
+use Rattle.euler_laws.proofs.shared.Fans.{half_mate}
 use Rattle.shapes.specs.Faces.{start, finish}
 use Rattle.solid_measure.specs.Measure.{area, area_limit}
 use Rattle.solid_measure.proofs.Areas.{area_push, area_limited}

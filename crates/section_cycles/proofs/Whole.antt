@@ -9,9 +9,9 @@ use Rattle.boundary_model.specs.Model.{Model}
 use Rattle.boundary_model.specs.Sound.{Sound, HasHalf}
 use Rattle.euler_conditions.proofs.Parallel.{steps_are}
 use Rattle.solid_walks.proofs.Rounds.{edge_number, half_below}
-use Rattle.split_shapes.specs.Section.{next_below, cycle_from, section_cycles}
-use Rattle.section_laws.specs.Permuting.{Permutes}
-use Rattle.section_laws.proofs.Orbits.{around_within}
+use Rattle.shapes.specs.split.Section.{next_below, cycle_from, section_cycles}
+use Rattle.split_opening_laws.specs.cycles.Permuting.{Permutes}
+use Rattle.split_opening_laws.proofs.cycles.Orbits.{around_within}
 use Rattle.section_cycles.specs.Halves.{AreThere, codes}
 use Rattle.section_cycles.proofs.Found.{Finding, all_found}
 

@@ -5,7 +5,7 @@ ghost use Rattle.cyclic_list.specs.Items.{SameItems, count};
 ghost use Rattle.boundary_model.specs.HalfEdge.{code};
 ghost use Rattle.euler_conditions.specs.Ready.{IsReady};
 ghost use Rattle.solid_checks.specs.Least.{found, least_such};
-ghost use Rattle.split_shapes.specs.Section.{least_branched, section_ends};
+ghost use Rattle.shapes.specs.split.Section.{least_branched, section_ends};
 ghost use Rattle.section_cycles.specs.Halves.{AreThere, is_thrice};
 
 use euler_conditions::{Arena, HalfEdge};

@@ -6,8 +6,8 @@ ghost use Rattle.cyclic_list.specs.Items.{IsIn};
 ghost use Rattle.boundary_model.specs.HalfEdge.{code};
 ghost use Rattle.euler_conditions.specs.Ready.{IsReady};
 ghost use Rattle.euler_operators.specs.Conditions.{lists, strictly_rises};
-ghost use Rattle.section_laws.specs.Permuting.{Permutes};
-ghost use Rattle.split_shapes.specs.Section.{cycle_from, next_below, section_cycles};
+ghost use Rattle.split_opening_laws.specs.cycles.Permuting.{Permutes};
+ghost use Rattle.shapes.specs.split.Section.{cycle_from, next_below, section_cycles};
 ghost use Rattle.section_cycles.specs.Halves.{AreThere, codes};
 ghost use Rattle.section_cycles.specs.Starts.{AreStarts};
 

@@ -9,7 +9,7 @@ ghost use Rattle.boundary_model.specs.Model.{has_half};
 ghost use Rattle.euler_conditions.specs.Ready.{IsReady};
 ghost use Rattle.shapes.specs.Faces.{finish, start};
 ghost use Rattle.solid_measure.specs.Measure.{area, area_limit};
-ghost use Rattle.split_shapes.specs.Section.{is_hole};
+ghost use Rattle.shapes.specs.split.Section.{is_hole};
 ghost use Rattle.section_cycles.specs.Halves.{AreThere};
 ghost use Rattle.section_cycles.specs.Sums.{read};
 

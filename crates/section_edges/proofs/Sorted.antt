@@ -17,9 +17,9 @@ use Rattle.euler_conditions.proofs.Rising.{within}
 use Rattle.solid_walks.proofs.Rising.{in_listed}
 use Rattle.solid_walks.proofs.SolidFaces.{listed_in}
 use Rattle.solid_counts.proofs.HowMany.{equally_many}
-use Rattle.split_shapes.specs.Section.{below_halves}
-use Rattle.section_laws.specs.SectionCycles.{IsBelowHalf}
-use Rattle.section_laws.proofs.BelowHalves.{halves_rise, halves_apart, halves_are, are_halves}
+use Rattle.shapes.specs.split.Section.{below_halves}
+use Rattle.split_opening_laws.specs.cycles.SectionCycles.{IsBelowHalf}
+use Rattle.split_opening_laws.proofs.cycles.BelowHalves.{halves_rise, halves_apart, halves_are, are_halves}
 use Rattle.section_edges.specs.BelowHalves.{below_met}
 use Rattle.section_edges.proofs.Walked.{met_apart, met_below, below_is_met}
 

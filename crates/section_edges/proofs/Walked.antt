@@ -17,7 +17,7 @@ use Rattle.solid_walks.specs.Walks.{loops_in}
 use Rattle.solid_walks.proofs.FaceLoops.{different_items, items_counted, items_there, items_joined}
 use Rattle.solid_walks.proofs.SolidFaces.{solid_loops, all_loops_apart, loop_in_solid, solid_has_loop}
 use Rattle.cut_places.proofs.Lists.{of_picked, in_picked, picked_apart}
-use Rattle.section_laws.specs.SectionCycles.{IsBelowHalf}
+use Rattle.split_opening_laws.specs.cycles.SectionCycles.{IsBelowHalf}
 use Rattle.section_edges.specs.BelowHalves.{is_below, below_met}
 
 -- an item of a loop stands among the items of some loops with it

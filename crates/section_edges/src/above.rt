@@ -6,7 +6,7 @@ ghost use Rattle.lattice.specs.Point.{IsInRange};
 ghost use Rattle.lattice.specs.Ranges.{IsCutPlane};
 ghost use Rattle.lattice.specs.Vectors.{direction, dot};
 ghost use Rattle.solid_measure.specs.Measure.{normal};
-ghost use Rattle.split_shapes.specs.Sides.{face_is_above, faces_above};
+ghost use Rattle.shapes.specs.split.Sides.{face_is_above, faces_above};
 
 use cut_places::reaches;
 use euler_conditions::{Arena, Kind};
@@ -42,7 +42,7 @@ fn points_along(arena: &Arena, plane: Plane, f: u32) -> bool
 
 /// Whether face f is above the plane: it has a corner above, or lies wholly on it with a normal that doesn't point along the plane's
 /// direction.
-#[tactic(auto, unfolding(split_shapes::specs::Sides::face_is_above))]
+#[tactic(auto, unfolding(shapes::specs::split::Sides::face_is_above))]
 fn is_above(alloc: Global, arena: &Arena, plane: Plane, f: u32) -> Result<bool, AllocError>
     requires ready { IsReady arena.now }
     requires there { has_number arena.now Kind.Face f ≡ true }

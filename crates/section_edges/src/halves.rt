@@ -7,7 +7,7 @@ ghost use Rattle.euler_operators.specs.Conditions.{face_at, lists, strictly_rise
 ghost use Rattle.euler_conditions.specs.Store.{has_number};
 ghost use Rattle.shapes.specs.Faces.{boundary};
 ghost use Rattle.cut_places.specs.Walks.{AreThere};
-ghost use Rattle.split_shapes.specs.Section.{below_halves};
+ghost use Rattle.shapes.specs.split.Section.{below_halves};
 ghost use Rattle.section_edges.specs.BelowHalves.{below_in, below_met, is_below};
 
 use cut_places::boundary;

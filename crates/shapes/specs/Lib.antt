@@ -4,3 +4,6 @@ pub mod Rewriting
 pub mod Lamina
 pub mod Prism
 pub mod Block
+pub mod Measure
+pub mod glue
+pub mod split

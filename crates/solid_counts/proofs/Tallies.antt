@@ -16,11 +16,11 @@ use Rattle.boundary_model.specs.Sound.{Sound, Has, HasHalf, IsLoneAt}
 use Rattle.boundary_model.proofs.Halves.{plus_row}
 use Rattle.boundary_model.proofs.Models.{cycle_there}
 use Rattle.euler_operators.specs.Conditions.{lists, is_lone, face_at}
-use Rattle.euler_laws_shared.proofs.Arcs.{halves_of_edge}
-use Rattle.euler_laws_shared.proofs.Fans.{kept_round, loop_after}
-use Rattle.euler_laws_shared.proofs.Listed.{listed_passes, passes_listed, all_where-rises}
-use Rattle.euler_laws_shared.proofs.Loops.{some_row}
-use Rattle.euler_laws_shared.proofs.Goes.{equal, equals}
+use Rattle.euler_laws.proofs.shared.Arcs.{halves_of_edge}
+use Rattle.euler_laws.proofs.shared.Fans.{kept_round, loop_after}
+use Rattle.euler_laws.proofs.shared.Listed.{listed_passes, passes_listed, all_where-rises}
+use Rattle.euler_laws.proofs.shared.Loops.{some_row}
+use Rattle.euler_laws.proofs.shared.Goes.{equal, equals}
 use Rattle.euler_conditions.proofs.Known.{loop_there}
 use Rattle.shapes.specs.Faces.{items_in, loops_of, vertices_on, vertices_in, corners, edges_of}
 use Rattle.solid_counts.specs.Counts.{corners_in, rings_in, vertices_of, counts}

@@ -2,7 +2,7 @@
 use Rattle.std.proofs.Common.{◌≡◌, List, [], ◌∷◌, map, sym, ap, ◌∙◌, subst}
 use Rattle.lattice.specs.declared.Plane.{Plane}
 use Rattle.boundary_model.specs.Model.{Model}
-use Rattle.split_shapes.specs.Drawing.{drawn_between}
+use Rattle.shapes.specs.split.Drawing.{drawn_between}
 use Rattle.face_drawing.specs.declared.pairs.Pair.{Pair}
 use Rattle.face_drawing.specs.declared.progress.Progress.{Progress}
 use Rattle.face_drawing.specs.Codes.{codes, drawing_of}

@@ -5,10 +5,10 @@ use Rattle.lattice.specs.declared.Plane.{Plane}
 use Rattle.boundary_model.specs.Table.{Table}
 use Rattle.boundary_model.specs.Model.{Model}
 use Rattle.boundary_model.specs.Sound.{Has}
-use Rattle.split_shapes.specs.Drawing.{Drawing, drawn_pairs, drawn_between, next_drawn}
-use Rattle.drawing_laws.specs.Passing.{Ready, Drawable}
-use Rattle.drawing_laws.proofs.Faces.{face_goes}
-use Rattle.drawing_laws.proofs.Whole.{next_is, ready, drawable_on}
+use Rattle.shapes.specs.split.Drawing.{Drawing, drawn_pairs, drawn_between, next_drawn}
+use Rattle.split_drawing_laws.specs.drawings.Passing.{Ready, Drawable}
+use Rattle.split_drawing_laws.proofs.drawings.Faces.{face_goes}
+use Rattle.split_drawing_laws.proofs.drawings.Whole.{next_is, ready, drawable_on}
 use Rattle.cut_places.specs.Walks.{AreIn}
 use Rattle.solid_drawing.specs.Drawn.{put_aside, faces_between, CanDrawFace, CanDrawFaces}
 

@@ -6,14 +6,14 @@ use Rattle.boundary_model.specs.Model.{Model, content}
 use Rattle.boundary_model.specs.Sound.{Has}
 use Rattle.euler_operators.specs.Conditions.{has_rings}
 use Rattle.euler_laws.specs.Laws.{AreAccepted}
-use Rattle.euler_laws_shared.proofs.Goes.{equals, differs}
+use Rattle.euler_laws.proofs.shared.Goes.{equals, differs}
 use Rattle.shapes.specs.Faces.{vertices_on}
-use Rattle.split_shapes.specs.Sides.{some_above}
-use Rattle.split_shapes.specs.Drawing as drawing
-use Rattle.split_shapes.specs.Drawing.{Drawing, join_next, draw_next, all_joined, ring_free, all_drawn, rings_above, with_rings, rings_shared, drawn_between}
-use Rattle.drawing_laws.specs.DrawingOps.{ring_ops}
-use Rattle.drawing_laws.proofs.Faces.{begun_joining, joins, going, going_on, fitting_on, last, newer_face}
-use Rattle.drawing_laws.proofs.Rings.{Moved, rings_move, rings_are, rings_apart}
+use Rattle.shapes.specs.split.Sides.{some_above}
+use Rattle.shapes.specs.split.Drawing as drawing
+use Rattle.shapes.specs.split.Drawing.{Drawing, join_next, draw_next, all_joined, ring_free, all_drawn, rings_above, with_rings, rings_shared, drawn_between}
+use Rattle.split_drawing_laws.specs.drawings.DrawingOps.{ring_ops}
+use Rattle.split_drawing_laws.proofs.drawings.Faces.{begun_joining, joins, going, going_on, fitting_on, last, newer_face}
+use Rattle.split_drawing_laws.proofs.drawings.Rings.{Moved, rings_move, rings_are, rings_apart}
 use Rattle.face_drawing.specs.declared.pairs.Pair.{Pair}
 use Rattle.face_drawing.specs.declared.progress.Progress.{Progress}
 use Rattle.face_drawing.specs.Codes.{codes, drawing_of, stuck_at}

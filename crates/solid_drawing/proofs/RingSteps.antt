@@ -7,9 +7,9 @@ use Rattle.euler_operators.specs.declared.Op.TheVariants.{RingIn}
 use Rattle.euler_operators.specs.Effect.{effect}
 use Rattle.euler_laws.specs.Laws.{effects}
 use Rattle.euler_conditions.specs.Store.{IsNextRing}
-use Rattle.split_shapes.specs.Drawing.{with_rings}
-use Rattle.drawing_laws.specs.DrawingOps.{ring_ops}
-use Rattle.drawing_laws.proofs.Drawn.{ring_moved}
+use Rattle.shapes.specs.split.Drawing.{with_rings}
+use Rattle.split_drawing_laws.specs.drawings.DrawingOps.{ring_ops}
+use Rattle.split_drawing_laws.proofs.drawings.Drawn.{ring_moved}
 
 -- a ring that an arena finds is there
 pub ring_there : (M : Model) (f n l : ℕ) → IsNextRing M f n (Some l) → Has M.loops l

@@ -7,10 +7,10 @@ use Rattle.boundary_model.specs.Model.{Model}
 use Rattle.boundary_model.specs.Sound.{Sound, HasHalf}
 use Rattle.solid_walks.proofs.FaceLoops.{items_there}
 use Rattle.shapes.specs.Faces.{loops_of, boundary}
-use Rattle.split_shapes.specs.Places.{is_place, places, goes_up, sorted, in_pairs, sorted_pairs, up_first, place_pairs}
-use Rattle.split_shapes.specs.Drawing.{drawn_pairs}
-use Rattle.crossing_laws.specs.Kept.{Kept}
-use Rattle.cut_pairs.proofs.Sorted.{count-sorted}
+use Rattle.shapes.specs.split.Places.{is_place, places, goes_up, sorted, in_pairs, sorted_pairs, up_first, place_pairs}
+use Rattle.shapes.specs.split.Drawing.{drawn_pairs}
+use Rattle.split_drawing_laws.specs.crossings.Kept.{Kept}
+use Rattle.split_drawing_laws.proofs.pairs.Sorted.{count-sorted}
 use Rattle.cut_places.proofs.Lists.{of_picked}
 use Rattle.solid_drawing.specs.Starts.{PairsThere, FacesThere, pairs_started, faces_started}
 

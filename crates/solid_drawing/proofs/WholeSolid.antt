@@ -5,14 +5,14 @@ use Rattle.cyclic_list.specs.Items.{IsIn}
 use Rattle.boundary_model.specs.Model.{Model, faces_of}
 use Rattle.boundary_model.specs.Sound.{Sound, Has}
 use Rattle.shapes.specs.Fresh.{taken_in}
-use Rattle.split_shapes.specs.Sides.{straddles, straddling_faces}
-use Rattle.split_shapes.specs.Crossings.{with_crossings}
-use Rattle.split_shapes.specs.Drawing.{Drawing, drawn_pairs, with_drawings}
-use Rattle.crossing_laws.specs.Kept.{Kept}
-use Rattle.crossing_laws.proofs.Listed.{all_where_has}
-use Rattle.crossing_laws.proofs.Whole.{crossings_keep, crossings_counted}
-use Rattle.drawing_laws.proofs.Whole.{drawable}
-use Rattle.cut_pairs.proofs.Whole.{can_be_drawn}
+use Rattle.shapes.specs.split.Sides.{straddles, straddling_faces}
+use Rattle.shapes.specs.split.Crossings.{with_crossings}
+use Rattle.shapes.specs.split.Drawing.{Drawing, drawn_pairs, with_drawings}
+use Rattle.split_drawing_laws.specs.crossings.Kept.{Kept}
+use Rattle.split_drawing_laws.proofs.crossings.Listed.{all_where_has}
+use Rattle.split_drawing_laws.proofs.crossings.Whole.{crossings_keep, crossings_counted}
+use Rattle.split_drawing_laws.proofs.drawings.Whole.{drawable}
+use Rattle.split_drawing_laws.proofs.pairs.Whole.{can_be_drawn}
 use Rattle.solid_walks.proofs.SolidFaces.{listed_in}
 use Rattle.cut_places.proofs.Lists.{of_picked}
 use Rattle.cut_places.proofs.Walks.{all_in}

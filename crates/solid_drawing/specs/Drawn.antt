@@ -3,8 +3,8 @@ use Rattle.std.specs.Prelude.{◌≡◌, ℕ, List, [], map, fold}
 use Rattle.lattice.specs.declared.Plane.{Plane}
 use Rattle.boundary_model.specs.Model.{Model}
 use Rattle.boundary_model.specs.Sound.{Has}
-use Rattle.split_shapes.specs.Drawing.{Drawing, drawn_pairs, drawn_between}
-use Rattle.drawing_laws.specs.Passing.{Ready, Drawable}
+use Rattle.shapes.specs.split.Drawing.{Drawing, drawn_pairs, drawn_between}
+use Rattle.split_drawing_laws.specs.drawings.Passing.{Ready, Drawable}
 use Rattle.cut_places.specs.Walks.{AreIn}
 
 -- the pairs that a face's first pass left, put aside

@@ -3,7 +3,7 @@ use Rattle.std.specs.Prelude.{ℕ, List, [], ◌∷◌, map}
 use Rattle.lattice.specs.declared.Plane.{Plane}
 use Rattle.boundary_model.specs.Model.{Model}
 use Rattle.boundary_model.specs.Sound.{HasHalf}
-use Rattle.split_shapes.specs.Drawing.{from_place}
+use Rattle.shapes.specs.split.Drawing.{from_place}
 
 -- what starts at the places of a pair, of some pairs, and of the pairs of some faces
 abbrev pub pair_started : Model → Plane → ℕ × ℕ → ℕ × ℕ

@@ -1,7 +1,7 @@
 //! A face drawn between its pairs.
 ghost use Rattle.std.specs.Prelude.{◌≡◌, [], map, IfOk};
 ghost use Rattle.lattice.specs.Ranges.{IsCutPlane};
-ghost use Rattle.split_shapes.specs.Drawing.{drawn_between};
+ghost use Rattle.shapes.specs.split.Drawing.{drawn_between};
 ghost use Rattle.face_drawing.specs.Codes.{codes, drawing_of};
 ghost use Rattle.solid_drawing.specs.Drawn.{CanDrawFace, put_aside};
 

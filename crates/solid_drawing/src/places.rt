@@ -4,7 +4,7 @@ ghost use Rattle.boundary_model.specs.HalfEdge.{code};
 ghost use Rattle.boundary_model.specs.Model.{has_half};
 ghost use Rattle.euler_conditions.specs.Ready.{IsReady};
 ghost use Rattle.lattice.specs.Ranges.{IsCutPlane};
-ghost use Rattle.split_shapes.specs.Drawing.{from_place};
+ghost use Rattle.shapes.specs.split.Drawing.{from_place};
 ghost use Rattle.face_drawing.specs.Codes.{codes};
 ghost use Rattle.face_pairs.specs.Paired.{paired};
 ghost use Rattle.solid_drawing.specs.Starts.{FacesThere, PairsThere, faces_started, pair_started, pairs_started};

@@ -5,8 +5,8 @@ ghost use Rattle.euler_conditions.specs.Ready.{IsReady};
 ghost use Rattle.euler_laws.specs.Laws.{AreAccepted};
 ghost use Rattle.euler_conditions.specs.Store.{has_number};
 ghost use Rattle.lattice.specs.Ranges.{IsCutPlane};
-ghost use Rattle.split_shapes.specs.Drawing.{rings_above, with_rings};
-ghost use Rattle.drawing_laws.specs.DrawingOps.{ring_ops};
+ghost use Rattle.shapes.specs.split.Drawing.{rings_above, with_rings};
+ghost use Rattle.split_drawing_laws.specs.drawings.DrawingOps.{ring_ops};
 
 use cut_places::loop_reaches;
 use euler_conditions::{Arena, Kind};

@@ -2,7 +2,7 @@
 ghost use Rattle.std.specs.Prelude.{◌≡◌, [], map, IfOk};
 ghost use Rattle.lattice.specs.Ranges.{IsCutPlane};
 ghost use Rattle.shapes.specs.Fresh.{taken_in};
-ghost use Rattle.split_shapes.specs.Drawing.{with_drawings};
+ghost use Rattle.shapes.specs.split.Drawing.{with_drawings};
 ghost use Rattle.edge_cutting.specs.Begins.{CanBeCut};
 ghost use Rattle.face_drawing.specs.Codes.{drawing_of, taken_of};
 ghost use Rattle.face_pairs.specs.Paired.{paired};

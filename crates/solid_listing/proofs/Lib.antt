@@ -5,3 +5,8 @@ pub mod LineLaws
 pub mod Walks
 pub mod WorkedTexts
 pub mod WritingLaws
+pub mod Parsing
+pub mod Words
+pub mod Lines
+pub mod KindLines
+pub mod Tells

@@ -3,6 +3,7 @@
 
 mod cycle;
 mod entry;
+mod laws;
 mod listing;
 mod reply;
 #[cfg(test)]
@@ -10,6 +11,7 @@ mod tests;
 mod text;
 mod writing;
 
+pub use laws::listing_tells;
 pub use listing::write_listing;
 pub use reply::{Reply, write_reply};
 pub use writing::WriteFault;

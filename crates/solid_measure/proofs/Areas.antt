@@ -13,7 +13,7 @@ use Rattle.boundary_model.specs.Table as table
 use Rattle.boundary_model.specs.Model.{Model, tail, point_of, no_point}
 use Rattle.boundary_model.specs.Sound.{Sound}
 use Rattle.shapes.specs.Faces.{start, finish}
-pub use Rattle.measure_shapes.proofs.Areas.{same_vector, moved_more, moved_turned, moved_nothing, nothing_moved, area-append, area_turned, area_push}
+pub use Rattle.shapes.proofs.Areas.{same_vector, moved_more, moved_turned, moved_nothing, nothing_moved, area-append, area_turned, area_push}
 use Rattle.solid_measure.specs.Measure.{area, area_limit}
 use Rattle.solid_walks.proofs.FaceLoops.{AreHalves, halves_short}
 

@@ -14,7 +14,7 @@ use Rattle.boundary_model.specs.Model.{Model, LoopContent, lone, cycle, items_of
 use Rattle.boundary_model.specs.Sound.{Sound}
 use Rattle.euler_conditions.specs.Store.{IsNextRing, Tells}
 use Rattle.euler_operators.specs.Conditions.{lists}
-use Rattle.euler_laws_shared.proofs.Listed.{first_listed, rest_listed, listed_cases}
+use Rattle.euler_laws.proofs.shared.Listed.{first_listed, rest_listed, listed_cases}
 use Rattle.euler_conditions.proofs.Parallel.{steps}
 use Rattle.shapes.specs.Faces.{start, vertices_on, vertices_in, corners, loops_of}
 use Rattle.solid_measure.specs.Measure.{plane_of, is_flat}

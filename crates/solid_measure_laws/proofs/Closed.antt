@@ -12,15 +12,15 @@ use Rattle.boundary_model.specs.Sound.{Sound, Has, HasHalf}
 use Rattle.boundary_model.proofs.Halves.{edge_of-mate}
 use Rattle.boundary_model.proofs.Models.{in-holds, holds_in, held_row}
 use Rattle.euler_operators.specs.Conditions.{lists, strictly_rises}
-use Rattle.euler_laws_shared.proofs.Listed.{first_listed, rest_listed, listed_cases, listed_passes, listed_as, all_where-rises}
-use Rattle.euler_laws_shared.proofs.Loops.{light}
-use Rattle.euler_laws_shared.proofs.Rows.{loop_row, face_there}
+use Rattle.euler_laws.proofs.shared.Listed.{first_listed, rest_listed, listed_cases, listed_passes, listed_as, all_where-rises}
+use Rattle.euler_laws.proofs.shared.Loops.{light}
+use Rattle.euler_laws.proofs.shared.Rows.{loop_row, face_there}
 use Rattle.shapes.specs.Faces.{items_in, loops_of, boundary}
-use Rattle.measure_shapes.specs.Measure.{area, normal, six_volume}
-use Rattle.measure_shapes.proofs.Areas.{area-append}
+use Rattle.shapes.specs.Measure.{area, normal, six_volume}
+use Rattle.shapes.proofs.Areas.{area-append}
 use Rattle.solid_walks.proofs.FaceLoops.{items_there}
 use Rattle.solid_walks.proofs.Rising.{counted_once, none_counted}
-use Rattle.vector_laws.proofs.Vectors.{dot_turned, dot_origin, add_none}
+use Rattle.lattice.proofs.Vectors.{dot_turned, dot_origin, add_none}
 use Rattle.solid_measure_laws.specs.Models.{shifted, normals_in}
 use Rattle.solid_measure_laws.proofs.Paths.{rest_in}
 use Rattle.solid_measure_laws.proofs.Sums.{area_same, area_mates, own_opposite, count-mates}

@@ -8,8 +8,8 @@ use Rattle.std.proofs.Math.Nat.{div-zero, zero-div, zero-mod}
 use Rattle.lattice.specs.declared.Point.{Point}
 use Rattle.lattice.specs.declared.Plane.{Plane}
 use Rattle.lattice.specs.Vectors.{origin, moved, cross, height, is_on, opposite, are_opposite, cut_multiple, cuts_lattice, cut_between}
-use Rattle.vector_laws.proofs.Integers.{dif, dif-parts, difs, neg-dif, same_dif, number}
-use Rattle.vector_laws.proofs.Vectors.{same_vector, moved_none}
+use Rattle.lattice.proofs.Integers.{dif, dif-parts, difs, neg-dif, same_dif, number}
+use Rattle.lattice.proofs.Vectors.{same_vector, moved_none}
 use Rattle.solid_measure_laws.specs.Vectors.{scaled, towards}
 use Rattle.solid_measure_laws.proofs.Products.{no_product}
 

@@ -17,11 +17,11 @@ use Rattle.boundary_model.specs.Sound.{Sound, Has}
 use Rattle.boundary_model.proofs.Halves.{mate-mate}
 use Rattle.boundary_model.proofs.Models.{in-holds}
 use Rattle.euler_operators.specs.Conditions.{lists}
-use Rattle.euler_laws_shared.proofs.Fans.{ring_stays}
-use Rattle.euler_laws_shared.proofs.Listed.{first_listed, rest_listed, listed_passes}
-use Rattle.euler_laws_shared.proofs.Loops.{light}
+use Rattle.euler_laws.proofs.shared.Fans.{ring_stays}
+use Rattle.euler_laws.proofs.shared.Listed.{first_listed, rest_listed, listed_passes}
+use Rattle.euler_laws.proofs.shared.Loops.{light}
 use Rattle.shapes.specs.Faces.{vertices_on, corners, loops_of}
-use Rattle.measure_shapes.specs.Measure.{normal, anchor, first_vertex, plane_of, is_flat, volume_in, six_volume}
+use Rattle.shapes.specs.Measure.{normal, anchor, first_vertex, plane_of, is_flat, volume_in, six_volume}
 use Rattle.solid_measure_laws.specs.Models.{run_back, turned}
 use Rattle.solid_measure_laws.proofs.Paths.{first_in}
 use Rattle.solid_measure_laws.proofs.FlatFaces.{and_parts, list_parts, are_on, plane_told}

@@ -8,7 +8,7 @@ use Rattle.cyclic_list.proofs.Lists.{tick_same}
 use Rattle.boundary_model.specs.Model.{Model, items_of, content, point_of, after}
 use Rattle.boundary_model.specs.Sound.{Sound}
 use Rattle.boundary_model.proofs.Models.{in-holds}
-use Rattle.euler_laws_shared.proofs.Loops.{light}
+use Rattle.euler_laws.proofs.shared.Loops.{light}
 use Rattle.shapes.specs.Faces.{start, finish}
 
 -- where a path begins that ends at e

@@ -3,8 +3,8 @@ use Rattle.std.proofs.Common.{◌≡◌, ◌≢◌, ◌⊎◌, inl, inr, ℕ, ze
 use Rattle.std.proofs.lemmas.Int.{ints, unsigned_abs-mul}
 use Rattle.lattice.specs.declared.Point.{Point}
 use Rattle.lattice.specs.Vectors.{origin, moved, dot, cross}
-use Rattle.vector_laws.proofs.Integers.{dif, dif-parts, difs, same_dif, number}
-use Rattle.vector_laws.proofs.Vectors.{same_vector}
+use Rattle.lattice.proofs.Integers.{dif, dif-parts, difs, same_dif, number}
+use Rattle.lattice.proofs.Vectors.{same_vector}
 use Rattle.solid_measure_laws.specs.Vectors.{scaled, towards}
 
 -- ---- across a sum

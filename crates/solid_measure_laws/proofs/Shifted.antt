@@ -13,12 +13,12 @@ use Rattle.boundary_model.specs.Sound.{Sound, Has, HasHalf}
 use Rattle.boundary_model.proofs.Halves.{edge_of-mate}
 use Rattle.boundary_model.proofs.Models.{in-holds}
 use Rattle.euler_operators.specs.Conditions.{lists}
-use Rattle.euler_laws_shared.proofs.Listed.{first_listed, rest_listed, listed_passes}
+use Rattle.euler_laws.proofs.shared.Listed.{first_listed, rest_listed, listed_passes}
 use Rattle.shapes.specs.Faces.{start, finish, loops_of, items_in, boundary}
-use Rattle.measure_shapes.specs.Measure.{area, normal, anchor, first_vertex, volume_in, six_volume}
-use Rattle.measure_shapes.proofs.Areas.{area-append}
-use Rattle.vector_laws.proofs.Integers.{dif, dif-parts, difs, same_dif}
-use Rattle.vector_laws.proofs.Vectors.{same_vector, moved_none, dot_moved, dot_turned, dot_origin}
+use Rattle.shapes.specs.Measure.{area, normal, anchor, first_vertex, volume_in, six_volume}
+use Rattle.shapes.proofs.Areas.{area-append}
+use Rattle.lattice.proofs.Integers.{dif, dif-parts, difs, same_dif}
+use Rattle.lattice.proofs.Vectors.{same_vector, moved_none, dot_moved, dot_turned, dot_origin}
 use Rattle.solid_measure_laws.specs.Vectors.{towards}
 use Rattle.solid_measure_laws.specs.Models.{shifted, normals_in}
 use Rattle.solid_measure_laws.proofs.Products.{cross_nothing}

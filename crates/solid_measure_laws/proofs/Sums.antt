@@ -11,12 +11,12 @@ use Rattle.cyclic_list.proofs.Std.{SameItems-from_permutation}
 use Rattle.boundary_model.specs.HalfEdge.{mate}
 use Rattle.boundary_model.specs.Model.{Model}
 use Rattle.boundary_model.proofs.Halves.{mate-mate}
-use Rattle.euler_laws_shared.proofs.Rows.{no_items}
+use Rattle.euler_laws.proofs.shared.Rows.{no_items}
 use Rattle.shapes.specs.Faces.{start, finish}
-use Rattle.measure_shapes.specs.Measure.{area}
-use Rattle.measure_shapes.proofs.Areas.{area-append}
-use Rattle.vector_laws.proofs.Integers.{dif, dif-parts, difs, neg-dif, same_dif}
-use Rattle.vector_laws.proofs.Vectors.{same_vector}
+use Rattle.shapes.specs.Measure.{area}
+use Rattle.shapes.proofs.Areas.{area-append}
+use Rattle.lattice.proofs.Integers.{dif, dif-parts, difs, neg-dif, same_dif}
+use Rattle.lattice.proofs.Vectors.{same_vector}
 use Rattle.solid_measure_laws.specs.Vectors.{negated}
 use Rattle.solid_measure_laws.proofs.Paths.{first_in, rest_in}
 

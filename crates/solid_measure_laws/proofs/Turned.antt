@@ -10,8 +10,8 @@ use Rattle.boundary_model.specs.Table as table
 use Rattle.boundary_model.specs.Table.{Table, all_in, map_entries, map_rows, get-map_rows}
 use Rattle.boundary_model.specs.Model.{Model, LoopContent, lone, cycle, LoopRow, no_loop, items_of, tail, content, outer, point_of, rings_of}
 use Rattle.shapes.specs.Faces.{start, loops_of, items_in, boundary}
-use Rattle.measure_shapes.specs.Measure.{area, normal}
-use Rattle.measure_shapes.proofs.Areas.{area-append}
+use Rattle.shapes.specs.Measure.{area, normal}
+use Rattle.shapes.proofs.Areas.{area-append}
 use Rattle.solid_measure_laws.specs.Vectors.{negated}
 use Rattle.solid_measure_laws.specs.Models.{run_back, row_back, turned}
 use Rattle.solid_measure_laws.proofs.Sums.{area_same, area_mates, area_back, moved_back}

@@ -10,7 +10,7 @@ use Rattle.boundary_model.specs.Model.{Model, point_of, faces_of}
 use Rattle.boundary_model.specs.Sound.{Sound, Has}
 use Rattle.euler_operators.specs.Conditions.{lists}
 use Rattle.shapes.specs.Faces.{boundary, corners}
-use Rattle.measure_shapes.specs.Measure.{area, normal, anchor, is_plane_of, is_flat, six_volume}
+use Rattle.shapes.specs.Measure.{area, normal, anchor, is_plane_of, is_flat, six_volume}
 use Rattle.solid_measure_laws.specs.Vectors.{negated, scaled, towards}
 use Rattle.solid_measure_laws.specs.Models.{turned, shifted, normals_in}
 

@@ -6,7 +6,7 @@ use Rattle.cyclic_list.specs.Rings.{canonical}
 use Rattle.boundary_model.specs.HalfEdge.{mate}
 use Rattle.boundary_model.specs.Table.{map_rows}
 use Rattle.boundary_model.specs.Model.{Model, LoopContent, LoopRow, lone, cycle}
-use Rattle.measure_shapes.specs.Measure.{normal}
+use Rattle.shapes.specs.Measure.{normal}
 
 -- the other halves of a loop's edges, in the opposite order
 abbrev pub run_back : LoopContent → LoopContent

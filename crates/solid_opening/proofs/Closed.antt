@@ -3,8 +3,8 @@ use Rattle.std.proofs.Common.{◌≡◌, ℕ, List, [], ◌∷◌, ◌++◌, ref
 use Rattle.boundary_model.specs.Model.{Model}
 use Rattle.euler_operators.specs.declared.Op.TheVariants.{Part}
 use Rattle.euler_laws.specs.Laws.{AreAccepted, effects}
-use Rattle.split_shapes.specs.Opening as shape
-use Rattle.split_shapes.specs.Opening.{outer_caps}
+use Rattle.shapes.specs.split.Opening as shape
+use Rattle.shapes.specs.split.Opening.{outer_caps}
 use Rattle.split_laws.specs.SplitOps.{hole_ops, upper_left}
 use Rattle.solid_opening.specs.declared.caps.Caps.{Caps}
 use Rattle.solid_opening.specs.Capped.{caps_of, all_caps}

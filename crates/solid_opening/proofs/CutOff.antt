@@ -9,11 +9,11 @@ use Rattle.euler_operators.specs.Effect.{effect}
 use Rattle.euler_laws.specs.Laws.{effects}
 use Rattle.euler_laws.proofs.Runs.{effects-append}
 use Rattle.shapes.specs.Fresh.{Taken}
-use Rattle.strip_laws.specs.Strips.{strips_cut}
-use Rattle.strip_laws.specs.StripOps.{cut_strip, strip_ops}
-use Rattle.strip_laws.proofs.Cycle as on
-use Rattle.strip_laws.proofs.Strip.{cut_half, strip_accepted}
-use Rattle.strip_laws.proofs.Whole.{strips_go, part_sound}
+use Rattle.split_opening_laws.specs.strips.Strips.{strips_cut}
+use Rattle.split_opening_laws.specs.strips.StripOps.{cut_strip, strip_ops}
+use Rattle.split_opening_laws.proofs.strips.Cycle as on
+use Rattle.split_opening_laws.proofs.strips.Strip.{cut_half, strip_accepted}
+use Rattle.split_opening_laws.proofs.strips.Whole.{strips_go, part_sound}
 use Rattle.solid_opening.specs.Stages.{CanOpen}
 use Rattle.solid_opening.proofs.Items.{one_on}
 

@@ -7,11 +7,11 @@ use Rattle.boundary_model.specs.Model.{Model}
 use Rattle.euler_laws.specs.Laws.{AreAccepted, effects}
 use Rattle.euler_laws.proofs.Runs.{effects-append}
 use Rattle.shapes.specs.Fresh.{Taken}
-use Rattle.strip_laws.specs.StripOps.{strip_ops, copy_ops}
-use Rattle.strip_laws.proofs.Cycle.{two_halves}
-use Rattle.cap_laws.specs.CapOps.{cap_ops}
-use Rattle.opening_laws.specs.OpeningOps.{opening_ops}
-use Rattle.opening_laws.proofs.Whole.{opening_accepted}
+use Rattle.split_opening_laws.specs.strips.StripOps.{strip_ops, copy_ops}
+use Rattle.split_opening_laws.proofs.strips.Cycle.{two_halves}
+use Rattle.split_opening_laws.specs.caps.CapOps.{cap_ops}
+use Rattle.split_opening_laws.specs.opening.OpeningOps.{opening_ops}
+use Rattle.split_opening_laws.proofs.opening.Whole.{opening_accepted}
 use Rattle.solid_opening.specs.Stages.{CanOpen, AreStripped}
 use Rattle.solid_opening.proofs.CutOff.{so_far}
 use Rattle.solid_opening.proofs.Raised.{read_before}

@@ -10,8 +10,8 @@ use Rattle.boundary_model.specs.Model.{Model, tail, point_of, after}
 use Rattle.boundary_model.proofs.Halves.{half-code}
 use Rattle.euler_operators.specs.declared.Op.TheVariants.{Mev, Mef}
 use Rattle.shapes.specs.Fresh.{Taken}
-use Rattle.strip_laws.specs.StripOps.{cut_strip, place_before, raise_copy}
-use Rattle.strip_laws.proofs.Cycle.{before_below}
+use Rattle.split_opening_laws.specs.strips.StripOps.{cut_strip, place_before, raise_copy}
+use Rattle.split_opening_laws.proofs.strips.Cycle.{before_below}
 
 -- the half-edge at a place
 pub item_is : (hs : List HalfEdge) (i : ℕ) (d : HalfEdge) → i < length hs → code (slice_index_or hs i d) ≡ get_or (map code hs) i 0

@@ -9,7 +9,7 @@ use Rattle.euler_operators.specs.Conditions.{first_false}
 use Rattle.euler_operators.specs.Effect.{effect}
 use Rattle.euler_laws.specs.Laws.{AreAccepted, effects}
 use Rattle.shapes.specs.Fresh.{Taken, numbers_after}
-use Rattle.cap_laws.specs.CapOps.{joinings, partings, cap_ops}
+use Rattle.split_opening_laws.specs.caps.CapOps.{joinings, partings, cap_ops}
 use Rattle.solid_opening.proofs.Taken.{first_part, Remaining, some_taken}
 
 -- the edges after k up to the last go

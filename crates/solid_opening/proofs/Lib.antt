@@ -8,5 +8,5 @@ mod Turns
 mod Closed
 pub use Rattle.split_laws.proofs.Openings
 pub use Rattle.split_laws.proofs.Whole
-pub use Rattle.split_laws.proofs.Drawn
-pub use Rattle.split_laws.proofs.Solids
+pub use Rattle.split_laws.proofs.drawn.Drawn
+pub use Rattle.split_laws.proofs.drawn.Solids

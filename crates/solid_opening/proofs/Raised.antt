@@ -17,16 +17,16 @@ use Rattle.euler_laws.specs.Laws.{effects}
 use Rattle.euler_laws.proofs.Runs.{effects-append}
 use Rattle.shapes.specs.Fresh.{Taken, numbers_after}
 use Rattle.shapes.specs.Rewriting.{renamed}
-use Rattle.opened_sections.proofs.Pairs.{in_numbers}
-use Rattle.opened_sections.proofs.StillFree.{copied_other}
-use Rattle.strip_laws.specs.Strips.{riser, copied, strips_cut, copies_raised}
-use Rattle.strip_laws.specs.StripOps.{place_before, raise_copy, copy_ops}
-use Rattle.strip_laws.specs.Opened.{CanBeOpened}
-use Rattle.strip_laws.proofs.Cycle as on
-use Rattle.strip_laws.proofs.Strip.{cut_tail}
-use Rattle.copy_laws.proofs.Copies.{copy_accepted}
-use Rattle.copy_laws.proofs.Raised.{old_half, old_tail, raised_vertices}
-use Rattle.copy_laws.proofs.Raising.{copies_go, part_sound}
+use Rattle.split_opening_laws.proofs.sections.Pairs.{in_numbers}
+use Rattle.split_opening_laws.proofs.sections.StillFree.{copied_other}
+use Rattle.split_opening_laws.specs.strips.Strips.{riser, copied, strips_cut, copies_raised}
+use Rattle.split_opening_laws.specs.strips.StripOps.{place_before, raise_copy, copy_ops}
+use Rattle.split_opening_laws.specs.strips.Opened.{CanBeOpened}
+use Rattle.split_opening_laws.proofs.strips.Cycle as on
+use Rattle.split_opening_laws.proofs.strips.Strip.{cut_tail}
+use Rattle.split_opening_laws.proofs.copies.Copies.{copy_accepted}
+use Rattle.split_opening_laws.proofs.copies.Raised.{old_half, old_tail, raised_vertices}
+use Rattle.split_opening_laws.proofs.copies.Raising.{copies_go, part_sound}
 use Rattle.solid_opening.specs.Stages.{AreStripped}
 use Rattle.solid_opening.proofs.Items.{one_on}
 

@@ -7,12 +7,12 @@ use Rattle.boundary_model.specs.declared.HalfEdge.{HalfEdge}
 use Rattle.boundary_model.specs.HalfEdge.{code}
 use Rattle.boundary_model.specs.Model.{Model}
 use Rattle.euler_laws.specs.Laws.{effects}
-use Rattle.split_shapes.specs.Section.{is_hole}
-use Rattle.split_shapes.specs.Opening.{Opening, opened_along, next_opened, all_opened}
-use Rattle.opened_sections.specs.InTurn.{CanBeOpenedInTurn}
-use Rattle.opened_sections.proofs.InTurn.{others_on}
-use Rattle.opening_laws.specs.OpeningOps.{opening_ops}
-use Rattle.opening_laws.proofs.Whole.{opening_made}
+use Rattle.shapes.specs.split.Section.{is_hole}
+use Rattle.shapes.specs.split.Opening.{Opening, opened_along, next_opened, all_opened}
+use Rattle.split_opening_laws.specs.sections.InTurn.{CanBeOpenedInTurn}
+use Rattle.split_opening_laws.proofs.sections.InTurn.{others_on}
+use Rattle.split_opening_laws.specs.opening.OpeningOps.{opening_ops}
+use Rattle.split_opening_laws.proofs.opening.Whole.{opening_made}
 use Rattle.split_laws.proofs.Openings.{can_open, openings_sound}
 use Rattle.split_laws.proofs.Flags.{flags_are}
 use Rattle.cut_places.proofs.Lists.{others, parts}

@@ -2,7 +2,7 @@
 use Rattle.std.specs.Prelude.{ℕ, List, [], map}
 use Rattle.lattice.specs.declared.Plane.{Plane}
 use Rattle.boundary_model.specs.Model.{Model}
-use Rattle.split_shapes.specs.Opening.{Caps, Opening, all_opened}
+use Rattle.shapes.specs.split.Opening.{Caps, Opening, all_opened}
 use Rattle.face_drawing.specs.Codes.{taken_of}
 use Rattle.face_drawing.specs.declared.progress.Progress.{Progress}
 use Rattle.section_checks.specs.Sections.{cycles_of}

@@ -2,5 +2,5 @@ pub mod Capped
 pub mod Stages
 pub mod Closing
 pub use Rattle.split_laws.specs.SplitOps
-pub use Rattle.split_laws.specs.Kept
-pub use Rattle.opened_sections.specs.InTurn
+pub use Rattle.split_laws.specs.drawn.Kept
+pub use Rattle.split_opening_laws.specs.sections.InTurn

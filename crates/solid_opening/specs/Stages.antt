@@ -2,8 +2,8 @@
 use Rattle.std.specs.Prelude.{◌≡◌, ℕ, List, length}
 use Rattle.boundary_model.specs.Model.{Model}
 use Rattle.shapes.specs.Fresh.{Taken}
-use Rattle.strip_laws.specs.Strips.{strips_cut}
-use Rattle.strip_laws.specs.Opened.{CanBeOpened}
+use Rattle.split_opening_laws.specs.strips.Strips.{strips_cut}
+use Rattle.split_opening_laws.specs.strips.Opened.{CanBeOpened}
 
 -- solid s can be opened along the cycle bs
 abbrev pub CanOpen : Model → ℕ → Taken → List ℕ → Type 0

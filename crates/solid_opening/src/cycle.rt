@@ -3,7 +3,7 @@ ghost use Rattle.std.specs.Prelude.{◌≡◌, ◌≤◌, ◌+◌, ◌*◌, OnOk
 ghost use Rattle.boundary_model.specs.HalfEdge.{code};
 ghost use Rattle.euler_laws.specs.Laws.{effects};
 ghost use Rattle.face_drawing.specs.Codes.{taken_of};
-ghost use Rattle.opening_laws.specs.OpeningOps.{opening_ops};
+ghost use Rattle.split_opening_laws.specs.opening.OpeningOps.{opening_ops};
 ghost use Rattle.solid_opening.specs.Stages.{CanOpen};
 
 use crate::caps::Caps;

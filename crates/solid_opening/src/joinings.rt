@@ -2,7 +2,7 @@
 ghost use Rattle.std.specs.Prelude.{◌≡◌, ◌≤◌, ◌+◌, ◌-◌, ◌*◌, OnOk};
 ghost use Rattle.euler_laws.specs.Laws.{AreAccepted, effects};
 ghost use Rattle.face_drawing.specs.Codes.{taken_of};
-ghost use Rattle.cap_laws.specs.CapOps.{cap_ops, joinings};
+ghost use Rattle.split_opening_laws.specs.caps.CapOps.{cap_ops, joinings};
 
 use euler_conditions::Op;
 use face_drawing::Progress;

@@ -1,7 +1,7 @@
 //! A solid opened along the cycles of its section.
 ghost use Rattle.std.specs.Prelude.{◌≡◌, map, IfOk};
-ghost use Rattle.split_shapes.specs.Section.{is_hole};
-ghost use Rattle.opened_sections.specs.InTurn.{CanBeOpenedInTurn};
+ghost use Rattle.shapes.specs.split.Section.{is_hole};
+ghost use Rattle.split_opening_laws.specs.sections.InTurn.{CanBeOpenedInTurn};
 ghost use Rattle.section_checks.specs.Sections.{cycles_of, hole_flags};
 ghost use Rattle.solid_opening.specs.Capped.{all_caps, opened_section, unopened};
 

@@ -2,7 +2,7 @@
 ghost use Rattle.std.specs.Prelude.{◌≡◌, ◌∷◌, ◌++◌, [], OnOk, IfOk};
 ghost use Rattle.euler_laws.specs.Laws.{AreAccepted, effects};
 ghost use Rattle.euler_operators.specs.declared.Op.TheVariants.{Kfmrh, Part};
-ghost use Rattle.split_shapes.specs.Opening.{outer_caps};
+ghost use Rattle.shapes.specs.split.Opening.{outer_caps};
 ghost use Rattle.split_laws.specs.SplitOps.{hole_ops, upper_left};
 ghost use Rattle.solid_opening.specs.Capped.{all_caps, caps_of};
 ghost use Rattle.solid_opening.specs.Closing.{holes_ops, outer_uppers};

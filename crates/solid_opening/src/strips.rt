@@ -6,7 +6,7 @@ ghost use Rattle.euler_laws.specs.Laws.{effects};
 ghost use Rattle.euler_operators.specs.Conditions.{first_false};
 ghost use Rattle.undo_journal.specs.Machine.{draft_step};
 ghost use Rattle.face_drawing.specs.Codes.{taken_of};
-ghost use Rattle.strip_laws.specs.StripOps as ops;
+ghost use Rattle.split_opening_laws.specs.strips.StripOps as ops;
 ghost use Rattle.solid_opening.specs.Stages.{CanOpen};
 
 use crate::halves::next_item;

@@ -11,8 +11,8 @@ use Rattle.boundary_model.specs.Sound.{Sound, HasHalf}
 use Rattle.boundary_model.proofs.Models.{in-holds}
 use Rattle.euler_conditions.specs.Store.{IsNextRing}
 use Rattle.euler_operators.specs.Conditions.{lists, strictly_rises}
-use Rattle.euler_laws_shared.proofs.Listed.{listed_passes, passes_listed, all_where-rises}
-use Rattle.euler_laws_shared.proofs.Loops.{some_row}
+use Rattle.euler_laws.proofs.shared.Listed.{listed_passes, passes_listed, all_where-rises}
+use Rattle.euler_laws.proofs.shared.Loops.{some_row}
 use Rattle.euler_conditions.proofs.Borders.{ring_there}
 use Rattle.euler_conditions.proofs.Parallel.{steps, steps_are, length_below}
 use Rattle.shapes.specs.Faces.{items_in, loops_of}

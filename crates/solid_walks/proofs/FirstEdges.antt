@@ -9,10 +9,10 @@ use Rattle.boundary_model.proofs.Halves.{plus_row, minus_row, same_edge}
 use Rattle.boundary_model.proofs.Models.{tail_row}
 use Rattle.euler_operators.specs.Conditions.{lists, strictly_rises}
 use Rattle.euler_operators.specs.Effect.{head_or_zero}
-use Rattle.euler_laws_shared.proofs.Arcs.{halves_of_edge}
-use Rattle.euler_laws_shared.proofs.Listed.{first_listed, listed_cases, listed_passes, passes_listed, all_where-rises}
-use Rattle.euler_laws_shared.proofs.Loops.{some_row}
-use Rattle.euler_laws_shared.proofs.Goes.{equal, equals, differs}
+use Rattle.euler_laws.proofs.shared.Arcs.{halves_of_edge}
+use Rattle.euler_laws.proofs.shared.Listed.{first_listed, listed_cases, listed_passes, passes_listed, all_where-rises}
+use Rattle.euler_laws.proofs.shared.Loops.{some_row}
+use Rattle.euler_laws.proofs.shared.Goes.{equal, equals, differs}
 use Rattle.euler_conditions.proofs.Parallel.{first_where_least}
 use Rattle.euler_conditions.proofs.Rising.{above_first}
 use Rattle.solid_walks.specs.Walks.{first_edge, leads}

@@ -4,7 +4,7 @@ use Rattle.std.proofs.lemmas.Bool.Decides.{nat_tests, eqb_tells}
 use Rattle.cyclic_list.specs.Items.{count, tick, IsIn}
 use Rattle.cyclic_list.proofs.Lists.{tick_same, tick_other}
 use Rattle.euler_operators.specs.Conditions.{lists, strictly_rises}
-use Rattle.euler_laws_shared.proofs.Listed.{first_listed, rest_listed, listed_cases}
+use Rattle.euler_laws.proofs.shared.Listed.{first_listed, rest_listed, listed_cases}
 use Rattle.euler_conditions.proofs.Rising.{rest_rises, above_first}
 
 abbrev pub up_to : ℕ → List ℕ → List ℕ

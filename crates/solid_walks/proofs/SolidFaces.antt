@@ -10,9 +10,9 @@ use Rattle.boundary_model.specs.Model.{Model, FaceRow, no_face, outer, face_of, 
 use Rattle.boundary_model.specs.Sound.{Sound, Has}
 use Rattle.euler_conditions.specs.Store.{IsNextFace, is_face_of}
 use Rattle.euler_operators.specs.Conditions.{lists, strictly_rises}
-use Rattle.euler_laws_shared.proofs.Listed.{first_listed, rest_listed, listed_cases, listed_passes, passes_listed, all_where-rises}
-use Rattle.euler_laws_shared.proofs.Loops.{some_row}
-use Rattle.euler_laws_shared.proofs.Goes.{equal, equals}
+use Rattle.euler_laws.proofs.shared.Listed.{first_listed, rest_listed, listed_cases, listed_passes, passes_listed, all_where-rises}
+use Rattle.euler_laws.proofs.shared.Loops.{some_row}
+use Rattle.euler_laws.proofs.shared.Goes.{equal, equals}
 use Rattle.euler_conditions.proofs.Borders.{ring_there, outer_or_ring, ring_number}
 use Rattle.euler_conditions.proofs.Parallel.{length_below}
 use Rattle.shapes.specs.Faces.{loops_of}

@@ -12,7 +12,7 @@ use Rattle.boundary_model.specs.Model.{Model, items_of, content, cycle_of, loop_
 use Rattle.boundary_model.specs.Sound.{Sound, HasHalf}
 use Rattle.boundary_model.proofs.Halves.{edge_of-code, mate-mate}
 use Rattle.boundary_model.proofs.Models.{in-holds, cycle_there, cycle_sound}
-use Rattle.euler_laws_shared.proofs.Fans.{Fan, fan_of, half_mate, loop_after}
+use Rattle.euler_laws.proofs.shared.Fans.{Fan, fan_of, half_mate, loop_after}
 use Rattle.euler_conditions.proofs.Parallel.{steps, length_below}
 use Rattle.solid_walks.specs.Walks.{leads}
 use Rattle.solid_walks.proofs.Rounds.{half_below}

@@ -3,7 +3,7 @@ use Rattle.std.proofs.Common.{◌≡◌, ℕ, Bool, true, false, not, ◌||◌, 
 use Rattle.std.specs.List.{list_all}
 use Rattle.lattice.specs.declared.Plane.{Plane}
 use Rattle.boundary_model.specs.Model.{Model}
-use Rattle.split_shapes.specs.Places.{places, some_meet, sorted, in_pairs, sorted_pairs, is_up_and_down, is_crossed}
+use Rattle.shapes.specs.split.Places.{places, some_meet, sorted, in_pairs, sorted_pairs, is_up_and_down, is_crossed}
 
 module _ (M : Model) (p : Plane) (f : ℕ) where
   pub crossed_by : (hs : List ℕ) → hs ≡ places M p f → some_meet M p hs ≡ true → true ≡ is_crossed M p f

@@ -4,7 +4,7 @@ use Rattle.std.specs.List.{list_all}
 use Rattle.lattice.specs.declared.Plane.{Plane}
 use Rattle.boundary_model.specs.Model.{Model, outer, rings_of}
 use Rattle.shapes.specs.Faces.{loops_of}
-use Rattle.split_shapes.specs.Places.{loop_is_cut, is_cut_often, places}
+use Rattle.shapes.specs.split.Places.{loop_is_cut, is_cut_often, places}
 
 module _ (M : Model) (p : Plane) (f : ℕ) where
   pub outer_is_cut : (l : ℕ) (b : Bool) → l ≡ outer M f → b ≡ loop_is_cut M p l → b ≡ true → loop_is_cut M p (outer M f) ≡ true

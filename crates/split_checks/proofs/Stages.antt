@@ -12,13 +12,13 @@ use Rattle.boundary_model.specs.Model.{Model, faces_of}
 use Rattle.euler_operators.specs.Conditions.{Condition, need, first_refusal, verdict}
 use Rattle.euler_operators.specs.declared.Why.TheVariants.{PlaneMisses, NotLattice, NumbersSpent}
 use Rattle.euler_operators.specs.declared.Refusal.{Refusal}
-use Rattle.euler_laws_shared.proofs.Goes.{all_hold}
-use Rattle.fresh_laws.proofs.Tests.{first_refusal-append, first_refusal-refused}
+use Rattle.euler_laws.proofs.shared.Goes.{all_hold}
+use Rattle.shapes.proofs.fresh.Tests.{first_refusal-append, first_refusal-refused}
 use Rattle.shapes.specs.Fresh.{Taken, taken_in, numbers_left, first_such}
 use Rattle.solid_checks.specs.Least.{found}
-use Rattle.split_shapes.specs.Places.{pair_count}
-use Rattle.split_shapes.specs.Sides.{reaches_above, reaches_below, straddling_faces, crossing_edges}
-use Rattle.split_shapes.specs.Split.{plane_in_range, first_conditions}
+use Rattle.shapes.specs.split.Places.{pair_count}
+use Rattle.shapes.specs.split.Sides.{reaches_above, reaches_below, straddling_faces, crossing_edges}
+use Rattle.shapes.specs.split.Split.{plane_in_range, first_conditions}
 use Rattle.split_checks.specs.Conditions.{number_conditions, solid_conditions, edge_conditions, face_conditions, sectioning_conditions}
 use Rattle.cut_places.specs.Crossings.{is_off}
 

@@ -9,10 +9,10 @@ use Rattle.euler_operators.specs.declared.Why.TheVariants.{NoSolid, SolidTaken, 
 use Rattle.shapes.specs.Faces.{least_lone}
 use Rattle.shapes.specs.Fresh.{no_such, first_such}
 use Rattle.solid_measure.specs.Measure.{is_flat}
-use Rattle.split_shapes.specs.Sides.{reaches_above, reaches_below}
-use Rattle.split_shapes.specs.Places.{is_touched, is_cut_often, is_crossed}
-use Rattle.split_shapes.specs.Split.{cut_conditions}
-use Rattle.split_shapes.specs.Sides.{crossing_edges, straddling_faces}
+use Rattle.shapes.specs.split.Sides.{reaches_above, reaches_below}
+use Rattle.shapes.specs.split.Places.{is_touched, is_cut_often, is_crossed}
+use Rattle.shapes.specs.split.Split.{cut_conditions}
+use Rattle.shapes.specs.split.Sides.{crossing_edges, straddling_faces}
 use Rattle.cut_places.specs.Crossings.{is_off}
 
 -- the solid is there, and the other number is free

@@ -2,7 +2,7 @@
 use Rattle.std.specs.Prelude.{ℕ, Bool}
 use Rattle.lattice.specs.declared.Plane.{Plane}
 use Rattle.boundary_model.specs.Model.{Model}
-use Rattle.split_shapes.specs.Places.{is_touched, is_cut_often, is_crossed}
+use Rattle.shapes.specs.split.Places.{is_touched, is_cut_often, is_crossed}
 use Rattle.split_checks.specs.declared.crossed.Flaw.{Flaw}
 use Rattle.split_checks.specs.declared.crossed.Flaw.TheVariants.{Touched, CutOften, Crossed}
 

@@ -7,8 +7,8 @@ ghost use Rattle.euler_operators.specs.Conditions.{first_refusal, verdict};
 ghost use Rattle.lattice.specs.Ranges.{IsCutPlane};
 ghost use Rattle.split_checks.specs.Conditions.{face_conditions, number_conditions, sectioning_conditions, solid_conditions};
 ghost use Rattle.cut_places.specs.Places.{AreWholeFaces};
-ghost use Rattle.split_shapes.specs.Sides.{reaches_above, reaches_below};
-ghost use Rattle.split_shapes.specs.Split.{first_conditions};
+ghost use Rattle.shapes.specs.split.Sides.{reaches_above, reaches_below};
+ghost use Rattle.shapes.specs.split.Split.{first_conditions};
 
 use crate::crossed::{Flaw, first_flawed, pair_count};
 use crate::crossings::least_off;

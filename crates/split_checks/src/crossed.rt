@@ -8,7 +8,7 @@ ghost use Rattle.solid_checks.specs.Least.{found};
 ghost use Rattle.split_checks.specs.Flaws.{has_flaw};
 ghost use Rattle.cut_places.specs.Places.{AreWholeFaces, IsWholeFace};
 ghost use Rattle.cut_places.specs.Walks.{AreIn};
-ghost use Rattle.split_shapes.specs.Places.{is_crossed, pair_count};
+ghost use Rattle.shapes.specs.split.Places.{is_crossed, pair_count};
 
 use crate::faces::{is_cut_often, is_touched};
 use crate::numbers::TOO_MANY;

@@ -7,7 +7,7 @@ ghost use Rattle.euler_conditions.specs.Store.{has_number};
 ghost use Rattle.lattice.specs.Ranges.{IsCutPlane};
 ghost use Rattle.cut_places.specs.Walks.{AreIn, AreThere};
 ghost use Rattle.cut_places.specs.Places.{some_touch};
-ghost use Rattle.split_shapes.specs.Places.{is_cut_often, is_place, is_touched, loop_is_cut};
+ghost use Rattle.shapes.specs.split.Places.{is_cut_often, is_place, is_touched, loop_is_cut};
 
 use cut_places::{boundary, is_place, loop_items, places, touches};
 use euler_conditions::{Arena, HalfEdge, Kind};

@@ -3,7 +3,7 @@ ghost use Rattle.std.specs.Prelude.{◌≡◌, not};
 ghost use Rattle.euler_operators.specs.Conditions.{first_refusal, verdict};
 ghost use Rattle.lattice.specs.Point.{is_coordinate};
 ghost use Rattle.lattice.specs.Vectors.{direction, is_offset, origin, same_point};
-ghost use Rattle.split_shapes.specs.Split.{plane_in_range};
+ghost use Rattle.shapes.specs.split.Split.{plane_in_range};
 
 use crate::numbers::refused;
 use euler_conditions::{Refusal, Why};

@@ -11,13 +11,13 @@ use Rattle.boundary_model.specs.Sound.{Sound, Has, HasHalf}
 use Rattle.euler_operators.specs.Conditions.{face_at, lists}
 use Rattle.euler_operators.specs.declared.Op.TheVariants.{Kfmrh}
 use Rattle.euler_operators.specs.Effect.{effect, kfmrh}
-use Rattle.euler_laws_shared.proofs.Fans.{half_mate}
-use Rattle.euler_laws_shared.proofs.Loops.{IsLoop, loop_sound}
-use Rattle.euler_laws_shared.proofs.Rings.{SameRings, half_back, loop-rings}
-use Rattle.euler_laws_faces.proofs.Kfmrh.{KillGoes, sound-kfmrh, kill_same, kill_face_l, kill_face_else, l_face, g_gone, kill_solid, kill_outer, kfmrh_accepted}
-use Rattle.split_shapes.specs.Opening.{Caps}
-use Rattle.drawing_laws.proofs.Runs.{Leads, leads_one}
-use Rattle.opened_sections.specs.Capped.{IsPlain, ArePlain, cap_faces}
+use Rattle.euler_laws.proofs.shared.Fans.{half_mate}
+use Rattle.euler_laws.proofs.shared.Loops.{IsLoop, loop_sound}
+use Rattle.euler_laws.proofs.shared.Rings.{SameRings, half_back, loop-rings}
+use Rattle.euler_laws.proofs.faces.Kfmrh.{KillGoes, sound-kfmrh, kill_same, kill_face_l, kill_face_else, l_face, g_gone, kill_solid, kill_outer, kfmrh_accepted}
+use Rattle.shapes.specs.split.Opening.{Caps}
+use Rattle.split_drawing_laws.proofs.drawings.Runs.{Leads, leads_one}
+use Rattle.split_opening_laws.specs.sections.Capped.{IsPlain, ArePlain, cap_faces}
 
 -- what parting those of the faces us that are there asks for, but for a face on either side
 pub record CanPart (N : Model) (s : ℕ) (us : List ℕ) : Type 0 where

@@ -12,20 +12,20 @@ use Rattle.boundary_model.specs.Table as table
 use Rattle.boundary_model.specs.Model.{Model, tail, point_of, no_point}
 use Rattle.boundary_model.specs.Sound.{Sound, Has, HasHalf}
 use Rattle.boundary_model.proofs.Halves.{mate-mate}
-use Rattle.euler_laws_shared.proofs.Fans.{half_mate}
+use Rattle.euler_laws.proofs.shared.Fans.{half_mate}
 use Rattle.shapes.specs.Faces.{start, finish}
 use Rattle.shapes.specs.Fresh.{Taken, numbers_after}
-use Rattle.measure_shapes.specs.Measure.{area}
-use Rattle.split_shapes.specs.Section.{is_hole, has_stray_hole, holes_in}
-use Rattle.split_shapes.specs.Opening.{Caps, Opening, opened_along, next_opened, all_opened}
-use Rattle.section_laws.specs.SectionCycles.{IsSectionCycle, AreSectionCycles}
-use Rattle.opened_sections.specs.InTurn.{AreFree, CanBeOpenedInTurn}
-use Rattle.opened_sections.proofs.Pairs.{in_numbers}
-use Rattle.opened_sections.proofs.Rims.{at_most}
-use Rattle.opened_sections.proofs.OpenedRows.{vertices_are}
-use Rattle.opened_sections.proofs.StillFree.{copied_other}
-use Rattle.opened_sections.proofs.CyclesStay.{start_same, end_same, starts_elsewhere}
-use Rattle.opened_sections.proofs.InTurn.{others_on}
+use Rattle.shapes.specs.Measure.{area}
+use Rattle.shapes.specs.split.Section.{is_hole, has_stray_hole, holes_in}
+use Rattle.shapes.specs.split.Opening.{Caps, Opening, opened_along, next_opened, all_opened}
+use Rattle.split_opening_laws.specs.cycles.SectionCycles.{IsSectionCycle, AreSectionCycles}
+use Rattle.split_opening_laws.specs.sections.InTurn.{AreFree, CanBeOpenedInTurn}
+use Rattle.split_opening_laws.proofs.sections.Pairs.{in_numbers}
+use Rattle.split_opening_laws.proofs.sections.Rims.{at_most}
+use Rattle.split_opening_laws.proofs.sections.OpenedRows.{vertices_are}
+use Rattle.split_opening_laws.proofs.sections.StillFree.{copied_other}
+use Rattle.split_opening_laws.proofs.sections.CyclesStay.{start_same, end_same, starts_elsewhere}
+use Rattle.split_opening_laws.proofs.sections.InTurn.{others_on}
 use Rattle.split_laws.proofs.Openings.{openings_sound}
 
 -- ---- one opening

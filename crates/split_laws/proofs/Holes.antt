@@ -11,10 +11,10 @@ use Rattle.euler_operators.specs.Conditions.{lists}
 use Rattle.euler_operators.specs.declared.Op.{Op}
 use Rattle.euler_operators.specs.declared.Op.TheVariants.{Kfmrh}
 use Rattle.euler_operators.specs.Effect.{kfmrh}
-use Rattle.euler_laws_faces.proofs.Kfmrh.{KillGoes, g_gone, kill_solid}
-use Rattle.split_shapes.specs.Opening.{Caps, outer_caps, hole_closed}
-use Rattle.drawing_laws.proofs.Runs.{Leads, leads_none, leads_on}
-use Rattle.opened_sections.specs.Capped.{IsPlain, ArePlain, cap_faces}
+use Rattle.euler_laws.proofs.faces.Kfmrh.{KillGoes, g_gone, kill_solid}
+use Rattle.shapes.specs.split.Opening.{Caps, outer_caps, hole_closed}
+use Rattle.split_drawing_laws.proofs.drawings.Runs.{Leads, leads_none, leads_on}
+use Rattle.split_opening_laws.specs.sections.Capped.{IsPlain, ArePlain, cap_faces}
 use Rattle.split_laws.specs.SplitOps.{closing_ops}
 use Rattle.split_laws.proofs.Closing.{CanPart, solids_kept, row_kept, kill_leads, face_stays, part_stays, plain_stays, plains_stay}
 

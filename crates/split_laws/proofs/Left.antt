@@ -7,9 +7,9 @@ use Rattle.boundary_model.specs.Table as table
 use Rattle.boundary_model.specs.Model.{Model}
 use Rattle.boundary_model.specs.Sound.{Has}
 use Rattle.euler_operators.specs.declared.Op.{Op}
-use Rattle.split_shapes.specs.Opening.{Caps}
-use Rattle.opened_sections.specs.Capped.{ArePlain, cap_faces}
-use Rattle.opened_sections.specs.InTurn.{upper_faces}
+use Rattle.shapes.specs.split.Opening.{Caps}
+use Rattle.split_opening_laws.specs.sections.Capped.{ArePlain, cap_faces}
+use Rattle.split_opening_laws.specs.sections.InTurn.{upper_faces}
 use Rattle.split_laws.specs.SplitOps.{upper_left}
 use Rattle.split_laws.proofs.Holes.{AreClosed}
 use Rattle.split_laws.proofs.Parting.{still_there}

@@ -1,3 +1,4 @@
+pub mod drawn
 pub mod Openings
 pub mod Closing
 pub mod Holes
@@ -6,5 +7,7 @@ pub mod Left
 pub mod Flags
 pub mod OldFaces
 pub mod Whole
-pub use Rattle.drawn_splits.proofs.Drawn
-pub use Rattle.drawn_splits.proofs.Solids
+pub mod opened
+pub mod volumes
+pub mod sides
+pub mod measures

@@ -8,13 +8,13 @@ use Rattle.boundary_model.specs.Table as table
 use Rattle.boundary_model.specs.Model.{Model}
 use Rattle.boundary_model.specs.Sound.{Has}
 use Rattle.shapes.specs.Fresh.{Taken}
-use Rattle.split_shapes.specs.Section.{is_hole}
-use Rattle.split_shapes.specs.Opening.{Caps, Opening, opened_along, next_opened, all_opened}
-use Rattle.opened_sections.specs.Capped.{cap_faces}
-use Rattle.opened_sections.specs.InTurn.{CanBeOpenedInTurn}
-use Rattle.opened_sections.proofs.Rims.{at_most, other_number}
-use Rattle.opened_sections.proofs.OpenedRows.{face_still}
-use Rattle.opened_sections.proofs.InTurn.{others_on}
+use Rattle.shapes.specs.split.Section.{is_hole}
+use Rattle.shapes.specs.split.Opening.{Caps, Opening, opened_along, next_opened, all_opened}
+use Rattle.split_opening_laws.specs.sections.Capped.{cap_faces}
+use Rattle.split_opening_laws.specs.sections.InTurn.{CanBeOpenedInTurn}
+use Rattle.split_opening_laws.proofs.sections.Rims.{at_most, other_number}
+use Rattle.split_opening_laws.proofs.sections.OpenedRows.{face_still}
+use Rattle.split_opening_laws.proofs.sections.InTurn.{others_on}
 use Rattle.split_laws.proofs.Openings.{openings_sound}
 
 -- face f has its row of M, and is none of the caps

@@ -2,14 +2,14 @@
 use Rattle.std.proofs.Common.{◌≡◌, ℕ, ◌+◌, List, [], ◌∷◌, length, refl, ◌∙◌, arith, length-append}
 use Rattle.lattice.specs.declared.Plane.{Plane}
 use Rattle.boundary_model.specs.Sound.{Sound}
-use Rattle.split_shapes.specs.Opening.{Opening, opened_along, next_opened, all_opened}
-use Rattle.drawing_laws.proofs.Runs.{Leads, leads_none, leads_on}
-use Rattle.section_laws.specs.SectionCycles.{IsSectionCycle}
-use Rattle.opened_sections.specs.InTurn.{AreLeft, halves_in, CanBeOpenedInTurn}
-use Rattle.opened_sections.proofs.InTurn.{above_there, others_on}
-use Rattle.strip_laws.specs.Opened.{CanBeOpened}
-use Rattle.opening_laws.specs.OpeningOps.{opening_ops}
-use Rattle.opening_laws.proofs.Whole.{opening_accepted, opening_made, opened_sound}
+use Rattle.shapes.specs.split.Opening.{Opening, opened_along, next_opened, all_opened}
+use Rattle.split_drawing_laws.proofs.drawings.Runs.{Leads, leads_none, leads_on}
+use Rattle.split_opening_laws.specs.cycles.SectionCycles.{IsSectionCycle}
+use Rattle.split_opening_laws.specs.sections.InTurn.{AreLeft, halves_in, CanBeOpenedInTurn}
+use Rattle.split_opening_laws.proofs.sections.InTurn.{above_there, others_on}
+use Rattle.split_opening_laws.specs.strips.Opened.{CanBeOpened}
+use Rattle.split_opening_laws.specs.opening.OpeningOps.{opening_ops}
+use Rattle.split_opening_laws.proofs.opening.Whole.{opening_accepted, opening_made, opened_sound}
 use Rattle.split_laws.specs.SplitOps.{openings_ops}
 
 -- what can be opened along some cycles in turn can be opened along the first

@@ -11,11 +11,11 @@ use Rattle.boundary_model.proofs.Models.{row_of}
 use Rattle.euler_operators.specs.declared.Op.TheVariants.{Part}
 use Rattle.euler_operators.specs.Conditions.{face_at, lists, strictly_rises}
 use Rattle.euler_operators.specs.Effect.{effect, part, faces_to_solid}
-use Rattle.euler_laws_shared.proofs.Fans.{half_mate}
-use Rattle.euler_laws_shared.proofs.Listed.{first_listed, rest_listed, listed_cases}
-use Rattle.euler_laws_merge.proofs.Part.{PartGoes, part_accepted}
-use Rattle.drawing_laws.proofs.Runs.{Leads, leads_one}
-use Rattle.section_laws.proofs.RisingLists.{filter_rises}
+use Rattle.euler_laws.proofs.shared.Fans.{half_mate}
+use Rattle.euler_laws.proofs.shared.Listed.{first_listed, rest_listed, listed_cases}
+use Rattle.euler_laws.proofs.merge.Part.{PartGoes, part_accepted}
+use Rattle.split_drawing_laws.proofs.drawings.Runs.{Leads, leads_one}
+use Rattle.split_opening_laws.proofs.cycles.RisingLists.{filter_rises}
 use Rattle.split_laws.proofs.Closing.{CanPart}
 
 -- those of some faces that are there

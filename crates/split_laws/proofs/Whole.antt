@@ -14,21 +14,21 @@ use Rattle.euler_operators.specs.declared.Op.TheVariants.{Part}
 use Rattle.euler_operators.specs.Effect.{part}
 use Rattle.euler_laws.specs.Laws.{AreAccepted, effects}
 use Rattle.euler_laws.proofs.Runs.{effects_keep_sound}
-use Rattle.euler_laws_shared.proofs.Fans.{half_mate}
+use Rattle.euler_laws.proofs.shared.Fans.{half_mate}
 use Rattle.solid_walks.proofs.Rising.{none_counted, counted_once, in_listed}
-use Rattle.split_shapes.specs.Sides.{faces_above}
-use Rattle.split_shapes.specs.Drawing.{Drawing, with_drawings}
-use Rattle.split_shapes.specs.Section.{below_halves, section_cycles}
-use Rattle.split_shapes.specs.Opening.{Caps, Opening, all_opened, outer_caps, hole_closed, holes_closed}
-use Rattle.split_shapes.specs.Split.{split_above, split_refusal, split_model}
-use Rattle.crossing_laws.proofs.Listed.{listed_in}
-use Rattle.cut_pairs.specs.Laws.{rewriting_ops}
-use Rattle.cut_pairs.proofs.Whole.{rewritings_accepted, rewritings_made}
-use Rattle.drawing_laws.proofs.Runs.{Leads, leads_on}
-use Rattle.opened_sections.specs.Capped.{HasCaps, cap_faces}
-use Rattle.opened_sections.specs.InTurn.{upper_faces, CanBeOpenedInTurn}
-use Rattle.opened_sections.proofs.InTurn.{all_on}
-use Rattle.opened_sections.proofs.Capping.{caps_rise}
+use Rattle.shapes.specs.split.Sides.{faces_above}
+use Rattle.shapes.specs.split.Drawing.{Drawing, with_drawings}
+use Rattle.shapes.specs.split.Section.{below_halves, section_cycles}
+use Rattle.shapes.specs.split.Opening.{Caps, Opening, all_opened, outer_caps, hole_closed, holes_closed}
+use Rattle.shapes.specs.split.Split.{split_above, split_refusal, split_model}
+use Rattle.split_drawing_laws.proofs.crossings.Listed.{listed_in}
+use Rattle.split_drawing_laws.specs.pairs.Laws.{rewriting_ops}
+use Rattle.split_drawing_laws.proofs.pairs.Whole.{rewritings_accepted, rewritings_made}
+use Rattle.split_drawing_laws.proofs.drawings.Runs.{Leads, leads_on}
+use Rattle.split_opening_laws.specs.sections.Capped.{HasCaps, cap_faces}
+use Rattle.split_opening_laws.specs.sections.InTurn.{upper_faces, CanBeOpenedInTurn}
+use Rattle.split_opening_laws.proofs.sections.InTurn.{all_on}
+use Rattle.split_opening_laws.proofs.sections.Capping.{caps_rise}
 use Rattle.split_laws.specs.SplitOps.{openings_ops, closing_ops, hole_ops, upper_left, upper_ops, ops_above, split_ops}
 use Rattle.split_laws.proofs.Openings.{openings_sound, openings_go}
 use Rattle.split_laws.proofs.Closing.{CanPart}
@@ -36,9 +36,9 @@ use Rattle.split_laws.proofs.Holes.{AreLevel, CanClose, AreClosed, none_closed, 
 use Rattle.split_laws.proofs.Parting.{still_there, BothSides, part_leads}
 use Rattle.split_laws.proofs.Left.{left_are}
 use Rattle.split_laws.proofs.Flags.{flags_are, some_outer}
-use Rattle.drawn_splits.specs.Kept.{HasFace}
-use Rattle.drawn_splits.proofs.Drawn.{begins, t_fits, no_stray, t_free, above_facts, can_open_all, no_caps}
-use Rattle.drawn_splits.proofs.BothSides.{some_above, some_below}
+use Rattle.split_laws.specs.drawn.Kept.{HasFace}
+use Rattle.split_laws.proofs.drawn.Drawn.{begins, t_fits, no_stray, t_free, above_facts, can_open_all, no_caps}
+use Rattle.split_laws.proofs.drawn.BothSides.{some_above, some_below}
 use Rattle.split_laws.proofs.OldFaces.{IsOld, all_old, solids_still}
 
 -- ---- which of the caps are listed

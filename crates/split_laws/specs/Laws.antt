@@ -4,9 +4,9 @@ use Rattle.lattice.specs.declared.Plane.{Plane}
 use Rattle.boundary_model.specs.Model.{Model}
 use Rattle.boundary_model.specs.Sound.{Sound}
 use Rattle.euler_laws.specs.Laws.{AreAccepted, effects}
-use Rattle.split_shapes.specs.Opening.{Opening, all_opened}
-use Rattle.split_shapes.specs.Split.{split_refusal, split_model}
-use Rattle.opened_sections.specs.InTurn.{CanBeOpenedInTurn}
+use Rattle.shapes.specs.split.Opening.{Opening, all_opened}
+use Rattle.shapes.specs.split.Split.{split_refusal, split_model}
+use Rattle.split_opening_laws.specs.sections.InTurn.{CanBeOpenedInTurn}
 use Rattle.split_laws.specs.SplitOps.{openings_ops, split_ops}
 
 -- each operator that opens a solid along the cycles of its section is accepted in its turn

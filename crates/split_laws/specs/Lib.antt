@@ -1,3 +1,7 @@
+pub mod drawn
 pub mod SplitOps
 pub mod Laws
-pub use Rattle.drawn_splits.specs.Kept
+pub mod opened
+pub mod volumes
+pub mod sides
+pub mod measures

@@ -4,13 +4,13 @@ use Rattle.lattice.specs.declared.Plane.{Plane}
 use Rattle.boundary_model.specs.Model.{Model}
 use Rattle.euler_operators.specs.declared.Op.{Op}
 use Rattle.euler_operators.specs.declared.Op.TheVariants.{Kfmrh, Part}
-use Rattle.split_shapes.specs.Sides.{faces_above}
-use Rattle.split_shapes.specs.Section.{below_halves, section_cycles}
-use Rattle.split_shapes.specs.Drawing.{Drawing, with_drawings}
-use Rattle.split_shapes.specs.Opening.{Caps, Opening, next_opened, outer_caps}
-use Rattle.split_shapes.specs.Split.{opened_at}
-use Rattle.cut_pairs.specs.Laws.{rewriting_ops}
-use Rattle.opening_laws.specs.OpeningOps.{opening_ops}
+use Rattle.shapes.specs.split.Sides.{faces_above}
+use Rattle.shapes.specs.split.Section.{below_halves, section_cycles}
+use Rattle.shapes.specs.split.Drawing.{Drawing, with_drawings}
+use Rattle.shapes.specs.split.Opening.{Caps, Opening, next_opened, outer_caps}
+use Rattle.shapes.specs.split.Split.{opened_at}
+use Rattle.split_drawing_laws.specs.pairs.Laws.{rewriting_ops}
+use Rattle.split_opening_laws.specs.opening.OpeningOps.{opening_ops}
 
 -- solid s opened along some cycles, in their order
 abbrev pub openings_ops : List ℕ → ℕ → Plane → Opening → List (List ℕ) → List Op

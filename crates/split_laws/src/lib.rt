@@ -1,8 +1,25 @@
-//! The laws of splits: a solid split by a plane operator by operator. The functions do nothing: their contracts are what is proved,
-//! over every sound model and every split that isn't refused.
+//! The laws of splits: a solid split by a plane operator by operator, the six volumes of its two parts, and the sides on which they
+//! lie. The functions do nothing: their contracts are what is proved, over every sound model and every split that isn't refused.
 #![tactic(auto)]
 
+ghost use Rattle.split_laws.specs.drawn.Laws.{DrawingsKeepSolids, SolidsHaveAFaceAbove, SolidsHaveAFaceBelow, SectionsOpenInTurn};
 ghost use Rattle.split_laws.specs.Laws.{OpeningsAreAccepted, OpeningsAreMade, SplitsAreAccepted, SplitsMakeSplit, SplitAreSound};
+ghost use Rattle.split_laws.specs.opened.Laws.{OpeningKeepsVolumes, OpeningsKeepVolumes, CapsLieAlong};
+ghost use Rattle.split_laws.specs.volumes.Laws.{PartSharesVolumes, PartKeepsOthers, ClosingKeepsVolumes, SplitSharesVolumes, SplitKeepsOthers};
+ghost use Rattle.split_laws.specs.sides.Laws.{FacesAreSided, OpeningsKeepSides, PartsLieOnTheirSides};
+ghost use Rattle.split_laws.specs.measures.Laws.{SplitsCanBeSplit, SplitsShareVolumes, SplitsKeepOthers, PartsLieOnEitherSide};
+
+/// Edges cut and faces drawn: each half-edge stays in its solid, and the solid that is split has a face above and one that isn't.
+pub fn solids_reach_both_sides()
+    ensures kept { DrawingsKeepSolids }
+    ensures above { SolidsHaveAFaceAbove }
+    ensures below { SolidsHaveAFaceBelow }
+{}
+
+/// The solid can then be opened along the cycles of its section, one after the other.
+pub fn sections_can_be_opened()
+    ensures in_turn { SectionsOpenInTurn }
+{}
 
 /// A solid that can be opened along the cycles of its section in turn: none of the operators is refused, and they leave it open
 /// along all of them.
@@ -16,4 +33,55 @@ pub fn splits_make_split()
     ensures accepted { SplitsAreAccepted }
     ensures made { SplitsMakeSplit }
     ensures sound { SplitAreSound }
+{}
+
+/// A solid opened along a cycle on a plane keeps its six volumes: the two caps lie on the plane and face each other, so together they
+/// add nothing. All other solids keep theirs. So it is with all cycles of a section, one after the other.
+pub fn openings_keep_volumes()
+    ensures one { OpeningKeepsVolumes }
+    ensures all { OpeningsKeepVolumes }
+    ensures caps { CapsLieAlong }
+{}
+
+/// Some faces of a solid parted from it as a new solid: the two share its six volumes, and all other solids keep theirs.
+pub fn parting_shares_volumes()
+    ensures two { PartSharesVolumes }
+    ensures others { PartKeepsOthers }
+{}
+
+/// The caps of holes made rings of the outer cycle's caps: they lie on one plane, so what they add to the six volumes stays.
+pub fn closed_holes_keep_volumes()
+    ensures all { ClosingKeepsVolumes }
+{}
+
+/// A solid opened along all cycles of its section, its holes closed, and its upper faces parted from it: the two parts share its six
+/// volumes, and all other solids keep theirs.
+pub fn splits_share_volumes()
+    ensures two { SplitSharesVolumes }
+    ensures others { SplitKeepsOthers }
+{}
+
+/// Where no face of a solid straddles the plane, its faces above lie on or above it and the others on or below it. So do the two parts
+/// of the solid then: copies lie where their vertices do, and the corners of the caps lie on the plane.
+pub fn parts_lie_on_their_sides()
+    ensures drawn { FacesAreSided }
+    ensures opened { OpeningsKeepSides }
+    ensures parts { PartsLieOnTheirSides }
+{}
+
+/// A split that isn't refused: once edges are cut and faces drawn, the solid can be opened along its section, all of which lies on the
+/// plane, each face of it tells the same from all its corners, no hole is stray, and the new solid's number is free.
+pub fn splits_can_be_split()
+    ensures all { SplitsCanBeSplit }
+{}
+
+/// So the two parts of the solid share its six volumes, and all other solids keep theirs.
+pub fn parts_share_volumes()
+    ensures two { SplitsShareVolumes }
+    ensures others { SplitsKeepOthers }
+{}
+
+/// And the solid that keeps its number lies on or below the plane, the new one on or above it.
+pub fn parts_lie_on_either_side()
+    ensures sides { PartsLieOnEitherSide }
 {}

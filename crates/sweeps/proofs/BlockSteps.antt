@@ -11,8 +11,8 @@ use Rattle.shapes.specs.Fresh.{taken_in}
 use Rattle.shapes.specs.Lamina.{lamina_refusal, lamina_model, lamina_face}
 use Rattle.shapes.specs.Prism.{prism_refusal, prism_model}
 use Rattle.shapes.specs.Block.{vector, base_of, block_refusal, block_model}
-use Rattle.lamina_laws.proofs.Walk.{lamina_goes}
-use Rattle.lamina_laws.proofs.Blocks.{blocks_have_bases, bases_rise}
+use Rattle.sweeps_laws.proofs.lamina.Walk.{lamina_goes}
+use Rattle.sweeps_laws.proofs.lamina.Blocks.{blocks_have_bases, bases_rise}
 use Rattle.sweeps.specs.Counters.{taken_of}
 use Rattle.sweeps.specs.declared.fresh.Counters.{Counters}
 

@@ -14,9 +14,9 @@ use Rattle.euler_operators.specs.Conditions.{first_false, verdict}
 use Rattle.euler_operators.specs.Effect.{effect}
 use Rattle.shapes.specs.Fresh.{Taken, taken_in}
 use Rattle.shapes.specs.Lamina.{lamina_refusal, lamina_at, lamina_model}
-use Rattle.lamina_laws.specs.Path.{path_at, first_half, second_half, first_point, end_corner, next_point, last_edge}
-use Rattle.lamina_laws.proofs.Steps.{Goes, first_accepted, first_made}
-use Rattle.lamina_laws.proofs.Walk.{lamina_goes, next_accepted, next_made, path_sound, close_accepted, close_made}
+use Rattle.sweeps_laws.specs.lamina.Path.{path_at, first_half, second_half, first_point, end_corner, next_point, last_edge}
+use Rattle.sweeps_laws.proofs.lamina.Steps.{Goes, first_accepted, first_made}
+use Rattle.sweeps_laws.proofs.lamina.Walk.{lamina_goes, next_accepted, next_made, path_sound, close_accepted, close_made}
 use Rattle.sweeps.specs.Counters.{taken_of}
 use Rattle.sweeps.specs.declared.fresh.Counters.{Counters}
 

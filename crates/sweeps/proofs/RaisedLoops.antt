@@ -8,9 +8,9 @@ use Rattle.euler_laws.specs.Laws.{effects}
 use Rattle.shapes.specs.Faces.{loops_of}
 use Rattle.shapes.specs.Fresh.{Taken, taken_in}
 use Rattle.shapes.specs.Prism.{prism_from, prism_model}
-use Rattle.prism_laws.specs.SweepOps.{loop_ops, taken_after}
-use Rattle.prism_laws.proofs.Sides.{Ready}
-use Rattle.prism_laws.proofs.Whole.{Going, turn_ready, turn_next, turn_model}
+use Rattle.sweeps_laws.specs.prism.SweepOps.{loop_ops, taken_after}
+use Rattle.sweeps_laws.proofs.prism.Sides.{Ready}
+use Rattle.sweeps_laws.proofs.prism.Whole.{Going, turn_ready, turn_next, turn_model}
 
 -- the first of a list, and the rest
 abbrev pub first : List ℕ → ℕ

@@ -7,7 +7,7 @@ ghost use Rattle.euler_operators.specs.Conditions.{verdict};
 ghost use Rattle.euler_conditions.specs.Ready.{IsReady};
 ghost use Rattle.euler_operators.specs.declared.Refusal.{Refusal};
 ghost use Rattle.undo_journal.specs.Machine.{held, accepted};
-ghost use Rattle.lamina_laws.specs.Path as path;
+ghost use Rattle.sweeps_laws.specs.lamina.Path as path;
 ghost use Rattle.shapes.specs.Lamina.{lamina_refusal, lamina_model};
 ghost use Rattle.shapes.specs.Lamina as spec;
 

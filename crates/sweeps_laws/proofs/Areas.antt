@@ -5,9 +5,9 @@ use Rattle.cyclic_list.specs.Items.{IsIn}
 use Rattle.cyclic_list.proofs.Lists.{tick_same}
 use Rattle.boundary_model.specs.Model.{Model}
 use Rattle.shapes.specs.Faces.{start, finish}
-use Rattle.measure_shapes.specs.Measure.{area, normal, anchor, volume_in}
-use Rattle.vector_laws.proofs.Vectors.{moved_none, none_moved, moved_twice, add_none, none_add, add_assoc}
-use Rattle.vector_laws.proofs.Sweeps.{sum_to, sum_first}
+use Rattle.shapes.specs.Measure.{area, normal, anchor, volume_in}
+use Rattle.lattice.proofs.Vectors.{moved_none, none_moved, moved_twice, add_none, none_add, add_assoc}
+use Rattle.lattice.proofs.Sweeps.{sum_to, sum_first}
 
 -- the first of a list stands in it, and what stands in the rest does
 pub first_in : (x : ℕ) (xs : List ℕ) → IsIn x (x ∷ xs)

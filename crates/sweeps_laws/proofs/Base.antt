@@ -15,13 +15,13 @@ use Rattle.euler_operators.specs.Conditions.{is_lone, lists}
 use Rattle.shapes.specs.Faces.{start, finish, least_lone, items_in}
 use Rattle.shapes.specs.Fresh.{Taken, numbers_after}
 use Rattle.shapes.specs.Lamina.{with_path, with_points, lamina_at}
-use Rattle.measure_shapes.specs.Measure.{area, normal, anchor, first_vertex, volume_in, six_volume}
-use Rattle.fresh_laws.proofs.Rows.{get-put_here, get-put_other, get-put_cases, all_where-put_last, greatest-put_last}
-use Rattle.lamina_laws.proofs.Lists.{plus_halves, minus_halves, back_apart, first_moved, canonical_first}
-use Rattle.vector_laws.proofs.Rectangles.{ring_area}
-use Rattle.swept_loops.proofs.Numbers.{mate_plus, mate_minus, tail_plus, tail_minus}
-use Rattle.swept_loops.proofs.Kept.{in_cases}
-use Rattle.swept_loops.proofs.Lifted.{Bounded, outer_row}
+use Rattle.shapes.specs.Measure.{area, normal, anchor, first_vertex, volume_in, six_volume}
+use Rattle.shapes.proofs.fresh.Rows.{get-put_here, get-put_other, get-put_cases, all_where-put_last, greatest-put_last}
+use Rattle.sweeps_laws.proofs.lamina.Lists.{plus_halves, minus_halves, back_apart, first_moved, canonical_first}
+use Rattle.lattice.proofs.Rectangles.{ring_area}
+use Rattle.sweeps_laws.proofs.swept.Numbers.{mate_plus, mate_minus, tail_plus, tail_minus}
+use Rattle.sweeps_laws.proofs.swept.Kept.{in_cases}
+use Rattle.sweeps_laws.proofs.swept.Lifted.{Bounded, outer_row}
 use Rattle.sweeps_laws.proofs.Loops.{normal_is}
 use Rattle.sweeps_laws.proofs.Volumes.{six_volume_is}
 

@@ -12,16 +12,16 @@ use Rattle.boundary_model.specs.Table as table
 use Rattle.boundary_model.specs.Model.{Model, faces_of}
 use Rattle.boundary_model.specs.Sound.{Sound}
 use Rattle.boundary_model.proofs.Tables.{all_where_none}
-use Rattle.euler_laws_shared.proofs.Goes.{all_hold, none_refuses, not_true}
+use Rattle.euler_laws.proofs.shared.Goes.{all_hold, none_refuses, not_true}
 use Rattle.shapes.specs.Fresh.{taken_in}
 use Rattle.shapes.specs.Lamina.{first_far, first_repeated, lamina_conditions, lamina_refusal, lamina_at, lamina_model}
 use Rattle.shapes.specs.Prism.{prism_model}
 use Rattle.shapes.specs.Block.{vector, base_of, block_conditions, block_refusal, block_model}
-use Rattle.measure_shapes.specs.Measure.{six_volume}
-use Rattle.lamina_laws.proofs.Walk.{lamina_is_sound}
-use Rattle.vector_laws.proofs.Vectors.{add_none, none_add}
-use Rattle.vector_laws.proofs.Rectangles.{second_corner, third_corner, fourth_corner, rectangle_flat, rectangle_raised}
-use Rattle.swept_loops.proofs.Numbers.{and_left, and_right}
+use Rattle.shapes.specs.Measure.{six_volume}
+use Rattle.sweeps_laws.proofs.lamina.Walk.{lamina_is_sound}
+use Rattle.lattice.proofs.Vectors.{add_none, none_add}
+use Rattle.lattice.proofs.Rectangles.{second_corner, third_corner, fourth_corner, rectangle_flat, rectangle_raised}
+use Rattle.sweeps_laws.proofs.swept.Numbers.{and_left, and_right}
 use Rattle.sweeps_laws.proofs.FromSound.{sound_bounded, face_adds}
 use Rattle.sweeps_laws.proofs.Base.{base, found_solid, solid_one, there_one, none_lone, normal_one, base_volume}
 

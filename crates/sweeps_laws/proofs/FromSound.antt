@@ -13,16 +13,16 @@ use Rattle.boundary_model.specs.Sound.{Sound, Has, HasHalf}
 use Rattle.boundary_model.proofs.Tables.{zero_first_where}
 use Rattle.boundary_model.proofs.Models.{content_row, face_row, in-holds}
 use Rattle.euler_operators.specs.Conditions.{is_lone, lists}
-use Rattle.euler_laws_shared.proofs.Goes.{all_hold, equal, no_zero}
-use Rattle.euler_laws_shared.proofs.Listed.{listed_cases, listed_passes, all_where-rises}
-use Rattle.euler_laws_shared.proofs.Loops.{some_row, loop_sound, IsLoop}
+use Rattle.euler_laws.proofs.shared.Goes.{all_hold, equal, no_zero}
+use Rattle.euler_laws.proofs.shared.Listed.{listed_cases, listed_passes, all_where-rises}
+use Rattle.euler_laws.proofs.shared.Loops.{some_row, loop_sound, IsLoop}
 use Rattle.shapes.specs.Faces.{least_lone}
 use Rattle.shapes.specs.Fresh.{taken_in}
 use Rattle.shapes.specs.Prism.{next_place, prism_conditions, prism_refusal, prism_model}
-use Rattle.measure_shapes.specs.Measure.{normal, six_volume}
-use Rattle.fresh_laws.proofs.Rows.{at_most_greatest}
-use Rattle.swept_loops.proofs.Numbers.{next_cases}
-use Rattle.swept_loops.proofs.Lifted.{Bounded, IsPathOf}
+use Rattle.shapes.specs.Measure.{normal, six_volume}
+use Rattle.shapes.proofs.fresh.Rows.{at_most_greatest}
+use Rattle.sweeps_laws.proofs.swept.Numbers.{next_cases}
+use Rattle.sweeps_laws.proofs.swept.Lifted.{Bounded, IsPathOf}
 use Rattle.sweeps_laws.proofs.Loops.{head_is}
 use Rattle.sweeps_laws.proofs.Whole.{Paths, paths_add}
 

@@ -1,3 +1,6 @@
+pub mod lamina
+pub mod prism
+pub mod swept
 mod Areas
 mod Loops
 mod Volumes

@@ -9,18 +9,18 @@ use Rattle.boundary_model.specs.HalfEdge.{edge_of, plus, minus}
 use Rattle.boundary_model.specs.Table as table
 use Rattle.boundary_model.specs.Model.{Model, LoopContent, lone, cycle, items_of, tail, content, outer, point_of, rings_of}
 use Rattle.euler_operators.specs.Conditions.{lists, strictly_rises}
-use Rattle.euler_laws_shared.proofs.Listed.{first_listed, rest_listed, listed_cases, listed_passes}
+use Rattle.euler_laws.proofs.shared.Listed.{first_listed, rest_listed, listed_cases, listed_passes}
 use Rattle.shapes.specs.Faces.{start, finish, loops_of, items_in, boundary}
 use Rattle.shapes.specs.Fresh.{Taken}
 use Rattle.shapes.specs.Prism.{riser, top_edge, top_items, next_place}
-use Rattle.measure_shapes.specs.Measure.{area, normal, anchor, first_vertex, volume_in}
-use Rattle.fresh_laws.proofs.Rows.{at_most_greatest}
-use Rattle.vector_laws.proofs.Vectors.{dot_moved, add_assoc}
-use Rattle.vector_laws.proofs.Sweeps.{sum_to, moved_at, area_at, moved_ring, side_area, side_volume, Linked}
-use Rattle.swept_loops.proofs.Numbers.{next_cases, mate_plus, mate_minus, and_none, and_right}
+use Rattle.shapes.specs.Measure.{area, normal, anchor, first_vertex, volume_in}
+use Rattle.shapes.proofs.fresh.Rows.{at_most_greatest}
+use Rattle.lattice.proofs.Vectors.{dot_moved, add_assoc}
+use Rattle.lattice.proofs.Sweeps.{sum_to, moved_at, area_at, moved_ring, side_area, side_volume, Linked}
+use Rattle.sweeps_laws.proofs.swept.Numbers.{next_cases, mate_plus, mate_minus, and_none, and_right}
 use Rattle.sweeps_laws.proofs.Areas.{first_in, area_append, area_last, area_sum, same_area, volume_of}
-use Rattle.swept_loops.proofs.Sides.{Keeps, start_kept, finish_kept}
-use Rattle.swept_loops.proofs.Lifted.{Bounded, IsPathOf, swept, keeps_swept, outer_new, content_here, content_old, content_new, outer_old, rings_old, rings_new, from_point, to_point, riser_start, riser_finish, top_start, top_finish, next_start, next_finish, item_start, item_finish}
+use Rattle.sweeps_laws.proofs.swept.Sides.{Keeps, start_kept, finish_kept}
+use Rattle.sweeps_laws.proofs.swept.Lifted.{Bounded, IsPathOf, swept, keeps_swept, outer_new, content_here, content_old, content_new, outer_old, rings_old, rings_new, from_point, to_point, riser_start, riser_finish, top_start, top_finish, next_start, next_finish, item_start, item_finish}
 
 -- the normal of a face, over its outer loop and its rings
 pub normal_is : (M : Model) (k : ℕ) → normal M k ≡ area M (items_in M (outer M k ∷ rings_of M k))

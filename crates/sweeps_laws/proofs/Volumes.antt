@@ -7,17 +7,17 @@ use Rattle.boundary_model.specs.Table as table
 use Rattle.boundary_model.specs.Model.{Model, FaceRow, face_of, outer, solid_of, faces_of}
 use Rattle.boundary_model.specs.Sound.{Has}
 use Rattle.euler_operators.specs.Conditions.{lists}
-use Rattle.euler_laws_shared.proofs.Listed.{listed_passes, all_where-rises, passes_listed}
-use Rattle.euler_laws_shared.proofs.Rows.{face_there}
+use Rattle.euler_laws.proofs.shared.Listed.{listed_passes, all_where-rises, passes_listed}
+use Rattle.euler_laws.proofs.shared.Rows.{face_there}
 use Rattle.shapes.specs.Fresh.{Taken}
-use Rattle.measure_shapes.specs.Measure.{area, normal, volume_in, six_volume}
-use Rattle.fresh_laws.proofs.Rows.{at_most_greatest}
-use Rattle.vector_laws.proofs.Vectors.{add_none, add_assoc}
-use Rattle.vector_laws.proofs.Sweeps.{total_to, same_total, area_at, sides_volume}
-use Rattle.swept_loops.proofs.Filled.{filled, filled_search}
+use Rattle.shapes.specs.Measure.{area, normal, volume_in, six_volume}
+use Rattle.shapes.proofs.fresh.Rows.{at_most_greatest}
+use Rattle.lattice.proofs.Vectors.{add_none, add_assoc}
+use Rattle.lattice.proofs.Sweeps.{total_to, same_total, area_at, sides_volume}
+use Rattle.sweeps_laws.proofs.swept.Filled.{filled, filled_search}
 use Rattle.sweeps_laws.proofs.Areas.{area_sum, volume_of, volume_last}
-use Rattle.swept_loops.proofs.Sides.{side_face, faces_grown}
-use Rattle.swept_loops.proofs.Lifted.{Bounded, IsPathOf, swept}
+use Rattle.sweeps_laws.proofs.swept.Sides.{side_face, faces_grown}
+use Rattle.sweeps_laws.proofs.swept.Lifted.{Bounded, IsPathOf, swept}
 use Rattle.sweeps_laws.proofs.Loops.{side_is, faces_kept, faces_moved, from_at, to_at}
 
 pub six_volume_is : (M : Model) (s : ℕ) → six_volume M s ≡ volume_in M (faces_of M s)

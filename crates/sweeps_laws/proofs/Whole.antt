@@ -6,17 +6,17 @@ use Rattle.lattice.specs.Vectors.{origin, dot}
 use Rattle.boundary_model.specs.Model.{Model, items_of, content, outer, solid_of, rings_of}
 use Rattle.boundary_model.specs.Sound.{Has}
 use Rattle.euler_operators.specs.Conditions.{lists, strictly_rises}
-use Rattle.euler_laws_shared.proofs.Listed.{first_listed, rest_listed}
+use Rattle.euler_laws.proofs.shared.Listed.{first_listed, rest_listed}
 use Rattle.shapes.specs.Faces.{items_in, loops_of}
 use Rattle.shapes.specs.Fresh.{Taken, Growing, growing, taken_in}
 use Rattle.shapes.specs.Prism.{raised, prism_from, prism_model}
-use Rattle.measure_shapes.specs.Measure.{area, normal, six_volume}
-use Rattle.vector_laws.proofs.Vectors.{dot_moved, dot_origin, dot_turned, twice_sum, three_times, add_none, add_assoc}
+use Rattle.shapes.specs.Measure.{area, normal, six_volume}
+use Rattle.lattice.proofs.Vectors.{dot_moved, dot_origin, dot_turned, twice_sum, three_times, add_none, add_assoc}
 use Rattle.sweeps_laws.proofs.Areas.{area_append}
-use Rattle.swept_loops.proofs.Lifted.{Bounded, IsPathOf, swept, within}
+use Rattle.sweeps_laws.proofs.swept.Lifted.{Bounded, IsPathOf, swept, within}
 use Rattle.sweeps_laws.proofs.Loops.{normal_is, past_first, loops_area, rest_up}
 use Rattle.sweeps_laws.proofs.Volumes.{ring_adds, outer_adds}
-use Rattle.swept_loops.proofs.Kept.{counted, bounded_after, there_after, solid_after, outer_after, path_after}
+use Rattle.sweeps_laws.proofs.swept.Kept.{counted, bounded_after, there_after, solid_after, outer_after, path_after}
 
 -- each listed loop is a closed path of face f
 abbrev pub Paths : Model → ℕ → List ℕ → Type 0

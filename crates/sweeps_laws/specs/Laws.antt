@@ -6,7 +6,7 @@ use Rattle.boundary_model.specs.Model.{Model, solid_of}
 use Rattle.boundary_model.specs.Sound.{Sound}
 use Rattle.shapes.specs.Prism.{prism_refusal, prism_model}
 use Rattle.shapes.specs.Block.{block_refusal, block_model}
-use Rattle.measure_shapes.specs.Measure.{normal, six_volume}
+use Rattle.shapes.specs.Measure.{normal, six_volume}
 
 -- three times the normal of the face before, along the vector
 abbrev pub SweepAdds : Type 0

@@ -1,8 +1,30 @@
-//! The laws of volumes under sweeps. Each function does nothing: its contract is what is proved, over every sound model
-//! in which the command's conditions hold.
+//! The laws of laminas and sweeps, operator by operator, and of volumes under sweeps. Each function does nothing: its contract is what
+//! is proved, over every sound model in which the command's conditions hold.
 #![tactic(auto)]
 
+ghost use Rattle.sweeps_laws.specs.lamina.Laws.{OperatorsAreAccepted, OperatorsMakeLamina, LaminaIsSound, BlocksHaveBases, BasesRise};
+ghost use Rattle.sweeps_laws.specs.prism.Laws.{SweepsAreAccepted, SweepsMakePrisms, PrismsAreSound};
 ghost use Rattle.sweeps_laws.specs.Laws.{SweepAdds, BlockMeasures};
+
+/// No operator of a lamina is refused, together they make it, and the model with it is sound.
+pub fn operators_make_lamina()
+    ensures accepted { OperatorsAreAccepted }
+    ensures made { OperatorsMakeLamina }
+    ensures sound { LaminaIsSound }
+{}
+
+/// Where a block can be made, so can the lamina of its base, and then the lamina's first face can be swept up.
+pub fn blocks_rise_from_bases()
+    ensures base { BlocksHaveBases }
+    ensures rise { BasesRise }
+{}
+
+/// A sweep that isn't refused: none of its operators is, they make the prism, and the prism is a sound model.
+pub fn sweeps_make_prisms()
+    ensures accepted { SweepsAreAccepted }
+    ensures made { SweepsMakePrisms }
+    ensures sound { PrismsAreSound }
+{}
 
 /// A sweep adds to the six volumes of the face's solid three times the normal of the face before, along the vector: six
 /// times the volume of the prism. The face may have rings, and it needn't be flat.

@@ -8,7 +8,7 @@ use Rattle.euler_conditions.specs.Store.{Store, empty_store, HasGrown}
 use Rattle.euler_operators.specs.declared.Op.{Op}
 use Rattle.euler_operators.specs.Conditions.{first_false}
 use Rattle.euler_operators.specs.Effect.{effect, inverse}
-use Rattle.euler_laws_shared.proofs.Empty.{empty_sound}
+use Rattle.euler_laws.proofs.shared.Empty.{empty_sound}
 use Rattle.euler_laws.specs.Laws.{effects, AreAccepted}
 use Rattle.euler_laws.proofs.Cases.{inverse_goes, inverse_undoes}
 use Rattle.euler_laws.proofs.Runs.{effects-append, AreAccepted-append}

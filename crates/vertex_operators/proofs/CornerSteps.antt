@@ -11,8 +11,8 @@ use Rattle.boundary_model.specs.Sound.{Sound, HasHalf}
 use Rattle.boundary_model.proofs.Halves.{mate_other, edge_of-code}
 use Rattle.euler_operators.specs.declared.Op.TheVariants.{Mev}
 use Rattle.euler_operators.specs.Effect.{effect, mev_at}
-use Rattle.euler_laws_mev.proofs.MevSound.{MevGoes}
-use Rattle.euler_laws_mev.proofs.Mev.{mev_goes}
+use Rattle.euler_laws.proofs.mev.MevSound.{MevGoes}
+use Rattle.euler_laws.proofs.mev.Mev.{mev_goes}
 use Rattle.euler_conditions.specs.Store.{Store, put_vertex}
 use Rattle.euler_conditions.specs.Ready.{Accepts, after}
 use Rattle.vertex_operators.specs.Steps.{IsPlaced, HasLoop, IsAlone, with_edge, put_before, with_tails_at}

@@ -8,9 +8,9 @@ use Rattle.boundary_model.specs.Model.{Model, lone, content}
 use Rattle.boundary_model.specs.Sound.{Sound}
 use Rattle.euler_operators.specs.declared.Op.TheVariants.{Mev}
 use Rattle.euler_operators.specs.Conditions.{first_false, conditions, lone_vertex}
-use Rattle.euler_laws_shared.proofs.Goes.{all_hold, equal}
-use Rattle.euler_laws_mev.proofs.Mev.{mixed_first, mixed_second}
-use Rattle.euler_laws_shared.proofs.Rows.{lone_is}
+use Rattle.euler_laws.proofs.shared.Goes.{all_hold, equal}
+use Rattle.euler_laws.proofs.mev.Mev.{mixed_first, mixed_second}
+use Rattle.euler_laws.proofs.shared.Rows.{lone_is}
 use Rattle.euler_conditions.specs.Store.{Store}
 use Rattle.euler_conditions.specs.Ready.{Accepts, after}
 

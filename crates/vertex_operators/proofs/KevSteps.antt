@@ -19,15 +19,15 @@ use Rattle.boundary_model.proofs.Halves.{mate_other, mate-mate, edge_of-code}
 use Rattle.boundary_model.proofs.Models.{in-holds, holds-none, cycle_there, row_of}
 use Rattle.euler_operators.specs.declared.Op.TheVariants.{Kev}
 use Rattle.euler_operators.specs.Effect.{effect, kev, cycle_or_lone}
-use Rattle.euler_laws_shared.proofs.Fans.{Fan, half_after, half_mate, loop_after}
-use Rattle.euler_laws_shared.proofs.Loops.{apart_out}
-use Rattle.euler_laws_shared.proofs.Arcs.{arc_is}
-use Rattle.euler_laws_shared.proofs.Undo.{same_loops, same_edges, taken_out as taken_ring}
-use Rattle.euler_laws_kev.proofs.KevSound.{KevGoes, fan_killed, m_in, none_in, touched, emptied, lone_new, new_h, half_cases, half_old, tail_old, edge_gone, edge_mapped, not_m}
-use Rattle.euler_laws_shared.proofs.Rows.{was_empty}
-use Rattle.euler_laws_kev.proofs.KevSound as kill
-use Rattle.euler_laws_shared.proofs.Same.{mapped_some}
-use Rattle.euler_laws_kev.proofs.Kev.{kev_goes}
+use Rattle.euler_laws.proofs.shared.Fans.{Fan, half_after, half_mate, loop_after}
+use Rattle.euler_laws.proofs.shared.Loops.{apart_out}
+use Rattle.euler_laws.proofs.shared.Arcs.{arc_is}
+use Rattle.euler_laws.proofs.shared.Undo.{same_loops, same_edges, taken_out as taken_ring}
+use Rattle.euler_laws.proofs.kev.KevSound.{KevGoes, fan_killed, m_in, none_in, touched, emptied, lone_new, new_h, half_cases, half_old, tail_old, edge_gone, edge_mapped, not_m}
+use Rattle.euler_laws.proofs.shared.Rows.{was_empty}
+use Rattle.euler_laws.proofs.kev.KevSound as kill
+use Rattle.euler_laws.proofs.shared.Same.{mapped_some}
+use Rattle.euler_laws.proofs.kev.Kev.{kev_goes}
 use Rattle.euler_conditions.specs.Store.{Store, take_edge, take_vertex, with_lone}
 use Rattle.euler_conditions.specs.Ready.{Accepts, after as after_op}
 use Rattle.vertex_operators.specs.Steps.{IsPlaced, HasLoop, taken_out, with_tails_at}

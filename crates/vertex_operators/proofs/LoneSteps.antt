@@ -19,10 +19,10 @@ use Rattle.boundary_model.proofs.Models.{holds_in, in-holds}
 use Rattle.euler_operators.specs.declared.Op.TheVariants.{Mev}
 use Rattle.euler_operators.specs.Conditions.{lone_vertex, is_lone}
 use Rattle.euler_operators.specs.Effect.{effect, mev_lone}
-use Rattle.euler_laws_shared.proofs.Goes.{equals}
-use Rattle.euler_laws_shared.proofs.Loops.{loop_at}
-use Rattle.euler_laws_mev.proofs.MevLoneSound.{LoneGoes}
-use Rattle.euler_laws_mev.proofs.Mev.{lone_goes}
+use Rattle.euler_laws.proofs.shared.Goes.{equals}
+use Rattle.euler_laws.proofs.shared.Loops.{loop_at}
+use Rattle.euler_laws.proofs.mev.MevLoneSound.{LoneGoes}
+use Rattle.euler_laws.proofs.mev.Mev.{lone_goes}
 use Rattle.euler_conditions.specs.Store.{Store, put_vertex, fill, with_loop, join, join_loose, join_loops, loose_key, loose_ring}
 use Rattle.euler_conditions.specs.Ready.{Accepts, after}
 use Rattle.vertex_operators.proofs.PutRows.{put_twice, put_row, put_other}

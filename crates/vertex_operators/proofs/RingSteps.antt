@@ -7,7 +7,7 @@ use Rattle.cyclic_list.specs.Edits.{insert_before, without}
 use Rattle.cyclic_list.proofs.Lists.{count-append, tick_same, tick_other, tick_le, split_at, before_at, after_at}
 use Rattle.cyclic_list.proofs.Rings.{front_of, IsIn_predecessor, successor-predecessor, rotation_at, count_at}
 use Rattle.cyclic_list.proofs.Rotations.{rotate_to-rotates, IsApart-rotate_to, rotate_to_is, rest_parts, rest_at, rest_head, rest_same, IsIn_head, canonical_is, canonical_same, canonical_nil}
-use Rattle.euler_laws_shared.proofs.Undo.{taken_out, put_in}
+use Rattle.euler_laws.proofs.shared.Undo.{taken_out, put_in}
 
 canonical_one : (x : ℕ) → canonical (x ∷ []) ≡ x ∷ []
 canonical_one x = canonical_is x (x ∷ []) (IsIn_head x []) ∙ ap (λ q. x ∷ q) (rest_head x [])

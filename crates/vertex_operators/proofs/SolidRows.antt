@@ -8,8 +8,8 @@ use Rattle.boundary_model.specs.Model.{Model, LoopRow, lone, cycle, items_of, no
 use Rattle.euler_operators.specs.declared.Op.TheVariants.{Mvfs, Kvfs}
 use Rattle.euler_operators.specs.Conditions.{first_false, conditions, bare_face, is_lone, lone_vertex}
 use Rattle.euler_operators.specs.Effect.{effect, mvfs, kvfs_at, head_or_zero}
-use Rattle.euler_laws_shared.proofs.Goes.{all_hold, not_true}
-use Rattle.euler_laws_faces.proofs.Solids.{KvfsGoes, kvfs_goes}
+use Rattle.euler_laws.proofs.shared.Goes.{all_hold, not_true}
+use Rattle.euler_laws.proofs.faces.Solids.{KvfsGoes, kvfs_goes}
 use Rattle.euler_conditions.specs.Store.{Store, put_vertex, put_solid, put_face, put_loop, with_lone, only_item, take_solid, take_face, take_loop, take_vertex}
 use Rattle.vertex_operators.proofs.PutRows.{put_twice, put_row}
 use Rattle.euler_conditions.specs.Ready.{Accepts, after}

@@ -18,11 +18,11 @@ use Rattle.boundary_model.proofs.Halves.{mate_other, edge_of-mate}
 use Rattle.boundary_model.proofs.Tables.{map_one, first_where_is, first_where_zero}
 use Rattle.boundary_model.proofs.Models.{holds_in, in-holds, holds-none, content_row, held_row}
 use Rattle.euler_operators.specs.Effect.{edge_row, where_held}
-use Rattle.euler_laws_shared.proofs.Goes.{equals}
-use Rattle.euler_laws_shared.proofs.Loops.{count_put_there, count_put_none, count_out, count_gone, apart_out, light, none_free, loop_at}
-use Rattle.euler_laws_shared.proofs.Loops as loops
-use Rattle.euler_laws_shared.proofs.Same.{Rewritten, content-new, face-same}
-use Rattle.euler_laws_shared.proofs.Same as same
+use Rattle.euler_laws.proofs.shared.Goes.{equals}
+use Rattle.euler_laws.proofs.shared.Loops.{count_put_there, count_put_none, count_out, count_gone, apart_out, light, none_free, loop_at}
+use Rattle.euler_laws.proofs.shared.Loops as loops
+use Rattle.euler_laws.proofs.shared.Same.{Rewritten, content-new, face-same}
+use Rattle.euler_laws.proofs.shared.Same as same
 use Rattle.euler_conditions.specs.Store.{Store, loose_key, loose_ring, loosened, with_loop, join, join_loose, join_loops, cut, cut_loose, clear}
 use Rattle.vertex_operators.specs.Steps.{IsPlaced, HasLoop, IsAlone, with_edge, put_before, taken_out}
 use Rattle.vertex_operators.proofs.RingSteps.{joined_before, cut_keeps, cut_takes, whole_ring, without_whole}

@@ -17,10 +17,10 @@ use Rattle.boundary_model.proofs.Halves.{plus_row, minus_row}
 use Rattle.boundary_model.proofs.Tables.{map_same}
 use Rattle.boundary_model.proofs.Models.{held_row}
 use Rattle.euler_operators.specs.Effect.{with_tails}
-use Rattle.euler_laws_shared.proofs.Fans.{Fan, fan_of, half_mate}
-use Rattle.euler_laws_shared.proofs.Same.{mapped_some}
-use Rattle.euler_laws_mev.proofs.MevSound.{tails_of_row}
-use Rattle.euler_laws_shared.proofs.Arcs.{halves_of_edge, arc_is}
+use Rattle.euler_laws.proofs.shared.Fans.{Fan, fan_of, half_mate}
+use Rattle.euler_laws.proofs.shared.Same.{mapped_some}
+use Rattle.euler_laws.proofs.mev.MevSound.{tails_of_row}
+use Rattle.euler_laws.proofs.shared.Arcs.{halves_of_edge, arc_is}
 use Rattle.euler_conditions.specs.Store.{Store, set_tail}
 use Rattle.vertex_operators.specs.Steps.{with_tails_at}
 use Rattle.vertex_operators.proofs.StoreSteps.{loop_of-same, content-same}

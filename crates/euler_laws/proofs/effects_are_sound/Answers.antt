@@ -1,4 +1,4 @@
-use Rattle.euler_laws_shared.proofs.Empty.{empty_sound}
+use Rattle.euler_laws.proofs.shared.Empty.{empty_sound}
 use Rattle.euler_laws.proofs.Cases.{effect_keeps_sound}
 use Rattle.euler_laws.proofs.effects_are_sound.Goals as goal
 

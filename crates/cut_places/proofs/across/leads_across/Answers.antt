@@ -1,7 +1,7 @@
 use Rattle.std.proofs.Common.{◌∙◌, ap, sym, ◌&&◌}
 use Rattle.boundary_model.specs.HalfEdge.{code}
 use Rattle.face_walks.proofs.HalfCodes.{is_first-code}
-use Rattle.split_shapes.specs.Sides.{crosses}
+use Rattle.shapes.specs.split.Sides.{crosses}
 use Rattle.cut_places.proofs.across.leads_across.Goals as goal
 
 pub returns-then-h : goal.returns-then-h

@@ -1,7 +1,7 @@
 use Rattle.std.proofs.Common.{◌≡◌, ◌∙◌, ap, sym, subst, map, IfOk}
 use Rattle.std.specs.Prelude.{filter}
 use Rattle.boundary_model.specs.HalfEdge.{code}
-use Rattle.split_shapes.specs.Places.{is_place, places}
+use Rattle.shapes.specs.split.Places.{is_place, places}
 use Rattle.cut_places.specs.Walks.{AreThere}
 use Rattle.cut_places.proofs.Walks.{boundary_there}
 use Rattle.cut_places.proofs.faces.places.Goals as goal

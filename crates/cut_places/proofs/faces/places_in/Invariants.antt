@@ -1,7 +1,7 @@
 use Rattle.std.proofs.Common.{◌≡◌, ◌++◌, map, length}
 use Rattle.std.specs.Prelude.{filter}
 use Rattle.boundary_model.specs.HalfEdge.{code}
-use Rattle.split_shapes.specs.Places.{is_place}
+use Rattle.shapes.specs.split.Places.{is_place}
 use Rattle.cut_places.specs.Walks.{AreThere}
 use Rattle.cut_places.proofs.faces.places_in.Given as goal
 

@@ -4,7 +4,7 @@ use Rattle.std.proofs.lemmas.List.{append-nil}
 use Rattle.boundary_model.specs.Model.{faces_of}
 use Rattle.face_walks.proofs.Rising.{above}
 use Rattle.solid_checks.proofs.FaceWalks.{next_face, no_face_left, faces_from_zero}
-use Rattle.split_shapes.specs.Sides.{straddles}
+use Rattle.shapes.specs.split.Sides.{straddles}
 use Rattle.cut_places.proofs.sides.straddling.Goals as goal
 
 pub faces-init : goal.faces-init

@@ -2,7 +2,7 @@ use Rattle.std.proofs.Common.{◌≡◌, ◌++◌, length}
 use Rattle.std.specs.Prelude.{filter}
 use Rattle.boundary_model.specs.Model.{faces_of}
 use Rattle.face_walks.proofs.Rising.{above}
-use Rattle.split_shapes.specs.Sides.{straddles, straddling_faces}
+use Rattle.shapes.specs.split.Sides.{straddles, straddling_faces}
 use Rattle.cut_places.proofs.sides.straddling.Given as goal
 
 abbrev pub invariant-faces : goal.invariant-faces

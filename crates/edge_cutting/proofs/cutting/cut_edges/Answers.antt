@@ -1,7 +1,7 @@
 use Rattle.std.proofs.Common.{◌∙◌, ap, sym, subst, refl}
 use Rattle.boundary_model.specs.Sound.{Sound}
 use Rattle.undo_journal.specs.Machine.{DraftState}
-use Rattle.split_shapes.specs.Sides.{crossing_edges}
+use Rattle.shapes.specs.split.Sides.{crossing_edges}
 use Rattle.edge_cutting.proofs.Remaining.{Cutting, cut_plane, begins, opened, next_goes, next_crosses, next_whole, next_taken}
 use Rattle.edge_cutting.proofs.cutting.cut_edges.Goals as goal
 

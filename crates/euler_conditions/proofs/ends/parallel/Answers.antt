@@ -2,7 +2,7 @@ use Rattle.std.proofs.Common.{◌≡◌, ℕ, ◌+◌, ◌-◌, cond, sym, ap, �
 use Rattle.boundary_model.specs.HalfEdge.{code, edge_of, mate}
 use Rattle.boundary_model.specs.Model.{tail, round}
 use Rattle.boundary_model.specs.Sound.{HasHalf}
-use Rattle.euler_laws_shared.proofs.Goes.{equal, unequal}
+use Rattle.euler_laws.proofs.shared.Goes.{equal, unequal}
 use Rattle.euler_conditions.specs.Ends.{leads_to, lesser}
 use Rattle.euler_conditions.proofs.Known.{half_there, edge_there, found_then, found_else}
 use Rattle.euler_conditions.proofs.Parallel.{HalfSeen, steps, steps_are, walk_start, walk_more, walk_closed, walk_ended}

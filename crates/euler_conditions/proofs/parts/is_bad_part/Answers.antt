@@ -1,5 +1,5 @@
 use Rattle.std.proofs.Common.{sym, ◌∙◌}
-use Rattle.euler_laws_shared.proofs.Goes.{equals}
+use Rattle.euler_laws.proofs.shared.Goes.{equals}
 use Rattle.euler_conditions.proofs.Borders.{not_empty, bad_all, bad_torn}
 use Rattle.euler_conditions.proofs.parts.is_bad_part.Goals as goal
 

@@ -3,7 +3,7 @@ use Rattle.boundary_model.specs.HalfEdge.{code, mate}
 use Rattle.boundary_model.specs.Model.{content, after}
 use Rattle.boundary_model.specs.Sound.{HasHalf}
 use Rattle.euler_operators.specs.Conditions.{lists, face_at}
-use Rattle.euler_laws_shared.proofs.Goes.{equal, unequal}
+use Rattle.euler_laws.proofs.shared.Goes.{equal, unequal}
 use Rattle.euler_conditions.proofs.Known.{filled, half_there, edge_there}
 use Rattle.euler_conditions.proofs.Parallel.{steps, steps_are}
 use Rattle.euler_conditions.proofs.Around.{HalfRound, round_start, round_closed, round_more, round_ended, next_in}

@@ -1,6 +1,6 @@
 use Rattle.std.proofs.Common.{◌≡◌, [], length, map}
 use Rattle.std.specs.Prelude.{fold}
-use Rattle.split_shapes.specs.Drawing.{join_next}
+use Rattle.shapes.specs.split.Drawing.{join_next}
 use Rattle.face_drawing.specs.Codes.{codes, drawing_of}
 use Rattle.face_drawing.specs.Passes.{CanJoin}
 use Rattle.face_drawing.proofs.joining.join_pairs.Given as goal

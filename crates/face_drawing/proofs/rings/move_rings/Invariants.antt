@@ -1,6 +1,6 @@
 use Rattle.std.proofs.Common.{◌≡◌, length}
 use Rattle.euler_laws.specs.Laws.{AreAccepted, effects}
-use Rattle.drawing_laws.specs.DrawingOps.{ring_ops}
+use Rattle.split_drawing_laws.specs.drawings.DrawingOps.{ring_ops}
 use Rattle.face_drawing.proofs.rings.move_rings.Given as goal
 
 abbrev pub invariant-rings : goal.invariant-rings

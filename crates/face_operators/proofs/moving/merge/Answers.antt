@@ -5,7 +5,7 @@ use Rattle.boundary_model.specs.Model.{FaceRow}
 use Rattle.euler_conditions.specs.Store.{Store, take_solid}
 use Rattle.euler_operators.specs.Conditions.{lists}
 use Rattle.euler_operators.specs.Effect.{effect, merge}
-use Rattle.euler_laws_shared.proofs.Listed.{listed_passes}
+use Rattle.euler_laws.proofs.shared.Listed.{listed_passes}
 use Rattle.face_operators.specs.Moving.{moved}
 use Rattle.face_operators.proofs.Facts.{merge_has}
 use Rattle.face_operators.proofs.Handing.{all_given}

@@ -1,5 +1,5 @@
 use Rattle.std.proofs.Common.{◌≡◌, ◌++◌, map, length}
-use Rattle.split_shapes.specs.Places.{in_pairs, up_first}
+use Rattle.shapes.specs.split.Places.{in_pairs, up_first}
 use Rattle.cut_places.specs.Walks.{AreThere}
 use Rattle.face_drawing.specs.Codes.{codes}
 use Rattle.place_order.specs.Order.{places_of}

@@ -1,6 +1,6 @@
 use Rattle.std.proofs.Common.{◌≡◌, ◌∙◌, List, ℕ, true, false, map, sym, ap, subst, IfOk}
 use Rattle.boundary_model.specs.HalfEdge.{code}
-use Rattle.split_shapes.specs.Places.{some_meet, sorted, sorted_pairs, in_pairs, up_first, place_pairs}
+use Rattle.shapes.specs.split.Places.{some_meet, sorted, sorted_pairs, in_pairs, up_first, place_pairs}
 use Rattle.face_drawing.specs.Codes.{codes}
 use Rattle.place_order.specs.Order.{AreWholePlaces, entries_of}
 use Rattle.place_order.proofs.Ordered.{at_some, held_in_order, order_there, places_whole}

@@ -1,5 +1,5 @@
 use Rattle.std.proofs.Common.{◌∙◌, sym}
-use Rattle.fresh_laws.proofs.Rows.{greatest_is}
+use Rattle.shapes.proofs.fresh.Rows.{greatest_is}
 use Rattle.glue_checks.proofs.Conditions.{none_left, one_left}
 use Rattle.glue_checks.proofs.checks.check_left.Goals as goal
 

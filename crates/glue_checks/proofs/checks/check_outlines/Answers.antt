@@ -1,5 +1,5 @@
 use Rattle.std.proofs.Common.{◌∙◌, ap, sym}
-use Rattle.glue_shapes.specs.Glue.{has_repeats}
+use Rattle.shapes.specs.glue.Glue.{has_repeats}
 use Rattle.glue_checks.proofs.Points.{repeats_turned}
 use Rattle.glue_checks.proofs.checks.check_outlines.Goals as goal
 

@@ -1,5 +1,5 @@
 use Rattle.std.proofs.Common.{◌∙◌, ap, not}
-use Rattle.glue_shapes.specs.Glue.{has_repeats}
+use Rattle.shapes.specs.glue.Glue.{has_repeats}
 use Rattle.glue_checks.proofs.Keys.{is_met, key, met_more, was_met, first_met, first_new, none_in}
 use Rattle.glue_checks.proofs.outlines.has_repeats.Goals as goal
 

@@ -1,6 +1,6 @@
 use Rattle.std.proofs.Common.{◌≡◌, ◌||◌, length}
 use Rattle.std.specs.List.{list_any}
-use Rattle.glue_shapes.specs.Glue.{has_repeats}
+use Rattle.shapes.specs.glue.Glue.{has_repeats}
 use Rattle.glue_checks.proofs.Keys.{is_met}
 use Rattle.glue_checks.proofs.outlines.has_repeats.Given as goal
 

@@ -1,7 +1,7 @@
 use Rattle.std.proofs.Common.{◌≡◌, ◌∙◌, ap, sym, Bool, true, false, ◌&&◌, ◌-◌, ◌++◌, length}
 use Rattle.std.specs.Prelude.{take, drop}
 use Rattle.std.proofs.lemmas.List.{take_rest}
-use Rattle.glue_shapes.specs.Glue.{same_points}
+use Rattle.shapes.specs.glue.Glue.{same_points}
 use Rattle.glue_checks.proofs.Turns.{two_parts}
 use Rattle.glue_checks.proofs.outlines.is_turn.Goals as goal
 

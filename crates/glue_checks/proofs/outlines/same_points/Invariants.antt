@@ -1,5 +1,5 @@
 use Rattle.std.proofs.Common.{◌≡◌, length}
-use Rattle.glue_shapes.specs.Glue.{same_points}
+use Rattle.shapes.specs.glue.Glue.{same_points}
 use Rattle.glue_checks.proofs.outlines.same_points.Given as goal
 
 abbrev pub invariant-points : goal.invariant-points

@@ -2,8 +2,8 @@ use Rattle.std.proofs.Common.{◌≡◌, ℕ, ◌+◌, ap, sym, arith}
 use Rattle.boundary_model.specs.Table.{greatest}
 use Rattle.boundary_model.specs.Model.{Model}
 use Rattle.shapes.specs.Fresh.{taken_in}
-use Rattle.fresh_laws.proofs.Rows.{greatest_is}
-use Rattle.glue_shapes.specs.GlueOps.{fresh_edge}
+use Rattle.shapes.proofs.fresh.Rows.{greatest_is}
+use Rattle.shapes.specs.glue.GlueOps.{fresh_edge}
 use Rattle.gluing.proofs.joining.fresh_edge.Goals as goal
 
 counted : (M : Model) (n : ℕ) → greatest M.edges ≡ n → n + 1 ≡ fresh_edge M

@@ -9,8 +9,8 @@ use Rattle.euler_operators.specs.declared.Op.TheVariants.{Kef}
 use Rattle.undo_journal.specs.Machine.{DraftState}
 use Rattle.shapes.specs.Faces.{start}
 use Rattle.face_walks.proofs.HalfCodes.{codes_same, codes_differ}
-use Rattle.glue_shapes.specs.Glue.{rim, partner, glue_refusal}
-use Rattle.glue_shapes.specs.GlueOps.{fresh_edge}
+use Rattle.shapes.specs.glue.Glue.{rim, partner, glue_refusal}
+use Rattle.shapes.specs.glue.GlueOps.{fresh_edge}
 use Rattle.gluing.proofs.Opened as opened
 use Rattle.gluing.proofs.Joined as joined
 use Rattle.gluing.proofs.joining.join.Goals as goal

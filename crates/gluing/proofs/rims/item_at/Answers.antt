@@ -2,7 +2,7 @@ use Rattle.std.proofs.Common.{◌≡◌, ◌∙◌, Bool, true, false, ◌&&◌,
 use Rattle.boundary_model.specs.HalfEdge.{code}
 use Rattle.boundary_model.specs.Model.{content, outer, point_of}
 use Rattle.boundary_model.specs.Sound.{Has}
-use Rattle.glue_shapes.proofs.Points.{is_same, same_is}
+use Rattle.shapes.proofs.glue.Points.{is_same, same_is}
 use Rattle.gluing.specs.Rims.{item_at}
 use Rattle.gluing.proofs.Found.{rim_held, walk_begins, walked_there, walk_stays, walk_finds, walk_nears}
 use Rattle.gluing.proofs.rims.item_at.Goals as goal

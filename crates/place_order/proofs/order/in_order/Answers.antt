@@ -5,7 +5,7 @@ use Rattle.std.proofs.lemmas.List.{map-append}
 use Rattle.boundary_model.specs.declared.HalfEdge.{HalfEdge}
 use Rattle.boundary_model.specs.HalfEdge.{code}
 use Rattle.boundary_model.proofs.Halves.{half-code}
-use Rattle.split_shapes.specs.Places.{sorted}
+use Rattle.shapes.specs.split.Places.{sorted}
 use Rattle.place_order.specs.Order.{key}
 use Rattle.place_order.proofs.Sorting.{key_cmp, place_in, one_met, one_more, met_is}
 use Rattle.place_order.proofs.order.in_order.Goals as goal

@@ -1,6 +1,6 @@
 use Rattle.std.proofs.Common.{◌≡◌, length}
 use Rattle.std.specs.List.{list_all}
-use Rattle.split_shapes.specs.Places.{in_pairs, is_up_and_down}
+use Rattle.shapes.specs.split.Places.{in_pairs, is_up_and_down}
 use Rattle.cut_places.specs.Walks.{AreThere}
 use Rattle.place_order.specs.Order.{places_of}
 use Rattle.place_order.proofs.order.pairs_differ.Given as goal

@@ -1,6 +1,6 @@
 use Rattle.std.proofs.Common.{Err, sym, ap, ◌∙◌}
 use Rattle.euler_operators.specs.Conditions.{first_refusal}
-use Rattle.split_shapes.specs.Split.{first_conditions}
+use Rattle.shapes.specs.split.Split.{first_conditions}
 use Rattle.plane_split.proofs.Conditions.{failed, same_refusal, refused_first}
 use Rattle.plane_split.proofs.command.admit.Goals as goal
 

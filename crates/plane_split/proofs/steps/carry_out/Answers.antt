@@ -1,6 +1,6 @@
 use Rattle.std.proofs.Common.{[], Ok, sym, ap, subst, ◌∙◌}
 use Rattle.euler_operators.specs.Conditions.{verdict}
-use Rattle.split_shapes.specs.Split.{split_above}
+use Rattle.shapes.specs.split.Split.{split_above}
 use Rattle.face_drawing.specs.Codes.{drawing_of}
 use Rattle.section_checks.specs.Sections.{IsSection}
 use Rattle.plane_split.proofs.Conditions.{plane_within, still_there, later_decide}

@@ -1,7 +1,7 @@
 use Rattle.std.proofs.Common.{w64}
 use Rattle.std.proofs.lemmas.Int.{to_z-of_z}
 use Rattle.undo_journal.specs.Machine.{held, accepted}
-use Rattle.split_shapes.specs.Split.{split_refusal, split_model}
+use Rattle.shapes.specs.split.Split.{split_refusal, split_model}
 use Rattle.script_judging.specs.Judging.{Tries}
 use Rattle.script_judging.proofs.Acted.{tries_told, of_coefficients}
 use Rattle.script_judging.proofs.larger.make_split.Goals as goal

@@ -4,8 +4,8 @@ use Rattle.boundary_model.specs.HalfEdge.{code}
 use Rattle.section_checks.proofs.Facts.{there_now, rising_now, few_now, branched_now, next_now, cycles_now, all_now, few_told, stray_now, numbers_now}
 use Rattle.euler_operators.specs.Conditions.{first_refusal}
 use Rattle.solid_checks.specs.Least.{found}
-use Rattle.split_shapes.specs.Section.{below_halves, section_ends, least_branched}
-use Rattle.split_shapes.specs.Split.{section_conditions}
+use Rattle.shapes.specs.split.Section.{below_halves, section_ends, least_branched}
+use Rattle.shapes.specs.split.Split.{section_conditions}
 use Rattle.face_drawing.specs.Codes.{taken_of}
 use Rattle.section_cycles.specs.Halves.{codes}
 use Rattle.section_checks.specs.Cycles.{AreCyclesOf, has_stray}

@@ -1,12 +1,12 @@
 use Rattle.std.proofs.Common.{◌≡◌, ◌∙◌, List, ℕ, [], true, nat_eq, Ok, None, Some, sym, ap, subst, arith}
 use Rattle.euler_operators.specs.Conditions.{strictly_rises}
-use Rattle.section_laws.specs.SectionCycles.{AreOf}
+use Rattle.split_opening_laws.specs.cycles.SectionCycles.{AreOf}
 use Rattle.face_drawing.specs.Codes.{drawing_of}
 use Rattle.section_checks.proofs.Above.{above_rises, above_of}
 use Rattle.std.proofs.lemmas.Bool.Decides.{nat_tests}
 use Rattle.euler_operators.specs.Conditions.{first_refusal}
-use Rattle.split_shapes.specs.Section.{below_halves}
-use Rattle.split_shapes.specs.Split.{later_conditions, section_conditions}
+use Rattle.shapes.specs.split.Section.{below_halves}
+use Rattle.shapes.specs.split.Split.{later_conditions, section_conditions}
 use Rattle.face_drawing.specs.Codes.{taken_of}
 use Rattle.section_checks.specs.Cycles.{AreCyclesOf}
 use Rattle.section_checks.specs.Sections.{IsSection}

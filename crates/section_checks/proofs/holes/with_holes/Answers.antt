@@ -4,7 +4,7 @@ use Rattle.std.proofs.lemmas.List.{reverse-reverse}
 use Rattle.cyclic_list.specs.Items.{IsApart}
 use Rattle.boundary_model.specs.declared.HalfEdge.{HalfEdge}
 use Rattle.boundary_model.specs.HalfEdge.{code}
-use Rattle.split_shapes.specs.Section.{is_hole}
+use Rattle.shapes.specs.split.Section.{is_hole}
 use Rattle.section_cycles.specs.Halves.{AreThere, codes}
 use Rattle.section_checks.proofs.HoleFlags.{Telling, none_told, next_cycle, one_told, all_told, no_items}
 use Rattle.section_checks.specs.declared.section.Cycle.{Cycle}

@@ -1,7 +1,7 @@
 use Rattle.std.proofs.Common.{◌∙◌, sym, ap, subst}
 use Rattle.boundary_model.specs.Model.{tail}
 use Rattle.boundary_model.specs.Sound.{HasHalf}
-use Rattle.euler_laws_shared.proofs.Fans.{half_mate}
+use Rattle.euler_laws.proofs.shared.Fans.{half_mate}
 use Rattle.section_cycles.proofs.Meetings.{first_there, others_there, ends_more}
 use Rattle.section_cycles.proofs.Chains.{none}
 use Rattle.section_cycles.proofs.branched.ends_of.Goals as goal

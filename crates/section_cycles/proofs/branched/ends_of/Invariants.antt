@@ -1,7 +1,7 @@
 use Rattle.std.proofs.Common.{◌≡◌, ℕ, ◌+◌, map, length}
 use Rattle.cyclic_list.specs.Items.{count}
 use Rattle.boundary_model.specs.HalfEdge.{code}
-use Rattle.split_shapes.specs.Section.{section_ends}
+use Rattle.shapes.specs.split.Section.{section_ends}
 use Rattle.section_cycles.specs.Halves.{AreThere}
 use Rattle.section_cycles.proofs.branched.ends_of.Given as goal
 

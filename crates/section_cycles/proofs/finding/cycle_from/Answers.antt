@@ -2,7 +2,7 @@ use Rattle.std.proofs.Common.{◌≡◌, ◌∙◌, ℕ, ◌+◌, ◌-◌, ◌==
 use Rattle.std.proofs.lemmas.List.{length-map, map-append}
 use Rattle.boundary_model.specs.declared.HalfEdge.{HalfEdge}
 use Rattle.boundary_model.specs.HalfEdge.{code}
-use Rattle.split_shapes.specs.Section.{next_below}
+use Rattle.shapes.specs.split.Section.{next_below}
 use Rattle.section_cycles.proofs.Rounds.{Going, set_out, back, onward, out_of_steps}
 use Rattle.section_cycles.proofs.Leads.{leads_on, is_next}
 use Rattle.section_cycles.proofs.finding.cycle_from.Goals as goal

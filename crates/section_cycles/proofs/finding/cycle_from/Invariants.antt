@@ -1,6 +1,6 @@
 use Rattle.std.proofs.Common.{◌-◌, map, length}
 use Rattle.boundary_model.specs.HalfEdge.{code}
-use Rattle.split_shapes.specs.Section.{next_below}
+use Rattle.shapes.specs.split.Section.{next_below}
 use Rattle.section_cycles.proofs.Rounds.{Going}
 use Rattle.section_cycles.proofs.finding.cycle_from.Given as goal
 

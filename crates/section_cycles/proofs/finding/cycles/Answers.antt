@@ -6,7 +6,7 @@ use Rattle.cyclic_list.specs.Items.{IsIn}
 use Rattle.euler_operators.specs.Conditions.{lists}
 use Rattle.boundary_model.specs.declared.HalfEdge.{HalfEdge}
 use Rattle.boundary_model.specs.HalfEdge.{code}
-use Rattle.split_shapes.specs.Section.{next_below}
+use Rattle.shapes.specs.split.Section.{next_below}
 use Rattle.section_cycles.specs.Halves.{codes}
 use Rattle.section_cycles.proofs.Chains.{none}
 use Rattle.section_cycles.proofs.Found.{Finding, none_found, found_before, found_now, now_in}

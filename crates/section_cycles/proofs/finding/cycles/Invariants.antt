@@ -2,7 +2,7 @@ use Rattle.std.proofs.Common.{map, length}
 use Rattle.std.specs.BTreeSet.{contains}
 use Rattle.std.specs.Ordering.{nat_cmp}
 use Rattle.boundary_model.specs.HalfEdge.{code}
-use Rattle.split_shapes.specs.Section.{next_below}
+use Rattle.shapes.specs.split.Section.{next_below}
 use Rattle.section_cycles.specs.Halves.{codes}
 use Rattle.section_cycles.proofs.Found.{Finding}
 use Rattle.section_cycles.proofs.finding.cycles.Given as goal

@@ -5,7 +5,7 @@ use Rattle.lattice.specs.Vectors.{dot}
 use Rattle.lattice.proofs.Magnitudes.{fits, held_is}
 use Rattle.boundary_model.specs.HalfEdge.{code, mate}
 use Rattle.solid_measure.specs.Measure.{area}
-use Rattle.split_shapes.specs.Section.{is_hole}
+use Rattle.shapes.specs.split.Section.{is_hole}
 use Rattle.section_cycles.proofs.holes.is_hole.Goals as goal
 
 pub returns : goal.returns

@@ -3,7 +3,7 @@ use Rattle.boundary_model.specs.HalfEdge.{code}
 use Rattle.boundary_model.specs.Sound.{HasHalf}
 use Rattle.lattice.specs.Vectors.{moved, cross}
 use Rattle.shapes.specs.Faces.{start, finish}
-use Rattle.euler_laws_shared.proofs.Fans.{half_mate}
+use Rattle.euler_laws.proofs.shared.Fans.{half_mate}
 use Rattle.section_cycles.specs.Sums.{read}
 use Rattle.section_cycles.proofs.Meetings.{first_there, others_there, first_code}
 use Rattle.section_cycles.proofs.Sums.{more_summed, sum_limited, sum_room}

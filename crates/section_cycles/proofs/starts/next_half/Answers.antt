@@ -1,7 +1,7 @@
 use Rattle.std.proofs.Common.{sym, subst}
 use Rattle.boundary_model.specs.HalfEdge.{code}
 use Rattle.boundary_model.specs.Sound.{HasHalf}
-use Rattle.euler_laws_shared.proofs.Fans.{half_mate}
+use Rattle.euler_laws.proofs.shared.Fans.{half_mate}
 use Rattle.section_cycles.proofs.starts.next_half.Goals as goal
 
 pub tail-requires : goal.tail-requires

@@ -6,7 +6,7 @@ use Rattle.boundary_model.specs.Model.{Model, rings_of, content}
 use Rattle.shapes.specs.Faces.{vertices_on}
 use Rattle.face_walks.proofs.Rising.{above}
 use Rattle.face_walks.proofs.RingWalks.{next_ring, no_ring, rings_from_zero}
-use Rattle.split_shapes.specs.Sides.{some_above}
+use Rattle.shapes.specs.split.Sides.{some_above}
 use Rattle.solid_drawing.proofs.RingSteps.{ring_there}
 use Rattle.solid_drawing.proofs.rings.rings_above.Goals as goal
 

@@ -3,8 +3,8 @@ use Rattle.std.specs.Prelude.{filter}
 use Rattle.boundary_model.specs.Model.{rings_of, content}
 use Rattle.shapes.specs.Faces.{vertices_on}
 use Rattle.face_walks.proofs.Rising.{above}
-use Rattle.split_shapes.specs.Sides.{some_above}
-use Rattle.split_shapes.specs.Drawing.{rings_above}
+use Rattle.shapes.specs.split.Sides.{some_above}
+use Rattle.shapes.specs.split.Drawing.{rings_above}
 use Rattle.solid_drawing.proofs.rings.rings_above.Given as goal
 
 abbrev pub invariant-rings : goal.invariant-rings

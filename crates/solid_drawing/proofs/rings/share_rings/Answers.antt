@@ -1,8 +1,8 @@
 use Rattle.std.proofs.Common.{◌≡◌, ◌∙◌, OnOk, ap, subst}
 use Rattle.boundary_model.specs.Model.{Model}
 use Rattle.euler_laws.specs.Laws.{effects}
-use Rattle.split_shapes.specs.Drawing.{rings_above}
-use Rattle.drawing_laws.specs.DrawingOps.{ring_ops}
+use Rattle.shapes.specs.split.Drawing.{rings_above}
+use Rattle.split_drawing_laws.specs.drawings.DrawingOps.{ring_ops}
 use Rattle.solid_drawing.proofs.RingSteps.{rings_given}
 use Rattle.solid_drawing.proofs.rings.share_rings.Goals as goal
 

@@ -1,7 +1,7 @@
 use Rattle.std.proofs.Common.{◌≡◌, ℕ, sym}
 use Rattle.boundary_model.specs.Table.{greatest}
 use Rattle.boundary_model.specs.Model.{Model}
-use Rattle.fresh_laws.proofs.Rows.{greatest_is}
+use Rattle.shapes.proofs.fresh.Rows.{greatest_is}
 use Rattle.shapes.specs.Fresh.{taken_in}
 use Rattle.solid_drawing.proofs.solid.beginning.Goals as goal
 

@@ -2,8 +2,8 @@ use Rattle.std.proofs.Common.{◌≡◌, ◌∙◌, [], map, IfOk, ap, sym, subs
 use Rattle.boundary_model.specs.Model.{Model}
 use Rattle.boundary_model.specs.Sound.{Sound}
 use Rattle.shapes.specs.Fresh.{taken_in}
-use Rattle.split_shapes.specs.Crossings.{with_crossings}
-use Rattle.split_shapes.specs.Drawing.{Drawing}
+use Rattle.shapes.specs.split.Crossings.{with_crossings}
+use Rattle.shapes.specs.split.Drawing.{Drawing}
 use Rattle.undo_journal.specs.Machine.{DraftState}
 use Rattle.edge_cutting.proofs.Remaining.{cut_plane}
 use Rattle.face_drawing.specs.Codes.{drawing_of}

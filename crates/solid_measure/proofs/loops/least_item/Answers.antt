@@ -1,6 +1,6 @@
 use Rattle.std.proofs.Common.{ℕ, ◌+◌, ◌-◌, sym, subst, ◌∙◌, arith}
 use Rattle.boundary_model.specs.HalfEdge.{code}
-use Rattle.euler_laws_shared.proofs.Goes.{equal, unequal}
+use Rattle.euler_laws.proofs.shared.Goes.{equal, unequal}
 use Rattle.euler_conditions.proofs.Known.{edge_there}
 use Rattle.euler_conditions.proofs.Parallel.{steps, steps_are}
 use Rattle.solid_walks.proofs.Rounds.{half_in, edge_number}

@@ -3,7 +3,7 @@ use Rattle.boundary_model.specs.HalfEdge.{code}
 use Rattle.euler_laws.specs.Laws.{effects}
 use Rattle.undo_journal.specs.Machine.{DraftState}
 use Rattle.face_drawing.specs.Codes.{taken_of}
-use Rattle.strip_laws.specs.StripOps.{copy_ops}
+use Rattle.split_opening_laws.specs.strips.StripOps.{copy_ops}
 use Rattle.solid_opening.proofs.Cycles.{inside_codes, edges_left, vertices_left}
 use Rattle.solid_opening.proofs.Raised.{half_there, copy_goes, one_raised}
 use Rattle.solid_opening.proofs.copies.raise_copies.Goals as goal

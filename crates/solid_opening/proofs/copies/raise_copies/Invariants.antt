@@ -2,7 +2,7 @@ use Rattle.std.proofs.Common.{◌≡◌, ◌≤◌, ◌-◌, length, map}
 use Rattle.boundary_model.specs.HalfEdge.{code}
 use Rattle.euler_laws.specs.Laws.{effects}
 use Rattle.face_drawing.specs.Codes.{taken_of}
-use Rattle.strip_laws.specs.StripOps.{copy_ops}
+use Rattle.split_opening_laws.specs.strips.StripOps.{copy_ops}
 use Rattle.solid_opening.proofs.copies.raise_copies.Given as goal
 
 abbrev pub invariant-copies : goal.invariant-copies

@@ -1,7 +1,7 @@
 use Rattle.std.proofs.Common.{◌≡◌, ◌+◌, ◌-◌, ◌*◌, ◌≤◌}
 use Rattle.euler_laws.specs.Laws.{AreAccepted, effects}
 use Rattle.face_drawing.specs.Codes.{taken_of}
-use Rattle.cap_laws.specs.CapOps.{joinings}
+use Rattle.split_opening_laws.specs.caps.CapOps.{joinings}
 use Rattle.solid_opening.proofs.Killed.{kills}
 use Rattle.solid_opening.proofs.joinings.join_strips.Given as goal
 

@@ -1,7 +1,7 @@
 use Rattle.std.proofs.Common.{◌≡◌, length, map}
-use Rattle.split_shapes.specs.Section.{is_hole}
-use Rattle.split_shapes.specs.Opening.{all_opened}
-use Rattle.opened_sections.specs.InTurn.{CanBeOpenedInTurn}
+use Rattle.shapes.specs.split.Section.{is_hole}
+use Rattle.shapes.specs.split.Opening.{all_opened}
+use Rattle.split_opening_laws.specs.sections.InTurn.{CanBeOpenedInTurn}
 use Rattle.section_checks.specs.Sections.{halves_of}
 use Rattle.solid_opening.specs.Capped.{opening_of, opened_section}
 use Rattle.solid_opening.proofs.opening.open_section.Given as goal

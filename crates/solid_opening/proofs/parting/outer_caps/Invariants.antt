@@ -1,5 +1,5 @@
 use Rattle.std.proofs.Common.{◌≡◌, length}
-use Rattle.split_shapes.specs.Opening.{outer_caps}
+use Rattle.shapes.specs.split.Opening.{outer_caps}
 use Rattle.solid_opening.specs.Capped.{all_caps}
 use Rattle.solid_opening.proofs.parting.outer_caps.Given as goal
 

@@ -3,7 +3,7 @@ use Rattle.boundary_model.specs.HalfEdge.{code}
 use Rattle.euler_laws.specs.Laws.{effects}
 use Rattle.undo_journal.specs.Machine.{DraftState}
 use Rattle.face_drawing.specs.Codes.{taken_of}
-use Rattle.strip_laws.specs.StripOps.{strip_ops}
+use Rattle.split_opening_laws.specs.strips.StripOps.{strip_ops}
 use Rattle.solid_opening.proofs.Cycles.{inside_codes, edges_left, faces_left, loops_left}
 use Rattle.solid_opening.proofs.CutOff.{mate_there, strip_goes, one_more}
 use Rattle.solid_opening.proofs.strips.cut_strips.Goals as goal

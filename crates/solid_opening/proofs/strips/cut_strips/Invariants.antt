@@ -2,7 +2,7 @@ use Rattle.std.proofs.Common.{◌≡◌, ◌≤◌, ◌-◌, length, map}
 use Rattle.boundary_model.specs.HalfEdge.{code}
 use Rattle.euler_laws.specs.Laws.{effects}
 use Rattle.face_drawing.specs.Codes.{taken_of}
-use Rattle.strip_laws.specs.StripOps.{strip_ops}
+use Rattle.split_opening_laws.specs.strips.StripOps.{strip_ops}
 use Rattle.solid_opening.proofs.strips.cut_strips.Given as goal
 
 abbrev pub invariant-strips : goal.invariant-strips

@@ -1,7 +1,7 @@
 use Rattle.std.proofs.Common.{ℕ, ◌+◌, ◌-◌, sym, subst, ◌∙◌, arith}
 use Rattle.boundary_model.specs.HalfEdge.{code, mate}
 use Rattle.boundary_model.specs.Model.{before, round}
-use Rattle.euler_laws_shared.proofs.Goes.{equal, unequal}
+use Rattle.euler_laws.proofs.shared.Goes.{equal, unequal}
 use Rattle.euler_conditions.proofs.Known.{half_there, edge_there}
 use Rattle.euler_conditions.proofs.Parallel.{steps, steps_are}
 use Rattle.solid_walks.proofs.TwoWays.{Unseen, unseen_start, unseen_ended, met_ahead, lesser_ahead, step_ahead, met_behind, lesser_behind, step_behind, not_less, less}

@@ -1,6 +1,6 @@
 use Rattle.std.proofs.Common.{◌≡◌, ◌∙◌, IfOk, sym, subst}
 use Rattle.euler_operators.specs.Conditions.{verdict}
-use Rattle.split_shapes.specs.Split.{plane_in_range}
+use Rattle.shapes.specs.split.Split.{plane_in_range}
 use Rattle.split_checks.specs.Conditions.{number_conditions, solid_conditions}
 use Rattle.split_checks.proofs.Stages.{all_passed, cut_plane, numbers_failed, range_failed, solid_failed, section_decides}
 use Rattle.split_checks.proofs.checks.check_begin.Goals as goal

@@ -2,7 +2,7 @@ use Rattle.std.proofs.Common.{◌≡◌, ◌∙◌, ℕ, List, length, vec_len, 
 use Rattle.std.specs.Prelude.{min}
 use Rattle.euler_operators.specs.Conditions.{first_refusal, verdict}
 use Rattle.solid_checks.specs.Least.{least_such}
-use Rattle.split_shapes.specs.Places.{pair_count}
+use Rattle.shapes.specs.split.Places.{pair_count}
 use Rattle.split_checks.specs.Conditions.{face_conditions}
 use Rattle.cut_places.specs.Crossings.{AreCrossing, is_off}
 use Rattle.cut_places.specs.Places.{AreWholeFaces}

@@ -1,6 +1,6 @@
 use Rattle.std.proofs.Common.{◌≡◌, ◌∙◌, List, ℕ, true, false, not, map, sym, ap, subst}
 use Rattle.boundary_model.specs.HalfEdge.{code}
-use Rattle.split_shapes.specs.Places.{some_meet, sorted}
+use Rattle.shapes.specs.split.Places.{some_meet, sorted}
 use Rattle.place_order.specs.Order.{AreWholePlaces, entries_of, places_of}
 use Rattle.place_order.proofs.Ordered.{at_some, at_none, held_in_order, order_there, places_whole}
 use Rattle.split_checks.proofs.Meetings.{crossed_by, ordered}

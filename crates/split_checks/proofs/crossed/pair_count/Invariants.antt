@@ -1,6 +1,6 @@
 use Rattle.std.proofs.Common.{◌≡◌, ◌+◌, ◌≤◌, length}
 use Rattle.std.specs.Prelude.{min}
-use Rattle.split_shapes.specs.Places.{pair_count}
+use Rattle.shapes.specs.split.Places.{pair_count}
 use Rattle.cut_places.specs.Walks.{AreIn}
 use Rattle.split_checks.proofs.crossed.pair_count.Given as goal
 

@@ -1,6 +1,6 @@
 use Rattle.std.proofs.Common.{◌≡◌, length}
 use Rattle.std.specs.List.{list_all}
-use Rattle.split_shapes.specs.Places.{loop_is_cut}
+use Rattle.shapes.specs.split.Places.{loop_is_cut}
 use Rattle.cut_places.specs.Walks.{AreIn}
 use Rattle.split_checks.proofs.faces.all_are_cut.Given as goal
 

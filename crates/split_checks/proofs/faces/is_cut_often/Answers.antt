@@ -2,7 +2,7 @@ use Rattle.std.proofs.Common.{◌≡◌, ◌∙◌, ap, sym, subst, ℕ, List, l
 use Rattle.std.proofs.lemmas.List.{length-map}
 use Rattle.std.specs.List.{list_all}
 use Rattle.boundary_model.specs.HalfEdge.{code}
-use Rattle.split_shapes.specs.Places.{loop_is_cut}
+use Rattle.shapes.specs.split.Places.{loop_is_cut}
 use Rattle.cut_places.specs.Walks.{AreIn}
 use Rattle.cut_places.proofs.Walks.{face_loops_there}
 use Rattle.split_checks.proofs.Often.{outer_is_cut, often_outer, often_not, often_count}

@@ -1,6 +1,6 @@
 use Rattle.std.proofs.Common.{◌∙◌, ap, sym, subst, map}
 use Rattle.boundary_model.specs.HalfEdge.{code}
-use Rattle.split_shapes.specs.Places.{is_touched}
+use Rattle.shapes.specs.split.Places.{is_touched}
 use Rattle.cut_places.specs.Places.{some_touch}
 use Rattle.cut_places.specs.Walks.{AreThere}
 use Rattle.cut_places.proofs.Walks.{boundary_there}

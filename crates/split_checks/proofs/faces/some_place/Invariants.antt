@@ -1,7 +1,7 @@
 use Rattle.std.proofs.Common.{◌≡◌, map, length}
 use Rattle.boundary_model.specs.HalfEdge.{code}
 use Rattle.std.specs.List.{list_any}
-use Rattle.split_shapes.specs.Places.{is_place}
+use Rattle.shapes.specs.split.Places.{is_place}
 use Rattle.cut_places.specs.Walks.{AreThere}
 use Rattle.split_checks.proofs.faces.some_place.Given as goal
 

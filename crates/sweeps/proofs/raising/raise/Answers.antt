@@ -5,9 +5,9 @@ use Rattle.undo_journal.specs.Machine.{DraftState}
 use Rattle.shapes.specs.Faces.{loops_of}
 use Rattle.shapes.specs.Fresh.{taken_in}
 use Rattle.shapes.specs.Prism.{prism_from}
-use Rattle.prism_laws.specs.SweepOps.{taken_after}
-use Rattle.prism_laws.proofs.Whole.{Going}
-use Rattle.prism_laws.proofs.Accepted.{face_there, begins}
+use Rattle.sweeps_laws.specs.prism.SweepOps.{taken_after}
+use Rattle.sweeps_laws.proofs.prism.Whole.{Going}
+use Rattle.sweeps_laws.proofs.prism.Accepted.{face_there, begins}
 use Rattle.sweeps.specs.Counters.{taken_of}
 use Rattle.sweeps.proofs.RaisedLoops as raised
 use Rattle.sweeps.proofs.raising.raise.Goals as goal

@@ -1,6 +1,6 @@
 use Rattle.std.proofs.Common.{◌≡◌, length}
 use Rattle.shapes.specs.Prism.{prism_from, prism_model}
-use Rattle.prism_laws.proofs.Whole.{Going}
+use Rattle.sweeps_laws.proofs.prism.Whole.{Going}
 use Rattle.sweeps.specs.Counters.{taken_of}
 use Rattle.sweeps.proofs.raising.raise.Given as goal
 

@@ -3,8 +3,8 @@ use Rattle.boundary_model.specs.Model.{items_of, content}
 use Rattle.euler_operators.specs.Conditions.{first_false, is_lone}
 use Rattle.euler_operators.specs.Effect.{effect}
 use Rattle.undo_journal.specs.Machine.{DraftState}
-use Rattle.prism_laws.specs.SweepOps.{close, close_last}
-use Rattle.prism_laws.proofs.Sides.{content_is, two_items}
+use Rattle.sweeps_laws.specs.prism.SweepOps.{close, close_last}
+use Rattle.sweeps_laws.proofs.prism.Sides.{content_is, two_items}
 use Rattle.sweeps.specs.Counters.{taken_of}
 use Rattle.sweeps.proofs.RaisedItems as raised
 use Rattle.sweeps.proofs.raising.raise_loop.Goals as goal

@@ -1,7 +1,7 @@
 use Rattle.std.proofs.Common.{◌≡◌, ◌<◌, ◌-◌, length}
 use Rattle.boundary_model.specs.Model.{items_of, content}
 use Rattle.euler_laws.specs.Laws.{effects}
-use Rattle.prism_laws.specs.SweepOps.{rounds}
+use Rattle.sweeps_laws.specs.prism.SweepOps.{rounds}
 use Rattle.sweeps.specs.Counters.{taken_of}
 use Rattle.sweeps.proofs.raising.raise_loop.Given as goal
 

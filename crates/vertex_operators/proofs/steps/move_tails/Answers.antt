@@ -2,7 +2,7 @@ use Rattle.std.proofs.Common.{ap, sym, ◌∙◌, ◌≡◌, ◌≢◌, ◌<◌,
 use Rattle.boundary_model.specs.HalfEdge.{code}
 use Rattle.boundary_model.specs.Model.{has_half, loop_of, after, round, arc}
 use Rattle.euler_conditions.specs.Store.{Store, set_tail}
-use Rattle.euler_laws_shared.proofs.Goes.{not_true}
+use Rattle.euler_laws.proofs.shared.Goes.{not_true}
 use Rattle.vertex_operators.proofs.EdgeSteps.{same_half, other_half, is_not_false}
 use Rattle.vertex_operators.proofs.Tails.{HasCome, come_first, half_now, mate_there, mate_looped, next_is, shorter, come_on, come_last}
 use Rattle.vertex_operators.proofs.steps.move_tails.Goals as goal

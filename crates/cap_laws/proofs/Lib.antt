@@ -1,5 +1,0 @@
-pub mod Gone
-mod Joined
-mod Parted
-mod Two
-pub mod Whole

@@ -1,5 +1,0 @@
-use Rattle.crossing_laws.proofs.Whole.{crossings_accepted, crossings_made, crossings_sound, crossings_counted}
-use Rattle.crossing_laws.proofs.operators_cut_crossings.Goals as goal
-
-pub returns : goal.returns
-returns c = record { accepted = crossings_accepted; made = crossings_made; sound = crossings_sound; counted = crossings_counted }

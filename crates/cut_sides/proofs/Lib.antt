@@ -1,8 +1,0 @@
-pub mod Heights
-pub mod Follows
-pub mod Pieces
-pub mod Starts
-pub mod EndLists
-pub mod PlaceEnds
-pub mod Taking
-pub use Rattle.cut_pairs.proofs.Whole

@@ -1,5 +1,0 @@
-use Rattle.drawing_laws.proofs.Whole.{drawing_accepted, drawing_made, drawing_sound, drawing_stays}
-use Rattle.drawing_laws.proofs.drawings_are_made.Goals as goal
-
-pub returns : goal.returns
-returns c = record { accepted = drawing_accepted; made = drawing_made; sound = drawing_sound; kept = drawing_stays }

@@ -1,5 +1,0 @@
-use Rattle.drawn_splits.proofs.Drawn.{can_open_all}
-use Rattle.drawn_splits.proofs.sections_can_be_opened.Goals as goal
-
-pub returns : goal.returns
-returns c = record { in_turn = can_open_all }

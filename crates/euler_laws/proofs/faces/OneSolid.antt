@@ -1,0 +1,358 @@
+-- A model, and the one with one more solid of one face, one lone loop and one vertex: where one is sound, the other is.
+use Rattle.std.proofs.Common.{◌≡◌, ◌≢◌, ℕ, List, [], Some, None, unwrap_or, is_some, IsTrue, refl, sym, ap, ◌∙◌, subst, arith, ◌⊎◌, inl, inr, true≢false}
+use Rattle.std.proofs.lemmas.Bool.Decides.{nat_tests, eqb_tells}
+use Rattle.lattice.specs.declared.Point.{Point}
+use Rattle.lattice.specs.Point.{IsInRange}
+use Rattle.boundary_model.specs.HalfEdge.{mate}
+use Rattle.boundary_model.specs.Table as table
+use Rattle.boundary_model.specs.Table.{Table, tables}
+use Rattle.boundary_model.specs.Model.{Model, lone, cycle, FaceRow, LoopRow, no_face, no_loop, holds, tail, loop_of, content, cycle_of, face_of, solid_of, outer, after, is_number}
+use Rattle.boundary_model.specs.Sound.{Sound, Has, HasHalf}
+use Rattle.boundary_model.proofs.Models.{row_of, content_cycle}
+use Rattle.euler_operators.specs.Effect.{mvfs}
+use Rattle.euler_laws.proofs.shared.Fans.{half_mate}
+use Rattle.euler_laws.proofs.shared.Loops.{IsLoop, loop_sound, Walks, stands-walks, one_loop-walks, cycles-walks, ends_meet-walks, one_fan-walks, not_lone, one_vertex}
+use Rattle.euler_laws.proofs.shared.Same.{solid_at}
+use Rattle.euler_laws.proofs.shared.Rings.{SameRings, half_back, tail_same, walks-rings, loop-rings, ends_differ-rings, tail-rings, edges_fit-rings}
+use Rattle.euler_laws.proofs.shared.Rows.{one_row}
+
+-- what the conditions of mvfs say
+pub record MvfsGoes (M : Model) (s f l v : ℕ) (p : Point) : Type 0 where
+  pub solid_free : table.get M.solids s ≡ None
+  pub face_free : table.get M.faces f ≡ None
+  pub loop_free : table.get M.loops l ≡ None
+  pub vertex_free : table.get M.vertices v ≡ None
+  pub solid_fits : IsTrue (is_number s)
+  pub face_fits : IsTrue (is_number f)
+  pub loop_fits : IsTrue (is_number l)
+  pub vertex_fits : IsTrue (is_number v)
+  pub point_fits : IsInRange p
+
+-- ---- a table with one more row
+
+module _ {X : Type 0} (t : Table X) (n : ℕ) (x : X) (is_free : table.get t n ≡ None) where
+  pub added_there : table.get (table.put t n x) n ≡ Some x
+  added_there = grind (arith, nat_tests, tables)
+
+  pub added_other : (q : ℕ) → q ≢ n → table.get (table.put t n x) q ≡ table.get t q
+  added_other q a = grind (arith, nat_tests, tables)
+
+  pub not_added : (q : ℕ) → Has t q → q ≢ n
+  not_added q there e = true≢false (sym there ∙ ap is_some (ap (table.get t) e ∙ is_free))
+
+  pub added_on : (q : ℕ) → Has t q → Has (table.put t n x) q
+  added_on q there = ap is_some (added_other q (not_added q there)) ∙ there
+
+  pub added_back : (q : ℕ) → q ≢ n → Has (table.put t n x) q → Has t q
+  added_back q a there = ap is_some (sym (added_other q a)) ∙ there
+
+-- ---- the model with one more solid, face, loop and vertex
+
+module _ (M : Model) (s f l v : ℕ) (p : Point) (goes : MvfsGoes M s f l v p) where
+  abbrev pub N : Model
+  N = mvfs M s f l v p
+
+  abbrev face_row : FaceRow
+  face_row = record { solid = s; outer = l }
+
+  abbrev loop_row : LoopRow
+  loop_row = record { face = f; content = lone v }
+
+  pub edges_same : N.edges ≡ M.edges
+  unfolding mvfs
+  edges_same = refl
+
+  pub solids_are : N.solids ≡ table.put M.solids s tt
+  unfolding mvfs
+  solids_are = refl
+
+  pub faces_are : N.faces ≡ table.put M.faces f (record { solid = s; outer = l })
+  unfolding mvfs
+  faces_are = refl
+
+  pub loops_are : N.loops ≡ table.put M.loops l (record { face = f; content = lone v })
+  unfolding mvfs
+  loops_are = refl
+
+  pub vertices_are : N.vertices ≡ table.put M.vertices v p
+  unfolding mvfs
+  vertices_are = refl
+
+  pub face_new : table.get N.faces f ≡ Some face_row
+  face_new = ap (λ t. table.get t f) faces_are ∙ added_there M.faces f face_row goes.face_free
+
+  pub face_other : (q : ℕ) → q ≢ f → table.get N.faces q ≡ table.get M.faces q
+  face_other q a = ap (λ t. table.get t q) faces_are ∙ added_other M.faces f face_row goes.face_free q a
+
+  pub loop_new : table.get N.loops l ≡ Some loop_row
+  loop_new = ap (λ t. table.get t l) loops_are ∙ added_there M.loops l loop_row goes.loop_free
+
+  pub loop_other : (q : ℕ) → q ≢ l → table.get N.loops q ≡ table.get M.loops q
+  loop_other q a = ap (λ t. table.get t q) loops_are ∙ added_other M.loops l loop_row goes.loop_free q a
+
+  pub vertex_new : table.get N.vertices v ≡ Some p
+  vertex_new = ap (λ t. table.get t v) vertices_are ∙ added_there M.vertices v p goes.vertex_free
+
+  pub vertex_other : (q : ℕ) → q ≢ v → table.get N.vertices q ≡ table.get M.vertices q
+  vertex_other q a = ap (λ t. table.get t q) vertices_are ∙ added_other M.vertices v p goes.vertex_free q a
+
+  -- what is in the old tables, and what in the new ones
+  pub not_f : (q : ℕ) → Has M.faces q → q ≢ f
+  not_f = not_added M.faces f face_row goes.face_free
+
+  pub not_l : (q : ℕ) → Has M.loops q → q ≢ l
+  not_l = not_added M.loops l loop_row goes.loop_free
+
+  pub not_v : (q : ℕ) → Has M.vertices q → q ≢ v
+  not_v = not_added M.vertices v p goes.vertex_free
+
+  pub not_s : (q : ℕ) → Has M.solids q → q ≢ s
+  not_s = not_added M.solids s tt goes.solid_free
+
+  pub face_on : (q : ℕ) → Has M.faces q → Has N.faces q
+  face_on q t = ap is_some (face_other q (not_f q t)) ∙ t
+
+  pub face_back : (q : ℕ) → q ≢ f → Has N.faces q → Has M.faces q
+  face_back q a t = ap is_some (sym (face_other q a)) ∙ t
+
+  pub loop_on : (q : ℕ) → Has M.loops q → Has N.loops q
+  loop_on q t = ap is_some (loop_other q (not_l q t)) ∙ t
+
+  pub loop_back : (q : ℕ) → q ≢ l → Has N.loops q → Has M.loops q
+  loop_back q a t = ap is_some (sym (loop_other q a)) ∙ t
+
+  pub vertex_on : (q : ℕ) → Has M.vertices q → Has N.vertices q
+  vertex_on q t = ap is_some (vertex_other q (not_v q t)) ∙ t
+
+  pub vertex_back : (q : ℕ) → q ≢ v → Has N.vertices q → Has M.vertices q
+  vertex_back q a t = ap is_some (sym (vertex_other q a)) ∙ t
+
+  pub solid_new : Has N.solids s
+  solid_new = subst (λ t. Has t s) (sym solids_are) (ap is_some (added_there M.solids s tt goes.solid_free))
+
+  pub solid_on : (q : ℕ) → Has M.solids q → Has N.solids q
+  solid_on q t = subst (λ y. Has y q) (sym solids_are) (added_on M.solids s tt goes.solid_free q t)
+
+  pub solid_back : (q : ℕ) → q ≢ s → Has N.solids q → Has M.solids q
+  solid_back q a t = added_back M.solids s tt goes.solid_free q a (subst (λ y. Has y q) solids_are t)
+
+  -- ---- what the readers answer
+
+  pub content_new : content N l ≡ lone v
+  unfolding content
+  content_new = ap (λ o. (unwrap_or o no_loop).content) loop_new
+
+  pub content_other : (q : ℕ) → q ≢ l → content N q ≡ content M q
+  unfolding content
+  content_other q a = ap (λ o. (unwrap_or o no_loop).content) (loop_other q a)
+
+  content_free : content M l ≡ cycle []
+  unfolding content
+  content_free = ap (λ o. (unwrap_or o no_loop).content) goes.loop_free
+
+  pub face_of_new : face_of N l ≡ f
+  unfolding face_of
+  face_of_new = ap (λ o. (unwrap_or o no_loop).face) loop_new
+
+  pub face_of_other : (q : ℕ) → q ≢ l → face_of N q ≡ face_of M q
+  unfolding face_of
+  face_of_other q a = ap (λ o. (unwrap_or o no_loop).face) (loop_other q a)
+
+  pub solid_of_new : solid_of N f ≡ s
+  unfolding solid_of
+  solid_of_new = ap (λ o. (unwrap_or o no_face).solid) face_new
+
+  pub solid_of_other : (q : ℕ) → q ≢ f → solid_of N q ≡ solid_of M q
+  unfolding solid_of
+  solid_of_other q a = ap (λ o. (unwrap_or o no_face).solid) (face_other q a)
+
+  pub outer_new : outer N f ≡ l
+  unfolding outer
+  outer_new = ap (λ o. (unwrap_or o no_face).outer) face_new
+
+  pub outer_other : (q : ℕ) → q ≢ f → outer N q ≡ outer M q
+  unfolding outer
+  outer_other q a = ap (λ o. (unwrap_or o no_face).outer) (face_other q a)
+
+  -- each loop holds the same half-edges
+  pub stand_same : (x q : ℕ) → holds x (content N q) ≡ holds x (content M q)
+  unfolding holds
+  stand_same x q = elim (eqb_tells q l) [
+    | inl e ↦ ap (λ y. holds x (content N y)) e.1 ∙ ap (holds x) content_new ∙ ap (holds x) (sym content_free) ∙ ap (λ y. holds x (content M y)) (sym e.1)
+    | inr e ↦ ap (holds x) (content_other q e.1)
+  ]
+
+  -- a lone loop of the old model is another than l
+  lone_not_l : (q w : ℕ) → content M q ≡ lone w → q ≢ l
+  lone_not_l q w e a = not_lone [] w (sym content_free ∙ ap (content M) (sym a) ∙ e)
+
+  -- ---- from the old model to the new one
+
+  module _ (sound : Sound M) where
+    rings_on : SameRings M N
+    rings_on = record {
+      edges = edges_same;
+      stand = stand_same;
+      loops = λ q t. elim (eqb_tells q l) [
+        | inl e ↦ subst (IsLoop (after M)) (sym (ap (content N) e.1 ∙ content_new)) tt
+        | inr e ↦ subst (IsLoop (after M)) (sym (content_other q e.1)) (loop_sound M sound q (loop_back q e.1 t))
+      ];
+    }
+
+    walks_on : Walks N (after M)
+    walks_on = walks-rings M N sound rings_on
+
+    half_old : (x : ℕ) → HasHalf N x → HasHalf M x
+    half_old = half_back M N sound rings_on
+
+    tail_on : (x : ℕ) → tail N x ≡ tail M x
+    tail_on = tail_same M N sound rings_on
+
+    -- a lone loop of the new model is the new one, or an old one at an old vertex
+    lone_cases : (q w : ℕ) → content N q ≡ lone w → ((q ≡ l) × (w ≡ v)) ⊎ ((content M q ≡ lone w) × Has M.vertices w)
+    lone_cases q w e = elim (eqb_tells q l) [
+      | inl a ↦ inl (a.1, one_vertex w v (sym e ∙ ap (content N) a.1 ∙ content_new))
+      | inr a ↦ let o = sym (content_other q a.1) ∙ e in inr (o, sound.lone_at_vertex q w o)
+    ]
+
+    solid_at_old : (x : ℕ) → HasHalf M x → solid_at N (loop_of N x) ≡ solid_at M (loop_of M x)
+    solid_at_old x t =
+        let r : Has M.loops (loop_of M x) = ap is_some (row_of M sound x t) in
+        ap (solid_at N) (loop-rings M N sound rings_on x t) ∙ ap (solid_of N) (face_of_other (loop_of M x) (not_l _ r)) ∙ solid_of_other _ (not_f _ (sound.loops_of_faces _ r))
+
+    pub sound-mvfs : Sound N
+    sound-mvfs = record {
+      stands = stands-walks N (after M) walks_on;
+      only_edges = walks_on.only;
+      one_loop = one_loop-walks N (after M) walks_on;
+      cycles = cycles-walks N (after M) walks_on;
+      ends_meet = ends_meet-walks N (after M) walks_on;
+      tails_there = λ x t. subst (Has N.vertices) (sym (tail_on x)) (vertex_on _ (sound.tails_there x (half_old x t)));
+      ends_differ = ends_differ-rings M N sound rings_on;
+      lone_or_tail = λ w t. elim (eqb_tells w v) [
+        | inl e ↦ inl (l, content_new ∙ ap lone (sym e.1))
+        | inr e ↦ elim (sound.lone_or_tail w (vertex_back w e.1 t)) [
+          | inl a ↦ inl (a.0, content_other a.0 (lone_not_l a.0 w a.1) ∙ a.1)
+          | inr x ↦ inr (tail-rings M N sound rings_on w x)
+        ]
+      ];
+      lone_is_no_tail = λ q x t e. let o = half_old x t in elim (lone_cases q (tail N x) e) [
+        | inl a ↦ not_v (tail M x) (sound.tails_there x o) (sym (tail_on x) ∙ a.1)
+        | inr a ↦ sound.lone_is_no_tail q x o (a.0 ∙ ap lone (tail_on x))
+      ];
+      one_lone = λ a b w x y. elim (lone_cases a w x) [
+        | inl c ↦ elim (lone_cases b w y) [ inl d ↦ c.0 ∙ sym d.0 | inr d ↦ absurd (not_v w d.1 c.1) ]
+        | inr c ↦ elim (lone_cases b w y) [ inl d ↦ absurd (not_v w c.1 d.1) | inr d ↦ sound.one_lone a b w c.0 d.0 ]
+      ];
+      one_fan = one_fan-walks N (after M) walks_on;
+      loops_of_faces = λ q t. elim (eqb_tells q l) [
+        | inl e ↦ subst (Has N.faces) (sym (ap (face_of N) e.1 ∙ face_of_new)) (ap is_some face_new)
+        | inr e ↦ subst (Has N.faces) (sym (face_of_other q e.1)) (face_on _ (sound.loops_of_faces q (loop_back q e.1 t)))
+      ];
+      outers_there = λ q t. elim (eqb_tells q f) [
+        | inl e ↦ let o : outer N q ≡ l = ap (outer N) e.1 ∙ outer_new in (subst (Has N.loops) (sym o) (ap is_some loop_new), ap (face_of N) o ∙ face_of_new ∙ sym e.1)
+        | inr e ↦ let o = sound.outers_there q (face_back q e.1 t) in
+            (subst (Has N.loops) (sym (outer_other q e.1)) (loop_on _ o.0), ap (face_of N) (outer_other q e.1) ∙ face_of_other _ (not_l _ o.0) ∙ o.1)
+      ];
+      lone_at_vertex = λ q w a. elim (lone_cases q w a) [
+        | inl e ↦ subst (Has N.vertices) (sym e.1) (ap is_some vertex_new)
+        | inr e ↦ vertex_on w e.1
+      ];
+      faces_of_solids = λ q t. elim (eqb_tells q f) [
+        | inl e ↦ subst (Has N.solids) (sym (ap (solid_of N) e.1 ∙ solid_of_new)) solid_new
+        | inr e ↦ subst (Has N.solids) (sym (solid_of_other q e.1)) (solid_on _ (sound.faces_of_solids q (face_back q e.1 t)))
+      ];
+      solid_has_face = λ n t. elim (eqb_tells n s) [
+        | inl e ↦ (f, ap is_some face_new, solid_of_new ∙ sym e.1)
+        | inr e ↦ let x = sound.solid_has_face n (solid_back n e.1 t) in (x.0, face_on x.0 x.1, solid_of_other x.0 (not_f x.0 x.1) ∙ x.2)
+      ];
+      one_solid = λ x t. let o = half_old x t in solid_at_old x o ∙ sound.one_solid x o ∙ sym (solid_at_old (mate x) (half_mate M sound x o));
+      solids_fit = λ n t. elim (eqb_tells n s) [ inl e ↦ subst (λ y. IsTrue (is_number y)) (sym e.1) goes.solid_fits | inr e ↦ sound.solids_fit n (solid_back n e.1 t) ];
+      faces_fit = λ n t. elim (eqb_tells n f) [ inl e ↦ subst (λ y. IsTrue (is_number y)) (sym e.1) goes.face_fits | inr e ↦ sound.faces_fit n (face_back n e.1 t) ];
+      loops_fit = λ n t. elim (eqb_tells n l) [ inl e ↦ subst (λ y. IsTrue (is_number y)) (sym e.1) goes.loop_fits | inr e ↦ sound.loops_fit n (loop_back n e.1 t) ];
+      edges_fit = edges_fit-rings M N sound rings_on;
+      vertices_fit = λ n t. elim (eqb_tells n v) [ inl e ↦ subst (λ y. IsTrue (is_number y)) (sym e.1) goes.vertex_fits | inr e ↦ sound.vertices_fit n (vertex_back n e.1 t) ];
+      points_fit = λ w q at. elim (eqb_tells w v) [
+        | inl e ↦ subst IsInRange (one_row (sym vertex_new ∙ ap (table.get N.vertices) (sym e.1) ∙ at)) goes.point_fits
+        | inr e ↦ sound.points_fit w q (sym (vertex_other w e.1) ∙ at)
+      ];
+    }
+
+  -- ---- and back
+
+  module _ (sound : Sound N) (no_face : (q : ℕ) → Has M.faces q → solid_of M q ≢ s) (no_ring : (q : ℕ) → Has M.loops q → face_of M q ≢ f) where
+    rings_off : SameRings N M
+    rings_off = record {
+      edges = sym edges_same;
+      stand = λ x q. sym (stand_same x q);
+      loops = λ q t. subst (IsLoop (after N)) (content_other q (not_l q t)) (loop_sound N sound q (loop_on q t));
+    }
+
+    walks_off : Walks M (after N)
+    walks_off = walks-rings N M sound rings_off
+
+    half_new : (x : ℕ) → HasHalf M x → HasHalf N x
+    half_new = half_back N M sound rings_off
+
+    tail_off : (x : ℕ) → tail M x ≡ tail N x
+    tail_off = tail_same N M sound rings_off
+
+    never_v : (x : ℕ) → HasHalf M x → tail N x ≢ v
+    never_v x t e = sound.lone_is_no_tail l x (half_new x t) (content_new ∙ ap lone (sym e))
+
+    lone_on : (q w : ℕ) → content M q ≡ lone w → (content N q ≡ lone w) × (w ≢ v)
+    lone_on q w e = let a = lone_not_l q w e in let o : content N q ≡ lone w = content_other q a ∙ e in
+        (o, λ z. a (sound.one_lone q l v (o ∙ ap lone z) content_new))
+
+    solid_at_new : (x : ℕ) → HasHalf M x → solid_at M (loop_of M x) ≡ solid_at N (loop_of N x)
+    solid_at_new x t =
+        let o : HasHalf N x = half_new x t in
+        let e : loop_of M x ≡ loop_of N x = loop-rings N M sound rings_off x o in
+        let a : loop_of N x ≢ l = λ z. not_cycle (content_new_at x o z) in
+        let r : Has M.loops (loop_of N x) = loop_back (loop_of N x) a (ap is_some (row_of N sound x o)) in
+        let k : face_of N (loop_of N x) ≡ face_of M (loop_of N x) = face_of_other (loop_of N x) a in
+        ap (solid_at M) e ∙ ap (solid_of M) (sym k) ∙ sym (solid_of_other (face_of N (loop_of N x)) (λ z. no_ring (loop_of N x) r (sym k ∙ z))) where
+          not_cycle : {hs : List ℕ} → lone v ≡ cycle hs → ⊥
+          not_cycle e = not_lone _ v (sym e)
+
+          content_new_at : (x : ℕ) → HasHalf N x → loop_of N x ≡ l → lone v ≡ cycle (cycle_of N x)
+          content_new_at x o z = sym content_new ∙ ap (content N) (sym z) ∙ content_cycle N sound x o
+
+    pub sound-back : Sound M
+    sound-back = record {
+      stands = stands-walks M (after N) walks_off;
+      only_edges = walks_off.only;
+      one_loop = one_loop-walks M (after N) walks_off;
+      cycles = cycles-walks M (after N) walks_off;
+      ends_meet = ends_meet-walks M (after N) walks_off;
+      tails_there = λ x t. subst (Has M.vertices) (sym (tail_off x)) (vertex_back _ (never_v x t) (sound.tails_there x (half_new x t)));
+      ends_differ = ends_differ-rings N M sound rings_off;
+      lone_or_tail = λ w t. elim (sound.lone_or_tail w (vertex_on w t)) [
+        | inl a ↦ inl (a.0, sym (content_other a.0 (λ z. not_v w t (one_vertex w v (sym a.1 ∙ ap (content N) z ∙ content_new)))) ∙ a.1)
+        | inr x ↦ inr (tail-rings N M sound rings_off w x)
+      ];
+      lone_is_no_tail = λ q x t e. sound.lone_is_no_tail q x (half_new x t) ((lone_on q (tail M x) e).0 ∙ ap lone (tail_off x));
+      one_lone = λ a b w x y. sound.one_lone a b w (lone_on a w x).0 (lone_on b w y).0;
+      one_fan = one_fan-walks M (after N) walks_off;
+      loops_of_faces = λ q t. let k = face_of_other q (not_l q t) in
+          face_back (face_of M q) (no_ring q t) (subst (Has N.faces) k (sound.loops_of_faces q (loop_on q t)));
+      outers_there = λ q t.
+          let k = outer_other q (not_f q t) in
+          let o = sound.outers_there q (face_on q t) in
+          let a : outer N q ≢ l = λ z. not_f q t (sym o.1 ∙ ap (face_of N) z ∙ face_of_new) in
+          (subst (Has M.loops) k (loop_back (outer N q) a o.0), ap (face_of M) (sym k) ∙ sym (face_of_other (outer N q) a) ∙ o.1);
+      lone_at_vertex = λ q w e. let o = lone_on q w e in vertex_back w o.1 (sound.lone_at_vertex q w o.0);
+      faces_of_solids = λ q t. let k = solid_of_other q (not_f q t) in
+          solid_back (solid_of M q) (no_face q t) (subst (Has N.solids) k (sound.faces_of_solids q (face_on q t)));
+      solid_has_face = λ n t.
+          let x = sound.solid_has_face n (solid_on n t) in
+          let a : x.0 ≢ f = λ z. not_s n t (sym x.2 ∙ ap (solid_of N) z ∙ solid_of_new) in
+          (x.0, face_back x.0 a x.1, sym (solid_of_other x.0 a) ∙ x.2);
+      one_solid = λ x t. let o = half_new x t in solid_at_new x t ∙ sound.one_solid x o ∙ sym (solid_at_new (mate x) (walks_off.mates x t));
+      solids_fit = λ n t. sound.solids_fit n (solid_on n t);
+      faces_fit = λ n t. sound.faces_fit n (face_on n t);
+      loops_fit = λ n t. sound.loops_fit n (loop_on n t);
+      edges_fit = edges_fit-rings N M sound rings_off;
+      vertices_fit = λ n t. sound.vertices_fit n (vertex_on n t);
+      points_fit = λ w q at. sound.points_fit w q (vertex_other w (not_v w (ap is_some at)) ∙ at);
+    }

@@ -1,0 +1,180 @@
+-- RingIn, which takes a ring to another face of its solid: it keeps a sound model sound, and RingIn to the old face takes it back.
+use Rattle.std.proofs.Common.{◌≡◌, ◌≢◌, ℕ, cond, nat_eq, None, unwrap_or, refl, sym, ap, ◌∙◌, subst, inl, inr}
+use Rattle.std.proofs.lemmas.Bool.Decides.{eqb_tells}
+use Rattle.boundary_model.specs.HalfEdge.{mate}
+use Rattle.boundary_model.specs.Table as table
+use Rattle.boundary_model.specs.Table.{map_rows}
+use Rattle.boundary_model.specs.Model.{Model, no_face, loop_of, face_of, solid_of, outer}
+use Rattle.boundary_model.specs.Sound.{Sound, Has}
+use Rattle.euler_operators.specs.declared.Op.TheVariants.{RingIn}
+use Rattle.euler_operators.specs.Conditions.{first_false, conditions}
+use Rattle.euler_operators.specs.Effect.{effect, inverse, ring_in}
+use Rattle.euler_laws.proofs.shared.Goes.{all_hold, none_refuses, not_true, not_false, equal, unequal, equals, differs}
+use Rattle.euler_laws.proofs.shared.Same.{solid_at}
+use Rattle.euler_laws.proofs.shared.Undo.{same_loops}
+use Rattle.euler_laws.proofs.shared.Faces.{SameWalks, sound-same, content-moved, loop-moved, face-moved, face-kept}
+use Rattle.euler_laws.proofs.shared.Rows.{never_outer, ring_test, test_ring, same_number}
+
+-- loop l is a ring, and face f is of its solid
+pub record RingGoes (M : Model) (l f : ℕ) : Type 0 where
+  pub l_there : Has M.loops l
+  pub f_there : Has M.faces f
+  pub one_solid : solid_of M (face_of M l) ≡ solid_of M f
+  pub is_ring : outer M (face_of M l) ≢ l
+
+module _ (M : Model) (sound : Sound M) (l f : ℕ) (goes : RingGoes M l f) where
+  abbrev pub N : Model
+  N = ring_in M l f
+
+  loops_are : N.loops ≡ map_rows (λ k row. cond (nat_eq k l) (record row { face = f }) row) M.loops
+  unfolding ring_in
+  loops_are = refl
+
+  pub same : SameWalks M N
+  unfolding ring_in
+  same = record { edges = refl; vertices = refl; contents = content-moved M N l f loops_are; loops = loop-moved M N l f loops_are }
+
+  faces_same : N.faces ≡ M.faces
+  unfolding ring_in
+  faces_same = refl
+
+  solids_same : N.solids ≡ M.solids
+  unfolding ring_in
+  solids_same = refl
+
+  pub outer_same : (p : ℕ) → outer N p ≡ outer M p
+  unfolding outer
+  outer_same p = ap (λ t. (unwrap_or (table.get t p) no_face).outer) faces_same
+
+  pub solid_same : (p : ℕ) → solid_of N p ≡ solid_of M p
+  unfolding solid_of
+  solid_same p = ap (λ t. (unwrap_or (table.get t p) no_face).solid) faces_same
+
+  face_on : (p : ℕ) → Has M.faces p → Has N.faces p
+  face_on p t = subst (λ y. Has y p) (sym faces_same) t
+
+  face_back : (p : ℕ) → Has N.faces p → Has M.faces p
+  face_back p t = subst (λ y. Has y p) faces_same t
+
+  pub face_l : face_of N l ≡ f
+  face_l = face-moved M N l f loops_are goes.l_there
+
+  pub face_else : (q : ℕ) → q ≢ l → face_of N q ≡ face_of M q
+  face_else q a = face-kept M N l f loops_are q a
+
+  solid_loop : (q : ℕ) → solid_at N q ≡ solid_at M q
+  solid_loop q = elim (eqb_tells q l) [
+    | inl e ↦ ap (λ y. solid_of N (face_of N y)) e.1 ∙ ap (solid_of N) face_l ∙ solid_same f ∙ sym goes.one_solid ∙ sym (ap (λ y. solid_of M (face_of M y)) e.1)
+    | inr e ↦ ap (solid_of N) (face_else q e.1) ∙ solid_same (face_of M q)
+  ]
+
+  pub sound-ring_in : Sound N
+  sound-ring_in = sound-same M N sound same (record {
+    loops_of_faces = λ q t. elim (eqb_tells q l) [
+      | inl e ↦ subst (Has N.faces) (sym (ap (face_of N) e.1 ∙ face_l)) (face_on f goes.f_there)
+      | inr e ↦ subst (Has N.faces) (sym (face_else q e.1)) (face_on _ (sound.loops_of_faces q t))
+    ];
+    outers_there = λ p t. let o = sound.outers_there p (face_back p t) in
+        (subst (Has M.loops) (sym (outer_same p)) o.0, ap (face_of N) (outer_same p) ∙ face_else (outer M p) (never_outer M sound l goes.is_ring p (face_back p t)) ∙ o.1);
+    faces_of_solids = λ p t. subst (λ y. Has y (solid_of N p)) (sym solids_same) (subst (Has M.solids) (sym (solid_same p)) (sound.faces_of_solids p (face_back p t)));
+    solid_has_face = λ s t. let x = sound.solid_has_face s (subst (λ y. Has y s) solids_same t) in (x.0, face_on x.0 x.1, solid_same x.0 ∙ x.2);
+    one_solid = λ x t. solid_loop (loop_of M x) ∙ sound.one_solid x t ∙ sym (solid_loop (loop_of M (mate x)));
+    solids_fit = λ n t. sound.solids_fit n (subst (λ y. Has y n) solids_same t);
+    faces_fit = λ n t. sound.faces_fit n (face_back n t);
+  })
+
+  -- what the way back asks
+  pub back_goes : RingGoes N l (face_of M l)
+  back_goes = record {
+    l_there = same.loops l ∙ goes.l_there;
+    f_there = face_on _ (sound.loops_of_faces l goes.l_there);
+    one_solid = ap (solid_of N) face_l ∙ solid_same f ∙ sym goes.one_solid ∙ sym (solid_same (face_of M l));
+    is_ring = λ e. never_outer M sound l goes.is_ring f goes.f_there (sym (outer_same f) ∙ ap (outer N) (sym face_l) ∙ e);
+  }
+
+module _ (M : Model) (sound : Sound M) (l f : ℕ) (goes : RingGoes M l f) where
+  abbrev N' : Model
+  N' = ring_in M l f
+
+  abbrev K : Model
+  K = ring_in N' l (face_of M l)
+
+  back : RingGoes N' l (face_of M l)
+  back = back_goes M sound l f goes
+
+  snd : Sound N'
+  snd = sound-ring_in M sound l f goes
+
+  loops-back : K.loops ≡ M.loops
+  loops-back = same_loops K M
+      (λ q. (same N' snd l (face_of M l) back).loops q ∙ (same M sound l f goes).loops q)
+      (λ q _. elim (eqb_tells q l) [
+        | inl e ↦ ap (face_of K) e.1 ∙ face_l N' snd l (face_of M l) back ∙ sym (ap (face_of M) e.1)
+        | inr e ↦ face_else N' snd l (face_of M l) back q e.1 ∙ face_else M sound l f goes q e.1
+      ])
+      (λ q _. (same N' snd l (face_of M l) back).contents q ∙ (same M sound l f goes).contents q)
+
+  solids-back : K.solids ≡ M.solids
+  unfolding ring_in
+  solids-back = refl
+
+  faces-back : K.faces ≡ M.faces
+  unfolding ring_in
+  faces-back = refl
+
+  edges-back : K.edges ≡ M.edges
+  unfolding ring_in
+  edges-back = refl
+
+  vertices-back : K.vertices ≡ M.vertices
+  unfolding ring_in
+  vertices-back = refl
+
+  pub ring_in-ring_in : ring_in (ring_in M l f) l (face_of M l) ≡ M
+  ring_in-ring_in = λ i. record { solids = solids-back i; faces = faces-back i; loops = loops-back i; edges = edges-back i; vertices = vertices-back i }
+
+-- ---- the operator
+
+pub ring_in_goes : (M : Model) (l f : ℕ) → first_false M (RingIn l f) ≡ None → RingGoes M l f × (face_of M l ≢ f)
+unfolding first_false conditions
+ring_in_goes M l f e = let w = all_hold (conditions M (RingIn l f)) e in let t = w.1.1 in (
+  record {
+    l_there = t.0;
+    f_there = t.1.0;
+    one_solid = equal _ _ t.1.1.0;
+    is_ring = unequal _ _ (ring_test (table.has M.loops l) (nat_eq (face_of M l) (face_of M l)) (nat_eq (outer M (face_of M l)) l) t.1.1.1.0);
+  },
+  unequal _ _ (not_true _ t.1.1.1.1.0),
+)
+
+pub ring_in_accepted : (N : Model) (l f : ℕ) → Sound N → RingGoes N l f → face_of N l ≢ f → first_false N (RingIn l f) ≡ None
+unfolding first_false conditions
+ring_in_accepted N l f sound goes apart = none_refuses (conditions N (RingIn l f)) (
+  sound.loops_fit l goes.l_there,
+  (
+    sound.faces_fit f goes.f_there,
+    (
+      goes.l_there,
+      (
+        goes.f_there,
+        (
+          equals _ _ goes.one_solid,
+          (test_ring (table.has N.loops l) (nat_eq (face_of N l) (face_of N l)) (nat_eq (outer N (face_of N l)) l) goes.l_there (same_number (face_of N l)) (differs _ _ goes.is_ring), (not_false _ (differs _ _ apart), tt)),
+        ),
+      ),
+    ),
+  ),
+)
+
+pub ring_in_keeps_sound : (M : Model) (l f : ℕ) → Sound M → first_false M (RingIn l f) ≡ None → Sound (effect M (RingIn l f))
+unfolding effect
+ring_in_keeps_sound M l f sound e = sound-ring_in M sound l f (ring_in_goes M l f e).0
+
+pub ring_in_is_undone : (M : Model) (l f : ℕ) → Sound M → first_false M (RingIn l f) ≡ None → effect (effect M (RingIn l f)) (inverse M (RingIn l f)) ≡ M
+unfolding effect inverse
+ring_in_is_undone M l f sound e = ring_in-ring_in M sound l f (ring_in_goes M l f e).0
+
+pub ring_in_inverse_goes : (M : Model) (l f : ℕ) → Sound M → first_false M (RingIn l f) ≡ None → first_false (effect M (RingIn l f)) (inverse M (RingIn l f)) ≡ None
+unfolding effect inverse
+ring_in_inverse_goes M l f sound e = let w = ring_in_goes M l f e in
+    ring_in_accepted (ring_in M l f) l (face_of M l) (sound-ring_in M sound l f w.0) (back_goes M sound l f w.0) (λ s. w.1 (sym s ∙ face_l M sound l f w.0))

@@ -1,0 +1,252 @@
+-- mvfs and kvfs as operators: they keep a model sound, and each passes its conditions after the other and takes it back.
+use Rattle.std.proofs.Common.{◌≡◌, ℕ, Bool, true, false, not, nat_eq, ◌&&◌, ◌||◌, List, [], ◌∷◌, Some, None, unwrap_or, is_some, refl, sym, ap, ◌∙◌, subst, arith, inl, inr, true≢false}
+use Rattle.std.proofs.lemmas.Bool.Decides.{nat_tests, eqb_tells}
+use Rattle.lattice.specs.declared.Point.{Point}
+use Rattle.boundary_model.specs.Table as table
+use Rattle.boundary_model.specs.Table.{Table, tables}
+use Rattle.boundary_model.specs.Model.{Model, lone, no_face, content, face_of, solid_of, outer, point_of, faces_of, rings_of}
+use Rattle.boundary_model.specs.Sound.{Sound, Has}
+use Rattle.boundary_model.proofs.Tables.{put-remove, remove-put}
+use Rattle.euler_operators.specs.declared.Op.TheVariants.{Mvfs, Kvfs}
+use Rattle.euler_operators.specs.Conditions.{first_false, conditions, bare_face, has_rings, is_empty, is_lone, lone_vertex, lists}
+use Rattle.euler_operators.specs.Effect.{effect, inverse, mvfs, kvfs_at, head_or_zero}
+use Rattle.euler_laws.proofs.shared.Goes.{all_hold, none_refuses, not_true, not_false, free, taken, equal, equals, not_back}
+use Rattle.euler_laws.proofs.shared.Loops.{some_row}
+use Rattle.euler_laws.proofs.shared.Rows.{face_there, point_row, lone_is, no_rings_means, means_no_rings, solid_row, loop_row}
+use Rattle.euler_laws.proofs.shared.Listed.{listed_passes, passes_listed, all_where-rises, one_listed}
+use Rattle.euler_laws.proofs.faces.OneSolid as more
+use Rattle.euler_laws.proofs.faces.OneSolid.{MvfsGoes, sound-mvfs, sound-back}
+
+-- what the conditions of kvfs say
+pub record KvfsGoes (M : Model) (s f : ℕ) : Type 0 where
+  pub s_there : Has M.solids s
+  pub f_there : Has M.faces f
+  pub of_s : solid_of M f ≡ s
+  pub only : (q : ℕ) → Has M.faces q → solid_of M q ≡ s → q ≡ f
+  pub no_rings : (q : ℕ) → Has M.loops q → face_of M q ≡ f → outer M f ≡ q
+  pub is_bare : content M (outer M f) ≡ lone (lone_vertex (content M (outer M f)))
+
+module _ (M : Model) (sound : Sound M) (s f : ℕ) (goes : KvfsGoes M s f) where
+  abbrev pub l : ℕ
+  l = outer M f
+
+  abbrev pub v : ℕ
+  v = lone_vertex (content M (outer M f))
+
+  abbrev pub p : Point
+  p = point_of M (lone_vertex (content M (outer M f)))
+
+  abbrev pub K : Model
+  K = kvfs_at M s f
+
+  v_there : Has M.vertices v
+  v_there = sound.lone_at_vertex l v goes.is_bare
+
+  l_there : Has M.loops l
+  l_there = (sound.outers_there f goes.f_there).0
+
+  face_row : table.get M.faces f ≡ Some (record { solid = s; outer = l })
+  face_row = face_there M f goes.f_there ∙ ap (λ n. Some (record { solid = n; outer = l })) goes.of_s
+
+  row_l : table.get M.loops l ≡ Some (record { face = f; content = lone v })
+  row_l = loop_row M l l_there ∙ (λ i. Some (record { face = (sound.outers_there f goes.f_there).1 i; content = goes.is_bare i }))
+
+  gone : (table.get K.solids s ≡ None) × (table.get K.faces f ≡ None) × (table.get K.loops l ≡ None) × (table.get K.vertices v ≡ None)
+  unfolding kvfs_at
+  gone = (removed M.solids s, removed M.faces f, removed M.loops l, removed M.vertices v) where
+    removed : {X : Type 0} (t : Table X) (n : ℕ) → table.get (table.remove t n) n ≡ None
+    removed t n = grind (arith, nat_tests, tables)
+
+  pub put_goes : MvfsGoes K s f l v p
+  put_goes = record {
+    solid_free = gone.0;
+    face_free = gone.1;
+    loop_free = gone.2;
+    vertex_free = gone.3;
+    solid_fits = sound.solids_fit s goes.s_there;
+    face_fits = sound.faces_fit f goes.f_there;
+    loop_fits = sound.loops_fit l l_there;
+    vertex_fits = sound.vertices_fit v v_there;
+    point_fits = sound.points_fit v p (point_row M v v_there);
+  }
+
+  pub mvfs-kvfs : mvfs K s f l v p ≡ M
+  unfolding mvfs kvfs_at
+  mvfs-kvfs = λ i. record {
+    solids = put-remove M.solids s tt (solid_row M s goes.s_there) i;
+    faces = put-remove M.faces f (record { solid = s; outer = l }) face_row i;
+    loops = put-remove M.loops l (record { face = f; content = lone v }) row_l i;
+    edges = M.edges;
+    vertices = put-remove M.vertices v p (point_row M v v_there) i;
+  }
+
+  pub sound-kvfs : Sound K
+  sound-kvfs = sound-back K s f l v p put_goes (subst Sound (sym mvfs-kvfs) sound)
+      (λ q t e. let a = more.not_f K s f l v p put_goes q t in
+      a (goes.only q (subst (λ X. Has X.faces q) mvfs-kvfs (more.face_on K s f l v p put_goes q t)) (ap (λ X. solid_of X q) (sym mvfs-kvfs) ∙ more.solid_of_other K s f l v p put_goes q a ∙ e)))
+      (λ q t e. let a = more.not_l K s f l v p put_goes q t in
+      a (sym (goes.no_rings q (subst (λ X. Has X.loops q) mvfs-kvfs (more.loop_on K s f l v p put_goes q t)) (ap (λ X. face_of X q) (sym mvfs-kvfs) ∙ more.face_of_other K s f l v p put_goes q a ∙ e))))
+
+-- ---- mvfs is taken back by kvfs
+
+module _ (M : Model) (sound : Sound M) (s f l v : ℕ) (p : Point) (goes : MvfsGoes M s f l v p) where
+  abbrev N : Model
+  N = mvfs M s f l v p
+
+  pub kill_goes : KvfsGoes N s f
+  kill_goes = record {
+    s_there = more.solid_new M s f l v p goes;
+    f_there = ap is_some (more.face_new M s f l v p goes);
+    of_s = more.solid_of_new M s f l v p goes;
+    only = λ q t e. elim (eqb_tells q f) [
+      | inl a ↦ a.1
+      | inr a ↦ let o = more.face_back M s f l v p goes q a.1 t in
+          absurd (more.not_s M s f l v p goes (solid_of M q) (sound.faces_of_solids q o) (sym (more.solid_of_other M s f l v p goes q a.1) ∙ e))
+    ];
+    no_rings = λ q t e. more.outer_new M s f l v p goes ∙ elim (eqb_tells q l) [
+      | inl a ↦ sym a.1
+      | inr a ↦ let o = more.loop_back M s f l v p goes q a.1 t in
+          absurd (more.not_f M s f l v p goes (face_of M q) (sound.loops_of_faces q o) (sym (more.face_of_other M s f l v p goes q a.1) ∙ e))
+    ];
+    is_bare = bare ∙ ap lone (sym (ap lone_vertex bare));
+  } where
+    bare : content N (outer N f) ≡ lone v
+    bare = ap (content N) (more.outer_new M s f l v p goes) ∙ more.content_new M s f l v p goes
+
+  pub kvfs-mvfs : kvfs_at N s f ≡ M
+  unfolding kvfs_at
+  kvfs-mvfs =
+      let o : outer N f ≡ l = more.outer_new M s f l v p goes in
+      let w : lone_vertex (content N (outer N f)) ≡ v = ap lone_vertex (ap (content N) o ∙ more.content_new M s f l v p goes) in
+      let a : table.remove N.solids s ≡ M.solids = ap (λ t. table.remove t s) (more.solids_are M s f l v p goes) ∙ remove-put M.solids s tt goes.solid_free in
+      let b : table.remove N.faces f ≡ M.faces = ap (λ t. table.remove t f) (more.faces_are M s f l v p goes) ∙ remove-put M.faces f _ goes.face_free in
+      let c : table.remove N.loops (outer N f) ≡ M.loops = ap (table.remove N.loops) o ∙ ap (λ t. table.remove t l) (more.loops_are M s f l v p goes) ∙ remove-put M.loops l _ goes.loop_free in
+      let d : table.remove N.vertices (lone_vertex (content N (outer N f))) ≡ M.vertices = ap (table.remove N.vertices) w ∙ ap (λ t. table.remove t v) (more.vertices_are M s f l v p goes) ∙ remove-put M.vertices v p goes.vertex_free in
+      λ i. record { solids = a i; faces = b i; loops = c i; edges = more.edges_same M s f l v p goes i; vertices = d i }
+
+-- ---- conditions
+
+-- the one face of a solid is the first of its list, and all of it
+faces_one : (M : Model) → (s f : ℕ) → KvfsGoes M s f → faces_of M s ≡ f ∷ []
+unfolding solid_of
+faces_one M s f goes =
+    let row = some_row (table.get M.faces f) goes.f_there in
+    one_listed (faces_of M s) f (all_where-rises (λ _ row. nat_eq row.solid s) M.faces)
+    (passes_listed (λ _ row. nat_eq row.solid s) M.faces f row.0 row.1 (equals row.0.solid s (sym (ap (λ o. (unwrap_or o no_face).solid) row.1) ∙ goes.of_s)))
+    (λ q e. let x = listed_passes (λ _ row. nat_eq row.solid s) M.faces q e in
+    goes.only q (ap is_some x.1) (ap (λ o. (unwrap_or o no_face).solid) x.1 ∙ equal x.0.solid s x.2))
+
+both_left : (a b : Bool) → (a && b) ≡ true → a ≡ true
+both_left true b e = refl
+both_left false b e = e
+
+both_right : (a b : Bool) → (a && b) ≡ true → b ≡ true
+both_right true b e = e
+both_right false b e = absurd (true≢false (sym e))
+
+kvfs_facts : (M : Model) (s : ℕ) (fs : List ℕ) → faces_of M s ≡ fs → Has M.solids s → bare_face M fs ≡ true → KvfsGoes M s (head_or_zero fs)
+unfolding has_rings solid_of
+kvfs_facts M s [] is there e = absurd (true≢false (sym e))
+kvfs_facts M s (f ∷ g ∷ fs) is there e = absurd (true≢false (sym e))
+kvfs_facts M s (f ∷ []) is there e =
+    let x = listed_passes (λ _ row. nat_eq row.solid s) M.faces f (ap (λ ns. lists ns f) is ∙ ap (λ b. b || false) (equals f f refl)) in
+    record {
+      s_there = there;
+      f_there = ap is_some x.1;
+      of_s = ap (λ o. (unwrap_or o no_face).solid) x.1 ∙ equal x.0.solid s x.2;
+      only = λ q t k. let row = some_row (table.get M.faces q) t in
+          only_one q (sym (ap (λ ns. lists ns q) is) ∙ passes_listed (λ _ row. nat_eq row.solid s) M.faces q row.0 row.1 (equals row.0.solid s (sym (ap (λ o. (unwrap_or o no_face).solid) row.1) ∙ k)));
+      no_rings = no_rings_means M f (ap not (both_left (is_empty (rings_of M f)) (is_lone (content M (outer M f))) e));
+      is_bare = lone_is (content M (outer M f)) (both_right (is_empty (rings_of M f)) (is_lone (content M (outer M f))) e);
+    } where
+      only_one : (q : ℕ) → (nat_eq f q || false) ≡ true → q ≡ f
+      only_one q e = grind (arith, nat_tests)
+
+pub kvfs_goes : (M : Model) (s : ℕ) → first_false M (Kvfs s) ≡ None → KvfsGoes M s (head_or_zero (faces_of M s))
+unfolding first_false conditions
+kvfs_goes M s e = let w = all_hold (conditions M (Kvfs s)) e in kvfs_facts M s (faces_of M s) refl w.1.0 w.1.1.0
+
+ringless : (N : Model) (f : ℕ) → has_rings N f ≡ false → is_empty (rings_of N f) ≡ true
+unfolding has_rings
+ringless N f r = not_back (is_empty (rings_of N f)) r
+
+pub kvfs_accepted : (N : Model) (s f : ℕ) → Sound N → KvfsGoes N s f → first_false N (Kvfs s) ≡ None
+unfolding first_false conditions
+kvfs_accepted N s f sound goes = none_refuses (conditions N (Kvfs s)) (
+  sound.solids_fit s goes.s_there,
+  (
+    goes.s_there,
+    (ap (bare_face N) (faces_one N s f goes) ∙ bare, tt),
+  ),
+) where
+  bare : bare_face N (f ∷ []) ≡ true
+  bare = λ i. ringless N f (means_no_rings N f goes.no_rings) i && ap is_lone goes.is_bare i
+
+pub mvfs_goes : (M : Model) (s f l v : ℕ) (p : Point) → first_false M (Mvfs s f l v p) ≡ None → MvfsGoes M s f l v p
+unfolding first_false conditions
+mvfs_goes M s f l v p e = let w = all_hold (conditions M (Mvfs s f l v p)) e in let t = w.1.1.1.1 in record {
+  solid_free = free _ (not_true _ t.0);
+  face_free = free _ (not_true _ t.1.0);
+  loop_free = free _ (not_true _ t.1.1.0);
+  vertex_free = free _ (not_true _ t.1.1.1.0);
+  solid_fits = w.0;
+  face_fits = w.1.0;
+  loop_fits = w.1.1.0;
+  vertex_fits = w.1.1.1.0;
+  point_fits = t.1.1.1.1.0;
+}
+
+-- mvfs keeps a sound model sound
+pub mvfs_keeps_sound : (M : Model) (s f l v : ℕ) (p : Point) → Sound M → first_false M (Mvfs s f l v p) ≡ None → Sound (effect M (Mvfs s f l v p))
+unfolding effect
+mvfs_keeps_sound M s f l v p sound e = sound-mvfs M s f l v p (mvfs_goes M s f l v p e) sound
+
+pub mvfs_accepted : (N : Model) (s f l v : ℕ) (p : Point) → MvfsGoes N s f l v p → first_false N (Mvfs s f l v p) ≡ None
+unfolding first_false conditions
+mvfs_accepted N s f l v p goes = none_refuses (conditions N (Mvfs s f l v p)) (
+  goes.solid_fits,
+  (
+    goes.face_fits,
+    (
+      goes.loop_fits,
+      (
+        goes.vertex_fits,
+        (
+          not_false _ (taken _ goes.solid_free),
+          (
+            not_false _ (taken _ goes.face_free),
+            (
+              not_false _ (taken _ goes.loop_free),
+              (
+                not_false _ (taken _ goes.vertex_free),
+                (goes.point_fits, tt),
+              ),
+            ),
+          ),
+        ),
+      ),
+    ),
+  ),
+)
+
+pub mvfs_is_undone : (M : Model) (s f l v : ℕ) (p : Point) → Sound M → first_false M (Mvfs s f l v p) ≡ None → effect (effect M (Mvfs s f l v p)) (inverse M (Mvfs s f l v p)) ≡ M
+unfolding effect inverse
+mvfs_is_undone M s f l v p sound e = let w = mvfs_goes M s f l v p e in
+    ap (λ ns. kvfs_at (mvfs M s f l v p) s (head_or_zero ns)) (faces_one (mvfs M s f l v p) s f (kill_goes M sound s f l v p w)) ∙ kvfs-mvfs M sound s f l v p w
+
+pub mvfs_inverse_goes : (M : Model) (s f l v : ℕ) (p : Point) → Sound M → first_false M (Mvfs s f l v p) ≡ None → first_false (effect M (Mvfs s f l v p)) (inverse M (Mvfs s f l v p)) ≡ None
+unfolding effect inverse
+mvfs_inverse_goes M s f l v p sound e = let w = mvfs_goes M s f l v p e in
+    kvfs_accepted (mvfs M s f l v p) s f (sound-mvfs M s f l v p w sound) (kill_goes M sound s f l v p w)
+
+pub kvfs_keeps_sound : (M : Model) (s : ℕ) → Sound M → first_false M (Kvfs s) ≡ None → Sound (effect M (Kvfs s))
+unfolding effect
+kvfs_keeps_sound M s sound e = sound-kvfs M sound s (head_or_zero (faces_of M s)) (kvfs_goes M s e)
+
+pub kvfs_is_undone : (M : Model) (s : ℕ) → Sound M → first_false M (Kvfs s) ≡ None → effect (effect M (Kvfs s)) (inverse M (Kvfs s)) ≡ M
+unfolding effect inverse
+kvfs_is_undone M s sound e = mvfs-kvfs M sound s (head_or_zero (faces_of M s)) (kvfs_goes M s e)
+
+pub kvfs_inverse_goes : (M : Model) (s : ℕ) → Sound M → first_false M (Kvfs s) ≡ None → first_false (effect M (Kvfs s)) (inverse M (Kvfs s)) ≡ None
+unfolding effect inverse
+kvfs_inverse_goes M s sound e = mvfs_accepted (kvfs_at M s (head_or_zero (faces_of M s))) s _ _ _ _ (put_goes M sound s (head_or_zero (faces_of M s)) (kvfs_goes M s e))

@@ -1,0 +1,239 @@
+-- kemr as an operator: it keeps a model sound, and mekr passes its conditions after it and takes it back.
+use Rattle.std.proofs.Common.{◌≡◌, ◌≢◌, ℕ, ◌≤◌, Bool, true, not, nat_eq, ◌&&◌, List, [], ◌∷◌, ◌++◌, Some, None, is_some, IsTrue, refl, sym, ap, ◌∙◌, subst, arith}
+use Rattle.std.proofs.lemmas.Bool.Decides.{nat_tests}
+use Rattle.cyclic_list.specs.Items.{count, IsIn, IsApart, head_or}
+use Rattle.cyclic_list.specs.Rings.{canonical, rotate_to, between, beyond}
+use Rattle.cyclic_list.proofs.Lists.{tick_same}
+use Rattle.cyclic_list.proofs.Rotations.{rotate_to_canonical, canonical-rotate_to}
+use Rattle.cyclic_list.proofs.Cuts.{ring_split}
+use Rattle.boundary_model.specs.declared.HalfEdge.{HalfEdge}
+use Rattle.boundary_model.specs.declared.Corner.{Corner}
+use Rattle.boundary_model.specs.HalfEdge.{code, half, mate, edge_of}
+use Rattle.boundary_model.specs.Table as table
+use Rattle.boundary_model.specs.Table.{Table}
+use Rattle.boundary_model.specs.Model.{Model, cycle, LoopRow, EdgeRow, items_of, tail, loop_of, content, cycle_of, face_of, outer, is_number, is_ring_of}
+use Rattle.boundary_model.specs.Sound.{Sound, Has, HasHalf}
+use Rattle.boundary_model.proofs.Halves.{edge_of-code, code-half, mate-mate}
+use Rattle.boundary_model.proofs.Tables.{put-remove, two_undone}
+use Rattle.boundary_model.proofs.Models.{row_of}
+use Rattle.euler_operators.specs.declared.Op.TheVariants.{Kemr, Mekr}
+use Rattle.euler_operators.specs.Conditions.{first_false, conditions, corner_tail, corner_loop, corner_list, corner_known, corner_lone, corner_number, lone_vertex, is_lone}
+use Rattle.euler_operators.specs.Effect.{effect, inverse, kemr, mekr, corner_of, cycle_or_lone, edge_row}
+use Rattle.euler_laws.proofs.shared.Goes.{all_hold, none_refuses, not_true, not_false, free, taken, equal, equals, differs}
+use Rattle.euler_laws.proofs.shared.EdgeLess.{edge_gone, tail_old}
+use Rattle.euler_laws.proofs.kemr.KemrSound as parted
+use Rattle.euler_laws.proofs.kemr.KemrSound.{KemrGoes, sound-kemr}
+use Rattle.euler_laws.proofs.shared.Rows.{edge_there, half_of, of_half}
+
+-- a corner of loop q at vertex v, from which the loop reads zs
+pub record CornerAt (N : Model) (c : Corner) (q v : ℕ) (zs : List ℕ) : Type 0 where
+  pub loop : corner_loop N c ≡ q
+  pub vertex : corner_tail N c ≡ v
+  pub list : corner_list N c ≡ zs
+  pub known : (corner_known N c).holds ≡ true
+  pub bare : (corner_lone N c).holds ≡ true
+  pub fits : is_number (corner_number c) ≡ true
+
+-- the corner before the first item of a loop, or of the loop where it is lone
+pub corner_here : (N : Model) → Sound N → (zs : List ℕ) (q v : ℕ) → content N q ≡ cycle_or_lone zs v → Has N.loops q → IsApart zs → ((y : ℕ) → IsIn y zs → (loop_of N y ≡ q) × HasHalf N y) → ((y : ℕ) (ys : List ℕ) → zs ≡ y ∷ ys → tail N y ≡ v) →
+    CornerAt N (corner_of zs q) q v zs
+corner_here N sound [] q v e there d each first = record {
+  loop = refl;
+  vertex = ap lone_vertex e;
+  list = refl;
+  known = there;
+  bare = ap is_lone e;
+  fits = sound.loops_fit q there;
+}
+corner_here N sound (y ∷ ys) q v e there d each first =
+    let o = each y (omega (arith, tick_same y)) in
+    let t : HasHalf N (code (half y)) = subst (HasHalf N) (sym (code-half y)) o.1 in
+    record {
+      loop = ap (loop_of N) (code-half y) ∙ o.0;
+      vertex = ap (tail N) (code-half y) ∙ first y ys refl;
+      list = ap (λ z. rotate_to z (cycle_of N z)) (code-half y) ∙ ap (λ l. rotate_to y (items_of (content N l))) o.0 ∙ ap (λ c. rotate_to y (items_of c)) e ∙ rotate_to_canonical y ys d;
+      known = of_half N (half y) t;
+      bare = refl;
+      fits = ap is_number (sym (edge_of-code (half y))) ∙ sound.edges_fit (edge_of (code (half y))) t;
+    }
+
+-- what the conditions of mekr ask
+pub record MekrGoes (N : Model) (c d : Corner) (h q l u w : ℕ) (ys xs : List ℕ) : Type 0 where
+  pub first : CornerAt N c q u ys
+  pub second : CornerAt N d l w xs
+  pub edge_free : table.get N.edges (edge_of h) ≡ None
+  pub edge_fits : IsTrue (is_number (edge_of h))
+  pub loops_apart : q ≢ l
+  pub one_face : face_of N q ≡ face_of N l
+  pub ring_there : Has N.loops l
+  pub no_outer : outer N (face_of N l) ≢ l
+  pub ends_apart : u ≢ w
+
+pub mekr_accepted : (N : Model) (c d : Corner) (h : HalfEdge) (q l u w : ℕ) (ys xs : List ℕ) → MekrGoes N c d (code h) q l u w ys xs → first_false N (Mekr c d h) ≡ None
+unfolding first_false conditions
+mekr_accepted N c d h q l u w ys xs goes = none_refuses (conditions N (Mekr c d h)) (
+  goes.first.fits,
+  (
+    goes.second.fits,
+    (
+      ap is_number (sym (edge_of-code h)) ∙ goes.edge_fits,
+      (
+        goes.first.known,
+        (
+          goes.second.known,
+          (
+            goes.first.bare,
+            (
+              goes.second.bare,
+              (
+                not_false _ (taken _ (ap (table.get N.edges) (sym (edge_of-code h)) ∙ goes.edge_free)),
+                (
+                  not_false _ (differs _ _ (λ e. goes.loops_apart (sym goes.first.loop ∙ e ∙ goes.second.loop))),
+                  (
+                    equals _ _ (ap (face_of N) goes.first.loop ∙ goes.one_face ∙ sym (ap (face_of N) goes.second.loop)),
+                    (
+                      ap (λ x. is_ring_of N (face_of N x) x) goes.second.loop ∙ ring (table.has N.loops l) (face_of N l) (outer N (face_of N l)) l goes.ring_there goes.no_outer,
+                      (not_false _ (differs _ _ (λ e. goes.ends_apart (sym goes.first.vertex ∙ e ∙ goes.second.vertex))), tt),
+                    ),
+                  ),
+                ),
+              ),
+            ),
+          ),
+        ),
+      ),
+    ),
+  ),
+) where
+  ring : (b : Bool) (f o k : ℕ) → b ≡ true → o ≢ k → (b && nat_eq f f && not (nat_eq o k)) ≡ true
+  ring b f o k e n = grind (arith, nat_tests)
+
+pub kemr_goes : (M : Model) (h : HalfEdge) (l : ℕ) → first_false M (Kemr h l) ≡ None → KemrGoes M (code h) l
+unfolding first_false conditions
+kemr_goes M h l e =
+    let w = all_hold (conditions M (Kemr h l)) e in
+    record {
+      h_there = half_of M h w.1.1.0;
+      loop_free = free _ (not_true _ w.1.1.1.0);
+      one_loop = equal _ _ w.1.1.1.1.0;
+      loop_fits = w.1.0;
+    }
+
+module _ (M : Model) (sound : Sound M) (h l : ℕ) (goes : KemrGoes M h l) where
+  abbrev pub N : Model
+  N = kemr M h l
+
+  abbrev pub m : ℕ
+  m = mate h
+
+  abbrev pub r : ℕ
+  r = loop_of M h
+
+  abbrev pub Y : List ℕ
+  Y = beyond h m (cycle_of M h)
+
+  abbrev pub X : List ℕ
+  X = between h m (cycle_of M h)
+
+  sound-N : Sound N
+  sound-N = sound-kemr M sound h l goes
+
+  part_apart : (x : ℕ) → (count x X ≤ 1) × (count x Y ≤ 1)
+  part_apart x = (omega (arith, parted.count_xs M sound h l goes x, (parted.cyc M sound h l goes).apart x), omega (arith, parted.count_xs M sound h l goes x, (parted.cyc M sound h l goes).apart x))
+
+  old_tail : (y k : ℕ) → HasHalf N y → tail M y ≡ k → tail N y ≡ k
+  old_tail y k t e = tail_old M N h (parted.edges_are M sound h l goes) y (parted.old_half M sound h l goes y t).1 ∙ e
+
+  each_Y : (y : ℕ) → IsIn y Y → (loop_of N y ≡ r) × HasHalf N y
+  each_Y y i = let p = parted.in_Y M sound h l goes y i in (sound-N.one_loop y r p.0, sound-N.only_edges y r p.0)
+
+  each_X : (y : ℕ) → IsIn y X → (loop_of N y ≡ l) × HasHalf N y
+  each_X y i = let p = parted.in_X M sound h l goes y i in (sound-N.one_loop y l p.0, sound-N.only_edges y l p.0)
+
+  first_Y : (y : ℕ) (ys : List ℕ) → Y ≡ y ∷ ys → tail N y ≡ tail M h
+  first_Y y ys e = old_tail y (tail M h) (each_Y y (subst (IsIn y) (sym e) (omega (arith, tick_same y)))).1
+      (ap (tail M) (sym (parted.after_m M sound h l goes ∙ ap (head_or h) e)) ∙ sound.ends_meet m (parted.m_there M sound h l goes) ∙ ap (tail M) (mate-mate h))
+
+  first_X : (y : ℕ) (ys : List ℕ) → X ≡ y ∷ ys → tail N y ≡ tail M m
+  first_X y ys e = old_tail y (tail M m) (each_X y (subst (IsIn y) (sym e) (omega (arith, tick_same y)))).1
+      (ap (tail M) (sym (parted.after_h M sound h l goes ∙ ap (head_or m) e)) ∙ sound.ends_meet h goes.h_there)
+
+  pub put_goes : MekrGoes N (corner_of Y r) (corner_of X l) h r l (tail M h) (tail M m) Y X
+  put_goes = record {
+    first = corner_here N sound-N Y r (tail M h) (parted.content_r M sound h l goes) (ap is_some (parted.loop_r M sound h l goes)) (λ x. (part_apart x).1) each_Y first_Y;
+    second = corner_here N sound-N X l (tail M m) (parted.content_l M sound h l goes) (ap is_some (parted.loop_l M sound h l goes)) (λ x. (part_apart x).0) each_X first_X;
+    edge_free = edge_gone M N h (parted.edges_are M sound h l goes);
+    edge_fits = sound.edges_fit (edge_of h) goes.h_there;
+    loops_apart = parted.r_l M sound h l goes;
+    one_face = parted.face_same M sound h l goes r (parted.r_l M sound h l goes) ∙ sym (parted.face_l M sound h l goes);
+    ring_there = ap is_some (parted.loop_l M sound h l goes);
+    no_outer = λ e. parted.not_l M sound h l goes (outer M (face_of M r)) (sound.outers_there (face_of M r) (sound.loops_of_faces r (parted.has_r M sound h l goes))).0
+        (sym (parted.outer_same M sound h l goes (face_of M r)) ∙ ap (outer N) (sym (parted.face_l M sound h l goes)) ∙ e);
+    ends_apart = parted.u_w M sound h l goes;
+  }
+
+  abbrev C : Corner
+  C = corner_of Y r
+
+  abbrev D : Corner
+  D = corner_of X l
+
+  abbrev K : Model
+  K = mekr N C D h
+
+  whole : canonical ((h ∷ X) ++ m ∷ Y) ≡ cycle_of M h
+  whole = ap canonical (sym (ring_split h m (cycle_of M h) (parted.h_in M sound h l goes) (parted.m_in M sound h l goes) (parted.hm M sound h l goes)))
+      ∙ canonical-rotate_to h (cycle_of M h) (parted.cyc M sound h l goes).apart ∙ (parted.cyc M sound h l goes).from_least
+
+  joined : canonical ((h ∷ corner_list N D) ++ m ∷ corner_list N C) ≡ cycle_of M h
+  joined = (λ i. canonical ((h ∷ put_goes.second.list i) ++ m ∷ put_goes.first.list i)) ∙ whole
+
+  loops_put : (q : ℕ) (k : ℕ) (row : LoopRow) → corner_loop N C ≡ q → corner_loop N D ≡ k → (record { face = face_of N q; content = cycle (canonical ((h ∷ corner_list N D) ++ m ∷ corner_list N C)) }) ≡ row → K.loops ≡ table.remove (table.put N.loops q row) k
+  unfolding mekr
+  loops_put q k row a b e =
+      ap (λ x. table.remove (table.put N.loops x (record { face = face_of N x; content = cycle (canonical ((h ∷ corner_list N D) ++ m ∷ corner_list N C)) })) (corner_loop N D)) a
+      ∙ ap (table.remove (table.put N.loops q (record { face = face_of N q; content = cycle (canonical ((h ∷ corner_list N D) ++ m ∷ corner_list N C)) }))) b
+      ∙ ap (λ x. table.remove (table.put N.loops q x) k) e
+
+  loops-back : K.loops ≡ M.loops
+  loops-back =
+      let f : face_of N r ≡ face_of M r = parted.face_same M sound h l goes r (parted.r_l M sound h l goes) in
+      loops_put r l (record { face = face_of M r; content = cycle (cycle_of M h) }) put_goes.first.loop put_goes.second.loop (λ i. record { face = f i; content = cycle (joined i) })
+      ∙ ap (λ t. table.remove (table.put t r (record { face = face_of M r; content = cycle (cycle_of M h) })) l) (parted.loops_are M sound h l goes)
+      ∙ two_undone M.loops r l _ _ _ (parted.r_l M sound h l goes) (row_of M sound h goes.h_there) goes.loop_free
+
+  edges_put : (x : EdgeRow) → table.get M.edges (edge_of h) ≡ Some x → edge_row h (corner_tail N C) (corner_tail N D) ≡ x → K.edges ≡ M.edges
+  unfolding mekr kemr
+  edges_put x at e = ap (table.put (table.remove M.edges (edge_of h)) (edge_of h)) e ∙ put-remove M.edges (edge_of h) x at
+
+  edges-back : K.edges ≡ M.edges
+  edges-back = edges_put (edge_row h (tail M h) (tail M m)) (edge_there M h goes.h_there) (λ i. edge_row h (put_goes.first.vertex i) (put_goes.second.vertex i))
+
+  solids-back : K.solids ≡ M.solids
+  unfolding mekr kemr
+  solids-back = refl
+
+  faces-back : K.faces ≡ M.faces
+  unfolding mekr kemr
+  faces-back = refl
+
+  vertices-back : K.vertices ≡ M.vertices
+  unfolding mekr kemr
+  vertices-back = refl
+
+  pub mekr-kemr_back : mekr (kemr M h l) (corner_of Y r) (corner_of X l) h ≡ M
+  mekr-kemr_back = λ i. record { solids = solids-back i; faces = faces-back i; loops = loops-back i; edges = edges-back i; vertices = vertices-back i }
+
+-- ---- kemr
+
+pub kemr_keeps_sound : (M : Model) (h : HalfEdge) (l : ℕ) → Sound M → first_false M (Kemr h l) ≡ None → Sound (effect M (Kemr h l))
+unfolding effect
+kemr_keeps_sound M h l sound e = sound-kemr M sound (code h) l (kemr_goes M h l e)
+
+pub kemr_is_undone : (M : Model) (h : HalfEdge) (l : ℕ) → Sound M → first_false M (Kemr h l) ≡ None → effect (effect M (Kemr h l)) (inverse M (Kemr h l)) ≡ M
+unfolding effect inverse
+kemr_is_undone M h l sound e = mekr-kemr_back M sound (code h) l (kemr_goes M h l e)
+
+pub kemr_inverse_goes : (M : Model) (h : HalfEdge) (l : ℕ) → Sound M → first_false M (Kemr h l) ≡ None → first_false (effect M (Kemr h l)) (inverse M (Kemr h l)) ≡ None
+unfolding effect inverse
+kemr_inverse_goes M h l sound e = mekr_accepted (kemr M (code h) l) _ _ h _ _ _ _ _ _ (put_goes M sound (code h) l (kemr_goes M h l e))

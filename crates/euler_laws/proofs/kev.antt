@@ -1,0 +1,6 @@
+pub mod KevSound
+pub mod MevLone
+pub mod MevUndo
+pub mod KevUndo
+pub mod KevBare
+pub mod Kev

@@ -1,0 +1,166 @@
+-- kev as an operator: it keeps a model sound. The inverses of mev and of kev pass their conditions and take them back.
+use Rattle.std.proofs.Common.{◌≡◌, ◌≢◌, ℕ, Bool, true, false, cond, not, nat_eq, ◌&&◌, None, refl, sym, ap, ◌∙◌, subst, arith, inl, inr}
+use Rattle.std.proofs.lemmas.Bool.Decides.{nat_tests, eqb_tells}
+use Rattle.lattice.specs.declared.Point.{Point}
+use Rattle.boundary_model.specs.declared.HalfEdge.{HalfEdge}
+use Rattle.boundary_model.specs.declared.Corner.{Corner}
+use Rattle.boundary_model.specs.declared.Corner.TheVariants.{At, Lone}
+use Rattle.boundary_model.specs.HalfEdge.{code, half, mate, edge_of}
+use Rattle.boundary_model.specs.Model.{Model, tail, loop_of, content, after, point_of, is_number}
+use Rattle.boundary_model.specs.Sound.{Sound}
+use Rattle.boundary_model.proofs.Halves.{edge_of-code, code-half}
+use Rattle.euler_operators.specs.declared.Op.TheVariants.{Mev, Kev}
+use Rattle.euler_operators.specs.Conditions.{first_false, conditions, lone_vertex}
+use Rattle.euler_operators.specs.Effect.{effect, inverse, mev_at, mev_lone, kev, kev_corner, kev_corner_mate}
+use Rattle.euler_laws.proofs.shared.Goes.{all_hold, none_refuses, not_true, not_false, equal, equals, differs}
+use Rattle.euler_laws.proofs.shared.Undo.{parallel_none, none_parallel}
+use Rattle.euler_laws.proofs.mev.MevSound.{MevGoes, sound-mev}
+use Rattle.euler_laws.proofs.kev.MevUndo.{kev-mev_at}
+use Rattle.euler_laws.proofs.kev.MevUndo as undo
+use Rattle.euler_laws.proofs.kev.MevLone.{kev-mev_lone}
+use Rattle.euler_laws.proofs.mev.MevLoneSound as lones
+use Rattle.euler_laws.proofs.mev.MevLoneSound.{LoneGoes, sound-mev_lone}
+use Rattle.euler_laws.proofs.kev.KevSound.{KevGoes, sound-kev}
+use Rattle.euler_laws.proofs.kev.KevUndo as redo
+use Rattle.euler_laws.proofs.kev.KevUndo.{mev_at-kev}
+use Rattle.euler_laws.proofs.kev.KevBare as bare_end
+use Rattle.euler_laws.proofs.kev.KevBare.{mev_lone-kev}
+use Rattle.euler_laws.proofs.mev.Mev.{mev_goes, mev_accepted, lone_goes, lone_accepted, mixed_first, mixed_second}
+use Rattle.euler_laws.proofs.shared.Rows.{half_of, of_half}
+
+-- ---- conditions
+
+pub kev_goes : (M : Model) (h : HalfEdge) → Sound M → first_false M (Kev h) ≡ None → KevGoes M (code h)
+unfolding first_false conditions
+kev_goes M h sound e =
+    let w = all_hold (conditions M (Kev h)) e in
+    record {
+      h_there = half_of M h w.1.0;
+      no_parallel = none_parallel M (code h) sound.edges_fit (equal _ _ w.1.1.0);
+      not_bare = λ b. not_end (after M (mate (code h))) (code h) (after M (code h)) (mate (code h)) (not_true _ w.1.1.1.0) b;
+    } where
+      not_end : (a h b m : ℕ) → (nat_eq a h && not (nat_eq b m)) ≡ false → a ≡ h → b ≡ m
+      not_end a h b m f e = grind (arith, nat_tests)
+
+pub kev_accepted : (N : Model) (h : HalfEdge) → Sound N → KevGoes N (code h) → first_false N (Kev h) ≡ None
+unfolding first_false conditions
+kev_accepted N h sound goes = none_refuses (conditions N (Kev h)) (
+  ap is_number (sym (edge_of-code h)) ∙ sound.edges_fit (edge_of (code h)) goes.h_there,
+  (
+    of_half N h goes.h_there,
+    (
+      equals _ _ (parallel_none N (code h) goes.no_parallel),
+      (not_false _ (end_not (after N (mate (code h))) (code h) (after N (code h)) (mate (code h)) goes.not_bare), tt),
+    ),
+  ),
+) where
+  end_not : (a h b m : ℕ) → (a ≡ h → b ≡ m) → (nat_eq a h && not (nat_eq b m)) ≡ false
+  end_not a h b m f = grind (arith, nat_tests)
+
+-- ---- mev
+
+pub mev_is_undone : (M : Model) (c d : Corner) (h : HalfEdge) (v : ℕ) (p : Point) → Sound M → first_false M (Mev c d h v p) ≡ None →
+    effect (effect M (Mev c d h v p)) (inverse M (Mev c d h v p)) ≡ M
+unfolding effect inverse
+mev_is_undone M (At g) (At k) h v p sound e = kev-mev_at M sound (code g) (code k) (code h) v p (mev_goes M g k h v p e)
+mev_is_undone M (At g) (Lone l) h v p sound e = absurd (mixed_first M g l h v p sound e)
+mev_is_undone M (Lone l) (At k) h v p sound e = absurd (mixed_second M l k h v p sound e)
+mev_is_undone M (Lone l) (Lone d) h v p sound e = let w = lone_goes M l d h v p e in
+    kev-mev_lone M sound l (code h) v p (lone_vertex (content M l)) w.is_lone w.loop_there w.edge_free w.vertex_free
+
+-- mev at a lone loop leaves an edge that kev takes
+kev_goes_lone : (M : Model) (sound : Sound M) (l h v u : ℕ) (p : Point) → LoneGoes M l h v u p → KevGoes (mev_lone M l h v p) h
+kev_goes_lone M sound l h v u p goes = record {
+  h_there = lones.half_h M sound l h v u p goes;
+  no_parallel = lones.no_parallel-lone M sound l h v u p goes;
+  not_bare = λ _. lones.after-h M sound l h v u p goes;
+}
+
+pub mev_inverse_goes : (M : Model) (c d : Corner) (h : HalfEdge) (v : ℕ) (p : Point) → Sound M → first_false M (Mev c d h v p) ≡ None →
+    first_false (effect M (Mev c d h v p)) (inverse M (Mev c d h v p)) ≡ None
+unfolding effect inverse
+mev_inverse_goes M (At g) (At k) h v p sound e = let w = mev_goes M g k h v p e in
+    kev_accepted (mev_at M (code g) (code k) (code h) v p) h (sound-mev M sound (code g) (code k) (code h) v p w) (undo.kev_goes M sound (code g) (code k) (code h) v p w)
+mev_inverse_goes M (At g) (Lone l) h v p sound e = absurd (mixed_first M g l h v p sound e)
+mev_inverse_goes M (Lone l) (At k) h v p sound e = absurd (mixed_second M l k h v p sound e)
+mev_inverse_goes M (Lone l) (Lone d) h v p sound e = let w = lone_goes M l d h v p e in let u : ℕ = lone_vertex (content M l) in
+    kev_accepted (mev_lone M l (code h) v p) h (sound-mev_lone M sound l (code h) v u p w) (kev_goes_lone M sound l (code h) v u p w)
+
+-- ---- kev
+
+pub kev_keeps_sound : (M : Model) (h : HalfEdge) → Sound M → first_false M (Kev h) ≡ None → Sound (effect M (Kev h))
+unfolding effect
+kev_keeps_sound M h sound e = sound-kev M sound (code h) (kev_goes M h sound e)
+
+-- the corners of the inverse
+abbrev corner : Model → ℕ → ℕ
+corner M h = cond (nat_eq (after M h) (mate h)) (after M (mate h)) (after M h)
+
+corner_at : (b f : Bool) (l a c : ℕ) → f ≡ false → cond b (cond f (Lone l) (At (half c))) (At (half a)) ≡ At (half (cond b c a))
+corner_at true f l a c e = ap (λ x. cond x (Lone l) (At (half c))) e
+corner_at false f l a c e = refl
+
+mate_at : (b f : Bool) (l c : ℕ) → f ≡ false → cond (b && f) (Lone l) (At (half c)) ≡ At (half c)
+mate_at true f l c e = ap (λ x. cond x (Lone l) (At (half c))) e
+mate_at false f l c e = refl
+
+corners_open : (M : Model) (h : ℕ) → after M (mate h) ≢ h → (kev_corner M h ≡ At (half (corner M h))) × (kev_corner_mate M h ≡ At (half (after M (mate h))))
+corners_open M h ne =
+    let f : nat_eq (after M (mate h)) h ≡ false = differs _ _ ne in (
+      corner_at (nat_eq (after M h) (mate h)) (nat_eq (after M (mate h)) h) (loop_of M h) (after M h) (after M (mate h)) f,
+      mate_at (nat_eq (after M h) (mate h)) (nat_eq (after M (mate h)) h) (loop_of M h) (after M (mate h)) f,
+    )
+
+corners_bare : (M : Model) (h : ℕ) → after M (mate h) ≡ h → after M h ≡ mate h → (kev_corner M h ≡ Lone (loop_of M h)) × (kev_corner_mate M h ≡ Lone (loop_of M h))
+corners_bare M h a b =
+    let f : nat_eq (after M (mate h)) h ≡ true = equals _ _ a in
+    let g : nat_eq (after M h) (mate h) ≡ true = equals _ _ b in (
+      ap (λ x. cond x (cond (nat_eq (after M (mate h)) h) (Lone (loop_of M h)) (At (half (after M (mate h))))) (At (half (after M h)))) g ∙ ap (λ x. cond x (Lone (loop_of M h)) (At (half (after M (mate h))))) f,
+      ap (λ x. cond (x && nat_eq (after M (mate h)) h) (Lone (loop_of M h)) (At (half (after M (mate h))))) g ∙ ap (λ x. cond x (Lone (loop_of M h)) (At (half (after M (mate h))))) f,
+    )
+
+-- what is so of the inverse, by its corners
+module _ (M : Model) (h : HalfEdge) (sound : Sound M) (goes : KevGoes M (code h)) where
+  abbrev m : ℕ
+  m = mate (code h)
+
+  abbrev N : Model
+  N = kev M (code h)
+
+  abbrev p : Point
+  p = point_of M (tail M m)
+
+  codes_goes : (ne : after M m ≢ code h) → MevGoes N (code (half (corner M (code h)))) (code (half (after M m))) (code h) (tail M m) p
+  codes_goes ne = subst (λ x. MevGoes N x (code (half (after M m))) (code h) (tail M m) p) (sym (code-half (corner M (code h))))
+      (subst (λ x. MevGoes N (corner M (code h)) x (code h) (tail M m) p) (sym (code-half (after M m))) (redo.put_goes M sound (code h) goes ne))
+
+  kev_back : effect N (Mev (kev_corner M (code h)) (kev_corner_mate M (code h)) h (tail M m) p) ≡ M
+  unfolding effect
+  kev_back = elim (eqb_tells (after M m) (code h)) [
+    | inl e ↦ let c = corners_bare M (code h) e.1 (goes.not_bare e.1) in
+        ap (λ x. effect N (Mev x (kev_corner_mate M (code h)) h (tail M m) p)) c.0 ∙ ap (λ x. effect N (Mev (Lone (loop_of M (code h))) x h (tail M m) p)) c.1
+        ∙ mev_lone-kev M sound (code h) goes e.1
+    | inr e ↦ let c = corners_open M (code h) e.1 in
+        ap (λ x. effect N (Mev x (kev_corner_mate M (code h)) h (tail M m) p)) c.0 ∙ ap (λ x. effect N (Mev (At (half (corner M (code h)))) x h (tail M m) p)) c.1
+        ∙ ap (λ x. mev_at N x (code (half (after M m))) (code h) (tail M m) p) (code-half (corner M (code h)))
+        ∙ ap (λ x. mev_at N (corner M (code h)) x (code h) (tail M m) p) (code-half (after M m))
+        ∙ mev_at-kev M sound (code h) goes e.1
+  ]
+
+  kev_back_goes : first_false N (Mev (kev_corner M (code h)) (kev_corner_mate M (code h)) h (tail M m) p) ≡ None
+  kev_back_goes = elim (eqb_tells (after M m) (code h)) [
+    | inl e ↦ let c = corners_bare M (code h) e.1 (goes.not_bare e.1) in
+        ap (λ x. first_false N (Mev x (kev_corner_mate M (code h)) h (tail M m) p)) c.0 ∙ ap (λ x. first_false N (Mev (Lone (loop_of M (code h))) x h (tail M m) p)) c.1
+        ∙ lone_accepted N (loop_of M (code h)) h (tail M m) (tail M (code h)) p (sound-kev M sound (code h) goes) (bare_end.lone_goes M sound (code h) goes e.1)
+    | inr e ↦ let c = corners_open M (code h) e.1 in
+        ap (λ x. first_false N (Mev x (kev_corner_mate M (code h)) h (tail M m) p)) c.0 ∙ ap (λ x. first_false N (Mev (At (half (corner M (code h)))) x h (tail M m) p)) c.1
+        ∙ mev_accepted N (half (corner M (code h))) (half (after M m)) h (tail M m) p (sound-kev M sound (code h) goes) (codes_goes e.1)
+  ]
+
+pub kev_is_undone : (M : Model) (h : HalfEdge) → Sound M → first_false M (Kev h) ≡ None → effect (effect M (Kev h)) (inverse M (Kev h)) ≡ M
+unfolding effect inverse
+kev_is_undone M h sound e = kev_back M h sound (kev_goes M h sound e)
+
+pub kev_inverse_goes : (M : Model) (h : HalfEdge) → Sound M → first_false M (Kev h) ≡ None → first_false (effect M (Kev h)) (inverse M (Kev h)) ≡ None
+unfolding effect inverse
+kev_inverse_goes M h sound e = kev_back_goes M h sound (kev_goes M h sound e)

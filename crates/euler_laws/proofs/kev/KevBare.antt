@@ -1,0 +1,143 @@
+-- kev of an edge that stands alone is taken back by mev at the lone loop that it leaves.
+use Rattle.std.proofs.Common.{◌≡◌, ◌≢◌, ℕ, List, [], ◌∷◌, Some, is_some, refl, sym, ap, ◌∙◌, arith, inl, inr}
+use Rattle.std.proofs.lemmas.Bool.Decides.{eqb_tells}
+use Rattle.cyclic_list.specs.Items.{count, tick, IsIn}
+use Rattle.cyclic_list.specs.Rings.{canonical, rest, IsRing, IsPath}
+use Rattle.cyclic_list.proofs.Lists.{tick_same, IsIn_or_not}
+use Rattle.cyclic_list.proofs.Rings.{count_at, IsRing-same, rotation_at}
+use Rattle.cyclic_list.proofs.Cuts.{canonical_from}
+use Rattle.boundary_model.specs.HalfEdge.{mate, edge_of}
+use Rattle.boundary_model.specs.Table as table
+use Rattle.boundary_model.specs.Model.{Model, cycle, items_of, tail, loop_of, content, cycle_of, after, point_of}
+use Rattle.boundary_model.specs.Sound.{Sound, Has, HasHalf, IsCycle}
+use Rattle.boundary_model.proofs.Halves.{mate_other, same_edge}
+use Rattle.boundary_model.proofs.Tables.{put-remove}
+use Rattle.boundary_model.proofs.Models.{in-holds, cycle_there, cycle_sound, content_cycle, row_of}
+use Rattle.euler_operators.specs.Effect.{mev_lone, kev}
+use Rattle.euler_laws.proofs.shared.Fans.{half_mate, loop_after}
+use Rattle.euler_laws.proofs.shared.Loops.{light}
+use Rattle.euler_laws.proofs.shared.Same.{mapped_some}
+use Rattle.euler_laws.proofs.shared.Undo.{same_loops, same_edges, same_model}
+use Rattle.euler_laws.proofs.kev.KevSound as kill
+use Rattle.euler_laws.proofs.kev.KevSound.{KevGoes}
+use Rattle.euler_laws.proofs.mev.MevLoneSound as put
+use Rattle.euler_laws.proofs.mev.MevLoneSound.{LoneGoes}
+use Rattle.euler_laws.proofs.shared.Rows.{point_row}
+
+-- a ring of two
+pair_of : (next : ℕ → ℕ) (h m : ℕ) (rs : List ℕ) → IsPath next (h ∷ rs) h → next h ≡ m → next m ≡ h → h ≢ m → count h rs ≡ 0 → rs ≡ m ∷ []
+pair_of next h m [] p a b ne n = absurd (ne (sym p.0 ∙ a))
+pair_of next h m (x ∷ []) p a b ne n = ap (λ y. y ∷ []) (sym p.0 ∙ a)
+pair_of next h m (x ∷ y ∷ zs) p a b ne n =
+    let e : y ≡ h = sym p.1.0 ∙ ap next (sym p.0 ∙ a) ∙ b in
+    absurd (omega (arith, n, ap (tick h) e, tick_same h))
+
+module _ (M : Model) (sound : Sound M) (h : ℕ) (goes : KevGoes M h) (bare : after M (mate h) ≡ h) where
+  abbrev m : ℕ
+  m = mate h
+
+  abbrev N : Model
+  N = kev M h
+
+  abbrev u : ℕ
+  u = tail M h
+
+  abbrev w : ℕ
+  w = tail M m
+
+  abbrev l : ℕ
+  l = loop_of M h
+
+  sound-N : Sound N
+  sound-N = kill.sound-kev M sound h goes
+
+  to_m : after M h ≡ m
+  to_m = goes.not_bare bare
+
+  m_there : HasHalf M m
+  m_there = half_mate M sound h goes.h_there
+
+  point_there : table.get M.vertices w ≡ Some (point_of M w)
+  point_there = point_row M w (sound.tails_there m m_there)
+
+  pub lone_goes : LoneGoes N l h w u (point_of M w)
+  lone_goes = record {
+    is_lone = kill.lone_new M sound h goes bare;
+    loop_there = (kill.same M sound h goes).loop l ∙ ap is_some (row_of M sound h goes.h_there);
+    edge_free = kill.edge_gone M sound h goes;
+    vertex_free = kill.vertex_gone M sound h goes;
+    edge_fits = sound.edges_fit (edge_of h) goes.h_there;
+    vertex_fits = sound.vertices_fit w (sound.tails_there m m_there);
+    point_fits = sound.points_fit w (point_of M w) point_there;
+  }
+
+  abbrev K : Model
+  K = mev_lone N l h w (point_of M w)
+
+  abbrev hs : List ℕ
+  hs = cycle_of M h
+
+  loop_m : loop_of M m ≡ l
+  loop_m = ap (loop_of M) (sym to_m) ∙ loop_after M sound h goes.h_there
+
+  h_in : IsIn h hs
+  h_in = cycle_there M sound h goes.h_there
+
+  pair : canonical (h ∷ m ∷ []) ≡ hs
+  pair =
+      let cy : IsCycle hs = cycle_sound M sound h goes.h_there in
+      let r : IsRing (after M) (h ∷ rest h hs) = IsRing-same (after M) hs (h ∷ rest h hs) (rotation_at h hs h_in) (light M sound l).1 in
+      let n : count h (rest h hs) ≡ 0 = omega (arith, count_at h h hs h_in, tick_same h, cy.apart h) in
+      ap (λ q. canonical (h ∷ q)) (sym (pair_of (after M) h m (rest h hs) r to_m bare (mate_other h) n))
+      ∙ canonical_from h hs cy.apart h_in ∙ cy.from_least
+
+  none_at : (x q : ℕ) → loop_of M x ≡ l → q ≢ l → count x (items_of (content M q)) ≡ 0
+  none_at x q e a = elim (IsIn_or_not x (items_of (content M q))) [
+    | inl i ↦ absurd (a (sym (sound.one_loop x q (in-holds x (content M q) i)) ∙ e))
+    | inr z ↦ z
+  ]
+
+  contents : (q : ℕ) → Has M.loops q → content K q ≡ content M q
+  contents q there = elim (eqb_tells q l) [
+    | inl e ↦ ap (content K) e.1 ∙ put.content_new N sound-N l h w u (point_of M w) lone_goes ∙ ap cycle pair ∙ sym (ap (content M) e.1 ∙ content_cycle M sound h goes.h_there)
+    | inr e ↦ put.content_other N sound-N l h w u (point_of M w) lone_goes q e.1 ∙ kill.content-N M sound h goes q
+        ∙ kill.new_none M sound h goes (content M q) (none_at h q refl e.1) (none_at m q loop_m e.1)
+  ]
+
+  loops-back : K.loops ≡ M.loops
+  loops-back = same_loops K M
+      (λ q. (put.same N sound-N l h w u (point_of M w) lone_goes).loop q ∙ (kill.same M sound h goes).loop q)
+      (λ q _. (put.same N sound-N l h w u (point_of M w) lone_goes).face q ∙ (kill.same M sound h goes).face q)
+      contents
+
+  has_edge : (e : ℕ) → table.has K.edges e ≡ table.has M.edges e
+  has_edge e = elim (eqb_tells e (edge_of h)) [
+    | inl a ↦ ap (table.has K.edges) a.1 ∙ put.half_h N sound-N l h w u (point_of M w) lone_goes ∙ sym (ap (table.has M.edges) a.1 ∙ goes.h_there)
+    | inr a ↦ ap is_some (put.edge_other N sound-N l h w u (point_of M w) lone_goes e a.1)
+        ∙ ap is_some (kill.edge_mapped M sound h goes e a.1) ∙ mapped_some _ (table.get M.edges e)
+  ]
+
+  tails : (x : ℕ) → HasHalf M x → tail K x ≡ tail M x
+  tails x there = elim (eqb_tells (edge_of x) (edge_of h)) [
+    | inl e ↦ elim (same_edge x h e.1) [
+      | inl q ↦ ap (tail K) q ∙ put.tail-h N sound-N l h w u (point_of M w) lone_goes ∙ sym (ap (tail M) q)
+      | inr q ↦ ap (tail K) q ∙ put.tail-m N sound-N l h w u (point_of M w) lone_goes ∙ sym (ap (tail M) q)
+    ]
+    | inr e ↦ put.tail_old N sound-N l h w u (point_of M w) lone_goes x (kill.half_old M sound h goes x there e.1)
+        ∙ kill.tail_kept M sound h goes x there e.1 (kill.bare M sound h goes bare x there e.1).1
+  ]
+
+  vertices-back : K.vertices ≡ M.vertices
+  unfolding kev mev_lone
+  vertices-back = put-remove M.vertices w (point_of M w) point_there
+
+  solids-back : K.solids ≡ M.solids
+  unfolding kev mev_lone
+  solids-back = refl
+
+  faces-back : K.faces ≡ M.faces
+  unfolding kev mev_lone
+  faces-back = refl
+
+  pub mev_lone-kev : mev_lone (kev M h) l h w (point_of M w) ≡ M
+  mev_lone-kev = same_model K M solids-back faces-back loops-back (same_edges K M has_edge tails) vertices-back

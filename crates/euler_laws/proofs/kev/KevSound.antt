@@ -1,0 +1,508 @@
+-- A sound model stays sound under kev.
+use Rattle.std.proofs.Common.{◌≡◌, ◌≢◌, ℕ, ◌+◌, Bool, true, false, cond, nat_eq, ◌||◌, List, [], ◌++◌, Option, Some, None, unwrap_or, is_some, refl, sym, ap, ◌∙◌, subst, arith, ◌⊎◌, inl, inr, true≢false}
+use Rattle.std.specs.Option.{option_map}
+use Rattle.std.proofs.lemmas.Bool.Decides.{nat_tests, eqb_tells}
+use Rattle.lattice.specs.declared.Point.{Point}
+use Rattle.lattice.specs.Point.{IsInRange}
+use Rattle.cyclic_list.specs.Items.{count, tick, IsIn, IsApart}
+use Rattle.cyclic_list.specs.Rings.{canonical, rest, IsRing}
+use Rattle.cyclic_list.specs.Edits.{without, redirect}
+use Rattle.cyclic_list.specs.Operators.{after_kev}
+use Rattle.cyclic_list.proofs.Lists.{count-append, tick_same, tick_other, IsIn_or_not}
+use Rattle.cyclic_list.proofs.Rotations.{count-canonical, IsApart-canonical}
+use Rattle.cyclic_list.proofs.Rings.{count_at}
+use Rattle.cyclic_list.proofs.Edits.{without_none}
+use Rattle.boundary_model.specs.HalfEdge.{mate, edge_of, is_first}
+use Rattle.boundary_model.specs.Table as table
+use Rattle.boundary_model.specs.Table.{Table, tables}
+use Rattle.boundary_model.specs.Model.{Model, LoopContent, lone, cycle, EdgeRow, items_of, holds, tail, loop_of, content, after, round, tail_in, no_edge}
+use Rattle.boundary_model.specs.Sound.{Sound, Has, HasHalf, StandsIn, IsTail, IsLoneAt, NumbersFit}
+use Rattle.boundary_model.proofs.Halves.{mate_other, edge_of-mate, mate-mate, same_edge}
+use Rattle.boundary_model.proofs.Models.{in-holds, holds_in, holds-none, cycle_there}
+use Rattle.euler_operators.specs.Effect.{kev, without_edge, moved_tail, cycle_or_lone}
+use Rattle.euler_laws.proofs.shared.Fans.{Fan, fan_of, half_after, half_mate, loop_after, ring_reaches, fixed_reaches, two_reaches}
+use Rattle.euler_laws.proofs.shared.Loops.{IsLoop, count_out, count_gone, apart_out, ring_out, light, loop_sound, Walks, loop_at, stands-walks, one_loop-walks, cycles-walks, ends_meet-walks, one_fan-walks}
+use Rattle.euler_laws.proofs.shared.Arcs.{fan_kev, fan_kev_other}
+use Rattle.euler_laws.proofs.shared.Same.{mapped_some, Rewritten, content-new, face-same, loop-same, SameFaces, solid_at, loops_of_faces-same, outers_there-same, faces_of_solids-same, solid_has_face-same, solids_fit-same, faces_fit-same, loops_fit-same, solid_at-same}
+use Rattle.euler_laws.proofs.shared.Rows.{count_or_lone, loop_or_lone, was_empty, no_items}
+
+pub moved_in : (v w e : ℕ) (row : EdgeRow) (b : Bool) → tail_in (moved_tail v w e row) b ≡ cond (nat_eq (tail_in row b) v) w (tail_in row b)
+moved_in v w e row true = refl
+moved_in v w e row false = refl
+
+moved_mapped : (v w e : ℕ) (b : Bool) (o : Option EdgeRow) → is_some o ≡ true →
+    tail_in (unwrap_or (option_map (moved_tail v w e) o) no_edge) b ≡ cond (nat_eq (tail_in (unwrap_or o no_edge) b) v) w (tail_in (unwrap_or o no_edge) b)
+moved_mapped v w e b None t = absurd (true≢false (sym t))
+moved_mapped v w e b (Some row) t = moved_in v w e row b
+
+-- what the conditions of kev say
+pub record KevGoes (M : Model) (h : ℕ) : Type 0 where
+  pub h_there : HasHalf M h
+  pub no_parallel : (x : ℕ) → HasHalf M x → edge_of x ≢ edge_of h → tail M x ≡ tail M h → tail M (mate x) ≢ tail M (mate h)
+  pub not_bare : after M (mate h) ≡ h → after M h ≡ mate h
+
+module _ (M : Model) (sound : Sound M) (h : ℕ) (goes : KevGoes M h) where
+  abbrev pub N : Model
+  N = kev M h
+
+  abbrev pub m : ℕ
+  m = mate h
+
+  abbrev pub u : ℕ
+  u = tail M h
+
+  abbrev pub w : ℕ
+  w = tail M m
+
+  abbrev pub F : ℕ → ℕ
+  F = after_kev (after M) h m
+
+  pub m_there : HasHalf M m
+  m_there = half_mate M sound h goes.h_there
+
+  pub u_w : u ≢ w
+  u_w = sound.ends_differ h goes.h_there
+
+  pub fan : Fan (after M) M u
+  fan = fan_of M sound h goes.h_there
+
+  pub fan_killed : Fan (after M) M w
+  fan_killed = fan_of M sound m m_there
+
+  abbrev pub ws : List ℕ
+  ws = fan.items
+
+  abbrev pub vs : List ℕ
+  vs = fan_killed.items
+
+  pub h_in : IsIn h ws
+  h_in = fan.all h goes.h_there refl
+
+  pub m_in : IsIn m vs
+  m_in = fan_killed.all m m_there refl
+
+  -- ---- loops
+
+  abbrev pub out : LoopContent → List ℕ
+  out c = without m (without h (items_of c))
+
+  abbrev pub new : LoopContent → LoopContent
+  new c = cond (holds h c || holds m c) (cycle_or_lone (out c) u) c
+
+  pub new_none : (c : LoopContent) → count h (items_of c) ≡ 0 → count m (items_of c) ≡ 0 → new c ≡ c
+  new_none c a b = ap (λ t. cond t (cycle_or_lone (out c) u) c) (ap (λ t. t || holds m c) (holds-none h c a) ∙ holds-none m c b)
+
+  pub new_h : (c : LoopContent) → IsIn h (items_of c) → new c ≡ cycle_or_lone (out c) u
+  new_h c a = ap (λ t. cond (t || holds m c) (cycle_or_lone (out c) u) c) (in-holds h c a)
+
+  pub or_true : (b : Bool) → (b || true) ≡ true
+  or_true true = refl
+  or_true false = refl
+
+  pub new_m : (c : LoopContent) → IsIn m (items_of c) → new c ≡ cycle_or_lone (out c) u
+  new_m c a = ap (λ t. cond (holds h c || t) (cycle_or_lone (out c) u) c) (in-holds m c a) ∙ ap (λ t. cond t (cycle_or_lone (out c) u) c) (or_true (holds h c))
+
+  -- a loop with neither half stays, and others lose what they have of the two
+  pub touched : (c : LoopContent) → ((new c ≡ cycle_or_lone (out c) u) × (IsIn h (items_of c) ⊎ IsIn m (items_of c))) ⊎ ((new c ≡ c) × (count h (items_of c) ≡ 0) × (count m (items_of c) ≡ 0))
+  touched c = elim (IsIn_or_not h (items_of c)) [
+    | inl a ↦ inl (new_h c a, inl a)
+    | inr a ↦ elim (IsIn_or_not m (items_of c)) [ inl b ↦ inl (new_m c b, inr b) | inr b ↦ inr (new_none c a b, a, b) ]
+  ]
+
+  pub out_none : (c : LoopContent) → count h (items_of c) ≡ 0 → count m (items_of c) ≡ 0 → out c ≡ items_of c
+  out_none c a b = ap (without m) (without_none h (items_of c) a) ∙ without_none m (items_of c) b
+
+  pub count_new : (x : ℕ) (c : LoopContent) → count x (items_of (new c)) ≡ count x (out c)
+  count_new x c = elim (touched c) [
+    | inl t ↦ ap (λ y. count x (items_of y)) t.0 ∙ count_or_lone x (out c) u
+    | inr t ↦ ap (λ y. count x (items_of y)) t.0 ∙ ap (count x) (sym (out_none c t.1 t.2))
+  ]
+
+  pub count_kept : (x : ℕ) (c : LoopContent) → x ≢ h → x ≢ m → count x (out c) ≡ count x (items_of c)
+  count_kept x c a b = count_out x m (without h (items_of c)) b ∙ count_out x h (items_of c) a
+
+  pub h_out : (c : LoopContent) → IsApart (items_of c) → count h (out c) ≡ 0
+  h_out c d = count_out h m (without h (items_of c)) (mate_other h) ∙ count_gone h (items_of c) d
+
+  pub m_out : (c : LoopContent) → IsApart (items_of c) → count m (out c) ≡ 0
+  m_out c d = count_gone m (without h (items_of c)) (apart_out h (items_of c) d)
+
+  pub rewritten : Rewritten M N new
+  unfolding kev
+  rewritten = record {
+    rewrite = without_edge h u;
+    is = refl;
+    contents = λ q row. elim (holds h row.content || holds m row.content) as (λ b. (cond b (record row { content = cycle_or_lone (out row.content) u }) row).content ≡ cond b (cycle_or_lone (out row.content) u) row.content) [ true ↦ refl | false ↦ refl ];
+    faces = λ q row. elim (holds h row.content || holds m row.content) as (λ b. (cond b (record row { content = cycle_or_lone (out row.content) u }) row).face ≡ row.face) [ true ↦ refl | false ↦ refl ];
+    none = new_none (cycle []) refl refl;
+  }
+
+  pub same : SameFaces M N
+  unfolding kev
+  same = record { faces = refl; solids = refl; face = face-same M N new rewritten; loop = loop-same M N new rewritten }
+
+  pub content-N : (q : ℕ) → content N q ≡ new (content M q)
+  content-N q = content-new M N new rewritten q
+
+  pub came : (x q : ℕ) → StandsIn N x q → (x ≢ h) × (x ≢ m) × StandsIn M x q
+  came x q s =
+      let c : LoopContent = content M q in
+      let d : IsApart (items_of c) = (light M sound q).0 in
+      let i : IsIn x (items_of (new c)) = subst (λ y. IsIn x (items_of y)) (content-N q) (holds_in x (content N q) s) in
+      let a : x ≢ h = λ e. omega (arith, i, count_new x c, ap (λ y. count y (out c)) e, h_out c d) in
+      let b : x ≢ m = λ e. omega (arith, i, count_new x c, ap (λ y. count y (out c)) e, m_out c d) in
+      (a, b, in-holds x c (omega (arith, i, count_new x c, count_kept x c a b)))
+
+  pub stay : (x q : ℕ) → x ≢ h → x ≢ m → StandsIn M x q → StandsIn N x q
+  stay x q a b s =
+      let c : LoopContent = content M q in
+      in-holds x (content N q) (subst (λ y. IsIn x (items_of y)) (sym (content-N q)) (omega (arith, holds_in x c s, count_new x c, count_kept x c a b)))
+
+  -- ---- edges
+
+  pub edge_mapped : (e : ℕ) → e ≢ edge_of h → table.get N.edges e ≡ option_map (moved_tail w u e) (table.get M.edges e)
+  unfolding kev
+  edge_mapped e a = grind (arith, nat_tests, tables)
+
+  pub edge_gone : table.get N.edges (edge_of h) ≡ None
+  unfolding kev
+  edge_gone = grind (arith, nat_tests, tables)
+
+  pub half_old : (x : ℕ) → HasHalf M x → edge_of x ≢ edge_of h → HasHalf N x
+  half_old x there a = ap is_some (edge_mapped (edge_of x) a) ∙ mapped_some _ (table.get M.edges (edge_of x)) ∙ there
+
+  pub half_cases : (x : ℕ) → HasHalf N x → HasHalf M x × (edge_of x ≢ edge_of h)
+  half_cases x there =
+      let a : edge_of x ≢ edge_of h = λ e. true≢false (sym there ∙ ap is_some (ap (table.get N.edges) e ∙ edge_gone)) in
+      (sym (mapped_some _ (table.get M.edges (edge_of x))) ∙ ap is_some (sym (edge_mapped (edge_of x) a)) ∙ there, a)
+
+  pub other_edge : (x : ℕ) → x ≢ h → x ≢ m → edge_of x ≢ edge_of h
+  other_edge x a b e = elim (same_edge x h e) [ inl q ↦ a q | inr q ↦ b q ]
+
+  pub not_h : (x : ℕ) → edge_of x ≢ edge_of h → x ≢ h
+  not_h x a e = a (ap edge_of e)
+
+  pub not_m : (x : ℕ) → edge_of x ≢ edge_of h → x ≢ m
+  not_m x a e = a (ap edge_of e ∙ edge_of-mate h)
+
+  pub mate_edge : (x : ℕ) → edge_of x ≢ edge_of h → edge_of (mate x) ≢ edge_of h
+  mate_edge x a e = a (sym (edge_of-mate x) ∙ e)
+
+  pub tail_old : (x : ℕ) → HasHalf M x → edge_of x ≢ edge_of h → tail N x ≡ cond (nat_eq (tail M x) w) u (tail M x)
+  unfolding tail
+  tail_old x there a = ap (λ o. tail_in (unwrap_or o no_edge) (is_first x)) (edge_mapped (edge_of x) a) ∙ moved_mapped w u (edge_of x) (is_first x) (table.get M.edges (edge_of x)) there
+
+  pub tail_moved : (x : ℕ) → HasHalf M x → edge_of x ≢ edge_of h → tail M x ≡ w → tail N x ≡ u
+  tail_moved x there a e = let b : nat_eq (tail M x) w ≡ true = grind (arith, nat_tests) in tail_old x there a ∙ ap (λ c. cond c u (tail M x)) b
+
+  pub tail_kept : (x : ℕ) → HasHalf M x → edge_of x ≢ edge_of h → tail M x ≢ w → tail N x ≡ tail M x
+  tail_kept x there a e = let b : nat_eq (tail M x) w ≡ false = grind (arith, nat_tests) in tail_old x there a ∙ ap (λ c. cond c u (tail M x)) b
+
+  -- ---- walks
+
+  pub placed_old : (x : ℕ) → HasHalf M x → edge_of x ≢ edge_of h → StandsIn N x (loop_of M x) × ((q : ℕ) → StandsIn N x q → q ≡ loop_of M x)
+  placed_old x there a = (stay x (loop_of M x) (not_h x a) (not_m x a) (sound.stands x there), λ q s. sym (sound.one_loop x q (came x q s).2))
+
+  pub loop_old : (x : ℕ) → HasHalf M x → edge_of x ≢ edge_of h → loop_of N x ≡ loop_of M x
+  loop_old x there a = loop_at N x (loop_of M x) (placed_old x there a).0 (placed_old x there a).1
+
+  pub only : (x q : ℕ) → StandsIn N x q → HasHalf N x
+  only x q s = let c = came x q s in half_old x (sound.only_edges x q c.2) (other_edge x c.0 c.1)
+
+  pub placed : (x : ℕ) → HasHalf N x → (q : ℕ) × StandsIn N x q × ((p : ℕ) → StandsIn N x p → p ≡ q)
+  placed x there = let o = half_cases x there in (loop_of M x, (placed_old x o.0 o.1).0, (placed_old x o.0 o.1).1)
+
+  pub loop_new : (c : LoopContent) → IsLoop (after M) c → IsLoop F (new c)
+  loop_new (lone v) l = subst (IsLoop F) (sym (new_none (lone v) refl refl)) tt
+  loop_new (cycle hs) l =
+      let r : IsRing F (without m (without h hs)) = ring_out (redirect (after M) h (after M h)) m (without h hs) (apart_out h hs l.0.apart) (ring_out (after M) h hs l.0.apart l.1) in
+      elim (touched (cycle hs)) [
+        | inl t ↦ subst (IsLoop F) (sym t.0) (loop_or_lone F (without m (without h hs)) u (apart_out m (without h hs) (apart_out h hs l.0.apart)) r)
+        | inr t ↦ subst (IsLoop F) (sym t.0) (l.0, subst (IsRing F) (out_none (cycle hs) t.1 t.2) r)
+      ]
+
+  pub loops : (q : ℕ) → Has N.loops q → IsLoop F (content N q)
+  loops q there = subst (IsLoop F) (sym (content-N q)) (loop_new (content M q) (loop_sound M sound q (sym (same.loop q) ∙ there)))
+
+  -- where after(m) is h nothing else starts at the two ends
+  pub bare : after M m ≡ h → (x : ℕ) → HasHalf M x → edge_of x ≢ edge_of h → (tail M x ≢ u) × (tail M x ≢ w)
+  bare e x there a = (
+    λ t. not_h x a (fixed_reaches (round M) h x e (sound.one_fan h x goes.h_there there (sym t))),
+    λ t. not_m x a (fixed_reaches (round M) m x (ap (after M) (mate-mate h) ∙ goes.not_bare e) (sound.one_fan m x m_there there (sym t))),
+  )
+
+  pub apart_both : IsApart (ws ++ vs)
+  apart_both x = elim (IsIn_or_not x ws) [
+    | inl i ↦ elim (IsIn_or_not x vs) [
+      | inl j ↦ absurd (u_w (sym (fan.of_it x i).1 ∙ (fan_killed.of_it x j).1))
+      | inr j ↦ omega (arith, count-append x ws vs, fan.apart x)
+    ]
+    | inr i ↦ omega (arith, count-append x ws vs, fan_killed.apart x)
+  ]
+
+  abbrev pub both : List ℕ
+  both = rest h ws ++ rest m vs
+
+  pub in_both : (x : ℕ) → count x (canonical both) ≡ count x (rest h ws) + count x (rest m vs)
+  in_both x = count-canonical x both ∙ count-append x (rest h ws) (rest m vs)
+
+  abbrev pub fan_u : after M m ≢ h → Fan F N u
+  fan_u ne = record {
+    items = canonical both;
+    apart = IsApart-canonical both (λ x. omega (arith, apart_both x, count-append x ws vs, count-append x (rest h ws) (rest m vs), count_at x h ws h_in, count_at x m vs m_in));
+    ring = fan_kev (after M) h ws vs apart_both h_in m_in ne fan.ring fan_killed.ring;
+    of_it = λ x i. elim (IsIn_or_not x (rest h ws)) [
+      | inl j ↦
+          let o = fan.of_it x (omega (arith, count_at x h ws h_in)) in
+          let a : x ≢ h = λ e. omega (arith, ap (tick x) (sym e), tick_same x, count_at x h ws h_in, fan.apart x) in
+          let b : x ≢ m = λ e. u_w (sym o.1 ∙ ap (tail M) e) in
+          (half_old x o.0 (other_edge x a b), tail_kept x o.0 (other_edge x a b) (λ e. u_w (sym o.1 ∙ e)) ∙ o.1)
+      | inr j ↦
+          let k : IsIn x (rest m vs) = omega (arith, in_both x) in
+          let o = fan_killed.of_it x (omega (arith, count_at x m vs m_in)) in
+          let a : x ≢ h = λ e. u_w (ap (tail M) (sym e) ∙ o.1) in
+          let b : x ≢ m = λ e. omega (arith, ap (tick x) (sym e), tick_same x, count_at x m vs m_in, fan_killed.apart x) in
+          (half_old x o.0 (other_edge x a b), tail_moved x o.0 (other_edge x a b) o.1)
+    ];
+    all = λ x there e. let o = half_cases x there in elim (eqb_tells (tail M x) w) [
+      | inl t ↦ omega (arith, in_both x, count_at x m vs m_in, fan_killed.all x o.0 t.1, tick_other x m (not_m x o.1))
+      | inr t ↦ omega (arith, in_both x, count_at x h ws h_in, fan.all x o.0 (sym (tail_kept x o.0 o.1 t.1) ∙ e), tick_other x h (not_h x o.1))
+    ];
+  }
+
+  pub none_in : {t : ℕ} (f : Fan (after M) M t) (x : ℕ) → tail M x ≢ t → count x f.items ≡ 0
+  none_in f x a = elim (IsIn_or_not x f.items) [ inl i ↦ absurd (a (f.of_it x i).1) | inr n ↦ n ]
+
+  pub fan_else : (x : ℕ) → HasHalf M x → tail M x ≢ u → tail M x ≢ w → Fan F N (tail M x)
+  fan_else x o a b =
+      let f = fan_of M sound x o in
+      let nh : count h f.items ≡ 0 = none_in f h (λ e. a (sym e)) in
+      let nm : count m f.items ≡ 0 = none_in f m (λ e. b (sym e)) in
+      record {
+        items = f.items;
+        apart = f.apart;
+        ring = fan_kev_other (after M) h f.items nh nm f.ring;
+        of_it = λ y i.
+            let t = f.of_it y i in
+            let c : edge_of y ≢ edge_of h = other_edge y (λ e. a (sym t.1 ∙ ap (tail M) e)) (λ e. b (sym t.1 ∙ ap (tail M) e)) in
+            (half_old y t.0 c, tail_kept y t.0 c (λ e. b (sym t.1 ∙ e)) ∙ t.1);
+        all = λ y there e. let t = half_cases y there in elim (eqb_tells (tail M y) w) [
+          | inl q ↦ absurd (a (sym e ∙ tail_moved y t.0 t.1 q.1))
+          | inr q ↦ f.all y t.0 (sym (tail_kept y t.0 t.1 q.1) ∙ e)
+        ];
+      }
+
+  pub fans : (x : ℕ) → HasHalf N x → Fan F N (tail N x)
+  fans x there = let o = half_cases x there in elim (eqb_tells (tail M x) w) [
+    | inl q ↦ elim (eqb_tells (after M m) h) [
+      | inl e ↦ absurd ((bare e.1 x o.0 o.1).1 q.1)
+      | inr e ↦ subst (Fan F N) (sym (tail_moved x o.0 o.1 q.1)) (fan_u e.1)
+    ]
+    | inr q ↦ elim (eqb_tells (tail M x) u) [
+      | inl t ↦ elim (eqb_tells (after M m) h) [
+        | inl e ↦ absurd ((bare e.1 x o.0 o.1).0 t.1)
+        | inr e ↦ subst (Fan F N) (sym (tail_kept x o.0 o.1 q.1 ∙ t.1)) (fan_u e.1)
+      ]
+      | inr t ↦ subst (Fan F N) (sym (tail_kept x o.0 o.1 q.1)) (fan_else x o.0 t.1 q.1)
+    ]
+  ]
+
+  pub mates : (x : ℕ) → HasHalf N x → HasHalf N (mate x)
+  mates x there = ap (λ q. is_some (table.get N.edges q)) (edge_of-mate x) ∙ there
+
+  pub walks : Walks N F
+  walks = record { only = only; placed = placed; loops = loops; fans = fans; mates = mates }
+
+  -- ---- vertices
+
+  pub vertex_gone : table.get N.vertices w ≡ None
+  unfolding kev
+  vertex_gone = grind (arith, nat_tests, tables)
+
+  pub vertex_same : (t : ℕ) → t ≢ w → table.get N.vertices t ≡ table.get M.vertices t
+  unfolding kev
+  vertex_same t a = grind (arith, nat_tests, tables)
+
+  pub not_w : (t : ℕ) → Has N.vertices t → t ≢ w
+  not_w t there e = true≢false (sym there ∙ ap is_some (ap (table.get N.vertices) e ∙ vertex_gone))
+
+  pub has_vertex : (t : ℕ) → t ≢ w → Has M.vertices t → Has N.vertices t
+  has_vertex t a there = ap is_some (vertex_same t a) ∙ there
+
+  pub vertex_back : (t : ℕ) → Has N.vertices t → Has M.vertices t
+  vertex_back t there = ap is_some (sym (vertex_same t (not_w t there))) ∙ there
+
+  pub has_u : Has N.vertices u
+  has_u = has_vertex u u_w (sound.tails_there h goes.h_there)
+
+  -- after(h) isn't h, nor after(m) m
+  pub h_on : after M h ≢ h
+  h_on e = u_w (ap (tail M) (sym e) ∙ sound.ends_meet h goes.h_there)
+
+  pub m_on : after M m ≢ m
+  m_on e = u_w (sym (sym (ap (tail M) e) ∙ sound.ends_meet m m_there ∙ ap (tail M) (mate-mate h)))
+
+  -- a loop that is emptied was h and its mate
+  pub emptied : (q : ℕ) → IsIn h (items_of (content M q)) ⊎ IsIn m (items_of (content M q)) → out (content M q) ≡ [] → (q ≡ loop_of M h) × (after M m ≡ h)
+  emptied q i e = elim i [
+    | inl a ↦
+        let lh : loop_of M h ≡ q = sound.one_loop h q (in-holds h (content M q) a) in
+        let to_m : after M h ≡ m = elim (next_in h goes.h_there lh) [ inl b ↦ absurd (h_on b) | inr b ↦ b ] in
+        let lm : loop_of M m ≡ q = ap (loop_of M) (sym to_m) ∙ loop_after M sound h goes.h_there ∙ lh in
+        (sym lh, elim (next_in m m_there lm) [ inl b ↦ b | inr b ↦ absurd (m_on b) ])
+    | inr a ↦
+        let lm : loop_of M m ≡ q = sound.one_loop m q (in-holds m (content M q) a) in
+        let to_h : after M m ≡ h = elim (next_in m m_there lm) [ inl b ↦ b | inr b ↦ absurd (m_on b) ] in
+        (sym (ap (loop_of M) (sym to_h) ∙ loop_after M sound m m_there ∙ lm), to_h)
+  ] where
+    each : (x : ℕ) → IsIn x (items_of (content M q)) → (x ≡ h) ⊎ (x ≡ m)
+    each x j = elim (eqb_tells x h) [
+      | inl a ↦ inl a.1
+      | inr a ↦ elim (eqb_tells x m) [ inl b ↦ inr b.1 | inr b ↦ absurd (omega (arith, count_kept x (content M q) a.1 b.1, ap (count x) e)) ]
+    ]
+
+    next_in : (x : ℕ) → HasHalf M x → loop_of M x ≡ q → (after M x ≡ h) ⊎ (after M x ≡ m)
+    next_in x t l = each (after M x) (subst (λ y. IsIn (after M x) (items_of (content M y))) (loop_after M sound x t ∙ l) (cycle_there M sound (after M x) (half_after M sound x t)))
+
+  pub lone_back : (q t : ℕ) → content N q ≡ lone t → (content M q ≡ lone t) ⊎ ((t ≡ u) × (q ≡ loop_of M h) × (after M m ≡ h))
+  lone_back q t e = elim (touched (content M q)) [
+    | inl c ↦ let x = was_empty (out (content M q)) u t (sym c.0 ∙ sym (content-N q) ∙ e) in let y = emptied q c.1 x.0 in inr (x.1, y.0, y.1)
+    | inr c ↦ inl (sym c.0 ∙ sym (content-N q) ∙ e)
+  ]
+
+  pub lone_on : (q t : ℕ) → content M q ≡ lone t → content N q ≡ lone t
+  lone_on q t e = content-N q ∙ ap new e ∙ new_none (lone t) refl refl
+
+  -- where after(m) is h the loop becomes lone
+  pub lone_new : after M m ≡ h → content N (loop_of M h) ≡ lone u
+  lone_new e =
+      let c : LoopContent = content M (loop_of M h) in
+      let i : IsIn h (items_of c) = cycle_there M sound h goes.h_there in
+      let l = light M sound (loop_of M h) in
+      let z : (x : ℕ) → count x (out c) ≡ 0 = λ x. elim (IsIn_or_not x (out c)) [
+        | inl j ↦
+            let a : x ≢ h = λ q. omega (arith, j, ap (λ y. count y (out c)) q, h_out c l.0) in
+            let b : x ≢ m = λ q. omega (arith, j, ap (λ y. count y (out c)) q, m_out c l.0) in
+            elim (two_reaches (after M) h m x (goes.not_bare e) e (ring_reaches (after M) (items_of c) h x l.1 i (omega (arith, count_kept x c a b)))) [ inl q ↦ absurd (a q) | inr q ↦ absurd (b q) ]
+        | inr j ↦ j
+      ] in
+      content-N (loop_of M h) ∙ new_h c i ∙ ap (λ xs. cycle_or_lone xs u) (no_items (out c) z)
+
+  pub tails_there-kev : (x : ℕ) → HasHalf N x → Has N.vertices (tail N x)
+  tails_there-kev x there = let o = half_cases x there in elim (eqb_tells (tail M x) w) [
+    | inl q ↦ subst (Has N.vertices) (sym (tail_moved x o.0 o.1 q.1)) has_u
+    | inr q ↦ subst (Has N.vertices) (sym (tail_kept x o.0 o.1 q.1)) (has_vertex _ q.1 (sound.tails_there x o.0))
+  ]
+
+  pub ends_differ-kev : (x : ℕ) → HasHalf N x → tail N x ≢ tail N (mate x)
+  ends_differ-kev x there e =
+      let o = half_cases x there in
+      let t = half_mate M sound x o.0 in
+      let a = mate_edge x o.1 in
+      elim (eqb_tells (tail M x) w) [
+        | inl p ↦ elim (eqb_tells (tail M (mate x)) w) [
+          | inl q ↦ sound.ends_differ x o.0 (p.1 ∙ sym q.1)
+          | inr q ↦ goes.no_parallel (mate x) t a (sym (sym (tail_moved x o.0 o.1 p.1) ∙ e ∙ tail_kept (mate x) t a q.1)) (ap (tail M) (mate-mate x) ∙ p.1)
+        ]
+        | inr p ↦ elim (eqb_tells (tail M (mate x)) w) [
+          | inl q ↦ goes.no_parallel x o.0 o.1 (sym (tail_kept x o.0 o.1 p.1) ∙ e ∙ tail_moved (mate x) t a q.1) q.1
+          | inr q ↦ sound.ends_differ x o.0 (sym (tail_kept x o.0 o.1 p.1) ∙ e ∙ tail_kept (mate x) t a q.1)
+        ]
+      ]
+
+  -- another half-edge at u, or the lone loop
+  pub at_u : ((q : ℕ) × IsLoneAt N q u) ⊎ IsTail N u
+  at_u = elim (eqb_tells (after M m) h) [
+    | inl e ↦ inl (loop_of M h, lone_new e.1)
+    | inr e ↦
+        let y : ℕ = after M m in
+        let t : HasHalf M y = half_after M sound m m_there in
+        let s : tail M y ≡ u = sound.ends_meet m m_there ∙ ap (tail M) (mate-mate h) in
+        let a : edge_of y ≢ edge_of h = other_edge y e.1 (λ q. u_w (sym s ∙ ap (tail M) q)) in
+        inr (record { half = y; there = half_old y t a; starts = tail_kept y t a (λ q. u_w (sym s ∙ q)) ∙ s })
+  ]
+
+  pub lone_or_tail-kev : (t : ℕ) → Has N.vertices t → ((q : ℕ) × IsLoneAt N q t) ⊎ IsTail N t
+  lone_or_tail-kev t there = elim (eqb_tells t u) [
+    | inl e ↦ subst (λ y. ((q : ℕ) × IsLoneAt N q y) ⊎ IsTail N y) (sym e.1) at_u
+    | inr e ↦ elim (sound.lone_or_tail t (vertex_back t there)) [
+      | inl a ↦ inl (a.0, lone_on a.0 t a.1)
+      | inr x ↦
+          let a : edge_of x.half ≢ edge_of h = other_edge x.half (λ q. e.1 (sym x.starts ∙ ap (tail M) q)) (λ q. not_w t there (sym x.starts ∙ ap (tail M) q)) in
+          inr (record { half = x.half; there = half_old x.half x.there a; starts = tail_kept x.half x.there a (λ q. not_w t there (sym x.starts ∙ q)) ∙ x.starts })
+    ]
+  ]
+
+  pub lone_is_no_tail-kev : (q x : ℕ) → HasHalf N x → content N q ≢ lone (tail N x)
+  lone_is_no_tail-kev q x there is =
+      let o = half_cases x there in
+      elim (lone_back q (tail N x) is) [
+        | inl a ↦ elim (eqb_tells (tail M x) w) [
+          | inl t ↦ sound.lone_is_no_tail q h goes.h_there (a ∙ ap lone (tail_moved x o.0 o.1 t.1))
+          | inr t ↦ sound.lone_is_no_tail q x o.0 (a ∙ ap lone (tail_kept x o.0 o.1 t.1))
+        ]
+        | inr a ↦ elim (eqb_tells (tail M x) w) [
+          | inl t ↦ (bare a.2 x o.0 o.1).1 t.1
+          | inr t ↦ (bare a.2 x o.0 o.1).0 (sym (tail_kept x o.0 o.1 t.1) ∙ a.0)
+        ]
+      ]
+
+  pub one_lone-kev : (a b t : ℕ) → IsLoneAt N a t → IsLoneAt N b t → a ≡ b
+  one_lone-kev a b t x y = elim (lone_back a t x) [
+    | inl p ↦ elim (lone_back b t y) [
+      | inl q ↦ sound.one_lone a b t p q
+      | inr q ↦ absurd (sound.lone_is_no_tail a h goes.h_there (p ∙ ap lone q.0))
+    ]
+    | inr p ↦ elim (lone_back b t y) [
+      | inl q ↦ absurd (sound.lone_is_no_tail b h goes.h_there (q ∙ ap lone p.0))
+      | inr q ↦ p.1 ∙ sym q.1
+    ]
+  ]
+
+  pub lone_at_vertex-kev : (q t : ℕ) → IsLoneAt N q t → Has N.vertices t
+  lone_at_vertex-kev q t x = elim (lone_back q t x) [
+    | inl p ↦ has_vertex t (λ e. sound.lone_is_no_tail q m m_there (p ∙ ap lone e)) (sound.lone_at_vertex q t p)
+    | inr p ↦ subst (Has N.vertices) (sym p.0) has_u
+  ]
+
+  pub one_solid-kev : (x : ℕ) → HasHalf N x → solid_at N (loop_of N x) ≡ solid_at N (loop_of N (mate x))
+  one_solid-kev x there =
+      let o = half_cases x there in
+      let old : (y : ℕ) → HasHalf M y → edge_of y ≢ edge_of h → solid_at N (loop_of N y) ≡ solid_at M (loop_of M y) = λ y t a. ap (solid_at N) (loop_old y t a) ∙ solid_at-same M N sound same (loop_of M y) in
+      old x o.0 o.1 ∙ sound.one_solid x o.0 ∙ sym (old (mate x) (half_mate M sound x o.0) (mate_edge x o.1))
+
+  pub edges_fit-kev : NumbersFit N.edges
+  edges_fit-kev e there =
+      let a : e ≢ edge_of h = λ q. true≢false (sym there ∙ ap is_some (ap (table.get N.edges) q ∙ edge_gone)) in
+      sound.edges_fit e (sym (mapped_some _ (table.get M.edges e)) ∙ ap is_some (sym (edge_mapped e a)) ∙ there)
+
+  pub points_fit-kev : (t : ℕ) (p : Point) → table.get N.vertices t ≡ Some p → IsInRange p
+  points_fit-kev t p at = sound.points_fit t p (sym (vertex_same t (not_w t (ap is_some at))) ∙ at)
+
+  -- a sound model stays sound under kev
+  pub sound-kev : Sound N
+  sound-kev = record {
+    stands = stands-walks N F walks;
+    only_edges = only;
+    one_loop = one_loop-walks N F walks;
+    cycles = cycles-walks N F walks;
+    ends_meet = ends_meet-walks N F walks;
+    tails_there = tails_there-kev;
+    ends_differ = ends_differ-kev;
+    lone_or_tail = lone_or_tail-kev;
+    lone_is_no_tail = lone_is_no_tail-kev;
+    one_lone = one_lone-kev;
+    one_fan = one_fan-walks N F walks;
+    loops_of_faces = loops_of_faces-same M N sound same;
+    outers_there = outers_there-same M N sound same;
+    lone_at_vertex = lone_at_vertex-kev;
+    faces_of_solids = faces_of_solids-same M N sound same;
+    solid_has_face = solid_has_face-same M N sound same;
+    one_solid = one_solid-kev;
+    solids_fit = solids_fit-same M N sound same;
+    faces_fit = faces_fit-same M N sound same;
+    loops_fit = loops_fit-same M N sound same;
+    edges_fit = edges_fit-kev;
+    vertices_fit = λ t there. sound.vertices_fit t (vertex_back t there);
+    points_fit = points_fit-kev;
+  }

@@ -1,0 +1,372 @@
+-- kev is taken back by mev at two half-edges, where others leave the kept vertex.
+use Rattle.std.proofs.Common.{◌≡◌, ◌≢◌, ℕ, ◌+◌, cond, nat_eq, List, [], ◌∷◌, ◌++◌, Some, is_some, refl, sym, ap, ◌∙◌, subst, arith, ◌⊎◌, inl, inr}
+use Rattle.std.proofs.lemmas.Bool.Decides.{eqb_tells}
+use Rattle.cyclic_list.specs.Items.{count, tick, IsIn, IsApart, head_or}
+use Rattle.cyclic_list.specs.Rings.{canonical, rotate_to, rest, between, beyond, successor, IsRing, IsRotation}
+use Rattle.cyclic_list.specs.Edits.{insert_before, without}
+use Rattle.cyclic_list.specs.Operators.{mev_ring, kev_ring, take_ring}
+use Rattle.cyclic_list.proofs.Lists.{count-append, tick_same, tick_other, IsIn_or_not, count-before}
+use Rattle.cyclic_list.proofs.Rotations.{count-canonical, IsApart-canonical, canonical-rotates, rotate_to_same, rotate_to_head, count-rotate_to}
+use Rattle.cyclic_list.proofs.Rings.{IsIn_successor, count_at, IsRing-same, rotation_at, IsPath-agree}
+use Rattle.cyclic_list.proofs.Cuts.{ring_split, upto_once}
+use Rattle.cyclic_list.proofs.Operators.{mev-kev, put-take, apart_left}
+use Rattle.cyclic_list.proofs.Edits.{without_none, count-insert_before}
+use Rattle.boundary_model.specs.HalfEdge.{mate, edge_of}
+use Rattle.boundary_model.specs.Table as table
+use Rattle.boundary_model.specs.Model.{Model, LoopContent, lone, cycle, items_of, tail, loop_of, content, after, round, point_of}
+use Rattle.boundary_model.specs.Sound.{Sound, Has, HasHalf, IsCycle}
+use Rattle.boundary_model.proofs.Halves.{mate_other, mate-mate, same_edge}
+use Rattle.boundary_model.proofs.Tables.{put-remove}
+use Rattle.boundary_model.proofs.Models.{in-holds, cycle_there}
+use Rattle.euler_operators.specs.Effect.{mev_at, kev}
+use Rattle.euler_laws.proofs.shared.Fans.{half_mate, half_after, loop_after}
+use Rattle.euler_laws.proofs.shared.Loops.{put_before, put_there, put_none, put_lone, after-walks, count_out}
+use Rattle.euler_laws.proofs.shared.Arcs.{arc_is}
+use Rattle.euler_laws.proofs.shared.Same.{mapped_some}
+use Rattle.euler_laws.proofs.shared.Undo.{same_loops, same_edges, same_model, taken_out, both_out, put_in, both_in, after_first}
+use Rattle.euler_laws.proofs.mev.MevSound as put
+use Rattle.euler_laws.proofs.mev.MevSound.{MevGoes}
+use Rattle.euler_laws.proofs.kev.KevSound as kill
+use Rattle.euler_laws.proofs.kev.KevSound.{KevGoes}
+use Rattle.euler_laws.proofs.kev.MevUndo.{without_both, as_cycle, back_none, back_h, back_m}
+use Rattle.euler_laws.proofs.shared.Rows.{point_row, after_second}
+
+-- ---- lists
+
+module _ (hs : List ℕ) (cy : IsCycle hs) (h m : ℕ) (hm : h ≢ m) where
+  -- both in one loop
+  module _ (i : IsIn h hs) (j : IsIn m hs) where
+    abbrev pub xs' : List ℕ
+    xs' = between h m hs
+
+    abbrev pub ys' : List ℕ
+    ys' = beyond h m hs
+
+    pub corners_in : (ys' ≢ []) → IsIn (head_or m ys') (kev_ring h m hs) × IsIn (head_or (head_or m ys') xs') (kev_ring h m hs)
+    corners_in ne = go xs' ys' ne where
+      go : (xs ys : List ℕ) → ys ≢ [] → IsIn (head_or m ys) (canonical (xs ++ ys)) × IsIn (head_or (head_or m ys) xs) (canonical (xs ++ ys))
+      go xs [] ne = absurd (ne refl)
+      go [] (y ∷ ys) ne = let t : IsIn y (canonical (y ∷ ys)) = omega (arith, count-canonical y (y ∷ ys), tick_same y) in (t, t)
+      go (x ∷ xs) (y ∷ ys) ne = (
+        omega (arith, count-canonical y ((x ∷ xs) ++ y ∷ ys), count-append y (x ∷ xs) (y ∷ ys), tick_same y),
+        omega (arith, count-canonical x ((x ∷ xs) ++ y ∷ ys), count-append x (x ∷ xs) (y ∷ ys), tick_same x),
+      )
+
+    gone : (x : ℕ) → count x (kev_ring h m hs) + tick x h + tick x m ≡ count x hs
+    gone x = omega (arith, count-canonical x (xs' ++ ys'), count-append x xs' ys', ap (count x) (ring_split h m hs i j hm), count-append x (h ∷ xs') (m ∷ ys'), count-rotated x) where
+      count-rotated : (x : ℕ) → count x (rotate_to h hs) ≡ count x hs
+      count-rotated x = count-rotate_to x h hs
+
+    pub both_back : ys' ≢ [] → (c d : ℕ) → d ≡ head_or m ys' → c ≡ head_or (head_or m ys') xs' →
+        put_before d m (put_before c h (cycle (kev_ring h m hs))) ≡ cycle hs
+    both_back ne c d de ce =
+        let zs : List ℕ = kev_ring h m hs in
+        let t = corners_in ne in
+        let di : IsIn d zs = subst (λ y. IsIn y zs) (sym de) t.0 in
+        let ci : IsIn c zs = subst (λ y. IsIn y zs) (sym ce) t.1 in
+        let az : IsApart zs = IsApart-canonical (xs' ++ ys') (apart_left h m hs cy.apart i j hm) in
+        let nh : count h zs ≡ 0 = omega (arith, gone h, tick_same h, cy.apart h) in
+        let nm : count m zs ≡ 0 = omega (arith, gone m, tick_same m, cy.apart m) in
+        ap (put_before d m) (put_there c h (cycle zs) ci)
+        ∙ put_there d m (cycle (canonical (insert_before c h zs))) (omega (arith, count-canonical d (insert_before c h zs), count-insert_before d c h zs ci))
+        ∙ ap cycle (both_in zs az h m c d ci di hm nh nm
+        ∙ ap (λ y. mev_ring h m y d zs) ce ∙ ap (λ y. mev_ring h m (head_or (head_or m ys') xs') y zs) de
+        ∙ mev-kev h m hs cy.apart i j hm (λ e. absurd (ne e)) ∙ cy.from_least)
+
+  -- one in this loop
+  pub one_back : IsIn h hs → successor hs h ≢ h → put_before (successor hs h) h (cycle (take_ring h hs)) ≡ cycle hs
+  one_back i ne =
+      let ys : List ℕ = take_ring h hs in
+      let c : ℕ = successor hs h in
+      let k : (x : ℕ) → tick x h + count x ys ≡ count x hs = λ x. omega (arith, count-canonical x (rest h hs), count_at x h hs i) in
+      let d : IsApart ys = λ x. omega (arith, k x, cy.apart x) in
+      let ci : IsIn c ys = omega (arith, k c, tick_other c h ne, IsIn_successor h hs i) in
+      let n : count h ys ≡ 0 = omega (arith, k h, tick_same h, cy.apart h) in
+      put_there c h (cycle ys) ci ∙ ap cycle (put_in ys d c h ci n ∙ put-take h hs cy.apart i ∙ cy.from_least)
+
+  pub take_none : (x : ℕ) → IsIn h hs → count x hs ≡ 0 → count x (take_ring h hs) ≡ 0
+  take_none x i n = omega (arith, count-canonical x (rest h hs), count_at x h hs i)
+
+module _ (M : Model) (sound : Sound M) (h : ℕ) (goes : KevGoes M h) (open_end : after M (mate h) ≢ h) where
+  abbrev pub m : ℕ
+  m = mate h
+
+  abbrev pub N : Model
+  N = kev M h
+
+  abbrev pub w : ℕ
+  w = tail M m
+
+  pub sound-N : Sound N
+  sound-N = kill.sound-kev M sound h goes
+
+  abbrev pub d : ℕ
+  d = after M m
+
+  abbrev pub c : ℕ
+  c = cond (nat_eq (after M h) m) d (after M h)
+
+  pub c_cases : ((after M h ≡ m) × (c ≡ d)) ⊎ ((after M h ≢ m) × (c ≡ after M h))
+  c_cases = elim (eqb_tells (after M h) m) [
+    | inl e ↦ inl (e.1, ap (λ b. cond b d (after M h)) e.0)
+    | inr e ↦ inr (e.1, ap (λ b. cond b d (after M h)) e.0)
+  ]
+
+  m_there : HasHalf M m
+  m_there = half_mate M sound h goes.h_there
+
+  d_there : HasHalf M d
+  d_there = half_after M sound m m_there
+
+  d_tail : tail M d ≡ tail M h
+  d_tail = sound.ends_meet m m_there ∙ ap (tail M) (mate-mate h)
+
+  u_w : tail M h ≢ w
+  u_w = sound.ends_differ h goes.h_there
+
+  d_edge : edge_of d ≢ edge_of h
+  d_edge = kill.other_edge M sound h goes d open_end (kill.m_on M sound h goes)
+
+  pub d_new : HasHalf N d × (tail N d ≡ tail M h)
+  d_new = (kill.half_old M sound h goes d d_there d_edge, kill.tail_kept M sound h goes d d_there d_edge (λ e. u_w (sym d_tail ∙ e)) ∙ d_tail)
+
+  pub c_new : HasHalf N c × (tail N c ≡ tail M h)
+  c_new = elim c_cases [
+    | inl e ↦ (subst (HasHalf N) (sym e.1) d_new.0, ap (tail N) e.1 ∙ d_new.1)
+    | inr e ↦
+        let t = half_after M sound h goes.h_there in
+        let a : edge_of (after M h) ≢ edge_of h = kill.other_edge M sound h goes (after M h) (kill.h_on M sound h goes) e.0 in
+        (subst (HasHalf N) (sym e.1) (kill.half_old M sound h goes (after M h) t a), ap (tail N) e.1 ∙ kill.tail_moved M sound h goes (after M h) t a (sound.ends_meet h goes.h_there))
+  ]
+
+  pub point_there : table.get M.vertices w ≡ Some (point_of M w)
+  point_there = point_row M w (sound.tails_there m m_there)
+
+  pub put_goes : MevGoes N c d h w (point_of M w)
+  put_goes = record {
+    g_there = c_new.0;
+    k_there = d_new.0;
+    edge_free = kill.edge_gone M sound h goes;
+    vertex_free = kill.vertex_gone M sound h goes;
+    one_tail = d_new.1 ∙ sym c_new.1;
+    edge_fits = sound.edges_fit (edge_of h) goes.h_there;
+    vertex_fits = sound.vertices_fit w (sound.tails_there m m_there);
+    point_fits = sound.points_fit w (point_of M w) point_there;
+  }
+
+  abbrev pub K : Model
+  K = mev_at N c d h w (point_of M w)
+
+  -- ---- loops
+
+  after_in : (q x : ℕ) (hs : List ℕ) → content M q ≡ cycle hs → IsIn x hs → after M x ≡ successor hs x
+  unfolding after
+  after_in q x hs e i = ap (λ l. successor (items_of (content M l)) x) (sound.one_loop x q (in-holds x (content M q) (subst (λ c. IsIn x (items_of c)) (sym e) i))) ∙ ap (λ c. successor (items_of c) x) e
+
+  -- what follows an item of another loop isn't in this one
+  after_out : (q x : ℕ) (hs : List ℕ) → content M q ≡ cycle hs → HasHalf M x → count x hs ≡ 0 → count (after M x) hs ≡ 0
+  after_out q x hs e t n = elim (IsIn_or_not (after M x) hs) [
+    | inl i ↦
+        let l : loop_of M x ≡ q = sym (loop_after M sound x t) ∙ sound.one_loop (after M x) q (in-holds (after M x) (content M q) (subst (λ c. IsIn (after M x) (items_of c)) (sym e) i)) in
+        let j : IsIn x hs = subst (λ c. IsIn x (items_of c)) (ap (content M) l ∙ e) (cycle_there M sound x t) in
+        absurd (omega arith)
+    | inr z ↦ z
+  ]
+
+  hm : h ≢ m
+  hm = mate_other h
+
+  abbrev back : LoopContent → LoopContent
+  back x = put_before d m (put_before c h (without_both h (tail M h) x))
+
+  content_of : (q : ℕ) (x : LoopContent) → Has M.loops q → content M q ≡ x → back x ≡ x
+  content_of q (lone v) there e = ap (λ y. put_before d m (put_before c h y)) (back_none h c d (tail M h) (lone v) refl refl) ∙ ap (put_before d m) (put_lone c h v) ∙ put_lone d m v
+  content_of q (cycle hs) there e =
+      let cy : IsCycle hs = sound.cycles q hs there e in
+      elim (IsIn_or_not h hs) [
+        | inl i ↦ elim (IsIn_or_not m hs) [
+          | inl j ↦
+              let ah : after M h ≡ head_or m (between h m hs) = after_in q h hs e i ∙ after_first hs cy.apart h m i j hm in
+              let am : after M m ≡ head_or h (beyond h m hs) = after_in q m hs e j ∙ after_second hs cy h m hm i j in
+              let ne : beyond h m hs ≢ [] = λ z. open_end (am ∙ ap (head_or h) z) in
+              let de : d ≡ head_or m (beyond h m hs) = am ∙ same_head (beyond h m hs) ne in
+              let ce : c ≡ head_or (head_or m (beyond h m hs)) (between h m hs) = elim c_cases [
+                | inl s ↦ s.1 ∙ de ∙ sym (empty_head (between h m hs) (head_or m (beyond h m hs)) (sym ah ∙ s.0) (count-before m (rest h hs)))
+                | inr s ↦ s.1 ∙ ah ∙ full_head (between h m hs) (head_or m (beyond h m hs)) (λ t. s.0 (ah ∙ t))
+              ] in
+              let t = corners_in hs cy h m hm i j ne in
+              ap (λ y. put_before d m (put_before c h y))
+              (back_h h c d (tail M h) (cycle hs) i ∙ as_cycle (without m (without h hs)) (kev_ring h m hs) (tail M h) (both_out hs cy.apart h m i j hm) (some_item (head_or m (beyond h m hs)) (kev_ring h m hs) t.0))
+              ∙ both_back hs cy h m hm i j ne c d de ce
+          | inr j ↦
+              let ah : after M h ≡ successor hs h = after_in q h hs e i in
+              let hin : IsIn (after M h) hs = subst (λ y. IsIn y hs) (sym ah) (IsIn_successor h hs i) in
+              let ce : c ≡ successor hs h = elim c_cases [ inl s ↦ absurd (omega (arith, hin, ap (λ y. count y hs) s.0)) | inr s ↦ s.1 ∙ ah ] in
+              let dn : count d hs ≡ 0 = after_out q m hs e m_there j in
+              let out : count m (without h hs) ≡ 0 = omega (arith, count_out m h hs (λ s. hm (sym s))) in
+              ap (λ y. put_before d m (put_before c h y))
+              (back_h h c d (tail M h) (cycle hs) i ∙ as_cycle (without m (without h hs)) (take_ring h hs) (tail M h) (ap canonical (without_none m (without h hs) out) ∙ taken_out hs cy.apart h i)
+              (some_item (successor hs h) (take_ring h hs) (in_take hs cy h i (λ s. kill.h_on M sound h goes (ah ∙ s)))))
+              ∙ ap (put_before d m) (ap (λ y. put_before y h (cycle (take_ring h hs))) ce ∙ one_back hs cy h m hm i (λ s. kill.h_on M sound h goes (ah ∙ s)))
+              ∙ put_none d m (cycle hs) dn
+        ]
+        | inr i ↦
+            let ch : count (after M h) hs ≡ 0 = after_out q h hs e goes.h_there i in
+            elim (IsIn_or_not m hs) [
+              | inl j ↦
+                  let am : after M m ≡ successor hs m = after_in q m hs e j in
+                  let cn : count c hs ≡ 0 = elim c_cases [ inl s ↦ absurd (omega (arith, j, ch, ap (λ y. count y hs) s.0)) | inr s ↦ ap (λ y. count y hs) s.1 ∙ ch ] in
+                  let ct : count c (take_ring m hs) ≡ 0 = take_none hs cy m h (λ s. hm (sym s)) c j cn in
+                  ap (λ y. put_before d m (put_before c h y))
+                  (back_m h c d (tail M h) (cycle hs) j ∙ as_cycle (without m (without h hs)) (take_ring m hs) (tail M h) (ap (λ y. canonical (without m y)) (without_none h hs i) ∙ taken_out hs cy.apart m j)
+                  (some_item (successor hs m) (take_ring m hs) (in_take hs cy m j (λ s. kill.m_on M sound h goes (am ∙ s)))))
+                  ∙ ap (put_before d m) (put_none c h (cycle (take_ring m hs)) ct)
+                  ∙ ap (λ y. put_before y m (cycle (take_ring m hs))) am ∙ one_back hs cy m h (λ s. hm (sym s)) j (λ s. kill.m_on M sound h goes (am ∙ s))
+              | inr j ↦
+                  let dn : count d hs ≡ 0 = after_out q m hs e m_there j in
+                  let cn : count c hs ≡ 0 = elim c_cases [ inl s ↦ ap (λ y. count y hs) s.1 ∙ dn | inr s ↦ ap (λ y. count y hs) s.1 ∙ ch ] in
+                  ap (λ y. put_before d m (put_before c h y)) (back_none h c d (tail M h) (cycle hs) i j)
+                  ∙ ap (put_before d m) (put_none c h (cycle hs) cn) ∙ put_none d m (cycle hs) dn
+            ]
+      ] where
+        same_head : (ys : List ℕ) → ys ≢ [] → head_or h ys ≡ head_or m ys
+        same_head [] ne = absurd (ne refl)
+        same_head (y ∷ ys) ne = refl
+
+        empty_head : (xs : List ℕ) (k : ℕ) → head_or m xs ≡ m → count m xs ≡ 0 → head_or k xs ≡ k
+        empty_head [] k e n = refl
+        empty_head (x ∷ xs) k e n = absurd (omega (arith, n, ap (tick m) e, tick_same m))
+
+        full_head : (xs : List ℕ) (k : ℕ) → head_or m xs ≢ m → head_or m xs ≡ head_or k xs
+        full_head [] k ne = absurd (ne refl)
+        full_head (x ∷ xs) k ne = refl
+
+        some_item : (x : ℕ) (xs : List ℕ) → IsIn x xs → xs ≢ []
+        some_item x xs i z = let t : count x xs ≡ 0 = ap (count x) z in omega arith
+
+        in_take : (xs : List ℕ) → IsCycle xs → (k : ℕ) → IsIn k xs → successor xs k ≢ k → IsIn (successor xs k) (take_ring k xs)
+        in_take xs cy k i ne = omega (arith, count-canonical (successor xs k) (rest k xs), count_at (successor xs k) k xs i, tick_other (successor xs k) k ne, IsIn_successor k xs i)
+
+  contents : (q : ℕ) → Has M.loops q → content K q ≡ content M q
+  contents q there = put.content-N N sound-N c d h w (point_of M w) put_goes q
+      ∙ ap (λ y. put_before d m (put_before c h y)) (kill.content-N M sound h goes q) ∙ content_of q (content M q) there refl
+
+  loops-back : K.loops ≡ M.loops
+  loops-back = same_loops K M
+      (λ q. (put.same N sound-N c d h w (point_of M w) put_goes).loop q ∙ (kill.same M sound h goes).loop q)
+      (λ q _. (put.same N sound-N c d h w (point_of M w) put_goes).face q ∙ (kill.same M sound h goes).face q)
+      contents
+
+  -- ---- what moves back: all but m that started at the killed vertex
+
+  abbrev ws : List ℕ
+  ws = kill.ws M sound h goes
+
+  abbrev vs : List ℕ
+  vs = kill.vs M sound h goes
+
+  h_in : IsIn h ws
+  h_in = kill.h_in M sound h goes
+
+  m_in : IsIn m vs
+  m_in = kill.m_in M sound h goes
+
+  abbrev both : List ℕ
+  both = rest h ws ++ rest m vs
+
+  kept_ring : round M h ≡ head_or h (rest h ws)
+  kept_ring = (IsRing-same (round M) ws (h ∷ rest h ws) (rotation_at h ws h_in) (kill.fan M sound h goes).ring).0
+
+  killed_ring : round M m ≡ head_or m (rest m vs)
+  killed_ring = (IsRing-same (round M) vs (m ∷ rest m vs) (rotation_at m vs m_in) (kill.fan_killed M sound h goes).ring).0
+
+  others : (ts : List ℕ) × (rest h ws ≡ d ∷ ts)
+  others = go (rest h ws) kept_ring where
+    go : (xs : List ℕ) → round M h ≡ head_or h xs → (ts : List ℕ) × (xs ≡ d ∷ ts)
+    go [] e = absurd (open_end e)
+    go (x ∷ xs) e = (xs, ap (λ y. y ∷ xs) (sym e))
+
+  -- c is the first of what moved, or d where nothing did
+  c_first : (ts : List ℕ) → c ≡ head_or d (rest m vs)
+  c_first ts = go (rest m vs) killed_ring (omega (arith, count_at m m vs m_in, tick_same m, (kill.fan_killed M sound h goes).apart m)) where
+    to_m : round M m ≡ after M h
+    to_m = ap (after M) (mate-mate h)
+
+    go : (xs : List ℕ) → round M m ≡ head_or m xs → count m xs ≡ 0 → c ≡ head_or d xs
+    go [] e n = elim c_cases [ inl s ↦ s.1 | inr s ↦ absurd (s.0 (sym to_m ∙ e)) ]
+    go (x ∷ xs) e n = elim c_cases [
+      | inl s ↦ absurd (omega (arith, n, ap (tick m) (sym (sym to_m ∙ e) ∙ s.0), tick_same m))
+      | inr s ↦ s.1 ∙ sym to_m ∙ e
+    ]
+
+  pub moved_is : put.moved N sound-N c d h w (point_of M w) put_goes ≡ rest m vs
+  moved_is =
+      let f = kill.fan_u M sound h goes open_end in
+      let all : List ℕ = canonical both in
+      let ts : List ℕ = others.0 in
+      let back_to : List ℕ = rest m vs ++ rest h ws in
+      let r : IsRotation both back_to = record { front = rest h ws; back = rest m vs; here = refl; there = refl } in
+      let ab : IsApart both = λ x. omega (arith, f.apart x, count-canonical x both) in
+      let ci : IsIn c all = f.all c c_new.0 c_new.1 in
+      let di : IsIn d all = f.all d d_new.0 d_new.1 in
+      let cb : IsIn c both = omega (arith, ci, count-canonical c both) in
+      let ring : IsRing (round N) all = IsPath-agree (λ x. kill.F M sound h goes (mate x)) (round N) all (head_or 0 all)
+      (λ x i. sym (after-walks N (kill.F M sound h goes) (kill.walks M sound h goes) (mate x) (kill.mates M sound h goes x (f.of_it x i).0))) f.ring in
+      let e : rotate_to c all ≡ rest m vs ++ d ∷ ts =
+      sym (rotate_to_same c both all (canonical-rotates both) ab cb) ∙ rotate_to_same c both back_to r ab cb
+      ∙ ap (λ y. rotate_to c (rest m vs ++ y)) others.1 ∙ first_is (rest m vs) ts (c_first ts) in
+      sym (put.arc_moved N sound-N c d h w (point_of M w) put_goes)
+      ∙ arc_is N all c d f.apart ring (λ x i. (f.of_it x i).0) ci di
+      ∙ (upto_once c d all (rest m vs) ts f.apart e).0 where
+        first_is : (xs ts : List ℕ) → c ≡ head_or d xs → rotate_to c (xs ++ d ∷ ts) ≡ xs ++ d ∷ ts
+        first_is [] ts e = ap (λ y. rotate_to y (d ∷ ts)) e ∙ rotate_to_head d ts
+        first_is (x ∷ xs) ts e = ap (λ y. rotate_to y (x ∷ (xs ++ d ∷ ts))) e ∙ rotate_to_head x (xs ++ d ∷ ts)
+
+  -- ---- edges and vertices
+
+  has_edge : (e : ℕ) → table.has K.edges e ≡ table.has M.edges e
+  has_edge e = elim (eqb_tells e (edge_of h)) [
+    | inl a ↦ ap (table.has K.edges) a.1 ∙ put.half_h N sound-N c d h w (point_of M w) put_goes ∙ sym (ap (table.has M.edges) a.1 ∙ goes.h_there)
+    | inr a ↦ ap is_some (put.edge_mapped N sound-N c d h w (point_of M w) put_goes e a.1) ∙ mapped_some _ (table.get N.edges e)
+        ∙ ap is_some (kill.edge_mapped M sound h goes e a.1) ∙ mapped_some _ (table.get M.edges e)
+  ]
+
+  tails_old : (x : ℕ) → HasHalf M x → edge_of x ≢ edge_of h → tail K x ≡ tail M x
+  tails_old x there a =
+      let o = kill.half_old M sound h goes x there a in
+      elim (eqb_tells (tail M x) w) [
+        | inl e ↦
+            let i : IsIn x (rest m vs) = omega (arith, count_at x m vs m_in, (kill.fan_killed M sound h goes).all x there e.1, tick_other x m (kill.not_m M sound h goes x a)) in
+            put.tail_moved N sound-N c d h w (point_of M w) put_goes x o (subst (IsIn x) (sym moved_is) i) ∙ sym e.1
+        | inr e ↦
+            let n : count x (rest m vs) ≡ 0 = elim (IsIn_or_not x (rest m vs)) [
+              | inl i ↦ absurd (e.1 ((kill.fan_killed M sound h goes).of_it x (omega (arith, count_at x m vs m_in))).1)
+              | inr z ↦ z
+            ] in
+            put.tail_kept N sound-N c d h w (point_of M w) put_goes x o (ap (count x) moved_is ∙ n) ∙ kill.tail_kept M sound h goes x there a e.1
+      ]
+
+  tails : (x : ℕ) → HasHalf M x → tail K x ≡ tail M x
+  tails x there = elim (eqb_tells (edge_of x) (edge_of h)) [
+    | inl e ↦ elim (same_edge x h e.1) [
+      | inl q ↦ ap (tail K) q ∙ put.tail-h N sound-N c d h w (point_of M w) put_goes ∙ c_new.1 ∙ sym (ap (tail M) q)
+      | inr q ↦ ap (tail K) q ∙ put.tail-m N sound-N c d h w (point_of M w) put_goes ∙ sym (ap (tail M) q)
+    ]
+    | inr e ↦ tails_old x there e.1
+  ]
+
+  vertices-back : K.vertices ≡ M.vertices
+  unfolding kev mev_at
+  vertices-back = put-remove M.vertices w (point_of M w) point_there
+
+  solids-back : K.solids ≡ M.solids
+  unfolding kev mev_at
+  solids-back = refl
+
+  faces-back : K.faces ≡ M.faces
+  unfolding kev mev_at
+  faces-back = refl
+
+  -- mev takes kev back
+  pub mev_at-kev : mev_at (kev M h) c d h w (point_of M w) ≡ M
+  mev_at-kev = same_model K M solids-back faces-back loops-back (same_edges K M has_edge tails) vertices-back

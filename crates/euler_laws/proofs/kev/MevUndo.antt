@@ -1,0 +1,192 @@
+-- mev at two half-edges is taken back by kev.
+use Rattle.std.proofs.Common.{◌≡◌, ◌≢◌, ℕ, ◌+◌, Bool, true, false, cond, ◌||◌, List, [], ◌∷◌, ◌++◌, is_some, refl, sym, ap, ◌∙◌, arith, inl, inr, eq-eqb}
+use Rattle.std.proofs.lemmas.Bool.Decides.{eqb_tells}
+use Rattle.lattice.specs.declared.Point.{Point}
+use Rattle.cyclic_list.specs.Items.{count, tick, IsIn, IsApart}
+use Rattle.cyclic_list.specs.Rings.{canonical, rotate_to, upto, onward}
+use Rattle.cyclic_list.specs.Edits.{insert_before, without, led_over}
+use Rattle.cyclic_list.specs.Operators.{mev_ring, put_ring}
+use Rattle.cyclic_list.proofs.Lists.{count-append, tick_same, tick_other, IsIn_or_not}
+use Rattle.cyclic_list.proofs.Rotations.{count-canonical, IsApart-canonical, canonical_nil, count-rotate_to}
+use Rattle.cyclic_list.proofs.Operators.{kev-mev, take-put, apart_put}
+use Rattle.cyclic_list.proofs.Leads.{apart_mev}
+use Rattle.cyclic_list.proofs.Edits.{without_none, count-insert_before}
+use Rattle.boundary_model.specs.HalfEdge.{mate, edge_of}
+use Rattle.boundary_model.specs.Table as table
+use Rattle.boundary_model.specs.Model.{Model, LoopContent, lone, cycle, items_of, holds, tail, content, after}
+use Rattle.boundary_model.specs.Sound.{Sound, Has, HasHalf, IsCycle}
+use Rattle.boundary_model.proofs.Halves.{mate_other, edge_of-mate}
+use Rattle.boundary_model.proofs.Tables.{remove-put}
+use Rattle.boundary_model.proofs.Models.{in-holds, holds-none}
+use Rattle.euler_operators.specs.Effect.{mev_at, kev, cycle_or_lone}
+use Rattle.euler_laws.proofs.shared.Fans.{half_mate}
+use Rattle.euler_laws.proofs.shared.Loops.{put_before, put_there, put_none, put_lone, none_free, count_out, after-walks}
+use Rattle.euler_laws.proofs.shared.Same.{mapped_some}
+use Rattle.euler_laws.proofs.shared.Undo.{same_loops, same_edges, same_model, taken_out, both_out, put_in, both_in}
+use Rattle.euler_laws.proofs.mev.MevSound as put
+use Rattle.euler_laws.proofs.mev.MevSound.{MevGoes}
+use Rattle.euler_laws.proofs.kev.KevSound as kill
+use Rattle.euler_laws.proofs.kev.KevSound.{KevGoes}
+
+-- what kev leaves of a content
+abbrev pub without_both : ℕ → ℕ → LoopContent → LoopContent
+without_both h t c = cond (holds h c || holds (mate h) c) (cycle_or_lone (without (mate h) (without h (items_of c))) t) c
+
+led_at : (next : ℕ → ℕ) (c y : ℕ) → led_over next c y y ≡ c
+led_at next c y = rw (eq-eqb y y refl) refl
+
+pub as_cycle : (xs hs : List ℕ) (v : ℕ) → canonical xs ≡ hs → hs ≢ [] → cycle_or_lone xs v ≡ cycle hs
+as_cycle [] hs v e ne = absurd (ne (sym e ∙ canonical_nil))
+as_cycle (x ∷ xs) hs v e ne = ap cycle e
+
+-- a content that mev and then kev rewrite
+module _ (h g k t : ℕ) where
+  pub back_none : (c : LoopContent) → count h (items_of c) ≡ 0 → count (mate h) (items_of c) ≡ 0 → without_both h t c ≡ c
+  back_none c a b = ap (λ s. cond s (cycle_or_lone (without (mate h) (without h (items_of c))) t) c) (ap (λ s. s || holds (mate h) c) (holds-none h c a) ∙ holds-none (mate h) c b)
+
+  pub back_h : (c : LoopContent) → IsIn h (items_of c) → without_both h t c ≡ cycle_or_lone (without (mate h) (without h (items_of c))) t
+  back_h c a = ap (λ s. cond (s || holds (mate h) c) (cycle_or_lone (without (mate h) (without h (items_of c))) t) c) (in-holds h c a)
+
+  or_true : (b : Bool) → (b || true) ≡ true
+  or_true true = refl
+  or_true false = refl
+
+  pub back_m : (c : LoopContent) → IsIn (mate h) (items_of c) → without_both h t c ≡ cycle_or_lone (without (mate h) (without h (items_of c))) t
+  back_m c a = ap (λ s. cond (holds h c || s) (cycle_or_lone (without (mate h) (without h (items_of c))) t) c) (in-holds (mate h) c a) ∙ ap (λ s. cond s (cycle_or_lone (without (mate h) (without h (items_of c))) t) c) (or_true (holds h c))
+
+  pub content_back : (c : LoopContent) → ((hs : List ℕ) → c ≡ cycle hs → IsCycle hs) → count h (items_of c) ≡ 0 → count (mate h) (items_of c) ≡ 0 → g ≢ mate h → k ≢ h →
+      without_both h t (put_before k (mate h) (put_before g h c)) ≡ c
+  content_back (lone v) f nh nm gm kh = ap (without_both h t) (ap (put_before k (mate h)) (put_lone g h v) ∙ put_lone k (mate h) v) ∙ back_none (lone v) refl refl
+  content_back (cycle hs) f nh nm gm kh =
+      let cy : IsCycle hs = f hs refl in
+      let hm : h ≢ mate h = mate_other h in
+      elim (IsIn_or_not g hs) [
+        | inl i ↦ elim (IsIn_or_not k hs) [
+          | inl j ↦
+              let ys : List ℕ = mev_ring h (mate h) g k hs in
+              let zs : List ℕ = (h ∷ upto g k hs) ++ mate h ∷ onward g k hs in
+              let d : IsApart ys = IsApart-canonical zs (apart_mev h (mate h) g k hs cy.apart hm nh nm) in
+              let hi : IsIn h ys = omega (arith, count-canonical h zs, tick_same h) in
+              let mi : IsIn (mate h) ys = omega (arith, count-canonical (mate h) zs, count-append (mate h) (h ∷ upto g k hs) (mate h ∷ onward g k hs), tick_same (mate h)) in
+              let e : put_before k (mate h) (put_before g h (cycle hs)) ≡ cycle ys =
+              ap (put_before k (mate h)) (put_there g h (cycle hs) i)
+              ∙ put_there k (mate h) (cycle (canonical (insert_before g h hs))) (stay_in j i)
+              ∙ ap cycle (both_in hs cy.apart h (mate h) g k i j hm nh nm) in
+              ap (without_both h t) e ∙ back_h (cycle ys) hi
+              ∙ as_cycle (without (mate h) (without h ys)) hs t (both_out ys d h (mate h) hi mi hm ∙ kev-mev h (mate h) g k hs cy.apart hm nh nm ∙ cy.from_least) cy.some_item
+          | inr j ↦
+              let ys : List ℕ = put_ring h g hs in
+              let d : IsApart ys = IsApart-canonical (h ∷ rotate_to g hs) (apart_put h g hs nh cy.apart) in
+              let c : (x : ℕ) → count x ys ≡ tick x h + count x hs = λ x. omega (arith, count-canonical x (h ∷ rotate_to g hs), count-rotate_to x g hs) in
+              let hi : IsIn h ys = omega (arith, c h, tick_same h) in
+              let e : put_before k (mate h) (put_before g h (cycle hs)) ≡ cycle ys =
+              ap (put_before k (mate h)) (put_there g h (cycle hs) i ∙ ap cycle (put_in hs cy.apart g h i nh))
+              ∙ put_none k (mate h) (cycle ys) (omega (arith, c k, tick_other k h kh)) in
+              let nm' : count (mate h) (without h ys) ≡ 0 = omega (arith, count_out (mate h) h ys (λ s. hm (sym s)), c (mate h), tick_other (mate h) h (λ s. hm (sym s))) in
+              ap (without_both h t) e ∙ back_h (cycle ys) hi
+              ∙ as_cycle (without (mate h) (without h ys)) hs t (ap canonical (without_none (mate h) (without h ys) nm') ∙ taken_out ys d h hi ∙ take-put h g hs nh cy.apart ∙ cy.from_least) cy.some_item
+        ]
+        | inr i ↦ elim (IsIn_or_not k hs) [
+          | inl j ↦
+              let ys : List ℕ = put_ring (mate h) k hs in
+              let d : IsApart ys = IsApart-canonical (mate h ∷ rotate_to k hs) (apart_put (mate h) k hs nm cy.apart) in
+              let c : (x : ℕ) → count x ys ≡ tick x (mate h) + count x hs = λ x. omega (arith, count-canonical x (mate h ∷ rotate_to k hs), count-rotate_to x k hs) in
+              let mi : IsIn (mate h) ys = omega (arith, c (mate h), tick_same (mate h)) in
+              let e : put_before k (mate h) (put_before g h (cycle hs)) ≡ cycle ys =
+              ap (put_before k (mate h)) (put_none g h (cycle hs) i)
+              ∙ put_there k (mate h) (cycle hs) j ∙ ap cycle (put_in hs cy.apart k (mate h) j nm) in
+              let nh' : count h ys ≡ 0 = omega (arith, c h, tick_other h (mate h) hm) in
+              ap (without_both h t) e ∙ back_m (cycle ys) mi
+              ∙ as_cycle (without (mate h) (without h ys)) hs t (ap (λ xs. canonical (without (mate h) xs)) (without_none h ys nh') ∙ taken_out ys d (mate h) mi ∙ take-put (mate h) k hs nm cy.apart ∙ cy.from_least) cy.some_item
+          | inr j ↦ ap (without_both h t) (ap (put_before k (mate h)) (put_none g h (cycle hs) i) ∙ put_none k (mate h) (cycle hs) j) ∙ back_none (cycle hs) nh nm
+        ]
+      ] where
+        stay_in : IsIn k hs → IsIn g hs → IsIn k (canonical (insert_before g h hs))
+        stay_in j i = omega (arith, count-canonical k (insert_before g h hs), count-insert_before k g h hs i)
+
+module _ (M : Model) (sound : Sound M) (g k h v : ℕ) (p : Point) (goes : MevGoes M g k h v p) where
+  abbrev pub N : Model
+  N = mev_at M g k h v p
+
+  abbrev pub K : Model
+  K = kev N h
+
+  pub sound-N : Sound N
+  sound-N = put.sound-mev M sound g k h v p goes
+
+  -- what kev asks is so after mev
+  no_parallel-N : (x : ℕ) → HasHalf N x → edge_of x ≢ edge_of h → tail N x ≡ tail N h → tail N (mate x) ≢ tail N (mate h)
+  no_parallel-N x there a e f = elim (put.half_cases M sound g k h v p goes x there) [
+    | inl o ↦
+        let t = half_mate M sound x o in
+        let far : tail N (mate x) ≡ v = f ∙ put.tail-m M sound g k h v p goes in
+        let near : tail N x ≡ tail M g = e ∙ put.tail-h M sound g k h v p goes in
+        elim (IsIn_or_not (mate x) (put.moved M sound g k h v p goes)) [
+          | inl j ↦ elim (IsIn_or_not x (put.moved M sound g k h v p goes)) [
+            | inl i ↦ put.u_v M sound g k h v p goes (sym near ∙ put.tail_moved M sound g k h v p goes x o i)
+            | inr i ↦ sound.ends_differ x o (sym (put.tail_kept M sound g k h v p goes x o i) ∙ near ∙ sym (put.moved_old M sound g k h v p goes (mate x) j).1)
+          ]
+          | inr j ↦ put.never_v M sound g k h v p goes (mate x) t (sym (put.tail_kept M sound g k h v p goes (mate x) t j) ∙ far)
+        ]
+    | inr d ↦ elim d [ inl q ↦ a (ap edge_of q) | inr q ↦ a (ap edge_of q ∙ edge_of-mate h) ]
+  ]
+
+  pub after-m : after N (mate h) ≡ k
+  after-m = after-walks N (put.F M sound g k h v p goes) (put.walks M sound g k h v p goes) (mate h) (put.half_m M sound g k h v p goes)
+      ∙ led_at (led_over (after M) g h) k (mate h)
+
+  pub kev_goes : KevGoes N h
+  kev_goes = record {
+    h_there = put.half_h M sound g k h v p goes;
+    no_parallel = no_parallel-N;
+    not_bare = λ e. absurd (put.not_h M sound g k h v p goes k goes.k_there (sym after-m ∙ e));
+  }
+
+  contents : (q : ℕ) → Has M.loops q → content K q ≡ content M q
+  contents q there =
+      kill.content-N N sound-N h kev_goes q
+      ∙ ap (without_both h (tail N h)) (put.content-N M sound g k h v p goes q)
+      ∙ content_back h g k (tail N h) (content M q) (λ hs e. sound.cycles q hs there e) (none_free M sound h goes.edge_free q) (none_free M sound (mate h) (put.m_free M sound g k h v p goes) q)
+      (put.not_m M sound g k h v p goes g goes.g_there) (put.not_h M sound g k h v p goes k goes.k_there)
+
+  loops-back : K.loops ≡ M.loops
+  loops-back = same_loops K M
+      (λ q. (kill.same N sound-N h kev_goes).loop q ∙ (put.same M sound g k h v p goes).loop q)
+      (λ q _. (kill.same N sound-N h kev_goes).face q ∙ (put.same M sound g k h v p goes).face q)
+      contents
+
+  has_edge : (e : ℕ) → table.has K.edges e ≡ table.has M.edges e
+  has_edge e = elim (eqb_tells e (edge_of h)) [
+    | inl a ↦ ap (table.has K.edges) a.1 ∙ ap is_some (kill.edge_gone N sound-N h kev_goes) ∙ sym (ap (table.has M.edges) a.1 ∙ ap is_some goes.edge_free)
+    | inr a ↦ ap is_some (kill.edge_mapped N sound-N h kev_goes e a.1) ∙ mapped_some _ (table.get N.edges e)
+        ∙ ap is_some (put.edge_mapped M sound g k h v p goes e a.1) ∙ mapped_some _ (table.get M.edges e)
+  ]
+
+  tails : (x : ℕ) → HasHalf M x → tail K x ≡ tail M x
+  tails x there =
+      let o = put.half_old M sound g k h v p goes x there in
+      let a = put.edge_apart M sound g k h v p goes x there in
+      elim (IsIn_or_not x (put.moved M sound g k h v p goes)) [
+        | inl i ↦
+            kill.tail_moved N sound-N h kev_goes x o a (put.tail_moved M sound g k h v p goes x there i ∙ sym (put.tail-m M sound g k h v p goes))
+            ∙ put.tail-h M sound g k h v p goes ∙ sym (put.moved_old M sound g k h v p goes x i).1
+        | inr i ↦
+            let s = put.tail_kept M sound g k h v p goes x there i in
+            kill.tail_kept N sound-N h kev_goes x o a (λ e. put.never_v M sound g k h v p goes x there (sym s ∙ e ∙ put.tail-m M sound g k h v p goes)) ∙ s
+      ]
+
+  vertices-back : K.vertices ≡ M.vertices
+  unfolding kev mev_at
+  vertices-back = ap (table.remove (table.put M.vertices v p)) (put.tail-m M sound g k h v p goes) ∙ remove-put M.vertices v p goes.vertex_free
+
+  solids-back : K.solids ≡ M.solids
+  unfolding kev mev_at
+  solids-back = refl
+
+  faces-back : K.faces ≡ M.faces
+  unfolding kev mev_at
+  faces-back = refl
+
+  -- kev takes mev back
+  pub kev-mev_at : kev (mev_at M g k h v p) h ≡ M
+  kev-mev_at = same_model K M solids-back faces-back loops-back (same_edges K M has_edge tails) vertices-back

@@ -1,0 +1,255 @@
+-- kef as an operator: it keeps a model sound, and mef takes it back; and kef passes its conditions after mef.
+use Rattle.std.proofs.Common.{◌≡◌, ◌≢◌, ℕ, true, Some, None, is_some, refl, sym, ap, ◌∙◌, subst, inl, inr}
+use Rattle.std.proofs.lemmas.Bool.Decides.{eqb_tells}
+use Rattle.cyclic_list.specs.Items.{IsIn}
+use Rattle.cyclic_list.specs.Operators.{mef_old, mef_new, kef_ring}
+use Rattle.cyclic_list.proofs.Operators.{mef-kef}
+use Rattle.boundary_model.specs.declared.HalfEdge.{HalfEdge}
+use Rattle.boundary_model.specs.HalfEdge.{code, half, mate, edge_of}
+use Rattle.boundary_model.specs.Table as table
+use Rattle.boundary_model.specs.Table.{Table, tables, same_table}
+use Rattle.boundary_model.specs.Model.{Model, cycle, FaceRow, EdgeRow, items_of, tail, loop_of, content, cycle_of, face_of, solid_of, outer, after, is_number}
+use Rattle.boundary_model.specs.Sound.{Sound, HasHalf}
+use Rattle.boundary_model.proofs.Halves.{edge_of-code, code-half, mate-mate}
+use Rattle.boundary_model.proofs.Tables.{put-remove}
+use Rattle.boundary_model.proofs.Models.{row_of, cycle_there, cycle_sound}
+use Rattle.euler_operators.specs.declared.Op.TheVariants.{Mef, Kef}
+use Rattle.euler_operators.specs.Conditions.{first_false, conditions, face_at}
+use Rattle.euler_operators.specs.Effect.{effect, inverse, mef, kef, edge_row}
+use Rattle.euler_laws.proofs.shared.Goes.{all_hold, none_refuses, not_true, not_false, taken, unequal, equals, differs}
+use Rattle.euler_laws.proofs.shared.Fans.{half_after, half_mate, loop_after}
+use Rattle.euler_laws.proofs.mef.MefUndo.{loops-mef}
+use Rattle.euler_laws.proofs.mef.MefSound as made
+use Rattle.euler_laws.proofs.mef.MefSound.{MefGoes}
+use Rattle.euler_laws.proofs.mef.Mef.{mef_goes}
+use Rattle.euler_laws.proofs.mef.KefSound as gone
+use Rattle.euler_laws.proofs.mef.KefSound.{KefGoes, sound-kef}
+use Rattle.euler_laws.proofs.shared.Rows.{face_there, edge_there, half_of, of_half, no_rings_means, means_no_rings, both_back}
+
+module _ (M : Model) (sound : Sound M) (h : ℕ) (goes : KefGoes M h) where
+  abbrev m : ℕ
+  m = mate h
+
+  abbrev N : Model
+  N = kef M h
+
+  abbrev r : ℕ
+  r = loop_of M h
+
+  abbrev s : ℕ
+  s = loop_of M m
+
+  abbrev f : ℕ
+  f = face_of M s
+
+  abbrev g : ℕ
+  g = after M m
+
+  abbrev k : ℕ
+  k = after M h
+
+  pub sound-N : Sound N
+  sound-N = sound-kef M sound h goes
+
+  m_there : HasHalf M m
+  m_there = half_mate M sound h goes.h_there
+
+  g_edge : edge_of g ≢ edge_of h
+  g_edge = gone.other_edge M sound h goes g (gone.after_m M sound h goes) (gone.m_on M sound h goes)
+
+  k_edge : edge_of k ≢ edge_of h
+  k_edge = gone.other_edge M sound h goes k (gone.h_on M sound h goes) (gone.after_h M sound h goes)
+
+  g_in : IsIn g (cycle_of M m)
+  g_in = subst (λ q. IsIn g (items_of (content M q))) (loop_after M sound m m_there) (cycle_there M sound g (half_after M sound m m_there))
+
+  k_in : IsIn k (cycle_of M h)
+  k_in = subst (λ q. IsIn k (items_of (content M q))) (loop_after M sound h goes.h_there) (cycle_there M sound k (half_after M sound h goes.h_there))
+
+  loop_g : loop_of N g ≡ r
+  loop_g = gone.loop_joined M sound h goes g g_edge (inr g_in)
+
+  loop_k : loop_of N k ≡ r
+  loop_k = gone.loop_joined M sound h goes k k_edge (inl k_in)
+
+  tail_g : tail N g ≡ tail M h
+  tail_g = gone.tail_old M sound h goes g g_edge ∙ sound.ends_meet m m_there ∙ ap (tail M) (mate-mate h)
+
+  tail_k : tail N k ≡ tail M m
+  tail_k = gone.tail_old M sound h goes k k_edge ∙ sound.ends_meet h goes.h_there
+
+  pub put_goes : MefGoes N g k h f s
+  put_goes = record {
+    g_there = gone.half_old M sound h goes g (half_after M sound m m_there) g_edge;
+    k_there = gone.half_old M sound h goes k (half_after M sound h goes.h_there) k_edge;
+    edge_free = gone.edge_gone M sound h goes;
+    face_free = gone.face_gone M sound h goes;
+    loop_free = gone.loop_s M sound h goes;
+    one_loop = loop_k ∙ sym loop_g;
+    ends_apart = λ e. gone.u_w M sound h goes (sym tail_g ∙ e ∙ tail_k);
+    edge_fits = sound.edges_fit (edge_of h) goes.h_there;
+    face_fits = sound.faces_fit f (gone.face_f M sound h goes);
+    loop_fits = sound.loops_fit s (gone.has_s M sound h goes);
+  }
+
+  abbrev K : Model
+  K = mef N g k h f s
+
+  cycle_g : cycle_of N g ≡ kef_ring h m (cycle_of M h) (cycle_of M m)
+  cycle_g = ap (λ q. items_of (content N q)) loop_g ∙ ap items_of (gone.content_r M sound h goes)
+
+  lists_back : (mef_old h g k (kef_ring h m (cycle_of M h) (cycle_of M m)) ≡ cycle_of M h) × (mef_new m g k (kef_ring h m (cycle_of M h) (cycle_of M m)) ≡ cycle_of M m)
+  unfolding after
+  lists_back =
+      let t = mef-kef h m (cycle_of M h) (cycle_of M m) (gone.apart_both M sound h goes) (gone.h_in M sound h goes) (gone.m_in M sound h goes) (gone.m_on M sound h goes) (gone.h_on M sound h goes) in
+      (t.0 ∙ (cycle_sound M sound h goes.h_there).from_least, t.1 ∙ (cycle_sound M sound m m_there).from_least)
+
+  loops-back : K.loops ≡ M.loops
+  loops-back =
+      let a : mef_old h g k (cycle_of N g) ≡ cycle_of M h = ap (mef_old h g k) cycle_g ∙ lists_back.0 in
+      let b : mef_new m g k (cycle_of N g) ≡ cycle_of M m = ap (mef_new m g k) cycle_g ∙ lists_back.1 in
+      let c : face_of N (loop_of N g) ≡ face_of M r = ap (face_of N) loop_g ∙ gone.face_same M sound h goes r (gone.r_s M sound h goes) in
+      loops-mef N sound-N g k h f s put_goes.g_there put_goes.edge_free put_goes.loop_free
+      ∙ (λ i. table.put (table.put N.loops (loop_g i) (record { face = c i; content = cycle (a i) })) s (record { face = f; content = cycle (b i) }))
+      ∙ ap (λ t. table.put (table.put t r (record { face = face_of M r; content = cycle (cycle_of M h) })) s (record { face = f; content = cycle (cycle_of M m) })) (gone.loops_are M sound h goes)
+      ∙ both_back M.loops r s _ _ _ (gone.r_s M sound h goes) (row_of M sound h goes.h_there) (row_of M sound m m_there)
+
+  solid_back : solid_of N (face_at N g) ≡ solid_of M f
+  solid_back = ap (λ q. solid_of N (face_of N q)) loop_g ∙ gone.solid_loop M sound h goes r (gone.has_r M sound h goes) (gone.r_s M sound h goes) ∙ gone.one_side M sound h goes
+
+  faces_put : (x : FaceRow) → table.get M.faces f ≡ Some x → (record { solid = solid_of N (face_at N g); outer = s }) ≡ x → K.faces ≡ M.faces
+  unfolding mef kef
+  faces_put x at e = ap (table.put (table.remove M.faces f) f) e ∙ put-remove M.faces f x at
+
+  faces-back : K.faces ≡ M.faces
+  faces-back = faces_put (record { solid = solid_of M f; outer = outer M f }) (face_there M f (gone.face_f M sound h goes))
+      (λ i. record { solid = solid_back i; outer = sym (gone.outer_f M sound h goes) i })
+
+  edges_put : (x : EdgeRow) → table.get M.edges (edge_of h) ≡ Some x → edge_row h (tail N g) (tail N k) ≡ x → K.edges ≡ M.edges
+  unfolding mef kef
+  edges_put x at e = ap (table.put (table.remove M.edges (edge_of h)) (edge_of h)) e ∙ put-remove M.edges (edge_of h) x at
+
+  edges-back : K.edges ≡ M.edges
+  edges-back = edges_put (edge_row h (tail M h) (tail M m)) (edge_there M h goes.h_there) (λ i. edge_row h (tail_g i) (tail_k i))
+
+  solids-back : K.solids ≡ M.solids
+  unfolding mef kef
+  solids-back = refl
+
+  vertices-back : K.vertices ≡ M.vertices
+  unfolding mef kef
+  vertices-back = refl
+
+  pub mef-after-kef : mef (kef M h) g k h f s ≡ M
+  mef-after-kef = λ i. record { solids = solids-back i; faces = faces-back i; loops = loops-back i; edges = edges-back i; vertices = vertices-back i }
+
+-- ---- conditions
+
+pub kef_goes : (M : Model) (h : HalfEdge) → first_false M (Kef h) ≡ None → KefGoes M (code h)
+unfolding first_false conditions
+kef_goes M h e =
+    let w = all_hold (conditions M (Kef h)) e in
+    record {
+      h_there = half_of M h w.1.0;
+      faces_apart = unequal _ _ (not_true _ w.1.1.0);
+      no_rings = no_rings_means M (face_at M (mate (code h))) (not_true _ w.1.1.1.0);
+    }
+
+pub kef_accepted : (N : Model) (h : HalfEdge) → Sound N → KefGoes N (code h) → first_false N (Kef h) ≡ None
+unfolding first_false conditions
+kef_accepted N h sound goes = none_refuses (conditions N (Kef h)) (
+  ap is_number (sym (edge_of-code h)) ∙ sound.edges_fit (edge_of (code h)) goes.h_there,
+  (
+    of_half N h goes.h_there,
+    (
+      not_false _ (differs _ _ goes.faces_apart),
+      (not_false _ (means_no_rings N (face_at N (mate (code h))) goes.no_rings), tt),
+    ),
+  ),
+)
+
+pub mef_accepted : (N : Model) (g k h : HalfEdge) (f l : ℕ) → Sound N → MefGoes N (code g) (code k) (code h) f l → first_false N (Mef g k h f l) ≡ None
+unfolding first_false conditions
+mef_accepted N g k h f l sound goes = none_refuses (conditions N (Mef g k h f l)) (
+  fit g goes.g_there,
+  (
+    fit k goes.k_there,
+    (
+      ap is_number (sym (edge_of-code h)) ∙ goes.edge_fits,
+      (
+        goes.face_fits,
+        (
+          goes.loop_fits,
+          (
+            of_half N g goes.g_there,
+            (
+              of_half N k goes.k_there,
+              (
+                not_false _ (taken _ (ap (table.get N.edges) (sym (edge_of-code h)) ∙ goes.edge_free)),
+                (
+                  not_false _ (taken _ goes.face_free),
+                  (
+                    not_false _ (taken _ goes.loop_free),
+                    (
+                      equals _ _ (sym goes.one_loop),
+                      (not_false _ (differs _ _ goes.ends_apart), tt),
+                    ),
+                  ),
+                ),
+              ),
+            ),
+          ),
+        ),
+      ),
+    ),
+  ),
+) where
+  fit : (x : HalfEdge) → HasHalf N (code x) → is_number x.edge ≡ true
+  fit x t = ap is_number (sym (edge_of-code x)) ∙ sound.edges_fit (edge_of (code x)) t
+
+-- ---- kef
+
+pub kef_keeps_sound : (M : Model) (h : HalfEdge) → Sound M → first_false M (Kef h) ≡ None → Sound (effect M (Kef h))
+unfolding effect
+kef_keeps_sound M h sound e = sound-kef M sound (code h) (kef_goes M h e)
+
+pub kef_is_undone : (M : Model) (h : HalfEdge) → Sound M → first_false M (Kef h) ≡ None → effect (effect M (Kef h)) (inverse M (Kef h)) ≡ M
+unfolding effect inverse
+kef_is_undone M h sound e =
+    let N : Model = kef M (code h) in
+    let m : ℕ = mate (code h) in
+    ap (λ x. mef N x (code (half (after M (code h)))) (code h) (face_at M m) (loop_of M m)) (code-half (after M m))
+    ∙ ap (λ x. mef N (after M m) x (code h) (face_at M m) (loop_of M m)) (code-half (after M (code h)))
+    ∙ mef-after-kef M sound (code h) (kef_goes M h e)
+
+pub kef_inverse_goes : (M : Model) (h : HalfEdge) → Sound M → first_false M (Kef h) ≡ None → first_false (effect M (Kef h)) (inverse M (Kef h)) ≡ None
+unfolding effect inverse
+kef_inverse_goes M h sound e =
+    let goes : KefGoes M (code h) = kef_goes M h e in
+    let N : Model = kef M (code h) in
+    let m : ℕ = mate (code h) in
+    mef_accepted N (half (after M m)) (half (after M (code h))) h (face_at M m) (loop_of M m) (sound-kef M sound (code h) goes)
+    (subst (λ x. MefGoes N x (code (half (after M (code h)))) (code h) (face_at M m) (loop_of M m)) (sym (code-half (after M m)))
+    (subst (λ x. MefGoes N (after M m) x (code h) (face_at M m) (loop_of M m)) (sym (code-half (after M (code h)))) (put_goes M sound (code h) goes)))
+
+-- ---- mef
+
+made_goes : (M : Model) (sound : Sound M) (g k h f l : ℕ) (goes : MefGoes M g k h f l) → KefGoes (mef M g k h f l) h
+made_goes M sound g k h f l goes =
+    let N : Model = mef M g k h f l in
+    let fm : face_at N (mate h) ≡ f = ap (face_of N) (made.loop_m M sound g k h f l goes) ∙ made.face_l M sound g k h f l goes in
+    let fh : face_at N h ≡ face_of M (loop_of M g) = ap (face_of N) (made.loop_h M sound g k h f l goes) ∙ made.face_kept M sound g k h f l goes (loop_of M g) (made.not_l M sound g k h f l goes _ (ap is_some (row_of M sound g goes.g_there))) in
+    record {
+      h_there = made.half_h M sound g k h f l goes;
+      faces_apart = λ p. made.not_f M sound g k h f l goes (face_of M (loop_of M g)) (made.face_r M sound g k h f l goes) (sym fh ∙ p ∙ fm);
+      no_rings = λ q there p. ap (outer N) fm ∙ made.outer_new M sound g k h f l goes ∙ elim (eqb_tells q l) [
+        | inl a ↦ sym a.1
+        | inr a ↦ absurd (made.not_f M sound g k h f l goes (face_of M q) (sound.loops_of_faces q (made.loop_back M sound g k h f l goes q a.1 there)) (sym (made.face_kept M sound g k h f l goes q a.1) ∙ p ∙ fm))
+      ];
+    }
+
+pub mef_inverse_goes : (M : Model) (g k h : HalfEdge) (f l : ℕ) → Sound M → first_false M (Mef g k h f l) ≡ None → first_false (effect M (Mef g k h f l)) (inverse M (Mef g k h f l)) ≡ None
+unfolding effect inverse
+mef_inverse_goes M g k h f l sound e =
+    let w = mef_goes M g k h f l e in
+    kef_accepted (mef M (code g) (code k) (code h) f l) h (made.sound-mef M sound (code g) (code k) (code h) f l w) (made_goes M sound (code g) (code k) (code h) f l w)

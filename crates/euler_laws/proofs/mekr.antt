@@ -1,0 +1,3 @@
+pub mod MekrSpots
+pub mod MekrSound
+pub mod Mekr

@@ -1,0 +1,130 @@
+-- mekr as an operator: it keeps a model sound, and kemr passes its conditions after it and takes it back.
+use Rattle.std.proofs.Common.{◌≡◌, ℕ, List, ◌∷◌, ◌++◌, None, is_some, refl, sym, ap, ◌∙◌, subst, inl, inr}
+use Rattle.cyclic_list.specs.Rings.{canonical, between, beyond}
+use Rattle.cyclic_list.proofs.Operators.{between_canonical, beyond_canonical}
+use Rattle.boundary_model.specs.declared.HalfEdge.{HalfEdge}
+use Rattle.boundary_model.specs.declared.Corner.{Corner}
+use Rattle.boundary_model.specs.HalfEdge.{code, mate, edge_of}
+use Rattle.boundary_model.specs.Table as table
+use Rattle.boundary_model.specs.Table.{Table, tables, same_table}
+use Rattle.boundary_model.specs.Model.{Model, items_of, tail, loop_of, content, cycle_of, face_of, is_number}
+use Rattle.boundary_model.specs.Sound.{Sound}
+use Rattle.boundary_model.proofs.Halves.{edge_of-code}
+use Rattle.boundary_model.proofs.Tables.{remove-put}
+use Rattle.euler_operators.specs.declared.Op.TheVariants.{Kemr, Mekr}
+use Rattle.euler_operators.specs.Conditions.{first_false, conditions, corner_tail, corner_loop, corner_list}
+use Rattle.euler_operators.specs.Effect.{effect, inverse, kemr, mekr, cycle_or_lone, edge_row}
+use Rattle.euler_laws.proofs.shared.Goes.{none_refuses, not_false, taken, equals}
+use Rattle.euler_laws.proofs.kemr.KemrSound as parted
+use Rattle.euler_laws.proofs.kemr.KemrSound.{KemrGoes}
+use Rattle.euler_laws.proofs.mekr.MekrSpots.{JoinGoes, join_goes}
+use Rattle.euler_laws.proofs.mekr.MekrSound as joined
+use Rattle.euler_laws.proofs.mekr.MekrSound.{join_loops, sound-join}
+use Rattle.euler_laws.proofs.shared.Rows.{both_back, loop_row}
+
+-- where kemr goes, none of its conditions refuses
+pub kemr_accepted : (N : Model) (h : HalfEdge) (l : ℕ) → Sound N → KemrGoes N (code h) l → first_false N (Kemr h l) ≡ None
+unfolding first_false conditions
+kemr_accepted N h l sound goes = none_refuses (conditions N (Kemr h l)) (
+  ap is_number (sym (edge_of-code h)) ∙ sound.edges_fit (edge_of (code h)) goes.h_there,
+  (
+    goes.loop_fits,
+    (
+      ap (λ x. is_some (table.get N.edges x)) (sym (edge_of-code h)) ∙ goes.h_there,
+      (
+        not_false _ (taken _ goes.loop_free),
+        (equals _ _ goes.one_loop, tt),
+      ),
+    ),
+  ),
+)
+
+module _ (M : Model) (sound : Sound M) (h q l u w : ℕ) (Y X : List ℕ) (goes : JoinGoes M h q l u w Y X) where
+  abbrev N : Model
+  N = join_loops M h q l u w Y X
+
+  abbrev m : ℕ
+  m = mate h
+
+  abbrev K : Model
+  K = kemr N h l
+
+  sound-N : Sound N
+  sound-N = sound-join M sound h q l u w Y X goes
+
+  loop_h : loop_of N h ≡ q
+  loop_h = joined.loop_new M sound h q l u w Y X goes h (inl refl)
+
+  pub part_goes : KemrGoes N h l
+  part_goes = record {
+    h_there = joined.half_h M sound h q l u w Y X goes;
+    loop_free = joined.loop_l M sound h q l u w Y X goes;
+    one_loop = loop_h ∙ sym (joined.loop_new M sound h q l u w Y X goes m (inr refl));
+    loop_fits = sound.loops_fit l goes.second.there;
+  }
+
+  cycle_h : cycle_of N h ≡ canonical ((h ∷ X) ++ m ∷ Y)
+  cycle_h = ap (λ p. items_of (content N p)) loop_h ∙ ap items_of (joined.content_q M sound h q l u w Y X goes)
+
+  face_h : face_of N (loop_of N h) ≡ face_of M q
+  face_h = ap (face_of N) loop_h ∙ joined.face_same M sound h q l u w Y X goes q goes.loops_apart
+
+  content_first : cycle_or_lone (beyond h m (cycle_of N h)) (tail N h) ≡ content M q
+  content_first =
+      let y : beyond h m (cycle_of N h) ≡ Y = ap (beyond h m) cycle_h ∙ beyond_canonical h m X Y (joined.apart_zs M sound h q l u w Y X goes) in
+      (λ i. cycle_or_lone (y i) (joined.tail-h M sound h q l u w Y X goes i)) ∙ sym goes.first.holds_it
+
+  content_second : cycle_or_lone (between h m (cycle_of N h)) (tail N m) ≡ content M l
+  content_second =
+      let x : between h m (cycle_of N h) ≡ X = ap (between h m) cycle_h ∙ between_canonical h m X Y (joined.apart_zs M sound h q l u w Y X goes) in
+      (λ i. cycle_or_lone (x i) (joined.tail-m M sound h q l u w Y X goes i)) ∙ sym goes.second.holds_it
+
+  loops-back : K.loops ≡ M.loops
+  loops-back =
+      let f : face_of N (loop_of N h) ≡ face_of M l = face_h ∙ goes.one_face in
+      parted.loops_are N sound-N h l part_goes
+      ∙ (λ i. table.put (table.put N.loops (loop_h i) (record { face = face_h i; content = content_first i })) l (record { face = f i; content = content_second i }))
+      ∙ ap (λ t. table.put (table.put t q (record { face = face_of M q; content = content M q })) l (record { face = face_of M l; content = content M l })) (joined.loops_are M sound h q l u w Y X goes)
+      ∙ both_back M.loops q l _ _ _ goes.loops_apart (loop_row M q goes.first.there) (loop_row M l goes.second.there)
+
+  edges-back : K.edges ≡ M.edges
+  unfolding kemr join_loops
+  edges-back = remove-put M.edges (edge_of h) (edge_row h u w) goes.edge_free
+
+  solids-back : K.solids ≡ M.solids
+  unfolding kemr join_loops
+  solids-back = refl
+
+  faces-back : K.faces ≡ M.faces
+  unfolding kemr join_loops
+  faces-back = refl
+
+  vertices-back : K.vertices ≡ M.vertices
+  unfolding kemr join_loops
+  vertices-back = refl
+
+  -- kemr takes the join back
+  pub kemr-join_back : kemr (join_loops M h q l u w Y X) h l ≡ M
+  kemr-join_back = λ i. record { solids = solids-back i; faces = faces-back i; loops = loops-back i; edges = edges-back i; vertices = vertices-back i }
+
+-- mekr joins what its corners stand for
+pub mekr_is : (M : Model) (c d : Corner) (h : ℕ) → mekr M c d h ≡ join_loops M h (corner_loop M c) (corner_loop M d) (corner_tail M c) (corner_tail M d) (corner_list M c) (corner_list M d)
+unfolding mekr join_loops
+mekr_is M c d h = refl
+
+-- ---- mekr
+
+pub mekr_keeps_sound : (M : Model) (c d : Corner) (h : HalfEdge) → Sound M → first_false M (Mekr c d h) ≡ None → Sound (effect M (Mekr c d h))
+unfolding effect
+mekr_keeps_sound M c d h sound e = subst Sound (sym (mekr_is M c d (code h))) (sound-join M sound (code h) _ _ _ _ _ _ (join_goes M c d h sound e))
+
+pub mekr_is_undone : (M : Model) (c d : Corner) (h : HalfEdge) → Sound M → first_false M (Mekr c d h) ≡ None → effect (effect M (Mekr c d h)) (inverse M (Mekr c d h)) ≡ M
+unfolding effect inverse
+mekr_is_undone M c d h sound e = ap (λ N. kemr N (code h) (corner_loop M d)) (mekr_is M c d (code h)) ∙ kemr-join_back M sound (code h) _ _ _ _ _ _ (join_goes M c d h sound e)
+
+pub mekr_inverse_goes : (M : Model) (c d : Corner) (h : HalfEdge) → Sound M → first_false M (Mekr c d h) ≡ None → first_false (effect M (Mekr c d h)) (inverse M (Mekr c d h)) ≡ None
+unfolding effect inverse
+mekr_inverse_goes M c d h sound e =
+    let goes = join_goes M c d h sound e in
+    subst (λ N. first_false N (Kemr h (corner_loop M d)) ≡ None) (sym (mekr_is M c d (code h)))
+    (kemr_accepted _ h (corner_loop M d) (sound-join M sound (code h) _ _ _ _ _ _ goes) (part_goes M sound (code h) _ _ _ _ _ _ goes))

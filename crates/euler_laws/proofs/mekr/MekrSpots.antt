@@ -1,0 +1,138 @@
+-- The corners that mekr joins: a loop, its vertex, and the half-edges of the loop from the corner on, none where it is lone.
+use Rattle.std.proofs.Common.{◌≡◌, ◌≢◌, ℕ, Bool, true, not, nat_eq, ◌&&◌, List, [], ◌∷◌, None, is_some, IsTrue, refl, sym, ap, ◌∙◌, subst, arith, ◌⊎◌, inl, inr}
+use Rattle.std.proofs.lemmas.Bool.Decides.{nat_tests}
+use Rattle.cyclic_list.specs.Items.{count, IsIn, IsApart, head_or}
+use Rattle.cyclic_list.specs.Rings.{canonical, rotate_to, rest, IsRing}
+use Rattle.cyclic_list.proofs.Lists.{tick_same}
+use Rattle.cyclic_list.proofs.Rotations.{rotate_to_is, IsApart-rotate_to, canonical-rotate_to, canonical-rotates, IsRotation-sym}
+use Rattle.cyclic_list.proofs.Rings.{IsRing-same}
+use Rattle.boundary_model.specs.declared.HalfEdge.{HalfEdge}
+use Rattle.boundary_model.specs.declared.Corner.{Corner}
+use Rattle.boundary_model.specs.declared.Corner.TheVariants.{At, Lone}
+use Rattle.boundary_model.specs.HalfEdge.{code, edge_of}
+use Rattle.boundary_model.specs.Table as table
+use Rattle.boundary_model.specs.Model.{Model, lone, cycle, items_of, tail, after, loop_of, content, cycle_of, face_of, outer, is_number}
+use Rattle.boundary_model.specs.Sound.{Sound, Has, HasHalf, StandsIn}
+use Rattle.boundary_model.proofs.Halves.{edge_of-code}
+use Rattle.boundary_model.proofs.Models.{in-holds, holds_in, row_of, content_cycle, cycle_there, cycle_sound}
+use Rattle.euler_operators.specs.declared.Op.TheVariants.{Mekr}
+use Rattle.euler_operators.specs.Conditions.{first_false, conditions, corner_tail, corner_loop, corner_list, corner_known, corner_lone}
+use Rattle.euler_operators.specs.Effect.{cycle_or_lone}
+use Rattle.euler_laws.proofs.shared.Loops.{light}
+use Rattle.euler_laws.proofs.shared.Rows.{items_or_lone, count_or_lone, lone_is}
+use Rattle.euler_laws.proofs.shared.Goes.{all_hold, not_true, free, equal, unequal}
+
+-- loop q reads zs from a corner at vertex v on, or is lone there
+pub record Spot (M : Model) (q v : ℕ) (zs : List ℕ) : Type 0 where
+  pub there : Has M.loops q
+  pub holds_it : content M q ≡ cycle_or_lone zs v
+  pub apart : IsApart zs
+  pub starts : (y : ℕ) (ys : List ℕ) → zs ≡ y ∷ ys → tail M y ≡ v
+
+same_head : (x y : ℕ) (xs ys : List ℕ) → x ∷ xs ≡ y ∷ ys → y ≡ x
+same_head x y xs ys e = cc
+
+no_first : (y : ℕ) (ys : List ℕ) → [] ≡ y ∷ ys → ⊥
+no_first y ys e = cc
+
+-- the loop of a half-edge, from it on
+pub spot_at : (M : Model) → Sound M → (x : ℕ) → HasHalf M x → Spot M (loop_of M x) (tail M x) (rotate_to x (cycle_of M x))
+spot_at M sound x there =
+    let xs : List ℕ = cycle_of M x in
+    let cy = cycle_sound M sound x there in
+    let is : rotate_to x xs ≡ x ∷ rest x xs = rotate_to_is x xs (cycle_there M sound x there) in
+    record {
+      there = ap is_some (row_of M sound x there);
+      holds_it = content_cycle M sound x there
+          ∙ ap cycle (sym (ap canonical (sym is) ∙ canonical-rotate_to x xs cy.apart ∙ cy.from_least))
+          ∙ sym (ap (λ zs. cycle_or_lone zs (tail M x)) is);
+      apart = IsApart-rotate_to x xs cy.apart;
+      starts = λ y ys e. ap (tail M) (same_head x y (rest x xs) ys (sym is ∙ e));
+    }
+
+-- each corner that is known is a spot
+pub spot_of : (M : Model) → Sound M → (c : Corner) → (corner_known M c).holds ≡ true → (corner_lone M c).holds ≡ true → Spot M (corner_loop M c) (corner_tail M c) (corner_list M c)
+spot_of M sound (At g) known bare = spot_at M sound (code g) (ap (λ x. is_some (table.get M.edges x)) (edge_of-code g) ∙ known)
+spot_of M sound (Lone l) known bare = record {
+  there = known;
+  holds_it = lone_is (content M l) bare;
+  apart = λ x. omega arith;
+  starts = λ y ys e. absurd (no_first y ys e);
+}
+
+-- what the conditions of mekr say of the loops q, from which Y is read, and l, from which X is
+pub record JoinGoes (M : Model) (h q l u w : ℕ) (Y X : List ℕ) : Type 0 where
+  pub first : Spot M q u Y
+  pub second : Spot M l w X
+  pub edge_free : table.get M.edges (edge_of h) ≡ None
+  pub edge_fits : IsTrue (is_number (edge_of h))
+  pub loops_apart : q ≢ l
+  pub one_face : face_of M q ≡ face_of M l
+  pub no_outer : outer M (face_of M l) ≢ l
+  pub ends_apart : u ≢ w
+
+ring_is : (b : Bool) (f o k : ℕ) → (b && nat_eq f f && not (nat_eq o k)) ≡ true → o ≢ k
+ring_is b f o k e p = grind (arith, nat_tests)
+
+pub join_goes : (M : Model) (c d : Corner) (h : HalfEdge) → Sound M → first_false M (Mekr c d h) ≡ None →
+    JoinGoes M (code h) (corner_loop M c) (corner_loop M d) (corner_tail M c) (corner_tail M d) (corner_list M c) (corner_list M d)
+unfolding first_false conditions
+join_goes M c d h sound e =
+    let w = all_hold (conditions M (Mekr c d h)) e in
+    let t = w.1.1.1 in
+    record {
+      first = spot_of M sound c t.0 t.1.1.0;
+      second = spot_of M sound d t.1.0 t.1.1.1.0;
+      edge_free = ap (table.get M.edges) (edge_of-code h) ∙ free _ (not_true _ t.1.1.1.1.0);
+      edge_fits = ap is_number (edge_of-code h) ∙ w.1.1.0;
+      loops_apart = unequal _ _ (not_true _ t.1.1.1.1.1.0);
+      one_face = equal _ _ t.1.1.1.1.1.1.0;
+      no_outer = ring_is (table.has M.loops (corner_loop M d)) (face_of M (corner_loop M d)) (outer M (face_of M (corner_loop M d))) (corner_loop M d) t.1.1.1.1.1.1.1.0;
+      ends_apart = unequal _ _ (not_true _ t.1.1.1.1.1.1.1.1.0);
+    }
+
+first_of : (k : ℕ) (zs : List ℕ) → ((zs ≡ []) × (head_or k zs ≡ k)) ⊎ ((ys : List ℕ) × (zs ≡ head_or k zs ∷ ys))
+first_of k [] = inl (refl, refl)
+first_of k (z ∷ zs) = inr (zs, refl)
+
+-- ---- what a sound model says of a spot
+
+module _ (M : Model) (sound : Sound M) (q v : ℕ) (zs : List ℕ) (spot : Spot M q v zs) where
+  pub count_spot : (x : ℕ) → count x (items_of (content M q)) ≡ count x zs
+  count_spot x = ap (λ c. count x (items_of c)) spot.holds_it ∙ count_or_lone x zs v
+
+  pub stands_there : (x : ℕ) → IsIn x zs → StandsIn M x q
+  stands_there x i = in-holds x (content M q) (omega (arith, i, count_spot x))
+
+  pub half_there : (x : ℕ) → IsIn x zs → HasHalf M x
+  half_there x i = sound.only_edges x q (stands_there x i)
+
+  pub loop_there : (x : ℕ) → IsIn x zs → loop_of M x ≡ q
+  loop_there x i = sound.one_loop x q (stands_there x i)
+
+  pub in_spot : (x : ℕ) → StandsIn M x q → IsIn x zs
+  in_spot x s = omega (arith, holds_in x (content M q) s, count_spot x)
+
+  pub ring_there : IsRing (after M) zs
+  ring_there = IsRing-same (after M) (canonical zs) zs (IsRotation-sym zs (canonical zs) (canonical-rotates zs))
+      (subst (IsRing (after M)) (ap items_of spot.holds_it ∙ items_or_lone zs v) (light M sound q).1)
+
+  -- the loop is lone, and nothing starts at its vertex; or it reads on from its first item, which starts there
+  pub first_cases : (k : ℕ) → ((zs ≡ []) × (head_or k zs ≡ k) × (content M q ≡ lone v)) ⊎ (IsIn (head_or k zs) zs × (tail M (head_or k zs) ≡ v))
+  first_cases k = elim (first_of k zs) [
+    | inl e ↦ inl (e.0, e.1, spot.holds_it ∙ ap (λ ys. cycle_or_lone ys v) e.0)
+    | inr e ↦ inr (subst (IsIn (head_or k zs)) (sym e.1) (omega (arith, tick_same (head_or k zs))), spot.starts (head_or k zs) e.0 e.1)
+  ]
+
+  pub vertex_there : Has M.vertices v
+  vertex_there = elim (first_cases 0) [
+    | inl e ↦ sound.lone_at_vertex q v e.2
+    | inr e ↦ subst (Has M.vertices) e.1 (sound.tails_there (head_or 0 zs) (half_there (head_or 0 zs) e.0))
+  ]
+
+  -- no other loop is lone there
+  pub only_lone : (p : ℕ) → content M p ≡ lone v → p ≡ q
+  only_lone p e = elim (first_cases 0) [
+    | inl o ↦ sound.one_lone p q v e o.2
+    | inr o ↦ absurd (sound.lone_is_no_tail p (head_or 0 zs) (half_there (head_or 0 zs) o.0) (e ∙ ap lone (sym o.1)))
+  ]

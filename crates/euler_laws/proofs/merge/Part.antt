@@ -1,0 +1,368 @@
+-- part as an operator: it keeps a sound model sound. merge and part pass their conditions after each other, and take each other back.
+use Rattle.std.proofs.Common.{◌≡◌, ◌≢◌, ℕ, Bool, true, false, cond, not, nat_eq, ◌&&◌, ◌||◌, List, [], ◌∷◌, ◌++◌, Some, None, unwrap_or, is_some, IsTrue, refl, sym, ap, ◌∙◌, subst, arith, inl, inr, true≢false}
+use Rattle.std.proofs.lemmas.Bool.Decides.{nat_tests, eqb_tells}
+use Rattle.boundary_model.specs.HalfEdge.{mate, edge_of, plus, minus}
+use Rattle.boundary_model.specs.Table as table
+use Rattle.boundary_model.specs.Table.{Table, map_rows, tables}
+use Rattle.boundary_model.specs.Model.{Model, FaceRow, no_face, loop_of, face_of, solid_of, outer, is_number, faces_of}
+use Rattle.boundary_model.specs.Sound.{Sound, Has, HasHalf}
+use Rattle.boundary_model.proofs.Halves.{plus_row}
+use Rattle.boundary_model.proofs.Models.{row_of}
+use Rattle.boundary_model.proofs.Tables.{put-remove, remove-put, map_same, first_where_zero, zero_first_where}
+use Rattle.euler_operators.specs.declared.Op.TheVariants.{Merge, Part}
+use Rattle.euler_operators.specs.Conditions.{Condition, AllHold, first_false, conditions, numbers_in_range, faces_known, faces_in, face_at, lists, lists_all, strictly_rises, is_empty, torn_edge, differ}
+use Rattle.euler_operators.specs.Effect.{effect, inverse, merge, part, faces_to_solid}
+use Rattle.euler_laws.proofs.shared.Goes.{all_hold, none_refuses, not_true, not_false, free, taken, equal, equals, not_back, no_zero}
+use Rattle.euler_laws.proofs.shared.Fans.{half_mate}
+use Rattle.euler_laws.proofs.shared.Loops.{some_row}
+use Rattle.euler_laws.proofs.shared.Arcs.{halves_of_edge}
+use Rattle.euler_laws.proofs.shared.Same.{map_twice}
+use Rattle.euler_laws.proofs.shared.Undo.{mate_plus, mate_minus}
+use Rattle.euler_laws.proofs.shared.Rows.{face_there, solid_row}
+use Rattle.euler_laws.proofs.shared.Listed.{listed_as, listed_passes, passes_listed, all_where-rises, first_listed, rest_listed, listed_cases}
+use Rattle.euler_laws.proofs.merge.Merge as joins
+use Rattle.euler_laws.proofs.merge.Merge.{OtherSolids, sound-solids, face_same, loop_same, has_moved, outer_moved, solid_moved, MergeGoes, merge_goes, merge_accepted, sound-merge}
+
+-- what the conditions of part say
+pub record PartGoes (M : Model) (s t : ℕ) (fs : List ℕ) : Type 0 where
+  pub s_there : Has M.solids s
+  pub t_free : table.get M.solids t ≡ None
+  pub t_fits : IsTrue (is_number t)
+  pub each : (f : ℕ) → lists fs f ≡ true → Has M.faces f × (solid_of M f ≡ s)
+  pub listed : (f : ℕ) × (lists fs f ≡ true)
+  pub rises : strictly_rises fs ≡ true
+  pub left : (f : ℕ) × Has M.faces f × (solid_of M f ≡ s) × (lists fs f ≡ false)
+  pub whole : (x : ℕ) → HasHalf M x → lists fs (face_at M x) ≡ lists fs (face_at M (mate x))
+
+-- the solid of face q, which was of solid n
+abbrev pub parted : List ℕ → ℕ → ℕ → ℕ → ℕ
+parted fs t q n = cond (lists fs q) t n
+
+module _ (M : Model) (sound : Sound M) (s t : ℕ) (fs : List ℕ) (goes : PartGoes M s t fs) where
+  abbrev pub N : Model
+  N = part M s t fs
+
+  faces_are : N.faces ≡ map_rows (faces_to_solid (λ f _. lists fs f) t) M.faces
+  unfolding part
+  faces_are = refl
+
+  pub part_other : OtherSolids M N
+  unfolding part
+  part_other = record {
+    loops = refl;
+    edges = refl;
+    vertices = refl;
+    has_face = has_moved M N (λ f _. lists fs f) t faces_are;
+    outers = outer_moved M N (λ f _. lists fs f) t faces_are;
+  }
+
+  pub solid_new : (q : ℕ) → Has M.faces q → solid_of N q ≡ parted fs t q (solid_of M q)
+  solid_new q there = solid_moved M N (λ f _. lists fs f) t faces_are q there
+
+  solid_listed : (q : ℕ) → lists fs q ≡ true → solid_of N q ≡ t
+  solid_listed q l = solid_new q (goes.each q l).0 ∙ ap (λ b. cond b t (solid_of M q)) l
+
+  solid_unlisted : (q : ℕ) → Has M.faces q → lists fs q ≡ false → solid_of N q ≡ solid_of M q
+  solid_unlisted q there l = solid_new q there ∙ ap (λ b. cond b t (solid_of M q)) l
+
+  pub t_new : Has N.solids t
+  unfolding part
+  t_new = ap is_some new where
+    new : table.get (table.put M.solids t tt) t ≡ Some tt
+    new = grind (arith, nat_tests, tables)
+
+  solid_other : (n : ℕ) → n ≢ t → table.get N.solids n ≡ table.get M.solids n
+  unfolding part
+  solid_other n a = grind (arith, nat_tests, tables)
+
+  pub not_t : (n : ℕ) → Has M.solids n → n ≢ t
+  not_t n there e = true≢false (sym there ∙ ap is_some (ap (table.get M.solids) e ∙ goes.t_free))
+
+  pub solid_on : (n : ℕ) → Has M.solids n → Has N.solids n
+  solid_on n there = ap is_some (solid_other n (not_t n there)) ∙ there
+
+  solid_back : (n : ℕ) → n ≢ t → Has N.solids n → Has M.solids n
+  solid_back n a there = ap is_some (sym (solid_other n a)) ∙ there
+
+  face_loop : (x : ℕ) → HasHalf M x → Has M.faces (face_at M x)
+  face_loop x there = sound.loops_of_faces (loop_of M x) (ap is_some (row_of M sound x there))
+
+  face_of_solid : (n q : ℕ) (b : Bool) → lists fs q ≡ b → Has M.faces q → solid_of M q ≡ n → n ≢ t → (f : ℕ) × Has M.faces f × (solid_of N f ≡ n)
+  face_of_solid n q true l there e a = let o = goes.left in (o.0, o.1, solid_unlisted o.0 o.1 o.3 ∙ o.2 ∙ sym (goes.each q l).1 ∙ e)
+  face_of_solid n q false l there e a = (q, there, solid_unlisted q there l ∙ e)
+
+  pub sound-part : Sound N
+  sound-part = sound-solids M N part_other sound
+      (λ q there. subst (Has N.solids) (sym (solid_new q there)) (either (lists fs q) q (sound.faces_of_solids q there)))
+      (λ n there. elim (eqb_tells n t) [
+        | inl e ↦ let o = goes.listed in (o.0, (goes.each o.0 o.1).0, solid_listed o.0 o.1 ∙ sym e.1)
+        | inr e ↦ let x = sound.solid_has_face n (solid_back n e.1 there) in face_of_solid n x.0 (lists fs x.0) refl x.1 x.2 e.1
+      ])
+      (λ x there. solid_new _ (face_loop x there) ∙ (λ i. cond (goes.whole x there i) t (sound.one_solid x there i)) ∙ sym (solid_new _ (face_loop (mate x) (half_mate M sound x there))))
+      (λ n there. elim (eqb_tells n t) [ inl e ↦ subst (λ y. IsTrue (is_number y)) (sym e.1) goes.t_fits | inr e ↦ sound.solids_fit n (solid_back n e.1 there) ]) where
+        either : (b : Bool) (q : ℕ) → Has M.solids (solid_of M q) → Has N.solids (cond b t (solid_of M q))
+        either true q there = t_new
+        either false q there = solid_on (solid_of M q) there
+
+  pub join_goes : MergeGoes N s t
+  join_goes = record { s_there = solid_on s goes.s_there; t_there = t_new; apart = not_t s goes.s_there }
+
+  -- part is taken back by merge
+  row_back : (q : ℕ) (row : FaceRow) → table.get M.faces q ≡ Some row →
+      faces_to_solid (λ _ row. nat_eq row.solid t) s q (faces_to_solid (λ f _. lists fs f) t q row) ≡ row
+  unfolding solid_of
+  row_back q row at = go (lists fs q)
+      (λ l. sym (ap (λ o. (unwrap_or o no_face).solid) at) ∙ (goes.each q l).1)
+      (λ e. not_t (solid_of M q) (sound.faces_of_solids q (ap is_some at)) (ap (λ o. (unwrap_or o no_face).solid) at ∙ e)) where
+        abbrev_row : Bool → FaceRow
+        abbrev_row b = cond b (record row { solid = t }) row
+
+        go : (b : Bool) → (b ≡ true → row.solid ≡ s) → row.solid ≢ t → cond (nat_eq (abbrev_row b).solid t) (record (abbrev_row b) { solid = s }) (abbrev_row b) ≡ row
+        go true e a = let y : nat_eq t t ≡ true = grind (arith, nat_tests) in
+            ap (λ b. cond b (record row { solid = s }) (record row { solid = t })) y ∙ (λ i. record { solid = sym (e refl) i; outer = row.outer })
+        go false e a = let y : nat_eq row.solid t ≡ false = grind (arith, nat_tests) in ap (λ b. cond b (record row { solid = s }) row) y
+
+  faces_back : (merge N s t).faces ≡ M.faces
+  unfolding merge part
+  faces_back = map_twice (faces_to_solid (λ _ row. nat_eq row.solid t) s) (faces_to_solid (λ f _. lists fs f) t) M.faces ∙ map_same _ M.faces row_back
+
+  pub merge-part : merge N s t ≡ M
+  unfolding merge part
+  merge-part = λ i. record { solids = remove-put M.solids t tt goes.t_free i; faces = faces_back i; loops = M.loops; edges = M.edges; vertices = M.vertices }
+
+-- ---- merge is taken back by part
+
+module _ (M : Model) (sound : Sound M) (s t : ℕ) (goes : MergeGoes M s t) where
+  abbrev J : Model
+  J = merge M s t
+
+  -- a face stands in the list where it is of the solid that goes
+  face_listed : (q : ℕ) → Has M.faces q → lists (faces_of M t) q ≡ nat_eq (solid_of M q) t
+  face_listed q there = listed_as (λ _ row. nat_eq row.solid t) M.faces q (record { solid = solid_of M q; outer = outer M q }) (face_there M q there)
+
+  listed_face : (q : ℕ) → lists (faces_of M t) q ≡ true → Has M.faces q × (solid_of M q ≡ t)
+  unfolding solid_of
+  listed_face q l = let x = listed_passes (λ _ row. nat_eq row.solid t) M.faces q l in
+      (ap is_some x.1, ap (λ o. (unwrap_or o no_face).solid) x.1 ∙ equal x.0.solid t x.2)
+
+  face_half : (x : ℕ) → HasHalf M x → Has M.faces (face_at M x)
+  face_half x there = sound.loops_of_faces (loop_of M x) (ap is_some (row_of M sound x there))
+
+  face_at_same : (x : ℕ) → face_at J x ≡ face_at M x
+  face_at_same x = let o = joins.merge_other M sound s t goes in ap (face_of J) (loop_same M J o x) ∙ face_same M J o (loop_of M x)
+
+  half_back : (x : ℕ) → HasHalf J x → HasHalf M x
+  unfolding merge
+  half_back x there = there
+
+  face_on : (q : ℕ) → Has M.faces q → Has J.faces q
+  face_on q there = (joins.merge_other M sound s t goes).has_face q ∙ there
+
+  pub split_goes : PartGoes J s t (faces_of M t)
+  split_goes = record {
+    s_there = ap is_some (joins.solid_other M sound s t goes s goes.apart) ∙ goes.s_there;
+    t_free = joins.solid_gone M sound s t goes;
+    t_fits = sound.solids_fit t goes.t_there;
+    each = λ f l. let x = listed_face f l in (face_on f x.0, joins.solid_new M sound s t goes f x.0 ∙ ap (joins.joined s t) x.1 ∙ joins.joined_t M sound s t goes);
+    listed = let x = sound.solid_has_face t goes.t_there in (x.0, face_listed x.0 x.1 ∙ equals (solid_of M x.0) t x.2);
+    rises = all_where-rises (λ _ row. nat_eq row.solid t) M.faces;
+    left = let x = sound.solid_has_face s goes.s_there in
+        (x.0, face_on x.0 x.1, joins.solid_new M sound s t goes x.0 x.1 ∙ ap (joins.joined s t) x.2 ∙ joins.joined_same M sound s t goes s goes.apart, face_listed x.0 x.1 ∙ ap (λ n. nat_eq n t) x.2 ∙ s_not_t);
+    whole = λ x h. let there = half_back x h in
+        ap (lists (faces_of M t)) (face_at_same x) ∙ face_listed (face_at M x) (face_half x there) ∙ ap (λ n. nat_eq n t) (sound.one_solid x there)
+        ∙ sym (ap (lists (faces_of M t)) (face_at_same (mate x)) ∙ face_listed (face_at M (mate x)) (face_half (mate x) (half_mate M sound x there)));
+  } where
+    s_not_t : nat_eq s t ≡ false
+    s_not_t = let a = goes.apart in grind (arith, nat_tests)
+
+  row_home : (q : ℕ) (row : FaceRow) → table.get M.faces q ≡ Some row →
+      faces_to_solid (λ f _. lists (faces_of M t) f) t q (faces_to_solid (λ _ row. nat_eq row.solid t) s q row) ≡ row
+  row_home q row at = ap (λ b. cond b (record (cond (nat_eq row.solid t) (record row { solid = s }) row) { solid = t }) (cond (nat_eq row.solid t) (record row { solid = s }) row))
+      (listed_as (λ _ row. nat_eq row.solid t) M.faces q row at)
+      ∙ go (nat_eq row.solid t) (λ e. equal row.solid t e) where
+        go : (b : Bool) → (b ≡ true → row.solid ≡ t) → cond b (record (cond b (record row { solid = s }) row) { solid = t }) (cond b (record row { solid = s }) row) ≡ row
+        go true e = λ i. record { solid = sym (e refl) i; outer = row.outer }
+        go false e = refl
+
+  faces_home : (part J s t (faces_of M t)).faces ≡ M.faces
+  unfolding merge part
+  faces_home = map_twice (faces_to_solid (λ f _. lists (faces_of M t) f) t) (faces_to_solid (λ _ row. nat_eq row.solid t) s) M.faces ∙ map_same _ M.faces row_home
+
+  pub part-merge : part (merge M s t) s t (faces_of M t) ≡ M
+  unfolding merge part
+  part-merge = λ i. record { solids = put-remove M.solids t tt (solid_row M t goes.t_there) i; faces = faces_home i; loops = M.loops; edges = M.edges; vertices = M.vertices }
+
+-- ---- conditions
+
+-- conditions of two lists
+all_split : (cs ds : List Condition) → AllHold (cs ++ ds) → AllHold cs × AllHold ds
+all_split [] ds h = (tt, h)
+all_split (c ∷ cs) ds h = let r = all_split cs ds h.1 in ((h.0, r.0), r.1)
+
+all_both : (cs ds : List Condition) → AllHold cs → AllHold ds → AllHold (cs ++ ds)
+all_both [] ds h k = k
+all_both (c ∷ cs) ds h k = (h.0, all_both cs ds h.1 k)
+
+-- conditions on each number of a list
+numbers_hold : (fs : List ℕ) → ((f : ℕ) → lists fs f ≡ true → is_number f ≡ true) → AllHold (numbers_in_range fs)
+numbers_hold [] each = tt
+numbers_hold (f ∷ fs) each = (each f (first_listed f fs), numbers_hold fs (λ q l. each q (rest_listed f q fs l)))
+
+known_hold : (M : Model) (fs : List ℕ) → ((f : ℕ) → lists fs f ≡ true → table.has M.faces f ≡ true) → AllHold (faces_known M fs)
+known_hold M [] each = tt
+known_hold M (f ∷ fs) each = (each f (first_listed f fs), known_hold M fs (λ q l. each q (rest_listed f q fs l)))
+
+hold_known : (M : Model) (fs : List ℕ) → AllHold (faces_known M fs) → (f : ℕ) → lists fs f ≡ true → table.has M.faces f ≡ true
+hold_known M [] h f l = absurd (true≢false (sym l))
+hold_known M (g ∷ fs) h f l = elim (listed_cases g f fs l) [ inl e ↦ ap (table.has M.faces) e ∙ h.0 | inr r ↦ hold_known M fs h.1 f r ]
+
+in_hold : (M : Model) (s : ℕ) (fs : List ℕ) → ((f : ℕ) → lists fs f ≡ true → solid_of M f ≡ s) → AllHold (faces_in M s fs)
+in_hold M s [] each = tt
+in_hold M s (f ∷ fs) each = (equals _ _ (each f (first_listed f fs)), in_hold M s fs (λ q l. each q (rest_listed f q fs l)))
+
+hold_in : (M : Model) (s : ℕ) (fs : List ℕ) → AllHold (faces_in M s fs) → (f : ℕ) → lists fs f ≡ true → solid_of M f ≡ s
+hold_in M s [] h f l = absurd (true≢false (sym l))
+hold_in M s (g ∷ fs) h f l = elim (listed_cases g f fs l) [ inl e ↦ ap (solid_of M) e ∙ equal _ _ h.0 | inr r ↦ hold_in M s fs h.1 f r ]
+
+-- the four causes of a bad part
+or_false : (a b c d : Bool) → a ≡ false → b ≡ false → c ≡ false → d ≡ false → (a || b || c || d) ≡ false
+or_false a b c d w x y z = λ i. w i || x i || y i || z i
+
+record NoneTrue (a b c d : Bool) : Type 0 where
+  first : a ≡ false
+  second : b ≡ false
+  third : c ≡ false
+  fourth : d ≡ false
+
+false_or : (a b c d : Bool) → (a || b || c || d) ≡ false → NoneTrue a b c d
+false_or true b c d e = absurd (true≢false e)
+false_or false true c d e = absurd (true≢false e)
+false_or false false true d e = absurd (true≢false e)
+false_or false false false true e = absurd (true≢false e)
+false_or false false false false e = record { first = refl; second = refl; third = refl; fourth = refl }
+
+some_listed : (fs : List ℕ) → is_empty fs ≡ false → (f : ℕ) × (lists fs f ≡ true)
+some_listed [] e = absurd (true≢false e)
+some_listed (f ∷ fs) e = (f, first_listed f fs)
+
+listed_some : (fs : List ℕ) (f : ℕ) → lists fs f ≡ true → is_empty fs ≡ false
+listed_some [] f l = absurd (true≢false (sym l))
+listed_some (g ∷ fs) f l = refl
+
+-- not all of a list stand in another
+left_out : (fs ns : List ℕ) → lists_all fs ns ≡ false → (f : ℕ) × (lists ns f ≡ true) × (lists fs f ≡ false)
+left_out fs [] e = absurd (true≢false e)
+left_out fs (n ∷ ns) e = elim (lists fs n) as (λ b. lists fs n ≡ b → (b && lists_all fs ns) ≡ false → (f : ℕ) × (lists (n ∷ ns) f ≡ true) × (lists fs f ≡ false)) [
+  | true ↦ λ l e. let x = left_out fs ns e in (x.0, rest_listed n x.0 ns x.1, x.2)
+  | false ↦ λ l e. (n, first_listed n ns, l)
+] refl e
+
+out_left : (fs ns : List ℕ) (f : ℕ) → lists ns f ≡ true → lists fs f ≡ false → lists_all fs ns ≡ false
+out_left fs [] f l o = absurd (true≢false (sym l))
+out_left fs (n ∷ ns) f l o = elim (listed_cases n f ns l) [
+  | inl e ↦ ap (λ b. b && lists_all fs ns) (ap (lists fs) (sym e) ∙ o)
+  | inr r ↦ ap (λ b. lists fs n && b) (out_left fs ns f r o) ∙ and_false (lists fs n)
+] where
+  and_false : (b : Bool) → (b && false) ≡ false
+  and_false true = refl
+  and_false false = refl
+
+-- no edge is torn
+same_means : (a b : Bool) → a ≡ b → differ a b ≡ false
+same_means true b e = ap not (sym e)
+same_means false b e = sym e
+
+means_same : (a b : Bool) → differ a b ≡ false → a ≡ b
+means_same true true e = refl
+means_same true false e = absurd (true≢false e)
+means_same false b e = sym e
+
+not_torn : (M : Model) (fs : List ℕ) → ((x : ℕ) → HasHalf M x → lists fs (face_at M x) ≡ lists fs (face_at M (mate x))) → torn_edge M fs ≡ 0
+not_torn M fs whole = first_where_zero (λ e _. differ (lists fs (face_at M (plus e))) (lists fs (face_at M (minus e)))) M.edges (λ e row at.
+    same_means _ _ (whole (plus e) (ap is_some (ap (table.get M.edges) (plus_row e).0 ∙ at)) ∙ ap (λ x. lists fs (face_at M x)) (mate_plus e)))
+
+torn_not : (M : Model) (fs : List ℕ) → Sound M → torn_edge M fs ≡ 0 → (x : ℕ) → HasHalf M x → lists fs (face_at M x) ≡ lists fs (face_at M (mate x))
+torn_not M fs sound z x there =
+    let w = some_row (table.get M.edges (edge_of x)) there in
+    let e : lists fs (face_at M (plus (edge_of x))) ≡ lists fs (face_at M (minus (edge_of x))) = means_same _ _
+    (zero_first_where (λ e _. differ (lists fs (face_at M (plus e))) (lists fs (face_at M (minus e)))) M.edges (λ q row at s. no_zero q s (sound.edges_fit q (ap is_some at))) z (edge_of x) w.0 w.1) in
+    elim (halves_of_edge x) [
+      | inl p ↦ ap (λ y. lists fs (face_at M y)) p.0 ∙ e ∙ ap (λ y. lists fs (face_at M y)) (sym (ap mate p.0 ∙ mate_plus (edge_of x)))
+      | inr p ↦ ap (λ y. lists fs (face_at M y)) p.0 ∙ sym e ∙ ap (λ y. lists fs (face_at M y)) (sym (ap mate p.0 ∙ mate_minus (edge_of x)))
+    ]
+
+face_in : (M : Model) (s q : ℕ) → lists (faces_of M s) q ≡ true → Has M.faces q × (solid_of M q ≡ s)
+unfolding solid_of
+face_in M s q l = let x = listed_passes (λ _ row. nat_eq row.solid s) M.faces q l in
+    (ap is_some x.1, ap (λ o. (unwrap_or o no_face).solid) x.1 ∙ equal x.0.solid s x.2)
+
+in_faces : (M : Model) (s q : ℕ) → Has M.faces q → solid_of M q ≡ s → lists (faces_of M s) q ≡ true
+in_faces M s q there e = passes_listed (λ _ row. nat_eq row.solid s) M.faces q (record { solid = solid_of M q; outer = outer M q }) (face_there M q there) (equals _ _ e)
+
+pub part_goes : (M : Model) (s t : ℕ) (fs : List ℕ) → Sound M → first_false M (Part s t fs) ≡ None → PartGoes M s t fs
+unfolding first_false conditions
+part_goes M s t fs sound e =
+    let w = all_hold (conditions M (Part s t fs)) e in
+    let x = (all_split (numbers_in_range fs) _ w.1.1).1 in
+    let y = all_split (faces_known M fs ++ faces_in M s fs) _ x.1.1 in
+    let z = all_split (faces_known M fs) (faces_in M s fs) y.0 in
+    let n = false_or (is_empty fs) (not (strictly_rises fs)) (lists_all fs (faces_of M s)) (not (nat_eq (torn_edge M fs) 0)) (not_true _ y.1.0) in
+    let o = left_out fs (faces_of M s) n.third in
+    let i = face_in M s o.0 o.1 in
+    record {
+      s_there = x.0;
+      t_free = free _ (not_true _ x.1.0);
+      t_fits = w.1.0;
+      each = λ f l. (hold_known M fs z.0 f l, hold_in M s fs z.1 f l);
+      listed = some_listed fs n.first;
+      rises = not_back (strictly_rises fs) n.second;
+      left = (o.0, i.0, i.1, o.2);
+      whole = torn_not M fs sound (equal _ _ (not_back (nat_eq (torn_edge M fs) 0) n.fourth));
+    }
+
+pub part_accepted : (N : Model) (s t : ℕ) (fs : List ℕ) → Sound N → PartGoes N s t fs → first_false N (Part s t fs) ≡ None
+unfolding first_false conditions
+part_accepted N s t fs sound goes =
+    let o = goes.left in
+    none_refuses (conditions N (Part s t fs)) (
+      sound.solids_fit s goes.s_there,
+      (
+        goes.t_fits,
+        all_both (numbers_in_range fs) _ (numbers_hold fs (λ f l. sound.faces_fit f (goes.each f l).0)) (
+          goes.s_there,
+          (
+            not_false _ (taken _ goes.t_free),
+            all_both (faces_known N fs ++ faces_in N s fs) _ (all_both (faces_known N fs) (faces_in N s fs) (known_hold N fs (λ f l. (goes.each f l).0)) (in_hold N s fs (λ f l. (goes.each f l).1))) (
+              not_false _ (or_false (is_empty fs) (not (strictly_rises fs)) (lists_all fs (faces_of N s)) (not (nat_eq (torn_edge N fs) 0))
+                  (listed_some fs goes.listed.0 goes.listed.1)
+                  (ap not goes.rises)
+                  (out_left fs (faces_of N s) o.0 (in_faces N s o.0 o.1 o.2) o.3)
+                  (ap not (equals _ _ (not_torn N fs goes.whole)))),
+              tt,
+            ),
+          ),
+        ),
+      ),
+    )
+
+-- ---- the operators
+
+pub merge_is_undone : (M : Model) (s t : ℕ) → Sound M → first_false M (Merge s t) ≡ None → effect (effect M (Merge s t)) (inverse M (Merge s t)) ≡ M
+unfolding effect inverse
+merge_is_undone M s t sound e = part-merge M sound s t (merge_goes M s t e)
+
+pub merge_inverse_goes : (M : Model) (s t : ℕ) → Sound M → first_false M (Merge s t) ≡ None → first_false (effect M (Merge s t)) (inverse M (Merge s t)) ≡ None
+unfolding effect inverse
+merge_inverse_goes M s t sound e = let w = merge_goes M s t e in part_accepted (merge M s t) s t (faces_of M t) (sound-merge M sound s t w) (split_goes M sound s t w)
+
+pub part_keeps_sound : (M : Model) (s t : ℕ) (fs : List ℕ) → Sound M → first_false M (Part s t fs) ≡ None → Sound (effect M (Part s t fs))
+unfolding effect
+part_keeps_sound M s t fs sound e = sound-part M sound s t fs (part_goes M s t fs sound e)
+
+pub part_is_undone : (M : Model) (s t : ℕ) (fs : List ℕ) → Sound M → first_false M (Part s t fs) ≡ None → effect (effect M (Part s t fs)) (inverse M (Part s t fs)) ≡ M
+unfolding effect inverse
+part_is_undone M s t fs sound e = merge-part M sound s t fs (part_goes M s t fs sound e)
+
+pub part_inverse_goes : (M : Model) (s t : ℕ) (fs : List ℕ) → Sound M → first_false M (Part s t fs) ≡ None → first_false (effect M (Part s t fs)) (inverse M (Part s t fs)) ≡ None
+unfolding effect inverse
+part_inverse_goes M s t fs sound e = let w = part_goes M s t fs sound e in merge_accepted (part M s t fs) s t (sound-part M sound s t fs w) (join_goes M sound s t fs w)

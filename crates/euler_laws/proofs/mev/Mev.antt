@@ -1,0 +1,150 @@
+-- mev as an operator: what its conditions say, and that it keeps a model sound.
+use Rattle.std.proofs.Common.{◌≡◌, ℕ, true, None, refl, sym, ap, ◌∙◌}
+use Rattle.lattice.specs.declared.Point.{Point}
+use Rattle.boundary_model.specs.declared.HalfEdge.{HalfEdge}
+use Rattle.boundary_model.specs.declared.Corner.{Corner}
+use Rattle.boundary_model.specs.declared.Corner.TheVariants.{At, Lone}
+use Rattle.boundary_model.specs.HalfEdge.{code, edge_of}
+use Rattle.boundary_model.specs.Table as table
+use Rattle.boundary_model.specs.Model.{Model, lone, content, is_number}
+use Rattle.boundary_model.specs.Sound.{Sound, HasHalf}
+use Rattle.boundary_model.proofs.Halves.{edge_of-code}
+use Rattle.euler_operators.specs.declared.Op.TheVariants.{Mev}
+use Rattle.euler_operators.specs.Conditions.{first_false, conditions, lone_vertex, is_lone}
+use Rattle.euler_operators.specs.Effect.{effect}
+use Rattle.euler_laws.proofs.shared.Goes.{all_hold, none_refuses, not_true, not_false, free, taken, equal, equals}
+use Rattle.euler_laws.proofs.mev.MevSound.{MevGoes, sound-mev}
+use Rattle.euler_laws.proofs.mev.MevLoneSound.{LoneGoes, sound-mev_lone}
+use Rattle.euler_laws.proofs.shared.Rows.{half_of, of_half, lone_is, is_lone_of}
+
+pub mev_goes : (M : Model) (g k h : HalfEdge) (v : ℕ) (p : Point) → first_false M (Mev (At g) (At k) h v p) ≡ None → MevGoes M (code g) (code k) (code h) v p
+unfolding first_false conditions
+mev_goes M g k h v p e =
+    let w = all_hold (conditions M (Mev (At g) (At k) h v p)) e in
+    let t = w.1.1.1.1 in
+    record {
+      g_there = half_of M g t.0;
+      k_there = half_of M k t.1.0;
+      edge_free = ap (table.get M.edges) (edge_of-code h) ∙ free _ (not_true _ t.1.1.1.1.0);
+      vertex_free = free _ (not_true _ t.1.1.1.1.1.0);
+      one_tail = sym (equal _ _ t.1.1.1.1.1.1.1.0);
+      edge_fits = ap is_number (edge_of-code h) ∙ w.1.1.0;
+      vertex_fits = w.1.1.1.0;
+      point_fits = t.1.1.1.1.1.1.0;
+    }
+
+pub mev_accepted : (N : Model) (g k h : HalfEdge) (v : ℕ) (p : Point) → Sound N → MevGoes N (code g) (code k) (code h) v p → first_false N (Mev (At g) (At k) h v p) ≡ None
+unfolding first_false conditions
+mev_accepted N g k h v p sound goes = none_refuses (conditions N (Mev (At g) (At k) h v p)) (
+  fit g goes.g_there,
+  (
+    fit k goes.k_there,
+    (
+      ap is_number (sym (edge_of-code h)) ∙ goes.edge_fits,
+      (
+        goes.vertex_fits,
+        (
+          of_half N g goes.g_there,
+          (
+            of_half N k goes.k_there,
+            (
+              refl,
+              (
+                refl,
+                (
+                  not_false _ (taken _ (ap (table.get N.edges) (sym (edge_of-code h)) ∙ goes.edge_free)),
+                  (
+                    not_false _ (taken _ goes.vertex_free),
+                    (
+                      goes.point_fits,
+                      (equals _ _ (sym goes.one_tail), tt),
+                    ),
+                  ),
+                ),
+              ),
+            ),
+          ),
+        ),
+      ),
+    ),
+  ),
+) where
+  fit : (x : HalfEdge) → HasHalf N (code x) → is_number x.edge ≡ true
+  fit x t = ap is_number (sym (edge_of-code x)) ∙ sound.edges_fit (edge_of (code x)) t
+
+pub lone_goes : (M : Model) (l d : ℕ) (h : HalfEdge) (v : ℕ) (p : Point) → first_false M (Mev (Lone l) (Lone d) h v p) ≡ None → LoneGoes M l (code h) v (lone_vertex (content M l)) p
+unfolding first_false conditions
+lone_goes M l d h v p e =
+    let w = all_hold (conditions M (Mev (Lone l) (Lone d) h v p)) e in
+    let t = w.1.1.1.1 in
+    record {
+      is_lone = lone_is (content M l) t.1.1.0;
+      loop_there = t.0;
+      edge_free = ap (table.get M.edges) (edge_of-code h) ∙ free _ (not_true _ t.1.1.1.1.0);
+      vertex_free = free _ (not_true _ t.1.1.1.1.1.0);
+      edge_fits = ap is_number (edge_of-code h) ∙ w.1.1.0;
+      vertex_fits = w.1.1.1.0;
+      point_fits = t.1.1.1.1.1.1.0;
+    }
+
+pub lone_accepted : (N : Model) (l : ℕ) (h : HalfEdge) (v u : ℕ) (p : Point) → Sound N → LoneGoes N l (code h) v u p → first_false N (Mev (Lone l) (Lone l) h v p) ≡ None
+unfolding first_false conditions
+lone_accepted N l h v u p sound goes =
+    let fits : is_number l ≡ true = sound.loops_fit l goes.loop_there in
+    let is : is_lone (content N l) ≡ true = is_lone_of (content N l) u goes.is_lone in
+    none_refuses (conditions N (Mev (Lone l) (Lone l) h v p)) (
+      fits,
+      (
+        fits,
+        (
+          ap is_number (sym (edge_of-code h)) ∙ goes.edge_fits,
+          (
+            goes.vertex_fits,
+            (
+              goes.loop_there,
+              (
+                goes.loop_there,
+                (
+                  is,
+                  (
+                    is,
+                    (
+                      not_false _ (taken _ (ap (table.get N.edges) (sym (edge_of-code h)) ∙ goes.edge_free)),
+                      (
+                        not_false _ (taken _ goes.vertex_free),
+                        (
+                          goes.point_fits,
+                          (equals _ _ refl, tt),
+                        ),
+                      ),
+                    ),
+                  ),
+                ),
+              ),
+            ),
+          ),
+        ),
+      ),
+    )
+
+-- a corner at a half-edge and a lone one are never at one vertex
+pub mixed_first : (M : Model) (g : HalfEdge) (l : ℕ) (h : HalfEdge) (v : ℕ) (p : Point) → Sound M → first_false M (Mev (At g) (Lone l) h v p) ≡ None → ⊥
+unfolding first_false conditions
+mixed_first M g l h v p sound e =
+    let w = all_hold (conditions M (Mev (At g) (Lone l) h v p)) e in
+    let t = w.1.1.1.1 in
+    sound.lone_is_no_tail l (code g) (half_of M g t.0) (lone_is (content M l) t.1.1.1.0 ∙ ap lone (sym (equal _ _ t.1.1.1.1.1.1.1.0)))
+
+pub mixed_second : (M : Model) (l : ℕ) (k h : HalfEdge) (v : ℕ) (p : Point) → Sound M → first_false M (Mev (Lone l) (At k) h v p) ≡ None → ⊥
+unfolding first_false conditions
+mixed_second M l k h v p sound e =
+    let w = all_hold (conditions M (Mev (Lone l) (At k) h v p)) e in
+    let t = w.1.1.1.1 in
+    sound.lone_is_no_tail l (code k) (half_of M k t.1.0) (lone_is (content M l) t.1.1.0 ∙ ap lone (equal _ _ t.1.1.1.1.1.1.1.0))
+
+pub mev_keeps_sound : (M : Model) (c d : Corner) (h : HalfEdge) (v : ℕ) (p : Point) → Sound M → first_false M (Mev c d h v p) ≡ None → Sound (effect M (Mev c d h v p))
+unfolding effect
+mev_keeps_sound M (At g) (At k) h v p sound e = sound-mev M sound (code g) (code k) (code h) v p (mev_goes M g k h v p e)
+mev_keeps_sound M (At g) (Lone l) h v p sound e = absurd (mixed_first M g l h v p sound e)
+mev_keeps_sound M (Lone l) (At k) h v p sound e = absurd (mixed_second M l k h v p sound e)
+mev_keeps_sound M (Lone l) (Lone d) h v p sound e = sound-mev_lone M sound l (code h) v (lone_vertex (content M l)) p (lone_goes M l d h v p e)

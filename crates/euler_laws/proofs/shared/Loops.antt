@@ -1,0 +1,217 @@
+-- What a loop holds, changed one half-edge at a time; and how a model's walks follow from its loops and fans.
+use Rattle.std.proofs.Common.{◌≡◌, ◌≢◌, ℕ, ◌+◌, true, false, cond, List, [], Option, Some, None, is_some, unwrap_or, refl, sym, ap, ◌∙◌, subst, arith, ◌⊎◌, inl, inr, true≢false}
+use Rattle.std.proofs.lemmas.Bool.Decides.{eqb_tells}
+use Rattle.euler_operators.specs.Items.{count, tick, IsIn, IsApart}
+use Rattle.euler_operators.specs.Rings.{canonical, successor, IsRing}
+use Rattle.euler_operators.specs.Edits.{insert_before, without, redirect, led_over}
+use Rattle.euler_operators.proofs.Lists.{tick_same, tick_other, IsIn_or_not}
+use Rattle.euler_operators.proofs.Rings.{IsRing-same, next_is_successor, IsRing-from_successor}
+use Rattle.euler_operators.proofs.Rotations.{canonical-rotates, count-canonical, IsApart-canonical, canonical-canonical}
+use Rattle.euler_operators.proofs.Edits.{count-insert_before, count-without, without_none, IsRing-insert_before, IsRing-without}
+use Rattle.euler_operators.proofs.Leads.{IsRing-redirect_other, IsRing-led_over_other}
+use Rattle.euler_operators.specs.HalfEdge.{mate, edge_of}
+use Rattle.euler_operators.specs.Table as table
+use Rattle.euler_operators.specs.Table.{Table, tables}
+use Rattle.euler_operators.specs.Model.{Model, LoopContent, lone, cycle, LoopRow, no_loop, items_of, holds, tail, loop_of, content, cycle_of, after, round}
+use Rattle.euler_operators.specs.Sound.{Sound, Has, HasHalf, StandsIn, Reaches, here, further, IsCycle}
+use Rattle.euler_operators.proofs.Tables.{first_where_is}
+use Rattle.euler_operators.proofs.Models.{content_row, held_row, in-holds, holds_in, holds-none}
+use Rattle.euler_operators.proofs.Halves.{mate-mate}
+use Rattle.euler_laws.proofs.shared.Fans.{Fan, ring_reaches, ring_stays}
+
+pub some_row : {X : Type 0} (o : Option X) → is_some o ≡ true → (x : X) × (o ≡ Some x)
+some_row None e = absurd (true≢false (sym e))
+some_row (Some x) e = (x, refl)
+
+-- a loop is lone, or a cycle round which next leads
+abbrev pub IsLoop : (ℕ → ℕ) → LoopContent → Type 0
+IsLoop next (lone v) = Unit {0}
+IsLoop next (cycle hs) = IsCycle hs × IsRing next hs
+
+-- what any loop row may hold, also one that isn't there
+abbrev pub IsLight : (ℕ → ℕ) → LoopContent → Type 0
+IsLight next c = IsApart (items_of c) × IsRing next (items_of c)
+
+pub canonical_cycle : (hs : List ℕ) → IsApart hs → (x : ℕ) → IsIn x hs → IsCycle (canonical hs)
+canonical_cycle hs d x i = record {
+  some_item = λ e. let t : count x (canonical hs) ≡ 0 = ap (count x) e in omega (arith, count-canonical x hs);
+  apart = IsApart-canonical hs d;
+  from_least = canonical-canonical hs d;
+}
+
+pub canonical_ring : (next : ℕ → ℕ) (hs : List ℕ) → IsRing next hs → IsRing next (canonical hs)
+canonical_ring next hs r = IsRing-same next hs (canonical hs) (canonical-rotates hs) r
+
+-- ---- a half-edge put before another
+
+abbrev pub put_before : ℕ → ℕ → LoopContent → LoopContent
+put_before g h c = cond (holds g c) (cycle (canonical (insert_before g h (items_of c)))) c
+
+pub put_there : (g h : ℕ) (c : LoopContent) → IsIn g (items_of c) → put_before g h c ≡ cycle (canonical (insert_before g h (items_of c)))
+put_there g h c i = ap (λ b. cond b (cycle (canonical (insert_before g h (items_of c)))) c) (in-holds g c i)
+
+pub put_none : (g h : ℕ) (c : LoopContent) → count g (items_of c) ≡ 0 → put_before g h c ≡ c
+put_none g h c n = ap (λ b. cond b (cycle (canonical (insert_before g h (items_of c)))) c) (holds-none g c n)
+
+pub put_lone : (g h v : ℕ) → put_before g h (lone v) ≡ lone v
+put_lone g h v = put_none g h (lone v) refl
+
+pub not_lone : (a : List ℕ) (v : ℕ) → cycle a ≢ lone v
+not_lone a v e = cc
+
+pub one_vertex : (a b : ℕ) → lone a ≡ lone b → a ≡ b
+one_vertex a b e = cc
+
+pub lone_put : (g h v : ℕ) (c : LoopContent) → put_before g h c ≡ lone v → c ≡ lone v
+lone_put g h v c e = elim (IsIn_or_not g (items_of c)) [
+  | inl i ↦ absurd (not_lone _ v (sym (put_there g h c i) ∙ e))
+  | inr n ↦ sym (put_none g h c n) ∙ e
+]
+
+pub count_put_there : (x g h : ℕ) (c : LoopContent) → IsIn g (items_of c) → count x (items_of (put_before g h c)) ≡ tick x h + count x (items_of c)
+count_put_there x g h c i = ap (λ y. count x (items_of y)) (put_there g h c i) ∙ count-canonical x (insert_before g h (items_of c)) ∙ count-insert_before x g h (items_of c) i
+
+pub count_put_none : (x g h : ℕ) (c : LoopContent) → count g (items_of c) ≡ 0 → count x (items_of (put_before g h c)) ≡ count x (items_of c)
+count_put_none x g h c n = ap (λ y. count x (items_of y)) (put_none g h c n)
+
+pub light_put : (next : ℕ → ℕ) (g h : ℕ) (c : LoopContent) → count h (items_of c) ≡ 0 → IsLight next c → IsLight (led_over next g h) (put_before g h c)
+light_put next g h c n l = elim (IsIn_or_not g (items_of c)) [
+  | inl i ↦ (
+    λ x. omega (arith, count_put_there x g h c i, l.0 x, n, tick_cases x),
+    subst (λ y. IsRing (led_over next g h) (items_of y)) (sym (put_there g h c i)) (canonical_ring _ (insert_before g h (items_of c)) (IsRing-insert_before next g h (items_of c) l.0 i n l.1)),
+  )
+  | inr z ↦ subst (IsLight (led_over next g h)) (sym (put_none g h c z)) (l.0, IsRing-led_over_other next g h (items_of c) z n l.1)
+] where
+  tick_cases : (x : ℕ) → (tick x h ≡ 0) ⊎ ((tick x h ≡ 1) × (count x (items_of c) ≡ 0))
+  tick_cases x = elim (eqb_tells x h) [ inl e ↦ inr (ap (tick x) (sym e.1) ∙ tick_same x, ap (λ y. count y (items_of c)) e.1 ∙ n) | inr e ↦ inl (tick_other x h e.1) ]
+
+pub loop_put : (next : ℕ → ℕ) (g h : ℕ) (c : LoopContent) → count h (items_of c) ≡ 0 → IsLoop next c → IsLoop (led_over next g h) (put_before g h c)
+loop_put next g h (lone v) n l = subst (IsLoop (led_over next g h)) (sym (put_lone g h v)) tt
+loop_put next g h (cycle hs) n l = elim (IsIn_or_not g hs) [
+  | inl i ↦
+      let a = light_put next g h (cycle hs) n (l.0.apart, l.1) in
+      let d : IsApart (insert_before g h hs) = λ x. omega (arith, a.0 x, count_put_there x g h (cycle hs) i, count-insert_before x g h hs i) in
+      subst (IsLoop (led_over next g h)) (sym (put_there g h (cycle hs) i)) (
+        canonical_cycle (insert_before g h hs) d h (omega (arith, count-insert_before h g h hs i, tick_same h)),
+        canonical_ring _ (insert_before g h hs) (IsRing-insert_before next g h hs l.0.apart i n l.1),
+      )
+  | inr z ↦ subst (IsLoop (led_over next g h)) (sym (put_none g h (cycle hs) z)) (l.0, IsRing-led_over_other next g h hs z n l.1)
+]
+
+-- ---- a half-edge taken out
+
+pub count_out : (x h : ℕ) (hs : List ℕ) → x ≢ h → count x (without h hs) ≡ count x hs
+count_out x h hs ne = elim (IsIn_or_not h hs) [
+  | inl i ↦ omega (arith, count-without x h hs i, tick_other x h ne)
+  | inr n ↦ ap (count x) (without_none h hs n)
+]
+
+pub count_gone : (h : ℕ) (hs : List ℕ) → IsApart hs → count h (without h hs) ≡ 0
+count_gone h hs d = elim (IsIn_or_not h hs) [
+  | inl i ↦ omega (arith, count-without h h hs i, tick_same h, d h)
+  | inr n ↦ ap (count h) (without_none h hs n) ∙ n
+]
+
+pub apart_out : (h : ℕ) (hs : List ℕ) → IsApart hs → IsApart (without h hs)
+apart_out h hs d x = elim (IsIn_or_not h hs) [
+  | inl i ↦ omega (arith, count-without x h hs i, d x)
+  | inr n ↦ omega (arith, ap (count x) (without_none h hs n), d x)
+]
+
+pub ring_out : (next : ℕ → ℕ) (h : ℕ) (hs : List ℕ) → IsApart hs → IsRing next hs → IsRing (redirect next h (next h)) (without h hs)
+ring_out next h hs d r = elim (IsIn_or_not h hs) [
+  | inl i ↦ IsRing-without next h hs d i r
+  | inr n ↦ subst (IsRing (redirect next h (next h))) (sym (without_none h hs n)) (IsRing-redirect_other next h (next h) hs n r)
+]
+
+-- ---- a sound model's loops
+
+module _ (M : Model) (sound : Sound M) where
+  light_of : (c : LoopContent) (l : ℕ) → Has M.loops l → content M l ≡ c → IsLight (after M) c
+  unfolding after
+  light_of (lone v) l there e = (λ x. omega arith, tt)
+  light_of (cycle hs) l there e =
+      let d : IsApart hs = (sound.cycles l hs there e).apart in
+      (d, IsRing-from_successor (after M) hs d (λ x i. ap (λ q. successor (items_of (content M q)) x) (sound.one_loop x l (ap (holds x) e ∙ in-holds x (cycle hs) i)) ∙ ap (λ c. successor (items_of c) x) e))
+
+  empty_light : (o : Option LoopRow) → is_some o ≡ false → (unwrap_or o no_loop).content ≡ cycle []
+  empty_light None e = refl
+  empty_light (Some row) e = absurd (true≢false e)
+
+  pub light : (l : ℕ) → IsLight (after M) (content M l)
+  unfolding content
+  light l = elim (is_some (table.get M.loops l)) as (λ b. is_some (table.get M.loops l) ≡ b → IsLight (after M) (content M l)) [
+    | true ↦ λ e. light_of (content M l) l e refl
+    | false ↦ λ e. subst (IsLight (after M)) (sym (empty_light (table.get M.loops l) e)) (λ x. omega arith, tt)
+  ] refl
+
+  loop_of_content : (c : LoopContent) (l : ℕ) → Has M.loops l → content M l ≡ c → IsLoop (after M) c
+  loop_of_content (lone v) l there e = tt
+  loop_of_content (cycle hs) l there e = (sound.cycles l hs there e, (light_of (cycle hs) l there e).1)
+
+  pub loop_sound : (l : ℕ) → Has M.loops l → IsLoop (after M) (content M l)
+  loop_sound l there = loop_of_content (content M l) l there refl
+
+  -- no loop holds a half-edge whose edge isn't there
+  pub none_free : (x : ℕ) → table.get M.edges (edge_of x) ≡ None → (l : ℕ) → count x (items_of (content M l)) ≡ 0
+  none_free x free l = elim (IsIn_or_not x (items_of (content M l))) [
+    | inl i ↦ absurd (true≢false (sym (sound.only_edges x l (in-holds x (content M l) i)) ∙ ap is_some free))
+    | inr n ↦ n
+  ]
+
+-- ---- the walks of a model
+
+-- half-edges stand in loops, each in one, and next leads round each loop and, with mate, round each vertex
+pub record Walks (N : Model) (next : ℕ → ℕ) : Type 0 where
+  pub only : (x q : ℕ) → StandsIn N x q → HasHalf N x
+  pub placed : (x : ℕ) → HasHalf N x → (q : ℕ) × StandsIn N x q × ((p : ℕ) → StandsIn N x p → p ≡ q)
+  pub loops : (q : ℕ) → Has N.loops q → IsLoop next (content N q)
+  pub fans : (x : ℕ) → HasHalf N x → Fan next N (tail N x)
+  pub mates : (x : ℕ) → HasHalf N x → HasHalf N (mate x)
+
+-- the loop of a half-edge, where no other holds it
+pub loop_at : (N : Model) (x q : ℕ) → StandsIn N x q → ((p : ℕ) → StandsIn N x p → p ≡ q) → loop_of N x ≡ q
+unfolding loop_of
+loop_at N x q s once = first_where_is (λ _ row. holds x row.content) N.loops q _ (held_row N x q s) s
+    (λ p row at t. once p (ap (holds x) (content_row N p row at) ∙ t))
+
+module _ (N : Model) (next : ℕ → ℕ) (w : Walks N next) where
+  pub loop_is : (x : ℕ) (t : HasHalf N x) → loop_of N x ≡ (w.placed x t).0
+  loop_is x t = let p = w.placed x t in loop_at N x p.0 p.1 p.2
+
+  pub stands-walks : (x : ℕ) → HasHalf N x → StandsIn N x (loop_of N x)
+  stands-walks x t = subst (StandsIn N x) (sym (loop_is x t)) (w.placed x t).1
+
+  pub one_loop-walks : (x q : ℕ) → StandsIn N x q → loop_of N x ≡ q
+  one_loop-walks x q s = let t = w.only x q s in loop_is x t ∙ sym ((w.placed x t).2 q s)
+
+  pub cycles-walks : (l : ℕ) (hs : List ℕ) → Has N.loops l → content N l ≡ cycle hs → IsCycle hs
+  cycles-walks l hs t e = (subst (IsLoop next) e (w.loops l t)).0
+
+  ring_items : (c : LoopContent) → IsLoop next c → IsRing next (items_of c)
+  ring_items (lone v) l = tt
+  ring_items (cycle hs) l = l.1
+
+  pub after-walks : (x : ℕ) → HasHalf N x → after N x ≡ next x
+  unfolding after
+  after-walks x t =
+      let s = stands-walks x t in
+      sym (next_is_successor next (cycle_of N x) x (ring_items (content N (loop_of N x)) (w.loops (loop_of N x) (ap is_some (held_row N x (loop_of N x) s)))) (holds_in x (content N (loop_of N x)) s))
+
+  pub ends_meet-walks : (x : ℕ) → HasHalf N x → tail N (after N x) ≡ tail N (mate x)
+  ends_meet-walks x t =
+      let f = w.fans (mate x) (w.mates x t) in
+      let i : IsIn (next (mate (mate x))) f.items = ring_stays (λ y. next (mate y)) f.items (mate x) f.ring (f.all (mate x) (w.mates x t) refl) in
+      ap (tail N) (after-walks x t ∙ ap next (sym (mate-mate x))) ∙ (f.of_it _ i).1
+
+  same_reaches : (x y : ℕ) → HasHalf N x → Reaches (λ z. next (mate z)) x y → HasHalf N y × Reaches (round N) x y
+  same_reaches x y t here = (t, here)
+  same_reaches x y t (further {h = z} p) =
+      let q = same_reaches x z t p in
+      let m : HasHalf N (mate z) = w.mates z q.0 in
+      let e : round N z ≡ next (mate z) = after-walks (mate z) m in
+      let f = w.fans z q.0 in
+      ((f.of_it _ (ring_stays (λ y. next (mate y)) f.items z f.ring (f.all z q.0 refl))).0, subst (Reaches (round N) x) e (further q.1))
+
+  pub one_fan-walks : (x y : ℕ) → HasHalf N x → HasHalf N y → tail N x ≡ tail N y → Reaches (round N) x y
+  one_fan-walks x y xt yt e = let f = w.fans x xt in (same_reaches x y xt (ring_reaches (λ z. next (mate z)) f.items x y f.ring (f.all x xt refl) (f.all y yt (sym e)))).1

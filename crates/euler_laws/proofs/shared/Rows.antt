@@ -1,0 +1,173 @@
+-- What single rows and loops of a model say, and small facts that several operators share.
+use Rattle.std.proofs.Common.{◌≡◌, ◌≢◌, ℕ, ◌+◌, Bool, true, false, cond, not, nat_eq, ◌&&◌, List, [], ◌∷◌, ◌++◌, Option, Some, None, unwrap_or, is_some, refl, sym, ap, ◌∙◌, arith, true≢false}
+use Rattle.std.proofs.lemmas.Bool.Decides.{nat_tests}
+use Rattle.euler_operators.specs.declared.Point.{Point}
+use Rattle.euler_operators.specs.Items.{count, IsIn, IsApart, head_or}
+use Rattle.euler_operators.specs.Rings.{canonical, rotate_to, rest, upto, onward, between, beyond, successor, IsRing}
+use Rattle.euler_operators.proofs.Rotations.{count-canonical, count-rotate_to, canonical_nil, rotate_to-rotates}
+use Rattle.euler_operators.proofs.Rings.{successor_at, successor_same}
+use Rattle.euler_operators.proofs.Cuts.{upto-onward, ring_split}
+use Rattle.euler_operators.proofs.Lists.{count-append, tick_same, tick_other, count-before}
+use Rattle.euler_operators.specs.declared.HalfEdge.{HalfEdge}
+use Rattle.euler_operators.specs.HalfEdge.{code, mate, edge_of, is_first}
+use Rattle.euler_operators.specs.Table as table
+use Rattle.euler_operators.specs.Table.{Table, tables, same_table}
+use Rattle.euler_operators.specs.Model.{Model, LoopContent, lone, cycle, FaceRow, LoopRow, EdgeRow, no_face, no_edge, no_point, tail_in, items_of, holds, tail, face_of, outer, solid_of, point_of, no_loop, content, rings_of}
+use Rattle.euler_operators.specs.Sound.{Sound, Has, HasHalf, IsCycle}
+use Rattle.euler_operators.proofs.Halves.{edge_of-code, edge_of-mate, is_first-mate}
+use Rattle.euler_operators.proofs.Tables.{all_where_none, none_all_where}
+use Rattle.euler_operators.proofs.Models.{face_row}
+use Rattle.euler_operators.specs.Conditions.{has_rings, is_empty, is_lone, lone_vertex}
+use Rattle.euler_operators.specs.Effect.{where_held, edge_row, cycle_or_lone}
+use Rattle.euler_laws.proofs.shared.Loops.{some_row, IsLoop, canonical_cycle, canonical_ring}
+
+-- a rewriting where a half-edge stands leaves a loop without it alone
+pub where_held_none : (g : ℕ) (new : List ℕ → LoopContent) (l : ℕ) (row : LoopRow) → holds g row.content ≡ false → where_held g new l row ≡ row
+where_held_none g new l row e = ap (λ b. cond b (record row { content = new (items_of row.content) }) row) e
+
+pub where_held_there : (g : ℕ) (new : List ℕ → LoopContent) (l : ℕ) (row : LoopRow) → holds g row.content ≡ true → where_held g new l row ≡ record row { content = new (items_of row.content) }
+where_held_there g new l row e = ap (λ b. cond b (record row { content = new (items_of row.content) }) row) e
+
+pub one_row : {X : Type 0} {x y : X} → Some x ≡ Some y → x ≡ y
+one_row e = cc
+
+pub no_items : (xs : List ℕ) → ((x : ℕ) → count x xs ≡ 0) → xs ≡ []
+no_items [] e = refl
+no_items (x ∷ xs) e = absurd (omega (arith, e x, tick_same x))
+
+-- a row put and another taken away, and both put as they were
+pub both_back : {X : Type 0} (t : Table X) (r s : ℕ) (x a b : X) → r ≢ s → table.get t r ≡ Some a → table.get t s ≡ Some b → table.put (table.put (table.remove (table.put t r x) s) r a) s b ≡ t
+both_back t r s x a b ne at bt = same_table _ _ (λ q. grind (arith, nat_tests, tables))
+
+-- the row of a solid that is there
+pub solid_row : (M : Model) (s : ℕ) → Has M.solids s → table.get M.solids s ≡ Some tt
+solid_row M s there = go (table.get M.solids s) there where
+  go : (o : Option (Unit {0})) → is_some o ≡ true → o ≡ Some tt
+  go None e = absurd (true≢false (sym e))
+  go (Some tt) e = refl
+
+-- the row of a loop, from what the readers answer
+pub loop_row : (M : Model) (q : ℕ) → Has M.loops q → table.get M.loops q ≡ Some (record { face = face_of M q; content = content M q })
+unfolding content face_of
+loop_row M q there = go (table.get M.loops q) there where
+  go : (o : Option LoopRow) → is_some o ≡ true → o ≡ Some (record { face = (unwrap_or o no_loop).face; content = (unwrap_or o no_loop).content })
+  go None e = absurd (true≢false (sym e))
+  go (Some row) e = refl
+
+-- how often an item stands in the two loops of mef
+pub count-halves : (x c e : ℕ) (hs : List ℕ) → count x (upto c e hs) + count x (onward c e hs) ≡ count x hs
+count-halves x c e hs = sym (count-append x (upto c e hs) (onward c e hs)) ∙ ap (count x) (upto-onward c e hs) ∙ count-rotate_to x c hs
+
+-- the tails of an edge row
+pub tail_first : (h a b : ℕ) → tail_in (edge_row h a b) (is_first h) ≡ a
+tail_first h a b = elim (is_first h) as (λ c. tail_in (cond c (record { plus_tail = a; minus_tail = b }) (record { plus_tail = b; minus_tail = a })) c ≡ a) [ true ↦ refl | false ↦ refl ]
+
+pub tail_second : (h a b : ℕ) → tail_in (edge_row h a b) (is_first (mate h)) ≡ b
+tail_second h a b = ap (tail_in (edge_row h a b)) (is_first-mate h)
+    ∙ elim (is_first h) as (λ c. tail_in (cond c (record { plus_tail = a; minus_tail = b }) (record { plus_tail = b; minus_tail = a })) (not c) ≡ b) [ true ↦ refl | false ↦ refl ]
+
+pub items_or_lone : (xs : List ℕ) (v : ℕ) → items_of (cycle_or_lone xs v) ≡ canonical xs
+items_or_lone [] v = sym canonical_nil
+items_or_lone (x ∷ xs) v = refl
+
+pub count_or_lone : (x : ℕ) (xs : List ℕ) (v : ℕ) → count x (items_of (cycle_or_lone xs v)) ≡ count x xs
+count_or_lone x xs v = ap (count x) (items_or_lone xs v) ∙ count-canonical x xs
+
+pub loop_or_lone : (next : ℕ → ℕ) (xs : List ℕ) (v : ℕ) → IsApart xs → IsRing next xs → IsLoop next (cycle_or_lone xs v)
+loop_or_lone next [] v d r = tt
+loop_or_lone next (x ∷ xs) v d r = (canonical_cycle (x ∷ xs) d x (omega (arith, tick_same x)), canonical_ring next (x ∷ xs) r)
+
+-- a list that became lone was empty
+pub was_empty : (xs : List ℕ) (v w : ℕ) → cycle_or_lone xs v ≡ lone w → (xs ≡ []) × (w ≡ v)
+was_empty [] v w e = (refl, cc)
+was_empty (x ∷ xs) v w e = absurd (differ _ w e) where
+  differ : (a : List ℕ) (w : ℕ) → cycle a ≢ lone w
+  differ a w e = cc
+
+-- the point of a vertex that is there
+pub point_row : (M : Model) (w : ℕ) → Has M.vertices w → table.get M.vertices w ≡ Some (point_of M w)
+unfolding point_of
+point_row M w there = go (table.get M.vertices w) there where
+  go : (o : Option Point) → is_some o ≡ true → o ≡ Some (unwrap_or o no_point)
+  go None e = absurd (true≢false (sym e))
+  go (Some x) e = refl
+
+pub face_there : (M : Model) (f : ℕ) → Has M.faces f → table.get M.faces f ≡ Some (record { solid = solid_of M f; outer = outer M f })
+unfolding solid_of outer
+face_there M f there = go (table.get M.faces f) there where
+  go : (o : Option FaceRow) → is_some o ≡ true → o ≡ Some (record { solid = (unwrap_or o no_face).solid; outer = (unwrap_or o no_face).outer })
+  go None e = absurd (true≢false (sym e))
+  go (Some x) e = refl
+
+-- an edge's row, from the tails of its two halves
+pub edge_there : (M : Model) (h : ℕ) → HasHalf M h → table.get M.edges (edge_of h) ≡ Some (edge_row h (tail M h) (tail M (mate h)))
+unfolding tail
+edge_there M h there = go (table.get M.edges (edge_of h)) there ∙ ap (λ n. Some (edge_row h (tail_in (unwrap_or (table.get M.edges (edge_of h)) no_edge) (is_first h)) (tail_in (unwrap_or (table.get M.edges n) no_edge) (is_first (mate h))))) (sym (edge_of-mate h)) where
+  split : (row : EdgeRow) (b : Bool) → ◌≡◌ {A = EdgeRow} row (cond b (record { plus_tail = tail_in row b; minus_tail = tail_in row (not b) }) (record { plus_tail = tail_in row (not b); minus_tail = tail_in row b }))
+  split row true = refl
+  split row false = refl
+
+  go : (o : Option EdgeRow) → is_some o ≡ true → o ≡ Some (edge_row h (tail_in (unwrap_or o no_edge) (is_first h)) (tail_in (unwrap_or o no_edge) (is_first (mate h))))
+  go None e = absurd (true≢false (sym e))
+  go (Some row) e = ap Some (split row (is_first h)) ∙ ap (λ b. Some (edge_row h (tail_in row (is_first h)) (tail_in row b))) (sym (is_first-mate h))
+
+pub half_of : (M : Model) (g : HalfEdge) → table.has M.edges g.edge ≡ true → HasHalf M (code g)
+half_of M g t = ap (λ x. is_some (table.get M.edges x)) (edge_of-code g) ∙ t
+
+pub of_half : (M : Model) (g : HalfEdge) → HasHalf M (code g) → table.has M.edges g.edge ≡ true
+of_half M g t = ap (λ x. is_some (table.get M.edges x)) (sym (edge_of-code g)) ∙ t
+
+empty_is : (xs : List ℕ) → not (is_empty xs) ≡ false → xs ≡ []
+empty_is [] e = refl
+empty_is (x ∷ xs) e = absurd (true≢false e)
+
+ring_none : (a f o l : ℕ) → (nat_eq a f && not (nat_eq o l)) ≡ false → a ≡ f → o ≡ l
+ring_none a f o l e p = grind (arith, nat_tests)
+
+none_ring : (a f o l : ℕ) → (a ≡ f → o ≡ l) → (nat_eq a f && not (nat_eq o l)) ≡ false
+none_ring a f o l p = grind (arith, nat_tests)
+
+-- a face without a ring has its outer loop only
+pub no_rings_means : (M : Model) (f : ℕ) → has_rings M f ≡ false → (q : ℕ) → Has M.loops q → face_of M q ≡ f → outer M f ≡ q
+unfolding has_rings
+no_rings_means M f e q there p =
+    let w = some_row (table.get M.loops q) there in
+    ring_none w.0.face f (outer M f) q (none_all_where (λ l row. nat_eq row.face f && not (nat_eq (outer M f) l)) M.loops (empty_is (rings_of M f) e) q w.0 w.1) (sym (face_row M q w.0 w.1) ∙ p)
+
+pub means_no_rings : (M : Model) (f : ℕ) → ((q : ℕ) → Has M.loops q → face_of M q ≡ f → outer M f ≡ q) → has_rings M f ≡ false
+unfolding has_rings
+means_no_rings M f n = ap (λ xs. not (is_empty xs)) (all_where_none (λ l row. nat_eq row.face f && not (nat_eq (outer M f) l)) M.loops
+    (λ q row at. none_ring row.face f (outer M f) q (λ e. n q (ap is_some at) (face_row M q row at ∙ e))))
+
+pub lone_is : (c : LoopContent) → is_lone c ≡ true → c ≡ lone (lone_vertex c)
+lone_is (lone v) e = refl
+lone_is (cycle hs) e = absurd (true≢false (sym e))
+
+pub is_lone_of : (c : LoopContent) (u : ℕ) → c ≡ lone u → is_lone c ≡ true
+is_lone_of c u e = ap is_lone e
+
+-- a ring is the outer loop of no face
+pub never_outer : (M : Model) → Sound M → (l : ℕ) → outer M (face_of M l) ≢ l → (p : ℕ) → Has M.faces p → outer M p ≢ l
+never_outer M sound l a p there e = a (ap (outer M) (sym (ap (face_of M) e) ∙ (sound.outers_there p there).1) ∙ e)
+
+pub ring_test : (a b c : Bool) → (a && b && not c) ≡ true → c ≡ false
+ring_test true true false e = refl
+ring_test true true true e = sym e
+ring_test true false true e = sym e
+ring_test true false false e = refl
+ring_test false b true e = sym e
+ring_test false b false e = refl
+
+pub test_ring : (a b c : Bool) → a ≡ true → b ≡ true → c ≡ false → (a && b && not c) ≡ true
+test_ring a b c x y z = (λ i. x i && y i && not (z i))
+
+pub same_number : (n : ℕ) → nat_eq n n ≡ true
+same_number n = grind (arith, nat_tests)
+
+-- what follows m in the ring h X m Y
+pub after_second : (hs : List ℕ) → IsCycle hs → (h m : ℕ) → h ≢ m → IsIn h hs → IsIn m hs → successor hs m ≡ head_or h (beyond h m hs)
+after_second hs cy h m hm i j = successor_same m hs (rotate_to h hs) (rotate_to-rotates h hs) cy.apart j ∙ ap (λ q. successor q m) (ring_split h m hs i j hm)
+    ∙ successor_at m (h ∷ between h m hs) (beyond h m hs) (omega (arith, tick_other m h (λ e. hm (sym e)), count-before m (rest h hs))) ∙ head_in (beyond h m hs) where
+      head_in : (ys : List ℕ) → head_or m (ys ++ h ∷ between h m hs) ≡ head_or h ys
+      head_in [] = refl
+      head_in (y ∷ ys) = refl

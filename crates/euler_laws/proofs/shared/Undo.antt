@@ -1,0 +1,172 @@
+-- Models that answer alike are equal; and lists that an operator and its inverse leave.
+use Rattle.std.proofs.Common.{◌≡◌, ◌≢◌, ℕ, ◌+◌, Bool, true, false, not, nat_eq, ◌&&◌, ◌||◌, List, [], ◌∷◌, ◌++◌, Option, Some, None, unwrap_or, is_some, IsTrue, refl, sym, ap, ◌∙◌, arith, inl, inr, true≢false}
+use Rattle.std.proofs.lemmas.Bool.Decides.{nat_tests, eqb_tells}
+use Rattle.euler_operators.specs.Items.{count, tick, IsIn, IsApart, head_or}
+use Rattle.euler_operators.specs.Rings.{canonical, rotate_to, rest, between, beyond, successor, IsRotation}
+use Rattle.euler_operators.specs.Edits.{insert_before, without}
+use Rattle.euler_operators.specs.Operators.{mev_ring, kev_ring, put_ring, take_ring}
+use Rattle.euler_operators.proofs.Lists.{count-append, tick_same, tick_other}
+use Rattle.euler_operators.proofs.Rotations.{canonical-rotates, canonical_same, rest_same, rotate_to_is}
+use Rattle.euler_operators.proofs.Cuts.{ring_split, IsIn_rest}
+use Rattle.euler_operators.proofs.Rings.{apart_at}
+use Rattle.euler_operators.proofs.Edits.{count-insert_before, insert_before-rotates, insert_before_same, mev_ring_is, without-rotates}
+use Rattle.euler_operators.proofs.Leads.{kev_ring_is}
+use Rattle.euler_operators.specs.HalfEdge.{mate, edge_of, is_first, plus, minus}
+use Rattle.euler_operators.specs.Table as table
+use Rattle.euler_operators.specs.Table.{Table, same_table}
+use Rattle.euler_operators.specs.Model.{Model, LoopRow, no_loop, EdgeRow, no_edge, tail_in, tail, content, face_of, is_number}
+use Rattle.euler_operators.specs.Sound.{Has, HasHalf}
+use Rattle.euler_operators.proofs.Halves.{plus_row, minus_row, same_edge, mate-mate}
+use Rattle.euler_operators.proofs.Tables.{first_where_zero, zero_first_where}
+use Rattle.euler_operators.specs.Conditions.{parallel}
+use Rattle.euler_laws.proofs.shared.Loops.{some_row, apart_out}
+use Rattle.euler_laws.proofs.shared.Arcs.{halves_of_edge}
+use Rattle.euler_laws.proofs.shared.Goes.{no_zero}
+
+loop_alike : (a b : Option LoopRow) → is_some a ≡ is_some b → (is_some b ≡ true → (unwrap_or a no_loop).face ≡ (unwrap_or b no_loop).face) → (is_some b ≡ true → (unwrap_or a no_loop).content ≡ (unwrap_or b no_loop).content) → a ≡ b
+loop_alike None None s f c = refl
+loop_alike None (Some y) s f c = absurd (true≢false (sym s))
+loop_alike (Some x) None s f c = absurd (true≢false s)
+loop_alike (Some x) (Some y) s f c = let p = f refl in let q = c refl in λ i. Some (record { face = p i; content = q i })
+
+edge_alike : (a b : Option EdgeRow) → is_some a ≡ is_some b → (is_some b ≡ true → (unwrap_or a no_edge).plus_tail ≡ (unwrap_or b no_edge).plus_tail) → (is_some b ≡ true → (unwrap_or a no_edge).minus_tail ≡ (unwrap_or b no_edge).minus_tail) → a ≡ b
+edge_alike None None s f c = refl
+edge_alike None (Some y) s f c = absurd (true≢false (sym s))
+edge_alike (Some x) None s f c = absurd (true≢false s)
+edge_alike (Some x) (Some y) s f c = let p = f refl in let q = c refl in λ i. Some (record { plus_tail = p i; minus_tail = q i })
+
+-- loops that answer alike are equal
+pub same_loops : (K M : Model) → ((q : ℕ) → table.has K.loops q ≡ table.has M.loops q) → ((q : ℕ) → Has M.loops q → face_of K q ≡ face_of M q) → ((q : ℕ) → Has M.loops q → content K q ≡ content M q) → K.loops ≡ M.loops
+unfolding face_of content
+same_loops K M s f c = same_table _ _ (λ q. loop_alike (table.get K.loops q) (table.get M.loops q) (s q) (f q) (c q))
+
+plus_tail : (X : Model) (e : ℕ) → tail X (plus e) ≡ (unwrap_or (table.get X.edges e) no_edge).plus_tail
+unfolding tail
+plus_tail X e = ap (λ n. tail_in (unwrap_or (table.get X.edges n) no_edge) (is_first (plus e))) (plus_row e).0 ∙ ap (tail_in (unwrap_or (table.get X.edges e) no_edge)) (plus_row e).1
+
+minus_tail : (X : Model) (e : ℕ) → tail X (minus e) ≡ (unwrap_or (table.get X.edges e) no_edge).minus_tail
+unfolding tail
+minus_tail X e = ap (λ n. tail_in (unwrap_or (table.get X.edges n) no_edge) (is_first (minus e))) (minus_row e).0 ∙ ap (tail_in (unwrap_or (table.get X.edges e) no_edge)) (minus_row e).1
+
+-- and edges
+pub same_edges : (K M : Model) → ((e : ℕ) → table.has K.edges e ≡ table.has M.edges e) → ((x : ℕ) → HasHalf M x → tail K x ≡ tail M x) → K.edges ≡ M.edges
+same_edges K M s t = same_table _ _ (λ e. edge_alike (table.get K.edges e) (table.get M.edges e) (s e)
+    (λ there. sym (plus_tail K e) ∙ t (plus e) (ap (λ n. is_some (table.get M.edges n)) (plus_row e).0 ∙ there) ∙ plus_tail M e)
+    (λ there. sym (minus_tail K e) ∙ t (minus e) (ap (λ n. is_some (table.get M.edges n)) (minus_row e).0 ∙ there) ∙ minus_tail M e))
+
+pub same_model : (K M : Model) → K.solids ≡ M.solids → K.faces ≡ M.faces → K.loops ≡ M.loops → K.edges ≡ M.edges → K.vertices ≡ M.vertices → K ≡ M
+same_model K M a b c d e = λ i. record { solids = a i; faces = b i; loops = c i; edges = d i; vertices = e i }
+
+-- ---- lists
+
+module _ (hs : List ℕ) (d : IsApart hs) where
+  -- one taken out
+  pub taken_out : (h : ℕ) → IsIn h hs → canonical (without h hs) ≡ take_ring h hs
+  taken_out h i = canonical_same (without h hs) (rest h hs) (without-rotates h hs) (apart_out h hs d)
+
+  -- two taken out
+  pub both_out : (h m : ℕ) → IsIn h hs → IsIn m hs → h ≢ m → canonical (without m (without h hs)) ≡ kev_ring h m hs
+  both_out h m i j ne =
+      let xs : List ℕ = without h hs in
+      let ys : List ℕ = take_ring h hs in
+      let dx : IsApart xs = apart_out h hs d in
+      let mr : IsIn m (rest h hs) = IsIn_rest h m hs i j ne in
+      let r : IsRotation xs (rest h hs) = without-rotates h hs in
+      let dr : IsApart (rest h hs) = λ x. omega (arith, apart_at h hs d i x) in
+      let mx : IsIn m xs = omega (arith, same_count xs (rest h hs) r m) in
+      canonical_same (without m xs) (rest m xs) (without-rotates m xs) (apart_out m xs dx)
+      ∙ ap canonical (rest_same m xs (rest h hs) r dx mx ∙ rest_same m (rest h hs) ys (canonical-rotates (rest h hs)) dr mr)
+      ∙ sym (kev_ring_is h m hs d i j ne) where
+        same_count : (a b : List ℕ) → IsRotation a b → (x : ℕ) → count x a ≡ count x b
+        same_count a b r x = ap (count x) r.here ∙ count-append x r.front r.back ∙ (let t : count x r.front + count x r.back ≡ count x r.back + count x r.front = omega arith in t) ∙ sym (ap (count x) r.there ∙ count-append x r.back r.front)
+
+  pub put_apart : (g h : ℕ) → IsIn g hs → count h hs ≡ 0 → IsApart (insert_before g h hs)
+  put_apart g h i n x = elim (eqb_tells x h) [
+    | inl e ↦ omega (arith, count-insert_before x g h hs i, ap (λ y. count y hs) e.1, ap (tick x) (sym e.1), tick_same x)
+    | inr e ↦ omega (arith, count-insert_before x g h hs i, tick_other x h e.1, d x)
+  ]
+
+  -- one put in
+  pub put_in : (g h : ℕ) → IsIn g hs → count h hs ≡ 0 → canonical (insert_before g h hs) ≡ put_ring h g hs
+  put_in g h i n = canonical_same (insert_before g h hs) (h ∷ rotate_to g hs) (insert_before-rotates g h hs i) (put_apart g h i n)
+
+  -- two put in
+  pub both_in : (h m g k : ℕ) → IsIn g hs → IsIn k hs → h ≢ m → count h hs ≡ 0 → count m hs ≡ 0 → canonical (insert_before k m (canonical (insert_before g h hs))) ≡ mev_ring h m g k hs
+  both_in h m g k i j ne nh nm =
+      let xs : List ℕ = insert_before g h hs in
+      let ys : List ℕ = canonical xs in
+      let dx : IsApart xs = put_apart g h i nh in
+      let kx : IsIn k xs = omega (arith, count-insert_before k g h hs i) in
+      let mx : count m xs ≡ 0 = omega (arith, count-insert_before m g h hs i, tick_other m h (λ e. ne (sym e))) in
+      let dk : IsApart (insert_before k m xs) = two_apart xs dx k m kx mx in
+      sym (canonical_same (insert_before k m xs) (insert_before k m ys) (insert_before_same k m xs ys (canonical-rotates xs) dx kx mx) dk)
+      ∙ mev_ring_is h m g k hs d i j ne nh nm where
+        two_apart : (xs : List ℕ) → IsApart xs → (k m : ℕ) → IsIn k xs → count m xs ≡ 0 → IsApart (insert_before k m xs)
+        two_apart xs dx k m i n x = elim (eqb_tells x m) [
+          | inl e ↦ omega (arith, count-insert_before x k m xs i, ap (λ y. count y xs) e.1, ap (tick x) (sym e.1), tick_same x)
+          | inr e ↦ omega (arith, count-insert_before x k m xs i, tick_other x m e.1, dx x)
+        ]
+
+  tail_of : {x y : ℕ} {xs ys : List ℕ} → x ∷ xs ≡ y ∷ ys → xs ≡ ys
+  tail_of e = cc
+
+  pub split : (h m : ℕ) → IsIn h hs → IsIn m hs → h ≢ m → rest h hs ≡ between h m hs ++ m ∷ beyond h m hs
+  split h m i j ne = tail_of (sym (rotate_to_is h hs i) ∙ ring_split h m hs i j ne)
+
+  -- what follows h and m in the ring h X m Y
+  pub after_first : (h m : ℕ) → IsIn h hs → IsIn m hs → h ≢ m → successor hs h ≡ head_or m (between h m hs)
+  after_first h m i j ne = ap (head_or h) (split h m i j ne) ∙ head_in (between h m hs) m (beyond h m hs) where
+    head_in : (xs : List ℕ) (m : ℕ) (ys : List ℕ) → head_or h (xs ++ m ∷ ys) ≡ head_or m xs
+    head_in [] m ys = refl
+    head_in (x ∷ xs) m ys = refl
+
+-- ---- the two half-edges of an edge
+
+pub mate_plus : (e : ℕ) → mate (plus e) ≡ minus e
+mate_plus e = elim (same_edge (minus e) (plus e) ((minus_row e).0 ∙ sym (plus_row e).0)) [ inl q ↦ absurd (omega arith) | inr q ↦ sym q ]
+
+pub mate_minus : (e : ℕ) → mate (minus e) ≡ plus e
+mate_minus e = ap mate (sym (mate_plus e)) ∙ mate-mate (plus e)
+
+-- ---- parallel edges
+
+module _ (M : Model) (h : ℕ) where
+  abbrev meets : ℕ → EdgeRow → Bool
+  meets e row = not (nat_eq e (edge_of h)) && ((nat_eq row.plus_tail (tail M h) && nat_eq row.minus_tail (tail M (mate h))) || (nat_eq row.plus_tail (tail M (mate h)) && nat_eq row.minus_tail (tail M h)))
+
+  abbrev pub NoParallel : Type 0
+  NoParallel = (x : ℕ) → HasHalf M x → edge_of x ≢ edge_of h → tail M x ≡ tail M h → tail M (mate x) ≢ tail M (mate h)
+
+  no_meet : (e a b s t : ℕ) (row : EdgeRow) → e ≢ a → (not (nat_eq e a) && ((nat_eq row.plus_tail s && nat_eq row.minus_tail t) || (nat_eq row.plus_tail t && nat_eq row.minus_tail s))) ≡ false → row.plus_tail ≡ s → row.minus_tail ≢ t
+  no_meet e a b s t row ne f p q = grind (arith, nat_tests)
+
+  no_meet_back : (e a b s t : ℕ) (row : EdgeRow) → e ≢ a → (not (nat_eq e a) && ((nat_eq row.plus_tail s && nat_eq row.minus_tail t) || (nat_eq row.plus_tail t && nat_eq row.minus_tail s))) ≡ false → row.plus_tail ≡ t → row.minus_tail ≢ s
+  no_meet_back e a b s t row ne f p q = grind (arith, nat_tests)
+
+  never_meets : (e a s t : ℕ) (row : EdgeRow) → (e ≢ a → row.plus_tail ≡ s → row.minus_tail ≢ t) → (e ≢ a → row.plus_tail ≡ t → row.minus_tail ≢ s) → (not (nat_eq e a) && ((nat_eq row.plus_tail s && nat_eq row.minus_tail t) || (nat_eq row.plus_tail t && nat_eq row.minus_tail s))) ≡ false
+  never_meets e a s t row x y = grind (arith, nat_tests)
+
+  tails_in : (e : ℕ) (row : EdgeRow) → table.get M.edges e ≡ Some row → (tail M (plus e) ≡ row.plus_tail) × (tail M (minus e) ≡ row.minus_tail)
+  tails_in e row at = (plus_tail M e ∙ ap (λ o. (unwrap_or o no_edge).plus_tail) at, minus_tail M e ∙ ap (λ o. (unwrap_or o no_edge).minus_tail) at)
+
+  -- no other edge has the ends of h's
+  pub parallel_none : NoParallel → parallel M h ≡ 0
+  parallel_none n = first_where_zero meets M.edges (λ e row at.
+      let t = tails_in e row at in
+      never_meets e (edge_of h) (tail M h) (tail M (mate h)) row
+      (λ a p q. n (plus e) (ap is_some (ap (table.get M.edges) (plus_row e).0 ∙ at)) (λ s. a (sym (plus_row e).0 ∙ s)) (t.0 ∙ p) (ap (tail M) (mate_plus e) ∙ t.1 ∙ q))
+      (λ a p q. n (minus e) (ap is_some (ap (table.get M.edges) (minus_row e).0 ∙ at)) (λ s. a (sym (minus_row e).0 ∙ s)) (t.1 ∙ q) (ap (tail M) (mate_minus e) ∙ t.0 ∙ p)))
+
+  pub none_parallel : ((e : ℕ) → Has M.edges e → IsTrue (is_number e)) → parallel M h ≡ 0 → NoParallel
+  none_parallel fit z x there ne a b =
+      let w = some_row (table.get M.edges (edge_of x)) there in
+      let t = tails_in (edge_of x) w.0 w.1 in
+      let f = zero_first_where meets M.edges (λ e row at s. no_zero e s (fit e (ap is_some at))) z (edge_of x) w.0 w.1 in
+      elim (halves_of_edge x) [
+        | inl p ↦ no_meet (edge_of x) (edge_of h) 0 (tail M h) (tail M (mate h)) w.0 ne f
+            (sym t.0 ∙ ap (tail M) (sym p.0) ∙ a)
+            (sym t.1 ∙ ap (tail M) (sym (ap mate p.0 ∙ mate_plus (edge_of x))) ∙ b)
+        | inr p ↦ no_meet_back (edge_of x) (edge_of h) 0 (tail M h) (tail M (mate h)) w.0 ne f
+            (sym t.0 ∙ ap (tail M) (sym (ap mate p.0 ∙ mate_minus (edge_of x))) ∙ b)
+            (sym t.1 ∙ ap (tail M) (sym p.0) ∙ a)
+      ]

@@ -1,9 +1,0 @@
-pub mod KevSound
-pub mod MevLone
-pub mod MevUndo
-pub mod KevUndo
-pub mod KevBare
-pub mod Kev
-pub use Rattle.euler_laws_mev.proofs.Mev
-pub use Rattle.euler_laws_mev.proofs.MevLoneSound
-pub use Rattle.euler_laws_mev.proofs.MevSound

@@ -1,2 +1,0 @@
-//! The operator mev keeps a sound model sound.
-#![tactic(auto)]

@@ -1,5 +1,0 @@
-use Rattle.face_sides.proofs.Final.{loops_lie, none_straddles}
-use Rattle.face_sides.proofs.faces_lie_on_one_side.Goals as goal
-
-pub returns : goal.returns
-returns c = record { loops = loops_lie; faces = none_straddles }

@@ -1,3 +1,0 @@
-//! Lemmas of larger commands: tables to which rows are added at fresh numbers, conditions by search, and numbers that are
-//! left.
-#![tactic(auto)]

@@ -1,5 +1,0 @@
-use Rattle.glue_laws.proofs.Accepted.{glue_accepted, glue_is_glued, glued_sound}
-use Rattle.glue_laws.proofs.glues_make_glued.Goals as goal
-
-pub returns : goal.returns
-returns c = record { accepted = glue_accepted; made = glue_is_glued; sound = glued_sound }

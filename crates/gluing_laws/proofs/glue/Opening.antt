@@ -1,0 +1,476 @@
+-- The first four operators of a glue: the solids become one, and the two loops one loop.
+use Rattle.std.proofs.Common.{◌≡◌, ◌≢◌, ℕ, true, false, cond, nat_eq, Bool, ◌||◌, List, [], ◌∷◌, ◌++◌, Option, Some, None, is_some, unwrap_or, refl, sym, ap, ◌∙◌, subst, arith, true≢false}
+use Rattle.std.specs.Prelude.{map, reverse}
+use Rattle.std.specs.Option.{option_map}
+use Rattle.std.proofs.lemmas.Bool.Decides.{nat_tests}
+use Rattle.std.proofs.lemmas.List.{map-append, reverse-append}
+use Rattle.cyclic_list.specs.Items.{count, IsIn, IsApart, before, after}
+use Rattle.cyclic_list.specs.Rings.{canonical, rest, successor}
+use Rattle.cyclic_list.specs.Edits.{without}
+use Rattle.cyclic_list.proofs.Lists.{count-append, tick_same, before_at, after_at}
+use Rattle.cyclic_list.proofs.Rotations.{canonical_same, count-canonical, canonical-rotates, IsApart-canonical}
+use Rattle.cyclic_list.proofs.Rings.{successor_inner, successor_same}
+use Rattle.cyclic_list.proofs.Cuts.{rest_canonical}
+use Rattle.boundary_model.specs.HalfEdge.{mate, edge_of, half, plus, minus}
+use Rattle.boundary_model.specs.Table as table
+use Rattle.boundary_model.specs.Table.{Table, tables, same_table, get-map_rows}
+use Rattle.boundary_model.specs.declared.Corner.TheVariants.{At}
+use Rattle.boundary_model.specs.Model.{Model, FaceRow, LoopRow, EdgeRow, lone, cycle, LoopContent, items_of, holds, tail, tail_in, loop_of, content, face_of, solid_of, outer, cycle_of, no_face, is_number}
+use Rattle.boundary_model.specs.Model as model
+use Rattle.boundary_model.specs.Sound.{Sound, Has, HasHalf}
+use Rattle.boundary_model.proofs.Halves.{code-half, plus_row, minus_row, edge_of-mate}
+use Rattle.boundary_model.proofs.Tables.{map-put, map_same, map_one, remove-put}
+use Rattle.boundary_model.proofs.Models.{content_row, face_row, tail_row, in-holds, holds-none, not_held}
+use Rattle.euler_operators.specs.declared.Op.TheVariants.{Kev, Mekr, Kfmrh, Merge}
+use Rattle.euler_operators.specs.Conditions.{first_false}
+use Rattle.euler_operators.specs.Effect.{effect, merge, kfmrh, mekr, kev, faces_to_solid, loop_to_face, moved_tail, edge_row}
+use Rattle.euler_laws.proofs.shared.Undo.{mate_plus, both_out}
+use Rattle.euler_laws.proofs.shared.Rows.{face_there}
+use Rattle.euler_laws.proofs.shared.Goes.{equals, differs}
+use Rattle.euler_laws.proofs.merge.Merge.{MergeGoes, merge_accepted}
+use Rattle.euler_laws.proofs.faces.Kfmrh.{KillGoes, kfmrh_accepted}
+use Rattle.euler_laws.proofs.kemr.Kemr.{CornerAt, corner_here, MekrGoes, mekr_accepted}
+use Rattle.euler_laws.proofs.kev.KevSound.{KevGoes}
+use Rattle.euler_laws.proofs.kev.Kev.{kev_accepted}
+use Rattle.euler_laws.proofs.kev.MevUndo.{as_cycle}
+use Rattle.euler_laws.specs.Laws.{effects, AreAccepted}
+use Rattle.euler_laws.proofs.Cases.{effect_keeps_sound}
+use Rattle.shapes.proofs.fresh.Rows.{get-put_here, get-put_other}
+use Rattle.sweeps_laws.proofs.prism.Steps.{Around, half_is, loop_is, cycle_is, apart_xs, edge_plus, row_plus}
+use Rattle.shapes.specs.Rewriting.{rewritten, rewritten_row, renamed}
+use Rattle.shapes.specs.glue.Glue.{renamed_tails}
+use Rattle.shapes.specs.glue.GlueOps.{opening}
+use Rattle.shapes.specs.glue.Part.{paired, seam, glued_part}
+use Rattle.shapes.proofs.glue.Renamings.{renamed_more}
+use Rattle.shapes.proofs.glue.Swapped.{map_agree, map_removed}
+use Rattle.shapes.proofs.glue.Facing as facing
+use Rattle.shapes.proofs.glue.Facing.{Facing, side}
+use Rattle.gluing_laws.proofs.glue.Round.{out_edge, out_here, out_none, same_edge_row}
+
+same_items : (cs : List ℕ) → map (renamed []) cs ≡ cs
+same_items [] = refl
+same_items (c ∷ cs) = ap (λ t. c ∷ t) (same_items cs)
+
+abbrev solid_in : FaceRow → ℕ
+solid_in row = row.solid
+
+abbrev outer_in : FaceRow → ℕ
+outer_in row = row.outer
+
+first_item : {a b : ℕ} {xs ys : List ℕ} → a ∷ xs ≡ b ∷ ys → b ≡ a
+first_item e = cc
+
+module _ (M : Model) (f g : ℕ) (partner_of : ℕ → ℕ) (h : ℕ) (mid : List ℕ) (last x : ℕ) (w : Facing M f g partner_of (h ∷ (mid ++ last ∷ [])) x) where
+  abbrev hs : List ℕ
+  hs = h ∷ (mid ++ last ∷ [])
+
+  abbrev s : ℕ
+  s = solid_of M f
+
+  abbrev t : ℕ
+  t = solid_of M g
+
+  abbrev l : ℕ
+  l = outer M f
+
+  abbrev r : ℕ
+  r = outer M g
+
+  abbrev k : ℕ
+  k = partner_of last
+
+  abbrev rs : List ℕ
+  rs = reverse (map partner_of hs)
+
+  abbrev back : List ℕ
+  back = reverse (map partner_of (h ∷ mid))
+
+  rs_are : rs ≡ k ∷ back
+  rs_are = ap reverse (map-append partner_of (h ∷ mid) (last ∷ [])) ∙ reverse-append (map partner_of (h ∷ mid)) (k ∷ [])
+
+  h_in : IsIn h hs
+  h_in = omega (arith, tick_same h)
+
+  last_in : IsIn last hs
+  last_in = omega (arith, count-append last (h ∷ mid) (last ∷ []), tick_same last)
+
+  -- ---- Merge and kfmrh
+
+  abbrev to_s : ℕ → FaceRow → FaceRow
+  to_s = faces_to_solid (λ _ row. nat_eq row.solid t) s
+
+  merge_goes : MergeGoes M s t
+  merge_goes = record { s_there = w.sound.faces_of_solids f w.f_there; t_there = w.sound.faces_of_solids g w.g_there; apart = w.solids_apart }
+
+  merge_ok : first_false M (Merge s t) ≡ None
+  merge_ok = merge_accepted M s t w.sound merge_goes
+
+  abbrev M1 : Model
+  M1 = record M { solids = table.remove M.solids t; faces = table.map_rows to_s M.faces }
+
+  M1_is : effect M (Merge s t) ≡ M1
+  unfolding effect merge
+  M1_is = refl
+
+  sound_1 : Sound M1
+  sound_1 = subst Sound M1_is (effect_keeps_sound M (Merge s t) w.sound merge_ok)
+
+  face_1 : (n : ℕ) → Has M.faces n → table.get M1.faces n ≡ Some (to_s n (record { solid = solid_of M n; outer = outer M n }))
+  face_1 n there = get-map_rows to_s M.faces n ∙ ap (option_map (to_s n)) (face_there M n there)
+
+  moved_outer : (b : Bool) (a c : ℕ) → outer_in (cond b (record { solid = s; outer = c }) (record { solid = a; outer = c })) ≡ c
+  moved_outer true a c = refl
+  moved_outer false a c = refl
+
+  outer_1 : (n : ℕ) → Has M.faces n → outer M1 n ≡ outer M n
+  unfolding outer
+  outer_1 n there = ap (λ o. (unwrap_or o no_face).outer) (face_1 n there) ∙ moved_outer (nat_eq (solid_of M n) t) (solid_of M n) (outer M n)
+
+  moved_s : (a c : ℕ) → (a ≡ s) → solid_in (cond (nat_eq a t) (record { solid = s; outer = c }) (record { solid = a; outer = c })) ≡ s
+  moved_s a c e = elim (nat_eq a t) as (λ b. solid_in (cond b (record { solid = s; outer = c }) (record { solid = a; outer = c })) ≡ s) [ true ↦ refl | false ↦ e ]
+
+  moved_t : (a c : ℕ) → (a ≡ t) → solid_in (cond (nat_eq a t) (record { solid = s; outer = c }) (record { solid = a; outer = c })) ≡ s
+  moved_t a c e = ap (λ b. solid_in (cond b (record { solid = s; outer = c }) (record { solid = a; outer = c }))) (equals a t e)
+
+  solid_f1 : solid_of M1 f ≡ s
+  unfolding solid_of
+  solid_f1 = ap (λ o. (unwrap_or o no_face).solid) (face_1 f w.f_there) ∙ moved_s (solid_of M f) l refl
+
+  solid_g1 : solid_of M1 g ≡ s
+  unfolding solid_of
+  solid_g1 = ap (λ o. (unwrap_or o no_face).solid) (face_1 g w.g_there) ∙ moved_t (solid_of M g) r refl
+
+  same_face : (q : ℕ) → face_of M1 q ≡ face_of M q
+  unfolding face_of
+  same_face q = refl
+
+  kfmrh_goes : KillGoes M1 f g
+  kfmrh_goes = record {
+    f_there = ap is_some (face_1 f w.f_there);
+    g_there = ap is_some (face_1 g w.g_there);
+    apart = facing.faces_apart M f g partner_of hs x w;
+    one_solid = solid_f1 ∙ sym solid_g1;
+    no_rings = λ q there is. outer_1 g w.g_there ∙ w.alone_g q there (sym (same_face q) ∙ is);
+  }
+
+  kfmrh_ok : first_false M1 (Kfmrh f g) ≡ None
+  kfmrh_ok = kfmrh_accepted M1 f g sound_1 kfmrh_goes
+
+  abbrev row_r : LoopRow
+  row_r = record { face = f; content = cycle (canonical rs) }
+
+  abbrev A : Model
+  A = record M {
+    solids = table.remove M.solids t;
+    faces = table.remove (table.map_rows to_s M.faces) g;
+    loops = table.put M.loops r row_r;
+  }
+
+  to_f : table.map_rows (loop_to_face r f) M.loops ≡ table.put M.loops r row_r
+  to_f = map_one (loop_to_face r f) M.loops r (record { face = g; content = cycle (canonical rs) }) w.second (λ q row ne at. ap (λ b. cond b (record row { face = f }) row) (differs q r ne))
+      ∙ ap (table.put M.loops r) (ap (λ b. cond b row_r (record { face = g; content = cycle (canonical rs) })) (equals r r refl))
+
+  A_is : effect M1 (Kfmrh f g) ≡ A
+  unfolding effect kfmrh
+  A_is = λ i. record M1 { faces = table.remove (table.map_rows to_s M.faces) g; loops = ((λ j. table.map_rows (loop_to_face (outer_1 g w.g_there j) f) M.loops) ∙ to_f) i }
+
+  sound_A : Sound A
+  sound_A = subst Sound A_is (effect_keeps_sound M1 (Kfmrh f g) sound_1 kfmrh_ok)
+
+  -- ---- mekr
+
+  l_r : l ≢ r
+  l_r = facing.loops_apart M f g partner_of hs x w
+
+  from_least : canonical hs ≡ hs
+  from_least = (w.sound.cycles l hs (ap is_some w.first) (facing.content_f M f g partner_of hs x w)).from_least
+
+  around_l : Around A l f hs
+  around_l = record { sound = sound_A; at = get-put_other M.loops r row_r l l_r ∙ w.first ∙ ap (λ q. Some (record { face = f; content = cycle q })) (sym from_least) }
+
+  around_r : Around A r f (k ∷ back)
+  around_r = record { sound = sound_A; at = get-put_here M.loops r row_r ∙ ap (λ q. Some (record { face = f; content = cycle (canonical q) })) rs_are }
+
+  tail_A : (y : ℕ) → tail A y ≡ tail M y
+  tail_A y = same_edge_row A M y refl
+
+  first_corner : CornerAt A (At (half h)) l (tail M h) hs
+  first_corner = corner_here A sound_A hs l (tail M h) (content_row A l _ around_l.at) (ap is_some around_l.at) (apart_xs A l f hs around_l)
+      (λ y i. (loop_is A l f hs around_l y i, half_is A l f hs around_l y i)) (λ y ys e. tail_A y ∙ ap (tail M) (first_item e))
+
+  second_corner : CornerAt A (At (half k)) r (tail M k) (k ∷ back)
+  second_corner = corner_here A sound_A (k ∷ back) r (tail M k) (content_row A r _ around_r.at) (ap is_some around_r.at) (apart_xs A r f (k ∷ back) around_r)
+      (λ y i. (loop_is A r f (k ∷ back) around_r y i, half_is A r f (k ∷ back) around_r y i)) (λ y ys e. tail_A y ∙ ap (tail M) (first_item e))
+
+  face_A : table.get A.faces f ≡ table.get M1.faces f
+  face_A = removed (facing.faces_apart M f g partner_of hs x w) where
+    removed : f ≢ g → table.get (table.remove M1.faces g) f ≡ table.get M1.faces f
+    removed ne = grind (arith, nat_tests, tables)
+
+  outer_A : outer A f ≡ l
+  unfolding outer
+  outer_A = ap (λ o. (unwrap_or o no_face).outer) face_A ∙ outer_1 f w.f_there
+
+  face_l : face_of A l ≡ f
+  face_l = face_row A l _ around_l.at
+
+  face_r : face_of A r ≡ f
+  face_r = face_row A r _ around_r.at
+
+  mekr_goes : MekrGoes A (At (half h)) (At (half k)) (plus x) l r (tail M h) (tail M k) hs (k ∷ back)
+  mekr_goes = record {
+    first = first_corner;
+    second = second_corner;
+    edge_free = ap (table.get M.edges) (edge_plus x) ∙ w.edge_free;
+    edge_fits = ap is_number (edge_plus x) ∙ w.edge_fits;
+    loops_apart = l_r;
+    one_face = face_l ∙ sym face_r;
+    ring_there = ap is_some around_r.at;
+    no_outer = λ e. l_r (sym outer_A ∙ ap (outer A) (sym face_r) ∙ e);
+    ends_apart = λ e. facing.never_met M f g partner_of hs x w last h last_in h_in (sym e);
+  }
+
+  mekr_ok : first_false A (Mekr (At (half h)) (At (half k)) (half (plus x))) ≡ None
+  mekr_ok = mekr_accepted A (At (half h)) (At (half k)) (half (plus x)) l r (tail M h) (tail M k) hs (k ∷ back)
+      (subst (λ c. MekrGoes A (At (half h)) (At (half k)) c l r (tail M h) (tail M k) hs (k ∷ back)) (sym (code-half (plus x))) mekr_goes)
+
+  abbrev zs : List ℕ
+  zs = plus x ∷ rs ++ minus x ∷ hs
+
+  abbrev new_edge : EdgeRow
+  new_edge = record { plus_tail = tail M h; minus_tail = tail M k }
+
+  abbrev B : Model
+  B = record A {
+    loops = table.remove (table.put A.loops l (record { face = f; content = cycle (canonical zs) })) r;
+    edges = table.put M.edges x new_edge;
+  }
+
+  mekr_is : mekr A (At (half h)) (At (half k)) (plus x) ≡ B
+  unfolding mekr
+  mekr_is = λ i. record A {
+    loops = table.remove (table.put A.loops (first_corner.loop i) (record {
+      face = (ap (face_of A) first_corner.loop ∙ face_l) i;
+      content = cycle (canonical (plus x ∷ (second_corner.list ∙ sym rs_are) i ++ mate_plus x i ∷ first_corner.list i));
+    })) (second_corner.loop i);
+    edges = table.put M.edges (edge_plus x i) (((λ j. edge_row (plus x) (first_corner.vertex j) (second_corner.vertex j)) ∙ row_plus x (tail M h) (tail M k)) i);
+  }
+
+  B_is : effect A (Mekr (At (half h)) (At (half k)) (half (plus x))) ≡ B
+  unfolding effect
+  B_is = ap (mekr A (At (half h)) (At (half k))) (code-half (plus x)) ∙ mekr_is
+
+  sound_B : Sound B
+  sound_B = subst Sound B_is (effect_keeps_sound A (Mekr (At (half h)) (At (half k)) (half (plus x))) sound_A mekr_ok)
+
+  -- ---- kev
+
+  kept_row : {Y : Type 0} (u : Table Y) (a b : ℕ) (v : Y) → a ≢ b → table.get (table.remove (table.put u a v) b) a ≡ Some v
+  kept_row u a b v ne = grind (arith, nat_tests, tables)
+
+  around_B : Around B l f zs
+  around_B = record { sound = sound_B; at = kept_row A.loops l r _ l_r }
+
+  plus_in : IsIn (plus x) zs
+  plus_in = omega (arith, tick_same (plus x))
+
+  minus_in : IsIn (minus x) zs
+  minus_in = omega (arith, count-append (minus x) (plus x ∷ rs) (minus x ∷ hs), tick_same (minus x))
+
+  apart_zs : IsApart zs
+  apart_zs = apart_xs B l f zs around_B
+
+  minus_once : (count (minus x) rs ≡ 0) × (count (minus x) (plus x ∷ rs) ≡ 0)
+  minus_once =
+      let a = apart_zs (minus x) in
+      (omega (arith, a, count-append (minus x) (plus x ∷ rs) (minus x ∷ hs), tick_same (minus x)), omega (arith, a, count-append (minus x) (plus x ∷ rs) (minus x ∷ hs), tick_same (minus x)))
+
+  B_edge : table.get B.edges x ≡ Some new_edge
+  B_edge = get-put_here M.edges x new_edge
+
+  B_other : (y : ℕ) → edge_of y ≢ x → table.get B.edges (edge_of y) ≡ table.get M.edges (edge_of y)
+  B_other y ne = get-put_other M.edges x new_edge (edge_of y) ne
+
+  B_plus : tail B (plus x) ≡ tail M h
+  B_plus = tail_row B (plus x) new_edge (ap (table.get B.edges) (plus_row x).0 ∙ B_edge) ∙ ap (tail_in new_edge) (plus_row x).1
+
+  B_minus : tail B (minus x) ≡ tail M k
+  B_minus = tail_row B (minus x) new_edge (ap (table.get B.edges) (minus_row x).0 ∙ B_edge) ∙ ap (tail_in new_edge) (minus_row x).1
+
+  after_minus : model.after B (minus x) ≡ h
+  unfolding model.after
+  after_minus = ap (λ q. successor q (minus x)) (cycle_is B l f zs around_B (minus x) minus_in)
+      ∙ sym (successor_same (minus x) zs (canonical zs) (canonical-rotates zs) apart_zs minus_in)
+      ∙ successor_inner (minus x) h (plus x ∷ rs) (mid ++ last ∷ []) minus_once.1
+
+  kev_goes : KevGoes B (plus x)
+  kev_goes = record {
+    h_there = half_is B l f zs around_B (plus x) plus_in;
+    no_parallel = λ y there ne a b.
+        let other : edge_of y ≢ x = λ e. ne (e ∙ sym (plus_row x).0) in
+        let other_m : edge_of (mate y) ≢ x = λ e. other (sym (edge_of-mate y) ∙ e) in
+        let y_M : HasHalf M y = ap is_some (sym (B_other y other)) ∙ there in
+        let at_h : tail M h ≡ tail M y = sym B_plus ∙ sym a ∙ same_edge_row B M y (B_other y other) in
+        let at_k : tail M k ≡ tail M (mate y) = sym B_minus ∙ ap (tail B) (sym (mate_plus x)) ∙ sym b ∙ same_edge_row B M (mate y) (B_other (mate y) other_m) in
+        w.solids_apart (sym (facing.side_f M f g partner_of hs x w h h_in)
+        ∙ sym (facing.side_vertex M f g partner_of hs x w h y (facing.half_f M f g partner_of hs x w h h_in) y_M at_h)
+        ∙ sym (facing.side_mate M f g partner_of hs x w y y_M)
+        ∙ facing.side_vertex M f g partner_of hs x w k (mate y) (facing.half_g M f g partner_of hs x w last last_in) (facing.mate_there M f g partner_of hs x w y y_M) at_k
+        ∙ facing.side_g M f g partner_of hs x w last last_in);
+    not_bare = λ e.
+        let is : h ≡ plus x = sym after_minus ∙ ap (model.after B) (sym (mate_plus x)) ∙ e in
+        absurd (true≢false (sym (facing.half_f M f g partner_of hs x w h h_in) ∙ ap (λ q. is_some (table.get M.edges q)) (ap edge_of is ∙ (plus_row x).0) ∙ ap is_some w.edge_free));
+  }
+
+  kev_ok : first_false B (Kev (half (plus x))) ≡ None
+  kev_ok = kev_accepted B (half (plus x)) sound_B (subst (KevGoes B) (sym (code-half (plus x))) kev_goes)
+
+  abbrev row_l : LoopRow
+  row_l = record { face = f; content = cycle (canonical (seam partner_of hs)) }
+
+  none_x : (y q : ℕ) (row : LoopRow) → edge_of y ≡ x → table.get A.loops q ≡ Some row → count y (items_of row.content) ≡ 0
+  none_x y q row e at = not_held A sound_A y (ap (table.get M.edges) e ∙ w.edge_free) q row at
+
+  joined_items : canonical (without (minus x) (without (plus x) (canonical zs))) ≡ canonical (seam partner_of hs)
+  joined_items =
+      let rest_is : rest (plus x) (canonical zs) ≡ rs ++ minus x ∷ hs = rest_canonical (plus x) (rs ++ minus x ∷ hs) apart_zs in
+      both_out (canonical zs) (IsApart-canonical zs apart_zs) (plus x) (minus x) (omega (arith, plus_in, count-canonical (plus x) zs)) (omega (arith, minus_in, count-canonical (minus x) zs)) (λ e. omega (arith, e))
+      ∙ (λ i. canonical ((ap (before (minus x)) rest_is ∙ before_at (minus x) rs hs minus_once.0) i ++ (ap (after (minus x)) rest_is ∙ after_at (minus x) rs hs minus_once.0) i))
+      ∙ canonical_same (rs ++ hs) (seam partner_of hs) (record { front = rs; back = hs; here = refl; there = refl })
+      (λ y. omega (arith, apart_zs y, count-append y (plus x ∷ rs) (minus x ∷ hs), count-append y rs hs))
+
+  some_items : canonical (seam partner_of hs) ≢ []
+  some_items e = let z : count h (canonical (seam partner_of hs)) ≡ 0 = ap (count h) e in omega (arith, z, count-canonical h (seam partner_of hs), count-append h hs rs, h_in)
+
+  out_l : out_edge (plus x) (minus x) (tail M h) l (record { face = f; content = cycle (canonical zs) }) ≡ row_l
+  out_l = out_here (plus x) (minus x) (tail M h) l f (cycle (canonical zs)) (cycle (canonical (seam partner_of hs)))
+      (ap (λ b. b || holds (minus x) (cycle (canonical zs))) (in-holds (plus x) (cycle (canonical zs)) (omega (arith, plus_in, count-canonical (plus x) zs))))
+      (as_cycle (without (minus x) (without (plus x) (canonical zs))) (canonical (seam partner_of hs)) (tail M h) joined_items some_items)
+
+  abbrev C : Model
+  C = record A {
+    loops = table.remove (table.put A.loops l row_l) r;
+    edges = table.map_rows (moved_tail (tail M k) (tail M h)) M.edges;
+    vertices = table.remove M.vertices (tail M k);
+  }
+
+  C_loops : table.map_rows (out_edge (plus x) (minus x) (tail M h)) B.loops ≡ C.loops
+  C_loops = map_removed (out_edge (plus x) (minus x) (tail M h)) (table.put A.loops l (record { face = f; content = cycle (canonical zs) })) r
+      ∙ ap (λ u. table.remove u r) (map-put (out_edge (plus x) (minus x) (tail M h)) A.loops l (record { face = f; content = cycle (canonical zs) })
+      ∙ (λ j. table.put (map_same (out_edge (plus x) (minus x) (tail M h)) A.loops (λ q row at. out_none (plus x) (minus x) (tail M h) q row
+      (holds-none (plus x) row.content (none_x (plus x) q row (plus_row x).0 at)) (holds-none (minus x) row.content (none_x (minus x) q row (minus_row x).0 at))) j) l (out_l j)))
+
+  tail_mate : tail B (mate (plus x)) ≡ tail M k
+  tail_mate = ap (tail B) (mate_plus x) ∙ B_minus
+
+  kev_is : kev B (plus x) ≡ C
+  unfolding kev
+  kev_is = λ i. record B {
+    loops = ((λ j. table.map_rows (out_edge (plus x) (mate_plus x j) (B_plus j)) B.loops) ∙ C_loops) i;
+    edges = table.map_rows (moved_tail (tail_mate i) (B_plus i)) ((ap (table.remove B.edges) (plus_row x).0 ∙ remove-put M.edges x new_edge w.edge_free) i);
+    vertices = table.remove M.vertices (tail_mate i);
+  }
+
+  C_is : effect B (Kev (half (plus x))) ≡ C
+  unfolding effect
+  C_is = ap (kev B) (code-half (plus x)) ∙ kev_is
+
+  -- ---- the model then
+
+  abbrev X : Model
+  X = glued_part M f g partner_of last [] hs
+
+  abbrev kept : Table LoopRow
+  kept = table.remove (table.remove M.loops l) r
+
+  kept_there : (q : ℕ) (row : LoopRow) → table.get kept q ≡ Some row → table.get M.loops q ≡ Some row
+  kept_there q row at = from (table.get M.loops q) (is q) at where
+    is : (q : ℕ) → table.get kept q ≡ cond (nat_eq q r) None (cond (nat_eq q l) None (table.get M.loops q))
+    is q = grind (arith, nat_tests, tables)
+
+    from : (o : Option LoopRow) → table.get kept q ≡ cond (nat_eq q r) None (cond (nat_eq q l) None o) → table.get kept q ≡ Some row → o ≡ Some row
+    from o e a = go (nat_eq q r) (nat_eq q l) (sym e ∙ a) where
+      go : (b c : Bool) → cond b None (cond c None o) ≡ Some row → o ≡ Some row
+      go true c z = absurd (true≢false (sym (ap is_some z)))
+      go false true z = absurd (true≢false (sym (ap is_some z)))
+      go false false z = z
+
+  same_row : (q : ℕ) (row : LoopRow) → table.get M.loops q ≡ Some row → rewritten_row (map (renamed [])) q row ≡ row
+  same_row q row at = ap (λ c. record { face = row.face; content = c }) (on row.content (content_row M q row at)) where
+    on : (c : LoopContent) → content M q ≡ c → rewritten (map (renamed [])) c ≡ c
+    on (lone v) e = refl
+    on (cycle cs) e = ap cycle (ap canonical (same_items cs) ∙ (w.sound.cycles q cs (ap is_some at) e).from_least)
+
+  put_kept : {Y : Type 0} (u : Table Y) (a b : ℕ) (v z : Y) → a ≢ b → table.remove (table.put (table.put u b v) a z) b ≡ table.put (table.remove (table.remove u a) b) a z
+  put_kept u a b v z ne = same_table _ _ (λ n. grind (arith, nat_tests, tables))
+
+  X_loops : table.put (table.map_rows (rewritten_row (map (renamed []))) kept) l row_l ≡ X.loops
+  unfolding glued_part
+  X_loops = refl
+
+  loops_then : C.loops ≡ X.loops
+  loops_then = put_kept M.loops l r row_r row_l l_r ∙ ap (λ u. table.put u l row_l) (sym (map_same (rewritten_row (map (renamed []))) kept (λ q row at. same_row q row (kept_there q row at)))) ∙ X_loops
+
+  meets : tail M h ≡ tail M (mate last)
+  meets = facing.meets_round M f g partner_of hs x w h mid last refl
+
+  abbrev tail_from : ℕ → ℕ
+  tail_from j = tail M (partner_of j)
+
+  abbrev tail_to : ℕ → ℕ
+  tail_to j = tail M (mate j)
+
+  move_on : (u : ℕ) → cond (nat_eq u (tail M k)) (tail M h) u ≡ renamed (paired tail_from tail_to (last ∷ [])) u
+  move_on u = ap (λ v. cond (nat_eq u (tail M k)) v u) meets ∙ sym (renamed_more tail_from tail_to [] last (λ j i. absurd (omega (arith, i))) u)
+
+  X_edges : table.map_rows (renamed_tails (paired tail_from tail_to (last ∷ []))) M.edges ≡ X.edges
+  unfolding glued_part
+  X_edges = refl
+
+  edges_then : C.edges ≡ X.edges
+  edges_then = map_agree (moved_tail (tail M k) (tail M h)) (renamed_tails (paired tail_from tail_to (last ∷ []))) M.edges
+      (λ e row. λ i. record { plus_tail = move_on row.plus_tail i; minus_tail = move_on row.minus_tail i }) ∙ X_edges
+
+  X_faces : table.map_rows to_s (table.remove M.faces g) ≡ X.faces
+  unfolding glued_part
+  X_faces = refl
+
+  faces_then : C.faces ≡ X.faces
+  faces_then = sym (map_removed to_s M.faces g) ∙ X_faces
+
+  vertices_then : C.vertices ≡ X.vertices
+  unfolding glued_part
+  vertices_then = refl
+
+  solids_then : C.solids ≡ X.solids
+  unfolding glued_part
+  solids_then = refl
+
+  C_X : C ≡ X
+  C_X = λ i. record { solids = solids_then i; faces = faces_then i; loops = loops_then i; edges = edges_then i; vertices = vertices_then i }
+
+  -- the four operators are accepted, and then no item is glued yet but the end of the last one
+  pub opening_accepted : AreAccepted M (opening M f g h k x)
+  opening_accepted = (
+    merge_ok,
+    (
+      subst (λ Y. first_false Y (Kfmrh f g) ≡ None) (sym M1_is) kfmrh_ok,
+      (
+        subst (λ Y. first_false (effect Y (Kfmrh f g)) (Mekr (At (half h)) (At (half k)) (half (plus x))) ≡ None) (sym M1_is)
+            (subst (λ Y. first_false Y (Mekr (At (half h)) (At (half k)) (half (plus x))) ≡ None) (sym A_is) mekr_ok),
+        (
+          subst (λ Y. first_false (effect (effect Y (Kfmrh f g)) (Mekr (At (half h)) (At (half k)) (half (plus x)))) (Kev (half (plus x))) ≡ None) (sym M1_is)
+              (subst (λ Y. first_false (effect Y (Mekr (At (half h)) (At (half k)) (half (plus x)))) (Kev (half (plus x))) ≡ None) (sym A_is)
+              (subst (λ Y. first_false Y (Kev (half (plus x))) ≡ None) (sym B_is) kev_ok)),
+          tt,
+        ),
+      ),
+    ),
+  )
+
+  pub opening_is : effects M (opening M f g h k x) ≡ X
+  opening_is =
+      ap (λ Y. effect (effect (effect Y (Kfmrh f g)) (Mekr (At (half h)) (At (half k)) (half (plus x)))) (Kev (half (plus x)))) M1_is
+      ∙ ap (λ Y. effect (effect Y (Mekr (At (half h)) (At (half k)) (half (plus x)))) (Kev (half (plus x)))) A_is
+      ∙ ap (λ Y. effect Y (Kev (half (plus x)))) B_is
+      ∙ C_is ∙ C_X

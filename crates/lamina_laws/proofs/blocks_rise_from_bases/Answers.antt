@@ -1,5 +1,0 @@
-use Rattle.lamina_laws.proofs.Blocks.{blocks_have_bases, bases_rise}
-use Rattle.lamina_laws.proofs.blocks_rise_from_bases.Goals as goal
-
-pub returns : goal.returns
-returns c = record { base = blocks_have_bases; rise = bases_rise }

@@ -1,2 +1,0 @@
-//! Normals, planes and volumes of models, as definitions.
-#![tactic(auto)]

@@ -1,5 +1,0 @@
-use Rattle.opened_sections.proofs.Capping.{caps_stay, caps_rise}
-use Rattle.opened_sections.proofs.caps_have_no_rings.Goals as goal
-
-pub returns : goal.returns
-returns c = record { next = caps_stay; all = caps_rise }

@@ -1,5 +1,0 @@
-use Rattle.opened_sections.proofs.InTurn.{can_be_opened, others_on, all_on, none_torn}
-use Rattle.opened_sections.proofs.cycles_open_in_turn.Goals as goal
-
-pub returns : goal.returns
-returns c = record { first = can_be_opened; others = others_on; all = all_on; parted = none_torn }

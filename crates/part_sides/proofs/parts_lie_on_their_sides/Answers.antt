@@ -1,6 +1,0 @@
-use Rattle.part_sides.proofs.Begun.{begun_sided}
-use Rattle.part_sides.proofs.Sides.{openings_sided, parts_sided}
-use Rattle.part_sides.proofs.parts_lie_on_their_sides.Goals as goal
-
-pub returns : goal.returns
-returns c = record { drawn = begun_sided; opened = openings_sided; parts = parts_sided }

@@ -1,0 +1,422 @@
+-- What it says that a glue isn't refused.
+use Rattle.std.proofs.Common.{◌≡◌, ◌≢◌, ℕ, suc, ◌≤◌, Bool, true, false, not, nat_eq, ◌&&◌, ◌||◌, List, [], ◌∷◌, ◌++◌, length, Some, None, is_some, refl, sym, ap, ◌∙◌, subst, arith, inl, inr, true≢false}
+use Rattle.std.specs.Prelude.{map, reverse}
+use Rattle.std.proofs.lemmas.Bool.Decides.{nat_tests}
+use Rattle.std.proofs.lemmas.List.{append-nil}
+use Rattle.lattice.specs.declared.Point.{Point}
+use Rattle.lattice.specs.Vectors.{same_point, origin, moved, cross}
+use Rattle.cyclic_list.specs.Items.{count, tick, IsIn, IsApart, head_or, last_or}
+use Rattle.cyclic_list.specs.Rings.{canonical, IsPath, IsRing, IsRotation, predecessor, rest}
+use Rattle.cyclic_list.proofs.Lists.{tick_same}
+use Rattle.cyclic_list.proofs.Rotations.{canonical_same, IsApart-same, IsRotation-same, IsRotation-length}
+use Rattle.cyclic_list.proofs.Rings.{IsRing-same, IsIn_successor, predecessor-successor, front_of, apart_at, rotation_at, next_is_successor}
+use Rattle.cyclic_list.proofs.Maps.{reverse-cons, reverse_at, count-reverse}
+use Rattle.boundary_model.specs.HalfEdge.{mate}
+use Rattle.boundary_model.specs.Table as table
+use Rattle.boundary_model.specs.Model.{Model, LoopContent, LoopRow, lone, cycle, items_of, holds, content, face_of, solid_of, outer, tail, point_of, after, rings_of}
+use Rattle.boundary_model.specs.Sound.{Sound, Has, HasHalf, StandsIn, IsCycle}
+use Rattle.boundary_model.proofs.Halves.{mate-mate, mate_other}
+use Rattle.boundary_model.proofs.Tables.{zero_first_where}
+use Rattle.boundary_model.proofs.Models.{in-holds}
+use Rattle.euler_operators.specs.Conditions.{AllHold, is_empty, is_lone, lists, has_rings}
+use Rattle.euler_laws.proofs.shared.Goes.{all_hold, not_true, not_back, equal, unequal, no_zero}
+use Rattle.euler_laws.proofs.shared.Listed.{listed_as, listed_cases, listed_passes}
+use Rattle.euler_laws.proofs.shared.Rows.{loop_row, face_there, no_rings_means}
+use Rattle.euler_laws.proofs.shared.Loops.{IsLoop, loop_sound}
+use Rattle.shapes.proofs.fresh.Rows.{none_above}
+use Rattle.shapes.proofs.fresh.Tests.{NoneSuch, NoZero, none_such, Left, numbers_are_left, number_fits}
+use Rattle.shapes.specs.Faces.{start, finish, boundary, items_in, loops_of, faces_of_both, least_lone}
+use Rattle.shapes.specs.Fresh.{first_such, taken_in}
+use Rattle.shapes.specs.Measure.{area, normal, is_flat, plane_of}
+use Rattle.shapes.specs.glue.Glue.{rim, outline, has_repeats, is_rotation, partner, glue_conditions, glue_refusal}
+use Rattle.shapes.specs.glue.GlueOps.{fresh_edge}
+use Rattle.shapes.proofs.glue.Facing.{Facing}
+use Rattle.shapes.proofs.glue.Points.{same_is, is_same, once, turned_list, other_list, such_is, there_and_back}
+
+-- ---- searches
+
+none_listed : (p : ℕ → Bool) (ns : List ℕ) (n : ℕ) → NoneSuch p ns → lists ns n ≡ true → p n ≡ false
+none_listed p [] n none l = absurd (true≢false (sym l))
+none_listed p (k ∷ ns) n none l = elim (listed_cases k n ns l) [
+  | inl e ↦ ap p e ∙ none.0
+  | inr m ↦ none_listed p ns n none.1 m
+]
+
+none_zero : (ns : List ℕ) → ((n : ℕ) → lists ns n ≡ true → n ≢ 0) → NoZero ns
+none_zero [] never = tt
+none_zero (n ∷ ns) never = (never n (ap (λ b. b || lists ns n) (same n)), none_zero ns (λ k l. never k (ap (λ b. nat_eq n k || b) l ∙ or_true (nat_eq n k)))) where
+  same : (n : ℕ) → nat_eq n n ≡ true
+  same n = grind (arith, nat_tests)
+
+  or_true : (b : Bool) → (b || true) ≡ true
+  or_true true = refl
+  or_true false = refl
+
+-- ---- a loop of a sound model
+
+module _ (M : Model) (sound : Sound M) where
+  -- each item ends at the point where the next one starts
+  pub next_start : (h : ℕ) → HasHalf M h → start M (after M h) ≡ finish M h
+  next_start h there = ap (point_of M) (sound.ends_meet h there)
+
+  module _ (l : ℕ) (hs : List ℕ) (has : Has M.loops l) (is : content M l ≡ cycle hs) where
+    pub cycle_l : IsCycle hs
+    cycle_l = sound.cycles l hs has is
+
+    pub stands_l : (h : ℕ) → IsIn h hs → StandsIn M h l
+    stands_l h i = ap (λ c. holds h c) is ∙ in-holds h (cycle hs) i
+
+    pub half_l : (h : ℕ) → IsIn h hs → HasHalf M h
+    half_l h i = sound.only_edges h l (stands_l h i)
+
+    pub ring_l : IsRing (after M) hs
+    ring_l = (subst (IsLoop (after M)) is (loop_sound M sound l has)).1
+
+    pub next_in : (h : ℕ) → IsIn h hs → IsIn (after M h) hs
+    next_in h i = subst (λ q. IsIn q hs) (sym (next_is_successor (after M) hs h ring_l i)) (IsIn_successor h hs i)
+
+    pub next_once : (h k : ℕ) → IsIn h hs → IsIn k hs → after M h ≡ after M k → h ≡ k
+    next_once h k i j e =
+        sym (predecessor-successor h hs cycle_l.apart i)
+        ∙ ap (predecessor hs) (sym (next_is_successor (after M) hs h ring_l i) ∙ e ∙ next_is_successor (after M) hs k ring_l j)
+        ∙ predecessor-successor k hs cycle_l.apart j
+
+    -- no item leads to itself
+    pub next_other : (h : ℕ) → IsIn h hs → after M h ≢ h
+    next_other h i e = sound.ends_differ h (half_l h i) (sym (ap (tail M) e) ∙ sound.ends_meet h (half_l h i))
+
+-- ---- a flat face without rings has three items or more
+
+empty_is : (xs : List ℕ) → not (is_empty xs) ≡ false → xs ≡ []
+empty_is [] e = refl
+empty_is (x ∷ xs) e = absurd (true≢false e)
+
+first_of : (a b : Bool) → (a && b) ≡ true → a ≡ true
+first_of true b e = refl
+first_of false b e = absurd (true≢false (sym e))
+
+two_of : (gs : List ℕ) → length gs ≡ 2 → (u : ℕ) × (v : ℕ) × (gs ≡ u ∷ v ∷ [])
+two_of [] e = absurd (omega (arith, e))
+two_of (u ∷ []) e = absurd (omega (arith, e))
+two_of (u ∷ v ∷ []) e = (u, v, refl)
+two_of (u ∷ v ∷ w ∷ gs) e = absurd (omega (arith, e))
+
+module _ (M : Model) (sound : Sound M) (g : ℕ) (there : Has M.faces g) (alone : has_rings M g ≡ false) (is : content M (outer M g) ≡ cycle (rim M g)) where
+  abbrev gs : List ℕ
+  gs = rim M g
+
+  no_rings : rings_of M g ≡ []
+  unfolding has_rings
+  no_rings = empty_is (rings_of M g) alone
+
+  boundary_is : boundary M g ≡ gs
+  unfolding boundary loops_of
+  boundary_is = ap (λ ls. gs ++ items_in M ls) no_rings ∙ append-nil gs
+
+  has_l : Has M.loops (outer M g)
+  has_l = (sound.outers_there g there).0
+
+  -- two items go there and back
+  two_thin : (u v : ℕ) → gs ≡ u ∷ v ∷ [] → normal M g ≡ origin
+  unfolding normal
+  two_thin u v e =
+      let r : IsRing (after M) (u ∷ v ∷ []) = subst (IsRing (after M)) e (ring_l M sound (outer M g) gs has_l is) in
+      let in_u : IsIn u gs = omega (arith, ap (count u) e, tick_same u) in
+      let in_v : IsIn v gs = omega (arith, ap (count v) e, tick_same v) in
+      let first : finish M u ≡ start M v = sym (next_start M sound u (half_l M sound (outer M g) gs has_l is u in_u)) ∙ ap (start M) r.0 in
+      let second : finish M v ≡ start M u = sym (next_start M sound v (half_l M sound (outer M g) gs has_l is v in_v)) ∙ ap (start M) r.1.0 in
+      ap (area M) (boundary_is ∙ e)
+      ∙ (λ i. moved (cross (start M u) (first i)) (moved (cross (start M v) (second i)) origin))
+      ∙ there_and_back (start M u) (start M v)
+
+  has_normal : is_flat M g ≡ true → not (same_point (normal M g) origin) ≡ true
+  unfolding is_flat plane_of
+  has_normal flat = first_of (not (same_point (normal M g) origin)) _ flat
+
+  pub never_two : is_flat M g ≡ true → length gs ≢ 2
+  never_two flat two = let p = two_of gs two in true≢false (sym (has_normal flat) ∙ ap not (is_same (normal M g) origin (two_thin p.0 p.1 p.2)))
+
+-- ---- the partners of a path
+
+no_points : {p : Point} {ps : List Point} → p ∷ ps ≡ [] → ⊥
+no_points e = cc
+
+both_points : {p q : Point} {ps qs : List Point} → p ∷ ps ≡ q ∷ qs → (p ≡ q) × (ps ≡ qs)
+both_points e = (cc, cc)
+
+head_in : (gs ys : List ℕ) (e : ℕ) → ((y : ℕ) → IsIn y ys → IsIn y gs) → IsIn e gs → IsIn (head_or e ys) gs
+head_in gs [] e yi ei = ei
+head_in gs (y ∷ ys) e yi ei = yi y (omega (arith, tick_same y))
+
+head_in_self : (gs ys : List ℕ) → ys ≢ [] → ((y : ℕ) → IsIn y ys → IsIn y gs) → IsIn (head_or 0 ys) gs
+head_in_self gs [] some yi = absurd (some refl)
+head_in_self gs (y ∷ ys) some yi = yi y (omega (arith, tick_same y))
+
+same_heads_some : (a : ℕ → Point) (xs ys : List ℕ) → map a xs ≡ map a ys → xs ≢ [] → a (head_or 0 xs) ≡ a (head_or 0 ys)
+same_heads_some a [] ys e some = absurd (some refl)
+same_heads_some a (x ∷ xs) [] e some = absurd (no_points e)
+same_heads_some a (x ∷ xs) (y ∷ ys) e some = (both_points e).0
+
+not_nil : (z : ℕ) (zs : List ℕ) → z ∷ zs ≢ []
+not_nil z zs e = cc
+
+some_other : (a : ℕ → Point) (xs ys : List ℕ) → map a xs ≡ map a ys → xs ≢ [] → ys ≢ []
+some_other a [] ys e some = absurd (some refl)
+some_other a (x ∷ xs) [] e some = absurd (no_points e)
+some_other a (x ∷ xs) (y ∷ ys) e some = not_nil y ys
+
+-- a list moved on by one, with d at its end
+abbrev shifted : List ℕ → ℕ → List ℕ
+shifted [] d = []
+shifted (y ∷ ys) d = ys ++ d ∷ []
+
+shifted_on : (ys : List ℕ) (d : ℕ) → head_or d ys ∷ shifted ys d ≡ ys ++ d ∷ []
+shifted_on [] d = refl
+shifted_on (y ∷ ys) d = refl
+
+same_heads : (a : ℕ → Point) (xs ys : List ℕ) (d e : ℕ) → map a xs ≡ map a ys → a d ≡ a e → a (head_or d xs) ≡ a (head_or e ys)
+same_heads a [] [] d e p q = q
+same_heads a [] (y ∷ ys) d e p q = absurd (no_points (sym p))
+same_heads a (x ∷ xs) [] d e p q = absurd (no_points p)
+same_heads a (x ∷ xs) (y ∷ ys) d e p q = (both_points p).0
+
+turned_back : (ts ks : List ℕ) → ts ≢ [] → ks ≡ shifted ts (head_or 0 ts) → IsRotation (reverse ts) (reverse ks)
+turned_back [] ks some e = absurd (some refl)
+turned_back (t ∷ ts) ks some e = record { front = reverse ts; back = t ∷ []; here = reverse-cons t ts; there = ap reverse e ∙ reverse_at t ts [] }
+
+shape_of : (hs : List ℕ) → hs ≢ [] → ((h : ℕ) → hs ≢ h ∷ []) → (h : ℕ) × (mid : List ℕ) × (last : ℕ) × (hs ≡ h ∷ (mid ++ last ∷ []))
+shape_of [] some more = absurd (some refl)
+shape_of (h ∷ []) some more = absurd (more h refl)
+shape_of (h ∷ k ∷ ks) some more = let p = front_of k ks in (h, p.0, last_or k ks, ap (λ t. h ∷ t) p.1)
+
+not_lone : (c : LoopContent) → is_lone c ≡ false → c ≡ cycle (items_of c)
+not_lone (lone v) e = absurd (true≢false e)
+not_lone (cycle cs) e = refl
+
+-- ---- a glue that isn't refused
+
+module _ (M : Model) (f g : ℕ) (sound : Sound M) (accepted : glue_refusal M f g ≡ None) where
+  abbrev s : ℕ
+  s = solid_of M f
+
+  abbrev t : ℕ
+  t = solid_of M g
+
+  abbrev fs : List ℕ
+  fs = faces_of_both M s t
+
+  abbrev pub items_f : List ℕ
+  items_f = rim M f
+
+  abbrev pub items_g : List ℕ
+  items_g = rim M g
+
+  abbrev pub partner_of : ℕ → ℕ
+  partner_of = partner M (rim M g)
+
+  hold : AllHold (glue_conditions M f g)
+  hold = all_hold (glue_conditions M f g) accepted
+
+  f_there : Has M.faces f
+  unfolding glue_conditions
+  f_there = hold.1.1.0
+
+  g_there : Has M.faces g
+  unfolding glue_conditions
+  g_there = hold.1.1.1.0
+
+  solids_apart : s ≢ t
+  unfolding glue_conditions
+  solids_apart = unequal s t (not_true _ hold.1.1.1.1.0)
+
+  plain_f : has_rings M f ≡ false
+  unfolding glue_conditions
+  plain_f = not_true _ hold.1.1.1.1.1.0
+
+  plain_g : has_rings M g ≡ false
+  unfolding glue_conditions
+  plain_g = not_true _ hold.1.1.1.1.1.1.0
+
+  none_lone : table.first_where (λ _ row. is_lone row.content && lists fs row.face) M.loops ≡ 0
+  unfolding glue_conditions
+  none_lone = equal (least_lone M fs) 0 hold.1.1.1.1.1.1.1.0
+
+  none_bent : first_such (λ k. not (is_flat M k)) fs ≡ 0
+  unfolding glue_conditions
+  none_bent = equal (first_such (λ k. not (is_flat M k)) fs) 0 hold.1.1.1.1.1.1.1.1.0
+
+  points_f : has_repeats (outline M f) ≡ false
+  unfolding glue_conditions
+  points_f = not_true _ hold.1.1.1.1.1.1.1.1.1.0
+
+  points_g : has_repeats (outline M g) ≡ false
+  unfolding glue_conditions
+  points_g = not_true _ hold.1.1.1.1.1.1.1.1.1.1.0
+
+  matches : is_rotation (outline M f) (reverse (outline M g)) ≡ true
+  unfolding glue_conditions
+  matches = hold.1.1.1.1.1.1.1.1.1.1.1.0
+
+  left : Left (taken_in M) 0 0 1 0
+  unfolding glue_conditions
+  left = numbers_are_left (taken_in M) 0 0 1 0 hold.1.1.1.1.1.1.1.1.1.1.1.1
+
+  -- both faces are among those looked at
+  listed_f : lists fs f ≡ true
+  listed_f = listed_as (λ _ row. nat_eq row.solid s || nat_eq row.solid t) M.faces f _ (face_there M f f_there) ∙ first s t where
+    first : (a b : ℕ) → (nat_eq a a || nat_eq a b) ≡ true
+    first a b = grind (arith, nat_tests)
+
+  listed_g : lists fs g ≡ true
+  listed_g = listed_as (λ _ row. nat_eq row.solid s || nat_eq row.solid t) M.faces g _ (face_there M g g_there) ∙ second t s where
+    second : (a b : ℕ) → (nat_eq a b || nat_eq a a) ≡ true
+    second a b = grind (arith, nat_tests)
+
+  not_zero : (q : ℕ) (row : LoopRow) → table.get M.loops q ≡ Some row → q ≢ 0
+  not_zero q row at z = no_zero q z (sound.loops_fit q (ap is_some at))
+
+  is_cycle : (k : ℕ) → Has M.faces k → lists fs k ≡ true → content M (outer M k) ≡ cycle (rim M k)
+  is_cycle k there listed =
+      let p = sound.outers_there k there in
+      not_lone (content M (outer M k)) (never (is_lone (content M (outer M k))) (lists fs (face_of M (outer M k)))
+      (zero_first_where (λ _ row. is_lone row.content && lists fs row.face) M.loops not_zero none_lone (outer M k) _ (loop_row M (outer M k) p.0))
+      (ap (lists fs) p.1 ∙ listed)) where
+        never : (a b : Bool) → (a && b) ≡ false → b ≡ true → a ≡ false
+        never true b e l = absurd (true≢false (sym l ∙ e))
+        never false b e l = refl
+
+  cycle_f : content M (outer M f) ≡ cycle (rim M f)
+  cycle_f = is_cycle f f_there listed_f
+
+  cycle_g : content M (outer M g) ≡ cycle (rim M g)
+  cycle_g = is_cycle g g_there listed_g
+
+  flat_g : is_flat M g ≡ true
+  flat_g = not_back (is_flat M g) (none_listed (λ k. not (is_flat M k)) fs g
+      (none_such (λ k. not (is_flat M k)) fs (none_zero fs (λ n l z. no_zero n z (sound.faces_fit n (ap is_some (listed_passes (λ _ row. nat_eq row.solid s || nat_eq row.solid t) M.faces n l).1)))) none_bent) listed_g)
+
+  has_f : Has M.loops (outer M f)
+  has_f = (sound.outers_there f f_there).0
+
+  has_g : Has M.loops (outer M g)
+  has_g = (sound.outers_there g g_there).0
+
+  half_f : (h : ℕ) → IsIn h items_f → HasHalf M h
+  half_f = half_l M sound (outer M f) items_f has_f cycle_f
+
+  half_g : (h : ℕ) → IsIn h items_g → HasHalf M h
+  half_g = half_l M sound (outer M g) items_g has_g cycle_g
+
+  -- the items of g backwards, turned as those of f
+  turned : (ts : List ℕ) × (map (start M) items_f ≡ map (start M) ts) × IsRotation items_g (reverse ts)
+  turned = turned_list (start M) items_f items_g matches
+
+  in_g : (y : ℕ) → IsIn y turned.0 → IsIn y items_g
+  in_g y i = omega (arith, i, IsRotation-same items_g (reverse turned.0) turned.2 y, count-reverse y turned.0)
+
+  partner_is : (h y : ℕ) → IsIn y items_g → start M y ≡ finish M h → partner_of h ≡ y
+  partner_is h y i e = such_is (λ k. same_point (start M k) (finish M h)) items_g y i (is_same (start M y) (finish M h) e)
+      (λ j p q. once (start M) items_g points_g j y p i (same_is (start M j) (finish M h) q ∙ sym e))
+
+  found : (h : ℕ) → IsIn h items_f → (y : ℕ) × IsIn y items_g × (start M y ≡ finish M h)
+  found h i =
+      let r = other_list (start M) items_f turned.0 turned.1 (after M h) (next_in M sound (outer M f) items_f has_f cycle_f h i) in
+      (r.0, in_g r.0 r.1, r.2 ∙ next_start M sound h (half_f h i))
+
+  partner_in : (h : ℕ) → IsIn h items_f → IsIn (partner_of h) items_g
+  partner_in h i = let r = found h i in subst (λ y. IsIn y items_g) (sym (partner_is h r.0 r.1 r.2)) r.1
+
+  partner_start : (h : ℕ) → IsIn h items_f → start M (partner_of h) ≡ finish M h
+  partner_start h i = let r = found h i in ap (start M) (partner_is h r.0 r.1 r.2) ∙ r.2
+
+  -- an item is told by the point at which it ends
+  finish_once : (h k : ℕ) → IsIn h items_f → IsIn k items_f → finish M h ≡ finish M k → h ≡ k
+  finish_once h k i j e = next_once M sound (outer M f) items_f has_f cycle_f h k i j
+      (once (start M) items_f points_f (after M h) (after M k) (next_in M sound (outer M f) items_f has_f cycle_f h i) (next_in M sound (outer M f) items_f has_f cycle_f k j)
+      (next_start M sound h (half_f h i) ∙ e ∙ sym (next_start M sound k (half_f k j))))
+
+  chain : (xs ys : List ℕ) (d e : ℕ) → ((x : ℕ) → IsIn x xs → IsIn x items_f) → ((y : ℕ) → IsIn y ys → IsIn y items_g) → IsIn e items_g →
+      map (start M) xs ≡ map (start M) ys → start M d ≡ start M e → IsPath (after M) xs d → map partner_of xs ≡ shifted ys e
+  chain [] [] d e xi yi ei same ends path = refl
+  chain [] (y ∷ ys) d e xi yi ei same ends path = absurd (no_points (sym same))
+  chain (x ∷ xs) [] d e xi yi ei same ends path = absurd (no_points same)
+  chain (x ∷ xs) (y ∷ ys) d e xi yi ei same ends path =
+      let tails = (both_points same).1 in
+      let at : start M (head_or d xs) ≡ start M (head_or e ys) = same_heads (start M) xs ys d e tails ends in
+      let here : IsIn (head_or e ys) items_g = head_in items_g ys e (λ z i. yi z (omega (arith, i))) ei in
+      let xi_here : IsIn x items_f = xi x (omega (arith, tick_same x)) in
+      (λ i. partner_is x (head_or e ys) here (sym at ∙ ap (start M) (sym path.0) ∙ next_start M sound x (half_f x xi_here)) i
+      ∷ chain xs ys d e (λ z i. xi z (omega (arith, i))) (λ z i. yi z (omega (arith, i))) ei tails ends path.1 i)
+      ∙ shifted_on ys e
+
+  ring_f : IsRing (after M) items_f
+  ring_f = ring_l M sound (outer M f) items_f has_f cycle_f
+
+  some_f : items_f ≢ []
+  some_f = (cycle_l M sound (outer M f) items_f has_f cycle_f).some_item
+
+  some_turned : turned.0 ≢ []
+  some_turned = some_other (start M) items_f turned.0 turned.1 some_f
+
+  partners_are : map partner_of items_f ≡ shifted turned.0 (head_or 0 turned.0)
+  partners_are = chain items_f turned.0 (head_or 0 items_f) (head_or 0 turned.0) (λ x i. i) in_g (head_in_self items_g turned.0 some_turned in_g) turned.1
+      (same_heads_some (start M) items_f turned.0 turned.1 some_f) ring_f
+
+  apart_g : IsApart items_g
+  apart_g = (cycle_l M sound (outer M g) items_g has_g cycle_g).apart
+
+  opposite : items_g ≡ canonical (reverse (map partner_of items_f))
+  opposite =
+      sym (cycle_l M sound (outer M g) items_g has_g cycle_g).from_least
+      ∙ canonical_same items_g (reverse turned.0) turned.2 apart_g
+      ∙ canonical_same (reverse turned.0) (reverse (map partner_of items_f)) (turned_back turned.0 (map partner_of items_f) some_turned partners_are)
+      (IsApart-same items_g (reverse turned.0) (IsRotation-same items_g (reverse turned.0) turned.2) apart_g)
+
+  -- ---- no edge has g on both sides
+
+  thin : (a b : ℕ) (xs : List ℕ) → IsRing (after M) (a ∷ xs) → IsApart (a ∷ xs) → after M a ≡ b → after M b ≡ a → a ≢ b → length xs ≡ 1
+  thin a b [] r d p q ne = absurd (ne (sym r.0 ∙ p))
+  thin a b (c ∷ []) r d p q ne = refl
+  thin a b (c ∷ e ∷ xs) r d p q ne =
+      let same : a ≡ e = sym q ∙ ap (after M) (sym p ∙ r.0) ∙ r.1.0 in
+      absurd (omega (arith, d a, tick_same a, subst (λ z. tick a z ≡ 1) same (tick_same a)))
+
+  no_fold : (h k : ℕ) → IsIn h items_f → IsIn k items_f → mate (partner_of h) ≢ partner_of k
+  no_fold h k i j e =
+      let a : ℕ = partner_of h in
+      let b : ℕ = partner_of k in
+      let ai : IsIn a items_g = partner_in h i in
+      let bi : IsIn b items_g = partner_in k j in
+      let on_a : after M a ≡ b = once (start M) items_g points_g (after M a) b (next_in M sound (outer M g) items_g has_g cycle_g a ai) bi (next_start M sound a (half_g a ai) ∙ ap (start M) e) in
+      let on_b : after M b ≡ a = once (start M) items_g points_g (after M b) a (next_in M sound (outer M g) items_g has_g cycle_g b bi) ai
+      (next_start M sound b (half_g b bi) ∙ ap (start M) (ap mate (sym e) ∙ mate-mate a)) in
+      let turns : IsRotation items_g (a ∷ rest a items_g) = rotation_at a items_g ai in
+      let one : length (rest a items_g) ≡ 1 = thin a b (rest a items_g) (IsRing-same (after M) items_g (a ∷ rest a items_g) turns (ring_l M sound (outer M g) items_g has_g cycle_g)) (apart_at a items_g apart_g ai) on_a on_b
+      (λ q. mate_other a (q ∙ sym e)) in
+      never_two M sound g g_there plain_g cycle_g flat_g (IsRotation-length items_g (a ∷ rest a items_g) turns ∙ ap suc one)
+
+  -- ---- all of it
+
+  edge_left : fresh_edge M ≤ 1000000
+  edge_left = left.edges
+
+  pub facing : Facing M f g partner_of items_f (fresh_edge M)
+  unfolding taken_in
+  facing = record {
+    sound = sound;
+    f_there = f_there;
+    g_there = g_there;
+    solids_apart = solids_apart;
+    alone_f = no_rings_means M f plain_f;
+    alone_g = no_rings_means M g plain_g;
+    first = loop_row M (outer M f) has_f ∙ (λ i. Some (record { face = (sound.outers_there f f_there).1 i; content = cycle_f i }));
+    second = loop_row M (outer M g) has_g ∙ (λ i. Some (record { face = (sound.outers_there g g_there).1 i; content = (cycle_g ∙ ap cycle opposite) i }));
+    starts_once = λ h k i j e. finish_once h k i j (sym (partner_start h i) ∙ ap (point_of M) e ∙ partner_start k j);
+    ends_once = λ h k i j e. finish_once h k i j (ap (point_of M) e);
+    no_fold = no_fold;
+    edge_free = none_above M.edges (fresh_edge M) (omega arith);
+    edge_fits = number_fits (fresh_edge M) (omega arith) left.edges;
+  }
+
+  pub shape : (h : ℕ) × (mid : List ℕ) × (last : ℕ) × (items_f ≡ h ∷ (mid ++ last ∷ []))
+  shape = shape_of items_f some_f (λ h e. next_other M sound (outer M f) items_f has_f cycle_f h (omega (arith, ap (count h) e, tick_same h)) ((subst (IsRing (after M)) e ring_f).0))

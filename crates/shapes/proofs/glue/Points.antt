@@ -1,0 +1,147 @@
+-- Lists of points: equal ones, none twice, one turned; and where a search finds the only such number.
+use Rattle.std.proofs.Common.{◌≡◌, ℕ, zero, suc, ℤ, pos, ◌+ℤ◌, ◌-ℤ◌, ◌*ℤ◌, Bool, true, false, cond, ◌&&◌, ◌||◌, List, [], ◌∷◌, ◌++◌, refl, sym, ap, ◌∙◌, arith, true≢false, inl, inr}
+use Rattle.std.specs.Prelude.{map, reverse, take, drop, length}
+use Rattle.std.specs.List.{list_any}
+use Rattle.std.specs.Ordering.{int_eq}
+use Rattle.std.specs.Cmp.{signed_Decides}
+use Rattle.std.proofs.lemmas.Bool.Decides.{eqb_tells}
+use Rattle.std.proofs.lemmas.List.{append-nil, reverse-append, reverse-reverse, take-append-drop}
+use Rattle.lattice.specs.declared.Point.{Point}
+use Rattle.lattice.specs.Vectors.{same_point, moved, cross, origin}
+use Rattle.cyclic_list.specs.Items.{IsIn}
+use Rattle.cyclic_list.specs.Rings.{IsRotation}
+use Rattle.cyclic_list.proofs.Lists.{tick_same, tick_other}
+use Rattle.cyclic_list.proofs.Maps.{reverse-cons}
+use Rattle.shapes.specs.Fresh.{first_such}
+use Rattle.lattice.proofs.Integers.{dif, dif-parts, difs, same_dif, number}
+use Rattle.lattice.proofs.Vectors.{same_vector}
+use Rattle.shapes.specs.glue.Glue.{has_repeats, same_points, is_turned, is_rotation}
+
+-- ---- equal points
+
+both : (a b : Bool) → (a && b) ≡ true → (a ≡ true) × (b ≡ true)
+both true b e = (refl, e)
+both false b e = absurd (true≢false (sym e))
+
+neither : (a b : Bool) → (a || b) ≡ false → (a ≡ false) × (b ≡ false)
+neither true b e = absurd (true≢false e)
+neither false b e = (refl, e)
+
+pub same_is : (p q : Point) → same_point p q ≡ true → p ≡ q
+same_is p q e =
+    let a = both (int_eq p.x q.x && int_eq p.y q.y) (int_eq p.z q.z) e in
+    let b = both (int_eq p.x q.x) (int_eq p.y q.y) a.0 in
+    same_vector p q ((signed_Decides p.x q.x).0 b.0) ((signed_Decides p.y q.y).0 b.1) ((signed_Decides p.z q.z).0 a.1)
+
+pub is_same : (p q : Point) → p ≡ q → same_point p q ≡ true
+is_same p q e = λ i. ((signed_Decides p.x q.x).1 (ap (λ r. r.x) e)) i && ((signed_Decides p.y q.y).1 (ap (λ r. r.y) e)) i && ((signed_Decides p.z q.z).1 (ap (λ r. r.z) e)) i
+
+pub same_lists : (ps qs : List Point) → same_points ps qs ≡ true → ps ≡ qs
+same_lists [] [] e = refl
+same_lists [] (q ∷ qs) e = absurd (true≢false (sym e))
+same_lists (p ∷ ps) [] e = absurd (true≢false (sym e))
+same_lists (p ∷ ps) (q ∷ qs) e = let a = both (same_point p q) (same_points ps qs) e in λ i. same_is p q a.0 i ∷ same_lists ps qs a.1 i
+
+-- a list turned by i places
+pub turned_by : (n : ℕ) (ps qs : List Point) → is_turned n ps qs ≡ true → (i : ℕ) × (ps ≡ drop i qs ++ take i qs)
+turned_by zero ps qs e = (0, same_lists ps qs e ∙ sym (append-nil qs))
+turned_by (suc n) ps qs e = elim (same_points ps (drop (suc n) qs ++ take (suc n) qs)) as (λ b. same_points ps (drop (suc n) qs ++ take (suc n) qs) ≡ b → (b || is_turned n ps qs) ≡ true → (i : ℕ) × (ps ≡ drop i qs ++ take i qs)) [
+  | true ↦ λ is e. (suc n, same_lists ps (drop (suc n) qs ++ take (suc n) qs) is)
+  | false ↦ λ is e. turned_by n ps qs e
+] refl e
+
+-- ---- the points of numbers
+
+module _ (a : ℕ → Point) where
+  map_points : (xs ys : List ℕ) → map a (xs ++ ys) ≡ map a xs ++ map a ys
+  map_points [] ys = refl
+  map_points (x ∷ xs) ys = ap (λ t. a x ∷ t) (map_points xs ys)
+
+  drop_map : (i : ℕ) (xs : List ℕ) → drop i (map a xs) ≡ map a (drop i xs)
+  drop_map zero xs = refl
+  drop_map (suc i) [] = refl
+  drop_map (suc i) (x ∷ xs) = drop_map i xs
+
+  take_map : (i : ℕ) (xs : List ℕ) → take i (map a xs) ≡ map a (take i xs)
+  take_map zero xs = refl
+  take_map (suc i) [] = refl
+  take_map (suc i) (x ∷ xs) = ap (λ t. a x ∷ t) (take_map i xs)
+
+  reverse_map : (xs : List ℕ) → reverse (map a xs) ≡ map a (reverse xs)
+  reverse_map [] = refl
+  reverse_map (x ∷ xs) = reverse-append (a x ∷ []) (map a xs) ∙ ap (λ t. t ++ a x ∷ []) (reverse_map xs) ∙ sym (map_points (reverse xs) (x ∷ [])) ∙ ap (map a) (sym (reverse-cons x xs))
+
+  -- where the points of gs backwards are a rotation of those of hs, gs backwards itself can be turned so
+  pub turned_list : (hs gs : List ℕ) → is_rotation (map a hs) (reverse (map a gs)) ≡ true → (ts : List ℕ) × (map a hs ≡ map a ts) × IsRotation gs (reverse ts)
+  turned_list hs gs e =
+      let p = turned_by (length (reverse (map a gs))) (map a hs) (reverse (map a gs)) e in
+      let bs : List ℕ = reverse gs in (
+        drop p.0 bs ++ take p.0 bs,
+        p.1 ∙ (λ j. drop p.0 (reverse_map gs j) ++ take p.0 (reverse_map gs j)) ∙ (λ j. drop_map p.0 bs j ++ take_map p.0 bs j) ∙ sym (map_points (drop p.0 bs) (take p.0 bs)),
+        record {
+          front = reverse (drop p.0 bs);
+          back = reverse (take p.0 bs);
+          here = sym (reverse-reverse gs) ∙ ap reverse (sym (take-append-drop p.0 bs)) ∙ reverse-append (take p.0 bs) (drop p.0 bs);
+          there = reverse-append (drop p.0 bs) (take p.0 bs);
+        },
+      )
+
+  any_in : (p : Point) (k : ℕ) (ks : List ℕ) → IsIn k ks → p ≡ a k → list_any (same_point p) (map a ks) ≡ true
+  any_in p k [] i e = absurd (omega (arith, i))
+  any_in p k (j ∷ ks) i e = elim (eqb_tells k j) [
+    | inl s ↦ ap (λ b. b || list_any (same_point p) (map a ks)) (is_same p (a j) (e ∙ ap a s.1))
+    | inr ne ↦ ap (λ b. same_point p (a j) || b) (any_in p k ks (omega (arith, i, tick_other k j ne.1)) e) ∙ or_true (same_point p (a j))
+  ] where
+    or_true : (b : Bool) → (b || true) ≡ true
+    or_true true = refl
+    or_true false = refl
+
+  -- where no point stands twice, the point tells the number
+  pub once : (ks : List ℕ) → has_repeats (map a ks) ≡ false → (h k : ℕ) → IsIn h ks → IsIn k ks → a h ≡ a k → h ≡ k
+  once [] r h k i j e = absurd (omega (arith, i))
+  once (n ∷ ks) r h k i j e =
+      let b = neither (list_any (same_point (a n)) (map a ks)) (has_repeats (map a ks)) r in
+      elim (eqb_tells h n) [
+        | inl p ↦ elim (eqb_tells k n) [
+          | inl q ↦ p.1 ∙ sym q.1
+          | inr q ↦ absurd (true≢false (sym (any_in (a n) k ks (omega (arith, j, tick_other k n q.1)) (ap a (sym p.1) ∙ e)) ∙ b.0))
+        ]
+        | inr p ↦ elim (eqb_tells k n) [
+          | inl q ↦ absurd (true≢false (sym (any_in (a n) h ks (omega (arith, i, tick_other h n p.1)) (ap a (sym q.1) ∙ sym e)) ∙ b.0))
+          | inr q ↦ once ks b.1 h k (omega (arith, i, tick_other h n p.1)) (omega (arith, j, tick_other k n q.1)) e
+        ]
+      ]
+
+  no_nil : {p : Point} {ps : List Point} → p ∷ ps ≡ [] → ⊥
+  no_nil e = cc
+
+  heads : {p q : Point} {ps qs : List Point} → p ∷ ps ≡ q ∷ qs → (p ≡ q) × (ps ≡ qs)
+  heads e = (cc, cc)
+
+  -- of two lists with the same points each number has one in the other
+  pub other_list : (xs ys : List ℕ) → map a xs ≡ map a ys → (x : ℕ) → IsIn x xs → (y : ℕ) × IsIn y ys × (a y ≡ a x)
+  other_list [] ys e x i = absurd (omega (arith, i))
+  other_list (z ∷ xs) [] e x i = absurd (no_nil e)
+  other_list (z ∷ xs) (y ∷ ys) e x i = elim (eqb_tells x z) [
+    | inl s ↦ (y, omega (arith, tick_same y), sym (heads e).0 ∙ ap a (sym s.1))
+    | inr ne ↦ let r = other_list xs ys (heads e).1 x (omega (arith, i, tick_other x z ne.1)) in (r.0, omega (arith, r.1), r.2)
+  ]
+
+-- a search finds the only number that passes
+pub such_is : (test : ℕ → Bool) (ks : List ℕ) (k : ℕ) → IsIn k ks → test k ≡ true → ((j : ℕ) → IsIn j ks → test j ≡ true → j ≡ k) → first_such test ks ≡ k
+such_is test [] k i t only = absurd (omega (arith, i))
+such_is test (n ∷ ks) k i t only = elim (test n) as (λ b. test n ≡ b → cond b n (first_such test ks) ≡ k) [
+  | true ↦ λ e. only n (omega (arith, tick_same n)) e
+  | false ↦ λ e. such_is test ks k (elim (eqb_tells k n) [ inl s ↦ absurd (true≢false (sym t ∙ ap test s.1 ∙ e)) | inr ne ↦ omega (arith, i, tick_other k n ne.1) ]) t (λ j q. only j (omega (arith, q)))
+] refl
+
+-- ---- there and back along one line
+
+back_dif : (a b c d a' b' c' d' : ℕ) → (dif a a' *ℤ dif b b' -ℤ dif c c' *ℤ dif d d') +ℤ ((dif d d' *ℤ dif c c' -ℤ dif b b' *ℤ dif a a') +ℤ dif 0 0) ≡ dif 0 0
+back_dif a b c d a' b' c' d' = simp difs (same_dif _ _ _ _ (omega arith))
+
+back_part : (a b c d z : ℤ) → z ≡ pos 0 → (a *ℤ b -ℤ c *ℤ d) +ℤ ((d *ℤ c -ℤ b *ℤ a) +ℤ z) ≡ z
+back_part a b c d z e = rw (dif-parts a, dif-parts b, dif-parts c, dif-parts d, e ∙ number 0) (back_dif _ _ _ _ _ _ _ _)
+
+pub there_and_back : (p q : Point) → moved (cross p q) (moved (cross q p) origin) ≡ origin
+there_and_back p q = same_vector _ _ (back_part p.y q.z p.z q.y (pos 0) refl) (back_part p.z q.x p.x q.z (pos 0) refl) (back_part p.x q.y p.y q.x (pos 0) refl)

@@ -1,0 +1,60 @@
+-- Rows of loops rewritten by a renaming, and by the same with one item replaced.
+use Rattle.std.proofs.Common.{◌≡◌, ℕ, List, [], ◌∷◌, Option, Some, None, refl, sym, ap, ◌∙◌, arith}
+use Rattle.std.specs.Prelude.{map}
+use Rattle.std.specs.Option.{option_map}
+use Rattle.std.proofs.lemmas.Bool.Decides.{nat_tests}
+use Rattle.cyclic_list.specs.Items.{count, IsIn, IsApart}
+use Rattle.cyclic_list.specs.Rings.{canonical, rest}
+use Rattle.cyclic_list.proofs.Rotations.{count-canonical}
+use Rattle.boundary_model.specs.Table as table
+use Rattle.boundary_model.specs.Table.{Table, tables, same_table, get-map_rows}
+use Rattle.boundary_model.specs.Model.{LoopContent, LoopRow, lone, cycle, items_of}
+use Rattle.shapes.specs.Rewriting.{rewritten, rewritten_row}
+use Rattle.shapes.proofs.glue.Renamings.{replaced, replaced_none, replaced_ring, map_agrees}
+
+pub same_cycle : (xs ys : List ℕ) → cycle xs ≡ cycle ys → xs ≡ ys
+same_cycle xs ys e = cc
+
+pub never_cycle : (v : ℕ) (xs : List ℕ) → lone v ≡ cycle xs → ⊥
+never_cycle v xs e = cc
+
+map_two : (f g : ℕ → ℕ) (xs : List ℕ) → map f (map g xs) ≡ map (λ x. f (g x)) xs
+map_two f g [] = refl
+map_two f g (x ∷ xs) = ap (λ t. f (g x) ∷ t) (map_two f g xs)
+
+module _ (old new : ℕ → ℕ) (m h : ℕ) (more : (u : ℕ) → new u ≡ replaced m h (old u)) where
+  map_more : (cs : List ℕ) → map new cs ≡ map (replaced m h) (map old cs)
+  map_more cs = map_agrees new (λ u. replaced m h (old u)) cs more ∙ sym (map_two (replaced m h) old cs)
+
+  -- where m isn't, nothing changes
+  pub content_stays : (c : LoopContent) → count m (items_of (rewritten (map old) c)) ≡ 0 → rewritten (map new) c ≡ rewritten (map old) c
+  content_stays (lone v) e = refl
+  content_stays (cycle cs) e = ap (λ q. cycle (canonical q)) (map_more cs ∙ replaced_none m h (map old cs) (sym (count-canonical m (map old cs)) ∙ e))
+
+  pub row_stays : (p : ℕ) (row : LoopRow) → count m (items_of (rewritten (map old) row.content)) ≡ 0 → rewritten_row (map new) p row ≡ rewritten_row (map old) p row
+  row_stays p row e = ap (λ c. record { face = row.face; content = c }) (content_stays row.content e)
+
+  -- where m is, h comes in its place
+  pub content_turns : (c : LoopContent) (ns : List ℕ) → rewritten (map old) c ≡ cycle ns → IsApart ns → IsIn m ns → count h ns ≡ 0 → rewritten (map new) c ≡ cycle (canonical (h ∷ rest m ns))
+  content_turns (lone v) ns e d i n = absurd (never_cycle v ns e)
+  content_turns (cycle cs) ns e d i n =
+      let is : canonical (map old cs) ≡ ns = same_cycle (canonical (map old cs)) ns e in
+      let counts : (y : ℕ) → count y (map old cs) ≡ count y ns = λ y. sym (count-canonical y (map old cs)) ∙ ap (count y) is in
+      ap cycle (ap canonical (map_more cs)
+      ∙ sym (replaced_ring m h (map old cs) (λ y. omega (arith, counts y, d y)) (omega (arith, counts m, i)) (counts h ∙ n))
+      ∙ ap (λ q. canonical (h ∷ rest m q)) is)
+
+  pub row_turns : (p f : ℕ) (row : LoopRow) (ns : List ℕ) → rewritten_row (map old) p row ≡ record { face = f; content = cycle ns } → IsApart ns → IsIn m ns → count h ns ≡ 0 →
+      rewritten_row (map new) p row ≡ record { face = f; content = cycle (canonical (h ∷ rest m ns)) }
+  row_turns p f row ns e d i n = λ j. record { face = ap (λ r. r.face) e j; content = content_turns row.content ns (ap (λ r. r.content) e) d i n j }
+
+-- ---- tables
+
+pub map_agree : {X : Type 0} (f g : ℕ → X → X) (t : Table X) → ((q : ℕ) (x : X) → f q x ≡ g q x) → table.map_rows f t ≡ table.map_rows g t
+map_agree {X = X} f g t e = same_table _ _ (λ q. get-map_rows f t q ∙ on q (table.get t q) ∙ sym (get-map_rows g t q)) where
+  on : (q : ℕ) (o : Option X) → option_map (f q) o ≡ option_map (g q) o
+  on q None = refl
+  on q (Some x) = ap Some (e q x)
+
+pub map_removed : {X : Type 0} (f : ℕ → X → X) (t : Table X) (n : ℕ) → table.map_rows f (table.remove t n) ≡ table.remove (table.map_rows f t) n
+map_removed f t n = same_table _ _ (λ q. grind (arith, nat_tests, tables))

@@ -1,0 +1,96 @@
+-- Two solids glued together at a face of each.
+use Rattle.std.specs.Prelude.{ℕ, zero, suc, Bool, true, false, not, ◌&&◌, ◌||◌, nat_eq, List, [], ◌∷◌, ◌++◌, map, reverse, length, take, drop, Option}
+use Rattle.std.specs.List.{list_any}
+use Rattle.lattice.specs.declared.Point.{Point}
+use Rattle.lattice.specs.Vectors.{same_point}
+use Rattle.boundary_model.specs.HalfEdge.{mate, edge_of}
+use Rattle.boundary_model.specs.Table as table
+use Rattle.boundary_model.specs.Model.{Model, EdgeRow, items_of, content, tail, outer, solid_of}
+use Rattle.euler_operators.specs.Conditions.{Condition, need, never, first_refusal, numbers_in_range, has_rings}
+use Rattle.euler_operators.specs.Effect.{faces_to_solid}
+use Rattle.euler_operators.specs.declared.Refusal.{Refusal}
+use Rattle.euler_operators.specs.declared.Why.TheVariants.{NoFace, SameSolid, HasRings, LoneLoop, NotFlat, RepeatedPoint, NoMatch}
+use Rattle.shapes.specs.Faces.{least_lone, faces_of_both, start, finish}
+use Rattle.shapes.specs.Fresh.{taken_in, numbers_left, no_such, first_such}
+use Rattle.shapes.specs.Rewriting.{rewritten_row, renamed, without_rows}
+use Rattle.shapes.specs.Measure.{is_flat}
+
+-- the half-edges of a face's outer loop, and the points at which they start
+abbrev pub rim : Model → ℕ → List ℕ
+rim M f = items_of (content M (outer M f))
+
+abbrev pub outline : Model → ℕ → List Point
+outline M f = map (start M) (rim M f)
+
+abbrev pub has_repeats : List Point → Bool
+has_repeats [] = false
+has_repeats (p ∷ ps) = list_any (same_point p) ps || has_repeats ps
+
+abbrev pub same_points : List Point → List Point → Bool
+same_points [] [] = true
+same_points [] (q ∷ qs) = false
+same_points (p ∷ ps) [] = false
+same_points (p ∷ ps) (q ∷ qs) = same_point p q && same_points ps qs
+
+-- whether ps is qs with its first k points moved to the end, for some k up to n
+abbrev pub is_turned : ℕ → List Point → List Point → Bool
+is_turned zero ps qs = same_points ps qs
+is_turned (suc n) ps qs = same_points ps (drop (suc n) qs ++ take (suc n) qs) || is_turned n ps qs
+
+abbrev pub is_rotation : List Point → List Point → Bool
+is_rotation ps qs = is_turned (length qs) ps qs
+
+-- a glue of face g to face f, in the order of its refusals
+unfoldable pub glue_conditions : Model → ℕ → ℕ → List Condition
+glue_conditions M f g = let s = solid_of M f in let t = solid_of M g in
+    numbers_in_range (f ∷ g ∷ []) ++
+    need (table.has M.faces f) NoFace f
+    ∷ need (table.has M.faces g) NoFace g
+    ∷ never (nat_eq s t) SameSolid s
+    ∷ never (has_rings M f) HasRings f
+    ∷ never (has_rings M g) HasRings g
+    ∷ no_such (least_lone M (faces_of_both M s t)) LoneLoop
+    ∷ no_such (first_such (λ k. not (is_flat M k)) (faces_of_both M s t)) NotFlat
+    ∷ never (has_repeats (outline M f)) RepeatedPoint f
+    ∷ never (has_repeats (outline M g)) RepeatedPoint g
+    ∷ need (is_rotation (outline M f) (reverse (outline M g))) NoMatch g
+    ∷ numbers_left (taken_in M) 0 0 1 0
+
+-- the refusal of the first false condition, if one is false
+abbrev pub glue_refusal : Model → ℕ → ℕ → Option Refusal
+glue_refusal M f g = first_refusal (glue_conditions M f g)
+
+-- the half-edge among gs that starts where h ends
+abbrev pub partner : Model → List ℕ → ℕ → ℕ
+partner M gs h = first_such (λ g. same_point (start M g) (finish M h)) gs
+
+-- each item h of the first face with its partner g, which goes back along it: (h, g)
+abbrev pub partners : Model → List ℕ → List ℕ → List (ℕ × ℕ)
+partners M gs [] = []
+partners M gs (h ∷ hs) = (h, partner M gs h) ∷ partners M gs hs
+
+-- h stands in place of the mate of g
+abbrev pub swaps : List (ℕ × ℕ) → List (ℕ × ℕ)
+swaps ps = map (λ p. (mate p.1, p.0)) ps
+
+-- the vertex at which h ends stands in place of the one at which g starts
+abbrev pub moves : Model → List (ℕ × ℕ) → List (ℕ × ℕ)
+moves M ps = map (λ p. (tail M p.1, tail M (mate p.0))) ps
+
+-- what started at a vertex of the first column starts at the one beside it
+abbrev pub renamed_tails : List (ℕ × ℕ) → ℕ → EdgeRow → EdgeRow
+renamed_tails ms e row = record { plus_tail = renamed ms row.plus_tail; minus_tail = renamed ms row.minus_tail }
+
+-- in every other loop h stands in place of the mate of g; the edges and vertices of g go, and both faces with their loops
+abbrev pub glued_along : Model → ℕ → ℕ → List (ℕ × ℕ) → Model
+glued_along M f g ps = let s = solid_of M f in let t = solid_of M g in record {
+  solids = table.remove M.solids t;
+  faces = table.map_rows (faces_to_solid (λ _ row. nat_eq row.solid t) s) (table.remove (table.remove M.faces f) g);
+  loops = table.map_rows (rewritten_row (map (renamed (swaps ps)))) (table.remove (table.remove M.loops (outer M f)) (outer M g));
+  edges = table.map_rows (renamed_tails (moves M ps)) (without_rows M.edges (map (λ p. edge_of p.1) ps));
+  vertices = without_rows M.vertices (map (λ m. m.0) (moves M ps));
+}
+
+-- the model that an accepted glue makes
+unfoldable pub glue_model : Model → ℕ → ℕ → Model
+glue_model M f g = glued_along M f g (partners M (rim M g) (rim M f))

@@ -1,0 +1,109 @@
+-- The second rewriting: in each face that straddles, edges are drawn between its pairs of cut places.
+use Rattle.std.specs.Prelude.{ℕ, ◌+◌, Bool, cond, ◌&&◌, nat_eq, nat_lt, List, [], ◌∷◌, ◌++◌, map, length, fold, filter}
+use Rattle.lattice.specs.declared.Plane.{Plane}
+use Rattle.lattice.specs.Vectors.{is_on}
+use Rattle.cyclic_list.specs.Operators.{mef_old, mef_new, mekr_ring}
+use Rattle.boundary_model.specs.HalfEdge.{plus, minus}
+use Rattle.boundary_model.specs.Table as table
+use Rattle.boundary_model.specs.Model.{Model, cycle, content, tail, loop_of, cycle_of, solid_of, after, is_ring_of, rings_of}
+use Rattle.euler_operators.specs.Conditions.{face_at, has_rings}
+use Rattle.euler_operators.specs.Effect.{loop_to_face}
+use Rattle.shapes.specs.Faces.{start, vertices_on}
+use Rattle.shapes.specs.Fresh.{Taken, Growing}
+use Rattle.shapes.specs.split.Sides.{some_above, straddling_faces}
+use Rattle.shapes.specs.split.Places.{place_pairs}
+use Rattle.shapes.specs.split.Crossings.{with_crossings}
+
+-- the half-edge that starts at a cut place, once the edges are cut
+abbrev pub from_place : Model → Plane → ℕ → ℕ
+from_place N p h = cond (is_on p (start N h)) h (after N h)
+
+-- the pairs of half-edges between which edges are drawn in face f. M is the model before, N the one with its edges cut
+unfoldable pub drawn_pairs : Model → Model → Plane → ℕ → List (ℕ × ℕ)
+drawn_pairs M N p f = map (λ q. (from_place N p q.0, from_place N p q.1)) (place_pairs M p f)
+
+-- the loop A B, with A from u up to before k, becomes +e B, and A -e is the loop l of a new face f
+unfoldable pub face_drawn : Model → ℕ → ℕ → ℕ → ℕ → ℕ → Model
+face_drawn M u k e f l = record M {
+  faces = table.put M.faces f (record { solid = solid_of M (face_at M u); outer = l });
+  loops = table.put (table.put M.loops (loop_of M u) (record { face = face_at M u; content = cycle (mef_old (plus e) u k (cycle_of M u)) }))
+      l (record { face = f; content = cycle (mef_new (minus e) u k (cycle_of M u)) });
+  edges = table.put M.edges e (record { plus_tail = tail M u; minus_tail = tail M k });
+}
+
+-- the loops Y, from c on, and X, from d on, become +e X -e Y, under the number of Y
+unfoldable pub loops_joined : Model → ℕ → ℕ → ℕ → Model
+loops_joined M c d e = record M {
+  loops = table.put (table.remove M.loops (loop_of M d)) (loop_of M c)
+      (record { face = face_at M c; content = cycle (mekr_ring (plus e) (minus e) c d (cycle_of M c) (cycle_of M d)) });
+  edges = table.put M.edges e (record { plus_tail = tail M c; minus_tail = tail M d });
+}
+
+-- what is drawn so far, the pairs of a face that are left for the second pass, and the first face that can't be drawn, or 0
+pub record Drawing : Type 0 where
+  pub model : Model
+  pub taken : Taken
+  pub left : List (ℕ × ℕ)
+  pub stuck : ℕ
+
+abbrev pub stuck_at : ℕ → Drawing → Drawing
+stuck_at f d = record d { stuck = cond (nat_eq d.stuck 0) f d.stuck }
+
+abbrev pub in_one_loop : Model → ℕ × ℕ → Bool
+in_one_loop M q = nat_eq (loop_of M q.0) (loop_of M q.1)
+
+-- the edge leads from k to u where u's loop is a ring, else from u to k
+abbrev pub joined_pair : Model → ℕ × ℕ → ℕ → Model
+joined_pair M q e = cond (is_ring_of M (face_at M q.0) (loop_of M q.0)) (loops_joined M q.1 q.0 e) (loops_joined M q.0 q.1 e)
+
+-- first pass: a pair in different loops is joined, another is left
+unfoldable pub join_next : Drawing → ℕ × ℕ → Drawing
+join_next d q = cond (in_one_loop d.model q)
+    (record d { left = d.left ++ q ∷ [] })
+    (record d { model = joined_pair d.model q (d.taken.edge + 1); taken = record d.taken { edge = d.taken.edge + 1 } })
+
+abbrev pub all_joined : List (ℕ × ℕ) → Drawing → Drawing
+all_joined qs d = fold join_next (record d { left = [] }) qs
+
+-- a face with more than one pair must have no ring then
+abbrev pub ring_free : ℕ → List (ℕ × ℕ) → Drawing → Drawing
+ring_free f qs d = cond (nat_lt 1 (length qs) && has_rings d.model f) (stuck_at f d) d
+
+-- second pass: a pair cuts a new face off. It can't be drawn where it stands in different loops
+unfoldable pub draw_next : ℕ → Drawing → ℕ × ℕ → Drawing
+draw_next f d q = let c = d.taken in cond (in_one_loop d.model q)
+    (record d {
+      model = face_drawn d.model q.0 q.1 (c.edge + 1) (c.face + 1) (c.loop + 1);
+      taken = record c { face = c.face + 1; loop = c.loop + 1; edge = c.edge + 1 };
+    })
+    (stuck_at f d)
+
+abbrev pub all_drawn : ℕ → Drawing → Drawing
+all_drawn f d = fold (draw_next f) d d.left
+
+-- the rings of face f above the plane. Such a ring is uncut, so one corner above tells
+abbrev pub rings_above : Model → Plane → ℕ → List ℕ
+rings_above M p f = filter (λ l. some_above M p (vertices_on M (content M l))) (rings_of M f)
+
+-- some rings given to face k
+abbrev pub with_rings : Model → List ℕ → ℕ → Model
+with_rings M ls k = record M { loops = fold (λ t l. table.map_rows (loop_to_face l k) t) M.loops ls }
+
+-- with one pair, the rings above go to the new face
+abbrev pub rings_shared : Plane → ℕ → List (ℕ × ℕ) → Drawing → Drawing
+rings_shared p f qs d = cond (nat_eq (length qs) 1) (record d { model = with_rings d.model (rings_above d.model p f) d.taken.face }) d
+
+-- one face more
+abbrev pub drawn_between : Plane → ℕ → List (ℕ × ℕ) → Drawing → Drawing
+drawn_between p f qs d = rings_shared p f qs (all_drawn f (ring_free f qs (all_joined qs d)))
+
+unfoldable pub next_drawn : Model → Model → Plane → Drawing → ℕ → Drawing
+next_drawn M N p d f = drawn_between p f (drawn_pairs M N p f) d
+
+-- some faces drawn, in their order
+abbrev pub faces_drawn : Model → Plane → Growing → List ℕ → Drawing
+faces_drawn M p g fs = fold (next_drawn M g.model p) (record { model = g.model; taken = g.taken; left = []; stuck = 0 }) fs
+
+-- the edges of solid s that cross the plane cut, and then its faces that straddle drawn, rising
+unfoldable pub with_drawings : Model → ℕ → Plane → Drawing
+with_drawings M s p = faces_drawn M p (with_crossings M s p) (straddling_faces M p s)

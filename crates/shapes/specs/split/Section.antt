@@ -1,0 +1,52 @@
+-- The edges of the section, between a face above and a face below, and their cycles.
+use Rattle.std.specs.Prelude.{ℕ, ◌+◌, pos, int_lt, Bool, cond, not, ◌&&◌, nat_eq, nat_lt, List, [], ◌∷◌, ◌++◌, map, length, filter, flat_map}
+use Rattle.lattice.specs.declared.Plane.{Plane}
+use Rattle.lattice.specs.Vectors.{dot, direction}
+use Rattle.cyclic_list.specs.Items.{count, least}
+use Rattle.cyclic_list.specs.Rings.{orbit}
+use Rattle.boundary_model.specs.HalfEdge.{mate, plus, minus}
+use Rattle.boundary_model.specs.Table as table
+use Rattle.boundary_model.specs.Model.{Model, tail}
+use Rattle.euler_operators.specs.Conditions.{face_at, lists}
+use Rattle.shapes.specs.Faces.{edges_of}
+use Rattle.shapes.specs.Fresh.{first_such}
+use Rattle.shapes.specs.Measure.{area}
+
+-- the half of a section edge in the face below. Nothing where the edge is none; `above` are the faces above
+abbrev pub below_half : Model → List ℕ → ℕ → List ℕ
+below_half M above e = let a = lists above (face_at M (plus e)) in let b = lists above (face_at M (minus e)) in
+    cond a (cond b [] (minus e ∷ [])) (cond b (plus e ∷ []) [])
+
+-- the below halves of a solid, by rising edge
+unfoldable pub below_halves : Model → List ℕ → ℕ → List ℕ
+below_halves M above s = flat_map (below_half M above) (edges_of M s)
+
+-- the ends of the section edges, and the least vertex at which more than two of these edges meet, or 0
+abbrev pub section_ends : Model → List ℕ → List ℕ
+section_ends M bs = map (tail M) bs ++ map (λ b. tail M (mate b)) bs
+
+abbrev pub least_branched : Model → List ℕ → ℕ
+least_branched M ends = table.first_where (λ v _. nat_lt 2 (count v ends)) M.vertices
+
+-- the below half that starts where b ends
+abbrev pub next_below : Model → List ℕ → ℕ → ℕ
+next_below M bs b = first_such (λ c. nat_eq (tail M c) (tail M (mate b))) bs
+
+-- the cycle of below halves from b on
+abbrev pub cycle_from : Model → List ℕ → ℕ → List ℕ
+cycle_from M bs b = orbit (next_below M bs) b (length bs)
+
+-- the cycles, each from its least edge on, by their least edges
+unfoldable pub section_cycles : Model → List ℕ → List (List ℕ)
+section_cycles M bs = map (cycle_from M bs) (filter (λ b. nat_eq (least (cycle_from M bs b)) b) bs)
+
+-- a cycle is a hole where the normal of its cap below points against the plane's direction, else it is outer
+unfoldable pub is_hole : Model → Plane → List ℕ → Bool
+is_hole M p bs = int_lt (dot (area M (map mate bs)) (direction p)) (pos 0)
+
+abbrev pub holes_in : Model → Plane → List (List ℕ) → List (List ℕ)
+holes_in M p cs = filter (is_hole M p) cs
+
+-- there is a hole and not exactly one outer cycle
+abbrev pub has_stray_hole : Model → Plane → List (List ℕ) → Bool
+has_stray_hole M p cs = nat_lt 0 (length (holes_in M p cs)) && not (nat_eq (length cs) (length (holes_in M p cs) + 1))

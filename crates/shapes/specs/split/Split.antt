@@ -1,0 +1,92 @@
+-- A solid split by a plane: what is below and on the plane keeps its number, what is above goes to a new solid.
+use Rattle.std.specs.Prelude.{ℕ, ◌+◌, ◌*◌, not, ◌&&◌, List, [], ◌∷◌, ◌++◌, map, length, Option}
+use Rattle.std.specs.List.{list_any}
+use Rattle.lattice.specs.declared.Plane.{Plane}
+use Rattle.lattice.specs.Point.{is_coordinate}
+use Rattle.lattice.specs.Vectors.{origin, same_point, direction, cuts_lattice, is_offset}
+use Rattle.boundary_model.specs.HalfEdge.{plus}
+use Rattle.boundary_model.specs.Table as table
+use Rattle.boundary_model.specs.Model.{Model, faces_of}
+use Rattle.euler_operators.specs.Conditions.{Condition, need, never, first_refusal, numbers_in_range}
+use Rattle.euler_operators.specs.Effect.{part}
+use Rattle.euler_operators.specs.declared.Refusal.{Refusal}
+use Rattle.euler_operators.specs.declared.Why.TheVariants.{NoSolid, SolidTaken, PlaneRange, LoneLoop, NotFlat, PlaneMisses, NotLattice, TouchedFace, CutOften, CutCrossed, BranchedVertex, SectionHoles}
+use Rattle.shapes.specs.Faces.{least_lone, start, finish}
+use Rattle.shapes.specs.Fresh.{Taken, taken_in, numbers_left, no_such, first_such}
+use Rattle.shapes.specs.Measure.{is_flat}
+use Rattle.shapes.specs.split.Sides.{reaches_above, reaches_below, straddling_faces, crossing_edges, faces_above}
+use Rattle.shapes.specs.split.Places.{is_touched, is_cut_often, is_crossed, pair_count}
+use Rattle.shapes.specs.split.Drawing.{Drawing, with_drawings}
+use Rattle.shapes.specs.split.Section.{below_halves, section_ends, least_branched, section_cycles, has_stray_hole}
+use Rattle.shapes.specs.split.Opening.{Opening, all_opened, holes_closed}
+
+-- the coefficients of the plane are in range, and the first three aren't all zero
+abbrev pub plane_in_range : Plane → List Condition
+plane_in_range p =
+    need (is_coordinate p.a) PlaneRange 1
+    ∷ need (is_coordinate p.b) PlaneRange 2
+    ∷ need (is_coordinate p.c) PlaneRange 3
+    ∷ need (is_offset p.d) PlaneRange 4
+    ∷ never (same_point (direction p) origin) PlaneRange 0
+    ∷ []
+
+-- what is asked of the edges that cross the plane, of the faces that straddle it, and of the numbers that cutting them takes
+abbrev pub cut_conditions : Model → Plane → List ℕ → List ℕ → List Condition
+cut_conditions M p es fs =
+    no_such (first_such (λ e. not (cuts_lattice p (start M (plus e)) (finish M (plus e)))) es) NotLattice
+    ∷ no_such (first_such (is_touched M p) fs) TouchedFace
+    ∷ no_such (first_such (is_cut_often M p) fs) CutOften
+    ∷ no_such (first_such (is_crossed M p) fs) CutCrossed
+    ∷ numbers_left (taken_in M) (pair_count M p fs) (pair_count M p fs) (length es + pair_count M p fs) (length es)
+
+-- the conditions that are tested before anything is changed
+unfoldable pub first_conditions : Model → ℕ → Plane → ℕ → List Condition
+first_conditions M s p t =
+    numbers_in_range (s ∷ t ∷ []) ++
+    (need (table.has M.solids s) NoSolid s
+    ∷ never (table.has M.solids t) SolidTaken t
+    ∷ plane_in_range p ++
+    (no_such (least_lone M (faces_of M s)) LoneLoop
+    ∷ no_such (first_such (λ f. not (is_flat M f)) (faces_of M s)) NotFlat
+    ∷ need (list_any (reaches_above M p) (faces_of M s) && list_any (reaches_below M p) (faces_of M s)) PlaneMisses s
+    ∷ cut_conditions M p (crossing_edges M p s) (straddling_faces M p s)))
+
+-- what is asked of n section edges and their cycles. Numbers count on from c, those really taken by then
+abbrev pub cycle_conditions : Model → ℕ → Plane → Taken → ℕ → List (List ℕ) → List Condition
+cycle_conditions M s p c n cs =
+    never (has_stray_hole M p cs) SectionHoles s
+    ∷ numbers_left c (n + length cs) (n + length cs) (2 * n) n
+
+unfoldable pub section_conditions : Model → ℕ → Plane → Taken → List ℕ → List Condition
+section_conditions M s p c bs =
+    no_such (least_branched M (section_ends M bs)) BranchedVertex
+    ∷ cycle_conditions M s p c (length bs) (section_cycles M bs)
+
+-- the conditions that are tested once the faces are drawn
+abbrev pub later_conditions : ℕ → Plane → Drawing → List Condition
+later_conditions s p d = no_such d.stuck CutCrossed ∷ section_conditions d.model s p d.taken (below_halves d.model (faces_above d.model p s) s)
+
+unfoldable pub split_conditions : Model → ℕ → Plane → ℕ → List Condition
+split_conditions M s p t = first_conditions M s p t ++ later_conditions s p (with_drawings M s p)
+
+-- the refusal of the first false condition, if one is false
+abbrev pub split_refusal : Model → ℕ → Plane → ℕ → Option Refusal
+split_refusal M s p t = first_refusal (split_conditions M s p t)
+
+-- the solid opened along the cycles of its section; `above` are its faces above
+abbrev pub opened_at : Drawing → List ℕ → ℕ → Plane → Opening
+opened_at d above s p = all_opened p above s (record { model = d.model; taken = d.taken; caps = [] }) (section_cycles d.model (below_halves d.model above s))
+
+-- the holes closed, and then the faces above and the caps above parted from solid s as solid t
+abbrev pub upper_part : Opening → List ℕ → ℕ → ℕ → Model
+upper_part o above s t = part (holes_closed o.model o.caps) s t (above ++ map (λ k. k.upper) o.caps)
+
+abbrev pub split_drawn : Drawing → List ℕ → ℕ → Plane → ℕ → Model
+split_drawn d above s p t = upper_part (opened_at d above s p) above s t
+
+abbrev pub split_above : Drawing → ℕ → Plane → ℕ → Model
+split_above d s p t = split_drawn d (faces_above d.model p s) s p t
+
+-- the model that an accepted split makes
+unfoldable pub split_model : Model → ℕ → Plane → ℕ → Model
+split_model M s p t = split_above (with_drawings M s p) s p t

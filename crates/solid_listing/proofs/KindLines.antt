@@ -1,0 +1,140 @@
+-- The lines of a model tell the numbers of each kind and the line of each number.
+use Rattle.std.proofs.Common.{◌≡◌, ℕ, ◌^◌, ◌<◌, Bool, true, false, cond, ◌||◌, nat_eq, List, [], ◌∷◌, ◌++◌, map, refl, sym, ap, ◌∙◌, true≢false, inl, inr}
+use Rattle.std.proofs.lemmas.List.{append-nil}
+use Rattle.std.proofs.lemmas.Bool.Decides.{eqb_tells}
+use Rattle.std.proofs.lemmas.Fmt.{decimal_injective}
+use Rattle.std.specs.Fmt.{decimal}
+use Rattle.boundary_model.specs.declared.Kind.{Kind}
+use Rattle.boundary_model.specs.declared.Kind.TheVariants.{Solid, Face, Loop, Edge, Vertex}
+use Rattle.boundary_model.specs.Model.{Model}
+use Rattle.boundary_model.specs.Sound.{Sound}
+use Rattle.solid_listing.specs.Listing.{line, numbers_of, kind_lines, lines}
+use Rattle.face_walks.proofs.Rising.{member}
+use Rattle.face_walks.proofs.TableWalks.{member_numbers}
+use Rattle.solid_listing.proofs.Parsing.{Word, Line}
+use Rattle.solid_listing.proofs.Lines.{here, later, solid_small, face_small, loop_small, edge_small, vertex_small}
+
+-- the letter with which the lines of a kind begin
+abbrev letter : Kind → ℕ
+letter Solid = 115
+letter Face = 102
+letter Loop = 108
+letter Edge = 101
+letter Vertex = 118
+
+abbrev first_letter : Line → ℕ
+first_letter [] = 0
+first_letter ([] ∷ ws) = 0
+first_letter ((b ∷ w) ∷ ws) = b
+
+-- the lines that begin with a letter
+abbrev select : ℕ → List Line → List Line
+select b [] = []
+select b (l ∷ ls) = cond (nat_eq (first_letter l) b) (l ∷ select b ls) (select b ls)
+
+select-append : (b : ℕ) (ls ms : List Line) → select b (ls ++ ms) ≡ select b ls ++ select b ms
+select-append b [] ms = refl
+select-append b (l ∷ ls) ms = go (nat_eq (first_letter l) b) (select-append b ls ms) where
+  go : (c : Bool) → select b (ls ++ ms) ≡ select b ls ++ select b ms → cond c (l ∷ select b (ls ++ ms)) (select b (ls ++ ms)) ≡ cond c (l ∷ select b ls) (select b ls) ++ select b ms
+  go true e = ap (λ (ks : List Line). l ∷ ks) e
+  go false e = e
+
+both : (b : ℕ) (ls ms ps qs : List Line) → select b ls ≡ ps → select b ms ≡ qs → select b (ls ++ ms) ≡ ps ++ qs
+both b ls ms ps qs e f = select-append b ls ms ∙ (λ i. e i ++ f i)
+
+first_is : (M : Model) (k : Kind) (n : ℕ) → first_letter (line M k n) ≡ letter k
+first_is M Solid n = refl
+first_is M Face n = refl
+first_is M Loop n = refl
+first_is M Edge n = refl
+first_is M Vertex n = refl
+
+select_map : (M : Model) (b : ℕ) (k : Kind) (ns : List ℕ) → select b (map (line M k) ns) ≡ cond (nat_eq (letter k) b) (map (line M k) ns) []
+select_map M b k [] = go (nat_eq (letter k) b) where
+  go : (c : Bool) → ◌≡◌ {A = List Line} [] (cond c [] [])
+  go true = refl
+  go false = refl
+select_map M b k (n ∷ ns) =
+    ap (λ x. cond (nat_eq x b) (line M k n ∷ select b (map (line M k) ns)) (select b (map (line M k) ns))) (first_is M k n)
+    ∙ go (nat_eq (letter k) b) (select_map M b k ns) where
+      go : (c : Bool) → select b (map (line M k) ns) ≡ cond c (map (line M k) ns) [] → cond c (line M k n ∷ select b (map (line M k) ns)) (select b (map (line M k) ns)) ≡ cond c (line M k n ∷ map (line M k) ns) []
+      go true e = ap (λ (ls : List Line). line M k n ∷ ls) e
+      go false e = e
+
+part : Model → ℕ → Kind → List Line
+part M b k = cond (nat_eq (letter k) b) (kind_lines M k) []
+
+select_kind : (M : Model) (b : ℕ) (k : Kind) → select b (kind_lines M k) ≡ part M b k
+unfolding part
+select_kind M b k = select_map M b k (numbers_of M k)
+
+select_lines : (M : Model) (b : ℕ) → select b (lines M) ≡ part M b Solid ++ (part M b Face ++ (part M b Loop ++ (part M b Edge ++ (part M b Vertex ++ []))))
+unfolding lines
+select_lines M b = both b _ _ _ _ (select_kind M b Solid) (both b _ _ _ _ (select_kind M b Face) (both b _ _ _ _ (select_kind M b Loop) (both b _ _ _ _ (select_kind M b Edge) (both b _ [] _ [] (select_kind M b Vertex) refl))))
+
+kind_told : (M : Model) (k : Kind) → select (letter k) (lines M) ≡ kind_lines M k
+unfolding part
+kind_told M Solid = select_lines M 115 ∙ append-nil (kind_lines M Solid)
+kind_told M Face = select_lines M 102 ∙ append-nil (kind_lines M Face)
+kind_told M Loop = select_lines M 108 ∙ append-nil (kind_lines M Loop)
+kind_told M Edge = select_lines M 101 ∙ append-nil (kind_lines M Edge)
+kind_told M Vertex = select_lines M 118 ∙ append-nil (kind_lines M Vertex)
+
+-- the first word of a line, and the other ones
+abbrev pub head_word : Line → Word
+head_word [] = []
+head_word (w ∷ ws) = w
+
+abbrev pub later_words : Line → Line
+later_words [] = []
+later_words (w ∷ ws) = ws
+
+second_is : (M : Model) (k : Kind) (n : ℕ) → head_word (later_words (line M k n)) ≡ decimal n
+second_is M Solid n = refl
+second_is M Face n = refl
+second_is M Loop n = refl
+second_is M Edge n = refl
+second_is M Vertex n = refl
+
+-- lists of numbers are told by what is made of each number
+pub same_numbers : {A : Type 0} (f g : ℕ → A) (ns ms : List ℕ) → ((n m : ℕ) → member n ns ≡ true → member m ms ≡ true → f n ≡ g m → n ≡ m) → map f ns ≡ map g ms → ns ≡ ms
+same_numbers f g [] [] key e = refl
+same_numbers f g [] (m ∷ ms) key e = cc
+same_numbers f g (n ∷ ns) [] key e = cc
+same_numbers f g (n ∷ ns) (m ∷ ms) key e =
+    let p : f n ≡ g m = cc in
+    let q : map f ns ≡ map g ms = cc in
+    let first = key n m (here n ns) (here m ms) p in
+    let rest = same_numbers f g ns ms (λ k j a b s. key k j (later k n ns a) (later j m ms b) s) q in
+    λ i. first i ∷ rest i
+
+agree : {A : Type 0} (f g : ℕ → A) (ns : List ℕ) → map f ns ≡ map g ns → (n : ℕ) → member n ns ≡ true → f n ≡ g n
+agree f g [] e n m = absurd (true≢false (sym m))
+agree f g (k ∷ ks) e n m =
+    let p : f k ≡ g k = cc in
+    let q : map f ks ≡ map g ks = cc in
+    elim (eqb_tells n k) [
+      | inl same ↦ ap f same.1 ∙ p ∙ ap g (sym same.1)
+      | inr other ↦ agree f g ks q n (sym (ap (λ b. b || member n ks) other.0) ∙ m)
+    ]
+
+small : (M : Model) → Sound M → (k : Kind) (n : ℕ) → member n (numbers_of M k) ≡ true → n < 2 ^ 64
+small M sound Solid n m = solid_small M sound n (sym (member_numbers M.solids n) ∙ m)
+small M sound Face n m = face_small M sound n (sym (member_numbers M.faces n) ∙ m)
+small M sound Loop n m = loop_small M sound n (sym (member_numbers M.loops n) ∙ m)
+small M sound Edge n m = edge_small M sound n (sym (member_numbers M.edges n) ∙ m)
+small M sound Vertex n m = vertex_small M sound n (sym (member_numbers M.vertices n) ∙ m)
+
+module _ (M N : Model) (one : Sound M) (two : Sound N) (same : lines M ≡ lines N) where
+  maps_same : (k : Kind) → map (line M k) (numbers_of M k) ≡ map (line N k) (numbers_of N k)
+  maps_same k = sym (kind_told M k) ∙ ap (select (letter k)) same ∙ kind_told N k
+
+  -- the numbers in use are the same
+  pub numbers_told : (k : Kind) → numbers_of M k ≡ numbers_of N k
+  numbers_told k = same_numbers (line M k) (line N k) (numbers_of M k) (numbers_of N k)
+      (λ n m a b e. decimal_injective n m (small M one k n a) (small N two k m b) (sym (second_is M k n) ∙ ap (λ l. head_word (later_words l)) e ∙ second_is N k m))
+      (maps_same k)
+
+  -- and the line of each
+  pub line_told : (k : Kind) (n : ℕ) → member n (numbers_of M k) ≡ true → line M k n ≡ line N k n
+  line_told k n m = agree (line M k) (line N k) (numbers_of M k) (maps_same k ∙ ap (map (line N k)) (sym (numbers_told k))) n m

@@ -1,0 +1,125 @@
+-- The lines of a sound model can be read back.
+use Rattle.std.proofs.Common.{◌≡◌, ℕ, ◌+◌, ◌^◌, ◌<◌, ◌≤◌, Bool, true, false, cond, ◌&&◌, ◌||◌, not, nat_eq, List, [], ◌∷◌, ◌++◌, map, Option, Some, None, is_some, unwrap_or, refl, sym, ap, ◌∙◌, arith, true≢false}
+use Rattle.std.proofs.lemmas.Bool.Decides.{nat_tests}
+use Rattle.std.specs.Fmt.{decimal}
+use Rattle.lattice.specs.declared.Point.{Point}
+use Rattle.lattice.specs.Point.{is_coordinate, is_in_range}
+use Rattle.cyclic_list.specs.Items.{count, IsIn}
+use Rattle.boundary_model.specs.declared.Kind.{Kind}
+use Rattle.boundary_model.specs.declared.Kind.TheVariants.{Solid, Face, Loop, Edge, Vertex}
+use Rattle.boundary_model.specs.HalfEdge.{plus, minus, edge_of}
+use Rattle.boundary_model.specs.Table.{get, has}
+use Rattle.boundary_model.specs.Model.{Model, LoopContent, lone, cycle, no_point, items_of, solid_of, outer, face_of, content, tail, point_of, rings_of}
+use Rattle.boundary_model.specs.Sound.{Sound, Has, HasHalf}
+use Rattle.boundary_model.proofs.Halves.{plus_row, minus_row}
+use Rattle.boundary_model.proofs.Models.{in-holds}
+use Rattle.solid_listing.specs.Listing.{line, content_words, half_word, point_words, numbers_of, kind_lines, lines}
+use Rattle.face_walks.proofs.Rising.{member}
+use Rattle.face_walks.proofs.TableWalks.{member_numbers}
+use Rattle.face_walks.proofs.RingWalks.{member_rings}
+use Rattle.solid_listing.proofs.Parsing.{Word, Line, is_clean, are_clean, is_good, are_good, and_left, and_right, and_both}
+use Rattle.solid_listing.proofs.Words.{number_small, coordinate_small, clean_decimal, clean_signed, clean_half}
+
+pub member_in : (x : ℕ) (xs : List ℕ) → member x xs ≡ true → IsIn x xs
+member_in x [] e = absurd (true≢false (sym e))
+member_in x (y ∷ ys) e = elim (nat_eq x y) as (λ b. nat_eq x y ≡ b → b || member x ys ≡ true → 1 ≤ cond b 1 0 + count x ys) [
+  | true ↦ λ _ _. omega arith
+  | false ↦ λ _ m. let i = member_in x ys m in omega arith
+] refl e
+
+pub here : (k : ℕ) (ks : List ℕ) → member k (k ∷ ks) ≡ true
+here k ks = grind (arith, nat_tests)
+
+pub later : (k x : ℕ) (ks : List ℕ) → member k ks ≡ true → member k (x ∷ ks) ≡ true
+later k x ks m = elim (nat_eq k x) as (λ b. b || member k ks ≡ true) [ true ↦ refl | false ↦ m ]
+
+pub clean_map : (f : ℕ → Word) (ns : List ℕ) → ((n : ℕ) → member n ns ≡ true → is_clean (f n) ≡ true) → are_clean (map f ns) ≡ true
+clean_map f [] h = refl
+clean_map f (n ∷ ns) h = and_both (is_clean (f n)) (are_clean (map f ns)) (h n (here n ns)) (clean_map f ns (λ k m. h k (later k n ns m)))
+
+pub good_map : (f : ℕ → Line) (ns : List ℕ) → ((n : ℕ) → member n ns ≡ true → is_good (f n) ≡ true) → are_good (map f ns) ≡ true
+good_map f [] h = refl
+good_map f (n ∷ ns) h = and_both (is_good (f n)) (are_good (map f ns)) (h n (here n ns)) (good_map f ns (λ k m. h k (later k n ns m)))
+
+good_append : (ls ms : List Line) → are_good ls ≡ true → are_good ms ≡ true → are_good (ls ++ ms) ≡ true
+good_append [] ms p q = q
+good_append (l ∷ ls) ms p q = and_both (is_good l) (are_good (ls ++ ms)) (and_left (is_good l) (are_good ls) p) (good_append ls ms (and_right (is_good l) (are_good ls) p) q)
+
+and_one : (a b c : Bool) → a && b && c ≡ true → a ≡ true
+and_one true b c e = refl
+and_one false b c e = e
+
+module _ (M : Model) (sound : Sound M) where
+  pub solid_small : (n : ℕ) → Has M.solids n → n < 2 ^ 64
+  solid_small n there = number_small n (sound.solids_fit n there)
+
+  pub face_small : (n : ℕ) → Has M.faces n → n < 2 ^ 64
+  face_small n there = number_small n (sound.faces_fit n there)
+
+  pub loop_small : (n : ℕ) → Has M.loops n → n < 2 ^ 64
+  loop_small n there = number_small n (sound.loops_fit n there)
+
+  pub edge_small : (n : ℕ) → Has M.edges n → n < 2 ^ 64
+  edge_small n there = number_small n (sound.edges_fit n there)
+
+  pub vertex_small : (n : ℕ) → Has M.vertices n → n < 2 ^ 64
+  vertex_small n there = number_small n (sound.vertices_fit n there)
+
+  pub ring_there : (f n : ℕ) → member n (rings_of M f) ≡ true → Has M.loops n
+  ring_there f n m = and_one (has M.loops n) (nat_eq (face_of M n) f) (not (nat_eq (outer M f) n)) (sym (member_rings M f n) ∙ m)
+
+  pub item_there : (l : ℕ) (hs : List ℕ) → content M l ≡ cycle hs → (h : ℕ) → member h hs ≡ true → HasHalf M h
+  item_there l hs e h m = sound.only_edges h l (in-holds h (content M l) (stands (content M l) hs e h (member_in h hs m))) where
+    stands : (c : LoopContent) (hs : List ℕ) → c ≡ cycle hs → (h : ℕ) → IsIn h hs → IsIn h (items_of c)
+    stands c hs e h i = rw e i
+
+  pub plus_tail_small : (e : ℕ) → Has M.edges e → tail M (plus e) < 2 ^ 64
+  plus_tail_small e there = vertex_small (tail M (plus e)) (sound.tails_there (plus e) (ap (has M.edges) (plus_row e).0 ∙ there))
+
+  pub minus_tail_small : (e : ℕ) → Has M.edges e → tail M (minus e) < 2 ^ 64
+  minus_tail_small e there = vertex_small (tail M (minus e)) (sound.tails_there (minus e) (ap (has M.edges) (minus_row e).0 ∙ there))
+
+  pub point_in_range : (v : ℕ) → Has M.vertices v → is_in_range (point_of M v) ≡ true
+  unfolding point_of
+  point_in_range v there = go (get M.vertices v) refl there where
+    go : (o : Option Point) → get M.vertices v ≡ o → is_some o ≡ true → is_in_range (unwrap_or o no_point) ≡ true
+    go None e t = absurd (true≢false (sym t))
+    go (Some p) e t = sound.points_fit v p e
+
+  clean_content : (l : ℕ) → Has M.loops l → (c : LoopContent) → content M l ≡ c → are_clean (content_words c) ≡ true
+  clean_content l there (lone v) e = and_both (is_clean (decimal v)) true (clean_decimal v (vertex_small v (sound.lone_at_vertex l v e))) refl
+  clean_content l there (cycle hs) e = clean_map half_word hs (λ h m. clean_half h (edge_small (edge_of h) (item_there l hs e h m)))
+
+  clean_point : (p : Point) → is_in_range p ≡ true → are_clean (point_words p) ≡ true
+  clean_point p r =
+      let xyz = and_right (is_coordinate p.x) (is_coordinate p.y && is_coordinate p.z) r in
+      let x = coordinate_small p.x (and_left (is_coordinate p.x) (is_coordinate p.y && is_coordinate p.z) r) in
+      let y = coordinate_small p.y (and_left (is_coordinate p.y) (is_coordinate p.z) xyz) in
+      let z = coordinate_small p.z (and_right (is_coordinate p.y) (is_coordinate p.z) xyz) in
+      and_both _ _ (clean_signed p.x x) (and_both _ _ (clean_signed p.y y) (and_both _ true (clean_signed p.z z) refl))
+
+  pub line_good : (kind : Kind) (n : ℕ) → member n (numbers_of M kind) ≡ true → is_good (line M kind n) ≡ true
+  line_good Solid s m = and_both (is_clean (decimal s)) true (clean_decimal s (solid_small s (sym (member_numbers M.solids s) ∙ m))) refl
+  line_good Face f m =
+      let there = sym (member_numbers M.faces f) ∙ m in
+      and_both _ _ (clean_decimal f (face_small f there))
+      (and_both _ _ (clean_decimal (solid_of M f) (solid_small (solid_of M f) (sound.faces_of_solids f there)))
+      (and_both _ _ (clean_decimal (outer M f) (loop_small (outer M f) (sound.outers_there f there).0))
+      (clean_map decimal (rings_of M f) (λ n r. clean_decimal n (loop_small n (ring_there f n r))))))
+  line_good Loop l m =
+      let there = sym (member_numbers M.loops l) ∙ m in
+      and_both _ _ (clean_decimal l (loop_small l there)) (clean_content l there (content M l) refl)
+  line_good Edge e m =
+      let there = sym (member_numbers M.edges e) ∙ m in
+      and_both _ _ (clean_decimal e (edge_small e there))
+      (and_both _ _ (clean_decimal (tail M (plus e)) (plus_tail_small e there)) (and_both _ true (clean_decimal (tail M (minus e)) (minus_tail_small e there)) refl))
+  line_good Vertex v m =
+      let there = sym (member_numbers M.vertices v) ∙ m in
+      and_both _ _ (clean_decimal v (vertex_small v there)) (clean_point (point_of M v) (point_in_range v there))
+
+  kind_good : (kind : Kind) → are_good (kind_lines M kind) ≡ true
+  kind_good kind = good_map (line M kind) (numbers_of M kind) (line_good kind)
+
+  pub lines_good : are_good (lines M) ≡ true
+  unfolding lines
+  lines_good = good_append (kind_lines M Solid) _ (kind_good Solid) (good_append (kind_lines M Face) _ (kind_good Face) (good_append (kind_lines M Loop) _ (kind_good Loop) (good_append (kind_lines M Edge) _ (kind_good Edge) (good_append (kind_lines M Vertex) [] (kind_good Vertex) refl))))

@@ -1,0 +1,208 @@
+-- A listing tells all of a sound model.
+use Rattle.std.proofs.Common.{◌≡◌, ℕ, Bool, true, false, cond, ◌&&◌, not, nat_eq, List, [], ◌∷◌, map, codes, Option, Some, None, is_some, unwrap_or, refl, sym, ap, ◌∙◌, arith, true≢false, inl, inr}
+use Rattle.std.proofs.lemmas.Bool.Decides.{nat_tests, eqb_tells}
+use Rattle.std.proofs.lemmas.Fmt.{decimal_injective, signed_decimal_injective}
+use Rattle.std.specs.Fmt.{decimal, signed_decimal}
+use Rattle.lattice.specs.declared.Point.{Point}
+use Rattle.lattice.specs.Point.{is_coordinate, is_in_range}
+use Rattle.boundary_model.specs.declared.Kind.TheVariants.{Solid, Face, Loop, Edge, Vertex}
+use Rattle.boundary_model.specs.HalfEdge.{plus, minus, edge_of, is_first}
+use Rattle.boundary_model.specs.Table.{Table, get, has, numbers, same_table}
+use Rattle.boundary_model.specs.Model.{Model, LoopContent, FaceRow, EdgeRow, lone, cycle, no_face, no_point, solid_of, outer, face_of, content, tail, tail_in, point_of, rings_of}
+use Rattle.boundary_model.specs.Sound.{Sound, Has}
+use Rattle.boundary_model.proofs.Halves.{plus_row, minus_row}
+use Rattle.boundary_model.proofs.Models.{content_row, face_row, tail_row}
+use Rattle.solid_listing.specs.Lines.{text_of}
+use Rattle.solid_listing.specs.Listing.{line, content_words, half_word, lines, or_empty, listing}
+use Rattle.face_walks.proofs.Rising.{member}
+use Rattle.face_walks.proofs.TableWalks.{member_numbers}
+use Rattle.face_walks.proofs.RingWalks.{member_rings}
+use Rattle.solid_listing.proofs.Parsing.{Word, Line, is_good, are_good, and_left, and_right, parsed, parsed_text, parsed_one}
+use Rattle.solid_listing.proofs.Words.{coordinate_small, half_told}
+use Rattle.solid_listing.proofs.Lines.{lines_good, solid_small, loop_small, edge_small, vertex_small, ring_there, item_there, plus_tail_small, minus_tail_small, point_in_range}
+use Rattle.solid_listing.proofs.KindLines.{head_word, later_words, same_numbers, numbers_told, line_told}
+
+-- from texts to lines
+read : (ls : List Line) → are_good ls ≡ true → parsed (text_of (or_empty ls)) ≡ or_empty ls
+read [] g = parsed_one (codes "empty") refl
+read (l ∷ ls) g = parsed_text (l ∷ ls) g
+
+bare_told : (l : Line) (ls : List Line) → are_good (l ∷ ls) ≡ true → (codes "empty" ∷ []) ∷ [] ≡ l ∷ ls → ⊥
+bare_told l ls g e =
+    let p : codes "empty" ∷ [] ≡ l = cc in
+    true≢false (sym (ap is_good p ∙ and_left (is_good l) (are_good ls) g))
+
+unbarred : (ls ms : List Line) → are_good ls ≡ true → are_good ms ≡ true → or_empty ls ≡ or_empty ms → ls ≡ ms
+unbarred [] [] g h e = refl
+unbarred [] (m ∷ ms) g h e = absurd (bare_told m ms h e)
+unbarred (l ∷ ls) [] g h e = absurd (bare_told l ls g (sym e))
+unbarred (l ∷ ls) (m ∷ ms) g h e = e
+
+lines_told : (M N : Model) → Sound M → Sound N → listing M ≡ listing N → lines M ≡ lines N
+unfolding listing
+lines_told M N one two e = unbarred (lines M) (lines N) (lines_good M one) (lines_good N two)
+    (sym (read (lines M) (lines_good M one)) ∙ ap parsed e ∙ read (lines N) (lines_good N two))
+
+-- tables with the same numbers and rows
+same_rows : {X : Type 0} (s t : Table X) → ((q : ℕ) → has s q ≡ has t q) → ((q : ℕ) (x y : X) → get s q ≡ Some x → get t q ≡ Some y → x ≡ y) → s ≡ t
+same_rows {X = X} s t numbers rows = same_table s t (λ q. go (get s q) (get t q) (numbers q) (rows q)) where
+  go : (o p : Option X) → is_some o ≡ is_some p → ((x y : X) → o ≡ Some x → p ≡ Some y → x ≡ y) → o ≡ p
+  go None None e r = refl
+  go None (Some y) e r = absurd (true≢false (sym e))
+  go (Some x) None e r = absurd (true≢false e)
+  go (Some x) (Some y) e r = ap Some (r x y refl refl)
+
+solid_row : (M : Model) (f : ℕ) (row : FaceRow) → get M.faces f ≡ Some row → solid_of M f ≡ row.solid
+unfolding solid_of
+solid_row M f row at = ap (λ o. (unwrap_or o no_face).solid) at
+
+outer_row : (M : Model) (f : ℕ) (row : FaceRow) → get M.faces f ≡ Some row → outer M f ≡ row.outer
+unfolding outer
+outer_row M f row at = ap (λ o. (unwrap_or o no_face).outer) at
+
+point_row : (M : Model) (v : ℕ) (p : Point) → get M.vertices v ≡ Some p → point_of M v ≡ p
+unfolding point_of
+point_row M v p at = ap (λ o. unwrap_or o no_point) at
+
+plus_tail_row : (M : Model) (e : ℕ) (row : EdgeRow) → get M.edges e ≡ Some row → tail M (plus e) ≡ row.plus_tail
+plus_tail_row M e row at = tail_row M (plus e) row (ap (get M.edges) (plus_row e).0 ∙ at) ∙ ap (tail_in row) (plus_row e).1
+
+minus_tail_row : (M : Model) (e : ℕ) (row : EdgeRow) → get M.edges e ≡ Some row → tail M (minus e) ≡ row.minus_tail
+minus_tail_row M e row at = tail_row M (minus e) row (ap (get M.edges) (minus_row e).0 ∙ at) ∙ ap (tail_in row) (minus_row e).1
+
+-- a vertex of a lone loop is no half-edge
+no_half : (v : ℕ) (hs : List ℕ) → content_words (lone v) ≡ map half_word hs → ⊥
+no_half v [] e = cc
+no_half v (h ∷ hs) e =
+    let w : codes "at" ≡ half_word h = cc in
+    go (is_first h) (ap first_byte w) where
+      first_byte : Word → ℕ
+      first_byte [] = 0
+      first_byte (b ∷ bs) = b
+
+      go : (b : Bool) → ◌≡◌ {A = ℕ} 97 (cond b 43 45) → ⊥
+      go true s = omega arith
+      go false s = omega arith
+
+three : (a b c : Bool) → a && b && c ≡ true → b ≡ true
+three true true c e = refl
+three true false c e = e
+three false b c e = absurd (true≢false (sym e))
+
+module _ (M N : Model) (one : Sound M) (two : Sound N) (same : lines M ≡ lines N) where
+  has_solid : (q : ℕ) → has M.solids q ≡ has N.solids q
+  has_solid q = sym (member_numbers M.solids q) ∙ ap (member q) (numbers_told M N one two same Solid) ∙ member_numbers N.solids q
+
+  has_face : (q : ℕ) → has M.faces q ≡ has N.faces q
+  has_face q = sym (member_numbers M.faces q) ∙ ap (member q) (numbers_told M N one two same Face) ∙ member_numbers N.faces q
+
+  has_loop : (q : ℕ) → has M.loops q ≡ has N.loops q
+  has_loop q = sym (member_numbers M.loops q) ∙ ap (member q) (numbers_told M N one two same Loop) ∙ member_numbers N.loops q
+
+  has_edge : (q : ℕ) → has M.edges q ≡ has N.edges q
+  has_edge q = sym (member_numbers M.edges q) ∙ ap (member q) (numbers_told M N one two same Edge) ∙ member_numbers N.edges q
+
+  has_vertex : (q : ℕ) → has M.vertices q ≡ has N.vertices q
+  has_vertex q = sym (member_numbers M.vertices q) ∙ ap (member q) (numbers_told M N one two same Vertex) ∙ member_numbers N.vertices q
+
+  face_line : (f : ℕ) → Has M.faces f → line M Face f ≡ line N Face f
+  face_line f there = line_told M N one two same Face f (member_numbers M.faces f ∙ there)
+
+  solid_told : (f : ℕ) → Has M.faces f → solid_of M f ≡ solid_of N f
+  solid_told f there = decimal_injective (solid_of M f) (solid_of N f)
+      (solid_small M one (solid_of M f) (one.faces_of_solids f there))
+      (solid_small N two (solid_of N f) (two.faces_of_solids f (sym (has_face f) ∙ there)))
+      (ap (λ l. head_word (later_words (later_words l))) (face_line f there))
+
+  outer_told : (f : ℕ) → Has M.faces f → outer M f ≡ outer N f
+  outer_told f there = decimal_injective (outer M f) (outer N f)
+      (loop_small M one (outer M f) (one.outers_there f there).0)
+      (loop_small N two (outer N f) (two.outers_there f (sym (has_face f) ∙ there)).0)
+      (ap (λ l. head_word (later_words (later_words (later_words l)))) (face_line f there))
+
+  rings_told : (f : ℕ) → Has M.faces f → rings_of M f ≡ rings_of N f
+  rings_told f there = same_numbers decimal decimal (rings_of M f) (rings_of N f)
+      (λ n m a b e. decimal_injective n m (loop_small M one n (ring_there M one f n a)) (loop_small N two m (ring_there N two f m b)) e)
+      (ap (λ l. later_words (later_words (later_words (later_words l)))) (face_line f there))
+
+  -- the face of a loop is the one whose line names it
+  face_told : (l : ℕ) → Has M.loops l → face_of M l ≡ face_of N l
+  face_told l there =
+      let f = face_of M l in
+      let at = one.loops_of_faces l there in
+      elim (eqb_tells (outer M f) l) [
+        | inl is ↦ sym (two.outers_there f (sym (has_face f) ∙ at)).1 ∙ ap (face_of N) (sym (outer_told f at) ∙ is.1)
+        | inr not_outer ↦
+            let itself : nat_eq (face_of M l) f ≡ true = grind (arith, nat_tests) in
+            let ring : member l (rings_of M f) ≡ true = member_rings M f l ∙ ap (λ b. b && nat_eq (face_of M l) f && not (nat_eq (outer M f) l)) there ∙ ap (λ b. b && not (nat_eq (outer M f) l)) itself ∙ ap not not_outer.0 in
+            let other = three (has N.loops l) (nat_eq (face_of N l) f) (not (nat_eq (outer N f) l)) (sym (member_rings N f l) ∙ ap (member l) (sym (rings_told f at)) ∙ ring) in
+            grind (arith, nat_tests)
+      ]
+
+  contents_told : (l : ℕ) (c d : LoopContent) → content M l ≡ c → content N l ≡ d → content_words c ≡ content_words d → c ≡ d
+  contents_told l (lone v) (lone w) p q e = ap lone (decimal_injective v w (vertex_small M one v (one.lone_at_vertex l v p)) (vertex_small N two w (two.lone_at_vertex l w q)) (ap (λ ws. head_word (later_words ws)) e))
+  contents_told l (lone v) (cycle hs) p q e = absurd (no_half v hs e)
+  contents_told l (cycle hs) (lone v) p q e = absurd (no_half v hs (sym e))
+  contents_told l (cycle hs) (cycle gs) p q e = ap cycle (same_numbers half_word half_word hs gs
+      (λ h g a b s. half_told h g (edge_small M one (edge_of h) (item_there M one l hs p h a)) (edge_small N two (edge_of g) (item_there N two l gs q g b)) s) e)
+
+  content_told : (l : ℕ) → Has M.loops l → content M l ≡ content N l
+  content_told l there = contents_told l (content M l) (content N l) refl refl (ap (λ ws. later_words (later_words ws)) (line_told M N one two same Loop l (member_numbers M.loops l ∙ there)))
+
+  edge_line : (e : ℕ) → Has M.edges e → line M Edge e ≡ line N Edge e
+  edge_line e there = line_told M N one two same Edge e (member_numbers M.edges e ∙ there)
+
+  plus_told : (e : ℕ) → Has M.edges e → tail M (plus e) ≡ tail N (plus e)
+  plus_told e there = decimal_injective (tail M (plus e)) (tail N (plus e)) (plus_tail_small M one e there) (plus_tail_small N two e (sym (has_edge e) ∙ there))
+      (ap (λ l. head_word (later_words (later_words l))) (edge_line e there))
+
+  minus_told : (e : ℕ) → Has M.edges e → tail M (minus e) ≡ tail N (minus e)
+  minus_told e there = decimal_injective (tail M (minus e)) (tail N (minus e)) (minus_tail_small M one e there) (minus_tail_small N two e (sym (has_edge e) ∙ there))
+      (ap (λ l. head_word (later_words (later_words (later_words l)))) (edge_line e there))
+
+  points_told : (p q : Point) → is_in_range p ≡ true → is_in_range q ≡ true → signed_decimal p.x ≡ signed_decimal q.x → signed_decimal p.y ≡ signed_decimal q.y → signed_decimal p.z ≡ signed_decimal q.z → p ≡ q
+  points_told p q r s x y z =
+      let left : (p : Point) → is_in_range p ≡ true → is_coordinate p.x ≡ true = λ p r. and_left (is_coordinate p.x) (is_coordinate p.y && is_coordinate p.z) r in
+      let right : (p : Point) → is_in_range p ≡ true → is_coordinate p.y && is_coordinate p.z ≡ true = λ p r. and_right (is_coordinate p.x) (is_coordinate p.y && is_coordinate p.z) r in
+      let xs = signed_decimal_injective p.x q.x (coordinate_small p.x (left p r)) (coordinate_small q.x (left q s)) x in
+      let ys = signed_decimal_injective p.y q.y (coordinate_small p.y (and_left (is_coordinate p.y) (is_coordinate p.z) (right p r))) (coordinate_small q.y (and_left (is_coordinate q.y) (is_coordinate q.z) (right q s))) y in
+      let zs = signed_decimal_injective p.z q.z (coordinate_small p.z (and_right (is_coordinate p.y) (is_coordinate p.z) (right p r))) (coordinate_small q.z (and_right (is_coordinate q.y) (is_coordinate q.z) (right q s))) z in
+      λ i. record { x = xs i; y = ys i; z = zs i }
+
+  point_told : (v : ℕ) → Has M.vertices v → point_of M v ≡ point_of N v
+  point_told v there =
+      let e = line_told M N one two same Vertex v (member_numbers M.vertices v ∙ there) in
+      points_told (point_of M v) (point_of N v) (point_in_range M one v there) (point_in_range N two v (sym (has_vertex v) ∙ there))
+      (ap (λ l. head_word (later_words (later_words l))) e)
+      (ap (λ l. head_word (later_words (later_words (later_words l)))) e)
+      (ap (λ l. head_word (later_words (later_words (later_words (later_words l))))) e)
+
+  same_solids : M.solids ≡ N.solids
+  same_solids = same_rows M.solids N.solids has_solid (λ q x y at bt. refl)
+
+  same_faces : M.faces ≡ N.faces
+  same_faces = same_rows M.faces N.faces has_face (λ q x y at bt.
+      let s = sym (solid_row M q x at) ∙ solid_told q (ap is_some at) ∙ solid_row N q y bt in
+      let o = sym (outer_row M q x at) ∙ outer_told q (ap is_some at) ∙ outer_row N q y bt in
+      λ i. record { solid = s i; outer = o i })
+
+  same_loops : M.loops ≡ N.loops
+  same_loops = same_rows M.loops N.loops has_loop (λ q x y at bt.
+      let f = sym (face_row M q x at) ∙ face_told q (ap is_some at) ∙ face_row N q y bt in
+      let c = sym (content_row M q x at) ∙ content_told q (ap is_some at) ∙ content_row N q y bt in
+      λ i. record { face = f i; content = c i })
+
+  same_edges : M.edges ≡ N.edges
+  same_edges = same_rows M.edges N.edges has_edge (λ q x y at bt.
+      let p = sym (plus_tail_row M q x at) ∙ plus_told q (ap is_some at) ∙ plus_tail_row N q y bt in
+      let m = sym (minus_tail_row M q x at) ∙ minus_told q (ap is_some at) ∙ minus_tail_row N q y bt in
+      λ i. record { plus_tail = p i; minus_tail = m i })
+
+  same_vertices : M.vertices ≡ N.vertices
+  same_vertices = same_rows M.vertices N.vertices has_vertex (λ q x y at bt. sym (point_row M q x at) ∙ point_told q (ap is_some at) ∙ point_row N q y bt)
+
+  pub same_models : M ≡ N
+  same_models = λ i. record { solids = same_solids i; faces = same_faces i; loops = same_loops i; edges = same_edges i; vertices = same_vertices i }
+
+pub listing_told : (M N : Model) → Sound M → Sound N → listing M ≡ listing N → M ≡ N
+listing_told M N one two e = same_models M N one two (lines_told M N one two e)

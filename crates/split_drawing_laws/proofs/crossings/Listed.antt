@@ -1,0 +1,144 @@
+-- Lists that tests pick from, and the items and corners of faces.
+use Rattle.std.specs.Prelude.{map, filter}
+use Rattle.std.specs.List.{list_any}
+use Rattle.std.proofs.Common.{◌≡◌, ◌≢◌, ℕ, ◌+◌, ◌≤◌, Bool, true, false, cond, not, nat_eq, ◌&&◌, ◌||◌, List, [], ◌∷◌, Some, refl, sym, ap, ◌∙◌, subst, arith, inl, inr, true≢false}
+use Rattle.std.proofs.lemmas.Bool.Decides.{eqb_tells}
+use Rattle.cyclic_list.specs.Items.{count, tick, IsIn}
+use Rattle.cyclic_list.proofs.Lists.{count-append, tick_same, tick_other}
+use Rattle.boundary_model.specs.Table as table
+use Rattle.boundary_model.specs.Table.{Table}
+use Rattle.boundary_model.specs.Model.{Model, LoopContent, lone, cycle, items_of, content, outer, tail, face_of, rings_of}
+use Rattle.boundary_model.specs.Sound.{Has}
+use Rattle.euler_operators.specs.Conditions.{lists}
+use Rattle.euler_laws.proofs.shared.Goes.{equals, differs, not_false}
+use Rattle.euler_laws.proofs.shared.Rows.{loop_row}
+use Rattle.euler_laws.proofs.shared.Listed.{listed_passes, passes_listed, listed_cases}
+use Rattle.solid_measure_laws.proofs.Rising.{in_listed}
+use Rattle.shapes.proofs.fresh.Tests.{NoneSuch, NoZero}
+use Rattle.shapes.specs.Faces.{loops_of, items_in, boundary, vertices_on, vertices_in, corners}
+
+-- ---- lists
+
+pub here : (x y : ℕ) (ns : List ℕ) → x ≡ y → IsIn x (y ∷ ns)
+here x y ns e = subst (λ k. 1 ≤ tick x k + count x ns) e (omega (arith, tick_same x))
+
+pub listed_in : (x : ℕ) (ns : List ℕ) → lists ns x ≡ true → IsIn x ns
+listed_in x [] l = absurd (true≢false (sym l))
+listed_in x (n ∷ ns) l = elim (listed_cases n x ns l) [ inl e ↦ here x n ns e | inr r ↦ omega (arith, listed_in x ns r) ]
+
+-- what passes stands in the list of what passes, no oftener than before
+pub picked : (p : ℕ → Bool) (x : ℕ) (ns : List ℕ) → IsIn x ns → p x ≡ true → IsIn x (filter p ns)
+picked p x [] i e = absurd (omega arith)
+picked p x (n ∷ ns) i e = elim (eqb_tells x n) [
+  | inl s ↦ subst (λ b. IsIn x (cond b (n ∷ filter p ns) (filter p ns))) (sym (ap p (sym s.1) ∙ e)) (here x n (filter p ns) s.1)
+  | inr s ↦ later (p n) (picked p x ns (omega (arith, i, tick_other x n s.1)) e)
+] where
+  later : (b : Bool) → IsIn x (filter p ns) → IsIn x (cond b (n ∷ filter p ns) (filter p ns))
+  later true j = omega (arith, j)
+  later false j = j
+
+pub picked_count : (p : ℕ → Bool) (x : ℕ) (ns : List ℕ) → count x (filter p ns) ≤ count x ns
+picked_count p x [] = omega arith
+picked_count p x (n ∷ ns) = go (p n) (picked_count p x ns) where
+  go : (b : Bool) → count x (filter p ns) ≤ count x ns → count x (cond b (n ∷ filter p ns) (filter p ns)) ≤ tick x n + count x ns
+  go true l = omega (arith, l)
+  go false l = omega (arith, l)
+
+pub picked_passes : (p : ℕ → Bool) (x : ℕ) (ns : List ℕ) → IsIn x (filter p ns) → p x ≡ true
+picked_passes p x [] i = absurd (omega arith)
+picked_passes p x (n ∷ ns) i = go (p n) refl i (λ j. picked_passes p x ns j) where
+  go : (b : Bool) → p n ≡ b → IsIn x (cond b (n ∷ filter p ns) (filter p ns)) → (IsIn x (filter p ns) → p x ≡ true) → p x ≡ true
+  go true e j more = elim (eqb_tells x n) [
+    | inl s ↦ ap p s.1 ∙ e
+    | inr s ↦ more (omega (arith, j, tick_other x n s.1))
+  ]
+  go false e j more = more j
+
+pub picked_none : (p : ℕ → Bool) (ns : List ℕ) → ((x : ℕ) → IsIn x ns → p x ≡ false) → filter p ns ≡ []
+picked_none p [] none = refl
+picked_none p (n ∷ ns) none = ap (λ b. cond b (n ∷ filter p ns) (filter p ns)) (none n (here n n ns refl)) ∙ picked_none p ns (λ x i. none x (omega (arith, i)))
+
+-- one that passes
+pub any_passes : (p : ℕ → Bool) (x : ℕ) (ns : List ℕ) → IsIn x ns → p x ≡ true → list_any p ns ≡ true
+any_passes p x [] i e = absurd (omega arith)
+any_passes p x (n ∷ ns) i e = elim (eqb_tells x n) [
+  | inl s ↦ ap (λ b. b || list_any p ns) (ap p (sym s.1) ∙ e)
+  | inr s ↦ later (p n) (any_passes p x ns (omega (arith, i, tick_other x n s.1)) e)
+] where
+  later : (b : Bool) → list_any p ns ≡ true → (b || list_any p ns) ≡ true
+  later true f = refl
+  later false f = f
+
+pub none_at : (p : ℕ → Bool) (x : ℕ) (ns : List ℕ) → NoneSuch p ns → IsIn x ns → p x ≡ false
+none_at p x [] n i = absurd (omega arith)
+none_at p x (m ∷ ns) n i = elim (eqb_tells x m) [
+  | inl s ↦ ap p s.1 ∙ n.0
+  | inr s ↦ none_at p x ns n.1 (omega (arith, i, tick_other x m s.1))
+]
+
+pub all_not_zero : (ns : List ℕ) → ((x : ℕ) → IsIn x ns → x ≢ 0) → NoZero ns
+all_not_zero [] f = tt
+all_not_zero (n ∷ ns) f = (f n (here n n ns refl), all_not_zero ns (λ x i. f x (omega (arith, i))))
+
+-- ---- tables
+
+pub all_where_has : {X : Type 0} (p : ℕ → X → Bool) (t : Table X) (n : ℕ) → IsIn n (table.all_where p t) → (x : X) × (table.get t n ≡ Some x) × (p n x ≡ true)
+all_where_has p t n i = listed_passes p t n (in_listed n (table.all_where p t) i)
+
+pub all_where_in : {X : Type 0} (p : ℕ → X → Bool) (t : Table X) (n : ℕ) (x : X) → table.get t n ≡ Some x → p n x ≡ true → IsIn n (table.all_where p t)
+all_where_in p t n x at e = listed_in n (table.all_where p t) (passes_listed p t n x at e)
+
+-- ---- the loops of a face
+
+module _ (M : Model) where
+  -- a loop is one of the loops of its face
+  pub loop_in_face : (l : ℕ) → Has M.loops l → IsIn l (loops_of M (face_of M l))
+  unfolding loops_of
+  loop_in_face l there = elim (eqb_tells l (outer M (face_of M l))) [
+    | inl s ↦ here l (outer M (face_of M l)) (rings_of M (face_of M l)) s.1
+    | inr s ↦
+        let ring : IsIn l (rings_of M (face_of M l)) = all_where_in (λ k row. nat_eq row.face (face_of M l) && not (nat_eq (outer M (face_of M l)) k)) M.loops l
+        (record { face = face_of M l; content = content M l }) (loop_row M l there)
+        (both (nat_eq (face_of M l) (face_of M l)) (nat_eq (outer M (face_of M l)) l) (equals (face_of M l) (face_of M l) refl) (differs (outer M (face_of M l)) l (λ e. s.1 (sym e)))) in
+        omega (arith, ring)
+  ] where
+    both : (a b : Bool) → a ≡ true → b ≡ false → (a && not b) ≡ true
+    both a b e f = ap (λ c. c && not b) e ∙ not_false b f
+
+  pub item_in : (h l : ℕ) (ls : List ℕ) → IsIn l ls → IsIn h (items_of (content M l)) → IsIn h (items_in M ls)
+  item_in h l [] i j = absurd (omega arith)
+  item_in h l (k ∷ ls) i j = elim (eqb_tells l k) [
+    | inl s ↦ let now : IsIn h (items_of (content M k)) = subst (λ q. IsIn h (items_of (content M q))) s.1 j in
+        omega (arith, now, count-append h (items_of (content M k)) (items_in M ls))
+    | inr s ↦ let later : IsIn h (items_in M ls) = item_in h l ls (omega (arith, i, tick_other l k s.1)) j in
+        omega (arith, later, count-append h (items_of (content M k)) (items_in M ls))
+  ]
+
+  mapped_in : (h : ℕ) (hs : List ℕ) → IsIn h hs → IsIn (tail M h) (map (tail M) hs)
+  mapped_in h [] i = absurd (omega arith)
+  mapped_in h (g ∷ hs) i = elim (eqb_tells h g) [
+    | inl s ↦ here (tail M h) (tail M g) (map (tail M) hs) (ap (tail M) s.1)
+    | inr s ↦ omega (arith, mapped_in h hs (omega (arith, i, tick_other h g s.1)))
+  ]
+
+  tail_on : (h : ℕ) (c : LoopContent) → IsIn h (items_of c) → IsIn (tail M h) (vertices_on M c)
+  tail_on h (lone v) i = absurd (omega arith)
+  tail_on h (cycle hs) i = mapped_in h hs i
+
+  pub tail_in : (h l : ℕ) (ls : List ℕ) → IsIn l ls → IsIn h (items_of (content M l)) → IsIn (tail M h) (vertices_in M ls)
+  tail_in h l [] i j = absurd (omega arith)
+  tail_in h l (k ∷ ls) i j = elim (eqb_tells l k) [
+    | inl s ↦ let now : IsIn (tail M h) (vertices_on M (content M k)) = subst (λ q. IsIn (tail M h) (vertices_on M (content M q))) s.1 (tail_on h (content M l) j) in
+        omega (arith, now, count-append (tail M h) (vertices_on M (content M k)) (vertices_in M ls))
+    | inr s ↦ let later : IsIn (tail M h) (vertices_in M ls) = tail_in h l ls (omega (arith, i, tick_other l k s.1)) j in
+        omega (arith, later, count-append (tail M h) (vertices_on M (content M k)) (vertices_in M ls))
+  ]
+
+  -- the items of a loop are items of its face, and start at its corners
+  pub item_in_face : (h l : ℕ) → Has M.loops l → IsIn h (items_of (content M l)) → IsIn h (boundary M (face_of M l))
+  unfolding boundary
+  item_in_face h l there i = item_in h l (loops_of M (face_of M l)) (loop_in_face l there) i
+
+  pub tail_in_face : (h l : ℕ) → Has M.loops l → IsIn h (items_of (content M l)) → IsIn (tail M h) (corners M (face_of M l))
+  unfolding corners
+  tail_in_face h l there i = tail_in h l (loops_of M (face_of M l)) (loop_in_face l there) i

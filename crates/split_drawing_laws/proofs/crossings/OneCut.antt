@@ -1,0 +1,244 @@
+-- An edge cut at a new vertex is what mev makes at its plus half and the item after its minus half, where these stand in different loops.
+use Rattle.std.specs.Prelude.{flat_map}
+use Rattle.std.proofs.Common.{◌≡◌, ◌≢◌, ℕ, suc, ◌+◌, ◌*◌, true, false, cond, nat_eq, nat_lt, List, [], ◌∷◌, length, Option, Some, None, is_some, refl, sym, ap, ◌∙◌, subst, arith, inl, inr, true≢false}
+use Rattle.std.specs.Option.{option_map}
+use Rattle.std.specs.Ordering.{nat_cmp}
+use Rattle.std.specs.FinMap.Entries.{find}
+use Rattle.std.proofs.lemmas.Bool.Decides.{nat_tests, eqb_tells}
+use Rattle.lattice.specs.declared.Point.{Point}
+use Rattle.cyclic_list.specs.Items.{count, IsIn}
+use Rattle.cyclic_list.specs.Rings.{canonical, successor, rest}
+use Rattle.cyclic_list.specs.Rings as rings
+use Rattle.cyclic_list.specs.Edits.{insert_before}
+use Rattle.cyclic_list.proofs.Edits.{count-insert_before}
+use Rattle.cyclic_list.proofs.Rings.{IsIn_successor}
+use Rattle.cyclic_list.proofs.Rotations.{count-canonical}
+use Rattle.cyclic_list.proofs.Lists.{tick_same, tick_other}
+use Rattle.boundary_model.specs.HalfEdge.{edge_of, plus, minus}
+use Rattle.boundary_model.specs.Table as table
+use Rattle.boundary_model.specs.Table.{Table, tables, same_table, get-map_rows}
+use Rattle.boundary_model.specs.Model.{Model, LoopContent, lone, cycle, LoopRow, EdgeRow, items_of, holds, tail, tail_in, loop_of, content, face_of, cycle_of, after, arc, round}
+use Rattle.boundary_model.specs.Sound.{Sound, Has, HasHalf}
+use Rattle.boundary_model.proofs.Tables.{map_one}
+use Rattle.boundary_model.proofs.Models.{content_row, tail_row, row_of, not_held, other_loop, in-holds, holds-none, none-holds, cycle_there, cycle_sound}
+use Rattle.shapes.specs.Rewriting.{rewritten, rewritten_row}
+use Rattle.euler_operators.specs.Effect.{mev_at, with_before, with_tails, edge_row}
+use Rattle.euler_laws.proofs.shared.Rows.{where_held_none, where_held_there, one_row}
+use Rattle.shapes.specs.split.Crossings.{doubled, edge_cut}
+use Rattle.boundary_model.proofs.Halves.{plus_row, minus_row}
+use Rattle.euler_laws.proofs.shared.Undo.{mate_plus}
+use Rattle.split_drawing_laws.proofs.crossings.Doubled.{doubled_none, doubled_plus, doubled_minus, put_between}
+
+-- two rewritings after one another are a third, where they agree row by row
+maps_agree : {X : Type 0} (f g h : ℕ → X → X) (t : Table X) → ((q : ℕ) (x : X) → table.get t q ≡ Some x → g q (f q x) ≡ h q x) → table.map_rows g (table.map_rows f t) ≡ table.map_rows h t
+maps_agree {X = X} f g h t agree = same_table _ _ (λ q. get-map_rows g (table.map_rows f t) q ∙ ap (option_map (g q)) (get-map_rows f t q) ∙ go q (table.get t q) (agree q) ∙ sym (get-map_rows h t q)) where
+  go : (q : ℕ) (o : Option X) → ((x : X) → o ≡ Some x → g q (f q x) ≡ h q x) → option_map (g q) (option_map (f q) o) ≡ option_map (h q) o
+  go q None agree = refl
+  go q (Some x) agree = ap Some (agree x refl)
+
+arc_one : (next : ℕ → ℕ) (a b n m : ℕ) → a ≢ b → next a ≡ b → m ≡ suc (suc n) → rings.arc next a b m ≡ a ∷ []
+arc_one next a b n m apart leads e = ap (rings.arc next a b) e
+    ∙ ap (λ t. cond t [] (a ∷ cond (nat_eq (next a) b) [] (next a ∷ rings.arc next (next (next a)) b n))) (differs a b apart)
+    ∙ ap (λ t. a ∷ cond t [] (next a ∷ rings.arc next (next (next a)) b n)) (same (next a) b leads) where
+      differs : (a b : ℕ) → a ≢ b → nat_eq a b ≡ false
+      differs a b n = grind (arith, nat_tests)
+
+      same : (a b : ℕ) → a ≡ b → nat_eq a b ≡ true
+      same a b e = grind (arith, nat_tests)
+
+some_rows : {X : Type 0} (e : ℕ) (es : List (ℕ × X)) → is_some (find nat_cmp e es) ≡ true → (n : ℕ) × (2 * length es ≡ suc (suc n))
+some_rows e [] there = absurd (true≢false (sym there))
+some_rows e (x ∷ xs) there = (2 * length xs, omega arith)
+
+-- edge e can be cut by edge k: it is there, its halves stand in different loops, and k is free
+pub record CanCut (M : Model) (e k : ℕ) : Type 0 where
+  pub sound : Sound M
+  pub there : Has M.edges e
+  pub apart : loop_of M (plus e) ≢ loop_of M (minus e)
+  pub edge_free : table.get M.edges k ≡ None
+
+row_plus : (e a b : ℕ) → edge_row (plus e) a b ≡ record { plus_tail = a; minus_tail = b }
+row_plus e a b = ap (λ t. cond t (record { plus_tail = a; minus_tail = b }) (record { plus_tail = b; minus_tail = a })) (plus_row e).1
+
+module _ (M : Model) (e k v : ℕ) (q : Point) (goes : CanCut M e k) where
+  -- the loops of the two halves, their items, and the item after the minus half
+  abbrev l : ℕ
+  l = loop_of M (plus e)
+
+  abbrev m : ℕ
+  m = loop_of M (minus e)
+
+  abbrev xs : List ℕ
+  xs = cycle_of M (plus e)
+
+  abbrev ys : List ℕ
+  ys = cycle_of M (minus e)
+
+  abbrev next : ℕ
+  next = successor ys (minus e)
+
+  abbrev first_row : LoopRow
+  first_row = record { face = face_of M l; content = cycle xs }
+
+  abbrev second_row : LoopRow
+  second_row = record { face = face_of M m; content = cycle ys }
+
+  pub plus_there : HasHalf M (plus e)
+  plus_there = ap (table.has M.edges) (plus_row e).0 ∙ goes.there
+
+  pub minus_there : HasHalf M (minus e)
+  minus_there = ap (table.has M.edges) (minus_row e).0 ∙ goes.there
+
+  -- an item of one of the two loops isn't in the other
+  in_one : (h : ℕ) → IsIn h ys → count h xs ≡ 0
+  in_one h there = elim (holds h (content M l)) as (λ b. holds h (content M l) ≡ b → count h xs ≡ 0) [
+    | true ↦ λ t. absurd (goes.apart (sym (goes.sound.one_loop h l t) ∙ goes.sound.one_loop h m (in-holds h (content M m) there)))
+    | false ↦ λ t. none-holds h (content M l) t
+  ] refl
+
+  next_there : IsIn next ys
+  next_there = IsIn_successor (minus e) ys (cycle_there M goes.sound (minus e) minus_there)
+
+  no_new : (h : ℕ) → edge_of h ≡ k → (g : ℕ) → HasHalf M g → count h (cycle_of M g) ≡ 0
+  no_new h is g there = not_held M goes.sound h (ap (table.get M.edges) is ∙ goes.edge_free) (loop_of M g) _ (row_of M goes.sound g there)
+
+  at_a : table.get M.loops l ≡ Some first_row
+  at_a = row_of M goes.sound (plus e) plus_there
+
+  at_b : table.get M.loops m ≡ Some second_row
+  at_b = row_of M goes.sound (minus e) minus_there
+
+  abbrev first : ℕ → LoopRow → LoopRow
+  first = with_before (plus e) (plus k)
+
+  abbrev second : ℕ → LoopRow → LoopRow
+  second = with_before next (minus k)
+
+  abbrev both : ℕ → LoopRow → LoopRow
+  both = rewritten_row (flat_map (doubled e k))
+
+  new_apart : (h : ℕ) → HasHalf M h → h ≢ plus k
+  new_apart h there is = true≢false (sym there ∙ ap is_some (ap (λ x. table.get M.edges (edge_of x)) is ∙ ap (table.get M.edges) (plus_row k).0 ∙ goes.edge_free))
+
+  pub next_half : HasHalf M next
+  next_half = goes.sound.only_edges next m (in-holds next (content M m) next_there)
+
+  -- in the loop of the plus half
+  rows_a : second l (first l first_row)
+      ≡ both l first_row
+  rows_a =
+      let there : IsIn (plus e) xs = cycle_there M goes.sound (plus e) plus_there in
+      ap (second l) (where_held_there (plus e) (λ hs. cycle (canonical (insert_before (plus e) (plus k) hs))) l first_row (in-holds (plus e) (cycle xs) there))
+      ∙ where_held_none next (λ hs. cycle (canonical (insert_before next (minus k) hs))) l
+      (record { face = face_of M l; content = cycle (canonical (insert_before (plus e) (plus k) xs)) })
+      (holds-none next (cycle (canonical (insert_before (plus e) (plus k) xs)))
+      (count-canonical next (insert_before (plus e) (plus k) xs)
+      ∙ count-insert_before next (plus e) (plus k) xs there
+      ∙ (λ i. tick_other next (plus k) (new_apart next next_half) i + in_one next next_there i)))
+      ∙ ap (λ hs. record { face = face_of M l; content = cycle (canonical hs) })
+      (sym (doubled_plus e k xs ((cycle_sound M goes.sound (plus e) plus_there).apart (plus e)) (in_one (minus e) (cycle_there M goes.sound (minus e) minus_there))))
+
+  -- the plus half isn't in the loop of the minus half
+  no_plus : count (plus e) ys ≡ 0
+  no_plus = none-holds (plus e) (cycle ys) (other_loop M goes.sound (plus e) m second_row (λ s. goes.apart (sym s)) at_b)
+
+  -- in the loop of the minus half
+  rows_b : second m (first m second_row)
+      ≡ both m second_row
+  rows_b =
+      ap (second m) (where_held_none (plus e) (λ hs. cycle (canonical (insert_before (plus e) (plus k) hs))) m second_row
+      (holds-none (plus e) (cycle ys) no_plus))
+      ∙ where_held_there next (λ hs. cycle (canonical (insert_before next (minus k) hs))) m second_row
+      (in-holds next (cycle ys) next_there)
+      ∙ ap (λ hs. record { face = face_of M m; content = cycle hs })
+      (put_between (minus e) (minus k) ys (cycle_sound M goes.sound (minus e) minus_there).apart (cycle_there M goes.sound (minus e) minus_there) (no_new (minus k) (minus_row k).0 (minus e) minus_there)
+      ∙ ap canonical (sym (doubled_minus e k ys no_plus ((cycle_sound M goes.sound (minus e) minus_there).apart (minus e)))))
+
+  -- a loop that holds neither stays
+  stays : (n : ℕ) (row : LoopRow) → table.get M.loops n ≡ Some row → count (plus e) (items_of row.content) ≡ 0 → count (minus e) (items_of row.content) ≡ 0 → rewritten (flat_map (doubled e k)) row.content ≡ row.content
+  stays n row at a b = go row.content (content_row M n row at) a b where
+    go : (c : LoopContent) → content M n ≡ c → count (plus e) (items_of c) ≡ 0 → count (minus e) (items_of c) ≡ 0 → rewritten (flat_map (doubled e k)) c ≡ c
+    go (lone w) is a b = refl
+    go (cycle hs) is a b = ap (λ t. cycle (canonical t)) (doubled_none e k hs a b) ∙ ap cycle ((goes.sound.cycles n hs (ap is_some at) is).from_least)
+
+  other_rows : (n : ℕ) (row : LoopRow) → n ≢ l → n ≢ m → table.get M.loops n ≡ Some row → second n (first n row) ≡ both n row
+  other_rows n row a b at =
+      let no_a : holds (plus e) row.content ≡ false = other_loop M goes.sound (plus e) n row a at in
+      let no_b : holds (minus e) row.content ≡ false = other_loop M goes.sound (minus e) n row b at in
+      let next_loop : loop_of M next ≡ m = goes.sound.one_loop next m (in-holds next (content M m) next_there) in
+      ap (second n) (where_held_none (plus e) (λ hs. cycle (canonical (insert_before (plus e) (plus k) hs))) n row no_a)
+      ∙ where_held_none next (λ hs. cycle (canonical (insert_before next (minus k) hs))) n row
+      (other_loop M goes.sound next n row (λ s. b (s ∙ next_loop)) at)
+      ∙ sym (ap (λ c. record row { content = c }) (stays n row at (none-holds (plus e) row.content no_a) (none-holds (minus e) row.content no_b)))
+
+  all_rows : (n : ℕ) (row : LoopRow) → table.get M.loops n ≡ Some row → second n (first n row) ≡ both n row
+  all_rows n row at = elim (eqb_tells n l) [
+    | inl p ↦ let is : row ≡ first_row = one_row (sym at ∙ ap (table.get M.loops) p.1 ∙ at_a) in
+        (λ i. second (p.1 i) (first (p.1 i) (is i))) ∙ rows_a ∙ (λ i. both (sym p.1 i) (sym is i))
+    | inr p ↦ elim (eqb_tells n m) [
+      | inl r ↦ let is : row ≡ second_row = one_row (sym at ∙ ap (table.get M.loops) r.1 ∙ at_b) in
+          (λ i. second (r.1 i) (first (r.1 i) (is i))) ∙ rows_b ∙ (λ i. both (sym r.1 i) (sym is i))
+      | inr r ↦ other_rows n row p.1 r.1 at
+    ]
+  ]
+
+  pub loops_agree : table.map_rows second (table.map_rows first M.loops) ≡ table.map_rows both M.loops
+  loops_agree = maps_agree first second both M.loops all_rows
+
+  first_tail : (r : EdgeRow) → table.get M.edges e ≡ Some r → tail M (plus e) ≡ r.plus_tail
+  first_tail r at = tail_row M (plus e) r (ap (table.get M.edges) (plus_row e).0 ∙ at) ∙ ap (tail_in r) (plus_row e).1
+
+  second_tail : (r : EdgeRow) → table.get M.edges e ≡ Some r → tail M (minus e) ≡ r.minus_tail
+  second_tail r at = tail_row M (minus e) r (ap (table.get M.edges) (minus_row e).0 ∙ at) ∙ ap (tail_in r) (minus_row e).1
+
+  -- round the tail of the plus half, the item after the minus half comes next
+  one_leaves : (t : Table EdgeRow) → M.edges ≡ t → arc M (plus e) (after M (minus e)) ≡ plus e ∷ []
+  unfolding arc after table.get
+  one_leaves t is =
+      let rows = some_rows e M.edges.rows (ap (λ n. is_some (find nat_cmp n M.edges.rows)) (sym (plus_row e).0) ∙ plus_there) in
+      arc_one (round M) (plus e) next rows.0 (2 * length M.edges.rows)
+      (λ s. true≢false (sym (in-holds (plus e) (cycle ys) (subst (λ x. IsIn x ys) (sym s) next_there)) ∙ holds-none (plus e) (cycle ys) no_plus))
+      (ap (after M) (mate_plus e)) rows.1
+
+  only_plus : (x : ℕ) (r : EdgeRow) → x ≢ e → with_tails (plus e ∷ []) v x r ≡ r
+  only_plus x r n = λ i. record {
+    plus_tail = (ap (λ b. cond b v r.plus_tail) (missing (plus x) (λ s. n (omega arith)))) i;
+    minus_tail = (ap (λ b. cond b v r.minus_tail) (missing (minus x) (λ s. omega arith))) i;
+  } where
+    missing : (h : ℕ) → h ≢ plus e → nat_lt 0 (count h (plus e ∷ [])) ≡ false
+    missing h n = ap (λ c. nat_lt 0 (c + 0)) (tick_other h (plus e) n)
+
+  the_plus : (r : EdgeRow) → with_tails (plus e ∷ []) v e r ≡ record { plus_tail = v; minus_tail = r.minus_tail }
+  the_plus r = λ i. record {
+    plus_tail = (ap (λ b. cond b v r.plus_tail) here) i;
+    minus_tail = (ap (λ b. cond b v r.minus_tail) (ap (λ c. nat_lt 0 (c + 0)) (tick_other (minus e) (plus e) (λ s. omega arith)))) i;
+  } where
+    here : nat_lt 0 (count (plus e) (plus e ∷ [])) ≡ true
+    here = ap (λ c. nat_lt 0 (c + 0)) (tick_same (plus e))
+
+  turned_about : {X : Type 0} (t : Table X) (a b : ℕ) (x y : X) → a ≢ b → table.put (table.put t a x) b y ≡ table.put (table.put t b y) a x
+  turned_about t a b x y n = same_table _ _ (λ z. grind (arith, nat_tests, tables))
+
+  edges_agree : (r : EdgeRow) → table.get M.edges e ≡ Some r →
+      table.put (table.map_rows (with_tails (arc M (plus e) (after M (minus e))) v) M.edges) (edge_of (plus k)) (edge_row (plus k) (tail M (plus e)) v)
+      ≡ table.put (table.put M.edges k (record { plus_tail = tail M (plus e); minus_tail = v })) e (record { plus_tail = v; minus_tail = tail M (minus e) })
+  edges_agree r at =
+      (λ i. table.put (table.map_rows (with_tails (one_leaves M.edges refl i) v) M.edges) ((plus_row k).0 i) (row_plus k (tail M (plus e)) v i))
+      ∙ ap (λ t. table.put t k (record { plus_tail = tail M (plus e); minus_tail = v }))
+      (map_one (with_tails (plus e ∷ []) v) M.edges e r at (λ x y n _. only_plus x y n) ∙ ap (table.put M.edges e) (the_plus r ∙ (λ i. record { plus_tail = v; minus_tail = sym (second_tail r at) i })))
+      ∙ turned_about M.edges e k (record { plus_tail = v; minus_tail = tail M (minus e) }) (record { plus_tail = tail M (plus e); minus_tail = v }) (λ s. let h : table.get M.edges e ≡ None = ap (table.get M.edges) s ∙ goes.edge_free in true≢false (ap is_some (sym at ∙ h)))
+
+  has_row : (o : Option EdgeRow) → is_some o ≡ true → (r : EdgeRow) × (o ≡ Some r)
+  has_row None t = absurd (true≢false (sym t))
+  has_row (Some r) t = (r, refl)
+
+  -- the whole model
+  pub cut_is_mev : mev_at M (plus e) (after M (minus e)) (plus k) v q ≡ edge_cut M e k v q
+  unfolding mev_at edge_cut after
+  cut_is_mev =
+      let r = has_row (table.get M.edges e) (ap (λ n. is_some (table.get M.edges n)) (sym (plus_row e).0) ∙ plus_there) in
+      λ i. record M {
+        loops = ((λ j. table.map_rows (with_before next (mate_plus k j)) (table.map_rows (with_before (plus e) (plus k)) M.loops)) ∙ loops_agree) i;
+        edges = edges_agree r.0 r.1 i;
+        vertices = table.put M.vertices v q;
+      }

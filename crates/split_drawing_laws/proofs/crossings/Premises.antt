@@ -1,0 +1,232 @@
+-- What it says that the first conditions of a split hold: each edge that crosses the plane can be cut there.
+use Rattle.std.specs.Prelude.{filter}
+use Rattle.std.specs.List.{list_any, list_all}
+use Rattle.std.proofs.Common.{◌≡◌, ◌≢◌, ℕ, ◌+◌, ◌≤◌, Bool, true, false, cond, not, nat_eq, ◌&&◌, ◌||◌, ℤ, pos, List, [], ◌∷◌, length, is_some, refl, sym, ap, ◌∙◌, subst, arith, ◌⊎◌, inl, inr, true≢false}
+use Rattle.std.specs.Prelude.{int_lt}
+use Rattle.std.proofs.lemmas.Bool.Decides.{eqb_tells}
+use Rattle.lattice.specs.declared.Plane.{Plane}
+use Rattle.lattice.specs.Point.{IsInRange}
+use Rattle.lattice.specs.Vectors.{height, opposite, are_opposite, is_above, is_below, is_on, same_point, cuts_lattice, cut_between}
+use Rattle.cyclic_list.specs.Items.{count, IsIn}
+use Rattle.cyclic_list.proofs.Lists.{tick_other}
+use Rattle.boundary_model.specs.HalfEdge.{plus, minus}
+use Rattle.boundary_model.specs.Table as table
+use Rattle.boundary_model.specs.Model.{Model, items_of, content, tail, loop_of, face_of, solid_of, point_of, before, faces_of}
+use Rattle.boundary_model.specs.Sound.{Sound, Has, HasHalf, StandsIn}
+use Rattle.boundary_model.proofs.Halves.{plus_row, minus_row}
+use Rattle.boundary_model.proofs.Models.{held_row, cycle_there}
+use Rattle.euler_operators.specs.Conditions.{AllHold, face_at}
+use Rattle.euler_laws.proofs.shared.Goes.{not_back, equal, equals, no_zero}
+use Rattle.euler_laws.proofs.shared.Rows.{face_there, point_row}
+use Rattle.euler_laws.proofs.shared.Undo.{mate_plus, mate_minus}
+use Rattle.solid_measure_laws.proofs.Cuts.{cut_on}
+use Rattle.shapes.proofs.fresh.Tests.{none_such, Left, numbers_are_left}
+use Rattle.shapes.specs.Faces.{start, finish, edges_of, boundary, corners}
+use Rattle.shapes.specs.Fresh.{first_such, taken_in}
+use Rattle.shapes.specs.split.Sides.{crosses, straddles, straddling_faces, crossing_edges, reaches_above, reaches_below}
+use Rattle.shapes.specs.split.Places.{is_place, place_point, places, some_meet, is_touched, is_cut_often, is_crossed, is_up_and_down, sorted_pairs, pair_count}
+use Rattle.shapes.specs.split.Split.{first_conditions}
+use Rattle.split_drawing_laws.proofs.crossings.Levels.{opposite_back, not_level, same_as, level_is, cut_back, cut_fits}
+use Rattle.split_drawing_laws.proofs.crossings.Listed.{picked, picked_count, picked_passes, any_passes, none_at, all_not_zero, all_where_has, all_where_in, item_in_face, tail_in_face}
+use Rattle.split_drawing_laws.proofs.crossings.Runs.{Crossing}
+
+-- ---- two places of a face with equal points
+
+meets_first : (M : Model) (p : Plane) (x y : ℕ) (hs : List ℕ) → same_point (place_point M p x) (place_point M p y) ≡ true → IsIn y hs → list_any (λ k. same_point (place_point M p x) (place_point M p k)) hs ≡ true
+meets_first M p x y hs e i = any_passes (λ k. same_point (place_point M p x) (place_point M p k)) y hs i e
+
+two_meet : (M : Model) (p : Plane) (x y : ℕ) (hs : List ℕ) → x ≢ y → place_point M p x ≡ place_point M p y → IsIn x hs → IsIn y hs → some_meet M p hs ≡ true
+two_meet M p x y [] ne e i j = absurd (omega (arith, i))
+two_meet M p x y (h ∷ hs) ne e i j = elim (eqb_tells x h) [
+  | inl s ↦ ap (λ b. b || some_meet M p hs) (meets_first M p h y hs (same_as (place_point M p h) (place_point M p y) (ap (place_point M p) (sym s.1) ∙ e)) (rest y h hs (λ t. ne (s.1 ∙ sym t)) j))
+  | inr s ↦ elim (eqb_tells y h) [
+    | inl t ↦ ap (λ b. b || some_meet M p hs) (meets_first M p h x hs (same_as (place_point M p h) (place_point M p x) (ap (place_point M p) (sym t.1) ∙ sym e)) (rest x h hs s.1 i))
+    | inr t ↦ later (list_any (λ k. same_point (place_point M p h) (place_point M p k)) hs) (two_meet M p x y hs ne e (rest x h hs s.1 i) (rest y h hs t.1 j))
+  ]
+] where
+  rest : (a b : ℕ) (ns : List ℕ) → a ≢ b → IsIn a (b ∷ ns) → IsIn a ns
+  rest a b ns n i = omega (arith, i, tick_other a b n)
+
+  later : (b : Bool) → some_meet M p hs ≡ true → (b || some_meet M p hs) ≡ true
+  later true f = refl
+  later false f = f
+
+-- ---- what the conditions say
+
+pub record Cuttable (M : Model) (s : ℕ) (p : Plane) : Type 0 where
+  pub whole : (e : ℕ) → IsIn e (crossing_edges M p s) → cuts_lattice p (start M (plus e)) (finish M (plus e)) ≡ true
+  pub untouched : (f : ℕ) → IsIn f (straddling_faces M p s) → is_touched M p f ≡ false
+  pub not_often : (f : ℕ) → IsIn f (straddling_faces M p s) → is_cut_often M p f ≡ false
+  pub uncrossed : (f : ℕ) → IsIn f (straddling_faces M p s) → is_crossed M p f ≡ false
+  pub left : Left (taken_in M) (pair_count M p (straddling_faces M p s)) (pair_count M p (straddling_faces M p s))
+      (length (crossing_edges M p s) + pair_count M p (straddling_faces M p s)) (length (crossing_edges M p s))
+
+module _ (M : Model) (sound : Sound M) (s : ℕ) (p : Plane) where
+  pub edge_facts : (e : ℕ) → IsIn e (crossing_edges M p s) → Has M.edges e × (solid_of M (face_at M (plus e)) ≡ s) × (crosses M p (plus e) ≡ true)
+  edge_facts e i =
+      let l : count e (crossing_edges M p s) ≤ count e (edges_of M s) = picked_count (λ x. crosses M p (plus x)) e (edges_of M s) in
+      let w = all_where_has (λ x _. nat_eq (solid_of M (face_at M (plus x))) s) M.edges e (omega (arith, i, l)) in
+      (ap is_some w.1, equal (solid_of M (face_at M (plus e))) s w.2, picked_passes (λ x. crosses M p (plus x)) e (edges_of M s) i)
+
+  edges_not_zero : (e : ℕ) → IsIn e (crossing_edges M p s) → e ≢ 0
+  edges_not_zero e i z = no_zero e z (sound.edges_fit e (edge_facts e i).0)
+
+  pub faces_not_zero : (f : ℕ) → IsIn f (straddling_faces M p s) → f ≢ 0
+  faces_not_zero f i z =
+      let l : count f (straddling_faces M p s) ≤ count f (faces_of M s) = picked_count (straddles M p) f (faces_of M s) in
+      let w = all_where_has (λ _ row. nat_eq row.solid s) M.faces f (omega (arith, i, l)) in
+      no_zero f z (sound.faces_fit f (ap is_some w.1))
+
+  module _ (t : ℕ) (hold : AllHold (first_conditions M s p t)) where
+    none_off : first_such (λ e. not (cuts_lattice p (start M (plus e)) (finish M (plus e)))) (crossing_edges M p s) ≡ 0
+    unfolding first_conditions
+    none_off = equal (first_such (λ e. not (cuts_lattice p (start M (plus e)) (finish M (plus e)))) (crossing_edges M p s)) 0 hold.1.1.1.1.1.1.1.1.1.1.1.1.0
+
+    none_touched : first_such (is_touched M p) (straddling_faces M p s) ≡ 0
+    unfolding first_conditions
+    none_touched = equal (first_such (is_touched M p) (straddling_faces M p s)) 0 hold.1.1.1.1.1.1.1.1.1.1.1.1.1.0
+
+    none_often : first_such (is_cut_often M p) (straddling_faces M p s) ≡ 0
+    unfolding first_conditions
+    none_often = equal (first_such (is_cut_often M p) (straddling_faces M p s)) 0 hold.1.1.1.1.1.1.1.1.1.1.1.1.1.1.0
+
+    none_crossed : first_such (is_crossed M p) (straddling_faces M p s) ≡ 0
+    unfolding first_conditions
+    none_crossed = equal (first_such (is_crossed M p) (straddling_faces M p s)) 0 hold.1.1.1.1.1.1.1.1.1.1.1.1.1.1.1.0
+
+    numbers : Left (taken_in M) (pair_count M p (straddling_faces M p s)) (pair_count M p (straddling_faces M p s))
+        (length (crossing_edges M p s) + pair_count M p (straddling_faces M p s)) (length (crossing_edges M p s))
+    unfolding first_conditions
+    numbers = numbers_are_left (taken_in M) (pair_count M p (straddling_faces M p s)) (pair_count M p (straddling_faces M p s))
+        (length (crossing_edges M p s) + pair_count M p (straddling_faces M p s)) (length (crossing_edges M p s)) hold.1.1.1.1.1.1.1.1.1.1.1.1.1.1.1.1
+
+    pub cuttable : Cuttable M s p
+    cuttable =
+        let es = all_not_zero (crossing_edges M p s) edges_not_zero in
+        let fs = all_not_zero (straddling_faces M p s) faces_not_zero in
+        record {
+          whole = λ e i. not_back (cuts_lattice p (start M (plus e)) (finish M (plus e)))
+              (none_at (λ x. not (cuts_lattice p (start M (plus x)) (finish M (plus x)))) e (crossing_edges M p s)
+              (none_such (λ x. not (cuts_lattice p (start M (plus x)) (finish M (plus x)))) (crossing_edges M p s) es none_off) i);
+          untouched = λ f i. none_at (is_touched M p) f (straddling_faces M p s) (none_such (is_touched M p) (straddling_faces M p s) fs none_touched) i;
+          not_often = λ f i. none_at (is_cut_often M p) f (straddling_faces M p s) (none_such (is_cut_often M p) (straddling_faces M p s) fs none_often) i;
+          uncrossed = λ f i. none_at (is_crossed M p) f (straddling_faces M p s) (none_such (is_crossed M p) (straddling_faces M p s) fs none_crossed) i;
+          left = numbers;
+        }
+
+  -- ---- the halves of an edge that crosses the plane stand in different loops
+
+  module _ (c : Cuttable M s p) (e : ℕ) (i : IsIn e (crossing_edges M p s)) where
+    e_there : Has M.edges e
+    e_there = (edge_facts e i).0
+
+    plus_there : HasHalf M (plus e)
+    plus_there = ap (table.has M.edges) (plus_row e).0 ∙ e_there
+
+    minus_there : HasHalf M (minus e)
+    minus_there = ap (table.has M.edges) (minus_row e).0 ∙ e_there
+
+    far_end : finish M (plus e) ≡ start M (minus e)
+    far_end = ap (start M) (mate_plus e)
+
+    near_end : finish M (minus e) ≡ start M (plus e)
+    near_end = ap (start M) (mate_minus e)
+
+    pub plus_crosses : are_opposite p (start M (plus e)) (start M (minus e)) ≡ true
+    plus_crosses = ap (are_opposite p (start M (plus e))) (sym far_end) ∙ (edge_facts e i).2
+
+    pub minus_crosses : are_opposite p (start M (minus e)) (start M (plus e)) ≡ true
+    minus_crosses = opposite_back (height p (start M (plus e))) (height p (start M (minus e))) plus_crosses
+
+    pub minus_is : crosses M p (minus e) ≡ true
+    minus_is = ap (are_opposite p (start M (minus e))) near_end ∙ minus_crosses
+
+    crossing_is_place : (h : ℕ) → crosses M p h ≡ true → is_place M p h ≡ true
+    unfolding is_place
+    crossing_is_place h x = ap (λ b. b || (is_on p (start M h) && are_opposite p (start M (before M h)) (finish M h))) x
+
+    pub crossing_point : (h : ℕ) → crosses M p h ≡ true → place_point M p h ≡ cut_between p (start M h) (finish M h)
+    unfolding place_point
+    crossing_point h x = ap (λ b. cond b (start M h) (cut_between p (start M h) (finish M h))) (not_level (height p (start M h)) (height p (finish M h)) x)
+
+    pub one_point : place_point M p (plus e) ≡ place_point M p (minus e)
+    one_point = crossing_point (plus e) (edge_facts e i).2
+        ∙ ap (cut_between p (start M (plus e))) far_end
+        ∙ sym (cut_back p (start M (plus e)) (start M (minus e)) plus_crosses)
+        ∙ ap (cut_between p (start M (minus e))) (sym near_end)
+        ∙ sym (crossing_point (minus e) minus_is)
+
+    -- both in loop l: then the face of that loop straddles, and has two places at one point
+    module _ (l : ℕ) (first : loop_of M (plus e) ≡ l) (second : loop_of M (minus e) ≡ l) where
+      first_in : IsIn (plus e) (items_of (content M l))
+      first_in = subst (λ q. IsIn (plus e) (items_of (content M q))) first (cycle_there M sound (plus e) plus_there)
+
+      second_in : IsIn (minus e) (items_of (content M l))
+      second_in = subst (λ q. IsIn (minus e) (items_of (content M q))) second (cycle_there M sound (minus e) minus_there)
+
+      l_there : Has M.loops l
+      l_there = ap is_some (held_row M (plus e) l (subst (λ q. StandsIn M (plus e) q) first (sound.stands (plus e) plus_there)))
+
+      of_solid : solid_of M (face_of M l) ≡ s
+      of_solid = ap (λ q. solid_of M (face_of M q)) (sym first) ∙ (edge_facts e i).1
+
+      face_in : IsIn (face_of M l) (faces_of M s)
+      face_in = all_where_in (λ _ row. nat_eq row.solid s) M.faces (face_of M l) _ (face_there M (face_of M l) (sound.loops_of_faces l l_there)) (equals (solid_of M (face_of M l)) s of_solid)
+
+      abbrev vs : List ℕ
+      vs = corners M (face_of M l)
+
+      plus_corner : IsIn (tail M (plus e)) (corners M (face_of M l))
+      plus_corner = tail_in_face M (plus e) l l_there first_in
+
+      minus_corner : IsIn (tail M (minus e)) (corners M (face_of M l))
+      minus_corner = tail_in_face M (minus e) l l_there second_in
+
+      both_sides : (m n : ℤ) → opposite m n ≡ true → ((int_lt (pos 0) m ≡ true) × (int_lt n (pos 0) ≡ true)) ⊎ ((int_lt m (pos 0) ≡ true) × (int_lt (pos 0) n ≡ true))
+      both_sides m n o = go (int_lt (pos 0) m) (int_lt n (pos 0)) (int_lt m (pos 0)) (int_lt (pos 0) n) o where
+        go : (a b c d : Bool) → ((a && b) || (c && d)) ≡ true → ((a ≡ true) × (b ≡ true)) ⊎ ((c ≡ true) × (d ≡ true))
+        go true true c d o = inl (refl, refl)
+        go true false true true o = inr (refl, refl)
+        go true false true false o = absurd (true≢false (sym o))
+        go true false false d o = absurd (true≢false (sym o))
+        go false b true true o = inr (refl, refl)
+        go false b true false o = absurd (true≢false (sym o))
+        go false b false d o = absurd (true≢false (sym o))
+
+      above_any : (h : ℕ) → IsIn (tail M h) (corners M (face_of M l)) → is_above p (start M h) ≡ true → reaches_above M p (face_of M l) ≡ true
+      above_any h j a = any_passes (λ v. is_above p (point_of M v)) (tail M h) (corners M (face_of M l)) j a
+
+      below_any : (h : ℕ) → IsIn (tail M h) (corners M (face_of M l)) → is_below p (start M h) ≡ true → reaches_below M p (face_of M l) ≡ true
+      below_any h j b = any_passes (λ v. is_below p (point_of M v)) (tail M h) (corners M (face_of M l)) j b
+
+      face_straddles : straddles M p (face_of M l) ≡ true
+      unfolding straddles
+      face_straddles = elim (both_sides (height p (start M (plus e))) (height p (start M (minus e))) plus_crosses) [
+        | inl w ↦ λ k. above_any (plus e) plus_corner w.0 k && below_any (minus e) minus_corner w.1 k
+        | inr w ↦ λ k. above_any (minus e) minus_corner w.1 k && below_any (plus e) plus_corner w.0 k
+      ]
+
+      places_meet : some_meet M p (places M p (face_of M l)) ≡ true
+      unfolding places
+      places_meet = two_meet M p (plus e) (minus e) (filter (is_place M p) (boundary M (face_of M l))) (λ q. omega arith) one_point
+          (picked (is_place M p) (plus e) (boundary M (face_of M l)) (item_in_face M (plus e) l l_there first_in) (crossing_is_place (plus e) (edge_facts e i).2))
+          (picked (is_place M p) (minus e) (boundary M (face_of M l)) (item_in_face M (minus e) l l_there second_in) (crossing_is_place (minus e) minus_is))
+
+      is_then_crossed : is_crossed M p (face_of M l) ≡ true
+      unfolding is_crossed
+      is_then_crossed = ap (λ b. b || not (list_all (is_up_and_down M p) (sorted_pairs M p (face_of M l)))) places_meet
+
+      one_loop_absurd : ⊥
+      one_loop_absurd = true≢false (sym is_then_crossed ∙ c.uncrossed (face_of M l) (picked (straddles M p) (face_of M l) (faces_of M s) face_in face_straddles))
+
+    point_there : (h : ℕ) → HasHalf M h → IsInRange (start M h)
+    point_there h there = sound.points_fit (tail M h) (start M h) (point_row M (tail M h) (sound.tails_there h there))
+
+    pub crossing_here : Crossing M p e
+    crossing_here = record {
+      there = e_there;
+      apart = λ q. one_loop_absurd (loop_of M (minus e)) q refl;
+      crossing = (edge_facts e i).2;
+      level = level_is (height p (cut_between p (start M (plus e)) (finish M (plus e)))) (cut_on p (start M (plus e)) (finish M (plus e)) (edge_facts e i).2 (c.whole e i));
+      fits = cut_fits p (start M (plus e)) (finish M (plus e)) (point_there (plus e) plus_there) (subst IsInRange (sym far_end) (point_there (minus e) minus_there)) (edge_facts e i).2;
+    }

@@ -1,0 +1,267 @@
+-- Edges cut one after the other.
+use Rattle.std.proofs.Common.{◌≡◌, ◌≢◌, ℕ, ◌+◌, ◌≤◌, ◌<◌, true, false, pos, List, [], ◌∷◌, length, None, is_some, unwrap_or, IsTrue, refl, sym, ap, ◌∙◌, subst, arith, ◌⊎◌, inl, inr}
+use Rattle.std.proofs.lemmas.Bool.Decides.{eqb_tells}
+use Rattle.lattice.specs.declared.Point.{Point}
+use Rattle.lattice.specs.declared.Plane.{Plane}
+use Rattle.lattice.specs.Point.{IsInRange}
+use Rattle.lattice.specs.Vectors.{height, are_opposite, cut_between}
+use Rattle.cyclic_list.specs.Items.{count, tick, IsIn}
+use Rattle.cyclic_list.proofs.Lists.{tick_same, tick_other}
+use Rattle.boundary_model.specs.HalfEdge.{mate, edge_of, plus, minus}
+use Rattle.boundary_model.specs.Table as table
+use Rattle.boundary_model.specs.Model.{Model, tail, loop_of, point_of, no_point, is_number}
+use Rattle.boundary_model.specs.Sound.{Sound, Has, HasHalf}
+use Rattle.boundary_model.proofs.Halves.{plus_row, minus_row, edge_of-mate}
+use Rattle.euler_laws.specs.Laws.{AreAccepted, effects}
+use Rattle.euler_laws.proofs.shared.Undo.{mate_plus}
+use Rattle.shapes.proofs.fresh.Rows.{none_above}
+use Rattle.shapes.proofs.fresh.Tests.{number_fits}
+use Rattle.shapes.specs.Faces.{start, finish}
+use Rattle.shapes.specs.Fresh.{taken_in, Growing}
+use Rattle.shapes.specs.split.Sides.{crosses}
+use Rattle.shapes.specs.split.Crossings.{edge_cut, next_cut, all_cut}
+use Rattle.split_drawing_laws.specs.crossings.CrossingOps.{cut_edge, ops_from}
+use Rattle.split_drawing_laws.specs.crossings.Kept.{Kept}
+use Rattle.split_drawing_laws.proofs.crossings.Levels.{level_first, level_second}
+use Rattle.split_drawing_laws.proofs.crossings.Steps.{CutGoes, cut_accepted, cut_made, cut_sound, cut_keeps, edge_other, point_new, tail_old, tail_new, tail_other}
+use Rattle.split_drawing_laws.proofs.crossings.Counters.{taken_then}
+
+-- where edge e meets the plane
+abbrev pub cut_at : Model → Plane → ℕ → Point
+cut_at M p e = cut_between p (start M (plus e)) (finish M (plus e))
+
+-- an edge that crosses the plane and can be cut there
+pub record Crossing (M : Model) (p : Plane) (e : ℕ) : Type 0 where
+  pub there : Has M.edges e
+  pub apart : loop_of M (plus e) ≢ loop_of M (minus e)
+  pub crossing : crosses M p (plus e) ≡ true
+  pub level : height p (cut_at M p e) ≡ pos 0
+  pub fits : IsInRange (cut_at M p e)
+
+-- N is M with some edges cut: no other half-edges start elsewhere, and no other edges cross the plane
+pub record AreCut (M N : Model) (p : Plane) (ds : List ℕ) : Type 0 where
+  pub sound : Sound N
+  pub kept : Kept M N
+  pub minus_tails : (x : ℕ) → Has M.edges x → tail N (minus x) ≡ tail M (minus x)
+  pub plus_tails : (x : ℕ) → Has M.edges x → count x ds ≡ 0 → tail N (plus x) ≡ tail M (plus x)
+  pub cut_starts : (x : ℕ) → Has M.edges x → IsIn x ds → start N (plus x) ≡ cut_at M p x
+  pub cleared : (x : ℕ) → Has N.edges x → (Has M.edges x × (count x ds ≡ 0)) ⊎ (crosses N p (plus x) ≡ false)
+
+plus_half : (M : Model) (x : ℕ) → Has M.edges x → HasHalf M (plus x)
+plus_half M x there = ap (table.has M.edges) (plus_row x).0 ∙ there
+
+minus_half : (M : Model) (x : ℕ) → Has M.edges x → HasHalf M (minus x)
+minus_half M x there = ap (table.has M.edges) (minus_row x).0 ∙ there
+
+half_edge : (M : Model) (x : ℕ) → HasHalf M (plus x) → Has M.edges x
+half_edge M x there = ap (table.has M.edges) (sym (plus_row x).0) ∙ there
+
+pub kept_edge : (M N : Model) → Kept M N → (x : ℕ) → Has M.edges x → Has N.edges x
+kept_edge M N k x there = half_edge N x (k.halves (plus x) (plus_half M x there))
+
+pub kept_point : (M N : Model) → Kept M N → (v : ℕ) → Has M.vertices v → point_of N v ≡ point_of M v
+unfolding point_of
+kept_point M N k v there = ap (λ o. unwrap_or o no_point) (k.points v there)
+
+-- a half-edge whose tail stays starts at the same point
+pub kept_start : (M N : Model) → Sound M → Kept M N → (h : ℕ) → HasHalf M h → tail N h ≡ tail M h → start N h ≡ start M h
+kept_start M N sound k h there e = ap (point_of N) e ∙ kept_point M N k (tail M h) (sound.tails_there h there)
+
+kept_on : (M N K : Model) → Kept M N → Kept N K → Kept M K
+kept_on M N K a b = record {
+  solids = b.solids ∙ a.solids;
+  faces = b.faces ∙ a.faces;
+  loops = λ l. b.loops l ∙ a.loops l;
+  face = λ l. b.face l ∙ a.face l;
+  halves = λ h there. b.halves h (a.halves h there);
+  loop = λ h there. b.loop h (a.halves h there) ∙ a.loop h there;
+  points = λ v there. b.points v (ap is_some (a.points v there) ∙ there) ∙ a.points v there;
+}
+
+-- one edge more
+module _ (M N : Model) (p : Plane) (ds : List ℕ) (sound : Sound M) (a : AreCut M N p ds) (e k v : ℕ) (c : Crossing M p e) (uncut : count e ds ≡ 0)
+    (edge_free : table.get N.edges k ≡ None) (vertex_free : table.get N.vertices v ≡ None) (edge_fits : IsTrue (is_number k)) (vertex_fits : IsTrue (is_number v)) where
+  same_start : start N (plus e) ≡ start M (plus e)
+  same_start = kept_start M N sound a.kept (plus e) (plus_half M e c.there) (a.plus_tails e c.there uncut)
+
+  same_finish : finish N (plus e) ≡ finish M (plus e)
+  same_finish = ap (start N) (mate_plus e) ∙ kept_start M N sound a.kept (minus e) (minus_half M e c.there) (a.minus_tails e c.there) ∙ sym (ap (start M) (mate_plus e))
+
+  same_cut : cut_at N p e ≡ cut_at M p e
+  same_cut = λ i. cut_between p (same_start i) (same_finish i)
+
+  e_there : Has N.edges e
+  e_there = kept_edge M N a.kept e c.there
+
+  pub goes : CutGoes N e k v (cut_at N p e)
+  goes = record {
+    can = record {
+      sound = a.sound;
+      there = e_there;
+      apart = λ s. c.apart (sym (a.kept.loop (plus e) (plus_half M e c.there)) ∙ s ∙ a.kept.loop (minus e) (minus_half M e c.there));
+      edge_free = edge_free;
+    };
+    vertex_free = vertex_free;
+    edge_fits = edge_fits;
+    vertex_fits = vertex_fits;
+    point_fits = subst IsInRange (sym same_cut) c.fits;
+  }
+
+  abbrev K : Model
+  K = edge_cut N e k v (cut_at N p e)
+
+  keeps : Kept N K
+  keeps = cut_keeps N e k v (cut_at N p e) goes
+
+  start_other : (h : ℕ) → HasHalf N h → edge_of h ≢ e → start K h ≡ start N h
+  start_other h there ne = kept_start N K a.sound keeps h there (tail_other N e k v (cut_at N p e) goes h there ne)
+
+  new_start : (h : ℕ) → tail K h ≡ v → start K h ≡ cut_at M p e
+  new_start h is = ap (point_of K) is ∙ point_new N e k v (cut_at N p e) goes ∙ same_cut
+
+  new_level : (h : ℕ) → tail K h ≡ v → height p (start K h) ≡ pos 0
+  new_level h is = ap (height p) (new_start h is) ∙ c.level
+
+  clear_now : (x : ℕ) → Has K.edges x → (Has M.edges x × (count x (e ∷ ds) ≡ 0)) ⊎ (crosses K p (plus x) ≡ false)
+  clear_now x there = elim (eqb_tells x e) [
+    | inl s ↦ inr (level_first (height p (start K (plus x))) (height p (finish K (plus x))) (new_level (plus x) (ap (λ y. tail K (plus y)) s.1 ∙ (tail_old N e k v (cut_at N p e) goes).0)))
+    | inr s ↦ elim (eqb_tells x k) [
+      | inl t ↦ inr (level_second (height p (start K (plus x))) (height p (finish K (plus x))) (new_level (mate (plus x)) (ap (tail K) (mate_plus x) ∙ ap (λ y. tail K (minus y)) t.1 ∙ (tail_new N e k v (cut_at N p e) goes).1)))
+      | inr t ↦ old (sym (ap is_some (edge_other N e k v (cut_at N p e) goes x s.1 t.1)) ∙ there) s.1
+    ]
+  ] where
+    old : {x : ℕ} → Has N.edges x → x ≢ e → (Has M.edges x × (count x (e ∷ ds) ≡ 0)) ⊎ (crosses K p (plus x) ≡ false)
+    old {x} there ne = elim (a.cleared x there) [
+      | inl b ↦ inl (b.0, omega (arith, b.1, tick_other x e ne))
+      | inr b ↦
+          let same : start K (plus x) ≡ start N (plus x) = start_other (plus x) (plus_half N x there) (λ s. ne (sym (plus_row x).0 ∙ s)) in
+          let far : finish K (plus x) ≡ finish N (plus x) = start_other (mate (plus x)) (ap (table.has N.edges) (edge_of-mate (plus x)) ∙ plus_half N x there) (λ s. ne (sym (plus_row x).0 ∙ sym (edge_of-mate (plus x)) ∙ s)) in
+          inr ((λ i. are_opposite p (same i) (far i)) ∙ b)
+    ]
+
+  pub cut_more : AreCut M K p (e ∷ ds)
+  cut_more = record {
+    sound = cut_sound N e k v (cut_at N p e) goes;
+    kept = kept_on M N K a.kept keeps;
+    minus_tails = λ x there. elim (eqb_tells x e) [
+      | inl s ↦ ap (λ y. tail K (minus y)) s.1 ∙ (tail_old N e k v (cut_at N p e) goes).1 ∙ ap (λ y. tail N (minus y)) (sym s.1) ∙ a.minus_tails x there
+      | inr s ↦ tail_other N e k v (cut_at N p e) goes (minus x) (minus_half N x (kept_edge M N a.kept x there)) (λ t. s.1 (sym (minus_row x).0 ∙ t)) ∙ a.minus_tails x there
+    ];
+    plus_tails = λ x there none. elim (eqb_tells x e) [
+      | inl s ↦ absurd (let one : tick x e ≡ 1 = ap (λ y. tick y e) s.1 ∙ tick_same e in omega (arith, none, one))
+      | inr s ↦ tail_other N e k v (cut_at N p e) goes (plus x) (plus_half N x (kept_edge M N a.kept x there)) (λ t. s.1 (sym (plus_row x).0 ∙ t)) ∙ a.plus_tails x there (omega (arith, none))
+    ];
+    cut_starts = λ x there i. elim (eqb_tells x e) [
+      | inl s ↦ new_start (plus x) (ap (λ y. tail K (plus y)) s.1 ∙ (tail_old N e k v (cut_at N p e) goes).0) ∙ ap (cut_at M p) (sym s.1)
+      | inr s ↦ start_other (plus x) (plus_half N x (kept_edge M N a.kept x there)) (λ t. s.1 (sym (plus_row x).0 ∙ t)) ∙ a.cut_starts x there (omega (arith, i, tick_other x e s.1))
+    ];
+    cleared = clear_now;
+  }
+
+-- ---- all of a list
+
+-- the model of g is M with the edges of ds cut, and those of rs are still to be cut
+pub record Going (M : Model) (p : Plane) (g : Growing) (ds rs : List ℕ) : Type 0 where
+  pub cut : AreCut M g.model p ds
+  pub counted : g.taken ≡ taken_in g.model
+  pub crossing : (x : ℕ) → IsIn x rs → Crossing M p x
+  pub apart : (x : ℕ) → count x ds + count x rs ≤ 1
+  pub edges_left : g.taken.edge + length rs ≤ 1000000
+  pub vertices_left : g.taken.vertex + length rs ≤ 1000000
+
+-- its operators are accepted in turn and leave the model in which all are cut, and the counters are right
+pub record Gone (M : Model) (p : Plane) (g : Growing) (ds rs : List ℕ) : Type 0 where
+  pub accepted : AreAccepted g.model (ops_from p g rs)
+  pub made : effects g.model (ops_from p g rs) ≡ (all_cut p g rs).model
+  pub counted : (all_cut p g rs).taken ≡ taken_in (all_cut p g rs).model
+  pub list : List ℕ
+  pub cut : AreCut M (all_cut p g rs).model p list
+  pub same : (x : ℕ) → count x list ≡ count x ds + count x rs
+
+module _ (M : Model) (p : Plane) (sound : Sound M) (g : Growing) (ds : List ℕ) (e : ℕ) (rs : List ℕ) (w : Going M p g ds (e ∷ rs)) where
+  crossing_now : Crossing M p e
+  crossing_now = w.crossing e (omega (arith, tick_same e))
+
+  edge_is : g.taken.edge ≡ table.greatest g.model.edges
+  unfolding taken_in
+  edge_is = ap (λ c. c.edge) w.counted
+
+  vertex_is : g.taken.vertex ≡ table.greatest g.model.vertices
+  unfolding taken_in
+  vertex_is = ap (λ c. c.vertex) w.counted
+
+  edge_above : table.greatest g.model.edges < g.taken.edge + 1
+  edge_above = omega (arith, edge_is)
+
+  vertex_above : table.greatest g.model.vertices < g.taken.vertex + 1
+  vertex_above = omega (arith, vertex_is)
+
+  uncut_now : count e ds ≡ 0
+  uncut_now = omega (arith, w.apart e, tick_same e)
+
+  edge_free_now : table.get g.model.edges (g.taken.edge + 1) ≡ None
+  edge_free_now = none_above g.model.edges (g.taken.edge + 1) edge_above
+
+  vertex_free_now : table.get g.model.vertices (g.taken.vertex + 1) ≡ None
+  vertex_free_now = none_above g.model.vertices (g.taken.vertex + 1) vertex_above
+
+  edge_fits_now : IsTrue (is_number (g.taken.edge + 1))
+  edge_fits_now = number_fits (g.taken.edge + 1) (omega arith) (omega (arith, w.edges_left))
+
+  vertex_fits_now : IsTrue (is_number (g.taken.vertex + 1))
+  vertex_fits_now = number_fits (g.taken.vertex + 1) (omega arith) (omega (arith, w.vertices_left))
+
+  pub goes_now : CutGoes g.model e (g.taken.edge + 1) (g.taken.vertex + 1) (cut_at g.model p e)
+  goes_now = goes M g.model p ds sound w.cut e (g.taken.edge + 1) (g.taken.vertex + 1) crossing_now uncut_now edge_free_now vertex_free_now edge_fits_now vertex_fits_now
+
+  pub next_model : (next_cut p g e).model ≡ edge_cut g.model e (g.taken.edge + 1) (g.taken.vertex + 1) (cut_at g.model p e)
+  unfolding next_cut
+  next_model = refl
+
+  next_taken : (next_cut p g e).taken ≡ record g.taken { edge = g.taken.edge + 1; vertex = g.taken.vertex + 1 }
+  unfolding next_cut
+  next_taken = refl
+
+  accepted_now : AreAccepted g.model (cut_edge p g e ∷ [])
+  accepted_now = (cut_accepted g.model e (g.taken.edge + 1) (g.taken.vertex + 1) (cut_at g.model p e) goes_now, tt)
+
+  made_now : effects g.model (cut_edge p g e ∷ []) ≡ (next_cut p g e).model
+  made_now = cut_made g.model e (g.taken.edge + 1) (g.taken.vertex + 1) (cut_at g.model p e) goes_now ∙ sym next_model
+
+  pub going_on : Going M p (next_cut p g e) (e ∷ ds) rs
+  going_on = record {
+    cut = subst (λ K. AreCut M K p (e ∷ ds)) (sym next_model)
+        (cut_more M g.model p ds sound w.cut e (g.taken.edge + 1) (g.taken.vertex + 1) crossing_now uncut_now edge_free_now vertex_free_now edge_fits_now vertex_fits_now);
+    counted = next_taken ∙ (λ i. record (w.counted i) { edge = g.taken.edge + 1; vertex = g.taken.vertex + 1 })
+        ∙ sym (taken_then g.model e (g.taken.edge + 1) (g.taken.vertex + 1) (cut_at g.model p e) goes_now.can.there edge_above vertex_above)
+        ∙ ap taken_in (sym next_model);
+    crossing = λ x i. w.crossing x (omega (arith, i));
+    apart = λ x. omega (arith, w.apart x);
+    edges_left = subst (λ c. c.edge + length rs ≤ 1000000) (sym next_taken) (omega (arith, w.edges_left));
+    vertices_left = subst (λ c. c.vertex + length rs ≤ 1000000) (sym next_taken) (omega (arith, w.vertices_left));
+  }
+
+pub all_gone : (M : Model) (p : Plane) → Sound M → (g : Growing) (ds rs : List ℕ) → Going M p g ds rs → Gone M p g ds rs
+all_gone M p sound g ds [] w = record { accepted = tt; made = refl; counted = w.counted; list = ds; cut = w.cut; same = λ x. omega arith }
+all_gone M p sound g ds (e ∷ rs) w =
+    let r : Gone M p (next_cut p g e) (e ∷ ds) rs = all_gone M p sound (next_cut p g e) (e ∷ ds) rs (going_on M p sound g ds e rs w) in
+    let m : effects g.model (cut_edge p g e ∷ []) ≡ (next_cut p g e).model = made_now M p sound g ds e rs w in
+    record {
+      accepted = ((accepted_now M p sound g ds e rs w).0, subst (λ X. AreAccepted X (ops_from p (next_cut p g e) rs)) (sym m) r.accepted);
+      made = ap (λ X. effects X (ops_from p (next_cut p g e) rs)) m ∙ r.made;
+      counted = r.counted;
+      list = r.list;
+      cut = r.cut;
+      same = λ x. omega (arith, r.same x);
+    }
+
+-- none is cut
+pub none_cut : (M : Model) (p : Plane) → Sound M → AreCut M M p []
+none_cut M p sound = record {
+  sound = sound;
+  kept = record { solids = refl; faces = refl; loops = λ l. refl; face = λ l. refl; halves = λ h there. there; loop = λ h there. refl; points = λ v there. refl };
+  minus_tails = λ x there. refl;
+  plus_tails = λ x there none. refl;
+  cut_starts = λ x there i. absurd (omega (arith, i));
+  cleared = λ x there. inl (there, refl);
+}

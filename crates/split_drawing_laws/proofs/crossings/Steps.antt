@@ -1,0 +1,187 @@
+-- One edge cut: the operator that does it, and what stays.
+use Rattle.std.specs.Prelude.{flat_map}
+use Rattle.std.proofs.Common.{◌≡◌, ◌≢◌, ℕ, ◌≤◌, true, cond, nat_eq, List, [], ◌∷◌, Some, None, is_some, unwrap_or, IsTrue, refl, sym, ap, ◌∙◌, subst, arith, inl, inr, true≢false}
+use Rattle.std.proofs.lemmas.Bool.Decides.{nat_tests, eqb_tells}
+use Rattle.lattice.specs.declared.Point.{Point}
+use Rattle.lattice.specs.Point.{IsInRange}
+use Rattle.cyclic_list.specs.Items.{count, tick, IsIn}
+use Rattle.cyclic_list.specs.Rings.{rotate_to, canonical}
+use Rattle.cyclic_list.proofs.Lists.{count-append, tick_same, tick_other}
+use Rattle.cyclic_list.proofs.Rotations.{count-canonical}
+use Rattle.boundary_model.specs.declared.Corner.TheVariants.{At}
+use Rattle.boundary_model.specs.HalfEdge.{edge_of, is_first, plus, minus, half, code}
+use Rattle.boundary_model.specs.Table as table
+use Rattle.boundary_model.specs.Table.{Table}
+use Rattle.boundary_model.specs.Model.{Model, LoopContent, lone, cycle, EdgeRow, items_of, holds, tail, tail_in, loop_of, content, after, point_of, no_point, is_number}
+use Rattle.boundary_model.specs.Sound.{Sound, Has, HasHalf}
+use Rattle.boundary_model.proofs.Halves.{plus_row, minus_row, code-half}
+use Rattle.boundary_model.proofs.Models.{in-holds, holds_in, tail_row}
+use Rattle.euler_operators.specs.declared.Op.{Op}
+use Rattle.euler_operators.specs.declared.Op.TheVariants.{Mev}
+use Rattle.euler_operators.specs.Conditions.{first_false}
+use Rattle.euler_operators.specs.Effect.{effect, mev_at}
+use Rattle.euler_laws.proofs.shared.Same.{Rewritten, content-new, face-same, loop-same}
+use Rattle.euler_laws.proofs.shared.Undo.{mate_minus}
+use Rattle.euler_laws.proofs.mev.MevSound.{MevGoes}
+use Rattle.euler_laws.proofs.mev.Mev.{mev_accepted}
+use Rattle.euler_laws.proofs.Cases.{effect_keeps_sound}
+use Rattle.shapes.proofs.fresh.Rows.{get-put_here, get-put_other}
+use Rattle.shapes.specs.Rewriting.{rewritten, rewritten_row}
+use Rattle.shapes.specs.split.Crossings.{doubled, edge_cut}
+use Rattle.split_drawing_laws.specs.crossings.Kept.{Kept}
+use Rattle.split_drawing_laws.proofs.crossings.OneCut.{CanCut, cut_is_mev, plus_there, minus_there, next_half}
+
+-- an item stands in the list where e's halves are doubled as often, or more
+doubled_has : (e k h : ℕ) → 1 ≤ count h (doubled e k h)
+doubled_has e k h = elim (eqb_tells h (plus e)) [
+  | inl a ↦ subst (λ xs. 1 ≤ count h xs) (sym (ap (λ b. cond b (plus k ∷ plus e ∷ []) (cond (nat_eq h (minus e)) (minus e ∷ minus k ∷ []) (h ∷ []))) a.0)) (omega (arith, tick_is h (plus e) a.1))
+  | inr a ↦ elim (eqb_tells h (minus e)) [
+    | inl b ↦ subst (λ xs. 1 ≤ count h xs) (sym (ap (λ t. cond t (plus k ∷ plus e ∷ []) (cond (nat_eq h (minus e)) (minus e ∷ minus k ∷ []) (h ∷ []))) a.0 ∙ ap (λ t. cond t (minus e ∷ minus k ∷ []) (h ∷ [])) b.0)) (omega (arith, tick_is h (minus e) b.1))
+    | inr b ↦ subst (λ xs. 1 ≤ count h xs) (sym (ap (λ t. cond t (plus k ∷ plus e ∷ []) (cond (nat_eq h (minus e)) (minus e ∷ minus k ∷ []) (h ∷ []))) a.0 ∙ ap (λ t. cond t (minus e ∷ minus k ∷ []) (h ∷ [])) b.0)) (omega (arith, tick_same h))
+  ]
+] where
+  tick_is : (x y : ℕ) → x ≡ y → tick x y ≡ 1
+  tick_is x y e = grind (arith, nat_tests)
+
+still_in : (e k x : ℕ) (hs : List ℕ) → IsIn x hs → IsIn x (flat_map (doubled e k) hs)
+still_in e k x [] i = absurd (omega arith)
+still_in e k x (h ∷ hs) i = elim (eqb_tells x h) [
+  | inl a ↦ let here : 1 ≤ count x (doubled e k h) = subst (λ y. 1 ≤ count y (doubled e k h)) (sym a.1) (doubled_has e k h) in
+      omega (arith, here, count-append x (doubled e k h) (flat_map (doubled e k) hs))
+  | inr a ↦ let there : 1 ≤ count x (flat_map (doubled e k) hs) = still_in e k x hs (omega (arith, i, tick_other x h a.1)) in
+      omega (arith, there, count-append x (doubled e k h) (flat_map (doubled e k) hs))
+]
+
+still_held : (e k x : ℕ) (c : LoopContent) → IsIn x (items_of c) → holds x (rewritten (flat_map (doubled e k)) c) ≡ true
+still_held e k x (lone v) i = absurd (omega arith)
+still_held e k x (cycle hs) i = in-holds x (cycle (canonical (flat_map (doubled e k) hs))) (omega (arith, still_in e k x hs i, count-canonical x (flat_map (doubled e k) hs)))
+
+-- edge e of a sound model can be cut by edge k at vertex v, which gets point q
+pub record CutGoes (M : Model) (e k v : ℕ) (q : Point) : Type 0 where
+  pub can : CanCut M e k
+  pub vertex_free : table.get M.vertices v ≡ None
+  pub edge_fits : IsTrue (is_number k)
+  pub vertex_fits : IsTrue (is_number v)
+  pub point_fits : IsInRange q
+
+module _ (M : Model) (e k v : ℕ) (q : Point) (goes : CutGoes M e k v q) where
+  abbrev cut_op : Op
+  cut_op = Mev (At (half (plus e))) (At (half (after M (minus e)))) (half (plus k)) v q
+
+  abbrev pub N : Model
+  N = edge_cut M e k v q
+
+  next_starts : tail M (after M (minus e)) ≡ tail M (plus e)
+  next_starts = goes.can.sound.ends_meet (minus e) (minus_there M e k v q goes.can) ∙ ap (tail M) (mate_minus e)
+
+  next_is_there : HasHalf M (after M (minus e))
+  unfolding after
+  next_is_there = next_half M e k v q goes.can
+
+  pub mev_goes : MevGoes M (plus e) (after M (minus e)) (plus k) v q
+  mev_goes = record {
+    g_there = plus_there M e k v q goes.can;
+    k_there = next_is_there;
+    edge_free = ap (table.get M.edges) (plus_row k).0 ∙ goes.can.edge_free;
+    vertex_free = goes.vertex_free;
+    one_tail = next_starts;
+    edge_fits = ap is_number (plus_row k).0 ∙ goes.edge_fits;
+    vertex_fits = goes.vertex_fits;
+    point_fits = goes.point_fits;
+  }
+
+  pub cut_accepted : first_false M (Mev (At (half (plus e))) (At (half (after M (minus e)))) (half (plus k)) v q) ≡ None
+  cut_accepted = mev_accepted M (half (plus e)) (half (after M (minus e))) (half (plus k)) v q goes.can.sound
+      (subst (λ x. MevGoes M x (code (half (after M (minus e)))) (code (half (plus k))) v q) (sym (code-half (plus e)))
+      (subst (λ x. MevGoes M (plus e) x (code (half (plus k))) v q) (sym (code-half (after M (minus e))))
+      (subst (λ x. MevGoes M (plus e) (after M (minus e)) x v q) (sym (code-half (plus k))) mev_goes)))
+
+  pub cut_made : effect M (Mev (At (half (plus e))) (At (half (after M (minus e)))) (half (plus k)) v q) ≡ edge_cut M e k v q
+  unfolding effect
+  cut_made = (λ i. mev_at M (code-half (plus e) i) (code-half (after M (minus e)) i) (code-half (plus k) i) v q) ∙ cut_is_mev M e k v q goes.can
+
+  pub cut_sound : Sound (edge_cut M e k v q)
+  cut_sound = subst Sound cut_made (effect_keeps_sound M cut_op goes.can.sound cut_accepted)
+
+  -- ---- what stays
+
+  rewrites : Rewritten M (edge_cut M e k v q) (rewritten (flat_map (doubled e k)))
+  unfolding edge_cut rotate_to canonical
+  rewrites = record { rewrite = rewritten_row (flat_map (doubled e k)); is = refl; contents = λ n row. refl; faces = λ n row. refl; none = refl }
+
+  loop_stays : (h : ℕ) → HasHalf M h → loop_of (edge_cut M e k v q) h ≡ loop_of M h
+  loop_stays h there = cut_sound.one_loop h (loop_of M h)
+      (ap (holds h) (content-new M (edge_cut M e k v q) (rewritten (flat_map (doubled e k))) rewrites (loop_of M h))
+      ∙ still_held e k h (content M (loop_of M h)) (holds_in h (content M (loop_of M h)) (goes.can.sound.stands h there)))
+
+  pub apart_new : (x : ℕ) → Has M.edges x → x ≢ k
+  apart_new x there is = true≢false (sym there ∙ ap is_some (ap (table.get M.edges) is ∙ goes.can.edge_free))
+
+  e_there : Has M.edges e
+  e_there = goes.can.there
+
+  pub edge_other : (x : ℕ) → x ≢ e → x ≢ k → table.get (edge_cut M e k v q).edges x ≡ table.get M.edges x
+  unfolding edge_cut
+  edge_other x a b = get-put_other _ e _ x a ∙ get-put_other M.edges k _ x b
+
+  edge_old : table.get (edge_cut M e k v q).edges e ≡ Some (record { plus_tail = v; minus_tail = tail M (minus e) })
+  unfolding edge_cut
+  edge_old = get-put_here _ e _
+
+  pub edge_new : table.get (edge_cut M e k v q).edges k ≡ Some (record { plus_tail = tail M (plus e); minus_tail = v })
+  unfolding edge_cut
+  edge_new = get-put_other _ e _ k (λ s. apart_new e e_there (sym s)) ∙ get-put_here M.edges k _
+
+  pub edge_stays : (x : ℕ) → Has M.edges x → Has (edge_cut M e k v q).edges x
+  edge_stays x there = elim (eqb_tells x e) [
+    | inl a ↦ ap (table.has (edge_cut M e k v q).edges) a.1 ∙ ap is_some edge_old
+    | inr a ↦ ap is_some (edge_other x a.1 (apart_new x there)) ∙ there
+  ]
+
+  vertex_other : (w : ℕ) → w ≢ v → table.get (edge_cut M e k v q).vertices w ≡ table.get M.vertices w
+  unfolding edge_cut
+  vertex_other w a = get-put_other M.vertices v q w a
+
+  pub point_new : point_of (edge_cut M e k v q) v ≡ q
+  unfolding edge_cut point_of
+  point_new = ap (λ o. unwrap_or o no_point) (get-put_here M.vertices v q)
+
+  apart_vertex : (w : ℕ) → Has M.vertices w → w ≢ v
+  apart_vertex w there is = true≢false (sym there ∙ ap is_some (ap (table.get M.vertices) is ∙ goes.vertex_free))
+
+  same_solids : (edge_cut M e k v q).solids ≡ M.solids
+  unfolding edge_cut
+  same_solids = refl
+
+  same_faces : (edge_cut M e k v q).faces ≡ M.faces
+  unfolding edge_cut
+  same_faces = refl
+
+  pub cut_keeps : Kept M (edge_cut M e k v q)
+  cut_keeps = record {
+    solids = same_solids;
+    faces = same_faces;
+    loops = loop-same M (edge_cut M e k v q) (rewritten (flat_map (doubled e k))) rewrites;
+    face = face-same M (edge_cut M e k v q) (rewritten (flat_map (doubled e k))) rewrites;
+    halves = λ h there. edge_stays (edge_of h) there;
+    loop = loop_stays;
+    points = λ w there. vertex_other w (apart_vertex w there);
+  }
+
+  -- ---- where half-edges start then
+
+  row_tail : (x : ℕ) (r : EdgeRow) → table.get (edge_cut M e k v q).edges x ≡ Some r → (tail (edge_cut M e k v q) (plus x) ≡ r.plus_tail) × (tail (edge_cut M e k v q) (minus x) ≡ r.minus_tail)
+  row_tail x r at = (
+    tail_row (edge_cut M e k v q) (plus x) r (ap (table.get (edge_cut M e k v q).edges) (plus_row x).0 ∙ at) ∙ ap (tail_in r) (plus_row x).1,
+    tail_row (edge_cut M e k v q) (minus x) r (ap (table.get (edge_cut M e k v q).edges) (minus_row x).0 ∙ at) ∙ ap (tail_in r) (minus_row x).1,
+  )
+
+  pub tail_old : (tail (edge_cut M e k v q) (plus e) ≡ v) × (tail (edge_cut M e k v q) (minus e) ≡ tail M (minus e))
+  tail_old = row_tail e _ edge_old
+
+  pub tail_new : (tail (edge_cut M e k v q) (plus k) ≡ tail M (plus e)) × (tail (edge_cut M e k v q) (minus k) ≡ v)
+  tail_new = row_tail k _ edge_new
+
+  pub tail_other : (h : ℕ) → HasHalf M h → edge_of h ≢ e → tail (edge_cut M e k v q) h ≡ tail M h
+  unfolding tail
+  tail_other h there a = ap (λ o. tail_in (unwrap_or o (record { plus_tail = 0; minus_tail = 0 })) (is_first h)) (edge_other (edge_of h) a (apart_new (edge_of h) there))

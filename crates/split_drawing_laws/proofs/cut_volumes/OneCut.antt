@@ -1,0 +1,178 @@
+-- One edge cut at a point between its ends: the areas of loops and the normals of faces stay.
+use Rattle.std.specs.Prelude.{flat_map}
+use Rattle.std.proofs.Common.{◌≡◌, ◌≢◌, ℕ, true, cond, not, nat_eq, ◌&&◌, List, [], ◌∷◌, unwrap_or, refl, sym, ap, ◌∙◌, ◌⊎◌, inl, inr}
+use Rattle.std.proofs.lemmas.Bool.Decides.{eqb_tells}
+use Rattle.lattice.specs.declared.Point.{Point}
+use Rattle.lattice.specs.declared.Plane.{Plane}
+use Rattle.lattice.specs.Vectors.{origin, moved, cross, is_on}
+use Rattle.cyclic_list.specs.Items.{IsIn}
+use Rattle.cyclic_list.specs.Rings.{rotate_to, canonical}
+use Rattle.cyclic_list.proofs.Rotations.{count-canonical}
+use Rattle.boundary_model.specs.HalfEdge.{mate, edge_of, plus, minus}
+use Rattle.boundary_model.specs.Model.{Model, LoopContent, lone, cycle, no_face, items_of, tail, content, outer, point_of, rings_of}
+use Rattle.boundary_model.specs.Sound.{HasHalf}
+use Rattle.boundary_model.specs.Table as table
+use Rattle.boundary_model.proofs.Halves.{plus_row, same_edge, edge_of-mate}
+use Rattle.euler_laws.proofs.shared.Fans.{half_mate}
+use Rattle.euler_laws.proofs.shared.Same.{Rewritten, content-new}
+use Rattle.euler_laws.proofs.shared.Undo.{mate_plus, mate_minus}
+use Rattle.shapes.specs.Faces.{start, finish, loops_of, items_in, boundary}
+use Rattle.shapes.specs.Rewriting.{rewritten, rewritten_row}
+use Rattle.shapes.specs.Measure.{area, normal}
+use Rattle.shapes.proofs.Areas.{area-append, moved_nothing, moved_turned}
+use Rattle.solid_measure_laws.specs.Vectors.{negated}
+use Rattle.solid_measure_laws.proofs.Paths.{first_in, rest_in}
+use Rattle.solid_measure_laws.proofs.Sums.{area_same, cross_back, moved_back}
+use Rattle.shapes.specs.split.Crossings.{doubled, edge_cut}
+use Rattle.split_drawing_laws.specs.crossings.Kept.{Kept}
+use Rattle.split_drawing_laws.proofs.crossings.OneCut.{plus_there, minus_there}
+use Rattle.split_drawing_laws.proofs.crossings.Steps.{CutGoes, cut_sound, cut_keeps, point_new, tail_old, tail_new, tail_other}
+use Rattle.split_drawing_laws.proofs.crossings.Runs.{kept_point}
+use Rattle.split_drawing_laws.proofs.cut_volumes.Corners.{item_there, same_rings}
+
+-- what an item of a loop becomes
+pub doubled_cases : (e k h : ℕ) → ((h ≡ plus e) × (doubled e k h ≡ plus k ∷ plus e ∷ []))
+    ⊎ (((h ≡ minus e) × (doubled e k h ≡ minus e ∷ minus k ∷ [])) ⊎ ((h ≢ plus e) × (h ≢ minus e) × (doubled e k h ≡ h ∷ [])))
+doubled_cases e k h = elim (eqb_tells h (plus e)) [
+  | inl a ↦ inl (a.1, ap (λ b. cond b (plus k ∷ plus e ∷ []) (cond (nat_eq h (minus e)) (minus e ∷ minus k ∷ []) (h ∷ []))) a.0)
+  | inr a ↦
+      let first : doubled e k h ≡ cond (nat_eq h (minus e)) (minus e ∷ minus k ∷ []) (h ∷ []) = ap (λ b. cond b (plus k ∷ plus e ∷ []) (cond (nat_eq h (minus e)) (minus e ∷ minus k ∷ []) (h ∷ []))) a.0 in
+      elim (eqb_tells h (minus e)) [
+        | inl b ↦ inr (inl (b.1, first ∙ ap (λ t. cond t (minus e ∷ minus k ∷ []) (h ∷ [])) b.0))
+        | inr b ↦ inr (inr (a.1, b.1, first ∙ ap (λ t. cond t (minus e ∷ minus k ∷ []) (h ∷ [])) b.0))
+      ]
+]
+
+-- a half-edge that is neither half of e is of another edge
+pub other_edge : (e h : ℕ) → h ≢ plus e → h ≢ minus e → edge_of h ≢ e
+other_edge e h a b s = elim (same_edge h (plus e) (s ∙ sym (plus_row e).0)) [
+  | inl t ↦ absurd (a t)
+  | inr t ↦ absurd (b (t ∙ mate_plus e))
+]
+
+-- q keeps the part of an area from a to b, and lies on each plane on which both lie
+pub record Between (a b q : Point) : Type 0 where
+  pub areas : moved (cross a q) (cross q b) ≡ cross a b
+  pub on_each : (r : Plane) → is_on r a ≡ true → is_on r b ≡ true → is_on r q ≡ true
+
+-- so it does from the other end
+between_back : (a b q : Point) → Between a b q → moved (cross b q) (cross q a) ≡ cross b a
+between_back a b q w = (λ i. moved (cross_back q b i) (cross_back a q i)) ∙ moved_back (cross q b) (cross a q)
+    ∙ ap negated (moved_turned (cross q b) (cross a q) ∙ w.areas) ∙ sym (cross_back a b)
+
+module _ (M : Model) (e k v : ℕ) (q : Point) (goes : CutGoes M e k v q) where
+  abbrev K : Model
+  K = edge_cut M e k v q
+
+  pub keeps : Kept M (edge_cut M e k v q)
+  keeps = cut_keeps M e k v q goes
+
+  pub plus_here : HasHalf M (plus e)
+  plus_here = plus_there M e k v q goes.can
+
+  pub minus_here : HasHalf M (minus e)
+  minus_here = minus_there M e k v q goes.can
+
+  -- ---- where half-edges start then
+
+  at_new : (h : ℕ) → tail K h ≡ v → start K h ≡ q
+  at_new h is = ap (point_of K) is ∙ point_new M e k v q goes
+
+  at_old : (h g : ℕ) → HasHalf M g → tail K h ≡ tail M g → start K h ≡ start M g
+  at_old h g there is = ap (point_of K) is ∙ kept_point M K keeps (tail M g) (goes.can.sound.tails_there g there)
+
+  pub plus_start : start (edge_cut M e k v q) (plus e) ≡ q
+  plus_start = at_new (plus e) (tail_old M e k v q goes).0
+
+  pub minus_start : start (edge_cut M e k v q) (minus e) ≡ start M (minus e)
+  minus_start = at_old (minus e) (minus e) minus_here (tail_old M e k v q goes).1
+
+  pub new_plus : start (edge_cut M e k v q) (plus k) ≡ start M (plus e)
+  new_plus = at_old (plus k) (plus e) plus_here (tail_new M e k v q goes).0
+
+  pub new_minus : start (edge_cut M e k v q) (minus k) ≡ q
+  new_minus = at_new (minus k) (tail_new M e k v q goes).1
+
+  pub other_start : (h : ℕ) → HasHalf M h → edge_of h ≢ e → start (edge_cut M e k v q) h ≡ start M h
+  other_start h there ne = at_old h h there (tail_other M e k v q goes h there ne)
+
+  other_finish : (h : ℕ) → HasHalf M h → edge_of h ≢ e → finish K h ≡ finish M h
+  other_finish h there ne = other_start (mate h) (half_mate M goes.can.sound h there) (λ s. ne (sym (edge_of-mate h) ∙ s))
+
+  -- ---- loops
+
+  rewrites : Rewritten M (edge_cut M e k v q) (rewritten (flat_map (doubled e k)))
+  unfolding edge_cut rotate_to canonical
+  rewrites = record { rewrite = rewritten_row (flat_map (doubled e k)); is = refl; contents = λ n row. refl; faces = λ n row. refl; none = refl }
+
+  pub content_cut : (l : ℕ) → content (edge_cut M e k v q) l ≡ rewritten (flat_map (doubled e k)) (content M l)
+  content_cut l = content-new M K (rewritten (flat_map (doubled e k))) rewrites l
+
+  pub outer_stays : (f : ℕ) → outer (edge_cut M e k v q) f ≡ outer M f
+  unfolding outer
+  outer_stays f = ap (λ t. (unwrap_or (table.get t f) no_face).outer) keeps.faces
+
+  rings_stay : (f : ℕ) → rings_of K f ≡ rings_of M f
+  rings_stay f = same_rings M K goes.can.sound (cut_sound M e k v q goes) f (λ l i. keeps.loops l i && nat_eq (keeps.face l i) f && not (nat_eq (outer_stays f i) l))
+
+  pub loops_stay : (f : ℕ) → loops_of (edge_cut M e k v q) f ≡ loops_of M f
+  unfolding loops_of
+  loops_stay f = λ i. outer_stays f i ∷ rings_stay f i
+
+  -- ---- areas
+
+  module _ (w : Between (start M (plus e)) (finish M (plus e)) q) where
+    abbrev a : Point
+    a = start M (plus e)
+
+    abbrev b : Point
+    b = finish M (plus e)
+
+    abbrev part : ℕ → Point
+    part h = cross (start M h) (finish M h)
+
+    far : start K (minus e) ≡ b
+    far = minus_start ∙ sym (ap (start M) (mate_plus e))
+
+    plus_area : area K (plus k ∷ plus e ∷ []) ≡ part (plus e)
+    plus_area =
+        let k_ends : finish K (plus k) ≡ q = ap (start K) (mate_plus k) ∙ new_minus in
+        let e_ends : finish K (plus e) ≡ b = ap (start K) (mate_plus e) ∙ far in
+        (λ i. moved (cross (new_plus i) (k_ends i)) (moved (cross (plus_start i) (e_ends i)) origin)) ∙ ap (moved (cross a q)) (moved_nothing (cross q b)) ∙ w.areas
+
+    minus_area : area K (minus e ∷ minus k ∷ []) ≡ part (minus e)
+    minus_area =
+        let e_ends : finish K (minus e) ≡ q = ap (start K) (mate_minus e) ∙ plus_start in
+        let k_ends : finish K (minus k) ≡ a = ap (start K) (mate_minus k) ∙ new_plus in
+        let starts : start M (minus e) ≡ b = sym (ap (start M) (mate_plus e)) in
+        let ends : finish M (minus e) ≡ a = ap (start M) (mate_minus e) in
+        (λ i. moved (cross (far i) (e_ends i)) (moved (cross (new_minus i) (k_ends i)) origin)) ∙ ap (moved (cross b q)) (moved_nothing (cross q a))
+        ∙ between_back a b q w ∙ sym (λ i. cross (starts i) (ends i))
+
+    doubled_area : (h : ℕ) → HasHalf M h → area K (doubled e k h) ≡ part h
+    doubled_area h there = elim (doubled_cases e k h) [
+      | inl c ↦ ap (area K) c.1 ∙ plus_area ∙ ap part (sym c.0)
+      | inr c ↦ elim c [
+        | inl d ↦ ap (area K) d.1 ∙ minus_area ∙ ap part (sym d.0)
+        | inr d ↦ ap (area K) d.2 ∙ moved_nothing (cross (start K h) (finish K h)) ∙ (λ i. cross (other_start h there (other_edge e h d.0 d.1) i) (other_finish h there (other_edge e h d.0 d.1) i))
+      ]
+    ]
+
+    list_area : (hs : List ℕ) → ((h : ℕ) → IsIn h hs → HasHalf M h) → area K (flat_map (doubled e k) hs) ≡ area M hs
+    list_area [] there = refl
+    list_area (h ∷ hs) there = area-append K (doubled e k h) (flat_map (doubled e k) hs) ∙ (λ i. moved (doubled_area h (there h (first_in h hs)) i) (list_area hs (λ x j. there x (rest_in x h hs j)) i))
+
+    content_area : (c : LoopContent) → ((h : ℕ) → IsIn h (items_of c) → HasHalf M h) → area K (items_of (rewritten (flat_map (doubled e k)) c)) ≡ area M (items_of c)
+    content_area (lone n) there = refl
+    content_area (cycle hs) there = area_same K (canonical (flat_map (doubled e k) hs)) (flat_map (doubled e k) hs) (λ x. count-canonical x (flat_map (doubled e k) hs)) ∙ list_area hs there
+
+    loop_area : (l : ℕ) → area K (items_of (content K l)) ≡ area M (items_of (content M l))
+    loop_area l = ap (λ c. area K (items_of c)) (content_cut l) ∙ content_area (content M l) (λ h i. item_there M goes.can.sound l h i)
+
+    loops_area : (ls : List ℕ) → area K (items_in K ls) ≡ area M (items_in M ls)
+    loops_area [] = refl
+    loops_area (l ∷ ls) = area-append K (items_of (content K l)) (items_in K ls) ∙ (λ i. moved (loop_area l i) (loops_area ls i)) ∙ sym (area-append M (items_of (content M l)) (items_in M ls))
+
+    pub normal_stays : (f : ℕ) → normal (edge_cut M e k v q) f ≡ normal M f
+    unfolding normal boundary
+    normal_stays f = ap (λ ls. area K (items_in K ls)) (loops_stay f) ∙ loops_area (loops_of M f)

@@ -1,0 +1,158 @@
+-- What is drawn in a face is what the operators make, and none of them is refused.
+use Rattle.std.proofs.Common.{◌≡◌, ◌≢◌, ℕ, cond, List, ◌∷◌, None, is_some, IsTrue, refl, sym, ap, ◌∙◌, subst, arith}
+use Rattle.std.proofs.lemmas.Bool.Decides.{nat_tests}
+use Rattle.cyclic_list.specs.Rings.{rotate_to}
+use Rattle.cyclic_list.specs.Operators.{mef_old, mef_new, mekr_ring}
+use Rattle.boundary_model.specs.declared.HalfEdge.{HalfEdge}
+use Rattle.boundary_model.specs.declared.Corner.TheVariants.{At}
+use Rattle.boundary_model.specs.HalfEdge.{edge_of, plus, minus, code, half}
+use Rattle.boundary_model.specs.Table as table
+use Rattle.boundary_model.specs.Table.{Table, tables, same_table}
+use Rattle.boundary_model.specs.Model.{Model, LoopRow, cycle, tail, loop_of, cycle_of, solid_of, outer, is_number}
+use Rattle.boundary_model.specs.Sound.{Sound, HasHalf}
+use Rattle.boundary_model.proofs.Halves.{plus_row, code-half, edge_of-code}
+use Rattle.boundary_model.proofs.Models.{row_of}
+use Rattle.euler_operators.specs.Conditions.{first_false, face_at}
+use Rattle.euler_operators.specs.Effect.{effect, mef, mekr, ring_in, edge_row}
+use Rattle.euler_operators.specs.declared.Op.TheVariants.{RingIn}
+use Rattle.euler_laws.proofs.shared.Undo.{mate_plus}
+use Rattle.euler_laws.proofs.shared.Rows.{of_half}
+use Rattle.euler_laws.proofs.mef.MefUndo.{loops-mef}
+use Rattle.euler_laws.proofs.mef.MefSound.{MefGoes}
+use Rattle.euler_laws.proofs.mef.Kef.{mef_accepted}
+use Rattle.euler_laws.proofs.kemr.Kemr.{CornerAt, MekrGoes, mekr_accepted}
+use Rattle.euler_laws.proofs.Cases.{effect_keeps_sound}
+use Rattle.shapes.specs.split.Drawing.{face_drawn, loops_joined, with_rings}
+use Rattle.split_drawing_laws.specs.drawings.DrawingOps.{draw_edge, join_edge}
+
+row-plus : (e a b : ℕ) → edge_row (plus e) a b ≡ record { plus_tail = a; minus_tail = b }
+row-plus e a b = ap (λ t. cond t (record { plus_tail = a; minus_tail = b }) (record { plus_tail = b; minus_tail = a })) (plus_row e).1
+
+-- ---- an edge drawn between two half-edges of a loop
+
+-- u and k stand in one loop of a sound model and start at different vertices; the numbers are free
+pub record CanDraw (M : Model) (u k e f l : ℕ) : Type 0 where
+  pub sound : Sound M
+  pub u_there : HasHalf M u
+  pub k_there : HasHalf M k
+  pub one_loop : loop_of M u ≡ loop_of M k
+  pub apart : tail M u ≢ tail M k
+  pub edge_free : table.get M.edges e ≡ None
+  pub face_free : table.get M.faces f ≡ None
+  pub loop_free : table.get M.loops l ≡ None
+  pub edge_fits : IsTrue (is_number e)
+  pub face_fits : IsTrue (is_number f)
+  pub loop_fits : IsTrue (is_number l)
+
+module _ (M : Model) (u k e f l : ℕ) (can : CanDraw M u k e f l) where
+  put_new : ℕ → Table LoopRow
+  put_new m = table.put (table.put M.loops (loop_of M u) (record { face = face_at M u; content = cycle (mef_old (plus e) u k (cycle_of M u)) })) l
+      (record { face = f; content = cycle (mef_new m u k (cycle_of M u)) })
+
+  free_plus : table.get M.edges (edge_of (plus e)) ≡ None
+  free_plus = ap (table.get M.edges) (plus_row e).0 ∙ can.edge_free
+
+  -- it is mef
+  pub mef_draws : mef M u k (plus e) f l ≡ face_drawn M u k e f l
+  unfolding mef face_drawn put_new
+  mef_draws = λ i. record M {
+    faces = table.put M.faces f (record { solid = solid_of M (face_at M u); outer = l });
+    loops = (loops-mef M can.sound u k (plus e) f l can.u_there free_plus can.loop_free ∙ ap put_new (mate_plus e)) i;
+    edges = table.put M.edges ((plus_row e).0 i) (row-plus e (tail M u) (tail M k) i);
+  }
+
+  draw_goes : MefGoes M u k (plus e) f l
+  draw_goes = record {
+    g_there = can.u_there;
+    k_there = can.k_there;
+    edge_free = free_plus;
+    face_free = can.face_free;
+    loop_free = can.loop_free;
+    one_loop = sym can.one_loop;
+    ends_apart = can.apart;
+    edge_fits = ap is_number (plus_row e).0 ∙ can.edge_fits;
+    face_fits = can.face_fits;
+    loop_fits = can.loop_fits;
+  }
+
+  pub draw_accepted : first_false M (draw_edge u k e f l) ≡ None
+  draw_accepted = mef_accepted M (half u) (half k) (half (plus e)) f l can.sound
+      (subst (λ x. MefGoes M x (code (half k)) (code (half (plus e))) f l) (sym (code-half u))
+      (subst (λ x. MefGoes M u x (code (half (plus e))) f l) (sym (code-half k))
+      (subst (λ x. MefGoes M u k x f l) (sym (code-half (plus e))) draw_goes)))
+
+  pub draw_made : effect M (draw_edge u k e f l) ≡ face_drawn M u k e f l
+  unfolding effect
+  draw_made = (λ i. mef M (code-half u i) (code-half k i) (code-half (plus e) i) f l) ∙ mef_draws
+
+  pub draw_sound : Sound (face_drawn M u k e f l)
+  draw_sound = subst Sound draw_made (effect_keeps_sound M (draw_edge u k e f l) can.sound draw_accepted)
+
+-- ---- an edge that joins two loops of a face
+
+swapped : {X : Type 0} (t : Table X) (n k : ℕ) (x : X) → n ≢ k → table.remove (table.put t n x) k ≡ table.put (table.remove t k) n x
+swapped t n k x apart = same_table _ _ (λ q. grind (arith, nat_tests, tables))
+
+-- c and d stand in different loops of one face of a sound model, d in a ring, and start at different vertices; the edge is free
+pub record CanJoin (M : Model) (c d e : ℕ) : Type 0 where
+  pub sound : Sound M
+  pub c_there : HasHalf M c
+  pub d_there : HasHalf M d
+  pub loops_apart : loop_of M c ≢ loop_of M d
+  pub one_face : face_at M c ≡ face_at M d
+  pub is_ring : outer M (face_at M d) ≢ loop_of M d
+  pub apart : tail M c ≢ tail M d
+  pub edge_free : table.get M.edges e ≡ None
+  pub edge_fits : IsTrue (is_number e)
+
+-- it is mekr
+pub mekr_joins : (M : Model) (c d : HalfEdge) (e : ℕ) → loop_of M (code c) ≢ loop_of M (code d) → mekr M (At c) (At d) (plus e) ≡ loops_joined M (code c) (code d) e
+unfolding mekr loops_joined
+mekr_joins M c d e apart = λ i. record M {
+  loops = ((λ j. table.remove (table.put M.loops (loop_of M (code c)) (record { face = face_at M (code c); content = cycle (mekr_ring (plus e) (mate_plus e j) (code c) (code d) (cycle_of M (code c)) (cycle_of M (code d))) })) (loop_of M (code d)))
+      ∙ swapped M.loops (loop_of M (code c)) (loop_of M (code d)) (record { face = face_at M (code c); content = cycle (mekr_ring (plus e) (minus e) (code c) (code d) (cycle_of M (code c)) (cycle_of M (code d))) }) apart) i;
+  edges = table.put M.edges ((plus_row e).0 i) (row-plus e (tail M (code c)) (tail M (code d)) i);
+}
+
+module _ (M : Model) (c d e : ℕ) (can : CanJoin M c d e) where
+  corner_at : (x : ℕ) → HasHalf M x → CornerAt M (At (half x)) (loop_of M x) (tail M x) (rotate_to x (cycle_of M x))
+  corner_at x there = let t : HasHalf M (code (half x)) = subst (HasHalf M) (sym (code-half x)) there in record {
+    loop = ap (loop_of M) (code-half x);
+    vertex = ap (tail M) (code-half x);
+    list = ap (λ z. rotate_to z (cycle_of M z)) (code-half x);
+    known = of_half M (half x) t;
+    bare = refl;
+    fits = ap is_number (sym (edge_of-code (half x))) ∙ can.sound.edges_fit (edge_of (code (half x))) t;
+  }
+
+  join_goes : MekrGoes M (At (half c)) (At (half d)) (plus e) (loop_of M c) (loop_of M d) (tail M c) (tail M d) (rotate_to c (cycle_of M c)) (rotate_to d (cycle_of M d))
+  join_goes = record {
+    first = corner_at c can.c_there;
+    second = corner_at d can.d_there;
+    edge_free = ap (table.get M.edges) (plus_row e).0 ∙ can.edge_free;
+    edge_fits = ap is_number (plus_row e).0 ∙ can.edge_fits;
+    loops_apart = can.loops_apart;
+    one_face = can.one_face;
+    ring_there = ap is_some (row_of M can.sound d can.d_there);
+    no_outer = can.is_ring;
+    ends_apart = can.apart;
+  }
+
+  pub join_accepted : first_false M (join_edge c d e) ≡ None
+  join_accepted = mekr_accepted M (At (half c)) (At (half d)) (half (plus e)) (loop_of M c) (loop_of M d) (tail M c) (tail M d) (rotate_to c (cycle_of M c)) (rotate_to d (cycle_of M d))
+      (subst (λ x. MekrGoes M (At (half c)) (At (half d)) x (loop_of M c) (loop_of M d) (tail M c) (tail M d) (rotate_to c (cycle_of M c)) (rotate_to d (cycle_of M d))) (sym (code-half (plus e))) join_goes)
+
+  pub join_made : effect M (join_edge c d e) ≡ loops_joined M c d e
+  unfolding effect
+  join_made = ap (mekr M (At (half c)) (At (half d))) (code-half (plus e))
+      ∙ mekr_joins M (half c) (half d) e (λ s. can.loops_apart (sym (ap (loop_of M) (code-half c)) ∙ s ∙ ap (loop_of M) (code-half d)))
+      ∙ (λ i. loops_joined M (code-half c i) (code-half d i) e)
+
+  pub join_sound : Sound (loops_joined M c d e)
+  join_sound = subst Sound join_made (effect_keeps_sound M (join_edge c d e) can.sound join_accepted)
+
+-- ---- rings moved
+
+pub ring_moved : (M : Model) (l k : ℕ) (ls : List ℕ) → with_rings M (l ∷ ls) k ≡ with_rings (effect M (RingIn l k)) ls k
+unfolding effect ring_in
+ring_moved M l k ls = refl

@@ -1,0 +1,216 @@
+-- A pair joined, and a pair between which an edge is drawn.
+use Rattle.std.proofs.Common.{◌≡◌, ◌≢◌, ℕ, ◌<◌, Bool, true, false, cond, not, nat_eq, ◌&&◌, [], ◌∷◌, None, is_some, IsTrue, refl, sym, ap, ◌∙◌, subst, arith, ◌⊎◌, inl, inr, true≢false}
+use Rattle.std.proofs.lemmas.Bool.Decides.{nat_tests, eqb_tells}
+use Rattle.boundary_model.specs.Table as table
+use Rattle.boundary_model.specs.Model.{Model, tail, loop_of, face_of, outer, solid_of, is_number, is_ring_of}
+use Rattle.boundary_model.specs.Sound.{Sound, Has, HasHalf}
+use Rattle.boundary_model.proofs.Models.{row_of}
+use Rattle.euler_operators.specs.Conditions.{face_at}
+use Rattle.euler_laws.proofs.shared.Goes.{free, equal, unequal}
+use Rattle.shapes.specs.Fresh.{Taken}
+use Rattle.shapes.specs.split.Drawing.{face_drawn, loops_joined, in_one_loop, joined_pair}
+use Rattle.split_drawing_laws.specs.drawings.DrawingOps.{join_edge, join_pair, draw_edge}
+use Rattle.split_drawing_laws.specs.drawings.DrawnIn.{JoinedIn, Stays, DrawnIn, Fresh}
+use Rattle.split_drawing_laws.specs.drawings.Pairs.{Fits}
+use Rattle.split_drawing_laws.proofs.drawings.Drawn.{CanDraw, draw_accepted, draw_made, draw_sound, CanJoin, join_accepted, join_made, join_sound}
+use Rattle.split_drawing_laws.proofs.drawings.Stays.{not_free, has_face, draw_stays, draw_beside, draw_within, draw_solid, draw_has, draw_free, join_stays, join_beside, join_faces, join_free}
+use Rattle.split_drawing_laws.proofs.drawings.Rings.{Newer}
+use Rattle.split_drawing_laws.proofs.drawings.Runs.{Leads, leads_one}
+
+pub stays_on : (M N K : Model) → Stays M N → Stays N K → Stays M K
+stays_on M N K a b = record {
+  halves = λ h there. b.halves h (a.halves h there);
+  tails = λ h there. b.tails h (a.halves h there) ∙ a.tails h there;
+  vertices = b.vertices ∙ a.vertices;
+  faces = λ g there. b.faces g (a.faces g there);
+}
+
+pub none_joined : (M : Model) (f : ℕ) → Sound M → JoinedIn M M f
+none_joined M f sound = record {
+  sound = sound;
+  stays = record { halves = λ h there. there; tails = λ h there. refl; vertices = refl; faces = λ g there. there };
+  beside = λ h there ne. refl;
+  faces = λ h there. refl;
+}
+
+pub joined_drawn : (M N : Model) (f : ℕ) → JoinedIn M N f → DrawnIn M N f
+joined_drawn M N f j = record {
+  sound = j.sound;
+  stays = j.stays;
+  beside = λ h there ne. (j.beside h there ne, j.faces h there);
+  within = λ h there is. inl (j.faces h there ∙ is);
+}
+
+ring_inner : (b : Bool) (f o k : ℕ) → (b && nat_eq f f && not (nat_eq o k)) ≡ true → o ≢ k
+ring_inner b f o k e s = grind (arith, nat_tests)
+
+ring_outer : (b : Bool) (f o k : ℕ) → b ≡ true → (b && nat_eq f f && not (nat_eq o k)) ≡ false → o ≡ k
+ring_outer true f o k t e = grind (arith, nat_tests)
+ring_outer false f o k t e = absurd (true≢false (sym t))
+
+-- ---- a pair joined
+
+module _ (M N : Model) (f : ℕ) (q : ℕ × ℕ) (e : ℕ) (joined : JoinedIn M N f) (fits : Fits M f q) (two : in_one_loop N q ≡ false)
+    (edge_free : table.get N.edges e ≡ None) (edge_fits : IsTrue (is_number e)) where
+  u_there : HasHalf N q.0
+  u_there = joined.stays.halves q.0 fits.u_there
+
+  k_there : HasHalf N q.1
+  k_there = joined.stays.halves q.1 fits.k_there
+
+  u_face : face_at N q.0 ≡ f
+  u_face = joined.faces q.0 fits.u_there ∙ fits.u_face
+
+  k_face : face_at N q.1 ≡ f
+  k_face = joined.faces q.1 fits.k_there ∙ fits.k_face
+
+  tails_apart : tail N q.0 ≢ tail N q.1
+  tails_apart s = fits.apart (sym (joined.stays.tails q.0 fits.u_there) ∙ s ∙ joined.stays.tails q.1 fits.k_there)
+
+  loops_apart : loop_of N q.0 ≢ loop_of N q.1
+  loops_apart = unequal (loop_of N q.0) (loop_of N q.1) two
+
+  abbrev ringed : Bool
+  ringed = is_ring_of N (face_at N q.0) (loop_of N q.0)
+
+  pub can_back : is_ring_of N (face_at N q.0) (loop_of N q.0) ≡ true → CanJoin N q.1 q.0 e
+  can_back r = record {
+    sound = joined.sound;
+    c_there = k_there;
+    d_there = u_there;
+    loops_apart = λ s. loops_apart (sym s);
+    one_face = k_face ∙ sym u_face;
+    is_ring = ring_inner (table.has N.loops (loop_of N q.0)) (face_at N q.0) (outer N (face_at N q.0)) (loop_of N q.0) r;
+    apart = λ s. tails_apart (sym s);
+    edge_free = edge_free;
+    edge_fits = edge_fits;
+  }
+
+  pub can_on : is_ring_of N (face_at N q.0) (loop_of N q.0) ≡ false → CanJoin N q.0 q.1 e
+  can_on r = record {
+    sound = joined.sound;
+    c_there = u_there;
+    d_there = k_there;
+    loops_apart = loops_apart;
+    one_face = u_face ∙ sym k_face;
+    is_ring = λ s. loops_apart (sym (ring_outer (table.has N.loops (loop_of N q.0)) (face_at N q.0) (outer N (face_at N q.0)) (loop_of N q.0) (ap is_some (row_of N joined.sound q.0 u_there)) r)
+        ∙ ap (outer N) (u_face ∙ sym k_face) ∙ s);
+    apart = tails_apart;
+    edge_free = edge_free;
+    edge_fits = edge_fits;
+  }
+
+  joined_on : (c d : ℕ) → CanJoin N c d e → face_at N c ≡ f → face_at N d ≡ f → JoinedIn M (loops_joined N c d e) f
+  joined_on c d can at to = record {
+    sound = join_sound N c d e can;
+    stays = stays_on M N (loops_joined N c d e) joined.stays (join_stays N c d e can);
+    beside = λ h there ne. (join_beside N c d e can h (joined.stays.halves h there)
+        (λ s. ne (sym (joined.faces h there) ∙ ap (face_of N) s ∙ at)) (λ s. ne (sym (joined.faces h there) ∙ ap (face_of N) s ∙ to))).0 ∙ joined.beside h there ne;
+    faces = λ h there. join_faces N c d e can h (joined.stays.halves h there) ∙ joined.faces h there;
+  }
+
+  pub pair_leads : Leads N (joined_pair N q e) (join_pair N q e ∷ [])
+  pair_leads = go ringed refl where
+    go : (b : Bool) → ringed ≡ b → Leads N (cond b (loops_joined N q.1 q.0 e) (loops_joined N q.0 q.1 e)) (cond b (join_edge q.1 q.0 e) (join_edge q.0 q.1 e) ∷ [])
+    go true r = leads_one N (loops_joined N q.1 q.0 e) (join_edge q.1 q.0 e) (join_accepted N q.1 q.0 e (can_back r)) (join_made N q.1 q.0 e (can_back r))
+    go false r = leads_one N (loops_joined N q.0 q.1 e) (join_edge q.0 q.1 e) (join_accepted N q.0 q.1 e (can_on r)) (join_made N q.0 q.1 e (can_on r))
+
+  pub pair_joined : JoinedIn M (joined_pair N q e) f
+  pair_joined = go ringed refl where
+    go : (b : Bool) → ringed ≡ b → JoinedIn M (cond b (loops_joined N q.1 q.0 e) (loops_joined N q.0 q.1 e)) f
+    go true r = joined_on q.1 q.0 (can_back r) k_face u_face
+    go false r = joined_on q.0 q.1 (can_on r) u_face k_face
+
+  fresh_on : (c d : ℕ) → CanJoin N c d e → (t : Taken) → t.edge < e → Fresh N t → Fresh (loops_joined N c d e) (record t { edge = e })
+  fresh_on c d can t less w = record {
+    faces = λ x above. (join_free N c d e can x).0 (w.faces x above);
+    loops = λ x above. (join_free N c d e can x).1 (w.loops x above);
+    edges = λ x above. (join_free N c d e can x).2 above (w.edges x (omega (arith, less, above)));
+  }
+
+  pub pair_fresh : (t : Taken) → t.edge < e → Fresh N t → Fresh (joined_pair N q e) (record t { edge = e })
+  pair_fresh t less w = go ringed refl where
+    go : (b : Bool) → ringed ≡ b → Fresh (cond b (loops_joined N q.1 q.0 e) (loops_joined N q.0 q.1 e)) (record t { edge = e })
+    go true r = fresh_on q.1 q.0 (can_back r) t less w
+    go false r = fresh_on q.0 q.1 (can_on r) t less w
+
+-- ---- an edge drawn between a pair
+
+-- a face that isn't there then wasn't there before
+was_free : (M N : Model) → Stays M N → (g : ℕ) → table.get N.faces g ≡ None → table.get M.faces g ≡ None
+was_free M N stays g none = go (table.has M.faces g) refl where
+  go : (b : Bool) → table.has M.faces g ≡ b → table.get M.faces g ≡ None
+  go true e = absurd (true≢false (sym (stays.faces g e) ∙ ap is_some none))
+  go false e = free (table.get M.faces g) e
+
+module _ (M N : Model) (f : ℕ) (q : ℕ × ℕ) (e g l : ℕ) (sound : Sound M) (drawn : DrawnIn M N f) (fits : Fits M f q) (one : in_one_loop N q ≡ true)
+    (edge_free : table.get N.edges e ≡ None) (face_free : table.get N.faces g ≡ None) (loop_free : table.get N.loops l ≡ None)
+    (edge_fits : IsTrue (is_number e)) (face_fits : IsTrue (is_number g)) (loop_fits : IsTrue (is_number l)) where
+  abbrev K : Model
+  K = face_drawn N q.0 q.1 e g l
+
+  pub pair_can : CanDraw N q.0 q.1 e g l
+  pair_can = record {
+    sound = drawn.sound;
+    u_there = drawn.stays.halves q.0 fits.u_there;
+    k_there = drawn.stays.halves q.1 fits.k_there;
+    one_loop = equal (loop_of N q.0) (loop_of N q.1) one;
+    apart = λ s. fits.apart (sym (drawn.stays.tails q.0 fits.u_there) ∙ s ∙ drawn.stays.tails q.1 fits.k_there);
+    edge_free = edge_free;
+    face_free = face_free;
+    loop_free = loop_free;
+    edge_fits = edge_fits;
+    face_fits = face_fits;
+    loop_fits = loop_fits;
+  }
+
+  pub pair_draws : Leads N (face_drawn N q.0 q.1 e g l) (draw_edge q.0 q.1 e g l ∷ [])
+  pair_draws = leads_one N K (draw_edge q.0 q.1 e g l) (draw_accepted N q.0 q.1 e g l pair_can) (draw_made N q.0 q.1 e g l pair_can)
+
+  -- what is of another face doesn't stand in u's loop
+  not_there : (h : ℕ) → HasHalf M h → face_at M h ≢ f → loop_of N h ≢ loop_of N q.0
+  not_there h there ne s = elim (drawn.within q.0 fits.u_there fits.u_face) [
+    | inl a ↦ ne (sym (drawn.beside h there ne).1 ∙ ap (face_of N) s ∙ a)
+    | inr a ↦ not_free M.faces (face_at M h) (face_at N q.0) (has_face M sound h there) a (sym (drawn.beside h there ne).1 ∙ ap (face_of N) s)
+  ]
+
+  in_face : (h : ℕ) → HasHalf M h → face_at M h ≡ f → face_at K h ≡ face_at N h → (face_at K h ≡ f) ⊎ (table.get M.faces (face_at K h) ≡ None)
+  in_face h there is same = elim (drawn.within h there is) [
+    | inl a ↦ inl (same ∙ a)
+    | inr a ↦ inr (ap (table.get M.faces) same ∙ a)
+  ]
+
+  pub pair_drawn : DrawnIn M (face_drawn N q.0 q.1 e g l) f
+  pair_drawn = record {
+    sound = draw_sound N q.0 q.1 e g l pair_can;
+    stays = stays_on M N K drawn.stays (draw_stays N q.0 q.1 e g l pair_can);
+    beside = λ h there ne.
+        let a = draw_beside N q.0 q.1 e g l pair_can h (drawn.stays.halves h there) (not_there h there ne) in
+        let b = drawn.beside h there ne in
+        (a.0 ∙ b.0, a.1 ∙ b.1);
+    within = λ h there is.
+        let t : HasHalf N h = drawn.stays.halves h there in
+        elim (eqb_tells (loop_of N h) (loop_of N q.0)) [
+          | inl s ↦ elim (draw_within N q.0 q.1 e g l pair_can h t s.1) [
+            | inl a ↦ in_face h there is a
+            | inr a ↦ inr (ap (table.get M.faces) a ∙ was_free M N drawn.stays g face_free)
+          ]
+          | inr s ↦ in_face h there is (draw_beside N q.0 q.1 e g l pair_can h t s.1).1
+        ];
+  }
+
+  pub drawn_fresh : (t : Taken) → t.edge < e → t.face < g → t.loop < l → Fresh N t → Fresh (face_drawn N q.0 q.1 e g l) (record t { face = g; loop = l; edge = e })
+  drawn_fresh t a b c w = record {
+    faces = λ x above. (draw_free N q.0 q.1 e g l pair_can x).0 above (w.faces x (omega (arith, b, above)));
+    loops = λ x above. (draw_free N q.0 q.1 e g l pair_can x).1 above (w.loops x (omega (arith, c, above)));
+    edges = λ x above. (draw_free N q.0 q.1 e g l pair_can x).2 above (w.edges x (omega (arith, a, above)));
+  }
+
+  -- where nothing was drawn before, the new face is one of f's solid
+  pub drawn_newer : face_at N q.0 ≡ f → Newer M (face_drawn N q.0 q.1 e g l) f g
+  drawn_newer at = record {
+    old = subst (Has M.faces) fits.u_face (has_face M sound q.0 fits.u_there);
+    new = was_free M N drawn.stays g face_free;
+    there = draw_has N q.0 q.1 e g l pair_can;
+    solid = ap (solid_of K) (sym at) ∙ sym (draw_solid N q.0 q.1 e g l pair_can);
+  }

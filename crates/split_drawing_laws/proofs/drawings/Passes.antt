@@ -1,0 +1,191 @@
+-- The two passes over the pairs of a face.
+use Rattle.std.proofs.Common.{◌≡◌, ℕ, suc, ◌+◌, ◌<◌, Bool, true, false, cond, List, [], ◌∷◌, ◌++◌, length, None, refl, sym, ap, subst, arith, IsTrue}
+use Rattle.std.specs.Prelude.{fold}
+use Rattle.boundary_model.specs.Table as table
+use Rattle.boundary_model.specs.Model.{Model, is_number}
+use Rattle.boundary_model.specs.Sound.{Sound}
+use Rattle.shapes.proofs.fresh.Tests.{number_fits}
+use Rattle.shapes.specs.Fresh.{Taken}
+use Rattle.shapes.specs.split.Drawing.{Drawing, face_drawn, in_one_loop, joined_pair, join_next, draw_next, stuck_at}
+use Rattle.split_drawing_laws.specs.drawings.DrawingOps.{join_pair, join_ops, draw_pair, draw_ops}
+use Rattle.split_drawing_laws.specs.drawings.DrawnIn.{JoinedIn, DrawnIn, Fresh, Room}
+use Rattle.split_drawing_laws.specs.drawings.Pairs.{Fits, AllFit}
+use Rattle.split_drawing_laws.specs.drawings.Passing.{Joining, Going}
+use Rattle.split_drawing_laws.proofs.drawings.Pairs.{pair_leads, pair_joined, pair_fresh, pair_draws, pair_drawn, drawn_fresh}
+use Rattle.split_drawing_laws.proofs.drawings.Runs.{Leads, leads_none, leads_on}
+
+length_last : (qs : List (ℕ × ℕ)) (q : ℕ × ℕ) → length (qs ++ q ∷ []) ≡ length qs + 1
+length_last [] q = refl
+length_last (r ∷ qs) q = let s : length (qs ++ q ∷ []) ≡ length qs + 1 = length_last qs q in omega (arith, s)
+
+all_fit_last : (M : Model) (f : ℕ) (qs : List (ℕ × ℕ)) (q : ℕ × ℕ) → AllFit M f qs → Fits M f q → AllFit M f (qs ++ q ∷ [])
+all_fit_last M f [] q a b = (b, tt)
+all_fit_last M f (r ∷ qs) q a b = (a.0, all_fit_last M f qs q a.1 b)
+
+pub room_as : (c : Taken) (a b : ℕ) → a ≡ b → Room c a → Room c b
+room_as c a b e = subst (Room c) e
+
+-- the next edge, face and loop
+module _ (c : Taken) (n : ℕ) (room : Room c (suc n)) where
+  pub edge_fits : IsTrue (is_number (c.edge + 1))
+  edge_fits = number_fits (c.edge + 1) (omega arith) (omega (arith, room.edges))
+
+  pub face_fits : IsTrue (is_number (c.face + 1))
+  face_fits = number_fits (c.face + 1) (omega arith) (omega (arith, room.faces))
+
+  pub loop_fits : IsTrue (is_number (c.loop + 1))
+  loop_fits = number_fits (c.loop + 1) (omega arith) (omega (arith, room.loops))
+
+  room_joined : Room (record c { edge = c.edge + 1 }) n
+  room_joined = record { faces = omega (arith, room.faces); loops = omega (arith, room.loops); edges = omega (arith, room.edges) }
+
+  room_drawn : Room (record c { face = c.face + 1; loop = c.loop + 1; edge = c.edge + 1 }) n
+  room_drawn = record { faces = omega (arith, room.faces); loops = omega (arith, room.loops); edges = omega (arith, room.edges) }
+
+next_above : (a : ℕ) → a < a + 1
+next_above a = omega arith
+
+-- ---- first pass
+
+pub join_next_one : (d : Drawing) (q : ℕ × ℕ) → in_one_loop d.model q ≡ true → join_next d q ≡ record d { left = d.left ++ q ∷ [] }
+unfolding join_next
+join_next_one d q e = ap (λ b. cond b (record d { left = d.left ++ q ∷ [] }) (record d { model = joined_pair d.model q (d.taken.edge + 1); taken = record d.taken { edge = d.taken.edge + 1 } })) e
+
+pub join_next_two : (d : Drawing) (q : ℕ × ℕ) → in_one_loop d.model q ≡ false → join_next d q ≡ record d { model = joined_pair d.model q (d.taken.edge + 1); taken = record d.taken { edge = d.taken.edge + 1 } }
+unfolding join_next
+join_next_two d q e = ap (λ b. cond b (record d { left = d.left ++ q ∷ [] }) (record d { model = joined_pair d.model q (d.taken.edge + 1); taken = record d.taken { edge = d.taken.edge + 1 } })) e
+
+-- one pair
+module _ (M : Model) (f : ℕ) (d : Drawing) (q : ℕ × ℕ) (qs : List (ℕ × ℕ)) (n : ℕ) (fits : Fits M f q) (w : Joining M f d (q ∷ qs) n) where
+  abbrev Next : Drawing → Type 0
+  Next x = Leads d.model x.model (cond (in_one_loop d.model q) [] (join_pair d.model q (d.taken.edge + 1) ∷ [])) × Joining M f x qs n
+
+  room_now : Room d.taken (suc (length d.left + length qs + n))
+  room_now = room_as d.taken (length d.left + length (q ∷ qs) + n) (suc (length d.left + length qs + n)) (omega arith) w.room
+
+  kept : in_one_loop d.model q ≡ true → Next (join_next d q)
+  kept e = subst Next (sym (join_next_one d q e)) (
+    subst (Leads d.model d.model) (sym (ap (λ b. cond b [] (join_pair d.model q (d.taken.edge + 1) ∷ [])) e)) (leads_none d.model),
+    record {
+      joined = w.joined;
+      fresh = w.fresh;
+      room = room_as d.taken (length d.left + length (q ∷ qs) + n) (length (d.left ++ q ∷ []) + length qs + n) (omega (arith, length_last d.left q)) w.room;
+      pairs = all_fit_last M f d.left q w.pairs fits;
+    },
+  )
+
+  pub edge_free : table.get d.model.edges (d.taken.edge + 1) ≡ None
+  edge_free = w.fresh.edges (d.taken.edge + 1) (next_above d.taken.edge)
+
+  pub edge_fits_now : IsTrue (is_number (d.taken.edge + 1))
+  edge_fits_now = edge_fits d.taken (length d.left + length qs + n) room_now
+
+  made : in_one_loop d.model q ≡ false → Next (join_next d q)
+  made e = subst Next (sym (join_next_two d q e)) (
+    subst (Leads d.model (joined_pair d.model q (d.taken.edge + 1))) (sym (ap (λ b. cond b [] (join_pair d.model q (d.taken.edge + 1) ∷ [])) e))
+        (pair_leads M d.model f q (d.taken.edge + 1) w.joined fits e edge_free edge_fits_now),
+    record {
+      joined = pair_joined M d.model f q (d.taken.edge + 1) w.joined fits e edge_free edge_fits_now;
+      fresh = pair_fresh M d.model f q (d.taken.edge + 1) w.joined fits e edge_free edge_fits_now d.taken (next_above d.taken.edge) w.fresh;
+      room = room_joined d.taken (length d.left + length qs + n) room_now;
+      pairs = w.pairs;
+    },
+  )
+
+  pub join_one : Next (join_next d q)
+  join_one = go (in_one_loop d.model q) refl where
+    go : (b : Bool) → in_one_loop d.model q ≡ b → Next (join_next d q)
+    go true e = kept e
+    go false e = made e
+
+pub record Joins (M : Model) (f : ℕ) (d : Drawing) (qs : List (ℕ × ℕ)) (n : ℕ) : Type 0 where
+  pub leads : Leads d.model (fold join_next d qs).model (join_ops d qs)
+  pub state : Joining M f (fold join_next d qs) [] n
+
+pub joins_go : (M : Model) (f : ℕ) (d : Drawing) (qs : List (ℕ × ℕ)) (n : ℕ) → AllFit M f qs → Joining M f d qs n → Joins M f d qs n
+joins_go M f d [] n fit w = record { leads = leads_none d.model; state = w }
+joins_go M f d (q ∷ qs) n fit w =
+    let s = join_one M f d q qs n fit.0 w in
+    let r : Joins M f (join_next d q) qs n = joins_go M f (join_next d q) qs n fit.1 s.1 in
+    record {
+      leads = leads_on d.model (join_next d q).model (fold join_next (join_next d q) qs).model (cond (in_one_loop d.model q) [] (join_pair d.model q (d.taken.edge + 1) ∷ [])) (join_ops (join_next d q) qs) s.0 r.leads;
+      state = r.state;
+    }
+
+-- ---- second pass
+
+-- the drawing in which a pair has cut a new face off
+abbrev pub cut_off : Drawing → ℕ × ℕ → Drawing
+cut_off d q = record d {
+  model = face_drawn d.model q.0 q.1 (d.taken.edge + 1) (d.taken.face + 1) (d.taken.loop + 1);
+  taken = record d.taken { face = d.taken.face + 1; loop = d.taken.loop + 1; edge = d.taken.edge + 1 };
+}
+
+pub draw_next_one : (f : ℕ) (d : Drawing) (q : ℕ × ℕ) → in_one_loop d.model q ≡ true → draw_next f d q ≡ cut_off d q
+unfolding draw_next
+draw_next_one f d q e = ap (λ b. cond b (cut_off d q) (stuck_at f d)) e
+
+pub draw_next_two : (f : ℕ) (d : Drawing) (q : ℕ × ℕ) → in_one_loop d.model q ≡ false → draw_next f d q ≡ stuck_at f d
+unfolding draw_next
+draw_next_two f d q e = ap (λ b. cond b (cut_off d q) (stuck_at f d)) e
+
+module _ (M : Model) (f : ℕ) (sound : Sound M) (d : Drawing) (q : ℕ × ℕ) (qs : List (ℕ × ℕ)) (n : ℕ) (fits : Fits M f q) (w : Going M f d (q ∷ qs) n) where
+  abbrev After : Drawing → Type 0
+  After x = Leads d.model x.model (cond (in_one_loop d.model q) (draw_pair d.taken q ∷ []) []) × Going M f x qs n
+
+  pub room_here : Room d.taken (suc (length qs + n))
+  room_here = room_as d.taken (length (q ∷ qs) + n) (suc (length qs + n)) (omega arith) w.room
+
+  left_out : in_one_loop d.model q ≡ false → After (draw_next f d q)
+  left_out e = subst After (sym (draw_next_two f d q e)) (
+    subst (Leads d.model d.model) (sym (ap (λ b. cond b (draw_pair d.taken q ∷ []) []) e)) (leads_none d.model),
+    record {
+      drawn = w.drawn;
+      fresh = w.fresh;
+      room = record { faces = omega (arith, room_here.faces); loops = omega (arith, room_here.loops); edges = omega (arith, room_here.edges) };
+    },
+  )
+
+  pub edge_open : table.get d.model.edges (d.taken.edge + 1) ≡ None
+  edge_open = w.fresh.edges (d.taken.edge + 1) (next_above d.taken.edge)
+
+  pub face_open : table.get d.model.faces (d.taken.face + 1) ≡ None
+  face_open = w.fresh.faces (d.taken.face + 1) (next_above d.taken.face)
+
+  pub loop_open : table.get d.model.loops (d.taken.loop + 1) ≡ None
+  loop_open = w.fresh.loops (d.taken.loop + 1) (next_above d.taken.loop)
+
+  cut : in_one_loop d.model q ≡ true → After (draw_next f d q)
+  cut e = subst After (sym (draw_next_one f d q e)) (
+    subst (Leads d.model (cut_off d q).model) (sym (ap (λ b. cond b (draw_pair d.taken q ∷ []) []) e))
+        (pair_draws M d.model f q (d.taken.edge + 1) (d.taken.face + 1) (d.taken.loop + 1) sound w.drawn fits e edge_open face_open loop_open
+        (edge_fits d.taken (length qs + n) room_here) (face_fits d.taken (length qs + n) room_here) (loop_fits d.taken (length qs + n) room_here)),
+    record {
+      drawn = pair_drawn M d.model f q (d.taken.edge + 1) (d.taken.face + 1) (d.taken.loop + 1) sound w.drawn fits e edge_open face_open loop_open
+          (edge_fits d.taken (length qs + n) room_here) (face_fits d.taken (length qs + n) room_here) (loop_fits d.taken (length qs + n) room_here);
+      fresh = drawn_fresh M d.model f q (d.taken.edge + 1) (d.taken.face + 1) (d.taken.loop + 1) sound w.drawn fits e edge_open face_open loop_open
+          (edge_fits d.taken (length qs + n) room_here) (face_fits d.taken (length qs + n) room_here) (loop_fits d.taken (length qs + n) room_here)
+          d.taken (next_above d.taken.edge) (next_above d.taken.face) (next_above d.taken.loop) w.fresh;
+      room = room_drawn d.taken (length qs + n) room_here;
+    },
+  )
+
+  pub draw_one : After (draw_next f d q)
+  draw_one = go (in_one_loop d.model q) refl where
+    go : (b : Bool) → in_one_loop d.model q ≡ b → After (draw_next f d q)
+    go true e = cut e
+    go false e = left_out e
+
+pub record Draws (M : Model) (f : ℕ) (d : Drawing) (qs : List (ℕ × ℕ)) (n : ℕ) : Type 0 where
+  pub leads : Leads d.model (fold (draw_next f) d qs).model (draw_ops f d qs)
+  pub state : Going M f (fold (draw_next f) d qs) [] n
+
+pub draws_go : (M : Model) (f : ℕ) (d : Drawing) (qs : List (ℕ × ℕ)) (n : ℕ) → Sound M → AllFit M f qs → Going M f d qs n → Draws M f d qs n
+draws_go M f d [] n sound fit w = record { leads = leads_none d.model; state = w }
+draws_go M f d (q ∷ qs) n sound fit w =
+    let s = draw_one M f sound d q qs n fit.0 w in
+    let r : Draws M f (draw_next f d q) qs n = draws_go M f (draw_next f d q) qs n sound fit.1 s.1 in
+    record {
+      leads = leads_on d.model (draw_next f d q).model (fold (draw_next f) (draw_next f d q) qs).model (cond (in_one_loop d.model q) (draw_pair d.taken q ∷ []) []) (draw_ops f (draw_next f d q) qs) s.0 r.leads;
+      state = r.state;
+    }

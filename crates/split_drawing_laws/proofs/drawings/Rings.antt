@@ -1,0 +1,204 @@
+-- Rings of a face given to a new one.
+use Rattle.std.proofs.Common.{◌≡◌, ◌≢◌, ℕ, ◌+◌, ◌≤◌, Bool, true, false, cond, not, nat_eq, ◌&&◌, List, [], ◌∷◌, None, is_some, unwrap_or, refl, sym, ap, ◌∙◌, subst, arith, inl, inr, true≢false}
+use Rattle.std.specs.Prelude.{filter}
+use Rattle.std.proofs.lemmas.Bool.Decides.{eqb_tells}
+use Rattle.cyclic_list.specs.Rings.{successor}
+use Rattle.cyclic_list.specs.Items.{count, tick, IsIn, IsApart}
+use Rattle.cyclic_list.proofs.Lists.{tick_same}
+use Rattle.boundary_model.specs.HalfEdge.{edge_of, is_first}
+use Rattle.boundary_model.specs.Table as table
+use Rattle.boundary_model.specs.Model.{Model, no_edge, holds, tail, tail_in, items_of, content, loop_of, face_of, solid_of, outer, after, rings_of}
+use Rattle.boundary_model.specs.Sound.{Sound, Has, HasHalf}
+use Rattle.boundary_model.proofs.Models.{face_row}
+use Rattle.euler_operators.specs.declared.Op.TheVariants.{RingIn}
+use Rattle.euler_operators.specs.Conditions.{face_at, first_false}
+use Rattle.euler_operators.specs.Effect.{effect, ring_in}
+use Rattle.euler_laws.proofs.shared.Goes.{free, taken, equal, unequal}
+use Rattle.euler_laws.proofs.shared.Faces.{SameWalks}
+use Rattle.euler_laws.proofs.shared.Listed.{listed_passes, all_where-rises}
+use Rattle.euler_laws.proofs.faces.RingIn as moved
+use Rattle.euler_laws.proofs.faces.RingIn.{RingGoes, ring_in_accepted, sound-ring_in}
+use Rattle.solid_walks.proofs.Rising.{in_listed, counted_once}
+use Rattle.shapes.specs.Fresh.{Taken}
+use Rattle.shapes.specs.split.Drawing.{with_rings}
+use Rattle.split_drawing_laws.specs.drawings.DrawnIn.{Stays, DrawnIn, Fresh}
+use Rattle.split_drawing_laws.specs.drawings.DrawingOps.{ring_ops}
+use Rattle.split_drawing_laws.proofs.drawings.Stays.{not_free}
+use Rattle.split_drawing_laws.proofs.drawings.Runs.{Leads, leads_none, leads_one, leads_on}
+
+-- l is a ring of face f
+pub record RingOf (N : Model) (f l : ℕ) : Type 0 where
+  pub there : Has N.loops l
+  pub face : face_of N l ≡ f
+  pub inner : outer N f ≢ l
+
+abbrev pub AreRings : Model → ℕ → List ℕ → Type 0
+AreRings N f ls = (l : ℕ) → IsIn l ls → RingOf N f l
+
+-- face k is a new one of the same solid as f; M is the model before
+pub record Newer (M N : Model) (f k : ℕ) : Type 0 where
+  pub old : Has M.faces f
+  pub new : table.get M.faces k ≡ None
+  pub there : Has N.faces k
+  pub solid : solid_of N f ≡ solid_of N k
+
+-- ---- one ring
+
+module _ (M N : Model) (f l k : ℕ) (drawn : DrawnIn M N f) (ring : RingOf N f l) (newer : Newer M N f k) where
+  goes : RingGoes N l k
+  goes = record {
+    l_there = ring.there;
+    f_there = newer.there;
+    one_solid = ap (solid_of N) ring.face ∙ newer.solid;
+    is_ring = λ e. ring.inner (ap (outer N) (sym ring.face) ∙ e);
+  }
+
+  apart : face_of N l ≢ k
+  apart e = not_free M.faces f k newer.old newer.new (sym ring.face ∙ e)
+
+  pub move_accepted : first_false N (RingIn l k) ≡ None
+  move_accepted = ring_in_accepted N l k drawn.sound goes apart
+
+  pub move_made : effect N (RingIn l k) ≡ ring_in N l k
+  unfolding effect
+  move_made = refl
+
+  new_sound : Sound (ring_in N l k)
+  new_sound = sound-ring_in N drawn.sound l k goes
+
+  same : SameWalks N (ring_in N l k)
+  same = moved.same N drawn.sound l k goes
+
+  faces_are : (ring_in N l k).faces ≡ N.faces
+  unfolding ring_in
+  faces_are = refl
+
+  tail_is : (h : ℕ) → tail (ring_in N l k) h ≡ tail N h
+  unfolding tail
+  tail_is h = ap (λ t. tail_in (unwrap_or (table.get t (edge_of h)) no_edge) (is_first h)) same.edges
+
+  place_is : (h : ℕ) → HasHalf N h → loop_of (ring_in N l k) h ≡ loop_of N h
+  place_is h there = new_sound.one_loop h (loop_of N h) (ap (holds h) (same.contents (loop_of N h)) ∙ drawn.sound.stands h there)
+
+  face_else : (q : ℕ) → q ≢ l → face_of (ring_in N l k) q ≡ face_of N q
+  face_else q ne = moved.face_else N drawn.sound l k goes q ne
+
+  face_now : (h : ℕ) → HasHalf N h → loop_of N h ≢ l → face_at (ring_in N l k) h ≡ face_at N h
+  face_now h there ne = ap (face_of (ring_in N l k)) (place_is h there) ∙ face_else (loop_of N h) ne
+
+  moved_stays : Stays M (ring_in N l k)
+  moved_stays = record {
+    halves = λ h there. subst (λ t. Has t (edge_of h)) (sym same.edges) (drawn.stays.halves h there);
+    tails = λ h there. tail_is h ∙ drawn.stays.tails h there;
+    vertices = same.vertices ∙ drawn.stays.vertices;
+    faces = λ g there. subst (λ t. Has t g) (sym faces_are) (drawn.stays.faces g there);
+  }
+
+  pub moved_drawn : DrawnIn M (ring_in N l k) f
+  moved_drawn = record {
+    sound = new_sound;
+    stays = moved_stays;
+    beside = λ h there ne.
+        let b = drawn.beside h there ne in
+        let t : HasHalf N h = drawn.stays.halves h there in
+        (place_is h t ∙ b.0, face_now h t (λ e. ne (sym b.1 ∙ ap (face_of N) e ∙ ring.face)) ∙ b.1);
+    within = λ h there is.
+        let t : HasHalf N h = drawn.stays.halves h there in
+        elim (eqb_tells (loop_of N h) l) [
+          | inl e ↦ inr (ap (table.get M.faces) (ap (face_of (ring_in N l k)) (place_is h t ∙ e.1) ∙ moved.face_l N drawn.sound l k goes) ∙ newer.new)
+          | inr e ↦ elim (drawn.within h there is) [
+            | inl a ↦ inl (face_now h t e.1 ∙ a)
+            | inr a ↦ inr (ap (table.get M.faces) (face_now h t e.1) ∙ a)
+          ]
+        ];
+  }
+
+  pub moved_newer : Newer M (ring_in N l k) f k
+  moved_newer = record {
+    old = newer.old;
+    new = newer.new;
+    there = subst (λ t. Has t k) (sym faces_are) newer.there;
+    solid = moved.solid_same N drawn.sound l k goes f ∙ newer.solid ∙ sym (moved.solid_same N drawn.sound l k goes k);
+  }
+
+  pub moved_ring : (q : ℕ) → q ≢ l → RingOf N f q → RingOf (ring_in N l k) f q
+  moved_ring q ne r = record {
+    there = same.loops q ∙ r.there;
+    face = face_else q ne ∙ r.face;
+    inner = λ e. r.inner (sym (moved.outer_same N drawn.sound l k goes f) ∙ e);
+  }
+
+  pub now_stays : Stays N (ring_in N l k)
+  now_stays = record {
+    halves = λ h there. subst (λ t. Has t (edge_of h)) (sym same.edges) there;
+    tails = λ h there. tail_is h;
+    vertices = same.vertices;
+    faces = λ g there. subst (λ t. Has t g) (sym faces_are) there;
+  }
+
+  -- what follows what stays
+  pub moved_after : (h : ℕ) → HasHalf N h → after (ring_in N l k) h ≡ after N h
+  unfolding after
+  moved_after h there = ap (λ xs. successor xs h) (ap (λ q. items_of (content (ring_in N l k) q)) (place_is h there) ∙ ap items_of (same.contents (loop_of N h)))
+
+  pub moved_halves : (h : ℕ) → HasHalf (ring_in N l k) h → HasHalf N h
+  moved_halves h there = subst (λ t. Has t (edge_of h)) same.edges there
+
+  pub moved_fresh : (c : Taken) → Fresh N c → Fresh (ring_in N l k) c
+  moved_fresh c w = record {
+    faces = λ q above. ap (λ t. table.get t q) faces_are ∙ w.faces q above;
+    loops = λ q above. free _ (same.loops q ∙ taken _ (w.loops q above));
+    edges = λ q above. ap (λ t. table.get t q) same.edges ∙ w.edges q above;
+  }
+
+-- ---- some rings
+
+pub record Moved (M N : Model) (f k : ℕ) (ls : List ℕ) (c : Taken) : Type 0 where
+  pub leads : Leads N (with_rings N ls k) (ring_ops ls k)
+  pub drawn : DrawnIn M (with_rings N ls k) f
+  pub fresh : Fresh (with_rings N ls k) c
+
+pub rings_on : (N : Model) (l k : ℕ) (ls : List ℕ) → with_rings (ring_in N l k) ls k ≡ with_rings N (l ∷ ls) k
+unfolding ring_in
+rings_on N l k ls = refl
+
+pub rings_move : (M N : Model) (f k : ℕ) (ls : List ℕ) (c : Taken) → DrawnIn M N f → AreRings N f ls → IsApart ls → Newer M N f k → Fresh N c → Moved M N f k ls c
+rings_move M N f k [] c drawn are d newer fresh = record { leads = leads_none N; drawn = drawn; fresh = fresh }
+rings_move M N f k (l ∷ ls) c drawn are d newer fresh =
+    let ring : RingOf N f l = are l (omega (arith, tick_same l)) in
+    let K : Model = ring_in N l k in
+    let r : Moved M K f k ls c = rings_move M K f k ls c
+    (moved_drawn M N f l k drawn ring newer)
+    (λ q i. moved_ring M N f l k drawn ring newer q (λ s. absurd (omega (arith, i, d q, ap (λ x. tick q x) (sym s), tick_same q))) (are q (omega (arith, i))))
+    (λ x. omega (arith, d x))
+    (moved_newer M N f l k drawn ring newer)
+    (moved_fresh M N f l k drawn ring newer c fresh) in
+    let e : with_rings K ls k ≡ with_rings N (l ∷ ls) k = rings_on N l k ls in
+    record {
+      leads = subst (λ X. Leads N X (RingIn l k ∷ ring_ops ls k)) e
+          (leads_on N K (with_rings K ls k) (RingIn l k ∷ []) (ring_ops ls k) (leads_one N K (RingIn l k) (move_accepted M N f l k drawn ring newer) (move_made M N f l k drawn ring newer)) r.leads);
+      drawn = subst (λ X. DrawnIn M X f) e r.drawn;
+      fresh = subst (λ X. Fresh X c) e r.fresh;
+    }
+
+-- ---- the rings of a face, and those of them that pass a test
+
+pub count-filter : (p : ℕ → Bool) (x : ℕ) (ns : List ℕ) → count x (filter p ns) ≤ count x ns
+count-filter p x [] = omega arith
+count-filter p x (n ∷ ns) = elim (p n) as (λ b. count x (cond b (n ∷ filter p ns) (filter p ns)) ≤ tick x n + count x ns) [
+  | true ↦ omega (arith, count-filter p x ns)
+  | false ↦ omega (arith, count-filter p x ns)
+]
+
+pub rings_apart : (N : Model) (f : ℕ) (p : ℕ → Bool) → IsApart (filter p (rings_of N f))
+rings_apart N f p x = omega (arith, count-filter p x (rings_of N f), counted_once x (rings_of N f) (all_where-rises (λ l row. nat_eq row.face f && not (nat_eq (outer N f) l)) N.loops))
+
+pub rings_are : (N : Model) (f : ℕ) (p : ℕ → Bool) → AreRings N f (filter p (rings_of N f))
+rings_are N f p l i =
+    let w = listed_passes (λ k row. nat_eq row.face f && not (nat_eq (outer N f) k)) N.loops l (in_listed l (rings_of N f) (omega (arith, i, count-filter p l (rings_of N f)))) in
+    let t = both (nat_eq w.0.face f) (nat_eq (outer N f) l) w.2 in
+    record { there = ap is_some w.1; face = face_row N l w.0 w.1 ∙ equal w.0.face f t.0; inner = unequal (outer N f) l t.1 } where
+      both : (a b : Bool) → (a && not b) ≡ true → (a ≡ true) × (b ≡ false)
+      both true true e = absurd (true≢false (sym e))
+      both true false e = (refl, refl)
+      both false b e = absurd (true≢false (sym e))

@@ -1,0 +1,252 @@
+-- What stays as an edge is drawn, as two loops are joined, and as a ring is moved.
+use Rattle.std.proofs.Common.{◌≡◌, ◌≢◌, ℕ, ◌+◌, ◌≤◌, ◌<◌, List, ◌∷◌, ◌++◌, Some, None, is_some, unwrap_or, refl, sym, ap, ◌∙◌, subst, arith, ◌⊎◌, inl, inr, true≢false}
+use Rattle.std.proofs.lemmas.Bool.Decides.{nat_tests, eqb_tells}
+use Rattle.cyclic_list.specs.Items.{count, IsIn}
+use Rattle.cyclic_list.specs.Rings.{rotate_to}
+use Rattle.cyclic_list.specs.Operators.{mef_old, mef_new, mekr_ring}
+use Rattle.cyclic_list.proofs.Lists.{count-append, IsIn_or_not}
+use Rattle.cyclic_list.proofs.Rotations.{count-canonical, count-rotate_to}
+use Rattle.boundary_model.specs.HalfEdge.{edge_of, is_first, plus, minus}
+use Rattle.boundary_model.specs.Table as table
+use Rattle.boundary_model.specs.Table.{Table, tables}
+use Rattle.boundary_model.specs.Model.{Model, cycle, no_edge, no_loop, no_face, items_of, holds, tail, tail_in, loop_of, content, face_of, solid_of, cycle_of}
+use Rattle.boundary_model.specs.Sound.{Sound, Has, HasHalf}
+use Rattle.boundary_model.proofs.Halves.{plus_row, minus_row}
+use Rattle.boundary_model.proofs.Models.{content_row, face_row, tail_row, in-holds, cycle_there, row_of}
+use Rattle.euler_operators.specs.Conditions.{face_at}
+use Rattle.euler_laws.proofs.shared.Rows.{count-halves}
+use Rattle.euler_laws.proofs.mef.MefUndo.{count-mef_old, count-mef_new}
+use Rattle.shapes.proofs.fresh.Rows.{get-put_here, get-put_other}
+use Rattle.shapes.specs.split.Drawing.{face_drawn, loops_joined}
+use Rattle.split_drawing_laws.specs.drawings.DrawnIn.{Stays}
+use Rattle.split_drawing_laws.proofs.drawings.Drawn.{CanDraw, draw_sound, CanJoin, join_sound}
+
+-- a number in use isn't a free one
+pub not_free : {X : Type 0} (t : Table X) (n k : ℕ) → Has t n → table.get t k ≡ None → n ≢ k
+not_free t n k there free e = true≢false (sym there ∙ ap is_some (ap (table.get t) e ∙ free))
+
+-- a half-edge stands where the content says so
+pub stands_at : (N : Model) → Sound N → (x q : ℕ) (xs : List ℕ) → content N q ≡ cycle xs → IsIn x xs → loop_of N x ≡ q
+stands_at N sound x q xs e i = sound.one_loop x q (ap (holds x) e ∙ in-holds x (cycle xs) i)
+
+pub has_loop : (M : Model) → Sound M → (x : ℕ) → HasHalf M x → Has M.loops (loop_of M x)
+has_loop M sound x there = ap is_some (row_of M sound x there)
+
+pub has_face : (M : Model) → Sound M → (x : ℕ) → HasHalf M x → Has M.faces (face_at M x)
+has_face M sound x there = sound.loops_of_faces (loop_of M x) (has_loop M sound x there)
+
+-- where a loop's row stays, so does what stands in it
+pub same_content : (M N : Model) (q : ℕ) → table.get N.loops q ≡ table.get M.loops q → content N q ≡ content M q
+unfolding content
+same_content M N q e = ap (λ o. (unwrap_or o no_loop).content) e
+
+same_face : (M N : Model) (q : ℕ) → table.get N.loops q ≡ table.get M.loops q → face_of N q ≡ face_of M q
+unfolding face_of
+same_face M N q e = ap (λ o. (unwrap_or o no_loop).face) e
+
+-- where the row of its loop stays, a half-edge keeps loop and face
+kept_place : (M N : Model) → Sound M → Sound N → (x : ℕ) → HasHalf M x → table.get N.loops (loop_of M x) ≡ table.get M.loops (loop_of M x) → (loop_of N x ≡ loop_of M x) × (face_at N x ≡ face_at M x)
+kept_place M N sound new x there e =
+    let at : loop_of N x ≡ loop_of M x = new.one_loop x (loop_of M x) (ap (holds x) (same_content M N (loop_of M x) e) ∙ sound.stands x there) in
+    (at, ap (face_of N) at ∙ same_face M N (loop_of M x) e)
+
+-- ---- one edge more
+
+module _ (M N : Model) (e a b : ℕ) (is : N.edges ≡ table.put M.edges e (record { plus_tail = a; minus_tail = b })) (free : table.get M.edges e ≡ None) where
+  edge_stays : (h : ℕ) → HasHalf M h → table.get N.edges (edge_of h) ≡ table.get M.edges (edge_of h)
+  edge_stays h there = ap (λ t. table.get t (edge_of h)) is ∙ get-put_other M.edges e _ (edge_of h) (not_free M.edges (edge_of h) e there free)
+
+  half_stays : (h : ℕ) → HasHalf M h → HasHalf N h
+  half_stays h there = ap is_some (edge_stays h there) ∙ there
+
+  tail_stays : (h : ℕ) → HasHalf M h → tail N h ≡ tail M h
+  unfolding tail
+  tail_stays h there = ap (λ o. tail_in (unwrap_or o no_edge) (is_first h)) (edge_stays h there)
+
+  new_row : table.get N.edges e ≡ Some (record { plus_tail = a; minus_tail = b })
+  new_row = ap (λ t. table.get t e) is ∙ get-put_here M.edges e _
+
+  new_tails : (tail N (plus e) ≡ a) × (tail N (minus e) ≡ b)
+  new_tails = (
+    tail_row N (plus e) _ (ap (table.get N.edges) (plus_row e).0 ∙ new_row) ∙ ap (tail_in (record { plus_tail = a; minus_tail = b })) (plus_row e).1,
+    tail_row N (minus e) _ (ap (table.get N.edges) (minus_row e).0 ∙ new_row) ∙ ap (tail_in (record { plus_tail = a; minus_tail = b })) (minus_row e).1,
+  )
+
+-- ---- an edge drawn
+
+module _ (M : Model) (u k e f l : ℕ) (can : CanDraw M u k e f l) where
+  abbrev N : Model
+  N = face_drawn M u k e f l
+
+  abbrev r : ℕ
+  r = loop_of M u
+
+  new_sound : Sound (face_drawn M u k e f l)
+  new_sound = draw_sound M u k e f l can
+
+  pub r_l : loop_of M u ≢ l
+  r_l = not_free M.loops (loop_of M u) l (has_loop M can.sound u can.u_there) can.loop_free
+
+  pub row_old : table.get (face_drawn M u k e f l).loops (loop_of M u) ≡ Some (record { face = face_at M u; content = cycle (mef_old (plus e) u k (cycle_of M u)) })
+  unfolding face_drawn
+  row_old = get-put_other _ l _ (loop_of M u) r_l ∙ get-put_here M.loops (loop_of M u) _
+
+  pub row_new : table.get (face_drawn M u k e f l).loops l ≡ Some (record { face = f; content = cycle (mef_new (minus e) u k (cycle_of M u)) })
+  unfolding face_drawn
+  row_new = get-put_here _ l _
+
+  pub row_else : (q : ℕ) → q ≢ loop_of M u → q ≢ l → table.get (face_drawn M u k e f l).loops q ≡ table.get M.loops q
+  unfolding face_drawn
+  row_else q a b = get-put_other _ l _ q b ∙ get-put_other M.loops (loop_of M u) _ q a
+
+  face_new : table.get (face_drawn M u k e f l).faces f ≡ Some (record { solid = solid_of M (face_at M u); outer = l })
+  unfolding face_drawn
+  face_new = get-put_here M.faces f _
+
+  face_else : (q : ℕ) → q ≢ f → table.get (face_drawn M u k e f l).faces q ≡ table.get M.faces q
+  unfolding face_drawn
+  face_else q a = get-put_other M.faces f _ q a
+
+  pub edges_are : (face_drawn M u k e f l).edges ≡ table.put M.edges e (record { plus_tail = tail M u; minus_tail = tail M k })
+  unfolding face_drawn
+  edges_are = refl
+
+  vertices_are : (face_drawn M u k e f l).vertices ≡ M.vertices
+  unfolding face_drawn
+  vertices_are = refl
+
+  pub draw_stays : Stays M (face_drawn M u k e f l)
+  draw_stays = record {
+    halves = half_stays M N e (tail M u) (tail M k) edges_are can.edge_free;
+    tails = tail_stays M N e (tail M u) (tail M k) edges_are can.edge_free;
+    vertices = vertices_are;
+    faces = λ g there. ap is_some (face_else g (not_free M.faces g f there can.face_free)) ∙ there;
+  }
+
+  pub draw_tails : (tail (face_drawn M u k e f l) (plus e) ≡ tail M u) × (tail (face_drawn M u k e f l) (minus e) ≡ tail M k)
+  draw_tails = new_tails M N e (tail M u) (tail M k) edges_are can.edge_free
+
+  -- what stands in another loop keeps loop and face
+  pub draw_beside : (h : ℕ) → HasHalf M h → loop_of M h ≢ loop_of M u → (loop_of (face_drawn M u k e f l) h ≡ loop_of M h) × (face_at (face_drawn M u k e f l) h ≡ face_at M h)
+  draw_beside h there ne = kept_place M N can.sound new_sound h there (row_else (loop_of M h) ne (not_free M.loops (loop_of M h) l (has_loop M can.sound h there) can.loop_free))
+
+  in_two : (h : ℕ) → HasHalf M h → loop_of M h ≡ loop_of M u → IsIn h (mef_old (plus e) u k (cycle_of M u)) ⊎ IsIn h (mef_new (minus e) u k (cycle_of M u))
+  in_two h there at =
+      let i : IsIn h (cycle_of M u) = subst (λ q. IsIn h (items_of (content M q))) at (cycle_there M can.sound h there) in
+      elim (IsIn_or_not h (mef_old (plus e) u k (cycle_of M u))) [
+        | inl j ↦ inl j
+        | inr z ↦ inr (omega (arith, i, z, count-mef_old h (plus e) u k (cycle_of M u), count-mef_new h (minus e) u k (cycle_of M u), count-halves h u k (cycle_of M u)))
+      ]
+
+  -- what stands in u's loop is then of its face or of the new one
+  pub draw_within : (h : ℕ) → HasHalf M h → loop_of M h ≡ loop_of M u → (face_at (face_drawn M u k e f l) h ≡ face_at M h) ⊎ (face_at (face_drawn M u k e f l) h ≡ f)
+  draw_within h there at = elim (in_two h there at) [
+    | inl i ↦ inl (ap (face_of N) (stands_at N new_sound h (loop_of M u) _ (content_row N (loop_of M u) _ row_old) i) ∙ face_row N (loop_of M u) _ row_old ∙ ap (face_of M) (sym at))
+    | inr i ↦ inr (ap (face_of N) (stands_at N new_sound h l _ (content_row N l _ row_new) i) ∙ face_row N l _ row_new)
+  ]
+
+  -- the new face is of the same solid
+  pub draw_solid : solid_of (face_drawn M u k e f l) f ≡ solid_of (face_drawn M u k e f l) (face_at M u)
+  unfolding solid_of
+  draw_solid = ap (λ o. (unwrap_or o no_face).solid) face_new
+      ∙ sym (ap (λ o. (unwrap_or o no_face).solid) (face_else (face_at M u) (not_free M.faces (face_at M u) f (has_face M can.sound u can.u_there) can.face_free)))
+
+  pub draw_has : Has (face_drawn M u k e f l).faces f
+  draw_has = ap is_some face_new
+
+  -- higher numbers stay free
+  pub draw_free : (q : ℕ) → (f < q → table.get M.faces q ≡ None → table.get (face_drawn M u k e f l).faces q ≡ None)
+      × (l < q → table.get M.loops q ≡ None → table.get (face_drawn M u k e f l).loops q ≡ None)
+      × (e < q → table.get M.edges q ≡ None → table.get (face_drawn M u k e f l).edges q ≡ None)
+  draw_free q = (
+    (λ above none. face_else q (λ s. past f q above s) ∙ none),
+    (λ above none. row_else q (λ s. not_free M.loops (loop_of M u) q (has_loop M can.sound u can.u_there) none (sym s)) (λ s. past l q above s) ∙ none),
+    (λ above none. ap (λ t. table.get t q) edges_are ∙ get-put_other M.edges e _ q (λ s. past e q above s) ∙ none),
+  ) where
+    past : (a b : ℕ) → a < b → b ≢ a
+    past a b less s = absurd (omega arith)
+
+-- ---- two loops joined
+
+module _ (M : Model) (c d e : ℕ) (can : CanJoin M c d e) where
+  abbrev J : Model
+  J = loops_joined M c d e
+
+  join_new : Sound (loops_joined M c d e)
+  join_new = join_sound M c d e can
+
+  pub row_joined : table.get (loops_joined M c d e).loops (loop_of M c) ≡ Some (record { face = face_at M c; content = cycle (mekr_ring (plus e) (minus e) c d (cycle_of M c) (cycle_of M d)) })
+  unfolding loops_joined
+  row_joined = get-put_here _ (loop_of M c) _
+
+  pub row_other : (q : ℕ) → q ≢ loop_of M c → q ≢ loop_of M d → table.get (loops_joined M c d e).loops q ≡ table.get M.loops q
+  unfolding loops_joined
+  row_other q a b = get-put_other _ (loop_of M c) _ q a ∙ removed M.loops (loop_of M d) q b where
+    removed : {X : Type 0} (t : Table X) (n q : ℕ) → q ≢ n → table.get (table.remove t n) q ≡ table.get t q
+    removed t n q ne = grind (arith, nat_tests, tables)
+
+  pub row_gone : table.get (loops_joined M c d e).loops (loop_of M d) ≡ None
+  unfolding loops_joined
+  row_gone = get-put_other _ (loop_of M c) _ (loop_of M d) (λ s. can.loops_apart (sym s)) ∙ removed M.loops (loop_of M d) where
+    removed : {X : Type 0} (t : Table X) (n : ℕ) → table.get (table.remove t n) n ≡ None
+    removed t n = grind (arith, nat_tests, tables)
+
+  row_free : (q : ℕ) → table.get M.loops q ≡ None → table.get (loops_joined M c d e).loops q ≡ None
+  row_free q none = row_other q (λ s. not_free M.loops (loop_of M c) q (has_loop M can.sound c can.c_there) none (sym s)) (λ s. not_free M.loops (loop_of M d) q (has_loop M can.sound d can.d_there) none (sym s)) ∙ none
+
+  pub joined_edges : (loops_joined M c d e).edges ≡ table.put M.edges e (record { plus_tail = tail M c; minus_tail = tail M d })
+  unfolding loops_joined
+  joined_edges = refl
+
+  joined_vertices : (loops_joined M c d e).vertices ≡ M.vertices
+  unfolding loops_joined
+  joined_vertices = refl
+
+  joined_faces : (loops_joined M c d e).faces ≡ M.faces
+  unfolding loops_joined
+  joined_faces = refl
+
+  pub join_stays : Stays M (loops_joined M c d e)
+  join_stays = record {
+    halves = half_stays M J e (tail M c) (tail M d) joined_edges can.edge_free;
+    tails = tail_stays M J e (tail M c) (tail M d) joined_edges can.edge_free;
+    vertices = joined_vertices;
+    faces = λ g there. subst (λ t. Has t g) (sym joined_faces) there;
+  }
+
+  pub join_tails : (tail (loops_joined M c d e) (plus e) ≡ tail M c) × (tail (loops_joined M c d e) (minus e) ≡ tail M d)
+  join_tails = new_tails M J e (tail M c) (tail M d) joined_edges can.edge_free
+
+  pub join_beside : (h : ℕ) → HasHalf M h → loop_of M h ≢ loop_of M c → loop_of M h ≢ loop_of M d → (loop_of (loops_joined M c d e) h ≡ loop_of M h) × (face_at (loops_joined M c d e) h ≡ face_at M h)
+  join_beside h there a b = kept_place M J can.sound join_new h there (row_other (loop_of M h) a b)
+
+  count_joined : (x : ℕ) → count x (cycle_of M c) + count x (cycle_of M d) ≤ count x (mekr_ring (plus e) (minus e) c d (cycle_of M c) (cycle_of M d))
+  count_joined x = omega (arith, count-canonical x ((plus e ∷ rotate_to d (cycle_of M d)) ++ minus e ∷ rotate_to c (cycle_of M c)), count-append x (plus e ∷ rotate_to d (cycle_of M d)) (minus e ∷ rotate_to c (cycle_of M c)), count-rotate_to x d (cycle_of M d), count-rotate_to x c (cycle_of M c))
+
+  joined_at : (h : ℕ) → IsIn h (mekr_ring (plus e) (minus e) c d (cycle_of M c) (cycle_of M d)) → face_at (loops_joined M c d e) h ≡ face_at M c
+  joined_at h i = ap (face_of J) (stands_at J join_new h (loop_of M c) _ (content_row J (loop_of M c) _ row_joined) i) ∙ face_row J (loop_of M c) _ row_joined
+
+  in_cycle : (h x : ℕ) → HasHalf M h → loop_of M h ≡ loop_of M x → IsIn h (cycle_of M x)
+  in_cycle h x there at = subst (λ q. IsIn h (items_of (content M q))) at (cycle_there M can.sound h there)
+
+  -- each half-edge keeps its face
+  pub join_faces : (h : ℕ) → HasHalf M h → face_at (loops_joined M c d e) h ≡ face_at M h
+  join_faces h there = elim (eqb_tells (loop_of M h) (loop_of M c)) [
+    | inl a ↦ joined_at h (omega (arith, in_cycle h c there a.1, count_joined h)) ∙ sym (ap (face_of M) a.1)
+    | inr a ↦ elim (eqb_tells (loop_of M h) (loop_of M d)) [
+      | inl b ↦ joined_at h (omega (arith, in_cycle h d there b.1, count_joined h)) ∙ can.one_face ∙ sym (ap (face_of M) b.1)
+      | inr b ↦ (join_beside h there a.1 b.1).1
+    ]
+  ]
+
+  -- higher numbers stay free
+  pub join_free : (q : ℕ) → (table.get M.faces q ≡ None → table.get (loops_joined M c d e).faces q ≡ None)
+      × (table.get M.loops q ≡ None → table.get (loops_joined M c d e).loops q ≡ None)
+      × (e < q → table.get M.edges q ≡ None → table.get (loops_joined M c d e).edges q ≡ None)
+  join_free q = (
+    (λ none. ap (λ t. table.get t q) joined_faces ∙ none),
+    row_free q,
+    (λ above none. ap (λ t. table.get t q) joined_edges ∙ get-put_other M.edges e _ q (λ s. past e q above s) ∙ none),
+  ) where
+    past : (a b : ℕ) → a < b → b ≢ a
+    past a b less s = absurd (omega arith)

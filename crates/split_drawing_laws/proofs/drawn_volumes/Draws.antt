@@ -1,0 +1,219 @@
+-- An edge drawn between two half-edges of a loop: the two faces lie on the planes of the one that was, and their normals sum to its.
+use Rattle.std.proofs.Common.{◌≡◌, ◌≢◌, ℕ, ◌+◌, true, ◌∷◌, ◌++◌, Some, is_some, unwrap_or, sym, ap, ◌∙◌, subst, arith, ◌⊎◌, inl, inr, true≢false}
+use Rattle.std.proofs.lemmas.Bool.Decides.{eqb_tells}
+use Rattle.lattice.specs.declared.Plane.{Plane}
+use Rattle.lattice.specs.Vectors.{moved, is_on}
+use Rattle.cyclic_list.specs.Items.{count, SameItems}
+use Rattle.cyclic_list.proofs.Lists.{tick_same}
+use Rattle.boundary_model.specs.HalfEdge.{plus, minus}
+use Rattle.boundary_model.specs.Table as table
+use Rattle.boundary_model.specs.Model.{Model, no_face, lone, tail, content, outer, point_of, loop_of, face_of, solid_of, cycle_of}
+use Rattle.boundary_model.specs.Sound.{Sound, Has, HasHalf}
+use Rattle.boundary_model.proofs.Halves.{plus_row, minus_row}
+use Rattle.boundary_model.proofs.Models.{content_row, face_row}
+use Rattle.euler_operators.specs.Conditions.{face_at}
+use Rattle.euler_laws.proofs.mef.MefUndo.{count-mef_old, count-mef_new}
+use Rattle.shapes.proofs.fresh.Rows.{get-put_here, get-put_other}
+use Rattle.shapes.specs.Faces.{start, boundary}
+use Rattle.shapes.specs.Measure.{normal, anchor}
+use Rattle.shapes.proofs.Areas.{area-append}
+use Rattle.solid_measure_laws.proofs.Sums.{area_same}
+use Rattle.shapes.specs.split.Drawing.{face_drawn}
+use Rattle.split_drawing_laws.specs.drawings.DrawnIn.{Stays}
+use Rattle.split_drawing_laws.proofs.drawings.Drawn.{CanDraw, draw_sound}
+use Rattle.split_drawing_laws.proofs.drawings.Stays.{not_free, stands_at, has_face, row_old, row_new, row_else, edges_are, draw_stays, draw_tails, draw_beside, draw_within}
+use Rattle.split_drawing_laws.proofs.drawn_volumes.Bounds.{OnFace, anchor_still, never_lone, lone_there, bound_halves, bound_one, bound_none, point_still, start_still, area_still}
+use Rattle.split_drawing_laws.proofs.drawn_volumes.Edges.{half_there, plus_there, minus_there, half_cases, two_halves, no_area, normal_is, same_row_content, same_row_face, same_outer}
+
+module _ (N : Model) (u k e g l : ℕ) (can : CanDraw N u k e g l) where
+  abbrev K : Model
+  K = face_drawn N u k e g l
+
+  abbrev F : ℕ
+  F = face_at N u
+
+  pub K_sound : Sound (face_drawn N u k e g l)
+  K_sound = draw_sound N u k e g l can
+
+  stays : Stays N K
+  stays = draw_stays N u k e g l can
+
+  pub face_else : (h : ℕ) → h ≢ g → table.get (face_drawn N u k e g l).faces h ≡ table.get N.faces h
+  unfolding face_drawn
+  face_else h ne = get-put_other N.faces g _ h ne
+
+  pub face_new : table.get (face_drawn N u k e g l).faces g ≡ Some (record { solid = solid_of N (face_at N u); outer = l })
+  unfolding face_drawn
+  face_new = get-put_here N.faces g _
+
+  pub solid_new : solid_of (face_drawn N u k e g l) g ≡ solid_of N (face_at N u)
+  unfolding solid_of
+  solid_new = ap (λ o. (unwrap_or o no_face).solid) face_new
+
+  F_there : Has N.faces F
+  F_there = has_face N can.sound u can.u_there
+
+  pub not_new : (f : ℕ) → Has N.faces f → f ≢ g
+  not_new f there = not_free N.faces f g there can.face_free
+
+  -- ---- the faces of half-edges then
+
+  pub plus_face : face_at (face_drawn N u k e g l) (plus e) ≡ face_at N u
+  plus_face = ap (face_of K) (stands_at K K_sound (plus e) (loop_of N u) _ (content_row K (loop_of N u) _ (row_old N u k e g l can)) (omega (arith, count-mef_old (plus e) (plus e) u k (cycle_of N u), tick_same (plus e))))
+      ∙ face_row K (loop_of N u) _ (row_old N u k e g l can)
+
+  pub minus_face : face_at (face_drawn N u k e g l) (minus e) ≡ g
+  minus_face = ap (face_of K) (stands_at K K_sound (minus e) l _ (content_row K l _ (row_new N u k e g l can)) (omega (arith, count-mef_new (minus e) (minus e) u k (cycle_of N u), tick_same (minus e))))
+      ∙ face_row K l _ (row_new N u k e g l can)
+
+  face_then : (h : ℕ) → HasHalf N h → (face_at K h ≡ face_at N h) ⊎ ((face_at N h ≡ F) × (face_at K h ≡ g))
+  face_then h there = elim (eqb_tells (loop_of N h) (loop_of N u)) [
+    | inl s ↦ elim (draw_within N u k e g l can h there s.1) [ inl a ↦ inl a | inr b ↦ inr (ap (face_of N) s.1, b) ]
+    | inr s ↦ inl (draw_beside N u k e g l can h there s.1).1
+  ]
+
+  k_face : face_at N k ≡ F
+  k_face = ap (face_of N) (sym can.one_loop)
+
+  plus_start : start K (plus e) ≡ start N u
+  plus_start = ap (point_of K) (draw_tails N u k e g l can).0 ∙ point_still N K can.sound stays (tail N u)
+
+  minus_start : start K (minus e) ≡ start N k
+  minus_start = ap (point_of K) (draw_tails N u k e g l can).1 ∙ point_still N K can.sound stays (tail N k)
+
+  cases : (h : ℕ) → HasHalf K h → HasHalf N h ⊎ ((h ≡ plus e) ⊎ (h ≡ minus e))
+  cases h there = half_cases N K e _ (edges_are N u k e g l can) h there
+
+  -- ---- lone loops stay
+
+  lone_row : (q v : ℕ) → content K q ≡ lone v → table.get K.loops q ≡ table.get N.loops q
+  lone_row q v is = row_else N u k e g l can q
+      (λ s. never_lone _ v (sym (ap (content K) s ∙ content_row K (loop_of N u) _ (row_old N u k e g l can)) ∙ is))
+      (λ s. never_lone _ v (sym (ap (content K) s ∙ content_row K l _ (row_new N u k e g l can)) ∙ is))
+
+  lone_on : (t : Plane) (q v : ℕ) → content K q ≡ lone v → OnFace N t (face_of K q) → is_on t (point_of K v) ≡ true
+  lone_on t q v is w =
+      let row = lone_row q v is in
+      ap (is_on t) (point_still N K can.sound stays v) ∙ w.lones q v (sym (same_row_face N K q row)) (sym (same_row_content N K q row) ∙ is)
+
+  -- ---- planes
+
+  -- a face of N lies on its planes
+  pub old_on : (t : Plane) (f : ℕ) → Has N.faces f → OnFace N t f → OnFace (face_drawn N u k e g l) t f
+  old_on t f there w = record {
+    halves = λ h now at. elim (cases h now) [
+      | inl was ↦ ap (is_on t) (start_still N K can.sound stays h was) ∙ elim (face_then h was) [
+        | inl same ↦ w.halves h was (sym same ∙ at)
+        | inr new ↦ absurd (not_new f there (sym at ∙ new.1))
+      ]
+      | inr new ↦ elim new [
+        | inl is ↦ ap (is_on t) (ap (start K) is ∙ plus_start) ∙ w.halves u can.u_there (sym plus_face ∙ sym (ap (face_at K) is) ∙ at)
+        | inr is ↦ absurd (not_new f there (sym at ∙ ap (face_at K) is ∙ minus_face))
+      ]
+    ];
+    lones = λ q v at is. lone_on t q v is (subst (OnFace N t) (sym at) w);
+  }
+
+  -- and the new one on those of the face that it is cut off
+  pub new_on : (t : Plane) → OnFace N t (face_at N u) → OnFace (face_drawn N u k e g l) t g
+  new_on t w = record {
+    halves = λ h now at. elim (cases h now) [
+      | inl was ↦ ap (is_on t) (start_still N K can.sound stays h was) ∙ elim (face_then h was) [
+        | inl same ↦ absurd (not_new (face_at N h) (has_face N can.sound h was) (sym same ∙ at))
+        | inr new ↦ w.halves h was new.0
+      ]
+      | inr new ↦ elim new [
+        | inl is ↦ absurd (not_new F F_there (sym plus_face ∙ sym (ap (face_at K) is) ∙ at))
+        | inr is ↦ ap (is_on t) (ap (start K) is ∙ minus_start) ∙ w.halves k can.k_there k_face
+      ]
+    ];
+    lones = λ q v at is.
+        let row = lone_row q v is in
+        absurd (not_new (face_of N q) (can.sound.loops_of_faces q (ap is_some (sym row) ∙ lone_there K q v is)) (sym (same_row_face N K q row) ∙ at));
+  }
+
+  -- ---- normals
+
+  F_now : Has K.faces F
+  F_now = stays.faces F F_there
+
+  g_now : Has K.faces g
+  g_now = ap is_some face_new
+
+  no_plus : HasHalf N (plus e) → ⊥
+  no_plus there = true≢false (sym there ∙ ap is_some (ap (table.get N.edges) (plus_row e).0 ∙ can.edge_free))
+
+  no_minus : HasHalf N (minus e) → ⊥
+  no_minus there = true≢false (sym there ∙ ap is_some (ap (table.get N.edges) (minus_row e).0 ∙ can.edge_free))
+
+  -- a half-edge that was there bounds one of the two if it bounded F
+  old_counts : (h : ℕ) → HasHalf N h → count h (boundary K F) + count h (boundary K g) ≡ count h (boundary N F)
+  old_counts h was =
+      let now : HasHalf K h = stays.halves h was in
+      elim (face_then h was) [
+        | inl same ↦
+            let none : count h (boundary K g) ≡ 0 = bound_none K K_sound g h g_now (λ t at. not_new (face_at N h) (has_face N can.sound h was) (sym same ∙ at)) in
+            elim (eqb_tells (face_at N h) F) [
+              | inl at ↦ omega (arith, none, bound_one K K_sound F h now (same ∙ at.1), bound_one N can.sound F h was at.1)
+              | inr at ↦ omega (arith, none, bound_none K K_sound F h F_now (λ t s. at.1 (sym same ∙ s)), bound_none N can.sound F h F_there (λ t. at.1))
+            ]
+        | inr new ↦ omega (arith, bound_one K K_sound g h now new.1, bound_none K K_sound F h F_now (λ t s. not_new F F_there (sym s ∙ new.1)), bound_one N can.sound F h was new.0)
+      ]
+
+  both : SameItems (boundary K F ++ boundary K g) (plus e ∷ minus e ∷ boundary N F)
+  both h = two_halves h e (boundary K F) (boundary K g) (boundary N F)
+      (λ is. let now : HasHalf K h = subst (HasHalf K) (sym is) (plus_there N K e _ (edges_are N u k e g l can)) in
+      (bound_one K K_sound F h now (ap (face_at K) is ∙ plus_face), bound_none K K_sound g h g_now (λ t s. not_new F F_there (sym plus_face ∙ sym (ap (face_at K) is) ∙ s)), bound_none N can.sound F h F_there (λ t s. no_plus (subst (HasHalf N) is t))))
+      (λ is. let now : HasHalf K h = subst (HasHalf K) (sym is) (minus_there N K e _ (edges_are N u k e g l can)) in
+      (bound_none K K_sound F h F_now (λ t s. not_new F F_there (sym s ∙ ap (face_at K) is ∙ minus_face)), bound_one K K_sound g h now (ap (face_at K) is ∙ minus_face), bound_none N can.sound F h F_there (λ t s. no_minus (subst (HasHalf N) is t))))
+      (λ a b. elim (half_there N h) [
+        | inl was ↦ old_counts h was
+        | inr not_was ↦
+            let gone : HasHalf K h → ⊥ = λ now. elim (cases h now) [ inl was ↦ not_was was | inr new ↦ elim new [ inl is ↦ a is | inr is ↦ b is ] ] in
+            omega (arith, bound_none K K_sound F h F_now (λ t s. gone t), bound_none K K_sound g h g_now (λ t s. gone t), bound_none N can.sound F h F_there (λ t s. not_was t))
+      ])
+
+  pub normals_sum : moved (normal (face_drawn N u k e g l) (face_at N u)) (normal (face_drawn N u k e g l) g) ≡ normal N (face_at N u)
+  normals_sum = (λ i. moved (normal_is K F i) (normal_is K g i)) ∙ sym (area-append K (boundary K F) (boundary K g))
+      ∙ area_same K (boundary K F ++ boundary K g) (plus e ∷ minus e ∷ boundary N F) both
+      ∙ no_area K e (boundary N F)
+      ∙ area_still N K can.sound stays (boundary N F) (bound_halves N can.sound F).there ∙ sym (normal_is N F)
+
+  -- another face keeps its half-edges
+  pub normal_else : (f : ℕ) → Has N.faces f → f ≢ face_at N u → normal (face_drawn N u k e g l) f ≡ normal N f
+  normal_else f there ne = normal_is K f ∙ area_same K (boundary K f) (boundary N f) same ∙ area_still N K can.sound stays (boundary N f) (bound_halves N can.sound f).there ∙ sym (normal_is N f) where
+    f_now : Has K.faces f
+    f_now = stays.faces f there
+
+    not_at : (h : ℕ) → (HasHalf N h → ⊥) → HasHalf K h → face_at K h ≢ f
+    not_at h not_was now at = elim (cases h now) [
+      | inl was ↦ not_was was
+      | inr new ↦ elim new [
+        | inl is ↦ ne (sym at ∙ ap (face_at K) is ∙ plus_face)
+        | inr is ↦ not_new f there (sym at ∙ ap (face_at K) is ∙ minus_face)
+      ]
+    ]
+
+    same : SameItems (boundary K f) (boundary N f)
+    same h = elim (half_there N h) [
+      | inl was ↦ elim (eqb_tells (face_at N h) f) [
+        | inl at ↦ elim (face_then h was) [
+          | inl s ↦ bound_one K K_sound f h (stays.halves h was) (s ∙ at.1) ∙ sym (bound_one N can.sound f h was at.1)
+          | inr new ↦ absurd (ne (sym at.1 ∙ new.0))
+        ]
+        | inr at ↦ bound_none K K_sound f h f_now (λ t s. elim (face_then h was) [
+          | inl z ↦ at.1 (sym z ∙ s)
+          | inr new ↦ not_new f there (sym s ∙ new.1)
+        ]) ∙ sym (bound_none N can.sound f h there (λ t. at.1))
+      ]
+      | inr not_was ↦ bound_none K K_sound f h f_now (λ t. not_at h not_was t) ∙ sym (bound_none N can.sound f h there (λ t s. not_was t))
+    ]
+
+  pub outer_else : (f : ℕ) → Has N.faces f → outer (face_drawn N u k e g l) f ≡ outer N f
+  outer_else f there = same_outer N K f (face_else f (not_new f there))
+
+  -- and its anchor
+  pub anchor_else : (f : ℕ) → Has N.faces f → f ≢ face_at N u → anchor (face_drawn N u k e g l) f ≡ anchor N f
+  anchor_else f there ne = let o = can.sound.outers_there f there in
+      anchor_still N K can.sound stays f there (outer_else f there) (same_row_content N K (outer N f)
+      (row_else N u k e g l can (outer N f) (λ s. ne (sym o.1 ∙ ap (face_of N) s)) (not_free N.loops (outer N f) l o.0 can.loop_free)))

@@ -1,0 +1,139 @@
+-- Two loops of a face joined by an edge: the face lies on its planes and keeps its normal.
+use Rattle.std.proofs.Common.{◌≡◌, ◌≢◌, ℕ, [], ◌∷◌, ◌++◌, is_some, refl, sym, ap, ◌∙◌, subst, arith, ◌⊎◌, inl, inr, true≢false}
+use Rattle.std.proofs.lemmas.Bool.Decides.{eqb_tells}
+use Rattle.lattice.specs.declared.Plane.{Plane}
+use Rattle.lattice.specs.Vectors.{is_on}
+use Rattle.cyclic_list.specs.Items.{count, tick}
+use Rattle.cyclic_list.specs.Rings.{rotate_to}
+use Rattle.cyclic_list.proofs.Lists.{count-append, tick_same, tick_other}
+use Rattle.cyclic_list.proofs.Rotations.{count-canonical}
+use Rattle.boundary_model.specs.HalfEdge.{plus, minus}
+use Rattle.boundary_model.specs.Table as table
+use Rattle.boundary_model.specs.Model.{Model, lone, tail, content, outer, point_of, loop_of, face_of, cycle_of}
+use Rattle.boundary_model.specs.Sound.{Sound, Has, HasHalf}
+use Rattle.boundary_model.proofs.Halves.{plus_row, minus_row}
+use Rattle.boundary_model.proofs.Models.{content_row, face_row}
+use Rattle.euler_operators.specs.Conditions.{face_at}
+use Rattle.shapes.specs.Faces.{start, boundary}
+use Rattle.shapes.specs.Measure.{area, normal, anchor}
+use Rattle.solid_measure_laws.proofs.Sums.{area_same}
+use Rattle.shapes.specs.split.Drawing.{loops_joined}
+use Rattle.split_drawing_laws.specs.drawings.DrawnIn.{Stays}
+use Rattle.split_drawing_laws.proofs.drawings.Drawn.{CanJoin, join_sound}
+use Rattle.split_drawing_laws.proofs.drawings.Stays.{stands_at, has_face, row_joined, row_other, row_gone, joined_edges, join_stays, join_tails, join_faces}
+use Rattle.split_drawing_laws.proofs.drawn_volumes.Bounds.{OnFace, anchor_still, never_lone, lone_there, bound_halves, bound_one, bound_none, point_still, start_still, area_still}
+use Rattle.split_drawing_laws.proofs.drawn_volumes.Edges.{half_there, plus_there, minus_there, half_cases, two_in, no_area, normal_is, same_row_content, same_row_face, same_outer}
+
+module _ (N : Model) (c d e : ℕ) (can : CanJoin N c d e) where
+  abbrev K : Model
+  K = loops_joined N c d e
+
+  abbrev F : ℕ
+  F = face_at N c
+
+  pub J_sound : Sound (loops_joined N c d e)
+  J_sound = join_sound N c d e can
+
+  stays : Stays N K
+  stays = join_stays N c d e can
+
+  pub faces_joined : (loops_joined N c d e).faces ≡ N.faces
+  unfolding loops_joined
+  faces_joined = refl
+
+  F_there : Has N.faces F
+  F_there = has_face N can.sound c can.c_there
+
+  at_joined : (h : ℕ) → count h (plus e ∷ minus e ∷ []) ≡ 1 → face_at K h ≡ F
+  at_joined h one = ap (face_of K) (stands_at K J_sound h (loop_of N c) _ (content_row K (loop_of N c) _ (row_joined N c d e can))
+      (omega (arith, one, count-canonical h ((plus e ∷ rotate_to d (cycle_of N d)) ++ minus e ∷ rotate_to c (cycle_of N c)), count-append h (plus e ∷ rotate_to d (cycle_of N d)) (minus e ∷ rotate_to c (cycle_of N c)))))
+      ∙ face_row K (loop_of N c) _ (row_joined N c d e can)
+
+  plus_face : face_at K (plus e) ≡ F
+  plus_face = at_joined (plus e) (let o : tick (plus e) (minus e) ≡ 0 = tick_other (plus e) (minus e) (λ s. absurd (omega (arith, s))) in omega (arith, tick_same (plus e), o))
+
+  minus_face : face_at K (minus e) ≡ F
+  minus_face = at_joined (minus e) (let o : tick (minus e) (plus e) ≡ 0 = tick_other (minus e) (plus e) (λ s. absurd (omega (arith, s))) in omega (arith, tick_same (minus e), o))
+
+  plus_start : start K (plus e) ≡ start N c
+  plus_start = ap (point_of K) (join_tails N c d e can).0 ∙ point_still N K can.sound stays (tail N c)
+
+  minus_start : start K (minus e) ≡ start N d
+  minus_start = ap (point_of K) (join_tails N c d e can).1 ∙ point_still N K can.sound stays (tail N d)
+
+  cases : (h : ℕ) → HasHalf K h → HasHalf N h ⊎ ((h ≡ plus e) ⊎ (h ≡ minus e))
+  cases h there = half_cases N K e _ (joined_edges N c d e can) h there
+
+  lone_row : (q v : ℕ) → content K q ≡ lone v → table.get K.loops q ≡ table.get N.loops q
+  lone_row q v is = row_other N c d e can q
+      (λ s. never_lone _ v (sym (ap (content K) s ∙ content_row K (loop_of N c) _ (row_joined N c d e can)) ∙ is))
+      (λ s. true≢false (sym (lone_there K q v is) ∙ ap is_some (ap (table.get K.loops) s ∙ row_gone N c d e can)))
+
+  -- each face lies on its planes
+  pub joined_on : (t : Plane) (f : ℕ) → OnFace N t f → OnFace (loops_joined N c d e) t f
+  joined_on t f w = record {
+    halves = λ h now at. elim (cases h now) [
+      | inl was ↦ ap (is_on t) (start_still N K can.sound stays h was) ∙ w.halves h was (sym (join_faces N c d e can h was) ∙ at)
+      | inr new ↦ elim new [
+        | inl is ↦ ap (is_on t) (ap (start K) is ∙ plus_start) ∙ w.halves c can.c_there (sym plus_face ∙ sym (ap (face_at K) is) ∙ at)
+        | inr is ↦ ap (is_on t) (ap (start K) is ∙ minus_start) ∙ w.halves d can.d_there (sym can.one_face ∙ sym minus_face ∙ sym (ap (face_at K) is) ∙ at)
+      ]
+    ];
+    lones = λ q v at is.
+        let row = lone_row q v is in
+        ap (is_on t) (point_still N K can.sound stays v) ∙ w.lones q v (sym (same_row_face N K q row) ∙ at) (sym (same_row_content N K q row) ∙ is);
+  }
+
+  -- ---- normals
+
+  no_plus : HasHalf N (plus e) → ⊥
+  no_plus there = true≢false (sym there ∙ ap is_some (ap (table.get N.edges) (plus_row e).0 ∙ can.edge_free))
+
+  no_minus : HasHalf N (minus e) → ⊥
+  no_minus there = true≢false (sym there ∙ ap is_some (ap (table.get N.edges) (minus_row e).0 ∙ can.edge_free))
+
+  module _ (f : ℕ) (there : Has N.faces f) where
+    now : Has K.faces f
+    now = stays.faces f there
+
+    old_count : (h : ℕ) → HasHalf N h → count h (boundary K f) ≡ count h (boundary N f)
+    old_count h was = let same = join_faces N c d e can h was in elim (eqb_tells (face_at N h) f) [
+      | inl at ↦ bound_one K J_sound f h (stays.halves h was) (same ∙ at.1) ∙ sym (bound_one N can.sound f h was at.1)
+      | inr at ↦ bound_none K J_sound f h now (λ t s. at.1 (sym same ∙ s)) ∙ sym (bound_none N can.sound f h there (λ t. at.1))
+    ]
+
+    gone_count : (h : ℕ) → (HasHalf N h → ⊥) → (HasHalf K h → face_at K h ≢ f) → count h (boundary K f) ≡ count h (boundary N f)
+    gone_count h not_was none = bound_none K J_sound f h now none ∙ sym (bound_none N can.sound f h there (λ t s. not_was t))
+
+    area_after : area K (boundary N f) ≡ normal N f
+    area_after = area_still N K can.sound stays (boundary N f) (bound_halves N can.sound f).there ∙ sym (normal_is N f)
+
+    other_face : f ≢ F → (h : ℕ) → (HasHalf N h → ⊥) → HasHalf K h → face_at K h ≢ f
+    other_face ne h not_was t at = elim (cases h t) [
+      | inl was ↦ not_was was
+      | inr new ↦ elim new [ inl is ↦ ne (sym at ∙ ap (face_at K) is ∙ plus_face) | inr is ↦ ne (sym at ∙ ap (face_at K) is ∙ minus_face) ]
+    ]
+
+    normal_else : f ≢ F → normal K f ≡ normal N f
+    normal_else ne = normal_is K f ∙ area_same K (boundary K f) (boundary N f) (λ h. elim (half_there N h) [
+      | inl was ↦ old_count h was
+      | inr not_was ↦ gone_count h not_was (other_face ne h not_was)
+    ]) ∙ area_after
+
+    normal_here : f ≡ F → normal K f ≡ normal N f
+    normal_here at = normal_is K f ∙ area_same K (boundary K f) (plus e ∷ minus e ∷ boundary N f) (λ h. two_in h e (boundary K f) (boundary N f)
+        (λ is. (bound_one K J_sound f h (subst (HasHalf K) (sym is) (plus_there N K e _ (joined_edges N c d e can))) (ap (face_at K) is ∙ plus_face ∙ sym at), bound_none N can.sound f h there (λ t s. no_plus (subst (HasHalf N) is t))))
+        (λ is. (bound_one K J_sound f h (subst (HasHalf K) (sym is) (minus_there N K e _ (joined_edges N c d e can))) (ap (face_at K) is ∙ minus_face ∙ sym at), bound_none N can.sound f h there (λ t s. no_minus (subst (HasHalf N) is t))))
+        (λ a b. elim (half_there N h) [
+          | inl was ↦ old_count h was
+          | inr not_was ↦ gone_count h not_was (λ t s. elim (cases h t) [ inl was ↦ not_was was | inr new ↦ elim new [ inl is ↦ a is | inr is ↦ b is ] ])
+        ])) ∙ no_area K e (boundary N f) ∙ area_after
+
+    pub normal_joined : normal (loops_joined N c d e) f ≡ normal N f
+    normal_joined = elim (eqb_tells f F) [ inl at ↦ normal_here at.1 | inr ne ↦ normal_else ne.1 ]
+
+    -- another face keeps its anchor
+    pub anchor_joined : f ≢ face_at N c → anchor (loops_joined N c d e) f ≡ anchor N f
+    anchor_joined ne = let o = can.sound.outers_there f there in
+        anchor_still N K can.sound stays f there (same_outer N K f (ap (λ t. table.get t f) faces_joined)) (same_row_content N K (outer N f)
+        (row_other N c d e can (outer N f) (λ s. ne (sym o.1 ∙ ap (face_of N) s)) (λ s. ne (sym o.1 ∙ ap (face_of N) s ∙ sym can.one_face))))

@@ -1,0 +1,157 @@
+-- A ring given to another face: the other faces keep what they measure, and the normals of the two faces sum to what they did.
+use Rattle.std.proofs.Common.{◌≡◌, ◌≢◌, ℕ, ◌++◌, unwrap_or, refl, sym, ap, ◌∙◌, subst, arith, inl, inr}
+use Rattle.std.proofs.lemmas.Bool.Decides.{eqb_tells}
+use Rattle.lattice.specs.declared.Plane.{Plane}
+use Rattle.lattice.specs.Vectors.{moved, is_on}
+use Rattle.cyclic_list.specs.Items.{count, SameItems}
+use Rattle.cyclic_list.proofs.Lists.{count-append}
+use Rattle.boundary_model.specs.HalfEdge.{edge_of, is_first}
+use Rattle.boundary_model.specs.Table as table
+use Rattle.boundary_model.specs.Model.{Model, no_edge, holds, tail, tail_in, loop_of, face_of, outer}
+use Rattle.boundary_model.specs.Sound.{Sound, Has, HasHalf}
+use Rattle.euler_operators.specs.Conditions.{face_at}
+use Rattle.euler_operators.specs.Effect.{ring_in}
+use Rattle.euler_laws.proofs.shared.Faces.{SameWalks}
+use Rattle.euler_laws.proofs.faces.RingIn as moving
+use Rattle.euler_laws.proofs.faces.RingIn.{RingGoes, sound-ring_in}
+use Rattle.shapes.specs.Faces.{boundary}
+use Rattle.shapes.specs.Measure.{area, normal, anchor}
+use Rattle.shapes.proofs.Areas.{area-append}
+use Rattle.solid_measure_laws.proofs.Sums.{area_same}
+use Rattle.split_drawing_laws.specs.drawings.DrawnIn.{Stays}
+use Rattle.split_drawing_laws.proofs.drawn_volumes.Bounds.{OnFace, anchor_still, bound_halves, bound_one, bound_none, point_still, start_still, area_still}
+use Rattle.split_drawing_laws.proofs.drawn_volumes.Edges.{half_there, normal_is}
+
+-- loop l is a ring of face f and goes to another face k
+pub record CanMove (N : Model) (f l k : ℕ) : Type 0 where
+  pub sound : Sound N
+  pub goes : RingGoes N l k
+  pub face : face_of N l ≡ f
+  pub f_there : Has N.faces f
+  pub apart : f ≢ k
+
+module _ (N : Model) (f l k : ℕ) (can : CanMove N f l k) where
+  abbrev K : Model
+  K = ring_in N l k
+
+  pub moved_sound : Sound (ring_in N l k)
+  moved_sound = sound-ring_in N can.sound l k can.goes
+
+  same : SameWalks N K
+  same = moving.same N can.sound l k can.goes
+
+  pub faces_moved : (ring_in N l k).faces ≡ N.faces
+  unfolding ring_in
+  faces_moved = refl
+
+  tail_is : (h : ℕ) → tail K h ≡ tail N h
+  unfolding tail
+  tail_is h = ap (λ t. tail_in (unwrap_or (table.get t (edge_of h)) no_edge) (is_first h)) same.edges
+
+  stays : Stays N K
+  stays = record {
+    halves = λ h there. subst (λ t. Has t (edge_of h)) (sym same.edges) there;
+    tails = λ h there. tail_is h;
+    vertices = same.vertices;
+    faces = λ g there. subst (λ t. Has t g) (sym faces_moved) there;
+  }
+
+  back : (h : ℕ) → HasHalf K h → HasHalf N h
+  back h there = subst (λ t. Has t (edge_of h)) same.edges there
+
+  place_is : (h : ℕ) → HasHalf N h → loop_of K h ≡ loop_of N h
+  place_is h there = moved_sound.one_loop h (loop_of N h) (ap (holds h) (same.contents (loop_of N h)) ∙ can.sound.stands h there)
+
+  l_face : face_of K l ≡ k
+  l_face = moving.face_l N can.sound l k can.goes
+
+  face_else : (q : ℕ) → q ≢ l → face_of K q ≡ face_of N q
+  face_else q ne = moving.face_else N can.sound l k can.goes q ne
+
+  -- the half-edges of the ring go to k, and the others keep their face
+  gone : (h : ℕ) → HasHalf N h → loop_of N h ≡ l → (face_at N h ≡ f) × (face_at K h ≡ k)
+  gone h there at = (ap (face_of N) at ∙ can.face, ap (face_of K) (place_is h there ∙ at) ∙ l_face)
+
+  kept : (h : ℕ) → HasHalf N h → loop_of N h ≢ l → face_at K h ≡ face_at N h
+  kept h there ne = ap (face_of K) (place_is h there) ∙ face_else (loop_of N h) ne
+
+  -- ---- planes
+
+  -- another face than k lies on its planes
+  pub else_on : (t : Plane) (g : ℕ) → g ≢ k → OnFace N t g → OnFace (ring_in N l k) t g
+  else_on t g ne w = record {
+    halves = λ h now at. let was = back h now in ap (is_on t) (start_still N K can.sound stays h was) ∙ elim (eqb_tells (loop_of N h) l) [
+      | inl s ↦ absurd (ne (sym at ∙ (gone h was s.1).1))
+      | inr s ↦ w.halves h was (sym (kept h was s.1) ∙ at)
+    ];
+    lones = λ q v at is. ap (is_on t) (point_still N K can.sound stays v) ∙ elim (eqb_tells q l) [
+      | inl s ↦ absurd (ne (sym at ∙ ap (face_of K) s.1 ∙ l_face))
+      | inr s ↦ w.lones q v (sym (face_else q s.1) ∙ at) (sym (same.contents q) ∙ is)
+    ];
+  }
+
+  -- and k on those of both
+  pub moved_on : (t : Plane) → OnFace N t f → OnFace N t k → OnFace (ring_in N l k) t k
+  moved_on t a b = record {
+    halves = λ h now at. let was = back h now in ap (is_on t) (start_still N K can.sound stays h was) ∙ elim (eqb_tells (loop_of N h) l) [
+      | inl s ↦ a.halves h was (gone h was s.1).0
+      | inr s ↦ b.halves h was (sym (kept h was s.1) ∙ at)
+    ];
+    lones = λ q v at is. ap (is_on t) (point_still N K can.sound stays v) ∙ elim (eqb_tells q l) [
+      | inl s ↦ a.lones q v (ap (face_of N) s.1 ∙ can.face) (sym (same.contents q) ∙ is)
+      | inr s ↦ b.lones q v (sym (face_else q s.1) ∙ at) (sym (same.contents q) ∙ is)
+    ];
+  }
+
+  -- ---- normals
+
+  f_now : Has K.faces f
+  f_now = stays.faces f can.f_there
+
+  k_now : Has K.faces k
+  k_now = stays.faces k can.goes.f_there
+
+  -- one face, where the half-edge keeps its own
+  one_count : (g h : ℕ) → Has N.faces g → HasHalf N h → face_at K h ≡ face_at N h → count h (boundary K g) ≡ count h (boundary N g)
+  one_count g h there was s = elim (eqb_tells (face_at N h) g) [
+    | inl at ↦ bound_one K moved_sound g h (stays.halves h was) (s ∙ at.1) ∙ sym (bound_one N can.sound g h was at.1)
+    | inr at ↦ bound_none K moved_sound g h (stays.faces g there) (λ t z. at.1 (sym s ∙ z)) ∙ sym (bound_none N can.sound g h there (λ t. at.1))
+  ]
+
+  no_count : (g h : ℕ) → Has N.faces g → (HasHalf N h → ⊥) → count h (boundary K g) ≡ count h (boundary N g)
+  no_count g h there not_was = bound_none K moved_sound g h (stays.faces g there) (λ t s. not_was (back h t)) ∙ sym (bound_none N can.sound g h there (λ t s. not_was t))
+
+  both : SameItems (boundary K f ++ boundary K k) (boundary N f ++ boundary N k)
+  both h = elim (half_there N h) [
+    | inl was ↦ elim (eqb_tells (loop_of N h) l) [
+      | inl s ↦
+          let w = gone h was s.1 in
+          let a : count h (boundary K f) ≡ 0 = bound_none K moved_sound f h f_now (λ t z. can.apart (sym z ∙ w.1)) in
+          let b : count h (boundary K k) ≡ 1 = bound_one K moved_sound k h (stays.halves h was) w.1 in
+          let c : count h (boundary N f) ≡ 1 = bound_one N can.sound f h was w.0 in
+          let d : count h (boundary N k) ≡ 0 = bound_none N can.sound k h can.goes.f_there (λ t z. can.apart (sym w.0 ∙ z)) in
+          omega (arith, a, b, c, d, count-append h (boundary K f) (boundary K k), count-append h (boundary N f) (boundary N k))
+      | inr s ↦ omega (arith, one_count f h can.f_there was (kept h was s.1), one_count k h can.goes.f_there was (kept h was s.1), count-append h (boundary K f) (boundary K k), count-append h (boundary N f) (boundary N k))
+    ]
+    | inr not_was ↦ omega (arith, no_count f h can.f_there not_was, no_count k h can.goes.f_there not_was, count-append h (boundary K f) (boundary K k), count-append h (boundary N f) (boundary N k))
+  ]
+
+  still : (g : ℕ) → area K (boundary N g) ≡ normal N g
+  still g = area_still N K can.sound stays (boundary N g) (bound_halves N can.sound g).there ∙ sym (normal_is N g)
+
+  pub normals_sum : moved (normal (ring_in N l k) f) (normal (ring_in N l k) k) ≡ moved (normal N f) (normal N k)
+  normals_sum = (λ i. moved (normal_is K f i) (normal_is K k i)) ∙ sym (area-append K (boundary K f) (boundary K k))
+      ∙ area_same K (boundary K f ++ boundary K k) (boundary N f ++ boundary N k) both ∙ area-append K (boundary N f) (boundary N k) ∙ (λ i. moved (still f i) (still k i))
+
+  pub normal_else : (g : ℕ) → Has N.faces g → g ≢ f → g ≢ k → normal (ring_in N l k) g ≡ normal N g
+  normal_else g there not_f not_k = normal_is K g ∙ area_same K (boundary K g) (boundary N g) (λ h. elim (half_there N h) [
+    | inl was ↦ elim (eqb_tells (loop_of N h) l) [
+      | inl s ↦ bound_none K moved_sound g h (stays.faces g there) (λ t z. not_k (sym z ∙ (gone h was s.1).1)) ∙ sym (bound_none N can.sound g h there (λ t z. not_f (sym z ∙ (gone h was s.1).0)))
+      | inr s ↦ one_count g h there was (kept h was s.1)
+    ]
+    | inr not_was ↦ no_count g h there not_was
+  ]) ∙ still g
+
+  -- each face keeps its anchor
+  pub anchor_moved : (g : ℕ) → Has N.faces g → anchor (ring_in N l k) g ≡ anchor N g
+  anchor_moved g there = anchor_still N K can.sound stays g there (moving.outer_same N can.sound l k can.goes g) (same.contents (outer N g))

@@ -1,0 +1,126 @@
+-- Faces drawn one after the other: volumes stay, and each face of the solid lies on the planes of one that was there before.
+use Rattle.std.proofs.Common.{◌≡◌, ℕ, ◌+◌, Bool, true, false, cond, nat_eq, nat_lt, ◌&&◌, List, [], ◌∷◌, length, None, refl, sym, ◌∙◌, subst, arith}
+use Rattle.std.specs.Prelude.{fold}
+use Rattle.lattice.specs.declared.Plane.{Plane}
+use Rattle.cyclic_list.specs.Items.{IsIn}
+use Rattle.cyclic_list.proofs.Lists.{tick_same}
+use Rattle.boundary_model.specs.Table as table
+use Rattle.boundary_model.specs.Model.{Model, content, solid_of}
+use Rattle.boundary_model.specs.Sound.{Has}
+use Rattle.euler_operators.specs.Conditions.{has_rings}
+use Rattle.euler_laws.proofs.shared.Goes.{equal, free}
+use Rattle.shapes.specs.Faces.{vertices_on}
+use Rattle.shapes.specs.Measure.{six_volume}
+use Rattle.shapes.specs.split.Sides.{some_above}
+use Rattle.shapes.specs.split.Drawing.{Drawing, stuck_at, all_joined, ring_free, all_drawn, rings_above, with_rings, drawn_between, drawn_pairs, next_drawn}
+use Rattle.split_drawing_laws.specs.drawings.Pairs.{pairs_in}
+use Rattle.split_drawing_laws.specs.drawings.Passing.{Ready, Drawable}
+use Rattle.split_drawing_laws.proofs.drawings.Faces.{begun_joining, joins, going, going_on, fitting_on, last, newer_face}
+use Rattle.split_drawing_laws.proofs.drawings.Rings.{rings_are, rings_apart}
+use Rattle.split_drawing_laws.proofs.drawings.Whole.{ready, drawable_on, next_is}
+use Rattle.split_drawing_laws.proofs.drawn_volumes.Bounds.{OnFace}
+use Rattle.split_drawing_laws.proofs.drawn_volumes.Passes.{Within, never_free, nothing_within, joins_within, draws_within, rings_within}
+use Rattle.split_drawing_laws.proofs.drawn_volumes.Volumes.{IsPlane}
+
+staying : (M : Model) (f : ℕ) (b : Bool) (d : Drawing) → Within M d.model f → Within M (cond b (stuck_at f d) d).model f
+staying M f true d w = w
+staying M f false d w = w
+
+-- ---- one face
+
+module _ (p : Plane) (f : ℕ) (qs : List (ℕ × ℕ)) (d : Drawing) (n : ℕ) (w : Ready p f qs d n) (there : Has d.model.faces f) (r : Plane) (some : IsPlane r) (on : OnFace d.model r f) where
+  abbrev M : Model
+  M = d.model
+
+  abbrev J : Drawing
+  J = all_joined qs d
+
+  abbrev stops : Bool
+  stops = nat_lt 1 (length qs) && has_rings J.model f
+
+  abbrev R : Drawing
+  R = ring_free f qs J
+
+  abbrev L : Drawing
+  L = all_drawn f (ring_free f qs (all_joined qs d))
+
+  joined : Within M J.model f
+  joined = joins_within M f w.sound there r some on (record d { left = [] }) qs n w.fit (begun_joining p f qs d n w) (nothing_within M f)
+
+  drawn : Within M L.model f
+  drawn = draws_within M f w.sound there r some on R R.left n (fitting_on M f f stops J (joins p f qs d n w).state.pairs) (going_on M f n stops J (going p f qs d n w)) (staying M f stops J joined)
+
+  shared : (b : Bool) → nat_eq (length qs) 1 ≡ b → Within M (cond b (record L { model = with_rings L.model (rings_above L.model p f) L.taken.face }) L).model f
+  shared true e = rings_within M f w.sound there r some on L.model L.taken.face (rings_above L.model p f) (last p f qs d n w).drawn
+      (rings_are L.model f (λ l. some_above L.model p (vertices_on L.model (content L.model l))))
+      (rings_apart L.model f (λ l. some_above L.model p (vertices_on L.model (content L.model l))))
+      (newer_face p f qs d n w (equal (length qs) 1 e)) drawn
+  shared false e = drawn
+
+  pub face_within : Within d.model (drawn_between p f qs d).model f
+  face_within = shared (nat_eq (length qs) 1) refl
+
+-- ---- some faces
+
+-- face g of X lies on the planes of a face of solid s of B, of its own where it was one
+pub record Comes (B X : Model) (s g : ℕ) : Type 0 where
+  pub face : ℕ
+  pub there : Has B.faces face
+  pub solid : solid_of B face ≡ s
+  pub own : Has B.faces g → face ≡ g
+  pub on : (t : Plane) → OnFace B t face → OnFace X t g
+
+pub record Spread (B X : Model) (s : ℕ) : Type 0 where
+  pub volumes : (v : ℕ) → six_volume X v ≡ six_volume B v
+  pub there : (g : ℕ) → Has B.faces g → Has X.faces g
+  pub old_solid : (g : ℕ) → Has B.faces g → solid_of X g ≡ solid_of B g
+  pub origin : (g : ℕ) → Has X.faces g → solid_of X g ≡ s → Comes B X s g
+
+pub nothing_spread : (B : Model) (s : ℕ) → Spread B B s
+nothing_spread B s = record {
+  volumes = λ v. refl;
+  there = λ g there. there;
+  old_solid = λ g there. refl;
+  origin = λ g there of_s. record { face = g; there = there; solid = of_s; own = λ t. refl; on = λ t on. on };
+}
+
+-- each face of solid s lies on a plane
+pub record LiesFlat (B : Model) (f : ℕ) : Type 0 where
+  pub plane : Plane
+  pub some : IsPlane plane
+  pub on : OnFace B plane f
+
+module _ (B : Model) (s : ℕ) where
+  spread_on : (X Y : Model) (f : ℕ) → Has X.faces f → solid_of X f ≡ s → Within X Y f → Spread B X s → Spread B Y s
+  spread_on X Y f f_there f_solid w a = record {
+    volumes = λ v. w.volumes v ∙ a.volumes v;
+    there = λ g there. w.there g (a.there g there);
+    old_solid = λ g there. w.old_solid g (a.there g there) ∙ a.old_solid g there;
+    origin = origin_then;
+  } where
+    origin_then : (g : ℕ) → Has Y.faces g → solid_of Y g ≡ s → Comes B Y s g
+    origin_then g there of_s = go (table.has X.faces g) refl where
+      go : (b : Bool) → table.has X.faces g ≡ b → Comes B Y s g
+      go true e =
+          let c : Comes B X s g = a.origin g e (sym (w.old_solid g e) ∙ of_s) in
+          record { face = c.face; there = c.there; solid = c.solid; own = c.own; on = λ t on. w.olds g e t (c.on t on) }
+      go false e =
+          let c : Comes B X s f = a.origin f f_there f_solid in
+          let none : table.get X.faces g ≡ None = free (table.get X.faces g) e in
+          record { face = c.face; there = c.there; solid = c.solid; own = λ was. absurd (never_free X g (a.there g was) none); on = λ t on. w.news g there none t (c.on t on) }
+
+  module _ (M : Model) (p : Plane) (flat : (f : ℕ) → Has B.faces f → solid_of B f ≡ s → LiesFlat B f) where
+    next_spread : (d : Drawing) (f : ℕ) (fs : List ℕ) (n : ℕ) → Drawable M B p d (f ∷ fs) n → Has B.faces f → solid_of B f ≡ s → Spread B d.model s → Spread B (next_drawn M B p d f).model s
+    next_spread d f fs n w was of_s a =
+        let there : Has d.model.faces f = a.there f was in
+        let solid : solid_of d.model f ≡ s = a.old_solid f was ∙ of_s in
+        let c : Comes B d.model s f = a.origin f there solid in
+        let r : LiesFlat B c.face = flat c.face c.there c.solid in
+        spread_on d.model (next_drawn M B p d f).model f there solid (subst (λ x. Within d.model x.model f) (sym (next_is M B p d f fs n w))
+        (face_within p f (drawn_pairs M B p f) d (pairs_in M B p fs + n) (ready M B p d f fs n w) there r.plane r.some (c.on r.plane r.on))) a
+
+    pub all_spread : (d : Drawing) (fs : List ℕ) (n : ℕ) → Drawable M B p d fs n → ((f : ℕ) → IsIn f fs → Has B.faces f × (solid_of B f ≡ s)) → Spread B d.model s → Spread B (fold (next_drawn M B p) d fs).model s
+    all_spread d [] n w of a = a
+    all_spread d (f ∷ fs) n w of a =
+        let here = of f (omega (arith, tick_same f)) in
+        all_spread (next_drawn M B p d f) fs n (drawable_on M B p d f fs n w) (λ g i. of g (omega (arith, i))) (next_spread d f fs n w here.0 here.1 a)

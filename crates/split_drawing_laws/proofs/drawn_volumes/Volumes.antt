@@ -1,0 +1,186 @@
+-- An edge drawn, two loops joined, a ring moved: each solid keeps its six volumes, where the face lies on a plane.
+use Rattle.std.proofs.Common.{◌≡◌, ◌≢◌, ℕ, ℤ, ◌+ℤ◌, ◌-ℤ◌, true, not, cond, nat_eq, ◌&&◌, ◌∷◌, is_some, refl, sym, ap, ◌∙◌, subst, arith, inl, inr}
+use Rattle.std.proofs.lemmas.Int.{ints}
+use Rattle.std.proofs.lemmas.Bool.Decides.{eqb_tells}
+use Rattle.lattice.specs.declared.Point.{Point}
+use Rattle.lattice.specs.declared.Plane.{Plane}
+use Rattle.lattice.specs.Vectors.{origin, moved, dot, same_point, is_on, direction}
+use Rattle.cyclic_list.specs.Items.{count, tick, SameItems}
+use Rattle.cyclic_list.proofs.Lists.{tick_same, tick_other}
+use Rattle.boundary_model.specs.Table as table
+use Rattle.boundary_model.specs.Model.{Model, solid_of, faces_of}
+use Rattle.boundary_model.specs.Sound.{Sound, Has}
+use Rattle.euler_operators.specs.Conditions.{face_at}
+use Rattle.euler_operators.specs.Effect.{ring_in}
+use Rattle.euler_laws.proofs.shared.Goes.{equals, differs}
+use Rattle.shapes.specs.Measure.{normal, anchor, six_volume}
+use Rattle.solid_measure_laws.proofs.FlatFaces.{anchor_on, told_anywhere}
+use Rattle.shapes.specs.split.Drawing.{face_drawn, loops_joined}
+use Rattle.split_drawing_laws.proofs.drawings.Drawn.{CanDraw, CanJoin}
+use Rattle.split_drawing_laws.proofs.drawings.Stays.{has_face}
+use Rattle.lattice.proofs.Vectors.{dot_moved, dot_turned}
+use Rattle.split_drawing_laws.proofs.drawn_volumes.Bounds.{OnFace, face_on}
+use Rattle.split_drawing_laws.proofs.drawn_volumes.Draws as draws
+use Rattle.split_drawing_laws.proofs.drawn_volumes.Joins as joins
+use Rattle.split_drawing_laws.proofs.drawn_volumes.Moves as moves
+use Rattle.split_drawing_laws.proofs.drawn_volumes.Moves.{CanMove}
+use Rattle.split_drawing_laws.proofs.cut_volumes.Solids.{solid_facts, counted_in, counted_out, same_count, total, told, six_is, unchanged, changed_one, total_same}
+
+-- the plane has a direction
+abbrev pub IsPlane : Plane → Type 0
+IsPlane r = not (same_point (direction r) origin) ≡ true
+
+dot_sum : (p a b : Point) → dot p (moved a b) ≡ dot p a +ℤ dot p b
+dot_sum p a b = dot_turned p (moved a b) ∙ dot_moved a b p ∙ (λ i. dot_turned a p i +ℤ dot_turned b p i)
+
+-- what a face adds, told from a point of a plane on which it lies
+module _ (N : Model) (sound : Sound N) (r : Plane) (some : IsPlane r) where
+  pub told_from : (f : ℕ) (p : Point) → Has N.faces f → OnFace N r f → is_on r p ≡ true → told N f ≡ dot p (normal N f)
+  told_from f p there w on = sym (told_anywhere N r f p sound there (λ i. some i && face_on N sound r f there w i) on)
+
+  pub anchor_lies : (f : ℕ) → Has N.faces f → OnFace N r f → is_on r (anchor N f) ≡ true
+  anchor_lies f there w = anchor_on N r f sound there (face_on N sound r f there w)
+
+-- ---- an edge drawn
+
+module _ (N : Model) (u k e g l : ℕ) (can : CanDraw N u k e g l) (r : Plane) (some : IsPlane r) (w : OnFace N r (face_at N u)) where
+  abbrev K : Model
+  K = face_drawn N u k e g l
+
+  abbrev F : ℕ
+  F = face_at N u
+
+  F_there : Has N.faces F
+  F_there = has_face N can.sound u can.u_there
+
+  new_sound : Sound K
+  new_sound = draws.K_sound N u k e g l can
+
+  F_now : Has K.faces F
+  F_now = ap is_some (draws.face_else N u k e g l can F (draws.not_new N u k e g l can F F_there)) ∙ F_there
+
+  g_now : Has K.faces g
+  g_now = ap is_some (draws.face_new N u k e g l can)
+
+  split : told N F ≡ told K F +ℤ told K g
+  split =
+      let p : Point = anchor N F in
+      let on : is_on r p ≡ true = anchor_lies N can.sound r some F F_there w in
+      ap (dot p) (sym (draws.normals_sum N u k e g l can)) ∙ dot_sum p (normal K F) (normal K g)
+      ∙ sym (λ i. told_from K new_sound r some F p F_now (draws.old_on N u k e g l can r F F_there w) on i +ℤ told_from K new_sound r some g p g_now (draws.new_on N u k e g l can r w) on i)
+
+  else_told : (f : ℕ) → Has N.faces f → f ≢ F → told N f ≡ told K f
+  else_told f there ne = sym (λ i. dot (draws.anchor_else N u k e g l can f there ne i) (draws.normal_else N u k e g l can f there ne i))
+
+  g_was : (v : ℕ) → count g (faces_of N v) ≡ 0
+  g_was v = counted_out N g v (λ there _. draws.not_new N u k e g l can g there refl)
+
+  g_solid : solid_of K g ≡ solid_of N F
+  g_solid = draws.solid_new N u k e g l can
+
+  else_count : (v f : ℕ) → f ≢ g → count f (faces_of K v) ≡ count f (faces_of N v)
+  else_count v f ne = same_count N K v f (draws.face_else N u k e g l can f ne)
+
+  with_new : (v : ℕ) → solid_of N F ≡ v → SameItems (faces_of K v) (g ∷ faces_of N v)
+  with_new v at f = elim (eqb_tells f g) [
+    | inl s ↦ let t : tick f g ≡ 1 = ap (λ x. tick x g) s.1 ∙ tick_same g in
+        let now : count f (faces_of K v) ≡ 1 = ap (λ x. count x (faces_of K v)) s.1 ∙ counted_in K g v g_now (g_solid ∙ at) in
+        let was : count f (faces_of N v) ≡ 0 = ap (λ x. count x (faces_of N v)) s.1 ∙ g_was v in
+        omega (arith, t, now, was)
+    | inr s ↦ omega (arith, tick_other f g s.1, else_count v f s.1)
+  ]
+
+  without : (v : ℕ) → solid_of N F ≢ v → SameItems (faces_of K v) (faces_of N v)
+  without v not_at f = elim (eqb_tells f g) [
+    | inl s ↦ ap (λ x. count x (faces_of K v)) s.1 ∙ counted_out K g v (λ there at. not_at (sym g_solid ∙ at)) ∙ sym (ap (λ x. count x (faces_of N v)) s.1 ∙ g_was v)
+    | inr s ↦ else_count v f s.1
+  ]
+
+  turned : (a b : ℤ) → a +ℤ b ≡ b +ℤ a
+  turned a b = omega (arith, ints)
+
+  pub draw_volumes : (v : ℕ) → six_volume (face_drawn N u k e g l) v ≡ six_volume N v
+  draw_volumes v = six_is K v ∙ elim (eqb_tells (solid_of N F) v) [
+    | inl at ↦ total_same (told K) (faces_of K v) (g ∷ faces_of N v) (with_new v at.1) ∙ turned (told K g) (total (told K) (faces_of N v))
+        ∙ sym (changed_one (told N) (told K) F (told K g) split (faces_of N v) (λ f i ne. else_told f (solid_facts N v f i).0 ne) (counted_in N F v F_there at.1))
+    | inr ne ↦ total_same (told K) (faces_of K v) (faces_of N v) (without v ne.1)
+        ∙ sym (unchanged (told N) (told K) (faces_of N v) (λ f i. else_told f (solid_facts N v f i).0 (λ s. ne.1 (ap (solid_of N) (sym s) ∙ (solid_facts N v f i).1))))
+  ] ∙ sym (six_is N v)
+
+-- ---- two loops joined
+
+module _ (N : Model) (c d e : ℕ) (can : CanJoin N c d e) (r : Plane) (some : IsPlane r) (w : OnFace N r (face_at N c)) where
+  abbrev J : Model
+  J = loops_joined N c d e
+
+  joined_told : (f : ℕ) → Has N.faces f → told J f ≡ told N f
+  joined_told f there = elim (eqb_tells f (face_at N c)) [
+    | inl at ↦
+        let here : OnFace N r f = subst (OnFace N r) (sym at.1) w in
+        told_from J (joins.J_sound N c d e can) r some f (anchor N f) (subst (λ t. Has t f) (sym (joins.faces_joined N c d e can)) there) (joins.joined_on N c d e can r f here) (anchor_lies N can.sound r some f there here)
+        ∙ ap (dot (anchor N f)) (joins.normal_joined N c d e can f there)
+    | inr ne ↦ λ i. dot (joins.anchor_joined N c d e can f there ne.1 i) (joins.normal_joined N c d e can f there i)
+  ]
+
+  pub join_volumes : (v : ℕ) → six_volume (loops_joined N c d e) v ≡ six_volume N v
+  join_volumes v = six_is J v ∙ ap (λ t. total (told J) (table.all_where (λ _ row. nat_eq row.solid v) t)) (joins.faces_joined N c d e can)
+      ∙ unchanged (told J) (told N) (faces_of N v) (λ f i. joined_told f (solid_facts N v f i).0) ∙ sym (six_is N v)
+
+-- ---- a ring moved
+
+module _ (N : Model) (f l k : ℕ) (can : CanMove N f l k) (r : Plane) (some : IsPlane r) (w : OnFace N r f) (z : OnFace N r k) where
+  abbrev R : Model
+  R = ring_in N l k
+
+  ring_sound : Sound R
+  ring_sound = moves.moved_sound N f l k can
+
+  now : (h : ℕ) → Has N.faces h → Has R.faces h
+  now h there = subst (λ t. Has t h) (sym (moves.faces_moved N f l k can)) there
+
+  both_told : told N f +ℤ told N k ≡ told R f +ℤ told R k
+  both_told =
+      let p : Point = anchor N f in
+      let on : is_on r p ≡ true = anchor_lies N can.sound r some f can.f_there w in
+      ap (λ x. told N f +ℤ x) (told_from N can.sound r some k p can.goes.f_there z on) ∙ sym (dot_sum p (normal N f) (normal N k))
+      ∙ ap (dot p) (sym (moves.normals_sum N f l k can)) ∙ dot_sum p (normal R f) (normal R k)
+      ∙ sym (λ i. told_from R ring_sound r some f p (now f can.f_there) (moves.else_on N f l k can r f can.apart w) on i
+      +ℤ told_from R ring_sound r some k p (now k can.goes.f_there) (moves.moved_on N f l k can r w z) on i)
+
+  same_told : (h : ℕ) → Has N.faces h → h ≢ f → h ≢ k → told N h ≡ told R h
+  same_told h there a b = sym (λ i. dot (moves.anchor_moved N f l k can h there i) (moves.normal_else N f l k can h there a b i))
+
+  one_solid : solid_of N f ≡ solid_of N k
+  one_solid = ap (solid_of N) (sym can.face) ∙ can.goes.one_solid
+
+  -- k as it was, and the others as they are then
+  mid : ℕ → ℤ
+  mid h = cond (nat_eq h k) (told N h) (told R h)
+
+  mid_k : mid k ≡ told N k
+  unfolding mid
+  mid_k = ap (λ b. cond b (told N k) (told R k)) (equals k k refl)
+
+  mid_else : (h : ℕ) → h ≢ k → mid h ≡ told R h
+  unfolding mid
+  mid_else h ne = ap (λ b. cond b (told N h) (told R h)) (differs h k ne)
+
+  gap : (a b : ℤ) → a ≡ b +ℤ (a -ℤ b)
+  gap a b = omega (arith, ints)
+
+  no_gap : (a b c d t : ℤ) → a +ℤ b ≡ c +ℤ d → (t +ℤ (b -ℤ d)) +ℤ (a -ℤ c) ≡ t
+  no_gap a b c d t e = omega (arith, ints)
+
+  pub move_volumes : (v : ℕ) → six_volume (ring_in N l k) v ≡ six_volume N v
+  move_volumes v = six_is R v ∙ ap (λ t. total (told R) (table.all_where (λ _ row. nat_eq row.solid v) t)) (moves.faces_moved N f l k can) ∙ sym (elim (eqb_tells (solid_of N f) v) [
+    | inl at ↦
+        changed_one (told N) mid f (told N f -ℤ told R f) (gap (told N f) (told R f) ∙ ap (λ x. x +ℤ (told N f -ℤ told R f)) (sym (mid_else f can.apart))) (faces_of N v)
+        (λ h i ne. elim (eqb_tells h k) [
+          | inl s ↦ ap (told N) s.1 ∙ sym (ap mid s.1 ∙ mid_k)
+          | inr s ↦ same_told h (solid_facts N v h i).0 ne s.1 ∙ sym (mid_else h s.1)
+        ]) (counted_in N f v can.f_there at.1)
+        ∙ ap (λ x. x +ℤ (told N f -ℤ told R f)) (changed_one mid (told R) k (told N k -ℤ told R k) (mid_k ∙ gap (told N k) (told R k)) (faces_of N v) (λ h i ne. mid_else h ne) (counted_in N k v can.goes.f_there (sym one_solid ∙ at.1)))
+        ∙ no_gap (told N f) (told N k) (told R f) (told R k) (total (told R) (faces_of N v)) both_told
+    | inr ne ↦ unchanged (told N) (told R) (faces_of N v) (λ h i. let w = solid_facts N v h i in
+        same_told h w.0 (λ s. ne.1 (ap (solid_of N) (sym s) ∙ w.1)) (λ s. ne.1 (one_solid ∙ ap (solid_of N) (sym s) ∙ w.1)))
+  ]) ∙ sym (six_is N v)

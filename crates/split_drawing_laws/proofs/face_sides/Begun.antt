@@ -1,0 +1,231 @@
+-- What the first conditions of a split say of the loops of its solid, once edges are cut: each holds a half-edge, which tells its side.
+use Rattle.std.specs.Prelude.{map}
+use Rattle.std.specs.List.{list_all}
+use Rattle.std.proofs.Common.{◌≡◌, ◌≢◌, ℕ, Bool, true, false, not, nat_eq, ◌&&◌, ◌||◌, List, [], ◌∷◌, length, is_some, refl, sym, ap, ◌∙◌, subst, arith, inl, inr, true≢false}
+use Rattle.std.proofs.lemmas.Bool.Decides.{eqb_tells}
+use Rattle.lattice.specs.declared.Plane.{Plane}
+use Rattle.lattice.specs.Vectors.{is_above}
+use Rattle.cyclic_list.specs.Items.{count, IsIn}
+use Rattle.cyclic_list.proofs.Lists.{tick_same, tick_other}
+use Rattle.boundary_model.specs.Table as table
+use Rattle.boundary_model.specs.Model.{Model, LoopContent, lone, cycle, items_of, content, tail, loop_of, face_of, solid_of, outer, after, cycle_of, point_of, faces_of, rings_of}
+use Rattle.boundary_model.specs.Sound.{Sound, Has, HasHalf}
+use Rattle.boundary_model.proofs.Models.{in-holds, content_cycle, cycle_there}
+use Rattle.boundary_model.proofs.Tables.{zero_first_where}
+use Rattle.euler_operators.specs.Conditions.{face_at, is_lone, lists}
+use Rattle.euler_laws.proofs.shared.Fans.{half_after, loop_after}
+use Rattle.euler_laws.proofs.shared.Goes.{all_hold, equal, equals, no_zero}
+use Rattle.euler_laws.proofs.shared.Rows.{loop_row, face_there}
+use Rattle.solid_walks.proofs.Rising.{in_listed}
+use Rattle.shapes.specs.Faces.{start, finish, least_lone, boundary, vertices_on}
+use Rattle.shapes.specs.split.Sides.{some_above, reaches_above, straddling_faces}
+use Rattle.shapes.specs.split.Places.{is_place, places, loop_is_cut, is_cut_often}
+use Rattle.shapes.specs.split.Crossings.{with_crossings}
+use Rattle.shapes.specs.split.Drawing.{from_place, drawn_pairs}
+use Rattle.shapes.specs.split.Split.{first_conditions}
+use Rattle.split_drawing_laws.specs.crossings.Kept.{Kept}
+use Rattle.split_drawing_laws.specs.crossings.Laws.{CanBegin}
+use Rattle.split_drawing_laws.proofs.crossings.Listed.{listed_in, all_where_in, any_passes, picked, item_in_face}
+use Rattle.split_drawing_laws.proofs.crossings.Places.{at_place, face_facts}
+use Rattle.split_drawing_laws.proofs.crossings.Whole.{can_cut, crossings_keep, crossings_sound, same_solid}
+use Rattle.split_drawing_laws.proofs.pairs.Whole.{can_be_drawn}
+use Rattle.split_drawing_laws.specs.drawings.Pairs.{AllFit, LoneInOneLoop, FacesFit}
+use Rattle.split_drawing_laws.specs.loop_sides.Parted.{ends}
+use Rattle.split_drawing_laws.specs.half_sides.HalfSides.{half_is_above, side_of}
+use Rattle.split_drawing_laws.proofs.half_sides.EndLists.{mapped_in, mapped_from}
+use Rattle.split_drawing_laws.proofs.half_sides.PlaceEnds.{side_within, place_in_ends, pairs_up}
+use Rattle.split_drawing_laws.proofs.half_sides.Taking.{side_beside}
+use Rattle.split_drawing_laws.proofs.face_sides.Alone.{Held}
+use Rattle.split_drawing_laws.proofs.face_sides.Beside.{outer_same}
+use Rattle.split_drawing_laws.proofs.face_sides.OneFace.{IsSided, PairsOf}
+use Rattle.split_drawing_laws.proofs.face_sides.Passing.{AllOld}
+use Rattle.split_drawing_laws.proofs.face_sides.Same.{any_from}
+use Rattle.split_drawing_laws.proofs.face_sides.Shared.{HeldOn}
+
+-- the half-edges of pairs that fit are there
+fits_old : (N : Model) (f : ℕ) (qs : List (ℕ × ℕ)) → AllFit N f qs → AllOld N qs
+fits_old N f [] w = tt
+fits_old N f (q ∷ qs) w = ((w.0.u_there, w.0.k_there), fits_old N f qs w.1)
+
+face_fits : (M N : Model) (p : Plane) (f : ℕ) (gs : List ℕ) → FacesFit N M N p gs → IsIn f gs → AllFit N f (drawn_pairs M N p f) × LoneInOneLoop N (drawn_pairs M N p f)
+face_fits M N p f [] w i = absurd (omega (arith, i))
+face_fits M N p f (g ∷ gs) w i = elim (eqb_tells f g) [
+  | inl e ↦ subst (λ h. AllFit N h (drawn_pairs M N p h) × LoneInOneLoop N (drawn_pairs M N p h)) (sym e.1) w.0
+  | inr e ↦ face_fits M N p f gs w.1 (omega (arith, i, tick_other f g e.1))
+]
+
+outer_cut : (M : Model) (p : Plane) (f : ℕ) → is_cut_often M p f ≡ false → loop_is_cut M p (outer M f) ≡ true
+unfolding is_cut_often
+outer_cut M p f e = first_of (loop_is_cut M p (outer M f)) (not (list_all (loop_is_cut M p) (rings_of M f)) && not (nat_eq (length (places M p f)) 2)) e where
+  first_of : (a b : Bool) → (not a || b) ≡ false → a ≡ true
+  first_of true b e = refl
+  first_of false b e = absurd (true≢false e)
+
+some_item : (hs : List ℕ) → hs ≢ [] → (h : ℕ) × IsIn h hs
+some_item [] ne = absurd (ne refl)
+some_item (h ∷ hs) ne = (h, omega (arith, tick_same h))
+
+module _ (M : Model) (s : ℕ) (p : Plane) (t : ℕ) (sound : Sound M) (begins : CanBegin M s p t) where
+  abbrev N : Model
+  N = (with_crossings M s p).model
+
+  abbrev fs : List ℕ
+  fs = straddling_faces M p s
+
+  abbrev side : ℕ → Bool
+  side = side_of M s p
+
+  new_sound : Sound N
+  new_sound = crossings_sound M s p t sound begins
+
+  keep : Kept M N
+  keep = crossings_keep M s p t sound begins
+
+  -- ---- no loop of the solid is lone
+
+  none_lone : table.first_where (λ _ row. is_lone row.content && lists (faces_of M s) row.face) M.loops ≡ 0
+  unfolding first_conditions
+  none_lone = equal (least_lone M (faces_of M s)) 0 (all_hold (first_conditions M s p t) begins).1.1.1.1.1.1.1.1.1.0
+
+  is_cycle : (q : ℕ) → Has M.loops q → solid_of M (face_of M q) ≡ s → content M q ≡ cycle (items_of (content M q))
+  is_cycle q there of_s = go (content M q) (never (is_lone (content M q)) (lists (faces_of M s) (face_of M q)) listed
+      (zero_first_where (λ _ row. is_lone row.content && lists (faces_of M s) row.face) M.loops (λ l row at z. no_zero l z (sound.loops_fit l (ap is_some at))) none_lone q _ (loop_row M q there))) where
+        listed : lists (faces_of M s) (face_of M q) ≡ true
+        listed = in_listed (face_of M q) (faces_of M s) (all_where_in (λ _ row. nat_eq row.solid s) M.faces (face_of M q) _ (face_there M (face_of M q) (sound.loops_of_faces q there)) (equals (solid_of M (face_of M q)) s of_s))
+
+        never : (a b : Bool) → b ≡ true → (a && b) ≡ false → a ≡ false
+        never false b l e = refl
+        never true b l e = absurd (true≢false (sym l ∙ e))
+
+        go : (c : LoopContent) → is_lone c ≡ false → c ≡ cycle (items_of c)
+        go (lone v) e = absurd (true≢false e)
+        go (cycle hs) e = refl
+
+  -- so each holds a half-edge
+  pub loop_holds : (q : ℕ) → Has (with_crossings M s p).model.loops q → solid_of (with_crossings M s p).model (face_of (with_crossings M s p).model q) ≡ s → Held (with_crossings M s p).model (with_crossings M s p).model q
+  loop_holds q there of_s =
+      let was : Has M.loops q = sym (keep.loops q) ∙ there in
+      let is : content M q ≡ cycle (items_of (content M q)) = is_cycle q was (ap (solid_of M) (sym (keep.face q)) ∙ sym (same_solid M s p t sound begins (face_of N q)) ∙ of_s) in
+      let h = some_item (items_of (content M q)) (sound.cycles q (items_of (content M q)) was is).some_item in
+      let holds_h = in-holds h.0 (content M q) h.1 in
+      let h_there : HasHalf M h.0 = sound.only_edges h.0 q holds_h in
+      record { half = h.0; old = keep.halves h.0 h_there; at = keep.loop h.0 h_there ∙ sound.one_loop h.0 q holds_h }
+
+  not_listed : (g : ℕ) → count g fs ≡ 0 → lists fs g ≡ false
+  not_listed g z = go (lists fs g) refl where
+    go : (b : Bool) → lists fs g ≡ b → lists fs g ≡ false
+    go false e = e
+    go true e = absurd (let i : IsIn g fs = listed_in g fs e in omega (arith, i, z))
+
+  -- a face that doesn't straddle lies on one side
+  pub sided_first : (g : ℕ) → Has (with_crossings M s p).model.faces g → solid_of (with_crossings M s p).model g ≡ s → count g (straddling_faces M p s) ≡ 0 → IsSided (with_crossings M s p).model (with_crossings M s p).model (side_of M s p) g
+  sided_first g there of_s z = (
+    reaches_above M p g,
+    λ q q_there at.
+        let a : Held N N q = loop_holds q q_there (ap (solid_of N) at ∙ of_s) in
+        let face : face_at N a.half ≡ g = ap (face_of N) a.at ∙ at in
+        record { held = a; on = side_beside M s p t sound begins a.half (ap (lists fs) face ∙ not_listed g z) ∙ ap (reaches_above M p) face },
+  )
+
+  -- ---- the faces that straddle
+
+  module _ (f : ℕ) (i : IsIn f (straddling_faces M p s)) where
+    of_solid : solid_of N f ≡ s
+    of_solid = same_solid M s p t sound begins f ∙ (face_facts M s p t sound begins f i).1
+
+    -- a loop of f with a corner above holds a half-edge above, and one without holds one below
+    module _ (r : ℕ) (there : Has N.loops r) (at : face_of N r ≡ f) where
+      some_half : Held N N r
+      some_half = loop_holds r there (ap (solid_of N) at ∙ of_solid)
+
+      abbrev h : ℕ
+      h = some_half.half
+
+      abbrev xs : List ℕ
+      xs = cycle_of N h
+
+      content_is : content N r ≡ cycle xs
+      content_is = ap (content N) (sym some_half.at) ∙ content_cycle N new_sound h some_half.old
+
+      side_own : (z : ℕ) → loop_of N z ≡ r → side z ≡ half_is_above N p z
+      side_own z e = side_within M s p t sound begins z (subst (λ g. IsIn g fs) (sym (ap (face_of N) e ∙ at)) i)
+
+      item_loop : (z : ℕ) → IsIn z xs → HasHalf N z × (loop_of N z ≡ r)
+      item_loop z j = let st = in-holds z (content N (loop_of N h)) j in (new_sound.only_edges z (loop_of N h) st, new_sound.one_loop z (loop_of N h) st ∙ some_half.at)
+
+      held_above : some_above N p (vertices_on N (content N r)) ≡ true → HeldOn N N side r true
+      held_above e =
+          let v = any_from (λ v. is_above p (point_of N v)) (map (tail N) xs) (sym (ap (λ c. some_above N p (vertices_on N c)) content_is) ∙ e) in
+          let z = mapped_from (tail N) v.0 xs v.1 in
+          let w = item_loop z.0 z.1 in
+          let up : is_above p (start N z.0) ≡ true = ap (λ u. is_above p (point_of N u)) (sym z.2) ∙ v.2 in
+          record { held = record { half = z.0; old = w.0; at = w.1 }; on = side_own z.0 w.1 ∙ ap (λ b. b || is_above p (finish N z.0)) up }
+
+      not_above : some_above N p (vertices_on N (content N r)) ≡ false → (z : ℕ) → IsIn z xs → is_above p (start N z) ≡ false
+      not_above e z j = go (is_above p (start N z)) refl where
+        go : (b : Bool) → is_above p (start N z) ≡ b → is_above p (start N z) ≡ false
+        go false a = a
+        go true a = absurd (true≢false (sym (any_passes (λ v. is_above p (point_of N v)) (tail N z) (map (tail N) xs) (mapped_in (tail N) z xs j) a)
+            ∙ sym (ap (λ c. some_above N p (vertices_on N c)) content_is) ∙ e))
+
+      next_in : IsIn (after N h) xs
+      next_in = subst (λ q. IsIn (after N h) (items_of (content N q))) (loop_after N new_sound h some_half.old) (cycle_there N new_sound (after N h) (half_after N new_sound h some_half.old))
+
+      held_below : some_above N p (vertices_on N (content N r)) ≡ false → HeldOn N N side r false
+      held_below e =
+          let low : is_above p (start N h) ≡ false = not_above e h (cycle_there N new_sound h some_half.old) in
+          let end : is_above p (finish N h) ≡ false = ap (λ u. is_above p (point_of N u)) (sym (new_sound.ends_meet h some_half.old)) ∙ not_above e (after N h) next_in in
+          record { held = some_half; on = side_own h some_half.at ∙ (λ k. low k || end k) }
+
+      ring_side : HeldOn N N side r (some_above N p (vertices_on N (content N r)))
+      ring_side = go (some_above N p (vertices_on N (content N r))) refl where
+        go : (b : Bool) → some_above N p (vertices_on N (content N r)) ≡ b → HeldOn N N side r b
+        go true e = held_above e
+        go false e = held_below e
+
+    -- a cut place of the outer loop
+    abbrev outer_items : List ℕ
+    outer_items = items_of (content M (outer M f))
+
+    outer_place : (x : ℕ) × IsIn x outer_items × (is_place M p x ≡ true)
+    outer_place = any_from (is_place M p) outer_items (outer_cut M p f ((can_cut M s p t sound begins).not_often f i))
+
+    abbrev x : ℕ
+    x = outer_place.0
+
+    outer_facts : Has M.loops (outer M f) × (face_of M (outer M f) ≡ f)
+    outer_facts = sound.outers_there f (face_facts M s p t sound begins f i).0
+
+    x_place : IsIn x (places M p f)
+    unfolding places
+    x_place = picked (is_place M p) x (boundary M f) (subst (λ g. IsIn x (boundary M g)) outer_facts.1 (item_in_face M x (outer M f) outer_facts.0 outer_place.1)) outer_place.2
+
+    x_loop : loop_of N (from_place N p x) ≡ outer N f
+    x_loop = (at_place M s p t sound begins f x (in_listed f fs i) (in_listed x (places M p f) x_place)).loop ∙ sound.one_loop x (outer M f) (in-holds x (content M (outer M f)) outer_place.1)
+        ∙ sym (outer_same M N f (ap (λ u. table.get u f) keep.faces))
+
+    x_end : IsIn (from_place N p x) (ends (drawn_pairs M N p f))
+    x_end = place_in_ends M s p t sound begins f i x x_place
+
+    fits : AllFit N f (drawn_pairs M N p f) × LoneInOneLoop N (drawn_pairs M N p f)
+    fits = face_fits M N p f fs (can_be_drawn M s p t sound begins).fit i
+
+    single_outer : (q : ℕ × ℕ) → drawn_pairs M N p f ≡ q ∷ [] → loop_of N q.0 ≡ outer N f
+    single_outer q e = elim (eqb_tells (from_place N p x) q.0) [
+      | inl a ↦ ap (loop_of N) (sym a.1) ∙ x_loop
+      | inr a ↦
+          let two : IsIn (from_place N p x) (q.0 ∷ q.1 ∷ []) = subst (λ qs. IsIn (from_place N p x) (ends qs)) e x_end in
+          let one : from_place N p x ≡ q.1 = only (from_place N p x) q.1 (omega (arith, two, tick_other (from_place N p x) q.0 a.1)) in
+          equal (loop_of N q.0) (loop_of N q.1) (subst (LoneInOneLoop N) e fits.1) ∙ ap (loop_of N) (sym one) ∙ x_loop
+    ] where
+      only : (a b : ℕ) → IsIn a (b ∷ []) → a ≡ b
+      only a b j = elim (eqb_tells a b) [ inl y ↦ y.1 | inr y ↦ absurd (omega (arith, j, tick_other a b y.1)) ]
+
+    pub pairs_of : PairsOf N (side_of M s p) p f (drawn_pairs M N p f)
+    pairs_of = record {
+      some_pair = λ e. absurd (let j : IsIn (from_place N p x) [] = subst (λ qs. IsIn (from_place N p x) (ends qs)) e x_end in omega (arith, j));
+      old = fits_old N f (drawn_pairs M N p f) fits.0;
+      ups = pairs_up M s p t sound begins f i;
+      single = single_outer;
+      rings = ring_side;
+    }

@@ -1,0 +1,178 @@
+-- What stays beside a face in which edges are drawn: the rows of other faces and of their loops.
+use Rattle.std.proofs.Common.{◌≡◌, ◌≢◌, ℕ, Bool, true, false, cond, nat_eq, ◌||◌, List, [], ◌∷◌, Option, Some, None, is_some, unwrap_or, refl, sym, ap, ◌∙◌, subst, arith, ◌⊎◌, inl, inr, true≢false}
+use Rattle.std.specs.Prelude.{fold}
+use Rattle.std.specs.Option.{option_map}
+use Rattle.std.proofs.lemmas.Bool.Decides.{nat_tests, eqb_tells}
+use Rattle.boundary_model.specs.Table as table
+use Rattle.boundary_model.specs.Table.{Table, get-map_rows}
+use Rattle.boundary_model.specs.Model.{Model, LoopRow, FaceRow, no_face, no_loop, loop_of, face_of, solid_of, outer, content}
+use Rattle.boundary_model.specs.Sound.{Has}
+use Rattle.boundary_model.proofs.Models.{face_row}
+use Rattle.euler_operators.specs.Conditions.{face_at, lists}
+use Rattle.euler_operators.specs.Effect.{loop_to_face}
+use Rattle.shapes.proofs.fresh.Rows.{get-put_here, get-put_other}
+use Rattle.shapes.specs.split.Drawing.{face_drawn, loops_joined, with_rings}
+use Rattle.split_drawing_laws.proofs.drawings.Drawn.{CanDraw, CanJoin}
+use Rattle.split_drawing_laws.proofs.drawings.Stays.{row_old, row_new, row_else, row_joined, row_gone, row_other}
+
+pub face_same : (M N : Model) (q : ℕ) → table.get N.loops q ≡ table.get M.loops q → face_of N q ≡ face_of M q
+unfolding face_of
+face_same M N q e = ap (λ o. (unwrap_or o no_loop).face) e
+
+pub outer_same : (M N : Model) (g : ℕ) → table.get N.faces g ≡ table.get M.faces g → outer N g ≡ outer M g
+unfolding outer
+outer_same M N g e = ap (λ o. (unwrap_or o no_face).outer) e
+
+pub solid_same : (M N : Model) (g : ℕ) → table.get N.faces g ≡ table.get M.faces g → solid_of N g ≡ solid_of M g
+unfolding solid_of
+solid_same M N g e = ap (λ o. (unwrap_or o no_face).solid) e
+
+pub outer_row : (N : Model) (g : ℕ) (row : FaceRow) → table.get N.faces g ≡ Some row → outer N g ≡ row.outer
+unfolding outer
+outer_row N g row e = ap (λ o. (unwrap_or o no_face).outer) e
+
+-- N is M with edges drawn in face f: the faces of M keep their rows, and their loops theirs, but for those of f
+pub record Beside (M N : Model) (f : ℕ) : Type 0 where
+  pub faces : (g : ℕ) → Has M.faces g → table.get N.faces g ≡ table.get M.faces g
+  pub loops : (q : ℕ) → Has N.loops q → face_of N q ≢ f → Has M.faces (face_of N q) → table.get N.loops q ≡ table.get M.loops q
+
+-- face g is f, or a new one
+abbrev pub ComesOf : Model → ℕ → ℕ → Type 0
+ComesOf M f g = (g ≡ f) ⊎ (table.get M.faces g ≡ None)
+
+pub nothing_beside : (M : Model) (f : ℕ) → Beside M M f
+nothing_beside M f = record { faces = λ g there. refl; loops = λ q there ne old. refl }
+
+pub never_free : {X : Type 0} (t : Table X) (n : ℕ) → Has t n → table.get t n ≡ None → ⊥
+never_free t n there free = true≢false (sym there ∙ ap is_some free)
+
+-- ---- two loops of f joined
+
+module _ (M N : Model) (f c d e : ℕ) (can : CanJoin N c d e) (at : face_at N c ≡ f) (w : Beside M N f) where
+  abbrev J : Model
+  J = loops_joined N c d e
+
+  pub faces_joined : (loops_joined N c d e).faces ≡ N.faces
+  unfolding loops_joined
+  faces_joined = refl
+
+  pub joined_beside : Beside M (loops_joined N c d e) f
+  joined_beside = record {
+    faces = λ g there. ap (λ t. table.get t g) faces_joined ∙ w.faces g there;
+    loops = λ q there ne old. elim (eqb_tells q (loop_of N c)) [
+      | inl a ↦ absurd (ne (ap (face_of J) a.1 ∙ face_row J (loop_of N c) _ (row_joined N c d e can) ∙ at))
+      | inr a ↦ elim (eqb_tells q (loop_of N d)) [
+        | inl b ↦ absurd (never_free J.loops (loop_of N d) (subst (Has J.loops) b.1 there) (row_gone N c d e can))
+        | inr b ↦
+            let same : table.get J.loops q ≡ table.get N.loops q = row_other N c d e can q a.1 b.1 in
+            let face : face_of J q ≡ face_of N q = face_same N J q same in
+            same ∙ w.loops q (ap is_some (sym same) ∙ there) (λ s. ne (face ∙ s)) (subst (Has M.faces) face old)
+      ]
+    ];
+  }
+
+-- ---- an edge drawn in f, or in a face that is new since
+
+module _ (N : Model) (u k e g l : ℕ) (can : CanDraw N u k e g l) where
+  abbrev K : Model
+  K = face_drawn N u k e g l
+
+  pub face_new : table.get (face_drawn N u k e g l).faces g ≡ Some (record { solid = solid_of N (face_at N u); outer = l })
+  unfolding face_drawn
+  face_new = get-put_here N.faces g _
+
+  pub face_else : (h : ℕ) → h ≢ g → table.get (face_drawn N u k e g l).faces h ≡ table.get N.faces h
+  unfolding face_drawn
+  face_else h ne = get-put_other N.faces g _ h ne
+
+  pub old_loop_face : face_of (face_drawn N u k e g l) (loop_of N u) ≡ face_at N u
+  old_loop_face = face_row K (loop_of N u) _ (row_old N u k e g l can)
+
+  pub new_loop_face : face_of (face_drawn N u k e g l) l ≡ g
+  new_loop_face = face_row K l _ (row_new N u k e g l can)
+
+  module _ (M : Model) (f : ℕ) (drawn : ComesOf M f (face_at N u)) (new : table.get M.faces g ≡ None) (w : Beside M N f) where
+    not_drawn : (h : ℕ) → h ≢ f → Has M.faces h → face_at N u ≢ h
+    not_drawn h ne old s = elim drawn [
+      | inl a ↦ ne (sym s ∙ a)
+      | inr a ↦ never_free M.faces h old (ap (table.get M.faces) (sym s) ∙ a)
+    ]
+
+    pub drawn_beside : Beside M (face_drawn N u k e g l) f
+    drawn_beside = record {
+      faces = λ h there. face_else h (λ s. never_free M.faces h there (ap (table.get M.faces) s ∙ new)) ∙ w.faces h there;
+      loops = λ q there ne old. elim (eqb_tells q (loop_of N u)) [
+        | inl a ↦ absurd (not_drawn (face_of K q) ne old (sym (ap (face_of K) a.1 ∙ old_loop_face)))
+        | inr a ↦ elim (eqb_tells q l) [
+          | inl b ↦ absurd (never_free M.faces (face_of K q) old (ap (table.get M.faces) (ap (face_of K) b.1 ∙ new_loop_face) ∙ new))
+          | inr b ↦
+              let same : table.get K.loops q ≡ table.get N.loops q = row_else N u k e g l can q a.1 b.1 in
+              let face : face_of K q ≡ face_of N q = face_same N K q same in
+              same ∙ w.loops q (ap is_some (sym same) ∙ there) (λ s. ne (face ∙ s)) (subst (Has M.faces) face old)
+        ]
+      ];
+    }
+
+-- ---- rings given to a face
+
+-- the row of a loop then
+abbrev pub given : List ℕ → ℕ → ℕ → LoopRow → LoopRow
+given ls k q row = cond (lists ls q) (record row { face = k }) row
+
+given_twice : (l : ℕ) (ls : List ℕ) (k q : ℕ) (row : LoopRow) → given ls k q (loop_to_face l k q row) ≡ given (l ∷ ls) k q row
+given_twice l ls k q row = go (nat_eq q l) (nat_eq l q) (lists ls q) turned where
+  turned : nat_eq q l ≡ nat_eq l q
+  turned = grind (arith, nat_tests)
+
+  go : (a b c : Bool) → a ≡ b → cond c (record (cond a (record row { face = k }) row) { face = k }) (cond a (record row { face = k }) row) ≡ cond (b || c) (record row { face = k }) row
+  go true true true e = refl
+  go true true false e = refl
+  go true false c e = absurd (true≢false e)
+  go false true c e = absurd (true≢false (sym e))
+  go false false true e = refl
+  go false false false e = refl
+
+rows_given : (t : Table LoopRow) (ls : List ℕ) (k q : ℕ) → table.get (fold (λ t l. table.map_rows (loop_to_face l k) t) t ls) q ≡ option_map (given ls k q) (table.get t q)
+rows_given t [] k q = go (table.get t q) where
+  go : (o : Option LoopRow) → o ≡ option_map (given [] k q) o
+  go None = refl
+  go (Some row) = refl
+rows_given t (l ∷ ls) k q = rows_given (table.map_rows (loop_to_face l k) t) ls k q ∙ ap (option_map (given ls k q)) (get-map_rows (loop_to_face l k) t q) ∙ go (table.get t q) where
+  go : (o : Option LoopRow) → option_map (given ls k q) (option_map (loop_to_face l k q) o) ≡ option_map (given (l ∷ ls) k q) o
+  go None = refl
+  go (Some row) = ap Some (given_twice l ls k q row)
+
+module _ (N : Model) (ls : List ℕ) (k q : ℕ) where
+  abbrev W : Model
+  W = with_rings N ls k
+
+  pub given_content : content (with_rings N ls k) q ≡ content N q
+  unfolding content
+  given_content = ap (λ o. (unwrap_or o no_loop).content) (rows_given N.loops ls k q) ∙ go (table.get N.loops q) where
+    one : (b : Bool) (row : LoopRow) → (cond b (record row { face = k }) row).content ≡ row.content
+    one true row = refl
+    one false row = refl
+
+    go : (o : Option LoopRow) → (unwrap_or (option_map (given ls k q) o) no_loop).content ≡ (unwrap_or o no_loop).content
+    go None = refl
+    go (Some row) = one (lists ls q) row
+
+  pub given_has : table.has (with_rings N ls k).loops q ≡ table.has N.loops q
+  given_has = ap is_some (rows_given N.loops ls k q) ∙ go (table.get N.loops q) where
+    go : (o : Option LoopRow) → is_some (option_map (given ls k q) o) ≡ is_some o
+    go None = refl
+    go (Some row) = refl
+
+  -- another loop keeps its row
+  pub given_else : lists ls q ≡ false → table.get (with_rings N ls k).loops q ≡ table.get N.loops q
+  given_else e = rows_given N.loops ls k q ∙ go (table.get N.loops q) where
+    go : (o : Option LoopRow) → option_map (given ls k q) o ≡ o
+    go None = refl
+    go (Some row) = ap (λ b. Some (cond b (record row { face = k }) row)) e
+
+  pub given_face : lists ls q ≡ true → Has N.loops q → face_of (with_rings N ls k) q ≡ k
+  unfolding face_of
+  given_face e there = ap (λ o. (unwrap_or o no_loop).face) (rows_given N.loops ls k q) ∙ go (table.get N.loops q) there where
+    go : (o : Option LoopRow) → is_some o ≡ true → (unwrap_or (option_map (given ls k q) o) no_loop).face ≡ k
+    go None t = absurd (true≢false (sym t))
+    go (Some row) t = ap (λ b. (cond b (record row { face = k }) row).face) e

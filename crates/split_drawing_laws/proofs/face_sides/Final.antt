@@ -1,0 +1,202 @@
+-- From the first conditions of a split to the sides of its loops and faces.
+use Rattle.std.proofs.Common.{◌≡◌, ℕ, Bool, true, false, not, nat_eq, ◌&&◌, ◌||◌, List, [], ◌∷◌, is_some, unwrap_or, refl, sym, ap, ◌∙◌, subst, arith, inl, inr, true≢false}
+use Rattle.std.proofs.lemmas.Bool.Decides.{eqb_tells}
+use Rattle.lattice.specs.declared.Plane.{Plane}
+use Rattle.lattice.specs.Vectors.{is_above, is_below}
+use Rattle.cyclic_list.specs.Items.{IsIn}
+use Rattle.cyclic_list.proofs.Lists.{count-append, tick_same, tick_other, IsIn_or_not}
+use Rattle.boundary_model.specs.Model.{Model, LoopContent, cycle, items_of, content, has_half, tail, loop_of, face_of, solid_of, outer, point_of, faces_of, no_face}
+use Rattle.boundary_model.specs.Sound.{Sound, Has, HasHalf}
+use Rattle.boundary_model.proofs.Models.{in-holds, content_cycle, face_row}
+use Rattle.euler_operators.specs.Conditions.{face_at, lists}
+use Rattle.euler_laws.proofs.shared.Goes.{equal, equals}
+use Rattle.solid_walks.proofs.Rising.{none_counted}
+use Rattle.shapes.specs.Faces.{start, loops_of, vertices_on, vertices_in, corners}
+use Rattle.shapes.specs.split.Sides.{straddles, straddling_faces, reaches_above, reaches_below}
+use Rattle.shapes.specs.split.Crossings.{with_crossings}
+use Rattle.shapes.specs.split.Drawing.{Drawing, faces_drawn, with_drawings}
+use Rattle.split_drawing_laws.specs.crossings.Laws.{CanBegin}
+use Rattle.split_drawing_laws.proofs.crossings.Listed.{listed_in, all_where_has}
+use Rattle.split_drawing_laws.proofs.crossings.Places.{face_facts}
+use Rattle.split_drawing_laws.proofs.crossings.Premises.{faces_not_zero}
+use Rattle.split_drawing_laws.proofs.crossings.Whole.{crossings_keep, crossings_sound, same_solid}
+use Rattle.split_drawing_laws.proofs.pairs.Whole.{can_be_drawn}
+use Rattle.split_drawing_laws.specs.drawings.Laws.{CanBeDrawn}
+use Rattle.split_drawing_laws.proofs.drawings.Stays.{has_face}
+use Rattle.split_drawing_laws.proofs.drawings.Whole.{drawable, drawing_sound}
+use Rattle.split_drawing_laws.specs.loop_sides.Laws.{TakeSides}
+use Rattle.split_drawing_laws.specs.loop_sides.Parted.{LiesOn, Parted}
+use Rattle.split_drawing_laws.proofs.loop_sides.Parting.{loop_on_one_side}
+use Rattle.split_drawing_laws.proofs.loop_sides.SidesWhole.{all_drawn_parted, loops_on_one_side}
+use Rattle.split_drawing_laws.specs.half_sides.HalfSides.{side_of, is_own}
+use Rattle.split_drawing_laws.proofs.half_sides.EndLists.{mapped_from}
+use Rattle.split_drawing_laws.proofs.half_sides.Taking.{take_sides}
+use Rattle.split_drawing_laws.specs.face_sides.Laws.{IsDrawn}
+use Rattle.split_drawing_laws.proofs.face_sides.Begun.{sided_first, pairs_of}
+use Rattle.split_drawing_laws.proofs.face_sides.Beside.{solid_same}
+use Rattle.split_drawing_laws.proofs.face_sides.OneFace.{IsSided}
+use Rattle.split_drawing_laws.proofs.face_sides.Same.{none_from}
+use Rattle.split_drawing_laws.proofs.face_sides.Stages.{Stage, all_done}
+
+cycle_of_items : (c : LoopContent) (zs : List ℕ) → c ≡ cycle zs → c ≡ cycle (items_of c)
+cycle_of_items c zs e = e ∙ ap (λ d. cycle (items_of d)) (sym e)
+
+-- a vertex on loops that aren't lone is the tail of one of their half-edges
+pub record TailIn (D : Model) (v : ℕ) (ls : List ℕ) : Type 0 where
+  pub half : ℕ
+  pub loop : ℕ
+  pub loop_in : IsIn loop ls
+  pub half_in : IsIn half (items_of (content D loop))
+  pub is : v ≡ tail D half
+
+pub tail_in : (D : Model) (v : ℕ) (ls : List ℕ) → ((q : ℕ) → IsIn q ls → content D q ≡ cycle (items_of (content D q))) → IsIn v (vertices_in D ls) → TailIn D v ls
+tail_in D v [] cycles i = absurd (omega (arith, i))
+tail_in D v (l ∷ ls) cycles i = elim (IsIn_or_not v (vertices_on D (content D l))) [
+  | inl j ↦
+      let r = mapped_from (tail D) v (items_of (content D l)) (subst (λ c. IsIn v (vertices_on D c)) (cycles l (omega (arith, tick_same l))) j) in
+      record { half = r.0; loop = l; loop_in = omega (arith, tick_same l); half_in = r.1; is = r.2 }
+  | inr z ↦
+      let r = tail_in D v ls (λ q k. cycles q (omega (arith, k))) (omega (arith, i, z, count-append v (vertices_on D (content D l)) (vertices_in D ls))) in
+      record { half = r.half; loop = r.loop; loop_in = omega (arith, r.loop_in); half_in = r.half_in; is = r.is }
+]
+
+module _ (M : Model) (s : ℕ) (p : Plane) (t : ℕ) (sound : Sound M) (begins : CanBegin M s p t) (ends : (faces_drawn M p (with_crossings M s p) (straddling_faces M p s)).stuck ≡ 0) where
+  abbrev N : Model
+  N = (with_crossings M s p).model
+
+  abbrev fs : List ℕ
+  fs = straddling_faces M p s
+
+  abbrev side : ℕ → Bool
+  side = side_of M s p
+
+  abbrev D : Model
+  D = (faces_drawn M p (with_crossings M s p) (straddling_faces M p s)).model
+
+  N_sound : Sound N
+  N_sound = crossings_sound M s p t sound begins
+
+  can : CanBeDrawn M p (with_crossings M s p) fs
+  can = can_be_drawn M s p t sound begins
+
+  D_sound : Sound D
+  D_sound = drawing_sound M p (with_crossings M s p) fs can
+
+  sides : TakeSides M p (with_crossings M s p) fs side (is_own M s p)
+  sides = take_sides M s p t sound begins
+
+  parted : Parted N D p side (λ h. is_own M s p h ≡ true) []
+  parted = all_drawn_parted M p (with_crossings M s p) fs side (is_own M s p) can sides ends
+
+  -- ---- the faces, from the first one drawn to the last
+
+  straddling_there : (f : ℕ) → IsIn f fs → Has N.faces f
+  straddling_there f i = subst (λ u. Has u f) (sym (crossings_keep M s p t sound begins).faces) (face_facts M s p t sound begins f i).0
+
+  none_done : Stage N N side s fs fs
+  none_done = record {
+    stays = record { halves = λ h there. there; tails = λ h there. refl; vertices = refl; faces = λ g there. there };
+    kept = λ h there z. refl;
+    rows = λ g there. refl;
+    done = sided_first M s p t sound begins;
+    to_do = λ f i. record { there = straddling_there f i; row = refl; loops = λ q there at. refl };
+  }
+
+  abbrev begun : Drawing
+  begun = record { model = N; taken = (with_crossings M s p).taken; left = []; stuck = 0 }
+
+  stage : Stage N D side s fs []
+  stage = all_done M N side s fs p N_sound begun fs 0 (drawable M p (with_crossings M s p) fs can) (λ f i. faces_not_zero M sound s p f i) (λ f i. i) (λ f i. pairs_of M s p t sound begins f i) ends none_done
+
+  -- ---- the half-edges of the solid
+
+  own_before : (h : ℕ) → HasHalf N h → solid_of D (face_at D h) ≡ s → solid_of N (face_at N h) ≡ s
+  own_before h there of_s = go (lists fs (face_at N h)) refl where
+    go : (b : Bool) → lists fs (face_at N h) ≡ b → solid_of N (face_at N h) ≡ s
+    go true e = same_solid M s p t sound begins (face_at N h) ∙ (face_facts M s p t sound begins (face_at N h) (listed_in (face_at N h) fs e)).1
+    go false e = sym (solid_same N D (face_at N h) (stage.rows (face_at N h) (has_face N N_sound h there))) ∙ ap (solid_of D) (sym (stage.kept h there (none_counted (face_at N h) fs e))) ∙ of_s
+
+  is_own_then : (h : ℕ) → solid_of D (face_at D h) ≡ s → is_own M s p h ≡ true
+  unfolding is_own
+  is_own_then h of_s = go (has_half N h) refl where
+    go : (b : Bool) → has_half N h ≡ b → (not (has_half N h) || nat_eq (solid_of N (face_at N h)) s) ≡ true
+    go false e = ap (λ b. not b || nat_eq (solid_of N (face_at N h)) s) e
+    go true e = ap (λ b. not b || nat_eq (solid_of N (face_at N h)) s) e ∙ equals (solid_of N (face_at N h)) s (own_before h e of_s)
+
+  pub loops_are_sided : (x y : ℕ) → HasHalf D x → HasHalf D y → loop_of D x ≡ loop_of D y → solid_of D (face_at D x) ≡ s → (b : Bool) × LiesOn p b (start D x) × LiesOn p b (start D y)
+  loops_are_sided x y xt yt same of_s = loops_on_one_side M p (with_crossings M s p) fs side (is_own M s p) can sides ends x y xt yt same
+      (is_own_then x of_s) (is_own_then y (ap (λ q. solid_of D (face_of D q)) (sym same) ∙ of_s))
+
+  -- ---- the corners of a face of the solid
+
+  module _ (f : ℕ) (there : Has D.faces f) (of_s : solid_of D f ≡ s) where
+    sided : IsSided N D side f
+    sided = stage.done f there of_s refl
+
+    abbrev b : Bool
+    b = sided.0
+
+    loop_facts : (q : ℕ) → IsIn q (loops_of D f) → Has D.loops q × (face_of D q ≡ f)
+    unfolding loops_of
+    loop_facts q i = elim (eqb_tells q (outer D f)) [
+      | inl e ↦ let o = D_sound.outers_there f there in (subst (Has D.loops) (sym e.1) o.0, ap (face_of D) e.1 ∙ o.1)
+      | inr e ↦
+          let w = all_where_has (λ k row. nat_eq row.face f && not (nat_eq (outer D f) k)) D.loops q (omega (arith, i, tick_other q (outer D f) e.1)) in
+          (ap is_some w.1, face_row D q w.0 w.1 ∙ equal w.0.face f (first_of (nat_eq w.0.face f) (not (nat_eq (outer D f) q)) w.2))
+    ] where
+      first_of : (a c : Bool) → (a && c) ≡ true → a ≡ true
+      first_of true c e = refl
+      first_of false c e = absurd (true≢false (sym e))
+
+    loop_cycle : (q : ℕ) → IsIn q (loops_of D f) → content D q ≡ cycle (items_of (content D q))
+    loop_cycle q i =
+        let w = sided.1 q (loop_facts q i).0 (loop_facts q i).1 in
+        cycle_of_items (content D q) _ (ap (content D) (sym w.held.at) ∙ content_cycle D D_sound w.held.half (stage.stays.halves w.held.half w.held.old))
+
+    item_lies : (h q : ℕ) → IsIn q (loops_of D f) → IsIn h (items_of (content D q)) → LiesOn p b (start D h)
+    item_lies h q i j =
+        let w = sided.1 q (loop_facts q i).0 (loop_facts q i).1 in
+        let stands = in-holds h (content D q) j in
+        let h_there : HasHalf D h = D_sound.only_edges h q stands in
+        let at : loop_of D h ≡ q = D_sound.one_loop h q stands in
+        let same : parted.side h ≡ b = loop_on_one_side N D p side (λ x. is_own M s p x ≡ true) D_sound parted h w.held.half h_there (stage.stays.halves w.held.half w.held.old) (at ∙ sym w.held.at)
+        ∙ parted.kept w.held.half w.held.old ∙ w.on in
+        subst (λ c. LiesOn p c (start D h)) same (parted.level h h_there (is_own_then h (ap (λ l. solid_of D (face_of D l)) at ∙ ap (solid_of D) (loop_facts q i).1 ∙ of_s)))
+
+    corner_lies : (v : ℕ) → IsIn v (corners D f) → LiesOn p b (point_of D v)
+    unfolding corners
+    corner_lies v i =
+        let r : TailIn D v (loops_of D f) = tail_in D v (loops_of D f) loop_cycle i in
+        subst (λ u. LiesOn p b (point_of D u)) (sym r.is) (item_lies r.half r.loop r.loop_in r.half_in)
+
+    none_below : ((v : ℕ) → IsIn v (corners D f) → LiesOn p true (point_of D v)) → reaches_below D p f ≡ false
+    none_below lies = none_from (λ v. is_below p (point_of D v)) (corners D f) lies
+
+    none_above : ((v : ℕ) → IsIn v (corners D f) → LiesOn p false (point_of D v)) → reaches_above D p f ≡ false
+    none_above lies = none_from (λ v. is_above p (point_of D v)) (corners D f) lies
+
+    either_none : (c : Bool) → ((v : ℕ) → IsIn v (corners D f) → LiesOn p c (point_of D v)) → straddles D p f ≡ false
+    unfolding straddles
+    either_none true lies = ap (λ a. reaches_above D p f && a) (none_below lies) ∙ nothing (reaches_above D p f) where
+      nothing : (a : Bool) → (a && false) ≡ false
+      nothing true = refl
+      nothing false = refl
+    either_none false lies = ap (λ a. a && reaches_below D p f) (none_above lies)
+
+    pub face_is_sided : straddles D p f ≡ false
+    face_is_sided = either_none b corner_lies
+
+-- ---- the laws
+
+pub loops_lie : (M D : Model) (s : ℕ) (p : Plane) (t : ℕ) → Sound M → CanBegin M s p t → IsDrawn M s p D → (x y : ℕ) → HasHalf D x → HasHalf D y →
+    loop_of D x ≡ loop_of D y → solid_of D (face_at D x) ≡ s → (b : Bool) × LiesOn p b (start D x) × LiesOn p b (start D y)
+unfolding with_drawings
+loops_lie M D s p t sound begins drawn = subst (λ X. (x y : ℕ) → HasHalf X x → HasHalf X y → loop_of X x ≡ loop_of X y → solid_of X (face_at X x) ≡ s → (b : Bool) × LiesOn p b (start X x) × LiesOn p b (start X y))
+    drawn.1 (loops_are_sided M s p t sound begins drawn.0)
+
+pub none_straddles : (M D : Model) (s : ℕ) (p : Plane) (t : ℕ) → Sound M → CanBegin M s p t → IsDrawn M s p D → (f : ℕ) → lists (faces_of D s) f ≡ true → straddles D p f ≡ false
+unfolding with_drawings solid_of
+none_straddles M D s p t sound begins drawn = subst (λ X. (f : ℕ) → lists (faces_of X s) f ≡ true → straddles X p f ≡ false) drawn.1 (λ f i.
+    let X : Model = (faces_drawn M p (with_crossings M s p) (straddling_faces M p s)).model in
+    let w = all_where_has (λ _ row. nat_eq row.solid s) X.faces f (listed_in f (faces_of X s) i) in
+    face_is_sided M s p t sound begins drawn.0 f (ap is_some w.1) (ap (λ o. (unwrap_or o no_face).solid) w.1 ∙ equal w.0.solid s w.2))

@@ -1,0 +1,257 @@
+-- One face drawn: it and the faces that are cut off it each lie on one side.
+use Rattle.std.proofs.Common.{◌≡◌, ◌≢◌, ℕ, suc, ◌+◌, Bool, true, false, cond, nat_eq, nat_lt, ◌&&◌, List, [], ◌∷◌, length, None, is_some, refl, sym, ap, ◌∙◌, subst, arith, inl, inr, true≢false}
+use Rattle.std.proofs.lemmas.Bool.Decides.{nat_tests, eqb_tells}
+use Rattle.lattice.specs.declared.Plane.{Plane}
+use Rattle.boundary_model.specs.Table as table
+use Rattle.boundary_model.specs.Model.{Model, holds, content, loop_of, face_of, outer}
+use Rattle.boundary_model.specs.Sound.{Sound, Has, HasHalf}
+use Rattle.euler_operators.specs.Conditions.{face_at, lists, has_rings}
+use Rattle.euler_laws.proofs.shared.Rows.{no_rings_means}
+use Rattle.shapes.specs.Faces.{vertices_on}
+use Rattle.shapes.specs.split.Sides.{some_above}
+use Rattle.shapes.specs.split.Drawing.{Drawing, face_drawn, stuck_at, all_joined, ring_free, all_drawn, rings_above, with_rings, rings_shared, drawn_between}
+use Rattle.split_drawing_laws.specs.drawings.DrawnIn.{Stays}
+use Rattle.split_drawing_laws.proofs.drawings.Drawn.{CanDraw}
+use Rattle.split_drawing_laws.specs.drawings.Passing.{Ready}
+use Rattle.split_drawing_laws.proofs.drawings.Faces.{face_goes, begun_joining, joins, going}
+use Rattle.split_drawing_laws.proofs.drawings.Pairs.{none_joined, joined_drawn, pair_can, stays_on}
+use Rattle.split_drawing_laws.proofs.drawings.Passes.{join_next_one, draw_next_one, cut_off, edge_fits, face_fits, loop_fits, room_as}
+use Rattle.split_drawing_laws.proofs.drawings.Stays.{not_free, has_loop, same_content, row_else, draw_stays}
+use Rattle.split_drawing_laws.specs.drawings.DrawnIn.{Room}
+use Rattle.split_drawing_laws.proofs.loop_sides.SidesWhole.{draws_stuck}
+use Rattle.split_drawing_laws.proofs.half_sides.PlaceEnds.{AllUp}
+use Rattle.split_drawing_laws.proofs.face_sides.Alone.{Lone, Alone}
+use Rattle.split_drawing_laws.proofs.face_sides.Beside.{Beside, ComesOf, nothing_beside, drawn_beside, never_free, face_same, outer_same, face_else, given_has, given_else, given_face}
+use Rattle.split_drawing_laws.proofs.face_sides.Passing.{AllOld, Joined, joins_beside, Parting, draws_part}
+use Rattle.split_drawing_laws.proofs.face_sides.Same.{above_stays}
+use Rattle.split_drawing_laws.proofs.face_sides.Shared.{HeldOn, LiesOnSide, Cut, old_lies, new_lies}
+
+-- face f and its loops are in X as in B
+pub record Untouched (B X : Model) (f : ℕ) : Type 0 where
+  pub there : Has X.faces f
+  pub row : table.get X.faces f ≡ table.get B.faces f
+  pub loops : (q : ℕ) → Has X.loops q → face_of X q ≡ f → table.get X.loops q ≡ table.get B.loops q
+
+-- face g lies on one side
+abbrev pub IsSided : Model → Model → (ℕ → Bool) → ℕ → Type 0
+IsSided B N side g = (b : Bool) × LiesOnSide B N side g b
+
+-- what is asked of the pairs qs and the rings of face f in B
+pub record PairsOf (B : Model) (side : ℕ → Bool) (p : Plane) (f : ℕ) (qs : List (ℕ × ℕ)) : Type 0 where
+  pub some_pair : qs ≢ []
+  pub old : AllOld B qs
+  pub ups : AllUp side qs
+  pub single : (q : ℕ × ℕ) → qs ≡ q ∷ [] → loop_of B q.0 ≡ outer B f
+  pub rings : (r : ℕ) → Has B.loops r → face_of B r ≡ f → HeldOn B B side r (some_above B p (vertices_on B (content B r)))
+
+-- what is drawn then
+pub record FaceDone (B M N : Model) (side : ℕ → Bool) (f : ℕ) : Type 0 where
+  pub beside : Beside M N f
+  pub sided : (g : ℕ) → Has N.faces g → ComesOf M f g → IsSided B N side g
+
+-- a half-edge of a loop that is as in B stands in the same loop
+module _ (B X : Model) (B_sound : Sound B) (X_sound : Sound X) where
+  pub loop_back : (h : ℕ) → HasHalf X h → table.get X.loops (loop_of X h) ≡ table.get B.loops (loop_of X h) → loop_of B h ≡ loop_of X h
+  loop_back h there same = B_sound.one_loop h (loop_of X h) (ap (holds h) (sym (same_content B X (loop_of X h) same)) ∙ X_sound.stands h there)
+
+  pub loop_on : (h q : ℕ) → HasHalf B h → loop_of B h ≡ q → table.get X.loops q ≡ table.get B.loops q → loop_of X h ≡ q
+  loop_on h q there at same = X_sound.one_loop h q (ap (holds h) (same_content B X q same) ∙ subst (λ r. holds h (content B r) ≡ true) at (B_sound.stands h there))
+
+-- ---- one pair
+
+module _ (B : Model) (side : ℕ → Bool) (p : Plane) (f : ℕ) (q : ℕ × ℕ) (d : Drawing) (n : ℕ) (w : Ready p f (q ∷ []) d n) (B_sound : Sound B) (stays : Stays B d.model) (untouched : Untouched B d.model f) (pairs : PairsOf B side p f (q ∷ [])) where
+  abbrev X : Model
+  X = d.model
+
+  abbrev e : ℕ
+  e = d.taken.edge + 1
+
+  abbrev g : ℕ
+  g = d.taken.face + 1
+
+  abbrev l : ℕ
+  l = d.taken.loop + 1
+
+  abbrev K : Model
+  K = face_drawn X q.0 q.1 e g l
+
+  abbrev held : Drawing
+  held = record d { left = q ∷ [] }
+
+  drawn_is : all_drawn f (ring_free f (q ∷ []) (all_joined (q ∷ []) d)) ≡ cut_off held q
+  drawn_is = ap (λ x. all_drawn f (ring_free f (q ∷ []) x)) (join_next_one (record d { left = [] }) q w.alone) ∙ draw_next_one f held q w.alone
+
+  shared_is : (drawn_between p f (q ∷ []) d).model ≡ with_rings K (rings_above K p f) g
+  shared_is = ap (λ x. (rings_shared p f (q ∷ []) x).model) drawn_is
+
+  room_one : Room d.taken (suc n)
+  room_one = room_as d.taken (length (q ∷ []) + n) (suc n) (omega arith) w.room
+
+  g_free : table.get X.faces g ≡ None
+  g_free = w.fresh.faces g (omega arith)
+
+  can : CanDraw X q.0 q.1 e g l
+  can = pair_can X X f q e g l w.sound (joined_drawn X X f (none_joined X f w.sound)) w.fit.0 w.alone (w.fresh.edges e (omega arith)) g_free (w.fresh.loops l (omega arith))
+      (edge_fits d.taken n room_one) (face_fits d.taken n room_one) (loop_fits d.taken n room_one)
+
+  u_row : table.get X.loops (loop_of X q.0) ≡ table.get B.loops (loop_of X q.0)
+  u_row = untouched.loops (loop_of X q.0) (has_loop X w.sound q.0 w.fit.0.u_there) w.fit.0.u_face
+
+  outer_is : outer X f ≡ loop_of X q.0
+  outer_is = outer_same B X f untouched.row ∙ sym (pairs.single q refl) ∙ loop_back B X B_sound w.sound q.0 w.fit.0.u_there u_row
+
+  K_stays : Stays X K
+  K_stays = draw_stays X q.0 q.1 e g l can
+
+  ring_then : (r : ℕ) → Has X.loops r → face_of X r ≡ f → r ≢ outer X f → HeldOn B X side r (some_above K p (vertices_on K (content K r)))
+  ring_then r there face inner =
+      let row : table.get X.loops r ≡ table.get B.loops r = untouched.loops r there face in
+      let was = pairs.rings r (ap is_some (sym row) ∙ there) (sym (face_same B X r row) ∙ face) in
+      let same : content K r ≡ content B r = same_content X K r (row_else X q.0 q.1 e g l can r (λ s. inner (s ∙ sym outer_is)) (not_free X.loops r l there can.loop_free)) ∙ same_content B X r row in
+      record {
+        held = record { half = was.held.half; old = was.held.old; at = loop_on B X B_sound w.sound was.held.half r was.held.old was.held.at row };
+        on = was.on ∙ sym (above_stays B K (stays_on B X K stays K_stays) p r B_sound same);
+      }
+
+  cut : Cut B X side p f q.0 q.1 e g l
+  cut = record {
+    can = can;
+    stays = stays;
+    u_old = pairs.old.0.0;
+    k_old = pairs.old.0.1;
+    u_face = w.fit.0.u_face;
+    f_there = untouched.there;
+    u_outer = outer_is;
+    u_side = pairs.ups.0.0;
+    k_side = pairs.ups.0.1;
+    rings = ring_then;
+  }
+
+  abbrev W : Model
+  W = with_rings K (rings_above K p f) g
+
+  W_sound : Sound W
+  W_sound = subst Sound shared_is (face_goes p f (q ∷ []) d n w).drawn.sound
+
+  K_beside : Beside X K f
+  K_beside = drawn_beside X q.0 q.1 e g l can X f (inl w.fit.0.u_face) g_free (nothing_beside X f)
+
+  W_beside : Beside X W f
+  W_beside = record {
+    faces = K_beside.faces;
+    loops = λ r there ne old. go r there ne old (lists (rings_above K p f) r) refl;
+  } where
+    go : (r : ℕ) → Has W.loops r → face_of W r ≢ f → Has X.faces (face_of W r) → (b : Bool) → lists (rings_above K p f) r ≡ b → table.get W.loops r ≡ table.get X.loops r
+    go r there ne old true i = absurd (never_free X.faces (face_of W r) old (ap (table.get X.faces) (given_face K (rings_above K p f) g r i (sym (given_has K (rings_above K p f) g r) ∙ there)) ∙ g_free))
+    go r there ne old false i =
+        let row : table.get W.loops r ≡ table.get K.loops r = given_else K (rings_above K p f) g r i in
+        let face : face_of W r ≡ face_of K r = face_same K W r row in
+        row ∙ K_beside.loops r (ap is_some (sym row) ∙ there) (λ s. ne (face ∙ s)) (subst (Has X.faces) face old)
+
+  W_sided : (h : ℕ) → Has W.faces h → ComesOf X f h → IsSided B W side h
+  W_sided h there drawn = elim drawn [
+    | inl a ↦ (false, subst (λ z. LiesOnSide B W side z false) (sym a) (old_lies B X side p f q.0 q.1 e g l cut K_stays W_sound))
+    | inr none ↦ elim (eqb_tells h g) [
+      | inl a ↦ (true, subst (λ z. LiesOnSide B W side z true) (sym a.1) (new_lies B X side p f q.0 q.1 e g l cut K_stays W_sound))
+      | inr a ↦ absurd (never_free K.faces h there (face_else X q.0 q.1 e g l can h a.1 ∙ none))
+    ]
+  ]
+
+  pub single_done : FaceDone B d.model (drawn_between p f (q ∷ []) d).model side f
+  single_done = subst (λ Y. FaceDone B X Y side f) (sym shared_is) (record { beside = W_beside; sided = W_sided })
+
+-- ---- more pairs
+
+module _ (B : Model) (side : ℕ → Bool) (p : Plane) (f : ℕ) (q r : ℕ × ℕ) (qs : List (ℕ × ℕ)) (d : Drawing) (n : ℕ) (w : Ready p f (q ∷ r ∷ qs) d n) (stays : Stays B d.model) (old : AllOld B (q ∷ r ∷ qs))
+    (some : f ≢ 0) (free : (drawn_between p f (q ∷ r ∷ qs) d).stuck ≡ 0) where
+  abbrev ps : List (ℕ × ℕ)
+  ps = q ∷ r ∷ qs
+
+  abbrev J : Drawing
+  J = all_joined ps d
+
+  abbrev stops : Bool
+  stops = nat_lt 1 (length ps) && has_rings J.model f
+
+  abbrev D : Drawing
+  D = all_drawn f J
+
+  not_one : nat_eq (length ps) 1 ≡ false
+  not_one = grind (arith, nat_tests)
+
+  more : nat_lt 1 (length ps) ≡ true
+  more = grind (arith, nat_tests)
+
+  unshared : drawn_between p f ps d ≡ all_drawn f (ring_free f ps J)
+  unshared = ap (λ b. cond b (record (all_drawn f (ring_free f ps J)) { model = with_rings (all_drawn f (ring_free f ps J)).model (rings_above (all_drawn f (ring_free f ps J)).model p f) (all_drawn f (ring_free f ps J)).taken.face }) (all_drawn f (ring_free f ps J))) not_one
+
+  not_stopped : stops ≡ false
+  not_stopped = go stops refl where
+    stuck : (stuck_at f J).stuck ≢ 0
+    stuck e = elim (eqb_tells J.stuck 0) [
+      | inl s ↦ some (sym (ap (λ b. cond b f J.stuck) s.0) ∙ e)
+      | inr s ↦ s.1 (sym (ap (λ b. cond b f J.stuck) s.0) ∙ e)
+    ]
+
+    go : (b : Bool) → stops ≡ b → stops ≡ false
+    go false e = e
+    go true e = absurd (draws_stuck f (stuck_at f J) J.left stuck
+        (sym (ap (λ b. (all_drawn f (cond b (stuck_at f J) J)).stuck) e) ∙ ap (λ x. x.stuck) (sym unshared) ∙ free))
+
+  no_rings : has_rings J.model f ≡ false
+  no_rings = second_of (nat_lt 1 (length ps)) (has_rings J.model f) more not_stopped where
+    second_of : (a b : Bool) → a ≡ true → (a && b) ≡ false → b ≡ false
+    second_of true b t e = e
+    second_of false b t e = absurd (true≢false (sym t))
+
+  many_is : drawn_between p f ps d ≡ D
+  many_is = unshared ∙ ap (λ b. all_drawn f (cond b (stuck_at f J) J)) not_stopped
+
+  joined : Joined B d.model f J
+  joined = joins_beside B d.model f (record d { left = [] }) ps n w.fit old (begun_joining p f ps d n w) (record { beside = nothing_beside d.model f; faces = refl; old = tt })
+
+  state_sound : Sound J.model
+  state_sound = (joins p f ps d n w).state.joined.sound
+
+  q_there : HasHalf J.model q.0
+  q_there = (joins p f ps d n w).state.joined.stays.halves q.0 w.fit.0.u_there
+
+  q_face : face_at J.model q.0 ≡ f
+  q_face = (joins p f ps d n w).state.joined.faces q.0 w.fit.0.u_there ∙ w.fit.0.u_face
+
+  q_outer : outer J.model f ≡ loop_of J.model q.0
+  q_outer = no_rings_means J.model f no_rings (loop_of J.model q.0) (has_loop J.model state_sound q.0 q_there) q_face
+
+  begun_alone : Alone B d.model J.model f
+  begun_alone z there drawn = elim drawn [
+    | inl a ↦
+        let is : outer J.model f ≡ z = no_rings_means J.model f no_rings z there a in
+        record { outer_is = ap (outer J.model) a ∙ is; held = record { half = q.0; old = old.0.0; at = sym q_outer ∙ is } }
+    | inr none ↦ absurd (never_free J.model.faces (face_of J.model z) (state_sound.loops_of_faces z there) (ap (λ t. table.get t (face_of J.model z)) joined.faces ∙ none))
+  ]
+
+  parting : Parting B d.model f w.sound D
+  parting = draws_part B d.model f w.sound J J.left n (joins p f ps d n w).state.pairs joined.old (going p f ps d n w)
+      (record { beside = joined.beside; stays = stays_on B d.model J.model stays (joins p f ps d n w).state.joined.stays; alone = begun_alone })
+
+  D_sound : Sound D.model
+  D_sound = subst (λ x. Sound x.model) many_is (face_goes p f ps d n w).drawn.sound
+
+  D_sided : (h : ℕ) → Has D.model.faces h → ComesOf d.model f h → IsSided B D.model side h
+  D_sided h there drawn =
+      let o = D_sound.outers_there h there in
+      let a : Lone B D.model (outer D.model h) = parting.alone (outer D.model h) o.0 (subst (ComesOf d.model f) (sym o.1) drawn) in (
+        side a.held.half,
+        λ z z_there face.
+            let b : Lone B D.model z = parting.alone z z_there (subst (ComesOf d.model f) (sym face) drawn) in
+            subst (λ y. HeldOn B D.model side y (side a.held.half)) (sym (ap (outer D.model) face) ∙ b.outer_is) (record { held = a.held; on = refl }),
+      )
+
+  pub many_done : FaceDone B d.model (drawn_between p f (q ∷ r ∷ qs) d).model side f
+  many_done = subst (λ x. FaceDone B d.model x.model side f) (sym many_is) (record { beside = parting.beside; sided = D_sided })
+
+pub face_done : (B : Model) (side : ℕ → Bool) (p : Plane) (f : ℕ) (qs : List (ℕ × ℕ)) (d : Drawing) (n : ℕ) → Ready p f qs d n → Sound B → Stays B d.model → Untouched B d.model f → PairsOf B side p f qs → f ≢ 0 →
+    (drawn_between p f qs d).stuck ≡ 0 → FaceDone B d.model (drawn_between p f qs d).model side f
+face_done B side p f [] d n w sound stays untouched pairs some free = absurd (pairs.some_pair refl)
+face_done B side p f (q ∷ []) d n w sound stays untouched pairs some free = single_done B side p f q d n w sound stays untouched pairs
+face_done B side p f (q ∷ r ∷ qs) d n w sound stays untouched pairs some free = many_done B side p f q r qs d n w stays pairs.old some free

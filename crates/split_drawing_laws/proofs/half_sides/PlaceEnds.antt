@@ -1,0 +1,229 @@
+-- The half-edges that start at the cut places of faces that straddle: on the plane, each once, and on the side to which the loop goes there.
+use Rattle.std.specs.Prelude.{map}
+use Rattle.std.specs.List.{list_all}
+use Rattle.std.proofs.Common.{◌≡◌, ◌≢◌, ℕ, Bool, true, false, cond, not, ◌&&◌, ◌||◌, pos, List, [], ◌∷◌, refl, sym, ap, ◌∙◌, subst, arith, inl, inr, true≢false}
+use Rattle.std.proofs.lemmas.Bool.Decides.{eqb_tells}
+use Rattle.lattice.specs.declared.Plane.{Plane}
+use Rattle.lattice.specs.Vectors.{height, is_above, is_on, cut_between}
+use Rattle.cyclic_list.specs.Items.{count, tick, IsIn, IsApart}
+use Rattle.cyclic_list.proofs.Lists.{tick_same}
+use Rattle.boundary_model.specs.HalfEdge.{edge_of, plus}
+use Rattle.boundary_model.specs.Table as table
+use Rattle.boundary_model.specs.Model.{Model, loop_of, face_of, solid_of, after}
+use Rattle.boundary_model.specs.Sound.{Sound, Has, HasHalf}
+use Rattle.boundary_model.proofs.Halves.{plus_row}
+use Rattle.euler_operators.specs.Conditions.{face_at, differ}
+use Rattle.euler_laws.proofs.shared.Arcs.{halves_of_edge}
+use Rattle.euler_laws.proofs.shared.Fans.{back_of}
+use Rattle.euler_laws.proofs.shared.Undo.{mate_plus}
+use Rattle.solid_walks.proofs.FaceLoops.{items_counted, loops_of_apart}
+use Rattle.solid_walks.proofs.Rising.{in_listed}
+use Rattle.shapes.specs.Faces.{start, finish, loops_of, boundary}
+use Rattle.shapes.specs.split.Sides.{crosses, reaches_above, straddling_faces, crossing_edges}
+use Rattle.shapes.specs.split.Places.{is_place, place_point, places, goes_up, some_meet, is_crossed, is_up_and_down, in_pairs, sorted, sorted_pairs, place_pairs}
+use Rattle.shapes.specs.split.Crossings.{with_crossings}
+use Rattle.shapes.specs.split.Drawing.{from_place, drawn_pairs}
+use Rattle.split_drawing_laws.specs.crossings.AtPlace.{AtPlace}
+use Rattle.split_drawing_laws.specs.crossings.Laws.{CanBegin}
+use Rattle.split_drawing_laws.proofs.crossings.Listed.{picked_count, picked_passes}
+use Rattle.split_drawing_laws.proofs.crossings.Places.{at_place, item_there, item_face, face_facts, turned, in_crossing, on_when}
+use Rattle.split_drawing_laws.proofs.crossings.Premises.{Cuttable, edge_facts, crossing_here, crossing_point, one_point}
+use Rattle.split_drawing_laws.proofs.crossings.Whole.{can_cut, crossings_keep, crossings_sound}
+use Rattle.split_drawing_laws.proofs.pairs.Fitting.{between, drawn}
+use Rattle.split_drawing_laws.proofs.pairs.LoopPlaces.{places_even}
+use Rattle.split_drawing_laws.proofs.pairs.Meetings.{points_apart}
+use Rattle.split_drawing_laws.proofs.pairs.Members.{all_places_drawn}
+use Rattle.split_drawing_laws.proofs.pairs.Sorted.{count-sorted, sorted_apart}
+use Rattle.split_drawing_laws.specs.loop_sides.Parted.{Crosses, AllCross, ends}
+use Rattle.split_drawing_laws.specs.half_sides.HalfSides.{half_is_above, side_of}
+use Rattle.split_drawing_laws.proofs.half_sides.EndLists.{mapped_in, mapped_from, mapped_apart, ends_are}
+use Rattle.split_drawing_laws.proofs.half_sides.Heights.{side_ahead, level}
+use Rattle.split_drawing_laws.proofs.half_sides.Starts.{TurnAt, turn_at}
+
+-- of each pair the first is above and the second below
+abbrev pub AllUp : (ℕ → Bool) → List (ℕ × ℕ) → Type 0
+AllUp side [] = Unit {0}
+AllUp side (q ∷ qs) = ((side q.0 ≡ true) × (side q.1 ≡ false)) × AllUp side qs
+
+module _ (M : Model) (s : ℕ) (p : Plane) (t : ℕ) (sound : Sound M) (begins : CanBegin M s p t) where
+  abbrev N : Model
+  N = (with_crossings M s p).model
+
+  abbrev fs : List ℕ
+  fs = straddling_faces M p s
+
+  -- in a face that straddles the side of a half-edge is its own
+  pub side_within : (h : ℕ) → IsIn (face_at N h) fs → side_of M s p h ≡ half_is_above N p h
+  unfolding side_of
+  side_within h i = ap (λ b. cond b (half_is_above N p h) (reaches_above M p (face_at N h))) (in_listed (face_at N h) fs i)
+
+  module _ (f : ℕ) (i : IsIn f (straddling_faces M p s)) where
+    at : (h : ℕ) → IsIn h (places M p f) → AtPlace M N p h
+    at h j = at_place M s p t sound begins f h (in_listed f fs i) (in_listed h (places M p f) j)
+
+    in_face : (h : ℕ) → IsIn h (places M p f) → IsIn h (boundary M f)
+    unfolding places
+    in_face h j = omega (arith, j, picked_count (is_place M p) h (boundary M f))
+
+    place_passes : (h : ℕ) → IsIn h (places M p f) → is_place M p h ≡ true
+    unfolding places
+    place_passes h j = picked_passes (is_place M p) h (boundary M f) j
+
+    face_there : Has M.faces f
+    face_there = (face_facts M s p t sound begins f i).0
+
+    half_there : (h : ℕ) → IsIn h (places M p f) → HasHalf M h
+    half_there h j = item_there M sound f face_there h (in_face h j)
+
+    half_face : (h : ℕ) → IsIn h (places M p f) → face_at M h ≡ f
+    half_face h j = item_face M sound f face_there h (in_face h j)
+
+    pub place_face : (h : ℕ) → IsIn h (places M p f) → face_at N (from_place N p h) ≡ f
+    place_face h j = ap (face_of N) (at h j).loop ∙ (crossings_keep M s p t sound begins).face (loop_of M h) ∙ half_face h j
+
+    pub place_there : (h : ℕ) → IsIn h (places M p f) → HasHalf N (from_place N p h)
+    place_there h j = (at h j).there
+
+    -- no two places lead to one half-edge
+    pub place_once : (a b : ℕ) → IsIn a (places M p f) → IsIn b (places M p f) → from_place N p a ≡ from_place N p b → a ≡ b
+    place_once a b j k e = elim (eqb_tells a b) [
+      | inl same ↦ same.1
+      | inr other ↦ absurd (points_apart M p f ((can_cut M s p t sound begins).uncrossed f i) a b j k other.1 (sym (at a j).starts ∙ ap (start N) e ∙ (at b k).starts))
+    ]
+
+    edge_in : (h : ℕ) → IsIn h (places M p f) → crosses M p h ≡ true → IsIn (edge_of h) (crossing_edges M p s)
+    edge_in h j c =
+        let there : Has M.edges (edge_of h) = half_there h j in
+        let of_s : solid_of M (face_at M h) ≡ s = ap (solid_of M) (half_face h j) ∙ (face_facts M s p t sound begins f i).1 in
+        elim (halves_of_edge h) [
+          | inl e ↦ in_crossing M s p t sound begins (edge_of h) there (ap (λ x. solid_of M (face_at M x)) (sym e.0) ∙ of_s) (ap (crosses M p) (sym e.0) ∙ c)
+          | inr e ↦ in_crossing M s p t sound begins (edge_of h) there
+              (sound.one_solid (plus (edge_of h)) (ap (table.has M.edges) (plus_row (edge_of h)).0 ∙ there) ∙ ap (λ x. solid_of M (face_at M x)) (mate_plus (edge_of h) ∙ sym e.0) ∙ of_s)
+              (turned M s p t sound begins (edge_of h) true (ap (crosses M p) (sym e.0) ∙ c))
+        ]
+
+    -- the point of a place inside an edge
+    cut_level : (h : ℕ) → IsIn (edge_of h) (crossing_edges M p s) → height p (place_point M p h) ≡ pos 0
+    cut_level h k =
+        let c : Cuttable M s p = can_cut M s p t sound begins in
+        let first : height p (place_point M p (plus (edge_of h))) ≡ pos 0 =
+        ap (height p) (crossing_point M sound s p c (edge_of h) k (plus (edge_of h)) (edge_facts M sound s p (edge_of h) k).2) ∙ (crossing_here M sound s p c (edge_of h) k).level in
+        elim (halves_of_edge h) [
+          | inl e ↦ ap (λ x. height p (place_point M p x)) e.0 ∙ first
+          | inr e ↦ ap (λ x. height p (place_point M p x)) e.0 ∙ ap (height p) (sym (one_point M sound s p c (edge_of h) k)) ∙ first
+        ]
+
+    point_on : (h : ℕ) → IsIn h (places M p f) → is_on p (place_point M p h) ≡ true
+    unfolding place_point
+    point_on h j = go (crosses M p h) refl where
+      go : (b : Bool) → crosses M p h ≡ b → is_on p (place_point M p h) ≡ true
+      go true c = level (height p (place_point M p h)) (cut_level h (edge_in h j c))
+      go false c =
+          let on : is_on p (start M h) ≡ true = on_when M s p t sound begins h (place_passes h j) c in
+          ap (is_on p) (ap (λ b. cond b (start M h) (cut_between p (start M h) (finish M h))) on) ∙ on
+
+    pub place_on : (h : ℕ) → IsIn h (places M p f) → is_on p (start N (from_place N p h)) ≡ true
+    place_on h j = ap (is_on p) (at h j).starts ∙ point_on h j
+
+    -- from there one goes where the loop went from the place
+    finish_is : (h : ℕ) → IsIn h (places M p f) → finish N (from_place N p h) ≡ finish M h
+    finish_is h j =
+        let b = back_of N (crossings_sound M s p t sound begins) (from_place N p h) (place_there h j) in
+        let face : face_at N (after N b.0) ≡ f = ap (face_at N) b.2 ∙ place_face h j in
+        let w : TurnAt M N p b.0 = turn_at M s p t sound begins b.0 b.1 (ap (λ z. is_on p (start N z)) b.2 ∙ place_on h j) (subst (λ z. IsIn z fs) (sym face) i) in
+        let same : w.place ≡ h = place_once w.place h (subst (λ z. IsIn w.place (places M p z)) face w.of_face) j (w.is ∙ b.2) in
+        ap (finish N) (sym b.2) ∙ w.ends ∙ ap (finish M) same
+
+    pub side_at : (h : ℕ) → IsIn h (places M p f) → side_of M s p (from_place N p h) ≡ goes_up M p h
+    side_at h j = side_within (from_place N p h) (subst (λ z. IsIn z fs) (sym (place_face h j)) i)
+        ∙ side_ahead (height p (start N (from_place N p h))) (height p (finish N (from_place N p h))) (place_on h j)
+        ∙ ap (is_above p) (finish_is h j)
+
+    -- ---- pairs of places, one up and one down
+
+    two_cross : (a b : ℕ) → IsIn a (places M p f) → IsIn b (places M p f) → a ≢ b → goes_up M p a ≡ not (goes_up M p b) → Crosses N p (side_of M s p) (between M N p (a, b))
+    two_cross a b j k ne turned_up = record {
+      u_there = place_there a j;
+      k_there = place_there b k;
+      apart = λ e. ne (place_once a b j k e);
+      u_on = place_on a j;
+      k_on = place_on b k;
+      sides = side_at a j ∙ turned_up ∙ ap not (sym (side_at b k));
+    }
+
+    either_cross : (c : Bool) (a b : ℕ) → Crosses N p (side_of M s p) (between M N p (a, b)) → Crosses N p (side_of M s p) (between M N p (b, a)) → Crosses N p (side_of M s p) (between M N p (cond c (a, b) (b, a)))
+    either_cross true a b x y = x
+    either_cross false a b x y = y
+
+    differing : (a b : Bool) → differ a b ≡ true → (a ≡ not b) × (b ≡ not a)
+    differing true true e = absurd (true≢false (sym e))
+    differing true false e = (refl, refl)
+    differing false true e = (refl, refl)
+    differing false false e = absurd (true≢false (sym e))
+
+    both : (a b : Bool) → (a && b) ≡ true → (a ≡ true) × (b ≡ true)
+    both true b e = (refl, e)
+    both false b e = absurd (true≢false (sym e))
+
+    all_cross : (hs : List ℕ) → ((x : ℕ) → IsIn x hs → IsIn x (places M p f)) → IsApart hs → list_all (is_up_and_down M p) (in_pairs hs) ≡ true → AllCross N p (side_of M s p) (drawn M N p hs)
+    all_cross [] within apart e = tt
+    all_cross (h ∷ []) within apart e = tt
+    all_cross (h ∷ k ∷ ks) within apart e =
+        let j : IsIn h (places M p f) = within h (omega (arith, tick_same h)) in
+        let l : IsIn k (places M p f) = within k (omega (arith, tick_same k)) in
+        let ne : h ≢ k = λ z. omega (arith, apart h, tick_same h, ap (tick h) z) in
+        let b = both (is_up_and_down M p (h, k)) (list_all (is_up_and_down M p) (in_pairs ks)) e in
+        let d = differing (goes_up M p h) (goes_up M p k) b.0 in (
+          either_cross (goes_up M p h) h k (two_cross h k j l ne d.0) (two_cross k h l j (λ z. ne (sym z)) d.1),
+          all_cross ks (λ x i. within x (omega (arith, i))) (λ x. omega (arith, apart x)) b.1,
+        )
+
+    places_apart : IsApart (places M p f)
+    unfolding places boundary
+    places_apart x = omega (arith, picked_count (is_place M p) x (boundary M f), items_counted M sound (loops_of M f) x, loops_of_apart M sound f (loop_of M x))
+
+    all_up_and_down : list_all (is_up_and_down M p) (sorted_pairs M p f) ≡ true
+    unfolding is_crossed
+    all_up_and_down = second_of (some_meet M p (places M p f)) (list_all (is_up_and_down M p) (sorted_pairs M p f)) ((can_cut M s p t sound begins).uncrossed f i) where
+      second_of : (a b : Bool) → (a || not b) ≡ false → b ≡ true
+      second_of true b e = absurd (true≢false e)
+      second_of false true e = refl
+      second_of false false e = absurd (true≢false e)
+
+    pub pairs_cross : AllCross N p (side_of M s p) (drawn_pairs M N p f)
+    unfolding drawn_pairs place_pairs sorted_pairs
+    pairs_cross = all_cross (sorted M p (places M p f)) (λ x j. omega (arith, j, count-sorted M p x (places M p f))) (sorted_apart M p (places M p f) places_apart) all_up_and_down
+
+    -- ---- the up place stands first
+
+    either_up : (c : Bool) (a b : ℕ) → IsIn a (places M p f) → IsIn b (places M p f) → goes_up M p a ≡ c → goes_up M p b ≡ not c →
+        (side_of M s p (between M N p (cond c (a, b) (b, a))).0 ≡ true) × (side_of M s p (between M N p (cond c (a, b) (b, a))).1 ≡ false)
+    either_up true a b j k x y = (side_at a j ∙ x, side_at b k ∙ y)
+    either_up false a b j k x y = (side_at b k ∙ y, side_at a j ∙ x)
+
+    all_up : (hs : List ℕ) → ((x : ℕ) → IsIn x hs → IsIn x (places M p f)) → list_all (is_up_and_down M p) (in_pairs hs) ≡ true → AllUp (side_of M s p) (drawn M N p hs)
+    all_up [] within e = tt
+    all_up (h ∷ []) within e = tt
+    all_up (h ∷ k ∷ ks) within e =
+        let b = both (is_up_and_down M p (h, k)) (list_all (is_up_and_down M p) (in_pairs ks)) e in (
+          either_up (goes_up M p h) h k (within h (omega (arith, tick_same h))) (within k (omega (arith, tick_same k))) refl (differing (goes_up M p h) (goes_up M p k) b.0).1,
+          all_up ks (λ x i. within x (omega (arith, i))) b.1,
+        )
+
+    pub pairs_up : AllUp (side_of M s p) (drawn_pairs M N p f)
+    unfolding drawn_pairs place_pairs sorted_pairs
+    pairs_up = all_up (sorted M p (places M p f)) (λ x j. omega (arith, j, count-sorted M p x (places M p f))) all_up_and_down
+
+    -- ---- the half-edges of the pairs
+
+    counted : (y : ℕ) → count y (ends (drawn_pairs M N p f)) ≡ count y (map (from_place N p) (places M p f))
+    counted y = ap (count y) (ends_are (drawn_pairs M N p f)) ∙ all_places_drawn M N p y f (places_even M sound p f ((can_cut M s p t sound begins).untouched f i))
+
+    pub place_in_ends : (h : ℕ) → IsIn h (places M p f) → IsIn (from_place N p h) (ends (drawn_pairs M N p f))
+    place_in_ends h j = omega (arith, mapped_in (from_place N p) h (places M p f) j, counted (from_place N p h))
+
+    pub place_of_end : (y : ℕ) → IsIn y (ends (drawn_pairs M N p f)) → (h : ℕ) × IsIn h (places M p f) × (y ≡ from_place N p h)
+    place_of_end y j = mapped_from (from_place N p) y (places M p f) (omega (arith, j, counted y))
+
+    pub ends_once : IsApart (ends (drawn_pairs M N p f))
+    ends_once y = omega (arith, counted y, mapped_apart (from_place N p) (places M p f) places_apart place_once y)

@@ -1,0 +1,167 @@
+-- What follows what once an edge stands between c and d; and sides that change at open places only.
+use Rattle.std.proofs.Common.{◌≡◌, ◌≢◌, ℕ, ◌+◌, Bool, true, false, cond, not, List, refl, sym, ap, ◌∙◌, subst, arith, eq-eqb, ne_eqb, ◌⊎◌, inl, inr}
+use Rattle.std.specs.Prelude.{◌==◌}
+use Rattle.std.proofs.lemmas.Bool.Decides.{eqb_tells}
+use Rattle.cyclic_list.specs.Items.{count, tick, IsIn, IsApart}
+use Rattle.cyclic_list.specs.Edits.{redirect, led_over}
+use Rattle.cyclic_list.specs.Operators.{after_mev, after_mef}
+use Rattle.split_drawing_laws.specs.loop_sides.Parted.{Sided}
+use Rattle.cyclic_list.proofs.Cuts.{splice_at, splice_at_other, splice_elsewhere}
+use Rattle.cyclic_list.proofs.Lists.{tick_same, tick_other}
+
+-- ---- what follows what
+
+module _ (next : ℕ → ℕ) (h m c d : ℕ) (hm : h ≢ m) (cd : c ≢ d) (hd : h ≢ d) where
+  led_first : led_over next c h h ≡ c
+  led_first = ap (λ b. cond b c (redirect next c h h)) (eq-eqb h h refl)
+
+  pub follows_h : after_mef next h m c d h ≡ d
+  follows_h = splice_at (after_mev next h m c d) h m ∙ ap (λ b. cond b d (redirect (led_over next c h) d m m)) (eq-eqb m m refl)
+
+  pub follows_m : after_mef next h m c d m ≡ c
+  follows_m = splice_at_other (after_mev next h m c d) h m
+      ∙ ap (λ b. cond b d (redirect (led_over next c h) d m h)) (ne_eqb h m hm)
+      ∙ ap (λ y. cond (y == d) m y) led_first
+      ∙ ap (λ b. cond b m c) (ne_eqb c d cd)
+
+  module _ (x : ℕ) (xh : x ≢ h) (xm : x ≢ m) where
+    outer_step : after_mef next h m c d x ≡ redirect (led_over next c h) d m x
+    outer_step = splice_elsewhere (after_mev next h m c d) h m x xh xm ∙ ap (λ b. cond b d (redirect (led_over next c h) d m x)) (ne_eqb x m xm)
+
+    inner_step : led_over next c h x ≡ cond (next x == c) h (next x)
+    inner_step = ap (λ b. cond b c (redirect next c h x)) (ne_eqb x h xh)
+
+    pub follows_at_c : next x ≡ c → after_mef next h m c d x ≡ h
+    follows_at_c e = outer_step
+        ∙ ap (λ y. cond (y == d) m y) (inner_step ∙ ap (λ b. cond b h (next x)) (eq-eqb (next x) c e))
+        ∙ ap (λ b. cond b m h) (ne_eqb h d hd)
+
+    pub follows_at_d : next x ≡ d → after_mef next h m c d x ≡ m
+    follows_at_d e = outer_step
+        ∙ ap (λ y. cond (y == d) m y) (inner_step ∙ ap (λ b. cond b h (next x)) (ne_eqb (next x) c (λ s. cd (sym s ∙ e))))
+        ∙ ap (λ b. cond b m (next x)) (eq-eqb (next x) d e)
+
+    pub follows_else : next x ≢ c → next x ≢ d → after_mef next h m c d x ≡ next x
+    follows_else a b = outer_step
+        ∙ ap (λ y. cond (y == d) m y) (inner_step ∙ ap (λ b. cond b h (next x)) (ne_eqb (next x) c a))
+        ∙ ap (λ b. cond b m (next x)) (ne_eqb (next x) d b)
+
+-- ---- sides
+
+-- the new half-edges take the sides on which they go on
+abbrev pub with_sides : ℕ → ℕ → ℕ → ℕ → (ℕ → Bool) → ℕ → Bool
+with_sides h m c d side x = cond (x == h) (side d) (cond (x == m) (side c) (side x))
+
+pub side_h : (h m c d : ℕ) (side : ℕ → Bool) → with_sides h m c d side h ≡ side d
+side_h h m c d side = ap (λ b. cond b (side d) (cond (h == m) (side c) (side h))) (eq-eqb h h refl)
+
+pub side_m : (h m c d : ℕ) (side : ℕ → Bool) → h ≢ m → with_sides h m c d side m ≡ side c
+side_m h m c d side hm = ap (λ b. cond b (side d) (cond (m == m) (side c) (side m))) (ne_eqb m h (λ s. hm (sym s))) ∙ ap (λ b. cond b (side c) (side m)) (eq-eqb m m refl)
+
+pub side_old : (h m c d : ℕ) (side : ℕ → Bool) (x : ℕ) → x ≢ h → x ≢ m → with_sides h m c d side x ≡ side x
+side_old h m c d side x a b = ap (λ t. cond t (side d) (cond (x == m) (side c) (side x))) (ne_eqb x h a) ∙ ap (λ t. cond t (side c) (side x)) (ne_eqb x m b)
+
+not_not : (a b c : Bool) → a ≡ not b → c ≡ not a → b ≡ c
+not_not a true c e f = sym (f ∙ ap not e)
+not_not a false c e f = sym (f ∙ ap not e)
+
+same_not : (a b c : Bool) → c ≡ not a → c ≡ not b → a ≡ b
+same_not true true c e f = refl
+same_not true false c e f = sym f ∙ e
+same_not false true c e f = sym f ∙ e
+same_not false false c e f = refl
+
+-- what is asked of the old items, and of the two open places c and d, on different sides
+pub record Closing (Old : ℕ → Type 0) (next : ℕ → ℕ) (side : ℕ → Bool) (h m c d : ℕ) (before then_open : List ℕ) : Type 0 where
+  pub hm : h ≢ m
+  pub cd : c ≢ d
+  pub fresh : (x : ℕ) → Old x → (x ≢ h) × (x ≢ m)
+  pub goes_on : (x : ℕ) → Old x → Old (next x)
+  pub c_old : Old c
+  pub d_old : Old d
+  pub apart : IsApart before
+  pub none_new : (count h before ≡ 0) × (count m before ≡ 0)
+  pub closed : (x : ℕ) → count x before ≡ count x then_open + tick x c + tick x d
+  pub sides : side c ≡ not (side d)
+
+module _ (Old New : ℕ → Type 0) (next : ℕ → ℕ) (side : ℕ → Bool) (h m c d : ℕ) (before then_open : List ℕ)
+    (w : Closing Old next side h m c d before then_open) (s : Sided Old next side before) (cases : (x : ℕ) → New x → Old x ⊎ ((x ≡ h) ⊎ (x ≡ m))) where
+  hd : h ≢ d
+  hd e = (w.fresh d w.d_old).0 (sym e)
+
+  abbrev F : ℕ → ℕ
+  F = after_mef next h m c d
+
+  abbrev side' : ℕ → Bool
+  side' = with_sides h m c d side
+
+  old_side : (x : ℕ) → Old x → with_sides h m c d side x ≡ side x
+  old_side x o = side_old h m c d side x (w.fresh x o).0 (w.fresh x o).1
+
+  not_open : (x : ℕ) → count x before ≡ 0 → count x then_open ≡ 0
+  not_open x z = omega (arith, z, w.closed x)
+
+  c_in : IsIn c before
+  c_in = omega (arith, w.closed c, tick_same c)
+
+  d_in : IsIn d before
+  d_in = omega (arith, w.closed d, tick_same d)
+
+  c_closed : count c then_open ≡ 0
+  c_closed = omega (arith, w.closed c, tick_same c, w.apart c)
+
+  d_closed : count d then_open ≡ 0
+  d_closed = omega (arith, w.closed d, tick_same d, w.apart d)
+
+  -- where one comes then from an old item
+  at_c : (x : ℕ) → Old x → next x ≡ c → (side' (F x) ≡ side' x) × (count (F x) then_open ≡ 0)
+  at_c x o e =
+      let g : F x ≡ h = follows_at_c next h m c d w.hm w.cd hd x (w.fresh x o).0 (w.fresh x o).1 e in
+      let t : side c ≡ not (side x) = ap side (sym e) ∙ s.across x o (subst (λ y. IsIn y before) (sym e) c_in) in
+      (ap side' g ∙ side_h h m c d side ∙ same_not (side d) (side x) (side c) w.sides t ∙ sym (old_side x o), ap (λ y. count y then_open) g ∙ not_open h w.none_new.0)
+
+  at_d : (x : ℕ) → Old x → next x ≡ d → (side' (F x) ≡ side' x) × (count (F x) then_open ≡ 0)
+  at_d x o e =
+      let g : F x ≡ m = follows_at_d next h m c d w.hm w.cd hd x (w.fresh x o).0 (w.fresh x o).1 e in
+      let t : side d ≡ not (side x) = ap side (sym e) ∙ s.across x o (subst (λ y. IsIn y before) (sym e) d_in) in
+      (ap side' g ∙ side_m h m c d side w.hm ∙ sym (not_not (side d) (side x) (side c) t w.sides) ∙ sym (old_side x o), ap (λ y. count y then_open) g ∙ not_open m w.none_new.1)
+
+  at_h : (side' (F h) ≡ side' h) × (count (F h) then_open ≡ 0)
+  at_h =
+      let g : F h ≡ d = follows_h next h m c d w.hm w.cd hd in
+      (ap side' g ∙ old_side d w.d_old ∙ sym (side_h h m c d side), ap (λ y. count y then_open) g ∙ d_closed)
+
+  at_m : (side' (F m) ≡ side' m) × (count (F m) then_open ≡ 0)
+  at_m =
+      let g : F m ≡ c = follows_m next h m c d w.hm w.cd hd in
+      (ap side' g ∙ old_side c w.c_old ∙ sym (side_m h m c d side w.hm), ap (λ y. count y then_open) g ∙ c_closed)
+
+  abbrev Goes : ℕ → Type 0
+  Goes x = (count (F x) then_open ≡ 0 → side' (F x) ≡ side' x) × (IsIn (F x) then_open → side' (F x) ≡ not (side' x))
+
+  closed_there : (x : ℕ) → (side' (F x) ≡ side' x) × (count (F x) then_open ≡ 0) → Goes x
+  closed_there x e = ((λ z. e.0), (λ i. absurd (omega (arith, i, e.1))))
+
+  elsewhere : (x : ℕ) → Old x → next x ≢ c → next x ≢ d → Goes x
+  elsewhere x o a b =
+      let g : F x ≡ next x = follows_else next h m c d w.hm w.cd hd x (w.fresh x o).0 (w.fresh x o).1 a b in
+      let t : side' (F x) ≡ side (next x) = ap side' g ∙ old_side (next x) (w.goes_on x o) in
+      let n : count (next x) before ≡ count (F x) then_open = omega (arith, w.closed (next x), tick_other (next x) c a, tick_other (next x) d b) ∙ ap (λ y. count y then_open) (sym g) in (
+        (λ z. t ∙ s.along x o (n ∙ z) ∙ sym (old_side x o)),
+        (λ i. t ∙ s.across x o (omega (arith, i, n)) ∙ ap not (sym (old_side x o))),
+      )
+
+  goes : (x : ℕ) → New x → Goes x
+  goes x o = elim (cases x o) [
+    | inl old ↦ elim (eqb_tells (next x) c) [
+      | inl e ↦ closed_there x (at_c x old e.1)
+      | inr a ↦ elim (eqb_tells (next x) d) [ inl e ↦ closed_there x (at_d x old e.1) | inr b ↦ elsewhere x old a.1 b.1 ]
+    ]
+    | inr new ↦ elim new [
+      | inl e ↦ subst Goes (sym e) (closed_there h at_h)
+      | inr e ↦ subst Goes (sym e) (closed_there m at_m)
+    ]
+  ]
+
+  pub sides_close : Sided New (after_mef next h m c d) (with_sides h m c d side) then_open
+  sides_close = record { along = λ x o. (goes x o).0; across = λ x o. (goes x o).1 }

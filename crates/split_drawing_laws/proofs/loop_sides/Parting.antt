@@ -1,0 +1,181 @@
+-- The sides of half-edges as a pair is joined, as an edge is drawn, and as a ring is moved.
+use Rattle.std.proofs.Common.{◌≡◌, ◌≢◌, ℕ, ◌+◌, Bool, true, false, not, List, [], ◌∷◌, None, unwrap_or, ℤ, pos, refl, sym, ap, ◌∙◌, subst, arith, ◌⊎◌, inl, inr}
+use Rattle.std.specs.Prelude.{int_lt}
+use Rattle.std.specs.Ordering.{int_eq}
+use Rattle.std.proofs.lemmas.Bool.Decides.{eqb_tells}
+use Rattle.std.proofs.lemmas.Int.{ints}
+use Rattle.lattice.specs.declared.Point.{Point}
+use Rattle.lattice.specs.declared.Plane.{Plane}
+use Rattle.lattice.specs.Vectors.{height, is_on}
+use Rattle.cyclic_list.specs.Items.{count, tick, IsIn, IsApart, head_or}
+use Rattle.cyclic_list.specs.Rings.{IsPath}
+use Rattle.cyclic_list.specs.Operators.{after_mef}
+use Rattle.cyclic_list.proofs.Lists.{tick_same, tick_other, IsIn_or_not}
+use Rattle.cyclic_list.proofs.Rings.{IsIn_successor}
+use Rattle.boundary_model.specs.HalfEdge.{plus, minus}
+use Rattle.boundary_model.specs.Table as table
+use Rattle.boundary_model.specs.Model.{Model, items_of, content, tail, loop_of, cycle_of, after, point_of, no_point}
+use Rattle.boundary_model.specs.Sound.{Sound, HasHalf}
+use Rattle.boundary_model.proofs.Models.{in-holds, cycle_there}
+use Rattle.euler_operators.specs.Effect.{ring_in}
+use Rattle.euler_laws.proofs.shared.Loops.{light}
+use Rattle.shapes.specs.Faces.{start}
+use Rattle.shapes.specs.split.Drawing.{face_drawn, loops_joined}
+use Rattle.split_drawing_laws.specs.drawings.DrawnIn.{Stays, DrawnIn}
+use Rattle.split_drawing_laws.specs.loop_sides.Parted.{Sided, LiesOn, Parted}
+use Rattle.split_drawing_laws.proofs.drawings.Drawn.{CanDraw, CanJoin}
+use Rattle.split_drawing_laws.proofs.drawings.Stays.{draw_stays, join_stays, draw_tails, join_tails}
+use Rattle.split_drawing_laws.proofs.drawings.Rings.{RingOf, Newer, now_stays, moved_after, moved_halves}
+use Rattle.split_drawing_laws.proofs.drawings.Pairs.{stays_on}
+use Rattle.split_drawing_laws.proofs.loop_sides.Follows.{Closing, sides_close, with_sides, side_old}
+use Rattle.split_drawing_laws.proofs.loop_sides.After.{halves_apart, none_new, after_drawn, halves_drawn, after_joined, halves_joined}
+
+-- a point on the plane lies on both closed sides
+on_both : (p : Plane) (q : Point) → is_on p q ≡ true → (b : Bool) → LiesOn p b q
+on_both p q e true = not_below (height p q) e where
+  not_below : (n : ℤ) → int_eq n (pos 0) ≡ true → int_lt n (pos 0) ≡ false
+  not_below n z = grind (arith, ints)
+on_both p q e false = not_above (height p q) e where
+  not_above : (n : ℤ) → int_eq n (pos 0) ≡ true → int_lt (pos 0) n ≡ false
+  not_above n z = grind (arith, ints)
+
+after_there : (N : Model) → Sound N → (x : ℕ) → HasHalf N x → HasHalf N (after N x)
+unfolding after
+after_there N sound x there = sound.only_edges _ (loop_of N x) (in-holds _ (content N (loop_of N x)) (IsIn_successor x (cycle_of N x) (cycle_there N sound x there)))
+
+same_start : (B N : Model) (h : ℕ) → Stays B N → HasHalf B h → start N h ≡ start B h
+unfolding point_of
+same_start B N h stays there = (λ i. unwrap_or (table.get (stays.vertices i) (stays.tails h there i)) no_point)
+
+-- what is asked of the two open places c and d that are closed: `places` are open before and `rest` after
+pub record Opposed (B : Model) (p : Plane) (first : ℕ → Bool) (c d : ℕ) (places rest : List ℕ) : Type 0 where
+  pub c_there : HasHalf B c
+  pub d_there : HasHalf B d
+  pub apart : c ≢ d
+  pub c_on : is_on p (start B c) ≡ true
+  pub d_on : is_on p (start B d) ≡ true
+  pub sides : first c ≡ not (first d)
+  pub places_there : (x : ℕ) → IsIn x places → HasHalf B x
+  pub places_apart : IsApart places
+  pub closed : (x : ℕ) → count x places ≡ count x rest + tick x c + tick x d
+
+-- ---- one edge more, between c and d
+
+module _ (B N K : Model) (p : Plane) (first : ℕ → Bool) (OfSolid : ℕ → Type 0) (c d e : ℕ) (places rest : List ℕ)
+    (sound : Sound N) (free : table.get N.edges e ≡ None) (o : Opposed B p first c d places rest) (w : Parted B N p first OfSolid places) (stays : Stays N K)
+    (leads : (x : ℕ) → HasHalf K x → after K x ≡ after_mef (after N) (plus e) (minus e) c d x)
+    (cases : (x : ℕ) → HasHalf K x → HasHalf N x ⊎ ((x ≡ plus e) ⊎ (x ≡ minus e)))
+    (tails : (tail K (plus e) ≡ tail N c) × (tail K (minus e) ≡ tail N d)) where
+  new_side : ℕ → Bool
+  new_side = with_sides (plus e) (minus e) c d w.side
+
+  none_counted : (x : ℕ) → (HasHalf N x → ⊥) → count x places ≡ 0
+  none_counted x never = elim (IsIn_or_not x places) [ inl i ↦ absurd (never (w.stays.halves x (o.places_there x i))) | inr n ↦ n ]
+
+  closing : Closing (HasHalf N) (after N) w.side (plus e) (minus e) c d places rest
+  closing = record {
+    hm = halves_apart e;
+    cd = o.apart;
+    fresh = λ x there. none_new N e x free there;
+    goes_on = after_there N sound;
+    c_old = w.stays.halves c o.c_there;
+    d_old = w.stays.halves d o.d_there;
+    apart = o.places_apart;
+    none_new = (none_counted (plus e) (λ t. (none_new N e (plus e) free t).0 refl), none_counted (minus e) (λ t. (none_new N e (minus e) free t).1 refl));
+    closed = o.closed;
+    sides = w.kept c o.c_there ∙ o.sides ∙ ap not (sym (w.kept d o.d_there));
+  }
+
+  led : Sided (HasHalf K) (after_mef (after N) (plus e) (minus e) c d) (with_sides (plus e) (minus e) c d w.side) rest
+  led = sides_close (HasHalf N) (HasHalf K) (after N) w.side (plus e) (minus e) c d places rest closing w.sided cases
+
+  to_now : Stays B K
+  to_now = stays_on B N K w.stays stays
+
+  -- a new half-edge starts where c or d does, on the plane
+  on_plane : (x y : ℕ) → HasHalf B y → tail K x ≡ tail N y → is_on p (start B y) ≡ true → is_on p (start K x) ≡ true
+  on_plane x y there same on = ap (is_on p) (ap (point_of K) (same ∙ w.stays.tails y there ∙ sym (to_now.tails y there)) ∙ same_start B K y to_now there) ∙ on
+
+  level_now : (h : ℕ) → HasHalf K h → OfSolid h → LiesOn p (with_sides (plus e) (minus e) c d w.side h) (start K h)
+  level_now h there mine = elim (cases h there) [
+    | inl old ↦
+        let f = none_new N e h free old in
+        let s : start K h ≡ start N h = same_start N K h stays old in
+        subst (λ b. LiesOn p b (start K h)) (sym (side_old (plus e) (minus e) c d w.side h f.0 f.1)) (subst (LiesOn p (w.side h)) (sym s) (w.level h old mine))
+    | inr new ↦ elim new [
+      | inl a ↦ on_both p (start K h) (on_plane h c o.c_there (ap (tail K) a ∙ tails.0) o.c_on) (with_sides (plus e) (minus e) c d w.side h)
+      | inr a ↦ on_both p (start K h) (on_plane h d o.d_there (ap (tail K) a ∙ tails.1) o.d_on) (with_sides (plus e) (minus e) c d w.side h)
+    ]
+  ]
+
+  pub parted_more : Parted B K p first OfSolid rest
+  parted_more = record {
+    stays = to_now;
+    side = with_sides (plus e) (minus e) c d w.side;
+    kept = λ h there. let f = none_new N e h free (w.stays.halves h there) in side_old (plus e) (minus e) c d w.side h f.0 f.1 ∙ w.kept h there;
+    sided = record {
+      along = λ x there z. ap (with_sides (plus e) (minus e) c d w.side) (leads x there) ∙ led.along x there (ap (λ y. count y rest) (sym (leads x there)) ∙ z);
+      across = λ x there i. ap (with_sides (plus e) (minus e) c d w.side) (leads x there) ∙ led.across x there (subst (λ y. IsIn y rest) (leads x there) i);
+    };
+    level = level_now;
+  }
+
+-- an edge drawn
+pub parted_drawn : (B N : Model) (p : Plane) (first : ℕ → Bool) (OfSolid : ℕ → Type 0) (u k e f l : ℕ) (places rest : List ℕ) →
+    CanDraw N u k e f l → Opposed B p first u k places rest → Parted B N p first OfSolid places → Parted B (face_drawn N u k e f l) p first OfSolid rest
+parted_drawn B N p first OfSolid u k e f l places rest can o w =
+    parted_more B N (face_drawn N u k e f l) p first OfSolid u k e places rest can.sound can.edge_free o w
+    (draw_stays N u k e f l can) (after_drawn N u k e f l can) (halves_drawn N u k e f l can) (draw_tails N u k e f l can)
+
+-- two loops joined
+pub parted_joined : (B N : Model) (p : Plane) (first : ℕ → Bool) (OfSolid : ℕ → Type 0) (c d e : ℕ) (places rest : List ℕ) →
+    CanJoin N c d e → Opposed B p first c d places rest → Parted B N p first OfSolid places → Parted B (loops_joined N c d e) p first OfSolid rest
+parted_joined B N p first OfSolid c d e places rest can o w =
+    parted_more B N (loops_joined N c d e) p first OfSolid c d e places rest can.sound can.edge_free o w
+    (join_stays N c d e can) (after_joined N c d e can) (halves_joined N c d e can) (join_tails N c d e can)
+
+-- a ring moved
+module _ (M B N : Model) (p : Plane) (first : ℕ → Bool) (OfSolid : ℕ → Type 0) (f l k : ℕ) (places : List ℕ) (drawn : DrawnIn M N f) (ring : RingOf N f l) (newer : Newer M N f k)
+    (w : Parted B N p first OfSolid places) where
+  old_half : (x : ℕ) → HasHalf (ring_in N l k) x → HasHalf N x
+  old_half x there = moved_halves M N f l k drawn ring newer x there
+
+  leads_same : (x : ℕ) → HasHalf (ring_in N l k) x → after (ring_in N l k) x ≡ after N x
+  leads_same x there = moved_after M N f l k drawn ring newer x (old_half x there)
+
+  pub parted_moved : Parted B (ring_in N l k) p first OfSolid places
+  parted_moved = record {
+    stays = stays_on B N (ring_in N l k) w.stays (now_stays M N f l k drawn ring newer);
+    side = w.side;
+    kept = w.kept;
+    sided = record {
+      along = λ x there z. ap w.side (leads_same x there) ∙ w.sided.along x (old_half x there) (ap (λ y. count y places) (sym (leads_same x there)) ∙ z);
+      across = λ x there i. ap w.side (leads_same x there) ∙ w.sided.across x (old_half x there) (subst (λ y. IsIn y places) (leads_same x there) i);
+    };
+    level = λ h there mine. subst (LiesOn p (w.side h)) (sym (same_start N (ring_in N l k) h (now_stays M N f l k drawn ring newer) (old_half h there))) (w.level h (old_half h there) mine);
+  }
+
+-- ---- no place is open
+
+path_constant : (next : ℕ → ℕ) (side : ℕ → Bool) (xs : List ℕ) (d : ℕ) → IsPath next xs d → ((x : ℕ) → IsIn x xs → side (next x) ≡ side x) →
+    (side (head_or d xs) ≡ side d) × ((z : ℕ) → IsIn z xs → side z ≡ side d)
+path_constant next side [] d path stays = (refl, λ z i. absurd (omega (arith, i)))
+path_constant next side (x ∷ xs) d path stays =
+    let r = path_constant next side xs d path.1 (λ z i. stays z (omega (arith, i))) in
+    let here_too : side x ≡ side d = sym (stays x (omega (arith, tick_same x))) ∙ ap side path.0 ∙ r.0 in
+    (here_too, λ z i. elim (eqb_tells z x) [ inl e ↦ ap side e.1 ∙ here_too | inr e ↦ r.1 z (omega (arith, i, tick_other z x e.1)) ])
+
+module _ (B N : Model) (p : Plane) (first : ℕ → Bool) (OfSolid : ℕ → Type 0) (sound : Sound N) (w : Parted B N p first OfSolid []) where
+  half_in : (x z : ℕ) → IsIn z (cycle_of N x) → HasHalf N z
+  half_in x z i = sound.only_edges z (loop_of N x) (in-holds z (content N (loop_of N x)) i)
+
+  -- the half-edges of a loop are on one side
+  pub loop_on_one_side : (x y : ℕ) → HasHalf N x → HasHalf N y → loop_of N x ≡ loop_of N y → w.side x ≡ w.side y
+  loop_on_one_side x y xt yt same =
+      let r = path_constant (after N) w.side (cycle_of N x) (head_or 0 (cycle_of N x)) (light N sound (loop_of N x)).1 (λ z i. w.sided.along z (half_in x z i) refl) in
+      r.1 x (cycle_there N sound x xt) ∙ sym (r.1 y (subst (λ q. IsIn y (items_of (content N q))) (sym same) (cycle_there N sound y yt)))
+
+  -- so they all start on the one closed side or all on the other
+  pub corners_on_one_side : (x y : ℕ) → HasHalf N x → HasHalf N y → loop_of N x ≡ loop_of N y → OfSolid x → OfSolid y → (b : Bool) × LiesOn p b (start N x) × LiesOn p b (start N y)
+  corners_on_one_side x y xt yt same mx my =
+      (w.side y, subst (λ b. LiesOn p b (start N x)) (loop_on_one_side x y xt yt same) (w.level x xt mx), w.level y yt my)

@@ -1,0 +1,162 @@
+-- From the first conditions of a split to the drawing of its faces.
+use Rattle.std.proofs.Common.{◌≡◌, ◌≢◌, ℕ, Bool, true, false, not, nat_eq, ◌&&◌, ◌||◌, List, [], ◌∷◌, length, is_some, refl, sym, ap, ◌∙◌, subst, arith, inl, inr, true≢false}
+use Rattle.std.proofs.lemmas.Bool.Decides.{eqb_tells}
+use Rattle.std.specs.List.{list_all}
+use Rattle.lattice.specs.declared.Plane.{Plane}
+use Rattle.cyclic_list.specs.Items.{IsIn, IsApart}
+use Rattle.cyclic_list.proofs.Lists.{tick_same, tick_other}
+use Rattle.boundary_model.specs.Table as table
+use Rattle.boundary_model.specs.Model.{Model, tail, loop_of, face_of, outer, point_of, faces_of, rings_of}
+use Rattle.boundary_model.specs.Sound.{Sound, Has}
+use Rattle.boundary_model.proofs.Models.{face_row}
+use Rattle.euler_operators.specs.Conditions.{face_at}
+use Rattle.euler_laws.specs.Laws.{AreAccepted, effects}
+use Rattle.euler_laws.proofs.Runs.{AreAccepted-append, effects-append}
+use Rattle.euler_laws.proofs.shared.Goes.{equal}
+use Rattle.solid_walks.proofs.FaceLoops.{items_counted, different_items, loops_of_apart}
+use Rattle.solid_walks.proofs.Rising.{in_listed}
+use Rattle.shapes.specs.Faces.{loops_of, boundary}
+use Rattle.shapes.specs.split.Sides.{straddles, straddling_faces}
+use Rattle.shapes.specs.split.Places.{is_place, places, loop_is_cut, is_cut_often, sorted, sorted_pairs, place_pairs}
+use Rattle.shapes.specs.split.Crossings.{with_crossings}
+use Rattle.shapes.specs.split.Drawing.{from_place, drawn_pairs, with_drawings}
+use Rattle.split_drawing_laws.specs.crossings.AtPlace.{AtPlace}
+use Rattle.split_drawing_laws.specs.crossings.CrossingOps.{crossing_ops}
+use Rattle.split_drawing_laws.specs.crossings.Laws.{CanBegin}
+use Rattle.split_drawing_laws.proofs.crossings.Listed.{picked_count, all_where_has}
+use Rattle.split_drawing_laws.proofs.crossings.Places.{at_place}
+use Rattle.split_drawing_laws.proofs.crossings.Premises.{Cuttable}
+use Rattle.split_drawing_laws.proofs.crossings.Whole.{can_cut, crossings_accepted, crossings_made, crossings_sound, crossings_counted, crossings_keep}
+use Rattle.split_drawing_laws.specs.drawings.DrawingOps.{drawing_ops}
+use Rattle.split_drawing_laws.specs.drawings.DrawnIn.{Fresh}
+use Rattle.split_drawing_laws.specs.drawings.Pairs.{Fits, AllFit, LoneInOneLoop, FacesFit}
+use Rattle.split_drawing_laws.specs.drawings.Laws.{CanBeDrawn}
+use Rattle.split_drawing_laws.proofs.drawings.Counted.{fresh_taken, straddling_apart}
+use Rattle.split_drawing_laws.proofs.drawings.Whole.{drawing_accepted, drawing_made, drawing_sound}
+use Rattle.split_drawing_laws.specs.pairs.Laws.{rewriting_ops}
+use Rattle.split_drawing_laws.proofs.pairs.Sorted.{count-sorted, sorted_apart, length-sorted}
+use Rattle.split_drawing_laws.proofs.pairs.Fitting.{between, drawn, all_fit, lone_in_loop}
+use Rattle.split_drawing_laws.proofs.pairs.LoopPlaces.{places_even, two_outer}
+use Rattle.split_drawing_laws.proofs.pairs.Meetings.{points_apart}
+use Rattle.split_drawing_laws.proofs.pairs.Numbers.{pairs_room}
+use Rattle.split_drawing_laws.proofs.pairs.Turns.{IsEven}
+
+-- ---- the half-edges of a face
+
+module _ (M : Model) (sound : Sound M) (f : ℕ) where
+  loop_face : Has M.faces f → (l : ℕ) → IsIn l (loops_of M f) → face_of M l ≡ f
+  unfolding loops_of
+  loop_face there l i = elim (eqb_tells l (outer M f)) [
+    | inl e ↦ ap (face_of M) e.1 ∙ (sound.outers_there f there).1
+    | inr e ↦
+        let w = all_where_has (λ k row. nat_eq row.face f && not (nat_eq (outer M f) k)) M.loops l (omega (arith, i, tick_other l (outer M f) e.1)) in
+        face_row M l w.0 w.1 ∙ equal w.0.face f (first_of (nat_eq w.0.face f) (not (nat_eq (outer M f) l)) w.2)
+  ] where
+    first_of : (a b : Bool) → (a && b) ≡ true → a ≡ true
+    first_of true b e = refl
+    first_of false b e = absurd (true≢false (sym e))
+
+  item_face : Has M.faces f → (h : ℕ) → IsIn h (boundary M f) → face_at M h ≡ f
+  unfolding boundary
+  item_face there h i = loop_face there (loop_of M h) (omega (arith, i, items_counted M sound (loops_of M f) h))
+
+  places_in : (p : Plane) (x : ℕ) → IsIn x (places M p f) → IsIn x (boundary M f)
+  unfolding places
+  places_in p x i = omega (arith, i, picked_count (is_place M p) x (boundary M f))
+
+  places_apart : (p : Plane) → IsApart (places M p f)
+  unfolding places boundary
+  places_apart p x = omega (arith, picked_count (is_place M p) x (boundary M f), (different_items M sound (loops_of M f) (loops_of_apart M sound f)).apart x)
+
+outer_cut : (M : Model) (p : Plane) (f : ℕ) → is_cut_often M p f ≡ false → loop_is_cut M p (outer M f) ≡ true
+unfolding is_cut_often
+outer_cut M p f e = first_of (loop_is_cut M p (outer M f)) (not (list_all (loop_is_cut M p) (rings_of M f)) && not (nat_eq (length (places M p f)) 2)) e where
+  first_of : (a b : Bool) → (not a || b) ≡ false → a ≡ true
+  first_of true b e = refl
+  first_of false b e = absurd (true≢false e)
+
+module _ (M : Model) (s : ℕ) (p : Plane) (t : ℕ) (sound : Sound M) (begins : CanBegin M s p t) where
+  abbrev N : Model
+  N = (with_crossings M s p).model
+
+  premises : Cuttable M s p
+  premises = can_cut M s p t sound begins
+
+  -- ---- one face
+
+  module _ (f : ℕ) (i : IsIn f (straddling_faces M p s)) where
+    face_there : Has M.faces f
+    face_there = ap is_some (all_where_has (λ _ row. nat_eq row.solid s) M.faces f (omega (arith, i, picked_count (straddles M p) f (faces_of M s)))).1
+
+    at : (h : ℕ) → IsIn h (places M p f) → AtPlace M N p h
+    at h j = at_place M s p t sound begins f h (in_listed f (straddling_faces M p s) i) (in_listed h (places M p f) j)
+
+    place_face : (h : ℕ) → IsIn h (places M p f) → face_at N (from_place N p h) ≡ f
+    place_face h j = ap (face_of N) (at h j).loop ∙ (crossings_keep M s p t sound begins).face (loop_of M h) ∙ item_face M sound f face_there h (places_in M sound f p h j)
+
+    starts_apart : (x y : ℕ) → IsIn x (places M p f) → IsIn y (places M p f) → x ≢ y → tail N (from_place N p x) ≢ tail N (from_place N p y)
+    starts_apart x y j k ne e = points_apart M p f (premises.uncrossed f i) x y j k ne (sym (at x j).starts ∙ ap (point_of N) e ∙ (at y k).starts)
+
+    two_fit : (x y : ℕ) → IsIn x (places M p f) → IsIn y (places M p f) → x ≢ y → Fits N f (between M N p (x, y))
+    two_fit x y j k ne = record {
+      u_there = (at x j).there;
+      k_there = (at y k).there;
+      u_face = place_face x j;
+      k_face = place_face y k;
+      apart = starts_apart x y j k ne;
+    }
+
+    from_sorted : (x : ℕ) → IsIn x (sorted M p (places M p f)) → IsIn x (places M p f)
+    from_sorted x j = omega (arith, j, count-sorted M p x (places M p f))
+
+    pairs_are : drawn_pairs M N p f ≡ drawn M N p (sorted M p (places M p f))
+    unfolding drawn_pairs place_pairs sorted_pairs
+    pairs_are = refl
+
+    pairs_fit : AllFit N f (drawn_pairs M N p f)
+    pairs_fit = subst (AllFit N f) (sym pairs_are)
+        (all_fit M N p f (sorted M p (places M p f)) (sorted_apart M p (places M p f) (places_apart M sound f p)) (λ x y j k. two_fit x y (from_sorted x j) (from_sorted y k)))
+
+    even : IsEven (length (sorted M p (places M p f)))
+    even = subst IsEven (sym (length-sorted M p (places M p f))) (places_even M sound p f (premises.untouched f i))
+
+    outer_only : length (sorted M p (places M p f)) ≡ 2 → (x : ℕ) → IsIn x (sorted M p (places M p f)) → loop_of N (from_place N p x) ≡ outer M f
+    outer_only two x j = (at x (from_sorted x j)).loop
+        ∙ two_outer M sound p f (premises.untouched f i) (outer_cut M p f (premises.not_often f i)) (sym (length-sorted M p (places M p f)) ∙ two) x (from_sorted x j)
+
+    lone_pair : LoneInOneLoop N (drawn_pairs M N p f)
+    lone_pair = subst (LoneInOneLoop N) (sym pairs_are) (lone_in_loop M N p (outer M f) (sorted M p (places M p f)) even outer_only)
+
+  -- ---- all faces
+
+  faces_fit : (fs : List ℕ) → ((f : ℕ) → IsIn f fs → IsIn f (straddling_faces M p s)) → FacesFit N M N p fs
+  faces_fit [] within = tt
+  faces_fit (f ∷ fs) within =
+      let i : IsIn f (straddling_faces M p s) = within f (omega (arith, tick_same f)) in
+      ((pairs_fit f i, lone_pair f i), faces_fit fs (λ g j. within g (omega (arith, j))))
+
+  pub can_be_drawn : CanBeDrawn M p (with_crossings M s p) (straddling_faces M p s)
+  can_be_drawn = record {
+    sound = crossings_sound M s p t sound begins;
+    fresh = subst (Fresh N) (sym (crossings_counted M s p t sound begins)) (fresh_taken N);
+    room = pairs_room p M s premises.left;
+    fit = faces_fit (straddling_faces M p s) (λ f i. i);
+    apart = straddling_apart M p s;
+  }
+
+  -- ---- both rewritings
+
+  pub rewritings_accepted : AreAccepted M (rewriting_ops M s p)
+  rewritings_accepted = AreAccepted-append M (crossing_ops M s p) (drawing_ops M p (with_crossings M s p) (straddling_faces M p s)) (crossings_accepted M s p t sound begins)
+      (subst (λ X. AreAccepted X (drawing_ops M p (with_crossings M s p) (straddling_faces M p s))) (sym (crossings_made M s p t sound begins))
+      (drawing_accepted M p (with_crossings M s p) (straddling_faces M p s) can_be_drawn))
+
+  pub rewritings_made : effects M (rewriting_ops M s p) ≡ (with_drawings M s p).model
+  unfolding with_drawings
+  rewritings_made = effects-append M (crossing_ops M s p) (drawing_ops M p (with_crossings M s p) (straddling_faces M p s))
+      ∙ ap (λ X. effects X (drawing_ops M p (with_crossings M s p) (straddling_faces M p s))) (crossings_made M s p t sound begins)
+      ∙ drawing_made M p (with_crossings M s p) (straddling_faces M p s) can_be_drawn
+
+  pub rewritings_sound : Sound (with_drawings M s p).model
+  unfolding with_drawings
+  rewritings_sound = drawing_sound M p (with_crossings M s p) (straddling_faces M p s) can_be_drawn

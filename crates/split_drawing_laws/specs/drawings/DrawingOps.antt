@@ -1,0 +1,62 @@
+-- The Euler operators by which edges are drawn in the faces that straddle a plane.
+use Rattle.std.specs.Prelude.{ℕ, ◌+◌, cond, nat_eq, List, [], ◌∷◌, ◌++◌, length}
+use Rattle.lattice.specs.declared.Plane.{Plane}
+use Rattle.boundary_model.specs.declared.Corner.TheVariants.{At}
+use Rattle.boundary_model.specs.HalfEdge.{half, plus}
+use Rattle.boundary_model.specs.Model.{Model, loop_of, is_ring_of}
+use Rattle.euler_operators.specs.declared.Op.{Op}
+use Rattle.euler_operators.specs.declared.Op.TheVariants.{Mef, Mekr, RingIn}
+use Rattle.euler_operators.specs.Conditions.{face_at}
+use Rattle.shapes.specs.Fresh.{Taken, Growing}
+use Rattle.shapes.specs.split.Drawing.{Drawing, in_one_loop, join_next, all_joined, ring_free, draw_next, all_drawn, rings_above, drawn_pairs, next_drawn}
+
+-- an edge from the corner of c to that of d, whose loop is a ring
+abbrev pub join_edge : ℕ → ℕ → ℕ → Op
+join_edge c d e = Mekr (At (half c)) (At (half d)) (half (plus e))
+
+-- a pair in different loops joined: from k to u where u's loop is a ring, else from u to k
+abbrev pub join_pair : Model → ℕ × ℕ → ℕ → Op
+join_pair M q e = cond (is_ring_of M (face_at M q.0) (loop_of M q.0)) (join_edge q.1 q.0 e) (join_edge q.0 q.1 e)
+
+-- a new face cut off between u and k
+abbrev pub draw_edge : ℕ → ℕ → ℕ → ℕ → ℕ → Op
+draw_edge u k e f l = Mef (half u) (half k) (half (plus e)) f l
+
+abbrev pub draw_pair : Taken → ℕ × ℕ → Op
+draw_pair c q = draw_edge q.0 q.1 (c.edge + 1) (c.face + 1) (c.loop + 1)
+
+-- first pass over some pairs
+abbrev pub join_ops : Drawing → List (ℕ × ℕ) → List Op
+join_ops d [] = []
+join_ops d (q ∷ qs) = cond (in_one_loop d.model q) [] (join_pair d.model q (d.taken.edge + 1) ∷ []) ++ join_ops (join_next d q) qs
+
+-- second pass over the pairs that are left
+abbrev pub draw_ops : ℕ → Drawing → List (ℕ × ℕ) → List Op
+draw_ops f d [] = []
+draw_ops f d (q ∷ qs) = cond (in_one_loop d.model q) (draw_pair d.taken q ∷ []) [] ++ draw_ops f (draw_next f d q) qs
+
+-- some rings given to face k
+abbrev pub ring_ops : List ℕ → ℕ → List Op
+ring_ops [] k = []
+ring_ops (l ∷ ls) k = RingIn l k ∷ ring_ops ls k
+
+-- with one pair, the rings above
+abbrev pub share_ops : Plane → ℕ → List (ℕ × ℕ) → Drawing → List Op
+share_ops p f qs d = cond (nat_eq (length qs) 1) (ring_ops (rings_above d.model p f) d.taken.face) []
+
+-- a face drawn between its pairs, once those in different loops are joined
+abbrev pub drawn_ops : Plane → ℕ → List (ℕ × ℕ) → Drawing → List Op
+drawn_ops p f qs d = draw_ops f d d.left ++ share_ops p f qs (all_drawn f d)
+
+-- one face
+abbrev pub face_ops : Plane → ℕ → List (ℕ × ℕ) → Drawing → List Op
+face_ops p f qs d = join_ops (record d { left = [] }) qs ++ drawn_ops p f qs (ring_free f qs (all_joined qs d))
+
+-- some faces, in their order
+abbrev pub ops_from : Model → Model → Plane → Drawing → List ℕ → List Op
+ops_from M N p d [] = []
+ops_from M N p d (f ∷ fs) = face_ops p f (drawn_pairs M N p f) d ++ ops_from M N p (next_drawn M N p d f) fs
+
+-- what faces_drawn makes, operator by operator
+unfoldable pub drawing_ops : Model → Plane → Growing → List ℕ → List Op
+drawing_ops M p g fs = ops_from M g.model p (record { model = g.model; taken = g.taken; left = []; stuck = 0 }) fs

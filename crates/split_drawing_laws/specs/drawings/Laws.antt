@@ -1,0 +1,35 @@
+-- The laws of drawing edges in faces, each over every sound model and all faces whose pairs of half-edges fit.
+use Rattle.std.specs.Prelude.{◌≡◌, ℕ, List}
+use Rattle.lattice.specs.declared.Plane.{Plane}
+use Rattle.cyclic_list.specs.Items.{IsApart}
+use Rattle.boundary_model.specs.Model.{Model}
+use Rattle.boundary_model.specs.Sound.{Sound}
+use Rattle.euler_laws.specs.Laws.{effects, AreAccepted}
+use Rattle.shapes.specs.Fresh.{Growing}
+use Rattle.shapes.specs.split.Drawing.{faces_drawn}
+use Rattle.split_drawing_laws.specs.drawings.DrawingOps.{drawing_ops}
+use Rattle.split_drawing_laws.specs.drawings.DrawnIn.{Stays, Fresh, Room}
+use Rattle.split_drawing_laws.specs.drawings.Pairs.{FacesFit, pairs_in}
+
+-- in the model with its edges cut, that of g, the faces fs can be drawn between their pairs; M is the model before
+pub record CanBeDrawn (M : Model) (p : Plane) (g : Growing) (fs : List ℕ) : Type 0 where
+  pub sound : Sound g.model
+  pub fresh : Fresh g.model g.taken
+  pub room : Room g.taken (pairs_in M g.model p fs)
+  pub fit : FacesFit g.model M g.model p fs
+  pub apart : IsApart fs
+
+-- each operator is accepted in its turn
+abbrev pub DrawingsAreAccepted : Type 0
+DrawingsAreAccepted = (M : Model) (p : Plane) (g : Growing) (fs : List ℕ) → CanBeDrawn M p g fs → AreAccepted g.model (drawing_ops M p g fs)
+
+-- together they make the model of the drawing
+abbrev pub DrawingsAreMade : Type 0
+DrawingsAreMade = (M : Model) (p : Plane) (g : Growing) (fs : List ℕ) → CanBeDrawn M p g fs → effects g.model (drawing_ops M p g fs) ≡ (faces_drawn M p g fs).model
+
+abbrev pub DrawingsAreSound : Type 0
+DrawingsAreSound = (M : Model) (p : Plane) (g : Growing) (fs : List ℕ) → CanBeDrawn M p g fs → Sound (faces_drawn M p g fs).model
+
+-- half-edges stay and start where they did, and vertices and faces stay
+abbrev pub DrawingsKeep : Type 0
+DrawingsKeep = (M : Model) (p : Plane) (g : Growing) (fs : List ℕ) → CanBeDrawn M p g fs → Stays g.model (faces_drawn M p g fs).model

@@ -1,0 +1,35 @@
+-- Pairs of half-edges between which edges can be drawn in a face.
+use Rattle.std.specs.Prelude.{◌≡◌, ◌≢◌, ℕ, ◌+◌, true, List, [], ◌∷◌, length}
+use Rattle.lattice.specs.declared.Plane.{Plane}
+use Rattle.boundary_model.specs.Model.{Model, tail}
+use Rattle.boundary_model.specs.Sound.{HasHalf}
+use Rattle.euler_operators.specs.Conditions.{face_at}
+use Rattle.shapes.specs.split.Drawing.{in_one_loop, drawn_pairs}
+
+-- the two are of face f and start at different vertices
+pub record Fits (M : Model) (f : ℕ) (q : ℕ × ℕ) : Type 0 where
+  pub u_there : HasHalf M q.0
+  pub k_there : HasHalf M q.1
+  pub u_face : face_at M q.0 ≡ f
+  pub k_face : face_at M q.1 ≡ f
+  pub apart : tail M q.0 ≢ tail M q.1
+
+abbrev pub AllFit : Model → ℕ → List (ℕ × ℕ) → Type 0
+AllFit M f [] = Unit {0}
+AllFit M f (q ∷ qs) = Fits M f q × AllFit M f qs
+
+-- a pair that is the only one stands in one loop
+abbrev pub LoneInOneLoop : Model → List (ℕ × ℕ) → Type 0
+LoneInOneLoop M [] = Unit {0}
+LoneInOneLoop M (q ∷ []) = in_one_loop M q ≡ true
+LoneInOneLoop M (q ∷ r ∷ qs) = Unit {0}
+
+-- so it is with the pairs of each of some faces, in the model D
+abbrev pub FacesFit : Model → Model → Model → Plane → List ℕ → Type 0
+FacesFit D M N p [] = Unit {0}
+FacesFit D M N p (f ∷ fs) = (AllFit D f (drawn_pairs M N p f) × LoneInOneLoop D (drawn_pairs M N p f)) × FacesFit D M N p fs
+
+-- how many pairs some faces have
+abbrev pub pairs_in : Model → Model → Plane → List ℕ → ℕ
+pairs_in M N p [] = 0
+pairs_in M N p (f ∷ fs) = length (drawn_pairs M N p f) + pairs_in M N p fs

@@ -1,0 +1,25 @@
+-- The laws of the sides on which the loops and the faces of a solid lie once a split has drawn its edges, over every sound model
+-- in which the first conditions of a split hold.
+use Rattle.std.specs.Prelude.{◌≡◌, ℕ, Bool, true, false}
+use Rattle.lattice.specs.declared.Plane.{Plane}
+use Rattle.boundary_model.specs.Model.{Model, loop_of, solid_of, faces_of}
+use Rattle.boundary_model.specs.Sound.{Sound, HasHalf}
+use Rattle.euler_operators.specs.Conditions.{face_at, lists}
+use Rattle.shapes.specs.Faces.{start}
+use Rattle.shapes.specs.split.Sides.{straddles}
+use Rattle.shapes.specs.split.Drawing.{with_drawings}
+use Rattle.split_drawing_laws.specs.crossings.Laws.{CanBegin}
+use Rattle.split_drawing_laws.specs.loop_sides.Parted.{LiesOn}
+
+-- D is M with the edges of solid s cut and its faces drawn, none of which is stuck
+abbrev pub IsDrawn : Model → ℕ → Plane → Model → Type 0
+IsDrawn M s p D = ((with_drawings M s p).stuck ≡ 0) × ((with_drawings M s p).model ≡ D)
+
+-- each loop of the solid lies on one closed side of the plane
+abbrev pub LoopsOfSolidsLieOnOneSide : Type 0
+LoopsOfSolidsLieOnOneSide = (M D : Model) (s : ℕ) (p : Plane) (t : ℕ) → Sound M → CanBegin M s p t → IsDrawn M s p D → (x y : ℕ) → HasHalf D x → HasHalf D y →
+    loop_of D x ≡ loop_of D y → solid_of D (face_at D x) ≡ s → (b : Bool) × LiesOn p b (start D x) × LiesOn p b (start D y)
+
+-- and no face of the solid straddles the plane any more
+abbrev pub NoneStraddles : Type 0
+NoneStraddles = (M D : Model) (s : ℕ) (p : Plane) (t : ℕ) → Sound M → CanBegin M s p t → IsDrawn M s p D → (f : ℕ) → lists (faces_of D s) f ≡ true → straddles D p f ≡ false

@@ -1,0 +1,33 @@
+-- The laws by which the first conditions of a split allow its second rewriting, over every sound model in which they hold.
+use Rattle.std.specs.Prelude.{◌≡◌, ℕ, List, ◌++◌}
+use Rattle.lattice.specs.declared.Plane.{Plane}
+use Rattle.boundary_model.specs.Model.{Model}
+use Rattle.boundary_model.specs.Sound.{Sound}
+use Rattle.euler_operators.specs.declared.Op.{Op}
+use Rattle.euler_laws.specs.Laws.{AreAccepted, effects}
+use Rattle.shapes.specs.split.Sides.{straddling_faces}
+use Rattle.shapes.specs.split.Crossings.{with_crossings}
+use Rattle.shapes.specs.split.Drawing.{with_drawings}
+use Rattle.split_drawing_laws.specs.crossings.CrossingOps.{crossing_ops}
+use Rattle.split_drawing_laws.specs.crossings.Laws.{CanBegin}
+use Rattle.split_drawing_laws.specs.drawings.DrawingOps.{drawing_ops}
+use Rattle.split_drawing_laws.specs.drawings.Laws.{CanBeDrawn}
+
+-- once the edges that cross the plane are cut, the faces that straddle can be drawn between their pairs of cut places
+abbrev pub CutPlacesCanBeDrawn : Type 0
+CutPlacesCanBeDrawn = (M : Model) (s : ℕ) (p : Plane) (t : ℕ) → Sound M → CanBegin M s p t → CanBeDrawn M p (with_crossings M s p) (straddling_faces M p s)
+
+-- the operators of both rewritings: the edges that cross the plane cut, and then the faces that straddle drawn
+abbrev pub rewriting_ops : Model → ℕ → Plane → List Op
+rewriting_ops M s p = crossing_ops M s p ++ drawing_ops M p (with_crossings M s p) (straddling_faces M p s)
+
+-- each operator is accepted in its turn
+abbrev pub RewritingsAreAccepted : Type 0
+RewritingsAreAccepted = (M : Model) (s : ℕ) (p : Plane) (t : ℕ) → Sound M → CanBegin M s p t → AreAccepted M (rewriting_ops M s p)
+
+-- together they make both rewritings
+abbrev pub RewritingsAreMade : Type 0
+RewritingsAreMade = (M : Model) (s : ℕ) (p : Plane) (t : ℕ) → Sound M → CanBegin M s p t → effects M (rewriting_ops M s p) ≡ (with_drawings M s p).model
+
+abbrev pub RewritingsAreSound : Type 0
+RewritingsAreSound = (M : Model) (s : ℕ) (p : Plane) (t : ℕ) → Sound M → CanBegin M s p t → Sound (with_drawings M s p).model

@@ -1,0 +1,3 @@
+pub mod Solids
+pub mod Drawn
+pub mod BothSides

@@ -1,0 +1,209 @@
+-- What the conditions of a split say once the faces are drawn: the solid can be opened along its section.
+use Rattle.std.proofs.Common.{◌≡◌, ℕ, ◌+◌, ◌*◌, ◌<◌, Bool, true, false, cond, nat_eq, nat_lt, ◌&&◌, List, [], ◌∷◌, ◌++◌, length, None, is_some, unwrap_or, IsTrue, refl, sym, ap, ◌∙◌, subst, arith, true≢false}
+use Rattle.std.specs.Prelude.{fold}
+use Rattle.std.proofs.lemmas.List.{append-nil}
+use Rattle.std.specs.List.{list_any}
+use Rattle.lattice.specs.declared.Plane.{Plane}
+use Rattle.boundary_model.specs.Table as table
+use Rattle.boundary_model.specs.Model.{Model, no_face, solid_of, is_number, faces_of}
+use Rattle.boundary_model.specs.Sound.{Sound, Has}
+use Rattle.euler_operators.specs.Conditions.{AllHold, lists, strictly_rises, has_rings}
+use Rattle.euler_laws.proofs.shared.Goes.{all_hold, none_refuses, not_true, free, equal}
+use Rattle.euler_laws.proofs.shared.Listed.{all_where-rises}
+use Rattle.shapes.proofs.fresh.Rows.{none_above}
+use Rattle.shapes.proofs.fresh.Tests.{all_hold-front, all_hold-back, Left, numbers_are_left}
+use Rattle.shapes.specs.Faces.{least_lone}
+use Rattle.shapes.specs.Fresh.{Growing, taken_in}
+use Rattle.shapes.specs.split.Sides.{straddling_faces, reaches_above, reaches_below, face_is_above, faces_above}
+use Rattle.shapes.specs.split.Crossings.{with_crossings}
+use Rattle.shapes.specs.split.Drawing.{Drawing, stuck_at, in_one_loop, join_next, all_joined, ring_free, draw_next, all_drawn, rings_above, with_rings, drawn_between, drawn_pairs, next_drawn, faces_drawn, with_drawings}
+use Rattle.shapes.specs.split.Section.{below_halves, section_cycles, has_stray_hole}
+use Rattle.shapes.specs.split.Split.{first_conditions, later_conditions, section_conditions, split_conditions, split_refusal}
+use Rattle.split_drawing_laws.specs.crossings.Laws.{CanBegin}
+use Rattle.split_drawing_laws.proofs.crossings.Listed.{listed_in, picked_count, all_where_has}
+use Rattle.split_drawing_laws.proofs.crossings.Whole.{crossings_counted, crossings_keep}
+use Rattle.split_drawing_laws.proofs.pairs.Whole.{can_be_drawn, rewritings_sound}
+use Rattle.split_drawing_laws.specs.drawings.DrawnIn.{Stays, Fresh}
+use Rattle.split_drawing_laws.specs.drawings.Laws.{CanBeDrawn}
+use Rattle.split_drawing_laws.proofs.drawings.Passes.{join_next_one, join_next_two, draw_next_one, draw_next_two}
+use Rattle.split_drawing_laws.proofs.drawings.Whole.{drawing_stays, drawing_fresh}
+use Rattle.split_opening_laws.specs.cycles.SectionCycles.{IsUnbranched}
+use Rattle.split_opening_laws.proofs.cycles.RisingLists.{filter_rises}
+use Rattle.split_opening_laws.specs.sections.Capped.{HasCaps}
+use Rattle.split_opening_laws.specs.sections.InTurn.{AreFree, AreLeft, CanBeOpenedInTurn}
+use Rattle.split_opening_laws.proofs.sections.InTurn.{can_be_opened}
+use Rattle.split_laws.specs.drawn.Kept.{KeepsSolids}
+use Rattle.split_laws.proofs.drawn.Solids.{drawing_keeps}
+
+-- ---- drawing takes no vertex
+
+join_vertex : (d : Drawing) (q : ℕ × ℕ) → (join_next d q).taken.vertex ≡ d.taken.vertex
+join_vertex d q = go (in_one_loop d.model q) refl where
+  go : (b : Bool) → in_one_loop d.model q ≡ b → (join_next d q).taken.vertex ≡ d.taken.vertex
+  go true e = ap (λ x. x.taken.vertex) (join_next_one d q e)
+  go false e = ap (λ x. x.taken.vertex) (join_next_two d q e)
+
+joins_vertex : (d : Drawing) (qs : List (ℕ × ℕ)) → (fold join_next d qs).taken.vertex ≡ d.taken.vertex
+joins_vertex d [] = refl
+joins_vertex d (q ∷ qs) = joins_vertex (join_next d q) qs ∙ join_vertex d q
+
+draw_vertex : (f : ℕ) (d : Drawing) (q : ℕ × ℕ) → (draw_next f d q).taken.vertex ≡ d.taken.vertex
+draw_vertex f d q = go (in_one_loop d.model q) refl where
+  go : (b : Bool) → in_one_loop d.model q ≡ b → (draw_next f d q).taken.vertex ≡ d.taken.vertex
+  go true e = ap (λ x. x.taken.vertex) (draw_next_one f d q e)
+  go false e = ap (λ x. x.taken.vertex) (draw_next_two f d q e)
+
+draws_vertex : (f : ℕ) (d : Drawing) (qs : List (ℕ × ℕ)) → (fold (draw_next f) d qs).taken.vertex ≡ d.taken.vertex
+draws_vertex f d [] = refl
+draws_vertex f d (q ∷ qs) = draws_vertex f (draw_next f d q) qs ∙ draw_vertex f d q
+
+stuck_vertex : (f : ℕ) (b : Bool) (d : Drawing) → (cond b (stuck_at f d) d).taken.vertex ≡ d.taken.vertex
+stuck_vertex f true d = refl
+stuck_vertex f false d = refl
+
+shared_vertex : (p : Plane) (f : ℕ) (b : Bool) (d : Drawing) → (cond b (record d { model = with_rings d.model (rings_above d.model p f) d.taken.face }) d).taken.vertex ≡ d.taken.vertex
+shared_vertex p f true d = refl
+shared_vertex p f false d = refl
+
+face_vertex : (p : Plane) (f : ℕ) (qs : List (ℕ × ℕ)) (d : Drawing) → (drawn_between p f qs d).taken.vertex ≡ d.taken.vertex
+face_vertex p f qs d =
+    let J : Drawing = all_joined qs d in
+    let R : Drawing = ring_free f qs J in
+    shared_vertex p f (nat_eq (length qs) 1) (all_drawn f R) ∙ draws_vertex f R R.left ∙ stuck_vertex f (nat_lt 1 (length qs) && has_rings J.model f) J ∙ joins_vertex (record d { left = [] }) qs
+
+next_vertex : (M N : Model) (p : Plane) (d : Drawing) (f : ℕ) → (next_drawn M N p d f).taken.vertex ≡ d.taken.vertex
+unfolding next_drawn
+next_vertex M N p d f = face_vertex p f (drawn_pairs M N p f) d
+
+all_vertex : (M N : Model) (p : Plane) (d : Drawing) (fs : List ℕ) → (fold (next_drawn M N p) d fs).taken.vertex ≡ d.taken.vertex
+all_vertex M N p d [] = refl
+all_vertex M N p d (f ∷ fs) = all_vertex M N p (next_drawn M N p d f) fs ∙ next_vertex M N p d f
+
+drawing_vertex : (M : Model) (p : Plane) (g : Growing) (fs : List ℕ) → (faces_drawn M p g fs).taken.vertex ≡ g.taken.vertex
+drawing_vertex M p g fs = all_vertex M g.model p (record { model = g.model; taken = g.taken; left = []; stuck = 0 }) fs
+
+-- ---- a split that isn't refused
+
+module _ (M : Model) (s : ℕ) (p : Plane) (t : ℕ) (sound : Sound M) (accepted : split_refusal M s p t ≡ None) where
+  abbrev d : Drawing
+  d = with_drawings M s p
+
+  abbrev D : Model
+  D = (with_drawings M s p).model
+
+  abbrev above : List ℕ
+  above = faces_above (with_drawings M s p).model p s
+
+  abbrev halves : List ℕ
+  halves = below_halves (with_drawings M s p).model (faces_above (with_drawings M s p).model p s) s
+
+  abbrev cycles : List (List ℕ)
+  cycles = section_cycles (with_drawings M s p).model (below_halves (with_drawings M s p).model (faces_above (with_drawings M s p).model p s) s)
+
+  all : AllHold (first_conditions M s p t ++ later_conditions s p d)
+  unfolding split_conditions
+  all = all_hold (first_conditions M s p t ++ later_conditions s p d) accepted
+
+  first : AllHold (first_conditions M s p t)
+  first = all_hold-front (first_conditions M s p t) (later_conditions s p d) all
+
+  later : AllHold (later_conditions s p d)
+  later = all_hold-back (first_conditions M s p t) (later_conditions s p d) all
+
+  pub begins : CanBegin M s p t
+  begins = none_refuses (first_conditions M s p t) first
+
+  pub t_fits : IsTrue (is_number t)
+  unfolding first_conditions
+  t_fits = first.1.0
+
+  t_free_before : table.get M.solids t ≡ None
+  unfolding first_conditions
+  t_free_before = free (table.get M.solids t) (not_true (table.has M.solids t) first.1.1.1.0)
+
+  pub none_lone : least_lone M (faces_of M s) ≡ 0
+  unfolding first_conditions
+  none_lone = equal (least_lone M (faces_of M s)) 0 first.1.1.1.1.1.1.1.1.1.0
+
+  both : (a b : Bool) → (a && b) ≡ true → (a ≡ true) × (b ≡ true)
+  both true true e = (refl, refl)
+  both true false e = absurd (true≢false (sym e))
+  both false b e = absurd (true≢false (sym e))
+
+  pub meets : (list_any (reaches_above M p) (faces_of M s) ≡ true) × (list_any (reaches_below M p) (faces_of M s) ≡ true)
+  unfolding first_conditions
+  meets = both (list_any (reaches_above M p) (faces_of M s)) (list_any (reaches_below M p) (faces_of M s)) first.1.1.1.1.1.1.1.1.1.1.1.0
+
+  pub never_stuck : (with_drawings M s p).stuck ≡ 0
+  never_stuck = equal d.stuck 0 later.0
+
+  unbranched : IsUnbranched D halves
+  unfolding section_conditions
+  unbranched = equal _ 0 later.1.0
+
+  pub no_stray : has_stray_hole (with_drawings M s p).model p (section_cycles (with_drawings M s p).model (below_halves (with_drawings M s p).model (faces_above (with_drawings M s p).model p s) s)) ≡ false
+  unfolding section_conditions
+  no_stray = not_true (has_stray_hole D p cycles) later.1.1.0
+
+  room : Left d.taken (length halves + length cycles) (length halves + length cycles) (2 * length halves) (length halves)
+  unfolding section_conditions
+  room = numbers_are_left d.taken (length halves + length cycles) (length halves + length cycles) (2 * length halves) (length halves) later.1.1.1
+
+  left : AreLeft d.taken (length halves) (length cycles)
+  left = record { faces = room.faces; loops = room.loops; edges = room.edges; vertices = room.vertices }
+
+  pub drawn_sound : Sound (with_drawings M s p).model
+  drawn_sound = rewritings_sound M s p t sound begins
+
+  can : CanBeDrawn M p (with_crossings M s p) (straddling_faces M p s)
+  can = can_be_drawn M s p t sound begins
+
+  pub drawn_stays : Stays (with_crossings M s p).model (with_drawings M s p).model
+  unfolding with_drawings
+  drawn_stays = drawing_stays M p (with_crossings M s p) (straddling_faces M p s) can
+
+  pub drawn_keeps : KeepsSolids (with_crossings M s p).model (with_drawings M s p).model
+  unfolding with_drawings
+  drawn_keeps = drawing_keeps M p (with_crossings M s p) (straddling_faces M p s) can
+
+  fresh : Fresh D d.taken
+  unfolding with_drawings
+  fresh = drawing_fresh M p (with_crossings M s p) (straddling_faces M p s) can
+
+  last_vertex : d.taken.vertex ≡ table.greatest (with_crossings M s p).model.vertices
+  unfolding with_drawings taken_in
+  last_vertex = drawing_vertex M p (with_crossings M s p) (straddling_faces M p s) ∙ ap (λ c. c.vertex) (crossings_counted M s p t sound begins)
+
+  are_free : AreFree D d.taken
+  are_free = record {
+    faces = fresh.faces;
+    loops = fresh.loops;
+    edges = fresh.edges;
+    vertices = λ q l. ap (λ u. table.get u q) drawn_stays.vertices ∙ none_above (with_crossings M s p).model.vertices q (subst (λ n. n < q) last_vertex l);
+  }
+
+  pub t_free : table.get (with_drawings M s p).model.solids t ≡ None
+  t_free = ap (λ u. table.get u t) (drawn_keeps.solids ∙ (crossings_keep M s p t sound begins).solids) ∙ t_free_before
+
+  -- a face above is there and of the solid
+  pub above_facts : (f : ℕ) → lists (faces_above (with_drawings M s p).model p s) f ≡ true → Has (with_drawings M s p).model.faces f × (solid_of (with_drawings M s p).model f ≡ s)
+  unfolding solid_of
+  above_facts f l =
+      let w = all_where_has (λ _ row. nat_eq row.solid s) D.faces f (omega (arith, listed_in f above l, picked_count (face_is_above D p) f (faces_of D s))) in
+      (ap is_some w.1, ap (λ o. (unwrap_or o no_face).solid) w.1 ∙ equal w.0.solid s w.2)
+
+  above_rises : strictly_rises above ≡ true
+  above_rises = filter_rises (face_is_above D p) (faces_of D s) (all_where-rises (λ _ row. nat_eq row.solid s) D.faces)
+
+  -- the solid can be opened along its section
+  pub can_open_all : CanBeOpenedInTurn (faces_above (with_drawings M s p).model p s) s (record { model = (with_drawings M s p).model; taken = (with_drawings M s p).taken; caps = [] })
+      (section_cycles (with_drawings M s p).model (below_halves (with_drawings M s p).model (faces_above (with_drawings M s p).model p s) s))
+  can_open_all = can_be_opened D above s d.taken drawn_sound are_free (λ f l. (above_facts f l).1) (λ f l. (above_facts f l).0) unbranched left
+
+  -- and has no caps yet
+  pub no_caps : HasCaps (faces_above (with_drawings M s p).model p s) s (record { model = (with_drawings M s p).model; taken = (with_drawings M s p).taken; caps = [] })
+  no_caps = record {
+    plain = tt;
+    all_rise = ap strictly_rises (append-nil above) ∙ above_rises;
+    upper_rise = ap strictly_rises (append-nil above) ∙ above_rises;
+  }

@@ -1,0 +1,41 @@
+-- The two parts of a split solid: from the drawn model to the one that the split makes.
+use Rattle.std.proofs.Common.{◌≡◌, ◌≢◌, ℕ, ◌+ℤ◌, false, List, None, sym, ◌∙◌}
+use Rattle.lattice.specs.declared.Plane.{Plane}
+use Rattle.lattice.specs.Vectors.{is_above, is_below}
+use Rattle.boundary_model.specs.Model.{Model}
+use Rattle.boundary_model.specs.Sound.{Sound}
+use Rattle.shapes.specs.Faces.{start}
+use Rattle.shapes.specs.Measure.{six_volume}
+use Rattle.shapes.specs.split.Sides.{faces_above}
+use Rattle.shapes.specs.split.Drawing.{with_drawings}
+use Rattle.shapes.specs.split.Split.{split_refusal, split_model}
+use Rattle.split_drawing_laws.proofs.drawn_volumes.DrawWhole.{drawings_volumes}
+use Rattle.split_laws.specs.volumes.Laws.{CanBeSplit}
+use Rattle.split_laws.proofs.volumes.Split.{split_shares, split_keeps}
+use Rattle.split_laws.specs.sides.Sided.{IsOfSolid}
+use Rattle.split_laws.proofs.sides.Sides.{parts_sided}
+use Rattle.split_laws.proofs.drawn.Drawn.{begins}
+use Rattle.split_laws.proofs.measures.Splittable.{drawn_sided, can_be_split}
+
+module _ (M : Model) (s : ℕ) (p : Plane) (t : ℕ) (sound : Sound M) (accepted : split_refusal M s p t ≡ None) where
+  abbrev above : List ℕ
+  above = faces_above (with_drawings M s p).model p s
+
+  can : CanBeSplit (with_drawings M s p) (faces_above (with_drawings M s p).model p s) s p t
+  can = can_be_split M s p t sound accepted
+
+  -- cutting edges and drawing faces kept the six volumes
+  drawn_same : (u : ℕ) → six_volume (with_drawings M s p).model u ≡ six_volume M u
+  drawn_same u = drawings_volumes M s p t sound (begins M s p t sound accepted) u
+
+  pub volumes_shared : six_volume M s ≡ six_volume (split_model M s p t) s +ℤ six_volume (split_model M s p t) t
+  unfolding split_model
+  volumes_shared = sym (drawn_same s) ∙ split_shares (with_drawings M s p) above s p t can
+
+  pub on_either_side : (l h : ℕ) → (IsOfSolid (split_model M s p t) s l h → is_above p (start (split_model M s p t) h) ≡ false) × (IsOfSolid (split_model M s p t) t l h → is_below p (start (split_model M s p t) h) ≡ false)
+  unfolding split_model
+  on_either_side l h = parts_sided (with_drawings M s p) above s p t can (drawn_sided M s p t sound accepted) l h
+
+pub others_kept : (M : Model) (s : ℕ) (p : Plane) (t u : ℕ) → Sound M → split_refusal M s p t ≡ None → u ≢ s → u ≢ t → six_volume (split_model M s p t) u ≡ six_volume M u
+unfolding split_model
+others_kept M s p t u sound accepted not_s not_t = split_keeps (with_drawings M s p) (faces_above (with_drawings M s p).model p s) s p t u (can M s p t sound accepted) not_s not_t ∙ drawn_same M s p t sound accepted u

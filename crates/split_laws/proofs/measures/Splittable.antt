@@ -1,0 +1,134 @@
+-- The drawn model of a split that isn't refused: its faces are flat, and its section lies on the plane.
+use Rattle.std.proofs.Common.{◌≡◌, ◌≢◌, ℕ, true, false, not, ℤ, pos, List, [], ◌∷◌, None, is_some, refl, sym, ap, subst, ◌∙◌, arith, true≢false, inl, inr}
+use Rattle.std.specs.Prelude.{int_lt}
+use Rattle.std.specs.Ordering.{int_eq}
+use Rattle.std.proofs.lemmas.Int.{ints}
+use Rattle.std.proofs.lemmas.List.{append-nil}
+use Rattle.lattice.specs.declared.Plane.{Plane}
+use Rattle.lattice.specs.Vectors.{height, origin, same_point, direction, is_on, is_above, is_below}
+use Rattle.cyclic_list.specs.Items.{IsIn}
+use Rattle.cyclic_list.proofs.Lists.{count-append, IsIn_or_not}
+use Rattle.boundary_model.specs.HalfEdge.{mate}
+use Rattle.boundary_model.specs.Table as table
+use Rattle.boundary_model.specs.Model.{Model, tail, after, loop_of, face_of, outer, point_of, solid_of, faces_of}
+use Rattle.boundary_model.specs.Sound.{Sound, Has, HasHalf}
+use Rattle.boundary_model.proofs.Halves.{mate-mate}
+use Rattle.boundary_model.proofs.Models.{cycle_there}
+use Rattle.euler_operators.specs.Conditions.{AllHold, face_at, lists, strictly_rises}
+use Rattle.euler_laws.proofs.shared.Fans.{half_after, half_mate, loop_after}
+use Rattle.euler_laws.proofs.shared.Goes.{all_hold, not_true}
+use Rattle.solid_walks.proofs.Rising.{in_listed}
+use Rattle.shapes.specs.Faces.{start, corners}
+use Rattle.shapes.specs.Measure.{plane_of}
+use Rattle.solid_measure_laws.proofs.FlatFaces.{and_parts, are_on, told_anywhere}
+use Rattle.shapes.specs.split.Sides.{faces_above}
+use Rattle.shapes.specs.split.Drawing.{with_drawings}
+use Rattle.shapes.specs.split.Section.{below_halves, section_cycles}
+use Rattle.shapes.specs.split.Split.{first_conditions, split_refusal}
+use Rattle.split_drawing_laws.proofs.drawings.Stays.{has_loop, has_face}
+use Rattle.split_opening_laws.specs.cycles.SectionCycles.{IsBelowHalf, AreSectionCycles}
+use Rattle.split_drawing_laws.proofs.cut_volumes.Corners.{item_there, item_loop}
+use Rattle.split_drawing_laws.proofs.cut_volumes.Solids.{in_solid}
+use Rattle.split_drawing_laws.specs.drawn_volumes.Laws.{LiesOnOld}
+use Rattle.split_drawing_laws.proofs.drawn_volumes.Bounds.{OnFace, on_face}
+use Rattle.split_drawing_laws.proofs.drawn_volumes.DrawWhole.{drawn_lies}
+use Rattle.split_drawing_laws.proofs.face_sides.Final.{none_straddles}
+use Rattle.split_opening_laws.specs.sections.InTurn.{halves_in}
+use Rattle.split_laws.specs.opened.Laws.{LieOn}
+use Rattle.split_laws.specs.opened.Told.{AllTellAlike}
+use Rattle.split_laws.specs.volumes.Laws.{CanBeSplit}
+use Rattle.split_laws.specs.sides.Sided.{IsOnSide, AreSided}
+use Rattle.split_laws.proofs.sides.Begun.{begun_sided}
+use Rattle.split_laws.specs.drawn.Kept.{HasFace}
+use Rattle.split_laws.proofs.drawn.BothSides.{some_above}
+use Rattle.split_laws.proofs.drawn.Drawn.{begins, never_stuck, no_stray, drawn_sound, t_free, can_open_all, no_caps}
+
+-- what is neither above nor below lies level
+level : (n : ℤ) → int_lt (pos 0) n ≡ false → int_lt n (pos 0) ≡ false → int_eq n (pos 0) ≡ true
+level n a b = grind (arith, ints)
+
+-- each half of some section cycles lies between a face above and one that isn't
+half_in : (N : Model) (above : List ℕ) (s : ℕ) (cs : List (List ℕ)) → AreSectionCycles N above s cs → (b : ℕ) → IsIn b (halves_in cs) → IsBelowHalf N above s b
+half_in N above s [] w b i = absurd (omega (arith, i))
+half_in N above s (bs ∷ cs) w b i = elim (IsIn_or_not b bs) [
+  | inl j ↦ record { there = w.0.there b j; of_solid = w.0.of_solid b j; below = w.0.below b j; mate_above = w.0.mates_above b j }
+  | inr z ↦ half_in N above s cs w.1 b (omega (arith, i, z, count-append b bs (halves_in cs)))
+]
+
+-- where the listed faces of solid s lie on one side and the others on the other, what lies between starts on the plane
+module _ (N : Model) (sound : Sound N) (p : Plane) (s : ℕ) (fs : List ℕ) (sided : AreSided N p s fs) where
+  half_sided : (h : ℕ) → HasHalf N h → solid_of N (face_at N h) ≡ s → IsOnSide p (lists fs (face_at N h)) (start N h)
+  half_sided h there of = sided (loop_of N h) h (record { loop_there = has_loop N sound h there; face_there = has_face N sound h there; of_solid = of; item = cycle_there N sound h there })
+
+  pub between_on : (b : ℕ) → IsBelowHalf N fs s b → is_on p (start N b) ≡ true
+  between_on b w =
+      let m : HasHalf N (mate b) = half_mate N sound b w.there in
+      let n : HasHalf N (after N (mate b)) = half_after N sound (mate b) m in
+      let face : face_at N (after N (mate b)) ≡ face_at N (mate b) = ap (face_of N) (loop_after N sound (mate b) m) in
+      let starts : start N (after N (mate b)) ≡ start N b = ap (point_of N) (sound.ends_meet (mate b) m ∙ ap (tail N) (mate-mate b)) in
+      let of : solid_of N (face_at N (after N (mate b))) ≡ s = ap (solid_of N) face ∙ sym (sound.one_solid b w.there) ∙ w.of_solid in
+      let low : is_above p (start N b) ≡ false = subst (λ u. IsOnSide p u (start N b)) w.below (half_sided b w.there w.of_solid) in
+      let high : is_below p (start N (after N (mate b))) ≡ false = subst (λ u. IsOnSide p u (start N (after N (mate b)))) (ap (lists fs) face ∙ w.mate_above) (half_sided (after N (mate b)) n of) in
+      level (height p (start N b)) low (ap (is_below p) (sym starts) ∙ high)
+
+-- ---- a split that isn't refused
+
+module _ (M : Model) (s : ℕ) (p : Plane) (t : ℕ) (sound : Sound M) (accepted : split_refusal M s p t ≡ None) where
+  abbrev D : Model
+  D = (with_drawings M s p).model
+
+  abbrev above : List ℕ
+  above = faces_above (with_drawings M s p).model p s
+
+  abbrev cycles : List (List ℕ)
+  cycles = section_cycles (with_drawings M s p).model (below_halves (with_drawings M s p).model (faces_above (with_drawings M s p).model p s) s)
+
+  D_sound : Sound D
+  D_sound = drawn_sound M s p t sound accepted
+
+  -- the plane has a direction
+  directed : AllHold (first_conditions M s p t) → same_point (direction p) origin ≡ false
+  unfolding first_conditions
+  directed hold = not_true (same_point (direction p) origin) hold.1.1.1.1.1.1.1.1.0
+
+  some_way : same_point (direction p) origin ≡ false
+  some_way = directed (all_hold (first_conditions M s p t) (begins M s p t sound accepted))
+
+  -- ---- each face lies on the plane of an old one, from all of whose points it is told the same
+
+  alike : AllTellAlike D s
+  alike f there of h i =
+      let old : LiesOnOld M D s f = drawn_lies M s p t sound (begins M s p t sound accepted) f (in_listed f (faces_of D s) (in_solid D f s there of)) in
+      let on : OnFace D (plane_of M old.face) f = on_face D D_sound (plane_of M old.face) f (and_parts (not (same_point (direction (plane_of M old.face)) origin)) (are_on D (plane_of M old.face) (corners D f)) old.on).1 in
+      told_anywhere D (plane_of M old.face) f (start D h) D_sound there old.on
+      (on.halves h (item_there D D_sound (outer D f) h i) (ap (face_of D) (item_loop D D_sound (outer D f) h i) ∙ (D_sound.outers_there f there).1))
+
+  -- ---- no face straddles, so what lies between a face above and one that isn't lies on the plane
+
+  pub drawn_sided : AreSided (with_drawings M s p).model p s (faces_above (with_drawings M s p).model p s)
+  drawn_sided = begun_sided D p s D_sound (none_straddles M D s p t sound (begins M s p t sound accepted) (never_stuck M s p t sound accepted, refl))
+
+  section_on : LieOn D p cycles
+  section_on = record {
+    some_way = some_way;
+    on_plane = λ b i. between_on D D_sound p s above drawn_sided b (half_in D above s cycles (can_open_all M s p t sound accepted).cycles.cycles b i);
+  }
+
+  -- ---- the new solid's number is another one
+
+  s_there : Has D.solids s
+  s_there = let f : HasFace D s above true = some_above M s p t sound accepted in subst (Has D.solids) f.of_solid (D_sound.faces_of_solids f.face f.there)
+
+  two_solids : s ≢ t
+  two_solids e = true≢false (sym s_there ∙ ap is_some (ap (table.get D.solids) e ∙ t_free M s p t sound accepted))
+
+  pub can_be_split : CanBeSplit (with_drawings M s p) (faces_above (with_drawings M s p).model p s) s p t
+  can_be_split = record {
+    opens = can_open_all M s p t sound accepted;
+    above_rise = ap strictly_rises (sym (append-nil above)) ∙ (no_caps M s p t sound accepted).all_rise;
+    alike = alike;
+    lie_on = section_on;
+    no_stray = no_stray M s p t sound accepted;
+    apart = two_solids;
+    fresh = t_free M s p t sound accepted;
+  }

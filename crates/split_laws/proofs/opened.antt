@@ -1,0 +1,5 @@
+pub mod Starts
+pub mod Kept
+pub mod Caps
+pub mod Opened
+pub mod InTurn

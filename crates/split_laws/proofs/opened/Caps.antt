@@ -1,0 +1,265 @@
+-- The two caps that close a solid once it is opened along a cycle on a plane: they lie along the plane, and have opposite normals.
+use Rattle.std.proofs.Common.{◌≡◌, ◌≢◌, ℕ, zero, suc, ◌+◌, ◌≤◌, ◌<◌, true, false, not, nat_eq, ◌&&◌, List, [], ◌∷◌, ◌++◌, length, Option, Some, None, is_some, unwrap_or, refl, sym, ap, ◌∙◌, arith, true≢false, ◌⊎◌, inl, inr}
+use Rattle.std.specs.Prelude.{map, reverse, get_or}
+use Rattle.std.specs.List.{list_all}
+use Rattle.std.specs.Option.{option_map}
+use Rattle.std.proofs.lemmas.Bool.Decides.{nat_tests, eqb_tells}
+use Rattle.lattice.specs.declared.Point.{Point}
+use Rattle.lattice.specs.declared.Plane.{Plane}
+use Rattle.lattice.specs.Vectors.{origin, moved, cross, same_point, direction, is_on}
+use Rattle.cyclic_list.specs.Items.{count, IsIn, head_or}
+use Rattle.cyclic_list.specs.Rings.{canonical}
+use Rattle.cyclic_list.proofs.Lists.{tick_other}
+use Rattle.cyclic_list.proofs.Maps.{from_map, count-reverse}
+use Rattle.cyclic_list.proofs.Rotations.{count-canonical, IsIn_head}
+use Rattle.boundary_model.specs.HalfEdge.{mate, plus, minus}
+use Rattle.boundary_model.specs.Table as table
+use Rattle.boundary_model.specs.Table.{get-map_rows}
+use Rattle.boundary_model.specs.Model.{Model, LoopRow, cycle, no_face, items_of, tail, content, face_of, outer, point_of, rings_of}
+use Rattle.boundary_model.specs.Sound.{Has}
+use Rattle.boundary_model.proofs.Models.{content_row, face_row}
+use Rattle.boundary_model.proofs.Tables.{all_where_none}
+use Rattle.euler_laws.proofs.shared.Fans.{half_mate}
+use Rattle.shapes.proofs.fresh.Rows.{get-put_cases, get-put_here, get-put_other}
+use Rattle.shapes.specs.Faces.{start, finish, items_in, loops_of, boundary}
+use Rattle.shapes.specs.Fresh.{Taken, numbers_after}
+use Rattle.shapes.specs.Prism.{next_place}
+use Rattle.shapes.specs.Rewriting.{rewritten_row, renamed}
+use Rattle.shapes.specs.Measure.{area, normal, anchor, first_vertex, is_plane_of}
+use Rattle.shapes.proofs.Areas.{area-append, moved_nothing}
+use Rattle.lattice.proofs.Vectors.{none_moved}
+use Rattle.solid_measure_laws.specs.Vectors.{negated}
+use Rattle.solid_measure_laws.proofs.FlatFaces.{and_parts, flat_closed}
+use Rattle.solid_measure_laws.proofs.Paths.{Leads, IsClosed, first_in, rest_in}
+use Rattle.solid_measure_laws.proofs.Products.{cross_moved, cross_nothing}
+use Rattle.solid_measure_laws.proofs.Sums.{none_left, area_same, area_mates}
+use Rattle.shapes.specs.split.Opening.{both_lists, opened_along}
+use Rattle.split_opening_laws.specs.strips.Opened.{CanBeOpened}
+use Rattle.split_opening_laws.proofs.strips.Cycle.{at_most, next_cases, next_below, two_halves, half_in, mate_start, place_of}
+use Rattle.split_opening_laws.proofs.strips.Places.{IsIn-map}
+use Rattle.split_opening_laws.specs.sections.InTurn.{AreFree}
+use Rattle.split_opening_laws.proofs.sections.OpenedRows.{faces_are, loops_are}
+use Rattle.split_opening_laws.proofs.sections.OpenedFaces.{upper_row}
+use Rattle.split_laws.specs.opened.Told.{LiesAlong}
+use Rattle.split_laws.proofs.opened.Starts.{start_old, finish_old, back_along}
+
+-- ---- lists
+
+numbers_place : (k n x : ℕ) → IsIn x (numbers_after k n) → (j : ℕ) × (j < n) × (x ≡ k + suc j)
+numbers_place k zero x i = absurd (omega (arith, i))
+numbers_place k (suc n) x i = elim (eqb_tells x (k + 1)) [
+  | inl e ↦ (0, omega arith, e.1)
+  | inr e ↦ let r = numbers_place (k + 1) n x (omega (arith, i, tick_other x (k + 1) e.1)) in (suc r.0, omega (arith, r.1), omega (arith, r.2))
+]
+
+each_on : (M : Model) (p : Plane) (hs : List ℕ) → list_all (λ v. is_on p (point_of M v)) (map (tail M) hs) ≡ true → (h : ℕ) → IsIn h hs → is_on p (start M h) ≡ true
+each_on M p [] on h i = absurd (omega (arith, i))
+each_on M p (g ∷ hs) on h i = let a = and_parts (is_on p (start M g)) _ on in elim (eqb_tells h g) [
+  | inl e ↦ ap (λ x. is_on p (start M x)) e.1 ∙ a.0
+  | inr e ↦ each_on M p hs a.1 h (omega (arith, i, tick_other h g e.1))
+]
+
+-- ---- paths
+
+leads_by : (M : Model) (hs : List ℕ) (e : Point) → ((i : ℕ) → suc i < length hs → finish M (get_or hs i 0) ≡ start M (get_or hs (suc i) 0)) →
+    ((i : ℕ) → suc i ≡ length hs → finish M (get_or hs i 0) ≡ e) → Leads M hs e
+leads_by M [] e step last = tt
+leads_by M (h ∷ []) e step last = (last 0 (omega arith), tt)
+leads_by M (h ∷ g ∷ gs) e step last = (step 0 (omega arith), leads_by M (g ∷ gs) e (λ i l. step (suc i) (omega (arith, l))) (λ i q. last (suc i) (omega (arith, q))))
+
+closed_round : (M : Model) (hs : List ℕ) → ((i : ℕ) → i < length hs → tail M (get_or hs (next_place (length hs) i) 0) ≡ tail M (mate (get_or hs i 0))) → IsClosed M hs
+closed_round M [] meet = tt
+closed_round M (h ∷ hs) meet = leads_by M (h ∷ hs) (start M h)
+    (λ i l. ap (point_of M) (sym (meet i (omega (arith, l))) ∙ ap (λ n. tail M (get_or (h ∷ hs) n 0)) (step i l)))
+    (λ i q. ap (point_of M) (sym (meet i (omega (arith, q))) ∙ ap (λ n. tail M (get_or (h ∷ hs) n 0)) (last i q)))
+  where
+    step : (i : ℕ) → suc i < length (h ∷ hs) → next_place (length (h ∷ hs)) i ≡ suc i
+    step i l = elim (next_cases (length (h ∷ hs)) i) [
+      | inl p ↦ absurd (omega (arith, l, p.0))
+      | inr p ↦ p.1 ∙ omega arith
+    ]
+
+    last : (i : ℕ) → suc i ≡ length (h ∷ hs) → next_place (length (h ∷ hs)) i ≡ 0
+    last i q = elim (next_cases (length (h ∷ hs)) i) [
+      | inl p ↦ p.1
+      | inr p ↦ absurd (p.0 (omega (arith, q)))
+    ]
+
+-- half-edges with the numbers after k that run along those of a list
+back_area : (M N : Model) (k : ℕ) (hs : List ℕ) → ((j : ℕ) → j < length hs → (start N (minus (k + suc j)) ≡ start M (get_or hs j 0)) × (finish N (minus (k + suc j)) ≡ finish M (get_or hs j 0))) →
+    area N (map minus (numbers_after k (length hs))) ≡ area M hs
+back_area M N k [] e = refl
+back_area M N k (h ∷ hs) e = let q = e 0 (omega arith) in λ i. moved (cross (q.0 i) (q.1 i)) (back_area M N (k + 1) hs later i) where
+  later : (j : ℕ) → j < length hs → (start N (minus (k + 1 + suc j)) ≡ start M (get_or hs j 0)) × (finish N (minus (k + 1 + suc j)) ≡ finish M (get_or hs j 0))
+  later j l =
+      let r = e (suc j) (omega (arith, l)) in
+      let n : k + 1 + suc j ≡ k + suc (suc j) = omega arith in
+      (ap (λ x. start N (minus x)) n ∙ r.0, ap (λ x. finish N (minus x)) n ∙ r.1)
+
+pub area_kept : (M N : Model) (hs : List ℕ) → ((h : ℕ) → IsIn h hs → (start N h ≡ start M h) × (finish N h ≡ finish M h)) → area N hs ≡ area M hs
+area_kept M N [] e = refl
+area_kept M N (h ∷ hs) e = let q = e h (first_in h hs) in λ i. moved (cross (q.0 i) (q.1 i)) (area_kept M N hs (λ x j. e x (rest_in x h hs j)) i)
+
+-- ---- vectors and planes
+
+cross_negated : (n a : Point) → cross n a ≡ origin → cross n (negated a) ≡ origin
+cross_negated n a e = sym (none_moved (cross n (negated a))) ∙ ap (λ v. moved v (cross n (negated a))) (sym e) ∙ sym (cross_moved n a (negated a)) ∙ ap (cross n) (none_left a) ∙ cross_nothing n
+
+pub only_loop : (M : Model) (k : ℕ) (cs : List ℕ) → rings_of M k ≡ [] → content M (outer M k) ≡ cycle cs → normal M k ≡ area M cs
+unfolding normal boundary loops_of
+only_loop M k cs alone is = ap (λ rs. area M (items_in M (outer M k ∷ rs))) alone ∙ ap (λ c. area M (items_of c ++ [])) is ∙ area-append M cs [] ∙ moved_nothing (area M cs)
+
+head_within : (xs : List ℕ) → xs ≢ [] → IsIn (head_or 0 xs) xs
+head_within [] ne = absurd (ne refl)
+head_within (x ∷ xs) ne = IsIn_head x xs
+
+-- the anchor of a face that lies along a plane is on it
+pub anchor_along : (M : Model) (p : Plane) (f : ℕ) → LiesAlong M p f → is_on p (anchor M f) ≡ true
+anchor_along M p f w = ap (λ c. is_on p (point_of M (first_vertex M c))) w.outer_is ∙ w.on_plane (head_or 0 w.items) (head_within w.items w.some_item)
+
+no_ring : (a f o l : ℕ) → (a ≡ f → o ≡ l) → (nat_eq a f && not (nat_eq o l)) ≡ false
+no_ring a f o l e = grind (arith, nat_tests)
+
+module _ (M : Model) (above : List ℕ) (s : ℕ) (c : Taken) (bs : List ℕ) (w : CanBeOpened M above s c bs) where
+  abbrev m : ℕ
+  m = length bs
+
+  abbrev N : Model
+  N = opened_along M above s c bs
+
+  abbrev pub lower : ℕ
+  lower = c.face + 1
+
+  abbrev pub upper : ℕ
+  upper = c.face + length bs + 1
+
+  abbrev swaps : List (ℕ × ℕ)
+  swaps = both_lists (map mate bs) (map plus (numbers_after c.edge (length bs)))
+
+  pub free : AreFree M c
+  free = record { faces = w.faces_free; loops = w.loops_free; edges = w.edges_free; vertices = w.vertices_free }
+
+  pub lower_row : table.get N.faces (c.face + 1) ≡ Some (record { solid = s; outer = c.loop + 1 })
+  lower_row = ap (λ t. table.get t (c.face + 1)) (faces_are M above s c bs) ∙ get-put_other _ (c.face + m + 1) _ (c.face + 1) (λ e. absurd (omega (arith, e, two_halves M above s c bs w))) ∙ get-put_here _ (c.face + 1) _
+
+  lower_loop : table.get N.loops (c.loop + 1) ≡ Some (record { face = c.face + 1; content = cycle (canonical (reverse (map mate bs))) })
+  lower_loop = ap (λ t. table.get t (c.loop + 1)) (loops_are M above s c bs) ∙ get-put_other _ (c.loop + m + 1) _ (c.loop + 1) (λ e. absurd (omega (arith, e, two_halves M above s c bs w))) ∙ get-put_here _ (c.loop + 1) _
+
+  upper_loop : table.get N.loops (c.loop + length bs + 1) ≡ Some (record { face = c.face + length bs + 1; content = cycle (map minus (numbers_after c.edge (length bs))) })
+  upper_loop = ap (λ t. table.get t (c.loop + m + 1)) (loops_are M above s c bs) ∙ get-put_here _ (c.loop + m + 1) _
+
+  -- ---- which loops there are
+
+  old_row : (l : ℕ) (o : Option LoopRow) (row : LoopRow) → table.get M.loops l ≡ o → option_map (rewritten_row (map (renamed swaps)) l) o ≡ Some row → Has M.loops l × (face_of M l ≡ row.face)
+  old_row l None row e at = absurd (true≢false (sym (ap is_some at)))
+  old_row l (Some old) row e at = (ap is_some e, face_row M l old e ∙ ap (λ o. (unwrap_or o row).face) at)
+
+  pub loop_kinds : (l : ℕ) (row : LoopRow) → table.get N.loops l ≡ Some row →
+      ((l ≡ c.loop + length bs + 1) × (row.face ≡ c.face + length bs + 1)) ⊎ (((l ≡ c.loop + 1) × (row.face ≡ c.face + 1)) ⊎ (Has M.loops l × (face_of M l ≡ row.face)))
+  loop_kinds l row at = elim (get-put_cases _ (c.loop + m + 1) _ l row (sym (ap (λ t. table.get t l) (loops_are M above s c bs)) ∙ at)) [
+    | inl q ↦ inl (q.0, ap (λ x. x.face) q.1)
+    | inr q ↦ elim (get-put_cases _ (c.loop + 1) _ l row q.1) [
+      | inl r ↦ inr (inl (r.0, ap (λ x. x.face) r.1))
+      | inr r ↦ inr (inr (old_row l (table.get M.loops l) row refl (sym (get-map_rows (rewritten_row (map (renamed swaps))) M.loops l) ∙ r.1)))
+    ]
+  ]
+
+  old_face : (l : ℕ) → Has M.loops l → face_of M l ≤ c.face
+  old_face l there = at_most M.faces c.face (face_of M l) w.faces_free (w.sound.loops_of_faces l there)
+
+  -- ---- the caps have one loop each
+
+  pub outer_lower : outer N (c.face + 1) ≡ c.loop + 1
+  unfolding outer
+  outer_lower = ap (λ o. (unwrap_or o no_face).outer) lower_row
+
+  pub outer_upper : outer N (c.face + length bs + 1) ≡ c.loop + length bs + 1
+  unfolding outer
+  outer_upper = ap (λ o. (unwrap_or o no_face).outer) (upper_row M above s c bs)
+
+  lower_content : content N (outer N (c.face + 1)) ≡ cycle (canonical (reverse (map mate bs)))
+  lower_content = ap (content N) outer_lower ∙ content_row N (c.loop + 1) _ lower_loop
+
+  upper_content : content N (outer N (c.face + length bs + 1)) ≡ cycle (map minus (numbers_after c.edge (length bs)))
+  upper_content = ap (content N) outer_upper ∙ content_row N (c.loop + length bs + 1) _ upper_loop
+
+  lower_alone : rings_of N (c.face + 1) ≡ []
+  lower_alone = all_where_none _ N.loops (λ l row at. no_ring row.face (c.face + 1) (outer N (c.face + 1)) l (λ e. elim (loop_kinds l row at) [
+    | inl q ↦ absurd (omega (arith, e, q.1, two_halves M above s c bs w))
+    | inr q ↦ elim q [
+      | inl r ↦ outer_lower ∙ sym r.0
+      | inr r ↦ absurd (omega (arith, e, r.1, old_face l r.0))
+    ]
+  ]))
+
+  upper_alone : rings_of N (c.face + length bs + 1) ≡ []
+  upper_alone = all_where_none _ N.loops (λ l row at. no_ring row.face (c.face + length bs + 1) (outer N (c.face + length bs + 1)) l (λ e. elim (loop_kinds l row at) [
+    | inl q ↦ outer_upper ∙ sym q.0
+    | inr q ↦ elim q [
+      | inl r ↦ absurd (omega (arith, e, r.1, two_halves M above s c bs w))
+      | inr r ↦ absurd (omega (arith, e, r.1, old_face l r.0))
+    ]
+  ]))
+
+  -- ---- their normals
+
+  halves_kept : area N bs ≡ area M bs
+  halves_kept = area_kept M N bs (λ h i. (start_old M above s c bs w h (w.there h i), finish_old M above s c bs w h (w.there h i)))
+
+  pub lower_normal : normal N (c.face + 1) ≡ negated (area M bs)
+  lower_normal = only_loop N (c.face + 1) (canonical (reverse (map mate bs))) lower_alone lower_content
+      ∙ area_same N (canonical (reverse (map mate bs))) (map mate bs) (λ x. count-canonical x (reverse (map mate bs)) ∙ count-reverse x (map mate bs))
+      ∙ area_mates N bs ∙ ap negated halves_kept
+
+  pub upper_normal : normal N (c.face + length bs + 1) ≡ area M bs
+  upper_normal = only_loop N (c.face + length bs + 1) (map minus (numbers_after c.edge (length bs))) upper_alone upper_content ∙ back_area M N c.edge bs (back_along M above s c bs w)
+
+  -- ---- the caps lie along the plane
+
+  module _ (p : Plane) (on : is_plane_of M p (map (tail M) bs) ≡ true) where
+    starts_on : (b : ℕ) → IsIn b bs → is_on p (start M b) ≡ true
+    starts_on = each_on M p bs (and_parts (not (same_point (direction p) origin)) _ on).1
+
+    ends_on : (b : ℕ) → IsIn b bs → is_on p (finish M b) ≡ true
+    ends_on b i = let q = place_of M above s c bs w b i in
+        ap (λ v. is_on p (point_of M v)) (ap (λ h. tail M (mate h)) q.2 ∙ mate_start M above s c bs w q.0 q.1)
+        ∙ starts_on (get_or bs (next_place m q.0) 0) (half_in M above s c bs w (next_place m q.0) (next_below m q.0 q.1))
+
+    pub cycle_across : cross (direction p) (area M bs) ≡ origin
+    cycle_across = flat_closed M p bs (closed_round M bs w.meet) (and_parts (not (same_point (direction p) origin)) _ on).1
+
+    some_mate : IsIn (mate (get_or bs 0 0)) (map mate bs)
+    some_mate = IsIn-map mate bs (get_or bs 0 0) (half_in M above s c bs w 0 (omega (arith, two_halves M above s c bs w)))
+
+    in_lower : (h : ℕ) → IsIn h (canonical (reverse (map mate bs))) → is_on p (start N h) ≡ true
+    in_lower h i =
+        let r = from_map mate h bs (omega (arith, i, count-canonical h (reverse (map mate bs)), count-reverse h (map mate bs))) in
+        ap (λ x. is_on p (start N x)) r.2 ∙ ap (is_on p) (start_old M above s c bs w (mate r.0) (half_mate M w.sound r.0 (w.there r.0 r.1))) ∙ ends_on r.0 r.1
+
+    in_upper : (h : ℕ) → IsIn h (map minus (numbers_after c.edge (length bs))) → is_on p (start N h) ≡ true
+    in_upper h i =
+        let r = from_map minus h (numbers_after c.edge m) i in
+        let q = numbers_place c.edge m r.0 r.1 in
+        ap (λ x. is_on p (start N x)) (r.2 ∙ ap minus q.2) ∙ ap (is_on p) (back_along M above s c bs w q.0 q.1).0 ∙ starts_on (get_or bs q.0 0) (half_in M above s c bs w q.0 q.1)
+
+    some_number : (k n : ℕ) → 1 ≤ n → IsIn (minus (k + 1)) (map minus (numbers_after k n))
+    some_number k zero l = absurd (omega (arith, l))
+    some_number k (suc n) l = IsIn_head (minus (k + 1)) (map minus (numbers_after (k + 1) n))
+
+    pub lower_along : LiesAlong N p (c.face + 1)
+    lower_along = record {
+      items = canonical (reverse (map mate bs));
+      some_item = λ e. absurd (omega (arith, some_mate, ap (count (mate (get_or bs 0 0))) e, count-canonical (mate (get_or bs 0 0)) (reverse (map mate bs)), count-reverse (mate (get_or bs 0 0)) (map mate bs)));
+      outer_is = lower_content;
+      on_plane = in_lower;
+      across = ap (cross (direction p)) lower_normal ∙ cross_negated (direction p) (area M bs) cycle_across;
+    }
+
+    pub upper_along : LiesAlong N p (c.face + length bs + 1)
+    upper_along = record {
+      items = map minus (numbers_after c.edge (length bs));
+      some_item = λ e. absurd (omega (arith, some_number c.edge (length bs) (omega (arith, two_halves M above s c bs w)), ap (count (minus (c.edge + 1))) e));
+      outer_is = upper_content;
+      on_plane = in_upper;
+      across = ap (cross (direction p)) upper_normal ∙ cycle_across;
+    }

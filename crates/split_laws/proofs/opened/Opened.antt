@@ -1,0 +1,178 @@
+-- The six volumes of a solid that is opened along a cycle on a plane, and those of the other solids.
+use Rattle.std.proofs.Common.{◌≡◌, ◌≢◌, ℕ, ◌+◌, ℤ, pos, ◌+ℤ◌, neg_ℤ, Bool, true, not, nat_eq, List, ◌∷◌, length, None, is_some, refl, sym, ap, subst, ◌∙◌, arith, true≢false, inl, inr}
+use Rattle.std.specs.Prelude.{map}
+use Rattle.std.proofs.lemmas.Bool.Decides.{eqb_tells}
+use Rattle.std.proofs.lemmas.Int.{ints}
+use Rattle.lattice.specs.declared.Plane.{Plane}
+use Rattle.lattice.specs.Vectors.{origin, dot, same_point, direction}
+use Rattle.cyclic_list.specs.Items.{count, IsIn, SameItems}
+use Rattle.cyclic_list.proofs.Lists.{tick_same, tick_other, IsIn_or_not}
+use Rattle.cyclic_list.proofs.Maps.{from_map}
+use Rattle.boundary_model.specs.HalfEdge.{mate, plus}
+use Rattle.boundary_model.specs.Table as table
+use Rattle.boundary_model.specs.Model.{Model, FaceRow, items_of, tail, content, face_of, loop_of, outer, solid_of, faces_of}
+use Rattle.boundary_model.specs.Sound.{Has}
+use Rattle.boundary_model.proofs.Models.{in-holds}
+use Rattle.euler_operators.specs.Conditions.{lists}
+use Rattle.euler_laws.proofs.shared.Goes.{equal, equals, differs}
+use Rattle.euler_laws.proofs.shared.Listed.{listed_passes, listed_as}
+use Rattle.euler_laws.proofs.shared.Rows.{face_there}
+use Rattle.shapes.proofs.fresh.Rows.{get-put_other}
+use Rattle.shapes.specs.Fresh.{Taken, numbers_after}
+use Rattle.shapes.specs.Measure.{area, anchor, is_plane_of, volume_in, six_volume}
+use Rattle.solid_measure_laws.proofs.FlatFaces.{and_parts, told_alike}
+use Rattle.solid_measure_laws.proofs.Sums.{dot_back}
+use Rattle.shapes.specs.split.Opening.{opened_along}
+use Rattle.split_opening_laws.specs.strips.Opened.{CanBeOpened}
+use Rattle.split_opening_laws.proofs.strips.Cycle.{at_most, two_halves}
+use Rattle.split_opening_laws.proofs.sections.OpenedRows.{faces_are, loop_row, face_still}
+use Rattle.split_opening_laws.proofs.sections.OpenedFaces.{upper_row}
+use Rattle.split_opening_laws.proofs.sections.Pairs.{renamed_not}
+use Rattle.gluing_laws.proofs.Listed.{one_if, passed, count_where, same_search, volume_of, volume_same, same_volumes}
+use Rattle.split_laws.specs.opened.Told.{AllTellAlike}
+use Rattle.split_laws.proofs.opened.Starts.{swap, point_old, swapped}
+use Rattle.split_laws.proofs.opened.Kept as kept
+use Rattle.split_laws.proofs.opened.Kept.{Rewritten}
+use Rattle.split_laws.proofs.opened.Caps.{free, lower_row, loop_kinds, lower_normal, upper_normal, cycle_across, lower_along, upper_along, anchor_along}
+
+pub some_direction : (p : Plane) → not (same_point (direction p) origin) ≡ true → direction p ≢ origin
+some_direction p e z = true≢false (sym e ∙ ap (λ v. not (same_point v origin)) z)
+
+module _ (M : Model) (above : List ℕ) (s : ℕ) (c : Taken) (bs : List ℕ) (w : CanBeOpened M above s c bs) where
+  abbrev N : Model
+  N = opened_along M above s c bs
+
+  abbrev lower : ℕ
+  lower = c.face + 1
+
+  abbrev upper : ℕ
+  upper = c.face + length bs + 1
+
+  -- its loops are rewritten, and the two new ones are of new faces
+  pub is_rewritten : Rewritten M N (swap M above s c bs w)
+  is_rewritten = record {
+    sound = w.sound;
+    faces = face_still M above s c bs w.sound (free M above s c bs w);
+    loops = loop_row M above s c bs w.sound (free M above s c bs w);
+    others = λ l row at. elim (loop_kinds M above s c bs w l row at) [
+      | inl q ↦ inr (ap (table.get M.faces) q.1 ∙ w.faces_free upper (omega arith))
+      | inr q ↦ elim q [
+        | inl r ↦ inr (ap (table.get M.faces) r.1 ∙ w.faces_free lower (omega arith))
+        | inr r ↦ inl r.0
+      ]
+    ];
+    stays = swapped M above s c bs w;
+    points = λ v there. point_old M above s c bs w v (at_most M.vertices c.vertex v w.vertices_free there);
+  }
+
+  -- ---- which faces there are
+
+  abbrev of : ℕ → ℕ → FaceRow → Bool
+  of u k row = nat_eq row.solid u
+
+  lower_free : table.get M.faces lower ≡ None
+  lower_free = w.faces_free lower (omega arith)
+
+  upper_free : table.get M.faces upper ≡ None
+  upper_free = w.faces_free upper (omega arith)
+
+  caps_apart : lower ≢ upper
+  caps_apart e = absurd (omega (arith, e, two_halves M above s c bs w))
+
+  other_row : (k : ℕ) → k ≢ lower → k ≢ upper → table.get N.faces k ≡ table.get M.faces k
+  other_row k a b = ap (λ t. table.get t k) (faces_are M above s c bs) ∙ get-put_other _ upper _ k b ∙ get-put_other M.faces lower _ k a
+
+  abbrev SameAt : ℕ → Type 0
+  SameAt k = count k (faces_of N s) ≡ count k (lower ∷ upper ∷ faces_of M s)
+
+  at_lower : SameAt lower
+  at_lower =
+      let here : count lower (faces_of N s) ≡ 1 = count_where (of s) N.faces lower ∙ ap (passed (of s) lower) (lower_row M above s c bs w) ∙ ap one_if (equals s s refl) in
+      let none : count lower (faces_of M s) ≡ 0 = count_where (of s) M.faces lower ∙ ap (passed (of s) lower) lower_free in
+      omega (arith, here, none, tick_same lower, tick_other lower upper caps_apart)
+
+  at_upper : SameAt upper
+  at_upper =
+      let here : count upper (faces_of N s) ≡ 1 = count_where (of s) N.faces upper ∙ ap (passed (of s) upper) (upper_row M above s c bs) ∙ ap one_if (equals s s refl) in
+      let none : count upper (faces_of M s) ≡ 0 = count_where (of s) M.faces upper ∙ ap (passed (of s) upper) upper_free in
+      omega (arith, here, none, tick_same upper, tick_other upper lower (λ e. caps_apart (sym e)))
+
+  at_other : (k : ℕ) → k ≢ lower → k ≢ upper → SameAt k
+  at_other k a b =
+      let now : count k (faces_of N s) ≡ count k (faces_of M s) = count_where (of s) N.faces k ∙ ap (passed (of s) k) (other_row k a b) ∙ sym (count_where (of s) M.faces k) in
+      omega (arith, now, tick_other k lower a, tick_other k upper b)
+
+  -- the solid has its faces and the caps
+  pub same_faces : SameItems (faces_of N s) (lower ∷ upper ∷ faces_of M s)
+  same_faces k = elim (eqb_tells k lower) [
+    | inl e ↦ subst SameAt (sym e.1) at_lower
+    | inr a ↦ elim (eqb_tells k upper) [ inl e ↦ subst SameAt (sym e.1) at_upper | inr b ↦ at_other k a.1 b.1 ]
+  ]
+
+  -- another solid has its own
+  other_faces : (u : ℕ) → u ≢ s → faces_of N u ≡ faces_of M u
+  other_faces u ne = same_search (of u) (of u) N.faces M.faces (λ k. elim (eqb_tells k lower) [
+    | inl e ↦ ap (λ j. passed (of u) j (table.get N.faces j)) e.1 ∙ ap (passed (of u) lower) (lower_row M above s c bs w) ∙ ap one_if (differs s u (λ q. ne (sym q)))
+        ∙ sym (ap (λ j. passed (of u) j (table.get M.faces j)) e.1 ∙ ap (passed (of u) lower) lower_free)
+    | inr a ↦ elim (eqb_tells k upper) [
+      | inl e ↦ ap (λ j. passed (of u) j (table.get N.faces j)) e.1 ∙ ap (passed (of u) upper) (upper_row M above s c bs) ∙ ap one_if (differs s u (λ q. ne (sym q)))
+          ∙ sym (ap (λ j. passed (of u) j (table.get M.faces j)) e.1 ∙ ap (passed (of u) upper) upper_free)
+      | inr b ↦ ap (passed (of u) k) (other_row k a.1 b.1)
+    ]
+  ])
+
+  of_solid : (u k : ℕ) → lists (faces_of M u) k ≡ true → Has M.faces k × (solid_of M k ≡ u)
+  of_solid u k i =
+      let there : Has M.faces k = ap is_some (listed_passes (of u) M.faces k i).1 in
+      (there, equal (solid_of M k) u (sym (listed_as (of u) M.faces k _ (face_there M k there)) ∙ i))
+
+  -- ---- another solid
+
+  module _ (u : ℕ) (ne : u ≢ s) where
+    no_mate : (k y : ℕ) → Has M.faces k → solid_of M k ≡ u → IsIn y (items_of (content M (outer M k))) → IsIn y (map mate bs) → ⊥
+    no_mate k y there is i j =
+        let r = from_map mate y bs j in
+        let at : face_of M (loop_of M y) ≡ k = ap (face_of M) (w.sound.one_loop y (outer M k) (in-holds y (content M (outer M k)) i)) ∙ (w.sound.outers_there k there).1 in
+        ne (sym is ∙ ap (solid_of M) (sym at) ∙ ap (λ h. solid_of M (face_of M (loop_of M h))) r.2 ∙ sym (w.sound.one_solid r.0 (w.there r.0 r.1)) ∙ w.of_solid r.0 r.1)
+
+    nothing_replaced : (k : ℕ) → Has M.faces k → solid_of M k ≡ u → (y : ℕ) → IsIn y (items_of (content M (outer M k))) → swap M above s c bs w y ≡ y
+    nothing_replaced k there is y i = elim (IsIn_or_not y (map mate bs)) [
+      | inl j ↦ absurd (no_mate k y there is i j)
+      | inr z ↦ renamed_not (map mate bs) (map plus (numbers_after c.edge (length bs))) y z
+    ]
+
+    other_keeps : six_volume N u ≡ six_volume M u
+    unfolding six_volume
+    other_keeps = ap (volume_in N) (other_faces u ne) ∙ same_volumes M N (faces_of M u)
+        (λ k i. let r = of_solid u k i in kept.volume_same M N (swap M above s c bs w) is_rewritten k r.0 (nothing_replaced k r.0 r.1))
+
+  -- ---- the solid
+
+  module _ (p : Plane) (on : is_plane_of M p (map (tail M) bs) ≡ true) where
+    opposite : (a b : ℤ) → a ≡ b → neg_ℤ a +ℤ b ≡ pos 0
+    opposite a b e = omega (arith, ints)
+
+    -- together the caps add nothing
+    caps_nothing : volume_of N lower +ℤ volume_of N upper ≡ pos 0
+    caps_nothing =
+        let a = area M bs in
+        (λ i. (ap (dot (anchor N lower)) (lower_normal M above s c bs w) ∙ dot_back (anchor N lower) a) i +ℤ ap (dot (anchor N upper)) (upper_normal M above s c bs w) i)
+        ∙ opposite (dot (anchor N lower) a) (dot (anchor N upper) a)
+        (told_alike N p a (anchor N lower) (anchor N upper) (some_direction p (and_parts (not (same_point (direction p) origin)) _ on).0) (cycle_across M above s c bs w p on)
+        (anchor_along N p lower (lower_along M above s c bs w p on)) (anchor_along N p upper (upper_along M above s c bs w p on)))
+
+    none_added : (a b d : ℤ) → a +ℤ b ≡ pos 0 → a +ℤ (b +ℤ d) ≡ d
+    none_added a b d e = omega (arith, ints)
+
+    solid_keeps : AllTellAlike M s → six_volume N s ≡ six_volume M s
+    unfolding six_volume
+    solid_keeps alike = volume_same N (faces_of N s) (lower ∷ upper ∷ faces_of M s) same_faces
+        ∙ none_added (volume_of N lower) (volume_of N upper) (volume_in N (faces_of M s)) caps_nothing
+        ∙ same_volumes M N (faces_of M s) (λ k i. let r = of_solid s k i in kept.volume_is M N (swap M above s c bs w) is_rewritten k r.0 (alike k r.0 r.1))
+
+pub opening_keeps : (M : Model) (above : List ℕ) (s : ℕ) (c : Taken) (bs : List ℕ) (p : Plane) (u : ℕ) → CanBeOpened M above s c bs → AllTellAlike M s →
+    is_plane_of M p (map (tail M) bs) ≡ true → six_volume (opened_along M above s c bs) u ≡ six_volume M u
+opening_keeps M above s c bs p u w alike on = elim (eqb_tells u s) [
+  | inl e ↦ subst (λ v. six_volume (opened_along M above s c bs) v ≡ six_volume M v) (sym e.1) (solid_keeps M above s c bs w p on alike)
+  | inr e ↦ other_keeps M above s c bs w u e.1
+]

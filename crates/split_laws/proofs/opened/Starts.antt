@@ -1,0 +1,167 @@
+-- Where half-edges start and end once a solid is opened along a cycle: where they did, and what stands in the place of a mate starts
+-- and ends where that did.
+use Rattle.std.proofs.Common.{◌≡◌, ◌≢◌, ℕ, zero, suc, ◌+◌, ◌≤◌, ◌<◌, Bool, true, false, cond, not, ◌&&◌, nat_eq, List, length, Some, unwrap_or, sym, ap, ◌∙◌, arith, inl, inr}
+use Rattle.std.specs.Prelude.{map, get_or}
+use Rattle.std.specs.Option.{option_map}
+use Rattle.std.proofs.lemmas.Bool.Decides.{eqb_tells}
+use Rattle.std.proofs.lemmas.List.{length-map, get_or-map}
+use Rattle.boundary_model.specs.HalfEdge.{mate, edge_of, is_first, plus, minus}
+use Rattle.boundary_model.specs.Table as table
+use Rattle.boundary_model.specs.Table.{Table, get-map_rows}
+use Rattle.boundary_model.specs.Model.{Model, EdgeRow, tail, tail_in, no_point, point_of}
+use Rattle.boundary_model.specs.Sound.{HasHalf}
+use Rattle.boundary_model.proofs.Halves.{mate-mate, plus_row, minus_row}
+use Rattle.boundary_model.proofs.Models.{tail_row}
+use Rattle.euler_operators.specs.Conditions.{face_at, lists}
+use Rattle.euler_laws.proofs.shared.Arcs.{halves_of_edge}
+use Rattle.euler_laws.proofs.shared.Fans.{half_mate}
+use Rattle.euler_laws.proofs.shared.Goes.{equals, differs}
+use Rattle.euler_laws.proofs.shared.Loops.{some_row}
+use Rattle.euler_laws.proofs.shared.Undo.{mate_plus, mate_minus}
+use Rattle.shapes.proofs.fresh.Rows.{get-put_here, get-put_other}
+use Rattle.shapes.specs.Faces.{start, finish}
+use Rattle.shapes.specs.Fresh.{Taken, numbers_after}
+use Rattle.shapes.specs.Prism.{next_place}
+use Rattle.shapes.specs.Rewriting.{renamed}
+use Rattle.shapes.specs.split.Opening.{opened_tail, opened_row, with_rim, with_copies, both_lists, opened_along}
+use Rattle.split_opening_laws.specs.strips.Opened.{CanBeOpened}
+use Rattle.split_opening_laws.specs.strips.Strips.{copied}
+use Rattle.split_opening_laws.proofs.strips.Copied.{points_next, none_copied}
+use Rattle.split_opening_laws.proofs.strips.Cycle.{next_cases, next_below, low_edge, low_vertex}
+use Rattle.split_opening_laws.proofs.strips.Rows.{length-numbers_after, numbers_at, renamed_cases}
+use Rattle.split_opening_laws.proofs.sections.OpenedRows.{edges_are, vertices_are}
+use Rattle.split_opening_laws.proofs.sections.Rims.{rim_below}
+
+-- the row of each of the first i edges round a cap
+abbrev rim_row : ℕ → ℕ → ℕ → EdgeRow
+rim_row y m j = record { plus_tail = cond (nat_eq (suc j) m) (y + 1) (y + suc j + 1); minus_tail = y + suc j }
+
+less_than : (i j : ℕ) → j < suc i → j ≢ i → j < i
+less_than i j l ne = grind arith
+
+rim_at : (t : Table EdgeRow) (k y m i j : ℕ) → j < i → table.get (with_rim t k y m i) (k + suc j) ≡ Some (rim_row y m j)
+rim_at t k y m zero j l = absurd (omega arith)
+rim_at t k y m (suc i) j l = elim (eqb_tells j i) [
+  | inl e ↦ ap (λ n. table.get (with_rim t k y m (suc i)) (k + suc n)) e.1 ∙ get-put_here (with_rim t k y m i) (k + suc i) _ ∙ ap (λ n. Some (rim_row y m n)) (sym e.1)
+  | inr e ↦ get-put_other (with_rim t k y m i) (k + suc i) _ (k + suc j) (λ q. e.1 (omega (arith, q))) ∙ rim_at t k y m i j (less_than i j l e.1)
+]
+
+module _ (M : Model) (above : List ℕ) (s : ℕ) (c : Taken) (bs : List ℕ) (w : CanBeOpened M above s c bs) where
+  abbrev m : ℕ
+  m = length bs
+
+  abbrev mates : List ℕ
+  mates = map mate bs
+
+  abbrev copies : List (ℕ × ℕ)
+  copies = copied M c bs (length bs)
+
+  abbrev N : Model
+  N = opened_along M above s c bs
+
+  -- what stands in the place of the mates
+  abbrev pub swap : ℕ → ℕ
+  swap = renamed (both_lists (map mate bs) (map plus (numbers_after c.edge (length bs))))
+
+  -- ---- points
+
+  low_points : (i v : ℕ) → i ≤ m → v ≤ c.vertex → table.get (with_copies M (copied M c bs i)) v ≡ table.get M.vertices v
+  low_points zero v le low = ap (λ ps. table.get (with_copies M ps) v) (none_copied M above s c bs w)
+  low_points (suc i) v le low = ap (λ t. table.get t v) (points_next M above s c bs w i (omega (arith, le)))
+      ∙ get-put_other (with_copies M (copied M c bs i)) (c.vertex + suc i) _ v (λ e. absurd (omega (arith, e, low))) ∙ low_points i v (omega (arith, le)) low
+
+  copy_points : (i j : ℕ) → i ≤ m → j < i → table.get (with_copies M (copied M c bs i)) (c.vertex + suc j) ≡ Some (start M (get_or bs j 0))
+  copy_points zero j le l = absurd (omega arith)
+  copy_points (suc i) j le l = ap (λ t. table.get t (c.vertex + suc j)) (points_next M above s c bs w i (omega (arith, le))) ∙ elim (eqb_tells j i) [
+    | inl e ↦ ap (λ n. table.get (table.put (with_copies M (copied M c bs i)) (c.vertex + suc i) (start M (get_or bs i 0))) (c.vertex + suc n)) e.1
+        ∙ get-put_here (with_copies M (copied M c bs i)) (c.vertex + suc i) _ ∙ ap (λ n. Some (start M (get_or bs n 0))) (sym e.1)
+    | inr e ↦ get-put_other (with_copies M (copied M c bs i)) (c.vertex + suc i) _ (c.vertex + suc j) (λ q. e.1 (omega (arith, q))) ∙ copy_points i j (omega (arith, le)) (less_than i j l e.1)
+  ]
+
+  -- an old vertex has its point
+  pub point_old : (v : ℕ) → v ≤ c.vertex → point_of N v ≡ point_of M v
+  unfolding point_of
+  point_old v low = ap (λ o. unwrap_or o no_point) (ap (λ t. table.get t v) (vertices_are M above s c bs) ∙ low_points m v (omega arith) low)
+
+  -- and each copy that of its vertex
+  point_new : (j : ℕ) → j < m → point_of N (c.vertex + suc j) ≡ start M (get_or bs j 0)
+  unfolding point_of
+  point_new j l = ap (λ o. unwrap_or o no_point) (ap (λ t. table.get t (c.vertex + suc j)) (vertices_are M above s c bs) ∙ copy_points m j (omega arith) l)
+
+  point_copied : (v : ℕ) → v ≤ c.vertex → point_of N (renamed (copied M c bs (length bs)) v) ≡ point_of M v
+  point_copied v low = elim (renamed_cases (map (tail M) bs) (numbers_after c.vertex m) v) [
+    | inl p ↦
+        let under : p.0 < length bs = omega (arith, p.1, length-map bs (tail M)) in
+        ap (point_of N) (p.4 ∙ numbers_at c.vertex m p.0 under) ∙ point_new p.0 under ∙ ap (point_of M) (sym (get_or-map (tail M) bs p.0 0 0 under) ∙ p.3)
+    | inr p ↦ ap (point_of N) p.0 ∙ point_old v low
+  ]
+
+  -- ---- old edges
+
+  edge_row : (e : ℕ) (row : EdgeRow) → e ≤ c.edge → table.get M.edges e ≡ Some row → table.get N.edges e ≡ Some (opened_row M above mates copies e row)
+  edge_row e row low at = ap (λ t. table.get t e) (edges_are M above s c bs)
+      ∙ rim_below (table.map_rows (opened_row M above mates copies) M.edges) c.edge c.vertex m m e low
+      ∙ get-map_rows (opened_row M above mates copies) M.edges e ∙ ap (option_map (opened_row M above mates copies e)) at
+
+  tail_is : (h : ℕ) → HasHalf M h → tail N h ≡ opened_tail M above mates copies h (tail M h)
+  tail_is h there =
+      let r = some_row (table.get M.edges (edge_of h)) there in
+      let now : tail N h ≡ tail_in (opened_row M above mates copies (edge_of h) r.0) (is_first h) = tail_row N h (opened_row M above mates copies (edge_of h) r.0) (edge_row (edge_of h) r.0 (low_edge M above s c bs w h there) r.1) in
+      let old : tail M h ≡ tail_in r.0 (is_first h) = tail_row M h r.0 r.1 in
+      elim (halves_of_edge h) [
+        | inl p ↦ now ∙ ap (tail_in (opened_row M above mates copies (edge_of h) r.0)) p.1 ∙ ap (λ x. opened_tail M above mates copies x r.0.plus_tail) (sym p.0)
+            ∙ ap (opened_tail M above mates copies h) (sym (old ∙ ap (tail_in r.0) p.1))
+        | inr p ↦ now ∙ ap (tail_in (opened_row M above mates copies (edge_of h) r.0)) p.1 ∙ ap (λ x. opened_tail M above mates copies x r.0.minus_tail) (sym p.0)
+            ∙ ap (opened_tail M above mates copies h) (sym (old ∙ ap (tail_in r.0) p.1))
+      ]
+
+  either_point : (b : Bool) (v : ℕ) → v ≤ c.vertex → point_of N (cond b (renamed (copied M c bs (length bs)) v) v) ≡ point_of M v
+  either_point true v low = point_copied v low
+  either_point false v low = point_old v low
+
+  -- an old half-edge starts where it did
+  pub start_old : (h : ℕ) → HasHalf M h → start N h ≡ start M h
+  start_old h there = ap (point_of N) (tail_is h there) ∙ either_point (lists above (face_at M h) && not (lists (map mate bs) h)) (tail M h) (low_vertex M above s c bs w h there)
+
+  pub finish_old : (h : ℕ) → HasHalf M h → finish N h ≡ finish M h
+  finish_old h there = start_old (mate h) (half_mate M w.sound h there)
+
+  -- ---- the edges round the cap above
+
+  rim_edge : (j : ℕ) → j < m → table.get N.edges (c.edge + suc j) ≡ Some (rim_row c.vertex m j)
+  rim_edge j l = ap (λ t. table.get t (c.edge + suc j)) (edges_are M above s c bs) ∙ rim_at (table.map_rows (opened_row M above mates copies) M.edges) c.edge c.vertex m m j l
+
+  next_is : (j : ℕ) → cond (nat_eq (suc j) m) (c.vertex + 1) (c.vertex + suc j + 1) ≡ c.vertex + suc (next_place m j)
+  next_is j = elim (next_cases m j) [
+    | inl p ↦ ap (λ b. cond b (c.vertex + 1) (c.vertex + suc j + 1)) (equals (suc j) m (omega (arith, p.0))) ∙ ap (λ i. c.vertex + suc i) (sym p.1)
+    | inr p ↦ ap (λ b. cond b (c.vertex + 1) (c.vertex + suc j + 1)) (differs (suc j) m (λ e. p.0 (omega (arith, e)))) ∙ omega arith ∙ ap (λ i. c.vertex + suc i) (sym p.1)
+  ]
+
+  -- the one half goes along the mate
+  out_start : (j : ℕ) → j < m → start N (plus (c.edge + suc j)) ≡ start M (mate (get_or bs j 0))
+  out_start j l =
+      let row = plus_row (c.edge + suc j) in
+      ap (point_of N) (tail_row N (plus (c.edge + suc j)) (rim_row c.vertex m j) (ap (table.get N.edges) row.0 ∙ rim_edge j l) ∙ ap (tail_in (rim_row c.vertex m j)) row.1 ∙ next_is j)
+      ∙ point_new (next_place m j) (next_below m j l) ∙ ap (point_of M) (w.meet j l)
+
+  -- the other one along the below half
+  back_start : (j : ℕ) → j < m → start N (minus (c.edge + suc j)) ≡ start M (get_or bs j 0)
+  back_start j l =
+      let row = minus_row (c.edge + suc j) in
+      ap (point_of N) (tail_row N (minus (c.edge + suc j)) (rim_row c.vertex m j) (ap (table.get N.edges) row.0 ∙ rim_edge j l) ∙ ap (tail_in (rim_row c.vertex m j)) row.1) ∙ point_new j l
+
+  pub back_along : (j : ℕ) → j < length bs → (start N (minus (c.edge + suc j)) ≡ start M (get_or bs j 0)) × (finish N (minus (c.edge + suc j)) ≡ finish M (get_or bs j 0))
+  back_along j l = (back_start j l, ap (start N) (mate_minus (c.edge + suc j)) ∙ out_start j l)
+
+  -- what stands in the place of an old half-edge starts and ends where that did
+  pub swapped : (y : ℕ) → HasHalf M y → (start N (swap y) ≡ start M y) × (finish N (swap y) ≡ finish M y)
+  swapped y there = elim (renamed_cases (map mate bs) (map plus (numbers_after c.edge m)) y) [
+    | inl p ↦
+        let under : p.0 < length bs = omega (arith, p.1, length-map bs mate) in
+        let is : swap y ≡ plus (c.edge + suc p.0) = p.4 ∙ get_or-map plus (numbers_after c.edge m) p.0 0 0 (omega (arith, under, length-numbers_after c.edge m)) ∙ ap plus (numbers_at c.edge m p.0 under) in
+        let was : mate (get_or bs p.0 0) ≡ y = sym (get_or-map mate bs p.0 0 0 under) ∙ p.3 in (
+          ap (start N) is ∙ out_start p.0 under ∙ ap (start M) was,
+          ap (finish N) is ∙ ap (start N) (mate_plus (c.edge + suc p.0)) ∙ back_start p.0 under ∙ ap (start M) (sym (mate-mate (get_or bs p.0 0))) ∙ ap (finish M) was,
+        )
+    | inr p ↦ (ap (start N) p.0 ∙ start_old y there, ap (finish N) p.0 ∙ finish_old y there)
+  ]

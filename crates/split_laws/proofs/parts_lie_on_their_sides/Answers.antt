@@ -1,0 +1,6 @@
+use Rattle.split_laws.proofs.sides.Begun.{begun_sided}
+use Rattle.split_laws.proofs.sides.Sides.{openings_sided, parts_sided}
+use Rattle.split_laws.proofs.parts_lie_on_their_sides.Goals as goal
+
+pub returns : goal.returns
+returns c = record { drawn = begun_sided; opened = openings_sided; parts = parts_sided }

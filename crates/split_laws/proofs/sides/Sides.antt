@@ -1,0 +1,188 @@
+-- The sides on which faces lie, from step to step.
+use Rattle.std.proofs.Common.{◌≡◌, ◌≢◌, ℕ, ◌+◌, Bool, true, false, cond, nat_eq, ◌||◌, List, [], ◌∷◌, ◌++◌, length, Option, Some, None, is_some, unwrap_or, refl, sym, ap, subst, ◌∙◌, arith, true≢false, inl, inr}
+use Rattle.std.specs.Prelude.{map, pos, int_lt}
+use Rattle.std.specs.Option.{option_map}
+use Rattle.std.specs.Cmp.{signed_Decides}
+use Rattle.std.proofs.lemmas.Bool.Decides.{eqb_tells}
+use Rattle.std.proofs.lemmas.List.{append-nil}
+use Rattle.lattice.specs.declared.Point.{Point}
+use Rattle.lattice.specs.declared.Plane.{Plane}
+use Rattle.lattice.specs.Vectors.{height, is_on, is_above, is_below}
+use Rattle.cyclic_list.specs.Items.{count, IsIn}
+use Rattle.boundary_model.specs.Table as table
+use Rattle.boundary_model.specs.Model.{Model, FaceRow, no_face, items_of, tail, content, face_of, outer, solid_of}
+use Rattle.boundary_model.specs.Sound.{Has}
+use Rattle.euler_operators.specs.Conditions.{lists}
+use Rattle.euler_operators.specs.Effect.{kfmrh, part}
+use Rattle.euler_laws.proofs.shared.Goes.{differs}
+use Rattle.euler_laws.proofs.shared.Loops.{some_row}
+use Rattle.shapes.specs.Faces.{start}
+use Rattle.shapes.specs.Fresh.{Taken}
+use Rattle.shapes.specs.Measure.{is_plane_of}
+use Rattle.shapes.specs.split.Drawing.{Drawing}
+use Rattle.shapes.specs.split.Section.{is_hole, below_halves, section_cycles}
+use Rattle.shapes.specs.split.Opening.{Caps, Opening, opened_along, next_opened, all_opened}
+use Rattle.shapes.specs.split.Split.{split_drawn}
+use Rattle.split_opening_laws.specs.strips.Opened.{CanBeOpened}
+use Rattle.split_opening_laws.specs.sections.InTurn.{upper_faces, CanBeOpenedInTurn}
+use Rattle.split_opening_laws.proofs.sections.InTurn.{upper_next}
+use Rattle.split_laws.specs.opened.Told.{LiesAlong}
+use Rattle.split_laws.specs.opened.Laws.{LieOn}
+use Rattle.split_laws.proofs.opened.Starts.{swap}
+use Rattle.split_laws.proofs.opened.Kept as kept
+use Rattle.split_laws.proofs.opened.Caps.{loop_kinds, outer_lower, outer_upper, lower_along, upper_along}
+use Rattle.split_laws.proofs.opened.Opened.{is_rewritten}
+use Rattle.split_laws.proofs.opened.InTurn.{first_can, first_on, next_can, next_on}
+use Rattle.split_laws.specs.volumes.Laws.{CanBeSplit}
+use Rattle.split_laws.proofs.volumes.Parted as parted
+use Rattle.split_laws.proofs.volumes.Taken as taken
+use Rattle.split_laws.proofs.volumes.Taken.{CanTake}
+use Rattle.split_laws.proofs.volumes.Closed.{closing_carries}
+use Rattle.split_laws.proofs.volumes.Split as split
+use Rattle.split_laws.specs.sides.Sided.{IsOnSide, IsOfSolid, AreSided}
+
+-- a point on the plane lies on both sides
+on_both : (p : Plane) (r : Point) (b : Bool) → is_on p r ≡ true → IsOnSide p b r
+on_both p r true e = ap (λ z. int_lt z (pos 0)) ((signed_Decides (height p r) (pos 0)).0 e)
+on_both p r false e = ap (λ z. int_lt (pos 0) z) ((signed_Decides (height p r) (pos 0)).0 e)
+
+-- what stands in the outer loop of a face that lies along the plane starts on it
+along_on : (M : Model) (p : Plane) (f : ℕ) → LiesAlong M p f → (h : ℕ) → IsIn h (items_of (content M (outer M f))) → is_on p (start M h) ≡ true
+along_on M p f a h i = a.on_plane h (omega (arith, i, ap (λ c. count h (items_of c)) a.outer_is))
+
+other_last : (fs : List ℕ) (u f : ℕ) → f ≢ u → lists (fs ++ u ∷ []) f ≡ lists fs f
+other_last [] u f ne = ap (λ b. b || false) (differs u f (λ e. ne (sym e)))
+other_last (g ∷ gs) u f ne = ap (λ b. nat_eq g f || b) (other_last gs u f ne)
+
+-- ---- one opening
+
+module _ (M : Model) (above : List ℕ) (s : ℕ) (c : Taken) (bs : List ℕ) (p : Plane) (w : CanBeOpened M above s c bs) (on : is_plane_of M p (map (tail M) bs) ≡ true) (fs : List ℕ) where
+  abbrev N : Model
+  N = opened_along M above s c bs
+
+  abbrev new : ℕ → ℕ
+  new = swap M above s c bs w
+
+  opened_sided : AreSided M p s fs → AreSided N p s (fs ++ (c.face + length bs + 1) ∷ [])
+  opened_sided sided l h i =
+      let upper : ℕ = c.face + length bs + 1 in
+      let r = some_row (table.get N.loops l) i.loop_there in
+      elim (loop_kinds M above s c bs w l r.0 r.1) [
+        | inl q ↦ on_both p (start N h) (lists (fs ++ upper ∷ []) (face_of N l))
+            (along_on N p upper (upper_along M above s c bs w p on) h (subst (λ k. IsIn h (items_of (content N k))) (q.0 ∙ sym (outer_upper M above s c bs w)) i.item))
+        | inr k ↦ elim k [
+          | inl q ↦ on_both p (start N h) (lists (fs ++ upper ∷ []) (face_of N l))
+              (along_on N p (c.face + 1) (lower_along M above s c bs w p on) h (subst (λ k. IsIn h (items_of (content N k))) (q.0 ∙ sym (outer_lower M above s c bs w)) i.item))
+          | inr q ↦
+              let rewritten = is_rewritten M above s c bs w in
+              let y = kept.started M N new rewritten l q.0 h i.item in
+              let face : face_of N l ≡ face_of M l = kept.face_is M N new rewritten l q.0 in
+              let there : Has M.faces (face_of M l) = w.sound.loops_of_faces l q.0 in
+              let old : face_of M l ≢ upper = λ e. true≢false (sym there ∙ ap is_some (ap (table.get M.faces) e ∙ w.faces_free upper (omega arith))) in
+              let was : IsOfSolid M s l y.0 = record { loop_there = q.0; face_there = there; of_solid = sym (kept.solid_is M N new rewritten (face_of M l) there) ∙ ap (solid_of N) (sym face) ∙ i.of_solid; item = y.1 } in
+              (λ j. cond ((ap (lists (fs ++ upper ∷ [])) face ∙ other_last fs upper (face_of M l) old) j) (is_below p (y.2 j)) (is_above p (y.2 j))) ∙ sided l y.0 was
+        ]
+      ]
+
+-- ---- all openings
+
+next_sided : (above : List ℕ) (s : ℕ) (p : Plane) (o : Opening) (bs : List ℕ) (cs : List (List ℕ)) → CanBeOpenedInTurn above s o (bs ∷ cs) → LieOn o.model p (bs ∷ cs) → AreSided o.model p s (upper_faces above o.caps) →
+    AreSided (next_opened p above s o bs).model p s (upper_faces above (next_opened p above s o bs).caps)
+unfolding next_opened
+next_sided above s p o bs cs w on sided =
+    let M : Model = o.model in
+    let k : Caps = record { lower = o.taken.face + 1; upper = o.taken.face + length bs + 1; hole = is_hole M p bs } in
+    subst (AreSided (opened_along M above s o.taken bs) p s) (sym (upper_next above o.caps k))
+    (opened_sided M above s o.taken bs p (first_can above s o bs cs w) (first_on above s p on.some_way o bs cs on.on_plane) (upper_faces above o.caps) sided)
+
+pub openings_sided : (above : List ℕ) (s : ℕ) (p : Plane) (o : Opening) (cs : List (List ℕ)) → CanBeOpenedInTurn above s o cs → LieOn o.model p cs → AreSided o.model p s (upper_faces above o.caps) →
+    AreSided (all_opened p above s o cs).model p s (upper_faces above (all_opened p above s o cs).caps)
+openings_sided above s p o [] w on sided = sided
+openings_sided above s p o (bs ∷ cs) w on sided = openings_sided above s p (next_opened p above s o bs) cs (next_can above s p on.some_way o bs cs w)
+    (record { some_way = on.some_way; on_plane = next_on above s p on.some_way o bs cs w on.on_plane }) (next_sided above s p o bs cs w on sided)
+
+-- ---- a cap that becomes a ring
+
+taken_sided : (p : Plane) (s : ℕ) (fs : List ℕ) (M : Model) (f g : ℕ) → CanTake M p f g → AreSided M p s fs → AreSided (kfmrh M f g) p s fs
+taken_sided p s fs M f g w sided l h i =
+    let N : Model = kfmrh M f g in
+    let there : Has M.loops l = sym (taken.loop_there M p f g w l) ∙ i.loop_there in
+    let item : IsIn h (items_of (content M l)) = subst (λ c. IsIn h (items_of c)) (taken.content_same M p f g w l) i.item in
+    let same : start N h ≡ start M h = taken.start_same M p f g w h in
+    elim (eqb_tells l (outer M g)) [
+      | inl e ↦ on_both p (start N h) (lists fs (face_of N l)) (ap (is_on p) same ∙ along_on M p g w.g_along h (subst (λ k. IsIn h (items_of (content M k))) e.1 item))
+      | inr e ↦
+          let face : face_of N l ≡ face_of M l = taken.face_else M p f g w l there e.1 in
+          let other : face_of M l ≢ g = λ q. true≢false (sym i.face_there ∙ ap is_some (ap (table.get N.faces) (face ∙ q) ∙ taken.face_goes M p f g w)) in
+          let was : IsOfSolid M s l h = record {
+            loop_there = there;
+            face_there = sym (ap is_some (taken.face_stays M p f g w (face_of M l) other)) ∙ ap (table.has N.faces) (sym face) ∙ i.face_there;
+            of_solid = sym (taken.solid_same M p f g w (face_of M l) other) ∙ ap (solid_of N) (sym face) ∙ i.of_solid;
+            item = item;
+          } in
+          (λ j. cond (lists fs (face j)) (is_below p (same j)) (is_above p (same j))) ∙ sided l h was
+    ]
+
+-- ---- the parts
+
+module _ (M : Model) (s t : ℕ) (fs : List ℕ) where
+  abbrev P : Model
+  P = part M s t fs
+
+  loops_stay : (l : ℕ) → table.has P.loops l ≡ table.has M.loops l
+  unfolding part
+  loops_stay l = refl
+
+  face_stays : (l : ℕ) → face_of P l ≡ face_of M l
+  unfolding part face_of
+  face_stays l = refl
+
+  -- a face went to t where it is listed, and else is of its solid
+  solid_then : (k : ℕ) → Has P.faces k → Has M.faces k × (solid_of P k ≡ cond (lists fs k) t (solid_of M k))
+  unfolding solid_of
+  solid_then k there = go (table.get M.faces k) (parted.row_is M s t fs k) where
+    either : (b : Bool) (row : FaceRow) → (cond b (record row { solid = t }) row).solid ≡ cond b t row.solid
+    either true row = refl
+    either false row = refl
+
+    go : (o : Option FaceRow) → table.get P.faces k ≡ option_map (parted.go M s t fs k) o → (is_some o ≡ true) × ((unwrap_or (table.get P.faces k) no_face).solid ≡ cond (lists fs k) t (unwrap_or o no_face).solid)
+    go None e = absurd (true≢false (sym there ∙ ap is_some e))
+    go (Some row) e = (refl, ap (λ q. (unwrap_or q no_face).solid) e ∙ either (lists fs k) row)
+
+  module _ (p : Plane) (apart : s ≢ t) (fresh : (f : ℕ) → Has M.faces f → solid_of M f ≢ t) (of_s : (f : ℕ) → Has M.faces f → lists fs f ≡ true → solid_of M f ≡ s) (sided : AreSided M p s fs) (l h : ℕ) where
+    item_was : IsIn h (items_of (content P l)) → IsIn h (items_of (content M l))
+    item_was i = subst (λ c. IsIn h (items_of c)) (parted.content_same M s t fs l) i
+
+    there_was : (u : ℕ) → IsOfSolid P u l h → Has P.faces (face_of M l)
+    there_was u i = ap (table.has P.faces) (sym (face_stays l)) ∙ i.face_there
+
+    told : (u : ℕ) (i : IsOfSolid P u l h) → cond (lists fs (face_of M l)) t (solid_of M (face_of M l)) ≡ u
+    told u i = sym (solid_then (face_of M l) (there_was u i)).1 ∙ ap (solid_of P) (sym (face_stays l)) ∙ i.of_solid
+
+    in_s : (u : ℕ) → IsOfSolid P u l h → solid_of M (face_of M l) ≡ s → IsOnSide p (lists fs (face_of M l)) (start M h)
+    in_s u i of = sided l h (record { loop_there = sym (loops_stay l) ∙ i.loop_there; face_there = (solid_then (face_of M l) (there_was u i)).0; of_solid = of; item = item_was i.item })
+
+    lower : IsOfSolid P s l h → is_above p (start P h) ≡ false
+    lower i = ap (is_above p) (parted.start_same M s t fs h) ∙ go (lists fs (face_of M l)) (told s i) (in_s s i) where
+      go : (b : Bool) → cond b t (solid_of M (face_of M l)) ≡ s → (solid_of M (face_of M l) ≡ s → IsOnSide p b (start M h)) → is_above p (start M h) ≡ false
+      go true e side = absurd (apart (sym e))
+      go false e side = side e
+
+    upper : IsOfSolid P t l h → is_below p (start P h) ≡ false
+    upper i = ap (is_below p) (parted.start_same M s t fs h) ∙ go (lists fs (face_of M l)) refl (told t i) (in_s t i) where
+      go : (b : Bool) → lists fs (face_of M l) ≡ b → cond b t (solid_of M (face_of M l)) ≡ t → (solid_of M (face_of M l) ≡ s → IsOnSide p b (start M h)) → is_below p (start M h) ≡ false
+      go true q e side = side (of_s (face_of M l) (solid_then (face_of M l) (there_was t i)).0 q)
+      go false q e side = absurd (fresh (face_of M l) (solid_then (face_of M l) (there_was t i)).0 e)
+
+pub parts_sided : (d : Drawing) (above : List ℕ) (s : ℕ) (p : Plane) (t : ℕ) → CanBeSplit d above s p t → AreSided d.model p s above → (l h : ℕ) →
+    (IsOfSolid (split_drawn d above s p t) s l h → is_above p (start (split_drawn d above s p t) h) ≡ false)
+    × (IsOfSolid (split_drawn d above s p t) t l h → is_below p (start (split_drawn d above s p t) h) ≡ false)
+parts_sided d above s p t w sided l h =
+    let o : Opening = split.o d above s p t w in
+    let C : Model = split.C d above s p t w in
+    let fs : List ℕ = upper_faces above o.caps in
+    let begun : Opening = record { model = d.model; taken = d.taken; caps = [] } in
+    let opened : AreSided o.model p s fs = openings_sided above s p begun (section_cycles d.model (below_halves d.model above s)) w.opens w.lie_on (subst (AreSided d.model p s) (sym (append-nil above)) sided) in
+    let closed : AreSided C p s fs = closing_carries o.model s p o.caps (λ A. AreSided A p s fs) (taken_sided p s fs) (split.closes d above s p t w) opened in
+    let q = split.parts d above s p t w in
+    (lower C s t fs p q.apart q.fresh q.of_solid closed l h, upper C s t fs p q.apart q.fresh q.of_solid closed l h)

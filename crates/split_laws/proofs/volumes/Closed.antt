@@ -1,0 +1,214 @@
+-- The holes of a section closed, one cap after the other.
+use Rattle.std.proofs.Common.{◌≡◌, ◌≢◌, ℕ, ◌≤◌, Bool, true, false, cond, not, nat_eq, ◌&&◌, ◌||◌, is_some, List, [], ◌∷◌, refl, sym, ap, subst, ◌∙◌, arith, true≢false, inl, inr}
+use Rattle.std.specs.Prelude.{fold, filter}
+use Rattle.std.specs.List.{list_any}
+use Rattle.std.proofs.lemmas.Bool.Decides.{nat_tests}
+use Rattle.lattice.specs.declared.Plane.{Plane}
+use Rattle.lattice.specs.Vectors.{origin, direction}
+use Rattle.cyclic_list.specs.Items.{count, tick, IsIn, IsApart}
+use Rattle.cyclic_list.proofs.Lists.{tick_same}
+use Rattle.boundary_model.specs.Model.{Model, solid_of, outer, rings_of}
+use Rattle.boundary_model.specs.Sound.{Has}
+use Rattle.boundary_model.proofs.Models.{face_row}
+use Rattle.boundary_model.proofs.Tables.{all_where_none}
+use Rattle.euler_operators.specs.Effect.{kfmrh}
+use Rattle.shapes.specs.Measure.{six_volume}
+use Rattle.shapes.specs.split.Opening.{Caps, outer_caps, hole_closed, holes_closed}
+use Rattle.split_opening_laws.specs.sections.Capped.{IsPlain, ArePlain, cap_faces}
+use Rattle.split_laws.specs.opened.Told.{LiesAlong, OutersAreOwn, AllLieAlong}
+use Rattle.split_laws.specs.volumes.Closing.{CanClose}
+use Rattle.split_laws.proofs.volumes.Taken as taken
+use Rattle.split_laws.proofs.volumes.Taken.{CanTake}
+
+-- a cap of solid s along the plane
+pub record IsCap (M : Model) (p : Plane) (s f : ℕ) : Type 0 where
+  pub there : Has M.faces f
+  pub of_solid : solid_of M f ≡ s
+  pub along : LiesAlong M p f
+
+-- pairs of caps, the second of which becomes a ring of the first
+abbrev pub AllCanBeTaken : Model → Plane → ℕ → List (ℕ × ℕ) → Type 0
+AllCanBeTaken M p s [] = Unit {0}
+AllCanBeTaken M p s (q ∷ qs) = IsCap M p s q.0 × IsCap M p s q.1 × (rings_of M q.1 ≡ []) × AllCanBeTaken M p s qs
+
+-- no later pair has the second cap of one, nor takes the first one
+abbrev ClearOf : ℕ → ℕ → List (ℕ × ℕ) → Type 0
+ClearOf f g [] = Unit {0}
+ClearOf f g (q ∷ qs) = (q.0 ≢ g) × (q.1 ≢ g) × (q.1 ≢ f) × ClearOf f g qs
+
+abbrev AllClear : List (ℕ × ℕ) → Type 0
+AllClear [] = Unit {0}
+AllClear (q ∷ qs) = (q.0 ≢ q.1) × ClearOf q.0 q.1 qs × AllClear qs
+
+abbrev pub all_taken : Model → List (ℕ × ℕ) → Model
+all_taken M qs = fold (λ M q. kfmrh M q.0 q.1) M qs
+
+module _ (M : Model) (p : Plane) (f g s : ℕ) (w : CanTake M p f g) where
+  cap_still : (k : ℕ) → k ≢ g → IsCap M p s k → IsCap (kfmrh M f g) p s k
+  cap_still k ne c = record {
+    there = taken.there_still M p f g w k ne c.there;
+    of_solid = taken.solid_same M p f g w k ne ∙ c.of_solid;
+    along = taken.along_still M p f g w k ne c.along;
+  }
+
+  all_still : (qs : List (ℕ × ℕ)) → ClearOf f g qs → AllCanBeTaken M p s qs → AllCanBeTaken (kfmrh M f g) p s qs
+  all_still [] clear can = tt
+  all_still (q ∷ qs) clear can = (
+    cap_still q.0 clear.0 can.0,
+    cap_still q.1 clear.1 can.1,
+    taken.rings_same M p f g w q.1 clear.2 clear.1 ∙ can.2,
+    all_still qs clear.3 can.3,
+  )
+
+-- what holds, and still does where one cap is taken, holds once all are
+pub all_carry : (M : Model) (p : Plane) (s : ℕ) (qs : List (ℕ × ℕ)) (holds : Model → Type 0) → ((A : Model) (f g : ℕ) → CanTake A p f g → holds A → holds (kfmrh A f g)) →
+    OutersAreOwn M → direction p ≢ origin → AllCanBeTaken M p s qs → AllClear qs → holds M → holds (all_taken M qs)
+all_carry M p s [] holds step outers way can clear now = now
+all_carry M p s (q ∷ qs) holds step outers way can clear now =
+    let w : CanTake M p q.0 q.1 = record {
+      outers = outers;
+      f_there = can.0.there;
+      g_there = can.1.there;
+      apart = clear.0;
+      one_solid = can.1.of_solid ∙ sym can.0.of_solid;
+      alone = can.2;
+      f_along = can.0.along;
+      g_along = can.1.along;
+      some_way = way;
+    } in
+    all_carry (kfmrh M q.0 q.1) p s qs holds step (taken.outers_still M p q.0 q.1 w) way (all_still M p q.0 q.1 s w qs clear.1 can.3) clear.2 (step M q.0 q.1 w now)
+
+-- ---- the caps of holes
+
+-- the outer cycle's caps take those of each hole
+abbrev pub closing : Caps → List Caps → List (ℕ × ℕ)
+closing o [] = []
+closing o (k ∷ ks) = (o.lower, k.lower) ∷ (o.upper, k.upper) ∷ closing o ks
+
+pub closed_by : (M : Model) (o : Caps) (hs : List Caps) → fold (hole_closed o) M hs ≡ all_taken M (closing o hs)
+closed_by M o [] = refl
+closed_by M o (k ∷ ks) = closed_by (kfmrh (kfmrh M o.lower k.lower) o.upper k.upper) o ks
+
+pub plain_alone : (M : Model) (s f : ℕ) → IsPlain M s f → rings_of M f ≡ []
+plain_alone M s f w = all_where_none _ M.loops (λ l row at. no_ring row.face f (outer M f) l (λ e. sym (w.no_ring l (ap (λ o. is_some o) at) (face_row M l row at ∙ e)))) where
+  no_ring : (a f o l : ℕ) → (a ≡ f → o ≡ l) → (nat_eq a f && not (nat_eq o l)) ≡ false
+  no_ring a f o l e = grind (arith, nat_tests)
+
+cap_of : (M : Model) (p : Plane) (s f : ℕ) → IsPlain M s f → LiesAlong M p f → IsCap M p s f
+cap_of M p s f w a = record { there = w.there; of_solid = w.of_solid; along = a }
+
+taken_all : (M : Model) (p : Plane) (s : ℕ) (o : Caps) (hs : List Caps) → IsCap M p s o.lower → IsCap M p s o.upper → ArePlain M s hs → AllLieAlong M p hs → AllCanBeTaken M p s (closing o hs)
+taken_all M p s o [] l u w a = tt
+taken_all M p s o (k ∷ ks) l u w a = (
+  l,
+  cap_of M p s k.lower w.0 a.0,
+  plain_alone M s k.lower w.0,
+  (u, cap_of M p s k.upper w.1 a.1, plain_alone M s k.upper w.1, taken_all M p s o ks l u w.2 a.2),
+)
+
+-- f and g are none of the caps, and g is none of the outer ones
+clear_of : (o : Caps) (f g : ℕ) (hs : List Caps) → o.lower ≢ g → o.upper ≢ g → ((x : ℕ) → IsIn x (cap_faces hs) → (x ≢ g) × (x ≢ f)) → ClearOf f g (closing o hs)
+clear_of o f g [] l u e = tt
+clear_of o f g (k ∷ ks) l u e =
+    let a = e k.lower (omega (arith, tick_same k.lower)) in
+    let b = e k.upper (omega (arith, tick_same k.upper)) in
+    (l, a.0, a.1, (u, b.0, b.1, clear_of o f g ks l u (λ x i. e x (omega (arith, i)))))
+
+-- two that stand in a list without repeats at different places differ
+apart_in : (x y : ℕ) (xs : List ℕ) → count x xs ≤ 1 → (x ≡ y → 2 ≤ count x xs) → x ≢ y
+apart_in x y xs a b e = absurd (omega (arith, a, b e))
+
+all_clear : (o : Caps) (hs : List Caps) → IsApart (o.lower ∷ o.upper ∷ cap_faces hs) → AllClear (closing o hs)
+all_clear o [] d = tt
+all_clear o (k ∷ ks) d =
+    let list : List ℕ = o.lower ∷ o.upper ∷ k.lower ∷ k.upper ∷ cap_faces ks in
+    let t : (x y : ℕ) → x ≡ y → tick x y ≡ 1 = λ x y e. ap (λ z. tick x z) (sym e) ∙ tick_same x in (
+      apart_in o.lower k.lower list (d o.lower) (λ e. omega (arith, t o.lower k.lower e, tick_same o.lower)),
+      (
+        apart_in o.upper k.lower list (d o.upper) (λ e. omega (arith, t o.upper k.lower e, tick_same o.upper)),
+        (λ e. apart_in k.lower k.upper list (d k.lower) (λ q. omega (arith, t k.lower k.upper q, tick_same k.lower)) (sym e)),
+        (λ e. apart_in o.lower k.upper list (d o.lower) (λ q. omega (arith, t o.lower k.upper q, tick_same o.lower)) (sym e)),
+        clear_of o o.lower k.lower ks
+            (apart_in o.lower k.lower list (d o.lower) (λ e. omega (arith, t o.lower k.lower e, tick_same o.lower)))
+            (apart_in o.upper k.lower list (d o.upper) (λ e. omega (arith, t o.upper k.lower e, tick_same o.upper)))
+            (λ x i. (
+              (λ e. apart_in k.lower x list (d k.lower) (λ q. omega (arith, tick_same k.lower, ap (λ z. count z (cap_faces ks)) q, i)) (sym e)),
+              (λ e. apart_in o.lower x list (d o.lower) (λ q. omega (arith, tick_same o.lower, ap (λ z. count z (cap_faces ks)) q, i)) (sym e)),
+            )),
+      ),
+      (
+        apart_in o.upper k.upper list (d o.upper) (λ e. omega (arith, t o.upper k.upper e, tick_same o.upper)),
+        clear_of o o.upper k.upper ks
+            (apart_in o.lower k.upper list (d o.lower) (λ e. omega (arith, t o.lower k.upper e, tick_same o.lower)))
+            (apart_in o.upper k.upper list (d o.upper) (λ e. omega (arith, t o.upper k.upper e, tick_same o.upper)))
+            (λ x i. (
+              (λ e. apart_in k.upper x list (d k.upper) (λ q. omega (arith, tick_same k.upper, ap (λ z. count z (cap_faces ks)) q, i)) (sym e)),
+              (λ e. apart_in o.upper x list (d o.upper) (λ q. omega (arith, tick_same o.upper, ap (λ z. count z (cap_faces ks)) q, i)) (sym e)),
+            )),
+        all_clear o ks (λ x. omega (arith, d x)),
+      ),
+    )
+
+-- ---- which caps are the outer ones
+
+module _ (M : Model) (s : ℕ) (p : Plane) where
+  abbrev AreCaps : Caps → Type 0
+  AreCaps o = IsCap M p s o.lower × IsCap M p s o.upper
+
+  outer_among : (ks : List Caps) → list_any (λ k. not k.hole) ks ≡ true → ArePlain M s ks → AllLieAlong M p ks → AreCaps (outer_caps ks)
+  outer_among [] e w a = absurd (true≢false (sym e))
+  outer_among (k ∷ ks) e w a = go k.hole refl (λ f. outer_among ks f w.2 a.2) where
+    go : (b : Bool) → k.hole ≡ b → (list_any (λ k. not k.hole) ks ≡ true → AreCaps (outer_caps ks)) → AreCaps (outer_caps (k ∷ ks))
+    go true q later = subst AreCaps (sym (ap (λ b. cond b (outer_caps ks) k) q)) (later (sym (ap (λ b. not b || list_any (λ k. not k.hole) ks) q) ∙ e))
+    go false q later = subst AreCaps (sym (ap (λ b. cond b (outer_caps ks) k) q)) (cap_of M p s k.lower w.0 a.0, cap_of M p s k.upper w.1 a.1)
+
+  holes_plain : (ks : List Caps) → ArePlain M s ks → ArePlain M s (filter (λ k. k.hole) ks)
+  holes_plain [] w = tt
+  holes_plain (k ∷ ks) w = go k.hole (holes_plain ks w.2) where
+    go : (b : Bool) → ArePlain M s (filter (λ k. k.hole) ks) → ArePlain M s (cond b (k ∷ filter (λ k. k.hole) ks) (filter (λ k. k.hole) ks))
+    go true later = (w.0, w.1, later)
+    go false later = later
+
+  holes_along : (ks : List Caps) → AllLieAlong M p ks → AllLieAlong M p (filter (λ k. k.hole) ks)
+  holes_along [] w = tt
+  holes_along (k ∷ ks) w = go k.hole (holes_along ks w.2) where
+    go : (b : Bool) → AllLieAlong M p (filter (λ k. k.hole) ks) → AllLieAlong M p (cond b (k ∷ filter (λ k. k.hole) ks) (filter (λ k. k.hole) ks))
+    go true later = (w.0, w.1, later)
+    go false later = later
+
+-- the holes' caps are among all
+holes_less : (x : ℕ) (ks : List Caps) → count x (cap_faces (filter (λ k. k.hole) ks)) ≤ count x (cap_faces ks)
+holes_less x [] = omega arith
+holes_less x (k ∷ ks) = go k.hole (holes_less x ks) where
+  go : (b : Bool) → count x (cap_faces (filter (λ k. k.hole) ks)) ≤ count x (cap_faces ks) → count x (cap_faces (cond b (k ∷ filter (λ k. k.hole) ks) (filter (λ k. k.hole) ks))) ≤ count x (cap_faces (k ∷ ks))
+  go true later = omega (arith, later)
+  go false later = omega (arith, later)
+
+-- and so are the outer ones besides
+abbrev told : ℕ → Caps → List Caps → Bool → ℕ
+told x k ks b = count x ((cond b (outer_caps ks) k).lower ∷ (cond b (outer_caps ks) k).upper ∷ cap_faces (cond b (k ∷ filter (λ k. k.hole) ks) (filter (λ k. k.hole) ks)))
+
+all_less : (x : ℕ) (ks : List Caps) → list_any (λ k. not k.hole) ks ≡ true →
+    count x ((outer_caps ks).lower ∷ (outer_caps ks).upper ∷ cap_faces (filter (λ k. k.hole) ks)) ≤ count x (cap_faces ks)
+all_less x [] e = absurd (true≢false (sym e))
+all_less x (k ∷ ks) e = go k.hole refl (λ f. all_less x ks f) where
+  go : (b : Bool) → k.hole ≡ b → (list_any (λ k. not k.hole) ks ≡ true → count x ((outer_caps ks).lower ∷ (outer_caps ks).upper ∷ cap_faces (filter (λ k. k.hole) ks)) ≤ count x (cap_faces ks)) →
+      told x k ks k.hole ≤ count x (cap_faces (k ∷ ks))
+  go true q later = omega (arith, ap (told x k ks) q, later (sym (ap (λ b. not b || list_any (λ k. not k.hole) ks) q) ∙ e))
+  go false q later = omega (arith, ap (told x k ks) q, holes_less x ks)
+
+pub closing_carries : (M : Model) (s : ℕ) (p : Plane) (ks : List Caps) (holds : Model → Type 0) → ((A : Model) (f g : ℕ) → CanTake A p f g → holds A → holds (kfmrh A f g)) →
+    CanClose M s p ks → holds M → holds (holes_closed M ks)
+closing_carries M s p ks holds step w now = elim w.closable [
+  | inr none ↦ subst (λ hs. holds (fold (hole_closed (outer_caps ks)) M hs)) (sym none) now
+  | inl some ↦
+      let o : Caps = outer_caps ks in
+      let hs : List Caps = filter (λ k. k.hole) ks in
+      let c = outer_among M s p ks some w.plain w.along in
+      subst holds (sym (closed_by M o hs))
+      (all_carry M p s (closing o hs) holds step w.outers w.some_way (taken_all M p s o hs c.0 c.1 (holes_plain M s p ks w.plain) (holes_along M s p ks w.along))
+      (all_clear o hs (λ x. omega (arith, all_less x ks some, w.apart x))) now)
+]
+
+pub closing_keeps : (M : Model) (s : ℕ) (p : Plane) (ks : List Caps) (u : ℕ) → CanClose M s p ks → six_volume (holes_closed M ks) u ≡ six_volume M u
+closing_keeps M s p ks u w = closing_carries M s p ks (λ A. six_volume A u ≡ six_volume M u) (λ A f g c e. taken.taken_keeps A p f g c u ∙ e) w refl

@@ -1,0 +1,205 @@
+-- The six volumes of the two parts of a split solid.
+use Rattle.std.proofs.Common.{◌≡◌, ◌≢◌, ℕ, suc, ◌+◌, ◌<◌, ◌+ℤ◌, Bool, true, false, cond, not, nat_eq, nat_lt, ◌&&◌, ◌||◌, List, [], ◌∷◌, ◌++◌, length, None, is_some, unwrap_or, refl, sym, ap, subst, ◌∙◌, arith, true≢false, ◌⊎◌, inl, inr}
+use Rattle.std.specs.Prelude.{map, filter, pos, int_lt}
+use Rattle.std.specs.List.{list_any}
+use Rattle.std.proofs.lemmas.Bool.Decides.{nat_tests, eqb_tells}
+use Rattle.std.proofs.lemmas.List.{append_assoc, append-nil, map-append}
+use Rattle.lattice.specs.declared.Plane.{Plane}
+use Rattle.lattice.specs.Vectors.{dot, direction}
+use Rattle.cyclic_list.specs.Items.{IsIn}
+use Rattle.cyclic_list.proofs.Lists.{count-append}
+use Rattle.cyclic_list.proofs.Maps.{from_map}
+use Rattle.boundary_model.specs.HalfEdge.{mate}
+use Rattle.boundary_model.specs.Table as table
+use Rattle.boundary_model.specs.Table.{get-remove}
+use Rattle.boundary_model.specs.Model.{Model, no_face, solid_of}
+use Rattle.boundary_model.specs.Sound.{Has, HasHalf}
+use Rattle.euler_operators.specs.Conditions.{strictly_rises}
+use Rattle.euler_operators.specs.Effect.{kfmrh}
+use Rattle.euler_laws.proofs.shared.Fans.{half_mate}
+use Rattle.shapes.specs.Measure.{six_volume}
+use Rattle.solid_walks.proofs.Rising.{counted_once}
+use Rattle.shapes.specs.split.Drawing.{Drawing}
+use Rattle.shapes.specs.split.Section.{is_hole, holes_in, below_halves, section_cycles, has_stray_hole}
+use Rattle.shapes.specs.split.Opening.{Caps, Opening, opened_along, next_opened, all_opened, outer_caps, holes_closed}
+use Rattle.shapes.specs.split.Split.{opened_at, split_drawn}
+use Rattle.split_opening_laws.proofs.opening.Whole.{opened_sound}
+use Rattle.split_opening_laws.specs.sections.InTurn.{halves_in, upper_faces, CanBeOpenedInTurn}
+use Rattle.split_opening_laws.specs.sections.Capped.{cap_faces, HasCaps}
+use Rattle.split_opening_laws.specs.sections.Laws.{OpeningsAreSound}
+use Rattle.split_opening_laws.proofs.sections.CyclesStay.{there_in}
+use Rattle.split_opening_laws.proofs.sections.InTurn as in_turn
+use Rattle.split_opening_laws.proofs.sections.Capping.{caps_rise}
+use Rattle.split_laws.specs.volumes.Closing.{CanClose}
+use Rattle.split_laws.specs.volumes.Laws.{CanBeParted, CanBeSplit}
+use Rattle.split_laws.proofs.opened.Starts.{start_old, finish_old}
+use Rattle.split_laws.proofs.opened.Caps.{area_kept}
+use Rattle.split_laws.proofs.volumes.Parted.{part_shares, part_keeps}
+use Rattle.split_laws.proofs.volumes.Closed.{closing, all_taken, closed_by, closing_keeps}
+use Rattle.split_laws.proofs.opened.InTurn.{first_can, some_way, openings_keep, openings_lie}
+
+pub openings_sound : OpeningsAreSound
+unfolding next_opened
+openings_sound above s p o bs cs w = opened_sound o.model above s o.taken bs (first_can above s o bs cs w)
+
+-- ---- which caps are those of holes
+
+-- how many are true
+abbrev trues : List Bool → ℕ
+trues [] = 0
+trues (b ∷ bs) = cond b 1 0 + trues bs
+
+filtered : {X : Type 0} (p : X → Bool) (xs : List X) → length (filter p xs) ≡ trues (map p xs)
+filtered p [] = refl
+filtered p (x ∷ xs) = go (p x) (filtered p xs) where
+  go : (b : Bool) → length (filter p xs) ≡ trues (map p xs) → length (cond b (x ∷ filter p xs) (filter p xs)) ≡ cond b 1 0 + trues (map p xs)
+  go true e = omega (arith, e)
+  go false e = omega (arith, e)
+
+long : {X : Type 0} (p : X → Bool) (xs : List X) → length (map p xs) ≡ length xs
+long p [] = refl
+long p (x ∷ xs) = ap suc (long p xs)
+
+no_items_left : {X : Type 0} (xs : List X) → length xs ≡ 0 → xs ≡ []
+no_items_left [] e = refl
+no_items_left (x ∷ xs) e = absurd (omega (arith, e))
+
+some_other : (ks : List Caps) → trues (map (λ k. k.hole) ks) < length ks → list_any (λ k. not k.hole) ks ≡ true
+some_other [] l = absurd (omega (arith, l))
+some_other (k ∷ ks) l = go k.hole refl (λ m. some_other ks m) where
+  go : (b : Bool) → k.hole ≡ b → (trues (map (λ k. k.hole) ks) < length ks → list_any (λ k. not k.hole) ks ≡ true) → not k.hole || list_any (λ k. not k.hole) ks ≡ true
+  go true q later = ap (λ b. not b || list_any (λ k. not k.hole) ks) q ∙ later (omega (arith, l, ap {B = ℕ} (λ b. cond b 1 0) q))
+  go false q later = ap (λ b. not b || list_any (λ k. not k.hole) ks) q
+
+stray_cases : (n m : ℕ) → nat_lt 0 n && not (nat_eq m (n + 1)) ≡ false → (n ≡ 0) ⊎ (n < m)
+stray_cases n m e = elim (eqb_tells m (n + 1)) [
+  | inl q ↦ inr (omega (arith, q.1))
+  | inr q ↦ inl (zero_of n m e q.0)
+] where
+  zero_of : (n m : ℕ) → nat_lt 0 n && not (nat_eq m (n + 1)) ≡ false → nat_eq m (n + 1) ≡ false → n ≡ 0
+  zero_of n m e q = grind (arith, nat_tests)
+
+closable_of : (M : Model) (p : Plane) (cs : List (List ℕ)) (ks : List Caps) → map (λ k. k.hole) ks ≡ map (is_hole M p) cs → has_stray_hole M p cs ≡ false →
+    (list_any (λ k. not k.hole) ks ≡ true) ⊎ (filter (λ k. k.hole) ks ≡ [])
+closable_of M p cs ks same e =
+    let holes : length (holes_in M p cs) ≡ trues (map (λ k. k.hole) ks) = filtered (is_hole M p) cs ∙ ap trues (sym same) in
+    let size : length cs ≡ length ks = sym (long (is_hole M p) cs) ∙ ap length (sym same) ∙ long (λ k. k.hole) ks in
+    elim (stray_cases (length (holes_in M p cs)) (length cs) e) [
+      | inl z ↦ inr (no_items_left (filter (λ k. k.hole) ks) (filtered (λ k. k.hole) ks ∙ sym holes ∙ z))
+      | inr l ↦ inl (some_other ks (omega (arith, l, holes, size)))
+    ]
+
+-- a cycle is a hole after another one is opened if it was before
+module _ (above : List ℕ) (s : ℕ) (p : Plane) (o : Opening) (bs : List ℕ) (cs : List (List ℕ)) (w : CanBeOpenedInTurn above s o (bs ∷ cs)) where
+  mates_there : (ds : List ℕ) → ((d : ℕ) → IsIn d ds → HasHalf o.model d) → (h : ℕ) → IsIn h (map mate ds) → HasHalf o.model h
+  mates_there ds e h i = let r = from_map mate h ds i in subst (HasHalf o.model) (sym r.2) (half_mate o.model w.sound r.0 (e r.0 r.1))
+
+  hole_still : (ds : List ℕ) → ((d : ℕ) → IsIn d ds → HasHalf o.model d) → is_hole (opened_along o.model above s o.taken bs) p ds ≡ is_hole o.model p ds
+  unfolding is_hole
+  hole_still ds e =
+      let can = first_can above s o bs cs w in
+      ap (λ a. int_lt (dot a (direction p)) (pos 0)) (area_kept o.model (opened_along o.model above s o.taken bs) (map mate ds)
+      (λ h i. (start_old o.model above s o.taken bs can h (mates_there ds e h i), finish_old o.model above s o.taken bs can h (mates_there ds e h i))))
+
+  holes_still : (ds : List (List ℕ)) → ((d : ℕ) → IsIn d (halves_in ds) → HasHalf o.model d) → map (is_hole (opened_along o.model above s o.taken bs) p) ds ≡ map (is_hole o.model p) ds
+  holes_still [] e = refl
+  holes_still (d ∷ ds) e = λ i. hole_still d (λ x j. e x (omega (arith, j, count-append x d (halves_in ds)))) i ∷ holes_still ds (λ x j. e x (omega (arith, j, count-append x d (halves_in ds)))) i
+
+  next_holes : map (λ k. k.hole) (next_opened p above s o bs).caps ++ map (is_hole (next_opened p above s o bs).model p) cs ≡ map (λ k. k.hole) o.caps ++ map (is_hole o.model p) (bs ∷ cs)
+  unfolding next_opened
+  next_holes =
+      (λ i. map-append (λ k. k.hole) o.caps (record { lower = o.taken.face + 1; upper = o.taken.face + length bs + 1; hole = is_hole o.model p bs } ∷ []) i
+      ++ holes_still cs (there_in o.model above s o.taken bs w.sound w.free w.cycles.cycles.0 cs w.cycles.cycles.1) i)
+      ∙ append_assoc (map (λ k. k.hole) o.caps) (is_hole o.model p bs ∷ []) (map (is_hole o.model p) cs)
+
+all_holes : (above : List ℕ) (s : ℕ) (p : Plane) (o : Opening) (cs : List (List ℕ)) → CanBeOpenedInTurn above s o cs →
+    map (λ k. k.hole) (all_opened p above s o cs).caps ≡ map (λ k. k.hole) o.caps ++ map (is_hole o.model p) cs
+all_holes above s p o [] w = sym (append-nil (map (λ k. k.hole) o.caps))
+all_holes above s p o (bs ∷ cs) w = all_holes above s p (next_opened p above s o bs) cs (in_turn.others_on above s p o bs cs w (openings_sound above s p o bs cs w)) ∙ next_holes above s p o bs cs w
+
+-- ---- solids and faces
+
+solids_next : (p : Plane) (above : List ℕ) (s : ℕ) (o : Opening) (bs : List ℕ) → (next_opened p above s o bs).model.solids ≡ o.model.solids
+unfolding next_opened opened_along
+solids_next p above s o bs = refl
+
+solids_same : (p : Plane) (above : List ℕ) (s : ℕ) (o : Opening) (cs : List (List ℕ)) → (all_opened p above s o cs).model.solids ≡ o.model.solids
+solids_same p above s o [] = refl
+solids_same p above s o (bs ∷ cs) = solids_same p above s (next_opened p above s o bs) cs ∙ solids_next p above s o bs
+
+taken_row : (M : Model) (f g k : ℕ) → Has (kfmrh M f g).faces k → table.get (kfmrh M f g).faces k ≡ table.get M.faces k
+unfolding kfmrh
+taken_row M f g k there = go (nat_eq k g) (get-remove M.faces g k) where
+  go : (b : Bool) → table.get (table.remove M.faces g) k ≡ cond b None (table.get M.faces k) → table.get (table.remove M.faces g) k ≡ table.get M.faces k
+  go true e = absurd (true≢false (sym there ∙ ap is_some e))
+  go false e = e
+
+taken_rows : (M : Model) (qs : List (ℕ × ℕ)) (k : ℕ) → Has (all_taken M qs).faces k → table.get (all_taken M qs).faces k ≡ table.get M.faces k
+taken_rows M [] k there = refl
+taken_rows M (q ∷ qs) k there =
+    let e = taken_rows (kfmrh M q.0 q.1) qs k there in
+    e ∙ taken_row M q.0 q.1 k (ap is_some (sym e) ∙ there)
+
+-- a face that is there once the holes are closed was there
+closed_row : (M : Model) (ks : List Caps) (k : ℕ) → Has (holes_closed M ks).faces k → table.get (holes_closed M ks).faces k ≡ table.get M.faces k
+closed_row M ks k there =
+    let e = closed_by M (outer_caps ks) (filter (λ k. k.hole) ks) in
+    subst (λ N. Has N.faces k → table.get N.faces k ≡ table.get M.faces k) (sym e) (taken_rows M (closing (outer_caps ks) (filter (λ k. k.hole) ks)) k) there
+
+-- ---- the parts
+
+module _ (d : Drawing) (above : List ℕ) (s : ℕ) (p : Plane) (t : ℕ) (w : CanBeSplit d above s p t) where
+  abbrev begun : Opening
+  begun = record { model = d.model; taken = d.taken; caps = [] }
+
+  abbrev cycles : List (List ℕ)
+  cycles = section_cycles d.model (below_halves d.model above s)
+
+  abbrev pub o : Opening
+  o = opened_at d above s p
+
+  abbrev pub C : Model
+  C = holes_closed (opened_at d above s p).model (opened_at d above s p).caps
+
+  begun_caps : HasCaps above s begun
+  begun_caps = record { plain = tt; all_rise = ap strictly_rises (append-nil above) ∙ w.above_rise; upper_rise = ap strictly_rises (append-nil above) ∙ w.above_rise }
+
+  pub ended : CanBeOpenedInTurn above s o []
+  ended = in_turn.all_on openings_sound above s p begun cycles w.opens
+
+  caps : HasCaps above s o
+  caps = caps_rise openings_sound above s p begun cycles w.opens begun_caps
+
+  pub closes : CanClose o.model s p o.caps
+  closes = record {
+    outers = ended.sound.outers_there;
+    some_way = some_way p w.lie_on.some_way;
+    plain = caps.plain;
+    along = openings_lie above s p begun cycles w.opens begun_caps tt w.lie_on;
+    apart = λ x. omega (arith, counted_once x (above ++ cap_faces o.caps) caps.all_rise, count-append x above (cap_faces o.caps));
+    closable = closable_of d.model p cycles o.caps (all_holes above s p begun cycles w.opens) w.no_stray;
+  }
+
+  closed_keeps : (u : ℕ) → six_volume C u ≡ six_volume d.model u
+  closed_keeps u = closing_keeps o.model s p o.caps u closes ∙ openings_keep above s p begun cycles u w.opens w.alike w.lie_on
+
+  solid_there : (f : ℕ) → Has C.faces f → solid_of C f ≡ solid_of o.model f
+  unfolding solid_of
+  solid_there f there = ap (λ r. (unwrap_or r no_face).solid) (closed_row o.model o.caps f there)
+
+  was_there : (f : ℕ) → Has C.faces f → Has o.model.faces f
+  was_there f there = ap is_some (sym (closed_row o.model o.caps f there)) ∙ there
+
+  pub parts : CanBeParted C s t (upper_faces above o.caps)
+  parts = record {
+    apart = w.apart;
+    fresh = λ f there e. true≢false (sym (ended.sound.faces_of_solids f (was_there f there)) ∙ ap is_some (ap (table.get o.model.solids) (sym (solid_there f there) ∙ e) ∙ ap (λ q. table.get q t) (solids_same p above s begun cycles) ∙ w.fresh));
+    of_solid = λ f there l. solid_there f there ∙ ended.upper_of_solid f l;
+  }
+
+pub split_shares : (d : Drawing) (above : List ℕ) (s : ℕ) (p : Plane) (t : ℕ) → CanBeSplit d above s p t →
+    six_volume d.model s ≡ six_volume (split_drawn d above s p t) s +ℤ six_volume (split_drawn d above s p t) t
+split_shares d above s p t w = sym (closed_keeps d above s p t w s) ∙ part_shares (C d above s p t w) s t (upper_faces above (o d above s p t w).caps) (parts d above s p t w)
+
+pub split_keeps : (d : Drawing) (above : List ℕ) (s : ℕ) (p : Plane) (t u : ℕ) → CanBeSplit d above s p t → u ≢ s → u ≢ t → six_volume (split_drawn d above s p t) u ≡ six_volume d.model u
+split_keeps d above s p t u w not_s not_t = part_keeps (C d above s p t w) s t (upper_faces above (o d above s p t w).caps) u (parts d above s p t w) not_s not_t ∙ closed_keeps d above s p t w u

@@ -1,0 +1,322 @@
+-- A cap that becomes a ring of another cap on the same plane: their normals add up, and so do what they add to the six volumes.
+use Rattle.std.proofs.Common.{◌≡◌, ◌≢◌, ℕ, ◌+◌, ℤ, ◌+ℤ◌, Bool, true, false, cond, not, nat_eq, ◌&&◌, List, [], ◌∷◌, ◌++◌, Option, Some, None, is_some, unwrap_or, refl, sym, ap, subst, ◌∙◌, arith, true≢false, inl, inr}
+use Rattle.std.specs.Option.{option_map}
+use Rattle.std.proofs.lemmas.Bool.Decides.{eqb_tells}
+use Rattle.std.proofs.lemmas.Int.{ints}
+use Rattle.lattice.specs.declared.Point.{Point}
+use Rattle.lattice.specs.declared.Plane.{Plane}
+use Rattle.lattice.specs.Vectors.{origin, moved, dot, cross, direction, is_on}
+use Rattle.cyclic_list.specs.Items.{count, tick, IsIn, SameItems, before, after, head_or}
+use Rattle.cyclic_list.proofs.Lists.{count-append, tick_same, tick_other, split_at}
+use Rattle.boundary_model.specs.HalfEdge.{mate}
+use Rattle.boundary_model.specs.Table as table
+use Rattle.boundary_model.specs.Table.{get-map_rows, get-remove}
+use Rattle.boundary_model.specs.Model.{Model, LoopContent, lone, cycle, FaceRow, LoopRow, no_face, no_loop, items_of, tail, content, face_of, outer, solid_of, point_of, rings_of, faces_of}
+use Rattle.boundary_model.specs.Sound.{Has}
+use Rattle.boundary_model.proofs.Models.{face_row}
+use Rattle.euler_operators.specs.Effect.{kfmrh, loop_to_face}
+use Rattle.euler_laws.proofs.shared.Goes.{equals, differs}
+use Rattle.euler_laws.proofs.shared.Rows.{no_items, face_there, loop_row}
+use Rattle.shapes.specs.Faces.{start, items_in, loops_of, boundary}
+use Rattle.shapes.specs.Measure.{area, normal, anchor, first_vertex, volume_in, six_volume}
+use Rattle.shapes.proofs.Areas.{area-append}
+use Rattle.solid_walks.proofs.FaceLoops.{items_joined}
+use Rattle.lattice.proofs.Vectors.{dot_turned, dot_moved, none_moved}
+use Rattle.solid_measure_laws.proofs.FlatFaces.{told_alike}
+use Rattle.solid_measure_laws.proofs.Products.{cross_moved}
+use Rattle.solid_measure_laws.proofs.Sums.{area_same}
+use Rattle.gluing_laws.proofs.Listed.{one_if, passed, count_where, same_search, volume_of, volume_same}
+use Rattle.split_laws.specs.opened.Told.{LiesAlong, OutersAreOwn}
+use Rattle.split_laws.proofs.opened.Caps.{area_kept, only_loop, anchor_along}
+
+-- ---- lists of loops, and of faces
+
+loops_left : (x y : ℕ) (xs ys : List ℕ) → SameItems (x ∷ xs) ys → ys ≡ before x ys ++ x ∷ after x ys → count y xs ≡ count y (before x ys ++ after x ys)
+loops_left x y xs ys s e = omega (arith, s y, ap (count y) e, count-append y (before x ys) (x ∷ after x ys), count-append y (before x ys) (after x ys))
+
+same_loops : (M : Model) (ls ks : List ℕ) → SameItems ls ks → SameItems (items_in M ls) (items_in M ks)
+same_loops M [] ks s x = ap (λ q. count x (items_in M q)) (sym (no_items ks (λ y. sym (s y))))
+same_loops M (l ∷ ls) ks s x =
+    let e = split_at l ks (omega (arith, s l, tick_same l)) in
+    let r = same_loops M ls (before l ks ++ after l ks) (λ y. loops_left l y ls ks s e) x in
+    omega (
+      arith,
+      r,
+      count-append x (items_of (content M l)) (items_in M ls),
+      ap (λ q. count x (items_in M q)) e,
+      ap (count x) (items_joined M (before l ks) (l ∷ after l ks)),
+      ap (count x) (items_joined M (before l ks) (after l ks)),
+      count-append x (items_in M (before l ks)) (items_in M (l ∷ after l ks)),
+      count-append x (items_of (content M l)) (items_in M (after l ks)),
+      count-append x (items_in M (before l ks)) (items_in M (after l ks)),
+    )
+
+module _ (M N : Model) (f : ℕ) where
+  -- faces among which f isn't
+  sum_without : (ks : List ℕ) → count f ks ≡ 0 → ((k : ℕ) → IsIn k ks → k ≢ f → volume_of N k ≡ volume_of M k) → volume_in N ks ≡ volume_in M ks
+  sum_without [] z e = refl
+  sum_without (k ∷ ks) z e = λ i. e k (omega (arith, tick_same k)) (λ q. absurd (omega (arith, z, ap (λ j. tick f j) q, tick_same f))) i +ℤ sum_without ks (omega (arith, z)) (λ j l. e j (omega (arith, l))) i
+
+  added_first : (a b d : ℤ) → (d +ℤ a) +ℤ b ≡ d +ℤ (a +ℤ b)
+  added_first a b d = omega (arith, ints)
+
+  added_later : (a b d : ℤ) → a +ℤ (d +ℤ b) ≡ d +ℤ (a +ℤ b)
+  added_later a b d = omega (arith, ints)
+
+  -- faces among which f is, to which something is added
+  sum_with : (d : ℤ) → volume_of N f ≡ d +ℤ volume_of M f → (ks : List ℕ) → count f ks ≡ 1 → ((k : ℕ) → IsIn k ks → k ≢ f → volume_of N k ≡ volume_of M k) → volume_in N ks ≡ d +ℤ volume_in M ks
+  sum_with d more [] o e = absurd (omega (arith, o))
+  sum_with d more (k ∷ ks) o e = elim (eqb_tells f k) [
+    | inl q ↦
+        let rest : count f ks ≡ 0 = omega (arith, o, ap (λ j. tick f j) (sym q.1), tick_same f) in
+        ap (λ j. volume_of N j +ℤ volume_in N ks) (sym q.1) ∙ (λ i. more i +ℤ sum_without ks rest (λ j l. e j (omega (arith, l))) i)
+        ∙ added_first (volume_of M f) (volume_in M ks) d ∙ ap (λ j. d +ℤ (volume_of M j +ℤ volume_in M ks)) q.1
+    | inr q ↦
+        (λ i. e k (omega (arith, tick_same k)) (λ z. q.1 (sym z)) i +ℤ sum_with d more ks (omega (arith, o, tick_other f k q.1)) (λ j l. e j (omega (arith, l))) i)
+        ∙ added_later (volume_of M k) (volume_in M ks) d
+  ]
+
+-- face g can become a ring of face f
+pub record CanTake (M : Model) (p : Plane) (f g : ℕ) : Type 0 where
+  pub outers : OutersAreOwn M
+  pub f_there : Has M.faces f
+  pub g_there : Has M.faces g
+  pub apart : f ≢ g
+  pub one_solid : solid_of M g ≡ solid_of M f
+  pub alone : rings_of M g ≡ []
+  pub f_along : LiesAlong M p f
+  pub g_along : LiesAlong M p g
+  pub some_way : direction p ≢ origin
+
+module _ (M : Model) (p : Plane) (f g : ℕ) (w : CanTake M p f g) where
+  abbrev N : Model
+  N = kfmrh M f g
+
+  abbrev ring : ℕ
+  ring = outer M g
+
+  row_is : (l : ℕ) → table.get N.loops l ≡ option_map (loop_to_face (outer M g) f l) (table.get M.loops l)
+  unfolding kfmrh
+  row_is l = get-map_rows (loop_to_face (outer M g) f) M.loops l
+
+  pub face_stays : (k : ℕ) → k ≢ g → table.get N.faces k ≡ table.get M.faces k
+  unfolding kfmrh
+  face_stays k ne = get-remove M.faces g k ∙ ap (λ b. cond b None (table.get M.faces k)) (differs k g ne)
+
+  pub face_goes : table.get N.faces g ≡ None
+  unfolding kfmrh
+  face_goes = get-remove M.faces g g ∙ ap (λ b. cond b None (table.get M.faces g)) (equals g g refl)
+
+  -- ---- loops and points stay
+
+  content_either : (b : Bool) (row : LoopRow) → (cond b (record row { face = f }) row).content ≡ row.content
+  content_either true row = refl
+  content_either false row = refl
+
+  content_in : (l : ℕ) (o : Option LoopRow) → (unwrap_or (option_map (loop_to_face (outer M g) f l) o) no_loop).content ≡ (unwrap_or o no_loop).content
+  content_in l None = refl
+  content_in l (Some row) = content_either (nat_eq l (outer M g)) row
+
+  pub content_same : (l : ℕ) → content N l ≡ content M l
+  unfolding content
+  content_same l = ap (λ o. (unwrap_or o no_loop).content) (row_is l) ∙ content_in l (table.get M.loops l)
+
+  there_in : (l : ℕ) (o : Option LoopRow) → is_some (option_map (loop_to_face (outer M g) f l) o) ≡ is_some o
+  there_in l None = refl
+  there_in l (Some row) = refl
+
+  pub loop_there : (l : ℕ) → table.has N.loops l ≡ table.has M.loops l
+  loop_there l = ap is_some (row_is l) ∙ there_in l (table.get M.loops l)
+
+  either_face : (b : Bool) (row : LoopRow) → (cond b (record row { face = f }) row).face ≡ cond b f row.face
+  either_face true row = refl
+  either_face false row = refl
+
+  pub face_else : (l : ℕ) → Has M.loops l → l ≢ outer M g → face_of N l ≡ face_of M l
+  face_else l there ne = face_row N l _ (row_is l ∙ ap (option_map (loop_to_face (outer M g) f l)) (loop_row M l there)) ∙ either_face (nat_eq l (outer M g)) (record { face = face_of M l; content = content M l }) ∙ ap (λ b. cond b f (face_of M l)) (differs l (outer M g) ne)
+
+  pub face_taken : (l : ℕ) → Has M.loops l → l ≡ outer M g → face_of N l ≡ f
+  face_taken l there e = face_row N l _ (row_is l ∙ ap (option_map (loop_to_face (outer M g) f l)) (loop_row M l there)) ∙ either_face (nat_eq l (outer M g)) (record { face = face_of M l; content = content M l }) ∙ ap (λ b. cond b f (face_of M l)) (equals l (outer M g) e)
+
+  tail_same : (h : ℕ) → tail N h ≡ tail M h
+  unfolding kfmrh tail
+  tail_same h = refl
+
+  point_same : (v : ℕ) → point_of N v ≡ point_of M v
+  unfolding kfmrh point_of
+  point_same v = refl
+
+  pub start_same : (h : ℕ) → start N h ≡ start M h
+  start_same h = point_same (tail N h) ∙ ap (point_of M) (tail_same h)
+
+  items_same : (ls : List ℕ) → items_in N ls ≡ items_in M ls
+  items_same [] = refl
+  items_same (l ∷ ls) = λ i. items_of (content_same l i) ++ items_same ls i
+
+  area_stays : (ls : List ℕ) → area N (items_in N ls) ≡ area M (items_in M ls)
+  area_stays ls = ap (area N) (items_same ls) ∙ area_kept M N (items_in M ls) (λ h i. (start_same h, start_same (mate h)))
+
+  pub outer_same : (k : ℕ) → k ≢ g → outer N k ≡ outer M k
+  unfolding outer
+  outer_same k ne = ap (λ o. (unwrap_or o no_face).outer) (face_stays k ne)
+
+  pub solid_same : (k : ℕ) → k ≢ g → solid_of N k ≡ solid_of M k
+  unfolding solid_of
+  solid_same k ne = ap (λ o. (unwrap_or o no_face).solid) (face_stays k ne)
+
+  first_same : (c : LoopContent) → point_of N (first_vertex N c) ≡ point_of M (first_vertex M c)
+  first_same (lone v) = point_same v
+  first_same (cycle hs) = start_same (head_or 0 hs)
+
+  anchor_same : (k : ℕ) → k ≢ g → anchor N k ≡ anchor M k
+  anchor_same k ne = ap (λ c. point_of N (first_vertex N c)) (content_same (outer N k) ∙ ap (content M) (outer_same k ne)) ∙ first_same (content M (outer M k))
+
+  -- ---- rings
+
+  abbrev ring_before : ℕ → ℕ → LoopRow → Bool
+  ring_before k l row = nat_eq row.face k && not (nat_eq (outer M k) l)
+
+  abbrev ring_after : ℕ → ℕ → LoopRow → Bool
+  ring_after k l row = nat_eq row.face k && not (nat_eq (outer N k) l)
+
+  own_g : face_of M (outer M g) ≡ g
+  own_g = (w.outers g w.g_there).1
+
+  row_of_g : (l : ℕ) (row : LoopRow) → table.get M.loops l ≡ Some row → l ≡ outer M g → row.face ≡ g
+  row_of_g l row at e = sym (face_row M l row at) ∙ ap (face_of M) e ∙ own_g
+
+  else_ring : (k l : ℕ) (row : LoopRow) → k ≢ g → l ≢ outer M g → passed (ring_after k) l (Some (loop_to_face (outer M g) f l row)) ≡ passed (ring_before k) l (Some row)
+  else_ring k l row ne away = ap (λ b. one_if (ring_after k l (cond b (record row { face = f }) row))) (differs l (outer M g) away) ∙ ap (λ o. one_if (nat_eq row.face k && not (nat_eq o l))) (outer_same k ne)
+
+  same_ring : (k : ℕ) → k ≢ f → k ≢ g → (l : ℕ) (o : Option LoopRow) → table.get M.loops l ≡ o → passed (ring_after k) l (option_map (loop_to_face (outer M g) f l) o) ≡ passed (ring_before k) l o
+  same_ring k not_f not_g l None e = refl
+  same_ring k not_f not_g l (Some row) e = elim (eqb_tells l (outer M g)) [
+    | inl q ↦ ap (λ b. one_if (ring_after k l (cond b (record row { face = f }) row))) q.0
+        ∙ ap (λ b. one_if (b && not (nat_eq (outer N k) l))) (differs f k (λ z. not_f (sym z)))
+        ∙ sym (ap (λ b. one_if (b && not (nat_eq (outer M k) l))) (differs row.face k (λ z. not_g (sym z ∙ row_of_g l row e q.1))))
+    | inr q ↦ else_ring k l row not_g q.1
+  ]
+
+  pub rings_same : (k : ℕ) → k ≢ f → k ≢ g → rings_of N k ≡ rings_of M k
+  rings_same k not_f not_g = same_search (ring_after k) (ring_before k) N.loops M.loops (λ l. ap (passed (ring_after k) l) (row_is l) ∙ same_ring k not_f not_g l (table.get M.loops l) refl)
+
+  not_outer_f : outer M f ≢ outer M g
+  not_outer_f e = w.apart (sym (w.outers f w.f_there).1 ∙ ap (face_of M) e ∙ own_g)
+
+  more_ring : (l : ℕ) (o : Option LoopRow) → table.get M.loops l ≡ o → passed (ring_after f) l (option_map (loop_to_face (outer M g) f l) o) ≡ tick l (outer M g) + passed (ring_before f) l o
+  more_ring l None e = sym (ap (λ n. n + 0) (tick_other l (outer M g) (λ q. true≢false (sym (w.outers g w.g_there).0 ∙ ap is_some (ap (table.get M.loops) (sym q) ∙ e)))))
+  more_ring l (Some row) e = elim (eqb_tells l (outer M g)) [
+    | inl q ↦
+        let now : passed (ring_after f) l (Some (loop_to_face (outer M g) f l row)) ≡ 1 =
+        ap (λ b. one_if (ring_after f l (cond b (record row { face = f }) row))) q.0
+        ∙ (λ i. one_if (equals f f refl i && not (differs (outer N f) l (λ z. not_outer_f (sym (outer_same f w.apart) ∙ z ∙ q.1)) i))) in
+        let then : passed (ring_before f) l (Some row) ≡ 0 = ap (λ b. one_if (b && not (nat_eq (outer M f) l))) (differs row.face f (λ z. w.apart (sym z ∙ row_of_g l row e q.1))) in
+        omega (arith, now, then, ap (tick l) q.1, tick_same l)
+    | inr q ↦ omega (arith, else_ring f l row w.apart q.1, tick_other l (outer M g) q.1)
+  ]
+
+  rings_more : (l : ℕ) → count l (rings_of N f) ≡ count l (outer M g ∷ rings_of M f)
+  rings_more l = omega (arith, count_where (ring_after f) N.loops l ∙ ap (passed (ring_after f) l) (row_is l) ∙ more_ring l (table.get M.loops l) refl, count_where (ring_before f) M.loops l)
+
+  -- ---- normals
+
+  pub normal_same : (k : ℕ) → k ≢ f → k ≢ g → normal N k ≡ normal M k
+  unfolding normal boundary loops_of
+  normal_same k not_f not_g = (λ i. area N (items_in N (outer_same k not_g i ∷ rings_same k not_f not_g i))) ∙ area_stays (outer M k ∷ rings_of M k)
+
+  normal_g : normal M g ≡ area M (items_of (content M (outer M g)))
+  normal_g = only_loop M g w.g_along.items w.alone w.g_along.outer_is ∙ sym (ap (λ c. area M (items_of c)) w.g_along.outer_is)
+
+  pub normal_f : normal N f ≡ moved (normal M g) (normal M f)
+  unfolding normal boundary loops_of
+  normal_f = (λ i. area N (items_in N (outer_same f w.apart i ∷ rings_of N f))) ∙ area_stays (outer M f ∷ rings_of N f)
+      ∙ area_same M (items_in M (outer M f ∷ rings_of N f)) (items_in M (outer M g ∷ outer M f ∷ rings_of M f))
+      (same_loops M (outer M f ∷ rings_of N f) (outer M g ∷ outer M f ∷ rings_of M f) (λ x. omega (arith, rings_more x)))
+      ∙ area-append M (items_of (content M (outer M g))) (items_in M (outer M f ∷ rings_of M f))
+      ∙ ap (λ v. moved v (area M (items_in M (outer M f ∷ rings_of M f)))) (sym normal_g)
+
+  -- ---- volumes
+
+  pub volume_other : (k : ℕ) → k ≢ f → k ≢ g → volume_of N k ≡ volume_of M k
+  volume_other k not_f not_g = λ i. dot (anchor_same k not_g i) (normal_same k not_f not_g i)
+
+  volume_f : volume_of N f ≡ volume_of M g +ℤ volume_of M f
+  volume_f = (λ i. dot (anchor_same f w.apart i) (normal_f i))
+      ∙ dot_turned (anchor M f) (moved (normal M g) (normal M f)) ∙ dot_moved (normal M g) (normal M f) (anchor M f)
+      ∙ (λ i. dot_turned (normal M g) (anchor M f) i +ℤ dot_turned (normal M f) (anchor M f) i)
+      ∙ ap (λ v. v +ℤ volume_of M f) (told_alike M p (normal M g) (anchor M f) (anchor M g) w.some_way w.g_along.across (anchor_along M p f w.f_along) (anchor_along M p g w.g_along))
+
+  abbrev of : ℕ → ℕ → FaceRow → Bool
+  of u k row = nat_eq row.solid u
+
+  none_of_g : (u : ℕ) → count g (faces_of N u) ≡ 0
+  none_of_g u = count_where (of u) N.faces g ∙ ap (passed (of u) g) face_goes
+
+  not_g_in : (u k : ℕ) → IsIn k (faces_of N u) → k ≢ g
+  not_g_in u k i e = absurd (omega (arith, i, none_of_g u, ap (λ j. count j (faces_of N u)) e))
+
+  same_at : (u k : ℕ) → k ≢ g → count k (faces_of N u) ≡ count k (faces_of M u)
+  same_at u k ne = count_where (of u) N.faces k ∙ ap (passed (of u) k) (face_stays k ne) ∙ sym (count_where (of u) M.faces k)
+
+  solid_count : (u k : ℕ) → Has M.faces k → count k (faces_of M u) ≡ one_if (nat_eq (solid_of M k) u)
+  solid_count u k there = count_where (of u) M.faces k ∙ ap (passed (of u) k) (face_there M k there)
+
+  with_g : SameItems (g ∷ faces_of N (solid_of M f)) (faces_of M (solid_of M f))
+  with_g k = elim (eqb_tells k g) [
+    | inl e ↦
+        let here : count g (faces_of M (solid_of M f)) ≡ 1 = solid_count (solid_of M f) g w.g_there ∙ ap one_if (equals (solid_of M g) (solid_of M f) w.one_solid) in
+        subst (λ j. count j (g ∷ faces_of N (solid_of M f)) ≡ count j (faces_of M (solid_of M f))) (sym e.1) (omega (arith, here, none_of_g (solid_of M f), tick_same g))
+    | inr e ↦ omega (arith, same_at (solid_of M f) k e.1, tick_other k g e.1)
+  ]
+
+  solid_keeps : six_volume N (solid_of M f) ≡ six_volume M (solid_of M f)
+  unfolding six_volume
+  solid_keeps =
+      let s = solid_of M f in
+      let here : count f (faces_of N s) ≡ 1 = same_at s f w.apart ∙ solid_count s f w.f_there ∙ ap one_if (equals s s refl) in
+      sum_with M N f (volume_of M g) volume_f (faces_of N s) here (λ k i ne. volume_other k ne (not_g_in s k i)) ∙ volume_same M (g ∷ faces_of N s) (faces_of M s) with_g
+
+  other_keeps : (u : ℕ) → u ≢ solid_of M f → six_volume N u ≡ six_volume M u
+  unfolding six_volume
+  other_keeps u ne =
+      let same : SameItems (faces_of N u) (faces_of M u) = λ k. elim (eqb_tells k g) [
+        | inl e ↦ ap (λ j. count j (faces_of N u)) e.1 ∙ none_of_g u ∙ sym (ap (λ j. count j (faces_of M u)) e.1 ∙ solid_count u g w.g_there ∙ ap one_if (differs (solid_of M g) u (λ z. ne (sym z ∙ w.one_solid))))
+        | inr e ↦ same_at u k e.1
+      ] in
+      let none : count f (faces_of N u) ≡ 0 = same_at u f w.apart ∙ solid_count u f w.f_there ∙ ap one_if (differs (solid_of M f) u (λ z. ne (sym z))) in
+      sum_without M N f (faces_of N u) none (λ k i q. volume_other k q (not_g_in u k i)) ∙ volume_same M (faces_of N u) (faces_of M u) same
+
+  pub taken_keeps : (u : ℕ) → six_volume N u ≡ six_volume M u
+  taken_keeps u = elim (eqb_tells u (solid_of M f)) [
+    | inl e ↦ subst (λ v. six_volume N v ≡ six_volume M v) (sym e.1) solid_keeps
+    | inr e ↦ other_keeps u e.1
+  ]
+
+  -- ---- what stays so
+
+  pub there_still : (k : ℕ) → k ≢ g → Has M.faces k → Has N.faces k
+  there_still k ne there = ap is_some (face_stays k ne) ∙ there
+
+  pub outers_still : OutersAreOwn N
+  outers_still k there = elim (eqb_tells k g) [
+    | inl e ↦ absurd (true≢false (sym there ∙ ap is_some (ap (table.get N.faces) e.1 ∙ face_goes)))
+    | inr e ↦
+        let r = w.outers k (sym (ap is_some (face_stays k e.1)) ∙ there) in
+        (ap (table.has N.loops) (outer_same k e.1) ∙ loop_there (outer M k) ∙ r.0, ap (face_of N) (outer_same k e.1) ∙ face_else (outer M k) r.0 (λ z. e.1 (sym r.1 ∙ ap (face_of M) z ∙ own_g)) ∙ r.1)
+  ]
+
+  nothing_moved : (n : Point) → n ≡ origin → moved n origin ≡ origin
+  nothing_moved n e = ap (λ v. moved v origin) e ∙ none_moved origin
+
+  pub along_still : (k : ℕ) → k ≢ g → LiesAlong M p k → LiesAlong N p k
+  along_still k ne a = record {
+    items = a.items;
+    some_item = a.some_item;
+    outer_is = content_same (outer N k) ∙ ap (content M) (outer_same k ne) ∙ a.outer_is;
+    on_plane = λ h i. ap (is_on p) (start_same h) ∙ a.on_plane h i;
+    across = elim (eqb_tells k f) [
+      | inl e ↦ ap (λ j. cross (direction p) (normal N j)) e.1 ∙ ap (cross (direction p)) normal_f ∙ cross_moved (direction p) (normal M g) (normal M f)
+          ∙ ap (moved (cross (direction p) (normal M g))) w.f_along.across ∙ nothing_moved (cross (direction p) (normal M g)) w.g_along.across
+      | inr e ↦ ap (cross (direction p)) (normal_same k e.1 ne) ∙ a.across
+    ];
+  }

@@ -1,0 +1,34 @@
+-- What the two parts of a split solid measure and where they lie, over every sound model and every split that isn't refused.
+use Rattle.std.specs.Prelude.{◌≡◌, ◌≢◌, ℕ, ◌+ℤ◌, false, None}
+use Rattle.lattice.specs.declared.Plane.{Plane}
+use Rattle.lattice.specs.Vectors.{is_above, is_below}
+use Rattle.boundary_model.specs.Model.{Model}
+use Rattle.boundary_model.specs.Sound.{Sound}
+use Rattle.shapes.specs.Faces.{start}
+use Rattle.shapes.specs.Measure.{six_volume}
+use Rattle.shapes.specs.split.Sides.{faces_above}
+use Rattle.shapes.specs.split.Drawing.{with_drawings}
+use Rattle.shapes.specs.split.Split.{split_refusal, split_model}
+use Rattle.split_laws.specs.volumes.Laws.{CanBeSplit}
+use Rattle.split_laws.specs.sides.Sided.{IsOfSolid}
+
+-- once its edges are cut and its faces drawn, the model meets all that is asked of a drawn model that is split
+abbrev pub SplitsCanBeSplit : Type 0
+SplitsCanBeSplit = (M : Model) (s : ℕ) (p : Plane) (t : ℕ) → Sound M → split_refusal M s p t ≡ None →
+    CanBeSplit (with_drawings M s p) (faces_above (with_drawings M s p).model p s) s p t
+
+-- the six volumes of the two parts sum to those of the solid
+abbrev pub SplitsShareVolumes : Type 0
+SplitsShareVolumes = (M : Model) (s : ℕ) (p : Plane) (t : ℕ) → Sound M → split_refusal M s p t ≡ None →
+    six_volume M s ≡ six_volume (split_model M s p t) s +ℤ six_volume (split_model M s p t) t
+
+-- and every other solid keeps its own
+abbrev pub SplitsKeepOthers : Type 0
+SplitsKeepOthers = (M : Model) (s : ℕ) (p : Plane) (t u : ℕ) → Sound M → split_refusal M s p t ≡ None → u ≢ s → u ≢ t →
+    six_volume (split_model M s p t) u ≡ six_volume M u
+
+-- no half-edge of solid s starts above the plane any more, and none of t below it
+abbrev pub PartsLieOnEitherSide : Type 0
+PartsLieOnEitherSide = (M : Model) (s : ℕ) (p : Plane) (t : ℕ) → Sound M → split_refusal M s p t ≡ None → (l h : ℕ) →
+    (IsOfSolid (split_model M s p t) s l h → is_above p (start (split_model M s p t) h) ≡ false)
+    × (IsOfSolid (split_model M s p t) t l h → is_below p (start (split_model M s p t) h) ≡ false)

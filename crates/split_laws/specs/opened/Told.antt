@@ -1,0 +1,35 @@
+-- What is asked of the faces of a solid that is opened, so that its six volumes stay.
+use Rattle.std.specs.Prelude.{◌≡◌, ◌≢◌, ℕ, true, List, [], ◌∷◌}
+use Rattle.lattice.specs.declared.Plane.{Plane}
+use Rattle.lattice.specs.Vectors.{origin, dot, cross, direction, is_on}
+use Rattle.cyclic_list.specs.Items.{IsIn}
+use Rattle.boundary_model.specs.Model.{Model, cycle, items_of, content, face_of, outer, solid_of}
+use Rattle.boundary_model.specs.Sound.{Has}
+use Rattle.shapes.specs.Faces.{start}
+use Rattle.shapes.specs.Measure.{normal, anchor}
+use Rattle.shapes.specs.split.Opening.{Caps}
+
+-- each corner of the face's outer loop has the same product along its normal, as those of a flat face have
+abbrev pub TellsAlike : Model → ℕ → Type 0
+TellsAlike M f = (h : ℕ) → IsIn h (items_of (content M (outer M f))) → dot (start M h) (normal M f) ≡ dot (anchor M f) (normal M f)
+
+-- so it is with all faces of a solid
+abbrev pub AllTellAlike : Model → ℕ → Type 0
+AllTellAlike M s = (f : ℕ) → Has M.faces f → solid_of M f ≡ s → TellsAlike M f
+
+-- the corners of the face's outer loop lie on the plane, and its normal points along the plane's direction or against it
+pub record LiesAlong (M : Model) (p : Plane) (f : ℕ) : Type 0 where
+  pub items : List ℕ
+  pub some_item : items ≢ []
+  pub outer_is : content M (outer M f) ≡ cycle items
+  pub on_plane : (h : ℕ) → IsIn h items → is_on p (start M h) ≡ true
+  pub across : cross (direction p) (normal M f) ≡ origin
+
+-- the outer loop of each face is there, and of that face
+abbrev pub OutersAreOwn : Model → Type 0
+OutersAreOwn M = (k : ℕ) → Has M.faces k → Has M.loops (outer M k) × (face_of M (outer M k) ≡ k)
+
+-- the two caps of each cycle lie along the plane
+abbrev pub AllLieAlong : Model → Plane → List Caps → Type 0
+AllLieAlong M p [] = Unit {0}
+AllLieAlong M p (k ∷ ks) = LiesAlong M p k.lower × LiesAlong M p k.upper × AllLieAlong M p ks

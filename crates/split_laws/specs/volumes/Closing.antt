@@ -1,0 +1,19 @@
+-- When the holes among the caps of a section can be closed.
+use Rattle.std.specs.Prelude.{◌≡◌, ◌≢◌, ◌⊎◌, ℕ, true, not, List, [], filter}
+use Rattle.std.specs.List.{list_any}
+use Rattle.lattice.specs.declared.Plane.{Plane}
+use Rattle.lattice.specs.Vectors.{origin, direction}
+use Rattle.cyclic_list.specs.Items.{IsApart}
+use Rattle.boundary_model.specs.Model.{Model}
+use Rattle.shapes.specs.split.Opening.{Caps}
+use Rattle.split_opening_laws.specs.sections.Capped.{ArePlain, cap_faces}
+use Rattle.split_laws.specs.opened.Told.{OutersAreOwn, AllLieAlong}
+
+-- the caps are different faces of solid s without rings, along the plane, and where one is a hole's, another one is an outer cycle's
+pub record CanClose (M : Model) (s : ℕ) (p : Plane) (ks : List Caps) : Type 0 where
+  pub outers : OutersAreOwn M
+  pub some_way : direction p ≢ origin
+  pub plain : ArePlain M s ks
+  pub along : AllLieAlong M p ks
+  pub apart : IsApart (cap_faces ks)
+  pub closable : (list_any (λ k. not k.hole) ks ≡ true) ⊎ (filter (λ k. k.hole) ks ≡ [])

@@ -1,5 +1,0 @@
-use Rattle.split_measures.proofs.Splittable.{can_be_split}
-use Rattle.split_measures.proofs.splits_can_be_split.Goals as goal
-
-pub returns : goal.returns
-returns c = record { all = can_be_split }

@@ -1,0 +1,183 @@
+-- The model with its strips cut off and some copies raised: where half-edges stand, where they start, and on which side they lie.
+use Rattle.std.proofs.Common.{◌≡◌, ℕ, suc, ◌+◌, ◌≤◌, ◌<◌, Bool, true, false, cond, List, [], ◌∷◌, length, Some, is_some, refl, sym, ap, ◌∙◌, subst, arith, ◌⊎◌, inl, inr, true≢false}
+use Rattle.std.specs.Prelude.{map, get_or, nat_lt}
+use Rattle.std.specs.Option.{option_map}
+use Rattle.std.proofs.lemmas.Bool.Decides.{nat_tests}
+use Rattle.cyclic_list.specs.Items.{count, IsIn}
+use Rattle.cyclic_list.proofs.Lists.{count-append, tick_same}
+use Rattle.boundary_model.specs.HalfEdge.{mate, edge_of, plus, minus}
+use Rattle.boundary_model.specs.Table as table
+use Rattle.boundary_model.specs.Table.{Table, get-map_rows}
+use Rattle.boundary_model.specs.Model.{Model, EdgeRow, tail, tail_in, face_of}
+use Rattle.boundary_model.specs.Sound.{Sound, HasHalf}
+use Rattle.boundary_model.proofs.Models.{tail_row}
+use Rattle.euler_operators.specs.Conditions.{face_at, lists}
+use Rattle.euler_laws.proofs.shared.Arcs.{halves_of_edge}
+use Rattle.euler_laws.proofs.shared.Loops.{some_row}
+use Rattle.euler_laws.proofs.shared.Same.{mapped_some}
+use Rattle.sweeps_laws.proofs.prism.Sides.{plus_tail_at, minus_tail_at}
+use Rattle.sweeps_laws.proofs.prism.Steps.{Around, loop_is, face_is}
+use Rattle.shapes.specs.Fresh.{Taken}
+use Rattle.shapes.specs.Prism.{next_place}
+use Rattle.shapes.specs.Rewriting.{rewritten_row, renamed}
+use Rattle.shapes.specs.split.Opening.{opened_tail, opened_row, with_copies}
+use Rattle.split_opening_laws.specs.strips.Strips.{with_rows, put_out, strip_face, riser, riser_edge, copied, raised_items, raised_loop, raised_edge, copies_raised}
+use Rattle.split_opening_laws.specs.strips.Opened.{CanBeOpened}
+use Rattle.split_opening_laws.proofs.strips.Rows.{rows_at, rows_low, rows_split}
+use Rattle.split_opening_laws.proofs.strips.Cycle as on
+use Rattle.split_opening_laws.proofs.strips.Places as places
+
+pub less_is : (a b : ℕ) → a < b → nat_lt a b ≡ true
+less_is a b l = grind (arith, nat_tests)
+
+pub not_less : (a b : ℕ) → b ≤ a → nat_lt a b ≡ false
+not_less a b l = grind (arith, nat_tests)
+
+module _ (M : Model) (above : List ℕ) (s : ℕ) (c : Taken) (bs : List ℕ) (w : CanBeOpened M above s c bs) (i : ℕ) (sound : Sound (copies_raised M above s c bs i)) where
+  abbrev pub N : Model
+  N = copies_raised M above s c bs i
+
+  abbrev m : ℕ
+  m = length bs
+
+  abbrev mates : List ℕ
+  mates = map mate bs
+
+  abbrev copies : List (ℕ × ℕ)
+  copies = copied M c bs i
+
+  pub raised_loops : N.loops ≡ with_rows (table.map_rows (rewritten_row (map (renamed (put_out c bs m)))) M.loops) c.loop (raised_loop c bs i) m
+  unfolding copies_raised
+  raised_loops = refl
+
+  pub raised_edges : N.edges ≡ with_rows (with_rows (table.map_rows (opened_row M above mates copies) M.edges) c.edge (raised_edge M bs copies) m) (c.edge + m) (riser_edge M c bs) i
+  unfolding copies_raised
+  raised_edges = refl
+
+  pub raised_vertices : N.vertices ≡ with_copies M copies
+  unfolding copies_raised
+  raised_vertices = refl
+
+  pub raised_faces : N.faces ≡ with_rows M.faces c.face (strip_face s c) m
+  unfolding copies_raised
+  raised_faces = refl
+
+  -- ---- strips
+
+  pub around : (j : ℕ) → j < m → Around N (c.loop + suc j) (c.face + suc j) (raised_items c bs i j)
+  around j lt = record { sound = sound; at = places.new_loop M above s c bs w N sound m m (raised_loop c bs i) raised_loops j lt }
+
+  -- the riser at a place, and the riser at the next one, where they stand
+  abbrev pub rise_part : ℕ → List ℕ
+  rise_part j = cond (nat_lt j i) (plus (riser c bs j) ∷ []) []
+
+  abbrev pub fall_part : ℕ → List ℕ
+  fall_part j = cond (nat_lt (next_place (length bs) j) i) (minus (riser c bs (next_place (length bs) j)) ∷ []) []
+
+  pub mate_in : (j : ℕ) → IsIn (mate (get_or bs j 0)) (raised_items c bs i j)
+  mate_in j = omega (arith, tick_same (mate (get_or bs j 0)))
+
+  pub back_in : (j : ℕ) → IsIn (minus (c.edge + suc j)) (raised_items c bs i j)
+  back_in j = omega (arith, count-append (minus (c.edge + suc j)) (rise_part j) (minus (c.edge + suc j) ∷ fall_part j), tick_same (minus (c.edge + suc j)))
+
+  pub rise_in : (j : ℕ) → j < i → IsIn (plus (riser c bs j)) (raised_items c bs i j)
+  rise_in j lt =
+      let one : count (plus (riser c bs j)) (rise_part j) ≡ count (plus (riser c bs j)) (plus (riser c bs j) ∷ []) = ap (λ b. count (plus (riser c bs j)) (cond b (plus (riser c bs j) ∷ []) [])) (less_is j i lt) in
+      omega (arith, one, count-append (plus (riser c bs j)) (rise_part j) (minus (c.edge + suc j) ∷ fall_part j), tick_same (plus (riser c bs j)))
+
+  pub fall_in : (j : ℕ) → next_place m j < i → IsIn (minus (riser c bs (next_place m j))) (raised_items c bs i j)
+  fall_in j lt =
+      let f : ℕ = minus (riser c bs (next_place m j)) in
+      let one : count f (fall_part j) ≡ count f (f ∷ []) = ap (λ b. count f (cond b (f ∷ []) [])) (less_is (next_place m j) i lt) in
+      omega (arith, one, count-append f (rise_part j) (minus (c.edge + suc j) ∷ fall_part j), tick_same f)
+
+  -- ---- sides
+
+  abbrev pub side : ℕ → Bool
+  side h = lists above (face_at (copies_raised M above s c bs i) h)
+
+  -- what stands in a strip isn't above
+  pub strip_side : (j h : ℕ) → j < m → IsIn h (raised_items c bs i j) → side h ≡ false
+  strip_side j h lt at =
+      let a = around j lt in
+      ap (λ q. lists above (face_of N q)) (loop_is N (c.loop + suc j) (c.face + suc j) (raised_items c bs i j) a h at)
+      ∙ ap (lists above) (face_is N (c.loop + suc j) (c.face + suc j) (raised_items c bs i j) a)
+      ∙ on.fresh_face M above s c bs w (c.face + suc j) (omega arith)
+
+  -- a half-edge that was there and is no mate stays on its side
+  pub old_side : (h : ℕ) → HasHalf M h → lists mates h ≡ false → side h ≡ lists above (face_at M h)
+  old_side h there un =
+      ap (lists above) (subst (λ x. face_at N x ≡ face_at M h)
+      (places.out_other M above s c bs w m h (λ j less lt e. true≢false (sym (on.mate_listed M above s c bs w j lt) ∙ ap (lists mates) e ∙ un)))
+      (places.old_place M above s c bs w N sound m m (raised_loop c bs i) raised_loops h there).1)
+
+  -- +ci is above
+  pub out_side : (j : ℕ) → j < m → side (plus (c.edge + suc j)) ≡ true
+  out_side j lt =
+      ap (lists above) (subst (λ x. face_at N x ≡ face_at M (mate (get_or bs j 0))) (places.out_mate M above s c bs w m j (omega arith) lt)
+      (places.old_place M above s c bs w N sound m m (raised_loop c bs i) raised_loops (mate (get_or bs j 0)) (on.mate_there M above s c bs w j lt)).1)
+      ∙ w.mates_above (get_or bs j 0) (on.half_in M above s c bs w j lt)
+
+  -- ---- starts
+
+  old_edge : (e : ℕ) (row : EdgeRow) → table.get M.edges e ≡ Some row → e ≤ c.edge → table.get N.edges e ≡ Some (opened_row M above mates copies e row)
+  old_edge e row at low =
+      ap (λ t. table.get t e) raised_edges
+      ∙ rows_low (with_rows (table.map_rows (opened_row M above mates copies) M.edges) c.edge (raised_edge M bs copies) m) (c.edge + m) (riser_edge M c bs) i e (omega (arith, low))
+      ∙ rows_low (table.map_rows (opened_row M above mates copies) M.edges) c.edge (raised_edge M bs copies) m e low
+      ∙ get-map_rows (opened_row M above mates copies) M.edges e ∙ ap (option_map (opened_row M above mates copies e)) at
+
+  pub old_half : (h : ℕ) → HasHalf M h → HasHalf N h
+  old_half h there = let r = some_row (table.get M.edges (edge_of h)) there in ap is_some (old_edge (edge_of h) r.0 r.1 (on.low_edge M above s c bs w h there))
+
+  pub old_tail : (h : ℕ) → HasHalf M h → tail N h ≡ opened_tail M above mates copies h (tail M h)
+  old_tail h there =
+      let r = some_row (table.get M.edges (edge_of h)) there in
+      let new = tail_row N h (opened_row M above mates copies (edge_of h) r.0) (old_edge (edge_of h) r.0 r.1 (on.low_edge M above s c bs w h there)) in
+      let was = tail_row M h r.0 r.1 in
+      elim (halves_of_edge h) [
+        | inl p ↦ new ∙ ap (tail_in (opened_row M above mates copies (edge_of h) r.0)) p.1 ∙ (λ n. opened_tail M above mates copies (sym p.0 n) (sym (was ∙ ap (tail_in r.0) p.1) n))
+        | inr p ↦ new ∙ ap (tail_in (opened_row M above mates copies (edge_of h) r.0)) p.1 ∙ (λ n. opened_tail M above mates copies (sym p.0 n) (sym (was ∙ ap (tail_in r.0) p.1) n))
+      ]
+
+  pub out_edge : (j : ℕ) → j < m → table.get N.edges (c.edge + suc j) ≡ Some (raised_edge M bs copies j)
+  out_edge j lt =
+      ap (λ t. table.get t (c.edge + suc j)) raised_edges
+      ∙ rows_low (with_rows (table.map_rows (opened_row M above mates copies) M.edges) c.edge (raised_edge M bs copies) m) (c.edge + m) (riser_edge M c bs) i (c.edge + suc j) (omega (arith, lt))
+      ∙ rows_at (table.map_rows (opened_row M above mates copies) M.edges) c.edge (raised_edge M bs copies) m j lt
+
+  pub out_tail : (j : ℕ) → j < m → tail N (plus (c.edge + suc j)) ≡ renamed copies (tail M (mate (get_or bs j 0)))
+  out_tail j lt = plus_tail_at N (c.edge + suc j) (raised_edge M bs copies j) (out_edge j lt)
+
+  pub back_tail : (j : ℕ) → j < m → tail N (minus (c.edge + suc j)) ≡ renamed copies (tail M (get_or bs j 0))
+  back_tail j lt = minus_tail_at N (c.edge + suc j) (raised_edge M bs copies j) (out_edge j lt)
+
+  riser_row : (j : ℕ) → j < i → table.get N.edges (riser c bs j) ≡ Some (riser_edge M c bs j)
+  riser_row j lt = ap (λ t. table.get t (riser c bs j)) raised_edges
+      ∙ rows_at (with_rows (table.map_rows (opened_row M above mates copies) M.edges) c.edge (raised_edge M bs copies) m) (c.edge + m) (riser_edge M c bs) i j lt
+
+  pub rise_tail : (j : ℕ) → j < i → tail N (plus (riser c bs j)) ≡ tail M (get_or bs j 0)
+  rise_tail j lt = plus_tail_at N (riser c bs j) (riser_edge M c bs j) (riser_row j lt)
+
+  pub fall_tail : (j : ℕ) → j < i → tail N (minus (riser c bs j)) ≡ c.vertex + suc j
+  fall_tail j lt = minus_tail_at N (riser c bs j) (riser_edge M c bs j) (riser_row j lt)
+
+  -- ---- the half-edges that are there
+
+  -- one of edge e
+  abbrev pub OfEdge : ℕ → ℕ → Type 0
+  OfEdge h e = (h ≡ plus e) ⊎ (h ≡ minus e)
+
+  of_edge : (h e : ℕ) → edge_of h ≡ e → OfEdge h e
+  of_edge h e is = elim (halves_of_edge h) [ inl p ↦ inl (p.0 ∙ ap plus is) | inr p ↦ inr (p.0 ∙ ap minus is) ]
+
+  -- it was there, or is of an edge ci, or of a riser
+  pub kinds : (h : ℕ) → HasHalf N h → HasHalf M h ⊎ (((j : ℕ) × (j < m) × OfEdge h (c.edge + suc j)) ⊎ ((j : ℕ) × (j < i) × OfEdge h (riser c bs j)))
+  kinds h there = elim (rows_split (with_rows (table.map_rows (opened_row M above mates copies) M.edges) c.edge (raised_edge M bs copies) m) (c.edge + m) (riser_edge M c bs) i (edge_of h)) [
+    | inl p ↦ inr (inr (p.0, p.1, of_edge h (riser c bs p.0) p.2))
+    | inr p ↦ elim (rows_split (table.map_rows (opened_row M above mates copies) M.edges) c.edge (raised_edge M bs copies) m (edge_of h)) [
+      | inl q ↦ inr (inl (q.0, q.1, of_edge h (c.edge + suc q.0) q.2))
+      | inr q ↦ inl (sym (ap is_some (ap (λ t. table.get t (edge_of h)) raised_edges ∙ p ∙ q ∙ get-map_rows (opened_row M above mates copies) M.edges (edge_of h))
+          ∙ mapped_some (opened_row M above mates copies (edge_of h)) (table.get M.edges (edge_of h))) ∙ there)
+    ]
+  ]

@@ -1,0 +1,86 @@
+-- All copies raised, one after the other.
+use Rattle.std.proofs.Common.{◌≡◌, ℕ, zero, suc, ◌+◌, ◌≤◌, Bool, true, false, cond, List, [], ◌∷◌, ◌++◌, length, refl, sym, ap, ◌∙◌, subst, arith}
+use Rattle.std.specs.Prelude.{map, get_or, not, ◌&&◌}
+use Rattle.cyclic_list.specs.Rings.{canonical}
+use Rattle.boundary_model.specs.HalfEdge.{mate, plus, minus}
+use Rattle.boundary_model.specs.Table as table
+use Rattle.boundary_model.specs.Table.{Table}
+use Rattle.boundary_model.specs.Model.{Model, LoopRow, cycle}
+use Rattle.boundary_model.specs.Sound.{Sound}
+use Rattle.boundary_model.proofs.Tables.{map_same}
+use Rattle.euler_operators.specs.Conditions.{face_at, lists}
+use Rattle.euler_operators.specs.Effect.{effect}
+use Rattle.euler_laws.specs.Laws.{effects, AreAccepted}
+use Rattle.euler_laws.proofs.Runs.{effects-append, AreAccepted-append, effects_keep_sound}
+use Rattle.shapes.specs.Fresh.{Taken}
+use Rattle.shapes.specs.Prism.{next_place}
+use Rattle.shapes.specs.Rewriting.{rewritten_row, renamed}
+use Rattle.shapes.specs.split.Opening.{opened_tail, opened_row, with_copies}
+use Rattle.split_opening_laws.specs.strips.Strips.{with_rows, put_out, strip_face, strip_loop, riser, copied, raised_loop, raised_edge, strips_cut, copies_raised}
+use Rattle.split_opening_laws.specs.strips.StripOps.{raise_copy, copy_ops}
+use Rattle.split_opening_laws.specs.strips.Opened.{CanBeOpened}
+use Rattle.split_opening_laws.proofs.strips.Rows.{rows_same}
+use Rattle.split_opening_laws.proofs.strips.Copied as copy
+use Rattle.split_opening_laws.proofs.copies.Raised.{not_less}
+use Rattle.split_opening_laws.proofs.copies.Copies.{copy_accepted, copy_is}
+use Rattle.split_opening_laws.proofs.strips.Whole.{cut_sound}
+
+either_way : (b : Bool) (v : ℕ) → cond b v v ≡ v
+either_way true v = refl
+either_way false v = refl
+
+module _ (M : Model) (above : List ℕ) (s : ℕ) (c : Taken) (bs : List ℕ) (w : CanBeOpened M above s c bs) where
+  abbrev base : Table LoopRow
+  base = table.map_rows (rewritten_row (map (renamed (put_out c bs (length bs))))) M.loops
+
+  -- a strip without risers
+  bare_strip : (j : ℕ) → strip_loop c bs j ≡ raised_loop c bs 0 j
+  bare_strip j = λ n. record {
+    face = c.face + suc j;
+    content = cycle (canonical (mate (get_or bs j 0) ∷ cond (sym (not_less j 0 (omega arith)) n) (plus (riser c bs j) ∷ []) [] ++ minus (c.edge + suc j) ∷
+        cond (sym (not_less (next_place (length bs) j) 0 (omega arith)) n) (minus (riser c bs (next_place (length bs) j)) ∷ []) []));
+  }
+
+  tail_stays : (h v : ℕ) → opened_tail M above (map mate bs) [] h v ≡ v
+  tail_stays h v = either_way (lists above (face_at M h) && not (lists (map mate bs) h)) v
+
+  edges_stay : table.map_rows (opened_row M above (map mate bs) []) M.edges ≡ M.edges
+  edges_stay = map_same (opened_row M above (map mate bs) []) M.edges (λ e row at. λ n. record { plus_tail = tail_stays (plus e) row.plus_tail n; minus_tail = tail_stays (minus e) row.minus_tail n })
+
+  none_raised : strips_cut M s c bs (length bs) ≡ copies_raised M above s c bs 0
+  unfolding strips_cut copies_raised
+  none_raised =
+      let copies : copied M c bs 0 ≡ [] = copy.none_copied M above s c bs w in
+      λ n. record M {
+        faces = with_rows M.faces c.face (strip_face s c) (length bs);
+        loops = rows_same base c.loop (strip_loop c bs) (raised_loop c bs 0) (length bs) (λ j lt. bare_strip j) n;
+        edges = (ap (λ t. with_rows t c.edge (raised_edge M bs []) (length bs)) (sym edges_stay)
+            ∙ ap (λ ps. with_rows (table.map_rows (opened_row M above (map mate bs) ps) M.edges) c.edge (raised_edge M bs ps) (length bs)) (sym copies)) n;
+        vertices = ap (with_copies M) (sym copies) n;
+      }
+
+  -- the first i copies
+  pub copies_go : (i : ℕ) → i ≤ length bs →
+      AreAccepted (strips_cut M s c bs (length bs)) (copy_ops M c bs i) × (effects (strips_cut M s c bs (length bs)) (copy_ops M c bs i) ≡ copies_raised M above s c bs i)
+  copies_go zero le = (tt, none_raised)
+  copies_go (suc i) le =
+      let r = copies_go i (omega arith) in
+      let C : Model = strips_cut M s c bs (length bs) in
+      let sound : Sound (copies_raised M above s c bs i) = subst Sound r.1 (effects_keep_sound C (copy_ops M c bs i) (cut_sound M above s c bs w) r.0) in (
+        AreAccepted-append C (copy_ops M c bs i) (raise_copy M c bs i ∷ []) r.0
+            (subst (λ X. AreAccepted X (raise_copy M c bs i ∷ [])) (sym r.1) (copy_accepted M above s c bs w i (omega arith) sound, tt)),
+        effects-append C (copy_ops M c bs i) (raise_copy M c bs i ∷ []) ∙ ap (λ X. effect X (raise_copy M c bs i)) r.1 ∙ copy_is M above s c bs w i (omega arith) sound,
+      )
+
+  pub part_sound : (i : ℕ) → i ≤ length bs → Sound (copies_raised M above s c bs i)
+  part_sound i le = let r = copies_go i le in subst Sound r.1 (effects_keep_sound (strips_cut M s c bs (length bs)) (copy_ops M c bs i) (cut_sound M above s c bs w) r.0)
+
+  -- no operator is refused, and they raise all copies
+  pub copies_accepted : AreAccepted (strips_cut M s c bs (length bs)) (copy_ops M c bs (length bs))
+  copies_accepted = (copies_go (length bs) (omega arith)).0
+
+  pub copies_are_raised : effects (strips_cut M s c bs (length bs)) (copy_ops M c bs (length bs)) ≡ copies_raised M above s c bs (length bs)
+  copies_are_raised = (copies_go (length bs) (omega arith)).1
+
+  pub raised_sound : Sound (copies_raised M above s c bs (length bs))
+  raised_sound = part_sound (length bs) (omega arith)

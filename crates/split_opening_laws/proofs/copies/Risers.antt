@@ -1,0 +1,231 @@
+-- What the loops hold once one copy more is raised.
+use Rattle.std.proofs.Common.{◌≡◌, ◌≢◌, ℕ, suc, ◌+◌, ◌≤◌, ◌<◌, cond, List, [], ◌∷◌, ◌++◌, length, Some, None, is_some, refl, sym, ap, ◌∙◌, subst, arith, inl, inr}
+use Rattle.std.specs.Prelude.{map, get_or, nat_lt}
+use Rattle.std.specs.Option.{option_map}
+use Rattle.std.proofs.lemmas.Bool.Decides.{nat_tests, eqb_tells}
+use Rattle.std.proofs.lemmas.List.{append_assoc}
+use Rattle.cyclic_list.specs.Items.{count, IsIn, IsApart}
+use Rattle.cyclic_list.specs.Rings.{canonical}
+use Rattle.cyclic_list.specs.Edits.{insert_before}
+use Rattle.cyclic_list.proofs.Lists.{count-append, tick_same, tick_other}
+use Rattle.cyclic_list.proofs.Rotations.{canonical-rotates, count-canonical, canonical_same}
+use Rattle.cyclic_list.proofs.Edits.{insert_before_at, insert_before_same}
+use Rattle.boundary_model.specs.HalfEdge.{mate, edge_of, plus, minus}
+use Rattle.boundary_model.specs.Table as table
+use Rattle.boundary_model.specs.Table.{Table, get-map_rows}
+use Rattle.boundary_model.specs.Model.{Model, LoopContent, LoopRow, cycle, loop_of}
+use Rattle.boundary_model.specs.Sound.{Sound, Has}
+use Rattle.boundary_model.proofs.Halves.{plus_row, minus_row}
+use Rattle.boundary_model.proofs.Tables.{map_same}
+use Rattle.boundary_model.proofs.Models.{in-holds, holds-none, none-holds, other_loop, not_held}
+use Rattle.euler_operators.specs.Effect.{with_before}
+use Rattle.euler_laws.proofs.shared.Rows.{where_held_none, where_held_there}
+use Rattle.euler_laws.proofs.shared.Same.{map_twice, mapped_some}
+use Rattle.euler_laws.proofs.shared.Undo.{mate_plus, put_apart}
+use Rattle.sweeps_laws.proofs.prism.Steps.{edge_plus, loop_is, apart_xs}
+use Rattle.shapes.specs.Fresh.{Taken}
+use Rattle.shapes.specs.Prism.{next_place}
+use Rattle.shapes.specs.Rewriting.{rewritten_row, renamed}
+use Rattle.shapes.specs.split.Opening.{opened_row}
+use Rattle.split_opening_laws.specs.strips.Strips.{with_rows, put_out, riser, riser_edge, copied, raised_items, raised_loop, raised_edge, copies_raised}
+use Rattle.split_opening_laws.specs.strips.StripOps.{place_before}
+use Rattle.split_opening_laws.specs.strips.Opened.{CanBeOpened}
+use Rattle.split_opening_laws.proofs.strips.Rows.{rows_low, rows_high, rows_same, rows_map}
+use Rattle.split_opening_laws.proofs.strips.Cycle as on
+use Rattle.split_opening_laws.proofs.strips.Cycle.{at_most, before_below, before_apart, next_apart, next-before, next_once}
+use Rattle.split_opening_laws.proofs.copies.Raised as raised
+use Rattle.split_opening_laws.proofs.copies.Raised.{less_is, not_less}
+use Rattle.split_opening_laws.proofs.copies.Sides as sides
+
+less_next : (a i : ℕ) → a ≢ i → nat_lt a (suc i) ≡ nat_lt a i
+less_next a i ne = grind (arith, nat_tests)
+
+-- an item put in before another, in a ring written from its least item on
+put_into : (h y : ℕ) (xs : List ℕ) → IsApart xs → IsIn h xs → count y xs ≡ 0 → canonical (insert_before h y (canonical xs)) ≡ canonical (insert_before h y xs)
+put_into h y xs d at none = sym (canonical_same (insert_before h y xs) (insert_before h y (canonical xs)) (insert_before_same h y xs (canonical xs) (canonical-rotates xs) d at none) (put_apart xs d h y at none))
+
+module _ (M : Model) (above : List ℕ) (s : ℕ) (c : Taken) (bs : List ℕ) (w : CanBeOpened M above s c bs) (i : ℕ) (lt : i < length bs) (sound : Sound (copies_raised M above s c bs i)) where
+  abbrev N : Model
+  N = copies_raised M above s c bs i
+
+  abbrev m : ℕ
+  m = length bs
+
+  abbrev mates : List ℕ
+  mates = map mate bs
+
+  abbrev copies : List (ℕ × ℕ)
+  copies = copied M c bs i
+
+  abbrev p : ℕ
+  p = place_before (length bs) i
+
+  abbrev g : ℕ
+  g = minus (c.edge + suc i)
+
+  abbrev k : ℕ
+  k = mate (get_or bs (place_before (length bs) i) 0)
+
+  abbrev u : ℕ
+  u = riser c bs i
+
+  p_below : p < m
+  p_below = before_below m i lt
+
+  p_apart : p ≢ i
+  p_apart = before_apart m i (on.two_halves M above s c bs w) lt
+
+  -- the edge is free
+  pub edge_free : table.get N.edges u ≡ None
+  edge_free =
+      ap (λ t. table.get t u) (raised.raised_edges M above s c bs w i sound)
+      ∙ rows_high (with_rows (table.map_rows (opened_row M above mates copies) M.edges) c.edge (raised_edge M bs copies) m) (c.edge + m) (riser_edge M c bs) i u (omega arith)
+      ∙ rows_high (table.map_rows (opened_row M above mates copies) M.edges) c.edge (raised_edge M bs copies) m u (omega arith)
+      ∙ get-map_rows (opened_row M above mates copies) M.edges u ∙ ap (option_map (opened_row M above mates copies u)) (w.edges_free u (omega arith))
+
+  abbrev up_before : ℕ → LoopRow → LoopRow
+  up_before = with_before (minus (c.edge + suc i)) (plus (riser c bs i))
+
+  abbrev down_before : ℕ → LoopRow → LoopRow
+  down_before = with_before (mate (get_or bs (place_before (length bs) i) 0)) (minus (riser c bs i))
+
+  abbrev both_before : ℕ → LoopRow → LoopRow
+  both_before q row = down_before q (up_before q row)
+
+  abbrev items : ℕ → List ℕ
+  items j = raised_items c bs i j
+
+  items_apart : (j : ℕ) → j < m → IsApart (items j)
+  items_apart j below = apart_xs N (c.loop + suc j) (c.face + suc j) (items j) (raised.around M above s c bs w i sound j below)
+
+  g_in : IsIn g (items i)
+  g_in = raised.back_in M above s c bs w i sound i
+
+  k_in : IsIn k (items p)
+  k_in = raised.mate_in M above s c bs w i sound p
+
+  g_loop : loop_of N g ≡ c.loop + suc i
+  g_loop = loop_is N (c.loop + suc i) (c.face + suc i) (items i) (raised.around M above s c bs w i sound i lt) g g_in
+
+  k_loop : loop_of N k ≡ c.loop + suc p
+  k_loop = loop_is N (c.loop + suc p) (c.face + suc p) (items p) (raised.around M above s c bs w i sound p p_below) k k_in
+
+  -- a loop in which neither half-edge stands
+  neither : (q : ℕ) (row : LoopRow) → table.get N.loops q ≡ Some row → q ≢ c.loop + suc i → q ≢ c.loop + suc p → both_before q row ≡ row
+  neither q row at ng nk =
+      ap (down_before q) (where_held_none g (λ hs. cycle (canonical (insert_before g (plus u) hs))) q row (other_loop N sound g q row (λ e. ng (e ∙ g_loop)) at))
+      ∙ where_held_none k (λ hs. cycle (canonical (insert_before k (minus u) hs))) q row (other_loop N sound k q row (λ e. nk (e ∙ k_loop)) at)
+
+  old_loop : (q : ℕ) (row : LoopRow) → table.get (table.map_rows (rewritten_row (map (renamed (put_out c bs m)))) M.loops) q ≡ Some row → both_before q row ≡ row
+  old_loop q row at =
+      let there : Has M.loops q = sym (ap is_some (get-map_rows (rewritten_row (map (renamed (put_out c bs m)))) M.loops q) ∙ mapped_some (rewritten_row (map (renamed (put_out c bs m))) q) (table.get M.loops q)) ∙ ap is_some at in
+      let low : q ≤ c.loop = at_most M.loops c.loop q w.loops_free there in
+      neither q row (ap (λ t. table.get t q) (raised.raised_loops M above s c bs w i sound) ∙ rows_low (table.map_rows (rewritten_row (map (renamed (put_out c bs m)))) M.loops) c.loop (raised_loop c bs i) m q low ∙ at)
+      (λ e. omega (arith, e, low)) (λ e. omega (arith, e, low))
+
+  strip_there : (j : ℕ) → j < m → table.get N.loops (c.loop + suc j) ≡ Some (raised_loop c bs i j)
+  strip_there j below = (raised.around M above s c bs w i sound j below).at
+
+  none_new : (h j : ℕ) → j < m → edge_of h ≡ u → count h (items j) ≡ 0
+  none_new h j below is = sym (count-canonical h (items j)) ∙ not_held N sound h (ap (table.get N.edges) is ∙ edge_free) (c.loop + suc j) (raised_loop c bs i j) (strip_there j below)
+
+  k_new : k ≢ plus u
+  k_new e = omega (arith, on.low_edge M above s c bs w k (on.mate_there M above s c bs w p p_below), ap edge_of e, (plus_row u).0)
+
+  k_else : count k (items i) ≡ 0
+  k_else = sym (count-canonical k (items i))
+      ∙ none-holds k (cycle (canonical (items i))) (other_loop N sound k (c.loop + suc i) (raised_loop c bs i i) (λ e. p_apart (omega (arith, e, k_loop))) (strip_there i lt))
+
+  g_else : count g (items p) ≡ 0
+  g_else = sym (count-canonical g (items p))
+      ∙ none-holds g (cycle (canonical (items p))) (other_loop N sound g (c.loop + suc p) (raised_loop c bs i p) (λ e. p_apart (omega (arith, e, g_loop))) (strip_there p p_below))
+
+  abbrev up_put : List ℕ → LoopContent
+  up_put hs = cycle (canonical (insert_before (minus (c.edge + suc i)) (plus (riser c bs i)) hs))
+
+  abbrev down_put : List ℕ → LoopContent
+  down_put hs = cycle (canonical (insert_before (mate (get_or bs (place_before (length bs) i) 0)) (minus (riser c bs i)) hs))
+
+  -- the strip of -ci gets the riser
+  abbrev risen : List ℕ
+  risen = mate (get_or bs i 0) ∷ plus (riser c bs i) ∷ minus (c.edge + suc i) ∷ raised.fall_part M above s c bs w i sound i
+
+  flat : items i ≡ (mate (get_or bs i 0) ∷ []) ++ g ∷ raised.fall_part M above s c bs w i sound i
+  flat = ap (λ b. mate (get_or bs i 0) ∷ cond b (plus u ∷ []) [] ++ g ∷ raised.fall_part M above s c bs w i sound i) (not_less i i (omega arith))
+
+  risen_is : canonical (insert_before g (plus u) (canonical (items i))) ≡ canonical risen
+  risen_is =
+      let d : IsApart (items i) = items_apart i lt in
+      let falls : List ℕ = raised.fall_part M above s c bs w i sound i in
+      put_into g (plus u) (items i) d g_in (none_new (plus u) i lt (edge_plus u))
+      ∙ ap (λ t. canonical (insert_before g (plus u) t)) flat
+      ∙ ap canonical (insert_before_at g (plus u) (mate (get_or bs i 0) ∷ []) falls (omega (arith, d g, ap (count g) flat, count-append g (mate (get_or bs i 0) ∷ []) (g ∷ falls), tick_same g)))
+
+  risen_next : risen ≡ raised_items c bs (suc i) i
+  risen_next = λ n. mate (get_or bs i 0) ∷ cond (sym (less_is i (suc i) (omega arith)) n) (plus u ∷ []) [] ++ g ∷
+      cond (sym (less_next (next_place m i) i (next_apart m i (on.two_halves M above s c bs w))) n) (minus (riser c bs (next_place m i)) ∷ []) []
+
+  risen_k : count k (canonical risen) ≡ 0
+  risen_k = count-canonical k risen ∙ omega (arith, k_else, ap (count k) flat, tick_other k (plus u) k_new)
+
+  rise_row : both_before (c.loop + suc i) (raised_loop c bs i i) ≡ raised_loop c bs (suc i) i
+  rise_row =
+      ap (down_before (c.loop + suc i)) (where_held_there g up_put (c.loop + suc i) (raised_loop c bs i i) (in-holds g (cycle (canonical (items i))) (omega (arith, g_in, count-canonical g (items i))))
+      ∙ ap (λ t. record { face = c.face + suc i; content = cycle t }) risen_is)
+      ∙ where_held_none k down_put (c.loop + suc i) (record { face = c.face + suc i; content = cycle (canonical risen) }) (holds-none k (cycle (canonical risen)) risen_k)
+      ∙ ap (λ t. record { face = c.face + suc i; content = cycle (canonical t) }) risen_next
+
+  -- and the strip before it the way down
+  abbrev rises : List ℕ
+  rises = raised.rise_part M above s c bs w i sound p
+
+  fallen_is : canonical (insert_before k (minus u) (canonical (items p))) ≡ canonical (raised_items c bs (suc i) p)
+  fallen_is =
+      let d : IsApart (items p) = items_apart p p_below in
+      let b : ℕ = minus (c.edge + suc p) in
+      let last : items p ≡ (k ∷ rises) ++ b ∷ [] = sides.last_items M above s c bs w i lt sound in
+      let none : count (minus u) (items p) ≡ 0 = none_new (minus u) p p_below (minus_row u).0 in
+      let in_front : insert_before k (minus u) ((k ∷ rises) ++ b ∷ []) ≡ minus u ∷ ((k ∷ rises) ++ b ∷ []) = insert_before_at k (minus u) [] (rises ++ b ∷ []) refl in
+      let here : insert_before k (minus u) (items p) ≡ minus u ∷ ((k ∷ rises) ++ b ∷ []) = ap (insert_before k (minus u)) last ∙ in_front in
+      let new : ((k ∷ rises) ++ b ∷ []) ++ minus u ∷ [] ≡ raised_items c bs (suc i) p =
+      append_assoc (k ∷ rises) (b ∷ []) (minus u ∷ [])
+      ∙ (λ n. k ∷ cond (sym (less_next p i p_apart) n) (plus (riser c bs p) ∷ []) [] ++ b ∷ cond (sym (less_is i (suc i) (omega arith)) n) (minus u ∷ []) [])
+      ∙ ap (λ q. k ∷ cond (nat_lt p (suc i)) (plus (riser c bs p) ∷ []) [] ++ b ∷ cond (nat_lt q (suc i)) (minus (riser c bs q) ∷ []) []) (sym (next-before m i lt)) in
+      put_into k (minus u) (items p) d k_in none
+      ∙ ap canonical here
+      ∙ canonical_same (minus u ∷ ((k ∷ rises) ++ b ∷ [])) (((k ∷ rises) ++ b ∷ []) ++ minus u ∷ []) (record { front = minus u ∷ []; back = (k ∷ rises) ++ b ∷ []; here = refl; there = refl })
+      (subst IsApart here (put_apart (items p) d k (minus u) k_in none))
+      ∙ ap canonical new
+
+  fall_row : both_before (c.loop + suc p) (raised_loop c bs i p) ≡ raised_loop c bs (suc i) p
+  fall_row =
+      ap (down_before (c.loop + suc p)) (where_held_none g up_put (c.loop + suc p) (raised_loop c bs i p) (holds-none g (cycle (canonical (items p))) (count-canonical g (items p) ∙ g_else)))
+      ∙ where_held_there k down_put (c.loop + suc p) (raised_loop c bs i p) (in-holds k (cycle (canonical (items p))) (omega (arith, k_in, count-canonical k (items p))))
+      ∙ ap (λ t. record { face = c.face + suc p; content = cycle t }) fallen_is
+
+  -- the others stay
+  strip_row : (j : ℕ) → j < m → both_before (c.loop + suc j) (raised_loop c bs i j) ≡ raised_loop c bs (suc i) j
+  strip_row j below = elim (eqb_tells j i) [
+    | inl e ↦ subst (λ q. both_before (c.loop + suc q) (raised_loop c bs i q) ≡ raised_loop c bs (suc i) q) (sym e.1) rise_row
+    | inr e ↦ elim (eqb_tells j p) [
+      | inl f ↦ subst (λ q. both_before (c.loop + suc q) (raised_loop c bs i q) ≡ raised_loop c bs (suc i) q) (sym f.1) fall_row
+      | inr f ↦
+          let ne : next_place m j ≢ i = λ q. f.1 (next_once m i j lt below q) in
+          neither (c.loop + suc j) (raised_loop c bs i j) (strip_there j below) (λ q. e.1 (omega arith)) (λ q. f.1 (omega arith))
+          ∙ (λ n. record {
+            face = c.face + suc j;
+            content = cycle (canonical (mate (get_or bs j 0) ∷ cond (sym (less_next j i e.1) n) (plus (riser c bs j) ∷ []) [] ++ minus (c.edge + suc j) ∷
+                cond (sym (less_next (next_place m j) i ne) n) (minus (riser c bs (next_place m j)) ∷ []) []));
+          })
+    ]
+  ]
+
+  pub loops_next : table.map_rows (with_before k (mate (plus u))) (table.map_rows (with_before g (plus u)) N.loops) ≡ (copies_raised M above s c bs (suc i)).loops
+  unfolding copies_raised
+  loops_next =
+      let base : Table LoopRow = table.map_rows (rewritten_row (map (renamed (put_out c bs m)))) M.loops in
+      (λ n. table.map_rows (with_before k (mate_plus u n)) (table.map_rows up_before (raised.raised_loops M above s c bs w i sound n)))
+      ∙ map_twice down_before up_before (with_rows base c.loop (raised_loop c bs i) m)
+      ∙ rows_map both_before base c.loop (raised_loop c bs i) m
+      ∙ rows_same (table.map_rows both_before base) c.loop (λ j. both_before (c.loop + suc j) (raised_loop c bs i j)) (raised_loop c bs (suc i)) m strip_row
+      ∙ ap (λ t. with_rows t c.loop (raised_loop c bs (suc i)) m) (map_same both_before base old_loop)

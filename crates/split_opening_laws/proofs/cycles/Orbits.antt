@@ -1,0 +1,107 @@
+-- The orbits of a function that permutes the items of a list.
+use Rattle.std.proofs.Common.{◌≡◌, ℕ, zero, suc, ◌+◌, ◌≤◌, List, [], ◌∷◌, ◌++◌, length, map, refl, sym, ap, subst, ◌∙◌, arith, inl, inr}
+use Rattle.std.proofs.lemmas.Bool.Decides.{eqb_tells}
+use Rattle.std.proofs.lemmas.List.{length-append}
+use Rattle.cyclic_list.specs.Items.{tick, count, IsIn, IsApart, SameItems, last_or}
+use Rattle.cyclic_list.specs.Rings.{IsPath, IsRing, orbit, rotate_to}
+use Rattle.cyclic_list.proofs.Lists.{tick_same, tick_other, count-append}
+use Rattle.cyclic_list.proofs.Rotations.{count-rotate_to}
+use Rattle.cyclic_list.proofs.Operators.{apart_back}
+use Rattle.cyclic_list.proofs.Maps.{IsApart-map}
+use Rattle.cyclic_list.proofs.Rings.{IsPath-append, front_of, orbit_ring, orbit_from}
+use Rattle.cyclic_list.proofs.Closed.{IsPath_last}
+use Rattle.split_opening_laws.specs.cycles.Permuting.{Permutes}
+use Rattle.split_opening_laws.proofs.cycles.Meets.{apart_within}
+
+-- a path leads over its items but the first to its end
+path_maps : (next : ℕ → ℕ) (x : ℕ) (xs : List ℕ) (d : ℕ) → IsPath next (x ∷ xs) d → map next (x ∷ xs) ≡ xs ++ d ∷ []
+path_maps next x [] d p = ap (λ y. y ∷ []) p.0
+path_maps next x (y ∷ ys) d p = λ i. p.0 i ∷ path_maps next y ys d p.1 i
+
+in_last : (x : ℕ) (xs : List ℕ) → IsIn (last_or x xs) (x ∷ xs)
+in_last x xs = let f = front_of x xs in omega (arith, ap (count (last_or x xs)) f.1, count-append (last_or x xs) f.0 (last_or x xs ∷ []), tick_same (last_or x xs))
+
+-- the orbit of h within xs: a ring that begins with h, without repeats
+pub record Closed (next : ℕ → ℕ) (xs : List ℕ) (h : ℕ) : Type 0 where
+  pub others : List ℕ
+  pub ring : IsRing next (h ∷ others)
+  pub apart : IsApart (h ∷ others)
+  pub within : (x : ℕ) → IsIn x (h ∷ others) → IsIn x xs
+
+module _ (next : ℕ → ℕ) (xs : List ℕ) (w : Permutes next xs) where
+  -- a path from h without repeats doesn't lead back into itself but to h
+  fresh : (h : ℕ) (ps : List ℕ) (q : ℕ) → IsApart (h ∷ ps) → IsPath next (h ∷ ps) q → ((x : ℕ) → IsIn x (h ∷ ps) → IsIn x xs) → (q ≡ h → ⊥) → count q (h ∷ ps) ≡ 0
+  fresh h ps q d p i ne =
+      let a : IsApart (map next (h ∷ ps)) = IsApart-map next (h ∷ ps) (λ x j y k e. w.one_way x y (i x j) (i y k) e) d in
+      omega (arith, a q, ap (count q) (path_maps next h ps q p), count-append q ps (q ∷ []), tick_same q, tick_other q h ne)
+
+  module _ (h : ℕ) (ps : List ℕ) (q : ℕ) (d : IsApart (h ∷ ps)) (p : IsPath next (h ∷ ps) q) (i : (x : ℕ) → IsIn x (h ∷ ps) → IsIn x xs) where
+    end_in : IsIn q xs
+    end_in = subst (λ y. IsIn y xs) (IsPath_last next h ps q p) (w.stays (last_or h ps) (i (last_or h ps) (in_last h ps)))
+
+    more_in : (x : ℕ) → IsIn x (h ∷ (ps ++ q ∷ [])) → IsIn x xs
+    more_in x j = elim (eqb_tells x q) [
+      | inl s ↦ subst (λ y. IsIn y xs) (sym s.1) end_in
+      | inr s ↦ i x (omega (arith, j, count-append x (h ∷ ps) (q ∷ []), tick_other x q s.1))
+    ]
+
+    more_apart : (q ≡ h → ⊥) → IsApart (h ∷ (ps ++ q ∷ []))
+    more_apart ne = apart_back q (h ∷ ps) (fresh h ps q d p i ne) d
+
+    more_path : IsPath next (h ∷ (ps ++ q ∷ [])) (next q)
+    more_path = IsPath-append next (h ∷ ps) (q ∷ []) (next q) p (refl, tt)
+
+    more_short : (q ≡ h → ⊥) → length (h ∷ ps) + 1 ≤ length xs
+    more_short ne = omega (arith, apart_within (h ∷ (ps ++ q ∷ [])) xs (more_apart ne) more_in, length-append ps (q ∷ []))
+
+    closed_here : q ≡ h → Closed next xs h
+    closed_here e = record { others = ps; ring = subst (IsPath next (h ∷ ps)) e p; apart = d; within = i }
+
+  closes : (n : ℕ) (h : ℕ) (ps : List ℕ) (q : ℕ) → length xs ≤ length (h ∷ ps) + n → IsApart (h ∷ ps) → IsPath next (h ∷ ps) q → ((x : ℕ) → IsIn x (h ∷ ps) → IsIn x xs) → Closed next xs h
+  closes zero h ps q l d p i = elim (eqb_tells q h) [
+    | inl e ↦ closed_here h ps q d p i e.1
+    | inr e ↦ absurd (omega (arith, l, more_short h ps q d p i e.1))
+  ]
+  closes (suc n) h ps q l d p i = elim (eqb_tells q h) [
+    | inl e ↦ closed_here h ps q d p i e.1
+    | inr e ↦ closes n h (ps ++ q ∷ []) (next q) (omega (arith, l, length-append ps (q ∷ []))) (more_apart h ps q d p i e.1) (more_path h ps q d p i) (more_in h ps q d p i)
+  ]
+
+  pub closed : (h : ℕ) → IsIn h xs → Closed next xs h
+  closed h i = closes (length xs) h [] (next h) (omega arith) (λ x. one x) (refl, tt) (λ x j. only x j) where
+    one : (x : ℕ) → count x (h ∷ []) ≤ 1
+    one x = elim (eqb_tells x h) [ inl e ↦ omega (arith, ap (λ y. tick y h) e.1, tick_same h) | inr e ↦ omega (arith, tick_other x h e.1) ]
+
+    only : (x : ℕ) → IsIn x (h ∷ []) → IsIn x xs
+    only x j = elim (eqb_tells x h) [ inl e ↦ subst (λ y. IsIn y xs) (sym e.1) i | inr e ↦ absurd (omega (arith, j, tick_other x h e.1)) ]
+
+  -- the length of the list is fuel enough
+  abbrev pub around : ℕ → List ℕ
+  around h = orbit next h (length xs)
+
+  module _ (h : ℕ) (i : IsIn h xs) where
+    pub around_is : around h ≡ h ∷ (closed h i).others
+    around_is = let c = closed h i in orbit_ring next h c.others (length xs) c.ring c.apart (apart_within (h ∷ c.others) xs c.apart c.within)
+
+    pub around_ring : IsRing next (around h)
+    around_ring = subst (IsRing next) (sym around_is) (closed h i).ring
+
+    pub around_apart : IsApart (around h)
+    around_apart = subst IsApart (sym around_is) (closed h i).apart
+
+    pub around_within : (x : ℕ) → IsIn x (around h) → IsIn x xs
+    around_within x j = (closed h i).within x (omega (arith, j, ap (count x) around_is))
+
+    pub around_here : IsIn h (around h)
+    around_here = omega (arith, ap (count h) around_is, tick_same h)
+
+    -- round from any of its items, it is the same ring
+    pub around_turned : (z : ℕ) → IsIn z (around h) → around z ≡ rotate_to z (around h)
+    around_turned z j = orbit_from next z (around h) (length xs) around_ring around_apart j (apart_within (around h) xs around_apart around_within)
+
+    pub around_same : (z : ℕ) → IsIn z (around h) → SameItems (around z) (around h)
+    around_same z j x = ap (count x) (around_turned z j) ∙ count-rotate_to x z (around h)
+
+  -- two rings with an item in common have the same items
+  pub around_shared : (x y z : ℕ) → IsIn x xs → IsIn y xs → IsIn z (around x) → IsIn z (around y) → SameItems (around x) (around y)
+  around_shared x y z i j k l v = omega (arith, around_same x i z k v, around_same y j z l v)

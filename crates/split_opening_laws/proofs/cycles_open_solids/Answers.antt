@@ -1,0 +1,7 @@
+use Rattle.split_opening_laws.proofs.opening.Strips.{raised_strips}
+use Rattle.split_opening_laws.proofs.opening.Opened.{capped_is_open}
+use Rattle.split_opening_laws.proofs.opening.Whole.{opening_accepted, opening_made, opened_sound}
+use Rattle.split_opening_laws.proofs.cycles_open_solids.Goals as goal
+
+pub returns : goal.returns
+returns c = record { strips = raised_strips; capped = capped_is_open; accepted = opening_accepted; made = opening_made; sound = opened_sound }

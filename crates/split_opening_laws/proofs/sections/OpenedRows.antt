@@ -1,0 +1,221 @@
+-- What the tables say once a solid is opened along a cycle.
+use Rattle.std.proofs.Common.{◌≡◌, ℕ, ◌+◌, ◌≤◌, ◌<◌, Bool, true, false, cond, not, ◌&&◌, List, length, map, reverse, Option, Some, None, is_some, unwrap_or, refl, sym, ap, subst, ◌∙◌, arith, true≢false, ◌⊎◌, inl, inr}
+use Rattle.std.specs.Option.{option_map}
+use Rattle.cyclic_list.specs.Items.{count, IsIn}
+use Rattle.cyclic_list.specs.Rings.{canonical}
+use Rattle.cyclic_list.proofs.Rotations.{count-canonical}
+use Rattle.cyclic_list.proofs.Maps.{from_map, count-reverse}
+use Rattle.boundary_model.specs.HalfEdge.{mate, edge_of, is_first, plus, minus}
+use Rattle.boundary_model.specs.Table as table
+use Rattle.boundary_model.specs.Table.{Table, get-map_rows}
+use Rattle.boundary_model.specs.Model.{Model, LoopContent, LoopRow, FaceRow, EdgeRow, lone, cycle, no_face, holds, items_of, tail, tail_in, content, cycle_of, loop_of, face_of, solid_of}
+use Rattle.boundary_model.specs.Sound.{Sound, Has, HasHalf}
+use Rattle.boundary_model.proofs.Halves.{plus_row, minus_row}
+use Rattle.boundary_model.proofs.Models.{holds_in, in-holds, face_row, content_row, tail_row, cycle_there, row_of}
+use Rattle.boundary_model.proofs.Tables.{first_where_is}
+use Rattle.euler_operators.specs.Conditions.{face_at, lists}
+use Rattle.euler_laws.proofs.shared.Arcs.{halves_of_edge}
+use Rattle.euler_laws.proofs.shared.Loops.{some_row}
+use Rattle.shapes.proofs.fresh.Rows.{get-put_cases, get-put_other}
+use Rattle.shapes.specs.Fresh.{Taken, numbers_after}
+use Rattle.shapes.specs.Rewriting.{rewritten_row, renamed}
+use Rattle.shapes.specs.split.Opening.{opened_tail, opened_row, with_rim, with_copies, both_lists, opened_along}
+use Rattle.split_opening_laws.specs.sections.InTurn.{AreFree}
+use Rattle.split_opening_laws.proofs.cycles.Meets.{in_map}
+use Rattle.split_opening_laws.proofs.sections.Rims.{at_most, other_number, rim_below, rim_cases, rim_numbers}
+use Rattle.split_opening_laws.proofs.sections.Pairs.{renamed_one, renamed_not, in_numbers, numbers_in}
+
+module _ (M : Model) (above : List ℕ) (s : ℕ) (c : Taken) (bs : List ℕ) where
+  abbrev m : ℕ
+  m = length bs
+
+  abbrev mates : List ℕ
+  mates = map mate bs
+
+  abbrev rim : List ℕ
+  rim = numbers_after c.edge (length bs)
+
+  abbrev swaps : List (ℕ × ℕ)
+  swaps = both_lists (map mate bs) (map plus (numbers_after c.edge (length bs)))
+
+  abbrev copies : List (ℕ × ℕ)
+  copies = both_lists (map (tail M) bs) (numbers_after c.vertex (length bs))
+
+  abbrev pub opened : Model
+  opened = opened_along M above s c bs
+
+  abbrev below_cap : FaceRow
+  below_cap = record { solid = s; outer = c.loop + 1 }
+
+  abbrev above_cap : FaceRow
+  above_cap = record { solid = s; outer = c.loop + m + 1 }
+
+  abbrev below_rim : LoopRow
+  below_rim = record { face = c.face + 1; content = cycle (canonical (reverse mates)) }
+
+  abbrev above_rim : LoopRow
+  above_rim = record { face = c.face + m + 1; content = cycle (map minus rim) }
+
+  pub faces_are : opened.faces ≡ table.put (table.put M.faces (c.face + 1) below_cap) (c.face + m + 1) above_cap
+  unfolding opened_along
+  faces_are = refl
+
+  pub loops_are : opened.loops ≡ table.put (table.put (table.map_rows (rewritten_row (map (renamed swaps))) M.loops) (c.loop + 1) below_rim) (c.loop + m + 1) above_rim
+  unfolding opened_along
+  loops_are = refl
+
+  pub edges_are : opened.edges ≡ with_rim (table.map_rows (opened_row M above mates copies) M.edges) c.edge c.vertex m m
+  unfolding opened_along
+  edges_are = refl
+
+  pub vertices_are : opened.vertices ≡ with_copies M copies
+  unfolding opened_along
+  vertices_are = refl
+
+  module _ (sound : Sound M) (free : AreFree M c) where
+    old_edge : (h : ℕ) → HasHalf M h → edge_of h ≤ c.edge
+    old_edge h there = at_most M.edges c.edge free.edges (edge_of h) there
+
+    -- ---- faces and loops
+
+    pub face_still : (f : ℕ) → Has M.faces f → table.get opened.faces f ≡ table.get M.faces f
+    face_still f there = let l = at_most M.faces c.face free.faces f there in
+        ap (λ t. table.get t f) faces_are
+        ∙ get-put_other (table.put M.faces (c.face + 1) below_cap) (c.face + m + 1) above_cap f (other_number f c.face (c.face + m + 1) l (omega arith))
+        ∙ get-put_other M.faces (c.face + 1) below_cap f (other_number f c.face (c.face + 1) l (omega arith))
+
+    pub solid_kept : (f : ℕ) → Has M.faces f → solid_of opened f ≡ solid_of M f
+    unfolding solid_of
+    solid_kept f there = ap (λ o. (unwrap_or o no_face).solid) (face_still f there)
+
+    -- an old loop is rewritten
+    pub loop_row : (q : ℕ) (row : LoopRow) → table.get M.loops q ≡ Some row → table.get opened.loops q ≡ Some (rewritten_row (map (renamed swaps)) q row)
+    loop_row q row at = let l = at_most M.loops c.loop free.loops q (ap is_some at) in
+        ap (λ t. table.get t q) loops_are
+        ∙ get-put_other (table.put (table.map_rows (rewritten_row (map (renamed swaps))) M.loops) (c.loop + 1) below_rim) (c.loop + m + 1) above_rim q (other_number q c.loop (c.loop + m + 1) l (omega arith))
+        ∙ get-put_other (table.map_rows (rewritten_row (map (renamed swaps))) M.loops) (c.loop + 1) below_rim q (other_number q c.loop (c.loop + 1) l (omega arith))
+        ∙ get-map_rows (rewritten_row (map (renamed swaps))) M.loops q ∙ ap (option_map (rewritten_row (map (renamed swaps)) q)) at
+
+    -- an old half-edge isn't one of those round a cap
+    not_plus : (h : ℕ) → HasHalf M h → IsIn h (map plus rim) → ⊥
+    not_plus h there i = let r = from_map plus h rim i in
+        other_number (edge_of h) c.edge r.0 (old_edge h there) (in_numbers c.edge m r.0 r.1).0 (ap edge_of r.2 ∙ (plus_row r.0).0)
+
+    not_minus : (h : ℕ) → HasHalf M h → IsIn h (map minus rim) → ⊥
+    not_minus h there i = let r = from_map minus h rim i in
+        other_number (edge_of h) c.edge r.0 (old_edge h there) (in_numbers c.edge m r.0 r.1).0 (ap edge_of r.2 ∙ (minus_row r.0).0)
+
+    module _ (h : ℕ) (there : HasHalf M h) (no_mate : count h (map mate bs) ≡ 0) where
+      renamed_in : (hs : List ℕ) → IsIn h hs → IsIn h (canonical (map (renamed swaps) hs))
+      renamed_in hs i = omega (arith, count-canonical h (map (renamed swaps) hs), subst (λ x. IsIn x (map (renamed swaps) hs)) (renamed_not (map mate bs) (map plus rim) h no_mate) (in_map (renamed swaps) h hs i))
+
+      -- a rewritten loop that holds it held it
+      held : (q : ℕ) (k : LoopContent) → content M q ≡ k → IsIn h (items_of (rewritten_row (map (renamed swaps)) q (record { face = 0; content = k })).content) → loop_of M h ≡ q
+      held q (lone v) e i = absurd (omega arith)
+      held q (cycle hs) e i =
+          let r = from_map (renamed swaps) h hs (omega (arith, i, count-canonical h (map (renamed swaps) hs))) in
+          elim (renamed_one (map mate bs) (map plus rim) r.0) [
+            | inl kept ↦ sound.one_loop h q (in-holds h (content M q) (subst (λ x. IsIn h (items_of x)) (sym e) (subst (λ x. IsIn x hs) (sym (r.2 ∙ kept)) r.1)))
+            | inr new ↦ absurd (not_plus h there (subst (λ x. IsIn x (map plus rim)) (sym r.2) new))
+          ]
+
+      content_of : (q : ℕ) (row : LoopRow) → table.get M.loops q ≡ Some row → IsIn h (items_of (rewritten_row (map (renamed swaps)) q row).content) → loop_of M h ≡ q
+      content_of q row at i = held q row.content (content_row M q row at) i
+
+      from_rewritten : (q : ℕ) (y : LoopRow) (o : Option LoopRow) → table.get M.loops q ≡ o → option_map (rewritten_row (map (renamed swaps)) q) o ≡ Some y → IsIn h (items_of y.content) → loop_of M h ≡ q
+      from_rewritten q y None e at i = absurd (true≢false (sym (ap is_some at)))
+      from_rewritten q y (Some row) e at i = content_of q row e (subst (λ x. IsIn h (items_of x.content)) (sym (one (rewritten_row (map (renamed swaps)) q row) y at)) i) where
+        one : (a b : LoopRow) → Some a ≡ Some b → a ≡ b
+        one a b e = cc
+
+      only_there : (q : ℕ) (y : LoopRow) → table.get opened.loops q ≡ Some y → holds h y.content ≡ true → q ≡ loop_of M h
+      only_there q y at passes = elim (get-put_cases (table.put (table.map_rows (rewritten_row (map (renamed swaps))) M.loops) (c.loop + 1) below_rim) (c.loop + m + 1) above_rim q y (sym (ap (λ t. table.get t q) loops_are) ∙ at)) [
+        | inl p ↦ absurd (not_minus h there (holds_in h (cycle (map minus rim)) (sym (ap (λ r. holds h r.content) p.1) ∙ passes)))
+        | inr p ↦ elim (get-put_cases (table.map_rows (rewritten_row (map (renamed swaps))) M.loops) (c.loop + 1) below_rim q y p.1) [
+          | inl r ↦ absurd (in_cap (holds_in h (cycle (canonical (reverse mates))) (sym (ap (λ x. holds h x.content) r.1) ∙ passes)))
+          | inr r ↦ sym (from_rewritten q y (table.get M.loops q) refl (sym (get-map_rows (rewritten_row (map (renamed swaps))) M.loops q) ∙ r.1) (holds_in h y.content passes))
+        ]
+      ] where
+        in_cap : IsIn h (canonical (reverse mates)) → ⊥
+        in_cap i = absurd (omega (arith, i, count-canonical h (reverse mates), count-reverse h mates, no_mate))
+
+      loop_there : table.get opened.loops (loop_of M h) ≡ Some (rewritten_row (map (renamed swaps)) (loop_of M h) (record { face = face_of M (loop_of M h); content = cycle (cycle_of M h) }))
+      loop_there = loop_row (loop_of M h) _ (row_of M sound h there)
+
+      loop_kept : loop_of opened h ≡ loop_of M h
+      unfolding loop_of
+      loop_kept = first_where_is (λ _ row. holds h row.content) opened.loops (loop_of M h) _ loop_there
+          (in-holds h (cycle (canonical (map (renamed swaps) (cycle_of M h)))) (renamed_in (cycle_of M h) (cycle_there M sound h there))) only_there
+
+      -- a half-edge that isn't a mate of the cycle keeps its face
+      pub face_kept : face_at opened h ≡ face_at M h
+      face_kept = ap (face_of opened) loop_kept ∙ face_row opened (loop_of M h) _ loop_there
+
+    -- ---- edges
+
+    edge_row : (e : ℕ) (row : EdgeRow) → table.get M.edges e ≡ Some row → table.get opened.edges e ≡ Some (opened_row M above mates copies e row)
+    edge_row e row at = ap (λ t. table.get t e) edges_are
+        ∙ rim_below (table.map_rows (opened_row M above mates copies) M.edges) c.edge c.vertex m m e (at_most M.edges c.edge free.edges e (ap is_some at))
+        ∙ get-map_rows (opened_row M above mates copies) M.edges e ∙ ap (option_map (opened_row M above mates copies e)) at
+
+    pub half_kept : (h : ℕ) → HasHalf M h → HasHalf opened h
+    half_kept h there = let r = some_row (table.get M.edges (edge_of h)) there in ap is_some (edge_row (edge_of h) r.0 r.1)
+
+    tail_is : (h : ℕ) → HasHalf M h → tail opened h ≡ opened_tail M above mates copies h (tail M h)
+    tail_is h there =
+        let r = some_row (table.get M.edges (edge_of h)) there in
+        let now : tail opened h ≡ tail_in (opened_row M above mates copies (edge_of h) r.0) (is_first h) = tail_row opened h (opened_row M above mates copies (edge_of h) r.0) (edge_row (edge_of h) r.0 r.1) in
+        let old : tail M h ≡ tail_in r.0 (is_first h) = tail_row M h r.0 r.1 in
+        elim (halves_of_edge h) [
+          | inl p ↦ now ∙ ap (tail_in (opened_row M above mates copies (edge_of h) r.0)) p.1 ∙ ap (λ x. opened_tail M above mates copies x r.0.plus_tail) (sym p.0)
+              ∙ ap (opened_tail M above mates copies h) (sym (old ∙ ap (tail_in r.0) p.1))
+          | inr p ↦ now ∙ ap (tail_in (opened_row M above mates copies (edge_of h) r.0)) p.1 ∙ ap (λ x. opened_tail M above mates copies x r.0.minus_tail) (sym p.0)
+              ∙ ap (opened_tail M above mates copies h) (sym (old ∙ ap (tail_in r.0) p.1))
+        ]
+
+    -- it starts where it did, or at a copy
+    pub tail_cases : (h : ℕ) → HasHalf M h → (tail opened h ≡ tail M h) ⊎ (c.vertex < tail opened h)
+    tail_cases h there = go (lists above (face_at M h) && not (lists mates h)) (tail_is h there) where
+      go : (b : Bool) → tail opened h ≡ cond b (renamed copies (tail M h)) (tail M h) → (tail opened h ≡ tail M h) ⊎ (c.vertex < tail opened h)
+      go true e = elim (renamed_one (map (tail M) bs) (numbers_after c.vertex m) (tail M h)) [
+        | inl k ↦ inl (e ∙ k)
+        | inr i ↦ inr (subst (λ n. c.vertex < n) (sym e) (in_numbers c.vertex m (renamed copies (tail M h)) i).0)
+      ]
+      go false e = inl e
+
+    -- where no half of the cycle starts, it starts where it did
+    pub tail_kept : (h : ℕ) → HasHalf M h → count (tail M h) (map (tail M) bs) ≡ 0 → tail opened h ≡ tail M h
+    tail_kept h there z = go (lists above (face_at M h) && not (lists mates h)) (tail_is h there) where
+      go : (b : Bool) → tail opened h ≡ cond b (renamed copies (tail M h)) (tail M h) → tail opened h ≡ tail M h
+      go true e = e ∙ renamed_not (map (tail M) bs) (numbers_after c.vertex m) (tail M h) z
+      go false e = e
+
+    -- a half-edge was there, or starts at a copy
+    pub half_cases : (h : ℕ) → HasHalf opened h → HasHalf M h ⊎ (c.vertex < tail opened h)
+    half_cases h there =
+        let r = some_row (table.get opened.edges (edge_of h)) there in
+        elim (rim_cases (table.map_rows (opened_row M above mates copies) M.edges) c.edge c.vertex m m (edge_of h) r.0 (sym (ap (λ t. table.get t (edge_of h)) edges_are) ∙ r.1)) [
+          | inl at ↦ inl (sym (mapped (table.get M.edges (edge_of h))) ∙ ap is_some (sym (get-map_rows (opened_row M above mates copies) M.edges (edge_of h)) ∙ at))
+          | inr l ↦ inr (subst (λ n. c.vertex < n) (sym (tail_row opened h r.0 r.1)) (either (is_first h) r.0 l.0 l.1))
+        ]
+      where
+        mapped : (o : Option EdgeRow) → is_some (option_map (opened_row M above mates copies (edge_of h)) o) ≡ is_some o
+        mapped None = refl
+        mapped (Some x) = refl
+
+        either : (b : Bool) (row : EdgeRow) → c.vertex < row.plus_tail → c.vertex < row.minus_tail → c.vertex < tail_in row b
+        either true row a d = a
+        either false row a d = d
+
+    -- a half-edge was there, or is of an edge round a cap
+    pub half_back : (h : ℕ) → HasHalf opened h → HasHalf M h ⊎ IsIn (edge_of h) (numbers_after c.edge (length bs))
+    half_back h there =
+        let r = some_row (table.get opened.edges (edge_of h)) there in
+        elim (rim_numbers (table.map_rows (opened_row M above mates copies) M.edges) c.edge c.vertex m m (edge_of h) r.0 (sym (ap (λ t. table.get t (edge_of h)) edges_are) ∙ r.1)) [
+          | inl at ↦ inl (sym (mapped (table.get M.edges (edge_of h))) ∙ ap is_some (sym (get-map_rows (opened_row M above mates copies) M.edges (edge_of h)) ∙ at))
+          | inr l ↦ inr (numbers_in c.edge m (edge_of h) l.0 l.1)
+        ]
+      where
+        mapped : (o : Option EdgeRow) → is_some (option_map (opened_row M above mates copies (edge_of h)) o) ≡ is_some o
+        mapped None = refl
+        mapped (Some x) = refl

@@ -1,0 +1,54 @@
+-- The edges round a cap, which get the numbers after those taken.
+use Rattle.std.proofs.Common.{◌≡◌, ◌≢◌, ℕ, zero, suc, ◌+◌, ◌≤◌, ◌<◌, Bool, true, false, cond, nat_eq, Some, None, is_some, refl, sym, ap, subst, ◌∙◌, arith, true≢false, ◌⊎◌, inl, inr}
+use Rattle.boundary_model.specs.Table as table
+use Rattle.boundary_model.specs.Table.{Table}
+use Rattle.boundary_model.specs.Model.{EdgeRow}
+use Rattle.boundary_model.specs.Sound.{Has}
+use Rattle.shapes.proofs.fresh.Rows.{get-put_cases, get-put_other}
+use Rattle.solid_walks.proofs.Rising.{below_or}
+use Rattle.shapes.specs.split.Opening.{with_rim}
+
+-- where all numbers above n are free, a number in use is at most n
+pub at_most : {X : Type 0} (t : Table X) (n : ℕ) → ((q : ℕ) → n < q → table.get t q ≡ None) → (q : ℕ) → Has t q → q ≤ n
+at_most t n free q there = elim (below_or q n) [ inl l ↦ l | inr l ↦ absurd (true≢false (sym there ∙ ap is_some (free q l))) ]
+
+pub other_number : (q n k : ℕ) → q ≤ n → n < k → q ≢ k
+other_number q n k l m e = absurd (omega (arith, l, m, e))
+
+-- ---- the edges round a cap
+
+pub rim_below : (t : Table EdgeRow) (k y m i q : ℕ) → q ≤ k → table.get (with_rim t k y m i) q ≡ table.get t q
+rim_below t k y m zero q l = refl
+rim_below t k y m (suc i) q l = get-put_other (with_rim t k y m i) (k + suc i) _ q (other_number q k (k + suc i) l (omega arith)) ∙ rim_below t k y m i q l
+
+pub rim_above : (t : Table EdgeRow) (k y m i q : ℕ) → k + i < q → table.get (with_rim t k y m i) q ≡ table.get t q
+rim_above t k y m zero q l = refl
+rim_above t k y m (suc i) q l = get-put_other (with_rim t k y m i) (k + suc i) _ q (λ e. absurd (omega (arith, l, e))) ∙ rim_above t k y m i q (omega (arith, l))
+
+-- an edge was there, or both its ends are copies
+pub rim_cases : (t : Table EdgeRow) (k y m i q : ℕ) (row : EdgeRow) → table.get (with_rim t k y m i) q ≡ Some row → (table.get t q ≡ Some row) ⊎ ((y < row.plus_tail) × (y < row.minus_tail))
+rim_cases t k y m zero q row at = inl at
+rim_cases t k y m (suc i) q row at = elim (get-put_cases (with_rim t k y m i) (k + suc i) _ q row at) [
+  | inl p ↦ inr (
+    subst (λ n. y < n) (sym (ap (λ r. r.plus_tail) p.1)) (either (nat_eq (suc i) m) (y + 1) (y + suc i + 1) (omega arith) (omega arith)),
+    subst (λ n. y < n) (sym (ap (λ r. r.minus_tail) p.1)) (past y i),
+  )
+  | inr p ↦ rim_cases t k y m i q row p.1
+] where
+  either : (b : Bool) (u v : ℕ) → y < u → y < v → y < cond b u v
+  either true u v a c = a
+  either false u v a c = c
+
+  past : (a b : ℕ) → a < a + suc b
+  past a b = omega arith
+
+-- an edge was there, or has one of the next i numbers
+pub rim_numbers : (t : Table EdgeRow) (k y m i q : ℕ) (row : EdgeRow) → table.get (with_rim t k y m i) q ≡ Some row → (table.get t q ≡ Some row) ⊎ ((k < q) × (q ≤ k + i))
+rim_numbers t k y m zero q row at = inl at
+rim_numbers t k y m (suc i) q row at = elim (get-put_cases (with_rim t k y m i) (k + suc i) _ q row at) [
+  | inl p ↦ inr (omega (arith, p.0), omega (arith, p.0))
+  | inr p ↦ elim (rim_numbers t k y m i q row p.1) [
+    | inl r ↦ inl r
+    | inr r ↦ inr (r.0, omega (arith, r.1))
+  ]
+]

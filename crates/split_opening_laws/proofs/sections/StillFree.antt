@@ -1,0 +1,75 @@
+-- The numbers above those that an opening takes are free after it.
+use Rattle.std.proofs.Common.{◌≡◌, ◌≢◌, ℕ, ◌+◌, ◌*◌, ◌≤◌, ◌<◌, List, [], ◌∷◌, length, map, None, refl, ap, ◌∙◌, arith, inl, inr}
+use Rattle.std.specs.Prelude.{fold}
+use Rattle.std.specs.Option.{option_map}
+use Rattle.lattice.specs.declared.Point.{Point}
+use Rattle.lattice.specs.declared.Plane.{Plane}
+use Rattle.cyclic_list.specs.Items.{count}
+use Rattle.cyclic_list.proofs.Lists.{tick_same, IsIn_or_not}
+use Rattle.boundary_model.specs.HalfEdge.{mate, plus}
+use Rattle.boundary_model.specs.Table as table
+use Rattle.boundary_model.specs.Table.{Table, get-map_rows}
+use Rattle.boundary_model.specs.Model.{Model, tail, point_of}
+use Rattle.shapes.proofs.fresh.Rows.{get-put_other}
+use Rattle.shapes.specs.Fresh.{Taken, numbers_after}
+use Rattle.shapes.specs.Rewriting.{rewritten_row, renamed}
+use Rattle.shapes.specs.split.Opening.{opened_row, both_lists, opened_along, Opening, next_opened}
+use Rattle.split_opening_laws.specs.sections.InTurn.{AreFree}
+use Rattle.split_opening_laws.proofs.sections.Pairs.{in_numbers}
+use Rattle.split_opening_laws.proofs.sections.Rims.{rim_above}
+use Rattle.split_opening_laws.proofs.sections.OpenedRows.{faces_are, loops_are, edges_are, vertices_are}
+
+past : (q n k : ℕ) → n < q → k ≤ n → q ≢ k
+past q n k l m e = absurd (omega (arith, l, m, e))
+
+pub copied_other : (M : Model) (t : Table Point) (xs ys : List ℕ) (q : ℕ) → count q ys ≡ 0 → table.get (fold (λ t p. table.put t p.1 (point_of M p.0)) t (both_lists xs ys)) q ≡ table.get t q
+copied_other M t [] ys q z = refl
+copied_other M t (x ∷ xs) [] q z = refl
+copied_other M t (x ∷ xs) (y ∷ ys) q z =
+    copied_other M (table.put t y (point_of M x)) xs ys q (omega (arith, z)) ∙ get-put_other t y (point_of M x) q (λ e. absurd (omega (arith, z, ap (λ n. count n (y ∷ ys)) e, tick_same y)))
+
+none_past : (k n q : ℕ) → k + n < q → count q (numbers_after k n) ≡ 0
+none_past k n q l = elim (IsIn_or_not q (numbers_after k n)) [
+  | inl i ↦ absurd (omega (arith, l, (in_numbers k n q i).1))
+  | inr z ↦ z
+]
+
+module _ (M : Model) (above : List ℕ) (s : ℕ) (c : Taken) (bs : List ℕ) (free : AreFree M c) where
+  abbrev m : ℕ
+  m = length bs
+
+  abbrev N : Model
+  N = opened_along M above s c bs
+
+  faces_free : (q : ℕ) → c.face + m + 1 < q → table.get N.faces q ≡ None
+  faces_free q l = ap (λ t. table.get t q) (faces_are M above s c bs)
+      ∙ get-put_other _ (c.face + m + 1) _ q (past q (c.face + m + 1) (c.face + m + 1) l (omega arith))
+      ∙ get-put_other _ (c.face + 1) _ q (past q (c.face + m + 1) (c.face + 1) l (omega arith))
+      ∙ free.faces q (omega (arith, l))
+
+  loops_free : (q : ℕ) → c.loop + m + 1 < q → table.get N.loops q ≡ None
+  loops_free q l = ap (λ t. table.get t q) (loops_are M above s c bs)
+      ∙ get-put_other _ (c.loop + m + 1) _ q (past q (c.loop + m + 1) (c.loop + m + 1) l (omega arith))
+      ∙ get-put_other _ (c.loop + 1) _ q (past q (c.loop + m + 1) (c.loop + 1) l (omega arith))
+      ∙ get-map_rows (rewritten_row (map (renamed (both_lists (map mate bs) (map plus (numbers_after c.edge m)))))) M.loops q
+      ∙ ap (option_map (rewritten_row (map (renamed (both_lists (map mate bs) (map plus (numbers_after c.edge m))))) q)) (free.loops q (omega (arith, l)))
+
+  edges_free : (q : ℕ) → c.edge + 2 * m < q → table.get N.edges q ≡ None
+  edges_free q l = ap (λ t. table.get t q) (edges_are M above s c bs)
+      ∙ rim_above _ c.edge c.vertex m m q (omega (arith, l))
+      ∙ get-map_rows (opened_row M above (map mate bs) (both_lists (map (tail M) bs) (numbers_after c.vertex m))) M.edges q
+      ∙ ap (option_map (opened_row M above (map mate bs) (both_lists (map (tail M) bs) (numbers_after c.vertex m)) q)) (free.edges q (omega (arith, l)))
+
+  vertices_free : (q : ℕ) → c.vertex + m < q → table.get N.vertices q ≡ None
+  vertices_free q l = ap (λ t. table.get t q) (vertices_are M above s c bs)
+      ∙ copied_other M M.vertices (map (tail M) bs) (numbers_after c.vertex m) q (none_past c.vertex m q l)
+      ∙ free.vertices q (omega (arith, l))
+
+pub still_free : (above : List ℕ) (s : ℕ) (p : Plane) (o : Opening) (bs : List ℕ) → AreFree o.model o.taken → AreFree (next_opened p above s o bs).model (next_opened p above s o bs).taken
+unfolding next_opened
+still_free above s p o bs free = record {
+  faces = faces_free o.model above s o.taken bs free;
+  loops = loops_free o.model above s o.taken bs free;
+  edges = edges_free o.model above s o.taken bs free;
+  vertices = vertices_free o.model above s o.taken bs free;
+}

@@ -1,0 +1,200 @@
+-- What is known of a cycle along which a solid can be opened, place by place.
+use Rattle.std.proofs.Common.{◌≡◌, ◌≢◌, ℕ, zero, suc, ◌+◌, ◌-◌, ◌≤◌, ◌<◌, true, false, cond, List, [], ◌∷◌, length, None, is_some, refl, sym, ap, ◌∙◌, subst, arith, ◌⊎◌, inl, inr, true≢false}
+use Rattle.std.specs.Prelude.{map, get_or}
+use Rattle.std.proofs.lemmas.Bool.Decides.{eqb_tells}
+use Rattle.std.proofs.lemmas.List.{length-map, get_or-map}
+use Rattle.cyclic_list.specs.Items.{IsIn}
+use Rattle.cyclic_list.proofs.Lists.{tick_same, tick_other}
+use Rattle.cyclic_list.proofs.Maps.{from_map}
+use Rattle.cyclic_list.proofs.Std.{IsIn-get_or, Contains-from_in, AllPairs-from_apart}
+use Rattle.boundary_model.specs.HalfEdge.{mate, edge_of}
+use Rattle.boundary_model.specs.Table as table
+use Rattle.boundary_model.specs.Table.{Table}
+use Rattle.boundary_model.specs.Model.{Model, tail}
+use Rattle.boundary_model.specs.Sound.{HasHalf}
+use Rattle.boundary_model.proofs.Halves.{mate-mate}
+use Rattle.euler_operators.specs.Conditions.{face_at, lists}
+use Rattle.euler_laws.proofs.shared.Fans.{half_mate}
+use Rattle.euler_laws.proofs.shared.Listed.{first_listed, rest_listed, listed_cases}
+use Rattle.shapes.specs.Fresh.{Taken}
+use Rattle.shapes.specs.Prism.{next_place}
+use Rattle.split_opening_laws.specs.strips.StripOps.{place_before}
+use Rattle.split_opening_laws.specs.strips.Opened.{CanBeOpened}
+
+-- ---- lists of numbers
+
+pub listed_in : (n : ℕ) (ns : List ℕ) → lists ns n ≡ true → IsIn n ns
+listed_in n [] l = absurd (true≢false (sym l))
+listed_in n (k ∷ ns) l = elim (listed_cases k n ns l) [
+  | inl e ↦ subst (λ q. IsIn n (q ∷ ns)) e (omega (arith, tick_same n))
+  | inr r ↦ omega (arith, listed_in n ns r)
+]
+
+pub in_listed : (n : ℕ) (ns : List ℕ) → IsIn n ns → lists ns n ≡ true
+in_listed n [] i = absurd (omega (arith, i))
+in_listed n (k ∷ ns) i = elim (eqb_tells n k) [
+  | inl e ↦ subst (λ q. lists (k ∷ ns) q ≡ true) (sym e.1) (first_listed k ns)
+  | inr e ↦ rest_listed k n ns (in_listed n ns (omega (arith, i, tick_other n k e.1)))
+]
+
+-- a number in use isn't above those taken
+pub at_most : {X : Type 0} (t : Table X) (n q : ℕ) → ((k : ℕ) → n < k → table.get t k ≡ None) → is_some (table.get t q) ≡ true → q ≤ n
+at_most t n q free there = elim (below q n) [
+  | inl l ↦ l
+  | inr g ↦ absurd (true≢false (sym there ∙ ap is_some (free q g)))
+] where
+  below : (a b : ℕ) → (a ≤ b) ⊎ (b < a)
+  below a b = grind arith
+
+-- ---- places round a list
+
+pub next_cases : (n j : ℕ) → ((j + 1 ≡ n) × (next_place n j ≡ 0)) ⊎ ((j + 1 ≢ n) × (next_place n j ≡ j + 1))
+next_cases n j = elim (eqb_tells (j + 1) n) [ inl e ↦ inl (e.1, ap (λ b. cond b 0 (j + 1)) e.0) | inr e ↦ inr (e.1, ap (λ b. cond b 0 (j + 1)) e.0) ]
+
+pub before_cases : (n i : ℕ) → ((i ≡ 0) × (place_before n i ≡ n - 1)) ⊎ ((i ≢ 0) × (place_before n i ≡ i - 1))
+before_cases n i = elim (eqb_tells i 0) [ inl e ↦ inl (e.1, ap (λ b. cond b (n - 1) (i - 1)) e.0) | inr e ↦ inr (e.1, ap (λ b. cond b (n - 1) (i - 1)) e.0) ]
+
+pub next_below : (n j : ℕ) → j < n → next_place n j < n
+next_below n j lt = elim (next_cases n j) [ inl p ↦ omega (arith, p.0, p.1) | inr p ↦ let q = p.0 in let r = p.1 in omega arith ]
+
+pub before_below : (n i : ℕ) → i < n → place_before n i < n
+before_below n i lt = elim (before_cases n i) [ inl p ↦ omega (arith, p.0, p.1) | inr p ↦ let q = p.0 in let r = p.1 in omega arith ]
+
+pub next-before : (n i : ℕ) → i < n → next_place n (place_before n i) ≡ i
+next-before n i lt = elim (before_cases n i) [
+  | inl p ↦ elim (next_cases n (place_before n i)) [
+    | inl q ↦ omega (arith, p.0, p.1, q.0, q.1)
+    | inr q ↦ absurd (q.0 (omega (arith, p.0, p.1)))
+  ]
+  | inr p ↦ let a = p.0 in elim (next_cases n (place_before n i)) [
+    | inl q ↦ absurd (omega (arith, p.1, q.0))
+    | inr q ↦ let b = p.1 in let d = q.1 in omega arith
+  ]
+]
+
+-- only the place before leads to a place
+pub next_once : (n i j : ℕ) → i < n → j < n → next_place n j ≡ i → j ≡ place_before n i
+next_once n i j li lj e = elim (before_cases n i) [
+  | inl p ↦ elim (next_cases n j) [
+    | inl q ↦ omega (arith, p.0, p.1, q.0, q.1)
+    | inr q ↦ absurd (omega (arith, p.0, q.1, e))
+  ]
+  | inr p ↦ let a = p.0 in elim (next_cases n j) [
+    | inl q ↦ absurd (a (sym e ∙ q.1))
+    | inr q ↦ let b = p.1 in let d = q.1 in omega arith
+  ]
+]
+
+-- among two places or more no place is the next to itself
+pub next_apart : (n j : ℕ) → 2 ≤ n → next_place n j ≢ j
+next_apart n j two e = elim (next_cases n j) [ inl p ↦ omega (arith, p.0, p.1) | inr p ↦ let q = p.1 in omega arith ]
+
+pub before_apart : (n i : ℕ) → 2 ≤ n → i < n → place_before n i ≢ i
+before_apart n i two lt e = next_apart n i two (ap (next_place n) (sym e) ∙ next-before n i lt)
+
+-- ---- the cycle
+
+module _ (M : Model) (above : List ℕ) (s : ℕ) (c : Taken) (bs : List ℕ) (w : CanBeOpened M above s c bs) where
+  -- the below half at a place, and its mate
+  abbrev pub half_at : ℕ → ℕ
+  half_at j = get_or bs j 0
+
+  abbrev pub mate_at : ℕ → ℕ
+  mate_at j = mate (get_or bs j 0)
+
+  pub half_in : (j : ℕ) → j < length bs → IsIn (half_at j) bs
+  half_in j lt = IsIn-get_or bs j 0 lt
+
+  pub half_there : (j : ℕ) → j < length bs → HasHalf M (half_at j)
+  half_there j lt = w.there (half_at j) (half_in j lt)
+
+  pub mate_there : (j : ℕ) → j < length bs → HasHalf M (mate_at j)
+  mate_there j lt = half_mate M w.sound (half_at j) (half_there j lt)
+
+  pub low_edge : (h : ℕ) → HasHalf M h → edge_of h ≤ c.edge
+  low_edge h there = at_most M.edges c.edge (edge_of h) w.edges_free there
+
+  start_at : (j : ℕ) → j < length bs → get_or (map (tail M) bs) j 0 ≡ tail M (half_at j)
+  start_at j lt = get_or-map (tail M) bs j 0 0 lt
+
+  -- different places have different starts
+  pub starts_differ : (i j : ℕ) → i < length bs → j < length bs → tail M (half_at i) ≡ tail M (half_at j) → i ≡ j
+  starts_differ i j li lj e = elim (order i j) [
+    | inl p ↦ p
+    | inr p ↦ elim p [
+      | inl l ↦ absurd (AllPairs-from_apart (map (tail M) bs) w.starts_apart i j 0 l (omega (arith, lj, length-map bs (tail M))) (start_at i li ∙ e ∙ sym (start_at j lj)))
+      | inr l ↦ absurd (AllPairs-from_apart (map (tail M) bs) w.starts_apart j i 0 l (omega (arith, li, length-map bs (tail M))) (start_at j lj ∙ sym e ∙ sym (start_at i li)))
+    ]
+  ] where
+    order : (a b : ℕ) → (a ≡ b) ⊎ ((a < b) ⊎ (b < a))
+    order a b = grind arith
+
+  pub halves_differ : (i j : ℕ) → i < length bs → j < length bs → half_at i ≡ half_at j → i ≡ j
+  halves_differ i j li lj e = starts_differ i j li lj (ap (tail M) e)
+
+  pub mates_differ : (i j : ℕ) → i < length bs → j < length bs → mate_at i ≡ mate_at j → i ≡ j
+  mates_differ i j li lj e = halves_differ i j li lj (sym (mate-mate (half_at i)) ∙ ap mate e ∙ mate-mate (half_at j))
+
+  -- a cycle has two places at least
+  pub two_halves : 2 ≤ length bs
+  two_halves = elim (sizes (length bs)) [
+    | inl z ↦ absurd (w.some_half (empty bs z))
+    | inr p ↦ elim p [
+      | inl o ↦
+          let at : next_place (length bs) 0 ≡ 0 = ap (λ n. next_place n 0) o in
+          absurd (w.sound.ends_differ (half_at 0) (half_there 0 (omega (arith, o))) (ap (λ n. tail M (get_or bs n 0)) (sym at) ∙ w.meet 0 (omega (arith, o))))
+      | inr t ↦ t
+    ]
+  ] where
+    sizes : (n : ℕ) → (n ≡ 0) ⊎ ((n ≡ 1) ⊎ (2 ≤ n))
+    sizes n = grind arith
+
+    empty : (xs : List ℕ) → length xs ≡ 0 → xs ≡ []
+    empty [] e = refl
+    empty (x ∷ xs) e = absurd (omega (arith, e))
+
+  -- a mate starts where the half at the next place does
+  pub mate_start : (j : ℕ) → j < length bs → tail M (mate_at j) ≡ tail M (half_at (next_place (length bs) j))
+  mate_start j lt = sym (w.meet j lt)
+
+  -- what is listed as a mate is the mate at a place
+  pub mate_place : (h : ℕ) → lists (map mate bs) h ≡ true → (j : ℕ) × (j < length bs) × (h ≡ mate_at j)
+  mate_place h l =
+      let r = from_map mate h bs (listed_in h (map mate bs) l) in
+      let p = Contains-from_in r.0 bs r.1 in
+      (p.0, p.1, r.2 ∙ ap mate (sym (same_default bs p.0 r.0 p.1 p.2))) where
+        same_default : (xs : List ℕ) (j x : ℕ) → j < length xs → get_or xs j x ≡ x → get_or xs j 0 ≡ x
+        same_default [] j x lt e = absurd (omega arith)
+        same_default (y ∷ ys) zero x lt e = e
+        same_default (y ∷ ys) (suc j) x lt e = same_default ys j x (omega arith) e
+
+  pub place_of : (h : ℕ) → IsIn h bs → (j : ℕ) × (j < length bs) × (h ≡ half_at j)
+  place_of h i = let p = mate_place (mate h) (in_listed (mate h) (map mate bs) (mapped bs h i)) in (p.0, p.1, sym (mate-mate h) ∙ ap mate p.2 ∙ mate-mate (half_at p.0)) where
+    mapped : (xs : List ℕ) (x : ℕ) → IsIn x xs → IsIn (mate x) (map mate xs)
+    mapped [] x i = absurd (omega (arith, i))
+    mapped (y ∷ ys) x i = elim (eqb_tells x y) [
+      | inl e ↦ subst (λ q. IsIn (mate x) (mate q ∷ map mate ys)) e.1 (omega (arith, tick_same (mate x)))
+      | inr e ↦ omega (arith, mapped ys x (omega (arith, i, tick_other x y e.1)))
+    ]
+
+  pub mate_listed : (j : ℕ) → j < length bs → lists (map mate bs) (mate_at j) ≡ true
+  mate_listed j lt = in_listed (mate_at j) (map mate bs) (subst (λ q. IsIn q (map mate bs)) (get_or-map mate bs j 0 0 lt) (IsIn-get_or (map mate bs) j 0 (omega (arith, lt, length-map bs mate))))
+
+  -- a below half is no mate
+  pub half_no_mate : (j : ℕ) → j < length bs → lists (map mate bs) (half_at j) ≡ false
+  half_no_mate j lt = elim (lists (map mate bs) (half_at j)) as (λ b. lists (map mate bs) (half_at j) ≡ b → b ≡ false) [
+    | true ↦ λ e. let p = mate_place (half_at j) e in
+        absurd (true≢false (sym (w.mates_above (half_at p.0) (half_in p.0 p.1)) ∙ ap (λ h. lists above (face_at M h)) (sym p.2) ∙ w.below (half_at j) (half_in j lt)))
+    | false ↦ λ e. refl
+  ] refl
+
+  -- a number above the faces taken is none of a face above
+  pub fresh_face : (f : ℕ) → c.face < f → lists above f ≡ false
+  fresh_face f lt = elim (lists above f) as (λ b. lists above f ≡ b → b ≡ false) [
+    | true ↦ λ e. absurd (true≢false (sym (w.above_there f e) ∙ ap is_some (w.faces_free f lt)))
+    | false ↦ λ e. refl
+  ] refl
+
+  -- a vertex isn't above those taken
+  pub low_vertex : (h : ℕ) → HasHalf M h → tail M h ≤ c.vertex
+  low_vertex h there = at_most M.vertices c.vertex (tail M h) w.vertices_free (w.sound.tails_there h there)

@@ -1,0 +1,230 @@
+-- One strip more is cut off.
+use Rattle.std.proofs.Common.{◌≡◌, ◌≢◌, ℕ, suc, ◌+◌, ◌<◌, List, [], ◌∷◌, ◌++◌, length, cond, nat_eq, false, Some, None, is_some, unwrap_or, refl, sym, ap, ◌∙◌, subst, arith, inl, inr}
+use Rattle.std.specs.Prelude.{map, get_or}
+use Rattle.std.specs.Option.{option_map}
+use Rattle.std.proofs.lemmas.Bool.Decides.{eqb_tells}
+use Rattle.cyclic_list.specs.Items.{IsIn, IsApart, head_or}
+use Rattle.cyclic_list.specs.Rings.{canonical, rest, successor, upto, onward}
+use Rattle.cyclic_list.proofs.Rotations.{rotate_to_is}
+use Rattle.cyclic_list.proofs.Cuts.{upto_once}
+use Rattle.boundary_model.specs.HalfEdge.{mate, edge_of, is_first, plus, code, half}
+use Rattle.boundary_model.specs.Table as table
+use Rattle.boundary_model.specs.Table.{Table}
+use Rattle.boundary_model.specs.Model.{Model, LoopContent, LoopRow, cycle, holds, tail, tail_in, no_edge, no_face, loop_of, solid_of, cycle_of, after, is_number}
+use Rattle.boundary_model.specs.Sound.{Sound, Has, HasHalf}
+use Rattle.boundary_model.proofs.Halves.{code-half, mate-mate}
+use Rattle.boundary_model.proofs.Models.{row_of, in-holds, none-holds, not_held, other_loop, cycle_there, cycle_sound}
+use Rattle.euler_operators.specs.Conditions.{face_at, first_false}
+use Rattle.euler_operators.specs.Effect.{effect, mef, where_held}
+use Rattle.euler_laws.proofs.shared.Fans.{half_after, loop_after}
+use Rattle.euler_laws.proofs.shared.Rows.{where_held_none, where_held_there, one_row}
+use Rattle.euler_laws.proofs.shared.Same.{map_twice}
+use Rattle.euler_laws.proofs.shared.Undo.{mate_plus}
+use Rattle.euler_laws.proofs.mef.MefSound.{MefGoes}
+use Rattle.euler_laws.proofs.mef.Kef.{mef_accepted}
+use Rattle.sweeps_laws.proofs.prism.Sides.{fits}
+use Rattle.sweeps_laws.proofs.prism.Steps.{edge_plus, row_plus}
+use Rattle.shapes.specs.Fresh.{Taken}
+use Rattle.shapes.specs.Rewriting.{rewritten_row, renamed}
+use Rattle.shapes.proofs.glue.Swapped.{row_stays, row_turns}
+use Rattle.split_opening_laws.specs.strips.Strips.{with_rows, put_out, strip_face, strip_loop, strip_edge, strips_cut}
+use Rattle.split_opening_laws.specs.strips.StripOps.{cut_strip}
+use Rattle.split_opening_laws.specs.strips.Opened.{CanBeOpened}
+use Rattle.split_opening_laws.proofs.strips.Rows.{rows_low, rows_high, rows_same, rows_map, map_alike}
+use Rattle.split_opening_laws.proofs.strips.Cycle as on
+use Rattle.split_opening_laws.proofs.strips.Cycle.{at_most}
+use Rattle.split_opening_laws.proofs.strips.Places as places
+
+-- an item of a ring of others, cut before the next one
+cut_one : (xs : List ℕ) (a : ℕ) → IsApart xs → IsIn a xs → successor xs a ≢ a → (upto a (successor xs a) xs ≡ a ∷ []) × (onward a (successor xs a) xs ≡ rest a xs)
+cut_one xs a d i ne = go (rest a xs) refl where
+  go : (zs : List ℕ) → rest a xs ≡ zs → (upto a (successor xs a) xs ≡ a ∷ []) × (onward a (successor xs a) xs ≡ rest a xs)
+  go [] e = absurd (ne (ap (head_or a) e))
+  go (z ∷ zs) e =
+      let parts = upto_once a z xs (a ∷ []) zs d (rotate_to_is a xs i ∙ ap (λ t. a ∷ t) e) in
+      let next : successor xs a ≡ z = ap (head_or a) e in
+      (ap (λ k. upto a k xs) next ∙ parts.0, ap (λ k. onward a k xs) next ∙ parts.1 ∙ sym e)
+
+module _ (M : Model) (above : List ℕ) (s : ℕ) (c : Taken) (bs : List ℕ) (w : CanBeOpened M above s c bs) where
+  -- ---- what stays in the model with i strips
+
+  module _ (i : ℕ) where
+    pub cut_loops : (strips_cut M s c bs i).loops ≡ with_rows (table.map_rows (rewritten_row (map (renamed (put_out c bs i)))) M.loops) c.loop (strip_loop c bs) i
+    unfolding strips_cut
+    cut_loops = refl
+
+    pub cut_edges : (strips_cut M s c bs i).edges ≡ with_rows M.edges c.edge (strip_edge M bs) i
+    unfolding strips_cut
+    cut_edges = refl
+
+    pub cut_faces : (strips_cut M s c bs i).faces ≡ with_rows M.faces c.face (strip_face s c) i
+    unfolding strips_cut
+    cut_faces = refl
+
+    old_edge : (h : ℕ) → HasHalf M h → table.get (strips_cut M s c bs i).edges (edge_of h) ≡ table.get M.edges (edge_of h)
+    old_edge h there = ap (λ t. table.get t (edge_of h)) cut_edges ∙ rows_low M.edges c.edge (strip_edge M bs) i (edge_of h) (on.low_edge M above s c bs w h there)
+
+    pub cut_half : (h : ℕ) → HasHalf M h → HasHalf (strips_cut M s c bs i) h
+    cut_half h there = ap is_some (old_edge h there) ∙ there
+
+    pub cut_tail : (h : ℕ) → HasHalf M h → tail (strips_cut M s c bs i) h ≡ tail M h
+    unfolding tail
+    cut_tail h there = ap (λ o. tail_in (unwrap_or o no_edge) (is_first h)) (old_edge h there)
+
+    pub cut_solid : (f : ℕ) → Has M.faces f → solid_of (strips_cut M s c bs i) f ≡ solid_of M f
+    unfolding solid_of
+    cut_solid f there = ap (λ t. (unwrap_or (table.get t f) no_face).solid) cut_faces
+        ∙ ap (λ o. (unwrap_or o no_face).solid) (rows_low M.faces c.face (strip_face s c) i f (at_most M.faces c.face f w.faces_free there))
+
+  -- ---- one strip more
+
+  module _ (i : ℕ) (lt : i < length bs) (sound : Sound (strips_cut M s c bs i)) where
+    abbrev N : Model
+    N = strips_cut M s c bs i
+
+    abbrev a : ℕ
+    a = mate (get_or bs i 0)
+
+    abbrev e : ℕ
+    e = c.edge + suc i
+
+    abbrev f : ℕ
+    f = c.face + suc i
+
+    abbrev l : ℕ
+    l = c.loop + suc i
+
+    abbrev k : ℕ
+    k = after (strips_cut M s c bs i) (mate (get_or bs i 0))
+
+    abbrev xs : List ℕ
+    xs = cycle_of (strips_cut M s c bs i) (mate (get_or bs i 0))
+
+    a_old : HasHalf M a
+    a_old = on.mate_there M above s c bs w i lt
+
+    a_there : HasHalf N a
+    a_there = cut_half i a a_old
+
+    tail_a : tail N a ≡ tail M a
+    tail_a = cut_tail i a a_old
+
+    tail_k : tail N k ≡ tail M (get_or bs i 0)
+    tail_k = sound.ends_meet a a_there ∙ ap (tail N) (mate-mate (get_or bs i 0)) ∙ cut_tail i (get_or bs i 0) (on.half_there M above s c bs w i lt)
+
+    ends_apart : tail N a ≢ tail N k
+    ends_apart q = sound.ends_differ a a_there (q ∙ sound.ends_meet a a_there)
+
+    edge_free : table.get N.edges (edge_of (plus e)) ≡ None
+    edge_free = ap (table.get N.edges) (edge_plus e) ∙ ap (λ t. table.get t e) (cut_edges i) ∙ rows_high M.edges c.edge (strip_edge M bs) i e (omega arith) ∙ w.edges_free e (omega arith)
+
+    face_free : table.get N.faces f ≡ None
+    face_free = ap (λ t. table.get t f) (cut_faces i) ∙ rows_high M.faces c.face (strip_face s c) i f (omega arith) ∙ w.faces_free f (omega arith)
+
+    loop_free : table.get N.loops l ≡ None
+    loop_free = ap (λ t. table.get t l) (cut_loops i) ∙ rows_high (table.map_rows (rewritten_row (map (renamed (put_out c bs i)))) M.loops) c.loop (strip_loop c bs) i l (omega arith)
+        ∙ table.get-map_rows (rewritten_row (map (renamed (put_out c bs i)))) M.loops l ∙ ap (option_map (rewritten_row (map (renamed (put_out c bs i))) l)) (w.loops_free l (omega arith))
+
+    goes : MefGoes N a k (plus e) f l
+    goes = record {
+      g_there = a_there;
+      k_there = half_after N sound a a_there;
+      edge_free = edge_free;
+      face_free = face_free;
+      loop_free = loop_free;
+      one_loop = loop_after N sound a a_there;
+      ends_apart = ends_apart;
+      edge_fits = ap is_number (edge_plus e) ∙ fits e (omega arith) (omega (arith, w.edges_left, lt));
+      face_fits = fits f (omega arith) (omega (arith, w.faces_left, lt));
+      loop_fits = fits l (omega arith) (omega (arith, w.loops_left, lt));
+    }
+
+    pub strip_accepted : first_false N (cut_strip N c bs i) ≡ None
+    strip_accepted = mef_accepted N (half a) (half k) (half (plus e)) f l sound
+        (subst (λ x. MefGoes N x (code (half k)) (code (half (plus e))) f l) (sym (code-half a))
+        (subst (λ x. MefGoes N a x (code (half (plus e))) f l) (sym (code-half k))
+        (subst (λ x. MefGoes N a k x f l) (sym (code-half (plus e))) goes)))
+
+    -- ---- the loops
+
+    abbrev old : ℕ → ℕ
+    old = renamed (put_out c bs i)
+
+    abbrev new : ℕ → ℕ
+    new = renamed (put_out c bs (suc i))
+
+    kept : old a ≡ a
+    kept = places.out_other M above s c bs w i a (λ j less below same. let z = on.mates_differ M above s c bs w j i below lt same in omega (arith, z, less))
+
+    place : (loop_of N a ≡ loop_of M a) × (face_at N a ≡ face_at M a)
+    place = subst (λ x. (loop_of N x ≡ loop_of M a) × (face_at N x ≡ face_at M a)) kept (places.old_place M above s c bs w N sound i i (strip_loop c bs) (cut_loops i) a a_old)
+
+    in_xs : IsIn a xs
+    in_xs = cycle_there N sound a a_there
+
+    next_is : k ≡ successor xs a
+    unfolding after
+    next_is = refl
+
+    parts : (upto a k xs ≡ a ∷ []) × (onward a k xs ≡ rest a xs)
+    parts = subst (λ x. (upto a x xs ≡ a ∷ []) × (onward a x xs ≡ rest a xs)) (sym next_is)
+        (cut_one xs a (cycle_sound N sound a a_there).apart in_xs (λ q. ends_apart (ap (tail N) (sym (next_is ∙ q)))))
+
+    abbrev turn : List ℕ → LoopContent
+    turn hs = cycle (canonical (plus e ∷ onward a k hs))
+
+    -- the row of a loop that was there
+    row_next : (q : ℕ) (row : LoopRow) → table.get M.loops q ≡ Some row → where_held a turn q (rewritten_row (map old) q row) ≡ rewritten_row (map new) q row
+    row_next q row at =
+        let here = places.old_loop M above s c bs w N sound i i (strip_loop c bs) (cut_loops i) q row at in
+        let more : (u : ℕ) → new u ≡ cond (nat_eq (old u) a) (plus e) (old u) = λ u. places.out_next M above s c bs w i u lt in
+        elim (eqb_tells q (loop_of N a)) [
+          | inl p ↦
+              let is : rewritten_row (map old) q row ≡ record { face = face_at N a; content = cycle xs } = one_row (sym here ∙ ap (table.get N.loops) p.1 ∙ row_of N sound a a_there) in
+              ap (where_held a turn q) is
+              ∙ where_held_there a turn q (record { face = face_at N a; content = cycle xs }) (in-holds a (cycle xs) in_xs)
+              ∙ ap (λ t. record { face = face_at N a; content = cycle (canonical (plus e ∷ t)) }) parts.1
+              ∙ sym (row_turns old new a (plus e) more q (face_at N a) row xs is (cycle_sound N sound a a_there).apart in_xs
+              (not_held N sound (plus e) edge_free (loop_of N a) (record { face = face_at N a; content = cycle xs }) (row_of N sound a a_there)))
+          | inr p ↦
+              let none : holds a (rewritten_row (map old) q row).content ≡ false = other_loop N sound a q (rewritten_row (map old) q row) p.1 here in
+              where_held_none a turn q (rewritten_row (map old) q row) none
+              ∙ sym (row_stays old new a (plus e) more q row (none-holds a (rewritten_row (map old) q row).content none))
+        ]
+
+    -- and of a strip
+    strip_stays : (j : ℕ) → j < i → where_held a turn (c.loop + suc j) (strip_loop c bs j) ≡ strip_loop c bs j
+    strip_stays j less = where_held_none a turn (c.loop + suc j) (strip_loop c bs j)
+        (other_loop N sound a (c.loop + suc j) (strip_loop c bs j)
+        (λ q. omega (arith, q, place.0, places.low_loop M above s c bs w N sound i i (strip_loop c bs) (cut_loops i) (loop_of M a) (ap is_some (row_of M w.sound a a_old))))
+        (places.new_loop M above s c bs w N sound i i (strip_loop c bs) (cut_loops i) j less))
+
+    loops_next : (mef N a k (plus e) f l).loops ≡ (strips_cut M s c bs (suc i)).loops
+    unfolding mef
+    loops_next =
+        (λ n. table.put (table.map_rows (where_held a turn) (cut_loops i n)) l (record { face = f; content = cycle (canonical (parts.0 n ++ mate_plus e n ∷ [])) }))
+        ∙ ap (λ t. table.put t l (strip_loop c bs i)) (
+        rows_map (where_held a turn) (table.map_rows (rewritten_row (map old)) M.loops) c.loop (strip_loop c bs) i
+        ∙ rows_same (table.map_rows (where_held a turn) (table.map_rows (rewritten_row (map old)) M.loops)) c.loop (λ j. where_held a turn (c.loop + suc j) (strip_loop c bs j)) (strip_loop c bs) i strip_stays
+        ∙ ap (λ t. with_rows t c.loop (strip_loop c bs) i) (map_twice (where_held a turn) (rewritten_row (map old)) M.loops
+        ∙ map_alike (λ q row. where_held a turn q (rewritten_row (map old) q row)) (rewritten_row (map new)) M.loops row_next)
+        )
+        ∙ sym (cut_loops (suc i))
+
+    solid_is : solid_of N (face_at N a) ≡ s
+    solid_is =
+        let there : Has M.faces (face_at M a) = w.sound.loops_of_faces (loop_of M a) (ap is_some (row_of M w.sound a a_old)) in
+        ap (solid_of N) place.1 ∙ cut_solid i (face_at M a) there
+        ∙ sym (w.sound.one_solid (get_or bs i 0) (on.half_there M above s c bs w i lt)) ∙ w.of_solid (get_or bs i 0) (on.half_in M above s c bs w i lt)
+
+    mef_is : mef N a k (plus e) f l ≡ strips_cut M s c bs (suc i)
+    unfolding mef strips_cut
+    mef_is = λ n. record M {
+      faces = table.put (with_rows M.faces c.face (strip_face s c) i) f (record { solid = solid_is n; outer = l });
+      loops = loops_next n;
+      edges = table.put (with_rows M.edges c.edge (strip_edge M bs) i) (edge_plus e n) ((row_plus e (tail N a) (tail N k) ∙ (λ j. record { plus_tail = tail_a j; minus_tail = tail_k j })) n);
+    }
+
+    pub strip_is : effect N (cut_strip N c bs i) ≡ strips_cut M s c bs (suc i)
+    unfolding effect
+    strip_is = (λ n. mef N (code-half a n) (code-half k n) (code-half (plus e) n) f l) ∙ mef_is

@@ -1,0 +1,63 @@
+-- All strips cut off, one after the other.
+use Rattle.std.proofs.Common.{◌≡◌, ℕ, zero, suc, ◌≤◌, List, [], ◌∷◌, length, Some, is_some, refl, sym, ap, ◌∙◌, subst, arith}
+use Rattle.std.specs.Prelude.{map}
+use Rattle.cyclic_list.specs.Rings.{canonical}
+use Rattle.boundary_model.specs.HalfEdge.{mate}
+use Rattle.boundary_model.specs.Table as table
+use Rattle.boundary_model.specs.Model.{Model, LoopContent, LoopRow, lone, cycle, content}
+use Rattle.boundary_model.specs.Sound.{Sound}
+use Rattle.boundary_model.proofs.Tables.{map_same}
+use Rattle.boundary_model.proofs.Models.{content_row}
+use Rattle.euler_operators.specs.Effect.{effect}
+use Rattle.euler_laws.specs.Laws.{effects, AreAccepted}
+use Rattle.euler_laws.proofs.Runs.{effects-append, AreAccepted-append, effects_keep_sound}
+use Rattle.shapes.specs.Fresh.{Taken}
+use Rattle.shapes.specs.Rewriting.{rewritten, rewritten_row, renamed}
+use Rattle.split_opening_laws.specs.strips.Strips.{strips_cut}
+use Rattle.split_opening_laws.specs.strips.StripOps.{cut_strip, strip_ops}
+use Rattle.split_opening_laws.specs.strips.Opened.{CanBeOpened}
+use Rattle.split_opening_laws.proofs.strips.Rows.{both_none}
+use Rattle.split_opening_laws.proofs.strips.Strip.{strip_accepted, strip_is}
+
+same_items : (cs : List ℕ) → map (renamed []) cs ≡ cs
+same_items [] = refl
+same_items (c ∷ cs) = ap (λ t. c ∷ t) (same_items cs)
+
+-- loops are not changed by no renaming
+pub none_renamed : (M : Model) → Sound M → table.map_rows (rewritten_row (map (renamed []))) M.loops ≡ M.loops
+none_renamed M sound = map_same (rewritten_row (map (renamed []))) M.loops row_stays where
+  row_stays : (q : ℕ) (row : LoopRow) → table.get M.loops q ≡ Some row → rewritten_row (map (renamed [])) q row ≡ row
+  row_stays q row at = ap (λ x. record { face = row.face; content = x }) (go row.content (content_row M q row at)) where
+    go : (x : LoopContent) → content M q ≡ x → rewritten (map (renamed [])) x ≡ x
+    go (lone v) e = refl
+    go (cycle cs) e = ap cycle (ap canonical (same_items cs) ∙ (sound.cycles q cs (ap is_some at) e).from_least)
+
+module _ (M : Model) (above : List ℕ) (s : ℕ) (c : Taken) (bs : List ℕ) (w : CanBeOpened M above s c bs) where
+  none_cut : M ≡ strips_cut M s c bs 0
+  unfolding strips_cut
+  none_cut = λ n. record M { loops = (sym (ap (λ ps. table.map_rows (rewritten_row (map (renamed ps))) M.loops) (both_none (map mate bs)) ∙ none_renamed M w.sound)) n }
+
+  -- the first i strips
+  pub strips_go : (i : ℕ) → i ≤ length bs → AreAccepted M (strip_ops M s c bs i) × (effects M (strip_ops M s c bs i) ≡ strips_cut M s c bs i)
+  strips_go zero le = (tt, none_cut)
+  strips_go (suc i) le =
+      let r = strips_go i (omega arith) in
+      let N : Model = strips_cut M s c bs i in
+      let sound : Sound N = subst Sound r.1 (effects_keep_sound M (strip_ops M s c bs i) w.sound r.0) in (
+        AreAccepted-append M (strip_ops M s c bs i) (cut_strip N c bs i ∷ []) r.0
+            (subst (λ X. AreAccepted X (cut_strip N c bs i ∷ [])) (sym r.1) (strip_accepted M above s c bs w i (omega arith) sound, tt)),
+        effects-append M (strip_ops M s c bs i) (cut_strip N c bs i ∷ []) ∙ ap (λ X. effect X (cut_strip N c bs i)) r.1 ∙ strip_is M above s c bs w i (omega arith) sound,
+      )
+
+  pub part_sound : (i : ℕ) → i ≤ length bs → Sound (strips_cut M s c bs i)
+  part_sound i le = let r = strips_go i le in subst Sound r.1 (effects_keep_sound M (strip_ops M s c bs i) w.sound r.0)
+
+  -- no operator is refused, and they cut all strips off
+  pub strips_accepted : AreAccepted M (strip_ops M s c bs (length bs))
+  strips_accepted = (strips_go (length bs) (omega arith)).0
+
+  pub strips_are_cut : effects M (strip_ops M s c bs (length bs)) ≡ strips_cut M s c bs (length bs)
+  strips_are_cut = (strips_go (length bs) (omega arith)).1
+
+  pub cut_sound : Sound (strips_cut M s c bs (length bs))
+  cut_sound = part_sound (length bs) (omega arith)

@@ -1,0 +1,50 @@
+-- Solids that are opened along the cycles of a section, one after the other.
+use Rattle.std.specs.Prelude.{◌≡◌, ℕ, ◌+◌, ◌*◌, ◌≤◌, ◌<◌, true, false, List, ◌++◌, map, flat_map, length, None}
+use Rattle.cyclic_list.specs.Items.{IsIn}
+use Rattle.boundary_model.specs.HalfEdge.{mate}
+use Rattle.boundary_model.specs.Table as table
+use Rattle.boundary_model.specs.Model.{Model, solid_of}
+use Rattle.boundary_model.specs.Sound.{Sound, Has, HasHalf}
+use Rattle.euler_operators.specs.Conditions.{face_at, lists}
+use Rattle.shapes.specs.Fresh.{Taken}
+use Rattle.shapes.specs.split.Opening.{Caps, Opening}
+use Rattle.split_opening_laws.specs.cycles.SectionCycles.{AreApartCycles}
+
+-- the numbers above those taken are free
+pub record AreFree (M : Model) (c : Taken) : Type 0 where
+  pub faces : (q : ℕ) → c.face < q → table.get M.faces q ≡ None
+  pub loops : (q : ℕ) → c.loop < q → table.get M.loops q ≡ None
+  pub edges : (q : ℕ) → c.edge < q → table.get M.edges q ≡ None
+  pub vertices : (q : ℕ) → c.vertex < q → table.get M.vertices q ≡ None
+
+-- enough numbers are left for cycles of n halves in all: a face and a loop for each half and each cycle, two edges and a vertex for each half
+pub record AreLeft (c : Taken) (n cycles : ℕ) : Type 0 where
+  pub faces : c.face + (n + cycles) ≤ 1000000
+  pub loops : c.loop + (n + cycles) ≤ 1000000
+  pub edges : c.edge + 2 * n ≤ 1000000
+  pub vertices : c.vertex + n ≤ 1000000
+
+-- the halves of some cycles, one cycle after the other
+abbrev pub halves_in : List (List ℕ) → List ℕ
+halves_in cs = flat_map (λ bs. bs) cs
+
+-- the half-edges hs lie in none of the faces fs while their mates lie in one, and no others do so
+pub record AreBetween (M : Model) (fs hs : List ℕ) : Type 0 where
+  pub below : (h : ℕ) → IsIn h hs → lists fs (face_at M h) ≡ false
+  pub mates_above : (h : ℕ) → IsIn h hs → lists fs (face_at M (mate h)) ≡ true
+  pub only : (h : ℕ) → HasHalf M h → lists fs (face_at M h) ≡ false → lists fs (face_at M (mate h)) ≡ true → IsIn h hs
+
+-- the faces above and the caps above
+abbrev pub upper_faces : List ℕ → List Caps → List ℕ
+upper_faces above ks = above ++ map (λ k. k.upper) ks
+
+-- solid s can be opened along some cycles in turn, and their halves are all that is between the upper faces and the others
+pub record CanBeOpenedInTurn (above : List ℕ) (s : ℕ) (o : Opening) (cs : List (List ℕ)) : Type 0 where
+  pub sound : Sound o.model
+  pub free : AreFree o.model o.taken
+  pub left : AreLeft o.taken (length (halves_in cs)) (length cs)
+  pub cycles : AreApartCycles o.model above s cs
+  -- the upper faces are faces of s
+  pub upper_there : (f : ℕ) → lists (upper_faces above o.caps) f ≡ true → Has o.model.faces f
+  pub upper_of_solid : (f : ℕ) → lists (upper_faces above o.caps) f ≡ true → solid_of o.model f ≡ s
+  pub between : AreBetween o.model (upper_faces above o.caps) (halves_in cs)

@@ -1,0 +1,81 @@
+-- The first two steps by which a solid opens along a cycle of section edges: a strip, a face of two edges, is cut off above each
+-- edge, and then each vertex of the cycle gets a copy, at which the faces above meet.
+-- bs are the below halves b1 .. bm, ai is the mate of bi, xi the start of bi; numbers are taken from c on.
+use Rattle.std.specs.Prelude.{ℕ, zero, suc, ◌+◌, cond, nat_lt, List, [], ◌∷◌, ◌++◌, map, length, get_or}
+use Rattle.cyclic_list.specs.Rings.{canonical}
+use Rattle.boundary_model.specs.HalfEdge.{mate, plus, minus}
+use Rattle.boundary_model.specs.Table as table
+use Rattle.boundary_model.specs.Table.{Table}
+use Rattle.boundary_model.specs.Model.{Model, FaceRow, LoopRow, EdgeRow, cycle, tail}
+use Rattle.shapes.specs.Fresh.{Taken, numbers_after}
+use Rattle.shapes.specs.Prism.{next_place}
+use Rattle.shapes.specs.Rewriting.{rewritten_row, renamed}
+use Rattle.shapes.specs.split.Opening.{opened_row, with_copies, both_lists}
+
+-- i rows put at the numbers after k; `row` tells each by its place, from 0 on
+abbrev pub with_rows : {X : Type 0} → Table X → ℕ → (ℕ → X) → ℕ → Table X
+with_rows t k row zero = t
+with_rows t k row (suc i) = table.put (with_rows t k row i) (k + suc i) (row i)
+
+-- ---- strips
+
+-- the first i mates, each with the half +ci that stands in its place
+abbrev pub put_out : Taken → List ℕ → ℕ → List (ℕ × ℕ)
+put_out c bs i = both_lists (map mate bs) (map plus (numbers_after c.edge i))
+
+-- the strip at a place is a face fi of solid s with the loop `ai -ci`
+abbrev pub strip_face : ℕ → Taken → ℕ → FaceRow
+strip_face s c j = record { solid = s; outer = c.loop + suc j }
+
+abbrev pub strip_loop : Taken → List ℕ → ℕ → LoopRow
+strip_loop c bs j = record { face = c.face + suc j; content = cycle (canonical (mate (get_or bs j 0) ∷ minus (c.edge + suc j) ∷ [])) }
+
+-- and ci has the ends of ai
+abbrev pub strip_edge : Model → List ℕ → ℕ → EdgeRow
+strip_edge M bs j = record { plus_tail = tail M (mate (get_or bs j 0)); minus_tail = tail M (get_or bs j 0) }
+
+-- the first i strips are cut off
+unfoldable pub strips_cut : Model → ℕ → Taken → List ℕ → ℕ → Model
+strips_cut M s c bs i = record M {
+  faces = with_rows M.faces c.face (strip_face s c) i;
+  loops = with_rows (table.map_rows (rewritten_row (map (renamed (put_out c bs i)))) M.loops) c.loop (strip_loop c bs) i;
+  edges = with_rows M.edges c.edge (strip_edge M bs) i;
+}
+
+-- ---- copies
+
+-- the edge Ei, from the vertex xi at a place to its copy yi
+abbrev pub riser : Taken → List ℕ → ℕ → ℕ
+riser c bs j = c.edge + length bs + suc j
+
+abbrev pub riser_edge : Model → Taken → List ℕ → ℕ → EdgeRow
+riser_edge M c bs j = record { plus_tail = tail M (get_or bs j 0); minus_tail = c.vertex + suc j }
+
+-- the first i vertices, each with its copy
+abbrev pub copied : Model → Taken → List ℕ → ℕ → List (ℕ × ℕ)
+copied M c bs i = both_lists (map (tail M) bs) (numbers_after c.vertex i)
+
+-- the loop of a strip then: ai, up its riser, back along -ci, and down the next riser, where these two stand
+abbrev pub raised_items : Taken → List ℕ → ℕ → ℕ → List ℕ
+raised_items c bs i j = let k = next_place (length bs) j in
+    mate (get_or bs j 0) ∷ cond (nat_lt j i) (plus (riser c bs j) ∷ []) [] ++ minus (c.edge + suc j) ∷ cond (nat_lt k i) (minus (riser c bs k) ∷ []) []
+
+abbrev pub raised_loop : Taken → List ℕ → ℕ → ℕ → LoopRow
+raised_loop c bs i j = record { face = c.face + suc j; content = cycle (canonical (raised_items c bs i j)) }
+
+-- ci leads between copies, where these stand
+abbrev pub raised_edge : Model → List ℕ → List (ℕ × ℕ) → ℕ → EdgeRow
+raised_edge M bs copies j = record { plus_tail = renamed copies (tail M (mate (get_or bs j 0))); minus_tail = renamed copies (tail M (get_or bs j 0)) }
+
+-- all strips are cut off and the first i copies stand: what starts at a copied vertex in a face of `above` starts at the copy,
+-- but for the mates, which are of strips now
+unfoldable pub copies_raised : Model → List ℕ → ℕ → Taken → List ℕ → ℕ → Model
+copies_raised M above s c bs i =
+    let m = length bs in
+    let copies = copied M c bs i in
+    record M {
+      faces = with_rows M.faces c.face (strip_face s c) m;
+      loops = with_rows (table.map_rows (rewritten_row (map (renamed (put_out c bs m)))) M.loops) c.loop (raised_loop c bs i) m;
+      edges = with_rows (with_rows (table.map_rows (opened_row M above (map mate bs) copies) M.edges) c.edge (raised_edge M bs copies) m) (c.edge + m) (riser_edge M c bs) i;
+      vertices = with_copies M copies;
+    }

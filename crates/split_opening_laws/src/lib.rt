@@ -1,0 +1,91 @@
+//! The laws of the third rewriting of a split: the cycles of a section, and a solid opened along one of them, operator by operator:
+//! strips cut off, copies raised, caps closed. The functions do nothing: their contracts are what is proved, over every model and every
+//! cycle along which a solid can be opened.
+#![tactic(auto)]
+
+ghost use Rattle.split_opening_laws.specs.cycles.Laws.{BelowHalvesRise, BelowHalvesAre, AsManyStartAsEnd, OneStartsAndOneEnds, NextBelowPermutes, CyclesCover, CyclesRise, CyclesLeadRound, CyclesAreApart};
+ghost use Rattle.split_opening_laws.specs.sections.Laws.{CyclesStay, NumbersStayFree, SectionsCanBeOpened, OthersCanBeOpened, AllAreOpened, NoneIsTorn, CapsStay, CapsRise};
+ghost use Rattle.split_opening_laws.specs.strips.Laws.{StripsAreAccepted, StripsAreCut, StrippedIsSound};
+ghost use Rattle.split_opening_laws.specs.copies.Laws.{CopiesAreAccepted, CopiesAreRaised, CopiesAreSound};
+ghost use Rattle.split_opening_laws.specs.caps.Laws.{CyclesHaveTwo, CapsAreAccepted, StripsAreJoined, CapsAreMade, CappedAreSound};
+ghost use Rattle.split_opening_laws.specs.opening.Laws.{CopiesLeaveStrips, CappedAreOpened, OpeningsAreAccepted, OpeningsOpen, OpenedAreSound};
+
+/// The below halves of a section: which half-edges they are, by rising edge.
+pub fn below_halves_are()
+    ensures rising { BelowHalvesRise }
+    ensures members { BelowHalvesAre }
+{}
+
+/// As many below halves start at a vertex as end there. Where no vertex is branched, that is one and one, and each leads to the
+/// next.
+pub fn halves_lead_on()
+    ensures balanced { AsManyStartAsEnd }
+    ensures one { OneStartsAndOneEnds }
+    ensures next { NextBelowPermutes }
+{}
+
+/// Where no vertex is branched: the cycles have each below half once, begin each with its least half and rise by these, and each
+/// leads once round, with no other section edge at its vertices. No two of their halves start at one vertex.
+pub fn halves_form_cycles()
+    ensures covering { CyclesCover }
+    ensures rising { CyclesRise }
+    ensures round { CyclesLeadRound }
+    ensures apart { CyclesAreApart }
+{}
+
+/// A solid opened along one cycle of its section: the others are still such cycles, and the numbers above those that the opening
+/// took are free.
+pub fn other_cycles_stay()
+    ensures cycles { CyclesStay }
+    ensures numbers { NumbersStayFree }
+{}
+
+/// A solid can be opened along the cycles of its section where no vertex is branched and numbers are left: along the first, then
+/// along the others. If each opening leaves a sound model, it can be opened along all of them. Then no edge is left between an upper
+/// face, which is one above or a cap above, and another face.
+pub fn cycles_open_in_turn()
+    ensures first { SectionsCanBeOpened }
+    ensures others { OthersCanBeOpened }
+    ensures all { AllAreOpened }
+    ensures parted { NoneIsTorn }
+{}
+
+/// The caps that these openings leave have no rings, and they rise after the faces above, if those rise.
+pub fn caps_have_no_rings()
+    ensures next { CapsStay }
+    ensures all { CapsRise }
+{}
+
+/// Strips cut off above the edges of a cycle: none of the operators is refused, and they make the model with its strips cut off,
+/// which is sound.
+pub fn strips_are_cut()
+    ensures accepted { StripsAreAccepted }
+    ensures cut { StripsAreCut }
+    ensures sound { StrippedIsSound }
+{}
+
+/// Copies raised at the vertices of a cycle, once the strips are cut off: none of the operators is refused, and they make the
+/// model with its copies raised, which is sound.
+pub fn copies_are_raised()
+    ensures accepted { CopiesAreAccepted }
+    ensures raised { CopiesAreRaised }
+    ensures sound { CopiesAreSound }
+{}
+
+/// Strips along a cycle: none of the operators that make caps of them is refused, they leave the two caps, and that is a sound model.
+pub fn strips_make_caps()
+    ensures two { CyclesHaveTwo }
+    ensures accepted { CapsAreAccepted }
+    ensures joined { StripsAreJoined }
+    ensures made { CapsAreMade }
+    ensures sound { CappedAreSound }
+{}
+
+/// A cycle along which a solid can be opened: none of the operators is refused, they leave the solid open, and that is a sound model.
+pub fn cycles_open_solids()
+    ensures strips { CopiesLeaveStrips }
+    ensures capped { CappedAreOpened }
+    ensures accepted { OpeningsAreAccepted }
+    ensures made { OpeningsOpen }
+    ensures sound { OpenedAreSound }
+{}

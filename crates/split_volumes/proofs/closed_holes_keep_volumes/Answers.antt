@@ -1,5 +1,0 @@
-use Rattle.split_volumes.proofs.Closed.{closing_keeps}
-use Rattle.split_volumes.proofs.closed_holes_keep_volumes.Goals as goal
-
-pub returns : goal.returns
-returns c = record { all = closing_keeps }

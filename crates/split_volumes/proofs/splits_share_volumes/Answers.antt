@@ -1,5 +1,0 @@
-use Rattle.split_volumes.proofs.Split.{split_shares, split_keeps}
-use Rattle.split_volumes.proofs.splits_share_volumes.Goals as goal
-
-pub returns : goal.returns
-returns c = record { two = split_shares; others = split_keeps }

@@ -1,5 +1,0 @@
-use Rattle.strip_laws.proofs.Whole.{strips_accepted, strips_are_cut, cut_sound}
-use Rattle.strip_laws.proofs.strips_are_cut.Goals as goal
-
-pub returns : goal.returns
-returns c = record { accepted = strips_accepted; cut = strips_are_cut; sound = cut_sound }

@@ -1,0 +1,372 @@
+-- Where a block can be made: the lamina of its base can be made, and then its first face can be swept up.
+use Rattle.std.specs.Prelude.{length, get_or, map, reverse, int_le}
+use Rattle.std.specs.Ordering.{int_eq}
+use Rattle.std.specs.Cmp.{signed_Decides}
+use Rattle.std.proofs.Common.{◌≡◌, ◌≢◌, ℕ, zero, suc, ◌+◌, ◌*◌, ◌≤◌, ◌<◌, ℤ, pos, negsuc, ◌+ℤ◌, Bool, true, false, cond, not, nat_eq, nat_le, ◌&&◌, ◌||◌, List, [], ◌∷◌, ◌++◌, Some, None, is_some, unwrap_or, refl, sym, ap, ◌∙◌, arith, true≢false, ◌⊎◌, inl, inr}
+use Rattle.std.proofs.lemmas.Bool.Decides.{nat_tests, eqb_tells}
+use Rattle.std.proofs.lemmas.Int.{ints}
+use Rattle.lattice.specs.declared.Point.{Point}
+use Rattle.lattice.specs.Point.{is_coordinate, is_in_range}
+use Rattle.lattice.specs.Vectors.{origin, moved, same_point}
+use Rattle.cyclic_list.specs.Rings.{canonical}
+use Rattle.boundary_model.specs.HalfEdge.{plus, minus}
+use Rattle.boundary_model.specs.Table as table
+use Rattle.boundary_model.specs.Table.{Table}
+use Rattle.boundary_model.specs.Model.{Model, cycle, FaceRow, LoopRow, EdgeRow, no_face, no_point, tail_in, content, outer, tail, point_of, rings_of}
+use Rattle.boundary_model.specs.Sound.{Sound}
+use Rattle.boundary_model.proofs.Halves.{plus_row}
+use Rattle.boundary_model.proofs.Models.{content_row, face_row, tail_row}
+use Rattle.boundary_model.proofs.Tables.{all_where_none, first_where_zero}
+use Rattle.euler_operators.specs.Conditions.{Condition, need, never, first_refusal, numbers_in_range, is_lone, lists}
+use Rattle.euler_operators.specs.declared.Why.TheVariants.{NoFace, ZeroSweep, LoneLoop, PointRange}
+use Rattle.euler_laws.proofs.shared.Goes.{all_hold, none_refuses, equals}
+use Rattle.shapes.proofs.fresh.Rows.{at_most_greatest, greatest-put_last, get-put_here, get-put_other, get-put_cases}
+use Rattle.shapes.proofs.fresh.Tests.{Left, numbers_are_left, left_numbers_hold, number_fits}
+use Rattle.shapes.specs.Faces.{corners, loops_of, vertices_in, vertices_on, least_lone}
+use Rattle.shapes.specs.Fresh.{Taken, taken_in, numbers_left, numbers_after, no_such, first_such}
+use Rattle.shapes.specs.Lamina.{with_points, with_path, first_far, first_repeated, lamina_conditions, lamina_at, lamina_model}
+use Rattle.shapes.specs.Prism.{prism_conditions, prism_refusal}
+use Rattle.shapes.specs.Block.{vector, base_of, block_conditions, block_refusal}
+use Rattle.sweeps_laws.specs.lamina.Laws.{BlocksHaveBases, BasesRise}
+use Rattle.sweeps_laws.proofs.lamina.Lists.{plus_halves}
+use Rattle.sweeps_laws.proofs.lamina.Steps.{greatest-with_path, greatest-with_points}
+
+-- ---- coordinates
+
+add_none : (a : ℤ) → a +ℤ pos 0 ≡ a
+add_none a = omega (arith, ints)
+
+none_twice : (a : ℤ) → (a +ℤ pos 0) +ℤ pos 0 ≡ a
+none_twice a = omega (arith, ints)
+
+none_then : (a b : ℤ) → (a +ℤ pos 0) +ℤ b ≡ a +ℤ b
+none_then a b = omega (arith, ints)
+
+and_left : (a b : Bool) → (a && b) ≡ true → a ≡ true
+and_left true b e = refl
+and_left false b e = absurd (true≢false (sym e))
+
+and_right : (a b : Bool) → (a && b) ≡ true → b ≡ true
+and_right true b e = e
+and_right false b e = absurd (true≢false (sym e))
+
+grown_other : (x u : ℤ) → int_le (pos 1) u ≡ true → x +ℤ u ≢ x
+grown_other x (pos zero) l e = absurd (true≢false (sym l))
+grown_other x (pos (suc n)) l e = absurd (omega (arith, ints))
+grown_other x (negsuc n) l e = absurd (true≢false (sym l))
+
+other_number : (x y : ℤ) → x ≢ y → int_eq x y ≡ false
+other_number x y ne = go (int_eq x y) refl where
+  go : (b : Bool) → int_eq x y ≡ b → int_eq x y ≡ false
+  go true e = absurd (ne ((signed_Decides x y).0 e))
+  go false e = e
+
+no_and : (a b : Bool) → (a && false && b) ≡ false
+no_and true b = refl
+no_and false b = refl
+
+no_end : (a b : Bool) → (a && b && false) ≡ false
+no_end true true = refl
+no_end true false = refl
+no_end false b = refl
+
+other_x : (p q : Point) → p.x ≢ q.x → same_point p q ≡ false
+other_x p q ne = ap (λ b. b && int_eq p.y q.y && int_eq p.z q.z) (other_number p.x q.x ne)
+
+other_y : (p q : Point) → p.y ≢ q.y → same_point p q ≡ false
+other_y p q ne = ap (λ b. int_eq p.x q.x && b && int_eq p.z q.z) (other_number p.y q.y ne) ∙ no_and (int_eq p.x q.x) (int_eq p.z q.z)
+
+other_z : (p q : Point) → p.z ≢ q.z → same_point p q ≡ false
+other_z p q ne = ap (λ b. int_eq p.x q.x && int_eq p.y q.y && b) (other_number p.z q.z ne) ∙ no_end (int_eq p.x q.x) (int_eq p.y q.y)
+
+-- a height above 0 is no zero vector
+rise_other : (u : ℤ) → int_le (pos 1) u ≡ true → u ≢ pos 0
+rise_other u l e = absurd (true≢false (sym l ∙ ap (int_le (pos 1)) e))
+
+in_range : (q : Point) (x y z : ℤ) → q.x ≡ x → q.y ≡ y → q.z ≡ z → is_coordinate x ≡ true → is_coordinate y ≡ true → is_coordinate z ≡ true → is_in_range q ≡ true
+in_range q x y z ex ey ez a b c = λ i. (ap is_coordinate ex ∙ a) i && ((ap is_coordinate ey ∙ b) i && (ap is_coordinate ez ∙ c) i)
+
+-- the coordinates of the two corners that a block names are in range
+record Ranges (p : Point) (dx dy dz : ℤ) : Type 0 where
+  px : is_coordinate p.x ≡ true
+  py : is_coordinate p.y ≡ true
+  pz : is_coordinate p.z ≡ true
+  qx : is_coordinate (p.x +ℤ dx) ≡ true
+  qy : is_coordinate (p.y +ℤ dy) ≡ true
+  qz : is_coordinate (p.z +ℤ dz) ≡ true
+
+ranges : (M : Model) (s : ℕ) (p : Point) (dx dy dz : ℤ) → block_refusal M s p dx dy dz ≡ None → Ranges p dx dy dz
+unfolding block_conditions
+ranges M s p dx dy dz e =
+    let w = all_hold (block_conditions M s p dx dy dz) e in
+    let near = w.1.1.1.1.1.0 in
+    let far = w.1.1.1.1.1.1.0 in
+    record {
+      px = and_left (is_coordinate p.x) _ near;
+      py = and_left (is_coordinate p.y) _ (and_right (is_coordinate p.x) _ near);
+      pz = and_right (is_coordinate p.y) _ (and_right (is_coordinate p.x) _ near);
+      qx = and_left (is_coordinate (p.x +ℤ dx)) _ far;
+      qy = and_left (is_coordinate (p.y +ℤ dy)) _ (and_right (is_coordinate (p.x +ℤ dx)) _ far);
+      qz = and_right (is_coordinate (p.y +ℤ dy)) _ (and_right (is_coordinate (p.x +ℤ dx)) _ far);
+    }
+
+-- ---- the lamina of the base
+
+fewer : (a n m : ℕ) → m ≤ n → nat_le (a + n) 1000000 ≡ true → nat_le (a + m) 1000000 ≡ true
+fewer a n m l e = grind (arith, nat_tests)
+
+all_near : (a b g h : Point) → is_in_range a ≡ true → is_in_range b ≡ true → is_in_range g ≡ true → is_in_range h ≡ true → first_far 0 (a ∷ b ∷ g ∷ h ∷ []) ≡ 0
+all_near a b g h r s t u = λ i. cond (r i) (cond (s i) (cond (t i) (cond (u i) 0 4) 3) 2) 1
+
+none_repeated : (a b g h : Point) → same_point b a ≡ false → same_point g a ≡ false → same_point g b ≡ false → same_point h a ≡ false → same_point h b ≡ false → same_point h g ≡ false →
+    first_repeated [] 0 (a ∷ b ∷ g ∷ h ∷ []) ≡ 0
+none_repeated a b g h ba ga gb ha hb hg = λ i. cond (ba i || false) 2 (cond (ga i || (gb i || false)) 3 (cond (ha i || (hb i || (hg i || false))) 4 0))
+
+pub blocks_have_bases : BlocksHaveBases
+unfolding block_conditions lamina_conditions
+blocks_have_bases M s p dx dy dz e =
+    let w = all_hold (block_conditions M s p dx dy dz) e in
+    let r = ranges M s p dx dy dz e in
+    let left = w.1.1.1.1.1.1.1 in
+    let b : Point = moved p (vector dx (pos 0) (pos 0)) in
+    let g : Point = moved p (vector dx dy (pos 0)) in
+    let h : Point = moved p (vector (pos 0) dy (pos 0)) in
+    let x_grows = grown_other p.x dx w.1.1.0 in
+    let y_grows = grown_other p.y dy w.1.1.1.0 in
+    let near = all_near p b g h w.1.1.1.1.1.0
+    (in_range b (p.x +ℤ dx) p.y p.z refl (add_none p.y) (add_none p.z) r.qx r.py r.pz)
+    (in_range g (p.x +ℤ dx) (p.y +ℤ dy) p.z refl refl (add_none p.z) r.qx r.qy r.pz)
+    (in_range h p.x (p.y +ℤ dy) p.z (add_none p.x) refl (add_none p.z) r.px r.qy r.pz) in
+    let apart = none_repeated p b g h (other_x b p x_grows) (other_x g p x_grows) (other_y g b (λ t. y_grows (t ∙ add_none p.y)))
+    (other_y h p y_grows) (other_x h b (λ t. x_grows (sym t ∙ add_none p.x))) (other_x h g (λ t. x_grows (sym t ∙ add_none p.x))) in
+    none_refuses (lamina_conditions M s (base_of p dx dy)) (
+      w.0,
+      (
+        w.1.0,
+        (
+          refl,
+          (
+            equals _ _ near,
+            (
+              equals _ _ apart,
+              (
+                fewer (taken_in M).face 6 2 (omega arith) left.0,
+                (
+                  fewer (taken_in M).loop 6 2 (omega arith) left.1.0,
+                  (fewer (taken_in M).edge 12 4 (omega arith) left.1.1.0, (fewer (taken_in M).vertex 8 4 (omega arith) left.1.1.1.0, tt)),
+                ),
+              ),
+            ),
+          ),
+        ),
+      ),
+    )
+
+-- ---- the tables of a lamina
+
+less_still : (i j : ℕ) → i < suc j → i ≢ j → i < j
+less_still i j l ne = elim (nat_le j i) as (λ b. nat_le j i ≡ b → i < j) [
+  | true ↦ λ t. absurd (ne (grind (arith, nat_tests)))
+  | false ↦ λ t. grind (arith, nat_tests)
+] refl
+
+apart_by : (e i j : ℕ) → i ≢ j → e + suc i ≢ e + suc j
+apart_by e i j ne q = ne (omega arith)
+
+edge_row_at : ℕ → ℕ → EdgeRow
+edge_row_at v i = record { plus_tail = v + suc i; minus_tail = v + suc i + 1 }
+
+path_row : (t : Table EdgeRow) (e v j i : ℕ) → i < j → table.get (with_path t e v j) (e + suc i) ≡ Some (edge_row_at v i)
+unfolding edge_row_at
+path_row t e v zero i l = absurd (omega (arith, l))
+path_row t e v (suc j) i l = elim (eqb_tells i j) [
+  | inl p ↦ ap (λ k. table.get (with_path t e v (suc j)) (e + suc k)) p.1 ∙ get-put_here (with_path t e v j) (e + suc j) (edge_row_at v j) ∙ ap (λ k. Some (edge_row_at v k)) (sym p.1)
+  | inr p ↦ get-put_other (with_path t e v j) (e + suc j) (edge_row_at v j) (e + suc i) (apart_by e i j p.1) ∙ path_row t e v j i (less_still i j l p.1)
+]
+
+point_row : (t : Table Point) (v : ℕ) (ps : List Point) (j i : ℕ) → i < j → table.get (with_points t v ps j) (v + suc i) ≡ Some (get_or ps i no_point)
+point_row t v ps zero i l = absurd (omega (arith, l))
+point_row t v ps (suc j) i l = elim (eqb_tells i j) [
+  | inl p ↦ ap (λ k. table.get (with_points t v ps (suc j)) (v + suc k)) p.1 ∙ get-put_here (with_points t v ps j) (v + suc j) (get_or ps j no_point) ∙ ap (λ k. Some (get_or ps k no_point)) (sym p.1)
+  | inr p ↦ get-put_other (with_points t v ps j) (v + suc j) (get_or ps j no_point) (v + suc i) (apart_by v i j p.1) ∙ point_row t v ps j i (less_still i j l p.1)
+]
+
+none_ring : (a f o q : ℕ) → (a ≡ f → o ≡ q) → (nat_eq a f && not (nat_eq o q)) ≡ false
+none_ring a f o q p = grind (arith, nat_tests)
+
+no_lone : (b : Bool) (f g : ℕ) → f ≢ g → (b && (nat_eq f g || false)) ≡ false
+no_lone true f g ne = grind (arith, nat_tests)
+no_lone false f g ne = refl
+
+-- ---- the lamina of four points
+
+module _ (M : Model) (sound : Sound M) (c : Taken) (is : c ≡ taken_in M) (s : ℕ) (a b g h : Point) where
+  abbrev base : Model
+  base = lamina_at M c s (a ∷ b ∷ g ∷ h ∷ [])
+
+  abbrev first_face : FaceRow
+  first_face = record { solid = s; outer = c.loop + 1 }
+
+  abbrev second_face : FaceRow
+  second_face = record { solid = s; outer = c.loop + 2 }
+
+  abbrev first_loop : LoopRow
+  first_loop = record { face = c.face + 1; content = cycle (map plus (numbers_after c.edge 4)) }
+
+  abbrev second_loop : LoopRow
+  second_loop = record { face = c.face + 2; content = cycle (canonical (reverse (map minus (numbers_after c.edge 4)))) }
+
+  greatest_face : table.greatest M.faces ≡ c.face
+  unfolding taken_in
+  greatest_face = ap (λ k. k.face) (sym is)
+
+  greatest_loop : table.greatest M.loops ≡ c.loop
+  unfolding taken_in
+  greatest_loop = ap (λ k. k.loop) (sym is)
+
+  greatest_edge : table.greatest M.edges ≡ c.edge
+  unfolding taken_in
+  greatest_edge = ap (λ k. k.edge) (sym is)
+
+  greatest_vertex : table.greatest M.vertices ≡ c.vertex
+  unfolding taken_in
+  greatest_vertex = ap (λ k. k.vertex) (sym is)
+
+  face_one : table.get base.faces (c.face + 1) ≡ Some first_face
+  face_one = get-put_other (table.put M.faces (c.face + 1) first_face) (c.face + 2) second_face (c.face + 1) (apart_by c.face 0 1 (λ e. absurd (omega (arith, e)))) ∙ get-put_here M.faces (c.face + 1) first_face
+
+  loop_one : table.get base.loops (c.loop + 1) ≡ Some first_loop
+  loop_one = get-put_other (table.put M.loops (c.loop + 1) first_loop) (c.loop + 2) second_loop (c.loop + 1) (apart_by c.loop 0 1 (λ e. absurd (omega (arith, e)))) ∙ get-put_here M.loops (c.loop + 1) first_loop
+
+  outer_one : outer base (c.face + 1) ≡ c.loop + 1
+  unfolding outer
+  outer_one = ap (λ o. (unwrap_or o no_face).outer) face_one
+
+  -- the loops that were there are of other faces
+  old_face : (q : ℕ) (y : LoopRow) → table.get M.loops q ≡ Some y → y.face ≤ c.face
+  old_face q y at = within y.face (table.greatest M.faces) c.face (at_most_greatest M.faces y.face (ap (table.has M.faces) (sym (face_row M q y at)) ∙ sound.loops_of_faces q (ap is_some at))) greatest_face where
+    within : (i m n : ℕ) → i ≤ m → m ≡ n → i ≤ n
+    within i m n l e = omega (arith, l, e)
+
+  loop_cases : (q : ℕ) (y : LoopRow) → table.get base.loops q ≡ Some y → ((q ≡ c.loop + 2) × (y ≡ second_loop)) ⊎ (((q ≡ c.loop + 1) × (y ≡ first_loop)) ⊎ (y.face ≤ c.face))
+  loop_cases q y at = elim (get-put_cases (table.put M.loops (c.loop + 1) first_loop) (c.loop + 2) second_loop q y at) [
+    | inl p ↦ inl p
+    | inr p ↦ elim (get-put_cases M.loops (c.loop + 1) first_loop q y p.1) [ inl r ↦ inr (inl r) | inr r ↦ inr (inr (old_face q y r.1)) ]
+  ]
+
+  rings_one : rings_of base (c.face + 1) ≡ []
+  rings_one = all_where_none (λ q row. nat_eq row.face (c.face + 1) && not (nat_eq (outer base (c.face + 1)) q)) base.loops (λ q y at. none_ring y.face (c.face + 1) (outer base (c.face + 1)) q (λ e. elim (loop_cases q y at) [
+    | inl p ↦ absurd (other c.face y.face (ap (λ r. r.face) p.1) e)
+    | inr (inl p) ↦ outer_one ∙ sym p.0
+    | inr (inr p) ↦ absurd (low c.face y.face p e)
+  ])) where
+    other : (k f : ℕ) → f ≡ k + 2 → f ≡ k + 1 → ⊥
+    other k f p e = absurd (omega arith)
+
+    low : (k f : ℕ) → f ≤ k → f ≡ k + 1 → ⊥
+    low k f p e = absurd (omega arith)
+
+  none_lone : least_lone base ((c.face + 1) ∷ []) ≡ 0
+  none_lone = first_where_zero (λ _ row. is_lone row.content && lists ((c.face + 1) ∷ []) row.face) base.loops (λ q y at. elim (loop_cases q y at) [
+    | inl p ↦ ap (λ r. is_lone r.content && lists ((c.face + 1) ∷ []) r.face) p.1
+    | inr (inl p) ↦ ap (λ r. is_lone r.content && lists ((c.face + 1) ∷ []) r.face) p.1
+    | inr (inr p) ↦ no_lone (is_lone y.content) (c.face + 1) y.face (above c.face y.face p)
+  ]) where
+    above : (k f : ℕ) → f ≤ k → k + 1 ≢ f
+    above k f p e = absurd (omega arith)
+
+  -- its vertices and their points
+  tail_at : (i : ℕ) (row : EdgeRow) → table.get base.edges (c.edge + suc i) ≡ Some row → tail base (plus (c.edge + suc i)) ≡ row.plus_tail
+  tail_at i row at = tail_row base (plus (c.edge + suc i)) row (ap (table.get base.edges) (plus_row (c.edge + suc i)).0 ∙ at) ∙ ap (tail_in row) (plus_row (c.edge + suc i)).1
+
+  abbrev ring_row : EdgeRow
+  ring_row = record { plus_tail = c.vertex + 4; minus_tail = c.vertex + 1 }
+
+  on_path : (i : ℕ) → i < 3 → tail base (plus (c.edge + suc i)) ≡ c.vertex + suc i
+  unfolding edge_row_at
+  on_path i l = tail_at i (edge_row_at c.vertex i) (get-put_other (with_path M.edges c.edge c.vertex 3) (c.edge + 4) ring_row (c.edge + suc i) (apart_by c.edge i 3 (λ e. absurd (omega (arith, e, l)))) ∙ path_row M.edges c.edge c.vertex 3 i l)
+
+  at_last : tail base (plus (c.edge + 4)) ≡ c.vertex + 4
+  at_last = tail_at 3 ring_row (get-put_here (with_path M.edges c.edge c.vertex 3) (c.edge + 4) ring_row)
+
+  point_at : (i : ℕ) → i < 4 → point_of base (c.vertex + suc i) ≡ get_or (a ∷ b ∷ g ∷ h ∷ []) i no_point
+  unfolding point_of
+  point_at i l = ap (λ o. unwrap_or o no_point) (point_row M.vertices c.vertex (a ∷ b ∷ g ∷ h ∷ []) 4 i l)
+
+  abbrev base_vertices : List ℕ
+  base_vertices = (c.vertex + 1) ∷ (c.vertex + 2) ∷ (c.vertex + 3) ∷ (c.vertex + 4) ∷ []
+
+  corners_are : corners base (c.face + 1) ≡ base_vertices
+  unfolding corners loops_of
+  corners_are = ap (λ rs. vertices_in base (outer base (c.face + 1) ∷ rs)) rings_one
+      ∙ ap (λ l. vertices_in base (l ∷ [])) outer_one
+      ∙ ap (λ x. vertices_on base x ++ []) (content_row base (c.loop + 1) first_loop loop_one ∙ ap cycle (plus_halves c.edge 4))
+      ∙ (λ i. on_path 0 (omega arith) i ∷ on_path 1 (omega arith) i ∷ on_path 2 (omega arith) i ∷ at_last i ∷ [])
+
+  -- ---- the sweep
+
+  abbrev swept_conditions : Point → List ℕ → List Condition
+  swept_conditions d vs =
+      numbers_in_range ((c.face + 1) ∷ []) ++
+      need (table.has base.faces (c.face + 1)) NoFace (c.face + 1)
+      ∷ never (same_point d origin) ZeroSweep (c.face + 1)
+      ∷ no_such (least_lone base ((c.face + 1) ∷ [])) LoneLoop
+      ∷ no_such (first_such (λ v. not (is_in_range (moved (point_of base v) d))) vs) PointRange
+      ∷ numbers_left (taken_in base) (length vs) (length vs) (2 * length vs) (length vs)
+
+  all_in_range : (d : Point) → is_in_range (moved a d) ≡ true → is_in_range (moved b d) ≡ true → is_in_range (moved g d) ≡ true → is_in_range (moved h d) ≡ true →
+      first_such (λ v. not (is_in_range (moved (point_of base v) d))) base_vertices ≡ 0
+  all_in_range d ra rb rg rh =
+      (λ i. cond (not (is_in_range (moved (point_at 0 (omega arith) i) d))) (c.vertex + 1) (cond (not (is_in_range (moved (point_at 1 (omega arith) i) d))) (c.vertex + 2)
+      (cond (not (is_in_range (moved (point_at 2 (omega arith) i) d))) (c.vertex + 3) (cond (not (is_in_range (moved (point_at 3 (omega arith) i) d))) (c.vertex + 4) 0))))
+      ∙ (λ i. cond (not (ra i)) (c.vertex + 1) (cond (not (rb i)) (c.vertex + 2) (cond (not (rg i)) (c.vertex + 3) (cond (not (rh i)) (c.vertex + 4) 0))))
+
+  base_left : Left c 6 6 12 8 → Left (taken_in base) 4 4 8 4
+  unfolding taken_in
+  base_left left = record {
+    faces = omega (arith, left.faces, greatest_faces);
+    loops = omega (arith, left.loops, greatest_loops);
+    edges = omega (arith, left.edges, greatest_edges);
+    vertices = omega (arith, left.vertices, greatest-with_points M.vertices c.vertex (a ∷ b ∷ g ∷ h ∷ []) 4 greatest_vertex);
+  } where
+    greatest_faces : table.greatest base.faces ≡ c.face + 2
+    greatest_faces = greatest-put_last (table.put M.faces (c.face + 1) first_face) (c.face + 2) second_face
+        (omega (arith, greatest-put_last M.faces (c.face + 1) first_face (omega (arith, greatest_face))))
+
+    greatest_loops : table.greatest base.loops ≡ c.loop + 2
+    greatest_loops = greatest-put_last (table.put M.loops (c.loop + 1) first_loop) (c.loop + 2) second_loop
+        (omega (arith, greatest-put_last M.loops (c.loop + 1) first_loop (omega (arith, greatest_loop))))
+
+    greatest_edges : table.greatest base.edges ≡ c.edge + 4
+    greatest_edges = greatest-put_last (with_path M.edges c.edge c.vertex 3) (c.edge + 4) ring_row (omega (arith, greatest-with_path M.edges c.edge c.vertex 3 greatest_edge))
+
+  rises : (d : Point) → same_point d origin ≡ false → is_in_range (moved a d) ≡ true → is_in_range (moved b d) ≡ true → is_in_range (moved g d) ≡ true → is_in_range (moved h d) ≡ true →
+      Left c 6 6 12 8 → prism_refusal base (c.face + 1) d ≡ None
+  unfolding prism_conditions
+  rises d apart ra rb rg rh left = ap (λ vs. first_refusal (swept_conditions d vs)) corners_are
+      ∙ none_refuses (swept_conditions d base_vertices) (
+        number_fits (c.face + 1) (omega arith) (omega (arith, left.faces)),
+        (
+          ap is_some face_one,
+          (
+            ap not apart,
+            (equals _ _ none_lone, (equals _ _ (all_in_range d ra rb rg rh), left_numbers_hold (taken_in base) 4 4 8 4 (base_left left))),
+          ),
+        ),
+      )
+
+pub bases_rise : BasesRise
+unfolding block_conditions lamina_model
+bases_rise M s p dx dy dz sound e =
+    let w = all_hold (block_conditions M s p dx dy dz) e in
+    let r = ranges M s p dx dy dz e in
+    let b : Point = moved p (vector dx (pos 0) (pos 0)) in
+    let g : Point = moved p (vector dx dy (pos 0)) in
+    let h : Point = moved p (vector (pos 0) dy (pos 0)) in
+    let d : Point = vector (pos 0) (pos 0) dz in
+    rises M sound (taken_in M) refl s p b g h d (other_z d origin (rise_other dz w.1.1.1.1.0))
+    (in_range (moved p d) p.x p.y (p.z +ℤ dz) (add_none p.x) (add_none p.y) refl r.px r.py r.qz)
+    (in_range (moved b d) (p.x +ℤ dx) p.y (p.z +ℤ dz) (add_none (p.x +ℤ dx)) (none_twice p.y) (none_then p.z dz) r.qx r.py r.qz)
+    (in_range (moved g d) (p.x +ℤ dx) (p.y +ℤ dy) (p.z +ℤ dz) (add_none (p.x +ℤ dx)) (add_none (p.y +ℤ dy)) (none_then p.z dz) r.qx r.qy r.qz)
+    (in_range (moved h d) p.x (p.y +ℤ dy) (p.z +ℤ dz) (none_twice p.x) (add_none (p.y +ℤ dy)) (none_then p.z dz) r.px r.qy r.qz)
+    (numbers_are_left (taken_in M) 6 6 12 8 w.1.1.1.1.1.1.1)

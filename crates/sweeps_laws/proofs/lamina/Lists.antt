@@ -1,0 +1,166 @@
+-- The loop along a path and back, as a list.
+use Rattle.std.specs.Prelude.{map, reverse}
+use Rattle.std.proofs.Common.{◌≡◌, ◌≢◌, ℕ, zero, suc, ◌+◌, ◌≤◌, ◌<◌, List, [], ◌∷◌, ◌++◌, refl, sym, ap, ◌∙◌, arith, inl, inr}
+use Rattle.std.proofs.lemmas.List.{append_assoc, append-nil, map-append, reverse-append}
+use Rattle.std.proofs.lemmas.Bool.Decides.{eqb_tells}
+use Rattle.cyclic_list.specs.Items.{count, IsIn, IsApart, least, before, from}
+use Rattle.cyclic_list.specs.Rings.{rotate_to, canonical, upto, onward}
+use Rattle.cyclic_list.specs.Edits.{insert_before}
+use Rattle.cyclic_list.proofs.Lists.{count-append, tick_other, tick_le, least_with_le, least_with_in, before_at, from_at}
+use Rattle.cyclic_list.proofs.Rotations.{rotate_to_head, rotate_at, canonical_same, IsIn_head}
+use Rattle.cyclic_list.proofs.Edits.{insert_before_at}
+use Rattle.boundary_model.specs.HalfEdge.{plus, minus}
+use Rattle.shapes.specs.Fresh.{numbers_after}
+use Rattle.sweeps_laws.specs.lamina.Path.{out, back}
+
+-- a list from its least item on is in its canonical form
+least_first : (x : ℕ) (zs : List ℕ) → ((y : ℕ) → IsIn y zs → x ≤ y) → least (x ∷ zs) ≡ x
+least_first x zs low =
+    let at_most : least (x ∷ zs) ≤ x = least_with_le x zs x (IsIn_head x zs) in
+    let there : IsIn (least (x ∷ zs)) (x ∷ zs) = least_with_in x zs in
+    elim (eqb_tells (least (x ∷ zs)) x) [
+      | inl e ↦ e.1
+      | inr ne ↦ both (least (x ∷ zs)) x at_most (low (least (x ∷ zs)) (omega (arith, there, tick_other (least (x ∷ zs)) x ne.1)))
+    ] where
+      both : (a b : ℕ) → a ≤ b → b ≤ a → a ≡ b
+      both a b l m = omega arith
+
+pub canonical_first : (x : ℕ) (zs : List ℕ) → ((y : ℕ) → IsIn y zs → x ≤ y) → canonical (x ∷ zs) ≡ x ∷ zs
+unfolding canonical
+canonical_first x zs low = ap (λ y. rotate_to y (x ∷ zs)) (least_first x zs low) ∙ rotate_to_head x zs
+
+even_odd : (a b : ℕ) → minus a ≢ plus b
+even_odd a b e = absurd (omega arith)
+
+-- the halves of one kind don't stand among the others
+pub no_minus : (a e j : ℕ) → count (minus a) (out e j) ≡ 0
+no_minus a e zero = refl
+no_minus a e (suc j) = count-append (minus a) (out e j) (plus (e + suc j) ∷ []) ∙ (λ i. no_minus a e j i + (tick_other (minus a) (plus (e + suc j)) (even_odd a (e + suc j)) i + 0))
+
+pub no_plus : (a e j : ℕ) → count (plus a) (back e j) ≡ 0
+no_plus a e zero = refl
+no_plus a e (suc j) = λ i. tick_other (plus a) (minus (e + suc j)) (λ p. even_odd (e + suc j) a (sym p)) i + no_plus a e j i
+
+-- where items lie
+out_within : (e j x : ℕ) → IsIn x (out e j) → (plus (e + 1) ≤ x) × (x ≤ plus (e + j))
+out_within e zero x i = absurd (omega arith)
+out_within e (suc j) x i = elim (eqb_tells x (plus (e + suc j))) [
+  | inl p ↦ (omega (arith, p.1), omega (arith, p.1))
+  | inr p ↦ let w = out_within e j x (omega (arith, i, count-append x (out e j) (plus (e + suc j) ∷ []), tick_other x (plus (e + suc j)) p.1)) in (w.0, omega (arith, w.1))
+]
+
+back_within : (e j x : ℕ) → IsIn x (back e j) → (plus (e + 1) ≤ x) × (x ≤ minus (e + j))
+back_within e zero x i = absurd (omega arith)
+back_within e (suc j) x i = elim (eqb_tells x (minus (e + suc j))) [
+  | inl p ↦ (omega (arith, p.1), omega (arith, p.1))
+  | inr p ↦ let w = back_within e j x (omega (arith, i, tick_other x (minus (e + suc j)) p.1)) in (w.0, omega (arith, w.1))
+]
+
+not_out : (e j x : ℕ) → plus (e + j) < x → count x (out e j) ≡ 0
+not_out e j x l = zero_or (count x (out e j)) (λ i. out_within e j x i) l where
+  zero_or : (n : ℕ) → (1 ≤ n → (plus (e + 1) ≤ x) × (x ≤ plus (e + j))) → plus (e + j) < x → n ≡ 0
+  zero_or zero f l = refl
+  zero_or (suc n) f l = let w : x ≤ plus (e + j) = (f (omega arith)).1 in absurd (omega (arith, w, l))
+
+not_back : (e j x : ℕ) → minus (e + j) < x → count x (back e j) ≡ 0
+not_back e j x l = zero_or (count x (back e j)) (λ i. back_within e j x i) l where
+  zero_or : (n : ℕ) → (1 ≤ n → (plus (e + 1) ≤ x) × (x ≤ minus (e + j))) → minus (e + j) < x → n ≡ 0
+  zero_or zero f l = refl
+  zero_or (suc n) f l = let w : x ≤ minus (e + j) = (f (omega arith)).1 in absurd (omega (arith, w, l))
+
+pub out_apart : (e j : ℕ) → IsApart (out e j)
+out_apart e zero x = omega arith
+out_apart e (suc j) x = elim (eqb_tells x (plus (e + suc j))) [
+  | inl p ↦ omega (arith, count-append x (out e j) (plus (e + suc j) ∷ []), tick_le x (plus (e + suc j)), not_out e j x (omega (arith, p.1)))
+  | inr p ↦ omega (arith, count-append x (out e j) (plus (e + suc j) ∷ []), out_apart e j x, tick_other x (plus (e + suc j)) p.1)
+]
+
+pub back_apart : (e j : ℕ) → IsApart (back e j)
+back_apart e zero x = omega arith
+back_apart e (suc j) x = elim (eqb_tells x (minus (e + suc j))) [
+  | inl p ↦ omega (arith, tick_le x (minus (e + suc j)), not_back e j x (omega (arith, p.1)))
+  | inr p ↦ omega (arith, back_apart e j x, tick_other x (minus (e + suc j)) p.1)
+]
+
+-- the plus halves after the first
+abbrev pub later : ℕ → ℕ → List ℕ
+later e zero = []
+later e (suc j) = later e j ++ plus (e + suc (suc j)) ∷ []
+
+pub out_first : (e j : ℕ) → out e (suc j) ≡ plus (e + 1) ∷ later e j
+out_first e zero = refl
+out_first e (suc j) = ap (λ xs. xs ++ plus (e + suc (suc j)) ∷ []) (out_first e j)
+
+later_high : (e j y : ℕ) → IsIn y (later e j) → plus (e + 1) ≤ y
+later_high e j y i = (out_within e (suc j) y (omega (arith, i, ap (count y) (out_first e j)))).0
+
+-- a list of the plus halves, and others that aren't less than the first, is in its canonical form
+pub canonical_out : (e j : ℕ) (ys : List ℕ) → ((y : ℕ) → IsIn y ys → plus (e + 1) ≤ y) → canonical (out e (suc j) ++ ys) ≡ out e (suc j) ++ ys
+canonical_out e j ys low = ap (λ xs. canonical (xs ++ ys)) (out_first e j)
+    ∙ canonical_first (plus (e + 1)) (later e j ++ ys) (λ y i. either y (count y (later e j)) (λ k. later_high e j y k) (λ k. low y (omega (arith, i, k, count-append y (later e j) ys))))
+    ∙ sym (ap (λ xs. xs ++ ys) (out_first e j)) where
+      either : (y n : ℕ) → (1 ≤ n → plus (e + 1) ≤ y) → (n ≡ 0 → plus (e + 1) ≤ y) → plus (e + 1) ≤ y
+      either y zero f g = g refl
+      either y (suc n) f g = f (omega arith)
+
+-- the two halves of the next edge put before the last minus half
+module _ (e j : ℕ) where
+  pub longer_plus : canonical (insert_before (minus (e + suc j)) (plus (e + suc (suc j))) (out e (suc j) ++ back e (suc j))) ≡ out e (suc (suc j)) ++ back e (suc j)
+  longer_plus = ap canonical (insert_before_at (minus (e + suc j)) (plus (e + suc (suc j))) (out e (suc j)) (back e j) (no_minus (e + suc j) e (suc j))
+      ∙ sym (append_assoc (out e (suc j)) (plus (e + suc (suc j)) ∷ []) (back e (suc j))))
+      ∙ canonical_out e (suc j) (back e (suc j)) (λ y i. (back_within e (suc j) y i).0)
+
+  pub longer_minus : canonical (insert_before (minus (e + suc j)) (minus (e + suc (suc j))) (out e (suc (suc j)) ++ back e (suc j))) ≡ out e (suc (suc j)) ++ back e (suc (suc j))
+  longer_minus = ap canonical (insert_before_at (minus (e + suc j)) (minus (e + suc (suc j))) (out e (suc (suc j))) (back e j) (no_minus (e + suc j) e (suc (suc j))))
+      ∙ canonical_out e (suc j) (back e (suc (suc j))) (λ y i. (back_within e (suc (suc j)) y i).0)
+
+  -- the loop from its last minus half on
+  turned : rotate_to (minus (e + suc j)) (out e (suc j) ++ back e (suc j)) ≡ back e (suc j) ++ out e (suc j)
+  turned = rotate_at (minus (e + suc j)) (out e (suc j)) (back e j) (no_minus (e + suc j) e (suc j))
+
+  turned_at : rotate_to (minus (e + suc j)) (out e (suc j) ++ back e (suc j)) ≡ back e (suc j) ++ plus (e + 1) ∷ later e j
+  turned_at = turned ∙ ap (λ xs. back e (suc j) ++ xs) (out_first e j)
+
+  pub upto_first : upto (minus (e + suc j)) (plus (e + 1)) (out e (suc j) ++ back e (suc j)) ≡ back e (suc j)
+  upto_first = ap (before (plus (e + 1))) turned_at ∙ before_at (plus (e + 1)) (back e (suc j)) (later e j) (no_plus (e + 1) e (suc j))
+
+  pub onward_first : onward (minus (e + suc j)) (plus (e + 1)) (out e (suc j) ++ back e (suc j)) ≡ out e (suc j)
+  onward_first = ap (from (plus (e + 1))) turned_at ∙ from_at (plus (e + 1)) (back e (suc j)) (later e j) (no_plus (e + 1) e (suc j)) ∙ sym (out_first e j)
+
+-- an item moved from the front to the end
+pub moved_last : (x : ℕ) (xs : List ℕ) → IsApart (xs ++ x ∷ []) → canonical (x ∷ xs) ≡ canonical (xs ++ x ∷ [])
+moved_last x xs apart = canonical_same (x ∷ xs) (xs ++ x ∷ []) (record { front = x ∷ []; back = xs; here = refl; there = refl }) (λ y. omega (arith, apart y, count-append y xs (x ∷ [])))
+
+pub first_moved : (x : ℕ) (xs : List ℕ) → IsApart (x ∷ xs) → canonical (xs ++ x ∷ []) ≡ canonical (x ∷ xs)
+first_moved x xs apart = canonical_same (xs ++ x ∷ []) (x ∷ xs) (record { front = xs; back = x ∷ []; here = refl; there = refl }) (λ y. omega (arith, apart y, count-append y xs (x ∷ [])))
+
+-- the two loops of the closed ring
+pub ring_plus : (e j : ℕ) → canonical (plus (e + suc (suc j)) ∷ onward (minus (e + suc j)) (plus (e + 1)) (out e (suc j) ++ back e (suc j))) ≡ out e (suc (suc j))
+ring_plus e j = ap (λ xs. canonical (plus (e + suc (suc j)) ∷ xs)) (onward_first e j)
+    ∙ moved_last (plus (e + suc (suc j))) (out e (suc j)) (out_apart e (suc (suc j)))
+    ∙ ap canonical (sym (append-nil (out e (suc (suc j))))) ∙ canonical_out e (suc j) [] (λ y i. absurd (none i)) ∙ append-nil (out e (suc (suc j))) where
+      none : 1 ≤ 0 → ⊥
+      none l = omega arith
+
+pub ring_minus : (e j : ℕ) → canonical (upto (minus (e + suc j)) (plus (e + 1)) (out e (suc j) ++ back e (suc j)) ++ minus (e + suc (suc j)) ∷ []) ≡ canonical (back e (suc (suc j)))
+ring_minus e j = ap (λ xs. canonical (xs ++ minus (e + suc (suc j)) ∷ [])) (upto_first e j) ∙ first_moved (minus (e + suc (suc j))) (back e (suc j)) (back_apart e (suc (suc j)))
+
+-- the same lists from the numbers of the edges
+numbers_last : (e n : ℕ) → numbers_after e (suc n) ≡ numbers_after e n ++ (e + suc n) ∷ []
+numbers_last e zero = refl
+numbers_last e (suc n) = ap (λ xs. (e + 1) ∷ xs) (numbers_last (e + 1) n) ∙ ap (λ k. (e + 1) ∷ numbers_after (e + 1) n ++ k ∷ []) (same e n) where
+  same : (e n : ℕ) → e + 1 + suc n ≡ e + suc (suc n)
+  same e n = omega arith
+
+pub plus_halves : (e n : ℕ) → map plus (numbers_after e n) ≡ out e n
+plus_halves e zero = refl
+plus_halves e (suc n) = ap (map plus) (numbers_last e n) ∙ map-append plus (numbers_after e n) ((e + suc n) ∷ []) ∙ ap (λ xs. xs ++ plus (e + suc n) ∷ []) (plus_halves e n)
+
+pub minus_halves : (e n : ℕ) → reverse (map minus (numbers_after e n)) ≡ back e n
+minus_halves e zero = refl
+minus_halves e (suc n) = ap (λ xs. reverse (map minus xs)) (numbers_last e n) ∙ ap reverse (map-append minus (numbers_after e n) ((e + suc n) ∷ []))
+    ∙ reverse-append (map minus (numbers_after e n)) (minus (e + suc n) ∷ []) ∙ ap (λ xs. minus (e + suc n) ∷ xs) (minus_halves e n)
+
+-- the loop along one edge
+pub two_halves : (e : ℕ) → canonical (plus (e + 1) ∷ minus (e + 1) ∷ []) ≡ out e 1 ++ back e 1
+two_halves e = canonical_out e 0 (minus (e + 1) ∷ []) (λ y i. (back_within e 1 y i).0)

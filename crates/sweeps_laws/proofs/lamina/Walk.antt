@@ -1,0 +1,126 @@
+-- From the conditions of a lamina: its operators in order, and the model that they leave.
+use Rattle.std.specs.Prelude.{length, get_or, nat_le, ◌-◌}
+use Rattle.std.proofs.Common.{◌≡◌, ℕ, zero, suc, ◌+◌, ◌≤◌, ◌<◌, true, false, cond, List, [], ◌∷◌, ◌++◌, None, refl, sym, ap, subst, ◌∙◌, arith}
+use Rattle.std.proofs.lemmas.Bool.Decides.{nat_tests}
+use Rattle.lattice.specs.declared.Point.{Point}
+use Rattle.lattice.specs.Point.{is_in_range}
+use Rattle.boundary_model.specs.Model.{Model, no_point}
+use Rattle.boundary_model.specs.Sound.{Sound}
+use Rattle.euler_operators.specs.declared.Op.{Op}
+use Rattle.euler_operators.specs.Conditions.{first_false}
+use Rattle.euler_operators.specs.Effect.{effect}
+use Rattle.euler_laws.proofs.shared.Goes.{all_hold, not_true, free, equal}
+use Rattle.euler_laws.proofs.Cases.{effect_keeps_sound}
+use Rattle.euler_laws.specs.Laws.{AreAccepted, effects}
+use Rattle.shapes.proofs.fresh.Tests.{numbers_are_left}
+use Rattle.shapes.specs.Fresh.{Taken, taken_in}
+use Rattle.shapes.specs.Lamina.{first_far, lamina_conditions, lamina_refusal, lamina_at, lamina_model}
+use Rattle.sweeps_laws.specs.lamina.Path.{path_at, first_point, next_point, further_points, last_edge, lamina_operators}
+use Rattle.sweeps_laws.specs.lamina.Laws.{OperatorsAreAccepted, OperatorsMakeLamina, LaminaIsSound}
+use Rattle.sweeps_laws.proofs.lamina.Steps.{Goes, first_accepted, first_made, second_accepted, second_made, further_accepted, further_made, last_accepted, last_made}
+
+-- where no point is too far, each is in range
+none_far : (i : ℕ) (ps : List Point) → first_far i ps ≡ 0 → (k : ℕ) → k < length ps → is_in_range (get_or ps k no_point) ≡ true
+none_far i [] e k l = absurd (omega (arith, l))
+none_far i (p ∷ ps) e k l =
+    elim (is_in_range p) as (λ b. is_in_range p ≡ b → cond b (first_far (i + 1) ps) (i + 1) ≡ 0 → is_in_range (get_or (p ∷ ps) k no_point) ≡ true) [
+      | true ↦ λ t e. at k (λ m. none_far (i + 1) ps e m) t l
+      | false ↦ λ t e. absurd (omega (arith, e))
+    ] refl e where
+      at : (k : ℕ) → ((m : ℕ) → m < length ps → is_in_range (get_or ps m no_point) ≡ true) → is_in_range p ≡ true → k < length (p ∷ ps) → is_in_range (get_or (p ∷ ps) k no_point) ≡ true
+      at zero rest t l = t
+      at (suc m) rest t l = rest m (omega (arith, l))
+
+three : (n : ℕ) → nat_le 3 n ≡ true → 3 ≤ n
+three n e = grind (arith, nat_tests)
+
+-- what the conditions say
+pub lamina_goes : (M : Model) (s : ℕ) (ps : List Point) → Sound M → lamina_refusal M s ps ≡ None → Goes M (taken_in M) s ps (length ps)
+unfolding lamina_conditions taken_in
+lamina_goes M s ps sound e =
+    let w = all_hold (lamina_conditions M s ps) e in
+    record {
+      sound = sound;
+      faces = refl;
+      loops = refl;
+      edges = refl;
+      vertices = refl;
+      solid_free = free _ (not_true _ w.1.0);
+      solid_fits = w.0;
+      many = three (length ps) w.1.1.0;
+      points_fit = none_far 0 ps (equal _ _ w.1.1.1.0);
+      left = numbers_are_left (taken_in M) 2 2 (length ps) (length ps) w.1.1.1.1.1;
+    }
+
+module _ (M : Model) (c : Taken) (s : ℕ) (ps : List Point) (n : ℕ) (goes : Goes M c s ps n) where
+  -- each operator on the way is accepted and leads on
+  pub next_accepted : (j : ℕ) → suc j < n → Sound (path_at M c s ps j) → first_false (path_at M c s ps j) (next_point c ps j) ≡ None
+  next_accepted zero l sound = second_accepted M c s ps n goes sound
+  next_accepted (suc j) l sound = further_accepted M c s ps n goes j l sound
+
+  pub next_made : (j : ℕ) → effect (path_at M c s ps j) (next_point c ps j) ≡ path_at M c s ps (suc j)
+  next_made zero = second_made M c s ps n goes
+  next_made (suc j) = further_made M c s ps n goes j
+
+  pub path_sound : (j : ℕ) → j < n → Sound (path_at M c s ps j)
+  path_sound zero l = subst Sound (first_made M c s ps n goes) (effect_keeps_sound M (first_point c s ps) goes.sound (first_accepted M c s ps n goes))
+  path_sound (suc j) l = let before : Sound (path_at M c s ps j) = path_sound j (omega (arith, l)) in
+      subst Sound (next_made j) (effect_keeps_sound (path_at M c s ps j) (next_point c ps j) before (next_accepted j l before))
+
+  -- the last one closes the ring
+  pub close_accepted : (j : ℕ) → n ≡ suc j → first_false (path_at M c s ps j) (last_edge c j) ≡ None
+  close_accepted zero all = absurd (omega (arith, all, goes.many))
+  close_accepted (suc j) all = last_accepted M c s ps n goes j (path_sound (suc j) (omega (arith, all))) all
+
+  pub close_made : (j : ℕ) → n ≡ suc j → length ps ≡ n → effect (path_at M c s ps j) (last_edge c j) ≡ lamina_at M c s ps
+  close_made zero all is = absurd (omega (arith, all, goes.many))
+  close_made (suc j) all is = last_made M c s ps n goes j (path_sound (suc j) (omega (arith, all))) (is ∙ all)
+
+-- lists of operators, one after the other
+accepted-append : (M : Model) (ops more : List Op) → AreAccepted M ops → AreAccepted (effects M ops) more → AreAccepted M (ops ++ more)
+accepted-append M [] more a b = b
+accepted-append M (op ∷ ops) more a b = (a.0, accepted-append (effect M op) ops more a.1 b)
+
+effects-append : (M : Model) (ops more : List Op) → effects M (ops ++ more) ≡ effects (effects M ops) more
+effects-append M [] more = refl
+effects-append M (op ∷ ops) more = effects-append (effect M op) ops more
+
+module _ (M : Model) (c : Taken) (s : ℕ) (ps : List Point) (n : ℕ) (goes : Goes M c s ps n) where
+  walked : (j : ℕ) → j < n → AreAccepted (path_at M c s ps 0) (further_points c ps j) × (effects (path_at M c s ps 0) (further_points c ps j) ≡ path_at M c s ps j)
+  walked zero l = (tt, refl)
+  walked (suc j) l =
+      let so_far = walked j (omega (arith, l)) in
+      let accepted : first_false (path_at M c s ps j) (next_point c ps j) ≡ None = next_accepted M c s ps n goes j l (path_sound M c s ps n goes j (omega (arith, l))) in (
+        accepted-append (path_at M c s ps 0) (further_points c ps j) (next_point c ps j ∷ []) so_far.0 (subst (λ N. AreAccepted N (next_point c ps j ∷ [])) (sym so_far.1) (accepted, tt)),
+        effects-append (path_at M c s ps 0) (further_points c ps j) (next_point c ps j ∷ []) ∙ ap (λ N. effect N (next_point c ps j)) so_far.1 ∙ next_made M c s ps n goes j,
+      )
+
+  all_accepted : (j : ℕ) → n ≡ suc j → AreAccepted M (first_point c s ps ∷ further_points c ps j ++ last_edge c j ∷ [])
+  all_accepted j all = let way = walked j (omega (arith, all)) in (
+    first_accepted M c s ps n goes,
+    subst (λ N. AreAccepted N (further_points c ps j ++ last_edge c j ∷ [])) (sym (first_made M c s ps n goes))
+        (accepted-append (path_at M c s ps 0) (further_points c ps j) (last_edge c j ∷ []) way.0 (subst (λ N. AreAccepted N (last_edge c j ∷ [])) (sym way.1) (close_accepted M c s ps n goes j all, tt))),
+  )
+
+  all_made : (j : ℕ) → n ≡ suc j → length ps ≡ n → effects M (first_point c s ps ∷ further_points c ps j ++ last_edge c j ∷ []) ≡ lamina_at M c s ps
+  all_made j all is = ap (λ N. effects N (further_points c ps j ++ last_edge c j ∷ [])) (first_made M c s ps n goes)
+      ∙ effects-append (path_at M c s ps 0) (further_points c ps j) (last_edge c j ∷ []) ∙ ap (λ N. effect N (last_edge c j)) (walked j (omega (arith, all))).1 ∙ close_made M c s ps n goes j all is
+
+  all_sound : (j : ℕ) → n ≡ suc j → length ps ≡ n → Sound (lamina_at M c s ps)
+  all_sound j all is = subst Sound (close_made M c s ps n goes j all is)
+      (effect_keeps_sound (path_at M c s ps j) (last_edge c j) (path_sound M c s ps n goes j (omega (arith, all))) (close_accepted M c s ps n goes j all))
+
+one_less : (n : ℕ) → 3 ≤ n → n ≡ suc (n - 1)
+one_less n l = omega (arith, l)
+
+pub operators_are_accepted : OperatorsAreAccepted
+unfolding lamina_operators
+operators_are_accepted M s ps sound e = let goes = lamina_goes M s ps sound e in all_accepted M (taken_in M) s ps (length ps) goes (length ps - 1) (one_less (length ps) goes.many)
+
+pub operators_make_lamina : OperatorsMakeLamina
+unfolding lamina_operators lamina_model
+operators_make_lamina M s ps sound e = let goes = lamina_goes M s ps sound e in all_made M (taken_in M) s ps (length ps) goes (length ps - 1) (one_less (length ps) goes.many) refl
+
+pub lamina_is_sound : LaminaIsSound
+unfolding lamina_model
+lamina_is_sound M s ps sound e = let goes = lamina_goes M s ps sound e in all_sound M (taken_in M) s ps (length ps) goes (length ps - 1) (one_less (length ps) goes.many) refl

@@ -1,0 +1,283 @@
+-- A whole loop swept: the first item raised, the rounds, and the last side closed.
+use Rattle.std.proofs.Common.{◌≡◌, ◌≢◌, ℕ, zero, suc, ◌+◌, ◌-◌, ◌≤◌, ◌<◌, List, [], ◌∷◌, ◌++◌, length, Some, None, refl, sym, ap, ◌∙◌, subst, arith, inl, inr}
+use Rattle.std.specs.Prelude.{get_or, drop}
+use Rattle.std.proofs.lemmas.Bool.Decides.{nat_tests, eqb_tells}
+use Rattle.std.proofs.lemmas.List.{drop_all}
+use Rattle.lattice.specs.declared.Point.{Point}
+use Rattle.lattice.specs.Vectors.{moved}
+use Rattle.cyclic_list.specs.Items.{IsIn, least}
+use Rattle.cyclic_list.specs.Rings.{canonical, rotate_to}
+use Rattle.cyclic_list.proofs.Lists.{count-append, tick_same, tick_other, least_le, least_in}
+use Rattle.cyclic_list.proofs.Rotations.{canonical_same, rotate_to_head}
+use Rattle.cyclic_list.proofs.Std.{IsIn-get_or}
+use Rattle.boundary_model.specs.HalfEdge.{plus, minus}
+use Rattle.boundary_model.specs.Table as table
+use Rattle.boundary_model.specs.Table.{Table, tables, same_table}
+use Rattle.boundary_model.specs.Model.{Model, cycle, tail, solid_of}
+use Rattle.boundary_model.specs.Sound.{Sound}
+use Rattle.euler_operators.specs.declared.Op.{Op}
+use Rattle.euler_operators.specs.Conditions.{first_false}
+use Rattle.euler_operators.specs.Effect.{effect}
+use Rattle.euler_laws.specs.Laws.{AreAccepted, effects}
+use Rattle.euler_laws.proofs.Cases.{effect_keeps_sound}
+use Rattle.euler_laws.proofs.Runs.{effects-append, AreAccepted-append, effects_keep_sound}
+use Rattle.euler_laws.proofs.shared.Undo.{same_model}
+use Rattle.shapes.specs.Faces.{start}
+use Rattle.shapes.specs.Fresh.{Taken}
+use Rattle.shapes.specs.Prism.{riser, top_edge, top_items, next_place, with_side, with_sides, lifted}
+use Rattle.sweeps_laws.specs.prism.Part.{lifted_part, prism_part}
+use Rattle.sweeps_laws.specs.prism.SweepOps.{raise, close, close_last, rounds, loop_ops}
+use Rattle.sweeps_laws.proofs.prism.Steps.{Around, apart_xs, with_chord, mev_does, mev_fits, mef_does, mef_fits}
+use Rattle.sweeps_laws.proofs.prism.Sides.{Ready, fits, riser_is, top_is, next_last, plus_tail_at, minus_tail_at, put_there, put_other, two_items, from_least}
+use Rattle.sweeps_laws.proofs.prism.Rounds.{drop_next, loop_within, part_loop, part_edge_free, part_face_free, part_loop_free, part_riser, part_solid, round_accepted, round_is}
+
+-- a ring that starts at its least item is in the order of listings
+canonical_first : (x : ℕ) (ys : List ℕ) → ((y : ℕ) → IsIn y (x ∷ ys) → x ≤ y) → canonical (x ∷ ys) ≡ x ∷ ys
+unfolding canonical
+canonical_first x ys low =
+    let here : IsIn x (x ∷ ys) = omega (arith, tick_same x) in
+    let is : least (x ∷ ys) ≡ x = let a = least_le (x ∷ ys) x here in let b = low (least (x ∷ ys)) (least_in (x ∷ ys) x here) in omega arith in
+    ap (λ y. rotate_to y (x ∷ ys)) is ∙ rotate_to_head x ys
+
+-- the top edges rise from the first one
+tops_head : (e n i : ℕ) → (ks : List ℕ) × (top_items e n (suc i) ≡ plus (top_edge e n 0) ∷ ks)
+tops_head e n zero = ([], refl)
+tops_head e n (suc i) = let h = tops_head e n i in (h.0 ++ plus (top_edge e n (suc i)) ∷ [], ap (λ xs. xs ++ plus (top_edge e n (suc i)) ∷ []) h.1)
+
+tops_above : (e n i y : ℕ) → 2 ≤ n → IsIn y (top_items e n i) → plus (top_edge e n 0) ≤ y
+tops_above e n zero y two h = absurd (omega arith)
+tops_above e n (suc i) y two h = elim (eqb_tells y (plus (top_edge e n i))) [
+  | inl p ↦ let s : y ≡ plus (top_edge e n i) = p.1 in omega (arith, top_is e n 0, top_is e n i)
+  | inr p ↦ tops_above e n i y two (omega (arith, h, count-append y (top_items e n i) (plus (top_edge e n i) ∷ []), tick_other y (plus (top_edge e n i)) p.1))
+]
+
+put_last_over : {X : Type 0} (t : Table X) (l r : ℕ) (a x y : X) → l ≢ r → table.put (table.put (table.put t l a) l x) r y ≡ table.put (table.put t r y) l x
+put_last_over t l r a x y ne = same_table _ _ (λ q. grind (arith, nat_tests, tables))
+
+module _ (M : Model) (c : Taken) (f l : ℕ) (d : Point) (hs : List ℕ) (w : Ready M c f l d hs) where
+  -- ---- the first item
+
+  abbrev first_item : ℕ
+  first_item = get_or hs 0 0
+
+  abbrev more_items : List ℕ
+  more_items = drop 1 hs
+
+  some_items : 0 < length hs
+  some_items = let t = two_items M c f l d hs w in omega arith
+
+  items_are : hs ≡ first_item ∷ more_items
+  items_are = drop_next hs 0 some_items
+
+  around_first : Around M l f ([] ++ first_item ∷ more_items)
+  around_first = record { sound = w.sound; at = w.at ∙ ap (λ xs. Some (record { face = f; content = cycle xs })) (sym (from_least M c f l d hs w) ∙ ap canonical items_are) }
+
+  first_accepted : first_false M (raise M c d hs 0) ≡ None
+  first_accepted = mev_fits M l f [] more_items first_item (riser c.edge 0) (c.vertex + 1 + 0) (moved (start M first_item) d) around_first
+      (w.edges_free (riser c.edge 0) (omega arith)) (w.vertices_free (c.vertex + 1 + 0) (omega arith))
+      (fits (riser c.edge 0) (omega arith) (omega (arith, w.edges_left, some_items))) (fits (c.vertex + 1 + 0) (omega arith) (omega (arith, w.vertices_left, some_items)))
+      (w.points_fit first_item (IsIn-get_or hs 0 0 some_items))
+
+  first_is : effect M (raise M c d hs 0) ≡ prism_part c f l d hs 0 M
+  unfolding prism_part
+  first_is = mev_does M l f [] more_items first_item (riser c.edge 0) (c.vertex + 1 + 0) (moved (start M first_item) d) around_first (w.edges_free (riser c.edge 0) (omega arith))
+      ∙ (λ i. record M {
+        loops = table.put M.loops l (record { face = f; content = cycle (canonical (plus (riser c.edge 0) ∷ minus (riser c.edge 0) ∷ (sym items_are) i)) });
+        edges = table.put M.edges (riser c.edge 0) (record { plus_tail = tail M first_item; minus_tail = c.vertex + 1 + 0 });
+        vertices = table.put M.vertices (c.vertex + 1 + 0) (moved (start M first_item) d);
+      })
+
+  -- ---- the rounds
+
+  abbrev pub Rounds : ℕ → Type 0
+  Rounds i = AreAccepted M (rounds M c d hs i) × (effects M (rounds M c d hs i) ≡ prism_part c f l d hs i M)
+
+  part_sound : (i : ℕ) → Rounds i → Sound (prism_part c f l d hs i M)
+  part_sound i r = subst Sound r.1 (effects_keep_sound M (rounds M c d hs i) w.sound r.0)
+
+  pub rounds_go : (i : ℕ) → i < length hs → Rounds i
+  rounds_go zero lt = ((first_accepted, tt), first_is)
+  rounds_go (suc i) lt =
+      let r : Rounds i = rounds_go i (omega arith) in
+      let s : Sound (prism_part c f l d hs i M) = part_sound i r in (
+        AreAccepted-append M (rounds M c d hs i) (raise M c d hs (suc i) ∷ close c (length hs) i ∷ []) r.0
+            (subst (λ X. AreAccepted X (raise M c d hs (suc i) ∷ close c (length hs) i ∷ [])) (sym r.1) (round_accepted M c f l d hs w i lt s)),
+        effects-append M (rounds M c d hs i) (raise M c d hs (suc i) ∷ close c (length hs) i ∷ [])
+            ∙ ap (λ X. effects X (raise M c d hs (suc i) ∷ close c (length hs) i ∷ [])) r.1 ∙ round_is M c f l d hs w i lt s,
+      )
+
+  -- the row of the first top edge
+  first_top : (i : ℕ) → i < length hs → table.get (with_sides c (solid_of M f) d hs (suc i) M).edges (top_edge c.edge (length hs) 0) ≡ Some (record { plus_tail = c.vertex + 1 + 0; minus_tail = c.vertex + 1 + next_place (length hs) 0 })
+  unfolding with_side
+  first_top zero lt = put_there _ _ _
+  first_top (suc i) lt =
+      let two = two_items M c f l d hs w in
+      put_other _ _ _ (top_edge c.edge (length hs) 0) (λ s. omega (arith, top_is c.edge (length hs) 0, top_is c.edge (length hs) (suc i)))
+      ∙ put_other _ _ _ (top_edge c.edge (length hs) 0) (λ s. omega (arith, top_is c.edge (length hs) 0, riser_is c.edge (suc i)))
+      ∙ first_top i (omega arith)
+
+  -- ---- the last side, over item j + 1
+
+  module _ (j : ℕ) (last : suc (suc j) ≡ length hs) (sound : Sound (prism_part c f l d hs (suc j) M)) where
+    abbrev P : Model
+    P = prism_part c f l d hs (suc j) M
+
+    abbrev k : ℕ
+    k = plus (top_edge c.edge (length hs) 0)
+
+    abbrev T : List ℕ
+    T = (tops_head c.edge (length hs) j).0
+
+    abbrev a : ℕ
+    a = plus (riser c.edge 0)
+
+    abbrev b : ℕ
+    b = minus (riser c.edge (suc j))
+
+    abbrev h : ℕ
+    h = get_or hs (suc j) 0
+
+    abbrev t : ℕ
+    t = top_edge c.edge (length hs) (suc j)
+
+    abbrev s : ℕ
+    s = c.face + 1 + suc j
+
+    abbrev r : ℕ
+    r = c.loop + 1 + suc j
+
+    abbrev X2 : List ℕ
+    X2 = (b ∷ h ∷ a ∷ []) ++ k ∷ T
+
+    abbrev X3 : List ℕ
+    X3 = plus t ∷ k ∷ T
+
+    abbrev X4 : List ℕ
+    X4 = (b ∷ h ∷ a ∷ []) ++ minus t ∷ []
+
+    abbrev N : Model
+    N = with_chord P l f X3 t (record { plus_tail = tail P b; minus_tail = tail P k }) s r X4
+
+    tops_are : top_items c.edge (length hs) (suc j) ≡ k ∷ T
+    tops_are = (tops_head c.edge (length hs) j).1
+
+    list_is : lifted_part c hs (suc j) ≡ (a ∷ k ∷ T) ++ b ∷ h ∷ []
+    list_is = (λ i. a ∷ tops_are i ++ b ∷ (drop_next hs (suc j) (omega (arith, last)) ∙ ap (λ xs. h ∷ xs) (drop_all (suc (suc j)) hs (omega (arith, last)))) i)
+
+    around_part : Around P l f ((a ∷ k ∷ T) ++ b ∷ h ∷ [])
+    around_part = record { sound = sound; at = part_loop M c f l d hs w (suc j) ∙ ap (λ xs. Some (record { face = f; content = cycle (canonical xs) })) list_is }
+
+    turned : canonical ((a ∷ k ∷ T) ++ b ∷ h ∷ []) ≡ canonical X2
+    turned = canonical_same ((a ∷ k ∷ T) ++ b ∷ h ∷ []) X2 (record { front = a ∷ k ∷ T; back = b ∷ h ∷ []; here = refl; there = refl }) (apart_xs P l f ((a ∷ k ∷ T) ++ b ∷ h ∷ []) around_part)
+
+    around_last : Around P l f X2
+    around_last = record { sound = sound; at = around_part.at ∙ ap (λ xs. Some (record { face = f; content = cycle xs })) turned }
+
+    two : 2 ≤ length hs
+    two = two_items M c f l d hs w
+
+    t_free : table.get P.edges t ≡ None
+    t_free = part_edge_free M c f l d hs w (suc j) t (λ e. omega (arith, last, top_is c.edge (length hs) (suc j), riser_is c.edge (suc j)))
+        (λ i lt. ((λ e. omega (arith, last, top_is c.edge (length hs) (suc j), riser_is c.edge i)), (λ e. omega (arith, last, top_is c.edge (length hs) (suc j), top_is c.edge (length hs) i))))
+        (omega (arith, top_is c.edge (length hs) (suc j)))
+
+    r_other : l ≢ r
+    r_other e = omega (arith, loop_within M c f l d hs w)
+
+    r_free : table.get P.loops r ≡ None
+    r_free = part_loop_free M c f l d hs w (suc j) r (omega arith)
+
+    tail_b : tail P b ≡ c.vertex + 1 + suc j
+    tail_b = minus_tail_at P (riser c.edge (suc j)) _ (part_riser M c f l d hs w (suc j))
+
+    first_row : table.get P.edges (top_edge c.edge (length hs) 0) ≡ Some (record { plus_tail = c.vertex + 1 + 0; minus_tail = c.vertex + 1 + next_place (length hs) 0 })
+    unfolding prism_part
+    first_row = put_other _ _ _ (top_edge c.edge (length hs) 0) (λ e. omega (arith, two, top_is c.edge (length hs) 0, riser_is c.edge (suc j))) ∙ first_top j (omega (arith, last))
+
+    tail_k : tail P k ≡ c.vertex + 1 + 0
+    tail_k = plus_tail_at P (top_edge c.edge (length hs) 0) _ first_row
+
+    accepted : first_false P (close_last c (length hs) (suc j)) ≡ None
+    accepted = mef_fits P l f b k (h ∷ a ∷ []) T t s r around_last t_free r_free (part_face_free M c f l d hs w (suc j) s (omega arith))
+        (λ e. let q : c.vertex + 1 + suc j ≡ c.vertex + 1 + 0 = sym tail_b ∙ e ∙ tail_k in omega arith)
+        (fits t (omega (arith, top_is c.edge (length hs) (suc j))) (omega (arith, top_is c.edge (length hs) (suc j), w.edges_left, last)))
+        (fits s (omega arith) (omega (arith, w.faces_left, last)))
+        (fits r (omega arith) (omega (arith, w.loops_left, last)))
+
+    does : effect P (close_last c (length hs) (suc j)) ≡ N
+    does = mef_does P l f b k (h ∷ a ∷ []) T t s r around_last t_free r_free
+
+    sound_after : Sound N
+    sound_after = subst Sound does (effect_keeps_sound P (close_last c (length hs) (suc j)) sound accepted)
+
+    kept_there : Around N l f X3
+    kept_there = record { sound = sound_after; at = put_other _ r _ l r_other ∙ put_there _ l _ }
+
+    side_there : Around N r s X4
+    side_there = record { sound = sound_after; at = put_there _ r _ }
+
+    all_tops : top_items c.edge (length hs) (suc (suc j)) ≡ k ∷ (T ++ plus t ∷ [])
+    all_tops = ap (λ xs. xs ++ plus t ∷ []) tops_are
+
+    kept_is : canonical X3 ≡ top_items c.edge (length hs) (length hs)
+    kept_is = canonical_same X3 (k ∷ (T ++ plus t ∷ [])) (record { front = plus t ∷ []; back = k ∷ T; here = refl; there = refl }) (apart_xs N l f X3 kept_there)
+        ∙ canonical_first k (T ++ plus t ∷ []) (λ y i. tops_above c.edge (length hs) (suc (suc j)) y two (subst (IsIn y) (sym all_tops) i))
+        ∙ sym all_tops ∙ ap (top_items c.edge (length hs)) last
+
+    next_is : next_place (length hs) (suc j) ≡ 0
+    next_is = next_last (length hs) (suc j) (omega (arith, last))
+
+    side_is : canonical X4 ≡ canonical (h ∷ plus (riser c.edge (next_place (length hs) (suc j))) ∷ minus t ∷ b ∷ [])
+    side_is = canonical_same X4 (h ∷ a ∷ minus t ∷ b ∷ []) (record { front = b ∷ []; back = h ∷ a ∷ minus t ∷ []; here = refl; there = refl }) (apart_xs N r s X4 side_there)
+        ∙ ap (λ q. canonical (h ∷ plus (riser c.edge q) ∷ minus t ∷ b ∷ [])) (sym next_is)
+
+    abbrev W : Model
+    W = lifted (with_sides c (solid_of M f) d hs (suc (suc j)) M) f l (top_items c.edge (length hs) (length hs))
+
+    faces_are : N.faces ≡ W.faces
+    unfolding prism_part with_side
+    faces_are = ap (λ q. table.put (with_sides c (solid_of M f) d hs (suc j) M).faces s (record { solid = q; outer = r })) (part_solid M c f l d hs w (suc j))
+
+    loops_are : N.loops ≡ W.loops
+    unfolding prism_part with_side
+    loops_are = put_last_over _ l r _ _ _ r_other
+        ∙ (λ i. table.put (table.put (with_sides c (solid_of M f) d hs (suc j) M).loops r (record { face = s; content = cycle (side_is i) })) l (record { face = f; content = cycle (kept_is i) }))
+
+    edges_are : N.edges ≡ W.edges
+    unfolding prism_part with_side
+    edges_are = λ i. table.put P.edges t (record { plus_tail = tail_b i; minus_tail = (tail_k ∙ ap (λ q. c.vertex + 1 + q) (sym next_is)) i })
+
+    vertices_are : N.vertices ≡ W.vertices
+    unfolding prism_part with_side
+    vertices_are = refl
+
+    solids_are : N.solids ≡ W.solids
+    unfolding prism_part with_side
+    solids_are = refl
+
+    last_accepted : AreAccepted P (close_last c (length hs) (suc j) ∷ [])
+    last_accepted = (accepted, tt)
+
+    last_is : effects P (close_last c (length hs) (suc j) ∷ []) ≡ lifted (with_sides c (solid_of M f) d hs (length hs) M) f l (top_items c.edge (length hs) (length hs))
+    last_is = does ∙ same_model N W solids_are faces_are loops_are edges_are vertices_are
+        ∙ ap (λ q. lifted (with_sides c (solid_of M f) d hs q M) f l (top_items c.edge (length hs) (length hs))) last
+
+  -- the operators of a loop sweep it
+  abbrev Swept : List Op → Type 0
+  Swept ops = AreAccepted M ops × (effects M ops ≡ lifted (with_sides c (solid_of M f) d hs (length hs) M) f l (top_items c.edge (length hs) (length hs)))
+
+  swept_at : (j : ℕ) → suc (suc j) ≡ length hs → Swept (rounds M c d hs (suc j) ++ close_last c (length hs) (suc j) ∷ [])
+  swept_at j last =
+      let r : Rounds (suc j) = rounds_go (suc j) (omega (arith, last)) in
+      let s : Sound (prism_part c f l d hs (suc j) M) = part_sound (suc j) r in (
+        AreAccepted-append M (rounds M c d hs (suc j)) (close_last c (length hs) (suc j) ∷ []) r.0 (subst (λ X. AreAccepted X (close_last c (length hs) (suc j) ∷ [])) (sym r.1) (last_accepted j last s)),
+        effects-append M (rounds M c d hs (suc j)) (close_last c (length hs) (suc j) ∷ []) ∙ ap (λ X. effects X (close_last c (length hs) (suc j) ∷ [])) r.1 ∙ last_is j last s,
+      )
+
+  pub loop_swept : Swept (loop_ops M c d hs)
+  loop_swept =
+      let two : 2 ≤ length hs = two_items M c f l d hs w in
+      let j : ℕ = length hs - 2 in
+      let last : suc (suc (length hs - 2)) ≡ length hs = omega arith in
+      let is : suc (length hs - 2) ≡ length hs - 1 = omega arith in
+      subst (λ i. Swept (rounds M c d hs i ++ close_last c (length hs) i ∷ [])) is (swept_at (length hs - 2) last)

@@ -1,0 +1,239 @@
+-- What mev at one corner and mef make of a sound model of which one loop is known.
+use Rattle.std.proofs.Common.{◌≡◌, ◌≢◌, ℕ, zero, suc, cond, List, [], ◌∷◌, ◌++◌, Some, None, is_some, IsTrue, refl, sym, ap, ◌∙◌, subst, arith}
+use Rattle.std.proofs.lemmas.Bool.{eq-eqb}
+use Rattle.std.proofs.lemmas.Bool.Decides.{nat_tests}
+use Rattle.lattice.specs.declared.Point.{Point}
+use Rattle.lattice.specs.Point.{IsInRange}
+use Rattle.boundary_model.specs.declared.Corner.TheVariants.{At}
+use Rattle.cyclic_list.specs.Items.{count, IsIn, IsApart}
+use Rattle.cyclic_list.specs.Rings.{canonical, rotate_to, upto, onward, IsRotation}
+use Rattle.cyclic_list.specs.Rings as rings
+use Rattle.cyclic_list.specs.Edits.{insert_before}
+use Rattle.cyclic_list.proofs.Lists.{count-append, tick_same, tick_other}
+use Rattle.cyclic_list.proofs.Rotations.{canonical-rotates, count-canonical, rotate_to_same, rotate_at, rotate_to_head, canonical_same}
+use Rattle.cyclic_list.proofs.Cuts.{upto_itself, onward_itself, upto_once}
+use Rattle.cyclic_list.proofs.Edits.{count-insert_before}
+use Rattle.cyclic_list.proofs.Operators.{apart_front}
+use Rattle.boundary_model.specs.HalfEdge.{edge_of, plus, minus, code, half}
+use Rattle.boundary_model.specs.Table as table
+use Rattle.boundary_model.specs.Table.{Table, tables, same_table}
+use Rattle.boundary_model.specs.Model.{Model, EdgeRow, cycle, items_of, holds, tail, loop_of, content, face_of, solid_of, cycle_of, arc, round, is_number}
+use Rattle.boundary_model.specs.Sound.{Sound, HasHalf, StandsIn}
+use Rattle.boundary_model.proofs.Halves.{plus_row, minus_row, code-half}
+use Rattle.boundary_model.proofs.Tables.{map_one, map_same, map-put}
+use Rattle.boundary_model.proofs.Models.{content_row, face_row, in-holds, not_held, other_loop}
+use Rattle.euler_operators.specs.declared.Op.TheVariants.{Mev, Mef}
+use Rattle.euler_operators.specs.Conditions.{face_at, first_false}
+use Rattle.euler_operators.specs.Effect.{effect, mev_at, mef, with_before, with_tails, edge_row}
+use Rattle.euler_laws.proofs.shared.Rows.{where_held_none, where_held_there}
+use Rattle.euler_laws.proofs.shared.Undo.{both_in, mate_plus}
+use Rattle.euler_laws.proofs.mev.MevSound.{MevGoes}
+use Rattle.euler_laws.proofs.mev.Mev.{mev_accepted}
+use Rattle.euler_laws.proofs.mef.MefUndo.{loops-mef}
+use Rattle.euler_laws.proofs.mef.MefSound.{MefGoes}
+use Rattle.euler_laws.proofs.mef.Kef.{mef_accepted}
+
+pub edge_plus : (e : ℕ) → edge_of (plus e) ≡ e
+edge_plus e = (plus_row e).0
+
+pub row_plus : (e a b : ℕ) → edge_row (plus e) a b ≡ record { plus_tail = a; minus_tail = b }
+row_plus e a b = ap (λ t. cond t (record { plus_tail = a; minus_tail = b }) (record { plus_tail = b; minus_tail = a })) (plus_row e).1
+
+-- an arc from a half-edge to itself is empty
+arc_none : (next : ℕ → ℕ) (g n : ℕ) → rings.arc next g g n ≡ []
+arc_none next g zero = refl
+arc_none next g (suc n) = rw (eq-eqb g g refl) refl
+
+put_twice : {X : Type 0} (t : Table X) (n : ℕ) (x y : X) → table.put (table.put t n x) n y ≡ table.put t n y
+put_twice t n x y = same_table _ _ (λ q. grind (arith, nat_tests, tables))
+
+-- a loop of a model, written from anywhere on
+pub record Around (M : Model) (l f : ℕ) (xs : List ℕ) : Type 0 where
+  pub sound : Sound M
+  pub at : table.get M.loops l ≡ Some (record { face = f; content = cycle (canonical xs) })
+
+module _ (M : Model) (l f : ℕ) (xs : List ℕ) (a : Around M l f xs) where
+  pub content_is : content M l ≡ cycle (canonical xs)
+  content_is = content_row M l (record { face = f; content = cycle (canonical xs) }) a.at
+
+  pub face_is : face_of M l ≡ f
+  face_is = face_row M l (record { face = f; content = cycle (canonical xs) }) a.at
+
+  pub canonical_apart : IsApart (canonical xs)
+  canonical_apart = (a.sound.cycles l (canonical xs) (ap is_some a.at) content_is).apart
+
+  pub apart_xs : IsApart xs
+  apart_xs = λ x. omega (arith, canonical_apart x, count-canonical x xs)
+
+  pub stands_in : (g : ℕ) → IsIn g xs → StandsIn M g l
+  stands_in g i = ap (holds g) content_is ∙ in-holds g (cycle (canonical xs)) (omega (arith, i, count-canonical g xs))
+
+  pub loop_is : (g : ℕ) → IsIn g xs → loop_of M g ≡ l
+  loop_is g i = a.sound.one_loop g l (stands_in g i)
+
+  pub half_is : (g : ℕ) → IsIn g xs → HasHalf M g
+  half_is g i = a.sound.only_edges g l (stands_in g i)
+
+  pub cycle_is : (g : ℕ) → IsIn g xs → cycle_of M g ≡ canonical xs
+  cycle_is g i = ap (λ q. items_of (content M q)) (loop_is g i) ∙ ap items_of content_is
+
+  pub rotated_canonical : (g : ℕ) → IsIn g xs → rotate_to g (canonical xs) ≡ rotate_to g xs
+  rotated_canonical g i = sym (rotate_to_same g xs (canonical xs) (canonical-rotates xs) apart_xs i)
+
+-- the model with another cycle in loop l, one more edge and one more vertex
+abbrev pub with_spur : Model → ℕ → ℕ → List ℕ → ℕ → EdgeRow → ℕ → Point → Model
+with_spur M l f xs u row v p = record M {
+  loops = table.put M.loops l (record { face = f; content = cycle (canonical xs) });
+  edges = table.put M.edges u row;
+  vertices = table.put M.vertices v p;
+}
+
+-- mev at one corner: the new edge stands before g, there and back
+module _ (M : Model) (l f : ℕ) (ps qs : List ℕ) (g u v : ℕ) (p : Point) (a : Around M l f (ps ++ g ∷ qs)) (edge_free : table.get M.edges u ≡ None) where
+  abbrev ys : List ℕ
+  ys = canonical (ps ++ g ∷ qs)
+
+  g_in : IsIn g (ps ++ g ∷ qs)
+  g_in = omega (arith, count-append g ps (g ∷ qs), tick_same g)
+
+  g_here : IsIn g (canonical (ps ++ g ∷ qs))
+  g_here = omega (arith, g_in, count-canonical g (ps ++ g ∷ qs))
+
+  g_once : count g ps ≡ 0
+  g_once = omega (arith, apart_xs M l f (ps ++ g ∷ qs) a g, count-append g ps (g ∷ qs), tick_same g)
+
+  none_new : (x : ℕ) → edge_of x ≡ u → count x (canonical (ps ++ g ∷ qs)) ≡ 0
+  none_new x e = not_held M a.sound x (ap (table.get M.edges) e ∙ edge_free) l (record { face = f; content = cycle (canonical (ps ++ g ∷ qs)) }) a.at
+
+  new_apart : plus u ≢ minus u
+  new_apart e = omega arith
+
+  put_in_loop : (x : ℕ) → table.map_rows (with_before g x) M.loops ≡ table.put M.loops l (record { face = f; content = cycle (canonical (insert_before g x (canonical (ps ++ g ∷ qs)))) })
+  put_in_loop x =
+      map_one (with_before g x) M.loops l (record { face = f; content = cycle (canonical (ps ++ g ∷ qs)) }) a.at
+      (λ q row ne at. where_held_none g (λ hs. cycle (canonical (insert_before g x hs))) q row (other_loop M a.sound g q row (λ e. ne (e ∙ loop_is M l f (ps ++ g ∷ qs) a g g_in)) at))
+      ∙ ap (table.put M.loops l) (where_held_there g (λ hs. cycle (canonical (insert_before g x hs))) l (record { face = f; content = cycle (canonical (ps ++ g ∷ qs)) }) (in-holds g (cycle (canonical (ps ++ g ∷ qs))) g_here))
+
+  turned_apart : IsApart (plus u ∷ minus u ∷ g ∷ (qs ++ ps))
+  turned_apart =
+      let base : IsApart (g ∷ (qs ++ ps)) = λ x. omega (arith, apart_xs M l f (ps ++ g ∷ qs) a x, count-append x ps (g ∷ qs), count-append x qs ps) in
+      let same : (x : ℕ) → count x (g ∷ (qs ++ ps)) ≡ count x (canonical (ps ++ g ∷ qs)) = λ x. omega (arith, count-canonical x (ps ++ g ∷ qs), count-append x ps (g ∷ qs), count-append x qs ps) in
+      let no_m : count (minus u) (g ∷ (qs ++ ps)) ≡ 0 = same (minus u) ∙ none_new (minus u) (minus_row u).0 in
+      let no_h : count (plus u) (minus u ∷ g ∷ (qs ++ ps)) ≡ 0 = omega (arith, same (plus u), none_new (plus u) (plus_row u).0, tick_other (plus u) (minus u) new_apart) in
+      apart_front (plus u) (minus u ∷ g ∷ (qs ++ ps)) no_h (apart_front (minus u) (g ∷ (qs ++ ps)) no_m base)
+
+  turned : rotate_to g (canonical (ps ++ g ∷ qs)) ≡ g ∷ (qs ++ ps)
+  turned = rotated_canonical M l f (ps ++ g ∷ qs) a g g_in ∙ rotate_at g ps qs g_once
+
+  items_are : canonical (insert_before g (minus u) (canonical (insert_before g (plus u) (canonical (ps ++ g ∷ qs))))) ≡ canonical (ps ++ plus u ∷ minus u ∷ g ∷ qs)
+  items_are =
+      both_in (canonical (ps ++ g ∷ qs)) (canonical_apart M l f (ps ++ g ∷ qs) a) (plus u) (minus u) g g g_here g_here new_apart (none_new (plus u) (plus_row u).0) (none_new (minus u) (minus_row u).0)
+      ∙ (λ i. canonical ((plus u ∷ upto_itself g (canonical (ps ++ g ∷ qs)) g_here i) ++ minus u ∷ (onward_itself g (canonical (ps ++ g ∷ qs)) g_here ∙ turned) i))
+      ∙ canonical_same (plus u ∷ minus u ∷ g ∷ (qs ++ ps)) (ps ++ plus u ∷ minus u ∷ g ∷ qs) (record { front = plus u ∷ minus u ∷ g ∷ qs; back = ps; here = refl; there = refl }) turned_apart
+
+  still_here : IsIn g (canonical (insert_before g (plus u) (canonical (ps ++ g ∷ qs))))
+  still_here = omega (arith, g_here, count-canonical g (insert_before g (plus u) (canonical (ps ++ g ∷ qs))), count-insert_before g g (plus u) (canonical (ps ++ g ∷ qs)) g_here)
+
+  loops_are : table.map_rows (with_before g (minus u)) (table.map_rows (with_before g (plus u)) M.loops) ≡ table.put M.loops l (record { face = f; content = cycle (canonical (ps ++ plus u ∷ minus u ∷ g ∷ qs)) })
+  loops_are =
+      ap (table.map_rows (with_before g (minus u))) (put_in_loop (plus u))
+      ∙ map-put (with_before g (minus u)) M.loops l (record { face = f; content = cycle (canonical (insert_before g (plus u) (canonical (ps ++ g ∷ qs)))) })
+      ∙ ap (λ t. table.put t l (with_before g (minus u) l (record { face = f; content = cycle (canonical (insert_before g (plus u) (canonical (ps ++ g ∷ qs)))) }))) (put_in_loop (minus u))
+      ∙ put_twice M.loops l _ _
+      ∙ ap (table.put M.loops l) (where_held_there g (λ hs. cycle (canonical (insert_before g (minus u) hs))) l (record { face = f; content = cycle (canonical (insert_before g (plus u) (canonical (ps ++ g ∷ qs)))) })
+      (in-holds g (cycle (canonical (insert_before g (plus u) (canonical (ps ++ g ∷ qs))))) still_here)
+      ∙ ap (λ xs. record { face = f; content = cycle xs }) items_are)
+
+  arc_is_none : arc M g g ≡ []
+  unfolding arc
+  arc_is_none = arc_none (round M) g _
+
+  edges_are : table.put (table.map_rows (with_tails (arc M g g) v) M.edges) (edge_of (plus u)) (edge_row (plus u) (tail M g) v) ≡ table.put M.edges u (record { plus_tail = tail M g; minus_tail = v })
+  edges_are =
+      (λ i. table.put (table.map_rows (with_tails (arc_is_none i) v) M.edges) (edge_plus u i) (row_plus u (tail M g) v i))
+      ∙ ap (λ t. table.put t u (record { plus_tail = tail M g; minus_tail = v })) (map_same (with_tails [] v) M.edges (λ q x at. refl))
+
+  pub mev_here : mev_at M g g (plus u) v p ≡ with_spur M l f (ps ++ plus u ∷ minus u ∷ g ∷ qs) u (record { plus_tail = tail M g; minus_tail = v }) v p
+  unfolding mev_at
+  mev_here = λ i. record M {
+    loops = ((λ j. table.map_rows (with_before g (mate_plus u j)) (table.map_rows (with_before g (plus u)) M.loops)) ∙ loops_are) i;
+    edges = edges_are i;
+    vertices = table.put M.vertices v p;
+  }
+
+  pub mev_does : effect M (Mev (At (half g)) (At (half g)) (half (plus u)) v p) ≡ with_spur M l f (ps ++ plus u ∷ minus u ∷ g ∷ qs) u (record { plus_tail = tail M g; minus_tail = v }) v p
+  unfolding effect
+  mev_does = (λ i. mev_at M (code-half g i) (code-half g i) (code-half (plus u) i) v p) ∙ mev_here
+
+  pub mev_fits : table.get M.vertices v ≡ None → IsTrue (is_number u) → IsTrue (is_number v) → IsInRange p → first_false M (Mev (At (half g)) (At (half g)) (half (plus u)) v p) ≡ None
+  mev_fits vertex_free edge_fits vertex_fits point_fits =
+      let there : HasHalf M g = half_is M l f (ps ++ g ∷ qs) a g g_in in
+      let goes : MevGoes M g g (plus u) v p = record {
+        g_there = there;
+        k_there = there;
+        edge_free = ap (table.get M.edges) (edge_plus u) ∙ edge_free;
+        vertex_free = vertex_free;
+        one_tail = refl;
+        edge_fits = ap is_number (edge_plus u) ∙ edge_fits;
+        vertex_fits = vertex_fits;
+        point_fits = point_fits;
+      } in
+      mev_accepted M (half g) (half g) (half (plus u)) v p a.sound
+      (subst (λ x. MevGoes M x x (code (half (plus u))) v p) (sym (code-half g)) (subst (λ x. MevGoes M g g x v p) (sym (code-half (plus u))) goes))
+
+-- the model with loop l parted in two, and one more edge and face
+abbrev pub with_chord : Model → ℕ → ℕ → List ℕ → ℕ → EdgeRow → ℕ → ℕ → List ℕ → Model
+with_chord M l f xs t row s r ys = record M {
+  faces = table.put M.faces s (record { solid = solid_of M f; outer = r });
+  loops = table.put (table.put M.loops l (record { face = f; content = cycle (canonical xs) })) r (record { face = s; content = cycle (canonical ys) });
+  edges = table.put M.edges t row;
+}
+
+-- mef between g and k of one loop
+module _ (M : Model) (l f : ℕ) (g k : ℕ) (ps qs : List ℕ) (t s r : ℕ) (a : Around M l f ((g ∷ ps) ++ k ∷ qs)) (edge_free : table.get M.edges t ≡ None) (loop_free : table.get M.loops r ≡ None) where
+  first_in : IsIn g ((g ∷ ps) ++ k ∷ qs)
+  first_in = omega (arith, tick_same g)
+
+  second_in : IsIn k ((g ∷ ps) ++ k ∷ qs)
+  second_in = omega (arith, count-append k (g ∷ ps) (k ∷ qs), tick_same k)
+
+  parts : (upto g k (cycle_of M g) ≡ g ∷ ps) × (onward g k (cycle_of M g) ≡ k ∷ qs)
+  parts = let w = upto_once g k (canonical ((g ∷ ps) ++ k ∷ qs)) (g ∷ ps) qs (canonical_apart M l f ((g ∷ ps) ++ k ∷ qs) a)
+      (rotated_canonical M l f ((g ∷ ps) ++ k ∷ qs) a g first_in ∙ rotate_to_head g (ps ++ k ∷ qs)) in
+      let c : cycle_of M g ≡ canonical ((g ∷ ps) ++ k ∷ qs) = cycle_is M l f ((g ∷ ps) ++ k ∷ qs) a g first_in in
+      (ap (upto g k) c ∙ w.0, ap (onward g k) c ∙ w.1)
+
+  chord_loops : (mef M g k (plus t) s r).loops ≡ table.put (table.put M.loops l (record { face = f; content = cycle (canonical (plus t ∷ k ∷ qs)) })) r (record { face = s; content = cycle (canonical ((g ∷ ps) ++ minus t ∷ [])) })
+  chord_loops = let at : loop_of M g ≡ l = loop_is M l f ((g ∷ ps) ++ k ∷ qs) a g first_in in
+      loops-mef M a.sound g k (plus t) s r (half_is M l f ((g ∷ ps) ++ k ∷ qs) a g first_in) (ap (table.get M.edges) (edge_plus t) ∙ edge_free) loop_free
+      ∙ (λ i. table.put (table.put M.loops (at i) (record { face = (ap (face_of M) at ∙ face_is M l f ((g ∷ ps) ++ k ∷ qs) a) i; content = cycle (canonical (plus t ∷ parts.1 i)) })) r
+      (record { face = s; content = cycle (canonical (parts.0 i ++ mate_plus t i ∷ [])) }))
+
+  pub mef_here : mef M g k (plus t) s r ≡ with_chord M l f (plus t ∷ k ∷ qs) t (record { plus_tail = tail M g; minus_tail = tail M k }) s r ((g ∷ ps) ++ minus t ∷ [])
+  unfolding mef
+  mef_here = let at : face_at M g ≡ f = ap (face_of M) (loop_is M l f ((g ∷ ps) ++ k ∷ qs) a g first_in) ∙ face_is M l f ((g ∷ ps) ++ k ∷ qs) a in λ i. record M {
+    faces = table.put M.faces s (record { solid = solid_of M (at i); outer = r });
+    loops = chord_loops i;
+    edges = table.put M.edges (edge_plus t i) (row_plus t (tail M g) (tail M k) i);
+  }
+
+  pub mef_does : effect M (Mef (half g) (half k) (half (plus t)) s r) ≡ with_chord M l f (plus t ∷ k ∷ qs) t (record { plus_tail = tail M g; minus_tail = tail M k }) s r ((g ∷ ps) ++ minus t ∷ [])
+  unfolding effect
+  mef_does = (λ i. mef M (code-half g i) (code-half k i) (code-half (plus t) i) s r) ∙ mef_here
+
+  pub mef_fits : table.get M.faces s ≡ None → tail M g ≢ tail M k → IsTrue (is_number t) → IsTrue (is_number s) → IsTrue (is_number r) → first_false M (Mef (half g) (half k) (half (plus t)) s r) ≡ None
+  mef_fits face_free ends_apart edge_fits face_fits loop_fits =
+      let goes : MefGoes M g k (plus t) s r = record {
+        g_there = half_is M l f ((g ∷ ps) ++ k ∷ qs) a g first_in;
+        k_there = half_is M l f ((g ∷ ps) ++ k ∷ qs) a k second_in;
+        edge_free = ap (table.get M.edges) (edge_plus t) ∙ edge_free;
+        face_free = face_free;
+        loop_free = loop_free;
+        one_loop = loop_is M l f ((g ∷ ps) ++ k ∷ qs) a k second_in ∙ sym (loop_is M l f ((g ∷ ps) ++ k ∷ qs) a g first_in);
+        ends_apart = ends_apart;
+        edge_fits = ap is_number (edge_plus t) ∙ edge_fits;
+        face_fits = face_fits;
+        loop_fits = loop_fits;
+      } in
+      mef_accepted M (half g) (half k) (half (plus t)) s r a.sound
+      (subst (λ x. MefGoes M x (code (half k)) (code (half (plus t))) s r) (sym (code-half g)) (subst (λ x. MefGoes M g x (code (half (plus t))) s r) (sym (code-half k)) (subst (λ x. MefGoes M g k x s r) (sym (code-half (plus t))) goes)))

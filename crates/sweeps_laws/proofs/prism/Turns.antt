@@ -1,0 +1,95 @@
+-- The steps of a loop's sweep, as they are taken one after the other.
+use Rattle.std.proofs.Common.{◌≡◌, ◌≢◌, ℕ, suc, ◌+◌, ◌-◌, ◌≤◌, ◌<◌, List, [], ◌∷◌, ◌++◌, length, Option, None, is_some, true, true≢false, unwrap_or, refl, sym, ap, ◌∙◌, subst, arith}
+use Rattle.std.specs.Prelude.{get_or}
+use Rattle.lattice.specs.declared.Point.{Point}
+use Rattle.lattice.specs.Point.{IsInRange}
+use Rattle.lattice.specs.Vectors.{moved}
+use Rattle.cyclic_list.specs.Items.{IsIn}
+use Rattle.cyclic_list.proofs.Std.{IsIn-get_or}
+use Rattle.boundary_model.specs.declared.Corner.TheVariants.{At}
+use Rattle.boundary_model.specs.HalfEdge.{edge_of, half, plus}
+use Rattle.boundary_model.specs.Table as table
+use Rattle.boundary_model.specs.Model.{Model, no_point, point_of, tail}
+use Rattle.boundary_model.specs.Sound.{HasHalf}
+use Rattle.euler_operators.specs.declared.Op.{Op}
+use Rattle.euler_operators.specs.declared.Op.TheVariants.{Mev}
+use Rattle.euler_operators.specs.Conditions.{first_false}
+use Rattle.euler_operators.specs.Effect.{effect}
+use Rattle.euler_laws.specs.Laws.{AreAccepted, effects}
+use Rattle.euler_laws.proofs.Runs.{effects-append}
+use Rattle.shapes.specs.Faces.{start}
+use Rattle.shapes.specs.Fresh.{Taken}
+use Rattle.shapes.specs.Prism.{riser, with_sides}
+use Rattle.sweeps_laws.specs.prism.Part.{prism_part}
+use Rattle.sweeps_laws.specs.prism.SweepOps.{raise_item, raise, close, close_last, rounds, loop_ops}
+use Rattle.sweeps_laws.proofs.prism.Sides.{Ready, riser_is, put_other, within, half_there, old_edge, sides_vertices, two_items}
+use Rattle.sweeps_laws.proofs.prism.Rounds.{part_tail}
+use Rattle.sweeps_laws.proofs.prism.Loops.{rounds_go, loop_swept}
+
+-- of lists of operators accepted one after the other, the second is accepted after the first
+pub AreAccepted-back : (M : Model) (ops more : List Op) → AreAccepted M (ops ++ more) → AreAccepted (effects M ops) more
+AreAccepted-back M [] more a = a
+AreAccepted-back M (op ∷ ops) more a = AreAccepted-back (effect M op) ops more a.1
+
+module _ (M : Model) (c : Taken) (f l : ℕ) (d : Point) (hs : List ℕ) (w : Ready M c f l d hs) where
+  -- the model once the item at place i is raised and the sides before it stand
+  abbrev N : ℕ → Model
+  N i = effects M (rounds M c d hs i)
+
+  part_half : (i h : ℕ) → HasHalf M h → HasHalf (prism_part c f l d hs i M) h
+  unfolding prism_part
+  part_half i h there =
+      let b : edge_of h ≤ c.edge = within M.edges c.edge (edge_of h) w.edges_free there in
+      ap is_some (put_other _ _ _ (edge_of h) (λ s. omega (arith, riser_is c.edge i)) ∙ old_edge M c f l d hs w i (edge_of h) there) ∙ there
+
+  part_point : (i v : ℕ) → table.get M.vertices v ≢ None → point_of (prism_part c f l d hs i M) v ≡ point_of M v
+  unfolding prism_part point_of
+  part_point i v there = ap (λ o. unwrap_or o no_point) (put_other _ _ _ v (λ s. there (w.vertices_free v (omega arith))) ∙ sides_vertices M c f l d hs w i v (λ j lt s. there (w.vertices_free v (omega arith))))
+
+  some_vertex : (v : ℕ) → is_some (table.get M.vertices v) ≡ true → table.get M.vertices v ≢ None
+  some_vertex v there none = true≢false (sym there ∙ ap is_some none)
+
+  part_start : (i h : ℕ) → HasHalf M h → start (prism_part c f l d hs i M) h ≡ start M h
+  part_start i h there = ap (point_of (prism_part c f l d hs i M)) (part_tail M c f l d hs w i h there) ∙ part_point i (tail M h) (some_vertex (tail M h) (w.sound.tails_there h there))
+
+  module _ (i : ℕ) (lt : i < length hs) where
+    pub turn_half : (h : ℕ) → IsIn h hs → HasHalf (N i) h
+    turn_half h j = subst (λ X. HasHalf X h) (sym (rounds_go M c f l d hs w i lt).1) (part_half i h (half_there M c f l d hs w h j))
+
+    pub turn_start : (h : ℕ) → IsIn h hs → start (N i) h ≡ start M h
+    turn_start h j = ap (λ X. start X h) (rounds_go M c f l d hs w i lt).1 ∙ part_start i h (half_there M c f l d hs w h j)
+
+    pub turn_range : (h : ℕ) → IsIn h hs → IsInRange (moved (start (N i) h) d)
+    turn_range h j = subst (λ p. IsInRange (moved p d)) (sym (turn_start h j)) (w.points_fit h j)
+
+  -- the first item
+  pub first_accepted : first_false M (raise M c d hs 0) ≡ None
+  first_accepted = (rounds_go M c f l d hs w 0 (let t = two_items M c f l d hs w in omega arith)).0.0
+
+  -- one more item
+  module _ (i : ℕ) (lt : suc i < length hs) where
+    g_in : IsIn (get_or hs (suc i) 0) hs
+    g_in = IsIn-get_or hs (suc i) 0 lt
+
+    -- told from the model then, or from the one before
+    raises : raise_item (N i) c d (get_or hs (suc i) 0) (suc i) ≡ raise M c d hs (suc i)
+    raises = ap (λ p. Mev (At (half (get_or hs (suc i) 0))) (At (half (get_or hs (suc i) 0))) (half (plus (riser c.edge (suc i)))) (c.vertex + 1 + suc i) (moved p d)) (turn_start i (omega arith) (get_or hs (suc i) 0) g_in)
+
+    both : AreAccepted (N i) (raise M c d hs (suc i) ∷ close c (length hs) i ∷ [])
+    both = AreAccepted-back M (rounds M c d hs i) (raise M c d hs (suc i) ∷ close c (length hs) i ∷ []) (rounds_go M c f l d hs w (suc i) lt).0
+
+    pub raise_accepted : first_false (N i) (raise_item (N i) c d (get_or hs (suc i) 0) (suc i)) ≡ None
+    raise_accepted = ap (first_false (N i)) raises ∙ both.0
+
+    pub close_accepted : first_false (effect (N i) (raise_item (N i) c d (get_or hs (suc i) 0) (suc i))) (close c (length hs) i) ≡ None
+    close_accepted = ap (λ op. first_false (effect (N i) op) (close c (length hs) i)) raises ∙ both.1.0
+
+    pub turn_is : effect (effect (N i) (raise_item (N i) c d (get_or hs (suc i) 0) (suc i))) (close c (length hs) i) ≡ N (suc i)
+    turn_is = ap (λ op. effect (effect (N i) op) (close c (length hs) i)) raises ∙ sym (effects-append M (rounds M c d hs i) (raise M c d hs (suc i) ∷ close c (length hs) i ∷ []))
+
+  -- and the last side
+  pub last_accepted : first_false (N (length hs - 1)) (close_last c (length hs) (length hs - 1)) ≡ None
+  last_accepted = (AreAccepted-back M (rounds M c d hs (length hs - 1)) (close_last c (length hs) (length hs - 1) ∷ []) (loop_swept M c f l d hs w).0).0
+
+  pub last_is : effect (N (length hs - 1)) (close_last c (length hs) (length hs - 1)) ≡ effects M (loop_ops M c d hs)
+  last_is = sym (effects-append M (rounds M c d hs (length hs - 1)) (close_last c (length hs) (length hs - 1) ∷ []))

@@ -1,0 +1,168 @@
+-- The loops of a face swept one after the other.
+use Rattle.std.proofs.Common.{◌≡◌, ◌≢◌, ℕ, zero, suc, ◌+◌, ◌-◌, ◌*◌, ◌≤◌, ◌<◌, List, [], ◌∷◌, ◌++◌, length, Some, None, is_some, refl, sym, ap, ◌∙◌, subst, arith}
+use Rattle.std.specs.Prelude.{get_or, map}
+use Rattle.std.proofs.lemmas.List.{length-append, length-map}
+use Rattle.lattice.specs.declared.Point.{Point}
+use Rattle.lattice.specs.Point.{IsInRange}
+use Rattle.lattice.specs.Vectors.{moved}
+use Rattle.cyclic_list.specs.Items.{count, IsIn, IsApart}
+use Rattle.cyclic_list.proofs.Lists.{tick_same}
+use Rattle.cyclic_list.proofs.Std.{IsIn-get_or}
+use Rattle.boundary_model.specs.declared.Corner.TheVariants.{At}
+use Rattle.boundary_model.specs.HalfEdge.{edge_of, half, plus}
+use Rattle.boundary_model.specs.Table as table
+use Rattle.boundary_model.specs.Table.{Table}
+use Rattle.boundary_model.specs.Model.{face_of, Model, cycle, items_of, content, tail, point_of, solid_of}
+use Rattle.boundary_model.specs.Sound.{Sound, HasHalf}
+use Rattle.boundary_model.proofs.Models.{content_row, face_row}
+use Rattle.euler_operators.specs.declared.Op.{Op}
+use Rattle.euler_operators.specs.declared.Op.TheVariants.{Mev}
+use Rattle.euler_laws.specs.Laws.{AreAccepted, effects}
+use Rattle.euler_laws.proofs.Runs.{effects-append, AreAccepted-append, effects_keep_sound}
+use Rattle.shapes.specs.Faces.{start, vertices_on, vertices_in}
+use Rattle.shapes.specs.Fresh.{Taken}
+use Rattle.shapes.specs.Prism.{riser, top_items, with_sides, lifted, raised, raised_over, prism_from}
+use Rattle.sweeps_laws.specs.prism.SweepOps.{close, close_last, rounds, loop_ops, taken_after, ops_from}
+use Rattle.sweeps_laws.proofs.prism.Sides.{Ready, riser_is, top_is, put_other, within, old_edge, old_start, sides_edges, sides_faces, sides_loops, sides_vertices, two_items}
+use Rattle.sweeps_laws.proofs.prism.Rounds.{loop_within}
+use Rattle.sweeps_laws.proofs.prism.Loops.{loop_swept}
+
+-- N has grown out of M by sweeping some loops of face f along d; ls are the other ones
+pub record Going (M N : Model) (c : Taken) (f : ℕ) (d : Point) (ls : List ℕ) : Type 0 where
+  pub sound : Sound N
+  pub faces_free : (q : ℕ) → c.face < q → table.get N.faces q ≡ None
+  pub loops_free : (q : ℕ) → c.loop < q → table.get N.loops q ≡ None
+  pub edges_free : (q : ℕ) → c.edge < q → table.get N.edges q ≡ None
+  pub vertices_free : (q : ℕ) → c.vertex < q → table.get N.vertices q ≡ None
+  pub faces_left : c.face + length (vertices_in M ls) ≤ 1000000
+  pub loops_left : c.loop + length (vertices_in M ls) ≤ 1000000
+  pub edges_left : c.edge + 2 * length (vertices_in M ls) ≤ 1000000
+  pub vertices_left : c.vertex + length (vertices_in M ls) ≤ 1000000
+  pub halves : (h : ℕ) → HasHalf M h → HasHalf N h
+  pub starts : (h : ℕ) → HasHalf M h → start N h ≡ start M h
+  pub apart : IsApart ls
+  pub rows : (l : ℕ) → IsIn l ls → table.get N.loops l ≡ Some (record { face = f; content = cycle (items_of (content M l)) })
+  pub items_there : (l : ℕ) → IsIn l ls → (h : ℕ) → IsIn h (items_of (content M l)) → HasHalf M h
+  pub contents : (l : ℕ) → IsIn l ls → content M l ≡ cycle (items_of (content M l))
+  pub points_fit : (l : ℕ) → IsIn l ls → (h : ℕ) → IsIn h (items_of (content M l)) → IsInRange (moved (start M h) d)
+
+-- the operators of a loop are told from its points alone
+same_rounds : (M N : Model) (c : Taken) (d : Point) (hs : List ℕ) → ((i : ℕ) → i < length hs → start M (get_or hs i 0) ≡ start N (get_or hs i 0)) → (i : ℕ) → i < length hs → rounds M c d hs i ≡ rounds N c d hs i
+same_rounds M N c d hs same zero lt = ap (λ p. Mev (At (half (get_or hs 0 0))) (At (half (get_or hs 0 0))) (half (plus (riser c.edge 0))) (c.vertex + 1 + 0) (moved p d) ∷ []) (same 0 lt)
+same_rounds M N c d hs same (suc i) lt = λ k. same_rounds M N c d hs same i (omega arith) k ++
+    Mev (At (half (get_or hs (suc i) 0))) (At (half (get_or hs (suc i) 0))) (half (plus (riser c.edge (suc i)))) (c.vertex + 1 + suc i) (moved (same (suc i) lt k) d) ∷ close c (length hs) i ∷ []
+
+module _ (M N : Model) (c : Taken) (f l : ℕ) (d : Point) (ls : List ℕ) (g : Going M N c f d (l ∷ ls)) where
+  abbrev hs : List ℕ
+  hs = items_of (content M l)
+
+  l_in : IsIn l (l ∷ ls)
+  l_in = omega (arith, tick_same l)
+
+  later : (k : ℕ) → IsIn k ls → IsIn k (l ∷ ls)
+  later k i = omega (arith, i)
+
+  l_once : count l ls ≡ 0
+  l_once = omega (arith, g.apart l, tick_same l)
+
+  not_l : (k : ℕ) → IsIn k ls → k ≢ l
+  not_l k i e = let z : count k ls ≡ 0 = ap (λ q. count q ls) e ∙ l_once in omega (arith, i, z)
+
+  corners_are : length (vertices_in M (l ∷ ls)) ≡ length hs + length (vertices_in M ls)
+  corners_are = ap (λ q. length (vertices_on M q ++ vertices_in M ls)) (g.contents l l_in) ∙ length-append (map (tail M) hs) (vertices_in M ls) ∙ ap (λ q. q + length (vertices_in M ls)) (length-map hs (tail M))
+
+  ready : Ready N c f l d hs
+  ready = record {
+    sound = g.sound;
+    at = g.rows l l_in;
+    faces_free = g.faces_free;
+    loops_free = g.loops_free;
+    edges_free = g.edges_free;
+    vertices_free = g.vertices_free;
+    faces_left = omega (arith, g.faces_left, corners_are);
+    loops_left = omega (arith, g.loops_left, corners_are);
+    edges_left = omega (arith, g.edges_left, corners_are);
+    vertices_left = omega (arith, g.vertices_left, corners_are);
+    points_fit = λ h i. subst (λ p. IsInRange (moved p d)) (sym (g.starts h (g.items_there l l_in h i))) (g.points_fit l l_in h i);
+  }
+
+  -- the model with this loop swept
+  abbrev N' : Model
+  N' = lifted (with_sides c (solid_of N f) d hs (length hs) N) f l (top_items c.edge (length hs) (length hs))
+
+  some_items : 0 < length hs
+  some_items = let t = two_items N c f l d hs ready in omega arith
+
+  ops_are : loop_ops M c d hs ≡ loop_ops N c d hs
+  ops_are = ap (λ ops. ops ++ close_last c (length hs) (length hs - 1) ∷ [])
+      (same_rounds M N c d hs (λ i lt. sym (g.starts (get_or hs i 0) (g.items_there l l_in (get_or hs i 0) (IsIn-get_or hs i 0 lt)))) (length hs - 1) (let s = some_items in omega arith))
+
+  accepted : AreAccepted N (loop_ops M c d hs)
+  accepted = subst (AreAccepted N) (sym ops_are) (loop_swept N c f l d hs ready).0
+
+  swept : effects N (loop_ops M c d hs) ≡ N'
+  swept = ap (effects N) ops_are ∙ (loop_swept N c f l d hs ready).1
+
+  sound_after : Sound N'
+  sound_after = subst Sound swept (effects_keep_sound N (loop_ops M c d hs) g.sound accepted)
+
+  start_after : (h : ℕ) → HasHalf N h → start N' h ≡ start N h
+  unfolding tail point_of
+  start_after h there = old_start N c f l d hs ready (length hs) h there
+
+  loop_after : (k : ℕ) → IsIn k ls → table.get N'.loops k ≡ table.get N.loops k
+  loop_after k i =
+      let b : k ≤ c.loop = within N.loops c.loop k g.loops_free (ap is_some (g.rows k (later k i))) in
+      put_other _ l _ k (not_l k i) ∙ sides_loops N c f l d hs ready (length hs) k (λ j lt s. omega arith)
+
+  next : Going M N' (taken_after c (length hs)) f d ls
+  next = record {
+    sound = sound_after;
+    faces_free = λ q a. sides_faces N c f l d hs ready (length hs) q (λ j lt s. omega arith) ∙ g.faces_free q (omega arith);
+    loops_free = λ q a. put_other _ l _ q (λ s. omega (arith, loop_within N c f l d hs ready)) ∙ sides_loops N c f l d hs ready (length hs) q (λ j lt s. omega arith) ∙ g.loops_free q (omega arith);
+    edges_free = λ q a. sides_edges N c f l d hs ready (length hs) q (λ j lt. ((λ s. omega (arith, riser_is c.edge j)), (λ s. omega (arith, top_is c.edge (length hs) j)))) ∙ g.edges_free q (omega arith);
+    vertices_free = λ q a. sides_vertices N c f l d hs ready (length hs) q (λ j lt s. omega arith) ∙ g.vertices_free q (omega arith);
+    faces_left = omega (arith, g.faces_left, corners_are);
+    loops_left = omega (arith, g.loops_left, corners_are);
+    edges_left = omega (arith, g.edges_left, corners_are);
+    vertices_left = omega (arith, g.vertices_left, corners_are);
+    halves = λ h there. ap is_some (old_edge N c f l d hs ready (length hs) (edge_of h) (g.halves h there)) ∙ g.halves h there;
+    starts = λ h there. start_after h (g.halves h there) ∙ g.starts h there;
+    apart = λ x. omega (arith, g.apart x);
+    rows = λ k i. loop_after k i ∙ g.rows k (later k i);
+    items_there = λ k i. g.items_there k (later k i);
+    contents = λ k i. g.contents k (later k i);
+    points_fit = λ k i. g.points_fit k (later k i);
+  }
+
+  raised_is : raised f d (record { model = N; taken = c }) l ≡ record { model = N'; taken = taken_after c (length hs) }
+  unfolding raised
+  raised_is = ap (λ q. raised_over f d (record { model = N; taken = c }) l (items_of q)) (content_row N l (record { face = f; content = cycle hs }) (g.rows l l_in))
+
+  -- the same, told from the model then
+  same_items : items_of (content N l) ≡ hs
+  same_items = ap items_of (content_row N l (record { face = f; content = cycle hs }) (g.rows l l_in))
+
+  pub turn_ready : Ready N c (face_of N l) l d (items_of (content N l))
+  turn_ready = subst (λ k. Ready N c k l d (items_of (content N l))) (sym (face_row N l (record { face = f; content = cycle hs }) (g.rows l l_in))) (subst (Ready N c f l d) (sym same_items) ready)
+
+  module _ (X : Model) (x : X ≡ effects N (loop_ops N c d (items_of (content N l)))) where
+    is_swept : X ≡ N'
+    is_swept = x ∙ ap (λ ks. effects N (loop_ops N c d ks)) same_items ∙ (loop_swept N c f l d hs ready).1
+
+    pub turn_next : Going M X (taken_after c (length (items_of (content N l)))) f d ls
+    turn_next = subst (λ Y. Going M Y (taken_after c (length (items_of (content N l)))) f d ls) (sym is_swept) (subst (λ ks. Going M N' (taken_after c (length ks)) f d ls) (sym same_items) next)
+
+    pub turn_model : (prism_from f d (record { model = X; taken = taken_after c (length (items_of (content N l))) }) ls).model ≡ (prism_from f d (record { model = N; taken = c }) (l ∷ ls)).model
+    turn_model = (λ j. (prism_from f d (record { model = is_swept j; taken = taken_after c (length (same_items j)) }) ls).model) ∙ ap (λ q. (prism_from f d q ls).model) (sym raised_is)
+
+-- the operators of the loops are accepted, and sweep them
+pub loops_swept : (M N : Model) (c : Taken) (f : ℕ) (d : Point) (ls : List ℕ) → Going M N c f d ls → AreAccepted N (ops_from M d c ls) × (effects N (ops_from M d c ls) ≡ (prism_from f d (record { model = N; taken = c }) ls).model)
+loops_swept M N c f d [] g = (tt, refl)
+loops_swept M N c f d (l ∷ ls) g =
+    let hs : List ℕ = items_of (content M l) in
+    let more : List Op = ops_from M d (taken_after c (length hs)) ls in
+    let rest = loops_swept M (N' M N c f l d ls g) (taken_after c (length hs)) f d ls (next M N c f l d ls g) in (
+      AreAccepted-append N (loop_ops M c d hs) more (accepted M N c f l d ls g) (subst (λ X. AreAccepted X more) (sym (swept M N c f l d ls g)) rest.0),
+      effects-append N (loop_ops M c d hs) more ∙ ap (λ X. effects X more) (swept M N c f l d ls g) ∙ rest.1 ∙ ap (λ q. (prism_from f d q ls).model) (sym (raised_is M N c f l d ls g)),
+    )

@@ -1,0 +1,110 @@
+-- Tables with rows put at the numbers after a, one after the other, and with one row rewritten.
+use Rattle.std.proofs.Common.{◌≡◌, ◌≢◌, ℕ, zero, suc, ◌+◌, ◌≤◌, ◌<◌, Bool, true, false, cond, nat_le, List, [], ◌∷◌, ◌++◌, Some, refl, sym, ap, subst, ◌∙◌, arith, ◌⊎◌, inl, inr, append-nil}
+use Rattle.std.proofs.lemmas.Bool.Decides.{nat_tests, eqb_tells}
+use Rattle.boundary_model.specs.Table as table
+use Rattle.boundary_model.specs.Table.{Table, all_in, greatest_in, map_entries, map_rows}
+use Rattle.shapes.proofs.fresh.Rows.{all_where-put_last, greatest-put_last, get-put_here, get-put_other}
+
+-- a number is at most a, one of the n after a, or above these
+pub place_cases : (q a n : ℕ) → (q ≤ a) ⊎ (((i : ℕ) × (i < n) × (q ≡ a + 1 + i)) ⊎ (a + n < q))
+place_cases q a zero = elim (nat_le q a) as (λ b. nat_le q a ≡ b → (q ≤ a) ⊎ (((i : ℕ) × (i < 0) × (q ≡ a + 1 + i)) ⊎ (a + 0 < q))) [
+  | true ↦ λ e. inl (within q a e)
+  | false ↦ λ e. inr (inr (above q a e))
+] refl where
+  within : (a n : ℕ) → nat_le a n ≡ true → a ≤ n
+  within a n e = grind (arith, nat_tests)
+
+  above : (q a : ℕ) → nat_le q a ≡ false → a + 0 < q
+  above q a e = grind (arith, nat_tests)
+place_cases q a (suc n) = elim (place_cases q a n) [
+  | inl l ↦ inl l
+  | inr (inl i) ↦ inr (inl (i.0, wider i.0 n i.1, i.2))
+  | inr (inr m) ↦ elim (eqb_tells q (a + 1 + n)) [
+    | inl e ↦ inr (inl (n, wider_last n, e.1))
+    | inr e ↦ inr (inr (past q a n m e.1))
+  ]
+] where
+  wider : (i n : ℕ) → i < n → i < suc n
+  wider i n l = omega arith
+
+  wider_last : (n : ℕ) → n < suc n
+  wider_last n = omega arith
+
+  past : (q a n : ℕ) → a + n < q → q ≢ a + 1 + n → a + suc n < q
+  past q a n l e = grind arith
+
+module _ {X : Type 0} (t : Table X) (a : ℕ) (x : ℕ → X) where
+  abbrev pub filled : ℕ → Table X
+  filled zero = t
+  filled (suc n) = table.put (filled n) (a + 1 + n) (x n)
+
+  pub filled_old : (n q : ℕ) → q ≤ a → table.get (filled n) q ≡ table.get t q
+  filled_old zero q l = refl
+  filled_old (suc n) q l = get-put_other (filled n) (a + 1 + n) (x n) q (other a n q l) ∙ filled_old n q l where
+    other : (a n q : ℕ) → q ≤ a → q ≢ a + 1 + n
+    other a n q l e = absurd (omega arith)
+
+  pub filled_new : (n i : ℕ) → i < n → table.get (filled n) (a + 1 + i) ≡ Some (x i)
+  filled_new zero i l = absurd (omega arith)
+  filled_new (suc n) i l = elim (eqb_tells i n) [
+    | inl e ↦ subst (λ k. table.get (filled (suc n)) (a + 1 + k) ≡ Some (x k)) (sym e.1) (get-put_here (filled n) (a + 1 + n) (x n))
+    | inr e ↦ get-put_other (filled n) (a + 1 + n) (x n) (a + 1 + i) (other a n i e.1) ∙ filled_new n i (less i n l e.1)
+  ] where
+    other : (a n i : ℕ) → i ≢ n → a + 1 + i ≢ a + 1 + n
+    other a n i ne e = ne (omega arith)
+
+    less : (i n : ℕ) → i < suc n → i ≢ n → i < n
+    less i n l ne = grind arith
+
+  pub filled_past : (n q : ℕ) → a + n < q → table.get (filled n) q ≡ table.get t q
+  filled_past zero q l = refl
+  filled_past (suc n) q l = get-put_other (filled n) (a + 1 + n) (x n) q (other a n q l) ∙ filled_past n q (less a n q l) where
+    other : (a n q : ℕ) → a + suc n < q → q ≢ a + 1 + n
+    other a n q l e = absurd (omega arith)
+
+    less : (a n q : ℕ) → a + suc n < q → a + n < q
+    less a n q l = omega arith
+
+  module _ (free : table.greatest t ≤ a) where
+    pub filled_greatest : (n : ℕ) → table.greatest (filled n) ≤ a + n
+    filled_greatest zero = omega (arith, free)
+    filled_greatest (suc n) = at_most (table.greatest (filled (suc n))) a n (greatest-put_last (filled n) (a + 1 + n) (x n) (below (table.greatest (filled n)) a n (filled_greatest n))) where
+      at_most : (g a n : ℕ) → g ≡ a + 1 + n → g ≤ a + suc n
+      at_most g a n e = omega arith
+
+      below : (g a n : ℕ) → g ≤ a + n → g < a + 1 + n
+      below g a n l = omega arith
+
+    -- a search lists the new numbers last, where they pass
+    pub filled_search : (p : ℕ → X → Bool) (n : ℕ) → table.all_where p (filled (suc n)) ≡ table.all_where p (filled n) ++ cond (p (a + 1 + n) (x n)) ((a + 1 + n) ∷ []) []
+    filled_search p n = all_where-put_last (filled n) (a + 1 + n) (x n) (below (table.greatest (filled n)) a n (filled_greatest n)) p where
+      below : (g a n : ℕ) → g ≤ a + n → g < a + 1 + n
+      below g a n l = omega arith
+
+    -- and lists what it did before, where no new number passes
+    pub filled_none : (p : ℕ → X → Bool) (n : ℕ) → ((i : ℕ) → p (a + 1 + i) (x i) ≡ false) → table.all_where p (filled n) ≡ table.all_where p t
+    filled_none p zero none = refl
+    filled_none p (suc n) none = filled_search p n ∙ ap (λ b. table.all_where p (filled n) ++ cond b ((a + 1 + n) ∷ []) []) (none n) ∙ append-nil (table.all_where p (filled n)) ∙ filled_none p n none
+
+module _ {X : Type 0} (f : ℕ → X → X) where
+  all_in-map : (p : ℕ → X → Bool) (es : List (ℕ × X)) → all_in p (map_entries f es) ≡ all_in (λ q x. p q (f q x)) es
+  all_in-map p [] = refl
+  all_in-map p (e ∷ es) = ap (λ ns. cond (p e.0 (f e.0 e.1)) (e.0 ∷ ns) ns) (all_in-map p es)
+
+  -- a search after a rewriting
+  pub all_where-map : (p : ℕ → X → Bool) (t : Table X) → table.all_where p (map_rows f t) ≡ table.all_where (λ q x. p q (f q x)) t
+  unfolding table.all_where map_rows
+  all_where-map p t = all_in-map p t.rows
+
+  greatest_in-map : (es : List (ℕ × X)) → greatest_in (map_entries f es) ≡ greatest_in es
+  greatest_in-map [] = refl
+  greatest_in-map (e ∷ []) = refl
+  greatest_in-map (e ∷ k ∷ es) = greatest_in-map (k ∷ es)
+
+  pub greatest-map : (t : Table X) → table.greatest (map_rows f t) ≡ table.greatest t
+  unfolding table.greatest map_rows
+  greatest-map t = greatest_in-map t.rows
+
+-- searches by tests that agree
+pub same_search : {X : Type 0} (p q : ℕ → X → Bool) (t : Table X) → ((n : ℕ) (x : X) → p n x ≡ q n x) → table.all_where p t ≡ table.all_where q t
+same_search p q t e = ap (λ r. table.all_where r t) (λ i n x. e n x i)

@@ -1,0 +1,272 @@
+-- One loop of a face swept: what the readers answer of the model after.
+use Rattle.std.proofs.Common.{◌≡◌, ◌≢◌, ℕ, ◌+◌, ◌≤◌, ◌<◌, true, false, cond, not, nat_eq, ◌&&◌, List, [], ◌∷◌, ◌++◌, length, get_or, Some, unwrap_or, refl, sym, ap, subst, ◌∙◌, arith, inl, inr, append-nil}
+use Rattle.std.proofs.lemmas.Bool.Decides.{nat_tests, eqb_tells}
+use Rattle.lattice.specs.declared.Point.{Point}
+use Rattle.lattice.specs.Vectors.{moved}
+use Rattle.cyclic_list.specs.Items.{IsIn, least, from, before}
+use Rattle.cyclic_list.specs.Rings.{canonical, rotate_to}
+use Rattle.cyclic_list.proofs.Lists.{from_at, before_at}
+use Rattle.cyclic_list.proofs.Std.{IsIn-get_or}
+use Rattle.boundary_model.specs.HalfEdge.{edge_of, plus, minus}
+use Rattle.boundary_model.specs.Table as table
+use Rattle.boundary_model.specs.Table.{Table, map_rows}
+use Rattle.boundary_model.specs.Model.{Model, lone, cycle, FaceRow, LoopRow, no_face, no_loop, items_of, tail, content, face_of, outer, solid_of, point_of, rings_of}
+use Rattle.boundary_model.specs.Sound.{Has}
+use Rattle.boundary_model.proofs.Tables.{map_one, all_where_none}
+use Rattle.boundary_model.proofs.Models.{content_row, face_row}
+use Rattle.euler_laws.proofs.shared.Rows.{loop_row}
+use Rattle.shapes.specs.Faces.{start, finish}
+use Rattle.shapes.specs.Fresh.{Taken}
+use Rattle.shapes.specs.Prism.{riser, top_edge, top_items, next_place, lifted}
+use Rattle.shapes.proofs.fresh.Rows.{get-put_here, get-put_other, at_most_greatest}
+use Rattle.sweeps_laws.proofs.swept.Filled.{place_cases, filled, filled_old, filled_new, filled_past, filled_none, all_where-map, same_search}
+use Rattle.sweeps_laws.proofs.swept.Numbers.{riser_above, top_above, next_within, tail_plus, tail_minus}
+use Rattle.sweeps_laws.proofs.swept.Sides.{Keeps, start_kept, finish_kept, grown, item, side_face, side_items, side_loop, faces_grown, loops_grown, keeps_grown, riser_row, top_row, point_grown}
+
+-- a model's numbers lie within the counters, and an outer loop is of its face
+pub record Bounded (M : Model) (c : Taken) : Type 0 where
+  pub faces : table.greatest M.faces ≤ c.face
+  pub loops : table.greatest M.loops ≤ c.loop
+  pub outers : (k : ℕ) → outer M k ≤ c.loop
+  pub loop_faces : (q : ℕ) → face_of M q ≤ c.face
+  pub items : (h q : ℕ) → IsIn h (items_of (content M q)) → edge_of h ≤ c.edge
+  pub tails : (h : ℕ) → tail M h ≤ c.vertex
+  pub lones : (q v : ℕ) → content M q ≡ lone v → v ≤ c.vertex
+  pub own : (k : ℕ) → Has M.faces k → face_of M (outer M k) ≡ k
+
+-- loop l of face f is a closed path along these half-edges
+pub record IsPathOf (M : Model) (f l : ℕ) (hs : List ℕ) : Type 0 where
+  pub there : Has M.loops l
+  pub of_face : face_of M l ≡ f
+  pub content : content M l ≡ cycle hs
+  pub some_item : 0 < length hs
+  pub linked : (i : ℕ) → i < length hs → finish M (get_or hs i 0) ≡ start M (get_or hs (next_place (length hs) i) 0)
+
+-- ---- what rows say
+
+pub same_outer : (M N : Model) (k : ℕ) → table.get N.faces k ≡ table.get M.faces k → outer N k ≡ outer M k
+unfolding outer
+same_outer M N k e = ap (λ o. (unwrap_or o no_face).outer) e
+
+pub same_solid : (M N : Model) (k : ℕ) → table.get N.faces k ≡ table.get M.faces k → solid_of N k ≡ solid_of M k
+unfolding solid_of
+same_solid M N k e = ap (λ o. (unwrap_or o no_face).solid) e
+
+pub outer_row : (N : Model) (k : ℕ) (row : FaceRow) → table.get N.faces k ≡ Some row → outer N k ≡ row.outer
+unfolding outer
+outer_row N k row e = ap (λ o. (unwrap_or o no_face).outer) e
+
+pub same_content : (M N : Model) (q : ℕ) → table.get N.loops q ≡ table.get M.loops q → content N q ≡ content M q
+unfolding content
+same_content M N q e = ap (λ o. (unwrap_or o no_loop).content) e
+
+pub same_face : (M N : Model) (q : ℕ) → table.get N.loops q ≡ table.get M.loops q → face_of N q ≡ face_of M q
+unfolding face_of
+same_face M N q e = ap (λ o. (unwrap_or o no_loop).face) e
+
+-- a list that begins with its least item is read from there
+canonical_least : (h : ℕ) (hs : List ℕ) → least (h ∷ hs) ≡ h → canonical (h ∷ hs) ≡ h ∷ hs
+unfolding canonical rotate_to
+canonical_least h hs e = ap (λ m. from m (h ∷ hs) ++ before m (h ∷ hs)) e ∙ (λ i. from_at h [] hs refl i ++ before_at h [] hs refl i) ∙ append-nil (h ∷ hs)
+
+below_plus : (h e r : ℕ) → edge_of h ≤ e → e < r → h < plus r
+unfolding edge_of
+below_plus h e r l m = omega arith
+
+below_minus : (h e r : ℕ) → edge_of h ≤ e → e < r → h < minus r
+unfolding edge_of
+below_minus h e r l m = omega arith
+
+least_first : (h a b g : ℕ) → h < a → h < b → h < g → least (h ∷ a ∷ b ∷ g ∷ []) ≡ h
+least_first h a b g l m n = omega arith
+
+module _ (M : Model) (c : Taken) (s : ℕ) (d : Point) (hs : List ℕ) (f l : ℕ) where
+  abbrev pub swept : Model
+  swept = lifted (grown M c s d hs (length hs)) f l (top_items c.edge (length hs) (length hs))
+
+  pub tail_lifted : (h : ℕ) → tail swept h ≡ tail (grown M c s d hs (length hs)) h
+  unfolding tail
+  tail_lifted h = refl
+
+  point_lifted : (v : ℕ) → point_of swept v ≡ point_of (grown M c s d hs (length hs)) v
+  unfolding point_of
+  point_lifted v = refl
+
+  pub keeps_swept : Keeps M swept c.edge c.vertex
+  keeps_swept = let k = keeps_grown M c s d hs (length hs) (all (length hs)) in record {
+    tails = λ h m. tail_lifted h ∙ k.tails h m;
+    points = λ w m. point_lifted w ∙ k.points w m;
+  } where
+    all : (n : ℕ) → n ≤ n
+    all n = omega arith
+
+  -- ---- faces
+
+  pub face_old : (k : ℕ) → k ≤ c.face → table.get swept.faces k ≡ table.get M.faces k
+  face_old k m = ap (λ t. table.get t k) (faces_grown M c s d hs (length hs)) ∙ filled_old M.faces c.face (side_face M c s d hs) (length hs) k m
+
+  pub face_past : (k : ℕ) → c.face + length hs < k → table.get swept.faces k ≡ table.get M.faces k
+  face_past k m = ap (λ t. table.get t k) (faces_grown M c s d hs (length hs)) ∙ filled_past M.faces c.face (side_face M c s d hs) (length hs) k m
+
+  pub outer_new : (i : ℕ) → i < length hs → outer swept (c.face + 1 + i) ≡ c.loop + 1 + i
+  outer_new i m = outer_row swept (c.face + 1 + i) (side_face M c s d hs i)
+      (ap (λ t. table.get t (c.face + 1 + i)) (faces_grown M c s d hs (length hs)) ∙ filled_new M.faces c.face (side_face M c s d hs) (length hs) i m)
+
+  -- ---- loops
+
+  abbrev lifted_row : LoopRow
+  lifted_row = record { face = f; content = cycle (top_items c.edge (length hs) (length hs)) }
+
+  pub loop_here : table.get swept.loops l ≡ Some lifted_row
+  loop_here = get-put_here (grown M c s d hs (length hs)).loops l lifted_row
+
+  loop_other : (q : ℕ) → q ≢ l → table.get swept.loops q ≡ table.get (filled M.loops c.loop (side_loop M c s d hs) (length hs)) q
+  loop_other q ne = get-put_other (grown M c s d hs (length hs)).loops l lifted_row q ne ∙ ap (λ t. table.get t q) (loops_grown M c s d hs (length hs))
+
+  pub loop_old : (q : ℕ) → q ≢ l → q ≤ c.loop → table.get swept.loops q ≡ table.get M.loops q
+  loop_old q ne m = loop_other q ne ∙ filled_old M.loops c.loop (side_loop M c s d hs) (length hs) q m
+
+  pub loop_past : (q : ℕ) → q ≢ l → c.loop + length hs < q → table.get swept.loops q ≡ table.get M.loops q
+  loop_past q ne m = loop_other q ne ∙ filled_past M.loops c.loop (side_loop M c s d hs) (length hs) q m
+
+  module _ (b : Bounded M c) (r : IsPathOf M f l hs) where
+    pub within : l ≤ c.loop
+    within = at_most l (table.greatest M.loops) c.loop (at_most_greatest M.loops l r.there) b.loops where
+      at_most : (a b c : ℕ) → a ≤ b → b ≤ c → a ≤ c
+      at_most a b c m n = omega arith
+
+    pub new_apart : (i : ℕ) → c.loop + 1 + i ≢ l
+    new_apart i e = absurd (omega (arith, within))
+
+    pub loop_new : (i : ℕ) → i < length hs → table.get swept.loops (c.loop + 1 + i) ≡ Some (side_loop M c s d hs i)
+    loop_new i m = loop_other (c.loop + 1 + i) (new_apart i) ∙ filled_new M.loops c.loop (side_loop M c s d hs) (length hs) i m
+
+    pub face_of_old : (q : ℕ) → q ≤ c.loop → face_of swept q ≡ face_of M q
+    face_of_old q m = elim (eqb_tells q l) [
+      | inl e ↦ subst (λ k. face_of swept k ≡ face_of M k) (sym e.1) (face_row swept l lifted_row loop_here ∙ sym r.of_face)
+      | inr e ↦ same_face M swept q (loop_old q e.1 m)
+    ]
+
+    pub face_of_new : (i : ℕ) → i < length hs → face_of swept (c.loop + 1 + i) ≡ c.face + 1 + i
+    face_of_new i m = face_row swept (c.loop + 1 + i) (side_loop M c s d hs i) (loop_new i m)
+
+    past_apart : (q : ℕ) → c.loop + length hs < q → q ≢ l
+    past_apart q m e = absurd (omega (arith, within))
+
+    pub face_of_past : (q : ℕ) → c.loop + length hs < q → face_of swept q ≡ face_of M q
+    face_of_past q m = same_face M swept q (loop_past q (past_apart q m) m)
+
+    pub content_here : content swept l ≡ cycle (top_items c.edge (length hs) (length hs))
+    content_here = content_row swept l lifted_row loop_here
+
+    pub content_old : (q : ℕ) → q ≢ l → q ≤ c.loop → content swept q ≡ content M q
+    content_old q ne m = same_content M swept q (loop_old q ne m)
+
+    pub content_past : (q : ℕ) → c.loop + length hs < q → content swept q ≡ content M q
+    content_past q m = same_content M swept q (loop_past q (past_apart q m) m)
+
+    pub items_within : (i : ℕ) → i < length hs → edge_of (item M c s d hs i) ≤ c.edge
+    items_within i m = b.items (item M c s d hs i) l (subst (λ x. IsIn (item M c s d hs i) (items_of x)) (sym r.content) (IsIn-get_or hs i 0 m))
+
+    side_read : (i : ℕ) → i < length hs → canonical (side_items M c s d hs i) ≡ side_items M c s d hs i
+    side_read i m = let h = item M c s d hs i in let j = next_place (length hs) i in
+        canonical_least h (plus (riser c.edge j) ∷ minus (top_edge c.edge (length hs) i) ∷ minus (riser c.edge i) ∷ [])
+        (least_first h (plus (riser c.edge j)) (minus (top_edge c.edge (length hs) i)) (minus (riser c.edge i))
+        (below_plus h c.edge (riser c.edge j) (items_within i m) (riser_above c.edge j))
+        (below_minus h c.edge (top_edge c.edge (length hs) i) (items_within i m) (top_above c.edge (length hs) i m))
+        (below_minus h c.edge (riser c.edge i) (items_within i m) (riser_above c.edge i)))
+
+    pub content_new : (i : ℕ) → i < length hs → content swept (c.loop + 1 + i) ≡ cycle (side_items M c s d hs i)
+    content_new i m = content_row swept (c.loop + 1 + i) (side_loop M c s d hs i) (loop_new i m) ∙ ap cycle (side_read i m)
+
+    -- ---- rings
+
+    abbrev rewrite : ℕ → LoopRow → LoopRow
+    rewrite q row = cond (nat_eq q l) (record { face = row.face; content = cycle (top_items c.edge (length hs) (length hs)) }) row
+
+    rewrite_other : (q : ℕ) (row : LoopRow) → q ≢ l → rewrite q row ≡ row
+    rewrite_other q row ne = let e : nat_eq q l ≡ false = grind (arith, nat_tests) in ap (λ b. cond b (record { face = row.face; content = cycle (top_items c.edge (length hs) (length hs)) }) row) e
+
+    rewrite_here : (row : LoopRow) → rewrite l row ≡ record { face = row.face; content = cycle (top_items c.edge (length hs) (length hs)) }
+    rewrite_here row = let e : nat_eq l l ≡ true = grind (arith, nat_tests) in ap (λ b. cond b (record { face = row.face; content = cycle (top_items c.edge (length hs) (length hs)) }) row) e
+
+    rewrite_face : (q : ℕ) (row : LoopRow) → (rewrite q row).face ≡ row.face
+    rewrite_face q row = elim (nat_eq q l) as (λ b. (cond b (record { face = row.face; content = cycle (top_items c.edge (length hs) (length hs)) }) row).face ≡ row.face) [ true ↦ refl | false ↦ refl ]
+
+    pub loops_are : swept.loops ≡ map_rows rewrite (filled M.loops c.loop (side_loop M c s d hs) (length hs))
+    loops_are = ap (λ t. table.put t l lifted_row) (loops_grown M c s d hs (length hs))
+        ∙ ap (table.put (filled M.loops c.loop (side_loop M c s d hs) (length hs)) l) (ap (λ k. record { face = k; content = cycle (top_items c.edge (length hs) (length hs)) }) (sym r.of_face) ∙ sym (rewrite_here (record { face = face_of M l; content = content M l })))
+        ∙ sym (map_one rewrite (filled M.loops c.loop (side_loop M c s d hs) (length hs)) l (record { face = face_of M l; content = content M l })
+        (filled_old M.loops c.loop (side_loop M c s d hs) (length hs) l within ∙ loop_row M l r.there) (λ q y ne at. rewrite_other q y ne))
+
+    pub outer_old : (k : ℕ) → k ≤ c.face → outer swept k ≡ outer M k
+    outer_old k m = same_outer M swept k (face_old k m)
+
+    pub rings_old : (k : ℕ) → k ≤ c.face → rings_of swept k ≡ rings_of M k
+    rings_old k m = ap (λ o. table.all_where (λ q row. nat_eq row.face k && not (nat_eq o q)) swept.loops) (outer_old k m)
+        ∙ ap (table.all_where (λ q row. nat_eq row.face k && not (nat_eq (outer M k) q))) loops_are
+        ∙ all_where-map rewrite (λ q row. nat_eq row.face k && not (nat_eq (outer M k) q)) (filled M.loops c.loop (side_loop M c s d hs) (length hs))
+        ∙ same_search (λ q row. nat_eq (rewrite q row).face k && not (nat_eq (outer M k) q)) (λ q row. nat_eq row.face k && not (nat_eq (outer M k) q)) (filled M.loops c.loop (side_loop M c s d hs) (length hs))
+        (λ q row. ap (λ g. nat_eq g k && not (nat_eq (outer M k) q)) (rewrite_face q row))
+        ∙ filled_none M.loops c.loop (side_loop M c s d hs) b.loops (λ q row. nat_eq row.face k && not (nat_eq (outer M k) q)) (length hs) (λ i. ap (λ e. e && not (nat_eq (outer M k) (c.loop + 1 + i))) (new_face c.face i k m)) where
+          new_face : (a i k : ℕ) → k ≤ a → nat_eq (a + 1 + i) k ≡ false
+          new_face a i k m = grind (arith, nat_tests)
+
+    none_ring : (a f o l : ℕ) → (a ≡ f → o ≡ l) → (nat_eq a f && not (nat_eq o l)) ≡ false
+    none_ring a f o l p = grind (arith, nat_tests)
+
+    only_loop : (i q : ℕ) → i < length hs → face_of swept q ≡ c.face + 1 + i → c.loop + 1 + i ≡ q
+    only_loop i q m e = elim (place_cases q c.loop (length hs)) [
+      | inl o ↦ absurd (low (face_of M q) c.face i (sym (face_of_old q o) ∙ e) (b.loop_faces q))
+      | inr (inl j) ↦ same c.face c.loop i j.0 (sym (face_of_new j.0 j.1) ∙ ap (face_of swept) (sym j.2) ∙ e) ∙ sym j.2
+      | inr (inr p) ↦ absurd (low (face_of M q) c.face i (sym (face_of_past q p) ∙ e) (b.loop_faces q))
+    ] where
+      low : (g a i : ℕ) → g ≡ a + 1 + i → g ≤ a → ⊥
+      low g a i e m = absurd (omega arith)
+
+      same : (a b i j : ℕ) → a + 1 + j ≡ a + 1 + i → b + 1 + i ≡ b + 1 + j
+      same a b i j e = omega arith
+
+    pub rings_new : (i : ℕ) → i < length hs → rings_of swept (c.face + 1 + i) ≡ []
+    rings_new i m = all_where_none (λ q row. nat_eq row.face (c.face + 1 + i) && not (nat_eq (outer swept (c.face + 1 + i)) q)) swept.loops
+        (λ q y at. none_ring y.face (c.face + 1 + i) (outer swept (c.face + 1 + i)) q (λ e. outer_new i m ∙ only_loop i q m (face_row swept q y at ∙ e)))
+
+    -- ---- where the new half-edges start and end
+
+    -- item i starts here, and ends there
+    abbrev pub from_point : ℕ → Point
+    from_point i = start M (item M c s d hs i)
+
+    abbrev pub to_point : ℕ → Point
+    to_point i = finish M (item M c s d hs i)
+
+    new_point : (i : ℕ) → i < length hs → point_of swept (c.vertex + 1 + i) ≡ moved (from_point i) d
+    new_point i m = point_lifted (c.vertex + 1 + i) ∙ point_grown M c s d hs items_within b.tails i m
+
+    next_point : (i : ℕ) → i < length hs → from_point (next_place (length hs) i) ≡ to_point i
+    next_point i m = sym (r.linked i m)
+
+    pub riser_start : (i : ℕ) → i < length hs → start swept (plus (riser c.edge i)) ≡ from_point i
+    riser_start i m = ap (point_of swept) (tail_plus swept (riser c.edge i) _ (riser_row M c s d hs items_within b.tails i m)) ∙ keeps_swept.points (tail M (item M c s d hs i)) (b.tails (item M c s d hs i))
+
+    pub riser_finish : (i : ℕ) → i < length hs → start swept (minus (riser c.edge i)) ≡ moved (from_point i) d
+    riser_finish i m = ap (point_of swept) (tail_minus swept (riser c.edge i) _ (riser_row M c s d hs items_within b.tails i m)) ∙ new_point i m
+
+    pub top_start : (i : ℕ) → i < length hs → start swept (plus (top_edge c.edge (length hs) i)) ≡ moved (from_point i) d
+    top_start i m = ap (point_of swept) (tail_plus swept (top_edge c.edge (length hs) i) _ (top_row M c s d hs items_within b.tails i m)) ∙ new_point i m
+
+    pub top_finish : (i : ℕ) → i < length hs → start swept (minus (top_edge c.edge (length hs) i)) ≡ moved (to_point i) d
+    top_finish i m = ap (point_of swept) (tail_minus swept (top_edge c.edge (length hs) i) _ (top_row M c s d hs items_within b.tails i m))
+        ∙ new_point (next_place (length hs) i) (next_within (length hs) i m) ∙ ap (λ p. moved p d) (next_point i m)
+
+    pub next_start : (i : ℕ) → i < length hs → start swept (plus (riser c.edge (next_place (length hs) i))) ≡ to_point i
+    next_start i m = riser_start (next_place (length hs) i) (next_within (length hs) i m) ∙ next_point i m
+
+    pub next_finish : (i : ℕ) → i < length hs → start swept (minus (riser c.edge (next_place (length hs) i))) ≡ moved (to_point i) d
+    next_finish i m = riser_finish (next_place (length hs) i) (next_within (length hs) i m) ∙ ap (λ p. moved p d) (next_point i m)
+
+    pub item_start : (i : ℕ) → i < length hs → start swept (item M c s d hs i) ≡ from_point i
+    item_start i m = start_kept M swept c.edge c.vertex keeps_swept b.tails (item M c s d hs i) (items_within i m)
+
+    pub item_finish : (i : ℕ) → i < length hs → finish swept (item M c s d hs i) ≡ to_point i
+    item_finish i m = finish_kept M swept c.edge c.vertex keeps_swept b.tails (item M c s d hs i) (items_within i m)

@@ -1,0 +1,169 @@
+-- The tables of a model to which the sides over some items have been added.
+use Rattle.std.proofs.Common.{◌≡◌, ◌≢◌, ℕ, zero, suc, ◌+◌, ◌≤◌, ◌<◌, List, [], ◌∷◌, length, get_or, Some, unwrap_or, refl, sym, ap, subst, ◌∙◌, arith, inl, inr}
+use Rattle.std.proofs.lemmas.Bool.Decides.{eqb_tells}
+use Rattle.lattice.specs.declared.Point.{Point}
+use Rattle.lattice.specs.Vectors.{moved}
+use Rattle.cyclic_list.specs.Rings.{canonical}
+use Rattle.boundary_model.specs.HalfEdge.{mate, edge_of, is_first, plus, minus}
+use Rattle.boundary_model.specs.Table as table
+use Rattle.boundary_model.specs.Table.{Table}
+use Rattle.boundary_model.specs.Model.{Model, cycle, FaceRow, LoopRow, EdgeRow, no_edge, no_point, tail, tail_in, point_of}
+use Rattle.boundary_model.proofs.Halves.{edge_of-mate}
+use Rattle.shapes.specs.Faces.{start, finish}
+use Rattle.shapes.specs.Fresh.{Taken}
+use Rattle.shapes.specs.Prism.{riser, top_edge, next_place, with_side, with_sides}
+use Rattle.shapes.proofs.fresh.Rows.{get-put_here, get-put_other}
+use Rattle.sweeps_laws.proofs.swept.Filled.{filled, filled_old, filled_new}
+use Rattle.sweeps_laws.proofs.swept.Numbers.{riser_above, top_above, riser_apart, top_apart, riser_no_top}
+
+-- edges up to e and vertices up to v answer as they did
+pub record Keeps (M N : Model) (e v : ℕ) : Type 0 where
+  pub tails : (h : ℕ) → edge_of h ≤ e → tail N h ≡ tail M h
+  pub points : (w : ℕ) → w ≤ v → point_of N w ≡ point_of M w
+
+module _ (M N : Model) (e v : ℕ) (keeps : Keeps M N e v) (bounded : (h : ℕ) → tail M h ≤ v) where
+  pub start_kept : (h : ℕ) → edge_of h ≤ e → start N h ≡ start M h
+  start_kept h l = ap (point_of N) (keeps.tails h l) ∙ keeps.points (tail M h) (bounded h)
+
+  pub finish_kept : (h : ℕ) → edge_of h ≤ e → finish N h ≡ finish M h
+  finish_kept h l = start_kept (mate h) (subst (λ k. k ≤ e) (sym (edge_of-mate h)) l)
+
+module _ (M : Model) (c : Taken) (s : ℕ) (d : Point) (hs : List ℕ) where
+  abbrev pub grown : ℕ → Model
+  grown i = with_sides c s d hs i M
+
+  abbrev pub item : ℕ → ℕ
+  item i = get_or hs i 0
+
+  -- the rows that side i adds
+  abbrev pub side_face : ℕ → FaceRow
+  side_face i = record { solid = s; outer = c.loop + 1 + i }
+
+  abbrev pub side_items : ℕ → List ℕ
+  side_items i = item i ∷ plus (riser c.edge (next_place (length hs) i)) ∷ minus (top_edge c.edge (length hs) i) ∷ minus (riser c.edge i) ∷ []
+
+  abbrev pub side_loop : ℕ → LoopRow
+  side_loop i = record { face = c.face + 1 + i; content = cycle (canonical (side_items i)) }
+
+  abbrev pub side_riser : ℕ → EdgeRow
+  side_riser i = record { plus_tail = tail (grown i) (item i); minus_tail = c.vertex + 1 + i }
+
+  abbrev pub side_top : ℕ → EdgeRow
+  side_top i = record { plus_tail = c.vertex + 1 + i; minus_tail = c.vertex + 1 + next_place (length hs) i }
+
+  abbrev pub side_point : ℕ → Point
+  side_point i = moved (start (grown i) (item i)) d
+
+  faces_step : (i : ℕ) (N : Model) → (with_side c s d hs i N).faces ≡ table.put N.faces (c.face + 1 + i) (side_face i)
+  unfolding with_side
+  faces_step i N = refl
+
+  loops_step : (i : ℕ) (N : Model) → (with_side c s d hs i N).loops ≡ table.put N.loops (c.loop + 1 + i) (side_loop i)
+  unfolding with_side
+  loops_step i N = refl
+
+  pub edges_step : (i : ℕ) → (with_side c s d hs i (grown i)).edges ≡ table.put (table.put (grown i).edges (riser c.edge i) (side_riser i)) (top_edge c.edge (length hs) i) (side_top i)
+  unfolding with_side
+  edges_step i = refl
+
+  vertices_step : (i : ℕ) → (with_side c s d hs i (grown i)).vertices ≡ table.put (grown i).vertices (c.vertex + 1 + i) (side_point i)
+  unfolding with_side
+  vertices_step i = refl
+
+  pub faces_grown : (n : ℕ) → (grown n).faces ≡ filled M.faces c.face side_face n
+  faces_grown zero = refl
+  faces_grown (suc n) = faces_step n (grown n) ∙ ap (λ t. table.put t (c.face + 1 + n) (side_face n)) (faces_grown n)
+
+  pub loops_grown : (n : ℕ) → (grown n).loops ≡ filled M.loops c.loop side_loop n
+  loops_grown zero = refl
+  loops_grown (suc n) = loops_step n (grown n) ∙ ap (λ t. table.put t (c.loop + 1 + n) (side_loop n)) (loops_grown n)
+
+  vertices_grown : (n : ℕ) → (grown n).vertices ≡ filled M.vertices c.vertex side_point n
+  vertices_grown zero = refl
+  vertices_grown (suc n) = vertices_step n ∙ ap (λ t. table.put t (c.vertex + 1 + n) (side_point n)) (vertices_grown n)
+
+  apart_above : (q e r : ℕ) → q ≤ e → e < r → q ≢ r
+  apart_above q e r l m s = absurd (omega arith)
+
+  less_one : (n m : ℕ) → suc n ≤ m → n ≤ m
+  less_one n m l = omega arith
+
+  edges_kept : (n q : ℕ) → n ≤ length hs → q ≤ c.edge → table.get (grown n).edges q ≡ table.get M.edges q
+  edges_kept zero q m l = refl
+  edges_kept (suc n) q m l = ap (λ t. table.get t q) (edges_step n)
+      ∙ get-put_other (table.put (grown n).edges (riser c.edge n) (side_riser n)) (top_edge c.edge (length hs) n) (side_top n) q (apart_above q c.edge (top_edge c.edge (length hs) n) l (top_above c.edge (length hs) n m))
+      ∙ get-put_other (grown n).edges (riser c.edge n) (side_riser n) q (apart_above q c.edge (riser c.edge n) l (riser_above c.edge n))
+      ∙ edges_kept n q (less_one n (length hs) m) l
+
+  vertices_kept : (n w : ℕ) → w ≤ c.vertex → table.get (grown n).vertices w ≡ table.get M.vertices w
+  vertices_kept n w l = ap (λ t. table.get t w) (vertices_grown n) ∙ filled_old M.vertices c.vertex side_point n w l
+
+  same_tail : (n h : ℕ) → table.get (grown n).edges (edge_of h) ≡ table.get M.edges (edge_of h) → tail (grown n) h ≡ tail M h
+  unfolding tail
+  same_tail n h e = ap (λ o. tail_in (unwrap_or o no_edge) (is_first h)) e
+
+  same_place : (n w : ℕ) → table.get (grown n).vertices w ≡ table.get M.vertices w → point_of (grown n) w ≡ point_of M w
+  unfolding point_of
+  same_place n w e = ap (λ o. unwrap_or o no_point) e
+
+  -- what was there before is kept
+  pub keeps_grown : (n : ℕ) → n ≤ length hs → Keeps M (grown n) c.edge c.vertex
+  keeps_grown n m = record {
+    tails = λ h l. same_tail n h (edges_kept n (edge_of h) m l);
+    points = λ w l. same_place n w (vertices_kept n w l);
+  }
+
+  riser_grown : (n i : ℕ) → n ≤ length hs → i < n → table.get (grown n).edges (riser c.edge i) ≡ Some (side_riser i)
+  riser_grown zero i m l = absurd (omega arith)
+  riser_grown (suc n) i m l = ap (λ t. table.get t (riser c.edge i)) (edges_step n)
+      ∙ get-put_other (table.put (grown n).edges (riser c.edge n) (side_riser n)) (top_edge c.edge (length hs) n) (side_top n) (riser c.edge i) (riser_no_top c.edge (length hs) i n (before_all i n (length hs) l m) m)
+      ∙ elim (eqb_tells i n) [
+        | inl e ↦ subst (λ k. table.get (table.put (grown n).edges (riser c.edge n) (side_riser n)) (riser c.edge k) ≡ Some (side_riser k)) (sym e.1) (get-put_here (grown n).edges (riser c.edge n) (side_riser n))
+        | inr e ↦ get-put_other (grown n).edges (riser c.edge n) (side_riser n) (riser c.edge i) (riser_apart c.edge i n e.1) ∙ riser_grown n i (less_one n (length hs) m) (before_last i n l e.1)
+      ] where
+        before_all : (i n m : ℕ) → i < suc n → suc n ≤ m → i < m
+        before_all i n m l k = omega arith
+
+        before_last : (i n : ℕ) → i < suc n → i ≢ n → i < n
+        before_last i n l ne = grind arith
+
+  top_grown : (n i : ℕ) → n ≤ length hs → i < n → table.get (grown n).edges (top_edge c.edge (length hs) i) ≡ Some (side_top i)
+  top_grown zero i m l = absurd (omega arith)
+  top_grown (suc n) i m l = ap (λ t. table.get t (top_edge c.edge (length hs) i)) (edges_step n)
+      ∙ elim (eqb_tells i n) [
+        | inl e ↦ subst (λ k. table.get (table.put (table.put (grown n).edges (riser c.edge n) (side_riser n)) (top_edge c.edge (length hs) n) (side_top n)) (top_edge c.edge (length hs) k) ≡ Some (side_top k)) (sym e.1)
+            (get-put_here (table.put (grown n).edges (riser c.edge n) (side_riser n)) (top_edge c.edge (length hs) n) (side_top n))
+        | inr e ↦ get-put_other (table.put (grown n).edges (riser c.edge n) (side_riser n)) (top_edge c.edge (length hs) n) (side_top n) (top_edge c.edge (length hs) i) (top_apart c.edge (length hs) i n (before_all i n (length hs) l m) m e.1)
+            ∙ get-put_other (grown n).edges (riser c.edge n) (side_riser n) (top_edge c.edge (length hs) i) (λ p. riser_no_top c.edge (length hs) n i m (before_all i n (length hs) l m) (sym p))
+            ∙ top_grown n i (less_one n (length hs) m) (before_last i n l e.1)
+      ] where
+        before_all : (i n m : ℕ) → i < suc n → suc n ≤ m → i < m
+        before_all i n m l k = omega arith
+
+        before_last : (i n : ℕ) → i < suc n → i ≢ n → i < n
+        before_last i n l ne = grind arith
+
+  module _ (items : (i : ℕ) → i < length hs → edge_of (item i) ≤ c.edge) (bounded : (h : ℕ) → tail M h ≤ c.vertex) where
+    -- the rows of the new edges and vertices, once all sides are there
+    pub riser_row : (i : ℕ) → i < length hs → table.get (grown (length hs)).edges (riser c.edge i) ≡ Some (record { plus_tail = tail M (item i); minus_tail = c.vertex + 1 + i })
+    riser_row i l = riser_grown (length hs) i (all (length hs)) l ∙ ap (λ v. Some (record { plus_tail = v; minus_tail = c.vertex + 1 + i })) ((keeps_grown i (before i (length hs) l)).tails (item i) (items i l)) where
+      all : (n : ℕ) → n ≤ n
+      all n = omega arith
+
+      before : (i n : ℕ) → i < n → i ≤ n
+      before i n l = omega arith
+
+    pub top_row : (i : ℕ) → i < length hs → table.get (grown (length hs)).edges (top_edge c.edge (length hs) i) ≡ Some (side_top i)
+    top_row i l = top_grown (length hs) i (all (length hs)) l where
+      all : (n : ℕ) → n ≤ n
+      all n = omega arith
+
+    found : (N : Model) (w : ℕ) (p : Point) → table.get N.vertices w ≡ Some p → point_of N w ≡ p
+    unfolding point_of
+    found N w p e = ap (λ o. unwrap_or o no_point) e
+
+    pub point_grown : (i : ℕ) → i < length hs → point_of (grown (length hs)) (c.vertex + 1 + i) ≡ moved (start M (item i)) d
+    point_grown i l = found (grown (length hs)) (c.vertex + 1 + i) (side_point i) (ap (λ t. table.get t (c.vertex + 1 + i)) (vertices_grown (length hs)) ∙ filled_new M.vertices c.vertex side_point (length hs) i l)
+        ∙ ap (λ p. moved p d) (start_kept M (grown i) c.edge c.vertex (keeps_grown i (before i (length hs) l)) bounded (item i) (items i l)) where
+          before : (i n : ℕ) → i < n → i ≤ n
+          before i n l = omega arith

@@ -1,4 +1,0 @@
-pub mod Integers
-pub mod Vectors
-pub mod Sweeps
-pub mod Rectangles

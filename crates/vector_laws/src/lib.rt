@@ -1,2 +1,0 @@
-//! Laws of vectors over the integers: sums, products across, and what a closed path sweeps.
-#![tactic(auto)]
