@@ -1,13 +1,13 @@
 -- The arena that holds nothing, the greatest number in use, and the room of numbers in use.
 use Rattle.std.proofs.Common.{◌-◌}
-use Rattle.ring_spots.proofs.SpotTables.{edge_live, edge_has_room, codes_are}
+use Rattle.arena_rows.proofs.ring_spots_laws.SpotTables.{edge_live, edge_has_room, codes_are}
 use Rattle.arena_rows.specs.Rows.{row_at, has_row}
-use Rattle.ring_spots.specs.Last.{IsLast, is_edge}
-use Rattle.ring_spots.proofs.Lasts.{last_same}
+use Rattle.arena_rows.specs.ring_spots.Last.{IsLast, is_edge}
+use Rattle.arena_rows.proofs.ring_spots_laws.Lasts.{last_same}
 use Rattle.arena_rows.specs.Store.{within}
 use Rattle.arena_rows.specs.View.{Fits}
 use Rattle.arena_rows.proofs.Views.{row_within, row_not_zero}
-use Rattle.ring_spots.proofs.SpotTables.{and-false, nothing, edge_has}
+use Rattle.arena_rows.proofs.ring_spots_laws.SpotTables.{and-false, nothing, edge_has}
 use Rattle.std.proofs.Common.{◌≡◌, ◌≢◌, ℕ, ◌≤◌, Bool, true, false, cond, nat_eq, nat_lt, nat_le, ◌&&◌, List, [], Option, Some, None, is_some, sym, ap, ◌∙◌, arith, true≢false}
 use Rattle.std.proofs.lemmas.Bool.Decides.{nat_tests}
 use Rattle.boundary_model.specs.declared.Point.{Point}
@@ -15,10 +15,10 @@ use Rattle.boundary_model.specs.HalfEdge.{plus, minus}
 use Rattle.boundary_model.specs.Table.{get, tabulate}
 use Rattle.boundary_model.specs.Model.{empty_model}
 use Rattle.arena_rows.specs.Store.{empty_store}
-use Rattle.ring_spots.specs.Spots.{Spots, codes, edges_end, live, label, ring, AreRings}
+use Rattle.arena_rows.specs.ring_spots.Spots.{Spots, codes, edges_end, live, label, ring, AreRings}
 use Rattle.boundary_model.specs.Items.{head_or}
 use Rattle.arena_rows.specs.View.{store_of, IsTied, solid_row, face_row, loop_row}
-use Rattle.ring_spots.specs.SpotTables.{edge_row, both_tails, edge_room, loose_row}
+use Rattle.arena_rows.specs.ring_spots.SpotTables.{edge_row, both_tails, edge_room, loose_row}
 use Rattle.arena_rows.specs.Rows.{table_of}
 use Rattle.std.proofs.Common.{length}
 use Rattle.arena_rows.proofs.Views.{table_of-empty, fits-empty, has_is}

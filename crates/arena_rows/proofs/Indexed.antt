@@ -7,9 +7,9 @@ use Rattle.boundary_model.proofs.Lists.{tick_same, tick_other}
 use Rattle.boundary_model.specs.Table as table
 use Rattle.boundary_model.specs.Table.{Table, get, all_where, same_table, get-put, get-remove}
 use Rattle.boundary_model.specs.Model.{rings_of, outer, no_face}
-use Rattle.owner_chains.specs.Owners.{Owners, no_owners, put, take, owned, HasGrown}
-use Rattle.owner_chains.proofs.Counting.{passes, count-all_where, same_length, more}
-use Rattle.ring_spots.specs.Spots.{Spots}
+use Rattle.arena_rows.specs.owner_chains.Owners.{Owners, no_owners, put, take, owned, HasGrown}
+use Rattle.arena_rows.proofs.owner_chains_laws.Counting.{passes, count-all_where, same_length, more}
+use Rattle.arena_rows.specs.ring_spots.Spots.{Spots}
 use Rattle.arena_rows.specs.declared.rows.FaceCell.{FaceCell}
 use Rattle.arena_rows.specs.declared.rows.LoopCell.{LoopCell}
 use Rattle.arena_rows.specs.Rows.{row_at, map_row, table_of, names}

@@ -7,9 +7,9 @@ use Rattle.boundary_model.proofs.Lists.{tick_same, tick_other}
 use Rattle.std.specs.Option.{option_eq}
 use Rattle.boundary_model.specs.Table.{get}
 use Rattle.boundary_model.specs.Model.{Model, FaceRow, solid_of, face_of, outer, is_ring_of, faces_of, no_face, no_loop}
-use Rattle.owner_chains.specs.Owners.{Owners, owned, is_owner, IsNextItem}
-use Rattle.owner_chains.proofs.Counting.{passes, count-all_where}
-use Rattle.ring_spots.specs.Spots.{Spots}
+use Rattle.arena_rows.specs.owner_chains.Owners.{Owners, owned, is_owner, IsNextItem}
+use Rattle.arena_rows.proofs.owner_chains_laws.Counting.{passes, count-all_where}
+use Rattle.arena_rows.specs.ring_spots.Spots.{Spots}
 use Rattle.arena_rows.specs.declared.rows.FaceCell.{FaceCell}
 use Rattle.arena_rows.specs.declared.rows.LoopCell.{LoopCell}
 use Rattle.arena_rows.specs.Rows.{row_at, map_row}

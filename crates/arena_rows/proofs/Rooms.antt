@@ -7,7 +7,7 @@ use Rattle.arena_rows.specs.declared.rows.LoopCell.{LoopCell}
 use Rattle.boundary_model.specs.Table.{get}
 use Rattle.arena_rows.specs.Rows.{row_at}
 use Rattle.arena_rows.specs.Store.{Store}
-use Rattle.ring_spots.specs.Spots.{Spots, label}
+use Rattle.arena_rows.specs.ring_spots.Spots.{Spots, label}
 use Rattle.arena_rows.specs.View.{store_of, IsTied, Fits, AreLoops, loop_row, face_row, solid_row}
 use Rattle.std.proofs.Common.{ℕ, ◌<◌, ◌&&◌, nat_le, nat_lt, Result, Ok, Err, OnOk}
 use Rattle.boundary_model.specs.declared.Kind.{Kind}
@@ -15,11 +15,11 @@ use Rattle.boundary_model.specs.HalfEdge.{plus, minus}
 use Rattle.boundary_model.specs.Table.{tabulate}
 use Rattle.arena_rows.specs.Rows.{map_row}
 use Rattle.arena_rows.specs.Store.{within, has_room, HasGrown}
-use Rattle.ring_spots.specs.Spots.{edges_end}
-use Rattle.ring_spots.specs.SpotTables.{edge_room}
+use Rattle.arena_rows.specs.ring_spots.Spots.{edges_end}
+use Rattle.arena_rows.specs.ring_spots.SpotTables.{edge_room}
 use Rattle.arena_rows.proofs.Views.{table_of-same}
 use Rattle.arena_rows.proofs.Writes.{tied_solids, tied_faces, tied_loops, tied_vertices}
-use Rattle.ring_spots.proofs.SpotTables.{edge_has_room}
+use Rattle.arena_rows.proofs.ring_spots_laws.SpotTables.{edge_has_room}
 
 within_more : (n k m : ℕ) → k ≤ m → within n (k - 1) ≡ true → within n (m - 1) ≡ true
 within_more n k m l h = grind (arith, nat_tests)

@@ -12,7 +12,7 @@ use Rattle.boundary_model.specs.Table.{Table}
 use Rattle.arena_rows.specs.Rows.{row_at, table_of}
 use Rattle.boundary_model.specs.Model.{cycle, FaceRow, LoopRow, items_of}
 use Rattle.arena_rows.specs.Store.{Store}
-use Rattle.ring_spots.specs.Spots.{Spots, live, label, ring}
+use Rattle.arena_rows.specs.ring_spots.Spots.{Spots, live, label, ring}
 use Rattle.arena_rows.specs.View.{store_of, IsTied, Fits, AreLoops, HasEntry, StandsAt, held_content, loop_row, face_row, solid_row}
 use Rattle.arena_rows.proofs.Views.{some_is}
 

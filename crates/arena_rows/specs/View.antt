@@ -1,5 +1,5 @@
 -- What an arena's rings and rows stand for, and what keeps them tied.
-use Rattle.ring_spots.specs.SpotTables.{edge_row, loose_row, edge_room}
+use Rattle.arena_rows.specs.ring_spots.SpotTables.{edge_row, loose_row, edge_room}
 use Rattle.std.specs.Prelude.{◌≡◌, ◌≢◌, ℕ, ◌-◌, ◌≤◌, Bool, true, List, [], length, Option, Some, None}
 use Rattle.boundary_model.specs.declared.Point.{Point}
 use Rattle.boundary_model.specs.Points.{IsInRange}
@@ -11,9 +11,9 @@ use Rattle.arena_rows.specs.declared.rows.Held.TheVariants.{Empty, Lone, At}
 use Rattle.boundary_model.specs.Table.{Table, tabulate}
 use Rattle.boundary_model.specs.Model.{LoopContent, lone, cycle, FaceRow, LoopRow}
 use Rattle.arena_rows.specs.Store.{Store}
-use Rattle.ring_spots.specs.Spots.{Spots, codes, edges_end, live, label, ring, AreRings}
+use Rattle.arena_rows.specs.ring_spots.Spots.{Spots, codes, edges_end, live, label, ring, AreRings}
 use Rattle.arena_rows.specs.Rows.{row_at, table_of}
-use Rattle.owner_chains.specs.Owners.{Owners}
+use Rattle.arena_rows.specs.owner_chains.Owners.{Owners}
 
 abbrev pub solid_row : Bool → Unit {0}
 solid_row b = tt

@@ -1,6 +1,6 @@
 //! Rows by number.
 ghost use Rattle.std.specs.Prelude.{◌≡◌, ℕ, ◌<◌, ◌≤◌, ◌-◌, ◌+◌, true, false, cond, nat_eq, is_some, List, [], length, OnOk, IfOk, Option, Some, None, IsSome};
-ghost use Rattle.ring_spots.specs.Last.{IsLast};
+ghost use Rattle.arena_rows.specs.ring_spots.Last.{IsLast};
 ghost use Rattle.arena_rows.specs.Rows.{row_at, has_row, names};
 ghost use Rattle.arena_rows.specs.Store.{within};
 
@@ -51,7 +51,7 @@ impl<T: Copy> Model for Rows<T> {
     ghost Value = { List (Option T) };
 
     ghost use Rattle.arena_rows.specs.Rows.{has_row};
-    ghost use Rattle.ring_spots.specs.Last.{IsLast};
+    ghost use Rattle.arena_rows.specs.ring_spots.Last.{IsLast};
 
     ghost view = { λ a. a.cells.items };
 

@@ -11,7 +11,7 @@ use Rattle.euler_operators.specs.Conditions.{is_lone}
 use Rattle.shapes.specs.Faces.{start}
 use Rattle.shapes.specs.glue.Glue.{rim, outline, has_repeats}
 use Rattle.shapes.proofs.glue.Points.{once}
-use Rattle.face_walks.proofs.CycleWalks.{to_come, item_there, item_in, next_item, goes_on}
+use Rattle.solid_walks.proofs.face_walks_laws.CycleWalks.{to_come, item_there, item_in, next_item, goes_on}
 use Rattle.gluing.specs.Rims.{item_at}
 
 -- an item of a face's outer loop, which isn't lone then

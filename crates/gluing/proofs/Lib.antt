@@ -1,3 +1,4 @@
+pub mod glue_checks_laws
 mod Found
 mod Remaining
 mod Joined

@@ -1,1 +1,2 @@
+pub mod glue_checks
 pub mod Rims

@@ -5,9 +5,9 @@ ghost use Rattle.euler_conditions.specs.Ready.{IsReady};
 ghost use Rattle.undo_journal.specs.Machine.{held, accepted};
 ghost use Rattle.shapes.specs.glue.Glue.{glue_refusal, glue_model};
 
+use crate::glue_checks::check_glue;
 use crate::joining::join;
 use euler_conditions::Arena;
-use glue_checks::check_glue;
 use std::alloc::Global;
 use undo_journal::{Draft, Failure, Session};
 

@@ -11,7 +11,7 @@ ghost use Rattle.shapes.specs.glue.GlueOps.{closing, fresh_edge, opening};
 
 use crate::rims::{first_item, item_at};
 use euler_conditions::{Arena, Corner, HalfEdge, Kind, Op};
-use face_walks::{minus, plus};
+use solid_walks::{minus, plus};
 use std::alloc::AllocError;
 use undo_journal::Draft;
 

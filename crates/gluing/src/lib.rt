@@ -2,6 +2,7 @@
 #![tactic(auto)]
 
 mod command;
+mod glue_checks;
 mod joining;
 mod rims;
 #[cfg(test)]

@@ -10,10 +10,10 @@ ghost use Rattle.shapes.specs.Faces.{start};
 ghost use Rattle.shapes.specs.glue.Glue.{has_repeats, outline, rim};
 ghost use Rattle.gluing.specs.Rims.{item_at};
 
+use crate::glue_checks::some_item;
 use euler_conditions::{Arena, HalfEdge, Kind};
-use face_walks::least_item;
-use glue_checks::some_item;
 use lattice::Point;
+use solid_walks::least_item;
 
 /// The first half-edge of the outer loop of face f, which isn't lone, in the order of listings.
 pub(crate) fn first_item(arena: &Arena, f: u32) -> HalfEdge

@@ -3,7 +3,7 @@ use Rattle.std.specs.Prelude.{ℕ, if◌then◌else◌, ◌&&◌, ◌==◌, Resu
 use Rattle.clap.specs.Words.{kind_of}
 use Rattle.clap.specs.declared.error.kind.ErrorKind.{ErrorKind}
 use Rattle.clap.specs.declared.error.kind.ErrorKind.TheVariants as kind
-use Rattle.script_judging.specs.declared.judging.Summary.{Summary}
+use Rattle.script_running.specs.declared.script_judging.judging.Summary.{Summary}
 use Rattle.gwb.specs.declared.ending.Trouble.{Trouble}
 use Rattle.gwb.specs.declared.ending.Trouble.TheVariants as trouble
 

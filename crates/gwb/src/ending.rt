@@ -6,8 +6,7 @@ ghost use Rattle.gwb.specs.Endings.{status};
 
 use crate::words::WordsFault;
 use clap::error::ErrorKind;
-use script_judging::Summary;
-use script_running::RunFault;
+use script_running::{RunFault, Summary};
 use thiserror::Error;
 
 /// Why the program ends before its script is answered.

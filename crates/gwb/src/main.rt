@@ -11,8 +11,7 @@ mod tests;
 mod words;
 
 pub use ending::{Trouble, status_of};
-pub use script_judging::Summary;
-pub use script_running::{RunFault, run};
+pub use script_running::{RunFault, Summary, run};
 use std::alloc::AllocError;
 use std::env;
 use std::fs::File;

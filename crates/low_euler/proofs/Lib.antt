@@ -1,3 +1,6 @@
+pub mod face_operators_laws
+pub mod loop_operators_laws
+pub mod loop_steps_laws
 pub mod Made
 pub mod Accepted
 pub mod Parts
@@ -5,3 +8,4 @@ pub mod Inverses
 pub mod Undone
 pub mod Faces
 pub mod Merging
+pub mod vertex_operators_laws

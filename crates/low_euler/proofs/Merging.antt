@@ -13,7 +13,7 @@ use Rattle.euler_operators.specs.Effect.{effect, merge, faces_to_solid}
 use Rattle.euler_operators.specs.declared.Op.TheVariants.{Merge}
 use Rattle.euler_laws.proofs.shared.Goes.{all_hold, not_true}
 use Rattle.euler_conditions.specs.Store.{Store, set_solid, take_solid, is_face_of, IsNextFace}
-use Rattle.owner_chains.proofs.Counting.{passes, count-all_where, same_length}
+use Rattle.arena_rows.proofs.owner_chains_laws.Counting.{passes, count-all_where, same_length}
 use Rattle.euler_conditions.specs.Ready.{after}
 use Rattle.low_euler.proofs.Faces.{row_there, row_tells}
 

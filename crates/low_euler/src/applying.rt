@@ -4,14 +4,14 @@ ghost use Rattle.euler_operators.specs.Effect.{inverse};
 ghost use Rattle.euler_conditions.specs.Ready.{IsReady, Accepts, after};
 ghost use Rattle.low_euler.specs.Room.{faces_for};
 
+use crate::face_operators::{kfmrh, merge, mfkrh, outer, part, ring_in, ring_out};
 use crate::inverse::inverse_of;
+use crate::loop_operators::{kef, kemr, mef, mekr};
 use crate::making::Room;
 use crate::moving;
+use crate::vertex_operators::{kev, kvfs, mev, mvfs};
 use euler_conditions::Arena;
 use euler_operators::Op;
-use face_operators::{kfmrh, merge, mfkrh, outer, part, ring_in, ring_out};
-use loop_operators::{kef, kemr, mef, mekr};
-use vertex_operators::{kev, kvfs, mev, mvfs};
 
 /// Applies an operator.
 fn change(arena: &mut Arena, op: &Op)

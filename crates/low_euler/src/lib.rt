@@ -5,10 +5,14 @@
 #![tactic(auto)]
 
 mod applying;
+mod face_operators;
 mod inverse;
+mod loop_operators;
+mod loop_steps;
 mod making;
 mod moving;
 mod reading;
+mod vertex_operators;
 
 pub use applying::{apply, replay};
 pub use making::{Room, room_op};

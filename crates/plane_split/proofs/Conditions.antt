@@ -19,9 +19,9 @@ use Rattle.shapes.specs.split.Split.{first_conditions, later_conditions, split_c
 use Rattle.split_drawing_laws.specs.crossings.Laws.{CanBegin}
 use Rattle.split_drawing_laws.proofs.crossings.Whole.{crossings_keep}
 use Rattle.split_drawing_laws.proofs.pairs.Whole.{can_be_drawn}
-use Rattle.solid_opening.specs.Kept.{KeepsSolids}
-use Rattle.solid_opening.proofs.Solids.{drawing_keeps}
-use Rattle.solid_drawing.specs.Drawn.{put_aside}
+use Rattle.split_laws.specs.drawn.Kept.{KeepsSolids}
+use Rattle.split_laws.proofs.drawn.Solids.{drawing_keeps}
+use Rattle.split_drawing.specs.solid_drawing.Drawn.{put_aside}
 use Rattle.undo_journal.specs.declared.session.Failure.{Failure}
 use Rattle.undo_journal.specs.declared.session.Failure.TheVariants as failure
 

@@ -1,2 +1,7 @@
 mod Conditions
 mod Parted
+pub use Rattle.split_laws.proofs.Openings
+pub use Rattle.split_laws.proofs.Whole
+pub use Rattle.split_laws.proofs.drawn.Drawn
+pub use Rattle.split_laws.proofs.drawn.Solids
+mod solid_opening_laws

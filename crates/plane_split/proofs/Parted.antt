@@ -16,17 +16,17 @@ use Rattle.shapes.specs.split.Split.{opened_at, split_above, split_refusal, spli
 use Rattle.split_drawing_laws.specs.pairs.Laws.{rewriting_ops}
 use Rattle.split_drawing_laws.proofs.pairs.Whole.{rewritings_made}
 use Rattle.split_drawing_laws.proofs.drawings.Runs.{Leads}
-use Rattle.solid_opening.specs.InTurn.{CanBeOpenedInTurn}
-use Rattle.solid_opening.proofs.Drawn.{begins, can_open_all}
-use Rattle.face_drawing.specs.Codes.{drawing_of}
-use Rattle.face_drawing.specs.declared.progress.Progress.{Progress}
-use Rattle.section_checks.specs.Sections.{IsSection, cycles_of}
-use Rattle.section_checks.specs.declared.section.Section.{Section}
-use Rattle.solid_drawing.specs.Drawn.{put_aside}
-use Rattle.solid_opening.specs.Capped.{opened_section, unopened}
-use Rattle.solid_opening.specs.SplitOps.{openings_ops, hole_ops, upper_left, upper_ops, ops_above, split_ops}
-use Rattle.solid_opening.proofs.Openings.{openings_go}
-use Rattle.solid_opening.proofs.Whole.{split_accepted, split_made}
+use Rattle.split_opening_laws.specs.sections.InTurn.{CanBeOpenedInTurn}
+use Rattle.split_laws.proofs.drawn.Drawn.{begins, can_open_all}
+use Rattle.split_drawing.specs.face_drawing.Codes.{drawing_of}
+use Rattle.split_drawing.specs.declared.face_drawing.progress.Progress.{Progress}
+use Rattle.split_sections.specs.section_checks.Sections.{IsSection, cycles_of}
+use Rattle.split_sections.specs.declared.section_checks.section.Section.{Section}
+use Rattle.split_drawing.specs.solid_drawing.Drawn.{put_aside}
+use Rattle.plane_split.specs.solid_opening.Capped.{opened_section, unopened}
+use Rattle.split_laws.specs.SplitOps.{openings_ops, hole_ops, upper_left, upper_ops, ops_above, split_ops}
+use Rattle.split_laws.proofs.Openings.{openings_go}
+use Rattle.split_laws.proofs.Whole.{split_accepted, split_made}
 use Rattle.plane_split.specs.Drawn.{IsDrawn}
 
 -- where some operators lead on from a model that the first of them make, the others lead on from there

@@ -5,7 +5,7 @@ use Rattle.boundary_model.specs.Model.{Model}
 use Rattle.boundary_model.specs.Sound.{Sound}
 use Rattle.shapes.specs.split.Drawing.{Drawing, with_drawings}
 use Rattle.shapes.specs.split.Split.{split_refusal}
-use Rattle.solid_drawing.specs.Drawn.{put_aside}
+use Rattle.split_drawing.specs.solid_drawing.Drawn.{put_aside}
 
 -- d is the drawing of a sound model whose split isn't refused, but for the pairs of the face drawn last
 pub record IsDrawn (d : Drawing) (s : ℕ) (p : Plane) (t : ℕ) : Type 0 where

@@ -1,1 +1,5 @@
 pub mod Drawn
+pub use Rattle.split_laws.specs.SplitOps
+pub use Rattle.split_laws.specs.drawn.Kept
+pub use Rattle.split_opening_laws.specs.sections.InTurn
+pub mod solid_opening

@@ -2,6 +2,7 @@
 #![tactic(auto)]
 
 mod command;
+mod solid_opening;
 mod steps;
 #[cfg(test)]
 mod tests;

@@ -1,10 +1,10 @@
 -- The counts of a run.
 use Rattle.std.proofs.Common.{◌≡◌, ◌≤◌, refl, arith}
 use Rattle.solid_listing.specs.declared.reply.Reply.TheVariants as reply
-use Rattle.script_judging.specs.Judging.{no_lines, one_line, counted}
-use Rattle.script_judging.specs.declared.judging.Answer.{Answer}
-use Rattle.script_judging.specs.declared.judging.Answer.TheVariants.{Silent, Reply as Told, Listing}
-use Rattle.script_judging.specs.declared.judging.Summary.{Summary}
+use Rattle.script_running.specs.script_judging.Judging.{no_lines, one_line, counted}
+use Rattle.script_running.specs.declared.script_judging.judging.Answer.{Answer}
+use Rattle.script_running.specs.declared.script_judging.judging.Answer.TheVariants.{Silent, Reply as Told, Listing}
+use Rattle.script_running.specs.declared.script_judging.judging.Summary.{Summary}
 
 -- no reply is counted twice, nor without its line
 pub record IsWithin (n : Summary) : Type 0 where

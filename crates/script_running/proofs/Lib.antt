@@ -1,3 +1,4 @@
+pub mod script_judging_laws
 pub mod Counting
 pub mod RunLaws
 pub mod Outputs

@@ -8,11 +8,11 @@ use Rattle.script_reader.specs.declared.command.Command.TheVariants as command
 use Rattle.script_reader.specs.declared.command.Fault.{Fault}
 use Rattle.script_reader.specs.Grammar.{command_of}
 use Rattle.solid_listing.specs.declared.reply.Reply.TheVariants as reply
-use Rattle.script_judging.specs.Judging.{Moves, Acts, Tries, Obeys, Answers, answer_text, one_line, counted}
+use Rattle.script_running.specs.script_judging.Judging.{Moves, Acts, Tries, Obeys, Answers, answer_text, one_line, counted}
 use Rattle.script_running.specs.Outs.{stops, Outs}
-use Rattle.script_judging.specs.declared.judging.Answer.{Answer}
-use Rattle.script_judging.specs.declared.judging.Answer.TheVariants.{Reply as Told}
-use Rattle.script_judging.specs.declared.judging.Summary.{Summary}
+use Rattle.script_running.specs.declared.script_judging.judging.Answer.{Answer}
+use Rattle.script_running.specs.declared.script_judging.judging.Answer.TheVariants.{Reply as Told}
+use Rattle.script_running.specs.declared.script_judging.judging.Summary.{Summary}
 
 -- memory isn't told
 abbrev IsQuiet : Answer → Type 0

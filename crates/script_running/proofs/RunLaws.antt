@@ -21,13 +21,13 @@ use Rattle.script_reader.specs.declared.lines.Found.TheVariants as found
 use Rattle.script_reader.proofs.ScriptLaws.{has_begun, has_line_more, has_long_more, is_read_out, breaks_at_fault, breaks_at_limit, so_far, falls_by_line, falls_by_long}
 use Rattle.solid_listing.specs.Writing.{Stops}
 use Rattle.undo_journal.specs.Machine.{Machine, start}
-use Rattle.script_judging.specs.Judging.{Obeys, Judges, Answers, answer_text, no_lines, one_line, counted}
-use Rattle.script_judging.specs.Settling.{spelled}
+use Rattle.script_running.specs.script_judging.Judging.{Obeys, Judges, Answers, answer_text, no_lines, one_line, counted}
+use Rattle.script_running.specs.script_judging.Settling.{spelled}
 use Rattle.script_running.specs.Outs.{stops, Outs, Served, Breaks, Runs}
 use Rattle.script_running.specs.Hearing.{Hears}
-use Rattle.script_judging.specs.declared.judging.Answer.{Answer}
-use Rattle.script_judging.specs.declared.judging.Summary.{Summary}
-use Rattle.script_judging.specs.declared.larger.Larger.{Larger}
+use Rattle.script_running.specs.declared.script_judging.judging.Answer.{Answer}
+use Rattle.script_running.specs.declared.script_judging.judging.Summary.{Summary}
+use Rattle.script_running.specs.declared.script_judging.larger.Larger.{Larger}
 use Rattle.script_running.specs.declared.running.Heard.TheVariants as heard
 use Rattle.script_running.specs.declared.running.RunFault.{RunFault}
 use Rattle.script_running.specs.declared.running.RunFault.TheVariants as faults

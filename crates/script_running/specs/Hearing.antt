@@ -6,10 +6,10 @@ use Rattle.script_reader.specs.declared.lines.Lines.{Lines}
 use Rattle.script_reader.specs.declared.lines.Found.TheVariants as found
 use Rattle.undo_journal.specs.Machine.{Machine}
 use Rattle.solid_listing.specs.declared.reply.Reply.TheVariants as reply
-use Rattle.script_judging.specs.Judging.{Judges}
-use Rattle.script_judging.specs.Settling.{Decides}
-use Rattle.script_judging.specs.declared.judging.Answer.TheVariants.{Reply as Told}
-use Rattle.script_judging.specs.declared.larger.Larger.{Larger}
+use Rattle.script_running.specs.script_judging.Judging.{Judges}
+use Rattle.script_running.specs.script_judging.Settling.{Decides}
+use Rattle.script_running.specs.declared.script_judging.judging.Answer.TheVariants.{Reply as Told}
+use Rattle.script_running.specs.declared.script_judging.larger.Larger.{Larger}
 use Rattle.script_running.specs.declared.running.Heard.{Heard}
 use Rattle.script_running.specs.declared.running.Heard.TheVariants as heard
 

@@ -2,7 +2,7 @@
 use Rattle.std.specs.Prelude.{◌≡◌, ℕ, Bool, List}
 use Rattle.undo_journal.specs.Machine.{Machine}
 use Rattle.script_running.specs.Outs.{Outs}
-use Rattle.script_judging.specs.declared.judging.Summary.{Summary}
+use Rattle.script_running.specs.declared.script_judging.judging.Summary.{Summary}
 
 -- then there is one text with which they may be answered, and one summary
 abbrev pub OneOutput : Type 0

@@ -3,9 +3,9 @@ use Rattle.std.specs.Prelude.{◌≡◌, ◌⊎◌, ℕ, ◌≤◌, Bool, true, 
 use Rattle.std.specs.Io.KnownBytes.{Consumes, Appends, IsAtEnd}
 use Rattle.script_reader.specs.Lines.{lines_of, within_limit}
 use Rattle.undo_journal.specs.Machine.{Machine, start}
-use Rattle.script_judging.specs.Judging.{Judges, answer_text, complains, no_lines, one_line, counted}
-use Rattle.script_judging.specs.declared.judging.Answer.{Answer}
-use Rattle.script_judging.specs.declared.judging.Summary.{Summary}
+use Rattle.script_running.specs.script_judging.Judging.{Judges, answer_text, complains, no_lines, one_line, counted}
+use Rattle.script_running.specs.declared.script_judging.judging.Answer.{Answer}
+use Rattle.script_running.specs.declared.script_judging.judging.Summary.{Summary}
 use Rattle.script_running.specs.declared.running.RunFault.{RunFault}
 use Rattle.script_running.specs.declared.running.RunFault.TheVariants as fault
 

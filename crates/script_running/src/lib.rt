@@ -3,6 +3,8 @@
 
 mod laws;
 mod running;
+mod script_judging;
 
 pub use laws::one_output;
 pub use running::{RunFault, run};
+pub use script_judging::Summary;

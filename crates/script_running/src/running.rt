@@ -3,11 +3,11 @@ ghost use Rattle.std.specs.Prelude.{◌≡◌, IfOk, IfErr};
 ghost use Rattle.std.specs.Io.KnownBytes.{Keeps};
 ghost use Rattle.solid_listing.specs.Writing.{Puts};
 ghost use Rattle.undo_journal.specs.Machine.{Machine};
-ghost use Rattle.script_judging.specs.Judging.{answer_text};
+ghost use Rattle.script_running.specs.script_judging.Judging.{answer_text};
 ghost use Rattle.script_running.specs.Outs.{Runs, stops};
 ghost use Rattle.script_running.specs.Hearing.{Hears};
 
-use script_judging::{Answer, Larger, Summary, carry_out, complains, judge};
+use crate::script_judging::{Answer, Larger, Summary, carry_out, complains, judge};
 use script_reader::{Fault, Lines, NextLine};
 use solid_listing::{Reply, write_listing, write_reply};
 use std::alloc::Global;

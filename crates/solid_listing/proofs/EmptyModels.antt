@@ -12,8 +12,8 @@ use Rattle.boundary_model.proofs.Models.{held_row}
 use Rattle.halfedge_arena.specs.Store.{Store, IsGreatest}
 use Rattle.solid_listing.specs.Lines.{text_of}
 use Rattle.solid_listing.specs.Listing.{line, numbers_of, lines, or_empty, listing}
-use Rattle.face_walks.proofs.Rising.{member}
-use Rattle.face_walks.proofs.TableWalks.{member_numbers}
+use Rattle.solid_walks.proofs.face_walks_laws.Rising.{member}
+use Rattle.solid_walks.proofs.face_walks_laws.TableWalks.{member_numbers}
 
 here : (k : ℕ) (ks : List ℕ) → member k (k ∷ ks) ≡ true
 here k ks = grind (arith, nat_tests)

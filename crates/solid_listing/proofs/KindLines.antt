@@ -9,8 +9,8 @@ use Rattle.boundary_model.specs.declared.Kind.TheVariants.{Solid, Face, Loop, Ed
 use Rattle.boundary_model.specs.Model.{Model}
 use Rattle.boundary_model.specs.Sound.{Sound}
 use Rattle.solid_listing.specs.Listing.{line, numbers_of, kind_lines, lines}
-use Rattle.face_walks.proofs.Rising.{member}
-use Rattle.face_walks.proofs.TableWalks.{member_numbers}
+use Rattle.solid_walks.proofs.face_walks_laws.Rising.{member}
+use Rattle.solid_walks.proofs.face_walks_laws.TableWalks.{member_numbers}
 use Rattle.solid_listing.proofs.Parsing.{Word, Line}
 use Rattle.solid_listing.proofs.Lines.{here, later, solid_small, face_small, loop_small, edge_small, vertex_small}
 

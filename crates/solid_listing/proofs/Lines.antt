@@ -14,9 +14,9 @@ use Rattle.boundary_model.specs.Sound.{Sound, Has, HasHalf}
 use Rattle.boundary_model.proofs.Halves.{plus_row, minus_row}
 use Rattle.boundary_model.proofs.Models.{in-holds}
 use Rattle.solid_listing.specs.Listing.{line, content_words, half_word, point_words, numbers_of, kind_lines, lines}
-use Rattle.face_walks.proofs.Rising.{member}
-use Rattle.face_walks.proofs.TableWalks.{member_numbers}
-use Rattle.face_walks.proofs.RingWalks.{member_rings}
+use Rattle.solid_walks.proofs.face_walks_laws.Rising.{member}
+use Rattle.solid_walks.proofs.face_walks_laws.TableWalks.{member_numbers}
+use Rattle.solid_walks.proofs.face_walks_laws.RingWalks.{member_rings}
 use Rattle.solid_listing.proofs.Parsing.{Word, Line, is_clean, are_clean, is_good, are_good, and_left, and_right, and_both}
 use Rattle.solid_listing.proofs.Words.{number_small, coordinate_small, clean_decimal, clean_signed, clean_half}
 

@@ -14,9 +14,9 @@ use Rattle.boundary_model.proofs.Halves.{plus_row, minus_row}
 use Rattle.boundary_model.proofs.Models.{content_row, face_row, tail_row}
 use Rattle.solid_listing.specs.Lines.{text_of}
 use Rattle.solid_listing.specs.Listing.{line, content_words, half_word, lines, or_empty, listing}
-use Rattle.face_walks.proofs.Rising.{member}
-use Rattle.face_walks.proofs.TableWalks.{member_numbers}
-use Rattle.face_walks.proofs.RingWalks.{member_rings}
+use Rattle.solid_walks.proofs.face_walks_laws.Rising.{member}
+use Rattle.solid_walks.proofs.face_walks_laws.TableWalks.{member_numbers}
+use Rattle.solid_walks.proofs.face_walks_laws.RingWalks.{member_rings}
 use Rattle.solid_listing.proofs.Parsing.{Word, Line, is_good, are_good, and_left, and_right, parsed, parsed_text, parsed_one}
 use Rattle.solid_listing.proofs.Words.{coordinate_small, half_told}
 use Rattle.solid_listing.proofs.Lines.{lines_good, solid_small, loop_small, edge_small, vertex_small, ring_there, item_there, plus_tail_small, minus_tail_small, point_in_range}

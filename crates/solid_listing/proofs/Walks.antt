@@ -8,8 +8,8 @@ use Rattle.boundary_model.specs.Model.{Model, LoopRow, no_loop, face_of, outer, 
 use Rattle.boundary_model.specs.Sound.{Sound, NumbersFit}
 use Rattle.halfedge_arena.specs.Store.{Store, IsNextNumber, IsNextRing}
 use Rattle.solid_listing.specs.Listing.{numbers_of}
-use Rattle.face_walks.proofs.Rising.{above, member, all_above, next_above, none_above, all_above_members}
-use Rattle.face_walks.proofs.TableWalks.{passes, rising_numbers, member_numbers, rising_passing, member_passing}
+use Rattle.solid_walks.proofs.face_walks_laws.Rising.{above, member, all_above, next_above, none_above, all_above_members}
+use Rattle.solid_walks.proofs.face_walks_laws.TableWalks.{passes, rising_numbers, member_numbers, rising_passing, member_passing}
 
 -- the numbers of a table
 module _ {X : Type 0} (t : Table X) where

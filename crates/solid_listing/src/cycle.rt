@@ -11,8 +11,8 @@ ghost use Rattle.solid_listing.specs.Writing.{Puts};
 use crate::text::{Text, append, append_digits};
 use crate::writing::{WriteFault, put};
 use arrayvec::ArrayVec;
-use face_walks::least_item;
 use halfedge_arena::{Arena, HalfEdge};
+use solid_walks::least_item;
 use std::io::Write;
 
 /// A space and a half-edge: its sign and its edge.

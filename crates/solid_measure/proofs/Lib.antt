@@ -1,3 +1,5 @@
+pub mod solid_checks_laws
+pub mod solid_counts_laws
 pub mod Areas
 pub mod AreaRounds
 pub mod LeastRounds
@@ -5,4 +7,3 @@ pub mod FlatRounds
 pub mod Boundaries
 pub mod Planes
 pub mod Volumes
-pub use Rattle.solid_counts.proofs.HowMany

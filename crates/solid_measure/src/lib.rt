@@ -5,8 +5,11 @@ mod faces;
 mod halves;
 mod loops;
 mod measures;
+mod solid_checks;
+mod solid_counts;
 
 pub use measures::{is_flat, normal, plane, six_volume};
+pub use solid_checks::{least_bent, least_bent_of_both, least_lone, least_lone_of_both};
 pub use solid_counts::{Tally, counts};
 
 /// A sum of cross products of points.

@@ -7,10 +7,10 @@ ghost use Rattle.euler_conditions.specs.Ready.{IsReady};
 ghost use Rattle.solid_measure.specs.Measure.{answer, face_refusal, is_flat, normal, plane_of, six_volume, solid_refusal};
 
 use crate::faces;
+use crate::solid_counts::refusal_of_solid;
 use euler_conditions::{Arena, Kind};
 use euler_operators::{Refusal, Why};
 use lattice::Plane;
-use solid_counts::refusal_of_solid;
 
 /// Whether the number lies from 1 to the limit.
 fn is_number(n: u32) -> bool

@@ -1,3 +1,4 @@
+pub mod face_walks_laws
 pub mod Rising
 pub mod Rounds
 pub mod FaceLoops

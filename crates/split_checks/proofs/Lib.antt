@@ -1,4 +1,3 @@
-pub mod Often
-pub mod Leasts
-pub mod Meetings
-pub mod Stages
+pub mod cut_places_laws
+pub mod place_order_laws
+pub mod begin_checks_laws

@@ -1,3 +1,3 @@
-pub mod Conditions
-pub mod Counters
-pub mod Flaws
+pub mod cut_places
+pub mod place_order
+pub mod begin_checks

@@ -9,8 +9,8 @@ ghost use Rattle.shapes.specs.Faces.{corners, least_lone, vertices_on};
 ghost use Rattle.sweeps.specs.Corners.{IsLoneRing, IsTally};
 
 use euler_conditions::{Arena, Content, HalfEdge, Kind};
-use face_walks::least_item;
 use lattice::{Point, sum_in_range};
+use solid_walks::least_item;
 
 /// Whether the loop is lone.
 fn is_lone(arena: &Arena, l: u32) -> bool

@@ -18,8 +18,8 @@ ghost use Rattle.sweeps.specs.Counters.{taken_of};
 
 use crate::fresh::{Counters, counters_of};
 use euler_conditions::{Arena, Content, Corner, HalfEdge, Kind, Op};
-use face_walks::{face_loops, items_from, minus, plus};
 use lattice::{Point, sum};
+use solid_walks::{face_loops, items_from, minus, plus};
 use std::alloc::{AllocError, Global};
 use undo_journal::Draft;
 

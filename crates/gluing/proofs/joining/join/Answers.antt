@@ -8,7 +8,7 @@ use Rattle.boundary_model.proofs.Halves.{half-code}
 use Rattle.euler_operators.specs.declared.Op.TheVariants.{Kef}
 use Rattle.undo_journal.specs.Machine.{DraftState}
 use Rattle.shapes.specs.Faces.{start}
-use Rattle.face_walks.proofs.HalfCodes.{codes_same, codes_differ}
+use Rattle.solid_walks.proofs.face_walks_laws.HalfCodes.{codes_same, codes_differ}
 use Rattle.shapes.specs.glue.Glue.{rim, partner, glue_refusal}
 use Rattle.shapes.specs.glue.GlueOps.{fresh_edge}
 use Rattle.gluing.proofs.Opened as opened

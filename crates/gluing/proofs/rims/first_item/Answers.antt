@@ -1,7 +1,7 @@
 use Rattle.std.proofs.Common.{sym, ap, ◌∙◌}
 use Rattle.cyclic_list.specs.Items.{head_or, least}
 use Rattle.boundary_model.specs.HalfEdge.{code}
-use Rattle.face_walks.proofs.CycleWalks.{from_least}
+use Rattle.solid_walks.proofs.face_walks_laws.CycleWalks.{from_least}
 use Rattle.gluing.proofs.rims.first_item.Goals as goal
 
 pub returns-clause-first : goal.returns-clause-first

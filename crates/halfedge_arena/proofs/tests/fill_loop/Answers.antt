@@ -1,4 +1,4 @@
-use Rattle.arena_row_laws.proofs.Filling.{has-clear, content-clear}
+use Rattle.arena_rows.proofs.Filling.{has-clear, content-clear}
 use Rattle.halfedge_arena.proofs.tests.fill_loop.Goals as goal
 
 pub fill-requires-clause-there : goal.fill-requires-clause-there

@@ -1,7 +1,7 @@
 use Rattle.std.proofs.Common.{ap}
 use Rattle.euler_operators.specs.Effect.{inverse}
 use Rattle.euler_operators.specs.declared.Op.TheVariants.{Mfkrh}
-use Rattle.face_operators.proofs.Facts.{kfmrh_has}
+use Rattle.low_euler.proofs.face_operators_laws.Facts.{kfmrh_has}
 use Rattle.low_euler.proofs.inverse.kfmrh.Goals as goal
 
 pub outer-ring-requires : goal.outer-ring-requires

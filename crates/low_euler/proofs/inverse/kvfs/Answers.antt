@@ -4,7 +4,7 @@ use Rattle.boundary_model.specs.Model.{outer, content}
 use Rattle.euler_operators.specs.declared.Op.TheVariants.{Kvfs}
 use Rattle.euler_operators.specs.Conditions.{is_lone, lone_vertex}
 use Rattle.euler_conditions.specs.Ready.{Accepts}
-use Rattle.vertex_operators.proofs.SolidRows.{face_there, solid_there, outer_there, outer_lone, vertex_there, has_one_face}
+use Rattle.low_euler.proofs.vertex_operators_laws.SolidRows.{face_there, solid_there, outer_there, outer_lone, vertex_there, has_one_face}
 use Rattle.low_euler.proofs.Inverses.{kvfs_inverse}
 use Rattle.low_euler.proofs.inverse.kvfs.Goals as goal
 

@@ -1,7 +1,7 @@
 use Rattle.std.proofs.Common.{ap}
 use Rattle.euler_operators.specs.Effect.{inverse}
 use Rattle.euler_operators.specs.declared.Op.TheVariants.{Part}
-use Rattle.face_operators.proofs.Facts.{merge_has}
+use Rattle.low_euler.proofs.face_operators_laws.Facts.{merge_has}
 use Rattle.low_euler.proofs.inverse.merge.Goals as goal
 
 pub in_use-requires : goal.in_use-requires

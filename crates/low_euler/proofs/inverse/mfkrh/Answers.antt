@@ -1,7 +1,7 @@
 use Rattle.std.proofs.Common.{ap}
 use Rattle.euler_operators.specs.Effect.{inverse}
 use Rattle.euler_operators.specs.declared.Op.TheVariants.{Kfmrh}
-use Rattle.face_operators.proofs.Facts.{mfkrh_has}
+use Rattle.low_euler.proofs.face_operators_laws.Facts.{mfkrh_has}
 use Rattle.low_euler.proofs.inverse.mfkrh.Goals as goal
 
 pub face_of-requires : goal.face_of-requires

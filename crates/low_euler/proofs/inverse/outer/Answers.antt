@@ -3,7 +3,7 @@ use Rattle.euler_operators.specs.Effect.{inverse}
 use Rattle.boundary_model.specs.Table as table
 use Rattle.boundary_model.specs.Model.{outer}
 use Rattle.euler_operators.specs.declared.Op.TheVariants.{RingOut}
-use Rattle.face_operators.proofs.Facts.{outer_has}
+use Rattle.low_euler.proofs.face_operators_laws.Facts.{outer_has}
 use Rattle.low_euler.proofs.inverse.outer.Goals as goal
 
 pub face_of-home-requires : goal.face_of-home-requires

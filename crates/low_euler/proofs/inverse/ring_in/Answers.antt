@@ -1,7 +1,7 @@
 use Rattle.std.proofs.Common.{ap}
 use Rattle.euler_operators.specs.Effect.{inverse}
 use Rattle.euler_operators.specs.declared.Op.TheVariants.{RingIn}
-use Rattle.face_operators.proofs.Facts.{ring_in_has}
+use Rattle.low_euler.proofs.face_operators_laws.Facts.{ring_in_has}
 use Rattle.low_euler.proofs.inverse.ring_in.Goals as goal
 
 pub face_of-requires : goal.face_of-requires

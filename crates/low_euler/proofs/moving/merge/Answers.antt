@@ -4,7 +4,7 @@ use Rattle.euler_conditions.specs.Store.{Store, set_solid, within, is_face_of, I
 use Rattle.boundary_model.specs.Model.{faces_of}
 use Rattle.euler_operators.specs.declared.Op.TheVariants.{Merge}
 use Rattle.euler_conditions.specs.Ready.{after}
-use Rattle.face_operators.proofs.Facts.{merge_has}
+use Rattle.low_euler.proofs.face_operators_laws.Facts.{merge_has}
 use Rattle.low_euler.proofs.Merging.{merge_apart, merge_same, one_less, zero_stays, merge_ends, no_zero_face, no_face_left}
 use Rattle.low_euler.proofs.moving.merge.Goals as goal
 

@@ -1,8 +1,8 @@
 use Rattle.std.proofs.Common.{[], Ok, sym, ap, subst, ◌∙◌}
 use Rattle.euler_operators.specs.Conditions.{verdict}
 use Rattle.shapes.specs.split.Split.{split_above}
-use Rattle.face_drawing.specs.Codes.{drawing_of}
-use Rattle.section_checks.specs.Sections.{IsSection}
+use Rattle.split_drawing.specs.face_drawing.Codes.{drawing_of}
+use Rattle.split_sections.specs.section_checks.Sections.{IsSection}
 use Rattle.plane_split.proofs.Conditions.{plane_within, still_there, later_decide}
 use Rattle.plane_split.proofs.Parted.{split_is}
 use Rattle.plane_split.proofs.steps.carry_out.Goals as goal

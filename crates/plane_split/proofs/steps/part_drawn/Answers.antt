@@ -1,6 +1,6 @@
 use Rattle.std.proofs.Common.{◌∙◌, ap}
 use Rattle.std.proofs.lemmas.Result.{on_ok_weaker}
-use Rattle.solid_opening.specs.Capped.{all_caps}
+use Rattle.plane_split.specs.solid_opening.Capped.{all_caps}
 use Rattle.plane_split.proofs.Parted.{section_opens, upper_leads}
 use Rattle.plane_split.proofs.steps.part_drawn.Goals as goal
 

@@ -1,8 +1,8 @@
 use Rattle.std.proofs.Common.{◌≡◌, ◌+◌, ℕ, sym, ap, subst, ◌∙◌, arith, None}
 use Rattle.std.proofs.lemmas.Result.{err_from_is_err_and}
 use Rattle.std.proofs.KnownBytes.{Consumes-nil}
-use Rattle.script_judging.specs.declared.judging.Summary.{Summary}
-use Rattle.script_judging.specs.Judging.{no_lines}
+use Rattle.script_running.specs.declared.script_judging.judging.Summary.{Summary}
+use Rattle.script_running.specs.script_judging.Judging.{no_lines}
 use Rattle.script_running.proofs.Counting.{IsWithin, same_counts, counted_within, one_more}
 use Rattle.script_running.proofs.RunLaws.{Progress, begins, flushed, turn_of, goes_on, answered_line, carried, stopped, ends, finished, read_fails, too_long, write_fails, flush_fails, nothing_begins, falls, stop_is}
 use Rattle.script_running.specs.Hearing.{Hears}

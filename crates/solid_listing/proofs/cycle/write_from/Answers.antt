@@ -6,8 +6,8 @@ use Rattle.boundary_model.specs.Model.{cycle_of}
 use Rattle.solid_listing.specs.Lines.{spaced}
 use Rattle.solid_listing.specs.Listing.{half_word}
 use Rattle.solid_listing.specs.Writing.{Stops}
-use Rattle.face_walks.proofs.HalfCodes.{codes_same, codes_differ}
-use Rattle.face_walks.proofs.CycleWalks.{to_come, item_there, item_in, from_least, goes_on, comes_back}
+use Rattle.solid_walks.proofs.face_walks_laws.HalfCodes.{codes_same, codes_differ}
+use Rattle.solid_walks.proofs.face_walks_laws.CycleWalks.{to_come, item_there, item_in, from_least, goes_on, comes_back}
 use Rattle.solid_listing.proofs.WritingLaws.{Writes, none_yet, wrote_more, stops_inside, all_written}
 use Rattle.solid_listing.proofs.cycle.write_from.Goals as goal
 

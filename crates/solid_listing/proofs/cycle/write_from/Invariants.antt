@@ -4,7 +4,7 @@ use Rattle.boundary_model.specs.HalfEdge.{code}
 use Rattle.boundary_model.specs.Model.{cycle_of}
 use Rattle.solid_listing.specs.Lines.{spaced}
 use Rattle.solid_listing.specs.Listing.{half_word}
-use Rattle.face_walks.proofs.CycleWalks.{to_come}
+use Rattle.solid_walks.proofs.face_walks_laws.CycleWalks.{to_come}
 use Rattle.solid_listing.proofs.WritingLaws.{Writes}
 use Rattle.solid_listing.proofs.cycle.write_from.Given as goal
 

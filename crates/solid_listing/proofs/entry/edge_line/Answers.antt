@@ -2,7 +2,7 @@ use Rattle.std.proofs.Common.{◌≡◌, ◌∙◌, ap, [], ◌∷◌, map, deci
 use Rattle.boundary_model.specs.HalfEdge.{plus, minus}
 use Rattle.boundary_model.specs.Model.{tail, has_half}
 use Rattle.solid_listing.specs.Lines.{line_text}
-use Rattle.face_walks.proofs.HalfCodes.{code_plus, mate_plus, plus_there, mate_there}
+use Rattle.solid_walks.proofs.face_walks_laws.HalfCodes.{code_plus, mate_plus, plus_there, mate_there}
 use Rattle.solid_listing.proofs.entry.edge_line.Goals as goal
 
 pub tail-requires : goal.tail-requires

@@ -6,8 +6,8 @@ use Rattle.boundary_model.specs.Model.{rings_of}
 use Rattle.solid_listing.specs.Lines.{spaced}
 use Rattle.solid_listing.specs.Writing.{Stops}
 use Rattle.solid_listing.proofs.LineLaws.{spaced_one}
-use Rattle.face_walks.proofs.Rising.{above}
-use Rattle.face_walks.proofs.RingWalks.{next_ring, no_ring, rings_from_zero}
+use Rattle.solid_walks.proofs.face_walks_laws.Rising.{above}
+use Rattle.solid_walks.proofs.face_walks_laws.RingWalks.{next_ring, no_ring, rings_from_zero}
 use Rattle.solid_listing.proofs.WritingLaws.{Writes, none_yet, wrote_more, stops_inside, all_written}
 use Rattle.solid_listing.proofs.entry.write_rings.Goals as goal
 

@@ -1,5 +1,5 @@
 use Rattle.std.proofs.Common.{ap, length, arith}
-use Rattle.face_walks.proofs.RingWalks.{next_ring}
+use Rattle.solid_walks.proofs.face_walks_laws.RingWalks.{next_ring}
 use Rattle.sweeps.proofs.Tallies.{outer_met, ring_met, face_met}
 use Rattle.sweeps.proofs.corners.face_tally.Goals as goal
 

@@ -1,5 +1,5 @@
 use Rattle.std.proofs.Common.{sym, ◌∙◌, ap, length, arith}
-use Rattle.face_walks.proofs.RingWalks.{next_ring}
+use Rattle.solid_walks.proofs.face_walks_laws.RingWalks.{next_ring}
 use Rattle.sweeps.proofs.LoneLoops.{none_more, ring_found, none_found}
 use Rattle.sweeps.proofs.corners.lone_ring.Goals as goal
 

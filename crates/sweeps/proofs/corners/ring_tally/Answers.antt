@@ -3,8 +3,8 @@ use Rattle.boundary_model.specs.HalfEdge.{code}
 use Rattle.boundary_model.specs.Model.{cycle_of}
 use Rattle.boundary_model.specs.Sound.{Has}
 use Rattle.cyclic_list.specs.Items.{least}
-use Rattle.face_walks.proofs.HalfCodes.{codes_same, codes_differ}
-use Rattle.face_walks.proofs.CycleWalks.{item_there, item_in, goes_on, comes_back}
+use Rattle.solid_walks.proofs.face_walks_laws.HalfCodes.{codes_same, codes_differ}
+use Rattle.solid_walks.proofs.face_walks_laws.CycleWalks.{item_there, item_in, goes_on, comes_back}
 use Rattle.sweeps.proofs.Tallies.{ring_begun, ring_more, ring_done}
 use Rattle.sweeps.proofs.corners.ring_tally.Goals as goal
 

@@ -2,7 +2,7 @@ use Rattle.std.proofs.Common.{length, map}
 use Rattle.cyclic_list.specs.Items.{IsIn}
 use Rattle.boundary_model.specs.HalfEdge.{code}
 use Rattle.boundary_model.specs.Model.{cycle_of, tail}
-use Rattle.face_walks.proofs.CycleWalks.{seen, to_come}
+use Rattle.solid_walks.proofs.face_walks_laws.CycleWalks.{seen, to_come}
 use Rattle.sweeps.specs.Corners.{IsTally}
 use Rattle.sweeps.proofs.corners.ring_tally.Given as goal
 

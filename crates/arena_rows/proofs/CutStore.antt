@@ -1,0 +1,249 @@
+-- The store after a cut and after a join.
+use Rattle.std.proofs.Common.{◌≡◌, ◌≢◌, ℕ, Bool, true, cond, nat_eq, List, [], length, Option, Some, None, is_some, refl, sym, ap, subst, ◌∙◌, eq-eqb, ne_eqb, inl, inr}
+use Rattle.std.proofs.lemmas.Bool.Decides.{eqb_tells}
+use Rattle.boundary_model.specs.declared.Point.{Point}
+use Rattle.arena_rows.specs.declared.rows.FaceCell.{FaceCell}
+use Rattle.arena_rows.specs.declared.rows.LoopCell.{LoopCell}
+use Rattle.arena_rows.specs.declared.rows.Held.TheVariants.{Empty, At}
+use Rattle.boundary_model.specs.Table.{get, put, remove, get-put, same_table}
+use Rattle.arena_rows.specs.Rows.{row_at, map_row, table_of}
+use Rattle.boundary_model.specs.Model.{Model, cycle}
+use Rattle.arena_rows.specs.Store.{Store, loosened}
+use Rattle.arena_rows.specs.ring_spots.Spots.{Spots, live, label, ring, spliced_at, labelled, AreRings}
+use Rattle.arena_rows.specs.View.{store_of, IsTied, held_content, loop_row, AreLoops}
+use Rattle.arena_rows.proofs.Views.{get-table_of, some_is}
+use Rattle.boundary_model.specs.Rings.{cut_left, cut_right, joined}
+use Rattle.boundary_model.specs.Model.{has_half, loop_of, items_of, content, cycle_of}
+use Rattle.arena_rows.specs.Store.{cut_loose, cut_to, join_loops, join_loose, loose_ring, held_row}
+use Rattle.arena_rows.specs.View.{Fits}
+use Rattle.arena_rows.proofs.Views.{has-row, fits-write, table_of-put}
+use Rattle.arena_rows.proofs.Writes.{row_here, row_some}
+use Rattle.arena_rows.proofs.Stands.{half_there, loop_of_is, cycle_of_is, content_row, face_row_of, loose_key_is, loose_ring_is}
+use Rattle.arena_rows.proofs.Tellings.{store_is, content_alike}
+use Rattle.arena_rows.proofs.Cutting.{IsBare, rings1, rings2, live2, AreLoops-cut, loose-cut_to, loose-cut_loose, edges-cut, loops-cut, ring_of_right, apart_rows, jrings1, a_live1, b_live1, jrings2, jlive2, jedges, jkept, jring_a, loose-join_loops, loose-join_loose, AreLoops-join}
+
+pub record CutFacts (sp : Spots) (loops : List (Option LoopCell)) (a b l : ℕ) : Type 0 where
+  pub a_there : live sp a ≡ true
+  pub b_there : live sp b ≡ true
+  pub looped : label sp a ≢ 0
+  pub one : label sp b ≡ label sp a
+  pub free : l ≢ 0 → IsBare sp loops l
+
+pub record JoinFacts (sp : Spots) (a b : ℕ) : Type 0 where
+  pub a_there : live sp a ≡ true
+  pub b_there : live sp b ≡ true
+  pub looped : label sp a ≢ 0
+  pub other : label sp b ≢ label sp a
+
+-- a row at another number
+pub row_there : {X : Type 0} (rows new : List (Option X)) (n : ℕ) (x : Option X) → ((q : ℕ) → row_at new q ≡ cond (nat_eq q n) x (row_at rows q)) → (q : ℕ) → q ≢ n → row_at new q ≡ row_at rows q
+row_there rows new n x is q ne = is q ∙ ap (λ b. cond b x (row_at rows q)) (ne_eqb q n ne)
+
+-- one row is written, and what the others hold reads alike
+loops_table_rows : (sp new : Spots) (rows0 rows : List (Option LoopCell)) (l : ℕ) (cell : LoopCell) → ((q : ℕ) → row_at rows q ≡ cond (nat_eq q l) (Some cell) (row_at rows0 q)) → ((q : ℕ) (c : LoopCell) → q ≢ l → row_at rows0 q ≡ Some c → held_content new c.held ≡ held_content sp c.held) →
+    table_of (loop_row new) rows ≡ put (table_of (loop_row sp) rows0) l (loop_row new cell)
+loops_table_rows sp new rows0 rows l cell is alike = same_table (table_of (loop_row new) rows) (put (table_of (loop_row sp) rows0) l (loop_row new cell)) (λ q.
+    get-table_of (loop_row new) rows q ∙ ap (map_row (loop_row new)) (is q) ∙ elim (eqb_tells q l) [
+      | inl p ↦ ap (λ b. map_row (loop_row new) (cond b (Some cell) (row_at rows0 q))) p.0 ∙ sym (get-put _ l (loop_row new cell) q ∙ ap (λ b. cond b (Some (loop_row new cell)) (get (table_of (loop_row sp) rows0) q)) p.0)
+      | inr p ↦ ap (λ b. map_row (loop_row new) (cond b (Some cell) (row_at rows0 q))) p.0 ∙ other q p.1 (row_at rows0 q) refl ∙ sym (get-put _ l (loop_row new cell) q ∙ ap (λ b. cond b (Some (loop_row new cell)) (get (table_of (loop_row sp) rows0) q)) p.0 ∙ get-table_of (loop_row sp) rows0 q)
+    ])
+  where
+    other : (q : ℕ) → q ≢ l → (o : Option LoopCell) → row_at rows0 q ≡ o → map_row (loop_row new) o ≡ map_row (loop_row sp) o
+    other q n None at = refl
+    other q n (Some c) at = ap (λ k. Some (record { face = c.face; content = k })) (alike q c n at)
+
+module _ (sp : Spots) (known : ℕ → Bool) (solids : List (Option Bool)) (faces : List (Option FaceCell)) (loops : List (Option LoopCell)) (vertices : List (Option Point)) (tied : IsTied sp known solids faces loops vertices) where
+  abbrev S : Store
+  S = store_of sp known solids faces loops vertices
+
+  abbrev M : Model
+  M = S.model
+
+  abbrev R : AreRings sp
+  R = tied.rings
+
+  abbrev are : AreLoops sp loops
+  are = tied.loops_tied
+
+  pub cut_facts : (a b l : ℕ) → has_half M a ≡ true → has_half M b ≡ true → loop_of M a ≢ 0 → loop_of M b ≡ loop_of M a → (l ≢ 0 → (is_some (get M.loops l) ≡ true) × (items_of (content M l) ≡ [])) → CutFacts sp loops a b l
+  cut_facts a b l ha hb looped one free =
+      let at = half_there sp known solids faces loops vertices tied a ha in
+      let bt = half_there sp known solids faces loops vertices tied b hb in
+      let ea = loop_of_is sp known solids faces loops vertices tied a at in
+      let eb = loop_of_is sp known solids faces loops vertices tied b bt in
+      record {
+        a_there = at;
+        b_there = bt;
+        looped = λ z. looped (ea ∙ z);
+        one = sym eb ∙ one ∙ ea;
+        free = λ n. let f = free n in let r = row_some (row_at loops l) (has-row (loop_row sp) loops l f.0) in
+            record { cell = r.0; here = r.1; bare = ap items_of (sym (content_row sp known solids faces loops vertices tied l r.0 r.1)) ∙ f.1 };
+      }
+
+  pub join_facts : (a b : ℕ) → has_half M a ≡ true → has_half M b ≡ true → loop_of M a ≢ 0 → loop_of M b ≢ loop_of M a → JoinFacts sp a b
+  join_facts a b ha hb looped other =
+      let at = half_there sp known solids faces loops vertices tied a ha in
+      let bt = half_there sp known solids faces loops vertices tied b hb in
+      let ea = loop_of_is sp known solids faces loops vertices tied a at in
+      let eb = loop_of_is sp known solids faces loops vertices tied b bt in
+      record { a_there = at; b_there = bt; looped = λ z. looped (ea ∙ z); other = λ z. other (eb ∙ z ∙ sym ea) }
+
+  -- the row of the loop of a labelled code is there
+  pub row_of : (h : ℕ) → live sp h ≡ true → label sp h ≢ 0 → is_some (row_at loops (label sp h)) ≡ true
+  row_of h a n = ap is_some (are.stands h a n).here
+
+  tied_with : (new : Spots) (known' : ℕ → Bool) (rows : List (Option LoopCell)) → AreRings new → live new 0 ≡ live sp 0 → AreLoops new rows → Fits rows → IsTied new known' solids faces rows vertices
+  tied_with new known' rows N z A F = record { rings = N; no_edge = λ e. tied.no_edge (sym z ∙ e); loops_tied = A; solids_fit = tied.solids_fit; faces_fit = tied.faces_fit; loops_fit = F; vertices_fit = tied.vertices_fit; points = tied.points }
+
+  module _ (a b l : ℕ) (g : CutFacts sp loops a b l) (ne : a ≢ b) where
+    abbrev cutted : Spots
+    cutted = labelled (spliced_at sp a b) l (ring (spliced_at sp a b) b)
+
+    abbrev here : ℕ
+    here = label sp a
+
+    pub cut_rings : AreRings (spliced_at sp a b)
+    cut_rings = rings1 sp loops R are tied.loops_fit.no_zero a b g.a_there g.b_there g.looped g.one ne l g.free
+
+    cut_rings2 : AreRings cutted
+    cut_rings2 = rings2 sp loops R are tied.loops_fit.no_zero a b g.a_there g.b_there g.looped g.one ne l g.free
+
+    cut_live : (x : ℕ) → live cutted x ≡ live sp x
+    cut_live = live2 sp loops R are tied.loops_fit.no_zero a b g.a_there g.b_there g.looped g.one ne l g.free
+
+    module _ (cell : LoopCell) (found : row_at loops here ≡ Some cell) (rows1 : List (Option LoopCell)) (len1 : length rows1 ≡ length loops) (is1 : (q : ℕ) → row_at rows1 q ≡ cond (nat_eq q here) (Some (record { face = cell.face; held = At a })) (row_at loops q)) where
+      pub fits1 : Fits rows1
+      fits1 = fits-write loops rows1 here _ tied.loops_fit g.looped len1 is1
+
+      loops1 : table_of (loop_row cutted) rows1 ≡ put M.loops (loop_of M a) (held_row M (loop_of M a) (cycle (cut_left a b (cycle_of M a))))
+      loops1 =
+          loops-cut sp loops R are tied.loops_fit.no_zero a b g.a_there g.b_there g.looped g.one ne l g.free rows1 cell.face is1
+          ∙ ap (λ f. put M.loops here (record { face = f; content = cycle (cut_left a b (ring sp a)) })) (sym (face_row_of sp known solids faces loops vertices tied here cell found))
+          ∙ ap (λ hs. put M.loops here (held_row M here (cycle (cut_left a b hs)))) (sym (cycle_of_is sp known solids faces loops vertices tied a g.a_there g.looped))
+          ∙ ap (λ n. put M.loops n (held_row M n (cycle (cut_left a b (cycle_of M a))))) (sym (loop_of_is sp known solids faces loops vertices tied a g.a_there))
+
+      pub tied_cut_loose : (known' : ℕ → Bool) → l ≡ 0 → (new : Spots) → new ≡ cutted → IsTied new known' solids faces rows1 vertices
+      tied_cut_loose known' z new e = subst (λ s. IsTied s known' solids faces rows1 vertices) (sym e) (tied_with cutted known' rows1 cut_rings2 (cut_live 0)
+          (AreLoops-cut sp loops R are tied.loops_fit.no_zero a b g.a_there g.b_there g.looped g.one ne l g.free rows1 cell.face (row_here loops rows1 here _ is1) (λ n. absurd (n z)) (λ q n m. row_there loops rows1 here _ is1 q n) fits1.no_zero) fits1)
+
+      pub store_cut_loose : (known' : ℕ → Bool) → known' ≡ known → l ≡ 0 → (new : Spots) → new ≡ cutted → store_of new known' solids faces rows1 vertices ≡ cut_loose S a b
+      unfolding cut_loose
+      store_cut_loose known' k z new e = (λ i. store_of (e i) (k i) solids faces rows1 vertices)
+          ∙ store_is sp known solids faces loops vertices cutted rows1 _ _ len1 (edges-cut sp loops R are tied.loops_fit.no_zero a b g.a_there g.b_there g.looped g.one ne l g.free) loops1
+          (loose-cut_loose sp loops R are tied.loops_fit.no_zero a b g.a_there g.b_there g.looped g.one ne l g.free z
+          ∙ ap (λ hs. loosened (cut_right a b hs) S.loose) (sym (cycle_of_is sp known solids faces loops vertices tied a g.a_there g.looped)))
+
+      pub kept_bare : l ≢ 0 → is_some (row_at rows1 l) ≡ true
+      kept_bare n = ap is_some (row_there loops rows1 here _ is1 l (apart_rows sp loops R are tied.loops_fit.no_zero a b g.a_there g.b_there g.looped g.one ne l g.free n) ∙ (g.free n).here)
+
+      module _ (n : l ≢ 0) (cell2 : LoopCell) (found2 : row_at rows1 l ≡ Some cell2) (rows2 : List (Option LoopCell)) (len2 : length rows2 ≡ length rows1) (is2 : (q : ℕ) → row_at rows2 q ≡ cond (nat_eq q l) (Some (record { face = cell2.face; held = At b })) (row_at rows1 q)) where
+        not_here : l ≢ here
+        not_here = apart_rows sp loops R are tied.loops_fit.no_zero a b g.a_there g.b_there g.looped g.one ne l g.free n
+
+        fits2 : Fits rows2
+        fits2 = fits-write rows1 rows2 l _ fits1 n len2 is2
+
+        pub tied_cut_to : (known' : ℕ → Bool) → (new : Spots) → new ≡ cutted → IsTied new known' solids faces rows2 vertices
+        tied_cut_to known' new e = subst (λ s. IsTied s known' solids faces rows2 vertices) (sym e) (tied_with cutted known' rows2 cut_rings2 (cut_live 0)
+            (AreLoops-cut sp loops R are tied.loops_fit.no_zero a b g.a_there g.b_there g.looped g.one ne l g.free rows2 cell.face
+            (row_there rows1 rows2 l _ is2 here (λ q. not_here (sym q)) ∙ row_here loops rows1 here _ is1) (λ _. (cell2.face, row_here rows1 rows2 l _ is2))
+            (λ q u v. row_there rows1 rows2 l _ is2 q v ∙ row_there loops rows1 here _ is1 q u) fits2.no_zero) fits2)
+
+        pub store_cut_to : (known' : ℕ → Bool) → known' ≡ known → (new : Spots) → new ≡ cutted → store_of new known' solids faces rows2 vertices ≡ cut_to S a b l
+        unfolding cut_to
+        store_cut_to known' k new e = (λ i. store_of (e i) (k i) solids faces rows2 vertices)
+            ∙ store_is sp known solids faces loops vertices cutted rows2 _ _ (len2 ∙ len1) (edges-cut sp loops R are tied.loops_fit.no_zero a b g.a_there g.b_there g.looped g.one ne l g.free)
+            (table_of-put (loop_row cutted) rows1 rows2 l _ is2
+            ∙ ap (λ hs. put (table_of (loop_row cutted) rows1) l (record { face = cell2.face; content = cycle hs })) (ring_of_right sp loops R are tied.loops_fit.no_zero a b g.a_there g.b_there g.looped g.one ne l g.free)
+            ∙ ap (λ f. put (table_of (loop_row cutted) rows1) l (record { face = f; content = cycle (cut_right a b (ring sp a)) })) (sym (face_row_of sp known solids faces loops vertices tied l cell2 (sym (row_there loops rows1 here _ is1 l not_here) ∙ found2)))
+            ∙ ap (λ hs. put (table_of (loop_row cutted) rows1) l (held_row M l (cycle (cut_right a b hs)))) (sym (cycle_of_is sp known solids faces loops vertices tied a g.a_there g.looped))
+            ∙ ap (λ t. put t l (held_row M l (cycle (cut_right a b (cycle_of M a))))) loops1)
+            (loose-cut_to sp loops R are tied.loops_fit.no_zero a b g.a_there g.b_there g.looped g.one ne l g.free n)
+
+  module _ (a b : ℕ) (g : JoinFacts sp a b) where
+    abbrev jspots : Spots
+    jspots = spliced_at (labelled sp (label sp a) (ring sp b)) a b
+
+    abbrev jhere : ℕ
+    jhere = label sp a
+
+    abbrev jthere : ℕ
+    jthere = label sp b
+
+    pub join_rings : AreRings (labelled sp jhere (ring sp b))
+    join_rings = jrings1 sp loops R are tied.loops_fit.no_zero a b g.a_there g.b_there g.looped g.other
+
+    pub join_a_live : live (labelled sp jhere (ring sp b)) a ≡ true
+    join_a_live = a_live1 sp loops R are tied.loops_fit.no_zero a b g.a_there g.b_there g.looped g.other
+
+    pub join_b_live : live (labelled sp jhere (ring sp b)) b ≡ true
+    join_b_live = b_live1 sp loops R are tied.loops_fit.no_zero a b g.a_there g.b_there g.looped g.other
+
+    -- rows0 are the rows once b's loop is empty
+    module _ (cell : LoopCell) (found : row_at loops jhere ≡ Some cell) (rows0 : List (Option LoopCell)) (len0 : length rows0 ≡ length loops) (fits0 : Fits rows0) (rows : List (Option LoopCell)) (len : length rows ≡ length rows0)
+        (is1 : (q : ℕ) → row_at rows q ≡ cond (nat_eq q jhere) (Some (record { face = cell.face; held = At a })) (row_at rows0 q))
+        (empty_b : (c : LoopCell) → row_at rows0 jthere ≡ Some c → c.held ≡ Empty) (same : (q : ℕ) → q ≢ jthere → row_at rows0 q ≡ row_at loops q) where
+      jfits : Fits rows
+      jfits = fits-write rows0 rows jhere _ fits0 g.looped len is1
+
+      pub tied_join : (known' : ℕ → Bool) (new : Spots) → new ≡ jspots → IsTied new known' solids faces rows vertices
+      tied_join known' new e = subst (λ s. IsTied s known' solids faces rows vertices) (sym e) (tied_with jspots known' rows
+          (jrings2 sp loops R are tied.loops_fit.no_zero a b g.a_there g.b_there g.looped g.other) (jlive2 sp loops R are tied.loops_fit.no_zero a b g.a_there g.b_there g.looped g.other 0)
+          (AreLoops-join sp loops R are tied.loops_fit.no_zero a b g.a_there g.b_there g.looped g.other rows cell.face (row_here rows0 rows jhere _ is1)
+          (λ c at. empty_b c (sym (row_there rows0 rows jhere _ is1 jthere g.other) ∙ at)) (λ q n m. row_there rows0 rows jhere _ is1 q n ∙ same q m)) jfits)
+
+      alike : (q : ℕ) (c : LoopCell) → q ≢ jhere → row_at rows0 q ≡ Some c → held_content jspots c.held ≡ held_content sp c.held
+      alike q c n at = elim (eqb_tells q jthere) [
+        | inl p ↦ let e = empty_b c (ap (row_at rows0) (sym p.1) ∙ at) in ap (held_content jspots) e ∙ sym (ap (held_content sp) e)
+        | inr p ↦ content_alike sp jspots q c.held (are.entries q c (sym (same q p.1) ∙ at)) (λ d h e. jkept sp loops R are tied.loops_fit.no_zero a b g.a_there g.b_there g.looped g.other q d n p.1 h e)
+      ]
+
+      loops_join : (ys : List ℕ) → ys ≡ ring sp b → table_of (loop_row jspots) rows ≡ put (table_of (loop_row sp) rows0) (loop_of M a) (held_row M (loop_of M a) (cycle (joined a b (cycle_of M a) ys)))
+      loops_join ys ey =
+          loops_table_rows sp jspots rows0 rows jhere (record { face = cell.face; held = At a }) is1 alike
+          ∙ ap (λ hs. put (table_of (loop_row sp) rows0) jhere (record { face = cell.face; content = cycle hs })) (jring_a sp loops R are tied.loops_fit.no_zero a b g.a_there g.b_there g.looped g.other)
+          ∙ ap (λ hs. put (table_of (loop_row sp) rows0) jhere (record { face = cell.face; content = cycle (joined a b (ring sp a) hs) })) (sym ey)
+          ∙ ap (λ f. put (table_of (loop_row sp) rows0) jhere (record { face = f; content = cycle (joined a b (ring sp a) ys) })) (sym (face_row_of sp known solids faces loops vertices tied jhere cell found))
+          ∙ ap (λ hs. put (table_of (loop_row sp) rows0) jhere (held_row M jhere (cycle (joined a b hs ys)))) (sym (cycle_of_is sp known solids faces loops vertices tied a g.a_there g.looped))
+          ∙ ap (λ n. put (table_of (loop_row sp) rows0) n (held_row M n (cycle (joined a b (cycle_of M a) ys)))) (sym (loop_of_is sp known solids faces loops vertices tied a g.a_there))
+
+      pub store_join_loose : rows0 ≡ loops → jthere ≡ 0 → (known' : ℕ → Bool) → known' ≡ known → (new : Spots) → new ≡ jspots → store_of new known' solids faces rows vertices ≡ join_loose S a b
+      unfolding join_loose
+      store_join_loose r z known' k new e = (λ i. store_of (e i) (k i) solids faces rows vertices)
+          ∙ store_is sp known solids faces loops vertices jspots rows _ _ (len ∙ len0) (jedges sp loops R are tied.loops_fit.no_zero a b g.a_there g.b_there g.looped g.other)
+          (loops_join (loose_ring S b) (loose_ring_is sp known solids faces loops vertices tied b g.b_there z) ∙ ap (λ w. put (table_of (loop_row sp) w) (loop_of M a) (held_row M (loop_of M a) (cycle (joined a b (cycle_of M a) (loose_ring S b))))) r)
+          (loose-join_loose sp loops R are tied.loops_fit.no_zero a b g.a_there g.b_there g.looped g.other ∙ ap (remove S.loose) (sym (loose_key_is sp known solids faces loops vertices tied b g.b_there z)))
+
+      pub store_join_loops : jthere ≢ 0 → (cell2 : LoopCell) → row_at loops jthere ≡ Some cell2 → ((q : ℕ) → row_at rows0 q ≡ cond (nat_eq q jthere) (Some (record { face = cell2.face; held = Empty })) (row_at loops q)) →
+          (known' : ℕ → Bool) → known' ≡ known → (new : Spots) → new ≡ jspots → store_of new known' solids faces rows vertices ≡ join_loops S a b
+      unfolding join_loops
+      store_join_loops n cell2 found2 is0 known' k new e = (λ i. store_of (e i) (k i) solids faces rows vertices)
+          ∙ store_is sp known solids faces loops vertices jspots rows _ _ (len ∙ len0) (jedges sp loops R are tied.loops_fit.no_zero a b g.a_there g.b_there g.looped g.other)
+          (loops_join (cycle_of M b) (cycle_of_is sp known solids faces loops vertices tied b g.b_there n)
+          ∙ ap (λ t. put t (loop_of M a) (held_row M (loop_of M a) (cycle (joined a b (cycle_of M a) (cycle_of M b)))))
+          (table_of-put (loop_row sp) loops rows0 jthere _ is0
+          ∙ ap (λ f. put M.loops jthere (record { face = f; content = cycle [] })) (sym (face_row_of sp known solids faces loops vertices tied jthere cell2 found2))
+          ∙ ap (λ m. put M.loops m (held_row M m (cycle []))) (sym (loop_of_is sp known solids faces loops vertices tied b g.b_there))))
+          (loose-join_loops sp loops R are tied.loops_fit.no_zero a b g.a_there g.b_there g.looped g.other n)
+
+-- the same rows at an equal number
+pub is_at : {X : Type 0} (rows new : List (Option X)) (n k : ℕ) (x : Option X) → n ≡ k → ((q : ℕ) → row_at new q ≡ cond (nat_eq q k) x (row_at rows q)) → (q : ℕ) → row_at new q ≡ cond (nat_eq q n) x (row_at rows q)
+is_at rows new n k x e is q = is q ∙ ap (λ z. cond (nat_eq q z) x (row_at rows q)) (sym e)
+
+pub cut_zero : (s : Store) (a b l : ℕ) → l ≡ 0 → cut_loose s a b ≡ cond (nat_eq l 0) (cut_loose s a b) (cut_to s a b l)
+cut_zero s a b l e = sym (ap (λ t. cond t (cut_loose s a b) (cut_to s a b l)) (eq-eqb l 0 e))
+
+pub cut_other : (s : Store) (a b l : ℕ) → l ≢ 0 → cut_to s a b l ≡ cond (nat_eq l 0) (cut_loose s a b) (cut_to s a b l)
+cut_other s a b l n = sym (ap (λ t. cond t (cut_loose s a b) (cut_to s a b l)) (ne_eqb l 0 n))
+
+pub join_zero : (s : Store) (a b : ℕ) → loop_of s.model b ≡ 0 → join_loose s a b ≡ cond (nat_eq (loop_of s.model b) 0) (join_loose s a b) (join_loops s a b)
+join_zero s a b e = sym (ap (λ t. cond t (join_loose s a b) (join_loops s a b)) (eq-eqb (loop_of s.model b) 0 e))
+
+pub join_other : (s : Store) (a b : ℕ) → loop_of s.model b ≢ 0 → join_loops s a b ≡ cond (nat_eq (loop_of s.model b) 0) (join_loose s a b) (join_loops s a b)
+join_other s a b n = sym (ap (λ t. cond t (join_loose s a b) (join_loops s a b)) (ne_eqb (loop_of s.model b) 0 n))
+
+pub empty_cell : (rows new : List (Option LoopCell)) (n : ℕ) (f : ℕ) → ((q : ℕ) → row_at new q ≡ cond (nat_eq q n) (Some (record { face = f; held = Empty })) (row_at rows q)) → (c : LoopCell) → row_at new n ≡ Some c → c.held ≡ Empty
+empty_cell rows new n f is c at = ap (λ (k : LoopCell). k.held) (some_is _ _ (sym at ∙ row_here rows new n _ is))
+
+pub zero_cell : (rows : List (Option LoopCell)) (n : ℕ) → row_at rows 0 ≡ None → n ≡ 0 → (c : LoopCell) → row_at rows n ≡ Some c → c.held ≡ Empty
+zero_cell rows n none z c at = let e = sym (ap (row_at rows) z ∙ none) ∙ at in cc

@@ -1,0 +1,373 @@
+-- A cut and a join, as the nodes and rows do them.
+use Rattle.std.proofs.Common.{◌≡◌, ◌≢◌, ℕ, ◌+◌, Bool, true, false, cond, nat_eq, List, [], Option, Some, None, is_some, refl, sym, ap, subst, ◌∙◌, arith, true≢false, inl, inr}
+use Rattle.std.proofs.lemmas.Bool.Decides.{eqb_tells}
+use Rattle.boundary_model.specs.Items.{count, IsIn, head_or}
+use Rattle.boundary_model.proofs.Lists.{IsIn_or_not}
+use Rattle.arena_rows.specs.declared.rows.LoopCell.{LoopCell}
+use Rattle.arena_rows.specs.declared.rows.Held.{Held}
+use Rattle.arena_rows.specs.declared.rows.Held.TheVariants.{Empty, Lone, At}
+use Rattle.boundary_model.specs.Table.{put, remove, tabulate}
+use Rattle.arena_rows.specs.Rows.{row_at, table_of}
+use Rattle.boundary_model.specs.Model.{cycle}
+use Rattle.arena_rows.specs.Store.{loosened}
+use Rattle.arena_rows.specs.ring_spots.Spots.{Spots, codes, live, label, ring, spliced_at, labelled, AreRings}
+use Rattle.arena_rows.specs.View.{held_content, loop_row, HasEntry, AreLoops, StandsAt}
+use Rattle.arena_rows.specs.ring_spots.SpotTables.{edge_row, loose_row}
+use Rattle.arena_rows.proofs.Views.{some_is}
+use Rattle.boundary_model.specs.Rings.{cut_left, cut_right, joined}
+use Rattle.boundary_model.proofs.Cuts.{IsIn-cut}
+use Rattle.arena_rows.proofs.ring_spots_laws.SpotLaws.{ring_left, ring_right, ring_beside, cut_items, AreRings-cut, AreRings-labelled, ring-labelled, live-labelled, live-spliced, label-spliced, label-labelled_in, label-labelled_out, ring_joint, ring_aside, join_items, AreRings-join}
+use Rattle.arena_rows.proofs.ring_spots_laws.SpotTables.{loose_none, loose_dead, loose_alike, loose_removed, loose_same, edges_same, tails-labelled, tails-spliced}
+use Rattle.arena_rows.proofs.Tellings.{loose_added, same_loop, loops_table}
+use Rattle.boundary_model.specs.Model.{items_of}
+
+-- loop l is there and holds no half-edge
+pub record IsBare (sp : Spots) (loops : List (Option LoopCell)) (l : ℕ) : Type 0 where
+  pub cell : LoopCell
+  pub here : row_at loops l ≡ Some cell
+  pub bare : items_of (held_content sp cell.held) ≡ []
+
+module _ (sp : Spots) (loops : List (Option LoopCell)) (R : AreRings sp) (are : AreLoops sp loops) (zero : row_at loops 0 ≡ None) (a b : ℕ) (a_there : live sp a ≡ true) (b_there : live sp b ≡ true) (looped : label sp a ≢ 0) where
+  module _ (one : label sp b ≡ label sp a) (ne : a ≢ b) (l : ℕ) (free : l ≢ 0 → IsBare sp loops l) where
+    abbrev la : ℕ
+    la = label sp a
+
+    abbrev whole : List ℕ
+    whole = ring sp a
+
+    abbrev left : List ℕ
+    left = cut_left a b whole
+
+    abbrev right : List ℕ
+    right = cut_right a b whole
+
+    abbrev sp1 : Spots
+    sp1 = spliced_at sp a b
+
+    abbrev sp2 : Spots
+    sp2 = labelled sp1 l (ring sp1 b)
+
+    together : IsIn b whole
+    together = same_loop sp loops R are a b a_there b_there looped one
+
+    pub rings1 : AreRings sp1
+    rings1 = AreRings-cut sp R a b a_there b_there together ne
+
+    pub there1 : live sp1 b ≡ true
+    there1 = live-spliced sp a b b ∙ b_there
+
+    pub rings2 : AreRings sp2
+    rings2 = AreRings-labelled sp1 rings1 b l there1
+
+    a_left : IsIn a left
+    a_left = (IsIn-cut a b whole (R.rings a a_there).apart (R.rings a a_there).item together ne).0
+
+    b_right : IsIn b right
+    b_right = (IsIn-cut a b whole (R.rings a a_there).apart (R.rings a a_there).item together ne).1
+
+    right_is : ring sp1 b ≡ right
+    right_is = (ring_right sp R a b a_there b_there together ne b b_right).0
+
+    items : (x : ℕ) → count x left + count x right ≡ count x whole
+    items = cut_items sp R a b a_there b_there together ne
+
+    pub live2 : (x : ℕ) → live sp2 x ≡ live sp x
+    live2 x = live-labelled sp1 l (ring sp1 b) x ∙ live-spliced sp a b x
+
+    awake_whole : (x : ℕ) → IsIn x whole → live sp x ≡ true
+    awake_whole x i = (R.rings a a_there).awake x i
+
+    label_right : (x : ℕ) → IsIn x right → label sp2 x ≡ l
+    label_right x i = label-labelled_in sp1 l (ring sp1 b) x (subst (IsIn x) (sym right_is) i) (live-spliced sp a b x ∙ awake_whole x (omega (arith, items x)))
+
+    label_not_right : (x : ℕ) → count x right ≡ 0 → label sp2 x ≡ label sp x
+    label_not_right x n = label-labelled_out sp1 l (ring sp1 b) x (ap (count x) right_is ∙ n) ∙ label-spliced sp a b x
+
+    label_left : (x : ℕ) → IsIn x left → label sp2 x ≡ la
+    label_left x i = label_not_right x (omega (arith, items x, (R.rings a a_there).apart x)) ∙ (R.rings a a_there).one_label x (omega (arith, items x))
+
+    ring2 : (x : ℕ) → ring sp2 x ≡ ring sp1 x
+    ring2 x = ring-labelled sp1 rings1 b l there1 x
+
+    pub ring_of_left : ring sp2 a ≡ left
+    ring_of_left = ring2 a ∙ (ring_left sp R a b a_there b_there together ne a a_left).0
+
+    pub ring_of_right : ring sp2 b ≡ right
+    ring_of_right = ring2 b ∙ right_is
+
+    ring_out : (x : ℕ) → live sp x ≡ true → count x whole ≡ 0 → ring sp2 x ≡ ring sp x
+    ring_out x h n = ring2 x ∙ (ring_beside sp R a b a_there b_there together ne x h n).0
+
+    label_out : (x : ℕ) → count x whole ≡ 0 → label sp2 x ≡ label sp x
+    label_out x n = label_not_right x (omega (arith, items x))
+
+    -- what is labelled otherwise isn't in the ring
+    out : (x : ℕ) → label sp x ≢ la → count x whole ≡ 0
+    out x n = elim (IsIn_or_not x whole) [ inl i ↦ absurd (n ((R.rings a a_there).one_label x i)) | inr m ↦ m ]
+
+    pub kept2 : (q c : ℕ) → q ≢ la → live sp c ≡ true → label sp c ≡ q → ring sp2 c ≡ ring sp c
+    kept2 q c n h e = ring_out c h (out c (λ z. n (sym e ∙ z)))
+
+    apart_l : l ≢ 0 → l ≢ la
+    apart_l n e =
+        let f = free n in
+        let i : IsIn a (ring sp (are.stands a a_there looped).entry) = (are.stands a a_there looped).item in
+        let z : held_content sp f.cell.held ≡ cycle (ring sp (are.stands a a_there looped).entry) = ap (λ (c : LoopCell). held_content sp c.held) (some_is _ _ (sym f.here ∙ ap (row_at loops) e ∙ (are.stands a a_there looped).here)) in
+        let k : count a (ring sp (are.stands a a_there looped).entry) ≡ 0 = ap (count a) (sym (ap items_of z) ∙ f.bare) in
+        absurd (omega arith)
+
+    -- the rows after the cut
+    module _ (new : List (Option LoopCell)) (fa : ℕ) (at_la : row_at new la ≡ Some (record { face = fa; held = At a })) (at_l : l ≢ 0 → (f : ℕ) × (row_at new l ≡ Some (record { face = f; held = At b })))
+        (elsewhere : (q : ℕ) → q ≢ la → q ≢ l → row_at new q ≡ row_at loops q) (new_zero : row_at new 0 ≡ None) where
+      old : (q : ℕ) → q ≢ la → (held : Held) → HasEntry sp q held → HasEntry sp2 q held
+      old q n Empty e = tt
+      old q n (Lone v) e = tt
+      old q n (At c) e = (live2 c ∙ e.0, label_out c (out c (λ z. n (sym e.1 ∙ z))) ∙ e.1)
+
+      cut_entries : (q : ℕ) (cell : LoopCell) → row_at new q ≡ Some cell → HasEntry sp2 q cell.held
+      cut_entries q cell at = elim (eqb_tells q la) [
+        | inl p ↦ subst (HasEntry sp2 q) (ap (λ (c : LoopCell). c.held) (some_is _ _ (sym (ap (row_at new) p.1 ∙ at_la) ∙ at))) (live2 a ∙ a_there, label_left a a_left ∙ sym p.1)
+        | inr p ↦ elim (eqb_tells q l) [
+          | inl r ↦
+              let n : l ≢ 0 = λ z. true≢false (ap is_some (sym at) ∙ ap is_some (ap (row_at new) (r.1 ∙ z) ∙ new_zero)) in
+              subst (HasEntry sp2 q) (ap (λ (c : LoopCell). c.held) (some_is _ _ (sym (ap (row_at new) r.1 ∙ (at_l n).1) ∙ at))) (live2 b ∙ b_there, label_right b b_right ∙ sym r.1)
+          | inr r ↦ old q p.1 cell.held (are.entries q cell (sym (elsewhere q p.1 r.1) ∙ at))
+        ]
+      ]
+
+      cut_stands : (x : ℕ) → live sp2 x ≡ true → label sp2 x ≢ 0 → StandsAt sp2 new x (label sp2 x)
+      cut_stands x h n = elim (IsIn_or_not x left) [
+        | inl i ↦ subst (StandsAt sp2 new x) (sym (label_left x i)) (record { face = fa; entry = a; here = at_la; item = subst (IsIn x) (sym ring_of_left) i })
+        | inr m ↦ elim (IsIn_or_not x right) [
+          | inl i ↦
+              let k : l ≢ 0 = λ z. n (label_right x i ∙ z) in
+              subst (StandsAt sp2 new x) (sym (label_right x i)) (record { face = (at_l k).0; entry = b; here = (at_l k).1; item = subst (IsIn x) (sym ring_of_right) i })
+          | inr k ↦
+              let away : count x whole ≡ 0 = omega (arith, items x) in
+              let e = label_out x away in
+              let there : live sp x ≡ true = sym (live2 x) ∙ h in
+              let s = are.stands x there (λ z. n (e ∙ z)) in
+              let ent = are.entries (label sp x) (record { face = s.face; held = At s.entry }) s.here in
+              let not_la : label sp x ≢ la = λ z. let w : IsIn x whole = same_loop sp loops R are a x a_there there looped z in absurd (omega arith) in
+              let not_l : label sp x ≢ l = λ z.
+              let nz : l ≢ 0 = λ y. n (e ∙ z ∙ y) in let f = free nz in
+              let c : held_content sp f.cell.held ≡ cycle (ring sp s.entry) = ap (λ (c : LoopCell). held_content sp c.held) (some_is _ _ (sym f.here ∙ ap (row_at loops) (sym z) ∙ s.here)) in
+              let u : count x (ring sp s.entry) ≡ 0 = ap (count x) (sym (ap items_of c) ∙ f.bare) in
+              let i = s.item in absurd (omega arith) in
+              subst (StandsAt sp2 new x) (sym e) (record {
+                face = s.face;
+                entry = s.entry;
+                here = elsewhere (label sp x) not_la not_l ∙ s.here;
+                item = subst (IsIn x) (sym (kept2 (label sp x) s.entry not_la ent.0 ent.1)) s.item;
+              })
+        ]
+      ]
+
+      pub AreLoops-cut : AreLoops sp2 new
+      AreLoops-cut = record { entries = cut_entries; stands = cut_stands }
+
+    pub apart_rows : l ≢ 0 → l ≢ la
+    apart_rows = apart_l
+
+    -- the loose rings after the cut
+    out_alike : (k : ℕ) → count k whole ≡ 0 → loose_row sp2 k ≡ loose_row sp k
+    out_alike k n = go (live sp k) refl where
+      go : (t : Bool) → live sp k ≡ t → loose_row sp2 k ≡ loose_row sp k
+      go true h = loose_alike sp sp2 k (live2 k) (label_out k n) (ring_out k h n)
+      go false h = loose_dead sp2 k (live2 k ∙ h) ∙ sym (loose_dead sp k h)
+
+    in_none : (k : ℕ) → IsIn k whole → loose_row sp k ≡ None
+    in_none k i = loose_none sp k (λ z. looped (sym ((R.rings a a_there).one_label k i) ∙ z))
+
+    pub loose-cut_to : l ≢ 0 → tabulate (loose_row sp2) codes ≡ tabulate (loose_row sp) codes
+    loose-cut_to n = loose_same sp sp2 (λ k. elim (IsIn_or_not k left) [
+      | inl i ↦ loose_none sp2 k (λ z. looped (sym (label_left k i) ∙ z)) ∙ sym (in_none k (omega (arith, items k)))
+      | inr m ↦ elim (IsIn_or_not k right) [
+        | inl i ↦ loose_none sp2 k (λ z. n (sym (label_right k i) ∙ z)) ∙ sym (in_none k (omega (arith, items k)))
+        | inr j ↦ out_alike k (omega (arith, items k))
+      ]
+    ])
+
+    pub loose-cut_loose : l ≡ 0 → tabulate (loose_row sp2) codes ≡ loosened right (tabulate (loose_row sp) codes)
+    loose-cut_loose z = loose_added sp sp2 R rings2 b right (live2 b ∙ b_there) (label_right b b_right ∙ z) ring_of_right (λ k i. in_none k (omega (arith, items k)))
+        (λ k m. elim (IsIn_or_not k left) [
+          | inl i ↦ loose_none sp2 k (λ y. looped (sym (label_left k i) ∙ y)) ∙ sym (in_none k (omega (arith, items k)))
+          | inr j ↦ out_alike k (omega (arith, items k))
+        ])
+
+    pub edges-cut : tabulate (edge_row sp2) codes ≡ tabulate (edge_row sp) codes
+    edges-cut = edges_same sp sp2 (λ q. tails-labelled sp1 l (ring sp1 b) q ∙ tails-spliced sp a b q)
+
+    pub loops-cut : (rows : List (Option LoopCell)) (fa : ℕ) → ((q : ℕ) → row_at rows q ≡ cond (nat_eq q la) (Some (record { face = fa; held = At a })) (row_at loops q)) → table_of (loop_row sp2) rows ≡ put (table_of (loop_row sp) loops) la (record { face = fa; content = cycle left })
+    loops-cut rows fa is = loops_table sp sp2 loops rows are la (record { face = fa; held = At a }) is kept2 ∙ ap (λ hs. put (table_of (loop_row sp) loops) la (record { face = fa; content = cycle hs })) ring_of_left
+
+  -- a's loop takes the ring of b, which stands in another loop or in none
+  module _ (other : label sp b ≢ label sp a) where
+    abbrev jla : ℕ
+    jla = label sp a
+
+    abbrev jlb : ℕ
+    jlb = label sp b
+
+    abbrev xs : List ℕ
+    xs = ring sp a
+
+    abbrev ys : List ℕ
+    ys = ring sp b
+
+    abbrev js1 : Spots
+    js1 = labelled sp jla ys
+
+    abbrev js2 : Spots
+    js2 = spliced_at js1 a b
+
+    abbrev joint : List ℕ
+    joint = joined a b xs ys
+
+    pub jrings1 : AreRings js1
+    jrings1 = AreRings-labelled sp R b jla b_there
+
+    pub a_live1 : live js1 a ≡ true
+    a_live1 = live-labelled sp jla ys a ∙ a_there
+
+    pub b_live1 : live js1 b ≡ true
+    b_live1 = live-labelled sp jla ys b ∙ b_there
+
+    jring1 : (x : ℕ) → ring js1 x ≡ ring sp x
+    jring1 x = ring-labelled sp R b jla b_there x
+
+    -- the two rings have no item in common
+    parted : (x : ℕ) → IsIn x xs → count x ys ≡ 0
+    parted x i = elim (IsIn_or_not x ys) [ inl j ↦ absurd (other (sym ((R.rings b b_there).one_label x j) ∙ (R.rings a a_there).one_label x i)) | inr n ↦ n ]
+
+    b_apart : count b (ring js1 a) ≡ 0
+    b_apart = ap (count b) (jring1 a) ∙ elim (IsIn_or_not b xs) [ inl i ↦ absurd (other ((R.rings a a_there).one_label b i)) | inr n ↦ n ]
+
+    label_ys : (x : ℕ) → IsIn x ys → label js1 x ≡ jla
+    label_ys x i = label-labelled_in sp jla ys x i ((R.rings b b_there).awake x i)
+
+    label_not_ys : (x : ℕ) → count x ys ≡ 0 → label js1 x ≡ label sp x
+    label_not_ys x n = label-labelled_out sp jla ys x n
+
+    label_a1 : label js1 a ≡ jla
+    label_a1 = label_not_ys a (parted a (R.rings a a_there).item)
+
+    one1 : label js1 b ≡ label js1 a
+    one1 = label_ys b (R.rings b b_there).item ∙ sym label_a1
+
+    pub jrings2 : AreRings js2
+    jrings2 = AreRings-join js1 jrings1 a b a_live1 b_live1 b_apart one1
+
+    joint1 : joined a b (ring js1 a) (ring js1 b) ≡ joint
+    joint1 = ap (λ w. joined a b w (ring js1 b)) (jring1 a) ∙ ap (joined a b xs) (jring1 b)
+
+    jitems : (x : ℕ) → count x joint ≡ count x xs + count x ys
+    jitems x = ap (count x) (sym joint1) ∙ join_items js1 jrings1 a b a_live1 b_live1 b_apart one1 x ∙ ap (λ w. count x w + count x (ring js1 b)) (jring1 a) ∙ ap (λ w. count x xs + count x w) (jring1 b)
+
+    pub jlive2 : (x : ℕ) → live js2 x ≡ live sp x
+    jlive2 x = live-spliced js1 a b x ∙ live-labelled sp jla ys x
+
+    jlabel_in : (x : ℕ) → IsIn x joint → label js2 x ≡ jla
+    jlabel_in x i = label-spliced js1 a b x ∙ elim (IsIn_or_not x ys) [
+      | inl j ↦ label_ys x j
+      | inr n ↦ label_not_ys x n ∙ (R.rings a a_there).one_label x (omega (arith, jitems x))
+    ]
+
+    jlabel_out : (x : ℕ) → count x ys ≡ 0 → label js2 x ≡ label sp x
+    jlabel_out x n = label-spliced js1 a b x ∙ label_not_ys x n
+
+    jring_in : (x : ℕ) → IsIn x joint → ring js2 x ≡ joint
+    jring_in x i = (ring_joint js1 jrings1 a b a_live1 b_live1 b_apart one1 x (subst (IsIn x) (sym joint1) i)).0 ∙ joint1
+
+    jring_out : (x : ℕ) → live sp x ≡ true → count x joint ≡ 0 → ring js2 x ≡ ring sp x
+    jring_out x h n = (ring_aside js1 jrings1 a b a_live1 b_live1 b_apart one1 x (live-labelled sp jla ys x ∙ h) (ap (count x) joint1 ∙ n)).0 ∙ jring1 x
+
+    a_joint : IsIn a joint
+    a_joint = let i = (R.rings a a_there).item in omega (arith, jitems a)
+
+    -- what is labelled otherwise is in neither
+    jaway : (x : ℕ) → label sp x ≢ jla → label sp x ≢ jlb → count x joint ≡ 0
+    jaway x n m = elim (IsIn_or_not x joint) [
+      | inl i ↦ elim (IsIn_or_not x xs) [
+        | inl j ↦ absurd (n ((R.rings a a_there).one_label x j))
+        | inr k ↦ let j : IsIn x ys = omega (arith, jitems x) in absurd (m ((R.rings b b_there).one_label x j))
+      ]
+      | inr k ↦ k
+    ]
+
+    pub jkept : (q c : ℕ) → q ≢ jla → q ≢ jlb → live sp c ≡ true → label sp c ≡ q → ring js2 c ≡ ring sp c
+    jkept q c n m h e = jring_out c h (jaway c (λ z. n (sym e ∙ z)) (λ z. m (sym e ∙ z)))
+
+    pub jring_a : ring js2 a ≡ joint
+    jring_a = jring_in a a_joint
+
+    jitem_ys : (x : ℕ) → IsIn x ys → IsIn x joint
+    jitem_ys x i = omega (arith, jitems x)
+
+    pub jedges : tabulate (edge_row js2) codes ≡ tabulate (edge_row sp) codes
+    jedges = edges_same sp js2 (λ q. tails-spliced js1 a b q ∙ tails-labelled sp jla ys q)
+
+    jout_alike : (k : ℕ) → count k joint ≡ 0 → loose_row js2 k ≡ loose_row sp k
+    jout_alike k n = go (live sp k) refl where
+      go : (t : Bool) → live sp k ≡ t → loose_row js2 k ≡ loose_row sp k
+      go true h = loose_alike sp js2 k (jlive2 k) (jlabel_out k (omega (arith, jitems k))) (jring_out k h n)
+      go false h = loose_dead js2 k (jlive2 k ∙ h) ∙ sym (loose_dead sp k h)
+
+    jin_none : (k : ℕ) → IsIn k joint → loose_row js2 k ≡ None
+    jin_none k i = loose_none js2 k (λ z. looped (sym (jlabel_in k i) ∙ z))
+
+    pub loose-join_loops : jlb ≢ 0 → tabulate (loose_row js2) codes ≡ tabulate (loose_row sp) codes
+    loose-join_loops n = loose_same sp js2 (λ k. elim (IsIn_or_not k xs) [
+      | inl i ↦ jin_none k (omega (arith, jitems k)) ∙ sym (loose_none sp k (λ z. looped (sym ((R.rings a a_there).one_label k i) ∙ z)))
+      | inr m ↦ elim (IsIn_or_not k ys) [
+        | inl i ↦ jin_none k (omega (arith, jitems k)) ∙ sym (loose_none sp k (λ z. n (sym ((R.rings b b_there).one_label k i) ∙ z)))
+        | inr j ↦ jout_alike k (omega (arith, jitems k))
+      ]
+    ])
+
+    pub loose-join_loose : tabulate (loose_row js2) codes ≡ remove (tabulate (loose_row sp) codes) (head_or 0 ys)
+    loose-join_loose = loose_removed sp js2 R jrings2 b b_there (λ k i. jin_none k (jitem_ys k i))
+        (λ k m. elim (IsIn_or_not k xs) [
+          | inl i ↦ jin_none k (omega (arith, jitems k)) ∙ sym (loose_none sp k (λ z. looped (sym ((R.rings a a_there).one_label k i) ∙ z)))
+          | inr j ↦ jout_alike k (omega (arith, jitems k))
+        ])
+
+    -- the rows after the join: loop b is empty, if it is a loop, and loop a has the entry a
+    module _ (new : List (Option LoopCell)) (fa : ℕ) (at_la : row_at new jla ≡ Some (record { face = fa; held = At a })) (at_lb : (cell : LoopCell) → row_at new jlb ≡ Some cell → cell.held ≡ Empty)
+        (elsewhere : (q : ℕ) → q ≢ jla → q ≢ jlb → row_at new q ≡ row_at loops q) where
+      jold : (q : ℕ) → q ≢ jla → q ≢ jlb → (held : Held) → HasEntry sp q held → HasEntry js2 q held
+      jold q n m Empty e = tt
+      jold q n m (Lone v) e = tt
+      jold q n m (At c) e =
+          let z = jaway c (λ z. n (sym e.1 ∙ z)) (λ z. m (sym e.1 ∙ z)) in
+          (jlive2 c ∙ e.0, jlabel_out c (omega (arith, jitems c)) ∙ e.1)
+
+      join_entries : (q : ℕ) (cell : LoopCell) → row_at new q ≡ Some cell → HasEntry js2 q cell.held
+      join_entries q cell at = elim (eqb_tells q jla) [
+        | inl p ↦ subst (HasEntry js2 q) (ap (λ (c : LoopCell). c.held) (some_is _ _ (sym (ap (row_at new) p.1 ∙ at_la) ∙ at))) (jlive2 a ∙ a_there, jlabel_in a a_joint ∙ sym p.1)
+        | inr p ↦ elim (eqb_tells q jlb) [
+          | inl r ↦ subst (HasEntry js2 q) (sym (at_lb cell (ap (row_at new) (sym r.1) ∙ at))) tt
+          | inr r ↦ jold q p.1 r.1 cell.held (are.entries q cell (sym (elsewhere q p.1 r.1) ∙ at))
+        ]
+      ]
+
+      join_stands : (x : ℕ) → live js2 x ≡ true → label js2 x ≢ 0 → StandsAt js2 new x (label js2 x)
+      join_stands x h n = elim (IsIn_or_not x joint) [
+        | inl i ↦ subst (StandsAt js2 new x) (sym (jlabel_in x i)) (record { face = fa; entry = a; here = at_la; item = subst (IsIn x) (sym jring_a) i })
+        | inr m ↦
+            let e = jlabel_out x (omega (arith, jitems x)) in
+            let there : live sp x ≡ true = sym (jlive2 x) ∙ h in
+            let s = are.stands x there (λ z. n (e ∙ z)) in
+            let ent = are.entries (label sp x) (record { face = s.face; held = At s.entry }) s.here in
+            let not_la : label sp x ≢ jla = λ z. let w : IsIn x xs = same_loop sp loops R are a x a_there there looped z in absurd (omega (arith, jitems x)) in
+            let not_lb : label sp x ≢ jlb = λ z. let w : IsIn x ys = same_loop sp loops R are b x b_there there (λ y. n (e ∙ z ∙ y)) z in absurd (omega (arith, jitems x)) in
+            subst (StandsAt js2 new x) (sym e) (record {
+              face = s.face;
+              entry = s.entry;
+              here = elsewhere (label sp x) not_la not_lb ∙ s.here;
+              item = subst (IsIn x) (sym (jkept (label sp x) s.entry not_la not_lb ent.0 ent.1)) s.item;
+            })
+      ]
+
+      pub AreLoops-join : AreLoops js2 new
+      AreLoops-join = record { entries = join_entries; stands = join_stands }

@@ -1,0 +1,74 @@
+-- The tables of loops, edges and loose rings, where the nodes change.
+use Rattle.arena_rows.proofs.ring_spots_laws.SpotTables.{loose_put}
+use Rattle.std.proofs.Common.{◌≡◌, ◌≢◌, ℕ, ◌-◌, Bool, true, cond, nat_eq, List, [], ◌∷◌, length, Option, Some, None, is_some, refl, sym, ap, subst, ◌∙◌, arith, true≢false, inl, inr}
+use Rattle.std.proofs.lemmas.Bool.Decides.{eqb_tells}
+use Rattle.boundary_model.specs.declared.Point.{Point}
+use Rattle.boundary_model.specs.Items.{count, IsIn, head_or}
+use Rattle.arena_rows.specs.declared.rows.FaceCell.{FaceCell}
+use Rattle.arena_rows.specs.declared.rows.LoopCell.{LoopCell}
+use Rattle.arena_rows.specs.declared.rows.Held.{Held}
+use Rattle.arena_rows.specs.declared.rows.Held.TheVariants.{Empty, Lone, At}
+use Rattle.boundary_model.specs.Table.{Table, get, put, tabulate, get-put, same_table}
+use Rattle.arena_rows.specs.Rows.{row_at, map_row, table_of}
+use Rattle.boundary_model.specs.Model.{cycle, LoopRow}
+use Rattle.arena_rows.specs.Store.{Store, loosened}
+use Rattle.arena_rows.specs.ring_spots.Spots.{Spots, codes, live, label, ring, AreRings}
+use Rattle.arena_rows.specs.View.{store_of, held_content, loop_row, HasEntry, AreLoops, StandsAt}
+use Rattle.arena_rows.specs.ring_spots.SpotTables.{edge_row, loose_row}
+use Rattle.arena_rows.proofs.Views.{get-table_of, some_is}
+use Rattle.arena_rows.proofs.ring_spots_laws.SpotLaws.{ring_same}
+
+loosened_is : (hs : List ℕ) (t : Table (List ℕ)) (c : ℕ) → IsIn c hs → loosened hs t ≡ put t (head_or 0 hs) hs
+loosened_is [] t c i = absurd (omega arith)
+loosened_is (h ∷ hs) t c i = refl
+
+pub loose_added : (sp new : Spots) → AreRings sp → (N : AreRings new) → (c : ℕ) (hs : List ℕ) → (a : live new c ≡ true) → (z : label new c ≡ 0) → ring new c ≡ hs → ((k : ℕ) → IsIn k hs → loose_row sp k ≡ None) → ((k : ℕ) → count k hs ≡ 0 → loose_row new k ≡ loose_row sp k) →
+    tabulate (loose_row new) codes ≡ loosened hs (tabulate (loose_row sp) codes)
+loose_added sp new R N c hs a z e inside outside = loose_put sp new R N c hs a z e inside outside ∙ sym (loosened_is hs (tabulate (loose_row sp) codes) c (subst (IsIn c) e (N.rings c a).item))
+
+-- ---- loops
+
+pub content_alike : (sp new : Spots) (l : ℕ) (held : Held) → HasEntry sp l held → ((c : ℕ) → live sp c ≡ true → label sp c ≡ l → ring new c ≡ ring sp c) → held_content new held ≡ held_content sp held
+content_alike sp new l Empty e k = refl
+content_alike sp new l (Lone v) e k = refl
+content_alike sp new l (At c) e k = ap cycle (k c e.0 e.1)
+
+-- one row is written, and the rings of the other loops stay
+pub loops_table : (sp new : Spots) (loops rows : List (Option LoopCell)) → AreLoops sp loops → (l : ℕ) (cell : LoopCell) → ((q : ℕ) → row_at rows q ≡ cond (nat_eq q l) (Some cell) (row_at loops q)) → ((q c : ℕ) → q ≢ l → live sp c ≡ true → label sp c ≡ q → ring new c ≡ ring sp c) →
+    table_of (loop_row new) rows ≡ put (table_of (loop_row sp) loops) l (loop_row new cell)
+loops_table sp new loops rows are l cell is kept = same_table (table_of (loop_row new) rows) (put (table_of (loop_row sp) loops) l (loop_row new cell)) (λ q.
+    get-table_of (loop_row new) rows q ∙ ap (map_row (loop_row new)) (is q) ∙ elim (eqb_tells q l) [
+      | inl p ↦ ap (λ b. map_row (loop_row new) (cond b (Some cell) (row_at loops q))) p.0 ∙ sym (get-put _ l (loop_row new cell) q ∙ ap (λ b. cond b (Some (loop_row new cell)) (get (table_of (loop_row sp) loops) q)) p.0)
+      | inr p ↦ ap (λ b. map_row (loop_row new) (cond b (Some cell) (row_at loops q))) p.0 ∙ other q p.1 (row_at loops q) refl ∙ sym (get-put _ l (loop_row new cell) q ∙ ap (λ b. cond b (Some (loop_row new cell)) (get (table_of (loop_row sp) loops) q)) p.0 ∙ get-table_of (loop_row sp) loops q)
+    ])
+  where
+    other : (q : ℕ) → q ≢ l → (o : Option LoopCell) → row_at loops q ≡ o → map_row (loop_row new) o ≡ map_row (loop_row sp) o
+    other q n None at = refl
+    other q n (Some c) at = ap (λ k. Some (record { face = c.face; content = k })) (content_alike sp new q c.held (are.entries q c at) (λ d a e. kept q d n a e))
+
+pub loops_same : (sp new : Spots) (loops : List (Option LoopCell)) → AreLoops sp loops → ((c : ℕ) → live sp c ≡ true → label sp c ≢ 0 → ring new c ≡ ring sp c) → row_at loops 0 ≡ None → table_of (loop_row new) loops ≡ table_of (loop_row sp) loops
+loops_same sp new loops are kept zero = same_table (table_of (loop_row new) loops) (table_of (loop_row sp) loops) (λ q. get-table_of (loop_row new) loops q ∙ other q (row_at loops q) refl ∙ sym (get-table_of (loop_row sp) loops q)) where
+  other : (q : ℕ) → (o : Option LoopCell) → row_at loops q ≡ o → map_row (loop_row new) o ≡ map_row (loop_row sp) o
+  other q None at = refl
+  other q (Some c) at =
+      let n : q ≢ 0 = λ e. true≢false (sym (sym (ap is_some zero) ∙ ap (λ k. is_some (row_at loops k)) (sym e) ∙ ap is_some at)) in
+      ap (λ k. Some (record { face = c.face; content = k })) (content_alike sp new q c.held (are.entries q c at) (λ d a e. kept d a (λ z. n (sym e ∙ z))))
+
+-- what stands in the loop of a stands in its ring
+pub same_loop : (sp : Spots) (loops : List (Option LoopCell)) → (R : AreRings sp) → AreLoops sp loops → (a c : ℕ) → live sp a ≡ true → live sp c ≡ true → label sp a ≢ 0 → label sp c ≡ label sp a → IsIn c (ring sp a)
+same_loop sp loops R are a c k j n e =
+    let s = are.stands a k n in
+    let t = subst (StandsAt sp loops c) e (are.stands c j (λ z. n (sym e ∙ z))) in
+    let f : At t.entry ≡ At s.entry = ap (λ (w : LoopCell). w.held) (some_is _ _ (sym t.here ∙ s.here)) in
+    let d : t.entry ≡ s.entry = cc in
+    let h = are.entries (label sp a) (record { face = s.face; held = At s.entry }) s.here in
+    let i : IsIn c (ring sp s.entry) = subst (λ w. IsIn c (ring sp w)) d t.item in
+    subst (IsIn c) (sym (ring_same sp R s.entry a h.0 s.item)) i
+
+module _ (sp : Spots) (known : ℕ → Bool) (solids : List (Option Bool)) (faces : List (Option FaceCell)) (loops : List (Option LoopCell)) (vertices : List (Option Point)) where
+  abbrev S : Store
+  S = store_of sp known solids faces loops vertices
+
+  pub store_is : (new : Spots) (rows : List (Option LoopCell)) (t : Table LoopRow) (u : Table (List ℕ)) → length rows ≡ length loops → tabulate (edge_row new) codes ≡ S.model.edges → table_of (loop_row new) rows ≡ t → tabulate (loose_row new) codes ≡ u →
+      store_of new known solids faces rows vertices ≡ record S { model = record S.model { loops = t }; loose = u }
+  store_is new rows t u len e f g = λ i. record S { model = record S.model { edges = e i; loops = f i }; loose = g i; room = record S.room { loops = len i - 1 } }

@@ -1,0 +1,11 @@
+use Rattle.std.proofs.Common.{ap, ◌∙◌}
+use Rattle.std.specs.FinMap.{contains_key}
+use Rattle.raw_ring.specs.Rings.{RingMap, spot}
+use Rattle.arena_rows.proofs.ring_spots_laws.RingMaps.{spot-spliced, known-spliced}
+use Rattle.arena_rows.proofs.ring_spots.links.exchange.Goals as goal
+
+pub returns : goal.returns
+returns c = record {
+  spots = ap (λ (m : RingMap). spot m) c.splice.ensures.map ∙ spot-spliced _ _ _;
+  known = ap (λ (m : RingMap). contains_key m) c.splice.ensures.map ∙ known-spliced _ _ _;
+}

@@ -1,0 +1,50 @@
+use Rattle.std.proofs.Common.{arith, ap, ◌∙◌, refl, subst, ◌-◌, ◌+◌}
+use Rattle.std.specs.FinMap.{contains_key}
+use Rattle.raw_ring.specs.Rings.{RingMap, spot}
+use Rattle.boundary_model.specs.Items.{IsIn}
+use Rattle.arena_rows.specs.ring_spots.Spots.{codes, ring}
+use Rattle.arena_rows.proofs.ring_spots_laws.RingMaps.{known-with}
+use Rattle.arena_rows.proofs.ring_spots_laws.SpotTables.{codes_are}
+use Rattle.arena_rows.proofs.ring_spots_laws.Relabelling.{half_start, half_next, half_live, half_last, half_more, half_over, step_in, label_step, known_step, next_step}
+use Rattle.arena_rows.proofs.ring_spots.links.relabel.Goals as goal
+
+pub round-init : goal.round-init
+round-init c = record {
+  done = half_start (spot c.args.rings.now) c.requires.rings c.args.from c.args.l (codes - 0) c.requires.there (omega arith);
+  here = (c.requires.rings.rings c.args.from c.requires.there).item;
+  known = refl;
+}
+
+pub set_label-requires : goal.set_label-requires
+set_label-requires c =
+    half_live _ _ _ _ _ c.round.invariant.done c.round.h ∙ (c.requires.rings.rings c.args.from c.requires.there).awake c.round.h c.round.invariant.here
+
+pub next-h-requires : goal.next-h-requires
+next-h-requires c =
+    label_step c.round.rings c.set_label.new.self c.round.h c.args.l c.round.h c.set_label.ensures
+    ∙ half_live _ _ _ _ _ c.round.invariant.done c.round.h ∙ (c.requires.rings.rings c.args.from c.requires.there).awake c.round.h c.round.invariant.here
+
+pub returns-then-h-from-clause-spots : goal.returns-then-h-from-clause-spots
+returns-then-h-from-clause-spots c =
+    half_last (spot c.args.rings.now) (spot c.round.rings) (spot c.set_label.new.self) c.args.l c.args.from c.round.h c.next-h.result (codes - c.round.counter) (ring (spot c.args.rings.now) c.args.from) (omega (arith, codes_are)) c.round.invariant.done
+    (known_step c.round.rings c.set_label.new.self c.round.h c.args.l c.set_label.ensures)
+    (next_step c.round.rings c.set_label.new.self c.round.h c.args.l c.set_label.ensures (half_next _ _ _ _ _ c.round.invariant.done c.round.h) c.next-h.result c.next-h.ensures.next) c.if-h-from.true
+
+pub returns-then-h-from-clause-known : goal.returns-then-h-from-clause-known
+returns-then-h-from-clause-known c = ap (λ (m : RingMap). contains_key m) c.set_label.ensures ∙ (λ i q. known-with c.round.rings c.round.h (λ s. record s { label = c.args.l }) q i) ∙ c.round.invariant.known
+
+pub round-preserved : goal.round-preserved
+round-preserved c = record {
+  done = half_more (spot c.args.rings.now) (spot c.round.rings) (spot c.set_label.new.self) c.args.l c.args.from c.round.h c.next-h.result (codes - c.round.counter) (codes - (c.round.counter + 1)) (ring (spot c.args.rings.now) c.args.from) (omega (arith, codes_are)) c.round.invariant.done
+      (known_step c.round.rings c.set_label.new.self c.round.h c.args.l c.set_label.ensures)
+      (next_step c.round.rings c.set_label.new.self c.round.h c.args.l c.set_label.ensures (half_next _ _ _ _ _ c.round.invariant.done c.round.h) c.next-h.result c.next-h.ensures.next) c.if-h-from.false;
+  here = subst (λ z. IsIn z (ring (spot c.args.rings.now) c.args.from)) (next_step c.round.rings c.set_label.new.self c.round.h c.args.l c.set_label.ensures (half_next _ _ _ _ _ c.round.invariant.done c.round.h) c.next-h.result c.next-h.ensures.next)
+      (step_in (spot c.args.rings.now) c.requires.rings c.args.from c.round.h c.requires.there c.round.invariant.here);
+  known = ap (λ (m : RingMap). contains_key m) c.set_label.ensures ∙ (λ i q. known-with c.round.rings c.round.h (λ s. record s { label = c.args.l }) q i) ∙ c.round.invariant.known;
+}
+
+pub returns : goal.returns
+returns c = record {
+  spots = half_over (spot c.args.rings.now) (spot c.round.rings) c.args.l c.args.from c.round.h (codes - c.round.counter) (ring (spot c.args.rings.now) c.args.from) (omega (arith, codes_are)) c.round.invariant.done;
+  known = c.round.invariant.known;
+}

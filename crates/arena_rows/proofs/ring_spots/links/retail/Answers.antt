@@ -1,0 +1,11 @@
+use Rattle.std.proofs.Common.{ap, ◌∙◌}
+use Rattle.std.specs.FinMap.{contains_key}
+use Rattle.raw_ring.specs.Rings.{RingMap, spot}
+use Rattle.arena_rows.proofs.ring_spots_laws.RingMaps.{spot-tail, known-tail}
+use Rattle.arena_rows.proofs.ring_spots.links.retail.Goals as goal
+
+pub returns : goal.returns
+returns c = record {
+  spots = ap (λ (m : RingMap). spot m) c.set_tail.ensures ∙ spot-tail _ _ _;
+  known = ap (λ (m : RingMap). contains_key m) c.set_tail.ensures ∙ known-tail _ _ _;
+}

@@ -1,0 +1,318 @@
+-- The nodes where a half-edge starts elsewhere, where an edge wakes and where one goes to sleep.
+use Rattle.std.proofs.Common.{◌≡◌, ◌≢◌, ℕ, ◌≤◌, ◌<◌, Bool, true, false, cond, nat_lt, nat_le, ◌&&◌, List, [], ◌∷◌, Option, Some, None, is_some, unwrap_or, refl, sym, ap, subst, ◌∙◌, arith, true≢false, eq-eqb, ne_eqb, ◌⊎◌, inl, inr}
+use Rattle.std.proofs.lemmas.Bool.Decides.{nat_tests, eqb_tells}
+use Rattle.raw_ring.specs.Rings.{Spot, or_zero, of_spot, ring_of_one}
+use Rattle.boundary_model.specs.Items.{IsIn, head_or}
+use Rattle.boundary_model.specs.Rings.{canonical}
+use Rattle.boundary_model.proofs.Lists.{tick_other, tick_le}
+use Rattle.boundary_model.proofs.Rotations.{canonical_is, rest_head, IsIn_head}
+use Rattle.boundary_model.proofs.Rings.{IsPath-agree}
+use Rattle.boundary_model.specs.HalfEdge.{plus, minus, edge_of, is_first, mate}
+use Rattle.boundary_model.specs.Table.{Table, get, put, remove, tabulate, get-put, get-remove, same_table}
+use Rattle.boundary_model.specs.Model.{EdgeRow, no_edge}
+use Rattle.boundary_model.proofs.Halves.{plus_row, minus_row, mate-mate}
+use Rattle.arena_rows.specs.ring_spots.Spots.{Spots, codes, edges_end, live, next, label, tail_at, ring, map_spot, woken, asleep, retailed, IsRingOf, AreRings}
+use Rattle.arena_rows.specs.ring_spots.SpotTables.{edge_row, both_tails, loose_row, edge_room}
+use Rattle.arena_rows.proofs.ring_spots_laws.SpotLaws.{AreRings-retailed, live-retailed, ring_kept, ring_of, ring_same, next_in_ring, canonical_ring}
+use Rattle.arena_rows.proofs.ring_spots_laws.SpotTables.{half_is, row_live, edges_at, loose_row_is, loose_at, loose_row_means, loose_dead, loose_alike, codes_are, mate_plus, mate_minus, edge_has, edge_has_room}
+
+pub only : (x y : ℕ) → IsIn y (x ∷ []) → y ≡ x
+only x y i = elim (eqb_tells y x) [ inl p ↦ p.1 | inr p ↦ absurd (omega (arith, tick_other y x p.1)) ]
+
+module _ (sp : Spots) (R : AreRings sp) where
+  module _ (h v : ℕ) (a : live sp h ≡ true) where
+    abbrev moved : Spots
+    moved = retailed sp h v
+
+    m_rings : AreRings moved
+    m_rings = AreRings-retailed sp R h v
+
+    tail_here : (x : ℕ) → live sp x ≡ true → x ≡ h → tail_at moved x ≡ v
+    tail_here x b e = ap (λ t. or_zero (of_spot (λ s. s.tail) (cond t (map_spot (λ s. record s { tail = v }) (sp x)) (sp x)))) (eq-eqb x h e) ∙ go (sp x) b where
+      go : (o : Option Spot) → is_some o ≡ true → or_zero (of_spot (λ s. s.tail) (map_spot (λ s. record s { tail = v }) o)) ≡ v
+      go None n = absurd (true≢false (sym n))
+      go (Some s) n = refl
+
+    spot_there : (x : ℕ) → x ≢ h → moved x ≡ sp x
+    spot_there x n = ap (λ t. cond t (map_spot (λ s. record s { tail = v }) (sp x)) (sp x)) (ne_eqb x h n)
+
+    abbrev old : EdgeRow
+    old = record { plus_tail = tail_at sp (plus (edge_of h)); minus_tail = tail_at sp (minus (edge_of h)) }
+
+    abbrev changed : EdgeRow → EdgeRow
+    changed row = cond (is_first h) (record row { plus_tail = v }) (record row { minus_tail = v })
+
+    row_new : edge_row moved (edge_of h) ≡ Some (changed old)
+    row_new = row_live moved m_rings h (live-retailed sp h v h ∙ a) ∙ elim (half_is h) [
+      | inl p ↦
+          let other : minus (edge_of h) ≢ h = λ e. omega arith in
+          (λ i. Some (record { plus_tail = tail_here (plus (edge_of h)) (ap (live sp) (sym p.0) ∙ a) (sym p.0) i; minus_tail = or_zero (of_spot (λ s. s.tail) (spot_there (minus (edge_of h)) other i)) }))
+          ∙ sym (ap (λ b. Some (cond b (record old { plus_tail = v }) (record old { minus_tail = v }))) p.1)
+      | inr p ↦
+          let other : plus (edge_of h) ≢ h = λ e. omega arith in
+          (λ i. Some (record { plus_tail = or_zero (of_spot (λ s. s.tail) (spot_there (plus (edge_of h)) other i)); minus_tail = tail_here (minus (edge_of h)) (ap (live sp) (sym p.0) ∙ a) (sym p.0) i }))
+          ∙ sym (ap (λ b. Some (cond b (record old { plus_tail = v }) (record old { minus_tail = v }))) p.1)
+    ]
+
+    row_other : (e : ℕ) → e ≢ edge_of h → edge_row moved e ≡ edge_row sp e
+    row_other e n =
+        let p : plus e ≢ h = λ q. n (sym (plus_row e).0 ∙ ap edge_of q) in
+        let m : minus e ≢ h = λ q. n (sym (minus_row e).0 ∙ ap edge_of q) in
+        λ i. both_tails (spot_there (plus e) p i) (spot_there (minus e) m i)
+
+    pub edges_tail : tabulate (edge_row moved) codes ≡ put (tabulate (edge_row sp) codes) (edge_of h) (changed (unwrap_or (get (tabulate (edge_row sp) codes) (edge_of h)) no_edge))
+    edges_tail = same_table (tabulate (edge_row moved) codes) (put (tabulate (edge_row sp) codes) (edge_of h) (changed (unwrap_or (get (tabulate (edge_row sp) codes) (edge_of h)) no_edge))) (λ e. edges_at moved m_rings e ∙ elim (eqb_tells e (edge_of h)) [
+      | inl p ↦ ap (edge_row moved) p.1 ∙ row_new ∙ ap (λ o. Some (changed (unwrap_or o no_edge))) (sym (edges_at sp R (edge_of h) ∙ row_live sp R h a))
+          ∙ sym (get-put (tabulate (edge_row sp) codes) (edge_of h) _ e ∙ ap (λ b. cond b (Some (changed (unwrap_or (get (tabulate (edge_row sp) codes) (edge_of h)) no_edge))) (get (tabulate (edge_row sp) codes) e)) p.0)
+      | inr p ↦ row_other e p.1 ∙ sym (edges_at sp R e)
+          ∙ sym (get-put (tabulate (edge_row sp) codes) (edge_of h) _ e ∙ ap (λ b. cond b (Some (changed (unwrap_or (get (tabulate (edge_row sp) codes) (edge_of h)) no_edge))) (get (tabulate (edge_row sp) codes) e)) p.0)
+    ])
+
+  module _ (e u v : ℕ) (limit : e ≤ 1000000) (some : e ≢ 0) (dead_plus : live sp (plus e) ≡ false) (dead_minus : live sp (minus e) ≡ false) where
+    abbrev wide : Spots
+    wide = woken (woken sp (plus e) u) (minus e) v
+
+    pub w_minus : wide (minus e) ≡ Some (ring_of_one (minus e) v)
+    w_minus = ap (λ b. cond b (Some (ring_of_one (minus e) v)) (woken sp (plus e) u (minus e))) (eq-eqb (minus e) (minus e) refl)
+
+    pub w_plus : wide (plus e) ≡ Some (ring_of_one (plus e) u)
+    w_plus = ap (λ b. cond b (Some (ring_of_one (minus e) v)) (woken sp (plus e) u (plus e))) (ne_eqb (plus e) (minus e) (λ q. omega arith)) ∙ ap (λ b. cond b (Some (ring_of_one (plus e) u)) (sp (plus e))) (eq-eqb (plus e) (plus e) refl)
+
+    pub w_other : (x : ℕ) → x ≢ plus e → x ≢ minus e → wide x ≡ sp x
+    w_other x n m = ap (λ b. cond b (Some (ring_of_one (minus e) v)) (woken sp (plus e) u x)) (ne_eqb x (minus e) m) ∙ ap (λ b. cond b (Some (ring_of_one (plus e) u)) (sp x)) (ne_eqb x (plus e) n)
+
+    pub w_old : (x : ℕ) → live sp x ≡ true → wide x ≡ sp x
+    w_old x a = w_other x (λ q. true≢false (sym (ap (live sp) (sym q) ∙ a) ∙ dead_plus)) (λ q. true≢false (sym (ap (live sp) (sym q) ∙ a) ∙ dead_minus))
+
+    -- a live code is new or old
+    pub w_cases : (x : ℕ) → live wide x ≡ true → (x ≡ plus e) ⊎ ((x ≡ minus e) ⊎ (live sp x ≡ true))
+    w_cases x a = elim (eqb_tells x (plus e)) [
+      | inl p ↦ inl p.1
+      | inr p ↦ elim (eqb_tells x (minus e)) [ inl q ↦ inr (inl q.1) | inr q ↦ inr (inr (sym (ap is_some (w_other x p.1 q.1)) ∙ a)) ]
+    ]
+
+    w_bound : (x : ℕ) → live wide x ≡ true → x < codes
+    w_bound x a = elim (w_cases x a) [ inl p ↦ omega (arith, codes_are) | inr (inl q) ↦ omega (arith, codes_are) | inr (inr b) ↦ R.bound x b ]
+
+    canonical_one : (x : ℕ) → canonical (x ∷ []) ≡ x ∷ []
+    canonical_one x = canonical_is x (x ∷ []) (IsIn_head x []) ∙ ap (λ r. x ∷ r) (rest_head x [])
+
+    one_ring : (x : ℕ) → next wide x ≡ x → live wide x ≡ true → (ring wide x ≡ x ∷ []) × IsRingOf wide x (ring wide x)
+    one_ring x n a = ring_of wide w_bound x (x ∷ []) (record {
+      leads = (n, tt);
+      apart = λ y. omega (arith, tick_le y x);
+      item = IsIn_head x [];
+      awake = λ y i. ap (live wide) (only x y i) ∙ a;
+      one_label = λ y i. ap (label wide) (only x y i);
+    }) (canonical_one x)
+
+    pub old_ring : (c : ℕ) → live sp c ≡ true → (ring wide c ≡ ring sp c) × IsRingOf wide c (ring wide c)
+    old_ring c a = ring_kept sp wide R c a (λ x b. ap is_some (w_old x b) ∙ b) w_bound
+        (λ x i. ap (λ o. or_zero (of_spot (λ s. s.next) o)) (w_old x ((R.rings c a).awake x i)))
+        (λ x i. ap (λ o. or_zero (of_spot (λ s. s.label) o)) (w_old x ((R.rings c a).awake x i)) ∙ (R.rings c a).one_label x i ∙ sym (ap (λ o. or_zero (of_spot (λ s. s.label) o)) (w_old c a)))
+
+    l_plus : live wide (plus e) ≡ true
+    l_plus = ap is_some w_plus
+
+    l_minus : live wide (minus e) ≡ true
+    l_minus = ap is_some w_minus
+
+    r_plus : (ring wide (plus e) ≡ plus e ∷ []) × IsRingOf wide (plus e) (ring wide (plus e))
+    r_plus = one_ring (plus e) (ap (λ o. or_zero (of_spot (λ s. s.next) o)) w_plus) l_plus
+
+    r_minus : (ring wide (minus e) ≡ minus e ∷ []) × IsRingOf wide (minus e) (ring wide (minus e))
+    r_minus = one_ring (minus e) (ap (λ o. or_zero (of_spot (λ s. s.next) o)) w_minus) l_minus
+
+    pub w_rings : AreRings wide
+    w_rings = record {
+      bound = w_bound;
+      rings = λ c a. elim (w_cases c a) [
+        | inl p ↦ subst (λ x. IsRingOf wide x (ring wide x)) (sym p) r_plus.1
+        | inr (inl p) ↦ subst (λ x. IsRingOf wide x (ring wide x)) (sym p) r_minus.1
+        | inr (inr b) ↦ (old_ring c b).1
+      ];
+      mates = λ c a. elim (w_cases c a) [
+        | inl p ↦ ap (λ x. live wide (mate x)) p ∙ ap (live wide) (mate_plus e) ∙ l_minus
+        | inr (inl p) ↦ ap (λ x. live wide (mate x)) p ∙ ap (live wide) (mate_minus e) ∙ l_plus
+        | inr (inr b) ↦ let m = R.mates c b in ap is_some (w_old (mate c) m) ∙ m
+      ];
+    }
+
+    pub w_label : (x : ℕ) → live sp x ≡ true → label wide x ≡ label sp x
+    w_label x a = ap (λ o. or_zero (of_spot (λ s. s.label) o)) (w_old x a)
+
+    w_loose_old : (k : ℕ) → k ≢ plus e → k ≢ minus e → loose_row wide k ≡ loose_row sp k
+    w_loose_old k n m = go (live sp k) refl where
+      go : (t : Bool) → live sp k ≡ t → loose_row wide k ≡ loose_row sp k
+      go true h = loose_alike sp wide k (ap is_some (w_old k h)) (w_label k h) (old_ring k h).0
+      go false h = loose_dead wide k (ap is_some (w_other k n m) ∙ h) ∙ sym (loose_dead sp k h)
+
+    w_loose_plus : loose_row wide (plus e) ≡ Some (plus e ∷ [])
+    w_loose_plus = loose_row_is wide w_rings (plus e) l_plus (ap (λ o. or_zero (of_spot (λ s. s.label) o)) w_plus) (ap (head_or 0) r_plus.0) ∙ ap Some r_plus.0
+
+    w_loose_minus : loose_row wide (minus e) ≡ Some (minus e ∷ [])
+    w_loose_minus = loose_row_is wide w_rings (minus e) l_minus (ap (λ o. or_zero (of_spot (λ s. s.label) o)) w_minus) (ap (head_or 0) r_minus.0) ∙ ap Some r_minus.0
+
+    abbrev loose1 : Table (List ℕ)
+    loose1 = put (tabulate (loose_row sp) codes) (plus e) (plus e ∷ [])
+
+    pub w_loose : tabulate (loose_row wide) codes ≡ put loose1 (minus e) (minus e ∷ [])
+    w_loose = same_table (tabulate (loose_row wide) codes) (put loose1 (minus e) (minus e ∷ [])) (λ k. loose_at wide w_rings k ∙ elim (eqb_tells k (minus e)) [
+      | inl p ↦ ap (loose_row wide) p.1 ∙ w_loose_minus ∙ sym (get-put loose1 (minus e) (minus e ∷ []) k ∙ ap (λ b. cond b (Some (minus e ∷ [])) (get loose1 k)) p.0)
+      | inr p ↦ elim (eqb_tells k (plus e)) [
+        | inl r ↦ ap (loose_row wide) r.1 ∙ w_loose_plus ∙ sym (get-put loose1 (minus e) (minus e ∷ []) k ∙ ap (λ b. cond b (Some (minus e ∷ [])) (get loose1 k)) p.0 ∙ get-put (tabulate (loose_row sp) codes) (plus e) (plus e ∷ []) k ∙ ap (λ b. cond b (Some (plus e ∷ [])) (get (tabulate (loose_row sp) codes) k)) r.0)
+        | inr r ↦ w_loose_old k r.1 p.1 ∙ sym (loose_at sp R k) ∙ sym (get-put loose1 (minus e) (minus e ∷ []) k ∙ ap (λ b. cond b (Some (minus e ∷ [])) (get loose1 k)) p.0 ∙ get-put (tabulate (loose_row sp) codes) (plus e) (plus e ∷ []) k ∙ ap (λ b. cond b (Some (plus e ∷ [])) (get (tabulate (loose_row sp) codes) k)) r.0)
+      ]
+    ])
+
+    abbrev new_row : EdgeRow
+    new_row = record { plus_tail = u; minus_tail = v }
+
+    pub w_edges : tabulate (edge_row wide) codes ≡ put (tabulate (edge_row sp) codes) e new_row
+    w_edges = same_table (tabulate (edge_row wide) codes) (put (tabulate (edge_row sp) codes) e new_row) (λ k. edges_at wide w_rings k ∙ elim (eqb_tells k e) [
+      | inl p ↦ ap (edge_row wide) p.1 ∙ (λ i. both_tails (w_plus i) (w_minus i)) ∙ sym (get-put (tabulate (edge_row sp) codes) e new_row k ∙ ap (λ b. cond b (Some new_row) (get (tabulate (edge_row sp) codes) k)) p.0)
+      | inr p ↦
+          (λ i. both_tails (w_other (plus k) (λ q. p.1 (omega arith)) (λ q. omega arith) i) (w_other (minus k) (λ q. omega arith) (λ q. p.1 (omega arith)) i))
+          ∙ sym (edges_at sp R k) ∙ sym (get-put (tabulate (edge_row sp) codes) e new_row k ∙ ap (λ b. cond b (Some new_row) (get (tabulate (edge_row sp) codes) k)) p.0)
+    ])
+
+  -- an edge whose two half-edges are loose, each alone
+  module _ (e : ℕ) (row_plus : loose_row sp (plus e) ≡ Some (plus e ∷ [])) (row_minus : loose_row sp (minus e) ≡ Some (minus e ∷ [])) where
+    abbrev less : Spots
+    less = asleep (asleep sp (plus e)) (minus e)
+
+    t_plus : (live sp (plus e) ≡ true) × (label sp (plus e) ≡ 0) × (head_or 0 (ring sp (plus e)) ≡ plus e) × (ring sp (plus e) ≡ plus e ∷ [])
+    t_plus = loose_row_means sp R (plus e) (plus e ∷ []) row_plus
+
+    t_minus : (live sp (minus e) ≡ true) × (label sp (minus e) ≡ 0) × (head_or 0 (ring sp (minus e)) ≡ minus e) × (ring sp (minus e) ≡ minus e ∷ [])
+    t_minus = loose_row_means sp R (minus e) (minus e ∷ []) row_minus
+
+    pub alone_plus : next sp (plus e) ≡ plus e
+    alone_plus = only (plus e) (next sp (plus e)) (subst (IsIn (next sp (plus e))) t_plus.3 (next_in_ring sp R (plus e) t_plus.0))
+
+    pub alone_minus : next sp (minus e) ≡ minus e
+    alone_minus = only (minus e) (next sp (minus e)) (subst (IsIn (next sp (minus e))) t_minus.3 (next_in_ring sp R (minus e) t_minus.0))
+
+    pub live_plus : live sp (plus e) ≡ true
+    live_plus = t_plus.0
+
+    pub live_minus : live sp (minus e) ≡ true
+    live_minus = t_minus.0
+
+    s_minus : less (minus e) ≡ None
+    s_minus = ap (λ b. cond b None (asleep sp (plus e) (minus e))) (eq-eqb (minus e) (minus e) refl)
+
+    s_plus : less (plus e) ≡ None
+    s_plus = ap (λ b. cond b None (asleep sp (plus e) (plus e))) (ne_eqb (plus e) (minus e) (λ q. omega arith)) ∙ ap (λ b. cond b None (sp (plus e))) (eq-eqb (plus e) (plus e) refl)
+
+    pub s_other : (x : ℕ) → x ≢ plus e → x ≢ minus e → less x ≡ sp x
+    s_other x n m = ap (λ b. cond b None (asleep sp (plus e) x)) (ne_eqb x (minus e) m) ∙ ap (λ b. cond b None (sp x)) (ne_eqb x (plus e) n)
+
+    -- what is live still
+    pub s_left : (x : ℕ) → live less x ≡ true → (x ≢ plus e) × (x ≢ minus e) × (live sp x ≡ true)
+    s_left x a =
+        let n : x ≢ plus e = λ q. true≢false (sym a ∙ ap (live less) q ∙ ap is_some s_plus) in
+        let m : x ≢ minus e = λ q. true≢false (sym a ∙ ap (live less) q ∙ ap is_some s_minus) in
+        (n, m, sym (ap is_some (s_other x n m)) ∙ a)
+
+    s_bound : (x : ℕ) → live less x ≡ true → x < codes
+    s_bound x a = R.bound x (s_left x a).2
+
+    -- the items of another ring are other codes
+    s_item : (c x : ℕ) → live sp c ≡ true → c ≢ plus e → c ≢ minus e → IsIn x (ring sp c) → less x ≡ sp x
+    s_item c x a n m i = s_other x
+        (λ q. n (only (plus e) c (subst (IsIn c) (sym (ring_same sp R c x a i) ∙ ap (ring sp) q ∙ t_plus.3) (R.rings c a).item)))
+        (λ q. m (only (minus e) c (subst (IsIn c) (sym (ring_same sp R c x a i) ∙ ap (ring sp) q ∙ t_minus.3) (R.rings c a).item)))
+
+    pub s_ring : (c : ℕ) → live sp c ≡ true → c ≢ plus e → c ≢ minus e → (ring less c ≡ ring sp c) × IsRingOf less c (ring less c)
+    s_ring c a n m =
+        let o = R.rings c a in
+        ring_of less s_bound c (ring sp c) (record {
+          leads = IsPath-agree (next sp) (next less) (ring sp c) (head_or 0 (ring sp c)) (λ x i. ap (λ o. or_zero (of_spot (λ s. s.next) o)) (sym (s_item c x a n m i))) o.leads;
+          apart = o.apart;
+          item = o.item;
+          awake = λ x i. ap is_some (s_item c x a n m i) ∙ o.awake x i;
+          one_label = λ x i. ap (λ o. or_zero (of_spot (λ s. s.label) o)) (s_item c x a n m i) ∙ o.one_label x i ∙ sym (ap (λ o. or_zero (of_spot (λ s. s.label) o)) (s_other c n m));
+        }) (canonical_ring sp R c a)
+
+    pub s_rings : AreRings less
+    s_rings = record {
+      bound = s_bound;
+      rings = λ c a. let l = s_left c a in (s_ring c l.2 l.0 l.1).1;
+      mates = λ c a. let l = s_left c a in
+          let n : mate c ≢ plus e = λ q. l.1 (sym (mate-mate c) ∙ ap mate q ∙ mate_plus e) in
+          let m : mate c ≢ minus e = λ q. l.0 (sym (mate-mate c) ∙ ap mate q ∙ mate_minus e) in
+          ap is_some (s_other (mate c) n m) ∙ R.mates c l.2;
+    }
+
+    pub s_label : (x : ℕ) → x ≢ plus e → x ≢ minus e → label less x ≡ label sp x
+    s_label x n m = ap (λ o. or_zero (of_spot (λ s. s.label) o)) (s_other x n m)
+
+    -- a labelled code is neither
+    pub s_named : (x : ℕ) → label sp x ≢ 0 → (x ≢ plus e) × (x ≢ minus e)
+    s_named x n = (λ q. n (ap (label sp) q ∙ t_plus.1), λ q. n (ap (label sp) q ∙ t_minus.1))
+
+    s_loose_old : (k : ℕ) → k ≢ plus e → k ≢ minus e → loose_row less k ≡ loose_row sp k
+    s_loose_old k n m = go (live sp k) refl where
+      go : (t : Bool) → live sp k ≡ t → loose_row less k ≡ loose_row sp k
+      go true h = loose_alike sp less k (ap is_some (s_other k n m)) (s_label k n m) (s_ring k h n m).0
+      go false h = loose_dead less k (ap is_some (s_other k n m) ∙ h) ∙ sym (loose_dead sp k h)
+
+    abbrev loose2 : Table (List ℕ)
+    loose2 = remove (tabulate (loose_row sp) codes) (plus e)
+
+    pub s_loose : tabulate (loose_row less) codes ≡ remove loose2 (minus e)
+    s_loose = same_table (tabulate (loose_row less) codes) (remove loose2 (minus e)) (λ k. loose_at less s_rings k ∙ elim (eqb_tells k (minus e)) [
+      | inl p ↦ ap (loose_row less) p.1 ∙ loose_dead less (minus e) (ap is_some s_minus) ∙ sym (get-remove loose2 (minus e) k ∙ ap (λ b. cond b None (get loose2 k)) p.0)
+      | inr p ↦ elim (eqb_tells k (plus e)) [
+        | inl r ↦ ap (loose_row less) r.1 ∙ loose_dead less (plus e) (ap is_some s_plus) ∙ sym (get-remove loose2 (minus e) k ∙ ap (λ b. cond b None (get loose2 k)) p.0 ∙ get-remove (tabulate (loose_row sp) codes) (plus e) k ∙ ap (λ b. cond b None (get (tabulate (loose_row sp) codes) k)) r.0)
+        | inr r ↦ s_loose_old k r.1 p.1 ∙ sym (loose_at sp R k) ∙ sym (get-remove loose2 (minus e) k ∙ ap (λ b. cond b None (get loose2 k)) p.0 ∙ get-remove (tabulate (loose_row sp) codes) (plus e) k ∙ ap (λ b. cond b None (get (tabulate (loose_row sp) codes) k)) r.0)
+      ]
+    ])
+
+    pub s_edges : tabulate (edge_row less) codes ≡ remove (tabulate (edge_row sp) codes) e
+    s_edges = same_table (tabulate (edge_row less) codes) (remove (tabulate (edge_row sp) codes) e) (λ k. edges_at less s_rings k ∙ elim (eqb_tells k e) [
+      | inl p ↦ ap (edge_row less) p.1 ∙ (λ i. both_tails (s_plus i) (less (minus e))) ∙ sym (get-remove (tabulate (edge_row sp) codes) e k ∙ ap (λ b. cond b None (get (tabulate (edge_row sp) codes) k)) p.0)
+      | inr p ↦
+          (λ i. both_tails (s_other (plus k) (λ q. p.1 (omega arith)) (λ q. omega arith) i) (s_other (minus k) (λ q. omega arith) (λ q. p.1 (omega arith)) i))
+          ∙ sym (edges_at sp R k) ∙ sym (get-remove (tabulate (edge_row sp) codes) e k ∙ ap (λ b. cond b None (get (tabulate (edge_row sp) codes) k)) p.0)
+    ])
+
+-- what the room of a free edge says
+pub record IsFree (sp : Spots) (known : ℕ → Bool) (e : ℕ) : Type 0 where
+  pub limit : e ≤ 1000000
+  pub some : e ≢ 0
+  pub known_plus : known (plus e) ≡ true
+  pub known_minus : known (minus e) ≡ true
+  pub dead_plus : live sp (plus e) ≡ false
+  pub dead_minus : live sp (minus e) ≡ false
+
+and_first : (p q : Bool) → p && q ≡ true → p ≡ true
+and_first true q h = refl
+and_first false q h = h
+
+and_second : (p q : Bool) → p && q ≡ true → q ≡ true
+and_second true q h = h
+and_second false q h = absurd (true≢false (sym h))
+
+pub free_edge : (sp : Spots) (known : ℕ → Bool) → AreRings sp → (e : ℕ) → is_some (get (tabulate (edge_room known) edges_end) e) ≡ true → is_some (get (tabulate (edge_row sp) codes) e) ≡ false → IsFree sp known e
+free_edge sp known R e room free =
+    let r = sym (edge_has_room known e) ∙ room in
+    let f = sym (edge_has sp R e) ∙ free in
+    let within = and_first (nat_le e 1000000) _ r in
+    let rest = and_second (nat_le e 1000000) _ r in
+    let keys = and_second (nat_lt 0 e) _ rest in
+    let positive = and_first (nat_lt 0 e) _ rest in
+    let dead : live sp (plus e) ≡ false = sym (ap (λ b. b && live sp (plus e)) within) ∙ f in
+    record {
+      limit = grind (arith, nat_tests);
+      some = grind (arith, nat_tests);
+      known_plus = and_first (known (plus e)) _ keys;
+      known_minus = and_second (known (plus e)) _ keys;
+      dead_plus = dead;
+      dead_minus = not_true (live sp (minus e)) (λ h. true≢false (sym (sym (ap (live sp) (mate_minus e)) ∙ R.mates (minus e) h) ∙ dead));
+    }
+  where
+    not_true : (b : Bool) → b ≢ true → b ≡ false
+    not_true true n = absurd (n refl)
+    not_true false n = refl

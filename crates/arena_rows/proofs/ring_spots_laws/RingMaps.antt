@@ -1,0 +1,181 @@
+-- What the map of the rings says of each code once it is changed.
+use Rattle.std.proofs.Common.{◌≡◌, ℕ, Bool, true, false, cond, nat_eq, Option, Some, None, is_some, Result, Ok, Err, OnOk, OnErr, refl, sym, ap, ◌∙◌, true≢false, eq-eqb, inl, inr}
+use Rattle.std.proofs.lemmas.Bool.Decides.{eqb_tells}
+use Rattle.std.specs.FinMap.{get, insert, contains_key, empty}
+use Rattle.std.specs.FinMap as map
+use Rattle.std.specs.Ordering.{nat_cmp}
+use Rattle.raw_ring.specs.Rings.{Spot, RingMap, spot, awake, or_zero, of_spot, next_of, put_spot, with_spot, with_next, with_tail, with_room, spliced, ring_of_one}
+use Rattle.raw_ring.proofs.Mapping.{get-put}
+use Rattle.arena_rows.specs.ring_spots.Spots.{next, woken, asleep, map_spot, retailed, spliced_at}
+
+pub get_spot : (m : RingMap) (c : ℕ) (s : Spot) → spot m c ≡ Some s → get m c ≡ Some (Some s)
+get_spot m c s e = go (get m c) e where
+  go : (o : Option (Option Spot)) → awake o ≡ Some s → o ≡ Some (Some s)
+  go None e = cc
+  go (Some o) e = ap Some e
+
+awake-cond : (b : Bool) (v : Option Spot) (o : Option (Option Spot)) → awake (cond b (Some v) o) ≡ cond b v (awake o)
+awake-cond true v o = refl
+awake-cond false v o = refl
+
+known-cond : (b : Bool) (v : Option Spot) (o : Option (Option Spot)) → is_some (cond b (Some v) o) ≡ cond b true (is_some o)
+known-cond true v o = refl
+known-cond false v o = refl
+
+pub spot-insert : (m : RingMap) (c : ℕ) (v : Option Spot) (q : ℕ) → spot (insert m c v) q ≡ cond (nat_eq q c) v (spot m q)
+spot-insert m c v q = ap awake (get-put m c v q) ∙ awake-cond (nat_eq q c) v (get m q)
+
+pub known-insert : (m : RingMap) (c : ℕ) (v : Option Spot) (q : ℕ) → contains_key (insert m c v) q ≡ cond (nat_eq q c) true (contains_key m q)
+known-insert m c v q = ap is_some (get-put m c v q) ∙ known-cond (nat_eq q c) v (get m q)
+
+pub known_kept : (m : RingMap) (c : ℕ) (v : Option Spot) → contains_key m c ≡ true → (q : ℕ) → contains_key (insert m c v) q ≡ contains_key m q
+known_kept m c v k q = known-insert m c v q ∙ elim (eqb_tells q c) [
+  | inl p ↦ ap (λ b. cond b true (contains_key m q)) p.0 ∙ sym k ∙ ap (contains_key m) (sym p.1)
+  | inr p ↦ ap (λ b. cond b true (contains_key m q)) p.0
+]
+
+pub live_known : (m : RingMap) (c : ℕ) → is_some (spot m c) ≡ true → contains_key m c ≡ true
+live_known m c e = go (get m c) e where
+  go : (o : Option (Option Spot)) → is_some (awake o) ≡ true → is_some o ≡ true
+  go None e = e
+  go (Some o) e = refl
+
+module _ (m : RingMap) (c : ℕ) (f : Spot → Spot) where
+  -- f of what stands at a live code
+  pub spot-with : (q : ℕ) → spot (with_spot m c f) q ≡ cond (nat_eq q c) (map_spot f (spot m q)) (spot m q)
+  spot-with q = go (spot m c) refl where
+    go : (o : Option Spot) → spot m c ≡ o → spot (put_spot m c f o) q ≡ cond (nat_eq q c) (map_spot f (spot m q)) (spot m q)
+    go None e = elim (eqb_tells q c) [
+      | inl p ↦ ap (spot m) p.1 ∙ e ∙ sym (ap (λ b. cond b (map_spot f (spot m q)) (spot m q)) p.0 ∙ ap (map_spot f) (ap (spot m) p.1 ∙ e))
+      | inr p ↦ sym (ap (λ b. cond b (map_spot f (spot m q)) (spot m q)) p.0)
+    ]
+    go (Some s) e = spot-insert m c (Some (f s)) q ∙ elim (eqb_tells q c) [
+      | inl p ↦ ap (λ b. cond b (Some (f s)) (spot m q)) p.0 ∙ sym (ap (λ b. cond b (map_spot f (spot m q)) (spot m q)) p.0 ∙ ap (map_spot f) (ap (spot m) p.1 ∙ e))
+      | inr p ↦ ap (λ b. cond b (Some (f s)) (spot m q)) p.0 ∙ sym (ap (λ b. cond b (map_spot f (spot m q)) (spot m q)) p.0)
+    ]
+
+  pub known-with : (q : ℕ) → contains_key (with_spot m c f) q ≡ contains_key m q
+  known-with q = go (spot m c) refl where
+    go : (o : Option Spot) → spot m c ≡ o → contains_key (put_spot m c f o) q ≡ contains_key m q
+    go None e = refl
+    go (Some s) e = known_kept m c (Some (f s)) (live_known m c (ap is_some e)) q
+
+pub next_is : (m : RingMap) (c : ℕ) → next (spot m) c ≡ or_zero (next_of m c)
+next_is m c = refl
+
+linked : (n : ℕ) (s : Spot) → Spot
+linked n s = record s { next = n }
+
+same_next : (o : Option Spot) → map_spot (λ s. record s { next = or_zero (of_spot (λ s. s.next) o) }) o ≡ o
+same_next None = refl
+same_next (Some s) = refl
+
+twice : (n k : ℕ) (o : Option Spot) → map_spot (λ s. record s { next = n }) (map_spot (λ s. record s { next = k }) o) ≡ map_spot (λ s. record s { next = n }) o
+twice n k None = refl
+twice n k (Some s) = refl
+
+-- a splice
+pub spot-spliced : (m : RingMap) (a b : ℕ) → spot (spliced m a b) ≡ spliced_at (spot m) a b
+spot-spliced m a b = λ i q. go q i where
+  first : RingMap
+  first = with_next m a (or_zero (next_of m b))
+
+  go : (q : ℕ) → spot (spliced m a b) q ≡ spliced_at (spot m) a b q
+  go q = spot-with (with_next m a (or_zero (next_of m b))) b (λ s. record s { next = or_zero (next_of m a) }) q
+      ∙ ap (λ o. cond (nat_eq q b) (map_spot (λ s. record s { next = or_zero (next_of m a) }) o) o) (spot-with m a (λ s. record s { next = or_zero (next_of m b) }) q)
+      ∙ elim (eqb_tells q a) [
+        | inl p ↦ ap (λ t. cond (nat_eq q b) (map_spot (λ s. record s { next = or_zero (next_of m a) }) (cond t (map_spot (λ s. record s { next = or_zero (next_of m b) }) (spot m q)) (spot m q))) (cond t (map_spot (λ s. record s { next = or_zero (next_of m b) }) (spot m q)) (spot m q))) p.0
+            ∙ elim (eqb_tells q b) [
+              | inl r ↦ ap (λ t. cond t (map_spot (λ s. record s { next = or_zero (next_of m a) }) (map_spot (λ s. record s { next = or_zero (next_of m b) }) (spot m q))) (map_spot (λ s. record s { next = or_zero (next_of m b) }) (spot m q))) r.0
+                  ∙ twice _ _ (spot m q) ∙ ap (λ n. map_spot (λ s. record s { next = n }) (spot m q)) (ap (λ z. or_zero (next_of m z)) (sym p.1 ∙ r.1))
+                  ∙ sym (ap (λ t. map_spot (λ s. record s { next = cond t (or_zero (next_of m b)) (cond (nat_eq q b) (or_zero (next_of m a)) (or_zero (next_of m q))) }) (spot m q)) p.0)
+              | inr r ↦ ap (λ t. cond t (map_spot (λ s. record s { next = or_zero (next_of m a) }) (map_spot (λ s. record s { next = or_zero (next_of m b) }) (spot m q))) (map_spot (λ s. record s { next = or_zero (next_of m b) }) (spot m q))) r.0
+                  ∙ sym (ap (λ t. map_spot (λ s. record s { next = cond t (or_zero (next_of m b)) (cond (nat_eq q b) (or_zero (next_of m a)) (or_zero (next_of m q))) }) (spot m q)) p.0)
+            ]
+        | inr p ↦ ap (λ t. cond (nat_eq q b) (map_spot (λ s. record s { next = or_zero (next_of m a) }) (cond t (map_spot (λ s. record s { next = or_zero (next_of m b) }) (spot m q)) (spot m q))) (cond t (map_spot (λ s. record s { next = or_zero (next_of m b) }) (spot m q)) (spot m q))) p.0
+            ∙ elim (eqb_tells q b) [
+              | inl r ↦ ap (λ t. cond t (map_spot (λ s. record s { next = or_zero (next_of m a) }) (spot m q)) (spot m q)) r.0
+                  ∙ sym (ap (λ t. map_spot (λ s. record s { next = cond t (or_zero (next_of m b)) (cond (nat_eq q b) (or_zero (next_of m a)) (or_zero (next_of m q))) }) (spot m q)) p.0 ∙ ap (λ t. map_spot (λ s. record s { next = cond t (or_zero (next_of m a)) (or_zero (next_of m q)) }) (spot m q)) r.0)
+              | inr r ↦ ap (λ t. cond t (map_spot (λ s. record s { next = or_zero (next_of m a) }) (spot m q)) (spot m q)) r.0
+                  ∙ sym (ap (λ t. map_spot (λ s. record s { next = cond t (or_zero (next_of m b)) (cond (nat_eq q b) (or_zero (next_of m a)) (or_zero (next_of m q))) }) (spot m q)) p.0 ∙ ap (λ t. map_spot (λ s. record s { next = cond t (or_zero (next_of m a)) (or_zero (next_of m q)) }) (spot m q)) r.0 ∙ same_next (spot m q))
+            ]
+      ]
+
+pub known-spliced : (m : RingMap) (a b : ℕ) → contains_key (spliced m a b) ≡ contains_key m
+known-spliced m a b = λ i q. (known-with (with_next m a (or_zero (next_of m b))) b (λ s. record s { next = or_zero (next_of m a) }) q ∙ known-with m a (λ s. record s { next = or_zero (next_of m b) }) q) i
+
+pub spot-tail : (m : RingMap) (c t : ℕ) → spot (with_tail m c t) ≡ retailed (spot m) c t
+spot-tail m c t = λ i q. spot-with m c (λ s. record s { tail = t }) q i
+
+pub known-tail : (m : RingMap) (c t : ℕ) → contains_key (with_tail m c t) ≡ contains_key m
+known-tail m c t = λ i q. known-with m c (λ s. record s { tail = t }) q i
+
+pub spot-woken : (m : RingMap) (c t : ℕ) → spot (insert m c (Some (ring_of_one c t))) ≡ woken (spot m) c t
+spot-woken m c t = λ i q. spot-insert m c (Some (ring_of_one c t)) q i
+
+pub spot-asleep : (m : RingMap) (c : ℕ) → spot (insert m c None) ≡ asleep (spot m) c
+spot-asleep m c = λ i q. spot-insert m c None q i
+
+pub known-same : (m : RingMap) (c : ℕ) (v : Option Spot) → contains_key m c ≡ true → contains_key (insert m c v) ≡ contains_key m
+known-same m c v k = λ i q. known_kept m c v k q i
+
+abbrev pub no_codes : RingMap
+no_codes = map.empty
+
+pub spot-empty : (q : ℕ) → spot no_codes q ≡ None
+spot-empty q = ap awake (map.get-empty nat_cmp q)
+
+pub known-empty : (q : ℕ) → contains_key no_codes q ≡ false
+known-empty q = ap is_some (map.get-empty nat_cmp q)
+
+-- a code made known
+pub spot-room : (m : RingMap) (c : ℕ) → spot (with_room m c) ≡ spot m
+spot-room m c = λ i q. go (contains_key m c) refl q i where
+  dead : contains_key m c ≡ false → spot m c ≡ None
+  dead k = sub (get m c) k where
+    sub : (o : Option (Option Spot)) → is_some o ≡ false → awake o ≡ None
+    sub None e = refl
+    sub (Some o) e = absurd (true≢false e)
+
+  go : (b : Bool) → contains_key m c ≡ b → (q : ℕ) → spot (cond b m (insert m c None)) q ≡ spot m q
+  go true e q = refl
+  go false e q = spot-insert m c None q ∙ elim (eqb_tells q c) [
+    | inl p ↦ ap (λ b. cond b None (spot m q)) p.0 ∙ sym (ap (spot m) p.1 ∙ dead e)
+    | inr p ↦ ap (λ b. cond b None (spot m q)) p.0
+  ]
+
+pub known-room : (m : RingMap) (c q : ℕ) → contains_key m q ≡ true → contains_key (with_room m c) q ≡ true
+known-room m c q k = go (contains_key m c) where
+  yes : (b : Bool) → cond b true true ≡ true
+  yes true = refl
+  yes false = refl
+
+  go : (b : Bool) → contains_key (cond b m (insert m c None)) q ≡ true
+  go true = k
+  go false = known-insert m c None q ∙ ap (cond (nat_eq q c) true) k ∙ yes (nat_eq q c)
+
+pub known_now : (m : RingMap) (c : ℕ) → contains_key (with_room m c) c ≡ true
+known_now m c = go (contains_key m c) refl where
+  go : (b : Bool) → contains_key m c ≡ b → contains_key (cond b m (insert m c None)) c ≡ true
+  go true e = e
+  go false e = known-insert m c None c ∙ ap (λ b. cond b true (contains_key m c)) (eq-eqb c c refl)
+
+-- after a call of `room`, whatever it answers
+pub room_spots : {E : Type 0} (m new : RingMap) (c : ℕ) (r : Result (Unit {0}) E) → OnOk r (new ≡ with_room m c) → OnErr r (new ≡ m) → spot new ≡ spot m
+room_spots m new c (Ok u) ok err = ap (λ (k : RingMap). spot k) ok ∙ spot-room m c
+room_spots m new c (Err e) ok err = ap (λ (k : RingMap). spot k) err
+
+pub room_kept : {E : Type 0} (m new : RingMap) (c : ℕ) (r : Result (Unit {0}) E) → OnOk r (new ≡ with_room m c) → OnErr r (new ≡ m) → (q : ℕ) → contains_key m q ≡ true → contains_key new q ≡ true
+room_kept m new c (Ok u) ok err q k = ap (λ (n : RingMap). contains_key n q) ok ∙ known-room m c q k
+room_kept m new c (Err e) ok err q k = ap (λ (n : RingMap). contains_key n q) err ∙ k
+
+pub room_ok : {E : Type 0} (m new : RingMap) (c : ℕ) (r : Result (Unit {0}) E) → OnOk r (new ≡ with_room m c) → OnOk r (contains_key new c ≡ true)
+room_ok m new c (Ok u) ok = ap (λ (n : RingMap). contains_key n c) ok ∙ known_now m c
+room_ok m new c (Err e) ok = tt
+
+-- a live code's successor
+pub next_some : (m : RingMap) (c : ℕ) → is_some (spot m c) ≡ true → next_of m c ≡ Some (next (spot m) c)
+next_some m c a = go (spot m c) a where
+  go : (o : Option Spot) → is_some o ≡ true → of_spot (λ s. s.next) o ≡ Some (or_zero (of_spot (λ s. s.next) o))
+  go None e = absurd (true≢false (sym e))
+  go (Some s) e = refl

@@ -1,0 +1,125 @@
+//! Items by owner.
+ghost use Rattle.std.specs.Prelude.{◌≡◌, ◌≢◌, ◌<◌, ◌≤◌, true, length, None, IfOk, OnOk};
+ghost use Rattle.boundary_model.specs.Table.{get, has};
+ghost use Rattle.arena_rows.specs.owner_chains.Owners.{no_owners, put, take, owned, IsNextItem, HasGrown};
+
+use crate::owner_chains::places::{above, below};
+use crate::owner_chains::rows::{
+    Head, Link, find, follower, gain, head_of, link_in, link_out, lose, reach_heads, reach_links,
+};
+use std::alloc::{AllocError, Global};
+use std::marker::Model;
+
+/// Items that have owners, each by its number.
+///
+/// The items of an owner are chained from the least to the greatest, with their count and a finger on the item that came last,
+/// or a neighbour of the one that went last. Only `reach_owner`, `reach_item` and `copy` take memory.
+#[derive(Drop)]
+pub struct Chains {
+    heads: Vec<Head>,
+    links: Vec<Option<Link>>,
+}
+
+impl Model for Chains {
+    ghost use Rattle.arena_rows.specs.owner_chains.Owners.{Owners, coded_owners};
+
+    ghost Value = { Owners };
+
+    ghost coded = { coded_owners };
+
+    ghost use Rattle.arena_rows.specs.owner_chains.Chains.{view_of, AreChained};
+
+    ghost view = { λ a. view_of a.heads.items a.links.items };
+
+    ghost invariant = { λ a. AreChained a.heads.items a.links.items };
+}
+
+impl Chains {
+    /// No item, and no room. It takes no memory.
+    pub fn new(alloc: Global) -> Self
+        ensures { result ≡ no_owners }
+    {
+        Self {
+            heads: Vec::new(alloc),
+            links: Vec::new(alloc),
+        }
+    }
+
+    /// How many items an owner has. It walks over nothing.
+    pub fn count(&self, owner: u32) -> u32
+        ensures { result ≡ length (owned owner self.now.owner_of) }
+    {
+        head_of(&self.heads, owner).count
+    }
+
+    /// The least item of an owner above n, or none. Where n is 0 or an item of the owner, this is one step; else it walks over
+    /// the owner's items from the finger to n.
+    pub fn after(&self, owner: u32, n: u32) -> Option<u32>
+        ensures { IsNextItem self.now.owner_of owner n result }
+    {
+        let next = above(&self.heads, &self.links, owner, n);
+        if next == 0 { None } else { Some(next) }
+    }
+
+    /// Number n becomes an item of an owner; n is free, and both numbers have their room. It walks over the owner's items from
+    /// the finger to n, which is then the finger: items that come in order cost one step each.
+    pub fn insert(&mut self, owner: u32, n: u32)
+        requires owner_room { owner < self.old.owners_end }
+        requires room { n < self.old.items_end }
+        requires some { n ≢ 0 }
+        requires free { get self.old.owner_of n ≡ None }
+        ensures { self.new ≡ put self.old n owner }
+    {
+        let previous = below(&self.heads, &self.links, owner, n);
+        let next = follower(&self.heads, &self.links, owner, previous);
+        let new = Link {
+            owner,
+            previous,
+            next,
+        };
+        link_in(&mut self.links, n, new);
+        gain(&mut self.heads, n, new);
+    }
+
+    /// Item n goes, which is there. The finger moves to a neighbour. It walks over nothing.
+    pub fn remove(&mut self, n: u32)
+        requires { has self.old.owner_of n ≡ true }
+        ensures { self.new ≡ take self.old n }
+    {
+        let Some(gone) = find(&self.links, n) else {
+            unreachable!()
+        };
+        link_out(&mut self.links, n, gone);
+        lose(&mut self.heads, gone);
+    }
+
+    /// Makes the rows reach to an owner's number, at most 1,000,000. An `Err` comes only where memory is short, and then all is
+    /// as it was.
+    pub fn reach_owner(&mut self, owner: u32) -> Result<(), AllocError>
+        requires { owner ≤ 1000000 }
+        ensures grown { HasGrown self.old self.new }
+        ensures ok { OnOk result (owner < self.new.owners_end) }
+    {
+        reach_heads(&mut self.heads, owner)
+    }
+
+    /// Makes the rows reach to an item's number, at most 1,000,000. An `Err` comes only where memory is short, and then all is
+    /// as it was.
+    pub fn reach_item(&mut self, n: u32) -> Result<(), AllocError>
+        requires { n ≤ 1000000 }
+        ensures grown { HasGrown self.old self.new }
+        ensures ok { OnOk result (n < self.new.items_end) }
+    {
+        reach_links(&mut self.links, n)
+    }
+
+    /// The same items, owners and room, in memory of its own. An `Err` comes only where memory is short.
+    pub fn copy(&self, alloc: Global) -> Result<Chains, AllocError>
+        ensures { IfOk result (λ copy. copy ≡ self.now) }
+    {
+        Ok(Chains {
+            heads: self.heads.to_vec(alloc)?,
+            links: self.links.to_vec(alloc)?,
+        })
+    }
+}

@@ -1,0 +1,179 @@
+//! The rings of half-edges, with the greatest edge in use.
+ghost use Rattle.std.specs.Prelude.{◌≡◌, ◌≤◌, ◌&&◌, nat_lt, nat_le, is_some, true, Some, OnOk, IfOk, ℕ};
+ghost use Rattle.std.specs.FinMap.{empty, contains_key};
+ghost use Rattle.raw_ring.specs.Rings.{spot, next_of, tail_of, label_of, IsLive, IsAsleep, IsPermutation};
+ghost use Rattle.boundary_model.specs.HalfEdge.{plus, minus};
+ghost use Rattle.arena_rows.specs.ring_spots.Spots.{live, ring, labelled, woken, asleep, spliced_at, retailed, AreRings};
+ghost use Rattle.arena_rows.specs.ring_spots.Last.{IsLast, is_edge};
+
+use crate::ring_spots::links;
+use raw_ring::Rings;
+use std::alloc::{AllocError, Global};
+use std::marker::Model;
+
+/// Rings of half-edges, two for each edge, with the greatest edge in use.
+///
+/// A contract sees what stands at each known half-edge. Only `room_edge` and `copy` take memory.
+#[derive(Drop)]
+pub struct EdgeRings {
+    rings: Rings,
+    last: u32,
+}
+
+impl Model for EdgeRings {
+    ghost use Rattle.raw_ring.specs.Rings.{RingMap, ring_map_code, spot};
+    ghost use Rattle.arena_rows.specs.ring_spots.Last.{IsLast, is_edge};
+
+    ghost Value = { RingMap };
+
+    ghost coded = { ring_map_code };
+
+    ghost view = { λ a. a.rings };
+
+    ghost invariant = { λ a. IsLast (is_edge (spot a.rings)) a.last };
+}
+
+impl EdgeRings {
+    /// No half-edge, and no room. It takes no memory.
+    pub fn new(alloc: Global) -> Self
+        ensures { result ≡ empty }
+    {
+        Self {
+            rings: Rings::new(alloc),
+            last: 0,
+        }
+    }
+
+    /// Rings that are equal, in memory of their own.
+    pub fn copy(&self, alloc: Global) -> Result<EdgeRings, AllocError>
+        ensures { IfOk result (λ copy. copy ≡ self.now) }
+    {
+        Ok(EdgeRings {
+            rings: self.rings.copy(alloc)?,
+            last: self.last,
+        })
+    }
+
+    /// Whether the first half-edge of an edge is live.
+    pub fn has_edge(&self, e: u32) -> bool
+        ensures { result ≡ is_edge (spot self.now) e }
+    {
+        links::has_edge(&self.rings, e)
+    }
+
+    /// The greatest edge in use, or 0 where none is. The number is kept, so this walks over nothing.
+    pub fn last_edge(&self) -> u32
+        ensures { IsLast (is_edge (spot self.now)) result }
+    {
+        self.last
+    }
+
+    /// Whether both half-edges of an edge have their nodes.
+    pub fn has_edge_room(&self, e: u32) -> bool
+        ensures { result ≡ nat_le e 1000000 && (nat_lt 0 e && (contains_key self.now (plus e) && contains_key self.now (minus e))) }
+    {
+        links::has_edge_room(&self.rings, e)
+    }
+
+    /// Wakes both half-edges of an edge.
+    pub fn wake_edge(&mut self, e: u32, a: u32, b: u32)
+        requires limit { e ≤ 1000000 }
+        requires first { IsAsleep self.old (plus e) }
+        requires second { IsAsleep self.old (minus e) }
+        ensures spots { spot self.new ≡ woken (woken (spot self.old) (plus e) a) (minus e) b }
+        ensures known { contains_key self.new ≡ contains_key self.old }
+    {
+        links::wake_edge(&mut self.rings, e, a, b);
+        if self.last <= e {
+            self.last = e;
+        }
+    }
+
+    /// Puts both half-edges of an edge to sleep, each of which is a ring of one. Where it was the greatest edge in use, it looks
+    /// at each number below it down to the next one.
+    pub fn sleep_edge(&mut self, e: u32)
+        requires limit { e ≤ 1000000 }
+        requires first { next_of self.old (plus e) ≡ Some (plus e) }
+        requires second { next_of self.old (minus e) ≡ Some (minus e) }
+        ensures spots { spot self.new ≡ asleep (asleep (spot self.old) (plus e)) (minus e) }
+        ensures known { contains_key self.new ≡ contains_key self.old }
+    {
+        links::sleep_edge(&mut self.rings, e);
+        if self.last <= e {
+            self.last = links::last_from(&self.rings, e);
+        }
+    }
+
+    /// Gives each item of a ring the label l.
+    pub fn relabel(&mut self, from: u32, l: u32)
+        requires rings { AreRings (spot self.old) }
+        requires there { live (spot self.old) from ≡ true }
+        ensures spots { spot self.new ≡ labelled (spot self.old) l (ring (spot self.old) from) }
+        ensures known { contains_key self.new ≡ contains_key self.old }
+    {
+        links::relabel(&mut self.rings, from, l);
+    }
+
+    /// Exchanges the successors of two codes.
+    pub fn exchange(&mut self, a: u32, b: u32)
+        requires a { live (spot self.old) a ≡ true }
+        requires b { live (spot self.old) b ≡ true }
+        ensures spots { spot self.new ≡ spliced_at (spot self.old) a b }
+        ensures known { contains_key self.new ≡ contains_key self.old }
+    {
+        links::exchange(&mut self.rings, a, b);
+    }
+
+    /// Changes the vertex at which a half-edge starts.
+    pub fn retail(&mut self, h: u32, v: u32)
+        requires { live (spot self.old) h ≡ true }
+        ensures spots { spot self.new ≡ retailed (spot self.old) h v }
+        ensures known { contains_key self.new ≡ contains_key self.old }
+    {
+        links::retail(&mut self.rings, h, v);
+    }
+
+    /// Gives both half-edges of an edge their nodes.
+    pub fn room_edge(&mut self, e: u32) -> Result<(), AllocError>
+        requires { e ≤ 1000000 }
+        ensures spots { spot self.new ≡ spot self.old }
+        ensures kept { (c : ℕ) → contains_key self.old c ≡ true → contains_key self.new c ≡ true }
+        ensures ok { OnOk result ((contains_key self.new (plus e) ≡ true) × (contains_key self.new (minus e) ≡ true)) }
+    {
+        links::room_edge(&mut self.rings, e)
+    }
+
+    /// The successor of a live half-edge.
+    pub fn next(&self, code: u32) -> u32
+        requires { IsLive self.now code }
+        ensures next { next_of self.now code ≡ Some result }
+        ensures permutation { IsPermutation self.now }
+    {
+        self.rings.next(code)
+    }
+
+    /// The predecessor of a live half-edge: the one that has it as its successor.
+    pub fn prev(&self, code: u32) -> u32
+        requires { IsLive self.now code }
+        ensures prev { next_of self.now result ≡ Some code }
+        ensures permutation { IsPermutation self.now }
+    {
+        self.rings.prev(code)
+    }
+
+    /// The vertex at which a live half-edge starts.
+    pub fn tail(&self, code: u32) -> u32
+        requires { IsLive self.now code }
+        ensures { tail_of self.now code ≡ Some result }
+    {
+        self.rings.tail(code)
+    }
+
+    /// The loop in which a live half-edge stands, or 0 where it stands in none.
+    pub fn label(&self, code: u32) -> u32
+        requires { IsLive self.now code }
+        ensures { label_of self.now code ≡ Some result }
+    {
+        self.rings.label(code)
+    }
+}

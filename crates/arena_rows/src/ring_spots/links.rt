@@ -1,0 +1,119 @@
+//! Edges as pairs of nodes.
+ghost use Rattle.std.specs.Prelude.{◌≡◌, ◌≤◌, ◌<◌, ◌&&◌, ◌*◌, ◌+◌, nat_lt, nat_le, is_some, true, false, Some, OnOk, ℕ};
+ghost use Rattle.std.specs.FinMap.{contains_key};
+ghost use Rattle.raw_ring.specs.Rings.{spot, next_of, IsAsleep};
+ghost use Rattle.boundary_model.specs.HalfEdge.{plus, minus};
+ghost use Rattle.arena_rows.specs.ring_spots.Spots.{live, ring, labelled, woken, asleep, spliced_at, retailed, AreRings};
+ghost use Rattle.arena_rows.specs.ring_spots.Last.{IsLast, is_edge};
+
+use raw_ring::Rings;
+use std::alloc::AllocError;
+
+/// Whether the first half-edge of an edge is live.
+pub(crate) fn has_edge(rings: &Rings, e: u32) -> bool
+    ensures { result ≡ nat_le e 1000000 && is_some (spot rings.now (plus e)) }
+{
+    e <= 1_000_000 && rings.is_live(2 * e)
+}
+
+/// The greatest live edge, or 0 where none is live. No edge above e is.
+pub(crate) fn last_from(rings: &Rings, e: u32) -> u32
+    requires { (k : ℕ) → e < k → is_edge (spot rings.now) k ≡ false }
+    ensures { IsLast (is_edge (spot rings.now)) result }
+{
+    let mut m = e;
+    'down: while m > 0 {
+        if has_edge(rings, m) {
+            return m;
+        }
+        m -= 1;
+    }
+    m
+}
+
+/// Whether both half-edges of an edge have their nodes.
+pub(crate) fn has_edge_room(rings: &Rings, e: u32) -> bool
+    ensures { result ≡ nat_le e 1000000 && (nat_lt 0 e && (contains_key rings.now (plus e) && contains_key rings.now (minus e))) }
+{
+    e <= 1_000_000 && (0 < e && (rings.has_room(2 * e) && rings.has_room(2 * e + 1)))
+}
+
+/// Wakes both half-edges of an edge.
+pub(crate) fn wake_edge(rings: &mut Rings, e: u32, a: u32, b: u32)
+    requires limit { e ≤ 1000000 }
+    requires first { IsAsleep rings.old (plus e) }
+    requires second { IsAsleep rings.old (minus e) }
+    ensures spots { spot rings.new ≡ woken (woken (spot rings.old) (plus e) a) (minus e) b }
+    ensures known { contains_key rings.new ≡ contains_key rings.old }
+{
+    rings.wake(2 * e, a);
+    rings.wake(2 * e + 1, b);
+}
+
+/// Puts both half-edges of an edge to sleep, each of which is a ring of one.
+pub(crate) fn sleep_edge(rings: &mut Rings, e: u32)
+    requires limit { e ≤ 1000000 }
+    requires first { next_of rings.old (plus e) ≡ Some (plus e) }
+    requires second { next_of rings.old (minus e) ≡ Some (minus e) }
+    ensures spots { spot rings.new ≡ asleep (asleep (spot rings.old) (plus e)) (minus e) }
+    ensures known { contains_key rings.new ≡ contains_key rings.old }
+{
+    rings.sleep(2 * e);
+    rings.sleep(2 * e + 1);
+}
+
+/// Gives each item of a ring the label l.
+pub(crate) fn relabel(rings: &mut Rings, from: u32, l: u32)
+    requires rings { AreRings (spot rings.old) }
+    requires there { live (spot rings.old) from ≡ true }
+    ensures spots { spot rings.new ≡ labelled (spot rings.old) l (ring (spot rings.old) from) }
+    ensures known { contains_key rings.new ≡ contains_key rings.old }
+{
+    let mut h = from;
+    'round: for _ in 0..2_000_002u32 {
+        rings.set_label(h, l);
+        h = rings.next(h);
+        if h == from {
+            return;
+        }
+    }
+}
+
+/// Exchanges the successors of two codes.
+pub(crate) fn exchange(rings: &mut Rings, a: u32, b: u32)
+    requires a { live (spot rings.old) a ≡ true }
+    requires b { live (spot rings.old) b ≡ true }
+    ensures spots { spot rings.new ≡ spliced_at (spot rings.old) a b }
+    ensures known { contains_key rings.new ≡ contains_key rings.old }
+{
+    rings.splice(a, b);
+}
+
+/// Changes the vertex at which a half-edge starts.
+pub(crate) fn retail(rings: &mut Rings, h: u32, v: u32)
+    requires { live (spot rings.old) h ≡ true }
+    ensures spots { spot rings.new ≡ retailed (spot rings.old) h v }
+    ensures known { contains_key rings.new ≡ contains_key rings.old }
+{
+    rings.set_tail(h, v);
+}
+
+/// Gives both half-edges of an edge their nodes.
+pub(crate) fn room_edge(rings: &mut Rings, e: u32) -> Result<(), AllocError>
+    requires { e ≤ 1000000 }
+    ensures spots { spot rings.new ≡ spot rings.old }
+    ensures kept { (c : ℕ) → contains_key rings.old c ≡ true → contains_key rings.new c ≡ true }
+    ensures ok { OnOk result ((contains_key rings.new (plus e) ≡ true) × (contains_key rings.new (minus e) ≡ true)) }
+{
+    room_code(rings, 2 * e)?;
+    room_code(rings, 2 * e + 1)
+}
+
+fn room_code(rings: &mut Rings, c: u32) -> Result<(), AllocError>
+    requires { c ≤ 2000001 }
+    ensures spots { spot rings.new ≡ spot rings.old }
+    ensures kept { (q : ℕ) → contains_key rings.old q ≡ true → contains_key rings.new q ≡ true }
+    ensures ok { OnOk result (contains_key rings.new c ≡ true) }
+{
+    rings.room(c)
+}

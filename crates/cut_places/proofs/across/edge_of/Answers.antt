@@ -1,6 +1,0 @@
-use Rattle.std.proofs.Common.{sym}
-use Rattle.boundary_model.proofs.Halves.{edge_of-code}
-use Rattle.cut_places.proofs.across.edge_of.Goals as goal
-
-pub returns : goal.returns
-returns c = sym (edge_of-code c.args.h)

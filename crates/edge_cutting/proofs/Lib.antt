@@ -1,3 +1,0 @@
-mod Sorted
-mod Halves
-pub mod Remaining

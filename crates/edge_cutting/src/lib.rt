@@ -1,8 +1,0 @@
-//! The edges that cross a plane cut there, operator by operator in a draft: the first rewriting of a split.
-#![tactic(auto)]
-
-mod cutting;
-mod fresh;
-mod rising;
-
-pub use cutting::cut_edges;

@@ -1,4 +1,0 @@
-pub mod Steps
-mod PairOps
-mod Turns
-mod GivenRings

@@ -1,9 +1,0 @@
-use Rattle.std.proofs.Common.{◌∙◌, sym}
-use Rattle.face_drawing.proofs.PairOps.{back_op, on_op}
-use Rattle.face_drawing.proofs.pairs.join_op.Goals as goal
-
-pub returns-then-starts_in_ring : goal.returns-then-starts_in_ring
-returns-then-starts_in_ring c = back_op c.args.arena.now.model c.args.pair c.args.edge (sym c.starts_in_ring.ensures ∙ c.if-starts_in_ring.true)
-
-pub returns-else-starts_in_ring : goal.returns-else-starts_in_ring
-returns-else-starts_in_ring c = on_op c.args.arena.now.model c.args.pair c.args.edge (sym c.starts_in_ring.ensures ∙ c.if-starts_in_ring.false)

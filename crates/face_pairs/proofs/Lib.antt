@@ -1,2 +1,0 @@
-mod Pairing
-mod Taken

@@ -1,9 +1,0 @@
-use Rattle.std.proofs.Common.{◌≡◌, length}
-use Rattle.shapes.specs.glue.Glue.{same_points}
-use Rattle.glue_checks.proofs.outlines.same_points.Given as goal
-
-abbrev pub invariant-points : goal.invariant-points
-invariant-points l = same_points l.left l.right ≡ same_points l.points l.others
-
-abbrev pub decreases-points : goal.decreases-points
-decreases-points l = length l.left

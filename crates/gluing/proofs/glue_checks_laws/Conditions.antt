@@ -1,0 +1,169 @@
+-- The conditions of a glue, part by part.
+use Rattle.std.proofs.Common.{◌≡◌, ◌≢◌, ℕ, ◌≤◌, ◌+◌, Bool, true, false, cond, not, ◌&&◌, ◌||◌, nat_eq, nat_le, List, [], ◌∷◌, ◌++◌, Option, Some, None, Result, Ok, Err, is_err, is_some, unwrap_or, refl, sym, ap, ◌∙◌, arith, true≢false, inl, inr}
+use Rattle.std.proofs.lemmas.Bool.Decides.{nat_tests}
+use Rattle.std.proofs.lemmas.Bool.{cases_eq}
+use Rattle.boundary_model.specs.Table.{Table, get, greatest}
+use Rattle.boundary_model.specs.Model.{Model, LoopRow, no_loop, content, face_of, solid_of, outer, faces_of, is_number}
+use Rattle.boundary_model.specs.Sound.{Sound, Has, NumbersFit}
+use Rattle.boundary_model.proofs.Tables.{zero_first_where}
+use Rattle.euler_operators.specs.Conditions.{Condition, first_refusal, verdict, is_lone, lists, need}
+use Rattle.euler_operators.specs.declared.Why.TheVariants.{LoneLoop, NotFlat, NumbersSpent}
+use Rattle.euler_operators.specs.declared.Refusal.{Refusal}
+use Rattle.euler_laws.proofs.shared.Goes.{all_hold}
+use Rattle.shapes.specs.Faces.{faces_of_both, least_lone}
+use Rattle.shapes.specs.Fresh.{taken_in, numbers_left, no_such, first_such}
+use Rattle.solid_walks.proofs.face_walks_laws.Rising.{member}
+use Rattle.solid_measure.proofs.solid_checks_laws.FaceWalks.{lists_member, member_faces, member_both}
+use Rattle.solid_measure.specs.Measure.{is_flat}
+use Rattle.shapes.proofs.fresh.Rows.{greatest_used}
+use Rattle.shapes.specs.glue.Glue.{glue_conditions}
+use Rattle.gluing.specs.glue_checks.Conditions.{face_conditions, solid_conditions, outline_conditions}
+
+-- a list of conditions in two parts
+pub refusal_parts : (xs ys : List Condition) → first_refusal xs ≡ None → first_refusal (xs ++ ys) ≡ first_refusal ys
+refusal_parts [] ys e = refl
+refusal_parts (x ∷ xs) ys e = elim x.holds as (λ b. cond b (first_refusal xs) (Some x.refusal) ≡ None → cond b (first_refusal (xs ++ ys)) (Some x.refusal) ≡ first_refusal ys) [
+  | true ↦ λ t. refusal_parts xs ys t
+  | false ↦ λ t. absurd (true≢false (ap is_some t))
+] e
+
+pub refusal_first : (xs ys : List Condition) (r : Refusal) → first_refusal xs ≡ Some r → first_refusal (xs ++ ys) ≡ Some r
+refusal_first [] ys r e = absurd (true≢false (sym (ap is_some e)))
+refusal_first (x ∷ xs) ys r e = elim x.holds as (λ b. cond b (first_refusal xs) (Some x.refusal) ≡ Some r → cond b (first_refusal (xs ++ ys)) (Some x.refusal) ≡ Some r) [
+  | true ↦ λ t. refusal_first xs ys r t
+  | false ↦ λ t. t
+] e
+
+-- a verdict tells whether there is a refusal, and which
+pub passed : (o : Option Refusal) (u : Unit {0}) → Ok u ≡ verdict o → o ≡ None
+passed None u e = refl
+passed (Some r) u e = cc
+
+pub failed : (o : Option Refusal) (r : Refusal) → Err r ≡ verdict o → o ≡ Some r
+failed None r e = cc
+failed (Some s) r e = cc
+
+-- a verdict that is an error is the whole verdict
+pub first_failed : (xs ys : List Condition) (v : Result (Unit {0}) Refusal) → v ≡ verdict (first_refusal xs) → is_err v ≡ true → v ≡ verdict (first_refusal (xs ++ ys))
+first_failed xs ys (Ok u) is e = absurd (true≢false (sym e))
+first_failed xs ys (Err r) is e = ap verdict (sym (refusal_first xs ys r (failed (first_refusal xs) r is)))
+
+-- and one that isn't leaves the rest
+pub all_passed : (xs : List Condition) (v : Result (Unit {0}) Refusal) → v ≡ verdict (first_refusal xs) → is_err v ≡ false → first_refusal xs ≡ None
+all_passed xs (Ok u) is e = passed (first_refusal xs) u is
+all_passed xs (Err r) is e = absurd (true≢false e)
+
+number_fits : (n : ℕ) → is_number n ≡ true → n ≤ 1000000
+number_fits n e = grind (arith, nat_tests)
+
+-- no number in use passes the limit
+greatest_fits : {X : Type 0} (t : Table X) → NumbersFit t → greatest t ≤ 1000000
+greatest_fits t fits = elim (cases_eq (greatest t) 0) [ inl z ↦ omega (arith, z) | inr n ↦ number_fits (greatest t) (fits (greatest t) (greatest_used t n)) ]
+
+fits_zero : (n : ℕ) → n ≤ 1000000 → nat_le (n + 0) 1000000 ≡ true
+fits_zero n l = grind (arith, nat_tests)
+
+-- an edge is left but where the greatest is the last
+module _ (M : Model) (sound : Sound M) where
+  left_is : (b : Bool) → nat_le (greatest M.edges + 1) 1000000 ≡ b → first_refusal (numbers_left (taken_in M) 0 0 1 0) ≡ cond b None (Some (record { why = NumbersSpent; number = 4 }))
+  unfolding taken_in
+  left_is b e =
+      ap (λ x. cond x (first_refusal (need (nat_le (greatest M.loops + 0) 1000000) NumbersSpent 3 ∷ need (nat_le (greatest M.edges + 1) 1000000) NumbersSpent 4 ∷ need (nat_le (greatest M.vertices + 0) 1000000) NumbersSpent 5 ∷ [])) (Some (record { why = NumbersSpent; number = 2 }))) (fits_zero (greatest M.faces) (greatest_fits M.faces sound.faces_fit))
+      ∙ ap (λ x. cond x (first_refusal (need (nat_le (greatest M.edges + 1) 1000000) NumbersSpent 4 ∷ need (nat_le (greatest M.vertices + 0) 1000000) NumbersSpent 5 ∷ [])) (Some (record { why = NumbersSpent; number = 3 }))) (fits_zero (greatest M.loops) (greatest_fits M.loops sound.loops_fit))
+      ∙ ap (λ x. cond x (first_refusal (need (nat_le (greatest M.vertices + 0) 1000000) NumbersSpent 5 ∷ [])) (Some (record { why = NumbersSpent; number = 4 }))) e
+      ∙ ap (λ x. cond b (cond x None (Some (record { why = NumbersSpent; number = 5 }))) (Some (record { why = NumbersSpent; number = 4 }))) (fits_zero (greatest M.vertices) (greatest_fits M.vertices sound.vertices_fit))
+
+  pub none_left : greatest M.edges ≡ 1000000 → verdict (first_refusal (numbers_left (taken_in M) 0 0 1 0)) ≡ Err (record { why = NumbersSpent; number = 4 })
+  none_left e = ap verdict (left_is false (grind (arith, nat_tests)))
+
+  pub one_left : (greatest M.edges ≡ 1000000 → ⊥) → verdict (first_refusal (numbers_left (taken_in M) 0 0 1 0)) ≡ Ok tt
+  one_left ne = ap verdict (left_is true (let l : greatest M.edges ≤ 1000000 = greatest_fits M.edges sound.edges_fit in grind (arith, nat_tests)))
+
+both : (a b : Bool) → a && b ≡ true → (a ≡ true) × (b ≡ true)
+both true true e = (refl, refl)
+both true false e = absurd (true≢false (sym e))
+both false b e = absurd (true≢false (sym e))
+
+module _ (M : Model) (sound : Sound M) where
+  positive : (q : ℕ) (row : LoopRow) → get M.loops q ≡ Some row → q ≢ 0
+  positive q row e z = no_zero q z (sound.loops_fit q (ap is_some e)) where
+    no_zero : (q : ℕ) → q ≡ 0 → is_number q ≡ true → ⊥
+    no_zero q z e = true≢false (sym e ∙ ap is_number z)
+
+  -- where no loop of some faces is lone, none of their outer loops is
+  pub outer_held : (fs : List ℕ) (f : ℕ) → least_lone M fs ≡ 0 → Has M.faces f → lists fs f ≡ true → is_lone (content M (outer M f)) ≡ false
+  unfolding content face_of
+  outer_held fs f none there listed = go (get M.loops (outer M f)) refl where
+    its_face : face_of M (outer M f) ≡ f
+    its_face = (sound.outers_there f there).1
+
+    go : (o : Option LoopRow) → get M.loops (outer M f) ≡ o → is_lone (unwrap_or (get M.loops (outer M f)) no_loop).content ≡ false
+    go None e = ap (λ o. is_lone (unwrap_or o no_loop).content) e
+    go (Some row) e =
+        let p = zero_first_where (λ _ row. is_lone row.content && lists fs row.face) M.loops positive none (outer M f) row e in
+        let face : row.face ≡ f = sym (ap (λ o. (unwrap_or o no_loop).face) e) ∙ its_face in
+        ap (λ o. is_lone (unwrap_or o no_loop).content) e ∙ other (is_lone row.content) (lists fs row.face) (ap (lists fs) face ∙ listed) p where
+          other : (a b : Bool) → b ≡ true → a && b ≡ false → a ≡ false
+          other true true t e = e
+          other true false t e = absurd (true≢false (sym t))
+          other false b t e = refl
+
+  listed_first : (s t f : ℕ) → Has M.faces f → solid_of M f ≡ s → lists (faces_of_both M s t) f ≡ true
+  listed_first s t f there e = lists_member (faces_of_both M s t) f ∙ member_both M s t f ∙ ap (λ b. b || member f (faces_of M t)) (member_faces M s f ∙ (let n : nat_eq (solid_of M f) s ≡ true = grind (arith, nat_tests) in λ i. there i && n i))
+
+  listed_second : (s t f : ℕ) → Has M.faces f → solid_of M f ≡ t → lists (faces_of_both M s t) f ≡ true
+  listed_second s t f there e = lists_member (faces_of_both M s t) f ∙ member_both M s t f ∙ ap (λ b. member f (faces_of M s) || b) (member_faces M t f ∙ (let n : nat_eq (solid_of M f) t ≡ true = grind (arith, nat_tests) in λ i. there i && n i)) ∙ or_true (member f (faces_of M s)) where
+    or_true : (a : Bool) → a || true ≡ true
+    or_true true = refl
+    or_true false = refl
+
+-- the conditions of a glue, one part after the other
+module _ (M : Model) (f g : ℕ) where
+  abbrev later : List Condition
+  later = outline_conditions M f g ++ numbers_left (taken_in M) 0 0 1 0
+
+  grouped : glue_conditions M f g ≡ face_conditions M f g ++ (solid_conditions M (solid_of M f) (solid_of M g) ++ later)
+  unfolding glue_conditions
+  grouped = refl
+
+  pub faces_failed : (v : Result (Unit {0}) Refusal) → v ≡ verdict (first_refusal (face_conditions M f g)) → is_err v ≡ true → v ≡ verdict (first_refusal (glue_conditions M f g))
+  faces_failed v is e = first_failed (face_conditions M f g) (solid_conditions M (solid_of M f) (solid_of M g) ++ later) v is e ∙ ap (λ cs. verdict (first_refusal cs)) (sym grouped)
+
+  module _ (faces : first_refusal (face_conditions M f g) ≡ None) where
+    pub first_there : Has M.faces f
+    first_there = (all_hold (face_conditions M f g) faces).1.1.0
+
+    pub second_there : Has M.faces g
+    second_there = (all_hold (face_conditions M f g) faces).1.1.1.0
+
+    after_faces : first_refusal (solid_conditions M (solid_of M f) (solid_of M g) ++ later) ≡ first_refusal (glue_conditions M f g)
+    after_faces = sym (refusal_parts (face_conditions M f g) (solid_conditions M (solid_of M f) (solid_of M g) ++ later) faces) ∙ ap first_refusal (sym grouped)
+
+    pub solids_failed : (v : Result (Unit {0}) Refusal) → v ≡ verdict (first_refusal (solid_conditions M (solid_of M f) (solid_of M g))) → is_err v ≡ true → v ≡ verdict (first_refusal (glue_conditions M f g))
+    solids_failed v is e = first_failed (solid_conditions M (solid_of M f) (solid_of M g)) later v is e ∙ ap verdict after_faces
+
+    module _ (solids : first_refusal (solid_conditions M (solid_of M f) (solid_of M g)) ≡ None) where
+      after_solids : first_refusal later ≡ first_refusal (glue_conditions M f g)
+      after_solids = sym (refusal_parts (solid_conditions M (solid_of M f) (solid_of M g)) later solids) ∙ after_faces
+
+      pub outlines_failed : (v : Result (Unit {0}) Refusal) → v ≡ verdict (first_refusal (outline_conditions M f g)) → is_err v ≡ true → v ≡ verdict (first_refusal (glue_conditions M f g))
+      outlines_failed v is e = first_failed (outline_conditions M f g) (numbers_left (taken_in M) 0 0 1 0) v is e ∙ ap verdict after_solids
+
+      pub numbers_decide : first_refusal (outline_conditions M f g) ≡ None → first_refusal (numbers_left (taken_in M) 0 0 1 0) ≡ first_refusal (glue_conditions M f g)
+      numbers_decide outlines = sym (refusal_parts (outline_conditions M f g) (numbers_left (taken_in M) 0 0 1 0) outlines) ∙ after_solids
+
+      none_lone : least_lone M (faces_of_both M (solid_of M f) (solid_of M g)) ≡ 0
+      none_lone = zero_first (least_lone M (faces_of_both M (solid_of M f) (solid_of M g))) (no_such (first_such (λ k. not (is_flat M k)) (faces_of_both M (solid_of M f) (solid_of M g))) NotFlat ∷ []) solids where
+        zero_first : (n : ℕ) (cs : List Condition) → first_refusal (no_such n LoneLoop ∷ cs) ≡ None → n ≡ 0
+        zero_first n cs e = elim (nat_eq n 0) as (λ b. nat_eq n 0 ≡ b → cond b (first_refusal cs) (Some (record { why = LoneLoop; number = n })) ≡ None → n ≡ 0) [
+          | true ↦ λ t e. grind (arith, nat_tests)
+          | false ↦ λ t e. absurd (true≢false (ap is_some e))
+        ] refl e
+
+      -- neither outer loop is lone
+      module _ (sound : Sound M) where
+        pub first_held : is_lone (content M (outer M f)) ≡ false
+        first_held = outer_held M sound (faces_of_both M (solid_of M f) (solid_of M g)) f none_lone first_there (listed_first M sound (solid_of M f) (solid_of M g) f first_there refl)
+
+        pub second_held : is_lone (content M (outer M g)) ≡ false
+        second_held = outer_held M sound (faces_of_both M (solid_of M f) (solid_of M g)) g none_lone second_there (listed_second M sound (solid_of M f) (solid_of M g) g second_there refl)

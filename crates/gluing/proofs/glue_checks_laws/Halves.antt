@@ -1,0 +1,33 @@
+-- The half-edges of a loop, as an arena holds them.
+use Rattle.std.proofs.Common.{ℕ, ◌≤◌, List, [], ◌∷◌, map, length, slice_index_or, arith}
+use Rattle.cyclic_list.specs.Items.{IsIn}
+use Rattle.cyclic_list.proofs.Lists.{tick_same}
+use Rattle.boundary_model.specs.declared.HalfEdge.{HalfEdge}
+use Rattle.boundary_model.specs.declared.Content.TheVariants.{Ring}
+use Rattle.boundary_model.specs.HalfEdge.{code}
+use Rattle.boundary_model.specs.Model.{Model, LoopContent, lone, cycle, items_of, content, outer}
+use Rattle.boundary_model.specs.Sound.{Sound, HasHalf}
+use Rattle.boundary_model.proofs.Models.{in-holds}
+use Rattle.euler_conditions.specs.Store.{Tells}
+use Rattle.shapes.specs.glue.Glue.{rim}
+use Rattle.gluing.specs.glue_checks.Rims.{AreThere}
+
+-- what an arena answers of a loop with half-edges stands in it
+pub ring_in : (t : LoopContent) (h : HalfEdge) → Tells t (Ring h) → IsIn (code h) (items_of t)
+ring_in (lone v) h s = absurd s
+ring_in (cycle hs) h s = s
+
+pub all_there : (M : Model) (hs : List ℕ) → ((h : ℕ) → IsIn h hs → HasHalf M h) → AreThere M hs
+all_there M [] each = tt
+all_there M (h ∷ hs) each = (each h (omega (arith, tick_same h)), all_there M hs (λ k i. each k (later k i))) where
+  later : (k : ℕ) → IsIn k hs → IsIn k (h ∷ hs)
+  later k i = omega (arith, i)
+
+-- the edges of a loop's half-edges are there
+pub rim_there : (M : Model) → Sound M → (f : ℕ) → AreThere M (rim M f)
+rim_there M sound f = all_there M (rim M f) (λ h i. sound.only_edges h (outer M f) (in-holds h (content M (outer M f)) i))
+
+-- so is the edge of the first of some
+pub first_there : (M : Model) (hs : List HalfEdge) (d : HalfEdge) → 1 ≤ length hs → AreThere M (map code hs) → HasHalf M (code (slice_index_or hs 0 d))
+first_there M [] d l there = absurd (omega arith)
+first_there M (h ∷ hs) d l there = there.0

@@ -1,0 +1,77 @@
+-- Points as keys of an ordered set.
+use Rattle.std.proofs.Common.{◌≡◌, ℤ, ◌-◌, ◌≤◌, List, [], ◌∷◌, length, sym, Bool, true, false, cond, not, ◌&&◌, ◌||◌, int_cmp, Ordering, Less, Equal, Greater, BTreeSet, refl, ap, ◌∙◌, arith}
+use Rattle.std.specs.Ordering.{ordering_then, is_eq, int_eq}
+use Rattle.std.specs.BTreeSet as sorted
+use Rattle.std.specs.Prelude.{take, drop, slice_index_or}
+use Rattle.std.specs.List.{list_any}
+use Rattle.std.proofs.lemmas.List.{take_rest}
+use Rattle.shapes.specs.glue.Glue.{has_repeats}
+use Rattle.gluing.proofs.glue_checks_laws.Points.{new_point, old_point}
+use Rattle.lattice.specs.declared.Point.{Point}
+use Rattle.lattice.specs.Vectors.{same_point}
+
+abbrev pub Key : Type 0
+Key = ℤ × ℤ × ℤ
+
+abbrev pub key : Point → Key
+key p = (p.x, p.y, p.z)
+
+abbrev pub key_cmp : Key → Key → Ordering
+key_cmp a b = ordering_then (ordering_then (int_cmp a.0 b.0) (int_cmp a.1 b.1)) (int_cmp a.2 b.2)
+
+-- whether a point is in the set
+abbrev pub is_met : BTreeSet Key → Point → Bool
+is_met set p = sorted.contains key_cmp set (key p)
+
+tied : (a b c : Ordering) → is_eq (ordering_then (ordering_then a b) c) ≡ is_eq a && is_eq b && is_eq c
+tied Less b c = refl
+tied Greater b c = refl
+tied Equal Less c = refl
+tied Equal Greater c = refl
+tied Equal Equal c = refl
+
+number_tied : (m n : ℤ) → is_eq (int_cmp m n) ≡ int_eq m n
+number_tied m n = grind arith
+
+-- equal keys are those of equal points
+pub key_tied : (p q : Point) → is_eq (key_cmp (key p) (key q)) ≡ same_point p q
+key_tied p q = tied (int_cmp p.x q.x) (int_cmp p.y q.y) (int_cmp p.z q.z) ∙ (λ i. number_tied p.x q.x i && number_tied p.y q.y i && number_tied p.z q.z i)
+
+-- the set with one point more
+pub met_more : (p q : Point) (k : Key) (old new : Bool) → k ≡ key p → new ≡ cond (is_eq (key_cmp k (key q))) true old → new ≡ same_point p q || old
+met_more p q k old new is e = e ∙ ap (λ i. cond (is_eq (key_cmp i (key q))) true old) is ∙ ap (λ b. cond b true old) (key_tied p q) ∙ or_is (same_point p q) old where
+  or_is : (a b : Bool) → cond a true b ≡ a || b
+  or_is true b = refl
+  or_is false b = refl
+
+-- whether a point was in the set before
+pub was_met : (set : BTreeSet Key) (p : Point) (k : Key) (added : Bool) → k ≡ key p → added ≡ not (sorted.contains key_cmp set k) → is_met set p ≡ not added
+was_met set p k added is e = ap (sorted.contains key_cmp set) (sym is) ∙ sym (ap not e ∙ twice (sorted.contains key_cmp set k)) where
+  twice : (b : Bool) → not (not b) ≡ b
+  twice true = refl
+  twice false = refl
+
+-- nothing is in an empty set
+pub none_in : (set : BTreeSet Key) (ps : List Point) → sorted.IsEmpty set → has_repeats ps ≡ list_any (is_met set) ps || has_repeats ps
+none_in set ps e = ap (λ b. b || has_repeats ps) (sym (none_listed ps)) where
+  none_met : (p : Point) → is_met set p ≡ false
+  none_met p = ap (list_any (λ k. is_eq (key_cmp (key p) k))) e
+
+  none_listed : (qs : List Point) → list_any (is_met set) qs ≡ false
+  none_listed [] = refl
+  none_listed (q ∷ qs) = λ i. none_met q i || none_listed qs i
+
+-- the first of a list, and the others
+abbrev pub others : List Point → List Point
+others ps = take (length ps - 1) (drop 1 ps)
+
+parts : (ps : List Point) (d : Point) → 1 ≤ length ps → ps ≡ slice_index_or ps 0 d ∷ others ps
+parts [] d l = absurd (omega arith)
+parts (p ∷ ps) d l = ap (λ (qs : List Point). p ∷ qs) (sym (take_rest (p ∷ ps) 1))
+
+pub first_met : (ps : List Point) (d : Point) (old : Point → Bool) (b : Bool) → 1 ≤ length ps → old (slice_index_or ps 0 d) ≡ true → b ≡ list_any old ps || has_repeats ps → true ≡ b
+first_met ps d old b l met e = old_point (slice_index_or ps 0 d) (others ps) old met ∙ ap (λ qs. list_any old qs || has_repeats qs) (sym (parts ps d l)) ∙ sym e
+
+pub first_new : (ps : List Point) (d : Point) (old new : Point → Bool) (b : Bool) → 1 ≤ length ps → old (slice_index_or ps 0 d) ≡ false → ((q : Point) → new q ≡ same_point (slice_index_or ps 0 d) q || old q)
+    → b ≡ list_any old ps || has_repeats ps → b ≡ list_any new (others ps) || has_repeats (others ps)
+first_new ps d old new b l absent more e = e ∙ ap (λ qs. list_any old qs || has_repeats qs) (parts ps d l) ∙ sym (new_point (slice_index_or ps 0 d) (others ps) old new absent more)

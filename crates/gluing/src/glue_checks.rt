@@ -1,0 +1,8 @@
+//! The conditions of a glue, in the order in which they are tested, on an arena.
+
+mod checks;
+mod outlines;
+mod rims;
+
+pub(crate) use checks::check_glue;
+pub(crate) use rims::some_item;

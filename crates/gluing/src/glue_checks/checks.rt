@@ -1,0 +1,153 @@
+//! The conditions of a glue, in the order in which they are tested.
+ghost use Rattle.std.specs.Prelude.{◌≡◌, true, false, Err, IfOk};
+ghost use Rattle.boundary_model.specs.Model.{content, is_number, outer};
+ghost use Rattle.euler_conditions.specs.Ready.{IsReady};
+ghost use Rattle.euler_operators.specs.Conditions.{first_refusal, has_rings, is_lone, verdict};
+ghost use Rattle.euler_conditions.specs.Store.{has_number};
+ghost use Rattle.shapes.specs.Fresh.{numbers_left, taken_in};
+ghost use Rattle.shapes.specs.glue.Glue.{glue_refusal};
+ghost use Rattle.gluing.specs.glue_checks.Conditions.{face_conditions, outline_conditions, solid_conditions};
+
+use crate::glue_checks::outlines::{backwards, has_repeats, is_rotation};
+use crate::glue_checks::rims::outline;
+use euler_conditions::{Arena, Kind, Refusal, Why};
+use solid_measure::{least_bent_of_both, least_lone_of_both};
+use std::alloc::{AllocError, Global};
+
+/// A refusal.
+fn refused(why: Why, number: u32) -> Result<(), Refusal>
+    ensures { result ≡ Err (record { why = why; number = number }) }
+{
+    Err(Refusal { why, number })
+}
+
+fn is_number(n: u32) -> bool
+    ensures { result ≡ is_number n }
+{
+    1 <= n && n <= 1_000_000
+}
+
+/// Whether face f has a ring.
+#[tactic(auto, unfolding(euler_operators::specs::Conditions::has_rings))]
+fn has_rings(arena: &Arena, f: u32) -> bool
+    requires { has_number arena.now Kind.Face f ≡ true }
+    ensures { result ≡ has_rings arena.now.model f }
+{
+    arena.ring_count(f) > 0
+}
+
+/// Whether the two faces are there, of different solids, and without rings.
+fn check_faces(arena: &Arena, f: u32, g: u32) -> Result<(), Refusal>
+    requires { IsReady arena.now }
+    ensures { result ≡ verdict (first_refusal (face_conditions arena.now.model f g)) }
+{
+    if !is_number(f) {
+        return refused(Why::NumberRange, f);
+    }
+    if !is_number(g) {
+        return refused(Why::NumberRange, g);
+    }
+    if !arena.has(Kind::Face, f) {
+        return refused(Why::NoFace, f);
+    }
+    if !arena.has(Kind::Face, g) {
+        return refused(Why::NoFace, g);
+    }
+    let solid = arena.solid_of(f);
+    if solid == arena.solid_of(g) {
+        return refused(Why::SameSolid, solid);
+    }
+    if has_rings(arena, f) {
+        return refused(Why::HasRings, f);
+    }
+    if has_rings(arena, g) {
+        return refused(Why::HasRings, g);
+    }
+    Ok(())
+}
+
+/// Whether the two solids have no lone loop, and flat faces only.
+fn check_solids(arena: &Arena, s: u32, t: u32) -> Result<(), Refusal>
+    requires { IsReady arena.now }
+    ensures { result ≡ verdict (first_refusal (solid_conditions arena.now.model s t)) }
+{
+    if let Some(l) = least_lone_of_both(arena, s, t) {
+        return refused(Why::LoneLoop, l);
+    }
+    if let Some(f) = least_bent_of_both(arena, s, t) {
+        return refused(Why::NotFlat, f);
+    }
+    Ok(())
+}
+
+/// Whether the outlines of the two faces have no point twice, and lie on one another.
+fn check_outlines(
+    alloc: Global,
+    arena: &Arena,
+    f: u32,
+    g: u32,
+) -> Result<Result<(), Refusal>, AllocError>
+    requires ready { IsReady arena.now }
+    requires first_there { has_number arena.now Kind.Face f ≡ true }
+    requires second_there { has_number arena.now Kind.Face g ≡ true }
+    requires first_held { is_lone (content arena.now.model (outer arena.now.model f)) ≡ false }
+    requires second_held { is_lone (content arena.now.model (outer arena.now.model g)) ≡ false }
+    ensures { IfOk result (λ checked. checked ≡ verdict (first_refusal (outline_conditions arena.now.model f g))) }
+{
+    let points = outline(alloc, arena, f)?;
+    if has_repeats(alloc, points.as_slice())? {
+        return Ok(refused(Why::RepeatedPoint, f));
+    }
+    let others = outline(alloc, arena, g)?;
+    if has_repeats(alloc, others.as_slice())? {
+        return Ok(refused(Why::RepeatedPoint, g));
+    }
+    if !is_rotation(points.as_slice(), backwards(others).as_slice()) {
+        return Ok(refused(Why::NoMatch, g));
+    }
+    Ok(Ok(()))
+}
+
+/// Whether one more edge number stays within the limit.
+fn check_left(arena: &Arena) -> Result<(), Refusal>
+    requires { IsReady arena.now }
+    ensures { result ≡ verdict (first_refusal (numbers_left (taken_in arena.now.model) 0 0 1 0)) }
+{
+    if arena.greatest(Kind::Edge) == 1_000_000 {
+        return refused(Why::NumbersSpent, 4);
+    }
+    Ok(())
+}
+
+/// Whether face g can be glued to face f.
+///
+/// Refused, in this order: NumberRange; NoFace; SameSolid with the solid; HasRings with the face; LoneLoop with the least lone
+/// loop of the two solids; NotFlat with their least face that isn't flat; RepeatedPoint with the face, f before g, of which two
+/// corners have equal points; NoMatch with g where the points of g, read backwards, are no rotation of those of f; NumbersSpent
+/// with 4 where no number is left for an edge.
+///
+/// It looks once at each face of the two solids, and takes n log n steps for n corners of f and g. `AllocError` where memory is
+/// refused.
+pub(crate) fn check_glue(
+    alloc: Global,
+    arena: &Arena,
+    f: u32,
+    g: u32,
+) -> Result<Result<(), Refusal>, AllocError>
+    requires { IsReady arena.now }
+    ensures { IfOk result (λ checked. checked ≡ verdict (glue_refusal arena.now.model f g)) }
+{
+    let faces = check_faces(arena, f, g);
+    if faces.is_err() {
+        return Ok(faces);
+    }
+    let solids = check_solids(arena, arena.solid_of(f), arena.solid_of(g));
+    if solids.is_err() {
+        return Ok(solids);
+    }
+    let outlines = check_outlines(alloc, arena, f, g)?;
+    if outlines.is_err() {
+        return Ok(outlines);
+    }
+    Ok(check_left(arena))
+}

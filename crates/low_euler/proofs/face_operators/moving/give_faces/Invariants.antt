@@ -1,0 +1,6 @@
+use Rattle.std.proofs.Common.{◌≡◌, take}
+use Rattle.low_euler.specs.face_operators.Moving.{moved}
+use Rattle.low_euler.proofs.face_operators.moving.give_faces.Given as goal
+
+abbrev pub invariant-faces : goal.invariant-faces
+invariant-faces l = l.arena ≡ moved l.initial.arena (take l.i l.faces) l.s

@@ -1,0 +1,15 @@
+use Rattle.std.proofs.Common.{ap, ◌∙◌}
+use Rattle.boundary_model.specs.Table as table
+use Rattle.euler_conditions.specs.Store.{Store}
+use Rattle.euler_operators.specs.Effect.{effect, part}
+use Rattle.low_euler.specs.face_operators.Moving.{moved}
+use Rattle.low_euler.proofs.face_operators_laws.Handing.{part_has}
+use Rattle.low_euler.proofs.face_operators.moving.part.Goals as goal
+
+pub give_faces-requires-clause-there : goal.give_faces-requires-clause-there
+give_faces-requires-clause-there c = λ f l.
+    ap (λ (s : Store). table.has s.model.faces f) c.put_solid.ensures ∙ part_has c.args.arena.now.model c.args.kept c.args.made c.args.faces.now c.requires.holds f l
+
+pub returns : goal.returns
+unfolding effect part
+returns c = c.give_faces.ensures ∙ ap (λ (s : Store). moved s c.args.faces.now c.args.made) c.put_solid.ensures

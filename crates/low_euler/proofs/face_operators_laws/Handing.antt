@@ -1,0 +1,119 @@
+-- Faces that are given to a solid one by one.
+use Rattle.std.proofs.Common.{◌≡◌, ◌≢◌, ℕ, ◌+◌, ◌<◌, Bool, true, false, cond, nat_eq, ◌||◌, List, [], ◌∷◌, ◌++◌, length, take, get_or, Option, Some, None, is_some, unwrap_or, refl, sym, ap, ◌∙◌, arith, inl, inr}
+use Rattle.std.specs.Option.{option_map}
+use Rattle.std.proofs.lemmas.Bool.Decides.{nat_tests, eqb_tells}
+use Rattle.std.proofs.lemmas.List.{take_more}
+use Rattle.boundary_model.specs.Table as table
+use Rattle.boundary_model.specs.Table.{Table, map_rows, put, same_table, get-map_rows, get-put}
+use Rattle.boundary_model.specs.Model.{Model, FaceRow, no_face, outer, faces_of}
+use Rattle.boundary_model.specs.Sound.{Has}
+use Rattle.euler_conditions.specs.Store.{Store, set_solid}
+use Rattle.euler_operators.specs.Conditions.{Condition, AllHold, need, never, is_bad_part, lists, conditions, first_false, faces_known, faces_in, numbers_in_range}
+use Rattle.euler_operators.specs.declared.Op.TheVariants.{Part}
+use Rattle.euler_operators.specs.declared.Why.TheVariants.{NoSolid, SolidTaken, BadPart}
+use Rattle.euler_operators.specs.Effect.{faces_to_solid}
+use Rattle.euler_laws.proofs.shared.Goes.{all_hold}
+use Rattle.euler_laws.proofs.shared.Loops.{some_row}
+use Rattle.euler_laws.proofs.shared.Listed.{listed_cases, listed_as}
+use Rattle.low_euler.specs.face_operators.Moving.{moved}
+
+abbrev given : List ℕ → ℕ → ℕ → FaceRow → FaceRow
+given fs n = faces_to_solid (λ f _. lists fs f) n
+
+-- a rewriting keeps which numbers have rows
+pub has_given : (t : Table FaceRow) (fs : List ℕ) (n q : ℕ) → table.has (map_rows (given fs n) t) q ≡ table.has t q
+has_given t fs n q = ap is_some (get-map_rows (given fs n) t q) ∙ go (table.get t q) where
+  go : (o : Option FaceRow) → is_some (option_map (given fs n q) o) ≡ is_some o
+  go None = refl
+  go (Some row) = refl
+
+or_assoc : (a b c : Bool) → (a || (b || c)) ≡ ((a || b) || c)
+or_assoc true b c = refl
+or_assoc false b c = refl
+
+or_none : (a : Bool) → (a || false) ≡ a
+or_none true = refl
+or_none false = refl
+
+or_all : (a : Bool) → (a || true) ≡ true
+or_all true = refl
+or_all false = refl
+
+lists-push : (fs : List ℕ) (f q : ℕ) → lists (fs ++ f ∷ []) q ≡ (lists fs q || nat_eq f q)
+lists-push [] f q = or_none (nat_eq f q)
+lists-push (g ∷ fs) f q = ap (λ b. nat_eq g q || b) (lists-push fs f q) ∙ or_assoc (nat_eq g q) (lists fs q) (nat_eq f q)
+
+same : (a b : ℕ) → a ≡ b → nat_eq a b ≡ true
+same a b e = grind (arith, nat_tests)
+
+apart : (a b : ℕ) → a ≢ b → nat_eq b a ≡ false
+apart a b e = grind (arith, nat_tests)
+
+-- one face more
+module _ (M : Model) (fs : List ℕ) (n f : ℕ) (there : Has M.faces f) where
+  abbrev old : Table FaceRow
+  old = map_rows (given fs n) M.faces
+
+  abbrev N : Model
+  N = record M { faces = old }
+
+  here : (row : FaceRow) → table.get M.faces f ≡ Some row → outer N f ≡ row.outer
+  unfolding outer
+  here row at = ap (λ o. (unwrap_or o no_face).outer) (get-map_rows (given fs n) M.faces f ∙ ap (option_map (given fs n f)) at) ∙ go (lists fs f) where
+    go : (b : Bool) → (cond b (record row { solid = n }) row).outer ≡ row.outer
+    go true = refl
+    go false = refl
+
+  one_more : put old f (record { solid = n; outer = outer N f }) ≡ map_rows (given (fs ++ f ∷ []) n) M.faces
+  one_more = same_table _ _ (λ q. get-put old f (record { solid = n; outer = outer N f }) q ∙ elim (eqb_tells q f) [
+    | inl e ↦
+        let r = some_row (table.get M.faces f) there in
+        ap (λ b. cond b (Some (record { solid = n; outer = outer N f })) (table.get old q)) e.0
+        ∙ ap (λ l. Some (record { solid = n; outer = l })) (here r.0 r.1)
+        ∙ sym (ap (λ b. Some (cond b (record r.0 { solid = n }) r.0)) (lists-push fs f f ∙ ap (λ b. lists fs f || b) (same f f refl) ∙ or_all (lists fs f)))
+        ∙ sym (ap (λ k. table.get (map_rows (given (fs ++ f ∷ []) n) M.faces) k) e.1 ∙ get-map_rows (given (fs ++ f ∷ []) n) M.faces f ∙ ap (option_map (given (fs ++ f ∷ []) n f)) r.1)
+    | inr e ↦
+        ap (λ b. cond b (Some (record { solid = n; outer = outer N f })) (table.get old q)) e.0
+        ∙ get-map_rows (given fs n) M.faces q
+        ∙ ap (λ b. option_map (λ (row : FaceRow). cond b (record row { solid = n }) row) (table.get M.faces q)) (sym (lists-push fs f q ∙ ap (λ b. lists fs q || b) (apart q f e.1) ∙ or_none (lists fs q)))
+        ∙ sym (get-map_rows (given (fs ++ f ∷ []) n) M.faces q)
+  ])
+
+pub step : (s : Store) (fs : List ℕ) (i n f : ℕ) → i < length fs → get_or fs i 0 ≡ f → Has s.model.faces f → set_solid (moved s (take i fs) n) f n ≡ moved s (take (i + 1) fs) n
+step s fs i n f l at there =
+    ap (λ t. record s { model = record s.model { faces = t } }) (one_more s.model (take i fs) n f there)
+    ∙ ap (λ xs. moved s xs n) (ap (λ g. take i fs ++ g ∷ []) (sym at) ∙ sym (take_more fs i 0 l))
+
+pub start : (s : Store) (n : ℕ) → s ≡ moved s [] n
+start s n = ap (λ t. record s { model = record s.model { faces = t } }) (same_table _ _ (λ q. sym (get-map_rows (given [] n) s.model.faces q ∙ go (table.get s.model.faces q)))) where
+  go : (o : Option FaceRow) → option_map (λ (row : FaceRow). row) o ≡ o
+  go None = refl
+  go (Some row) = refl
+
+-- the faces of a solid are those whose rows name it
+pub all_given : (M : Model) (s t : ℕ) → map_rows (given (faces_of M t) s) M.faces ≡ map_rows (faces_to_solid (λ _ row. nat_eq row.solid t) s) M.faces
+all_given M s t = same_table _ _ (λ q. get-map_rows (given (faces_of M t) s) M.faces q ∙ go q (table.get M.faces q) refl ∙ sym (get-map_rows (faces_to_solid (λ _ row. nat_eq row.solid t) s) M.faces q)) where
+  go : (q : ℕ) (o : Option FaceRow) → table.get M.faces q ≡ o → option_map (given (faces_of M t) s q) o ≡ option_map (faces_to_solid (λ _ row. nat_eq row.solid t) s q) o
+  go q None e = refl
+  go q (Some row) e = ap (λ b. Some (cond b (record row { solid = s }) row)) (listed_as (λ _ r. nat_eq r.solid t) M.faces q row e)
+
+-- the listed faces of part are there
+hold_right : (cs ds : List Condition) → AllHold (cs ++ ds) → AllHold ds
+hold_right [] ds h = h
+hold_right (c ∷ cs) ds h = hold_right cs ds h.1
+
+hold_left : (cs ds : List Condition) → AllHold (cs ++ ds) → AllHold cs
+hold_left [] ds h = tt
+hold_left (c ∷ cs) ds h = (h.0, hold_left cs ds h.1)
+
+known_has : (M : Model) (fs : List ℕ) → AllHold (faces_known M fs) → (q : ℕ) → lists fs q ≡ true → Has M.faces q
+known_has M [] h q l = cc
+known_has M (f ∷ fs) h q l = elim (listed_cases f q fs l) [ inl e ↦ ap (table.has M.faces) e ∙ h.0 | inr e ↦ known_has M fs h.1 q e ]
+
+pub part_has : (M : Model) (s t : ℕ) (fs : List ℕ) → first_false M (Part s t fs) ≡ None → (q : ℕ) → lists fs q ≡ true → Has M.faces q
+unfolding conditions first_false
+part_has M s t fs e =
+    let front = need (table.has M.solids s) NoSolid s ∷ never (table.has M.solids t) SolidTaken t ∷ faces_known M fs in
+    let last = never (is_bad_part M s fs) BadPart s ∷ [] in
+    let h = hold_right (numbers_in_range (s ∷ t ∷ fs)) ((front ++ faces_in M s fs) ++ last) (all_hold (conditions M (Part s t fs)) e) in
+    known_has M fs (hold_left front (faces_in M s fs) (hold_left (front ++ faces_in M s fs) last h)).1.1

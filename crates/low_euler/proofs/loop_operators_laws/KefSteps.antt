@@ -1,0 +1,277 @@
+-- What kef's writers make of a store, one after another.
+use Rattle.std.proofs.Common.{◌≡◌, ◌≢◌, ℕ, ◌+◌, true, List, [], ◌∷◌, ◌++◌, Some, is_some, refl, sym, ap, ◌∙◌, subst, arith}
+use Rattle.cyclic_list.specs.Items.{count, IsIn, IsApart, head_or}
+use Rattle.cyclic_list.specs.Rings.{canonical, rest, joined}
+use Rattle.cyclic_list.proofs.Lists.{count-append, tick_same}
+use Rattle.cyclic_list.proofs.Rotations.{count-canonical}
+use Rattle.cyclic_list.proofs.Rings.{count_at}
+use Rattle.cyclic_list.proofs.Cuts.{count-joined}
+use Rattle.boundary_model.specs.declared.HalfEdge.{HalfEdge}
+use Rattle.boundary_model.specs.HalfEdge.{code, mate, edge_of, plus, minus}
+use Rattle.boundary_model.specs.Table as table
+use Rattle.boundary_model.specs.Table.{Table, tables, same_table}
+use Rattle.boundary_model.specs.Model.{Model, LoopContent, LoopRow, cycle, items_of, content, face_of, loop_of, cycle_of, tail, after as after_half, has_half}
+use Rattle.boundary_model.specs.Sound.{Sound}
+use Rattle.boundary_model.proofs.Halves.{mate_other}
+use Rattle.boundary_model.proofs.Tables.{put_same}
+use Rattle.boundary_model.proofs.Models.{row_of}
+use Rattle.euler_operators.specs.declared.Op.TheVariants.{Kef}
+use Rattle.euler_operators.specs.Conditions.{face_at}
+use Rattle.euler_operators.specs.Effect.{effect, kef, cycle_or_lone}
+use Rattle.euler_conditions.specs.Ready.{Accepts, after}
+use Rattle.euler_laws.proofs.mef.KefSound as laws
+use Rattle.euler_laws.proofs.mef.KefSound.{KefGoes}
+use Rattle.euler_laws.proofs.mef.Kef.{kef_goes}
+use Rattle.euler_conditions.specs.Store.{Store, join, take_edge, take_loop, take_face}
+use Rattle.low_euler.specs.loop_steps.Steps.{IsStanding, take_out}
+use Rattle.low_euler.proofs.loop_steps_laws.StoreSteps.{remove-put_same}
+use Rattle.low_euler.proofs.loop_steps_laws.RingSteps.{rest_joined, rest_both}
+use Rattle.low_euler.proofs.loop_steps_laws.TwoLoops as two
+use Rattle.low_euler.proofs.loop_steps_laws.TwoLoops.{TwoLoops}
+use Rattle.low_euler.proofs.loop_steps_laws.LooseRings.{pair, get_plus, get_minus, edge_gone, halves_back}
+use Rattle.low_euler.proofs.loop_steps_laws.SoundLoops.{number_real, sound_loops}
+
+filled : (ys : List ℕ) (v : ℕ) → ys ≢ [] → cycle_or_lone ys v ≡ cycle (canonical ys)
+filled [] v e = absurd (e refl)
+filled (y ∷ ys) v e = refl
+
+left_filled : (ys zs : List ℕ) → ys ≢ [] → ys ++ zs ≢ []
+left_filled [] zs ne e = ne refl
+left_filled (y ∷ ys) zs ne e = no_cons y (ys ++ zs) e where
+  no_cons : (x : ℕ) (q : List ℕ) → x ∷ q ≡ [] → ⊥
+  no_cons x q e = cc
+
+right_filled : (ys zs : List ℕ) (h : ℕ) → ys ++ h ∷ zs ≢ []
+right_filled ys zs h e = absurd (omega (arith, ap (count h) e, count-append h ys (h ∷ zs), tick_same h))
+
+module _ (s : Store) (half : HalfEdge) (ok : Accepts s (Kef half)) where
+  abbrev M : Model
+  M = s.model
+
+  abbrev h : ℕ
+  h = code half
+
+  abbrev m : ℕ
+  m = mate h
+
+  abbrev r : ℕ
+  r = loop_of M h
+
+  abbrev l : ℕ
+  l = loop_of M m
+
+  abbrev xs : List ℕ
+  xs = cycle_of M h
+
+  abbrev ys : List ℕ
+  ys = cycle_of M m
+
+  sound : Sound M
+  sound = ok.ready.sound
+
+  bare : s.loose ≡ table.empty
+  bare = ok.ready.bare
+
+  pub goes : KefGoes M h
+  goes = kef_goes M half ok.holds
+
+  r_row : table.get M.loops r ≡ Some (record { face = face_of M r; content = cycle xs })
+  r_row = row_of M sound h goes.h_there
+
+  l_row : table.get M.loops l ≡ Some (record { face = face_of M l; content = cycle ys })
+  l_row = row_of M sound m (laws.m_there M sound h goes)
+
+  -- the steps
+  abbrev pub one : Store
+  one = join s h m
+
+  abbrev pub first_out : Store
+  first_out = take_out one m
+
+  abbrev pub second_out : Store
+  second_out = take_out first_out h
+
+  abbrev pub edgeless : Store
+  edgeless = take_edge second_out (edge_of h)
+
+  abbrev pub loopless : Store
+  loopless = take_loop edgeless l
+
+  abbrev pub made : Store
+  made = take_face loopless (face_at M m)
+
+  -- what each call leaves
+  pub was_one : (q : Store) (n : ℕ) → n ≡ m → q ≡ join s h n → q ≡ one
+  was_one q n en d = d ∙ ap (join s h) en
+
+  pub was_first : (p q : Store) (n : ℕ) → n ≡ m → p ≡ one → q ≡ take_out p n → q ≡ first_out
+  was_first p q n en e d = d ∙ ap (take_out p) en ∙ ap (λ t. take_out t m) e
+
+  pub was_second : (p q : Store) → p ≡ first_out → q ≡ take_out p h → q ≡ second_out
+  was_second p q e d = d ∙ ap (λ t. take_out t h) e
+
+  pub was_edgeless : (p q : Store) (e : ℕ) → e ≡ edge_of h → p ≡ second_out → q ≡ take_edge p e → q ≡ edgeless
+  was_edgeless p q e ee ep d = d ∙ ap (take_edge p) ee ∙ ap (λ t. take_edge t (edge_of h)) ep
+
+  pub was_loopless : (p q : Store) (n : ℕ) → n ≡ l → p ≡ edgeless → q ≡ take_loop p n → q ≡ loopless
+  was_loopless p q n en ep d = d ∙ ap (take_loop p) en ∙ ap (λ t. take_loop t l) ep
+
+  -- what the readers and the join ask
+  pub mate_there : (n : ℕ) → n ≡ m → has_half M n ≡ true
+  mate_there n e = ap (has_half M) e ∙ laws.m_there M sound h goes
+
+  pub gone_there : (n : ℕ) → n ≡ l → table.has M.loops n ≡ true
+  gone_there n e = ap (table.has M.loops) e ∙ ap is_some l_row
+
+  r_real : r ≢ 0
+  r_real = number_real r (sound.loops_fit r (ap is_some r_row))
+
+  pub looped : r ≢ 0
+  looped = r_real
+
+  pub loops_apart : (n : ℕ) → n ≡ m → loop_of M n ≢ r
+  loops_apart n e same = laws.r_s M sound h goes (sym (sym (ap (loop_of M) e) ∙ same))
+
+  -- the two loops, and the half-edges in them
+  hm : m ≢ h
+  hm e = mate_other h (sym e)
+
+  abbrev all : List ℕ
+  all = xs ++ ys
+
+  loops : TwoLoops M r l all
+  loops = sound_loops M sound r l (laws.r_s M sound h goes) r_real (number_real l (sound.loops_fit l (ap is_some l_row)))
+
+  abbrev state : LoopContent → LoopContent → Table (List ℕ) → Store
+  state c d z = two.state M r l (face_of M r) (face_of M l) all loops s.room c d z
+
+  abbrev Fits : LoopContent → LoopContent → Type 0
+  Fits c d = two.Fits M r l (face_of M r) (face_of M l) all loops c d
+
+  abbrev as_join : List ℕ
+  as_join = joined h m xs ys
+
+  -- what follows the mate in its loop, and h in its
+  abbrev A : List ℕ
+  A = rest m ys
+
+  abbrev B : List ℕ
+  B = rest h xs
+
+  h_in : IsIn h xs
+  h_in = laws.h_in M sound h goes
+
+  m_in : IsIn m ys
+  m_in = laws.m_in M sound h goes
+
+  once : IsApart all
+  once = laws.apart_both M sound h goes
+
+  before_is : s ≡ state (cycle xs) (cycle ys) table.empty
+  before_is = ap (λ z. record s { loose = z }) bare
+      ∙ ap (λ t. record { model = record M { loops = t }; loose = table.empty; room = s.room })
+      (sym (ap (λ t. table.put t l (record { face = face_of M l; content = cycle ys })) (put_same M.loops r (record { face = face_of M r; content = cycle xs }) r_row)
+      ∙ put_same M.loops l (record { face = face_of M l; content = cycle ys }) l_row))
+
+  fits_one : Fits (cycle xs) (cycle ys)
+  fits_one x = omega (arith, count-append x xs ys)
+
+  fits_two : Fits (cycle as_join) (cycle [])
+  fits_two x = omega (arith, count-append x xs ys, count-joined h m xs ys once h_in m_in x)
+
+  one_is : one ≡ state (cycle as_join) (cycle []) table.empty
+  one_is = ap (λ t. join t h m) before_is ∙ two.join_parts M r l (face_of M r) (face_of M l) all loops s.room xs ys table.empty fits_one h m h_in m_in
+
+  m_joined : IsIn m as_join
+  m_joined = omega (arith, count-joined h m xs ys once h_in m_in m, m_in)
+
+  -- what the two that are taken out ask
+  pub mate_stands : (p : Store) (n : ℕ) → n ≡ m → p ≡ one → IsStanding p.model n
+  mate_stands p n en e = subst (IsStanding p.model) (sym en) (subst (λ (t : Store). IsStanding t.model m) (sym (e ∙ one_is))
+      (two.standing_r M r l (face_of M r) (face_of M l) all loops (cycle as_join) (cycle []) fits_two m m_joined))
+
+  abbrev kept : List ℕ
+  kept = canonical (B ++ h ∷ A)
+
+  first_is : first_out ≡ state (cycle kept) (cycle []) (table.put table.empty m (m ∷ []))
+  first_is = ap (λ t. take_out t m) one_is
+      ∙ two.take_out_r M r l (face_of M r) (face_of M l) all loops s.room (cycle as_join) (cycle []) table.empty fits_two m m_joined
+      ∙ ap (λ q. state (cycle_or_lone q (tail M m)) (cycle []) (table.put table.empty m (m ∷ []))) (rest_joined h m xs ys once h_in m_in)
+      ∙ ap (λ c. state c (cycle []) (table.put table.empty m (m ∷ []))) (filled (B ++ h ∷ A) (tail M m) (right_filled B A h))
+
+  count_kept : (x : ℕ) → count x kept ≡ count x B + count x (h ∷ A)
+  count_kept x = count-canonical x (B ++ h ∷ A) ∙ count-append x B (h ∷ A)
+
+  fits_three : Fits (cycle kept) (cycle [])
+  fits_three x = omega (arith, count_kept x, count_at x h xs h_in, count_at x m ys m_in, count-append x xs ys)
+
+  h_kept : IsIn h kept
+  h_kept = omega (arith, count_kept h, tick_same h)
+
+  pub h_stands : (p : Store) → p ≡ first_out → IsStanding p.model h
+  h_stands p e = subst (λ (t : Store). IsStanding t.model h) (sym (e ∙ first_is))
+      (two.standing_r M r l (face_of M r) (face_of M l) all loops (cycle kept) (cycle []) fits_three h h_kept)
+
+  some_follow : A ++ B ≢ []
+  unfolding after_half
+  some_follow = left_filled A B (λ e. laws.m_on M sound h goes (ap (head_or m) e))
+
+  second_is : second_out ≡ state (cycle (canonical (A ++ B))) (cycle []) (pair m h hm)
+  second_is = ap (λ t. take_out t h) first_is
+      ∙ two.take_out_r M r l (face_of M r) (face_of M l) all loops s.room (cycle kept) (cycle []) (table.put table.empty m (m ∷ [])) fits_three h h_kept
+      ∙ ap (λ q. state (cycle_or_lone q (tail M h)) (cycle []) (pair m h hm)) (rest_both h m xs ys once h_in m_in)
+      ∙ ap (λ c. state c (cycle []) (pair m h hm)) (filled (A ++ B) (tail M h) some_follow)
+
+  -- what the edge and the loop that go ask
+  pub plus_loose : (p : Store) (e : ℕ) → e ≡ edge_of h → p ≡ second_out → table.get p.loose (plus e) ≡ Some (plus e ∷ [])
+  plus_loose p e ee q = subst (λ n. table.get p.loose (plus n) ≡ Some (plus n ∷ [])) (sym ee)
+      (ap (λ (t : Store). table.get t.loose (plus (edge_of h))) (q ∙ second_is) ∙ get_plus m h hm (edge_of h) (halves_back h))
+
+  pub minus_loose : (p : Store) (e : ℕ) → e ≡ edge_of h → p ≡ second_out → table.get p.loose (minus e) ≡ Some (minus e ∷ [])
+  minus_loose p e ee q = subst (λ n. table.get p.loose (minus n) ≡ Some (minus n ∷ [])) (sym ee)
+      (ap (λ (t : Store). table.get t.loose (minus (edge_of h))) (q ∙ second_is) ∙ get_minus m h hm (edge_of h) (halves_back h))
+
+  abbrev less : Table LoopRow → Table (List ℕ) → Store
+  less t z = record s { model = record M { loops = t; edges = table.remove M.edges (edge_of h) }; loose = z }
+
+  abbrev joined_loops : Table LoopRow
+  joined_loops = (two.holding M r l (face_of M r) (face_of M l) all loops (cycle (canonical (A ++ B))) (cycle [])).loops
+
+  edgeless_is : edgeless ≡ less joined_loops table.empty
+  unfolding take_edge
+  edgeless_is = ap (λ t. take_edge t (edge_of h)) second_is ∙ ap (less joined_loops) (edge_gone m h hm (edge_of h) (halves_back h))
+
+  pub gone_still : (p : Store) (n : ℕ) → n ≡ l → p ≡ edgeless → table.has p.model.loops n ≡ true
+  gone_still p n en e = ap (table.has p.model.loops) en ∙ ap (λ (t : Store). table.has t.model.loops l) (e ∙ edgeless_is)
+      ∙ ap is_some (two.get_l M r l (face_of M r) (face_of M l) all loops M.loops (record { face = face_of M r; content = cycle (canonical (A ++ B)) }) (record { face = face_of M l; content = cycle [] }))
+
+  l_content : content (less joined_loops table.empty).model l ≡ cycle []
+  unfolding content
+  l_content = two.content_l M r l (face_of M r) (face_of M l) all loops (cycle (canonical (A ++ B))) (cycle [])
+
+  pub gone_bare : (p : Store) (n : ℕ) → n ≡ l → p ≡ edgeless → items_of (content p.model n) ≡ []
+  gone_bare p n en e = ap (λ q. items_of (content p.model q)) en ∙ ap (λ (t : Store). items_of (content t.model l)) (e ∙ edgeless_is) ∙ ap items_of l_content
+
+  loopless_is : loopless ≡ less (table.remove (table.put M.loops r (record { face = face_of M r; content = cycle (canonical (A ++ B)) })) l) table.empty
+  loopless_is = ap (λ t. take_loop t l) edgeless_is
+      ∙ ap (λ t. less t table.empty) (remove-put_same (table.put M.loops r (record { face = face_of M r; content = cycle (canonical (A ++ B)) })) l (record { face = face_of M l; content = cycle [] }))
+
+  face_there : table.has M.faces (face_at M m) ≡ true
+  face_there = sound.loops_of_faces l (ap is_some l_row)
+
+  pub face_still : (p : Store) (n : ℕ) → n ≡ face_at M m → p ≡ loopless → table.has p.model.faces n ≡ true
+  face_still p n en e = ap (table.has p.model.faces) en ∙ ap (λ (t : Store). table.has t.model.faces (face_at M m)) (e ∙ loopless_is) ∙ face_there
+
+  abbrev with_loops : Table LoopRow → Table (List ℕ) → Store
+  with_loops t z = record s { model = record M { faces = table.remove M.faces (face_at M m); loops = t; edges = table.remove M.edges (edge_of h) }; loose = z }
+
+  -- together they are kef
+  made_is : made ≡ record s { model = kef M h }
+  unfolding kef
+  made_is = ap (λ t. take_face t (face_at M m)) loopless_is
+      ∙ ap (with_loops (table.remove (table.put M.loops r (record { face = face_of M r; content = cycle (canonical (A ++ B)) })) l)) (sym bare)
+      ∙ ap (λ t. with_loops t s.loose) (sym (laws.loops_are M sound h goes))
+
+  pub was_made : (p q : Store) (n : ℕ) → n ≡ face_at M m → p ≡ loopless → q ≡ take_face p n → q ≡ after s (Kef half)
+  unfolding effect
+  was_made p q n en ep d = d ∙ ap (take_face p) en ∙ ap (λ t. take_face t (face_at M m)) ep ∙ made_is

@@ -1,0 +1,234 @@
+-- What kemr's writers make of a store, one after another.
+use Rattle.std.proofs.Common.{◌≡◌, ◌≢◌, ℕ, ◌+◌, ◌≤◌, true, cond, List, [], ◌∷◌, ◌++◌, Some, is_some, unwrap_or, sym, ap, ◌∙◌, subst, arith}
+use Rattle.cyclic_list.specs.Items.{count, tick, IsIn, IsApart}
+use Rattle.cyclic_list.specs.Rings.{between, beyond, cut_left, cut_right}
+use Rattle.cyclic_list.proofs.Lists.{count-append}
+use Rattle.cyclic_list.proofs.Rotations.{count-canonical}
+use Rattle.cyclic_list.proofs.Cuts.{count-cut, IsIn-cut}
+use Rattle.boundary_model.specs.declared.HalfEdge.{HalfEdge}
+use Rattle.boundary_model.specs.HalfEdge.{code, mate, edge_of, plus, minus}
+use Rattle.boundary_model.specs.Table as table
+use Rattle.boundary_model.specs.Table.{Table}
+use Rattle.boundary_model.specs.Model.{Model, LoopContent, LoopRow, cycle, items_of, content, face_of, loop_of, cycle_of, tail, no_loop, has_half}
+use Rattle.boundary_model.specs.Sound.{Sound}
+use Rattle.boundary_model.proofs.Halves.{mate_other}
+use Rattle.boundary_model.proofs.Tables.{put_same}
+use Rattle.boundary_model.proofs.Models.{row_of}
+use Rattle.euler_operators.specs.declared.Op.TheVariants.{Kemr}
+use Rattle.euler_operators.specs.Conditions.{face_at}
+use Rattle.euler_operators.specs.Effect.{effect, kemr, cycle_or_lone}
+use Rattle.euler_conditions.specs.Ready.{Accepts, after}
+use Rattle.euler_laws.proofs.shared.Goes.{differs}
+use Rattle.euler_laws.proofs.shared.Rows.{count_or_lone}
+use Rattle.euler_laws.proofs.kemr.KemrSound as laws
+use Rattle.euler_laws.proofs.kemr.KemrSound.{KemrGoes}
+use Rattle.euler_laws.proofs.kemr.Kemr.{kemr_goes}
+use Rattle.euler_conditions.specs.Store.{Store, put_loop, cut, cut_loose, cut_to, take_edge}
+use Rattle.low_euler.specs.loop_steps.Steps.{IsStanding, take_out}
+use Rattle.low_euler.proofs.loop_steps_laws.RingSteps.{rest_left, rest_right}
+use Rattle.low_euler.proofs.loop_steps_laws.TwoLoops as two
+use Rattle.low_euler.proofs.loop_steps_laws.TwoLoops.{TwoLoops}
+use Rattle.low_euler.proofs.loop_steps_laws.LooseRings.{pair, get_plus, get_minus, edge_gone, halves_of}
+use Rattle.low_euler.proofs.loop_steps_laws.SoundLoops.{number_real, sound_loops}
+
+module _ (s : Store) (half : HalfEdge) (l : ℕ) (ok : Accepts s (Kemr half l)) where
+  abbrev M : Model
+  M = s.model
+
+  abbrev h : ℕ
+  h = code half
+
+  abbrev m : ℕ
+  m = mate h
+
+  abbrev r : ℕ
+  r = loop_of M h
+
+  abbrev xs : List ℕ
+  xs = cycle_of M h
+
+  abbrev X : List ℕ
+  X = between h m xs
+
+  abbrev Y : List ℕ
+  Y = beyond h m xs
+
+  sound : Sound M
+  sound = ok.ready.sound
+
+  bare : s.loose ≡ table.empty
+  bare = ok.ready.bare
+
+  pub goes : KemrGoes M h l
+  goes = kemr_goes M half l ok.holds
+
+  -- what the readers ask
+  pub loop_there : table.has M.loops r ≡ true
+  loop_there = ap is_some (row_of M sound h goes.h_there)
+
+  pub face_there : table.has M.faces (face_at M h) ≡ true
+  face_there = sound.loops_of_faces r loop_there
+
+  -- the steps
+  abbrev pub looped : Store
+  looped = put_loop s l (face_at M h)
+
+  abbrev pub parted : Store
+  parted = cut looped h m l
+
+  abbrev pub first_out : Store
+  first_out = take_out parted h
+
+  abbrev pub second_out : Store
+  second_out = take_out first_out m
+
+  abbrev pub made : Store
+  made = take_edge second_out (edge_of h)
+
+  -- what each call leaves
+  pub was_looped : (q : Store) (f : ℕ) → f ≡ face_at M h → q ≡ put_loop s l f → q ≡ looped
+  was_looped q f ef d = d ∙ ap (put_loop s l) ef
+
+  pub was_parted : (p q : Store) (n : ℕ) → n ≡ m → p ≡ looped → q ≡ cut p h n l → q ≡ parted
+  was_parted p q n en e d = d ∙ ap (λ x. cut p h x l) en ∙ ap (λ t. cut t h m l) e
+
+  pub was_first : (p q : Store) → p ≡ parted → q ≡ take_out p h → q ≡ first_out
+  was_first p q e d = d ∙ ap (λ t. take_out t h) e
+
+  pub was_second : (p q : Store) (n : ℕ) → n ≡ m → p ≡ first_out → q ≡ take_out p n → q ≡ second_out
+  was_second p q n en e d = d ∙ ap (take_out p) en ∙ ap (λ t. take_out t m) e
+
+  -- the two loops, and the half-edges in them
+  h_in : IsIn h xs
+  h_in = laws.h_in M sound h l goes
+
+  m_in : IsIn m xs
+  m_in = laws.m_in M sound h l goes
+
+  once : IsApart xs
+  once = (laws.cyc M sound h l goes).apart
+
+  hm : h ≢ m
+  hm = mate_other h
+
+  l_none : content M l ≡ cycle []
+  unfolding content
+  l_none = ap (λ o. (unwrap_or o no_loop).content) goes.loop_free
+
+  abbrev all : List ℕ
+  all = xs ++ items_of (content M l)
+
+  loops : TwoLoops M r l all
+  loops = sound_loops M sound r l (laws.r_l M sound h l goes) (number_real r (sound.loops_fit r loop_there)) (number_real l goes.loop_fits)
+
+  count_all : (x : ℕ) → count x all ≡ count x xs
+  count_all x = omega (arith, count-append x xs (items_of (content M l)), ap (λ c. count x (items_of c)) l_none)
+
+  abbrev state : LoopContent → LoopContent → Table (List ℕ) → Store
+  state c d z = two.state M r l (face_of M r) (face_of M r) all loops s.room c d z
+
+  abbrev Fits : LoopContent → LoopContent → Type 0
+  Fits c d = two.Fits M r l (face_of M r) (face_of M r) all loops c d
+
+  abbrev left : List ℕ
+  left = cut_left h m xs
+
+  abbrev right : List ℕ
+  right = cut_right h m xs
+
+  looped_is : looped ≡ state (cycle xs) (cycle []) table.empty
+  unfolding put_loop
+  looped_is = ap (λ t. record s { model = record M { loops = table.put t l (record { face = face_of M r; content = cycle [] }) } })
+      (sym (put_same M.loops r (record { face = face_of M r; content = cycle xs }) (row_of M sound h goes.h_there)))
+      ∙ ap (state (cycle xs) (cycle [])) bare
+
+  fits_one : Fits (cycle xs) (cycle [])
+  fits_one x = omega (arith, count_all x)
+
+  fits_two : Fits (cycle left) (cycle right)
+  fits_two x = omega (arith, count_all x, count-cut h m xs once h_in m_in hm x)
+
+  -- what the cut asks
+  pub h_stands : IsStanding looped.model h
+  h_stands = subst (λ (t : Store). IsStanding t.model h) (sym looped_is) (two.standing_r M r l (face_of M r) (face_of M r) all loops (cycle xs) (cycle []) fits_one h h_in)
+
+  m_stands : IsStanding looped.model m
+  m_stands = subst (λ (t : Store). IsStanding t.model m) (sym looped_is) (two.standing_r M r l (face_of M r) (face_of M r) all loops (cycle xs) (cycle []) fits_one m m_in)
+
+  together : loop_of looped.model m ≡ loop_of looped.model h
+  together = subst (λ (t : Store). loop_of t.model m ≡ loop_of t.model h) (sym looped_is)
+      (two.loop_r M r l (face_of M r) (face_of M r) all loops (cycle xs) (cycle []) fits_one m m_in ∙ sym (two.loop_r M r l (face_of M r) (face_of M r) all loops (cycle xs) (cycle []) fits_one h h_in))
+
+  pub mate_there : (p : Store) (n : ℕ) → n ≡ m → p ≡ looped → has_half p.model n ≡ true
+  mate_there p n en e = ap (has_half p.model) en ∙ ap (λ (t : Store). has_half t.model m) e ∙ m_stands.there
+
+  pub mate_near : (p : Store) (n : ℕ) → n ≡ m → p ≡ looped → loop_of p.model n ≡ loop_of p.model h
+  mate_near p n en e = ap (loop_of p.model) en ∙ subst (λ (t : Store). loop_of t.model m ≡ loop_of t.model h) (sym e) together
+
+  pub l_there : table.has looped.model.loops l ≡ true
+  l_there = subst (λ (t : Store). table.has t.model.loops l ≡ true) (sym looped_is)
+      (ap is_some (two.get_l M r l (face_of M r) (face_of M r) all loops M.loops (record { face = face_of M r; content = cycle xs }) (record { face = face_of M r; content = cycle [] })))
+
+  pub l_bare : items_of (content looped.model l) ≡ []
+  l_bare = subst (λ (t : Store). items_of (content t.model l) ≡ []) (sym looped_is) (ap items_of (two.content_l M r l (face_of M r) (face_of M r) all loops (cycle xs) (cycle [])))
+
+  parted_is : parted ≡ state (cycle left) (cycle right) table.empty
+  parted_is = ap (λ b. cond b (cut_loose looped h m) (cut_to looped h m l)) (differs l 0 (number_real l goes.loop_fits))
+      ∙ ap (λ t. cut_to t h m l) looped_is
+      ∙ two.cut_parts M r l (face_of M r) (face_of M r) all loops s.room xs (cycle []) table.empty fits_one h m h_in
+
+  h_left : IsIn h left
+  h_left = (IsIn-cut h m xs once h_in m_in hm).0
+
+  m_right : IsIn m right
+  m_right = (IsIn-cut h m xs once h_in m_in hm).1
+
+  -- what the two that are taken out ask
+  pub h_parted : IsStanding parted.model h
+  h_parted = subst (λ (t : Store). IsStanding t.model h) (sym parted_is) (two.standing_r M r l (face_of M r) (face_of M r) all loops (cycle left) (cycle right) fits_two h h_left)
+
+  first_is : first_out ≡ state (cycle_or_lone Y (tail M h)) (cycle right) (table.put table.empty h (h ∷ []))
+  first_is = ap (λ t. take_out t h) parted_is
+      ∙ two.take_out_r M r l (face_of M r) (face_of M r) all loops s.room (cycle left) (cycle right) table.empty fits_two h h_left
+      ∙ ap (λ q. state (cycle_or_lone q (tail M h)) (cycle right) (table.put table.empty h (h ∷ []))) (rest_left h m xs once h_in m_in hm)
+
+  fits_three : Fits (cycle_or_lone Y (tail M h)) (cycle right)
+  fits_three x = omega (arith, count_or_lone x Y (tail M h), fits_two x, kept x) where
+    kept : (x : ℕ) → count x Y ≤ count x left
+    kept x = omega (arith, laws.count_xs M sound h l goes x, count-cut h m xs once h_in m_in hm x, count_right x) where
+      count_right : (x : ℕ) → count x right ≡ tick x m + count x X
+      count_right x = count-canonical x (m ∷ X)
+
+  m_first : IsStanding first_out.model m
+  m_first = subst (λ (t : Store). IsStanding t.model m) (sym first_is) (two.standing_l M r l (face_of M r) (face_of M r) all loops (cycle_or_lone Y (tail M h)) (cycle right) fits_three m m_right)
+
+  pub mate_stands : (p : Store) (n : ℕ) → n ≡ m → p ≡ first_out → IsStanding p.model n
+  mate_stands p n en e = subst (IsStanding p.model) (sym en) (subst (λ (t : Store). IsStanding t.model m) (sym e) m_first)
+
+  second_is : second_out ≡ state (cycle_or_lone Y (tail M h)) (cycle_or_lone X (tail M m)) (pair h m hm)
+  second_is = ap (λ t. take_out t m) first_is
+      ∙ two.take_out_l M r l (face_of M r) (face_of M r) all loops s.room (cycle_or_lone Y (tail M h)) (cycle right) (table.put table.empty h (h ∷ [])) fits_three m m_right
+      ∙ ap (λ q. state (cycle_or_lone Y (tail M h)) (cycle_or_lone q (tail M m)) (pair h m hm)) (rest_right h m xs once h_in m_in hm)
+
+  -- what the edge that goes asks
+  pub plus_loose : (p : Store) (e : ℕ) → e ≡ edge_of h → p ≡ second_out → table.get p.loose (plus e) ≡ Some (plus e ∷ [])
+  plus_loose p e ee q = subst (λ n. table.get p.loose (plus n) ≡ Some (plus n ∷ [])) (sym ee)
+      (ap (λ (t : Store). table.get t.loose (plus (edge_of h))) (q ∙ second_is) ∙ get_plus h m hm (edge_of h) (halves_of h))
+
+  pub minus_loose : (p : Store) (e : ℕ) → e ≡ edge_of h → p ≡ second_out → table.get p.loose (minus e) ≡ Some (minus e ∷ [])
+  minus_loose p e ee q = subst (λ n. table.get p.loose (minus n) ≡ Some (minus n ∷ [])) (sym ee)
+      (ap (λ (t : Store). table.get t.loose (minus (edge_of h))) (q ∙ second_is) ∙ get_minus h m hm (edge_of h) (halves_of h))
+
+  abbrev with_loops : Table LoopRow → Store
+  with_loops t = record s { model = record M { loops = t; edges = table.remove M.edges (edge_of h) } }
+
+  -- together they are kemr
+  made_is : made ≡ record s { model = kemr M h l }
+  unfolding kemr take_edge
+  made_is = ap (λ t. take_edge t (edge_of h)) second_is
+      ∙ ap (λ z. record s { model = record (two.holding M r l (face_of M r) (face_of M r) all loops (cycle_or_lone Y (tail M h)) (cycle_or_lone X (tail M m))) { edges = table.remove M.edges (edge_of h) }; loose = z }) (edge_gone h m hm (edge_of h) (halves_of h) ∙ sym bare)
+      ∙ ap with_loops (sym (laws.loops_are M sound h l goes))
+
+  pub was_made : (p q : Store) (e : ℕ) → e ≡ edge_of h → p ≡ second_out → q ≡ take_edge p e → q ≡ after s (Kemr half l)
+  unfolding effect
+  was_made p q e ee ep d = d ∙ ap (take_edge p) ee ∙ ap (λ t. take_edge t (edge_of h)) ep ∙ made_is

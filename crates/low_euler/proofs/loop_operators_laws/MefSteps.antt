@@ -1,0 +1,304 @@
+-- What mef's writers make of a store, one after another.
+use Rattle.std.proofs.Common.{◌≡◌, ◌≢◌, ℕ, ◌+◌, true, false, cond, List, [], ◌∷◌, ◌++◌, Some, None, is_some, unwrap_or, sym, ap, ◌∙◌, subst, arith}
+use Rattle.cyclic_list.specs.Items.{count, tick, IsIn, IsApart}
+use Rattle.cyclic_list.specs.Rings.{cut_right}
+use Rattle.cyclic_list.specs.Operators.{put_ring, mef_old, mef_new}
+use Rattle.cyclic_list.proofs.Lists.{count-append, tick_same}
+use Rattle.boundary_model.specs.declared.HalfEdge.{HalfEdge}
+use Rattle.boundary_model.specs.HalfEdge.{code, mate, edge_of}
+use Rattle.boundary_model.specs.Table as table
+use Rattle.boundary_model.specs.Table.{Table}
+use Rattle.boundary_model.specs.Model.{Model, LoopRow, cycle, items_of, content, face_of, solid_of, loop_of, cycle_of, tail, no_loop, has_half}
+use Rattle.boundary_model.specs.Sound.{Sound}
+use Rattle.boundary_model.proofs.Halves.{mate_other}
+use Rattle.boundary_model.proofs.Tables.{put_same}
+use Rattle.boundary_model.proofs.Models.{row_of, cycle_there, cycle_sound}
+use Rattle.euler_operators.specs.declared.Op.TheVariants.{Mef}
+use Rattle.euler_operators.specs.Conditions.{face_at}
+use Rattle.euler_operators.specs.Effect.{effect, mef, edge_row}
+use Rattle.euler_conditions.specs.Ready.{Accepts, after}
+use Rattle.euler_laws.proofs.shared.Goes.{differs}
+use Rattle.euler_laws.proofs.mef.MefSound.{MefGoes}
+use Rattle.euler_laws.proofs.mef.Mef.{mef_goes}
+use Rattle.euler_laws.proofs.mef.MefUndo.{loops-mef}
+use Rattle.euler_conditions.specs.Store.{Store, Room, within, put_loop, cut, cut_loose, cut_to, put_face}
+use Rattle.low_euler.specs.loop_steps.Steps.{IsStanding, IsLoose, with_edge, put_before}
+use Rattle.low_euler.proofs.loop_steps_laws.RingSteps.{cut_old, cut_new, count_put}
+use Rattle.low_euler.proofs.loop_steps_laws.TwoLoops as two
+use Rattle.low_euler.proofs.loop_steps_laws.TwoLoops.{TwoLoops}
+use Rattle.low_euler.proofs.loop_steps_laws.LooseRings.{pair, pair_singles, get_first, left_second, pair_gone, singles_remove, key_is, ring_is}
+use Rattle.low_euler.proofs.loop_steps_laws.SoundLoops.{number_real, edged_loops, none_h, none_m}
+
+module _ (s : Store) (first second half : HalfEdge) (f l : ℕ) (ok : Accepts s (Mef first second half f l)) where
+  abbrev M : Model
+  M = s.model
+
+  abbrev g : ℕ
+  g = code first
+
+  abbrev k : ℕ
+  k = code second
+
+  abbrev h : ℕ
+  h = code half
+
+  sound : Sound M
+  sound = ok.ready.sound
+
+  bare : s.loose ≡ table.empty
+  bare = ok.ready.bare
+
+  pub goes : MefGoes M g k h f l
+  goes = mef_goes M first second half f l ok.holds
+
+  abbrev m : ℕ
+  m = mate h
+
+  abbrev r : ℕ
+  r = loop_of M g
+
+  abbrev xs : List ℕ
+  xs = cycle_of M g
+
+  -- what the readers ask
+  pub loop_there : table.has M.loops r ≡ true
+  loop_there = ap is_some (row_of M sound g goes.g_there)
+
+  pub face_there : table.has M.faces (face_at M g) ≡ true
+  face_there = sound.loops_of_faces r loop_there
+
+  pub solid_there : table.has M.solids (solid_of M (face_at M g)) ≡ true
+  solid_there = sound.faces_of_solids (face_at M g) face_there
+
+  -- the steps
+  abbrev pub edged : Store
+  edged = with_edge s h (tail M g) (tail M k)
+
+  abbrev pub looped : Store
+  looped = put_loop edged l f
+
+  abbrev pub first_in : Store
+  first_in = put_before looped g h
+
+  abbrev pub second_in : Store
+  second_in = put_before first_in k m
+
+  abbrev pub parted : Store
+  parted = cut second_in h m l
+
+  abbrev pub made : Store
+  made = put_face parted f (solid_of M (face_at M g)) l
+
+  -- what each call leaves
+  pub was_looped : (p q : Store) (a b : ℕ) → a ≡ tail M g → b ≡ tail M k → p ≡ with_edge s h a b → q ≡ put_loop p l f → q ≡ looped
+  was_looped p q a b ea eb e d = d ∙ ap (λ t. put_loop t l f) (e ∙ ap (λ v. with_edge s h v b) ea ∙ ap (with_edge s h (tail M g)) eb)
+
+  pub was_first : (p q : Store) → p ≡ looped → q ≡ put_before p g h → q ≡ first_in
+  was_first p q e d = d ∙ ap (λ t. put_before t g h) e
+
+  pub was_second : (p q : Store) (n : ℕ) → n ≡ m → p ≡ first_in → q ≡ put_before p k n → q ≡ second_in
+  was_second p q n en e d = d ∙ ap (put_before p k) en ∙ ap (λ t. put_before t k m) e
+
+  pub was_parted : (p q : Store) (n : ℕ) → n ≡ m → p ≡ second_in → q ≡ cut p h n l → q ≡ parted
+  was_parted p q n en e d = d ∙ ap (λ x. cut p h x l) en ∙ ap (λ t. cut t h m l) e
+
+  -- the two loops, and the half-edges in them
+  r_row : table.get M.loops r ≡ Some (record { face = face_of M r; content = cycle xs })
+  r_row = row_of M sound g goes.g_there
+
+  r_l : r ≢ l
+  r_l e = no_row (sym r_row ∙ ap (table.get M.loops) e ∙ goes.loop_free) where
+    no_row : {x : LoopRow} → Some x ≡ None → ⊥
+    no_row e = cc
+
+  r_real : r ≢ 0
+  r_real = number_real r (sound.loops_fit r (ap is_some r_row))
+
+  l_real : l ≢ 0
+  l_real = number_real l goes.loop_fits
+
+  l_none : content M l ≡ cycle []
+  unfolding content
+  l_none = ap (λ o. (unwrap_or o no_loop).content) goes.loop_free
+
+  abbrev N : Model
+  N = record M { edges = table.put M.edges (edge_of h) (edge_row h (tail M g) (tail M k)) }
+
+  abbrev all : List ℕ
+  all = h ∷ m ∷ (xs ++ items_of (content M l))
+
+  loops : TwoLoops N r l all
+  loops = edged_loops M sound r l r_l r_real l_real h (edge_row h (tail M g) (tail M k)) goes.edge_free
+
+  count_all : (x : ℕ) → count x all ≡ tick x h + tick x m + count x xs
+  count_all x = omega (arith, count-append x xs (items_of (content M l)), ap (λ c. count x (items_of c)) l_none)
+
+  no_h : count h xs ≡ 0
+  no_h = none_h M sound r l r_l r_real l_real h (edge_row h (tail M g) (tail M k)) goes.edge_free r
+
+  no_m : count m xs ≡ 0
+  no_m = none_m M sound r l r_l r_real l_real h (edge_row h (tail M g) (tail M k)) goes.edge_free r
+
+  g_in : IsIn g xs
+  g_in = cycle_there M sound g goes.g_there
+
+  k_in : IsIn k xs
+  k_in = subst (λ q. IsIn k (items_of (content M q))) goes.one_loop (cycle_there M sound k goes.k_there)
+
+  g_k : g ≢ k
+  g_k e = goes.ends_apart (ap (tail M) e)
+
+  abbrev pair_h : Table (List ℕ)
+  pair_h = pair h m (mate_other h)
+
+  abbrev state : List ℕ → List ℕ → Table (List ℕ) → Store
+  state ys zs z = two.state N r l (face_of M r) f all loops s.room (cycle ys) (cycle zs) z
+
+  abbrev ys : List ℕ
+  ys = put_ring h g xs
+
+  abbrev zs : List ℕ
+  zs = put_ring m k ys
+
+  -- the new loop is empty
+  looped_is : looped ≡ state xs [] pair_h
+  unfolding with_edge put_loop
+  looped_is = ap (λ t. record s { model = record N { loops = table.put t l (record { face = f; content = cycle [] }) }; loose = table.put (table.put s.loose h (h ∷ [])) m (m ∷ []) })
+      (sym (put_same M.loops r (record { face = face_of M r; content = cycle xs }) r_row))
+      ∙ ap (λ z. state xs [] (table.put (table.put z h (h ∷ [])) m (m ∷ []))) bare
+
+  fits_one : two.Fits N r l (face_of M r) f all loops (cycle xs) (cycle [])
+  fits_one x = omega (arith, count_all x)
+
+  fits_two : two.Fits N r l (face_of M r) f all loops (cycle ys) (cycle [])
+  fits_two x = omega (arith, count_all x, count_put x h g xs)
+
+  fits_three : two.Fits N r l (face_of M r) f all loops (cycle zs) (cycle [])
+  fits_three x = omega (arith, count_all x, count_put x h g xs, count_put x m k ys)
+
+  h_all : IsIn h all
+  h_all = omega (arith, tick_same h)
+
+  m_all : IsIn m all
+  m_all = omega (arith, tick_same m)
+
+  pub g_stands : IsStanding looped.model g
+  g_stands = subst (λ (t : Store). IsStanding t.model g) (sym looped_is) (two.standing_r N r l (face_of M r) f all loops (cycle xs) (cycle []) fits_one g g_in)
+
+  pub h_loose : IsLoose looped h
+  h_loose = subst (λ (t : Store). IsLoose t h) (sym looped_is) (record {
+    there = loops.there h h_all;
+    nowhere = two.nowhere N r l (face_of M r) f all loops (cycle xs) (cycle []) fits_one h h_all (omega (arith, no_h));
+    alone = ring_is (state xs [] pair_h) h (pair_singles h m (mate_other h)) (get_first h m (mate_other h));
+  })
+
+  first_is : first_in ≡ state ys [] (table.remove pair_h h)
+  first_is = ap (λ t. put_before t g h) looped_is
+      ∙ two.put_before_r N r l (face_of M r) f all loops s.room (cycle xs) (cycle []) pair_h fits_one g h g_in
+      ∙ ap (λ q. state ys [] (table.remove pair_h q)) (key_is (state xs [] pair_h) h (pair_singles h m (mate_other h)) (get_first h m (mate_other h)))
+
+  k_in_two : IsIn k ys
+  k_in_two = omega (arith, k_in, count_put k h g xs)
+
+  pub k_stands : IsStanding first_in.model k
+  k_stands = subst (λ (t : Store). IsStanding t.model k) (sym first_is) (two.standing_r N r l (face_of M r) f all loops (cycle ys) (cycle []) fits_two k k_in_two)
+
+  m_h : tick m h ≡ 0
+  m_h = other m h (λ e. mate_other h (sym e)) where
+    other : (x y : ℕ) → x ≢ y → tick x y ≡ 0
+    other x y ne = ap (λ b. cond b 1 0) (differs x y ne)
+
+  pub m_loose : IsLoose first_in m
+  m_loose = subst (λ (t : Store). IsLoose t m) (sym first_is) (record {
+    there = loops.there m m_all;
+    nowhere = two.nowhere N r l (face_of M r) f all loops (cycle ys) (cycle []) fits_two m m_all (omega (arith, no_m, count_put m h g xs, m_h));
+    alone = ring_is (state ys [] (table.remove pair_h h)) m (singles_remove pair_h h (pair_singles h m (mate_other h))) (left_second h m (mate_other h));
+  })
+
+  second_is : second_in ≡ state zs [] table.empty
+  second_is = ap (λ t. put_before t k m) first_is
+      ∙ two.put_before_r N r l (face_of M r) f all loops s.room (cycle ys) (cycle []) (table.remove pair_h h) fits_two k m k_in_two
+      ∙ ap (λ q. state zs [] (table.remove (table.remove pair_h h) q)) (key_is (state ys [] (table.remove pair_h h)) m (singles_remove pair_h h (pair_singles h m (mate_other h))) (left_second h m (mate_other h)))
+      ∙ ap (λ z. state zs [] z) (pair_gone h m (mate_other h))
+
+  h_in : IsIn h zs
+  h_in = omega (arith, count_put h m k ys, count_put h h g xs, tick_same h)
+
+  m_in : IsIn m zs
+  m_in = omega (arith, count_put m m k ys, tick_same m)
+
+  -- what the cut asks
+  pub h_stands : IsStanding second_in.model h
+  h_stands = subst (λ (t : Store). IsStanding t.model h) (sym second_is) (two.standing_r N r l (face_of M r) f all loops (cycle zs) (cycle []) fits_three h h_in)
+
+  pub m_stands : IsStanding second_in.model m
+  m_stands = subst (λ (t : Store). IsStanding t.model m) (sym second_is) (two.standing_r N r l (face_of M r) f all loops (cycle zs) (cycle []) fits_three m m_in)
+
+  pub together : loop_of second_in.model m ≡ loop_of second_in.model h
+  together = subst (λ (t : Store). loop_of t.model m ≡ loop_of t.model h) (sym second_is)
+      (two.loop_r N r l (face_of M r) f all loops (cycle zs) (cycle []) fits_three m m_in ∙ sym (two.loop_r N r l (face_of M r) f all loops (cycle zs) (cycle []) fits_three h h_in))
+
+  pub l_there : table.has second_in.model.loops l ≡ true
+  l_there = subst (λ (t : Store). table.has t.model.loops l ≡ true) (sym second_is)
+      (ap is_some (two.get_l N r l (face_of M r) f all loops N.loops (record { face = face_of M r; content = cycle zs }) (record { face = f; content = cycle [] })))
+
+  pub l_bare : items_of (content second_in.model l) ≡ []
+  l_bare = subst (λ (t : Store). items_of (content t.model l) ≡ []) (sym second_is) (ap items_of (two.content_l N r l (face_of M r) f all loops (cycle zs) (cycle [])))
+
+  parted_is : parted ≡ state (mef_old h g k xs) (mef_new m g k xs) table.empty
+  parted_is = ap (λ b. cond b (cut_loose second_in h m) (cut_to second_in h m l)) (differs l 0 l_real)
+      ∙ ap (λ t. cut_to t h m l) second_is
+      ∙ two.cut_parts N r l (face_of M r) f all loops s.room zs (cycle []) table.empty fits_three h m h_in
+      ∙ ap (λ q. state q (cut_right h m zs) table.empty) (cut_old h m g k xs apart_xs g_in k_in g_k (mate_other h) no_h no_m)
+      ∙ ap (λ q. state (mef_old h g k xs) q table.empty) (cut_new h m g k xs apart_xs g_in k_in g_k (mate_other h) no_h no_m) where
+        apart_xs : IsApart xs
+        apart_xs = (cycle_sound M sound g goes.g_there).apart
+
+  abbrev with_loops : Table LoopRow → Store
+  with_loops t = record s { model = record M { faces = table.put M.faces f (record { solid = solid_of M (face_at M g); outer = l }); loops = t; edges = N.edges } }
+
+  -- together they are mef
+  made_is : made ≡ record s { model = mef M g k h f l }
+  unfolding mef
+  made_is = ap (λ t. put_face t f (solid_of M (face_at M g)) l) parted_is
+      ∙ ap (λ z. put_face (state (mef_old h g k xs) (mef_new m g k xs) z) f (solid_of M (face_at M g)) l) (sym bare)
+      ∙ ap with_loops (sym (loops-mef M sound g k h f l goes.g_there goes.edge_free goes.loop_free))
+
+  made_is_after : made ≡ after s (Mef first second half f l)
+  unfolding effect
+  made_is_after = made_is
+
+  pub was_made : (p q : Store) (n : ℕ) → n ≡ solid_of M (face_at M g) → p ≡ parted → q ≡ put_face p f n l → q ≡ after s (Mef first second half f l)
+  was_made p q n en e d = d ∙ ap (λ x. put_face p f x l) en ∙ ap (λ t. put_face t f (solid_of M (face_at M g)) l) e ∙ made_is_after
+
+  pub mate_there : (p : Store) (n : ℕ) → n ≡ m → p ≡ second_in → has_half p.model n ≡ true
+  mate_there p n en e = ap (has_half p.model) en ∙ ap (λ (t : Store). has_half t.model m) e ∙ m_stands.there
+
+  pub mate_near : (p : Store) (n : ℕ) → n ≡ m → p ≡ second_in → loop_of p.model n ≡ loop_of p.model h
+  mate_near p n en e = ap (loop_of p.model) en ∙ subst (λ (t : Store). loop_of t.model m ≡ loop_of t.model h) (sym e) together
+
+  -- what the new face asks
+  parted_room : (p : Store) → p ≡ parted → p.room ≡ s.room
+  parted_room p e = ap (λ (t : Store). t.room) (e ∙ parted_is)
+
+  pub face_room : (p : Store) → p ≡ parted → within f p.room.faces ≡ true
+  face_room p e = ap (λ (q : Room). within f q.faces) (parted_room p e) ∙ ok.room.1.0
+
+  pub solid_room : (p : Store) (n : ℕ) → p ≡ parted → within n s.room.solids ≡ true → within n p.room.solids ≡ true
+  solid_room p n e t = ap (λ (q : Room). within n q.solids) (parted_room p e) ∙ t
+
+  pub face_free : (p : Store) → p ≡ parted → table.has p.model.faces f ≡ false
+  face_free p e = ap (λ (t : Store). table.has t.model.faces f) (e ∙ parted_is) ∙ ap is_some goes.face_free
+
+-- a new edge leaves the room and the loops as they are
+pub loop_room : (s : Store) (h a b n : ℕ) → within n s.room.loops ≡ true → within n (with_edge s h a b).room.loops ≡ true
+unfolding with_edge
+loop_room s h a b n e = e
+
+pub loop_free : (s : Store) (h a b n : ℕ) → table.has s.model.loops n ≡ false → table.has (with_edge s h a b).model.loops n ≡ false
+unfolding with_edge
+loop_free s h a b n e = e
+
+pub face_room_edged : (s : Store) (h a b n : ℕ) → within n s.room.faces ≡ true → within n (with_edge s h a b).room.faces ≡ true
+unfolding with_edge
+face_room_edged s h a b n e = e

@@ -1,0 +1,352 @@
+-- What mekr's writers make of a store, one after another.
+use Rattle.std.proofs.Common.{◌≡◌, ◌≢◌, ℕ, ◌+◌, true, List, [], ◌∷◌, ◌++◌, None, is_some, refl, sym, ap, ◌∙◌, subst, arith, true≢false}
+use Rattle.cyclic_list.specs.Items.{count, tick, IsIn, IsApart}
+use Rattle.cyclic_list.specs.Rings.{canonical, rotate_to, joined}
+use Rattle.cyclic_list.proofs.Lists.{count-append, tick_same, tick_other}
+use Rattle.cyclic_list.proofs.Rotations.{count-canonical}
+use Rattle.cyclic_list.proofs.Operators.{apart_front}
+use Rattle.cyclic_list.proofs.Cuts.{rest_canonical}
+use Rattle.boundary_model.specs.declared.HalfEdge.{HalfEdge}
+use Rattle.boundary_model.specs.declared.Corner.{Corner}
+use Rattle.boundary_model.specs.declared.Corner.TheVariants.{At, Lone}
+use Rattle.boundary_model.specs.HalfEdge.{code, mate, edge_of}
+use Rattle.boundary_model.specs.Table as table
+use Rattle.boundary_model.specs.Table.{Table}
+use Rattle.boundary_model.specs.Model.{Model, LoopContent, lone, cycle, items_of, content, face_of, loop_of, has_half}
+use Rattle.boundary_model.specs.Sound.{Sound}
+use Rattle.boundary_model.proofs.Halves.{mate_other}
+use Rattle.boundary_model.proofs.Tables.{put_same}
+use Rattle.boundary_model.proofs.Models.{cycle_there}
+use Rattle.euler_operators.specs.declared.Op.TheVariants.{Mekr}
+use Rattle.euler_operators.specs.Conditions.{first_false, conditions, corner_known, corner_lone, corner_loop, corner_tail, corner_list, is_lone}
+use Rattle.euler_operators.specs.Effect.{effect, mekr, edge_row}
+use Rattle.euler_conditions.specs.Ready.{Accepts, after}
+use Rattle.euler_laws.proofs.shared.Goes.{all_hold}
+use Rattle.euler_laws.proofs.shared.Rows.{half_of, loop_row}
+use Rattle.euler_laws.proofs.mekr.MekrSpots.{JoinGoes, join_goes, count_spot}
+use Rattle.euler_conditions.specs.Store.{Store, join, take_loop, loose_key, loose_ring}
+use Rattle.low_euler.specs.loop_steps.Steps.{IsStanding, IsLoose, IsCorner, CanTake, with_edge, put_at}
+use Rattle.low_euler.proofs.loop_steps_laws.RingSteps.{canonical_one}
+use Rattle.low_euler.proofs.loop_steps_laws.StoreSteps.{remove-put_same}
+use Rattle.low_euler.proofs.loop_steps_laws.TwoLoops as two
+use Rattle.low_euler.proofs.loop_steps_laws.TwoLoops.{TwoLoops}
+use Rattle.low_euler.proofs.loop_steps_laws.LooseRings.{AreSingles, pair, pair_singles, get_first, left_second, pair_gone, singles_remove, key_is, ring_is}
+use Rattle.low_euler.proofs.loop_steps_laws.SoundLoops.{number_real, edged_loops, none_h, none_m}
+
+-- the two corners, by the conditions
+corner_there : (M : Model) (c : Corner) → (corner_known M c).holds ≡ true → (corner_lone M c).holds ≡ true → IsCorner M c
+corner_there M (At g) known bare = half_of M g known
+corner_there M (Lone l) known bare = (known, bare)
+
+corners_there : (M : Model) (c d : Corner) (h : HalfEdge) → first_false M (Mekr c d h) ≡ None → IsCorner M c × IsCorner M d
+unfolding first_false conditions
+corners_there M c d h e =
+    let w = all_hold (conditions M (Mekr c d h)) e in
+    let t = w.1.1.1 in
+    (corner_there M c t.0 t.1.1.0, corner_there M d t.1.0 t.1.1.1.0)
+
+none_in_lone : (c : LoopContent) → is_lone c ≡ true → items_of c ≡ []
+none_in_lone (lone v) e = refl
+none_in_lone (cycle hs) e = absurd (true≢false (sym e))
+
+module _ (s : Store) (first second : Corner) (half : HalfEdge) (ok : Accepts s (Mekr first second half)) where
+  abbrev M : Model
+  M = s.model
+
+  abbrev h : ℕ
+  h = code half
+
+  abbrev m : ℕ
+  m = mate h
+
+  abbrev r : ℕ
+  r = corner_loop M first
+
+  abbrev l : ℕ
+  l = corner_loop M second
+
+  abbrev u : ℕ
+  u = corner_tail M first
+
+  abbrev w : ℕ
+  w = corner_tail M second
+
+  abbrev Y : List ℕ
+  Y = corner_list M first
+
+  abbrev X : List ℕ
+  X = corner_list M second
+
+  sound : Sound M
+  sound = ok.ready.sound
+
+  bare : s.loose ≡ table.empty
+  bare = ok.ready.bare
+
+  pub goes : JoinGoes M h r l u w Y X
+  goes = join_goes M first second half sound ok.holds
+
+  pub first_there : IsCorner M first
+  first_there = (corners_there M first second half ok.holds).0
+
+  pub second_there : IsCorner M second
+  second_there = (corners_there M first second half ok.holds).1
+
+  -- the steps
+  abbrev pub edged : Store
+  edged = with_edge s h u w
+
+  abbrev pub first_in : Store
+  first_in = put_at edged first h
+
+  abbrev pub second_in : Store
+  second_in = put_at first_in second m
+
+  abbrev pub one : Store
+  one = join second_in h m
+
+  abbrev pub made : Store
+  made = take_loop one l
+
+  -- what each call leaves
+  pub was_edged : (q : Store) (a b : ℕ) → a ≡ u → b ≡ w → q ≡ with_edge s h a b → q ≡ edged
+  was_edged q a b ea eb d = d ∙ ap (λ v. with_edge s h v b) ea ∙ ap (with_edge s h u) eb
+
+  pub was_first : (p q : Store) → p ≡ edged → q ≡ put_at p first h → q ≡ first_in
+  was_first p q e d = d ∙ ap (λ t. put_at t first h) e
+
+  pub was_second : (p q : Store) (n : ℕ) → n ≡ m → p ≡ first_in → q ≡ put_at p second n → q ≡ second_in
+  was_second p q n en e d = d ∙ ap (put_at p second) en ∙ ap (λ t. put_at t second m) e
+
+  pub was_one : (p q : Store) (n : ℕ) → n ≡ m → p ≡ second_in → q ≡ join p h n → q ≡ one
+  was_one p q n en e d = d ∙ ap (join p h) en ∙ ap (λ t. join t h m) e
+
+  -- the two loops, and the half-edges in them
+  abbrev C : LoopContent
+  C = content M r
+
+  abbrev D : LoopContent
+  D = content M l
+
+  r_l : r ≢ l
+  r_l = goes.loops_apart
+
+  r_real : r ≢ 0
+  r_real = number_real r (sound.loops_fit r goes.first.there)
+
+  l_real : l ≢ 0
+  l_real = number_real l (sound.loops_fit l goes.second.there)
+
+  abbrev N : Model
+  N = record M { edges = table.put M.edges (edge_of h) (edge_row h u w) }
+
+  abbrev all : List ℕ
+  all = h ∷ m ∷ (items_of C ++ items_of D)
+
+  loops : TwoLoops N r l all
+  loops = edged_loops M sound r l r_l r_real l_real h (edge_row h u w) goes.edge_free
+
+  no_h : (q : ℕ) → count h (items_of (content M q)) ≡ 0
+  no_h = none_h M sound r l r_l r_real l_real h (edge_row h u w) goes.edge_free
+
+  no_m : (q : ℕ) → count m (items_of (content M q)) ≡ 0
+  no_m = none_m M sound r l r_l r_real l_real h (edge_row h u w) goes.edge_free
+
+  count_all : (x : ℕ) → count x all ≡ tick x h + tick x m + count x (items_of C) + count x (items_of D)
+  count_all x = omega (arith, count-append x (items_of C) (items_of D))
+
+  count_C : (x : ℕ) → count x (items_of C) ≡ count x Y
+  count_C = count_spot M sound r u Y goes.first
+
+  count_D : (x : ℕ) → count x (items_of D) ≡ count x X
+  count_D = count_spot M sound l w X goes.second
+
+  abbrev state : LoopContent → LoopContent → Table (List ℕ) → Store
+  state c d z = two.state N r l (face_of M r) (face_of M l) all loops s.room c d z
+
+  abbrev Fits : LoopContent → LoopContent → Type 0
+  Fits c d = two.Fits N r l (face_of M r) (face_of M l) all loops c d
+
+  hm : h ≢ m
+  hm = mate_other h
+
+  m_h : tick m h ≡ 0
+  m_h = tick_other m h (λ e. hm (sym e))
+
+  abbrev loose : Table (List ℕ)
+  loose = pair h m hm
+
+  edged_is : edged ≡ state C D loose
+  unfolding with_edge
+  edged_is = ap (λ z. record s { model = N; loose = table.put (table.put z h (h ∷ [])) m (m ∷ []) }) bare
+      ∙ ap (λ t. record { model = record N { loops = t }; loose = loose; room = s.room })
+      (sym (ap (λ t. table.put t l (record { face = face_of M l; content = D })) (put_same M.loops r (record { face = face_of M r; content = C }) (loop_row M r goes.first.there))
+      ∙ put_same M.loops l (record { face = face_of M l; content = D }) (loop_row M l goes.second.there)))
+
+  fits_one : Fits C D
+  fits_one x = omega (arith, count_all x)
+
+  h_all : IsIn h all
+  h_all = omega (arith, tick_same h)
+
+  m_all : IsIn m all
+  m_all = omega (arith, tick_same m)
+
+  pub h_loose : (p : Store) → p ≡ edged → IsLoose p h
+  h_loose p e = subst (λ (t : Store). IsLoose t h) (sym (e ∙ edged_is)) (record {
+    there = loops.there h h_all;
+    nowhere = two.nowhere N r l (face_of M r) (face_of M l) all loops C D fits_one h h_all (omega (arith, no_h r, no_h l));
+    alone = ring_is (state C D loose) h (pair_singles h m hm) (get_first h m hm);
+  })
+
+  -- ---- the first corner
+
+  in_corner : (g : HalfEdge) (q : ℕ) → loop_of M (code g) ≡ q → has_half M (code g) ≡ true → IsIn (code g) (items_of (content M q))
+  in_corner g q e t = subst (λ k. IsIn (code g) (items_of (content M k))) e (cycle_there M sound (code g) t)
+
+  first_takes_at : (c : Corner) → corner_loop M c ≡ r → IsCorner M c → CanTake (state C D loose).model c
+  first_takes_at (At g) e t = two.standing_r N r l (face_of M r) (face_of M l) all loops C D fits_one (code g) (in_corner g r e t)
+  first_takes_at (Lone k) e t = (
+    ap (λ q. table.has (state C D loose).model.loops q) e ∙ ap is_some (two.get_r N r l (face_of M r) (face_of M l) all loops N.loops (record { face = face_of M r; content = C }) (record { face = face_of M l; content = D })),
+    ap (λ q. items_of (content (state C D loose).model q)) e ∙ ap items_of (two.content_r N r l (face_of M r) (face_of M l) all loops C D) ∙ none_in_lone C (ap (λ q. is_lone (content M q)) (sym e) ∙ t.1),
+  )
+
+  pub first_takes : (p : Store) → p ≡ edged → CanTake p.model first
+  first_takes p e = subst (λ (t : Store). CanTake t.model first) (sym (e ∙ edged_is)) (first_takes_at first refl first_there)
+
+  -- h and what the first corner's loop reads from there on
+  abbrev ys : List ℕ
+  ys = canonical (h ∷ Y)
+
+  key_h : loose_key (state C D loose) h ≡ h
+  key_h = key_is (state C D loose) h (pair_singles h m hm) (get_first h m hm)
+
+  put_first : (c : Corner) → corner_loop M c ≡ r → IsCorner M c → put_at (state C D loose) c h ≡ state (cycle (canonical (h ∷ corner_list M c))) D (table.remove loose h)
+  put_first (At g) e t =
+      two.put_before_r N r l (face_of M r) (face_of M l) all loops s.room C D loose fits_one (code g) h (in_corner g r e t)
+      ∙ ap (λ q. state (cycle (canonical (h ∷ rotate_to (code g) (items_of C)))) D (table.remove loose q)) key_h
+      ∙ ap (λ q. state (cycle (canonical (h ∷ rotate_to (code g) (items_of (content M q))))) D (table.remove loose h)) (sym e)
+  put_first (Lone k) e t =
+      two.fill_r N r l (face_of M r) (face_of M l) all loops s.room C D loose k h e
+      ∙ ap (λ q. state (cycle (loose_ring (state C D loose) h)) D (table.remove loose q)) key_h
+      ∙ ap (λ ring. state (cycle ring) D (table.remove loose h)) (ring_is (state C D loose) h (pair_singles h m hm) (get_first h m hm) ∙ sym (canonical_one h))
+
+  first_is : first_in ≡ state (cycle ys) D (table.remove loose h)
+  first_is = ap (λ t. put_at t first h) edged_is ∙ put_first first refl first_there
+
+  count_ys : (x : ℕ) → count x ys ≡ tick x h + count x (items_of C)
+  count_ys x = count-canonical x (h ∷ Y) ∙ omega (arith, count_C x)
+
+  fits_two : Fits (cycle ys) D
+  fits_two x = omega (arith, count_all x, count_ys x)
+
+  pub m_loose : (p : Store) (n : ℕ) → n ≡ m → p ≡ first_in → IsLoose p n
+  m_loose p n en e = subst (IsLoose p) (sym en) (subst (λ (t : Store). IsLoose t m) (sym (e ∙ first_is)) (record {
+    there = loops.there m m_all;
+    nowhere = two.nowhere N r l (face_of M r) (face_of M l) all loops (cycle ys) D fits_two m m_all (omega (arith, no_m r, no_m l, count_ys m, m_h));
+    alone = ring_is (state (cycle ys) D (table.remove loose h)) m (singles_remove loose h (pair_singles h m hm)) (left_second h m hm);
+  }))
+
+  -- ---- the second corner
+
+  abbrev left : Table (List ℕ)
+  left = table.remove loose h
+
+  second_takes_at : (c : Corner) → corner_loop M c ≡ l → IsCorner M c → CanTake (state (cycle ys) D left).model c
+  second_takes_at (At g) e t = two.standing_l N r l (face_of M r) (face_of M l) all loops (cycle ys) D fits_two (code g) (in_corner g l e t)
+  second_takes_at (Lone k) e t = (
+    ap (λ q. table.has (state (cycle ys) D left).model.loops q) e ∙ ap is_some (two.get_l N r l (face_of M r) (face_of M l) all loops N.loops (record { face = face_of M r; content = cycle ys }) (record { face = face_of M l; content = D })),
+    ap (λ q. items_of (content (state (cycle ys) D left).model q)) e ∙ ap items_of (two.content_l N r l (face_of M r) (face_of M l) all loops (cycle ys) D) ∙ none_in_lone D (ap (λ q. is_lone (content M q)) (sym e) ∙ t.1),
+  )
+
+  pub second_takes : (p : Store) → p ≡ first_in → CanTake p.model second
+  second_takes p e = subst (λ (t : Store). CanTake t.model second) (sym (e ∙ first_is)) (second_takes_at second refl second_there)
+
+  abbrev xs : List ℕ
+  xs = canonical (m ∷ X)
+
+  left_singles : AreSingles left
+  left_singles = singles_remove loose h (pair_singles h m hm)
+
+  key_m : loose_key (state (cycle ys) D left) m ≡ m
+  key_m = key_is (state (cycle ys) D left) m left_singles (left_second h m hm)
+
+  put_second : (c : Corner) → corner_loop M c ≡ l → IsCorner M c → put_at (state (cycle ys) D left) c m ≡ state (cycle ys) (cycle (canonical (m ∷ corner_list M c))) (table.remove left m)
+  put_second (At g) e t =
+      two.put_before_l N r l (face_of M r) (face_of M l) all loops s.room (cycle ys) D left fits_two (code g) m (in_corner g l e t)
+      ∙ ap (λ q. state (cycle ys) (cycle (canonical (m ∷ rotate_to (code g) (items_of D)))) (table.remove left q)) key_m
+      ∙ ap (λ q. state (cycle ys) (cycle (canonical (m ∷ rotate_to (code g) (items_of (content M q))))) (table.remove left m)) (sym e)
+  put_second (Lone k) e t =
+      two.fill_l N r l (face_of M r) (face_of M l) all loops s.room (cycle ys) D left k m e
+      ∙ ap (λ q. state (cycle ys) (cycle (loose_ring (state (cycle ys) D left) m)) (table.remove left q)) key_m
+      ∙ ap (λ ring. state (cycle ys) (cycle ring) (table.remove left m)) (ring_is (state (cycle ys) D left) m left_singles (left_second h m hm) ∙ sym (canonical_one m))
+
+  second_is : second_in ≡ state (cycle ys) (cycle xs) table.empty
+  second_is = ap (λ t. put_at t second m) first_is ∙ put_second second refl second_there ∙ ap (state (cycle ys) (cycle xs)) (pair_gone h m hm)
+
+  count_xs : (x : ℕ) → count x xs ≡ tick x m + count x (items_of D)
+  count_xs x = count-canonical x (m ∷ X) ∙ omega (arith, count_D x)
+
+  fits_three : Fits (cycle ys) (cycle xs)
+  fits_three x = omega (arith, count_all x, count_ys x, count_xs x)
+
+  h_in : IsIn h ys
+  h_in = omega (arith, count_ys h, tick_same h)
+
+  m_in : IsIn m xs
+  m_in = omega (arith, count_xs m, tick_same m)
+
+  -- ---- the join
+
+  pub h_stands : (p : Store) → p ≡ second_in → IsStanding p.model h
+  h_stands p e = subst (λ (t : Store). IsStanding t.model h) (sym (e ∙ second_is))
+      (two.standing_r N r l (face_of M r) (face_of M l) all loops (cycle ys) (cycle xs) fits_three h h_in)
+
+  pub m_stands : (p : Store) (n : ℕ) → n ≡ m → p ≡ second_in → IsStanding p.model n
+  m_stands p n en e = subst (IsStanding p.model) (sym en) (subst (λ (t : Store). IsStanding t.model m) (sym (e ∙ second_is))
+      (two.standing_l N r l (face_of M r) (face_of M l) all loops (cycle ys) (cycle xs) fits_three m m_in))
+
+  apart_second : loop_of second_in.model m ≢ loop_of second_in.model h
+  apart_second = subst (λ (t : Store). loop_of t.model m ≢ loop_of t.model h) (sym second_is)
+      (λ e. r_l (sym (two.loop_r N r l (face_of M r) (face_of M l) all loops (cycle ys) (cycle xs) fits_three h h_in) ∙ sym e
+      ∙ two.loop_l N r l (face_of M r) (face_of M l) all loops (cycle ys) (cycle xs) fits_three m m_in))
+
+  pub loops_apart : (p : Store) (n : ℕ) → n ≡ m → p ≡ second_in → loop_of p.model n ≢ loop_of p.model h
+  loops_apart p n en e = subst (λ k. loop_of p.model k ≢ loop_of p.model h) (sym en) (subst (λ (t : Store). loop_of t.model m ≢ loop_of t.model h) (sym e) apart_second)
+
+  abbrev whole : List ℕ
+  whole = canonical ((h ∷ X) ++ m ∷ Y)
+
+  ring_is_whole : joined h m ys xs ≡ whole
+  ring_is_whole = (λ i. canonical ((h ∷ rest_canonical m X apart_X i) ++ m ∷ rest_canonical h Y apart_Y i)) where
+    apart_X : IsApart (m ∷ X)
+    apart_X = apart_front m X (sym (count_D m) ∙ no_m l) goes.second.apart
+
+    apart_Y : IsApart (h ∷ Y)
+    apart_Y = apart_front h Y (sym (count_C h) ∙ no_h r) goes.first.apart
+
+  one_is : one ≡ state (cycle whole) (cycle []) table.empty
+  one_is = ap (λ t. join t h m) second_is
+      ∙ two.join_parts N r l (face_of M r) (face_of M l) all loops s.room ys xs table.empty fits_three h m h_in m_in
+      ∙ ap (λ ring. state (cycle ring) (cycle []) table.empty) ring_is_whole
+
+  -- ---- the loop that goes
+
+  pub ring_there : (p : Store) (n : ℕ) → n ≡ l → p ≡ one → table.has p.model.loops n ≡ true
+  ring_there p n en e = ap (table.has p.model.loops) en ∙ ap (λ (t : Store). table.has t.model.loops l) (e ∙ one_is)
+      ∙ ap is_some (two.get_l N r l (face_of M r) (face_of M l) all loops N.loops (record { face = face_of M r; content = cycle whole }) (record { face = face_of M l; content = cycle [] }))
+
+  pub ring_bare : (p : Store) (n : ℕ) → n ≡ l → p ≡ one → items_of (content p.model n) ≡ []
+  ring_bare p n en e = ap (λ q. items_of (content p.model q)) en ∙ ap (λ (t : Store). items_of (content t.model l)) (e ∙ one_is)
+      ∙ ap items_of (two.content_l N r l (face_of M r) (face_of M l) all loops (cycle whole) (cycle []))
+
+  -- together they are mekr
+  made_is : made ≡ record s { model = mekr M first second h }
+  unfolding mekr
+  made_is = ap (λ t. take_loop t l) one_is
+      ∙ ap (λ t. record { model = record N { loops = t }; loose = table.empty; room = s.room }) (remove-put_same (table.put M.loops r (record { face = face_of M r; content = cycle whole })) l (record { face = face_of M l; content = cycle [] }))
+      ∙ ap (λ z. record { model = record N { loops = table.remove (table.put M.loops r (record { face = face_of M r; content = cycle whole })) l }; loose = z; room = s.room }) (sym bare)
+
+  pub was_made : (p q : Store) (n : ℕ) → n ≡ l → p ≡ one → q ≡ take_loop p n → q ≡ after s (Mekr first second half)
+  unfolding effect
+  was_made p q n en ep d = d ∙ ap (take_loop p) en ∙ ap (λ t. take_loop t l) ep ∙ made_is

@@ -1,0 +1,138 @@
+-- Two loops of a sound model, also with a new edge whose half-edges are loose.
+use Rattle.std.proofs.Common.{◌≡◌, ◌≢◌, ℕ, ◌+◌, true, cond, List, ◌∷◌, ◌++◌, Some, None, is_some, refl, sym, ap, ◌∙◌, subst, arith, inl, inr, true≢false}
+use Rattle.std.proofs.lemmas.Bool.Decides.{nat_tests, eqb_tells}
+use Rattle.cyclic_list.specs.Items.{count, IsIn, IsApart}
+use Rattle.cyclic_list.proofs.Lists.{count-append, tick_other, IsIn_or_not}
+use Rattle.cyclic_list.proofs.Operators.{apart_front}
+use Rattle.boundary_model.specs.HalfEdge.{mate, edge_of}
+use Rattle.boundary_model.specs.Table as table
+use Rattle.boundary_model.specs.Table.{Table, tables}
+use Rattle.boundary_model.specs.Model.{Model, EdgeRow, items_of, content, is_number}
+use Rattle.boundary_model.specs.Sound.{Sound, HasHalf, StandsIn}
+use Rattle.boundary_model.proofs.Halves.{mate_other, edge_of-mate}
+use Rattle.boundary_model.proofs.Models.{in-holds, cycle_sound}
+use Rattle.low_euler.proofs.loop_steps_laws.TwoLoops.{TwoLoops}
+
+pub number_real : (n : ℕ) → is_number n ≡ true → n ≢ 0
+number_real n e z = true≢false (sym e ∙ ap is_number z)
+
+module _ (M : Model) (sound : Sound M) where
+  abbrev hs : ℕ → List ℕ
+  hs q = items_of (content M q)
+
+  stands : (x q : ℕ) → IsIn x (hs q) → StandsIn M x q
+  stands x q i = in-holds x (content M q) i
+
+  pub half_there : (x q : ℕ) → IsIn x (hs q) → HasHalf M x
+  half_there x q i = sound.only_edges x q (stands x q i)
+
+  pub apart_items : (q : ℕ) → IsApart (hs q)
+  apart_items q x = elim (IsIn_or_not x (hs q)) [
+    | inl i ↦ subst (λ l. IsApart (hs l)) (sound.one_loop x q (stands x q i)) (cycle_sound M sound x (half_there x q i)).apart x
+    | inr n ↦ omega (arith, n)
+  ]
+
+  pub in_one : (x p q : ℕ) → IsIn x (hs p) → IsIn x (hs q) → p ≡ q
+  in_one x p q i j = sym (sound.one_loop x p (stands x p i)) ∙ sound.one_loop x q (stands x q j)
+
+  -- a half-edge whose edge isn't there stands nowhere
+  pub free_nowhere : (x : ℕ) → table.get M.edges (edge_of x) ≡ None → (q : ℕ) → count x (hs q) ≡ 0
+  free_nowhere x free q = elim (IsIn_or_not x (hs q)) [
+    | inl i ↦ absurd (true≢false (sym (half_there x q i) ∙ ap is_some free))
+    | inr n ↦ n
+  ]
+
+  module _ (r l : ℕ) (apart : r ≢ l) (first : r ≢ 0) (second : l ≢ 0) where
+    abbrev pub shared : List ℕ
+    shared = hs r ++ hs l
+
+    pub count_shared : (x : ℕ) → count x shared ≡ count x (hs r) + count x (hs l)
+    count_shared x = count-append x (hs r) (hs l)
+
+    once_shared : IsApart shared
+    once_shared x = elim (IsIn_or_not x (hs r)) [
+      | inl i ↦ elim (IsIn_or_not x (hs l)) [
+        | inl j ↦ absurd (apart (in_one x r l i j))
+        | inr n ↦ omega (arith, count_shared x, n, apart_items r x)
+      ]
+      | inr n ↦ omega (arith, count_shared x, n, apart_items l x)
+    ]
+
+    where_shared : (x : ℕ) → IsIn x shared → (q : ℕ) × IsIn x (hs q) × ((p : ℕ) → p ≢ r → p ≢ l → q ≢ p)
+    where_shared x i = elim (IsIn_or_not x (hs r)) [
+      | inl j ↦ (r, j, λ p a b e. a (sym e))
+      | inr n ↦ (l, omega (arith, count_shared x, n, i), λ p a b e. b (sym e))
+    ]
+
+    pub sound_loops : TwoLoops M r l shared
+    sound_loops = record {
+      apart = apart;
+      first_real = first;
+      second_real = second;
+      once = once_shared;
+      there = λ x i. let w = where_shared x i in half_there x w.0 w.1;
+      others = λ x q i a b. let w = where_shared x i in elim (IsIn_or_not x (hs q)) [
+        | inl j ↦ absurd (w.2 q a b (in_one x w.0 q w.1 j))
+        | inr n ↦ n
+      ];
+    }
+
+    -- with a new edge
+    module _ (h : ℕ) (row : EdgeRow) (free : table.get M.edges (edge_of h) ≡ None) where
+      abbrev pub N : Model
+      N = record M { edges = table.put M.edges (edge_of h) row }
+
+      abbrev m : ℕ
+      m = mate h
+
+      row_there : table.get N.edges (edge_of h) ≡ Some row
+      row_there = grind (arith, nat_tests, tables)
+
+      half_N : (x : ℕ) → HasHalf M x → HasHalf N x
+      half_N x t = elim (eqb_tells (edge_of x) (edge_of h)) [
+        | inl e ↦ ap is_some (ap (table.get N.edges) e.1 ∙ row_there)
+        | inr e ↦ ap is_some (table.get-put M.edges (edge_of h) row (edge_of x) ∙ ap (λ b. cond b (Some row) (table.get M.edges (edge_of x))) e.0) ∙ t
+      ]
+
+      pub half_h : HasHalf N h
+      half_h = ap is_some row_there
+
+      pub half_m : HasHalf N m
+      half_m = ap is_some (ap (table.get N.edges) (edge_of-mate h) ∙ row_there)
+
+      pub none_h : (q : ℕ) → count h (hs q) ≡ 0
+      none_h = free_nowhere h free
+
+      pub none_m : (q : ℕ) → count m (hs q) ≡ 0
+      none_m = free_nowhere m (ap (table.get M.edges) (edge_of-mate h) ∙ free)
+
+      abbrev pub with_both : List ℕ
+      with_both = h ∷ m ∷ shared
+
+      once_both : IsApart with_both
+      once_both = apart_front h (m ∷ shared) (omega (arith, tick_other h m (mate_other h), count_shared h, none_h r, none_h l))
+          (apart_front m shared (omega (arith, count_shared m, none_m r, none_m l)) once_shared)
+
+      content_N : (q : ℕ) → content N q ≡ content M q
+      unfolding content
+      content_N q = refl
+
+      which : (P : ℕ → Type 0) → P h → P m → ((x : ℕ) → IsIn x shared → P x) → (x : ℕ) → IsIn x with_both → P x
+      which P a b each x i = elim (eqb_tells x h) [
+        | inl e ↦ subst P (sym e.1) a
+        | inr e ↦ elim (eqb_tells x m) [
+          | inl f ↦ subst P (sym f.1) b
+          | inr f ↦ each x (omega (arith, i, tick_other x h e.1, tick_other x m f.1))
+        ]
+      ]
+
+      pub edged_loops : TwoLoops N r l with_both
+      edged_loops = record {
+        apart = apart;
+        first_real = first;
+        second_real = second;
+        once = once_both;
+        there = which (HasHalf N) half_h half_m (λ x i. half_N x (sound_loops.there x i));
+        others = λ x q i a b. ap (λ c. count x (items_of c)) (content_N q)
+            ∙ which (λ y. count y (hs q) ≡ 0) (none_h q) (none_m q) (λ y j. sound_loops.others y q j a b) x i;
+      }

@@ -1,0 +1,220 @@
+-- What the arena's writers make of a store, where an edge is made and where one half-edge goes into a loop or leaves one.
+use Rattle.std.proofs.Common.{◌≡◌, ◌≢◌, ℕ, Bool, true, false, cond, nat_eq, List, [], ◌∷◌, Some, is_some, refl, sym, ap, ◌∙◌, arith, ◌⊎◌, inl, inr, ◌&&◌, true≢false}
+use mathlib.Core.Bool.{beq}
+use Rattle.std.proofs.lemmas.Bool.Decides.{nat_tests, eqb_tells}
+use Rattle.cyclic_list.specs.Items.{count, IsIn}
+use Rattle.cyclic_list.specs.Rings.{canonical, rest, cut_left, cut_right, joined}
+use Rattle.cyclic_list.specs.Operators.{put_ring, take_ring}
+use Rattle.boundary_model.specs.HalfEdge.{mate, edge_of, is_first, plus, minus, code, half}
+use Rattle.boundary_model.specs.declared.HalfEdge.{HalfEdge}
+use Rattle.boundary_model.specs.Table as table
+use Rattle.boundary_model.specs.Table.{Table, tables, same_table}
+use Rattle.boundary_model.specs.Model.{Model, EdgeRow, lone, cycle, holds, items_of, content, face_of, loop_of, cycle_of, before, tail}
+use Rattle.boundary_model.proofs.Halves.{mate_cases, plus_row, minus_row, half-code}
+use Rattle.boundary_model.proofs.Tables.{first_where_zero}
+use Rattle.boundary_model.proofs.Models.{content_row, face_row, holds-none, holds_in, held_row}
+use Rattle.euler_operators.specs.Effect.{edge_row, cycle_or_lone}
+use Rattle.euler_laws.proofs.shared.Goes.{equals}
+use Rattle.halfedge_arena.specs.Store as store
+use Rattle.halfedge_arena.specs.Store.{Store, with_loop, with_lone, loosened, loose_key, loose_ring, join, join_loose, join_loops, cut, cut_loose, clear}
+use Rattle.low_euler.specs.loop_steps.Steps.{IsStanding, IsLoose, with_edge, put_before, take_out}
+use Rattle.low_euler.proofs.loop_steps_laws.RingSteps.{joined_before, cut_keeps, cut_takes, follows, nothing_follows, alone_list}
+
+pub put_again : {X : Type 0} (t : Table X) (n : ℕ) (x y : X) → table.put (table.put t n x) n y ≡ table.put t n y
+put_again t n x y = same_table _ _ (λ q. grind (arith, nat_tests, tables))
+
+pub put_apart : {X : Type 0} (t : Table X) (n k : ℕ) (x y : X) → n ≢ k → table.put (table.put t n x) k y ≡ table.put (table.put t k y) n x
+put_apart t n k x y ne = same_table _ _ (λ q. grind (arith, nat_tests, tables))
+
+pub remove-put_same : {X : Type 0} (t : Table X) (n : ℕ) (x : X) → table.remove (table.put t n x) n ≡ table.remove t n
+remove-put_same t n x = same_table _ _ (λ q. grind (arith, nat_tests, tables))
+
+-- ---- tests of half-edges
+
+same_bool : (b : Bool) → beq b b ≡ true
+same_bool true = refl
+same_bool false = refl
+
+itself : (h : HalfEdge) → (nat_eq h.edge h.edge && beq h.first h.first) ≡ true
+itself h = λ i. equals h.edge h.edge refl i && same_bool h.first i
+
+pub differ_codes : (a b : HalfEdge) → (nat_eq a.edge b.edge && beq a.first b.first) ≡ false → code a ≢ code b
+differ_codes a b t e =
+    let q : a ≡ b = sym (half-code a) ∙ ap half e ∙ half-code b in
+    true≢false (sym (itself b) ∙ sym (ap (λ h. nat_eq h.edge b.edge && beq h.first b.first) q) ∙ t)
+
+pub same_codes : (a b : HalfEdge) → (nat_eq a.edge b.edge && beq a.first b.first) ≡ true → code a ≡ code b
+same_codes a b t = go a.edge b.edge a.first b.first (eqb_tells a.edge b.edge) t where
+  go : (m n : ℕ) (x y : Bool) → ((nat_eq m n ≡ true) × (m ≡ n)) ⊎ ((nat_eq m n ≡ false) × (m ≢ n)) → (nat_eq m n && beq x y) ≡ true → code (record { edge = m; first = x }) ≡ code (record { edge = n; first = y })
+  go m n x y (inr a) f = absurd (true≢false (sym f ∙ ap (λ q. q && beq x y) a.0))
+  go m n true true (inl a) f = ap (λ q. code (record { edge = q; first = true })) a.1
+  go m n false false (inl a) f = ap (λ q. code (record { edge = q; first = false })) a.1
+  go m n true false (inl a) f = absurd (true≢false (sym f ∙ ap (λ q. q && false) a.0))
+  go m n false true (inl a) f = absurd (true≢false (sym f ∙ ap (λ q. q && false) a.0))
+
+-- ---- a new edge
+
+abbrev as_edge : Store → ℕ → ℕ → ℕ → EdgeRow → Store
+as_edge s h m n row = record s {
+  model = record s.model { edges = table.put s.model.edges n row };
+  loose = table.put (table.put s.loose h (h ∷ [])) m (m ∷ []);
+}
+
+with_edge_is : (s : Store) (h m n a b : ℕ) (f : Bool) → mate h ≡ m → edge_of h ≡ n → is_first h ≡ f →
+    with_edge s h a b ≡ as_edge s h m n (cond f (record { plus_tail = a; minus_tail = b }) (record { plus_tail = b; minus_tail = a }))
+unfolding with_edge
+with_edge_is s h m n a b f e g i =
+    ap (λ q. as_edge s h q (edge_of h) (edge_row h a b)) e
+    ∙ ap (λ q. as_edge s h m q (edge_row h a b)) g
+    ∙ ap (λ q. as_edge s h m n (cond q (record { plus_tail = a; minus_tail = b }) (record { plus_tail = b; minus_tail = a }))) i
+
+mate-plus : (e : ℕ) → mate (plus e) ≡ minus e
+mate-plus e = elim (mate_cases (plus e)) [ inl p ↦ omega arith | inr p ↦ omega arith ]
+
+mate-minus : (e : ℕ) → mate (minus e) ≡ plus e
+mate-minus e = elim (mate_cases (minus e)) [ inl p ↦ omega arith | inr p ↦ omega arith ]
+
+code_first : (h : HalfEdge) → h.first ≡ true → code h ≡ plus h.edge
+unfolding code
+code_first h e = ap (λ b. cond b (plus h.edge) (minus h.edge)) e
+
+code_second : (h : HalfEdge) → h.first ≡ false → code h ≡ minus h.edge
+unfolding code
+code_second h e = ap (λ b. cond b (plus h.edge) (minus h.edge)) e
+
+pub put_edge_first : (s : Store) (h : HalfEdge) (a b : ℕ) → h.first ≡ true → store.put_edge s h.edge a b ≡ with_edge s (code h) a b
+unfolding store.put_edge
+put_edge_first s h a b e = sym (ap (λ q. with_edge s q a b) (code_first h e)
+    ∙ with_edge_is s (plus h.edge) (minus h.edge) h.edge a b true (mate-plus h.edge) (plus_row h.edge).0 (plus_row h.edge).1)
+
+pub put_edge_second : (s : Store) (h : HalfEdge) (a b : ℕ) → h.first ≡ false → store.put_edge s h.edge b a ≡ with_edge s (code h) a b
+unfolding store.put_edge
+put_edge_second s h a b e =
+    let ne : plus h.edge ≢ minus h.edge = omega arith in
+    sym (ap (λ q. with_edge s q a b) (code_second h e)
+    ∙ with_edge_is s (minus h.edge) (plus h.edge) h.edge a b false (mate-minus h.edge) (minus_row h.edge).0 (minus_row h.edge).1
+    ∙ ap (λ t. record s { model = record s.model { edges = table.put s.model.edges h.edge (record { plus_tail = b; minus_tail = a }) }; loose = t })
+    (sym (put_apart s.loose (plus h.edge) (minus h.edge) (plus h.edge ∷ []) (minus h.edge ∷ []) ne)))
+
+-- ---- half-edges that go in and out
+
+-- a half-edge that stands in no loop
+pub no_loop_of : (M : Model) (h : ℕ) → ((l : ℕ) → count h (items_of (content M l)) ≡ 0) → loop_of M h ≡ 0
+unfolding loop_of
+no_loop_of M h none = first_where_zero (λ _ row. holds h row.content) M.loops
+    (λ q row at. holds-none h row.content (ap (λ c. count h (items_of c)) (sym (content_row M q row at)) ∙ none q))
+
+module _ (s : Store) (g : ℕ) (stands : IsStanding s.model g) where
+  abbrev M : Model
+  M = s.model
+
+  abbrev r : ℕ
+  r = loop_of M g
+
+  abbrev xs : List ℕ
+  xs = cycle_of M g
+
+  abbrev p : ℕ
+  p = before M g
+
+  g_in : IsIn g xs
+  g_in = holds_in g (content M r) stands.stands
+
+  -- the half-edge before g stands in g's loop
+  pub before_looped : loop_of M p ≢ 0
+  before_looped e = stands.looped (sym stands.before_near ∙ e)
+
+  -- a join after the half-edge before g
+  module _ (h : ℕ) (loose : IsLoose s h) where
+    abbrev as_join : ℕ → List ℕ → Store
+    as_join l ys = record s { model = with_loop M l (cycle ys); loose = table.remove s.loose (loose_key s h) }
+
+    ring_put : joined p h xs (h ∷ []) ≡ put_ring h g xs
+    unfolding before
+    ring_put = joined_before xs stands.apart g g_in h (loose.nowhere r)
+
+    pub loops_apart : loop_of M h ≢ loop_of M p
+    loops_apart e = before_looped (sym e ∙ no_loop_of M h loose.nowhere)
+
+    pub join_puts : join s p h ≡ put_before s g h
+    unfolding join_loose put_before
+    join_puts =
+        ap (λ b. cond b (join_loose s p h) (join_loops s p h)) (equals (loop_of M h) 0 (no_loop_of M h loose.nowhere))
+        ∙ ap (λ l. as_join l (joined p h (items_of (content M l)) (loose_ring s h))) stands.before_near
+        ∙ ap (λ ring. as_join r (joined p h xs ring)) loose.alone
+        ∙ ap (as_join r) ring_put
+
+  -- a cut after the half-edge before g
+  module _ (ne : p ≢ g) where
+    abbrev as_cut : ℕ → List ℕ → List ℕ → Store
+    as_cut l ys ring = record s { model = with_loop M l (cycle ys); loose = loosened ring s.loose }
+
+    ring_keeps : cut_left p g xs ≡ take_ring g xs
+    unfolding before
+    ring_keeps = cut_keeps xs stands.apart g g_in ne
+
+    ring_takes : cut_right p g xs ≡ g ∷ []
+    unfolding before
+    ring_takes = cut_takes xs stands.apart g g_in ne
+
+    some_follow : rest g xs ≢ []
+    unfolding before
+    some_follow = follows xs stands.apart g g_in ne
+
+    filled : (ys : List ℕ) (v : ℕ) → ys ≢ [] → cycle_or_lone ys v ≡ cycle (canonical ys)
+    filled [] v e = absurd (e refl)
+    filled (y ∷ ys) v e = refl
+
+    pub cut_takes_out : cut s p g 0 ≡ take_out s g
+    unfolding cut_loose take_out
+    cut_takes_out =
+        ap (λ l. as_cut l (cut_left p g (items_of (content M l))) (cut_right p g (items_of (content M l)))) stands.before_near
+        ∙ ap (λ ring. as_cut r (cut_left p g xs) ring) ring_takes
+        ∙ ap (λ ys. as_cut r ys (g ∷ [])) ring_keeps
+        ∙ ap (λ c. record s { model = with_loop M r c; loose = table.put s.loose g (g ∷ []) }) (sym (filled (rest g xs) (tail M g) some_follow))
+
+  -- where g is alone in its loop, the loop cleared and made lone
+  module _ (e : p ≡ g) where
+    none_follow : rest g xs ≡ []
+    unfolding before
+    none_follow = nothing_follows xs stands.apart g g_in e
+
+    face_again : face_of (with_loop M r (cycle [])) r ≡ face_of M r
+    face_again = face_row (with_loop M r (cycle [])) r (record { face = face_of M r; content = cycle [] })
+        (table.get-put M.loops r (record { face = face_of M r; content = cycle [] }) r ∙ ap (λ b. cond b (Some (record { face = face_of M r; content = cycle [] })) (table.get M.loops r)) (equals r r refl))
+
+    one_item : xs ≡ g ∷ []
+    one_item = alone_list (cycle_of M g) stands.apart g g_in none_follow
+
+    row_there : table.has M.loops r ≡ true
+    row_there = ap is_some (held_row M g r stands.stands)
+
+    still_there : table.has (clear s r).model.loops r ≡ true
+    unfolding clear
+    still_there = let t : table.get (table.put M.loops r (record { face = face_of M r; content = cycle [] })) r ≡ Some (record { face = face_of M r; content = cycle [] }) = grind (arith, nat_tests, tables) in ap is_some t
+
+    now_bare : items_of (content (clear s r).model r) ≡ []
+    unfolding clear
+    now_bare = ap items_of (content_row (with_loop M r (cycle [])) r (record { face = face_of M r; content = cycle [] })
+        (table.get-put M.loops r (record { face = face_of M r; content = cycle [] }) r ∙ ap (λ b. cond b (Some (record { face = face_of M r; content = cycle [] })) (table.get M.loops r)) (equals r r refl)))
+
+    clear_takes_out : with_lone (clear s r) r (tail M g) ≡ take_out s g
+    unfolding clear take_out
+    clear_takes_out =
+        ap (λ f. record s { model = record M { loops = table.put (table.put M.loops r (record { face = face_of M r; content = cycle [] })) r (record { face = f; content = lone (tail M g) }) }; loose = loosened xs s.loose }) face_again
+        ∙ ap (λ t. record s { model = record M { loops = t }; loose = loosened xs s.loose }) (put_again M.loops r (record { face = face_of M r; content = cycle [] }) (record { face = face_of M r; content = lone (tail M g) }))
+        ∙ ap (λ ring. record s { model = with_loop M r (lone (tail M g)); loose = loosened ring s.loose }) one_item
+        ∙ ap (λ ys. record s { model = with_loop M r (cycle_or_lone ys (tail M g)); loose = table.put s.loose g (g ∷ []) }) (sym none_follow)
+
+    -- what the clearing and the setting ask, and what they leave
+    pub emptied_there : (n : ℕ) → n ≡ r → table.has M.loops n ≡ true
+    emptied_there n en = ap (table.has M.loops) en ∙ row_there
+
+    pub cleared_there : (q : Store) (n : ℕ) → n ≡ r → q ≡ clear s n → table.has q.model.loops n ≡ true
+    cleared_there q n en d = ap (λ (t : Store). table.has t.model.loops n) d ∙ ap (λ l. table.has (clear s l).model.loops l) en ∙ still_there
+
+    pub cleared_bare : (q : Store) (n : ℕ) → n ≡ r → q ≡ clear s n → items_of (content q.model n) ≡ []
+    cleared_bare q n en d = ap (λ (t : Store). items_of (content t.model n)) d ∙ ap (λ l. items_of (content (clear s l).model l)) en ∙ now_bare
+
+    pub was_emptied : (q t : Store) (n v : ℕ) → n ≡ r → v ≡ tail M g → q ≡ clear s n → t ≡ with_lone q n v → t ≡ take_out s g
+    was_emptied q t n v en ev d f = f ∙ ap (λ z. with_lone z n v) d ∙ ap (λ l. with_lone (clear s l) l v) en ∙ ap (with_lone (clear s r) r) ev ∙ clear_takes_out

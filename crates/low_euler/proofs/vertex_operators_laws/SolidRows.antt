@@ -1,0 +1,98 @@
+-- A solid with one face and one vertex, made and killed by the writers of an arena.
+use Rattle.std.proofs.Common.{◌≡◌, ℕ, true, false, List, [], ◌∷◌, Some, None, is_some, unwrap_or, refl, sym, ap, subst, ◌∙◌, true≢false}
+use Rattle.lattice.specs.declared.Point.{Point}
+use Rattle.lattice.specs.Point.{IsInRange}
+use Rattle.boundary_model.specs.Table as table
+use Rattle.boundary_model.specs.Table.{Table, tables, same_table}
+use Rattle.boundary_model.specs.Model.{Model, LoopRow, lone, cycle, items_of, no_loop, outer, face_of, faces_of, content}
+use Rattle.euler_operators.specs.declared.Op.TheVariants.{Mvfs, Kvfs}
+use Rattle.euler_operators.specs.Conditions.{first_false, conditions, bare_face, is_lone, lone_vertex}
+use Rattle.euler_operators.specs.Effect.{effect, mvfs, kvfs_at, head_or_zero}
+use Rattle.euler_laws.proofs.shared.Goes.{all_hold, not_true}
+use Rattle.euler_laws.proofs.faces.Solids.{KvfsGoes, kvfs_goes}
+use Rattle.euler_conditions.specs.Store.{Store, put_vertex, put_solid, put_face, put_loop, with_lone, only_item, take_solid, take_face, take_loop, take_vertex}
+use Rattle.low_euler.proofs.vertex_operators_laws.PutRows.{put_twice, put_row}
+use Rattle.euler_conditions.specs.Ready.{Accepts, after}
+
+module _ (M : Model) (s f l v : ℕ) (p : Point) (holds : first_false M (Mvfs s f l v p) ≡ None) where
+  pub mvfs_loop_free : table.has M.loops l ≡ false
+  unfolding first_false conditions
+  mvfs_loop_free = let w = all_hold (conditions M (Mvfs s f l v p)) holds in not_true _ w.1.1.1.1.1.1.0
+
+  pub mvfs_face_free : table.has M.faces f ≡ false
+  unfolding first_false conditions
+  mvfs_face_free = let w = all_hold (conditions M (Mvfs s f l v p)) holds in not_true _ w.1.1.1.1.1.0
+
+  pub mvfs_point : IsInRange p
+  unfolding first_false conditions
+  mvfs_point = let w = all_hold (conditions M (Mvfs s f l v p)) holds in w.1.1.1.1.1.1.1.1.0
+
+module _ (s : Store) (n f l v : ℕ) (p : Point) where
+  abbrev pub begun : Store
+  begun = put_face (put_solid (put_vertex s v p) n) f n l
+
+  pub new_loop_there : table.has (put_loop begun l f).model.loops l ≡ true
+  unfolding put_loop
+  new_loop_there = ap is_some (put_row s.model.loops l (record { face = f; content = cycle [] }))
+
+  pub new_loop_bare : items_of (content (put_loop begun l f).model l) ≡ []
+  unfolding put_loop content
+  new_loop_bare = ap (λ o. items_of (unwrap_or o no_loop).content) (put_row s.model.loops l (record { face = f; content = cycle [] }))
+
+  -- the writers make what mvfs makes
+  pub mvfs_made : with_lone (put_loop begun l f) l v ≡ after s (Mvfs n f l v p)
+  unfolding put_loop face_of effect mvfs
+  mvfs_made =
+      let t : Table LoopRow = table.put s.model.loops l (record { face = f; content = cycle [] }) in
+      let face : (unwrap_or (table.get t l) no_loop).face ≡ f = ap (λ o. (unwrap_or o no_loop).face) (put_row s.model.loops l (record { face = f; content = cycle [] })) in
+      ap (λ (q : Table LoopRow). record s { model = record s.model { solids = table.put s.model.solids n tt; faces = table.put s.model.faces f (record { solid = n; outer = l }); loops = q; vertices = table.put s.model.vertices v p } })
+      (ap (λ g. table.put t l (record { face = g; content = lone v })) face ∙ put_twice s.model.loops l (record { face = f; content = cycle [] }) (record { face = f; content = lone v }))
+
+-- ---- a solid that is killed
+
+only_is : (fs : List ℕ) (f : ℕ) → only_item fs ≡ Some f → fs ≡ f ∷ []
+only_is [] f e = absurd (true≢false (sym (ap is_some e)))
+only_is (g ∷ []) f e = ap (λ q. unwrap_or q 0 ∷ []) e
+only_is (g ∷ k ∷ fs) f e = absurd (true≢false (sym (ap is_some e)))
+
+bare_is_one : (M : Model) (fs : List ℕ) → bare_face M fs ≡ true → is_some (only_item fs) ≡ true
+bare_is_one M [] e = absurd (true≢false (sym e))
+bare_is_one M (f ∷ []) e = refl
+bare_is_one M (f ∷ g ∷ fs) e = absurd (true≢false (sym e))
+
+pub has_one_face : (M : Model) (n : ℕ) → first_false M (Kvfs n) ≡ None → is_some (only_item (faces_of M n)) ≡ true
+unfolding first_false conditions
+has_one_face M n e = let w = all_hold (conditions M (Kvfs n)) e in bare_is_one M (faces_of M n) w.1.1.0
+
+module _ (s : Store) (n f : ℕ) (ok : Accepts s (Kvfs n)) (is : only_item (faces_of s.model n) ≡ Some f) where
+  abbrev M : Model
+  M = s.model
+
+  faces_are : faces_of s.model n ≡ f ∷ []
+  faces_are = only_is (faces_of s.model n) f is
+
+  goes : KvfsGoes s.model n f
+  goes = subst (KvfsGoes s.model n) (ap head_or_zero faces_are) (kvfs_goes s.model n ok.holds)
+
+  pub face_there : table.has s.model.faces f ≡ true
+  face_there = goes.f_there
+
+  pub solid_there : table.has s.model.solids n ≡ true
+  solid_there = goes.s_there
+
+  pub outer_there : table.has s.model.loops (outer s.model f) ≡ true
+  outer_there = (ok.ready.sound.outers_there f goes.f_there).0
+
+  pub outer_lone : is_lone (content s.model (outer s.model f)) ≡ true
+  outer_lone = ap is_lone goes.is_bare
+
+  pub outer_bare : items_of (content s.model (outer s.model f)) ≡ []
+  outer_bare = ap items_of goes.is_bare
+
+  pub vertex_there : table.has s.model.vertices (lone_vertex (content s.model (outer s.model f))) ≡ true
+  vertex_there = ok.ready.sound.lone_at_vertex (outer s.model f) (lone_vertex (content s.model (outer s.model f))) goes.is_bare
+
+  -- the writers make what kvfs makes
+  pub kvfs_made : take_solid (take_face (take_loop (take_vertex s (lone_vertex (content s.model (outer s.model f)))) (outer s.model f)) f) n ≡ after s (Kvfs n)
+  unfolding effect kvfs_at
+  kvfs_made = ap (λ q. record s { model = kvfs_at M n q }) (sym (ap head_or_zero faces_are))

@@ -1,0 +1,41 @@
+//! Operators that move faces from one solid to another.
+ghost use Rattle.std.specs.Prelude.{◌≡◌, ℕ, true};
+ghost use Rattle.boundary_model.specs.Model.{faces_of};
+ghost use Rattle.euler_conditions.specs.Store.{has_number, has_room};
+ghost use Rattle.euler_operators.specs.Conditions.{lists};
+ghost use Rattle.euler_conditions.specs.Ready.{Accepts, after};
+ghost use Rattle.low_euler.specs.face_operators.Moving.{moved};
+
+use euler_conditions::{Arena, FaceList, Kind, Op};
+
+/// Gives each listed face to solid s.
+fn give_faces(arena: &mut Arena, faces: &FaceList, s: u32)
+    requires there { (f : ℕ) → lists faces.now f ≡ true → has_number arena.old Kind.Face f ≡ true }
+    requires room { has_room arena.old Kind.Solid s ≡ true }
+    ensures { arena.new ≡ moved arena.old faces.now s }
+{
+    'faces: for i in 0..faces.len() {
+        arena.set_solid(faces.get(i), s);
+    }
+}
+
+/// All faces of solid `gone` go to solid `kept`, and `gone` goes. `faces` lists the faces of `gone`, rising.
+pub(crate) fn merge(arena: &mut Arena, kept: u32, gone: u32, faces: &FaceList)
+    requires accepted { Accepts arena.old (Op.Merge kept gone) }
+    requires listed { faces.now ≡ faces_of arena.old.model gone }
+    ensures { arena.new ≡ after arena.old (Op.Merge kept gone) }
+{
+    // a number in use has its room
+    let _in_use = arena.has(Kind::Solid, kept);
+    give_faces(arena, faces, kept);
+    arena.take_solid(gone);
+}
+
+/// The listed faces of solid `kept` go to the new solid `made`.
+pub(crate) fn part(arena: &mut Arena, kept: u32, made: u32, faces: &FaceList)
+    requires { Accepts arena.old (Op.Part kept made faces.now) }
+    ensures { arena.new ≡ after arena.old (Op.Part kept made faces.now) }
+{
+    arena.put_solid(made);
+    give_faces(arena, faces, made);
+}

@@ -1,0 +1,51 @@
+//! Edges across a face: an edge that parts a face in two, and one that is killed with the face on its other side.
+ghost use Rattle.std.specs.Prelude.{◌≡◌};
+ghost use Rattle.euler_conditions.specs.Ready.{Accepts, after};
+
+use crate::loop_steps::{put_before, put_edge, take_out};
+use euler_conditions::{Arena, HalfEdge, Kind, Op};
+
+/// Makes an edge between two corners of one loop, which parts the loop's face. `half` starts at the first corner.
+/// What follows the first corner up to before the second, and then the mate of `half`, becomes the outer loop of the
+/// new face; the rest keeps its loop and its face. The cost is that of the new loop.
+pub(crate) fn mef(
+    arena: &mut Arena,
+    first: HalfEdge,
+    second: HalfEdge,
+    half: HalfEdge,
+    face: u32,
+    outer: u32,
+)
+    requires { Accepts arena.old (Op.Mef first second half face outer) }
+    ensures { arena.new ≡ after arena.old (Op.Mef first second half face outer) }
+{
+    let start = arena.tail(first);
+    let end = arena.tail(second);
+    let old_face = arena.face_of(arena.loop_of(first));
+    let solid = arena.solid_of(old_face);
+    prove!(arena.has(Kind::Solid, solid));
+    let mate = half.mate();
+    put_edge(arena, half, start, end);
+    arena.put_loop(outer, face);
+    put_before(arena, first, half);
+    put_before(arena, second, mate);
+    arena.cut(half, mate, outer);
+    arena.put_face(face, solid, outer);
+}
+
+/// Kills an edge between two faces, with the face of the edge's mate and the one loop of that face. What stands in that
+/// loop goes to the loop of `half`, in the edge's place. The cost is that of the loop that goes.
+pub(crate) fn kef(arena: &mut Arena, half: HalfEdge)
+    requires { Accepts arena.old (Op.Kef half) }
+    ensures { arena.new ≡ after arena.old (Op.Kef half) }
+{
+    let mate = half.mate();
+    let killed = arena.loop_of(mate);
+    let face = arena.face_of(killed);
+    arena.join(half, mate);
+    take_out(arena, mate);
+    take_out(arena, half);
+    arena.take_edge(half.edge);
+    arena.take_loop(killed);
+    arena.take_face(face);
+}

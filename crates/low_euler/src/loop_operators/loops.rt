@@ -1,0 +1,42 @@
+//! Edges between two loops of a face: one that is killed where it stands in one loop, which parts the loop in two, and
+//! one that is made between two loops, which become one.
+ghost use Rattle.std.specs.Prelude.{◌≡◌};
+ghost use Rattle.euler_conditions.specs.Ready.{Accepts, after};
+
+use crate::loop_steps::{loop_at, put_at, put_edge, tail_at, take_out};
+use euler_conditions::{Arena, Corner, HalfEdge, Kind, Op};
+
+/// Kills an edge that stands twice in one loop. What stands between the edge's mate and `half` keeps the loop; what
+/// stands between `half` and its mate becomes a new ring of the face. A part in which nothing stands becomes lone.
+/// The cost is that of the new ring.
+pub(crate) fn kemr(arena: &mut Arena, half: HalfEdge, ring: u32)
+    requires { Accepts arena.old (Op.Kemr half ring) }
+    ensures { arena.new ≡ after arena.old (Op.Kemr half ring) }
+{
+    let mate = half.mate();
+    let face = arena.face_of(arena.loop_of(half));
+    prove!(arena.has(Kind::Face, face));
+    arena.put_loop(ring, face);
+    arena.cut(half, mate, ring);
+    take_out(arena, half);
+    take_out(arena, mate);
+    arena.take_edge(half.edge);
+}
+
+/// Makes an edge between two corners of one face, of which the second stands in a ring. `half` starts at the first
+/// corner. The ring goes, and what stood in it stands in the first corner's loop, between `half` and its mate. The cost
+/// is that of the ring.
+pub(crate) fn mekr(arena: &mut Arena, first: Corner, second: Corner, half: HalfEdge)
+    requires { Accepts arena.old (Op.Mekr first second half) }
+    ensures { arena.new ≡ after arena.old (Op.Mekr first second half) }
+{
+    let start = tail_at(arena, first);
+    let end = tail_at(arena, second);
+    let ring = loop_at(arena, second);
+    let mate = half.mate();
+    put_edge(arena, half, start, end);
+    put_at(arena, first, half);
+    put_at(arena, second, mate);
+    arena.join(half, mate);
+    arena.take_loop(ring);
+}

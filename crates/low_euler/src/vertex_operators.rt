@@ -1,0 +1,10 @@
+//! The Euler operators that make and kill vertices, in place on an arena: mvfs and kvfs, of a solid with its first
+//! vertex, and mev and kev, of an edge with the vertex at its far end. Each may be called where its conditions hold in a
+//! sound model and the numbers that it makes have their room.
+
+mod edges;
+mod solids;
+mod steps;
+
+pub(crate) use edges::{kev, mev};
+pub(crate) use solids::{kvfs, mvfs};

@@ -1,0 +1,91 @@
+//! An edge with a vertex at its far end.
+ghost use Rattle.std.specs.Prelude.{◌≡◌};
+ghost use Rattle.euler_conditions.specs.Ready.{Accepts, after};
+
+use crate::vertex_operators::steps;
+use euler_conditions::{Arena, Corner, HalfEdge, Op};
+use lattice::Point;
+
+/// Makes an edge from the vertex of two corners to a new vertex, in one of two ways. At half-edges `half` is put before
+/// the first and its mate before the second; where the two are the same, `half` and then its mate are put before it.
+/// What is met round the old vertex from the first up to before the second then starts at the new vertex, as the mate
+/// does. At a lone loop, given twice, the loop becomes `half` and its mate.
+///
+/// The edge's and the vertex's numbers are free and have their room, and the point is in range. It costs as many steps
+/// as half-edges move to the new vertex, takes no memory and never fails.
+pub(crate) fn mev(
+    arena: &mut Arena,
+    first: Corner,
+    second: Corner,
+    half: HalfEdge,
+    vertex: u32,
+    point: Point,
+)
+    requires { Accepts arena.old (Op.Mev first second half vertex point) }
+    ensures { arena.new ≡ after arena.old (Op.Mev first second half vertex point) }
+{
+    match first {
+        Corner::Lone(l) => mev_lone(arena, l, half, vertex, point),
+        Corner::At(from) => match second {
+            Corner::At(to) => mev_at(arena, from, to, half, vertex, point),
+            Corner::Lone(_) => unreachable!(),
+        },
+    }
+}
+
+/// At a lone loop.
+fn mev_lone(arena: &mut Arena, l: u32, half: HalfEdge, vertex: u32, point: Point)
+    requires { Accepts arena.old (Op.Mev (Corner.Lone l) (Corner.Lone l) half vertex point) }
+    ensures { arena.new ≡ after arena.old (Op.Mev (Corner.Lone l) (Corner.Lone l) half vertex point) }
+{
+    let old = steps::lone_vertex(arena, l);
+    arena.put_vertex(vertex, point);
+    steps::put_edge(arena, half, old, vertex);
+    arena.fill(l, half);
+    arena.join(half, half.mate());
+}
+
+/// At two half-edges of one vertex.
+fn mev_at(
+    arena: &mut Arena,
+    from: HalfEdge,
+    to: HalfEdge,
+    half: HalfEdge,
+    vertex: u32,
+    point: Point,
+)
+    requires { Accepts arena.old (Op.Mev (Corner.At from) (Corner.At to) half vertex point) }
+    ensures { arena.new ≡ after arena.old (Op.Mev (Corner.At from) (Corner.At to) half vertex point) }
+{
+    let old = arena.tail(from);
+    steps::move_tails(arena, from, to, vertex);
+    arena.put_vertex(vertex, point);
+    steps::put_edge(arena, half, old, vertex);
+    steps::put_half(arena, from, half);
+    steps::put_half(arena, to, half.mate());
+}
+
+/// Kills an edge, whose ends no other edge has, and the vertex at which the mate starts. What else started there starts
+/// at the kept vertex, where `half` starts. A loop of the two alone becomes lone at the kept vertex; else the kept vertex
+/// has another half-edge than `half`.
+///
+/// It costs as many steps as half-edges start at the killed vertex, takes no memory and never fails.
+pub(crate) fn kev(arena: &mut Arena, half: HalfEdge)
+    requires { Accepts arena.old (Op.Kev half) }
+    ensures { arena.new ≡ after arena.old (Op.Kev half) }
+{
+    let mate = half.mate();
+    let kept = arena.tail(half);
+    let killed = arena.tail(mate);
+    let l = arena.loop_of(half);
+    let following = arena.next(half);
+    let alone = arena.next(mate) == half;
+    steps::move_tails(arena, following, mate, kept);
+    steps::take_half(arena, half);
+    steps::take_half(arena, mate);
+    arena.take_edge(half.edge);
+    arena.take_vertex(killed);
+    if alone {
+        arena.set_lone(l, kept);
+    }
+}

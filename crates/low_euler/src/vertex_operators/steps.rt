@@ -1,0 +1,80 @@
+//! The steps of which the operators are made: half-edges that go into a loop or leave one, and tails that move.
+//! A store between two steps isn't sound, so each step asks only for what it stands on.
+ghost use Rattle.std.specs.Prelude.{◌≡◌, true, false};
+ghost use Rattle.boundary_model.specs.HalfEdge.{code};
+ghost use Rattle.boundary_model.specs.Model.{arc, content, tail};
+ghost use Rattle.boundary_model.specs.Sound.{Sound, HasHalf};
+ghost use Rattle.euler_conditions.specs.Store.{has_number, has_room};
+ghost use Rattle.euler_operators.specs.Conditions.{is_lone, lone_vertex};
+ghost use Rattle.low_euler.specs.vertex_operators.Steps.{IsPlaced, HasLoop, IsAlone, with_edge, put_before, taken_out, with_tails_at};
+
+use euler_conditions::{Arena, Content, HalfEdge, Kind};
+
+/// The vertex of loop l, which is there and lone.
+pub(crate) fn lone_vertex(arena: &Arena, l: u32) -> u32
+    requires there { has_number arena.now Kind.Loop l ≡ true }
+    requires lone { is_lone (content arena.now.model l) ≡ true }
+    ensures { result ≡ lone_vertex (content arena.now.model l) }
+{
+    match arena.content(l) {
+        Content::Lone(vertex) => vertex,
+        Content::Ring(_) => unreachable!(),
+    }
+}
+
+/// Makes the edge of `half`, whose number is free and has its room: `half` starts at `start`, its mate at `end`.
+/// Both stand alone then.
+pub(crate) fn put_edge(arena: &mut Arena, half: HalfEdge, start: u32, end: u32)
+    requires room { has_room arena.old Kind.Edge half.edge ≡ true }
+    requires free { has_number arena.old Kind.Edge half.edge ≡ false }
+    ensures { arena.new ≡ with_edge arena.old (code half) start end }
+{
+    if half.first {
+        arena.put_edge(half.edge, start, end);
+    } else {
+        arena.put_edge(half.edge, end, start);
+    }
+}
+
+/// Puts `half`, which stands alone, before `corner` in the loop of that. It costs the same for every loop.
+pub(crate) fn put_half(arena: &mut Arena, corner: HalfEdge, half: HalfEdge)
+    requires placed { IsPlaced arena.old.model }
+    requires corner { HasLoop arena.old.model (code corner) }
+    requires half { IsAlone arena.old (code half) }
+    ensures { arena.new ≡ put_before arena.old (code corner) (code half) }
+{
+    let before = arena.prev(corner);
+    arena.join(before, half);
+}
+
+/// Takes a half-edge out of its loop; it stands alone then. A loop that held no other is left empty.
+/// It costs the same for every loop.
+pub(crate) fn take_half(arena: &mut Arena, half: HalfEdge)
+    requires placed { IsPlaced arena.old.model }
+    requires half { HasLoop arena.old.model (code half) }
+    ensures { arena.new ≡ taken_out arena.old (code half) }
+{
+    let before = arena.prev(half);
+    if before == half {
+        let l = arena.loop_of(half);
+        arena.clear(l);
+    } else {
+        arena.cut(before, half, 0);
+    }
+}
+
+/// Goes round a vertex from one half-edge up to before another, and lets each that it meets start at `vertex`.
+/// It costs as many steps as there are half-edges on the way.
+pub(crate) fn move_tails(arena: &mut Arena, from: HalfEdge, to: HalfEdge, vertex: u32)
+    requires sound { Sound arena.old.model }
+    requires from { HasHalf arena.old.model (code from) }
+    requires to { HasHalf arena.old.model (code to) }
+    requires one_tail { tail arena.old.model (code to) ≡ tail arena.old.model (code from) }
+    ensures { arena.new ≡ with_tails_at arena.old (arc arena.old.model (code from) (code to)) vertex }
+{
+    let mut half = from;
+    'round: while half != to {
+        arena.set_tail(half, vertex);
+        half = arena.next(half.mate());
+    }
+}

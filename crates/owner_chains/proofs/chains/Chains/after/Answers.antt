@@ -1,8 +1,0 @@
-use Rattle.owner_chains.proofs.Whole.{none_above, one_above}
-use Rattle.owner_chains.proofs.chains.Chains.after.Goals as goal
-
-pub returns-then-next-eq0 : goal.returns-then-next-eq0
-returns-then-next-eq0 c = rw (← c.self.view_is) (none_above c.self.inside.links.items c.args.owner c.args.n c.above-next.result c.if-next-eq0.true (rw c.deref-2.ensures.value at c.above-next.ensures))
-
-pub returns-else-next-eq0 : goal.returns-else-next-eq0
-returns-else-next-eq0 c = rw (← c.self.view_is) (one_above c.self.inside.links.items c.args.owner c.args.n c.above-next.result c.if-next-eq0.false (rw c.deref-2.ensures.value at c.above-next.ensures))

@@ -1,8 +1,0 @@
-use Rattle.owner_chains.proofs.Whole.{chained-empty, view-empty}
-use Rattle.owner_chains.proofs.chains.Chains.new.Goals as goal
-
-pub invariant_of-result : goal.invariant_of-result
-invariant_of-result c = rw (c.new.ensures.items, c.new-2.ensures.items) chained-empty
-
-pub returns : goal.returns
-returns c = rw (c.new.ensures.items, c.new-2.ensures.items) view-empty

@@ -1,8 +1,0 @@
-//! Items that have owners: each owner's items stand in a list, chained from the least to the greatest.
-#![tactic(auto)]
-
-mod chains;
-mod places;
-mod rows;
-
-pub use chains::Chains;

@@ -1,0 +1,37 @@
+use Rattle.std.proofs.Common.{◌≡◌, ◌∙◌, map, length, ap, arith}
+use Rattle.boundary_model.specs.HalfEdge.{code}
+use Rattle.euler_laws.specs.Laws.{effects}
+use Rattle.undo_journal.specs.Machine.{DraftState}
+use Rattle.split_drawing.specs.face_drawing.Codes.{taken_of}
+use Rattle.split_opening_laws.specs.strips.StripOps.{copy_ops}
+use Rattle.plane_split.proofs.solid_opening_laws.Cycles.{inside_codes, edges_left, vertices_left}
+use Rattle.plane_split.proofs.solid_opening_laws.Raised.{half_there, copy_goes, one_raised}
+use Rattle.plane_split.proofs.solid_opening.copies.raise_copies.Goals as goal
+
+pub raise_copy-requires-clause-there : goal.raise_copy-requires-clause-there
+raise_copy-requires-clause-there c = half_there c.args.draft.now.model c.args.s (taken_of c.args.from.now) (map code c.args.halves.now) c.requires c.copies.i (inside_codes c.args.halves.now c.copies.i c.copies-test.true) c.copies.draft.model c.copies.invariant.model
+
+pub raise_copy-requires-clause-edges_left : goal.raise_copy-requires-clause-edges_left
+raise_copy-requires-clause-edges_left c = edges_left c.requires.before c.args.s (taken_of c.args.from.now) c.args.halves.now (c.requires.above, c.requires.can)
+
+pub raise_copy-requires-clause-vertices_left : goal.raise_copy-requires-clause-vertices_left
+raise_copy-requires-clause-vertices_left c = vertices_left c.requires.before c.args.s (taken_of c.args.from.now) c.args.halves.now (c.requires.above, c.requires.can)
+
+pub raise_copy-requires-clause-accepted : goal.raise_copy-requires-clause-accepted
+raise_copy-requires-clause-accepted c = copy_goes c.args.draft.now.model c.args.s (taken_of c.args.from.now) (map code c.args.halves.now) c.requires c.copies.i (inside_codes c.args.halves.now c.copies.i c.copies-test.true) c.copies.draft.model c.copies.invariant.model
+
+pub copies-preserved : goal.copies-preserved
+copies-preserved c = record {
+  inside = omega (arith, c.copies-test.true);
+  model = one_raised c.args.draft.now.model c.args.s (taken_of c.args.from.now) (map code c.args.halves.now) c.requires c.copies.i (inside_codes c.args.halves.now c.copies.i c.copies-test.true) c.copies.draft.model c.copies.invariant.model
+      c.raise_copy.new.draft.model (ap (λ (d : DraftState). d.model) c.in_ok-raise_copy.ensures.ok);
+  session = ap (λ (d : DraftState). d.session) c.in_ok-raise_copy.ensures.ok ∙ c.copies.invariant.session;
+}
+
+pub returns-clause-ok : goal.returns-clause-ok
+returns-clause-ok c =
+    let all : c.copies.i ≡ length c.args.halves.now = omega (arith, c.copies.invariant.inside, c.copies-test.false) in
+    λ j. record {
+      session = c.copies.invariant.session j;
+      model = (c.copies.invariant.model ∙ ap (λ n. effects c.args.draft.now.model (copy_ops c.args.draft.now.model (taken_of c.args.from.now) (map code c.args.halves.now) n)) all) j;
+    }

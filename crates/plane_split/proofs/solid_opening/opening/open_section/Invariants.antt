@@ -1,0 +1,18 @@
+use Rattle.std.proofs.Common.{◌≡◌, length, map}
+use Rattle.shapes.specs.split.Section.{is_hole}
+use Rattle.shapes.specs.split.Opening.{all_opened}
+use Rattle.split_opening_laws.specs.sections.InTurn.{CanBeOpenedInTurn}
+use Rattle.split_sections.specs.section_checks.Sections.{halves_of}
+use Rattle.plane_split.specs.solid_opening.Capped.{opening_of, opened_section}
+use Rattle.plane_split.proofs.solid_opening.opening.open_section.Given as goal
+
+abbrev pub invariant-cycles : goal.invariant-cycles
+invariant-cycles l = record {
+  opens : CanBeOpenedInTurn l.section.above.items l.s (opening_of l.draft.model l.progress l.caps.items) (map halves_of l.rest);
+  holes : map (λ q. q.hole) l.rest ≡ map (is_hole l.draft.model l.plane) (map halves_of l.rest);
+  made : all_opened l.plane l.section.above.items l.s (opening_of l.draft.model l.progress l.caps.items) (map halves_of l.rest) ≡ opened_section l.fn.draft.model l.fn.from l.s l.plane l.section;
+  session : l.draft.session ≡ l.fn.draft.session;
+}
+
+abbrev pub decreases-cycles : goal.decreases-cycles
+decreases-cycles l = length l.rest

@@ -1,0 +1,16 @@
+use Rattle.std.proofs.Common.{◌≡◌, ◌≤◌, ◌-◌, length, map}
+use Rattle.boundary_model.specs.HalfEdge.{code}
+use Rattle.euler_laws.specs.Laws.{effects}
+use Rattle.split_drawing.specs.face_drawing.Codes.{taken_of}
+use Rattle.split_opening_laws.specs.strips.StripOps.{strip_ops}
+use Rattle.plane_split.proofs.solid_opening.strips.cut_strips.Given as goal
+
+abbrev pub invariant-strips : goal.invariant-strips
+invariant-strips l = record {
+  inside : l.i ≤ length l.halves;
+  model : l.draft.model ≡ effects l.fn.draft.model (strip_ops l.fn.draft.model l.s (taken_of l.from) (map code l.halves) l.i);
+  session : l.draft.session ≡ l.fn.draft.session;
+}
+
+abbrev pub decreases-strips : goal.decreases-strips
+decreases-strips l = length l.halves - l.i

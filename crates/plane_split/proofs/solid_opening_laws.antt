@@ -1,0 +1,8 @@
+pub mod Items
+pub mod CutOff
+pub mod Raised
+pub mod Taken
+pub mod Killed
+pub mod Cycles
+pub mod Turns
+pub mod Closed

@@ -1,0 +1,24 @@
+-- The part that is left once the holes are closed.
+use Rattle.std.proofs.Common.{◌≡◌, ℕ, List, [], ◌∷◌, ◌++◌, refl, sym, ap, ◌∙◌, subst}
+use Rattle.boundary_model.specs.Model.{Model}
+use Rattle.euler_operators.specs.declared.Op.TheVariants.{Part}
+use Rattle.euler_laws.specs.Laws.{AreAccepted, effects}
+use Rattle.shapes.specs.split.Opening as shape
+use Rattle.shapes.specs.split.Opening.{outer_caps}
+use Rattle.split_laws.specs.SplitOps.{hole_ops, upper_left}
+use Rattle.plane_split.specs.declared.solid_opening.caps.Caps.{Caps}
+use Rattle.plane_split.specs.solid_opening.Capped.{caps_of, all_caps}
+use Rattle.plane_split.specs.solid_opening.Closing.{holes_ops, outer_uppers}
+use Rattle.plane_split.proofs.solid_opening_laws.Taken.{first_part, Remaining, some_taken}
+
+module _ (M : Model) (s t : ℕ) (above : List ℕ) (caps : List Caps) (outer : Caps) (is : caps_of outer ≡ outer_caps (all_caps caps))
+    (accepted : AreAccepted M (hole_ops (all_caps caps) ++ Part s t (upper_left above (all_caps caps)) ∷ [])) where
+  pub closings_go : AreAccepted M (holes_ops (caps_of outer) caps)
+  closings_go = subst (λ (o : shape.Caps). AreAccepted M (holes_ops o caps)) (sym is) (first_part M (hole_ops (all_caps caps)) (Part s t (upper_left above (all_caps caps)) ∷ []) accepted)
+
+  -- once the holes are closed it remains
+  pub part_left : (K : Model) → K ≡ effects M (holes_ops (caps_of outer) caps) → (faces : List ℕ) → faces ≡ above ++ outer_uppers caps
+      → Remaining K (Part s t faces ∷ []) (effects M (hole_ops (all_caps caps) ++ Part s t (upper_left above (all_caps caps)) ∷ []))
+  part_left K e faces are = subst (λ fs. Remaining K (Part s t fs ∷ []) (effects M (hole_ops (all_caps caps) ++ Part s t (upper_left above (all_caps caps)) ∷ []))) (sym are)
+      (some_taken M (hole_ops (all_caps caps)) (Part s t (upper_left above (all_caps caps)) ∷ []) _ K accepted refl
+      (e ∙ ap (λ (o : shape.Caps). effects M (holes_ops o caps)) is))

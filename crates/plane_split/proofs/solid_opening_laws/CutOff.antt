@@ -1,0 +1,42 @@
+-- The strips of a cycle cut off one after the other.
+use Rattle.std.proofs.Common.{◌≡◌, ℕ, ◌+◌, ◌≤◌, ◌<◌, List, [], ◌∷◌, length, None, sym, ap, ◌∙◌, subst, arith}
+use Rattle.std.specs.Prelude.{get_or}
+use Rattle.boundary_model.specs.HalfEdge.{mate}
+use Rattle.boundary_model.specs.Model.{Model}
+use Rattle.boundary_model.specs.Sound.{HasHalf}
+use Rattle.euler_operators.specs.Conditions.{first_false}
+use Rattle.euler_operators.specs.Effect.{effect}
+use Rattle.euler_laws.specs.Laws.{effects}
+use Rattle.euler_laws.proofs.Runs.{effects-append}
+use Rattle.shapes.specs.Fresh.{Taken}
+use Rattle.split_opening_laws.specs.strips.Strips.{strips_cut}
+use Rattle.split_opening_laws.specs.strips.StripOps.{cut_strip, strip_ops}
+use Rattle.split_opening_laws.proofs.strips.Cycle as on
+use Rattle.split_opening_laws.proofs.strips.Strip.{cut_half, strip_accepted}
+use Rattle.split_opening_laws.proofs.strips.Whole.{strips_go, part_sound}
+use Rattle.plane_split.specs.solid_opening.Stages.{CanOpen}
+use Rattle.plane_split.proofs.solid_opening_laws.Items.{one_on}
+
+module _ (M : Model) (s : ℕ) (c : Taken) (bs : List ℕ) (can : CanOpen M s c bs) where
+  -- the model with the first i strips cut off
+  pub so_far : (i : ℕ) → i ≤ length bs → effects M (strip_ops M s c bs i) ≡ strips_cut M s c bs i
+  so_far i le = (strips_go M can.0 s c bs can.1 i le).1
+
+  module _ (i : ℕ) (lt : i < length bs) (X : Model) (x : X ≡ effects M (strip_ops M s c bs i)) where
+    is_cut : X ≡ strips_cut M s c bs i
+    is_cut = x ∙ so_far i (omega (arith, lt))
+
+    -- the next mate is there
+    pub mate_there : HasHalf X (mate (get_or bs i 0))
+    mate_there = subst (λ Y. HasHalf Y (mate (get_or bs i 0))) (sym is_cut) (cut_half M can.0 s c bs can.1 i (mate (get_or bs i 0)) (on.mate_there M can.0 s c bs can.1 i lt))
+
+    -- the next strip can be cut off
+    pub strip_goes : first_false X (cut_strip X c bs i) ≡ None
+    strip_goes = (λ j. first_false (is_cut j) (cut_strip (is_cut j) c bs i)) ∙ strip_accepted M can.0 s c bs can.1 i lt (part_sound M can.0 s c bs can.1 i (omega (arith, lt)))
+
+    -- and then one more is
+    pub one_more : (K : Model) → K ≡ effect X (cut_strip X c bs i) → K ≡ effects M (strip_ops M s c bs (i + 1))
+    one_more K k = k
+        ∙ (λ j. effect (x j) (cut_strip (is_cut j) c bs i))
+        ∙ sym (effects-append M (strip_ops M s c bs i) (cut_strip (strips_cut M s c bs i) c bs i ∷ []))
+        ∙ ap (λ n. effects M (strip_ops M s c bs n)) (one_on i)

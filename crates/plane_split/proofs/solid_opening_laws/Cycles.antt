@@ -1,0 +1,78 @@
+-- A solid opened along one cycle: each of its three stages can be taken.
+use Rattle.std.proofs.Common.{◌≡◌, ℕ, ◌+◌, ◌*◌, ◌≤◌, ◌<◌, List, ◌++◌, length, map, sym, ap, ◌∙◌, subst, arith}
+use Rattle.std.proofs.lemmas.List.{length-map}
+use Rattle.boundary_model.specs.declared.HalfEdge.{HalfEdge}
+use Rattle.boundary_model.specs.HalfEdge.{code}
+use Rattle.boundary_model.specs.Model.{Model}
+use Rattle.euler_laws.specs.Laws.{AreAccepted, effects}
+use Rattle.euler_laws.proofs.Runs.{effects-append}
+use Rattle.shapes.specs.Fresh.{Taken}
+use Rattle.split_opening_laws.specs.strips.StripOps.{strip_ops, copy_ops}
+use Rattle.split_opening_laws.proofs.strips.Cycle.{two_halves}
+use Rattle.split_opening_laws.specs.caps.CapOps.{cap_ops}
+use Rattle.split_opening_laws.specs.opening.OpeningOps.{opening_ops}
+use Rattle.split_opening_laws.proofs.opening.Whole.{opening_accepted}
+use Rattle.plane_split.specs.solid_opening.Stages.{CanOpen, AreStripped}
+use Rattle.plane_split.proofs.solid_opening_laws.CutOff.{so_far}
+use Rattle.plane_split.proofs.solid_opening_laws.Raised.{read_before}
+use Rattle.plane_split.proofs.solid_opening_laws.Taken.{second_part}
+
+-- a place among the halves is one among their codes
+pub inside_codes : (halves : List HalfEdge) (i : ℕ) → i < length halves → i < length (map code halves)
+inside_codes halves i lt = omega (arith, lt, length-map halves code)
+
+module _ (M : Model) (s : ℕ) (c : Taken) (halves : List HalfEdge) (can : CanOpen M s c (map code halves)) where
+  abbrev bs : List ℕ
+  bs = map code halves
+
+  abbrev n : ℕ
+  n = length halves
+
+  size : length bs ≡ n
+  size = length-map halves code
+
+  pub some_half : 2 ≤ n
+  some_half = omega (arith, size, two_halves M can.0 s c bs can.1)
+
+  -- numbers are left for its faces, loops, edges and vertices
+  pub faces_left : c.face + n + 1 ≤ 1000000
+  faces_left = omega (arith, size, can.1.faces_left)
+
+  pub loops_left : c.loop + n + 1 ≤ 1000000
+  loops_left = omega (arith, size, can.1.loops_left)
+
+  pub edges_left : c.edge + 2 * n ≤ 1000000
+  edges_left = omega (arith, size, can.1.edges_left)
+
+  pub vertices_left : c.vertex + n ≤ 1000000
+  vertices_left = omega (arith, size, can.1.vertices_left)
+
+  -- the strips are cut off
+  module _ (A : Model) (a : A ≡ effects M (strip_ops M s c bs n)) where
+    cut_all : A ≡ effects M (strip_ops M s c bs (length bs))
+    cut_all = a ∙ ap (λ k. effects M (strip_ops M s c bs k)) (sym size)
+
+    pub stripped : AreStripped A s c bs
+    stripped = record { before = M; above = can.0; can = can.1; model = cut_all ∙ so_far M s c bs can (length bs) (omega arith) }
+
+    -- and the copies raised
+    module _ (N : Model) (e : N ≡ effects A (copy_ops A c bs n)) where
+      raised_all : N ≡ effects M (strip_ops M s c bs (length bs) ++ copy_ops M c bs (length bs))
+      unfolding stripped
+      raised_all = e
+          ∙ ap (λ k. effects A (copy_ops A c bs k)) (sym size)
+          ∙ (λ j. effects (cut_all j) (read_before A s c bs stripped (length bs) (omega arith) j))
+          ∙ sym (effects-append M (strip_ops M s c bs (length bs)) (copy_ops M c bs (length bs)))
+
+      pub caps_go : AreAccepted N (cap_ops c n)
+      unfolding opening_ops
+      caps_go = subst (λ k. AreAccepted N (cap_ops c k)) size (subst (λ Y. AreAccepted Y (cap_ops c (length bs))) (sym raised_all)
+          (second_part M (strip_ops M s c bs (length bs) ++ copy_ops M c bs (length bs)) (cap_ops c (length bs)) (opening_accepted M can.0 s c bs can.1)))
+
+      -- the caps are made
+      pub opened_whole : (K : Model) → K ≡ effects N (cap_ops c n) → K ≡ effects M (opening_ops M s c bs)
+      unfolding opening_ops
+      opened_whole K k = k
+          ∙ ap (λ i. effects N (cap_ops c i)) (sym size)
+          ∙ ap (λ Y. effects Y (cap_ops c (length bs))) raised_all
+          ∙ sym (effects-append M (strip_ops M s c bs (length bs) ++ copy_ops M c bs (length bs)) (cap_ops c (length bs)))

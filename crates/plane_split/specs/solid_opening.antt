@@ -1,0 +1,3 @@
+pub mod Capped
+pub mod Stages
+pub mod Closing

@@ -1,0 +1,76 @@
+//! Copies of the vertices of a cycle, raised once its strips are cut off.
+ghost use Rattle.std.specs.Prelude.{◌≡◌, ◌≤◌, ◌<◌, ◌+◌, ◌*◌, true, None, OnOk, OnErr, length, map, get_or};
+ghost use Rattle.boundary_model.specs.HalfEdge.{code};
+ghost use Rattle.boundary_model.specs.Model.{has_half};
+ghost use Rattle.euler_laws.specs.Laws.{effects};
+ghost use Rattle.euler_operators.specs.Conditions.{first_false};
+ghost use Rattle.undo_journal.specs.Machine.{draft_step};
+ghost use Rattle.split_drawing.specs.face_drawing.Codes.{taken_of};
+ghost use Rattle.split_opening_laws.specs.strips.StripOps as ops;
+ghost use Rattle.plane_split.specs.solid_opening.Stages.{AreStripped};
+
+use crate::solid_opening::halves::start;
+use euler_conditions::{Corner, HalfEdge, Op};
+use solid_walks::{minus, plus};
+use split_drawing::Progress;
+use std::alloc::AllocError;
+use undo_journal::Draft;
+
+/// The place before place i, round a cycle of so many.
+fn place_before(count: u32, i: u32) -> u32
+    requires { i < count }
+    ensures { result ≡ ops.place_before count i }
+{
+    if i == 0 { count - 1 } else { i - 1 }
+}
+
+/// Raises the copy of the vertex at place i: a riser leads from it to a new vertex at its point, between the back of its strip and
+/// the mate of the half before.
+fn raise_copy(
+    draft: &mut Draft,
+    from: &Progress,
+    halves: &[HalfEdge],
+    i: u32,
+) -> Result<(), AllocError>
+    requires inside { i < length halves.now }
+    requires there { has_half draft.old.model (get_or (map code halves.now) i 0) ≡ true }
+    requires edges_left { from.now.edges + 2 * length halves.now ≤ 1000000 }
+    requires vertices_left { from.now.vertices + length halves.now ≤ 1000000 }
+    requires accepted { first_false draft.old.model (ops.raise_copy draft.old.model (taken_of from.now) (map code halves.now) i) ≡ None }
+    ensures ok { OnOk result (draft.new ≡ draft_step draft.old (ops.raise_copy draft.old.model (taken_of from.now) (map code halves.now) i)) }
+    ensures err { OnErr result (draft.new ≡ draft.old) }
+{
+    let count = halves.len() as u32;
+    let back = minus(from.edges + i + 1);
+    let before = halves[place_before(count, i) as usize].mate();
+    let riser = plus(from.edges + count + i + 1);
+    let point = start(draft.arena(), halves[i as usize]);
+    draft.step_accepted(Op::Mev(
+        Corner::At(back),
+        Corner::At(before),
+        riser,
+        from.vertices + i + 1,
+        point,
+    ))
+}
+
+/// Raises a copy of each vertex of a cycle whose strips are cut off, with the numbers after those that the strips took. On
+/// `AllocError` some may be raised.
+pub(crate) fn raise_copies(
+    draft: &mut Draft,
+    s: u32,
+    from: &Progress,
+    halves: &[HalfEdge],
+) -> Result<(), AllocError>
+    requires { AreStripped draft.old.model s (taken_of from.now) (map code halves.now) }
+    ensures ok { OnOk result (draft.new ≡ record draft.old { model = effects draft.old.model (ops.copy_ops draft.old.model (taken_of from.now) (map code halves.now) (length halves.now)) }) }
+    ensures session { draft.new.session ≡ draft.old.session }
+{
+    let count = halves.len() as u32;
+    let mut i = 0;
+    'copies: while i < count {
+        raise_copy(draft, from, halves, i)?;
+        i += 1;
+    }
+    Ok(())
+}

@@ -1,0 +1,62 @@
+//! A solid opened along one cycle, and the numbers that this takes.
+ghost use Rattle.std.specs.Prelude.{◌≡◌, ◌≤◌, ◌+◌, ◌*◌, OnOk, map};
+ghost use Rattle.boundary_model.specs.HalfEdge.{code};
+ghost use Rattle.euler_laws.specs.Laws.{effects};
+ghost use Rattle.split_drawing.specs.face_drawing.Codes.{taken_of};
+ghost use Rattle.split_opening_laws.specs.opening.OpeningOps.{opening_ops};
+ghost use Rattle.plane_split.specs.solid_opening.Stages.{CanOpen};
+
+use crate::solid_opening::caps::Caps;
+use crate::solid_opening::copies::raise_copies;
+use crate::solid_opening::joinings::make_caps;
+use crate::solid_opening::strips::cut_strips;
+use euler_conditions::HalfEdge;
+use split_drawing::Progress;
+use std::alloc::AllocError;
+use undo_journal::Draft;
+
+/// Opens solid s along a cycle along which it can be opened, with the numbers after those taken. On `AllocError` some steps may be
+/// taken.
+pub(crate) fn open_cycle(
+    draft: &mut Draft,
+    s: u32,
+    from: &Progress,
+    halves: &[HalfEdge],
+) -> Result<(), AllocError>
+    requires { CanOpen draft.old.model s (taken_of from.now) (map code halves.now) }
+    ensures ok { OnOk result (draft.new ≡ record draft.old { model = effects draft.old.model (opening_ops draft.old.model s (taken_of from.now) (map code halves.now)) }) }
+    ensures session { draft.new.session ≡ draft.old.session }
+{
+    cut_strips(draft, s, from, halves)?;
+    raise_copies(draft, s, from, halves)?;
+    make_caps(draft, from, halves.len() as u32)
+}
+
+/// The caps of a cycle of so many edges that is opened with the numbers after those taken.
+pub(crate) fn caps_after(from: &Progress, count: u32, hole: bool) -> Caps
+    requires { from.now.faces + count + 1 ≤ 1000000 }
+    ensures { result ≡ record { lower = from.now.faces + 1; upper = from.now.faces + count + 1; hole = hole } }
+{
+    Caps {
+        lower: from.faces + 1,
+        upper: from.faces + count + 1,
+        hole,
+    }
+}
+
+/// The greatest numbers taken once a solid is opened along a cycle of so many edges.
+pub(crate) fn counted_on(from: &Progress, count: u32) -> Progress
+    requires faces_left { from.now.faces + count + 1 ≤ 1000000 }
+    requires loops_left { from.now.loops + count + 1 ≤ 1000000 }
+    requires edges_left { from.now.edges + 2 * count ≤ 1000000 }
+    requires vertices_left { from.now.vertices + count ≤ 1000000 }
+    ensures { result ≡ record from.now { faces = from.now.faces + count + 1; loops = from.now.loops + count + 1; edges = from.now.edges + 2 * count; vertices = from.now.vertices + count } }
+{
+    Progress {
+        faces: from.faces + count + 1,
+        loops: from.loops + count + 1,
+        edges: from.edges + 2 * count,
+        vertices: from.vertices + count,
+        ..*from
+    }
+}

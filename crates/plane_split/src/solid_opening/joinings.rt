@@ -1,0 +1,45 @@
+//! Strips joined into one, and that one parted into the two caps.
+ghost use Rattle.std.specs.Prelude.{◌≡◌, ◌≤◌, ◌+◌, ◌-◌, ◌*◌, OnOk};
+ghost use Rattle.euler_laws.specs.Laws.{AreAccepted, effects};
+ghost use Rattle.split_drawing.specs.face_drawing.Codes.{taken_of};
+ghost use Rattle.split_opening_laws.specs.caps.CapOps.{cap_ops, joinings};
+
+use euler_conditions::Op;
+use solid_walks::{minus, plus};
+use split_drawing::Progress;
+use std::alloc::AllocError;
+use undo_journal::Draft;
+
+/// The first of so many strips takes in the next ones, where each of these operators is accepted in its turn. On `AllocError` it
+/// may have taken in some.
+fn join_strips(draft: &mut Draft, from: &Progress, count: u32) -> Result<(), AllocError>
+    requires some { 1 ≤ count }
+    requires edges_left { from.now.edges + 2 * count ≤ 1000000 }
+    requires accepted { AreAccepted draft.old.model (joinings (taken_of from.now) count (count - 1)) }
+    ensures ok { OnOk result (draft.new ≡ record draft.old { model = effects draft.old.model (joinings (taken_of from.now) count (count - 1)) }) }
+    ensures session { draft.new.session ≡ draft.old.session }
+{
+    let last = from.edges + 2 * count;
+    let mut riser = from.edges + count + 1;
+    'risers: while riser < last {
+        riser += 1;
+        draft.step_accepted(Op::Kef(minus(riser)))?;
+    }
+    Ok(())
+}
+
+/// Makes two caps of so many strips, where each of these operators is accepted in its turn. On `AllocError` some may be taken.
+pub(crate) fn make_caps(draft: &mut Draft, from: &Progress, count: u32) -> Result<(), AllocError>
+    requires some { 1 ≤ count }
+    requires faces_left { from.now.faces + count + 1 ≤ 1000000 }
+    requires loops_left { from.now.loops + count + 1 ≤ 1000000 }
+    requires edges_left { from.now.edges + 2 * count ≤ 1000000 }
+    requires accepted { AreAccepted draft.old.model (cap_ops (taken_of from.now) count) }
+    ensures ok { OnOk result (draft.new ≡ record draft.old { model = effects draft.old.model (cap_ops (taken_of from.now) count) }) }
+    ensures session { draft.new.session ≡ draft.old.session }
+{
+    join_strips(draft, from, count)?;
+    let ring = from.loops + count + 1;
+    draft.step_accepted(Op::Kemr(plus(from.edges + count + 1), ring))?;
+    draft.step_accepted(Op::Mfkrh(ring, from.faces + count + 1))
+}

@@ -1,0 +1,45 @@
+//! A solid opened along the cycles of its section.
+ghost use Rattle.std.specs.Prelude.{◌≡◌, map, IfOk};
+ghost use Rattle.shapes.specs.split.Section.{is_hole};
+ghost use Rattle.split_opening_laws.specs.sections.InTurn.{CanBeOpenedInTurn};
+ghost use Rattle.split_sections.specs.section_checks.Sections.{cycles_of, hole_flags};
+ghost use Rattle.plane_split.specs.solid_opening.Capped.{all_caps, opened_section, unopened};
+
+use crate::solid_opening::caps::Caps;
+use crate::solid_opening::cycle::{caps_after, counted_on, open_cycle};
+use lattice::Plane;
+use split_drawing::Progress;
+use split_sections::Section;
+use std::alloc::{AllocError, Global};
+use undo_journal::Draft;
+
+/// Opens solid s along each cycle of its section in turn, and closes it there by two caps: the caps of each cycle, in their order.
+///
+/// On `AllocError` some steps may be taken; the session that the draft came from stands, and `abandon` gives it back.
+pub(crate) fn open_section(
+    alloc: Global,
+    draft: &mut Draft,
+    s: u32,
+    plane: &Plane,
+    from: &Progress,
+    section: &Section,
+) -> Result<Vec<Caps>, AllocError>
+    requires opens { CanBeOpenedInTurn section.now.above.items s (unopened draft.old.model from.now) (cycles_of section.now) }
+    requires holes { hole_flags section.now ≡ map (is_hole draft.old.model plane.now) (cycles_of section.now) }
+    ensures opened { IfOk result (λ caps. (draft.new.model ≡ (opened_section draft.old.model from.now s plane.now section.now).model)
+        × (all_caps caps.items ≡ (opened_section draft.old.model from.now s plane.now section.now).caps)) }
+    ensures session { draft.new.session ≡ draft.old.session }
+{
+    let mut progress = *from;
+    let mut caps = Vec::new(alloc);
+    let mut rest = section.cycles.as_slice();
+    'cycles: while let [cycle, others @ ..] = rest {
+        let halves = cycle.halves.as_slice();
+        let count = halves.len() as u32;
+        open_cycle(draft, s, &progress, halves)?;
+        caps.push(caps_after(&progress, count, cycle.hole))?;
+        progress = counted_on(&progress, count);
+        rest = others;
+    }
+    Ok(caps)
+}

@@ -1,0 +1,105 @@
+//! The holes of a section closed, and what is above the plane parted.
+ghost use Rattle.std.specs.Prelude.{◌≡◌, ◌∷◌, ◌++◌, [], OnOk, IfOk};
+ghost use Rattle.euler_laws.specs.Laws.{AreAccepted, effects};
+ghost use Rattle.euler_operators.specs.declared.Op.TheVariants.{Kfmrh, Part};
+ghost use Rattle.shapes.specs.split.Opening.{outer_caps};
+ghost use Rattle.split_laws.specs.SplitOps.{hole_ops, upper_left};
+ghost use Rattle.plane_split.specs.solid_opening.Capped.{all_caps, caps_of};
+ghost use Rattle.plane_split.specs.solid_opening.Closing.{holes_ops, outer_uppers};
+
+use crate::solid_opening::caps::Caps;
+use euler_conditions::{FaceList, Op};
+use std::alloc::{AllocError, Global};
+use undo_journal::Draft;
+
+/// The caps of the first outer cycle. Where there is none, no face.
+fn outer_caps(caps: &[Caps]) -> Caps
+    ensures { caps_of result ≡ outer_caps (all_caps caps.now) }
+{
+    let mut rest = caps;
+    'caps: while let [first, others @ ..] = rest {
+        if !first.hole {
+            return *first;
+        }
+        rest = others;
+    }
+    Caps {
+        lower: 0,
+        upper: 0,
+        hole: false,
+    }
+}
+
+/// Makes the caps of a hole rings of the outer caps, where both operators are accepted in turn.
+fn close_hole(draft: &mut Draft, outer: Caps, hole: Caps) -> Result<(), AllocError>
+    requires { AreAccepted draft.old.model (Kfmrh outer.lower hole.lower ∷ Kfmrh outer.upper hole.upper ∷ []) }
+    ensures ok { OnOk result (draft.new ≡ record draft.old { model = effects draft.old.model (Kfmrh outer.lower hole.lower ∷ Kfmrh outer.upper hole.upper ∷ []) }) }
+    ensures session { draft.new.session ≡ draft.old.session }
+{
+    draft.step_accepted(Op::Kfmrh(outer.lower, hole.lower))?;
+    draft.step_accepted(Op::Kfmrh(outer.upper, hole.upper))
+}
+
+/// Makes the caps of each hole rings of the outer caps, where each of these operators is accepted in its turn. On `AllocError` some
+/// may be taken.
+fn close_holes(draft: &mut Draft, outer: Caps, caps: &[Caps]) -> Result<(), AllocError>
+    requires { AreAccepted draft.old.model (holes_ops (caps_of outer) caps.now) }
+    ensures ok { OnOk result (draft.new ≡ record draft.old { model = effects draft.old.model (holes_ops (caps_of outer) caps.now) }) }
+    ensures session { draft.new.session ≡ draft.old.session }
+{
+    let mut rest = caps;
+    'caps: while let [first, others @ ..] = rest {
+        if first.hole {
+            close_hole(draft, outer, *first)?;
+        }
+        rest = others;
+    }
+    Ok(())
+}
+
+/// A list of some faces.
+fn listed(alloc: Global, faces: &[u32]) -> Result<FaceList, AllocError>
+    ensures { IfOk result (λ list. list ≡ faces.now) }
+{
+    let mut list = FaceList::new(alloc);
+    let mut rest = faces;
+    'faces: while let [first, others @ ..] = rest {
+        list.push(*first)?;
+        rest = others;
+    }
+    Ok(list)
+}
+
+/// Appends the caps above of the outer cycles to a list.
+fn push_outer(list: &mut FaceList, caps: &[Caps]) -> Result<(), AllocError>
+    ensures { OnOk result (list.new ≡ list.old ++ outer_uppers caps.now) }
+{
+    let mut rest = caps;
+    'caps: while let [first, others @ ..] = rest {
+        if !first.hole {
+            list.push(first.upper)?;
+        }
+        rest = others;
+    }
+    Ok(())
+}
+
+/// Makes the caps of the holes rings of the caps of the first outer cycle, and then parts the faces above and the caps above that are
+/// left from solid s as solid t, where each of these operators is accepted in its turn. On `AllocError` some may be taken.
+pub(crate) fn part_upper(
+    alloc: Global,
+    draft: &mut Draft,
+    s: u32,
+    t: u32,
+    above: &[u32],
+    caps: &[Caps],
+) -> Result<(), AllocError>
+    requires { AreAccepted draft.old.model (hole_ops (all_caps caps.now) ++ Part s t (upper_left above.now (all_caps caps.now)) ∷ []) }
+    ensures ok { OnOk result (draft.new ≡ record draft.old { model = effects draft.old.model (hole_ops (all_caps caps.now) ++ Part s t (upper_left above.now (all_caps caps.now)) ∷ []) }) }
+    ensures session { draft.new.session ≡ draft.old.session }
+{
+    close_holes(draft, outer_caps(caps), caps)?;
+    let mut faces = listed(alloc, above)?;
+    push_outer(&mut faces, caps)?;
+    draft.step_accepted(Op::Part(s, t, faces))
+}

@@ -1,0 +1,60 @@
+//! Strips, faces of two edges, cut off above the edges of a cycle.
+ghost use Rattle.std.specs.Prelude.{◌≡◌, ◌≤◌, ◌<◌, ◌+◌, true, None, OnOk, OnErr, length, map, get_or};
+ghost use Rattle.boundary_model.specs.HalfEdge.{code, mate};
+ghost use Rattle.boundary_model.specs.Model.{has_half};
+ghost use Rattle.euler_laws.specs.Laws.{effects};
+ghost use Rattle.euler_operators.specs.Conditions.{first_false};
+ghost use Rattle.undo_journal.specs.Machine.{draft_step};
+ghost use Rattle.split_drawing.specs.face_drawing.Codes.{taken_of};
+ghost use Rattle.split_opening_laws.specs.strips.StripOps as ops;
+ghost use Rattle.plane_split.specs.solid_opening.Stages.{CanOpen};
+
+use crate::solid_opening::halves::next_item;
+use euler_conditions::{HalfEdge, Op};
+use solid_walks::plus;
+use split_drawing::Progress;
+use std::alloc::AllocError;
+use undo_journal::Draft;
+
+/// Cuts the strip at place i off: from the half's mate up to what follows it in its loop.
+fn cut_strip(
+    draft: &mut Draft,
+    from: &Progress,
+    halves: &[HalfEdge],
+    i: u32,
+) -> Result<(), AllocError>
+    requires inside { i < length halves.now }
+    requires there { has_half draft.old.model (mate (get_or (map code halves.now) i 0)) ≡ true }
+    requires faces_left { from.now.faces + i + 1 ≤ 1000000 }
+    requires loops_left { from.now.loops + i + 1 ≤ 1000000 }
+    requires edges_left { from.now.edges + i + 1 ≤ 1000000 }
+    requires accepted { first_false draft.old.model (ops.cut_strip draft.old.model (taken_of from.now) (map code halves.now) i) ≡ None }
+    ensures ok { OnOk result (draft.new ≡ draft_step draft.old (ops.cut_strip draft.old.model (taken_of from.now) (map code halves.now) i)) }
+    ensures err { OnErr result (draft.new ≡ draft.old) }
+{
+    let mate = halves[i as usize].mate();
+    let next = next_item(draft.arena(), mate);
+    let edge = plus(from.edges + i + 1);
+    draft.step_accepted(Op::Mef(mate, next, edge, from.faces + i + 1, from.loops + i + 1))
+}
+
+/// Cuts a strip off above each edge of a cycle along which solid s can be opened, with the numbers after those taken. On
+/// `AllocError` some may be cut off.
+pub(crate) fn cut_strips(
+    draft: &mut Draft,
+    s: u32,
+    from: &Progress,
+    halves: &[HalfEdge],
+) -> Result<(), AllocError>
+    requires { CanOpen draft.old.model s (taken_of from.now) (map code halves.now) }
+    ensures ok { OnOk result (draft.new ≡ record draft.old { model = effects draft.old.model (ops.strip_ops draft.old.model s (taken_of from.now) (map code halves.now) (length halves.now)) }) }
+    ensures session { draft.new.session ≡ draft.old.session }
+{
+    let count = halves.len() as u32;
+    let mut i = 0;
+    'strips: while i < count {
+        cut_strip(draft, from, halves, i)?;
+        i += 1;
+    }
+    Ok(())
+}

@@ -1,9 +1,0 @@
-use Rattle.ring_spots.proofs.RingMaps.{room_spots, room_kept, room_ok}
-use Rattle.ring_spots.proofs.links.room_code.Goals as goal
-
-pub returns : goal.returns
-returns c = record {
-  spots = room_spots _ _ _ _ c.room.ensures.ok c.room.ensures.err;
-  kept = room_kept _ _ _ _ c.room.ensures.ok c.room.ensures.err;
-  ok = room_ok _ _ _ _ c.room.ensures.ok;
-}

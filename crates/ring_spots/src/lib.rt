@@ -1,7 +1,0 @@
-//! Rings of half-edges over raw rings: each edge is a pair of nodes, and each ring stands in a loop or is loose.
-#![tactic(auto)]
-
-mod edge_rings;
-mod links;
-
-pub use edge_rings::EdgeRings;

@@ -1,0 +1,45 @@
+-- What a command is answered, from how the session's call ended.
+use Rattle.std.proofs.Common.{◌≡◌, inl, inr, Option, Some, None, Ok, Err, refl, sym, subst, OnOk, OnErr}
+use Rattle.std.specs.Prelude.{◌↔◌, ℤ, Result}
+use Rattle.euler_operators.specs.declared.Refusal.{Refusal}
+use Rattle.undo_journal.specs.Machine.{Machine}
+use Rattle.undo_journal.specs.declared.session.Failure.{Failure}
+use Rattle.undo_journal.specs.declared.session.Failure.TheVariants as failure
+use Rattle.solid_listing.specs.declared.reply.Reply.TheVariants as reply
+use Rattle.script_running.specs.script_judging.Judging.{Acts, Tries, refused, outcome}
+use Rattle.script_running.specs.declared.script_judging.judging.Answer.{Answer}
+use Rattle.script_running.specs.declared.script_judging.judging.Answer.TheVariants.{Reply as Told}
+
+-- memory is told only where the command isn't refused
+told_memory : (o : Option Refusal) (s acted t : Machine) → ((r : Refusal) → o ≡ Some r → ⊥) → t ≡ s → Acts o s acted (Told reply.Memory) t
+told_memory None s acted t never et = inr (refl, et)
+told_memory (Some r) s acted t never et = absurd (never r refl)
+
+pub acts : (o : Option Refusal) (s acted : Machine) (ended : Result (Unit {0}) Failure) (t : Machine) → OnOk ended ((o ≡ None) × (t ≡ acted))
+    → ((r : Refusal) → (ended ≡ Err (failure.Refused r)) ↔ (o ≡ Some r)) → OnErr ended (t ≡ s) → Acts o s acted (outcome ended) t
+acts o s acted (Ok _) t ok iff err = subst (λ (q : Option Refusal). Acts q s acted (outcome (Ok tt)) t) (sym ok.0) (inl (refl, ok.1))
+acts o s acted (Err (failure.Refused r)) t ok iff err = subst (λ (q : Option Refusal). Acts q s acted (refused r) t) (sym ((iff r).0 refl)) (refl, err)
+acts o s acted (Err (failure.Memory e)) t ok iff err = told_memory o s acted t (λ r h. absurd (cc ((iff r).1 h))) err
+
+pub acts_told : (o : Option Refusal) (s acted : Machine) (ended : Result (Unit {0}) Failure) (t : Machine) (a : Answer) → a ≡ outcome ended → OnOk ended ((o ≡ None) × (t ≡ acted))
+    → ((r : Refusal) → (ended ≡ Err (failure.Refused r)) ↔ (o ≡ Some r)) → OnErr ended (t ≡ s) → Acts o s acted a t
+acts_told o s acted ended t a is ok iff err = subst (λ (b : Answer). Acts o s acted b t) (sym is) (acts o s acted ended t ok iff err)
+
+-- where a refusal names a false condition, and memory may have been refused before the conditions were tested
+pub tries : (o : Option Refusal) (s acted : Machine) (ended : Result (Unit {0}) Failure) (t : Machine) → OnOk ended ((o ≡ None) × (t ≡ acted))
+    → ((r : Refusal) → ended ≡ Err (failure.Refused r) → o ≡ Some r) → OnErr ended (t ≡ s) → Tries o s acted (outcome ended) t
+tries o s acted (Ok _) t ok told err = inl (subst (λ (q : Option Refusal). Acts q s acted (outcome (Ok tt)) t) (sym ok.0) (inl (refl, ok.1)))
+tries o s acted (Err (failure.Refused r)) t ok told err = inl (subst (λ (q : Option Refusal). Acts q s acted (refused r) t) (sym (told r refl)) (refl, err))
+tries o s acted (Err (failure.Memory e)) t ok told err = inr (refl, err)
+
+pub tries_told : (o : Option Refusal) (s acted : Machine) (ended : Result (Unit {0}) Failure) (t : Machine) (a : Answer) → a ≡ outcome ended → OnOk ended ((o ≡ None) × (t ≡ acted))
+    → ((r : Refusal) → ended ≡ Err (failure.Refused r) → o ≡ Some r) → OnErr ended (t ≡ s) → Tries o s acted a t
+tries_told o s acted ended t a is ok told err = subst (λ (b : Answer). Tries o s acted b t) (sym is) (tries o s acted ended t ok told err)
+
+-- a fact about sizes as the code keeps them is one about the sizes
+pub of_sizes : (P : ℤ → ℤ → ℤ → Type 0) (a b g x y z : ℤ) → a ≡ x → b ≡ y → g ≡ z → P a b g → P x y z
+of_sizes P a b g x y z ea eb eg h = subst (λ i. P i y z) ea (subst (λ i. P a i z) eb (subst (λ i. P a b i) eg h))
+
+-- and so for the coefficients of a plane
+pub of_coefficients : (P : ℤ → ℤ → ℤ → ℤ → Type 0) (a b g e x y z w : ℤ) → a ≡ x → b ≡ y → g ≡ z → e ≡ w → P a b g e → P x y z w
+of_coefficients P a b g e x y z w ea eb eg ee h = of_sizes (λ i j k. P i j k w) a b g x y z ea eb eg (subst (P a b g) ee h)

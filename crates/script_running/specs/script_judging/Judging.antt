@@ -1,0 +1,140 @@
+-- What a line is answered.
+use Rattle.std.specs.Prelude.{◌≡◌, ◌⊎◌, ℕ, ◌+◌, ℤ, pos, Bool, true, false, List, [], ◌∷◌, get_or, Option, Some, None, Result, Ok, Err}
+use Rattle.lattice.specs.declared.Plane.{Plane}
+use Rattle.euler_operators.specs.declared.Refusal.{Refusal}
+use Rattle.euler_operators.specs.Refusal as refusal
+use Rattle.boundary_model.specs.Model.{Model}
+use Rattle.shapes.specs.Lamina.{lamina_refusal, lamina_model}
+use Rattle.shapes.specs.Block.{block_refusal, block_model}
+use Rattle.shapes.specs.Prism.{prism_refusal, prism_model}
+use Rattle.shapes.specs.glue.Glue.{glue_refusal, glue_model}
+use Rattle.shapes.specs.split.Split.{split_refusal, split_model}
+use Rattle.solid_measure.specs.declared.solid_counts.Tally.{Tally}
+use Rattle.solid_measure.specs.Measure.{answer, face_refusal, solid_refusal, plane_of, is_flat, six_volume, counts}
+use Rattle.undo_journal.specs.Machine.{Machine, held, accepted, act, act_refusal, undo, undo_refusal, redo, redo_refusal}
+use Rattle.undo_journal.specs.declared.session.Failure.{Failure}
+use Rattle.undo_journal.specs.declared.session.Failure.TheVariants as failure
+use Rattle.script_reader.specs.declared.command.Command.{Command}
+use Rattle.script_reader.specs.declared.command.Command.TheVariants as command
+use Rattle.script_reader.specs.declared.command.Fault.{Fault}
+use Rattle.script_reader.specs.Fault as fault
+use Rattle.script_reader.specs.Grammar.{command_of}
+use Rattle.solid_listing.specs.declared.reply.Reply.{Reply}
+use Rattle.solid_listing.specs.declared.reply.Reply.TheVariants as reply
+use Rattle.solid_listing.specs.Replies.{reply_text}
+use Rattle.solid_listing.specs.Listing.{listing}
+use Rattle.script_running.specs.declared.script_judging.judging.Answer.{Answer}
+use Rattle.script_running.specs.declared.script_judging.judging.Answer.TheVariants.{Silent, Reply as Told, Listing}
+use Rattle.script_running.specs.declared.script_judging.judging.Summary.{Summary}
+
+abbrev pub done : Answer
+done = Told reply.Done
+
+abbrev pub refused : Refusal → Answer
+refused r = Told (reply.Refused (refusal.code_of r.why) r.number)
+
+-- what a command is answered that ended so
+abbrev pub outcome : Result (Unit {0}) Failure → Answer
+outcome (Ok _) = done
+outcome (Err (failure.Refused r)) = refused r
+outcome (Err (failure.Memory e)) = Told reply.Memory
+
+-- undo and redo go on to a state, or are refused
+abbrev pub Moves : Option Refusal → Machine → Machine → Answer → Machine → Type 0
+Moves None s moved a t = (a ≡ done) × (t ≡ moved)
+Moves (Some r) s moved a t = (a ≡ refused r) × (t ≡ s)
+
+-- a command goes on to a state, or is refused, or is told that memory was refused
+abbrev pub Acts : Option Refusal → Machine → Machine → Answer → Machine → Type 0
+Acts None s acted a t = ((a ≡ done) × (t ≡ acted)) ⊎ ((a ≡ Told reply.Memory) × (t ≡ s))
+Acts (Some r) s acted a t = (a ≡ refused r) × (t ≡ s)
+
+-- a command whose tests take memory may be told that it was refused, whatever its conditions are
+abbrev pub Tries : Option Refusal → Machine → Machine → Answer → Machine → Type 0
+Tries o s acted a t = Acts o s acted a t ⊎ ((a ≡ Told reply.Memory) × (t ≡ s))
+
+-- the plane that has the four coefficients
+abbrev pub given_plane : List ℤ → Plane
+given_plane cs = record { a = get_or cs 0 (pos 0); b = get_or cs 1 (pos 0); c = get_or cs 2 (pos 0); d = get_or cs 3 (pos 0) }
+
+-- a query is told a reply, or refused
+abbrev pub told : Result Reply Refusal → Answer
+told (Ok r) = Told r
+told (Err r) = refused r
+
+-- what a query of a face's plane, and of a solid's volume, gives
+abbrev pub plane_reply : Model → ℕ → Result Reply Refusal
+plane_reply M f = answer (face_refusal M f) (reply.Plane (plane_of M f) (is_flat M f))
+
+abbrev pub volume_reply : Model → ℕ → Result Reply Refusal
+volume_reply M s = answer (solid_refusal M s) (reply.Volume (six_volume M s))
+
+-- the words of a count: vertices, edges, faces, rings, and the sum
+abbrev pub tally_words : Tally → List ℤ
+tally_words n = pos n.v ∷ pos n.e ∷ pos n.f ∷ pos n.r ∷ n.sum ∷ []
+
+abbrev pub count_reply : Model → ℕ → Result Reply Refusal
+count_reply M s = answer (solid_refusal M s) (reply.Count (tally_words (counts M s)))
+
+-- from s the machine may answer a command so, and go on to t
+abbrev pub Obeys : Machine → Command → Answer → Machine → Type 0
+Obeys s command.Nothing a t = (a ≡ Silent) × (t ≡ s)
+Obeys s (command.Act op) a t = Acts (act_refusal s op) s (act s op) a t
+Obeys s (command.Lamina n ps) a t = Acts (lamina_refusal (held s) n ps) s (accepted s (lamina_model (held s) n ps)) a t
+Obeys s (command.Block n p dx dy dz) a t = Acts (block_refusal (held s) n p dx dy dz) s (accepted s (block_model (held s) n p dx dy dz)) a t
+Obeys s (command.Sweep f d) a t = Acts (prism_refusal (held s) f d) s (accepted s (prism_model (held s) f d)) a t
+Obeys s (command.Glue f g) a t = Tries (glue_refusal (held s) f g) s (accepted s (glue_model (held s) f g)) a t
+Obeys s (command.Split n cs m) a t = Tries (split_refusal (held s) n (given_plane cs) m) s (accepted s (split_model (held s) n (given_plane cs) m)) a t
+Obeys s (command.Plane f) a t = (a ≡ told (plane_reply (held s) f)) × (t ≡ s)
+Obeys s (command.Volume n) a t = (a ≡ told (volume_reply (held s) n)) × (t ≡ s)
+Obeys s (command.Count n) a t = (a ≡ told (count_reply (held s) n)) × (t ≡ s)
+Obeys s command.Undo a t = Moves (undo_refusal s) s (undo s) a t
+Obeys s command.Redo a t = Moves (redo_refusal s) s (redo s) a t
+Obeys s command.List a t = (a ≡ Listing) × (t ≡ s)
+
+-- the command that a line spells is obeyed, and a line with a fault is told it
+abbrev pub Answers : Machine → Result Command Fault → Answer → Machine → Type 0
+Answers s (Ok c) a t = Obeys s c a t
+Answers s (Err f) a t = (a ≡ Told (reply.Fault (fault.code_of f))) × (t ≡ s)
+
+-- from s the machine may answer a line so, and go on to t
+abbrev pub Judges : Machine → List ℕ → Answer → Machine → Type 0
+Judges s line a t = Answers s (command_of line) a t
+
+-- the text of an answer, where the listing is that of the model held
+abbrev pub answer_text : Machine → Answer → List ℕ
+answer_text s Silent = []
+answer_text s (Told r) = reply_text r
+answer_text s Listing = listing (held s)
+
+-- the reply begins with `refused`, `fault` or `memory`
+abbrev pub complains : Answer → Bool
+complains Silent = false
+complains (Told reply.Done) = false
+complains (Told (reply.Refused n x)) = true
+complains (Told (reply.Fault n)) = true
+complains (Told reply.Memory) = true
+complains (Told (reply.Plane p flat)) = false
+complains (Told (reply.Volume n)) = false
+complains (Told (reply.Count ns)) = false
+complains Listing = false
+
+-- no line yet
+abbrev pub no_lines : Summary
+no_lines = record { lines = 0; refused = 0; faults = 0; memory = 0 }
+
+-- one line with its answer
+abbrev pub one_line : Answer → Summary
+one_line Silent = record { lines = 1; refused = 0; faults = 0; memory = 0 }
+one_line (Told reply.Done) = record { lines = 1; refused = 0; faults = 0; memory = 0 }
+one_line (Told (reply.Refused n x)) = record { lines = 1; refused = 1; faults = 0; memory = 0 }
+one_line (Told (reply.Fault n)) = record { lines = 1; refused = 0; faults = 1; memory = 0 }
+one_line (Told reply.Memory) = record { lines = 1; refused = 0; faults = 0; memory = 1 }
+one_line (Told (reply.Plane p flat)) = record { lines = 1; refused = 0; faults = 0; memory = 0 }
+one_line (Told (reply.Volume n)) = record { lines = 1; refused = 0; faults = 0; memory = 0 }
+one_line (Told (reply.Count ns)) = record { lines = 1; refused = 0; faults = 0; memory = 0 }
+one_line Listing = record { lines = 1; refused = 0; faults = 0; memory = 0 }
+
+-- the counts of some lines and of those after them
+abbrev pub counted : Summary → Summary → Summary
+counted a b = record { lines = a.lines + b.lines; refused = a.refused + b.refused; faults = a.faults + b.faults; memory = a.memory + b.memory }

@@ -1,0 +1,219 @@
+//! What a line is answered.
+ghost use Rattle.std.specs.Prelude.{◌≡◌, ◌<◌, ◌≤◌, ◌↔◌, IsTrue};
+ghost use Rattle.euler_conditions.specs.Ready.{IsReady};
+ghost use Rattle.script_running.specs.script_judging.Judging.{refused, outcome, told, plane_reply, volume_reply, count_reply, Moves, Acts, complains, one_line, counted};
+ghost use Rattle.script_running.specs.script_judging.Settling.{Settles, Decides};
+ghost use Rattle.undo_journal.specs.Machine as machine;
+
+use crate::script_judging::larger::Larger;
+use euler_conditions::{Arena, Op, Refusal};
+use script_reader::{Command, Short, read_line, read_short};
+use solid_listing::{Reply, WriteFault};
+use solid_measure::{counts, is_flat, plane, six_volume};
+use undo_journal::{Failure, Session};
+
+/// What a line is answered.
+#[derive(Clone, Copy, Debug, PartialEq, Eq)]
+pub enum Answer {
+    /// A blank line or a comment has no reply.
+    Silent,
+    Reply(Reply),
+    /// The listing of the model held.
+    Listing,
+}
+
+/// What a run counted.
+#[derive(Clone, Copy, Debug, Default, PartialEq, Eq)]
+pub struct Summary {
+    /// The lines judged, blank and comment lines and a last line without newline included.
+    pub lines: u64,
+    /// The replies that begin with `refused`.
+    pub refused: u64,
+    /// The replies that begin with `fault`.
+    pub faults: u64,
+    /// The replies that begin with `memory`.
+    pub memory: u64,
+}
+
+impl Summary {
+    /// Whether no reply begins with `refused`, `fault` or `memory`.
+    pub fn is_clean(&self) -> bool
+        ensures { IsTrue result ↔ ((self.now.refused ≡ 0) × (self.now.faults ≡ 0) × (self.now.memory ≡ 0)) }
+    {
+        self.refused == 0 && self.faults == 0 && self.memory == 0
+    }
+
+    /// One line more, with its answer.
+    pub fn count(&mut self, answer: &Answer)
+        requires lines { self.old.lines < 67108865 }
+        requires refused { self.old.refused ≤ self.old.lines }
+        requires faults { self.old.faults ≤ self.old.lines }
+        requires memory { self.old.memory ≤ self.old.lines }
+        ensures { self.new ≡ counted self.old (one_line answer.now) }
+    {
+        self.lines += 1;
+        match answer {
+            Answer::Reply(Reply::Refused(_, _)) => self.refused += 1,
+            Answer::Reply(Reply::Fault(_)) => self.faults += 1,
+            Answer::Reply(Reply::Memory) => self.memory += 1,
+            _ => {}
+        }
+    }
+}
+
+/// Whether the reply begins with `refused`, `fault` or `memory`.
+pub(crate) fn complains(answer: &Answer) -> bool
+    ensures { result ≡ complains answer.now }
+{
+    matches!(
+        answer,
+        Answer::Reply(Reply::Refused(_, _) | Reply::Fault(_) | Reply::Memory)
+    )
+}
+
+fn told_refusal(refusal: Refusal) -> Answer
+    ensures { result ≡ refused refusal }
+{
+    Answer::Reply(Reply::Refused(refusal.why.code(), refusal.number))
+}
+
+/// The answer to a command that ended so.
+pub(crate) fn outcome(ended: Result<(), Failure>) -> Answer
+    ensures { result ≡ outcome ended }
+{
+    match ended {
+        Ok(()) => Answer::Reply(Reply::Done),
+        Err(Failure::Refused(refusal)) => told_refusal(refusal),
+        Err(Failure::Memory(_)) => Answer::Reply(Reply::Memory),
+    }
+}
+
+#[tactic(auto, using(crate::proofs::script_judging_laws::Acted::acts))]
+fn act(session: &mut Session, op: Op) -> Answer
+    ensures { Acts (machine.act_refusal session.old op) session.old (machine.act session.old op) result session.new }
+{
+    outcome(session.act(op))
+}
+
+fn undo(session: &mut Session) -> Answer
+    ensures { Moves (machine.undo_refusal session.old) session.old (machine.undo session.old) result session.new }
+{
+    match session.undo() {
+        Ok(()) => Answer::Reply(Reply::Done),
+        Err(refusal) => told_refusal(refusal),
+    }
+}
+
+fn redo(session: &mut Session) -> Answer
+    ensures { Moves (machine.redo_refusal session.old) session.old (machine.redo session.old) result session.new }
+{
+    match session.redo() {
+        Ok(()) => Answer::Reply(Reply::Done),
+        Err(refusal) => told_refusal(refusal),
+    }
+}
+
+/// What a query gives.
+fn told(given: Result<Reply, Refusal>) -> Answer
+    ensures { result ≡ told given }
+{
+    match given {
+        Ok(reply) => Answer::Reply(reply),
+        Err(refusal) => told_refusal(refusal),
+    }
+}
+
+/// The plane of a face, and whether the face is flat.
+fn plane_reply(arena: &Arena, face: u32) -> Result<Reply, Refusal>
+    requires { IsReady arena.now }
+    ensures { result ≡ plane_reply arena.now.model face }
+{
+    let plane = plane(arena, face)?;
+    Ok(Reply::Plane(plane, is_flat(arena, face)?))
+}
+
+/// Six times the volume of a solid.
+fn volume_reply(arena: &Arena, solid: u32) -> Result<Reply, Refusal>
+    requires { IsReady arena.now }
+    ensures { result ≡ volume_reply arena.now.model solid }
+{
+    Ok(Reply::Volume(six_volume(arena, solid)?))
+}
+
+/// How many vertices, edges, faces and rings a solid has, and `v - e + f - r`.
+fn count_reply(arena: &Arena, solid: u32) -> Result<Reply, Refusal>
+    requires { IsReady arena.now }
+    ensures { result ≡ count_reply arena.now.model solid }
+{
+    let tally = counts(arena, solid)?;
+    Ok(Reply::Count([
+        tally.v as i64,
+        tally.e as i64,
+        tally.f as i64,
+        tally.r as i64,
+        tally.sum,
+    ]))
+}
+
+/// Answers a command, or puts a larger one in `later`.
+fn obey(session: &mut Session, command: Command, later: &mut Option<Larger>) -> Option<Answer>
+    ensures { Settles session.old command result session.new later.new }
+{
+    match command {
+        Command::Nothing => Some(Answer::Silent),
+        Command::Act(op) => Some(act(session, op)),
+        Command::Lamina(solid, corners) => {
+            *later = Some(Larger::Lamina(solid, corners));
+            None
+        }
+        Command::Block(solid, corner, dx, dy, dz) => {
+            *later = Some(Larger::Block(solid, corner, dx, dy, dz));
+            None
+        }
+        Command::Sweep(face, way) => {
+            *later = Some(Larger::Sweep(face, way));
+            None
+        }
+        Command::Glue(face, other) => {
+            *later = Some(Larger::Glue(face, other));
+            None
+        }
+        Command::Split(solid, plane, above) => {
+            *later = Some(Larger::Split(solid, plane, above));
+            None
+        }
+        Command::Plane(face) => Some(told(plane_reply(session.arena(), face))),
+        Command::Volume(solid) => Some(told(volume_reply(session.arena(), solid))),
+        Command::Count(solid) => Some(told(count_reply(session.arena(), solid))),
+        Command::Undo => Some(undo(session)),
+        Command::Redo => Some(redo(session)),
+        Command::List => Some(Answer::Listing),
+    }
+}
+
+/// Judges a line by its command.
+#[inline(never)]
+fn judge_command(session: &mut Session, line: &[u8], later: &mut Option<Larger>) -> Option<Answer>
+    ensures { Decides session.old line.now result session.new later.new }
+{
+    match read_line(line) {
+        Ok(command) => obey(session, command, later),
+        Err(fault) => Some(Answer::Reply(Reply::Fault(fault.code()))),
+    }
+}
+
+/// Judges a line: its answer, or none where it spells a larger command, which is put in `later`. A blank line, a comment or an operator
+/// is answered without a command, which has room for a lamina's points and so costs more to make than most lines to answer.
+pub(crate) fn judge(
+    session: &mut Session,
+    line: &[u8],
+    later: &mut Option<Larger>,
+) -> Option<Answer>
+    ensures { Decides session.old line.now result session.new later.new }
+{
+    match read_short(line) {
+        Short::Nothing => Some(Answer::Silent),
+        Short::Act(op) => Some(act(session, op)),
+        Short::Other => judge_command(session, line, later),
+    }
+}

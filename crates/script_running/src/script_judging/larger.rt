@@ -1,0 +1,117 @@
+//! Commands of several operators: each takes the session, and gives it back with its answer.
+ghost use Rattle.std.specs.Prelude.{◌≡◌};
+ghost use Rattle.shapes.specs.Lamina.{lamina_refusal, lamina_model};
+ghost use Rattle.shapes.specs.Block.{block_refusal, block_model};
+ghost use Rattle.shapes.specs.Prism.{prism_refusal, prism_model};
+ghost use Rattle.shapes.specs.glue.Glue.{glue_refusal, glue_model};
+ghost use Rattle.shapes.specs.split.Split.{split_refusal, split_model};
+ghost use Rattle.undo_journal.specs.Machine.{held, accepted};
+ghost use Rattle.script_running.specs.script_judging.Judging.{Acts, Obeys, Tries, given_plane};
+ghost use Rattle.script_running.specs.script_judging.Settling.{spelled};
+
+use crate::script_judging::judging::{Answer, outcome};
+use gluing::glue;
+use lattice::Point;
+use plane_split::split;
+use script_reader::Corners;
+use std::alloc::Global;
+use sweeps::{block, lamina, sweep};
+use undo_journal::Session;
+
+/// A command of several operators.
+#[derive(Drop)]
+pub enum Larger {
+    /// The new solid, and the points of its polygon.
+    Lamina(u32, Corners),
+    /// The new solid, a corner, and the sizes along x, y and z.
+    Block(u32, Point, i64, i64, i64),
+    /// The face, and the vector by which it moves.
+    Sweep(u32, Point),
+    /// The face of the solid that stays, and the face of the one that is glued to it.
+    Glue(u32, u32),
+    /// The solid, the coefficients of the plane, and the new solid above it.
+    Split(u32, [i64; 4], u32),
+}
+
+fn make_lamina(alloc: Global, session: Session, solid: u32, corners: &Corners) -> (Session, Answer)
+    ensures { Acts (lamina_refusal (held session) solid corners.now) session (accepted session (lamina_model (held session) solid corners.now)) result.1 result.0 }
+{
+    let (session, ended) = lamina(alloc, session, solid, corners.points());
+    (session, outcome(ended))
+}
+
+fn make_block(
+    alloc: Global,
+    session: Session,
+    solid: u32,
+    corner: Point,
+    dx: i64,
+    dy: i64,
+    dz: i64,
+) -> (Session, Answer)
+    ensures { Acts (block_refusal (held session) solid corner dx dy dz) session (accepted session (block_model (held session) solid corner dx dy dz)) result.1 result.0 }
+{
+    let (session, ended) = block(alloc, session, solid, corner, dx, dy, dz);
+    (session, outcome(ended))
+}
+
+#[tactic(auto, using(crate::proofs::script_judging_laws::Acted::acts))]
+fn make_sweep(alloc: Global, session: Session, face: u32, way: Point) -> (Session, Answer)
+    ensures { Acts (prism_refusal (held session) face way) session (accepted session (prism_model (held session) face way)) result.1 result.0 }
+{
+    let (session, ended) = sweep(alloc, session, face, way);
+    (session, outcome(ended))
+}
+
+#[tactic(auto, using(crate::proofs::script_judging_laws::Acted::tries))]
+fn make_glue(alloc: Global, session: Session, face: u32, other: u32) -> (Session, Answer)
+    ensures { Tries (glue_refusal (held session) face other) session (accepted session (glue_model (held session) face other)) result.1 result.0 }
+{
+    let (session, ended) = glue(alloc, session, face, other);
+    (session, outcome(ended))
+}
+
+fn make_split(
+    alloc: Global,
+    session: Session,
+    solid: u32,
+    a: i64,
+    b: i64,
+    c: i64,
+    d: i64,
+    above: u32,
+) -> (Session, Answer)
+    ensures { Tries (split_refusal (held session) solid (record { a = a; b = b; c = c; d = d }) above) session (accepted session (split_model (held session) solid (record { a = a; b = b; c = c; d = d }) above)) result.1 result.0 }
+{
+    let (session, ended) = split(alloc, session, solid, a, b, c, d, above);
+    (session, outcome(ended))
+}
+
+/// Splits by the plane of four coefficients.
+fn split_by(
+    alloc: Global,
+    session: Session,
+    solid: u32,
+    plane: [i64; 4],
+    above: u32,
+) -> (Session, Answer)
+    ensures { Tries (split_refusal (held session) solid (given_plane plane) above) session (accepted session (split_model (held session) solid (given_plane plane) above)) result.1 result.0 }
+{
+    let [a, b, c, d] = plane;
+    make_split(alloc, session, solid, a, b, c, d, above)
+}
+
+/// Carries a larger command out.
+pub(crate) fn carry_out(alloc: Global, session: Session, larger: Larger) -> (Session, Answer)
+    ensures { Obeys session (spelled larger) result.1 result.0 }
+{
+    match larger {
+        Larger::Lamina(solid, corners) => make_lamina(alloc, session, solid, &corners),
+        Larger::Block(solid, corner, dx, dy, dz) => {
+            make_block(alloc, session, solid, corner, dx, dy, dz)
+        }
+        Larger::Sweep(face, way) => make_sweep(alloc, session, face, way),
+        Larger::Glue(face, other) => make_glue(alloc, session, face, other),
+        Larger::Split(solid, plane, above) => split_by(alloc, session, solid, plane, above),
+    }
+}

@@ -1,4 +1,0 @@
-mod Above
-mod HoleFlags
-mod Stages
-mod Facts

@@ -1,9 +1,0 @@
-mod Sorted
-mod Meetings
-mod Sums
-mod Chains
-mod Meeting
-mod Leads
-mod Rounds
-mod Found
-mod Whole

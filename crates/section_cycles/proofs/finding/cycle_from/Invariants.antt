@@ -1,8 +1,0 @@
-use Rattle.std.proofs.Common.{◌-◌, map, length}
-use Rattle.boundary_model.specs.HalfEdge.{code}
-use Rattle.shapes.specs.split.Section.{next_below}
-use Rattle.section_cycles.proofs.Rounds.{Going}
-use Rattle.section_cycles.proofs.finding.cycle_from.Given as goal
-
-abbrev pub invariant-round : goal.invariant-round
-invariant-round l = Going (next_below l.arena.model (map code l.halves)) (map code l.halves) (code l.first) (code l.half) (length l.halves - l.counter) (map code l.cycle.items)

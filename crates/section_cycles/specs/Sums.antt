@@ -1,6 +1,0 @@
--- A sum of cross products, as the code has it.
-use Rattle.lattice.specs.declared.Point.{Point}
-use Rattle.section_cycles.specs.declared.holes.Vector.{Vector}
-
-abbrev pub read : Vector → Point
-read v = record { x = v.x; y = v.y; z = v.z }

@@ -1,6 +1,0 @@
-use Rattle.std.proofs.Common.{sym, ◌∙◌}
-use Rattle.section_edges.proofs.Normals.{answered_limited}
-use Rattle.section_edges.proofs.above.points_along.Goals as goal
-
-pub dot-requires-clause-n : goal.dot-requires-clause-n
-dot-requires-clause-n c = answered_limited c.args.arena.now.model c.requires.ready.sound c.args.f c.requires.there c.in-Ok.across (sym c.in-Ok.is ∙ c.normal.ensures)

@@ -1,7 +1,0 @@
-use Rattle.std.proofs.Common.{◌∙◌}
-use Rattle.solid_checks.specs.Least.{lesser}
-use Rattle.solid_checks.proofs.BentFaces.{both_bent}
-use Rattle.solid_checks.proofs.bent.least_bent_of_both.Goals as goal
-
-pub returns : goal.returns
-returns c = c.lesser.ensures ∙ (λ i. lesser (c.least_bent.ensures i) (c.least_bent-2.ensures i)) ∙ both_bent c.args.arena.now.model c.requires.sound c.args.s c.args.t

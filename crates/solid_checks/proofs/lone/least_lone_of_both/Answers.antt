@@ -1,7 +1,0 @@
-use Rattle.std.proofs.Common.{◌∙◌}
-use Rattle.solid_checks.specs.Least.{lesser}
-use Rattle.solid_checks.proofs.LoneLoops.{both_lone}
-use Rattle.solid_checks.proofs.lone.least_lone_of_both.Goals as goal
-
-pub returns : goal.returns
-returns c = c.lesser.ensures ∙ (λ i. lesser (c.least_lone.ensures i) (c.least_lone-2.ensures i)) ∙ both_lone c.args.arena.now.model c.requires.sound c.args.s c.args.t

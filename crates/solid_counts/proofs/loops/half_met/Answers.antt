@@ -1,5 +1,0 @@
-use Rattle.solid_counts.proofs.LoopRounds.{half_is}
-use Rattle.solid_counts.proofs.loops.half_met.Goals as goal
-
-pub returns : goal.returns
-returns c = half_is c.args.arena.now.model c.args.h c.leads.result c.from.result c.from-2.result c.leads.ensures c.from.ensures c.from-2.ensures

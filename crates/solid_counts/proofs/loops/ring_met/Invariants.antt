@@ -1,8 +1,0 @@
-use Rattle.std.proofs.Common.{◌-◌}
-use Rattle.boundary_model.specs.HalfEdge.{code}
-use Rattle.euler_conditions.proofs.Parallel.{steps}
-use Rattle.solid_counts.proofs.LoopRounds.{MetRound}
-use Rattle.solid_counts.proofs.loops.ring_met.Given as goal
-
-abbrev pub invariant-round : goal.invariant-round
-invariant-round l = MetRound l.arena.model l.l (code l.first) (code l.h) (steps - l.counter) l.sum

@@ -1,6 +1,0 @@
-mod Starts
-mod RingSteps
-mod OneFace
-mod Faces
-mod FaceTurns
-mod WholeSolid

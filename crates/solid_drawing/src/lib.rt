@@ -1,9 +1,0 @@
-//! A solid with its crossing edges cut and its straddling faces drawn, in a draft: the first two rewritings of a split.
-#![tactic(auto)]
-
-mod face;
-mod places;
-mod rings;
-mod solid;
-
-pub use solid::draw_solid;

@@ -1,0 +1,30 @@
+use Rattle.std.proofs.Common.{◌∙◌, ap, sym, length, arith}
+use Rattle.boundary_model.specs.Table.{has}
+use Rattle.boundary_model.specs.Model.{faces_of}
+use Rattle.solid_walks.proofs.face_walks_laws.Rising.{above}
+use Rattle.solid_measure.specs.solid_checks.Least.{found}
+use Rattle.solid_measure.proofs.solid_checks_laws.FaceWalks.{next_face, no_face_left, faces_from_zero, face_positive, first_true}
+use Rattle.solid_measure.proofs.solid_checks_laws.BentFaces.{first_bent, bent_here, bent_later, found_bent}
+use Rattle.solid_measure.proofs.solid_checks.bent.least_bent.Goals as goal
+
+pub faces-init : goal.faces-init
+faces-init c = let M = c.args.arena.now.model in ap (first_bent M) (faces_from_zero M c.requires.sound c.args.s)
+
+pub returns-then-is_bent : goal.returns-then-is_bent
+returns-then-is_bent c =
+    let M = c.args.arena.now.model in let s = c.args.s in let f = c.in-Some.f in
+    found_bent M f (first_bent M (faces_of M s)) (face_positive M c.requires.sound f (first_true (has M.faces f) _ c.in-Some.ensures.1))
+    (sym (bent_here M f (above f (faces_of M s)) (sym c.is_bent.ensures ∙ c.if-is_bent.true)) ∙ ap (first_bent M) (sym (next_face M s c.faces.above f c.in-Some.ensures)) ∙ c.faces.invariant)
+
+pub faces-smaller : goal.faces-smaller
+faces-smaller c = let next = next_face c.args.arena.now.model c.args.s c.faces.above c.in-Some.f c.in-Some.ensures in omega (arith, ap length next)
+
+pub faces-preserved : goal.faces-preserved
+faces-preserved c =
+    let M = c.args.arena.now.model in let s = c.args.s in let f = c.in-Some.f in
+    sym (bent_later M f (above f (faces_of M s)) (sym c.is_bent.ensures ∙ c.if-is_bent.false)) ∙ ap (first_bent M) (sym (next_face M s c.faces.above f c.in-Some.ensures)) ∙ c.faces.invariant
+
+pub returns : goal.returns
+returns c =
+    let M = c.args.arena.now.model in let s = c.args.s in
+    ap found (ap (first_bent M) (sym (no_face_left M s c.faces.above c.in_default.ensures)) ∙ c.faces.invariant)

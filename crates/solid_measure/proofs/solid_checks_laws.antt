@@ -1,0 +1,4 @@
+pub mod Searches
+pub mod FaceWalks
+pub mod LoneLoops
+pub mod BentFaces

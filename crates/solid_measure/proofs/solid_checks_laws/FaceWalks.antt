@@ -1,0 +1,71 @@
+-- What an arena answers as a walk goes from a face of a solid to the next.
+use Rattle.std.proofs.Common.{◌≡◌, ℕ, ◌<◌, Bool, true, false, ◌&&◌, ◌||◌, nat_eq, List, [], ◌∷◌, Option, Some, None, is_some, unwrap_or, refl, sym, ◌∙◌, arith}
+use Rattle.std.proofs.lemmas.Bool.Decides.{nat_tests}
+use Rattle.boundary_model.specs.Table.{get, has}
+use Rattle.boundary_model.specs.Model.{Model, FaceRow, no_face, solid_of, faces_of, is_number}
+use Rattle.boundary_model.specs.Sound.{Sound}
+use Rattle.euler_operators.specs.Conditions.{lists}
+use Rattle.euler_conditions.specs.Store.{IsNextFace, is_face_of}
+use Rattle.shapes.specs.Faces.{faces_of_both}
+use Rattle.solid_walks.proofs.face_walks_laws.Rising.{above, member, AllAbove, Rising, all_above, next_above, none_above, all_above_members}
+use Rattle.solid_walks.proofs.face_walks_laws.TableWalks.{passes, rising_passing, member_passing}
+
+pub one_or_more : (k : ℕ) → is_number k ≡ true → 0 < k
+one_or_more k e = grind (arith, nat_tests)
+
+pub first_true : (a b : Bool) → a && b ≡ true → a ≡ true
+first_true true b e = refl
+first_true false b e = e
+
+pub lists_member : (ks : List ℕ) (k : ℕ) → lists ks k ≡ member k ks
+lists_member [] k = refl
+lists_member (x ∷ xs) k = let e : nat_eq x k ≡ nat_eq k x = grind (arith, nat_tests) in λ i. e i || lists_member xs k i
+
+module _ (M : Model) where
+  abbrev of_solid : ℕ → ℕ → FaceRow → Bool
+  of_solid s f row = nat_eq row.solid s
+
+  abbrev of_either : ℕ → ℕ → ℕ → FaceRow → Bool
+  of_either s t f row = nat_eq row.solid s || nat_eq row.solid t
+
+  face_passes : (s k : ℕ) (o : Option FaceRow) → passes (of_solid s) k o ≡ is_some o && nat_eq (unwrap_or o no_face).solid s
+  face_passes s k None = refl
+  face_passes s k (Some row) = refl
+
+  pub member_faces : (s k : ℕ) → member k (faces_of M s) ≡ is_face_of M s k
+  unfolding solid_of
+  member_faces s k = member_passing (of_solid s) M.faces k ∙ face_passes s k (get M.faces k)
+
+  pub member_both : (s t k : ℕ) → member k (faces_of_both M s t) ≡ member k (faces_of M s) || member k (faces_of M t)
+  member_both s t k = member_passing (of_either s t) M.faces k ∙ go (get M.faces k) ∙ sym (λ i. member_passing (of_solid s) M.faces k i || member_passing (of_solid t) M.faces k i) where
+    go : (o : Option FaceRow) → passes (of_either s t) k o ≡ passes (of_solid s) k o || passes (of_solid t) k o
+    go None = refl
+    go (Some row) = refl
+
+  pub faces_rise : (s : ℕ) → Rising (faces_of M s)
+  faces_rise s = rising_passing (of_solid s) M.faces
+
+  pub both_rise : (s t : ℕ) → Rising (faces_of_both M s t)
+  both_rise s t = rising_passing (of_either s t) M.faces
+
+  pub next_face : (s n m : ℕ) → IsNextFace M s n (Some m) → above n (faces_of M s) ≡ m ∷ above m (faces_of M s)
+  next_face s n m h = next_above n m (faces_of M s) (faces_rise s) h.0 (member_faces s m ∙ h.1) (λ k a b. member_faces s k ∙ h.2 k a b)
+
+  pub no_face_left : (s n : ℕ) → IsNextFace M s n None → above n (faces_of M s) ≡ []
+  no_face_left s n h = none_above n (faces_of M s) (λ k a. member_faces s k ∙ h k a)
+
+  module _ (sound : Sound M) where
+    pub face_positive : (k : ℕ) → has M.faces k ≡ true → 0 < k
+    face_positive k there = one_or_more k (sound.faces_fit k there)
+
+    pub faces_positive : (s : ℕ) → AllAbove 0 (faces_of M s)
+    faces_positive s = all_above_members 0 (faces_of M s) (λ k m. face_positive k (first_true (has M.faces k) (nat_eq (solid_of M k) s) (sym (member_faces s k) ∙ m)))
+
+    pub both_positive : (s t : ℕ) → AllAbove 0 (faces_of_both M s t)
+    both_positive s t = all_above_members 0 (faces_of_both M s t) (λ k m. face_positive k (there k (get M.faces k) (sym (member_passing (of_either s t) M.faces k) ∙ m))) where
+      there : (k : ℕ) (o : Option FaceRow) → passes (of_either s t) k o ≡ true → is_some o ≡ true
+      there k None e = e
+      there k (Some row) e = refl
+
+    pub faces_from_zero : (s : ℕ) → above 0 (faces_of M s) ≡ faces_of M s
+    faces_from_zero s = all_above 0 (faces_of M s) (faces_positive s)

@@ -1,0 +1,128 @@
+-- The least number that passes a test.
+use Rattle.std.proofs.Common.{◌≡◌, ℕ, ◌<◌, Bool, true, false, cond, ◌&&◌, ◌||◌, nat_eq, nat_lt, nat_le, List, [], ◌∷◌, Option, Some, None, refl, sym, ap, ◌∙◌, arith, true≢false, inl, inr, subst}
+use Rattle.std.proofs.lemmas.Bool.Decides.{nat_tests, eqb_tells}
+use Rattle.boundary_model.specs.Table.{Table, get, first_in, first_where, all_in, all_where}
+use Rattle.shapes.specs.Fresh.{first_such}
+use Rattle.solid_walks.proofs.face_walks_laws.Rising.{member, AllAbove, Rising, not_member}
+use Rattle.solid_walks.proofs.face_walks_laws.TableWalks.{passes, rising_passing, member_passing}
+use Rattle.solid_measure.specs.solid_checks.Least.{found, only, lesser, least_such}
+
+abbrev pub IsLeast : (ℕ → Bool) → Option ℕ → Type 0
+IsLeast p None = (k : ℕ) → p k ≡ false
+IsLeast p (Some n) = (p n ≡ true) × ((k : ℕ) → k < n → p k ≡ false)
+
+-- there is but one
+pub one_least : (p : ℕ → Bool) (m n : Option ℕ) → IsLeast p m → IsLeast p n → m ≡ n
+one_least p None None a b = refl
+one_least p None (Some n) a b = absurd (true≢false (sym b.0 ∙ a n))
+one_least p (Some m) None a b = absurd (true≢false (sym a.0 ∙ b m))
+one_least p (Some m) (Some n) a b = elim (nat_lt m n) as (λ c. nat_lt m n ≡ c → Some m ≡ Some n) [
+  | true ↦ λ t. absurd (true≢false (sym a.0 ∙ b.1 m (grind (arith, nat_tests))))
+  | false ↦ λ t. elim (nat_lt n m) as (λ c. nat_lt n m ≡ c → Some m ≡ Some n) [
+    | true ↦ λ u. absurd (true≢false (sym b.0 ∙ a.1 n (grind (arith, nat_tests))))
+    | false ↦ λ u. let e : m ≡ n = grind (arith, nat_tests) in ap Some e
+  ] refl
+] refl
+
+-- it is the same for tests that agree
+pub least_same : (p q : ℕ → Bool) → ((k : ℕ) → p k ≡ q k) → (n : Option ℕ) → IsLeast p n → IsLeast q n
+least_same p q e None h = λ k. sym (e k) ∙ h k
+least_same p q e (Some n) h = (sym (e n) ∙ h.0, λ k l. sym (e k) ∙ h.1 k l)
+
+either_first : (a b : Bool) → a ≡ true → a || b ≡ true
+either_first a b e = ap (λ c. c || b) e
+
+either_second : (a b : Bool) → b ≡ true → a || b ≡ true
+either_second true b e = refl
+either_second false b e = e
+
+neither : (a b : Bool) → a ≡ false → b ≡ false → a || b ≡ false
+neither a b e f = ap (λ c. c || b) e ∙ f
+
+-- the least that passes one of two tests
+pub least_either : (p q : ℕ → Bool) (m n : Option ℕ) → IsLeast p m → IsLeast q n → IsLeast (λ k. p k || q k) (lesser m n)
+least_either p q None None a b = λ k. neither (p k) (q k) (a k) (b k)
+least_either p q None (Some n) a b = (either_second (p n) (q n) b.0, λ k l. neither (p k) (q k) (a k) (b.1 k l))
+least_either p q (Some m) None a b = (either_first (p m) (q m) a.0, λ k l. neither (p k) (q k) (a.1 k l) (b k))
+least_either p q (Some m) (Some n) a b = elim (nat_le m n) as (λ c. nat_le m n ≡ c → IsLeast (λ k. p k || q k) (Some (cond c m n))) [
+  | true ↦ λ t. (either_first (p m) (q m) a.0, λ k l. neither (p k) (q k) (a.1 k l) (b.1 k (grind (arith, nat_tests))))
+  | false ↦ λ t. (either_second (p n) (q n) b.0, λ k l. neither (p k) (q k) (a.1 k (grind (arith, nat_tests))) (b.1 k l))
+] refl
+
+-- one number
+only_least : (p : ℕ → Bool) (n : ℕ) → IsLeast (λ k. p k && nat_eq k n) (only (p n) n)
+only_least p n = elim (p n) as (λ b. p n ≡ b → IsLeast (λ k. p k && nat_eq k n) (only b n)) [
+  | true ↦ λ t. (same t, λ k l. other k (grind (arith, nat_tests)))
+  | false ↦ λ t. λ k. elim (eqb_tells k n) [ inl e ↦ (λ i. p (e.1 i) && nat_eq k n) ∙ ap (λ b. b && nat_eq k n) t | inr e ↦ other k e.0 ]
+] refl where
+  same : p n ≡ true → p n && nat_eq n n ≡ true
+  same t = let e : nat_eq n n ≡ true = grind (arith, nat_tests) in (λ i. t i && e i)
+
+  and_false : (b : Bool) → b && false ≡ false
+  and_false true = refl
+  and_false false = refl
+
+  other : (k : ℕ) → nat_eq k n ≡ false → p k && nat_eq k n ≡ false
+  other k e = ap (λ b. p k && b) e ∙ and_false (p k)
+
+and_or : (a b c : Bool) → (a && b) || (a && c) ≡ a && (b || c)
+and_or true b c = refl
+and_or false b c = refl
+
+no_member : (b : Bool) → false ≡ b && false
+no_member true = refl
+no_member false = refl
+
+-- the least of a list
+pub least_listed : (p : ℕ → Bool) (ks : List ℕ) → IsLeast (λ k. p k && member k ks) (least_such p ks)
+least_listed p [] = λ k. sym (no_member (p k))
+least_listed p (n ∷ ns) = least_same (λ k. (p k && nat_eq k n) || (p k && member k ns)) (λ k. p k && member k (n ∷ ns)) (λ k. and_or (p k) (nat_eq k n) (member k ns)) (lesser (only (p n) n) (least_such p ns))
+    (least_either (λ k. p k && nat_eq k n) (λ k. p k && member k ns) (only (p n) n) (least_such p ns) (only_least p n) (least_listed p ns))
+
+found_some : (n : ℕ) → 0 < n → found n ≡ Some n
+found_some n l = let e : nat_eq n 0 ≡ false = grind (arith, nat_tests) in ap (λ b. cond b None (Some n)) e
+
+-- the first of a rising list is its least
+pub least_rising : (p : ℕ → Bool) (ks : List ℕ) → AllAbove 0 ks → Rising ks → IsLeast (λ k. p k && member k ks) (found (first_such p ks))
+least_rising p [] some rising = λ k. sym (no_member (p k))
+least_rising p (n ∷ ns) some rising = elim (p n) as (λ b. p n ≡ b → IsLeast (λ k. p k && member k (n ∷ ns)) (found (cond b n (first_such p ns)))) [
+  | true ↦ λ t. least_here t
+  | false ↦ λ t. least_same (λ k. p k && member k ns) (λ k. p k && member k (n ∷ ns)) (λ k. elim (eqb_tells k n) [
+    | inl e ↦ (λ i. p (e.1 i) && member k ns) ∙ ap (λ b. b && member k ns) t ∙ sym (ap (λ b. b && member k (n ∷ ns)) t) ∙ (λ i. p (sym e.1 i) && member k (n ∷ ns))
+    | inr e ↦ ap (λ b. p k && (b || member k ns)) (sym e.0)
+  ]) (found (first_such p ns)) (least_rising p ns some.1 rising.1)
+] refl where
+  below : (k : ℕ) → k < n → p k && member k (n ∷ ns) ≡ false
+  below k l =
+      let e : nat_eq k n ≡ false = grind (arith, nat_tests) in
+      ap (λ b. p k && b) (ap (λ b. b || member k ns) e ∙ not_member n k ns (omega arith) rising.0) ∙ sym (no_member (p k))
+
+  here : p n ≡ true → p n && member n (n ∷ ns) ≡ true
+  here t = let e : nat_eq n n ≡ true = grind (arith, nat_tests) in (λ i. t i && (e i || member n ns))
+
+  least_here : p n ≡ true → IsLeast (λ k. p k && member k (n ∷ ns)) (found n)
+  least_here t = subst (IsLeast (λ k. p k && member k (n ∷ ns))) (sym (found_some n some.0)) (here t, below)
+
+-- the first row that passes is the first of all that pass
+first_of_all : {X : Type 0} (p : ℕ → X → Bool) (t : Table X) → first_where p t ≡ first_such (λ _. true) (all_where p t)
+unfolding first_where all_where
+first_of_all {X} p t = go t.rows where
+  go : (es : List (ℕ × X)) → first_in p es ≡ first_such (λ _. true) (all_in p es)
+  go [] = refl
+  go (e ∷ es) = elim (p e.0 e.1) as (λ b. cond b e.0 (first_in p es) ≡ first_such (λ _. true) (cond b (e.0 ∷ all_in p es) (all_in p es))) [ true ↦ refl | false ↦ go es ]
+
+-- the least row that passes
+pub least_row : {X : Type 0} (p : ℕ → X → Bool) (t : Table X) → AllAbove 0 (all_where p t) → IsLeast (λ k. passes p k (get t k)) (found (first_where p t))
+least_row {X} p t some = subst (λ n. IsLeast (λ k. passes p k (get t k)) (found n)) (sym (first_of_all p t))
+    (least_same (λ k. true && member k (all_where p t)) (λ k. passes p k (get t k)) (member_passing p t) (found (first_such (λ _. true) (all_where p t))) (least_rising (λ _. true) (all_where p t) some (rising_passing p t)))
+
+-- three numbers, one after the other
+pub lesser_of_three : (a b c : Option ℕ) → lesser (lesser a b) c ≡ lesser a (lesser b c)
+lesser_of_three None b c = refl
+lesser_of_three (Some a) None c = refl
+lesser_of_three (Some a) (Some b) None = refl
+lesser_of_three (Some a) (Some b) (Some c) = ap Some (grind (arith, nat_tests))
+
+pub lesser_none : (a : Option ℕ) → lesser a None ≡ a
+lesser_none None = refl
+lesser_none (Some a) = refl

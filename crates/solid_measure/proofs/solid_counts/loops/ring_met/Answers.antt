@@ -1,0 +1,45 @@
+use Rattle.std.proofs.Common.{ℕ, ◌+◌, ◌-◌, sym, ap, subst, ◌∙◌, arith}
+use Rattle.boundary_model.specs.HalfEdge.{code}
+use Rattle.euler_laws.proofs.shared.Goes.{equal, unequal}
+use Rattle.euler_conditions.proofs.Known.{edge_there}
+use Rattle.euler_conditions.proofs.Parallel.{steps, steps_are}
+use Rattle.solid_measure.specs.solid_counts.Sums.{nothing, together, IsFew}
+use Rattle.solid_measure.proofs.solid_counts_laws.Sums.{half_few}
+use Rattle.solid_measure.proofs.solid_counts_laws.LoopRounds.{MetRound, met_start, met_few, met_closed, met_more, met_ended}
+use Rattle.solid_measure.proofs.solid_counts.loops.ring_met.Goals as goal
+
+pub round-init : goal.round-init
+round-init c =
+    let M = c.args.arena.now.model in let l = c.args.l in let first : ℕ = code c.args.first in
+    subst (λ n. MetRound M l first first n nothing) (omega arith) (met_start M c.requires.ready.sound l first c.requires.item)
+
+pub half_met-requires-clause-there : goal.half_met-requires-clause-there
+half_met-requires-clause-there c = edge_there c.args.arena.now.model c.round.h c.round.invariant.round.there
+
+pub next-h-requires-clause-there : goal.next-h-requires-clause-there
+next-h-requires-clause-there c = edge_there c.args.arena.now.model c.round.h c.round.invariant.round.there
+
+pub together-sum-requires-clause-a : goal.together-sum-requires-clause-a
+together-sum-requires-clause-a c =
+    met_few c.args.arena.now.model c.requires.ready.sound c.args.l (code c.args.first) c.requires.item (code c.round.h) (steps - c.round.counter) c.round.sum c.round.invariant
+
+pub together-sum-requires-clause-b : goal.together-sum-requires-clause-b
+together-sum-requires-clause-b c = subst IsFew (sym c.half_met.ensures) (half_few c.args.arena.now.model (code c.round.h))
+
+pub returns-then-same : goal.returns-then-same
+returns-then-same c =
+    let M = c.args.arena.now.model in let first : ℕ = code c.args.first in
+    met_closed M c.requires.ready.sound c.args.l first c.requires.item (code c.round.h) (steps - c.round.counter) c.round.sum c.round.invariant (steps - (c.round.counter + 1)) (omega (arith, steps_are))
+    c.together-sum.result (c.together-sum.ensures ∙ ap (together c.round.sum) c.half_met.ensures) (sym c.next-h.ensures.next ∙ equal (code c.next-h.result) first (sym c.same.ensures ∙ c.if-same.true))
+
+pub round-preserved : goal.round-preserved
+round-preserved c =
+    let M = c.args.arena.now.model in let first : ℕ = code c.args.first in
+    let apart = unequal (code c.next-h.result) first (sym c.same.ensures ∙ c.if-same.false) in
+    subst (λ x. MetRound M c.args.l first x (steps - (c.round.counter + 1)) c.together-sum.result) (sym c.next-h.ensures.next)
+    (met_more M c.requires.ready.sound c.args.l first c.requires.item (code c.round.h) (steps - c.round.counter) c.round.sum c.round.invariant (steps - (c.round.counter + 1)) (omega (arith, steps_are))
+    c.together-sum.result (c.together-sum.ensures ∙ ap (together c.round.sum) c.half_met.ensures) (λ e. apart (c.next-h.ensures.next ∙ e)))
+
+pub returns : goal.returns
+returns c =
+    met_ended c.args.arena.now.model c.requires.ready.sound c.args.l (code c.args.first) c.requires.item (code c.round.h) (steps - c.round.counter) c.round.sum c.round.invariant (omega (arith, steps_are))

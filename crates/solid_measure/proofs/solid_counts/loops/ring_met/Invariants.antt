@@ -1,0 +1,8 @@
+use Rattle.std.proofs.Common.{◌-◌}
+use Rattle.boundary_model.specs.HalfEdge.{code}
+use Rattle.euler_conditions.proofs.Parallel.{steps}
+use Rattle.solid_measure.proofs.solid_counts_laws.LoopRounds.{MetRound}
+use Rattle.solid_measure.proofs.solid_counts.loops.ring_met.Given as goal
+
+abbrev pub invariant-round : goal.invariant-round
+invariant-round l = MetRound l.arena.model l.l (code l.first) (code l.h) (steps - l.counter) l.sum

@@ -1,0 +1,6 @@
+pub mod HowMany
+pub mod Sums
+pub mod LoopRounds
+pub mod FaceSums
+pub mod Tallies
+pub mod WorkedScripts

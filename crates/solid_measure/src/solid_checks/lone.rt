@@ -1,0 +1,60 @@
+//! Lone loops of solids.
+ghost use Rattle.std.specs.Prelude.{◌≡◌, true};
+ghost use Rattle.boundary_model.specs.Model.{content, faces_of};
+ghost use Rattle.euler_conditions.specs.Ready.{IsReady};
+ghost use Rattle.euler_operators.specs.Conditions.{is_lone};
+ghost use Rattle.euler_conditions.specs.Store.{has_number};
+ghost use Rattle.shapes.specs.Faces.{faces_of_both, least_lone, loops_of};
+ghost use Rattle.solid_measure.specs.solid_checks.Least.{found, least_such, only};
+
+use crate::solid_checks::least::lesser;
+use euler_conditions::{Arena, Content, Kind};
+
+/// Loop l, where it is lone.
+fn lone_loop(arena: &Arena, l: u32) -> Option<u32>
+    requires ready { IsReady arena.now }
+    requires there { has_number arena.now Kind.Loop l ≡ true }
+    ensures { result ≡ only (is_lone (content arena.now.model l)) l }
+{
+    match arena.content(l) {
+        Content::Lone(_) => Some(l),
+        Content::Ring(_) => None,
+    }
+}
+
+/// The least lone loop of face f.
+fn least_lone_of_face(arena: &Arena, f: u32) -> Option<u32>
+    requires ready { IsReady arena.now }
+    requires there { has_number arena.now Kind.Face f ≡ true }
+    ensures { result ≡ least_such (λ l. is_lone (content arena.now.model l)) (loops_of arena.now.model f) }
+{
+    let mut least = lone_loop(arena, arena.outer(f));
+    let mut above = 0;
+    'rings: while let Some(l) = arena.ring_after(f, above) {
+        least = lesser(least, lone_loop(arena, l));
+        above = l;
+    }
+    least
+}
+
+/// The least lone loop of the faces of solid s, if there is one. It looks at each of their loops once, and at no other.
+pub fn least_lone(arena: &Arena, s: u32) -> Option<u32>
+    requires { IsReady arena.now }
+    ensures { result ≡ found (least_lone arena.now.model (faces_of arena.now.model s)) }
+{
+    let mut least = None;
+    let mut above = 0;
+    'faces: while let Some(f) = arena.face_after(s, above) {
+        least = lesser(least, least_lone_of_face(arena, f));
+        above = f;
+    }
+    least
+}
+
+/// The least lone loop of the faces of two solids, if there is one.
+pub fn least_lone_of_both(arena: &Arena, s: u32, t: u32) -> Option<u32>
+    requires { IsReady arena.now }
+    ensures { result ≡ found (least_lone arena.now.model (faces_of_both arena.now.model s t)) }
+{
+    lesser(least_lone(arena, s), least_lone(arena, t))
+}

@@ -1,0 +1,100 @@
+//! Counts of a solid by number.
+ghost use Rattle.std.specs.Prelude.{◌≡◌, length, true};
+ghost use Rattle.boundary_model.specs.Model.{faces_of, is_number};
+ghost use Rattle.euler_conditions.specs.Ready.{IsReady};
+ghost use Rattle.solid_measure.specs.solid_counts.Counts.{answer, counts, rings_in, solid_refusal};
+ghost use Rattle.solid_walks.specs.Walks.{loops_in};
+ghost use Rattle.solid_measure.specs.solid_counts.Sums.{loops_met};
+
+use crate::solid_counts::loops::{face_met, together};
+use crate::solid_counts::{Met, Tally};
+use euler_conditions::{Arena, Kind};
+use euler_operators::{Refusal, Why};
+
+/// Whether the number lies from 1 to the limit.
+fn is_number(n: u32) -> bool
+    ensures { result ≡ is_number n }
+{
+    1 <= n && n <= 1_000_000
+}
+
+/// The refusal of a query about solid s, if there is one: NumberRange, then NoSolid.
+pub(crate) fn refusal_of_solid(arena: &Arena, s: u32) -> Option<Refusal>
+    ensures { result ≡ solid_refusal arena.now.model s }
+{
+    if !is_number(s) {
+        return Some(Refusal {
+            why: Why::NumberRange,
+            number: s,
+        });
+    }
+    if !arena.has(Kind::Solid, s) {
+        return Some(Refusal {
+            why: Why::NoSolid,
+            number: s,
+        });
+    }
+    None
+}
+
+/// What the loops of the solid's faces count for.
+fn solid_met(arena: &Arena, s: u32) -> Met
+    requires { IsReady arena.now }
+    ensures { result ≡ loops_met arena.now.model (loops_in arena.now.model (faces_of arena.now.model s)) }
+{
+    let mut sum = Met {
+        vertices: 0,
+        edges: 0,
+    };
+    let mut last = 0;
+    'faces: while let Some(f) = arena.face_after(s, last) {
+        sum = together(sum, face_met(arena, f));
+        last = f;
+    }
+    sum
+}
+
+/// How many rings the solid's faces have.
+fn ring_count(arena: &Arena, s: u32) -> u32
+    requires { IsReady arena.now }
+    ensures { result ≡ length (rings_in arena.now.model (faces_of arena.now.model s)) }
+{
+    let mut rings = 0;
+    let mut last = 0;
+    'faces: while let Some(f) = arena.face_after(s, last) {
+        rings += arena.ring_count(f);
+        last = f;
+    }
+    rings
+}
+
+/// The counts of a solid that is there.
+fn tally(arena: &Arena, s: u32) -> Tally
+    requires { IsReady arena.now }
+    ensures { result ≡ counts arena.now.model s }
+{
+    let met = solid_met(arena, s);
+    let faces = arena.face_count(s);
+    let rings = ring_count(arena, s);
+    Tally {
+        v: met.vertices,
+        e: met.edges,
+        f: faces,
+        r: rings,
+        sum: i64::from(met.vertices + faces) - i64::from(met.edges + rings),
+    }
+}
+
+/// How many vertices, edges, faces and rings solid s has, and `v - e + f - r`.
+///
+/// Refused, in this order: NumberRange, NoSolid. It walks over the solid's own faces and once round each of their loops; round a
+/// vertex of d half-edges it takes about d log d steps.
+pub fn counts(arena: &Arena, s: u32) -> Result<Tally, Refusal>
+    requires { IsReady arena.now }
+    ensures { result ≡ answer (solid_refusal arena.now.model s) (counts arena.now.model s) }
+{
+    if let Some(refusal) = refusal_of_solid(arena, s) {
+        return Err(refusal);
+    }
+    Ok(tally(arena, s))
+}

@@ -1,0 +1,15 @@
+use Rattle.std.proofs.Common.{◌≡◌, map, length}
+use Rattle.boundary_model.specs.HalfEdge.{code}
+use Rattle.std.specs.List.{list_any}
+use Rattle.shapes.specs.split.Places.{is_place}
+use Rattle.split_checks.specs.cut_places.Walks.{AreThere}
+use Rattle.split_checks.proofs.begin_checks.faces.some_place.Given as goal
+
+abbrev pub invariant-items : goal.invariant-items
+invariant-items l = record {
+  there : AreThere l.arena.model (map code l.rest);
+  same : list_any (is_place l.arena.model l.plane) (map code l.rest) ≡ list_any (is_place l.arena.model l.plane) (map code l.items);
+}
+
+abbrev pub decreases-items : goal.decreases-items
+decreases-items l = length l.rest

@@ -1,0 +1,4 @@
+pub mod Often
+pub mod Leasts
+pub mod Meetings
+pub mod Stages

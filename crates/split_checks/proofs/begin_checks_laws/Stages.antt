@@ -1,0 +1,146 @@
+-- The conditions with which a split begins, part by part.
+use Rattle.std.specs.Prelude.{min}
+use Rattle.std.specs.List.{list_any}
+use Rattle.std.proofs.Common.{◌≡◌, ℕ, ◌+◌, ℤ, true, false, cond, ◌&&◌, nat_eq, nat_le, List, [], ◌∷◌, ◌++◌, length, Option, Some, None, Result, Ok, Err, is_err, is_some, refl, sym, ap, ◌∙◌, arith, true≢false}
+use Rattle.std.proofs.lemmas.Bool.Decides.{nat_tests}
+use Rattle.std.proofs.lemmas.Int.{ints}
+use Rattle.lattice.specs.declared.Plane.{Plane}
+use Rattle.lattice.specs.Ranges.{IsWithin, IsCutPlane}
+use Rattle.lattice.specs.Vectors.{is_offset}
+use Rattle.lattice.proofs.Magnitudes.{coordinate_within}
+use Rattle.boundary_model.specs.Model.{Model, faces_of}
+use Rattle.euler_operators.specs.Conditions.{Condition, need, first_refusal, verdict}
+use Rattle.euler_operators.specs.declared.Why.TheVariants.{PlaneMisses, NotLattice, NumbersSpent}
+use Rattle.euler_operators.specs.declared.Refusal.{Refusal}
+use Rattle.euler_laws.proofs.shared.Goes.{all_hold}
+use Rattle.shapes.proofs.fresh.Tests.{first_refusal-append, first_refusal-refused}
+use Rattle.shapes.specs.Fresh.{Taken, taken_in, numbers_left, first_such}
+use Rattle.solid_measure.specs.solid_checks.Least.{found}
+use Rattle.shapes.specs.split.Places.{pair_count}
+use Rattle.shapes.specs.split.Sides.{reaches_above, reaches_below, straddling_faces, crossing_edges}
+use Rattle.shapes.specs.split.Split.{plane_in_range, first_conditions}
+use Rattle.split_checks.specs.begin_checks.Conditions.{number_conditions, solid_conditions, edge_conditions, face_conditions, sectioning_conditions}
+use Rattle.split_checks.specs.cut_places.Crossings.{is_off}
+
+abbrev Verdict : Type 0
+Verdict = Result (Unit {0}) Refusal
+
+-- a verdict tells whether there is a refusal, and which
+passed : (o : Option Refusal) (u : Unit {0}) → Ok u ≡ verdict o → o ≡ None
+passed None u e = refl
+passed (Some r) u e = cc
+
+failed : (o : Option Refusal) (r : Refusal) → Err r ≡ verdict o → o ≡ Some r
+failed None r e = cc
+failed (Some s) r e = cc
+
+-- a verdict on the first conditions that is an error is the whole verdict, and one that isn't leaves the others
+pub first_failed : (xs ys : List Condition) (v : Verdict) → v ≡ verdict (first_refusal xs) → is_err v ≡ true → v ≡ verdict (first_refusal (xs ++ ys))
+first_failed xs ys (Ok u) is e = absurd (true≢false (sym e))
+first_failed xs ys (Err r) is e = ap verdict (sym (first_refusal-refused xs ys r (failed (first_refusal xs) r is)))
+
+pub all_passed : (xs : List Condition) (v : Verdict) → v ≡ verdict (first_refusal xs) → is_err v ≡ false → first_refusal xs ≡ None
+all_passed xs (Ok u) is e = passed (first_refusal xs) u is
+all_passed xs (Err r) is e = absurd (true≢false e)
+
+-- what a search has found, and whether it has found anything
+pub found_number : (n e : ℕ) → Some e ≡ found n → (nat_eq n 0 ≡ false) × (n ≡ e)
+found_number n e f = elim (nat_eq n 0) as (λ b. Some e ≡ cond b None (Some n) → (b ≡ false) × (n ≡ e)) [
+  | true ↦ λ g. absurd (true≢false (ap is_some g))
+  | false ↦ λ g. (refl, cc)
+] f
+
+pub found_nothing : (n : ℕ) → None ≡ found n → nat_eq n 0 ≡ true
+found_nothing n f = elim (nat_eq n 0) as (λ b. None ≡ cond b None (Some n) → b ≡ true) [
+  | true ↦ λ g. refl
+  | false ↦ λ g. absurd (true≢false (sym (ap is_some g)))
+] f
+
+pub is_zero : (n : ℕ) → nat_eq n 0 ≡ true → n ≡ 0
+is_zero n e = grind (arith, nat_tests)
+
+-- ---- numbers that are left, told up to a limit
+
+capped : (a n : ℕ) → nat_le (a + min n 1000001) 1000000 ≡ nat_le (a + n) 1000000
+capped a n = grind (arith, nat_tests)
+
+both_capped : (a m n : ℕ) → nat_le (a + (min m 1000001 + min n 1000001)) 1000000 ≡ nat_le (a + (m + n)) 1000000
+both_capped a m n = grind (arith, nat_tests)
+
+numbers_capped : (c : Taken) (m n : ℕ) → first_refusal (numbers_left c (min n 1000001) (min n 1000001) (min m 1000001 + min n 1000001) (min m 1000001)) ≡ first_refusal (numbers_left c n n (m + n) m)
+numbers_capped c m n = λ i. first_refusal (need (capped c.face n i) NumbersSpent 2 ∷ need (capped c.loop n i) NumbersSpent 3 ∷ need (both_capped c.edge m n i) NumbersSpent 4 ∷ need (capped c.vertex m i) NumbersSpent 5 ∷ [])
+
+-- ---- the section
+
+module _ (M : Model) (s : ℕ) (p : Plane) where
+  abbrev es : List ℕ
+  es = crossing_edges M p s
+
+  abbrev fs : List ℕ
+  fs = straddling_faces M p s
+
+  abbrev numbers : List Condition
+  numbers = numbers_left (taken_in M) (pair_count M p fs) (pair_count M p fs) (length es + pair_count M p fs) (length es)
+
+  module _ (met : list_any (reaches_above M p) (faces_of M s) && list_any (reaches_below M p) (faces_of M s) ≡ true) where
+    after_side : first_refusal (sectioning_conditions M s p) ≡ first_refusal (edge_conditions M p es ++ (face_conditions M p fs ++ numbers))
+    after_side = ap (λ b. cond b (first_refusal (edge_conditions M p es ++ (face_conditions M p fs ++ numbers))) (Some (record { why = PlaneMisses; number = s }))) met
+
+    pub edge_refused : (e : ℕ) → Some e ≡ found (first_such (is_off M p) es) → Err (record { why = NotLattice; number = e }) ≡ verdict (first_refusal (sectioning_conditions M s p))
+    edge_refused e f =
+        let n = found_number (first_such (is_off M p) es) e f in
+        sym (ap verdict (after_side ∙ ap (λ b. cond b (first_refusal (face_conditions M p fs ++ numbers)) (Some (record { why = NotLattice; number = first_such (is_off M p) es }))) n.0
+        ∙ ap (λ k. Some (record { why = NotLattice; number = k })) n.1))
+
+    module _ (whole : None ≡ found (first_such (is_off M p) es)) where
+      pub none_off : first_such (is_off M p) es ≡ 0
+      none_off = is_zero (first_such (is_off M p) es) (found_nothing (first_such (is_off M p) es) whole)
+
+      after_edges : first_refusal (sectioning_conditions M s p) ≡ first_refusal (face_conditions M p fs ++ numbers)
+      after_edges = after_side ∙ ap (λ b. cond b (first_refusal (face_conditions M p fs ++ numbers)) (Some (record { why = NotLattice; number = first_such (is_off M p) es }))) (found_nothing (first_such (is_off M p) es) whole)
+
+      module _ (v : Verdict) (cut : v ≡ verdict (first_refusal (face_conditions M p fs))) where
+        pub faces_failed : is_err v ≡ true → v ≡ verdict (first_refusal (sectioning_conditions M s p))
+        faces_failed e = first_failed (face_conditions M p fs) numbers v cut e ∙ ap verdict (sym after_edges)
+
+        pub numbers_decide : is_err v ≡ false → (m n : ℕ) → m ≡ min (length es) 1000001 → n ≡ min (pair_count M p fs) 1000001
+            → verdict (first_refusal (numbers_left (taken_in M) n n (m + n) m)) ≡ verdict (first_refusal (sectioning_conditions M s p))
+        numbers_decide e m n is_m is_n =
+            ap verdict ((λ i. first_refusal (numbers_left (taken_in M) (is_n i) (is_n i) (is_m i + is_n i) (is_m i))) ∙ numbers_capped (taken_in M) (length es) (pair_count M p fs)
+            ∙ sym (first_refusal-append (face_conditions M p fs) numbers (all_passed (face_conditions M p fs) v cut e)) ∙ sym after_edges)
+
+-- ---- the whole
+
+offset_within : (d : ℤ) → is_offset d ≡ true → IsWithin 3000000000000000000 d
+offset_within d e = grind (arith, ints)
+
+module _ (M : Model) (s : ℕ) (p : Plane) (t : ℕ) where
+  abbrev all : List Condition
+  all = number_conditions M s t ++ (plane_in_range p ++ (solid_conditions M s ++ sectioning_conditions M s p))
+
+  all_is : first_conditions M s p t ≡ all
+  unfolding first_conditions
+  all_is = refl
+
+  pub cut_plane : first_refusal (plane_in_range p) ≡ None → IsCutPlane p
+  cut_plane e = let h = all_hold (plane_in_range p) e in ((coordinate_within p.a h.0, coordinate_within p.b h.1.0, coordinate_within p.c h.1.1.0), offset_within p.d h.1.1.1.0)
+
+  pub numbers_failed : (v : Verdict) → v ≡ verdict (first_refusal (number_conditions M s t)) → is_err v ≡ true → v ≡ verdict (first_refusal (first_conditions M s p t))
+  numbers_failed v is e = first_failed (number_conditions M s t) (plane_in_range p ++ (solid_conditions M s ++ sectioning_conditions M s p)) v is e ∙ ap (λ cs. verdict (first_refusal cs)) (sym all_is)
+
+  module _ (known : first_refusal (number_conditions M s t) ≡ None) where
+    after_numbers : first_refusal (plane_in_range p ++ (solid_conditions M s ++ sectioning_conditions M s p)) ≡ first_refusal (first_conditions M s p t)
+    after_numbers = sym (first_refusal-append (number_conditions M s t) (plane_in_range p ++ (solid_conditions M s ++ sectioning_conditions M s p)) known) ∙ ap first_refusal (sym all_is)
+
+    pub range_failed : (v : Verdict) → v ≡ verdict (first_refusal (plane_in_range p)) → is_err v ≡ true → v ≡ verdict (first_refusal (first_conditions M s p t))
+    range_failed v is e = first_failed (plane_in_range p) (solid_conditions M s ++ sectioning_conditions M s p) v is e ∙ ap verdict after_numbers
+
+    module _ (range : first_refusal (plane_in_range p) ≡ None) where
+      after_range : first_refusal (solid_conditions M s ++ sectioning_conditions M s p) ≡ first_refusal (first_conditions M s p t)
+      after_range = sym (first_refusal-append (plane_in_range p) (solid_conditions M s ++ sectioning_conditions M s p) range) ∙ after_numbers
+
+      pub solid_failed : (v : Verdict) → v ≡ verdict (first_refusal (solid_conditions M s)) → is_err v ≡ true → v ≡ verdict (first_refusal (first_conditions M s p t))
+      solid_failed v is e = first_failed (solid_conditions M s) (sectioning_conditions M s p) v is e ∙ ap verdict after_range
+
+      pub section_decides : first_refusal (solid_conditions M s) ≡ None → first_refusal (sectioning_conditions M s p) ≡ first_refusal (first_conditions M s p t)
+      section_decides solid = sym (first_refusal-append (solid_conditions M s) (sectioning_conditions M s p) solid) ∙ after_range

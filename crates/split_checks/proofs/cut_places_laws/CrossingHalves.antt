@@ -1,0 +1,36 @@
+-- The two halves of an edge that crosses a plane.
+use Rattle.std.proofs.Common.{◌≡◌, ℕ, true, sym, ap, ◌∙◌, inl, inr}
+use Rattle.lattice.specs.declared.Plane.{Plane}
+use Rattle.lattice.specs.Vectors.{height, are_opposite, cut_between}
+use Rattle.boundary_model.specs.HalfEdge.{edge_of, plus, minus}
+use Rattle.boundary_model.specs.Model.{Model}
+use Rattle.euler_laws.proofs.shared.Arcs.{halves_of_edge}
+use Rattle.euler_laws.proofs.shared.Undo.{mate_plus, mate_minus}
+use Rattle.shapes.specs.Faces.{start, finish}
+use Rattle.shapes.specs.split.Sides.{crosses}
+use Rattle.split_checks.proofs.cut_places_laws.Cuts.{opposite_turned, cut_back}
+
+module _ (M : Model) (p : Plane) where
+  minus_crosses : (e : ℕ) → crosses M p (minus e) ≡ crosses M p (plus e)
+  minus_crosses e = ap (λ h. are_opposite p (start M (minus e)) (start M h)) (mate_minus e) ∙ opposite_turned (height p (start M (minus e))) (height p (start M (plus e)))
+      ∙ sym (ap (λ h. are_opposite p (start M (plus e)) (start M h)) (mate_plus e))
+
+  -- a half-edge crosses where the plus half of its edge does
+  pub plus_crosses : (h : ℕ) → crosses M p h ≡ crosses M p (plus (edge_of h))
+  plus_crosses h = elim (halves_of_edge h) [
+    | inl e ↦ ap (crosses M p) e.0
+    | inr e ↦ ap (crosses M p) e.0 ∙ minus_crosses (edge_of h)
+  ]
+
+  turned_cut : (e : ℕ) → crosses M p (minus e) ≡ true → cut_between p (start M (plus e)) (finish M (plus e)) ≡ cut_between p (start M (minus e)) (finish M (minus e))
+  turned_cut e c =
+      ap (λ h. cut_between p (start M (plus e)) (start M h)) (mate_plus e)
+      ∙ cut_back p (start M (minus e)) (start M (plus e)) (sym (ap (λ h. are_opposite p (start M (minus e)) (start M h)) (mate_minus e)) ∙ c)
+      ∙ sym (ap (λ h. cut_between p (start M (minus e)) (start M h)) (mate_minus e))
+
+  -- and meets the plane where that does
+  pub one_cut : (h : ℕ) → crosses M p h ≡ true → cut_between p (start M (plus (edge_of h))) (finish M (plus (edge_of h))) ≡ cut_between p (start M h) (finish M h)
+  one_cut h c = elim (halves_of_edge h) [
+    | inl e ↦ sym (ap (λ g. cut_between p (start M g) (finish M g)) e.0)
+    | inr e ↦ turned_cut (edge_of h) (sym (ap (crosses M p) e.0) ∙ c) ∙ sym (ap (λ g. cut_between p (start M g) (finish M g)) e.0)
+  ]

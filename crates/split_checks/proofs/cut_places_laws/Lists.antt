@@ -1,0 +1,61 @@
+-- Lists that a walk takes apart.
+use Rattle.std.proofs.Common.{◌≡◌, ℕ, ◌-◌, ◌≤◌, ◌<◌, Bool, true, false, cond, ◌||◌, List, [], ◌∷◌, map, length, slice_index_or, refl, sym, ap, ◌∙◌, subst, arith, inl, inr}
+use Rattle.std.specs.Prelude.{take, drop, filter}
+use Rattle.std.specs.List.{list_any}
+use Rattle.std.proofs.lemmas.List.{take_rest}
+use Rattle.std.proofs.lemmas.Bool.Decides.{eqb_tells}
+use Rattle.cyclic_list.specs.Items.{IsIn, IsApart}
+use Rattle.cyclic_list.proofs.Lists.{tick_other}
+use Rattle.shapes.specs.Fresh.{first_such}
+use Rattle.solid_walks.proofs.face_walks_laws.Rising.{AllAbove, Rising}
+use Rattle.solid_measure.proofs.solid_counts_laws.HowMany.{passing, of_passing, in_passing, passing_apart}
+
+-- the first of a list, and the others
+abbrev pub others : {A : Type 0} → List A → List A
+others xs = take (length xs - 1) (drop 1 xs)
+
+pub parts : {A : Type 0} (xs : List A) (d : A) → 1 ≤ length xs → xs ≡ slice_index_or xs 0 d ∷ others xs
+parts [] d l = absurd (omega arith)
+parts {A} (x ∷ xs) d l = ap (λ (ys : List A). x ∷ ys) (sym (take_rest (x ∷ xs) 1))
+
+-- a test of what is made of each item
+pub any_map : (p : ℕ → Bool) (f : ℕ → ℕ) (xs : List ℕ) → list_any p (map f xs) ≡ list_any (λ x. p (f x)) xs
+any_map p f [] = refl
+any_map p f (x ∷ xs) = ap (λ b. p (f x) || b) (any_map p f xs)
+
+-- the two words for what passes are one
+filter_passing : (p : ℕ → Bool) (xs : List ℕ) → filter p xs ≡ passing p xs
+filter_passing p [] = refl
+filter_passing p (x ∷ xs) = ap (λ (ys : List ℕ). cond (p x) (x ∷ ys) ys) (filter_passing p xs)
+
+-- what stands among the picked stands in the list and passes, and the other way
+pub of_picked : (p : ℕ → Bool) (x : ℕ) (xs : List ℕ) → IsIn x (filter p xs) → IsIn x xs × (p x ≡ true)
+of_picked p x xs i = of_passing p x xs (subst (IsIn x) (filter_passing p xs) i)
+
+pub in_picked : (p : ℕ → Bool) (x : ℕ) (xs : List ℕ) → IsIn x xs → p x ≡ true → IsIn x (filter p xs)
+in_picked p x xs i e = subst (IsIn x) (sym (filter_passing p xs)) (in_passing p x xs i e)
+
+pub picked_apart : (p : ℕ → Bool) (xs : List ℕ) → IsApart xs → IsApart (filter p xs)
+picked_apart p xs d = subst IsApart (sym (filter_passing p xs)) (passing_apart p xs d)
+
+-- what is picked from a rising list rises
+above_picked : (p : ℕ → Bool) (n : ℕ) (xs : List ℕ) → AllAbove n xs → AllAbove n (filter p xs)
+above_picked p n [] a = tt
+above_picked p n (x ∷ xs) a = elim (p x) as (λ b. AllAbove n (cond b (x ∷ filter p xs) (filter p xs))) [ true ↦ (a.0, above_picked p n xs a.1) | false ↦ above_picked p n xs a.1 ]
+
+pub picked_rise : (p : ℕ → Bool) (xs : List ℕ) → Rising xs → Rising (filter p xs)
+picked_rise p [] r = tt
+picked_rise p (x ∷ xs) r = elim (p x) as (λ b. Rising (cond b (x ∷ filter p xs) (filter p xs))) [ true ↦ (above_picked p x xs r.0, picked_rise p xs r.1) | false ↦ picked_rise p xs r.1 ]
+
+-- where a search finds none, none passes
+pub none_passes : (p : ℕ → Bool) (xs : List ℕ) → AllAbove 0 xs → first_such p xs ≡ 0 → (x : ℕ) → IsIn x xs → p x ≡ false
+none_passes p [] a e x i = absurd (omega arith)
+none_passes p (y ∷ ys) a e x i = elim (p y) as (λ b. p y ≡ b → cond b y (first_such p ys) ≡ 0 → p x ≡ false) [
+  | true ↦ λ t e. absurd (above_zero y a.0 e)
+  | false ↦ λ t e. elim (eqb_tells x y) [
+    | inl s ↦ ap p s.1 ∙ t
+    | inr n ↦ none_passes p ys a.1 e x (omega (arith, i, tick_other x y n.1))
+  ]
+] refl e where
+  above_zero : (n : ℕ) → 0 < n → n ≡ 0 → ⊥
+  above_zero n l e = omega arith

@@ -1,0 +1,55 @@
+-- The signs of numbers tell on which side of a plane points lie.
+use Rattle.std.proofs.Common.{◌≡◌, ℤ, pos, Bool, true, false, cond, not, ◌&&◌, ◌||◌, refl, ◌∙◌, arith, true≢false}
+use Rattle.std.specs.Prelude.{int_lt}
+use Rattle.std.specs.Ordering.{int_eq}
+use Rattle.std.proofs.lemmas.Int.{ints}
+use Rattle.lattice.specs.declared.Point.{Point}
+use Rattle.lattice.specs.declared.Plane.{Plane}
+use Rattle.lattice.specs.declared.Sign.{Sign}
+use Rattle.lattice.specs.declared.Sign.TheVariants.{Below, On, Above}
+use Rattle.lattice.specs.Vectors.{height, sign_of, opposite}
+use Rattle.split_checks.specs.cut_places.Sides.{same_sign, opposite_signs, lies}
+
+told_below : (a b : Bool) → same_sign (cond a Below (cond b Above On)) Below ≡ a
+told_below true b = refl
+told_below false true = refl
+told_below false false = refl
+
+told_above : (a b : Bool) → same_sign (cond a Below (cond b Above On)) Above ≡ not a && b
+told_above true b = refl
+told_above false true = refl
+told_above false false = refl
+
+told_on : (a b : Bool) → same_sign (cond a Below (cond b Above On)) On ≡ not a && not b
+told_on true b = refl
+told_on false true = refl
+told_on false false = refl
+
+above_is : (n : ℤ) → not (int_lt n (pos 0)) && int_lt (pos 0) n ≡ int_lt (pos 0) n
+above_is n = grind (arith, ints)
+
+on_is : (n : ℤ) → not (int_lt n (pos 0)) && not (int_lt (pos 0) n) ≡ int_eq n (pos 0)
+on_is n = grind (arith, ints)
+
+one_side : (n : ℤ) → int_lt n (pos 0) && int_lt (pos 0) n ≡ false
+one_side n = grind (arith, ints)
+
+pub sign_lies : (side : Sign) (p : Plane) (q : Point) → same_sign (sign_of (height p q)) side ≡ lies side p q
+sign_lies Below p q = told_below (int_lt (height p q) (pos 0)) (int_lt (pos 0) (height p q))
+sign_lies On p q = told_on (int_lt (height p q) (pos 0)) (int_lt (pos 0) (height p q)) ∙ on_is (height p q)
+sign_lies Above p q = told_above (int_lt (height p q) (pos 0)) (int_lt (pos 0) (height p q)) ∙ above_is (height p q)
+
+pub signs_opposite : (m n : ℤ) → opposite_signs (sign_of m) (sign_of n) ≡ opposite m n
+signs_opposite m n = go (int_lt m (pos 0)) (int_lt (pos 0) m) (int_lt n (pos 0)) (int_lt (pos 0) n) (one_side m) (one_side n) where
+  go : (a b c d : Bool) → a && b ≡ false → c && d ≡ false → opposite_signs (cond a Below (cond b Above On)) (cond c Below (cond d Above On)) ≡ (b && c) || (a && d)
+  go true true c d e f = absurd (true≢false e)
+  go true false true true e f = absurd (true≢false f)
+  go true false true false e f = refl
+  go true false false true e f = refl
+  go true false false false e f = refl
+  go false true true d e f = refl
+  go false true false true e f = refl
+  go false true false false e f = refl
+  go false false true d e f = refl
+  go false false false true e f = refl
+  go false false false false e f = refl

@@ -1,0 +1,56 @@
+-- What stands in loops and faces that are there is there.
+use Rattle.std.proofs.Common.{◌≡◌, ℕ, true, List, [], ◌∷◌, map, refl, ap, arith}
+use Rattle.cyclic_list.specs.Items.{IsIn}
+use Rattle.cyclic_list.proofs.Lists.{tick_same}
+use Rattle.boundary_model.specs.declared.HalfEdge.{HalfEdge}
+use Rattle.boundary_model.specs.declared.Content.TheVariants.{Ring}
+use Rattle.boundary_model.specs.HalfEdge.{code}
+use Rattle.boundary_model.specs.Table.{Table}
+use Rattle.boundary_model.specs.Model.{Model, LoopContent, lone, cycle, items_of, content, loop_of, tail}
+use Rattle.boundary_model.specs.Sound.{Sound, Has, HasHalf, StandsIn}
+use Rattle.boundary_model.proofs.Models.{in-holds}
+use Rattle.euler_conditions.specs.Store.{Tells}
+use Rattle.euler_operators.specs.Conditions.{lists}
+use Rattle.euler_laws.proofs.shared.Listed.{first_listed, rest_listed}
+use Rattle.euler_conditions.proofs.Borders.{ring_has}
+use Rattle.shapes.specs.Faces.{loops_of, items_in, boundary, vertices_on}
+use Rattle.solid_walks.proofs.FaceLoops.{items_there}
+use Rattle.solid_walks.proofs.SolidFaces.{face_of_loop}
+use Rattle.split_checks.specs.cut_places.Walks.{AreThere, AreIn}
+
+-- each of some numbers is in use, and the edge of each of some half-edges is there
+pub all_in : {X : Type 0} (t : Table X) (ns : List ℕ) → ((n : ℕ) → lists ns n ≡ true → Has t n) → AreIn t ns
+all_in t [] each = tt
+all_in t (n ∷ ns) each = (each n (first_listed n ns), all_in t ns (λ k l. each k (rest_listed n k ns l)))
+
+pub all_there : (M : Model) (hs : List ℕ) → ((h : ℕ) → IsIn h hs → HasHalf M h) → AreThere M hs
+all_there M [] each = tt
+all_there M (h ∷ hs) each = (each h (omega (arith, tick_same h)), all_there M hs (λ k i. each k (later k i))) where
+  later : (k : ℕ) → IsIn k hs → IsIn k (h ∷ hs)
+  later k i = omega (arith, i)
+
+module _ (M : Model) (sound : Sound M) where
+  -- what an arena answers of a loop with half-edges stands in it
+  pub ring_stands : (l : ℕ) (h : HalfEdge) → Tells (content M l) (Ring h) → StandsIn M (code h) l
+  ring_stands l h tells = in-holds (code h) (content M l) (ring_has (content M l) h tells)
+
+  pub ring_there : (l : ℕ) (h : HalfEdge) → Tells (content M l) (Ring h) → HasHalf M (code h)
+  ring_there l h tells = sound.only_edges (code h) l (ring_stands l h tells)
+
+  pub ring_cycle : (l : ℕ) (h : HalfEdge) → Tells (content M l) (Ring h) → items_of (content M (loop_of M (code h))) ≡ items_of (content M l)
+  ring_cycle l h tells = ap (λ q. items_of (content M q)) (sound.one_loop (code h) l (ring_stands l h tells))
+
+  pub face_loops_there : (f : ℕ) → Has M.faces f → AreIn M.loops (loops_of M f)
+  face_loops_there f there = all_in M.loops (loops_of M f) (λ l i. (face_of_loop M sound f l there i).0)
+
+  pub loop_items_there : (l : ℕ) → AreThere M (items_of (content M l))
+  loop_items_there l = all_there M (items_of (content M l)) (λ h i. sound.only_edges h l (in-holds h (content M l) i))
+
+  pub boundary_there : (f : ℕ) → AreThere M (boundary M f)
+  unfolding boundary
+  boundary_there f = all_there M (items_in M (loops_of M f)) (items_there M sound (loops_of M f))
+
+-- the vertices on a loop with half-edges
+pub ring_vertices : (M : Model) (t : LoopContent) (h : HalfEdge) → Tells t (Ring h) → vertices_on M t ≡ map (tail M) (items_of t)
+ring_vertices M (lone v) h tells = absurd tells
+ring_vertices M (cycle hs) h tells = refl

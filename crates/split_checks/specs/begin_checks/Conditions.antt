@@ -1,0 +1,51 @@
+-- The conditions with which a split begins, by what their tests look at.
+use Rattle.std.specs.Prelude.{ℕ, not, ◌&&◌, List, [], ◌∷◌, ◌++◌}
+use Rattle.std.specs.List.{list_any}
+use Rattle.lattice.specs.declared.Plane.{Plane}
+use Rattle.boundary_model.specs.Table as table
+use Rattle.boundary_model.specs.Model.{Model, faces_of}
+use Rattle.euler_operators.specs.Conditions.{Condition, need, never, numbers_in_range}
+use Rattle.euler_operators.specs.declared.Why.TheVariants.{NoSolid, SolidTaken, LoneLoop, NotFlat, PlaneMisses, NotLattice, TouchedFace, CutOften, CutCrossed}
+use Rattle.shapes.specs.Faces.{least_lone}
+use Rattle.shapes.specs.Fresh.{no_such, first_such}
+use Rattle.solid_measure.specs.Measure.{is_flat}
+use Rattle.shapes.specs.split.Sides.{reaches_above, reaches_below}
+use Rattle.shapes.specs.split.Places.{is_touched, is_cut_often, is_crossed}
+use Rattle.shapes.specs.split.Split.{cut_conditions}
+use Rattle.shapes.specs.split.Sides.{crossing_edges, straddling_faces}
+use Rattle.split_checks.specs.cut_places.Crossings.{is_off}
+
+-- the solid is there, and the other number is free
+abbrev pub number_conditions : Model → ℕ → ℕ → List Condition
+number_conditions M s t =
+    numbers_in_range (s ∷ t ∷ []) ++
+    (need (table.has M.solids s) NoSolid s
+    ∷ never (table.has M.solids t) SolidTaken t
+    ∷ [])
+
+-- the solid has no lone loop, and flat faces only
+abbrev pub solid_conditions : Model → ℕ → List Condition
+solid_conditions M s =
+    no_such (least_lone M (faces_of M s)) LoneLoop
+    ∷ no_such (first_such (λ f. not (is_flat M f)) (faces_of M s)) NotFlat
+    ∷ []
+
+-- the solid has vertices on both sides of the plane
+abbrev pub side_conditions : Model → ℕ → Plane → List Condition
+side_conditions M s p = need (list_any (reaches_above M p) (faces_of M s) && list_any (reaches_below M p) (faces_of M s)) PlaneMisses s ∷ []
+
+-- edges that cross the plane meet it on the lattice
+abbrev pub edge_conditions : Model → Plane → List ℕ → List Condition
+edge_conditions M p es = no_such (first_such (is_off M p) es) NotLattice ∷ []
+
+-- faces that straddle the plane can be cut
+abbrev pub face_conditions : Model → Plane → List ℕ → List Condition
+face_conditions M p fs =
+    no_such (first_such (is_touched M p) fs) TouchedFace
+    ∷ no_such (first_such (is_cut_often M p) fs) CutOften
+    ∷ no_such (first_such (is_crossed M p) fs) CutCrossed
+    ∷ []
+
+-- what is asked once the numbers, the plane and the solid are good
+abbrev pub sectioning_conditions : Model → ℕ → Plane → List Condition
+sectioning_conditions M s p = side_conditions M s p ++ cut_conditions M p (crossing_edges M p s) (straddling_faces M p s)

@@ -1,0 +1,12 @@
+-- What a face that straddles must not be.
+use Rattle.std.specs.Prelude.{ℕ, Bool}
+use Rattle.lattice.specs.declared.Plane.{Plane}
+use Rattle.boundary_model.specs.Model.{Model}
+use Rattle.shapes.specs.split.Places.{is_touched, is_cut_often, is_crossed}
+use Rattle.split_checks.specs.declared.begin_checks.crossed.Flaw.{Flaw}
+use Rattle.split_checks.specs.declared.begin_checks.crossed.Flaw.TheVariants.{Touched, CutOften, Crossed}
+
+abbrev pub has_flaw : Flaw → Model → Plane → ℕ → Bool
+has_flaw Touched M p f = is_touched M p f
+has_flaw CutOften M p f = is_cut_often M p f
+has_flaw Crossed M p f = is_crossed M p f

@@ -1,0 +1,26 @@
+-- Cut places, and faces that the plane meets on the lattice.
+use Rattle.std.specs.Prelude.{◌≡◌, ℕ, Bool, true, false, not, ◌&&◌, List, [], ◌∷◌}
+use Rattle.std.specs.List.{list_any}
+use Rattle.lattice.specs.declared.Plane.{Plane}
+use Rattle.lattice.specs.Vectors.{is_on}
+use Rattle.cyclic_list.specs.Items.{IsIn}
+use Rattle.boundary_model.specs.HalfEdge.{edge_of}
+use Rattle.boundary_model.specs.Model.{Model}
+use Rattle.boundary_model.specs.Sound.{Has}
+use Rattle.shapes.specs.Faces.{boundary, start}
+use Rattle.shapes.specs.split.Sides.{crosses}
+use Rattle.shapes.specs.split.Places.{is_place}
+use Rattle.split_checks.specs.cut_places.Crossings.{is_off}
+
+-- one of the half-edges starts on the plane at a corner that is no cut place
+abbrev pub some_touch : Model → Plane → List ℕ → Bool
+some_touch M p hs = list_any (λ h. is_on p (start M h) && not (is_place M p h)) hs
+
+-- the plane meets each edge of a face that crosses it on the lattice
+abbrev pub IsWholeFace : Model → Plane → ℕ → Type 0
+IsWholeFace M p f = (h : ℕ) → IsIn h (boundary M f) → crosses M p h ≡ true → is_off M p (edge_of h) ≡ false
+
+-- the faces are there and so cut
+abbrev pub AreWholeFaces : Model → Plane → List ℕ → Type 0
+AreWholeFaces M p [] = Unit {0}
+AreWholeFaces M p (f ∷ fs) = Has M.faces f × IsWholeFace M p f × AreWholeFaces M p fs

@@ -1,0 +1,10 @@
+//! Splitting: whether a plane can begin to split a solid, tested before anything is changed.
+
+mod checks;
+mod crossed;
+mod crossings;
+mod faces;
+mod numbers;
+mod planes;
+
+pub use checks::check_begin;

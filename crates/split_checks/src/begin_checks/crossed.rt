@@ -1,0 +1,112 @@
+//! Flaws in the cut places of faces that straddle, and how many pairs these make.
+ghost use Rattle.std.specs.Prelude.{◌≡◌, true, min, IfOk};
+ghost use Rattle.euler_conditions.specs.Ready.{IsReady};
+ghost use Rattle.euler_conditions.specs.Store.{has_number};
+ghost use Rattle.lattice.specs.Ranges.{IsCutPlane};
+ghost use Rattle.shapes.specs.Fresh.{first_such};
+ghost use Rattle.solid_measure.specs.solid_checks.Least.{found};
+ghost use Rattle.split_checks.specs.begin_checks.Flaws.{has_flaw};
+ghost use Rattle.split_checks.specs.cut_places.Places.{AreWholeFaces, IsWholeFace};
+ghost use Rattle.split_checks.specs.cut_places.Walks.{AreIn};
+ghost use Rattle.shapes.specs.split.Places.{is_crossed, pair_count};
+
+use crate::begin_checks::faces::{is_cut_often, is_touched};
+use crate::begin_checks::numbers::TOO_MANY;
+use crate::cut_places::places;
+use crate::place_order::{in_order, pairs_differ};
+use euler_conditions::{Arena, Kind};
+use lattice::Plane;
+use std::alloc::{AllocError, Global};
+
+/// What a face that straddles must not be.
+#[derive(Clone, Copy, Debug, PartialEq, Eq)]
+pub(crate) enum Flaw {
+    /// A corner lies on the plane and is no cut place.
+    Touched,
+    /// The outer loop has no cut place, or a ring has none while the face hasn't exactly two.
+    CutOften,
+    /// Two cut places have equal points, or a pair isn't one up and one down.
+    Crossed,
+}
+
+/// Whether two cut places of face f have equal points, or, with the places in the order of their points and paired, a pair isn't
+/// one up and one down.
+fn is_crossed(alloc: Global, arena: &Arena, plane: Plane, f: u32) -> Result<bool, AllocError>
+    requires ready { IsReady arena.now }
+    requires there { has_number arena.now Kind.Face f ≡ true }
+    requires plane { IsCutPlane plane }
+    requires whole { IsWholeFace arena.now.model plane f }
+    ensures { IfOk result (λ found. found ≡ is_crossed arena.now.model plane f) }
+{
+    let met = places(alloc, arena, plane, f)?;
+    match in_order(alloc, arena, plane, met)? {
+        Some(order) => Ok(!pairs_differ(arena, plane, order)),
+        None => Ok(true),
+    }
+}
+
+/// Whether face f has the flaw.
+fn has_flaw(
+    alloc: Global,
+    arena: &Arena,
+    plane: Plane,
+    flaw: Flaw,
+    f: u32,
+) -> Result<bool, AllocError>
+    requires ready { IsReady arena.now }
+    requires there { has_number arena.now Kind.Face f ≡ true }
+    requires plane { IsCutPlane plane }
+    requires whole { IsWholeFace arena.now.model plane f }
+    ensures { IfOk result (λ found. found ≡ has_flaw flaw arena.now.model plane f) }
+{
+    match flaw {
+        Flaw::Touched => is_touched(alloc, arena, plane, f),
+        Flaw::CutOften => is_cut_often(alloc, arena, plane, f),
+        Flaw::Crossed => is_crossed(alloc, arena, plane, f),
+    }
+}
+
+/// The first of the faces that has the flaw, if one has.
+pub(crate) fn first_flawed(
+    alloc: Global,
+    arena: &Arena,
+    plane: Plane,
+    flaw: Flaw,
+    faces: &[u32],
+) -> Result<Option<u32>, AllocError>
+    requires ready { IsReady arena.now }
+    requires plane { IsCutPlane plane }
+    requires whole { AreWholeFaces arena.now.model plane faces.now }
+    ensures { IfOk result (λ first. first ≡ found (first_such (has_flaw flaw arena.now.model plane) faces.now)) }
+{
+    let mut rest = faces;
+    'faces: while let [f, others @ ..] = rest {
+        if has_flaw(alloc, arena, plane, flaw, *f)? {
+            return Ok(Some(*f));
+        }
+        rest = others;
+    }
+    Ok(None)
+}
+
+/// How many pairs the cut places of the faces make; `TOO_MANY` where there are more.
+pub(crate) fn pair_count(
+    alloc: Global,
+    arena: &Arena,
+    plane: Plane,
+    faces: &[u32],
+) -> Result<usize, AllocError>
+    requires ready { IsReady arena.now }
+    requires plane { IsCutPlane plane }
+    requires there { AreIn arena.now.model.faces faces.now }
+    ensures { IfOk result (λ pairs. pairs ≡ min (pair_count arena.now.model plane faces.now) 1000001) }
+{
+    let mut pairs = 0;
+    let mut rest = faces;
+    'faces: while let [f, others @ ..] = rest {
+        let met = places(alloc, arena, plane, *f)?;
+        pairs = (pairs + met.len() / 2).min(TOO_MANY);
+        rest = others;
+    }
+    Ok(pairs)
+}

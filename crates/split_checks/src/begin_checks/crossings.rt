@@ -1,0 +1,52 @@
+//! Edges that cross a plane off the lattice.
+ghost use Rattle.std.specs.Prelude.{◌≡◌, Some};
+ghost use Rattle.euler_conditions.specs.Ready.{IsReady};
+ghost use Rattle.lattice.specs.Ranges.{IsCutPlane};
+ghost use Rattle.solid_measure.specs.solid_checks.Least.{least_such, lesser};
+ghost use Rattle.split_checks.specs.cut_places.Crossings.{AreCrossing, IsCrossing, is_off};
+
+use crate::cut_places::{finish, start};
+use euler_conditions::{Arena, HalfEdge};
+use lattice::{Plane, cut_point};
+
+/// Whether an edge that crosses the plane meets it off the lattice.
+fn is_off(arena: &Arena, plane: Plane, e: u32) -> bool
+    requires ready { IsReady arena.now }
+    requires plane { IsCutPlane plane }
+    requires crossing { IsCrossing arena.now.model plane e }
+    ensures { result ≡ is_off arena.now.model plane e }
+{
+    let h = HalfEdge {
+        edge: e,
+        first: true,
+    };
+    cut_point(plane, start(arena, h), finish(arena, h)).is_none()
+}
+
+/// The number, where it is less than the one found or none is found yet.
+fn lesser(found: Option<u32>, n: u32) -> Option<u32>
+    ensures { result ≡ lesser found (Some n) }
+{
+    match found {
+        Some(m) => { if m <= n { Some(m) } else { Some(n) } }
+        None => Some(n),
+    }
+}
+
+/// The least of some edges that cross the plane that meets it off the lattice, if there is one.
+pub(crate) fn least_off(arena: &Arena, plane: Plane, edges: &[u32]) -> Option<u32>
+    requires ready { IsReady arena.now }
+    requires plane { IsCutPlane plane }
+    requires crossing { AreCrossing arena.now.model plane edges.now }
+    ensures { result ≡ least_such (is_off arena.now.model plane) edges.now }
+{
+    let mut least = None;
+    let mut rest = edges;
+    'edges: while let [e, others @ ..] = rest {
+        if is_off(arena, plane, *e) {
+            least = lesser(least, *e);
+        }
+        rest = others;
+    }
+    least
+}

@@ -1,0 +1,121 @@
+//! What the cut places of faces that straddle must not be.
+ghost use Rattle.std.specs.Prelude.{◌≡◌, true, map, IfOk};
+ghost use Rattle.std.specs.List.{list_all, list_any};
+ghost use Rattle.boundary_model.specs.HalfEdge.{code};
+ghost use Rattle.euler_conditions.specs.Ready.{IsReady};
+ghost use Rattle.euler_conditions.specs.Store.{has_number};
+ghost use Rattle.lattice.specs.Ranges.{IsCutPlane};
+ghost use Rattle.split_checks.specs.cut_places.Walks.{AreIn, AreThere};
+ghost use Rattle.split_checks.specs.cut_places.Places.{some_touch};
+ghost use Rattle.shapes.specs.split.Places.{is_cut_often, is_place, is_touched, loop_is_cut};
+
+use crate::cut_places::{boundary, is_place, loop_items, places, touches};
+use euler_conditions::{Arena, HalfEdge, Kind};
+use lattice::Plane;
+use solid_walks::face_loops;
+use std::alloc::{AllocError, Global};
+
+/// Whether one of the half-edges starts on the plane at a corner that is no cut place.
+fn some_touch(arena: &Arena, plane: Plane, items: &[HalfEdge]) -> bool
+    requires ready { IsReady arena.now }
+    requires there { AreThere arena.now.model (map code items.now) }
+    requires plane { IsCutPlane plane }
+    ensures { result ≡ some_touch arena.now.model plane (map code items.now) }
+{
+    let mut rest = items;
+    'items: while let [h, others @ ..] = rest {
+        if touches(arena, plane, *h) {
+            return true;
+        }
+        rest = others;
+    }
+    false
+}
+
+/// Whether a corner of face f lies on the plane and is no cut place.
+pub(crate) fn is_touched(
+    alloc: Global,
+    arena: &Arena,
+    plane: Plane,
+    f: u32,
+) -> Result<bool, AllocError>
+    requires ready { IsReady arena.now }
+    requires there { has_number arena.now Kind.Face f ≡ true }
+    requires plane { IsCutPlane plane }
+    ensures { IfOk result (λ found. found ≡ is_touched arena.now.model plane f) }
+{
+    let items = boundary(alloc, arena, f)?;
+    Ok(some_touch(arena, plane, items.as_slice()))
+}
+
+/// Whether one of the half-edges tells a cut place.
+fn some_place(arena: &Arena, plane: Plane, items: &[HalfEdge]) -> bool
+    requires ready { IsReady arena.now }
+    requires there { AreThere arena.now.model (map code items.now) }
+    requires plane { IsCutPlane plane }
+    ensures { result ≡ list_any (is_place arena.now.model plane) (map code items.now) }
+{
+    let mut rest = items;
+    'items: while let [h, others @ ..] = rest {
+        if is_place(arena, plane, *h) {
+            return true;
+        }
+        rest = others;
+    }
+    false
+}
+
+/// Whether loop l has a cut place.
+fn loop_is_cut(alloc: Global, arena: &Arena, plane: Plane, l: u32) -> Result<bool, AllocError>
+    requires ready { IsReady arena.now }
+    requires there { has_number arena.now Kind.Loop l ≡ true }
+    requires plane { IsCutPlane plane }
+    ensures { IfOk result (λ found. found ≡ loop_is_cut arena.now.model plane l) }
+{
+    let items = loop_items(alloc, arena, l)?;
+    Ok(some_place(arena, plane, items.as_slice()))
+}
+
+/// Whether each of the loops has a cut place.
+fn all_are_cut(
+    alloc: Global,
+    arena: &Arena,
+    plane: Plane,
+    loops: &[u32],
+) -> Result<bool, AllocError>
+    requires ready { IsReady arena.now }
+    requires there { AreIn arena.now.model.loops loops.now }
+    requires plane { IsCutPlane plane }
+    ensures { IfOk result (λ found. found ≡ list_all (loop_is_cut arena.now.model plane) loops.now) }
+{
+    let mut rest = loops;
+    'loops: while let [l, others @ ..] = rest {
+        if !loop_is_cut(alloc, arena, plane, *l)? {
+            return Ok(false);
+        }
+        rest = others;
+    }
+    Ok(true)
+}
+
+/// Whether the outer loop of face f has no cut place, or a ring of it has none while the face hasn't exactly two.
+pub(crate) fn is_cut_often(
+    alloc: Global,
+    arena: &Arena,
+    plane: Plane,
+    f: u32,
+) -> Result<bool, AllocError>
+    requires ready { IsReady arena.now }
+    requires there { has_number arena.now Kind.Face f ≡ true }
+    requires plane { IsCutPlane plane }
+    ensures { IfOk result (λ found. found ≡ is_cut_often arena.now.model plane f) }
+{
+    if !loop_is_cut(alloc, arena, plane, arena.outer(f))? {
+        return Ok(true);
+    }
+    let loops = face_loops(alloc, arena, f)?;
+    if all_are_cut(alloc, arena, plane, loops.as_slice())? {
+        return Ok(false);
+    }
+    Ok(places(alloc, arena, plane, f)?.len() != 2)
+}

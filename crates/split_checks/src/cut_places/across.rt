@@ -1,0 +1,109 @@
+//! The edges that cross a plane, and where they meet it.
+ghost use Rattle.std.specs.Prelude.{◌≡◌, true, false, map, IfOk};
+ghost use Rattle.boundary_model.specs.HalfEdge.{code, edge_of};
+ghost use Rattle.boundary_model.specs.Model.{faces_of, has_half};
+ghost use Rattle.euler_conditions.specs.Ready.{IsReady};
+ghost use Rattle.euler_conditions.specs.Store.{has_number};
+ghost use Rattle.lattice.specs.Ranges.{IsCutPlane};
+ghost use Rattle.lattice.specs.Vectors.{cut_between};
+ghost use Rattle.shapes.specs.Faces.{boundary, finish, start};
+ghost use Rattle.split_checks.specs.cut_places.Crossings.{crossings_in, crossings_met, is_off, leads_across};
+ghost use Rattle.split_checks.specs.cut_places.Walks.{AreThere};
+ghost use Rattle.shapes.specs.split.Sides.{crosses};
+
+use crate::cut_places::halves::{crosses, finish, start};
+use crate::cut_places::loops::boundary;
+use euler_conditions::{Arena, HalfEdge, Kind};
+use lattice::{Plane, Point, cut_point};
+use std::alloc::{AllocError, Global};
+
+/// The edge of the half-edge.
+fn edge_of(h: HalfEdge) -> u32
+    ensures { result ≡ edge_of (code h) }
+{
+    h.edge
+}
+
+/// Whether the half-edge is the plus one of an edge that crosses the plane.
+fn leads_across(arena: &Arena, plane: Plane, h: HalfEdge) -> bool
+    requires ready { IsReady arena.now }
+    requires there { has_half arena.now.model (code h) ≡ true }
+    requires plane { IsCutPlane plane }
+    ensures { result ≡ leads_across arena.now.model plane (code h) }
+{
+    h.first && crosses(arena, plane, h)
+}
+
+/// The edges that cross the plane, of which the plus half is among the half-edges.
+fn crossings_in(
+    alloc: Global,
+    arena: &Arena,
+    plane: Plane,
+    items: &[HalfEdge],
+) -> Result<Vec<u32>, AllocError>
+    requires ready { IsReady arena.now }
+    requires there { AreThere arena.now.model (map code items.now) }
+    requires plane { IsCutPlane plane }
+    ensures { IfOk result (λ edges. edges.items ≡ crossings_in arena.now.model plane (map code items.now)) }
+{
+    let mut edges = Vec::new(alloc);
+    let mut rest = items;
+    'items: while let [h, others @ ..] = rest {
+        if leads_across(arena, plane, *h) {
+            edges.push(edge_of(*h))?;
+        }
+        rest = others;
+    }
+    Ok(edges)
+}
+
+/// The edges that cross the plane, of which the plus half is a half-edge of face f.
+fn face_crossings(
+    alloc: Global,
+    arena: &Arena,
+    plane: Plane,
+    f: u32,
+) -> Result<Vec<u32>, AllocError>
+    requires ready { IsReady arena.now }
+    requires there { has_number arena.now Kind.Face f ≡ true }
+    requires plane { IsCutPlane plane }
+    ensures { IfOk result (λ edges. edges.items ≡ crossings_in arena.now.model plane (boundary arena.now.model f)) }
+{
+    let items = boundary(alloc, arena, f)?;
+    crossings_in(alloc, arena, plane, items.as_slice())
+}
+
+/// The edges of solid s that cross the plane, face by face.
+pub fn crossings(alloc: Global, arena: &Arena, plane: Plane, s: u32) -> Result<Vec<u32>, AllocError>
+    requires ready { IsReady arena.now }
+    requires plane { IsCutPlane plane }
+    ensures { IfOk result (λ edges. edges.items ≡ crossings_met arena.now.model plane (faces_of arena.now.model s)) }
+{
+    let mut edges = Vec::new(alloc);
+    let mut above = 0;
+    'faces: while let Some(f) = arena.face_after(s, above) {
+        let more = face_crossings(alloc, arena, plane, f)?;
+        edges.extend_from_slice(more.as_slice())?;
+        above = f;
+    }
+    Ok(edges)
+}
+
+/// The point at which the edge of a half-edge that crosses the plane meets it, on the lattice.
+pub fn crossing_point(arena: &Arena, plane: Plane, h: HalfEdge) -> Point
+    requires ready { IsReady arena.now }
+    requires there { has_half arena.now.model (code h) ≡ true }
+    requires plane { IsCutPlane plane }
+    requires crossing { crosses arena.now.model plane (code h) ≡ true }
+    requires whole { is_off arena.now.model plane (edge_of (code h)) ≡ false }
+    ensures { result ≡ cut_between plane (start arena.now.model (code h)) (finish arena.now.model (code h)) }
+{
+    let along = HalfEdge {
+        edge: h.edge,
+        first: true,
+    };
+    match cut_point(plane, start(arena, along), finish(arena, along)) {
+        Some(p) => p,
+        None => unreachable!(),
+    }
+}

@@ -1,0 +1,117 @@
+//! What an arena and a plane say of a half-edge whose edge is there.
+ghost use Rattle.std.specs.Prelude.{◌≡◌, true, ◌&&◌, not};
+ghost use Rattle.boundary_model.specs.HalfEdge.{code};
+ghost use Rattle.boundary_model.specs.Model.{before, has_half};
+ghost use Rattle.euler_conditions.specs.Ready.{IsReady};
+ghost use Rattle.lattice.specs.Point.{IsInRange};
+ghost use Rattle.lattice.specs.Ranges.{IsCutPlane};
+ghost use Rattle.lattice.specs.Vectors.{are_opposite, is_on};
+ghost use Rattle.shapes.specs.Faces.{finish, start};
+ghost use Rattle.split_checks.specs.cut_places.Sides.{lies};
+ghost use Rattle.shapes.specs.split.Places.{goes_up, is_place};
+ghost use Rattle.shapes.specs.split.Sides.{crosses};
+
+use crate::cut_places::planes::{are_opposite, lies};
+use euler_conditions::{Arena, HalfEdge};
+use lattice::{Plane, Point, Sign};
+
+/// The point at which the half-edge starts.
+pub(crate) fn start(arena: &Arena, h: HalfEdge) -> Point
+    requires ready { IsReady arena.now }
+    requires there { has_half arena.now.model (code h) ≡ true }
+    ensures point { result ≡ start arena.now.model (code h) }
+    ensures range { IsInRange result }
+{
+    arena.point(arena.tail(h))
+}
+
+/// The point at which the half-edge ends.
+pub(crate) fn finish(arena: &Arena, h: HalfEdge) -> Point
+    requires ready { IsReady arena.now }
+    requires there { has_half arena.now.model (code h) ≡ true }
+    ensures point { result ≡ finish arena.now.model (code h) }
+    ensures range { IsInRange result }
+{
+    start(arena, h.mate())
+}
+
+/// The item before the half-edge in its loop.
+fn previous(arena: &Arena, h: HalfEdge) -> HalfEdge
+    requires ready { IsReady arena.now }
+    requires there { has_half arena.now.model (code h) ≡ true }
+    ensures previous { code result ≡ before arena.now.model (code h) }
+    ensures there { has_half arena.now.model (code result) ≡ true }
+{
+    arena.prev(h)
+}
+
+/// Whether the ends of the half-edge lie strictly on opposite sides of the plane.
+pub(crate) fn crosses(arena: &Arena, plane: Plane, h: HalfEdge) -> bool
+    requires ready { IsReady arena.now }
+    requires there { has_half arena.now.model (code h) ≡ true }
+    requires plane { IsCutPlane plane }
+    ensures { result ≡ crosses arena.now.model plane (code h) }
+{
+    are_opposite(plane, start(arena, h), finish(arena, h))
+}
+
+/// Whether the half-edge starts on that side of the plane.
+pub(crate) fn starts_at(arena: &Arena, plane: Plane, side: Sign, h: HalfEdge) -> bool
+    requires ready { IsReady arena.now }
+    requires there { has_half arena.now.model (code h) ≡ true }
+    requires plane { IsCutPlane plane }
+    ensures { result ≡ lies side plane (start arena.now.model (code h)) }
+{
+    lies(plane, start(arena, h), side)
+}
+
+/// Whether the half-edge starts on the plane.
+pub fn starts_on(arena: &Arena, plane: Plane, h: HalfEdge) -> bool
+    requires ready { IsReady arena.now }
+    requires there { has_half arena.now.model (code h) ≡ true }
+    requires plane { IsCutPlane plane }
+    ensures { result ≡ is_on plane (start arena.now.model (code h)) }
+{
+    starts_at(arena, plane, Sign::On, h)
+}
+
+/// Whether the corners before and after the half-edge's own lie strictly on opposite sides of the plane.
+fn passes(arena: &Arena, plane: Plane, h: HalfEdge) -> bool
+    requires ready { IsReady arena.now }
+    requires there { has_half arena.now.model (code h) ≡ true }
+    requires plane { IsCutPlane plane }
+    ensures { result ≡ are_opposite plane (start arena.now.model (before arena.now.model (code h))) (finish arena.now.model (code h)) }
+{
+    are_opposite(plane, start(arena, previous(arena, h)), finish(arena, h))
+}
+
+/// Whether the half-edge tells a cut place.
+#[tactic(auto, unfolding(shapes::specs::split::Places::is_place))]
+pub(crate) fn is_place(arena: &Arena, plane: Plane, h: HalfEdge) -> bool
+    requires ready { IsReady arena.now }
+    requires there { has_half arena.now.model (code h) ≡ true }
+    requires plane { IsCutPlane plane }
+    ensures { result ≡ is_place arena.now.model plane (code h) }
+{
+    crosses(arena, plane, h) || (starts_on(arena, plane, h) && passes(arena, plane, h))
+}
+
+/// Whether the half-edge starts on the plane at a corner that is no cut place.
+pub(crate) fn touches(arena: &Arena, plane: Plane, h: HalfEdge) -> bool
+    requires ready { IsReady arena.now }
+    requires there { has_half arena.now.model (code h) ≡ true }
+    requires plane { IsCutPlane plane }
+    ensures { result ≡ is_on plane (start arena.now.model (code h)) && not (is_place arena.now.model plane (code h)) }
+{
+    starts_on(arena, plane, h) && !is_place(arena, plane, h)
+}
+
+/// Whether a cut place is up: its half-edge ends above the plane.
+pub fn goes_up(arena: &Arena, plane: Plane, h: HalfEdge) -> bool
+    requires ready { IsReady arena.now }
+    requires there { has_half arena.now.model (code h) ≡ true }
+    requires plane { IsCutPlane plane }
+    ensures { result ≡ goes_up arena.now.model plane (code h) }
+{
+    lies(plane, finish(arena, h), Sign::Above)
+}

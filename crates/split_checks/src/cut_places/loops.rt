@@ -1,0 +1,50 @@
+//! The half-edges of loops and of faces.
+ghost use Rattle.std.specs.Prelude.{◌≡◌, true, map, IfOk};
+ghost use Rattle.boundary_model.specs.HalfEdge.{code};
+ghost use Rattle.boundary_model.specs.Model.{content, items_of};
+ghost use Rattle.euler_conditions.specs.Ready.{IsReady};
+ghost use Rattle.euler_conditions.specs.Store.{has_number};
+ghost use Rattle.shapes.specs.Faces.{boundary, items_in};
+ghost use Rattle.split_checks.specs.cut_places.Walks.{AreIn};
+
+use euler_conditions::{Arena, Content, HalfEdge, Kind};
+use solid_walks::{face_loops, items_from};
+use std::alloc::{AllocError, Global};
+
+/// The half-edges of loop l, in the order of listings; none where it is lone.
+pub(crate) fn loop_items(alloc: Global, arena: &Arena, l: u32) -> Result<Vec<HalfEdge>, AllocError>
+    requires ready { IsReady arena.now }
+    requires there { has_number arena.now Kind.Loop l ≡ true }
+    ensures { IfOk result (λ items. map code items.items ≡ items_of (content arena.now.model l)) }
+{
+    match arena.content(l) {
+        Content::Lone(_) => Ok(Vec::new(alloc)),
+        Content::Ring(h) => items_from(alloc, arena, h),
+    }
+}
+
+/// The half-edges of some loops, one loop after the other.
+fn items_in(alloc: Global, arena: &Arena, loops: &[u32]) -> Result<Vec<HalfEdge>, AllocError>
+    requires ready { IsReady arena.now }
+    requires there { AreIn arena.now.model.loops loops.now }
+    ensures { IfOk result (λ items. map code items.items ≡ items_in arena.now.model loops.now) }
+{
+    let mut all = Vec::new(alloc);
+    let mut rest = loops;
+    'loops: while let [l, others @ ..] = rest {
+        let items = loop_items(alloc, arena, *l)?;
+        all.extend_from_slice(items.as_slice())?;
+        rest = others;
+    }
+    Ok(all)
+}
+
+/// The half-edges of face f, one loop after the other.
+pub fn boundary(alloc: Global, arena: &Arena, f: u32) -> Result<Vec<HalfEdge>, AllocError>
+    requires ready { IsReady arena.now }
+    requires there { has_number arena.now Kind.Face f ≡ true }
+    ensures { IfOk result (λ items. map code items.items ≡ boundary arena.now.model f) }
+{
+    let loops = face_loops(alloc, arena, f)?;
+    items_in(alloc, arena, loops.as_slice())
+}

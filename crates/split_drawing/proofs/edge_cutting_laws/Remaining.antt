@@ -1,0 +1,116 @@
+-- Edges that are still to be cut.
+use Rattle.std.proofs.Common.{◌≡◌, ℕ, ◌+◌, ◌≤◌, ℤ, true, false, not, List, [], ◌∷◌, length, slice_index_or, None, refl, sym, ap, ◌∙◌, subst, arith}
+use Rattle.std.proofs.lemmas.Int.{ints}
+use Rattle.lattice.specs.declared.Plane.{Plane}
+use Rattle.lattice.specs.Ranges.{IsWithin, IsCutPlane}
+use Rattle.lattice.specs.Vectors.{are_opposite, cuts_lattice, is_offset}
+use Rattle.lattice.proofs.Magnitudes.{coordinate_within}
+use Rattle.cyclic_list.specs.Items.{count, IsIn}
+use Rattle.cyclic_list.proofs.Lists.{tick_same}
+use Rattle.boundary_model.specs.HalfEdge.{plus, minus}
+use Rattle.boundary_model.specs.Model.{Model}
+use Rattle.boundary_model.specs.Sound.{Sound}
+use Rattle.euler_operators.specs.Conditions.{AllHold, first_false}
+use Rattle.euler_operators.specs.Effect.{effect}
+use Rattle.euler_laws.proofs.shared.Goes.{all_hold}
+use Rattle.euler_laws.proofs.shared.Undo.{mate_plus}
+use Rattle.shapes.specs.Faces.{start, finish}
+use Rattle.shapes.specs.Fresh.{taken_in, Growing, growing}
+use Rattle.shapes.specs.split.Sides.{crossing_edges}
+use Rattle.shapes.specs.split.Crossings.{next_cut, all_cut, with_crossings}
+use Rattle.shapes.specs.split.Split.{first_conditions}
+use Rattle.split_drawing_laws.specs.crossings.CrossingOps.{cut_edge}
+use Rattle.split_drawing_laws.proofs.crossings.Steps.{CutGoes, cut_accepted, cut_made}
+use Rattle.split_drawing_laws.proofs.crossings.Runs.{cut_at, Crossing, Going, kept_start, goes_now, next_model, going_on}
+use Rattle.split_drawing_laws.proofs.crossings.Whole as whole
+use Rattle.split_checks.specs.cut_places.Crossings.{IsCrossing, is_off}
+use Rattle.split_checks.proofs.cut_places_laws.Lists.{others, parts}
+use Rattle.split_drawing.specs.edge_cutting.Begins.{CanBeCut}
+use Rattle.split_drawing.proofs.edge_cutting_laws.Halves.{plus_there, minus_there}
+
+-- N is M with some of its edges cut, and those of rs are still to be cut: that makes the first rewriting
+pub record Cutting (M : Model) (s : ℕ) (p : Plane) (N : Model) (rs : List ℕ) : Type 0 where
+  pub sound : Sound M
+  pub done : List ℕ
+  pub going : Going M p (growing N) done rs
+  pub whole : (e : ℕ) → IsIn e rs → cuts_lattice p (start M (plus e)) (finish M (plus e)) ≡ true
+  pub made : (all_cut p (growing N) rs).model ≡ (with_crossings M s p).model
+
+offset_within : (d : ℤ) → is_offset d ≡ true → IsWithin 3000000000000000000 d
+offset_within d e = grind (arith, ints)
+
+plane_within : (M : Model) (s : ℕ) (p : Plane) (t : ℕ) → AllHold (first_conditions M s p t) → IsCutPlane p
+unfolding first_conditions
+plane_within M s p t hold = ((coordinate_within p.a hold.1.1.1.1.0, coordinate_within p.b hold.1.1.1.1.1.0, coordinate_within p.c hold.1.1.1.1.1.1.0), offset_within p.d hold.1.1.1.1.1.1.1.0)
+
+-- a plane that can begin a split is in range
+pub cut_plane : (M : Model) (s : ℕ) (p : Plane) → CanBeCut M s p → IsCutPlane p
+cut_plane M s p can = plane_within M s p can.0 (all_hold (first_conditions M s p can.0) can.1)
+
+-- all crossing edges are to be cut
+pub begins : (M : Model) (s : ℕ) (p : Plane) → Sound M → CanBeCut M s p → Cutting M s p M (crossing_edges M p s)
+unfolding with_crossings
+begins M s p sound can = record {
+  sound = sound;
+  done = [];
+  going = whole.begins M s p can.0 sound can.1;
+  whole = (whole.can_cut M s p can.0 sound can.1).whole;
+  made = refl;
+}
+
+-- once all are cut the rewriting is made
+pub all_taken : (M : Model) (s : ℕ) (p : Plane) (N : Model) → Cutting M s p N [] → N ≡ (with_crossings M s p).model
+all_taken M s p N c = c.made
+
+-- the next one, of a list as the code opens it
+pub opened : (M : Model) (s : ℕ) (p : Plane) (N : Model) (rs : List ℕ) (d : ℕ) → 1 ≤ length rs → Cutting M s p N rs → Cutting M s p N (slice_index_or rs 0 d ∷ others rs)
+opened M s p N rs d l c = subst (Cutting M s p N) (parts rs d l) c
+
+module _ (M : Model) (s : ℕ) (p : Plane) (N : Model) (e : ℕ) (rs : List ℕ) (c : Cutting M s p N (e ∷ rs)) where
+  goes : CutGoes N e ((taken_in N).edge + 1) ((taken_in N).vertex + 1) (cut_at N p e)
+  goes = goes_now M p c.sound (growing N) c.done e rs c.going
+
+  -- it is accepted
+  pub next_goes : first_false N (cut_edge p (growing N) e) ≡ None
+  next_goes = cut_accepted N e ((taken_in N).edge + 1) ((taken_in N).vertex + 1) (cut_at N p e) goes
+
+  crossing : Crossing M p e
+  crossing = c.going.crossing e (omega (arith, tick_same e))
+
+  uncut : count e c.done ≡ 0
+  uncut = omega (arith, c.going.apart e, tick_same e)
+
+  near : start N (plus e) ≡ start M (plus e)
+  near = kept_start M N c.sound c.going.cut.kept (plus e) (plus_there M p e crossing.there) (c.going.cut.plus_tails e crossing.there uncut)
+
+  far : finish N (plus e) ≡ finish M (plus e)
+  far = ap (start N) (mate_plus e) ∙ kept_start M N c.sound c.going.cut.kept (minus e) (minus_there M p e crossing.there) (c.going.cut.minus_tails e crossing.there) ∙ sym (ap (start M) (mate_plus e))
+
+  -- it still crosses the plane, and meets it on the lattice
+  pub next_crosses : IsCrossing N p e
+  next_crosses = record { there = goes.can.there; crossing = (λ i. are_opposite p (near i) (far i)) ∙ crossing.crossing }
+
+  pub next_whole : is_off N p e ≡ false
+  next_whole = (λ i. not (cuts_lattice p (near i) (far i))) ∙ ap not (c.whole e (omega (arith, tick_same e)))
+
+  pub edge_left : (taken_in N).edge + 1 ≤ 1000000
+  edge_left = omega (arith, c.going.edges_left)
+
+  pub vertex_left : (taken_in N).vertex + 1 ≤ 1000000
+  vertex_left = omega (arith, c.going.vertices_left)
+
+  -- once it is cut the others remain
+  pub next_taken : (K : Model) → K ≡ effect N (cut_edge p (growing N) e) → Cutting M s p K rs
+  next_taken K is =
+      let g : Growing = next_cut p (growing N) e in
+      let on : Going M p g (e ∷ c.done) rs = going_on M p c.sound (growing N) c.done e rs c.going in
+      let model : g.model ≡ K = next_model M p c.sound (growing N) c.done e rs c.going
+      ∙ sym (cut_made N e ((taken_in N).edge + 1) ((taken_in N).vertex + 1) (cut_at N p e) goes) ∙ sym is in
+      let same : g ≡ growing K = λ i. record { model = model i; taken = (on.counted ∙ ap taken_in model) i } in
+      record {
+        sound = c.sound;
+        done = e ∷ c.done;
+        going = subst (λ h. Going M p h (e ∷ c.done) rs) same on;
+        whole = λ x i. c.whole x (omega (arith, i));
+        made = ap (λ (h : Growing). (all_cut p h rs).model) (sym same) ∙ c.made;
+      }

@@ -1,0 +1,16 @@
+use Rattle.std.proofs.Common.{◌≡◌, [], length, map}
+use Rattle.std.specs.Prelude.{fold}
+use Rattle.shapes.specs.split.Drawing.{join_next}
+use Rattle.split_drawing.specs.face_drawing.Codes.{codes, drawing_of}
+use Rattle.split_drawing.specs.face_drawing.Passes.{CanJoin}
+use Rattle.split_drawing.proofs.face_drawing.joining.join_pairs.Given as goal
+
+abbrev pub invariant-pairs : goal.invariant-pairs
+invariant-pairs l = record {
+  can : CanJoin l.f (drawing_of l.progress l.draft.model (map codes l.left.items)) (map codes l.rest);
+  made : fold join_next (drawing_of l.progress l.draft.model (map codes l.left.items)) (map codes l.rest) ≡ fold join_next (drawing_of l.fn.from l.fn.draft.model []) (map codes l.pairs);
+  session : l.draft.session ≡ l.fn.draft.session;
+}
+
+abbrev pub decreases-pairs : goal.decreases-pairs
+decreases-pairs l = length l.rest

@@ -1,0 +1,14 @@
+use Rattle.std.proofs.Common.{◌≡◌, length}
+use Rattle.euler_laws.specs.Laws.{AreAccepted, effects}
+use Rattle.split_drawing_laws.specs.drawings.DrawingOps.{ring_ops}
+use Rattle.split_drawing.proofs.face_drawing.rings.move_rings.Given as goal
+
+abbrev pub invariant-rings : goal.invariant-rings
+invariant-rings l = record {
+  accepted : AreAccepted l.draft.model (ring_ops l.rest l.k);
+  made : effects l.draft.model (ring_ops l.rest l.k) ≡ effects l.fn.draft.model (ring_ops l.rings l.k);
+  session : l.draft.session ≡ l.fn.draft.session;
+}
+
+abbrev pub decreases-rings : goal.decreases-rings
+decreases-rings l = length l.rest

@@ -1,0 +1,4 @@
+pub mod Steps
+pub mod PairOps
+pub mod Turns
+pub mod GivenRings

@@ -1,0 +1,49 @@
+-- Rings of a face: whether they stop its drawing, and rings given one after the other.
+use Rattle.std.proofs.Common.{◌≡◌, ℕ, ◌≤◌, ◌<◌, Bool, true, false, ◌&&◌, List, [], ◌∷◌, length, slice_index_or, None, not, nat_lt, refl, sym, ap, ◌∙◌, subst, arith}
+use Rattle.std.proofs.lemmas.Bool.Decides.{nat_tests}
+use Rattle.boundary_model.specs.Model.{Model, rings_of}
+use Rattle.euler_operators.specs.declared.Op.TheVariants.{RingIn}
+use Rattle.euler_operators.specs.Conditions.{first_false, has_rings, is_empty}
+use Rattle.euler_operators.specs.Effect.{effect}
+use Rattle.euler_laws.specs.Laws.{AreAccepted, effects}
+use Rattle.split_drawing_laws.specs.drawings.DrawingOps.{ring_ops}
+use Rattle.split_checks.proofs.cut_places_laws.Lists.{others, parts}
+
+-- with more than one pair a face that has a ring can't be drawn
+module _ (M : Model) (f n : ℕ) where
+  both_hold : (m : ℕ) (ls : List ℕ) → 1 < n → m ≡ length ls → 0 < m → nat_lt 1 n && not (is_empty ls) ≡ true
+  both_hold m [] a e b = absurd (omega arith)
+  both_hold m (l ∷ ls) a e b = let t : nat_lt 1 n ≡ true = grind (arith, nat_tests) in ap (λ b. b && true) t
+
+  not_both : (b : Bool) → b && false ≡ false
+  not_both true = refl
+  not_both false = refl
+
+  none_held : (m : ℕ) (ls : List ℕ) → m ≡ length ls → m ≤ 0 → nat_lt 1 n && not (is_empty ls) ≡ false
+  none_held m [] e b = not_both (nat_lt 1 n)
+  none_held m (l ∷ ls) e b = absurd (omega arith)
+
+  pub ring_stops : (m : ℕ) → 1 < n → m ≡ length (rings_of M f) → 0 < m → nat_lt 1 n && has_rings M f ≡ true
+  unfolding has_rings
+  ring_stops m a e b = both_hold m (rings_of M f) a e b
+
+  pub no_ring : (m : ℕ) → m ≡ length (rings_of M f) → m ≤ 0 → nat_lt 1 n && has_rings M f ≡ false
+  unfolding has_rings
+  no_ring m e b = none_held m (rings_of M f) e b
+
+  pub few_pairs : n ≤ 1 → nat_lt 1 n && has_rings M f ≡ false
+  few_pairs a = let t : nat_lt 1 n ≡ false = grind (arith, nat_tests) in ap (λ b. b && has_rings M f) t
+
+module _ (N : Model) (k : ℕ) (ls : List ℕ) (d : ℕ) (l : 1 ≤ length ls) (accepted : AreAccepted N (ring_ops ls k)) where
+  opened : AreAccepted N (ring_ops (slice_index_or ls 0 d ∷ others ls) k)
+  opened = subst (λ (xs : List ℕ). AreAccepted N (ring_ops xs k)) (parts ls d l) accepted
+
+  pub ring_goes : first_false N (RingIn (slice_index_or ls 0 d) k) ≡ None
+  ring_goes = opened.0
+
+  module _ (K : Model) (is : K ≡ effect N (RingIn (slice_index_or ls 0 d) k)) where
+    pub rings_go : AreAccepted K (ring_ops (others ls) k)
+    rings_go = subst (λ X. AreAccepted X (ring_ops (others ls) k)) (sym is) opened.1
+
+    pub rings_made : effects K (ring_ops (others ls) k) ≡ effects N (ring_ops ls k)
+    rings_made = ap (λ X. effects X (ring_ops (others ls) k)) is ∙ ap (λ (xs : List ℕ). effects N (ring_ops xs k)) (sym (parts ls d l))

@@ -1,0 +1,15 @@
+use Rattle.std.proofs.Common.{◌≡◌, ◌++◌, map, length}
+use Rattle.shapes.specs.split.Places.{in_pairs, up_first}
+use Rattle.split_checks.specs.cut_places.Walks.{AreThere}
+use Rattle.split_drawing.specs.face_drawing.Codes.{codes}
+use Rattle.split_checks.specs.place_order.Order.{places_of}
+use Rattle.split_drawing.proofs.face_pairs.ordered.pairs_of.Given as goal
+
+abbrev pub invariant-pairs : goal.invariant-pairs
+invariant-pairs l = record {
+  there : AreThere l.arena.model (places_of l.left.entries);
+  made : map codes l.pairs.items ++ map (up_first l.arena.model l.plane) (in_pairs (places_of l.left.entries)) ≡ map (up_first l.arena.model l.plane) (in_pairs (places_of l.fn.order.entries));
+}
+
+abbrev pub decreases-pairs : goal.decreases-pairs
+decreases-pairs l = length l.left.entries

@@ -1,0 +1,13 @@
+use Rattle.std.proofs.Common.{◌≡◌, ◌++◌, map, length}
+use Rattle.split_drawing.specs.face_drawing.Codes.{codes}
+use Rattle.split_drawing.specs.solid_drawing.Starts.{PairsThere, pairs_started}
+use Rattle.split_drawing.proofs.solid_drawing.places.pairs_started.Given as goal
+
+abbrev pub invariant-pairs : goal.invariant-pairs
+invariant-pairs l = record {
+  there : PairsThere l.arena.model (map codes l.rest);
+  made : map codes l.started.items ++ pairs_started l.arena.model l.plane (map codes l.rest) ≡ pairs_started l.arena.model l.plane (map codes l.pairs);
+}
+
+abbrev pub decreases-pairs : goal.decreases-pairs
+decreases-pairs l = length l.rest

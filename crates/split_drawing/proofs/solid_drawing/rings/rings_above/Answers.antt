@@ -1,0 +1,46 @@
+use Rattle.std.proofs.Common.{◌∙◌, ap, sym, ℕ, Bool, List, [], ◌∷◌, ◌++◌, cond, length, arith, append_assoc}
+use Rattle.std.specs.Prelude.{filter}
+use Rattle.std.proofs.lemmas.List.{append-nil}
+use Rattle.lattice.specs.declared.Plane.{Plane}
+use Rattle.boundary_model.specs.Model.{Model, rings_of, content}
+use Rattle.shapes.specs.Faces.{vertices_on}
+use Rattle.solid_walks.proofs.face_walks_laws.Rising.{above}
+use Rattle.solid_walks.proofs.face_walks_laws.RingWalks.{next_ring, no_ring, rings_from_zero}
+use Rattle.shapes.specs.split.Sides.{some_above}
+use Rattle.split_drawing.proofs.solid_drawing_laws.RingSteps.{ring_there}
+use Rattle.split_drawing.proofs.solid_drawing.rings.rings_above.Goals as goal
+
+-- a loop has a corner above the plane
+abbrev reaches : Model → Plane → ℕ → Bool
+reaches M p l = some_above M p (vertices_on M (content M l))
+
+pub rings-init : goal.rings-init
+rings-init c =
+    let M = c.args.arena.now.model in
+    ap (λ (ls : List ℕ). ls ++ filter (reaches M c.args.plane) (above 0 (rings_of M c.args.f))) c.new-rings.ensures.items
+    ∙ ap (filter (reaches M c.args.plane)) (rings_from_zero M c.args.f c.requires.ready.sound)
+
+pub loop_reaches-requires-clause-there : goal.loop_reaches-requires-clause-there
+loop_reaches-requires-clause-there c = ring_there c.args.arena.now.model c.args.f c.rings.above c.in-Some.l c.in-Some.ensures
+
+pub rings-smaller-in_ok-push : goal.rings-smaller-in_ok-push
+rings-smaller-in_ok-push c = let next = next_ring c.args.arena.now.model c.args.f c.rings.above c.in-Some.l c.in-Some.ensures in omega (arith, ap length next)
+
+pub rings-preserved-in_ok-push : goal.rings-preserved-in_ok-push
+rings-preserved-in_ok-push c =
+    let M = c.args.arena.now.model in let f = c.args.f in let l = c.in-Some.l in let test = reaches M c.args.plane in let rest = filter test (above l (rings_of M f)) in
+    ap (λ (ls : List ℕ). ls ++ rest) c.in_ok-push.ensures.items ∙ append_assoc c.rings.rings.items (l ∷ []) rest
+    ∙ ap (λ (ls : List ℕ). c.rings.rings.items ++ ls) (sym (ap (filter test) (next_ring M f c.rings.above l c.in-Some.ensures) ∙ ap (λ b. cond b (l ∷ rest) rest) (sym c.in_ok-loop_reaches.ensures ∙ c.if-branch.true))) ∙ c.rings.invariant
+
+pub rings-smaller : goal.rings-smaller
+rings-smaller c = let next = next_ring c.args.arena.now.model c.args.f c.rings.above c.in-Some.l c.in-Some.ensures in omega (arith, ap length next)
+
+pub rings-preserved : goal.rings-preserved
+rings-preserved c =
+    let M = c.args.arena.now.model in let f = c.args.f in let l = c.in-Some.l in let test = reaches M c.args.plane in let rest = filter test (above l (rings_of M f)) in
+    ap (λ (ls : List ℕ). c.rings.rings.items ++ ls) (sym (ap (filter test) (next_ring M f c.rings.above l c.in-Some.ensures) ∙ ap (λ b. cond b (l ∷ rest) rest) (sym c.in_ok-loop_reaches.ensures ∙ c.if-branch.false))) ∙ c.rings.invariant
+
+pub returns : goal.returns
+returns c =
+    let M = c.args.arena.now.model in let f = c.args.f in
+    sym (append-nil c.rings.rings.items) ∙ ap (λ (ls : List ℕ). c.rings.rings.items ++ filter (reaches M c.args.plane) ls) (sym (no_ring M f c.rings.above c.in_default.ensures)) ∙ c.rings.invariant

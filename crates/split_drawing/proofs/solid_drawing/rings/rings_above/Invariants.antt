@@ -1,0 +1,14 @@
+use Rattle.std.proofs.Common.{◌≡◌, ◌++◌, length}
+use Rattle.std.specs.Prelude.{filter}
+use Rattle.boundary_model.specs.Model.{rings_of, content}
+use Rattle.shapes.specs.Faces.{vertices_on}
+use Rattle.solid_walks.proofs.face_walks_laws.Rising.{above}
+use Rattle.shapes.specs.split.Sides.{some_above}
+use Rattle.shapes.specs.split.Drawing.{rings_above}
+use Rattle.split_drawing.proofs.solid_drawing.rings.rings_above.Given as goal
+
+abbrev pub invariant-rings : goal.invariant-rings
+invariant-rings l = l.rings.items ++ filter (λ q. some_above l.arena.model l.plane (vertices_on l.arena.model (content l.arena.model q))) (above l.above (rings_of l.arena.model l.f)) ≡ rings_above l.arena.model l.plane l.f
+
+abbrev pub decreases-rings : goal.decreases-rings
+decreases-rings l = length (above l.above (rings_of l.arena.model l.f))

@@ -1,0 +1,6 @@
+pub mod Starts
+pub mod RingSteps
+pub mod OneFace
+pub mod Faces
+pub mod FaceTurns
+pub mod WholeSolid

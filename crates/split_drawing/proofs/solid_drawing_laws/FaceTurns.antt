@@ -1,0 +1,32 @@
+-- The next of some faces as the code opens it.
+use Rattle.std.proofs.Common.{◌≡◌, List, [], ◌∷◌, map, sym, ap, ◌∙◌, subst}
+use Rattle.lattice.specs.declared.Plane.{Plane}
+use Rattle.boundary_model.specs.Model.{Model}
+use Rattle.shapes.specs.split.Drawing.{drawn_between}
+use Rattle.split_drawing.specs.declared.face_drawing.pairs.Pair.{Pair}
+use Rattle.split_drawing.specs.declared.face_drawing.progress.Progress.{Progress}
+use Rattle.split_drawing.specs.face_drawing.Codes.{codes, drawing_of}
+use Rattle.split_drawing.specs.declared.face_pairs.pairs.FacePairs.{FacePairs}
+use Rattle.split_drawing.specs.face_pairs.Paired.{paired}
+use Rattle.split_drawing.specs.solid_drawing.Drawn.{put_aside, faces_between, CanDrawFace, CanDrawFaces}
+use Rattle.split_drawing.proofs.solid_drawing_laws.Faces.{aside, opened}
+
+module _ (p : Plane) (c : Progress) (N : Model) (rest : List FacePairs) (w : CanDrawFaces p (map paired rest) (drawing_of c N []))
+    (q : FacePairs) (others : List FacePairs) (parts : rest ≡ q ∷ others) (ps : List Pair) (are : ps ≡ q.pairs.items) where
+  opened_rest : map paired rest ≡ (q.face, map codes ps) ∷ map paired others
+  opened_rest = ap (map paired) parts ∙ (λ i. (q.face, map codes (sym are i)) ∷ map paired others)
+
+  turn : CanDrawFace p q.face (map codes ps) (drawing_of c N []) × CanDrawFaces p (map paired others) (put_aside (drawn_between p q.face (map codes ps) (drawing_of c N [])))
+  turn = opened p (drawing_of c N []) (q.face, map codes ps) (map paired others) (subst (λ fs. CanDrawFaces p fs (drawing_of c N [])) opened_rest w)
+
+  pub can_draw : CanDrawFace p q.face (map codes ps) (drawing_of c N [])
+  can_draw = turn.0
+
+  module _ (t : Progress) (K : Model) (is : drawing_of t K [] ≡ put_aside (drawn_between p q.face (map codes ps) (drawing_of c N []))) where
+    pub can_go_on : CanDrawFaces p (map paired others) (drawing_of t K [])
+    can_go_on = subst (CanDrawFaces p (map paired others)) (sym is) turn.1
+
+    pub made_on : put_aside (faces_between p (map paired others) (drawing_of t K [])) ≡ put_aside (faces_between p (map paired rest) (drawing_of c N []))
+    made_on = ap (λ d. put_aside (faces_between p (map paired others) d)) is
+        ∙ aside p (map paired others) (drawn_between p q.face (map codes ps) (drawing_of c N []))
+        ∙ ap (λ fs. put_aside (faces_between p fs (drawing_of c N []))) (sym opened_rest)

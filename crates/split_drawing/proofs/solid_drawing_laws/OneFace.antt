@@ -1,0 +1,127 @@
+-- One face drawn between its pairs, step by step as the code does it.
+use Rattle.std.proofs.Common.{◌≡◌, ℕ, Bool, true, false, cond, ◌&&◌, nat_eq, nat_lt, suc, List, [], ◌∷◌, length, map, ◌≢◌, refl, sym, ap, ◌∙◌, subst}
+use Rattle.std.specs.Prelude.{fold}
+use Rattle.lattice.specs.declared.Plane.{Plane}
+use Rattle.boundary_model.specs.Model.{Model, content}
+use Rattle.boundary_model.specs.Sound.{Has}
+use Rattle.euler_operators.specs.Conditions.{has_rings}
+use Rattle.euler_laws.specs.Laws.{AreAccepted}
+use Rattle.euler_laws.proofs.shared.Goes.{equals, differs}
+use Rattle.shapes.specs.Faces.{vertices_on}
+use Rattle.shapes.specs.split.Sides.{some_above}
+use Rattle.shapes.specs.split.Drawing as drawing
+use Rattle.shapes.specs.split.Drawing.{Drawing, join_next, draw_next, all_joined, ring_free, all_drawn, rings_above, with_rings, rings_shared, drawn_between}
+use Rattle.split_drawing_laws.specs.drawings.DrawingOps.{ring_ops}
+use Rattle.split_drawing_laws.proofs.drawings.Faces.{begun_joining, joins, going, going_on, fitting_on, last, newer_face}
+use Rattle.split_drawing_laws.proofs.drawings.Rings.{Moved, rings_move, rings_are, rings_apart}
+use Rattle.split_drawing.specs.declared.face_drawing.pairs.Pair.{Pair}
+use Rattle.split_drawing.specs.declared.face_drawing.progress.Progress.{Progress}
+use Rattle.split_drawing.specs.face_drawing.Codes.{codes, drawing_of, stuck_at}
+use Rattle.split_drawing.specs.face_drawing.Passes.{CanJoin, CanDraw}
+use Rattle.split_drawing.specs.solid_drawing.Drawn.{CanDrawFace, put_aside}
+
+pub length_codes : (qs : List Pair) → length (map codes qs) ≡ length qs
+length_codes [] = refl
+length_codes (q ∷ qs) = ap suc (length_codes qs)
+
+-- looked at between the two passes
+module _ (f : ℕ) (c : Progress) (N : Model) (L : List (ℕ × ℕ)) where
+  either_stuck : (b : Bool) → drawing_of (cond b (stuck_at c f) c) N L ≡ cond b (drawing.stuck_at f (drawing_of c N L)) (drawing_of c N L)
+  either_stuck true = refl
+  either_stuck false = refl
+
+  pub looked_at : (qs : List (ℕ × ℕ)) (X : Model) (n : ℕ) (t : Progress) → X ≡ N → n ≡ length qs → t ≡ cond (nat_lt 1 n && has_rings X f) (stuck_at c f) c
+      → drawing_of t N L ≡ ring_free f qs (drawing_of c N L)
+  looked_at qs X n t x l e = ap (λ t. drawing_of t N L) (e ∙ (λ i. cond (nat_lt 1 (l i) && has_rings (x i) f) (stuck_at c f) c)) ∙ either_stuck (nat_lt 1 (length qs) && has_rings N f)
+
+module _ (p : Plane) (f : ℕ) (qs : List (ℕ × ℕ)) (d : Drawing) (w : CanDrawFace p f qs d) where
+  abbrev J : Drawing
+  J = all_joined qs d
+
+  abbrev R : Drawing
+  R = ring_free f qs J
+
+  abbrev L : Drawing
+  L = all_drawn f R
+
+  -- the first pass
+  pub can_join : CanJoin f (record d { left = [] }) qs
+  can_join = record { before = d.model; fit = w.ready.fit; joining = begun_joining p f qs d 0 w.ready }
+
+  pub joined_there : (D : Drawing) → D ≡ all_joined qs d → Has D.model.faces f
+  joined_there D e = subst (λ (x : Drawing). Has x.model.faces f) (sym e) ((going p f qs d 0 w.ready).drawn.stays.faces f w.there)
+
+  -- the second
+  abbrev stops : Bool
+  stops = nat_lt 1 (length qs) && has_rings J.model f
+
+  ready_to_draw : CanDraw f R R.left
+  ready_to_draw = record {
+    before = d.model;
+    sound = w.ready.sound;
+    fit = fitting_on d.model f f stops J (joins p f qs d 0 w.ready).state.pairs;
+    going = going_on d.model f 0 stops J (going p f qs d 0 w.ready);
+  }
+
+  pub can_draw : (D : Drawing) → D ≡ ring_free f qs (all_joined qs d) → CanDraw f D D.left
+  can_draw D e = subst (λ (x : Drawing). CanDraw f x x.left) (sym e) ready_to_draw
+
+  -- with one pair, the rings above
+  pub drawn_there : (D : Drawing) → D ≡ all_drawn f (ring_free f qs (all_joined qs d)) → Has D.model.faces f
+  drawn_there D e = subst (λ (x : Drawing). Has x.model.faces f) (sym e) ((last p f qs d 0 w.ready).drawn.stays.faces f w.there)
+
+  moved : length qs ≡ 1 → Moved d.model L.model f L.taken.face (rings_above L.model p f) L.taken
+  moved one = rings_move d.model L.model f L.taken.face (rings_above L.model p f) L.taken (last p f qs d 0 w.ready).drawn
+      (rings_are L.model f (λ l. some_above L.model p (vertices_on L.model (content L.model l))))
+      (rings_apart L.model f (λ l. some_above L.model p (vertices_on L.model (content L.model l))))
+      (newer_face p f qs d 0 w.ready one) (last p f qs d 0 w.ready).fresh
+
+  pub rings_go : length qs ≡ 1 → (D : Drawing) → D ≡ all_drawn f (ring_free f qs (all_joined qs d)) → AreAccepted D.model (ring_ops (rings_above D.model p f) D.taken.face)
+  rings_go one D e = subst (λ (x : Drawing). AreAccepted x.model (ring_ops (rings_above x.model p f) x.taken.face)) (sym e) (moved one).leads.accepted
+
+  pub shared : nat_eq (length qs) 1 ≡ true → (D : Drawing) → D ≡ all_drawn f (ring_free f qs (all_joined qs d)) → (K : Model) → K ≡ with_rings D.model (rings_above D.model p f) D.taken.face
+      → record D { model = K; left = [] } ≡ put_aside (drawn_between p f qs d)
+  shared one D e K is = (λ i. record D { model = is i; left = [] })
+      ∙ sym (ap (λ b. put_aside (cond b (record D { model = with_rings D.model (rings_above D.model p f) D.taken.face }) D)) one)
+      ∙ ap (λ x. put_aside (rings_shared p f qs x)) e
+
+  pub unshared : nat_eq (length qs) 1 ≡ false → (D : Drawing) → D ≡ all_drawn f (ring_free f qs (all_joined qs d)) → put_aside D ≡ put_aside (drawn_between p f qs d)
+  unshared more D e = sym (ap (λ b. put_aside (cond b (record D { model = with_rings D.model (rings_above D.model p f) D.taken.face }) D)) more)
+      ∙ ap (λ x. put_aside (rings_shared p f qs x)) e
+
+-- the same as the code does it: joined, looked at, drawn, and the rings above given
+module _ (p : Plane) (f : ℕ) (pairs : List Pair) (from : Progress) (M : Model) (w : CanDrawFace p f (map codes pairs) (drawing_of from M []))
+    (c : Progress) (N : Model) (left : List Pair) (joined : drawing_of c N (map codes left) ≡ fold join_next (drawing_of from M []) (map codes pairs)) where
+  abbrev ps : List (ℕ × ℕ)
+  ps = map codes pairs
+
+  abbrev begun : Drawing
+  begun = drawing_of from M []
+
+  pub then_there : Has N.faces f
+  then_there = joined_there p f ps begun w (drawing_of c N (map codes left)) joined
+
+  module _ (X : Model) (same : X ≡ N) (t : Progress) (told : t ≡ cond (nat_lt 1 (length pairs) && has_rings X f) (stuck_at c f) c) (now : List Pair) (are : now ≡ left) where
+    looked_is : drawing_of t N (map codes now) ≡ ring_free f (map codes pairs) (all_joined (map codes pairs) (drawing_of from M []))
+    looked_is = ap (λ (qs : List Pair). drawing_of t N (map codes qs)) are
+        ∙ looked_at f c N (map codes left) ps X (length pairs) t same (sym (length_codes pairs)) told
+        ∙ ap (ring_free f ps) joined
+
+    pub then_draw : CanDraw f (drawing_of t N (map codes now)) (map codes now)
+    then_draw = can_draw p f ps begun w (drawing_of t N (map codes now)) looked_is
+
+    module _ (u : Progress) (K : Model) (drawn : drawing_of u K (map codes now) ≡ fold (draw_next f) (drawing_of t N (map codes now)) (map codes now)) where
+      last_is : drawing_of u K (map codes now) ≡ all_drawn f (ring_free f (map codes pairs) (all_joined (map codes pairs) (drawing_of from M [])))
+      last_is = drawn ∙ ap (all_drawn f) looked_is
+
+      pub last_there : Has K.faces f
+      last_there = drawn_there p f ps begun w (drawing_of u K (map codes now)) last_is
+
+      pub last_rings : length pairs ≡ 1 → AreAccepted K (ring_ops (rings_above K p f) u.faces)
+      last_rings one = rings_go p f ps begun w (length_codes pairs ∙ one) (drawing_of u K (map codes now)) last_is
+
+      pub with_shared : length pairs ≡ 1 → (Z : Model) → Z ≡ with_rings K (rings_above K p f) u.faces → drawing_of u Z [] ≡ put_aside (drawn_between p f (map codes pairs) (drawing_of from M []))
+      with_shared one Z is = shared p f ps begun w (equals (length ps) 1 (length_codes pairs ∙ one)) (drawing_of u K (map codes now)) last_is Z is
+
+      pub with_none : length pairs ≢ 1 → drawing_of u K [] ≡ put_aside (drawn_between p f (map codes pairs) (drawing_of from M []))
+      with_none more = unshared p f ps begun w (differs (length ps) 1 (λ e. more (sym (length_codes pairs) ∙ e))) (drawing_of u K (map codes now)) last_is

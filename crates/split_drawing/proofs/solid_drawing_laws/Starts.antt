@@ -1,0 +1,48 @@
+-- The cut places of the faces that straddle, in pairs, once the edges that cross the plane are cut.
+use Rattle.std.proofs.Common.{◌≡◌, ℕ, Bool, true, false, cond, List, [], ◌∷◌, map, refl, arith}
+use Rattle.lattice.specs.declared.Plane.{Plane}
+use Rattle.cyclic_list.specs.Items.{IsIn}
+use Rattle.cyclic_list.proofs.Lists.{tick_same}
+use Rattle.boundary_model.specs.Model.{Model}
+use Rattle.boundary_model.specs.Sound.{Sound, HasHalf}
+use Rattle.solid_walks.proofs.FaceLoops.{items_there}
+use Rattle.shapes.specs.Faces.{loops_of, boundary}
+use Rattle.shapes.specs.split.Places.{is_place, places, goes_up, sorted, in_pairs, sorted_pairs, up_first, place_pairs}
+use Rattle.shapes.specs.split.Drawing.{drawn_pairs}
+use Rattle.split_drawing_laws.specs.crossings.Kept.{Kept}
+use Rattle.split_drawing_laws.proofs.pairs.Sorted.{count-sorted}
+use Rattle.split_checks.proofs.cut_places_laws.Lists.{of_picked}
+use Rattle.split_drawing.specs.solid_drawing.Starts.{PairsThere, FacesThere, pairs_started, faces_started}
+
+module _ (M N : Model) (p : Plane) where
+  -- what starts at the pairs of a face's cut places are the pairs between which edges are drawn
+  pairs_are : (f : ℕ) → pairs_started N p (place_pairs M p f) ≡ drawn_pairs M N p f
+  unfolding drawn_pairs
+  pairs_are f = refl
+
+  pub started_are : (fs : List ℕ) → faces_started N p (map (λ f. (f, place_pairs M p f)) fs) ≡ map (λ f. (f, drawn_pairs M N p f)) fs
+  started_are [] = refl
+  started_are (f ∷ fs) = λ i. (f, pairs_are f i) ∷ started_are fs i
+
+  either_there : (b : Bool) (h k : ℕ) (qs : List (ℕ × ℕ)) → HasHalf N h → HasHalf N k → PairsThere N qs → PairsThere N (cond b (h, k) (k, h) ∷ qs)
+  either_there true h k qs a c r = (a, c, r)
+  either_there false h k qs a c r = (c, a, r)
+
+  paired_there : (hs : List ℕ) → ((h : ℕ) → IsIn h hs → HasHalf N h) → PairsThere N (map (up_first M p) (in_pairs hs))
+  paired_there [] each = tt
+  paired_there (h ∷ []) each = tt
+  paired_there (h ∷ k ∷ ks) each = either_there (goes_up M p h) h k (map (up_first M p) (in_pairs ks))
+      (each h (omega (arith, tick_same h))) (each k (omega (arith, tick_same k))) (paired_there ks (λ x i. each x (omega (arith, i))))
+
+  module _ (sound : Sound M) (kept : Kept M N) (f : ℕ) where
+    place_there : (h : ℕ) → IsIn h (places M p f) → HasHalf N h
+    unfolding places boundary
+    place_there h i = kept.halves h (items_there M sound (loops_of M f) h (of_picked (is_place M p) h (boundary M f) i).0)
+
+    pairs_there : PairsThere N (place_pairs M p f)
+    unfolding place_pairs sorted_pairs
+    pairs_there = paired_there (sorted M p (places M p f)) (λ h i. place_there h (omega (arith, i, count-sorted M p h (places M p f))))
+
+  pub faces_there : Sound M → Kept M N → (fs : List ℕ) → FacesThere N (map (λ f. (f, place_pairs M p f)) fs)
+  faces_there sound kept [] = tt
+  faces_there sound kept (f ∷ fs) = (pairs_there sound kept f, faces_there sound kept fs)

@@ -1,0 +1,4 @@
+pub mod edge_cutting
+pub mod face_drawing
+pub mod face_pairs
+pub mod solid_drawing

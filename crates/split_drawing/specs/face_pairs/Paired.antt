@@ -1,0 +1,32 @@
+-- Faces with the pairs of their cut places, as the code has them.
+use Rattle.std.specs.Prelude.{◌≡◌, ℕ, false, List, [], ◌∷◌, map}
+use Rattle.lattice.specs.declared.Plane.{Plane}
+use Rattle.boundary_model.specs.Model.{Model}
+use Rattle.boundary_model.specs.Sound.{Has}
+use Rattle.shapes.specs.split.Places.{places, place_pairs, some_meet}
+use Rattle.shapes.specs.split.Sides.{straddling_faces}
+use Rattle.split_checks.specs.cut_places.Places.{IsWholeFace}
+use Rattle.split_drawing.specs.face_drawing.Codes.{codes}
+use Rattle.split_drawing.specs.declared.face_pairs.pairs.FacePairs.{FacePairs}
+
+-- a face, and the pairs of its cut places
+abbrev pub paired : FacePairs → ℕ × List (ℕ × ℕ)
+paired q = (q.face, map codes q.pairs.items)
+
+-- some faces, each with the pairs of its cut places
+abbrev pub pairs_in : Model → Plane → List ℕ → List (ℕ × List (ℕ × ℕ))
+pairs_in M p fs = map (λ f. (f, place_pairs M p f)) fs
+
+-- the faces of solid s that straddle the plane, each with the pairs of its cut places
+abbrev pub paired_faces : Model → Plane → ℕ → List (ℕ × List (ℕ × ℕ))
+paired_faces M p s = pairs_in M p (straddling_faces M p s)
+
+-- the cut places of a face have different points on the lattice
+pub record CanBePaired (M : Model) (p : Plane) (f : ℕ) : Type 0 where
+  pub there : Has M.faces f
+  pub whole : IsWholeFace M p f
+  pub apart : some_meet M p (places M p f) ≡ false
+
+abbrev pub AllCanBePaired : Model → Plane → List ℕ → Type 0
+AllCanBePaired M p [] = Unit {0}
+AllCanBePaired M p (f ∷ fs) = CanBePaired M p f × AllCanBePaired M p fs

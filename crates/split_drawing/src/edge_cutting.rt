@@ -1,0 +1,7 @@
+//! The edges that cross a plane cut there, operator by operator in a draft: the first rewriting of a split.
+
+mod cutting;
+mod fresh;
+mod rising;
+
+pub(crate) use cutting::cut_edges;

@@ -1,0 +1,76 @@
+//! Edges cut one after the other in a draft.
+ghost use Rattle.std.specs.Prelude.{◌≡◌, ◌≤◌, ◌+◌, true, false, None, OnOk, OnErr};
+ghost use Rattle.boundary_model.specs.HalfEdge.{code};
+ghost use Rattle.boundary_model.specs.Model.{after, has_half};
+ghost use Rattle.euler_conditions.specs.Ready.{IsReady};
+ghost use Rattle.euler_operators.specs.Conditions.{first_false};
+ghost use Rattle.lattice.specs.Ranges.{IsCutPlane};
+ghost use Rattle.shapes.specs.Fresh.{growing, taken_in};
+ghost use Rattle.undo_journal.specs.Machine.{draft_step};
+ghost use Rattle.shapes.specs.split.Crossings.{with_crossings};
+ghost use Rattle.split_drawing_laws.specs.crossings.CrossingOps.{cut_edge};
+ghost use Rattle.split_checks.specs.cut_places.Crossings.{IsCrossing, is_off};
+ghost use Rattle.split_drawing.specs.edge_cutting.Begins.{CanBeCut};
+
+use crate::edge_cutting::fresh::{fresh_edge, fresh_vertex};
+use crate::edge_cutting::rising::rising_crossings;
+use euler_conditions::{Arena, Corner, HalfEdge, Op};
+use lattice::Plane;
+use solid_walks::{minus, plus};
+use split_checks::crossing_point;
+use std::alloc::{AllocError, Global};
+use undo_journal::Draft;
+
+/// The item after the half-edge in its loop.
+fn next_item(arena: &Arena, h: HalfEdge) -> HalfEdge
+    requires ready { IsReady arena.now }
+    requires there { has_half arena.now.model (code h) ≡ true }
+    ensures { code result ≡ after arena.now.model (code h) }
+{
+    arena.next(h)
+}
+
+/// Cuts an edge that crosses the plane, where it meets it: a new edge leads to a new vertex there, between the edge's first
+/// half-edge and what follows its second.
+fn cut_edge(draft: &mut Draft, plane: Plane, e: u32) -> Result<(), AllocError>
+    requires plane { IsCutPlane plane }
+    requires crossing { IsCrossing draft.old.model plane e }
+    requires whole { is_off draft.old.model plane e ≡ false }
+    requires edge_left { (taken_in draft.old.model).edge + 1 ≤ 1000000 }
+    requires vertex_left { (taken_in draft.old.model).vertex + 1 ≤ 1000000 }
+    requires accepted { first_false draft.old.model (cut_edge plane (growing draft.old.model) e) ≡ None }
+    ensures ok { OnOk result (draft.new ≡ draft_step draft.old (cut_edge plane (growing draft.old.model) e)) }
+    ensures err { OnErr result (draft.new ≡ draft.old) }
+{
+    let arena = draft.arena();
+    let first = plus(e);
+    let next = next_item(arena, minus(e));
+    let edge = plus(fresh_edge(arena));
+    let vertex = fresh_vertex(arena);
+    let point = crossing_point(arena, plane, first);
+    draft.step_accepted(Op::Mev(Corner::At(first), Corner::At(next), edge, vertex, point))
+}
+
+/// Cuts each edge of solid s that crosses the plane where it meets it, from the least edge to the greatest: the first rewriting of
+/// a split of the draft's model, where such a split can begin. The new edges and vertices have the numbers after the greatest in
+/// use.
+///
+/// On `AllocError` some edges may be cut; the session that the draft came from stands, and `abandon` gives it back.
+pub(crate) fn cut_edges(
+    alloc: Global,
+    draft: &mut Draft,
+    s: u32,
+    plane: &Plane,
+) -> Result<(), AllocError>
+    requires { CanBeCut draft.old.model s plane.now }
+    ensures ok { OnOk result (draft.new ≡ record draft.old { model = (with_crossings draft.old.model s plane.now).model }) }
+    ensures err { OnErr result (draft.new.session ≡ draft.old.session) }
+{
+    let edges = rising_crossings(alloc, draft.arena(), *plane, s)?;
+    let mut rest = edges.as_slice();
+    'edges: while let [e, others @ ..] = rest {
+        cut_edge(draft, *plane, *e)?;
+        rest = others;
+    }
+    Ok(())
+}

@@ -1,0 +1,82 @@
+//! The second pass over the pairs of a face: each pair that is left cuts a new face off.
+ghost use Rattle.std.specs.Prelude.{◌≡◌, ◌≤◌, ◌+◌, None, OnOk, OnErr, IfOk, fold, map};
+ghost use Rattle.euler_operators.specs.Conditions.{first_false};
+ghost use Rattle.undo_journal.specs.Machine.{draft_step};
+ghost use Rattle.shapes.specs.split.Drawing.{draw_next};
+ghost use Rattle.split_drawing_laws.specs.drawings.DrawingOps as ops;
+ghost use Rattle.split_drawing.specs.face_drawing.Codes.{codes, drawing_of, stuck_at, taken_of};
+ghost use Rattle.split_drawing.specs.face_drawing.Passes.{CanDraw};
+
+use crate::face_drawing::pairs::{Pair, in_one_loop};
+use crate::face_drawing::progress::Progress;
+use euler_conditions::{HalfEdge, Op};
+use std::alloc::AllocError;
+use undo_journal::Draft;
+
+/// Cuts a new face off between the two of a pair, with the next edge, face and loop.
+fn draw_pair(draft: &mut Draft, progress: Progress, pair: Pair) -> Result<Progress, AllocError>
+    requires faces_left { progress.faces + 1 ≤ 1000000 }
+    requires loops_left { progress.loops + 1 ≤ 1000000 }
+    requires edges_left { progress.edges + 1 ≤ 1000000 }
+    requires accepted { first_false draft.old.model (ops.draw_pair (taken_of progress) (codes pair)) ≡ None }
+    ensures counted { IfOk result (λ next. next ≡ record progress { faces = progress.faces + 1; loops = progress.loops + 1; edges = progress.edges + 1 }) }
+    ensures ok { OnOk result (draft.new ≡ draft_step draft.old (ops.draw_pair (taken_of progress) (codes pair))) }
+    ensures err { OnErr result (draft.new ≡ draft.old) }
+{
+    let made = HalfEdge {
+        edge: progress.edges + 1,
+        first: true,
+    };
+    draft.step_accepted(Op::Mef(
+        pair.up,
+        pair.down,
+        made,
+        progress.faces + 1,
+        progress.loops + 1,
+    ))?;
+    Ok(Progress {
+        faces: progress.faces + 1,
+        loops: progress.loops + 1,
+        edges: progress.edges + 1,
+        ..progress
+    })
+}
+
+/// The progress once face f has proved not to be drawable: the first such face stays.
+pub(crate) fn stuck_at(progress: Progress, f: u32) -> Progress
+    ensures { result ≡ stuck_at progress f }
+{
+    if progress.stuck == 0 {
+        Progress {
+            stuck: f,
+            ..progress
+        }
+    } else {
+        progress
+    }
+}
+
+/// Cuts new faces off face f between the pairs, each of which stands in one loop when its turn comes, and tells how far the drawing
+/// has come then: where a pair stands in different loops f can't be drawn. On `AllocError` some may be cut off.
+pub(crate) fn draw_pairs(
+    draft: &mut Draft,
+    from: Progress,
+    f: u32,
+    pairs: &[Pair],
+) -> Result<Progress, AllocError>
+    requires { CanDraw f (drawing_of from draft.old.model (map codes pairs.now)) (map codes pairs.now) }
+    ensures drawn { IfOk result (λ next. drawing_of next draft.new.model (map codes pairs.now) ≡ fold (draw_next f) (drawing_of from draft.old.model (map codes pairs.now)) (map codes pairs.now)) }
+    ensures session { draft.new.session ≡ draft.old.session }
+{
+    let mut progress = from;
+    let mut rest = pairs;
+    'pairs: while let [pair, others @ ..] = rest {
+        if in_one_loop(draft.arena(), *pair) {
+            progress = draw_pair(draft, progress, *pair)?;
+        } else {
+            progress = stuck_at(progress, f);
+        }
+        rest = others;
+    }
+    Ok(progress)
+}

@@ -1,0 +1,59 @@
+//! The first pass over the pairs of a face: pairs in different loops are joined.
+ghost use Rattle.std.specs.Prelude.{◌≡◌, ◌≤◌, ◌+◌, true, [], None, OnOk, OnErr, IfOk, fold, map};
+ghost use Rattle.boundary_model.specs.HalfEdge.{code};
+ghost use Rattle.boundary_model.specs.Model.{has_half};
+ghost use Rattle.euler_operators.specs.Conditions.{first_false};
+ghost use Rattle.undo_journal.specs.Machine.{draft_step};
+ghost use Rattle.shapes.specs.split.Drawing.{join_next};
+ghost use Rattle.split_drawing_laws.specs.drawings.DrawingOps as ops;
+ghost use Rattle.split_drawing.specs.face_drawing.Codes.{codes, drawing_of};
+ghost use Rattle.split_drawing.specs.face_drawing.Passes.{CanJoin};
+
+use crate::face_drawing::pairs::{Pair, in_one_loop, join_op};
+use crate::face_drawing::progress::Progress;
+use std::alloc::{AllocError, Global};
+use undo_journal::Draft;
+
+/// Joins the loops of a pair by the next edge.
+fn join_pair(draft: &mut Draft, progress: Progress, pair: Pair) -> Result<Progress, AllocError>
+    requires up { has_half draft.old.model (code pair.up) ≡ true }
+    requires left { progress.edges + 1 ≤ 1000000 }
+    requires accepted { first_false draft.old.model (ops.join_pair draft.old.model (codes pair) (progress.edges + 1)) ≡ None }
+    ensures counted { IfOk result (λ next. next ≡ record progress { edges = progress.edges + 1 }) }
+    ensures ok { OnOk result (draft.new ≡ draft_step draft.old (ops.join_pair draft.old.model (codes pair) (progress.edges + 1))) }
+    ensures err { OnErr result (draft.new ≡ draft.old) }
+{
+    let op = join_op(draft.arena(), pair, progress.edges + 1);
+    draft.step_accepted(op)?;
+    Ok(Progress {
+        edges: progress.edges + 1,
+        ..progress
+    })
+}
+
+/// Joins the pairs of face f that stand in different loops, each when its turn comes, and tells how far the drawing has come then,
+/// and the pairs that stood in one loop, in their order. On `AllocError` some may be joined.
+pub(crate) fn join_pairs(
+    alloc: Global,
+    draft: &mut Draft,
+    from: Progress,
+    f: u32,
+    pairs: &[Pair],
+) -> Result<(Progress, Vec<Pair>), AllocError>
+    requires { CanJoin f (drawing_of from draft.old.model []) (map codes pairs.now) }
+    ensures joined { IfOk result (λ r. drawing_of r.0 draft.new.model (map codes r.1.items) ≡ fold join_next (drawing_of from draft.old.model []) (map codes pairs.now)) }
+    ensures session { draft.new.session ≡ draft.old.session }
+{
+    let mut progress = from;
+    let mut left = Vec::new(alloc);
+    let mut rest = pairs;
+    'pairs: while let [pair, others @ ..] = rest {
+        if in_one_loop(draft.arena(), *pair) {
+            left.push(*pair)?;
+        } else {
+            progress = join_pair(draft, progress, *pair)?;
+        }
+        rest = others;
+    }
+    Ok((progress, left))
+}

@@ -1,0 +1,52 @@
+//! Pairs of half-edges between which edges are drawn.
+ghost use Rattle.std.specs.Prelude.{◌≡◌, true};
+ghost use Rattle.boundary_model.specs.HalfEdge.{code};
+ghost use Rattle.boundary_model.specs.Model.{has_half, is_ring_of, loop_of};
+ghost use Rattle.euler_conditions.specs.Ready.{IsReady};
+ghost use Rattle.euler_operators.specs.Conditions.{face_at};
+ghost use Rattle.shapes.specs.split.Drawing.{in_one_loop};
+ghost use Rattle.split_drawing_laws.specs.drawings.DrawingOps.{join_pair};
+ghost use Rattle.split_drawing.specs.face_drawing.Codes.{codes};
+
+use euler_conditions::{Arena, Corner, HalfEdge, Op};
+
+/// Two half-edges of a face that start at the cut places of a pair, the one that is up and the one that is down.
+#[derive(Clone, Copy)]
+pub struct Pair {
+    pub up: HalfEdge,
+    pub down: HalfEdge,
+}
+
+/// Whether the two stand in one loop.
+pub(crate) fn in_one_loop(arena: &Arena, pair: Pair) -> bool
+    requires up { has_half arena.now.model (code pair.up) ≡ true }
+    requires down { has_half arena.now.model (code pair.down) ≡ true }
+    ensures { result ≡ in_one_loop arena.now.model (codes pair) }
+{
+    arena.loop_of(pair.up) == arena.loop_of(pair.down)
+}
+
+/// Whether the first stands in a ring of its face.
+fn starts_in_ring(arena: &Arena, pair: Pair) -> bool
+    requires ready { IsReady arena.now }
+    requires up { has_half arena.now.model (code pair.up) ≡ true }
+    ensures { result ≡ is_ring_of arena.now.model (face_at arena.now.model (code pair.up)) (loop_of arena.now.model (code pair.up)) }
+{
+    let l = arena.loop_of(pair.up);
+    arena.is_ring(arena.face_of(l), l)
+}
+
+/// The operator that joins the loops of the two by this edge, which leads from the second to the first where the first stands in a
+/// ring, else from the first to the second.
+pub(crate) fn join_op(arena: &Arena, pair: Pair, edge: u32) -> Op
+    requires ready { IsReady arena.now }
+    requires up { has_half arena.now.model (code pair.up) ≡ true }
+    ensures { result ≡ join_pair arena.now.model (codes pair) edge }
+{
+    let made = HalfEdge { edge, first: true };
+    if starts_in_ring(arena, pair) {
+        Op::Mekr(Corner::At(pair.down), Corner::At(pair.up), made)
+    } else {
+        Op::Mekr(Corner::At(pair.up), Corner::At(pair.down), made)
+    }
+}

@@ -1,0 +1,40 @@
+//! Rings of a face while it is drawn.
+ghost use Rattle.std.specs.Prelude.{◌≡◌, ◌&&◌, true, cond, nat_lt, OnOk};
+ghost use Rattle.euler_laws.specs.Laws.{AreAccepted, effects};
+ghost use Rattle.euler_operators.specs.Conditions.{has_rings};
+ghost use Rattle.euler_conditions.specs.Store.{has_number};
+ghost use Rattle.split_drawing_laws.specs.drawings.DrawingOps.{ring_ops};
+ghost use Rattle.split_drawing.specs.face_drawing.Codes.{stuck_at};
+
+use crate::face_drawing::drawing::stuck_at;
+use crate::face_drawing::progress::Progress;
+use euler_conditions::{Arena, Kind, Op};
+use std::alloc::AllocError;
+use undo_journal::Draft;
+
+/// How far the drawing has come once face f, which has so many pairs, is looked at between the two passes: with more than one pair
+/// a face that has a ring can't be drawn.
+pub(crate) fn ring_free(arena: &Arena, progress: Progress, f: u32, count: usize) -> Progress
+    requires { has_number arena.now Kind.Face f ≡ true }
+    ensures { result ≡ cond (nat_lt 1 count && has_rings arena.now.model f) (stuck_at progress f) progress }
+{
+    if count > 1 && arena.ring_count(f) > 0 {
+        stuck_at(progress, f)
+    } else {
+        progress
+    }
+}
+
+/// Gives the rings to face k, where each of these operators is accepted in its turn. On `AllocError` some may be given.
+pub(crate) fn move_rings(draft: &mut Draft, rings: &[u32], k: u32) -> Result<(), AllocError>
+    requires { AreAccepted draft.old.model (ring_ops rings.now k) }
+    ensures ok { OnOk result (draft.new ≡ record draft.old { model = effects draft.old.model (ring_ops rings.now k) }) }
+    ensures session { draft.new.session ≡ draft.old.session }
+{
+    let mut rest = rings;
+    'rings: while let [l, others @ ..] = rest {
+        draft.step_accepted(Op::RingIn(*l, k))?;
+        rest = others;
+    }
+    Ok(())
+}

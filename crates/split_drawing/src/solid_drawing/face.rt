@@ -1,0 +1,37 @@
+//! A face drawn between its pairs.
+ghost use Rattle.std.specs.Prelude.{◌≡◌, [], map, IfOk};
+ghost use Rattle.lattice.specs.Ranges.{IsCutPlane};
+ghost use Rattle.shapes.specs.split.Drawing.{drawn_between};
+ghost use Rattle.split_drawing.specs.face_drawing.Codes.{codes, drawing_of};
+ghost use Rattle.split_drawing.specs.solid_drawing.Drawn.{CanDrawFace, put_aside};
+
+use crate::face_drawing::{Pair, Progress, draw_pairs, join_pairs, ring_free};
+use crate::solid_drawing::rings::share_rings;
+use lattice::Plane;
+use std::alloc::{AllocError, Global};
+use undo_journal::Draft;
+
+/// Draws edges between the pairs of face f: those in different loops are joined, and then each that is left cuts a new face off.
+/// With one pair the rings above the plane go to the new face. It tells how far the drawing has come then. On `AllocError` some
+/// edges may be drawn.
+pub(crate) fn draw_face(
+    alloc: Global,
+    draft: &mut Draft,
+    plane: Plane,
+    from: Progress,
+    f: u32,
+    pairs: &[Pair],
+) -> Result<Progress, AllocError>
+    requires plane { IsCutPlane plane }
+    requires can { CanDrawFace plane f (map codes pairs.now) (drawing_of from draft.old.model []) }
+    ensures drawn { IfOk result (λ drawn. drawing_of drawn draft.new.model [] ≡ put_aside (drawn_between plane f (map codes pairs.now) (drawing_of from draft.old.model []))) }
+    ensures session { draft.new.session ≡ draft.old.session }
+{
+    let (joined, left) = join_pairs(alloc, draft, from, f, pairs)?;
+    let looked_at = ring_free(draft.arena(), joined, f, pairs.len());
+    let drawn = draw_pairs(draft, looked_at, f, left.as_slice())?;
+    if pairs.len() == 1 {
+        share_rings(alloc, draft, plane, f, drawn.faces)?;
+    }
+    Ok(drawn)
+}

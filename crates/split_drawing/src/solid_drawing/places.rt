@@ -1,0 +1,90 @@
+//! The half-edges that start at cut places, once the edges that cross the plane are cut.
+ghost use Rattle.std.specs.Prelude.{◌≡◌, true, map, IfOk};
+ghost use Rattle.boundary_model.specs.HalfEdge.{code};
+ghost use Rattle.boundary_model.specs.Model.{has_half};
+ghost use Rattle.euler_conditions.specs.Ready.{IsReady};
+ghost use Rattle.lattice.specs.Ranges.{IsCutPlane};
+ghost use Rattle.shapes.specs.split.Drawing.{from_place};
+ghost use Rattle.split_drawing.specs.face_drawing.Codes.{codes};
+ghost use Rattle.split_drawing.specs.face_pairs.Paired.{paired};
+ghost use Rattle.split_drawing.specs.solid_drawing.Starts.{FacesThere, PairsThere, faces_started, pair_started, pairs_started};
+
+use crate::face_drawing::Pair;
+use crate::face_pairs::FacePairs;
+use euler_conditions::{Arena, HalfEdge};
+use lattice::Plane;
+use split_checks::starts_on;
+use std::alloc::{AllocError, Global};
+
+/// The half-edge that starts at the cut place that h told: h where it starts on the plane, else the one after it.
+fn from_place(arena: &Arena, plane: Plane, h: HalfEdge) -> HalfEdge
+    requires ready { IsReady arena.now }
+    requires there { has_half arena.now.model (code h) ≡ true }
+    requires plane { IsCutPlane plane }
+    ensures { code result ≡ from_place arena.now.model plane (code h) }
+{
+    if starts_on(arena, plane, h) {
+        h
+    } else {
+        arena.next(h)
+    }
+}
+
+/// The half-edges that start at the cut places of a pair.
+fn pair_started(arena: &Arena, plane: Plane, pair: Pair) -> Pair
+    requires ready { IsReady arena.now }
+    requires up { has_half arena.now.model (code pair.up) ≡ true }
+    requires down { has_half arena.now.model (code pair.down) ≡ true }
+    requires plane { IsCutPlane plane }
+    ensures { codes result ≡ pair_started arena.now.model plane (codes pair) }
+{
+    Pair {
+        up: from_place(arena, plane, pair.up),
+        down: from_place(arena, plane, pair.down),
+    }
+}
+
+/// The half-edges that start at the cut places of some pairs.
+fn pairs_started(
+    alloc: Global,
+    arena: &Arena,
+    plane: Plane,
+    pairs: &[Pair],
+) -> Result<Vec<Pair>, AllocError>
+    requires ready { IsReady arena.now }
+    requires there { PairsThere arena.now.model (map codes pairs.now) }
+    requires plane { IsCutPlane plane }
+    ensures { IfOk result (λ started. map codes started.items ≡ pairs_started arena.now.model plane (map codes pairs.now)) }
+{
+    let mut started = Vec::new(alloc);
+    let mut rest = pairs;
+    'pairs: while let [pair, others @ ..] = rest {
+        started.push(pair_started(arena, plane, *pair))?;
+        rest = others;
+    }
+    Ok(started)
+}
+
+/// The half-edges that start at the cut places of the pairs of some faces.
+pub(crate) fn faces_started(
+    alloc: Global,
+    arena: &Arena,
+    plane: Plane,
+    faces: &[FacePairs],
+) -> Result<Vec<FacePairs>, AllocError>
+    requires ready { IsReady arena.now }
+    requires there { FacesThere arena.now.model (map paired faces.now) }
+    requires plane { IsCutPlane plane }
+    ensures { IfOk result (λ started. map paired started.items ≡ faces_started arena.now.model plane (map paired faces.now)) }
+{
+    let mut started = Vec::new(alloc);
+    let mut rest = faces;
+    'faces: while let [face, others @ ..] = rest {
+        started.push(FacePairs {
+            face: face.face,
+            pairs: pairs_started(alloc, arena, plane, face.pairs.as_slice())?,
+        })?;
+        rest = others;
+    }
+    Ok(started)
+}

@@ -1,0 +1,53 @@
+//! The rings of a face above a plane.
+ghost use Rattle.std.specs.Prelude.{◌≡◌, true, IfOk, OnOk};
+ghost use Rattle.boundary_model.specs.Table as table;
+ghost use Rattle.euler_conditions.specs.Ready.{IsReady};
+ghost use Rattle.euler_laws.specs.Laws.{AreAccepted};
+ghost use Rattle.euler_conditions.specs.Store.{has_number};
+ghost use Rattle.lattice.specs.Ranges.{IsCutPlane};
+ghost use Rattle.shapes.specs.split.Drawing.{rings_above, with_rings};
+ghost use Rattle.split_drawing_laws.specs.drawings.DrawingOps.{ring_ops};
+
+use crate::face_drawing::move_rings;
+use euler_conditions::{Arena, Kind};
+use lattice::{Plane, Sign};
+use split_checks::loop_reaches;
+use std::alloc::{AllocError, Global};
+use undo_journal::Draft;
+
+/// The rings of face f that have a corner above the plane, rising.
+fn rings_above(alloc: Global, arena: &Arena, plane: Plane, f: u32) -> Result<Vec<u32>, AllocError>
+    requires ready { IsReady arena.now }
+    requires there { has_number arena.now Kind.Face f ≡ true }
+    requires plane { IsCutPlane plane }
+    ensures { IfOk result (λ rings. rings.items ≡ rings_above arena.now.model plane f) }
+{
+    let mut rings = Vec::new(alloc);
+    let mut above = 0;
+    'rings: while let Some(l) = arena.ring_after(f, above) {
+        if loop_reaches(alloc, arena, plane, Sign::Above, l)? {
+            rings.push(l)?;
+        }
+        above = l;
+    }
+    Ok(rings)
+}
+
+/// Gives the rings of face f above the plane to face k, where each such step is accepted in its turn. On `AllocError` some may be
+/// given.
+pub(crate) fn share_rings(
+    alloc: Global,
+    draft: &mut Draft,
+    plane: Plane,
+    f: u32,
+    k: u32,
+) -> Result<(), AllocError>
+    requires plane { IsCutPlane plane }
+    requires there { table.has draft.old.model.faces f ≡ true }
+    requires accepted { AreAccepted draft.old.model (ring_ops (rings_above draft.old.model plane f) k) }
+    ensures ok { OnOk result (draft.new ≡ record draft.old { model = with_rings draft.old.model (rings_above draft.old.model plane f) k }) }
+    ensures session { draft.new.session ≡ draft.old.session }
+{
+    let rings = rings_above(alloc, draft.arena(), plane, f)?;
+    move_rings(draft, rings.as_slice(), k)
+}

@@ -1,0 +1,85 @@
+//! A solid cut and drawn.
+ghost use Rattle.std.specs.Prelude.{◌≡◌, [], map, IfOk};
+ghost use Rattle.lattice.specs.Ranges.{IsCutPlane};
+ghost use Rattle.shapes.specs.Fresh.{taken_in};
+ghost use Rattle.shapes.specs.split.Drawing.{with_drawings};
+ghost use Rattle.split_drawing.specs.edge_cutting.Begins.{CanBeCut};
+ghost use Rattle.split_drawing.specs.face_drawing.Codes.{drawing_of, taken_of};
+ghost use Rattle.split_drawing.specs.face_pairs.Paired.{paired};
+ghost use Rattle.split_drawing.specs.solid_drawing.Drawn.{CanDrawFaces, faces_between, put_aside};
+
+use crate::edge_cutting::cut_edges;
+use crate::face_drawing::Progress;
+use crate::face_pairs::{FacePairs, face_pairs};
+use crate::solid_drawing::face::draw_face;
+use crate::solid_drawing::places::faces_started;
+use euler_conditions::{Arena, Kind};
+use lattice::Plane;
+use std::alloc::{AllocError, Global};
+use undo_journal::Draft;
+
+/// The progress before anything is drawn: the numbers taken are the greatest in use.
+fn beginning(arena: &Arena) -> Progress
+    ensures taken { taken_of result ≡ taken_in arena.now.model }
+    ensures free { result.stuck ≡ 0 }
+{
+    Progress {
+        faces: arena.greatest(Kind::Face),
+        loops: arena.greatest(Kind::Loop),
+        edges: arena.greatest(Kind::Edge),
+        vertices: arena.greatest(Kind::Vertex),
+        stuck: 0,
+    }
+}
+
+/// Draws edges between the pairs of some faces, one face after the other, and tells how far the drawing has come then. On
+/// `AllocError` some may be drawn.
+fn draw_faces(
+    alloc: Global,
+    draft: &mut Draft,
+    plane: Plane,
+    from: Progress,
+    faces: &[FacePairs],
+) -> Result<Progress, AllocError>
+    requires plane { IsCutPlane plane }
+    requires can { CanDrawFaces plane (map paired faces.now) (drawing_of from draft.old.model []) }
+    ensures drawn { IfOk result (λ drawn. drawing_of drawn draft.new.model [] ≡ put_aside (faces_between plane (map paired faces.now) (drawing_of from draft.old.model []))) }
+    ensures session { draft.new.session ≡ draft.old.session }
+{
+    let mut progress = from;
+    let mut rest = faces;
+    'faces: while let [face, others @ ..] = rest {
+        progress = draw_face(
+            alloc,
+            draft,
+            plane,
+            progress,
+            face.face,
+            face.pairs.as_slice(),
+        )?;
+        rest = others;
+    }
+    Ok(progress)
+}
+
+/// Cuts the edges of solid s that cross the plane, and then draws edges between the cut places of its faces that straddle, where the
+/// plane can begin to split s: the first two rewritings of a split. It tells the greatest numbers taken then, and the first face that
+/// can't be drawn, or 0.
+///
+/// On `AllocError` some steps may be taken; the session that the draft came from stands, and `abandon` gives it back.
+pub fn draw_solid(
+    alloc: Global,
+    draft: &mut Draft,
+    s: u32,
+    plane: &Plane,
+) -> Result<Progress, AllocError>
+    requires { CanBeCut draft.old.model s plane.now }
+    ensures drawn { IfOk result (λ drawn. drawing_of drawn draft.new.model [] ≡ put_aside (with_drawings draft.old.model s plane.now)) }
+    ensures session { draft.new.session ≡ draft.old.session }
+{
+    let faces = face_pairs(alloc, draft.arena(), s, plane)?;
+    cut_edges(alloc, draft, s, plane)?;
+    let started = faces_started(alloc, draft.arena(), *plane, faces.as_slice())?;
+    let from = beginning(draft.arena());
+    draw_faces(alloc, draft, *plane, from, started.as_slice())
+}

@@ -1,0 +1,38 @@
+use Rattle.std.proofs.Common.{◌≡◌, ◌∙◌, List, ℕ, [], true, nat_eq, Ok, None, Some, sym, ap, subst, arith}
+use Rattle.euler_operators.specs.Conditions.{strictly_rises}
+use Rattle.split_opening_laws.specs.cycles.SectionCycles.{AreOf}
+use Rattle.split_drawing.specs.face_drawing.Codes.{drawing_of}
+use Rattle.split_sections.proofs.section_checks_laws.Above.{above_rises, above_of}
+use Rattle.std.proofs.lemmas.Bool.Decides.{nat_tests}
+use Rattle.euler_operators.specs.Conditions.{first_refusal}
+use Rattle.shapes.specs.split.Section.{below_halves}
+use Rattle.shapes.specs.split.Split.{later_conditions, section_conditions}
+use Rattle.split_drawing.specs.face_drawing.Codes.{taken_of}
+use Rattle.split_sections.specs.section_checks.Cycles.{AreCyclesOf}
+use Rattle.split_sections.specs.section_checks.Sections.{IsSection}
+use Rattle.split_sections.specs.declared.section_checks.section.Section.{Section}
+use Rattle.split_sections.proofs.section_checks_laws.Stages.{told, value_told, drawn}
+use Rattle.split_sections.proofs.section_checks.checks.check_later.Goals as goal
+
+pub check_cycles-requires-clause-rising : goal.check_cycles-requires-clause-rising
+check_cycles-requires-clause-rising c =
+    let M = c.args.arena.now.model in
+    subst (λ (fs : List ℕ). strictly_rises fs ≡ true) (sym (c.as_slice.ensures.value ∙ c.in_ok-above.ensures)) (above_rises M c.requires.ready.sound c.args.s c.args.plane.now)
+
+pub check_cycles-requires-clause-of_solid : goal.check_cycles-requires-clause-of_solid
+check_cycles-requires-clause-of_solid c =
+    let M = c.args.arena.now.model in
+    subst (λ (fs : List ℕ). AreOf M fs c.args.s) (sym (c.as_slice.ensures.value ∙ c.in_ok-above.ensures)) (above_of M c.requires.ready.sound c.args.s c.args.plane.now)
+
+pub returns-in-Ok-clause-open : goal.returns-in-Ok-clause-open
+returns-in-Ok-clause-open c = λ q e.
+    let z : nat_eq c.args.drawn.now.stuck 0 ≡ true = grind (arith, nat_tests, c.if-drawn-ne0.false) in
+    let r = subst (λ (fs : List ℕ). (first_refusal (section_conditions c.args.arena.now.model c.args.s c.args.plane.now (taken_of c.args.drawn.now) (below_halves c.args.arena.now.model fs c.args.s)) ≡ None) × AreCyclesOf c.args.arena.now.model c.args.plane.now (below_halves c.args.arena.now.model fs c.args.s) c.in-Ok.cycles.items)
+    (c.as_slice.ensures.value ∙ c.in_ok-above.ensures) (c.in_ok-cycles.ensures.open c.in-Ok.cycles (ap Ok c.in-Ok.is)) in
+    value_told (λ (q : Section). (first_refusal (later_conditions c.args.s c.args.plane.now (drawing_of c.args.drawn.now c.args.arena.now.model [])) ≡ None) × IsSection c.args.arena.now.model c.args.s c.args.plane.now q) (record { above = c.in_ok-above.above; cycles = c.in-Ok.cycles }) q
+    (drawn c.args.s c.args.plane.now (drawing_of c.args.drawn.now c.args.arena.now.model []) z ∙ r.0, record { above = c.in_ok-above.ensures; cycles = r.1.cycles; holes = r.1.holes }) e
+
+pub returns-in-Err-clause-refused : goal.returns-in-Err-clause-refused
+returns-in-Err-clause-refused c = λ r e.
+    let z : nat_eq c.args.drawn.now.stuck 0 ≡ true = grind (arith, nat_tests, c.if-drawn-ne0.false) in
+    told _ _ r (drawn c.args.s c.args.plane.now (drawing_of c.args.drawn.now c.args.arena.now.model []) z ∙ subst (λ (fs : List ℕ). first_refusal (section_conditions c.args.arena.now.model c.args.s c.args.plane.now (taken_of c.args.drawn.now) (below_halves c.args.arena.now.model fs c.args.s)) ≡ Some c.in-Err.refusal) (c.as_slice.ensures.value ∙ c.in_ok-above.ensures) (c.in_ok-cycles.ensures.refused c.in-Err.refusal (ap Ok c.in-Err.is))) e

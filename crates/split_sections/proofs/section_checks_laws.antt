@@ -1,0 +1,4 @@
+pub mod Above
+pub mod HoleFlags
+pub mod Stages
+pub mod Facts

@@ -1,0 +1,64 @@
+-- The faces above a plane, and the below halves and cycles along them.
+use Rattle.std.proofs.Common.{◌≡◌, ℕ, ◌≤◌, Bool, true, false, cond, nat_eq, List, [], ◌∷◌, length, map, refl, ap, ◌∙◌, arith}
+use Rattle.std.specs.Prelude.{filter, unwrap_or}
+use Rattle.lattice.specs.declared.Plane.{Plane}
+use Rattle.cyclic_list.specs.Items.{least}
+use Rattle.boundary_model.specs.Model.{Model, solid_of, faces_of, no_face}
+use Rattle.boundary_model.specs.Sound.{Sound}
+use Rattle.euler_operators.specs.Conditions.{strictly_rises}
+use Rattle.split_drawing_laws.proofs.crossings.Listed.{all_where_has}
+use Rattle.euler_laws.proofs.shared.Goes.{equal}
+use Rattle.euler_laws.proofs.shared.Listed.{all_where-rises}
+use Rattle.solid_walks.proofs.SolidFaces.{listed_in}
+use Rattle.solid_walks.proofs.FaceLoops.{halves_short}
+use Rattle.shapes.specs.split.Sides.{face_is_above, faces_above}
+use Rattle.shapes.specs.split.Section.{below_halves, cycle_from, section_cycles}
+use Rattle.split_opening_laws.specs.cycles.SectionCycles.{AreOf, IsUnbranched, AreSectionCycles}
+use Rattle.split_opening_laws.proofs.cycles.Meets.{filter_less}
+use Rattle.split_opening_laws.proofs.cycles.RisingLists.{filter_rises}
+use Rattle.split_opening_laws.proofs.cycles.BelowHalves.{halves_apart, halves_are}
+use Rattle.split_opening_laws.proofs.cycles.Cycles.{cycles_lead_round}
+use Rattle.split_sections.specs.section_cycles.Halves.{AreThere}
+use Rattle.split_sections.specs.section_checks.Cycles.{AreCycles}
+
+as_long : (f : ℕ → List ℕ) (bs : List ℕ) → length (map f bs) ≡ length bs
+as_long f [] = refl
+as_long f (b ∷ bs) = omega (arith, as_long f bs)
+
+fewer : (q : ℕ → Bool) (bs : List ℕ) → length (filter q bs) ≤ length bs
+fewer q [] = omega arith
+fewer q (b ∷ bs) = go (q b) (fewer q bs) where
+  go : (c : Bool) → length (filter q bs) ≤ length bs → length (cond c (b ∷ filter q bs) (filter q bs)) ≤ length (b ∷ bs)
+  go true l = omega (arith, l)
+  go false l = omega (arith, l)
+
+shorter : (f : ℕ → List ℕ) (q : ℕ → Bool) (bs : List ℕ) (m : ℕ) → length bs ≤ m → length (map f (filter q bs)) ≤ m
+shorter f q bs m l = omega (arith, l, as_long f (filter q bs), fewer q bs)
+
+module _ (M : Model) (sound : Sound M) (s : ℕ) (p : Plane) where
+  pub above_rises : strictly_rises (faces_above M p s) ≡ true
+  above_rises = filter_rises (face_is_above M p) (faces_of M s) (all_where-rises (λ _ row. nat_eq row.solid s) M.faces)
+
+  pub above_of : AreOf M (faces_above M p s) s
+  unfolding solid_of
+  above_of f l =
+      let w = all_where_has (λ _ row. nat_eq row.solid s) M.faces f (omega (arith, listed_in f (faces_above M p s) l, filter_less (face_is_above M p) f (faces_of M s))) in
+      ap (λ o. (unwrap_or o no_face).solid) w.1 ∙ equal w.0.solid s w.2
+
+module _ (M : Model) (sound : Sound M) (above : List ℕ) (s : ℕ) (faces : AreOf M above s) where
+  pub halves_there : AreThere M (below_halves M above s)
+  halves_there b i = (halves_are M above s sound b i).there
+
+  pub few_halves : length (below_halves M above s) ≤ 2000002
+  few_halves = halves_short M sound (below_halves M above s) (record { apart = halves_apart M above s sound; there = halves_there })
+
+  module _ (unbranched : IsUnbranched M (below_halves M above s)) where
+    pub are_cycles : AreCycles M (section_cycles M (below_halves M above s))
+    are_cycles = go (section_cycles M (below_halves M above s)) (cycles_lead_round M above s sound faces unbranched) where
+      go : (cs : List (List ℕ)) → AreSectionCycles M above s cs → AreCycles M cs
+      go [] a = tt
+      go (c ∷ cs) a = ((a.0.there, a.0.apart), go cs a.1)
+
+  pub few_cycles : length (section_cycles M (below_halves M above s)) ≤ 2000002
+  unfolding section_cycles
+  few_cycles = shorter (cycle_from M (below_halves M above s)) (λ b. nat_eq (least (cycle_from M (below_halves M above s) b)) b) (below_halves M above s) 2000002 few_halves

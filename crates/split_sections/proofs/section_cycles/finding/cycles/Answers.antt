@@ -1,0 +1,55 @@
+use Rattle.std.proofs.Common.{◌∙◌, ℕ, ◌≤◌, ◌||◌, List, map, Vec, Global, sym, ap, subst}
+use Rattle.std.specs.BTreeSet.{contains}
+use Rattle.std.specs.Ordering.{nat_cmp, is_eq}
+use Rattle.std.specs.List.{list_any}
+use Rattle.cyclic_list.specs.Items.{IsIn}
+use Rattle.euler_operators.specs.Conditions.{lists}
+use Rattle.boundary_model.specs.declared.HalfEdge.{HalfEdge}
+use Rattle.boundary_model.specs.HalfEdge.{code}
+use Rattle.shapes.specs.split.Section.{next_below}
+use Rattle.split_sections.specs.section_cycles.Halves.{codes}
+use Rattle.split_sections.proofs.section_cycles_laws.Chains.{none}
+use Rattle.split_sections.proofs.section_cycles_laws.Found.{Finding, none_found, found_before, found_now, now_in}
+use Rattle.split_sections.proofs.section_cycles_laws.Meetings.{first_code}
+use Rattle.split_sections.proofs.section_cycles_laws.Whole.{number_fits, cycle_low, no_more, listed_cycles, codes_pushed}
+use Rattle.split_sections.proofs.section_cycles.finding.cycles.Goals as goal
+
+pub halves-init : goal.halves-init
+halves-init c =
+    let M = c.args.arena.now.model in let bs : List ℕ = map code c.args.halves.now in
+    subst (λ (found : List (Vec HalfEdge Global)). Finding (next_below M bs) bs bs (map codes found) (contains nat_cmp c.new-met.result)) (sym c.new-cycles.ensures.items)
+    (none_found (next_below M bs) bs (contains nat_cmp c.new-met.result) (λ x. ap (list_any (λ k. is_eq (nat_cmp x k))) c.new-met.ensures.empty))
+
+pub code-requires : goal.code-requires
+code-requires c =
+    let M = c.args.arena.now.model in let bs : List ℕ = map code c.args.halves.now in
+    number_fits M c.requires.ready.sound _ (c.requires.there _ (now_in (next_below M bs) bs c.requires.next c.requires.rising _ _ _ c.halves.invariant (code _) _ (first_code c.halves.rest.now none c.in-len1-up.len_at_least)))
+
+pub cycle_from-requires-clause-first : goal.cycle_from-requires-clause-first
+cycle_from-requires-clause-first c =
+    let M = c.args.arena.now.model in let bs : List ℕ = map code c.args.halves.now in
+    now_in (next_below M bs) bs c.requires.next c.requires.rising _ _ _ c.halves.invariant _ _ (first_code c.halves.rest.now none c.in-len1-up.len_at_least)
+
+pub meet-requires : goal.meet-requires
+meet-requires c =
+    let M = c.args.arena.now.model in let bs : List ℕ = map code c.args.halves.now in
+    subst (λ (hs : List HalfEdge). (b : ℕ) → IsIn b (map code hs) → b ≤ 2000001) (sym c.as_slice.ensures.value)
+    (cycle_low M c.requires.ready.sound bs c.requires.there c.requires.next _
+    (now_in (next_below M bs) bs c.requires.next c.requires.rising _ _ _ c.halves.invariant _ _ (first_code c.halves.rest.now none c.in-len1-up.len_at_least)) (codes c.in_ok-cycle.cycle) c.in_ok-cycle.ensures)
+
+pub halves-preserved-in_ok-push : goal.halves-preserved-in_ok-push
+halves-preserved-in_ok-push c =
+    let M = c.args.arena.now.model in let bs : List ℕ = map code c.args.halves.now in
+    found_now (next_below M bs) bs c.requires.next c.requires.rising _ _ _ c.halves.invariant _ _ (first_code c.halves.rest.now none c.in-len1-up.len_at_least)
+    (ap (contains nat_cmp c.halves.met) (sym c.code.ensures) ∙ sym c.contains.ensures ∙ c.if-not-contains.true)
+    (codes c.in_ok-cycle.cycle) c.in_ok-cycle.ensures (map codes c.push.new.self.items) (codes_pushed c.halves.cycles.items c.in_ok-cycle.cycle c.push.new.self.items c.in_ok-push.ensures.items) (contains nat_cmp c.meet.new.met)
+    (λ x. c.in_ok-meet.ensures x ∙ ap (λ (hs : List HalfEdge). lists (map code hs) x || contains nat_cmp c.halves.met x) c.as_slice.ensures.value)
+
+pub halves-preserved : goal.halves-preserved
+halves-preserved c =
+    let M = c.args.arena.now.model in let bs : List ℕ = map code c.args.halves.now in
+    found_before (next_below M bs) bs c.requires.next c.requires.rising _ _ _ c.halves.invariant _ _ (first_code c.halves.rest.now none c.in-len1-up.len_at_least)
+    (ap (contains nat_cmp c.halves.met) (sym c.code.ensures) ∙ sym c.contains.ensures ∙ c.if-not-contains.false)
+
+pub returns : goal.returns
+returns c = listed_cycles c.args.arena.now.model (map code c.args.halves.now) (map code c.halves.rest.now) (map codes c.halves.cycles.items) (contains nat_cmp c.halves.met) c.halves.invariant (no_more c.halves.rest.now c.in_default.len_below)

@@ -1,0 +1,11 @@
+use Rattle.std.proofs.Common.{◌∙◌, ap, arith}
+use Rattle.lattice.specs.Vectors.{dot}
+use Rattle.lattice.proofs.Magnitudes.{fits, held_is}
+use Rattle.split_sections.specs.section_cycles.Sums.{read}
+use Rattle.solid_measure.proofs.Planes.{held_vector_is}
+use Rattle.split_sections.proofs.section_cycles.holes.along.Goals as goal
+
+pub returns-clause-is : goal.returns-clause-is
+returns-clause-is c =
+    held_is c.dot.result (fits _ _ c.dot.ensures.within (omega arith)) ∙ c.dot.ensures.is
+    ∙ ap (λ v. dot v c.args.to) (held_vector_is (read c.args.n) c.args.to c.dot.result c.requires.n c.dot.ensures.within)

@@ -1,0 +1,14 @@
+use Rattle.std.proofs.Common.{◌∙◌, ap, map, arith}
+use Rattle.std.specs.Prelude.{pos, int_lt, ℤ}
+use Rattle.lattice.specs.declared.Point.{Point}
+use Rattle.lattice.specs.Vectors.{dot}
+use Rattle.lattice.proofs.Magnitudes.{fits, held_is}
+use Rattle.boundary_model.specs.HalfEdge.{code, mate}
+use Rattle.solid_measure.specs.Measure.{area}
+use Rattle.shapes.specs.split.Section.{is_hole}
+use Rattle.split_sections.proofs.section_cycles.holes.is_hole.Goals as goal
+
+pub returns : goal.returns
+unfolding is_hole
+returns c =
+    ap (λ (d : ℤ). int_lt d (pos 0)) (held_is c.along.result (fits _ _ c.along.ensures.within (omega arith)) ∙ c.along.ensures.is ∙ ap (λ (n : Point). dot n c.direction_of.result) c.mates_area.ensures.is ∙ ap (dot (area c.args.arena.now.model (map mate (map code c.args.halves.now)))) c.direction_of.ensures.is)

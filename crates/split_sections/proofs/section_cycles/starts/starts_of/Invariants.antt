@@ -1,0 +1,14 @@
+use Rattle.std.proofs.Common.{map, length}
+use Rattle.boundary_model.specs.HalfEdge.{code}
+use Rattle.split_sections.specs.section_cycles.Halves.{AreThere}
+use Rattle.split_sections.proofs.section_cycles_laws.Chains.{Placed}
+use Rattle.split_sections.proofs.section_cycles.starts.starts_of.Given as goal
+
+abbrev pub invariant-halves : goal.invariant-halves
+invariant-halves l = record {
+  there : AreThere l.arena.model (map code l.rest);
+  placed : Placed l.arena.model (map code l.halves) (map code l.rest) l.starts;
+}
+
+abbrev pub decreases-halves : goal.decreases-halves
+decreases-halves l = length l.rest

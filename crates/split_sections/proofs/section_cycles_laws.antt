@@ -1,0 +1,9 @@
+pub mod Sorted
+pub mod Meetings
+pub mod Sums
+pub mod Chains
+pub mod Meeting
+pub mod Leads
+pub mod Rounds
+pub mod Found
+pub mod Whole

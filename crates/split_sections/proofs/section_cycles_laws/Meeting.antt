@@ -1,0 +1,42 @@
+-- Half-edges that are met, in a set of their codes.
+use Rattle.std.proofs.Common.{◌≡◌, ℕ, ◌≤◌, Bool, true, false, cond, ◌||◌, nat_eq, List, map, length, slice_index_or, refl, sym, ap, subst, ◌∙◌, arith}
+use Rattle.std.specs.Ordering.{nat_cmp, is_eq}
+use Rattle.cyclic_list.specs.Items.{IsIn}
+use Rattle.cyclic_list.proofs.Lists.{tick_same}
+use Rattle.boundary_model.specs.declared.HalfEdge.{HalfEdge}
+use Rattle.boundary_model.specs.HalfEdge.{code, plus, minus}
+use Rattle.euler_operators.specs.Conditions.{lists}
+use Rattle.split_checks.proofs.cut_places_laws.Lists.{others, parts}
+
+abbrev AreLow : List ℕ → Type 0
+AreLow bs = (b : ℕ) → IsIn b bs → b ≤ 2000001
+
+low_edge : (h : HalfEdge) → code h ≤ 2000001 → h.edge ≤ 1000000
+unfolding code
+low_edge h l = go h.first l where
+  go : (f : Bool) → cond f (plus h.edge) (minus h.edge) ≤ 2000001 → h.edge ≤ 1000000
+  go true l = omega (arith, l)
+  go false l = omega (arith, l)
+
+pub first_low : (hs : List HalfEdge) (d : HalfEdge) → 1 ≤ length hs → AreLow (map code hs) → (slice_index_or hs 0 d).edge ≤ 1000000
+first_low hs d l low =
+    let h = slice_index_or hs 0 d in
+    low_edge h (low (code h) (subst (λ (ks : List HalfEdge). IsIn (code h) (map code ks)) (sym (parts hs d l)) (omega (arith, tick_same (code h)))))
+
+pub others_low : (hs : List HalfEdge) (d : HalfEdge) → 1 ≤ length hs → AreLow (map code hs) → AreLow (map code (others hs))
+others_low hs d l low b i = low b (subst (λ (ks : List HalfEdge). IsIn b (map code ks)) (sym (parts hs d l)) (omega (arith, i)))
+
+number_tied : (m n : ℕ) → is_eq (nat_cmp m n) ≡ nat_eq m n
+number_tied m n = grind arith
+
+-- the first is met now
+pub one_met : (hs : List HalfEdge) (d : HalfEdge) → 1 ≤ length hs → (b k : ℕ) (old new all : Bool) → k ≡ code (slice_index_or hs 0 d) → new ≡ cond (is_eq (nat_cmp k b)) true old
+    → (lists (map code hs) b || old) ≡ all → (lists (map code (others hs)) b || new) ≡ all
+one_met hs d l b k old new all is e met =
+    ap (λ c. lists (map code (others hs)) b || c) (e ∙ ap (λ c. cond c true old) (number_tied k b ∙ ap (λ n. nat_eq n b) is))
+    ∙ moved (lists (map code (others hs)) b) (nat_eq (code (slice_index_or hs 0 d)) b) old ∙ sym (ap (λ (ks : List HalfEdge). lists (map code ks) b || old) (parts hs d l)) ∙ met where
+      moved : (p q r : Bool) → (p || cond q true r) ≡ ((q || p) || r)
+      moved true true r = refl
+      moved true false r = refl
+      moved false true r = refl
+      moved false false r = refl

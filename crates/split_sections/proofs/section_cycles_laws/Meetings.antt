@@ -1,0 +1,109 @@
+-- The vertices at which section edges meet: of the ends of these edges, sorted, the least that stands more than twice.
+use Rattle.std.proofs.Common.{◌≡◌, ℕ, ◌+◌, ◌≤◌, ◌<◌, true, false, nat_lt, List, [], ◌∷◌, ◌++◌, map, length, slice_index_or, Option, Some, None, is_some, refl, sym, ap, subst, ◌∙◌, arith, true≢false, ◌⊎◌, inl, inr}
+use Rattle.std.specs.List.Sorted.{IsPermutation, IsSorted, IsNonDecreasing}
+use Rattle.std.specs.Ordering.{nat_cmp}
+use Rattle.std.specs.List.{sum_by}
+use Rattle.std.proofs.lemmas.Bool.Decides.{nat_tests}
+use Rattle.std.proofs.lemmas.List.Sorted.{sum_by-IsPermutation, IsNonDecreasingBy-from_sort}
+use Rattle.std.proofs.lemmas.List.Sums.{sum_by-cons}
+use Rattle.lattice.specs.declared.Point.{Point}
+use Rattle.cyclic_list.specs.Items.{tick, count, IsIn, SameItems}
+use Rattle.cyclic_list.proofs.Lists.{tick_same, count-append, IsIn_or_not}
+use Rattle.cyclic_list.proofs.Maps.{from_map}
+use Rattle.boundary_model.specs.declared.HalfEdge.{HalfEdge}
+use Rattle.boundary_model.specs.HalfEdge.{code, mate}
+use Rattle.boundary_model.specs.Table as table
+use Rattle.boundary_model.specs.Model.{Model, tail, is_number}
+use Rattle.boundary_model.specs.Sound.{Sound, HasHalf, Has}
+use Rattle.euler_laws.proofs.shared.Fans.{half_mate}
+use Rattle.solid_walks.proofs.face_walks_laws.Rising.{AllAbove, all_above_members}
+use Rattle.solid_walks.proofs.face_walks_laws.TableWalks.{passes, member_passing}
+use Rattle.solid_measure.specs.solid_checks.Least.{found, least_such}
+use Rattle.solid_measure.proofs.solid_checks_laws.Searches.{IsLeast, one_least, least_same, least_row}
+use Rattle.shapes.specs.split.Section.{section_ends, least_branched}
+use Rattle.split_checks.proofs.cut_places_laws.Lists.{others, parts}
+use Rattle.split_sections.specs.section_cycles.Halves.{AreThere}
+use Rattle.split_sections.proofs.section_cycles_laws.Sorted.{often, least_often}
+
+-- ---- the half-edges of a list, one by one
+
+pub first_there : (M : Model) (hs : List HalfEdge) (d : HalfEdge) → 1 ≤ length hs → AreThere M (map code hs) → HasHalf M (code (slice_index_or hs 0 d))
+first_there M hs d l t = t (code (slice_index_or hs 0 d)) (subst (λ (ks : List HalfEdge). IsIn (code (slice_index_or hs 0 d)) (map code ks)) (sym (parts hs d l)) (omega (arith, tick_same (code (slice_index_or hs 0 d)))))
+
+pub others_there : (M : Model) (hs : List HalfEdge) (d : HalfEdge) → 1 ≤ length hs → AreThere M (map code hs) → AreThere M (map code (others hs))
+others_there M hs d l t b i = t b (subst (λ (ks : List HalfEdge). IsIn b (map code ks)) (sym (parts hs d l)) (omega (arith, i)))
+
+pub first_code : (hs : List HalfEdge) (d : HalfEdge) → 1 ≤ length hs → map code hs ≡ code (slice_index_or hs 0 d) ∷ map code (others hs)
+first_code hs d l = ap (λ (ks : List HalfEdge). map code ks) (parts hs d l)
+
+-- ---- their ends
+
+-- both ends of the first are met
+pub ends_more : (M : Model) (hs : List HalfEdge) (d : HalfEdge) → 1 ≤ length hs → (v all : ℕ) (ends ones more : List ℕ) (t u : ℕ)
+    → t ≡ tail M (code (slice_index_or hs 0 d)) → u ≡ tail M (mate (code (slice_index_or hs 0 d))) → ones ≡ ends ++ t ∷ [] → more ≡ ones ++ u ∷ []
+    → count v ends + count v (section_ends M (map code hs)) ≡ all → count v more + count v (section_ends M (map code (others hs))) ≡ all
+ends_more M hs d l v all ends ones more t u et eu e f counted =
+    let b : ℕ = code (slice_index_or hs 0 d) in
+    let bs : List ℕ = map code (others hs) in
+    let whole : count v (section_ends M (map code hs)) ≡ count v (section_ends M (b ∷ bs)) = ap (λ (ks : List HalfEdge). count v (section_ends M (map code ks))) (parts hs d l) in
+    omega (
+      arith,
+      counted,
+      whole,
+      count-append v (map (tail M) (b ∷ bs)) (map (λ c. tail M (mate c)) (b ∷ bs)),
+      count-append v (map (tail M) bs) (map (λ c. tail M (mate c)) bs),
+      ap (count v) e,
+      ap (count v) f,
+      count-append v ends (t ∷ []),
+      count-append v ones (u ∷ []),
+      ap (tick v) et,
+      ap (tick v) eu,
+    )
+
+-- ---- sorted
+
+counted : (x : ℕ) (xs : List ℕ) → sum_by (tick x) xs ≡ count x xs
+counted x [] = refl
+counted x (y ∷ ys) = sum_by-cons (tick x) y ys ∙ ap (λ n. tick x y + n) (counted x ys)
+
+moved_same : (xs ys : List ℕ) → IsPermutation xs ys → SameItems xs ys
+moved_same xs ys moved x = sym (counted x xs) ∙ sym (sum_by-IsPermutation (tick x) xs ys moved) ∙ counted x ys
+
+pub sorted_up : (xs : List ℕ) → IsSorted nat_cmp xs → IsNonDecreasing xs
+sorted_up xs sorted = IsNonDecreasingBy-from_sort (λ x. x) xs sorted
+
+module _ (M : Model) (sound : Sound M) (bs : List ℕ) (there : AreThere M bs) where
+  end_there : (v : ℕ) → IsIn v (section_ends M bs) → Has M.vertices v
+  end_there v i = elim (either (count v (map (tail M) bs)) (count v (map (λ b. tail M (mate b)) bs)) (omega (arith, i, count-append v (map (tail M) bs) (map (λ b. tail M (mate b)) bs)))) [
+    | inl j ↦ let r = from_map (tail M) v bs j in subst (Has M.vertices) (sym r.2) (sound.tails_there r.0 (there r.0 r.1))
+    | inr j ↦ let r = from_map (λ b. tail M (mate b)) v bs j in subst (Has M.vertices) (sym r.2) (sound.tails_there (mate r.0) (half_mate M sound r.0 (there r.0 r.1)))
+  ] where
+    either : (m n : ℕ) → 1 ≤ m + n → (1 ≤ m) ⊎ (1 ≤ n)
+    either m n l = grind arith
+
+  none_often : (n : ℕ) → n ≡ 0 → nat_lt 2 n ≡ false
+  none_often n e = ap (nat_lt 2) e
+
+  there_or_not : (v : ℕ) (o : Option Point) → table.get M.vertices v ≡ o → passes (λ v _. nat_lt 2 (count v (section_ends M bs))) v o ≡ nat_lt 2 (count v (section_ends M bs))
+  there_or_not v (Some p) e = refl
+  there_or_not v None e = sym (none_often (count v (section_ends M bs)) (outside (IsIn_or_not v (section_ends M bs)))) where
+    outside : IsIn v (section_ends M bs) ⊎ (count v (section_ends M bs) ≡ 0) → count v (section_ends M bs) ≡ 0
+    outside (inl i) = absurd (true≢false (sym (end_there v i) ∙ ap (λ q. is_some q) e))
+    outside (inr z) = z
+
+  positive : AllAbove 0 (table.all_where (λ v _. nat_lt 2 (count v (section_ends M bs))) M.vertices)
+  positive = all_above_members 0 _ (λ v m. above_zero v (sound.vertices_fit v (known v (table.get M.vertices v) (sym (member_passing (λ v _. nat_lt 2 (count v (section_ends M bs))) M.vertices v) ∙ m)))) where
+    known : (v : ℕ) (o : Option Point) → passes (λ v _. nat_lt 2 (count v (section_ends M bs))) v o ≡ true → is_some o ≡ true
+    known v None e = e
+    known v (Some p) e = refl
+
+    above_zero : (v : ℕ) → is_number v ≡ true → 0 < v
+    above_zero v e = grind (arith, nat_tests)
+
+  branched_least : IsLeast (λ v. nat_lt 2 (count v (section_ends M bs))) (found (least_branched M (section_ends M bs)))
+  branched_least = least_same _ _ (λ v. there_or_not v (table.get M.vertices v) refl) (found (least_branched M (section_ends M bs))) (least_row (λ v _. nat_lt 2 (count v (section_ends M bs))) M.vertices positive)
+
+  pub least_is : (ends sorted : List ℕ) → SameItems ends (section_ends M bs) → IsPermutation ends sorted → least_such (often sorted) sorted ≡ found (least_branched M (section_ends M bs))
+  least_is ends sorted same moved =
+      one_least (often sorted) (least_such (often sorted) sorted) (found (least_branched M (section_ends M bs))) (least_often sorted)
+      (least_same (λ v. nat_lt 2 (count v (section_ends M bs))) (often sorted) (λ v. ap (nat_lt 2) (sym (same v) ∙ moved_same ends sorted moved v)) (found (least_branched M (section_ends M bs))) branched_least)

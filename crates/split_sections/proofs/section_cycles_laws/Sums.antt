@@ -1,0 +1,51 @@
+-- Sums of cross products over the mates of some below halves.
+use Rattle.std.proofs.Common.{◌≡◌, ℕ, List, [], ◌∷◌, ◌++◌, map, refl, sym, ap, subst, ◌∙◌, arith}
+use Rattle.std.proofs.lemmas.List.{map-append, append_assoc, append-nil}
+use Rattle.lattice.specs.declared.Point.{Point}
+use Rattle.lattice.specs.Ranges.{IsVectorWithin, normal_limit}
+use Rattle.lattice.specs.Vectors.{origin, moved, cross}
+use Rattle.cyclic_list.specs.Items.{count, IsApart}
+use Rattle.cyclic_list.proofs.Lists.{count-append}
+use Rattle.cyclic_list.proofs.Maps.{IsApart-map, from_map}
+use Rattle.boundary_model.specs.HalfEdge.{mate}
+use Rattle.boundary_model.specs.Model.{Model}
+use Rattle.boundary_model.specs.Sound.{Sound, HasHalf}
+use Rattle.boundary_model.proofs.Halves.{mate-mate}
+use Rattle.euler_laws.proofs.shared.Fans.{half_mate}
+use Rattle.shapes.specs.Faces.{start, finish}
+use Rattle.solid_measure.specs.Measure.{area, area_limit}
+use Rattle.solid_measure.proofs.Areas.{area_push, area_limited}
+use Rattle.solid_walks.proofs.FaceLoops.{AreHalves}
+use Rattle.split_sections.specs.section_cycles.Halves.{AreThere}
+
+-- of all halves these are left, and the sum is now that over the mates of the others
+pub record Summed (M : Model) (all left : List ℕ) (now : Point) : Type 0 where
+  pub done : List ℕ
+  pub parts : all ≡ done ++ left
+  pub summed : now ≡ area M (map mate done)
+
+pub none_summed : (M : Model) (all : List ℕ) → Summed M all all origin
+none_summed M all = record { done = []; parts = refl; summed = refl }
+
+pub more_summed : (M : Model) (all left : List ℕ) (now : Point) → Summed M all left now → (b : ℕ) (rest : List ℕ) (next : Point) → left ≡ b ∷ rest → next ≡ moved now (cross (start M (mate b)) (finish M (mate b))) → Summed M all rest next
+more_summed M all left now s b rest next e adds = record {
+  done = s.done ++ b ∷ [];
+  parts = s.parts ∙ ap (λ ks. s.done ++ ks) e ∙ sym (append_assoc s.done (b ∷ []) rest);
+  summed = adds ∙ ap (λ p. moved p (cross (start M (mate b)) (finish M (mate b)))) s.summed ∙ sym (area_push M (map mate s.done) (mate b)) ∙ ap (area M) (sym (map-append mate s.done (b ∷ [])));
+}
+
+pub all_summed : (M : Model) (all left : List ℕ) (now : Point) → Summed M all left now → left ≡ [] → now ≡ area M (map mate all)
+all_summed M all left now s e = s.summed ∙ ap (λ ks. area M (map mate ks)) (sym (append-nil s.done) ∙ ap (λ ks. s.done ++ ks) (sym e) ∙ sym s.parts)
+
+module _ (M : Model) (sound : Sound M) (all : List ℕ) (there : AreThere M all) (apart : IsApart all) (left : List ℕ) (now : Point) (s : Summed M all left now) where
+  mates : AreHalves M (map mate s.done)
+  mates = record {
+    apart = IsApart-map mate s.done (λ x i y j e. sym (mate-mate x) ∙ ap mate e ∙ mate-mate y) (λ x. omega (arith, apart x, ap (count x) s.parts, count-append x s.done left));
+    there = λ x i. let r = from_map mate x s.done i in subst (HasHalf M) (sym r.2) (half_mate M sound r.0 (there r.0 (omega (arith, r.1, ap (count r.0) s.parts, count-append r.0 s.done left))));
+  }
+
+  pub sum_limited : IsVectorWithin area_limit now
+  sum_limited = subst (IsVectorWithin area_limit) (sym s.summed) (area_limited M sound (map mate s.done) mates)
+
+  pub sum_room : IsVectorWithin normal_limit now
+  sum_room = let w = sum_limited in (omega (arith, w.0), omega (arith, w.1), omega (arith, w.2))

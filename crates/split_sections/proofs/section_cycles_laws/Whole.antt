@@ -1,0 +1,35 @@
+-- The cycles of the below halves, all found.
+use Rattle.std.proofs.Common.{◌≡◌, ℕ, ◌≤◌, ◌<◌, Bool, List, [], ◌∷◌, ◌++◌, map, length, Vec, refl, ap, ◌∙◌, arith}
+use Rattle.std.specs.declared.alloc.Global.{Global}
+use Rattle.std.proofs.lemmas.List.{map-append}
+use Rattle.cyclic_list.specs.Items.{count, IsIn}
+use Rattle.boundary_model.specs.declared.HalfEdge.{HalfEdge}
+use Rattle.boundary_model.specs.HalfEdge.{code}
+use Rattle.boundary_model.specs.Model.{Model}
+use Rattle.boundary_model.specs.Sound.{Sound, HasHalf}
+use Rattle.euler_conditions.proofs.Parallel.{steps_are}
+use Rattle.solid_walks.proofs.Rounds.{edge_number, half_below}
+use Rattle.shapes.specs.split.Section.{next_below, cycle_from, section_cycles}
+use Rattle.split_opening_laws.specs.cycles.Permuting.{Permutes}
+use Rattle.split_opening_laws.proofs.cycles.Orbits.{around_within}
+use Rattle.split_sections.specs.section_cycles.Halves.{AreThere, codes}
+use Rattle.split_sections.proofs.section_cycles_laws.Found.{Finding, all_found}
+
+pub number_fits : (M : Model) → Sound M → (h : HalfEdge) → HasHalf M (code h) → h.edge ≤ 1000000
+number_fits M sound h t = edge_number M sound h t
+
+pub cycle_low : (M : Model) → Sound M → (bs : List ℕ) → AreThere M bs → Permutes (next_below M bs) bs → (first : ℕ) → IsIn first bs → (cycle : List ℕ) → cycle ≡ cycle_from M bs first → (b : ℕ) → IsIn b cycle → b ≤ 2000001
+cycle_low M sound bs there w first i cycle is b j =
+    let k : IsIn b (cycle_from M bs first) = omega (arith, ap (count b) is, j) in
+    omega (arith, steps_are, half_below M sound b (there b (around_within (next_below M bs) bs w first i b k)))
+
+pub no_more : (hs : List HalfEdge) → length hs < 1 → map code hs ≡ []
+no_more [] l = refl
+no_more (h ∷ hs) l = absurd (omega (arith, l))
+
+pub codes_pushed : (old : List (Vec HalfEdge Global)) (cycle : Vec HalfEdge Global) (new : List (Vec HalfEdge Global)) → new ≡ old ++ cycle ∷ [] → map codes new ≡ map codes old ++ codes cycle ∷ []
+codes_pushed old cycle new e = ap (λ (cs : List (Vec HalfEdge Global)). map codes cs) e ∙ map-append codes old (cycle ∷ [])
+
+pub listed_cycles : (M : Model) (bs left : List ℕ) (found : List (List ℕ)) (met : ℕ → Bool) → Finding (next_below M bs) bs left found met → left ≡ [] → found ≡ section_cycles M bs
+unfolding section_cycles
+listed_cycles M bs left found met f e = all_found (next_below M bs) bs left found met f e

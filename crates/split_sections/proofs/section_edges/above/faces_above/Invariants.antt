@@ -1,0 +1,12 @@
+use Rattle.std.proofs.Common.{◌≡◌, ◌++◌, length}
+use Rattle.std.specs.Prelude.{filter}
+use Rattle.boundary_model.specs.Model.{faces_of}
+use Rattle.solid_walks.proofs.face_walks_laws.Rising.{above}
+use Rattle.shapes.specs.split.Sides.{face_is_above, faces_above}
+use Rattle.split_sections.proofs.section_edges.above.faces_above.Given as goal
+
+abbrev pub invariant-faces : goal.invariant-faces
+invariant-faces l = l.faces.items ++ filter (face_is_above l.arena.model l.plane) (above l.last (faces_of l.arena.model l.s)) ≡ faces_above l.arena.model l.plane l.s
+
+abbrev pub decreases-faces : goal.decreases-faces
+decreases-faces l = length (above l.last (faces_of l.arena.model l.s))

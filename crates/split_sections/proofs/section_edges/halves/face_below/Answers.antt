@@ -1,0 +1,10 @@
+use Rattle.std.proofs.Common.{◌∙◌, ap, sym, subst, map}
+use Rattle.boundary_model.specs.HalfEdge.{code}
+use Rattle.split_checks.specs.cut_places.Walks.{AreThere}
+use Rattle.split_checks.proofs.cut_places_laws.Walks.{boundary_there}
+use Rattle.split_sections.proofs.section_edges.halves.face_below.Goals as goal
+
+pub below_in-requires-clause-there : goal.below_in-requires-clause-there
+below_in-requires-clause-there c =
+    let M = c.args.arena.now.model in
+    subst (AreThere M) (sym (ap (map code) c.as_slice.ensures.value ∙ c.in_ok-items.ensures)) (boundary_there M c.requires.ready.sound c.args.f)

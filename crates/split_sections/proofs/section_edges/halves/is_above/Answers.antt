@@ -1,0 +1,13 @@
+use Rattle.std.proofs.Common.{◌∙◌, ap}
+use Rattle.boundary_model.specs.HalfEdge.{code}
+use Rattle.boundary_model.specs.Table.{has}
+use Rattle.boundary_model.specs.Model.{face_of}
+use Rattle.euler_operators.specs.Conditions.{lists}
+use Rattle.euler_conditions.proofs.Known.{loop_there}
+use Rattle.split_sections.proofs.section_edges.halves.is_above.Goals as goal
+
+pub face_of-requires : goal.face_of-requires
+face_of-requires c = let M = c.args.arena.now.model in ap (has M.loops) c.loop_of.ensures ∙ loop_there M c.requires.ready.sound (code c.args.h) c.requires.there
+
+pub returns : goal.returns
+returns c = let M = c.args.arena.now.model in c.is_listed.ensures ∙ ap (lists c.args.above.now) (c.face_of.ensures ∙ ap (face_of M) c.loop_of.ensures)

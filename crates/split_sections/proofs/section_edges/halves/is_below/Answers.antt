@@ -1,0 +1,8 @@
+use Rattle.std.proofs.Common.{ap, ◌∙◌}
+use Rattle.boundary_model.specs.HalfEdge.{code}
+use Rattle.boundary_model.specs.Model.{has_half}
+use Rattle.solid_walks.proofs.face_walks_laws.HalfCodes.{mate_there}
+use Rattle.split_sections.proofs.section_edges.halves.is_below.Goals as goal
+
+pub is_above-requires-then-not-is_above-clause-there : goal.is_above-requires-then-not-is_above-clause-there
+is_above-requires-then-not-is_above-clause-there c = let M = c.args.arena.now.model in ap (has_half M) c.mate.ensures ∙ mate_there M (code c.args.h) c.requires.there

@@ -1,0 +1,72 @@
+-- The halves in faces below that a walk over the faces of a solid meets are the below halves of its section.
+use Rattle.std.specs.Prelude.{filter}
+use Rattle.std.proofs.Common.{◌≡◌, ℕ, Bool, true, false, not, ◌&&◌, List, [], ◌∷◌, ◌++◌, refl, sym, ap, subst, ◌∙◌, arith, inl, inr}
+use Rattle.std.proofs.lemmas.Bool.{and_parts}
+use Rattle.std.proofs.lemmas.Bool.Decides.{eqb_tells}
+use Rattle.std.proofs.lemmas.List.Elements.{filter-append}
+use Rattle.cyclic_list.specs.Items.{count, IsIn, IsApart}
+use Rattle.cyclic_list.proofs.Lists.{count-append, tick_other}
+use Rattle.boundary_model.specs.HalfEdge.{mate}
+use Rattle.boundary_model.specs.Model.{Model, items_of, content, loop_of, faces_of}
+use Rattle.boundary_model.specs.Sound.{Sound}
+use Rattle.boundary_model.proofs.Models.{cycle_there}
+use Rattle.euler_operators.specs.Conditions.{face_at, lists}
+use Rattle.euler_conditions.proofs.Known.{loop_there}
+use Rattle.shapes.specs.Faces.{items_in, loops_of, boundary}
+use Rattle.solid_walks.specs.Walks.{loops_in}
+use Rattle.solid_walks.proofs.FaceLoops.{different_items, items_counted, items_there, items_joined}
+use Rattle.solid_walks.proofs.SolidFaces.{solid_loops, all_loops_apart, loop_in_solid, solid_has_loop}
+use Rattle.split_checks.proofs.cut_places_laws.Lists.{of_picked, in_picked, picked_apart}
+use Rattle.split_opening_laws.specs.cycles.SectionCycles.{IsBelowHalf}
+use Rattle.split_sections.specs.section_edges.BelowHalves.{is_below, below_met}
+
+-- an item of a loop stands among the items of some loops with it
+item_of : (M : Model) (ls : List ℕ) (l x : ℕ) → IsIn l ls → IsIn x (items_of (content M l)) → IsIn x (items_in M ls)
+item_of M [] l x i j = absurd (omega arith)
+item_of M (k ∷ ls) l x i j = elim (eqb_tells l k) [
+  | inl e ↦ omega (arith, count-append x (items_of (content M k)) (items_in M ls), j, ap (λ m. count x (items_of (content M m))) e.1)
+  | inr n ↦ omega (arith, count-append x (items_of (content M k)) (items_in M ls), item_of M ls l x (omega (arith, i, tick_other l k n.1)) j)
+]
+
+is_false : (b : Bool) → not b ≡ true → b ≡ false
+is_false true e = sym e
+is_false false e = refl
+
+module _ (M : Model) (sound : Sound M) (above : List ℕ) (s : ℕ) where
+  abbrev halves : List ℕ
+  halves = items_in M (solid_loops M sound s)
+
+  abbrev test : ℕ → Bool
+  test h = is_below M above h
+
+  abbrev met : List ℕ
+  met = below_met M above (faces_of M s)
+
+  met_in_faces : (fs : List ℕ) → below_met M above fs ≡ filter test (items_in M (loops_in M fs))
+  unfolding boundary
+  met_in_faces [] = refl
+  met_in_faces (f ∷ fs) =
+      let xs = items_in M (loops_of M f) in let ys = items_in M (loops_in M fs) in
+      ap (λ (hs : List ℕ). filter test xs ++ hs) (met_in_faces fs) ∙ sym (filter-append test xs ys) ∙ ap (filter test) (sym (items_joined M (loops_of M f) (loops_in M fs)))
+
+  met_is : met ≡ filter test halves
+  met_is = met_in_faces (faces_of M s)
+
+  pub met_apart : IsApart met
+  met_apart = subst IsApart (sym met_is) (picked_apart test halves (different_items M sound (solid_loops M sound s) (all_loops_apart M sound s)).apart)
+
+  pub met_below : (h : ℕ) → IsIn h met → IsBelowHalf M above s h
+  met_below h i =
+      let o = of_picked test h halves (subst (IsIn h) met_is i) in
+      let b = and_parts (not (lists above (face_at M h))) (lists above (face_at M (mate h))) o.1 in
+      record {
+        there = items_there M sound (solid_loops M sound s) h o.0;
+        of_solid = (loop_in_solid M sound s (loop_of M h) (omega (arith, o.0, items_counted M sound (solid_loops M sound s) h))).1;
+        below = is_false (lists above (face_at M h)) b.0;
+        mate_above = b.1;
+      }
+
+  pub below_is_met : (h : ℕ) → IsBelowHalf M above s h → IsIn h met
+  below_is_met h w =
+      let i = item_of M (solid_loops M sound s) (loop_of M h) h (solid_has_loop M sound s (loop_of M h) (loop_there M sound h w.there) w.of_solid) (cycle_there M sound h w.there) in
+      subst (IsIn h) (sym met_is) (in_picked test h halves i (ap (λ b. not b && lists above (face_at M (mate h))) w.below ∙ w.mate_above))

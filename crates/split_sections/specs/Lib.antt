@@ -1,0 +1,3 @@
+pub mod section_checks
+pub mod section_cycles
+pub mod section_edges

@@ -1,0 +1,23 @@
+-- The cycles of a section as they are found, and which of them are holes.
+use Rattle.std.specs.Prelude.{◌≡◌, ℕ, ◌+◌, Bool, not, ◌&&◌, nat_eq, nat_lt, List, [], ◌∷◌, map, filter, length}
+use Rattle.lattice.specs.declared.Plane.{Plane}
+use Rattle.cyclic_list.specs.Items.{IsApart}
+use Rattle.boundary_model.specs.Model.{Model}
+use Rattle.shapes.specs.split.Section.{section_cycles, is_hole}
+use Rattle.split_sections.specs.section_cycles.Halves.{AreThere}
+use Rattle.split_sections.specs.section_checks.Sections.{halves_of}
+use Rattle.split_sections.specs.declared.section_checks.section.Cycle.{Cycle}
+
+-- the half-edges of each of some cycles are there, and all different
+abbrev pub AreCycles : Model → List (List ℕ) → Type 0
+AreCycles M [] = Unit {0}
+AreCycles M (c ∷ cs) = (AreThere M c × IsApart c) × AreCycles M cs
+
+-- a cycle is a hole, and not exactly one is outer
+abbrev pub has_stray : List Cycle → Bool
+has_stray cs = nat_lt 0 (length (filter (λ c. c.hole) cs)) && not (nat_eq (length cs) (length (filter (λ c. c.hole) cs) + 1))
+
+-- cs are the cycles of these below halves, with word on which are holes
+pub record AreCyclesOf (M : Model) (p : Plane) (bs : List ℕ) (cs : List Cycle) : Type 0 where
+  pub cycles : map halves_of cs ≡ section_cycles M bs
+  pub holes : map (λ c. c.hole) cs ≡ map (is_hole M p) (map halves_of cs)

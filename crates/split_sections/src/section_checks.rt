@@ -1,0 +1,9 @@
+//! The section of a solid by a plane once its faces are drawn, and the conditions that are tested then.
+
+mod checks;
+mod holes;
+mod numbers;
+mod section;
+
+pub use checks::check_later;
+pub use section::{Cycle, Section};

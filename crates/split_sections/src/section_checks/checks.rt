@@ -1,0 +1,97 @@
+//! The conditions of a split that are tested once the faces are drawn, in their order.
+ghost use Rattle.std.specs.Prelude.{◌≡◌, true, [], None, Some, Ok, Err, Vec};
+ghost use Rattle.std.specs.declared.alloc.Global.{Global};
+ghost use Rattle.euler_conditions.specs.Ready.{IsReady};
+ghost use Rattle.euler_operators.specs.Conditions.{first_refusal, strictly_rises};
+ghost use Rattle.euler_operators.specs.declared.Refusal.{Refusal};
+ghost use Rattle.euler_conditions.specs.Store.{has_number};
+ghost use Rattle.lattice.specs.Ranges.{IsCutPlane};
+ghost use Rattle.split_opening_laws.specs.cycles.SectionCycles.{AreOf};
+ghost use Rattle.shapes.specs.split.Section.{below_halves};
+ghost use Rattle.shapes.specs.split.Split.{later_conditions, section_conditions};
+ghost use Rattle.split_drawing.specs.face_drawing.Codes.{drawing_of, taken_of};
+ghost use Rattle.split_sections.specs.section_checks.Cycles.{AreCyclesOf};
+ghost use Rattle.split_sections.specs.section_checks.Sections.{IsSection};
+ghost use Rattle.split_sections.specs.declared.section_checks.section.Cycle.{Cycle};
+ghost use Rattle.split_sections.specs.declared.section_checks.section.Section.{Section};
+
+use crate::section_checks::holes::{has_stray_hole, with_holes};
+use crate::section_checks::numbers::check_left;
+use crate::section_checks::section::{Cycle, Section};
+use crate::section_cycles::{cycles, least_branched};
+use crate::section_edges::{below_halves, faces_above};
+use euler_conditions::{Arena, Kind, Refusal, Why};
+use lattice::Plane;
+use split_drawing::Progress;
+use std::alloc::{AllocError, Global};
+
+/// The cycles of the section of solid s between these faces above, which rise, and its other faces, where the solid can be opened
+/// along them.
+fn check_cycles(
+    alloc: Global,
+    arena: &Arena,
+    s: u32,
+    plane: Plane,
+    drawn: &Progress,
+    above: &[u32],
+) -> Result<Result<Vec<Cycle>, Refusal>, AllocError>
+    requires ready { IsReady arena.now }
+    requires plane { IsCutPlane plane }
+    requires there { has_number arena.now Kind.Solid s ≡ true }
+    requires rising { strictly_rises above.now ≡ true }
+    requires of_solid { AreOf arena.now.model above.now s }
+    ensures refused { (refusal : Refusal) → (result ≡ Ok (Err refusal)) → (first_refusal (section_conditions arena.now.model s plane (taken_of drawn.now) (below_halves arena.now.model above.now s)) ≡ Some refusal) }
+    ensures open { (found : Vec Cycle Global) → (result ≡ Ok (Ok found)) → ((first_refusal (section_conditions arena.now.model s plane (taken_of drawn.now) (below_halves arena.now.model above.now s)) ≡ None) × AreCyclesOf arena.now.model plane (below_halves arena.now.model above.now s) found.items) }
+{
+    let halves = below_halves(alloc, arena, above, s)?;
+    let branched = least_branched(alloc, arena, halves.as_slice())?;
+    if let Some(v) = branched {
+        return Ok(Err(Refusal {
+            why: Why::BranchedVertex,
+            number: v,
+        }));
+    }
+    let found = cycles(alloc, arena, halves.as_slice())?;
+    let cycles = with_holes(alloc, arena, plane, found)?;
+    if has_stray_hole(cycles.as_slice()) {
+        return Ok(Err(Refusal {
+            why: Why::SectionHoles,
+            number: s,
+        }));
+    }
+    match check_left(drawn, halves.len(), cycles.len()) {
+        Ok(()) => Ok(Ok(cycles)),
+        Err(refusal) => Ok(Err(refusal)),
+    }
+}
+
+/// The section of solid s by the plane once its faces are drawn, where the solid can be opened along it.
+///
+/// Refused, in this order: CutCrossed with the first face that could not be drawn; BranchedVertex with the least vertex at which more
+/// than two section edges meet; SectionHoles with s where a cycle is a hole and not exactly one is outer; NumbersSpent with 2, 3, 4 or
+/// 5 where no numbers are left for the faces, loops, edges or vertices that the opening takes. `AllocError` where memory is refused.
+pub fn check_later(
+    alloc: Global,
+    arena: &Arena,
+    s: u32,
+    plane: &Plane,
+    drawn: &Progress,
+) -> Result<Result<Section, Refusal>, AllocError>
+    requires ready { IsReady arena.now }
+    requires plane { IsCutPlane plane.now }
+    requires there { has_number arena.now Kind.Solid s ≡ true }
+    ensures refused { (refusal : Refusal) → (result ≡ Ok (Err refusal)) → (first_refusal (later_conditions s plane.now (drawing_of drawn.now arena.now.model [])) ≡ Some refusal) }
+    ensures open { (section : Section) → (result ≡ Ok (Ok section)) → ((first_refusal (later_conditions s plane.now (drawing_of drawn.now arena.now.model [])) ≡ None) × IsSection arena.now.model s plane.now section) }
+{
+    if drawn.stuck != 0 {
+        return Ok(Err(Refusal {
+            why: Why::CutCrossed,
+            number: drawn.stuck,
+        }));
+    }
+    let above = faces_above(alloc, arena, *plane, s)?;
+    match check_cycles(alloc, arena, s, *plane, drawn, above.as_slice())? {
+        Ok(cycles) => Ok(Ok(Section { above, cycles })),
+        Err(refusal) => Ok(Err(refusal)),
+    }
+}

@@ -1,0 +1,10 @@
+//! The cycles of a section: the vertices at which section edges meet, the cycles of below halves, and whether a cycle is a hole.
+
+mod branched;
+mod finding;
+mod holes;
+mod starts;
+
+pub(crate) use branched::least_branched;
+pub(crate) use finding::cycles;
+pub(crate) use holes::is_hole;

@@ -1,0 +1,86 @@
+//! The cycles of below halves.
+ghost use Rattle.std.specs.Prelude.{◌≡◌, ◌≤◌, ◌||◌, ℕ, true, IfOk, OnOk, map};
+ghost use Rattle.std.specs.BTreeSet.{contains};
+ghost use Rattle.std.specs.Ordering.{nat_cmp};
+ghost use Rattle.cyclic_list.specs.Items.{IsIn};
+ghost use Rattle.boundary_model.specs.HalfEdge.{code};
+ghost use Rattle.euler_conditions.specs.Ready.{IsReady};
+ghost use Rattle.euler_operators.specs.Conditions.{lists, strictly_rises};
+ghost use Rattle.split_opening_laws.specs.cycles.Permuting.{Permutes};
+ghost use Rattle.shapes.specs.split.Section.{cycle_from, next_below, section_cycles};
+ghost use Rattle.split_sections.specs.section_cycles.Halves.{AreThere, codes};
+ghost use Rattle.split_sections.specs.section_cycles.Starts.{AreStarts};
+
+use crate::section_cycles::starts::{next_half, starts_of};
+use euler_conditions::{Arena, HalfEdge};
+use solid_walks::same;
+use std::alloc::{AllocError, Global};
+use std::collections::{BTreeMap, BTreeSet};
+
+/// The cycle of the halves from one of them on, each of which leads to one of them.
+fn cycle_from(
+    alloc: Global,
+    arena: &Arena,
+    halves: &[HalfEdge],
+    starts: &BTreeMap<u32, HalfEdge>,
+    first: HalfEdge,
+) -> Result<Vec<HalfEdge>, AllocError>
+    requires ready { IsReady arena.now }
+    requires there { AreThere arena.now.model (map code halves.now) }
+    requires starts { AreStarts arena.now.model (map code halves.now) starts.now }
+    requires stays { (b : ℕ) → IsIn b (map code halves.now) → IsIn (next_below arena.now.model (map code halves.now) b) (map code halves.now) }
+    requires first { IsIn (code first) (map code halves.now) }
+    ensures { IfOk result (λ cycle. map code cycle.items ≡ cycle_from arena.now.model (map code halves.now) (code first)) }
+{
+    let mut cycle = Vec::new(alloc);
+    let mut half = first;
+    'round: for _ in 0..halves.len() {
+        cycle.push(half)?;
+        half = next_half(arena, starts, half);
+        if same(half, first) {
+            return Ok(cycle);
+        }
+    }
+    Ok(cycle)
+}
+
+/// Adds half-edges to those met.
+fn meet(met: &mut BTreeSet<u32>, halves: &[HalfEdge]) -> Result<(), AllocError>
+    requires { (b : ℕ) → IsIn b (map code halves.now) → b ≤ 2000001 }
+    ensures { OnOk result ((b : ℕ) → contains nat_cmp met.new b ≡ lists (map code halves.now) b || contains nat_cmp met.old b) }
+{
+    let mut rest = halves;
+    'halves: while let [first, others @ ..] = rest {
+        met.insert(first.code())?;
+        rest = others;
+    }
+    Ok(())
+}
+
+/// The cycles of these below halves, each from its least half on, by their least halves. Each leads to the one that starts where it
+/// ends, and no two to the same. It takes n log n steps for n halves. `AllocError` where memory is refused.
+pub(crate) fn cycles(
+    alloc: Global,
+    arena: &Arena,
+    halves: &[HalfEdge],
+) -> Result<Vec<Vec<HalfEdge>>, AllocError>
+    requires ready { IsReady arena.now }
+    requires there { AreThere arena.now.model (map code halves.now) }
+    requires rising { strictly_rises (map code halves.now) ≡ true }
+    requires next { Permutes (next_below arena.now.model (map code halves.now)) (map code halves.now) }
+    ensures { IfOk result (λ found. map codes found.items ≡ section_cycles arena.now.model (map code halves.now)) }
+{
+    let starts = starts_of(alloc, arena, halves)?;
+    let mut met = BTreeSet::new(alloc);
+    let mut cycles = Vec::new(alloc);
+    let mut rest = halves;
+    'halves: while let [half, others @ ..] = rest {
+        if !met.contains(&half.code()) {
+            let cycle = cycle_from(alloc, arena, halves, &starts, *half)?;
+            meet(&mut met, cycle.as_slice())?;
+            cycles.push(cycle)?;
+        }
+        rest = others;
+    }
+    Ok(cycles)
+}

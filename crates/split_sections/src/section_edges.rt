@@ -1,0 +1,7 @@
+//! The faces above a plane, and the edges of the section between them and the faces below.
+
+mod above;
+mod halves;
+
+pub(crate) use above::faces_above;
+pub(crate) use halves::below_halves;

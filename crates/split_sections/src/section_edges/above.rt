@@ -1,0 +1,83 @@
+//! The faces above a plane.
+ghost use Rattle.std.specs.Prelude.{◌≡◌, pos, int_lt, true, IfOk};
+ghost use Rattle.euler_conditions.specs.Ready.{IsReady};
+ghost use Rattle.euler_conditions.specs.Store.{has_number};
+ghost use Rattle.lattice.specs.Point.{IsInRange};
+ghost use Rattle.lattice.specs.Ranges.{IsCutPlane};
+ghost use Rattle.lattice.specs.Vectors.{direction, dot};
+ghost use Rattle.solid_measure.specs.Measure.{normal};
+ghost use Rattle.shapes.specs.split.Sides.{face_is_above, faces_above};
+
+use euler_conditions::{Arena, Kind};
+use lattice::{Plane, Point, Sign, dot};
+use solid_measure::normal;
+use split_checks::reaches;
+use std::alloc::{AllocError, Global};
+
+/// The direction in which the plane has its above side, as a point in range.
+fn direction(plane: Plane) -> Point
+    requires { IsCutPlane plane }
+    ensures is { result ≡ direction plane }
+    ensures range { IsInRange result }
+{
+    Point {
+        x: plane.a as i64,
+        y: plane.b as i64,
+        z: plane.c as i64,
+    }
+}
+
+/// Whether the normal of face f points along the plane's direction.
+fn points_along(arena: &Arena, plane: Plane, f: u32) -> bool
+    requires ready { IsReady arena.now }
+    requires there { has_number arena.now Kind.Face f ≡ true }
+    requires plane { IsCutPlane plane }
+    ensures { result ≡ int_lt (pos 0) (dot (normal arena.now.model f) (direction plane)) }
+{
+    match normal(arena, f) {
+        Ok(across) => dot(across, direction(plane)) > 0,
+        Err(_) => unreachable!(),
+    }
+}
+
+/// Whether face f is above the plane: it has a corner above, or lies wholly on it with a normal that doesn't point along the plane's
+/// direction.
+#[tactic(auto, unfolding(shapes::specs::split::Sides::face_is_above))]
+fn is_above(alloc: Global, arena: &Arena, plane: Plane, f: u32) -> Result<bool, AllocError>
+    requires ready { IsReady arena.now }
+    requires there { has_number arena.now Kind.Face f ≡ true }
+    requires plane { IsCutPlane plane }
+    ensures { IfOk result (λ found. found ≡ face_is_above arena.now.model plane f) }
+{
+    if reaches(alloc, arena, plane, Sign::Above, f)? {
+        return Ok(true);
+    }
+    if reaches(alloc, arena, plane, Sign::Below, f)? {
+        return Ok(false);
+    }
+    Ok(!points_along(arena, plane, f))
+}
+
+/// The faces of solid s that are above the plane, rising: those with a corner above it, and those wholly on it whose normal doesn't
+/// point along the plane's direction. It walks at most three times over the corners of each face.
+pub(crate) fn faces_above(
+    alloc: Global,
+    arena: &Arena,
+    plane: Plane,
+    s: u32,
+) -> Result<Vec<u32>, AllocError>
+    requires ready { IsReady arena.now }
+    requires plane { IsCutPlane plane }
+    requires there { has_number arena.now Kind.Solid s ≡ true }
+    ensures { IfOk result (λ found. found.items ≡ faces_above arena.now.model plane s) }
+{
+    let mut faces = Vec::new(alloc);
+    let mut last = 0;
+    'faces: while let Some(f) = arena.face_after(s, last) {
+        if is_above(alloc, arena, plane, f)? {
+            faces.push(f)?;
+        }
+        last = f;
+    }
+    Ok(faces)
+}
