@@ -5,7 +5,10 @@
 ghost use Rattle.std.specs.Prelude.{◌≡◌, ◌≤◌};
 ghost use Rattle.boundary_model.specs.HalfEdge.{code, half, mate};
 
-pub use lattice::{Plane, Point};
+pub use lattice::{
+    COORDINATE_LIMIT, Plane, Point, Sign, cross_add, cut_point, dot, lex_cmp, point_in_range, side,
+    sum, sum_in_range,
+};
 
 /// One of the two directions of an edge; `first` is the one that a script writes with a plus.
 #[derive(Clone, Copy, Debug, PartialEq, Eq)]

@@ -1,16 +1,16 @@
 -- The walk round a loop meets each of its half-edges.
 use Rattle.std.proofs.Common.{◌≡◌, ◌≢◌, ℕ, ◌+◌, ◌≤◌, ◌<◌, true, List, [], ◌∷◌, ◌++◌, refl, sym, ap, subst, ◌∙◌, arith, inl, inr}
 use Rattle.std.proofs.lemmas.Bool.Decides.{nat_tests, eqb_tells}
-use Rattle.cyclic_list.specs.Items.{count, IsIn, IsApart}
-use Rattle.cyclic_list.specs.Rings.{rotate_to, walk_to, orbit, successor, IsRing}
-use Rattle.cyclic_list.proofs.Lists.{count-append, tick_other}
-use Rattle.cyclic_list.proofs.Rings.{orbit_from, IsRing-from_successor, IsIn_successor}
-use Rattle.cyclic_list.proofs.Rotations.{count-rotate_to}
-use Rattle.cyclic_list.proofs.Places.{walk_done, walk_on, walk_over}
-use Rattle.boundary_model.specs.HalfEdge.{mate, edge_of}
-use Rattle.boundary_model.specs.Model.{Model, items_of, content, loop_of, after, is_number}
-use Rattle.boundary_model.specs.Sound.{Sound, HasHalf, StandsIn}
-use Rattle.boundary_model.proofs.Models.{in-holds, cycle_sound}
+use Rattle.euler_operators.specs.Items.{count, IsIn, IsApart}
+use Rattle.euler_operators.specs.Rings.{rotate_to, walk_to, orbit, successor, IsRing}
+use Rattle.euler_operators.proofs.Lists.{count-append, tick_other}
+use Rattle.euler_operators.proofs.Rings.{orbit_from, IsRing-from_successor, IsIn_successor}
+use Rattle.euler_operators.proofs.Rotations.{count-rotate_to}
+use Rattle.euler_operators.proofs.Places.{walk_done, walk_on, walk_over}
+use Rattle.euler_operators.specs.HalfEdge.{mate, edge_of}
+use Rattle.euler_operators.specs.Model.{Model, items_of, content, loop_of, after, is_number}
+use Rattle.euler_operators.specs.Sound.{Sound, HasHalf, StandsIn}
+use Rattle.euler_operators.proofs.Models.{in-holds, cycle_sound}
 use Rattle.euler_operators.specs.Conditions.{lists, face_at}
 use Rattle.euler_conditions.specs.Parts.{StaysIn}
 use Rattle.euler_conditions.proofs.Parallel.{steps, steps_are, length_below}

@@ -1,17 +1,17 @@
 -- Edges between listed faces and others.
 use Rattle.std.proofs.Common.{◌≡◌, ◌≢◌, ℕ, ◌≤◌, ◌<◌, Bool, true, false, cond, not, nat_eq, ◌&&◌, ◌||◌, List, [], ◌∷◌, ◌++◌, length, append_assoc, Option, Some, None, Ok, Err, is_some, refl, sym, ap, subst, ◌∙◌, arith, true≢false, ◌⊎◌, inl, inr}
 use Rattle.std.proofs.lemmas.Bool.Decides.{nat_tests, eqb_tells}
-use Rattle.cyclic_list.specs.Items.{IsIn}
-use Rattle.boundary_model.specs.HalfEdge.{code, mate, edge_of, plus, minus}
-use Rattle.boundary_model.specs.declared.HalfEdge.{HalfEdge}
-use Rattle.boundary_model.specs.declared.Content.TheVariants as Content
-use Rattle.boundary_model.specs.Table as table
-use Rattle.boundary_model.specs.Table.{first_where}
-use Rattle.boundary_model.specs.Model.{Model, EdgeRow, LoopContent, lone, cycle, items_of, content, face_of, outer, loop_of, solid_of, faces_of, is_ring_of, is_number}
-use Rattle.boundary_model.specs.Sound.{Sound, Has, HasHalf}
-use Rattle.boundary_model.proofs.Halves.{plus_row, minus_row}
-use Rattle.boundary_model.proofs.Models.{in-holds, holds_in}
-use Rattle.boundary_model.proofs.Tables.{first_where_zero, zero_first_where}
+use Rattle.euler_operators.specs.Items.{IsIn}
+use Rattle.euler_operators.specs.HalfEdge.{code, mate, edge_of, plus, minus}
+use Rattle.euler_operators.specs.declared.HalfEdge.{HalfEdge}
+use Rattle.euler_operators.specs.declared.Content.TheVariants as Content
+use Rattle.euler_operators.specs.Table as table
+use Rattle.euler_operators.specs.Table.{first_where}
+use Rattle.euler_operators.specs.Model.{Model, EdgeRow, LoopContent, lone, cycle, items_of, content, face_of, outer, loop_of, solid_of, faces_of, is_ring_of, is_number}
+use Rattle.euler_operators.specs.Sound.{Sound, Has, HasHalf}
+use Rattle.euler_operators.proofs.Halves.{plus_row, minus_row}
+use Rattle.euler_operators.proofs.Models.{in-holds, holds_in}
+use Rattle.euler_operators.proofs.Tables.{first_where_zero, zero_first_where}
 use Rattle.halfedge_arena.specs.Store.{Tells, IsNextRing}
 use Rattle.euler_operators.specs.Conditions.{Condition, AllHold, conditions, first_false, need, never, first_refusal, verdict, numbers_in_range, faces_known, faces_in, lists, lists_all, strictly_rises, is_empty, is_bad_part, face_at, torn_edge, differ, has_rings}
 use Rattle.euler_operators.specs.declared.Refusal.{Refusal}

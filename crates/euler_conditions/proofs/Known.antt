@@ -2,16 +2,16 @@
 use Rattle.std.proofs.Common.{◌≡◌, ◌≢◌, ℕ, ◌+◌, ◌*◌, Bool, true, false, cond, not, nat_eq, ◌&&◌, [], is_some, refl, sym, ap, ◌∙◌, arith}
 use mathlib.Core.Bool.{beq}
 use Rattle.std.proofs.lemmas.Bool.Decides.{nat_tests}
-use Rattle.boundary_model.specs.declared.HalfEdge.{HalfEdge}
-use Rattle.boundary_model.specs.HalfEdge.{code, half, edge_of, mate}
-use Rattle.boundary_model.specs.Table as table
-use Rattle.boundary_model.specs.Model.{Model, cycle, content, loop_of, cycle_of, after, tail, is_number}
-use Rattle.boundary_model.specs.Sound.{Sound, Has, HasHalf}
+use Rattle.euler_operators.specs.declared.HalfEdge.{HalfEdge}
+use Rattle.euler_operators.specs.HalfEdge.{code, half, edge_of, mate}
+use Rattle.euler_operators.specs.Table as table
+use Rattle.euler_operators.specs.Model.{Model, cycle, content, loop_of, cycle_of, after, tail, is_number}
+use Rattle.euler_operators.specs.Sound.{Sound, Has, HasHalf}
 use Rattle.euler_conditions.specs.Ends.{leads_to, lesser}
-use Rattle.boundary_model.proofs.Halves.{edge_of-code, edge_of-mate, half-code}
-use Rattle.boundary_model.proofs.Models.{row_of, in-holds, cycle_there}
-use Rattle.cyclic_list.specs.Rings.{successor}
-use Rattle.cyclic_list.proofs.Rings.{IsIn_successor}
+use Rattle.euler_operators.proofs.Halves.{edge_of-code, edge_of-mate, half-code}
+use Rattle.euler_operators.proofs.Models.{row_of, in-holds, cycle_there}
+use Rattle.euler_operators.specs.Rings.{successor}
+use Rattle.euler_operators.proofs.Rings.{IsIn_successor}
 
 pub half_there : (M : Model) (h : HalfEdge) → table.has M.edges h.edge ≡ true → HasHalf M (code h)
 half_there M h t = ap (table.has M.edges) (edge_of-code h) ∙ t

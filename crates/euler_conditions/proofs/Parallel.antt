@@ -1,20 +1,20 @@
 -- The walk round one end of an edge meets every edge beside it.
 use Rattle.std.proofs.Common.{◌≡◌, ◌≢◌, ℕ, zero, suc, ◌+◌, ◌<◌, ◌≤◌, Bool, true, false, cond, not, nat_eq, nat_lt, ◌&&◌, ◌||◌, List, [], ◌∷◌, ◌++◌, length, Some, is_some, refl, sym, ap, subst, ◌∙◌, arith, true≢false, ◌⊎◌, inl, inr}
 use Rattle.std.proofs.lemmas.Bool.Decides.{nat_tests, eqb_tells}
-use Rattle.cyclic_list.specs.Items.{count, tick, IsIn, IsApart}
-use Rattle.cyclic_list.specs.Rings.{rotate_to, walk_to, orbit}
-use Rattle.cyclic_list.proofs.Lists.{count-append, tick_same, tick_other}
-use Rattle.cyclic_list.proofs.Rings.{orbit_from}
-use Rattle.cyclic_list.proofs.Rotations.{count-rotate_to}
-use Rattle.cyclic_list.proofs.Places.{walk_done, walk_on, walk_over}
-use Rattle.boundary_model.specs.HalfEdge.{mate, edge_of, plus, minus}
-use Rattle.boundary_model.specs.Table as table
-use Rattle.boundary_model.specs.Table.{Table, first_where, all_where, first_in, all_in}
-use Rattle.boundary_model.specs.Model.{Model, EdgeRow, tail, tail_in, after, round, is_number}
-use Rattle.boundary_model.specs.Sound.{Sound, HasHalf}
-use Rattle.boundary_model.proofs.Halves.{mate_cases, plus_row, minus_row}
-use Rattle.boundary_model.proofs.Models.{tail_row}
-use Rattle.boundary_model.proofs.Tables.{first_where_zero}
+use Rattle.euler_operators.specs.Items.{count, tick, IsIn, IsApart}
+use Rattle.euler_operators.specs.Rings.{rotate_to, walk_to, orbit}
+use Rattle.euler_operators.proofs.Lists.{count-append, tick_same, tick_other}
+use Rattle.euler_operators.proofs.Rings.{orbit_from}
+use Rattle.euler_operators.proofs.Rotations.{count-rotate_to}
+use Rattle.euler_operators.proofs.Places.{walk_done, walk_on, walk_over}
+use Rattle.euler_operators.specs.HalfEdge.{mate, edge_of, plus, minus}
+use Rattle.euler_operators.specs.Table as table
+use Rattle.euler_operators.specs.Table.{Table, first_where, all_where, first_in, all_in}
+use Rattle.euler_operators.specs.Model.{Model, EdgeRow, tail, tail_in, after, round, is_number}
+use Rattle.euler_operators.specs.Sound.{Sound, HasHalf}
+use Rattle.euler_operators.proofs.Halves.{mate_cases, plus_row, minus_row}
+use Rattle.euler_operators.proofs.Models.{tail_row}
+use Rattle.euler_operators.proofs.Tables.{first_where_zero}
 use Rattle.euler_operators.specs.Conditions.{lists, strictly_rises, parallel}
 use Rattle.euler_operators.specs.Effect.{head_or_zero}
 use Rattle.euler_laws.proofs.shared.Fans.{Fan, fan_of}

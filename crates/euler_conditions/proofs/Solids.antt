@@ -1,7 +1,7 @@
 -- The faces of a solid, as a list.
 use Rattle.std.proofs.Common.{◌≡◌, ℕ, false, nat_eq, List, [], ◌∷◌, Some, None, is_some, refl, ap, ◌∙◌}
-use Rattle.boundary_model.specs.Model.{Model, faces_of}
-use Rattle.boundary_model.specs.Sound.{Has}
+use Rattle.euler_operators.specs.Model.{Model, faces_of}
+use Rattle.euler_operators.specs.Sound.{Has}
 use Rattle.halfedge_arena.specs.Store.{only_item}
 use Rattle.euler_operators.specs.Conditions.{lists, bare_face}
 use Rattle.euler_laws.proofs.shared.Listed.{first_listed, listed_passes}

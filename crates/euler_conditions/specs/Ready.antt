@@ -1,9 +1,9 @@
 -- What the calls of operators ask of an arena, and what they make of it.
 use Rattle.std.specs.Prelude.{◌≡◌, ℕ, true, List, [], ◌∷◌, None}
-use Rattle.boundary_model.specs.declared.Kind.{Kind}
-use Rattle.boundary_model.specs.declared.Kind.TheVariants.{Solid, Face, Loop, Edge, Vertex}
-use Rattle.boundary_model.specs.Sound.{Sound}
-use Rattle.boundary_model.specs.Table as table
+use Rattle.euler_operators.specs.declared.Kind.{Kind}
+use Rattle.euler_operators.specs.declared.Kind.TheVariants.{Solid, Face, Loop, Edge, Vertex}
+use Rattle.euler_operators.specs.Sound.{Sound}
+use Rattle.euler_operators.specs.Table as table
 use Rattle.halfedge_arena.specs.Store.{Store, has_room}
 use Rattle.euler_operators.specs.Conditions.{first_false}
 use Rattle.euler_operators.specs.Effect.{effect}

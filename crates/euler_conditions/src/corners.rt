@@ -1,14 +1,14 @@
 //! What an arena says of a corner.
 ghost use Rattle.std.specs.Prelude.{◌≡◌, true, [], ◌∷◌};
-ghost use Rattle.boundary_model.specs.Model.{content};
+ghost use Rattle.euler_operators.specs.Model.{content};
 ghost use Rattle.halfedge_arena.specs.Store.{has_number};
 ghost use Rattle.euler_operators.specs.Conditions.{corner_number, corner_known, corner_lone, corner_tail, corner_loop, is_lone, lone_vertex, first_refusal, verdict};
 ghost use Rattle.euler_conditions.specs.Ready.{IsReady};
 
 use crate::halves;
 use crate::single::refused;
-use euler_operators::{Refusal, Why};
-use halfedge_arena::{Arena, Content, Corner, Kind};
+use euler_operators::{Content, Corner, Kind, Refusal, Why};
+use halfedge_arena::Arena;
 
 /// The number that a corner names.
 pub(crate) fn number(corner: Corner) -> u32

@@ -1,14 +1,15 @@
 //! What an arena says of the two ends of an edge.
 ghost use Rattle.std.specs.Prelude.{◌≡◌, true};
-ghost use Rattle.boundary_model.specs.HalfEdge.{code};
-ghost use Rattle.boundary_model.specs.Model.{round, tail};
+ghost use Rattle.euler_operators.specs.HalfEdge.{code};
+ghost use Rattle.euler_operators.specs.Model.{round, tail};
 ghost use Rattle.halfedge_arena.specs.Store.{has_number};
 ghost use Rattle.euler_operators.specs.Conditions.{kept_end_bare, parallel};
 ghost use Rattle.euler_conditions.specs.Ready.{IsReady};
 ghost use Rattle.euler_conditions.specs.Ends.{leads_to, lesser};
 
 use crate::halves;
-use halfedge_arena::{Arena, HalfEdge, Kind};
+use euler_operators::{HalfEdge, Kind};
+use halfedge_arena::Arena;
 
 /// More than the half-edges that an arena can have.
 const HALVES: u32 = 2_000_002;

@@ -1,11 +1,12 @@
 //! What an arena says of loops and faces that are there.
 ghost use Rattle.std.specs.Prelude.{◌≡◌, true};
-ghost use Rattle.boundary_model.specs.Model.{face_of, is_ring_of};
+ghost use Rattle.euler_operators.specs.Model.{face_of, is_ring_of};
 ghost use Rattle.halfedge_arena.specs.Store.{has_number};
 ghost use Rattle.euler_operators.specs.Conditions.{has_rings};
 ghost use Rattle.euler_conditions.specs.Ready.{IsReady};
 
-use halfedge_arena::{Arena, Kind};
+use euler_operators::Kind;
+use halfedge_arena::Arena;
 
 /// The face of the loop.
 pub(crate) fn face_of(arena: &Arena, l: u32) -> u32

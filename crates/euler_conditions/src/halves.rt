@@ -1,13 +1,14 @@
 //! What an arena says of a half-edge whose edge is there.
 ghost use Rattle.std.specs.Prelude.{◌≡◌, true, nat_eq};
-ghost use Rattle.boundary_model.specs.HalfEdge.{code, mate};
-ghost use Rattle.boundary_model.specs.Model.{after, tail, loop_of};
+ghost use Rattle.euler_operators.specs.HalfEdge.{code, mate};
+ghost use Rattle.euler_operators.specs.Model.{after, tail, loop_of};
 ghost use Rattle.halfedge_arena.specs.Store.{has_number};
 ghost use Rattle.euler_operators.specs.Conditions.{face_at};
 ghost use Rattle.euler_conditions.specs.Ready.{IsReady};
 
 use crate::faces;
-use halfedge_arena::{Arena, HalfEdge, Kind};
+use euler_operators::{HalfEdge, Kind};
+use halfedge_arena::Arena;
 
 /// Whether the two are the same half-edge.
 pub(crate) fn same(a: HalfEdge, b: HalfEdge) -> bool

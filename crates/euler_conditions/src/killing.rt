@@ -1,14 +1,14 @@
 //! The conditions of the operators that kill an edge or a face.
 ghost use Rattle.std.specs.Prelude.{◌≡◌, true};
 ghost use Rattle.euler_operators.specs.Conditions.{bare_face, first_false, verdict};
-ghost use Rattle.boundary_model.specs.Model.{faces_of};
+ghost use Rattle.euler_operators.specs.Model.{faces_of};
 ghost use Rattle.halfedge_arena.specs.Store.{has_number};
 ghost use Rattle.euler_conditions.specs.Ready.{IsReady};
 
 use crate::single::{in_range, refused};
 use crate::{Op, corners, ends, faces, halves};
-use euler_operators::{Refusal, Why};
-use halfedge_arena::{Arena, HalfEdge, Kind};
+use euler_operators::{HalfEdge, Kind, Refusal, Why};
+use halfedge_arena::Arena;
 
 /// Whether the solid has one face, that face no ring, and its outer loop no edge.
 #[tactic(auto, unfolding(euler_operators::specs::Conditions::has_rings))]

@@ -13,6 +13,5 @@ mod parts;
 mod single;
 mod torn;
 
-pub use euler_operators::{FaceList, Op, Refusal, Why};
 pub use every::check;
-pub use halfedge_arena::{Arena, Content, Corner, HalfEdge, Kind};
+pub use halfedge_arena::Arena;

@@ -5,8 +5,8 @@ ghost use Rattle.euler_conditions.specs.Ready.{IsReady};
 
 use crate::single::{in_range, refused};
 use crate::{Op, faces};
-use euler_operators::{Refusal, Why};
-use halfedge_arena::{Arena, Kind};
+use euler_operators::{Kind, Refusal, Why};
+use halfedge_arena::Arena;
 
 /// What is asked of a ring and a face of its solid.
 fn ring_and_face(arena: &Arena, ring: u32, face: u32) -> Result<(), Refusal>

@@ -1,6 +1,6 @@
 //! The conditions of part, which takes a list of faces.
 ghost use Rattle.std.specs.Prelude.{◌≡◌, ℕ, true, length};
-ghost use Rattle.boundary_model.specs.Model.{solid_of};
+ghost use Rattle.euler_operators.specs.Model.{solid_of};
 ghost use Rattle.halfedge_arena.specs.Store.{has_number};
 ghost use Rattle.euler_operators.specs.Conditions.{faces_in, faces_known, first_false, first_refusal, is_bad_part, lists, numbers_in_range, strictly_rises, verdict};
 ghost use Rattle.euler_conditions.specs.Ready.{IsReady};
@@ -8,8 +8,8 @@ ghost use Rattle.euler_conditions.specs.Parts.{AreFacesOf, parts_known};
 
 use crate::single::{in_range, is_number, refused};
 use crate::{Op, torn};
-use euler_operators::{FaceList, Refusal, Why};
-use halfedge_arena::{Arena, Kind};
+use euler_operators::{FaceList, Kind, Refusal, Why};
+use halfedge_arena::Arena;
 
 /// Each number of the list lies from 1 to the limit.
 fn list_in_range(faces: &FaceList) -> Result<(), Refusal>

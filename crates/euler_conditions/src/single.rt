@@ -1,11 +1,10 @@
 //! Single conditions.
 ghost use Rattle.std.specs.Prelude.{◌≡◌, ℕ, Bool, true, List, [], ◌∷◌, take, drop};
-ghost use Rattle.boundary_model.specs.Model.{is_number};
-ghost use Rattle.lattice.specs.Point.{is_in_range};
+ghost use Rattle.euler_operators.specs.Model.{is_number};
+ghost use Rattle.euler_operators.specs.Points.{is_in_range};
 ghost use Rattle.euler_operators.specs.Conditions.{need, numbers_in_range, first_refusal, verdict};
 
-use euler_operators::{Refusal, Why};
-use lattice::{Point, point_in_range};
+use euler_operators::{Point, Refusal, Why, point_in_range};
 
 /// A refusal.
 pub(crate) fn refused(why: Why, number: u32) -> Result<(), Refusal>

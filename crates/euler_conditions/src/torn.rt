@@ -1,15 +1,15 @@
 //! Edges between listed faces and others.
 ghost use Rattle.std.specs.Prelude.{◌≡◌, ◌≢◌, ℕ, true, false, not, nat_eq};
-ghost use Rattle.boundary_model.specs.HalfEdge.{code, mate};
-ghost use Rattle.boundary_model.specs.Model.{is_ring_of};
+ghost use Rattle.euler_operators.specs.HalfEdge.{code, mate};
+ghost use Rattle.euler_operators.specs.Model.{is_ring_of};
 ghost use Rattle.halfedge_arena.specs.Store.{has_number};
 ghost use Rattle.euler_operators.specs.Conditions.{face_at, lists, strictly_rises, torn_edge};
 ghost use Rattle.euler_conditions.specs.Ready.{IsReady};
 ghost use Rattle.euler_conditions.specs.Parts.{LeadsOut, StaysIn, FaceLeadsOut, FaceStaysIn};
 
 use crate::{faces, halves};
-use euler_operators::FaceList;
-use halfedge_arena::{Arena, Content, HalfEdge, Kind};
+use euler_operators::{Content, FaceList, HalfEdge, Kind};
+use halfedge_arena::Arena;
 
 /// More than the half-edges that an arena can have.
 const HALVES: u32 = 2_000_002;

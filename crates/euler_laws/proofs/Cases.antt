@@ -1,7 +1,7 @@
 -- Every operator keeps a sound model sound, and its inverse is accepted after it and takes it back: by cases.
 use Rattle.std.proofs.Common.{◌≡◌, None}
-use Rattle.boundary_model.specs.Model.{Model}
-use Rattle.boundary_model.specs.Sound.{Sound}
+use Rattle.euler_operators.specs.Model.{Model}
+use Rattle.euler_operators.specs.Sound.{Sound}
 use Rattle.euler_operators.specs.declared.Op.{Op}
 use Rattle.euler_operators.specs.declared.Op.TheVariants.{Mvfs, Kvfs, Mev, Kev, Mef, Kef, Kemr, Mekr, Kfmrh, Mfkrh, RingIn, RingOut, Outer, Merge, Part}
 use Rattle.euler_operators.specs.Conditions.{first_false}

@@ -1,7 +1,7 @@
 -- Lists of operators, each accepted in its turn, and their inverses.
 use Rattle.std.proofs.Common.{◌≡◌, List, [], ◌∷◌, ◌++◌, refl, sym, ap, subst, ◌∙◌}
-use Rattle.boundary_model.specs.Model.{Model}
-use Rattle.boundary_model.specs.Sound.{Sound}
+use Rattle.euler_operators.specs.Model.{Model}
+use Rattle.euler_operators.specs.Sound.{Sound}
 use Rattle.euler_operators.specs.declared.Op.{Op}
 use Rattle.euler_operators.specs.Effect.{effect, inverse}
 use Rattle.euler_laws.specs.Laws.{IsAccepted, effects, AreAccepted, inverses}

@@ -5,10 +5,10 @@ use Rattle.std.specs.Ordering.{nat_cmp}
 use Rattle.std.specs.Cmp.{nat_cmp_total}
 use Rattle.std.specs.FinMap.Entries as entries
 use Rattle.std.proofs.lemmas.Bool.Decides.{nat_tests, eqb_tells}
-use Rattle.boundary_model.specs.Table.{Table, put, remove, get, map_rows, map_entries, get-map_rows, all_where, all_in}
-use Rattle.boundary_model.specs.Model.{Model, LoopRow, face_of, outer}
-use Rattle.boundary_model.specs.Sound.{Sound, Has}
-use Rattle.boundary_model.proofs.Models.{face_row}
+use Rattle.euler_operators.specs.Table.{Table, put, remove, get, map_rows, map_entries, get-map_rows, all_where, all_in}
+use Rattle.euler_operators.specs.Model.{Model, LoopRow, face_of, outer}
+use Rattle.euler_operators.specs.Sound.{Sound, Has}
+use Rattle.euler_operators.proofs.Models.{face_row}
 use Rattle.euler_operators.specs.Conditions.{lists, strictly_rises}
 use Rattle.euler_laws.specs.Laws.{size, all_rings}
 use Rattle.euler_laws.proofs.shared.Goes.{equal, equals}

@@ -4,7 +4,10 @@
 ghost use Rattle.std.specs.Prelude.{◌≡◌, ℕ, List, [], ◌++◌, ◌∷◌, length, OnOk, OnErr, slice_index, ◌<◌};
 ghost use Rattle.euler_operators.specs.Refusal.{code_of};
 
-pub use boundary_model::{Corner, HalfEdge, Point};
+pub use boundary_model::{
+    COORDINATE_LIMIT, Content, Corner, HalfEdge, Kind, Plane, Point, Sign, cross_add, cut_point,
+    dot, lex_cmp, point_in_range, side, sum, sum_in_range,
+};
 use std::alloc::{AllocError, Global};
 use std::marker::Model;
 

@@ -1,12 +1,12 @@
 -- A walk round a face's outer loop to the one half-edge that starts at a point.
 use Rattle.std.proofs.Common.{◌≡◌, ◌≢◌, ℕ, ◌<◌, false, length, refl, sym, ap, ◌∙◌, subst, arith}
-use Rattle.lattice.specs.declared.Point.{Point}
-use Rattle.cyclic_list.specs.Items.{IsIn}
-use Rattle.cyclic_list.proofs.Rings.{IsIn_successor}
-use Rattle.boundary_model.specs.Model.{Model, LoopContent, lone, cycle, items_of, content, outer, cycle_of, loop_of}
-use Rattle.boundary_model.specs.Model as model
-use Rattle.boundary_model.specs.Sound.{Sound, HasHalf}
-use Rattle.boundary_model.proofs.Models.{in-holds}
+use Rattle.euler_operators.specs.declared.Point.{Point}
+use Rattle.euler_operators.specs.Items.{IsIn}
+use Rattle.euler_operators.proofs.Rings.{IsIn_successor}
+use Rattle.euler_operators.specs.Model.{Model, LoopContent, lone, cycle, items_of, content, outer, cycle_of, loop_of}
+use Rattle.euler_operators.specs.Model as model
+use Rattle.euler_operators.specs.Sound.{Sound, HasHalf}
+use Rattle.euler_operators.proofs.Models.{in-holds}
 use Rattle.euler_operators.specs.Conditions.{is_lone}
 use Rattle.shapes.specs.Faces.{start}
 use Rattle.shapes.specs.glue.Glue.{rim, outline, has_repeats}

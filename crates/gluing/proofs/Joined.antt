@@ -2,16 +2,16 @@
 use Rattle.std.proofs.Common.{◌≡◌, ◌≢◌, ℕ, ◌<◌, List, [], ◌∷◌, ◌++◌, length, None, refl, sym, ap, ◌∙◌, subst, arith}
 use Rattle.std.specs.Prelude.{map, reverse}
 use Rattle.std.proofs.lemmas.List.{append_assoc, length-append, length-map, length-reverse}
-use Rattle.cyclic_list.specs.Items.{IsIn, IsApart, head_or, last_or}
-use Rattle.cyclic_list.specs.Rings.{canonical, successor, predecessor}
-use Rattle.cyclic_list.proofs.Lists.{count-append, tick_same}
-use Rattle.cyclic_list.proofs.Rotations.{canonical-rotates, length-canonical}
-use Rattle.cyclic_list.proofs.Rings.{successor_head, successor_same, predecessor_head, predecessor_same, last_or_push}
-use Rattle.cyclic_list.proofs.Maps.{reverse-cons, count-reverse}
-use Rattle.boundary_model.specs.HalfEdge.{mate, half}
-use Rattle.boundary_model.specs.Model.{Model, outer, cycle_of}
-use Rattle.boundary_model.specs.Model as model
-use Rattle.boundary_model.specs.Sound.{Sound, HasHalf}
+use Rattle.euler_operators.specs.Items.{IsIn, IsApart, head_or, last_or}
+use Rattle.euler_operators.specs.Rings.{canonical, successor, predecessor}
+use Rattle.euler_operators.proofs.Lists.{count-append, tick_same}
+use Rattle.euler_operators.proofs.Rotations.{canonical-rotates, length-canonical}
+use Rattle.euler_operators.proofs.Rings.{successor_head, successor_same, predecessor_head, predecessor_same, last_or_push}
+use Rattle.euler_operators.proofs.Maps.{reverse-cons, count-reverse}
+use Rattle.euler_operators.specs.HalfEdge.{mate, half}
+use Rattle.euler_operators.specs.Model.{Model, outer, cycle_of}
+use Rattle.euler_operators.specs.Model as model
+use Rattle.euler_operators.specs.Sound.{Sound, HasHalf}
 use Rattle.euler_operators.specs.declared.Op.{Op}
 use Rattle.euler_operators.specs.declared.Op.TheVariants.{Kef}
 use Rattle.euler_operators.specs.Conditions.{first_false}

@@ -2,13 +2,13 @@
 -- the seam.
 use Rattle.std.proofs.Common.{◌≡◌, ◌≢◌, ℕ, ◌≤◌, Bool, true, false, cond, List, [], ◌∷◌, ◌++◌, refl, sym, ap, ◌∙◌, subst, None, arith, true≢false}
 use Rattle.std.proofs.lemmas.Bool.Decides.{nat_tests}
-use Rattle.lattice.specs.declared.Point.{Point}
-use Rattle.lattice.specs.Vectors.{same_point}
-use Rattle.cyclic_list.specs.Items.{IsIn, head_or, last_or}
-use Rattle.cyclic_list.proofs.Rings.{last_or_push}
-use Rattle.boundary_model.specs.HalfEdge.{edge_of}
-use Rattle.boundary_model.specs.Model.{Model, items_of, content, outer, point_of, is_number}
-use Rattle.boundary_model.specs.Sound.{Sound, Has, HasHalf}
+use Rattle.euler_operators.specs.declared.Point.{Point}
+use Rattle.euler_operators.specs.Vectors.{same_point}
+use Rattle.euler_operators.specs.Items.{IsIn, head_or, last_or}
+use Rattle.euler_operators.proofs.Rings.{last_or_push}
+use Rattle.euler_operators.specs.HalfEdge.{edge_of}
+use Rattle.euler_operators.specs.Model.{Model, items_of, content, outer, point_of, is_number}
+use Rattle.euler_operators.specs.Sound.{Sound, Has, HasHalf}
 use Rattle.euler_operators.specs.Conditions.{is_lone}
 use Rattle.euler_operators.specs.declared.Op.{Op}
 use Rattle.euler_laws.specs.Laws.{effects, AreAccepted}

@@ -1,10 +1,10 @@
 -- Operators that are still to be taken.
 use Rattle.std.proofs.Common.{◌≡◌, ℕ, List, [], ◌∷◌, None, refl, sym, ap, ◌∙◌, subst}
-use Rattle.boundary_model.specs.declared.HalfEdge.{HalfEdge}
-use Rattle.boundary_model.specs.declared.Corner.TheVariants.{At}
-use Rattle.boundary_model.specs.HalfEdge.{code, half, mate, plus, minus}
-use Rattle.boundary_model.specs.Model.{Model, solid_of}
-use Rattle.boundary_model.proofs.Halves.{half-code}
+use Rattle.euler_operators.specs.declared.HalfEdge.{HalfEdge}
+use Rattle.euler_operators.specs.declared.Corner.TheVariants.{At}
+use Rattle.euler_operators.specs.HalfEdge.{code, half, mate, plus, minus}
+use Rattle.euler_operators.specs.Model.{Model, solid_of}
+use Rattle.euler_operators.proofs.Halves.{half-code}
 use Rattle.euler_operators.specs.declared.Op.{Op}
 use Rattle.euler_operators.specs.declared.Op.TheVariants.{Merge, Kfmrh, Mekr, Kev, Mef, Kef}
 use Rattle.euler_operators.specs.Conditions.{first_false}

@@ -1,8 +1,8 @@
 -- The outer loop of a face.
 use Rattle.std.specs.Prelude.{ℕ}
-use Rattle.lattice.specs.declared.Point.{Point}
-use Rattle.lattice.specs.Vectors.{same_point}
-use Rattle.boundary_model.specs.Model.{Model}
+use Rattle.euler_operators.specs.declared.Point.{Point}
+use Rattle.euler_operators.specs.Vectors.{same_point}
+use Rattle.euler_operators.specs.Model.{Model}
 use Rattle.shapes.specs.Faces.{start}
 use Rattle.shapes.specs.Fresh.{first_such}
 use Rattle.shapes.specs.glue.Glue.{rim}

@@ -1,8 +1,8 @@
 //! Two faces glued operator by operator in a draft.
 ghost use Rattle.std.specs.Prelude.{◌≡◌, ◌≤◌, true, None, OnOk, OnErr};
-ghost use Rattle.boundary_model.specs.HalfEdge.{code};
-ghost use Rattle.boundary_model.specs.Model.{after, before, has_half, outer};
-ghost use Rattle.boundary_model.specs.Sound.{Has};
+ghost use Rattle.euler_operators.specs.HalfEdge.{code};
+ghost use Rattle.euler_operators.specs.Model.{after, before, has_half, outer};
+ghost use Rattle.euler_operators.specs.Sound.{Has};
 ghost use Rattle.euler_conditions.specs.Ready.{IsReady};
 ghost use Rattle.euler_laws.specs.Laws.{AreAccepted, effects};
 ghost use Rattle.euler_conditions.specs.Store.{has_number};
@@ -10,7 +10,8 @@ ghost use Rattle.shapes.specs.glue.Glue.{glue_model, glue_refusal};
 ghost use Rattle.shapes.specs.glue.GlueOps.{closing, fresh_edge, opening};
 
 use crate::rims::{first_item, item_at};
-use euler_conditions::{Arena, Corner, HalfEdge, Kind, Op};
+use euler_conditions::Arena;
+use euler_operators::{Corner, HalfEdge, Kind, Op};
 use solid_walks::{minus, plus};
 use std::alloc::AllocError;
 use undo_journal::Draft;

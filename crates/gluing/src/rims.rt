@@ -1,8 +1,8 @@
 //! The outer loop of a face, and the half-edge of it that starts at a point.
 ghost use Rattle.std.specs.Prelude.{◌≡◌, true, false};
-ghost use Rattle.cyclic_list.specs.Items.{IsIn, head_or};
-ghost use Rattle.boundary_model.specs.HalfEdge.{code};
-ghost use Rattle.boundary_model.specs.Model.{content, has_half, outer};
+ghost use Rattle.euler_operators.specs.Items.{IsIn, head_or};
+ghost use Rattle.euler_operators.specs.HalfEdge.{code};
+ghost use Rattle.euler_operators.specs.Model.{content, has_half, outer};
 ghost use Rattle.euler_conditions.specs.Ready.{IsReady};
 ghost use Rattle.euler_operators.specs.Conditions.{is_lone};
 ghost use Rattle.euler_conditions.specs.Store.{has_number};
@@ -11,8 +11,8 @@ ghost use Rattle.shapes.specs.glue.Glue.{has_repeats, outline, rim};
 ghost use Rattle.gluing.specs.Rims.{item_at};
 
 use crate::glue_checks::some_item;
-use euler_conditions::{Arena, HalfEdge, Kind};
-use lattice::Point;
+use euler_conditions::Arena;
+use euler_operators::{HalfEdge, Kind, Point};
 use solid_walks::least_item;
 
 /// The first half-edge of the outer loop of face f, which isn't lone, in the order of listings.

@@ -1,7 +1,7 @@
 use super::glue;
 use arrayvec::ArrayVec;
-use euler_conditions::{Arena, HalfEdge, Kind, Op, Refusal, Why};
-use lattice::Point;
+use euler_conditions::Arena;
+use euler_operators::{HalfEdge, Kind, Op, Point, Refusal, Why};
 use std::alloc::Global;
 use std::process::Abort;
 use std::test::*;

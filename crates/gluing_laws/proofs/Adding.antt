@@ -3,17 +3,17 @@ use Rattle.std.proofs.Common.{◌≡◌, ◌≢◌, ℕ, ◌+◌, ℤ, pos, ◌+
 use Rattle.std.specs.Option.{option_map}
 use Rattle.std.proofs.lemmas.Int.{ints}
 use Rattle.std.proofs.lemmas.Bool.Decides.{nat_tests, eqb_tells}
-use Rattle.lattice.specs.declared.Point.{Point}
-use Rattle.lattice.specs.Vectors.{dot}
-use Rattle.cyclic_list.specs.Items.{count, IsIn, SameItems, head_or}
-use Rattle.cyclic_list.specs.Rings.{successor}
-use Rattle.cyclic_list.proofs.Lists.{count-append, tick_same, tick_other}
-use Rattle.cyclic_list.proofs.Rings.{IsIn_successor}
-use Rattle.cyclic_list.proofs.Rotations.{IsIn_head}
-use Rattle.boundary_model.specs.Table as table
-use Rattle.boundary_model.specs.Table.{Table, tables}
-use Rattle.boundary_model.specs.Model.{Model, cycle, FaceRow, items_of, tail, content, outer, solid_of, point_of, rings_of, faces_of, after, cycle_of}
-use Rattle.boundary_model.specs.Sound.{Has}
+use Rattle.euler_operators.specs.declared.Point.{Point}
+use Rattle.euler_operators.specs.Vectors.{dot}
+use Rattle.euler_operators.specs.Items.{count, IsIn, SameItems, head_or}
+use Rattle.euler_operators.specs.Rings.{successor}
+use Rattle.euler_operators.proofs.Lists.{count-append, tick_same, tick_other}
+use Rattle.euler_operators.proofs.Rings.{IsIn_successor}
+use Rattle.euler_operators.proofs.Rotations.{IsIn_head}
+use Rattle.euler_operators.specs.Table as table
+use Rattle.euler_operators.specs.Table.{Table, tables}
+use Rattle.euler_operators.specs.Model.{Model, cycle, FaceRow, items_of, tail, content, outer, solid_of, point_of, rings_of, faces_of, after, cycle_of}
+use Rattle.euler_operators.specs.Sound.{Has}
 use Rattle.euler_operators.specs.Conditions.{lists}
 use Rattle.euler_operators.specs.Effect.{faces_to_solid}
 use Rattle.euler_laws.proofs.shared.Goes.{equal, equals, differs}
@@ -23,7 +23,7 @@ use Rattle.euler_laws.proofs.shared.Same.{mapped_some}
 use Rattle.shapes.specs.Faces.{start, finish, items_in, loops_of, boundary}
 use Rattle.shapes.specs.Measure.{area, normal, anchor, first_vertex, volume_in, six_volume}
 use Rattle.shapes.proofs.Areas.{area-append, moved_nothing}
-use Rattle.lattice.proofs.Integers.{dif, dif-parts, difs, same_dif}
+use Rattle.euler_operators.proofs.Integers.{dif, dif-parts, difs, same_dif}
 use Rattle.solid_measure_laws.specs.Vectors.{negated}
 use Rattle.solid_measure_laws.proofs.Sums.{area_same, area_opposed}
 use Rattle.gluing_laws.proofs.Listed.{one_if, passed, count_where, volume_of, volume_append, volume_same, same_volumes}

@@ -1,9 +1,9 @@
 -- What the conditions of a glue say, and the laws.
 use Rattle.std.proofs.Common.{◌≡◌, ◌≢◌, ℕ, ◌+ℤ◌, true, false, not, nat_eq, Bool, ◌&&◌, ◌||◌, List, [], ◌∷◌, reverse, None, is_some, refl, sym, ap, ◌∙◌, true≢false, ◌⊎◌, inl, inr}
-use Rattle.cyclic_list.specs.Items.{IsIn}
-use Rattle.boundary_model.specs.Model.{Model, LoopContent, lone, cycle, items_of, content, face_of, outer, solid_of, rings_of}
-use Rattle.boundary_model.specs.Sound.{Sound, Has}
-use Rattle.boundary_model.proofs.Tables.{zero_first_where}
+use Rattle.euler_operators.specs.Items.{IsIn}
+use Rattle.euler_operators.specs.Model.{Model, LoopContent, lone, cycle, items_of, content, face_of, outer, solid_of, rings_of}
+use Rattle.euler_operators.specs.Sound.{Sound, Has}
+use Rattle.euler_operators.proofs.Tables.{zero_first_where}
 use Rattle.euler_operators.specs.Conditions.{has_rings, is_empty, is_lone, lists}
 use Rattle.euler_laws.proofs.shared.Goes.{all_hold, no_zero, not_true, not_back, equal, unequal, equals}
 use Rattle.euler_laws.proofs.shared.Listed.{listed_passes, passes_listed}

@@ -1,19 +1,19 @@
 -- How often a number stands in what a search lists, and volumes of lists of faces in any order.
 use Rattle.std.proofs.Common.{◌≡◌, ℕ, ◌≤◌, ℤ, ◌+ℤ◌, Bool, true, false, cond, List, [], ◌∷◌, ◌++◌, Option, Some, None, is_some, refl, sym, ap, ◌∙◌, arith, true≢false, inl, inr}
 use Rattle.std.proofs.lemmas.Int.{ints}
-use Rattle.lattice.specs.Vectors.{dot}
-use Rattle.cyclic_list.specs.Items.{count, tick, IsIn, SameItems, before, after}
-use Rattle.cyclic_list.proofs.Lists.{count-append, tick_same, split_at}
-use Rattle.boundary_model.specs.Table as table
-use Rattle.boundary_model.specs.Table.{Table}
-use Rattle.boundary_model.specs.Model.{Model}
+use Rattle.euler_operators.specs.Vectors.{dot}
+use Rattle.euler_operators.specs.Items.{count, tick, IsIn, SameItems, before, after}
+use Rattle.euler_operators.proofs.Lists.{count-append, tick_same, split_at}
+use Rattle.euler_operators.specs.Table as table
+use Rattle.euler_operators.specs.Table.{Table}
+use Rattle.euler_operators.specs.Model.{Model}
 use Rattle.euler_operators.specs.Conditions.{lists, strictly_rises}
 use Rattle.euler_laws.proofs.shared.Listed.{first_listed, listed_cases, listed_passes, listed_as, all_where-rises}
 use Rattle.euler_laws.proofs.shared.Rows.{no_items}
 use Rattle.solid_walks.proofs.RisingLists.{within}
 use Rattle.shapes.specs.Measure.{anchor, normal, volume_in}
 use Rattle.solid_walks.proofs.Rising.{counted_once, none_counted, in_listed}
-use Rattle.lattice.proofs.Vectors.{add_assoc, none_add}
+use Rattle.euler_operators.proofs.Vectors.{add_assoc, none_add}
 
 -- ---- lists
 

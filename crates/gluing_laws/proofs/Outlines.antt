@@ -1,19 +1,19 @@
 -- Two loops whose outlines are each other's reverse: the partners of the items of one are the items of the other, back along them.
 use Rattle.std.proofs.Common.{◌≡◌, ◌≢◌, ℕ, zero, suc, true, false, cond, Bool, List, [], ◌∷◌, ◌++◌, map, reverse, length, take, drop, refl, sym, ap, ◌∙◌, subst, arith, true≢false, inl, inr}
 use Rattle.std.proofs.lemmas.List.{map-append, reverse-append, reverse-reverse}
-use Rattle.lattice.specs.declared.Point.{Point}
-use Rattle.lattice.specs.Vectors.{same_point}
-use Rattle.cyclic_list.specs.Items.{count, IsIn, IsApart, SameItems}
-use Rattle.cyclic_list.specs.Rings.{IsRotation, successor, predecessor}
-use Rattle.cyclic_list.proofs.Lists.{tick_same, tick_other, IsIn_or_not}
-use Rattle.cyclic_list.proofs.Rotations.{IsRotation-same, IsApart-same}
-use Rattle.cyclic_list.proofs.Rings.{IsIn_successor, IsIn_predecessor, predecessor_same, predecessor-successor, successor-predecessor}
-use Rattle.cyclic_list.proofs.Maps.{IsSeparate, from_map, count-reverse, successor-map, successor-reverse, IsApart-map}
-use Rattle.boundary_model.specs.HalfEdge.{edge_of}
-use Rattle.boundary_model.specs.Table as table
-use Rattle.boundary_model.specs.Model.{Model, cycle, holds, items_of, tail, content, after, cycle_of, point_of}
-use Rattle.boundary_model.specs.Sound.{Sound, Has, HasHalf, StandsIn}
-use Rattle.boundary_model.proofs.Models.{in-holds}
+use Rattle.euler_operators.specs.declared.Point.{Point}
+use Rattle.euler_operators.specs.Vectors.{same_point}
+use Rattle.euler_operators.specs.Items.{count, IsIn, IsApart, SameItems}
+use Rattle.euler_operators.specs.Rings.{IsRotation, successor, predecessor}
+use Rattle.euler_operators.proofs.Lists.{tick_same, tick_other, IsIn_or_not}
+use Rattle.euler_operators.proofs.Rotations.{IsRotation-same, IsApart-same}
+use Rattle.euler_operators.proofs.Rings.{IsIn_successor, IsIn_predecessor, predecessor_same, predecessor-successor, successor-predecessor}
+use Rattle.euler_operators.proofs.Maps.{IsSeparate, from_map, count-reverse, successor-map, successor-reverse, IsApart-map}
+use Rattle.euler_operators.specs.HalfEdge.{edge_of}
+use Rattle.euler_operators.specs.Table as table
+use Rattle.euler_operators.specs.Model.{Model, cycle, holds, items_of, tail, content, after, cycle_of, point_of}
+use Rattle.euler_operators.specs.Sound.{Sound, Has, HasHalf, StandsIn}
+use Rattle.euler_operators.proofs.Models.{in-holds}
 use Rattle.euler_laws.proofs.shared.Goes.{no_zero}
 use Rattle.shapes.specs.Faces.{start, finish}
 use Rattle.shapes.specs.Fresh.{first_such}

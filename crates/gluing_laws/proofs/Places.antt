@@ -2,15 +2,15 @@
 use Rattle.std.proofs.Common.{◌≡◌, ◌≢◌, ℕ, true, false, Bool, List, Option, Some, None, is_some, unwrap_or, refl, sym, ap, ◌∙◌, true≢false, inl, inr}
 use Rattle.std.specs.Prelude.{map}
 use Rattle.std.specs.Option.{option_map}
-use Rattle.cyclic_list.specs.Items.{count, IsIn}
-use Rattle.cyclic_list.proofs.Lists.{IsIn_or_not}
-use Rattle.cyclic_list.proofs.Maps.{from_map}
-use Rattle.boundary_model.specs.HalfEdge.{mate, edge_of, is_first}
-use Rattle.boundary_model.specs.Table as table
-use Rattle.boundary_model.specs.Table.{get-map_rows}
-use Rattle.boundary_model.specs.Model.{Model, EdgeRow, tail, tail_in, no_edge, no_point, loop_of, outer, point_of}
-use Rattle.boundary_model.specs.Sound.{HasHalf}
-use Rattle.boundary_model.proofs.Halves.{mate-mate, edge_of-mate, same_edge}
+use Rattle.euler_operators.specs.Items.{count, IsIn}
+use Rattle.euler_operators.proofs.Lists.{IsIn_or_not}
+use Rattle.euler_operators.proofs.Maps.{from_map}
+use Rattle.euler_operators.specs.HalfEdge.{mate, edge_of, is_first}
+use Rattle.euler_operators.specs.Table as table
+use Rattle.euler_operators.specs.Table.{get-map_rows}
+use Rattle.euler_operators.specs.Model.{Model, EdgeRow, tail, tail_in, no_edge, no_point, loop_of, outer, point_of}
+use Rattle.euler_operators.specs.Sound.{HasHalf}
+use Rattle.euler_operators.proofs.Halves.{mate-mate, edge_of-mate, same_edge}
 use Rattle.euler_laws.proofs.shared.Fans.{half_mate}
 use Rattle.shapes.specs.Faces.{start, finish}
 use Rattle.shapes.specs.Rewriting.{renamed, without_rows}

@@ -1,13 +1,13 @@
 -- Two faces of two solids along which these are glued: what follows in a sound model, and what the glued model holds.
 use Rattle.std.proofs.Common.{◌≡◌, ◌≢◌, ℕ, nat_eq, List, [], true, sym, ap, ◌∙◌, arith, ◌⊎◌}
 use Rattle.std.specs.Prelude.{map}
-use Rattle.cyclic_list.specs.Items.{IsIn, SameItems}
-use Rattle.cyclic_list.proofs.Maps.{from_map}
-use Rattle.boundary_model.specs.HalfEdge.{mate, edge_of}
-use Rattle.boundary_model.specs.Table as table
-use Rattle.boundary_model.specs.Model.{Model, cycle, holds, tail, loop_of, content, face_of, solid_of, outer, rings_of}
-use Rattle.boundary_model.specs.Sound.{Sound, Has, HasHalf, StandsIn}
-use Rattle.boundary_model.proofs.Models.{in-holds}
+use Rattle.euler_operators.specs.Items.{IsIn, SameItems}
+use Rattle.euler_operators.proofs.Maps.{from_map}
+use Rattle.euler_operators.specs.HalfEdge.{mate, edge_of}
+use Rattle.euler_operators.specs.Table as table
+use Rattle.euler_operators.specs.Model.{Model, cycle, holds, tail, loop_of, content, face_of, solid_of, outer, rings_of}
+use Rattle.euler_operators.specs.Sound.{Sound, Has, HasHalf, StandsIn}
+use Rattle.euler_operators.proofs.Models.{in-holds}
 use Rattle.euler_operators.specs.Effect.{faces_to_solid}
 use Rattle.euler_laws.proofs.shared.Same.{one_solid_round}
 use Rattle.shapes.specs.Faces.{start, finish}

@@ -1,7 +1,7 @@
 -- What a glue makes of the six volumes of its two solids.
 use Rattle.std.specs.Prelude.{◌≡◌, ◌≢◌, ℕ, ◌+ℤ◌, None}
-use Rattle.boundary_model.specs.Model.{Model, solid_of}
-use Rattle.boundary_model.specs.Sound.{Sound}
+use Rattle.euler_operators.specs.Model.{Model, solid_of}
+use Rattle.euler_operators.specs.Sound.{Sound}
 use Rattle.shapes.specs.Measure.{six_volume}
 use Rattle.shapes.specs.glue.Glue.{glue_refusal, glue_model}
 

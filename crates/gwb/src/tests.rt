@@ -8,8 +8,7 @@ mod splits;
 mod streams;
 
 use super::{Summary, run};
-use euler_conditions::{Corner, FaceList, HalfEdge, Op, Why};
-use lattice::Point;
+use euler_operators::{Corner, FaceList, HalfEdge, Op, Point, Why};
 use solid_listing::write_listing;
 use std::alloc::Global;
 use std::process::Abort;

@@ -2,7 +2,7 @@
 //!
 //! Where the greatest number in use of its kind goes, each number below it is looked at down to the next one in use.
 ghost use Rattle.std.specs.Prelude.{◌≡◌, true, false, [], ◌∷◌, Some};
-ghost use Rattle.lattice.specs.Point.{IsInRange};
+ghost use Rattle.boundary_model.specs.Points.{IsInRange};
 ghost use Rattle.boundary_model.specs.HalfEdge.{code, plus, minus};
 ghost use Rattle.boundary_model.specs.Table.{get};
 ghost use Rattle.boundary_model.specs.Model.{items_of, content, has_half};
@@ -10,8 +10,7 @@ ghost use Rattle.arena_rows.specs.Store.{has_room, has_number, put_solid, take_s
 
 use crate::arena::Arena;
 use arena_rows::{FaceCell, Held, LoopCell};
-use boundary_model::{HalfEdge, Kind};
-use lattice::Point;
+use boundary_model::{HalfEdge, Kind, Point};
 
 impl Arena {
     /// A new solid n, which has its room.

@@ -1,6 +1,6 @@
 //! What stands under a number.
 ghost use Rattle.std.specs.Prelude.{◌≡◌, ◌≢◌, true, length, []};
-ghost use Rattle.lattice.specs.Point.{IsInRange};
+ghost use Rattle.boundary_model.specs.Points.{IsInRange};
 ghost use Rattle.boundary_model.specs.Rings.{successor, predecessor};
 ghost use Rattle.boundary_model.specs.HalfEdge.{code};
 ghost use Rattle.boundary_model.specs.Model.{cycle, point_of, solid_of, outer, face_of, content, has_half, loop_of, after, before, tail, is_ring_of, rings_of, faces_of};
@@ -8,8 +8,7 @@ ghost use Rattle.arena_rows.specs.Store.{has_room, has_number, loose_ring, Tells
 
 use crate::arena::Arena;
 use arena_rows::Held;
-use boundary_model::{Content, HalfEdge, Kind};
-use lattice::Point;
+use boundary_model::{Content, HalfEdge, Kind, Point};
 
 impl Arena {
     /// Whether a number of a kind is in use. Any number may be asked for. A number in use has its room.

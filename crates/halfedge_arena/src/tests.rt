@@ -1,5 +1,5 @@
 use crate::{Arena, HalfEdge, Kind};
-use lattice::Point;
+use boundary_model::Point;
 use std::alloc::Global;
 use std::process::Abort;
 use std::test::*;
@@ -26,7 +26,7 @@ fn roomy(alloc: Global) -> Result<Arena, Fail> {
 
 fn put_vertex(rt: &impl Abort, arena: &mut Arena, v: u32, p: Point) {
     assert!(rt; arena.has_room(Kind::Vertex, v));
-    assert!(rt; lattice::point_in_range(p));
+    assert!(rt; boundary_model::point_in_range(p));
     arena.put_vertex(v, p);
 }
 

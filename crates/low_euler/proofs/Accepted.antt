@@ -1,11 +1,11 @@
 -- What an accepted operator says of the model: its edges, loops and faces are there.
 use Rattle.std.proofs.Common.{◌≡◌, ℕ, true, None, ap, ◌∙◌}
-use Rattle.boundary_model.specs.declared.Corner.{Corner}
-use Rattle.boundary_model.specs.declared.HalfEdge.{HalfEdge}
-use Rattle.boundary_model.specs.HalfEdge.{code, mate}
-use Rattle.boundary_model.specs.Table as table
-use Rattle.boundary_model.specs.Model.{Model, loop_of}
-use Rattle.boundary_model.specs.Sound.{Has}
+use Rattle.euler_operators.specs.declared.Corner.{Corner}
+use Rattle.euler_operators.specs.declared.HalfEdge.{HalfEdge}
+use Rattle.euler_operators.specs.HalfEdge.{code, mate}
+use Rattle.euler_operators.specs.Table as table
+use Rattle.euler_operators.specs.Model.{Model, loop_of}
+use Rattle.euler_operators.specs.Sound.{Has}
 use Rattle.euler_operators.specs.declared.Op.TheVariants.{Kev, Kef, Kemr, Mekr}
 use Rattle.euler_operators.specs.Conditions.{conditions, first_false, corner_known}
 use Rattle.euler_laws.proofs.shared.Goes.{all_hold, equal}

@@ -4,11 +4,11 @@ use Rattle.std.specs.Ordering.{nat_cmp, is_lt}
 use Rattle.std.specs.Cmp.{unsigned_tied}
 use Rattle.std.specs.FinMap.Entries.{find, is_sorted, below_all}
 use Rattle.std.proofs.lemmas.Bool.Decides.{nat_tests, eqb_tells}
-use Rattle.boundary_model.specs.Table as table
-use Rattle.boundary_model.specs.Table.{Table, get, all_where, all_in, map_rows, put, get-map_rows}
-use Rattle.boundary_model.specs.Model.{Model, FaceRow, no_face, solid_of, faces_of, is_number}
-use Rattle.boundary_model.specs.Sound.{NumbersFit}
-use Rattle.boundary_model.proofs.Tables.{and_left, and_right, all_where_none}
+use Rattle.euler_operators.specs.Table as table
+use Rattle.euler_operators.specs.Table.{Table, get, all_where, all_in, map_rows, put, get-map_rows}
+use Rattle.euler_operators.specs.Model.{Model, FaceRow, no_face, solid_of, faces_of, is_number}
+use Rattle.euler_operators.specs.Sound.{NumbersFit}
+use Rattle.euler_operators.proofs.Tables.{and_left, and_right, all_where_none}
 use Rattle.euler_laws.proofs.shared.Loops.{some_row}
 use Rattle.euler_conditions.specs.Store.{is_face_of, IsNextFace}
 

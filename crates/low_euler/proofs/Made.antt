@@ -2,8 +2,8 @@
 use Rattle.std.proofs.Common.{◌≡◌, ℕ, zero, suc, ◌+◌, ◌<◌, ◌≤◌, true, List, [], ◌∷◌, ◌++◌, length, take, get_or, None, refl, sym, subst, ◌∙◌, arith}
 use Rattle.std.proofs.lemmas.Bool.Decides.{nat_tests}
 use Rattle.std.proofs.lemmas.List.{take_more}
-use Rattle.boundary_model.specs.declared.Kind.{Kind}
-use Rattle.boundary_model.specs.Model.{Model, is_number}
+use Rattle.euler_operators.specs.declared.Kind.{Kind}
+use Rattle.euler_operators.specs.Model.{Model, is_number}
 use Rattle.euler_conditions.specs.Store.{Store, has_room, HasGrown}
 use Rattle.euler_operators.specs.Conditions.{conditions, first_false}
 use Rattle.euler_operators.specs.declared.Op.{Op}

@@ -2,12 +2,12 @@
 use Rattle.std.proofs.Common.{◌≡◌, ◌≢◌, ℕ, ◌<◌, Bool, true, false, cond, nat_eq, ◌&&◌, [], ◌∷◌, ◌+◌, length, Option, Some, None, is_some, unwrap_or, refl, sym, ap, ◌∙◌, arith, inl, inr}
 use Rattle.std.specs.Option.{option_map}
 use Rattle.std.proofs.lemmas.Bool.Decides.{nat_tests, eqb_tells}
-use Rattle.cyclic_list.specs.Items.{count, tick}
-use Rattle.cyclic_list.proofs.Lists.{tick_same, tick_other}
-use Rattle.boundary_model.specs.Table.{Table, get, map_rows, put, remove, get-map_rows, get-put}
-use Rattle.boundary_model.specs.Model.{Model, FaceRow, no_face, solid_of, outer, faces_of, is_number}
-use Rattle.boundary_model.specs.Sound.{Sound}
-use Rattle.boundary_model.proofs.Tables.{map-put, put_same, map_same, all_where_none, none_all_where}
+use Rattle.euler_operators.specs.Items.{count, tick}
+use Rattle.euler_operators.proofs.Lists.{tick_same, tick_other}
+use Rattle.euler_operators.specs.Table.{Table, get, map_rows, put, remove, get-map_rows, get-put}
+use Rattle.euler_operators.specs.Model.{Model, FaceRow, no_face, solid_of, outer, faces_of, is_number}
+use Rattle.euler_operators.specs.Sound.{Sound}
+use Rattle.euler_operators.proofs.Tables.{map-put, put_same, map_same, all_where_none, none_all_where}
 use Rattle.euler_operators.specs.Conditions.{conditions, first_false}
 use Rattle.euler_operators.specs.Effect.{effect, merge, faces_to_solid}
 use Rattle.euler_operators.specs.declared.Op.TheVariants.{Merge}

@@ -1,14 +1,14 @@
 -- The first items of the two parts of a ring that is cut at two of its items.
 use Rattle.std.proofs.Common.{◌≡◌, ◌≢◌, ℕ, true, false, cond, nat_eq, List, [], ◌∷◌, ◌++◌, sym, ap, ◌∙◌, arith}
 use Rattle.std.proofs.lemmas.Bool.Decides.{nat_tests}
-use Rattle.cyclic_list.specs.Items.{count, tick, IsIn, IsApart, before, head_or}
-use Rattle.cyclic_list.specs.Rings.{rotate_to, rest, between, beyond, successor}
-use Rattle.cyclic_list.proofs.Lists.{count-append, count-before, before_at, after_at, tick_same, tick_other}
-use Rattle.cyclic_list.proofs.Rotations.{rest_same, rotate_to-rotates}
-use Rattle.cyclic_list.proofs.Cuts.{ring_split, apart_split}
+use Rattle.euler_operators.specs.Items.{count, tick, IsIn, IsApart, before, head_or}
+use Rattle.euler_operators.specs.Rings.{rotate_to, rest, between, beyond, successor}
+use Rattle.euler_operators.proofs.Lists.{count-append, count-before, before_at, after_at, tick_same, tick_other}
+use Rattle.euler_operators.proofs.Rotations.{rest_same, rotate_to-rotates}
+use Rattle.euler_operators.proofs.Cuts.{ring_split, apart_split}
 use Rattle.euler_laws.proofs.shared.Undo.{after_first}
-use Rattle.boundary_model.specs.declared.Corner.TheVariants.{At, Lone}
-use Rattle.boundary_model.specs.HalfEdge.{half}
+use Rattle.euler_operators.specs.declared.Corner.TheVariants.{At, Lone}
+use Rattle.euler_operators.specs.HalfEdge.{half}
 use Rattle.euler_operators.specs.Effect.{corner_of}
 
 is_same : (a : ℕ) → nat_eq a a ≡ true

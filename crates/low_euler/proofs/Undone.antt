@@ -1,8 +1,8 @@
 -- An operator that was applied leaves a sound model, in which its inverse is accepted and gives the model before.
 use Rattle.std.proofs.Common.{◌≡◌, ℕ, List, [], ◌∷◌, refl, sym, ap, ◌∙◌}
-use Rattle.boundary_model.specs.declared.Kind.{Kind}
-use Rattle.boundary_model.specs.declared.Kind.TheVariants.{Solid, Face, Loop, Edge, Vertex}
-use Rattle.boundary_model.specs.Model.{Model, faces_of}
+use Rattle.euler_operators.specs.declared.Kind.{Kind}
+use Rattle.euler_operators.specs.declared.Kind.TheVariants.{Solid, Face, Loop, Edge, Vertex}
+use Rattle.euler_operators.specs.Model.{Model, faces_of}
 use Rattle.euler_conditions.specs.Store.{Store, has_room}
 use Rattle.euler_operators.specs.Conditions.{first_false}
 use Rattle.euler_operators.specs.Effect.{effect, inverse}

@@ -1,7 +1,7 @@
 -- The room that an operator needs.
 use Rattle.std.specs.Prelude.{◌≡◌, ℕ, true, List, [], ◌∷◌}
-use Rattle.boundary_model.specs.declared.Kind.{Kind}
-use Rattle.boundary_model.specs.Model.{Model, faces_of, is_number}
+use Rattle.euler_operators.specs.declared.Kind.{Kind}
+use Rattle.euler_operators.specs.Model.{Model, faces_of, is_number}
 use Rattle.euler_operators.specs.declared.Op.{Op}
 use Rattle.euler_operators.specs.declared.Op.TheVariants as op
 

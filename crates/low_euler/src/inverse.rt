@@ -1,6 +1,6 @@
 //! The operator that takes another back, read from the arena before it is applied.
 ghost use Rattle.std.specs.Prelude.{◌≡◌, None};
-ghost use Rattle.boundary_model.specs.HalfEdge.{code};
+ghost use Rattle.euler_operators.specs.HalfEdge.{code};
 ghost use Rattle.euler_operators.specs.Conditions.{first_false};
 ghost use Rattle.euler_operators.specs.Effect.{inverse, kev_corner, kev_corner_mate};
 ghost use Rattle.euler_conditions.specs.Ready.{IsReady, HasRoomFor};
@@ -8,8 +8,8 @@ ghost use Rattle.low_euler.specs.Room.{faces_for};
 
 use crate::making::Room;
 use crate::reading;
-use euler_conditions::{Arena, Corner, HalfEdge, Kind};
-use euler_operators::Op;
+use euler_conditions::Arena;
+use euler_operators::{Corner, HalfEdge, Kind, Op};
 
 fn kvfs(arena: &Arena, solid: u32) -> Op
     requires ready { IsReady arena.now }

@@ -6,8 +6,8 @@ ghost use Rattle.euler_conditions.specs.Ready.{IsReady, AllRoom, HasRoomFor};
 ghost use Rattle.low_euler.specs.Room.{AllFit, faces_for};
 
 use crate::moving;
-use euler_conditions::{Arena, Kind};
-use euler_operators::{FaceList, Op};
+use euler_conditions::Arena;
+use euler_operators::{FaceList, Kind, Op};
 use std::alloc::{AllocError, Global};
 
 /// What an operator takes with it where it is applied: for a merge the faces that it moves, rising, else nothing.

@@ -1,10 +1,10 @@
 //! The faces of a solid, met in the order of their numbers.
 ghost use Rattle.std.specs.Prelude.{◌≡◌, IfOk};
-ghost use Rattle.boundary_model.specs.Model.{faces_of};
+ghost use Rattle.euler_operators.specs.Model.{faces_of};
 ghost use Rattle.euler_conditions.specs.Ready.{IsReady, Accepts, after};
 
-use euler_conditions::{Arena, Kind};
-use euler_operators::{FaceList, Op};
+use euler_conditions::Arena;
+use euler_operators::{FaceList, Kind, Op};
 use std::alloc::{AllocError, Global};
 
 /// The faces of a solid, rising. It looks at these alone.

@@ -1,12 +1,13 @@
 //! What an arena says of half-edges, corners and lone loops.
 ghost use Rattle.std.specs.Prelude.{◌≡◌, true, nat_eq, cond};
-ghost use Rattle.boundary_model.specs.HalfEdge.{code, half};
-ghost use Rattle.boundary_model.specs.Model.{after, content, loop_of};
+ghost use Rattle.euler_operators.specs.HalfEdge.{code, half};
+ghost use Rattle.euler_operators.specs.Model.{after, content, loop_of};
 ghost use Rattle.euler_conditions.specs.Store.{has_number, has_room};
 ghost use Rattle.euler_operators.specs.Conditions.{corner_known, corner_loop, is_lone, lone_vertex};
 ghost use Rattle.euler_conditions.specs.Ready.{IsReady};
 
-use euler_conditions::{Arena, Content, Corner, HalfEdge, Kind};
+use euler_conditions::Arena;
+use euler_operators::{Content, Corner, HalfEdge, Kind};
 
 /// Whether the two are the same half-edge.
 pub(crate) fn same(g: HalfEdge, h: HalfEdge) -> bool

@@ -1,13 +1,13 @@
 -- The conditions of a split: those that are tested first and what they say, and those that are tested once the faces are drawn.
 use Rattle.std.proofs.Common.{◌≡◌, ℕ, ℤ, true, Option, None, Some, Result, Ok, Err, refl, sym, ap, ◌∙◌, arith}
 use Rattle.std.proofs.lemmas.Int.{ints}
-use Rattle.lattice.specs.declared.Plane.{Plane}
-use Rattle.lattice.specs.Ranges.{IsWithin, IsCutPlane}
-use Rattle.lattice.specs.Vectors.{is_offset}
-use Rattle.lattice.proofs.Magnitudes.{coordinate_within}
-use Rattle.boundary_model.specs.Table as table
-use Rattle.boundary_model.specs.Model.{Model}
-use Rattle.boundary_model.specs.Sound.{Sound, Has}
+use Rattle.euler_operators.specs.declared.Plane.{Plane}
+use Rattle.euler_operators.specs.Ranges.{IsWithin, IsCutPlane}
+use Rattle.euler_operators.specs.Vectors.{is_offset}
+use Rattle.euler_operators.proofs.Magnitudes.{coordinate_within}
+use Rattle.euler_operators.specs.Table as table
+use Rattle.euler_operators.specs.Model.{Model}
+use Rattle.euler_operators.specs.Sound.{Sound, Has}
 use Rattle.euler_operators.specs.Conditions.{AllHold, first_refusal, verdict}
 use Rattle.euler_operators.specs.declared.Refusal.{Refusal}
 use Rattle.euler_laws.proofs.shared.Goes.{all_hold}

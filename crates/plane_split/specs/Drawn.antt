@@ -1,8 +1,8 @@
 -- What is drawn in a split that isn't refused.
 use Rattle.std.specs.Prelude.{◌≡◌, ℕ, None}
-use Rattle.lattice.specs.declared.Plane.{Plane}
-use Rattle.boundary_model.specs.Model.{Model}
-use Rattle.boundary_model.specs.Sound.{Sound}
+use Rattle.euler_operators.specs.declared.Plane.{Plane}
+use Rattle.euler_operators.specs.Model.{Model}
+use Rattle.euler_operators.specs.Sound.{Sound}
 use Rattle.shapes.specs.split.Drawing.{Drawing, with_drawings}
 use Rattle.shapes.specs.split.Split.{split_refusal}
 use Rattle.split_drawing.specs.solid_drawing.Drawn.{put_aside}

@@ -1,6 +1,6 @@
 //! The three rewritings of a split, one after the other in a draft.
 ghost use Rattle.std.specs.Prelude.{◌≡◌, [], Ok, OnOk, IfOk};
-ghost use Rattle.boundary_model.specs.Sound.{Sound};
+ghost use Rattle.euler_operators.specs.Sound.{Sound};
 ghost use Rattle.euler_operators.specs.Conditions.{verdict};
 ghost use Rattle.shapes.specs.split.Split.{split_above, split_model, split_refusal};
 ghost use Rattle.split_drawing_laws.specs.crossings.Laws.{CanBegin};
@@ -9,8 +9,7 @@ ghost use Rattle.split_sections.specs.section_checks.Sections.{IsSection};
 ghost use Rattle.plane_split.specs.Drawn.{IsDrawn};
 
 use crate::solid_opening::{open_section, part_upper};
-use euler_conditions::Refusal;
-use lattice::Plane;
+use euler_operators::{Plane, Refusal};
 use split_drawing::{Progress, draw_solid};
 use split_sections::{Section, check_later};
 use std::alloc::{AllocError, Global};

@@ -1,7 +1,6 @@
 use super::split;
 use arrayvec::ArrayVec;
-use euler_conditions::{Corner, HalfEdge, Kind, Op, Refusal, Why};
-use lattice::Point;
+use euler_operators::{Corner, HalfEdge, Kind, Op, Point, Refusal, Why};
 use std::alloc::Global;
 use std::process::Abort;
 use std::test::*;

@@ -7,9 +7,9 @@ use Rattle.std.proofs.lemmas.Bool.{cases_Bool}
 use Rattle.std.proofs.lemmas.Bool.Decides.{nat_tests}
 use Rattle.std.proofs.lemmas.Slice.Eq.{bytes_eq-Decides}
 use Rattle.std.proofs.lemmas.Str.Parse.{IsNumeralModel, numerals_by_fold, digit_from_value}
-use Rattle.boundary_model.specs.declared.HalfEdge.{HalfEdge}
-use Rattle.boundary_model.specs.declared.Corner.{Corner}
-use Rattle.boundary_model.specs.declared.Corner.TheVariants.{At, Lone}
+use Rattle.euler_operators.specs.declared.HalfEdge.{HalfEdge}
+use Rattle.euler_operators.specs.declared.Corner.{Corner}
+use Rattle.euler_operators.specs.declared.Corner.TheVariants.{At, Lone}
 use Rattle.script_reader.specs.Numbers.{value_after, all_digits, below, magnitude, number_of, negative, not_negative, whole_of}
 use Rattle.script_reader.specs.Places.{Word, half_with, half_of, lone_of, or_else, corner_of, way_of}
 use Rattle.script_reader.specs.declared.places.Way.{Way}

@@ -1,8 +1,8 @@
 -- Worked lines, computed.
 use Rattle.std.specs.Prelude.{◌≡◌, ℕ, zero, suc, false, List, [], ◌∷◌, ◌++◌, codes, pos, neg_ℤ, Result, Ok, Err, refl}
-use Rattle.lattice.specs.declared.Point.{Point}
-use Rattle.boundary_model.specs.declared.HalfEdge.{HalfEdge}
-use Rattle.boundary_model.specs.declared.Corner.TheVariants.{Lone}
+use Rattle.euler_operators.specs.declared.Point.{Point}
+use Rattle.euler_operators.specs.declared.HalfEdge.{HalfEdge}
+use Rattle.euler_operators.specs.declared.Corner.TheVariants.{Lone}
 use Rattle.euler_operators.specs.declared.Op.TheVariants.{Mvfs, Mev, Mef, RingIn, RingOut}
 use Rattle.script_reader.specs.Grammar.{plus, arguments, command_of}
 use Rattle.script_reader.specs.Lines.{lines_of}

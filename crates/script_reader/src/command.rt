@@ -3,8 +3,7 @@ ghost use Rattle.std.specs.Prelude.{◌≡◌};
 ghost use Rattle.script_reader.specs.Fault.{code_of};
 
 use arrayvec::ArrayVec;
-use euler_operators::Op;
-use lattice::Point;
+use euler_operators::{Op, Point};
 use std::marker::Model;
 
 /// The points of a lamina, in order: at most 64.
@@ -15,7 +14,7 @@ pub struct Corners {
 
 impl Model for Corners {
     ghost use Rattle.std.specs.Prelude.{List};
-    ghost use Rattle.lattice.specs.declared.Point.{Point};
+    ghost use Rattle.euler_operators.specs.declared.Point.{Point};
 
     ghost Value = { List Point };
 

@@ -10,8 +10,7 @@ use super::command::Fault;
 use super::name::Name;
 use super::places::{Way, corner, half, in_or_out, number, point};
 use super::words::next_word;
-use boundary_model::HalfEdge;
-use euler_operators::Op;
+use euler_operators::{HalfEdge, Op};
 
 /// The half-edge with `+` of an edge, which is how a script gives a new edge.
 fn plus(edge: u32) -> HalfEdge

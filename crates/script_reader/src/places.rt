@@ -8,8 +8,7 @@ ghost use Rattle.script_reader.specs.declared.command.Fault.TheVariants.{BadWord
 use super::command::{Corners, Fault};
 use super::numbers::{number_of, whole_of};
 use super::words::next_word;
-use boundary_model::{Corner, HalfEdge};
-use lattice::Point;
+use euler_operators::{Corner, HalfEdge, Point};
 
 /// The last word of `ringmv`: the ring becomes a ring of the face, or its outer loop.
 #[derive(Clone, Copy, Debug, PartialEq, Eq)]

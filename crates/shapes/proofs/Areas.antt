@@ -1,10 +1,10 @@
 -- Sums of cross products over half-edges, joined and turned.
 use Rattle.std.proofs.Common.{◌≡◌, ℕ, List, [], ◌∷◌, ◌++◌, sym, ap, ◌∙◌}
 use Rattle.std.proofs.Math.IntN.{+ℤ_comm, +ℤ_assoc, +ℤ_idl, +ℤ_idr}
-use Rattle.boundary_model.specs.declared.Point.{Point}
-use Rattle.boundary_model.specs.Vectors.{origin, moved, cross}
-use Rattle.boundary_model.specs.Rings.{IsRotation}
-use Rattle.boundary_model.specs.Model.{Model}
+use Rattle.euler_operators.specs.declared.Point.{Point}
+use Rattle.euler_operators.specs.Vectors.{origin, moved, cross}
+use Rattle.euler_operators.specs.Rings.{IsRotation}
+use Rattle.euler_operators.specs.Model.{Model}
 use Rattle.shapes.specs.Faces.{start, finish}
 use Rattle.shapes.specs.Measure.{area}
 

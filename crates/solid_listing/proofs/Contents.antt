@@ -1,13 +1,13 @@
 -- What an arena tells of a loop.
 use Rattle.std.proofs.Common.{◌≡◌, ◌≢◌, ℕ, [], map, refl, sym, ap, ◌∙◌}
-use Rattle.cyclic_list.specs.Items.{IsIn}
-use Rattle.boundary_model.specs.declared.HalfEdge.{HalfEdge}
-use Rattle.boundary_model.specs.declared.Content.TheVariants as Content
-use Rattle.boundary_model.specs.HalfEdge.{code}
-use Rattle.boundary_model.specs.Model.{Model, LoopContent, lone, cycle, items_of, content, cycle_of}
-use Rattle.boundary_model.specs.Sound.{Sound, Has, HasHalf}
-use Rattle.boundary_model.proofs.Models.{in-holds}
-use Rattle.halfedge_arena.specs.Store.{Tells}
+use Rattle.euler_operators.specs.Items.{IsIn}
+use Rattle.euler_operators.specs.declared.HalfEdge.{HalfEdge}
+use Rattle.euler_operators.specs.declared.Content.TheVariants as Content
+use Rattle.euler_operators.specs.HalfEdge.{code}
+use Rattle.euler_operators.specs.Model.{Model, LoopContent, lone, cycle, items_of, content, cycle_of}
+use Rattle.euler_operators.specs.Sound.{Sound, Has, HasHalf}
+use Rattle.euler_operators.proofs.Models.{in-holds}
+use Rattle.euler_conditions.specs.Store.{Tells}
 use Rattle.solid_listing.specs.Listing.{content_words, half_word}
 
 pub lone_told : (c : LoopContent) (v : ℕ) → Tells c (Content.Lone v) → lone v ≡ c

@@ -1,15 +1,15 @@
 -- A sound model without solids has nothing.
 use Rattle.std.proofs.Common.{◌≡◌, ◌≢◌, ℕ, ◌<◌, true, List, [], ◌∷◌, ◌++◌, map, codes, Option, Some, None, is_some, unwrap_or, refl, sym, ap, ◌∙◌, arith, true≢false, inl, inr}
 use Rattle.std.proofs.lemmas.Bool.Decides.{nat_tests}
-use Rattle.boundary_model.specs.declared.Kind.{Kind}
-use Rattle.boundary_model.specs.declared.Kind.TheVariants.{Solid, Face, Loop, Edge, Vertex}
-use Rattle.boundary_model.specs.HalfEdge.{plus}
-use Rattle.boundary_model.specs.Table.{Table, get, has, numbers}
-use Rattle.boundary_model.specs.Model.{Model, LoopRow, lone, no_loop, content, solid_of, face_of, loop_of, is_number}
-use Rattle.boundary_model.specs.Sound.{Sound, Has, HasHalf}
-use Rattle.boundary_model.proofs.Halves.{plus_row}
-use Rattle.boundary_model.proofs.Models.{held_row}
-use Rattle.halfedge_arena.specs.Store.{Store, IsGreatest}
+use Rattle.euler_operators.specs.declared.Kind.{Kind}
+use Rattle.euler_operators.specs.declared.Kind.TheVariants.{Solid, Face, Loop, Edge, Vertex}
+use Rattle.euler_operators.specs.HalfEdge.{plus}
+use Rattle.euler_operators.specs.Table.{Table, get, has, numbers}
+use Rattle.euler_operators.specs.Model.{Model, LoopRow, lone, no_loop, content, solid_of, face_of, loop_of, is_number}
+use Rattle.euler_operators.specs.Sound.{Sound, Has, HasHalf}
+use Rattle.euler_operators.proofs.Halves.{plus_row}
+use Rattle.euler_operators.proofs.Models.{held_row}
+use Rattle.euler_conditions.specs.Store.{Store, IsGreatest}
 use Rattle.solid_listing.specs.Lines.{text_of}
 use Rattle.solid_listing.specs.Listing.{line, numbers_of, lines, or_empty, listing}
 use Rattle.solid_walks.proofs.face_walks_laws.Rising.{member}

@@ -3,15 +3,15 @@ use Rattle.std.proofs.Common.{◌≡◌, ℕ, Bool, true, false, cond, ◌&&◌,
 use Rattle.std.proofs.lemmas.Bool.Decides.{nat_tests, eqb_tells}
 use Rattle.std.proofs.lemmas.Fmt.{decimal_injective, signed_decimal_injective}
 use Rattle.std.specs.Fmt.{decimal, signed_decimal}
-use Rattle.lattice.specs.declared.Point.{Point}
-use Rattle.lattice.specs.Point.{is_coordinate, is_in_range}
-use Rattle.boundary_model.specs.declared.Kind.TheVariants.{Solid, Face, Loop, Edge, Vertex}
-use Rattle.boundary_model.specs.HalfEdge.{plus, minus, edge_of, is_first}
-use Rattle.boundary_model.specs.Table.{Table, get, has, numbers, same_table}
-use Rattle.boundary_model.specs.Model.{Model, LoopContent, FaceRow, EdgeRow, lone, cycle, no_face, no_point, solid_of, outer, face_of, content, tail, tail_in, point_of, rings_of}
-use Rattle.boundary_model.specs.Sound.{Sound, Has}
-use Rattle.boundary_model.proofs.Halves.{plus_row, minus_row}
-use Rattle.boundary_model.proofs.Models.{content_row, face_row, tail_row}
+use Rattle.euler_operators.specs.declared.Point.{Point}
+use Rattle.euler_operators.specs.Points.{is_coordinate, is_in_range}
+use Rattle.euler_operators.specs.declared.Kind.TheVariants.{Solid, Face, Loop, Edge, Vertex}
+use Rattle.euler_operators.specs.HalfEdge.{plus, minus, edge_of, is_first}
+use Rattle.euler_operators.specs.Table.{Table, get, has, numbers, same_table}
+use Rattle.euler_operators.specs.Model.{Model, LoopContent, FaceRow, EdgeRow, lone, cycle, no_face, no_point, solid_of, outer, face_of, content, tail, tail_in, point_of, rings_of}
+use Rattle.euler_operators.specs.Sound.{Sound, Has}
+use Rattle.euler_operators.proofs.Halves.{plus_row, minus_row}
+use Rattle.euler_operators.proofs.Models.{content_row, face_row, tail_row}
 use Rattle.solid_listing.specs.Lines.{text_of}
 use Rattle.solid_listing.specs.Listing.{line, content_words, half_word, lines, or_empty, listing}
 use Rattle.solid_walks.proofs.face_walks_laws.Rising.{member}

@@ -4,10 +4,10 @@ use Rattle.std.proofs.lemmas.Bool.Decides.{nat_tests}
 use Rattle.std.proofs.lemmas.Fmt.{decimal_by_steps, decimal_injective}
 use Rattle.std.specs.Fmt.{decimal, signed_decimal}
 use Rattle.std.specs.Int.Signed.{mag}
-use Rattle.lattice.specs.Point.{is_coordinate}
-use Rattle.boundary_model.specs.HalfEdge.{code, half, edge_of, is_first}
-use Rattle.boundary_model.specs.Model.{is_number}
-use Rattle.boundary_model.proofs.Halves.{code-half}
+use Rattle.euler_operators.specs.Points.{is_coordinate}
+use Rattle.euler_operators.specs.HalfEdge.{code, half, edge_of, is_first}
+use Rattle.euler_operators.specs.Model.{is_number}
+use Rattle.euler_operators.proofs.Halves.{code-half}
 use Rattle.solid_listing.specs.Listing.{half_word}
 use Rattle.solid_listing.proofs.Parsing.{Word, is_clean, and_left, and_right, and_both}
 

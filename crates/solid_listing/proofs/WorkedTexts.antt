@@ -1,12 +1,12 @@
 -- Worked listings and replies, computed.
 use Rattle.std.specs.Prelude.{◌≡◌, ℕ, pos, negsuc, List, [], ◌∷◌, refl, codes, true, false}
 use Rattle.std.specs.Fmt.{digits}
-use Rattle.lattice.specs.declared.Plane.{Plane}
-use Rattle.boundary_model.specs.declared.Corner.TheVariants.{At, Lone}
-use Rattle.boundary_model.specs.HalfEdge.{mate, code, half, edge_of, is_first}
-use Rattle.boundary_model.specs.Table as table
-use Rattle.boundary_model.specs.Model.{empty_model, point_of, content, tail, loop_of, face_of, solid_of, outer, arc, holds, after}
-use Rattle.cyclic_list.specs.Rings.{rotate_to, canonical, rest}
+use Rattle.euler_operators.specs.declared.Plane.{Plane}
+use Rattle.euler_operators.specs.declared.Corner.TheVariants.{At, Lone}
+use Rattle.euler_operators.specs.HalfEdge.{mate, code, half, edge_of, is_first}
+use Rattle.euler_operators.specs.Table as table
+use Rattle.euler_operators.specs.Model.{empty_model, point_of, content, tail, loop_of, face_of, solid_of, outer, arc, holds, after}
+use Rattle.euler_operators.specs.Rings.{rotate_to, canonical, rest}
 use Rattle.euler_operators.specs.Conditions.{conditions, first_false, has_rings}
 use Rattle.euler_operators.specs.Effect.{effect, mvfs, mev_lone, mev_at, mef, kemr}
 use Rattle.euler_operators.specs.declared.Op.{Op}

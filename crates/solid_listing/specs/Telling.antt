@@ -1,7 +1,7 @@
 -- What listings tell.
 use Rattle.std.specs.Prelude.{◌≡◌, ◌↔◌}
-use Rattle.boundary_model.specs.Model.{Model}
-use Rattle.boundary_model.specs.Sound.{Sound}
+use Rattle.euler_operators.specs.Model.{Model}
+use Rattle.euler_operators.specs.Sound.{Sound}
 use Rattle.solid_listing.specs.Listing.{listing}
 
 -- two sound models have equal listings exactly where they are equal

@@ -1,9 +1,9 @@
 //! The half-edges of a loop, from the least on.
 ghost use Rattle.std.specs.Prelude.{◌≡◌, true, ◌∷◌, map};
-ghost use Rattle.cyclic_list.specs.Items.{least};
-ghost use Rattle.boundary_model.specs.HalfEdge.{code};
-ghost use Rattle.boundary_model.specs.Model.{has_half, cycle_of};
-ghost use Rattle.boundary_model.specs.Sound.{Sound};
+ghost use Rattle.euler_operators.specs.Items.{least};
+ghost use Rattle.euler_operators.specs.HalfEdge.{code};
+ghost use Rattle.euler_operators.specs.Model.{has_half, cycle_of};
+ghost use Rattle.euler_operators.specs.Sound.{Sound};
 ghost use Rattle.solid_listing.specs.Lines.{spaced};
 ghost use Rattle.solid_listing.specs.Listing.{half_word};
 ghost use Rattle.solid_listing.specs.Writing.{Puts};
@@ -11,7 +11,8 @@ ghost use Rattle.solid_listing.specs.Writing.{Puts};
 use crate::text::{Text, append, append_digits};
 use crate::writing::{WriteFault, put};
 use arrayvec::ArrayVec;
-use halfedge_arena::{Arena, HalfEdge};
+use euler_conditions::Arena;
+use euler_operators::HalfEdge;
 use solid_walks::least_item;
 use std::io::Write;
 

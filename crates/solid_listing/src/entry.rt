@@ -1,8 +1,8 @@
 //! The line of one thing.
 ghost use Rattle.std.specs.Prelude.{◌≡◌, true, map, decimal};
-ghost use Rattle.boundary_model.specs.Model.{rings_of, content};
-ghost use Rattle.boundary_model.specs.Sound.{Sound};
-ghost use Rattle.halfedge_arena.specs.Store.{has_number};
+ghost use Rattle.euler_operators.specs.Model.{rings_of, content};
+ghost use Rattle.euler_operators.specs.Sound.{Sound};
+ghost use Rattle.euler_conditions.specs.Store.{has_number};
 ghost use Rattle.solid_listing.specs.Lines.{spaced, line_text};
 ghost use Rattle.solid_listing.specs.Listing.{line, content_words};
 ghost use Rattle.solid_listing.specs.Writing.{Puts};
@@ -10,7 +10,8 @@ ghost use Rattle.solid_listing.specs.Writing.{Puts};
 use crate::cycle::write_cycle;
 use crate::text::{Text, line, words};
 use crate::writing::{WriteFault, put};
-use halfedge_arena::{Arena, Content, HalfEdge, Kind};
+use euler_conditions::Arena;
+use euler_operators::{Content, HalfEdge, Kind};
 use std::io::Write;
 
 /// The line of an edge.

@@ -1,12 +1,13 @@
 //! Listings.
-ghost use Rattle.boundary_model.specs.Sound.{Sound};
+ghost use Rattle.euler_operators.specs.Sound.{Sound};
 ghost use Rattle.solid_listing.specs.Lines.{text_of};
 ghost use Rattle.solid_listing.specs.Listing.{kind_lines, lines, listing};
 ghost use Rattle.solid_listing.specs.Writing.{Puts};
 
 use crate::entry::write_entry;
 use crate::writing::{WriteFault, put};
-use halfedge_arena::{Arena, Kind};
+use euler_conditions::Arena;
+use euler_operators::Kind;
 use std::io::Write;
 
 /// Writes a line for each thing of a kind, by rising number.

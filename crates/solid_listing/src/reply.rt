@@ -7,7 +7,7 @@ ghost use Rattle.solid_listing.specs.Writing.{Puts};
 
 use crate::text::{Text, append, line, words};
 use crate::writing::{WriteFault, put};
-use lattice::Plane;
+use euler_operators::Plane;
 use std::io::Write;
 
 /// The answer to a command, or to a line that is none.

@@ -1,12 +1,12 @@
 -- The sum of cross products that a walk round a loop makes.
 use Rattle.std.proofs.Common.{◌≡◌, ◌≢◌, ℕ, ◌+◌, [], ◌∷◌, ◌++◌, sym, ap, subst, ◌∙◌, arith}
-use Rattle.lattice.specs.declared.Point.{Point}
-use Rattle.lattice.specs.Ranges.{IsVectorWithin, normal_limit}
-use Rattle.lattice.specs.Vectors.{moved, cross}
-use Rattle.cyclic_list.specs.Items.{IsIn}
-use Rattle.boundary_model.specs.declared.Content.{Content}
-use Rattle.boundary_model.specs.Model.{Model, LoopContent, lone, cycle, items_of, content, after}
-use Rattle.boundary_model.specs.Sound.{Sound}
+use Rattle.euler_operators.specs.declared.Point.{Point}
+use Rattle.euler_operators.specs.Ranges.{IsVectorWithin, normal_limit}
+use Rattle.euler_operators.specs.Vectors.{moved, cross}
+use Rattle.euler_operators.specs.Items.{IsIn}
+use Rattle.euler_operators.specs.declared.Content.{Content}
+use Rattle.euler_operators.specs.Model.{Model, LoopContent, lone, cycle, items_of, content, after}
+use Rattle.euler_operators.specs.Sound.{Sound}
 use Rattle.euler_conditions.specs.Store.{Tells}
 use Rattle.euler_conditions.proofs.Parallel.{steps}
 use Rattle.shapes.specs.Faces.{start, finish}

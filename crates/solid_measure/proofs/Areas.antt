@@ -2,16 +2,16 @@
 use Rattle.std.proofs.Common.{◌≡◌, ℕ, ◌+◌, ◌*◌, ◌≤◌, List, [], ◌∷◌, ◌++◌, length, Some, None, Option, refl, sym, ap, ◌∙◌, arith}
 use Rattle.std.specs.Prelude.{◌*ℤ◌, unwrap_or}
 use Rattle.std.proofs.Math.IntN.{+ℤ_comm, +ℤ_assoc, +ℤ_idl, +ℤ_idr}
-use Rattle.lattice.specs.declared.Point.{Point}
-use Rattle.lattice.specs.Point.{IsInRange}
-use Rattle.lattice.specs.Ranges.{IsVectorWithin}
-use Rattle.lattice.specs.Vectors.{origin, moved, cross}
-use Rattle.lattice.proofs.Magnitudes.{coordinates, coordinate_within, product_within, sum_within, difference_within}
-use Rattle.cyclic_list.specs.Rings.{IsRotation}
-use Rattle.boundary_model.specs.HalfEdge.{mate}
-use Rattle.boundary_model.specs.Table as table
-use Rattle.boundary_model.specs.Model.{Model, tail, point_of, no_point}
-use Rattle.boundary_model.specs.Sound.{Sound}
+use Rattle.euler_operators.specs.declared.Point.{Point}
+use Rattle.euler_operators.specs.Points.{IsInRange}
+use Rattle.euler_operators.specs.Ranges.{IsVectorWithin}
+use Rattle.euler_operators.specs.Vectors.{origin, moved, cross}
+use Rattle.euler_operators.proofs.Magnitudes.{coordinates, coordinate_within, product_within, sum_within, difference_within}
+use Rattle.euler_operators.specs.Rings.{IsRotation}
+use Rattle.euler_operators.specs.HalfEdge.{mate}
+use Rattle.euler_operators.specs.Table as table
+use Rattle.euler_operators.specs.Model.{Model, tail, point_of, no_point}
+use Rattle.euler_operators.specs.Sound.{Sound}
 use Rattle.shapes.specs.Faces.{start, finish}
 pub use Rattle.shapes.proofs.Areas.{same_vector, moved_more, moved_turned, moved_nothing, nothing_moved, area-append, area_turned, area_push}
 use Rattle.solid_measure.specs.Measure.{area, area_limit}

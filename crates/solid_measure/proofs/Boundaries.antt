@@ -1,12 +1,12 @@
 -- The sum of cross products over the loops of a face.
 use Rattle.std.proofs.Common.{◌≡◌, ℕ, [], ◌∷◌, ◌++◌, Some, None, sym, ap, ◌∙◌}
 use Rattle.std.proofs.lemmas.List.{append-nil}
-use Rattle.boundary_model.specs.Model.{Model, items_of, content, outer}
-use Rattle.boundary_model.specs.Sound.{Sound}
+use Rattle.euler_operators.specs.Model.{Model, items_of, content, outer}
+use Rattle.euler_operators.specs.Sound.{Sound}
 use Rattle.euler_conditions.specs.Store.{IsNextRing}
-use Rattle.lattice.specs.declared.Point.{Point}
-use Rattle.lattice.specs.Ranges.{IsVectorWithin}
-use Rattle.lattice.specs.Vectors.{origin, moved}
+use Rattle.euler_operators.specs.declared.Point.{Point}
+use Rattle.euler_operators.specs.Ranges.{IsVectorWithin}
+use Rattle.euler_operators.specs.Vectors.{origin, moved}
 use Rattle.shapes.specs.Faces.{items_in, boundary}
 use Rattle.solid_walks.proofs.FaceLoops.{loops_to, items_joined, different_items, loops_apart, loops_none, loops_more, loops_all}
 use Rattle.solid_measure.specs.Measure.{area, area_limit, normal}

@@ -1,12 +1,12 @@
 -- The least half-edge that a walk round a loop has met.
 use Rattle.std.proofs.Common.{◌≡◌, ◌≢◌, ℕ, ◌+◌, ◌≤◌, min, List, [], ◌∷◌, ◌++◌, sym, ap, subst, ◌∙◌, arith, ◌⊎◌, inl, inr}
 use Rattle.std.proofs.lemmas.Bool.Decides.{eqb_tells}
-use Rattle.cyclic_list.specs.Items.{least, head_or, IsIn}
-use Rattle.cyclic_list.specs.Rings.{IsRotation}
-use Rattle.cyclic_list.proofs.Lists.{count-append, tick_other, least_le, least_in}
-use Rattle.cyclic_list.proofs.Rotations.{IsRotation-same, head_canonical}
-use Rattle.boundary_model.specs.Model.{Model, items_of, content, after}
-use Rattle.boundary_model.specs.Sound.{Sound}
+use Rattle.euler_operators.specs.Items.{least, head_or, IsIn}
+use Rattle.euler_operators.specs.Rings.{IsRotation}
+use Rattle.euler_operators.proofs.Lists.{count-append, tick_other, least_le, least_in}
+use Rattle.euler_operators.proofs.Rotations.{IsRotation-same, head_canonical}
+use Rattle.euler_operators.specs.Model.{Model, items_of, content, after}
+use Rattle.euler_operators.specs.Sound.{Sound}
 use Rattle.euler_conditions.proofs.Parallel.{steps}
 use Rattle.solid_walks.proofs.Rounds.{Round, round_start, round_more, round_closed, round_ended, items_from_least}
 

@@ -3,12 +3,12 @@ use Rattle.std.proofs.Common.{◌≡◌, ℕ, ◌≤◌, ℤ, pos, sym, ap, subs
 use Rattle.std.specs.Prelude.{◌-ℤ◌, neg_ℤ, FitsSigned}
 use Rattle.std.proofs.lemmas.Int.{ints}
 use mir.Syntax.{w128}
-use Rattle.lattice.specs.declared.Point.{Point}
-use Rattle.lattice.specs.declared.Plane.{Plane}
-use Rattle.lattice.specs.Ranges.{IsWithin, IsVectorWithin, IsPlane, normal_limit, offset_limit}
-use Rattle.lattice.specs.Vectors.{dot}
-use Rattle.lattice.proofs.Magnitudes.{fits, fits_as, held, held_is, held_as}
-use Rattle.boundary_model.specs.Model.{Model}
+use Rattle.euler_operators.specs.declared.Point.{Point}
+use Rattle.euler_operators.specs.declared.Plane.{Plane}
+use Rattle.euler_operators.specs.Ranges.{IsWithin, IsVectorWithin, IsPlane, normal_limit, offset_limit}
+use Rattle.euler_operators.specs.Vectors.{dot}
+use Rattle.euler_operators.proofs.Magnitudes.{fits, fits_as, held, held_is, held_as}
+use Rattle.euler_operators.specs.Model.{Model}
 use Rattle.solid_measure.specs.Measure.{area_limit, anchor, normal, plane_of, plane_through}
 
 abbrev held_vector : Point → Point

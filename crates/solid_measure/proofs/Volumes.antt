@@ -4,13 +4,13 @@ use Rattle.std.specs.Prelude.{◌+ℤ◌, ◌*ℤ◌, FitsSigned}
 use mir.Syntax.{w128}
 use Rattle.std.proofs.lemmas.List.{length-append}
 use Rattle.std.proofs.Math.IntN.{+ℤ_assoc, +ℤ_idl, +ℤ_idr, *ℤ_comm}
-use Rattle.lattice.specs.declared.Point.{Point}
-use Rattle.lattice.specs.Point.{IsInRange}
-use Rattle.lattice.specs.Ranges.{IsWithin, IsVectorWithin}
-use Rattle.lattice.specs.Vectors.{dot}
-use Rattle.lattice.proofs.Magnitudes.{coordinates, coordinate_within, product_within, sum_within, fits, fits_as, held, held_is, held_as}
-use Rattle.boundary_model.specs.Model.{Model, faces_of}
-use Rattle.boundary_model.specs.Sound.{Sound}
+use Rattle.euler_operators.specs.declared.Point.{Point}
+use Rattle.euler_operators.specs.Points.{IsInRange}
+use Rattle.euler_operators.specs.Ranges.{IsWithin, IsVectorWithin}
+use Rattle.euler_operators.specs.Vectors.{dot}
+use Rattle.euler_operators.proofs.Magnitudes.{coordinates, coordinate_within, product_within, sum_within, fits, fits_as, held, held_is, held_as}
+use Rattle.euler_operators.specs.Model.{Model, faces_of}
+use Rattle.euler_operators.specs.Sound.{Sound}
 use Rattle.euler_conditions.specs.Store.{IsNextFace}
 use Rattle.shapes.specs.Faces.{items_in, loops_of, boundary}
 use Rattle.solid_walks.specs.Walks.{loops_in}

@@ -1,10 +1,10 @@
 //! Normals and planes of faces that are there.
 ghost use Rattle.std.specs.Prelude.{◌≡◌, true, not};
 ghost use Rattle.std.specs.List.{list_all};
-ghost use Rattle.lattice.specs.Point.{IsInRange};
-ghost use Rattle.lattice.specs.Ranges.{IsPlane, IsVectorWithin, IsWithin};
-ghost use Rattle.lattice.specs.Vectors.{direction, dot, is_on, origin, same_point};
-ghost use Rattle.boundary_model.specs.Model.{point_of, rings_of};
+ghost use Rattle.euler_operators.specs.Points.{IsInRange};
+ghost use Rattle.euler_operators.specs.Ranges.{IsPlane, IsVectorWithin, IsWithin};
+ghost use Rattle.euler_operators.specs.Vectors.{direction, dot, is_on, origin, same_point};
+ghost use Rattle.euler_operators.specs.Model.{point_of, rings_of};
 ghost use Rattle.euler_conditions.specs.Store.{has_number};
 ghost use Rattle.euler_conditions.specs.Ready.{IsReady};
 ghost use Rattle.shapes.specs.Faces.{corners, vertices_in};
@@ -12,8 +12,8 @@ ghost use Rattle.solid_measure.specs.Measure.{anchor, area_limit, is_flat, norma
 
 use crate::loops::{least_item, loop_added, loop_lies_on};
 use crate::{Vector, halves};
-use euler_conditions::{Arena, Content, Kind};
-use lattice::{Plane, Point, dot};
+use euler_conditions::Arena;
+use euler_operators::{Content, Kind, Plane, Point, dot};
 
 /// The face's normal: the sum of the cross products over the half-edges of its loops.
 pub(crate) fn normal_of(arena: &Arena, f: u32) -> Vector

@@ -1,14 +1,14 @@
 //! What an arena says of a half-edge whose edge is there.
 ghost use Rattle.std.specs.Prelude.{◌≡◌, true};
-ghost use Rattle.lattice.specs.Point.{IsInRange};
-ghost use Rattle.boundary_model.specs.HalfEdge.{code};
-ghost use Rattle.boundary_model.specs.Model.{point_of};
+ghost use Rattle.euler_operators.specs.Points.{IsInRange};
+ghost use Rattle.euler_operators.specs.HalfEdge.{code};
+ghost use Rattle.euler_operators.specs.Model.{point_of};
 ghost use Rattle.euler_conditions.specs.Store.{has_number};
 ghost use Rattle.euler_conditions.specs.Ready.{IsReady};
 ghost use Rattle.shapes.specs.Faces.{start, finish};
 
-use euler_conditions::{Arena, HalfEdge, Kind};
-use lattice::Point;
+use euler_conditions::Arena;
+use euler_operators::{HalfEdge, Kind, Point};
 
 /// The point at which the half-edge starts.
 pub(crate) fn start(arena: &Arena, h: HalfEdge) -> Point

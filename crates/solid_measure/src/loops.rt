@@ -1,20 +1,20 @@
 //! Walks round the loops of a face.
 ghost use Rattle.std.specs.Prelude.{◌≡◌, ◌≤◌, true, min, map};
 ghost use Rattle.std.specs.List.{list_all};
-ghost use Rattle.lattice.specs.Point.{IsInRange};
-ghost use Rattle.lattice.specs.Ranges.{IsPlane, IsVectorWithin, normal_limit};
-ghost use Rattle.lattice.specs.Vectors.{moved, cross, is_on};
-ghost use Rattle.cyclic_list.specs.Items.{IsIn, head_or};
-ghost use Rattle.boundary_model.specs.HalfEdge.{code};
-ghost use Rattle.boundary_model.specs.Model.{items_of, content, point_of, tail};
+ghost use Rattle.euler_operators.specs.Points.{IsInRange};
+ghost use Rattle.euler_operators.specs.Ranges.{IsPlane, IsVectorWithin, normal_limit};
+ghost use Rattle.euler_operators.specs.Vectors.{moved, cross, is_on};
+ghost use Rattle.euler_operators.specs.Items.{IsIn, head_or};
+ghost use Rattle.euler_operators.specs.HalfEdge.{code};
+ghost use Rattle.euler_operators.specs.Model.{items_of, content, point_of, tail};
 ghost use Rattle.euler_conditions.specs.Store.{has_number};
 ghost use Rattle.euler_conditions.specs.Ready.{IsReady};
 ghost use Rattle.shapes.specs.Faces.{start, finish, vertices_on};
 ghost use Rattle.solid_measure.specs.Measure.{area, area_limit, read};
 
 use crate::{Vector, halves};
-use euler_conditions::{Arena, Content, HalfEdge, Kind};
-use lattice::{Plane, Point, Sign, cross_add, side};
+use euler_conditions::Arena;
+use euler_operators::{Content, HalfEdge, Kind, Plane, Point, Sign, cross_add, side};
 use solid_walks::{next, same};
 
 /// More than the half-edges that an arena can have.

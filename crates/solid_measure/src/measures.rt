@@ -1,16 +1,15 @@
 //! Measures of faces and solids by number.
 ghost use Rattle.std.specs.Prelude.{◌≡◌};
-ghost use Rattle.lattice.specs.Vectors.{numbers_of};
-ghost use Rattle.boundary_model.specs.Model.{is_number};
+ghost use Rattle.euler_operators.specs.Vectors.{numbers_of};
+ghost use Rattle.euler_operators.specs.Model.{is_number};
 ghost use Rattle.euler_conditions.specs.Store.{has_number};
 ghost use Rattle.euler_conditions.specs.Ready.{IsReady};
 ghost use Rattle.solid_measure.specs.Measure.{answer, face_refusal, is_flat, normal, plane_of, six_volume, solid_refusal};
 
 use crate::faces;
 use crate::solid_counts::refusal_of_solid;
-use euler_conditions::{Arena, Kind};
-use euler_operators::{Refusal, Why};
-use lattice::Plane;
+use euler_conditions::Arena;
+use euler_operators::{Kind, Plane, Refusal, Why};
 
 /// Whether the number lies from 1 to the limit.
 fn is_number(n: u32) -> bool

@@ -1,16 +1,16 @@
 -- The normals of a solid's faces sum to nothing: each edge has both its halves there.
 use Rattle.std.proofs.Common.{◌≡◌, ◌≢◌, ℕ, ◌+◌, ◌≤◌, Bool, true, false, cond, not, nat_eq, ◌&&◌, List, [], ◌∷◌, ◌++◌, map, is_some, refl, sym, ap, ◌∙◌, ◌+ℤ◌, arith, inl, inr, true≢false}
 use Rattle.std.proofs.lemmas.Bool.Decides.{nat_tests, eqb_tells}
-use Rattle.lattice.specs.declared.Point.{Point}
-use Rattle.lattice.specs.Vectors.{origin, moved, dot}
-use Rattle.cyclic_list.specs.Items.{count, tick, IsIn}
-use Rattle.cyclic_list.proofs.Lists.{count-append, tick_same, tick_other, IsIn_or_not}
-use Rattle.boundary_model.specs.HalfEdge.{mate}
-use Rattle.boundary_model.specs.Table as table
-use Rattle.boundary_model.specs.Model.{Model, has_half, items_of, holds, content, loop_of, face_of, outer, solid_of, rings_of, faces_of}
-use Rattle.boundary_model.specs.Sound.{Sound, Has, HasHalf}
-use Rattle.boundary_model.proofs.Halves.{edge_of-mate}
-use Rattle.boundary_model.proofs.Models.{in-holds, holds_in, held_row}
+use Rattle.euler_operators.specs.declared.Point.{Point}
+use Rattle.euler_operators.specs.Vectors.{origin, moved, dot}
+use Rattle.euler_operators.specs.Items.{count, tick, IsIn}
+use Rattle.euler_operators.proofs.Lists.{count-append, tick_same, tick_other, IsIn_or_not}
+use Rattle.euler_operators.specs.HalfEdge.{mate}
+use Rattle.euler_operators.specs.Table as table
+use Rattle.euler_operators.specs.Model.{Model, has_half, items_of, holds, content, loop_of, face_of, outer, solid_of, rings_of, faces_of}
+use Rattle.euler_operators.specs.Sound.{Sound, Has, HasHalf}
+use Rattle.euler_operators.proofs.Halves.{edge_of-mate}
+use Rattle.euler_operators.proofs.Models.{in-holds, holds_in, held_row}
 use Rattle.euler_operators.specs.Conditions.{lists, strictly_rises}
 use Rattle.euler_laws.proofs.shared.Listed.{first_listed, rest_listed, listed_cases, listed_passes, listed_as, all_where-rises}
 use Rattle.euler_laws.proofs.shared.Loops.{light}
@@ -20,7 +20,7 @@ use Rattle.shapes.specs.Measure.{area, normal, six_volume}
 use Rattle.shapes.proofs.Areas.{area-append}
 use Rattle.solid_walks.proofs.FaceLoops.{items_there}
 use Rattle.solid_walks.proofs.Rising.{counted_once, none_counted}
-use Rattle.lattice.proofs.Vectors.{dot_turned, dot_origin, add_none}
+use Rattle.euler_operators.proofs.Vectors.{dot_turned, dot_origin, add_none}
 use Rattle.solid_measure_laws.specs.Models.{shifted, normals_in}
 use Rattle.solid_measure_laws.proofs.Paths.{rest_in}
 use Rattle.solid_measure_laws.proofs.Sums.{area_same, area_mates, own_opposite, count-mates}

@@ -5,11 +5,11 @@ use Rattle.std.specs.Ordering.{int_eq}
 use Rattle.std.specs.Cmp.{signed_Decides}
 use Rattle.std.proofs.lemmas.Int.{ints, quot-rem}
 use Rattle.std.proofs.Math.Nat.{div-zero, zero-div, zero-mod}
-use Rattle.lattice.specs.declared.Point.{Point}
-use Rattle.lattice.specs.declared.Plane.{Plane}
-use Rattle.lattice.specs.Vectors.{origin, moved, cross, height, is_on, opposite, are_opposite, cut_multiple, cuts_lattice, cut_between}
-use Rattle.lattice.proofs.Integers.{dif, dif-parts, difs, neg-dif, same_dif, number}
-use Rattle.lattice.proofs.Vectors.{same_vector, moved_none}
+use Rattle.euler_operators.specs.declared.Point.{Point}
+use Rattle.euler_operators.specs.declared.Plane.{Plane}
+use Rattle.euler_operators.specs.Vectors.{origin, moved, cross, height, is_on, opposite, are_opposite, cut_multiple, cuts_lattice, cut_between}
+use Rattle.euler_operators.proofs.Integers.{dif, dif-parts, difs, neg-dif, same_dif, number}
+use Rattle.euler_operators.proofs.Vectors.{same_vector, moved_none}
 use Rattle.solid_measure_laws.specs.Vectors.{scaled, towards}
 use Rattle.solid_measure_laws.proofs.Products.{no_product}
 

@@ -3,17 +3,17 @@ use Rattle.std.proofs.Common.{◌≡◌, ◌≢◌, ℕ, Bool, true, false, not,
 use Rattle.std.specs.List.{list_all}
 use Rattle.std.specs.Cmp.{signed_Decides}
 use Rattle.std.proofs.lemmas.Int.{ints}
-use Rattle.lattice.specs.declared.Point.{Point}
-use Rattle.lattice.specs.declared.Plane.{Plane}
-use Rattle.lattice.specs.Vectors.{origin, moved, dot, cross, same_point, is_on, height, direction}
-use Rattle.boundary_model.specs.Model.{Model, LoopContent, lone, cycle, items_of, tail, content, outer, point_of}
-use Rattle.boundary_model.specs.Sound.{Sound, Has}
+use Rattle.euler_operators.specs.declared.Point.{Point}
+use Rattle.euler_operators.specs.declared.Plane.{Plane}
+use Rattle.euler_operators.specs.Vectors.{origin, moved, dot, cross, same_point, is_on, height, direction}
+use Rattle.euler_operators.specs.Model.{Model, LoopContent, lone, cycle, items_of, tail, content, outer, point_of}
+use Rattle.euler_operators.specs.Sound.{Sound, Has}
 use Rattle.euler_operators.specs.Conditions.{lists}
 use Rattle.euler_laws.proofs.shared.Listed.{listed_cases}
 use Rattle.shapes.specs.Faces.{start, finish, loops_of, items_in, boundary, vertices_on, vertices_in, corners}
 use Rattle.shapes.specs.Measure.{area, normal, anchor, first_vertex, plane_through, plane_of, is_plane_of, is_flat}
 use Rattle.shapes.proofs.Areas.{area-append}
-use Rattle.lattice.proofs.Vectors.{dot_turned}
+use Rattle.euler_operators.proofs.Vectors.{dot_turned}
 use Rattle.solid_measure_laws.specs.Vectors.{scaled, towards}
 use Rattle.solid_measure_laws.proofs.Products.{cross_moved, cross_nothing, flat_step, no_way, same_part}
 use Rattle.solid_measure_laws.proofs.Paths.{begins, Leads, IsClosed, loop_closed}

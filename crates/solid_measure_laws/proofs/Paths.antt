@@ -1,13 +1,13 @@
 -- Paths of half-edges, each of which ends where the next one starts; the loops of a sound model are closed ones.
 use Rattle.std.proofs.Common.{◌≡◌, ℕ, List, [], ◌∷◌, refl, sym, ap, ◌∙◌, arith}
-use Rattle.lattice.specs.declared.Point.{Point}
-use Rattle.lattice.specs.Vectors.{origin}
-use Rattle.cyclic_list.specs.Items.{IsIn, head_or}
-use Rattle.cyclic_list.specs.Rings.{IsPath, IsRing}
-use Rattle.cyclic_list.proofs.Lists.{tick_same}
-use Rattle.boundary_model.specs.Model.{Model, items_of, content, point_of, after}
-use Rattle.boundary_model.specs.Sound.{Sound}
-use Rattle.boundary_model.proofs.Models.{in-holds}
+use Rattle.euler_operators.specs.declared.Point.{Point}
+use Rattle.euler_operators.specs.Vectors.{origin}
+use Rattle.euler_operators.specs.Items.{IsIn, head_or}
+use Rattle.euler_operators.specs.Rings.{IsPath, IsRing}
+use Rattle.euler_operators.proofs.Lists.{tick_same}
+use Rattle.euler_operators.specs.Model.{Model, items_of, content, point_of, after}
+use Rattle.euler_operators.specs.Sound.{Sound}
+use Rattle.euler_operators.proofs.Models.{in-holds}
 use Rattle.euler_laws.proofs.shared.Loops.{light}
 use Rattle.shapes.specs.Faces.{start, finish}
 

@@ -2,23 +2,23 @@
 use Rattle.std.proofs.Common.{◌≡◌, ◌≢◌, ℕ, nat_eq, ℤ, pos, ◌+ℤ◌, ◌-ℤ◌, ◌*ℤ◌, true, List, [], ◌∷◌, ◌++◌, Option, Some, None, is_some, unwrap_or, refl, sym, ap, ◌∙◌, arith, true≢false}
 use Rattle.std.specs.Option.{option_map}
 use Rattle.std.proofs.lemmas.Int.{ints}
-use Rattle.lattice.specs.declared.Point.{Point}
-use Rattle.lattice.specs.Vectors.{origin, moved, dot, cross}
-use Rattle.cyclic_list.specs.Items.{IsIn}
-use Rattle.boundary_model.specs.HalfEdge.{mate}
-use Rattle.boundary_model.specs.Table as table
-use Rattle.boundary_model.specs.Table.{get-map_rows}
-use Rattle.boundary_model.specs.Model.{Model, LoopContent, lone, cycle, no_point, items_of, tail, content, outer, point_of, faces_of}
-use Rattle.boundary_model.specs.Sound.{Sound, Has, HasHalf}
-use Rattle.boundary_model.proofs.Halves.{edge_of-mate}
-use Rattle.boundary_model.proofs.Models.{in-holds}
+use Rattle.euler_operators.specs.declared.Point.{Point}
+use Rattle.euler_operators.specs.Vectors.{origin, moved, dot, cross}
+use Rattle.euler_operators.specs.Items.{IsIn}
+use Rattle.euler_operators.specs.HalfEdge.{mate}
+use Rattle.euler_operators.specs.Table as table
+use Rattle.euler_operators.specs.Table.{get-map_rows}
+use Rattle.euler_operators.specs.Model.{Model, LoopContent, lone, cycle, no_point, items_of, tail, content, outer, point_of, faces_of}
+use Rattle.euler_operators.specs.Sound.{Sound, Has, HasHalf}
+use Rattle.euler_operators.proofs.Halves.{edge_of-mate}
+use Rattle.euler_operators.proofs.Models.{in-holds}
 use Rattle.euler_operators.specs.Conditions.{lists}
 use Rattle.euler_laws.proofs.shared.Listed.{first_listed, rest_listed, listed_passes}
 use Rattle.shapes.specs.Faces.{start, finish, loops_of, items_in, boundary}
 use Rattle.shapes.specs.Measure.{area, normal, anchor, first_vertex, volume_in, six_volume}
 use Rattle.shapes.proofs.Areas.{area-append}
-use Rattle.lattice.proofs.Integers.{dif, dif-parts, difs, same_dif}
-use Rattle.lattice.proofs.Vectors.{same_vector, moved_none, dot_moved, dot_turned, dot_origin}
+use Rattle.euler_operators.proofs.Integers.{dif, dif-parts, difs, same_dif}
+use Rattle.euler_operators.proofs.Vectors.{same_vector, moved_none, dot_moved, dot_turned, dot_origin}
 use Rattle.solid_measure_laws.specs.Vectors.{towards}
 use Rattle.solid_measure_laws.specs.Models.{shifted, normals_in}
 use Rattle.solid_measure_laws.proofs.Products.{cross_nothing}

@@ -3,20 +3,20 @@ use Rattle.std.proofs.Common.{◌≡◌, ℕ, ◌+◌, ℤ, pos, ◌+ℤ◌, ◌
 use Rattle.std.proofs.lemmas.Bool.Decides.{eqb_tells}
 use Rattle.std.proofs.lemmas.Int.{ints}
 use Rattle.std.proofs.lemmas.List.Sorted.{IsPermutation-reverse}
-use Rattle.lattice.specs.declared.Point.{Point}
-use Rattle.lattice.specs.Vectors.{origin, moved, dot, cross}
-use Rattle.cyclic_list.specs.Items.{count, tick, IsIn, SameItems, before, after}
-use Rattle.cyclic_list.proofs.Lists.{count-append, tick_same, tick_other, split_at}
-use Rattle.cyclic_list.proofs.Std.{SameItems-from_permutation}
-use Rattle.boundary_model.specs.HalfEdge.{mate}
-use Rattle.boundary_model.specs.Model.{Model}
-use Rattle.boundary_model.proofs.Halves.{mate-mate}
+use Rattle.euler_operators.specs.declared.Point.{Point}
+use Rattle.euler_operators.specs.Vectors.{origin, moved, dot, cross}
+use Rattle.euler_operators.specs.Items.{count, tick, IsIn, SameItems, before, after}
+use Rattle.euler_operators.proofs.Lists.{count-append, tick_same, tick_other, split_at}
+use Rattle.euler_operators.proofs.Std.{SameItems-from_permutation}
+use Rattle.euler_operators.specs.HalfEdge.{mate}
+use Rattle.euler_operators.specs.Model.{Model}
+use Rattle.euler_operators.proofs.Halves.{mate-mate}
 use Rattle.euler_laws.proofs.shared.Rows.{no_items}
 use Rattle.shapes.specs.Faces.{start, finish}
 use Rattle.shapes.specs.Measure.{area}
 use Rattle.shapes.proofs.Areas.{area-append}
-use Rattle.lattice.proofs.Integers.{dif, dif-parts, difs, neg-dif, same_dif}
-use Rattle.lattice.proofs.Vectors.{same_vector}
+use Rattle.euler_operators.proofs.Integers.{dif, dif-parts, difs, neg-dif, same_dif}
+use Rattle.euler_operators.proofs.Vectors.{same_vector}
 use Rattle.solid_measure_laws.specs.Vectors.{negated}
 use Rattle.solid_measure_laws.proofs.Paths.{first_in, rest_in}
 

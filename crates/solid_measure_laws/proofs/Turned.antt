@@ -1,14 +1,14 @@
 -- A model with its loops run the other way.
 use Rattle.std.proofs.Common.{◌≡◌, ℕ, Bool, cond, not, nat_eq, ◌&&◌, List, [], ◌∷◌, map, reverse, Option, Some, None, unwrap_or, refl, sym, ap, ◌∙◌}
 use Rattle.std.specs.Option.{option_map}
-use Rattle.lattice.specs.Vectors.{moved, cross}
-use Rattle.cyclic_list.specs.Items.{SameItems}
-use Rattle.cyclic_list.specs.Rings.{canonical}
-use Rattle.cyclic_list.proofs.Rotations.{canonical_nil, count-canonical}
-use Rattle.boundary_model.specs.HalfEdge.{mate}
-use Rattle.boundary_model.specs.Table as table
-use Rattle.boundary_model.specs.Table.{Table, all_in, map_entries, map_rows, get-map_rows}
-use Rattle.boundary_model.specs.Model.{Model, LoopContent, lone, cycle, LoopRow, no_loop, items_of, tail, content, outer, point_of, rings_of}
+use Rattle.euler_operators.specs.Vectors.{moved, cross}
+use Rattle.euler_operators.specs.Items.{SameItems}
+use Rattle.euler_operators.specs.Rings.{canonical}
+use Rattle.euler_operators.proofs.Rotations.{canonical_nil, count-canonical}
+use Rattle.euler_operators.specs.HalfEdge.{mate}
+use Rattle.euler_operators.specs.Table as table
+use Rattle.euler_operators.specs.Table.{Table, all_in, map_entries, map_rows, get-map_rows}
+use Rattle.euler_operators.specs.Model.{Model, LoopContent, lone, cycle, LoopRow, no_loop, items_of, tail, content, outer, point_of, rings_of}
 use Rattle.shapes.specs.Faces.{start, loops_of, items_in, boundary}
 use Rattle.shapes.specs.Measure.{area, normal}
 use Rattle.shapes.proofs.Areas.{area-append}

@@ -1,13 +1,13 @@
 -- What normals and volumes obey.
 use Rattle.std.specs.Prelude.{◌≡◌, ℕ, ◌+◌, ◌<◌, pos, ◌+ℤ◌, neg_ℤ, unsigned_abs, true, List, map, reverse}
 use Rattle.std.specs.List.{list_all}
-use Rattle.lattice.specs.declared.Point.{Point}
-use Rattle.lattice.specs.declared.Plane.{Plane}
-use Rattle.lattice.specs.Vectors.{origin, moved, dot, cross, height, is_on, are_opposite, cuts_lattice, cut_between}
-use Rattle.cyclic_list.specs.Items.{SameItems}
-use Rattle.boundary_model.specs.HalfEdge.{mate}
-use Rattle.boundary_model.specs.Model.{Model, point_of, faces_of}
-use Rattle.boundary_model.specs.Sound.{Sound, Has}
+use Rattle.euler_operators.specs.declared.Point.{Point}
+use Rattle.euler_operators.specs.declared.Plane.{Plane}
+use Rattle.euler_operators.specs.Vectors.{origin, moved, dot, cross, height, is_on, are_opposite, cuts_lattice, cut_between}
+use Rattle.euler_operators.specs.Items.{SameItems}
+use Rattle.euler_operators.specs.HalfEdge.{mate}
+use Rattle.euler_operators.specs.Model.{Model, point_of, faces_of}
+use Rattle.euler_operators.specs.Sound.{Sound, Has}
 use Rattle.euler_operators.specs.Conditions.{lists}
 use Rattle.shapes.specs.Faces.{boundary, corners}
 use Rattle.shapes.specs.Measure.{area, normal, anchor, is_plane_of, is_flat, six_volume}

@@ -1,11 +1,11 @@
 -- A model with its loops run the other way, a model moved, and the sum of normals.
 use Rattle.std.specs.Prelude.{ℕ, List, [], ◌∷◌, map, reverse}
-use Rattle.lattice.specs.declared.Point.{Point}
-use Rattle.lattice.specs.Vectors.{origin, moved}
-use Rattle.cyclic_list.specs.Rings.{canonical}
-use Rattle.boundary_model.specs.HalfEdge.{mate}
-use Rattle.boundary_model.specs.Table.{map_rows}
-use Rattle.boundary_model.specs.Model.{Model, LoopContent, LoopRow, lone, cycle}
+use Rattle.euler_operators.specs.declared.Point.{Point}
+use Rattle.euler_operators.specs.Vectors.{origin, moved}
+use Rattle.euler_operators.specs.Rings.{canonical}
+use Rattle.euler_operators.specs.HalfEdge.{mate}
+use Rattle.euler_operators.specs.Table.{map_rows}
+use Rattle.euler_operators.specs.Model.{Model, LoopContent, LoopRow, lone, cycle}
 use Rattle.shapes.specs.Measure.{normal}
 
 -- the other halves of a loop's edges, in the opposite order

@@ -1,6 +1,6 @@
 -- Vectors turned, multiplied, and from one point to another.
 use Rattle.std.specs.Prelude.{ℤ, ◌-ℤ◌, ◌*ℤ◌, neg_ℤ}
-use Rattle.lattice.specs.declared.Point.{Point}
+use Rattle.euler_operators.specs.declared.Point.{Point}
 
 -- the opposite vector
 abbrev pub negated : Point → Point

@@ -1,12 +1,12 @@
 -- Of the half-edges at a vertex the one of the least edge leads, and no other.
 use Rattle.std.proofs.Common.{◌≡◌, ℕ, ◌≤◌, ◌<◌, Bool, true, false, cond, nat_eq, ◌||◌, List, [], ◌∷◌, Some, is_some, refl, sym, ap, ◌∙◌, arith, true≢false, ◌⊎◌, inl, inr}
-use Rattle.boundary_model.specs.HalfEdge.{edge_of, plus, minus}
-use Rattle.boundary_model.specs.Table as table
-use Rattle.boundary_model.specs.Table.{Table, first_where, all_where, first_in, all_in}
-use Rattle.boundary_model.specs.Model.{Model, EdgeRow, tail, tail_in}
-use Rattle.boundary_model.specs.Sound.{Sound, HasHalf}
-use Rattle.boundary_model.proofs.Halves.{plus_row, minus_row, same_edge}
-use Rattle.boundary_model.proofs.Models.{tail_row}
+use Rattle.euler_operators.specs.HalfEdge.{edge_of, plus, minus}
+use Rattle.euler_operators.specs.Table as table
+use Rattle.euler_operators.specs.Table.{Table, first_where, all_where, first_in, all_in}
+use Rattle.euler_operators.specs.Model.{Model, EdgeRow, tail, tail_in}
+use Rattle.euler_operators.specs.Sound.{Sound, HasHalf}
+use Rattle.euler_operators.proofs.Halves.{plus_row, minus_row, same_edge}
+use Rattle.euler_operators.proofs.Models.{tail_row}
 use Rattle.euler_operators.specs.Conditions.{lists, strictly_rises}
 use Rattle.euler_operators.specs.Effect.{head_or_zero}
 use Rattle.euler_laws.proofs.shared.Arcs.{halves_of_edge}

@@ -2,16 +2,16 @@
 use Rattle.std.proofs.Common.{◌≡◌, ◌≢◌, ℕ, ◌+◌, ◌≤◌, ◌<◌, true, false, List, [], ◌∷◌, ◌++◌, length, refl, sym, ap, subst, ◌∙◌, arith, ◌⊎◌, inl, inr}
 use Rattle.std.proofs.lemmas.Bool.Decides.{eqb_tells}
 use Rattle.std.proofs.lemmas.List.{length-append}
-use Rattle.cyclic_list.specs.Items.{count, tick, IsIn, IsApart, last_or}
-use Rattle.cyclic_list.specs.Rings.{rest, successor, predecessor, IsPath}
-use Rattle.cyclic_list.proofs.Lists.{count-append, tick_same, tick_other}
-use Rattle.cyclic_list.proofs.Rings.{rotation_at, count_at, IsRing-same, front_of, IsPath-left, IsPath_at, IsIn_predecessor, predecessor-successor}
-use Rattle.boundary_model.specs.declared.HalfEdge.{HalfEdge}
-use Rattle.boundary_model.specs.HalfEdge.{code, mate, edge_of}
-use Rattle.boundary_model.specs.Model.{Model, items_of, content, cycle_of, loop_of, tail, after, before, round}
-use Rattle.boundary_model.specs.Sound.{Sound, HasHalf}
-use Rattle.boundary_model.proofs.Halves.{edge_of-code, mate-mate}
-use Rattle.boundary_model.proofs.Models.{in-holds, cycle_there, cycle_sound}
+use Rattle.euler_operators.specs.Items.{count, tick, IsIn, IsApart, last_or}
+use Rattle.euler_operators.specs.Rings.{rest, successor, predecessor, IsPath}
+use Rattle.euler_operators.proofs.Lists.{count-append, tick_same, tick_other}
+use Rattle.euler_operators.proofs.Rings.{rotation_at, count_at, IsRing-same, front_of, IsPath-left, IsPath_at, IsIn_predecessor, predecessor-successor}
+use Rattle.euler_operators.specs.declared.HalfEdge.{HalfEdge}
+use Rattle.euler_operators.specs.HalfEdge.{code, mate, edge_of}
+use Rattle.euler_operators.specs.Model.{Model, items_of, content, cycle_of, loop_of, tail, after, before, round}
+use Rattle.euler_operators.specs.Sound.{Sound, HasHalf}
+use Rattle.euler_operators.proofs.Halves.{edge_of-code, mate-mate}
+use Rattle.euler_operators.proofs.Models.{in-holds, cycle_there, cycle_sound}
 use Rattle.euler_laws.proofs.shared.Fans.{Fan, fan_of, half_mate, loop_after}
 use Rattle.euler_conditions.proofs.Parallel.{steps, length_below}
 use Rattle.solid_walks.specs.Walks.{leads}

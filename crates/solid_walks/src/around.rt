@@ -1,12 +1,13 @@
 //! Walks round a vertex.
 ghost use Rattle.std.specs.Prelude.{◌≡◌, true};
-ghost use Rattle.boundary_model.specs.HalfEdge.{code};
+ghost use Rattle.euler_operators.specs.HalfEdge.{code};
 ghost use Rattle.euler_conditions.specs.Store.{has_number};
 ghost use Rattle.euler_conditions.specs.Ready.{IsReady};
 ghost use Rattle.solid_walks.specs.Walks.{leads};
 
 use crate::halves;
-use euler_conditions::{Arena, HalfEdge, Kind};
+use euler_conditions::Arena;
+use euler_operators::{HalfEdge, Kind};
 
 /// More than the half-edges that an arena can have.
 const HALVES: u32 = 2_000_002;

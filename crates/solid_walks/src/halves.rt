@@ -1,11 +1,12 @@
 //! What an arena says of a half-edge whose edge is there.
 ghost use Rattle.std.specs.Prelude.{◌≡◌, true, nat_eq};
-ghost use Rattle.boundary_model.specs.HalfEdge.{code, mate};
-ghost use Rattle.boundary_model.specs.Model.{after, before, round};
+ghost use Rattle.euler_operators.specs.HalfEdge.{code, mate};
+ghost use Rattle.euler_operators.specs.Model.{after, before, round};
 ghost use Rattle.euler_conditions.specs.Store.{has_number};
 ghost use Rattle.euler_conditions.specs.Ready.{IsReady};
 
-use euler_conditions::{Arena, HalfEdge, Kind};
+use euler_conditions::Arena;
+use euler_operators::{HalfEdge, Kind};
 
 /// Whether the two are the same half-edge.
 pub fn same(a: HalfEdge, b: HalfEdge) -> bool

@@ -1,13 +1,13 @@
 -- A cap that becomes a ring of another: the operator is accepted, and what stays.
 use Rattle.std.proofs.Common.{◌≡◌, ◌≢◌, ℕ, true, List, [], ◌∷◌, is_some, refl, sym, ap, ◌∙◌, subst, arith, ◌⊎◌, inl, inr, true≢false}
 use Rattle.std.proofs.lemmas.Bool.Decides.{nat_tests, eqb_tells}
-use Rattle.cyclic_list.specs.Items.{tick, count}
-use Rattle.cyclic_list.proofs.Lists.{tick_same}
-use Rattle.boundary_model.specs.HalfEdge.{mate}
-use Rattle.boundary_model.specs.Table as table
-use Rattle.boundary_model.specs.Table.{tables}
-use Rattle.boundary_model.specs.Model.{Model, holds, loop_of, face_of, solid_of, outer, after}
-use Rattle.boundary_model.specs.Sound.{Sound, Has, HasHalf}
+use Rattle.euler_operators.specs.Items.{tick, count}
+use Rattle.euler_operators.proofs.Lists.{tick_same}
+use Rattle.euler_operators.specs.HalfEdge.{mate}
+use Rattle.euler_operators.specs.Table as table
+use Rattle.euler_operators.specs.Table.{tables}
+use Rattle.euler_operators.specs.Model.{Model, holds, loop_of, face_of, solid_of, outer, after}
+use Rattle.euler_operators.specs.Sound.{Sound, Has, HasHalf}
 use Rattle.euler_operators.specs.Conditions.{face_at, lists}
 use Rattle.euler_operators.specs.declared.Op.TheVariants.{Kfmrh}
 use Rattle.euler_operators.specs.Effect.{effect, kfmrh}

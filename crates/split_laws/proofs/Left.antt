@@ -1,11 +1,11 @@
 -- Which of the upper faces are left when the holes are closed.
 use Rattle.std.proofs.Common.{◌≡◌, ℕ, ◌+◌, ◌≤◌, Bool, true, false, cond, not, List, [], ◌∷◌, ◌++◌, is_some, refl, ap, ◌∙◌, arith}
 use Rattle.std.specs.Prelude.{map, filter}
-use Rattle.cyclic_list.specs.Items.{count, IsIn, IsApart}
-use Rattle.cyclic_list.proofs.Lists.{tick_same}
-use Rattle.boundary_model.specs.Table as table
-use Rattle.boundary_model.specs.Model.{Model}
-use Rattle.boundary_model.specs.Sound.{Has}
+use Rattle.euler_operators.specs.Items.{count, IsIn, IsApart}
+use Rattle.euler_operators.proofs.Lists.{tick_same}
+use Rattle.euler_operators.specs.Table as table
+use Rattle.euler_operators.specs.Model.{Model}
+use Rattle.euler_operators.specs.Sound.{Has}
 use Rattle.euler_operators.specs.declared.Op.{Op}
 use Rattle.shapes.specs.split.Opening.{Caps}
 use Rattle.split_opening_laws.specs.sections.Capped.{ArePlain, cap_faces}

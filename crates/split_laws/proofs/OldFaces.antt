@@ -1,12 +1,12 @@
 -- The faces that were there before the openings stay, and are none of the caps.
 use Rattle.std.proofs.Common.{◌≡◌, ℕ, ◌+◌, List, [], ◌∷◌, ◌++◌, length, is_some, refl, ap, ◌∙◌, arith}
 use Rattle.std.proofs.lemmas.Grind.{flat_map-append}
-use Rattle.lattice.specs.declared.Plane.{Plane}
-use Rattle.cyclic_list.specs.Items.{tick, count}
-use Rattle.cyclic_list.proofs.Lists.{count-append, tick_other}
-use Rattle.boundary_model.specs.Table as table
-use Rattle.boundary_model.specs.Model.{Model}
-use Rattle.boundary_model.specs.Sound.{Has}
+use Rattle.euler_operators.specs.declared.Plane.{Plane}
+use Rattle.euler_operators.specs.Items.{tick, count}
+use Rattle.euler_operators.proofs.Lists.{count-append, tick_other}
+use Rattle.euler_operators.specs.Table as table
+use Rattle.euler_operators.specs.Model.{Model}
+use Rattle.euler_operators.specs.Sound.{Has}
 use Rattle.shapes.specs.Fresh.{Taken}
 use Rattle.shapes.specs.split.Section.{is_hole}
 use Rattle.shapes.specs.split.Opening.{Caps, Opening, opened_along, next_opened, all_opened}

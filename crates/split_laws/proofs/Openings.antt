@@ -1,7 +1,7 @@
 -- The operators that open a solid along all cycles of its section, in turn.
 use Rattle.std.proofs.Common.{◌≡◌, ℕ, ◌+◌, List, [], ◌∷◌, length, refl, ◌∙◌, arith, length-append}
-use Rattle.lattice.specs.declared.Plane.{Plane}
-use Rattle.boundary_model.specs.Sound.{Sound}
+use Rattle.euler_operators.specs.declared.Plane.{Plane}
+use Rattle.euler_operators.specs.Sound.{Sound}
 use Rattle.shapes.specs.split.Opening.{Opening, opened_along, next_opened, all_opened}
 use Rattle.split_drawing_laws.proofs.drawings.Runs.{Leads, leads_none, leads_on}
 use Rattle.split_opening_laws.specs.cycles.SectionCycles.{IsSectionCycle}

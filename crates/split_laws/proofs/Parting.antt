@@ -2,12 +2,12 @@
 use Rattle.std.proofs.Common.{◌≡◌, ℕ, Bool, true, false, cond, List, [], ◌∷◌, Option, Some, None, is_some, IsTrue, refl, sym, ap, ◌∙◌, subst, inl, inr, true≢false}
 use Rattle.std.specs.Prelude.{filter}
 use Rattle.std.specs.Option.{option_map}
-use Rattle.boundary_model.specs.HalfEdge.{mate}
-use Rattle.boundary_model.specs.Table as table
-use Rattle.boundary_model.specs.Table.{Table, same_table, get-map_rows}
-use Rattle.boundary_model.specs.Model.{Model, loop_of, solid_of, is_number}
-use Rattle.boundary_model.specs.Sound.{Has, HasHalf}
-use Rattle.boundary_model.proofs.Models.{row_of}
+use Rattle.euler_operators.specs.HalfEdge.{mate}
+use Rattle.euler_operators.specs.Table as table
+use Rattle.euler_operators.specs.Table.{Table, same_table, get-map_rows}
+use Rattle.euler_operators.specs.Model.{Model, loop_of, solid_of, is_number}
+use Rattle.euler_operators.specs.Sound.{Has, HasHalf}
+use Rattle.euler_operators.proofs.Models.{row_of}
 use Rattle.euler_operators.specs.declared.Op.TheVariants.{Part}
 use Rattle.euler_operators.specs.Conditions.{face_at, lists, strictly_rises}
 use Rattle.euler_operators.specs.Effect.{effect, part, faces_to_solid}

@@ -1,8 +1,8 @@
 -- The laws of splits, each over every sound model and every split that isn't refused.
 use Rattle.std.specs.Prelude.{◌≡◌, ℕ, List, None}
-use Rattle.lattice.specs.declared.Plane.{Plane}
-use Rattle.boundary_model.specs.Model.{Model}
-use Rattle.boundary_model.specs.Sound.{Sound}
+use Rattle.euler_operators.specs.declared.Plane.{Plane}
+use Rattle.euler_operators.specs.Model.{Model}
+use Rattle.euler_operators.specs.Sound.{Sound}
 use Rattle.euler_laws.specs.Laws.{AreAccepted, effects}
 use Rattle.shapes.specs.split.Opening.{Opening, all_opened}
 use Rattle.shapes.specs.split.Split.{split_refusal, split_model}

@@ -2,10 +2,10 @@
 use Rattle.std.specs.Prelude.{get_or}
 use Rattle.std.proofs.Common.{◌≡◌, ℕ, ◌+◌, ◌<◌, ℤ, pos, List, None, Result, Ok, Err, OnOk, OnErr, ap, ◌∙◌, subst}
 use Rattle.std.specs.declared.alloc.AllocError.{AllocError}
-use Rattle.lattice.specs.declared.Point.{Point}
-use Rattle.lattice.specs.Point.{IsInRange}
-use Rattle.boundary_model.specs.Model.{Model, no_point}
-use Rattle.boundary_model.specs.Sound.{Sound}
+use Rattle.euler_operators.specs.declared.Point.{Point}
+use Rattle.euler_operators.specs.Points.{IsInRange}
+use Rattle.euler_operators.specs.Model.{Model, no_point}
+use Rattle.euler_operators.specs.Sound.{Sound}
 use Rattle.undo_journal.specs.Machine.{Machine, DraftState}
 use Rattle.shapes.specs.Fresh.{taken_in}
 use Rattle.shapes.specs.Lamina.{lamina_refusal, lamina_model, lamina_face}

@@ -1,12 +1,12 @@
 -- A draft in which a lamina is being drawn.
 use Rattle.std.specs.Prelude.{length, get_or, ◌-◌}
 use Rattle.std.proofs.Common.{◌≡◌, ℕ, suc, ◌+◌, ◌≤◌, ◌<◌, List, Option, Some, None, Ok, refl, sym, ap, subst, ◌∙◌, arith}
-use Rattle.lattice.specs.declared.Point.{Point}
-use Rattle.boundary_model.specs.declared.HalfEdge.{HalfEdge}
-use Rattle.boundary_model.specs.declared.Corner.{Corner}
-use Rattle.boundary_model.specs.declared.Corner.TheVariants.{At, Lone}
-use Rattle.boundary_model.specs.Model.{Model, no_point}
-use Rattle.boundary_model.specs.Sound.{Sound}
+use Rattle.euler_operators.specs.declared.Point.{Point}
+use Rattle.euler_operators.specs.declared.HalfEdge.{HalfEdge}
+use Rattle.euler_operators.specs.declared.Corner.{Corner}
+use Rattle.euler_operators.specs.declared.Corner.TheVariants.{At, Lone}
+use Rattle.euler_operators.specs.Model.{Model, no_point}
+use Rattle.euler_operators.specs.Sound.{Sound}
 use Rattle.euler_operators.specs.declared.Op.{Op}
 use Rattle.euler_operators.specs.declared.Op.TheVariants.{Mvfs, Mev, Mef}
 use Rattle.euler_operators.specs.declared.Refusal.{Refusal}

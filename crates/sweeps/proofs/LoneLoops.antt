@@ -2,11 +2,11 @@
 use Rattle.std.specs.Prelude.{cond, min, unwrap_or}
 use Rattle.std.proofs.Common.{◌≡◌, ◌≢◌, ℕ, ◌<◌, ◌≤◌, ◌⊎◌, Bool, true, false, ◌&&◌, ◌||◌, nat_eq, [], ◌∷◌, Some, None, is_some, refl, sym, ap, subst, ◌∙◌, arith, true≢false, inl, inr}
 use Rattle.std.proofs.lemmas.Bool.Decides.{eqb_tells}
-use Rattle.boundary_model.specs.Table as table
-use Rattle.boundary_model.specs.Model.{Model, LoopRow, no_loop, content, face_of, outer, is_ring_of}
-use Rattle.boundary_model.specs.Sound.{Sound, Has}
-use Rattle.boundary_model.proofs.Models.{face_row}
-use Rattle.boundary_model.proofs.Tables.{first_where_zero}
+use Rattle.euler_operators.specs.Table as table
+use Rattle.euler_operators.specs.Model.{Model, LoopRow, no_loop, content, face_of, outer, is_ring_of}
+use Rattle.euler_operators.specs.Sound.{Sound, Has}
+use Rattle.euler_operators.proofs.Models.{face_row}
+use Rattle.euler_operators.proofs.Tables.{first_where_zero}
 use Rattle.euler_conditions.specs.Store.{IsNextRing}
 use Rattle.euler_operators.specs.Conditions.{is_lone, lists}
 use Rattle.euler_laws.proofs.shared.Goes.{equals, no_zero}

@@ -2,18 +2,18 @@
 use Rattle.std.proofs.Common.{◌≡◌, ℕ, suc, zero, ◌+◌, ◌-◌, ◌<◌, ◌≤◌, List, [], ◌∷◌, map, length, None, sym, ap, ◌∙◌, subst, arith}
 use Rattle.std.specs.Prelude.{get_or}
 use Rattle.std.proofs.lemmas.List.{get_or-map}
-use Rattle.lattice.specs.declared.Point.{Point}
-use Rattle.lattice.specs.Point.{IsInRange}
-use Rattle.lattice.specs.Vectors.{moved}
-use Rattle.cyclic_list.specs.Items.{IsIn}
-use Rattle.cyclic_list.proofs.Std.{IsIn-get_or}
-use Rattle.boundary_model.specs.declared.HalfEdge.{HalfEdge}
-use Rattle.boundary_model.specs.declared.Corner.TheVariants.{At}
-use Rattle.boundary_model.specs.HalfEdge.{code, half, plus}
-use Rattle.boundary_model.proofs.Halves.{half-code}
-use Rattle.boundary_model.specs.Model.{Model, LoopContent, lone, cycle, items_of}
-use Rattle.boundary_model.specs.declared.Content.TheVariants.{Ring}
-use Rattle.boundary_model.specs.Sound.{HasHalf}
+use Rattle.euler_operators.specs.declared.Point.{Point}
+use Rattle.euler_operators.specs.Points.{IsInRange}
+use Rattle.euler_operators.specs.Vectors.{moved}
+use Rattle.euler_operators.specs.Items.{IsIn}
+use Rattle.euler_operators.proofs.Std.{IsIn-get_or}
+use Rattle.euler_operators.specs.declared.HalfEdge.{HalfEdge}
+use Rattle.euler_operators.specs.declared.Corner.TheVariants.{At}
+use Rattle.euler_operators.specs.HalfEdge.{code, half, plus}
+use Rattle.euler_operators.proofs.Halves.{half-code}
+use Rattle.euler_operators.specs.Model.{Model, LoopContent, lone, cycle, items_of}
+use Rattle.euler_operators.specs.declared.Content.TheVariants.{Ring}
+use Rattle.euler_operators.specs.Sound.{HasHalf}
 use Rattle.euler_conditions.specs.Store.{Tells}
 use Rattle.euler_operators.specs.declared.Op.TheVariants.{Mev}
 use Rattle.euler_operators.specs.Conditions.{first_false}

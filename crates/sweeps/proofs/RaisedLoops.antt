@@ -2,8 +2,8 @@
 use Rattle.std.proofs.Common.{◌≡◌, ℕ, ◌-◌, ◌≤◌, List, [], ◌∷◌, length, refl, sym, ap, ◌∙◌, subst, arith}
 use Rattle.std.specs.Prelude.{take, drop, slice_index_or}
 use Rattle.std.proofs.lemmas.List.{take_rest}
-use Rattle.lattice.specs.declared.Point.{Point}
-use Rattle.boundary_model.specs.Model.{Model, face_of, items_of, content}
+use Rattle.euler_operators.specs.declared.Point.{Point}
+use Rattle.euler_operators.specs.Model.{Model, face_of, items_of, content}
 use Rattle.euler_laws.specs.Laws.{effects}
 use Rattle.shapes.specs.Faces.{loops_of}
 use Rattle.shapes.specs.Fresh.{Taken, taken_in}

@@ -4,15 +4,15 @@ use Rattle.std.proofs.Common.{◌≡◌, ℕ, ◌+◌, Bool, true, false, cond, 
 use Rattle.std.proofs.lemmas.Bool.Decides.{eqb_tells}
 use Rattle.std.proofs.lemmas.List.{map-append, append-nil, length-append}
 use Rattle.std.specs.List.{list_any}
-use Rattle.lattice.specs.declared.Point.{Point}
-use Rattle.cyclic_list.specs.Items.{IsIn, least}
-use Rattle.cyclic_list.specs.Rings.{rotate_to, canonical}
-use Rattle.boundary_model.specs.declared.HalfEdge.{HalfEdge}
-use Rattle.boundary_model.specs.declared.Content.{Content}
-use Rattle.boundary_model.specs.HalfEdge.{code}
-use Rattle.boundary_model.specs.Model.{Model, LoopContent, lone, cycle, items_of, content, tail, cycle_of, outer, rings_of}
-use Rattle.boundary_model.specs.Sound.{Sound, HasHalf, StandsIn}
-use Rattle.boundary_model.proofs.Models.{in-holds, cycle_sound}
+use Rattle.euler_operators.specs.declared.Point.{Point}
+use Rattle.euler_operators.specs.Items.{IsIn, least}
+use Rattle.euler_operators.specs.Rings.{rotate_to, canonical}
+use Rattle.euler_operators.specs.declared.HalfEdge.{HalfEdge}
+use Rattle.euler_operators.specs.declared.Content.{Content}
+use Rattle.euler_operators.specs.HalfEdge.{code}
+use Rattle.euler_operators.specs.Model.{Model, LoopContent, lone, cycle, items_of, content, tail, cycle_of, outer, rings_of}
+use Rattle.euler_operators.specs.Sound.{Sound, HasHalf, StandsIn}
+use Rattle.euler_operators.proofs.Models.{in-holds, cycle_sound}
 use Rattle.euler_conditions.specs.Store.{IsNextRing, Tells}
 use Rattle.euler_conditions.proofs.Borders.{ring_has}
 use Rattle.shapes.specs.Faces.{vertices_on, vertices_in, loops_of, corners}

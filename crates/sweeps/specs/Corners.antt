@@ -1,10 +1,10 @@
 -- What is read off the corners of a face before it is swept.
 use Rattle.std.specs.Prelude.{◌≡◌, ◌≢◌, ◌≤◌, ℕ, Bool, true, false, not, List, length, min}
 use Rattle.std.specs.List.{list_any}
-use Rattle.lattice.specs.declared.Point.{Point}
-use Rattle.lattice.specs.Point.{is_in_range}
-use Rattle.lattice.specs.Vectors.{moved}
-use Rattle.boundary_model.specs.Model.{Model, content, is_ring_of, point_of}
+use Rattle.euler_operators.specs.declared.Point.{Point}
+use Rattle.euler_operators.specs.Points.{is_in_range}
+use Rattle.euler_operators.specs.Vectors.{moved}
+use Rattle.euler_operators.specs.Model.{Model, content, is_ring_of, point_of}
 use Rattle.euler_operators.specs.Conditions.{is_lone}
 use Rattle.shapes.specs.Fresh.{first_such}
 use Rattle.sweeps.specs.declared.corners.Tally.{Tally}

@@ -1,7 +1,7 @@
 //! The block: a lamina swept up, as one command.
 ghost use Rattle.std.specs.Prelude.{◌≡◌, ◌↔◌, pos, None, Some, Err, OnOk, OnErr};
-ghost use Rattle.lattice.specs.Point.{IsInRange, is_in_range};
-ghost use Rattle.lattice.specs.Vectors.{moved};
+ghost use Rattle.euler_operators.specs.Points.{IsInRange, is_in_range};
+ghost use Rattle.euler_operators.specs.Vectors.{moved};
 ghost use Rattle.euler_operators.specs.Conditions.{verdict};
 ghost use Rattle.euler_operators.specs.declared.Refusal.{Refusal};
 ghost use Rattle.euler_conditions.specs.Ready.{IsReady};
@@ -12,8 +12,8 @@ use crate::fresh::{check_left, counters_of, is_number, refused};
 use crate::laminas::draw_lamina;
 use crate::raising::raise;
 use arrayvec::ArrayVec;
-use euler_conditions::{Arena, Kind, Refusal, Why};
-use lattice::{Point, point_in_range, sum, sum_in_range};
+use euler_conditions::Arena;
+use euler_operators::{Kind, Point, Refusal, Why, point_in_range, sum, sum_in_range};
 use std::alloc::{AllocError, Global};
 use undo_journal::{Draft, Failure, Session};
 

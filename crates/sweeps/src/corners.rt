@@ -1,15 +1,15 @@
 //! What is read off a face before it is swept: its lone loops and its corners.
 ghost use Rattle.std.specs.Prelude.{◌≡◌, ◌≤◌, ◌+◌, true, min, cond, nat_eq, map, [], ◌∷◌};
-ghost use Rattle.boundary_model.specs.HalfEdge.{code};
-ghost use Rattle.boundary_model.specs.Model.{has_half, content, cycle_of, tail};
+ghost use Rattle.euler_operators.specs.HalfEdge.{code};
+ghost use Rattle.euler_operators.specs.Model.{has_half, content, cycle_of, tail};
 ghost use Rattle.euler_conditions.specs.Store.{has_number};
 ghost use Rattle.euler_operators.specs.Conditions.{is_lone};
 ghost use Rattle.euler_conditions.specs.Ready.{IsReady};
 ghost use Rattle.shapes.specs.Faces.{corners, least_lone, vertices_on};
 ghost use Rattle.sweeps.specs.Corners.{IsLoneRing, IsTally};
 
-use euler_conditions::{Arena, Content, HalfEdge, Kind};
-use lattice::{Point, sum_in_range};
+use euler_conditions::Arena;
+use euler_operators::{Content, HalfEdge, Kind, Point, sum_in_range};
 use solid_walks::least_item;
 
 /// Whether the loop is lone.

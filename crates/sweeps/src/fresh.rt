@@ -1,12 +1,13 @@
 //! Fresh numbers: those after the greatest in use as a command begins.
 ghost use Rattle.std.specs.Prelude.{◌≡◌, ◌+◌, ◌≤◌, nat_le, Err};
-ghost use Rattle.boundary_model.specs.Model.{is_number};
+ghost use Rattle.euler_operators.specs.Model.{is_number};
 ghost use Rattle.euler_operators.specs.Conditions.{first_refusal, verdict};
 ghost use Rattle.euler_conditions.specs.Ready.{IsReady};
 ghost use Rattle.shapes.specs.Fresh.{taken_in, numbers_left};
 ghost use Rattle.sweeps.specs.Counters.{taken_of, AreWithin};
 
-use euler_conditions::{Arena, Kind, Refusal, Why};
+use euler_conditions::Arena;
+use euler_operators::{Kind, Refusal, Why};
 
 /// The greatest number of each kind but solids.
 #[derive(Clone, Copy)]

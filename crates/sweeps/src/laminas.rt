@@ -1,8 +1,8 @@
 //! The lamina: a flat ring of corners with a face on either side.
 ghost use Rattle.std.specs.Prelude.{◌≡◌, ◌≤◌, ◌<◌, ◌↔◌, length, get_or, [], None, Some, Err, OnOk, OnErr};
 ghost use Rattle.std.specs.List.{list_any};
-ghost use Rattle.lattice.specs.Vectors.{same_point};
-ghost use Rattle.boundary_model.specs.Model.{no_point};
+ghost use Rattle.euler_operators.specs.Vectors.{same_point};
+ghost use Rattle.euler_operators.specs.Model.{no_point};
 ghost use Rattle.euler_operators.specs.Conditions.{verdict};
 ghost use Rattle.euler_conditions.specs.Ready.{IsReady};
 ghost use Rattle.euler_operators.specs.declared.Refusal.{Refusal};
@@ -13,8 +13,8 @@ ghost use Rattle.shapes.specs.Lamina as spec;
 
 use crate::fresh::{check_left, counters_of, refused};
 use arrayvec::ArrayVec;
-use euler_conditions::{Arena, Corner, HalfEdge, Kind, Op, Refusal, Why};
-use lattice::{Point, point_in_range};
+use euler_conditions::Arena;
+use euler_operators::{Corner, HalfEdge, Kind, Op, Point, Refusal, Why, point_in_range};
 use std::alloc::{AllocError, Global};
 use undo_journal::{Draft, Failure, Session};
 

@@ -1,9 +1,9 @@
 //! A face swept operator by operator in a draft.
 ghost use Rattle.std.specs.Prelude.{◌≡◌, ◌≤◌, ◌<◌, ◌+◌, ◌-◌, ◌*◌, true, false, None, OnOk, OnErr, IfOk, length, map};
-ghost use Rattle.lattice.specs.Point.{IsInRange};
-ghost use Rattle.lattice.specs.Vectors.{moved};
-ghost use Rattle.boundary_model.specs.HalfEdge.{code};
-ghost use Rattle.boundary_model.specs.Model.{has_half, items_of, content, face_of, cycle_of};
+ghost use Rattle.euler_operators.specs.Points.{IsInRange};
+ghost use Rattle.euler_operators.specs.Vectors.{moved};
+ghost use Rattle.euler_operators.specs.HalfEdge.{code};
+ghost use Rattle.euler_operators.specs.Model.{has_half, items_of, content, face_of, cycle_of};
 ghost use Rattle.euler_conditions.specs.Ready.{IsReady};
 ghost use Rattle.euler_conditions.specs.Store.{has_number};
 ghost use Rattle.euler_laws.specs.Laws.{effects};
@@ -17,8 +17,8 @@ ghost use Rattle.sweeps_laws.proofs.prism.Sides.{Ready};
 ghost use Rattle.sweeps.specs.Counters.{taken_of};
 
 use crate::fresh::{Counters, counters_of};
-use euler_conditions::{Arena, Content, Corner, HalfEdge, Kind, Op};
-use lattice::{Point, sum};
+use euler_conditions::Arena;
+use euler_operators::{Content, Corner, HalfEdge, Kind, Op, Point, sum};
 use solid_walks::{face_loops, items_from, minus, plus};
 use std::alloc::{AllocError, Global};
 use undo_journal::Draft;

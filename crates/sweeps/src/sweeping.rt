@@ -1,6 +1,6 @@
 //! The sweep of a face, as one command.
 ghost use Rattle.std.specs.Prelude.{◌≡◌, ◌↔◌, None, Some, Err, OnOk, OnErr};
-ghost use Rattle.lattice.specs.Vectors.{origin, same_point};
+ghost use Rattle.euler_operators.specs.Vectors.{origin, same_point};
 ghost use Rattle.euler_operators.specs.Conditions.{verdict};
 ghost use Rattle.euler_operators.specs.declared.Refusal.{Refusal};
 ghost use Rattle.euler_conditions.specs.Ready.{IsReady};
@@ -10,8 +10,8 @@ ghost use Rattle.shapes.specs.Prism.{prism_refusal, prism_model};
 use crate::corners::{face_tally, lone_loop};
 use crate::fresh::{check_left, counters_of, is_number, refused};
 use crate::raising::raise;
-use euler_conditions::{Arena, Kind, Refusal, Why};
-use lattice::Point;
+use euler_conditions::Arena;
+use euler_operators::{Kind, Point, Refusal, Why};
 use std::alloc::Global;
 use undo_journal::{Draft, Failure, Session};
 

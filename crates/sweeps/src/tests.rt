@@ -1,7 +1,6 @@
 use super::{block, lamina, sweep};
 use arrayvec::ArrayVec;
-use euler_conditions::{Kind, Op, Refusal, Why};
-use lattice::Point;
+use euler_operators::{Kind, Op, Point, Refusal, Why};
 use std::alloc::Global;
 use std::process::Abort;
 use std::test::*;

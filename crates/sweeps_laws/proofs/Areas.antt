@@ -1,13 +1,13 @@
 -- Areas of lists of half-edges, and volumes of lists of faces.
 use Rattle.std.proofs.Common.{◌≡◌, ℕ, ℤ, ◌+ℤ◌, List, [], ◌∷◌, ◌++◌, length, get_or, refl, sym, ap, ◌∙◌, arith}
-use Rattle.lattice.specs.Vectors.{moved, dot, cross}
-use Rattle.cyclic_list.specs.Items.{IsIn}
-use Rattle.cyclic_list.proofs.Lists.{tick_same}
-use Rattle.boundary_model.specs.Model.{Model}
+use Rattle.euler_operators.specs.Vectors.{moved, dot, cross}
+use Rattle.euler_operators.specs.Items.{IsIn}
+use Rattle.euler_operators.proofs.Lists.{tick_same}
+use Rattle.euler_operators.specs.Model.{Model}
 use Rattle.shapes.specs.Faces.{start, finish}
 use Rattle.shapes.specs.Measure.{area, normal, anchor, volume_in}
-use Rattle.lattice.proofs.Vectors.{moved_none, none_moved, moved_twice, add_none, none_add, add_assoc}
-use Rattle.lattice.proofs.Sweeps.{sum_to, sum_first}
+use Rattle.euler_operators.proofs.Vectors.{moved_none, none_moved, moved_twice, add_none, none_add, add_assoc}
+use Rattle.euler_operators.proofs.Sweeps.{sum_to, sum_first}
 
 -- the first of a list stands in it, and what stands in the rest does
 pub first_in : (x : ℕ) (xs : List ℕ) → IsIn x (x ∷ xs)

@@ -1,16 +1,16 @@
 -- A lamina of four points: its two faces and their volumes.
 use Rattle.std.proofs.Common.{◌≡◌, ◌≢◌, ℕ, ◌+◌, ◌≤◌, pos, ◌+ℤ◌, Bool, true, false, cond, not, nat_eq, ◌&&◌, ◌||◌, List, [], ◌∷◌, ◌++◌, map, reverse, Some, is_some, unwrap_or, refl, sym, ap, subst, ◌∙◌, arith, ◌⊎◌, inl, inr}
 use Rattle.std.proofs.lemmas.Bool.Decides.{nat_tests}
-use Rattle.lattice.specs.declared.Point.{Point}
-use Rattle.lattice.specs.Vectors.{origin, moved, dot, cross}
-use Rattle.cyclic_list.specs.Items.{IsIn, IsApart}
-use Rattle.cyclic_list.specs.Rings.{canonical}
-use Rattle.boundary_model.specs.HalfEdge.{plus, minus}
-use Rattle.boundary_model.specs.Table as table
-use Rattle.boundary_model.specs.Model.{Model, cycle, FaceRow, LoopRow, EdgeRow, no_face, no_point, items_of, content, outer, solid_of, point_of, rings_of, faces_of}
-use Rattle.boundary_model.specs.Sound.{Has}
-use Rattle.boundary_model.proofs.Tables.{all_where_none, first_where_zero}
-use Rattle.boundary_model.proofs.Models.{content_row, face_row}
+use Rattle.euler_operators.specs.declared.Point.{Point}
+use Rattle.euler_operators.specs.Vectors.{origin, moved, dot, cross}
+use Rattle.euler_operators.specs.Items.{IsIn, IsApart}
+use Rattle.euler_operators.specs.Rings.{canonical}
+use Rattle.euler_operators.specs.HalfEdge.{plus, minus}
+use Rattle.euler_operators.specs.Table as table
+use Rattle.euler_operators.specs.Model.{Model, cycle, FaceRow, LoopRow, EdgeRow, no_face, no_point, items_of, content, outer, solid_of, point_of, rings_of, faces_of}
+use Rattle.euler_operators.specs.Sound.{Has}
+use Rattle.euler_operators.proofs.Tables.{all_where_none, first_where_zero}
+use Rattle.euler_operators.proofs.Models.{content_row, face_row}
 use Rattle.euler_operators.specs.Conditions.{is_lone, lists}
 use Rattle.shapes.specs.Faces.{start, finish, least_lone, items_in}
 use Rattle.shapes.specs.Fresh.{Taken, numbers_after}
@@ -18,7 +18,7 @@ use Rattle.shapes.specs.Lamina.{with_path, with_points, lamina_at}
 use Rattle.shapes.specs.Measure.{area, normal, anchor, first_vertex, volume_in, six_volume}
 use Rattle.shapes.proofs.fresh.Rows.{get-put_here, get-put_other, get-put_cases, all_where-put_last, greatest-put_last}
 use Rattle.sweeps_laws.proofs.lamina.Lists.{plus_halves, minus_halves, back_apart, first_moved, canonical_first}
-use Rattle.lattice.proofs.Rectangles.{ring_area}
+use Rattle.euler_operators.proofs.Rectangles.{ring_area}
 use Rattle.sweeps_laws.proofs.swept.Numbers.{mate_plus, mate_minus, tail_plus, tail_minus}
 use Rattle.sweeps_laws.proofs.swept.Kept.{in_cases}
 use Rattle.sweeps_laws.proofs.swept.Lifted.{Bounded, outer_row}

@@ -5,13 +5,13 @@ use Rattle.std.specs.Ordering.{int_eq}
 use Rattle.std.specs.Cmp.{signed_Decides}
 use Rattle.std.proofs.lemmas.Bool.Decides.{nat_tests}
 use Rattle.std.proofs.lemmas.Int.{ints}
-use Rattle.lattice.specs.declared.Point.{Point}
-use Rattle.lattice.specs.Point.{is_coordinate, is_in_range}
-use Rattle.lattice.specs.Vectors.{dot, same_point}
-use Rattle.boundary_model.specs.Table as table
-use Rattle.boundary_model.specs.Model.{Model, faces_of}
-use Rattle.boundary_model.specs.Sound.{Sound}
-use Rattle.boundary_model.proofs.Tables.{all_where_none}
+use Rattle.euler_operators.specs.declared.Point.{Point}
+use Rattle.euler_operators.specs.Points.{is_coordinate, is_in_range}
+use Rattle.euler_operators.specs.Vectors.{dot, same_point}
+use Rattle.euler_operators.specs.Table as table
+use Rattle.euler_operators.specs.Model.{Model, faces_of}
+use Rattle.euler_operators.specs.Sound.{Sound}
+use Rattle.euler_operators.proofs.Tables.{all_where_none}
 use Rattle.euler_laws.proofs.shared.Goes.{all_hold, none_refuses, not_true}
 use Rattle.shapes.specs.Fresh.{taken_in}
 use Rattle.shapes.specs.Lamina.{first_far, first_repeated, lamina_conditions, lamina_refusal, lamina_at, lamina_model}
@@ -19,8 +19,8 @@ use Rattle.shapes.specs.Prism.{prism_model}
 use Rattle.shapes.specs.Block.{vector, base_of, block_conditions, block_refusal, block_model}
 use Rattle.shapes.specs.Measure.{six_volume}
 use Rattle.sweeps_laws.proofs.lamina.Walk.{lamina_is_sound}
-use Rattle.lattice.proofs.Vectors.{add_none, none_add}
-use Rattle.lattice.proofs.Rectangles.{second_corner, third_corner, fourth_corner, rectangle_flat, rectangle_raised}
+use Rattle.euler_operators.proofs.Vectors.{add_none, none_add}
+use Rattle.euler_operators.proofs.Rectangles.{second_corner, third_corner, fourth_corner, rectangle_flat, rectangle_raised}
 use Rattle.sweeps_laws.proofs.swept.Numbers.{and_left, and_right}
 use Rattle.sweeps_laws.proofs.FromSound.{sound_bounded, face_adds}
 use Rattle.sweeps_laws.proofs.Base.{base, found_solid, solid_one, there_one, none_lone, normal_one, base_volume}

@@ -1,17 +1,17 @@
 -- In a sound model the numbers in use lie within the greatest ones, and the loops of a face without a lone one are closed paths.
 use Rattle.std.proofs.Common.{◌≡◌, ◌≢◌, ℕ, zero, suc, ◌+◌, ◌≤◌, ◌<◌, pos, ◌+ℤ◌, ◌*ℤ◌, Bool, true, false, not, nat_eq, ◌&&◌, ◌||◌, List, [], ◌∷◌, length, get_or, Option, Some, None, is_some, unwrap_or, refl, sym, ap, subst, ◌∙◌, arith, inl, inr, true≢false}
 use Rattle.std.proofs.lemmas.Bool.Decides.{nat_tests}
-use Rattle.lattice.specs.declared.Point.{Point}
-use Rattle.lattice.specs.Vectors.{dot}
-use Rattle.cyclic_list.specs.Items.{IsIn, head_or}
-use Rattle.cyclic_list.specs.Rings.{IsPath, IsRing}
-use Rattle.cyclic_list.proofs.Std.{IsIn-get_or}
-use Rattle.boundary_model.specs.HalfEdge.{edge_of, is_first}
-use Rattle.boundary_model.specs.Table as table
-use Rattle.boundary_model.specs.Model.{Model, LoopContent, lone, cycle, FaceRow, LoopRow, EdgeRow, no_face, no_loop, no_edge, items_of, tail, tail_in, content, face_of, outer, solid_of, point_of, rings_of, after}
-use Rattle.boundary_model.specs.Sound.{Sound, Has, HasHalf}
-use Rattle.boundary_model.proofs.Tables.{zero_first_where}
-use Rattle.boundary_model.proofs.Models.{content_row, face_row, in-holds}
+use Rattle.euler_operators.specs.declared.Point.{Point}
+use Rattle.euler_operators.specs.Vectors.{dot}
+use Rattle.euler_operators.specs.Items.{IsIn, head_or}
+use Rattle.euler_operators.specs.Rings.{IsPath, IsRing}
+use Rattle.euler_operators.proofs.Std.{IsIn-get_or}
+use Rattle.euler_operators.specs.HalfEdge.{edge_of, is_first}
+use Rattle.euler_operators.specs.Table as table
+use Rattle.euler_operators.specs.Model.{Model, LoopContent, lone, cycle, FaceRow, LoopRow, EdgeRow, no_face, no_loop, no_edge, items_of, tail, tail_in, content, face_of, outer, solid_of, point_of, rings_of, after}
+use Rattle.euler_operators.specs.Sound.{Sound, Has, HasHalf}
+use Rattle.euler_operators.proofs.Tables.{zero_first_where}
+use Rattle.euler_operators.proofs.Models.{content_row, face_row, in-holds}
 use Rattle.euler_operators.specs.Conditions.{is_lone, lists}
 use Rattle.euler_laws.proofs.shared.Goes.{all_hold, equal, no_zero}
 use Rattle.euler_laws.proofs.shared.Listed.{listed_cases, listed_passes, all_where-rises}

@@ -2,12 +2,12 @@
 use Rattle.std.proofs.Common.{◌≡◌, ◌≢◌, ℕ, zero, suc, ◌+◌, ◌≤◌, ◌<◌, ℤ, pos, ◌+ℤ◌, ◌*ℤ◌, Bool, true, false, not, nat_eq, nat_lt, ◌&&◌, List, [], ◌∷◌, ◌++◌, length, get_or, is_some, refl, sym, ap, subst, ◌∙◌, arith, inl, inr, true≢false}
 use Rattle.std.proofs.lemmas.Bool.Decides.{nat_tests, eqb_tells}
 use Rattle.std.proofs.lemmas.Int.{ints}
-use Rattle.lattice.specs.declared.Point.{Point}
-use Rattle.lattice.specs.Vectors.{origin, moved, dot, cross}
-use Rattle.cyclic_list.specs.Items.{IsIn, head_or}
-use Rattle.boundary_model.specs.HalfEdge.{edge_of, plus, minus}
-use Rattle.boundary_model.specs.Table as table
-use Rattle.boundary_model.specs.Model.{Model, LoopContent, lone, cycle, items_of, tail, content, outer, point_of, rings_of}
+use Rattle.euler_operators.specs.declared.Point.{Point}
+use Rattle.euler_operators.specs.Vectors.{origin, moved, dot, cross}
+use Rattle.euler_operators.specs.Items.{IsIn, head_or}
+use Rattle.euler_operators.specs.HalfEdge.{edge_of, plus, minus}
+use Rattle.euler_operators.specs.Table as table
+use Rattle.euler_operators.specs.Model.{Model, LoopContent, lone, cycle, items_of, tail, content, outer, point_of, rings_of}
 use Rattle.euler_operators.specs.Conditions.{lists, strictly_rises}
 use Rattle.euler_laws.proofs.shared.Listed.{first_listed, rest_listed, listed_cases, listed_passes}
 use Rattle.shapes.specs.Faces.{start, finish, loops_of, items_in, boundary}
@@ -15,8 +15,8 @@ use Rattle.shapes.specs.Fresh.{Taken}
 use Rattle.shapes.specs.Prism.{riser, top_edge, top_items, next_place}
 use Rattle.shapes.specs.Measure.{area, normal, anchor, first_vertex, volume_in}
 use Rattle.shapes.proofs.fresh.Rows.{at_most_greatest}
-use Rattle.lattice.proofs.Vectors.{dot_moved, add_assoc}
-use Rattle.lattice.proofs.Sweeps.{sum_to, moved_at, area_at, moved_ring, side_area, side_volume, Linked}
+use Rattle.euler_operators.proofs.Vectors.{dot_moved, add_assoc}
+use Rattle.euler_operators.proofs.Sweeps.{sum_to, moved_at, area_at, moved_ring, side_area, side_volume, Linked}
 use Rattle.sweeps_laws.proofs.swept.Numbers.{next_cases, mate_plus, mate_minus, and_none, and_right}
 use Rattle.sweeps_laws.proofs.Areas.{first_in, area_append, area_last, area_sum, same_area, volume_of}
 use Rattle.sweeps_laws.proofs.swept.Sides.{Keeps, start_kept, finish_kept}

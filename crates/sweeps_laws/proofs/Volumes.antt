@@ -1,19 +1,19 @@
 -- One loop of a face swept: what the six volumes grow by.
 use Rattle.std.proofs.Common.{◌≡◌, ◌≢◌, ℕ, zero, suc, ◌+◌, ◌≤◌, pos, ◌+ℤ◌, ◌*ℤ◌, Bool, true, cond, nat_eq, List, [], ◌∷◌, ◌++◌, length, is_some, refl, sym, ap, ◌∙◌, arith, inl, inr}
 use Rattle.std.proofs.lemmas.Bool.Decides.{nat_tests, eqb_tells}
-use Rattle.lattice.specs.declared.Point.{Point}
-use Rattle.lattice.specs.Vectors.{dot}
-use Rattle.boundary_model.specs.Table as table
-use Rattle.boundary_model.specs.Model.{Model, FaceRow, face_of, outer, solid_of, faces_of}
-use Rattle.boundary_model.specs.Sound.{Has}
+use Rattle.euler_operators.specs.declared.Point.{Point}
+use Rattle.euler_operators.specs.Vectors.{dot}
+use Rattle.euler_operators.specs.Table as table
+use Rattle.euler_operators.specs.Model.{Model, FaceRow, face_of, outer, solid_of, faces_of}
+use Rattle.euler_operators.specs.Sound.{Has}
 use Rattle.euler_operators.specs.Conditions.{lists}
 use Rattle.euler_laws.proofs.shared.Listed.{listed_passes, all_where-rises, passes_listed}
 use Rattle.euler_laws.proofs.shared.Rows.{face_there}
 use Rattle.shapes.specs.Fresh.{Taken}
 use Rattle.shapes.specs.Measure.{area, normal, volume_in, six_volume}
 use Rattle.shapes.proofs.fresh.Rows.{at_most_greatest}
-use Rattle.lattice.proofs.Vectors.{add_none, add_assoc}
-use Rattle.lattice.proofs.Sweeps.{total_to, same_total, area_at, sides_volume}
+use Rattle.euler_operators.proofs.Vectors.{add_none, add_assoc}
+use Rattle.euler_operators.proofs.Sweeps.{total_to, same_total, area_at, sides_volume}
 use Rattle.sweeps_laws.proofs.swept.Filled.{filled, filled_search}
 use Rattle.sweeps_laws.proofs.Areas.{area_sum, volume_of, volume_last}
 use Rattle.sweeps_laws.proofs.swept.Sides.{side_face, faces_grown}

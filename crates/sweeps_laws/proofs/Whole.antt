@@ -1,17 +1,17 @@
 -- A whole face swept: its loops one after the other.
 use Rattle.std.proofs.Common.{◌≡◌, ◌≢◌, ℕ, ◌<◌, ℤ, pos, ◌+ℤ◌, ◌*ℤ◌, true, List, [], ◌∷◌, length, refl, sym, ap, subst, ◌∙◌, arith}
 use Rattle.std.proofs.lemmas.Int.{ints}
-use Rattle.lattice.specs.declared.Point.{Point}
-use Rattle.lattice.specs.Vectors.{origin, dot}
-use Rattle.boundary_model.specs.Model.{Model, items_of, content, outer, solid_of, rings_of}
-use Rattle.boundary_model.specs.Sound.{Has}
+use Rattle.euler_operators.specs.declared.Point.{Point}
+use Rattle.euler_operators.specs.Vectors.{origin, dot}
+use Rattle.euler_operators.specs.Model.{Model, items_of, content, outer, solid_of, rings_of}
+use Rattle.euler_operators.specs.Sound.{Has}
 use Rattle.euler_operators.specs.Conditions.{lists, strictly_rises}
 use Rattle.euler_laws.proofs.shared.Listed.{first_listed, rest_listed}
 use Rattle.shapes.specs.Faces.{items_in, loops_of}
 use Rattle.shapes.specs.Fresh.{Taken, Growing, growing, taken_in}
 use Rattle.shapes.specs.Prism.{raised, prism_from, prism_model}
 use Rattle.shapes.specs.Measure.{area, normal, six_volume}
-use Rattle.lattice.proofs.Vectors.{dot_moved, dot_origin, dot_turned, twice_sum, three_times, add_none, add_assoc}
+use Rattle.euler_operators.proofs.Vectors.{dot_moved, dot_origin, dot_turned, twice_sum, three_times, add_none, add_assoc}
 use Rattle.sweeps_laws.proofs.Areas.{area_append}
 use Rattle.sweeps_laws.proofs.swept.Lifted.{Bounded, IsPathOf, swept, within}
 use Rattle.sweeps_laws.proofs.Loops.{normal_is, past_first, loops_area, rest_up}

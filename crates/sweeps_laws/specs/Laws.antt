@@ -1,9 +1,9 @@
 -- What a sweep adds to the six volumes of a solid, and the six volumes of a block.
 use Rattle.std.specs.Prelude.{◌≡◌, ℕ, ℤ, pos, ◌+ℤ◌, ◌*ℤ◌, None}
-use Rattle.lattice.specs.declared.Point.{Point}
-use Rattle.lattice.specs.Vectors.{dot}
-use Rattle.boundary_model.specs.Model.{Model, solid_of}
-use Rattle.boundary_model.specs.Sound.{Sound}
+use Rattle.euler_operators.specs.declared.Point.{Point}
+use Rattle.euler_operators.specs.Vectors.{dot}
+use Rattle.euler_operators.specs.Model.{Model, solid_of}
+use Rattle.euler_operators.specs.Sound.{Sound}
 use Rattle.shapes.specs.Prism.{prism_refusal, prism_model}
 use Rattle.shapes.specs.Block.{block_refusal, block_model}
 use Rattle.shapes.specs.Measure.{normal, six_volume}

@@ -2,8 +2,8 @@
 use Rattle.std.specs.Prelude.{◌≡◌, ℕ, zero, suc, ◌<◌, List, [], ◌∷◌, ◌++◌, take, get_or, length, reverse}
 use Rattle.std.proofs.Common.{sym, subst, arith}
 use Rattle.std.proofs.lemmas.List.{reverse-append}
-use Rattle.boundary_model.specs.declared.Kind.{Kind}
-use Rattle.boundary_model.specs.declared.Kind.TheVariants.{Solid, Face, Loop, Edge, Vertex}
+use Rattle.euler_operators.specs.declared.Kind.{Kind}
+use Rattle.euler_operators.specs.declared.Kind.TheVariants.{Solid, Face, Loop, Edge, Vertex}
 use Rattle.euler_conditions.specs.Store.{Store}
 use Rattle.euler_operators.specs.declared.Op.{Op}
 use Rattle.euler_conditions.specs.Ready.{AllRoom, HasRoomFor, made, after}

@@ -1,6 +1,6 @@
 -- Worked examples of undo and redo, computed.
 use Rattle.std.specs.Prelude.{◌≡◌, None, refl}
-use Rattle.boundary_model.specs.declared.Corner.TheVariants.{Lone}
+use Rattle.euler_operators.specs.declared.Corner.TheVariants.{Lone}
 use Rattle.euler_operators.specs.declared.Op.TheVariants.{Mvfs, Mev, Kvfs}
 use Rattle.euler_operators.specs.declared.Why.TheVariants.{NothingToUndo, NothingToRedo, NoSolid}
 use Rattle.euler_operators.proofs.WorkedScripts.{computed, plus, row2, at, refused}

@@ -1,7 +1,7 @@
 -- What a session and a draft hold: one arena, the records of the commands, and a place among them.
 use Rattle.std.specs.Prelude.{◌≡◌, ℕ, ◌≤◌, true, List, [], ◌∷◌, ◌++◌, length, take, drop, reverse}
-use Rattle.boundary_model.specs.declared.Kind.{Kind}
-use Rattle.boundary_model.specs.Model.{Model, empty_model}
+use Rattle.euler_operators.specs.declared.Kind.{Kind}
+use Rattle.euler_operators.specs.Model.{Model, empty_model}
 use Rattle.euler_conditions.specs.Store.{Store, has_room}
 use Rattle.euler_operators.specs.declared.Op.{Op}
 use Rattle.euler_operators.specs.Effect.{effect, inverse}

@@ -1,6 +1,6 @@
 -- The models of a machine, by their places.
 use Rattle.std.specs.Prelude.{ℕ, get_or}
-use Rattle.boundary_model.specs.Model.{Model, empty_model}
+use Rattle.euler_operators.specs.Model.{Model, empty_model}
 use Rattle.undo_journal.specs.Machine.{Machine}
 
 -- the model after the first i commands

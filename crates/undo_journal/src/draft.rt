@@ -8,7 +8,8 @@ ghost use Rattle.euler_operators.specs.declared.Refusal.{Refusal};
 use crate::record::{OpList, Record};
 use crate::session::{Failure, Session};
 use crate::steps::{replay_all, step};
-use euler_conditions::{Arena, Op, check};
+use euler_conditions::{Arena, check};
+use euler_operators::Op;
 use std::alloc::{AllocError, Global};
 use std::marker::Model;
 

@@ -1,7 +1,7 @@
 //! The record of a command: lists of operators.
 ghost use Rattle.std.specs.Prelude.{◌≡◌, ◌<◌, length, slice_index_or};
 
-use euler_conditions::Op;
+use euler_operators::Op;
 use std::marker::Model;
 
 /// Operators in the order in which they are applied.

@@ -10,7 +10,8 @@ ghost use Rattle.undo_journal.specs.Machine as machine;
 
 use crate::record::{OpList, Record};
 use crate::steps::{replay_all, step};
-use euler_conditions::{Arena, Op, Refusal, Why, check};
+use euler_conditions::{Arena, check};
+use euler_operators::{Op, Refusal, Why};
 use std::alloc::{AllocError, Global};
 use std::marker::Model;
 

@@ -7,7 +7,8 @@ ghost use Rattle.euler_laws.specs.Laws.{AreAccepted};
 ghost use Rattle.euler_conditions.specs.Ready.{IsReady};
 ghost use Rattle.undo_journal.specs.Held.{AllHaveRoom, all_after, IsStepped};
 
-use euler_conditions::{Arena, Op};
+use euler_conditions::Arena;
+use euler_operators::Op;
 use low_euler::{apply, replay, room_op};
 use std::alloc::{AllocError, Global};
 

@@ -1,6 +1,6 @@
 use super::{Draft, Failure, OpList, Session};
-use euler_conditions::{Arena, Corner, HalfEdge, Kind, Op, Refusal, Why};
-use lattice::Point;
+use euler_conditions::Arena;
+use euler_operators::{Corner, HalfEdge, Kind, Op, Point, Refusal, Why};
 use std::alloc::Global;
 use std::process::Abort;
 use std::test::*;

@@ -1,14 +1,14 @@
 -- A model, and the one with one more solid of one face, one lone loop and one vertex: where one is sound, the other is.
 use Rattle.std.proofs.Common.{◌≡◌, ◌≢◌, ℕ, List, [], Some, None, unwrap_or, is_some, IsTrue, refl, sym, ap, ◌∙◌, subst, arith, ◌⊎◌, inl, inr, true≢false}
 use Rattle.std.proofs.lemmas.Bool.Decides.{nat_tests, eqb_tells}
-use Rattle.lattice.specs.declared.Point.{Point}
-use Rattle.lattice.specs.Point.{IsInRange}
-use Rattle.boundary_model.specs.HalfEdge.{mate}
-use Rattle.boundary_model.specs.Table as table
-use Rattle.boundary_model.specs.Table.{Table, tables}
-use Rattle.boundary_model.specs.Model.{Model, lone, cycle, FaceRow, LoopRow, no_face, no_loop, holds, tail, loop_of, content, cycle_of, face_of, solid_of, outer, after, is_number}
-use Rattle.boundary_model.specs.Sound.{Sound, Has, HasHalf}
-use Rattle.boundary_model.proofs.Models.{row_of, content_cycle}
+use Rattle.euler_operators.specs.declared.Point.{Point}
+use Rattle.euler_operators.specs.Points.{IsInRange}
+use Rattle.euler_operators.specs.HalfEdge.{mate}
+use Rattle.euler_operators.specs.Table as table
+use Rattle.euler_operators.specs.Table.{Table, tables}
+use Rattle.euler_operators.specs.Model.{Model, lone, cycle, FaceRow, LoopRow, no_face, no_loop, holds, tail, loop_of, content, cycle_of, face_of, solid_of, outer, after, is_number}
+use Rattle.euler_operators.specs.Sound.{Sound, Has, HasHalf}
+use Rattle.euler_operators.proofs.Models.{row_of, content_cycle}
 use Rattle.euler_operators.specs.Effect.{mvfs}
 use Rattle.euler_laws.proofs.shared.Fans.{half_mate}
 use Rattle.euler_laws.proofs.shared.Loops.{IsLoop, loop_sound, Walks, stands-walks, one_loop-walks, cycles-walks, ends_meet-walks, one_fan-walks, not_lone, one_vertex}

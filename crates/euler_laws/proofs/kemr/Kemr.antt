@@ -1,21 +1,21 @@
 -- kemr as an operator: it keeps a model sound, and mekr passes its conditions after it and takes it back.
 use Rattle.std.proofs.Common.{◌≡◌, ◌≢◌, ℕ, ◌≤◌, Bool, true, not, nat_eq, ◌&&◌, List, [], ◌∷◌, ◌++◌, Some, None, is_some, IsTrue, refl, sym, ap, ◌∙◌, subst, arith}
 use Rattle.std.proofs.lemmas.Bool.Decides.{nat_tests}
-use Rattle.cyclic_list.specs.Items.{count, IsIn, IsApart, head_or}
-use Rattle.cyclic_list.specs.Rings.{canonical, rotate_to, between, beyond}
-use Rattle.cyclic_list.proofs.Lists.{tick_same}
-use Rattle.cyclic_list.proofs.Rotations.{rotate_to_canonical, canonical-rotate_to}
-use Rattle.cyclic_list.proofs.Cuts.{ring_split}
-use Rattle.boundary_model.specs.declared.HalfEdge.{HalfEdge}
-use Rattle.boundary_model.specs.declared.Corner.{Corner}
-use Rattle.boundary_model.specs.HalfEdge.{code, half, mate, edge_of}
-use Rattle.boundary_model.specs.Table as table
-use Rattle.boundary_model.specs.Table.{Table}
-use Rattle.boundary_model.specs.Model.{Model, cycle, LoopRow, EdgeRow, items_of, tail, loop_of, content, cycle_of, face_of, outer, is_number, is_ring_of}
-use Rattle.boundary_model.specs.Sound.{Sound, Has, HasHalf}
-use Rattle.boundary_model.proofs.Halves.{edge_of-code, code-half, mate-mate}
-use Rattle.boundary_model.proofs.Tables.{put-remove, two_undone}
-use Rattle.boundary_model.proofs.Models.{row_of}
+use Rattle.euler_operators.specs.Items.{count, IsIn, IsApart, head_or}
+use Rattle.euler_operators.specs.Rings.{canonical, rotate_to, between, beyond}
+use Rattle.euler_operators.proofs.Lists.{tick_same}
+use Rattle.euler_operators.proofs.Rotations.{rotate_to_canonical, canonical-rotate_to}
+use Rattle.euler_operators.proofs.Cuts.{ring_split}
+use Rattle.euler_operators.specs.declared.HalfEdge.{HalfEdge}
+use Rattle.euler_operators.specs.declared.Corner.{Corner}
+use Rattle.euler_operators.specs.HalfEdge.{code, half, mate, edge_of}
+use Rattle.euler_operators.specs.Table as table
+use Rattle.euler_operators.specs.Table.{Table}
+use Rattle.euler_operators.specs.Model.{Model, cycle, LoopRow, EdgeRow, items_of, tail, loop_of, content, cycle_of, face_of, outer, is_number, is_ring_of}
+use Rattle.euler_operators.specs.Sound.{Sound, Has, HasHalf}
+use Rattle.euler_operators.proofs.Halves.{edge_of-code, code-half, mate-mate}
+use Rattle.euler_operators.proofs.Tables.{put-remove, two_undone}
+use Rattle.euler_operators.proofs.Models.{row_of}
 use Rattle.euler_operators.specs.declared.Op.TheVariants.{Kemr, Mekr}
 use Rattle.euler_operators.specs.Conditions.{first_false, conditions, corner_tail, corner_loop, corner_list, corner_known, corner_lone, corner_number, lone_vertex, is_lone}
 use Rattle.euler_operators.specs.Effect.{effect, inverse, kemr, mekr, corner_of, cycle_or_lone, edge_row}

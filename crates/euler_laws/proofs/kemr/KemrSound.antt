@@ -1,22 +1,22 @@
 -- A sound model stays sound under kemr.
 use Rattle.std.proofs.Common.{◌≡◌, ◌≢◌, ℕ, ◌+◌, true, List, [], ◌∷◌, Option, Some, None, unwrap_or, is_some, IsTrue, refl, sym, ap, ◌∙◌, subst, arith, ◌⊎◌, inl, inr, true≢false}
 use Rattle.std.proofs.lemmas.Bool.Decides.{nat_tests, eqb_tells}
-use Rattle.cyclic_list.specs.Items.{count, tick, IsIn, head_or}
-use Rattle.cyclic_list.specs.Rings.{canonical, between, beyond, IsRing, successor}
-use Rattle.cyclic_list.specs.Operators.{after_kef}
-use Rattle.cyclic_list.proofs.Lists.{count-append, tick_same, tick_other, IsIn_or_not}
-use Rattle.cyclic_list.proofs.Rotations.{canonical-rotates, IsRotation-sym, count-rotate_to}
-use Rattle.cyclic_list.proofs.Rings.{IsRing-same}
-use Rattle.cyclic_list.proofs.Cuts.{ring_split}
-use Rattle.cyclic_list.proofs.Leads.{IsRing-kemr, IsRing-redirect_other, IsRing-splice_other}
-use Rattle.boundary_model.specs.HalfEdge.{mate, edge_of}
-use Rattle.boundary_model.specs.Table as table
-use Rattle.boundary_model.specs.Table.{Table, tables}
-use Rattle.boundary_model.specs.Model.{Model, LoopContent, lone, cycle, LoopRow, items_of, holds, tail, loop_of, content, face_of, cycle_of, after, round, outer, no_loop, solid_of, no_face, is_number}
-use Rattle.boundary_model.specs.Sound.{Sound, Has, HasHalf, StandsIn, IsCycle, IsTail, IsLoneAt, NumbersFit}
-use Rattle.boundary_model.proofs.Halves.{mate_other, edge_of-mate, mate-mate, same_edge}
-use Rattle.boundary_model.proofs.Tables.{map_one}
-use Rattle.boundary_model.proofs.Models.{in-holds, holds_in, cycle_there, cycle_sound, content_cycle, row_of, other_loop}
+use Rattle.euler_operators.specs.Items.{count, tick, IsIn, head_or}
+use Rattle.euler_operators.specs.Rings.{canonical, between, beyond, IsRing, successor}
+use Rattle.euler_operators.specs.Operators.{after_kef}
+use Rattle.euler_operators.proofs.Lists.{count-append, tick_same, tick_other, IsIn_or_not}
+use Rattle.euler_operators.proofs.Rotations.{canonical-rotates, IsRotation-sym, count-rotate_to}
+use Rattle.euler_operators.proofs.Rings.{IsRing-same}
+use Rattle.euler_operators.proofs.Cuts.{ring_split}
+use Rattle.euler_operators.proofs.Leads.{IsRing-kemr, IsRing-redirect_other, IsRing-splice_other}
+use Rattle.euler_operators.specs.HalfEdge.{mate, edge_of}
+use Rattle.euler_operators.specs.Table as table
+use Rattle.euler_operators.specs.Table.{Table, tables}
+use Rattle.euler_operators.specs.Model.{Model, LoopContent, lone, cycle, LoopRow, items_of, holds, tail, loop_of, content, face_of, cycle_of, after, round, outer, no_loop, solid_of, no_face, is_number}
+use Rattle.euler_operators.specs.Sound.{Sound, Has, HasHalf, StandsIn, IsCycle, IsTail, IsLoneAt, NumbersFit}
+use Rattle.euler_operators.proofs.Halves.{mate_other, edge_of-mate, mate-mate, same_edge}
+use Rattle.euler_operators.proofs.Tables.{map_one}
+use Rattle.euler_operators.proofs.Models.{in-holds, holds_in, cycle_there, cycle_sound, content_cycle, row_of, other_loop}
 use Rattle.euler_operators.specs.Effect.{kemr, where_held, cycle_or_lone}
 use Rattle.euler_laws.proofs.shared.Fans.{Fan, fan_of, half_after, half_mate, fixed_reaches}
 use Rattle.euler_laws.proofs.shared.Loops.{IsLoop, light, loop_sound, Walks, loop_at, stands-walks, one_loop-walks, cycles-walks, ends_meet-walks, one_fan-walks, not_lone}

@@ -1,18 +1,18 @@
 -- kev of an edge that stands alone is taken back by mev at the lone loop that it leaves.
 use Rattle.std.proofs.Common.{◌≡◌, ◌≢◌, ℕ, List, [], ◌∷◌, Some, is_some, refl, sym, ap, ◌∙◌, arith, inl, inr}
 use Rattle.std.proofs.lemmas.Bool.Decides.{eqb_tells}
-use Rattle.cyclic_list.specs.Items.{count, tick, IsIn}
-use Rattle.cyclic_list.specs.Rings.{canonical, rest, IsRing, IsPath}
-use Rattle.cyclic_list.proofs.Lists.{tick_same, IsIn_or_not}
-use Rattle.cyclic_list.proofs.Rings.{count_at, IsRing-same, rotation_at}
-use Rattle.cyclic_list.proofs.Cuts.{canonical_from}
-use Rattle.boundary_model.specs.HalfEdge.{mate, edge_of}
-use Rattle.boundary_model.specs.Table as table
-use Rattle.boundary_model.specs.Model.{Model, cycle, items_of, tail, loop_of, content, cycle_of, after, point_of}
-use Rattle.boundary_model.specs.Sound.{Sound, Has, HasHalf, IsCycle}
-use Rattle.boundary_model.proofs.Halves.{mate_other, same_edge}
-use Rattle.boundary_model.proofs.Tables.{put-remove}
-use Rattle.boundary_model.proofs.Models.{in-holds, cycle_there, cycle_sound, content_cycle, row_of}
+use Rattle.euler_operators.specs.Items.{count, tick, IsIn}
+use Rattle.euler_operators.specs.Rings.{canonical, rest, IsRing, IsPath}
+use Rattle.euler_operators.proofs.Lists.{tick_same, IsIn_or_not}
+use Rattle.euler_operators.proofs.Rings.{count_at, IsRing-same, rotation_at}
+use Rattle.euler_operators.proofs.Cuts.{canonical_from}
+use Rattle.euler_operators.specs.HalfEdge.{mate, edge_of}
+use Rattle.euler_operators.specs.Table as table
+use Rattle.euler_operators.specs.Model.{Model, cycle, items_of, tail, loop_of, content, cycle_of, after, point_of}
+use Rattle.euler_operators.specs.Sound.{Sound, Has, HasHalf, IsCycle}
+use Rattle.euler_operators.proofs.Halves.{mate_other, same_edge}
+use Rattle.euler_operators.proofs.Tables.{put-remove}
+use Rattle.euler_operators.proofs.Models.{in-holds, cycle_there, cycle_sound, content_cycle, row_of}
 use Rattle.euler_operators.specs.Effect.{mev_lone, kev}
 use Rattle.euler_laws.proofs.shared.Fans.{half_mate, loop_after}
 use Rattle.euler_laws.proofs.shared.Loops.{light}

@@ -2,23 +2,23 @@
 use Rattle.std.proofs.Common.{◌≡◌, ◌≢◌, ℕ, ◌+◌, Bool, true, false, cond, nat_eq, ◌||◌, List, [], ◌++◌, Option, Some, None, unwrap_or, is_some, refl, sym, ap, ◌∙◌, subst, arith, ◌⊎◌, inl, inr, true≢false}
 use Rattle.std.specs.Option.{option_map}
 use Rattle.std.proofs.lemmas.Bool.Decides.{nat_tests, eqb_tells}
-use Rattle.lattice.specs.declared.Point.{Point}
-use Rattle.lattice.specs.Point.{IsInRange}
-use Rattle.cyclic_list.specs.Items.{count, tick, IsIn, IsApart}
-use Rattle.cyclic_list.specs.Rings.{canonical, rest, IsRing}
-use Rattle.cyclic_list.specs.Edits.{without, redirect}
-use Rattle.cyclic_list.specs.Operators.{after_kev}
-use Rattle.cyclic_list.proofs.Lists.{count-append, tick_same, tick_other, IsIn_or_not}
-use Rattle.cyclic_list.proofs.Rotations.{count-canonical, IsApart-canonical}
-use Rattle.cyclic_list.proofs.Rings.{count_at}
-use Rattle.cyclic_list.proofs.Edits.{without_none}
-use Rattle.boundary_model.specs.HalfEdge.{mate, edge_of, is_first}
-use Rattle.boundary_model.specs.Table as table
-use Rattle.boundary_model.specs.Table.{Table, tables}
-use Rattle.boundary_model.specs.Model.{Model, LoopContent, lone, cycle, EdgeRow, items_of, holds, tail, loop_of, content, after, round, tail_in, no_edge}
-use Rattle.boundary_model.specs.Sound.{Sound, Has, HasHalf, StandsIn, IsTail, IsLoneAt, NumbersFit}
-use Rattle.boundary_model.proofs.Halves.{mate_other, edge_of-mate, mate-mate, same_edge}
-use Rattle.boundary_model.proofs.Models.{in-holds, holds_in, holds-none, cycle_there}
+use Rattle.euler_operators.specs.declared.Point.{Point}
+use Rattle.euler_operators.specs.Points.{IsInRange}
+use Rattle.euler_operators.specs.Items.{count, tick, IsIn, IsApart}
+use Rattle.euler_operators.specs.Rings.{canonical, rest, IsRing}
+use Rattle.euler_operators.specs.Edits.{without, redirect}
+use Rattle.euler_operators.specs.Operators.{after_kev}
+use Rattle.euler_operators.proofs.Lists.{count-append, tick_same, tick_other, IsIn_or_not}
+use Rattle.euler_operators.proofs.Rotations.{count-canonical, IsApart-canonical}
+use Rattle.euler_operators.proofs.Rings.{count_at}
+use Rattle.euler_operators.proofs.Edits.{without_none}
+use Rattle.euler_operators.specs.HalfEdge.{mate, edge_of, is_first}
+use Rattle.euler_operators.specs.Table as table
+use Rattle.euler_operators.specs.Table.{Table, tables}
+use Rattle.euler_operators.specs.Model.{Model, LoopContent, lone, cycle, EdgeRow, items_of, holds, tail, loop_of, content, after, round, tail_in, no_edge}
+use Rattle.euler_operators.specs.Sound.{Sound, Has, HasHalf, StandsIn, IsTail, IsLoneAt, NumbersFit}
+use Rattle.euler_operators.proofs.Halves.{mate_other, edge_of-mate, mate-mate, same_edge}
+use Rattle.euler_operators.proofs.Models.{in-holds, holds_in, holds-none, cycle_there}
 use Rattle.euler_operators.specs.Effect.{kev, without_edge, moved_tail, cycle_or_lone}
 use Rattle.euler_laws.proofs.shared.Fans.{Fan, fan_of, half_after, half_mate, loop_after, ring_reaches, fixed_reaches, two_reaches}
 use Rattle.euler_laws.proofs.shared.Loops.{IsLoop, count_out, count_gone, apart_out, ring_out, light, loop_sound, Walks, loop_at, stands-walks, one_loop-walks, cycles-walks, ends_meet-walks, one_fan-walks}

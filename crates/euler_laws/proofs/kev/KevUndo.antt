@@ -1,23 +1,23 @@
 -- kev is taken back by mev at two half-edges, where others leave the kept vertex.
 use Rattle.std.proofs.Common.{◌≡◌, ◌≢◌, ℕ, ◌+◌, cond, nat_eq, List, [], ◌∷◌, ◌++◌, Some, is_some, refl, sym, ap, ◌∙◌, subst, arith, ◌⊎◌, inl, inr}
 use Rattle.std.proofs.lemmas.Bool.Decides.{eqb_tells}
-use Rattle.cyclic_list.specs.Items.{count, tick, IsIn, IsApart, head_or}
-use Rattle.cyclic_list.specs.Rings.{canonical, rotate_to, rest, between, beyond, successor, IsRing, IsRotation}
-use Rattle.cyclic_list.specs.Edits.{insert_before, without}
-use Rattle.cyclic_list.specs.Operators.{mev_ring, kev_ring, take_ring}
-use Rattle.cyclic_list.proofs.Lists.{count-append, tick_same, tick_other, IsIn_or_not, count-before}
-use Rattle.cyclic_list.proofs.Rotations.{count-canonical, IsApart-canonical, canonical-rotates, rotate_to_same, rotate_to_head, count-rotate_to}
-use Rattle.cyclic_list.proofs.Rings.{IsIn_successor, count_at, IsRing-same, rotation_at, IsPath-agree}
-use Rattle.cyclic_list.proofs.Cuts.{ring_split, upto_once}
-use Rattle.cyclic_list.proofs.Operators.{mev-kev, put-take, apart_left}
-use Rattle.cyclic_list.proofs.Edits.{without_none, count-insert_before}
-use Rattle.boundary_model.specs.HalfEdge.{mate, edge_of}
-use Rattle.boundary_model.specs.Table as table
-use Rattle.boundary_model.specs.Model.{Model, LoopContent, lone, cycle, items_of, tail, loop_of, content, after, round, point_of}
-use Rattle.boundary_model.specs.Sound.{Sound, Has, HasHalf, IsCycle}
-use Rattle.boundary_model.proofs.Halves.{mate_other, mate-mate, same_edge}
-use Rattle.boundary_model.proofs.Tables.{put-remove}
-use Rattle.boundary_model.proofs.Models.{in-holds, cycle_there}
+use Rattle.euler_operators.specs.Items.{count, tick, IsIn, IsApart, head_or}
+use Rattle.euler_operators.specs.Rings.{canonical, rotate_to, rest, between, beyond, successor, IsRing, IsRotation}
+use Rattle.euler_operators.specs.Edits.{insert_before, without}
+use Rattle.euler_operators.specs.Operators.{mev_ring, kev_ring, take_ring}
+use Rattle.euler_operators.proofs.Lists.{count-append, tick_same, tick_other, IsIn_or_not, count-before}
+use Rattle.euler_operators.proofs.Rotations.{count-canonical, IsApart-canonical, canonical-rotates, rotate_to_same, rotate_to_head, count-rotate_to}
+use Rattle.euler_operators.proofs.Rings.{IsIn_successor, count_at, IsRing-same, rotation_at, IsPath-agree}
+use Rattle.euler_operators.proofs.Cuts.{ring_split, upto_once}
+use Rattle.euler_operators.proofs.Operators.{mev-kev, put-take, apart_left}
+use Rattle.euler_operators.proofs.Edits.{without_none, count-insert_before}
+use Rattle.euler_operators.specs.HalfEdge.{mate, edge_of}
+use Rattle.euler_operators.specs.Table as table
+use Rattle.euler_operators.specs.Model.{Model, LoopContent, lone, cycle, items_of, tail, loop_of, content, after, round, point_of}
+use Rattle.euler_operators.specs.Sound.{Sound, Has, HasHalf, IsCycle}
+use Rattle.euler_operators.proofs.Halves.{mate_other, mate-mate, same_edge}
+use Rattle.euler_operators.proofs.Tables.{put-remove}
+use Rattle.euler_operators.proofs.Models.{in-holds, cycle_there}
 use Rattle.euler_operators.specs.Effect.{mev_at, kev}
 use Rattle.euler_laws.proofs.shared.Fans.{half_mate, half_after, loop_after}
 use Rattle.euler_laws.proofs.shared.Loops.{put_before, put_there, put_none, put_lone, after-walks, count_out}

@@ -1,21 +1,21 @@
 -- mev at a lone loop is taken back by kev.
 use Rattle.std.proofs.Common.{◌≡◌, ◌≢◌, ℕ, ◌+◌, true, false, cond, not, nat_eq, List, [], ◌∷◌, Option, Some, None, unwrap_or, is_some, refl, sym, ap, ◌∙◌, arith, true≢false, ◌||◌}
 use Rattle.std.proofs.lemmas.Bool.Decides.{nat_tests}
-use Rattle.lattice.specs.declared.Point.{Point}
-use Rattle.cyclic_list.specs.Items.{count, tick, IsIn}
-use Rattle.cyclic_list.specs.Rings.{canonical}
-use Rattle.cyclic_list.specs.Edits.{without}
-use Rattle.cyclic_list.proofs.Rotations.{count-canonical}
-use Rattle.cyclic_list.proofs.Edits.{count-without}
-use Rattle.cyclic_list.proofs.Lists.{tick_same, tick_other}
-use Rattle.boundary_model.specs.HalfEdge.{mate, edge_of, is_first, plus, minus}
-use Rattle.boundary_model.specs.Table as table
-use Rattle.boundary_model.specs.Table.{Table, tables}
-use Rattle.boundary_model.specs.Model.{Model, lone, cycle, LoopRow, EdgeRow, items_of, holds, tail, tail_in, no_loop, content, face_of}
-use Rattle.boundary_model.specs.Sound.{Sound, Has}
-use Rattle.boundary_model.proofs.Halves.{mate_other, edge_of-mate, is_first-mate, plus_row, minus_row}
-use Rattle.boundary_model.proofs.Tables.{remove-put, map_same, map-put, put_same}
-use Rattle.boundary_model.proofs.Models.{not_held, no_tail, holds-none, in-holds, tail_row}
+use Rattle.euler_operators.specs.declared.Point.{Point}
+use Rattle.euler_operators.specs.Items.{count, tick, IsIn}
+use Rattle.euler_operators.specs.Rings.{canonical}
+use Rattle.euler_operators.specs.Edits.{without}
+use Rattle.euler_operators.proofs.Rotations.{count-canonical}
+use Rattle.euler_operators.proofs.Edits.{count-without}
+use Rattle.euler_operators.proofs.Lists.{tick_same, tick_other}
+use Rattle.euler_operators.specs.HalfEdge.{mate, edge_of, is_first, plus, minus}
+use Rattle.euler_operators.specs.Table as table
+use Rattle.euler_operators.specs.Table.{Table, tables}
+use Rattle.euler_operators.specs.Model.{Model, lone, cycle, LoopRow, EdgeRow, items_of, holds, tail, tail_in, no_loop, content, face_of}
+use Rattle.euler_operators.specs.Sound.{Sound, Has}
+use Rattle.euler_operators.proofs.Halves.{mate_other, edge_of-mate, is_first-mate, plus_row, minus_row}
+use Rattle.euler_operators.proofs.Tables.{remove-put, map_same, map-put, put_same}
+use Rattle.euler_operators.proofs.Models.{not_held, no_tail, holds-none, in-holds, tail_row}
 use Rattle.euler_operators.specs.Conditions.{lone_vertex}
 use Rattle.euler_operators.specs.Effect.{mev_lone, kev, moved_tail, edge_row, without_edge, cycle_or_lone}
 use Rattle.euler_laws.proofs.shared.Rows.{no_items}

@@ -1,23 +1,23 @@
 -- mev at two half-edges is taken back by kev.
 use Rattle.std.proofs.Common.{◌≡◌, ◌≢◌, ℕ, ◌+◌, Bool, true, false, cond, ◌||◌, List, [], ◌∷◌, ◌++◌, is_some, refl, sym, ap, ◌∙◌, arith, inl, inr, eq-eqb}
 use Rattle.std.proofs.lemmas.Bool.Decides.{eqb_tells}
-use Rattle.lattice.specs.declared.Point.{Point}
-use Rattle.cyclic_list.specs.Items.{count, tick, IsIn, IsApart}
-use Rattle.cyclic_list.specs.Rings.{canonical, rotate_to, upto, onward}
-use Rattle.cyclic_list.specs.Edits.{insert_before, without, led_over}
-use Rattle.cyclic_list.specs.Operators.{mev_ring, put_ring}
-use Rattle.cyclic_list.proofs.Lists.{count-append, tick_same, tick_other, IsIn_or_not}
-use Rattle.cyclic_list.proofs.Rotations.{count-canonical, IsApart-canonical, canonical_nil, count-rotate_to}
-use Rattle.cyclic_list.proofs.Operators.{kev-mev, take-put, apart_put}
-use Rattle.cyclic_list.proofs.Leads.{apart_mev}
-use Rattle.cyclic_list.proofs.Edits.{without_none, count-insert_before}
-use Rattle.boundary_model.specs.HalfEdge.{mate, edge_of}
-use Rattle.boundary_model.specs.Table as table
-use Rattle.boundary_model.specs.Model.{Model, LoopContent, lone, cycle, items_of, holds, tail, content, after}
-use Rattle.boundary_model.specs.Sound.{Sound, Has, HasHalf, IsCycle}
-use Rattle.boundary_model.proofs.Halves.{mate_other, edge_of-mate}
-use Rattle.boundary_model.proofs.Tables.{remove-put}
-use Rattle.boundary_model.proofs.Models.{in-holds, holds-none}
+use Rattle.euler_operators.specs.declared.Point.{Point}
+use Rattle.euler_operators.specs.Items.{count, tick, IsIn, IsApart}
+use Rattle.euler_operators.specs.Rings.{canonical, rotate_to, upto, onward}
+use Rattle.euler_operators.specs.Edits.{insert_before, without, led_over}
+use Rattle.euler_operators.specs.Operators.{mev_ring, put_ring}
+use Rattle.euler_operators.proofs.Lists.{count-append, tick_same, tick_other, IsIn_or_not}
+use Rattle.euler_operators.proofs.Rotations.{count-canonical, IsApart-canonical, canonical_nil, count-rotate_to}
+use Rattle.euler_operators.proofs.Operators.{kev-mev, take-put, apart_put}
+use Rattle.euler_operators.proofs.Leads.{apart_mev}
+use Rattle.euler_operators.proofs.Edits.{without_none, count-insert_before}
+use Rattle.euler_operators.specs.HalfEdge.{mate, edge_of}
+use Rattle.euler_operators.specs.Table as table
+use Rattle.euler_operators.specs.Model.{Model, LoopContent, lone, cycle, items_of, holds, tail, content, after}
+use Rattle.euler_operators.specs.Sound.{Sound, Has, HasHalf, IsCycle}
+use Rattle.euler_operators.proofs.Halves.{mate_other, edge_of-mate}
+use Rattle.euler_operators.proofs.Tables.{remove-put}
+use Rattle.euler_operators.proofs.Models.{in-holds, holds-none}
 use Rattle.euler_operators.specs.Effect.{mev_at, kev, cycle_or_lone}
 use Rattle.euler_laws.proofs.shared.Fans.{half_mate}
 use Rattle.euler_laws.proofs.shared.Loops.{put_before, put_there, put_none, put_lone, none_free, count_out, after-walks}

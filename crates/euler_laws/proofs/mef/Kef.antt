@@ -1,18 +1,18 @@
 -- kef as an operator: it keeps a model sound, and mef takes it back; and kef passes its conditions after mef.
 use Rattle.std.proofs.Common.{◌≡◌, ◌≢◌, ℕ, true, Some, None, is_some, refl, sym, ap, ◌∙◌, subst, inl, inr}
 use Rattle.std.proofs.lemmas.Bool.Decides.{eqb_tells}
-use Rattle.cyclic_list.specs.Items.{IsIn}
-use Rattle.cyclic_list.specs.Operators.{mef_old, mef_new, kef_ring}
-use Rattle.cyclic_list.proofs.Operators.{mef-kef}
-use Rattle.boundary_model.specs.declared.HalfEdge.{HalfEdge}
-use Rattle.boundary_model.specs.HalfEdge.{code, half, mate, edge_of}
-use Rattle.boundary_model.specs.Table as table
-use Rattle.boundary_model.specs.Table.{Table, tables, same_table}
-use Rattle.boundary_model.specs.Model.{Model, cycle, FaceRow, EdgeRow, items_of, tail, loop_of, content, cycle_of, face_of, solid_of, outer, after, is_number}
-use Rattle.boundary_model.specs.Sound.{Sound, HasHalf}
-use Rattle.boundary_model.proofs.Halves.{edge_of-code, code-half, mate-mate}
-use Rattle.boundary_model.proofs.Tables.{put-remove}
-use Rattle.boundary_model.proofs.Models.{row_of, cycle_there, cycle_sound}
+use Rattle.euler_operators.specs.Items.{IsIn}
+use Rattle.euler_operators.specs.Operators.{mef_old, mef_new, kef_ring}
+use Rattle.euler_operators.proofs.Operators.{mef-kef}
+use Rattle.euler_operators.specs.declared.HalfEdge.{HalfEdge}
+use Rattle.euler_operators.specs.HalfEdge.{code, half, mate, edge_of}
+use Rattle.euler_operators.specs.Table as table
+use Rattle.euler_operators.specs.Table.{Table, tables, same_table}
+use Rattle.euler_operators.specs.Model.{Model, cycle, FaceRow, EdgeRow, items_of, tail, loop_of, content, cycle_of, face_of, solid_of, outer, after, is_number}
+use Rattle.euler_operators.specs.Sound.{Sound, HasHalf}
+use Rattle.euler_operators.proofs.Halves.{edge_of-code, code-half, mate-mate}
+use Rattle.euler_operators.proofs.Tables.{put-remove}
+use Rattle.euler_operators.proofs.Models.{row_of, cycle_there, cycle_sound}
 use Rattle.euler_operators.specs.declared.Op.TheVariants.{Mef, Kef}
 use Rattle.euler_operators.specs.Conditions.{first_false, conditions, face_at}
 use Rattle.euler_operators.specs.Effect.{effect, inverse, mef, kef, edge_row}

@@ -1,21 +1,21 @@
 -- A sound model stays sound under kef.
 use Rattle.std.proofs.Common.{◌≡◌, ◌≢◌, ℕ, ◌+◌, List, [], ◌++◌, Some, None, unwrap_or, is_some, refl, sym, ap, ◌∙◌, subst, arith, ◌⊎◌, inl, inr, true≢false}
 use Rattle.std.proofs.lemmas.Bool.Decides.{nat_tests, eqb_tells}
-use Rattle.cyclic_list.specs.Items.{count, tick, IsIn, IsApart}
-use Rattle.cyclic_list.specs.Rings.{canonical, rest, IsRing}
-use Rattle.cyclic_list.specs.Operators.{after_kef, kef_ring}
-use Rattle.cyclic_list.proofs.Lists.{count-append, tick_same, tick_other, IsIn_or_not}
-use Rattle.cyclic_list.proofs.Rotations.{count-canonical}
-use Rattle.cyclic_list.proofs.Rings.{count_at}
-use Rattle.cyclic_list.proofs.Leads.{IsRing-kef, IsRing-redirect_other, IsRing-splice_other}
-use Rattle.boundary_model.specs.HalfEdge.{mate, edge_of}
-use Rattle.boundary_model.specs.Table as table
-use Rattle.boundary_model.specs.Table.{Table, tables}
-use Rattle.boundary_model.specs.Model.{Model, LoopContent, lone, cycle, LoopRow, no_face, items_of, holds, tail, loop_of, content, face_of, cycle_of, after, outer, no_loop, solid_of}
-use Rattle.boundary_model.specs.Sound.{Sound, Has, HasHalf, StandsIn, IsTail, IsLoneAt}
-use Rattle.boundary_model.proofs.Halves.{mate_other, edge_of-mate, mate-mate, same_edge}
-use Rattle.boundary_model.proofs.Tables.{map_one}
-use Rattle.boundary_model.proofs.Models.{in-holds, holds_in, cycle_there, cycle_sound, content_cycle, row_of, other_loop}
+use Rattle.euler_operators.specs.Items.{count, tick, IsIn, IsApart}
+use Rattle.euler_operators.specs.Rings.{canonical, rest, IsRing}
+use Rattle.euler_operators.specs.Operators.{after_kef, kef_ring}
+use Rattle.euler_operators.proofs.Lists.{count-append, tick_same, tick_other, IsIn_or_not}
+use Rattle.euler_operators.proofs.Rotations.{count-canonical}
+use Rattle.euler_operators.proofs.Rings.{count_at}
+use Rattle.euler_operators.proofs.Leads.{IsRing-kef, IsRing-redirect_other, IsRing-splice_other}
+use Rattle.euler_operators.specs.HalfEdge.{mate, edge_of}
+use Rattle.euler_operators.specs.Table as table
+use Rattle.euler_operators.specs.Table.{Table, tables}
+use Rattle.euler_operators.specs.Model.{Model, LoopContent, lone, cycle, LoopRow, no_face, items_of, holds, tail, loop_of, content, face_of, cycle_of, after, outer, no_loop, solid_of}
+use Rattle.euler_operators.specs.Sound.{Sound, Has, HasHalf, StandsIn, IsTail, IsLoneAt}
+use Rattle.euler_operators.proofs.Halves.{mate_other, edge_of-mate, mate-mate, same_edge}
+use Rattle.euler_operators.proofs.Tables.{map_one}
+use Rattle.euler_operators.proofs.Models.{in-holds, holds_in, cycle_there, cycle_sound, content_cycle, row_of, other_loop}
 use Rattle.euler_operators.specs.Conditions.{face_at}
 use Rattle.euler_operators.specs.Effect.{kef, where_held}
 use Rattle.euler_laws.proofs.shared.Fans.{Fan, fan_of, half_after, half_mate, loop_after}

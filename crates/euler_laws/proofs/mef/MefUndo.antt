@@ -1,20 +1,20 @@
 -- mef is taken back by kef; and what mef makes of a sound model, loop by loop.
 use Rattle.std.proofs.Common.{◌≡◌, ◌≢◌, ℕ, ◌+◌, true, false, List, [], ◌∷◌, ◌++◌, Some, None, refl, sym, ap, ◌∙◌, arith, inl, inr, true≢false}
 use Rattle.std.proofs.lemmas.Bool.Decides.{nat_tests, eqb_tells}
-use Rattle.cyclic_list.specs.Items.{count, tick, IsApart}
-use Rattle.cyclic_list.specs.Rings.{canonical, rest, upto, onward}
-use Rattle.cyclic_list.specs.Operators.{mef_old, mef_new}
-use Rattle.cyclic_list.proofs.Operators.{kef-mef}
-use Rattle.cyclic_list.proofs.Rotations.{count-canonical}
-use Rattle.cyclic_list.proofs.Lists.{count-append, tick_same, tick_other}
-use Rattle.boundary_model.specs.HalfEdge.{mate, edge_of}
-use Rattle.boundary_model.specs.Table as table
-use Rattle.boundary_model.specs.Table.{Table, tables, same_table}
-use Rattle.boundary_model.specs.Model.{Model, LoopContent, cycle, LoopRow, items_of, holds, loop_of, content, face_of, cycle_of, solid_of}
-use Rattle.boundary_model.specs.Sound.{Sound, HasHalf}
-use Rattle.boundary_model.proofs.Halves.{mate_other, edge_of-mate}
-use Rattle.boundary_model.proofs.Tables.{remove-put, map_one, first_where_is, two_undone}
-use Rattle.boundary_model.proofs.Models.{content_row, face_row, row_of, not_held, other_loop, in-holds, holds-none, cycle_there, cycle_sound}
+use Rattle.euler_operators.specs.Items.{count, tick, IsApart}
+use Rattle.euler_operators.specs.Rings.{canonical, rest, upto, onward}
+use Rattle.euler_operators.specs.Operators.{mef_old, mef_new}
+use Rattle.euler_operators.proofs.Operators.{kef-mef}
+use Rattle.euler_operators.proofs.Rotations.{count-canonical}
+use Rattle.euler_operators.proofs.Lists.{count-append, tick_same, tick_other}
+use Rattle.euler_operators.specs.HalfEdge.{mate, edge_of}
+use Rattle.euler_operators.specs.Table as table
+use Rattle.euler_operators.specs.Table.{Table, tables, same_table}
+use Rattle.euler_operators.specs.Model.{Model, LoopContent, cycle, LoopRow, items_of, holds, loop_of, content, face_of, cycle_of, solid_of}
+use Rattle.euler_operators.specs.Sound.{Sound, HasHalf}
+use Rattle.euler_operators.proofs.Halves.{mate_other, edge_of-mate}
+use Rattle.euler_operators.proofs.Tables.{remove-put, map_one, first_where_is, two_undone}
+use Rattle.euler_operators.proofs.Models.{content_row, face_row, row_of, not_held, other_loop, in-holds, holds-none, cycle_there, cycle_sound}
 use Rattle.euler_operators.specs.Conditions.{face_at}
 use Rattle.euler_operators.specs.Effect.{mef, kef, where_held}
 use Rattle.euler_laws.proofs.shared.Rows.{where_held_none, where_held_there, one_row, count-halves}

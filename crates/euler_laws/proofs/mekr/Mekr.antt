@@ -1,16 +1,16 @@
 -- mekr as an operator: it keeps a model sound, and kemr passes its conditions after it and takes it back.
 use Rattle.std.proofs.Common.{◌≡◌, ℕ, List, ◌∷◌, ◌++◌, None, is_some, refl, sym, ap, ◌∙◌, subst, inl, inr}
-use Rattle.cyclic_list.specs.Rings.{canonical, between, beyond}
-use Rattle.cyclic_list.proofs.Operators.{between_canonical, beyond_canonical}
-use Rattle.boundary_model.specs.declared.HalfEdge.{HalfEdge}
-use Rattle.boundary_model.specs.declared.Corner.{Corner}
-use Rattle.boundary_model.specs.HalfEdge.{code, mate, edge_of}
-use Rattle.boundary_model.specs.Table as table
-use Rattle.boundary_model.specs.Table.{Table, tables, same_table}
-use Rattle.boundary_model.specs.Model.{Model, items_of, tail, loop_of, content, cycle_of, face_of, is_number}
-use Rattle.boundary_model.specs.Sound.{Sound}
-use Rattle.boundary_model.proofs.Halves.{edge_of-code}
-use Rattle.boundary_model.proofs.Tables.{remove-put}
+use Rattle.euler_operators.specs.Rings.{canonical, between, beyond}
+use Rattle.euler_operators.proofs.Operators.{between_canonical, beyond_canonical}
+use Rattle.euler_operators.specs.declared.HalfEdge.{HalfEdge}
+use Rattle.euler_operators.specs.declared.Corner.{Corner}
+use Rattle.euler_operators.specs.HalfEdge.{code, mate, edge_of}
+use Rattle.euler_operators.specs.Table as table
+use Rattle.euler_operators.specs.Table.{Table, tables, same_table}
+use Rattle.euler_operators.specs.Model.{Model, items_of, tail, loop_of, content, cycle_of, face_of, is_number}
+use Rattle.euler_operators.specs.Sound.{Sound}
+use Rattle.euler_operators.proofs.Halves.{edge_of-code}
+use Rattle.euler_operators.proofs.Tables.{remove-put}
 use Rattle.euler_operators.specs.declared.Op.TheVariants.{Kemr, Mekr}
 use Rattle.euler_operators.specs.Conditions.{first_false, conditions, corner_tail, corner_loop, corner_list}
 use Rattle.euler_operators.specs.Effect.{effect, inverse, kemr, mekr, cycle_or_lone, edge_row}

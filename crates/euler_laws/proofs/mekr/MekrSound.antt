@@ -1,20 +1,20 @@
 -- A sound model stays sound under mekr.
 use Rattle.std.proofs.Common.{◌≡◌, ◌≢◌, ℕ, ◌+◌, List, [], ◌∷◌, ◌++◌, Some, None, unwrap_or, is_some, refl, sym, ap, ◌∙◌, subst, arith, ◌⊎◌, inl, inr, true≢false, eq-eqb, ne_eqb}
 use Rattle.std.proofs.lemmas.Bool.Decides.{nat_tests, eqb_tells}
-use Rattle.cyclic_list.specs.Items.{count, tick, IsIn, IsApart, head_or}
-use Rattle.cyclic_list.specs.Rings.{canonical, IsPath, IsRing}
-use Rattle.cyclic_list.specs.Operators.{after_mef}
-use Rattle.cyclic_list.proofs.Lists.{count-append, tick_same, tick_other, IsIn_or_not}
-use Rattle.cyclic_list.proofs.Rotations.{count-canonical}
-use Rattle.cyclic_list.proofs.Rings.{IsPath-append, IsPath-sent, IsPath-agree}
-use Rattle.cyclic_list.proofs.Operators.{apart_braced}
-use Rattle.boundary_model.specs.HalfEdge.{mate, edge_of}
-use Rattle.boundary_model.specs.Table as table
-use Rattle.boundary_model.specs.Table.{Table, tables}
-use Rattle.boundary_model.specs.Model.{Model, LoopContent, lone, cycle, LoopRow, items_of, holds, tail, loop_of, content, face_of, after, outer, no_loop, no_face, solid_of}
-use Rattle.boundary_model.specs.Sound.{Sound, Has, HasHalf, StandsIn, IsTail, IsLoneAt}
-use Rattle.boundary_model.proofs.Halves.{mate_other, edge_of-mate, mate-mate}
-use Rattle.boundary_model.proofs.Models.{in-holds, holds_in}
+use Rattle.euler_operators.specs.Items.{count, tick, IsIn, IsApart, head_or}
+use Rattle.euler_operators.specs.Rings.{canonical, IsPath, IsRing}
+use Rattle.euler_operators.specs.Operators.{after_mef}
+use Rattle.euler_operators.proofs.Lists.{count-append, tick_same, tick_other, IsIn_or_not}
+use Rattle.euler_operators.proofs.Rotations.{count-canonical}
+use Rattle.euler_operators.proofs.Rings.{IsPath-append, IsPath-sent, IsPath-agree}
+use Rattle.euler_operators.proofs.Operators.{apart_braced}
+use Rattle.euler_operators.specs.HalfEdge.{mate, edge_of}
+use Rattle.euler_operators.specs.Table as table
+use Rattle.euler_operators.specs.Table.{Table, tables}
+use Rattle.euler_operators.specs.Model.{Model, LoopContent, lone, cycle, LoopRow, items_of, holds, tail, loop_of, content, face_of, after, outer, no_loop, no_face, solid_of}
+use Rattle.euler_operators.specs.Sound.{Sound, Has, HasHalf, StandsIn, IsTail, IsLoneAt}
+use Rattle.euler_operators.proofs.Halves.{mate_other, edge_of-mate, mate-mate}
+use Rattle.euler_operators.proofs.Models.{in-holds, holds_in}
 use Rattle.euler_operators.specs.Effect.{edge_row}
 use Rattle.euler_laws.proofs.shared.Fans.{Fan, fan_of, half_after, half_mate, loop_after}
 use Rattle.euler_laws.proofs.shared.Loops.{IsLoop, canonical_cycle, canonical_ring, loop_sound, Walks, loop_at, stands-walks, one_loop-walks, cycles-walks, ends_meet-walks, one_fan-walks, not_lone}

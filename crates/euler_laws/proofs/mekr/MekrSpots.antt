@@ -1,20 +1,20 @@
 -- The corners that mekr joins: a loop, its vertex, and the half-edges of the loop from the corner on, none where it is lone.
 use Rattle.std.proofs.Common.{◌≡◌, ◌≢◌, ℕ, Bool, true, not, nat_eq, ◌&&◌, List, [], ◌∷◌, None, is_some, IsTrue, refl, sym, ap, ◌∙◌, subst, arith, ◌⊎◌, inl, inr}
 use Rattle.std.proofs.lemmas.Bool.Decides.{nat_tests}
-use Rattle.cyclic_list.specs.Items.{count, IsIn, IsApart, head_or}
-use Rattle.cyclic_list.specs.Rings.{canonical, rotate_to, rest, IsRing}
-use Rattle.cyclic_list.proofs.Lists.{tick_same}
-use Rattle.cyclic_list.proofs.Rotations.{rotate_to_is, IsApart-rotate_to, canonical-rotate_to, canonical-rotates, IsRotation-sym}
-use Rattle.cyclic_list.proofs.Rings.{IsRing-same}
-use Rattle.boundary_model.specs.declared.HalfEdge.{HalfEdge}
-use Rattle.boundary_model.specs.declared.Corner.{Corner}
-use Rattle.boundary_model.specs.declared.Corner.TheVariants.{At, Lone}
-use Rattle.boundary_model.specs.HalfEdge.{code, edge_of}
-use Rattle.boundary_model.specs.Table as table
-use Rattle.boundary_model.specs.Model.{Model, lone, cycle, items_of, tail, after, loop_of, content, cycle_of, face_of, outer, is_number}
-use Rattle.boundary_model.specs.Sound.{Sound, Has, HasHalf, StandsIn}
-use Rattle.boundary_model.proofs.Halves.{edge_of-code}
-use Rattle.boundary_model.proofs.Models.{in-holds, holds_in, row_of, content_cycle, cycle_there, cycle_sound}
+use Rattle.euler_operators.specs.Items.{count, IsIn, IsApart, head_or}
+use Rattle.euler_operators.specs.Rings.{canonical, rotate_to, rest, IsRing}
+use Rattle.euler_operators.proofs.Lists.{tick_same}
+use Rattle.euler_operators.proofs.Rotations.{rotate_to_is, IsApart-rotate_to, canonical-rotate_to, canonical-rotates, IsRotation-sym}
+use Rattle.euler_operators.proofs.Rings.{IsRing-same}
+use Rattle.euler_operators.specs.declared.HalfEdge.{HalfEdge}
+use Rattle.euler_operators.specs.declared.Corner.{Corner}
+use Rattle.euler_operators.specs.declared.Corner.TheVariants.{At, Lone}
+use Rattle.euler_operators.specs.HalfEdge.{code, edge_of}
+use Rattle.euler_operators.specs.Table as table
+use Rattle.euler_operators.specs.Model.{Model, lone, cycle, items_of, tail, after, loop_of, content, cycle_of, face_of, outer, is_number}
+use Rattle.euler_operators.specs.Sound.{Sound, Has, HasHalf, StandsIn}
+use Rattle.euler_operators.proofs.Halves.{edge_of-code}
+use Rattle.euler_operators.proofs.Models.{in-holds, holds_in, row_of, content_cycle, cycle_there, cycle_sound}
 use Rattle.euler_operators.specs.declared.Op.TheVariants.{Mekr}
 use Rattle.euler_operators.specs.Conditions.{first_false, conditions, corner_tail, corner_loop, corner_list, corner_known, corner_lone}
 use Rattle.euler_operators.specs.Effect.{cycle_or_lone}

@@ -2,12 +2,12 @@
 use Rattle.std.proofs.Common.{◌≡◌, ◌≢◌, ℕ, Bool, true, false, cond, nat_eq, Option, Some, None, unwrap_or, is_some, refl, sym, ap, ◌∙◌, subst, arith, inl, inr, true≢false}
 use Rattle.std.specs.Option.{option_map}
 use Rattle.std.proofs.lemmas.Bool.Decides.{nat_tests, eqb_tells}
-use Rattle.boundary_model.specs.HalfEdge.{mate}
-use Rattle.boundary_model.specs.Table as table
-use Rattle.boundary_model.specs.Table.{map_rows, get-map_rows, tables}
-use Rattle.boundary_model.specs.Model.{Model, FaceRow, no_face, no_loop, loop_of, content, face_of, solid_of, outer}
-use Rattle.boundary_model.specs.Sound.{Sound, Has, HasHalf, NumbersFit}
-use Rattle.boundary_model.proofs.Models.{row_of}
+use Rattle.euler_operators.specs.HalfEdge.{mate}
+use Rattle.euler_operators.specs.Table as table
+use Rattle.euler_operators.specs.Table.{map_rows, get-map_rows, tables}
+use Rattle.euler_operators.specs.Model.{Model, FaceRow, no_face, no_loop, loop_of, content, face_of, solid_of, outer}
+use Rattle.euler_operators.specs.Sound.{Sound, Has, HasHalf, NumbersFit}
+use Rattle.euler_operators.proofs.Models.{row_of}
 use Rattle.euler_operators.specs.declared.Op.TheVariants.{Merge}
 use Rattle.euler_operators.specs.Conditions.{first_false, conditions}
 use Rattle.euler_operators.specs.Effect.{effect, merge, faces_to_solid}

@@ -1,20 +1,20 @@
 -- A sound model stays sound under mev at a lone loop.
 use Rattle.std.proofs.Common.{◌≡◌, ◌≢◌, ℕ, ◌+◌, ◌≤◌, true, false, cond, nat_eq, List, [], ◌∷◌, Some, None, unwrap_or, is_some, IsTrue, refl, sym, ap, ◌∙◌, subst, arith, ◌⊎◌, inl, inr, true≢false}
 use Rattle.std.proofs.lemmas.Bool.Decides.{nat_tests, eqb_tells}
-use Rattle.lattice.specs.declared.Point.{Point}
-use Rattle.lattice.specs.Point.{IsInRange}
-use Rattle.cyclic_list.specs.Items.{count, tick, IsIn, head_or}
-use Rattle.cyclic_list.specs.Rings.{canonical}
-use Rattle.cyclic_list.proofs.Lists.{tick_same, tick_other}
-use Rattle.cyclic_list.proofs.Rotations.{count-canonical}
-use Rattle.cyclic_list.proofs.Rings.{IsPath-agree}
-use Rattle.boundary_model.specs.HalfEdge.{mate, edge_of}
-use Rattle.boundary_model.specs.Table as table
-use Rattle.boundary_model.specs.Table.{Table, tables}
-use Rattle.boundary_model.specs.Model.{Model, LoopContent, lone, cycle, LoopRow, items_of, holds, tail, loop_of, content, face_of, after, no_loop, is_number}
-use Rattle.boundary_model.specs.Sound.{Sound, Has, HasHalf, StandsIn, IsTail, IsLoneAt, NumbersFit}
-use Rattle.boundary_model.proofs.Halves.{mate_other, edge_of-mate, mate-mate}
-use Rattle.boundary_model.proofs.Models.{no_tail, in-holds, holds_in}
+use Rattle.euler_operators.specs.declared.Point.{Point}
+use Rattle.euler_operators.specs.Points.{IsInRange}
+use Rattle.euler_operators.specs.Items.{count, tick, IsIn, head_or}
+use Rattle.euler_operators.specs.Rings.{canonical}
+use Rattle.euler_operators.proofs.Lists.{tick_same, tick_other}
+use Rattle.euler_operators.proofs.Rotations.{count-canonical}
+use Rattle.euler_operators.proofs.Rings.{IsPath-agree}
+use Rattle.euler_operators.specs.HalfEdge.{mate, edge_of}
+use Rattle.euler_operators.specs.Table as table
+use Rattle.euler_operators.specs.Table.{Table, tables}
+use Rattle.euler_operators.specs.Model.{Model, LoopContent, lone, cycle, LoopRow, items_of, holds, tail, loop_of, content, face_of, after, no_loop, is_number}
+use Rattle.euler_operators.specs.Sound.{Sound, Has, HasHalf, StandsIn, IsTail, IsLoneAt, NumbersFit}
+use Rattle.euler_operators.proofs.Halves.{mate_other, edge_of-mate, mate-mate}
+use Rattle.euler_operators.proofs.Models.{no_tail, in-holds, holds_in}
 use Rattle.euler_operators.specs.Conditions.{lone_vertex}
 use Rattle.euler_operators.specs.Effect.{mev_lone, edge_row}
 use Rattle.euler_laws.proofs.shared.Fans.{Fan, fan_of, half_mate}

@@ -2,20 +2,20 @@
 use Rattle.std.proofs.Common.{◌≡◌, ◌≢◌, ℕ, ◌+◌, ◌≤◌, true, false, cond, nat_lt, List, [], ◌∷◌, Option, Some, None, unwrap_or, is_some, IsTrue, refl, sym, ap, ◌∙◌, subst, arith, ◌⊎◌, inl, inr, true≢false}
 use Rattle.std.specs.Option.{option_map}
 use Rattle.std.proofs.lemmas.Bool.Decides.{nat_tests, eqb_tells}
-use Rattle.lattice.specs.declared.Point.{Point}
-use Rattle.lattice.specs.Point.{IsInRange}
-use Rattle.cyclic_list.specs.Items.{count, tick, IsIn, IsApart}
-use Rattle.cyclic_list.specs.Rings.{canonical, upto, onward, IsRing}
-use Rattle.cyclic_list.specs.Edits.{insert_before, led_over}
-use Rattle.cyclic_list.specs.Operators.{after_mev}
-use Rattle.cyclic_list.proofs.Lists.{tick_same, tick_other, IsIn_or_not}
-use Rattle.boundary_model.specs.HalfEdge.{mate, edge_of, is_first}
-use Rattle.boundary_model.specs.Table as table
-use Rattle.boundary_model.specs.Table.{Table, tables}
-use Rattle.boundary_model.specs.Model.{Model, LoopContent, lone, cycle, LoopRow, EdgeRow, items_of, holds, tail, loop_of, content, after, arc, tail_in, no_edge, is_number}
-use Rattle.boundary_model.specs.Sound.{Sound, Has, HasHalf, StandsIn, IsTail, IsLoneAt, NumbersFit}
-use Rattle.boundary_model.proofs.Halves.{mate_other, edge_of-mate, mate-mate, same_edge}
-use Rattle.boundary_model.proofs.Models.{tail_row, no_tail, in-holds, holds_in, cycle_there}
+use Rattle.euler_operators.specs.declared.Point.{Point}
+use Rattle.euler_operators.specs.Points.{IsInRange}
+use Rattle.euler_operators.specs.Items.{count, tick, IsIn, IsApart}
+use Rattle.euler_operators.specs.Rings.{canonical, upto, onward, IsRing}
+use Rattle.euler_operators.specs.Edits.{insert_before, led_over}
+use Rattle.euler_operators.specs.Operators.{after_mev}
+use Rattle.euler_operators.proofs.Lists.{tick_same, tick_other, IsIn_or_not}
+use Rattle.euler_operators.specs.HalfEdge.{mate, edge_of, is_first}
+use Rattle.euler_operators.specs.Table as table
+use Rattle.euler_operators.specs.Table.{Table, tables}
+use Rattle.euler_operators.specs.Model.{Model, LoopContent, lone, cycle, LoopRow, EdgeRow, items_of, holds, tail, loop_of, content, after, arc, tail_in, no_edge, is_number}
+use Rattle.euler_operators.specs.Sound.{Sound, Has, HasHalf, StandsIn, IsTail, IsLoneAt, NumbersFit}
+use Rattle.euler_operators.proofs.Halves.{mate_other, edge_of-mate, mate-mate, same_edge}
+use Rattle.euler_operators.proofs.Models.{tail_row, no_tail, in-holds, holds_in, cycle_there}
 use Rattle.euler_operators.specs.Effect.{mev_at, edge_row, with_before, with_tails}
 use Rattle.euler_laws.proofs.shared.Fans.{Fan, fan_of, half_mate}
 use Rattle.euler_laws.proofs.shared.Loops.{IsLoop, put_before, put_none, put_lone, lone_put, count_put_there, count_put_none, loop_put, loop_sound, none_free, Walks, loop_at, stands-walks, one_loop-walks, cycles-walks, ends_meet-walks, one_fan-walks}

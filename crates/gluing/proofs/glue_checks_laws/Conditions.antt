@@ -2,10 +2,10 @@
 use Rattle.std.proofs.Common.{◌≡◌, ◌≢◌, ℕ, ◌≤◌, ◌+◌, Bool, true, false, cond, not, ◌&&◌, ◌||◌, nat_eq, nat_le, List, [], ◌∷◌, ◌++◌, Option, Some, None, Result, Ok, Err, is_err, is_some, unwrap_or, refl, sym, ap, ◌∙◌, arith, true≢false, inl, inr}
 use Rattle.std.proofs.lemmas.Bool.Decides.{nat_tests}
 use Rattle.std.proofs.lemmas.Bool.{cases_eq}
-use Rattle.boundary_model.specs.Table.{Table, get, greatest}
-use Rattle.boundary_model.specs.Model.{Model, LoopRow, no_loop, content, face_of, solid_of, outer, faces_of, is_number}
-use Rattle.boundary_model.specs.Sound.{Sound, Has, NumbersFit}
-use Rattle.boundary_model.proofs.Tables.{zero_first_where}
+use Rattle.euler_operators.specs.Table.{Table, get, greatest}
+use Rattle.euler_operators.specs.Model.{Model, LoopRow, no_loop, content, face_of, solid_of, outer, faces_of, is_number}
+use Rattle.euler_operators.specs.Sound.{Sound, Has, NumbersFit}
+use Rattle.euler_operators.proofs.Tables.{zero_first_where}
 use Rattle.euler_operators.specs.Conditions.{Condition, first_refusal, verdict, is_lone, lists, need}
 use Rattle.euler_operators.specs.declared.Why.TheVariants.{LoneLoop, NotFlat, NumbersSpent}
 use Rattle.euler_operators.specs.declared.Refusal.{Refusal}

@@ -7,8 +7,8 @@ use Rattle.std.specs.List.{list_any}
 use Rattle.std.proofs.lemmas.List.{take_rest}
 use Rattle.shapes.specs.glue.Glue.{has_repeats}
 use Rattle.gluing.proofs.glue_checks_laws.Points.{new_point, old_point}
-use Rattle.lattice.specs.declared.Point.{Point}
-use Rattle.lattice.specs.Vectors.{same_point}
+use Rattle.euler_operators.specs.declared.Point.{Point}
+use Rattle.euler_operators.specs.Vectors.{same_point}
 
 abbrev pub Key : Type 0
 Key = ℤ × ℤ × ℤ

@@ -3,8 +3,8 @@ use Rattle.std.proofs.Common.{◌≡◌, ◌≢◌, ℕ, zero, suc, ◌+◌, ◌
 use Rattle.std.specs.Prelude.{get_or, take, drop, is_some, slice_index_or}
 use Rattle.std.proofs.lemmas.List.{append-nil, get_or-drop, take_all, drop_all, length-drop, length-take-le}
 use Rattle.std.proofs.lemmas.Bool.{or_cases, and_parts, cases_eq}
-use Rattle.lattice.specs.declared.Point.{Point}
-use Rattle.lattice.specs.Vectors.{same_point}
+use Rattle.euler_operators.specs.declared.Point.{Point}
+use Rattle.euler_operators.specs.Vectors.{same_point}
 use Rattle.shapes.specs.glue.Glue.{has_repeats, same_points, is_turned, is_rotation}
 use Rattle.gluing.specs.glue_checks.Places.{place_from}
 use Rattle.gluing.proofs.glue_checks_laws.Points.{same_is, same_itself, one_place}

@@ -1,7 +1,7 @@
 -- The conditions of a glue, by what their tests look at.
 use Rattle.std.specs.Prelude.{ℕ, not, nat_eq, List, [], ◌∷◌, ◌++◌, reverse}
-use Rattle.boundary_model.specs.Table as table
-use Rattle.boundary_model.specs.Model.{Model, solid_of}
+use Rattle.euler_operators.specs.Table as table
+use Rattle.euler_operators.specs.Model.{Model, solid_of}
 use Rattle.euler_operators.specs.Conditions.{Condition, need, never, numbers_in_range, has_rings}
 use Rattle.euler_operators.specs.declared.Why.TheVariants.{NoFace, SameSolid, HasRings, LoneLoop, NotFlat, RepeatedPoint, NoMatch}
 use Rattle.shapes.specs.Faces.{least_lone, faces_of_both}

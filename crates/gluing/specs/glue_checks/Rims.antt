@@ -1,8 +1,8 @@
 -- Half-edges of a loop, and the points at which they start.
 use Rattle.std.specs.Prelude.{ℕ, List, [], ◌∷◌, map}
-use Rattle.lattice.specs.declared.Point.{Point}
-use Rattle.boundary_model.specs.Model.{Model}
-use Rattle.boundary_model.specs.Sound.{HasHalf}
+use Rattle.euler_operators.specs.declared.Point.{Point}
+use Rattle.euler_operators.specs.Model.{Model}
+use Rattle.euler_operators.specs.Sound.{HasHalf}
 use Rattle.shapes.specs.Faces.{start}
 
 -- the edge of each half-edge is there

@@ -1,6 +1,6 @@
 //! The conditions of a glue, in the order in which they are tested.
 ghost use Rattle.std.specs.Prelude.{◌≡◌, true, false, Err, IfOk};
-ghost use Rattle.boundary_model.specs.Model.{content, is_number, outer};
+ghost use Rattle.euler_operators.specs.Model.{content, is_number, outer};
 ghost use Rattle.euler_conditions.specs.Ready.{IsReady};
 ghost use Rattle.euler_operators.specs.Conditions.{first_refusal, has_rings, is_lone, verdict};
 ghost use Rattle.euler_conditions.specs.Store.{has_number};
@@ -10,7 +10,8 @@ ghost use Rattle.gluing.specs.glue_checks.Conditions.{face_conditions, outline_c
 
 use crate::glue_checks::outlines::{backwards, has_repeats, is_rotation};
 use crate::glue_checks::rims::outline;
-use euler_conditions::{Arena, Kind, Refusal, Why};
+use euler_conditions::Arena;
+use euler_operators::{Kind, Refusal, Why};
 use solid_measure::{least_bent_of_both, least_lone_of_both};
 use std::alloc::{AllocError, Global};
 

@@ -3,7 +3,7 @@ ghost use Rattle.std.specs.Prelude.{◌≡◌, ◌≤◌, ◌++◌, false, IfOk,
 ghost use Rattle.shapes.specs.glue.Glue.{has_repeats, is_rotation, same_points};
 ghost use Rattle.gluing.specs.glue_checks.Places.{place_from};
 
-use lattice::Point;
+use euler_operators::Point;
 use std::alloc::{AllocError, Global};
 use std::collections::BTreeSet;
 

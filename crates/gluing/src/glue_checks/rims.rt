@@ -1,15 +1,15 @@
 //! The outer loop of a face: its half-edges, and the points at which they start.
 ghost use Rattle.std.specs.Prelude.{◌≡◌, true, false, map, IfOk};
-ghost use Rattle.boundary_model.specs.HalfEdge.{code};
-ghost use Rattle.boundary_model.specs.Model.{content, cycle_of, has_half, outer};
+ghost use Rattle.euler_operators.specs.HalfEdge.{code};
+ghost use Rattle.euler_operators.specs.Model.{content, cycle_of, has_half, outer};
 ghost use Rattle.euler_conditions.specs.Ready.{IsReady};
 ghost use Rattle.euler_operators.specs.Conditions.{is_lone};
 ghost use Rattle.euler_conditions.specs.Store.{has_number};
 ghost use Rattle.shapes.specs.glue.Glue.{outline, rim};
 ghost use Rattle.gluing.specs.glue_checks.Rims.{AreThere, starts};
 
-use euler_conditions::{Arena, Content, HalfEdge, Kind};
-use lattice::Point;
+use euler_conditions::Arena;
+use euler_operators::{Content, HalfEdge, Kind, Point};
 use solid_walks::items_from;
 use std::alloc::{AllocError, Global};
 

@@ -1,9 +1,9 @@
 -- A glue from its first operator to the glued solids.
 use Rattle.std.proofs.Common.{◌≡◌, ℕ, List, [], ◌∷◌, ◌++◌, None, sym, ◌∙◌, subst}
-use Rattle.cyclic_list.specs.Items.{head_or, last_or}
-use Rattle.cyclic_list.proofs.Rings.{last_or_push}
-use Rattle.boundary_model.specs.Model.{Model, outer}
-use Rattle.boundary_model.specs.Sound.{Sound}
+use Rattle.euler_operators.specs.Items.{head_or, last_or}
+use Rattle.euler_operators.proofs.Rings.{last_or_push}
+use Rattle.euler_operators.specs.Model.{Model, outer}
+use Rattle.euler_operators.specs.Sound.{Sound}
 use Rattle.euler_operators.specs.declared.Op.{Op}
 use Rattle.euler_laws.specs.Laws.{AreAccepted, effects}
 use Rattle.euler_laws.proofs.Runs.{effects_keep_sound}

@@ -4,17 +4,17 @@ use Rattle.std.specs.Prelude.{map}
 use Rattle.std.specs.Option.{option_map}
 use Rattle.std.proofs.lemmas.Bool.Decides.{nat_tests, eqb_tells}
 use Rattle.std.proofs.lemmas.List.{map-append}
-use Rattle.cyclic_list.specs.Items.{count, IsIn, IsApart}
-use Rattle.cyclic_list.specs.Rings.{canonical, rest}
-use Rattle.cyclic_list.proofs.Lists.{count-append, tick_same}
-use Rattle.cyclic_list.proofs.Rotations.{rest_same, rest_at, canonical-rotates}
-use Rattle.boundary_model.specs.HalfEdge.{mate, edge_of, half}
-use Rattle.boundary_model.specs.Table as table
-use Rattle.boundary_model.specs.Table.{Table, tables, same_table, get-map_rows, get-put}
-use Rattle.boundary_model.specs.Model.{Model, FaceRow, LoopRow, cycle, tail, loop_of, face_of, solid_of, outer, cycle_of, no_face}
-use Rattle.boundary_model.specs.Sound.{Has, HasHalf}
-use Rattle.boundary_model.proofs.Halves.{code-half, mate-mate, edge_of-mate}
-use Rattle.boundary_model.proofs.Models.{face_row, row_of}
+use Rattle.euler_operators.specs.Items.{count, IsIn, IsApart}
+use Rattle.euler_operators.specs.Rings.{canonical, rest}
+use Rattle.euler_operators.proofs.Lists.{count-append, tick_same}
+use Rattle.euler_operators.proofs.Rotations.{rest_same, rest_at, canonical-rotates}
+use Rattle.euler_operators.specs.HalfEdge.{mate, edge_of, half}
+use Rattle.euler_operators.specs.Table as table
+use Rattle.euler_operators.specs.Table.{Table, tables, same_table, get-map_rows, get-put}
+use Rattle.euler_operators.specs.Model.{Model, FaceRow, LoopRow, cycle, tail, loop_of, face_of, solid_of, outer, cycle_of, no_face}
+use Rattle.euler_operators.specs.Sound.{Has, HasHalf}
+use Rattle.euler_operators.proofs.Halves.{code-half, mate-mate, edge_of-mate}
+use Rattle.euler_operators.proofs.Models.{face_row, row_of}
 use Rattle.euler_operators.specs.declared.Op.TheVariants.{Kef}
 use Rattle.euler_operators.specs.Conditions.{face_at, first_false}
 use Rattle.euler_operators.specs.Effect.{effect, kef, faces_to_solid}

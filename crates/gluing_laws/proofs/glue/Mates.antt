@@ -3,17 +3,17 @@ use Rattle.std.proofs.Common.{◌≡◌, ◌≢◌, ℕ, cond, List, [], ◌∷�
 use Rattle.std.specs.Prelude.{map, reverse}
 use Rattle.std.specs.Option.{option_map}
 use Rattle.std.proofs.lemmas.Bool.Decides.{nat_tests, eqb_tells}
-use Rattle.cyclic_list.specs.Items.{count, IsIn}
-use Rattle.cyclic_list.specs.Rings.{canonical, rest}
-use Rattle.cyclic_list.proofs.Lists.{count-append, IsIn_or_not}
-use Rattle.cyclic_list.proofs.Rotations.{count-canonical}
-use Rattle.cyclic_list.proofs.Maps.{from_map, count-reverse}
-use Rattle.boundary_model.specs.HalfEdge.{mate}
-use Rattle.boundary_model.specs.Table as table
-use Rattle.boundary_model.specs.Table.{Table, tables, same_table, get-map_rows, get-put, get-remove}
-use Rattle.boundary_model.specs.Model.{Model, LoopRow, cycle, items_of, loop_of, content, face_of, outer, cycle_of}
-use Rattle.boundary_model.specs.Sound.{HasHalf, StandsIn}
-use Rattle.boundary_model.proofs.Models.{content_row, holds_in, none-holds, other_loop, row_of, cycle_there, cycle_sound}
+use Rattle.euler_operators.specs.Items.{count, IsIn}
+use Rattle.euler_operators.specs.Rings.{canonical, rest}
+use Rattle.euler_operators.proofs.Lists.{count-append, IsIn_or_not}
+use Rattle.euler_operators.proofs.Rotations.{count-canonical}
+use Rattle.euler_operators.proofs.Maps.{from_map, count-reverse}
+use Rattle.euler_operators.specs.HalfEdge.{mate}
+use Rattle.euler_operators.specs.Table as table
+use Rattle.euler_operators.specs.Table.{Table, tables, same_table, get-map_rows, get-put, get-remove}
+use Rattle.euler_operators.specs.Model.{Model, LoopRow, cycle, items_of, loop_of, content, face_of, outer, cycle_of}
+use Rattle.euler_operators.specs.Sound.{HasHalf, StandsIn}
+use Rattle.euler_operators.proofs.Models.{content_row, holds_in, none-holds, other_loop, row_of, cycle_there, cycle_sound}
 use Rattle.euler_laws.proofs.shared.Fans.{half_mate}
 use Rattle.euler_laws.proofs.shared.Rows.{one_row}
 use Rattle.sweeps_laws.proofs.prism.Steps.{Around, half_is, loop_is}

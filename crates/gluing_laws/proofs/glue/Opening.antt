@@ -4,23 +4,23 @@ use Rattle.std.specs.Prelude.{map, reverse}
 use Rattle.std.specs.Option.{option_map}
 use Rattle.std.proofs.lemmas.Bool.Decides.{nat_tests}
 use Rattle.std.proofs.lemmas.List.{map-append, reverse-append}
-use Rattle.cyclic_list.specs.Items.{count, IsIn, IsApart, before, after}
-use Rattle.cyclic_list.specs.Rings.{canonical, rest, successor}
-use Rattle.cyclic_list.specs.Edits.{without}
-use Rattle.cyclic_list.proofs.Lists.{count-append, tick_same, before_at, after_at}
-use Rattle.cyclic_list.proofs.Rotations.{canonical_same, count-canonical, canonical-rotates, IsApart-canonical}
-use Rattle.cyclic_list.proofs.Rings.{successor_inner, successor_same}
-use Rattle.cyclic_list.proofs.Cuts.{rest_canonical}
-use Rattle.boundary_model.specs.HalfEdge.{mate, edge_of, half, plus, minus}
-use Rattle.boundary_model.specs.Table as table
-use Rattle.boundary_model.specs.Table.{Table, tables, same_table, get-map_rows}
-use Rattle.boundary_model.specs.declared.Corner.TheVariants.{At}
-use Rattle.boundary_model.specs.Model.{Model, FaceRow, LoopRow, EdgeRow, lone, cycle, LoopContent, items_of, holds, tail, tail_in, loop_of, content, face_of, solid_of, outer, cycle_of, no_face, is_number}
-use Rattle.boundary_model.specs.Model as model
-use Rattle.boundary_model.specs.Sound.{Sound, Has, HasHalf}
-use Rattle.boundary_model.proofs.Halves.{code-half, plus_row, minus_row, edge_of-mate}
-use Rattle.boundary_model.proofs.Tables.{map-put, map_same, map_one, remove-put}
-use Rattle.boundary_model.proofs.Models.{content_row, face_row, tail_row, in-holds, holds-none, not_held}
+use Rattle.euler_operators.specs.Items.{count, IsIn, IsApart, before, after}
+use Rattle.euler_operators.specs.Rings.{canonical, rest, successor}
+use Rattle.euler_operators.specs.Edits.{without}
+use Rattle.euler_operators.proofs.Lists.{count-append, tick_same, before_at, after_at}
+use Rattle.euler_operators.proofs.Rotations.{canonical_same, count-canonical, canonical-rotates, IsApart-canonical}
+use Rattle.euler_operators.proofs.Rings.{successor_inner, successor_same}
+use Rattle.euler_operators.proofs.Cuts.{rest_canonical}
+use Rattle.euler_operators.specs.HalfEdge.{mate, edge_of, half, plus, minus}
+use Rattle.euler_operators.specs.Table as table
+use Rattle.euler_operators.specs.Table.{Table, tables, same_table, get-map_rows}
+use Rattle.euler_operators.specs.declared.Corner.TheVariants.{At}
+use Rattle.euler_operators.specs.Model.{Model, FaceRow, LoopRow, EdgeRow, lone, cycle, LoopContent, items_of, holds, tail, tail_in, loop_of, content, face_of, solid_of, outer, cycle_of, no_face, is_number}
+use Rattle.euler_operators.specs.Model as model
+use Rattle.euler_operators.specs.Sound.{Sound, Has, HasHalf}
+use Rattle.euler_operators.proofs.Halves.{code-half, plus_row, minus_row, edge_of-mate}
+use Rattle.euler_operators.proofs.Tables.{map-put, map_same, map_one, remove-put}
+use Rattle.euler_operators.proofs.Models.{content_row, face_row, tail_row, in-holds, holds-none, not_held}
 use Rattle.euler_operators.specs.declared.Op.TheVariants.{Kev, Mekr, Kfmrh, Merge}
 use Rattle.euler_operators.specs.Conditions.{first_false}
 use Rattle.euler_operators.specs.Effect.{effect, merge, kfmrh, mekr, kev, faces_to_solid, loop_to_face, moved_tail, edge_row}

@@ -1,21 +1,21 @@
 -- One item closed: mef, kev and kef, in a sound model of which one loop is known.
 use Rattle.std.proofs.Common.{◌≡◌, ◌≢◌, ℕ, true, false, cond, ◌||◌, Bool, List, [], ◌∷◌, ◌++◌, Some, None, is_some, unwrap_or, IsTrue, refl, sym, ap, ◌∙◌, subst, arith, true≢false, inl, inr}
 use Rattle.std.proofs.lemmas.Bool.Decides.{nat_tests, eqb_tells}
-use Rattle.cyclic_list.specs.Items.{count, IsIn, IsApart}
-use Rattle.cyclic_list.specs.Rings.{canonical, rest}
-use Rattle.cyclic_list.specs.Edits.{without}
-use Rattle.cyclic_list.proofs.Lists.{count-append, tick_same, tick_other}
-use Rattle.cyclic_list.proofs.Rotations.{canonical-rotates, count-canonical, rest_same, rest_head, rest_at, IsApart-canonical}
-use Rattle.cyclic_list.proofs.Cuts.{rest_canonical}
-use Rattle.cyclic_list.proofs.Edits.{without_none}
-use Rattle.boundary_model.specs.HalfEdge.{edge_of, is_first, plus, minus, mate, half}
-use Rattle.boundary_model.specs.Table as table
-use Rattle.boundary_model.specs.Table.{Table, tables, same_table, get-map_rows}
-use Rattle.boundary_model.specs.Model.{Model, EdgeRow, LoopRow, LoopContent, cycle, items_of, holds, tail, tail_in, no_edge, no_loop, no_face, loop_of, content, face_of, solid_of, outer, cycle_of, after, is_number}
-use Rattle.boundary_model.specs.Sound.{Sound, HasHalf, Has}
-use Rattle.boundary_model.proofs.Halves.{plus_row, minus_row, code-half, mate-mate, edge_of-mate}
-use Rattle.boundary_model.proofs.Tables.{map-put, map_same, remove-put}
-use Rattle.boundary_model.proofs.Models.{tail_row, content_row, face_row, in-holds, holds-none, not_held, row_of}
+use Rattle.euler_operators.specs.Items.{count, IsIn, IsApart}
+use Rattle.euler_operators.specs.Rings.{canonical, rest}
+use Rattle.euler_operators.specs.Edits.{without}
+use Rattle.euler_operators.proofs.Lists.{count-append, tick_same, tick_other}
+use Rattle.euler_operators.proofs.Rotations.{canonical-rotates, count-canonical, rest_same, rest_head, rest_at, IsApart-canonical}
+use Rattle.euler_operators.proofs.Cuts.{rest_canonical}
+use Rattle.euler_operators.proofs.Edits.{without_none}
+use Rattle.euler_operators.specs.HalfEdge.{edge_of, is_first, plus, minus, mate, half}
+use Rattle.euler_operators.specs.Table as table
+use Rattle.euler_operators.specs.Table.{Table, tables, same_table, get-map_rows}
+use Rattle.euler_operators.specs.Model.{Model, EdgeRow, LoopRow, LoopContent, cycle, items_of, holds, tail, tail_in, no_edge, no_loop, no_face, loop_of, content, face_of, solid_of, outer, cycle_of, after, is_number}
+use Rattle.euler_operators.specs.Sound.{Sound, HasHalf, Has}
+use Rattle.euler_operators.proofs.Halves.{plus_row, minus_row, code-half, mate-mate, edge_of-mate}
+use Rattle.euler_operators.proofs.Tables.{map-put, map_same, remove-put}
+use Rattle.euler_operators.proofs.Models.{tail_row, content_row, face_row, in-holds, holds-none, not_held, row_of}
 use Rattle.euler_operators.specs.declared.Op.TheVariants.{Mef, Kev, Kef}
 use Rattle.euler_operators.specs.Conditions.{face_at, first_false}
 use Rattle.euler_operators.specs.Effect.{effect, kev, kef, moved_tail, cycle_or_lone}

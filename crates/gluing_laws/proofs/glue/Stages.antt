@@ -3,14 +3,14 @@ use Rattle.std.proofs.Common.{◌≡◌, ◌≢◌, ℕ, true, false, nat_eq, Bo
 use Rattle.std.specs.Prelude.{map}
 use Rattle.std.specs.Option.{option_map}
 use Rattle.std.proofs.lemmas.Bool.Decides.{nat_tests, eqb_tells}
-use Rattle.cyclic_list.specs.Items.{count, IsIn}
-use Rattle.cyclic_list.specs.Rings.{canonical}
-use Rattle.cyclic_list.proofs.Lists.{count-append, tick_other, IsIn_or_not}
-use Rattle.boundary_model.specs.HalfEdge.{mate, edge_of, is_first}
-use Rattle.boundary_model.specs.Table as table
-use Rattle.boundary_model.specs.Table.{Table, tables, same_table, get-map_rows}
-use Rattle.boundary_model.specs.Model.{Model, EdgeRow, LoopRow, cycle, tail, tail_in, no_edge, solid_of, outer}
-use Rattle.boundary_model.specs.Sound.{Sound, HasHalf}
+use Rattle.euler_operators.specs.Items.{count, IsIn}
+use Rattle.euler_operators.specs.Rings.{canonical}
+use Rattle.euler_operators.proofs.Lists.{count-append, tick_other, IsIn_or_not}
+use Rattle.euler_operators.specs.HalfEdge.{mate, edge_of, is_first}
+use Rattle.euler_operators.specs.Table as table
+use Rattle.euler_operators.specs.Table.{Table, tables, same_table, get-map_rows}
+use Rattle.euler_operators.specs.Model.{Model, EdgeRow, LoopRow, cycle, tail, tail_in, no_edge, solid_of, outer}
+use Rattle.euler_operators.specs.Sound.{Sound, HasHalf}
 use Rattle.euler_operators.specs.Effect.{faces_to_solid}
 use Rattle.euler_laws.proofs.shared.Same.{mapped_some}
 use Rattle.shapes.proofs.fresh.Rows.{get-put_here, get-put_other}

@@ -3,16 +3,16 @@ use Rattle.std.proofs.Common.{◌≡◌, ◌≢◌, ℕ, cond, nat_eq, List, [],
 use Rattle.std.specs.Prelude.{map, reverse}
 use Rattle.std.proofs.lemmas.Bool.Decides.{nat_tests}
 use Rattle.std.proofs.lemmas.List.{append_assoc, map-append}
-use Rattle.cyclic_list.specs.Items.{count, IsIn}
-use Rattle.cyclic_list.specs.Rings.{canonical}
-use Rattle.cyclic_list.proofs.Lists.{count-append, tick_same, tick_other}
-use Rattle.cyclic_list.proofs.Rotations.{canonical_same}
-use Rattle.cyclic_list.proofs.Maps.{reverse-cons}
-use Rattle.boundary_model.specs.HalfEdge.{mate, edge_of}
-use Rattle.boundary_model.specs.Table as table
-use Rattle.boundary_model.specs.Table.{Table, tables, same_table, get-map_rows, get-put, get-remove}
-use Rattle.boundary_model.specs.Model.{Model, LoopRow, cycle, tail, loop_of, solid_of, outer}
-use Rattle.boundary_model.specs.Sound.{HasHalf}
+use Rattle.euler_operators.specs.Items.{count, IsIn}
+use Rattle.euler_operators.specs.Rings.{canonical}
+use Rattle.euler_operators.proofs.Lists.{count-append, tick_same, tick_other}
+use Rattle.euler_operators.proofs.Rotations.{canonical_same}
+use Rattle.euler_operators.proofs.Maps.{reverse-cons}
+use Rattle.euler_operators.specs.HalfEdge.{mate, edge_of}
+use Rattle.euler_operators.specs.Table as table
+use Rattle.euler_operators.specs.Table.{Table, tables, same_table, get-map_rows, get-put, get-remove}
+use Rattle.euler_operators.specs.Model.{Model, LoopRow, cycle, tail, loop_of, solid_of, outer}
+use Rattle.euler_operators.specs.Sound.{HasHalf}
 use Rattle.euler_operators.specs.Effect.{moved_tail}
 use Rattle.euler_laws.proofs.shared.Fans.{half_mate}
 use Rattle.euler_laws.proofs.shared.Same.{map_twice}

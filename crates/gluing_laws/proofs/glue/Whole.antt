@@ -1,11 +1,11 @@
 -- All items glued, one after the other.
 use Rattle.std.proofs.Common.{◌≡◌, ℕ, List, [], ◌∷◌, ◌++◌, refl, sym, ap, ◌∙◌, subst, arith}
 use Rattle.std.proofs.lemmas.List.{append_assoc}
-use Rattle.cyclic_list.specs.Items.{IsIn, last_or}
-use Rattle.cyclic_list.proofs.Lists.{tick_same}
-use Rattle.cyclic_list.proofs.Rings.{last_or_push}
-use Rattle.boundary_model.specs.Model.{Model, outer}
-use Rattle.boundary_model.specs.Sound.{Sound}
+use Rattle.euler_operators.specs.Items.{IsIn, last_or}
+use Rattle.euler_operators.proofs.Lists.{tick_same}
+use Rattle.euler_operators.proofs.Rings.{last_or_push}
+use Rattle.euler_operators.specs.Model.{Model, outer}
+use Rattle.euler_operators.specs.Sound.{Sound}
 use Rattle.euler_operators.specs.declared.Op.{Op}
 use Rattle.euler_laws.specs.Laws.{effects, AreAccepted}
 use Rattle.euler_laws.proofs.Runs.{effects-append, AreAccepted-append, effects_keep_sound}

@@ -1,7 +1,7 @@
 -- The laws of glues, each over every sound model and every glue that isn't refused.
 use Rattle.std.specs.Prelude.{◌≡◌, ℕ, None}
-use Rattle.boundary_model.specs.Model.{Model}
-use Rattle.boundary_model.specs.Sound.{Sound}
+use Rattle.euler_operators.specs.Model.{Model}
+use Rattle.euler_operators.specs.Sound.{Sound}
 use Rattle.euler_laws.specs.Laws.{effects, AreAccepted}
 use Rattle.shapes.specs.glue.Glue.{glue_refusal, glue_model}
 use Rattle.shapes.specs.glue.GlueOps.{glue_ops}

@@ -1,8 +1,8 @@
 -- What the conditions of an operator say of what is there.
 use Rattle.std.proofs.Common.{◌≡◌, ℕ, false, None}
-use Rattle.boundary_model.specs.Table as table
-use Rattle.boundary_model.specs.Model.{Model}
-use Rattle.boundary_model.specs.Sound.{Has}
+use Rattle.euler_operators.specs.Table as table
+use Rattle.euler_operators.specs.Model.{Model}
+use Rattle.euler_operators.specs.Sound.{Has}
 use Rattle.euler_operators.specs.declared.Op.TheVariants.{Kfmrh, Mfkrh, RingIn, RingOut, Outer, Merge}
 use Rattle.euler_operators.specs.Conditions.{conditions, first_false}
 use Rattle.euler_laws.proofs.shared.Goes.{all_hold, not_true}

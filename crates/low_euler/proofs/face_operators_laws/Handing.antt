@@ -3,10 +3,10 @@ use Rattle.std.proofs.Common.{◌≡◌, ◌≢◌, ℕ, ◌+◌, ◌<◌, Bool,
 use Rattle.std.specs.Option.{option_map}
 use Rattle.std.proofs.lemmas.Bool.Decides.{nat_tests, eqb_tells}
 use Rattle.std.proofs.lemmas.List.{take_more}
-use Rattle.boundary_model.specs.Table as table
-use Rattle.boundary_model.specs.Table.{Table, map_rows, put, same_table, get-map_rows, get-put}
-use Rattle.boundary_model.specs.Model.{Model, FaceRow, no_face, outer, faces_of}
-use Rattle.boundary_model.specs.Sound.{Has}
+use Rattle.euler_operators.specs.Table as table
+use Rattle.euler_operators.specs.Table.{Table, map_rows, put, same_table, get-map_rows, get-put}
+use Rattle.euler_operators.specs.Model.{Model, FaceRow, no_face, outer, faces_of}
+use Rattle.euler_operators.specs.Sound.{Has}
 use Rattle.euler_conditions.specs.Store.{Store, set_solid}
 use Rattle.euler_operators.specs.Conditions.{Condition, AllHold, need, never, is_bad_part, lists, conditions, first_false, faces_known, faces_in, numbers_in_range}
 use Rattle.euler_operators.specs.declared.Op.TheVariants.{Part}

@@ -1,10 +1,10 @@
 -- A rewriting of one row is a row that is put.
 use Rattle.std.proofs.Common.{◌≡◌, ℕ, true, cond, Option, Some, None, is_some, unwrap_or, refl, sym, ap, ◌∙◌, true≢false}
-use Rattle.boundary_model.specs.Table as table
-use Rattle.boundary_model.specs.Table.{Table, map_rows, put}
-use Rattle.boundary_model.specs.Model.{Model, FaceRow, LoopRow, no_loop, content, face_of, solid_of, outer}
-use Rattle.boundary_model.specs.Sound.{Has}
-use Rattle.boundary_model.proofs.Tables.{map_one}
+use Rattle.euler_operators.specs.Table as table
+use Rattle.euler_operators.specs.Table.{Table, map_rows, put}
+use Rattle.euler_operators.specs.Model.{Model, FaceRow, LoopRow, no_loop, content, face_of, solid_of, outer}
+use Rattle.euler_operators.specs.Sound.{Has}
+use Rattle.euler_operators.proofs.Tables.{map_one}
 use Rattle.euler_operators.specs.Effect.{loop_to_face, face_to_outer}
 use Rattle.euler_laws.proofs.shared.Goes.{equals, differs}
 use Rattle.euler_laws.proofs.shared.Rows.{face_there}

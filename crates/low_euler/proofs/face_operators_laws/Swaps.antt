@@ -1,9 +1,9 @@
 -- A face that gets another outer loop while a loop goes to another face.
 use Rattle.std.proofs.Common.{◌≡◌, ℕ, Bool, true, cond, nat_eq, false, Some, is_some, refl, sym, ap, ◌∙◌}
-use Rattle.boundary_model.specs.Table as table
-use Rattle.boundary_model.specs.Table.{Table, map_rows, put, get-put}
-use Rattle.boundary_model.specs.Model.{Model, FaceRow, content, solid_of}
-use Rattle.boundary_model.specs.Sound.{Has}
+use Rattle.euler_operators.specs.Table as table
+use Rattle.euler_operators.specs.Table.{Table, map_rows, put, get-put}
+use Rattle.euler_operators.specs.Model.{Model, FaceRow, content, solid_of}
+use Rattle.euler_operators.specs.Sound.{Has}
 use Rattle.euler_conditions.specs.Store.{Store, set_face, set_outer}
 use Rattle.euler_operators.specs.Effect.{loop_to_face, face_to_outer}
 use Rattle.euler_laws.proofs.shared.Goes.{equals}

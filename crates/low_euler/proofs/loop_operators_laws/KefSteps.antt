@@ -1,20 +1,20 @@
 -- What kef's writers make of a store, one after another.
 use Rattle.std.proofs.Common.{◌≡◌, ◌≢◌, ℕ, ◌+◌, true, List, [], ◌∷◌, ◌++◌, Some, is_some, refl, sym, ap, ◌∙◌, subst, arith}
-use Rattle.cyclic_list.specs.Items.{count, IsIn, IsApart, head_or}
-use Rattle.cyclic_list.specs.Rings.{canonical, rest, joined}
-use Rattle.cyclic_list.proofs.Lists.{count-append, tick_same}
-use Rattle.cyclic_list.proofs.Rotations.{count-canonical}
-use Rattle.cyclic_list.proofs.Rings.{count_at}
-use Rattle.cyclic_list.proofs.Cuts.{count-joined}
-use Rattle.boundary_model.specs.declared.HalfEdge.{HalfEdge}
-use Rattle.boundary_model.specs.HalfEdge.{code, mate, edge_of, plus, minus}
-use Rattle.boundary_model.specs.Table as table
-use Rattle.boundary_model.specs.Table.{Table, tables, same_table}
-use Rattle.boundary_model.specs.Model.{Model, LoopContent, LoopRow, cycle, items_of, content, face_of, loop_of, cycle_of, tail, after as after_half, has_half}
-use Rattle.boundary_model.specs.Sound.{Sound}
-use Rattle.boundary_model.proofs.Halves.{mate_other}
-use Rattle.boundary_model.proofs.Tables.{put_same}
-use Rattle.boundary_model.proofs.Models.{row_of}
+use Rattle.euler_operators.specs.Items.{count, IsIn, IsApart, head_or}
+use Rattle.euler_operators.specs.Rings.{canonical, rest, joined}
+use Rattle.euler_operators.proofs.Lists.{count-append, tick_same}
+use Rattle.euler_operators.proofs.Rotations.{count-canonical}
+use Rattle.euler_operators.proofs.Rings.{count_at}
+use Rattle.euler_operators.proofs.Cuts.{count-joined}
+use Rattle.euler_operators.specs.declared.HalfEdge.{HalfEdge}
+use Rattle.euler_operators.specs.HalfEdge.{code, mate, edge_of, plus, minus}
+use Rattle.euler_operators.specs.Table as table
+use Rattle.euler_operators.specs.Table.{Table, tables, same_table}
+use Rattle.euler_operators.specs.Model.{Model, LoopContent, LoopRow, cycle, items_of, content, face_of, loop_of, cycle_of, tail, after as after_half, has_half}
+use Rattle.euler_operators.specs.Sound.{Sound}
+use Rattle.euler_operators.proofs.Halves.{mate_other}
+use Rattle.euler_operators.proofs.Tables.{put_same}
+use Rattle.euler_operators.proofs.Models.{row_of}
 use Rattle.euler_operators.specs.declared.Op.TheVariants.{Kef}
 use Rattle.euler_operators.specs.Conditions.{face_at}
 use Rattle.euler_operators.specs.Effect.{effect, kef, cycle_or_lone}

@@ -1,18 +1,18 @@
 -- What mef's writers make of a store, one after another.
 use Rattle.std.proofs.Common.{◌≡◌, ◌≢◌, ℕ, ◌+◌, true, false, cond, List, [], ◌∷◌, ◌++◌, Some, None, is_some, unwrap_or, sym, ap, ◌∙◌, subst, arith}
-use Rattle.cyclic_list.specs.Items.{count, tick, IsIn, IsApart}
-use Rattle.cyclic_list.specs.Rings.{cut_right}
-use Rattle.cyclic_list.specs.Operators.{put_ring, mef_old, mef_new}
-use Rattle.cyclic_list.proofs.Lists.{count-append, tick_same}
-use Rattle.boundary_model.specs.declared.HalfEdge.{HalfEdge}
-use Rattle.boundary_model.specs.HalfEdge.{code, mate, edge_of}
-use Rattle.boundary_model.specs.Table as table
-use Rattle.boundary_model.specs.Table.{Table}
-use Rattle.boundary_model.specs.Model.{Model, LoopRow, cycle, items_of, content, face_of, solid_of, loop_of, cycle_of, tail, no_loop, has_half}
-use Rattle.boundary_model.specs.Sound.{Sound}
-use Rattle.boundary_model.proofs.Halves.{mate_other}
-use Rattle.boundary_model.proofs.Tables.{put_same}
-use Rattle.boundary_model.proofs.Models.{row_of, cycle_there, cycle_sound}
+use Rattle.euler_operators.specs.Items.{count, tick, IsIn, IsApart}
+use Rattle.euler_operators.specs.Rings.{cut_right}
+use Rattle.euler_operators.specs.Operators.{put_ring, mef_old, mef_new}
+use Rattle.euler_operators.proofs.Lists.{count-append, tick_same}
+use Rattle.euler_operators.specs.declared.HalfEdge.{HalfEdge}
+use Rattle.euler_operators.specs.HalfEdge.{code, mate, edge_of}
+use Rattle.euler_operators.specs.Table as table
+use Rattle.euler_operators.specs.Table.{Table}
+use Rattle.euler_operators.specs.Model.{Model, LoopRow, cycle, items_of, content, face_of, solid_of, loop_of, cycle_of, tail, no_loop, has_half}
+use Rattle.euler_operators.specs.Sound.{Sound}
+use Rattle.euler_operators.proofs.Halves.{mate_other}
+use Rattle.euler_operators.proofs.Tables.{put_same}
+use Rattle.euler_operators.proofs.Models.{row_of, cycle_there, cycle_sound}
 use Rattle.euler_operators.specs.declared.Op.TheVariants.{Mef}
 use Rattle.euler_operators.specs.Conditions.{face_at}
 use Rattle.euler_operators.specs.Effect.{effect, mef, edge_row}

@@ -1,22 +1,22 @@
 -- What mekr's writers make of a store, one after another.
 use Rattle.std.proofs.Common.{◌≡◌, ◌≢◌, ℕ, ◌+◌, true, List, [], ◌∷◌, ◌++◌, None, is_some, refl, sym, ap, ◌∙◌, subst, arith, true≢false}
-use Rattle.cyclic_list.specs.Items.{count, tick, IsIn, IsApart}
-use Rattle.cyclic_list.specs.Rings.{canonical, rotate_to, joined}
-use Rattle.cyclic_list.proofs.Lists.{count-append, tick_same, tick_other}
-use Rattle.cyclic_list.proofs.Rotations.{count-canonical}
-use Rattle.cyclic_list.proofs.Operators.{apart_front}
-use Rattle.cyclic_list.proofs.Cuts.{rest_canonical}
-use Rattle.boundary_model.specs.declared.HalfEdge.{HalfEdge}
-use Rattle.boundary_model.specs.declared.Corner.{Corner}
-use Rattle.boundary_model.specs.declared.Corner.TheVariants.{At, Lone}
-use Rattle.boundary_model.specs.HalfEdge.{code, mate, edge_of}
-use Rattle.boundary_model.specs.Table as table
-use Rattle.boundary_model.specs.Table.{Table}
-use Rattle.boundary_model.specs.Model.{Model, LoopContent, lone, cycle, items_of, content, face_of, loop_of, has_half}
-use Rattle.boundary_model.specs.Sound.{Sound}
-use Rattle.boundary_model.proofs.Halves.{mate_other}
-use Rattle.boundary_model.proofs.Tables.{put_same}
-use Rattle.boundary_model.proofs.Models.{cycle_there}
+use Rattle.euler_operators.specs.Items.{count, tick, IsIn, IsApart}
+use Rattle.euler_operators.specs.Rings.{canonical, rotate_to, joined}
+use Rattle.euler_operators.proofs.Lists.{count-append, tick_same, tick_other}
+use Rattle.euler_operators.proofs.Rotations.{count-canonical}
+use Rattle.euler_operators.proofs.Operators.{apart_front}
+use Rattle.euler_operators.proofs.Cuts.{rest_canonical}
+use Rattle.euler_operators.specs.declared.HalfEdge.{HalfEdge}
+use Rattle.euler_operators.specs.declared.Corner.{Corner}
+use Rattle.euler_operators.specs.declared.Corner.TheVariants.{At, Lone}
+use Rattle.euler_operators.specs.HalfEdge.{code, mate, edge_of}
+use Rattle.euler_operators.specs.Table as table
+use Rattle.euler_operators.specs.Table.{Table}
+use Rattle.euler_operators.specs.Model.{Model, LoopContent, lone, cycle, items_of, content, face_of, loop_of, has_half}
+use Rattle.euler_operators.specs.Sound.{Sound}
+use Rattle.euler_operators.proofs.Halves.{mate_other}
+use Rattle.euler_operators.proofs.Tables.{put_same}
+use Rattle.euler_operators.proofs.Models.{cycle_there}
 use Rattle.euler_operators.specs.declared.Op.TheVariants.{Mekr}
 use Rattle.euler_operators.specs.Conditions.{first_false, conditions, corner_known, corner_lone, corner_loop, corner_tail, corner_list, is_lone}
 use Rattle.euler_operators.specs.Effect.{effect, mekr, edge_row}

@@ -1,17 +1,17 @@
 -- Tables of loose rings of one half-edge each.
 use Rattle.std.proofs.Common.{◌≡◌, ◌≢◌, ℕ, cond, List, [], ◌∷◌, Some, None, unwrap_or, sym, ap, ◌∙◌, subst, arith, ◌⊎◌, inl, inr}
 use Rattle.std.proofs.lemmas.Bool.Decides.{nat_tests, eqb_tells}
-use Rattle.cyclic_list.specs.Items.{count, IsIn}
-use Rattle.cyclic_list.proofs.Lists.{tick_same, tick_other}
-use Rattle.boundary_model.specs.HalfEdge.{mate, edge_of, plus, minus}
-use Rattle.boundary_model.specs.Table as table
-use Rattle.boundary_model.specs.Table.{Table, tables, same_table}
-use Rattle.boundary_model.specs.Model.{cycle, holds}
-use Rattle.boundary_model.proofs.Halves.{mate_cases}
-use Rattle.boundary_model.proofs.Tables.{first_where_is}
+use Rattle.euler_operators.specs.Items.{count, IsIn}
+use Rattle.euler_operators.proofs.Lists.{tick_same, tick_other}
+use Rattle.euler_operators.specs.HalfEdge.{mate, edge_of, plus, minus}
+use Rattle.euler_operators.specs.Table as table
+use Rattle.euler_operators.specs.Table.{Table, tables, same_table}
+use Rattle.euler_operators.specs.Model.{cycle, holds}
+use Rattle.euler_operators.proofs.Halves.{mate_cases}
+use Rattle.euler_operators.proofs.Tables.{first_where_is}
 use Rattle.euler_laws.proofs.shared.Rows.{one_row}
-use Rattle.boundary_model.proofs.Models.{in-holds, holds_in}
-use Rattle.halfedge_arena.specs.Store.{Store, loose_key, loose_ring}
+use Rattle.euler_operators.proofs.Models.{in-holds, holds_in}
+use Rattle.euler_conditions.specs.Store.{Store, loose_key, loose_ring}
 
 -- each ring holds the half-edge alone under which it stands
 abbrev pub AreSingles : Table (List ℕ) → Type 0

@@ -1,13 +1,13 @@
 -- An item that goes into a ring or leaves it, by a join or a cut after the item before.
 use Rattle.std.proofs.Common.{◌≡◌, ◌≢◌, ℕ, ◌+◌, List, [], ◌∷◌, ◌++◌, refl, sym, ap, ◌∙◌, arith}
-use Rattle.cyclic_list.specs.Items.{count, tick, IsIn, IsApart, last_or, before, after}
-use Rattle.cyclic_list.specs.Rings.{canonical, rotate_to, rest, predecessor, between, beyond, cut_left, cut_right, joined}
-use Rattle.cyclic_list.specs.Operators.{put_ring, take_ring, mef_old, mef_new}
-use Rattle.cyclic_list.proofs.Lists.{count-append, tick_same, before_at, after_at, split_at}
-use Rattle.cyclic_list.proofs.Rings.{front_of, IsIn_predecessor, count_at}
-use Rattle.cyclic_list.proofs.Cuts.{ring_split, upto_other, onward_other, rest_canonical, IsApart-exchanged, apart_split, apart_joined}
-use Rattle.cyclic_list.proofs.Rotations.{canonical-rotates, count-canonical, count-rotate_to, rotate_to-rotates, IsApart-rotate_to, rotate_to_is, rest_at, rest_head, rest_parts, rest_same, IsIn_head, canonical_is, canonical_same}
-use Rattle.cyclic_list.proofs.Operators.{apart_front, apart_braced, rotate_to_whole, between_canonical, beyond_canonical}
+use Rattle.euler_operators.specs.Items.{count, tick, IsIn, IsApart, last_or, before, after}
+use Rattle.euler_operators.specs.Rings.{canonical, rotate_to, rest, predecessor, between, beyond, cut_left, cut_right, joined}
+use Rattle.euler_operators.specs.Operators.{put_ring, take_ring, mef_old, mef_new}
+use Rattle.euler_operators.proofs.Lists.{count-append, tick_same, before_at, after_at, split_at}
+use Rattle.euler_operators.proofs.Rings.{front_of, IsIn_predecessor, count_at}
+use Rattle.euler_operators.proofs.Cuts.{ring_split, upto_other, onward_other, rest_canonical, IsApart-exchanged, apart_split, apart_joined}
+use Rattle.euler_operators.proofs.Rotations.{canonical-rotates, count-canonical, count-rotate_to, rotate_to-rotates, IsApart-rotate_to, rotate_to_is, rest_at, rest_head, rest_parts, rest_same, IsIn_head, canonical_is, canonical_same}
+use Rattle.euler_operators.proofs.Operators.{apart_front, apart_braced, rotate_to_whole, between_canonical, beyond_canonical}
 
 pub canonical_one : (x : ℕ) → canonical (x ∷ []) ≡ x ∷ []
 canonical_one x = canonical_is x (x ∷ []) (IsIn_head x []) ∙ ap (λ q. x ∷ q) (rest_head x [])

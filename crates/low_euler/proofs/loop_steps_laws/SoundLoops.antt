@@ -1,16 +1,16 @@
 -- Two loops of a sound model, also with a new edge whose half-edges are loose.
 use Rattle.std.proofs.Common.{◌≡◌, ◌≢◌, ℕ, ◌+◌, true, cond, List, ◌∷◌, ◌++◌, Some, None, is_some, refl, sym, ap, ◌∙◌, subst, arith, inl, inr, true≢false}
 use Rattle.std.proofs.lemmas.Bool.Decides.{nat_tests, eqb_tells}
-use Rattle.cyclic_list.specs.Items.{count, IsIn, IsApart}
-use Rattle.cyclic_list.proofs.Lists.{count-append, tick_other, IsIn_or_not}
-use Rattle.cyclic_list.proofs.Operators.{apart_front}
-use Rattle.boundary_model.specs.HalfEdge.{mate, edge_of}
-use Rattle.boundary_model.specs.Table as table
-use Rattle.boundary_model.specs.Table.{Table, tables}
-use Rattle.boundary_model.specs.Model.{Model, EdgeRow, items_of, content, is_number}
-use Rattle.boundary_model.specs.Sound.{Sound, HasHalf, StandsIn}
-use Rattle.boundary_model.proofs.Halves.{mate_other, edge_of-mate}
-use Rattle.boundary_model.proofs.Models.{in-holds, cycle_sound}
+use Rattle.euler_operators.specs.Items.{count, IsIn, IsApart}
+use Rattle.euler_operators.proofs.Lists.{count-append, tick_other, IsIn_or_not}
+use Rattle.euler_operators.proofs.Operators.{apart_front}
+use Rattle.euler_operators.specs.HalfEdge.{mate, edge_of}
+use Rattle.euler_operators.specs.Table as table
+use Rattle.euler_operators.specs.Table.{Table, tables}
+use Rattle.euler_operators.specs.Model.{Model, EdgeRow, items_of, content, is_number}
+use Rattle.euler_operators.specs.Sound.{Sound, HasHalf, StandsIn}
+use Rattle.euler_operators.proofs.Halves.{mate_other, edge_of-mate}
+use Rattle.euler_operators.proofs.Models.{in-holds, cycle_sound}
 use Rattle.low_euler.proofs.loop_steps_laws.TwoLoops.{TwoLoops}
 
 pub number_real : (n : ℕ) → is_number n ≡ true → n ≢ 0

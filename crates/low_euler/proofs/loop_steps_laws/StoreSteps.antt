@@ -2,21 +2,21 @@
 use Rattle.std.proofs.Common.{◌≡◌, ◌≢◌, ℕ, Bool, true, false, cond, nat_eq, List, [], ◌∷◌, Some, is_some, refl, sym, ap, ◌∙◌, arith, ◌⊎◌, inl, inr, ◌&&◌, true≢false}
 use mathlib.Core.Bool.{beq}
 use Rattle.std.proofs.lemmas.Bool.Decides.{nat_tests, eqb_tells}
-use Rattle.cyclic_list.specs.Items.{count, IsIn}
-use Rattle.cyclic_list.specs.Rings.{canonical, rest, cut_left, cut_right, joined}
-use Rattle.cyclic_list.specs.Operators.{put_ring, take_ring}
-use Rattle.boundary_model.specs.HalfEdge.{mate, edge_of, is_first, plus, minus, code, half}
-use Rattle.boundary_model.specs.declared.HalfEdge.{HalfEdge}
-use Rattle.boundary_model.specs.Table as table
-use Rattle.boundary_model.specs.Table.{Table, tables, same_table}
-use Rattle.boundary_model.specs.Model.{Model, EdgeRow, lone, cycle, holds, items_of, content, face_of, loop_of, cycle_of, before, tail}
-use Rattle.boundary_model.proofs.Halves.{mate_cases, plus_row, minus_row, half-code}
-use Rattle.boundary_model.proofs.Tables.{first_where_zero}
-use Rattle.boundary_model.proofs.Models.{content_row, face_row, holds-none, holds_in, held_row}
+use Rattle.euler_operators.specs.Items.{count, IsIn}
+use Rattle.euler_operators.specs.Rings.{canonical, rest, cut_left, cut_right, joined}
+use Rattle.euler_operators.specs.Operators.{put_ring, take_ring}
+use Rattle.euler_operators.specs.HalfEdge.{mate, edge_of, is_first, plus, minus, code, half}
+use Rattle.euler_operators.specs.declared.HalfEdge.{HalfEdge}
+use Rattle.euler_operators.specs.Table as table
+use Rattle.euler_operators.specs.Table.{Table, tables, same_table}
+use Rattle.euler_operators.specs.Model.{Model, EdgeRow, lone, cycle, holds, items_of, content, face_of, loop_of, cycle_of, before, tail}
+use Rattle.euler_operators.proofs.Halves.{mate_cases, plus_row, minus_row, half-code}
+use Rattle.euler_operators.proofs.Tables.{first_where_zero}
+use Rattle.euler_operators.proofs.Models.{content_row, face_row, holds-none, holds_in, held_row}
 use Rattle.euler_operators.specs.Effect.{edge_row, cycle_or_lone}
 use Rattle.euler_laws.proofs.shared.Goes.{equals}
-use Rattle.halfedge_arena.specs.Store as store
-use Rattle.halfedge_arena.specs.Store.{Store, with_loop, with_lone, loosened, loose_key, loose_ring, join, join_loose, join_loops, cut, cut_loose, clear}
+use Rattle.euler_conditions.specs.Store as store
+use Rattle.euler_conditions.specs.Store.{Store, with_loop, with_lone, loosened, loose_key, loose_ring, join, join_loose, join_loops, cut, cut_loose, clear}
 use Rattle.low_euler.specs.loop_steps.Steps.{IsStanding, IsLoose, with_edge, put_before, take_out}
 use Rattle.low_euler.proofs.loop_steps_laws.RingSteps.{joined_before, cut_keeps, cut_takes, follows, nothing_follows, alone_list}
 

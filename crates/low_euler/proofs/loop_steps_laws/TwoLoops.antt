@@ -1,19 +1,19 @@
 -- Stores that differ in the contents of two loops only: what the readers answer there, and what the steps make of them.
 use Rattle.std.proofs.Common.{◌≡◌, ◌≢◌, ℕ, ◌+◌, ◌≤◌, cond, List, [], ◌∷◌, Some, unwrap_or, refl, sym, ap, ◌∙◌, subst, arith, inl, inr}
 use Rattle.std.proofs.lemmas.Bool.Decides.{nat_tests, eqb_tells}
-use Rattle.cyclic_list.specs.Items.{count, IsIn, IsApart}
-use Rattle.cyclic_list.specs.Rings.{rest, predecessor, cut_left, cut_right, joined}
-use Rattle.cyclic_list.specs.Operators.{put_ring}
-use Rattle.cyclic_list.proofs.Rings.{IsIn_predecessor}
-use Rattle.boundary_model.specs.Table as table
-use Rattle.boundary_model.specs.Table.{Table, tables, same_table}
-use Rattle.boundary_model.specs.Model.{Model, LoopContent, LoopRow, cycle, holds, items_of, content, face_of, loop_of, cycle_of, before, tail, no_loop}
-use Rattle.boundary_model.specs.Sound.{HasHalf}
-use Rattle.boundary_model.proofs.Tables.{first_where_is}
-use Rattle.boundary_model.proofs.Models.{content_row, face_row, in-holds, holds_in}
+use Rattle.euler_operators.specs.Items.{count, IsIn, IsApart}
+use Rattle.euler_operators.specs.Rings.{rest, predecessor, cut_left, cut_right, joined}
+use Rattle.euler_operators.specs.Operators.{put_ring}
+use Rattle.euler_operators.proofs.Rings.{IsIn_predecessor}
+use Rattle.euler_operators.specs.Table as table
+use Rattle.euler_operators.specs.Table.{Table, tables, same_table}
+use Rattle.euler_operators.specs.Model.{Model, LoopContent, LoopRow, cycle, holds, items_of, content, face_of, loop_of, cycle_of, before, tail, no_loop}
+use Rattle.euler_operators.specs.Sound.{HasHalf}
+use Rattle.euler_operators.proofs.Tables.{first_where_is}
+use Rattle.euler_operators.proofs.Models.{content_row, face_row, in-holds, holds_in}
 use Rattle.euler_operators.specs.Effect.{cycle_or_lone}
 use Rattle.euler_laws.proofs.shared.Goes.{differs}
-use Rattle.halfedge_arena.specs.Store.{Store, Room, loose_key, loose_ring, fill, join, join_loose, join_loops, cut_to}
+use Rattle.euler_conditions.specs.Store.{Store, Room, loose_key, loose_ring, fill, join, join_loose, join_loops, cut_to}
 use Rattle.low_euler.specs.loop_steps.Steps.{IsStanding, put_before, take_out}
 use Rattle.low_euler.proofs.loop_steps_laws.StoreSteps.{put_again, put_apart}
 

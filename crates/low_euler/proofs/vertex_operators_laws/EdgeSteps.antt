@@ -1,12 +1,12 @@
 -- The edge of a half-edge, as the arena puts it.
 use Rattle.std.proofs.Common.{◌≡◌, ◌≢◌, ℕ, Bool, true, false, cond, not, ◌&&◌, nat_eq, true≢false, List, [], ◌∷◌, refl, sym, ap, ◌∙◌, arith, ◌⊎◌, inl, inr}
 use Rattle.std.proofs.lemmas.Bool.Decides.{nat_tests}
-use Rattle.boundary_model.specs.declared.HalfEdge.{HalfEdge}
+use Rattle.euler_operators.specs.declared.HalfEdge.{HalfEdge}
 use mathlib.Core.Bool.{beq}
-use Rattle.boundary_model.specs.HalfEdge.{code, half, mate, edge_of, is_first, plus, minus}
-use Rattle.boundary_model.specs.Table as table
-use Rattle.boundary_model.specs.Table.{Table, tables, same_table}
-use Rattle.boundary_model.proofs.Halves.{code-mate, half-code, plus_row, minus_row}
+use Rattle.euler_operators.specs.HalfEdge.{code, half, mate, edge_of, is_first, plus, minus}
+use Rattle.euler_operators.specs.Table as table
+use Rattle.euler_operators.specs.Table.{Table, tables, same_table}
+use Rattle.euler_operators.proofs.Halves.{code-mate, half-code, plus_row, minus_row}
 use Rattle.euler_conditions.specs.Store.{Store, put_edge}
 use Rattle.low_euler.specs.vertex_operators.Steps.{with_edge}
 

@@ -1,22 +1,22 @@
 -- An edge and the vertex at its far end killed by the writers of an arena.
 use Rattle.std.proofs.Common.{◌≡◌, ◌≢◌, ℕ, true, false, cond, nat_eq, nat_lt, List, [], ◌∷◌, ◌++◌, Some, None, is_some, unwrap_or, refl, sym, ap, subst, ◌∙◌, arith, ◌⊎◌, inl, inr}
 use Rattle.std.proofs.lemmas.Bool.Decides.{nat_tests, eqb_tells}
-use Rattle.cyclic_list.specs.Items.{count, IsIn, IsApart}
-use Rattle.cyclic_list.specs.Rings.{canonical, rest, rotate_to, successor, predecessor}
-use Rattle.cyclic_list.specs.Edits.{without}
-use Rattle.cyclic_list.proofs.Lists.{tick_other, IsIn_or_not}
-use Rattle.cyclic_list.proofs.Rings.{next_is_successor, IsIn_successor, predecessor-successor, count_at}
-use Rattle.cyclic_list.proofs.Rotations.{count-canonical, IsApart-canonical, canonical-rotates, canonical_nil, rest_same}
-use Rattle.cyclic_list.proofs.Edits.{without_none}
-use Rattle.cyclic_list.proofs.Cuts.{upto_once}
-use Rattle.boundary_model.specs.declared.HalfEdge.{HalfEdge}
-use Rattle.boundary_model.specs.HalfEdge.{code, mate, edge_of, is_first, plus, minus}
-use Rattle.boundary_model.specs.Table as table
-use Rattle.boundary_model.specs.Table.{Table, tables, same_table}
-use Rattle.boundary_model.specs.Model.{Model, LoopContent, lone, cycle, no_loop, no_edge, items_of, holds, tail, tail_in, loop_of, face_of, content, after, round, arc}
-use Rattle.boundary_model.specs.Sound.{Sound, HasHalf}
-use Rattle.boundary_model.proofs.Halves.{mate_other, mate-mate, edge_of-code}
-use Rattle.boundary_model.proofs.Models.{in-holds, holds-none, cycle_there, row_of}
+use Rattle.euler_operators.specs.Items.{count, IsIn, IsApart}
+use Rattle.euler_operators.specs.Rings.{canonical, rest, rotate_to, successor, predecessor}
+use Rattle.euler_operators.specs.Edits.{without}
+use Rattle.euler_operators.proofs.Lists.{tick_other, IsIn_or_not}
+use Rattle.euler_operators.proofs.Rings.{next_is_successor, IsIn_successor, predecessor-successor, count_at}
+use Rattle.euler_operators.proofs.Rotations.{count-canonical, IsApart-canonical, canonical-rotates, canonical_nil, rest_same}
+use Rattle.euler_operators.proofs.Edits.{without_none}
+use Rattle.euler_operators.proofs.Cuts.{upto_once}
+use Rattle.euler_operators.specs.declared.HalfEdge.{HalfEdge}
+use Rattle.euler_operators.specs.HalfEdge.{code, mate, edge_of, is_first, plus, minus}
+use Rattle.euler_operators.specs.Table as table
+use Rattle.euler_operators.specs.Table.{Table, tables, same_table}
+use Rattle.euler_operators.specs.Model.{Model, LoopContent, lone, cycle, no_loop, no_edge, items_of, holds, tail, tail_in, loop_of, face_of, content, after, round, arc}
+use Rattle.euler_operators.specs.Sound.{Sound, HasHalf}
+use Rattle.euler_operators.proofs.Halves.{mate_other, mate-mate, edge_of-code}
+use Rattle.euler_operators.proofs.Models.{in-holds, holds-none, cycle_there, row_of}
 use Rattle.euler_operators.specs.declared.Op.TheVariants.{Kev}
 use Rattle.euler_operators.specs.Effect.{effect, kev, cycle_or_lone}
 use Rattle.euler_laws.proofs.shared.Fans.{Fan, half_after, half_mate, loop_after}

@@ -1,21 +1,21 @@
 -- An edge made at a lone loop by the writers of an arena.
 use Rattle.std.proofs.Common.{◌≡◌, ◌≢◌, ℕ, true, false, cond, List, [], ◌∷◌, ◌++◌, is_some, unwrap_or, refl, sym, ap, subst, ◌∙◌, arith, true≢false, inl, inr}
 use Rattle.std.proofs.lemmas.Bool.Decides.{nat_tests, eqb_tells}
-use Rattle.lattice.specs.declared.Point.{Point}
-use Rattle.lattice.specs.Point.{IsInRange}
-use Rattle.cyclic_list.specs.Items.{count, IsIn}
-use Rattle.cyclic_list.specs.Rings.{canonical, rest, joined}
-use Rattle.cyclic_list.proofs.Lists.{tick_same, tick_other}
-use Rattle.cyclic_list.proofs.Rotations.{rest_head}
-use Rattle.boundary_model.specs.declared.HalfEdge.{HalfEdge}
-use Rattle.boundary_model.specs.declared.Corner.TheVariants.{Lone}
-use Rattle.boundary_model.specs.HalfEdge.{code, mate}
-use Rattle.boundary_model.specs.Table as table
-use Rattle.boundary_model.specs.Table.{Table, tables, same_table}
-use Rattle.boundary_model.specs.Model.{Model, LoopContent, LoopRow, cycle, items_of, no_loop, loop_of, face_of, content, is_number}
-use Rattle.boundary_model.specs.Sound.{Sound, HasHalf, StandsIn}
-use Rattle.boundary_model.proofs.Halves.{mate_other, edge_of-code}
-use Rattle.boundary_model.proofs.Models.{holds_in, in-holds}
+use Rattle.euler_operators.specs.declared.Point.{Point}
+use Rattle.euler_operators.specs.Points.{IsInRange}
+use Rattle.euler_operators.specs.Items.{count, IsIn}
+use Rattle.euler_operators.specs.Rings.{canonical, rest, joined}
+use Rattle.euler_operators.proofs.Lists.{tick_same, tick_other}
+use Rattle.euler_operators.proofs.Rotations.{rest_head}
+use Rattle.euler_operators.specs.declared.HalfEdge.{HalfEdge}
+use Rattle.euler_operators.specs.declared.Corner.TheVariants.{Lone}
+use Rattle.euler_operators.specs.HalfEdge.{code, mate}
+use Rattle.euler_operators.specs.Table as table
+use Rattle.euler_operators.specs.Table.{Table, tables, same_table}
+use Rattle.euler_operators.specs.Model.{Model, LoopContent, LoopRow, cycle, items_of, no_loop, loop_of, face_of, content, is_number}
+use Rattle.euler_operators.specs.Sound.{Sound, HasHalf, StandsIn}
+use Rattle.euler_operators.proofs.Halves.{mate_other, edge_of-code}
+use Rattle.euler_operators.proofs.Models.{holds_in, in-holds}
 use Rattle.euler_operators.specs.declared.Op.TheVariants.{Mev}
 use Rattle.euler_operators.specs.Conditions.{lone_vertex, is_lone}
 use Rattle.euler_operators.specs.Effect.{effect, mev_lone}

@@ -1,8 +1,8 @@
 -- Rows put into a table.
 use Rattle.std.proofs.Common.{◌≡◌, ◌≢◌, ℕ, Some, arith}
 use Rattle.std.proofs.lemmas.Bool.Decides.{nat_tests}
-use Rattle.boundary_model.specs.Table as table
-use Rattle.boundary_model.specs.Table.{Table, tables, same_table}
+use Rattle.euler_operators.specs.Table as table
+use Rattle.euler_operators.specs.Table.{Table, tables, same_table}
 
 pub put_twice : {X : Type 0} (t : Table X) (n : ℕ) (x y : X) → table.put (table.put t n x) n y ≡ table.put t n y
 put_twice t n x y = same_table _ _ (λ q. grind (arith, nat_tests, tables))

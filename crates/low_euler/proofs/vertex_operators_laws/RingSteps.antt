@@ -1,12 +1,12 @@
 -- An item that goes into a ring or leaves it, by a join or a cut after the item before.
 use Rattle.std.proofs.Common.{◌≡◌, ◌≢◌, ℕ, List, [], ◌∷◌, ◌++◌, refl, sym, ap, ◌∙◌, arith, inl, inr}
 use Rattle.std.proofs.lemmas.Bool.Decides.{eqb_tells}
-use Rattle.cyclic_list.specs.Items.{count, IsIn, IsApart, head_or, last_or, before, after}
-use Rattle.cyclic_list.specs.Rings.{canonical, rotate_to, rest, predecessor, cut_left, cut_right, joined}
-use Rattle.cyclic_list.specs.Edits.{insert_before, without}
-use Rattle.cyclic_list.proofs.Lists.{count-append, tick_same, tick_other, tick_le, split_at, before_at, after_at}
-use Rattle.cyclic_list.proofs.Rings.{front_of, IsIn_predecessor, successor-predecessor, rotation_at, count_at}
-use Rattle.cyclic_list.proofs.Rotations.{rotate_to-rotates, IsApart-rotate_to, rotate_to_is, rest_parts, rest_at, rest_head, rest_same, IsIn_head, canonical_is, canonical_same, canonical_nil}
+use Rattle.euler_operators.specs.Items.{count, IsIn, IsApart, head_or, last_or, before, after}
+use Rattle.euler_operators.specs.Rings.{canonical, rotate_to, rest, predecessor, cut_left, cut_right, joined}
+use Rattle.euler_operators.specs.Edits.{insert_before, without}
+use Rattle.euler_operators.proofs.Lists.{count-append, tick_same, tick_other, tick_le, split_at, before_at, after_at}
+use Rattle.euler_operators.proofs.Rings.{front_of, IsIn_predecessor, successor-predecessor, rotation_at, count_at}
+use Rattle.euler_operators.proofs.Rotations.{rotate_to-rotates, IsApart-rotate_to, rotate_to_is, rest_parts, rest_at, rest_head, rest_same, IsIn_head, canonical_is, canonical_same, canonical_nil}
 use Rattle.euler_laws.proofs.shared.Undo.{taken_out, put_in}
 
 canonical_one : (x : ℕ) → canonical (x ∷ []) ≡ x ∷ []

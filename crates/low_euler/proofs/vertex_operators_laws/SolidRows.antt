@@ -1,10 +1,10 @@
 -- A solid with one face and one vertex, made and killed by the writers of an arena.
 use Rattle.std.proofs.Common.{◌≡◌, ℕ, true, false, List, [], ◌∷◌, Some, None, is_some, unwrap_or, refl, sym, ap, subst, ◌∙◌, true≢false}
-use Rattle.lattice.specs.declared.Point.{Point}
-use Rattle.lattice.specs.Point.{IsInRange}
-use Rattle.boundary_model.specs.Table as table
-use Rattle.boundary_model.specs.Table.{Table, tables, same_table}
-use Rattle.boundary_model.specs.Model.{Model, LoopRow, lone, cycle, items_of, no_loop, outer, face_of, faces_of, content}
+use Rattle.euler_operators.specs.declared.Point.{Point}
+use Rattle.euler_operators.specs.Points.{IsInRange}
+use Rattle.euler_operators.specs.Table as table
+use Rattle.euler_operators.specs.Table.{Table, tables, same_table}
+use Rattle.euler_operators.specs.Model.{Model, LoopRow, lone, cycle, items_of, no_loop, outer, face_of, faces_of, content}
 use Rattle.euler_operators.specs.declared.Op.TheVariants.{Mvfs, Kvfs}
 use Rattle.euler_operators.specs.Conditions.{first_false, conditions, bare_face, is_lone, lone_vertex}
 use Rattle.euler_operators.specs.Effect.{effect, mvfs, kvfs_at, head_or_zero}

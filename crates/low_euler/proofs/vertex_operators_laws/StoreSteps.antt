@@ -2,21 +2,21 @@
 use Rattle.std.proofs.Common.{◌≡◌, ◌≢◌, ℕ, Bool, true, false, cond, List, [], ◌∷◌, Option, Some, None, is_some, unwrap_or, refl, sym, ap, ◌∙◌, subst, arith, ◌⊎◌, inl, inr, true≢false}
 use Rattle.std.specs.Option.{option_map}
 use Rattle.std.proofs.lemmas.Bool.Decides.{nat_tests, eqb_tells}
-use Rattle.cyclic_list.specs.Items.{count, tick, IsIn, IsApart}
-use Rattle.cyclic_list.specs.Rings.{canonical, predecessor, cut_left, cut_right, joined}
-use Rattle.cyclic_list.specs.Edits.{insert_before, without}
-use Rattle.cyclic_list.proofs.Lists.{tick_same, tick_other, IsIn_or_not}
-use Rattle.cyclic_list.proofs.Rings.{IsIn_predecessor}
-use Rattle.cyclic_list.proofs.Rotations.{count-canonical}
-use Rattle.cyclic_list.proofs.Edits.{without_none}
-use Rattle.boundary_model.specs.HalfEdge.{mate, edge_of}
-use Rattle.boundary_model.specs.Table as table
-use Rattle.boundary_model.specs.Table.{Table, tables}
-use Rattle.boundary_model.specs.Model.{Model, LoopContent, cycle, LoopRow, no_loop, items_of, holds, loop_of, content, face_of, cycle_of, before}
-use Rattle.boundary_model.specs.Sound.{Sound, HasHalf, StandsIn}
-use Rattle.boundary_model.proofs.Halves.{mate_other, edge_of-mate}
-use Rattle.boundary_model.proofs.Tables.{map_one, first_where_is, first_where_zero}
-use Rattle.boundary_model.proofs.Models.{holds_in, in-holds, holds-none, content_row, held_row}
+use Rattle.euler_operators.specs.Items.{count, tick, IsIn, IsApart}
+use Rattle.euler_operators.specs.Rings.{canonical, predecessor, cut_left, cut_right, joined}
+use Rattle.euler_operators.specs.Edits.{insert_before, without}
+use Rattle.euler_operators.proofs.Lists.{tick_same, tick_other, IsIn_or_not}
+use Rattle.euler_operators.proofs.Rings.{IsIn_predecessor}
+use Rattle.euler_operators.proofs.Rotations.{count-canonical}
+use Rattle.euler_operators.proofs.Edits.{without_none}
+use Rattle.euler_operators.specs.HalfEdge.{mate, edge_of}
+use Rattle.euler_operators.specs.Table as table
+use Rattle.euler_operators.specs.Table.{Table, tables}
+use Rattle.euler_operators.specs.Model.{Model, LoopContent, cycle, LoopRow, no_loop, items_of, holds, loop_of, content, face_of, cycle_of, before}
+use Rattle.euler_operators.specs.Sound.{Sound, HasHalf, StandsIn}
+use Rattle.euler_operators.proofs.Halves.{mate_other, edge_of-mate}
+use Rattle.euler_operators.proofs.Tables.{map_one, first_where_is, first_where_zero}
+use Rattle.euler_operators.proofs.Models.{holds_in, in-holds, holds-none, content_row, held_row}
 use Rattle.euler_operators.specs.Effect.{edge_row, where_held}
 use Rattle.euler_laws.proofs.shared.Goes.{equals}
 use Rattle.euler_laws.proofs.shared.Loops.{count_put_there, count_put_none, count_out, count_gone, apart_out, light, none_free, loop_at}

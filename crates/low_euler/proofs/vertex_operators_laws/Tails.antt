@@ -2,20 +2,20 @@
 use Rattle.std.proofs.Common.{◌≡◌, ◌≢◌, ℕ, ◌+◌, ◌<◌, Bool, true, false, cond, nat_eq, nat_lt, List, [], ◌∷◌, ◌++◌, length, Option, Some, None, is_some, unwrap_or, refl, sym, ap, ◌∙◌, subst, arith, inl, inr, true≢false, ne_eqb}
 use Rattle.std.specs.Option.{option_map}
 use Rattle.std.proofs.lemmas.Bool.Decides.{nat_tests, eqb_tells}
-use Rattle.cyclic_list.specs.Items.{count, tick, IsIn, IsApart, head_or, before as before_item}
-use Rattle.cyclic_list.specs.Rings.{rest, successor, rotate_to, upto, IsRing}
-use Rattle.cyclic_list.proofs.Lists.{tick_same, tick_other}
-use Rattle.cyclic_list.proofs.Rings.{next_is_successor, IsIn_successor, rotation_at, count_at, apart_at}
-use Rattle.cyclic_list.proofs.Rotations.{rotate_to_is, rotate_to_same, rotate_at}
-use Rattle.cyclic_list.proofs.Cuts.{upto_itself}
-use Rattle.boundary_model.specs.HalfEdge.{mate, edge_of, is_first, plus, minus}
-use Rattle.boundary_model.specs.Table as table
-use Rattle.boundary_model.specs.Table.{Table, tables, same_table}
-use Rattle.boundary_model.specs.Model.{Model, EdgeRow, no_edge, tail_in, tail, loop_of, after, round, arc, content, items_of}
-use Rattle.boundary_model.specs.Sound.{Sound, HasHalf, StandsIn}
-use Rattle.boundary_model.proofs.Halves.{plus_row, minus_row}
-use Rattle.boundary_model.proofs.Tables.{map_same}
-use Rattle.boundary_model.proofs.Models.{held_row}
+use Rattle.euler_operators.specs.Items.{count, tick, IsIn, IsApart, head_or, before as before_item}
+use Rattle.euler_operators.specs.Rings.{rest, successor, rotate_to, upto, IsRing}
+use Rattle.euler_operators.proofs.Lists.{tick_same, tick_other}
+use Rattle.euler_operators.proofs.Rings.{next_is_successor, IsIn_successor, rotation_at, count_at, apart_at}
+use Rattle.euler_operators.proofs.Rotations.{rotate_to_is, rotate_to_same, rotate_at}
+use Rattle.euler_operators.proofs.Cuts.{upto_itself}
+use Rattle.euler_operators.specs.HalfEdge.{mate, edge_of, is_first, plus, minus}
+use Rattle.euler_operators.specs.Table as table
+use Rattle.euler_operators.specs.Table.{Table, tables, same_table}
+use Rattle.euler_operators.specs.Model.{Model, EdgeRow, no_edge, tail_in, tail, loop_of, after, round, arc, content, items_of}
+use Rattle.euler_operators.specs.Sound.{Sound, HasHalf, StandsIn}
+use Rattle.euler_operators.proofs.Halves.{plus_row, minus_row}
+use Rattle.euler_operators.proofs.Tables.{map_same}
+use Rattle.euler_operators.proofs.Models.{held_row}
 use Rattle.euler_operators.specs.Effect.{with_tails}
 use Rattle.euler_laws.proofs.shared.Fans.{Fan, fan_of, half_mate}
 use Rattle.euler_laws.proofs.shared.Same.{mapped_some}

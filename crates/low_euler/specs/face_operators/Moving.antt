@@ -1,6 +1,6 @@
 -- Faces that go to another solid.
 use Rattle.std.specs.Prelude.{ℕ, List}
-use Rattle.boundary_model.specs.Table as table
+use Rattle.euler_operators.specs.Table as table
 use Rattle.euler_conditions.specs.Store.{Store}
 use Rattle.euler_operators.specs.Conditions.{lists}
 use Rattle.euler_operators.specs.Effect.{faces_to_solid}

@@ -1,17 +1,17 @@
 -- Steps of which operators on an arena are made: a new edge, and a half-edge that goes into a loop or leaves one.
 use Rattle.std.specs.Prelude.{◌≡◌, ◌≢◌, ℕ, true, [], ◌∷◌}
-use Rattle.cyclic_list.specs.Items.{count, IsApart}
-use Rattle.cyclic_list.specs.Rings.{rest}
-use Rattle.cyclic_list.specs.Operators.{put_ring}
-use Rattle.boundary_model.specs.declared.Corner.{Corner}
-use Rattle.boundary_model.specs.declared.Corner.TheVariants.{At, Lone}
-use Rattle.boundary_model.specs.HalfEdge.{code, mate, edge_of}
-use Rattle.boundary_model.specs.Table as table
-use Rattle.boundary_model.specs.Model.{Model, cycle, items_of, content, has_half, loop_of, cycle_of, before, tail}
-use Rattle.boundary_model.specs.Sound.{StandsIn}
+use Rattle.euler_operators.specs.Items.{count, IsApart}
+use Rattle.euler_operators.specs.Rings.{rest}
+use Rattle.euler_operators.specs.Operators.{put_ring}
+use Rattle.euler_operators.specs.declared.Corner.{Corner}
+use Rattle.euler_operators.specs.declared.Corner.TheVariants.{At, Lone}
+use Rattle.euler_operators.specs.HalfEdge.{code, mate, edge_of}
+use Rattle.euler_operators.specs.Table as table
+use Rattle.euler_operators.specs.Model.{Model, cycle, items_of, content, has_half, loop_of, cycle_of, before, tail}
+use Rattle.euler_operators.specs.Sound.{StandsIn}
 use Rattle.euler_operators.specs.Effect.{edge_row, cycle_or_lone}
 use Rattle.euler_operators.specs.Conditions.{is_lone}
-use Rattle.halfedge_arena.specs.Store.{Store, with_loop, loose_key, loose_ring, fill}
+use Rattle.euler_conditions.specs.Store.{Store, with_loop, loose_key, loose_ring, fill}
 
 -- half-edge h stands in a loop, as the half-edge before it does
 pub record IsStanding (M : Model) (h : ℕ) : Type 0 where

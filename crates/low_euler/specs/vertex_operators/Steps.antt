@@ -1,12 +1,12 @@
 -- Steps of which operators on an arena are made: half-edges that go into a loop or leave one, and tails that move.
 use Rattle.std.specs.Prelude.{◌≡◌, ℕ, List, [], ◌∷◌, Some, None}
-use Rattle.cyclic_list.specs.Items.{IsIn, IsApart}
-use Rattle.cyclic_list.specs.Rings.{canonical}
-use Rattle.cyclic_list.specs.Edits.{without}
-use Rattle.boundary_model.specs.HalfEdge.{mate, edge_of}
-use Rattle.boundary_model.specs.Table as table
-use Rattle.boundary_model.specs.Model.{Model, cycle, items_of, content, loop_of}
-use Rattle.boundary_model.specs.Sound.{StandsIn, HasHalf}
+use Rattle.euler_operators.specs.Items.{IsIn, IsApart}
+use Rattle.euler_operators.specs.Rings.{canonical}
+use Rattle.euler_operators.specs.Edits.{without}
+use Rattle.euler_operators.specs.HalfEdge.{mate, edge_of}
+use Rattle.euler_operators.specs.Table as table
+use Rattle.euler_operators.specs.Model.{Model, cycle, items_of, content, loop_of}
+use Rattle.euler_operators.specs.Sound.{StandsIn, HasHalf}
 use Rattle.euler_operators.specs.Effect.{edge_row, where_held, with_before, with_tails}
 use Rattle.euler_conditions.specs.Store.{Store}
 

@@ -1,12 +1,13 @@
 //! Operators that move faces from one solid to another.
 ghost use Rattle.std.specs.Prelude.{◌≡◌, ℕ, true};
-ghost use Rattle.boundary_model.specs.Model.{faces_of};
+ghost use Rattle.euler_operators.specs.Model.{faces_of};
 ghost use Rattle.euler_conditions.specs.Store.{has_number, has_room};
 ghost use Rattle.euler_operators.specs.Conditions.{lists};
 ghost use Rattle.euler_conditions.specs.Ready.{Accepts, after};
 ghost use Rattle.low_euler.specs.face_operators.Moving.{moved};
 
-use euler_conditions::{Arena, FaceList, Kind, Op};
+use euler_conditions::Arena;
+use euler_operators::{FaceList, Kind, Op};
 
 /// Gives each listed face to solid s.
 fn give_faces(arena: &mut Arena, faces: &FaceList, s: u32)

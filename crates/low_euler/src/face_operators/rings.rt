@@ -3,7 +3,8 @@ ghost use Rattle.std.specs.Prelude.{◌≡◌, true};
 ghost use Rattle.euler_conditions.specs.Store.{has_number, set_face};
 ghost use Rattle.euler_conditions.specs.Ready.{Accepts, after};
 
-use euler_conditions::{Arena, Kind, Op};
+use euler_conditions::Arena;
+use euler_operators::{Kind, Op};
 
 /// Gives loop l to face f, both of which are there.
 fn give_loop(arena: &mut Arena, l: u32, f: u32)

@@ -3,7 +3,8 @@ ghost use Rattle.std.specs.Prelude.{◌≡◌};
 ghost use Rattle.euler_conditions.specs.Ready.{Accepts, after};
 
 use crate::loop_steps::{put_before, put_edge, take_out};
-use euler_conditions::{Arena, HalfEdge, Kind, Op};
+use euler_conditions::Arena;
+use euler_operators::{HalfEdge, Kind, Op};
 
 /// Makes an edge between two corners of one loop, which parts the loop's face. `half` starts at the first corner.
 /// What follows the first corner up to before the second, and then the mate of `half`, becomes the outer loop of the

@@ -4,7 +4,8 @@ ghost use Rattle.std.specs.Prelude.{◌≡◌};
 ghost use Rattle.euler_conditions.specs.Ready.{Accepts, after};
 
 use crate::loop_steps::{loop_at, put_at, put_edge, tail_at, take_out};
-use euler_conditions::{Arena, Corner, HalfEdge, Kind, Op};
+use euler_conditions::Arena;
+use euler_operators::{Corner, HalfEdge, Kind, Op};
 
 /// Kills an edge that stands twice in one loop. What stands between the edge's mate and `half` keeps the loop; what
 /// stands between `half` and its mate becomes a new ring of the face. A part in which nothing stands becomes lone.

@@ -1,11 +1,12 @@
 //! What stands at a corner, and a half-edge that is put there.
 ghost use Rattle.std.specs.Prelude.{◌≡◌};
-ghost use Rattle.boundary_model.specs.HalfEdge.{code};
+ghost use Rattle.euler_operators.specs.HalfEdge.{code};
 ghost use Rattle.euler_operators.specs.Conditions.{corner_tail, corner_loop};
 ghost use Rattle.low_euler.specs.loop_steps.Steps.{IsCorner, CanTake, IsLoose, put_at};
 
 use crate::loop_steps::steps;
-use halfedge_arena::{Arena, Content, Corner, HalfEdge};
+use euler_conditions::Arena;
+use euler_operators::{Content, Corner, HalfEdge};
 
 /// The loop in which a corner stands.
 pub(crate) fn loop_at(arena: &Arena, corner: Corner) -> u32

@@ -1,10 +1,11 @@
 //! The steps of which the operators are made: a new edge, and a half-edge that goes into a loop or leaves one.
 ghost use Rattle.std.specs.Prelude.{◌≡◌, true, false};
-ghost use Rattle.boundary_model.specs.HalfEdge.{code};
-ghost use Rattle.halfedge_arena.specs.Store.{has_room, has_number};
+ghost use Rattle.euler_operators.specs.HalfEdge.{code};
+ghost use Rattle.euler_conditions.specs.Store.{has_room, has_number};
 ghost use Rattle.low_euler.specs.loop_steps.Steps.{IsStanding, IsLoose, with_edge, put_before, take_out};
 
-use halfedge_arena::{Arena, HalfEdge, Kind};
+use euler_conditions::Arena;
+use euler_operators::{HalfEdge, Kind};
 
 /// Makes the edge of `half`, which starts at one vertex and ends at another. Both its half-edges are loose.
 pub(crate) fn put_edge(arena: &mut Arena, half: HalfEdge, start: u32, end: u32)

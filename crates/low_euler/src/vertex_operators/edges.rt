@@ -3,8 +3,8 @@ ghost use Rattle.std.specs.Prelude.{◌≡◌};
 ghost use Rattle.euler_conditions.specs.Ready.{Accepts, after};
 
 use crate::vertex_operators::steps;
-use euler_conditions::{Arena, Corner, HalfEdge, Op};
-use lattice::Point;
+use euler_conditions::Arena;
+use euler_operators::{Corner, HalfEdge, Op, Point};
 
 /// Makes an edge from the vertex of two corners to a new vertex, in one of two ways. At half-edges `half` is put before
 /// the first and its mate before the second; where the two are the same, `half` and then its mate are put before it.

@@ -3,8 +3,8 @@ ghost use Rattle.std.specs.Prelude.{◌≡◌};
 ghost use Rattle.euler_conditions.specs.Ready.{Accepts, after};
 
 use crate::vertex_operators::steps;
-use euler_conditions::{Arena, Op};
-use lattice::Point;
+use euler_conditions::Arena;
+use euler_operators::{Op, Point};
 
 /// Makes a solid with one face, whose outer loop is lone at a new vertex. The four numbers are free and have their
 /// room, and the point is in range. It costs the same in every model, takes no memory and never fails.

@@ -1,14 +1,15 @@
 //! The steps of which the operators are made: half-edges that go into a loop or leave one, and tails that move.
 //! A store between two steps isn't sound, so each step asks only for what it stands on.
 ghost use Rattle.std.specs.Prelude.{◌≡◌, true, false};
-ghost use Rattle.boundary_model.specs.HalfEdge.{code};
-ghost use Rattle.boundary_model.specs.Model.{arc, content, tail};
-ghost use Rattle.boundary_model.specs.Sound.{Sound, HasHalf};
+ghost use Rattle.euler_operators.specs.HalfEdge.{code};
+ghost use Rattle.euler_operators.specs.Model.{arc, content, tail};
+ghost use Rattle.euler_operators.specs.Sound.{Sound, HasHalf};
 ghost use Rattle.euler_conditions.specs.Store.{has_number, has_room};
 ghost use Rattle.euler_operators.specs.Conditions.{is_lone, lone_vertex};
 ghost use Rattle.low_euler.specs.vertex_operators.Steps.{IsPlaced, HasLoop, IsAlone, with_edge, put_before, taken_out, with_tails_at};
 
-use euler_conditions::{Arena, Content, HalfEdge, Kind};
+use euler_conditions::Arena;
+use euler_operators::{Content, HalfEdge, Kind};
 
 /// The vertex of loop l, which is there and lone.
 pub(crate) fn lone_vertex(arena: &Arena, l: u32) -> u32

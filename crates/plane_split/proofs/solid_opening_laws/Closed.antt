@@ -1,6 +1,6 @@
 -- The part that is left once the holes are closed.
 use Rattle.std.proofs.Common.{◌≡◌, ℕ, List, [], ◌∷◌, ◌++◌, refl, sym, ap, ◌∙◌, subst}
-use Rattle.boundary_model.specs.Model.{Model}
+use Rattle.euler_operators.specs.Model.{Model}
 use Rattle.euler_operators.specs.declared.Op.TheVariants.{Part}
 use Rattle.euler_laws.specs.Laws.{AreAccepted, effects}
 use Rattle.shapes.specs.split.Opening as shape

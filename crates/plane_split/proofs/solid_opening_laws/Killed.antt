@@ -1,8 +1,8 @@
 -- The risers killed one after the other, and what is left then of the operators that make caps.
 use Rattle.std.proofs.Common.{◌≡◌, ℕ, suc, ◌+◌, ◌-◌, ◌*◌, ◌≤◌, ◌<◌, List, [], ◌∷◌, map, None, refl, sym, ap, ◌∙◌, subst, arith}
-use Rattle.boundary_model.specs.declared.HalfEdge.{HalfEdge}
-use Rattle.boundary_model.specs.HalfEdge.{half, plus, minus}
-use Rattle.boundary_model.specs.Model.{Model}
+use Rattle.euler_operators.specs.declared.HalfEdge.{HalfEdge}
+use Rattle.euler_operators.specs.HalfEdge.{half, plus, minus}
+use Rattle.euler_operators.specs.Model.{Model}
 use Rattle.euler_operators.specs.declared.Op.{Op}
 use Rattle.euler_operators.specs.declared.Op.TheVariants.{Kef, Kemr, Mfkrh}
 use Rattle.euler_operators.specs.Conditions.{first_false}

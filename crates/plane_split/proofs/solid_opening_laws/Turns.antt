@@ -2,10 +2,10 @@
 use Rattle.std.proofs.Common.{◌≡◌, ℕ, ◌+◌, ◌*◌, ◌≤◌, Bool, false, List, [], ◌∷◌, ◌++◌, length, map, slice_index_or, sym, ap, ◌∙◌, subst}
 use Rattle.std.specs.Prelude.{drop}
 use Rattle.std.proofs.lemmas.List.{length-map, map-append, append_assoc}
-use Rattle.lattice.specs.declared.Plane.{Plane}
-use Rattle.boundary_model.specs.declared.HalfEdge.{HalfEdge}
-use Rattle.boundary_model.specs.HalfEdge.{code}
-use Rattle.boundary_model.specs.Model.{Model}
+use Rattle.euler_operators.specs.declared.Plane.{Plane}
+use Rattle.euler_operators.specs.declared.HalfEdge.{HalfEdge}
+use Rattle.euler_operators.specs.HalfEdge.{code}
+use Rattle.euler_operators.specs.Model.{Model}
 use Rattle.euler_laws.specs.Laws.{effects}
 use Rattle.shapes.specs.split.Section.{is_hole}
 use Rattle.shapes.specs.split.Opening.{Opening, opened_along, next_opened, all_opened}

@@ -1,7 +1,7 @@
 -- Caps as the code has them, and the solid opened along a section.
 use Rattle.std.specs.Prelude.{ℕ, List, [], map}
-use Rattle.lattice.specs.declared.Plane.{Plane}
-use Rattle.boundary_model.specs.Model.{Model}
+use Rattle.euler_operators.specs.declared.Plane.{Plane}
+use Rattle.euler_operators.specs.Model.{Model}
 use Rattle.shapes.specs.split.Opening.{Caps, Opening, all_opened}
 use Rattle.split_drawing.specs.face_drawing.Codes.{taken_of}
 use Rattle.split_drawing.specs.declared.face_drawing.progress.Progress.{Progress}

@@ -1,6 +1,6 @@
 -- When a solid can be opened along a cycle, as the code asks it, and the model once the strips of the cycle are cut off.
 use Rattle.std.specs.Prelude.{◌≡◌, ℕ, List, length}
-use Rattle.boundary_model.specs.Model.{Model}
+use Rattle.euler_operators.specs.Model.{Model}
 use Rattle.shapes.specs.Fresh.{Taken}
 use Rattle.split_opening_laws.specs.strips.Strips.{strips_cut}
 use Rattle.split_opening_laws.specs.strips.Opened.{CanBeOpened}

@@ -1,7 +1,7 @@
 //! Copies of the vertices of a cycle, raised once its strips are cut off.
 ghost use Rattle.std.specs.Prelude.{◌≡◌, ◌≤◌, ◌<◌, ◌+◌, ◌*◌, true, None, OnOk, OnErr, length, map, get_or};
-ghost use Rattle.boundary_model.specs.HalfEdge.{code};
-ghost use Rattle.boundary_model.specs.Model.{has_half};
+ghost use Rattle.euler_operators.specs.HalfEdge.{code};
+ghost use Rattle.euler_operators.specs.Model.{has_half};
 ghost use Rattle.euler_laws.specs.Laws.{effects};
 ghost use Rattle.euler_operators.specs.Conditions.{first_false};
 ghost use Rattle.undo_journal.specs.Machine.{draft_step};
@@ -10,7 +10,7 @@ ghost use Rattle.split_opening_laws.specs.strips.StripOps as ops;
 ghost use Rattle.plane_split.specs.solid_opening.Stages.{AreStripped};
 
 use crate::solid_opening::halves::start;
-use euler_conditions::{Corner, HalfEdge, Op};
+use euler_operators::{Corner, HalfEdge, Op};
 use solid_walks::{minus, plus};
 use split_drawing::Progress;
 use std::alloc::AllocError;

@@ -1,6 +1,6 @@
 //! A solid opened along one cycle, and the numbers that this takes.
 ghost use Rattle.std.specs.Prelude.{◌≡◌, ◌≤◌, ◌+◌, ◌*◌, OnOk, map};
-ghost use Rattle.boundary_model.specs.HalfEdge.{code};
+ghost use Rattle.euler_operators.specs.HalfEdge.{code};
 ghost use Rattle.euler_laws.specs.Laws.{effects};
 ghost use Rattle.split_drawing.specs.face_drawing.Codes.{taken_of};
 ghost use Rattle.split_opening_laws.specs.opening.OpeningOps.{opening_ops};
@@ -10,7 +10,7 @@ use crate::solid_opening::caps::Caps;
 use crate::solid_opening::copies::raise_copies;
 use crate::solid_opening::joinings::make_caps;
 use crate::solid_opening::strips::cut_strips;
-use euler_conditions::HalfEdge;
+use euler_operators::HalfEdge;
 use split_drawing::Progress;
 use std::alloc::AllocError;
 use undo_journal::Draft;

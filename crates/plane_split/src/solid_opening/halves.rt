@@ -1,11 +1,11 @@
 //! What an arena says of half-edges.
 ghost use Rattle.std.specs.Prelude.{◌≡◌, true};
-ghost use Rattle.boundary_model.specs.HalfEdge.{code};
-ghost use Rattle.boundary_model.specs.Model.{after, has_half, point_of, tail};
+ghost use Rattle.euler_operators.specs.HalfEdge.{code};
+ghost use Rattle.euler_operators.specs.Model.{after, has_half, point_of, tail};
 ghost use Rattle.euler_conditions.specs.Ready.{IsReady};
 
-use euler_conditions::{Arena, HalfEdge};
-use lattice::Point;
+use euler_conditions::Arena;
+use euler_operators::{HalfEdge, Point};
 
 /// The item after the half-edge in its loop.
 pub(crate) fn next_item(arena: &Arena, h: HalfEdge) -> HalfEdge

@@ -4,7 +4,7 @@ ghost use Rattle.euler_laws.specs.Laws.{AreAccepted, effects};
 ghost use Rattle.split_drawing.specs.face_drawing.Codes.{taken_of};
 ghost use Rattle.split_opening_laws.specs.caps.CapOps.{cap_ops, joinings};
 
-use euler_conditions::Op;
+use euler_operators::Op;
 use solid_walks::{minus, plus};
 use split_drawing::Progress;
 use std::alloc::AllocError;

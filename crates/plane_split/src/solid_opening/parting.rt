@@ -8,7 +8,7 @@ ghost use Rattle.plane_split.specs.solid_opening.Capped.{all_caps, caps_of};
 ghost use Rattle.plane_split.specs.solid_opening.Closing.{holes_ops, outer_uppers};
 
 use crate::solid_opening::caps::Caps;
-use euler_conditions::{FaceList, Op};
+use euler_operators::{FaceList, Op};
 use std::alloc::{AllocError, Global};
 use undo_journal::Draft;
 

@@ -1,7 +1,7 @@
 //! Strips, faces of two edges, cut off above the edges of a cycle.
 ghost use Rattle.std.specs.Prelude.{◌≡◌, ◌≤◌, ◌<◌, ◌+◌, true, None, OnOk, OnErr, length, map, get_or};
-ghost use Rattle.boundary_model.specs.HalfEdge.{code, mate};
-ghost use Rattle.boundary_model.specs.Model.{has_half};
+ghost use Rattle.euler_operators.specs.HalfEdge.{code, mate};
+ghost use Rattle.euler_operators.specs.Model.{has_half};
 ghost use Rattle.euler_laws.specs.Laws.{effects};
 ghost use Rattle.euler_operators.specs.Conditions.{first_false};
 ghost use Rattle.undo_journal.specs.Machine.{draft_step};
@@ -10,7 +10,7 @@ ghost use Rattle.split_opening_laws.specs.strips.StripOps as ops;
 ghost use Rattle.plane_split.specs.solid_opening.Stages.{CanOpen};
 
 use crate::solid_opening::halves::next_item;
-use euler_conditions::{HalfEdge, Op};
+use euler_operators::{HalfEdge, Op};
 use solid_walks::plus;
 use split_drawing::Progress;
 use std::alloc::AllocError;

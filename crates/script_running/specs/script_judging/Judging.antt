@@ -1,9 +1,9 @@
 -- What a line is answered.
 use Rattle.std.specs.Prelude.{◌≡◌, ◌⊎◌, ℕ, ◌+◌, ℤ, pos, Bool, true, false, List, [], ◌∷◌, get_or, Option, Some, None, Result, Ok, Err}
-use Rattle.lattice.specs.declared.Plane.{Plane}
+use Rattle.euler_operators.specs.declared.Plane.{Plane}
 use Rattle.euler_operators.specs.declared.Refusal.{Refusal}
 use Rattle.euler_operators.specs.Refusal as refusal
-use Rattle.boundary_model.specs.Model.{Model}
+use Rattle.euler_operators.specs.Model.{Model}
 use Rattle.shapes.specs.Lamina.{lamina_refusal, lamina_model}
 use Rattle.shapes.specs.Block.{block_refusal, block_model}
 use Rattle.shapes.specs.Prism.{prism_refusal, prism_model}

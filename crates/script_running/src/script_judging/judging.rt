@@ -6,7 +6,8 @@ ghost use Rattle.script_running.specs.script_judging.Settling.{Settles, Decides}
 ghost use Rattle.undo_journal.specs.Machine as machine;
 
 use crate::script_judging::larger::Larger;
-use euler_conditions::{Arena, Op, Refusal};
+use euler_conditions::Arena;
+use euler_operators::{Op, Refusal};
 use script_reader::{Command, Short, read_line, read_short};
 use solid_listing::{Reply, WriteFault};
 use solid_measure::{counts, is_flat, plane, six_volume};

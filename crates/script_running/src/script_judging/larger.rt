@@ -10,8 +10,8 @@ ghost use Rattle.script_running.specs.script_judging.Judging.{Acts, Obeys, Tries
 ghost use Rattle.script_running.specs.script_judging.Settling.{spelled};
 
 use crate::script_judging::judging::{Answer, outcome};
+use euler_operators::Point;
 use gluing::glue;
-use lattice::Point;
 use plane_split::split;
 use script_reader::Corners;
 use std::alloc::Global;

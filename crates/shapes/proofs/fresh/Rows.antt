@@ -7,9 +7,9 @@ use Rattle.std.specs.FinMap.Entries as entries
 use Rattle.std.specs.FinMap.Entries.{find, is_sorted, by_order}
 use Rattle.std.specs.Cmp.{unsigned_tied}
 use Rattle.std.specs.declared.cmp.Ordering.TheVariants.{Greater}
-use Rattle.boundary_model.proofs.Tables.{and_left, and_right, map-put, map_same}
-use Rattle.boundary_model.specs.Table as table
-use Rattle.boundary_model.specs.Table.{Table, all_in, greatest_in, tables, same_table}
+use Rattle.euler_operators.proofs.Tables.{and_left, and_right, map-put, map_same}
+use Rattle.euler_operators.specs.Table as table
+use Rattle.euler_operators.specs.Table.{Table, all_in, greatest_in, tables, same_table}
 
 -- every number of the rows is below n
 abbrev pub AllBelow : {X : Type 0} → ℕ → List (ℕ × X) → Type 0

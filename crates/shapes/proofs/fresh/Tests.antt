@@ -2,7 +2,7 @@
 use Rattle.std.specs.Prelude.{nat_le}
 use Rattle.std.proofs.Common.{◌≡◌, ◌≢◌, ℕ, ◌+◌, ◌≤◌, Bool, true, false, cond, List, [], ◌∷◌, ◌++◌, Some, None, refl, ap, ◌∙◌, arith}
 use Rattle.std.proofs.lemmas.Bool.Decides.{nat_tests}
-use Rattle.boundary_model.specs.Model.{is_number}
+use Rattle.euler_operators.specs.Model.{is_number}
 use Rattle.euler_operators.specs.Conditions.{Condition, AllHold, first_refusal}
 use Rattle.euler_operators.specs.declared.Refusal.{Refusal}
 use Rattle.shapes.specs.Fresh.{first_such, Taken, numbers_left}

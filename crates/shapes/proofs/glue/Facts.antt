@@ -3,21 +3,21 @@ use Rattle.std.proofs.Common.{◌≡◌, ◌≢◌, ℕ, suc, ◌≤◌, Bool, t
 use Rattle.std.specs.Prelude.{map, reverse}
 use Rattle.std.proofs.lemmas.Bool.Decides.{nat_tests}
 use Rattle.std.proofs.lemmas.List.{append-nil}
-use Rattle.lattice.specs.declared.Point.{Point}
-use Rattle.lattice.specs.Vectors.{same_point, origin, moved, cross}
-use Rattle.cyclic_list.specs.Items.{count, tick, IsIn, IsApart, head_or, last_or}
-use Rattle.cyclic_list.specs.Rings.{canonical, IsPath, IsRing, IsRotation, predecessor, rest}
-use Rattle.cyclic_list.proofs.Lists.{tick_same}
-use Rattle.cyclic_list.proofs.Rotations.{canonical_same, IsApart-same, IsRotation-same, IsRotation-length}
-use Rattle.cyclic_list.proofs.Rings.{IsRing-same, IsIn_successor, predecessor-successor, front_of, apart_at, rotation_at, next_is_successor}
-use Rattle.cyclic_list.proofs.Maps.{reverse-cons, reverse_at, count-reverse}
-use Rattle.boundary_model.specs.HalfEdge.{mate}
-use Rattle.boundary_model.specs.Table as table
-use Rattle.boundary_model.specs.Model.{Model, LoopContent, LoopRow, lone, cycle, items_of, holds, content, face_of, solid_of, outer, tail, point_of, after, rings_of}
-use Rattle.boundary_model.specs.Sound.{Sound, Has, HasHalf, StandsIn, IsCycle}
-use Rattle.boundary_model.proofs.Halves.{mate-mate, mate_other}
-use Rattle.boundary_model.proofs.Tables.{zero_first_where}
-use Rattle.boundary_model.proofs.Models.{in-holds}
+use Rattle.euler_operators.specs.declared.Point.{Point}
+use Rattle.euler_operators.specs.Vectors.{same_point, origin, moved, cross}
+use Rattle.euler_operators.specs.Items.{count, tick, IsIn, IsApart, head_or, last_or}
+use Rattle.euler_operators.specs.Rings.{canonical, IsPath, IsRing, IsRotation, predecessor, rest}
+use Rattle.euler_operators.proofs.Lists.{tick_same}
+use Rattle.euler_operators.proofs.Rotations.{canonical_same, IsApart-same, IsRotation-same, IsRotation-length}
+use Rattle.euler_operators.proofs.Rings.{IsRing-same, IsIn_successor, predecessor-successor, front_of, apart_at, rotation_at, next_is_successor}
+use Rattle.euler_operators.proofs.Maps.{reverse-cons, reverse_at, count-reverse}
+use Rattle.euler_operators.specs.HalfEdge.{mate}
+use Rattle.euler_operators.specs.Table as table
+use Rattle.euler_operators.specs.Model.{Model, LoopContent, LoopRow, lone, cycle, items_of, holds, content, face_of, solid_of, outer, tail, point_of, after, rings_of}
+use Rattle.euler_operators.specs.Sound.{Sound, Has, HasHalf, StandsIn, IsCycle}
+use Rattle.euler_operators.proofs.Halves.{mate-mate, mate_other}
+use Rattle.euler_operators.proofs.Tables.{zero_first_where}
+use Rattle.euler_operators.proofs.Models.{in-holds}
 use Rattle.euler_operators.specs.Conditions.{AllHold, is_empty, is_lone, lists, has_rings}
 use Rattle.euler_laws.proofs.shared.Goes.{all_hold, not_true, not_back, equal, unequal, no_zero}
 use Rattle.euler_laws.proofs.shared.Listed.{listed_as, listed_cases, listed_passes}

@@ -6,15 +6,15 @@ use Rattle.std.specs.Ordering.{int_eq}
 use Rattle.std.specs.Cmp.{signed_Decides}
 use Rattle.std.proofs.lemmas.Bool.Decides.{eqb_tells}
 use Rattle.std.proofs.lemmas.List.{append-nil, reverse-append, reverse-reverse, take-append-drop}
-use Rattle.lattice.specs.declared.Point.{Point}
-use Rattle.lattice.specs.Vectors.{same_point, moved, cross, origin}
-use Rattle.cyclic_list.specs.Items.{IsIn}
-use Rattle.cyclic_list.specs.Rings.{IsRotation}
-use Rattle.cyclic_list.proofs.Lists.{tick_same, tick_other}
-use Rattle.cyclic_list.proofs.Maps.{reverse-cons}
+use Rattle.euler_operators.specs.declared.Point.{Point}
+use Rattle.euler_operators.specs.Vectors.{same_point, moved, cross, origin}
+use Rattle.euler_operators.specs.Items.{IsIn}
+use Rattle.euler_operators.specs.Rings.{IsRotation}
+use Rattle.euler_operators.proofs.Lists.{tick_same, tick_other}
+use Rattle.euler_operators.proofs.Maps.{reverse-cons}
 use Rattle.shapes.specs.Fresh.{first_such}
-use Rattle.lattice.proofs.Integers.{dif, dif-parts, difs, same_dif, number}
-use Rattle.lattice.proofs.Vectors.{same_vector}
+use Rattle.euler_operators.proofs.Integers.{dif, dif-parts, difs, same_dif, number}
+use Rattle.euler_operators.proofs.Vectors.{same_vector}
 use Rattle.shapes.specs.glue.Glue.{has_repeats, same_points, is_turned, is_rotation}
 
 -- ---- equal points

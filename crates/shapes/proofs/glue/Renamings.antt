@@ -2,12 +2,12 @@
 use Rattle.std.proofs.Common.{◌≡◌, ◌≢◌, ℕ, ◌+◌, true, false, cond, nat_eq, List, [], ◌∷◌, ◌++◌, None, refl, sym, ap, ◌∙◌, subst, arith, ◌⊎◌, inl, inr}
 use Rattle.std.specs.Prelude.{map}
 use Rattle.std.proofs.lemmas.Bool.Decides.{nat_tests, eqb_tells}
-use Rattle.cyclic_list.specs.Items.{count, IsIn, IsApart, before, after}
-use Rattle.cyclic_list.specs.Rings.{canonical, rest}
-use Rattle.cyclic_list.proofs.Lists.{count-append, tick_same, tick_other, split_at, count-before}
-use Rattle.cyclic_list.proofs.Rotations.{canonical-rotates, rest_same, rest_parts, canonical_same}
-use Rattle.boundary_model.specs.Table as table
-use Rattle.boundary_model.specs.Table.{Table, tables, same_table}
+use Rattle.euler_operators.specs.Items.{count, IsIn, IsApart, before, after}
+use Rattle.euler_operators.specs.Rings.{canonical, rest}
+use Rattle.euler_operators.proofs.Lists.{count-append, tick_same, tick_other, split_at, count-before}
+use Rattle.euler_operators.proofs.Rotations.{canonical-rotates, rest_same, rest_parts, canonical_same}
+use Rattle.euler_operators.specs.Table as table
+use Rattle.euler_operators.specs.Table.{Table, tables, same_table}
 use Rattle.shapes.specs.Rewriting.{renamed, without_rows}
 use Rattle.shapes.specs.glue.Part.{paired}
 

@@ -1,11 +1,11 @@
 -- Worked glues, computed: two blocks, two triangles, and what is refused.
 use Rattle.std.specs.Prelude.{◌≡◌, ℕ, pos, negsuc, List, [], ◌∷◌, length, Some, None, refl}
-use Rattle.lattice.specs.declared.Point.{Point}
-use Rattle.cyclic_list.specs.Rings.{rotate_to, canonical, rest}
-use Rattle.boundary_model.specs.HalfEdge.{mate, code, half, edge_of, is_first}
-use Rattle.boundary_model.specs.Table as table
-use Rattle.boundary_model.specs.declared.Corner.TheVariants.{At, Lone}
-use Rattle.boundary_model.specs.Model.{Model, FaceRow, EdgeRow, empty_model, content, tail, loop_of, face_of, solid_of, outer, arc, holds, after, point_of}
+use Rattle.euler_operators.specs.declared.Point.{Point}
+use Rattle.euler_operators.specs.Rings.{rotate_to, canonical, rest}
+use Rattle.euler_operators.specs.HalfEdge.{mate, code, half, edge_of, is_first}
+use Rattle.euler_operators.specs.Table as table
+use Rattle.euler_operators.specs.declared.Corner.TheVariants.{At, Lone}
+use Rattle.euler_operators.specs.Model.{Model, FaceRow, EdgeRow, empty_model, content, tail, loop_of, face_of, solid_of, outer, arc, holds, after, point_of}
 use Rattle.euler_operators.specs.Conditions.{conditions, first_false, has_rings}
 use Rattle.euler_operators.specs.Effect.{effect, inverse, mvfs, kvfs_at, mev_lone, mev_at, kev, mef, kef, kemr, mekr, kfmrh, mfkrh, ring_in, ring_out, take_outer, merge, part}
 use Rattle.euler_operators.specs.declared.Op.TheVariants.{Mvfs, Mev, Mef, Kemr, Kfmrh}

@@ -1,7 +1,7 @@
 -- Worked examples of splits that are refused, computed: one for each condition.
 use Rattle.std.specs.Prelude.{◌≡◌, pos, negsuc, [], ◌∷◌, None, refl}
-use Rattle.boundary_model.specs.declared.Corner.TheVariants.{At, Lone}
-use Rattle.boundary_model.specs.Model.{Model, empty_model}
+use Rattle.euler_operators.specs.declared.Corner.TheVariants.{At, Lone}
+use Rattle.euler_operators.specs.Model.{Model, empty_model}
 use Rattle.euler_operators.specs.Conditions.{first_refusal}
 use Rattle.euler_operators.specs.declared.Op.TheVariants.{Mvfs, Mev, Mef, Kemr}
 use Rattle.euler_operators.specs.declared.Why.TheVariants.{NumberRange, NoSolid, SolidTaken, PlaneRange, LoneLoop, NotFlat, PlaneMisses, NotLattice, TouchedFace, CutOften, CutCrossed, NumbersSpent, BranchedVertex, SectionHoles}

@@ -1,7 +1,7 @@
 -- Worked examples of splits, computed: a block with a hole cut across it and along it, and a U cut through both arms.
 use Rattle.std.specs.Prelude.{◌≡◌, pos, negsuc, [], ◌∷◌, None, refl}
-use Rattle.boundary_model.specs.declared.Corner.TheVariants.{At, Lone}
-use Rattle.boundary_model.specs.Model.{Model, empty_model}
+use Rattle.euler_operators.specs.declared.Corner.TheVariants.{At, Lone}
+use Rattle.euler_operators.specs.Model.{Model, empty_model}
 use Rattle.euler_operators.specs.declared.Op.TheVariants.{Mev, Mef, Kef, Kemr, Mekr, Kfmrh, Mfkrh, Part}
 use Rattle.euler_operators.proofs.WorkedScripts.{at, after_run, plus, minus}
 use Rattle.shapes.specs.Lamina.{lamina_model}

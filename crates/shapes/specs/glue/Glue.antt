@@ -1,11 +1,11 @@
 -- Two solids glued together at a face of each.
 use Rattle.std.specs.Prelude.{ℕ, zero, suc, Bool, true, false, not, ◌&&◌, ◌||◌, nat_eq, List, [], ◌∷◌, ◌++◌, map, reverse, length, take, drop, Option}
 use Rattle.std.specs.List.{list_any}
-use Rattle.lattice.specs.declared.Point.{Point}
-use Rattle.lattice.specs.Vectors.{same_point}
-use Rattle.boundary_model.specs.HalfEdge.{mate, edge_of}
-use Rattle.boundary_model.specs.Table as table
-use Rattle.boundary_model.specs.Model.{Model, EdgeRow, items_of, content, tail, outer, solid_of}
+use Rattle.euler_operators.specs.declared.Point.{Point}
+use Rattle.euler_operators.specs.Vectors.{same_point}
+use Rattle.euler_operators.specs.HalfEdge.{mate, edge_of}
+use Rattle.euler_operators.specs.Table as table
+use Rattle.euler_operators.specs.Model.{Model, EdgeRow, items_of, content, tail, outer, solid_of}
 use Rattle.euler_operators.specs.Conditions.{Condition, need, never, first_refusal, numbers_in_range, has_rings}
 use Rattle.euler_operators.specs.Effect.{faces_to_solid}
 use Rattle.euler_operators.specs.declared.Refusal.{Refusal}

@@ -1,12 +1,12 @@
 -- The edges of the section, between a face above and a face below, and their cycles.
 use Rattle.std.specs.Prelude.{ℕ, ◌+◌, pos, int_lt, Bool, cond, not, ◌&&◌, nat_eq, nat_lt, List, [], ◌∷◌, ◌++◌, map, length, filter, flat_map}
-use Rattle.lattice.specs.declared.Plane.{Plane}
-use Rattle.lattice.specs.Vectors.{dot, direction}
-use Rattle.cyclic_list.specs.Items.{count, least}
-use Rattle.cyclic_list.specs.Rings.{orbit}
-use Rattle.boundary_model.specs.HalfEdge.{mate, plus, minus}
-use Rattle.boundary_model.specs.Table as table
-use Rattle.boundary_model.specs.Model.{Model, tail}
+use Rattle.euler_operators.specs.declared.Plane.{Plane}
+use Rattle.euler_operators.specs.Vectors.{dot, direction}
+use Rattle.euler_operators.specs.Items.{count, least}
+use Rattle.euler_operators.specs.Rings.{orbit}
+use Rattle.euler_operators.specs.HalfEdge.{mate, plus, minus}
+use Rattle.euler_operators.specs.Table as table
+use Rattle.euler_operators.specs.Model.{Model, tail}
 use Rattle.euler_operators.specs.Conditions.{face_at, lists}
 use Rattle.shapes.specs.Faces.{edges_of}
 use Rattle.shapes.specs.Fresh.{first_such}

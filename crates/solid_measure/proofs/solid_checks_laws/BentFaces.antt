@@ -1,8 +1,8 @@
 -- The least face that isn't flat, solid by solid.
 use Rattle.std.proofs.Common.{◌≡◌, ℕ, ◌<◌, Bool, true, false, cond, not, ◌&&◌, ◌||◌, nat_eq, List, ◌∷◌, Some, None, refl, sym, ap, ◌∙◌, arith}
 use Rattle.std.proofs.lemmas.Bool.Decides.{nat_tests}
-use Rattle.boundary_model.specs.Model.{Model, faces_of}
-use Rattle.boundary_model.specs.Sound.{Sound}
+use Rattle.euler_operators.specs.Model.{Model, faces_of}
+use Rattle.euler_operators.specs.Sound.{Sound}
 use Rattle.shapes.specs.Faces.{faces_of_both}
 use Rattle.shapes.specs.Fresh.{first_such}
 use Rattle.solid_measure.specs.Measure.{is_flat}

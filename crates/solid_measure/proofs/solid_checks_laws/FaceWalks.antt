@@ -1,9 +1,9 @@
 -- What an arena answers as a walk goes from a face of a solid to the next.
 use Rattle.std.proofs.Common.{◌≡◌, ℕ, ◌<◌, Bool, true, false, ◌&&◌, ◌||◌, nat_eq, List, [], ◌∷◌, Option, Some, None, is_some, unwrap_or, refl, sym, ◌∙◌, arith}
 use Rattle.std.proofs.lemmas.Bool.Decides.{nat_tests}
-use Rattle.boundary_model.specs.Table.{get, has}
-use Rattle.boundary_model.specs.Model.{Model, FaceRow, no_face, solid_of, faces_of, is_number}
-use Rattle.boundary_model.specs.Sound.{Sound}
+use Rattle.euler_operators.specs.Table.{get, has}
+use Rattle.euler_operators.specs.Model.{Model, FaceRow, no_face, solid_of, faces_of, is_number}
+use Rattle.euler_operators.specs.Sound.{Sound}
 use Rattle.euler_operators.specs.Conditions.{lists}
 use Rattle.euler_conditions.specs.Store.{IsNextFace, is_face_of}
 use Rattle.shapes.specs.Faces.{faces_of_both}

@@ -2,10 +2,10 @@
 use Rattle.std.proofs.Common.{◌≡◌, ℕ, ◌+◌, ◌≤◌, List, [], ◌∷◌, ◌++◌, length, Some, None, refl, sym, ap, subst, ◌∙◌, arith, inl, inr}
 use Rattle.std.proofs.lemmas.Bool.Decides.{eqb_tells}
 use Rattle.std.proofs.lemmas.List.{length-append, append-nil, append_assoc}
-use Rattle.cyclic_list.proofs.Lists.{tick_le, tick_other}
-use Rattle.boundary_model.specs.Table as table
-use Rattle.boundary_model.specs.Model.{Model, content, outer, rings_of, faces_of}
-use Rattle.boundary_model.specs.Sound.{Sound, Has}
+use Rattle.euler_operators.proofs.Lists.{tick_le, tick_other}
+use Rattle.euler_operators.specs.Table as table
+use Rattle.euler_operators.specs.Model.{Model, content, outer, rings_of, faces_of}
+use Rattle.euler_operators.specs.Sound.{Sound, Has}
 use Rattle.euler_conditions.specs.Store.{IsNextRing, IsNextFace}
 use Rattle.shapes.specs.Faces.{loops_of}
 use Rattle.solid_measure.specs.declared.solid_counts.Met.{Met}

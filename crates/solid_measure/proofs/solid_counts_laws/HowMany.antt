@@ -2,9 +2,9 @@
 use Rattle.std.proofs.Common.{◌≡◌, ℕ, ◌+◌, ◌≤◌, Bool, true, false, cond, List, [], ◌∷◌, ◌++◌, length, map, refl, sym, ap, subst, ◌∙◌, arith, inl, inr}
 use Rattle.std.proofs.lemmas.Bool.Decides.{eqb_tells}
 use Rattle.std.proofs.lemmas.List.{length-append}
-use Rattle.cyclic_list.specs.Items.{count, tick, IsIn, IsApart, before, after}
-use Rattle.cyclic_list.specs.Rings.{IsRotation}
-use Rattle.cyclic_list.proofs.Lists.{count-append, tick_same, tick_other, split_at, IsIn_or_not}
+use Rattle.euler_operators.specs.Items.{count, tick, IsIn, IsApart, before, after}
+use Rattle.euler_operators.specs.Rings.{IsRotation}
+use Rattle.euler_operators.proofs.Lists.{count-append, tick_same, tick_other, split_at, IsIn_or_not}
 
 -- how many items pass a test, and which
 abbrev pub how_many : (ℕ → Bool) → List ℕ → ℕ

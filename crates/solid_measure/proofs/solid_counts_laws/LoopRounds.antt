@@ -2,12 +2,12 @@
 use Rattle.std.proofs.Common.{◌≡◌, ◌≢◌, ℕ, ◌+◌, ◌*◌, ◌%◌, Bool, true, false, cond, nat_eq, [], ◌∷◌, ◌++◌, sym, ap, subst, ◌∙◌, arith}
 use mir.Val.{bool_byte}
 use Rattle.std.proofs.lemmas.Bool.Decides.{nat_tests}
-use Rattle.cyclic_list.specs.Items.{IsIn}
-use Rattle.boundary_model.specs.HalfEdge.{code, is_first}
-use Rattle.boundary_model.specs.declared.Content.TheVariants as Content
-use Rattle.boundary_model.specs.declared.HalfEdge.{HalfEdge}
-use Rattle.boundary_model.specs.Model.{Model, LoopContent, lone, cycle, items_of, content, after}
-use Rattle.boundary_model.specs.Sound.{Sound}
+use Rattle.euler_operators.specs.Items.{IsIn}
+use Rattle.euler_operators.specs.HalfEdge.{code, is_first}
+use Rattle.euler_operators.specs.declared.Content.TheVariants as Content
+use Rattle.euler_operators.specs.declared.HalfEdge.{HalfEdge}
+use Rattle.euler_operators.specs.Model.{Model, LoopContent, lone, cycle, items_of, content, after}
+use Rattle.euler_operators.specs.Sound.{Sound}
 use Rattle.euler_conditions.specs.Store.{Tells}
 use Rattle.euler_conditions.proofs.Parallel.{steps}
 use Rattle.solid_measure.specs.declared.solid_counts.Met.{Met}

@@ -1,10 +1,10 @@
 -- What walks have counted: joined, turned, and how much it can be.
 use Rattle.std.proofs.Common.{◌≡◌, ℕ, ◌+◌, ◌≤◌, Bool, true, false, cond, List, [], ◌∷◌, ◌++◌, refl, sym, ap, ◌∙◌, arith}
-use Rattle.cyclic_list.specs.Items.{IsIn, IsApart}
-use Rattle.cyclic_list.specs.Rings.{IsRotation}
-use Rattle.boundary_model.specs.HalfEdge.{is_first}
-use Rattle.boundary_model.specs.Model.{Model, LoopContent, lone, cycle, items_of, content}
-use Rattle.boundary_model.specs.Sound.{Sound, Has}
+use Rattle.euler_operators.specs.Items.{IsIn, IsApart}
+use Rattle.euler_operators.specs.Rings.{IsRotation}
+use Rattle.euler_operators.specs.HalfEdge.{is_first}
+use Rattle.euler_operators.specs.Model.{Model, LoopContent, lone, cycle, items_of, content}
+use Rattle.euler_operators.specs.Sound.{Sound, Has}
 use Rattle.euler_operators.specs.Conditions.{is_lone}
 use Rattle.shapes.specs.Faces.{items_in}
 use Rattle.solid_measure.specs.declared.solid_counts.Met.{Met}

@@ -4,17 +4,17 @@ use Rattle.std.specs.Prelude.{ℤ, pos, ◌-ℤ◌, FitsSigned}
 use Rattle.std.proofs.lemmas.Int.{ints, to_z-of_z, fits_signed_from_abs}
 use mir.Syntax.{w64}
 use mir.Val.{to_z, of_z}
-use Rattle.lattice.proofs.Magnitudes.{difference_within}
+use Rattle.euler_operators.proofs.Magnitudes.{difference_within}
 use Rattle.std.proofs.lemmas.Bool.Decides.{eqb_tells}
 use Rattle.std.proofs.lemmas.List.{length-append, length-map, append_assoc}
-use Rattle.cyclic_list.specs.Items.{count, IsIn, IsApart}
-use Rattle.cyclic_list.proofs.Lists.{count-append, tick_same, tick_other, IsIn_or_not}
-use Rattle.boundary_model.specs.HalfEdge.{edge_of, is_first, plus}
-use Rattle.boundary_model.specs.Table as table
-use Rattle.boundary_model.specs.Model.{Model, LoopContent, lone, cycle, items_of, tail, content, loop_of, face_of, solid_of, faces_of}
-use Rattle.boundary_model.specs.Sound.{Sound, Has, HasHalf, IsLoneAt}
-use Rattle.boundary_model.proofs.Halves.{plus_row}
-use Rattle.boundary_model.proofs.Models.{cycle_there}
+use Rattle.euler_operators.specs.Items.{count, IsIn, IsApart}
+use Rattle.euler_operators.proofs.Lists.{count-append, tick_same, tick_other, IsIn_or_not}
+use Rattle.euler_operators.specs.HalfEdge.{edge_of, is_first, plus}
+use Rattle.euler_operators.specs.Table as table
+use Rattle.euler_operators.specs.Model.{Model, LoopContent, lone, cycle, items_of, tail, content, loop_of, face_of, solid_of, faces_of}
+use Rattle.euler_operators.specs.Sound.{Sound, Has, HasHalf, IsLoneAt}
+use Rattle.euler_operators.proofs.Halves.{plus_row}
+use Rattle.euler_operators.proofs.Models.{cycle_there}
 use Rattle.euler_operators.specs.Conditions.{lists, is_lone, face_at}
 use Rattle.euler_laws.proofs.shared.Arcs.{halves_of_edge}
 use Rattle.euler_laws.proofs.shared.Fans.{kept_round, loop_after}

@@ -1,10 +1,10 @@
 -- Worked examples of counts, computed.
 use Rattle.std.specs.Prelude.{◌≡◌, ℕ, pos, [], ◌∷◌, None, refl}
-use Rattle.cyclic_list.specs.Rings.{rotate_to, canonical, rest}
-use Rattle.boundary_model.specs.declared.Corner.TheVariants.{Lone}
-use Rattle.boundary_model.specs.HalfEdge.{mate, code, half, edge_of, is_first}
-use Rattle.boundary_model.specs.Table as table
-use Rattle.boundary_model.specs.Model.{Model, empty_model, content, tail, loop_of, face_of, solid_of, outer, arc, holds, after, point_of}
+use Rattle.euler_operators.specs.Rings.{rotate_to, canonical, rest}
+use Rattle.euler_operators.specs.declared.Corner.TheVariants.{Lone}
+use Rattle.euler_operators.specs.HalfEdge.{mate, code, half, edge_of, is_first}
+use Rattle.euler_operators.specs.Table as table
+use Rattle.euler_operators.specs.Model.{Model, empty_model, content, tail, loop_of, face_of, solid_of, outer, arc, holds, after, point_of}
 use Rattle.euler_operators.specs.Conditions.{conditions, first_false, has_rings}
 use Rattle.euler_operators.specs.declared.Op.TheVariants.{Mvfs, Mev, Kemr}
 use Rattle.euler_operators.specs.declared.Why.TheVariants.{NumberRange, NoSolid}

@@ -1,7 +1,7 @@
 -- How many vertices, edges, faces and rings a solid has.
 use Rattle.std.specs.Prelude.{ℕ, ◌+◌, pos, ◌-ℤ◌, List, [], ◌∷◌, ◌++◌, length, Option, Some, None, Result, Ok, Err}
-use Rattle.boundary_model.specs.Table as table
-use Rattle.boundary_model.specs.Model.{Model, faces_of, rings_of}
+use Rattle.euler_operators.specs.Table as table
+use Rattle.euler_operators.specs.Model.{Model, faces_of, rings_of}
 use Rattle.euler_operators.specs.Conditions.{need, first_refusal, numbers_in_range, lists}
 use Rattle.euler_operators.specs.declared.Refusal.{Refusal}
 use Rattle.euler_operators.specs.declared.Why.TheVariants.{NoSolid}

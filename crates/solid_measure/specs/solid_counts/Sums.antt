@@ -1,7 +1,7 @@
 -- What walks over loops count.
 use Rattle.std.specs.Prelude.{ℕ, ◌+◌, ◌≤◌, cond, List, [], ◌∷◌}
-use Rattle.boundary_model.specs.HalfEdge.{is_first}
-use Rattle.boundary_model.specs.Model.{Model, LoopContent, lone, cycle, content}
+use Rattle.euler_operators.specs.HalfEdge.{is_first}
+use Rattle.euler_operators.specs.Model.{Model, LoopContent, lone, cycle, content}
 use Rattle.solid_walks.specs.Walks.{leads}
 use Rattle.solid_measure.specs.declared.solid_counts.Met.{Met}
 

@@ -1,15 +1,16 @@
 //! Walks over the loops of a face.
 ghost use Rattle.std.specs.Prelude.{◌≡◌, true};
-ghost use Rattle.cyclic_list.specs.Items.{IsIn};
-ghost use Rattle.boundary_model.specs.HalfEdge.{code};
-ghost use Rattle.boundary_model.specs.Model.{items_of, content};
+ghost use Rattle.euler_operators.specs.Items.{IsIn};
+ghost use Rattle.euler_operators.specs.HalfEdge.{code};
+ghost use Rattle.euler_operators.specs.Model.{items_of, content};
 ghost use Rattle.euler_conditions.specs.Store.{has_number};
 ghost use Rattle.euler_conditions.specs.Ready.{IsReady};
 ghost use Rattle.shapes.specs.Faces.{loops_of};
 ghost use Rattle.solid_measure.specs.solid_counts.Sums.{IsFew, half_met, halves_met, loop_met, loops_met, together};
 
 use crate::solid_counts::Met;
-use euler_conditions::{Arena, Content, HalfEdge, Kind};
+use euler_conditions::Arena;
+use euler_operators::{Content, HalfEdge, Kind};
 use solid_walks::{leads, next, same};
 
 /// More than the half-edges that an arena can have.

@@ -2,15 +2,15 @@
 use Rattle.std.proofs.Common.{◌≡◌, ◌≢◌, ℕ, ◌≤◌, true, List, [], ◌∷◌, ◌++◌, refl, sym, ap, ◌∙◌, arith, append_assoc, ◌⊎◌, inl, inr, is_some}
 use Rattle.std.proofs.lemmas.Bool.{cases_eq}
 use Rattle.std.proofs.lemmas.Bool.Decides.{nat_tests}
-use Rattle.cyclic_list.specs.Items.{count, IsIn, IsApart, before, after, head_or, least}
-use Rattle.cyclic_list.specs.Rings.{rotate_to, canonical, successor, rest}
-use Rattle.cyclic_list.proofs.Lists.{count-append, tick_same, tick_other, split_at, count-before, before_of, after_of, least_le, least_in}
-use Rattle.cyclic_list.proofs.Rotations.{rotate_to-rotates, IsApart-rotate_to, count-rotate_to, rotate_to_is}
-use Rattle.cyclic_list.proofs.Rings.{successor_at, successor_same, IsIn_successor}
-use Rattle.boundary_model.specs.Model.{Model, content, has_half, loop_of, cycle_of, is_number}
-use Rattle.boundary_model.specs.Model as model
-use Rattle.boundary_model.specs.Sound.{Sound, HasHalf, StandsIn}
-use Rattle.boundary_model.proofs.Models.{in-holds, held_row, cycle_there, cycle_sound}
+use Rattle.euler_operators.specs.Items.{count, IsIn, IsApart, before, after, head_or, least}
+use Rattle.euler_operators.specs.Rings.{rotate_to, canonical, successor, rest}
+use Rattle.euler_operators.proofs.Lists.{count-append, tick_same, tick_other, split_at, count-before, before_of, after_of, least_le, least_in}
+use Rattle.euler_operators.proofs.Rotations.{rotate_to-rotates, IsApart-rotate_to, count-rotate_to, rotate_to_is}
+use Rattle.euler_operators.proofs.Rings.{successor_at, successor_same, IsIn_successor}
+use Rattle.euler_operators.specs.Model.{Model, content, has_half, loop_of, cycle_of, is_number}
+use Rattle.euler_operators.specs.Model as model
+use Rattle.euler_operators.specs.Sound.{Sound, HasHalf, StandsIn}
+use Rattle.euler_operators.proofs.Models.{in-holds, held_row, cycle_there, cycle_sound}
 
 -- the items of a walk from h that has come to x, x among them
 abbrev pub seen : ℕ → List ℕ → ℕ → List ℕ

@@ -2,12 +2,12 @@
 use Rattle.std.proofs.Common.{◌≡◌, ◌≢◌, ℕ, ◌≤◌, Bool, true, false, cond, ◌&&◌, nat_eq, ◌∷◌, ap, sym, ◌∙◌, arith, decimal, refl, true≢false}
 use mathlib.Core.Bool.{beq}
 use Rattle.std.proofs.lemmas.Bool.Decides.{nat_tests}
-use Rattle.boundary_model.specs.declared.HalfEdge.{HalfEdge}
-use Rattle.boundary_model.specs.HalfEdge.{code, half, edge_of, is_first, mate, plus, minus}
-use Rattle.boundary_model.specs.Table.{has}
-use Rattle.boundary_model.specs.Model.{Model, is_number}
-use Rattle.boundary_model.specs.Sound.{Sound, HasHalf}
-use Rattle.boundary_model.proofs.Halves.{half-code, edge_of-code, edge_of-mate, code-mate}
+use Rattle.euler_operators.specs.declared.HalfEdge.{HalfEdge}
+use Rattle.euler_operators.specs.HalfEdge.{code, half, edge_of, is_first, mate, plus, minus}
+use Rattle.euler_operators.specs.Table.{has}
+use Rattle.euler_operators.specs.Model.{Model, is_number}
+use Rattle.euler_operators.specs.Sound.{Sound, HasHalf}
+use Rattle.euler_operators.proofs.Halves.{half-code, edge_of-code, edge_of-mate, code-mate}
 
 pub is_first-code : (h : HalfEdge) → is_first (code h) ≡ h.first
 unfolding is_first half

@@ -4,8 +4,8 @@ use Rattle.std.proofs.lemmas.Bool.Decides.{nat_tests, eqb_tells}
 use Rattle.std.specs.Ordering.{nat_cmp, is_lt}
 use Rattle.std.specs.FinMap.Entries.{find, is_sorted, below_all}
 use Rattle.std.specs.Cmp.{unsigned_tied}
-use Rattle.boundary_model.specs.Table.{Table, get, has, numbers, all_in, all_where}
-use Rattle.boundary_model.proofs.Tables.{and_left, and_right}
+use Rattle.euler_operators.specs.Table.{Table, get, has, numbers, all_in, all_where}
+use Rattle.euler_operators.proofs.Tables.{and_left, and_right}
 use Rattle.solid_walks.proofs.face_walks_laws.Rising.{member, AllAbove, Rising, not_member}
 
 less_means : (k a : ℕ) → T (is_lt (nat_cmp k a)) → k < a

@@ -1,9 +1,9 @@
 //! The half-edges of an edge.
 ghost use Rattle.std.specs.Prelude.{◌≡◌};
-ghost use Rattle.boundary_model.specs.HalfEdge as half_edge;
-ghost use Rattle.boundary_model.specs.HalfEdge.{half};
+ghost use Rattle.euler_operators.specs.HalfEdge as half_edge;
+ghost use Rattle.euler_operators.specs.HalfEdge.{half};
 
-use halfedge_arena::HalfEdge;
+use euler_operators::HalfEdge;
 
 /// The first half-edge of an edge.
 pub fn plus(edge: u32) -> HalfEdge

@@ -1,11 +1,12 @@
 //! The half-edges of a loop.
 ghost use Rattle.std.specs.Prelude.{◌≡◌, true, map, IfOk};
-ghost use Rattle.cyclic_list.specs.Items.{least};
-ghost use Rattle.boundary_model.specs.HalfEdge.{code};
-ghost use Rattle.boundary_model.specs.Model.{has_half, cycle_of};
-ghost use Rattle.boundary_model.specs.Sound.{Sound};
+ghost use Rattle.euler_operators.specs.Items.{least};
+ghost use Rattle.euler_operators.specs.HalfEdge.{code};
+ghost use Rattle.euler_operators.specs.Model.{has_half, cycle_of};
+ghost use Rattle.euler_operators.specs.Sound.{Sound};
 
-use halfedge_arena::{Arena, HalfEdge};
+use euler_conditions::Arena;
+use euler_operators::HalfEdge;
 use std::alloc::{AllocError, Global};
 
 /// The least half-edge of the loop in which h stands.

@@ -1,10 +1,11 @@
 //! The loops of a face.
 ghost use Rattle.std.specs.Prelude.{◌≡◌, true, IfOk};
-ghost use Rattle.boundary_model.specs.Sound.{Sound};
-ghost use Rattle.halfedge_arena.specs.Store.{has_number};
+ghost use Rattle.euler_operators.specs.Sound.{Sound};
+ghost use Rattle.euler_conditions.specs.Store.{has_number};
 ghost use Rattle.shapes.specs.Faces.{loops_of};
 
-use halfedge_arena::{Arena, Kind};
+use euler_conditions::Arena;
+use euler_operators::Kind;
 use std::alloc::{AllocError, Global};
 
 /// The loops of face f, which is there: the outer one, then the rings, rising. `AllocError` where memory is refused. For a face

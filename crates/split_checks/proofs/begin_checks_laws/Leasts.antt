@@ -1,8 +1,8 @@
 -- The least of some edges that a plane meets off the lattice, edge by edge.
 use Rattle.std.proofs.Common.{◌≡◌, ℕ, ◌≤◌, true, List, [], ◌∷◌, length, slice_index_or, Option, Some, sym, ap, ◌∙◌, subst, arith}
 use Rattle.std.proofs.lemmas.List.{take_rest}
-use Rattle.lattice.specs.declared.Plane.{Plane}
-use Rattle.boundary_model.specs.Model.{Model}
+use Rattle.euler_operators.specs.declared.Plane.{Plane}
+use Rattle.euler_operators.specs.Model.{Model}
 use Rattle.solid_measure.specs.solid_checks.Least.{only, lesser, least_such}
 use Rattle.solid_measure.proofs.solid_checks_laws.Searches.{lesser_of_three}
 use Rattle.split_checks.specs.cut_places.Crossings.{AreCrossing, is_off}

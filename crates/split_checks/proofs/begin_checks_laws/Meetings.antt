@@ -1,8 +1,8 @@
 -- What the cut places of a face say once they are in order.
 use Rattle.std.proofs.Common.{◌≡◌, ℕ, Bool, true, false, not, ◌||◌, List, sym, ap, ◌∙◌}
 use Rattle.std.specs.List.{list_all}
-use Rattle.lattice.specs.declared.Plane.{Plane}
-use Rattle.boundary_model.specs.Model.{Model}
+use Rattle.euler_operators.specs.declared.Plane.{Plane}
+use Rattle.euler_operators.specs.Model.{Model}
 use Rattle.shapes.specs.split.Places.{places, some_meet, sorted, in_pairs, sorted_pairs, is_up_and_down, is_crossed}
 
 module _ (M : Model) (p : Plane) (f : ℕ) where

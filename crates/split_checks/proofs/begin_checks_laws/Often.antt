@@ -1,8 +1,8 @@
 -- Faces of which the loops are cut too often or not at all.
 use Rattle.std.proofs.Common.{◌≡◌, ℕ, Bool, true, false, not, ◌&&◌, ◌||◌, nat_eq, length, sym, ap, ◌∙◌}
 use Rattle.std.specs.List.{list_all}
-use Rattle.lattice.specs.declared.Plane.{Plane}
-use Rattle.boundary_model.specs.Model.{Model, outer, rings_of}
+use Rattle.euler_operators.specs.declared.Plane.{Plane}
+use Rattle.euler_operators.specs.Model.{Model, outer, rings_of}
 use Rattle.shapes.specs.Faces.{loops_of}
 use Rattle.shapes.specs.split.Places.{loop_is_cut, is_cut_often, places}
 

@@ -4,11 +4,11 @@ use Rattle.std.specs.List.{list_any}
 use Rattle.std.proofs.Common.{◌≡◌, ℕ, ◌+◌, ℤ, true, false, cond, ◌&&◌, nat_eq, nat_le, List, [], ◌∷◌, ◌++◌, length, Option, Some, None, Result, Ok, Err, is_err, is_some, refl, sym, ap, ◌∙◌, arith, true≢false}
 use Rattle.std.proofs.lemmas.Bool.Decides.{nat_tests}
 use Rattle.std.proofs.lemmas.Int.{ints}
-use Rattle.lattice.specs.declared.Plane.{Plane}
-use Rattle.lattice.specs.Ranges.{IsWithin, IsCutPlane}
-use Rattle.lattice.specs.Vectors.{is_offset}
-use Rattle.lattice.proofs.Magnitudes.{coordinate_within}
-use Rattle.boundary_model.specs.Model.{Model, faces_of}
+use Rattle.euler_operators.specs.declared.Plane.{Plane}
+use Rattle.euler_operators.specs.Ranges.{IsWithin, IsCutPlane}
+use Rattle.euler_operators.specs.Vectors.{is_offset}
+use Rattle.euler_operators.proofs.Magnitudes.{coordinate_within}
+use Rattle.euler_operators.specs.Model.{Model, faces_of}
 use Rattle.euler_operators.specs.Conditions.{Condition, need, first_refusal, verdict}
 use Rattle.euler_operators.specs.declared.Why.TheVariants.{PlaneMisses, NotLattice, NumbersSpent}
 use Rattle.euler_operators.specs.declared.Refusal.{Refusal}

@@ -4,9 +4,9 @@ use Rattle.std.specs.Prelude.{◌-ℤ◌, ◌*ℤ◌, neg_ℤ}
 use Rattle.std.specs.Int.RustNames.{int_div}
 use Rattle.std.proofs.lemmas.Int.{ints}
 use Rattle.std.proofs.Math.Nat.{div-le_of_le-mul}
-use Rattle.lattice.specs.declared.Point.{Point}
-use Rattle.lattice.specs.declared.Plane.{Plane}
-use Rattle.lattice.specs.Vectors.{height, opposite, are_opposite, cuts_lattice, cut_between, cut_point}
+use Rattle.euler_operators.specs.declared.Point.{Point}
+use Rattle.euler_operators.specs.declared.Plane.{Plane}
+use Rattle.euler_operators.specs.Vectors.{height, opposite, are_opposite, cuts_lattice, cut_between, cut_point}
 
 -- ---- signs
 

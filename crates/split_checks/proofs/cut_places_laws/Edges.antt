@@ -5,15 +5,15 @@ use Rattle.std.proofs.lemmas.Bool.{and_parts}
 use Rattle.std.proofs.lemmas.Bool.Decides.{eqb_tells}
 use Rattle.std.proofs.lemmas.List.{map-append}
 use Rattle.std.proofs.lemmas.List.Elements.{filter-append}
-use Rattle.lattice.specs.declared.Plane.{Plane}
-use Rattle.cyclic_list.specs.Items.{count, IsIn, IsApart}
-use Rattle.cyclic_list.proofs.Lists.{count-append, tick_same, tick_other}
-use Rattle.boundary_model.specs.HalfEdge.{edge_of, is_first, mate, plus}
-use Rattle.boundary_model.specs.Table as table
-use Rattle.boundary_model.specs.Model.{Model, items_of, content, loop_of, solid_of, faces_of}
-use Rattle.boundary_model.specs.Sound.{Sound, Has, HasHalf}
-use Rattle.boundary_model.proofs.Halves.{plus_row}
-use Rattle.boundary_model.proofs.Models.{cycle_there}
+use Rattle.euler_operators.specs.declared.Plane.{Plane}
+use Rattle.euler_operators.specs.Items.{count, IsIn, IsApart}
+use Rattle.euler_operators.proofs.Lists.{count-append, tick_same, tick_other}
+use Rattle.euler_operators.specs.HalfEdge.{edge_of, is_first, mate, plus}
+use Rattle.euler_operators.specs.Table as table
+use Rattle.euler_operators.specs.Model.{Model, items_of, content, loop_of, solid_of, faces_of}
+use Rattle.euler_operators.specs.Sound.{Sound, Has, HasHalf}
+use Rattle.euler_operators.proofs.Halves.{plus_row}
+use Rattle.euler_operators.proofs.Models.{cycle_there}
 use Rattle.euler_operators.specs.Conditions.{face_at}
 use Rattle.euler_laws.proofs.shared.Arcs.{halves_of_edge}
 use Rattle.euler_laws.proofs.shared.Goes.{equal, equals}

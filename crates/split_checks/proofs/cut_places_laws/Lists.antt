@@ -4,8 +4,8 @@ use Rattle.std.specs.Prelude.{take, drop, filter}
 use Rattle.std.specs.List.{list_any}
 use Rattle.std.proofs.lemmas.List.{take_rest}
 use Rattle.std.proofs.lemmas.Bool.Decides.{eqb_tells}
-use Rattle.cyclic_list.specs.Items.{IsIn, IsApart}
-use Rattle.cyclic_list.proofs.Lists.{tick_other}
+use Rattle.euler_operators.specs.Items.{IsIn, IsApart}
+use Rattle.euler_operators.proofs.Lists.{tick_other}
 use Rattle.shapes.specs.Fresh.{first_such}
 use Rattle.solid_walks.proofs.face_walks_laws.Rising.{AllAbove, Rising}
 use Rattle.solid_measure.proofs.solid_counts_laws.HowMany.{passing, of_passing, in_passing, passing_apart}

@@ -3,11 +3,11 @@ use Rattle.std.proofs.Common.{◌≡◌, ℤ, pos, Bool, true, false, cond, not,
 use Rattle.std.specs.Prelude.{int_lt}
 use Rattle.std.specs.Ordering.{int_eq}
 use Rattle.std.proofs.lemmas.Int.{ints}
-use Rattle.lattice.specs.declared.Point.{Point}
-use Rattle.lattice.specs.declared.Plane.{Plane}
-use Rattle.lattice.specs.declared.Sign.{Sign}
-use Rattle.lattice.specs.declared.Sign.TheVariants.{Below, On, Above}
-use Rattle.lattice.specs.Vectors.{height, sign_of, opposite}
+use Rattle.euler_operators.specs.declared.Point.{Point}
+use Rattle.euler_operators.specs.declared.Plane.{Plane}
+use Rattle.euler_operators.specs.declared.Sign.{Sign}
+use Rattle.euler_operators.specs.declared.Sign.TheVariants.{Below, On, Above}
+use Rattle.euler_operators.specs.Vectors.{height, sign_of, opposite}
 use Rattle.split_checks.specs.cut_places.Sides.{same_sign, opposite_signs, lies}
 
 told_below : (a b : Bool) → same_sign (cond a Below (cond b Above On)) Below ≡ a

@@ -1,14 +1,14 @@
 -- What stands in loops and faces that are there is there.
 use Rattle.std.proofs.Common.{◌≡◌, ℕ, true, List, [], ◌∷◌, map, refl, ap, arith}
-use Rattle.cyclic_list.specs.Items.{IsIn}
-use Rattle.cyclic_list.proofs.Lists.{tick_same}
-use Rattle.boundary_model.specs.declared.HalfEdge.{HalfEdge}
-use Rattle.boundary_model.specs.declared.Content.TheVariants.{Ring}
-use Rattle.boundary_model.specs.HalfEdge.{code}
-use Rattle.boundary_model.specs.Table.{Table}
-use Rattle.boundary_model.specs.Model.{Model, LoopContent, lone, cycle, items_of, content, loop_of, tail}
-use Rattle.boundary_model.specs.Sound.{Sound, Has, HasHalf, StandsIn}
-use Rattle.boundary_model.proofs.Models.{in-holds}
+use Rattle.euler_operators.specs.Items.{IsIn}
+use Rattle.euler_operators.proofs.Lists.{tick_same}
+use Rattle.euler_operators.specs.declared.HalfEdge.{HalfEdge}
+use Rattle.euler_operators.specs.declared.Content.TheVariants.{Ring}
+use Rattle.euler_operators.specs.HalfEdge.{code}
+use Rattle.euler_operators.specs.Table.{Table}
+use Rattle.euler_operators.specs.Model.{Model, LoopContent, lone, cycle, items_of, content, loop_of, tail}
+use Rattle.euler_operators.specs.Sound.{Sound, Has, HasHalf, StandsIn}
+use Rattle.euler_operators.proofs.Models.{in-holds}
 use Rattle.euler_conditions.specs.Store.{Tells}
 use Rattle.euler_operators.specs.Conditions.{lists}
 use Rattle.euler_laws.proofs.shared.Listed.{first_listed, rest_listed}

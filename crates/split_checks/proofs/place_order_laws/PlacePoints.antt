@@ -1,8 +1,8 @@
 -- The point of a cut place is where its half-edge starts, or where this crosses the plane.
 use Rattle.std.proofs.Common.{◌≡◌, ℕ, Bool, true, false, cond, ◌&&◌, ◌||◌, sym, ap, refl, true≢false}
-use Rattle.lattice.specs.declared.Plane.{Plane}
-use Rattle.lattice.specs.Vectors.{are_opposite, is_on, cut_between}
-use Rattle.boundary_model.specs.Model.{Model, before}
+use Rattle.euler_operators.specs.declared.Plane.{Plane}
+use Rattle.euler_operators.specs.Vectors.{are_opposite, is_on, cut_between}
+use Rattle.euler_operators.specs.Model.{Model, before}
 use Rattle.shapes.specs.Faces.{start, finish}
 use Rattle.shapes.specs.split.Sides.{crosses}
 use Rattle.shapes.specs.split.Places.{is_place, place_point}

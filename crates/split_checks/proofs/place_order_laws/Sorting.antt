@@ -6,14 +6,14 @@ use Rattle.std.specs.BTreeMap.{insert_entry}
 use Rattle.std.specs.Map.{lookup}
 use Rattle.std.specs.List.{list_any}
 use Rattle.std.proofs.lemmas.List.{append-nil}
-use Rattle.lattice.specs.declared.Point.{Point}
-use Rattle.lattice.specs.declared.Plane.{Plane}
-use Rattle.lattice.specs.Vectors.{same_point, lex_less}
-use Rattle.cyclic_list.specs.Items.{IsIn}
-use Rattle.cyclic_list.proofs.Lists.{count-append, tick_same}
-use Rattle.boundary_model.specs.declared.HalfEdge.{HalfEdge}
-use Rattle.boundary_model.specs.HalfEdge.{half}
-use Rattle.boundary_model.specs.Model.{Model}
+use Rattle.euler_operators.specs.declared.Point.{Point}
+use Rattle.euler_operators.specs.declared.Plane.{Plane}
+use Rattle.euler_operators.specs.Vectors.{same_point, lex_less}
+use Rattle.euler_operators.specs.Items.{IsIn}
+use Rattle.euler_operators.proofs.Lists.{count-append, tick_same}
+use Rattle.euler_operators.specs.declared.HalfEdge.{HalfEdge}
+use Rattle.euler_operators.specs.HalfEdge.{half}
+use Rattle.euler_operators.specs.Model.{Model}
 use Rattle.shapes.specs.split.Places.{place_point, some_meet, sorted_in, sorted}
 use Rattle.split_checks.specs.place_order.Order.{Key, key, entries_of}
 

@@ -1,9 +1,9 @@
 -- The conditions with which a split begins, by what their tests look at.
 use Rattle.std.specs.Prelude.{ℕ, not, ◌&&◌, List, [], ◌∷◌, ◌++◌}
 use Rattle.std.specs.List.{list_any}
-use Rattle.lattice.specs.declared.Plane.{Plane}
-use Rattle.boundary_model.specs.Table as table
-use Rattle.boundary_model.specs.Model.{Model, faces_of}
+use Rattle.euler_operators.specs.declared.Plane.{Plane}
+use Rattle.euler_operators.specs.Table as table
+use Rattle.euler_operators.specs.Model.{Model, faces_of}
 use Rattle.euler_operators.specs.Conditions.{Condition, need, never, numbers_in_range}
 use Rattle.euler_operators.specs.declared.Why.TheVariants.{NoSolid, SolidTaken, LoneLoop, NotFlat, PlaneMisses, NotLattice, TouchedFace, CutOften, CutCrossed}
 use Rattle.shapes.specs.Faces.{least_lone}

@@ -1,7 +1,7 @@
 -- What a face that straddles must not be.
 use Rattle.std.specs.Prelude.{ℕ, Bool}
-use Rattle.lattice.specs.declared.Plane.{Plane}
-use Rattle.boundary_model.specs.Model.{Model}
+use Rattle.euler_operators.specs.declared.Plane.{Plane}
+use Rattle.euler_operators.specs.Model.{Model}
 use Rattle.shapes.specs.split.Places.{is_touched, is_cut_often, is_crossed}
 use Rattle.split_checks.specs.declared.begin_checks.crossed.Flaw.{Flaw}
 use Rattle.split_checks.specs.declared.begin_checks.crossed.Flaw.TheVariants.{Touched, CutOften, Crossed}

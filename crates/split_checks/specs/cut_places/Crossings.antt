@@ -1,10 +1,10 @@
 -- The edges that cross a plane, as a walk over faces meets them.
 use Rattle.std.specs.Prelude.{◌≡◌, ℕ, Bool, true, not, ◌&&◌, List, [], ◌∷◌, ◌++◌, map, filter}
-use Rattle.lattice.specs.declared.Plane.{Plane}
-use Rattle.lattice.specs.Vectors.{cuts_lattice}
-use Rattle.boundary_model.specs.HalfEdge.{plus, edge_of, is_first}
-use Rattle.boundary_model.specs.Model.{Model}
-use Rattle.boundary_model.specs.Sound.{Has}
+use Rattle.euler_operators.specs.declared.Plane.{Plane}
+use Rattle.euler_operators.specs.Vectors.{cuts_lattice}
+use Rattle.euler_operators.specs.HalfEdge.{plus, edge_of, is_first}
+use Rattle.euler_operators.specs.Model.{Model}
+use Rattle.euler_operators.specs.Sound.{Has}
 use Rattle.shapes.specs.Faces.{boundary, start, finish}
 use Rattle.shapes.specs.split.Sides.{crosses}
 

@@ -1,12 +1,12 @@
 -- Sides of a plane, as signs.
 use Rattle.std.specs.Prelude.{ℕ, Bool, true, false, List}
 use Rattle.std.specs.List.{list_any}
-use Rattle.lattice.specs.declared.Point.{Point}
-use Rattle.lattice.specs.declared.Plane.{Plane}
-use Rattle.lattice.specs.declared.Sign.{Sign}
-use Rattle.lattice.specs.declared.Sign.TheVariants.{Below, On, Above}
-use Rattle.lattice.specs.Vectors.{is_above, is_below, is_on}
-use Rattle.boundary_model.specs.Model.{Model, point_of}
+use Rattle.euler_operators.specs.declared.Point.{Point}
+use Rattle.euler_operators.specs.declared.Plane.{Plane}
+use Rattle.euler_operators.specs.declared.Sign.{Sign}
+use Rattle.euler_operators.specs.declared.Sign.TheVariants.{Below, On, Above}
+use Rattle.euler_operators.specs.Vectors.{is_above, is_below, is_on}
+use Rattle.euler_operators.specs.Model.{Model, point_of}
 use Rattle.shapes.specs.Faces.{corners, start}
 
 abbrev pub same_sign : Sign → Sign → Bool

@@ -1,12 +1,12 @@
 -- Cut places under their points, as entries of a map.
 use Rattle.std.specs.Prelude.{◌≡◌, ℕ, ℤ, true, false, List, map}
-use Rattle.lattice.specs.declared.Point.{Point}
-use Rattle.lattice.specs.declared.Plane.{Plane}
-use Rattle.cyclic_list.specs.Items.{IsIn}
-use Rattle.boundary_model.specs.declared.HalfEdge.{HalfEdge}
-use Rattle.boundary_model.specs.HalfEdge.{code, half, edge_of}
-use Rattle.boundary_model.specs.Model.{Model}
-use Rattle.boundary_model.specs.Sound.{HasHalf}
+use Rattle.euler_operators.specs.declared.Point.{Point}
+use Rattle.euler_operators.specs.declared.Plane.{Plane}
+use Rattle.euler_operators.specs.Items.{IsIn}
+use Rattle.euler_operators.specs.declared.HalfEdge.{HalfEdge}
+use Rattle.euler_operators.specs.HalfEdge.{code, half, edge_of}
+use Rattle.euler_operators.specs.Model.{Model}
+use Rattle.euler_operators.specs.Sound.{HasHalf}
 use Rattle.shapes.specs.split.Sides.{crosses}
 use Rattle.shapes.specs.split.Places.{is_place, place_point}
 use Rattle.split_checks.specs.cut_places.Crossings.{is_off}

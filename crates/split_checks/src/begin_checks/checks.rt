@@ -1,10 +1,10 @@
 //! The conditions with which a split begins, in the order in which they are tested.
 ghost use Rattle.std.specs.Prelude.{◌≡◌, ◌&&◌, IfOk};
 ghost use Rattle.std.specs.List.{list_any};
-ghost use Rattle.boundary_model.specs.Model.{faces_of};
+ghost use Rattle.euler_operators.specs.Model.{faces_of};
 ghost use Rattle.euler_conditions.specs.Ready.{IsReady};
 ghost use Rattle.euler_operators.specs.Conditions.{first_refusal, verdict};
-ghost use Rattle.lattice.specs.Ranges.{IsCutPlane};
+ghost use Rattle.euler_operators.specs.Ranges.{IsCutPlane};
 ghost use Rattle.split_checks.specs.begin_checks.Conditions.{face_conditions, number_conditions, sectioning_conditions, solid_conditions};
 ghost use Rattle.split_checks.specs.cut_places.Places.{AreWholeFaces};
 ghost use Rattle.shapes.specs.split.Sides.{reaches_above, reaches_below};
@@ -15,8 +15,8 @@ use crate::begin_checks::crossings::least_off;
 use crate::begin_checks::numbers::{TOO_MANY, check_left, is_number, refused};
 use crate::begin_checks::planes::check_plane;
 use crate::cut_places::{crossings, solid_reaches, straddling};
-use euler_conditions::{Arena, Kind, Refusal, Why};
-use lattice::{Plane, Sign};
+use euler_conditions::Arena;
+use euler_operators::{Kind, Plane, Refusal, Sign, Why};
 use solid_measure::{least_bent, least_lone};
 use std::alloc::{AllocError, Global};
 

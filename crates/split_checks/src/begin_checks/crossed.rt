@@ -2,7 +2,7 @@
 ghost use Rattle.std.specs.Prelude.{◌≡◌, true, min, IfOk};
 ghost use Rattle.euler_conditions.specs.Ready.{IsReady};
 ghost use Rattle.euler_conditions.specs.Store.{has_number};
-ghost use Rattle.lattice.specs.Ranges.{IsCutPlane};
+ghost use Rattle.euler_operators.specs.Ranges.{IsCutPlane};
 ghost use Rattle.shapes.specs.Fresh.{first_such};
 ghost use Rattle.solid_measure.specs.solid_checks.Least.{found};
 ghost use Rattle.split_checks.specs.begin_checks.Flaws.{has_flaw};
@@ -14,8 +14,8 @@ use crate::begin_checks::faces::{is_cut_often, is_touched};
 use crate::begin_checks::numbers::TOO_MANY;
 use crate::cut_places::places;
 use crate::place_order::{in_order, pairs_differ};
-use euler_conditions::{Arena, Kind};
-use lattice::Plane;
+use euler_conditions::Arena;
+use euler_operators::{Kind, Plane};
 use std::alloc::{AllocError, Global};
 
 /// What a face that straddles must not be.

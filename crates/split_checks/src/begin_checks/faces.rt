@@ -1,17 +1,17 @@
 //! What the cut places of faces that straddle must not be.
 ghost use Rattle.std.specs.Prelude.{◌≡◌, true, map, IfOk};
 ghost use Rattle.std.specs.List.{list_all, list_any};
-ghost use Rattle.boundary_model.specs.HalfEdge.{code};
+ghost use Rattle.euler_operators.specs.HalfEdge.{code};
 ghost use Rattle.euler_conditions.specs.Ready.{IsReady};
 ghost use Rattle.euler_conditions.specs.Store.{has_number};
-ghost use Rattle.lattice.specs.Ranges.{IsCutPlane};
+ghost use Rattle.euler_operators.specs.Ranges.{IsCutPlane};
 ghost use Rattle.split_checks.specs.cut_places.Walks.{AreIn, AreThere};
 ghost use Rattle.split_checks.specs.cut_places.Places.{some_touch};
 ghost use Rattle.shapes.specs.split.Places.{is_cut_often, is_place, is_touched, loop_is_cut};
 
 use crate::cut_places::{boundary, is_place, loop_items, places, touches};
-use euler_conditions::{Arena, HalfEdge, Kind};
-use lattice::Plane;
+use euler_conditions::Arena;
+use euler_operators::{HalfEdge, Kind, Plane};
 use solid_walks::face_loops;
 use std::alloc::{AllocError, Global};
 

@@ -1,12 +1,13 @@
 //! Refusals, numbers in range and numbers that are left.
 ghost use Rattle.std.specs.Prelude.{◌≡◌, ◌+◌, ◌≤◌, nat_le, Err};
-ghost use Rattle.boundary_model.specs.Model.{is_number};
+ghost use Rattle.euler_operators.specs.Model.{is_number};
 ghost use Rattle.euler_conditions.specs.Ready.{IsReady};
 ghost use Rattle.euler_operators.specs.Conditions.{first_refusal, verdict};
 ghost use Rattle.shapes.specs.Fresh.{numbers_left, taken_in};
 ghost use Rattle.split_checks.specs.begin_checks.Counters.{AreWithin, taken_of};
 
-use euler_conditions::{Arena, Kind, Refusal, Why};
+use euler_conditions::Arena;
+use euler_operators::{Kind, Refusal, Why};
 
 /// One more than the greatest number. Who wants so many more numbers, or more, finds too few.
 pub(crate) const TOO_MANY: usize = 1_000_001;

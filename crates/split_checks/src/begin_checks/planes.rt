@@ -1,13 +1,12 @@
 //! The range of a plane that splits.
 ghost use Rattle.std.specs.Prelude.{◌≡◌, not};
 ghost use Rattle.euler_operators.specs.Conditions.{first_refusal, verdict};
-ghost use Rattle.lattice.specs.Point.{is_coordinate};
-ghost use Rattle.lattice.specs.Vectors.{direction, is_offset, origin, same_point};
+ghost use Rattle.euler_operators.specs.Points.{is_coordinate};
+ghost use Rattle.euler_operators.specs.Vectors.{direction, is_offset, origin, same_point};
 ghost use Rattle.shapes.specs.split.Split.{plane_in_range};
 
 use crate::begin_checks::numbers::refused;
-use euler_conditions::{Refusal, Why};
-use lattice::Plane;
+use euler_operators::{Plane, Refusal, Why};
 
 /// Whether a number of a plane is in the range of coordinates.
 fn is_coordinate(n: i128) -> bool

@@ -1,11 +1,11 @@
 //! The edges that cross a plane, and where they meet it.
 ghost use Rattle.std.specs.Prelude.{◌≡◌, true, false, map, IfOk};
-ghost use Rattle.boundary_model.specs.HalfEdge.{code, edge_of};
-ghost use Rattle.boundary_model.specs.Model.{faces_of, has_half};
+ghost use Rattle.euler_operators.specs.HalfEdge.{code, edge_of};
+ghost use Rattle.euler_operators.specs.Model.{faces_of, has_half};
 ghost use Rattle.euler_conditions.specs.Ready.{IsReady};
 ghost use Rattle.euler_conditions.specs.Store.{has_number};
-ghost use Rattle.lattice.specs.Ranges.{IsCutPlane};
-ghost use Rattle.lattice.specs.Vectors.{cut_between};
+ghost use Rattle.euler_operators.specs.Ranges.{IsCutPlane};
+ghost use Rattle.euler_operators.specs.Vectors.{cut_between};
 ghost use Rattle.shapes.specs.Faces.{boundary, finish, start};
 ghost use Rattle.split_checks.specs.cut_places.Crossings.{crossings_in, crossings_met, is_off, leads_across};
 ghost use Rattle.split_checks.specs.cut_places.Walks.{AreThere};
@@ -13,8 +13,8 @@ ghost use Rattle.shapes.specs.split.Sides.{crosses};
 
 use crate::cut_places::halves::{crosses, finish, start};
 use crate::cut_places::loops::boundary;
-use euler_conditions::{Arena, HalfEdge, Kind};
-use lattice::{Plane, Point, cut_point};
+use euler_conditions::Arena;
+use euler_operators::{HalfEdge, Kind, Plane, Point, cut_point};
 use std::alloc::{AllocError, Global};
 
 /// The edge of the half-edge.

@@ -1,16 +1,16 @@
 //! The cut places of faces.
 ghost use Rattle.std.specs.Prelude.{◌≡◌, true, filter, map, IfOk};
-ghost use Rattle.boundary_model.specs.HalfEdge.{code};
+ghost use Rattle.euler_operators.specs.HalfEdge.{code};
 ghost use Rattle.euler_conditions.specs.Ready.{IsReady};
 ghost use Rattle.euler_conditions.specs.Store.{has_number};
-ghost use Rattle.lattice.specs.Ranges.{IsCutPlane};
+ghost use Rattle.euler_operators.specs.Ranges.{IsCutPlane};
 ghost use Rattle.split_checks.specs.cut_places.Walks.{AreThere};
 ghost use Rattle.shapes.specs.split.Places.{is_place, places};
 
 use crate::cut_places::halves::is_place;
 use crate::cut_places::loops::boundary;
-use euler_conditions::{Arena, HalfEdge, Kind};
-use lattice::Plane;
+use euler_conditions::Arena;
+use euler_operators::{HalfEdge, Kind, Plane};
 use std::alloc::{AllocError, Global};
 
 /// Those of the half-edges that tell cut places.

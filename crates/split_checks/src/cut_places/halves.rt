@@ -1,19 +1,19 @@
 //! What an arena and a plane say of a half-edge whose edge is there.
 ghost use Rattle.std.specs.Prelude.{◌≡◌, true, ◌&&◌, not};
-ghost use Rattle.boundary_model.specs.HalfEdge.{code};
-ghost use Rattle.boundary_model.specs.Model.{before, has_half};
+ghost use Rattle.euler_operators.specs.HalfEdge.{code};
+ghost use Rattle.euler_operators.specs.Model.{before, has_half};
 ghost use Rattle.euler_conditions.specs.Ready.{IsReady};
-ghost use Rattle.lattice.specs.Point.{IsInRange};
-ghost use Rattle.lattice.specs.Ranges.{IsCutPlane};
-ghost use Rattle.lattice.specs.Vectors.{are_opposite, is_on};
+ghost use Rattle.euler_operators.specs.Points.{IsInRange};
+ghost use Rattle.euler_operators.specs.Ranges.{IsCutPlane};
+ghost use Rattle.euler_operators.specs.Vectors.{are_opposite, is_on};
 ghost use Rattle.shapes.specs.Faces.{finish, start};
 ghost use Rattle.split_checks.specs.cut_places.Sides.{lies};
 ghost use Rattle.shapes.specs.split.Places.{goes_up, is_place};
 ghost use Rattle.shapes.specs.split.Sides.{crosses};
 
 use crate::cut_places::planes::{are_opposite, lies};
-use euler_conditions::{Arena, HalfEdge};
-use lattice::{Plane, Point, Sign};
+use euler_conditions::Arena;
+use euler_operators::{HalfEdge, Plane, Point, Sign};
 
 /// The point at which the half-edge starts.
 pub(crate) fn start(arena: &Arena, h: HalfEdge) -> Point

@@ -1,13 +1,14 @@
 //! The half-edges of loops and of faces.
 ghost use Rattle.std.specs.Prelude.{◌≡◌, true, map, IfOk};
-ghost use Rattle.boundary_model.specs.HalfEdge.{code};
-ghost use Rattle.boundary_model.specs.Model.{content, items_of};
+ghost use Rattle.euler_operators.specs.HalfEdge.{code};
+ghost use Rattle.euler_operators.specs.Model.{content, items_of};
 ghost use Rattle.euler_conditions.specs.Ready.{IsReady};
 ghost use Rattle.euler_conditions.specs.Store.{has_number};
 ghost use Rattle.shapes.specs.Faces.{boundary, items_in};
 ghost use Rattle.split_checks.specs.cut_places.Walks.{AreIn};
 
-use euler_conditions::{Arena, Content, HalfEdge, Kind};
+use euler_conditions::Arena;
+use euler_operators::{Content, HalfEdge, Kind};
 use solid_walks::{face_loops, items_from};
 use std::alloc::{AllocError, Global};
 

@@ -1,11 +1,11 @@
 //! The sides of a plane.
 ghost use Rattle.std.specs.Prelude.{◌≡◌};
-ghost use Rattle.lattice.specs.Point.{IsInRange};
-ghost use Rattle.lattice.specs.Ranges.{IsCutPlane};
-ghost use Rattle.lattice.specs.Vectors.{are_opposite, height, sign_of};
+ghost use Rattle.euler_operators.specs.Points.{IsInRange};
+ghost use Rattle.euler_operators.specs.Ranges.{IsCutPlane};
+ghost use Rattle.euler_operators.specs.Vectors.{are_opposite, height, sign_of};
 ghost use Rattle.split_checks.specs.cut_places.Sides.{lies, opposite_signs, same_sign};
 
-use lattice::{Plane, Point, Sign, side};
+use euler_operators::{Plane, Point, Sign, side};
 
 /// Whether two signs are one.
 fn same(a: Sign, b: Sign) -> bool

@@ -1,11 +1,11 @@
 //! On which sides of a plane faces have corners.
 ghost use Rattle.std.specs.Prelude.{◌≡◌, true, map, IfOk};
 ghost use Rattle.std.specs.List.{list_any};
-ghost use Rattle.boundary_model.specs.HalfEdge.{code};
-ghost use Rattle.boundary_model.specs.Model.{content, faces_of};
+ghost use Rattle.euler_operators.specs.HalfEdge.{code};
+ghost use Rattle.euler_operators.specs.Model.{content, faces_of};
 ghost use Rattle.euler_conditions.specs.Ready.{IsReady};
 ghost use Rattle.euler_conditions.specs.Store.{has_number};
-ghost use Rattle.lattice.specs.Ranges.{IsCutPlane};
+ghost use Rattle.euler_operators.specs.Ranges.{IsCutPlane};
 ghost use Rattle.shapes.specs.Faces.{vertices_in, vertices_on};
 ghost use Rattle.split_checks.specs.cut_places.Sides.{reaches, some_lie, some_start};
 ghost use Rattle.split_checks.specs.cut_places.Walks.{AreIn, AreThere};
@@ -13,8 +13,8 @@ ghost use Rattle.shapes.specs.split.Sides.{straddles, straddling_faces};
 
 use crate::cut_places::halves::starts_at;
 use crate::cut_places::planes::lies;
-use euler_conditions::{Arena, Content, HalfEdge, Kind};
-use lattice::{Plane, Sign};
+use euler_conditions::Arena;
+use euler_operators::{Content, HalfEdge, Kind, Plane, Sign};
 use solid_walks::{face_loops, items_from};
 use std::alloc::{AllocError, Global};
 

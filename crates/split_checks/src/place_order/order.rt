@@ -1,17 +1,17 @@
 //! Cut places in the order of their points.
 ghost use Rattle.std.specs.Prelude.{◌≡◌, true, false, map, IfOk, MatchOption};
 ghost use Rattle.std.specs.List.{list_all};
-ghost use Rattle.boundary_model.specs.HalfEdge.{code};
+ghost use Rattle.euler_operators.specs.HalfEdge.{code};
 ghost use Rattle.split_checks.specs.cut_places.Walks.{AreThere};
 ghost use Rattle.euler_conditions.specs.Ready.{IsReady};
-ghost use Rattle.lattice.specs.Ranges.{IsCutPlane};
+ghost use Rattle.euler_operators.specs.Ranges.{IsCutPlane};
 ghost use Rattle.split_checks.specs.place_order.Order.{AreWholePlaces, entries_of, places_of};
 ghost use Rattle.shapes.specs.split.Places.{in_pairs, is_up_and_down, some_meet, sorted};
 
 use crate::cut_places::goes_up;
 use crate::place_order::points::{key_of, place_point};
-use euler_conditions::{Arena, HalfEdge};
-use lattice::Plane;
+use euler_conditions::Arena;
+use euler_operators::{HalfEdge, Plane};
 use std::alloc::{AllocError, Global};
 use std::collections::BTreeMap;
 

@@ -1,14 +1,14 @@
 //! The points of cut places.
 ghost use Rattle.std.specs.Prelude.{◌≡◌};
-ghost use Rattle.boundary_model.specs.HalfEdge.{code};
+ghost use Rattle.euler_operators.specs.HalfEdge.{code};
 ghost use Rattle.euler_conditions.specs.Ready.{IsReady};
-ghost use Rattle.lattice.specs.Ranges.{IsCutPlane};
+ghost use Rattle.euler_operators.specs.Ranges.{IsCutPlane};
 ghost use Rattle.split_checks.specs.place_order.Order.{IsWholePlace, key};
 ghost use Rattle.shapes.specs.split.Places.{place_point};
 
 use crate::cut_places::{crossing_point, start, starts_on};
-use euler_conditions::{Arena, HalfEdge};
-use lattice::{Plane, Point};
+use euler_conditions::Arena;
+use euler_operators::{HalfEdge, Plane, Point};
 
 /// The point of a cut place, which is on the lattice.
 pub(crate) fn place_point(arena: &Arena, plane: Plane, h: HalfEdge) -> Point

@@ -1,15 +1,15 @@
 -- The first half-edge of an edge that crosses a plane, as the code has it, and the operator that cuts the edge.
 use Rattle.std.proofs.Common.{◌≡◌, ℕ, ◌+◌, true, false, sym, ap, ◌∙◌}
-use Rattle.lattice.specs.declared.Point.{Point}
-use Rattle.lattice.specs.declared.Plane.{Plane}
-use Rattle.lattice.specs.Vectors.{cut_between}
-use Rattle.boundary_model.specs.declared.HalfEdge.{HalfEdge}
-use Rattle.boundary_model.specs.declared.Corner.TheVariants.{At}
-use Rattle.boundary_model.specs.HalfEdge.{code, half, edge_of, plus, minus}
-use Rattle.boundary_model.specs.Table as table
-use Rattle.boundary_model.specs.Model.{Model, after}
-use Rattle.boundary_model.specs.Sound.{Has, HasHalf}
-use Rattle.boundary_model.proofs.Halves.{half-code, code-half, plus_row, minus_row}
+use Rattle.euler_operators.specs.declared.Point.{Point}
+use Rattle.euler_operators.specs.declared.Plane.{Plane}
+use Rattle.euler_operators.specs.Vectors.{cut_between}
+use Rattle.euler_operators.specs.declared.HalfEdge.{HalfEdge}
+use Rattle.euler_operators.specs.declared.Corner.TheVariants.{At}
+use Rattle.euler_operators.specs.HalfEdge.{code, half, edge_of, plus, minus}
+use Rattle.euler_operators.specs.Table as table
+use Rattle.euler_operators.specs.Model.{Model, after}
+use Rattle.euler_operators.specs.Sound.{Has, HasHalf}
+use Rattle.euler_operators.proofs.Halves.{half-code, code-half, plus_row, minus_row}
 use Rattle.euler_operators.specs.declared.Op.TheVariants.{Mev}
 use Rattle.shapes.specs.Faces.{start, finish}
 use Rattle.shapes.specs.Fresh.{taken_in, growing}

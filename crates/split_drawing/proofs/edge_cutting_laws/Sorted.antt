@@ -6,11 +6,11 @@ use Rattle.std.specs.Ordering.{nat_cmp}
 use Rattle.std.proofs.lemmas.Bool.Decides.{nat_tests}
 use Rattle.std.proofs.lemmas.List.Sorted.{length_permutation, sum_by-IsPermutation, IsNonDecreasingBy-from_sort}
 use Rattle.std.proofs.lemmas.List.Sums.{sum_by-cons}
-use Rattle.lattice.specs.declared.Plane.{Plane}
-use Rattle.cyclic_list.specs.Items.{count, tick, IsApart, SameItems}
-use Rattle.cyclic_list.proofs.Lists.{tick_same}
-use Rattle.boundary_model.specs.Model.{Model, faces_of}
-use Rattle.boundary_model.specs.Sound.{Sound}
+use Rattle.euler_operators.specs.declared.Plane.{Plane}
+use Rattle.euler_operators.specs.Items.{count, tick, IsApart, SameItems}
+use Rattle.euler_operators.proofs.Lists.{tick_same}
+use Rattle.euler_operators.specs.Model.{Model, faces_of}
+use Rattle.euler_operators.specs.Sound.{Sound}
 use Rattle.euler_operators.specs.Conditions.{strictly_rises}
 use Rattle.euler_conditions.proofs.Rising.{within}
 use Rattle.solid_walks.proofs.face_walks_laws.Rising.{Rising}

@@ -1,7 +1,7 @@
 -- Rings of a face: whether they stop its drawing, and rings given one after the other.
 use Rattle.std.proofs.Common.{◌≡◌, ℕ, ◌≤◌, ◌<◌, Bool, true, false, ◌&&◌, List, [], ◌∷◌, length, slice_index_or, None, not, nat_lt, refl, sym, ap, ◌∙◌, subst, arith}
 use Rattle.std.proofs.lemmas.Bool.Decides.{nat_tests}
-use Rattle.boundary_model.specs.Model.{Model, rings_of}
+use Rattle.euler_operators.specs.Model.{Model, rings_of}
 use Rattle.euler_operators.specs.declared.Op.TheVariants.{RingIn}
 use Rattle.euler_operators.specs.Conditions.{first_false, has_rings, is_empty}
 use Rattle.euler_operators.specs.Effect.{effect}

@@ -1,9 +1,9 @@
 -- Operators on pairs as the code writes them.
 use Rattle.std.proofs.Common.{◌≡◌, ℕ, ◌+◌, true, false, cond, sym, ap, ◌∙◌}
-use Rattle.boundary_model.specs.declared.Corner.TheVariants.{At}
-use Rattle.boundary_model.specs.HalfEdge.{code, half, plus}
-use Rattle.boundary_model.specs.Model.{Model, loop_of, is_ring_of}
-use Rattle.boundary_model.proofs.Halves.{half-code}
+use Rattle.euler_operators.specs.declared.Corner.TheVariants.{At}
+use Rattle.euler_operators.specs.HalfEdge.{code, half, plus}
+use Rattle.euler_operators.specs.Model.{Model, loop_of, is_ring_of}
+use Rattle.euler_operators.proofs.Halves.{half-code}
 use Rattle.euler_operators.specs.declared.Op.TheVariants.{Mef, Mekr}
 use Rattle.euler_operators.specs.Conditions.{face_at}
 use Rattle.solid_walks.proofs.face_walks_laws.HalfCodes.{code_plus}

@@ -1,11 +1,11 @@
 -- Where a plane can begin to split a solid, the cut places of each face that straddles can be paired.
 use Rattle.std.proofs.Common.{◌≡◌, ℕ, Bool, true, false, not, ◌||◌, List, [], ◌∷◌, refl, ap, arith}
 use Rattle.std.specs.List.{list_all}
-use Rattle.lattice.specs.declared.Plane.{Plane}
-use Rattle.cyclic_list.specs.Items.{IsIn}
-use Rattle.cyclic_list.proofs.Lists.{tick_same}
-use Rattle.boundary_model.specs.Model.{Model}
-use Rattle.boundary_model.specs.Sound.{Sound}
+use Rattle.euler_operators.specs.declared.Plane.{Plane}
+use Rattle.euler_operators.specs.Items.{IsIn}
+use Rattle.euler_operators.proofs.Lists.{tick_same}
+use Rattle.euler_operators.specs.Model.{Model}
+use Rattle.euler_operators.specs.Sound.{Sound}
 use Rattle.shapes.specs.Fresh.{first_such}
 use Rattle.shapes.specs.split.Sides.{straddling_faces, crossing_edges}
 use Rattle.shapes.specs.split.Places.{places, some_meet, is_crossed, is_up_and_down, sorted_pairs}

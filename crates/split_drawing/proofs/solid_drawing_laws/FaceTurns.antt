@@ -1,7 +1,7 @@
 -- The next of some faces as the code opens it.
 use Rattle.std.proofs.Common.{◌≡◌, List, [], ◌∷◌, map, sym, ap, ◌∙◌, subst}
-use Rattle.lattice.specs.declared.Plane.{Plane}
-use Rattle.boundary_model.specs.Model.{Model}
+use Rattle.euler_operators.specs.declared.Plane.{Plane}
+use Rattle.euler_operators.specs.Model.{Model}
 use Rattle.shapes.specs.split.Drawing.{drawn_between}
 use Rattle.split_drawing.specs.declared.face_drawing.pairs.Pair.{Pair}
 use Rattle.split_drawing.specs.declared.face_drawing.progress.Progress.{Progress}

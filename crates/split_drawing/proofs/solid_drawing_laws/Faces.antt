@@ -1,10 +1,10 @@
 -- Faces drawn between their pairs, one after the other.
 use Rattle.std.proofs.Common.{◌≡◌, ℕ, List, [], ◌∷◌, length, map, refl, sym, ap, ◌∙◌, subst, arith}
 use Rattle.std.specs.Prelude.{fold}
-use Rattle.lattice.specs.declared.Plane.{Plane}
-use Rattle.boundary_model.specs.Table.{Table}
-use Rattle.boundary_model.specs.Model.{Model}
-use Rattle.boundary_model.specs.Sound.{Has}
+use Rattle.euler_operators.specs.declared.Plane.{Plane}
+use Rattle.euler_operators.specs.Table.{Table}
+use Rattle.euler_operators.specs.Model.{Model}
+use Rattle.euler_operators.specs.Sound.{Has}
 use Rattle.shapes.specs.split.Drawing.{Drawing, drawn_pairs, drawn_between, next_drawn}
 use Rattle.split_drawing_laws.specs.drawings.Passing.{Ready, Drawable}
 use Rattle.split_drawing_laws.proofs.drawings.Faces.{face_goes}

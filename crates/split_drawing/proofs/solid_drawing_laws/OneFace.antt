@@ -1,9 +1,9 @@
 -- One face drawn between its pairs, step by step as the code does it.
 use Rattle.std.proofs.Common.{◌≡◌, ℕ, Bool, true, false, cond, ◌&&◌, nat_eq, nat_lt, suc, List, [], ◌∷◌, length, map, ◌≢◌, refl, sym, ap, ◌∙◌, subst}
 use Rattle.std.specs.Prelude.{fold}
-use Rattle.lattice.specs.declared.Plane.{Plane}
-use Rattle.boundary_model.specs.Model.{Model, content}
-use Rattle.boundary_model.specs.Sound.{Has}
+use Rattle.euler_operators.specs.declared.Plane.{Plane}
+use Rattle.euler_operators.specs.Model.{Model, content}
+use Rattle.euler_operators.specs.Sound.{Has}
 use Rattle.euler_operators.specs.Conditions.{has_rings}
 use Rattle.euler_laws.specs.Laws.{AreAccepted}
 use Rattle.euler_laws.proofs.shared.Goes.{equals, differs}

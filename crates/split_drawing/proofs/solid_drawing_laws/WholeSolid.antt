@@ -1,9 +1,9 @@
 -- A solid drawn, from its edges cut to its last face.
 use Rattle.std.proofs.Common.{◌≡◌, ℕ, [], is_some, refl, sym, ap, ◌∙◌, subst, nat_eq, map, List}
-use Rattle.lattice.specs.declared.Plane.{Plane}
-use Rattle.cyclic_list.specs.Items.{IsIn}
-use Rattle.boundary_model.specs.Model.{Model, faces_of}
-use Rattle.boundary_model.specs.Sound.{Sound, Has}
+use Rattle.euler_operators.specs.declared.Plane.{Plane}
+use Rattle.euler_operators.specs.Items.{IsIn}
+use Rattle.euler_operators.specs.Model.{Model, faces_of}
+use Rattle.euler_operators.specs.Sound.{Sound, Has}
 use Rattle.shapes.specs.Fresh.{taken_in}
 use Rattle.shapes.specs.split.Sides.{straddles, straddling_faces}
 use Rattle.shapes.specs.split.Crossings.{with_crossings}

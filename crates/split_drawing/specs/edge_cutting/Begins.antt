@@ -1,7 +1,7 @@
 -- When a plane can begin to split a solid.
 use Rattle.std.specs.Prelude.{ℕ}
-use Rattle.lattice.specs.declared.Plane.{Plane}
-use Rattle.boundary_model.specs.Model.{Model}
+use Rattle.euler_operators.specs.declared.Plane.{Plane}
+use Rattle.euler_operators.specs.Model.{Model}
 use Rattle.split_drawing_laws.specs.crossings.Laws.{CanBegin}
 
 -- the conditions that are tested before anything is changed hold, with some number for the upper part

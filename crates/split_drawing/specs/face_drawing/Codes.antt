@@ -1,7 +1,7 @@
 -- Pairs and the progress of a drawing, as the code has them.
 use Rattle.std.specs.Prelude.{ℕ, cond, nat_eq, List}
-use Rattle.boundary_model.specs.HalfEdge.{code}
-use Rattle.boundary_model.specs.Model.{Model}
+use Rattle.euler_operators.specs.HalfEdge.{code}
+use Rattle.euler_operators.specs.Model.{Model}
 use Rattle.shapes.specs.Fresh.{Taken}
 use Rattle.shapes.specs.split.Drawing.{Drawing}
 use Rattle.split_drawing.specs.declared.face_drawing.pairs.Pair.{Pair}

@@ -1,8 +1,8 @@
 -- Faces with the pairs of their cut places, as the code has them.
 use Rattle.std.specs.Prelude.{◌≡◌, ℕ, false, List, [], ◌∷◌, map}
-use Rattle.lattice.specs.declared.Plane.{Plane}
-use Rattle.boundary_model.specs.Model.{Model}
-use Rattle.boundary_model.specs.Sound.{Has}
+use Rattle.euler_operators.specs.declared.Plane.{Plane}
+use Rattle.euler_operators.specs.Model.{Model}
+use Rattle.euler_operators.specs.Sound.{Has}
 use Rattle.shapes.specs.split.Places.{places, place_pairs, some_meet}
 use Rattle.shapes.specs.split.Sides.{straddling_faces}
 use Rattle.split_checks.specs.cut_places.Places.{IsWholeFace}

@@ -1,8 +1,8 @@
 -- Faces drawn between their pairs, one after the other.
 use Rattle.std.specs.Prelude.{◌≡◌, ℕ, List, [], map, fold}
-use Rattle.lattice.specs.declared.Plane.{Plane}
-use Rattle.boundary_model.specs.Model.{Model}
-use Rattle.boundary_model.specs.Sound.{Has}
+use Rattle.euler_operators.specs.declared.Plane.{Plane}
+use Rattle.euler_operators.specs.Model.{Model}
+use Rattle.euler_operators.specs.Sound.{Has}
 use Rattle.shapes.specs.split.Drawing.{Drawing, drawn_pairs, drawn_between}
 use Rattle.split_drawing_laws.specs.drawings.Passing.{Ready, Drawable}
 use Rattle.split_checks.specs.cut_places.Walks.{AreIn}

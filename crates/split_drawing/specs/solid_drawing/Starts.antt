@@ -1,8 +1,8 @@
 -- Pairs of cut places, and of the half-edges that start there once the edges that cross the plane are cut.
 use Rattle.std.specs.Prelude.{ℕ, List, [], ◌∷◌, map}
-use Rattle.lattice.specs.declared.Plane.{Plane}
-use Rattle.boundary_model.specs.Model.{Model}
-use Rattle.boundary_model.specs.Sound.{HasHalf}
+use Rattle.euler_operators.specs.declared.Plane.{Plane}
+use Rattle.euler_operators.specs.Model.{Model}
+use Rattle.euler_operators.specs.Sound.{HasHalf}
 use Rattle.shapes.specs.split.Drawing.{from_place}
 
 -- what starts at the places of a pair, of some pairs, and of the pairs of some faces

@@ -1,10 +1,10 @@
 //! Edges cut one after the other in a draft.
 ghost use Rattle.std.specs.Prelude.{◌≡◌, ◌≤◌, ◌+◌, true, false, None, OnOk, OnErr};
-ghost use Rattle.boundary_model.specs.HalfEdge.{code};
-ghost use Rattle.boundary_model.specs.Model.{after, has_half};
+ghost use Rattle.euler_operators.specs.HalfEdge.{code};
+ghost use Rattle.euler_operators.specs.Model.{after, has_half};
 ghost use Rattle.euler_conditions.specs.Ready.{IsReady};
 ghost use Rattle.euler_operators.specs.Conditions.{first_false};
-ghost use Rattle.lattice.specs.Ranges.{IsCutPlane};
+ghost use Rattle.euler_operators.specs.Ranges.{IsCutPlane};
 ghost use Rattle.shapes.specs.Fresh.{growing, taken_in};
 ghost use Rattle.undo_journal.specs.Machine.{draft_step};
 ghost use Rattle.shapes.specs.split.Crossings.{with_crossings};
@@ -14,8 +14,8 @@ ghost use Rattle.split_drawing.specs.edge_cutting.Begins.{CanBeCut};
 
 use crate::edge_cutting::fresh::{fresh_edge, fresh_vertex};
 use crate::edge_cutting::rising::rising_crossings;
-use euler_conditions::{Arena, Corner, HalfEdge, Op};
-use lattice::Plane;
+use euler_conditions::Arena;
+use euler_operators::{Corner, HalfEdge, Op, Plane};
 use solid_walks::{minus, plus};
 use split_checks::crossing_point;
 use std::alloc::{AllocError, Global};

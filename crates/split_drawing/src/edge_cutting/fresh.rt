@@ -2,7 +2,8 @@
 ghost use Rattle.std.specs.Prelude.{◌≡◌, ◌+◌, ◌≤◌};
 ghost use Rattle.shapes.specs.Fresh.{taken_in};
 
-use euler_conditions::{Arena, Kind};
+use euler_conditions::Arena;
+use euler_operators::Kind;
 
 /// The first edge number after those in use.
 pub(crate) fn fresh_edge(arena: &Arena) -> u32

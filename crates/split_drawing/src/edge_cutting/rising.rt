@@ -1,11 +1,11 @@
 //! The edges that cross a plane, from the least to the greatest.
 ghost use Rattle.std.specs.Prelude.{◌≡◌, IfOk};
 ghost use Rattle.euler_conditions.specs.Ready.{IsReady};
-ghost use Rattle.lattice.specs.Ranges.{IsCutPlane};
+ghost use Rattle.euler_operators.specs.Ranges.{IsCutPlane};
 ghost use Rattle.shapes.specs.split.Sides.{crossing_edges};
 
 use euler_conditions::Arena;
-use lattice::Plane;
+use euler_operators::Plane;
 use split_checks::crossings;
 use std::alloc::{AllocError, Global};
 

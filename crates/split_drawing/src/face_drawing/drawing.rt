@@ -9,7 +9,7 @@ ghost use Rattle.split_drawing.specs.face_drawing.Passes.{CanDraw};
 
 use crate::face_drawing::pairs::{Pair, in_one_loop};
 use crate::face_drawing::progress::Progress;
-use euler_conditions::{HalfEdge, Op};
+use euler_operators::{HalfEdge, Op};
 use std::alloc::AllocError;
 use undo_journal::Draft;
 

@@ -1,14 +1,15 @@
 //! Pairs of half-edges between which edges are drawn.
 ghost use Rattle.std.specs.Prelude.{◌≡◌, true};
-ghost use Rattle.boundary_model.specs.HalfEdge.{code};
-ghost use Rattle.boundary_model.specs.Model.{has_half, is_ring_of, loop_of};
+ghost use Rattle.euler_operators.specs.HalfEdge.{code};
+ghost use Rattle.euler_operators.specs.Model.{has_half, is_ring_of, loop_of};
 ghost use Rattle.euler_conditions.specs.Ready.{IsReady};
 ghost use Rattle.euler_operators.specs.Conditions.{face_at};
 ghost use Rattle.shapes.specs.split.Drawing.{in_one_loop};
 ghost use Rattle.split_drawing_laws.specs.drawings.DrawingOps.{join_pair};
 ghost use Rattle.split_drawing.specs.face_drawing.Codes.{codes};
 
-use euler_conditions::{Arena, Corner, HalfEdge, Op};
+use euler_conditions::Arena;
+use euler_operators::{Corner, HalfEdge, Op};
 
 /// Two half-edges of a face that start at the cut places of a pair, the one that is up and the one that is down.
 #[derive(Clone, Copy)]

@@ -8,7 +8,8 @@ ghost use Rattle.split_drawing.specs.face_drawing.Codes.{stuck_at};
 
 use crate::face_drawing::drawing::stuck_at;
 use crate::face_drawing::progress::Progress;
-use euler_conditions::{Arena, Kind, Op};
+use euler_conditions::Arena;
+use euler_operators::{Kind, Op};
 use std::alloc::AllocError;
 use undo_journal::Draft;
 

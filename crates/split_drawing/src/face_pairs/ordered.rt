@@ -1,18 +1,18 @@
 //! The pairs of the cut places of one face.
 ghost use Rattle.std.specs.Prelude.{◌≡◌, true, map, IfOk};
-ghost use Rattle.boundary_model.specs.HalfEdge.{code};
-ghost use Rattle.boundary_model.specs.Model.{has_half};
+ghost use Rattle.euler_operators.specs.HalfEdge.{code};
+ghost use Rattle.euler_operators.specs.Model.{has_half};
 ghost use Rattle.split_checks.specs.cut_places.Walks.{AreThere};
 ghost use Rattle.euler_conditions.specs.Ready.{IsReady};
 ghost use Rattle.split_drawing.specs.face_drawing.Codes.{codes};
 ghost use Rattle.split_drawing.specs.face_pairs.Paired.{CanBePaired};
-ghost use Rattle.lattice.specs.Ranges.{IsCutPlane};
+ghost use Rattle.euler_operators.specs.Ranges.{IsCutPlane};
 ghost use Rattle.split_checks.specs.place_order.Order.{places_of};
 ghost use Rattle.shapes.specs.split.Places.{in_pairs, place_pairs, up_first};
 
 use crate::face_drawing::Pair;
-use euler_conditions::{Arena, HalfEdge};
-use lattice::Plane;
+use euler_conditions::Arena;
+use euler_operators::{HalfEdge, Plane};
 use split_checks::{Places, goes_up, in_order, places};
 use std::alloc::{AllocError, Global};
 

@@ -7,7 +7,7 @@ ghost use Rattle.split_drawing.specs.face_pairs.Paired.{paired, paired_faces};
 use crate::face_drawing::Pair;
 use crate::face_pairs::ordered::place_pairs;
 use euler_conditions::Arena;
-use lattice::Plane;
+use euler_operators::Plane;
 use split_checks::straddling;
 use std::alloc::{AllocError, Global};
 

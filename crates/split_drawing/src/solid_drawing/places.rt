@@ -1,9 +1,9 @@
 //! The half-edges that start at cut places, once the edges that cross the plane are cut.
 ghost use Rattle.std.specs.Prelude.{◌≡◌, true, map, IfOk};
-ghost use Rattle.boundary_model.specs.HalfEdge.{code};
-ghost use Rattle.boundary_model.specs.Model.{has_half};
+ghost use Rattle.euler_operators.specs.HalfEdge.{code};
+ghost use Rattle.euler_operators.specs.Model.{has_half};
 ghost use Rattle.euler_conditions.specs.Ready.{IsReady};
-ghost use Rattle.lattice.specs.Ranges.{IsCutPlane};
+ghost use Rattle.euler_operators.specs.Ranges.{IsCutPlane};
 ghost use Rattle.shapes.specs.split.Drawing.{from_place};
 ghost use Rattle.split_drawing.specs.face_drawing.Codes.{codes};
 ghost use Rattle.split_drawing.specs.face_pairs.Paired.{paired};
@@ -11,8 +11,8 @@ ghost use Rattle.split_drawing.specs.solid_drawing.Starts.{FacesThere, PairsTher
 
 use crate::face_drawing::Pair;
 use crate::face_pairs::FacePairs;
-use euler_conditions::{Arena, HalfEdge};
-use lattice::Plane;
+use euler_conditions::Arena;
+use euler_operators::{HalfEdge, Plane};
 use split_checks::starts_on;
 use std::alloc::{AllocError, Global};
 

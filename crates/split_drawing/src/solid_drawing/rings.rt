@@ -1,16 +1,16 @@
 //! The rings of a face above a plane.
 ghost use Rattle.std.specs.Prelude.{◌≡◌, true, IfOk, OnOk};
-ghost use Rattle.boundary_model.specs.Table as table;
+ghost use Rattle.euler_operators.specs.Table as table;
 ghost use Rattle.euler_conditions.specs.Ready.{IsReady};
 ghost use Rattle.euler_laws.specs.Laws.{AreAccepted};
 ghost use Rattle.euler_conditions.specs.Store.{has_number};
-ghost use Rattle.lattice.specs.Ranges.{IsCutPlane};
+ghost use Rattle.euler_operators.specs.Ranges.{IsCutPlane};
 ghost use Rattle.shapes.specs.split.Drawing.{rings_above, with_rings};
 ghost use Rattle.split_drawing_laws.specs.drawings.DrawingOps.{ring_ops};
 
 use crate::face_drawing::move_rings;
-use euler_conditions::{Arena, Kind};
-use lattice::{Plane, Sign};
+use euler_conditions::Arena;
+use euler_operators::{Kind, Plane, Sign};
 use split_checks::loop_reaches;
 use std::alloc::{AllocError, Global};
 use undo_journal::Draft;

@@ -1,6 +1,6 @@
 //! A solid cut and drawn.
 ghost use Rattle.std.specs.Prelude.{◌≡◌, [], map, IfOk};
-ghost use Rattle.lattice.specs.Ranges.{IsCutPlane};
+ghost use Rattle.euler_operators.specs.Ranges.{IsCutPlane};
 ghost use Rattle.shapes.specs.Fresh.{taken_in};
 ghost use Rattle.shapes.specs.split.Drawing.{with_drawings};
 ghost use Rattle.split_drawing.specs.edge_cutting.Begins.{CanBeCut};
@@ -13,8 +13,8 @@ use crate::face_drawing::Progress;
 use crate::face_pairs::{FacePairs, face_pairs};
 use crate::solid_drawing::face::draw_face;
 use crate::solid_drawing::places::faces_started;
-use euler_conditions::{Arena, Kind};
-use lattice::Plane;
+use euler_conditions::Arena;
+use euler_operators::{Kind, Plane};
 use std::alloc::{AllocError, Global};
 use undo_journal::Draft;
 

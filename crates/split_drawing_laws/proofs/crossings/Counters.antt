@@ -2,12 +2,12 @@
 use Rattle.std.specs.Prelude.{flat_map}
 use Rattle.std.proofs.Common.{◌≡◌, ◌≢◌, ℕ, ◌≤◌, ◌<◌, List, [], ◌∷◌, is_some, refl, sym, ap, ◌∙◌, subst, arith, inl, inr}
 use Rattle.std.proofs.lemmas.Bool.Decides.{eqb_tells}
-use Rattle.lattice.specs.declared.Point.{Point}
-use Rattle.boundary_model.specs.HalfEdge.{plus, minus}
-use Rattle.boundary_model.specs.Table as table
-use Rattle.boundary_model.specs.Table.{Table, greatest_in, map_entries}
-use Rattle.boundary_model.specs.Model.{Model, tail}
-use Rattle.boundary_model.specs.Sound.{Has}
+use Rattle.euler_operators.specs.declared.Point.{Point}
+use Rattle.euler_operators.specs.HalfEdge.{plus, minus}
+use Rattle.euler_operators.specs.Table as table
+use Rattle.euler_operators.specs.Table.{Table, greatest_in, map_entries}
+use Rattle.euler_operators.specs.Model.{Model, tail}
+use Rattle.euler_operators.specs.Sound.{Has}
 use Rattle.shapes.proofs.fresh.Rows.{greatest-put_last, greatest_is, greatest_used, free_above, at_most_greatest, get-put_here, get-put_other, put_turned}
 use Rattle.shapes.specs.Fresh.{taken_in}
 use Rattle.shapes.specs.Rewriting.{rewritten_row}

@@ -2,14 +2,14 @@
 use Rattle.std.specs.Prelude.{flat_map}
 use Rattle.std.proofs.Common.{◌≡◌, ℕ, ◌+◌, ◌≤◌, true, false, cond, nat_eq, List, [], ◌∷◌, ◌++◌, refl, sym, ap, ◌∙◌, arith, inl, inr}
 use Rattle.std.proofs.lemmas.Bool.Decides.{nat_tests, eqb_tells}
-use Rattle.cyclic_list.specs.Items.{count, tick, IsIn, IsApart, head_or}
-use Rattle.cyclic_list.specs.Rings.{rotate_to, canonical, rest, successor}
-use Rattle.cyclic_list.specs.Edits.{insert_before, insert_after}
-use Rattle.cyclic_list.proofs.Edits.{insert_before-rotates, insert_after-rotates, count-insert_before, count-insert_after}
-use Rattle.cyclic_list.proofs.Operators.{apart_front}
-use Rattle.cyclic_list.proofs.Rings.{rotation_at, IsIn_successor}
-use Rattle.cyclic_list.proofs.Rotations.{canonical_same, IsRotation-trans, rotate_to_same, rotate_to_head}
-use Rattle.boundary_model.specs.HalfEdge.{plus, minus}
+use Rattle.euler_operators.specs.Items.{count, tick, IsIn, IsApart, head_or}
+use Rattle.euler_operators.specs.Rings.{rotate_to, canonical, rest, successor}
+use Rattle.euler_operators.specs.Edits.{insert_before, insert_after}
+use Rattle.euler_operators.proofs.Edits.{insert_before-rotates, insert_after-rotates, count-insert_before, count-insert_after}
+use Rattle.euler_operators.proofs.Operators.{apart_front}
+use Rattle.euler_operators.proofs.Rings.{rotation_at, IsIn_successor}
+use Rattle.euler_operators.proofs.Rotations.{canonical_same, IsRotation-trans, rotate_to_same, rotate_to_head}
+use Rattle.euler_operators.specs.HalfEdge.{plus, minus}
 use Rattle.shapes.specs.split.Crossings.{doubled}
 
 tick_is : (x y : ℕ) → x ≡ y → tick x y ≡ 1

@@ -5,12 +5,12 @@ use Rattle.std.specs.Int.RustNames.{unsigned_abs, int_div}
 use Rattle.std.specs.Ordering.{int_eq}
 use Rattle.std.proofs.lemmas.Int.{ints}
 use Rattle.std.proofs.Math.Nat.{div-le_of_le-mul}
-use Rattle.lattice.specs.declared.Point.{Point}
-use Rattle.lattice.specs.declared.Plane.{Plane}
-use Rattle.lattice.specs.Point.{is_coordinate, IsInRange}
-use Rattle.lattice.specs.Ranges.{IsWithin}
-use Rattle.lattice.specs.Vectors.{height, opposite, are_opposite, same_point, cut_between}
-use Rattle.lattice.proofs.Magnitudes.{coordinates, coordinate_within, product_within}
+use Rattle.euler_operators.specs.declared.Point.{Point}
+use Rattle.euler_operators.specs.declared.Plane.{Plane}
+use Rattle.euler_operators.specs.Points.{is_coordinate, IsInRange}
+use Rattle.euler_operators.specs.Ranges.{IsWithin}
+use Rattle.euler_operators.specs.Vectors.{height, opposite, are_opposite, same_point, cut_between}
+use Rattle.euler_operators.proofs.Magnitudes.{coordinates, coordinate_within, product_within}
 
 -- ---- signs
 

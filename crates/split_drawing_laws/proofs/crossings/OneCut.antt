@@ -5,27 +5,27 @@ use Rattle.std.specs.Option.{option_map}
 use Rattle.std.specs.Ordering.{nat_cmp}
 use Rattle.std.specs.FinMap.Entries.{find}
 use Rattle.std.proofs.lemmas.Bool.Decides.{nat_tests, eqb_tells}
-use Rattle.lattice.specs.declared.Point.{Point}
-use Rattle.cyclic_list.specs.Items.{count, IsIn}
-use Rattle.cyclic_list.specs.Rings.{canonical, successor, rest}
-use Rattle.cyclic_list.specs.Rings as rings
-use Rattle.cyclic_list.specs.Edits.{insert_before}
-use Rattle.cyclic_list.proofs.Edits.{count-insert_before}
-use Rattle.cyclic_list.proofs.Rings.{IsIn_successor}
-use Rattle.cyclic_list.proofs.Rotations.{count-canonical}
-use Rattle.cyclic_list.proofs.Lists.{tick_same, tick_other}
-use Rattle.boundary_model.specs.HalfEdge.{edge_of, plus, minus}
-use Rattle.boundary_model.specs.Table as table
-use Rattle.boundary_model.specs.Table.{Table, tables, same_table, get-map_rows}
-use Rattle.boundary_model.specs.Model.{Model, LoopContent, lone, cycle, LoopRow, EdgeRow, items_of, holds, tail, tail_in, loop_of, content, face_of, cycle_of, after, arc, round}
-use Rattle.boundary_model.specs.Sound.{Sound, Has, HasHalf}
-use Rattle.boundary_model.proofs.Tables.{map_one}
-use Rattle.boundary_model.proofs.Models.{content_row, tail_row, row_of, not_held, other_loop, in-holds, holds-none, none-holds, cycle_there, cycle_sound}
+use Rattle.euler_operators.specs.declared.Point.{Point}
+use Rattle.euler_operators.specs.Items.{count, IsIn}
+use Rattle.euler_operators.specs.Rings.{canonical, successor, rest}
+use Rattle.euler_operators.specs.Rings as rings
+use Rattle.euler_operators.specs.Edits.{insert_before}
+use Rattle.euler_operators.proofs.Edits.{count-insert_before}
+use Rattle.euler_operators.proofs.Rings.{IsIn_successor}
+use Rattle.euler_operators.proofs.Rotations.{count-canonical}
+use Rattle.euler_operators.proofs.Lists.{tick_same, tick_other}
+use Rattle.euler_operators.specs.HalfEdge.{edge_of, plus, minus}
+use Rattle.euler_operators.specs.Table as table
+use Rattle.euler_operators.specs.Table.{Table, tables, same_table, get-map_rows}
+use Rattle.euler_operators.specs.Model.{Model, LoopContent, lone, cycle, LoopRow, EdgeRow, items_of, holds, tail, tail_in, loop_of, content, face_of, cycle_of, after, arc, round}
+use Rattle.euler_operators.specs.Sound.{Sound, Has, HasHalf}
+use Rattle.euler_operators.proofs.Tables.{map_one}
+use Rattle.euler_operators.proofs.Models.{content_row, tail_row, row_of, not_held, other_loop, in-holds, holds-none, none-holds, cycle_there, cycle_sound}
 use Rattle.shapes.specs.Rewriting.{rewritten, rewritten_row}
 use Rattle.euler_operators.specs.Effect.{mev_at, with_before, with_tails, edge_row}
 use Rattle.euler_laws.proofs.shared.Rows.{where_held_none, where_held_there, one_row}
 use Rattle.shapes.specs.split.Crossings.{doubled, edge_cut}
-use Rattle.boundary_model.proofs.Halves.{plus_row, minus_row}
+use Rattle.euler_operators.proofs.Halves.{plus_row, minus_row}
 use Rattle.euler_laws.proofs.shared.Undo.{mate_plus}
 use Rattle.split_drawing_laws.proofs.crossings.Doubled.{doubled_none, doubled_plus, doubled_minus, put_between}
 

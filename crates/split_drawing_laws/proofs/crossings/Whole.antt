@@ -1,13 +1,13 @@
 -- All edges of a solid that cross a plane cut: from the first conditions of a split to the model.
 use Rattle.std.proofs.Common.{◌≡◌, ℕ, ◌≤◌, Bool, true, false, nat_eq, [], None, is_some, unwrap_or, refl, sym, ap, ◌∙◌, arith, inl, inr}
-use Rattle.lattice.specs.declared.Plane.{Plane}
-use Rattle.lattice.specs.Vectors.{are_opposite}
-use Rattle.cyclic_list.specs.Items.{count, IsIn}
-use Rattle.boundary_model.specs.HalfEdge.{plus, minus}
-use Rattle.boundary_model.specs.Table as table
-use Rattle.boundary_model.specs.Model.{Model, tail, loop_of, face_of, solid_of, no_face}
-use Rattle.boundary_model.specs.Sound.{Sound, Has, HasHalf}
-use Rattle.boundary_model.proofs.Halves.{plus_row, minus_row}
+use Rattle.euler_operators.specs.declared.Plane.{Plane}
+use Rattle.euler_operators.specs.Vectors.{are_opposite}
+use Rattle.euler_operators.specs.Items.{count, IsIn}
+use Rattle.euler_operators.specs.HalfEdge.{plus, minus}
+use Rattle.euler_operators.specs.Table as table
+use Rattle.euler_operators.specs.Model.{Model, tail, loop_of, face_of, solid_of, no_face}
+use Rattle.euler_operators.specs.Sound.{Sound, Has, HasHalf}
+use Rattle.euler_operators.proofs.Halves.{plus_row, minus_row}
 use Rattle.euler_operators.specs.Conditions.{first_refusal, face_at, lists}
 use Rattle.euler_laws.specs.Laws.{AreAccepted, effects}
 use Rattle.euler_laws.proofs.shared.Goes.{all_hold, equal, equals}

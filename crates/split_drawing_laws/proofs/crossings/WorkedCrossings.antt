@@ -1,6 +1,6 @@
 -- Worked examples of the operators that cut crossing edges, computed.
 use Rattle.std.specs.Prelude.{◌≡◌, pos, negsuc, [], ◌∷◌, refl}
-use Rattle.boundary_model.specs.declared.Corner.TheVariants.{At}
+use Rattle.euler_operators.specs.declared.Corner.TheVariants.{At}
 use Rattle.euler_operators.specs.declared.Op.TheVariants.{Mev}
 use Rattle.euler_operators.proofs.WorkedScripts.{at, after_run, plus, minus}
 use Rattle.shapes.specs.split.Crossings.{with_crossings}

@@ -2,17 +2,17 @@
 use Rattle.std.specs.Prelude.{flat_map}
 use Rattle.std.proofs.Common.{◌≡◌, ◌≢◌, ℕ, true, cond, not, nat_eq, ◌&&◌, List, [], ◌∷◌, unwrap_or, refl, sym, ap, ◌∙◌, ◌⊎◌, inl, inr}
 use Rattle.std.proofs.lemmas.Bool.Decides.{eqb_tells}
-use Rattle.lattice.specs.declared.Point.{Point}
-use Rattle.lattice.specs.declared.Plane.{Plane}
-use Rattle.lattice.specs.Vectors.{origin, moved, cross, is_on}
-use Rattle.cyclic_list.specs.Items.{IsIn}
-use Rattle.cyclic_list.specs.Rings.{rotate_to, canonical}
-use Rattle.cyclic_list.proofs.Rotations.{count-canonical}
-use Rattle.boundary_model.specs.HalfEdge.{mate, edge_of, plus, minus}
-use Rattle.boundary_model.specs.Model.{Model, LoopContent, lone, cycle, no_face, items_of, tail, content, outer, point_of, rings_of}
-use Rattle.boundary_model.specs.Sound.{HasHalf}
-use Rattle.boundary_model.specs.Table as table
-use Rattle.boundary_model.proofs.Halves.{plus_row, same_edge, edge_of-mate}
+use Rattle.euler_operators.specs.declared.Point.{Point}
+use Rattle.euler_operators.specs.declared.Plane.{Plane}
+use Rattle.euler_operators.specs.Vectors.{origin, moved, cross, is_on}
+use Rattle.euler_operators.specs.Items.{IsIn}
+use Rattle.euler_operators.specs.Rings.{rotate_to, canonical}
+use Rattle.euler_operators.proofs.Rotations.{count-canonical}
+use Rattle.euler_operators.specs.HalfEdge.{mate, edge_of, plus, minus}
+use Rattle.euler_operators.specs.Model.{Model, LoopContent, lone, cycle, no_face, items_of, tail, content, outer, point_of, rings_of}
+use Rattle.euler_operators.specs.Sound.{HasHalf}
+use Rattle.euler_operators.specs.Table as table
+use Rattle.euler_operators.proofs.Halves.{plus_row, same_edge, edge_of-mate}
 use Rattle.euler_laws.proofs.shared.Fans.{half_mate}
 use Rattle.euler_laws.proofs.shared.Same.{Rewritten, content-new}
 use Rattle.euler_laws.proofs.shared.Undo.{mate_plus, mate_minus}

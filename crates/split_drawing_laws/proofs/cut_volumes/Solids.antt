@@ -2,12 +2,12 @@
 use Rattle.std.proofs.Common.{◌≡◌, ◌≢◌, ℕ, ◌≤◌, ℤ, pos, ◌+ℤ◌, nat_eq, List, [], ◌∷◌, ◌++◌, Some, is_some, unwrap_or, refl, sym, ap, ◌∙◌, arith, inl, inr}
 use Rattle.std.proofs.lemmas.Int.{ints}
 use Rattle.std.proofs.lemmas.Bool.Decides.{eqb_tells}
-use Rattle.lattice.specs.Vectors.{dot}
-use Rattle.cyclic_list.specs.Items.{count, tick, IsIn, SameItems, before, after}
-use Rattle.cyclic_list.proofs.Lists.{count-append, tick_same, tick_other, split_at, IsIn_or_not}
-use Rattle.boundary_model.specs.Table as table
-use Rattle.boundary_model.specs.Model.{Model, FaceRow, no_face, solid_of, faces_of}
-use Rattle.boundary_model.specs.Sound.{Has}
+use Rattle.euler_operators.specs.Vectors.{dot}
+use Rattle.euler_operators.specs.Items.{count, tick, IsIn, SameItems, before, after}
+use Rattle.euler_operators.proofs.Lists.{count-append, tick_same, tick_other, split_at, IsIn_or_not}
+use Rattle.euler_operators.specs.Table as table
+use Rattle.euler_operators.specs.Model.{Model, FaceRow, no_face, solid_of, faces_of}
+use Rattle.euler_operators.specs.Sound.{Has}
 use Rattle.euler_laws.proofs.shared.Goes.{equal, equals}
 use Rattle.euler_laws.proofs.shared.Listed.{all_where-rises}
 use Rattle.euler_laws.proofs.shared.Rows.{face_there, no_items}

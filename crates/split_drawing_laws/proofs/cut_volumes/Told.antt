@@ -1,17 +1,17 @@
 -- Faces on one plane: what they add to the six volumes, told from any corner.
 use Rattle.std.proofs.Common.{◌≡◌, ◌≢◌, ℕ, ◌+ℤ◌, neg_ℤ, true, not, nat_eq, ◌&&◌, List, [], ◌∷◌, unwrap_or, refl, sym, ap, ◌∙◌, subst, inl, inr}
 use Rattle.std.proofs.lemmas.Bool.Decides.{eqb_tells}
-use Rattle.lattice.specs.declared.Plane.{Plane}
-use Rattle.lattice.specs.Vectors.{origin, dot, same_point, direction}
-use Rattle.cyclic_list.specs.Items.{IsIn}
-use Rattle.boundary_model.specs.Table as table
-use Rattle.boundary_model.specs.Model.{Model, no_face, solid_of, faces_of}
-use Rattle.boundary_model.specs.Sound.{Sound, Has}
+use Rattle.euler_operators.specs.declared.Plane.{Plane}
+use Rattle.euler_operators.specs.Vectors.{origin, dot, same_point, direction}
+use Rattle.euler_operators.specs.Items.{IsIn}
+use Rattle.euler_operators.specs.Table as table
+use Rattle.euler_operators.specs.Model.{Model, no_face, solid_of, faces_of}
+use Rattle.euler_operators.specs.Sound.{Sound, Has}
 use Rattle.shapes.specs.Faces.{corners}
 use Rattle.shapes.specs.Measure.{normal, anchor, plane_through, plane_of, is_flat, volume_in, six_volume}
 use Rattle.solid_measure_laws.proofs.FlatFaces.{and_parts, are_on, anchor_on, plane_told}
 use Rattle.solid_measure_laws.proofs.Paths.{first_in, rest_in}
-use Rattle.lattice.proofs.Vectors.{dot_turned}
+use Rattle.euler_operators.proofs.Vectors.{dot_turned}
 
 -- N is M with its faces, their normals, the planes on which their corners lie, and the anchors of the faces of other solids than s
 pub record Measured (M N : Model) (s : ℕ) : Type 0 where

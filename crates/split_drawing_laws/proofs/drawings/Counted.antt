@@ -1,10 +1,10 @@
 -- What is asked of a drawing: fresh numbers, how many pairs there are, and that no face is drawn twice.
 use Rattle.std.proofs.Common.{◌≡◌, ℕ, suc, ◌+◌, ◌/◌, true, false, cond, nat_eq, List, [], ◌∷◌, length, refl, ap, ◌∙◌, arith}
 use Rattle.std.specs.Prelude.{map}
-use Rattle.lattice.specs.declared.Plane.{Plane}
-use Rattle.lattice.specs.Vectors.{lex_less}
-use Rattle.cyclic_list.specs.Items.{IsApart}
-use Rattle.boundary_model.specs.Model.{Model, faces_of}
+use Rattle.euler_operators.specs.declared.Plane.{Plane}
+use Rattle.euler_operators.specs.Vectors.{lex_less}
+use Rattle.euler_operators.specs.Items.{IsApart}
+use Rattle.euler_operators.specs.Model.{Model, faces_of}
 use Rattle.euler_laws.proofs.shared.Listed.{all_where-rises}
 use Rattle.shapes.proofs.fresh.Rows.{none_above}
 use Rattle.solid_walks.proofs.Rising.{counted_once}

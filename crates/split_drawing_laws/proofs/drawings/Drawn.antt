@@ -1,17 +1,17 @@
 -- What is drawn in a face is what the operators make, and none of them is refused.
 use Rattle.std.proofs.Common.{◌≡◌, ◌≢◌, ℕ, cond, List, ◌∷◌, None, is_some, IsTrue, refl, sym, ap, ◌∙◌, subst, arith}
 use Rattle.std.proofs.lemmas.Bool.Decides.{nat_tests}
-use Rattle.cyclic_list.specs.Rings.{rotate_to}
-use Rattle.cyclic_list.specs.Operators.{mef_old, mef_new, mekr_ring}
-use Rattle.boundary_model.specs.declared.HalfEdge.{HalfEdge}
-use Rattle.boundary_model.specs.declared.Corner.TheVariants.{At}
-use Rattle.boundary_model.specs.HalfEdge.{edge_of, plus, minus, code, half}
-use Rattle.boundary_model.specs.Table as table
-use Rattle.boundary_model.specs.Table.{Table, tables, same_table}
-use Rattle.boundary_model.specs.Model.{Model, LoopRow, cycle, tail, loop_of, cycle_of, solid_of, outer, is_number}
-use Rattle.boundary_model.specs.Sound.{Sound, HasHalf}
-use Rattle.boundary_model.proofs.Halves.{plus_row, code-half, edge_of-code}
-use Rattle.boundary_model.proofs.Models.{row_of}
+use Rattle.euler_operators.specs.Rings.{rotate_to}
+use Rattle.euler_operators.specs.Operators.{mef_old, mef_new, mekr_ring}
+use Rattle.euler_operators.specs.declared.HalfEdge.{HalfEdge}
+use Rattle.euler_operators.specs.declared.Corner.TheVariants.{At}
+use Rattle.euler_operators.specs.HalfEdge.{edge_of, plus, minus, code, half}
+use Rattle.euler_operators.specs.Table as table
+use Rattle.euler_operators.specs.Table.{Table, tables, same_table}
+use Rattle.euler_operators.specs.Model.{Model, LoopRow, cycle, tail, loop_of, cycle_of, solid_of, outer, is_number}
+use Rattle.euler_operators.specs.Sound.{Sound, HasHalf}
+use Rattle.euler_operators.proofs.Halves.{plus_row, code-half, edge_of-code}
+use Rattle.euler_operators.proofs.Models.{row_of}
 use Rattle.euler_operators.specs.Conditions.{first_false, face_at}
 use Rattle.euler_operators.specs.Effect.{effect, mef, mekr, ring_in, edge_row}
 use Rattle.euler_operators.specs.declared.Op.TheVariants.{RingIn}

@@ -1,6 +1,6 @@
 -- Operators that lead from one model to another.
 use Rattle.std.proofs.Common.{◌≡◌, List, [], ◌∷◌, ◌++◌, None, refl, sym, ap, ◌∙◌, subst}
-use Rattle.boundary_model.specs.Model.{Model}
+use Rattle.euler_operators.specs.Model.{Model}
 use Rattle.euler_operators.specs.declared.Op.{Op}
 use Rattle.euler_operators.specs.Conditions.{first_false}
 use Rattle.euler_operators.specs.Effect.{effect}

@@ -1,18 +1,18 @@
 -- What stays as an edge is drawn, as two loops are joined, and as a ring is moved.
 use Rattle.std.proofs.Common.{◌≡◌, ◌≢◌, ℕ, ◌+◌, ◌≤◌, ◌<◌, List, ◌∷◌, ◌++◌, Some, None, is_some, unwrap_or, refl, sym, ap, ◌∙◌, subst, arith, ◌⊎◌, inl, inr, true≢false}
 use Rattle.std.proofs.lemmas.Bool.Decides.{nat_tests, eqb_tells}
-use Rattle.cyclic_list.specs.Items.{count, IsIn}
-use Rattle.cyclic_list.specs.Rings.{rotate_to}
-use Rattle.cyclic_list.specs.Operators.{mef_old, mef_new, mekr_ring}
-use Rattle.cyclic_list.proofs.Lists.{count-append, IsIn_or_not}
-use Rattle.cyclic_list.proofs.Rotations.{count-canonical, count-rotate_to}
-use Rattle.boundary_model.specs.HalfEdge.{edge_of, is_first, plus, minus}
-use Rattle.boundary_model.specs.Table as table
-use Rattle.boundary_model.specs.Table.{Table, tables}
-use Rattle.boundary_model.specs.Model.{Model, cycle, no_edge, no_loop, no_face, items_of, holds, tail, tail_in, loop_of, content, face_of, solid_of, cycle_of}
-use Rattle.boundary_model.specs.Sound.{Sound, Has, HasHalf}
-use Rattle.boundary_model.proofs.Halves.{plus_row, minus_row}
-use Rattle.boundary_model.proofs.Models.{content_row, face_row, tail_row, in-holds, cycle_there, row_of}
+use Rattle.euler_operators.specs.Items.{count, IsIn}
+use Rattle.euler_operators.specs.Rings.{rotate_to}
+use Rattle.euler_operators.specs.Operators.{mef_old, mef_new, mekr_ring}
+use Rattle.euler_operators.proofs.Lists.{count-append, IsIn_or_not}
+use Rattle.euler_operators.proofs.Rotations.{count-canonical, count-rotate_to}
+use Rattle.euler_operators.specs.HalfEdge.{edge_of, is_first, plus, minus}
+use Rattle.euler_operators.specs.Table as table
+use Rattle.euler_operators.specs.Table.{Table, tables}
+use Rattle.euler_operators.specs.Model.{Model, cycle, no_edge, no_loop, no_face, items_of, holds, tail, tail_in, loop_of, content, face_of, solid_of, cycle_of}
+use Rattle.euler_operators.specs.Sound.{Sound, Has, HasHalf}
+use Rattle.euler_operators.proofs.Halves.{plus_row, minus_row}
+use Rattle.euler_operators.proofs.Models.{content_row, face_row, tail_row, in-holds, cycle_there, row_of}
 use Rattle.euler_operators.specs.Conditions.{face_at}
 use Rattle.euler_laws.proofs.shared.Rows.{count-halves}
 use Rattle.euler_laws.proofs.mef.MefUndo.{count-mef_old, count-mef_new}

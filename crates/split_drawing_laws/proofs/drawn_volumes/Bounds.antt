@@ -1,15 +1,15 @@
 -- Faces by their half-edges: which half-edges bound a face, and when all corners of a face lie on a plane.
 use Rattle.std.proofs.Common.{◌≡◌, ◌≢◌, ℕ, Bool, true, false, not, nat_eq, ◌&&◌, List, [], ◌∷◌, Option, Some, None, is_some, unwrap_or, refl, sym, ap, ◌∙◌, subst, arith, inl, inr, true≢false}
 use Rattle.std.proofs.lemmas.Bool.Decides.{eqb_tells}
-use Rattle.lattice.specs.declared.Plane.{Plane}
-use Rattle.lattice.specs.Vectors.{moved, cross, is_on}
-use Rattle.cyclic_list.specs.Items.{count, IsIn}
-use Rattle.cyclic_list.proofs.Lists.{count-append, tick_other, IsIn_or_not}
-use Rattle.boundary_model.specs.HalfEdge.{mate}
-use Rattle.boundary_model.specs.Table as table
-use Rattle.boundary_model.specs.Model.{Model, LoopContent, LoopRow, lone, cycle, no_loop, no_point, items_of, tail, content, outer, point_of, loop_of, face_of}
-use Rattle.boundary_model.specs.Sound.{Sound, Has, HasHalf}
-use Rattle.boundary_model.proofs.Models.{cycle_there, face_row}
+use Rattle.euler_operators.specs.declared.Plane.{Plane}
+use Rattle.euler_operators.specs.Vectors.{moved, cross, is_on}
+use Rattle.euler_operators.specs.Items.{count, IsIn}
+use Rattle.euler_operators.proofs.Lists.{count-append, tick_other, IsIn_or_not}
+use Rattle.euler_operators.specs.HalfEdge.{mate}
+use Rattle.euler_operators.specs.Table as table
+use Rattle.euler_operators.specs.Model.{Model, LoopContent, LoopRow, lone, cycle, no_loop, no_point, items_of, tail, content, outer, point_of, loop_of, face_of}
+use Rattle.euler_operators.specs.Sound.{Sound, Has, HasHalf}
+use Rattle.euler_operators.proofs.Models.{cycle_there, face_row}
 use Rattle.euler_operators.specs.Conditions.{face_at}
 use Rattle.euler_laws.proofs.shared.Fans.{half_mate}
 use Rattle.euler_laws.proofs.shared.Goes.{equal}

@@ -1,16 +1,16 @@
 -- An edge drawn between two half-edges of a loop: the two faces lie on the planes of the one that was, and their normals sum to its.
 use Rattle.std.proofs.Common.{◌≡◌, ◌≢◌, ℕ, ◌+◌, true, ◌∷◌, ◌++◌, Some, is_some, unwrap_or, sym, ap, ◌∙◌, subst, arith, ◌⊎◌, inl, inr, true≢false}
 use Rattle.std.proofs.lemmas.Bool.Decides.{eqb_tells}
-use Rattle.lattice.specs.declared.Plane.{Plane}
-use Rattle.lattice.specs.Vectors.{moved, is_on}
-use Rattle.cyclic_list.specs.Items.{count, SameItems}
-use Rattle.cyclic_list.proofs.Lists.{tick_same}
-use Rattle.boundary_model.specs.HalfEdge.{plus, minus}
-use Rattle.boundary_model.specs.Table as table
-use Rattle.boundary_model.specs.Model.{Model, no_face, lone, tail, content, outer, point_of, loop_of, face_of, solid_of, cycle_of}
-use Rattle.boundary_model.specs.Sound.{Sound, Has, HasHalf}
-use Rattle.boundary_model.proofs.Halves.{plus_row, minus_row}
-use Rattle.boundary_model.proofs.Models.{content_row, face_row}
+use Rattle.euler_operators.specs.declared.Plane.{Plane}
+use Rattle.euler_operators.specs.Vectors.{moved, is_on}
+use Rattle.euler_operators.specs.Items.{count, SameItems}
+use Rattle.euler_operators.proofs.Lists.{tick_same}
+use Rattle.euler_operators.specs.HalfEdge.{plus, minus}
+use Rattle.euler_operators.specs.Table as table
+use Rattle.euler_operators.specs.Model.{Model, no_face, lone, tail, content, outer, point_of, loop_of, face_of, solid_of, cycle_of}
+use Rattle.euler_operators.specs.Sound.{Sound, Has, HasHalf}
+use Rattle.euler_operators.proofs.Halves.{plus_row, minus_row}
+use Rattle.euler_operators.proofs.Models.{content_row, face_row}
 use Rattle.euler_operators.specs.Conditions.{face_at}
 use Rattle.euler_laws.proofs.mef.MefUndo.{count-mef_old, count-mef_new}
 use Rattle.shapes.proofs.fresh.Rows.{get-put_here, get-put_other}

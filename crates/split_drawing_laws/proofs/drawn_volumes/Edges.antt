@@ -1,15 +1,15 @@
 -- A model with one edge more: its half-edges, and rows that stay.
 use Rattle.std.proofs.Common.{◌≡◌, ◌≢◌, ℕ, ◌+◌, Bool, true, false, List, ◌∷◌, ◌++◌, Some, is_some, unwrap_or, refl, sym, ap, ◌∙◌, arith, ◌⊎◌, inl, inr, true≢false}
 use Rattle.std.proofs.lemmas.Bool.Decides.{eqb_tells}
-use Rattle.lattice.specs.declared.Point.{Point}
-use Rattle.lattice.specs.Vectors.{moved, cross}
-use Rattle.cyclic_list.specs.Items.{count, tick}
-use Rattle.cyclic_list.proofs.Lists.{count-append, tick_same, tick_other}
-use Rattle.boundary_model.specs.HalfEdge.{mate, edge_of, plus, minus}
-use Rattle.boundary_model.specs.Table as table
-use Rattle.boundary_model.specs.Model.{Model, EdgeRow, no_loop, no_face, content, face_of, outer, has_half}
-use Rattle.boundary_model.specs.Sound.{HasHalf}
-use Rattle.boundary_model.proofs.Halves.{plus_row, minus_row, same_edge}
+use Rattle.euler_operators.specs.declared.Point.{Point}
+use Rattle.euler_operators.specs.Vectors.{moved, cross}
+use Rattle.euler_operators.specs.Items.{count, tick}
+use Rattle.euler_operators.proofs.Lists.{count-append, tick_same, tick_other}
+use Rattle.euler_operators.specs.HalfEdge.{mate, edge_of, plus, minus}
+use Rattle.euler_operators.specs.Table as table
+use Rattle.euler_operators.specs.Model.{Model, EdgeRow, no_loop, no_face, content, face_of, outer, has_half}
+use Rattle.euler_operators.specs.Sound.{HasHalf}
+use Rattle.euler_operators.proofs.Halves.{plus_row, minus_row, same_edge}
 use Rattle.euler_laws.proofs.shared.Undo.{mate_plus}
 use Rattle.shapes.proofs.fresh.Rows.{get-put_here, get-put_other}
 use Rattle.shapes.specs.Faces.{start, finish, boundary}

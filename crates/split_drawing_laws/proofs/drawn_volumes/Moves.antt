@@ -1,14 +1,14 @@
 -- A ring given to another face: the other faces keep what they measure, and the normals of the two faces sum to what they did.
 use Rattle.std.proofs.Common.{◌≡◌, ◌≢◌, ℕ, ◌++◌, unwrap_or, refl, sym, ap, ◌∙◌, subst, arith, inl, inr}
 use Rattle.std.proofs.lemmas.Bool.Decides.{eqb_tells}
-use Rattle.lattice.specs.declared.Plane.{Plane}
-use Rattle.lattice.specs.Vectors.{moved, is_on}
-use Rattle.cyclic_list.specs.Items.{count, SameItems}
-use Rattle.cyclic_list.proofs.Lists.{count-append}
-use Rattle.boundary_model.specs.HalfEdge.{edge_of, is_first}
-use Rattle.boundary_model.specs.Table as table
-use Rattle.boundary_model.specs.Model.{Model, no_edge, holds, tail, tail_in, loop_of, face_of, outer}
-use Rattle.boundary_model.specs.Sound.{Sound, Has, HasHalf}
+use Rattle.euler_operators.specs.declared.Plane.{Plane}
+use Rattle.euler_operators.specs.Vectors.{moved, is_on}
+use Rattle.euler_operators.specs.Items.{count, SameItems}
+use Rattle.euler_operators.proofs.Lists.{count-append}
+use Rattle.euler_operators.specs.HalfEdge.{edge_of, is_first}
+use Rattle.euler_operators.specs.Table as table
+use Rattle.euler_operators.specs.Model.{Model, no_edge, holds, tail, tail_in, loop_of, face_of, outer}
+use Rattle.euler_operators.specs.Sound.{Sound, Has, HasHalf}
 use Rattle.euler_operators.specs.Conditions.{face_at}
 use Rattle.euler_operators.specs.Effect.{ring_in}
 use Rattle.euler_laws.proofs.shared.Faces.{SameWalks}

@@ -2,14 +2,14 @@
 use Rattle.std.proofs.Common.{◌≡◌, ◌≢◌, ℕ, ℤ, ◌+ℤ◌, ◌-ℤ◌, true, not, cond, nat_eq, ◌&&◌, ◌∷◌, is_some, refl, sym, ap, ◌∙◌, subst, arith, inl, inr}
 use Rattle.std.proofs.lemmas.Int.{ints}
 use Rattle.std.proofs.lemmas.Bool.Decides.{eqb_tells}
-use Rattle.lattice.specs.declared.Point.{Point}
-use Rattle.lattice.specs.declared.Plane.{Plane}
-use Rattle.lattice.specs.Vectors.{origin, moved, dot, same_point, is_on, direction}
-use Rattle.cyclic_list.specs.Items.{count, tick, SameItems}
-use Rattle.cyclic_list.proofs.Lists.{tick_same, tick_other}
-use Rattle.boundary_model.specs.Table as table
-use Rattle.boundary_model.specs.Model.{Model, solid_of, faces_of}
-use Rattle.boundary_model.specs.Sound.{Sound, Has}
+use Rattle.euler_operators.specs.declared.Point.{Point}
+use Rattle.euler_operators.specs.declared.Plane.{Plane}
+use Rattle.euler_operators.specs.Vectors.{origin, moved, dot, same_point, is_on, direction}
+use Rattle.euler_operators.specs.Items.{count, tick, SameItems}
+use Rattle.euler_operators.proofs.Lists.{tick_same, tick_other}
+use Rattle.euler_operators.specs.Table as table
+use Rattle.euler_operators.specs.Model.{Model, solid_of, faces_of}
+use Rattle.euler_operators.specs.Sound.{Sound, Has}
 use Rattle.euler_operators.specs.Conditions.{face_at}
 use Rattle.euler_operators.specs.Effect.{ring_in}
 use Rattle.euler_laws.proofs.shared.Goes.{equals, differs}
@@ -18,7 +18,7 @@ use Rattle.solid_measure_laws.proofs.FlatFaces.{anchor_on, told_anywhere}
 use Rattle.shapes.specs.split.Drawing.{face_drawn, loops_joined}
 use Rattle.split_drawing_laws.proofs.drawings.Drawn.{CanDraw, CanJoin}
 use Rattle.split_drawing_laws.proofs.drawings.Stays.{has_face}
-use Rattle.lattice.proofs.Vectors.{dot_moved, dot_turned}
+use Rattle.euler_operators.proofs.Vectors.{dot_moved, dot_turned}
 use Rattle.split_drawing_laws.proofs.drawn_volumes.Bounds.{OnFace, face_on}
 use Rattle.split_drawing_laws.proofs.drawn_volumes.Draws as draws
 use Rattle.split_drawing_laws.proofs.drawn_volumes.Joins as joins

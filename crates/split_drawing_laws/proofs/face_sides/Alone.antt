@@ -1,16 +1,16 @@
 -- Where a face has no ring, no face that is cut off it has one.
 use Rattle.std.proofs.Common.{◌≡◌, ◌≢◌, ℕ, cond, List, [], ◌∷◌, ◌++◌, is_some, sym, ap, ◌∙◌, subst, arith, ne_eqb, inl, inr}
 use Rattle.std.proofs.lemmas.Bool.Decides.{eqb_tells}
-use Rattle.cyclic_list.specs.Items.{IsIn, before}
-use Rattle.cyclic_list.specs.Rings.{rotate_to, rest, upto, onward}
-use Rattle.cyclic_list.specs.Operators.{mef_old, mef_new}
-use Rattle.cyclic_list.proofs.Lists.{count-append, tick_same, from_is}
-use Rattle.cyclic_list.proofs.Rotations.{rotate_to_is, count-rotate_to, count-canonical}
-use Rattle.boundary_model.specs.HalfEdge.{plus, minus}
-use Rattle.boundary_model.specs.Table as table
-use Rattle.boundary_model.specs.Model.{Model, items_of, content, tail, loop_of, face_of, outer, cycle_of}
-use Rattle.boundary_model.specs.Sound.{Has, HasHalf}
-use Rattle.boundary_model.proofs.Models.{content_row, cycle_there}
+use Rattle.euler_operators.specs.Items.{IsIn, before}
+use Rattle.euler_operators.specs.Rings.{rotate_to, rest, upto, onward}
+use Rattle.euler_operators.specs.Operators.{mef_old, mef_new}
+use Rattle.euler_operators.proofs.Lists.{count-append, tick_same, from_is}
+use Rattle.euler_operators.proofs.Rotations.{rotate_to_is, count-rotate_to, count-canonical}
+use Rattle.euler_operators.specs.HalfEdge.{plus, minus}
+use Rattle.euler_operators.specs.Table as table
+use Rattle.euler_operators.specs.Model.{Model, items_of, content, tail, loop_of, face_of, outer, cycle_of}
+use Rattle.euler_operators.specs.Sound.{Has, HasHalf}
+use Rattle.euler_operators.proofs.Models.{content_row, cycle_there}
 use Rattle.euler_operators.specs.Conditions.{face_at}
 use Rattle.shapes.specs.split.Drawing.{face_drawn}
 use Rattle.split_drawing_laws.specs.drawings.DrawnIn.{Stays}

@@ -3,15 +3,15 @@ use Rattle.std.specs.Prelude.{map}
 use Rattle.std.specs.List.{list_all}
 use Rattle.std.proofs.Common.{◌≡◌, ◌≢◌, ℕ, Bool, true, false, not, nat_eq, ◌&&◌, ◌||◌, List, [], ◌∷◌, length, is_some, refl, sym, ap, ◌∙◌, subst, arith, inl, inr, true≢false}
 use Rattle.std.proofs.lemmas.Bool.Decides.{eqb_tells}
-use Rattle.lattice.specs.declared.Plane.{Plane}
-use Rattle.lattice.specs.Vectors.{is_above}
-use Rattle.cyclic_list.specs.Items.{count, IsIn}
-use Rattle.cyclic_list.proofs.Lists.{tick_same, tick_other}
-use Rattle.boundary_model.specs.Table as table
-use Rattle.boundary_model.specs.Model.{Model, LoopContent, lone, cycle, items_of, content, tail, loop_of, face_of, solid_of, outer, after, cycle_of, point_of, faces_of, rings_of}
-use Rattle.boundary_model.specs.Sound.{Sound, Has, HasHalf}
-use Rattle.boundary_model.proofs.Models.{in-holds, content_cycle, cycle_there}
-use Rattle.boundary_model.proofs.Tables.{zero_first_where}
+use Rattle.euler_operators.specs.declared.Plane.{Plane}
+use Rattle.euler_operators.specs.Vectors.{is_above}
+use Rattle.euler_operators.specs.Items.{count, IsIn}
+use Rattle.euler_operators.proofs.Lists.{tick_same, tick_other}
+use Rattle.euler_operators.specs.Table as table
+use Rattle.euler_operators.specs.Model.{Model, LoopContent, lone, cycle, items_of, content, tail, loop_of, face_of, solid_of, outer, after, cycle_of, point_of, faces_of, rings_of}
+use Rattle.euler_operators.specs.Sound.{Sound, Has, HasHalf}
+use Rattle.euler_operators.proofs.Models.{in-holds, content_cycle, cycle_there}
+use Rattle.euler_operators.proofs.Tables.{zero_first_where}
 use Rattle.euler_operators.specs.Conditions.{face_at, is_lone, lists}
 use Rattle.euler_laws.proofs.shared.Fans.{half_after, loop_after}
 use Rattle.euler_laws.proofs.shared.Goes.{all_hold, equal, equals, no_zero}

@@ -3,11 +3,11 @@ use Rattle.std.proofs.Common.{◌≡◌, ◌≢◌, ℕ, Bool, true, false, cond
 use Rattle.std.specs.Prelude.{fold}
 use Rattle.std.specs.Option.{option_map}
 use Rattle.std.proofs.lemmas.Bool.Decides.{nat_tests, eqb_tells}
-use Rattle.boundary_model.specs.Table as table
-use Rattle.boundary_model.specs.Table.{Table, get-map_rows}
-use Rattle.boundary_model.specs.Model.{Model, LoopRow, FaceRow, no_face, no_loop, loop_of, face_of, solid_of, outer, content}
-use Rattle.boundary_model.specs.Sound.{Has}
-use Rattle.boundary_model.proofs.Models.{face_row}
+use Rattle.euler_operators.specs.Table as table
+use Rattle.euler_operators.specs.Table.{Table, get-map_rows}
+use Rattle.euler_operators.specs.Model.{Model, LoopRow, FaceRow, no_face, no_loop, loop_of, face_of, solid_of, outer, content}
+use Rattle.euler_operators.specs.Sound.{Has}
+use Rattle.euler_operators.proofs.Models.{face_row}
 use Rattle.euler_operators.specs.Conditions.{face_at, lists}
 use Rattle.euler_operators.specs.Effect.{loop_to_face}
 use Rattle.shapes.proofs.fresh.Rows.{get-put_here, get-put_other}

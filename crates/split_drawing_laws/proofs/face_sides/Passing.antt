@@ -1,9 +1,9 @@
 -- The two passes over the pairs of a face: what stays beside it, and that it stays without rings.
 use Rattle.std.proofs.Common.{◌≡◌, ℕ, ◌+◌, Bool, true, false, cond, List, [], ◌∷◌, ◌++◌, None, is_some, IsTrue, refl, sym, ap, ◌∙◌, subst, true≢false}
 use Rattle.std.specs.Prelude.{fold}
-use Rattle.boundary_model.specs.Table as table
-use Rattle.boundary_model.specs.Model.{Model, loop_of, is_ring_of, is_number}
-use Rattle.boundary_model.specs.Sound.{Sound, HasHalf}
+use Rattle.euler_operators.specs.Table as table
+use Rattle.euler_operators.specs.Model.{Model, loop_of, is_ring_of, is_number}
+use Rattle.euler_operators.specs.Sound.{Sound, HasHalf}
 use Rattle.euler_operators.specs.Conditions.{face_at}
 use Rattle.euler_laws.proofs.shared.Goes.{free}
 use Rattle.shapes.specs.split.Drawing.{Drawing, loops_joined, in_one_loop, joined_pair, join_next, draw_next}

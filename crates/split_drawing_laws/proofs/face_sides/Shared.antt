@@ -2,10 +2,10 @@
 use Rattle.std.proofs.Common.{◌≡◌, ◌≢◌, ℕ, Bool, true, false, not, nat_eq, ◌&&◌, is_some, refl, sym, ap, ◌∙◌, subst, inl, inr, true≢false}
 use Rattle.std.proofs.lemmas.Bool.Decides.{eqb_tells}
 use Rattle.std.specs.Prelude.{List}
-use Rattle.lattice.specs.declared.Plane.{Plane}
-use Rattle.boundary_model.specs.Table as table
-use Rattle.boundary_model.specs.Model.{Model, content, holds, loop_of, face_of, outer, rings_of, is_ring_of}
-use Rattle.boundary_model.specs.Sound.{Sound, Has, HasHalf, StandsIn}
+use Rattle.euler_operators.specs.declared.Plane.{Plane}
+use Rattle.euler_operators.specs.Table as table
+use Rattle.euler_operators.specs.Model.{Model, content, holds, loop_of, face_of, outer, rings_of, is_ring_of}
+use Rattle.euler_operators.specs.Sound.{Sound, Has, HasHalf, StandsIn}
 use Rattle.euler_operators.specs.Conditions.{face_at, lists}
 use Rattle.euler_laws.proofs.shared.Goes.{equals, differs}
 use Rattle.solid_walks.proofs.FaceLoops.{ring_listed}

@@ -2,10 +2,10 @@
 use Rattle.std.specs.Prelude.{map}
 use Rattle.std.proofs.Common.{◌≡◌, ℕ, ◌≤◌, List, [], ◌∷◌, refl, sym, ap, ◌∙◌, subst, arith, inl, inr}
 use Rattle.std.proofs.lemmas.Bool.Decides.{eqb_tells}
-use Rattle.lattice.specs.declared.Plane.{Plane}
-use Rattle.cyclic_list.specs.Items.{count, tick, IsIn, IsApart}
-use Rattle.cyclic_list.proofs.Lists.{count-append, tick_same, tick_other, IsIn_or_not}
-use Rattle.boundary_model.specs.Model.{Model}
+use Rattle.euler_operators.specs.declared.Plane.{Plane}
+use Rattle.euler_operators.specs.Items.{count, tick, IsIn, IsApart}
+use Rattle.euler_operators.proofs.Lists.{count-append, tick_same, tick_other, IsIn_or_not}
+use Rattle.euler_operators.specs.Model.{Model}
 use Rattle.shapes.specs.split.Drawing.{drawn_pairs}
 use Rattle.split_drawing_laws.specs.loop_sides.Parted.{ends, all_ends}
 use Rattle.split_drawing_laws.proofs.pairs.Members.{members}

@@ -1,15 +1,15 @@
 -- What follows what once an edge is cut.
 use Rattle.std.proofs.Common.{◌≡◌, ◌≢◌, ℕ, cond, refl, sym, ap, ◌∙◌, subst, arith, eq-eqb, ne_eqb}
 use Rattle.std.specs.Prelude.{◌==◌}
-use Rattle.lattice.specs.declared.Point.{Point}
-use Rattle.cyclic_list.specs.Edits.{redirect, led_over}
-use Rattle.cyclic_list.specs.Rings.{predecessor}
-use Rattle.cyclic_list.specs.Operators.{after_mev}
-use Rattle.cyclic_list.proofs.Rings.{predecessor-successor}
-use Rattle.boundary_model.specs.HalfEdge.{mate, plus, minus}
-use Rattle.boundary_model.specs.Model.{Model, items_of, loop_of, content, cycle_of, after, before}
-use Rattle.boundary_model.specs.Sound.{Sound, HasHalf}
-use Rattle.boundary_model.proofs.Models.{cycle_there, cycle_sound}
+use Rattle.euler_operators.specs.declared.Point.{Point}
+use Rattle.euler_operators.specs.Edits.{redirect, led_over}
+use Rattle.euler_operators.specs.Rings.{predecessor}
+use Rattle.euler_operators.specs.Operators.{after_mev}
+use Rattle.euler_operators.proofs.Rings.{predecessor-successor}
+use Rattle.euler_operators.specs.HalfEdge.{mate, plus, minus}
+use Rattle.euler_operators.specs.Model.{Model, items_of, loop_of, content, cycle_of, after, before}
+use Rattle.euler_operators.specs.Sound.{Sound, HasHalf}
+use Rattle.euler_operators.proofs.Models.{cycle_there, cycle_sound}
 use Rattle.euler_operators.specs.Effect.{mev_at}
 use Rattle.euler_laws.proofs.shared.Fans.{loop_after}
 use Rattle.euler_laws.proofs.shared.Loops.{after-walks}

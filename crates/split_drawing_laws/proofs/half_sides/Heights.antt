@@ -3,7 +3,7 @@ use Rattle.std.proofs.Common.{◌≡◌, true, false, not, ◌||◌, ℤ, pos, a
 use Rattle.std.specs.Prelude.{int_lt}
 use Rattle.std.specs.Ordering.{int_eq}
 use Rattle.std.proofs.lemmas.Int.{ints}
-use Rattle.lattice.specs.Vectors.{opposite}
+use Rattle.euler_operators.specs.Vectors.{opposite}
 
 -- b is where two half-edges meet: off the plane both lie on one side
 pub side_kept : (a b c : ℤ) → opposite a b ≡ false → opposite b c ≡ false → int_eq b (pos 0) ≡ false → (int_lt (pos 0) b || int_lt (pos 0) c) ≡ (int_lt (pos 0) a || int_lt (pos 0) b)

@@ -1,14 +1,14 @@
 -- The edges of a model with some edges cut: the new ones, and what follows what.
 use Rattle.std.proofs.Common.{◌≡◌, ◌≢◌, ℕ, ◌+◌, List, [], ◌∷◌, None, is_some, refl, sym, ap, ◌∙◌, subst, arith, ◌⊎◌, inl, inr, true≢false}
 use Rattle.std.proofs.lemmas.Bool.Decides.{eqb_tells}
-use Rattle.lattice.specs.declared.Plane.{Plane}
-use Rattle.cyclic_list.specs.Items.{count, tick, IsIn}
-use Rattle.cyclic_list.proofs.Lists.{tick_same, tick_other}
-use Rattle.boundary_model.specs.HalfEdge.{edge_of, plus, minus}
-use Rattle.boundary_model.specs.Table as table
-use Rattle.boundary_model.specs.Model.{Model, tail, after}
-use Rattle.boundary_model.specs.Sound.{Sound, Has, HasHalf}
-use Rattle.boundary_model.proofs.Halves.{plus_row, minus_row}
+use Rattle.euler_operators.specs.declared.Plane.{Plane}
+use Rattle.euler_operators.specs.Items.{count, tick, IsIn}
+use Rattle.euler_operators.proofs.Lists.{tick_same, tick_other}
+use Rattle.euler_operators.specs.HalfEdge.{edge_of, plus, minus}
+use Rattle.euler_operators.specs.Table as table
+use Rattle.euler_operators.specs.Model.{Model, tail, after}
+use Rattle.euler_operators.specs.Sound.{Sound, Has, HasHalf}
+use Rattle.euler_operators.proofs.Halves.{plus_row, minus_row}
 use Rattle.euler_operators.specs.Conditions.{first_refusal}
 use Rattle.shapes.specs.Fresh.{Growing, growing}
 use Rattle.shapes.specs.split.Sides.{crossing_edges}

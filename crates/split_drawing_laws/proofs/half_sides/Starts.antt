@@ -1,14 +1,14 @@
 -- Where half-edges start once the crossing edges of a solid are cut, and where its loops then turn at the plane.
 use Rattle.std.proofs.Common.{◌≡◌, ℕ, Bool, true, false, cond, ◌&&◌, ◌||◌, List, sym, ap, ◌∙◌, subst, ◌⊎◌, inl, inr, true≢false}
-use Rattle.lattice.specs.declared.Plane.{Plane}
-use Rattle.lattice.specs.Vectors.{height, are_opposite, is_on}
-use Rattle.cyclic_list.specs.Items.{count, IsIn}
-use Rattle.cyclic_list.proofs.Lists.{IsIn_or_not}
-use Rattle.boundary_model.specs.HalfEdge.{mate, edge_of, plus, minus}
-use Rattle.boundary_model.specs.Model.{Model, tail, loop_of, face_of, after, before, point_of}
-use Rattle.boundary_model.specs.Sound.{Sound, Has, HasHalf}
-use Rattle.boundary_model.proofs.Halves.{edge_of-mate}
-use Rattle.boundary_model.proofs.Models.{cycle_there}
+use Rattle.euler_operators.specs.declared.Plane.{Plane}
+use Rattle.euler_operators.specs.Vectors.{height, are_opposite, is_on}
+use Rattle.euler_operators.specs.Items.{count, IsIn}
+use Rattle.euler_operators.proofs.Lists.{IsIn_or_not}
+use Rattle.euler_operators.specs.HalfEdge.{mate, edge_of, plus, minus}
+use Rattle.euler_operators.specs.Model.{Model, tail, loop_of, face_of, after, before, point_of}
+use Rattle.euler_operators.specs.Sound.{Sound, Has, HasHalf}
+use Rattle.euler_operators.proofs.Halves.{edge_of-mate}
+use Rattle.euler_operators.proofs.Models.{cycle_there}
 use Rattle.euler_operators.specs.Conditions.{face_at}
 use Rattle.euler_laws.proofs.shared.Arcs.{halves_of_edge}
 use Rattle.euler_laws.proofs.shared.Fans.{half_after, half_mate, loop_after, back_of}

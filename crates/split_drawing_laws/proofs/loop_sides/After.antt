@@ -1,18 +1,18 @@
 -- What follows what in a model, once an edge is drawn or loops are joined.
 use Rattle.std.proofs.Common.{◌≡◌, ◌≢◌, ℕ, ◌++◌, None, is_some, sym, ap, ◌∙◌, subst, arith, ◌⊎◌, inl, inr, true≢false}
 use Rattle.std.proofs.lemmas.Bool.Decides.{eqb_tells}
-use Rattle.cyclic_list.specs.Items.{count, IsIn, IsApart}
-use Rattle.cyclic_list.specs.Rings.{IsRing}
-use Rattle.cyclic_list.specs.Operators.{mef_old, mef_new, mekr_ring, after_mef}
-use Rattle.cyclic_list.proofs.Lists.{count-append, IsIn_or_not}
-use Rattle.cyclic_list.proofs.Rings.{next_is_successor}
-use Rattle.cyclic_list.proofs.Leads.{IsRing-mef, IsRing-mekr, IsRing-led_over_other, IsRing-splice_other}
-use Rattle.boundary_model.specs.HalfEdge.{edge_of, plus, minus}
-use Rattle.boundary_model.specs.Table as table
-use Rattle.boundary_model.specs.Model.{Model, items_of, loop_of, content, cycle_of, after}
-use Rattle.boundary_model.specs.Sound.{Sound, Has, HasHalf}
-use Rattle.boundary_model.proofs.Halves.{plus_row, minus_row, same_edge}
-use Rattle.boundary_model.proofs.Models.{content_row, in-holds, cycle_there, cycle_sound}
+use Rattle.euler_operators.specs.Items.{count, IsIn, IsApart}
+use Rattle.euler_operators.specs.Rings.{IsRing}
+use Rattle.euler_operators.specs.Operators.{mef_old, mef_new, mekr_ring, after_mef}
+use Rattle.euler_operators.proofs.Lists.{count-append, IsIn_or_not}
+use Rattle.euler_operators.proofs.Rings.{next_is_successor}
+use Rattle.euler_operators.proofs.Leads.{IsRing-mef, IsRing-mekr, IsRing-led_over_other, IsRing-splice_other}
+use Rattle.euler_operators.specs.HalfEdge.{edge_of, plus, minus}
+use Rattle.euler_operators.specs.Table as table
+use Rattle.euler_operators.specs.Model.{Model, items_of, loop_of, content, cycle_of, after}
+use Rattle.euler_operators.specs.Sound.{Sound, Has, HasHalf}
+use Rattle.euler_operators.proofs.Halves.{plus_row, minus_row, same_edge}
+use Rattle.euler_operators.proofs.Models.{content_row, in-holds, cycle_there, cycle_sound}
 use Rattle.euler_laws.proofs.shared.Loops.{light, none_free}
 use Rattle.euler_laws.proofs.shared.Undo.{mate_plus}
 use Rattle.shapes.proofs.fresh.Rows.{get-put_other}

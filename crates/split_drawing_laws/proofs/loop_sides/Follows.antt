@@ -2,12 +2,12 @@
 use Rattle.std.proofs.Common.{◌≡◌, ◌≢◌, ℕ, ◌+◌, Bool, true, false, cond, not, List, refl, sym, ap, ◌∙◌, subst, arith, eq-eqb, ne_eqb, ◌⊎◌, inl, inr}
 use Rattle.std.specs.Prelude.{◌==◌}
 use Rattle.std.proofs.lemmas.Bool.Decides.{eqb_tells}
-use Rattle.cyclic_list.specs.Items.{count, tick, IsIn, IsApart}
-use Rattle.cyclic_list.specs.Edits.{redirect, led_over}
-use Rattle.cyclic_list.specs.Operators.{after_mev, after_mef}
+use Rattle.euler_operators.specs.Items.{count, tick, IsIn, IsApart}
+use Rattle.euler_operators.specs.Edits.{redirect, led_over}
+use Rattle.euler_operators.specs.Operators.{after_mev, after_mef}
 use Rattle.split_drawing_laws.specs.loop_sides.Parted.{Sided}
-use Rattle.cyclic_list.proofs.Cuts.{splice_at, splice_at_other, splice_elsewhere}
-use Rattle.cyclic_list.proofs.Lists.{tick_same, tick_other}
+use Rattle.euler_operators.proofs.Cuts.{splice_at, splice_at_other, splice_elsewhere}
+use Rattle.euler_operators.proofs.Lists.{tick_same, tick_other}
 
 -- ---- what follows what
 

@@ -1,10 +1,10 @@
 -- The pairs of a list of places fit where any two of these places do.
 use Rattle.std.specs.Prelude.{map}
 use Rattle.std.proofs.Common.{◌≡◌, ◌≢◌, ℕ, Bool, true, false, cond, List, [], ◌∷◌, length, refl, sym, ap, ◌∙◌, arith}
-use Rattle.lattice.specs.declared.Plane.{Plane}
-use Rattle.cyclic_list.specs.Items.{tick, IsIn, IsApart}
-use Rattle.cyclic_list.proofs.Lists.{tick_same}
-use Rattle.boundary_model.specs.Model.{Model, loop_of}
+use Rattle.euler_operators.specs.declared.Plane.{Plane}
+use Rattle.euler_operators.specs.Items.{tick, IsIn, IsApart}
+use Rattle.euler_operators.proofs.Lists.{tick_same}
+use Rattle.euler_operators.specs.Model.{Model, loop_of}
 use Rattle.euler_laws.proofs.shared.Goes.{equals}
 use Rattle.shapes.specs.split.Places.{goes_up, in_pairs, up_first}
 use Rattle.shapes.specs.split.Drawing.{from_place, in_one_loop}

@@ -3,7 +3,7 @@ use Rattle.std.proofs.Common.{◌≡◌, Bool, true, false, cond, not, ◌&&◌,
 use Rattle.std.specs.Prelude.{int_lt}
 use Rattle.std.specs.Ordering.{int_eq}
 use Rattle.std.proofs.lemmas.Int.{ints}
-use Rattle.lattice.specs.Vectors.{opposite}
+use Rattle.euler_operators.specs.Vectors.{opposite}
 
 -- b and c are opposite, or b is 0 and its neighbours are
 abbrev pub crossed : ℤ → ℤ → ℤ → Bool

@@ -5,15 +5,15 @@ use Rattle.std.proofs.Common.{◌≡◌, ℕ, ◌+◌, ◌≤◌, Bool, true, fa
 use Rattle.std.proofs.lemmas.List.{length-append}
 use Rattle.std.proofs.lemmas.List.Elements.{filter-append}
 use Rattle.std.proofs.lemmas.Bool.Decides.{nat_tests}
-use Rattle.lattice.specs.declared.Plane.{Plane}
-use Rattle.lattice.specs.Vectors.{height, is_on}
-use Rattle.cyclic_list.specs.Items.{count, tick, IsIn}
-use Rattle.cyclic_list.specs.Rings.{successor, predecessor}
-use Rattle.cyclic_list.proofs.Lists.{count-append}
-use Rattle.cyclic_list.proofs.Rings.{predecessor-successor}
-use Rattle.boundary_model.specs.Model.{Model, items_of, content, outer, cycle_of, loop_of, before, after, point_of, rings_of}
-use Rattle.boundary_model.specs.Sound.{Sound, HasHalf}
-use Rattle.boundary_model.proofs.Models.{in-holds, cycle_there, cycle_sound}
+use Rattle.euler_operators.specs.declared.Plane.{Plane}
+use Rattle.euler_operators.specs.Vectors.{height, is_on}
+use Rattle.euler_operators.specs.Items.{count, tick, IsIn}
+use Rattle.euler_operators.specs.Rings.{successor, predecessor}
+use Rattle.euler_operators.proofs.Lists.{count-append}
+use Rattle.euler_operators.proofs.Rings.{predecessor-successor}
+use Rattle.euler_operators.specs.Model.{Model, items_of, content, outer, cycle_of, loop_of, before, after, point_of, rings_of}
+use Rattle.euler_operators.specs.Sound.{Sound, HasHalf}
+use Rattle.euler_operators.proofs.Models.{in-holds, cycle_there, cycle_sound}
 use Rattle.euler_laws.proofs.shared.Fans.{loop_after}
 use Rattle.euler_laws.proofs.shared.Goes.{not_back}
 use Rattle.euler_laws.proofs.shared.Loops.{light}

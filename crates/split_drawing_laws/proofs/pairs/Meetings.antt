@@ -2,11 +2,11 @@
 use Rattle.std.specs.List.{list_any, list_all}
 use Rattle.std.proofs.Common.{◌≡◌, ◌≢◌, ℕ, Bool, true, false, not, ◌||◌, List, [], ◌∷◌, refl, sym, ap, ◌∙◌, arith, inl, inr, true≢false}
 use Rattle.std.proofs.lemmas.Bool.Decides.{eqb_tells}
-use Rattle.lattice.specs.declared.Plane.{Plane}
-use Rattle.lattice.specs.Vectors.{same_point}
-use Rattle.cyclic_list.specs.Items.{IsIn}
-use Rattle.cyclic_list.proofs.Lists.{tick_other}
-use Rattle.boundary_model.specs.Model.{Model}
+use Rattle.euler_operators.specs.declared.Plane.{Plane}
+use Rattle.euler_operators.specs.Vectors.{same_point}
+use Rattle.euler_operators.specs.Items.{IsIn}
+use Rattle.euler_operators.proofs.Lists.{tick_other}
+use Rattle.euler_operators.specs.Model.{Model}
 use Rattle.shapes.specs.split.Places.{place_point, places, some_meet, is_crossed, is_up_and_down, sorted_pairs}
 use Rattle.split_drawing_laws.proofs.crossings.Levels.{same_as}
 use Rattle.split_drawing_laws.proofs.crossings.Listed.{any_passes}

@@ -1,10 +1,10 @@
 -- The pairs of an even number of places hold each of these places, as often as it stands among them.
 use Rattle.std.specs.Prelude.{◌-◌, map}
 use Rattle.std.proofs.Common.{◌≡◌, ℕ, suc, ◌+◌, Bool, true, false, cond, List, [], ◌∷◌, length, refl, sym, ap, ◌∙◌, subst, arith}
-use Rattle.lattice.specs.declared.Plane.{Plane}
-use Rattle.lattice.specs.Vectors.{lex_less}
-use Rattle.cyclic_list.specs.Items.{count, tick}
-use Rattle.boundary_model.specs.Model.{Model}
+use Rattle.euler_operators.specs.declared.Plane.{Plane}
+use Rattle.euler_operators.specs.Vectors.{lex_less}
+use Rattle.euler_operators.specs.Items.{count, tick}
+use Rattle.euler_operators.specs.Model.{Model}
 use Rattle.shapes.specs.split.Places.{place_point, goes_up, sorted_in, sorted, in_pairs, places, sorted_pairs, place_pairs}
 use Rattle.shapes.specs.split.Drawing.{from_place, drawn_pairs}
 use Rattle.split_drawing_laws.proofs.pairs.Turns.{IsEven}

@@ -1,7 +1,7 @@
 -- The numbers taken once the edges are cut, and those that are left.
 use Rattle.std.proofs.Common.{◌≡◌, ℕ, ◌+◌, List, [], ◌∷◌, length, refl, sym, ap, ◌∙◌, subst, arith}
-use Rattle.lattice.specs.declared.Plane.{Plane}
-use Rattle.boundary_model.specs.Model.{Model}
+use Rattle.euler_operators.specs.declared.Plane.{Plane}
+use Rattle.euler_operators.specs.Model.{Model}
 use Rattle.shapes.proofs.fresh.Tests.{Left}
 use Rattle.shapes.specs.Fresh.{Taken, Growing, growing, taken_in}
 use Rattle.shapes.specs.split.Sides.{straddling_faces, crossing_edges}

@@ -1,9 +1,9 @@
 -- Places sorted by their points: the same places.
 use Rattle.std.proofs.Common.{◌≡◌, ℕ, suc, ◌+◌, true, false, cond, List, [], ◌∷◌, length, refl, ap, ◌∙◌, arith}
-use Rattle.lattice.specs.declared.Plane.{Plane}
-use Rattle.lattice.specs.Vectors.{lex_less}
-use Rattle.cyclic_list.specs.Items.{count, tick, IsApart}
-use Rattle.boundary_model.specs.Model.{Model}
+use Rattle.euler_operators.specs.declared.Plane.{Plane}
+use Rattle.euler_operators.specs.Vectors.{lex_less}
+use Rattle.euler_operators.specs.Items.{count, tick, IsApart}
+use Rattle.euler_operators.specs.Model.{Model}
 use Rattle.shapes.specs.split.Places.{place_point, sorted_in, sorted}
 
 module _ (M : Model) (p : Plane) where

@@ -1,9 +1,9 @@
 -- Sides that change round a ring: as often one way as the other, so an even number of times.
 use Rattle.std.specs.Prelude.{filter}
 use Rattle.std.proofs.Common.{◌≡◌, ℕ, ◌+◌, ◌*◌, Bool, true, false, cond, not, ◌&&◌, List, [], ◌∷◌, length, refl, sym, ap, ◌∙◌, arith, true≢false}
-use Rattle.cyclic_list.specs.Items.{IsIn, head_or}
-use Rattle.cyclic_list.specs.Rings.{IsPath, IsRing}
-use Rattle.cyclic_list.proofs.Lists.{tick_same}
+use Rattle.euler_operators.specs.Items.{IsIn, head_or}
+use Rattle.euler_operators.specs.Rings.{IsPath, IsRing}
+use Rattle.euler_operators.proofs.Lists.{tick_same}
 
 -- from x to the next item the side becomes true, or becomes false
 abbrev pub rises : (ℕ → ℕ) → (ℕ → Bool) → ℕ → Bool

@@ -2,13 +2,13 @@
 use Rattle.std.proofs.Common.{◌≡◌, ◌≢◌, ℕ, Bool, true, false, not, nat_eq, ◌&&◌, ◌||◌, List, [], ◌∷◌, length, is_some, refl, sym, ap, ◌∙◌, subst, arith, inl, inr, true≢false}
 use Rattle.std.proofs.lemmas.Bool.Decides.{eqb_tells}
 use Rattle.std.specs.List.{list_all}
-use Rattle.lattice.specs.declared.Plane.{Plane}
-use Rattle.cyclic_list.specs.Items.{IsIn, IsApart}
-use Rattle.cyclic_list.proofs.Lists.{tick_same, tick_other}
-use Rattle.boundary_model.specs.Table as table
-use Rattle.boundary_model.specs.Model.{Model, tail, loop_of, face_of, outer, point_of, faces_of, rings_of}
-use Rattle.boundary_model.specs.Sound.{Sound, Has}
-use Rattle.boundary_model.proofs.Models.{face_row}
+use Rattle.euler_operators.specs.declared.Plane.{Plane}
+use Rattle.euler_operators.specs.Items.{IsIn, IsApart}
+use Rattle.euler_operators.proofs.Lists.{tick_same, tick_other}
+use Rattle.euler_operators.specs.Table as table
+use Rattle.euler_operators.specs.Model.{Model, tail, loop_of, face_of, outer, point_of, faces_of, rings_of}
+use Rattle.euler_operators.specs.Sound.{Sound, Has}
+use Rattle.euler_operators.proofs.Models.{face_row}
 use Rattle.euler_operators.specs.Conditions.{face_at}
 use Rattle.euler_laws.specs.Laws.{AreAccepted, effects}
 use Rattle.euler_laws.proofs.Runs.{AreAccepted-append, effects-append}

@@ -1,8 +1,8 @@
 -- A cut place once the edges are cut.
 use Rattle.std.specs.Prelude.{◌≡◌, ℕ}
-use Rattle.lattice.specs.declared.Plane.{Plane}
-use Rattle.boundary_model.specs.Model.{Model, loop_of}
-use Rattle.boundary_model.specs.Sound.{HasHalf}
+use Rattle.euler_operators.specs.declared.Plane.{Plane}
+use Rattle.euler_operators.specs.Model.{Model, loop_of}
+use Rattle.euler_operators.specs.Sound.{HasHalf}
 use Rattle.shapes.specs.Faces.{start}
 use Rattle.shapes.specs.split.Places.{place_point}
 use Rattle.shapes.specs.split.Drawing.{from_place}

@@ -1,8 +1,8 @@
 -- What stays while edges are cut.
 use Rattle.std.specs.Prelude.{◌≡◌, ℕ}
-use Rattle.boundary_model.specs.Table as table
-use Rattle.boundary_model.specs.Model.{Model, loop_of, face_of}
-use Rattle.boundary_model.specs.Sound.{Has, HasHalf}
+use Rattle.euler_operators.specs.Table as table
+use Rattle.euler_operators.specs.Model.{Model, loop_of, face_of}
+use Rattle.euler_operators.specs.Sound.{Has, HasHalf}
 
 -- solids and faces stay, each loop keeps its face, each half-edge its loop, and each vertex its point
 pub record Kept (M N : Model) : Type 0 where

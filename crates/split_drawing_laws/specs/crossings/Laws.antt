@@ -1,9 +1,9 @@
 -- The laws of the first rewriting of a split, over every sound model in which the first conditions hold.
 use Rattle.std.specs.Prelude.{◌≡◌, ℕ, true, false, [], None}
-use Rattle.lattice.specs.declared.Plane.{Plane}
-use Rattle.boundary_model.specs.HalfEdge.{plus, minus}
-use Rattle.boundary_model.specs.Model.{Model, tail}
-use Rattle.boundary_model.specs.Sound.{Sound, Has}
+use Rattle.euler_operators.specs.declared.Plane.{Plane}
+use Rattle.euler_operators.specs.HalfEdge.{plus, minus}
+use Rattle.euler_operators.specs.Model.{Model, tail}
+use Rattle.euler_operators.specs.Sound.{Sound, Has}
 use Rattle.euler_operators.specs.Conditions.{first_refusal, lists}
 use Rattle.euler_laws.specs.Laws.{AreAccepted, effects}
 use Rattle.shapes.specs.Fresh.{taken_in}

@@ -1,8 +1,8 @@
 -- What the first rewriting of a split leaves as it was: normals, planes and volumes.
 use Rattle.std.specs.Prelude.{◌≡◌, ℕ, true}
-use Rattle.lattice.specs.declared.Plane.{Plane}
-use Rattle.boundary_model.specs.Model.{Model, faces_of}
-use Rattle.boundary_model.specs.Sound.{Sound}
+use Rattle.euler_operators.specs.declared.Plane.{Plane}
+use Rattle.euler_operators.specs.Model.{Model, faces_of}
+use Rattle.euler_operators.specs.Sound.{Sound}
 use Rattle.euler_operators.specs.Conditions.{lists}
 use Rattle.shapes.specs.Faces.{corners}
 use Rattle.shapes.specs.Measure.{normal, plane_of, is_plane_of, is_flat, six_volume}

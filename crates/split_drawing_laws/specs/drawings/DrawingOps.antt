@@ -1,9 +1,9 @@
 -- The Euler operators by which edges are drawn in the faces that straddle a plane.
 use Rattle.std.specs.Prelude.{ℕ, ◌+◌, cond, nat_eq, List, [], ◌∷◌, ◌++◌, length}
-use Rattle.lattice.specs.declared.Plane.{Plane}
-use Rattle.boundary_model.specs.declared.Corner.TheVariants.{At}
-use Rattle.boundary_model.specs.HalfEdge.{half, plus}
-use Rattle.boundary_model.specs.Model.{Model, loop_of, is_ring_of}
+use Rattle.euler_operators.specs.declared.Plane.{Plane}
+use Rattle.euler_operators.specs.declared.Corner.TheVariants.{At}
+use Rattle.euler_operators.specs.HalfEdge.{half, plus}
+use Rattle.euler_operators.specs.Model.{Model, loop_of, is_ring_of}
 use Rattle.euler_operators.specs.declared.Op.{Op}
 use Rattle.euler_operators.specs.declared.Op.TheVariants.{Mef, Mekr, RingIn}
 use Rattle.euler_operators.specs.Conditions.{face_at}

@@ -1,8 +1,8 @@
 -- What stays while edges are drawn in a face.
 use Rattle.std.specs.Prelude.{◌≡◌, ◌≢◌, ◌⊎◌, ℕ, ◌+◌, ◌≤◌, ◌<◌, None}
-use Rattle.boundary_model.specs.Table as table
-use Rattle.boundary_model.specs.Model.{Model, tail, loop_of}
-use Rattle.boundary_model.specs.Sound.{Sound, Has, HasHalf}
+use Rattle.euler_operators.specs.Table as table
+use Rattle.euler_operators.specs.Model.{Model, tail, loop_of}
+use Rattle.euler_operators.specs.Sound.{Sound, Has, HasHalf}
 use Rattle.euler_operators.specs.Conditions.{face_at}
 use Rattle.shapes.specs.Fresh.{Taken}
 

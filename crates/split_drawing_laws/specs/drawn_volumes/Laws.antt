@@ -1,8 +1,8 @@
 -- What the second rewriting of a split leaves as it was: planes and volumes.
 use Rattle.std.specs.Prelude.{◌≡◌, ℕ, true}
-use Rattle.lattice.specs.declared.Plane.{Plane}
-use Rattle.boundary_model.specs.Model.{Model, faces_of}
-use Rattle.boundary_model.specs.Sound.{Sound, Has}
+use Rattle.euler_operators.specs.declared.Plane.{Plane}
+use Rattle.euler_operators.specs.Model.{Model, faces_of}
+use Rattle.euler_operators.specs.Sound.{Sound, Has}
 use Rattle.euler_operators.specs.Conditions.{lists}
 use Rattle.shapes.specs.Faces.{corners}
 use Rattle.shapes.specs.Measure.{plane_of, is_plane_of, six_volume}

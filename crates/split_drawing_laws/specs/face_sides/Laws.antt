@@ -1,9 +1,9 @@
 -- The laws of the sides on which the loops and the faces of a solid lie once a split has drawn its edges, over every sound model
 -- in which the first conditions of a split hold.
 use Rattle.std.specs.Prelude.{◌≡◌, ℕ, Bool, true, false}
-use Rattle.lattice.specs.declared.Plane.{Plane}
-use Rattle.boundary_model.specs.Model.{Model, loop_of, solid_of, faces_of}
-use Rattle.boundary_model.specs.Sound.{Sound, HasHalf}
+use Rattle.euler_operators.specs.declared.Plane.{Plane}
+use Rattle.euler_operators.specs.Model.{Model, loop_of, solid_of, faces_of}
+use Rattle.euler_operators.specs.Sound.{Sound, HasHalf}
 use Rattle.euler_operators.specs.Conditions.{face_at, lists}
 use Rattle.shapes.specs.Faces.{start}
 use Rattle.shapes.specs.split.Sides.{straddles}

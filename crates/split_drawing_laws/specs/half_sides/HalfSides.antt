@@ -1,8 +1,8 @@
 -- On which side of a plane half-edges lie, once the edges of a solid that cross it are cut.
 use Rattle.std.specs.Prelude.{ℕ, Bool, cond, not, ◌||◌, nat_eq}
-use Rattle.lattice.specs.declared.Plane.{Plane}
-use Rattle.lattice.specs.Vectors.{is_above}
-use Rattle.boundary_model.specs.Model.{Model, has_half, solid_of}
+use Rattle.euler_operators.specs.declared.Plane.{Plane}
+use Rattle.euler_operators.specs.Vectors.{is_above}
+use Rattle.euler_operators.specs.Model.{Model, has_half, solid_of}
 use Rattle.euler_operators.specs.Conditions.{face_at, lists}
 use Rattle.shapes.specs.Faces.{start, finish}
 use Rattle.shapes.specs.split.Sides.{reaches_above, straddling_faces}

@@ -1,8 +1,8 @@
 -- The laws of the sides on which a split's loops and faces lie, over every sound model in which its first conditions hold.
 use Rattle.std.specs.Prelude.{ℕ}
-use Rattle.lattice.specs.declared.Plane.{Plane}
-use Rattle.boundary_model.specs.Model.{Model}
-use Rattle.boundary_model.specs.Sound.{Sound}
+use Rattle.euler_operators.specs.declared.Plane.{Plane}
+use Rattle.euler_operators.specs.Model.{Model}
+use Rattle.euler_operators.specs.Sound.{Sound}
 use Rattle.shapes.specs.split.Sides.{straddling_faces}
 use Rattle.shapes.specs.split.Crossings.{with_crossings}
 use Rattle.split_drawing_laws.specs.crossings.Laws.{CanBegin}

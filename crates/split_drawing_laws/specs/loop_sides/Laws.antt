@@ -1,9 +1,9 @@
 -- The law of the sides on which loops lie once edges are drawn.
 use Rattle.std.specs.Prelude.{◌≡◌, ◌≢◌, ℕ, Bool, true, List}
-use Rattle.lattice.specs.declared.Plane.{Plane}
-use Rattle.cyclic_list.specs.Items.{IsIn}
-use Rattle.boundary_model.specs.Model.{Model, loop_of, after}
-use Rattle.boundary_model.specs.Sound.{HasHalf}
+use Rattle.euler_operators.specs.declared.Plane.{Plane}
+use Rattle.euler_operators.specs.Items.{IsIn}
+use Rattle.euler_operators.specs.Model.{Model, loop_of, after}
+use Rattle.euler_operators.specs.Sound.{HasHalf}
 use Rattle.shapes.specs.Faces.{start}
 use Rattle.shapes.specs.Fresh.{Growing}
 use Rattle.shapes.specs.split.Drawing.{faces_drawn}

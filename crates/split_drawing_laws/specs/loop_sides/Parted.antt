@@ -1,11 +1,11 @@
 -- On which side of a plane half-edges lie while edges are drawn.
 use Rattle.std.specs.Prelude.{◌≡◌, ◌≢◌, ℕ, Bool, true, false, not, List, [], ◌∷◌, ◌++◌}
-use Rattle.lattice.specs.declared.Point.{Point}
-use Rattle.lattice.specs.declared.Plane.{Plane}
-use Rattle.lattice.specs.Vectors.{is_above, is_below, is_on}
-use Rattle.cyclic_list.specs.Items.{count, IsIn, IsApart}
-use Rattle.boundary_model.specs.Model.{Model, after}
-use Rattle.boundary_model.specs.Sound.{HasHalf}
+use Rattle.euler_operators.specs.declared.Point.{Point}
+use Rattle.euler_operators.specs.declared.Plane.{Plane}
+use Rattle.euler_operators.specs.Vectors.{is_above, is_below, is_on}
+use Rattle.euler_operators.specs.Items.{count, IsIn, IsApart}
+use Rattle.euler_operators.specs.Model.{Model, after}
+use Rattle.euler_operators.specs.Sound.{HasHalf}
 use Rattle.shapes.specs.Faces.{start}
 use Rattle.shapes.specs.split.Drawing.{drawn_pairs}
 use Rattle.split_drawing_laws.specs.drawings.DrawnIn.{Stays}

@@ -1,8 +1,8 @@
 -- The laws by which the first conditions of a split allow its second rewriting, over every sound model in which they hold.
 use Rattle.std.specs.Prelude.{◌≡◌, ℕ, List, ◌++◌}
-use Rattle.lattice.specs.declared.Plane.{Plane}
-use Rattle.boundary_model.specs.Model.{Model}
-use Rattle.boundary_model.specs.Sound.{Sound}
+use Rattle.euler_operators.specs.declared.Plane.{Plane}
+use Rattle.euler_operators.specs.Model.{Model}
+use Rattle.euler_operators.specs.Sound.{Sound}
 use Rattle.euler_operators.specs.declared.Op.{Op}
 use Rattle.euler_laws.specs.Laws.{AreAccepted, effects}
 use Rattle.shapes.specs.split.Sides.{straddling_faces}

@@ -4,21 +4,21 @@ use Rattle.std.specs.Prelude.{map, reverse, get_or}
 use Rattle.std.specs.List.{list_all}
 use Rattle.std.specs.Option.{option_map}
 use Rattle.std.proofs.lemmas.Bool.Decides.{nat_tests, eqb_tells}
-use Rattle.lattice.specs.declared.Point.{Point}
-use Rattle.lattice.specs.declared.Plane.{Plane}
-use Rattle.lattice.specs.Vectors.{origin, moved, cross, same_point, direction, is_on}
-use Rattle.cyclic_list.specs.Items.{count, IsIn, head_or}
-use Rattle.cyclic_list.specs.Rings.{canonical}
-use Rattle.cyclic_list.proofs.Lists.{tick_other}
-use Rattle.cyclic_list.proofs.Maps.{from_map, count-reverse}
-use Rattle.cyclic_list.proofs.Rotations.{count-canonical, IsIn_head}
-use Rattle.boundary_model.specs.HalfEdge.{mate, plus, minus}
-use Rattle.boundary_model.specs.Table as table
-use Rattle.boundary_model.specs.Table.{get-map_rows}
-use Rattle.boundary_model.specs.Model.{Model, LoopRow, cycle, no_face, items_of, tail, content, face_of, outer, point_of, rings_of}
-use Rattle.boundary_model.specs.Sound.{Has}
-use Rattle.boundary_model.proofs.Models.{content_row, face_row}
-use Rattle.boundary_model.proofs.Tables.{all_where_none}
+use Rattle.euler_operators.specs.declared.Point.{Point}
+use Rattle.euler_operators.specs.declared.Plane.{Plane}
+use Rattle.euler_operators.specs.Vectors.{origin, moved, cross, same_point, direction, is_on}
+use Rattle.euler_operators.specs.Items.{count, IsIn, head_or}
+use Rattle.euler_operators.specs.Rings.{canonical}
+use Rattle.euler_operators.proofs.Lists.{tick_other}
+use Rattle.euler_operators.proofs.Maps.{from_map, count-reverse}
+use Rattle.euler_operators.proofs.Rotations.{count-canonical, IsIn_head}
+use Rattle.euler_operators.specs.HalfEdge.{mate, plus, minus}
+use Rattle.euler_operators.specs.Table as table
+use Rattle.euler_operators.specs.Table.{get-map_rows}
+use Rattle.euler_operators.specs.Model.{Model, LoopRow, cycle, no_face, items_of, tail, content, face_of, outer, point_of, rings_of}
+use Rattle.euler_operators.specs.Sound.{Has}
+use Rattle.euler_operators.proofs.Models.{content_row, face_row}
+use Rattle.euler_operators.proofs.Tables.{all_where_none}
 use Rattle.euler_laws.proofs.shared.Fans.{half_mate}
 use Rattle.shapes.proofs.fresh.Rows.{get-put_cases, get-put_here, get-put_other}
 use Rattle.shapes.specs.Faces.{start, finish, items_in, loops_of, boundary}
@@ -27,7 +27,7 @@ use Rattle.shapes.specs.Prism.{next_place}
 use Rattle.shapes.specs.Rewriting.{rewritten_row, renamed}
 use Rattle.shapes.specs.Measure.{area, normal, anchor, first_vertex, is_plane_of}
 use Rattle.shapes.proofs.Areas.{area-append, moved_nothing}
-use Rattle.lattice.proofs.Vectors.{none_moved}
+use Rattle.euler_operators.proofs.Vectors.{none_moved}
 use Rattle.solid_measure_laws.specs.Vectors.{negated}
 use Rattle.solid_measure_laws.proofs.FlatFaces.{and_parts, flat_closed}
 use Rattle.solid_measure_laws.proofs.Paths.{Leads, IsClosed, first_in, rest_in}

@@ -2,15 +2,15 @@
 -- and what they add to the six volumes.
 use Rattle.std.proofs.Common.{◌≡◌, ℕ, Bool, true, not, nat_eq, ◌&&◌, List, [], ◌∷◌, Option, Some, None, is_some, unwrap_or, refl, sym, ap, ◌∙◌, arith, true≢false, ◌⊎◌, inl, inr}
 use Rattle.std.specs.Prelude.{map}
-use Rattle.lattice.specs.Vectors.{moved, dot}
-use Rattle.cyclic_list.specs.Items.{count, IsIn, head_or}
-use Rattle.cyclic_list.specs.Rings.{canonical}
-use Rattle.cyclic_list.proofs.Rotations.{count-canonical, IsIn_head}
-use Rattle.cyclic_list.proofs.Maps.{from_map}
-use Rattle.boundary_model.specs.Table as table
-use Rattle.boundary_model.specs.Model.{Model, LoopContent, lone, cycle, LoopRow, no_face, items_of, content, face_of, outer, solid_of, point_of, rings_of}
-use Rattle.boundary_model.specs.Sound.{Sound, Has, HasHalf}
-use Rattle.boundary_model.proofs.Models.{in-holds, content_row, face_row}
+use Rattle.euler_operators.specs.Vectors.{moved, dot}
+use Rattle.euler_operators.specs.Items.{count, IsIn, head_or}
+use Rattle.euler_operators.specs.Rings.{canonical}
+use Rattle.euler_operators.proofs.Rotations.{count-canonical, IsIn_head}
+use Rattle.euler_operators.proofs.Maps.{from_map}
+use Rattle.euler_operators.specs.Table as table
+use Rattle.euler_operators.specs.Model.{Model, LoopContent, lone, cycle, LoopRow, no_face, items_of, content, face_of, outer, solid_of, point_of, rings_of}
+use Rattle.euler_operators.specs.Sound.{Sound, Has, HasHalf}
+use Rattle.euler_operators.proofs.Models.{in-holds, content_row, face_row}
 use Rattle.euler_operators.specs.Conditions.{lists}
 use Rattle.euler_laws.proofs.shared.Goes.{differs}
 use Rattle.euler_laws.proofs.shared.Listed.{first_listed, rest_listed, listed_cases, listed_passes}

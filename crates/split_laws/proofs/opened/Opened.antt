@@ -3,16 +3,16 @@ use Rattle.std.proofs.Common.{◌≡◌, ◌≢◌, ℕ, ◌+◌, ℤ, pos, ◌+
 use Rattle.std.specs.Prelude.{map}
 use Rattle.std.proofs.lemmas.Bool.Decides.{eqb_tells}
 use Rattle.std.proofs.lemmas.Int.{ints}
-use Rattle.lattice.specs.declared.Plane.{Plane}
-use Rattle.lattice.specs.Vectors.{origin, dot, same_point, direction}
-use Rattle.cyclic_list.specs.Items.{count, IsIn, SameItems}
-use Rattle.cyclic_list.proofs.Lists.{tick_same, tick_other, IsIn_or_not}
-use Rattle.cyclic_list.proofs.Maps.{from_map}
-use Rattle.boundary_model.specs.HalfEdge.{mate, plus}
-use Rattle.boundary_model.specs.Table as table
-use Rattle.boundary_model.specs.Model.{Model, FaceRow, items_of, tail, content, face_of, loop_of, outer, solid_of, faces_of}
-use Rattle.boundary_model.specs.Sound.{Has}
-use Rattle.boundary_model.proofs.Models.{in-holds}
+use Rattle.euler_operators.specs.declared.Plane.{Plane}
+use Rattle.euler_operators.specs.Vectors.{origin, dot, same_point, direction}
+use Rattle.euler_operators.specs.Items.{count, IsIn, SameItems}
+use Rattle.euler_operators.proofs.Lists.{tick_same, tick_other, IsIn_or_not}
+use Rattle.euler_operators.proofs.Maps.{from_map}
+use Rattle.euler_operators.specs.HalfEdge.{mate, plus}
+use Rattle.euler_operators.specs.Table as table
+use Rattle.euler_operators.specs.Model.{Model, FaceRow, items_of, tail, content, face_of, loop_of, outer, solid_of, faces_of}
+use Rattle.euler_operators.specs.Sound.{Has}
+use Rattle.euler_operators.proofs.Models.{in-holds}
 use Rattle.euler_operators.specs.Conditions.{lists}
 use Rattle.euler_laws.proofs.shared.Goes.{equal, equals, differs}
 use Rattle.euler_laws.proofs.shared.Listed.{listed_passes, listed_as}

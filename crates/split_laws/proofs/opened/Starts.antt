@@ -5,13 +5,13 @@ use Rattle.std.specs.Prelude.{map, get_or}
 use Rattle.std.specs.Option.{option_map}
 use Rattle.std.proofs.lemmas.Bool.Decides.{eqb_tells}
 use Rattle.std.proofs.lemmas.List.{length-map, get_or-map}
-use Rattle.boundary_model.specs.HalfEdge.{mate, edge_of, is_first, plus, minus}
-use Rattle.boundary_model.specs.Table as table
-use Rattle.boundary_model.specs.Table.{Table, get-map_rows}
-use Rattle.boundary_model.specs.Model.{Model, EdgeRow, tail, tail_in, no_point, point_of}
-use Rattle.boundary_model.specs.Sound.{HasHalf}
-use Rattle.boundary_model.proofs.Halves.{mate-mate, plus_row, minus_row}
-use Rattle.boundary_model.proofs.Models.{tail_row}
+use Rattle.euler_operators.specs.HalfEdge.{mate, edge_of, is_first, plus, minus}
+use Rattle.euler_operators.specs.Table as table
+use Rattle.euler_operators.specs.Table.{Table, get-map_rows}
+use Rattle.euler_operators.specs.Model.{Model, EdgeRow, tail, tail_in, no_point, point_of}
+use Rattle.euler_operators.specs.Sound.{HasHalf}
+use Rattle.euler_operators.proofs.Halves.{mate-mate, plus_row, minus_row}
+use Rattle.euler_operators.proofs.Models.{tail_row}
 use Rattle.euler_operators.specs.Conditions.{face_at, lists}
 use Rattle.euler_laws.proofs.shared.Arcs.{halves_of_edge}
 use Rattle.euler_laws.proofs.shared.Fans.{half_mate}

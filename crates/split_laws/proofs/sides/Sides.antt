@@ -5,13 +5,13 @@ use Rattle.std.specs.Option.{option_map}
 use Rattle.std.specs.Cmp.{signed_Decides}
 use Rattle.std.proofs.lemmas.Bool.Decides.{eqb_tells}
 use Rattle.std.proofs.lemmas.List.{append-nil}
-use Rattle.lattice.specs.declared.Point.{Point}
-use Rattle.lattice.specs.declared.Plane.{Plane}
-use Rattle.lattice.specs.Vectors.{height, is_on, is_above, is_below}
-use Rattle.cyclic_list.specs.Items.{count, IsIn}
-use Rattle.boundary_model.specs.Table as table
-use Rattle.boundary_model.specs.Model.{Model, FaceRow, no_face, items_of, tail, content, face_of, outer, solid_of}
-use Rattle.boundary_model.specs.Sound.{Has}
+use Rattle.euler_operators.specs.declared.Point.{Point}
+use Rattle.euler_operators.specs.declared.Plane.{Plane}
+use Rattle.euler_operators.specs.Vectors.{height, is_on, is_above, is_below}
+use Rattle.euler_operators.specs.Items.{count, IsIn}
+use Rattle.euler_operators.specs.Table as table
+use Rattle.euler_operators.specs.Model.{Model, FaceRow, no_face, items_of, tail, content, face_of, outer, solid_of}
+use Rattle.euler_operators.specs.Sound.{Has}
 use Rattle.euler_operators.specs.Conditions.{lists}
 use Rattle.euler_operators.specs.Effect.{kfmrh, part}
 use Rattle.euler_laws.proofs.shared.Goes.{differs}

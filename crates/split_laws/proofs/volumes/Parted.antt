@@ -1,13 +1,13 @@
 -- The six volumes of a solid some of whose faces go to a new solid.
 use Rattle.std.proofs.Common.{◌≡◌, ◌≢◌, ℕ, ◌+◌, ◌+ℤ◌, Bool, true, false, cond, not, nat_eq, ◌&&◌, List, [], ◌∷◌, ◌++◌, Option, Some, None, is_some, unwrap_or, refl, sym, ap, ◌∙◌, arith}
 use Rattle.std.specs.Option.{option_map}
-use Rattle.lattice.specs.Vectors.{dot}
-use Rattle.cyclic_list.specs.Items.{SameItems, head_or}
-use Rattle.cyclic_list.proofs.Lists.{count-append}
-use Rattle.boundary_model.specs.HalfEdge.{mate}
-use Rattle.boundary_model.specs.Table as table
-use Rattle.boundary_model.specs.Table.{get-map_rows}
-use Rattle.boundary_model.specs.Model.{Model, LoopContent, lone, cycle, FaceRow, no_face, items_of, tail, content, outer, solid_of, point_of, rings_of, faces_of}
+use Rattle.euler_operators.specs.Vectors.{dot}
+use Rattle.euler_operators.specs.Items.{SameItems, head_or}
+use Rattle.euler_operators.proofs.Lists.{count-append}
+use Rattle.euler_operators.specs.HalfEdge.{mate}
+use Rattle.euler_operators.specs.Table as table
+use Rattle.euler_operators.specs.Table.{get-map_rows}
+use Rattle.euler_operators.specs.Model.{Model, LoopContent, lone, cycle, FaceRow, no_face, items_of, tail, content, outer, solid_of, point_of, rings_of, faces_of}
 use Rattle.euler_operators.specs.Conditions.{lists}
 use Rattle.euler_operators.specs.Effect.{part, faces_to_solid}
 use Rattle.euler_laws.proofs.shared.Goes.{equals, differs}

@@ -3,17 +3,17 @@ use Rattle.std.proofs.Common.{◌≡◌, ◌≢◌, ℕ, ◌+◌, ℤ, ◌+ℤ�
 use Rattle.std.specs.Option.{option_map}
 use Rattle.std.proofs.lemmas.Bool.Decides.{eqb_tells}
 use Rattle.std.proofs.lemmas.Int.{ints}
-use Rattle.lattice.specs.declared.Point.{Point}
-use Rattle.lattice.specs.declared.Plane.{Plane}
-use Rattle.lattice.specs.Vectors.{origin, moved, dot, cross, direction, is_on}
-use Rattle.cyclic_list.specs.Items.{count, tick, IsIn, SameItems, before, after, head_or}
-use Rattle.cyclic_list.proofs.Lists.{count-append, tick_same, tick_other, split_at}
-use Rattle.boundary_model.specs.HalfEdge.{mate}
-use Rattle.boundary_model.specs.Table as table
-use Rattle.boundary_model.specs.Table.{get-map_rows, get-remove}
-use Rattle.boundary_model.specs.Model.{Model, LoopContent, lone, cycle, FaceRow, LoopRow, no_face, no_loop, items_of, tail, content, face_of, outer, solid_of, point_of, rings_of, faces_of}
-use Rattle.boundary_model.specs.Sound.{Has}
-use Rattle.boundary_model.proofs.Models.{face_row}
+use Rattle.euler_operators.specs.declared.Point.{Point}
+use Rattle.euler_operators.specs.declared.Plane.{Plane}
+use Rattle.euler_operators.specs.Vectors.{origin, moved, dot, cross, direction, is_on}
+use Rattle.euler_operators.specs.Items.{count, tick, IsIn, SameItems, before, after, head_or}
+use Rattle.euler_operators.proofs.Lists.{count-append, tick_same, tick_other, split_at}
+use Rattle.euler_operators.specs.HalfEdge.{mate}
+use Rattle.euler_operators.specs.Table as table
+use Rattle.euler_operators.specs.Table.{get-map_rows, get-remove}
+use Rattle.euler_operators.specs.Model.{Model, LoopContent, lone, cycle, FaceRow, LoopRow, no_face, no_loop, items_of, tail, content, face_of, outer, solid_of, point_of, rings_of, faces_of}
+use Rattle.euler_operators.specs.Sound.{Has}
+use Rattle.euler_operators.proofs.Models.{face_row}
 use Rattle.euler_operators.specs.Effect.{kfmrh, loop_to_face}
 use Rattle.euler_laws.proofs.shared.Goes.{equals, differs}
 use Rattle.euler_laws.proofs.shared.Rows.{no_items, face_there, loop_row}
@@ -21,7 +21,7 @@ use Rattle.shapes.specs.Faces.{start, items_in, loops_of, boundary}
 use Rattle.shapes.specs.Measure.{area, normal, anchor, first_vertex, volume_in, six_volume}
 use Rattle.shapes.proofs.Areas.{area-append}
 use Rattle.solid_walks.proofs.FaceLoops.{items_joined}
-use Rattle.lattice.proofs.Vectors.{dot_turned, dot_moved, none_moved}
+use Rattle.euler_operators.proofs.Vectors.{dot_turned, dot_moved, none_moved}
 use Rattle.solid_measure_laws.proofs.FlatFaces.{told_alike}
 use Rattle.solid_measure_laws.proofs.Products.{cross_moved}
 use Rattle.solid_measure_laws.proofs.Sums.{area_same}

@@ -1,7 +1,7 @@
 -- What a model with its faces drawn has.
 use Rattle.std.specs.Prelude.{◌≡◌, ℕ, Bool, List}
-use Rattle.boundary_model.specs.Model.{Model, solid_of}
-use Rattle.boundary_model.specs.Sound.{Has, HasHalf}
+use Rattle.euler_operators.specs.Model.{Model, solid_of}
+use Rattle.euler_operators.specs.Sound.{Has, HasHalf}
 use Rattle.euler_operators.specs.Conditions.{face_at, lists}
 
 -- solids stay, and each half-edge is of the solid that it was of

@@ -1,9 +1,9 @@
 -- What the two parts of a split solid measure and where they lie, over every sound model and every split that isn't refused.
 use Rattle.std.specs.Prelude.{◌≡◌, ◌≢◌, ℕ, ◌+ℤ◌, false, None}
-use Rattle.lattice.specs.declared.Plane.{Plane}
-use Rattle.lattice.specs.Vectors.{is_above, is_below}
-use Rattle.boundary_model.specs.Model.{Model}
-use Rattle.boundary_model.specs.Sound.{Sound}
+use Rattle.euler_operators.specs.declared.Plane.{Plane}
+use Rattle.euler_operators.specs.Vectors.{is_above, is_below}
+use Rattle.euler_operators.specs.Model.{Model}
+use Rattle.euler_operators.specs.Sound.{Sound}
 use Rattle.shapes.specs.Faces.{start}
 use Rattle.shapes.specs.Measure.{six_volume}
 use Rattle.shapes.specs.split.Sides.{faces_above}

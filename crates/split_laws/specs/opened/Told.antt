@@ -1,10 +1,10 @@
 -- What is asked of the faces of a solid that is opened, so that its six volumes stay.
 use Rattle.std.specs.Prelude.{◌≡◌, ◌≢◌, ℕ, true, List, [], ◌∷◌}
-use Rattle.lattice.specs.declared.Plane.{Plane}
-use Rattle.lattice.specs.Vectors.{origin, dot, cross, direction, is_on}
-use Rattle.cyclic_list.specs.Items.{IsIn}
-use Rattle.boundary_model.specs.Model.{Model, cycle, items_of, content, face_of, outer, solid_of}
-use Rattle.boundary_model.specs.Sound.{Has}
+use Rattle.euler_operators.specs.declared.Plane.{Plane}
+use Rattle.euler_operators.specs.Vectors.{origin, dot, cross, direction, is_on}
+use Rattle.euler_operators.specs.Items.{IsIn}
+use Rattle.euler_operators.specs.Model.{Model, cycle, items_of, content, face_of, outer, solid_of}
+use Rattle.euler_operators.specs.Sound.{Has}
 use Rattle.shapes.specs.Faces.{start}
 use Rattle.shapes.specs.Measure.{normal, anchor}
 use Rattle.shapes.specs.split.Opening.{Caps}

@@ -1,11 +1,11 @@
 -- On which sides of a plane the faces of a solid lie.
 use Rattle.std.specs.Prelude.{◌≡◌, ℕ, Bool, false, cond, List}
-use Rattle.lattice.specs.declared.Point.{Point}
-use Rattle.lattice.specs.declared.Plane.{Plane}
-use Rattle.lattice.specs.Vectors.{is_above, is_below}
-use Rattle.cyclic_list.specs.Items.{IsIn}
-use Rattle.boundary_model.specs.Model.{Model, items_of, content, face_of, solid_of}
-use Rattle.boundary_model.specs.Sound.{Has}
+use Rattle.euler_operators.specs.declared.Point.{Point}
+use Rattle.euler_operators.specs.declared.Plane.{Plane}
+use Rattle.euler_operators.specs.Vectors.{is_above, is_below}
+use Rattle.euler_operators.specs.Items.{IsIn}
+use Rattle.euler_operators.specs.Model.{Model, items_of, content, face_of, solid_of}
+use Rattle.euler_operators.specs.Sound.{Has}
 use Rattle.euler_operators.specs.Conditions.{lists}
 use Rattle.shapes.specs.Faces.{start}
 

@@ -1,10 +1,10 @@
 -- When the holes among the caps of a section can be closed.
 use Rattle.std.specs.Prelude.{◌≡◌, ◌≢◌, ◌⊎◌, ℕ, true, not, List, [], filter}
 use Rattle.std.specs.List.{list_any}
-use Rattle.lattice.specs.declared.Plane.{Plane}
-use Rattle.lattice.specs.Vectors.{origin, direction}
-use Rattle.cyclic_list.specs.Items.{IsApart}
-use Rattle.boundary_model.specs.Model.{Model}
+use Rattle.euler_operators.specs.declared.Plane.{Plane}
+use Rattle.euler_operators.specs.Vectors.{origin, direction}
+use Rattle.euler_operators.specs.Items.{IsApart}
+use Rattle.euler_operators.specs.Model.{Model}
 use Rattle.shapes.specs.split.Opening.{Caps}
 use Rattle.split_opening_laws.specs.sections.Capped.{ArePlain, cap_faces}
 use Rattle.split_laws.specs.opened.Told.{OutersAreOwn, AllLieAlong}

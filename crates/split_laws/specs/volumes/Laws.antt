@@ -1,9 +1,9 @@
 -- What the six volumes of solids are once the holes of a section are closed, and its upper faces parted from the solid.
 use Rattle.std.specs.Prelude.{◌≡◌, ◌≢◌, ℕ, ◌+ℤ◌, true, false, List, [], None}
-use Rattle.lattice.specs.declared.Plane.{Plane}
-use Rattle.boundary_model.specs.Table as table
-use Rattle.boundary_model.specs.Model.{Model, solid_of}
-use Rattle.boundary_model.specs.Sound.{Has}
+use Rattle.euler_operators.specs.declared.Plane.{Plane}
+use Rattle.euler_operators.specs.Table as table
+use Rattle.euler_operators.specs.Model.{Model, solid_of}
+use Rattle.euler_operators.specs.Sound.{Has}
 use Rattle.euler_operators.specs.Conditions.{lists, strictly_rises}
 use Rattle.euler_operators.specs.Effect.{part}
 use Rattle.shapes.specs.Measure.{six_volume}

@@ -1,13 +1,13 @@
 -- Numbers in a run, and the rows of such numbers that go.
 use Rattle.std.proofs.Common.{◌≡◌, ◌≢◌, ℕ, zero, suc, ◌+◌, ◌≤◌, ◌<◌, [], ◌∷◌, ◌++◌, map, None, is_some, refl, sym, ap, ◌∙◌, arith, inl, inr, true≢false}
 use Rattle.std.proofs.lemmas.Bool.Decides.{nat_tests, eqb_tells}
-use Rattle.cyclic_list.specs.Items.{IsIn}
-use Rattle.cyclic_list.specs.Rings.{canonical}
-use Rattle.cyclic_list.proofs.Lists.{tick_other}
-use Rattle.boundary_model.specs.HalfEdge.{minus}
-use Rattle.boundary_model.specs.Table as table
-use Rattle.boundary_model.specs.Table.{Table, tables, same_table}
-use Rattle.boundary_model.specs.Sound.{Has}
+use Rattle.euler_operators.specs.Items.{IsIn}
+use Rattle.euler_operators.specs.Rings.{canonical}
+use Rattle.euler_operators.proofs.Lists.{tick_other}
+use Rattle.euler_operators.specs.HalfEdge.{minus}
+use Rattle.euler_operators.specs.Table as table
+use Rattle.euler_operators.specs.Table.{Table, tables, same_table}
+use Rattle.euler_operators.specs.Sound.{Has}
 use Rattle.shapes.specs.Fresh.{numbers_after}
 use Rattle.shapes.specs.Rewriting.{without_rows}
 use Rattle.sweeps_laws.proofs.lamina.Lists.{canonical_first}

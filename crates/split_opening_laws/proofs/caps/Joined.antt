@@ -4,16 +4,16 @@ use Rattle.std.specs.Prelude.{reverse, take, get_or}
 use Rattle.std.proofs.Math.Seq.{take-suc}
 use Rattle.std.proofs.lemmas.Bool.Decides.{nat_tests, eqb_tells}
 use Rattle.std.proofs.lemmas.List.{append_assoc, map-append, reverse-append}
-use Rattle.cyclic_list.specs.Items.{IsIn, IsApart}
-use Rattle.cyclic_list.specs.Rings.{canonical, rest}
-use Rattle.cyclic_list.proofs.Lists.{count-append, tick_same}
-use Rattle.cyclic_list.proofs.Rotations.{canonical-rotates, canonical_same, rest_same, rest_at}
-use Rattle.boundary_model.specs.HalfEdge.{edge_of, mate, plus, minus, half}
-use Rattle.boundary_model.specs.Table as table
-use Rattle.boundary_model.specs.Table.{Table, tables, same_table}
-use Rattle.boundary_model.specs.Model.{Model, cycle, no_face, no_loop, loop_of, face_of, outer, cycle_of}
-use Rattle.boundary_model.specs.Sound.{Sound, Has}
-use Rattle.boundary_model.proofs.Halves.{minus_row, code-half}
+use Rattle.euler_operators.specs.Items.{IsIn, IsApart}
+use Rattle.euler_operators.specs.Rings.{canonical, rest}
+use Rattle.euler_operators.proofs.Lists.{count-append, tick_same}
+use Rattle.euler_operators.proofs.Rotations.{canonical-rotates, canonical_same, rest_same, rest_at}
+use Rattle.euler_operators.specs.HalfEdge.{edge_of, mate, plus, minus, half}
+use Rattle.euler_operators.specs.Table as table
+use Rattle.euler_operators.specs.Table.{Table, tables, same_table}
+use Rattle.euler_operators.specs.Model.{Model, cycle, no_face, no_loop, loop_of, face_of, outer, cycle_of}
+use Rattle.euler_operators.specs.Sound.{Sound, Has}
+use Rattle.euler_operators.proofs.Halves.{minus_row, code-half}
 use Rattle.euler_operators.specs.declared.Op.TheVariants.{Kef}
 use Rattle.euler_operators.specs.Conditions.{face_at, first_false}
 use Rattle.euler_operators.specs.Effect.{effect, kef}

@@ -3,18 +3,18 @@ use Rattle.std.proofs.Common.{◌≡◌, ◌≢◌, ℕ, suc, ◌+◌, ◌-◌, 
 use Rattle.std.specs.Prelude.{reverse, take}
 use Rattle.std.proofs.lemmas.Bool.{eq-eqb, ne_eqb}
 use Rattle.std.proofs.lemmas.List.{append_assoc, length-reverse, take_all}
-use Rattle.cyclic_list.specs.Items.{count, IsIn, IsApart, before, after}
-use Rattle.cyclic_list.specs.Rings.{canonical, rest, between, beyond}
-use Rattle.cyclic_list.proofs.Lists.{count-append, tick_same, before_at, after_at}
-use Rattle.cyclic_list.proofs.Rotations.{canonical-rotates, rest_same, rest_at}
-use Rattle.boundary_model.specs.HalfEdge.{mate, plus, minus, half}
-use Rattle.boundary_model.specs.Table as table
-use Rattle.boundary_model.specs.Table.{Table, tables, same_table}
-use Rattle.boundary_model.specs.Model.{Model, LoopRow, cycle, no_face, tail, loop_of, face_of, solid_of, outer, cycle_of}
-use Rattle.boundary_model.specs.Sound.{Sound}
-use Rattle.boundary_model.proofs.Halves.{plus_row, code-half}
-use Rattle.boundary_model.proofs.Tables.{map_one}
-use Rattle.boundary_model.proofs.Models.{face_row}
+use Rattle.euler_operators.specs.Items.{count, IsIn, IsApart, before, after}
+use Rattle.euler_operators.specs.Rings.{canonical, rest, between, beyond}
+use Rattle.euler_operators.proofs.Lists.{count-append, tick_same, before_at, after_at}
+use Rattle.euler_operators.proofs.Rotations.{canonical-rotates, rest_same, rest_at}
+use Rattle.euler_operators.specs.HalfEdge.{mate, plus, minus, half}
+use Rattle.euler_operators.specs.Table as table
+use Rattle.euler_operators.specs.Table.{Table, tables, same_table}
+use Rattle.euler_operators.specs.Model.{Model, LoopRow, cycle, no_face, tail, loop_of, face_of, solid_of, outer, cycle_of}
+use Rattle.euler_operators.specs.Sound.{Sound}
+use Rattle.euler_operators.proofs.Halves.{plus_row, code-half}
+use Rattle.euler_operators.proofs.Tables.{map_one}
+use Rattle.euler_operators.proofs.Models.{face_row}
 use Rattle.euler_operators.specs.declared.Op.TheVariants.{Kemr, Mfkrh}
 use Rattle.euler_operators.specs.Conditions.{first_false}
 use Rattle.euler_operators.specs.Effect.{effect, kemr, mfkrh, cycle_or_lone, loop_to_face}

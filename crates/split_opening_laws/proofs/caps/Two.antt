@@ -2,14 +2,14 @@
 use Rattle.std.proofs.Common.{◌≡◌, ℕ, ◌+◌, ◌≤◌, List, [], ◌∷◌, ◌++◌, length, Some, sym, ap, ◌∙◌, arith, inl, inr}
 use Rattle.std.specs.Prelude.{get_or}
 use Rattle.std.proofs.lemmas.Bool.{cases_lt}
-use Rattle.cyclic_list.specs.Items.{IsIn, IsApart}
-use Rattle.cyclic_list.specs.Rings.{canonical, successor}
-use Rattle.cyclic_list.proofs.Lists.{count-append, tick_same}
-use Rattle.cyclic_list.proofs.Rings.{successor_same, successor_head, successor_last}
-use Rattle.cyclic_list.proofs.Rotations.{canonical-rotates}
-use Rattle.boundary_model.specs.HalfEdge.{plus, minus}
-use Rattle.boundary_model.specs.Model.{Model, cycle, tail, after}
-use Rattle.boundary_model.specs.Sound.{Sound}
+use Rattle.euler_operators.specs.Items.{IsIn, IsApart}
+use Rattle.euler_operators.specs.Rings.{canonical, successor}
+use Rattle.euler_operators.proofs.Lists.{count-append, tick_same}
+use Rattle.euler_operators.proofs.Rings.{successor_same, successor_head, successor_last}
+use Rattle.euler_operators.proofs.Rotations.{canonical-rotates}
+use Rattle.euler_operators.specs.HalfEdge.{plus, minus}
+use Rattle.euler_operators.specs.Model.{Model, cycle, tail, after}
+use Rattle.euler_operators.specs.Sound.{Sound}
 use Rattle.euler_laws.proofs.shared.Undo.{mate_minus}
 use Rattle.sweeps_laws.proofs.prism.Steps.{Around, apart_xs, half_is, cycle_is}
 use Rattle.sweeps_laws.proofs.prism.Sides.{next_last}

@@ -1,14 +1,14 @@
 -- The arc round a vertex whose half-edges lie on two sides.
 use Rattle.std.proofs.Common.{◌≡◌, ◌≢◌, ℕ, ◌+◌, Bool, true, false, List, [], ◌∷◌, ◌++◌, refl, sym, ap, ◌∙◌, subst, arith, ◌⊎◌, inl, inr, true≢false}
 use Rattle.std.proofs.lemmas.Bool.Decides.{eqb_tells}
-use Rattle.cyclic_list.specs.Items.{count, IsIn}
-use Rattle.cyclic_list.specs.Rings.{rotate_to, IsPath, IsRing, between, beyond}
-use Rattle.cyclic_list.proofs.Lists.{count-append, tick_same, tick_other, IsIn_or_not}
-use Rattle.cyclic_list.proofs.Rotations.{rotate_to-rotates, count-rotate_to}
-use Rattle.cyclic_list.proofs.Rings.{IsPath-left, IsPath-right, IsRing-same}
-use Rattle.cyclic_list.proofs.Cuts.{ring_split, upto_other}
-use Rattle.boundary_model.specs.Model.{Model, tail, after, arc, round}
-use Rattle.boundary_model.specs.Sound.{Sound, HasHalf}
+use Rattle.euler_operators.specs.Items.{count, IsIn}
+use Rattle.euler_operators.specs.Rings.{rotate_to, IsPath, IsRing, between, beyond}
+use Rattle.euler_operators.proofs.Lists.{count-append, tick_same, tick_other, IsIn_or_not}
+use Rattle.euler_operators.proofs.Rotations.{rotate_to-rotates, count-rotate_to}
+use Rattle.euler_operators.proofs.Rings.{IsPath-left, IsPath-right, IsRing-same}
+use Rattle.euler_operators.proofs.Cuts.{ring_split, upto_other}
+use Rattle.euler_operators.specs.Model.{Model, tail, after, arc, round}
+use Rattle.euler_operators.specs.Sound.{Sound, HasHalf}
 use Rattle.euler_laws.proofs.shared.Arcs.{arc_is}
 use Rattle.euler_laws.proofs.shared.Fans.{Fan, fan_of}
 

@@ -4,20 +4,20 @@ use Rattle.std.specs.Prelude.{map, get_or, nat_lt}
 use Rattle.std.specs.Option.{option_map}
 use Rattle.std.proofs.lemmas.Bool.Decides.{nat_tests, eqb_tells}
 use Rattle.std.proofs.lemmas.List.{append_assoc}
-use Rattle.cyclic_list.specs.Items.{count, IsIn, IsApart}
-use Rattle.cyclic_list.specs.Rings.{canonical}
-use Rattle.cyclic_list.specs.Edits.{insert_before}
-use Rattle.cyclic_list.proofs.Lists.{count-append, tick_same, tick_other}
-use Rattle.cyclic_list.proofs.Rotations.{canonical-rotates, count-canonical, canonical_same}
-use Rattle.cyclic_list.proofs.Edits.{insert_before_at, insert_before_same}
-use Rattle.boundary_model.specs.HalfEdge.{mate, edge_of, plus, minus}
-use Rattle.boundary_model.specs.Table as table
-use Rattle.boundary_model.specs.Table.{Table, get-map_rows}
-use Rattle.boundary_model.specs.Model.{Model, LoopContent, LoopRow, cycle, loop_of}
-use Rattle.boundary_model.specs.Sound.{Sound, Has}
-use Rattle.boundary_model.proofs.Halves.{plus_row, minus_row}
-use Rattle.boundary_model.proofs.Tables.{map_same}
-use Rattle.boundary_model.proofs.Models.{in-holds, holds-none, none-holds, other_loop, not_held}
+use Rattle.euler_operators.specs.Items.{count, IsIn, IsApart}
+use Rattle.euler_operators.specs.Rings.{canonical}
+use Rattle.euler_operators.specs.Edits.{insert_before}
+use Rattle.euler_operators.proofs.Lists.{count-append, tick_same, tick_other}
+use Rattle.euler_operators.proofs.Rotations.{canonical-rotates, count-canonical, canonical_same}
+use Rattle.euler_operators.proofs.Edits.{insert_before_at, insert_before_same}
+use Rattle.euler_operators.specs.HalfEdge.{mate, edge_of, plus, minus}
+use Rattle.euler_operators.specs.Table as table
+use Rattle.euler_operators.specs.Table.{Table, get-map_rows}
+use Rattle.euler_operators.specs.Model.{Model, LoopContent, LoopRow, cycle, loop_of}
+use Rattle.euler_operators.specs.Sound.{Sound, Has}
+use Rattle.euler_operators.proofs.Halves.{plus_row, minus_row}
+use Rattle.euler_operators.proofs.Tables.{map_same}
+use Rattle.euler_operators.proofs.Models.{in-holds, holds-none, none-holds, other_loop, not_held}
 use Rattle.euler_operators.specs.Effect.{with_before}
 use Rattle.euler_laws.proofs.shared.Rows.{where_held_none, where_held_there}
 use Rattle.euler_laws.proofs.shared.Same.{map_twice, mapped_some}

@@ -1,15 +1,15 @@
 -- Round a vertex of the cycle that has no copy yet, the half-edges above lie between -ci and the mate before.
 use Rattle.std.proofs.Common.{◌≡◌, ◌≢◌, ℕ, suc, ◌+◌, ◌≤◌, ◌<◌, Bool, true, false, cond, List, [], ◌∷◌, ◌++◌, length, refl, sym, ap, ◌∙◌, arith, ◌⊎◌, inl, inr, true≢false}
 use Rattle.std.specs.Prelude.{map, get_or, not, ◌&&◌}
-use Rattle.cyclic_list.specs.Items.{count, IsIn, IsApart}
-use Rattle.cyclic_list.specs.Rings.{canonical, successor}
-use Rattle.cyclic_list.proofs.Lists.{count-append, tick_same}
-use Rattle.cyclic_list.proofs.Rotations.{canonical-rotates}
-use Rattle.cyclic_list.proofs.Rings.{successor_same, successor_last}
-use Rattle.boundary_model.specs.HalfEdge.{mate, edge_of, plus, minus}
-use Rattle.boundary_model.specs.Model.{Model, tail, face_of, after, round}
-use Rattle.boundary_model.specs.Sound.{Sound, HasHalf}
-use Rattle.boundary_model.proofs.Halves.{mate-mate, minus_row}
+use Rattle.euler_operators.specs.Items.{count, IsIn, IsApart}
+use Rattle.euler_operators.specs.Rings.{canonical, successor}
+use Rattle.euler_operators.proofs.Lists.{count-append, tick_same}
+use Rattle.euler_operators.proofs.Rotations.{canonical-rotates}
+use Rattle.euler_operators.proofs.Rings.{successor_same, successor_last}
+use Rattle.euler_operators.specs.HalfEdge.{mate, edge_of, plus, minus}
+use Rattle.euler_operators.specs.Model.{Model, tail, face_of, after, round}
+use Rattle.euler_operators.specs.Sound.{Sound, HasHalf}
+use Rattle.euler_operators.proofs.Halves.{mate-mate, minus_row}
 use Rattle.euler_operators.specs.Conditions.{face_at, lists}
 use Rattle.euler_laws.proofs.shared.Fans.{half_mate, loop_after}
 use Rattle.euler_laws.proofs.shared.Undo.{mate_plus, mate_minus}

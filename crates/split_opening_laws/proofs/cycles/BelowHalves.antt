@@ -2,14 +2,14 @@
 use Rattle.std.proofs.Common.{◌≡◌, ◌≢◌, ℕ, ◌<◌, Bool, true, false, cond, not, nat_eq, ◌&&◌, List, [], ◌∷◌, ◌++◌, is_some, refl, sym, ap, subst, ◌∙◌, arith, true≢false, inl, inr}
 use Rattle.std.specs.Prelude.{flat_map}
 use Rattle.std.proofs.lemmas.Bool.Decides.{eqb_tells}
-use Rattle.cyclic_list.specs.Items.{tick, count, IsIn, IsApart}
-use Rattle.cyclic_list.proofs.Lists.{tick_same, tick_other, count-append}
-use Rattle.boundary_model.specs.HalfEdge.{mate, edge_of, plus, minus}
-use Rattle.boundary_model.specs.Table as table
-use Rattle.boundary_model.specs.Table.{Table}
-use Rattle.boundary_model.specs.Model.{Model, solid_of}
-use Rattle.boundary_model.specs.Sound.{Sound, HasHalf}
-use Rattle.boundary_model.proofs.Halves.{plus_row, minus_row}
+use Rattle.euler_operators.specs.Items.{tick, count, IsIn, IsApart}
+use Rattle.euler_operators.proofs.Lists.{tick_same, tick_other, count-append}
+use Rattle.euler_operators.specs.HalfEdge.{mate, edge_of, plus, minus}
+use Rattle.euler_operators.specs.Table as table
+use Rattle.euler_operators.specs.Table.{Table}
+use Rattle.euler_operators.specs.Model.{Model, solid_of}
+use Rattle.euler_operators.specs.Sound.{Sound, HasHalf}
+use Rattle.euler_operators.proofs.Halves.{plus_row, minus_row}
 use Rattle.euler_operators.specs.Conditions.{face_at, lists, strictly_rises}
 use Rattle.euler_laws.proofs.shared.Arcs.{halves_of_edge}
 use Rattle.euler_laws.proofs.shared.Goes.{equal, equals}

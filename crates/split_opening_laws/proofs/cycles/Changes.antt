@@ -1,7 +1,7 @@
 -- Going once round a ring on which each item is on or off, one comes on as often as one goes off.
 use Rattle.std.proofs.Common.{◌≡◌, ℕ, ◌+◌, Bool, true, false, not, ◌&&◌, List, [], ◌∷◌, refl, ap, arith}
-use Rattle.cyclic_list.specs.Items.{head_or}
-use Rattle.cyclic_list.specs.Rings.{IsPath, IsRing}
+use Rattle.euler_operators.specs.Items.{head_or}
+use Rattle.euler_operators.specs.Rings.{IsPath, IsRing}
 use Rattle.split_opening_laws.proofs.cycles.Meets.{total}
 
 abbrev pub bit : Bool → ℕ

@@ -2,8 +2,8 @@
 use Rattle.std.proofs.Common.{◌≡◌, ℕ, Bool, true, nat_eq, List, [], ◌∷◌, refl, sym, ap, ◌∙◌, arith, inl, inr}
 use Rattle.std.specs.Prelude.{filter, flat_map}
 use Rattle.std.proofs.lemmas.Bool.Decides.{eqb_tells}
-use Rattle.cyclic_list.specs.Items.{tick, count, IsIn, SameItems, least}
-use Rattle.cyclic_list.proofs.Lists.{tick_same, tick_other, least_in, least_same, IsIn_or_not}
+use Rattle.euler_operators.specs.Items.{tick, count, IsIn, SameItems, least}
+use Rattle.euler_operators.proofs.Lists.{tick_same, tick_other, least_in, least_same, IsIn_or_not}
 use Rattle.euler_laws.proofs.shared.Goes.{equal, equals}
 use Rattle.split_opening_laws.specs.cycles.Permuting.{Permutes}
 use Rattle.split_opening_laws.proofs.cycles.Meets.{total, total_same, total_ticks, count_filter, filter_less, filter_passes, count_flat}

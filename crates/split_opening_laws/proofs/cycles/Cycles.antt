@@ -2,15 +2,15 @@
 use Rattle.std.proofs.Common.{◌≡◌, ◌≢◌, ℕ, zero, suc, ◌+◌, ◌≤◌, ◌<◌, Bool, true, false, cond, List, [], ◌∷◌, ◌++◌, length, map, get_or, refl, sym, ap, subst, ◌∙◌, arith, ◌⊎◌, inl, inr}
 use Rattle.std.specs.Prelude.{flat_map}
 use Rattle.std.proofs.lemmas.Bool.Decides.{eqb_tells}
-use Rattle.cyclic_list.specs.Items.{count, IsIn, IsApart, SameItems, head_or, least}
-use Rattle.cyclic_list.specs.Rings.{IsPath, IsRing}
-use Rattle.cyclic_list.proofs.Lists.{tick_same, tick_other, IsIn_or_not}
-use Rattle.cyclic_list.proofs.Std.{IsIn-get_or}
-use Rattle.cyclic_list.proofs.Maps.{IsApart-map}
-use Rattle.boundary_model.specs.HalfEdge.{mate}
-use Rattle.boundary_model.specs.Model.{Model, tail}
-use Rattle.boundary_model.specs.Sound.{Sound, HasHalf}
-use Rattle.boundary_model.proofs.Halves.{mate-mate}
+use Rattle.euler_operators.specs.Items.{count, IsIn, IsApart, SameItems, head_or, least}
+use Rattle.euler_operators.specs.Rings.{IsPath, IsRing}
+use Rattle.euler_operators.proofs.Lists.{tick_same, tick_other, IsIn_or_not}
+use Rattle.euler_operators.proofs.Std.{IsIn-get_or}
+use Rattle.euler_operators.proofs.Maps.{IsApart-map}
+use Rattle.euler_operators.specs.HalfEdge.{mate}
+use Rattle.euler_operators.specs.Model.{Model, tail}
+use Rattle.euler_operators.specs.Sound.{Sound, HasHalf}
+use Rattle.euler_operators.proofs.Halves.{mate-mate}
 use Rattle.euler_operators.specs.Conditions.{face_at, lists, strictly_rises}
 use Rattle.euler_laws.proofs.shared.Fans.{half_mate}
 use Rattle.euler_laws.proofs.shared.Goes.{equals, differs}

@@ -1,13 +1,13 @@
 -- As many below halves start at a vertex as end there.
 use Rattle.std.proofs.Common.{◌≡◌, ◌≢◌, ℕ, Bool, true, false, not, ◌&&◌, List, [], ◌∷◌, map, refl, sym, ap, subst, ◌∙◌, arith, true≢false, ◌⊎◌, inl, inr}
 use Rattle.std.proofs.lemmas.Bool.Decides.{eqb_tells}
-use Rattle.cyclic_list.specs.Items.{tick, count, IsIn}
-use Rattle.cyclic_list.proofs.Lists.{tick_same, tick_other, IsIn_or_not}
-use Rattle.cyclic_list.proofs.Maps.{count-map, from_map}
-use Rattle.boundary_model.specs.HalfEdge.{mate}
-use Rattle.boundary_model.specs.Model.{Model, tail, face_of, round, after}
-use Rattle.boundary_model.specs.Sound.{Sound, HasHalf}
-use Rattle.boundary_model.proofs.Halves.{mate-mate}
+use Rattle.euler_operators.specs.Items.{tick, count, IsIn}
+use Rattle.euler_operators.proofs.Lists.{tick_same, tick_other, IsIn_or_not}
+use Rattle.euler_operators.proofs.Maps.{count-map, from_map}
+use Rattle.euler_operators.specs.HalfEdge.{mate}
+use Rattle.euler_operators.specs.Model.{Model, tail, face_of, round, after}
+use Rattle.euler_operators.specs.Sound.{Sound, HasHalf}
+use Rattle.euler_operators.proofs.Halves.{mate-mate}
 use Rattle.euler_operators.specs.Conditions.{face_at, lists}
 use Rattle.euler_laws.proofs.shared.Fans.{Fan, fan_of, half_mate, loop_after}
 use Rattle.shapes.specs.split.Section.{below_halves}

@@ -2,8 +2,8 @@
 use Rattle.std.proofs.Common.{◌≡◌, ℕ, ◌+◌, ◌≤◌, Bool, true, false, cond, List, [], ◌∷◌, length, map, refl, sym, ap, ◌∙◌, arith, inl, inr}
 use Rattle.std.specs.Prelude.{filter, flat_map}
 use Rattle.std.proofs.lemmas.Bool.Decides.{eqb_tells}
-use Rattle.cyclic_list.specs.Items.{tick, count, IsIn, IsApart}
-use Rattle.cyclic_list.proofs.Lists.{tick_same, tick_other, count-append}
+use Rattle.euler_operators.specs.Items.{tick, count, IsIn, IsApart}
+use Rattle.euler_operators.proofs.Lists.{tick_same, tick_other, count-append}
 
 abbrev pub total : (ℕ → ℕ) → List ℕ → ℕ
 total f [] = 0

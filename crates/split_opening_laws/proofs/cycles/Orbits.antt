@@ -2,14 +2,14 @@
 use Rattle.std.proofs.Common.{◌≡◌, ℕ, zero, suc, ◌+◌, ◌≤◌, List, [], ◌∷◌, ◌++◌, length, map, refl, sym, ap, subst, ◌∙◌, arith, inl, inr}
 use Rattle.std.proofs.lemmas.Bool.Decides.{eqb_tells}
 use Rattle.std.proofs.lemmas.List.{length-append}
-use Rattle.cyclic_list.specs.Items.{tick, count, IsIn, IsApart, SameItems, last_or}
-use Rattle.cyclic_list.specs.Rings.{IsPath, IsRing, orbit, rotate_to}
-use Rattle.cyclic_list.proofs.Lists.{tick_same, tick_other, count-append}
-use Rattle.cyclic_list.proofs.Rotations.{count-rotate_to}
-use Rattle.cyclic_list.proofs.Operators.{apart_back}
-use Rattle.cyclic_list.proofs.Maps.{IsApart-map}
-use Rattle.cyclic_list.proofs.Rings.{IsPath-append, front_of, orbit_ring, orbit_from}
-use Rattle.cyclic_list.proofs.Closed.{IsPath_last}
+use Rattle.euler_operators.specs.Items.{tick, count, IsIn, IsApart, SameItems, last_or}
+use Rattle.euler_operators.specs.Rings.{IsPath, IsRing, orbit, rotate_to}
+use Rattle.euler_operators.proofs.Lists.{tick_same, tick_other, count-append}
+use Rattle.euler_operators.proofs.Rotations.{count-rotate_to}
+use Rattle.euler_operators.proofs.Operators.{apart_back}
+use Rattle.euler_operators.proofs.Maps.{IsApart-map}
+use Rattle.euler_operators.proofs.Rings.{IsPath-append, front_of, orbit_ring, orbit_from}
+use Rattle.euler_operators.proofs.Closed.{IsPath_last}
 use Rattle.split_opening_laws.specs.cycles.Permuting.{Permutes}
 use Rattle.split_opening_laws.proofs.cycles.Meets.{apart_within}
 

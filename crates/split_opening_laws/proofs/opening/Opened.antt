@@ -2,11 +2,11 @@
 use Rattle.std.proofs.Common.{◌≡◌, ℕ, suc, ◌+◌, ◌-◌, ◌<◌, List, length, None, refl, ap, ◌∙◌, arith}
 use Rattle.std.specs.Prelude.{map, reverse}
 use Rattle.std.specs.Option.{option_map}
-use Rattle.cyclic_list.specs.Rings.{canonical}
-use Rattle.boundary_model.specs.HalfEdge.{mate, minus}
-use Rattle.boundary_model.specs.Table as table
-use Rattle.boundary_model.specs.Table.{Table, get-map_rows}
-use Rattle.boundary_model.specs.Model.{Model, FaceRow, LoopRow, EdgeRow, cycle}
+use Rattle.euler_operators.specs.Rings.{canonical}
+use Rattle.euler_operators.specs.HalfEdge.{mate, minus}
+use Rattle.euler_operators.specs.Table as table
+use Rattle.euler_operators.specs.Table.{Table, get-map_rows}
+use Rattle.euler_operators.specs.Model.{Model, FaceRow, LoopRow, EdgeRow, cycle}
 use Rattle.shapes.proofs.fresh.Rows.{put-put}
 use Rattle.shapes.specs.Fresh.{Taken, numbers_after}
 use Rattle.shapes.specs.Rewriting.{rewritten_row, renamed, without_rows}

@@ -4,13 +4,13 @@ use Rattle.std.specs.Prelude.{map, get_or}
 use Rattle.std.specs.Option.{option_map}
 use Rattle.std.proofs.lemmas.Bool.Decides.{nat_tests}
 use Rattle.std.proofs.lemmas.List.{length-map, get_or-map}
-use Rattle.cyclic_list.specs.Rings.{canonical}
-use Rattle.boundary_model.specs.HalfEdge.{mate, plus, minus}
-use Rattle.boundary_model.specs.Table as table
-use Rattle.boundary_model.specs.Table.{Table, get-map_rows}
-use Rattle.boundary_model.specs.Model.{Model, LoopRow, cycle, face_of}
-use Rattle.boundary_model.specs.Sound.{Has}
-use Rattle.boundary_model.proofs.Models.{face_row}
+use Rattle.euler_operators.specs.Rings.{canonical}
+use Rattle.euler_operators.specs.HalfEdge.{mate, plus, minus}
+use Rattle.euler_operators.specs.Table as table
+use Rattle.euler_operators.specs.Table.{Table, get-map_rows}
+use Rattle.euler_operators.specs.Model.{Model, LoopRow, cycle, face_of}
+use Rattle.euler_operators.specs.Sound.{Has}
+use Rattle.euler_operators.proofs.Models.{face_row}
 use Rattle.sweeps_laws.proofs.prism.Sides.{fits}
 use Rattle.shapes.specs.Fresh.{Taken}
 use Rattle.shapes.specs.Prism.{next_place}

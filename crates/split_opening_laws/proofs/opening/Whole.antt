@@ -2,9 +2,9 @@
 use Rattle.std.proofs.Common.{◌≡◌, ℕ, List, ◌++◌, length, sym, ap, ◌∙◌, subst}
 use Rattle.std.specs.Prelude.{map}
 use Rattle.std.proofs.lemmas.List.{length-map}
-use Rattle.boundary_model.specs.HalfEdge.{mate}
-use Rattle.boundary_model.specs.Model.{Model}
-use Rattle.boundary_model.specs.Sound.{Sound}
+use Rattle.euler_operators.specs.HalfEdge.{mate}
+use Rattle.euler_operators.specs.Model.{Model}
+use Rattle.euler_operators.specs.Sound.{Sound}
 use Rattle.euler_operators.specs.declared.Op.{Op}
 use Rattle.euler_laws.specs.Laws.{effects, AreAccepted}
 use Rattle.euler_laws.proofs.Runs.{effects-append, AreAccepted-append, effects_keep_sound}

@@ -4,15 +4,15 @@ use Rattle.std.specs.Option.{option_map}
 use Rattle.std.proofs.lemmas.Bool.Decides.{eqb_tells}
 use Rattle.std.proofs.lemmas.List.{append_assoc}
 use Rattle.std.proofs.lemmas.Grind.{flat_map-append}
-use Rattle.lattice.specs.declared.Plane.{Plane}
-use Rattle.cyclic_list.specs.Items.{count, IsIn}
-use Rattle.cyclic_list.proofs.Lists.{count-append, tick_same, tick_other, IsIn_or_not}
-use Rattle.boundary_model.specs.HalfEdge.{mate, plus}
-use Rattle.boundary_model.specs.Table as table
-use Rattle.boundary_model.specs.Table.{get-map_rows}
-use Rattle.boundary_model.specs.Model.{Model, LoopRow, no_face, face_of, solid_of, outer}
-use Rattle.boundary_model.specs.Sound.{Sound, Has}
-use Rattle.boundary_model.proofs.Models.{face_row}
+use Rattle.euler_operators.specs.declared.Plane.{Plane}
+use Rattle.euler_operators.specs.Items.{count, IsIn}
+use Rattle.euler_operators.proofs.Lists.{count-append, tick_same, tick_other, IsIn_or_not}
+use Rattle.euler_operators.specs.HalfEdge.{mate, plus}
+use Rattle.euler_operators.specs.Table as table
+use Rattle.euler_operators.specs.Table.{get-map_rows}
+use Rattle.euler_operators.specs.Model.{Model, LoopRow, no_face, face_of, solid_of, outer}
+use Rattle.euler_operators.specs.Sound.{Sound, Has}
+use Rattle.euler_operators.proofs.Models.{face_row}
 use Rattle.euler_operators.specs.Conditions.{strictly_rises}
 use Rattle.euler_laws.proofs.shared.Loops.{some_row}
 use Rattle.solid_walks.proofs.RisingLists.{rest_rises}

@@ -1,9 +1,9 @@
 -- The edges round a cap, which get the numbers after those taken.
 use Rattle.std.proofs.Common.{◌≡◌, ◌≢◌, ℕ, zero, suc, ◌+◌, ◌≤◌, ◌<◌, Bool, true, false, cond, nat_eq, Some, None, is_some, refl, sym, ap, subst, ◌∙◌, arith, true≢false, ◌⊎◌, inl, inr}
-use Rattle.boundary_model.specs.Table as table
-use Rattle.boundary_model.specs.Table.{Table}
-use Rattle.boundary_model.specs.Model.{EdgeRow}
-use Rattle.boundary_model.specs.Sound.{Has}
+use Rattle.euler_operators.specs.Table as table
+use Rattle.euler_operators.specs.Table.{Table}
+use Rattle.euler_operators.specs.Model.{EdgeRow}
+use Rattle.euler_operators.specs.Sound.{Has}
 use Rattle.shapes.proofs.fresh.Rows.{get-put_cases, get-put_other}
 use Rattle.solid_walks.proofs.Rising.{below_or}
 use Rattle.shapes.specs.split.Opening.{with_rim}

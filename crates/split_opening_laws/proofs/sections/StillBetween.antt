@@ -1,15 +1,15 @@
 -- What is between the upper faces and the others, once a solid is opened along one cycle of several.
 use Rattle.std.proofs.Common.{◌≡◌, ◌≢◌, ℕ, ◌+◌, ◌≤◌, Bool, true, false, nat_eq, ◌||◌, List, [], ◌∷◌, ◌++◌, length, map, is_some, unwrap_or, refl, sym, ap, subst, ◌∙◌, arith, true≢false, inl, inr}
 use Rattle.std.proofs.lemmas.Bool.Decides.{eqb_tells}
-use Rattle.cyclic_list.specs.Items.{count, IsIn}
-use Rattle.cyclic_list.proofs.Lists.{count-append, IsIn_or_not}
-use Rattle.cyclic_list.proofs.Maps.{from_map}
-use Rattle.boundary_model.specs.HalfEdge.{mate, edge_of}
-use Rattle.boundary_model.specs.Table as table
-use Rattle.boundary_model.specs.Model.{Model, loop_of, solid_of, no_face}
-use Rattle.boundary_model.specs.Sound.{Sound, Has, HasHalf}
-use Rattle.boundary_model.proofs.Halves.{mate-mate}
-use Rattle.boundary_model.proofs.Models.{row_of}
+use Rattle.euler_operators.specs.Items.{count, IsIn}
+use Rattle.euler_operators.proofs.Lists.{count-append, IsIn_or_not}
+use Rattle.euler_operators.proofs.Maps.{from_map}
+use Rattle.euler_operators.specs.HalfEdge.{mate, edge_of}
+use Rattle.euler_operators.specs.Table as table
+use Rattle.euler_operators.specs.Model.{Model, loop_of, solid_of, no_face}
+use Rattle.euler_operators.specs.Sound.{Sound, Has, HasHalf}
+use Rattle.euler_operators.proofs.Halves.{mate-mate}
+use Rattle.euler_operators.proofs.Models.{row_of}
 use Rattle.euler_operators.specs.Conditions.{face_at, lists}
 use Rattle.euler_laws.proofs.shared.Arcs.{halves_of_edge}
 use Rattle.euler_laws.proofs.shared.Fans.{half_mate}

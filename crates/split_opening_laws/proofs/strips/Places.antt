@@ -4,18 +4,18 @@ use Rattle.std.specs.Prelude.{map, get_or}
 use Rattle.std.specs.Option.{option_map}
 use Rattle.std.proofs.lemmas.Bool.Decides.{eqb_tells}
 use Rattle.std.proofs.lemmas.List.{length-map, get_or-map, map-append}
-use Rattle.cyclic_list.specs.Items.{IsIn}
-use Rattle.cyclic_list.specs.Rings.{canonical}
-use Rattle.cyclic_list.proofs.Lists.{tick_same, tick_other}
-use Rattle.cyclic_list.proofs.Maps.{from_map}
-use Rattle.cyclic_list.proofs.Rotations.{count-canonical}
-use Rattle.boundary_model.specs.HalfEdge.{mate, edge_of, plus}
-use Rattle.boundary_model.specs.Table as table
-use Rattle.boundary_model.specs.Table.{Table, get-map_rows}
-use Rattle.boundary_model.specs.Model.{Model, LoopRow, cycle, holds, loop_of, face_of, cycle_of}
-use Rattle.boundary_model.specs.Sound.{Sound, Has, HasHalf}
-use Rattle.boundary_model.proofs.Halves.{plus_row}
-use Rattle.boundary_model.proofs.Models.{content_row, face_row, in-holds, cycle_there, row_of}
+use Rattle.euler_operators.specs.Items.{IsIn}
+use Rattle.euler_operators.specs.Rings.{canonical}
+use Rattle.euler_operators.proofs.Lists.{tick_same, tick_other}
+use Rattle.euler_operators.proofs.Maps.{from_map}
+use Rattle.euler_operators.proofs.Rotations.{count-canonical}
+use Rattle.euler_operators.specs.HalfEdge.{mate, edge_of, plus}
+use Rattle.euler_operators.specs.Table as table
+use Rattle.euler_operators.specs.Table.{Table, get-map_rows}
+use Rattle.euler_operators.specs.Model.{Model, LoopRow, cycle, holds, loop_of, face_of, cycle_of}
+use Rattle.euler_operators.specs.Sound.{Sound, Has, HasHalf}
+use Rattle.euler_operators.proofs.Halves.{plus_row}
+use Rattle.euler_operators.proofs.Models.{content_row, face_row, in-holds, cycle_there, row_of}
 use Rattle.euler_operators.specs.Conditions.{face_at}
 use Rattle.shapes.specs.Fresh.{Taken, numbers_after}
 use Rattle.shapes.specs.Rewriting.{rewritten_row, renamed}

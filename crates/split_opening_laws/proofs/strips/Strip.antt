@@ -3,17 +3,17 @@ use Rattle.std.proofs.Common.{◌≡◌, ◌≢◌, ℕ, suc, ◌+◌, ◌<◌, 
 use Rattle.std.specs.Prelude.{map, get_or}
 use Rattle.std.specs.Option.{option_map}
 use Rattle.std.proofs.lemmas.Bool.Decides.{eqb_tells}
-use Rattle.cyclic_list.specs.Items.{IsIn, IsApart, head_or}
-use Rattle.cyclic_list.specs.Rings.{canonical, rest, successor, upto, onward}
-use Rattle.cyclic_list.proofs.Rotations.{rotate_to_is}
-use Rattle.cyclic_list.proofs.Cuts.{upto_once}
-use Rattle.boundary_model.specs.HalfEdge.{mate, edge_of, is_first, plus, code, half}
-use Rattle.boundary_model.specs.Table as table
-use Rattle.boundary_model.specs.Table.{Table}
-use Rattle.boundary_model.specs.Model.{Model, LoopContent, LoopRow, cycle, holds, tail, tail_in, no_edge, no_face, loop_of, solid_of, cycle_of, after, is_number}
-use Rattle.boundary_model.specs.Sound.{Sound, Has, HasHalf}
-use Rattle.boundary_model.proofs.Halves.{code-half, mate-mate}
-use Rattle.boundary_model.proofs.Models.{row_of, in-holds, none-holds, not_held, other_loop, cycle_there, cycle_sound}
+use Rattle.euler_operators.specs.Items.{IsIn, IsApart, head_or}
+use Rattle.euler_operators.specs.Rings.{canonical, rest, successor, upto, onward}
+use Rattle.euler_operators.proofs.Rotations.{rotate_to_is}
+use Rattle.euler_operators.proofs.Cuts.{upto_once}
+use Rattle.euler_operators.specs.HalfEdge.{mate, edge_of, is_first, plus, code, half}
+use Rattle.euler_operators.specs.Table as table
+use Rattle.euler_operators.specs.Table.{Table}
+use Rattle.euler_operators.specs.Model.{Model, LoopContent, LoopRow, cycle, holds, tail, tail_in, no_edge, no_face, loop_of, solid_of, cycle_of, after, is_number}
+use Rattle.euler_operators.specs.Sound.{Sound, Has, HasHalf}
+use Rattle.euler_operators.proofs.Halves.{code-half, mate-mate}
+use Rattle.euler_operators.proofs.Models.{row_of, in-holds, none-holds, not_held, other_loop, cycle_there, cycle_sound}
 use Rattle.euler_operators.specs.Conditions.{face_at, first_false}
 use Rattle.euler_operators.specs.Effect.{effect, mef, where_held}
 use Rattle.euler_laws.proofs.shared.Fans.{half_after, loop_after}

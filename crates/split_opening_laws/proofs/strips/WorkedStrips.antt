@@ -1,7 +1,7 @@
 -- Worked examples, computed: a block cut diagonally, once the diagonals are drawn.
 use Rattle.std.specs.Prelude.{◌≡◌, ℕ, pos, negsuc, List, [], ◌∷◌, refl}
-use Rattle.boundary_model.specs.declared.Corner.TheVariants.{At}
-use Rattle.boundary_model.specs.Model.{Model}
+use Rattle.euler_operators.specs.declared.Corner.TheVariants.{At}
+use Rattle.euler_operators.specs.Model.{Model}
 use Rattle.euler_operators.specs.declared.Op.{Op}
 use Rattle.euler_operators.specs.declared.Op.TheVariants.{Mev, Mef, Kef, Kemr, Mfkrh}
 use Rattle.euler_operators.proofs.WorkedScripts.{at, after_run, plus, minus}

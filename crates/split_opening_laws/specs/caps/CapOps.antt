@@ -1,6 +1,6 @@
 -- The Euler operators that make two caps of the strips along a cycle.
 use Rattle.std.specs.Prelude.{ℕ, ◌+◌, ◌-◌, List, [], ◌∷◌, ◌++◌, map}
-use Rattle.boundary_model.specs.HalfEdge.{half, plus, minus}
+use Rattle.euler_operators.specs.HalfEdge.{half, plus, minus}
 use Rattle.euler_operators.specs.declared.Op.{Op}
 use Rattle.euler_operators.specs.declared.Op.TheVariants.{Kef, Kemr, Mfkrh}
 use Rattle.shapes.specs.Fresh.{Taken, numbers_after}

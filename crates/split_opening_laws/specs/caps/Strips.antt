@@ -2,11 +2,11 @@
 -- taken from c on: the strip at place i, from 0 on, of m has face c.face + i + 1, loop c.loop + i + 1 and edge c.edge + i + 1, its copy
 -- of a section edge, and edge c.edge + m + i + 1, its riser.
 use Rattle.std.specs.Prelude.{◌≡◌, ◌≤◌, ◌<◌, ℕ, suc, ◌+◌, IsTrue, List, [], ◌∷◌, length, get_or, Some, None}
-use Rattle.cyclic_list.specs.Rings.{canonical}
-use Rattle.boundary_model.specs.HalfEdge.{plus, minus}
-use Rattle.boundary_model.specs.Table as table
-use Rattle.boundary_model.specs.Model.{Model, cycle, face_of, is_number}
-use Rattle.boundary_model.specs.Sound.{Has}
+use Rattle.euler_operators.specs.Rings.{canonical}
+use Rattle.euler_operators.specs.HalfEdge.{plus, minus}
+use Rattle.euler_operators.specs.Table as table
+use Rattle.euler_operators.specs.Model.{Model, cycle, face_of, is_number}
+use Rattle.euler_operators.specs.Sound.{Has}
 use Rattle.shapes.specs.Fresh.{Taken}
 use Rattle.shapes.specs.Prism.{next_place}
 

@@ -1,7 +1,7 @@
 -- The laws of copies, each over every model and every cycle along which a solid can be opened, once its strips are cut off.
 use Rattle.std.specs.Prelude.{◌≡◌, ℕ, List, length}
-use Rattle.boundary_model.specs.Model.{Model}
-use Rattle.boundary_model.specs.Sound.{Sound}
+use Rattle.euler_operators.specs.Model.{Model}
+use Rattle.euler_operators.specs.Sound.{Sound}
 use Rattle.euler_laws.specs.Laws.{effects, AreAccepted}
 use Rattle.shapes.specs.Fresh.{Taken}
 use Rattle.split_opening_laws.specs.strips.Strips.{strips_cut, copies_raised}

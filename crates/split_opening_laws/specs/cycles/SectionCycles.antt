@@ -1,9 +1,9 @@
 -- What the below halves of a section are, and the cycles that they form.
 use Rattle.std.specs.Prelude.{◌≡◌, ◌≢◌, ◌⊎◌, ℕ, ◌≤◌, ◌<◌, true, false, List, [], ◌∷◌, map, flat_map, length, get_or}
-use Rattle.cyclic_list.specs.Items.{IsIn, IsApart}
-use Rattle.boundary_model.specs.HalfEdge.{mate}
-use Rattle.boundary_model.specs.Model.{Model, tail, solid_of}
-use Rattle.boundary_model.specs.Sound.{HasHalf}
+use Rattle.euler_operators.specs.Items.{IsIn, IsApart}
+use Rattle.euler_operators.specs.HalfEdge.{mate}
+use Rattle.euler_operators.specs.Model.{Model, tail, solid_of}
+use Rattle.euler_operators.specs.Sound.{HasHalf}
 use Rattle.euler_operators.specs.Conditions.{face_at, lists}
 use Rattle.shapes.specs.Prism.{next_place}
 use Rattle.shapes.specs.split.Section.{section_ends, least_branched}

@@ -1,8 +1,8 @@
 -- The Euler operators that cut the strips off and raise the copies.
 use Rattle.std.specs.Prelude.{ℕ, zero, suc, ◌+◌, ◌-◌, cond, nat_eq, List, [], ◌∷◌, ◌++◌, length, get_or}
-use Rattle.boundary_model.specs.declared.Corner.TheVariants.{At}
-use Rattle.boundary_model.specs.HalfEdge.{half, mate, plus, minus}
-use Rattle.boundary_model.specs.Model.{Model, tail, point_of, after}
+use Rattle.euler_operators.specs.declared.Corner.TheVariants.{At}
+use Rattle.euler_operators.specs.HalfEdge.{half, mate, plus, minus}
+use Rattle.euler_operators.specs.Model.{Model, tail, point_of, after}
 use Rattle.euler_operators.specs.declared.Op.{Op}
 use Rattle.euler_operators.specs.declared.Op.TheVariants.{Mev, Mef}
 use Rattle.shapes.specs.Fresh.{Taken}

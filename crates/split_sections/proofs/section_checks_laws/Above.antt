@@ -1,10 +1,10 @@
 -- The faces above a plane, and the below halves and cycles along them.
 use Rattle.std.proofs.Common.{◌≡◌, ℕ, ◌≤◌, Bool, true, false, cond, nat_eq, List, [], ◌∷◌, length, map, refl, ap, ◌∙◌, arith}
 use Rattle.std.specs.Prelude.{filter, unwrap_or}
-use Rattle.lattice.specs.declared.Plane.{Plane}
-use Rattle.cyclic_list.specs.Items.{least}
-use Rattle.boundary_model.specs.Model.{Model, solid_of, faces_of, no_face}
-use Rattle.boundary_model.specs.Sound.{Sound}
+use Rattle.euler_operators.specs.declared.Plane.{Plane}
+use Rattle.euler_operators.specs.Items.{least}
+use Rattle.euler_operators.specs.Model.{Model, solid_of, faces_of, no_face}
+use Rattle.euler_operators.specs.Sound.{Sound}
 use Rattle.euler_operators.specs.Conditions.{strictly_rises}
 use Rattle.split_drawing_laws.proofs.crossings.Listed.{all_where_has}
 use Rattle.euler_laws.proofs.shared.Goes.{equal}

@@ -3,9 +3,9 @@ use Rattle.std.proofs.Common.{◌≡◌, ℕ, ◌≤◌, ◌<◌, Bool, true, fa
 use Rattle.std.specs.Prelude.{filter}
 use Rattle.std.proofs.lemmas.Bool.Decides.{eqb_tells}
 use Rattle.std.proofs.lemmas.List.{append_assoc, append-nil}
-use Rattle.cyclic_list.specs.Items.{count, IsIn, SameItems, least}
-use Rattle.cyclic_list.proofs.Lists.{tick_same, tick_other, count-append, IsIn_or_not, least_le, least_in, least_same}
-use Rattle.cyclic_list.specs.Rings.{orbit}
+use Rattle.euler_operators.specs.Items.{count, IsIn, SameItems, least}
+use Rattle.euler_operators.proofs.Lists.{tick_same, tick_other, count-append, IsIn_or_not, least_le, least_in, least_same}
+use Rattle.euler_operators.specs.Rings.{orbit}
 use Rattle.euler_operators.specs.Conditions.{lists, strictly_rises}
 use Rattle.euler_conditions.proofs.Rising.{rest_rises}
 use Rattle.euler_laws.proofs.shared.Goes.{differs, equals}

@@ -1,11 +1,11 @@
 -- The half-edge to which one of some half-edges leads.
 use Rattle.std.proofs.Common.{◌≡◌, ◌≢◌, ℕ, List, sym, ap, ◌∙◌, true≢false}
 use Rattle.std.specs.BTreeMap.{BTreeMap}
-use Rattle.cyclic_list.specs.Items.{IsIn}
-use Rattle.boundary_model.specs.declared.HalfEdge.{HalfEdge}
-use Rattle.boundary_model.specs.HalfEdge.{mate, edge_of}
-use Rattle.boundary_model.specs.Model.{Model, tail, is_number}
-use Rattle.boundary_model.specs.Sound.{Sound, HasHalf}
+use Rattle.euler_operators.specs.Items.{IsIn}
+use Rattle.euler_operators.specs.declared.HalfEdge.{HalfEdge}
+use Rattle.euler_operators.specs.HalfEdge.{mate, edge_of}
+use Rattle.euler_operators.specs.Model.{Model, tail, is_number}
+use Rattle.euler_operators.specs.Sound.{Sound, HasHalf}
 use Rattle.shapes.specs.split.Section.{next_below}
 use Rattle.split_sections.specs.section_cycles.Halves.{AreThere}
 use Rattle.split_sections.specs.section_cycles.Starts.{half_at, AreStarts}

@@ -6,15 +6,15 @@ use Rattle.std.specs.List.{sum_by}
 use Rattle.std.proofs.lemmas.Bool.Decides.{nat_tests}
 use Rattle.std.proofs.lemmas.List.Sorted.{sum_by-IsPermutation, IsNonDecreasingBy-from_sort}
 use Rattle.std.proofs.lemmas.List.Sums.{sum_by-cons}
-use Rattle.lattice.specs.declared.Point.{Point}
-use Rattle.cyclic_list.specs.Items.{tick, count, IsIn, SameItems}
-use Rattle.cyclic_list.proofs.Lists.{tick_same, count-append, IsIn_or_not}
-use Rattle.cyclic_list.proofs.Maps.{from_map}
-use Rattle.boundary_model.specs.declared.HalfEdge.{HalfEdge}
-use Rattle.boundary_model.specs.HalfEdge.{code, mate}
-use Rattle.boundary_model.specs.Table as table
-use Rattle.boundary_model.specs.Model.{Model, tail, is_number}
-use Rattle.boundary_model.specs.Sound.{Sound, HasHalf, Has}
+use Rattle.euler_operators.specs.declared.Point.{Point}
+use Rattle.euler_operators.specs.Items.{tick, count, IsIn, SameItems}
+use Rattle.euler_operators.proofs.Lists.{tick_same, count-append, IsIn_or_not}
+use Rattle.euler_operators.proofs.Maps.{from_map}
+use Rattle.euler_operators.specs.declared.HalfEdge.{HalfEdge}
+use Rattle.euler_operators.specs.HalfEdge.{code, mate}
+use Rattle.euler_operators.specs.Table as table
+use Rattle.euler_operators.specs.Model.{Model, tail, is_number}
+use Rattle.euler_operators.specs.Sound.{Sound, HasHalf, Has}
 use Rattle.euler_laws.proofs.shared.Fans.{half_mate}
 use Rattle.solid_walks.proofs.face_walks_laws.Rising.{AllAbove, all_above_members}
 use Rattle.solid_walks.proofs.face_walks_laws.TableWalks.{passes, member_passing}

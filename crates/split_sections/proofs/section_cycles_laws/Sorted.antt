@@ -4,8 +4,8 @@ use Rattle.std.specs.List.Sorted.{IsNonDecreasing}
 use Rattle.std.proofs.lemmas.Bool.Decides.{nat_tests, eqb_tells}
 use Rattle.std.proofs.lemmas.List.{take_rest}
 use Rattle.split_checks.proofs.cut_places_laws.Lists.{others}
-use Rattle.cyclic_list.specs.Items.{tick, count, IsIn}
-use Rattle.cyclic_list.proofs.Lists.{tick_same, tick_other, tick_le, IsIn_or_not}
+use Rattle.euler_operators.specs.Items.{tick, count, IsIn}
+use Rattle.euler_operators.proofs.Lists.{tick_same, tick_other, tick_le, IsIn_or_not}
 use Rattle.euler_laws.proofs.shared.Goes.{equal, unequal}
 use Rattle.solid_walks.proofs.face_walks_laws.Rising.{member}
 use Rattle.solid_measure.specs.solid_checks.Least.{least_such}

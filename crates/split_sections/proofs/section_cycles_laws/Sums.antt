@@ -1,16 +1,16 @@
 -- Sums of cross products over the mates of some below halves.
 use Rattle.std.proofs.Common.{◌≡◌, ℕ, List, [], ◌∷◌, ◌++◌, map, refl, sym, ap, subst, ◌∙◌, arith}
 use Rattle.std.proofs.lemmas.List.{map-append, append_assoc, append-nil}
-use Rattle.lattice.specs.declared.Point.{Point}
-use Rattle.lattice.specs.Ranges.{IsVectorWithin, normal_limit}
-use Rattle.lattice.specs.Vectors.{origin, moved, cross}
-use Rattle.cyclic_list.specs.Items.{count, IsApart}
-use Rattle.cyclic_list.proofs.Lists.{count-append}
-use Rattle.cyclic_list.proofs.Maps.{IsApart-map, from_map}
-use Rattle.boundary_model.specs.HalfEdge.{mate}
-use Rattle.boundary_model.specs.Model.{Model}
-use Rattle.boundary_model.specs.Sound.{Sound, HasHalf}
-use Rattle.boundary_model.proofs.Halves.{mate-mate}
+use Rattle.euler_operators.specs.declared.Point.{Point}
+use Rattle.euler_operators.specs.Ranges.{IsVectorWithin, normal_limit}
+use Rattle.euler_operators.specs.Vectors.{origin, moved, cross}
+use Rattle.euler_operators.specs.Items.{count, IsApart}
+use Rattle.euler_operators.proofs.Lists.{count-append}
+use Rattle.euler_operators.proofs.Maps.{IsApart-map, from_map}
+use Rattle.euler_operators.specs.HalfEdge.{mate}
+use Rattle.euler_operators.specs.Model.{Model}
+use Rattle.euler_operators.specs.Sound.{Sound, HasHalf}
+use Rattle.euler_operators.proofs.Halves.{mate-mate}
 use Rattle.euler_laws.proofs.shared.Fans.{half_mate}
 use Rattle.shapes.specs.Faces.{start, finish}
 use Rattle.solid_measure.specs.Measure.{area, area_limit}

@@ -2,11 +2,11 @@
 use Rattle.std.proofs.Common.{◌≡◌, ℕ, ◌≤◌, ◌<◌, Bool, List, [], ◌∷◌, ◌++◌, map, length, Vec, refl, ap, ◌∙◌, arith}
 use Rattle.std.specs.declared.alloc.Global.{Global}
 use Rattle.std.proofs.lemmas.List.{map-append}
-use Rattle.cyclic_list.specs.Items.{count, IsIn}
-use Rattle.boundary_model.specs.declared.HalfEdge.{HalfEdge}
-use Rattle.boundary_model.specs.HalfEdge.{code}
-use Rattle.boundary_model.specs.Model.{Model}
-use Rattle.boundary_model.specs.Sound.{Sound, HasHalf}
+use Rattle.euler_operators.specs.Items.{count, IsIn}
+use Rattle.euler_operators.specs.declared.HalfEdge.{HalfEdge}
+use Rattle.euler_operators.specs.HalfEdge.{code}
+use Rattle.euler_operators.specs.Model.{Model}
+use Rattle.euler_operators.specs.Sound.{Sound, HasHalf}
 use Rattle.euler_conditions.proofs.Parallel.{steps_are}
 use Rattle.solid_walks.proofs.Rounds.{edge_number, half_below}
 use Rattle.shapes.specs.split.Section.{next_below, cycle_from, section_cycles}

@@ -1,10 +1,10 @@
 -- What an arena answers of the normal of a face that is there.
 use Rattle.std.proofs.Common.{◌≡◌, ℕ, ℤ, ◌≤◌, List, [], ◌∷◌, None, Result, Ok, Err, sym, ap, subst, ◌∙◌, arith}
-use Rattle.lattice.specs.declared.Point.{Point}
-use Rattle.lattice.specs.Ranges.{IsVectorWithin, normal_limit}
-use Rattle.lattice.specs.Vectors.{vector_of, numbers_of}
-use Rattle.boundary_model.specs.Model.{Model}
-use Rattle.boundary_model.specs.Sound.{Sound, Has}
+use Rattle.euler_operators.specs.declared.Point.{Point}
+use Rattle.euler_operators.specs.Ranges.{IsVectorWithin, normal_limit}
+use Rattle.euler_operators.specs.Vectors.{vector_of, numbers_of}
+use Rattle.euler_operators.specs.Model.{Model}
+use Rattle.euler_operators.specs.Sound.{Sound, Has}
 use Rattle.euler_operators.specs.Conditions.{need, first_refusal}
 use Rattle.euler_operators.specs.declared.Refusal.{Refusal}
 use Rattle.euler_operators.specs.declared.Why.TheVariants.{NumberRange, NoFace}

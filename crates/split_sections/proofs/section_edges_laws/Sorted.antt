@@ -5,13 +5,13 @@ use Rattle.std.specs.List.Sorted.{IsPermutation, IsNonDecreasingBy}
 use Rattle.std.proofs.lemmas.Bool.Decides.{nat_tests}
 use Rattle.std.proofs.lemmas.List.Sorted.{sum_by-IsPermutation, IsPermutation-map}
 use Rattle.std.proofs.lemmas.List.Sums.{sum_by-cons}
-use Rattle.cyclic_list.specs.Items.{count, tick, IsIn, IsApart, SameItems}
-use Rattle.cyclic_list.proofs.Lists.{tick_same}
-use Rattle.boundary_model.specs.declared.HalfEdge.{HalfEdge}
-use Rattle.boundary_model.specs.HalfEdge.{code, edge_of}
-use Rattle.boundary_model.specs.Model.{Model, faces_of}
-use Rattle.boundary_model.specs.Sound.{Sound}
-use Rattle.boundary_model.proofs.Halves.{edge_of-code, same_edge}
+use Rattle.euler_operators.specs.Items.{count, tick, IsIn, IsApart, SameItems}
+use Rattle.euler_operators.proofs.Lists.{tick_same}
+use Rattle.euler_operators.specs.declared.HalfEdge.{HalfEdge}
+use Rattle.euler_operators.specs.HalfEdge.{code, edge_of}
+use Rattle.euler_operators.specs.Model.{Model, faces_of}
+use Rattle.euler_operators.specs.Sound.{Sound}
+use Rattle.euler_operators.proofs.Halves.{edge_of-code, same_edge}
 use Rattle.euler_operators.specs.Conditions.{face_at, lists, strictly_rises}
 use Rattle.euler_conditions.proofs.Rising.{within}
 use Rattle.solid_walks.proofs.Rising.{in_listed}

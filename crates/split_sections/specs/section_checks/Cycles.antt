@@ -1,8 +1,8 @@
 -- The cycles of a section as they are found, and which of them are holes.
 use Rattle.std.specs.Prelude.{◌≡◌, ℕ, ◌+◌, Bool, not, ◌&&◌, nat_eq, nat_lt, List, [], ◌∷◌, map, filter, length}
-use Rattle.lattice.specs.declared.Plane.{Plane}
-use Rattle.cyclic_list.specs.Items.{IsApart}
-use Rattle.boundary_model.specs.Model.{Model}
+use Rattle.euler_operators.specs.declared.Plane.{Plane}
+use Rattle.euler_operators.specs.Items.{IsApart}
+use Rattle.euler_operators.specs.Model.{Model}
 use Rattle.shapes.specs.split.Section.{section_cycles, is_hole}
 use Rattle.split_sections.specs.section_cycles.Halves.{AreThere}
 use Rattle.split_sections.specs.section_checks.Sections.{halves_of}

@@ -1,8 +1,8 @@
 -- The section of a solid, as the code has it.
 use Rattle.std.specs.Prelude.{◌≡◌, ℕ, Bool, List, map}
-use Rattle.lattice.specs.declared.Plane.{Plane}
-use Rattle.boundary_model.specs.HalfEdge.{code}
-use Rattle.boundary_model.specs.Model.{Model}
+use Rattle.euler_operators.specs.declared.Plane.{Plane}
+use Rattle.euler_operators.specs.HalfEdge.{code}
+use Rattle.euler_operators.specs.Model.{Model}
 use Rattle.shapes.specs.split.Section.{below_halves, section_cycles, is_hole}
 use Rattle.shapes.specs.split.Sides.{faces_above}
 use Rattle.split_sections.specs.declared.section_checks.section.Cycle.{Cycle}

@@ -1,5 +1,5 @@
 -- A sum of cross products, as the code has it.
-use Rattle.lattice.specs.declared.Point.{Point}
+use Rattle.euler_operators.specs.declared.Point.{Point}
 use Rattle.split_sections.specs.declared.section_cycles.holes.Vector.{Vector}
 
 abbrev pub read : Vector → Point

@@ -1,7 +1,7 @@
 -- The halves of section edges in the faces below, as a walk over faces meets them.
 use Rattle.std.specs.Prelude.{ℕ, Bool, not, ◌&&◌, List, [], ◌∷◌, ◌++◌, filter}
-use Rattle.boundary_model.specs.HalfEdge.{mate}
-use Rattle.boundary_model.specs.Model.{Model}
+use Rattle.euler_operators.specs.HalfEdge.{mate}
+use Rattle.euler_operators.specs.Model.{Model}
 use Rattle.euler_operators.specs.Conditions.{face_at, lists}
 use Rattle.shapes.specs.Faces.{boundary}
 

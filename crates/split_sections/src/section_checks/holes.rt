@@ -1,7 +1,7 @@
 //! The cycles of a section with word on which are holes.
 ghost use Rattle.std.specs.Prelude.{◌≡◌, ◌≤◌, IfOk, filter, length, map};
 ghost use Rattle.euler_conditions.specs.Ready.{IsReady};
-ghost use Rattle.lattice.specs.Ranges.{IsCutPlane};
+ghost use Rattle.euler_operators.specs.Ranges.{IsCutPlane};
 ghost use Rattle.shapes.specs.split.Section.{is_hole};
 ghost use Rattle.split_sections.specs.section_cycles.Halves.{codes};
 ghost use Rattle.split_sections.specs.section_checks.Cycles.{AreCycles, has_stray};
@@ -9,8 +9,8 @@ ghost use Rattle.split_sections.specs.section_checks.Sections.{halves_of};
 
 use crate::section_checks::section::Cycle;
 use crate::section_cycles::is_hole;
-use euler_conditions::{Arena, HalfEdge};
-use lattice::Plane;
+use euler_conditions::Arena;
+use euler_operators::{HalfEdge, Plane};
 use std::alloc::{AllocError, Global};
 
 /// The cycles, each with word on whether it is a hole.

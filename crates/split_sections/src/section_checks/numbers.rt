@@ -5,7 +5,7 @@ ghost use Rattle.euler_operators.specs.declared.Why.TheVariants.{NumbersSpent};
 ghost use Rattle.shapes.specs.Fresh.{numbers_left};
 ghost use Rattle.split_drawing.specs.face_drawing.Codes.{taken_of};
 
-use euler_conditions::{Refusal, Why};
+use euler_operators::{Refusal, Why};
 use split_drawing::Progress;
 
 /// Whether so many more numbers stay within the limit.

@@ -1,6 +1,6 @@
 //! The section of a solid by a plane.
 
-use euler_conditions::HalfEdge;
+use euler_operators::HalfEdge;
 
 /// A cycle of section edges: their halves in the faces below, each from the one that ends where it starts, and whether the cycle is a
 /// hole.

@@ -1,14 +1,15 @@
 //! The vertices at which section edges meet.
 ghost use Rattle.std.specs.Prelude.{◌≡◌, IfOk, map, nat_lt};
 ghost use Rattle.std.specs.List.Sorted.{IsNonDecreasing};
-ghost use Rattle.cyclic_list.specs.Items.{SameItems, count};
-ghost use Rattle.boundary_model.specs.HalfEdge.{code};
+ghost use Rattle.euler_operators.specs.Items.{SameItems, count};
+ghost use Rattle.euler_operators.specs.HalfEdge.{code};
 ghost use Rattle.euler_conditions.specs.Ready.{IsReady};
 ghost use Rattle.solid_measure.specs.solid_checks.Least.{found, least_such};
 ghost use Rattle.shapes.specs.split.Section.{least_branched, section_ends};
 ghost use Rattle.split_sections.specs.section_cycles.Halves.{AreThere, is_thrice};
 
-use euler_conditions::{Arena, HalfEdge};
+use euler_conditions::Arena;
+use euler_operators::HalfEdge;
 use std::alloc::{AllocError, Global};
 
 /// The ends of the edges of these half-edges, edge by edge.

@@ -2,8 +2,8 @@
 ghost use Rattle.std.specs.Prelude.{◌≡◌, ◌≤◌, ◌||◌, ℕ, true, IfOk, OnOk, map};
 ghost use Rattle.std.specs.BTreeSet.{contains};
 ghost use Rattle.std.specs.Ordering.{nat_cmp};
-ghost use Rattle.cyclic_list.specs.Items.{IsIn};
-ghost use Rattle.boundary_model.specs.HalfEdge.{code};
+ghost use Rattle.euler_operators.specs.Items.{IsIn};
+ghost use Rattle.euler_operators.specs.HalfEdge.{code};
 ghost use Rattle.euler_conditions.specs.Ready.{IsReady};
 ghost use Rattle.euler_operators.specs.Conditions.{lists, strictly_rises};
 ghost use Rattle.split_opening_laws.specs.cycles.Permuting.{Permutes};
@@ -12,7 +12,8 @@ ghost use Rattle.split_sections.specs.section_cycles.Halves.{AreThere, codes};
 ghost use Rattle.split_sections.specs.section_cycles.Starts.{AreStarts};
 
 use crate::section_cycles::starts::{next_half, starts_of};
-use euler_conditions::{Arena, HalfEdge};
+use euler_conditions::Arena;
+use euler_operators::HalfEdge;
 use solid_walks::same;
 use std::alloc::{AllocError, Global};
 use std::collections::{BTreeMap, BTreeSet};

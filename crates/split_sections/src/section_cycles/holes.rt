@@ -1,11 +1,11 @@
 //! Whether a cycle of a section is a hole.
 ghost use Rattle.std.specs.Prelude.{◌≡◌, true, map};
-ghost use Rattle.lattice.specs.Point.{IsInRange};
-ghost use Rattle.lattice.specs.Ranges.{IsCutPlane, IsVectorWithin, IsWithin, normal_limit};
-ghost use Rattle.lattice.specs.Vectors.{cross, direction, dot, moved};
-ghost use Rattle.cyclic_list.specs.Items.{IsApart};
-ghost use Rattle.boundary_model.specs.HalfEdge.{code, mate};
-ghost use Rattle.boundary_model.specs.Model.{has_half};
+ghost use Rattle.euler_operators.specs.Points.{IsInRange};
+ghost use Rattle.euler_operators.specs.Ranges.{IsCutPlane, IsVectorWithin, IsWithin, normal_limit};
+ghost use Rattle.euler_operators.specs.Vectors.{cross, direction, dot, moved};
+ghost use Rattle.euler_operators.specs.Items.{IsApart};
+ghost use Rattle.euler_operators.specs.HalfEdge.{code, mate};
+ghost use Rattle.euler_operators.specs.Model.{has_half};
 ghost use Rattle.euler_conditions.specs.Ready.{IsReady};
 ghost use Rattle.shapes.specs.Faces.{finish, start};
 ghost use Rattle.solid_measure.specs.Measure.{area, area_limit};
@@ -13,8 +13,8 @@ ghost use Rattle.shapes.specs.split.Section.{is_hole};
 ghost use Rattle.split_sections.specs.section_cycles.Halves.{AreThere};
 ghost use Rattle.split_sections.specs.section_cycles.Sums.{read};
 
-use euler_conditions::{Arena, HalfEdge};
-use lattice::{Plane, Point, cross_add, dot};
+use euler_conditions::Arena;
+use euler_operators::{HalfEdge, Plane, Point, cross_add, dot};
 
 /// A sum of cross products of points.
 #[derive(Clone, Copy)]

@@ -1,12 +1,13 @@
 //! The below halves by the vertices at which they start.
 ghost use Rattle.std.specs.Prelude.{◌≡◌, ◌≢◌, true, IfOk, map};
-ghost use Rattle.boundary_model.specs.HalfEdge.{code, mate};
-ghost use Rattle.boundary_model.specs.Model.{has_half, tail};
+ghost use Rattle.euler_operators.specs.HalfEdge.{code, mate};
+ghost use Rattle.euler_operators.specs.Model.{has_half, tail};
 ghost use Rattle.euler_conditions.specs.Ready.{IsReady};
 ghost use Rattle.split_sections.specs.section_cycles.Halves.{AreThere};
 ghost use Rattle.split_sections.specs.section_cycles.Starts.{AreStarts, half_at};
 
-use euler_conditions::{Arena, HalfEdge};
+use euler_conditions::Arena;
+use euler_operators::HalfEdge;
 use std::alloc::{AllocError, Global};
 use std::collections::BTreeMap;
 

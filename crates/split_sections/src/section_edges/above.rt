@@ -2,14 +2,14 @@
 ghost use Rattle.std.specs.Prelude.{◌≡◌, pos, int_lt, true, IfOk};
 ghost use Rattle.euler_conditions.specs.Ready.{IsReady};
 ghost use Rattle.euler_conditions.specs.Store.{has_number};
-ghost use Rattle.lattice.specs.Point.{IsInRange};
-ghost use Rattle.lattice.specs.Ranges.{IsCutPlane};
-ghost use Rattle.lattice.specs.Vectors.{direction, dot};
+ghost use Rattle.euler_operators.specs.Points.{IsInRange};
+ghost use Rattle.euler_operators.specs.Ranges.{IsCutPlane};
+ghost use Rattle.euler_operators.specs.Vectors.{direction, dot};
 ghost use Rattle.solid_measure.specs.Measure.{normal};
 ghost use Rattle.shapes.specs.split.Sides.{face_is_above, faces_above};
 
-use euler_conditions::{Arena, Kind};
-use lattice::{Plane, Point, Sign, dot};
+use euler_conditions::Arena;
+use euler_operators::{Kind, Plane, Point, Sign, dot};
 use solid_measure::normal;
 use split_checks::reaches;
 use std::alloc::{AllocError, Global};

@@ -1,7 +1,7 @@
 //! The halves of the section edges that lie in faces below.
 ghost use Rattle.std.specs.Prelude.{◌≡◌, true, map, IfOk};
-ghost use Rattle.boundary_model.specs.HalfEdge.{code};
-ghost use Rattle.boundary_model.specs.Model.{faces_of, has_half};
+ghost use Rattle.euler_operators.specs.HalfEdge.{code};
+ghost use Rattle.euler_operators.specs.Model.{faces_of, has_half};
 ghost use Rattle.euler_conditions.specs.Ready.{IsReady};
 ghost use Rattle.euler_operators.specs.Conditions.{face_at, lists, strictly_rises};
 ghost use Rattle.euler_conditions.specs.Store.{has_number};
@@ -10,7 +10,8 @@ ghost use Rattle.split_checks.specs.cut_places.Walks.{AreThere};
 ghost use Rattle.shapes.specs.split.Section.{below_halves};
 ghost use Rattle.split_sections.specs.section_edges.BelowHalves.{below_in, below_met, is_below};
 
-use euler_conditions::{Arena, HalfEdge, Kind};
+use euler_conditions::Arena;
+use euler_operators::{HalfEdge, Kind};
 use split_checks::boundary;
 use std::alloc::{AllocError, Global};
 

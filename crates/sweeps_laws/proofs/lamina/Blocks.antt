@@ -5,18 +5,18 @@ use Rattle.std.specs.Cmp.{signed_Decides}
 use Rattle.std.proofs.Common.{◌≡◌, ◌≢◌, ℕ, zero, suc, ◌+◌, ◌*◌, ◌≤◌, ◌<◌, ℤ, pos, negsuc, ◌+ℤ◌, Bool, true, false, cond, not, nat_eq, nat_le, ◌&&◌, ◌||◌, List, [], ◌∷◌, ◌++◌, Some, None, is_some, unwrap_or, refl, sym, ap, ◌∙◌, arith, true≢false, ◌⊎◌, inl, inr}
 use Rattle.std.proofs.lemmas.Bool.Decides.{nat_tests, eqb_tells}
 use Rattle.std.proofs.lemmas.Int.{ints}
-use Rattle.lattice.specs.declared.Point.{Point}
-use Rattle.lattice.specs.Point.{is_coordinate, is_in_range}
-use Rattle.lattice.specs.Vectors.{origin, moved, same_point}
-use Rattle.cyclic_list.specs.Rings.{canonical}
-use Rattle.boundary_model.specs.HalfEdge.{plus, minus}
-use Rattle.boundary_model.specs.Table as table
-use Rattle.boundary_model.specs.Table.{Table}
-use Rattle.boundary_model.specs.Model.{Model, cycle, FaceRow, LoopRow, EdgeRow, no_face, no_point, tail_in, content, outer, tail, point_of, rings_of}
-use Rattle.boundary_model.specs.Sound.{Sound}
-use Rattle.boundary_model.proofs.Halves.{plus_row}
-use Rattle.boundary_model.proofs.Models.{content_row, face_row, tail_row}
-use Rattle.boundary_model.proofs.Tables.{all_where_none, first_where_zero}
+use Rattle.euler_operators.specs.declared.Point.{Point}
+use Rattle.euler_operators.specs.Points.{is_coordinate, is_in_range}
+use Rattle.euler_operators.specs.Vectors.{origin, moved, same_point}
+use Rattle.euler_operators.specs.Rings.{canonical}
+use Rattle.euler_operators.specs.HalfEdge.{plus, minus}
+use Rattle.euler_operators.specs.Table as table
+use Rattle.euler_operators.specs.Table.{Table}
+use Rattle.euler_operators.specs.Model.{Model, cycle, FaceRow, LoopRow, EdgeRow, no_face, no_point, tail_in, content, outer, tail, point_of, rings_of}
+use Rattle.euler_operators.specs.Sound.{Sound}
+use Rattle.euler_operators.proofs.Halves.{plus_row}
+use Rattle.euler_operators.proofs.Models.{content_row, face_row, tail_row}
+use Rattle.euler_operators.proofs.Tables.{all_where_none, first_where_zero}
 use Rattle.euler_operators.specs.Conditions.{Condition, need, never, first_refusal, numbers_in_range, is_lone, lists}
 use Rattle.euler_operators.specs.declared.Why.TheVariants.{NoFace, ZeroSweep, LoneLoop, PointRange}
 use Rattle.euler_laws.proofs.shared.Goes.{all_hold, none_refuses, equals}

@@ -3,13 +3,13 @@ use Rattle.std.specs.Prelude.{map, reverse}
 use Rattle.std.proofs.Common.{◌≡◌, ◌≢◌, ℕ, zero, suc, ◌+◌, ◌≤◌, ◌<◌, List, [], ◌∷◌, ◌++◌, refl, sym, ap, ◌∙◌, arith, inl, inr}
 use Rattle.std.proofs.lemmas.List.{append_assoc, append-nil, map-append, reverse-append}
 use Rattle.std.proofs.lemmas.Bool.Decides.{eqb_tells}
-use Rattle.cyclic_list.specs.Items.{count, IsIn, IsApart, least, before, from}
-use Rattle.cyclic_list.specs.Rings.{rotate_to, canonical, upto, onward}
-use Rattle.cyclic_list.specs.Edits.{insert_before}
-use Rattle.cyclic_list.proofs.Lists.{count-append, tick_other, tick_le, least_with_le, least_with_in, before_at, from_at}
-use Rattle.cyclic_list.proofs.Rotations.{rotate_to_head, rotate_at, canonical_same, IsIn_head}
-use Rattle.cyclic_list.proofs.Edits.{insert_before_at}
-use Rattle.boundary_model.specs.HalfEdge.{plus, minus}
+use Rattle.euler_operators.specs.Items.{count, IsIn, IsApart, least, before, from}
+use Rattle.euler_operators.specs.Rings.{rotate_to, canonical, upto, onward}
+use Rattle.euler_operators.specs.Edits.{insert_before}
+use Rattle.euler_operators.proofs.Lists.{count-append, tick_other, tick_le, least_with_le, least_with_in, before_at, from_at}
+use Rattle.euler_operators.proofs.Rotations.{rotate_to_head, rotate_at, canonical_same, IsIn_head}
+use Rattle.euler_operators.proofs.Edits.{insert_before_at}
+use Rattle.euler_operators.specs.HalfEdge.{plus, minus}
 use Rattle.shapes.specs.Fresh.{numbers_after}
 use Rattle.sweeps_laws.specs.lamina.Path.{out, back}
 

@@ -2,21 +2,21 @@
 use Rattle.std.specs.Prelude.{map, reverse, length, get_or, nat_eq, ◌-◌}
 use Rattle.std.proofs.Common.{◌≡◌, ◌≢◌, ℕ, zero, suc, ◌+◌, ◌≤◌, ◌<◌, true, cond, List, [], ◌∷◌, ◌++◌, Some, None, unwrap_or, is_some, refl, sym, ap, ◌∙◌, arith, IsTrue}
 use Rattle.std.proofs.lemmas.Bool.Decides.{nat_tests}
-use Rattle.lattice.specs.declared.Point.{Point}
-use Rattle.lattice.specs.Point.{IsInRange}
-use Rattle.cyclic_list.specs.Items.{count, IsIn}
-use Rattle.cyclic_list.specs.Rings.{canonical, upto, onward}
-use Rattle.cyclic_list.specs.Rings as rings
-use Rattle.cyclic_list.specs.Edits.{insert_before}
-use Rattle.cyclic_list.proofs.Lists.{count-append, tick_same}
-use Rattle.boundary_model.specs.HalfEdge.{code, mate, edge_of, plus, minus}
-use Rattle.boundary_model.specs.Table as table
-use Rattle.boundary_model.specs.Table.{Table}
-use Rattle.boundary_model.specs.Model.{Model, LoopContent, cycle, EdgeRow, no_point, no_face, items_of, tail_in, content, face_of, solid_of, outer, tail, loop_of, cycle_of, arc, holds, is_number}
-use Rattle.boundary_model.specs.Sound.{Sound}
-use Rattle.boundary_model.proofs.Halves.{plus_row, minus_row}
-use Rattle.boundary_model.proofs.Models.{in-holds, holds-none, not_held, content_row, face_row, tail_row}
-use Rattle.boundary_model.proofs.Tables.{map_same}
+use Rattle.euler_operators.specs.declared.Point.{Point}
+use Rattle.euler_operators.specs.Points.{IsInRange}
+use Rattle.euler_operators.specs.Items.{count, IsIn}
+use Rattle.euler_operators.specs.Rings.{canonical, upto, onward}
+use Rattle.euler_operators.specs.Rings as rings
+use Rattle.euler_operators.specs.Edits.{insert_before}
+use Rattle.euler_operators.proofs.Lists.{count-append, tick_same}
+use Rattle.euler_operators.specs.HalfEdge.{code, mate, edge_of, plus, minus}
+use Rattle.euler_operators.specs.Table as table
+use Rattle.euler_operators.specs.Table.{Table}
+use Rattle.euler_operators.specs.Model.{Model, LoopContent, cycle, EdgeRow, no_point, no_face, items_of, tail_in, content, face_of, solid_of, outer, tail, loop_of, cycle_of, arc, holds, is_number}
+use Rattle.euler_operators.specs.Sound.{Sound}
+use Rattle.euler_operators.proofs.Halves.{plus_row, minus_row}
+use Rattle.euler_operators.proofs.Models.{in-holds, holds-none, not_held, content_row, face_row, tail_row}
+use Rattle.euler_operators.proofs.Tables.{map_same}
 use Rattle.euler_operators.specs.Conditions.{first_false, lone_vertex, face_at}
 use Rattle.euler_operators.specs.Effect.{effect, edge_row, where_held, with_before, with_tails, mvfs, mev_lone, mev_at, mef}
 use Rattle.euler_laws.proofs.shared.Rows.{where_held_none, where_held_there}

@@ -3,18 +3,18 @@ use Rattle.std.proofs.Common.{◌≡◌, ◌≢◌, ℕ, zero, suc, ◌+◌, ◌
 use Rattle.std.specs.Prelude.{get_or, drop}
 use Rattle.std.proofs.lemmas.Bool.Decides.{nat_tests, eqb_tells}
 use Rattle.std.proofs.lemmas.List.{drop_all}
-use Rattle.lattice.specs.declared.Point.{Point}
-use Rattle.lattice.specs.Vectors.{moved}
-use Rattle.cyclic_list.specs.Items.{IsIn, least}
-use Rattle.cyclic_list.specs.Rings.{canonical, rotate_to}
-use Rattle.cyclic_list.proofs.Lists.{count-append, tick_same, tick_other, least_le, least_in}
-use Rattle.cyclic_list.proofs.Rotations.{canonical_same, rotate_to_head}
-use Rattle.cyclic_list.proofs.Std.{IsIn-get_or}
-use Rattle.boundary_model.specs.HalfEdge.{plus, minus}
-use Rattle.boundary_model.specs.Table as table
-use Rattle.boundary_model.specs.Table.{Table, tables, same_table}
-use Rattle.boundary_model.specs.Model.{Model, cycle, tail, solid_of}
-use Rattle.boundary_model.specs.Sound.{Sound}
+use Rattle.euler_operators.specs.declared.Point.{Point}
+use Rattle.euler_operators.specs.Vectors.{moved}
+use Rattle.euler_operators.specs.Items.{IsIn, least}
+use Rattle.euler_operators.specs.Rings.{canonical, rotate_to}
+use Rattle.euler_operators.proofs.Lists.{count-append, tick_same, tick_other, least_le, least_in}
+use Rattle.euler_operators.proofs.Rotations.{canonical_same, rotate_to_head}
+use Rattle.euler_operators.proofs.Std.{IsIn-get_or}
+use Rattle.euler_operators.specs.HalfEdge.{plus, minus}
+use Rattle.euler_operators.specs.Table as table
+use Rattle.euler_operators.specs.Table.{Table, tables, same_table}
+use Rattle.euler_operators.specs.Model.{Model, cycle, tail, solid_of}
+use Rattle.euler_operators.specs.Sound.{Sound}
 use Rattle.euler_operators.specs.declared.Op.{Op}
 use Rattle.euler_operators.specs.Conditions.{first_false}
 use Rattle.euler_operators.specs.Effect.{effect}

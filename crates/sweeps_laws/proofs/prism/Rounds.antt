@@ -3,17 +3,17 @@ use Rattle.std.proofs.Common.{◌≡◌, ◌≢◌, ℕ, suc, ◌+◌, ◌≤◌
 use Rattle.std.specs.Prelude.{get_or, drop}
 use Rattle.std.proofs.lemmas.Bool.Decides.{nat_tests}
 use Rattle.std.proofs.lemmas.List.{drop_more}
-use Rattle.lattice.specs.declared.Point.{Point}
-use Rattle.lattice.specs.Vectors.{moved}
-use Rattle.cyclic_list.specs.Items.{IsIn}
-use Rattle.cyclic_list.specs.Rings.{canonical}
-use Rattle.cyclic_list.proofs.Rotations.{canonical_same}
-use Rattle.cyclic_list.proofs.Std.{IsIn-get_or}
-use Rattle.boundary_model.specs.HalfEdge.{edge_of, is_first, plus, minus}
-use Rattle.boundary_model.specs.Table as table
-use Rattle.boundary_model.specs.Table.{Table, tables, same_table}
-use Rattle.boundary_model.specs.Model.{Model, cycle, tail, tail_in, no_edge, solid_of}
-use Rattle.boundary_model.specs.Sound.{Sound, HasHalf}
+use Rattle.euler_operators.specs.declared.Point.{Point}
+use Rattle.euler_operators.specs.Vectors.{moved}
+use Rattle.euler_operators.specs.Items.{IsIn}
+use Rattle.euler_operators.specs.Rings.{canonical}
+use Rattle.euler_operators.proofs.Rotations.{canonical_same}
+use Rattle.euler_operators.proofs.Std.{IsIn-get_or}
+use Rattle.euler_operators.specs.HalfEdge.{edge_of, is_first, plus, minus}
+use Rattle.euler_operators.specs.Table as table
+use Rattle.euler_operators.specs.Table.{Table, tables, same_table}
+use Rattle.euler_operators.specs.Model.{Model, cycle, tail, tail_in, no_edge, solid_of}
+use Rattle.euler_operators.specs.Sound.{Sound, HasHalf}
 use Rattle.euler_operators.specs.Conditions.{first_false}
 use Rattle.euler_operators.specs.Effect.{effect}
 use Rattle.euler_laws.specs.Laws.{AreAccepted, effects}

@@ -2,26 +2,26 @@
 use Rattle.std.proofs.Common.{◌≡◌, ◌≢◌, ℕ, zero, suc, cond, List, [], ◌∷◌, ◌++◌, Some, None, is_some, IsTrue, refl, sym, ap, ◌∙◌, subst, arith}
 use Rattle.std.proofs.lemmas.Bool.{eq-eqb}
 use Rattle.std.proofs.lemmas.Bool.Decides.{nat_tests}
-use Rattle.lattice.specs.declared.Point.{Point}
-use Rattle.lattice.specs.Point.{IsInRange}
-use Rattle.boundary_model.specs.declared.Corner.TheVariants.{At}
-use Rattle.cyclic_list.specs.Items.{count, IsIn, IsApart}
-use Rattle.cyclic_list.specs.Rings.{canonical, rotate_to, upto, onward, IsRotation}
-use Rattle.cyclic_list.specs.Rings as rings
-use Rattle.cyclic_list.specs.Edits.{insert_before}
-use Rattle.cyclic_list.proofs.Lists.{count-append, tick_same, tick_other}
-use Rattle.cyclic_list.proofs.Rotations.{canonical-rotates, count-canonical, rotate_to_same, rotate_at, rotate_to_head, canonical_same}
-use Rattle.cyclic_list.proofs.Cuts.{upto_itself, onward_itself, upto_once}
-use Rattle.cyclic_list.proofs.Edits.{count-insert_before}
-use Rattle.cyclic_list.proofs.Operators.{apart_front}
-use Rattle.boundary_model.specs.HalfEdge.{edge_of, plus, minus, code, half}
-use Rattle.boundary_model.specs.Table as table
-use Rattle.boundary_model.specs.Table.{Table, tables, same_table}
-use Rattle.boundary_model.specs.Model.{Model, EdgeRow, cycle, items_of, holds, tail, loop_of, content, face_of, solid_of, cycle_of, arc, round, is_number}
-use Rattle.boundary_model.specs.Sound.{Sound, HasHalf, StandsIn}
-use Rattle.boundary_model.proofs.Halves.{plus_row, minus_row, code-half}
-use Rattle.boundary_model.proofs.Tables.{map_one, map_same, map-put}
-use Rattle.boundary_model.proofs.Models.{content_row, face_row, in-holds, not_held, other_loop}
+use Rattle.euler_operators.specs.declared.Point.{Point}
+use Rattle.euler_operators.specs.Points.{IsInRange}
+use Rattle.euler_operators.specs.declared.Corner.TheVariants.{At}
+use Rattle.euler_operators.specs.Items.{count, IsIn, IsApart}
+use Rattle.euler_operators.specs.Rings.{canonical, rotate_to, upto, onward, IsRotation}
+use Rattle.euler_operators.specs.Rings as rings
+use Rattle.euler_operators.specs.Edits.{insert_before}
+use Rattle.euler_operators.proofs.Lists.{count-append, tick_same, tick_other}
+use Rattle.euler_operators.proofs.Rotations.{canonical-rotates, count-canonical, rotate_to_same, rotate_at, rotate_to_head, canonical_same}
+use Rattle.euler_operators.proofs.Cuts.{upto_itself, onward_itself, upto_once}
+use Rattle.euler_operators.proofs.Edits.{count-insert_before}
+use Rattle.euler_operators.proofs.Operators.{apart_front}
+use Rattle.euler_operators.specs.HalfEdge.{edge_of, plus, minus, code, half}
+use Rattle.euler_operators.specs.Table as table
+use Rattle.euler_operators.specs.Table.{Table, tables, same_table}
+use Rattle.euler_operators.specs.Model.{Model, EdgeRow, cycle, items_of, holds, tail, loop_of, content, face_of, solid_of, cycle_of, arc, round, is_number}
+use Rattle.euler_operators.specs.Sound.{Sound, HasHalf, StandsIn}
+use Rattle.euler_operators.proofs.Halves.{plus_row, minus_row, code-half}
+use Rattle.euler_operators.proofs.Tables.{map_one, map_same, map-put}
+use Rattle.euler_operators.proofs.Models.{content_row, face_row, in-holds, not_held, other_loop}
 use Rattle.euler_operators.specs.declared.Op.TheVariants.{Mev, Mef}
 use Rattle.euler_operators.specs.Conditions.{face_at, first_false}
 use Rattle.euler_operators.specs.Effect.{effect, mev_at, mef, with_before, with_tails, edge_row}

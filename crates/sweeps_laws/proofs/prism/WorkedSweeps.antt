@@ -1,10 +1,10 @@
 -- Worked sweeps, computed: the operators are accepted one after the other and leave the prism.
 use Rattle.std.specs.Prelude.{◌≡◌, ℕ, [], ◌∷◌, length, Some, None, refl}
-use Rattle.boundary_model.specs.HalfEdge.{mate, code, half, edge_of, is_first}
-use Rattle.cyclic_list.specs.Rings.{rotate_to, canonical, rest}
-use Rattle.boundary_model.specs.Table as table
-use Rattle.boundary_model.specs.declared.Corner.TheVariants.{Lone}
-use Rattle.boundary_model.specs.Model.{Model, empty_model, content, tail, loop_of, face_of, solid_of, outer, arc, holds, after, point_of}
+use Rattle.euler_operators.specs.HalfEdge.{mate, code, half, edge_of, is_first}
+use Rattle.euler_operators.specs.Rings.{rotate_to, canonical, rest}
+use Rattle.euler_operators.specs.Table as table
+use Rattle.euler_operators.specs.declared.Corner.TheVariants.{Lone}
+use Rattle.euler_operators.specs.Model.{Model, empty_model, content, tail, loop_of, face_of, solid_of, outer, arc, holds, after, point_of}
 use Rattle.euler_operators.specs.Conditions.{conditions, first_false, has_rings}
 use Rattle.euler_operators.specs.declared.Op.TheVariants.{Mvfs, Mev}
 use Rattle.euler_operators.specs.Effect.{effect, mvfs, mev_lone, mev_at, mef, kemr}

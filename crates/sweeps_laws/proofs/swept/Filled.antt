@@ -1,8 +1,8 @@
 -- Tables with rows put at the numbers after a, one after the other, and with one row rewritten.
 use Rattle.std.proofs.Common.{◌≡◌, ◌≢◌, ℕ, zero, suc, ◌+◌, ◌≤◌, ◌<◌, Bool, true, false, cond, nat_le, List, [], ◌∷◌, ◌++◌, Some, refl, sym, ap, subst, ◌∙◌, arith, ◌⊎◌, inl, inr, append-nil}
 use Rattle.std.proofs.lemmas.Bool.Decides.{nat_tests, eqb_tells}
-use Rattle.boundary_model.specs.Table as table
-use Rattle.boundary_model.specs.Table.{Table, all_in, greatest_in, map_entries, map_rows}
+use Rattle.euler_operators.specs.Table as table
+use Rattle.euler_operators.specs.Table.{Table, all_in, greatest_in, map_entries, map_rows}
 use Rattle.shapes.proofs.fresh.Rows.{all_where-put_last, greatest-put_last, get-put_here, get-put_other}
 
 -- a number is at most a, one of the n after a, or above these

@@ -1,16 +1,16 @@
 -- One loop of a face swept: the model after lies within its counters, and the other loops are the paths that they were.
 use Rattle.std.proofs.Common.{◌≡◌, ◌≢◌, ℕ, zero, suc, ◌+◌, ◌*◌, ◌≤◌, ◌<◌, Bool, true, false, List, [], ◌∷◌, ◌++◌, length, get_or, Option, Some, is_some, unwrap_or, refl, sym, ap, subst, ◌∙◌, arith, ◌⊎◌, inl, inr}
 use Rattle.std.proofs.lemmas.Bool.Decides.{eqb_tells}
-use Rattle.lattice.specs.declared.Point.{Point}
-use Rattle.cyclic_list.specs.Items.{IsIn}
-use Rattle.cyclic_list.proofs.Lists.{count-append, tick_other, IsIn_or_not}
-use Rattle.cyclic_list.proofs.Std.{IsIn-get_or}
-use Rattle.boundary_model.specs.HalfEdge.{edge_of, is_first, plus, minus}
-use Rattle.boundary_model.specs.Table as table
-use Rattle.boundary_model.specs.Table.{Table}
-use Rattle.boundary_model.specs.Model.{Model, lone, cycle, EdgeRow, no_edge, items_of, tail, tail_in, content, face_of, outer, solid_of}
-use Rattle.boundary_model.specs.Sound.{Has}
-use Rattle.boundary_model.proofs.Halves.{plus_row, minus_row}
+use Rattle.euler_operators.specs.declared.Point.{Point}
+use Rattle.euler_operators.specs.Items.{IsIn}
+use Rattle.euler_operators.proofs.Lists.{count-append, tick_other, IsIn_or_not}
+use Rattle.euler_operators.proofs.Std.{IsIn-get_or}
+use Rattle.euler_operators.specs.HalfEdge.{edge_of, is_first, plus, minus}
+use Rattle.euler_operators.specs.Table as table
+use Rattle.euler_operators.specs.Table.{Table}
+use Rattle.euler_operators.specs.Model.{Model, lone, cycle, EdgeRow, no_edge, items_of, tail, tail_in, content, face_of, outer, solid_of}
+use Rattle.euler_operators.specs.Sound.{Has}
+use Rattle.euler_operators.proofs.Halves.{plus_row, minus_row}
 use Rattle.shapes.specs.Fresh.{Taken}
 use Rattle.shapes.specs.Prism.{riser, top_edge, top_items, next_place}
 use Rattle.shapes.proofs.fresh.Rows.{at_most_greatest, get-put_here, get-put_other}

@@ -1,19 +1,19 @@
 -- One loop of a face swept: what the readers answer of the model after.
 use Rattle.std.proofs.Common.{◌≡◌, ◌≢◌, ℕ, ◌+◌, ◌≤◌, ◌<◌, true, false, cond, not, nat_eq, ◌&&◌, List, [], ◌∷◌, ◌++◌, length, get_or, Some, unwrap_or, refl, sym, ap, subst, ◌∙◌, arith, inl, inr, append-nil}
 use Rattle.std.proofs.lemmas.Bool.Decides.{nat_tests, eqb_tells}
-use Rattle.lattice.specs.declared.Point.{Point}
-use Rattle.lattice.specs.Vectors.{moved}
-use Rattle.cyclic_list.specs.Items.{IsIn, least, from, before}
-use Rattle.cyclic_list.specs.Rings.{canonical, rotate_to}
-use Rattle.cyclic_list.proofs.Lists.{from_at, before_at}
-use Rattle.cyclic_list.proofs.Std.{IsIn-get_or}
-use Rattle.boundary_model.specs.HalfEdge.{edge_of, plus, minus}
-use Rattle.boundary_model.specs.Table as table
-use Rattle.boundary_model.specs.Table.{Table, map_rows}
-use Rattle.boundary_model.specs.Model.{Model, lone, cycle, FaceRow, LoopRow, no_face, no_loop, items_of, tail, content, face_of, outer, solid_of, point_of, rings_of}
-use Rattle.boundary_model.specs.Sound.{Has}
-use Rattle.boundary_model.proofs.Tables.{map_one, all_where_none}
-use Rattle.boundary_model.proofs.Models.{content_row, face_row}
+use Rattle.euler_operators.specs.declared.Point.{Point}
+use Rattle.euler_operators.specs.Vectors.{moved}
+use Rattle.euler_operators.specs.Items.{IsIn, least, from, before}
+use Rattle.euler_operators.specs.Rings.{canonical, rotate_to}
+use Rattle.euler_operators.proofs.Lists.{from_at, before_at}
+use Rattle.euler_operators.proofs.Std.{IsIn-get_or}
+use Rattle.euler_operators.specs.HalfEdge.{edge_of, plus, minus}
+use Rattle.euler_operators.specs.Table as table
+use Rattle.euler_operators.specs.Table.{Table, map_rows}
+use Rattle.euler_operators.specs.Model.{Model, lone, cycle, FaceRow, LoopRow, no_face, no_loop, items_of, tail, content, face_of, outer, solid_of, point_of, rings_of}
+use Rattle.euler_operators.specs.Sound.{Has}
+use Rattle.euler_operators.proofs.Tables.{map_one, all_where_none}
+use Rattle.euler_operators.proofs.Models.{content_row, face_row}
 use Rattle.euler_laws.proofs.shared.Rows.{loop_row}
 use Rattle.shapes.specs.Faces.{start, finish}
 use Rattle.shapes.specs.Fresh.{Taken}

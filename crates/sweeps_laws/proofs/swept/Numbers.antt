@@ -1,11 +1,11 @@
 -- The numbers of the edges that a sweep of a loop makes, and their half-edges. e is the greatest edge before, n the number of items.
 use Rattle.std.proofs.Common.{Bool, true, false, refl, ◌≡◌, ◌≢◌, ℕ, ◌+◌, ◌-◌, ◌*◌, ◌≤◌, ◌<◌, cond, Some, sym, ap, ◌∙◌, arith, ◌⊎◌, inl, inr, ◌&&◌, true≢false}
 use Rattle.std.proofs.lemmas.Bool.Decides.{eqb_tells}
-use Rattle.boundary_model.specs.HalfEdge.{mate, plus, minus}
-use Rattle.boundary_model.specs.Table as table
-use Rattle.boundary_model.specs.Model.{Model, EdgeRow, tail, tail_in}
-use Rattle.boundary_model.proofs.Halves.{plus_row, minus_row}
-use Rattle.boundary_model.proofs.Models.{tail_row}
+use Rattle.euler_operators.specs.HalfEdge.{mate, plus, minus}
+use Rattle.euler_operators.specs.Table as table
+use Rattle.euler_operators.specs.Model.{Model, EdgeRow, tail, tail_in}
+use Rattle.euler_operators.proofs.Halves.{plus_row, minus_row}
+use Rattle.euler_operators.proofs.Models.{tail_row}
 use Rattle.shapes.specs.Prism.{riser, top_edge, next_place}
 
 pub riser_cases : (e i : ℕ) → ((i ≡ 0) × (riser e i ≡ e + 1)) ⊎ ((i ≢ 0) × (riser e i ≡ e + 2 * i))

@@ -1,8 +1,8 @@
 -- The laws of the lamina, over every sound model in which its conditions hold.
 use Rattle.std.specs.Prelude.{◌≡◌, ℕ, ℤ, pos, List, None}
-use Rattle.lattice.specs.declared.Point.{Point}
-use Rattle.boundary_model.specs.Model.{Model}
-use Rattle.boundary_model.specs.Sound.{Sound}
+use Rattle.euler_operators.specs.declared.Point.{Point}
+use Rattle.euler_operators.specs.Model.{Model}
+use Rattle.euler_operators.specs.Sound.{Sound}
 use Rattle.euler_laws.specs.Laws.{AreAccepted, effects}
 use Rattle.shapes.specs.Lamina.{lamina_refusal, lamina_model, lamina_face}
 use Rattle.shapes.specs.Prism.{prism_refusal}

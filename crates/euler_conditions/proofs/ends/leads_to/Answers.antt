@@ -1,5 +1,5 @@
 use Rattle.std.proofs.Common.{ap, ◌∙◌}
-use Rattle.boundary_model.specs.Model.{tail}
+use Rattle.euler_operators.specs.Model.{tail}
 use Rattle.euler_laws.proofs.shared.Goes.{equals, differs}
 use Rattle.euler_conditions.proofs.Known.{leads_far, leads_not}
 use Rattle.euler_conditions.proofs.ends.leads_to.Goals as goal

@@ -1,7 +1,7 @@
 use Rattle.std.proofs.Common.{◌≡◌, ℕ, ◌+◌, ◌-◌, cond, sym, ap, ◌∙◌, subst, arith}
-use Rattle.boundary_model.specs.HalfEdge.{code, edge_of, mate}
-use Rattle.boundary_model.specs.Model.{tail, round}
-use Rattle.boundary_model.specs.Sound.{HasHalf}
+use Rattle.euler_operators.specs.HalfEdge.{code, edge_of, mate}
+use Rattle.euler_operators.specs.Model.{tail, round}
+use Rattle.euler_operators.specs.Sound.{HasHalf}
 use Rattle.euler_laws.proofs.shared.Goes.{equal, unequal}
 use Rattle.euler_conditions.specs.Ends.{leads_to, lesser}
 use Rattle.euler_conditions.proofs.Known.{half_there, edge_there, found_then, found_else}

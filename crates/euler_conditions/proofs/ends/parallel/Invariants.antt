@@ -1,5 +1,5 @@
 use Rattle.std.proofs.Common.{◌-◌}
-use Rattle.boundary_model.specs.HalfEdge.{code}
+use Rattle.euler_operators.specs.HalfEdge.{code}
 use Rattle.euler_conditions.proofs.Parallel.{HalfSeen, steps}
 use Rattle.euler_conditions.proofs.ends.parallel.Given as goal
 

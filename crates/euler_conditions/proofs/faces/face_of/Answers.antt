@@ -1,5 +1,5 @@
 use Rattle.std.proofs.Common.{ap, ◌∙◌}
-use Rattle.boundary_model.specs.Table as table
+use Rattle.euler_operators.specs.Table as table
 use Rattle.euler_conditions.proofs.faces.face_of.Goals as goal
 
 pub returns-clause-there : goal.returns-clause-there

@@ -1,7 +1,7 @@
 use Rattle.std.proofs.Common.{◌≡◌, subst, sym}
-use Rattle.boundary_model.specs.HalfEdge.{code}
-use Rattle.boundary_model.specs.Model.{after}
-use Rattle.boundary_model.specs.Sound.{HasHalf}
+use Rattle.euler_operators.specs.HalfEdge.{code}
+use Rattle.euler_operators.specs.Model.{after}
+use Rattle.euler_operators.specs.Sound.{HasHalf}
 use Rattle.euler_conditions.proofs.Known.{half_there, edge_there, in_a_loop, after_there}
 use Rattle.euler_conditions.proofs.halves.next.Goals as goal
 

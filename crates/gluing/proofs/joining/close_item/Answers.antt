@@ -1,7 +1,7 @@
 use Rattle.std.proofs.Common.{refl, ap, ◌∙◌}
 use Rattle.std.proofs.lemmas.Result.{on_ok_weaker}
-use Rattle.boundary_model.specs.HalfEdge.{code, half, mate, minus}
-use Rattle.boundary_model.proofs.Halves.{code-half}
+use Rattle.euler_operators.specs.HalfEdge.{code, half, mate, minus}
+use Rattle.euler_operators.proofs.Halves.{code-half}
 use Rattle.undo_journal.specs.Machine.{DraftState}
 use Rattle.gluing.proofs.Remaining.{closing_left, next_goes, next_taken, all_taken}
 use Rattle.gluing.proofs.joining.close_item.Goals as goal

@@ -1,10 +1,10 @@
 use Rattle.std.proofs.Common.{◌∙◌, ap, sym, subst}
 use Rattle.std.proofs.lemmas.Result.{on_ok_weaker}
-use Rattle.cyclic_list.specs.Items.{head_or, last_or}
-use Rattle.boundary_model.specs.HalfEdge.{code, half}
-use Rattle.boundary_model.specs.Model.{before, after, outer, point_of}
-use Rattle.boundary_model.specs.Sound.{Sound, Has, HasHalf}
-use Rattle.boundary_model.proofs.Halves.{half-code}
+use Rattle.euler_operators.specs.Items.{head_or, last_or}
+use Rattle.euler_operators.specs.HalfEdge.{code, half}
+use Rattle.euler_operators.specs.Model.{before, after, outer, point_of}
+use Rattle.euler_operators.specs.Sound.{Sound, Has, HasHalf}
+use Rattle.euler_operators.proofs.Halves.{half-code}
 use Rattle.euler_operators.specs.declared.Op.TheVariants.{Kef}
 use Rattle.undo_journal.specs.Machine.{DraftState}
 use Rattle.shapes.specs.Faces.{start}

@@ -1,6 +1,6 @@
 use Rattle.std.proofs.Common.{◌≡◌, length}
-use Rattle.boundary_model.specs.HalfEdge.{code}
-use Rattle.boundary_model.specs.Model.{cycle_of}
+use Rattle.euler_operators.specs.HalfEdge.{code}
+use Rattle.euler_operators.specs.Model.{cycle_of}
 use Rattle.gluing.proofs.Joined.{Joining}
 use Rattle.gluing.proofs.joining.join.Given as goal
 

@@ -1,7 +1,7 @@
 use Rattle.std.proofs.Common.{refl, ap, ◌∙◌}
 use Rattle.std.proofs.lemmas.Result.{on_ok_weaker}
-use Rattle.boundary_model.specs.HalfEdge.{half, plus}
-use Rattle.boundary_model.specs.Model.{solid_of}
+use Rattle.euler_operators.specs.HalfEdge.{half, plus}
+use Rattle.euler_operators.specs.Model.{solid_of}
 use Rattle.undo_journal.specs.Machine.{DraftState}
 use Rattle.gluing.proofs.Remaining.{opening_left, next_goes, next_taken, all_taken}
 use Rattle.gluing.proofs.joining.open_seam.Goals as goal

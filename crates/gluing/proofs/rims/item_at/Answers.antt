@@ -1,7 +1,7 @@
 use Rattle.std.proofs.Common.{◌≡◌, ◌∙◌, Bool, true, false, ◌&&◌, int_eq, refl, ap, sym, subst, true≢false}
-use Rattle.boundary_model.specs.HalfEdge.{code}
-use Rattle.boundary_model.specs.Model.{content, outer, point_of}
-use Rattle.boundary_model.specs.Sound.{Has}
+use Rattle.euler_operators.specs.HalfEdge.{code}
+use Rattle.euler_operators.specs.Model.{content, outer, point_of}
+use Rattle.euler_operators.specs.Sound.{Has}
 use Rattle.shapes.proofs.glue.Points.{is_same, same_is}
 use Rattle.gluing.specs.Rims.{item_at}
 use Rattle.gluing.proofs.Found.{rim_held, walk_begins, walked_there, walk_stays, walk_finds, walk_nears}

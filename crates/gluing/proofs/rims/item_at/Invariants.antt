@@ -1,7 +1,7 @@
 use Rattle.std.proofs.Common.{length}
-use Rattle.cyclic_list.specs.Items.{IsIn}
-use Rattle.boundary_model.specs.HalfEdge.{code}
-use Rattle.boundary_model.specs.Model.{cycle_of}
+use Rattle.euler_operators.specs.Items.{IsIn}
+use Rattle.euler_operators.specs.HalfEdge.{code}
+use Rattle.euler_operators.specs.Model.{cycle_of}
 use Rattle.solid_walks.proofs.face_walks_laws.CycleWalks.{to_come}
 use Rattle.gluing.specs.Rims.{item_at}
 use Rattle.gluing.proofs.rims.item_at.Given as goal

@@ -1,5 +1,5 @@
 use Rattle.std.proofs.Common.{ap, ◌∙◌}
-use Rattle.boundary_model.specs.Table as table
+use Rattle.euler_operators.specs.Table as table
 use Rattle.low_euler.proofs.Accepted.{kef_has, mate_there}
 use Rattle.low_euler.proofs.Inverses.{kef_inverse}
 use Rattle.low_euler.proofs.inverse.kef.Goals as goal

@@ -1,6 +1,6 @@
 use Rattle.std.proofs.Common.{◌≡◌, is_some, true≢false, sym, ap, ◌∙◌}
-use Rattle.boundary_model.specs.Table as table
-use Rattle.boundary_model.specs.Model.{outer, content}
+use Rattle.euler_operators.specs.Table as table
+use Rattle.euler_operators.specs.Model.{outer, content}
 use Rattle.euler_operators.specs.declared.Op.TheVariants.{Kvfs}
 use Rattle.euler_operators.specs.Conditions.{is_lone, lone_vertex}
 use Rattle.euler_conditions.specs.Ready.{Accepts}

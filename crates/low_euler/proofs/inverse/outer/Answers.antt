@@ -1,7 +1,7 @@
 use Rattle.std.proofs.Common.{ap, ◌∙◌}
 use Rattle.euler_operators.specs.Effect.{inverse}
-use Rattle.boundary_model.specs.Table as table
-use Rattle.boundary_model.specs.Model.{outer}
+use Rattle.euler_operators.specs.Table as table
+use Rattle.euler_operators.specs.Model.{outer}
 use Rattle.euler_operators.specs.declared.Op.TheVariants.{RingOut}
 use Rattle.low_euler.proofs.face_operators_laws.Facts.{outer_has}
 use Rattle.low_euler.proofs.inverse.outer.Goals as goal

@@ -1,6 +1,6 @@
 use Rattle.std.proofs.Common.{ap, ◌∙◌}
 use Rattle.euler_operators.specs.Effect.{inverse}
-use Rattle.boundary_model.specs.Model.{outer}
+use Rattle.euler_operators.specs.Model.{outer}
 use Rattle.euler_operators.specs.declared.Op.TheVariants.{Outer}
 use Rattle.low_euler.proofs.face_operators_laws.Facts.{ring_out_has}
 use Rattle.low_euler.proofs.inverse.ring_out.Goals as goal

@@ -1,5 +1,5 @@
 use Rattle.std.proofs.Common.{◌≡◌, ◌-◌, ◌++◌}
-use Rattle.boundary_model.specs.Model.{faces_of}
+use Rattle.euler_operators.specs.Model.{faces_of}
 use Rattle.low_euler.proofs.Faces.{faces_above}
 use Rattle.low_euler.proofs.moving.faces_of.Given as goal
 

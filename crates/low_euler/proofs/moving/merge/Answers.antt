@@ -1,7 +1,7 @@
 use Rattle.std.proofs.Common.{◌≡◌, ◌+◌, length, refl, ap, ◌∙◌, subst, arith}
-use Rattle.boundary_model.specs.Table as table
+use Rattle.euler_operators.specs.Table as table
 use Rattle.euler_conditions.specs.Store.{Store, set_solid, within, is_face_of, IsNextFace}
-use Rattle.boundary_model.specs.Model.{faces_of}
+use Rattle.euler_operators.specs.Model.{faces_of}
 use Rattle.euler_operators.specs.declared.Op.TheVariants.{Merge}
 use Rattle.euler_conditions.specs.Ready.{after}
 use Rattle.low_euler.proofs.face_operators_laws.Facts.{merge_has}

@@ -1,5 +1,5 @@
 use Rattle.std.proofs.Common.{◌∙◌}
-use Rattle.boundary_model.specs.HalfEdge.{code}
+use Rattle.euler_operators.specs.HalfEdge.{code}
 use Rattle.low_euler.proofs.Inverses.{next_is, next_corner_lone, next_corner_at}
 use Rattle.low_euler.proofs.reading.corner_after.Goals as goal
 

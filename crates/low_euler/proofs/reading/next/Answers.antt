@@ -1,6 +1,6 @@
 use Rattle.std.proofs.Common.{sym, ap, ◌∙◌}
-use Rattle.boundary_model.specs.HalfEdge.{code, half}
-use Rattle.boundary_model.proofs.Halves.{half-code}
+use Rattle.euler_operators.specs.HalfEdge.{code, half}
+use Rattle.euler_operators.proofs.Halves.{half-code}
 use Rattle.euler_conditions.proofs.Known.{half_there, in_a_loop}
 use Rattle.low_euler.proofs.reading.next.Goals as goal
 

@@ -1,7 +1,7 @@
 use mir.Val.{SFits, of_z, to_z}
 use Rattle.std.proofs.Common.{◌≡◌, w64, ℤ, Ok, Err, sym, ap, ◌∙◌}
 use Rattle.std.proofs.lemmas.Int.{to_z-of_z}
-use Rattle.lattice.specs.declared.Plane.{Plane}
+use Rattle.euler_operators.specs.declared.Plane.{Plane}
 use Rattle.undo_journal.specs.Machine.{accepted, commit}
 use Rattle.shapes.specs.split.Split.{split_refusal, split_model}
 use Rattle.plane_split.proofs.Conditions.{passed, failed, same_refusal}

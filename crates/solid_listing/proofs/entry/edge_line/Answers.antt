@@ -1,6 +1,6 @@
 use Rattle.std.proofs.Common.{◌≡◌, ◌∙◌, ap, [], ◌∷◌, map, decimal, codes}
-use Rattle.boundary_model.specs.HalfEdge.{plus, minus}
-use Rattle.boundary_model.specs.Model.{tail, has_half}
+use Rattle.euler_operators.specs.HalfEdge.{plus, minus}
+use Rattle.euler_operators.specs.Model.{tail, has_half}
 use Rattle.solid_listing.specs.Lines.{line_text}
 use Rattle.solid_walks.proofs.face_walks_laws.HalfCodes.{code_plus, mate_plus, plus_there, mate_there}
 use Rattle.solid_listing.proofs.entry.edge_line.Goals as goal

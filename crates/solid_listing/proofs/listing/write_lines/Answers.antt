@@ -3,8 +3,8 @@ use Rattle.std.proofs.lemmas.List.{drop_more}
 use Rattle.std.proofs.lemmas.List.Concat.{flat_map-append}
 use Rattle.std.proofs.lemmas.Result.{err_from_is_err_and}
 use Rattle.std.specs.List.{flat_map}
-use Rattle.boundary_model.specs.declared.Kind.TheVariants.{Solid}
-use Rattle.boundary_model.specs.Model.{Model}
+use Rattle.euler_operators.specs.declared.Kind.TheVariants.{Solid}
+use Rattle.euler_operators.specs.Model.{Model}
 use Rattle.solid_listing.specs.Lines.{line_text, text_of}
 use Rattle.solid_listing.specs.Listing.{kind_lines, kinds, lines}
 use Rattle.solid_listing.proofs.WritingLaws.{Writes, none_yet, wrote_more, stops_inside, all_written}

@@ -1,6 +1,6 @@
 use Rattle.std.proofs.Common.{sym, subst, List, ℕ}
-use Rattle.boundary_model.specs.declared.Kind.TheVariants.{Solid}
-use Rattle.halfedge_arena.specs.Store.{IsGreatest}
+use Rattle.euler_operators.specs.declared.Kind.TheVariants.{Solid}
+use Rattle.euler_conditions.specs.Store.{IsGreatest}
 use Rattle.solid_listing.specs.Writing.{Puts}
 use Rattle.solid_listing.proofs.EmptyModels.{empty_text, lines_text}
 use Rattle.solid_listing.proofs.listing.write_listing.Goals as goal

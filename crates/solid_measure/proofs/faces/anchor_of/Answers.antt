@@ -1,5 +1,5 @@
 use Rattle.std.proofs.Common.{ap, ◌∙◌}
-use Rattle.boundary_model.specs.Table as table
+use Rattle.euler_operators.specs.Table as table
 use Rattle.euler_conditions.proofs.Known.{filled}
 use Rattle.solid_measure.proofs.faces.anchor_of.Goals as goal
 

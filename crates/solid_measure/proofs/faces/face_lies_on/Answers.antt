@@ -1,7 +1,7 @@
 use Rattle.std.proofs.Common.{sym, ap, ◌∙◌}
 use Rattle.std.specs.List.{list_all}
-use Rattle.lattice.specs.Vectors.{is_on}
-use Rattle.boundary_model.specs.Model.{content, point_of}
+use Rattle.euler_operators.specs.Vectors.{is_on}
+use Rattle.euler_operators.specs.Model.{content, point_of}
 use Rattle.shapes.specs.Faces.{vertices_on}
 use Rattle.solid_measure.proofs.FlatRounds.{corners_on, corners_off}
 use Rattle.solid_measure.proofs.faces.face_lies_on.Goals as goal

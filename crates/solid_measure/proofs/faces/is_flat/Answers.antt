@@ -1,8 +1,8 @@
 use Rattle.std.proofs.Common.{sym, ◌∙◌}
 use Rattle.std.specs.Prelude.{not}
 use Rattle.std.specs.List.{list_all}
-use Rattle.lattice.specs.Vectors.{is_on, same_point, direction, origin}
-use Rattle.boundary_model.specs.Model.{point_of}
+use Rattle.euler_operators.specs.Vectors.{is_on, same_point, direction, origin}
+use Rattle.euler_operators.specs.Model.{point_of}
 use Rattle.shapes.specs.Faces.{corners}
 use Rattle.solid_measure.proofs.FlatRounds.{flat_as, flat_then, flat_else}
 use Rattle.solid_measure.proofs.faces.is_flat.Goals as goal

@@ -1,7 +1,7 @@
 use Rattle.std.proofs.Common.{sym, ap, subst, ◌∙◌, arith}
-use Rattle.lattice.specs.Ranges.{IsVectorWithin}
-use Rattle.lattice.specs.Vectors.{origin, moved}
-use Rattle.boundary_model.specs.Model.{items_of, content}
+use Rattle.euler_operators.specs.Ranges.{IsVectorWithin}
+use Rattle.euler_operators.specs.Vectors.{origin, moved}
+use Rattle.euler_operators.specs.Model.{items_of, content}
 use Rattle.euler_conditions.proofs.Borders.{ring_there, ring_number}
 use Rattle.solid_measure.specs.Measure.{area, area_limit}
 use Rattle.solid_measure.proofs.Boundaries.{area_to_limited, area_to_start, area_to_next, area_to_end}

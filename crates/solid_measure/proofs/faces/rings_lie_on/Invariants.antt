@@ -1,7 +1,7 @@
 use Rattle.std.proofs.Common.{ℕ, ◌≡◌, ◌≤◌, ◌-◌, true}
 use Rattle.std.specs.List.{list_all}
-use Rattle.lattice.specs.Vectors.{is_on}
-use Rattle.boundary_model.specs.Model.{is_ring_of, content, point_of}
+use Rattle.euler_operators.specs.Vectors.{is_on}
+use Rattle.euler_operators.specs.Model.{is_ring_of, content, point_of}
 use Rattle.shapes.specs.Faces.{vertices_on}
 use Rattle.solid_measure.proofs.faces.rings_lie_on.Given as goal
 

@@ -1,5 +1,5 @@
 use Rattle.std.proofs.Common.{ap, ◌∙◌}
-use Rattle.boundary_model.specs.Table as table
+use Rattle.euler_operators.specs.Table as table
 use Rattle.euler_conditions.proofs.Known.{mate_edge}
 use Rattle.solid_measure.proofs.halves.finish.Goals as goal
 

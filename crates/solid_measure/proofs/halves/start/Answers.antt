@@ -1,6 +1,6 @@
 use Rattle.std.proofs.Common.{ap, ◌∙◌}
-use Rattle.boundary_model.specs.HalfEdge.{code}
-use Rattle.boundary_model.specs.Table as table
+use Rattle.euler_operators.specs.HalfEdge.{code}
+use Rattle.euler_operators.specs.Table as table
 use Rattle.euler_conditions.proofs.Known.{half_there}
 use Rattle.solid_measure.proofs.halves.start.Goals as goal
 

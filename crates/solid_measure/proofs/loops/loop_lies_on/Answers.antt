@@ -1,5 +1,5 @@
 use Rattle.std.proofs.Common.{◌∙◌}
-use Rattle.boundary_model.specs.Model.{content}
+use Rattle.euler_operators.specs.Model.{content}
 use Rattle.euler_conditions.proofs.Known.{filled}
 use Rattle.solid_measure.proofs.FlatRounds.{ring_vertices}
 use Rattle.solid_measure.proofs.loops.loop_lies_on.Goals as goal

@@ -1,6 +1,6 @@
 use Rattle.std.proofs.Common.{◌≡◌, ℕ, ◌+◌, ◌-◌, sym, ap, subst, ◌∙◌, arith, true}
-use Rattle.lattice.specs.Vectors.{is_on}
-use Rattle.boundary_model.specs.HalfEdge.{code}
+use Rattle.euler_operators.specs.Vectors.{is_on}
+use Rattle.euler_operators.specs.HalfEdge.{code}
 use Rattle.euler_laws.proofs.shared.Goes.{equal, unequal}
 use Rattle.euler_conditions.proofs.Known.{edge_there}
 use Rattle.euler_conditions.proofs.Parallel.{steps, steps_are}

@@ -1,6 +1,6 @@
 use Rattle.std.proofs.Common.{ℕ, ◌+◌, ◌-◌, sym, subst, ◌∙◌, arith}
-use Rattle.boundary_model.specs.HalfEdge.{code, mate}
-use Rattle.boundary_model.specs.Model.{before, round}
+use Rattle.euler_operators.specs.HalfEdge.{code, mate}
+use Rattle.euler_operators.specs.Model.{before, round}
 use Rattle.euler_laws.proofs.shared.Goes.{equal, unequal}
 use Rattle.euler_conditions.proofs.Known.{half_there, edge_there}
 use Rattle.euler_conditions.proofs.Parallel.{steps, steps_are}

@@ -1,7 +1,7 @@
 use Rattle.std.proofs.Common.{◌≡◌, subst, sym}
-use Rattle.boundary_model.specs.HalfEdge.{code}
-use Rattle.boundary_model.specs.Model.{before}
-use Rattle.boundary_model.specs.Sound.{HasHalf}
+use Rattle.euler_operators.specs.HalfEdge.{code}
+use Rattle.euler_operators.specs.Model.{before}
+use Rattle.euler_operators.specs.Sound.{HasHalf}
 use Rattle.euler_conditions.proofs.Known.{half_there, edge_there, in_a_loop}
 use Rattle.solid_walks.proofs.TwoWays.{before_there}
 use Rattle.solid_walks.proofs.halves.previous.Goals as goal

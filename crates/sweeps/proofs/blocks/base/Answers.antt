@@ -1,5 +1,5 @@
 use Rattle.std.proofs.Common.{List, [], ◌∷◌, ◌++◌, ap, ◌∙◌}
-use Rattle.lattice.specs.declared.Point.{Point}
+use Rattle.euler_operators.specs.declared.Point.{Point}
 use Rattle.sweeps.proofs.blocks.base.Goals as goal
 
 pub returns : goal.returns

@@ -1,5 +1,5 @@
 use Rattle.std.proofs.Common.{length}
-use Rattle.boundary_model.specs.Model.{rings_of}
+use Rattle.euler_operators.specs.Model.{rings_of}
 use Rattle.solid_walks.proofs.face_walks_laws.Rising.{above}
 use Rattle.sweeps.proofs.Tallies.{FaceMet}
 use Rattle.sweeps.proofs.corners.face_tally.Given as goal

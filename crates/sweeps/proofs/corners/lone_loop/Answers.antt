@@ -1,6 +1,6 @@
 use Rattle.std.proofs.Common.{sym, ap, ◌∙◌, cond, nat_eq}
 use Rattle.std.specs.Prelude.{min}
-use Rattle.boundary_model.specs.Model.{content}
+use Rattle.euler_operators.specs.Model.{content}
 use Rattle.euler_operators.specs.Conditions.{is_lone}
 use Rattle.sweeps.proofs.LoneLoops.{outer_lone, outer_not_lone}
 use Rattle.sweeps.proofs.corners.lone_loop.Goals as goal

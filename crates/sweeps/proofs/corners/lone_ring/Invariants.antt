@@ -1,5 +1,5 @@
 use Rattle.std.proofs.Common.{length}
-use Rattle.boundary_model.specs.Model.{rings_of}
+use Rattle.euler_operators.specs.Model.{rings_of}
 use Rattle.solid_walks.proofs.face_walks_laws.Rising.{above}
 use Rattle.sweeps.proofs.LoneLoops.{NoneLone}
 use Rattle.sweeps.proofs.corners.lone_ring.Given as goal

@@ -1,8 +1,8 @@
 use Rattle.std.proofs.Common.{◌∙◌, ap, sym, subst, length, arith}
-use Rattle.boundary_model.specs.HalfEdge.{code}
-use Rattle.boundary_model.specs.Model.{cycle_of}
-use Rattle.boundary_model.specs.Sound.{Has}
-use Rattle.cyclic_list.specs.Items.{least}
+use Rattle.euler_operators.specs.HalfEdge.{code}
+use Rattle.euler_operators.specs.Model.{cycle_of}
+use Rattle.euler_operators.specs.Sound.{Has}
+use Rattle.euler_operators.specs.Items.{least}
 use Rattle.solid_walks.proofs.face_walks_laws.HalfCodes.{codes_same, codes_differ}
 use Rattle.solid_walks.proofs.face_walks_laws.CycleWalks.{item_there, item_in, goes_on, comes_back}
 use Rattle.sweeps.proofs.Tallies.{ring_begun, ring_more, ring_done}

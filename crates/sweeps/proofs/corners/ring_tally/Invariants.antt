@@ -1,7 +1,7 @@
 use Rattle.std.proofs.Common.{length, map}
-use Rattle.cyclic_list.specs.Items.{IsIn}
-use Rattle.boundary_model.specs.HalfEdge.{code}
-use Rattle.boundary_model.specs.Model.{cycle_of, tail}
+use Rattle.euler_operators.specs.Items.{IsIn}
+use Rattle.euler_operators.specs.HalfEdge.{code}
+use Rattle.euler_operators.specs.Model.{cycle_of, tail}
 use Rattle.solid_walks.proofs.face_walks_laws.CycleWalks.{seen, to_come}
 use Rattle.sweeps.specs.Corners.{IsTally}
 use Rattle.sweeps.proofs.corners.ring_tally.Given as goal

@@ -1,6 +1,6 @@
 use Rattle.std.proofs.Common.{◌≡◌, ◌∙◌, ap, sym, subst, refl, arith, true}
-use Rattle.boundary_model.specs.Table.{has}
-use Rattle.boundary_model.specs.Sound.{Sound}
+use Rattle.euler_operators.specs.Table.{has}
+use Rattle.euler_operators.specs.Sound.{Sound}
 use Rattle.undo_journal.specs.Machine.{DraftState}
 use Rattle.shapes.specs.Faces.{loops_of}
 use Rattle.shapes.specs.Fresh.{taken_in}

@@ -1,8 +1,8 @@
 use Rattle.std.proofs.Common.{◌≡◌, ◌∙◌, ap, sym, subst, true}
-use Rattle.lattice.specs.Vectors.{moved}
-use Rattle.boundary_model.specs.HalfEdge.{code, half, plus}
-use Rattle.boundary_model.specs.Model.{has_half, point_of}
-use Rattle.boundary_model.specs.Sound.{Has}
+use Rattle.euler_operators.specs.Vectors.{moved}
+use Rattle.euler_operators.specs.HalfEdge.{code, half, plus}
+use Rattle.euler_operators.specs.Model.{has_half, point_of}
+use Rattle.euler_operators.specs.Sound.{Has}
 use Rattle.euler_operators.specs.Conditions.{first_false}
 use Rattle.shapes.specs.Faces.{start}
 use Rattle.std.specs.Result.{OnOk}

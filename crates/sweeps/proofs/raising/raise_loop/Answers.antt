@@ -1,5 +1,5 @@
 use Rattle.std.proofs.Common.{◌≡◌, ◌∙◌, ap, ℕ, ◌+◌, ◌-◌, ◌<◌, ◌≤◌, arith}
-use Rattle.boundary_model.specs.Model.{items_of, content}
+use Rattle.euler_operators.specs.Model.{items_of, content}
 use Rattle.euler_operators.specs.Conditions.{first_false, is_lone}
 use Rattle.euler_operators.specs.Effect.{effect}
 use Rattle.undo_journal.specs.Machine.{DraftState}

@@ -1,5 +1,5 @@
 use Rattle.std.proofs.Common.{◌≡◌, ◌<◌, ◌-◌, length}
-use Rattle.boundary_model.specs.Model.{items_of, content}
+use Rattle.euler_operators.specs.Model.{items_of, content}
 use Rattle.euler_laws.specs.Laws.{effects}
 use Rattle.sweeps_laws.specs.prism.SweepOps.{rounds}
 use Rattle.sweeps.specs.Counters.{taken_of}

@@ -1,8 +1,8 @@
 use Rattle.std.proofs.Common.{ap, subst, refl}
-use Rattle.boundary_model.specs.HalfEdge.{code}
-use Rattle.boundary_model.specs.Model.{content, items_of}
-use Rattle.boundary_model.specs.Sound.{StandsIn}
-use Rattle.boundary_model.proofs.Models.{in-holds}
+use Rattle.euler_operators.specs.HalfEdge.{code}
+use Rattle.euler_operators.specs.Model.{content, items_of}
+use Rattle.euler_operators.specs.Sound.{StandsIn}
+use Rattle.euler_operators.proofs.Models.{in-holds}
 use Rattle.euler_conditions.specs.Store.{Tells}
 use Rattle.sweeps.proofs.RaisedItems.{ring_in}
 use Rattle.sweeps.proofs.raising.some_item.Goals as goal

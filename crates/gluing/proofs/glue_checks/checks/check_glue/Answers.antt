@@ -1,5 +1,5 @@
 use Rattle.std.proofs.Common.{◌∙◌, ap, sym}
-use Rattle.boundary_model.specs.Model.{solid_of}
+use Rattle.euler_operators.specs.Model.{solid_of}
 use Rattle.euler_operators.specs.Conditions.{first_refusal, verdict}
 use Rattle.gluing.specs.glue_checks.Conditions.{face_conditions, solid_conditions, outline_conditions}
 use Rattle.gluing.proofs.glue_checks_laws.Conditions.{all_passed, faces_failed, solids_failed, outlines_failed, numbers_decide, first_held, second_held}

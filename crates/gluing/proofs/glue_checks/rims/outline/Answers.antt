@@ -1,5 +1,5 @@
 use Rattle.std.proofs.Common.{◌∙◌, ap, sym, subst, map}
-use Rattle.boundary_model.specs.HalfEdge.{code}
+use Rattle.euler_operators.specs.HalfEdge.{code}
 use Rattle.gluing.specs.glue_checks.Rims.{AreThere}
 use Rattle.gluing.proofs.glue_checks_laws.Halves.{rim_there}
 use Rattle.gluing.proofs.glue_checks.rims.outline.Goals as goal

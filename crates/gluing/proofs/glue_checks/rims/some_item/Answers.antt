@@ -1,9 +1,9 @@
 use Rattle.std.proofs.Common.{ap, sym, subst, refl}
-use Rattle.boundary_model.specs.declared.Content.TheVariants.{Ring}
-use Rattle.boundary_model.specs.HalfEdge.{code}
-use Rattle.boundary_model.specs.Model.{content, outer, items_of}
-use Rattle.boundary_model.specs.Sound.{Has, StandsIn}
-use Rattle.boundary_model.proofs.Models.{in-holds}
+use Rattle.euler_operators.specs.declared.Content.TheVariants.{Ring}
+use Rattle.euler_operators.specs.HalfEdge.{code}
+use Rattle.euler_operators.specs.Model.{content, outer, items_of}
+use Rattle.euler_operators.specs.Sound.{Has, StandsIn}
+use Rattle.euler_operators.proofs.Models.{in-holds}
 use Rattle.euler_conditions.specs.Store.{Tells}
 use Rattle.gluing.proofs.glue_checks_laws.Halves.{ring_in}
 use Rattle.gluing.proofs.glue_checks.rims.some_item.Goals as goal

@@ -1,5 +1,5 @@
 use Rattle.std.proofs.Common.{sym, subst}
-use Rattle.boundary_model.specs.Sound.{Has}
+use Rattle.euler_operators.specs.Sound.{Has}
 use Rattle.gluing.proofs.glue_checks_laws.Halves.{first_there}
 use Rattle.gluing.proofs.glue_checks.rims.starts.Goals as goal
 

@@ -1,5 +1,5 @@
 use Rattle.std.proofs.Common.{◌≡◌, ◌++◌, map, length}
-use Rattle.boundary_model.specs.HalfEdge.{code}
+use Rattle.euler_operators.specs.HalfEdge.{code}
 use Rattle.gluing.specs.glue_checks.Rims.{AreThere, starts}
 use Rattle.gluing.proofs.glue_checks.rims.starts.Given as goal
 

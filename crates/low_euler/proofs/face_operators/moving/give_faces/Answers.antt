@@ -1,5 +1,5 @@
 use Rattle.std.proofs.Common.{sym, ap, ◌∙◌, ◌<◌, length, take, arith}
-use Rattle.boundary_model.specs.Table as table
+use Rattle.euler_operators.specs.Table as table
 use Rattle.euler_conditions.specs.Store.{Store, set_solid}
 use Rattle.euler_operators.specs.Conditions.{lists}
 use Rattle.euler_conditions.proofs.Rising.{listed_at}

@@ -1,5 +1,5 @@
 use Rattle.std.proofs.Common.{ap, ◌∙◌}
-use Rattle.boundary_model.specs.Table as table
+use Rattle.euler_operators.specs.Table as table
 use Rattle.euler_conditions.specs.Store.{Store}
 use Rattle.euler_operators.specs.Effect.{effect, part}
 use Rattle.low_euler.specs.face_operators.Moving.{moved}

@@ -1,8 +1,8 @@
 use Rattle.std.proofs.Common.{sym, ap, ◌∙◌}
-use Rattle.boundary_model.specs.Table as table
-use Rattle.boundary_model.specs.Table.{Table}
-use Rattle.boundary_model.specs.Model.{LoopRow, outer}
-use Rattle.boundary_model.specs.Sound.{Has}
+use Rattle.euler_operators.specs.Table as table
+use Rattle.euler_operators.specs.Table.{Table}
+use Rattle.euler_operators.specs.Model.{LoopRow, outer}
+use Rattle.euler_operators.specs.Sound.{Has}
 use Rattle.euler_conditions.specs.Store.{Store, set_face, take_face}
 use Rattle.euler_operators.specs.Effect.{effect, kfmrh}
 use Rattle.low_euler.proofs.face_operators_laws.Rows.{loop_moved}

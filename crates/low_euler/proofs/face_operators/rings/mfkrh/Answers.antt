@@ -1,8 +1,8 @@
 use Rattle.std.proofs.Common.{ap, ◌∙◌}
-use Rattle.boundary_model.specs.Table as table
-use Rattle.boundary_model.specs.Table.{Table, put}
-use Rattle.boundary_model.specs.Model.{FaceRow, face_of, solid_of}
-use Rattle.boundary_model.specs.Sound.{Has}
+use Rattle.euler_operators.specs.Table as table
+use Rattle.euler_operators.specs.Table.{Table, put}
+use Rattle.euler_operators.specs.Model.{FaceRow, face_of, solid_of}
+use Rattle.euler_operators.specs.Sound.{Has}
 use Rattle.euler_conditions.specs.Store.{Store, put_face, set_face}
 use Rattle.euler_operators.specs.Effect.{effect, mfkrh}
 use Rattle.low_euler.proofs.face_operators_laws.Swaps.{loop_given, face_put}

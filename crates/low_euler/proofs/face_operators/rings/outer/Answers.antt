@@ -1,7 +1,7 @@
 use Rattle.std.proofs.Common.{ap, subst, ◌∙◌}
-use Rattle.boundary_model.specs.Table as table
-use Rattle.boundary_model.specs.Model.{face_of, outer}
-use Rattle.boundary_model.specs.Sound.{Has}
+use Rattle.euler_operators.specs.Table as table
+use Rattle.euler_operators.specs.Model.{face_of, outer}
+use Rattle.euler_operators.specs.Sound.{Has}
 use Rattle.euler_conditions.specs.Store.{Store, set_face, set_outer}
 use Rattle.euler_operators.specs.Effect.{effect, take_outer}
 use Rattle.low_euler.proofs.face_operators_laws.Facts.{outer_has}

@@ -1,6 +1,6 @@
 use Rattle.std.proofs.Common.{sym, ap, ◌∙◌}
-use Rattle.boundary_model.specs.Table.{Table}
-use Rattle.boundary_model.specs.Model.{LoopRow}
+use Rattle.euler_operators.specs.Table.{Table}
+use Rattle.euler_operators.specs.Model.{LoopRow}
 use Rattle.euler_operators.specs.Effect.{effect, ring_in}
 use Rattle.low_euler.proofs.face_operators_laws.Rows.{loop_moved}
 use Rattle.low_euler.proofs.face_operators_laws.Facts.{ring_in_has}

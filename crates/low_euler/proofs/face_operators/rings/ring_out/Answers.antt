@@ -1,5 +1,5 @@
 use Rattle.std.proofs.Common.{ap, ◌∙◌}
-use Rattle.boundary_model.specs.Table as table
+use Rattle.euler_operators.specs.Table as table
 use Rattle.euler_conditions.specs.Store.{Store, set_face}
 use Rattle.euler_operators.specs.Effect.{effect, ring_out}
 use Rattle.low_euler.proofs.face_operators_laws.Facts.{ring_out_has}

@@ -1,6 +1,6 @@
 use Rattle.std.proofs.Common.{sym, ap, ◌∙◌}
-use Rattle.boundary_model.specs.Model.{loop_of, face_of}
-use Rattle.boundary_model.proofs.Halves.{edge_of-code}
+use Rattle.euler_operators.specs.Model.{loop_of, face_of}
+use Rattle.euler_operators.proofs.Halves.{edge_of-code}
 use Rattle.low_euler.proofs.loop_operators_laws.KefSteps as steps
 use Rattle.low_euler.proofs.loop_operators.faces.kef.Goals as goal
 

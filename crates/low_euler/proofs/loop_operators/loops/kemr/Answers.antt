@@ -1,8 +1,8 @@
 use Rattle.std.proofs.Common.{◌≡◌, ◌≢◌, true, [], is_some, sym, ap, ◌∙◌, subst, true≢false}
-use Rattle.boundary_model.specs.HalfEdge.{code}
-use Rattle.boundary_model.specs.Table as table
-use Rattle.boundary_model.specs.Model.{has_half, loop_of, content, items_of, face_of}
-use Rattle.boundary_model.proofs.Halves.{mate_other, edge_of-code}
+use Rattle.euler_operators.specs.HalfEdge.{code}
+use Rattle.euler_operators.specs.Table as table
+use Rattle.euler_operators.specs.Model.{has_half, loop_of, content, items_of, face_of}
+use Rattle.euler_operators.proofs.Halves.{mate_other, edge_of-code}
 use Rattle.euler_conditions.specs.Store.{Store}
 use Rattle.low_euler.specs.loop_steps.Steps.{IsStanding}
 use Rattle.low_euler.proofs.loop_operators_laws.KemrSteps as steps

@@ -1,6 +1,6 @@
 use Rattle.std.proofs.Common.{is_some, sym, ap, ◌∙◌}
-use Rattle.boundary_model.specs.Table as table
-use Rattle.boundary_model.proofs.Halves.{edge_of-code}
+use Rattle.euler_operators.specs.Table as table
+use Rattle.euler_operators.proofs.Halves.{edge_of-code}
 use Rattle.low_euler.proofs.loop_operators_laws.MekrSteps as steps
 use Rattle.low_euler.proofs.loop_operators.loops.mekr.Goals as goal
 

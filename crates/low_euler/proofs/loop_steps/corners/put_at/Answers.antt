@@ -1,4 +1,4 @@
-use Rattle.boundary_model.specs.HalfEdge.{code}
+use Rattle.euler_operators.specs.HalfEdge.{code}
 use Rattle.low_euler.proofs.loop_steps_laws.StoreSteps.{no_loop_of}
 use Rattle.low_euler.proofs.loop_steps.corners.put_at.Goals as goal
 

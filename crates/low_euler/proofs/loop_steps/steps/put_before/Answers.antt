@@ -1,7 +1,7 @@
 use Rattle.std.proofs.Common.{ap, ◌∙◌}
-use Rattle.boundary_model.specs.HalfEdge.{code}
-use Rattle.boundary_model.specs.Model.{loop_of}
-use Rattle.halfedge_arena.specs.Store.{join}
+use Rattle.euler_operators.specs.HalfEdge.{code}
+use Rattle.euler_operators.specs.Model.{loop_of}
+use Rattle.euler_conditions.specs.Store.{join}
 use Rattle.low_euler.proofs.loop_steps_laws.StoreSteps.{join_puts, loops_apart}
 use Rattle.low_euler.proofs.loop_steps.steps.put_before.Goals as goal
 

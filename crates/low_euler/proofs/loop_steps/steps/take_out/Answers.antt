@@ -1,6 +1,6 @@
 use Rattle.std.proofs.Common.{sym, ap, ◌∙◌}
-use Rattle.boundary_model.specs.HalfEdge.{code}
-use Rattle.halfedge_arena.specs.Store.{cut}
+use Rattle.euler_operators.specs.HalfEdge.{code}
+use Rattle.euler_conditions.specs.Store.{cut}
 use Rattle.low_euler.proofs.loop_steps_laws.StoreSteps as steps
 use Rattle.low_euler.proofs.loop_steps.steps.take_out.Goals as goal
 

@@ -1,8 +1,8 @@
 use Rattle.std.proofs.Common.{ap, sym, subst, ◌∙◌, ◌≡◌}
-use Rattle.boundary_model.specs.HalfEdge.{code, mate, plus, minus}
-use Rattle.boundary_model.specs.Table as table
-use Rattle.boundary_model.specs.Model.{has_half, tail, loop_of, after, arc, content, items_of}
-use Rattle.boundary_model.specs.Sound.{HasHalf}
+use Rattle.euler_operators.specs.HalfEdge.{code, mate, plus, minus}
+use Rattle.euler_operators.specs.Table as table
+use Rattle.euler_operators.specs.Model.{has_half, tail, loop_of, after, arc, content, items_of}
+use Rattle.euler_operators.specs.Sound.{HasHalf}
 use Rattle.euler_conditions.specs.Store.{Store, take_edge, take_vertex, with_lone}
 use Rattle.low_euler.specs.vertex_operators.Steps.{IsPlaced, HasLoop, taken_out, with_tails_at}
 use Rattle.low_euler.proofs.vertex_operators_laws.EdgeSteps.{same_half, other_half}

@@ -1,7 +1,7 @@
 use Rattle.std.proofs.Common.{ap, sym, subst, ◌∙◌, ◌≡◌}
-use Rattle.boundary_model.specs.HalfEdge.{code}
-use Rattle.boundary_model.specs.Table as table
-use Rattle.boundary_model.specs.Model.{tail, arc}
+use Rattle.euler_operators.specs.HalfEdge.{code}
+use Rattle.euler_operators.specs.Table as table
+use Rattle.euler_operators.specs.Model.{tail, arc}
 use Rattle.euler_conditions.specs.Store.{Store, Room, within, put_vertex}
 use Rattle.low_euler.specs.vertex_operators.Steps.{IsPlaced, HasLoop, IsAlone, with_edge, put_before}
 use Rattle.low_euler.proofs.vertex_operators_laws.Tails.{room-tails}

@@ -1,7 +1,7 @@
 use Rattle.std.proofs.Common.{ap, sym, ◌∙◌, ◌≡◌}
-use Rattle.boundary_model.specs.HalfEdge.{code}
-use Rattle.boundary_model.specs.Table as table
-use Rattle.boundary_model.specs.Model.{has_half, loop_of, content, items_of}
+use Rattle.euler_operators.specs.HalfEdge.{code}
+use Rattle.euler_operators.specs.Table as table
+use Rattle.euler_operators.specs.Model.{has_half, loop_of, content, items_of}
 use Rattle.euler_conditions.specs.Store.{Store, fill, join}
 use Rattle.euler_operators.specs.Conditions.{lone_vertex}
 use Rattle.low_euler.specs.vertex_operators.Steps.{with_edge}

@@ -1,6 +1,6 @@
 use Rattle.std.proofs.Common.{ap, ◌∙◌, ◌≡◌}
-use Rattle.boundary_model.specs.Table as table
-use Rattle.boundary_model.specs.Model.{items_of, content}
+use Rattle.euler_operators.specs.Table as table
+use Rattle.euler_operators.specs.Model.{items_of, content}
 use Rattle.euler_conditions.specs.Store.{Store, put_solid, put_face, put_loop, with_lone}
 use Rattle.low_euler.proofs.vertex_operators_laws.SolidRows.{begun, mvfs_face_free, mvfs_loop_free, mvfs_point, new_loop_there, new_loop_bare, mvfs_made}
 use Rattle.low_euler.proofs.vertex_operators.solids.mvfs.Goals as goal

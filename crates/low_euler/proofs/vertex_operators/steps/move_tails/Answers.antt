@@ -1,6 +1,6 @@
 use Rattle.std.proofs.Common.{ap, sym, ◌∙◌, ◌≡◌, ◌≢◌, ◌<◌, subst, length}
-use Rattle.boundary_model.specs.HalfEdge.{code}
-use Rattle.boundary_model.specs.Model.{has_half, loop_of, after, round, arc}
+use Rattle.euler_operators.specs.HalfEdge.{code}
+use Rattle.euler_operators.specs.Model.{has_half, loop_of, after, round, arc}
 use Rattle.euler_conditions.specs.Store.{Store, set_tail}
 use Rattle.euler_laws.proofs.shared.Goes.{not_true}
 use Rattle.low_euler.proofs.vertex_operators_laws.EdgeSteps.{same_half, other_half, is_not_false}

@@ -1,6 +1,6 @@
 use Rattle.std.proofs.Common.{length}
-use Rattle.boundary_model.specs.HalfEdge.{code}
-use Rattle.boundary_model.specs.Model.{arc}
+use Rattle.euler_operators.specs.HalfEdge.{code}
+use Rattle.euler_operators.specs.Model.{arc}
 use Rattle.low_euler.proofs.vertex_operators_laws.Tails.{HasCome}
 use Rattle.low_euler.proofs.vertex_operators.steps.move_tails.Given as goal
 

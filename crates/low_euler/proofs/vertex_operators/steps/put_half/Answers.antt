@@ -1,6 +1,6 @@
 use Rattle.std.proofs.Common.{ap, sym, ◌∙◌, ◌≡◌}
-use Rattle.boundary_model.specs.HalfEdge.{code}
-use Rattle.boundary_model.specs.Model.{before, has_half, loop_of}
+use Rattle.euler_operators.specs.HalfEdge.{code}
+use Rattle.euler_operators.specs.Model.{before, has_half, loop_of}
 use Rattle.euler_conditions.specs.Store.{join}
 use Rattle.low_euler.proofs.vertex_operators_laws.StoreSteps.{never_zero, before_half, before_loop, join_puts}
 use Rattle.low_euler.proofs.vertex_operators.steps.put_half.Goals as goal

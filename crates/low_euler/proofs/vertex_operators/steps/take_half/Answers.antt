@@ -1,8 +1,8 @@
 use Rattle.std.proofs.Common.{ap, sym, ◌∙◌, ◌≡◌, is_some}
-use Rattle.boundary_model.specs.HalfEdge.{code}
-use Rattle.boundary_model.specs.Table as table
-use Rattle.boundary_model.specs.Model.{before, has_half, loop_of}
-use Rattle.boundary_model.proofs.Models.{held_row}
+use Rattle.euler_operators.specs.HalfEdge.{code}
+use Rattle.euler_operators.specs.Table as table
+use Rattle.euler_operators.specs.Model.{before, has_half, loop_of}
+use Rattle.euler_operators.proofs.Models.{held_row}
 use Rattle.euler_conditions.specs.Store.{clear, cut}
 use Rattle.low_euler.proofs.vertex_operators_laws.EdgeSteps.{same_half, other_half}
 use Rattle.low_euler.proofs.vertex_operators_laws.StoreSteps.{never_zero, before_half, before_loop, clear_takes, cut_takes_out}

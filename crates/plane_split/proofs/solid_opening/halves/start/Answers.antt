@@ -1,7 +1,7 @@
 use Rattle.std.proofs.Common.{◌∙◌, ap, sym, subst}
-use Rattle.boundary_model.specs.HalfEdge.{code}
-use Rattle.boundary_model.specs.Model.{point_of}
-use Rattle.boundary_model.specs.Sound.{Has}
+use Rattle.euler_operators.specs.HalfEdge.{code}
+use Rattle.euler_operators.specs.Model.{point_of}
+use Rattle.euler_operators.specs.Sound.{Has}
 use Rattle.plane_split.proofs.solid_opening.halves.start.Goals as goal
 
 pub point-requires : goal.point-requires

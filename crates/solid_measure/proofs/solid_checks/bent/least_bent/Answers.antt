@@ -1,6 +1,6 @@
 use Rattle.std.proofs.Common.{◌∙◌, ap, sym, length, arith}
-use Rattle.boundary_model.specs.Table.{has}
-use Rattle.boundary_model.specs.Model.{faces_of}
+use Rattle.euler_operators.specs.Table.{has}
+use Rattle.euler_operators.specs.Model.{faces_of}
 use Rattle.solid_walks.proofs.face_walks_laws.Rising.{above}
 use Rattle.solid_measure.specs.solid_checks.Least.{found}
 use Rattle.solid_measure.proofs.solid_checks_laws.FaceWalks.{next_face, no_face_left, faces_from_zero, face_positive, first_true}

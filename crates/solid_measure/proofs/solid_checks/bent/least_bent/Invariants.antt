@@ -1,5 +1,5 @@
 use Rattle.std.proofs.Common.{◌≡◌, length}
-use Rattle.boundary_model.specs.Model.{faces_of}
+use Rattle.euler_operators.specs.Model.{faces_of}
 use Rattle.solid_walks.proofs.face_walks_laws.Rising.{above}
 use Rattle.solid_measure.proofs.solid_checks_laws.BentFaces.{first_bent}
 use Rattle.solid_measure.proofs.solid_checks.bent.least_bent.Given as goal

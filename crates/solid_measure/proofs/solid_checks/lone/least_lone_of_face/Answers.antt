@@ -1,5 +1,5 @@
 use Rattle.std.proofs.Common.{◌∙◌, ap, sym, ◌∷◌, length, arith}
-use Rattle.boundary_model.specs.Model.{outer, rings_of}
+use Rattle.euler_operators.specs.Model.{outer, rings_of}
 use Rattle.solid_walks.proofs.face_walks_laws.Rising.{above}
 use Rattle.solid_walks.proofs.face_walks_laws.RingWalks.{next_ring, no_ring, rings_from_zero}
 use Rattle.solid_measure.specs.solid_checks.Least.{lesser, only}

@@ -1,5 +1,5 @@
 use Rattle.std.proofs.Common.{◌∙◌}
-use Rattle.boundary_model.specs.Model.{content}
+use Rattle.euler_operators.specs.Model.{content}
 use Rattle.euler_conditions.proofs.Known.{filled}
 use Rattle.euler_conditions.proofs.Borders.{ring_has}
 use Rattle.solid_measure.proofs.solid_counts_laws.LoopRounds.{lone_counts, ring_counts}

@@ -1,5 +1,5 @@
 use Rattle.std.proofs.Common.{◌-◌}
-use Rattle.boundary_model.specs.HalfEdge.{code}
+use Rattle.euler_operators.specs.HalfEdge.{code}
 use Rattle.euler_conditions.proofs.Parallel.{steps}
 use Rattle.solid_measure.proofs.solid_counts_laws.LoopRounds.{MetRound}
 use Rattle.solid_measure.proofs.solid_counts.loops.ring_met.Given as goal

@@ -1,6 +1,6 @@
 use Rattle.std.proofs.Common.{◌∙◌, ap, sym, false}
-use Rattle.boundary_model.specs.HalfEdge.{half}
-use Rattle.boundary_model.proofs.Halves.{half-code}
+use Rattle.euler_operators.specs.HalfEdge.{half}
+use Rattle.euler_operators.proofs.Halves.{half-code}
 use Rattle.solid_walks.proofs.face_walks_laws.HalfCodes.{code_minus}
 use Rattle.solid_walks.proofs.face_walks.halves.minus.Goals as goal
 

@@ -1,7 +1,7 @@
 use Rattle.std.proofs.Common.{◌∙◌, ◌≤◌, ap, sym, subst, ℕ, List, [], ◌∷◌, ◌++◌, length, arith, inl, inr}
-use Rattle.cyclic_list.specs.Items.{IsIn}
-use Rattle.boundary_model.specs.HalfEdge.{code}
-use Rattle.boundary_model.specs.Model.{cycle_of}
+use Rattle.euler_operators.specs.Items.{IsIn}
+use Rattle.euler_operators.specs.HalfEdge.{code}
+use Rattle.euler_operators.specs.Model.{cycle_of}
 use Rattle.solid_walks.proofs.face_walks_laws.HalfCodes.{codes_same, codes_differ, edge_fits}
 use Rattle.solid_walks.proofs.face_walks_laws.CycleWalks.{seen, IsIn_push, least_is, start_seen, item_there, same_cycle, cycle_apart, item_in, goes_on, comes_back}
 use Rattle.solid_walks.proofs.face_walks.items.least_item.Goals as goal

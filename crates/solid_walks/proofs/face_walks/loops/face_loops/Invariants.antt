@@ -1,5 +1,5 @@
 use Rattle.std.proofs.Common.{◌≡◌, ◌++◌, length}
-use Rattle.boundary_model.specs.Model.{rings_of}
+use Rattle.euler_operators.specs.Model.{rings_of}
 use Rattle.shapes.specs.Faces.{loops_of}
 use Rattle.solid_walks.proofs.face_walks_laws.Rising.{above}
 use Rattle.solid_walks.proofs.face_walks.loops.face_loops.Given as goal

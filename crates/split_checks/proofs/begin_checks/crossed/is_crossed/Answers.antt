@@ -1,5 +1,5 @@
 use Rattle.std.proofs.Common.{◌≡◌, ◌∙◌, List, ℕ, true, false, not, map, sym, ap, subst}
-use Rattle.boundary_model.specs.HalfEdge.{code}
+use Rattle.euler_operators.specs.HalfEdge.{code}
 use Rattle.shapes.specs.split.Places.{some_meet, sorted}
 use Rattle.split_checks.specs.place_order.Order.{AreWholePlaces, entries_of, places_of}
 use Rattle.split_checks.proofs.place_order_laws.Ordered.{at_some, at_none, held_in_order, order_there, places_whole}

@@ -1,5 +1,5 @@
 use Rattle.std.proofs.Common.{◌∙◌, ap, not}
-use Rattle.lattice.specs.Vectors.{are_opposite, cuts_lattice}
+use Rattle.euler_operators.specs.Vectors.{are_opposite, cuts_lattice}
 use Rattle.solid_walks.proofs.face_walks_laws.HalfCodes.{plus_there, code_plus}
 use Rattle.shapes.specs.Faces.{start, finish}
 use Rattle.split_checks.proofs.cut_places_laws.Cuts.{told_off}

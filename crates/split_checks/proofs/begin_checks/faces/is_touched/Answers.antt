@@ -1,5 +1,5 @@
 use Rattle.std.proofs.Common.{◌∙◌, ap, sym, subst, map}
-use Rattle.boundary_model.specs.HalfEdge.{code}
+use Rattle.euler_operators.specs.HalfEdge.{code}
 use Rattle.shapes.specs.split.Places.{is_touched}
 use Rattle.split_checks.specs.cut_places.Places.{some_touch}
 use Rattle.split_checks.specs.cut_places.Walks.{AreThere}

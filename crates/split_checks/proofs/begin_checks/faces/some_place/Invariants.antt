@@ -1,5 +1,5 @@
 use Rattle.std.proofs.Common.{◌≡◌, map, length}
-use Rattle.boundary_model.specs.HalfEdge.{code}
+use Rattle.euler_operators.specs.HalfEdge.{code}
 use Rattle.std.specs.List.{list_any}
 use Rattle.shapes.specs.split.Places.{is_place}
 use Rattle.split_checks.specs.cut_places.Walks.{AreThere}

@@ -1,7 +1,7 @@
 use Rattle.std.proofs.Common.{◌∙◌, ap, sym, not, true≢false}
-use Rattle.lattice.specs.Vectors.{are_opposite, cuts_lattice, cut_between}
-use Rattle.boundary_model.specs.HalfEdge.{code, plus}
-use Rattle.boundary_model.proofs.Halves.{edge_of-code}
+use Rattle.euler_operators.specs.Vectors.{are_opposite, cuts_lattice, cut_between}
+use Rattle.euler_operators.specs.HalfEdge.{code, plus}
+use Rattle.euler_operators.proofs.Halves.{edge_of-code}
 use Rattle.euler_conditions.proofs.Known.{edge_there}
 use Rattle.solid_walks.proofs.face_walks_laws.HalfCodes.{plus_there, code_plus}
 use Rattle.shapes.specs.Faces.{start, finish}

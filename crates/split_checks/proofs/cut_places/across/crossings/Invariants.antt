@@ -1,5 +1,5 @@
 use Rattle.std.proofs.Common.{◌≡◌, ◌++◌, length}
-use Rattle.boundary_model.specs.Model.{faces_of}
+use Rattle.euler_operators.specs.Model.{faces_of}
 use Rattle.solid_walks.proofs.face_walks_laws.Rising.{above}
 use Rattle.split_checks.specs.cut_places.Crossings.{crossings_met}
 use Rattle.split_checks.proofs.cut_places.across.crossings.Given as goal

@@ -1,5 +1,5 @@
 use Rattle.std.proofs.Common.{sym}
-use Rattle.boundary_model.proofs.Halves.{edge_of-code}
+use Rattle.euler_operators.proofs.Halves.{edge_of-code}
 use Rattle.split_checks.proofs.cut_places.across.edge_of.Goals as goal
 
 pub returns : goal.returns

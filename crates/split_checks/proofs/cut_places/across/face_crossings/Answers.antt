@@ -1,5 +1,5 @@
 use Rattle.std.proofs.Common.{◌∙◌, ap, sym, subst, map}
-use Rattle.boundary_model.specs.HalfEdge.{code}
+use Rattle.euler_operators.specs.HalfEdge.{code}
 use Rattle.split_checks.specs.cut_places.Walks.{AreThere}
 use Rattle.split_checks.proofs.cut_places_laws.Walks.{boundary_there}
 use Rattle.split_checks.proofs.cut_places.across.face_crossings.Goals as goal

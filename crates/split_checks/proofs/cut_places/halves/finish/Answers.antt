@@ -1,8 +1,8 @@
 use Rattle.std.proofs.Common.{ap, ◌∙◌}
-use Rattle.boundary_model.specs.HalfEdge.{code}
-use Rattle.boundary_model.specs.Table as table
-use Rattle.boundary_model.specs.Model.{has_half}
-use Rattle.boundary_model.proofs.Halves.{edge_of-mate}
+use Rattle.euler_operators.specs.HalfEdge.{code}
+use Rattle.euler_operators.specs.Table as table
+use Rattle.euler_operators.specs.Model.{has_half}
+use Rattle.euler_operators.proofs.Halves.{edge_of-mate}
 use Rattle.split_checks.proofs.cut_places.halves.finish.Goals as goal
 
 pub start-requires-clause-there : goal.start-requires-clause-there

@@ -1,6 +1,6 @@
 use Rattle.std.proofs.Common.{subst, sym}
-use Rattle.boundary_model.specs.HalfEdge.{code}
-use Rattle.boundary_model.specs.Sound.{HasHalf}
+use Rattle.euler_operators.specs.HalfEdge.{code}
+use Rattle.euler_operators.specs.Sound.{HasHalf}
 use Rattle.euler_conditions.proofs.Known.{in_a_loop}
 use Rattle.solid_walks.proofs.TwoWays.{before_there}
 use Rattle.split_checks.proofs.cut_places.halves.previous.Goals as goal

@@ -1,5 +1,5 @@
 use Rattle.std.proofs.Common.{◌≡◌, map, IfOk, subst}
-use Rattle.boundary_model.specs.HalfEdge.{code}
+use Rattle.euler_operators.specs.HalfEdge.{code}
 use Rattle.euler_conditions.proofs.Known.{filled}
 use Rattle.split_checks.proofs.cut_places_laws.Walks.{ring_there, ring_cycle}
 use Rattle.split_checks.proofs.cut_places.loops.loop_items.Goals as goal

@@ -1,5 +1,5 @@
 use Rattle.std.proofs.Common.{◌∙◌}
-use Rattle.lattice.specs.Vectors.{height}
+use Rattle.euler_operators.specs.Vectors.{height}
 use Rattle.split_checks.specs.cut_places.Sides.{opposite_signs}
 use Rattle.split_checks.proofs.cut_places_laws.Signs.{signs_opposite}
 use Rattle.split_checks.proofs.cut_places.planes.are_opposite.Goals as goal

@@ -1,7 +1,7 @@
 use Rattle.std.proofs.Common.{◌∙◌, ap, sym, subst, map}
 use Rattle.std.specs.List.{list_any}
-use Rattle.boundary_model.specs.HalfEdge.{code}
-use Rattle.boundary_model.specs.Model.{content, items_of, point_of, tail}
+use Rattle.euler_operators.specs.HalfEdge.{code}
+use Rattle.euler_operators.specs.Model.{content, items_of, point_of, tail}
 use Rattle.shapes.specs.Faces.{start}
 use Rattle.euler_conditions.proofs.Known.{filled}
 use Rattle.split_checks.specs.cut_places.Sides.{lies}

@@ -1,6 +1,6 @@
 use Rattle.std.proofs.Common.{◌≡◌, ◌++◌, length}
 use Rattle.std.specs.Prelude.{filter}
-use Rattle.boundary_model.specs.Model.{faces_of}
+use Rattle.euler_operators.specs.Model.{faces_of}
 use Rattle.solid_walks.proofs.face_walks_laws.Rising.{above}
 use Rattle.shapes.specs.split.Sides.{straddles, straddling_faces}
 use Rattle.split_checks.proofs.cut_places.sides.straddling.Given as goal

@@ -1,5 +1,5 @@
 use Rattle.std.proofs.Common.{map, vec_len}
-use Rattle.boundary_model.specs.HalfEdge.{code}
+use Rattle.euler_operators.specs.HalfEdge.{code}
 use Rattle.split_checks.proofs.place_order_laws.Sorting.{Sorting}
 use Rattle.split_checks.proofs.place_order.order.in_order.Given as goal
 

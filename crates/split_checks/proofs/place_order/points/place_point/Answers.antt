@@ -1,5 +1,5 @@
 use Rattle.std.proofs.Common.{◌∙◌, sym}
-use Rattle.boundary_model.specs.HalfEdge.{code}
+use Rattle.euler_operators.specs.HalfEdge.{code}
 use Rattle.split_checks.proofs.place_order_laws.PlacePoints.{place_off, point_on, point_off}
 use Rattle.split_checks.proofs.place_order.points.place_point.Goals as goal
 

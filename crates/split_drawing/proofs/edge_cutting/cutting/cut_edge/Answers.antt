@@ -1,8 +1,8 @@
 use Rattle.std.proofs.Common.{◌≡◌, ◌∙◌, ◌+◌, ap, sym, subst}
 use Rattle.std.specs.Result.{OnOk}
-use Rattle.lattice.specs.Vectors.{cut_between}
-use Rattle.boundary_model.specs.HalfEdge.{half, plus}
-use Rattle.boundary_model.specs.Model.{after}
+use Rattle.euler_operators.specs.Vectors.{cut_between}
+use Rattle.euler_operators.specs.HalfEdge.{half, plus}
+use Rattle.euler_operators.specs.Model.{after}
 use Rattle.euler_operators.specs.Conditions.{first_false}
 use Rattle.undo_journal.specs.Machine.{draft_step}
 use Rattle.shapes.specs.Faces.{start, finish}

@@ -1,5 +1,5 @@
 use Rattle.std.proofs.Common.{◌∙◌, ap, sym, subst, refl}
-use Rattle.boundary_model.specs.Sound.{Sound}
+use Rattle.euler_operators.specs.Sound.{Sound}
 use Rattle.undo_journal.specs.Machine.{DraftState}
 use Rattle.shapes.specs.split.Sides.{crossing_edges}
 use Rattle.split_drawing.proofs.edge_cutting_laws.Remaining.{Cutting, cut_plane, begins, opened, next_goes, next_crosses, next_whole, next_taken}

@@ -1,4 +1,4 @@
-use Rattle.boundary_model.specs.HalfEdge.{code}
+use Rattle.euler_operators.specs.HalfEdge.{code}
 use Rattle.euler_conditions.proofs.Known.{in_a_loop}
 use Rattle.split_drawing.proofs.edge_cutting.cutting.next_item.Goals as goal
 

@@ -1,6 +1,6 @@
 use Rattle.std.proofs.Common.{◌≡◌, ℕ, ◌+◌, ap, sym, arith}
-use Rattle.boundary_model.specs.Table.{greatest}
-use Rattle.boundary_model.specs.Model.{Model}
+use Rattle.euler_operators.specs.Table.{greatest}
+use Rattle.euler_operators.specs.Model.{Model}
 use Rattle.shapes.proofs.fresh.Rows.{greatest_is}
 use Rattle.shapes.specs.Fresh.{taken_in}
 use Rattle.split_drawing.proofs.edge_cutting.fresh.fresh_vertex.Goals as goal

@@ -1,6 +1,6 @@
 use Rattle.std.proofs.Common.{sym, subst}
-use Rattle.boundary_model.specs.HalfEdge.{code}
-use Rattle.boundary_model.specs.Sound.{Has}
+use Rattle.euler_operators.specs.HalfEdge.{code}
+use Rattle.euler_operators.specs.Sound.{Has}
 use Rattle.euler_conditions.proofs.Known.{loop_there}
 use Rattle.split_drawing.proofs.face_drawing.pairs.starts_in_ring.Goals as goal
 

@@ -1,5 +1,5 @@
 use Rattle.std.proofs.Common.{◌≡◌, ◌∙◌, List, ℕ, true, false, map, sym, ap, subst, IfOk}
-use Rattle.boundary_model.specs.HalfEdge.{code}
+use Rattle.euler_operators.specs.HalfEdge.{code}
 use Rattle.shapes.specs.split.Places.{some_meet, sorted, sorted_pairs, in_pairs, up_first, place_pairs}
 use Rattle.split_drawing.specs.face_drawing.Codes.{codes}
 use Rattle.split_checks.specs.place_order.Order.{AreWholePlaces, entries_of}

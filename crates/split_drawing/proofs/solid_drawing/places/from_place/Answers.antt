@@ -1,6 +1,6 @@
 use Rattle.std.proofs.Common.{◌∙◌, ap, sym, cond}
-use Rattle.boundary_model.specs.HalfEdge.{code}
-use Rattle.boundary_model.specs.Model.{after}
+use Rattle.euler_operators.specs.HalfEdge.{code}
+use Rattle.euler_operators.specs.Model.{after}
 use Rattle.euler_conditions.proofs.Known.{in_a_loop}
 use Rattle.split_drawing.proofs.solid_drawing.places.from_place.Goals as goal
 

@@ -1,6 +1,6 @@
 use Rattle.std.proofs.Common.{◌≡◌, ◌++◌, length}
 use Rattle.std.specs.Prelude.{filter}
-use Rattle.boundary_model.specs.Model.{rings_of, content}
+use Rattle.euler_operators.specs.Model.{rings_of, content}
 use Rattle.shapes.specs.Faces.{vertices_on}
 use Rattle.solid_walks.proofs.face_walks_laws.Rising.{above}
 use Rattle.shapes.specs.split.Sides.{some_above}

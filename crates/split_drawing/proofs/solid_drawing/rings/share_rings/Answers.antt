@@ -1,5 +1,5 @@
 use Rattle.std.proofs.Common.{◌≡◌, ◌∙◌, OnOk, ap, subst}
-use Rattle.boundary_model.specs.Model.{Model}
+use Rattle.euler_operators.specs.Model.{Model}
 use Rattle.euler_laws.specs.Laws.{effects}
 use Rattle.shapes.specs.split.Drawing.{rings_above}
 use Rattle.split_drawing_laws.specs.drawings.DrawingOps.{ring_ops}

@@ -1,6 +1,6 @@
 use Rattle.std.proofs.Common.{◌≡◌, ◌∙◌, [], map, IfOk, ap, sym, subst}
-use Rattle.boundary_model.specs.Model.{Model}
-use Rattle.boundary_model.specs.Sound.{Sound}
+use Rattle.euler_operators.specs.Model.{Model}
+use Rattle.euler_operators.specs.Sound.{Sound}
 use Rattle.shapes.specs.Fresh.{taken_in}
 use Rattle.shapes.specs.split.Crossings.{with_crossings}
 use Rattle.shapes.specs.split.Drawing.{Drawing}

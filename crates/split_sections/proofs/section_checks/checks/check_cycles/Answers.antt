@@ -1,6 +1,6 @@
 use Rattle.std.proofs.Common.{◌≡◌, ◌∙◌, List, map, length, vec_len, Vec, Global, None, sym, ap, arith}
-use Rattle.boundary_model.specs.declared.HalfEdge.{HalfEdge}
-use Rattle.boundary_model.specs.HalfEdge.{code}
+use Rattle.euler_operators.specs.declared.HalfEdge.{HalfEdge}
+use Rattle.euler_operators.specs.HalfEdge.{code}
 use Rattle.split_sections.proofs.section_checks_laws.Facts.{there_now, rising_now, few_now, branched_now, next_now, cycles_now, all_now, few_told, stray_now, numbers_now}
 use Rattle.euler_operators.specs.Conditions.{first_refusal}
 use Rattle.solid_measure.specs.solid_checks.Least.{found}

@@ -1,9 +1,9 @@
 use Rattle.std.proofs.Common.{◌∙◌, ◌++◌, List, map, refl, sym, ap, subst, arith}
 use Rattle.std.specs.Prelude.{option_to_list}
 use Rattle.std.proofs.lemmas.List.{reverse-reverse}
-use Rattle.cyclic_list.specs.Items.{IsApart}
-use Rattle.boundary_model.specs.declared.HalfEdge.{HalfEdge}
-use Rattle.boundary_model.specs.HalfEdge.{code}
+use Rattle.euler_operators.specs.Items.{IsApart}
+use Rattle.euler_operators.specs.declared.HalfEdge.{HalfEdge}
+use Rattle.euler_operators.specs.HalfEdge.{code}
 use Rattle.shapes.specs.split.Section.{is_hole}
 use Rattle.split_sections.specs.section_cycles.Halves.{AreThere, codes}
 use Rattle.split_sections.proofs.section_checks_laws.HoleFlags.{Telling, none_told, next_cycle, one_told, all_told, no_items}

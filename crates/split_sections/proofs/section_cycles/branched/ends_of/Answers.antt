@@ -1,6 +1,6 @@
 use Rattle.std.proofs.Common.{◌∙◌, sym, ap, subst}
-use Rattle.boundary_model.specs.Model.{tail}
-use Rattle.boundary_model.specs.Sound.{HasHalf}
+use Rattle.euler_operators.specs.Model.{tail}
+use Rattle.euler_operators.specs.Sound.{HasHalf}
 use Rattle.euler_laws.proofs.shared.Fans.{half_mate}
 use Rattle.split_sections.proofs.section_cycles_laws.Meetings.{first_there, others_there, ends_more}
 use Rattle.split_sections.proofs.section_cycles_laws.Chains.{none}

@@ -1,6 +1,6 @@
 use Rattle.std.proofs.Common.{◌≡◌, ℕ, ◌+◌, map, length}
-use Rattle.cyclic_list.specs.Items.{count}
-use Rattle.boundary_model.specs.HalfEdge.{code}
+use Rattle.euler_operators.specs.Items.{count}
+use Rattle.euler_operators.specs.HalfEdge.{code}
 use Rattle.shapes.specs.split.Section.{section_ends}
 use Rattle.split_sections.specs.section_cycles.Halves.{AreThere}
 use Rattle.split_sections.proofs.section_cycles.branched.ends_of.Given as goal

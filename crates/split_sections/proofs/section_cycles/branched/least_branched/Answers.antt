@@ -1,6 +1,6 @@
 use Rattle.std.proofs.Common.{◌∙◌, sym, ap, subst, map, List, ℕ}
 use Rattle.std.specs.List.Sorted.{IsNonDecreasing}
-use Rattle.boundary_model.specs.HalfEdge.{code}
+use Rattle.euler_operators.specs.HalfEdge.{code}
 use Rattle.solid_measure.specs.solid_checks.Least.{least_such}
 use Rattle.split_sections.proofs.section_cycles_laws.Sorted.{often}
 use Rattle.split_sections.proofs.section_cycles_laws.Meetings.{sorted_up, least_is}

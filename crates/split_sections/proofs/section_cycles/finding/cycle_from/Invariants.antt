@@ -1,5 +1,5 @@
 use Rattle.std.proofs.Common.{◌-◌, map, length}
-use Rattle.boundary_model.specs.HalfEdge.{code}
+use Rattle.euler_operators.specs.HalfEdge.{code}
 use Rattle.shapes.specs.split.Section.{next_below}
 use Rattle.split_sections.proofs.section_cycles_laws.Rounds.{Going}
 use Rattle.split_sections.proofs.section_cycles.finding.cycle_from.Given as goal

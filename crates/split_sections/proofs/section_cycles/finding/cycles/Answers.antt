@@ -2,10 +2,10 @@ use Rattle.std.proofs.Common.{◌∙◌, ℕ, ◌≤◌, ◌||◌, List, map, Ve
 use Rattle.std.specs.BTreeSet.{contains}
 use Rattle.std.specs.Ordering.{nat_cmp, is_eq}
 use Rattle.std.specs.List.{list_any}
-use Rattle.cyclic_list.specs.Items.{IsIn}
+use Rattle.euler_operators.specs.Items.{IsIn}
 use Rattle.euler_operators.specs.Conditions.{lists}
-use Rattle.boundary_model.specs.declared.HalfEdge.{HalfEdge}
-use Rattle.boundary_model.specs.HalfEdge.{code}
+use Rattle.euler_operators.specs.declared.HalfEdge.{HalfEdge}
+use Rattle.euler_operators.specs.HalfEdge.{code}
 use Rattle.shapes.specs.split.Section.{next_below}
 use Rattle.split_sections.specs.section_cycles.Halves.{codes}
 use Rattle.split_sections.proofs.section_cycles_laws.Chains.{none}

@@ -1,7 +1,7 @@
 use Rattle.std.proofs.Common.{map, length}
 use Rattle.std.specs.BTreeSet.{contains}
 use Rattle.std.specs.Ordering.{nat_cmp}
-use Rattle.boundary_model.specs.HalfEdge.{code}
+use Rattle.euler_operators.specs.HalfEdge.{code}
 use Rattle.shapes.specs.split.Section.{next_below}
 use Rattle.split_sections.specs.section_cycles.Halves.{codes}
 use Rattle.split_sections.proofs.section_cycles_laws.Found.{Finding}

@@ -1,8 +1,8 @@
 use Rattle.std.proofs.Common.{◌≡◌, ℕ, ◌≤◌, ◌||◌, map, length}
 use Rattle.std.specs.BTreeSet.{contains}
 use Rattle.std.specs.Ordering.{nat_cmp}
-use Rattle.cyclic_list.specs.Items.{IsIn}
-use Rattle.boundary_model.specs.HalfEdge.{code}
+use Rattle.euler_operators.specs.Items.{IsIn}
+use Rattle.euler_operators.specs.HalfEdge.{code}
 use Rattle.euler_operators.specs.Conditions.{lists}
 use Rattle.split_sections.proofs.section_cycles.finding.meet.Given as goal
 

@@ -1,6 +1,6 @@
 use Rattle.std.proofs.Common.{◌∙◌, ap, arith}
-use Rattle.lattice.specs.Vectors.{dot}
-use Rattle.lattice.proofs.Magnitudes.{fits, held_is}
+use Rattle.euler_operators.specs.Vectors.{dot}
+use Rattle.euler_operators.proofs.Magnitudes.{fits, held_is}
 use Rattle.split_sections.specs.section_cycles.Sums.{read}
 use Rattle.solid_measure.proofs.Planes.{held_vector_is}
 use Rattle.split_sections.proofs.section_cycles.holes.along.Goals as goal

@@ -1,6 +1,6 @@
 use Rattle.std.proofs.Common.{sym, subst}
-use Rattle.boundary_model.specs.HalfEdge.{code}
-use Rattle.boundary_model.specs.Sound.{Has, HasHalf}
+use Rattle.euler_operators.specs.HalfEdge.{code}
+use Rattle.euler_operators.specs.Sound.{Has, HasHalf}
 use Rattle.euler_laws.proofs.shared.Fans.{half_mate}
 use Rattle.split_sections.proofs.section_cycles.holes.half_added.Goals as goal
 

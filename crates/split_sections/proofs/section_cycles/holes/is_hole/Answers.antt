@@ -1,9 +1,9 @@
 use Rattle.std.proofs.Common.{◌∙◌, ap, map, arith}
 use Rattle.std.specs.Prelude.{pos, int_lt, ℤ}
-use Rattle.lattice.specs.declared.Point.{Point}
-use Rattle.lattice.specs.Vectors.{dot}
-use Rattle.lattice.proofs.Magnitudes.{fits, held_is}
-use Rattle.boundary_model.specs.HalfEdge.{code, mate}
+use Rattle.euler_operators.specs.declared.Point.{Point}
+use Rattle.euler_operators.specs.Vectors.{dot}
+use Rattle.euler_operators.proofs.Magnitudes.{fits, held_is}
+use Rattle.euler_operators.specs.HalfEdge.{code, mate}
 use Rattle.solid_measure.specs.Measure.{area}
 use Rattle.shapes.specs.split.Section.{is_hole}
 use Rattle.split_sections.proofs.section_cycles.holes.is_hole.Goals as goal

@@ -1,7 +1,7 @@
 use Rattle.std.proofs.Common.{◌∙◌, map, sym, ap, subst}
-use Rattle.boundary_model.specs.HalfEdge.{code}
-use Rattle.boundary_model.specs.Sound.{HasHalf}
-use Rattle.lattice.specs.Vectors.{moved, cross}
+use Rattle.euler_operators.specs.HalfEdge.{code}
+use Rattle.euler_operators.specs.Sound.{HasHalf}
+use Rattle.euler_operators.specs.Vectors.{moved, cross}
 use Rattle.shapes.specs.Faces.{start, finish}
 use Rattle.euler_laws.proofs.shared.Fans.{half_mate}
 use Rattle.split_sections.specs.section_cycles.Sums.{read}

@@ -1,6 +1,6 @@
 use Rattle.std.proofs.Common.{◌≡◌, ◌++◌, map, length}
-use Rattle.boundary_model.specs.HalfEdge.{code}
-use Rattle.boundary_model.specs.Model.{faces_of}
+use Rattle.euler_operators.specs.HalfEdge.{code}
+use Rattle.euler_operators.specs.Model.{faces_of}
 use Rattle.solid_walks.proofs.face_walks_laws.Rising.{above}
 use Rattle.split_sections.specs.section_edges.BelowHalves.{below_met}
 use Rattle.split_sections.proofs.section_edges.halves.below_met.Given as goal

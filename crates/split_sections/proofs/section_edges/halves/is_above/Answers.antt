@@ -1,7 +1,7 @@
 use Rattle.std.proofs.Common.{◌∙◌, ap}
-use Rattle.boundary_model.specs.HalfEdge.{code}
-use Rattle.boundary_model.specs.Table.{has}
-use Rattle.boundary_model.specs.Model.{face_of}
+use Rattle.euler_operators.specs.HalfEdge.{code}
+use Rattle.euler_operators.specs.Table.{has}
+use Rattle.euler_operators.specs.Model.{face_of}
 use Rattle.euler_operators.specs.Conditions.{lists}
 use Rattle.euler_conditions.proofs.Known.{loop_there}
 use Rattle.split_sections.proofs.section_edges.halves.is_above.Goals as goal

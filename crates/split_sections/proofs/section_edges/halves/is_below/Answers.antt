@@ -1,6 +1,6 @@
 use Rattle.std.proofs.Common.{ap, ◌∙◌}
-use Rattle.boundary_model.specs.HalfEdge.{code}
-use Rattle.boundary_model.specs.Model.{has_half}
+use Rattle.euler_operators.specs.HalfEdge.{code}
+use Rattle.euler_operators.specs.Model.{has_half}
 use Rattle.solid_walks.proofs.face_walks_laws.HalfCodes.{mate_there}
 use Rattle.split_sections.proofs.section_edges.halves.is_below.Goals as goal
 
