@@ -3,12 +3,11 @@ ghost use Rattle.std.specs.Prelude.{◌≡◌};
 ghost use Rattle.euler_operators.specs.Conditions.{first_false, verdict};
 ghost use Rattle.euler_conditions.specs.Ready.{IsReady};
 
-use crate::Op;
 use crate::killing::{check_kef, check_kemr, check_kev, check_kfmrh, check_kvfs};
 use crate::making::{check_mef, check_mekr, check_mev, check_mfkrh, check_mvfs};
 use crate::moving::{check_merge, check_outer, check_ring_in, check_ring_out};
 use crate::parts::check_part;
-use euler_operators::Refusal;
+use euler_operators::{Op, Refusal};
 use halfedge_arena::Arena;
 
 /// Whether an operator can be done: `Ok` exactly where all of its conditions hold, else the first false one with its value.

@@ -6,8 +6,8 @@ ghost use Rattle.halfedge_arena.specs.Store.{has_number};
 ghost use Rattle.euler_conditions.specs.Ready.{IsReady};
 
 use crate::single::{in_range, refused};
-use crate::{Op, corners, ends, faces, halves};
-use euler_operators::{HalfEdge, Kind, Refusal, Why};
+use crate::{corners, ends, faces, halves};
+use euler_operators::{HalfEdge, Kind, Op, Refusal, Why};
 use halfedge_arena::Arena;
 
 /// Whether the solid has one face, that face no ring, and its outer loop no edge.

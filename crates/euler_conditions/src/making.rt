@@ -4,8 +4,8 @@ ghost use Rattle.euler_operators.specs.Conditions.{first_false, verdict};
 ghost use Rattle.euler_conditions.specs.Ready.{IsReady};
 
 use crate::single::{fits, in_range, refused};
-use crate::{Op, corners, faces, halves};
-use euler_operators::{Corner, HalfEdge, Kind, Point, Refusal, Why};
+use crate::{corners, faces, halves};
+use euler_operators::{Corner, HalfEdge, Kind, Op, Point, Refusal, Why};
 use halfedge_arena::Arena;
 
 /// Whether mvfs can be done: new solid, face, outer loop and vertex, at a point.

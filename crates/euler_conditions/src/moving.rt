@@ -3,9 +3,9 @@ ghost use Rattle.std.specs.Prelude.{◌≡◌};
 ghost use Rattle.euler_operators.specs.Conditions.{first_false, first_refusal, ring_and_face, verdict};
 ghost use Rattle.euler_conditions.specs.Ready.{IsReady};
 
+use crate::faces;
 use crate::single::{in_range, refused};
-use crate::{Op, faces};
-use euler_operators::{Kind, Refusal, Why};
+use euler_operators::{Kind, Op, Refusal, Why};
 use halfedge_arena::Arena;
 
 /// What is asked of a ring and a face of its solid.

@@ -7,8 +7,8 @@ ghost use Rattle.euler_conditions.specs.Ready.{IsReady};
 ghost use Rattle.euler_conditions.specs.Parts.{AreFacesOf, parts_known};
 
 use crate::single::{in_range, is_number, refused};
-use crate::{Op, torn};
-use euler_operators::{FaceList, Kind, Refusal, Why};
+use crate::torn;
+use euler_operators::{FaceList, Kind, Op, Refusal, Why};
 use halfedge_arena::Arena;
 
 /// Each number of the list lies from 1 to the limit.

@@ -1,5 +1,5 @@
-use crate::{Arena, HalfEdge, Kind};
-use boundary_model::Point;
+use crate::Arena;
+use boundary_model::{HalfEdge, Kind, Point};
 use std::alloc::Global;
 use std::process::Abort;
 use std::test::*;
