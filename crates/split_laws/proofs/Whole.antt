@@ -15,7 +15,7 @@ use Rattle.euler_operators.specs.Effect.{part}
 use Rattle.euler_laws.specs.Laws.{AreAccepted, effects}
 use Rattle.euler_laws.proofs.Runs.{effects_keep_sound}
 use Rattle.euler_laws.proofs.shared.Fans.{half_mate}
-use Rattle.solid_walks.proofs.Rising.{none_counted, counted_once, in_listed}
+use Rattle.euler_laws.proofs.shared.Counted.{none_counted, counted_once, in_listed}
 use Rattle.shapes.specs.split.Sides.{faces_above}
 use Rattle.shapes.specs.split.Drawing.{Drawing, with_drawings}
 use Rattle.shapes.specs.split.Section.{below_halves, section_cycles}

@@ -13,7 +13,7 @@ use Rattle.split_drawing_laws.proofs.crossings.Listed.{all_where_has}
 use Rattle.split_drawing_laws.proofs.crossings.Whole.{crossings_keep, crossings_counted}
 use Rattle.split_drawing_laws.proofs.drawings.Whole.{drawable}
 use Rattle.split_drawing_laws.proofs.pairs.Whole.{can_be_drawn}
-use Rattle.solid_walks.proofs.SolidFaces.{listed_in}
+use Rattle.euler_laws.proofs.shared.Counted.{listed_in}
 use Rattle.split_checks.proofs.cut_places_laws.Lists.{of_picked}
 use Rattle.split_checks.proofs.cut_places_laws.Walks.{all_in}
 use Rattle.split_drawing.specs.edge_cutting.Begins.{CanBeCut}

@@ -13,7 +13,7 @@ use Rattle.euler_operators.specs.Conditions.{lists}
 use Rattle.euler_laws.proofs.shared.Goes.{equals, differs, not_false}
 use Rattle.euler_laws.proofs.shared.Rows.{loop_row}
 use Rattle.euler_laws.proofs.shared.Listed.{listed_passes, passes_listed, listed_cases}
-use Rattle.solid_measure_laws.proofs.Rising.{in_listed}
+use Rattle.euler_laws.proofs.shared.Counted.{in_listed}
 use Rattle.shapes.proofs.fresh.Tests.{NoneSuch, NoZero}
 use Rattle.shapes.specs.Faces.{loops_of, items_in, boundary, vertices_on, vertices_in, corners}
 

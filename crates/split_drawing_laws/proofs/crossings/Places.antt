@@ -19,7 +19,7 @@ use Rattle.euler_laws.proofs.shared.Arcs.{halves_of_edge}
 use Rattle.euler_laws.proofs.shared.Fans.{half_after, loop_after}
 use Rattle.euler_laws.proofs.shared.Goes.{equal, equals}
 use Rattle.euler_laws.proofs.shared.Undo.{mate_plus, mate_minus}
-use Rattle.solid_measure_laws.proofs.FaceLoops.{items_counted, items_there}
+use Rattle.shapes.proofs.walks.FaceLoops.{items_counted, items_there}
 use Rattle.shapes.specs.Faces.{start, finish, loops_of, boundary, edges_of}
 use Rattle.shapes.specs.split.Sides.{crosses, straddles, straddling_faces, crossing_edges}
 use Rattle.shapes.specs.split.Places.{is_place, place_point, places}

@@ -14,7 +14,7 @@ use Rattle.euler_laws.proofs.shared.Goes.{all_hold, equal, equals}
 use Rattle.euler_laws.proofs.shared.Listed.{all_where-rises}
 use Rattle.euler_laws.proofs.shared.Loops.{some_row}
 use Rattle.euler_laws.proofs.shared.Undo.{mate_plus}
-use Rattle.solid_measure_laws.proofs.Rising.{counted_once, none_counted}
+use Rattle.euler_laws.proofs.shared.Counted.{counted_once, none_counted}
 use Rattle.shapes.specs.Faces.{start, edges_of}
 use Rattle.shapes.specs.Fresh.{taken_in, growing}
 use Rattle.shapes.specs.split.Sides.{crosses, crossing_edges}

@@ -13,7 +13,7 @@ use Rattle.euler_operators.proofs.Models.{cycle_there, face_row}
 use Rattle.euler_operators.specs.Conditions.{face_at}
 use Rattle.euler_laws.proofs.shared.Fans.{half_mate}
 use Rattle.euler_laws.proofs.shared.Goes.{equal}
-use Rattle.solid_walks.proofs.FaceLoops.{AreHalves, different_items, loops_of_apart}
+use Rattle.shapes.proofs.walks.FaceLoops.{AreHalves, different_items, loops_of_apart}
 use Rattle.shapes.specs.Faces.{start, finish, loops_of, items_in, boundary, vertices_on, corners}
 use Rattle.shapes.specs.Measure.{area, anchor, first_vertex}
 use Rattle.solid_measure_laws.proofs.FlatFaces.{and_parts, are_on}

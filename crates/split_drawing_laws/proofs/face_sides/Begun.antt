@@ -16,7 +16,7 @@ use Rattle.euler_operators.specs.Conditions.{face_at, is_lone, lists}
 use Rattle.euler_laws.proofs.shared.Fans.{half_after, loop_after}
 use Rattle.euler_laws.proofs.shared.Goes.{all_hold, equal, equals, no_zero}
 use Rattle.euler_laws.proofs.shared.Rows.{loop_row, face_there}
-use Rattle.solid_walks.proofs.Rising.{in_listed}
+use Rattle.euler_laws.proofs.shared.Counted.{in_listed}
 use Rattle.shapes.specs.Faces.{start, finish, least_lone, boundary, vertices_on}
 use Rattle.shapes.specs.split.Sides.{some_above, reaches_above, straddling_faces}
 use Rattle.shapes.specs.split.Places.{is_place, places, loop_is_cut, is_cut_often}

@@ -10,7 +10,7 @@ use Rattle.euler_operators.specs.Sound.{Sound, Has, HasHalf}
 use Rattle.euler_operators.proofs.Models.{in-holds, content_cycle, face_row}
 use Rattle.euler_operators.specs.Conditions.{face_at, lists}
 use Rattle.euler_laws.proofs.shared.Goes.{equal, equals}
-use Rattle.solid_walks.proofs.Rising.{none_counted}
+use Rattle.euler_laws.proofs.shared.Counted.{none_counted}
 use Rattle.shapes.specs.Faces.{start, loops_of, vertices_on, vertices_in, corners}
 use Rattle.shapes.specs.split.Sides.{straddles, straddling_faces, reaches_above, reaches_below}
 use Rattle.shapes.specs.split.Crossings.{with_crossings}

@@ -8,8 +8,8 @@ use Rattle.euler_operators.specs.Model.{Model, content, holds, loop_of, face_of,
 use Rattle.euler_operators.specs.Sound.{Sound, Has, HasHalf, StandsIn}
 use Rattle.euler_operators.specs.Conditions.{face_at, lists}
 use Rattle.euler_laws.proofs.shared.Goes.{equals, differs}
-use Rattle.solid_walks.proofs.FaceLoops.{ring_listed}
-use Rattle.solid_walks.proofs.Rising.{in_listed}
+use Rattle.shapes.proofs.walks.FaceLoops.{ring_listed}
+use Rattle.euler_laws.proofs.shared.Counted.{in_listed}
 use Rattle.shapes.specs.Faces.{vertices_on}
 use Rattle.shapes.specs.split.Sides.{some_above}
 use Rattle.shapes.specs.split.Drawing.{face_drawn, rings_above, with_rings}

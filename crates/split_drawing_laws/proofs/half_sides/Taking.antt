@@ -19,7 +19,7 @@ use Rattle.euler_laws.proofs.shared.Goes.{equal, equals}
 use Rattle.euler_laws.proofs.shared.Loops.{some_row}
 use Rattle.euler_laws.proofs.shared.Rows.{face_there}
 use Rattle.euler_laws.proofs.shared.Undo.{mate_plus, mate_minus}
-use Rattle.solid_walks.proofs.Rising.{in_listed}
+use Rattle.euler_laws.proofs.shared.Counted.{in_listed}
 use Rattle.shapes.specs.Faces.{start, finish, corners, edges_of}
 use Rattle.shapes.specs.split.Sides.{crosses, straddles, straddling_faces, reaches_above, reaches_below}
 use Rattle.shapes.specs.split.Crossings.{with_crossings}

@@ -16,8 +16,8 @@ use Rattle.euler_laws.proofs.shared.Arcs.{halves_of_edge}
 use Rattle.euler_laws.proofs.shared.Fans.{loop_after}
 use Rattle.euler_laws.proofs.shared.Goes.{no_zero, equal, equals}
 use Rattle.euler_laws.proofs.shared.Rows.{face_there, loop_row}
-use Rattle.solid_walks.proofs.Rising.{in_listed}
-use Rattle.solid_walks.proofs.SolidFaces.{face_of_loop}
+use Rattle.euler_laws.proofs.shared.Counted.{in_listed}
+use Rattle.shapes.proofs.walks.SolidFaces.{face_of_loop}
 use Rattle.shapes.specs.Measure.{normal}
 use Rattle.shapes.specs.Faces.{loops_of, corners}
 use Rattle.shapes.specs.split.Sides.{reaches_above, reaches_below, straddles, crossing_edges, face_is_above, faces_above}

@@ -1,42 +1,18 @@
 -- Of the half-edges at a vertex the one of the least edge leads, and no other.
-use Rattle.std.proofs.Common.{◌≡◌, ℕ, ◌≤◌, ◌<◌, Bool, true, false, cond, nat_eq, ◌||◌, List, [], ◌∷◌, Some, is_some, refl, sym, ap, ◌∙◌, arith, true≢false, ◌⊎◌, inl, inr}
+use Rattle.std.proofs.Common.{◌≡◌, ℕ, ◌≤◌, ◌<◌, Bool, true, false, nat_eq, ◌||◌, Some, is_some, refl, sym, ap, ◌∙◌, arith, ◌⊎◌, inl, inr}
 use Rattle.euler_operators.specs.HalfEdge.{edge_of, plus, minus}
 use Rattle.euler_operators.specs.Table as table
-use Rattle.euler_operators.specs.Table.{Table, first_where, all_where, first_in, all_in}
+use Rattle.euler_operators.specs.Table.{first_where}
 use Rattle.euler_operators.specs.Model.{Model, EdgeRow, tail, tail_in}
 use Rattle.euler_operators.specs.Sound.{Sound, HasHalf}
 use Rattle.euler_operators.proofs.Halves.{plus_row, minus_row, same_edge}
 use Rattle.euler_operators.proofs.Models.{tail_row}
-use Rattle.euler_operators.specs.Conditions.{lists, strictly_rises}
-use Rattle.euler_operators.specs.Effect.{head_or_zero}
 use Rattle.euler_laws.proofs.shared.Arcs.{halves_of_edge}
-use Rattle.euler_laws.proofs.shared.Listed.{first_listed, listed_cases, listed_passes, passes_listed, all_where-rises}
+use Rattle.euler_laws.proofs.shared.Listed.{listed_passes}
 use Rattle.euler_laws.proofs.shared.Loops.{some_row}
 use Rattle.euler_laws.proofs.shared.Goes.{equal, equals, differs}
-use Rattle.euler_conditions.proofs.Parallel.{first_where_least}
-use Rattle.euler_conditions.proofs.Rising.{above_first}
-use Rattle.solid_walks.specs.Walks.{first_edge, leads}
-
--- ---- the first number whose row passes, where one does
-
-module _ {X : Type 0} (p : ℕ → X → Bool) (t : Table X) where
-  first_is_head : first_where p t ≡ head_or_zero (all_where p t)
-  unfolding first_where all_where
-  first_is_head = go t.rows where
-    step : (n : ℕ) (b : Bool) (m : ℕ) (ns : List ℕ) → m ≡ head_or_zero ns → cond b n m ≡ head_or_zero (cond b (n ∷ ns) ns)
-    step n true m ns e = refl
-    step n false m ns e = e
-
-    go : (es : List (ℕ × X)) → first_in p es ≡ head_or_zero (all_in p es)
-    go [] = refl
-    go (e ∷ es) = step e.0 (p e.0 e.1) (first_in p es) (all_in p es) (go es)
-
-  -- it passes, and isn't greater than any that does
-  first_passes : (q : ℕ) (y : X) → table.get t q ≡ Some y → p q y ≡ true → (lists (all_where p t) (first_where p t) ≡ true) × (first_where p t ≤ q)
-  first_passes q y at passes = go (all_where p t) (all_where-rises p t) first_is_head (passes_listed p t q y at passes) where
-    go : (ns : List ℕ) → strictly_rises ns ≡ true → first_where p t ≡ head_or_zero ns → lists ns q ≡ true → (lists ns (first_where p t) ≡ true) × (first_where p t ≤ q)
-    go [] r e l = absurd (true≢false (sym l))
-    go (m ∷ ns) r e l = (ap (lists (m ∷ ns)) e ∙ first_listed m ns, elim (listed_cases m q ns l) [ inl s ↦ omega (arith, e, s) | inr s ↦ omega (arith, e, above_first m q ns r s) ])
+use Rattle.euler_laws.proofs.shared.FirstWhere.{first_where_least, first_passes}
+use Rattle.shapes.specs.Walks.{first_edge, leads}
 
 -- ---- the edges at a vertex
 

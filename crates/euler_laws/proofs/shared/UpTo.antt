@@ -1,11 +1,10 @@
--- The front of a rising list that doesn't pass a number.
-use Rattle.std.proofs.Common.{◌≡◌, ℕ, ◌≤◌, ◌<◌, Bool, true, false, cond, nat_le, List, [], ◌∷◌, ◌++◌, refl, sym, ap, ◌∙◌, arith, true≢false, ◌⊎◌, inl, inr}
-use Rattle.std.proofs.lemmas.Bool.Decides.{nat_tests, eqb_tells}
-use Rattle.euler_operators.specs.Items.{count, tick, IsIn}
-use Rattle.euler_operators.proofs.Lists.{tick_same, tick_other}
+-- The numbers of a rising list up to one.
+use Rattle.std.proofs.Common.{◌≡◌, ℕ, ◌≤◌, ◌<◌, true, false, cond, nat_le, List, [], ◌∷◌, ◌++◌, refl, sym, ap, ◌∙◌, arith, true≢false, ◌⊎◌, inl, inr}
+use Rattle.std.proofs.lemmas.Bool.Decides.{nat_tests}
+use Rattle.euler_operators.specs.Items.{count}
 use Rattle.euler_operators.specs.Conditions.{lists, strictly_rises}
 use Rattle.euler_laws.proofs.shared.Listed.{first_listed, rest_listed, listed_cases}
-use Rattle.euler_conditions.proofs.Rising.{rest_rises, above_first}
+use Rattle.euler_laws.proofs.shared.RisingLists.{rest_rises, above_first}
 
 abbrev pub up_to : ℕ → List ℕ → List ℕ
 up_to n [] = []
@@ -58,34 +57,6 @@ count_up_to x n (m ∷ ms) = elim (below_or m n) [
   | inl s ↦ omega (arith, ap (count x) (takes m n ms s), count_up_to x n ms)
   | inr s ↦ omega (arith, ap (count x) (drops m n ms s), count_up_to x n ms)
 ]
-
--- a number that isn't listed stands nowhere in the list
-pub none_counted : (x : ℕ) (ns : List ℕ) → lists ns x ≡ false → count x ns ≡ 0
-none_counted x [] e = refl
-none_counted x (n ∷ ns) e = elim (eqb_tells x n) [
-  | inl p ↦ absurd (true≢false (sym (ap (λ k. lists (n ∷ ns) k) p.1 ∙ first_listed n ns) ∙ e))
-  | inr p ↦ omega (arith, tick_other x n p.1, none_counted x ns (not_later (lists ns x) refl))
-] where
-  not_later : (b : Bool) → lists ns x ≡ b → lists ns x ≡ false
-  not_later true q = absurd (true≢false (sym (rest_listed n x ns q) ∙ e))
-  not_later false q = q
-
-pub counted_once : (x : ℕ) (ns : List ℕ) → strictly_rises ns ≡ true → count x ns ≤ 1
-counted_once x [] r = omega arith
-counted_once x (n ∷ ns) r = elim (eqb_tells x n) [
-  | inl p ↦ omega (arith, ap (λ k. tick x k) (sym p.1), tick_same x, none_counted x ns (not_later (lists ns x) refl p.1))
-  | inr p ↦ omega (arith, tick_other x n p.1, counted_once x ns (rest_rises n ns r))
-] where
-  not_later : (b : Bool) → lists ns x ≡ b → x ≡ n → lists ns x ≡ false
-  not_later true q e = absurd (omega (arith, above_first n x ns r q, e))
-  not_later false q e = q
-
--- what stands in the list is listed
-pub in_listed : (x : ℕ) (ns : List ℕ) → IsIn x ns → lists ns x ≡ true
-in_listed x ns i = go (lists ns x) refl where
-  go : (b : Bool) → lists ns x ≡ b → lists ns x ≡ true
-  go true e = e
-  go false e = absurd (omega (arith, none_counted x ns e))
 
 pub listed_up_to : (x n : ℕ) (ns : List ℕ) → lists (up_to n ns) x ≡ true → lists ns x ≡ true
 listed_up_to x n [] i = i

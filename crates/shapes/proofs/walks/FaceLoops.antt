@@ -1,5 +1,5 @@
 -- The loops of a face, and the half-edges of some loops, are different ones.
-use Rattle.std.proofs.Common.{◌≡◌, ℕ, ◌≤◌, ◌<◌, Bool, true, false, not, nat_eq, nat_le, ◌&&◌, List, [], ◌∷◌, ◌++◌, length, Some, None, is_some, refl, sym, ap, ◌∙◌, arith, true≢false, inl, inr}
+use Rattle.std.proofs.Common.{◌≡◌, ℕ, ◌≤◌, ◌<◌, Bool, true, false, not, nat_eq, nat_le, ◌&&◌, List, [], ◌∷◌, ◌++◌, length, Some, is_some, refl, sym, ap, ◌∙◌, arith, true≢false, inl, inr}
 use Rattle.std.specs.Prelude.{unwrap_or}
 use Rattle.std.proofs.lemmas.Bool.Decides.{nat_tests, eqb_tells}
 use Rattle.std.proofs.lemmas.List.{append_assoc}
@@ -9,15 +9,15 @@ use Rattle.euler_operators.specs.Table as table
 use Rattle.euler_operators.specs.Model.{Model, LoopRow, no_loop, items_of, content, loop_of, outer, face_of, rings_of, is_ring_of}
 use Rattle.euler_operators.specs.Sound.{Sound, HasHalf}
 use Rattle.euler_operators.proofs.Models.{in-holds}
-use Rattle.euler_conditions.specs.Store.{IsNextRing}
 use Rattle.euler_operators.specs.Conditions.{lists, strictly_rises}
 use Rattle.euler_laws.proofs.shared.Listed.{listed_passes, passes_listed, all_where-rises}
 use Rattle.euler_laws.proofs.shared.Loops.{some_row}
-use Rattle.euler_conditions.proofs.Borders.{ring_there}
-use Rattle.euler_conditions.proofs.Parallel.{steps, steps_are, length_below}
+use Rattle.euler_laws.proofs.shared.FaceRings.{ring_there}
+use Rattle.euler_laws.proofs.shared.Bounds.{steps, steps_are, length_below, half_below}
+use Rattle.euler_laws.proofs.shared.Counted.{none_counted, counted_once}
+use Rattle.euler_laws.proofs.shared.UpTo.{up_to, up_to_none, count_up_to}
 use Rattle.shapes.specs.Faces.{items_in, loops_of}
-use Rattle.solid_walks.proofs.Rounds.{half_in, half_below, items_apart}
-use Rattle.solid_walks.proofs.Rising.{up_to, below_or, up_to_none, up_to_all, up_to_next, count_up_to, counted_once, none_counted}
+use Rattle.shapes.proofs.walks.Rounds.{half_in, items_apart}
 
 -- the outer loop of a face and its rings that don't pass n
 abbrev pub loops_to : Model → ℕ → ℕ → List ℕ
@@ -99,18 +99,5 @@ module _ (M : Model) (sound : Sound M) where
       number : (l : ℕ) → (nat_le 1 l && nat_le l 1000000) ≡ true → 0 < l
       number l e = grind (arith, nat_tests)
 
-    -- ---- the walk over the rings
-
     pub loops_none : loops_to M f 0 ≡ outer M f ∷ []
     loops_none = ap (λ ls. outer M f ∷ ls) (up_to_none 0 (rings_of M f) ring_positive)
-
-    pub loops_more : (last ring : ℕ) → IsNextRing M f last (Some ring) → loops_to M f ring ≡ loops_to M f last ++ ring ∷ []
-    loops_more last ring next = ap (λ ls. outer M f ∷ ls) (up_to_next last ring (rings_of M f) rings_rise (ring_listed ring next.1) next.0 (λ k i l. not_before k (listed_ring k i) l (next.2 k l))) where
-      not_before : (k : ℕ) → is_ring_of M f k ≡ true → last < k → (k < ring → is_ring_of M f k ≡ false) → ring ≤ k
-      not_before k e l none = elim (below_or ring k) [ inl s ↦ s | inr s ↦ absurd (true≢false (sym e ∙ none s)) ]
-
-    pub loops_all : (last : ℕ) → IsNextRing M f last None → loops_to M f last ≡ loops_of M f
-    unfolding loops_of
-    loops_all last none = ap (λ ls. outer M f ∷ ls) (up_to_all last (rings_of M f) (λ k i. not_after k (listed_ring k i))) where
-      not_after : (k : ℕ) → is_ring_of M f k ≡ true → k ≤ last
-      not_after k e = elim (below_or k last) [ inl s ↦ s | inr s ↦ absurd (true≢false (sym e ∙ none k s)) ]

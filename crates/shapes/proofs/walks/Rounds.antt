@@ -1,19 +1,15 @@
 -- The walk round a loop, which meets each of its half-edges once.
-use Rattle.std.proofs.Common.{◌≡◌, ◌≢◌, ℕ, ◌+◌, ◌≤◌, ◌<◌, true, List, [], ◌∷◌, ◌++◌, refl, sym, ap, subst, ◌∙◌, arith}
-use Rattle.std.proofs.lemmas.Bool.Decides.{nat_tests}
+use Rattle.std.proofs.Common.{◌≡◌, ◌≢◌, ℕ, ◌+◌, ◌≤◌, List, [], ◌∷◌, ◌++◌, refl, sym, ap, subst, ◌∙◌, arith}
 use Rattle.euler_operators.specs.Items.{count, IsIn, IsApart}
 use Rattle.euler_operators.specs.Rings.{canonical, rotate_to, walk_to, orbit, successor, IsRing, IsRotation}
 use Rattle.euler_operators.proofs.Lists.{count-append}
 use Rattle.euler_operators.proofs.Rings.{orbit_from, IsRing-from_successor, IsIn_successor}
 use Rattle.euler_operators.proofs.Rotations.{count-rotate_to, rotate_to-rotates}
 use Rattle.euler_operators.proofs.Places.{walk_done, walk_on, walk_over}
-use Rattle.euler_operators.specs.declared.HalfEdge.{HalfEdge}
-use Rattle.euler_operators.specs.HalfEdge.{code, edge_of}
-use Rattle.euler_operators.specs.Model.{Model, items_of, content, loop_of, after, is_number}
+use Rattle.euler_operators.specs.Model.{Model, items_of, content, loop_of, after}
 use Rattle.euler_operators.specs.Sound.{Sound, HasHalf, StandsIn}
 use Rattle.euler_operators.proofs.Models.{in-holds, cycle_sound}
-use Rattle.euler_conditions.proofs.Known.{edge_there}
-use Rattle.euler_conditions.proofs.Parallel.{steps, steps_are, length_below}
+use Rattle.euler_laws.proofs.shared.Bounds.{steps, length_below, half_below}
 
 -- the walk round loop l from its item first on has met some items and come to h, and n steps may follow
 pub record Round (M : Model) (l first h n : ℕ) : Type 0 where
@@ -21,18 +17,6 @@ pub record Round (M : Model) (l first h n : ℕ) : Type 0 where
   pub walked : orbit (after M) first steps ≡ met ++ walk_to (after M) first h n
   pub there : HasHalf M h
   pub here : IsIn h (items_of (content M l))
-
--- a half-edge that is there is one of a bounded range of codes
-pub half_below : (M : Model) → Sound M → (x : ℕ) → HasHalf M x → x < steps
-unfolding edge_of
-half_below M sound x t = below (edge_of x) x (sound.edges_fit (edge_of x) t) refl where
-  below : (e x : ℕ) → is_number e ≡ true → edge_of x ≡ e → x < steps
-  below e x n is = let k : e ≤ 1000000 = grind (arith, nat_tests) in omega (arith, steps_are)
-
-pub edge_number : (M : Model) → Sound M → (h : HalfEdge) → HasHalf M (code h) → h.edge ≤ 1000000
-edge_number M sound h t = go h.edge (sound.edges_fit h.edge (edge_there M h t)) where
-  go : (e : ℕ) → is_number e ≡ true → e ≤ 1000000
-  go e n = grind (arith, nat_tests)
 
 module _ (M : Model) (sound : Sound M) (l first : ℕ) (item : IsIn first (items_of (content M l))) where
   stands : (x : ℕ) → IsIn x (items_of (content M l)) → StandsIn M x l

@@ -1,5 +1,5 @@
 -- The faces of a solid, and their loops.
-use Rattle.std.proofs.Common.{◌≡◌, ℕ, ◌≤◌, ◌<◌, Bool, true, false, nat_eq, nat_le, ◌&&◌, List, [], ◌∷◌, ◌++◌, length, Some, None, is_some, refl, sym, ap, ◌∙◌, arith, true≢false, inl, inr}
+use Rattle.std.proofs.Common.{◌≡◌, ℕ, ◌≤◌, ◌<◌, true, nat_eq, nat_le, ◌&&◌, List, [], ◌∷◌, ◌++◌, length, Some, is_some, refl, sym, ap, ◌∙◌, arith, inl, inr}
 use Rattle.std.specs.Prelude.{unwrap_or}
 use Rattle.std.proofs.lemmas.Bool.Decides.{nat_tests, eqb_tells}
 use Rattle.std.proofs.lemmas.List.{append_assoc}
@@ -8,22 +8,17 @@ use Rattle.euler_operators.proofs.Lists.{count-append, tick_same, IsIn_or_not}
 use Rattle.euler_operators.specs.Table as table
 use Rattle.euler_operators.specs.Model.{Model, FaceRow, no_face, outer, face_of, rings_of, faces_of, solid_of}
 use Rattle.euler_operators.specs.Sound.{Sound, Has}
-use Rattle.euler_conditions.specs.Store.{IsNextFace, is_face_of}
 use Rattle.euler_operators.specs.Conditions.{lists, strictly_rises}
 use Rattle.euler_laws.proofs.shared.Listed.{first_listed, rest_listed, listed_cases, listed_passes, passes_listed, all_where-rises}
 use Rattle.euler_laws.proofs.shared.Loops.{some_row}
 use Rattle.euler_laws.proofs.shared.Goes.{equal, equals}
-use Rattle.euler_conditions.proofs.Borders.{ring_there, outer_or_ring, ring_number}
-use Rattle.euler_conditions.proofs.Parallel.{length_below}
+use Rattle.euler_laws.proofs.shared.FaceRings.{ring_there, outer_or_ring}
+use Rattle.euler_laws.proofs.shared.Bounds.{length_below, ring_number}
+use Rattle.euler_laws.proofs.shared.Counted.{counted_once, in_listed, listed_in}
+use Rattle.euler_laws.proofs.shared.UpTo.{up_to, up_to_none, count_up_to, listed_up_to}
 use Rattle.shapes.specs.Faces.{loops_of}
-use Rattle.solid_walks.specs.Walks.{loops_in}
-use Rattle.solid_walks.proofs.Rising.{up_to, below_or, up_to_none, up_to_all, up_to_next, count_up_to, counted_once, in_listed, listed_up_to}
-use Rattle.solid_walks.proofs.FaceLoops.{loops_to, listed_ring, ring_listed, loops_of_apart}
-
--- what is listed stands in the list
-pub listed_in : (x : ℕ) (ns : List ℕ) → lists ns x ≡ true → IsIn x ns
-listed_in x [] l = absurd (true≢false (sym l))
-listed_in x (n ∷ ns) l = elim (listed_cases n x ns l) [ inl e ↦ omega (arith, ap (λ k. tick k n) e, tick_same n) | inr e ↦ omega (arith, listed_in x ns e) ]
+use Rattle.shapes.specs.Walks.{loops_in}
+use Rattle.shapes.proofs.walks.FaceLoops.{loops_to, listed_ring, ring_listed, loops_of_apart}
 
 pub loops_joined : (M : Model) (fs gs : List ℕ) → loops_in M (fs ++ gs) ≡ loops_in M fs ++ loops_in M gs
 loops_joined M [] gs = refl
@@ -97,43 +92,17 @@ module _ (M : Model) (sound : Sound M) where
     pub faces_rise : strictly_rises (faces_of M s) ≡ true
     faces_rise = all_where-rises (λ _ row. nat_eq row.solid s) M.faces
 
-    face_number : (f : ℕ) → Has M.faces f → (0 < f) × (f ≤ 1000000)
+    pub face_number : (f : ℕ) → Has M.faces f → (0 < f) × (f ≤ 1000000)
     face_number f t = number f (sound.faces_fit f t) where
       number : (f : ℕ) → (nat_le 1 f && nat_le f 1000000) ≡ true → (0 < f) × (f ≤ 1000000)
       number f e = (grind (arith, nat_tests), grind (arith, nat_tests))
-
-    -- ---- the walk over the faces
 
     -- the faces of the solid that don't pass n
     abbrev pub faces_to : ℕ → List ℕ
     faces_to n = up_to n (faces_of M s)
 
-    face_is : (f : ℕ) → is_face_of M s f ≡ true → Has M.faces f × (solid_of M f ≡ s)
-    face_is f e = let p = parts (table.has M.faces f) (nat_eq (solid_of M f) s) e in (p.0, equal (solid_of M f) s p.1) where
-      parts : (a b : Bool) → (a && b) ≡ true → (a ≡ true) × (b ≡ true)
-      parts true b e = (refl, e)
-      parts false b e = absurd (true≢false (sym e))
-
-    is_face : (f : ℕ) → lists (faces_of M s) f ≡ true → is_face_of M s f ≡ true
-    is_face f i = let p = listed_face f i in ap (λ b. b && nat_eq (solid_of M f) s) p.0 ∙ equals (solid_of M f) s p.1
-
-    pub next_face : (last f : ℕ) → IsNextFace M s last (Some f) → Has M.faces f × (f ≤ 1000000)
-    next_face last f next = let t = (face_is f next.1).0 in (t, (face_number f t).1)
-
     pub faces_none : faces_to 0 ≡ []
     faces_none = up_to_none 0 (faces_of M s) (λ f i. (face_number f (listed_face f i).0).0)
-
-    pub faces_more : (last f : ℕ) → IsNextFace M s last (Some f) → faces_to f ≡ faces_to last ++ f ∷ []
-    faces_more last f next =
-        let t = face_is f next.1 in
-        up_to_next last f (faces_of M s) faces_rise (face_listed f t.0 t.1) next.0 (λ k i l. not_before k (is_face k i) (next.2 k l)) where
-          not_before : (k : ℕ) → is_face_of M s k ≡ true → (k < f → is_face_of M s k ≡ false) → f ≤ k
-          not_before k e none = elim (below_or f k) [ inl b ↦ b | inr b ↦ absurd (true≢false (sym e ∙ none b)) ]
-
-    pub faces_all : (last : ℕ) → IsNextFace M s last None → faces_to last ≡ faces_of M s
-    faces_all last none = up_to_all last (faces_of M s) (λ k i. not_after k (is_face k i)) where
-      not_after : (k : ℕ) → is_face_of M s k ≡ true → k ≤ last
-      not_after k e = elim (below_or k last) [ inl b ↦ b | inr b ↦ absurd (true≢false (sym e ∙ none k b)) ]
 
     pub faces_short : length (faces_of M s) ≤ 1000001
     faces_short = length_below 1000001 (faces_of M s) (λ f. counted_once f (faces_of M s) faces_rise) (λ f i. below f (face_number f (listed_face f (in_listed f (faces_of M s) i)).0).1) where
