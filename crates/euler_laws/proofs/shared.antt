@@ -16,4 +16,5 @@ pub mod UpTo
 pub mod FirstWhere
 pub mod Bounds
 pub mod FaceRings
+pub mod KnownLoop
 pub mod Empty

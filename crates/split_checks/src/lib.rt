@@ -4,6 +4,7 @@
 mod begin_checks;
 mod cut_places;
 mod place_order;
+mod progress;
 
 pub use begin_checks::check_begin;
 pub use cut_places::{
@@ -11,3 +12,4 @@ pub use cut_places::{
     straddling,
 };
 pub use place_order::{Places, in_order};
+pub use progress::Progress;

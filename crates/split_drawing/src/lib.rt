@@ -6,5 +6,4 @@ mod face_drawing;
 mod face_pairs;
 mod solid_drawing;
 
-pub use face_drawing::Progress;
 pub use solid_drawing::draw_solid;

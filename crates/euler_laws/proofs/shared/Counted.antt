@@ -1,10 +1,11 @@
 -- What a list lists stands in it, and in a rising list once.
-use Rattle.std.proofs.Common.{◌≡◌, ℕ, ◌≤◌, Bool, true, false, List, [], ◌∷◌, refl, sym, ap, ◌∙◌, arith, true≢false, inl, inr}
+use Rattle.std.proofs.Common.{◌≡◌, ℕ, ◌≤◌, Bool, true, false, List, [], ◌∷◌, Some, refl, sym, ap, ◌∙◌, arith, true≢false, inl, inr}
 use Rattle.std.proofs.lemmas.Bool.Decides.{eqb_tells}
 use Rattle.euler_operators.specs.Items.{count, tick, IsIn}
 use Rattle.euler_operators.proofs.Lists.{tick_same, tick_other}
+use Rattle.euler_operators.specs.Table.{Table, get, all_where}
 use Rattle.euler_operators.specs.Conditions.{lists, strictly_rises}
-use Rattle.euler_laws.proofs.shared.Listed.{first_listed, rest_listed, listed_cases}
+use Rattle.euler_laws.proofs.shared.Listed.{first_listed, rest_listed, listed_cases, listed_passes, passes_listed}
 use Rattle.euler_laws.proofs.shared.RisingLists.{rest_rises, above_first}
 
 -- a number that isn't listed stands nowhere in the list
@@ -39,3 +40,10 @@ in_listed x ns i = go (lists ns x) refl where
 pub listed_in : (x : ℕ) (ns : List ℕ) → lists ns x ≡ true → IsIn x ns
 listed_in x [] l = absurd (true≢false (sym l))
 listed_in x (n ∷ ns) l = elim (listed_cases n x ns l) [ inl e ↦ omega (arith, ap (λ k. tick k n) e, tick_same n) | inr e ↦ omega (arith, listed_in x ns e) ]
+
+-- the numbers of a table whose rows pass a test
+pub all_where_has : {X : Type 0} (p : ℕ → X → Bool) (t : Table X) (n : ℕ) → IsIn n (all_where p t) → (x : X) × (get t n ≡ Some x) × (p n x ≡ true)
+all_where_has p t n i = listed_passes p t n (in_listed n (all_where p t) i)
+
+pub all_where_in : {X : Type 0} (p : ℕ → X → Bool) (t : Table X) (n : ℕ) (x : X) → get t n ≡ Some x → p n x ≡ true → IsIn n (all_where p t)
+all_where_in p t n x at e = listed_in n (all_where p t) (passes_listed p t n x at e)

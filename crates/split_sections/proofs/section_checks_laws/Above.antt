@@ -6,10 +6,9 @@ use Rattle.euler_operators.specs.Items.{least}
 use Rattle.euler_operators.specs.Model.{Model, solid_of, faces_of, no_face}
 use Rattle.euler_operators.specs.Sound.{Sound}
 use Rattle.euler_operators.specs.Conditions.{strictly_rises}
-use Rattle.split_drawing_laws.proofs.crossings.Listed.{all_where_has}
+use Rattle.euler_laws.proofs.shared.Counted.{all_where_has, listed_in}
 use Rattle.euler_laws.proofs.shared.Goes.{equal}
 use Rattle.euler_laws.proofs.shared.Listed.{all_where-rises}
-use Rattle.euler_laws.proofs.shared.Counted.{listed_in}
 use Rattle.shapes.proofs.walks.FaceLoops.{halves_short}
 use Rattle.shapes.specs.split.Sides.{face_is_above, faces_above}
 use Rattle.shapes.specs.split.Section.{below_halves, cycle_from, section_cycles}

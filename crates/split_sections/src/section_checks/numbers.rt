@@ -3,10 +3,10 @@ ghost use Rattle.std.specs.Prelude.{◌≡◌, ◌+◌, ◌*◌, ◌≤◌, nat_
 ghost use Rattle.euler_operators.specs.Conditions.{first_refusal, verdict};
 ghost use Rattle.euler_operators.specs.declared.Why.TheVariants.{NumbersSpent};
 ghost use Rattle.shapes.specs.Fresh.{numbers_left};
-ghost use Rattle.split_drawing.specs.face_drawing.Codes.{taken_of};
+ghost use Rattle.split_checks.specs.Progress.{taken_of};
 
 use euler_operators::{Refusal, Why};
-use split_drawing::Progress;
+use split_checks::Progress;
 
 /// Whether so many more numbers stay within the limit.
 fn has_left(taken: u32, more: usize) -> bool

@@ -1,4 +1,4 @@
-//! How far a drawing has come.
+//! How far the drawing of a split has come.
 
 /// The greatest numbers taken so far, and the first face that can't be drawn, or 0.
 #[derive(Clone, Copy)]
