@@ -1,47 +1,60 @@
-//! Scripts that never end, are cut or too long, and readers and writers that fail.
-use super::super::{RunFault, run};
-use super::solids::BLOCK;
+//! Runs over readers and writers that cut, fail or never end.
 use super::streams::{Flushed, Halt, Pieces, Repeated, Taker};
-use super::{FAULTS, FAULTS_TOLD, WIRE, WIRE_TOLD, answers, told};
+use script_reader::{Short, read_short};
+use script_running::{RunFault, Summary, run};
 use std::alloc::Global;
 use std::process::Abort;
 use std::test::Fail;
+
+const WIRE: &[u8] = b"mvfs 1 1 1 1 0 0 0\nmev @1 @1 1 2 5 0 0\nlist\n";
+
+const WIRE_TOLD: &[u8] =
+    b"ok\nok\nsolid 1\nface 1 1 1\nloop 1 +1 -1\nedge 1 1 2\nvertex 1 0 0 0\nvertex 2 5 0 0\n";
+
+const FAULTS: &[u8] = b"mevv\nkvfs x\nmvfs 1 1\nkvfs 1 2\n# note\n\n\xc3\n";
+
+const FAULTS_TOLD: &[u8] = b"fault 1\nfault 2\nfault 3\nfault 4\nfault 5\n";
+
+/// A block, measured, listed and undone.
+const BLOCK: &[u8] =
+    b"block 1 0 0 0 4 4 4\ncount 1\nvolume 1\nplane 1\nplane 3\nlist\nundo\nlist\n";
 
 /// A script that cuts a wire in two rings and moves them.
 const RINGS: &[u8] =
     b"mvfs 1 1 1 1 0 0 0\nmev @1 @1 1 2 5 0 0\nkemr +1 2\nringmv 2 1 out\nringmv 1 1 in\nlist\nundo\nmfkrh 2 2\nlist\n";
 
-/// How a run over an endless reader ends, and what it writes.
-fn ends_too_long(rt: &impl Abort, alloc: Global, byte: u8) {
+/// What a run writes, with its counts.
+fn answers(alloc: Global, script: &[u8], stop: bool) -> Result<(Vec<u8>, Summary), Fail> {
     let mut out = Vec::new(alloc);
-    let reader = Repeated {
-        byte,
-        left: u64::MAX,
-    };
-    let ended = run(alloc, reader, &mut out, false);
-    assert_eq!(rt; ended.err(), Some(RunFault::TooLong));
-    assert!(rt; out.is_empty());
+    let summary = run(alloc, script, &mut out, stop)?;
+    Ok((out, summary))
 }
 
 #[test]
-fn endless_readers(rt: HostRuntime) -> Result<(), Fail> {
-    ends_too_long(&rt, rt.alloc(), b'\n');
-    ends_too_long(&rt, rt.alloc(), b'a');
+fn counts(rt: HostRuntime) -> Result<(), Fail> {
+    let alloc = rt.alloc();
+    let (_, wire) = answers(alloc, WIRE, false)?;
+    assert_eq!(rt; wire.lines, 3);
+    assert!(rt; wire.is_clean());
+    let (_, faults) = answers(alloc, FAULTS, false)?;
+    assert_eq!(rt; (faults.lines, faults.faults, faults.refused), (7, 5, 0));
+    let (_, stopped) = answers(alloc, b"kvfs 1\nlist\n", true)?;
+    assert_eq!(rt; (stopped.lines, stopped.faults, stopped.refused), (1, 0, 1));
     Ok(())
 }
 
 #[test]
-fn as_many_lines_as_bytes(rt: HostRuntime) -> Result<(), Fail> {
-    let mut out = Vec::new(rt.alloc());
-    let reader = Repeated {
-        byte: b'\n',
-        left: 67_108_864,
-    };
-    let summary = run(rt.alloc(), reader, &mut out, false)?;
-    assert_eq!(rt; summary.lines, 67_108_864);
-    assert!(rt; summary.is_clean());
-    assert!(rt; out.is_empty());
-    Ok(())
+fn endless_readers(rt: HostRuntime) {
+    for byte in [b'\n', b'a'] {
+        let mut out = Vec::new(rt.alloc());
+        let reader = Repeated {
+            byte,
+            left: u64::MAX,
+        };
+        let ended = run(rt.alloc(), reader, &mut out, false);
+        assert_eq!(rt; ended.err(), Some(RunFault::TooLong));
+        assert!(rt; out.is_empty());
+    }
 }
 
 #[test]
@@ -76,8 +89,8 @@ fn cut_after_each_byte(rt: HostRuntime) -> Result<(), Fail> {
     for n in 0..=BLOCK.len() {
         let cut = &BLOCK[..n];
         let (out, summary) = answers(alloc, cut, false)?;
-        let (front, lines) = answers(alloc, whole_lines(cut), false)?;
-        assert!(rt; out.starts_with(front.as_slice()), "cut after {n} bytes");
+        let (prefix, lines) = answers(alloc, whole_lines(cut), false)?;
+        assert!(rt; out.starts_with(prefix.as_slice()), "cut after {n} bytes");
         let mut ended = Vec::from_slice(alloc, cut)?;
         if whole_lines(cut).len() < n {
             ended.push(b'\n')?;
@@ -111,7 +124,7 @@ fn each_read_fails(rt: HostRuntime) -> Result<(), Fail> {
     Ok(())
 }
 
-/// Whether a writer that halts after so many writes has a front of the text.
+/// Whether a writer that halts after so many writes has a prefix of the text.
 fn halts(rt: &impl Abort, alloc: Global, writes: u32, most: usize, halt: Halt) -> Result<(), Fail> {
     let (whole, _) = answers(alloc, RINGS, false)?;
     let mut writer = Taker {
@@ -134,12 +147,13 @@ fn halts(rt: &impl Abort, alloc: Global, writes: u32, most: usize, halt: Halt) -
     Ok(())
 }
 
+/// The script has 190 bytes of replies: the last runs are answered to their end.
 #[test]
 fn each_write_fails(rt: HostRuntime) -> Result<(), Fail> {
     for writes in 0..40 {
         for halt in [Halt::Fails, Halt::TakesNothing] {
             halts(&rt, rt.alloc(), writes, usize::MAX, halt)?;
-            halts(&rt, rt.alloc(), 3 * writes, 1, halt)?;
+            halts(&rt, rt.alloc(), 5 * writes, 1, halt)?;
         }
     }
     Ok(())
@@ -148,63 +162,22 @@ fn each_write_fails(rt: HostRuntime) -> Result<(), Fail> {
 /// A run flushes before each of its two reads and at its end.
 #[test]
 fn each_flush_fails(rt: HostRuntime) {
-    for flushes in 0..3u32 {
-        let mut writer = Flushed { left: flushes };
-        let ended = run(rt.alloc(), WIRE, &mut writer, false);
-        assert_eq!(rt;
-            ended.err(),
-            Some(RunFault::Write),
-            "after {flushes} flushes"
-        );
+    for left in 0..4u32 {
+        let mut writer = Flushed { left };
+        let ended = run(rt.alloc(), WIRE, &mut writer, false).err();
+        let wanted = if left < 3 {
+            Some(RunFault::Write)
+        } else {
+            None
+        };
+        assert_eq!(rt; ended, wanted, "after {left} flushes");
     }
-    let mut writer = Flushed { left: 3 };
-    assert!(rt; run(rt.alloc(), WIRE, &mut writer, false).is_ok());
 }
 
+/// Comments and operators are read without the whole grammar.
 #[test]
-fn a_byte_a_write(rt: HostRuntime) -> Result<(), Fail> {
-    let mut writer = Taker {
-        taken: Vec::new(rt.alloc()),
-        most: 1,
-        left: 1000,
-        halt: Halt::Fails,
-    };
-    run(rt.alloc(), WIRE, &mut writer, false)?;
-    assert_eq!(rt; writer.taken.as_slice(), WIRE_TOLD);
-    Ok(())
-}
-
-#[test]
-fn a_read_fails(rt: HostRuntime) -> Result<(), Fail> {
-    let mut out = Vec::new(rt.alloc());
-    let pieces = Pieces {
-        bytes: b"list\nlis",
-        most: 8,
-        left: 1,
-    };
-    let ended = run(rt.alloc(), pieces, &mut out, false);
-    assert_eq!(rt; ended.err(), Some(RunFault::Read));
-    assert_eq!(rt; out.as_slice(), b"empty\n".as_slice());
-    Ok(())
-}
-
-/// A line of `list` and spaces, so many bytes long.
-fn list_line(alloc: Global, len: usize) -> Result<Vec<u8>, Fail> {
-    let mut line = Vec::from_slice(alloc, b"list")?;
-    line.resize(len, b' ')?;
-    line.push(b'\n')?;
-    Ok(line)
-}
-
-#[test]
-fn line_limit(rt: HostRuntime) -> Result<(), Fail> {
-    let alloc = rt.alloc();
-    told(&rt, alloc, list_line(alloc, 65_536)?.as_slice(), b"empty\n")?;
-    told(
-        &rt,
-        alloc,
-        list_line(alloc, 65_537)?.as_slice(),
-        b"fault 6\n",
-    )?;
-    told(&rt, alloc, b"\x00\n", b"fault 1\n")
+fn short_lines(rt: HostRuntime) {
+    assert!(rt; matches!(read_short(b"# note"), Short::Nothing));
+    assert!(rt; matches!(read_short(b"kvfs 1"), Short::Act(_)));
+    assert!(rt; matches!(read_short(b"list"), Short::Other));
 }
