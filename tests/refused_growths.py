@@ -64,20 +64,20 @@ class Program:
             return int(file.read())
 
 
-def complaint(program, commands, whole, ends, n):
-    """What is wrong with the replies where allocation n is refused, or None. The whole replies and their status are those without that."""
-    replies, status, text = program.run(commands, n)
+def complaint(program, commands, n, whole, done):
+    """What is wrong with a run in which allocation n was refused, or None. The whole run had all its memory."""
+    replies, status, text = done
     if status == 3:
         return None if (replies, text) == ([[]], 'gwb: out of memory\n') else 'before the run: %r, %r' % (text, replies)
     if 'memory' not in replies:
-        return None if (replies, status, text) == (whole, ends, '') else 'other replies without a word of memory: %r' % replies
+        return None if done == whole else 'other replies without a word of memory: %r' % replies
     if (status, text) != (1, '') or replies.count('memory') != 1:
         return 'status %d, %r: %r' % (status, text, replies)
     k = replies.index('memory')
     if replies[:k] + replies[k + 1:] != program.run(commands[:k] + commands[k + 1:])[0]:
         return 'the refused command changed something: %r' % replies
     twice = program.run(commands[:k + 1] + commands[k:], n)[0]
-    if twice != whole[:k] + ['memory'] + whole[k:]:
+    if twice != whole[0][:k] + ['memory'] + whole[0][k:]:
         return 'the command given again: %r' % twice
     return None
 
@@ -89,15 +89,13 @@ def main():
         program = Program(path, folder)
         for name, commands in SCRIPTS.items():
             commands = commands.split(';')
-            whole, ends, text = program.run(commands)
-            count += 1
-            if ends not in (0, 1) or text or 'memory' in whole:
-                wrong += 1
-                print('%s: status %d, %r: %r' % (name, ends, text, whole))
-                continue
-            for n in range(1, program.allocations() + 1):
-                why = complaint(program, commands, whole, ends, n)
-                count += 1
+            whole = program.run(commands)
+            runs = [program.run(commands, n) for n in range(1, program.allocations() + 1)]
+            complaints = [complaint(program, commands, n, whole, done) for n, done in enumerate(runs, 1)]
+            if whole[1] not in (0, 1) or whole[2] or not any('memory' in replies for replies, _, _ in runs):
+                complaints.append('no allocation of a command was refused: %r' % (whole,))
+            count += len(complaints)
+            for n, why in enumerate(complaints, 1):
                 if why:
                     wrong += 1
                     print('%s, allocation %d: %s' % (name, n, why))
