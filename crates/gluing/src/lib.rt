@@ -5,7 +5,5 @@ mod command;
 mod glue_checks;
 mod joining;
 mod rims;
-#[cfg(test)]
-mod tests;
 
 pub use command::glue;

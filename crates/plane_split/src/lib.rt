@@ -4,7 +4,5 @@
 mod command;
 mod solid_opening;
 mod steps;
-#[cfg(test)]
-mod tests;
 
 pub use command::split;

@@ -19,6 +19,3 @@ pub use laws::{
 };
 pub use line::{Short, read_line, read_short};
 pub use lines::{Lines, NextLine};
-
-#[cfg(test)]
-mod tests;

@@ -6,8 +6,6 @@ mod entry;
 mod laws;
 mod listing;
 mod reply;
-#[cfg(test)]
-mod tests;
 mod text;
 mod writing;
 

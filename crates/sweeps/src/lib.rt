@@ -7,8 +7,6 @@ mod fresh;
 mod laminas;
 mod raising;
 mod sweeping;
-#[cfg(test)]
-mod tests;
 
 pub use blocks::block;
 pub use laminas::lamina;
