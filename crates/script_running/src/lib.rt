@@ -4,6 +4,8 @@
 mod laws;
 mod running;
 mod script_judging;
+#[cfg(test)]
+mod tests;
 
 pub use laws::one_output;
 pub use running::{RunFault, run};

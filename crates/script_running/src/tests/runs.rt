@@ -1,7 +1,7 @@
 //! Runs over readers and writers that cut, fail or never end.
 use super::streams::{Flushed, Halt, Pieces, Repeated, Taker};
+use crate::{RunFault, Summary, run};
 use script_reader::{Short, read_short};
-use script_running::{RunFault, Summary, run};
 use std::alloc::Global;
 use std::process::Abort;
 use std::test::Fail;
