@@ -1,4 +1,6 @@
 //! Reads a script: its bytes as lines, and a line as a command or a fault.
+//!
+//! Each function of `laws` does nothing: its contract is a law of the lines or of the grammar.
 #![tactic(auto)]
 
 mod buffer;
