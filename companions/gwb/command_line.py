@@ -6,7 +6,7 @@ import sys
 from typing import Callable, Optional, Sequence
 
 from .errors import CompanionError
-from .listing import read_filled_model
+from .listing import read_model
 from .model import Model
 
 OK, FOUND, REFUSED, INTERRUPTED = 0, 1, 3, 130
@@ -55,9 +55,17 @@ def listing_parser(program: str, description: str) -> argparse.ArgumentParser:
     return parser
 
 
+def filled_model(options: argparse.Namespace) -> Model:
+    """As wanted_model, but an empty model is refused."""
+    model = wanted_model(options)
+    if not model.solids:
+        raise CompanionError('the model is empty')
+    return model
+
+
 def wanted_model(options: argparse.Namespace) -> Model:
     """The model that the words of listing_parser name."""
-    model = read_filled_model(read_bytes(options.listing))
+    model = read_model(read_bytes(options.listing))
     if options.solid is None:
         return model
     if options.solid not in model.solids:

@@ -19,14 +19,6 @@ def read_model(data: bytes) -> Model:
     return model_of(listings[-1])
 
 
-def read_filled_model(data: bytes) -> Model:
-    """As read_model, but an empty model is refused."""
-    model = read_model(data)
-    if not model.solids:
-        raise NotAListing('the model is empty')
-    return model
-
-
 def model_of(reply: Reply) -> Model:
     """The model that a listing describes, whose parts are found to fit together."""
     rows = _rows(reply.lines)

@@ -1,9 +1,9 @@
 """Writes a listing as a mesh of triangles: OFF, OBJ or STL."""
 
 from math import sqrt
-from typing import Dict, Iterator, List, NamedTuple, Optional, Sequence
+from typing import Dict, Iterator, List, NamedTuple, Optional, Sequence, Tuple
 
-from .command_line import OK, listing_parser, run, wanted_model
+from .command_line import OK, listing_parser, run, filled_model
 from .measures import require_fit
 from .model import Model
 from .triangulation import Triangle, face_triangles
@@ -13,7 +13,10 @@ PROGRAM = 'gwb-mesh'
 
 
 class Mesh(NamedTuple):
-    """The triangles of each face, over the model's vertices. The mesh is closed, as the model is."""
+    """The triangles of each face, over vertices of the model.
+
+    Vertices of one solid at one point count as one, so that the mesh is closed where the solid touches itself too.
+    """
 
     model: Model
     faces: Dict[int, List[Triangle]]
@@ -23,11 +26,21 @@ class Mesh(NamedTuple):
         """All triangles, by face."""
         return [triangle for triangles in self.faces.values() for triangle in triangles]
 
+    @property
+    def vertices(self) -> List[int]:
+        """The vertices of triangles, rising."""
+        return sorted({vertex for triangle in self.triangles for vertex in triangle})
+
 
 def mesh_of(model: Model) -> Mesh:
     """The model's faces as triangles; raises Unfit at a face that isn't a plain flat one."""
     require_fit(model)
-    return Mesh(model, {face: face_triangles(model, face) for face in model.faces})
+    first: Dict[Tuple[int, Vector], int] = {}
+    faces = {}
+    for face, row in model.faces.items():
+        faces[face] = [tuple(first.setdefault((row.solid, model.vertices[vertex]), vertex) for vertex in triangle)
+                       for triangle in face_triangles(model, face)]
+    return Mesh(model, faces)
 
 
 def off_text(mesh: Mesh) -> str:
@@ -36,11 +49,11 @@ def off_text(mesh: Mesh) -> str:
 
 
 def _off_lines(mesh: Mesh) -> Iterator[str]:
-    places = {vertex: place for place, vertex in enumerate(mesh.model.vertices)}
+    places = {vertex: place for place, vertex in enumerate(mesh.vertices)}
     yield 'OFF'
     yield f'{len(places)} {len(mesh.triangles)} 0'
-    for x, y, z in mesh.model.vertices.values():
-        yield f'{x} {y} {z}'
+    for vertex in mesh.vertices:
+        yield '{} {} {}'.format(*mesh.model.vertices[vertex])
     for a, b, c in mesh.triangles:
         yield f'3 {places[a]} {places[b]} {places[c]}'
 
@@ -51,9 +64,9 @@ def obj_text(mesh: Mesh) -> str:
 
 
 def _obj_lines(mesh: Mesh) -> Iterator[str]:
-    places = {vertex: place for place, vertex in enumerate(mesh.model.vertices, 1)}
-    for x, y, z in mesh.model.vertices.values():
-        yield f'v {x} {y} {z}'
+    places = {vertex: place for place, vertex in enumerate(mesh.vertices, 1)}
+    for vertex in mesh.vertices:
+        yield 'v {} {} {}'.format(*mesh.model.vertices[vertex])
     for solid in mesh.model.solids:
         yield f'o solid_{solid}'
         for face in mesh.model.faces_of(solid):
@@ -95,7 +108,7 @@ def work(words: Optional[Sequence[str]]) -> int:
     parser = listing_parser(PROGRAM, 'Writes a listing of gwb as a mesh of triangles, triangulated exactly.')
     parser.add_argument('--form', choices=FORMS, default='off', help='the form of the mesh (default: off)')
     options = parser.parse_args(words)
-    print(FORMS[options.form](mesh_of(wanted_model(options))), end='')
+    print(FORMS[options.form](mesh_of(filled_model(options))), end='')
     return OK
 
 

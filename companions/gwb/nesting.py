@@ -2,13 +2,14 @@
 
 from fractions import Fraction
 from itertools import count
-from typing import Iterable, List, NamedTuple, Sequence, Tuple
+from typing import Iterable, List, NamedTuple, Sequence
 
 from .errors import Unfit
-from .measures import anchor, normal, six_volume
+from .flat_face import FlatFace
+from .measures import six_volume
 from .model import Model
-from .plane_figures import Place, Segment, locate, segments
-from .vectors import Vector, dot, flat_axes, subtract
+from .plane_figures import Place
+from .vectors import Vector, dot
 
 Shell = List[int]
 
@@ -29,34 +30,25 @@ def nests(model: Model, solid: int) -> List[Nest]:
             raise Unfit(f'the shell of face {face} of solid {solid} has no volume')
     found = [Nest(shell, []) for shell in shells if volumes[shell[0]] > 0]
     for void in (shell for shell in shells if volumes[shell[0]] < 0):
-        around = [nest for nest in found if _lies_in(model, void, nest.outer)]
+        around = [nest for nest in found if lies_in(model, void, nest.outer)]
         if not around:
             raise Unfit(f'the shell of face {void[0]} of solid {solid} is inside out, and lies in no other')
         min(around, key=lambda nest: volumes[nest.outer[0]]).voids.append(void)
     return found
 
 
-def _lies_in(model: Model, inner: Shell, outer: Shell) -> bool:
+def lies_in(model: Model, inner: Shell, outer: Shell) -> bool:
     """Whether a shell that meets the other at most by touching it lies within it."""
     walls = ShellWalls(model, outer)
     corners = dict.fromkeys(vertex for face in inner for vertex in model.face_vertices(face))
     return walls.first_place_off(model.vertices[vertex] for vertex in corners) is Place.INSIDE
 
 
-class _Wall(NamedTuple):
-    """A face: its normal, a point of it, the axes that show it flat, and its sides there."""
-
-    across: Vector
-    origin: Vector
-    axes: Tuple[int, int]
-    sides: List[Segment]
-
-
 class ShellWalls:
     """The faces of a shell, ready for points to be placed against it."""
 
     def __init__(self, model: Model, faces: Sequence[int]) -> None:
-        self._walls = [_wall(model, face) for face in faces]
+        self._faces = [FlatFace(model, face) for face in faces]
 
     def first_place_off(self, points: Iterable[Vector]) -> Place:
         """Where the first of the points that isn't on the shell lies; ON where all are."""
@@ -67,35 +59,20 @@ class ShellWalls:
 
         Of the rays (1, k, k * k) at most two lie in any plane through the point, so only finitely many meet an edge.
         """
-        if any(_is_on(wall, point) for wall in self._walls):
+        if any(face.height(point) == 0 and face.locate(point) is not Place.OUTSIDE for face in self._faces):
             return Place.ON
         for k in count(3):
-            places = [_hit(wall, point, (1, k, k * k)) for wall in self._walls]
+            places = [_hit(face, point, (1, k, k * k)) for face in self._faces]
             if Place.ON not in places:
                 break
         return Place.INSIDE if places.count(Place.INSIDE) % 2 else Place.OUTSIDE
 
 
-def _wall(model: Model, face: int) -> _Wall:
-    across = normal(model, face)
-    first, second = axes = flat_axes(across)
-    sides = [side for loop in model.faces[face].loops
-             for side in segments([(point[first], point[second]) for point in model.loop_points(loop)])]
-    return _Wall(across, anchor(model, face), axes, sides)
-
-
-def _is_on(wall: _Wall, point: Vector) -> bool:
-    if dot(wall.across, subtract(wall.origin, point)) != 0:
-        return False
-    first, second = wall.axes
-    return locate(wall.sides, (point[first], point[second])) is not Place.OUTSIDE
-
-
-def _hit(wall: _Wall, point: Vector, ray: Vector) -> Place:
-    """Where the ray from the point meets the wall's plane: in the wall, on its outline, or outside of it or not at all."""
-    height, slope = dot(wall.across, subtract(wall.origin, point)), dot(wall.across, ray)
-    if height == 0 or slope == 0 or (height > 0) != (slope > 0):
+def _hit(face: FlatFace, point: Vector, ray: Vector) -> Place:
+    """Where the ray from the point meets the face's plane: in the face, on its outline, or outside of it or not at all."""
+    height, slope = face.height(point), dot(face.across, ray)
+    if height == 0 or slope == 0 or (height > 0) == (slope > 0):
         return Place.OUTSIDE
-    reach = Fraction(height, slope)
-    first, second = wall.axes
-    return locate(wall.sides, (point[first] + reach * ray[first], point[second] + reach * ray[second]))
+    reach = Fraction(-height, slope)
+    x, y, z = (start + reach * step for start, step in zip(point, ray))
+    return face.locate((x, y, z))

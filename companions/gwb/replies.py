@@ -61,24 +61,22 @@ def split_replies(data: bytes) -> List[Reply]:
 
 def group_lines(lines: List[str]) -> List[Reply]:
     """The replies in lines without their newlines."""
-    replies: List[Reply] = []
-    listing: List[str] = []
+    replies: List[List[str]] = []
+    in_listing = False
     for number, line in enumerate(lines, 1):
         if is_listed(line):
-            if line.startswith('solid') and listing and listing[-1].startswith('vertex'):
-                replies.append(Reply(tuple(listing)))
-                listing = []
-            listing.append(line)
+            if line.startswith('solid') and not (in_listing and replies[-1][-1].startswith('solid')):
+                replies.append([])
+            elif not in_listing:
+                raise NotReplies(f'line {number} is of a listing, but none begins there: {shortened(line)}')
+            replies[-1].append(line)
+            in_listing = True
         elif _ONE_LINE.fullmatch(line):
-            if listing:
-                replies.append(Reply(tuple(listing)))
-                listing = []
-            replies.append(Reply((line,)))
+            replies.append([line])
+            in_listing = False
         else:
             raise NotReplies(f'line {number} is no reply of gwb: {shortened(line)}')
-    if listing:
-        replies.append(Reply(tuple(listing)))
-    return replies
+    return [Reply(tuple(reply)) for reply in replies]
 
 
 def shortened(line: str, limit: int = 60) -> str:

@@ -6,7 +6,7 @@ of their faces. Solids, faces, edges and vertices have gwb's numbers as names.
 
 from typing import Callable, Dict, Hashable, List, Optional, Sequence
 
-from .command_line import OK, listing_parser, run, wanted_model
+from .command_line import OK, listing_parser, run, filled_model
 from .measures import normal, require_fit
 from .model import Model
 from .nesting import Nest, nests
@@ -159,7 +159,7 @@ def step_text(model: Model) -> str:
 def work(words: Optional[Sequence[str]]) -> int:
     """Reads a listing and writes it as STEP."""
     parser = listing_parser(PROGRAM, 'Writes a listing of gwb as STEP AP214 (advanced boundary representation, in millimetres).')
-    print(step_text(wanted_model(parser.parse_args(words))), end='')
+    print(step_text(filled_model(parser.parse_args(words))), end='')
     return OK
 
 

@@ -1,6 +1,6 @@
 """Cuts faces into triangles by exact tests: rings are joined to the outline by bridges, then ears are cut off.
 
-Only corners of the face become corners of triangles, and every corner does. So faces that share an edge have triangles that share it.
+Only corners of the face become corners of triangles, and no edge is cut. So faces that share an edge have triangles that share it.
 """
 
 from collections import deque
@@ -28,7 +28,9 @@ Path = List[Corner]
 
 
 def face_triangles(model: Model, face: int) -> List[Triangle]:
-    """A plain flat face as triangles of vertices, which run as its outer loop does."""
+    """A plain flat face as triangles of vertices, which run as its outer loop does. Where it touches itself, triangles at
+    one point may have other vertices there.
+    """
     outline, *rings = flat_loops(model, face)
     try:
         return triangulate(outline, rings)
@@ -148,19 +150,25 @@ class _EarCutter:
         failures = 0
         while self._left > 2:
             if failures > len(waiting):
-                raise Unfit('its outline crosses itself')
+                raise Unfit('its loops cross, or touch amid an edge')
             tip = waiting.popleft()
             if self._cut[tip]:
                 continue
-            if not self._is_ear(tip):
+            if self._is_ear(tip):
+                found.append((self._before[tip], tip, self._after[tip]))
+            elif not self._is_fold(tip):
                 waiting.append(tip)
                 failures += 1
                 continue
-            found.append((self._before[tip], tip, self._after[tip]))
             waiting.extend((self._before[tip], self._after[tip]))
             self._cut_off(tip)
             failures = 0
         return found
+
+    def _is_fold(self, tip: int) -> bool:
+        """Whether the path goes nowhere, or forth and back, at the corner, so that nothing lies between."""
+        before, here, after = (self._points[i] for i in (self._before[tip], tip, self._after[tip]))
+        return here in (before, after) or before == after
 
     def _turn(self, tip: int) -> int:
         return turn(self._points[self._before[tip]], self._points[tip], self._points[self._after[tip]])
