@@ -19,11 +19,11 @@ line { stroke-linecap: round }
 .visible { stroke: #000; stroke-width: 2 }
 .seam { stroke: #aaa; stroke-width: 1 }
 .hidden { stroke: #999; stroke-width: 0.7; stroke-dasharray: 3 4 }
-text { font: 13px sans-serif; text-anchor: middle }
+text { font: 13px sans-serif; text-anchor: middle; stroke: #fff; stroke-width: 3px; paint-order: stroke }
 .face { fill: #080; font-weight: bold }
 .edge { fill: #06c; font-size: 11px }
 .vertex { fill: #b00 }
-.away { fill-opacity: 0.45 }
+.away { opacity: 0.5 }
 </style>"""
 
 
@@ -111,8 +111,9 @@ class _Drawing:
             yield _text('vertex', vertex, x + 9, y - 4, away=vertex not in seen)
         for edge, pieces in self._pieces.items():
             if pieces:
-                x, y = self._on_edge(edge, 0.5)
-                yield _text('edge', edge, x + 2, y - 2, away=all(piece.hidden for piece in pieces))
+                piece = max(pieces, key=lambda piece: (not piece.hidden, piece.end - piece.start))
+                x, y = self._on_edge(edge, float(piece.start + piece.end) / 2)
+                yield _text('edge', edge, x, y + 4, away=piece.hidden)
         for face in self._model.faces:
             yield self._face_name(face)
 
