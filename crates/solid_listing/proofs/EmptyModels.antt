@@ -12,7 +12,7 @@ use Rattle.euler_operators.proofs.Models.{held_row}
 use Rattle.euler_conditions.specs.Store.{Store, IsGreatest}
 use Rattle.solid_listing.specs.Lines.{text_of}
 use Rattle.solid_listing.specs.Listing.{line, numbers_of, lines, or_empty, listing}
-use Rattle.solid_walks.proofs.face_walks_laws.Rising.{member}
+use Rattle.solid_walks.proofs.face_walks_laws.Above.{member}
 use Rattle.solid_walks.proofs.face_walks_laws.TableWalks.{member_numbers}
 
 here : (k : ℕ) (ks : List ℕ) → member k (k ∷ ks) ≡ true

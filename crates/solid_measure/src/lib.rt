@@ -1,4 +1,7 @@
 //! Measures of a boundary model: normals, planes, volumes and counts. Nothing here takes memory, and every number is exact.
+//!
+//! `solid_counts` counts what a solid has; `solid_checks` says what the larger commands ask of whole solids: that no loop is lone, and
+//! that each face is flat.
 #![tactic(auto)]
 
 mod faces;

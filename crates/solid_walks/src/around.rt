@@ -3,7 +3,7 @@ ghost use Rattle.std.specs.Prelude.{◌≡◌, true};
 ghost use Rattle.euler_operators.specs.HalfEdge.{code};
 ghost use Rattle.euler_conditions.specs.Store.{has_number};
 ghost use Rattle.euler_conditions.specs.Ready.{IsReady};
-ghost use Rattle.solid_walks.specs.Walks.{leads};
+ghost use Rattle.shapes.specs.Walks.{leads};
 
 use crate::halves;
 use euler_conditions::{Arena, same};

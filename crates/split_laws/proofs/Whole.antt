@@ -15,13 +15,12 @@ use Rattle.euler_operators.specs.Effect.{part}
 use Rattle.euler_laws.specs.Laws.{AreAccepted, effects}
 use Rattle.euler_laws.proofs.Runs.{effects_keep_sound}
 use Rattle.euler_laws.proofs.shared.Fans.{half_mate}
-use Rattle.solid_walks.proofs.Rising.{none_counted, counted_once, in_listed}
+use Rattle.euler_laws.proofs.shared.Counted.{none_counted, counted_once, in_listed, listed_in}
 use Rattle.shapes.specs.split.Sides.{faces_above}
 use Rattle.shapes.specs.split.Drawing.{Drawing, with_drawings}
 use Rattle.shapes.specs.split.Section.{below_halves, section_cycles}
 use Rattle.shapes.specs.split.Opening.{Caps, Opening, all_opened, outer_caps, hole_closed, holes_closed}
 use Rattle.shapes.specs.split.Split.{split_above, split_refusal, split_model}
-use Rattle.split_drawing_laws.proofs.crossings.Listed.{listed_in}
 use Rattle.split_drawing_laws.specs.pairs.Laws.{rewriting_ops}
 use Rattle.split_drawing_laws.proofs.pairs.Whole.{rewritings_accepted, rewritings_made}
 use Rattle.split_drawing_laws.proofs.drawings.Runs.{Leads, leads_on}

@@ -6,8 +6,6 @@ mod corners;
 mod laminas;
 mod raising;
 mod sweeping;
-#[cfg(test)]
-mod tests;
 
 pub use blocks::block;
 pub use laminas::lamina;

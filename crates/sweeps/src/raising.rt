@@ -13,7 +13,7 @@ ghost use Rattle.shapes.specs.Faces.{start};
 ghost use Rattle.shapes.specs.Prism as prism;
 ghost use Rattle.shapes.specs.Prism.{prism_refusal, prism_model};
 ghost use Rattle.sweeps_laws.specs.prism.SweepOps as ops;
-ghost use Rattle.sweeps_laws.proofs.prism.Sides.{Ready};
+ghost use Rattle.sweeps_laws.specs.prism.Ready.{Ready};
 ghost use Rattle.solid_walks.specs.Counters.{taken_of};
 
 use euler_conditions::Arena;

@@ -12,7 +12,7 @@ use Rattle.euler_operators.specs.declared.Refusal.{Refusal}
 use Rattle.euler_laws.proofs.shared.Goes.{all_hold}
 use Rattle.shapes.specs.Faces.{faces_of_both, least_lone}
 use Rattle.shapes.specs.Fresh.{taken_in, numbers_left, no_such, first_such}
-use Rattle.solid_walks.proofs.face_walks_laws.Rising.{member}
+use Rattle.solid_walks.proofs.face_walks_laws.Above.{member}
 use Rattle.solid_measure.proofs.solid_checks_laws.FaceWalks.{lists_member, member_faces, member_both}
 use Rattle.solid_measure.specs.Measure.{is_flat}
 use Rattle.shapes.proofs.fresh.Rows.{greatest_used}

@@ -36,7 +36,8 @@ use Rattle.euler_laws.proofs.kev.MevUndo.{as_cycle}
 use Rattle.euler_laws.specs.Laws.{effects, AreAccepted}
 use Rattle.euler_laws.proofs.Cases.{effect_keeps_sound}
 use Rattle.shapes.proofs.fresh.Rows.{get-put_here, get-put_other}
-use Rattle.sweeps_laws.proofs.prism.Steps.{Around, half_is, loop_is, cycle_is, apart_xs, edge_plus, row_plus}
+use Rattle.euler_laws.proofs.shared.KnownLoop.{Around, half_is, loop_is, cycle_is, apart_xs}
+use Rattle.sweeps_laws.proofs.prism.Steps.{edge_plus, row_plus}
 use Rattle.shapes.specs.Rewriting.{rewritten, rewritten_row, renamed}
 use Rattle.shapes.specs.glue.Glue.{renamed_tails}
 use Rattle.shapes.specs.glue.GlueOps.{opening}

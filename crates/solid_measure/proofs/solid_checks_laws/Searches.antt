@@ -3,7 +3,7 @@ use Rattle.std.proofs.Common.{◌≡◌, ℕ, ◌<◌, Bool, true, false, cond, 
 use Rattle.std.proofs.lemmas.Bool.Decides.{nat_tests, eqb_tells}
 use Rattle.euler_operators.specs.Table.{Table, get, first_in, first_where, all_in, all_where}
 use Rattle.shapes.specs.Fresh.{first_such}
-use Rattle.solid_walks.proofs.face_walks_laws.Rising.{member, AllAbove, Rising, not_member}
+use Rattle.solid_walks.proofs.face_walks_laws.Above.{member, AllAbove, Rising, not_member}
 use Rattle.solid_walks.proofs.face_walks_laws.TableWalks.{passes, rising_passing, member_passing}
 use Rattle.solid_measure.specs.solid_checks.Least.{found, only, lesser, least_such}
 

@@ -19,7 +19,7 @@ use Rattle.euler_laws.proofs.shared.Arcs.{halves_of_edge}
 use Rattle.euler_laws.proofs.shared.Fans.{half_after, loop_after}
 use Rattle.euler_laws.proofs.shared.Goes.{equal, equals}
 use Rattle.euler_laws.proofs.shared.Undo.{mate_plus, mate_minus}
-use Rattle.solid_measure_laws.proofs.FaceLoops.{items_counted, items_there}
+use Rattle.shapes.proofs.walks.FaceLoops.{items_counted, items_there}
 use Rattle.shapes.specs.Faces.{start, finish, loops_of, boundary, edges_of}
 use Rattle.shapes.specs.split.Sides.{crosses, straddles, straddling_faces, crossing_edges}
 use Rattle.shapes.specs.split.Places.{is_place, place_point, places}
@@ -28,7 +28,8 @@ use Rattle.shapes.specs.split.Drawing.{from_place}
 use Rattle.shapes.specs.split.Split.{first_conditions}
 use Rattle.split_drawing_laws.specs.crossings.AtPlace.{AtPlace}
 use Rattle.split_drawing_laws.proofs.crossings.Levels.{opposite_back, not_level}
-use Rattle.split_drawing_laws.proofs.crossings.Listed.{listed_in, picked, picked_count, picked_passes, all_where_has}
+use Rattle.euler_laws.proofs.shared.Counted.{listed_in, all_where_has}
+use Rattle.split_drawing_laws.proofs.crossings.Listed.{picked, picked_count, picked_passes}
 use Rattle.split_drawing_laws.proofs.crossings.Runs.{kept_start}
 use Rattle.split_drawing_laws.proofs.crossings.Premises.{crossing_here, crossing_point, one_point, minus_crosses}
 use Rattle.split_drawing_laws.proofs.crossings.Whole.{can_cut, gone, is_cut, listed_edge, crossings_cut, crossings_keep, crossings_sound}

@@ -14,7 +14,7 @@ use Rattle.euler_laws.proofs.shared.Goes.{all_hold, equal, equals}
 use Rattle.euler_laws.proofs.shared.Listed.{all_where-rises}
 use Rattle.euler_laws.proofs.shared.Loops.{some_row}
 use Rattle.euler_laws.proofs.shared.Undo.{mate_plus}
-use Rattle.solid_measure_laws.proofs.Rising.{counted_once, none_counted}
+use Rattle.euler_laws.proofs.shared.Counted.{counted_once, none_counted, all_where_has, all_where_in}
 use Rattle.shapes.specs.Faces.{start, edges_of}
 use Rattle.shapes.specs.Fresh.{taken_in, growing}
 use Rattle.shapes.specs.split.Sides.{crosses, crossing_edges}
@@ -22,7 +22,7 @@ use Rattle.shapes.specs.split.Crossings.{with_crossings}
 use Rattle.shapes.specs.split.Split.{first_conditions}
 use Rattle.split_drawing_laws.specs.crossings.CrossingOps.{crossing_ops}
 use Rattle.split_drawing_laws.specs.crossings.Kept.{Kept}
-use Rattle.split_drawing_laws.proofs.crossings.Listed.{picked, picked_count, picked_none, all_where_has, all_where_in}
+use Rattle.split_drawing_laws.proofs.crossings.Listed.{picked, picked_count, picked_none}
 use Rattle.split_drawing_laws.proofs.crossings.Runs.{AreCut, Going, Gone, all_gone, none_cut, kept_start}
 use Rattle.split_drawing_laws.proofs.crossings.Premises.{Cuttable, cuttable, crossing_here}
 

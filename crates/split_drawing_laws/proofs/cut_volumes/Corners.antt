@@ -10,9 +10,9 @@ use Rattle.euler_operators.proofs.Rings.{IsIn_successor}
 use Rattle.euler_operators.specs.Model.{Model, LoopContent, lone, cycle, items_of, tail, content, point_of, loop_of, cycle_of, is_ring_of, rings_of, after}
 use Rattle.euler_operators.specs.Sound.{Sound, HasHalf}
 use Rattle.euler_operators.proofs.Models.{in-holds}
-use Rattle.solid_walks.proofs.RisingLists.{within}
+use Rattle.euler_laws.proofs.shared.RisingLists.{within}
 use Rattle.euler_operators.specs.Conditions.{lists, strictly_rises}
-use Rattle.solid_walks.proofs.FaceLoops.{listed_ring, ring_listed, rings_rise}
+use Rattle.shapes.proofs.walks.FaceLoops.{listed_ring, ring_listed, rings_rise}
 use Rattle.shapes.specs.Faces.{start, finish, vertices_on, vertices_in}
 use Rattle.solid_measure_laws.proofs.FlatFaces.{and_parts, list_parts, are_on}
 use Rattle.solid_measure_laws.proofs.Paths.{first_in, rest_in}

@@ -15,7 +15,8 @@ use Rattle.solid_measure_laws.proofs.FlatFaces.{and_parts, are_on}
 use Rattle.shapes.specs.split.Sides.{crossing_edges}
 use Rattle.shapes.specs.split.Crossings.{with_crossings}
 use Rattle.shapes.specs.split.Split.{first_conditions}
-use Rattle.split_drawing_laws.proofs.crossings.Listed.{listed_in, none_at, all_not_zero}
+use Rattle.euler_laws.proofs.shared.Counted.{listed_in}
+use Rattle.split_drawing_laws.proofs.crossings.Listed.{none_at, all_not_zero}
 use Rattle.split_drawing_laws.proofs.crossings.Premises.{Cuttable, edge_facts}
 use Rattle.split_drawing_laws.proofs.crossings.Whole.{can_cut, begins, crossings_sound}
 use Rattle.split_drawing_laws.proofs.cut_volumes.CutRuns.{OfSolid, all_measured}

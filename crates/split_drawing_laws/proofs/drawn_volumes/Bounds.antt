@@ -13,12 +13,13 @@ use Rattle.euler_operators.proofs.Models.{cycle_there, face_row}
 use Rattle.euler_operators.specs.Conditions.{face_at}
 use Rattle.euler_laws.proofs.shared.Fans.{half_mate}
 use Rattle.euler_laws.proofs.shared.Goes.{equal}
-use Rattle.solid_walks.proofs.FaceLoops.{AreHalves, different_items, loops_of_apart}
+use Rattle.shapes.proofs.walks.FaceLoops.{AreHalves, different_items, loops_of_apart}
 use Rattle.shapes.specs.Faces.{start, finish, loops_of, items_in, boundary, vertices_on, corners}
 use Rattle.shapes.specs.Measure.{area, anchor, first_vertex}
 use Rattle.solid_measure_laws.proofs.FlatFaces.{and_parts, are_on}
 use Rattle.solid_measure_laws.proofs.Paths.{first_in, rest_in}
-use Rattle.split_drawing_laws.proofs.crossings.Listed.{all_where_has, loop_in_face, item_in_face}
+use Rattle.euler_laws.proofs.shared.Counted.{all_where_has}
+use Rattle.split_drawing_laws.proofs.crossings.Listed.{loop_in_face, item_in_face}
 use Rattle.split_drawing_laws.specs.drawings.DrawnIn.{Stays}
 use Rattle.split_drawing_laws.proofs.drawings.Stays.{has_loop}
 use Rattle.split_drawing_laws.proofs.cut_volumes.Corners.{all_mapped, loop_on, loops_on, item_on, item_there, item_loop}

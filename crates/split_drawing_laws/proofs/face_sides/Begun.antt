@@ -16,7 +16,7 @@ use Rattle.euler_operators.specs.Conditions.{face_at, is_lone, lists}
 use Rattle.euler_laws.proofs.shared.Fans.{half_after, loop_after}
 use Rattle.euler_laws.proofs.shared.Goes.{all_hold, equal, equals, no_zero}
 use Rattle.euler_laws.proofs.shared.Rows.{loop_row, face_there}
-use Rattle.solid_walks.proofs.Rising.{in_listed}
+use Rattle.euler_laws.proofs.shared.Counted.{in_listed, listed_in, all_where_in}
 use Rattle.shapes.specs.Faces.{start, finish, least_lone, boundary, vertices_on}
 use Rattle.shapes.specs.split.Sides.{some_above, reaches_above, straddling_faces}
 use Rattle.shapes.specs.split.Places.{is_place, places, loop_is_cut, is_cut_often}
@@ -25,7 +25,7 @@ use Rattle.shapes.specs.split.Drawing.{from_place, drawn_pairs}
 use Rattle.shapes.specs.split.Split.{first_conditions}
 use Rattle.split_drawing_laws.specs.crossings.Kept.{Kept}
 use Rattle.split_drawing_laws.specs.crossings.Laws.{CanBegin}
-use Rattle.split_drawing_laws.proofs.crossings.Listed.{listed_in, all_where_in, any_passes, picked, item_in_face}
+use Rattle.split_drawing_laws.proofs.crossings.Listed.{any_passes, picked, item_in_face}
 use Rattle.split_drawing_laws.proofs.crossings.Places.{at_place, face_facts}
 use Rattle.split_drawing_laws.proofs.crossings.Whole.{can_cut, crossings_keep, crossings_sound, same_solid}
 use Rattle.split_drawing_laws.proofs.pairs.Whole.{can_be_drawn}

@@ -10,13 +10,12 @@ use Rattle.euler_operators.specs.Sound.{Sound, Has, HasHalf}
 use Rattle.euler_operators.proofs.Models.{in-holds, content_cycle, face_row}
 use Rattle.euler_operators.specs.Conditions.{face_at, lists}
 use Rattle.euler_laws.proofs.shared.Goes.{equal, equals}
-use Rattle.solid_walks.proofs.Rising.{none_counted}
+use Rattle.euler_laws.proofs.shared.Counted.{none_counted, listed_in, all_where_has}
 use Rattle.shapes.specs.Faces.{start, loops_of, vertices_on, vertices_in, corners}
 use Rattle.shapes.specs.split.Sides.{straddles, straddling_faces, reaches_above, reaches_below}
 use Rattle.shapes.specs.split.Crossings.{with_crossings}
 use Rattle.shapes.specs.split.Drawing.{Drawing, faces_drawn, with_drawings}
 use Rattle.split_drawing_laws.specs.crossings.Laws.{CanBegin}
-use Rattle.split_drawing_laws.proofs.crossings.Listed.{listed_in, all_where_has}
 use Rattle.split_drawing_laws.proofs.crossings.Places.{face_facts}
 use Rattle.split_drawing_laws.proofs.crossings.Premises.{faces_not_zero}
 use Rattle.split_drawing_laws.proofs.crossings.Whole.{crossings_keep, crossings_sound, same_solid}

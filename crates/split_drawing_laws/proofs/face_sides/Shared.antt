@@ -8,12 +8,12 @@ use Rattle.euler_operators.specs.Model.{Model, content, holds, loop_of, face_of,
 use Rattle.euler_operators.specs.Sound.{Sound, Has, HasHalf, StandsIn}
 use Rattle.euler_operators.specs.Conditions.{face_at, lists}
 use Rattle.euler_laws.proofs.shared.Goes.{equals, differs}
-use Rattle.solid_walks.proofs.FaceLoops.{ring_listed}
-use Rattle.solid_walks.proofs.Rising.{in_listed}
+use Rattle.shapes.proofs.walks.FaceLoops.{ring_listed}
+use Rattle.euler_laws.proofs.shared.Counted.{in_listed, listed_in}
 use Rattle.shapes.specs.Faces.{vertices_on}
 use Rattle.shapes.specs.split.Sides.{some_above}
 use Rattle.shapes.specs.split.Drawing.{face_drawn, rings_above, with_rings}
-use Rattle.split_drawing_laws.proofs.crossings.Listed.{listed_in, picked, picked_passes}
+use Rattle.split_drawing_laws.proofs.crossings.Listed.{picked, picked_passes}
 use Rattle.split_drawing_laws.specs.drawings.DrawnIn.{Stays}
 use Rattle.split_drawing_laws.proofs.drawings.Drawn.{CanDraw, draw_sound}
 use Rattle.split_drawing_laws.proofs.drawings.Rings.{RingOf, rings_are}

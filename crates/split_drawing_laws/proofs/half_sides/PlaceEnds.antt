@@ -16,8 +16,8 @@ use Rattle.euler_operators.specs.Conditions.{face_at, differ}
 use Rattle.euler_laws.proofs.shared.Arcs.{halves_of_edge}
 use Rattle.euler_laws.proofs.shared.Fans.{back_of}
 use Rattle.euler_laws.proofs.shared.Undo.{mate_plus}
-use Rattle.solid_walks.proofs.FaceLoops.{items_counted, loops_of_apart}
-use Rattle.solid_walks.proofs.Rising.{in_listed}
+use Rattle.shapes.proofs.walks.FaceLoops.{items_counted, loops_of_apart}
+use Rattle.euler_laws.proofs.shared.Counted.{in_listed}
 use Rattle.shapes.specs.Faces.{start, finish, loops_of, boundary}
 use Rattle.shapes.specs.split.Sides.{crosses, reaches_above, straddling_faces, crossing_edges}
 use Rattle.shapes.specs.split.Places.{is_place, place_point, places, goes_up, some_meet, is_crossed, is_up_and_down, in_pairs, sorted, sorted_pairs, place_pairs}

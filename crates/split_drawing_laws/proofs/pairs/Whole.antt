@@ -13,8 +13,8 @@ use Rattle.euler_operators.specs.Conditions.{face_at}
 use Rattle.euler_laws.specs.Laws.{AreAccepted, effects}
 use Rattle.euler_laws.proofs.Runs.{AreAccepted-append, effects-append}
 use Rattle.euler_laws.proofs.shared.Goes.{equal}
-use Rattle.solid_walks.proofs.FaceLoops.{items_counted, different_items, loops_of_apart}
-use Rattle.solid_walks.proofs.Rising.{in_listed}
+use Rattle.shapes.proofs.walks.FaceLoops.{items_counted, different_items, loops_of_apart}
+use Rattle.euler_laws.proofs.shared.Counted.{in_listed, all_where_has}
 use Rattle.shapes.specs.Faces.{loops_of, boundary}
 use Rattle.shapes.specs.split.Sides.{straddles, straddling_faces}
 use Rattle.shapes.specs.split.Places.{is_place, places, loop_is_cut, is_cut_often, sorted, sorted_pairs, place_pairs}
@@ -23,7 +23,7 @@ use Rattle.shapes.specs.split.Drawing.{from_place, drawn_pairs, with_drawings}
 use Rattle.split_drawing_laws.specs.crossings.AtPlace.{AtPlace}
 use Rattle.split_drawing_laws.specs.crossings.CrossingOps.{crossing_ops}
 use Rattle.split_drawing_laws.specs.crossings.Laws.{CanBegin}
-use Rattle.split_drawing_laws.proofs.crossings.Listed.{picked_count, all_where_has}
+use Rattle.split_drawing_laws.proofs.crossings.Listed.{picked_count}
 use Rattle.split_drawing_laws.proofs.crossings.Places.{at_place}
 use Rattle.split_drawing_laws.proofs.crossings.Premises.{Cuttable}
 use Rattle.split_drawing_laws.proofs.crossings.Whole.{can_cut, crossings_accepted, crossings_made, crossings_sound, crossings_counted, crossings_keep}

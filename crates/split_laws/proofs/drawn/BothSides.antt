@@ -16,8 +16,8 @@ use Rattle.euler_laws.proofs.shared.Arcs.{halves_of_edge}
 use Rattle.euler_laws.proofs.shared.Fans.{loop_after}
 use Rattle.euler_laws.proofs.shared.Goes.{no_zero, equal, equals}
 use Rattle.euler_laws.proofs.shared.Rows.{face_there, loop_row}
-use Rattle.solid_walks.proofs.Rising.{in_listed}
-use Rattle.solid_walks.proofs.SolidFaces.{face_of_loop}
+use Rattle.euler_laws.proofs.shared.Counted.{in_listed, listed_in, all_where_has, all_where_in}
+use Rattle.shapes.proofs.walks.SolidFaces.{face_of_loop}
 use Rattle.shapes.specs.Measure.{normal}
 use Rattle.shapes.specs.Faces.{loops_of, corners}
 use Rattle.shapes.specs.split.Sides.{reaches_above, reaches_below, straddles, crossing_edges, face_is_above, faces_above}
@@ -25,7 +25,7 @@ use Rattle.shapes.specs.split.Crossings.{with_crossings}
 use Rattle.shapes.specs.split.Drawing.{with_drawings}
 use Rattle.shapes.specs.split.Split.{split_refusal}
 use Rattle.split_drawing_laws.specs.crossings.Laws.{CanBegin}
-use Rattle.split_drawing_laws.proofs.crossings.Listed.{listed_in, picked, picked_passes, any_passes, all_where_has, all_where_in, tail_in_face}
+use Rattle.split_drawing_laws.proofs.crossings.Listed.{picked, picked_passes, any_passes, tail_in_face}
 use Rattle.split_drawing_laws.proofs.crossings.Whole.{crossings_cut, crossings_keep, crossings_sound, same_solid, not_cut}
 use Rattle.split_drawing_laws.proofs.drawings.Stays.{has_loop, has_face}
 use Rattle.split_drawing_laws.proofs.half_sides.Pieces.{CutBy, half_plus, half_minus, crossing_pieces}

@@ -20,7 +20,8 @@ use Rattle.shapes.specs.split.Drawing.{Drawing, stuck_at, in_one_loop, join_next
 use Rattle.shapes.specs.split.Section.{below_halves, section_cycles, has_stray_hole}
 use Rattle.shapes.specs.split.Split.{first_conditions, later_conditions, section_conditions, split_conditions, split_refusal}
 use Rattle.split_drawing_laws.specs.crossings.Laws.{CanBegin}
-use Rattle.split_drawing_laws.proofs.crossings.Listed.{listed_in, picked_count, all_where_has}
+use Rattle.euler_laws.proofs.shared.Counted.{listed_in, all_where_has}
+use Rattle.split_drawing_laws.proofs.crossings.Listed.{picked_count}
 use Rattle.split_drawing_laws.proofs.crossings.Whole.{crossings_counted, crossings_keep}
 use Rattle.split_drawing_laws.proofs.pairs.Whole.{can_be_drawn, rewritings_sound}
 use Rattle.split_drawing_laws.specs.drawings.DrawnIn.{Stays, Fresh}

@@ -15,7 +15,7 @@ use Rattle.euler_laws.proofs.shared.Listed.{passes_listed}
 use Rattle.euler_laws.proofs.shared.Rows.{face_there, loop_row}
 use Rattle.shapes.specs.Faces.{start, loops_of, vertices_on, vertices_in, corners}
 use Rattle.shapes.specs.Measure.{normal}
-use Rattle.solid_walks.proofs.Rising.{in_listed}
+use Rattle.euler_laws.proofs.shared.Counted.{in_listed}
 use Rattle.shapes.specs.split.Sides.{reaches_above, reaches_below, straddles, face_is_above, faces_above}
 use Rattle.split_opening_laws.proofs.strips.Cycle.{listed_in}
 use Rattle.split_opening_laws.proofs.strips.Places.{IsIn-map}

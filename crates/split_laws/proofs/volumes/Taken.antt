@@ -20,7 +20,7 @@ use Rattle.euler_laws.proofs.shared.Rows.{no_items, face_there, loop_row}
 use Rattle.shapes.specs.Faces.{start, items_in, loops_of, boundary}
 use Rattle.shapes.specs.Measure.{area, normal, anchor, first_vertex, volume_in, six_volume}
 use Rattle.shapes.proofs.Areas.{area-append}
-use Rattle.solid_walks.proofs.FaceLoops.{items_joined}
+use Rattle.shapes.proofs.walks.FaceLoops.{items_joined}
 use Rattle.euler_operators.proofs.Vectors.{dot_turned, dot_moved, none_moved}
 use Rattle.solid_measure_laws.proofs.FlatFaces.{told_alike}
 use Rattle.solid_measure_laws.proofs.Products.{cross_moved}

@@ -11,7 +11,7 @@ use Rattle.euler_operators.specs.HalfEdge.{plus, minus}
 use Rattle.euler_operators.specs.Model.{Model, cycle, tail, after}
 use Rattle.euler_operators.specs.Sound.{Sound}
 use Rattle.euler_laws.proofs.shared.Undo.{mate_minus}
-use Rattle.sweeps_laws.proofs.prism.Steps.{Around, apart_xs, half_is, cycle_is}
+use Rattle.euler_laws.proofs.shared.KnownLoop.{Around, apart_xs, half_is, cycle_is}
 use Rattle.sweeps_laws.proofs.prism.Sides.{next_last}
 use Rattle.shapes.specs.Fresh.{Taken}
 use Rattle.split_opening_laws.specs.caps.Strips.{HasStrips, riser}

@@ -16,7 +16,7 @@ use Rattle.euler_laws.proofs.shared.Arcs.{halves_of_edge}
 use Rattle.euler_laws.proofs.shared.Loops.{some_row}
 use Rattle.euler_laws.proofs.shared.Same.{mapped_some}
 use Rattle.sweeps_laws.proofs.prism.Sides.{plus_tail_at, minus_tail_at}
-use Rattle.sweeps_laws.proofs.prism.Steps.{Around, loop_is, face_is}
+use Rattle.euler_laws.proofs.shared.KnownLoop.{Around, loop_is, face_is}
 use Rattle.shapes.specs.Fresh.{Taken}
 use Rattle.shapes.specs.Prism.{next_place}
 use Rattle.shapes.specs.Rewriting.{rewritten_row, renamed}

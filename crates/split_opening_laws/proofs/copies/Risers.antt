@@ -22,7 +22,8 @@ use Rattle.euler_operators.specs.Effect.{with_before}
 use Rattle.euler_laws.proofs.shared.Rows.{where_held_none, where_held_there}
 use Rattle.euler_laws.proofs.shared.Same.{map_twice, mapped_some}
 use Rattle.euler_laws.proofs.shared.Undo.{mate_plus, put_apart}
-use Rattle.sweeps_laws.proofs.prism.Steps.{edge_plus, loop_is, apart_xs}
+use Rattle.sweeps_laws.proofs.prism.Steps.{edge_plus}
+use Rattle.euler_laws.proofs.shared.KnownLoop.{loop_is, apart_xs}
 use Rattle.shapes.specs.Fresh.{Taken}
 use Rattle.shapes.specs.Prism.{next_place}
 use Rattle.shapes.specs.Rewriting.{rewritten_row, renamed}

@@ -13,7 +13,7 @@ use Rattle.euler_operators.proofs.Halves.{mate-mate, minus_row}
 use Rattle.euler_operators.specs.Conditions.{face_at, lists}
 use Rattle.euler_laws.proofs.shared.Fans.{half_mate, loop_after}
 use Rattle.euler_laws.proofs.shared.Undo.{mate_plus, mate_minus}
-use Rattle.sweeps_laws.proofs.prism.Steps.{half_is, cycle_is, apart_xs}
+use Rattle.euler_laws.proofs.shared.KnownLoop.{half_is, cycle_is, apart_xs}
 use Rattle.shapes.specs.Fresh.{Taken}
 use Rattle.shapes.specs.Prism.{next_place}
 use Rattle.shapes.specs.Rewriting.{renamed}

@@ -16,10 +16,9 @@ use Rattle.euler_laws.proofs.shared.Goes.{equal, equals}
 use Rattle.euler_laws.proofs.shared.Listed.{listed_passes, passes_listed, all_where-rises}
 use Rattle.euler_laws.proofs.shared.Loops.{some_row}
 use Rattle.euler_laws.proofs.shared.Undo.{mate_plus, mate_minus}
-use Rattle.solid_walks.proofs.RisingLists.{rest_rises}
+use Rattle.euler_laws.proofs.shared.RisingLists.{rest_rises}
 use Rattle.shapes.specs.Faces.{edges_of}
-use Rattle.solid_walks.proofs.Rising.{counted_once, in_listed}
-use Rattle.solid_walks.proofs.SolidFaces.{listed_in}
+use Rattle.euler_laws.proofs.shared.Counted.{counted_once, in_listed, listed_in}
 use Rattle.shapes.specs.split.Section.{below_half, below_halves}
 use Rattle.split_opening_laws.specs.cycles.SectionCycles.{IsBelowHalf}
 use Rattle.split_opening_laws.proofs.cycles.Meets.{total_same, total_ticks, count_flat}

@@ -5,9 +5,8 @@ use Rattle.std.proofs.lemmas.Bool.Decides.{nat_tests}
 use Rattle.euler_operators.specs.Items.{IsIn}
 use Rattle.euler_operators.specs.Conditions.{strictly_rises}
 use Rattle.euler_laws.proofs.shared.Listed.{first_listed}
-use Rattle.solid_walks.proofs.RisingLists.{rest_rises, above_first}
-use Rattle.solid_walks.proofs.Rising.{in_listed}
-use Rattle.solid_walks.proofs.SolidFaces.{listed_in}
+use Rattle.euler_laws.proofs.shared.RisingLists.{rest_rises, above_first}
+use Rattle.euler_laws.proofs.shared.Counted.{in_listed, listed_in}
 use Rattle.split_opening_laws.proofs.cycles.Meets.{filter_less}
 
 pub rises_cons : (n : ℕ) (ns : List ℕ) → ((k : ℕ) → IsIn k ns → n < k) → strictly_rises ns ≡ true → strictly_rises (n ∷ ns) ≡ true

@@ -15,11 +15,11 @@ use Rattle.euler_operators.specs.Sound.{Sound, Has}
 use Rattle.euler_operators.proofs.Models.{face_row}
 use Rattle.euler_operators.specs.Conditions.{strictly_rises}
 use Rattle.euler_laws.proofs.shared.Loops.{some_row}
-use Rattle.solid_walks.proofs.RisingLists.{rest_rises}
+use Rattle.euler_laws.proofs.shared.RisingLists.{rest_rises}
 use Rattle.shapes.proofs.fresh.Rows.{get-put_here, get-put_other, get-put_cases}
 use Rattle.shapes.specs.Fresh.{Taken, numbers_after}
 use Rattle.shapes.specs.Rewriting.{rewritten_row, renamed}
-use Rattle.solid_walks.proofs.Rising.{in_listed}
+use Rattle.euler_laws.proofs.shared.Counted.{in_listed}
 use Rattle.shapes.specs.split.Section.{is_hole}
 use Rattle.shapes.specs.split.Opening.{Caps, Opening, both_lists, opened_along, next_opened, all_opened}
 use Rattle.split_opening_laws.proofs.cycles.RisingLists.{rises_cons, first_least}

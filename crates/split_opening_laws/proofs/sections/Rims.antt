@@ -5,7 +5,7 @@ use Rattle.euler_operators.specs.Table.{Table}
 use Rattle.euler_operators.specs.Model.{EdgeRow}
 use Rattle.euler_operators.specs.Sound.{Has}
 use Rattle.shapes.proofs.fresh.Rows.{get-put_cases, get-put_other}
-use Rattle.solid_walks.proofs.Rising.{below_or}
+use Rattle.euler_laws.proofs.shared.UpTo.{below_or}
 use Rattle.shapes.specs.split.Opening.{with_rim}
 
 -- where all numbers above n are free, a number in use is at most n

@@ -6,11 +6,10 @@ use Rattle.euler_operators.specs.Items.{least}
 use Rattle.euler_operators.specs.Model.{Model, solid_of, faces_of, no_face}
 use Rattle.euler_operators.specs.Sound.{Sound}
 use Rattle.euler_operators.specs.Conditions.{strictly_rises}
-use Rattle.split_drawing_laws.proofs.crossings.Listed.{all_where_has}
+use Rattle.euler_laws.proofs.shared.Counted.{all_where_has, listed_in}
 use Rattle.euler_laws.proofs.shared.Goes.{equal}
 use Rattle.euler_laws.proofs.shared.Listed.{all_where-rises}
-use Rattle.solid_walks.proofs.SolidFaces.{listed_in}
-use Rattle.solid_walks.proofs.FaceLoops.{halves_short}
+use Rattle.shapes.proofs.walks.FaceLoops.{halves_short}
 use Rattle.shapes.specs.split.Sides.{face_is_above, faces_above}
 use Rattle.shapes.specs.split.Section.{below_halves, cycle_from, section_cycles}
 use Rattle.split_opening_laws.specs.cycles.SectionCycles.{AreOf, IsUnbranched, AreSectionCycles}

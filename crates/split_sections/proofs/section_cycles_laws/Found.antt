@@ -7,10 +7,9 @@ use Rattle.euler_operators.specs.Items.{count, IsIn, SameItems, least}
 use Rattle.euler_operators.proofs.Lists.{tick_same, tick_other, count-append, IsIn_or_not, least_le, least_in, least_same}
 use Rattle.euler_operators.specs.Rings.{orbit}
 use Rattle.euler_operators.specs.Conditions.{lists, strictly_rises}
-use Rattle.euler_conditions.proofs.Rising.{rest_rises}
+use Rattle.euler_laws.proofs.shared.RisingLists.{rest_rises}
 use Rattle.euler_laws.proofs.shared.Goes.{differs, equals}
-use Rattle.solid_walks.proofs.Rising.{in_listed}
-use Rattle.solid_walks.proofs.SolidFaces.{listed_in}
+use Rattle.euler_laws.proofs.shared.Counted.{in_listed, listed_in}
 use Rattle.split_opening_laws.specs.cycles.Permuting.{Permutes}
 use Rattle.split_opening_laws.proofs.cycles.RisingLists.{first_least}
 use Rattle.split_opening_laws.proofs.cycles.Orbits.{around_within, around_here, around_same}

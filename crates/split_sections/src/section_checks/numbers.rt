@@ -2,11 +2,11 @@
 ghost use Rattle.std.specs.Prelude.{◌≡◌, ◌+◌, ◌*◌, ◌≤◌};
 ghost use Rattle.euler_operators.specs.Conditions.{first_refusal, verdict};
 ghost use Rattle.shapes.specs.Fresh.{numbers_left};
-ghost use Rattle.split_drawing.specs.face_drawing.Codes.{taken_of};
+ghost use Rattle.split_checks.specs.Progress.{taken_of};
 
 use euler_operators::Refusal;
 use solid_walks::Counters;
-use split_drawing::Progress;
+use split_checks::Progress;
 
 /// Whether numbers are left for so many section edges and cycles: a face and a loop for each of both, and two edges and a vertex for
 /// each edge.

@@ -1,10 +1,8 @@
--- A loop ready to be swept, the numbers that its sweep takes, and what the sides leave as it was.
+-- The numbers that the sweep of a loop takes, and what the sides leave as it was.
 use Rattle.std.proofs.Common.{◌≡◌, ◌≢◌, ℕ, zero, suc, ◌+◌, ◌*◌, ◌≤◌, ◌<◌, cond, List, [], ◌∷◌, length, Some, None, is_some, unwrap_or, IsTrue, refl, sym, ap, ◌∙◌, subst, arith, ◌⊎◌, inl, inr, true≢false}
 use Rattle.std.proofs.lemmas.Bool.{eq-eqb, ne_eqb, cases_eq, cases_lt}
 use Rattle.std.proofs.lemmas.Bool.Decides.{nat_tests}
 use Rattle.euler_operators.specs.declared.Point.{Point}
-use Rattle.euler_operators.specs.Points.{IsInRange}
-use Rattle.euler_operators.specs.Vectors.{moved}
 use Rattle.euler_operators.specs.Items.{IsIn}
 use Rattle.euler_operators.specs.Rings.{canonical, successor}
 use Rattle.euler_operators.proofs.Lists.{tick_same}
@@ -13,11 +11,12 @@ use Rattle.euler_operators.specs.HalfEdge.{edge_of, is_first, plus, minus}
 use Rattle.euler_operators.specs.Table as table
 use Rattle.euler_operators.specs.Table.{Table, tables, same_table}
 use Rattle.euler_operators.specs.Model.{Model, EdgeRow, cycle, items_of, holds, tail, tail_in, no_edge, no_face, no_point, content, solid_of, point_of, loop_of, after, cycle_of, is_number}
-use Rattle.euler_operators.specs.Sound.{Sound, Has, HasHalf}
+use Rattle.euler_operators.specs.Sound.{Has, HasHalf}
 use Rattle.euler_operators.proofs.Halves.{plus_row, minus_row}
 use Rattle.euler_operators.proofs.Models.{content_row, face_row, tail_row, in-holds}
 use Rattle.shapes.specs.Faces.{start}
 use Rattle.shapes.specs.Fresh.{Taken}
+use Rattle.sweeps_laws.specs.prism.Ready.{Ready}
 use Rattle.shapes.specs.Prism.{riser, top_edge, next_place, with_side, with_sides}
 
 -- ---- numbers
@@ -73,20 +72,6 @@ pub within : {X : Type 0} (t : Table X) (k q : ℕ) → ((q : ℕ) → k < q →
 within t k q above there = elim (cases_lt k q) [ inl p ↦ absurd (true≢false (sym there ∙ ap is_some (above q p))) | inr p ↦ p ]
 
 -- ---- a loop to be swept
-
--- loop l of face f in a sound model holds the cycle hs; all numbers above those taken are free, and there are enough of them; the moved points are in range
-pub record Ready (M : Model) (c : Taken) (f l : ℕ) (d : Point) (hs : List ℕ) : Type 0 where
-  pub sound : Sound M
-  pub at : table.get M.loops l ≡ Some (record { face = f; content = cycle hs })
-  pub faces_free : (q : ℕ) → c.face < q → table.get M.faces q ≡ None
-  pub loops_free : (q : ℕ) → c.loop < q → table.get M.loops q ≡ None
-  pub edges_free : (q : ℕ) → c.edge < q → table.get M.edges q ≡ None
-  pub vertices_free : (q : ℕ) → c.vertex < q → table.get M.vertices q ≡ None
-  pub faces_left : c.face + length hs ≤ 1000000
-  pub loops_left : c.loop + length hs ≤ 1000000
-  pub edges_left : c.edge + 2 * length hs ≤ 1000000
-  pub vertices_left : c.vertex + length hs ≤ 1000000
-  pub points_fit : (h : ℕ) → IsIn h hs → IsInRange (moved (start M h) d)
 
 module _ (M : Model) (c : Taken) (f l : ℕ) (d : Point) (hs : List ℕ) (w : Ready M c f l d hs) where
   abbrev pub n : ℕ

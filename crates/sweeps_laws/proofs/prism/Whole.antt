@@ -23,7 +23,8 @@ use Rattle.shapes.specs.Faces.{start, vertices_on, vertices_in}
 use Rattle.shapes.specs.Fresh.{Taken}
 use Rattle.shapes.specs.Prism.{riser, top_items, with_sides, lifted, raised, raised_over, prism_from}
 use Rattle.sweeps_laws.specs.prism.SweepOps.{close, close_last, rounds, loop_ops, taken_after, ops_from}
-use Rattle.sweeps_laws.proofs.prism.Sides.{Ready, riser_is, top_is, put_other, within, old_edge, old_start, sides_edges, sides_faces, sides_loops, sides_vertices, two_items}
+use Rattle.sweeps_laws.specs.prism.Ready.{Ready}
+use Rattle.sweeps_laws.proofs.prism.Sides.{riser_is, top_is, put_other, within, old_edge, old_start, sides_edges, sides_faces, sides_loops, sides_vertices, two_items}
 use Rattle.sweeps_laws.proofs.prism.Rounds.{loop_within}
 use Rattle.sweeps_laws.proofs.prism.Loops.{loop_swept}
 

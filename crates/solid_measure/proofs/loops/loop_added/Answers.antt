@@ -3,7 +3,7 @@ use Rattle.euler_operators.specs.HalfEdge.{code}
 use Rattle.euler_operators.specs.Model.{content}
 use Rattle.euler_laws.proofs.shared.Goes.{equal, unequal}
 use Rattle.euler_conditions.proofs.Known.{filled, edge_there}
-use Rattle.euler_conditions.proofs.Parallel.{steps, steps_are}
+use Rattle.euler_laws.proofs.shared.Bounds.{steps, steps_are}
 use Rattle.euler_conditions.proofs.Borders.{ring_has}
 use Rattle.solid_measure.specs.Measure.{read}
 use Rattle.solid_measure.proofs.AreaRounds.{AreaRound, lone_adds, area_start, area_room, area_closed, area_more, area_ended}

@@ -3,7 +3,7 @@ use Rattle.euler_operators.specs.Vectors.{is_on}
 use Rattle.euler_operators.specs.HalfEdge.{code}
 use Rattle.euler_laws.proofs.shared.Goes.{equal, unequal}
 use Rattle.euler_conditions.proofs.Known.{edge_there}
-use Rattle.euler_conditions.proofs.Parallel.{steps, steps_are}
+use Rattle.euler_laws.proofs.shared.Bounds.{steps, steps_are}
 use Rattle.shapes.specs.Faces.{start}
 use Rattle.solid_measure.proofs.FlatRounds.{FlatRound, flat_start, flat_off, flat_closed, flat_more, flat_ended}
 use Rattle.solid_measure.proofs.loops.ring_lies_on.Goals as goal
