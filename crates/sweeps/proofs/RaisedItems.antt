@@ -11,10 +11,8 @@ use Rattle.euler_operators.specs.declared.HalfEdge.{HalfEdge}
 use Rattle.euler_operators.specs.declared.Corner.TheVariants.{At}
 use Rattle.euler_operators.specs.HalfEdge.{code, half, plus}
 use Rattle.euler_operators.proofs.Halves.{half-code}
-use Rattle.euler_operators.specs.Model.{Model, LoopContent, lone, cycle, items_of}
-use Rattle.euler_operators.specs.declared.Content.TheVariants.{Ring}
+use Rattle.euler_operators.specs.Model.{Model}
 use Rattle.euler_operators.specs.Sound.{HasHalf}
-use Rattle.euler_conditions.specs.Store.{Tells}
 use Rattle.euler_operators.specs.declared.Op.TheVariants.{Mev}
 use Rattle.euler_operators.specs.Conditions.{first_false}
 use Rattle.euler_operators.specs.Effect.{effect}
@@ -26,11 +24,6 @@ use Rattle.sweeps_laws.specs.prism.SweepOps.{raise_item, close, close_last, roun
 use Rattle.sweeps_laws.specs.prism.Ready.{Ready}
 use Rattle.sweeps_laws.proofs.prism.Sides.{half_there, two_items}
 use Rattle.sweeps_laws.proofs.prism.Turns.{first_accepted, turn_half, turn_range, raise_accepted, close_accepted, turn_is, last_accepted, last_is}
-
--- what an arena answers of a loop with half-edges stands in it
-pub ring_in : (t : LoopContent) (h : HalfEdge) → Tells t (Ring h) → IsIn (code h) (items_of t)
-ring_in (lone v) h s = absurd s
-ring_in (cycle hs) h s = s
 
 -- the operator that raises an item
 pub same_raise : (M : Model) (c : Taken) (d : Point) (item : HalfEdge) (i : ℕ) (edge : HalfEdge) (p : Point) → edge ≡ half (plus (riser c.edge i)) → p ≡ moved (start M (code item)) d
