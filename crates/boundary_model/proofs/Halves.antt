@@ -56,3 +56,23 @@ plus_row e = (omega arith, grind (arith, nat_tests))
 pub minus_row : (e : ℕ) → (edge_of (minus e) ≡ e) × (is_first (minus e) ≡ false)
 unfolding edge_of is_first
 minus_row e = (omega arith, grind (arith, nat_tests))
+
+pub mate_plus : (e : ℕ) → mate (plus e) ≡ minus e
+mate_plus e = elim (mate_cases (plus e)) [ inl p ↦ omega arith | inr p ↦ omega arith ]
+
+pub mate_minus : (e : ℕ) → mate (minus e) ≡ plus e
+mate_minus e = elim (mate_cases (minus e)) [ inl p ↦ omega arith | inr p ↦ omega arith ]
+
+pub plus_other : (e : ℕ) → plus e ≢ minus e
+plus_other e s = absurd (omega (arith, s))
+
+-- half-edges are known by their codes
+pub same_code : (h m : HalfEdge) → code h ≡ code m → h ≡ m
+same_code h m e = sym (half-code h) ∙ ap half e ∙ half-code m
+
+pub is_first-code : (h : HalfEdge) → is_first (code h) ≡ h.first
+unfolding code is_first
+is_first-code h = go h.edge h.first where
+  go : (e : ℕ) (b : Bool) → nat_eq (cond b (2 * e) (2 * e + 1) % 2) 0 ≡ b
+  go e true = grind (arith, nat_tests)
+  go e false = grind (arith, nat_tests)

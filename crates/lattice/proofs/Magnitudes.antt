@@ -4,6 +4,7 @@ use Rattle.std.specs.Prelude.{◌+ℤ◌, ◌-ℤ◌, ◌*ℤ◌, ◌&&◌, Fits
 use Rattle.std.specs.Int.RustNames.{unsigned_abs}
 use Rattle.std.specs.Int.{cast_signed, cast_unsigned}
 use Rattle.std.proofs.lemmas.Int.{ints, to_z-of_z, unsigned_abs-mul, fits_signed_from_abs}
+use Rattle.std.proofs.lemmas.Bool.{and_parts}
 use Rattle.std.proofs.Math.Nat.{mul-le-mul}
 use mir.Syntax.{w64, w128}
 use Rattle.lattice.specs.declared.Point.{Point}
@@ -13,13 +14,9 @@ use Rattle.lattice.specs.Ranges.{IsWithin}
 pub coordinate_within : (x : ℤ) → is_coordinate x ≡ true → IsWithin 1000000000 x
 coordinate_within x e = grind (arith, ints)
 
-both : (a b : Bool) → (a && b) ≡ true → (a ≡ true) × (b ≡ true)
-both true b e = (refl, e)
-both false b e = absurd (true≢false (sym e))
-
 -- the coordinates of a point in range
 pub coordinates : (p : Point) → IsInRange p → (is_coordinate p.x ≡ true) × (is_coordinate p.y ≡ true) × (is_coordinate p.z ≡ true)
-coordinates p r = let xs = both (is_coordinate p.x) (is_coordinate p.y && is_coordinate p.z) r in let ys = both (is_coordinate p.y) (is_coordinate p.z) xs.1 in (xs.0, ys.0, ys.1)
+coordinates p r = let xs = and_parts (is_coordinate p.x) (is_coordinate p.y && is_coordinate p.z) r in let ys = and_parts (is_coordinate p.y) (is_coordinate p.z) xs.1 in (xs.0, ys.0, ys.1)
 
 pub product_within : (a b : ℤ) (m n k : ℕ) → IsWithin m a → IsWithin n b → m * n ≡ k → IsWithin k (a *ℤ b)
 product_within a b m n k h g e = subst (λ x. x ≤ k) (sym (unsigned_abs-mul a b)) (subst (λ x. unsigned_abs a * unsigned_abs b ≤ x) e (mul-le-mul h g))

@@ -27,6 +27,12 @@ none_add a = omega (arith, ints)
 pub add_assoc : (a b c : ℤ) → (a +ℤ b) +ℤ c ≡ a +ℤ (b +ℤ c)
 add_assoc a b c = omega (arith, ints)
 
+pub add_exchanged : (a b c : ℤ) → a +ℤ (b +ℤ c) ≡ b +ℤ (a +ℤ c)
+add_exchanged a b c = omega (arith, ints)
+
+pub none_added : (a b c : ℤ) → a +ℤ b ≡ pos 0 → a +ℤ (b +ℤ c) ≡ c
+none_added a b c e = omega (arith, ints)
+
 pub moved_none : (p : Point) → moved p origin ≡ p
 moved_none p = same_vector _ _ (add_none p.x) (add_none p.y) (add_none p.z)
 
