@@ -1,6 +1,7 @@
 -- The store after a cut and after a join.
 use Rattle.std.proofs.Common.{◌≡◌, ◌≢◌, ℕ, Bool, true, cond, nat_eq, List, [], length, Option, Some, None, is_some, refl, sym, ap, subst, ◌∙◌, eq-eqb, ne_eqb, inl, inr}
 use Rattle.std.proofs.lemmas.Bool.Decides.{eqb_tells}
+use Rattle.std.proofs.lemmas.Option.{same_Some}
 use Rattle.boundary_model.specs.declared.Point.{Point}
 use Rattle.arena_rows.specs.declared.rows.FaceCell.{FaceCell}
 use Rattle.arena_rows.specs.declared.rows.LoopCell.{LoopCell}
@@ -11,13 +12,14 @@ use Rattle.boundary_model.specs.Model.{Model, cycle}
 use Rattle.arena_rows.specs.Store.{Store, loosened}
 use Rattle.arena_rows.specs.ring_spots.Spots.{Spots, live, label, ring, spliced_at, labelled, AreRings}
 use Rattle.arena_rows.specs.View.{store_of, IsTied, held_content, loop_row, AreLoops}
-use Rattle.arena_rows.proofs.Views.{get-table_of, some_is}
+use Rattle.arena_rows.proofs.Views.{get-table_of}
 use Rattle.boundary_model.specs.Rings.{cut_left, cut_right, joined}
 use Rattle.boundary_model.specs.Model.{has_half, loop_of, items_of, content, cycle_of}
+use Rattle.boundary_model.proofs.Tables.{row_some}
 use Rattle.arena_rows.specs.Store.{cut_loose, cut_to, join_loops, join_loose, loose_ring, held_row}
 use Rattle.arena_rows.specs.View.{Fits}
 use Rattle.arena_rows.proofs.Views.{has-row, fits-write, table_of-put}
-use Rattle.arena_rows.proofs.Writes.{row_here, row_some}
+use Rattle.arena_rows.proofs.Writes.{row_here}
 use Rattle.arena_rows.proofs.Stands.{half_there, loop_of_is, cycle_of_is, content_row, face_row_of, loose_key_is, loose_ring_is}
 use Rattle.arena_rows.proofs.Tellings.{store_is, content_alike}
 use Rattle.arena_rows.proofs.Cutting.{IsBare, rings1, rings2, live2, AreLoops-cut, loose-cut_to, loose-cut_loose, edges-cut, loops-cut, ring_of_right, apart_rows, jrings1, a_live1, b_live1, jrings2, jlive2, jedges, jkept, jring_a, loose-join_loops, loose-join_loose, AreLoops-join}
@@ -243,7 +245,7 @@ pub join_other : (s : Store) (a b : ℕ) → loop_of s.model b ≢ 0 → join_lo
 join_other s a b n = sym (ap (λ t. cond t (join_loose s a b) (join_loops s a b)) (ne_eqb (loop_of s.model b) 0 n))
 
 pub empty_cell : (rows new : List (Option LoopCell)) (n : ℕ) (f : ℕ) → ((q : ℕ) → row_at new q ≡ cond (nat_eq q n) (Some (record { face = f; held = Empty })) (row_at rows q)) → (c : LoopCell) → row_at new n ≡ Some c → c.held ≡ Empty
-empty_cell rows new n f is c at = ap (λ (k : LoopCell). k.held) (some_is _ _ (sym at ∙ row_here rows new n _ is))
+empty_cell rows new n f is c at = ap (λ (k : LoopCell). k.held) (same_Some _ _ (sym at ∙ row_here rows new n _ is))
 
 pub zero_cell : (rows : List (Option LoopCell)) (n : ℕ) → row_at rows 0 ≡ None → n ≡ 0 → (c : LoopCell) → row_at rows n ≡ Some c → c.held ≡ Empty
 zero_cell rows n none z c at = let e = sym (ap (row_at rows) z ∙ none) ∙ at in cc

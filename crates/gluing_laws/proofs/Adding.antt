@@ -9,7 +9,6 @@ use Rattle.euler_operators.specs.Items.{count, IsIn, SameItems, head_or}
 use Rattle.euler_operators.specs.Rings.{successor}
 use Rattle.euler_operators.proofs.Lists.{count-append, tick_same, tick_other}
 use Rattle.euler_operators.proofs.Rings.{IsIn_successor}
-use Rattle.euler_operators.proofs.Rotations.{IsIn_head}
 use Rattle.euler_operators.specs.Table as table
 use Rattle.euler_operators.specs.Table.{Table, tables}
 use Rattle.euler_operators.specs.Model.{Model, cycle, FaceRow, items_of, tail, content, outer, solid_of, point_of, rings_of, faces_of, after, cycle_of}
@@ -24,6 +23,8 @@ use Rattle.shapes.specs.Faces.{start, finish, items_in, loops_of, boundary}
 use Rattle.shapes.specs.Measure.{area, normal, anchor, first_vertex, volume_in, six_volume}
 use Rattle.shapes.proofs.Areas.{area-append, moved_nothing}
 use Rattle.euler_operators.proofs.Integers.{dif, dif-parts, difs, same_dif}
+use Rattle.euler_operators.proofs.Members.{IsIn_some_head}
+use Rattle.euler_operators.proofs.Vectors.{none_added}
 use Rattle.solid_measure_laws.specs.Vectors.{negated}
 use Rattle.solid_measure_laws.proofs.Sums.{area_same, area_opposed}
 use Rattle.gluing_laws.proofs.Listed.{one_if, passed, count_where, volume_of, volume_append, volume_same, same_volumes}
@@ -49,10 +50,6 @@ dot_negated p v = back_part p.x p.y p.z v.x v.y v.z
 only_loop : (M : Model) (k : ℕ) (cs : List ℕ) → rings_of M k ≡ [] → content M (outer M k) ≡ cycle cs → normal M k ≡ area M cs
 unfolding normal boundary loops_of
 only_loop M k cs alone is = ap (λ rs. area M (items_in M (outer M k ∷ rs))) alone ∙ ap (λ c. area M (items_of c ++ [])) is ∙ area-append M cs [] ∙ moved_nothing (area M cs)
-
-some_head : (xs : List ℕ) → xs ≢ [] → IsIn (head_or 0 xs) xs
-some_head [] ne = absurd (ne refl)
-some_head (x ∷ xs) ne = IsIn_head x xs
 
 -- ---- rows of faces
 
@@ -101,7 +98,7 @@ module _ (M N : Model) (f g : ℕ) (partner_of : ℕ → ℕ) (hs gs : List ℕ)
 
   anchor_g : dot (anchor M g) (normal M f) ≡ volume_of M f
   anchor_g =
-      let p = seams.partner_back M f g partner_of hs gs w (head_or 0 gs) (some_head gs some_of_g) in
+      let p = seams.partner_back M f g partner_of hs gs w (head_or 0 gs) (IsIn_some_head gs some_of_g) in
       ap (λ c. dot (point_of M (first_vertex M c)) (normal M f)) w.second ∙ ap (λ k. dot (start M k) (normal M f)) p.2 ∙ ap (λ q. dot q (normal M f)) (w.starts p.0 p.1) ∙ item_ends p.0 p.1
 
   -- together they add nothing
@@ -183,9 +180,6 @@ module _ (M N : Model) (f g : ℕ) (partner_of : ℕ → ℕ) (hs gs : List ℕ)
       let passes : of s k (to_s k (record { solid = solid_of M k; outer = outer M k })) ≡ true = sym (listed_as (of s) N.faces k (to_s k (record { solid = solid_of M k; outer = outer M k })) now) ∙ i in
       let solid = was_either (solid_of M k) s t (sym (ap (λ v. nat_eq v s) (moved_solid (nat_eq (solid_of M k) t) (record { solid = solid_of M k; outer = outer M k }) s)) ∙ passes) in
       normals.volume_is M N f g partner_of hs gs w n k there not_f not_g (w.flat k there solid)
-
-  none_added : (a b c : ℤ) → a +ℤ b ≡ pos 0 → a +ℤ (b +ℤ c) ≡ c
-  none_added a b c e = omega (arith, ints)
 
   pub solids_add : six_volume N s ≡ six_volume M s +ℤ six_volume M t
   unfolding six_volume

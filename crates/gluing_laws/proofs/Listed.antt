@@ -1,9 +1,8 @@
 -- How often a number stands in what a search lists, and volumes of lists of faces in any order.
 use Rattle.std.proofs.Common.{◌≡◌, ℕ, ◌≤◌, ℤ, ◌+ℤ◌, Bool, true, false, cond, List, [], ◌∷◌, ◌++◌, Option, Some, None, is_some, refl, sym, ap, ◌∙◌, arith, true≢false, inl, inr}
-use Rattle.std.proofs.lemmas.Int.{ints}
 use Rattle.euler_operators.specs.Vectors.{dot}
 use Rattle.euler_operators.specs.Items.{count, tick, IsIn, SameItems, before, after}
-use Rattle.euler_operators.proofs.Lists.{count-append, tick_same, split_at}
+use Rattle.euler_operators.proofs.Lists.{tick_same, split_at}
 use Rattle.euler_operators.specs.Table as table
 use Rattle.euler_operators.specs.Table.{Table}
 use Rattle.euler_operators.specs.Model.{Model}
@@ -13,7 +12,8 @@ use Rattle.euler_laws.proofs.shared.Rows.{no_items}
 use Rattle.solid_walks.proofs.RisingLists.{within}
 use Rattle.shapes.specs.Measure.{anchor, normal, volume_in}
 use Rattle.solid_walks.proofs.Rising.{counted_once, none_counted, in_listed}
-use Rattle.euler_operators.proofs.Vectors.{add_assoc, none_add}
+use Rattle.euler_operators.proofs.Vectors.{add_assoc, none_add, add_exchanged}
+use Rattle.euler_operators.proofs.Members.{count_taken}
 
 -- ---- lists
 
@@ -74,20 +74,14 @@ module _ (M : Model) where
   volume_append [] ys = sym (none_add (volume_in M ys))
   volume_append (x ∷ xs) ys = ap (λ v. volume_of x +ℤ v) (volume_append xs ys) ∙ sym (add_assoc (volume_of x) (volume_in M xs) (volume_in M ys))
 
-  exchanged : (a b c : ℤ) → a +ℤ (b +ℤ c) ≡ b +ℤ (a +ℤ c)
-  exchanged a b c = omega (arith, ints)
-
-  taken : (x y : ℕ) (xs ys : List ℕ) → SameItems (x ∷ xs) ys → ys ≡ before x ys ++ x ∷ after x ys → count y xs ≡ count y (before x ys ++ after x ys)
-  taken x y xs ys s e = omega (arith, s y, ap (count y) e, count-append y (before x ys) (x ∷ after x ys), count-append y (before x ys) (after x ys))
-
   -- the order of the faces doesn't matter
   pub volume_same : (xs ys : List ℕ) → SameItems xs ys → volume_in M xs ≡ volume_in M ys
   volume_same [] ys s = ap (volume_in M) (sym (no_items ys (λ x. sym (s x))))
   volume_same (x ∷ xs) ys s =
       let i : IsIn x ys = omega (arith, s x, tick_same x) in
       let e = split_at x ys i in
-      ap (λ v. volume_of x +ℤ v) (volume_same xs (before x ys ++ after x ys) (λ y. taken x y xs ys s e) ∙ volume_append (before x ys) (after x ys))
-      ∙ exchanged (volume_of x) (volume_in M (before x ys)) (volume_in M (after x ys))
+      ap (λ v. volume_of x +ℤ v) (volume_same xs (before x ys ++ after x ys) (λ y. count_taken x y xs ys s e) ∙ volume_append (before x ys) (after x ys))
+      ∙ add_exchanged (volume_of x) (volume_in M (before x ys)) (volume_in M (after x ys))
       ∙ sym (ap (volume_in M) e ∙ volume_append (before x ys) (x ∷ after x ys))
 
 module _ (M N : Model) where

@@ -1,6 +1,7 @@
 -- Whether the corners that a walk round a loop meets lie on a plane.
 use Rattle.std.proofs.Common.{◌≡◌, ◌≢◌, ℕ, ◌+◌, ◌≤◌, Bool, true, false, ◌&&◌, List, [], ◌∷◌, ◌++◌, map, not, refl, sym, ap, ◌∙◌, arith, true≢false, Some, None, inl, inr}
 use Rattle.std.proofs.lemmas.Bool.Decides.{eqb_tells}
+use Rattle.std.proofs.lemmas.Bool.{and_from}
 use Rattle.std.specs.List.{list_all}
 use Rattle.euler_operators.specs.declared.Plane.{Plane}
 use Rattle.euler_operators.specs.Vectors.{is_on, same_point, direction, origin}
@@ -21,9 +22,6 @@ use Rattle.solid_measure.specs.Measure.{plane_of, is_flat}
 use Rattle.solid_walks.proofs.Rising.{below_or}
 use Rattle.solid_walks.proofs.Rounds.{Round, round_start, round_more, round_closed, round_ended}
 
-both_true : (a b : Bool) → a ≡ true → b ≡ true → (a && b) ≡ true
-both_true a b p q = ap (λ c. c && b) p ∙ q
-
 left_false : (a b : Bool) → a ≡ false → (a && b) ≡ false
 left_false a b p = ap (λ c. c && b) p
 
@@ -34,7 +32,7 @@ right_false false b p = refl
 module _ (P : ℕ → Bool) where
   all_on : (f : ℕ → ℕ) (xs : List ℕ) → ((x : ℕ) → IsIn x xs → P (f x) ≡ true) → list_all P (map f xs) ≡ true
   all_on f [] h = refl
-  all_on f (x ∷ xs) h = both_true (P (f x)) (list_all P (map f xs)) (h x (omega (arith, tick_same x))) (all_on f xs (λ y i. h y (omega arith)))
+  all_on f (x ∷ xs) h = and_from (P (f x)) (list_all P (map f xs)) (h x (omega (arith, tick_same x))) (all_on f xs (λ y i. h y (omega arith)))
 
   one_off : (f : ℕ → ℕ) (xs : List ℕ) (x : ℕ) → IsIn x xs → P (f x) ≡ false → list_all P (map f xs) ≡ false
   one_off f [] x i e = absurd (omega arith)
@@ -54,7 +52,7 @@ module _ (P : ℕ → Bool) where
     -- all vertices on some loops pass
     pub all_in : (ls : List ℕ) → ((l : ℕ) → lists ls l ≡ true → list_all P (vertices_on M (content M l)) ≡ true) → list_all P (vertices_in M ls) ≡ true
     all_in [] h = refl
-    all_in (l ∷ ls) h = all_joined (vertices_on M (content M l)) (vertices_in M ls) ∙ both_true _ _ (h l (first_listed l ls)) (all_in ls (λ k i. h k (rest_listed l k ls i)))
+    all_in (l ∷ ls) h = all_joined (vertices_on M (content M l)) (vertices_in M ls) ∙ and_from _ _ (h l (first_listed l ls)) (all_in ls (λ k i. h k (rest_listed l k ls i)))
 
     pub off_in : (ls : List ℕ) (l : ℕ) → lists ls l ≡ true → list_all P (vertices_on M (content M l)) ≡ false → list_all P (vertices_in M ls) ≡ false
     off_in [] l i e = absurd (true≢false (sym i))

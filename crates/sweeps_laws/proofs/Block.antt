@@ -21,9 +21,10 @@ use Rattle.shapes.specs.Measure.{six_volume}
 use Rattle.sweeps_laws.proofs.lamina.Walk.{lamina_is_sound}
 use Rattle.euler_operators.proofs.Vectors.{add_none, none_add}
 use Rattle.euler_operators.proofs.Rectangles.{second_corner, third_corner, fourth_corner, rectangle_flat, rectangle_raised}
-use Rattle.sweeps_laws.proofs.swept.Numbers.{and_left, and_right}
+use Rattle.euler_operators.proofs.Tests.{and_first, and_second}
+use Rattle.euler_operators.proofs.Models.{solid_row}
 use Rattle.sweeps_laws.proofs.FromSound.{sound_bounded, face_adds}
-use Rattle.sweeps_laws.proofs.Base.{base, found_solid, solid_one, there_one, none_lone, normal_one, base_volume}
+use Rattle.sweeps_laws.proofs.Base.{base, solid_one, there_one, none_lone, normal_one, base_volume}
 
 -- ---- the corners of the base
 
@@ -77,11 +78,11 @@ base_accepted M s p dx dy dz e =
     let near = w.1.1.1.1.1.0 in
     let far = w.1.1.1.1.1.1.0 in
     let left = w.1.1.1.1.1.1.1 in
-    let px = and_left (is_coordinate p.x) _ near in
-    let py = and_left (is_coordinate p.y) _ (and_right (is_coordinate p.x) _ near) in
-    let pz = and_right (is_coordinate p.y) _ (and_right (is_coordinate p.x) _ near) in
-    let qx = and_left (is_coordinate (p.x +ℤ dx)) _ far in
-    let qy = and_left (is_coordinate (p.y +ℤ dy)) _ (and_right (is_coordinate (p.x +ℤ dx)) _ far) in
+    let px = and_first (is_coordinate p.x) _ near in
+    let py = and_first (is_coordinate p.y) _ (and_second (is_coordinate p.x) _ near) in
+    let pz = and_second (is_coordinate p.y) _ (and_second (is_coordinate p.x) _ near) in
+    let qx = and_first (is_coordinate (p.x +ℤ dx)) _ far in
+    let qy = and_first (is_coordinate (p.y +ℤ dy)) _ (and_second (is_coordinate (p.x +ℤ dx)) _ far) in
     let b = second_corner p dx dy in
     let g = third_corner p dx dy in
     let h = fourth_corner p dx dy in
@@ -119,7 +120,7 @@ solid_free M s p dx dy dz e = not_true _ (all_hold (block_conditions M s p dx dy
 
 -- a solid that isn't there has no face
 no_faces : (M : Model) (s : ℕ) → Sound M → table.has M.solids s ≡ false → faces_of M s ≡ []
-no_faces M s sound free = all_where_none (λ _ row. nat_eq row.solid s) M.faces (λ k row at. other row.solid s (λ e. true≢false (sym (sound.faces_of_solids k (ap is_some at)) ∙ ap (table.has M.solids) (found_solid M k row at ∙ e) ∙ free))) where
+no_faces M s sound free = all_where_none (λ _ row. nat_eq row.solid s) M.faces (λ k row at. other row.solid s (λ e. true≢false (sym (sound.faces_of_solids k (ap is_some at)) ∙ ap (table.has M.solids) (solid_row M k row at ∙ e) ∙ free))) where
   other : (a b : ℕ) → a ≢ b → nat_eq a b ≡ false
   other a b ne = grind (arith, nat_tests)
 

@@ -1,6 +1,6 @@
 -- One loop of a face swept: areas, anchors and volumes of the faces after.
-use Rattle.std.proofs.Common.{◌≡◌, ◌≢◌, ℕ, zero, suc, ◌+◌, ◌≤◌, ◌<◌, ℤ, pos, ◌+ℤ◌, ◌*ℤ◌, Bool, true, false, not, nat_eq, nat_lt, ◌&&◌, List, [], ◌∷◌, ◌++◌, length, get_or, is_some, refl, sym, ap, subst, ◌∙◌, arith, inl, inr, true≢false}
-use Rattle.std.proofs.lemmas.Bool.Decides.{nat_tests, eqb_tells}
+use Rattle.std.proofs.Common.{◌≡◌, ◌≢◌, ℕ, zero, suc, ◌+◌, ◌≤◌, ◌<◌, ℤ, pos, ◌+ℤ◌, ◌*ℤ◌, true, not, nat_eq, nat_lt, ◌&&◌, List, [], ◌∷◌, ◌++◌, length, get_or, is_some, refl, sym, ap, subst, ◌∙◌, arith, inl, inr, true≢false}
+use Rattle.std.proofs.lemmas.Bool.Decides.{eqb_tells}
 use Rattle.std.proofs.lemmas.Int.{ints}
 use Rattle.euler_operators.specs.declared.Point.{Point}
 use Rattle.euler_operators.specs.Vectors.{origin, moved, dot, cross}
@@ -17,8 +17,11 @@ use Rattle.shapes.specs.Measure.{area, normal, anchor, first_vertex, volume_in}
 use Rattle.shapes.proofs.fresh.Rows.{at_most_greatest}
 use Rattle.euler_operators.proofs.Vectors.{dot_moved, add_assoc}
 use Rattle.euler_operators.proofs.Sweeps.{sum_to, moved_at, area_at, moved_ring, side_area, side_volume, Linked}
-use Rattle.sweeps_laws.proofs.swept.Numbers.{next_cases, mate_plus, mate_minus, and_none, and_right}
-use Rattle.sweeps_laws.proofs.Areas.{first_in, area_append, area_last, area_sum, same_area, volume_of}
+use Rattle.euler_operators.proofs.Tests.{and_second, less_and}
+use Rattle.euler_operators.proofs.Rotations.{IsIn_head}
+use Rattle.euler_operators.proofs.Halves.{mate_plus, mate_minus}
+use Rattle.sweeps_laws.proofs.swept.Numbers.{next_cases}
+use Rattle.sweeps_laws.proofs.Areas.{area_append, area_last, area_sum, same_area, volume_of}
 use Rattle.sweeps_laws.proofs.swept.Sides.{Keeps, start_kept, finish_kept}
 use Rattle.sweeps_laws.proofs.swept.Lifted.{Bounded, IsPathOf, swept, keeps_swept, outer_new, content_here, content_old, content_new, outer_old, rings_old, rings_new, from_point, to_point, riser_start, riser_finish, top_start, top_finish, next_start, next_finish, item_start, item_finish}
 
@@ -29,19 +32,15 @@ normal_is M k = refl
 
 pub rest_up : (k : ℕ) (ks : List ℕ) → strictly_rises (k ∷ ks) ≡ true → strictly_rises ks ≡ true
 rest_up k [] up = refl
-rest_up k (q ∷ ks) up = and_right (nat_lt k q) (strictly_rises (q ∷ ks)) up
+rest_up k (q ∷ ks) up = and_second (nat_lt k q) (strictly_rises (q ∷ ks)) up
 
 -- what comes after the first number of a rising list is greater
 pub past_first : (n q : ℕ) (ns : List ℕ) → strictly_rises (n ∷ ns) ≡ true → lists ns q ≡ true → n < q
 past_first n q [] r l = absurd (true≢false (sym l))
 past_first n q (m ∷ ns) r l = elim (listed_cases m q ns l) [
-  | inl e ↦ subst (λ k. n < k) (sym e) (parts n m (strictly_rises (m ∷ ns)) r).0
-  | inr i ↦ between n m q (parts n m (strictly_rises (m ∷ ns)) r).0 (past_first m q ns (parts n m (strictly_rises (m ∷ ns)) r).1 i)
+  | inl e ↦ subst (λ k. n < k) (sym e) (less_and n m (strictly_rises (m ∷ ns)) r).0
+  | inr i ↦ between n m q (less_and n m (strictly_rises (m ∷ ns)) r).0 (past_first m q ns (less_and n m (strictly_rises (m ∷ ns)) r).1 i)
 ] where
-  parts : (n m : ℕ) (b : Bool) → (nat_lt n m && b) ≡ true → (n < m) × (b ≡ true)
-  parts n m true r = (grind (arith, nat_tests), refl)
-  parts n m false r = absurd (true≢false (sym r ∙ and_none (nat_lt n m)))
-
   between : (n m q : ℕ) → n < m → m < q → n < q
   between n m q a b = omega arith
 
@@ -68,7 +67,7 @@ first_kept : (M N : Model) (e v : ℕ) (keeps : Keeps M N e v) (bounded : (h : �
     ((h : ℕ) → IsIn h (items_of x) → edge_of h ≤ e) → ((w : ℕ) → x ≡ lone w → w ≤ v) → point_of N (first_vertex N x) ≡ point_of M (first_vertex M x)
 first_kept M N e v keeps bounded (lone w) a b = keeps.points w (b w refl)
 first_kept M N e v keeps bounded (cycle []) a b = start_kept M N e v keeps bounded 0 (first_edge e)
-first_kept M N e v keeps bounded (cycle (h ∷ hs)) a b = start_kept M N e v keeps bounded h (a h (first_in h hs))
+first_kept M N e v keeps bounded (cycle (h ∷ hs)) a b = start_kept M N e v keeps bounded h (a h (IsIn_head h hs))
 
 -- a closed path of n steps keeps its area where it is moved
 ring_moved : (p q : ℕ → Point) (d : Point) (n : ℕ) → 0 < n → Linked p q d n → ((m : ℕ) → suc m ≡ n → q m ≡ p 0) → sum_to (moved_at p q d) n ≡ sum_to (area_at p q d) n

@@ -19,6 +19,7 @@ use Rattle.euler_operators.specs.Model.{Model, LoopContent, lone, cycle, EdgeRow
 use Rattle.euler_operators.specs.Sound.{Sound, Has, HasHalf, StandsIn, IsTail, IsLoneAt, NumbersFit}
 use Rattle.euler_operators.proofs.Halves.{mate_other, edge_of-mate, mate-mate, same_edge}
 use Rattle.euler_operators.proofs.Models.{in-holds, holds_in, holds-none, cycle_there}
+use Rattle.euler_operators.proofs.Tests.{or_true}
 use Rattle.euler_operators.specs.Effect.{kev, without_edge, moved_tail, cycle_or_lone}
 use Rattle.euler_laws.proofs.shared.Fans.{Fan, fan_of, half_after, half_mate, loop_after, ring_reaches, fixed_reaches, two_reaches}
 use Rattle.euler_laws.proofs.shared.Loops.{IsLoop, count_out, count_gone, apart_out, ring_out, light, loop_sound, Walks, loop_at, stands-walks, one_loop-walks, cycles-walks, ends_meet-walks, one_fan-walks}
@@ -94,10 +95,6 @@ module _ (M : Model) (sound : Sound M) (h : ℕ) (goes : KevGoes M h) where
 
   pub new_h : (c : LoopContent) → IsIn h (items_of c) → new c ≡ cycle_or_lone (out c) u
   new_h c a = ap (λ t. cond (t || holds m c) (cycle_or_lone (out c) u) c) (in-holds h c a)
-
-  pub or_true : (b : Bool) → (b || true) ≡ true
-  or_true true = refl
-  or_true false = refl
 
   pub new_m : (c : LoopContent) → IsIn m (items_of c) → new c ≡ cycle_or_lone (out c) u
   new_m c a = ap (λ t. cond (holds h c || t) (cycle_or_lone (out c) u) c) (in-holds m c a) ∙ ap (λ t. cond t (cycle_or_lone (out c) u) c) (or_true (holds h c))

@@ -6,18 +6,18 @@ use Rattle.euler_operators.specs.Table as table
 use Rattle.euler_operators.specs.Table.{Table, map_rows, tables}
 use Rattle.euler_operators.specs.Model.{Model, FaceRow, no_face, loop_of, face_of, solid_of, outer, is_number, faces_of}
 use Rattle.euler_operators.specs.Sound.{Sound, Has, HasHalf}
-use Rattle.euler_operators.proofs.Halves.{plus_row}
+use Rattle.euler_operators.proofs.Halves.{plus_row, mate_plus, mate_minus}
 use Rattle.euler_operators.proofs.Models.{row_of}
-use Rattle.euler_operators.proofs.Tables.{put-remove, remove-put, map_same, first_where_zero, zero_first_where}
+use Rattle.euler_operators.proofs.Tables.{put-remove, remove-put, map_same, first_where_zero, zero_first_where, no_row}
+use Rattle.euler_operators.proofs.Tests.{and_false}
 use Rattle.euler_operators.specs.declared.Op.TheVariants.{Merge, Part}
 use Rattle.euler_operators.specs.Conditions.{Condition, AllHold, first_false, conditions, numbers_in_range, faces_known, faces_in, face_at, lists, lists_all, strictly_rises, is_empty, torn_edge, differ}
 use Rattle.euler_operators.specs.Effect.{effect, inverse, merge, part, faces_to_solid}
-use Rattle.euler_laws.proofs.shared.Goes.{all_hold, none_refuses, not_true, not_false, free, taken, equal, equals, not_back, no_zero}
+use Rattle.euler_laws.proofs.shared.Goes.{all_hold, none_refuses, not_true, not_false, taken, equal, equals, not_back, no_zero}
 use Rattle.euler_laws.proofs.shared.Fans.{half_mate}
 use Rattle.euler_laws.proofs.shared.Loops.{some_row}
 use Rattle.euler_laws.proofs.shared.Arcs.{halves_of_edge}
 use Rattle.euler_laws.proofs.shared.Same.{map_twice}
-use Rattle.euler_laws.proofs.shared.Undo.{mate_plus, mate_minus}
 use Rattle.euler_laws.proofs.shared.Rows.{face_there, solid_row}
 use Rattle.euler_laws.proofs.shared.Listed.{listed_as, listed_passes, passes_listed, all_where-rises, first_listed, rest_listed, listed_cases}
 use Rattle.euler_laws.proofs.merge.Merge as joins
@@ -262,10 +262,7 @@ out_left fs [] f l o = absurd (true≢false (sym l))
 out_left fs (n ∷ ns) f l o = elim (listed_cases n f ns l) [
   | inl e ↦ ap (λ b. b && lists_all fs ns) (ap (lists fs) (sym e) ∙ o)
   | inr r ↦ ap (λ b. lists fs n && b) (out_left fs ns f r o) ∙ and_false (lists fs n)
-] where
-  and_false : (b : Bool) → (b && false) ≡ false
-  and_false true = refl
-  and_false false = refl
+]
 
 -- no edge is torn
 same_means : (a b : Bool) → a ≡ b → differ a b ≡ false
@@ -311,7 +308,7 @@ part_goes M s t fs sound e =
     let i = face_in M s o.0 o.1 in
     record {
       s_there = x.0;
-      t_free = free _ (not_true _ x.1.0);
+      t_free = no_row _ (not_true _ x.1.0);
       t_fits = w.1.0;
       each = λ f l. (hold_known M fs z.0 f l, hold_in M s fs z.1 f l);
       listed = some_listed fs n.first;

@@ -5,7 +5,7 @@ use Rattle.euler_operators.specs.Items.{count, tick, IsIn, IsApart, head_or, bef
 use Rattle.euler_operators.specs.Rings.{rest, successor, predecessor, IsPath, IsRing}
 use Rattle.euler_operators.proofs.Lists.{count-append, tick_same, tick_other, split_at, IsIn_or_not}
 use Rattle.euler_operators.proofs.Operators.{apart_back}
-use Rattle.euler_operators.proofs.Rings.{rotation_at, count_at, IsRing-same, next_is_successor, IsIn_successor, IsIn_predecessor, successor-predecessor, IsPath-append, IsPath-left}
+use Rattle.euler_operators.proofs.Rings.{rotation_at, count_at, IsRing-same, IsIn_successor, IsIn_predecessor, successor-predecessor, IsPath-append, IsPath-left, ring_stays}
 use Rattle.euler_operators.specs.HalfEdge.{mate}
 use Rattle.euler_operators.specs.Table as table
 use Rattle.euler_operators.specs.Model.{Model, items_of, tail, loop_of, content, cycle_of, after, round}
@@ -33,9 +33,6 @@ path_reaches next x (z ∷ zs) d y p i = elim (eqb_tells y x) [
 -- of two items of a ring each is reached from the other
 pub ring_reaches : (next : ℕ → ℕ) (ws : List ℕ) (x y : ℕ) → IsRing next ws → IsIn x ws → IsIn y ws → Reaches next x y
 ring_reaches next ws x y r i j = path_reaches next x (rest x ws) x y (IsRing-same next ws (x ∷ rest x ws) (rotation_at x ws i) r) (omega (arith, count_at y x ws i))
-
-pub ring_stays : (next : ℕ → ℕ) (xs : List ℕ) (x : ℕ) → IsRing next xs → IsIn x xs → IsIn (next x) xs
-ring_stays next xs x r i = subst (λ q. IsIn q xs) (sym (next_is_successor next xs x r i)) (IsIn_successor x xs i)
 
 -- what is reached from an item of a ring is one
 pub reached_in : (next : ℕ → ℕ) (ws : List ℕ) (x y : ℕ) → IsRing next ws → IsIn x ws → Reaches next x y → IsIn y ws

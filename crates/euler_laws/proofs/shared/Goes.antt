@@ -33,10 +33,6 @@ not_back false e = sym e
 pub no_zero : (n : ℕ) → n ≡ 0 → IsTrue (is_number n) → ⊥
 no_zero n z fits = true≢false (sym fits ∙ ap is_number z)
 
-pub free : {X : Type 0} (o : Option X) → is_some o ≡ false → o ≡ None
-free None e = refl
-free (Some x) e = absurd (true≢false e)
-
 pub taken : {X : Type 0} (o : Option X) → o ≡ None → is_some o ≡ false
 taken o e = ap is_some e
 

@@ -5,7 +5,7 @@ use Rattle.euler_operators.specs.Items.{count, tick, IsIn, IsApart}
 use Rattle.euler_operators.specs.Rings.{canonical, successor, IsRing}
 use Rattle.euler_operators.specs.Edits.{insert_before, without, redirect, led_over}
 use Rattle.euler_operators.proofs.Lists.{tick_same, tick_other, IsIn_or_not}
-use Rattle.euler_operators.proofs.Rings.{IsRing-same, next_is_successor, IsRing-from_successor}
+use Rattle.euler_operators.proofs.Rings.{IsRing-same, next_is_successor, IsRing-from_successor, ring_stays}
 use Rattle.euler_operators.proofs.Rotations.{canonical-rotates, count-canonical, IsApart-canonical, canonical-canonical}
 use Rattle.euler_operators.proofs.Edits.{count-insert_before, count-without, without_none, IsRing-insert_before, IsRing-without}
 use Rattle.euler_operators.proofs.Leads.{IsRing-redirect_other, IsRing-led_over_other}
@@ -17,7 +17,7 @@ use Rattle.euler_operators.specs.Sound.{Sound, Has, HasHalf, StandsIn, Reaches, 
 use Rattle.euler_operators.proofs.Tables.{first_where_is}
 use Rattle.euler_operators.proofs.Models.{content_row, held_row, in-holds, holds_in, holds-none}
 use Rattle.euler_operators.proofs.Halves.{mate-mate}
-use Rattle.euler_laws.proofs.shared.Fans.{Fan, ring_reaches, ring_stays}
+use Rattle.euler_laws.proofs.shared.Fans.{Fan, ring_reaches}
 
 pub some_row : {X : Type 0} (o : Option X) → is_some o ≡ true → (x : X) × (o ≡ Some x)
 some_row None e = absurd (true≢false (sym e))

@@ -17,6 +17,7 @@ use Rattle.euler_operators.specs.Sound.{Sound, Has, HasHalf, IsCycle}
 use Rattle.euler_operators.proofs.Halves.{edge_of-code, edge_of-mate, is_first-mate}
 use Rattle.euler_operators.proofs.Tables.{all_where_none, none_all_where}
 use Rattle.euler_operators.proofs.Models.{face_row}
+use Rattle.euler_operators.proofs.Tests.{none_but}
 use Rattle.euler_operators.specs.Conditions.{has_rings, is_empty, is_lone, lone_vertex}
 use Rattle.euler_operators.specs.Effect.{where_held, edge_row, cycle_or_lone}
 use Rattle.euler_laws.proofs.shared.Loops.{some_row, IsLoop, canonical_cycle, canonical_ring}
@@ -124,9 +125,6 @@ empty_is (x ∷ xs) e = absurd (true≢false e)
 ring_none : (a f o l : ℕ) → (nat_eq a f && not (nat_eq o l)) ≡ false → a ≡ f → o ≡ l
 ring_none a f o l e p = grind (arith, nat_tests)
 
-none_ring : (a f o l : ℕ) → (a ≡ f → o ≡ l) → (nat_eq a f && not (nat_eq o l)) ≡ false
-none_ring a f o l p = grind (arith, nat_tests)
-
 -- a face without a ring has its outer loop only
 pub no_rings_means : (M : Model) (f : ℕ) → has_rings M f ≡ false → (q : ℕ) → Has M.loops q → face_of M q ≡ f → outer M f ≡ q
 unfolding has_rings
@@ -137,7 +135,7 @@ no_rings_means M f e q there p =
 pub means_no_rings : (M : Model) (f : ℕ) → ((q : ℕ) → Has M.loops q → face_of M q ≡ f → outer M f ≡ q) → has_rings M f ≡ false
 unfolding has_rings
 means_no_rings M f n = ap (λ xs. not (is_empty xs)) (all_where_none (λ l row. nat_eq row.face f && not (nat_eq (outer M f) l)) M.loops
-    (λ q row at. none_ring row.face f (outer M f) q (λ e. n q (ap is_some at) (face_row M q row at ∙ e))))
+    (λ q row at. none_but row.face f (outer M f) q (λ e. n q (ap is_some at) (face_row M q row at ∙ e))))
 
 pub lone_is : (c : LoopContent) → is_lone c ≡ true → c ≡ lone (lone_vertex c)
 lone_is (lone v) e = refl
@@ -160,9 +158,6 @@ ring_test false b false e = refl
 
 pub test_ring : (a b c : Bool) → a ≡ true → b ≡ true → c ≡ false → (a && b && not c) ≡ true
 test_ring a b c x y z = (λ i. x i && y i && not (z i))
-
-pub same_number : (n : ℕ) → nat_eq n n ≡ true
-same_number n = grind (arith, nat_tests)
 
 -- what follows m in the ring h X m Y
 pub after_second : (hs : List ℕ) → IsCycle hs → (h m : ℕ) → h ≢ m → IsIn h hs → IsIn m hs → successor hs m ≡ head_or h (beyond h m hs)

@@ -1,11 +1,13 @@
 -- The conditions of a glue, part by part.
-use Rattle.std.proofs.Common.{◌≡◌, ◌≢◌, ℕ, ◌≤◌, ◌+◌, Bool, true, false, cond, not, ◌&&◌, ◌||◌, nat_eq, nat_le, List, [], ◌∷◌, ◌++◌, Option, Some, None, Result, Ok, Err, is_err, is_some, unwrap_or, refl, sym, ap, ◌∙◌, arith, true≢false, inl, inr}
+use Rattle.std.proofs.Common.{◌≡◌, ℕ, ◌≤◌, ◌+◌, Bool, true, false, cond, not, ◌&&◌, ◌||◌, nat_eq, nat_le, List, [], ◌∷◌, ◌++◌, Option, Some, None, Result, Ok, Err, is_err, is_some, unwrap_or, refl, sym, ap, ◌∙◌, arith, true≢false, inl, inr}
 use Rattle.std.proofs.lemmas.Bool.Decides.{nat_tests}
 use Rattle.std.proofs.lemmas.Bool.{cases_eq}
 use Rattle.euler_operators.specs.Table.{Table, get, greatest}
-use Rattle.euler_operators.specs.Model.{Model, LoopRow, no_loop, content, face_of, solid_of, outer, faces_of, is_number}
+use Rattle.euler_operators.specs.Model.{Model, LoopRow, no_loop, content, face_of, solid_of, outer, faces_of}
 use Rattle.euler_operators.specs.Sound.{Sound, Has, NumbersFit}
 use Rattle.euler_operators.proofs.Tables.{zero_first_where}
+use Rattle.euler_operators.proofs.Tests.{first_fails, or_true}
+use Rattle.euler_operators.proofs.Models.{number_fits, loop_number}
 use Rattle.euler_operators.specs.Conditions.{Condition, first_refusal, verdict, is_lone, lists, need}
 use Rattle.euler_operators.specs.declared.Why.TheVariants.{LoneLoop, NotFlat, NumbersSpent}
 use Rattle.euler_operators.specs.declared.Refusal.{Refusal}
@@ -53,9 +55,6 @@ pub all_passed : (xs : List Condition) (v : Result (Unit {0}) Refusal) → v ≡
 all_passed xs (Ok u) is e = passed (first_refusal xs) u is
 all_passed xs (Err r) is e = absurd (true≢false e)
 
-number_fits : (n : ℕ) → is_number n ≡ true → n ≤ 1000000
-number_fits n e = grind (arith, nat_tests)
-
 -- no number in use passes the limit
 greatest_fits : {X : Type 0} (t : Table X) → NumbersFit t → greatest t ≤ 1000000
 greatest_fits t fits = elim (cases_eq (greatest t) 0) [ inl z ↦ omega (arith, z) | inr n ↦ number_fits (greatest t) (fits (greatest t) (greatest_used t n)) ]
@@ -79,17 +78,7 @@ module _ (M : Model) (sound : Sound M) where
   pub one_left : (greatest M.edges ≡ 1000000 → ⊥) → verdict (first_refusal (numbers_left (taken_in M) 0 0 1 0)) ≡ Ok tt
   one_left ne = ap verdict (left_is true (let l : greatest M.edges ≤ 1000000 = greatest_fits M.edges sound.edges_fit in grind (arith, nat_tests)))
 
-both : (a b : Bool) → a && b ≡ true → (a ≡ true) × (b ≡ true)
-both true true e = (refl, refl)
-both true false e = absurd (true≢false (sym e))
-both false b e = absurd (true≢false (sym e))
-
 module _ (M : Model) (sound : Sound M) where
-  positive : (q : ℕ) (row : LoopRow) → get M.loops q ≡ Some row → q ≢ 0
-  positive q row e z = no_zero q z (sound.loops_fit q (ap is_some e)) where
-    no_zero : (q : ℕ) → q ≡ 0 → is_number q ≡ true → ⊥
-    no_zero q z e = true≢false (sym e ∙ ap is_number z)
-
   -- where no loop of some faces is lone, none of their outer loops is
   pub outer_held : (fs : List ℕ) (f : ℕ) → least_lone M fs ≡ 0 → Has M.faces f → lists fs f ≡ true → is_lone (content M (outer M f)) ≡ false
   unfolding content face_of
@@ -100,22 +89,15 @@ module _ (M : Model) (sound : Sound M) where
     go : (o : Option LoopRow) → get M.loops (outer M f) ≡ o → is_lone (unwrap_or (get M.loops (outer M f)) no_loop).content ≡ false
     go None e = ap (λ o. is_lone (unwrap_or o no_loop).content) e
     go (Some row) e =
-        let p = zero_first_where (λ _ row. is_lone row.content && lists fs row.face) M.loops positive none (outer M f) row e in
+        let p = zero_first_where (λ _ row. is_lone row.content && lists fs row.face) M.loops (loop_number M sound) none (outer M f) row e in
         let face : row.face ≡ f = sym (ap (λ o. (unwrap_or o no_loop).face) e) ∙ its_face in
-        ap (λ o. is_lone (unwrap_or o no_loop).content) e ∙ other (is_lone row.content) (lists fs row.face) (ap (lists fs) face ∙ listed) p where
-          other : (a b : Bool) → b ≡ true → a && b ≡ false → a ≡ false
-          other true true t e = e
-          other true false t e = absurd (true≢false (sym t))
-          other false b t e = refl
+        ap (λ o. is_lone (unwrap_or o no_loop).content) e ∙ first_fails (is_lone row.content) (lists fs row.face) p (ap (lists fs) face ∙ listed)
 
   listed_first : (s t f : ℕ) → Has M.faces f → solid_of M f ≡ s → lists (faces_of_both M s t) f ≡ true
   listed_first s t f there e = lists_member (faces_of_both M s t) f ∙ member_both M s t f ∙ ap (λ b. b || member f (faces_of M t)) (member_faces M s f ∙ (let n : nat_eq (solid_of M f) s ≡ true = grind (arith, nat_tests) in λ i. there i && n i))
 
   listed_second : (s t f : ℕ) → Has M.faces f → solid_of M f ≡ t → lists (faces_of_both M s t) f ≡ true
-  listed_second s t f there e = lists_member (faces_of_both M s t) f ∙ member_both M s t f ∙ ap (λ b. member f (faces_of M s) || b) (member_faces M t f ∙ (let n : nat_eq (solid_of M f) t ≡ true = grind (arith, nat_tests) in λ i. there i && n i)) ∙ or_true (member f (faces_of M s)) where
-    or_true : (a : Bool) → a || true ≡ true
-    or_true true = refl
-    or_true false = refl
+  listed_second s t f there e = lists_member (faces_of_both M s t) f ∙ member_both M s t f ∙ ap (λ b. member f (faces_of M s) || b) (member_faces M t f ∙ (let n : nat_eq (solid_of M f) t ≡ true = grind (arith, nat_tests) in λ i. there i && n i)) ∙ or_true (member f (faces_of M s))
 
 -- the conditions of a glue, one part after the other
 module _ (M : Model) (f g : ℕ) where

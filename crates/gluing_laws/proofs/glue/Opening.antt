@@ -18,13 +18,13 @@ use Rattle.euler_operators.specs.declared.Corner.TheVariants.{At}
 use Rattle.euler_operators.specs.Model.{Model, FaceRow, LoopRow, EdgeRow, lone, cycle, LoopContent, items_of, holds, tail, tail_in, loop_of, content, face_of, solid_of, outer, cycle_of, no_face, is_number}
 use Rattle.euler_operators.specs.Model as model
 use Rattle.euler_operators.specs.Sound.{Sound, Has, HasHalf}
-use Rattle.euler_operators.proofs.Halves.{code-half, plus_row, minus_row, edge_of-mate}
+use Rattle.euler_operators.proofs.Halves.{code-half, plus_row, minus_row, edge_of-mate, mate_plus}
 use Rattle.euler_operators.proofs.Tables.{map-put, map_same, map_one, remove-put}
 use Rattle.euler_operators.proofs.Models.{content_row, face_row, tail_row, in-holds, holds-none, not_held}
 use Rattle.euler_operators.specs.declared.Op.TheVariants.{Kev, Mekr, Kfmrh, Merge}
 use Rattle.euler_operators.specs.Conditions.{first_false}
 use Rattle.euler_operators.specs.Effect.{effect, merge, kfmrh, mekr, kev, faces_to_solid, loop_to_face, moved_tail, edge_row}
-use Rattle.euler_laws.proofs.shared.Undo.{mate_plus, both_out}
+use Rattle.euler_laws.proofs.shared.Undo.{both_out}
 use Rattle.euler_laws.proofs.shared.Rows.{face_there}
 use Rattle.euler_laws.proofs.shared.Goes.{equals, differs}
 use Rattle.euler_laws.proofs.merge.Merge.{MergeGoes, merge_accepted}

@@ -2,6 +2,7 @@
 use Rattle.std.proofs.Common.{◌≡◌, ◌≢◌, ℕ, ◌+◌, ◌<◌, Bool, true, false, cond, nat_eq, ◌||◌, List, [], ◌∷◌, ◌++◌, length, take, get_or, Option, Some, None, is_some, unwrap_or, refl, sym, ap, ◌∙◌, arith, inl, inr}
 use Rattle.std.specs.Option.{option_map}
 use Rattle.std.proofs.lemmas.Bool.Decides.{nat_tests, eqb_tells}
+use Rattle.std.proofs.lemmas.Bool.{eq-eqb}
 use Rattle.std.proofs.lemmas.List.{take_more}
 use Rattle.euler_operators.specs.Table as table
 use Rattle.euler_operators.specs.Table.{Table, map_rows, put, same_table, get-map_rows, get-put}
@@ -12,6 +13,7 @@ use Rattle.euler_operators.specs.Conditions.{Condition, AllHold, need, never, is
 use Rattle.euler_operators.specs.declared.Op.TheVariants.{Part}
 use Rattle.euler_operators.specs.declared.Why.TheVariants.{NoSolid, SolidTaken, BadPart}
 use Rattle.euler_operators.specs.Effect.{faces_to_solid}
+use Rattle.euler_operators.proofs.Tests.{or_true}
 use Rattle.euler_laws.proofs.shared.Goes.{all_hold}
 use Rattle.euler_laws.proofs.shared.Loops.{some_row}
 use Rattle.euler_laws.proofs.shared.Listed.{listed_cases, listed_as}
@@ -35,16 +37,9 @@ or_none : (a : Bool) → (a || false) ≡ a
 or_none true = refl
 or_none false = refl
 
-or_all : (a : Bool) → (a || true) ≡ true
-or_all true = refl
-or_all false = refl
-
 lists-push : (fs : List ℕ) (f q : ℕ) → lists (fs ++ f ∷ []) q ≡ (lists fs q || nat_eq f q)
 lists-push [] f q = or_none (nat_eq f q)
 lists-push (g ∷ fs) f q = ap (λ b. nat_eq g q || b) (lists-push fs f q) ∙ or_assoc (nat_eq g q) (lists fs q) (nat_eq f q)
-
-same : (a b : ℕ) → a ≡ b → nat_eq a b ≡ true
-same a b e = grind (arith, nat_tests)
 
 apart : (a b : ℕ) → a ≢ b → nat_eq b a ≡ false
 apart a b e = grind (arith, nat_tests)
@@ -70,7 +65,7 @@ module _ (M : Model) (fs : List ℕ) (n f : ℕ) (there : Has M.faces f) where
         let r = some_row (table.get M.faces f) there in
         ap (λ b. cond b (Some (record { solid = n; outer = outer N f })) (table.get old q)) e.0
         ∙ ap (λ l. Some (record { solid = n; outer = l })) (here r.0 r.1)
-        ∙ sym (ap (λ b. Some (cond b (record r.0 { solid = n }) r.0)) (lists-push fs f f ∙ ap (λ b. lists fs f || b) (same f f refl) ∙ or_all (lists fs f)))
+        ∙ sym (ap (λ b. Some (cond b (record r.0 { solid = n }) r.0)) (lists-push fs f f ∙ ap (λ b. lists fs f || b) (eq-eqb f f refl) ∙ or_true (lists fs f)))
         ∙ sym (ap (λ k. table.get (map_rows (given (fs ++ f ∷ []) n) M.faces) k) e.1 ∙ get-map_rows (given (fs ++ f ∷ []) n) M.faces f ∙ ap (option_map (given (fs ++ f ∷ []) n f)) r.1)
     | inr e ↦
         ap (λ b. cond b (Some (record { solid = n; outer = outer N f })) (table.get old q)) e.0

@@ -14,7 +14,7 @@ use Rattle.euler_operators.specs.Model.{Model, LoopContent, LoopRow, cycle, item
 use Rattle.euler_operators.specs.Sound.{Sound}
 use Rattle.euler_operators.proofs.Halves.{mate_other}
 use Rattle.euler_operators.proofs.Tables.{put_same}
-use Rattle.euler_operators.proofs.Models.{row_of}
+use Rattle.euler_operators.proofs.Models.{row_of, number_real}
 use Rattle.euler_operators.specs.declared.Op.TheVariants.{Kef}
 use Rattle.euler_operators.specs.Conditions.{face_at}
 use Rattle.euler_operators.specs.Effect.{effect, kef, cycle_or_lone}
@@ -29,7 +29,7 @@ use Rattle.low_euler.proofs.loop_steps_laws.RingSteps.{rest_joined, rest_both}
 use Rattle.low_euler.proofs.loop_steps_laws.TwoLoops as two
 use Rattle.low_euler.proofs.loop_steps_laws.TwoLoops.{TwoLoops}
 use Rattle.low_euler.proofs.loop_steps_laws.LooseRings.{pair, get_plus, get_minus, edge_gone, halves_back}
-use Rattle.low_euler.proofs.loop_steps_laws.SoundLoops.{number_real, sound_loops}
+use Rattle.low_euler.proofs.loop_steps_laws.SoundLoops.{sound_loops}
 
 filled : (ys : List ℕ) (v : ℕ) → ys ≢ [] → cycle_or_lone ys v ≡ cycle (canonical ys)
 filled [] v e = absurd (e refl)

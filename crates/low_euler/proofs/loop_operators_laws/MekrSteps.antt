@@ -16,7 +16,7 @@ use Rattle.euler_operators.specs.Model.{Model, LoopContent, lone, cycle, items_o
 use Rattle.euler_operators.specs.Sound.{Sound}
 use Rattle.euler_operators.proofs.Halves.{mate_other}
 use Rattle.euler_operators.proofs.Tables.{put_same}
-use Rattle.euler_operators.proofs.Models.{cycle_there}
+use Rattle.euler_operators.proofs.Models.{cycle_there, number_real}
 use Rattle.euler_operators.specs.declared.Op.TheVariants.{Mekr}
 use Rattle.euler_operators.specs.Conditions.{first_false, conditions, corner_known, corner_lone, corner_loop, corner_tail, corner_list, is_lone}
 use Rattle.euler_operators.specs.Effect.{effect, mekr, edge_row}
@@ -31,7 +31,7 @@ use Rattle.low_euler.proofs.loop_steps_laws.StoreSteps.{remove-put_same}
 use Rattle.low_euler.proofs.loop_steps_laws.TwoLoops as two
 use Rattle.low_euler.proofs.loop_steps_laws.TwoLoops.{TwoLoops}
 use Rattle.low_euler.proofs.loop_steps_laws.LooseRings.{AreSingles, pair, pair_singles, get_first, left_second, pair_gone, singles_remove, key_is, ring_is}
-use Rattle.low_euler.proofs.loop_steps_laws.SoundLoops.{number_real, edged_loops, none_h, none_m}
+use Rattle.low_euler.proofs.loop_steps_laws.SoundLoops.{edged_loops, none_h, none_m}
 
 -- the two corners, by the conditions
 corner_there : (M : Model) (c : Corner) → (corner_known M c).holds ≡ true → (corner_lone M c).holds ≡ true → IsCorner M c

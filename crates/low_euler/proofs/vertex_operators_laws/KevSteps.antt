@@ -17,6 +17,7 @@ use Rattle.euler_operators.specs.Model.{Model, LoopContent, lone, cycle, no_loop
 use Rattle.euler_operators.specs.Sound.{Sound, HasHalf}
 use Rattle.euler_operators.proofs.Halves.{mate_other, mate-mate, edge_of-code}
 use Rattle.euler_operators.proofs.Models.{in-holds, holds-none, cycle_there, row_of}
+use Rattle.euler_operators.proofs.Tables.{get-put_here, get-put_other}
 use Rattle.euler_operators.specs.declared.Op.TheVariants.{Kev}
 use Rattle.euler_operators.specs.Effect.{effect, kev, cycle_or_lone}
 use Rattle.euler_laws.proofs.shared.Fans.{Fan, half_after, half_mate, loop_after}
@@ -36,7 +37,6 @@ use Rattle.low_euler.proofs.vertex_operators_laws.EdgeSteps.{edge_codes}
 use Rattle.low_euler.proofs.vertex_operators_laws.StoreSteps.{placed_of, placed-same, loop-same, content-same, face_of-same, never_zero, placed-taken, loop-taken, content-O, face-O, has-O}
 use Rattle.low_euler.proofs.vertex_operators_laws.Tails.{loops-tails, half-tails, edges-tails, tail-tails}
 use Rattle.low_euler.proofs.vertex_operators_laws.LoneSteps.{loose_again}
-use Rattle.low_euler.proofs.vertex_operators_laws.PutRows.{put_row, put_other}
 
 -- ---- two half-edges taken out of what a loop holds
 
@@ -310,19 +310,19 @@ module _ (s : Store) (half : HalfEdge) (ok : Accepts s (Kev half)) where
 
     content_at : content L.model l ≡ lone u
     unfolding content
-    content_at = ap (λ o. (unwrap_or o no_loop).content) (put_row G.model.loops l (record { face = face_of G.model l; content = lone u }))
+    content_at = ap (λ o. (unwrap_or o no_loop).content) (get-put_here G.model.loops l (record { face = face_of G.model l; content = lone u }))
 
     content_off : (q : ℕ) → q ≢ l → content L.model q ≡ content G.model q
     unfolding content
-    content_off q ne = ap (λ o. (unwrap_or o no_loop).content) (put_other G.model.loops l q (record { face = face_of G.model l; content = lone u }) ne)
+    content_off q ne = ap (λ o. (unwrap_or o no_loop).content) (get-put_other G.model.loops l (record { face = face_of G.model l; content = lone u }) q ne)
 
     face_at : face_of L.model l ≡ face_of G.model l
     unfolding face_of
-    face_at = ap (λ o. (unwrap_or o no_loop).face) (put_row G.model.loops l (record { face = (unwrap_or (table.get G.model.loops l) no_loop).face; content = lone u }))
+    face_at = ap (λ o. (unwrap_or o no_loop).face) (get-put_here G.model.loops l (record { face = (unwrap_or (table.get G.model.loops l) no_loop).face; content = lone u }))
 
     face_off : (q : ℕ) → q ≢ l → face_of L.model q ≡ face_of G.model q
     unfolding face_of
-    face_off q ne = ap (λ o. (unwrap_or o no_loop).face) (put_other G.model.loops l q (record { face = (unwrap_or (table.get G.model.loops l) no_loop).face; content = lone u }) ne)
+    face_off q ne = ap (λ o. (unwrap_or o no_loop).face) (get-put_other G.model.loops l (record { face = (unwrap_or (table.get G.model.loops l) no_loop).face; content = lone u }) q ne)
 
     apart_off : (q : ℕ) → q ≢ l → IsIn h (items_of (content M q)) ⊎ IsIn m (items_of (content M q)) → ⊥
     apart_off q ne i = elim i [
@@ -344,8 +344,8 @@ module _ (s : Store) (half : HalfEdge) (ok : Accepts s (Kev half)) where
 
     has_L : (q : ℕ) → table.has L.model.loops q ≡ table.has (kev M h).loops q
     has_L q = elim (eqb_tells q l) [
-      | inl e ↦ ap (table.has L.model.loops) e.1 ∙ ap is_some (put_row G.model.loops l (record { face = face_of G.model l; content = lone u })) ∙ sym (ap (table.has (kev M h).loops) e.1 ∙ sym (has_made l) ∙ loop_there)
-      | inr e ↦ ap is_some (put_other G.model.loops l q (record { face = face_of G.model l; content = lone u }) e.1) ∙ has_made q
+      | inl e ↦ ap (table.has L.model.loops) e.1 ∙ ap is_some (get-put_here G.model.loops l (record { face = face_of G.model l; content = lone u })) ∙ sym (ap (table.has (kev M h).loops) e.1 ∙ sym (has_made l) ∙ loop_there)
+      | inr e ↦ ap is_some (get-put_other G.model.loops l (record { face = face_of G.model l; content = lone u }) q e.1) ∙ has_made q
     ]
 
     loops_lone : L.model.loops ≡ (kev M h).loops

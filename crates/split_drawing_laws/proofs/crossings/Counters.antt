@@ -8,6 +8,7 @@ use Rattle.euler_operators.specs.Table as table
 use Rattle.euler_operators.specs.Table.{Table, greatest_in, map_entries}
 use Rattle.euler_operators.specs.Model.{Model, tail}
 use Rattle.euler_operators.specs.Sound.{Has}
+use Rattle.euler_operators.proofs.Tables.{greatest-map}
 use Rattle.shapes.proofs.fresh.Rows.{greatest-put_last, greatest_is, greatest_used, free_above, at_most_greatest, get-put_here, get-put_other, put_turned}
 use Rattle.shapes.specs.Fresh.{taken_in}
 use Rattle.shapes.specs.Rewriting.{rewritten_row}
@@ -17,11 +18,6 @@ greatest-entries : {X : Type 0} (f : ℕ → X → X) (es : List (ℕ × X)) →
 greatest-entries f [] = refl
 greatest-entries f (e ∷ []) = refl
 greatest-entries f (e ∷ d ∷ es) = greatest-entries f (d ∷ es)
-
--- rows rewritten or put where rows are leave the greatest number
-greatest-map : {X : Type 0} (f : ℕ → X → X) (t : Table X) → table.greatest (table.map_rows f t) ≡ table.greatest t
-unfolding table.greatest table.map_rows
-greatest-map f t = greatest-entries f t.rows
 
 greatest-put_old : {X : Type 0} (t : Table X) (n : ℕ) (x : X) → Has t n → table.greatest (table.put t n x) ≡ table.greatest t
 greatest-put_old t n x there = greatest_is (table.put t n x) (table.greatest t)

@@ -9,8 +9,9 @@ use Rattle.euler_operators.specs.declared.Point.{Point}
 use Rattle.euler_operators.specs.declared.Plane.{Plane}
 use Rattle.euler_operators.specs.Points.{is_coordinate, IsInRange}
 use Rattle.euler_operators.specs.Ranges.{IsWithin}
-use Rattle.euler_operators.specs.Vectors.{height, opposite, are_opposite, same_point, cut_between}
+use Rattle.euler_operators.specs.Vectors.{height, opposite, are_opposite, cut_between}
 use Rattle.euler_operators.proofs.Magnitudes.{coordinates, coordinate_within, product_within}
+use Rattle.euler_operators.proofs.Crossings.{turned_difference}
 
 -- ---- signs
 
@@ -29,15 +30,6 @@ not_level m n e = grind (arith, ints)
 pub level_is : (n : ℤ) → int_eq n (pos 0) ≡ true → n ≡ pos 0
 level_is n e = grind (arith, ints)
 
-apart : (m n : ℤ) → opposite m n ≡ true → m -ℤ n ≢ pos 0
-apart m n e z = grind (arith, ints)
-
-same_int : (n : ℤ) → int_eq n n ≡ true
-same_int n = grind (arith, ints)
-
-pub same_as : (p q : Point) → p ≡ q → same_point p q ≡ true
-same_as p q e = ap (same_point p) (sym e) ∙ (λ i. same_int p.x i && same_int p.y i && same_int p.z i)
-
 -- ---- the same from either end
 
 nothing_divided : (n : ℕ) → 0 / suc n ≡ 0
@@ -52,18 +44,8 @@ turned_quotient (pos zero) (negsuc b) ne = ap pos (nothing_divided b) ∙ sym (a
 turned_quotient (pos (suc a)) (negsuc b) ne = refl
 turned_quotient (negsuc a) (negsuc b) ne = refl
 
-turned_difference : (a b : ℤ) → b -ℤ a ≡ neg_ℤ (a -ℤ b)
-turned_difference a b = omega (arith, ints)
-
 back_quotient : (p q m n : ℤ) → m -ℤ n ≢ pos 0 → int_div (p *ℤ n -ℤ q *ℤ m) (n -ℤ m) ≡ int_div (q *ℤ m -ℤ p *ℤ n) (m -ℤ n)
 back_quotient p q m n ne = (λ i. int_div (turned_difference (q *ℤ m) (p *ℤ n) i) (turned_difference m n i)) ∙ turned_quotient (q *ℤ m -ℤ p *ℤ n) (m -ℤ n) ne
-
-pub cut_back : (s : Plane) (p q : Point) → are_opposite s p q ≡ true → cut_between s q p ≡ cut_between s p q
-cut_back s p q o = let ne : height s p -ℤ height s q ≢ pos 0 = apart (height s p) (height s q) o in λ i. record {
-  x = back_quotient p.x q.x (height s p) (height s q) ne i;
-  y = back_quotient p.y q.y (height s p) (height s q) ne i;
-  z = back_quotient p.z q.z (height s p) (height s q) ne i;
-}
 
 -- ---- in range
 

@@ -26,34 +26,6 @@ pub listed_in : (x : ℕ) (ns : List ℕ) → lists ns x ≡ true → IsIn x ns
 listed_in x [] l = absurd (true≢false (sym l))
 listed_in x (n ∷ ns) l = elim (listed_cases n x ns l) [ inl e ↦ here x n ns e | inr r ↦ omega (arith, listed_in x ns r) ]
 
--- what passes stands in the list of what passes, no oftener than before
-pub picked : (p : ℕ → Bool) (x : ℕ) (ns : List ℕ) → IsIn x ns → p x ≡ true → IsIn x (filter p ns)
-picked p x [] i e = absurd (omega arith)
-picked p x (n ∷ ns) i e = elim (eqb_tells x n) [
-  | inl s ↦ subst (λ b. IsIn x (cond b (n ∷ filter p ns) (filter p ns))) (sym (ap p (sym s.1) ∙ e)) (here x n (filter p ns) s.1)
-  | inr s ↦ later (p n) (picked p x ns (omega (arith, i, tick_other x n s.1)) e)
-] where
-  later : (b : Bool) → IsIn x (filter p ns) → IsIn x (cond b (n ∷ filter p ns) (filter p ns))
-  later true j = omega (arith, j)
-  later false j = j
-
-pub picked_count : (p : ℕ → Bool) (x : ℕ) (ns : List ℕ) → count x (filter p ns) ≤ count x ns
-picked_count p x [] = omega arith
-picked_count p x (n ∷ ns) = go (p n) (picked_count p x ns) where
-  go : (b : Bool) → count x (filter p ns) ≤ count x ns → count x (cond b (n ∷ filter p ns) (filter p ns)) ≤ tick x n + count x ns
-  go true l = omega (arith, l)
-  go false l = omega (arith, l)
-
-pub picked_passes : (p : ℕ → Bool) (x : ℕ) (ns : List ℕ) → IsIn x (filter p ns) → p x ≡ true
-picked_passes p x [] i = absurd (omega arith)
-picked_passes p x (n ∷ ns) i = go (p n) refl i (λ j. picked_passes p x ns j) where
-  go : (b : Bool) → p n ≡ b → IsIn x (cond b (n ∷ filter p ns) (filter p ns)) → (IsIn x (filter p ns) → p x ≡ true) → p x ≡ true
-  go true e j more = elim (eqb_tells x n) [
-    | inl s ↦ ap p s.1 ∙ e
-    | inr s ↦ more (omega (arith, j, tick_other x n s.1))
-  ]
-  go false e j more = more j
-
 pub picked_none : (p : ℕ → Bool) (ns : List ℕ) → ((x : ℕ) → IsIn x ns → p x ≡ false) → filter p ns ≡ []
 picked_none p [] none = refl
 picked_none p (n ∷ ns) none = ap (λ b. cond b (n ∷ filter p ns) (filter p ns)) (none n (here n n ns refl)) ∙ picked_none p ns (λ x i. none x (omega (arith, i)))

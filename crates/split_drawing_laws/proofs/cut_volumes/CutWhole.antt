@@ -1,5 +1,6 @@
 -- All edges of a solid that cross a plane cut: from the first conditions of a split to normals, planes and volumes.
 use Rattle.std.proofs.Common.{◌≡◌, ℕ, true, not, ◌&&◌, [], None}
+use Rattle.std.proofs.lemmas.Bool.{and_parts}
 use Rattle.euler_operators.specs.declared.Plane.{Plane}
 use Rattle.euler_operators.specs.Vectors.{origin, same_point, direction}
 use Rattle.euler_operators.specs.Items.{IsIn}
@@ -11,7 +12,7 @@ use Rattle.shapes.proofs.fresh.Tests.{none_such}
 use Rattle.shapes.specs.Faces.{corners}
 use Rattle.shapes.specs.Fresh.{first_such, growing}
 use Rattle.shapes.specs.Measure.{normal, plane_of, is_plane_of, is_flat, six_volume}
-use Rattle.solid_measure_laws.proofs.FlatFaces.{and_parts, are_on}
+use Rattle.solid_measure_laws.proofs.FlatFaces.{are_on}
 use Rattle.shapes.specs.split.Sides.{crossing_edges}
 use Rattle.shapes.specs.split.Crossings.{with_crossings}
 use Rattle.shapes.specs.split.Split.{first_conditions}

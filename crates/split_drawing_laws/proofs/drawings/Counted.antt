@@ -5,6 +5,7 @@ use Rattle.euler_operators.specs.declared.Plane.{Plane}
 use Rattle.euler_operators.specs.Vectors.{lex_less}
 use Rattle.euler_operators.specs.Items.{IsApart}
 use Rattle.euler_operators.specs.Model.{Model, faces_of}
+use Rattle.euler_operators.proofs.Members.{count-filter}
 use Rattle.euler_laws.proofs.shared.Listed.{all_where-rises}
 use Rattle.shapes.proofs.fresh.Rows.{none_above}
 use Rattle.solid_walks.proofs.Rising.{counted_once}
@@ -14,7 +15,6 @@ use Rattle.shapes.specs.split.Places.{places, place_point, sorted_in, sorted, in
 use Rattle.shapes.specs.split.Drawing.{from_place, drawn_pairs}
 use Rattle.split_drawing_laws.specs.drawings.DrawnIn.{Fresh}
 use Rattle.split_drawing_laws.specs.drawings.Pairs.{pairs_in}
-use Rattle.split_drawing_laws.proofs.drawings.Rings.{count-filter}
 
 -- above the greatest numbers in use all are free
 pub fresh_taken : (M : Model) → Fresh M (taken_in M)

@@ -10,12 +10,11 @@ use Rattle.euler_operators.specs.Table as table
 use Rattle.euler_operators.specs.Table.{Table, tables, same_table}
 use Rattle.euler_operators.specs.Model.{Model, LoopRow, cycle, tail, loop_of, cycle_of, solid_of, outer, is_number}
 use Rattle.euler_operators.specs.Sound.{Sound, HasHalf}
-use Rattle.euler_operators.proofs.Halves.{plus_row, code-half, edge_of-code}
+use Rattle.euler_operators.proofs.Halves.{plus_row, code-half, edge_of-code, mate_plus}
 use Rattle.euler_operators.proofs.Models.{row_of}
 use Rattle.euler_operators.specs.Conditions.{first_false, face_at}
 use Rattle.euler_operators.specs.Effect.{effect, mef, mekr, ring_in, edge_row}
 use Rattle.euler_operators.specs.declared.Op.TheVariants.{RingIn}
-use Rattle.euler_laws.proofs.shared.Undo.{mate_plus}
 use Rattle.euler_laws.proofs.shared.Rows.{of_half}
 use Rattle.euler_laws.proofs.mef.MefUndo.{loops-mef}
 use Rattle.euler_laws.proofs.mef.MefSound.{MefGoes}

@@ -5,8 +5,9 @@ use Rattle.euler_operators.specs.Table as table
 use Rattle.euler_operators.specs.Model.{Model, tail, loop_of, face_of, outer, solid_of, is_number, is_ring_of}
 use Rattle.euler_operators.specs.Sound.{Sound, Has, HasHalf}
 use Rattle.euler_operators.proofs.Models.{row_of}
+use Rattle.euler_operators.proofs.Tables.{no_row}
 use Rattle.euler_operators.specs.Conditions.{face_at}
-use Rattle.euler_laws.proofs.shared.Goes.{free, equal, unequal}
+use Rattle.euler_laws.proofs.shared.Goes.{equal, unequal}
 use Rattle.shapes.specs.Fresh.{Taken}
 use Rattle.shapes.specs.split.Drawing.{face_drawn, loops_joined, in_one_loop, joined_pair}
 use Rattle.split_drawing_laws.specs.drawings.DrawingOps.{join_edge, join_pair, draw_edge}
@@ -141,7 +142,7 @@ was_free : (M N : Model) → Stays M N → (g : ℕ) → table.get N.faces g ≡
 was_free M N stays g none = go (table.has M.faces g) refl where
   go : (b : Bool) → table.has M.faces g ≡ b → table.get M.faces g ≡ None
   go true e = absurd (true≢false (sym (stays.faces g e) ∙ ap is_some none))
-  go false e = free (table.get M.faces g) e
+  go false e = no_row (table.get M.faces g) e
 
 module _ (M N : Model) (f : ℕ) (q : ℕ × ℕ) (e g l : ℕ) (sound : Sound M) (drawn : DrawnIn M N f) (fits : Fits M f q) (one : in_one_loop N q ≡ true)
     (edge_free : table.get N.edges e ≡ None) (face_free : table.get N.faces g ≡ None) (loop_free : table.get N.loops l ≡ None)

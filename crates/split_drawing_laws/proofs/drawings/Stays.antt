@@ -9,10 +9,10 @@ use Rattle.euler_operators.proofs.Rotations.{count-canonical, count-rotate_to}
 use Rattle.euler_operators.specs.HalfEdge.{edge_of, is_first, plus, minus}
 use Rattle.euler_operators.specs.Table as table
 use Rattle.euler_operators.specs.Table.{Table, tables}
-use Rattle.euler_operators.specs.Model.{Model, cycle, no_edge, no_loop, no_face, items_of, holds, tail, tail_in, loop_of, content, face_of, solid_of, cycle_of}
+use Rattle.euler_operators.specs.Model.{Model, cycle, no_edge, no_face, items_of, holds, tail, tail_in, loop_of, content, face_of, solid_of, cycle_of}
 use Rattle.euler_operators.specs.Sound.{Sound, Has, HasHalf}
 use Rattle.euler_operators.proofs.Halves.{plus_row, minus_row}
-use Rattle.euler_operators.proofs.Models.{content_row, face_row, tail_row, in-holds, cycle_there, row_of}
+use Rattle.euler_operators.proofs.Models.{content_row, face_row, tail_row, in-holds, cycle_there, same_content, same_face, loop_there}
 use Rattle.euler_operators.specs.Conditions.{face_at}
 use Rattle.euler_laws.proofs.shared.Rows.{count-halves}
 use Rattle.euler_laws.proofs.mef.MefUndo.{count-mef_old, count-mef_new}
@@ -29,20 +29,8 @@ not_free t n k there free e = true≢false (sym there ∙ ap is_some (ap (table.
 pub stands_at : (N : Model) → Sound N → (x q : ℕ) (xs : List ℕ) → content N q ≡ cycle xs → IsIn x xs → loop_of N x ≡ q
 stands_at N sound x q xs e i = sound.one_loop x q (ap (holds x) e ∙ in-holds x (cycle xs) i)
 
-pub has_loop : (M : Model) → Sound M → (x : ℕ) → HasHalf M x → Has M.loops (loop_of M x)
-has_loop M sound x there = ap is_some (row_of M sound x there)
-
 pub has_face : (M : Model) → Sound M → (x : ℕ) → HasHalf M x → Has M.faces (face_at M x)
-has_face M sound x there = sound.loops_of_faces (loop_of M x) (has_loop M sound x there)
-
--- where a loop's row stays, so does what stands in it
-pub same_content : (M N : Model) (q : ℕ) → table.get N.loops q ≡ table.get M.loops q → content N q ≡ content M q
-unfolding content
-same_content M N q e = ap (λ o. (unwrap_or o no_loop).content) e
-
-same_face : (M N : Model) (q : ℕ) → table.get N.loops q ≡ table.get M.loops q → face_of N q ≡ face_of M q
-unfolding face_of
-same_face M N q e = ap (λ o. (unwrap_or o no_loop).face) e
+has_face M sound x there = sound.loops_of_faces (loop_of M x) (loop_there M sound x there)
 
 -- where the row of its loop stays, a half-edge keeps loop and face
 kept_place : (M N : Model) → Sound M → Sound N → (x : ℕ) → HasHalf M x → table.get N.loops (loop_of M x) ≡ table.get M.loops (loop_of M x) → (loop_of N x ≡ loop_of M x) × (face_at N x ≡ face_at M x)
@@ -85,7 +73,7 @@ module _ (M : Model) (u k e f l : ℕ) (can : CanDraw M u k e f l) where
   new_sound = draw_sound M u k e f l can
 
   pub r_l : loop_of M u ≢ l
-  r_l = not_free M.loops (loop_of M u) l (has_loop M can.sound u can.u_there) can.loop_free
+  r_l = not_free M.loops (loop_of M u) l (loop_there M can.sound u can.u_there) can.loop_free
 
   pub row_old : table.get (face_drawn M u k e f l).loops (loop_of M u) ≡ Some (record { face = face_at M u; content = cycle (mef_old (plus e) u k (cycle_of M u)) })
   unfolding face_drawn
@@ -128,7 +116,7 @@ module _ (M : Model) (u k e f l : ℕ) (can : CanDraw M u k e f l) where
 
   -- what stands in another loop keeps loop and face
   pub draw_beside : (h : ℕ) → HasHalf M h → loop_of M h ≢ loop_of M u → (loop_of (face_drawn M u k e f l) h ≡ loop_of M h) × (face_at (face_drawn M u k e f l) h ≡ face_at M h)
-  draw_beside h there ne = kept_place M N can.sound new_sound h there (row_else (loop_of M h) ne (not_free M.loops (loop_of M h) l (has_loop M can.sound h there) can.loop_free))
+  draw_beside h there ne = kept_place M N can.sound new_sound h there (row_else (loop_of M h) ne (not_free M.loops (loop_of M h) l (loop_there M can.sound h there) can.loop_free))
 
   in_two : (h : ℕ) → HasHalf M h → loop_of M h ≡ loop_of M u → IsIn h (mef_old (plus e) u k (cycle_of M u)) ⊎ IsIn h (mef_new (minus e) u k (cycle_of M u))
   in_two h there at =
@@ -160,7 +148,7 @@ module _ (M : Model) (u k e f l : ℕ) (can : CanDraw M u k e f l) where
       × (e < q → table.get M.edges q ≡ None → table.get (face_drawn M u k e f l).edges q ≡ None)
   draw_free q = (
     (λ above none. face_else q (λ s. past f q above s) ∙ none),
-    (λ above none. row_else q (λ s. not_free M.loops (loop_of M u) q (has_loop M can.sound u can.u_there) none (sym s)) (λ s. past l q above s) ∙ none),
+    (λ above none. row_else q (λ s. not_free M.loops (loop_of M u) q (loop_there M can.sound u can.u_there) none (sym s)) (λ s. past l q above s) ∙ none),
     (λ above none. ap (λ t. table.get t q) edges_are ∙ get-put_other M.edges e _ q (λ s. past e q above s) ∙ none),
   ) where
     past : (a b : ℕ) → a < b → b ≢ a
@@ -192,7 +180,7 @@ module _ (M : Model) (c d e : ℕ) (can : CanJoin M c d e) where
     removed t n = grind (arith, nat_tests, tables)
 
   row_free : (q : ℕ) → table.get M.loops q ≡ None → table.get (loops_joined M c d e).loops q ≡ None
-  row_free q none = row_other q (λ s. not_free M.loops (loop_of M c) q (has_loop M can.sound c can.c_there) none (sym s)) (λ s. not_free M.loops (loop_of M d) q (has_loop M can.sound d can.d_there) none (sym s)) ∙ none
+  row_free q none = row_other q (λ s. not_free M.loops (loop_of M c) q (loop_there M can.sound c can.c_there) none (sym s)) (λ s. not_free M.loops (loop_of M d) q (loop_there M can.sound d can.d_there) none (sym s)) ∙ none
 
   pub joined_edges : (loops_joined M c d e).edges ≡ table.put M.edges e (record { plus_tail = tail M c; minus_tail = tail M d })
   unfolding loops_joined

@@ -1,6 +1,7 @@
 -- Faces by their half-edges: which half-edges bound a face, and when all corners of a face lie on a plane.
 use Rattle.std.proofs.Common.{◌≡◌, ◌≢◌, ℕ, Bool, true, false, not, nat_eq, ◌&&◌, List, [], ◌∷◌, Option, Some, None, is_some, unwrap_or, refl, sym, ap, ◌∙◌, subst, arith, inl, inr, true≢false}
 use Rattle.std.proofs.lemmas.Bool.Decides.{eqb_tells}
+use Rattle.std.proofs.lemmas.Bool.{and_parts}
 use Rattle.euler_operators.specs.declared.Plane.{Plane}
 use Rattle.euler_operators.specs.Vectors.{moved, cross, is_on}
 use Rattle.euler_operators.specs.Items.{count, IsIn}
@@ -9,19 +10,19 @@ use Rattle.euler_operators.specs.HalfEdge.{mate}
 use Rattle.euler_operators.specs.Table as table
 use Rattle.euler_operators.specs.Model.{Model, LoopContent, LoopRow, lone, cycle, no_loop, no_point, items_of, tail, content, outer, point_of, loop_of, face_of}
 use Rattle.euler_operators.specs.Sound.{Sound, Has, HasHalf}
-use Rattle.euler_operators.proofs.Models.{cycle_there, face_row}
+use Rattle.euler_operators.proofs.Models.{cycle_there, face_row, loop_there, item_there}
+use Rattle.euler_operators.proofs.Members.{IsIn_rest}
+use Rattle.euler_operators.proofs.Rotations.{IsIn_head}
 use Rattle.euler_operators.specs.Conditions.{face_at}
 use Rattle.euler_laws.proofs.shared.Fans.{half_mate}
 use Rattle.euler_laws.proofs.shared.Goes.{equal}
 use Rattle.solid_walks.proofs.FaceLoops.{AreHalves, different_items, loops_of_apart}
 use Rattle.shapes.specs.Faces.{start, finish, loops_of, items_in, boundary, vertices_on, corners}
 use Rattle.shapes.specs.Measure.{area, anchor, first_vertex}
-use Rattle.solid_measure_laws.proofs.FlatFaces.{and_parts, are_on}
-use Rattle.solid_measure_laws.proofs.Paths.{first_in, rest_in}
+use Rattle.solid_measure_laws.proofs.FlatFaces.{are_on}
 use Rattle.split_drawing_laws.proofs.crossings.Listed.{all_where_has, loop_in_face, item_in_face}
 use Rattle.split_drawing_laws.specs.drawings.DrawnIn.{Stays}
-use Rattle.split_drawing_laws.proofs.drawings.Stays.{has_loop}
-use Rattle.split_drawing_laws.proofs.cut_volumes.Corners.{all_mapped, loop_on, loops_on, item_on, item_there, item_loop}
+use Rattle.split_drawing_laws.proofs.cut_volumes.Corners.{all_mapped, loop_on, loops_on, item_on, item_loop}
 
 -- the half-edges and the lone vertices of face f lie on the plane
 pub record OnFace (N : Model) (t : Plane) (f : ℕ) : Type 0 where
@@ -48,8 +49,8 @@ lone_there N q v e = go (table.get N.loops q) e where
 from_items : (N : Model) (ls : List ℕ) (h : ℕ) → IsIn h (items_in N ls) → (l : ℕ) × IsIn l ls × IsIn h (items_of (content N l))
 from_items N [] h i = absurd (omega (arith, i))
 from_items N (l ∷ ls) h i = elim (IsIn_or_not h (items_of (content N l))) [
-  | inl j ↦ (l, first_in l ls, j)
-  | inr z ↦ let r = from_items N ls h (omega (arith, i, z, count-append h (items_of (content N l)) (items_in N ls))) in (r.0, rest_in r.0 l ls r.1, r.2)
+  | inl j ↦ (l, IsIn_head l ls, j)
+  | inr z ↦ let r = from_items N ls h (omega (arith, i, z, count-append h (items_of (content N l)) (items_in N ls))) in (r.0, IsIn_rest r.0 l ls r.1, r.2)
 ]
 
 module _ (N : Model) (sound : Sound N) where
@@ -76,7 +77,7 @@ module _ (N : Model) (sound : Sound N) where
   -- a half-edge of a face bounds it once
   pub bound_one : (f h : ℕ) → HasHalf N h → face_at N h ≡ f → count h (boundary N f) ≡ 1
   bound_one f h there at =
-      let i : IsIn h (boundary N f) = subst (λ x. IsIn h (boundary N x)) at (item_in_face N h (loop_of N h) (has_loop N sound h there) (cycle_there N sound h there)) in
+      let i : IsIn h (boundary N f) = subst (λ x. IsIn h (boundary N x)) at (item_in_face N h (loop_of N h) (loop_there N sound h there) (cycle_there N sound h there)) in
       omega (arith, i, (bound_halves f).apart h)
 
   -- and no other does
@@ -92,7 +93,7 @@ module _ (N : Model) (sound : Sound N) where
   unfolding corners
   on_face t f on = record {
     halves = λ h there at. item_on N t (content N (loop_of N h)) h
-        (loop_on N t (loops_of N f) (loop_of N h) on (subst (λ x. IsIn (loop_of N h) (loops_of N x)) at (loop_in_face N (loop_of N h) (has_loop N sound h there)))) (cycle_there N sound h there);
+        (loop_on N t (loops_of N f) (loop_of N h) on (subst (λ x. IsIn (loop_of N h) (loops_of N x)) at (loop_in_face N (loop_of N h) (loop_there N sound h there)))) (cycle_there N sound h there);
     lones = λ q v at is.
         let on_q : are_on N t (vertices_on N (content N q)) ≡ true = loop_on N t (loops_of N f) q on (subst (λ x. IsIn q (loops_of N x)) at (loop_in_face N q (lone_there N q v is))) in
         (and_parts (is_on t (point_of N v)) true (subst (λ c. are_on N t (vertices_on N c) ≡ true) is on_q)).0;
@@ -122,7 +123,7 @@ module _ (N K : Model) (sound : Sound N) (stays : Stays N K) where
 
   pub area_still : (hs : List ℕ) → ((h : ℕ) → IsIn h hs → HasHalf N h) → area K hs ≡ area N hs
   area_still [] there = refl
-  area_still (h ∷ hs) there = λ i. moved (cross (start_still h (there h (first_in h hs)) i) (finish_still h (there h (first_in h hs)) i)) (area_still hs (λ x j. there x (rest_in x h hs j)) i)
+  area_still (h ∷ hs) there = λ i. moved (cross (start_still h (there h (IsIn_head h hs)) i) (finish_still h (there h (IsIn_head h hs)) i)) (area_still hs (λ x j. there x (IsIn_rest x h hs j)) i)
 
   -- a face keeps its anchor with its outer loop
   pub anchor_still : (f : ℕ) → Has N.faces f → outer K f ≡ outer N f → content K (outer N f) ≡ content N (outer N f) → anchor K f ≡ anchor N f
@@ -130,4 +131,4 @@ module _ (N K : Model) (sound : Sound N) (stays : Stays N K) where
     first_still : (x : LoopContent) → content N (outer N f) ≡ x → point_of K (first_vertex K x) ≡ point_of N (first_vertex N x)
     first_still (lone v) is = point_still v
     first_still (cycle []) is = absurd ((sound.cycles (outer N f) [] (sound.outers_there f there).0 is).some_item refl)
-    first_still (cycle (h ∷ hs)) is = start_still h (item_there N sound (outer N f) h (subst (λ x. IsIn h (items_of x)) (sym is) (first_in h hs)))
+    first_still (cycle (h ∷ hs)) is = start_still h (item_there N sound (outer N f) h (subst (λ x. IsIn h (items_of x)) (sym is) (IsIn_head h hs)))

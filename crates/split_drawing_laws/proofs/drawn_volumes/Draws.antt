@@ -10,7 +10,7 @@ use Rattle.euler_operators.specs.Table as table
 use Rattle.euler_operators.specs.Model.{Model, no_face, lone, tail, content, outer, point_of, loop_of, face_of, solid_of, cycle_of}
 use Rattle.euler_operators.specs.Sound.{Sound, Has, HasHalf}
 use Rattle.euler_operators.proofs.Halves.{plus_row, minus_row}
-use Rattle.euler_operators.proofs.Models.{content_row, face_row}
+use Rattle.euler_operators.proofs.Models.{content_row, face_row, same_content, same_face, same_outer}
 use Rattle.euler_operators.specs.Conditions.{face_at}
 use Rattle.euler_laws.proofs.mef.MefUndo.{count-mef_old, count-mef_new}
 use Rattle.shapes.proofs.fresh.Rows.{get-put_here, get-put_other}
@@ -23,7 +23,7 @@ use Rattle.split_drawing_laws.specs.drawings.DrawnIn.{Stays}
 use Rattle.split_drawing_laws.proofs.drawings.Drawn.{CanDraw, draw_sound}
 use Rattle.split_drawing_laws.proofs.drawings.Stays.{not_free, stands_at, has_face, row_old, row_new, row_else, edges_are, draw_stays, draw_tails, draw_beside, draw_within}
 use Rattle.split_drawing_laws.proofs.drawn_volumes.Bounds.{OnFace, anchor_still, never_lone, lone_there, bound_halves, bound_one, bound_none, point_still, start_still, area_still}
-use Rattle.split_drawing_laws.proofs.drawn_volumes.Edges.{half_there, plus_there, minus_there, half_cases, two_halves, no_area, normal_is, same_row_content, same_row_face, same_outer}
+use Rattle.split_drawing_laws.proofs.drawn_volumes.Edges.{half_there, plus_there, minus_there, half_cases, two_halves, no_area, normal_is}
 
 module _ (N : Model) (u k e g l : ℕ) (can : CanDraw N u k e g l) where
   abbrev K : Model
@@ -94,7 +94,7 @@ module _ (N : Model) (u k e g l : ℕ) (can : CanDraw N u k e g l) where
   lone_on : (t : Plane) (q v : ℕ) → content K q ≡ lone v → OnFace N t (face_of K q) → is_on t (point_of K v) ≡ true
   lone_on t q v is w =
       let row = lone_row q v is in
-      ap (is_on t) (point_still N K can.sound stays v) ∙ w.lones q v (sym (same_row_face N K q row)) (sym (same_row_content N K q row) ∙ is)
+      ap (is_on t) (point_still N K can.sound stays v) ∙ w.lones q v (sym (same_face N K q row)) (sym (same_content N K q row) ∙ is)
 
   -- ---- planes
 
@@ -129,7 +129,7 @@ module _ (N : Model) (u k e g l : ℕ) (can : CanDraw N u k e g l) where
     ];
     lones = λ q v at is.
         let row = lone_row q v is in
-        absurd (not_new (face_of N q) (can.sound.loops_of_faces q (ap is_some (sym row) ∙ lone_there K q v is)) (sym (same_row_face N K q row) ∙ at));
+        absurd (not_new (face_of N q) (can.sound.loops_of_faces q (ap is_some (sym row) ∙ lone_there K q v is)) (sym (same_face N K q row) ∙ at));
   }
 
   -- ---- normals
@@ -215,5 +215,5 @@ module _ (N : Model) (u k e g l : ℕ) (can : CanDraw N u k e g l) where
   -- and its anchor
   pub anchor_else : (f : ℕ) → Has N.faces f → f ≢ face_at N u → anchor (face_drawn N u k e g l) f ≡ anchor N f
   anchor_else f there ne = let o = can.sound.outers_there f there in
-      anchor_still N K can.sound stays f there (outer_else f there) (same_row_content N K (outer N f)
+      anchor_still N K can.sound stays f there (outer_else f there) (same_content N K (outer N f)
       (row_else N u k e g l can (outer N f) (λ s. ne (sym o.1 ∙ ap (face_of N) s)) (not_free N.loops (outer N f) l o.0 can.loop_free)))

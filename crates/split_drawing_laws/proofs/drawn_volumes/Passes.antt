@@ -5,6 +5,7 @@ use Rattle.std.proofs.lemmas.Bool.Decides.{eqb_tells}
 use Rattle.euler_operators.specs.declared.Plane.{Plane}
 use Rattle.euler_operators.specs.Items.{tick, IsApart}
 use Rattle.euler_operators.proofs.Lists.{tick_same}
+use Rattle.euler_operators.proofs.Models.{same_solid}
 use Rattle.euler_operators.specs.Table as table
 use Rattle.euler_operators.specs.Model.{Model, loop_of, outer, solid_of, is_ring_of, is_number}
 use Rattle.euler_operators.specs.Sound.{Sound, Has}
@@ -20,7 +21,6 @@ use Rattle.split_drawing_laws.proofs.drawings.Pairs.{can_back, can_on, pair_can}
 use Rattle.split_drawing_laws.proofs.drawings.Passes.{join_one, join_next_one, join_next_two, draw_one, draw_next_one, draw_next_two, edge_free, edge_fits_now, edge_open, face_open, loop_open, room_here, edge_fits, face_fits, loop_fits}
 use Rattle.split_drawing_laws.proofs.drawings.Rings.{RingOf, AreRings, Newer, moved_drawn, moved_newer, moved_ring, rings_on}
 use Rattle.split_drawing_laws.proofs.drawings.Stays.{has_face}
-use Rattle.split_drawing_laws.proofs.cut_volumes.Solids.{same_solid}
 use Rattle.split_drawing_laws.proofs.drawn_volumes.Bounds.{OnFace}
 use Rattle.split_drawing_laws.proofs.drawn_volumes.Draws as draws
 use Rattle.split_drawing_laws.proofs.drawn_volumes.Joins as joins

@@ -10,8 +10,10 @@ use Rattle.euler_operators.proofs.Lists.{tick_same, tick_other}
 use Rattle.euler_operators.specs.Table as table
 use Rattle.euler_operators.specs.Model.{Model, LoopContent, lone, cycle, items_of, content, tail, loop_of, face_of, solid_of, outer, after, cycle_of, point_of, faces_of, rings_of}
 use Rattle.euler_operators.specs.Sound.{Sound, Has, HasHalf}
-use Rattle.euler_operators.proofs.Models.{in-holds, content_cycle, cycle_there}
+use Rattle.euler_operators.proofs.Models.{in-holds, content_cycle, cycle_there, same_outer}
 use Rattle.euler_operators.proofs.Tables.{zero_first_where}
+use Rattle.euler_operators.proofs.Members.{IsIn-map, IsIn-filter}
+use Rattle.euler_operators.proofs.Maps.{from_map}
 use Rattle.euler_operators.specs.Conditions.{face_at, is_lone, lists}
 use Rattle.euler_laws.proofs.shared.Fans.{half_after, loop_after}
 use Rattle.euler_laws.proofs.shared.Goes.{all_hold, equal, equals, no_zero}
@@ -25,18 +27,16 @@ use Rattle.shapes.specs.split.Drawing.{from_place, drawn_pairs}
 use Rattle.shapes.specs.split.Split.{first_conditions}
 use Rattle.split_drawing_laws.specs.crossings.Kept.{Kept}
 use Rattle.split_drawing_laws.specs.crossings.Laws.{CanBegin}
-use Rattle.split_drawing_laws.proofs.crossings.Listed.{listed_in, all_where_in, any_passes, picked, item_in_face}
+use Rattle.split_drawing_laws.proofs.crossings.Listed.{listed_in, all_where_in, any_passes, item_in_face}
 use Rattle.split_drawing_laws.proofs.crossings.Places.{at_place, face_facts}
 use Rattle.split_drawing_laws.proofs.crossings.Whole.{can_cut, crossings_keep, crossings_sound, same_solid}
 use Rattle.split_drawing_laws.proofs.pairs.Whole.{can_be_drawn}
 use Rattle.split_drawing_laws.specs.drawings.Pairs.{AllFit, LoneInOneLoop, FacesFit}
 use Rattle.split_drawing_laws.specs.loop_sides.Parted.{ends}
 use Rattle.split_drawing_laws.specs.half_sides.HalfSides.{half_is_above, side_of}
-use Rattle.split_drawing_laws.proofs.half_sides.EndLists.{mapped_in, mapped_from}
 use Rattle.split_drawing_laws.proofs.half_sides.PlaceEnds.{side_within, place_in_ends, pairs_up}
 use Rattle.split_drawing_laws.proofs.half_sides.Taking.{side_beside}
 use Rattle.split_drawing_laws.proofs.face_sides.Alone.{Held}
-use Rattle.split_drawing_laws.proofs.face_sides.Beside.{outer_same}
 use Rattle.split_drawing_laws.proofs.face_sides.OneFace.{IsSided, PairsOf}
 use Rattle.split_drawing_laws.proofs.face_sides.Passing.{AllOld}
 use Rattle.split_drawing_laws.proofs.face_sides.Same.{any_from}
@@ -156,7 +156,7 @@ module _ (M : Model) (s : ℕ) (p : Plane) (t : ℕ) (sound : Sound M) (begins :
       held_above : some_above N p (vertices_on N (content N r)) ≡ true → HeldOn N N side r true
       held_above e =
           let v = any_from (λ v. is_above p (point_of N v)) (map (tail N) xs) (sym (ap (λ c. some_above N p (vertices_on N c)) content_is) ∙ e) in
-          let z = mapped_from (tail N) v.0 xs v.1 in
+          let z = from_map (tail N) v.0 xs v.1 in
           let w = item_loop z.0 z.1 in
           let up : is_above p (start N z.0) ≡ true = ap (λ u. is_above p (point_of N u)) (sym z.2) ∙ v.2 in
           record { held = record { half = z.0; old = w.0; at = w.1 }; on = side_own z.0 w.1 ∙ ap (λ b. b || is_above p (finish N z.0)) up }
@@ -165,7 +165,7 @@ module _ (M : Model) (s : ℕ) (p : Plane) (t : ℕ) (sound : Sound M) (begins :
       not_above e z j = go (is_above p (start N z)) refl where
         go : (b : Bool) → is_above p (start N z) ≡ b → is_above p (start N z) ≡ false
         go false a = a
-        go true a = absurd (true≢false (sym (any_passes (λ v. is_above p (point_of N v)) (tail N z) (map (tail N) xs) (mapped_in (tail N) z xs j) a)
+        go true a = absurd (true≢false (sym (any_passes (λ v. is_above p (point_of N v)) (tail N z) (map (tail N) xs) (IsIn-map (tail N) z xs j) a)
             ∙ sym (ap (λ c. some_above N p (vertices_on N c)) content_is) ∙ e))
 
       next_in : IsIn (after N h) xs
@@ -198,11 +198,11 @@ module _ (M : Model) (s : ℕ) (p : Plane) (t : ℕ) (sound : Sound M) (begins :
 
     x_place : IsIn x (places M p f)
     unfolding places
-    x_place = picked (is_place M p) x (boundary M f) (subst (λ g. IsIn x (boundary M g)) outer_facts.1 (item_in_face M x (outer M f) outer_facts.0 outer_place.1)) outer_place.2
+    x_place = IsIn-filter (is_place M p) x (boundary M f) (subst (λ g. IsIn x (boundary M g)) outer_facts.1 (item_in_face M x (outer M f) outer_facts.0 outer_place.1)) outer_place.2
 
     x_loop : loop_of N (from_place N p x) ≡ outer N f
     x_loop = (at_place M s p t sound begins f x (in_listed f fs i) (in_listed x (places M p f) x_place)).loop ∙ sound.one_loop x (outer M f) (in-holds x (content M (outer M f)) outer_place.1)
-        ∙ sym (outer_same M N f (ap (λ u. table.get u f) keep.faces))
+        ∙ sym (same_outer M N f (ap (λ u. table.get u f) keep.faces))
 
     x_end : IsIn (from_place N p x) (ends (drawn_pairs M N p f))
     x_end = place_in_ends M s p t sound begins f i x x_place

@@ -5,31 +5,15 @@ use Rattle.std.specs.Option.{option_map}
 use Rattle.std.proofs.lemmas.Bool.Decides.{nat_tests, eqb_tells}
 use Rattle.euler_operators.specs.Table as table
 use Rattle.euler_operators.specs.Table.{Table, get-map_rows}
-use Rattle.euler_operators.specs.Model.{Model, LoopRow, FaceRow, no_face, no_loop, loop_of, face_of, solid_of, outer, content}
+use Rattle.euler_operators.specs.Model.{Model, LoopRow, no_loop, loop_of, face_of, solid_of, outer, content}
 use Rattle.euler_operators.specs.Sound.{Has}
-use Rattle.euler_operators.proofs.Models.{face_row}
+use Rattle.euler_operators.proofs.Models.{face_row, same_face}
 use Rattle.euler_operators.specs.Conditions.{face_at, lists}
 use Rattle.euler_operators.specs.Effect.{loop_to_face}
 use Rattle.shapes.proofs.fresh.Rows.{get-put_here, get-put_other}
 use Rattle.shapes.specs.split.Drawing.{face_drawn, loops_joined, with_rings}
 use Rattle.split_drawing_laws.proofs.drawings.Drawn.{CanDraw, CanJoin}
 use Rattle.split_drawing_laws.proofs.drawings.Stays.{row_old, row_new, row_else, row_joined, row_gone, row_other}
-
-pub face_same : (M N : Model) (q : ℕ) → table.get N.loops q ≡ table.get M.loops q → face_of N q ≡ face_of M q
-unfolding face_of
-face_same M N q e = ap (λ o. (unwrap_or o no_loop).face) e
-
-pub outer_same : (M N : Model) (g : ℕ) → table.get N.faces g ≡ table.get M.faces g → outer N g ≡ outer M g
-unfolding outer
-outer_same M N g e = ap (λ o. (unwrap_or o no_face).outer) e
-
-pub solid_same : (M N : Model) (g : ℕ) → table.get N.faces g ≡ table.get M.faces g → solid_of N g ≡ solid_of M g
-unfolding solid_of
-solid_same M N g e = ap (λ o. (unwrap_or o no_face).solid) e
-
-pub outer_row : (N : Model) (g : ℕ) (row : FaceRow) → table.get N.faces g ≡ Some row → outer N g ≡ row.outer
-unfolding outer
-outer_row N g row e = ap (λ o. (unwrap_or o no_face).outer) e
 
 -- N is M with edges drawn in face f: the faces of M keep their rows, and their loops theirs, but for those of f
 pub record Beside (M N : Model) (f : ℕ) : Type 0 where
@@ -65,7 +49,7 @@ module _ (M N : Model) (f c d e : ℕ) (can : CanJoin N c d e) (at : face_at N c
         | inl b ↦ absurd (never_free J.loops (loop_of N d) (subst (Has J.loops) b.1 there) (row_gone N c d e can))
         | inr b ↦
             let same : table.get J.loops q ≡ table.get N.loops q = row_other N c d e can q a.1 b.1 in
-            let face : face_of J q ≡ face_of N q = face_same N J q same in
+            let face : face_of J q ≡ face_of N q = same_face N J q same in
             same ∙ w.loops q (ap is_some (sym same) ∙ there) (λ s. ne (face ∙ s)) (subst (Has M.faces) face old)
       ]
     ];
@@ -107,7 +91,7 @@ module _ (N : Model) (u k e g l : ℕ) (can : CanDraw N u k e g l) where
           | inl b ↦ absurd (never_free M.faces (face_of K q) old (ap (table.get M.faces) (ap (face_of K) b.1 ∙ new_loop_face) ∙ new))
           | inr b ↦
               let same : table.get K.loops q ≡ table.get N.loops q = row_else N u k e g l can q a.1 b.1 in
-              let face : face_of K q ≡ face_of N q = face_same N K q same in
+              let face : face_of K q ≡ face_of N q = same_face N K q same in
               same ∙ w.loops q (ap is_some (sym same) ∙ there) (λ s. ne (face ∙ s)) (subst (Has M.faces) face old)
         ]
       ];

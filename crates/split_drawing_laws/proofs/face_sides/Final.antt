@@ -1,5 +1,5 @@
 -- From the first conditions of a split to the sides of its loops and faces.
-use Rattle.std.proofs.Common.{◌≡◌, ℕ, Bool, true, false, not, nat_eq, ◌&&◌, ◌||◌, List, [], ◌∷◌, is_some, unwrap_or, refl, sym, ap, ◌∙◌, subst, arith, inl, inr, true≢false}
+use Rattle.std.proofs.Common.{◌≡◌, ℕ, Bool, true, false, not, nat_eq, ◌&&◌, ◌||◌, List, [], ◌∷◌, is_some, unwrap_or, refl, sym, ap, ◌∙◌, subst, arith, inl, inr}
 use Rattle.std.proofs.lemmas.Bool.Decides.{eqb_tells}
 use Rattle.euler_operators.specs.declared.Plane.{Plane}
 use Rattle.euler_operators.specs.Vectors.{is_above, is_below}
@@ -7,7 +7,9 @@ use Rattle.euler_operators.specs.Items.{IsIn}
 use Rattle.euler_operators.proofs.Lists.{count-append, tick_same, tick_other, IsIn_or_not}
 use Rattle.euler_operators.specs.Model.{Model, LoopContent, cycle, items_of, content, has_half, tail, loop_of, face_of, solid_of, outer, point_of, faces_of, no_face}
 use Rattle.euler_operators.specs.Sound.{Sound, Has, HasHalf}
-use Rattle.euler_operators.proofs.Models.{in-holds, content_cycle, face_row}
+use Rattle.euler_operators.proofs.Models.{in-holds, content_cycle, face_row, same_solid as solid_same}
+use Rattle.euler_operators.proofs.Tests.{and_first, and_false}
+use Rattle.euler_operators.proofs.Maps.{from_map}
 use Rattle.euler_operators.specs.Conditions.{face_at, lists}
 use Rattle.euler_laws.proofs.shared.Goes.{equal, equals}
 use Rattle.solid_walks.proofs.Rising.{none_counted}
@@ -29,11 +31,9 @@ use Rattle.split_drawing_laws.specs.loop_sides.Parted.{LiesOn, Parted}
 use Rattle.split_drawing_laws.proofs.loop_sides.Parting.{loop_on_one_side}
 use Rattle.split_drawing_laws.proofs.loop_sides.SidesWhole.{all_drawn_parted, loops_on_one_side}
 use Rattle.split_drawing_laws.specs.half_sides.HalfSides.{side_of, is_own}
-use Rattle.split_drawing_laws.proofs.half_sides.EndLists.{mapped_from}
 use Rattle.split_drawing_laws.proofs.half_sides.Taking.{take_sides}
 use Rattle.split_drawing_laws.specs.face_sides.Laws.{IsDrawn}
 use Rattle.split_drawing_laws.proofs.face_sides.Begun.{sided_first, pairs_of}
-use Rattle.split_drawing_laws.proofs.face_sides.Beside.{solid_same}
 use Rattle.split_drawing_laws.proofs.face_sides.OneFace.{IsSided}
 use Rattle.split_drawing_laws.proofs.face_sides.Same.{none_from}
 use Rattle.split_drawing_laws.proofs.face_sides.Stages.{Stage, all_done}
@@ -53,7 +53,7 @@ pub tail_in : (D : Model) (v : ℕ) (ls : List ℕ) → ((q : ℕ) → IsIn q ls
 tail_in D v [] cycles i = absurd (omega (arith, i))
 tail_in D v (l ∷ ls) cycles i = elim (IsIn_or_not v (vertices_on D (content D l))) [
   | inl j ↦
-      let r = mapped_from (tail D) v (items_of (content D l)) (subst (λ c. IsIn v (vertices_on D c)) (cycles l (omega (arith, tick_same l))) j) in
+      let r = from_map (tail D) v (items_of (content D l)) (subst (λ c. IsIn v (vertices_on D c)) (cycles l (omega (arith, tick_same l))) j) in
       record { half = r.0; loop = l; loop_in = omega (arith, tick_same l); half_in = r.1; is = r.2 }
   | inr z ↦
       let r = tail_in D v ls (λ q k. cycles q (omega (arith, k))) (omega (arith, i, z, count-append v (vertices_on D (content D l)) (vertices_in D ls))) in
@@ -142,11 +142,8 @@ module _ (M : Model) (s : ℕ) (p : Plane) (t : ℕ) (sound : Sound M) (begins :
       | inl e ↦ let o = D_sound.outers_there f there in (subst (Has D.loops) (sym e.1) o.0, ap (face_of D) e.1 ∙ o.1)
       | inr e ↦
           let w = all_where_has (λ k row. nat_eq row.face f && not (nat_eq (outer D f) k)) D.loops q (omega (arith, i, tick_other q (outer D f) e.1)) in
-          (ap is_some w.1, face_row D q w.0 w.1 ∙ equal w.0.face f (first_of (nat_eq w.0.face f) (not (nat_eq (outer D f) q)) w.2))
-    ] where
-      first_of : (a c : Bool) → (a && c) ≡ true → a ≡ true
-      first_of true c e = refl
-      first_of false c e = absurd (true≢false (sym e))
+          (ap is_some w.1, face_row D q w.0 w.1 ∙ equal w.0.face f (and_first (nat_eq w.0.face f) (not (nat_eq (outer D f) q)) w.2))
+    ]
 
     loop_cycle : (q : ℕ) → IsIn q (loops_of D f) → content D q ≡ cycle (items_of (content D q))
     loop_cycle q i =
@@ -177,10 +174,7 @@ module _ (M : Model) (s : ℕ) (p : Plane) (t : ℕ) (sound : Sound M) (begins :
 
     either_none : (c : Bool) → ((v : ℕ) → IsIn v (corners D f) → LiesOn p c (point_of D v)) → straddles D p f ≡ false
     unfolding straddles
-    either_none true lies = ap (λ a. reaches_above D p f && a) (none_below lies) ∙ nothing (reaches_above D p f) where
-      nothing : (a : Bool) → (a && false) ≡ false
-      nothing true = refl
-      nothing false = refl
+    either_none true lies = ap (λ a. reaches_above D p f && a) (none_below lies) ∙ and_false (reaches_above D p f)
     either_none false lies = ap (λ a. a && reaches_below D p f) (none_above lies)
 
     pub face_is_sided : straddles D p f ≡ false

@@ -5,7 +5,7 @@ use Rattle.euler_operators.specs.Table as table
 use Rattle.euler_operators.specs.Model.{Model, loop_of, is_ring_of, is_number}
 use Rattle.euler_operators.specs.Sound.{Sound, HasHalf}
 use Rattle.euler_operators.specs.Conditions.{face_at}
-use Rattle.euler_laws.proofs.shared.Goes.{free}
+use Rattle.euler_operators.proofs.Tables.{no_row}
 use Rattle.shapes.specs.split.Drawing.{Drawing, loops_joined, in_one_loop, joined_pair, join_next, draw_next}
 use Rattle.split_drawing_laws.specs.drawings.DrawnIn.{JoinedIn, Stays}
 use Rattle.split_drawing_laws.specs.drawings.Pairs.{Fits, AllFit}
@@ -18,7 +18,7 @@ use Rattle.split_drawing_laws.proofs.face_sides.Beside.{Beside, ComesOf, faces_j
 
 -- a number that is free now was free before
 pub free_before : (M N : Model) → Stays M N → (g : ℕ) → table.get N.faces g ≡ None → table.get M.faces g ≡ None
-free_before M N stays g none = free (table.get M.faces g) (go (table.has M.faces g) refl) where
+free_before M N stays g none = no_row (table.get M.faces g) (go (table.has M.faces g) refl) where
   go : (b : Bool) → table.has M.faces g ≡ b → table.has M.faces g ≡ false
   go true t = absurd (true≢false (sym (stays.faces g t) ∙ ap is_some none))
   go false t = t

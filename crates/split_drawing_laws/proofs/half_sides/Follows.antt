@@ -10,10 +10,10 @@ use Rattle.euler_operators.specs.HalfEdge.{mate, plus, minus}
 use Rattle.euler_operators.specs.Model.{Model, items_of, loop_of, content, cycle_of, after, before}
 use Rattle.euler_operators.specs.Sound.{Sound, HasHalf}
 use Rattle.euler_operators.proofs.Models.{cycle_there, cycle_sound}
+use Rattle.euler_operators.proofs.Halves.{mate_plus}
 use Rattle.euler_operators.specs.Effect.{mev_at}
 use Rattle.euler_laws.proofs.shared.Fans.{loop_after}
 use Rattle.euler_laws.proofs.shared.Loops.{after-walks}
-use Rattle.euler_laws.proofs.shared.Undo.{mate_plus}
 use Rattle.euler_laws.proofs.mev.MevSound.{walks}
 use Rattle.shapes.specs.split.Crossings.{edge_cut}
 use Rattle.split_drawing_laws.proofs.crossings.OneCut.{cut_is_mev, plus_there, minus_there}

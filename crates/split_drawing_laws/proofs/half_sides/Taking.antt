@@ -10,27 +10,27 @@ use Rattle.euler_operators.specs.HalfEdge.{edge_of, plus, minus}
 use Rattle.euler_operators.specs.Table as table
 use Rattle.euler_operators.specs.Model.{Model, has_half, tail, loop_of, face_of, solid_of, after, point_of, faces_of}
 use Rattle.euler_operators.specs.Sound.{Sound, Has, HasHalf}
-use Rattle.euler_operators.proofs.Halves.{plus_row}
-use Rattle.euler_operators.proofs.Models.{cycle_there}
+use Rattle.euler_operators.proofs.Halves.{plus_row, mate_plus, mate_minus}
+use Rattle.euler_operators.proofs.Models.{cycle_there, loop_there}
+use Rattle.euler_operators.proofs.Members.{IsIn-filter}
 use Rattle.euler_operators.specs.Conditions.{face_at, lists}
 use Rattle.euler_laws.proofs.shared.Arcs.{halves_of_edge}
 use Rattle.euler_laws.proofs.shared.Fans.{half_after, loop_after}
 use Rattle.euler_laws.proofs.shared.Goes.{equal, equals}
 use Rattle.euler_laws.proofs.shared.Loops.{some_row}
 use Rattle.euler_laws.proofs.shared.Rows.{face_there}
-use Rattle.euler_laws.proofs.shared.Undo.{mate_plus, mate_minus}
 use Rattle.solid_walks.proofs.Rising.{in_listed}
 use Rattle.shapes.specs.Faces.{start, finish, corners, edges_of}
 use Rattle.shapes.specs.split.Sides.{crosses, straddles, straddling_faces, reaches_above, reaches_below}
 use Rattle.shapes.specs.split.Crossings.{with_crossings}
 use Rattle.shapes.specs.split.Drawing.{drawn_pairs}
 use Rattle.split_drawing_laws.specs.crossings.Laws.{CanBegin}
-use Rattle.split_drawing_laws.proofs.crossings.Listed.{listed_in, picked, any_passes, all_where_in, tail_in_face}
+use Rattle.split_drawing_laws.proofs.crossings.Listed.{listed_in, any_passes, all_where_in, tail_in_face}
 use Rattle.split_drawing_laws.proofs.crossings.Places.{face_facts}
 use Rattle.split_drawing_laws.proofs.crossings.Premises.{faces_not_zero}
 use Rattle.split_drawing_laws.proofs.crossings.Whole.{crossings_sound, same_solid, none_crosses}
 use Rattle.split_drawing_laws.proofs.drawings.Counted.{straddling_apart}
-use Rattle.split_drawing_laws.proofs.drawings.Stays.{has_face, has_loop}
+use Rattle.split_drawing_laws.proofs.drawings.Stays.{has_face}
 use Rattle.split_drawing_laws.specs.loop_sides.Laws.{TakeSides}
 use Rattle.split_drawing_laws.specs.loop_sides.Parted.{LiesOn, FacesCross, ends, all_ends}
 use Rattle.split_drawing_laws.specs.half_sides.HalfSides.{half_is_above, side_of, is_own}
@@ -74,7 +74,7 @@ module _ (M : Model) (s : ℕ) (p : Plane) (t : ℕ) (sound : Sound M) (begins :
 
     go : (b : Bool) → crosses N p (plus e) ≡ b → crosses N p (plus e) ≡ false
     go false c = c
-    go true c = let i : IsIn e [] = subst (IsIn e) (none_crosses M s p t sound begins) (picked (λ x. crosses N p (plus x)) e (edges_of N s) listed c) in absurd (omega (arith, i))
+    go true c = let i : IsIn e [] = subst (IsIn e) (none_crosses M s p t sound begins) (IsIn-filter (λ x. crosses N p (plus x)) e (edges_of N s) listed c) in absurd (omega (arith, i))
 
   pub stays_aside : (h : ℕ) → HasHalf (with_crossings M s p).model h → solid_of (with_crossings M s p).model (face_at (with_crossings M s p).model h) ≡ s → crosses (with_crossings M s p).model p h ≡ false
   stays_aside h there of_s = elim (halves_of_edge h) [
@@ -100,7 +100,7 @@ module _ (M : Model) (s : ℕ) (p : Plane) (t : ℕ) (sound : Sound M) (begins :
     f = face_at M g
 
     corner : IsIn (tail M g) (corners M f)
-    corner = tail_in_face M g (loop_of M g) (has_loop M sound g there) (cycle_there M sound g there)
+    corner = tail_in_face M g (loop_of M g) (loop_there M sound g there) (cycle_there M sound g there)
 
     of_solid : IsIn f (faces_of M s)
     of_solid = all_where_in (λ _ row. nat_eq row.solid s) M.faces f _ (face_there M f (has_face M sound g there)) (equals (solid_of M f) s of_s)
@@ -112,7 +112,7 @@ module _ (M : Model) (s : ℕ) (p : Plane) (t : ℕ) (sound : Sound M) (begins :
     below_then : (b : Bool) → is_below p (start M g) ≡ b → reaches_above M p f ≡ true → is_below p (start M g) ≡ false
     below_then false a up = a
     below_then true a up = absurd (true≢false
-        (sym (in_listed f fs (picked (straddles M p) f (faces_of M s) of_solid (both_ways f up (any_passes (λ v. is_below p (point_of M v)) (tail M g) (corners M f) corner a)))) ∙ beside))
+        (sym (in_listed f fs (IsIn-filter (straddles M p) f (faces_of M s) of_solid (both_ways f up (any_passes (λ v. is_below p (point_of M v)) (tail M g) (corners M f) corner a)))) ∙ beside))
 
     go : (b : Bool) → reaches_above M p f ≡ b → LiesOn p b (start M g)
     go true up = below_then (is_below p (start M g)) refl up

@@ -17,6 +17,7 @@ use Rattle.euler_operators.specs.Table as table
 use Rattle.euler_operators.specs.Model.{Model, items_of, content, tail, loop_of, cycle_of, after, point_of, no_point}
 use Rattle.euler_operators.specs.Sound.{Sound, HasHalf}
 use Rattle.euler_operators.proofs.Models.{in-holds, cycle_there}
+use Rattle.euler_operators.proofs.Halves.{plus_other}
 use Rattle.euler_operators.specs.Effect.{ring_in}
 use Rattle.euler_laws.proofs.shared.Loops.{light}
 use Rattle.shapes.specs.Faces.{start}
@@ -28,7 +29,7 @@ use Rattle.split_drawing_laws.proofs.drawings.Stays.{draw_stays, join_stays, dra
 use Rattle.split_drawing_laws.proofs.drawings.Rings.{RingOf, Newer, now_stays, moved_after, moved_halves}
 use Rattle.split_drawing_laws.proofs.drawings.Pairs.{stays_on}
 use Rattle.split_drawing_laws.proofs.loop_sides.Follows.{Closing, sides_close, with_sides, side_old}
-use Rattle.split_drawing_laws.proofs.loop_sides.After.{halves_apart, none_new, after_drawn, halves_drawn, after_joined, halves_joined}
+use Rattle.split_drawing_laws.proofs.loop_sides.After.{none_new, after_drawn, halves_drawn, after_joined, halves_joined}
 
 -- a point on the plane lies on both closed sides
 on_both : (p : Plane) (q : Point) → is_on p q ≡ true → (b : Bool) → LiesOn p b q
@@ -74,7 +75,7 @@ module _ (B N K : Model) (p : Plane) (first : ℕ → Bool) (OfSolid : ℕ → T
 
   closing : Closing (HasHalf N) (after N) w.side (plus e) (minus e) c d places rest
   closing = record {
-    hm = halves_apart e;
+    hm = plus_other e;
     cd = o.apart;
     fresh = λ x there. none_new N e x free there;
     goes_on = after_there N sound;

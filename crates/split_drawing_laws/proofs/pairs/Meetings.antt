@@ -6,9 +6,9 @@ use Rattle.euler_operators.specs.declared.Plane.{Plane}
 use Rattle.euler_operators.specs.Vectors.{same_point}
 use Rattle.euler_operators.specs.Items.{IsIn}
 use Rattle.euler_operators.proofs.Lists.{tick_other}
+use Rattle.euler_operators.proofs.Crossings.{same_as}
 use Rattle.euler_operators.specs.Model.{Model}
 use Rattle.shapes.specs.split.Places.{place_point, places, some_meet, is_crossed, is_up_and_down, sorted_pairs}
-use Rattle.split_drawing_laws.proofs.crossings.Levels.{same_as}
 use Rattle.split_drawing_laws.proofs.crossings.Listed.{any_passes}
 
 module _ (M : Model) (p : Plane) where

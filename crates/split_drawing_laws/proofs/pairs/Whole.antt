@@ -9,6 +9,8 @@ use Rattle.euler_operators.specs.Table as table
 use Rattle.euler_operators.specs.Model.{Model, tail, loop_of, face_of, outer, point_of, faces_of, rings_of}
 use Rattle.euler_operators.specs.Sound.{Sound, Has}
 use Rattle.euler_operators.proofs.Models.{face_row}
+use Rattle.euler_operators.proofs.Tests.{and_first}
+use Rattle.euler_operators.proofs.Members.{count-filter}
 use Rattle.euler_operators.specs.Conditions.{face_at}
 use Rattle.euler_laws.specs.Laws.{AreAccepted, effects}
 use Rattle.euler_laws.proofs.Runs.{AreAccepted-append, effects-append}
@@ -23,7 +25,7 @@ use Rattle.shapes.specs.split.Drawing.{from_place, drawn_pairs, with_drawings}
 use Rattle.split_drawing_laws.specs.crossings.AtPlace.{AtPlace}
 use Rattle.split_drawing_laws.specs.crossings.CrossingOps.{crossing_ops}
 use Rattle.split_drawing_laws.specs.crossings.Laws.{CanBegin}
-use Rattle.split_drawing_laws.proofs.crossings.Listed.{picked_count, all_where_has}
+use Rattle.split_drawing_laws.proofs.crossings.Listed.{all_where_has}
 use Rattle.split_drawing_laws.proofs.crossings.Places.{at_place}
 use Rattle.split_drawing_laws.proofs.crossings.Premises.{Cuttable}
 use Rattle.split_drawing_laws.proofs.crossings.Whole.{can_cut, crossings_accepted, crossings_made, crossings_sound, crossings_counted, crossings_keep}
@@ -50,11 +52,8 @@ module _ (M : Model) (sound : Sound M) (f : ℕ) where
     | inl e ↦ ap (face_of M) e.1 ∙ (sound.outers_there f there).1
     | inr e ↦
         let w = all_where_has (λ k row. nat_eq row.face f && not (nat_eq (outer M f) k)) M.loops l (omega (arith, i, tick_other l (outer M f) e.1)) in
-        face_row M l w.0 w.1 ∙ equal w.0.face f (first_of (nat_eq w.0.face f) (not (nat_eq (outer M f) l)) w.2)
-  ] where
-    first_of : (a b : Bool) → (a && b) ≡ true → a ≡ true
-    first_of true b e = refl
-    first_of false b e = absurd (true≢false (sym e))
+        face_row M l w.0 w.1 ∙ equal w.0.face f (and_first (nat_eq w.0.face f) (not (nat_eq (outer M f) l)) w.2)
+  ]
 
   item_face : Has M.faces f → (h : ℕ) → IsIn h (boundary M f) → face_at M h ≡ f
   unfolding boundary
@@ -62,11 +61,11 @@ module _ (M : Model) (sound : Sound M) (f : ℕ) where
 
   places_in : (p : Plane) (x : ℕ) → IsIn x (places M p f) → IsIn x (boundary M f)
   unfolding places
-  places_in p x i = omega (arith, i, picked_count (is_place M p) x (boundary M f))
+  places_in p x i = omega (arith, i, count-filter (is_place M p) x (boundary M f))
 
   places_apart : (p : Plane) → IsApart (places M p f)
   unfolding places boundary
-  places_apart p x = omega (arith, picked_count (is_place M p) x (boundary M f), (different_items M sound (loops_of M f) (loops_of_apart M sound f)).apart x)
+  places_apart p x = omega (arith, count-filter (is_place M p) x (boundary M f), (different_items M sound (loops_of M f) (loops_of_apart M sound f)).apart x)
 
 outer_cut : (M : Model) (p : Plane) (f : ℕ) → is_cut_often M p f ≡ false → loop_is_cut M p (outer M f) ≡ true
 unfolding is_cut_often
@@ -86,7 +85,7 @@ module _ (M : Model) (s : ℕ) (p : Plane) (t : ℕ) (sound : Sound M) (begins :
 
   module _ (f : ℕ) (i : IsIn f (straddling_faces M p s)) where
     face_there : Has M.faces f
-    face_there = ap is_some (all_where_has (λ _ row. nat_eq row.solid s) M.faces f (omega (arith, i, picked_count (straddles M p) f (faces_of M s)))).1
+    face_there = ap is_some (all_where_has (λ _ row. nat_eq row.solid s) M.faces f (omega (arith, i, count-filter (straddles M p) f (faces_of M s)))).1
 
     at : (h : ℕ) → IsIn h (places M p f) → AtPlace M N p h
     at h j = at_place M s p t sound begins f h (in_listed f (straddling_faces M p s) i) (in_listed h (places M p f) j)

@@ -9,8 +9,9 @@ use Rattle.euler_operators.specs.HalfEdge.{edge_of, plus, minus}
 use Rattle.euler_operators.specs.Table as table
 use Rattle.euler_operators.specs.Model.{Model, LoopContent, lone, cycle, no_face, no_point, items_of, content, tail, loop_of, face_of, solid_of, point_of, faces_of}
 use Rattle.euler_operators.specs.Sound.{Sound, Has, HasHalf}
-use Rattle.euler_operators.proofs.Models.{in-holds, cycle_there}
+use Rattle.euler_operators.proofs.Models.{in-holds, cycle_there, plus_there, minus_there, loop_there}
 use Rattle.euler_operators.proofs.Tables.{zero_first_where}
+use Rattle.euler_operators.proofs.Members.{IsIn-filter, filter_passes}
 use Rattle.euler_operators.specs.Conditions.{face_at, lists, is_lone}
 use Rattle.euler_laws.proofs.shared.Arcs.{halves_of_edge}
 use Rattle.euler_laws.proofs.shared.Fans.{loop_after}
@@ -25,10 +26,10 @@ use Rattle.shapes.specs.split.Crossings.{with_crossings}
 use Rattle.shapes.specs.split.Drawing.{with_drawings}
 use Rattle.shapes.specs.split.Split.{split_refusal}
 use Rattle.split_drawing_laws.specs.crossings.Laws.{CanBegin}
-use Rattle.split_drawing_laws.proofs.crossings.Listed.{listed_in, picked, picked_passes, any_passes, all_where_has, all_where_in, tail_in_face}
+use Rattle.split_drawing_laws.proofs.crossings.Listed.{listed_in, any_passes, all_where_has, all_where_in, tail_in_face}
 use Rattle.split_drawing_laws.proofs.crossings.Whole.{crossings_cut, crossings_keep, crossings_sound, same_solid, not_cut}
-use Rattle.split_drawing_laws.proofs.drawings.Stays.{has_loop, has_face}
-use Rattle.split_drawing_laws.proofs.half_sides.Pieces.{CutBy, half_plus, half_minus, crossing_pieces}
+use Rattle.split_drawing_laws.proofs.drawings.Stays.{has_face}
+use Rattle.split_drawing_laws.proofs.half_sides.Pieces.{CutBy, crossing_pieces}
 use Rattle.split_drawing_laws.proofs.half_sides.Starts.{old_face}
 use Rattle.split_drawing_laws.proofs.face_sides.Final.{TailIn, tail_in, none_straddles}
 use Rattle.split_drawing_laws.proofs.face_sides.Same.{any_from}
@@ -92,9 +93,9 @@ module _ (M : Model) (s : ℕ) (p : Plane) (t : ℕ) (sound : Sound M) (accepted
   cut_half : (e k : ℕ) → CutBy M N e k → HalfAt N (tail M (plus e)) (face_at M (plus e))
   cut_half e k w = record {
     half = plus k;
-    there = half_plus N k w.there;
+    there = plus_there N k w.there;
     starts = w.starts;
-    face = ap (face_of N) (sym (loop_after N N_sound (plus k) (half_plus N k w.there)) ∙ ap (loop_of N) w.first) ∙ old_face M s p t sound begun (plus e) (half_plus M e w.old);
+    face = ap (face_of N) (sym (loop_after N N_sound (plus k) (plus_there N k w.there)) ∙ ap (loop_of N) w.first) ∙ old_face M s p t sound begun (plus e) (plus_there M e w.old);
   }
 
   old_half : (h : ℕ) → HasHalf M h → tail N h ≡ tail M h → HalfAt N (tail M h) (face_at M h)
@@ -103,13 +104,13 @@ module _ (M : Model) (s : ℕ) (p : Plane) (t : ℕ) (sound : Sound M) (accepted
   plus_at : (e : ℕ) → Has M.edges e → HalfAt N (tail M (plus e)) (face_at M (plus e))
   plus_at e there = elim (IsIn_or_not e es) [
     | inl i ↦ let c = (crossing_pieces M s p t sound begun).cuts e i in cut_half e c.0 c.1
-    | inr z ↦ old_half (plus e) (half_plus M e there) ((crossings_cut M s p t sound begun).plus_tails e there (not_cut M s p t sound begun e z))
+    | inr z ↦ old_half (plus e) (plus_there M e there) ((crossings_cut M s p t sound begun).plus_tails e there (not_cut M s p t sound begun e z))
   ]
 
   half_then : (h : ℕ) → HasHalf M h → HalfAt N (tail M h) (face_at M h)
   half_then h there = elim (halves_of_edge h) [
     | inl a ↦ subst (λ x. HalfAt N (tail M x) (face_at M x)) (sym a.0) (plus_at (edge_of h) there)
-    | inr a ↦ subst (λ x. HalfAt N (tail M x) (face_at M x)) (sym a.0) (old_half (minus (edge_of h)) (half_minus M (edge_of h) there) ((crossings_cut M s p t sound begun).minus_tails (edge_of h) there))
+    | inr a ↦ subst (λ x. HalfAt N (tail M x) (face_at M x)) (sym a.0) (old_half (minus (edge_of h)) (minus_there M (edge_of h) there) ((crossings_cut M s p t sound begun).minus_tails (edge_of h) there))
   ]
 
   -- ---- and when the faces are drawn: in a face of the solid
@@ -141,7 +142,7 @@ module _ (M : Model) (s : ℕ) (p : Plane) (t : ℕ) (sound : Sound M) (accepted
         face = face_at D x.half;
         there = has_face D S x.half there;
         of_solid = (drawn_keeps M s p t sound accepted).halves x.half x.there ∙ ap (solid_of N) (x.face ∙ h.face) ∙ same_solid M s p t sound begun f ∙ face_solid f i;
-        corner = subst (λ n. IsIn n (corners D (face_at D x.half))) starts (tail_in_face D x.half (loop_of D x.half) (has_loop D S x.half there) (cycle_there D S x.half there));
+        corner = subst (λ n. IsIn n (corners D (face_at D x.half))) starts (tail_in_face D x.half (loop_of D x.half) (loop_there D S x.half there) (cycle_there D S x.half there));
         point = point_then v (subst (Has M.vertices) h.starts (sound.tails_there h.half h.there));
       }
 
@@ -164,7 +165,7 @@ module _ (M : Model) (s : ℕ) (p : Plane) (t : ℕ) (sound : Sound M) (accepted
   unlisted f e = go (lists (faces_above D p s) f) refl where
     go : (b : Bool) → lists (faces_above D p s) f ≡ b → lists (faces_above D p s) f ≡ false
     go false n = n
-    go true l = absurd (true≢false (sym (picked_passes (face_is_above D p) f (faces_of D s) (listed_in f (faces_above D p s) l)) ∙ e))
+    go true l = absurd (true≢false (sym (filter_passes (face_is_above D p) f (faces_of D s) (listed_in f (faces_above D p s) l)) ∙ e))
 
   pub some_above : HasFace (with_drawings M s p).model s (faces_above (with_drawings M s p).model p s) true
   some_above =
@@ -176,7 +177,7 @@ module _ (M : Model) (s : ℕ) (p : Plane) (t : ℕ) (sound : Sound M) (accepted
         face = c.face;
         there = c.there;
         of_solid = c.of_solid;
-        is = in_listed c.face (faces_above D p s) (picked (face_is_above D p) c.face (faces_of D s) (in_solid c.face c.there c.of_solid) (above_is c.face reaches));
+        is = in_listed c.face (faces_above D p s) (IsIn-filter (face_is_above D p) c.face (faces_of D s) (in_solid c.face c.there c.of_solid) (above_is c.face reaches));
       }
 
   pub some_below : HasFace (with_drawings M s p).model s (faces_above (with_drawings M s p).model p s) false

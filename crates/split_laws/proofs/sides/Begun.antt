@@ -3,10 +3,12 @@ use Rattle.std.proofs.Common.{◌≡◌, ℕ, Bool, true, false, not, nat_eq, �
 use Rattle.std.specs.Prelude.{pos, int_lt}
 use Rattle.std.specs.List.{list_any}
 use Rattle.std.proofs.lemmas.Bool.Decides.{nat_tests, eqb_tells}
+use Rattle.std.proofs.lemmas.Bool.{or_parts}
 use Rattle.euler_operators.specs.declared.Plane.{Plane}
 use Rattle.euler_operators.specs.Vectors.{dot, direction, is_above, is_below}
 use Rattle.euler_operators.specs.Items.{count, IsIn}
 use Rattle.euler_operators.proofs.Lists.{count-append, tick_same, tick_other}
+use Rattle.euler_operators.proofs.Members.{IsIn-map, filter_passes}
 use Rattle.euler_operators.specs.Model.{Model, LoopContent, lone, cycle, items_of, tail, content, face_of, outer, solid_of, point_of, rings_of, faces_of}
 use Rattle.euler_operators.specs.Sound.{Sound, Has}
 use Rattle.euler_operators.specs.Conditions.{lists}
@@ -18,23 +20,19 @@ use Rattle.shapes.specs.Measure.{normal}
 use Rattle.solid_walks.proofs.Rising.{in_listed}
 use Rattle.shapes.specs.split.Sides.{reaches_above, reaches_below, straddles, face_is_above, faces_above}
 use Rattle.split_opening_laws.proofs.strips.Cycle.{listed_in}
-use Rattle.split_opening_laws.proofs.strips.Places.{IsIn-map}
-use Rattle.split_opening_laws.proofs.cycles.Meets.{count_filter, filter_passes}
+use Rattle.split_opening_laws.proofs.cycles.Meets.{count_filter}
 use Rattle.split_laws.specs.sides.Sided.{IsOnSide, AreSided}
 
 none_such : (p : ℕ → Bool) (vs : List ℕ) → list_any p vs ≡ false → (v : ℕ) → IsIn v vs → p v ≡ false
 none_such p [] e v i = absurd (omega (arith, i))
-none_such p (u ∷ vs) e v i = let a = parts_of (p u) (list_any p vs) e in elim (eqb_tells v u) [
+none_such p (u ∷ vs) e v i = let a = or_parts (p u) (list_any p vs) e in elim (eqb_tells v u) [
   | inl q ↦ ap p q.1 ∙ a.0
   | inr q ↦ none_such p vs a.1 v (omega (arith, i, tick_other v u q.1))
-] where
-  parts_of : (a b : Bool) → a || b ≡ false → (a ≡ false) × (b ≡ false)
-  parts_of true b e = absurd (true≢false e)
-  parts_of false b e = (refl, e)
+]
 
 on_loop : (M : Model) (c : LoopContent) (h : ℕ) → IsIn h (items_of c) → IsIn (tail M h) (vertices_on M c)
 on_loop M (lone v) h i = absurd (omega (arith, i))
-on_loop M (cycle hs) h i = IsIn-map (tail M) hs h i
+on_loop M (cycle hs) h i = IsIn-map (tail M) h hs i
 
 on_loops : (M : Model) (ls : List ℕ) (l h : ℕ) → IsIn l ls → IsIn h (items_of (content M l)) → IsIn (tail M h) (vertices_in M ls)
 on_loops M [] l h j i = absurd (omega (arith, j))

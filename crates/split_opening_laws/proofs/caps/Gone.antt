@@ -4,9 +4,10 @@ use Rattle.std.proofs.lemmas.Bool.Decides.{nat_tests, eqb_tells}
 use Rattle.euler_operators.specs.Items.{IsIn}
 use Rattle.euler_operators.specs.Rings.{canonical}
 use Rattle.euler_operators.proofs.Lists.{tick_other}
+use Rattle.euler_operators.proofs.Tables.{get-remove_other, remove_turned}
 use Rattle.euler_operators.specs.HalfEdge.{minus}
 use Rattle.euler_operators.specs.Table as table
-use Rattle.euler_operators.specs.Table.{Table, tables, same_table}
+use Rattle.euler_operators.specs.Table.{Table, tables}
 use Rattle.euler_operators.specs.Sound.{Has}
 use Rattle.shapes.specs.Fresh.{numbers_after}
 use Rattle.shapes.specs.Rewriting.{without_rows}
@@ -35,9 +36,6 @@ canonical_run k n = canonical_first (minus (k + 1)) (map minus (numbers_after (k
 -- ---- rows
 
 module _ {X : Type 0} where
-  remove_turned : (t : Table X) (k n : ℕ) → table.remove (table.remove t k) n ≡ table.remove (table.remove t n) k
-  remove_turned t k n = same_table _ _ (λ q. grind (arith, nat_tests, tables))
-
   -- one number more, behind the run or before it
   pub gone_more : (t : Table X) (k n : ℕ) → without_rows t (numbers_after k (suc n)) ≡ table.remove (without_rows t (numbers_after k n)) (k + suc n)
   gone_more t k zero = refl
@@ -49,9 +47,6 @@ module _ {X : Type 0} where
 
   removed_none : (t : Table X) (k q : ℕ) → table.get t q ≡ None → table.get (table.remove t k) q ≡ None
   removed_none t k q free = grind (arith, nat_tests, tables)
-
-  removed_else : (t : Table X) (k q : ℕ) → q ≢ k → table.get (table.remove t k) q ≡ table.get t q
-  removed_else t k q ne = grind (arith, nat_tests, tables)
 
   removed_here : (t : Table X) (k q : ℕ) → q ≡ k → table.get (table.remove t k) q ≡ None
   removed_here t k q e = grind (arith, nat_tests, tables)
@@ -67,17 +62,17 @@ module _ {X : Type 0} where
       let r = gone_back (table.remove t (k + 1)) (k + 1) n q there in
       elim (eqb_tells q (k + 1)) [
         | inl e ↦ absurd (true≢false (sym there ∙ ap is_some (r ∙ removed_here t (k + 1) q e.1)))
-        | inr ne ↦ r ∙ removed_else t (k + 1) q ne.1
+        | inr ne ↦ r ∙ get-remove_other t (k + 1) q ne.1
       ]
 
   -- the rows outside the run stay, those in it go
   pub gone_below : (t : Table X) (k n q : ℕ) → q ≤ k → table.get (without_rows t (numbers_after k n)) q ≡ table.get t q
   gone_below t k zero q l = refl
-  gone_below t k (suc n) q l = gone_below (table.remove t (k + 1)) (k + 1) n q (omega (arith, l)) ∙ removed_else t (k + 1) q (λ e. omega (arith, l, e))
+  gone_below t k (suc n) q l = gone_below (table.remove t (k + 1)) (k + 1) n q (omega (arith, l)) ∙ get-remove_other t (k + 1) q (λ e. omega (arith, l, e))
 
   pub gone_above : (t : Table X) (k n q : ℕ) → k + n < q → table.get (without_rows t (numbers_after k n)) q ≡ table.get t q
   gone_above t k zero q l = refl
-  gone_above t k (suc n) q l = gone_above (table.remove t (k + 1)) (k + 1) n q (omega (arith, l)) ∙ removed_else t (k + 1) q (λ e. omega (arith, l, e))
+  gone_above t k (suc n) q l = gone_above (table.remove t (k + 1)) (k + 1) n q (omega (arith, l)) ∙ get-remove_other t (k + 1) q (λ e. omega (arith, l, e))
 
   pub gone_within : (t : Table X) (k n q : ℕ) → k < q → q ≤ k + n → table.get (without_rows t (numbers_after k n)) q ≡ None
   gone_within t k zero q a b = absurd (omega (arith, a, b))

@@ -9,10 +9,9 @@ use Rattle.euler_operators.proofs.Rings.{successor_same, successor_last}
 use Rattle.euler_operators.specs.HalfEdge.{mate, edge_of, plus, minus}
 use Rattle.euler_operators.specs.Model.{Model, tail, face_of, after, round}
 use Rattle.euler_operators.specs.Sound.{Sound, HasHalf}
-use Rattle.euler_operators.proofs.Halves.{mate-mate, minus_row}
+use Rattle.euler_operators.proofs.Halves.{mate-mate, minus_row, mate_plus, mate_minus}
 use Rattle.euler_operators.specs.Conditions.{face_at, lists}
 use Rattle.euler_laws.proofs.shared.Fans.{half_mate, loop_after}
-use Rattle.euler_laws.proofs.shared.Undo.{mate_plus, mate_minus}
 use Rattle.sweeps_laws.proofs.prism.Steps.{half_is, cycle_is, apart_xs}
 use Rattle.shapes.specs.Fresh.{Taken}
 use Rattle.shapes.specs.Prism.{next_place}

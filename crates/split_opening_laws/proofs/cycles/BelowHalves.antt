@@ -9,13 +9,12 @@ use Rattle.euler_operators.specs.Table as table
 use Rattle.euler_operators.specs.Table.{Table}
 use Rattle.euler_operators.specs.Model.{Model, solid_of}
 use Rattle.euler_operators.specs.Sound.{Sound, HasHalf}
-use Rattle.euler_operators.proofs.Halves.{plus_row, minus_row}
+use Rattle.euler_operators.proofs.Halves.{plus_row, minus_row, mate_plus, mate_minus, plus_other}
 use Rattle.euler_operators.specs.Conditions.{face_at, lists, strictly_rises}
 use Rattle.euler_laws.proofs.shared.Arcs.{halves_of_edge}
 use Rattle.euler_laws.proofs.shared.Goes.{equal, equals}
 use Rattle.euler_laws.proofs.shared.Listed.{listed_passes, passes_listed, all_where-rises}
 use Rattle.euler_laws.proofs.shared.Loops.{some_row}
-use Rattle.euler_laws.proofs.shared.Undo.{mate_plus, mate_minus}
 use Rattle.solid_walks.proofs.RisingLists.{rest_rises}
 use Rattle.shapes.specs.Faces.{edges_of}
 use Rattle.solid_walks.proofs.Rising.{counted_once, in_listed}
@@ -55,9 +54,6 @@ pick_rises true false p m ns l r = rises_cons m ns (λ k i. (l k i).1) r
 pick_rises false true p m ns l r = rises_cons p ns (λ k i. (l k i).0) r
 pick_rises false false p m ns l r = r
 
-halves_differ : (e : ℕ) → plus e ≢ minus e
-halves_differ e s = absurd (omega arith)
-
 above_halves : (k e : ℕ) → e < edge_of k → (plus e < k) × (minus e < k)
 unfolding edge_of
 above_halves k e l = (omega (arith, l), omega (arith, l))
@@ -78,11 +74,11 @@ module _ (M : Model) (above : List ℕ) where
       (λ s. ne (ap edge_of s ∙ (plus_row e).0)) (λ s. ne (ap edge_of s ∙ (minus_row e).0))
 
   own_plus : (e : ℕ) → count (plus e) (below_half M above e) ≡ bit (is_below (plus e))
-  own_plus e = pick_plus (lists above (face_at M (plus e))) (lists above (face_at M (minus e))) (plus e) (minus e) (halves_differ e)
+  own_plus e = pick_plus (lists above (face_at M (plus e))) (lists above (face_at M (minus e))) (plus e) (minus e) (plus_other e)
       ∙ ap (λ m. bit (not (lists above (face_at M (plus e))) && lists above (face_at M m))) (sym (mate_plus e))
 
   own_minus : (e : ℕ) → count (minus e) (below_half M above e) ≡ bit (is_below (minus e))
-  own_minus e = pick_minus (lists above (face_at M (plus e))) (lists above (face_at M (minus e))) (plus e) (minus e) (halves_differ e)
+  own_minus e = pick_minus (lists above (face_at M (plus e))) (lists above (face_at M (minus e))) (plus e) (minus e) (plus_other e)
       ∙ ap (λ m. bit (not (lists above (face_at M (minus e))) && lists above (face_at M m))) (sym (mate_minus e))
 
   own_edge : (x : ℕ) → count x (below_half M above (edge_of x)) ≡ bit (is_below x)

@@ -4,11 +4,11 @@ use Rattle.std.specs.Prelude.{filter}
 use Rattle.std.proofs.lemmas.Bool.Decides.{nat_tests}
 use Rattle.euler_operators.specs.Items.{IsIn}
 use Rattle.euler_operators.specs.Conditions.{strictly_rises}
+use Rattle.euler_operators.proofs.Members.{count-filter}
 use Rattle.euler_laws.proofs.shared.Listed.{first_listed}
 use Rattle.solid_walks.proofs.RisingLists.{rest_rises, above_first}
 use Rattle.solid_walks.proofs.Rising.{in_listed}
 use Rattle.solid_walks.proofs.SolidFaces.{listed_in}
-use Rattle.split_opening_laws.proofs.cycles.Meets.{filter_less}
 
 pub rises_cons : (n : ℕ) (ns : List ℕ) → ((k : ℕ) → IsIn k ns → n < k) → strictly_rises ns ≡ true → strictly_rises (n ∷ ns) ≡ true
 rises_cons n [] l r = refl
@@ -26,5 +26,5 @@ pub filter_rises : (p : ℕ → Bool) (ns : List ℕ) → strictly_rises ns ≡ 
 filter_rises p [] r = refl
 filter_rises p (n ∷ ns) r = go (p n) (filter_rises p ns (rest_rises n ns r)) where
   go : (b : Bool) → strictly_rises (filter p ns) ≡ true → strictly_rises (cond b (n ∷ filter p ns) (filter p ns)) ≡ true
-  go true s = rises_cons n (filter p ns) (λ k i. first_least n k ns r (omega (arith, i, filter_less p k ns))) s
+  go true s = rises_cons n (filter p ns) (λ k i. first_least n k ns r (omega (arith, i, count-filter p k ns))) s
   go false s = s

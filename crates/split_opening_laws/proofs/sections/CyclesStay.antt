@@ -12,6 +12,7 @@ use Rattle.euler_operators.specs.Model.{Model, tail, solid_of, loop_of}
 use Rattle.euler_operators.specs.Sound.{Sound, HasHalf}
 use Rattle.euler_operators.proofs.Halves.{mate-mate}
 use Rattle.euler_operators.proofs.Models.{row_of}
+use Rattle.euler_operators.proofs.Members.{IsIn-map}
 use Rattle.euler_operators.specs.Conditions.{face_at, lists}
 use Rattle.euler_laws.proofs.shared.Fans.{half_mate}
 use Rattle.shapes.specs.Fresh.{Taken}
@@ -19,7 +20,6 @@ use Rattle.shapes.specs.Prism.{next_place}
 use Rattle.shapes.specs.split.Opening.{opened_along}
 use Rattle.split_opening_laws.specs.cycles.SectionCycles.{IsSectionCycle, AreSectionCycles, AreApartCycles}
 use Rattle.split_opening_laws.specs.sections.InTurn.{AreFree}
-use Rattle.split_opening_laws.proofs.cycles.Meets.{in_map}
 use Rattle.split_opening_laws.proofs.sections.Rims.{at_most}
 use Rattle.split_opening_laws.proofs.sections.OpenedRows.{solid_kept, face_kept, half_kept, tail_cases, tail_kept, half_cases}
 
@@ -52,7 +52,7 @@ module _ (M : Model) (above : List ℕ) (s : ℕ) (c : Taken) (bs : List ℕ) (s
 
   -- the mates of the cycle start at its vertices
   mate_vertex : (b : ℕ) → IsIn b bs → IsIn (tail M (mate b)) vertices
-  mate_vertex b i = let r = follows M above s bs first b i in subst (λ v. IsIn v vertices) r.2 (in_map (tail M) r.0 bs r.1)
+  mate_vertex b i = let r = follows M above s bs first b i in subst (λ v. IsIn v vertices) r.2 (IsIn-map (tail M) r.0 bs r.1)
 
   -- what starts elsewhere is no mate of the cycle, nor is its mate
   pub no_mate : (h : ℕ) → count (tail M h) vertices ≡ 0 → count h (map mate bs) ≡ 0
@@ -64,7 +64,7 @@ module _ (M : Model) (above : List ℕ) (s : ℕ) (c : Taken) (bs : List ℕ) (s
   pub no_mates_mate : (h : ℕ) → count (tail M h) vertices ≡ 0 → count (mate h) (map mate bs) ≡ 0
   no_mates_mate h z = elim (IsIn_or_not (mate h) (map mate bs)) [
     | inl i ↦ let r = from_map mate (mate h) bs i in
-        absurd (omega (arith, z, ap (λ x. count (tail M x) vertices) (sym (mate-mate h) ∙ ap mate r.2 ∙ mate-mate r.0), in_map (tail M) r.0 bs r.1))
+        absurd (omega (arith, z, ap (λ x. count (tail M x) vertices) (sym (mate-mate h) ∙ ap mate r.2 ∙ mate-mate r.0), IsIn-map (tail M) r.0 bs r.1))
     | inr n ↦ n
   ]
 
@@ -134,7 +134,7 @@ module _ (M : Model) (above : List ℕ) (s : ℕ) (c : Taken) (bs : List ℕ) (s
 -- the halves of the others start elsewhere
 pub starts_elsewhere : (M : Model) (above : List ℕ) (s : ℕ) (bs : List ℕ) (cs : List (List ℕ)) → AreApartCycles M above s (bs ∷ cs) → (d : ℕ) → IsIn d (flat_map (λ bs. bs) cs) → count (tail M d) (map (tail M) bs) ≡ 0
 starts_elsewhere M above s bs cs w d i = let rest : List ℕ = flat_map (λ bs. bs) cs in
-    omega (arith, w.starts_apart (tail M d), ap (count (tail M d)) (map-append (tail M) bs rest), count-append (tail M d) (map (tail M) bs) (map (tail M) rest), in_map (tail M) d rest i)
+    omega (arith, w.starts_apart (tail M d), ap (count (tail M d)) (map-append (tail M) bs rest), count-append (tail M d) (map (tail M) bs) (map (tail M) rest), IsIn-map (tail M) d rest i)
 
 pub cycles_stay : (M : Model) (above : List ℕ) (s : ℕ) (c : Taken) (bs : List ℕ) (cs : List (List ℕ)) → Sound M → AreFree M c → AreApartCycles M above s (bs ∷ cs) → AreApartCycles (opened_along M above s c bs) above s cs
 cycles_stay M above s c bs cs sound free w =

@@ -7,11 +7,10 @@ use Rattle.euler_operators.specs.HalfEdge.{mate, plus, minus}
 use Rattle.euler_operators.specs.Table as table
 use Rattle.euler_operators.specs.Model.{Model, solid_of}
 use Rattle.euler_operators.specs.Sound.{Sound, Has, HasHalf}
-use Rattle.euler_operators.proofs.Halves.{plus_row, minus_row}
+use Rattle.euler_operators.proofs.Halves.{plus_row, minus_row, mate_plus, mate_minus}
 use Rattle.euler_operators.proofs.Tables.{first_where_zero}
 use Rattle.euler_operators.specs.Conditions.{face_at, lists, differ, torn_edge}
 use Rattle.euler_laws.proofs.shared.Listed.{first_listed, rest_listed, listed_cases}
-use Rattle.euler_laws.proofs.shared.Undo.{mate_plus, mate_minus}
 use Rattle.shapes.specs.Fresh.{Taken}
 use Rattle.shapes.specs.split.Section.{below_halves, section_cycles, is_hole}
 use Rattle.shapes.specs.split.Opening.{Caps, Opening, opened_along, next_opened, all_opened}

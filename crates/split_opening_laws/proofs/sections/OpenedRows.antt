@@ -13,6 +13,7 @@ use Rattle.euler_operators.specs.Sound.{Sound, Has, HasHalf}
 use Rattle.euler_operators.proofs.Halves.{plus_row, minus_row}
 use Rattle.euler_operators.proofs.Models.{holds_in, in-holds, face_row, content_row, tail_row, cycle_there, row_of}
 use Rattle.euler_operators.proofs.Tables.{first_where_is}
+use Rattle.euler_operators.proofs.Members.{IsIn-map}
 use Rattle.euler_operators.specs.Conditions.{face_at, lists}
 use Rattle.euler_laws.proofs.shared.Arcs.{halves_of_edge}
 use Rattle.euler_laws.proofs.shared.Loops.{some_row}
@@ -21,7 +22,6 @@ use Rattle.shapes.specs.Fresh.{Taken, numbers_after}
 use Rattle.shapes.specs.Rewriting.{rewritten_row, renamed}
 use Rattle.shapes.specs.split.Opening.{opened_tail, opened_row, with_rim, with_copies, both_lists, opened_along}
 use Rattle.split_opening_laws.specs.sections.InTurn.{AreFree}
-use Rattle.split_opening_laws.proofs.cycles.Meets.{in_map}
 use Rattle.split_opening_laws.proofs.sections.Rims.{at_most, other_number, rim_below, rim_cases, rim_numbers}
 use Rattle.split_opening_laws.proofs.sections.Pairs.{renamed_one, renamed_not, in_numbers, numbers_in}
 
@@ -107,7 +107,7 @@ module _ (M : Model) (above : List ℕ) (s : ℕ) (c : Taken) (bs : List ℕ) wh
 
     module _ (h : ℕ) (there : HasHalf M h) (no_mate : count h (map mate bs) ≡ 0) where
       renamed_in : (hs : List ℕ) → IsIn h hs → IsIn h (canonical (map (renamed swaps) hs))
-      renamed_in hs i = omega (arith, count-canonical h (map (renamed swaps) hs), subst (λ x. IsIn x (map (renamed swaps) hs)) (renamed_not (map mate bs) (map plus rim) h no_mate) (in_map (renamed swaps) h hs i))
+      renamed_in hs i = omega (arith, count-canonical h (map (renamed swaps) hs), subst (λ x. IsIn x (map (renamed swaps) hs)) (renamed_not (map mate bs) (map plus rim) h no_mate) (IsIn-map (renamed swaps) h hs i))
 
       -- a rewritten loop that holds it held it
       held : (q : ℕ) (k : LoopContent) → content M q ≡ k → IsIn h (items_of (rewritten_row (map (renamed swaps)) q (record { face = 0; content = k })).content) → loop_of M h ≡ q

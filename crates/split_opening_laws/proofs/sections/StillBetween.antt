@@ -10,6 +10,7 @@ use Rattle.euler_operators.specs.Model.{Model, loop_of, solid_of, no_face}
 use Rattle.euler_operators.specs.Sound.{Sound, Has, HasHalf}
 use Rattle.euler_operators.proofs.Halves.{mate-mate}
 use Rattle.euler_operators.proofs.Models.{row_of}
+use Rattle.euler_operators.proofs.Members.{IsIn-map}
 use Rattle.euler_operators.specs.Conditions.{face_at, lists}
 use Rattle.euler_laws.proofs.shared.Arcs.{halves_of_edge}
 use Rattle.euler_laws.proofs.shared.Fans.{half_mate}
@@ -18,7 +19,6 @@ use Rattle.euler_laws.proofs.shared.Listed.{first_listed, rest_listed}
 use Rattle.shapes.specs.Fresh.{Taken, numbers_after}
 use Rattle.shapes.specs.split.Opening.{opened_along}
 use Rattle.split_opening_laws.specs.cycles.SectionCycles.{IsSectionCycle, AreApartCycles}
-use Rattle.split_opening_laws.proofs.cycles.Meets.{in_map}
 use Rattle.split_opening_laws.specs.sections.InTurn.{AreFree, halves_in, AreBetween}
 use Rattle.split_opening_laws.proofs.sections.Rims.{at_most}
 use Rattle.split_opening_laws.proofs.sections.OpenedRows.{face_still, solid_kept, face_kept, half_back}
@@ -115,7 +115,7 @@ module _ (M : Model) (above : List ℕ) (s : ℕ) (c : Taken) (bs : List ℕ) (c
     old_between t y z =
         let i : IsIn h (halves_in (bs ∷ cs)) = between.only h t (sym (listed_same h t y) ∙ f) (sym (listed_same (mate h) (half_mate M sound h t) z) ∙ g) in
         elim (IsIn_or_not h bs) [
-          | inl j ↦ absurd (omega (arith, z, in_map mate h bs j))
+          | inl j ↦ absurd (omega (arith, z, IsIn-map mate h bs j))
           | inr n ↦ omega (arith, i, n, count-append h bs (halves_in cs))
         ]
 

@@ -1,5 +1,5 @@
 -- What is known of a cycle along which a solid can be opened, place by place.
-use Rattle.std.proofs.Common.{◌≡◌, ◌≢◌, ℕ, zero, suc, ◌+◌, ◌-◌, ◌≤◌, ◌<◌, true, false, cond, List, [], ◌∷◌, length, None, is_some, refl, sym, ap, ◌∙◌, subst, arith, ◌⊎◌, inl, inr, true≢false}
+use Rattle.std.proofs.Common.{◌≡◌, ◌≢◌, ℕ, zero, suc, ◌+◌, ◌-◌, ◌≤◌, ◌<◌, true, false, cond, List, [], ◌∷◌, length, is_some, refl, sym, ap, ◌∙◌, subst, arith, ◌⊎◌, inl, inr, true≢false}
 use Rattle.std.specs.Prelude.{map, get_or}
 use Rattle.std.proofs.lemmas.Bool.Decides.{eqb_tells}
 use Rattle.std.proofs.lemmas.List.{length-map, get_or-map}
@@ -8,11 +8,10 @@ use Rattle.euler_operators.proofs.Lists.{tick_same, tick_other}
 use Rattle.euler_operators.proofs.Maps.{from_map}
 use Rattle.euler_operators.proofs.Std.{IsIn-get_or, Contains-from_in, AllPairs-from_apart}
 use Rattle.euler_operators.specs.HalfEdge.{mate, edge_of}
-use Rattle.euler_operators.specs.Table as table
-use Rattle.euler_operators.specs.Table.{Table}
 use Rattle.euler_operators.specs.Model.{Model, tail}
 use Rattle.euler_operators.specs.Sound.{HasHalf}
 use Rattle.euler_operators.proofs.Halves.{mate-mate}
+use Rattle.euler_operators.proofs.Tables.{in_use_within}
 use Rattle.euler_operators.specs.Conditions.{face_at, lists}
 use Rattle.euler_laws.proofs.shared.Fans.{half_mate}
 use Rattle.euler_laws.proofs.shared.Listed.{first_listed, rest_listed, listed_cases}
@@ -36,15 +35,6 @@ in_listed n (k ∷ ns) i = elim (eqb_tells n k) [
   | inl e ↦ subst (λ q. lists (k ∷ ns) q ≡ true) (sym e.1) (first_listed k ns)
   | inr e ↦ rest_listed k n ns (in_listed n ns (omega (arith, i, tick_other n k e.1)))
 ]
-
--- a number in use isn't above those taken
-pub at_most : {X : Type 0} (t : Table X) (n q : ℕ) → ((k : ℕ) → n < k → table.get t k ≡ None) → is_some (table.get t q) ≡ true → q ≤ n
-at_most t n q free there = elim (below q n) [
-  | inl l ↦ l
-  | inr g ↦ absurd (true≢false (sym there ∙ ap is_some (free q g)))
-] where
-  below : (a b : ℕ) → (a ≤ b) ⊎ (b < a)
-  below a b = grind arith
 
 -- ---- places round a list
 
@@ -112,7 +102,7 @@ module _ (M : Model) (above : List ℕ) (s : ℕ) (c : Taken) (bs : List ℕ) (w
   mate_there j lt = half_mate M w.sound (half_at j) (half_there j lt)
 
   pub low_edge : (h : ℕ) → HasHalf M h → edge_of h ≤ c.edge
-  low_edge h there = at_most M.edges c.edge (edge_of h) w.edges_free there
+  low_edge h there = in_use_within M.edges c.edge w.edges_free (edge_of h) there
 
   start_at : (j : ℕ) → j < length bs → get_or (map (tail M) bs) j 0 ≡ tail M (half_at j)
   start_at j lt = get_or-map (tail M) bs j 0 0 lt
@@ -197,4 +187,4 @@ module _ (M : Model) (above : List ℕ) (s : ℕ) (c : Taken) (bs : List ℕ) (w
 
   -- a vertex isn't above those taken
   pub low_vertex : (h : ℕ) → HasHalf M h → tail M h ≤ c.vertex
-  low_vertex h there = at_most M.vertices c.vertex (tail M h) w.vertices_free (w.sound.tails_there h there)
+  low_vertex h there = in_use_within M.vertices c.vertex w.vertices_free (tail M h) (w.sound.tails_there h there)

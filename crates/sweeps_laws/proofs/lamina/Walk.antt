@@ -9,7 +9,8 @@ use Rattle.euler_operators.specs.Sound.{Sound}
 use Rattle.euler_operators.specs.declared.Op.{Op}
 use Rattle.euler_operators.specs.Conditions.{first_false}
 use Rattle.euler_operators.specs.Effect.{effect}
-use Rattle.euler_laws.proofs.shared.Goes.{all_hold, not_true, free, equal}
+use Rattle.euler_operators.proofs.Tables.{no_row}
+use Rattle.euler_laws.proofs.shared.Goes.{all_hold, not_true, equal}
 use Rattle.euler_laws.proofs.Cases.{effect_keeps_sound}
 use Rattle.euler_laws.specs.Laws.{AreAccepted, effects}
 use Rattle.shapes.proofs.fresh.Tests.{numbers_are_left}
@@ -45,7 +46,7 @@ lamina_goes M s ps sound e =
       loops = refl;
       edges = refl;
       vertices = refl;
-      solid_free = free _ (not_true _ w.1.0);
+      solid_free = no_row _ (not_true _ w.1.0);
       solid_fits = w.0;
       many = three (length ps) w.1.1.0;
       points_fit = none_far 0 ps (equal _ _ w.1.1.1.0);

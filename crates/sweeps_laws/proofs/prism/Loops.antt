@@ -10,6 +10,8 @@ use Rattle.euler_operators.specs.Rings.{canonical, rotate_to}
 use Rattle.euler_operators.proofs.Lists.{count-append, tick_same, tick_other, least_le, least_in}
 use Rattle.euler_operators.proofs.Rotations.{canonical_same, rotate_to_head}
 use Rattle.euler_operators.proofs.Std.{IsIn-get_or}
+use Rattle.euler_operators.proofs.Tables.{get-put_here, get-put_other}
+use Rattle.euler_operators.proofs.Models.{plus_tail_row, minus_tail_row}
 use Rattle.euler_operators.specs.HalfEdge.{plus, minus}
 use Rattle.euler_operators.specs.Table as table
 use Rattle.euler_operators.specs.Table.{Table, tables, same_table}
@@ -28,7 +30,7 @@ use Rattle.shapes.specs.Prism.{riser, top_edge, top_items, next_place, with_side
 use Rattle.sweeps_laws.specs.prism.Part.{lifted_part, prism_part}
 use Rattle.sweeps_laws.specs.prism.SweepOps.{raise, close, close_last, rounds, loop_ops}
 use Rattle.sweeps_laws.proofs.prism.Steps.{Around, apart_xs, with_chord, mev_does, mev_fits, mef_does, mef_fits}
-use Rattle.sweeps_laws.proofs.prism.Sides.{Ready, fits, riser_is, top_is, next_last, plus_tail_at, minus_tail_at, put_there, put_other, two_items, from_least}
+use Rattle.sweeps_laws.proofs.prism.Sides.{Ready, fits, riser_is, top_is, next_last, two_items, from_least}
 use Rattle.sweeps_laws.proofs.prism.Rounds.{drop_next, loop_within, part_loop, part_edge_free, part_face_free, part_loop_free, part_riser, part_solid, round_accepted, round_is}
 
 -- a ring that starts at its least item is in the order of listings
@@ -109,11 +111,11 @@ module _ (M : Model) (c : Taken) (f l : ℕ) (d : Point) (hs : List ℕ) (w : Re
   -- the row of the first top edge
   first_top : (i : ℕ) → i < length hs → table.get (with_sides c (solid_of M f) d hs (suc i) M).edges (top_edge c.edge (length hs) 0) ≡ Some (record { plus_tail = c.vertex + 1 + 0; minus_tail = c.vertex + 1 + next_place (length hs) 0 })
   unfolding with_side
-  first_top zero lt = put_there _ _ _
+  first_top zero lt = get-put_here _ _ _
   first_top (suc i) lt =
       let two = two_items M c f l d hs w in
-      put_other _ _ _ (top_edge c.edge (length hs) 0) (λ s. omega (arith, top_is c.edge (length hs) 0, top_is c.edge (length hs) (suc i)))
-      ∙ put_other _ _ _ (top_edge c.edge (length hs) 0) (λ s. omega (arith, top_is c.edge (length hs) 0, riser_is c.edge (suc i)))
+      get-put_other _ _ _ (top_edge c.edge (length hs) 0) (λ s. omega (arith, top_is c.edge (length hs) 0, top_is c.edge (length hs) (suc i)))
+      ∙ get-put_other _ _ _ (top_edge c.edge (length hs) 0) (λ s. omega (arith, top_is c.edge (length hs) 0, riser_is c.edge (suc i)))
       ∙ first_top i (omega arith)
 
   -- ---- the last side, over item j + 1
@@ -188,14 +190,14 @@ module _ (M : Model) (c : Taken) (f l : ℕ) (d : Point) (hs : List ℕ) (w : Re
     r_free = part_loop_free M c f l d hs w (suc j) r (omega arith)
 
     tail_b : tail P b ≡ c.vertex + 1 + suc j
-    tail_b = minus_tail_at P (riser c.edge (suc j)) _ (part_riser M c f l d hs w (suc j))
+    tail_b = minus_tail_row P (riser c.edge (suc j)) _ (part_riser M c f l d hs w (suc j))
 
     first_row : table.get P.edges (top_edge c.edge (length hs) 0) ≡ Some (record { plus_tail = c.vertex + 1 + 0; minus_tail = c.vertex + 1 + next_place (length hs) 0 })
     unfolding prism_part
-    first_row = put_other _ _ _ (top_edge c.edge (length hs) 0) (λ e. omega (arith, two, top_is c.edge (length hs) 0, riser_is c.edge (suc j))) ∙ first_top j (omega (arith, last))
+    first_row = get-put_other _ _ _ (top_edge c.edge (length hs) 0) (λ e. omega (arith, two, top_is c.edge (length hs) 0, riser_is c.edge (suc j))) ∙ first_top j (omega (arith, last))
 
     tail_k : tail P k ≡ c.vertex + 1 + 0
-    tail_k = plus_tail_at P (top_edge c.edge (length hs) 0) _ first_row
+    tail_k = plus_tail_row P (top_edge c.edge (length hs) 0) _ first_row
 
     accepted : first_false P (close_last c (length hs) (suc j)) ≡ None
     accepted = mef_fits P l f b k (h ∷ a ∷ []) T t s r around_last t_free r_free (part_face_free M c f l d hs w (suc j) s (omega arith))
@@ -211,10 +213,10 @@ module _ (M : Model) (c : Taken) (f l : ℕ) (d : Point) (hs : List ℕ) (w : Re
     sound_after = subst Sound does (effect_keeps_sound P (close_last c (length hs) (suc j)) sound accepted)
 
     kept_there : Around N l f X3
-    kept_there = record { sound = sound_after; at = put_other _ r _ l r_other ∙ put_there _ l _ }
+    kept_there = record { sound = sound_after; at = get-put_other _ r _ l r_other ∙ get-put_here _ l _ }
 
     side_there : Around N r s X4
-    side_there = record { sound = sound_after; at = put_there _ r _ }
+    side_there = record { sound = sound_after; at = get-put_here _ r _ }
 
     all_tops : top_items c.edge (length hs) (suc (suc j)) ≡ k ∷ (T ++ plus t ∷ [])
     all_tops = ap (λ xs. xs ++ plus t ∷ []) tops_are

@@ -9,13 +9,13 @@ use Rattle.euler_operators.specs.Items.{IsIn}
 use Rattle.euler_operators.specs.Rings.{canonical, successor}
 use Rattle.euler_operators.proofs.Lists.{tick_same}
 use Rattle.euler_operators.proofs.Rings.{successor_head}
-use Rattle.euler_operators.specs.HalfEdge.{edge_of, is_first, plus, minus}
+use Rattle.euler_operators.specs.HalfEdge.{edge_of, is_first}
 use Rattle.euler_operators.specs.Table as table
-use Rattle.euler_operators.specs.Table.{Table, tables, same_table}
-use Rattle.euler_operators.specs.Model.{Model, EdgeRow, cycle, items_of, holds, tail, tail_in, no_edge, no_face, no_point, content, solid_of, point_of, loop_of, after, cycle_of, is_number}
+use Rattle.euler_operators.specs.Table.{Table}
+use Rattle.euler_operators.specs.Model.{Model, cycle, items_of, holds, tail, tail_in, no_edge, no_face, no_point, content, solid_of, point_of, loop_of, after, cycle_of, is_number}
 use Rattle.euler_operators.specs.Sound.{Sound, Has, HasHalf}
-use Rattle.euler_operators.proofs.Halves.{plus_row, minus_row}
-use Rattle.euler_operators.proofs.Models.{content_row, face_row, tail_row, in-holds}
+use Rattle.euler_operators.proofs.Models.{content_row, face_row, in-holds}
+use Rattle.euler_operators.proofs.Tables.{get-put_other}
 use Rattle.shapes.specs.Faces.{start}
 use Rattle.shapes.specs.Fresh.{Taken}
 use Rattle.shapes.specs.Prism.{riser, top_edge, next_place, with_side, with_sides}
@@ -51,22 +51,7 @@ next_last n i h = ap (λ b. cond b 0 (i + 1)) (eq-eqb (i + 1) n h)
 
 -- ---- tails from rows
 
-pub plus_tail_at : (M : Model) (u : ℕ) (row : EdgeRow) → table.get M.edges u ≡ Some row → tail M (plus u) ≡ row.plus_tail
-plus_tail_at M u row at = tail_row M (plus u) row (ap (table.get M.edges) (plus_row u).0 ∙ at) ∙ ap (tail_in row) (plus_row u).1
-
-pub minus_tail_at : (M : Model) (u : ℕ) (row : EdgeRow) → table.get M.edges u ≡ Some row → tail M (minus u) ≡ row.minus_tail
-minus_tail_at M u row at = tail_row M (minus u) row (ap (table.get M.edges) (minus_row u).0 ∙ at) ∙ ap (tail_in row) (minus_row u).1
-
 -- ---- rows put
-
-pub put_there : {X : Type 0} (t : Table X) (n : ℕ) (x : X) → table.get (table.put t n x) n ≡ Some x
-put_there t n x = grind (arith, nat_tests, tables)
-
-pub put_other : {X : Type 0} (t : Table X) (n : ℕ) (x : X) (q : ℕ) → q ≢ n → table.get (table.put t n x) q ≡ table.get t q
-put_other t n x q ne = grind (arith, nat_tests, tables)
-
-pub put_exchanged : {X : Type 0} (t : Table X) (n k : ℕ) (x y : X) → n ≢ k → table.put (table.put t n x) k y ≡ table.put (table.put t k y) n x
-put_exchanged t n k x y ne = same_table _ _ (λ q. grind (arith, nat_tests, tables))
 
 -- a number in use isn't above all numbers in use
 pub within : {X : Type 0} (t : Table X) (k q : ℕ) → ((q : ℕ) → k < q → table.get t q ≡ None) → Has t q → q ≤ k
@@ -130,22 +115,22 @@ module _ (M : Model) (c : Taken) (f l : ℕ) (d : Point) (hs : List ℕ) (w : Re
   sides_edges zero q o = refl
   sides_edges (suc i) q o =
       let h = o i (omega arith) in
-      put_other _ _ _ q h.1 ∙ put_other _ _ _ q h.0 ∙ sides_edges i q (λ j lt. o j (omega arith))
+      get-put_other _ _ _ q h.1 ∙ get-put_other _ _ _ q h.0 ∙ sides_edges i q (λ j lt. o j (omega arith))
 
   pub sides_faces : (i q : ℕ) → ((j : ℕ) → j < i → q ≢ c.face + 1 + j) → table.get (with_sides c (solid_of M f) d hs i M).faces q ≡ table.get M.faces q
   unfolding with_side
   sides_faces zero q o = refl
-  sides_faces (suc i) q o = put_other _ _ _ q (o i (omega arith)) ∙ sides_faces i q (λ j lt. o j (omega arith))
+  sides_faces (suc i) q o = get-put_other _ _ _ q (o i (omega arith)) ∙ sides_faces i q (λ j lt. o j (omega arith))
 
   pub sides_loops : (i q : ℕ) → ((j : ℕ) → j < i → q ≢ c.loop + 1 + j) → table.get (with_sides c (solid_of M f) d hs i M).loops q ≡ table.get M.loops q
   unfolding with_side
   sides_loops zero q o = refl
-  sides_loops (suc i) q o = put_other _ _ _ q (o i (omega arith)) ∙ sides_loops i q (λ j lt. o j (omega arith))
+  sides_loops (suc i) q o = get-put_other _ _ _ q (o i (omega arith)) ∙ sides_loops i q (λ j lt. o j (omega arith))
 
   pub sides_vertices : (i q : ℕ) → ((j : ℕ) → j < i → q ≢ c.vertex + 1 + j) → table.get (with_sides c (solid_of M f) d hs i M).vertices q ≡ table.get M.vertices q
   unfolding with_side
   sides_vertices zero q o = refl
-  sides_vertices (suc i) q o = put_other _ _ _ q (o i (omega arith)) ∙ sides_vertices i q (λ j lt. o j (omega arith))
+  sides_vertices (suc i) q o = get-put_other _ _ _ q (o i (omega arith)) ∙ sides_vertices i q (λ j lt. o j (omega arith))
 
   pub old_edge : (i q : ℕ) → Has M.edges q → table.get (with_sides c (solid_of M f) d hs i M).edges q ≡ table.get M.edges q
   old_edge i q there = let b : q ≤ c.edge = within M.edges c.edge q w.edges_free there in

@@ -2,7 +2,7 @@
 use Rattle.std.proofs.Common.{◌≡◌, ◌≢◌, ℕ, zero, suc, ◌+◌, ◌≤◌, ◌<◌, Bool, true, false, cond, nat_le, List, [], ◌∷◌, ◌++◌, Some, refl, sym, ap, subst, ◌∙◌, arith, ◌⊎◌, inl, inr, append-nil}
 use Rattle.std.proofs.lemmas.Bool.Decides.{nat_tests, eqb_tells}
 use Rattle.euler_operators.specs.Table as table
-use Rattle.euler_operators.specs.Table.{Table, all_in, greatest_in, map_entries, map_rows}
+use Rattle.euler_operators.specs.Table.{Table, all_in, greatest_in, map_entries}
 use Rattle.shapes.proofs.fresh.Rows.{all_where-put_last, greatest-put_last, get-put_here, get-put_other}
 
 -- a number is at most a, one of the n after a, or above these
@@ -91,19 +91,10 @@ module _ {X : Type 0} (f : ℕ → X → X) where
   all_in-map p [] = refl
   all_in-map p (e ∷ es) = ap (λ ns. cond (p e.0 (f e.0 e.1)) (e.0 ∷ ns) ns) (all_in-map p es)
 
-  -- a search after a rewriting
-  pub all_where-map : (p : ℕ → X → Bool) (t : Table X) → table.all_where p (map_rows f t) ≡ table.all_where (λ q x. p q (f q x)) t
-  unfolding table.all_where map_rows
-  all_where-map p t = all_in-map p t.rows
-
   greatest_in-map : (es : List (ℕ × X)) → greatest_in (map_entries f es) ≡ greatest_in es
   greatest_in-map [] = refl
   greatest_in-map (e ∷ []) = refl
   greatest_in-map (e ∷ k ∷ es) = greatest_in-map (k ∷ es)
-
-  pub greatest-map : (t : Table X) → table.greatest (map_rows f t) ≡ table.greatest t
-  unfolding table.greatest map_rows
-  greatest-map t = greatest_in-map t.rows
 
 -- searches by tests that agree
 pub same_search : {X : Type 0} (p q : ℕ → X → Bool) (t : Table X) → ((n : ℕ) (x : X) → p n x ≡ q n x) → table.all_where p t ≡ table.all_where q t

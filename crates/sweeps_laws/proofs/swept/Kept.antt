@@ -11,13 +11,15 @@ use Rattle.euler_operators.specs.Table.{Table}
 use Rattle.euler_operators.specs.Model.{Model, lone, cycle, EdgeRow, no_edge, items_of, tail, tail_in, content, face_of, outer, solid_of}
 use Rattle.euler_operators.specs.Sound.{Has}
 use Rattle.euler_operators.proofs.Halves.{plus_row, minus_row}
+use Rattle.euler_operators.proofs.Tables.{greatest-map}
+use Rattle.euler_operators.proofs.Models.{same_outer, same_solid}
 use Rattle.shapes.specs.Fresh.{Taken}
 use Rattle.shapes.specs.Prism.{riser, top_edge, top_items, next_place}
 use Rattle.shapes.proofs.fresh.Rows.{at_most_greatest, get-put_here, get-put_other}
-use Rattle.sweeps_laws.proofs.swept.Filled.{place_cases, filled_greatest, greatest-map}
+use Rattle.sweeps_laws.proofs.swept.Filled.{place_cases, filled_greatest}
 use Rattle.sweeps_laws.proofs.swept.Numbers.{next_within, riser_most, top_most}
 use Rattle.sweeps_laws.proofs.swept.Sides.{start_kept, finish_kept, grown, item, side_face, side_items, side_loop, side_riser, side_top, faces_grown, edges_step}
-use Rattle.sweeps_laws.proofs.swept.Lifted.{Bounded, IsPathOf, same_outer, same_solid, swept, tail_lifted, keeps_swept, face_old, face_past, outer_new, loop_old, within, face_of_old, face_of_new, face_of_past, content_here, content_old, content_past, content_new, loops_are, outer_old}
+use Rattle.sweeps_laws.proofs.swept.Lifted.{Bounded, IsPathOf, swept, tail_lifted, keeps_swept, face_old, face_past, outer_new, loop_old, within, face_of_old, face_of_new, face_of_past, content_here, content_old, content_past, content_new, loops_are, outer_old}
 
 -- the counters after a loop of n items is swept
 abbrev pub counted : Taken → ℕ → Taken
