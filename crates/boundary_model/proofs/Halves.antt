@@ -66,6 +66,17 @@ mate_minus e = elim (mate_cases (minus e)) [ inl p ↦ omega arith | inr p ↦ o
 pub plus_other : (e : ℕ) → plus e ≢ minus e
 plus_other e s = absurd (omega (arith, s))
 
+pub first_is_plus : (h : ℕ) → is_first h ≡ true → h ≡ plus (edge_of h)
+unfolding edge_of is_first
+first_is_plus h e = grind (arith, nat_tests)
+
+-- half-edges of two edges
+pub edges_apart : (h m : ℕ) → edge_of h ≢ edge_of m → h ≢ m
+edges_apart h m a e = a (ap edge_of e)
+
+pub mate_edge_apart : (h m : ℕ) → edge_of h ≢ edge_of m → edge_of (mate h) ≢ edge_of m
+mate_edge_apart h m a e = a (sym (edge_of-mate h) ∙ e)
+
 -- half-edges are known by their codes
 pub same_code : (h m : HalfEdge) → code h ≡ code m → h ≡ m
 same_code h m e = sym (half-code h) ∙ ap half e ∙ half-code m

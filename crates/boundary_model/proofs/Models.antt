@@ -133,6 +133,14 @@ pub same_solid : (M N : Model) (f : ℕ) → get N.faces f ≡ get M.faces f →
 unfolding solid_of
 same_solid M N f e = ap (λ o. (unwrap_or o no_face).solid) e
 
+lone_tells : LoopContent → Bool
+lone_tells (lone v) = true
+lone_tells (cycle hs) = false
+
+pub never_lone : (hs : List ℕ) (v : ℕ) → cycle hs ≢ lone v
+unfolding lone_tells
+never_lone hs v e = true≢false (sym (ap lone_tells e))
+
 -- ---- half-edges and edges
 
 pub mate_there : (M : Model) (h : ℕ) → HasHalf M h → HasHalf M (mate h)

@@ -8,6 +8,7 @@ use Rattle.std.proofs.lemmas.Bool.Decides.{nat_tests, eqb_tells}
 use Rattle.std.proofs.lemmas.Option.{same_Some}
 use Rattle.cyclic_list.proofs.Members.{no_cons}
 use Rattle.cyclic_list.proofs.Tests.{at_most_or_above}
+use Rattle.boundary_model.specs.Sound.{Has}
 use Rattle.boundary_model.specs.Table.{Table, get, put, remove, map_rows, map_entries, greatest, greatest_in, first_where, first_in, all_where, all_in, tables, same_table, get-map_rows, get-put, get-remove}
 
 -- a row that is put at a free number and taken away again
@@ -155,11 +156,11 @@ pub get-remove_other : {X : Type 0} (t : Table X) (n q : ℕ) → q ≢ n → ge
 get-remove_other t n q ne = get-remove t n q ∙ ap (λ b. cond b None (get t q)) (ne_eqb q n ne)
 
 -- a number with a row isn't one without
-pub row_elsewhere : {X : Type 0} (t : Table X) (q n : ℕ) → is_some (get t q) ≡ true → get t n ≡ None → q ≢ n
+pub row_elsewhere : {X : Type 0} (t : Table X) (q n : ℕ) → Has t q → get t n ≡ None → q ≢ n
 row_elsewhere t q n there free e = true≢false (sym there ∙ ap is_some (ap (get t) e ∙ free))
 
 -- a number in use isn't above all numbers in use
-pub in_use_within : {X : Type 0} (t : Table X) (n : ℕ) → ((q : ℕ) → n < q → get t q ≡ None) → (q : ℕ) → is_some (get t q) ≡ true → q ≤ n
+pub in_use_within : {X : Type 0} (t : Table X) (n : ℕ) → ((q : ℕ) → n < q → get t q ≡ None) → (q : ℕ) → Has t q → q ≤ n
 in_use_within t n free q there = elim (at_most_or_above q n) [ inl l ↦ l | inr l ↦ absurd (true≢false (sym there ∙ ap is_some (free q l))) ]
 
 -- ---- a row put twice, and two rows put or taken in either order
@@ -181,7 +182,7 @@ map_alike {X} g h t e = same_table (map_rows g t) (map_rows h t) (λ q. get-map_
   go q None at = refl
   go q (Some x) at = ap Some (e q x at)
 
-all_in-map : {X : Type 0} (f : ℕ → X → X) (p : ℕ → X → Bool) (es : List (ℕ × X)) → all_in p (map_entries f es) ≡ all_in (λ q x. p q (f q x)) es
+pub all_in-map : {X : Type 0} (f : ℕ → X → X) (p : ℕ → X → Bool) (es : List (ℕ × X)) → all_in p (map_entries f es) ≡ all_in (λ q x. p q (f q x)) es
 all_in-map f p [] = refl
 all_in-map f p (e ∷ es) = ap (λ ns. cond (p e.0 (f e.0 e.1)) (e.0 ∷ ns) ns) (all_in-map f p es)
 
@@ -189,7 +190,7 @@ pub all_where-map : {X : Type 0} (f : ℕ → X → X) (p : ℕ → X → Bool) 
 unfolding all_where map_rows
 all_where-map f p t = all_in-map f p t.rows
 
-greatest_in-map : {X : Type 0} (f : ℕ → X → X) (es : List (ℕ × X)) → greatest_in (map_entries f es) ≡ greatest_in es
+pub greatest_in-map : {X : Type 0} (f : ℕ → X → X) (es : List (ℕ × X)) → greatest_in (map_entries f es) ≡ greatest_in es
 greatest_in-map f [] = refl
 greatest_in-map f (e ∷ []) = refl
 greatest_in-map f (e ∷ d ∷ es) = greatest_in-map f (d ∷ es)

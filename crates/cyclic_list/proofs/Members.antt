@@ -1,6 +1,8 @@
 -- What stands in lists that are made of others, and how many items they have.
 use Rattle.std.proofs.Common.{◌≡◌, ◌≢◌, ℕ, ◌+◌, ◌≤◌, Bool, true, false, cond, List, [], ◌∷◌, ◌++◌, map, length, refl, sym, ap, ◌∙◌, arith, ◌⊎◌, inl, inr}
 use Rattle.std.specs.Prelude.{filter}
+use Rattle.std.specs.List.{list_all}
+use Rattle.std.proofs.lemmas.Bool.{and_from, and_parts}
 use Rattle.std.proofs.lemmas.Bool.Decides.{eqb_tells}
 use Rattle.std.proofs.lemmas.List.{length-append}
 use Rattle.cyclic_list.specs.Items.{tick, count, IsIn, IsApart, SameItems, head_or, before, after}
@@ -36,6 +38,9 @@ not_there x a xs n i e = grind (arith, ap (λ y. count y xs) e)
 pub no_cons : (x : ℕ) (xs : List ℕ) → x ∷ xs ≢ []
 no_cons x xs e = cc
 
+pub same_head : (x y : ℕ) (xs ys : List ℕ) → x ∷ xs ≡ y ∷ ys → y ≡ x
+same_head x y xs ys e = cc
+
 pub both_empty : (xs ys : List ℕ) → xs ++ ys ≡ [] → (xs ≡ []) × (ys ≡ [])
 both_empty [] ys e = (refl, e)
 both_empty (x ∷ xs) ys e = absurd (no_cons x (xs ++ ys) e)
@@ -62,6 +67,17 @@ IsApart-images f (x ∷ xs) d one z = let rest = IsApart-images f xs (λ y. omeg
     | inr n ↦ omega (arith, n, ap (λ k. tick k (f x)) s.1, tick_same (f x))
   ]
   | inr n ↦ omega (arith, tick_other z (f x) n.1, rest)
+]
+
+pub all_mapped : (p : ℕ → Bool) (f : ℕ → ℕ) (xs : List ℕ) → ((x : ℕ) → IsIn x xs → p (f x) ≡ true) → list_all p (map f xs) ≡ true
+all_mapped p f [] h = refl
+all_mapped p f (x ∷ xs) h = and_from (p (f x)) (list_all p (map f xs)) (h x (IsIn_head x xs)) (all_mapped p f xs (λ y i. h y (omega (arith, i))))
+
+pub each_mapped : (p : ℕ → Bool) (f : ℕ → ℕ) (xs : List ℕ) (x : ℕ) → list_all p (map f xs) ≡ true → IsIn x xs → p (f x) ≡ true
+each_mapped p f [] x all i = absurd (omega arith)
+each_mapped p f (y ∷ ys) x all i = let a = and_parts (p (f y)) (list_all p (map f ys)) all in elim (eqb_tells x y) [
+  | inl e ↦ ap (λ k. p (f k)) e.1 ∙ a.0
+  | inr e ↦ each_mapped p f ys x a.1 (omega (arith, tick_other x y e.1))
 ]
 
 -- ---- picked by a test

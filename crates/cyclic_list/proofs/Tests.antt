@@ -1,5 +1,7 @@
 -- What tests of numbers and sums of tests tell.
 use Rattle.std.proofs.Common.{◌≡◌, ◌≢◌, ℕ, suc, ◌<◌, ◌≤◌, ◌||◌, ◌&&◌, Bool, true, false, not, nat_eq, nat_lt, refl, sym, ap, ◌∙◌, arith, ◌⊎◌, true≢false}
+use mathlib.Core.Bool.{beq}
+use Rattle.std.specs.Ordering.{nat_cmp, is_eq}
 use Rattle.std.proofs.lemmas.Bool.Decides.{nat_tests}
 
 -- ---- two tests
@@ -21,9 +23,27 @@ pub and_false : (a : Bool) → (a && false) ≡ false
 and_false true = refl
 and_false false = refl
 
+pub or_false : (a : Bool) → (a || false) ≡ a
+or_false true = refl
+or_false false = refl
+
 pub or_true : (a : Bool) → (a || true) ≡ true
 or_true true = refl
 or_true false = refl
+
+pub not_or_fails : (a b : Bool) → (not a || b) ≡ false → a ≡ true
+not_or_fails true b e = refl
+not_or_fails false b e = absurd (true≢false e)
+
+pub beq_itself : (a : Bool) → beq a a ≡ true
+beq_itself true = refl
+beq_itself false = refl
+
+pub beq_true : (a b : Bool) → beq a b ≡ true → a ≡ b
+beq_true true true e = refl
+beq_true true false e = absurd (true≢false (sym e))
+beq_true false true e = absurd (true≢false (sym e))
+beq_true false false e = refl
 
 -- two tests that tell the same
 pub same_truth : (a b : Bool) → (a ≡ true → b ≡ true) → (b ≡ true → a ≡ true) → a ≡ b
@@ -53,6 +73,9 @@ less_still i n l ne = grind arith
 
 pub less_or_same : (a b : ℕ) → a ≤ b → (a < b) ⊎ (a ≡ b)
 less_or_same a b l = grind arith
+
+pub number_tied : (m n : ℕ) → is_eq (nat_cmp m n) ≡ nat_eq m n
+number_tied m n = grind arith
 
 pub at_most_or_above : (a b : ℕ) → (a ≤ b) ⊎ (b < a)
 at_most_or_above a b = grind arith

@@ -11,10 +11,11 @@ use Rattle.euler_operators.specs.Model.{Model, LoopRow, face_of, outer}
 use Rattle.euler_operators.specs.Sound.{Sound, Has}
 use Rattle.euler_operators.proofs.Models.{face_row}
 use Rattle.euler_operators.specs.Conditions.{lists, strictly_rises}
+use Rattle.euler_operators.specs.Items.{IsIn}
 use Rattle.euler_laws.specs.Laws.{size, all_rings}
 use Rattle.euler_laws.proofs.shared.Goes.{equal, equals}
 use Rattle.euler_laws.proofs.shared.Loops.{some_row}
-use Rattle.euler_laws.proofs.shared.Listed.{listed_passes, passes_listed, all_where-rises, first_listed, rest_listed, listed_cases}
+use Rattle.euler_laws.proofs.shared.Listed.{listed_passes, passes_listed, all_where-rises, first_listed, rest_listed, listed_cases, listed-from_in}
 
 -- ---- rows put, taken away and rewritten
 
@@ -93,16 +94,19 @@ less_true : (a b : ℕ) → nat_lt a b ≡ true → a < b
 less_true a b e = grind (arith, nat_tests)
 
 -- what stands after the first item of a rising list is greater
-rises_apart : (n q : ℕ) (ns : List ℕ) → strictly_rises (n ∷ ns) ≡ true → lists ns q ≡ true → n < q
+pub rises_apart : (n q : ℕ) (ns : List ℕ) → strictly_rises (n ∷ ns) ≡ true → lists ns q ≡ true → n < q
 rises_apart n q [] r l = absurd (true≢false (sym l))
 rises_apart n q (m ∷ ns) r l =
     let w = and_parts (nat_lt n m) (strictly_rises (m ∷ ns)) r in
     let a : n < m = less_true n m w.0 in
     elim (listed_cases m q ns l) [ inl e ↦ subst (λ k. n < k) (sym e) a | inr k ↦ (let b : m < q = rises_apart m q ns w.1 k in omega arith) ]
 
-rises_on : (n : ℕ) (ns : List ℕ) → strictly_rises (n ∷ ns) ≡ true → strictly_rises ns ≡ true
+pub rises_on : (n : ℕ) (ns : List ℕ) → strictly_rises (n ∷ ns) ≡ true → strictly_rises ns ≡ true
 rises_on n [] r = refl
 rises_on n (m ∷ ns) r = (and_parts (nat_lt n m) (strictly_rises (m ∷ ns)) r).1
+
+pub rises_over : (n k : ℕ) (ns : List ℕ) → strictly_rises (n ∷ ns) ≡ true → IsIn k ns → n < k
+rises_over n k ns r i = rises_apart n k ns r (listed-from_in k ns i)
 
 no_longer : (f : ℕ → ℕ) (xs ys : List ℕ) → strictly_rises xs ≡ true → ((x : ℕ) → lists xs x ≡ true → lists ys (f x) ≡ true) →
     ((x y : ℕ) → lists xs x ≡ true → lists xs y ≡ true → f x ≡ f y → x ≡ y) → length xs ≤ length ys

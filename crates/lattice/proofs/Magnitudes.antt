@@ -9,10 +9,17 @@ use Rattle.std.proofs.Math.Nat.{mul-le-mul}
 use mir.Syntax.{w64, w128}
 use Rattle.lattice.specs.declared.Point.{Point}
 use Rattle.lattice.specs.Point.{is_coordinate, IsInRange}
-use Rattle.lattice.specs.Ranges.{IsWithin}
+use Rattle.lattice.specs.Ranges.{IsWithin, IsVectorWithin}
+use Rattle.lattice.specs.Vectors.{is_offset}
 
 pub coordinate_within : (x : ℤ) → is_coordinate x ≡ true → IsWithin 1000000000 x
 coordinate_within x e = grind (arith, ints)
+
+pub offset_within : (d : ℤ) → is_offset d ≡ true → IsWithin 3000000000000000000 d
+offset_within d e = grind (arith, ints)
+
+pub vector_within : (v : Point) (m n : ℕ) → IsVectorWithin m v → m ≤ n → IsVectorWithin n v
+vector_within v m n w l = (omega (arith, w.0, l), omega (arith, w.1, l), omega (arith, w.2, l))
 
 -- the coordinates of a point in range
 pub coordinates : (p : Point) → IsInRange p → (is_coordinate p.x ≡ true) × (is_coordinate p.y ≡ true) × (is_coordinate p.z ≡ true)

@@ -87,3 +87,6 @@ three_dif v u v' u' = simp difs (same_dif _ _ _ _ (omega arith))
 
 pub three_times : (v u : ℤ) → (v +ℤ pos 2 *ℤ u) +ℤ u ≡ v +ℤ pos 3 *ℤ u
 three_times v u = rw (dif-parts v, dif-parts u, number 2, number 3) (three_dif _ _ _ _)
+
+pub dot_sum : (d p q : Point) → dot d (moved p q) ≡ dot d p +ℤ dot d q
+dot_sum d p q = dot_turned d (moved p q) ∙ dot_moved p q d ∙ (λ i. dot_turned p d i +ℤ dot_turned q d i)

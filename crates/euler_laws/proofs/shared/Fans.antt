@@ -9,9 +9,10 @@ use Rattle.euler_operators.proofs.Rings.{rotation_at, count_at, IsRing-same, IsI
 use Rattle.euler_operators.specs.HalfEdge.{mate}
 use Rattle.euler_operators.specs.Table as table
 use Rattle.euler_operators.specs.Model.{Model, items_of, tail, loop_of, content, cycle_of, after, round}
-use Rattle.euler_operators.specs.Sound.{Sound, HasHalf, StandsIn, Reaches, here, further}
+use Rattle.euler_operators.specs.Sound.{Sound, Has, HasHalf, StandsIn, Reaches, here, further}
 use Rattle.euler_operators.proofs.Halves.{edge_of-mate, mate-mate}
-use Rattle.euler_operators.proofs.Models.{in-holds, cycle_there, cycle_sound}
+use Rattle.euler_operators.proofs.Models.{in-holds, cycle_there, cycle_sound, row_of}
+use Rattle.euler_operators.specs.Conditions.{face_at}
 
 pub reaches_trans : (next : ℕ → ℕ) (x y z : ℕ) → Reaches next x y → Reaches next y z → Reaches next x z
 reaches_trans next x y z p here = p
@@ -92,7 +93,14 @@ pub record Fan (next : ℕ → ℕ) (M : Model) (v : ℕ) : Type 0 where
   pub of_it : (x : ℕ) → IsIn x items → HasHalf M x × (tail M x ≡ v)
   pub all : (x : ℕ) → HasHalf M x → tail M x ≡ v → IsIn x items
 
+-- what doesn't start at the vertex stands not in its fan
+pub none_in_fan : (M : Model) {v : ℕ} (fan : Fan (after M) M v) (x : ℕ) → tail M x ≢ v → count x fan.items ≡ 0
+none_in_fan M fan x a = elim (IsIn_or_not x fan.items) [ inl i ↦ absurd (a (fan.of_it x i).1) | inr n ↦ n ]
+
 module _ (M : Model) (sound : Sound M) where
+  pub half_face : (z : ℕ) → HasHalf M z → Has M.faces (face_at M z)
+  half_face z there = sound.loops_of_faces (loop_of M z) (ap is_some (row_of M sound z there))
+
   pub half_after : (z : ℕ) → HasHalf M z → HasHalf M (after M z)
   unfolding after
   half_after z there = sound.only_edges (successor (cycle_of M z) z) (loop_of M z) (in-holds _ (content M (loop_of M z)) (IsIn_successor z (cycle_of M z) (cycle_there M sound z there)))

@@ -1,11 +1,13 @@
 -- The numbers of a table whose rows pass a test: which they are, and that they rise.
-use Rattle.std.proofs.Common.{◌≡◌, ◌≢◌, ℕ, Bool, true, false, cond, nat_eq, nat_lt, ◌<◌, ◌&&◌, ◌||◌, T, List, [], ◌∷◌, Some, refl, sym, ap, subst, ◌∙◌, arith, true≢false, ◌⊎◌, inl, inr}
+use Rattle.std.proofs.Common.{◌≡◌, ◌≢◌, ℕ, Bool, true, false, cond, nat_eq, nat_lt, ◌<◌, ◌&&◌, ◌||◌, T, List, [], ◌∷◌, ◌++◌, Some, ne_eqb, refl, sym, ap, subst, ◌∙◌, arith, true≢false, ◌⊎◌, inl, inr}
 use Rattle.std.specs.Ordering.{nat_cmp}
 use Rattle.std.specs.Cmp.{unsigned_tied}
 use Rattle.std.specs.FinMap.Entries.{find, is_sorted, below_all}
 use Rattle.std.proofs.lemmas.Bool.Decides.{nat_tests, eqb_tells}
 use Rattle.std.proofs.lemmas.Bool.{false_from_ne_true}
 use Rattle.std.proofs.lemmas.Option.{same_Some}
+use Rattle.euler_operators.specs.Items.{tick, IsIn}
+use Rattle.euler_operators.proofs.Lists.{tick_same, tick_other}
 use Rattle.euler_operators.specs.Table.{Table, get, all_where, all_in}
 use Rattle.euler_operators.proofs.Tables.{and_left, and_right, less_means, find_here, find_later}
 use Rattle.euler_operators.proofs.Tests.{or_true}
@@ -24,12 +26,38 @@ listed_cases n q ns l = elim (eqb_tells q n) [ inl e ↦ inl e.1 | inr e ↦ inr
   other : (a b : ℕ) → a ≢ b → nat_eq b a ≡ false
   other a b ne = grind (arith, nat_tests)
 
+-- to be listed is to stand in the list
+pub IsIn-from_listed : (q : ℕ) (ns : List ℕ) → lists ns q ≡ true → IsIn q ns
+IsIn-from_listed q [] l = absurd (true≢false (sym l))
+IsIn-from_listed q (n ∷ ns) l = elim (listed_cases n q ns l) [
+  | inl s ↦ omega (arith, ap (tick q) s, tick_same q)
+  | inr i ↦ omega (arith, IsIn-from_listed q ns i)
+]
+
+pub listed-from_in : (q : ℕ) (ns : List ℕ) → IsIn q ns → lists ns q ≡ true
+listed-from_in q [] i = absurd (omega (arith, i))
+listed-from_in q (n ∷ ns) i = elim (eqb_tells q n) [
+  | inl e ↦ subst (λ k. lists (n ∷ ns) k ≡ true) (sym e.1) (first_listed n ns)
+  | inr e ↦ rest_listed n q ns (listed-from_in q ns (omega (arith, i, tick_other q n e.1)))
+]
+
+pub listed_front : (xs ys : List ℕ) (q : ℕ) → lists xs q ≡ true → lists (xs ++ ys) q ≡ true
+listed_front [] ys q e = absurd (true≢false (sym e))
+listed_front (x ∷ xs) ys q e = elim (listed_cases x q xs e) [
+  | inl s ↦ ap (λ k. lists (x ∷ (xs ++ ys)) k) s ∙ first_listed x (xs ++ ys)
+  | inr i ↦ rest_listed x q (xs ++ ys) (listed_front xs ys q i)
+]
+
+pub other_last : (fs : List ℕ) (u f : ℕ) → f ≢ u → lists (fs ++ u ∷ []) f ≡ lists fs f
+other_last [] u f ne = ap (λ b. b || false) (ne_eqb u f (λ e. ne (sym e)))
+other_last (g ∷ gs) u f ne = ap (λ b. nat_eq g f || b) (other_last gs u f ne)
+
 module _ {X : Type 0} where
-  find_in : (q : ℕ) (e : ℕ × X) (es : List (ℕ × X)) → find nat_cmp q (e ∷ es) ≡ cond (nat_eq q e.0) (Some e.1) (find nat_cmp q es)
+  pub find_in : (q : ℕ) (e : ℕ × X) (es : List (ℕ × X)) → find nat_cmp q (e ∷ es) ≡ cond (nat_eq q e.0) (Some e.1) (find nat_cmp q es)
   find_in q e es = ap (λ b. cond b (Some e.1) (find nat_cmp q es)) (unsigned_tied q e.0)
 
   -- what is found past the numbers below k is greater
-  found_past : (k q : ℕ) (es : List (ℕ × X)) (y : X) → T (below_all nat_cmp k es) → find nat_cmp q es ≡ Some y → k < q
+  pub found_past : (k q : ℕ) (es : List (ℕ × X)) (y : X) → T (below_all nat_cmp k es) → find nat_cmp q es ≡ Some y → k < q
   found_past k q [] y h is = cc
   found_past k q (e ∷ es) y h is = elim (eqb_tells q e.0) [
     | inl s ↦ subst (λ n. k < n) (sym s.1) (less_means k e.0 (and_left _ _ h))

@@ -9,12 +9,12 @@ use Rattle.euler_operators.proofs.Rings.{successor_at, successor_same}
 use Rattle.euler_operators.proofs.Cuts.{upto-onward, ring_split}
 use Rattle.euler_operators.proofs.Lists.{count-append, tick_same, tick_other, count-before}
 use Rattle.euler_operators.specs.declared.HalfEdge.{HalfEdge}
-use Rattle.euler_operators.specs.HalfEdge.{code, mate, edge_of, is_first}
+use Rattle.euler_operators.specs.HalfEdge.{code, mate, edge_of, is_first, plus}
 use Rattle.euler_operators.specs.Table as table
 use Rattle.euler_operators.specs.Table.{Table, tables, same_table}
 use Rattle.euler_operators.specs.Model.{Model, LoopContent, lone, cycle, FaceRow, LoopRow, EdgeRow, no_face, no_edge, no_point, tail_in, items_of, holds, tail, face_of, outer, solid_of, point_of, no_loop, content, rings_of}
 use Rattle.euler_operators.specs.Sound.{Sound, Has, HasHalf, IsCycle}
-use Rattle.euler_operators.proofs.Halves.{edge_of-code, edge_of-mate, is_first-mate}
+use Rattle.euler_operators.proofs.Halves.{edge_of-code, edge_of-mate, is_first-mate, plus_row}
 use Rattle.euler_operators.proofs.Tables.{all_where_none, none_all_where}
 use Rattle.euler_operators.proofs.Models.{face_row}
 use Rattle.euler_operators.proofs.Tests.{none_but}
@@ -118,7 +118,7 @@ half_of M g t = ap (λ x. is_some (table.get M.edges x)) (edge_of-code g) ∙ t
 pub of_half : (M : Model) (g : HalfEdge) → HasHalf M (code g) → table.has M.edges g.edge ≡ true
 of_half M g t = ap (λ x. is_some (table.get M.edges x)) (sym (edge_of-code g)) ∙ t
 
-empty_is : (xs : List ℕ) → not (is_empty xs) ≡ false → xs ≡ []
+pub empty_is : (xs : List ℕ) → not (is_empty xs) ≡ false → xs ≡ []
 empty_is [] e = refl
 empty_is (x ∷ xs) e = absurd (true≢false e)
 
@@ -166,3 +166,23 @@ after_second hs cy h m hm i j = successor_same m hs (rotate_to h hs) (rotate_to-
       head_in : (ys : List ℕ) → head_or m (ys ++ h ∷ between h m hs) ≡ head_or h ys
       head_in [] = refl
       head_in (y ∷ ys) = refl
+
+pub not_lone_cycle : (c : LoopContent) → is_lone c ≡ false → c ≡ cycle (items_of c)
+not_lone_cycle (lone v) e = absurd (true≢false e)
+not_lone_cycle (cycle hs) e = refl
+
+-- the row of an edge that the plus half-edge brings
+pub edge_row_plus : (e a b : ℕ) → edge_row (plus e) a b ≡ record { plus_tail = a; minus_tail = b }
+edge_row_plus e a b = ap (λ t. cond t (record { plus_tail = a; minus_tail = b }) (record { plus_tail = b; minus_tail = a })) (plus_row e).1
+
+pub cycle_filled : (ys : List ℕ) (v : ℕ) → ys ≢ [] → cycle_or_lone ys v ≡ cycle (canonical ys)
+cycle_filled [] v e = absurd (e refl)
+cycle_filled (y ∷ ys) v e = refl
+
+pub solid_either : (b : Bool) (row : FaceRow) (s : ℕ) → (cond b (record row { solid = s }) row).solid ≡ cond b s row.solid
+solid_either true row s = refl
+solid_either false row s = refl
+
+pub content_either : (b : Bool) (row : LoopRow) (f : ℕ) → (cond b (record row { face = f }) row).content ≡ row.content
+content_either true row f = refl
+content_either false row f = refl
