@@ -23,6 +23,7 @@ use Rattle.arena_rows.proofs.Writes.{row_here}
 use Rattle.arena_rows.proofs.Stands.{half_there, loop_of_is, cycle_of_is, content_row, face_row_of, loose_key_is, loose_ring_is}
 use Rattle.arena_rows.proofs.Tellings.{store_is, content_alike}
 use Rattle.arena_rows.proofs.Cutting.{IsBare, rings1, rings2, live2, AreLoops-cut, loose-cut_to, loose-cut_loose, edges-cut, loops-cut, ring_of_right, apart_rows, jrings1, a_live1, b_live1, jrings2, jlive2, jedges, jkept, jring_a, loose-join_loops, loose-join_loose, AreLoops-join}
+use Rattle.arena_rows.proofs.Filling.{tied_with}
 
 pub record CutFacts (sp : Spots) (loops : List (Option LoopCell)) (a b l : ℕ) : Type 0 where
   pub a_there : live sp a ≡ true
@@ -94,9 +95,6 @@ module _ (sp : Spots) (known : ℕ → Bool) (solids : List (Option Bool)) (face
   pub row_of : (h : ℕ) → live sp h ≡ true → label sp h ≢ 0 → is_some (row_at loops (label sp h)) ≡ true
   row_of h a n = ap is_some (are.stands h a n).here
 
-  tied_with : (new : Spots) (known' : ℕ → Bool) (rows : List (Option LoopCell)) → AreRings new → live new 0 ≡ live sp 0 → AreLoops new rows → Fits rows → IsTied new known' solids faces rows vertices
-  tied_with new known' rows N z A F = record { rings = N; no_edge = λ e. tied.no_edge (sym z ∙ e); loops_tied = A; solids_fit = tied.solids_fit; faces_fit = tied.faces_fit; loops_fit = F; vertices_fit = tied.vertices_fit; points = tied.points }
-
   module _ (a b l : ℕ) (g : CutFacts sp loops a b l) (ne : a ≢ b) where
     abbrev cutted : Spots
     cutted = labelled (spliced_at sp a b) l (ring (spliced_at sp a b) b)
@@ -125,7 +123,7 @@ module _ (sp : Spots) (known : ℕ → Bool) (solids : List (Option Bool)) (face
           ∙ ap (λ n. put M.loops n (held_row M n (cycle (cut_left a b (cycle_of M a))))) (sym (loop_of_is sp known solids faces loops vertices tied a g.a_there))
 
       pub tied_cut_loose : (known' : ℕ → Bool) → l ≡ 0 → (new : Spots) → new ≡ cutted → IsTied new known' solids faces rows1 vertices
-      tied_cut_loose known' z new e = subst (λ s. IsTied s known' solids faces rows1 vertices) (sym e) (tied_with cutted known' rows1 cut_rings2 (cut_live 0)
+      tied_cut_loose known' z new e = subst (λ s. IsTied s known' solids faces rows1 vertices) (sym e) (tied_with sp known solids faces loops vertices tied cutted known' rows1 cut_rings2 (cut_live 0)
           (AreLoops-cut sp loops R are tied.loops_fit.no_zero a b g.a_there g.b_there g.looped g.one ne l g.free rows1 cell.face (row_here loops rows1 here _ is1) (λ n. absurd (n z)) (λ q n m. row_there loops rows1 here _ is1 q n) fits1.no_zero) fits1)
 
       pub store_cut_loose : (known' : ℕ → Bool) → known' ≡ known → l ≡ 0 → (new : Spots) → new ≡ cutted → store_of new known' solids faces rows1 vertices ≡ cut_loose S a b
@@ -146,7 +144,7 @@ module _ (sp : Spots) (known : ℕ → Bool) (solids : List (Option Bool)) (face
         fits2 = fits-write rows1 rows2 l _ fits1 n len2 is2
 
         pub tied_cut_to : (known' : ℕ → Bool) → (new : Spots) → new ≡ cutted → IsTied new known' solids faces rows2 vertices
-        tied_cut_to known' new e = subst (λ s. IsTied s known' solids faces rows2 vertices) (sym e) (tied_with cutted known' rows2 cut_rings2 (cut_live 0)
+        tied_cut_to known' new e = subst (λ s. IsTied s known' solids faces rows2 vertices) (sym e) (tied_with sp known solids faces loops vertices tied cutted known' rows2 cut_rings2 (cut_live 0)
             (AreLoops-cut sp loops R are tied.loops_fit.no_zero a b g.a_there g.b_there g.looped g.one ne l g.free rows2 cell.face
             (row_there rows1 rows2 l _ is2 here (λ q. not_here (sym q)) ∙ row_here loops rows1 here _ is1) (λ _. (cell2.face, row_here rows1 rows2 l _ is2))
             (λ q u v. row_there rows1 rows2 l _ is2 q v ∙ row_there loops rows1 here _ is1 q u) fits2.no_zero) fits2)
@@ -189,7 +187,7 @@ module _ (sp : Spots) (known : ℕ → Bool) (solids : List (Option Bool)) (face
       jfits = fits-write rows0 rows jhere _ fits0 g.looped len is1
 
       pub tied_join : (known' : ℕ → Bool) (new : Spots) → new ≡ jspots → IsTied new known' solids faces rows vertices
-      tied_join known' new e = subst (λ s. IsTied s known' solids faces rows vertices) (sym e) (tied_with jspots known' rows
+      tied_join known' new e = subst (λ s. IsTied s known' solids faces rows vertices) (sym e) (tied_with sp known solids faces loops vertices tied jspots known' rows
           (jrings2 sp loops R are tied.loops_fit.no_zero a b g.a_there g.b_there g.looped g.other) (jlive2 sp loops R are tied.loops_fit.no_zero a b g.a_there g.b_there g.looped g.other 0)
           (AreLoops-join sp loops R are tied.loops_fit.no_zero a b g.a_there g.b_there g.looped g.other rows cell.face (row_here rows0 rows jhere _ is1)
           (λ c at. empty_b c (sym (row_there rows0 rows jhere _ is1 jthere g.other) ∙ at)) (λ q n m. row_there rows0 rows jhere _ is1 q n ∙ same q m)) jfits)

@@ -41,7 +41,7 @@ module _ (sp : Spots) (known : ℕ → Bool) (solids : List (Option Bool)) (face
   abbrev are : AreLoops sp loops
   are = tied.loops_tied
 
-  tied_with : (new : Spots) (known' : ℕ → Bool) (rows : List (Option LoopCell)) → AreRings new → live new 0 ≡ live sp 0 → AreLoops new rows → Fits rows → IsTied new known' solids faces rows vertices
+  pub tied_with : (new : Spots) (known' : ℕ → Bool) (rows : List (Option LoopCell)) → AreRings new → live new 0 ≡ live sp 0 → AreLoops new rows → Fits rows → IsTied new known' solids faces rows vertices
   tied_with new known' rows N z A F = record { rings = N; no_edge = λ e. tied.no_edge (sym z ∙ e); loops_tied = A; solids_fit = tied.solids_fit; faces_fit = tied.faces_fit; loops_fit = F; vertices_fit = tied.vertices_fit; points = tied.points }
 
   module _ (l : ℕ) (cell : LoopCell) (found : row_at loops l ≡ Some cell) (rows : List (Option LoopCell)) (len : length rows ≡ length loops) where

@@ -205,7 +205,7 @@ module _ (M : Model) (f g : ℕ) (N : Model) (item : ℕ) (w : Joining M f g N i
             stage = record {
               facing = w.stage.facing;
               split = stage_next.split ∙ sym (append_assoc w.done (item ∷ []) (n ∷ ks));
-              IsIn_last = IsIn_last n ks;
+              last_in = IsIn_last n ks;
               sound = subst Sound made_here (effects_keep_sound Y (closing (p item) n x g (outer M g)) stage_next.sound accepted_here);
             };
             model = made ∙ (λ i. effects (model_next i) (ops_are i)) ∙ made_here;

@@ -121,7 +121,7 @@ module _ (M : Model) (f g : ℕ) (sound : Sound M) (accepted : glue_refusal M f 
     stage = record {
       facing = w;
       split = shape.3;
-      IsIn_last = IsIn_last shape.0 (shape.1 ++ shape.2 ∷ []);
+      last_in = IsIn_last shape.0 (shape.1 ++ shape.2 ∷ []);
       sound = subst Sound made (effects_keep_sound M (first_ops shape.0 shape.2) sound goes);
     };
     model = made;

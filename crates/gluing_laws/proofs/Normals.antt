@@ -1,5 +1,5 @@
 -- The other faces of the glued solid: their loops, normals and volumes are what they were.
-use Rattle.std.proofs.Common.{◌≡◌, ◌≢◌, ℕ, true, false, cond, not, nat_eq, ◌&&◌, Bool, List, [], ◌∷◌, ◌++◌, Option, Some, None, unwrap_or, refl, sym, ap, ◌∙◌, arith, true≢false, inl, inr}
+use Rattle.std.proofs.Common.{◌≡◌, ◌≢◌, ℕ, true, false, cond, not, nat_eq, ◌&&◌, Bool, List, [], ◌∷◌, Option, Some, None, unwrap_or, refl, sym, ap, ◌∙◌, arith, inl, inr}
 use Rattle.std.specs.Prelude.{map}
 use Rattle.std.specs.Option.{option_map}
 use Rattle.std.proofs.lemmas.Bool.Decides.{nat_tests, eqb_tells}
@@ -19,7 +19,7 @@ use Rattle.euler_operators.proofs.Members.{IsIn_rest, IsIn_first}
 use Rattle.euler_operators.specs.Conditions.{lists}
 use Rattle.euler_operators.specs.Effect.{faces_to_solid}
 use Rattle.euler_laws.proofs.shared.Goes.{equal, differs}
-use Rattle.euler_laws.proofs.shared.Listed.{first_listed, rest_listed, listed_cases, listed_passes}
+use Rattle.euler_laws.proofs.shared.Listed.{first_listed, rest_listed, listed_cases, listed_passes, listed_front}
 use Rattle.shapes.specs.Faces.{start, items_in, loops_of, boundary, corners, vertices_on}
 use Rattle.shapes.specs.Rewriting.{rewritten, rewritten_row}
 use Rattle.shapes.specs.Measure.{area, normal, anchor, first_vertex, is_flat}
@@ -33,13 +33,6 @@ use Rattle.gluing_laws.proofs.Places as places
 use Rattle.gluing_laws.proofs.Places.{Stays}
 
 -- ---- corners
-
-listed_front : (xs ys : List ℕ) (q : ℕ) → lists xs q ≡ true → lists (xs ++ ys) q ≡ true
-listed_front [] ys q e = absurd (true≢false (sym e))
-listed_front (x ∷ xs) ys q e = elim (listed_cases x q xs e) [
-  | inl s ↦ ap (λ k. lists (x ∷ (xs ++ ys)) k) s ∙ first_listed x (xs ++ ys)
-  | inr i ↦ rest_listed x q (xs ++ ys) (listed_front xs ys q i)
-]
 
 listed_map : (a : ℕ → ℕ) (x : ℕ) (xs : List ℕ) → IsIn x xs → lists (map a xs) (a x) ≡ true
 listed_map a x [] i = absurd (omega (arith, i))

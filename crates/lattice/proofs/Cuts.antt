@@ -1,5 +1,5 @@
 -- Where a segment meets a plane: how great the numbers are.
-use Rattle.std.proofs.Common.{◌≡◌, ◌≢◌, ℕ, zero, suc, ◌+◌, ◌*◌, ◌/◌, ◌<◌, ◌≤◌, true, false, cond, ℤ, pos, negsuc, Some, None, refl, sym, ap, subst, ◌∙◌, arith}
+use Rattle.std.proofs.Common.{◌≡◌, ◌≢◌, ℕ, zero, suc, ◌+◌, ◌*◌, ◌/◌, ◌≤◌, true, false, cond, ℤ, pos, negsuc, Some, None, refl, sym, ap, subst, ◌∙◌, arith}
 use Rattle.std.specs.Prelude.{◌+ℤ◌, ◌-ℤ◌, ◌*ℤ◌, neg_ℤ, FitsSigned, Option}
 use Rattle.std.specs.Int.RustNames.{unsigned_abs, int_div, int_rem}
 use Rattle.std.specs.Int.{cast_signed, cast_unsigned}
@@ -25,9 +25,6 @@ height_within s p w r =
     let xy = sum_within (s.a *ℤ p.x) (s.b *ℤ p.y) _ _ 2000000000000000000 x y (omega arith) in
     let xyz = sum_within (s.a *ℤ p.x +ℤ s.b *ℤ p.y) (s.c *ℤ p.z) _ _ 3000000000000000000 xy z (omega arith) in
     sum_within (s.a *ℤ p.x +ℤ s.b *ℤ p.y +ℤ s.c *ℤ p.z) s.d _ _ 6000000000000000000 xyz w.1 (omega arith)
-
-some_size : (w : ℤ) → w ≢ pos 0 → 0 < unsigned_abs w
-some_size w ne = grind (arith, ints)
 
 zero_bits : (z : ℤ) → FitsSigned w128 z → cast_unsigned w128 z ≡ 0 → int_eq z (pos 0) ≡ true
 zero_bits z f e = let h : z ≡ pos 0 = sym (held_is z f) ∙ ap (cast_signed w128) e in ap (λ y. int_eq y (pos 0)) h

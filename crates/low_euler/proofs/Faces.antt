@@ -1,8 +1,7 @@
 -- The faces of a solid, met in the order of their numbers.
-use Rattle.std.proofs.Common.{◌≡◌, ◌≢◌, ℕ, ◌<◌, ◌≤◌, Bool, true, false, cond, nat_eq, nat_lt, T, ◌&&◌, List, [], ◌∷◌, ◌++◌, append-nil, Some, None, is_some, unwrap_or, refl, sym, ap, subst, ◌∙◌, arith, true≢false, inl, inr}
+use Rattle.std.proofs.Common.{◌≡◌, ◌≢◌, ℕ, ◌<◌, ◌≤◌, Bool, true, false, cond, nat_eq, nat_lt, T, ◌&&◌, List, [], ◌∷◌, ◌++◌, append-nil, Some, None, is_some, unwrap_or, refl, sym, ap, ◌∙◌, arith, true≢false, inl, inr}
 use Rattle.std.specs.Ordering.{nat_cmp}
-use Rattle.std.specs.Cmp.{unsigned_tied}
-use Rattle.std.specs.FinMap.Entries.{find, is_sorted, below_all}
+use Rattle.std.specs.FinMap.Entries.{find, is_sorted}
 use Rattle.std.proofs.lemmas.Bool.Decides.{nat_tests, eqb_tells}
 use Rattle.std.proofs.lemmas.Bool.{and_parts, false_from_ne_true}
 use Rattle.std.proofs.lemmas.Option.{same_Some}
@@ -10,9 +9,10 @@ use Rattle.euler_operators.specs.Table as table
 use Rattle.euler_operators.specs.Table.{Table, get, all_where, all_in, map_rows, put, get-map_rows}
 use Rattle.euler_operators.specs.Model.{Model, FaceRow, no_face, solid_of, faces_of, is_number}
 use Rattle.euler_operators.specs.Sound.{NumbersFit}
-use Rattle.euler_operators.proofs.Tables.{and_left, and_right, all_where_none, less_means, find_here, find_later}
+use Rattle.euler_operators.proofs.Tables.{and_left, and_right, all_where_none, find_here, find_later}
 use Rattle.euler_operators.proofs.Tests.{and_first}
 use Rattle.euler_laws.proofs.shared.Loops.{some_row}
+use Rattle.euler_laws.proofs.shared.Listed.{found_past}
 use Rattle.euler_conditions.specs.Store.{is_face_of, IsNextFace}
 
 -- ---- the numbers of a table whose rows pass a test
@@ -21,16 +21,6 @@ apart : (k q : ℕ) → k < q → q ≢ k
 apart k q l e = absurd (omega arith)
 
 module _ {X : Type 0} where
-  find_in : (q : ℕ) (e : ℕ × X) (es : List (ℕ × X)) → find nat_cmp q (e ∷ es) ≡ cond (nat_eq q e.0) (Some e.1) (find nat_cmp q es)
-  find_in q e es = ap (λ b. cond b (Some e.1) (find nat_cmp q es)) (unsigned_tied q e.0)
-
-  found_past : (k q : ℕ) (es : List (ℕ × X)) (y : X) → T (below_all nat_cmp k es) → find nat_cmp q es ≡ Some y → k < q
-  found_past k q [] y h is = cc
-  found_past k q (e ∷ es) y h is = elim (eqb_tells q e.0) [
-    | inl s ↦ subst (λ n. k < n) (sym s.1) (less_means k e.0 (and_left _ _ h))
-    | inr a ↦ found_past k q es y (and_right _ _ h) (sym (find_later q e es a.1) ∙ is)
-  ]
-
   -- tests that agree on each row pick the same numbers
   agree_in : (p q : ℕ → X → Bool) (es : List (ℕ × X)) → T (is_sorted nat_cmp es) → ((k : ℕ) (x : X) → find nat_cmp k es ≡ Some x → p k x ≡ q k x) → all_in p es ≡ all_in q es
   agree_in p q [] s same = refl

@@ -1,6 +1,5 @@
 -- A sound model without solids has nothing.
-use Rattle.std.proofs.Common.{◌≡◌, ◌≢◌, ℕ, true, List, [], ◌∷◌, ◌++◌, map, codes, Option, Some, None, is_some, unwrap_or, refl, sym, ap, ◌∙◌, arith, true≢false, inl, inr}
-use Rattle.std.proofs.lemmas.Bool.Decides.{nat_tests}
+use Rattle.std.proofs.Common.{◌≡◌, ◌≢◌, ℕ, true, List, [], ◌∷◌, ◌++◌, map, codes, Option, Some, None, is_some, unwrap_or, refl, sym, ap, ◌∙◌, true≢false, inl, inr}
 use Rattle.euler_operators.specs.declared.Kind.{Kind}
 use Rattle.euler_operators.specs.declared.Kind.TheVariants.{Solid, Face, Loop, Edge, Vertex}
 use Rattle.euler_operators.specs.HalfEdge.{plus}
@@ -12,11 +11,9 @@ use Rattle.euler_operators.proofs.Models.{held_row, one_or_more}
 use Rattle.euler_conditions.specs.Store.{Store, IsGreatest}
 use Rattle.solid_listing.specs.Lines.{text_of}
 use Rattle.solid_listing.specs.Listing.{line, numbers_of, lines, or_empty, listing}
+use Rattle.solid_listing.proofs.Lines.{here}
 use Rattle.solid_walks.proofs.face_walks_laws.Rising.{member}
 use Rattle.solid_walks.proofs.face_walks_laws.TableWalks.{member_numbers}
-
-here : (k : ℕ) (ks : List ℕ) → member k (k ∷ ks) ≡ true
-here k ks = grind (arith, nat_tests)
 
 no_members : (ks : List ℕ) → ((k : ℕ) → member k ks ≡ true → ⊥) → ks ≡ []
 no_members [] h = refl

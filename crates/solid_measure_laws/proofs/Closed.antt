@@ -3,7 +3,7 @@ use Rattle.std.proofs.Common.{◌≡◌, ◌≢◌, ℕ, ◌+◌, ◌≤◌, Boo
 use Rattle.std.proofs.lemmas.Bool.Decides.{nat_tests, eqb_tells}
 use Rattle.euler_operators.specs.declared.Point.{Point}
 use Rattle.euler_operators.specs.Vectors.{origin, moved, dot}
-use Rattle.euler_operators.specs.Items.{count, tick, IsIn}
+use Rattle.euler_operators.specs.Items.{count, tick}
 use Rattle.euler_operators.proofs.Lists.{count-append, tick_same, tick_other, IsIn_or_not}
 use Rattle.euler_operators.specs.HalfEdge.{mate}
 use Rattle.euler_operators.specs.Table as table
@@ -12,7 +12,7 @@ use Rattle.euler_operators.specs.Sound.{Sound, Has, HasHalf}
 use Rattle.euler_operators.proofs.Halves.{edge_of-mate}
 use Rattle.euler_operators.proofs.Models.{in-holds, holds_in, loop_there}
 use Rattle.euler_operators.specs.Conditions.{lists, strictly_rises}
-use Rattle.euler_laws.proofs.shared.Listed.{first_listed, rest_listed, listed_cases, listed_passes, listed_as, all_where-rises}
+use Rattle.euler_laws.proofs.shared.Listed.{first_listed, rest_listed, listed_passes, listed_as, all_where-rises, IsIn-from_listed}
 use Rattle.euler_laws.proofs.shared.Loops.{light}
 use Rattle.euler_laws.proofs.shared.Rows.{loop_row, face_there}
 use Rattle.shapes.specs.Faces.{items_in, loops_of, boundary}
@@ -21,19 +21,11 @@ use Rattle.shapes.proofs.Areas.{area-append}
 use Rattle.solid_walks.proofs.FaceLoops.{items_there}
 use Rattle.solid_walks.proofs.Rising.{counted_once, none_counted}
 use Rattle.euler_operators.proofs.Vectors.{dot_turned, dot_origin, add_none}
-use Rattle.euler_operators.proofs.Members.{IsIn_rest}
 use Rattle.solid_measure_laws.specs.Models.{shifted, normals_in}
 use Rattle.solid_measure_laws.proofs.Sums.{area_same, area_mates, own_opposite, count-mates}
 use Rattle.solid_measure_laws.proofs.Shifted.{volume_moved}
 
 -- ---- counting
-
-in_listed : (q : ℕ) (ns : List ℕ) → lists ns q ≡ true → IsIn q ns
-in_listed q [] e = absurd (true≢false (sym e))
-in_listed q (n ∷ ns) e = elim (listed_cases n q ns e) [
-  | inl s ↦ omega (arith, ap (tick q) s, tick_same q)
-  | inr i ↦ IsIn_rest q n ns (in_listed q ns i)
-]
 
 -- a rising list has once what it lists
 count_listed : (q : ℕ) (ns : List ℕ) → strictly_rises ns ≡ true → count q ns ≡ cond (lists ns q) 1 0
@@ -42,7 +34,7 @@ count_listed q ns up = go (lists ns q) refl where
   once n l m = omega arith
 
   go : (b : Bool) → lists ns q ≡ b → count q ns ≡ cond b 1 0
-  go true e = once (count q ns) (counted_once q ns up) (in_listed q ns e)
+  go true e = once (count q ns) (counted_once q ns up) (IsIn-from_listed q ns e)
   go false e = none_counted q ns e
 
 -- the half-edges of some faces
@@ -72,9 +64,6 @@ module _ (M : Model) (sound : Sound M) where
     in_loops : (ls : List ℕ) → count x (items_in M ls) ≡ count (loop_of M x) ls
     in_loops [] = refl
     in_loops (l ∷ ls) = count-append x (items_of (content M l)) (items_in M ls) ∙ (λ i. in_loop l i + in_loops ls i)
-
-  abbrev is_ring : ℕ → ℕ → Bool
-  is_ring f l = nat_eq (face_of M l) f && not (nat_eq (outer M f) l)
 
   -- a loop is one of its face's loops, and of no other's
   loop_counted : (l f : ℕ) → Has M.loops l → Has M.faces f → count l (loops_of M f) ≡ tick (face_of M l) f

@@ -35,7 +35,7 @@ on_plane s p e = part (dot (direction s) p) s.d ((signed_Decides (height s p) (p
   part : (a d : ℤ) → a +ℤ d ≡ pos 0 → a ≡ neg_ℤ d
   part a d e = omega (arith, ints)
 
-some_direction : (s : Plane) → not (same_point (direction s) origin) ≡ true → direction s ≢ origin
+pub some_direction : (s : Plane) → not (same_point (direction s) origin) ≡ true → direction s ≢ origin
 some_direction s e z = true≢false (sym e ∙ ap (λ p. not (same_point p origin)) z)
 
 -- ---- paths on a plane

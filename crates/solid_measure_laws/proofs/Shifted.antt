@@ -17,7 +17,7 @@ use Rattle.shapes.specs.Faces.{start, finish, loops_of, items_in, boundary}
 use Rattle.shapes.specs.Measure.{area, normal, anchor, first_vertex, volume_in, six_volume}
 use Rattle.shapes.proofs.Areas.{area-append}
 use Rattle.euler_operators.proofs.Integers.{dif, dif-parts, difs, same_dif}
-use Rattle.euler_operators.proofs.Vectors.{same_vector, moved_none, dot_moved, dot_turned, dot_origin}
+use Rattle.euler_operators.proofs.Vectors.{same_vector, moved_none, dot_moved, dot_turned, dot_origin, dot_sum}
 use Rattle.euler_operators.proofs.Members.{IsIn_rest}
 use Rattle.euler_operators.proofs.Rotations.{IsIn_head}
 use Rattle.solid_measure_laws.specs.Vectors.{towards}
@@ -132,9 +132,6 @@ module _ (M : Model) (d : Point) where
     face_moved : (f : ℕ) → Has M.faces f → dot (anchor after f) (normal after f) ≡ dot (anchor M f) (normal M f) +ℤ dot d (normal M f)
     face_moved f there = (λ i. dot (anchor_moved f there i) (normal_kept f i)) ∙ dot_moved (anchor M f) d (normal M f)
 
-    along_sum : (p q : Point) → dot d (moved p q) ≡ dot d p +ℤ dot d q
-    along_sum p q = dot_turned d (moved p q) ∙ dot_moved p q d ∙ (λ i. dot_turned p d i +ℤ dot_turned q d i)
-
     exchanged : (a b c e : ℤ) → (a +ℤ b) +ℤ (c +ℤ e) ≡ (a +ℤ c) +ℤ (b +ℤ e)
     exchanged a b c e = omega (arith, ints)
 
@@ -145,7 +142,7 @@ module _ (M : Model) (d : Point) where
     faces_moved (f ∷ fs) there =
         (λ i. face_moved f (there f (first_listed f fs)) i +ℤ faces_moved fs (λ g j. there g (rest_listed f g fs j)) i)
         ∙ exchanged (dot (anchor M f) (normal M f)) (dot d (normal M f)) (volume_in M fs) (dot d (normals_in M fs))
-        ∙ ap (λ t. volume_in M (f ∷ fs) +ℤ t) (sym (along_sum (normal M f) (normals_in M fs)))
+        ∙ ap (λ t. volume_in M (f ∷ fs) +ℤ t) (sym (dot_sum d (normal M f) (normals_in M fs)))
 
     -- the six volumes grow by the sum of the normals along d
     pub volume_moved : (s : ℕ) → six_volume after s ≡ six_volume M s +ℤ dot d (normals_in M (faces_of M s))

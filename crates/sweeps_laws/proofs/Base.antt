@@ -1,5 +1,5 @@
 -- A lamina of four points: its two faces and their volumes.
-use Rattle.std.proofs.Common.{◌≡◌, ◌≢◌, ℕ, ◌+◌, ◌≤◌, pos, ◌+ℤ◌, Bool, true, false, cond, not, nat_eq, ◌&&◌, ◌||◌, List, [], ◌∷◌, ◌++◌, map, reverse, Some, is_some, refl, sym, ap, subst, ◌∙◌, arith, ◌⊎◌, inl, inr}
+use Rattle.std.proofs.Common.{◌≡◌, ◌≢◌, ℕ, ◌+◌, ◌≤◌, pos, ◌+ℤ◌, true, cond, not, nat_eq, ◌&&◌, List, [], ◌∷◌, ◌++◌, map, reverse, Some, is_some, sym, ap, subst, ◌∙◌, arith, ◌⊎◌, inl, inr}
 use Rattle.std.proofs.lemmas.Bool.Decides.{nat_tests}
 use Rattle.euler_operators.specs.declared.Point.{Point}
 use Rattle.euler_operators.specs.Vectors.{origin, moved, dot, cross}
@@ -18,6 +18,7 @@ use Rattle.shapes.specs.Lamina.{with_path, with_points, lamina_at}
 use Rattle.shapes.specs.Measure.{area, normal, anchor, first_vertex, volume_in, six_volume}
 use Rattle.shapes.proofs.fresh.Rows.{get-put_here, get-put_other, get-put_cases, all_where-put_last, greatest-put_last}
 use Rattle.sweeps_laws.proofs.lamina.Lists.{plus_halves, minus_halves, back_apart, first_moved, canonical_first}
+use Rattle.sweeps_laws.proofs.lamina.Blocks.{no_lone}
 use Rattle.euler_operators.proofs.Rectangles.{ring_area}
 use Rattle.euler_operators.proofs.Tests.{none_but}
 use Rattle.euler_operators.proofs.Halves.{mate_plus, mate_minus}
@@ -28,10 +29,6 @@ use Rattle.sweeps_laws.proofs.Volumes.{six_volume_is}
 
 apart_by : (a i j : ℕ) → i ≢ j → a + i ≢ a + j
 apart_by a i j ne e = ne (omega arith)
-
-no_lone : (b : Bool) (f g : ℕ) → f ≢ g → (b && (nat_eq f g || false)) ≡ false
-no_lone true f g ne = grind (arith, nat_tests)
-no_lone false f g ne = refl
 
 -- four half-edges the other way round, from the least on
 four_back : (e : ℕ) → canonical (minus (e + 4) ∷ minus (e + 3) ∷ minus (e + 2) ∷ minus (e + 1) ∷ []) ≡ minus (e + 1) ∷ minus (e + 4) ∷ minus (e + 3) ∷ minus (e + 2) ∷ []

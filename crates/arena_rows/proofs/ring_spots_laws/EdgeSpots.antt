@@ -4,9 +4,8 @@ use Rattle.std.proofs.lemmas.Bool.Decides.{nat_tests, eqb_tells}
 use Rattle.std.proofs.lemmas.Bool.{false_from_ne_true}
 use Rattle.raw_ring.specs.Rings.{Spot, or_zero, of_spot, ring_of_one}
 use Rattle.boundary_model.specs.Items.{IsIn, head_or}
-use Rattle.boundary_model.specs.Rings.{canonical}
 use Rattle.boundary_model.proofs.Lists.{tick_le}
-use Rattle.boundary_model.proofs.Rotations.{canonical_is, rest_head, IsIn_head}
+use Rattle.boundary_model.proofs.Rotations.{IsIn_head, canonical_one}
 use Rattle.boundary_model.proofs.Rings.{IsPath-agree}
 use Rattle.boundary_model.specs.HalfEdge.{plus, minus, edge_of, is_first, mate}
 use Rattle.boundary_model.specs.Table.{Table, get, put, remove, tabulate, get-put, get-remove, same_table}
@@ -93,9 +92,6 @@ module _ (sp : Spots) (R : AreRings sp) where
 
     w_bound : (x : ℕ) → live wide x ≡ true → x < codes
     w_bound x a = elim (w_cases x a) [ inl p ↦ omega (arith, codes_are) | inr (inl q) ↦ omega (arith, codes_are) | inr (inr b) ↦ R.bound x b ]
-
-    canonical_one : (x : ℕ) → canonical (x ∷ []) ≡ x ∷ []
-    canonical_one x = canonical_is x (x ∷ []) (IsIn_head x []) ∙ ap (λ r. x ∷ r) (rest_head x [])
 
     one_ring : (x : ℕ) → next wide x ≡ x → live wide x ≡ true → (ring wide x ≡ x ∷ []) × IsRingOf wide x (ring wide x)
     one_ring x n a = ring_of wide w_bound x (x ∷ []) (record {

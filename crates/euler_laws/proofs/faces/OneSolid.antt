@@ -8,11 +8,11 @@ use Rattle.euler_operators.specs.Table as table
 use Rattle.euler_operators.specs.Table.{Table}
 use Rattle.euler_operators.specs.Model.{Model, lone, cycle, FaceRow, LoopRow, no_face, no_loop, holds, tail, loop_of, content, cycle_of, face_of, solid_of, outer, after, is_number}
 use Rattle.euler_operators.specs.Sound.{Sound, Has, HasHalf}
-use Rattle.euler_operators.proofs.Models.{row_of, content_cycle}
+use Rattle.euler_operators.proofs.Models.{row_of, content_cycle, never_lone}
 use Rattle.euler_operators.proofs.Tables.{get-put_here, get-put_other}
 use Rattle.euler_operators.specs.Effect.{mvfs}
 use Rattle.euler_laws.proofs.shared.Fans.{half_mate}
-use Rattle.euler_laws.proofs.shared.Loops.{IsLoop, loop_sound, Walks, stands-walks, one_loop-walks, cycles-walks, ends_meet-walks, one_fan-walks, not_lone, one_vertex}
+use Rattle.euler_laws.proofs.shared.Loops.{IsLoop, loop_sound, Walks, stands-walks, one_loop-walks, cycles-walks, ends_meet-walks, one_fan-walks, one_vertex}
 use Rattle.euler_laws.proofs.shared.Same.{solid_at}
 use Rattle.euler_laws.proofs.shared.Rings.{SameRings, half_back, tail_same, walks-rings, loop-rings, ends_differ-rings, tail-rings, edges_fit-rings}
 use Rattle.euler_laws.proofs.shared.Rows.{one_row}
@@ -179,7 +179,7 @@ module _ (M : Model) (s f l v : ℕ) (p : Point) (goes : MvfsGoes M s f l v p) w
 
   -- a lone loop of the old model is another than l
   lone_not_l : (q w : ℕ) → content M q ≡ lone w → q ≢ l
-  lone_not_l q w e a = not_lone [] w (sym content_free ∙ ap (content M) (sym a) ∙ e)
+  lone_not_l q w e a = never_lone [] w (sym content_free ∙ ap (content M) (sym a) ∙ e)
 
   -- ---- from the old model to the new one
 
@@ -308,7 +308,7 @@ module _ (M : Model) (s f l v : ℕ) (p : Point) (goes : MvfsGoes M s f l v p) w
         let k : face_of N (loop_of N x) ≡ face_of M (loop_of N x) = face_of_other (loop_of N x) a in
         ap (solid_at M) e ∙ ap (solid_of M) (sym k) ∙ sym (solid_of_other (face_of N (loop_of N x)) (λ z. no_ring (loop_of N x) r (sym k ∙ z))) where
           not_cycle : {hs : List ℕ} → lone v ≡ cycle hs → ⊥
-          not_cycle e = not_lone _ v (sym e)
+          not_cycle e = never_lone _ v (sym e)
 
           content_new_at : (x : ℕ) → HasHalf N x → loop_of N x ≡ l → lone v ≡ cycle (cycle_of N x)
           content_new_at x o z = sym content_new ∙ ap (content N) (sym z) ∙ content_cycle N sound x o

@@ -16,6 +16,7 @@ use Rattle.euler_operators.specs.Sound.{Sound, Has, HasHalf, StandsIn}
 use Rattle.euler_operators.proofs.Halves.{edge_of-code}
 use Rattle.euler_operators.proofs.Models.{in-holds, holds_in, row_of, content_cycle, cycle_there, cycle_sound}
 use Rattle.euler_operators.proofs.Tables.{no_row}
+use Rattle.euler_operators.proofs.Members.{same_head}
 use Rattle.euler_operators.specs.declared.Op.TheVariants.{Mekr}
 use Rattle.euler_operators.specs.Conditions.{first_false, conditions, corner_tail, corner_loop, corner_list, corner_known, corner_lone}
 use Rattle.euler_operators.specs.Effect.{cycle_or_lone}
@@ -29,9 +30,6 @@ pub record Spot (M : Model) (q v : ℕ) (zs : List ℕ) : Type 0 where
   pub holds_it : content M q ≡ cycle_or_lone zs v
   pub apart : IsApart zs
   pub starts : (y : ℕ) (ys : List ℕ) → zs ≡ y ∷ ys → tail M y ≡ v
-
-same_head : (x y : ℕ) (xs ys : List ℕ) → x ∷ xs ≡ y ∷ ys → y ≡ x
-same_head x y xs ys e = cc
 
 no_first : (y : ℕ) (ys : List ℕ) → [] ≡ y ∷ ys → ⊥
 no_first y ys e = cc
@@ -72,7 +70,7 @@ pub record JoinGoes (M : Model) (h q l u w : ℕ) (Y X : List ℕ) : Type 0 wher
   pub no_outer : outer M (face_of M l) ≢ l
   pub ends_apart : u ≢ w
 
-ring_is : (b : Bool) (f o k : ℕ) → (b && nat_eq f f && not (nat_eq o k)) ≡ true → o ≢ k
+pub ring_is : (b : Bool) (f o k : ℕ) → (b && nat_eq f f && not (nat_eq o k)) ≡ true → o ≢ k
 ring_is b f o k e p = grind (arith, nat_tests)
 
 pub join_goes : (M : Model) (c d : Corner) (h : HalfEdge) → Sound M → first_false M (Mekr c d h) ≡ None →

@@ -11,7 +11,7 @@ use Rattle.euler_operators.proofs.Models.{number_fits, loop_number}
 use Rattle.euler_operators.specs.Conditions.{Condition, first_refusal, verdict, is_lone, lists, need}
 use Rattle.euler_operators.specs.declared.Why.TheVariants.{LoneLoop, NotFlat, NumbersSpent}
 use Rattle.euler_operators.specs.declared.Refusal.{Refusal}
-use Rattle.euler_laws.proofs.shared.Goes.{all_hold}
+use Rattle.euler_laws.proofs.shared.Goes.{all_hold, verdict_passed, verdict_failed}
 use Rattle.shapes.specs.Faces.{faces_of_both, least_lone}
 use Rattle.shapes.specs.Fresh.{taken_in, numbers_left, no_such, first_such}
 use Rattle.solid_walks.proofs.face_walks_laws.Rising.{member}
@@ -36,23 +36,14 @@ refusal_first (x ∷ xs) ys r e = elim x.holds as (λ b. cond b (first_refusal x
   | false ↦ λ t. t
 ] e
 
--- a verdict tells whether there is a refusal, and which
-pub passed : (o : Option Refusal) (u : Unit {0}) → Ok u ≡ verdict o → o ≡ None
-passed None u e = refl
-passed (Some r) u e = cc
-
-pub failed : (o : Option Refusal) (r : Refusal) → Err r ≡ verdict o → o ≡ Some r
-failed None r e = cc
-failed (Some s) r e = cc
-
 -- a verdict that is an error is the whole verdict
 pub first_failed : (xs ys : List Condition) (v : Result (Unit {0}) Refusal) → v ≡ verdict (first_refusal xs) → is_err v ≡ true → v ≡ verdict (first_refusal (xs ++ ys))
 first_failed xs ys (Ok u) is e = absurd (true≢false (sym e))
-first_failed xs ys (Err r) is e = ap verdict (sym (refusal_first xs ys r (failed (first_refusal xs) r is)))
+first_failed xs ys (Err r) is e = ap verdict (sym (refusal_first xs ys r (verdict_failed (first_refusal xs) r is)))
 
 -- and one that isn't leaves the rest
 pub all_passed : (xs : List Condition) (v : Result (Unit {0}) Refusal) → v ≡ verdict (first_refusal xs) → is_err v ≡ false → first_refusal xs ≡ None
-all_passed xs (Ok u) is e = passed (first_refusal xs) u is
+all_passed xs (Ok u) is e = verdict_passed (first_refusal xs) u is
 all_passed xs (Err r) is e = absurd (true≢false e)
 
 -- no number in use passes the limit

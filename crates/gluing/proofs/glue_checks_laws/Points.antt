@@ -8,6 +8,7 @@ use Rattle.std.proofs.lemmas.List.{reverse-append}
 use Rattle.euler_operators.specs.declared.Point.{Point}
 use Rattle.euler_operators.specs.Vectors.{same_point}
 use Rattle.euler_operators.proofs.Crossings.{same_int}
+use Rattle.euler_operators.proofs.Tests.{or_false}
 use Rattle.shapes.specs.glue.Glue.{has_repeats}
 
 same_number : (m n : ℤ) → int_eq m n ≡ true → m ≡ n
@@ -63,10 +64,7 @@ old_point p ps old met = sym (ap (λ b. (b || list_any old ps) || has_repeats (p
 
 -- a list read backwards has the same repeats
 any_push : (p : Point) (ps : List Point) (q : Point) → list_any (same_point p) (ps ++ q ∷ []) ≡ list_any (same_point p) ps || same_point p q
-any_push p [] q = last (same_point p q) where
-  last : (b : Bool) → b || false ≡ b
-  last true = refl
-  last false = refl
+any_push p [] q = or_false (same_point p q)
 any_push p (r ∷ rs) q = ap (λ b. same_point p r || b) (any_push p rs q) ∙ grouped (same_point p r) (list_any (same_point p) rs) (same_point p q) where
   grouped : (a b c : Bool) → a || (b || c) ≡ (a || b) || c
   grouped true b c = refl

@@ -25,7 +25,7 @@ use Rattle.euler_operators.specs.declared.Op.TheVariants.{Kev, Mekr, Kfmrh, Merg
 use Rattle.euler_operators.specs.Conditions.{first_false}
 use Rattle.euler_operators.specs.Effect.{effect, merge, kfmrh, mekr, kev, faces_to_solid, loop_to_face, moved_tail, edge_row}
 use Rattle.euler_laws.proofs.shared.Undo.{both_out}
-use Rattle.euler_laws.proofs.shared.Rows.{face_there}
+use Rattle.euler_laws.proofs.shared.Rows.{face_there, edge_row_plus}
 use Rattle.euler_laws.proofs.shared.Goes.{equals, differs}
 use Rattle.euler_laws.proofs.merge.Merge.{MergeGoes, merge_accepted}
 use Rattle.euler_laws.proofs.faces.Kfmrh.{KillGoes, kfmrh_accepted}
@@ -36,7 +36,7 @@ use Rattle.euler_laws.proofs.kev.MevUndo.{as_cycle}
 use Rattle.euler_laws.specs.Laws.{effects, AreAccepted}
 use Rattle.euler_laws.proofs.Cases.{effect_keeps_sound}
 use Rattle.shapes.proofs.fresh.Rows.{get-put_here, get-put_other}
-use Rattle.sweeps_laws.proofs.prism.Steps.{Around, half_is, loop_is, cycle_is, apart_xs, edge_plus, row_plus}
+use Rattle.sweeps_laws.proofs.prism.Steps.{Around, half_is, loop_is, cycle_is, apart_xs, edge_plus}
 use Rattle.shapes.specs.Rewriting.{rewritten, rewritten_row, renamed}
 use Rattle.shapes.specs.glue.Glue.{renamed_tails}
 use Rattle.shapes.specs.glue.GlueOps.{opening}
@@ -253,7 +253,7 @@ module _ (M : Model) (f g : ℕ) (partner_of : ℕ → ℕ) (h : ℕ) (mid : Lis
       face = (ap (face_of A) first_corner.loop ∙ face_l) i;
       content = cycle (canonical (plus x ∷ (second_corner.list ∙ sym rs_are) i ++ mate_plus x i ∷ first_corner.list i));
     })) (second_corner.loop i);
-    edges = table.put M.edges (edge_plus x i) (((λ j. edge_row (plus x) (first_corner.vertex j) (second_corner.vertex j)) ∙ row_plus x (tail M h) (tail M k)) i);
+    edges = table.put M.edges (edge_plus x i) (((λ j. edge_row (plus x) (first_corner.vertex j) (second_corner.vertex j)) ∙ edge_row_plus x (tail M h) (tail M k)) i);
   }
 
   B_is : effect A (Mekr (At (half h)) (At (half k)) (half (plus x))) ≡ B

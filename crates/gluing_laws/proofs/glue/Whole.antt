@@ -33,7 +33,7 @@ module _ (M : Model) (f g : ℕ) (partner_of : ℕ → ℕ) (hs : List ℕ) (x :
       let next : Stage M f g partner_of hs x last (done ++ h ∷ []) (k ∷ ks) = record {
         facing = w.facing;
         split = w.split ∙ sym (append_assoc done (h ∷ []) (k ∷ ks));
-        IsIn_last = later;
+        last_in = later;
         sound = subst Sound is (effects_keep_sound N ops w.sound accepted);
       } in
       let rest = closings_go (done ++ h ∷ []) k ks next in
@@ -54,7 +54,7 @@ module _ (M : Model) (f g : ℕ) (partner_of : ℕ → ℕ) (h : ℕ) (mid : Lis
   begins = record {
     facing = w;
     split = refl;
-    IsIn_last = subst (λ n. IsIn n hs) (last_or_push h last mid) (IsIn_last h (mid ++ last ∷ []));
+    last_in = subst (λ n. IsIn n hs) (last_or_push h last mid) (IsIn_last h (mid ++ last ∷ []));
     sound = subst Sound (opening_is M f g partner_of h mid last x w) (effects_keep_sound M start_ops w.sound (opening_accepted M f g partner_of h mid last x w));
   }
 

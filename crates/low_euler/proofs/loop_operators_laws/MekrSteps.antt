@@ -3,7 +3,7 @@ use Rattle.std.proofs.Common.{◌≡◌, ◌≢◌, ℕ, ◌+◌, true, List, []
 use Rattle.euler_operators.specs.Items.{count, tick, IsIn, IsApart}
 use Rattle.euler_operators.specs.Rings.{canonical, rotate_to, joined}
 use Rattle.euler_operators.proofs.Lists.{count-append, tick_same, tick_other}
-use Rattle.euler_operators.proofs.Rotations.{count-canonical}
+use Rattle.euler_operators.proofs.Rotations.{count-canonical, canonical_one}
 use Rattle.euler_operators.proofs.Operators.{apart_front}
 use Rattle.euler_operators.proofs.Cuts.{rest_canonical}
 use Rattle.euler_operators.specs.declared.HalfEdge.{HalfEdge}
@@ -26,7 +26,6 @@ use Rattle.euler_laws.proofs.shared.Rows.{half_of, loop_row}
 use Rattle.euler_laws.proofs.mekr.MekrSpots.{JoinGoes, join_goes, count_spot}
 use Rattle.euler_conditions.specs.Store.{Store, join, take_loop, loose_key, loose_ring}
 use Rattle.low_euler.specs.loop_steps.Steps.{IsStanding, IsLoose, IsCorner, CanTake, with_edge, put_at}
-use Rattle.low_euler.proofs.loop_steps_laws.RingSteps.{canonical_one}
 use Rattle.low_euler.proofs.loop_steps_laws.StoreSteps.{remove-put_same}
 use Rattle.low_euler.proofs.loop_steps_laws.TwoLoops as two
 use Rattle.low_euler.proofs.loop_steps_laws.TwoLoops.{TwoLoops}

@@ -3,7 +3,7 @@ use Rattle.std.proofs.Common.{◌≡◌, ◌≢◌, ℕ, Bool, true, false, cond
 use mathlib.Core.Bool.{beq}
 use Rattle.std.proofs.lemmas.Bool.Decides.{nat_tests, eqb_tells}
 use Rattle.euler_operators.specs.Items.{IsIn}
-use Rattle.euler_operators.specs.Rings.{canonical, rest, cut_left, cut_right, joined}
+use Rattle.euler_operators.specs.Rings.{rest, cut_left, cut_right, joined}
 use Rattle.euler_operators.specs.Operators.{put_ring, take_ring}
 use Rattle.euler_operators.specs.HalfEdge.{mate, edge_of, is_first, plus, minus, code, half}
 use Rattle.euler_operators.specs.declared.HalfEdge.{HalfEdge}
@@ -13,8 +13,10 @@ use Rattle.euler_operators.specs.Model.{Model, EdgeRow, lone, cycle, items_of, c
 use Rattle.euler_operators.proofs.Halves.{plus_row, minus_row, half-code, mate_plus, mate_minus}
 use Rattle.euler_operators.proofs.Tables.{put-put, put_turned}
 use Rattle.euler_operators.proofs.Models.{content_row, face_row, holds_in, held_row, in_no_loop}
+use Rattle.euler_operators.proofs.Tests.{beq_itself}
 use Rattle.euler_operators.specs.Effect.{edge_row, cycle_or_lone}
 use Rattle.euler_laws.proofs.shared.Goes.{equals}
+use Rattle.euler_laws.proofs.shared.Rows.{cycle_filled}
 use Rattle.euler_conditions.specs.Store as store
 use Rattle.euler_conditions.specs.Store.{Store, with_loop, with_lone, loosened, loose_key, loose_ring, join, join_loose, join_loops, cut, cut_loose, clear}
 use Rattle.low_euler.specs.loop_steps.Steps.{IsStanding, IsLoose, with_edge, put_before, take_out}
@@ -25,12 +27,8 @@ remove-put_same t n x = same_table _ _ (λ q. grind (arith, nat_tests, tables))
 
 -- ---- tests of half-edges
 
-same_bool : (b : Bool) → beq b b ≡ true
-same_bool true = refl
-same_bool false = refl
-
 itself : (h : HalfEdge) → (nat_eq h.edge h.edge && beq h.first h.first) ≡ true
-itself h = λ i. equals h.edge h.edge refl i && same_bool h.first i
+itself h = λ i. equals h.edge h.edge refl i && beq_itself h.first i
 
 pub differ_codes : (a b : HalfEdge) → (nat_eq a.edge b.edge && beq a.first b.first) ≡ false → code a ≢ code b
 differ_codes a b t e =
@@ -143,17 +141,13 @@ module _ (s : Store) (g : ℕ) (stands : IsStanding s.model g) where
     unfolding before
     some_follow = follows xs stands.apart g g_in ne
 
-    filled : (ys : List ℕ) (v : ℕ) → ys ≢ [] → cycle_or_lone ys v ≡ cycle (canonical ys)
-    filled [] v e = absurd (e refl)
-    filled (y ∷ ys) v e = refl
-
     pub cut_takes_out : cut s p g 0 ≡ take_out s g
     unfolding cut_loose take_out
     cut_takes_out =
         ap (λ l. as_cut l (cut_left p g (items_of (content M l))) (cut_right p g (items_of (content M l)))) stands.before_near
         ∙ ap (λ ring. as_cut r (cut_left p g xs) ring) ring_takes
         ∙ ap (λ ys. as_cut r ys (g ∷ [])) ring_keeps
-        ∙ ap (λ c. record s { model = with_loop M r c; loose = table.put s.loose g (g ∷ []) }) (sym (filled (rest g xs) (tail M g) some_follow))
+        ∙ ap (λ c. record s { model = with_loop M r c; loose = table.put s.loose g (g ∷ []) }) (sym (cycle_filled (rest g xs) (tail M g) some_follow))
 
   -- where g is alone in its loop, the loop cleared and made lone
   module _ (e : p ≡ g) where

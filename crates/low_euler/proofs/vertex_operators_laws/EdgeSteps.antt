@@ -8,6 +8,7 @@ use Rattle.euler_operators.specs.HalfEdge.{code, half, mate, edge_of, is_first, 
 use Rattle.euler_operators.specs.Table as table
 use Rattle.euler_operators.specs.Table.{Table, tables, same_table}
 use Rattle.euler_operators.proofs.Halves.{code-mate, half-code, plus_row, minus_row}
+use Rattle.euler_operators.proofs.Tests.{beq_itself, beq_true}
 use Rattle.euler_conditions.specs.Store.{Store, put_edge}
 use Rattle.low_euler.specs.vertex_operators.Steps.{with_edge}
 
@@ -57,25 +58,15 @@ module _ (s : Store) (h : HalfEdge) (a b : ℕ) where
 abbrev is_same : HalfEdge → HalfEdge → Bool
 is_same a b = nat_eq a.edge b.edge && beq a.first b.first
 
-same_bool : (a b : Bool) → beq a b ≡ true → a ≡ b
-same_bool true true e = refl
-same_bool true false e = absurd (true≢false (sym e))
-same_bool false true e = absurd (true≢false (sym e))
-same_bool false false e = refl
-
-bool_itself : (b : Bool) → beq b b ≡ true
-bool_itself true = refl
-bool_itself false = refl
-
 pub same_half : (a b : HalfEdge) → is_same a b ≡ true → code a ≡ code b
 same_half a b t =
     let w = and_parts (nat_eq a.edge b.edge) (beq a.first b.first) t in
     let p : a.edge ≡ b.edge = let u = w.0 in grind (arith, nat_tests, u) in
-    let q : a.first ≡ b.first = same_bool a.first b.first w.1 in
+    let q : a.first ≡ b.first = beq_true a.first b.first w.1 in
     λ i. code (record { edge = p i; first = q i })
 
 is_itself : (b : HalfEdge) → is_same b b ≡ true
-is_itself b = let e : nat_eq b.edge b.edge ≡ true = grind (arith, nat_tests) in ap (λ t. t && beq b.first b.first) e ∙ bool_itself b.first
+is_itself b = let e : nat_eq b.edge b.edge ≡ true = grind (arith, nat_tests) in ap (λ t. t && beq b.first b.first) e ∙ beq_itself b.first
 
 pub other_half : (a b : HalfEdge) → is_same a b ≡ false → code a ≢ code b
 other_half a b t e = true≢false (sym (ap (λ z. is_same z b) (sym (half-code a) ∙ ap half e ∙ half-code b) ∙ is_itself b) ∙ t)

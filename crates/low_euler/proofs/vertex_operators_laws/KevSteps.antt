@@ -19,13 +19,13 @@ use Rattle.euler_operators.proofs.Halves.{mate_other, mate-mate, edge_of-code}
 use Rattle.euler_operators.proofs.Models.{in-holds, holds-none, cycle_there, row_of}
 use Rattle.euler_operators.proofs.Tables.{get-put_here, get-put_other}
 use Rattle.euler_operators.specs.declared.Op.TheVariants.{Kev}
-use Rattle.euler_operators.specs.Effect.{effect, kev, cycle_or_lone}
-use Rattle.euler_laws.proofs.shared.Fans.{Fan, half_after, half_mate, loop_after}
+use Rattle.euler_operators.specs.Effect.{effect, kev}
+use Rattle.euler_laws.proofs.shared.Fans.{Fan, half_after, half_mate, loop_after, none_in_fan}
 use Rattle.euler_laws.proofs.shared.Loops.{apart_out}
 use Rattle.euler_laws.proofs.shared.Arcs.{arc_is}
 use Rattle.euler_laws.proofs.shared.Undo.{same_loops, same_edges, taken_out as taken_ring}
-use Rattle.euler_laws.proofs.kev.KevSound.{KevGoes, fan_killed, m_in, none_in, touched, emptied, lone_new, new_h, half_cases, half_old, tail_old, edge_gone, edge_mapped, not_m}
-use Rattle.euler_laws.proofs.shared.Rows.{was_empty}
+use Rattle.euler_laws.proofs.kev.KevSound.{KevGoes, fan_killed, m_in, touched, emptied, lone_new, new_h, half_cases, half_old, tail_old, edge_gone, edge_mapped, not_m}
+use Rattle.euler_laws.proofs.shared.Rows.{was_empty, cycle_filled}
 use Rattle.euler_laws.proofs.kev.KevSound as kill
 use Rattle.euler_laws.proofs.shared.Same.{mapped_some}
 use Rattle.euler_laws.proofs.kev.Kev.{kev_goes}
@@ -73,10 +73,6 @@ less_twice h m c d i = elim (IsIn_or_not h (items_of c)) [
 
 less_neither : (h m : ℕ) (c : LoopContent) → count h (items_of c) ≡ 0 → count m (items_of c) ≡ 0 → less m (less h c) ≡ c
 less_neither h m c a b = ap (less m) (less_none h c a) ∙ less_none m c b
-
-not_lone_then : (xs : List ℕ) (v : ℕ) → xs ≢ [] → cycle_or_lone xs v ≡ cycle (canonical xs)
-not_lone_then [] v ne = absurd (ne refl)
-not_lone_then (x ∷ xs) v ne = refl
 
 -- ---- the loose table
 
@@ -192,9 +188,6 @@ module _ (s : Store) (half : HalfEdge) (ok : Accepts s (Kev half)) where
   abbrev vs : List ℕ
   vs = (fan_killed M sound h goes).items
 
-  fan_w : Fan (after M) M w
-  fan_w = fan_killed M sound h goes
-
   arc_rest : arc' ≡ rest m vs
   arc_rest =
       let f : Fan (after M) M w = fan_killed M sound h goes in
@@ -211,7 +204,7 @@ module _ (s : Store) (half : HalfEdge) (ok : Accepts s (Kev half)) where
       let n : count x arc' ≡ count x vs = ap (count x) arc_rest ∙ omega (arith, count_at x m vs (m_in M sound h goes), tick_other x m (not_m M sound h goes x ne)) in
       elim (eqb_tells (tail M x) w) [
         | inl e ↦ let i : IsIn x vs = f.all x there e.1 in let t : nat_lt 0 (count x arc') ≡ true = grind (arith, nat_tests, n, i) in t ∙ sym e.0
-        | inr e ↦ let z : count x vs ≡ 0 = none_in M sound h goes f x e.1 in let t : nat_lt 0 (count x arc') ≡ false = grind (arith, nat_tests, n, z) in t ∙ sym e.0
+        | inr e ↦ let z : count x vs ≡ 0 = none_in_fan M f x e.1 in let t : nat_lt 0 (count x arc') ≡ false = grind (arith, nat_tests, n, z) in t ∙ sym e.0
       ]
 
   edge_is : edge_of h ≡ half.edge
@@ -265,7 +258,7 @@ module _ (s : Store) (half : HalfEdge) (ok : Accepts s (Kev half)) where
   -- a loop that isn't left empty is as kev makes it
   content_made : (q : ℕ) → (without m (without h (items_of (content M q))) ≡ [] → IsIn h (items_of (content M q)) ⊎ IsIn m (items_of (content M q)) → ⊥) → content G.model q ≡ content (kev M h) q
   content_made q never = content_G q ∙ elim (touched M sound h goes (content M q)) [
-    | inl t ↦ less_twice h m (content M q) (placed_M.apart q) t.1 ∙ sym (not_lone_then (without m (without h (items_of (content M q)))) u (λ e. never e t.1)) ∙ sym t.0
+    | inl t ↦ less_twice h m (content M q) (placed_M.apart q) t.1 ∙ sym (cycle_filled (without m (without h (items_of (content M q)))) u (λ e. never e t.1)) ∙ sym t.0
     | inr t ↦ less_neither h m (content M q) t.1 t.2 ∙ sym t.0
   ] ∙ sym (kill.content-N M sound h goes q)
 

@@ -6,12 +6,9 @@ use Rattle.euler_operators.specs.Rings.{canonical, rotate_to, rest, predecessor,
 use Rattle.euler_operators.specs.Edits.{insert_before, without}
 use Rattle.euler_operators.proofs.Lists.{count-append, tick_same, tick_other, tick_le, split_at, before_at, after_at}
 use Rattle.euler_operators.proofs.Rings.{front_of, IsIn_predecessor, successor-predecessor, rotation_at, count_at, IsIn_last}
-use Rattle.euler_operators.proofs.Rotations.{rotate_to-rotates, IsApart-rotate_to, rotate_to_is, rest_parts, rest_at, rest_head, rest_same, IsIn_head, canonical_is, canonical_same, canonical_nil}
+use Rattle.euler_operators.proofs.Rotations.{rotate_to-rotates, IsApart-rotate_to, rotate_to_is, rest_parts, rest_at, rest_head, rest_same, canonical_same, canonical_nil, canonical_one}
 use Rattle.euler_operators.proofs.Members.{both_empty}
 use Rattle.euler_laws.proofs.shared.Undo.{taken_out, put_in}
-
-canonical_one : (x : ℕ) → canonical (x ∷ []) ≡ x ∷ []
-canonical_one x = canonical_is x (x ∷ []) (IsIn_head x []) ∙ ap (λ q. x ∷ q) (rest_head x [])
 
 -- a list whose first item, or b, is x
 starts_with : (b x : ℕ) (q : List ℕ) → head_or b q ≡ x → b ≢ x → (zs : List ℕ) × (q ≡ x ∷ zs)

@@ -56,7 +56,7 @@ only_least p n = elim (p n) as (λ b. p n ≡ b → IsLeast (λ k. p k && nat_eq
   other : (k : ℕ) → nat_eq k n ≡ false → p k && nat_eq k n ≡ false
   other k e = ap (λ b. p k && b) e ∙ and_false (p k)
 
-and_or : (a b c : Bool) → (a && b) || (a && c) ≡ a && (b || c)
+pub and_or : (a b c : Bool) → (a && b) || (a && c) ≡ a && (b || c)
 and_or true b c = refl
 and_or false b c = refl
 

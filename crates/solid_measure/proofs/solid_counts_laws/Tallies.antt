@@ -13,11 +13,10 @@ use Rattle.euler_operators.specs.HalfEdge.{edge_of, is_first, plus}
 use Rattle.euler_operators.specs.Table as table
 use Rattle.euler_operators.specs.Model.{Model, LoopContent, lone, cycle, items_of, tail, content, loop_of, face_of, solid_of, faces_of}
 use Rattle.euler_operators.specs.Sound.{Sound, Has, HasHalf, IsLoneAt}
-use Rattle.euler_operators.proofs.Halves.{plus_row}
+use Rattle.euler_operators.proofs.Halves.{plus_row, first_is_plus}
 use Rattle.euler_operators.proofs.Models.{cycle_there}
 use Rattle.euler_operators.proofs.Members.{IsIn-map, IsApart-images}
 use Rattle.euler_operators.specs.Conditions.{lists, is_lone, face_at}
-use Rattle.euler_laws.proofs.shared.Arcs.{halves_of_edge}
 use Rattle.euler_laws.proofs.shared.Fans.{kept_round, loop_after}
 use Rattle.euler_laws.proofs.shared.Listed.{listed_passes, passes_listed, all_where-rises}
 use Rattle.euler_laws.proofs.shared.Loops.{some_row}
@@ -116,9 +115,6 @@ module _ (M : Model) (sound : Sound M) (s : ℕ) where
 
   edges_apart : IsApart (edges_of M s)
   edges_apart x = counted_once x (edges_of M s) (all_where-rises (λ e _. OfSolid e) M.edges)
-
-  first_is_plus : (x : ℕ) → is_first x ≡ true → x ≡ plus (edge_of x)
-  first_is_plus x f = elim (halves_of_edge x) [ inl p ↦ p.0 | inr p ↦ absurd (true≢false (sym f ∙ p.1)) ]
 
   edge_listed : (e : ℕ) → IsIn e (map edge_of (passing is_first halves)) → IsIn e (edges_of M s)
   edge_listed e i =

@@ -1,6 +1,6 @@
 -- The edges that a walk over the faces of a solid meets as crossing a plane are those of the solid that do.
 use Rattle.std.specs.Prelude.{filter}
-use Rattle.std.proofs.Common.{◌≡◌, ℕ, Bool, true, ◌&&◌, nat_eq, List, [], ◌∷◌, ◌++◌, length, map, is_some, refl, sym, ap, subst, ◌∙◌, arith, true≢false, inl, inr}
+use Rattle.std.proofs.Common.{◌≡◌, ℕ, Bool, true, ◌&&◌, nat_eq, List, [], ◌∷◌, ◌++◌, length, map, is_some, refl, sym, ap, subst, ◌∙◌, arith, inl, inr}
 use Rattle.std.proofs.lemmas.Bool.{and_parts}
 use Rattle.std.proofs.lemmas.Bool.Decides.{eqb_tells}
 use Rattle.std.proofs.lemmas.List.{map-append}
@@ -12,7 +12,7 @@ use Rattle.euler_operators.specs.HalfEdge.{edge_of, is_first, mate, plus}
 use Rattle.euler_operators.specs.Table as table
 use Rattle.euler_operators.specs.Model.{Model, items_of, content, loop_of, solid_of, faces_of}
 use Rattle.euler_operators.specs.Sound.{Sound, Has, HasHalf}
-use Rattle.euler_operators.proofs.Halves.{plus_row, mate_minus}
+use Rattle.euler_operators.proofs.Halves.{plus_row, mate_minus, first_is_plus}
 use Rattle.euler_operators.proofs.Models.{cycle_there, one_or_more}
 use Rattle.euler_operators.proofs.Tests.{same_truth}
 use Rattle.euler_operators.proofs.Members.{IsIn-map, IsApart-images, IsIn-filter}
@@ -55,9 +55,6 @@ item_of M (k ∷ ls) l x i j = elim (eqb_tells l k) [
   | inl e ↦ omega (arith, count-append x (items_of (content M k)) (items_in M ls), j, ap (λ m. count x (items_of (content M m))) e.1)
   | inr n ↦ omega (arith, count-append x (items_of (content M k)) (items_in M ls), item_of M ls l x (omega (arith, i, tick_other l k n.1)) j)
 ]
-
-first_is_plus : (x : ℕ) → is_first x ≡ true → x ≡ plus (edge_of x)
-first_is_plus x f = elim (halves_of_edge x) [ inl p ↦ p.0 | inr p ↦ absurd (true≢false (sym f ∙ p.1)) ]
 
 all_crossing : (M : Model) (p : Plane) (es : List ℕ) → ((e : ℕ) → IsIn e es → IsCrossing M p e) → AreCrossing M p es
 all_crossing M p [] each = tt

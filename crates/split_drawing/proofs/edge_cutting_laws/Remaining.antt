@@ -1,10 +1,9 @@
 -- Edges that are still to be cut.
-use Rattle.std.proofs.Common.{◌≡◌, ℕ, ◌+◌, ◌≤◌, ℤ, true, false, not, List, [], ◌∷◌, length, slice_index_or, None, refl, sym, ap, ◌∙◌, subst, arith}
-use Rattle.std.proofs.lemmas.Int.{ints}
+use Rattle.std.proofs.Common.{◌≡◌, ℕ, ◌+◌, ◌≤◌, true, false, not, List, [], ◌∷◌, length, slice_index_or, None, refl, sym, ap, ◌∙◌, subst, arith}
 use Rattle.euler_operators.specs.declared.Plane.{Plane}
-use Rattle.euler_operators.specs.Ranges.{IsWithin, IsCutPlane}
-use Rattle.euler_operators.specs.Vectors.{are_opposite, cuts_lattice, is_offset}
-use Rattle.euler_operators.proofs.Magnitudes.{coordinate_within}
+use Rattle.euler_operators.specs.Ranges.{IsCutPlane}
+use Rattle.euler_operators.specs.Vectors.{are_opposite, cuts_lattice}
+use Rattle.euler_operators.proofs.Magnitudes.{coordinate_within, offset_within}
 use Rattle.euler_operators.specs.Items.{count, IsIn}
 use Rattle.euler_operators.proofs.Lists.{tick_same}
 use Rattle.euler_operators.proofs.Halves.{mate_plus}
@@ -35,9 +34,6 @@ pub record Cutting (M : Model) (s : ℕ) (p : Plane) (N : Model) (rs : List ℕ)
   pub going : Going M p (growing N) done rs
   pub whole : (e : ℕ) → IsIn e rs → cuts_lattice p (start M (plus e)) (finish M (plus e)) ≡ true
   pub made : (all_cut p (growing N) rs).model ≡ (with_crossings M s p).model
-
-offset_within : (d : ℤ) → is_offset d ≡ true → IsWithin 3000000000000000000 d
-offset_within d e = grind (arith, ints)
 
 plane_within : (M : Model) (s : ℕ) (p : Plane) (t : ℕ) → AllHold (first_conditions M s p t) → IsCutPlane p
 unfolding first_conditions

@@ -1,13 +1,11 @@
 -- The edges of a solid that cross a plane, sorted after a walk over its faces has met them.
-use Rattle.std.proofs.Common.{◌≡◌, ℕ, suc, ◌+◌, true, ◌&&◌, List, [], ◌∷◌, refl, ap, ◌∙◌, arith, inl, inr}
-use Rattle.std.specs.List.{sum_by}
+use Rattle.std.proofs.Common.{◌≡◌, ℕ, suc, true, ◌&&◌, List, [], ◌∷◌, refl, ap, ◌∙◌, arith, inl, inr}
 use Rattle.std.specs.List.Sorted.{IsPermutation, IsSorted, IsNonDecreasing}
 use Rattle.std.specs.Ordering.{nat_cmp}
 use Rattle.std.proofs.lemmas.Bool.{lt-ltb}
 use Rattle.std.proofs.lemmas.List.Sorted.{length_permutation, IsNonDecreasingBy-from_sort}
-use Rattle.std.proofs.lemmas.List.Sums.{sum_by-cons}
 use Rattle.euler_operators.specs.declared.Plane.{Plane}
-use Rattle.euler_operators.specs.Items.{count, tick, IsApart}
+use Rattle.euler_operators.specs.Items.{tick, IsApart}
 use Rattle.euler_operators.proofs.Lists.{tick_same}
 use Rattle.euler_operators.proofs.Tests.{less_or_same}
 use Rattle.euler_operators.proofs.Std.{SameItems-from_permutation}
@@ -21,11 +19,6 @@ use Rattle.solid_walks.proofs.SolidFaces.{listed_in}
 use Rattle.shapes.specs.split.Sides.{crossing_edges}
 use Rattle.split_checks.specs.cut_places.Crossings.{crossings_met}
 use Rattle.split_checks.proofs.cut_places_laws.Edges.{as_many, met_apart, met_crosses, rising}
-
--- how often a number stands in a list is a sum
-counted : (x : ℕ) (xs : List ℕ) → sum_by (tick x) xs ≡ count x xs
-counted x [] = refl
-counted x (y ∷ ys) = sum_by-cons (tick x) y ys ∙ ap (λ n. tick x y + n) (counted x ys)
 
 -- different numbers that don't fall rise
 rises : (xs : List ℕ) → IsNonDecreasing xs → IsApart xs → strictly_rises xs ≡ true

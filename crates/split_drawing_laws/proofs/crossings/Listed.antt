@@ -1,7 +1,7 @@
 -- Lists that tests pick from, and the items and corners of faces.
 use Rattle.std.specs.Prelude.{map, filter}
 use Rattle.std.specs.List.{list_any}
-use Rattle.std.proofs.Common.{◌≡◌, ◌≢◌, ℕ, ◌+◌, ◌≤◌, Bool, true, false, cond, not, nat_eq, ◌&&◌, ◌||◌, List, [], ◌∷◌, Some, refl, sym, ap, ◌∙◌, subst, arith, inl, inr, true≢false}
+use Rattle.std.proofs.Common.{◌≡◌, ◌≢◌, ℕ, ◌+◌, ◌≤◌, Bool, true, false, cond, not, nat_eq, ◌&&◌, ◌||◌, List, [], ◌∷◌, Some, refl, sym, ap, ◌∙◌, subst, arith, inl, inr}
 use Rattle.std.proofs.lemmas.Bool.Decides.{eqb_tells}
 use Rattle.euler_operators.specs.Items.{count, tick, IsIn}
 use Rattle.euler_operators.proofs.Lists.{count-append, tick_same, tick_other}
@@ -9,10 +9,9 @@ use Rattle.euler_operators.specs.Table as table
 use Rattle.euler_operators.specs.Table.{Table}
 use Rattle.euler_operators.specs.Model.{Model, LoopContent, lone, cycle, items_of, content, outer, tail, face_of, rings_of}
 use Rattle.euler_operators.specs.Sound.{Has}
-use Rattle.euler_operators.specs.Conditions.{lists}
 use Rattle.euler_laws.proofs.shared.Goes.{equals, differs, not_false}
 use Rattle.euler_laws.proofs.shared.Rows.{loop_row}
-use Rattle.euler_laws.proofs.shared.Listed.{listed_passes, passes_listed, listed_cases}
+use Rattle.euler_laws.proofs.shared.Listed.{listed_passes, passes_listed, IsIn-from_listed}
 use Rattle.solid_measure_laws.proofs.Rising.{in_listed}
 use Rattle.shapes.proofs.fresh.Tests.{NoneSuch, NoZero}
 use Rattle.shapes.specs.Faces.{loops_of, items_in, boundary, vertices_on, vertices_in, corners}
@@ -21,10 +20,6 @@ use Rattle.shapes.specs.Faces.{loops_of, items_in, boundary, vertices_on, vertic
 
 pub here : (x y : ℕ) (ns : List ℕ) → x ≡ y → IsIn x (y ∷ ns)
 here x y ns e = subst (λ k. 1 ≤ tick x k + count x ns) e (omega (arith, tick_same x))
-
-pub listed_in : (x : ℕ) (ns : List ℕ) → lists ns x ≡ true → IsIn x ns
-listed_in x [] l = absurd (true≢false (sym l))
-listed_in x (n ∷ ns) l = elim (listed_cases n x ns l) [ inl e ↦ here x n ns e | inr r ↦ omega (arith, listed_in x ns r) ]
 
 pub picked_none : (p : ℕ → Bool) (ns : List ℕ) → ((x : ℕ) → IsIn x ns → p x ≡ false) → filter p ns ≡ []
 picked_none p [] none = refl
@@ -58,7 +53,7 @@ pub all_where_has : {X : Type 0} (p : ℕ → X → Bool) (t : Table X) (n : ℕ
 all_where_has p t n i = listed_passes p t n (in_listed n (table.all_where p t) i)
 
 pub all_where_in : {X : Type 0} (p : ℕ → X → Bool) (t : Table X) (n : ℕ) (x : X) → table.get t n ≡ Some x → p n x ≡ true → IsIn n (table.all_where p t)
-all_where_in p t n x at e = listed_in n (table.all_where p t) (passes_listed p t n x at e)
+all_where_in p t n x at e = IsIn-from_listed n (table.all_where p t) (passes_listed p t n x at e)
 
 -- ---- the loops of a face
 
@@ -93,7 +88,7 @@ module _ (M : Model) where
     | inr s ↦ omega (arith, mapped_in h hs (omega (arith, i, tick_other h g s.1)))
   ]
 
-  tail_on : (h : ℕ) (c : LoopContent) → IsIn h (items_of c) → IsIn (tail M h) (vertices_on M c)
+  pub tail_on : (h : ℕ) (c : LoopContent) → IsIn h (items_of c) → IsIn (tail M h) (vertices_on M c)
   tail_on h (lone v) i = absurd (omega arith)
   tail_on h (cycle hs) i = mapped_in h hs i
 

@@ -23,7 +23,7 @@ use Rattle.euler_operators.proofs.Tables.{map_one, put_turned}
 use Rattle.euler_operators.proofs.Models.{content_row, row_of, not_held, other_loop, in-holds, holds-none, none-holds, cycle_there, cycle_sound, minus_tail_row}
 use Rattle.shapes.specs.Rewriting.{rewritten, rewritten_row}
 use Rattle.euler_operators.specs.Effect.{mev_at, with_before, with_tails, edge_row}
-use Rattle.euler_laws.proofs.shared.Rows.{where_held_none, where_held_there, one_row}
+use Rattle.euler_laws.proofs.shared.Rows.{where_held_none, where_held_there, one_row, edge_row_plus}
 use Rattle.shapes.specs.split.Crossings.{doubled, edge_cut}
 use Rattle.euler_operators.proofs.Halves.{plus_row, minus_row, mate_plus}
 use Rattle.split_drawing_laws.proofs.crossings.Doubled.{doubled_none, doubled_plus, doubled_minus, put_between}
@@ -55,9 +55,6 @@ pub record CanCut (M : Model) (e k : ℕ) : Type 0 where
   pub there : Has M.edges e
   pub apart : loop_of M (plus e) ≢ loop_of M (minus e)
   pub edge_free : table.get M.edges k ≡ None
-
-row_plus : (e a b : ℕ) → edge_row (plus e) a b ≡ record { plus_tail = a; minus_tail = b }
-row_plus e a b = ap (λ t. cond t (record { plus_tail = a; minus_tail = b }) (record { plus_tail = b; minus_tail = a })) (plus_row e).1
 
 module _ (M : Model) (e k v : ℕ) (q : Point) (goes : CanCut M e k) where
   -- the loops of the two halves, their items, and the item after the minus half
@@ -213,7 +210,7 @@ module _ (M : Model) (e k v : ℕ) (q : Point) (goes : CanCut M e k) where
       table.put (table.map_rows (with_tails (arc M (plus e) (after M (minus e))) v) M.edges) (edge_of (plus k)) (edge_row (plus k) (tail M (plus e)) v)
       ≡ table.put (table.put M.edges k (record { plus_tail = tail M (plus e); minus_tail = v })) e (record { plus_tail = v; minus_tail = tail M (minus e) })
   edges_agree r at =
-      (λ i. table.put (table.map_rows (with_tails (one_leaves M.edges refl i) v) M.edges) ((plus_row k).0 i) (row_plus k (tail M (plus e)) v i))
+      (λ i. table.put (table.map_rows (with_tails (one_leaves M.edges refl i) v) M.edges) ((plus_row k).0 i) (edge_row_plus k (tail M (plus e)) v i))
       ∙ ap (λ t. table.put t k (record { plus_tail = tail M (plus e); minus_tail = v }))
       (map_one (with_tails (plus e ∷ []) v) M.edges e r at (λ x y n _. only_plus x y n) ∙ ap (table.put M.edges e) (the_plus r ∙ (λ i. record { plus_tail = v; minus_tail = sym (minus_tail_row M e r at) i })))
       ∙ put_turned M.edges e k (record { plus_tail = v; minus_tail = tail M (minus e) }) (record { plus_tail = tail M (plus e); minus_tail = v }) (λ s. let h : table.get M.edges e ≡ None = ap (table.get M.edges) s ∙ goes.edge_free in true≢false (ap is_some (sym at ∙ h)))

@@ -13,11 +13,12 @@ use Rattle.euler_operators.proofs.Halves.{mate_plus, mate_minus}
 use Rattle.euler_operators.proofs.Models.{face_row, plus_there, minus_there}
 use Rattle.euler_operators.proofs.Tests.{and_first}
 use Rattle.euler_operators.proofs.Members.{IsIn-filter, count-filter, filter_passes}
-use Rattle.euler_operators.proofs.Crossings.{opposite_turned, level_on}
+use Rattle.euler_operators.proofs.Crossings.{opposite_turned, level_on, not_level}
 use Rattle.euler_operators.specs.Conditions.{first_refusal, face_at, lists}
 use Rattle.euler_laws.proofs.shared.Arcs.{halves_of_edge}
 use Rattle.euler_laws.proofs.shared.Fans.{half_after, loop_after}
 use Rattle.euler_laws.proofs.shared.Goes.{equal, equals}
+use Rattle.euler_laws.proofs.shared.Listed.{IsIn-from_listed}
 use Rattle.solid_measure_laws.proofs.FaceLoops.{items_counted, items_there}
 use Rattle.shapes.specs.Faces.{start, finish, loops_of, boundary, edges_of}
 use Rattle.shapes.specs.split.Sides.{crosses, straddles, straddling_faces, crossing_edges}
@@ -26,8 +27,7 @@ use Rattle.shapes.specs.split.Crossings.{with_crossings}
 use Rattle.shapes.specs.split.Drawing.{from_place}
 use Rattle.shapes.specs.split.Split.{first_conditions}
 use Rattle.split_drawing_laws.specs.crossings.AtPlace.{AtPlace}
-use Rattle.split_drawing_laws.proofs.crossings.Levels.{not_level}
-use Rattle.split_drawing_laws.proofs.crossings.Listed.{listed_in, all_where_has}
+use Rattle.split_drawing_laws.proofs.crossings.Listed.{all_where_has}
 use Rattle.split_drawing_laws.proofs.crossings.Runs.{kept_start}
 use Rattle.split_drawing_laws.proofs.crossings.Premises.{crossing_here, crossing_point, one_point, minus_crosses}
 use Rattle.split_drawing_laws.proofs.crossings.Whole.{can_cut, gone, is_cut, listed_edge, crossings_cut, crossings_keep, crossings_sound}
@@ -173,5 +173,5 @@ module _ (M : Model) (s : ℕ) (p : Plane) (t : ℕ) (sound : Sound M) (accepted
   pub at_place : (f h : ℕ) → lists (straddling_faces M p s) f ≡ true → lists (places M p f) h ≡ true → AtPlace M (with_crossings M s p).model p h
   unfolding places
   at_place f h i j =
-      let k : IsIn h (filter (is_place M p) (boundary M f)) = listed_in h (places M p f) j in
-      place_is f h (listed_in f (straddling_faces M p s) i) (omega (arith, k, count-filter (is_place M p) h (boundary M f))) (filter_passes (is_place M p) h (boundary M f) k)
+      let k : IsIn h (filter (is_place M p) (boundary M f)) = IsIn-from_listed h (places M p f) j in
+      place_is f h (IsIn-from_listed f (straddling_faces M p s) i) (omega (arith, k, count-filter (is_place M p) h (boundary M f))) (filter_passes (is_place M p) h (boundary M f) k)

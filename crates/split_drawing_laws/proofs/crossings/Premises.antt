@@ -16,7 +16,7 @@ use Rattle.euler_operators.specs.Sound.{Sound, Has, HasHalf, StandsIn}
 use Rattle.euler_operators.proofs.Halves.{plus_row, minus_row, mate_plus, mate_minus}
 use Rattle.euler_operators.proofs.Models.{held_row, cycle_there}
 use Rattle.euler_operators.proofs.Members.{IsIn-filter, count-filter, filter_passes}
-use Rattle.euler_operators.proofs.Crossings.{same_as, cut_back}
+use Rattle.euler_operators.proofs.Crossings.{same_as, cut_back, opposite_back, not_level, level_is, cut_fits}
 use Rattle.euler_operators.specs.Conditions.{AllHold, face_at}
 use Rattle.euler_laws.proofs.shared.Goes.{not_back, equal, equals, no_zero}
 use Rattle.euler_laws.proofs.shared.Rows.{face_there, point_row}
@@ -27,7 +27,6 @@ use Rattle.shapes.specs.Fresh.{first_such, taken_in}
 use Rattle.shapes.specs.split.Sides.{crosses, straddles, straddling_faces, crossing_edges, reaches_above, reaches_below}
 use Rattle.shapes.specs.split.Places.{is_place, place_point, places, some_meet, is_touched, is_cut_often, is_crossed, is_up_and_down, sorted_pairs, pair_count}
 use Rattle.shapes.specs.split.Split.{first_conditions}
-use Rattle.split_drawing_laws.proofs.crossings.Levels.{opposite_back, not_level, level_is, cut_fits}
 use Rattle.split_drawing_laws.proofs.crossings.Listed.{any_passes, none_at, all_not_zero, all_where_has, all_where_in, item_in_face, tail_in_face}
 use Rattle.split_drawing_laws.proofs.crossings.Runs.{Crossing}
 
@@ -36,7 +35,7 @@ use Rattle.split_drawing_laws.proofs.crossings.Runs.{Crossing}
 meets_first : (M : Model) (p : Plane) (x y : ℕ) (hs : List ℕ) → same_point (place_point M p x) (place_point M p y) ≡ true → IsIn y hs → list_any (λ k. same_point (place_point M p x) (place_point M p k)) hs ≡ true
 meets_first M p x y hs e i = any_passes (λ k. same_point (place_point M p x) (place_point M p k)) y hs i e
 
-two_meet : (M : Model) (p : Plane) (x y : ℕ) (hs : List ℕ) → x ≢ y → place_point M p x ≡ place_point M p y → IsIn x hs → IsIn y hs → some_meet M p hs ≡ true
+pub two_meet : (M : Model) (p : Plane) (x y : ℕ) (hs : List ℕ) → x ≢ y → place_point M p x ≡ place_point M p y → IsIn x hs → IsIn y hs → some_meet M p hs ≡ true
 two_meet M p x y [] ne e i j = absurd (omega (arith, i))
 two_meet M p x y (h ∷ hs) ne e i j = elim (eqb_tells x h) [
   | inl s ↦ ap (λ b. b || some_meet M p hs) (meets_first M p h y hs (same_as (place_point M p h) (place_point M p y) (ap (place_point M p) (sym s.1) ∙ e)) (rest y h hs (λ t. ne (s.1 ∙ sym t)) j))
@@ -173,9 +172,6 @@ module _ (M : Model) (sound : Sound M) (s : ℕ) (p : Plane) where
 
       face_in : IsIn (face_of M l) (faces_of M s)
       face_in = all_where_in (λ _ row. nat_eq row.solid s) M.faces (face_of M l) _ (face_there M (face_of M l) (sound.loops_of_faces l l_there)) (equals (solid_of M (face_of M l)) s of_solid)
-
-      abbrev vs : List ℕ
-      vs = corners M (face_of M l)
 
       plus_corner : IsIn (tail M (plus e)) (corners M (face_of M l))
       plus_corner = tail_in_face M (plus e) l l_there first_in

@@ -13,6 +13,7 @@ use Rattle.euler_operators.specs.Model.{Model, tail, loop_of, point_of, no_point
 use Rattle.euler_operators.specs.Sound.{Sound, Has, HasHalf}
 use Rattle.euler_operators.proofs.Halves.{plus_row, minus_row, edge_of-mate, mate_plus}
 use Rattle.euler_operators.proofs.Models.{plus_there, minus_there, plus_edge}
+use Rattle.euler_operators.proofs.Crossings.{level_first, level_second}
 use Rattle.euler_laws.specs.Laws.{AreAccepted, effects}
 use Rattle.shapes.proofs.fresh.Rows.{none_above}
 use Rattle.shapes.proofs.fresh.Tests.{number_fits}
@@ -22,7 +23,6 @@ use Rattle.shapes.specs.split.Sides.{crosses}
 use Rattle.shapes.specs.split.Crossings.{edge_cut, next_cut, all_cut}
 use Rattle.split_drawing_laws.specs.crossings.CrossingOps.{cut_edge, ops_from}
 use Rattle.split_drawing_laws.specs.crossings.Kept.{Kept}
-use Rattle.split_drawing_laws.proofs.crossings.Levels.{level_first, level_second}
 use Rattle.split_drawing_laws.proofs.crossings.Steps.{CutGoes, cut_accepted, cut_made, cut_sound, cut_keeps, edge_other, point_new, tail_old, tail_new, tail_other}
 use Rattle.split_drawing_laws.proofs.crossings.Counters.{taken_then}
 

@@ -1,6 +1,6 @@
 -- Corners on a plane, loop by loop and item by item; rings that are the same.
 use Rattle.std.specs.List.{list_all}
-use Rattle.std.proofs.Common.{◌≡◌, ℕ, Bool, true, ◌&&◌, List, [], ◌∷◌, ◌++◌, map, refl, sym, ap, ◌∙◌, subst, arith, inl, inr}
+use Rattle.std.proofs.Common.{◌≡◌, ℕ, Bool, true, ◌&&◌, List, [], ◌∷◌, ◌++◌, refl, sym, ap, ◌∙◌, subst, arith, inl, inr}
 use Rattle.std.proofs.lemmas.Bool.Decides.{eqb_tells}
 use Rattle.std.proofs.lemmas.Bool.{and_parts}
 use Rattle.euler_operators.specs.declared.Plane.{Plane}
@@ -11,7 +11,7 @@ use Rattle.euler_operators.proofs.Rings.{IsIn_successor}
 use Rattle.euler_operators.specs.Model.{Model, LoopContent, lone, cycle, items_of, tail, content, point_of, loop_of, cycle_of, is_ring_of, rings_of, after}
 use Rattle.euler_operators.specs.Sound.{Sound}
 use Rattle.euler_operators.proofs.Models.{in-holds, item_there}
-use Rattle.euler_operators.proofs.Members.{IsIn_rest}
+use Rattle.euler_operators.proofs.Members.{IsIn_rest, each_mapped}
 use Rattle.euler_operators.proofs.Rotations.{IsIn_head}
 use Rattle.solid_walks.proofs.RisingLists.{within}
 use Rattle.euler_operators.specs.Conditions.{lists, strictly_rises}
@@ -22,17 +22,6 @@ use Rattle.solid_measure_laws.proofs.FlatFaces.{list_parts, are_on}
 -- ---- lists
 
 module _ (p : ℕ → Bool) where
-  pub each_mapped : (f : ℕ → ℕ) (xs : List ℕ) (x : ℕ) → list_all p (map f xs) ≡ true → IsIn x xs → p (f x) ≡ true
-  each_mapped f [] x all i = absurd (omega (arith, i))
-  each_mapped f (y ∷ ys) x all i = let a = and_parts (p (f y)) (list_all p (map f ys)) all in elim (eqb_tells x y) [
-    | inl e ↦ ap (λ k. p (f k)) e.1 ∙ a.0
-    | inr e ↦ each_mapped f ys x a.1 (omega (arith, i, tick_other x y e.1))
-  ]
-
-  pub all_mapped : (f : ℕ → ℕ) (xs : List ℕ) → ((x : ℕ) → IsIn x xs → p (f x) ≡ true) → list_all p (map f xs) ≡ true
-  all_mapped f [] each = refl
-  all_mapped f (x ∷ xs) each = λ i. each x (IsIn_head x xs) i && all_mapped f xs (λ y j. each y (IsIn_rest y x xs j)) i
-
   pub both_pass : (xs ys : List ℕ) → list_all p xs ≡ true → list_all p ys ≡ true → list_all p (xs ++ ys) ≡ true
   both_pass [] ys a b = b
   both_pass (x ∷ xs) ys a b = let s = and_parts (p x) (list_all p xs) a in λ i. s.0 i && both_pass xs ys s.1 b i

@@ -9,7 +9,7 @@ use Rattle.euler_operators.specs.Items.{count, IsIn}
 use Rattle.euler_operators.specs.Rings.{canonical}
 use Rattle.euler_operators.proofs.Lists.{count-append, tick_other, IsIn_or_not}
 use Rattle.euler_operators.proofs.Rotations.{count-canonical, IsIn_head}
-use Rattle.euler_operators.proofs.Members.{IsIn_one}
+use Rattle.euler_operators.proofs.Members.{IsIn_one, all_mapped}
 use Rattle.euler_operators.proofs.Halves.{mate_plus, mate_minus}
 use Rattle.euler_operators.proofs.Models.{item_there}
 use Rattle.euler_operators.specs.HalfEdge.{plus, minus}
@@ -23,7 +23,7 @@ use Rattle.shapes.specs.split.Crossings.{doubled, edge_cut}
 use Rattle.split_drawing_laws.proofs.crossings.Doubled.{doubled_none}
 use Rattle.split_drawing_laws.proofs.crossings.Steps.{CutGoes}
 use Rattle.split_drawing_laws.proofs.crossings.Runs.{kept_point}
-use Rattle.split_drawing_laws.proofs.cut_volumes.Corners.{all_mapped, loop_on, loops_on, item_on, item_loop, item_ends_on}
+use Rattle.split_drawing_laws.proofs.cut_volumes.Corners.{loop_on, loops_on, item_on, item_loop, item_ends_on}
 use Rattle.split_drawing_laws.proofs.cut_volumes.OneCut.{doubled_cases, other_edge, Between, keeps, plus_start, minus_start, new_plus, new_minus, other_start, content_cut, outer_stays, loops_stay}
 
 -- an item of lists that are joined stands in one of them

@@ -8,6 +8,7 @@ use Rattle.euler_operators.specs.Model.{Model, solid_of, faces_of}
 use Rattle.euler_operators.specs.Sound.{Sound, Has}
 use Rattle.euler_operators.specs.Conditions.{AllHold, first_refusal, lists}
 use Rattle.euler_laws.proofs.shared.Goes.{all_hold, equal, not_back, no_zero}
+use Rattle.euler_laws.proofs.shared.Listed.{IsIn-from_listed}
 use Rattle.shapes.proofs.fresh.Tests.{none_such}
 use Rattle.shapes.specs.Faces.{corners}
 use Rattle.shapes.specs.Fresh.{first_such, growing}
@@ -16,7 +17,7 @@ use Rattle.solid_measure_laws.proofs.FlatFaces.{are_on}
 use Rattle.shapes.specs.split.Sides.{crossing_edges}
 use Rattle.shapes.specs.split.Crossings.{with_crossings}
 use Rattle.shapes.specs.split.Split.{first_conditions}
-use Rattle.split_drawing_laws.proofs.crossings.Listed.{listed_in, none_at, all_not_zero}
+use Rattle.split_drawing_laws.proofs.crossings.Listed.{none_at, all_not_zero}
 use Rattle.split_drawing_laws.proofs.crossings.Premises.{Cuttable, edge_facts}
 use Rattle.split_drawing_laws.proofs.crossings.Whole.{can_cut, begins, crossings_sound}
 use Rattle.split_drawing_laws.proofs.cut_volumes.CutRuns.{OfSolid, all_measured}
@@ -59,7 +60,7 @@ module _ (M : Model) (s : ℕ) (p : Plane) (t : ℕ) (sound : Sound M) (accepted
 
   pub crossings_flat : (f : ℕ) → lists (faces_of M s) f ≡ true → (is_flat (with_crossings M s p).model f ≡ true) × (plane_of (with_crossings M s p).model f ≡ plane_of M f)
   crossings_flat f l =
-      let i : IsIn f (faces_of M s) = listed_in f (faces_of M s) l in
+      let i : IsIn f (faces_of M s) = IsIn-from_listed f (faces_of M s) l in
       let there : Has M.faces f = (solid_facts M s f i).0 in (
         flat_still M (with_crossings M s p).model s (crossings_sound M s p t sound accepted) crossings_measured f there (listed_flat f i),
         same_plane M (with_crossings M s p).model s (crossings_sound M s p t sound accepted) crossings_measured f there (listed_flat f i),

@@ -11,7 +11,7 @@ use Rattle.euler_operators.specs.Model.{Model, no_edge, holds, tail, tail_in, it
 use Rattle.euler_operators.specs.Sound.{Sound, Has, HasHalf}
 use Rattle.euler_operators.proofs.Models.{face_row}
 use Rattle.euler_operators.proofs.Members.{count-filter}
-use Rattle.euler_operators.proofs.Tables.{no_row}
+use Rattle.euler_operators.proofs.Tables.{no_row, row_elsewhere}
 use Rattle.euler_operators.specs.declared.Op.TheVariants.{RingIn}
 use Rattle.euler_operators.specs.Conditions.{face_at, first_false}
 use Rattle.euler_operators.specs.Effect.{effect, ring_in}
@@ -25,7 +25,6 @@ use Rattle.shapes.specs.Fresh.{Taken}
 use Rattle.shapes.specs.split.Drawing.{with_rings}
 use Rattle.split_drawing_laws.specs.drawings.DrawnIn.{Stays, DrawnIn, Fresh}
 use Rattle.split_drawing_laws.specs.drawings.DrawingOps.{ring_ops}
-use Rattle.split_drawing_laws.proofs.drawings.Stays.{not_free}
 use Rattle.split_drawing_laws.proofs.drawings.Runs.{Leads, leads_none, leads_one, leads_on}
 
 -- l is a ring of face f
@@ -56,7 +55,7 @@ module _ (M N : Model) (f l k : ℕ) (drawn : DrawnIn M N f) (ring : RingOf N f 
   }
 
   apart : face_of N l ≢ k
-  apart e = not_free M.faces f k newer.old newer.new (sym ring.face ∙ e)
+  apart e = row_elsewhere M.faces f k newer.old newer.new (sym ring.face ∙ e)
 
   pub move_accepted : first_false N (RingIn l k) ≡ None
   move_accepted = ring_in_accepted N l k drawn.sound goes apart

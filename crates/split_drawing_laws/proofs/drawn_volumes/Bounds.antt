@@ -1,42 +1,34 @@
 -- Faces by their half-edges: which half-edges bound a face, and when all corners of a face lie on a plane.
-use Rattle.std.proofs.Common.{◌≡◌, ◌≢◌, ℕ, Bool, true, false, not, nat_eq, ◌&&◌, List, [], ◌∷◌, Option, Some, None, is_some, unwrap_or, refl, sym, ap, ◌∙◌, subst, arith, inl, inr, true≢false}
+use Rattle.std.proofs.Common.{◌≡◌, ◌≢◌, ℕ, true, not, nat_eq, ◌&&◌, List, [], ◌∷◌, Option, Some, None, is_some, unwrap_or, refl, sym, ap, ◌∙◌, subst, arith, inl, inr}
 use Rattle.std.proofs.lemmas.Bool.Decides.{eqb_tells}
 use Rattle.std.proofs.lemmas.Bool.{and_parts}
 use Rattle.euler_operators.specs.declared.Plane.{Plane}
 use Rattle.euler_operators.specs.Vectors.{moved, cross, is_on}
 use Rattle.euler_operators.specs.Items.{count, IsIn}
-use Rattle.euler_operators.proofs.Lists.{count-append, tick_other, IsIn_or_not}
+use Rattle.euler_operators.proofs.Lists.{tick_other, IsIn_or_not}
 use Rattle.euler_operators.specs.HalfEdge.{mate}
 use Rattle.euler_operators.specs.Table as table
 use Rattle.euler_operators.specs.Model.{Model, LoopContent, LoopRow, lone, cycle, no_loop, no_point, items_of, tail, content, outer, point_of, loop_of, face_of}
 use Rattle.euler_operators.specs.Sound.{Sound, Has, HasHalf}
-use Rattle.euler_operators.proofs.Models.{cycle_there, face_row, loop_there, item_there}
-use Rattle.euler_operators.proofs.Members.{IsIn_rest}
+use Rattle.euler_operators.proofs.Models.{cycle_there, face_row, loop_there, item_there, never_lone}
+use Rattle.euler_operators.proofs.Members.{IsIn_rest, all_mapped}
 use Rattle.euler_operators.proofs.Rotations.{IsIn_head}
 use Rattle.euler_operators.specs.Conditions.{face_at}
 use Rattle.euler_laws.proofs.shared.Fans.{half_mate}
 use Rattle.euler_laws.proofs.shared.Goes.{equal}
 use Rattle.solid_walks.proofs.FaceLoops.{AreHalves, different_items, loops_of_apart}
-use Rattle.shapes.specs.Faces.{start, finish, loops_of, items_in, boundary, vertices_on, corners}
+use Rattle.shapes.specs.Faces.{start, finish, loops_of, boundary, vertices_on, corners}
 use Rattle.shapes.specs.Measure.{area, anchor, first_vertex}
 use Rattle.solid_measure_laws.proofs.FlatFaces.{are_on}
 use Rattle.split_drawing_laws.proofs.crossings.Listed.{all_where_has, loop_in_face, item_in_face}
+use Rattle.split_drawing_laws.proofs.crossings.Places.{item_face}
 use Rattle.split_drawing_laws.specs.drawings.DrawnIn.{Stays}
-use Rattle.split_drawing_laws.proofs.cut_volumes.Corners.{all_mapped, loop_on, loops_on, item_on, item_loop}
+use Rattle.split_drawing_laws.proofs.cut_volumes.Corners.{loop_on, loops_on, item_on, item_loop}
 
 -- the half-edges and the lone vertices of face f lie on the plane
 pub record OnFace (N : Model) (t : Plane) (f : ℕ) : Type 0 where
   pub halves : (h : ℕ) → HasHalf N h → face_at N h ≡ f → is_on t (start N h) ≡ true
   pub lones : (q v : ℕ) → face_of N q ≡ f → content N q ≡ lone v → is_on t (point_of N v) ≡ true
-
-lone_tells : LoopContent → Bool
-lone_tells (lone v) = true
-lone_tells (cycle hs) = false
-
--- a cycle isn't lone
-pub never_lone : (hs : List ℕ) (v : ℕ) → cycle hs ≡ lone v → ⊥
-unfolding lone_tells
-never_lone hs v e = true≢false (sym (ap lone_tells e))
 
 -- a lone loop is there
 pub lone_there : (N : Model) (q v : ℕ) → content N q ≡ lone v → Has N.loops q
@@ -45,13 +37,6 @@ lone_there N q v e = go (table.get N.loops q) e where
   go : (o : Option LoopRow) → (unwrap_or o no_loop).content ≡ lone v → is_some o ≡ true
   go None e = absurd (never_lone [] v e)
   go (Some row) e = refl
-
-from_items : (N : Model) (ls : List ℕ) (h : ℕ) → IsIn h (items_in N ls) → (l : ℕ) × IsIn l ls × IsIn h (items_of (content N l))
-from_items N [] h i = absurd (omega (arith, i))
-from_items N (l ∷ ls) h i = elim (IsIn_or_not h (items_of (content N l))) [
-  | inl j ↦ (l, IsIn_head l ls, j)
-  | inr z ↦ let r = from_items N ls h (omega (arith, i, z, count-append h (items_of (content N l)) (items_in N ls))) in (r.0, IsIn_rest r.0 l ls r.1, r.2)
-]
 
 module _ (N : Model) (sound : Sound N) where
   -- the loops of a face are of it
@@ -70,10 +55,6 @@ module _ (N : Model) (sound : Sound N) where
   unfolding boundary
   bound_halves f = different_items N sound (loops_of N f) (loops_of_apart N sound f)
 
-  bound_face : (f : ℕ) → Has N.faces f → (h : ℕ) → IsIn h (boundary N f) → face_at N h ≡ f
-  unfolding boundary
-  bound_face f there h i = let w = from_items N (loops_of N f) h i in ap (face_of N) (item_loop N sound w.0 h w.2) ∙ (loop_facts f there w.0 w.1).1
-
   -- a half-edge of a face bounds it once
   pub bound_one : (f h : ℕ) → HasHalf N h → face_at N h ≡ f → count h (boundary N f) ≡ 1
   bound_one f h there at =
@@ -83,7 +64,7 @@ module _ (N : Model) (sound : Sound N) where
   -- and no other does
   pub bound_none : (f h : ℕ) → Has N.faces f → (HasHalf N h → face_at N h ≢ f) → count h (boundary N f) ≡ 0
   bound_none f h there never = elim (IsIn_or_not h (boundary N f)) [
-    | inl i ↦ absurd (never ((bound_halves f).there h i) (bound_face f there h i))
+    | inl i ↦ absurd (never ((bound_halves f).there h i) (item_face N sound f there h i))
     | inr z ↦ z
   ]
 

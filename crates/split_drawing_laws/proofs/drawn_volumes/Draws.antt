@@ -10,9 +10,11 @@ use Rattle.euler_operators.specs.Table as table
 use Rattle.euler_operators.specs.Model.{Model, no_face, lone, tail, content, outer, point_of, loop_of, face_of, solid_of, cycle_of}
 use Rattle.euler_operators.specs.Sound.{Sound, Has, HasHalf}
 use Rattle.euler_operators.proofs.Halves.{plus_row, minus_row}
-use Rattle.euler_operators.proofs.Models.{content_row, face_row, same_content, same_face, same_outer}
+use Rattle.euler_operators.proofs.Models.{content_row, face_row, same_content, same_face, same_outer, never_lone}
+use Rattle.euler_operators.proofs.Tables.{row_elsewhere}
 use Rattle.euler_operators.specs.Conditions.{face_at}
 use Rattle.euler_laws.proofs.mef.MefUndo.{count-mef_old, count-mef_new}
+use Rattle.euler_laws.proofs.shared.Fans.{half_face}
 use Rattle.shapes.proofs.fresh.Rows.{get-put_here, get-put_other}
 use Rattle.shapes.specs.Faces.{start, boundary}
 use Rattle.shapes.specs.Measure.{normal, anchor}
@@ -21,8 +23,8 @@ use Rattle.solid_measure_laws.proofs.Sums.{area_same}
 use Rattle.shapes.specs.split.Drawing.{face_drawn}
 use Rattle.split_drawing_laws.specs.drawings.DrawnIn.{Stays}
 use Rattle.split_drawing_laws.proofs.drawings.Drawn.{CanDraw, draw_sound}
-use Rattle.split_drawing_laws.proofs.drawings.Stays.{not_free, stands_at, has_face, row_old, row_new, row_else, edges_are, draw_stays, draw_tails, draw_beside, draw_within}
-use Rattle.split_drawing_laws.proofs.drawn_volumes.Bounds.{OnFace, anchor_still, never_lone, lone_there, bound_halves, bound_one, bound_none, point_still, start_still, area_still}
+use Rattle.split_drawing_laws.proofs.drawings.Stays.{stands_at, row_old, row_new, row_else, edges_are, draw_stays, draw_tails, draw_beside, draw_within}
+use Rattle.split_drawing_laws.proofs.drawn_volumes.Bounds.{OnFace, anchor_still, lone_there, bound_halves, bound_one, bound_none, point_still, start_still, area_still}
 use Rattle.split_drawing_laws.proofs.drawn_volumes.Edges.{half_there, plus_there, minus_there, half_cases, two_halves, no_area, normal_is}
 
 module _ (N : Model) (u k e g l : ℕ) (can : CanDraw N u k e g l) where
@@ -51,10 +53,10 @@ module _ (N : Model) (u k e g l : ℕ) (can : CanDraw N u k e g l) where
   solid_new = ap (λ o. (unwrap_or o no_face).solid) face_new
 
   F_there : Has N.faces F
-  F_there = has_face N can.sound u can.u_there
+  F_there = half_face N can.sound u can.u_there
 
   pub not_new : (f : ℕ) → Has N.faces f → f ≢ g
-  not_new f there = not_free N.faces f g there can.face_free
+  not_new f there = row_elsewhere N.faces f g there can.face_free
 
   -- ---- the faces of half-edges then
 
@@ -119,7 +121,7 @@ module _ (N : Model) (u k e g l : ℕ) (can : CanDraw N u k e g l) where
   new_on t w = record {
     halves = λ h now at. elim (cases h now) [
       | inl was ↦ ap (is_on t) (start_still N K can.sound stays h was) ∙ elim (face_then h was) [
-        | inl same ↦ absurd (not_new (face_at N h) (has_face N can.sound h was) (sym same ∙ at))
+        | inl same ↦ absurd (not_new (face_at N h) (half_face N can.sound h was) (sym same ∙ at))
         | inr new ↦ w.halves h was new.0
       ]
       | inr new ↦ elim new [
@@ -152,7 +154,7 @@ module _ (N : Model) (u k e g l : ℕ) (can : CanDraw N u k e g l) where
       let now : HasHalf K h = stays.halves h was in
       elim (face_then h was) [
         | inl same ↦
-            let none : count h (boundary K g) ≡ 0 = bound_none K K_sound g h g_now (λ t at. not_new (face_at N h) (has_face N can.sound h was) (sym same ∙ at)) in
+            let none : count h (boundary K g) ≡ 0 = bound_none K K_sound g h g_now (λ t at. not_new (face_at N h) (half_face N can.sound h was) (sym same ∙ at)) in
             elim (eqb_tells (face_at N h) F) [
               | inl at ↦ omega (arith, none, bound_one K K_sound F h now (same ∙ at.1), bound_one N can.sound F h was at.1)
               | inr at ↦ omega (arith, none, bound_none K K_sound F h F_now (λ t s. at.1 (sym same ∙ s)), bound_none N can.sound F h F_there (λ t. at.1))
@@ -216,4 +218,4 @@ module _ (N : Model) (u k e g l : ℕ) (can : CanDraw N u k e g l) where
   pub anchor_else : (f : ℕ) → Has N.faces f → f ≢ face_at N u → anchor (face_drawn N u k e g l) f ≡ anchor N f
   anchor_else f there ne = let o = can.sound.outers_there f there in
       anchor_still N K can.sound stays f there (outer_else f there) (same_content N K (outer N f)
-      (row_else N u k e g l can (outer N f) (λ s. ne (sym o.1 ∙ ap (face_of N) s)) (not_free N.loops (outer N f) l o.0 can.loop_free)))
+      (row_else N u k e g l can (outer N f) (λ s. ne (sym o.1 ∙ ap (face_of N) s)) (row_elsewhere N.loops (outer N f) l o.0 can.loop_free)))

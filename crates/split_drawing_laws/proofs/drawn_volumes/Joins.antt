@@ -12,7 +12,7 @@ use Rattle.euler_operators.specs.Table as table
 use Rattle.euler_operators.specs.Model.{Model, lone, tail, content, outer, point_of, loop_of, face_of, cycle_of}
 use Rattle.euler_operators.specs.Sound.{Sound, Has, HasHalf}
 use Rattle.euler_operators.proofs.Halves.{plus_row, minus_row}
-use Rattle.euler_operators.proofs.Models.{content_row, face_row, same_content, same_face, same_outer}
+use Rattle.euler_operators.proofs.Models.{content_row, face_row, same_content, same_face, same_outer, never_lone}
 use Rattle.euler_operators.specs.Conditions.{face_at}
 use Rattle.shapes.specs.Faces.{start, boundary}
 use Rattle.shapes.specs.Measure.{area, normal, anchor}
@@ -20,8 +20,8 @@ use Rattle.solid_measure_laws.proofs.Sums.{area_same}
 use Rattle.shapes.specs.split.Drawing.{loops_joined}
 use Rattle.split_drawing_laws.specs.drawings.DrawnIn.{Stays}
 use Rattle.split_drawing_laws.proofs.drawings.Drawn.{CanJoin, join_sound}
-use Rattle.split_drawing_laws.proofs.drawings.Stays.{stands_at, has_face, row_joined, row_other, row_gone, joined_edges, join_stays, join_tails, join_faces}
-use Rattle.split_drawing_laws.proofs.drawn_volumes.Bounds.{OnFace, anchor_still, never_lone, lone_there, bound_halves, bound_one, bound_none, point_still, start_still, area_still}
+use Rattle.split_drawing_laws.proofs.drawings.Stays.{stands_at, row_joined, row_other, row_gone, joined_edges, join_stays, join_tails, join_faces}
+use Rattle.split_drawing_laws.proofs.drawn_volumes.Bounds.{OnFace, anchor_still, lone_there, bound_halves, bound_one, bound_none, point_still, start_still, area_still}
 use Rattle.split_drawing_laws.proofs.drawn_volumes.Edges.{half_there, plus_there, minus_there, half_cases, two_in, no_area, normal_is}
 
 module _ (N : Model) (c d e : ℕ) (can : CanJoin N c d e) where
@@ -40,9 +40,6 @@ module _ (N : Model) (c d e : ℕ) (can : CanJoin N c d e) where
   pub faces_joined : (loops_joined N c d e).faces ≡ N.faces
   unfolding loops_joined
   faces_joined = refl
-
-  F_there : Has N.faces F
-  F_there = has_face N can.sound c can.c_there
 
   at_joined : (h : ℕ) → count h (plus e ∷ minus e ∷ []) ≡ 1 → face_at K h ≡ F
   at_joined h one = ap (face_of K) (stands_at K J_sound h (loop_of N c) _ (content_row K (loop_of N c) _ (row_joined N c d e can))

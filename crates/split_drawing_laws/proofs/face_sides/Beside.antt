@@ -14,6 +14,7 @@ use Rattle.shapes.proofs.fresh.Rows.{get-put_here, get-put_other}
 use Rattle.shapes.specs.split.Drawing.{face_drawn, loops_joined, with_rings}
 use Rattle.split_drawing_laws.proofs.drawings.Drawn.{CanDraw, CanJoin}
 use Rattle.split_drawing_laws.proofs.drawings.Stays.{row_old, row_new, row_else, row_joined, row_gone, row_other}
+use Rattle.euler_laws.proofs.shared.Rows.{content_either}
 
 -- N is M with edges drawn in face f: the faces of M keep their rows, and their loops theirs, but for those of f
 pub record Beside (M N : Model) (f : ℕ) : Type 0 where
@@ -127,19 +128,12 @@ rows_given t (l ∷ ls) k q = rows_given (table.map_rows (loop_to_face l k) t) l
   go (Some row) = ap Some (given_twice l ls k q row)
 
 module _ (N : Model) (ls : List ℕ) (k q : ℕ) where
-  abbrev W : Model
-  W = with_rings N ls k
-
   pub given_content : content (with_rings N ls k) q ≡ content N q
   unfolding content
   given_content = ap (λ o. (unwrap_or o no_loop).content) (rows_given N.loops ls k q) ∙ go (table.get N.loops q) where
-    one : (b : Bool) (row : LoopRow) → (cond b (record row { face = k }) row).content ≡ row.content
-    one true row = refl
-    one false row = refl
-
     go : (o : Option LoopRow) → (unwrap_or (option_map (given ls k q) o) no_loop).content ≡ (unwrap_or o no_loop).content
     go None = refl
-    go (Some row) = one (lists ls q) row
+    go (Some row) = content_either (lists ls q) row k
 
   pub given_has : table.has (with_rings N ls k).loops q ≡ table.has N.loops q
   given_has = ap is_some (rows_given N.loops ls k q) ∙ go (table.get N.loops q) where

@@ -12,19 +12,20 @@ use Rattle.euler_operators.proofs.Tests.{and_first, and_false}
 use Rattle.euler_operators.proofs.Maps.{from_map}
 use Rattle.euler_operators.specs.Conditions.{face_at, lists}
 use Rattle.euler_laws.proofs.shared.Goes.{equal, equals}
+use Rattle.euler_laws.proofs.shared.Listed.{IsIn-from_listed}
+use Rattle.euler_laws.proofs.shared.Fans.{half_face}
 use Rattle.solid_walks.proofs.Rising.{none_counted}
 use Rattle.shapes.specs.Faces.{start, loops_of, vertices_on, vertices_in, corners}
 use Rattle.shapes.specs.split.Sides.{straddles, straddling_faces, reaches_above, reaches_below}
 use Rattle.shapes.specs.split.Crossings.{with_crossings}
 use Rattle.shapes.specs.split.Drawing.{Drawing, faces_drawn, with_drawings}
 use Rattle.split_drawing_laws.specs.crossings.Laws.{CanBegin}
-use Rattle.split_drawing_laws.proofs.crossings.Listed.{listed_in, all_where_has}
+use Rattle.split_drawing_laws.proofs.crossings.Listed.{all_where_has}
 use Rattle.split_drawing_laws.proofs.crossings.Places.{face_facts}
 use Rattle.split_drawing_laws.proofs.crossings.Premises.{faces_not_zero}
 use Rattle.split_drawing_laws.proofs.crossings.Whole.{crossings_keep, crossings_sound, same_solid}
 use Rattle.split_drawing_laws.proofs.pairs.Whole.{can_be_drawn}
 use Rattle.split_drawing_laws.specs.drawings.Laws.{CanBeDrawn}
-use Rattle.split_drawing_laws.proofs.drawings.Stays.{has_face}
 use Rattle.split_drawing_laws.proofs.drawings.Whole.{drawable, drawing_sound}
 use Rattle.split_drawing_laws.specs.loop_sides.Laws.{TakeSides}
 use Rattle.split_drawing_laws.specs.loop_sides.Parted.{LiesOn, Parted}
@@ -113,8 +114,8 @@ module _ (M : Model) (s : ℕ) (p : Plane) (t : ℕ) (sound : Sound M) (begins :
   own_before : (h : ℕ) → HasHalf N h → solid_of D (face_at D h) ≡ s → solid_of N (face_at N h) ≡ s
   own_before h there of_s = go (lists fs (face_at N h)) refl where
     go : (b : Bool) → lists fs (face_at N h) ≡ b → solid_of N (face_at N h) ≡ s
-    go true e = same_solid M s p t sound begins (face_at N h) ∙ (face_facts M s p t sound begins (face_at N h) (listed_in (face_at N h) fs e)).1
-    go false e = sym (solid_same N D (face_at N h) (stage.rows (face_at N h) (has_face N N_sound h there))) ∙ ap (solid_of D) (sym (stage.kept h there (none_counted (face_at N h) fs e))) ∙ of_s
+    go true e = same_solid M s p t sound begins (face_at N h) ∙ (face_facts M s p t sound begins (face_at N h) (IsIn-from_listed (face_at N h) fs e)).1
+    go false e = sym (solid_same N D (face_at N h) (stage.rows (face_at N h) (half_face N N_sound h there))) ∙ ap (solid_of D) (sym (stage.kept h there (none_counted (face_at N h) fs e))) ∙ of_s
 
   is_own_then : (h : ℕ) → solid_of D (face_at D h) ≡ s → is_own M s p h ≡ true
   unfolding is_own
@@ -192,5 +193,5 @@ pub none_straddles : (M D : Model) (s : ℕ) (p : Plane) (t : ℕ) → Sound M �
 unfolding with_drawings solid_of
 none_straddles M D s p t sound begins drawn = subst (λ X. (f : ℕ) → lists (faces_of X s) f ≡ true → straddles X p f ≡ false) drawn.1 (λ f i.
     let X : Model = (faces_drawn M p (with_crossings M s p) (straddling_faces M p s)).model in
-    let w = all_where_has (λ _ row. nat_eq row.solid s) X.faces f (listed_in f (faces_of X s) i) in
+    let w = all_where_has (λ _ row. nat_eq row.solid s) X.faces f (IsIn-from_listed f (faces_of X s) i) in
     face_is_sided M s p t sound begins drawn.0 f (ap is_some w.1) (ap (λ o. (unwrap_or o no_face).solid) w.1 ∙ equal w.0.solid s w.2))

@@ -7,6 +7,7 @@ use Rattle.euler_operators.specs.Model.{Model, holds, content, loop_of, face_of,
 use Rattle.euler_operators.specs.Sound.{Sound, Has, HasHalf}
 use Rattle.euler_operators.specs.Conditions.{face_at, lists, has_rings}
 use Rattle.euler_operators.proofs.Models.{same_content, same_face, same_outer, loop_there}
+use Rattle.euler_operators.proofs.Tables.{row_elsewhere}
 use Rattle.euler_laws.proofs.shared.Rows.{no_rings_means}
 use Rattle.shapes.specs.Faces.{vertices_on}
 use Rattle.shapes.specs.split.Sides.{some_above}
@@ -17,7 +18,7 @@ use Rattle.split_drawing_laws.specs.drawings.Passing.{Ready}
 use Rattle.split_drawing_laws.proofs.drawings.Faces.{face_goes, begun_joining, joins, going}
 use Rattle.split_drawing_laws.proofs.drawings.Pairs.{none_joined, joined_drawn, pair_can, stays_on}
 use Rattle.split_drawing_laws.proofs.drawings.Passes.{join_next_one, draw_next_one, cut_off, edge_fits, face_fits, loop_fits, room_as}
-use Rattle.split_drawing_laws.proofs.drawings.Stays.{not_free, row_else, draw_stays}
+use Rattle.split_drawing_laws.proofs.drawings.Stays.{row_else, draw_stays}
 use Rattle.split_drawing_laws.specs.drawings.DrawnIn.{Room}
 use Rattle.split_drawing_laws.proofs.loop_sides.SidesWhole.{draws_stuck}
 use Rattle.split_drawing_laws.proofs.half_sides.PlaceEnds.{AllUp}
@@ -108,7 +109,7 @@ module _ (B : Model) (side : ℕ → Bool) (p : Plane) (f : ℕ) (q : ℕ × ℕ
   ring_then r there face inner =
       let row : table.get X.loops r ≡ table.get B.loops r = untouched.loops r there face in
       let was = pairs.rings r (ap is_some (sym row) ∙ there) (sym (same_face B X r row) ∙ face) in
-      let same : content K r ≡ content B r = same_content X K r (row_else X q.0 q.1 e g l can r (λ s. inner (s ∙ sym outer_is)) (not_free X.loops r l there can.loop_free)) ∙ same_content B X r row in
+      let same : content K r ≡ content B r = same_content X K r (row_else X q.0 q.1 e g l can r (λ s. inner (s ∙ sym outer_is)) (row_elsewhere X.loops r l there can.loop_free)) ∙ same_content B X r row in
       record {
         held = record { half = was.held.half; old = was.held.old; at = loop_on B X B_sound w.sound was.held.half r was.held.old was.held.at row };
         on = was.on ∙ sym (above_stays B K (stays_on B X K stays K_stays) p r B_sound same);

@@ -10,12 +10,12 @@ use Rattle.euler_operators.specs.Conditions.{face_at, lists}
 use Rattle.euler_operators.proofs.Members.{IsIn-filter, filter_passes}
 use Rattle.euler_operators.proofs.Models.{same_face}
 use Rattle.euler_laws.proofs.shared.Goes.{equals, differs}
+use Rattle.euler_laws.proofs.shared.Listed.{IsIn-from_listed}
 use Rattle.solid_walks.proofs.FaceLoops.{ring_listed}
 use Rattle.solid_walks.proofs.Rising.{in_listed}
 use Rattle.shapes.specs.Faces.{vertices_on}
 use Rattle.shapes.specs.split.Sides.{some_above}
 use Rattle.shapes.specs.split.Drawing.{face_drawn, rings_above, with_rings}
-use Rattle.split_drawing_laws.proofs.crossings.Listed.{listed_in}
 use Rattle.split_drawing_laws.specs.drawings.DrawnIn.{Stays}
 use Rattle.split_drawing_laws.proofs.drawings.Drawn.{CanDraw, draw_sound}
 use Rattle.split_drawing_laws.proofs.drawings.Rings.{RingOf, rings_are}
@@ -73,10 +73,10 @@ module _ (B N : Model) (side : ℕ → Bool) (p : Plane) (f u k e g l : ℕ) (c 
   -- ---- the rings that are given away
 
   ring_of : (r : ℕ) → lists ls r ≡ true → RingOf K f r
-  ring_of r i = rings_are K f test r (listed_in r ls i)
+  ring_of r i = rings_are K f test r (IsIn-from_listed r ls i)
 
   passes : (r : ℕ) → lists ls r ≡ true → test r ≡ true
-  passes r i = filter_passes test r (rings_of K f) (listed_in r ls i)
+  passes r i = filter_passes test r (rings_of K f) (IsIn-from_listed r ls i)
 
   -- a ring that isn't given away doesn't pass
   passes_not : (r : ℕ) → Has K.loops r → face_of K r ≡ f → outer K f ≢ r → lists ls r ≡ false → test r ≡ false
@@ -88,7 +88,7 @@ module _ (B N : Model) (side : ℕ → Bool) (p : Plane) (f u k e g l : ℕ) (c 
 
     go : (b : Bool) → test r ≡ b → test r ≡ false
     go false e = e
-    go true e = absurd (true≢false (sym (in_listed r ls (IsIn-filter test r (rings_of K f) (listed_in r (rings_of K f) (ring_listed K K_sound f r ring)) e)) ∙ not_listed))
+    go true e = absurd (true≢false (sym (in_listed r ls (IsIn-filter test r (rings_of K f) (IsIn-from_listed r (rings_of K f) (ring_listed K K_sound f r ring)) e)) ∙ not_listed))
 
   -- a ring of f then was one before, and its half-edge stays there
   module _ (r : ℕ) (there : Has K.loops r) (face : face_of K r ≡ f) (inner : outer K f ≢ r) where

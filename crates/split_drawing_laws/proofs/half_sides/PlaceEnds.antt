@@ -19,9 +19,8 @@ use Rattle.euler_operators.proofs.Crossings.{level_on}
 use Rattle.euler_operators.specs.Conditions.{face_at, differ}
 use Rattle.euler_laws.proofs.shared.Arcs.{halves_of_edge}
 use Rattle.euler_laws.proofs.shared.Fans.{back_of}
-use Rattle.solid_walks.proofs.FaceLoops.{items_counted, loops_of_apart}
 use Rattle.solid_walks.proofs.Rising.{in_listed}
-use Rattle.shapes.specs.Faces.{start, finish, loops_of, boundary}
+use Rattle.shapes.specs.Faces.{start, finish, boundary}
 use Rattle.shapes.specs.split.Sides.{crosses, reaches_above, straddling_faces, crossing_edges}
 use Rattle.shapes.specs.split.Places.{is_place, place_point, places, goes_up, some_meet, is_crossed, is_up_and_down, in_pairs, sorted, sorted_pairs, place_pairs}
 use Rattle.shapes.specs.split.Crossings.{with_crossings}
@@ -36,6 +35,7 @@ use Rattle.split_drawing_laws.proofs.pairs.LoopPlaces.{places_even}
 use Rattle.split_drawing_laws.proofs.pairs.Meetings.{points_apart}
 use Rattle.split_drawing_laws.proofs.pairs.Members.{all_places_drawn}
 use Rattle.split_drawing_laws.proofs.pairs.Sorted.{count-sorted, sorted_apart}
+use Rattle.split_drawing_laws.proofs.pairs.Whole.{places_apart}
 use Rattle.split_drawing_laws.specs.loop_sides.Parted.{Crosses, AllCross, ends}
 use Rattle.split_drawing_laws.specs.half_sides.HalfSides.{half_is_above, side_of}
 use Rattle.split_drawing_laws.proofs.half_sides.EndLists.{ends_are}
@@ -176,10 +176,6 @@ module _ (M : Model) (s : ℕ) (p : Plane) (t : ℕ) (sound : Sound M) (begins :
           all_cross ks (λ x i. within x (omega (arith, i))) (λ x. omega (arith, apart x)) b.1,
         )
 
-    places_apart : IsApart (places M p f)
-    unfolding places boundary
-    places_apart x = omega (arith, count-filter (is_place M p) x (boundary M f), items_counted M sound (loops_of M f) x, loops_of_apart M sound f (loop_of M x))
-
     all_up_and_down : list_all (is_up_and_down M p) (sorted_pairs M p f) ≡ true
     unfolding is_crossed
     all_up_and_down = second_of (some_meet M p (places M p f)) (list_all (is_up_and_down M p) (sorted_pairs M p f)) ((can_cut M s p t sound begins).uncrossed f i) where
@@ -190,7 +186,7 @@ module _ (M : Model) (s : ℕ) (p : Plane) (t : ℕ) (sound : Sound M) (begins :
 
     pub pairs_cross : AllCross N p (side_of M s p) (drawn_pairs M N p f)
     unfolding drawn_pairs place_pairs sorted_pairs
-    pairs_cross = all_cross (sorted M p (places M p f)) (λ x j. omega (arith, j, count-sorted M p x (places M p f))) (sorted_apart M p (places M p f) places_apart) all_up_and_down
+    pairs_cross = all_cross (sorted M p (places M p f)) (λ x j. omega (arith, j, count-sorted M p x (places M p f))) (sorted_apart M p (places M p f) (places_apart M sound f p)) all_up_and_down
 
     -- ---- the up place stands first
 
@@ -224,4 +220,4 @@ module _ (M : Model) (s : ℕ) (p : Plane) (t : ℕ) (sound : Sound M) (begins :
     place_of_end y j = from_map (from_place N p) y (places M p f) (omega (arith, j, counted y))
 
     pub ends_once : IsApart (ends (drawn_pairs M N p f))
-    ends_once y = omega (arith, counted y, IsApart-images (from_place N p) (places M p f) places_apart place_once y)
+    ends_once y = omega (arith, counted y, IsApart-images (from_place N p) (places M p f) (places_apart M sound f p) place_once y)

@@ -13,11 +13,12 @@ use Rattle.euler_operators.specs.Model.{Model, items_of, loop_of, content, cycle
 use Rattle.euler_operators.specs.Sound.{Sound, Has, HasHalf}
 use Rattle.euler_operators.proofs.Halves.{plus_row, minus_row, same_edge, mate_plus, plus_other}
 use Rattle.euler_operators.proofs.Models.{content_row, in-holds, cycle_there, cycle_sound, same_content, loop_there}
+use Rattle.euler_operators.proofs.Tables.{row_elsewhere}
 use Rattle.euler_laws.proofs.shared.Loops.{light, none_free}
 use Rattle.shapes.proofs.fresh.Rows.{get-put_other}
 use Rattle.shapes.specs.split.Drawing.{face_drawn, loops_joined}
 use Rattle.split_drawing_laws.proofs.drawings.Drawn.{CanDraw, draw_sound, CanJoin, join_sound}
-use Rattle.split_drawing_laws.proofs.drawings.Stays.{not_free, row_old, row_new, row_else, edges_are, row_joined, row_gone, row_other, joined_edges}
+use Rattle.split_drawing_laws.proofs.drawings.Stays.{row_old, row_new, row_else, edges_are, row_joined, row_gone, row_other, joined_edges}
 
 -- a function that leads round each loop tells what follows what
 rings_lead : (K : Model) (F : ℕ → ℕ) → Sound K → ((q : ℕ) → Has K.loops q → IsRing F (items_of (content K q))) → (x : ℕ) → HasHalf K x → after K x ≡ F x
@@ -41,8 +42,8 @@ new_cases M N e same x there = elim (eqb_tells (edge_of x) e) [
 -- no half-edge of the model before is a new one
 pub none_new : (M : Model) (e x : ℕ) → table.get M.edges e ≡ None → HasHalf M x → (x ≢ plus e) × (x ≢ minus e)
 none_new M e x free there = (
-  (λ s. not_free M.edges (edge_of x) e there free (ap edge_of s ∙ (plus_row e).0)),
-  (λ s. not_free M.edges (edge_of x) e there free (ap edge_of s ∙ (minus_row e).0)),
+  (λ s. row_elsewhere M.edges (edge_of x) e there free (ap edge_of s ∙ (plus_row e).0)),
+  (λ s. row_elsewhere M.edges (edge_of x) e there free (ap edge_of s ∙ (minus_row e).0)),
 )
 
 module _ (M : Model) (e c d : ℕ) (sound : Sound M) (free : table.get M.edges e ≡ None) where

@@ -40,7 +40,7 @@ some_picked t (x ∷ xs) e = go (t x) e (some_picked t xs) where
   go false e more = more e
 
 -- a test that no item passes is false of each
-none_passes : (t : ℕ → Bool) (x : ℕ) (xs : List ℕ) → list_any t xs ≡ false → IsIn x xs → t x ≡ false
+pub none_passes : (t : ℕ → Bool) (x : ℕ) (xs : List ℕ) → list_any t xs ≡ false → IsIn x xs → t x ≡ false
 none_passes t x xs none i = go (t x) refl where
   go : (b : Bool) → t x ≡ b → t x ≡ false
   go true e = absurd (true≢false (sym (any_passes t x xs i e) ∙ none))

@@ -1,22 +1,24 @@
 -- Once the faces are drawn the solid has a face above and one that isn't.
 use Rattle.std.proofs.Common.{◌≡◌, ℕ, Bool, true, false, not, nat_eq, ◌&&◌, ◌||◌, List, None, is_some, unwrap_or, refl, sym, ap, ◌∙◌, subst, inl, inr, true≢false}
 use Rattle.std.specs.Prelude.{pos, int_lt}
+use Rattle.euler_operators.proofs.Tests.{first_fails}
 use Rattle.euler_operators.specs.declared.Plane.{Plane}
 use Rattle.euler_operators.specs.Vectors.{is_above, is_below, dot, direction}
 use Rattle.euler_operators.specs.Items.{IsIn}
 use Rattle.euler_operators.proofs.Lists.{IsIn_or_not}
 use Rattle.euler_operators.specs.HalfEdge.{edge_of, plus, minus}
 use Rattle.euler_operators.specs.Table as table
-use Rattle.euler_operators.specs.Model.{Model, LoopContent, lone, cycle, no_face, no_point, items_of, content, tail, loop_of, face_of, solid_of, point_of, faces_of}
+use Rattle.euler_operators.specs.Model.{Model, no_face, no_point, content, tail, loop_of, face_of, solid_of, point_of, faces_of}
 use Rattle.euler_operators.specs.Sound.{Sound, Has, HasHalf}
 use Rattle.euler_operators.proofs.Models.{in-holds, cycle_there, plus_there, minus_there, loop_there}
 use Rattle.euler_operators.proofs.Tables.{zero_first_where}
 use Rattle.euler_operators.proofs.Members.{IsIn-filter, filter_passes}
 use Rattle.euler_operators.specs.Conditions.{face_at, lists, is_lone}
 use Rattle.euler_laws.proofs.shared.Arcs.{halves_of_edge}
-use Rattle.euler_laws.proofs.shared.Fans.{loop_after}
+use Rattle.euler_laws.proofs.shared.Fans.{loop_after, half_face}
 use Rattle.euler_laws.proofs.shared.Goes.{no_zero, equal, equals}
-use Rattle.euler_laws.proofs.shared.Rows.{face_there, loop_row}
+use Rattle.euler_laws.proofs.shared.Rows.{face_there, loop_row, not_lone_cycle}
+use Rattle.euler_laws.proofs.shared.Listed.{IsIn-from_listed}
 use Rattle.solid_walks.proofs.Rising.{in_listed}
 use Rattle.solid_walks.proofs.SolidFaces.{face_of_loop}
 use Rattle.shapes.specs.Measure.{normal}
@@ -26,23 +28,14 @@ use Rattle.shapes.specs.split.Crossings.{with_crossings}
 use Rattle.shapes.specs.split.Drawing.{with_drawings}
 use Rattle.shapes.specs.split.Split.{split_refusal}
 use Rattle.split_drawing_laws.specs.crossings.Laws.{CanBegin}
-use Rattle.split_drawing_laws.proofs.crossings.Listed.{listed_in, any_passes, all_where_has, all_where_in, tail_in_face}
+use Rattle.split_drawing_laws.proofs.crossings.Listed.{any_passes, all_where_has, all_where_in, tail_in_face}
 use Rattle.split_drawing_laws.proofs.crossings.Whole.{crossings_cut, crossings_keep, crossings_sound, same_solid, not_cut}
-use Rattle.split_drawing_laws.proofs.drawings.Stays.{has_face}
 use Rattle.split_drawing_laws.proofs.half_sides.Pieces.{CutBy, crossing_pieces}
 use Rattle.split_drawing_laws.proofs.half_sides.Starts.{old_face}
 use Rattle.split_drawing_laws.proofs.face_sides.Final.{TailIn, tail_in, none_straddles}
 use Rattle.split_drawing_laws.proofs.face_sides.Same.{any_from}
 use Rattle.split_laws.specs.drawn.Kept.{HasFace}
 use Rattle.split_laws.proofs.drawn.Drawn.{begins, none_lone, meets, never_stuck, drawn_sound, drawn_stays, drawn_keeps}
-
-cycle_of_items : (c : LoopContent) → is_lone c ≡ false → c ≡ cycle (items_of c)
-cycle_of_items (lone v) e = absurd (true≢false e)
-cycle_of_items (cycle hs) e = refl
-
-other_of : (a b : Bool) → b ≡ true → (a && b) ≡ false → a ≡ false
-other_of true b t e = absurd (true≢false (sym t ∙ e))
-other_of false b t e = refl
 
 -- a half-edge of N that starts at point v, of face f
 pub record HalfAt (N : Model) (v f : ℕ) : Type 0 where
@@ -70,16 +63,17 @@ module _ (M : Model) (s : ℕ) (p : Plane) (t : ℕ) (sound : Sound M) (accepted
   -- ---- at a corner of a face of the solid a half-edge starts
 
   not_lone : (f l : ℕ) → IsIn f (faces_of M s) → Has M.loops l → face_of M l ≡ f → is_lone (content M l) ≡ false
-  not_lone f l i there at = other_of (is_lone (content M l)) (lists (faces_of M s) (face_of M l)) (ap (lists (faces_of M s)) at ∙ in_listed f (faces_of M s) i)
+  not_lone f l i there at = first_fails (is_lone (content M l)) (lists (faces_of M s) (face_of M l))
       (zero_first_where (λ _ row. is_lone row.content && lists (faces_of M s) row.face) M.loops (λ q y got z. no_zero q z (sound.loops_fit q (ap is_some got)))
       (none_lone M s p t sound accepted) l (record { face = face_of M l; content = content M l }) (loop_row M l there))
+      (ap (lists (faces_of M s)) at ∙ in_listed f (faces_of M s) i)
 
   corner_half : (f v : ℕ) → IsIn f (faces_of M s) → IsIn v (corners M f) → HalfAt M v f
   unfolding corners
   corner_half f v i c =
       let row = all_where_has (λ _ row. nat_eq row.solid s) M.faces f i in
       let of : (l : ℕ) → IsIn l (loops_of M f) → Has M.loops l × (face_of M l ≡ f) = λ l j. face_of_loop M sound f l (ap is_some row.1) (in_listed l (loops_of M f) j) in
-      let r : TailIn M v (loops_of M f) = tail_in M v (loops_of M f) (λ l j. cycle_of_items (content M l) (not_lone f l i (of l j).0 (of l j).1)) c in
+      let r : TailIn M v (loops_of M f) = tail_in M v (loops_of M f) (λ l j. not_lone_cycle (content M l) (not_lone f l i (of l j).0 (of l j).1)) c in
       let stands = in-holds r.half (content M r.loop) r.half_in in
       record {
         half = r.half;
@@ -140,7 +134,7 @@ module _ (M : Model) (s : ℕ) (p : Plane) (t : ℕ) (sound : Sound M) (accepted
       let starts : tail D x.half ≡ v = (drawn_stays M s p t sound accepted).tails x.half x.there ∙ x.starts ∙ h.starts in
       record {
         face = face_at D x.half;
-        there = has_face D S x.half there;
+        there = half_face D S x.half there;
         of_solid = (drawn_keeps M s p t sound accepted).halves x.half x.there ∙ ap (solid_of N) (x.face ∙ h.face) ∙ same_solid M s p t sound begun f ∙ face_solid f i;
         corner = subst (λ n. IsIn n (corners D (face_at D x.half))) starts (tail_in_face D x.half (loop_of D x.half) (loop_there D S x.half there) (cycle_there D S x.half there));
         point = point_then v (subst (Has M.vertices) h.starts (sound.tails_there h.half h.there));
@@ -157,7 +151,7 @@ module _ (M : Model) (s : ℕ) (p : Plane) (t : ℕ) (sound : Sound M) (accepted
 
   below_is : (f : ℕ) → reaches_below D p f ≡ true → straddles D p f ≡ false → face_is_above D p f ≡ false
   unfolding face_is_above straddles
-  below_is f e none = let up : reaches_above D p f ≡ false = other_of (reaches_above D p f) (reaches_below D p f) e none in
+  below_is f e none = let up : reaches_above D p f ≡ false = first_fails (reaches_above D p f) (reaches_below D p f) none e in
       ap (λ b. b || (not (reaches_below D p f) && not (int_lt (pos 0) (dot (normal D f) (direction p))))) up
       ∙ ap (λ b. not b && not (int_lt (pos 0) (dot (normal D f) (direction p)))) e
 
@@ -165,7 +159,7 @@ module _ (M : Model) (s : ℕ) (p : Plane) (t : ℕ) (sound : Sound M) (accepted
   unlisted f e = go (lists (faces_above D p s) f) refl where
     go : (b : Bool) → lists (faces_above D p s) f ≡ b → lists (faces_above D p s) f ≡ false
     go false n = n
-    go true l = absurd (true≢false (sym (filter_passes (face_is_above D p) f (faces_of D s) (listed_in f (faces_above D p s) l)) ∙ e))
+    go true l = absurd (true≢false (sym (filter_passes (face_is_above D p) f (faces_of D s) (IsIn-from_listed f (faces_above D p s) l)) ∙ e))
 
   pub some_above : HasFace (with_drawings M s p).model s (faces_above (with_drawings M s p).model p s) true
   some_above =

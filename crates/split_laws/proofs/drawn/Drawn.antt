@@ -12,7 +12,7 @@ use Rattle.euler_operators.specs.Conditions.{AllHold, lists, strictly_rises, has
 use Rattle.euler_operators.proofs.Members.{count-filter}
 use Rattle.euler_operators.proofs.Tables.{no_row}
 use Rattle.euler_laws.proofs.shared.Goes.{all_hold, none_refuses, not_true, equal}
-use Rattle.euler_laws.proofs.shared.Listed.{all_where-rises}
+use Rattle.euler_laws.proofs.shared.Listed.{all_where-rises, IsIn-from_listed}
 use Rattle.shapes.proofs.fresh.Rows.{none_above}
 use Rattle.shapes.proofs.fresh.Tests.{all_hold-front, all_hold-back, Left, numbers_are_left}
 use Rattle.shapes.specs.Faces.{least_lone}
@@ -23,7 +23,7 @@ use Rattle.shapes.specs.split.Drawing.{Drawing, stuck_at, in_one_loop, join_next
 use Rattle.shapes.specs.split.Section.{below_halves, section_cycles, has_stray_hole}
 use Rattle.shapes.specs.split.Split.{first_conditions, later_conditions, section_conditions, split_conditions, split_refusal}
 use Rattle.split_drawing_laws.specs.crossings.Laws.{CanBegin}
-use Rattle.split_drawing_laws.proofs.crossings.Listed.{listed_in, all_where_has}
+use Rattle.split_drawing_laws.proofs.crossings.Listed.{all_where_has}
 use Rattle.split_drawing_laws.proofs.crossings.Whole.{crossings_counted, crossings_keep}
 use Rattle.split_drawing_laws.proofs.pairs.Whole.{can_be_drawn, rewritings_sound}
 use Rattle.split_drawing_laws.specs.drawings.DrawnIn.{Stays, Fresh}
@@ -187,7 +187,7 @@ module _ (M : Model) (s : ℕ) (p : Plane) (t : ℕ) (sound : Sound M) (accepted
   pub above_facts : (f : ℕ) → lists (faces_above (with_drawings M s p).model p s) f ≡ true → Has (with_drawings M s p).model.faces f × (solid_of (with_drawings M s p).model f ≡ s)
   unfolding solid_of
   above_facts f l =
-      let w = all_where_has (λ _ row. nat_eq row.solid s) D.faces f (omega (arith, listed_in f above l, count-filter (face_is_above D p) f (faces_of D s))) in
+      let w = all_where_has (λ _ row. nat_eq row.solid s) D.faces f (omega (arith, IsIn-from_listed f above l, count-filter (face_is_above D p) f (faces_of D s))) in
       (ap is_some w.1, ap (λ o. (unwrap_or o no_face).solid) w.1 ∙ equal w.0.solid s w.2)
 
   above_rises : strictly_rises above ≡ true

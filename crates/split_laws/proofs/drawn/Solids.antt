@@ -14,12 +14,12 @@ use Rattle.shapes.specs.split.Drawing.{Drawing, face_drawn, loops_joined, stuck_
 use Rattle.split_drawing_laws.specs.drawings.DrawnIn.{DrawnIn}
 use Rattle.split_drawing_laws.specs.drawings.Pairs.{Fits, AllFit, pairs_in}
 use Rattle.split_drawing_laws.specs.drawings.Laws.{CanBeDrawn}
-use Rattle.split_drawing_laws.proofs.drawings.Stays.{has_face}
 use Rattle.split_drawing_laws.specs.drawings.Passing.{Going, Ready, Drawable}
 use Rattle.split_drawing_laws.proofs.drawings.Passes.{draw_next_one, draw_next_two, draw_one, join_next_one, join_next_two}
 use Rattle.split_drawing_laws.proofs.drawings.Faces.{joins, going, going_on, fitting_on, face_goes}
 use Rattle.split_drawing_laws.proofs.drawings.Whole.{ready, drawable, drawable_on, next_is}
 use Rattle.split_laws.specs.drawn.Kept.{KeepsSolids}
+use Rattle.euler_laws.proofs.shared.Fans.{half_face}
 
 -- ---- joining changes no face and no solid
 
@@ -82,8 +82,8 @@ module _ (M : Model) (f : ℕ) (sound : Sound M) where
   -- a half-edge of the face is of its solid still
   half_of : (X : Model) → DrawnIn M X f → NewOf M X f → (h : ℕ) → HasHalf M h → face_at M h ≡ f → solid_of X (face_at X h) ≡ solid_of M f
   half_of X drawn a h there at = elim (drawn.within h there at) [
-    | inl e ↦ ap (solid_of X) e ∙ same_solid M X f (a.rows f (subst (Has M.faces) at (has_face M sound h there)))
-    | inr n ↦ a.news (face_at X h) (has_face X drawn.sound h (drawn.stays.halves h there)) n
+    | inl e ↦ ap (solid_of X) e ∙ same_solid M X f (a.rows f (subst (Has M.faces) at (half_face M sound h there)))
+    | inr n ↦ a.news (face_at X h) (half_face X drawn.sound h (drawn.stays.halves h there)) n
   ]
 
   module _ (X : Model) (q : ℕ × ℕ) (e g l : ℕ) (drawn : DrawnIn M X f) (fits : Fits M f q) (face_free : table.get X.faces g ≡ None) (a : NewOf M X f) where
@@ -147,7 +147,7 @@ one_keeps : (X Y : Model) (f : ℕ) → Sound X → DrawnIn X Y f → NewOf X Y 
 one_keeps X Y f sound drawn a = record {
   halves = λ h t. elim (eqb_tells (face_at X h) f) [
     | inl e ↦ half_of X f sound Y drawn a h t e.1 ∙ ap (solid_of X) (sym e.1)
-    | inr e ↦ ap (solid_of Y) (drawn.beside h t e.1).1 ∙ same_solid X Y (face_at X h) (a.rows (face_at X h) (has_face X sound h t))
+    | inr e ↦ ap (solid_of Y) (drawn.beside h t e.1).1 ∙ same_solid X Y (face_at X h) (a.rows (face_at X h) (half_face X sound h t))
   ];
   solids = a.solids;
 }

@@ -1,5 +1,5 @@
 -- The two caps that close a solid once it is opened along a cycle on a plane: they lie along the plane, and have opposite normals.
-use Rattle.std.proofs.Common.{◌≡◌, ℕ, zero, suc, ◌+◌, ◌≤◌, ◌<◌, true, not, List, [], ◌∷◌, ◌++◌, length, Option, Some, None, is_some, unwrap_or, refl, sym, ap, ◌∙◌, arith, true≢false, ◌⊎◌, inl, inr}
+use Rattle.std.proofs.Common.{◌≡◌, ℕ, zero, suc, ◌+◌, ◌≤◌, ◌<◌, true, not, List, [], ◌∷◌, length, Option, Some, None, is_some, unwrap_or, refl, sym, ap, ◌∙◌, arith, true≢false, ◌⊎◌, inl, inr}
 use Rattle.std.specs.Prelude.{map, reverse, get_or}
 use Rattle.std.specs.List.{list_all}
 use Rattle.std.specs.Option.{option_map}
@@ -16,18 +16,17 @@ use Rattle.euler_operators.proofs.Rotations.{count-canonical, IsIn_head}
 use Rattle.euler_operators.specs.HalfEdge.{mate, plus, minus}
 use Rattle.euler_operators.specs.Table as table
 use Rattle.euler_operators.specs.Table.{get-map_rows}
-use Rattle.euler_operators.specs.Model.{Model, LoopRow, cycle, no_face, items_of, tail, content, face_of, outer, point_of, rings_of}
+use Rattle.euler_operators.specs.Model.{Model, LoopRow, cycle, no_face, tail, content, face_of, outer, point_of, rings_of}
 use Rattle.euler_operators.specs.Sound.{Has}
 use Rattle.euler_operators.proofs.Models.{content_row, face_row}
 use Rattle.euler_operators.proofs.Tables.{all_where_none, in_use_within}
 use Rattle.euler_laws.proofs.shared.Fans.{half_mate}
 use Rattle.shapes.proofs.fresh.Rows.{get-put_cases, get-put_here, get-put_other}
-use Rattle.shapes.specs.Faces.{start, finish, items_in, loops_of, boundary}
+use Rattle.shapes.specs.Faces.{start, finish}
 use Rattle.shapes.specs.Fresh.{Taken, numbers_after}
 use Rattle.shapes.specs.Prism.{next_place}
 use Rattle.shapes.specs.Rewriting.{rewritten_row, renamed}
 use Rattle.shapes.specs.Measure.{area, normal, anchor, first_vertex, is_plane_of}
-use Rattle.shapes.proofs.Areas.{area-append, moved_nothing}
 use Rattle.euler_operators.proofs.Vectors.{none_moved}
 use Rattle.euler_operators.proofs.Tests.{none_but}
 use Rattle.euler_operators.proofs.Members.{IsIn_rest, IsIn_some_head, IsIn-map}
@@ -44,6 +43,7 @@ use Rattle.split_opening_laws.proofs.sections.OpenedRows.{faces_are, loops_are}
 use Rattle.split_opening_laws.proofs.sections.OpenedFaces.{upper_row}
 use Rattle.split_laws.specs.opened.Told.{LiesAlong}
 use Rattle.split_laws.proofs.opened.Starts.{start_old, finish_old, back_along}
+use Rattle.gluing_laws.proofs.Adding.{only_loop}
 
 -- ---- lists
 
@@ -106,10 +106,6 @@ area_kept M N (h ∷ hs) e = let q = e h (IsIn_head h hs) in λ i. moved (cross 
 
 cross_negated : (n a : Point) → cross n a ≡ origin → cross n (negated a) ≡ origin
 cross_negated n a e = sym (none_moved (cross n (negated a))) ∙ ap (λ v. moved v (cross n (negated a))) (sym e) ∙ sym (cross_moved n a (negated a)) ∙ ap (cross n) (none_left a) ∙ cross_nothing n
-
-pub only_loop : (M : Model) (k : ℕ) (cs : List ℕ) → rings_of M k ≡ [] → content M (outer M k) ≡ cycle cs → normal M k ≡ area M cs
-unfolding normal boundary loops_of
-only_loop M k cs alone is = ap (λ rs. area M (items_in M (outer M k ∷ rs))) alone ∙ ap (λ c. area M (items_of c ++ [])) is ∙ area-append M cs [] ∙ moved_nothing (area M cs)
 
 -- the anchor of a face that lies along a plane is on it
 pub anchor_along : (M : Model) (p : Plane) (f : ℕ) → LiesAlong M p f → is_on p (anchor M f) ≡ true

@@ -1,5 +1,5 @@
 -- The six volumes of a solid that is opened along a cycle on a plane, and those of the other solids.
-use Rattle.std.proofs.Common.{◌≡◌, ◌≢◌, ℕ, ◌+◌, ℤ, pos, ◌+ℤ◌, neg_ℤ, Bool, true, not, nat_eq, List, ◌∷◌, length, None, is_some, refl, sym, ap, subst, ◌∙◌, arith, true≢false, inl, inr}
+use Rattle.std.proofs.Common.{◌≡◌, ◌≢◌, ℕ, ◌+◌, ℤ, pos, ◌+ℤ◌, neg_ℤ, Bool, true, not, nat_eq, List, ◌∷◌, length, None, is_some, refl, sym, ap, subst, ◌∙◌, arith, inl, inr}
 use Rattle.std.specs.Prelude.{map}
 use Rattle.std.proofs.lemmas.Bool.Decides.{eqb_tells}
 use Rattle.std.proofs.lemmas.Bool.{and_parts}
@@ -23,7 +23,7 @@ use Rattle.euler_laws.proofs.shared.Rows.{face_there}
 use Rattle.shapes.proofs.fresh.Rows.{get-put_other}
 use Rattle.shapes.specs.Fresh.{Taken, numbers_after}
 use Rattle.shapes.specs.Measure.{area, anchor, is_plane_of, volume_in, six_volume}
-use Rattle.solid_measure_laws.proofs.FlatFaces.{told_alike}
+use Rattle.solid_measure_laws.proofs.FlatFaces.{told_alike, some_direction}
 use Rattle.solid_measure_laws.proofs.Sums.{dot_back}
 use Rattle.shapes.specs.split.Opening.{opened_along}
 use Rattle.split_opening_laws.specs.strips.Opened.{CanBeOpened}
@@ -37,9 +37,6 @@ use Rattle.split_laws.proofs.opened.Starts.{swap, point_old, swapped}
 use Rattle.split_laws.proofs.opened.Kept as kept
 use Rattle.split_laws.proofs.opened.Kept.{Rewritten}
 use Rattle.split_laws.proofs.opened.Caps.{free, lower_row, loop_kinds, lower_normal, upper_normal, cycle_across, lower_along, upper_along, anchor_along}
-
-pub some_direction : (p : Plane) → not (same_point (direction p) origin) ≡ true → direction p ≢ origin
-some_direction p e z = true≢false (sym e ∙ ap (λ v. not (same_point v origin)) z)
 
 module _ (M : Model) (above : List ℕ) (s : ℕ) (c : Taken) (bs : List ℕ) (w : CanBeOpened M above s c bs) where
   abbrev N : Model

@@ -15,7 +15,7 @@ use Rattle.euler_operators.specs.Sound.{Has}
 use Rattle.euler_operators.proofs.Models.{face_row}
 use Rattle.euler_operators.specs.Effect.{kfmrh, loop_to_face}
 use Rattle.euler_laws.proofs.shared.Goes.{equals, differs}
-use Rattle.euler_laws.proofs.shared.Rows.{no_items, face_there, loop_row}
+use Rattle.euler_laws.proofs.shared.Rows.{no_items, face_there, loop_row, content_either}
 use Rattle.shapes.specs.Faces.{start, items_in, loops_of, boundary}
 use Rattle.shapes.specs.Measure.{area, normal, anchor, first_vertex, volume_in, six_volume}
 use Rattle.shapes.proofs.Areas.{area-append}
@@ -26,8 +26,9 @@ use Rattle.solid_measure_laws.proofs.FlatFaces.{told_alike}
 use Rattle.solid_measure_laws.proofs.Products.{cross_moved}
 use Rattle.solid_measure_laws.proofs.Sums.{area_same}
 use Rattle.gluing_laws.proofs.Listed.{one_if, passed, count_where, same_search, volume_of, volume_same}
+use Rattle.gluing_laws.proofs.Adding.{only_loop}
 use Rattle.split_laws.specs.opened.Told.{LiesAlong, OutersAreOwn}
-use Rattle.split_laws.proofs.opened.Caps.{area_kept, only_loop, anchor_along}
+use Rattle.split_laws.proofs.opened.Caps.{area_kept, anchor_along}
 
 -- ---- lists of loops, and of faces
 
@@ -83,9 +84,6 @@ module _ (M : Model) (p : Plane) (f g : ℕ) (w : CanTake M p f g) where
   abbrev N : Model
   N = kfmrh M f g
 
-  abbrev ring : ℕ
-  ring = outer M g
-
   row_is : (l : ℕ) → table.get N.loops l ≡ option_map (loop_to_face (outer M g) f l) (table.get M.loops l)
   unfolding kfmrh
   row_is l = get-map_rows (loop_to_face (outer M g) f) M.loops l
@@ -100,13 +98,9 @@ module _ (M : Model) (p : Plane) (f g : ℕ) (w : CanTake M p f g) where
 
   -- ---- loops and points stay
 
-  content_either : (b : Bool) (row : LoopRow) → (cond b (record row { face = f }) row).content ≡ row.content
-  content_either true row = refl
-  content_either false row = refl
-
   content_in : (l : ℕ) (o : Option LoopRow) → (unwrap_or (option_map (loop_to_face (outer M g) f l) o) no_loop).content ≡ (unwrap_or o no_loop).content
   content_in l None = refl
-  content_in l (Some row) = content_either (nat_eq l (outer M g)) row
+  content_in l (Some row) = content_either (nat_eq l (outer M g)) row f
 
   pub content_same : (l : ℕ) → content N l ≡ content M l
   unfolding content

@@ -1,5 +1,5 @@
 -- Numbers in a run, and the rows of such numbers that go.
-use Rattle.std.proofs.Common.{◌≡◌, ◌≢◌, ℕ, zero, suc, ◌+◌, ◌≤◌, ◌<◌, [], ◌∷◌, ◌++◌, map, None, is_some, refl, sym, ap, ◌∙◌, arith, inl, inr, true≢false}
+use Rattle.std.proofs.Common.{◌≡◌, ◌≢◌, ℕ, zero, suc, ◌+◌, ◌≤◌, ◌<◌, map, None, is_some, refl, sym, ap, ◌∙◌, arith, inl, inr, true≢false}
 use Rattle.std.proofs.lemmas.Bool.Decides.{nat_tests, eqb_tells}
 use Rattle.euler_operators.specs.Items.{IsIn}
 use Rattle.euler_operators.specs.Rings.{canonical}
@@ -17,10 +17,6 @@ use Rattle.sweeps_laws.proofs.lamina.Lists.{canonical_first}
 
 pub next_number : (k n : ℕ) → k + 1 + suc n ≡ k + suc (suc n)
 next_number k n = omega arith
-
-pub numbers_last : (k n : ℕ) → numbers_after k (suc n) ≡ numbers_after k n ++ (k + suc n) ∷ []
-numbers_last k zero = refl
-numbers_last k (suc n) = ap (λ ns. (k + 1) ∷ ns) (numbers_last (k + 1) n) ∙ ap (λ j. (k + 1) ∷ numbers_after (k + 1) n ++ j ∷ []) (next_number k n)
 
 minus_above : (k n x : ℕ) → IsIn x (map minus (numbers_after k n)) → minus k ≤ x
 minus_above k zero x i = absurd (omega (arith, i))

@@ -24,12 +24,13 @@ use Rattle.euler_laws.proofs.mef.Kef.{kef_accepted}
 use Rattle.shapes.proofs.fresh.Rows.{get-put_here, get-put_other}
 use Rattle.sweeps_laws.proofs.prism.Steps.{Around, apart_xs, loop_is, half_is, cycle_is, face_is}
 use Rattle.sweeps_laws.proofs.prism.Sides.{next_inner}
+use Rattle.sweeps_laws.proofs.lamina.Lists.{numbers_last}
 use Rattle.shapes.specs.Fresh.{Taken, numbers_after}
 use Rattle.shapes.specs.Prism.{next_place}
 use Rattle.shapes.specs.Rewriting.{without_rows}
 use Rattle.split_opening_laws.specs.caps.Strips.{HasStrips, riser}
 use Rattle.split_opening_laws.specs.caps.Caps.{joined_loop, joined_part}
-use Rattle.split_opening_laws.proofs.caps.Gone.{next_number, numbers_last, gone_more, gone_back, gone_above}
+use Rattle.split_opening_laws.proofs.caps.Gone.{next_number, gone_more, gone_back, gone_above}
 
 module _ (N : Model) (s : ℕ) (c : Taken) (hs : List ℕ) (w : HasStrips N s c hs) (n : ℕ) where
   -- the tables with some strips joined

@@ -15,7 +15,8 @@ use Rattle.euler_operators.proofs.Models.{plus_tail_row, minus_tail_row}
 use Rattle.euler_operators.specs.Conditions.{face_at, lists}
 use Rattle.euler_operators.specs.Effect.{with_tails, edge_row}
 use Rattle.euler_laws.proofs.shared.Same.{map_twice}
-use Rattle.sweeps_laws.proofs.prism.Steps.{edge_plus, row_plus}
+use Rattle.euler_laws.proofs.shared.Rows.{edge_row_plus}
+use Rattle.sweeps_laws.proofs.prism.Steps.{edge_plus}
 use Rattle.shapes.specs.Fresh.{Taken}
 use Rattle.shapes.specs.Prism.{next_place}
 use Rattle.shapes.specs.Rewriting.{renamed}
@@ -195,7 +196,7 @@ module _ (M : Model) (above : List ℕ) (s : ℕ) (c : Taken) (bs : List ℕ) (w
       let base : Table EdgeRow = table.map_rows (opened_row M above mates copies) M.edges in
       let base' : Table EdgeRow = table.map_rows (opened_row M above mates copies') M.edges in
       let inner : Table EdgeRow = with_rows base c.edge (raised_edge M bs copies) m in
-      (λ n. table.put (table.map_rows turn (raised.raised_edges M above s c bs w i sound n)) (edge_plus u n) ((row_plus u (tail N g) y ∙ ap (λ v. record { plus_tail = v; minus_tail = y }) g_tail) n))
+      (λ n. table.put (table.map_rows turn (raised.raised_edges M above s c bs w i sound n)) (edge_plus u n) ((edge_row_plus u (tail N g) y ∙ ap (λ v. record { plus_tail = v; minus_tail = y }) g_tail) n))
       ∙ ap (λ t. table.put t u (riser_edge M c bs i)) (
       rows_map turn inner (c.edge + m) (riser_edge M c bs) i
       ∙ rows_same (table.map_rows turn inner) (c.edge + m) (λ j. turn (c.edge + m + suc j) (riser_edge M c bs j)) (riser_edge M c bs) i riser_row

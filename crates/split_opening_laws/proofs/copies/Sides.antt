@@ -128,10 +128,6 @@ module _ (M : Model) (above : List ℕ) (s : ℕ) (c : Taken) (bs : List ℕ) (w
             ∙ w.below b (on.half_in M above s c bs w j q.1),
       )
 
-  -- a below half is not above
-  half_side : (h : ℕ) → IsIn h bs → lists above (face_at M h) ≡ false
-  half_side h at = w.below h at
-
   listed_mate : (h : ℕ) → IsIn h bs → lists mates (mate h) ≡ true
   listed_mate h at = let q = on.place_of M above s c bs w h at in ap (λ y. lists mates (mate y)) q.2 ∙ on.mate_listed M above s c bs w q.0 q.1
 

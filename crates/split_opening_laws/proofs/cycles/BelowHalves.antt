@@ -15,6 +15,7 @@ use Rattle.euler_laws.proofs.shared.Arcs.{halves_of_edge}
 use Rattle.euler_laws.proofs.shared.Goes.{equal, equals}
 use Rattle.euler_laws.proofs.shared.Listed.{listed_passes, passes_listed, all_where-rises}
 use Rattle.euler_laws.proofs.shared.Loops.{some_row}
+use Rattle.euler_laws.proofs.Sizes.{rises_over}
 use Rattle.solid_walks.proofs.RisingLists.{rest_rises}
 use Rattle.shapes.specs.Faces.{edges_of}
 use Rattle.solid_walks.proofs.Rising.{counted_once, in_listed}
@@ -23,7 +24,7 @@ use Rattle.shapes.specs.split.Section.{below_half, below_halves}
 use Rattle.split_opening_laws.specs.cycles.SectionCycles.{IsBelowHalf}
 use Rattle.split_opening_laws.proofs.cycles.Meets.{total_same, total_ticks, count_flat}
 use Rattle.split_opening_laws.proofs.cycles.Changes.{bit}
-use Rattle.split_opening_laws.proofs.cycles.RisingLists.{rises_cons, first_least}
+use Rattle.split_opening_laws.proofs.cycles.RisingLists.{rises_cons}
 
 -- ---- one of two numbers, or neither
 
@@ -115,7 +116,7 @@ module _ (M : Model) (above : List ℕ) where
   flat_rises : (es : List ℕ) → strictly_rises es ≡ true → strictly_rises (flat_map (below_half M above) es) ≡ true
   flat_rises [] r = refl
   flat_rises (e ∷ es) r = pick_rises (lists above (face_at M (plus e))) (lists above (face_at M (minus e))) (plus e) (minus e) (flat_map (below_half M above) es)
-      (λ k i. above_halves k e (first_least e (edge_of k) es r (in_flat k es i).1)) (flat_rises es (rest_rises e es r))
+      (λ k i. above_halves k e (rises_over e (edge_of k) es r (in_flat k es i).1)) (flat_rises es (rest_rises e es r))
 
   -- ---- those of a solid
 

@@ -1,5 +1,5 @@
 -- Sums over a list, and how many items of a list stand in another, counted from either side.
-use Rattle.std.proofs.Common.{◌≡◌, ℕ, ◌+◌, ◌≤◌, Bool, true, false, cond, List, [], ◌∷◌, length, map, refl, sym, ap, ◌∙◌, arith, inl, inr}
+use Rattle.std.proofs.Common.{◌≡◌, ℕ, ◌+◌, Bool, true, false, cond, List, [], ◌∷◌, map, refl, sym, ap, ◌∙◌, arith, inl, inr}
 use Rattle.std.specs.Prelude.{filter, flat_map}
 use Rattle.std.proofs.lemmas.Bool.Decides.{eqb_tells}
 use Rattle.euler_operators.specs.Items.{tick, count, IsIn, IsApart}
@@ -36,14 +36,6 @@ total_ticks x (y ∷ ys) = omega (arith, tick_turned x y, total_ticks x ys)
 pub meet_turned : (xs ys : List ℕ) → total (λ x. count x ys) xs ≡ total (λ y. count y xs) ys
 meet_turned [] ys = sym (total_zero (λ y. 0) ys (λ y. refl))
 meet_turned (x ∷ xs) ys = omega (arith, meet_turned xs ys, total_ticks x ys, total_sum (λ y. tick y x) (λ y. count y xs) ys)
-
-meet_at_least : (xs ys : List ℕ) → ((x : ℕ) → IsIn x xs → IsIn x ys) → length xs ≤ total (λ x. count x ys) xs
-meet_at_least [] ys i = omega arith
-meet_at_least (x ∷ xs) ys i = omega (arith, i x (omega (arith, tick_same x)), meet_at_least xs ys (λ y j. i y (omega (arith, j))))
-
-meet_at_most : (xs ys : List ℕ) → IsApart xs → total (λ y. count y xs) ys ≤ length ys
-meet_at_most xs [] d = omega arith
-meet_at_most xs (y ∷ ys) d = omega (arith, d y, meet_at_most xs ys d)
 
 -- ---- lists made of others
 

@@ -18,8 +18,9 @@ use Rattle.shapes.specs.Fresh.{Taken, numbers_after}
 use Rattle.shapes.specs.Rewriting.{renamed}
 use Rattle.shapes.specs.split.Opening.{both_lists, opened_along}
 use Rattle.split_opening_laws.specs.sections.InTurn.{AreFree}
-use Rattle.split_opening_laws.proofs.sections.Pairs.{renamed_onto, length_numbers}
+use Rattle.split_opening_laws.proofs.sections.Pairs.{renamed_onto}
 use Rattle.split_opening_laws.proofs.sections.OpenedRows.{faces_are, loops_are, loop_row}
+use Rattle.split_opening_laws.proofs.strips.Rows.{length-numbers_after}
 
 some_length : (x : ℕ) (xs : List ℕ) → IsIn x xs → 1 ≤ length xs
 some_length x [] i = absurd (omega arith)
@@ -65,7 +66,7 @@ module _ (M : Model) (above : List ℕ) (s : ℕ) (c : Taken) (bs : List ℕ) wh
     -- and the other half stands in place of a mate
     pub plus_face : Sound M → AreFree M c → IsApart bs → ((b : ℕ) → IsIn b (map mate bs) → HasHalf M b) → (k : ℕ) → IsIn k (numbers_after c.edge (length bs)) → (a : ℕ) × IsIn a (map mate bs) × (face_at N (plus k) ≡ face_at M a)
     plus_face sound free d there k i =
-        let r = renamed_onto mates (map plus rim) (mates_apart bs d) (length-map bs mate ∙ sym (length-map rim plus ∙ length_numbers c.edge m)) (plus k) (IsIn-map plus k rim i) in
+        let r = renamed_onto mates (map plus rim) (mates_apart bs d) (length-map bs mate ∙ sym (length-map rim plus ∙ length-numbers_after c.edge m)) (plus k) (IsIn-map plus k rim i) in
         let t : HasHalf M r.0 = there r.0 r.1 in
         let swap : ℕ → ℕ = renamed (both_lists mates (map plus rim)) in
         let j : IsIn (plus k) (map swap (cycle_of M r.0)) = subst (λ x. IsIn x (map swap (cycle_of M r.0))) r.2 (IsIn-map swap r.0 (cycle_of M r.0) (cycle_there M sound r.0 t)) in (

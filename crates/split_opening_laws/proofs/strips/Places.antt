@@ -22,8 +22,9 @@ use Rattle.shapes.specs.Rewriting.{rewritten_row, renamed}
 use Rattle.shapes.specs.split.Opening.{both_lists}
 use Rattle.split_opening_laws.specs.strips.Strips.{with_rows, put_out}
 use Rattle.split_opening_laws.specs.strips.Opened.{CanBeOpened}
-use Rattle.split_opening_laws.proofs.strips.Rows.{rows_at, rows_low, numbers_more, length-numbers_after, numbers_at, numbers_above, both_more, renamed_cases, misses_both, renamed_more}
+use Rattle.split_opening_laws.proofs.strips.Rows.{rows_at, rows_low, length-numbers_after, numbers_at, numbers_above, both_more, renamed_cases, misses_both, renamed_more}
 use Rattle.split_opening_laws.proofs.strips.Cycle as on
+use Rattle.sweeps_laws.proofs.lamina.Lists.{numbers_last}
 
 -- a half-edge of a low edge is none of a higher one
 pub low_half : (h e n : ℕ) → edge_of h ≤ n → n < e → plus e ≢ h
@@ -62,7 +63,7 @@ module _ (M : Model) (above : List ℕ) (s : ℕ) (c : Taken) (bs : List ℕ) (w
 
   put_next : (i : ℕ) → i < length bs → put_out c bs (suc i) ≡ put_out c bs i ++ (mate (get_or bs i 0), plus (c.edge + suc i)) ∷ []
   put_next i lt =
-      ap (both_lists (map mate bs)) (ap (map plus) (numbers_more c.edge i) ∙ map-append plus (numbers_after c.edge i) ((c.edge + suc i) ∷ []))
+      ap (both_lists (map mate bs)) (ap (map plus) (numbers_last c.edge i) ∙ map-append plus (numbers_after c.edge i) ((c.edge + suc i) ∷ []))
       ∙ both_more (map mate bs) (map plus (numbers_after c.edge i)) (plus (c.edge + suc i)) (omega (arith, lt, length-map bs mate, length_out i))
       ∙ ap (λ x. put_out c bs i ++ (x, plus (c.edge + suc i)) ∷ []) (ap (λ n. get_or (map mate bs) n 0) (length_out i) ∙ mate_get i lt)
 

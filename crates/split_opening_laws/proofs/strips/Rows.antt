@@ -54,10 +54,6 @@ rows_map f t k row (suc i) = map-put f (with_rows t k row i) (k + suc i) (row i)
 
 -- ---- numbers after one
 
-pub numbers_more : (k i : ℕ) → numbers_after k (suc i) ≡ numbers_after k i ++ (k + suc i) ∷ []
-numbers_more k zero = refl
-numbers_more k (suc i) = ap (λ t. (k + 1) ∷ t) (numbers_more (k + 1) i ∙ ap (λ n. numbers_after (k + 1) i ++ n ∷ []) (let e : k + 1 + suc i ≡ k + suc (suc i) = omega arith in e))
-
 pub length-numbers_after : (k i : ℕ) → length (numbers_after k i) ≡ i
 length-numbers_after k zero = refl
 length-numbers_after k (suc i) = ap suc (length-numbers_after (k + 1) i)

@@ -18,12 +18,12 @@ use Rattle.euler_operators.proofs.Tables.{in_use_within, map_alike}
 use Rattle.euler_operators.specs.Conditions.{face_at, first_false}
 use Rattle.euler_operators.specs.Effect.{effect, mef, where_held}
 use Rattle.euler_laws.proofs.shared.Fans.{half_after, loop_after}
-use Rattle.euler_laws.proofs.shared.Rows.{where_held_none, where_held_there, one_row}
+use Rattle.euler_laws.proofs.shared.Rows.{where_held_none, where_held_there, one_row, edge_row_plus}
 use Rattle.euler_laws.proofs.shared.Same.{map_twice}
 use Rattle.euler_laws.proofs.mef.MefSound.{MefGoes}
 use Rattle.euler_laws.proofs.mef.Kef.{mef_accepted}
 use Rattle.sweeps_laws.proofs.prism.Sides.{fits}
-use Rattle.sweeps_laws.proofs.prism.Steps.{edge_plus, row_plus}
+use Rattle.sweeps_laws.proofs.prism.Steps.{edge_plus}
 use Rattle.shapes.specs.Fresh.{Taken}
 use Rattle.shapes.specs.Rewriting.{rewritten_row, renamed}
 use Rattle.shapes.proofs.glue.Swapped.{row_stays, row_turns}
@@ -221,7 +221,7 @@ module _ (M : Model) (above : List ℕ) (s : ℕ) (c : Taken) (bs : List ℕ) (w
     mef_is = λ n. record M {
       faces = table.put (with_rows M.faces c.face (strip_face s c) i) f (record { solid = solid_is n; outer = l });
       loops = loops_next n;
-      edges = table.put (with_rows M.edges c.edge (strip_edge M bs) i) (edge_plus e n) ((row_plus e (tail N a) (tail N k) ∙ (λ j. record { plus_tail = tail_a j; minus_tail = tail_k j })) n);
+      edges = table.put (with_rows M.edges c.edge (strip_edge M bs) i) (edge_plus e n) ((edge_row_plus e (tail N a) (tail N k) ∙ (λ j. record { plus_tail = tail_a j; minus_tail = tail_k j })) n);
     }
 
     pub strip_is : effect N (cut_strip N c bs i) ≡ strips_cut M s c bs (suc i)

@@ -1,8 +1,8 @@
 -- The conditions that are tested once the faces are drawn, part by part.
-use Rattle.std.proofs.Common.{◌≡◌, ℕ, ◌+◌, ◌*◌, Bool, true, false, cond, not, nat_eq, List, length, Option, Some, None, is_some, Result, Ok, Err, is_ok, refl, sym, ap, subst, ◌∙◌, true≢false}
+use Rattle.std.proofs.Common.{◌≡◌, ℕ, ◌+◌, ◌*◌, Bool, true, false, cond, not, nat_eq, List, length, Option, Some, None, is_some, Result, Ok, Err, refl, sym, ap, subst, ◌∙◌, true≢false}
 use Rattle.euler_operators.specs.declared.Plane.{Plane}
 use Rattle.euler_operators.specs.Model.{Model}
-use Rattle.euler_operators.specs.Conditions.{first_refusal, verdict}
+use Rattle.euler_operators.specs.Conditions.{first_refusal}
 use Rattle.euler_operators.specs.declared.Refusal.{Refusal}
 use Rattle.euler_operators.specs.declared.Why.TheVariants.{CutCrossed, BranchedVertex, SectionHoles}
 use Rattle.euler_laws.proofs.shared.Goes.{equal, equals}
@@ -28,18 +28,6 @@ found_some n v e = go (nat_eq n 0) refl e where
   go : (b : Bool) → nat_eq n 0 ≡ b → Some v ≡ cond b None (Some n) → (nat_eq n 0 ≡ false) × (n ≡ v)
   go true t e = absurd (true≢false (ap is_some e))
   go false t e = (t, sym (ap value e))
-
--- a verdict tells whether there is a refusal, and which
-pub passed : (o : Option Refusal) (u : Unit {0}) → Ok u ≡ verdict o → o ≡ None
-passed None u e = refl
-passed (Some r) u e = absurd (true≢false (ap is_ok e))
-
-pub failed : (o : Option Refusal) (r : Refusal) → Err r ≡ verdict o → o ≡ Some r
-failed None r e = absurd (true≢false (sym (ap is_ok e)))
-failed (Some q) r e = ap Some (sym (ap inside e)) where
-  inside : Result (Unit {0}) Refusal → Refusal
-  inside (Ok u) = r
-  inside (Err x) = x
 
 module _ (M : Model) (s : ℕ) (p : Plane) (c : Taken) (bs : List ℕ) where
   abbrev numbers : Option Refusal

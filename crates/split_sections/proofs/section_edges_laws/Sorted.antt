@@ -1,11 +1,9 @@
 -- The halves in faces below, sorted by their edges after a walk over faces has met them.
-use Rattle.std.proofs.Common.{◌≡◌, ℕ, suc, ◌+◌, ◌<◌, true, ◌&&◌, List, [], ◌∷◌, map, refl, sym, ap, subst, ◌∙◌, arith, true≢false, inl, inr}
-use Rattle.std.specs.List.{sum_by}
+use Rattle.std.proofs.Common.{◌≡◌, ℕ, suc, ◌<◌, true, ◌&&◌, List, [], ◌∷◌, map, refl, sym, ap, subst, ◌∙◌, arith, true≢false, inl, inr}
 use Rattle.std.specs.List.Sorted.{IsPermutation, IsNonDecreasingBy}
 use Rattle.std.proofs.lemmas.Bool.{lt-ltb}
 use Rattle.std.proofs.lemmas.List.Sorted.{IsPermutation-map}
-use Rattle.std.proofs.lemmas.List.Sums.{sum_by-cons}
-use Rattle.euler_operators.specs.Items.{count, tick, IsIn, IsApart, SameItems}
+use Rattle.euler_operators.specs.Items.{tick, IsIn, IsApart, SameItems}
 use Rattle.euler_operators.proofs.Lists.{tick_same}
 use Rattle.euler_operators.specs.declared.HalfEdge.{HalfEdge}
 use Rattle.euler_operators.specs.HalfEdge.{code, edge_of}
@@ -24,11 +22,6 @@ use Rattle.split_opening_laws.specs.cycles.SectionCycles.{IsBelowHalf}
 use Rattle.split_opening_laws.proofs.cycles.BelowHalves.{halves_rise, halves_apart, halves_are, are_halves}
 use Rattle.split_sections.specs.section_edges.BelowHalves.{below_met}
 use Rattle.split_sections.proofs.section_edges_laws.Walked.{met_apart, met_below, below_is_met}
-
--- how often a number stands in a list is a sum
-counted : (x : ℕ) (xs : List ℕ) → sum_by (tick x) xs ≡ count x xs
-counted x [] = refl
-counted x (y ∷ ys) = sum_by-cons (tick x) y ys ∙ ap (λ n. tick x y + n) (counted x ys)
 
 -- a half of a lesser edge comes first in the order of listings
 lesser_edge : (m n : ℕ) → edge_of m < edge_of n → m < n

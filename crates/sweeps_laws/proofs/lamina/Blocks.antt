@@ -41,12 +41,12 @@ none_twice a = omega (arith, ints)
 none_then : (a b : ℤ) → (a +ℤ pos 0) +ℤ b ≡ a +ℤ b
 none_then a b = omega (arith, ints)
 
-grown_other : (x u : ℤ) → int_le (pos 1) u ≡ true → x +ℤ u ≢ x
+pub grown_other : (x u : ℤ) → int_le (pos 1) u ≡ true → x +ℤ u ≢ x
 grown_other x (pos zero) l e = absurd (true≢false (sym l))
 grown_other x (pos (suc n)) l e = absurd (omega (arith, ints))
 grown_other x (negsuc n) l e = absurd (true≢false (sym l))
 
-other_number : (x y : ℤ) → x ≢ y → int_eq x y ≡ false
+pub other_number : (x y : ℤ) → x ≢ y → int_eq x y ≡ false
 other_number x y ne = go (int_eq x y) refl where
   go : (b : Bool) → int_eq x y ≡ b → int_eq x y ≡ false
   go true e = absurd (ne ((signed_Decides x y).0 e))
@@ -61,10 +61,10 @@ no_end true true = refl
 no_end true false = refl
 no_end false b = refl
 
-other_x : (p q : Point) → p.x ≢ q.x → same_point p q ≡ false
+pub other_x : (p q : Point) → p.x ≢ q.x → same_point p q ≡ false
 other_x p q ne = ap (λ b. b && int_eq p.y q.y && int_eq p.z q.z) (other_number p.x q.x ne)
 
-other_y : (p q : Point) → p.y ≢ q.y → same_point p q ≡ false
+pub other_y : (p q : Point) → p.y ≢ q.y → same_point p q ≡ false
 other_y p q ne = ap (λ b. int_eq p.x q.x && b && int_eq p.z q.z) (other_number p.y q.y ne) ∙ no_and (int_eq p.x q.x) (int_eq p.z q.z)
 
 other_z : (p q : Point) → p.z ≢ q.z → same_point p q ≡ false
@@ -103,13 +103,13 @@ ranges M s p dx dy dz e =
 
 -- ---- the lamina of the base
 
-fewer : (a n m : ℕ) → m ≤ n → nat_le (a + n) 1000000 ≡ true → nat_le (a + m) 1000000 ≡ true
+pub fewer : (a n m : ℕ) → m ≤ n → nat_le (a + n) 1000000 ≡ true → nat_le (a + m) 1000000 ≡ true
 fewer a n m l e = grind (arith, nat_tests)
 
-all_near : (a b g h : Point) → is_in_range a ≡ true → is_in_range b ≡ true → is_in_range g ≡ true → is_in_range h ≡ true → first_far 0 (a ∷ b ∷ g ∷ h ∷ []) ≡ 0
+pub all_near : (a b g h : Point) → is_in_range a ≡ true → is_in_range b ≡ true → is_in_range g ≡ true → is_in_range h ≡ true → first_far 0 (a ∷ b ∷ g ∷ h ∷ []) ≡ 0
 all_near a b g h r s t u = λ i. cond (r i) (cond (s i) (cond (t i) (cond (u i) 0 4) 3) 2) 1
 
-none_repeated : (a b g h : Point) → same_point b a ≡ false → same_point g a ≡ false → same_point g b ≡ false → same_point h a ≡ false → same_point h b ≡ false → same_point h g ≡ false →
+pub none_repeated : (a b g h : Point) → same_point b a ≡ false → same_point g a ≡ false → same_point g b ≡ false → same_point h a ≡ false → same_point h b ≡ false → same_point h g ≡ false →
     first_repeated [] 0 (a ∷ b ∷ g ∷ h ∷ []) ≡ 0
 none_repeated a b g h ba ga gb ha hb hg = λ i. cond (ba i || false) 2 (cond (ga i || (gb i || false)) 3 (cond (ha i || (hb i || (hg i || false))) 4 0))
 
@@ -176,7 +176,7 @@ point_row t v ps (suc j) i l = elim (eqb_tells i j) [
   | inr p ↦ get-put_other (with_points t v ps j) (v + suc j) (get_or ps j no_point) (v + suc i) (apart_by v i j p.1) ∙ point_row t v ps j i (less_still i j l p.1)
 ]
 
-no_lone : (b : Bool) (f g : ℕ) → f ≢ g → (b && (nat_eq f g || false)) ≡ false
+pub no_lone : (b : Bool) (f g : ℕ) → f ≢ g → (b && (nat_eq f g || false)) ≡ false
 no_lone true f g ne = grind (arith, nat_tests)
 no_lone false f g ne = refl
 

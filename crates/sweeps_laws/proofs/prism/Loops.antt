@@ -30,8 +30,9 @@ use Rattle.shapes.specs.Prism.{riser, top_edge, top_items, next_place, with_side
 use Rattle.sweeps_laws.specs.prism.Part.{lifted_part, prism_part}
 use Rattle.sweeps_laws.specs.prism.SweepOps.{raise, close, close_last, rounds, loop_ops}
 use Rattle.sweeps_laws.proofs.prism.Steps.{Around, apart_xs, with_chord, mev_does, mev_fits, mef_does, mef_fits}
-use Rattle.sweeps_laws.proofs.prism.Sides.{Ready, fits, riser_is, top_is, next_last, two_items, from_least}
+use Rattle.sweeps_laws.proofs.prism.Sides.{Ready, fits, riser_is, next_last, two_items, from_least}
 use Rattle.sweeps_laws.proofs.prism.Rounds.{drop_next, loop_within, part_loop, part_edge_free, part_face_free, part_loop_free, part_riser, part_solid, round_accepted, round_is}
+use Rattle.sweeps_laws.proofs.swept.Numbers.{top_cases}
 
 -- a ring that starts at its least item is in the order of listings
 canonical_first : (x : ℕ) (ys : List ℕ) → ((y : ℕ) → IsIn y (x ∷ ys) → x ≤ y) → canonical (x ∷ ys) ≡ x ∷ ys
@@ -42,14 +43,14 @@ canonical_first x ys low =
     ap (λ y. rotate_to y (x ∷ ys)) is ∙ rotate_to_head x ys
 
 -- the top edges rise from the first one
-tops_head : (e n i : ℕ) → (ks : List ℕ) × (top_items e n (suc i) ≡ plus (top_edge e n 0) ∷ ks)
+pub tops_head : (e n i : ℕ) → (ks : List ℕ) × (top_items e n (suc i) ≡ plus (top_edge e n 0) ∷ ks)
 tops_head e n zero = ([], refl)
 tops_head e n (suc i) = let h = tops_head e n i in (h.0 ++ plus (top_edge e n (suc i)) ∷ [], ap (λ xs. xs ++ plus (top_edge e n (suc i)) ∷ []) h.1)
 
 tops_above : (e n i y : ℕ) → 2 ≤ n → IsIn y (top_items e n i) → plus (top_edge e n 0) ≤ y
 tops_above e n zero y two h = absurd (omega arith)
 tops_above e n (suc i) y two h = elim (eqb_tells y (plus (top_edge e n i))) [
-  | inl p ↦ let s : y ≡ plus (top_edge e n i) = p.1 in omega (arith, top_is e n 0, top_is e n i)
+  | inl p ↦ let s : y ≡ plus (top_edge e n i) = p.1 in omega (arith, top_cases e n 0, top_cases e n i)
   | inr p ↦ tops_above e n i y two (omega (arith, h, count-append y (top_items e n i) (plus (top_edge e n i) ∷ []), tick_other y (plus (top_edge e n i)) p.1))
 ]
 
@@ -114,8 +115,8 @@ module _ (M : Model) (c : Taken) (f l : ℕ) (d : Point) (hs : List ℕ) (w : Re
   first_top zero lt = get-put_here _ _ _
   first_top (suc i) lt =
       let two = two_items M c f l d hs w in
-      get-put_other _ _ _ (top_edge c.edge (length hs) 0) (λ s. omega (arith, top_is c.edge (length hs) 0, top_is c.edge (length hs) (suc i)))
-      ∙ get-put_other _ _ _ (top_edge c.edge (length hs) 0) (λ s. omega (arith, top_is c.edge (length hs) 0, riser_is c.edge (suc i)))
+      get-put_other _ _ _ (top_edge c.edge (length hs) 0) (λ s. omega (arith, top_cases c.edge (length hs) 0, top_cases c.edge (length hs) (suc i)))
+      ∙ get-put_other _ _ _ (top_edge c.edge (length hs) 0) (λ s. omega (arith, top_cases c.edge (length hs) 0, riser_is c.edge (suc i)))
       ∙ first_top i (omega arith)
 
   -- ---- the last side, over item j + 1
@@ -179,9 +180,9 @@ module _ (M : Model) (c : Taken) (f l : ℕ) (d : Point) (hs : List ℕ) (w : Re
     two = two_items M c f l d hs w
 
     t_free : table.get P.edges t ≡ None
-    t_free = part_edge_free M c f l d hs w (suc j) t (λ e. omega (arith, last, top_is c.edge (length hs) (suc j), riser_is c.edge (suc j)))
-        (λ i lt. ((λ e. omega (arith, last, top_is c.edge (length hs) (suc j), riser_is c.edge i)), (λ e. omega (arith, last, top_is c.edge (length hs) (suc j), top_is c.edge (length hs) i))))
-        (omega (arith, top_is c.edge (length hs) (suc j)))
+    t_free = part_edge_free M c f l d hs w (suc j) t (λ e. omega (arith, last, top_cases c.edge (length hs) (suc j), riser_is c.edge (suc j)))
+        (λ i lt. ((λ e. omega (arith, last, top_cases c.edge (length hs) (suc j), riser_is c.edge i)), (λ e. omega (arith, last, top_cases c.edge (length hs) (suc j), top_cases c.edge (length hs) i))))
+        (omega (arith, top_cases c.edge (length hs) (suc j)))
 
     r_other : l ≢ r
     r_other e = omega (arith, loop_within M c f l d hs w)
@@ -194,7 +195,7 @@ module _ (M : Model) (c : Taken) (f l : ℕ) (d : Point) (hs : List ℕ) (w : Re
 
     first_row : table.get P.edges (top_edge c.edge (length hs) 0) ≡ Some (record { plus_tail = c.vertex + 1 + 0; minus_tail = c.vertex + 1 + next_place (length hs) 0 })
     unfolding prism_part
-    first_row = get-put_other _ _ _ (top_edge c.edge (length hs) 0) (λ e. omega (arith, two, top_is c.edge (length hs) 0, riser_is c.edge (suc j))) ∙ first_top j (omega (arith, last))
+    first_row = get-put_other _ _ _ (top_edge c.edge (length hs) 0) (λ e. omega (arith, two, top_cases c.edge (length hs) 0, riser_is c.edge (suc j))) ∙ first_top j (omega (arith, last))
 
     tail_k : tail P k ≡ c.vertex + 1 + 0
     tail_k = plus_tail_row P (top_edge c.edge (length hs) 0) _ first_row
@@ -202,7 +203,7 @@ module _ (M : Model) (c : Taken) (f l : ℕ) (d : Point) (hs : List ℕ) (w : Re
     accepted : first_false P (close_last c (length hs) (suc j)) ≡ None
     accepted = mef_fits P l f b k (h ∷ a ∷ []) T t s r around_last t_free r_free (part_face_free M c f l d hs w (suc j) s (omega arith))
         (λ e. let q : c.vertex + 1 + suc j ≡ c.vertex + 1 + 0 = sym tail_b ∙ e ∙ tail_k in omega arith)
-        (fits t (omega (arith, top_is c.edge (length hs) (suc j))) (omega (arith, top_is c.edge (length hs) (suc j), w.edges_left, last)))
+        (fits t (omega (arith, top_cases c.edge (length hs) (suc j))) (omega (arith, top_cases c.edge (length hs) (suc j), w.edges_left, last)))
         (fits s (omega arith) (omega (arith, w.faces_left, last)))
         (fits r (omega arith) (omega (arith, w.loops_left, last)))
 

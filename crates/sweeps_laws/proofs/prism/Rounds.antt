@@ -9,7 +9,7 @@ use Rattle.euler_operators.specs.Items.{IsIn}
 use Rattle.euler_operators.specs.Rings.{canonical}
 use Rattle.euler_operators.proofs.Rotations.{canonical_same}
 use Rattle.euler_operators.proofs.Std.{IsIn-get_or}
-use Rattle.euler_operators.proofs.Tables.{get-put_here, get-put_other, put_turned}
+use Rattle.euler_operators.proofs.Tables.{get-put_here, get-put_other, put_turned, in_use_within}
 use Rattle.euler_operators.proofs.Models.{minus_tail_row}
 use Rattle.euler_operators.specs.HalfEdge.{edge_of, is_first, plus, minus}
 use Rattle.euler_operators.specs.Table as table
@@ -27,7 +27,8 @@ use Rattle.shapes.specs.Prism.{riser, top_edge, top_items, next_place, with_side
 use Rattle.sweeps_laws.specs.prism.Part.{lifted_part, prism_part}
 use Rattle.sweeps_laws.specs.prism.SweepOps.{raise, close}
 use Rattle.sweeps_laws.proofs.prism.Steps.{Around, apart_xs, with_spur, with_chord, mev_does, mev_fits, mef_does, mef_fits}
-use Rattle.sweeps_laws.proofs.prism.Sides.{Ready, fits, riser_is, top_is, next_inner, within, half_there, old_tail, old_start, old_solid, sides_edges, sides_faces, sides_loops, sides_vertices}
+use Rattle.sweeps_laws.proofs.prism.Sides.{Ready, fits, riser_is, next_inner, half_there, old_tail, old_start, old_solid, sides_edges, sides_faces, sides_loops, sides_vertices}
+use Rattle.sweeps_laws.proofs.swept.Numbers.{top_cases}
 
 pub drop_next : (hs : List ℕ) (i : ℕ) → i < length hs → drop i hs ≡ get_or hs i 0 ∷ drop (suc i) hs
 drop_next hs i h = drop_more hs i 0 h ∙ ap (λ k. get_or hs i 0 ∷ drop k hs) (let e : i + 1 ≡ suc i = omega arith in e)
@@ -42,7 +43,7 @@ put_over t l r a b x y ne = same_table _ _ (λ q. grind (arith, nat_tests, table
 
 module _ (M : Model) (c : Taken) (f l : ℕ) (d : Point) (hs : List ℕ) (w : Ready M c f l d hs) where
   pub loop_within : l ≤ c.loop
-  loop_within = within M.loops c.loop l w.loops_free (ap is_some w.at)
+  loop_within = in_use_within M.loops c.loop w.loops_free l (ap is_some w.at)
 
   pub part_loop : (i : ℕ) → table.get (prism_part c f l d hs i M).loops l ≡ Some (record { face = f; content = cycle (canonical (lifted_part c hs i)) })
   unfolding prism_part
@@ -66,7 +67,7 @@ module _ (M : Model) (c : Taken) (f l : ℕ) (d : Point) (hs : List ℕ) (w : Re
 
   pub part_tail : (i h : ℕ) → HasHalf M h → tail (prism_part c f l d hs i M) h ≡ tail M h
   unfolding prism_part tail
-  part_tail i h there = let b : edge_of h ≤ c.edge = within M.edges c.edge (edge_of h) w.edges_free there in
+  part_tail i h there = let b : edge_of h ≤ c.edge = in_use_within M.edges c.edge w.edges_free (edge_of h) there in
       ap (λ o. tail_in (unwrap_or o no_edge) (is_first h)) (get-put_other _ _ _ (edge_of h) (λ s. omega (arith, riser_is c.edge i))) ∙ old_tail M c f l d hs w i h there
 
   pub part_riser : (i : ℕ) → table.get (prism_part c f l d hs i M).edges (riser c.edge i) ≡ Some (record { plus_tail = tail (with_sides c (solid_of M f) d hs i M) (get_or hs i 0); minus_tail = c.vertex + 1 + i })
@@ -146,16 +147,16 @@ module _ (M : Model) (c : Taken) (f l : ℕ) (d : Point) (hs : List ℕ) (w : Re
 
     -- the new edges
     u_new : (j : ℕ) → j < suc i → (u ≢ riser c.edge j) × (u ≢ top_edge c.edge (length hs) j)
-    u_new j lt = ((λ e. omega (arith, riser_is c.edge (suc i), riser_is c.edge j)), (λ e. omega (arith, riser_is c.edge (suc i), top_is c.edge (length hs) j)))
+    u_new j lt = ((λ e. omega (arith, riser_is c.edge (suc i), riser_is c.edge j)), (λ e. omega (arith, riser_is c.edge (suc i), top_cases c.edge (length hs) j)))
 
     t_new : (j : ℕ) → j < i → (t ≢ riser c.edge j) × (t ≢ top_edge c.edge (length hs) j)
-    t_new j lt = ((λ e. omega (arith, top_is c.edge (length hs) i, riser_is c.edge j)), (λ e. omega (arith, top_is c.edge (length hs) i, top_is c.edge (length hs) j)))
+    t_new j lt = ((λ e. omega (arith, top_cases c.edge (length hs) i, riser_is c.edge j)), (λ e. omega (arith, top_cases c.edge (length hs) i, top_cases c.edge (length hs) j)))
 
     t_riser : t ≢ riser c.edge i
-    t_riser e = omega (arith, top_is c.edge (length hs) i, riser_is c.edge i)
+    t_riser e = omega (arith, top_cases c.edge (length hs) i, riser_is c.edge i)
 
     t_u : t ≢ u
-    t_u e = omega (arith, top_is c.edge (length hs) i, riser_is c.edge (suc i))
+    t_u e = omega (arith, top_cases c.edge (length hs) i, riser_is c.edge (suc i))
 
     u_free : table.get P.edges u ≡ None
     u_free = part_edge_free i u (u_new i (omega arith)).0 (λ j lt. u_new j (omega arith)) (omega (arith, riser_is c.edge (suc i)))
@@ -182,7 +183,7 @@ module _ (M : Model) (c : Taken) (f l : ℕ) (d : Point) (hs : List ℕ) (w : Re
     around2 = record { sound = sound1; at = get-put_here _ l _ ∙ ap (λ xs. Some (record { face = f; content = cycle xs })) turned1 }
 
     t_free : table.get N1.edges t ≡ None
-    t_free = get-put_other _ u _ t t_u ∙ part_edge_free i t t_riser t_new (omega (arith, top_is c.edge (length hs) i))
+    t_free = get-put_other _ u _ t t_u ∙ part_edge_free i t t_riser t_new (omega (arith, top_cases c.edge (length hs) i))
 
     r_other : l ≢ r
     r_other e = omega (arith, loop_within)
@@ -199,7 +200,7 @@ module _ (M : Model) (c : Taken) (f l : ℕ) (d : Point) (hs : List ℕ) (w : Re
     accepted1 : first_false N1 (close c (length hs) i) ≡ None
     accepted1 = mef_fits N1 l f b (minus u) (h ∷ plus u ∷ []) ((g ∷ D) ++ a ∷ T) t s r around2 t_free r_free (part_face_free i s (omega arith))
         (λ e. let q : c.vertex + 1 + i ≡ c.vertex + 1 + suc i = sym tail_b ∙ e ∙ tail_u in omega arith)
-        (fits t (omega (arith, top_is c.edge (length hs) i)) (omega (arith, top_is c.edge (length hs) i, w.edges_left, below)))
+        (fits t (omega (arith, top_cases c.edge (length hs) i)) (omega (arith, top_cases c.edge (length hs) i, w.edges_left, below)))
         (fits s (omega arith) (omega (arith, w.faces_left, below)))
         (fits r (omega arith) (omega (arith, w.loops_left, below)))
 

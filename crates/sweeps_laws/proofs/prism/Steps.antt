@@ -1,12 +1,10 @@
 -- What mev at one corner and mef make of a sound model of which one loop is known.
-use Rattle.std.proofs.Common.{◌≡◌, ◌≢◌, ℕ, zero, suc, cond, List, [], ◌∷◌, ◌++◌, Some, None, is_some, IsTrue, refl, sym, ap, ◌∙◌, subst, arith}
-use Rattle.std.proofs.lemmas.Bool.{eq-eqb}
+use Rattle.std.proofs.Common.{◌≡◌, ◌≢◌, ℕ, List, [], ◌∷◌, ◌++◌, Some, None, is_some, IsTrue, refl, sym, ap, ◌∙◌, subst, arith}
 use Rattle.euler_operators.specs.declared.Point.{Point}
 use Rattle.euler_operators.specs.Points.{IsInRange}
 use Rattle.euler_operators.specs.declared.Corner.TheVariants.{At}
 use Rattle.euler_operators.specs.Items.{count, IsIn, IsApart}
 use Rattle.euler_operators.specs.Rings.{canonical, rotate_to, upto, onward, IsRotation}
-use Rattle.euler_operators.specs.Rings as rings
 use Rattle.euler_operators.specs.Edits.{insert_before}
 use Rattle.euler_operators.proofs.Lists.{count-append, tick_same, tick_other}
 use Rattle.euler_operators.proofs.Rotations.{canonical-rotates, count-canonical, rotate_to_same, rotate_at, rotate_to_head, canonical_same}
@@ -15,7 +13,7 @@ use Rattle.euler_operators.proofs.Edits.{count-insert_before}
 use Rattle.euler_operators.proofs.Operators.{apart_front}
 use Rattle.euler_operators.specs.HalfEdge.{edge_of, plus, minus, code, half}
 use Rattle.euler_operators.specs.Table as table
-use Rattle.euler_operators.specs.Model.{Model, EdgeRow, cycle, items_of, holds, tail, loop_of, content, face_of, solid_of, cycle_of, arc, round, is_number}
+use Rattle.euler_operators.specs.Model.{Model, EdgeRow, cycle, items_of, holds, tail, loop_of, content, face_of, solid_of, cycle_of, arc, is_number}
 use Rattle.euler_operators.specs.Sound.{Sound, HasHalf, StandsIn}
 use Rattle.euler_operators.proofs.Halves.{plus_row, minus_row, code-half, mate_plus, plus_other}
 use Rattle.euler_operators.proofs.Tables.{map_one, map_same, map-put, put-put}
@@ -23,24 +21,17 @@ use Rattle.euler_operators.proofs.Models.{content_row, face_row, in-holds, not_h
 use Rattle.euler_operators.specs.declared.Op.TheVariants.{Mev, Mef}
 use Rattle.euler_operators.specs.Conditions.{face_at, first_false}
 use Rattle.euler_operators.specs.Effect.{effect, mev_at, mef, with_before, with_tails, edge_row}
-use Rattle.euler_laws.proofs.shared.Rows.{where_held_none, where_held_there}
+use Rattle.euler_laws.proofs.shared.Rows.{where_held_none, where_held_there, edge_row_plus}
 use Rattle.euler_laws.proofs.shared.Undo.{both_in}
 use Rattle.euler_laws.proofs.mev.MevSound.{MevGoes}
 use Rattle.euler_laws.proofs.mev.Mev.{mev_accepted}
 use Rattle.euler_laws.proofs.mef.MefUndo.{loops-mef}
 use Rattle.euler_laws.proofs.mef.MefSound.{MefGoes}
 use Rattle.euler_laws.proofs.mef.Kef.{mef_accepted}
+use Rattle.sweeps_laws.proofs.lamina.Steps.{arc_none}
 
 pub edge_plus : (e : ℕ) → edge_of (plus e) ≡ e
 edge_plus e = (plus_row e).0
-
-pub row_plus : (e a b : ℕ) → edge_row (plus e) a b ≡ record { plus_tail = a; minus_tail = b }
-row_plus e a b = ap (λ t. cond t (record { plus_tail = a; minus_tail = b }) (record { plus_tail = b; minus_tail = a })) (plus_row e).1
-
--- an arc from a half-edge to itself is empty
-arc_none : (next : ℕ → ℕ) (g n : ℕ) → rings.arc next g g n ≡ []
-arc_none next g zero = refl
-arc_none next g (suc n) = rw (eq-eqb g g refl) refl
 
 -- a loop of a model, written from anywhere on
 pub record Around (M : Model) (l f : ℕ) (xs : List ℕ) : Type 0 where
@@ -136,13 +127,9 @@ module _ (M : Model) (l f : ℕ) (ps qs : List ℕ) (g u v : ℕ) (p : Point) (a
       (in-holds g (cycle (canonical (insert_before g (plus u) (canonical (ps ++ g ∷ qs))))) still_here)
       ∙ ap (λ xs. record { face = f; content = cycle xs }) items_are)
 
-  arc_is_none : arc M g g ≡ []
-  unfolding arc
-  arc_is_none = arc_none (round M) g _
-
   edges_are : table.put (table.map_rows (with_tails (arc M g g) v) M.edges) (edge_of (plus u)) (edge_row (plus u) (tail M g) v) ≡ table.put M.edges u (record { plus_tail = tail M g; minus_tail = v })
   edges_are =
-      (λ i. table.put (table.map_rows (with_tails (arc_is_none i) v) M.edges) (edge_plus u i) (row_plus u (tail M g) v i))
+      (λ i. table.put (table.map_rows (with_tails (arc_none M g i) v) M.edges) (edge_plus u i) (edge_row_plus u (tail M g) v i))
       ∙ ap (λ t. table.put t u (record { plus_tail = tail M g; minus_tail = v })) (map_same (with_tails [] v) M.edges (λ q x at. refl))
 
   pub mev_here : mev_at M g g (plus u) v p ≡ with_spur M l f (ps ++ plus u ∷ minus u ∷ g ∷ qs) u (record { plus_tail = tail M g; minus_tail = v }) v p
@@ -206,7 +193,7 @@ module _ (M : Model) (l f : ℕ) (g k : ℕ) (ps qs : List ℕ) (t s r : ℕ) (a
   mef_here = let at : face_at M g ≡ f = ap (face_of M) (loop_is M l f ((g ∷ ps) ++ k ∷ qs) a g first_in) ∙ face_is M l f ((g ∷ ps) ++ k ∷ qs) a in λ i. record M {
     faces = table.put M.faces s (record { solid = solid_of M (at i); outer = r });
     loops = chord_loops i;
-    edges = table.put M.edges (edge_plus t i) (row_plus t (tail M g) (tail M k) i);
+    edges = table.put M.edges (edge_plus t i) (edge_row_plus t (tail M g) (tail M k) i);
   }
 
   pub mef_does : effect M (Mef (half g) (half k) (half (plus t)) s r) ≡ with_chord M l f (plus t ∷ k ∷ qs) t (record { plus_tail = tail M g; minus_tail = tail M k }) s r ((g ∷ ps) ++ minus t ∷ [])

@@ -6,7 +6,7 @@ use Rattle.euler_operators.specs.Points.{IsInRange}
 use Rattle.euler_operators.specs.Vectors.{moved}
 use Rattle.euler_operators.specs.Items.{IsIn}
 use Rattle.euler_operators.proofs.Std.{IsIn-get_or}
-use Rattle.euler_operators.proofs.Tables.{get-put_other}
+use Rattle.euler_operators.proofs.Tables.{get-put_other, in_use_within}
 use Rattle.euler_operators.specs.declared.Corner.TheVariants.{At}
 use Rattle.euler_operators.specs.HalfEdge.{edge_of, half, plus}
 use Rattle.euler_operators.specs.Table as table
@@ -23,7 +23,7 @@ use Rattle.shapes.specs.Fresh.{Taken}
 use Rattle.shapes.specs.Prism.{riser, with_sides}
 use Rattle.sweeps_laws.specs.prism.Part.{prism_part}
 use Rattle.sweeps_laws.specs.prism.SweepOps.{raise_item, raise, close, close_last, rounds, loop_ops}
-use Rattle.sweeps_laws.proofs.prism.Sides.{Ready, riser_is, within, half_there, old_edge, sides_vertices, two_items}
+use Rattle.sweeps_laws.proofs.prism.Sides.{Ready, riser_is, half_there, old_edge, sides_vertices, two_items}
 use Rattle.sweeps_laws.proofs.prism.Rounds.{part_tail}
 use Rattle.sweeps_laws.proofs.prism.Loops.{rounds_go, loop_swept}
 
@@ -40,7 +40,7 @@ module _ (M : Model) (c : Taken) (f l : ℕ) (d : Point) (hs : List ℕ) (w : Re
   part_half : (i h : ℕ) → HasHalf M h → HasHalf (prism_part c f l d hs i M) h
   unfolding prism_part
   part_half i h there =
-      let b : edge_of h ≤ c.edge = within M.edges c.edge (edge_of h) w.edges_free there in
+      let b : edge_of h ≤ c.edge = in_use_within M.edges c.edge w.edges_free (edge_of h) there in
       ap is_some (get-put_other _ _ _ (edge_of h) (λ s. omega (arith, riser_is c.edge i)) ∙ old_edge M c f l d hs w i (edge_of h) there) ∙ there
 
   part_point : (i v : ℕ) → table.get M.vertices v ≢ None → point_of (prism_part c f l d hs i M) v ≡ point_of M v

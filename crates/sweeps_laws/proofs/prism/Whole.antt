@@ -17,7 +17,7 @@ use Rattle.euler_operators.specs.Sound.{Sound, HasHalf}
 use Rattle.euler_operators.proofs.Models.{content_row, face_row}
 use Rattle.euler_operators.proofs.Members.{IsIn_rest}
 use Rattle.euler_operators.proofs.Rotations.{IsIn_head}
-use Rattle.euler_operators.proofs.Tables.{get-put_other}
+use Rattle.euler_operators.proofs.Tables.{get-put_other, in_use_within}
 use Rattle.euler_operators.specs.declared.Op.{Op}
 use Rattle.euler_operators.specs.declared.Op.TheVariants.{Mev}
 use Rattle.euler_laws.specs.Laws.{AreAccepted, effects}
@@ -26,9 +26,10 @@ use Rattle.shapes.specs.Faces.{start, vertices_on, vertices_in}
 use Rattle.shapes.specs.Fresh.{Taken}
 use Rattle.shapes.specs.Prism.{riser, top_items, with_sides, lifted, raised, raised_over, prism_from}
 use Rattle.sweeps_laws.specs.prism.SweepOps.{close, close_last, rounds, loop_ops, taken_after, ops_from}
-use Rattle.sweeps_laws.proofs.prism.Sides.{Ready, riser_is, top_is, within, old_edge, old_start, sides_edges, sides_faces, sides_loops, sides_vertices, two_items}
+use Rattle.sweeps_laws.proofs.prism.Sides.{Ready, riser_is, old_edge, old_start, sides_edges, sides_faces, sides_loops, sides_vertices, two_items}
 use Rattle.sweeps_laws.proofs.prism.Rounds.{loop_within}
 use Rattle.sweeps_laws.proofs.prism.Loops.{loop_swept}
+use Rattle.sweeps_laws.proofs.swept.Numbers.{top_cases}
 
 -- N has grown out of M by sweeping some loops of face f along d; ls are the other ones
 pub record Going (M N : Model) (c : Taken) (f : ℕ) (d : Point) (ls : List ℕ) : Type 0 where
@@ -109,7 +110,7 @@ module _ (M N : Model) (c : Taken) (f l : ℕ) (d : Point) (ls : List ℕ) (g : 
 
   loop_after : (k : ℕ) → IsIn k ls → table.get N'.loops k ≡ table.get N.loops k
   loop_after k i =
-      let b : k ≤ c.loop = within N.loops c.loop k g.loops_free (ap is_some (g.rows k (IsIn_rest k l ls i))) in
+      let b : k ≤ c.loop = in_use_within N.loops c.loop g.loops_free k (ap is_some (g.rows k (IsIn_rest k l ls i))) in
       get-put_other _ l _ k (not_l k i) ∙ sides_loops N c f l d hs ready (length hs) k (λ j lt s. omega arith)
 
   next : Going M N' (taken_after c (length hs)) f d ls
@@ -117,7 +118,7 @@ module _ (M N : Model) (c : Taken) (f l : ℕ) (d : Point) (ls : List ℕ) (g : 
     sound = sound_after;
     faces_free = λ q a. sides_faces N c f l d hs ready (length hs) q (λ j lt s. omega arith) ∙ g.faces_free q (omega arith);
     loops_free = λ q a. get-put_other _ l _ q (λ s. omega (arith, loop_within N c f l d hs ready)) ∙ sides_loops N c f l d hs ready (length hs) q (λ j lt s. omega arith) ∙ g.loops_free q (omega arith);
-    edges_free = λ q a. sides_edges N c f l d hs ready (length hs) q (λ j lt. ((λ s. omega (arith, riser_is c.edge j)), (λ s. omega (arith, top_is c.edge (length hs) j)))) ∙ g.edges_free q (omega arith);
+    edges_free = λ q a. sides_edges N c f l d hs ready (length hs) q (λ j lt. ((λ s. omega (arith, riser_is c.edge j)), (λ s. omega (arith, top_cases c.edge (length hs) j)))) ∙ g.edges_free q (omega arith);
     vertices_free = λ q a. sides_vertices N c f l d hs ready (length hs) q (λ j lt s. omega arith) ∙ g.vertices_free q (omega arith);
     faces_left = omega (arith, g.faces_left, corners_are);
     loops_left = omega (arith, g.loops_left, corners_are);
