@@ -9,7 +9,7 @@ use Rattle.euler_operators.specs.Table.{Table}
 use Rattle.euler_operators.specs.Model.{Model, lone, cycle, FaceRow, LoopRow, no_face, no_loop, holds, tail, loop_of, content, cycle_of, face_of, solid_of, outer, after, is_number}
 use Rattle.euler_operators.specs.Sound.{Sound, Has, HasHalf}
 use Rattle.euler_operators.proofs.Models.{row_of, content_cycle, never_lone}
-use Rattle.euler_operators.proofs.Tables.{get-put_here, get-put_other}
+use Rattle.euler_operators.proofs.Tables.{get-put_here, get-put_other, row_elsewhere}
 use Rattle.euler_operators.specs.Effect.{mvfs}
 use Rattle.euler_laws.proofs.shared.Fans.{half_mate}
 use Rattle.euler_laws.proofs.shared.Loops.{IsLoop, loop_sound, Walks, stands-walks, one_loop-walks, cycles-walks, ends_meet-walks, one_fan-walks, one_vertex}
@@ -32,11 +32,8 @@ pub record MvfsGoes (M : Model) (s f l v : ℕ) (p : Point) : Type 0 where
 -- ---- a table with one more row
 
 module _ {X : Type 0} (t : Table X) (n : ℕ) (x : X) (is_free : table.get t n ≡ None) where
-  pub not_added : (q : ℕ) → Has t q → q ≢ n
-  not_added q there e = true≢false (sym there ∙ ap is_some (ap (table.get t) e ∙ is_free))
-
   pub added_on : (q : ℕ) → Has t q → Has (table.put t n x) q
-  added_on q there = ap is_some (get-put_other t n x q (not_added q there)) ∙ there
+  added_on q there = ap is_some (get-put_other t n x q (row_elsewhere t q n there is_free)) ∙ there
 
   pub added_back : (q : ℕ) → q ≢ n → Has (table.put t n x) q → Has t q
   added_back q a there = ap is_some (sym (get-put_other t n x q a)) ∙ there
@@ -93,16 +90,16 @@ module _ (M : Model) (s f l v : ℕ) (p : Point) (goes : MvfsGoes M s f l v p) w
 
   -- what is in the old tables, and what in the new ones
   pub not_f : (q : ℕ) → Has M.faces q → q ≢ f
-  not_f = not_added M.faces f face_row goes.face_free
+  not_f = λ q there. row_elsewhere M.faces q f there goes.face_free
 
   pub not_l : (q : ℕ) → Has M.loops q → q ≢ l
-  not_l = not_added M.loops l loop_row goes.loop_free
+  not_l = λ q there. row_elsewhere M.loops q l there goes.loop_free
 
   pub not_v : (q : ℕ) → Has M.vertices q → q ≢ v
-  not_v = not_added M.vertices v p goes.vertex_free
+  not_v = λ q there. row_elsewhere M.vertices q v there goes.vertex_free
 
   pub not_s : (q : ℕ) → Has M.solids q → q ≢ s
-  not_s = not_added M.solids s tt goes.solid_free
+  not_s = λ q there. row_elsewhere M.solids q s there goes.solid_free
 
   pub face_on : (q : ℕ) → Has M.faces q → Has N.faces q
   face_on q t = ap is_some (face_other q (not_f q t)) ∙ t

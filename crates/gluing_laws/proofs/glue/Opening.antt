@@ -21,6 +21,7 @@ use Rattle.euler_operators.specs.Sound.{Sound, Has, HasHalf}
 use Rattle.euler_operators.proofs.Halves.{code-half, plus_row, minus_row, edge_of-mate, mate_plus}
 use Rattle.euler_operators.proofs.Tables.{map-put, map_same, map_one, remove-put}
 use Rattle.euler_operators.proofs.Models.{content_row, face_row, tail_row, in-holds, holds-none, not_held}
+use Rattle.euler_operators.proofs.Members.{same_head}
 use Rattle.euler_operators.specs.declared.Op.TheVariants.{Kev, Mekr, Kfmrh, Merge}
 use Rattle.euler_operators.specs.Conditions.{first_false}
 use Rattle.euler_operators.specs.Effect.{effect, merge, kfmrh, mekr, kev, faces_to_solid, loop_to_face, moved_tail, edge_row}
@@ -56,9 +57,6 @@ solid_in row = row.solid
 
 abbrev outer_in : FaceRow → ℕ
 outer_in row = row.outer
-
-first_item : {a b : ℕ} {xs ys : List ℕ} → a ∷ xs ≡ b ∷ ys → b ≡ a
-first_item e = cc
 
 module _ (M : Model) (f g : ℕ) (partner_of : ℕ → ℕ) (h : ℕ) (mid : List ℕ) (last x : ℕ) (w : Facing M f g partner_of (h ∷ (mid ++ last ∷ [])) x) where
   abbrev hs : List ℕ
@@ -196,11 +194,11 @@ module _ (M : Model) (f g : ℕ) (partner_of : ℕ → ℕ) (h : ℕ) (mid : Lis
 
   first_corner : CornerAt A (At (half h)) l (tail M h) hs
   first_corner = corner_here A sound_A hs l (tail M h) (content_row A l _ around_l.at) (ap is_some around_l.at) (apart_xs A l f hs around_l)
-      (λ y i. (loop_is A l f hs around_l y i, half_is A l f hs around_l y i)) (λ y ys e. tail_A y ∙ ap (tail M) (first_item e))
+      (λ y i. (loop_is A l f hs around_l y i, half_is A l f hs around_l y i)) (λ y ys e. tail_A y ∙ ap (tail M) (same_head _ _ _ _ e))
 
   second_corner : CornerAt A (At (half k)) r (tail M k) (k ∷ back)
   second_corner = corner_here A sound_A (k ∷ back) r (tail M k) (content_row A r _ around_r.at) (ap is_some around_r.at) (apart_xs A r f (k ∷ back) around_r)
-      (λ y i. (loop_is A r f (k ∷ back) around_r y i, half_is A r f (k ∷ back) around_r y i)) (λ y ys e. tail_A y ∙ ap (tail M) (first_item e))
+      (λ y i. (loop_is A r f (k ∷ back) around_r y i, half_is A r f (k ∷ back) around_r y i)) (λ y ys e. tail_A y ∙ ap (tail M) (same_head _ _ _ _ e))
 
   face_A : table.get A.faces f ≡ table.get M1.faces f
   face_A = removed (facing.faces_apart M f g partner_of hs x w) where

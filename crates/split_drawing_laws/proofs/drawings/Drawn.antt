@@ -1,5 +1,5 @@
 -- What is drawn in a face is what the operators make, and none of them is refused.
-use Rattle.std.proofs.Common.{◌≡◌, ◌≢◌, ℕ, List, ◌∷◌, None, is_some, IsTrue, refl, sym, ap, ◌∙◌, subst, arith}
+use Rattle.std.proofs.Common.{◌≡◌, ◌≢◌, ℕ, List, ◌∷◌, Some, None, is_some, IsTrue, refl, sym, ap, ◌∙◌, subst, arith}
 use Rattle.std.proofs.lemmas.Bool.Decides.{nat_tests}
 use Rattle.euler_operators.specs.Rings.{rotate_to}
 use Rattle.euler_operators.specs.Operators.{mef_old, mef_new, mekr_ring}
@@ -15,6 +15,7 @@ use Rattle.euler_operators.proofs.Models.{row_of}
 use Rattle.euler_operators.specs.Conditions.{first_false, face_at}
 use Rattle.euler_operators.specs.Effect.{effect, mef, mekr, ring_in}
 use Rattle.euler_operators.specs.declared.Op.TheVariants.{RingIn}
+use Rattle.euler_operators.proofs.Tables.{get-put_here, get-put_other}
 use Rattle.euler_laws.proofs.shared.Rows.{of_half, edge_row_plus}
 use Rattle.euler_laws.proofs.mef.MefUndo.{loops-mef}
 use Rattle.euler_laws.proofs.mef.MefSound.{MefGoes}
@@ -23,6 +24,21 @@ use Rattle.euler_laws.proofs.kemr.Kemr.{CornerAt, MekrGoes, mekr_accepted}
 use Rattle.euler_laws.proofs.Cases.{effect_keeps_sound}
 use Rattle.shapes.specs.split.Drawing.{face_drawn, loops_joined, with_rings}
 use Rattle.split_drawing_laws.specs.drawings.DrawingOps.{draw_edge, join_edge}
+
+-- ---- the faces where an edge is drawn or two loops are joined
+
+module _ (M : Model) (u k e f l : ℕ) where
+  pub face_drawn_new : table.get (face_drawn M u k e f l).faces f ≡ Some (record { solid = solid_of M (face_at M u); outer = l })
+  unfolding face_drawn
+  face_drawn_new = get-put_here M.faces f _
+
+  pub face_drawn_else : (q : ℕ) → q ≢ f → table.get (face_drawn M u k e f l).faces q ≡ table.get M.faces q
+  unfolding face_drawn
+  face_drawn_else q a = get-put_other M.faces f _ q a
+
+pub loops_joined_faces : (M : Model) (c d e : ℕ) → (loops_joined M c d e).faces ≡ M.faces
+unfolding loops_joined
+loops_joined_faces M c d e = refl
 
 -- ---- an edge drawn between two half-edges of a loop
 

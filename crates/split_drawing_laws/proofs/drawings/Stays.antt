@@ -21,7 +21,7 @@ use Rattle.euler_laws.proofs.mef.MefUndo.{count-mef_old, count-mef_new}
 use Rattle.shapes.proofs.fresh.Rows.{get-put_here, get-put_other}
 use Rattle.shapes.specs.split.Drawing.{face_drawn, loops_joined}
 use Rattle.split_drawing_laws.specs.drawings.DrawnIn.{Stays}
-use Rattle.split_drawing_laws.proofs.drawings.Drawn.{CanDraw, draw_sound, CanJoin, join_sound}
+use Rattle.split_drawing_laws.proofs.drawings.Drawn.{CanDraw, draw_sound, CanJoin, join_sound, face_drawn_new, face_drawn_else, loops_joined_faces}
 
 -- a half-edge stands where the content says so
 pub stands_at : (N : Model) → Sound N → (x q : ℕ) (xs : List ℕ) → content N q ≡ cycle xs → IsIn x xs → loop_of N x ≡ q
@@ -79,14 +79,6 @@ module _ (M : Model) (u k e f l : ℕ) (can : CanDraw M u k e f l) where
   unfolding face_drawn
   row_else q a b = get-put_other _ l _ q b ∙ get-put_other M.loops (loop_of M u) _ q a
 
-  face_new : table.get (face_drawn M u k e f l).faces f ≡ Some (record { solid = solid_of M (face_at M u); outer = l })
-  unfolding face_drawn
-  face_new = get-put_here M.faces f _
-
-  face_else : (q : ℕ) → q ≢ f → table.get (face_drawn M u k e f l).faces q ≡ table.get M.faces q
-  unfolding face_drawn
-  face_else q a = get-put_other M.faces f _ q a
-
   pub edges_are : (face_drawn M u k e f l).edges ≡ table.put M.edges e (record { plus_tail = tail M u; minus_tail = tail M k })
   unfolding face_drawn
   edges_are = refl
@@ -100,7 +92,7 @@ module _ (M : Model) (u k e f l : ℕ) (can : CanDraw M u k e f l) where
     halves = half_stays M N e (tail M u) (tail M k) edges_are can.edge_free;
     tails = tail_stays M N e (tail M u) (tail M k) edges_are can.edge_free;
     vertices = vertices_are;
-    faces = λ g there. ap is_some (face_else g (row_elsewhere M.faces g f there can.face_free)) ∙ there;
+    faces = λ g there. ap is_some (face_drawn_else M u k e f l g (row_elsewhere M.faces g f there can.face_free)) ∙ there;
   }
 
   pub draw_tails : (tail (face_drawn M u k e f l) (plus e) ≡ tail M u) × (tail (face_drawn M u k e f l) (minus e) ≡ tail M k)
@@ -128,18 +120,18 @@ module _ (M : Model) (u k e f l : ℕ) (can : CanDraw M u k e f l) where
   -- the new face is of the same solid
   pub draw_solid : solid_of (face_drawn M u k e f l) f ≡ solid_of (face_drawn M u k e f l) (face_at M u)
   unfolding solid_of
-  draw_solid = ap (λ o. (unwrap_or o no_face).solid) face_new
-      ∙ sym (ap (λ o. (unwrap_or o no_face).solid) (face_else (face_at M u) (row_elsewhere M.faces (face_at M u) f (half_face M can.sound u can.u_there) can.face_free)))
+  draw_solid = ap (λ o. (unwrap_or o no_face).solid) (face_drawn_new M u k e f l)
+      ∙ sym (ap (λ o. (unwrap_or o no_face).solid) (face_drawn_else M u k e f l (face_at M u) (row_elsewhere M.faces (face_at M u) f (half_face M can.sound u can.u_there) can.face_free)))
 
   pub draw_has : Has (face_drawn M u k e f l).faces f
-  draw_has = ap is_some face_new
+  draw_has = ap is_some (face_drawn_new M u k e f l)
 
   -- higher numbers stay free
   pub draw_free : (q : ℕ) → (f < q → table.get M.faces q ≡ None → table.get (face_drawn M u k e f l).faces q ≡ None)
       × (l < q → table.get M.loops q ≡ None → table.get (face_drawn M u k e f l).loops q ≡ None)
       × (e < q → table.get M.edges q ≡ None → table.get (face_drawn M u k e f l).edges q ≡ None)
   draw_free q = (
-    (λ above none. face_else q (λ s. past f q above s) ∙ none),
+    (λ above none. face_drawn_else M u k e f l q (λ s. past f q above s) ∙ none),
     (λ above none. row_else q (λ s. row_elsewhere M.loops (loop_of M u) q (loop_there M can.sound u can.u_there) none (sym s)) (λ s. past l q above s) ∙ none),
     (λ above none. ap (λ t. table.get t q) edges_are ∙ get-put_other M.edges e _ q (λ s. past e q above s) ∙ none),
   ) where
@@ -182,16 +174,12 @@ module _ (M : Model) (c d e : ℕ) (can : CanJoin M c d e) where
   unfolding loops_joined
   joined_vertices = refl
 
-  joined_faces : (loops_joined M c d e).faces ≡ M.faces
-  unfolding loops_joined
-  joined_faces = refl
-
   pub join_stays : Stays M (loops_joined M c d e)
   join_stays = record {
     halves = half_stays M J e (tail M c) (tail M d) joined_edges can.edge_free;
     tails = tail_stays M J e (tail M c) (tail M d) joined_edges can.edge_free;
     vertices = joined_vertices;
-    faces = λ g there. subst (λ t. Has t g) (sym joined_faces) there;
+    faces = λ g there. subst (λ t. Has t g) (sym (loops_joined_faces M c d e)) there;
   }
 
   pub join_tails : (tail (loops_joined M c d e) (plus e) ≡ tail M c) × (tail (loops_joined M c d e) (minus e) ≡ tail M d)
@@ -224,7 +212,7 @@ module _ (M : Model) (c d e : ℕ) (can : CanJoin M c d e) where
       × (table.get M.loops q ≡ None → table.get (loops_joined M c d e).loops q ≡ None)
       × (e < q → table.get M.edges q ≡ None → table.get (loops_joined M c d e).edges q ≡ None)
   join_free q = (
-    (λ none. ap (λ t. table.get t q) joined_faces ∙ none),
+    (λ none. ap (λ t. table.get t q) (loops_joined_faces M c d e) ∙ none),
     row_free q,
     (λ above none. ap (λ t. table.get t q) joined_edges ∙ get-put_other M.edges e _ q (λ s. past e q above s) ∙ none),
   ) where

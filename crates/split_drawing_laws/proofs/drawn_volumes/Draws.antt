@@ -22,7 +22,7 @@ use Rattle.shapes.proofs.Areas.{area-append}
 use Rattle.solid_measure_laws.proofs.Sums.{area_same}
 use Rattle.shapes.specs.split.Drawing.{face_drawn}
 use Rattle.split_drawing_laws.specs.drawings.DrawnIn.{Stays}
-use Rattle.split_drawing_laws.proofs.drawings.Drawn.{CanDraw, draw_sound}
+use Rattle.split_drawing_laws.proofs.drawings.Drawn.{CanDraw, draw_sound, face_drawn_new, face_drawn_else}
 use Rattle.split_drawing_laws.proofs.drawings.Stays.{stands_at, row_old, row_new, row_else, edges_are, draw_stays, draw_tails, draw_beside, draw_within}
 use Rattle.split_drawing_laws.proofs.drawn_volumes.Bounds.{OnFace, anchor_still, lone_there, bound_halves, bound_one, bound_none, point_still, start_still, area_still}
 use Rattle.split_drawing_laws.proofs.drawn_volumes.Edges.{half_there, plus_there, minus_there, half_cases, two_halves, no_area, normal_is}
@@ -41,12 +41,10 @@ module _ (N : Model) (u k e g l : ℕ) (can : CanDraw N u k e g l) where
   stays = draw_stays N u k e g l can
 
   pub face_else : (h : ℕ) → h ≢ g → table.get (face_drawn N u k e g l).faces h ≡ table.get N.faces h
-  unfolding face_drawn
-  face_else h ne = get-put_other N.faces g _ h ne
+  face_else = face_drawn_else N u k e g l
 
   pub face_new : table.get (face_drawn N u k e g l).faces g ≡ Some (record { solid = solid_of N (face_at N u); outer = l })
-  unfolding face_drawn
-  face_new = get-put_here N.faces g _
+  face_new = face_drawn_new N u k e g l
 
   pub solid_new : solid_of (face_drawn N u k e g l) g ≡ solid_of N (face_at N u)
   unfolding solid_of

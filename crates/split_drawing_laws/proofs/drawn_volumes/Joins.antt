@@ -19,7 +19,7 @@ use Rattle.shapes.specs.Measure.{area, normal, anchor}
 use Rattle.solid_measure_laws.proofs.Sums.{area_same}
 use Rattle.shapes.specs.split.Drawing.{loops_joined}
 use Rattle.split_drawing_laws.specs.drawings.DrawnIn.{Stays}
-use Rattle.split_drawing_laws.proofs.drawings.Drawn.{CanJoin, join_sound}
+use Rattle.split_drawing_laws.proofs.drawings.Drawn.{CanJoin, join_sound, loops_joined_faces}
 use Rattle.split_drawing_laws.proofs.drawings.Stays.{stands_at, row_joined, row_other, row_gone, joined_edges, join_stays, join_tails, join_faces}
 use Rattle.split_drawing_laws.proofs.drawn_volumes.Bounds.{OnFace, anchor_still, lone_there, bound_halves, bound_one, bound_none, point_still, start_still, area_still}
 use Rattle.split_drawing_laws.proofs.drawn_volumes.Edges.{half_there, plus_there, minus_there, half_cases, two_in, no_area, normal_is}
@@ -38,8 +38,7 @@ module _ (N : Model) (c d e : ℕ) (can : CanJoin N c d e) where
   stays = join_stays N c d e can
 
   pub faces_joined : (loops_joined N c d e).faces ≡ N.faces
-  unfolding loops_joined
-  faces_joined = refl
+  faces_joined = loops_joined_faces N c d e
 
   at_joined : (h : ℕ) → count h (plus e ∷ minus e ∷ []) ≡ 1 → face_at K h ≡ F
   at_joined h one = ap (face_of K) (stands_at K J_sound h (loop_of N c) _ (content_row K (loop_of N c) _ (row_joined N c d e can))

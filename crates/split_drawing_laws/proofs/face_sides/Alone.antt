@@ -15,9 +15,9 @@ use Rattle.euler_operators.proofs.Tables.{row_elsewhere}
 use Rattle.euler_operators.specs.Conditions.{face_at}
 use Rattle.shapes.specs.split.Drawing.{face_drawn}
 use Rattle.split_drawing_laws.specs.drawings.DrawnIn.{Stays}
-use Rattle.split_drawing_laws.proofs.drawings.Drawn.{CanDraw, draw_sound}
+use Rattle.split_drawing_laws.proofs.drawings.Drawn.{CanDraw, draw_sound, face_drawn_new, face_drawn_else}
 use Rattle.split_drawing_laws.proofs.drawings.Stays.{stands_at, row_old, row_new, row_else, draw_beside}
-use Rattle.split_drawing_laws.proofs.face_sides.Beside.{ComesOf, face_new, face_else, old_loop_face, new_loop_face}
+use Rattle.split_drawing_laws.proofs.face_sides.Beside.{ComesOf, old_loop_face, new_loop_face}
 use Rattle.euler_laws.proofs.shared.Fans.{half_face}
 
 -- loop q of N holds a half-edge of B
@@ -60,12 +60,12 @@ module _ (N : Model) (u k e g l : ℕ) (can : CanDraw N u k e g l) where
 
   -- a face of N keeps its outer loop
   pub outer_kept : (h : ℕ) → Has N.faces h → outer (face_drawn N u k e g l) h ≡ outer N h
-  outer_kept h there = same_outer N K h (face_else N u k e g l can h (row_elsewhere N.faces h g there can.face_free))
+  outer_kept h there = same_outer N K h (face_drawn_else N u k e g l h (row_elsewhere N.faces h g there can.face_free))
 
   module _ (B M : Model) (f : ℕ) (stays : Stays B N) (u_old : HasHalf B u) (k_old : HasHalf B k) (drawn : ComesOf M f (face_at N u)) (a : Alone B M N f) where
     at_new : Lone B K l
     at_new = record {
-      outer_is = ap (outer K) (new_loop_face N u k e g l can) ∙ outer_row K g _ (face_new N u k e g l can);
+      outer_is = ap (outer K) (new_loop_face N u k e g l can) ∙ outer_row K g _ (face_drawn_new N u k e g l);
       held = record { half = u; old = u_old; at = u_goes };
     }
 

@@ -5,14 +5,13 @@ use Rattle.std.specs.Option.{option_map}
 use Rattle.std.proofs.lemmas.Bool.Decides.{nat_tests, eqb_tells}
 use Rattle.euler_operators.specs.Table as table
 use Rattle.euler_operators.specs.Table.{Table, get-map_rows}
-use Rattle.euler_operators.specs.Model.{Model, LoopRow, no_loop, loop_of, face_of, solid_of, outer, content}
+use Rattle.euler_operators.specs.Model.{Model, LoopRow, no_loop, loop_of, face_of, content}
 use Rattle.euler_operators.specs.Sound.{Has}
 use Rattle.euler_operators.proofs.Models.{face_row, same_face}
 use Rattle.euler_operators.specs.Conditions.{face_at, lists}
 use Rattle.euler_operators.specs.Effect.{loop_to_face}
-use Rattle.shapes.proofs.fresh.Rows.{get-put_here, get-put_other}
 use Rattle.shapes.specs.split.Drawing.{face_drawn, loops_joined, with_rings}
-use Rattle.split_drawing_laws.proofs.drawings.Drawn.{CanDraw, CanJoin}
+use Rattle.split_drawing_laws.proofs.drawings.Drawn.{CanDraw, CanJoin, face_drawn_else, loops_joined_faces}
 use Rattle.split_drawing_laws.proofs.drawings.Stays.{row_old, row_new, row_else, row_joined, row_gone, row_other}
 use Rattle.euler_laws.proofs.shared.Rows.{content_either}
 
@@ -37,13 +36,9 @@ module _ (M N : Model) (f c d e : ℕ) (can : CanJoin N c d e) (at : face_at N c
   abbrev J : Model
   J = loops_joined N c d e
 
-  pub faces_joined : (loops_joined N c d e).faces ≡ N.faces
-  unfolding loops_joined
-  faces_joined = refl
-
   pub joined_beside : Beside M (loops_joined N c d e) f
   joined_beside = record {
-    faces = λ g there. ap (λ t. table.get t g) faces_joined ∙ w.faces g there;
+    faces = λ g there. ap (λ t. table.get t g) (loops_joined_faces N c d e) ∙ w.faces g there;
     loops = λ q there ne old. elim (eqb_tells q (loop_of N c)) [
       | inl a ↦ absurd (ne (ap (face_of J) a.1 ∙ face_row J (loop_of N c) _ (row_joined N c d e can) ∙ at))
       | inr a ↦ elim (eqb_tells q (loop_of N d)) [
@@ -62,14 +57,6 @@ module _ (N : Model) (u k e g l : ℕ) (can : CanDraw N u k e g l) where
   abbrev K : Model
   K = face_drawn N u k e g l
 
-  pub face_new : table.get (face_drawn N u k e g l).faces g ≡ Some (record { solid = solid_of N (face_at N u); outer = l })
-  unfolding face_drawn
-  face_new = get-put_here N.faces g _
-
-  pub face_else : (h : ℕ) → h ≢ g → table.get (face_drawn N u k e g l).faces h ≡ table.get N.faces h
-  unfolding face_drawn
-  face_else h ne = get-put_other N.faces g _ h ne
-
   pub old_loop_face : face_of (face_drawn N u k e g l) (loop_of N u) ≡ face_at N u
   old_loop_face = face_row K (loop_of N u) _ (row_old N u k e g l can)
 
@@ -85,7 +72,7 @@ module _ (N : Model) (u k e g l : ℕ) (can : CanDraw N u k e g l) where
 
     pub drawn_beside : Beside M (face_drawn N u k e g l) f
     drawn_beside = record {
-      faces = λ h there. face_else h (λ s. never_free M.faces h there (ap (table.get M.faces) s ∙ new)) ∙ w.faces h there;
+      faces = λ h there. face_drawn_else N u k e g l h (λ s. never_free M.faces h there (ap (table.get M.faces) s ∙ new)) ∙ w.faces h there;
       loops = λ q there ne old. elim (eqb_tells q (loop_of N u)) [
         | inl a ↦ absurd (not_drawn (face_of K q) ne old (sym (ap (face_of K) a.1 ∙ old_loop_face)))
         | inr a ↦ elim (eqb_tells q l) [

@@ -13,7 +13,7 @@ use Rattle.shapes.specs.Faces.{vertices_on}
 use Rattle.shapes.specs.split.Sides.{some_above}
 use Rattle.shapes.specs.split.Drawing.{Drawing, face_drawn, stuck_at, all_joined, ring_free, all_drawn, rings_above, with_rings, rings_shared, drawn_between}
 use Rattle.split_drawing_laws.specs.drawings.DrawnIn.{Stays}
-use Rattle.split_drawing_laws.proofs.drawings.Drawn.{CanDraw}
+use Rattle.split_drawing_laws.proofs.drawings.Drawn.{CanDraw, face_drawn_else}
 use Rattle.split_drawing_laws.specs.drawings.Passing.{Ready}
 use Rattle.split_drawing_laws.proofs.drawings.Faces.{face_goes, begun_joining, joins, going}
 use Rattle.split_drawing_laws.proofs.drawings.Pairs.{none_joined, joined_drawn, pair_can, stays_on}
@@ -23,7 +23,7 @@ use Rattle.split_drawing_laws.specs.drawings.DrawnIn.{Room}
 use Rattle.split_drawing_laws.proofs.loop_sides.SidesWhole.{draws_stuck}
 use Rattle.split_drawing_laws.proofs.half_sides.PlaceEnds.{AllUp}
 use Rattle.split_drawing_laws.proofs.face_sides.Alone.{Lone, Alone}
-use Rattle.split_drawing_laws.proofs.face_sides.Beside.{Beside, ComesOf, nothing_beside, drawn_beside, never_free, face_else, given_has, given_else, given_face}
+use Rattle.split_drawing_laws.proofs.face_sides.Beside.{Beside, ComesOf, nothing_beside, drawn_beside, never_free, given_has, given_else, given_face}
 use Rattle.split_drawing_laws.proofs.face_sides.Passing.{AllOld, Joined, joins_beside, Parting, draws_part}
 use Rattle.split_drawing_laws.proofs.face_sides.Same.{above_stays}
 use Rattle.split_drawing_laws.proofs.face_sides.Shared.{HeldOn, LiesOnSide, Cut, old_lies, new_lies}
@@ -155,7 +155,7 @@ module _ (B : Model) (side : ℕ → Bool) (p : Plane) (f : ℕ) (q : ℕ × ℕ
     | inl a ↦ (false, subst (λ z. LiesOnSide B W side z false) (sym a) (old_lies B X side p f q.0 q.1 e g l cut K_stays W_sound))
     | inr none ↦ elim (eqb_tells h g) [
       | inl a ↦ (true, subst (λ z. LiesOnSide B W side z true) (sym a.1) (new_lies B X side p f q.0 q.1 e g l cut K_stays W_sound))
-      | inr a ↦ absurd (never_free K.faces h there (face_else X q.0 q.1 e g l can h a.1 ∙ none))
+      | inr a ↦ absurd (never_free K.faces h there (face_drawn_else X q.0 q.1 e g l h a.1 ∙ none))
     ]
   ]
 

@@ -12,8 +12,9 @@ use Rattle.split_drawing_laws.specs.drawings.Passing.{Joining, Going}
 use Rattle.split_drawing_laws.proofs.drawings.Pairs.{stays_on, can_back, can_on, pair_can, was_free}
 use Rattle.split_drawing_laws.proofs.drawings.Passes.{join_one, join_next_one, join_next_two, draw_one, draw_next_one, draw_next_two, cut_off, edge_free, edge_fits_now, edge_open, face_open, loop_open, room_here, edge_fits, face_fits, loop_fits}
 use Rattle.split_drawing_laws.proofs.drawings.Stays.{draw_stays}
+use Rattle.split_drawing_laws.proofs.drawings.Drawn.{loops_joined_faces}
 use Rattle.split_drawing_laws.proofs.face_sides.Alone.{Alone, draw_alone}
-use Rattle.split_drawing_laws.proofs.face_sides.Beside.{Beside, ComesOf, faces_joined, joined_beside, drawn_beside}
+use Rattle.split_drawing_laws.proofs.face_sides.Beside.{Beside, ComesOf, joined_beside, drawn_beside}
 
 -- the half-edges of pairs are in B
 abbrev pub AllOld : Model → List (ℕ × ℕ) → Type 0
@@ -41,11 +42,11 @@ module _ (B M : Model) (f : ℕ) where
     go true r =
         let can = can_back M N f q e joined fits two none efits r in
         let at : face_at N q.1 ≡ f = joined.faces q.1 fits.k_there ∙ fits.k_face in
-        (joined_beside M N f q.1 q.0 e can at w, faces_joined M N f q.1 q.0 e can at w ∙ same)
+        (joined_beside M N f q.1 q.0 e can at w, loops_joined_faces N q.1 q.0 e ∙ same)
     go false r =
         let can = can_on M N f q e joined fits two none efits r in
         let at : face_at N q.0 ≡ f = joined.faces q.0 fits.u_there ∙ fits.u_face in
-        (joined_beside M N f q.0 q.1 e can at w, faces_joined M N f q.0 q.1 e can at w ∙ same)
+        (joined_beside M N f q.0 q.1 e can at w, loops_joined_faces N q.0 q.1 e ∙ same)
 
   join_step : (d : Drawing) (q : ℕ × ℕ) (qs : List (ℕ × ℕ)) (n : ℕ) → Fits M f q → HasHalf B q.0 × HasHalf B q.1 → Joining M f d (q ∷ qs) n → Joined d → Joined (join_next d q)
   join_step d q qs n fits in_b w a = go (in_one_loop d.model q) refl where

@@ -12,22 +12,13 @@ use Rattle.shapes.specs.split.Drawing.{Drawing}
 use Rattle.shapes.specs.split.Sides.{faces_above}
 use Rattle.shapes.specs.split.Section.{below_halves, section_ends, least_branched, section_cycles, has_stray_hole}
 use Rattle.shapes.specs.split.Split.{section_conditions, later_conditions}
+use Rattle.split_checks.proofs.begin_checks_laws.Stages.{found_number}
 
 pub found_none : (n : ℕ) → None ≡ found n → n ≡ 0
 found_none n e = go (nat_eq n 0) refl e where
   go : (b : Bool) → nat_eq n 0 ≡ b → None ≡ cond b None (Some n) → n ≡ 0
   go true t e = equal n 0 t
   go false t e = absurd (true≢false (sym (ap is_some e)))
-
-found_some : (n v : ℕ) → Some v ≡ found n → (nat_eq n 0 ≡ false) × (n ≡ v)
-found_some n v e = go (nat_eq n 0) refl e where
-  value : Option ℕ → ℕ
-  value None = 0
-  value (Some k) = k
-
-  go : (b : Bool) → nat_eq n 0 ≡ b → Some v ≡ cond b None (Some n) → (nat_eq n 0 ≡ false) × (n ≡ v)
-  go true t e = absurd (true≢false (ap is_some e))
-  go false t e = (t, sym (ap value e))
 
 module _ (M : Model) (s : ℕ) (p : Plane) (c : Taken) (bs : List ℕ) where
   abbrev numbers : Option Refusal
@@ -42,7 +33,7 @@ module _ (M : Model) (s : ℕ) (p : Plane) (c : Taken) (bs : List ℕ) where
 
   pub branched : (v : ℕ) → Some v ≡ found (least_branched M (section_ends M bs)) → first_refusal (section_conditions M s p c bs) ≡ Some (record { why = BranchedVertex; number = v })
   branched v e =
-      let r = found_some (least_branched M (section_ends M bs)) v e in
+      let r = found_number (least_branched M (section_ends M bs)) v e in
       whole ∙ ap (λ b. cond b cycles (Some (record { why = BranchedVertex; number = least_branched M (section_ends M bs) }))) r.0 ∙ ap (λ n. Some (record { why = BranchedVertex; number = n })) r.1
 
   module _ (none : least_branched M (section_ends M bs) ≡ 0) where

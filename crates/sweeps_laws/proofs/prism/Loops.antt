@@ -75,7 +75,7 @@ module _ (M : Model) (c : Taken) (f l : ℕ) (d : Point) (hs : List ℕ) (w : Re
   around_first : Around M l f ([] ++ first_item ∷ more_items)
   around_first = record { sound = w.sound; at = w.at ∙ ap (λ xs. Some (record { face = f; content = cycle xs })) (sym (from_least M c f l d hs w) ∙ ap canonical items_are) }
 
-  first_accepted : first_false M (raise M c d hs 0) ≡ None
+  pub first_accepted : first_false M (raise M c d hs 0) ≡ None
   first_accepted = mev_fits M l f [] more_items first_item (riser c.edge 0) (c.vertex + 1 + 0) (moved (start M first_item) d) around_first
       (w.edges_free (riser c.edge 0) (omega arith)) (w.vertices_free (c.vertex + 1 + 0) (omega arith))
       (fits (riser c.edge 0) (omega arith) (omega (arith, w.edges_left, some_items))) (fits (c.vertex + 1 + 0) (omega arith) (omega (arith, w.vertices_left, some_items)))

@@ -23,7 +23,7 @@ use Rattle.shapes.specs.Fresh.{Taken}
 use Rattle.shapes.specs.Prism.{riser, with_sides}
 use Rattle.sweeps_laws.specs.prism.Part.{prism_part}
 use Rattle.sweeps_laws.specs.prism.SweepOps.{raise_item, raise, close, close_last, rounds, loop_ops}
-use Rattle.sweeps_laws.proofs.prism.Sides.{Ready, riser_is, half_there, old_edge, sides_vertices, two_items}
+use Rattle.sweeps_laws.proofs.prism.Sides.{Ready, riser_is, half_there, old_edge, sides_vertices}
 use Rattle.sweeps_laws.proofs.prism.Rounds.{part_tail}
 use Rattle.sweeps_laws.proofs.prism.Loops.{rounds_go, loop_swept}
 
@@ -62,10 +62,6 @@ module _ (M : Model) (c : Taken) (f l : ℕ) (d : Point) (hs : List ℕ) (w : Re
 
     pub turn_range : (h : ℕ) → IsIn h hs → IsInRange (moved (start (N i) h) d)
     turn_range h j = subst (λ p. IsInRange (moved p d)) (sym (turn_start h j)) (w.points_fit h j)
-
-  -- the first item
-  pub first_accepted : first_false M (raise M c d hs 0) ≡ None
-  first_accepted = (rounds_go M c f l d hs w 0 (let t = two_items M c f l d hs w in omega arith)).0.0
 
   -- one more item
   module _ (i : ℕ) (lt : suc i < length hs) where
