@@ -91,6 +91,7 @@ IsIn-filter p x (y ∷ ys) i e = elim (eqb_tells x y) [
   now : (b : Bool) → b ≡ true → x ≡ y → IsIn x (cond b (y ∷ filter p ys) (filter p ys))
   now true t s = omega (arith, ap (λ k. tick k y) s, tick_same y)
   now false t s = cc
+
   later : (b : Bool) → IsIn x (filter p ys) → IsIn x (cond b (y ∷ filter p ys) (filter p ys))
   later true j = omega (arith, j)
   later false j = j
