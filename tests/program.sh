@@ -1,103 +1,106 @@
 #!/bin/sh
-# Runs the built program on files, pipes and devices, and compares what it writes, its text on standard error and its status.
+# Runs the built program on files, pipes and devices and with all kinds of command lines, and compares what it writes, the first line
+# of its standard error and its status.
 #
 #   tests/program.sh [PROGRAM]        PROGRAM is crates/gwb/out/gwb where none is given
-#
-# `rt run` in crates/gwb builds it.
 cd "$(dirname "$0")/.." || exit 2
 program=$(realpath "${1:-crates/gwb/out/gwb}")
 dir=$(mktemp -d)
 trap 'rm -rf "$dir"' EXIT
-wrong=0
 count=0
+wrong=0
 
-# ended NAME STATUS TEXT: compares the last run's status and text on standard error
-ended() {
+# same NAME WANTED GOT
+same() {
     count=$((count + 1))
-    if [ "$status" != "$2" ] || [ "$(head -n 1 "$dir/err")" != "$3" ]; then
+    if [ "$2" != "$3" ]; then
         wrong=$((wrong + 1))
-        echo "$1: status $status, $(head -n 1 "$dir/err")"
+        echo "$1: '$3', not '$2'"
     fi
 }
 
-# told FILE: compares what the last run wrote
-told() {
-    count=$((count + 1))
-    cmp -s "$dir/out" "$1" || { wrong=$((wrong + 1)); echo "other output than $1"; }
-}
-
-# run WORDS..: runs the program on the script in $dir/in
-run() {
-    "$program" "$@" < "$dir/in" > "$dir/out" 2> "$dir/err"
-    status=$?
-}
-
-: > "$dir/in"
-for example in wire triangle_with_hole block_with_hole u_profile glued_blocks split_block; do
-    run "examples/$example.gwb"; ended "$example" 0 ''; told "examples/$example.expected"
-done
-run examples/refusals.gwb; ended refusals 1 ''; told examples/refusals.expected
-run -- examples/wire.gwb; ended 'behind --' 0 ''; told examples/wire.expected
-
-cat examples/wire.gwb | "$program" > "$dir/out" 2> "$dir/err"; status=$?
-ended 'a pipe' 0 ''; told examples/wire.expected
-
-printf 'list\nkvfs 1\nlist\n' > "$dir/in"
-printf 'empty\nrefused 2 1\n' > "$dir/wanted"
-run --stop; ended stop 1 ''; told "$dir/wanted"
-printf 'empty\nrefused 2 1\nempty\n' > "$dir/wanted"
-run; ended 'no stop' 1 ''; told "$dir/wanted"
-
-: > "$dir/wanted"
-run "$dir/missing"; ended missing 3 'gwb: cannot open the script'; told "$dir/wanted"
-run ''; ended 'no name' 3 'gwb: cannot open the script'
-run /; ended 'a folder' 3 'gwb: read fault'; told "$dir/wanted"
-"$program" < / > "$dir/out" 2> "$dir/err"; status=$?
-ended 'input that fails' 3 'gwb: read fault'
-
-run a b; ended 'two files' 2 "error: unexpected argument 'b' found"; told "$dir/wanted"
-run --stopp; ended 'no such flag' 2 "error: unexpected argument '--stopp' found"
-run --stop --stop; ended 'stop twice' 2 "error: the argument '--stop' cannot be used multiple times"
-run --stop a b; ended 'judged before it is opened' 2 "error: unexpected argument 'b' found"
-run "$(printf '\377')"; ended 'no UTF-8' 2 'error: invalid UTF-8 was detected in one or more arguments'
-run --help; ended help 0 ''
-grep -q 'Usage: gwb \[--stop\] \[FILE\]' "$dir/out" || { wrong=$((wrong + 1)); echo 'help has no usage'; }
-run --version; ended version 0 ''
-
-if [ -c /dev/full ]; then
-    "$program" < "$dir/in" > /dev/full 2> "$dir/err"; status=$?
-    ended 'a full device' 3 'gwb: write fault'
-    "$program" --help > /dev/full 2> "$dir/err"; status=$?
-    ended 'help to a full device' 3 'gwb: write fault'
-fi
-(yes mvfs | head -n 100000; echo $? > "$dir/yes") | {
-    "$program" 2> "$dir/err"
+# gwb WORDS..: runs the program
+gwb() {
+    timeout 60 "$program" "$@" > "$dir/out" 2> "$dir/err"
     echo $? > "$dir/status"
-} | head -n 1 > "$dir/out"
-status=$(cat "$dir/status")
+}
+
+# ended NAME STATUS [TEXT]: compares the last run's status and the text on standard error
+ended() {
+    same "$1" "$2 $3" "$(cat "$dir/status") $(head -n 1 "$dir/err")"
+}
+
+# told NAME FILE: compares what the last run wrote
+told() {
+    cmp -s "$2" "$dir/out"
+    same "$1: as $2" 0 $?
+}
+
+# wrote NAME REPLIES: the same, for replies in which \n ends a line
+wrote() {
+    printf '%b' "$2" > "$dir/wanted"
+    told "$1" "$dir/wanted"
+}
+
+# A script in a file, on standard input, from a pipe, and in a file whose name is that of a flag.
+gwb examples/wire.gwb < /dev/null; ended 'a file' 0; told 'a file' examples/wire.expected
+gwb < examples/wire.gwb; ended 'standard input' 0; told 'standard input' examples/wire.expected
+cat examples/wire.gwb | gwb; ended 'a pipe' 0; told 'a pipe' examples/wire.expected
+cp examples/wire.gwb "$dir/--stop"
+(cd "$dir" && gwb -- --stop) < /dev/null; ended 'after --' 0; told 'after --' examples/wire.expected
+
+# The flag, on either side of the file.
+stops='refused 2 1\n'
+printf 'kvfs 1\nlist\n' > "$dir/in"
+gwb < "$dir/in"; ended 'no flag' 1; wrote 'no flag' "${stops}empty\n"
+gwb --stop < "$dir/in"; ended 'the flag' 1; wrote 'the flag' "$stops"
+gwb --stop "$dir/in"; ended 'the flag before the file' 1; wrote 'the flag before the file' "$stops"
+gwb "$dir/in" --stop; ended 'the flag after the file' 1; wrote 'the flag after the file' "$stops"
+
+# Scripts that can't be opened or read.
+gwb "$dir/missing"; ended missing 3 'gwb: cannot open the script'; wrote missing ''
+gwb ''; ended 'no name' 3 'gwb: cannot open the script'
+gwb /; ended 'a folder' 3 'gwb: read fault'; wrote 'a folder' ''
+gwb < /; ended 'input that fails' 3 'gwb: read fault'
+
+# Command lines that are refused, judged before the script is opened; help and version.
+gwb a b; ended 'two files' 2 "error: unexpected argument 'b' found"; wrote 'two files' ''
+gwb --stop "$dir/in" b; ended 'a second file after the flag' 2 "error: unexpected argument 'b' found"; wrote 'a second file' ''
+gwb --stopp; ended 'no such flag' 2 "error: unexpected argument '--stopp' found"
+gwb --stop --stop; ended 'the flag twice' 2 "error: the argument '--stop' cannot be used multiple times"
+gwb "$(printf '\377')"; ended 'no UTF-8' 2 'error: invalid UTF-8 was detected in one or more arguments'
+gwb --help; ended help 0; same 'usage in help' 1 "$(grep -c 'Usage: gwb \[--stop\] \[FILE\]' "$dir/out")"
+gwb --version; ended version 0
+
+# Output that fails.
+if [ -c /dev/full ]; then
+    for words in '' --help; do
+        timeout 60 "$program" $words < examples/wire.gwb > /dev/full 2> "$dir/err"; echo $? > "$dir/status"
+        ended "a full device $words" 3 'gwb: write fault'
+    done
+fi
+yes mvfs | head -n 100000 | { timeout 60 "$program" 2> "$dir/err"; echo $? > "$dir/status"; } | head -n 1 > /dev/null
 ended 'a pipe that is closed' 3 'gwb: write fault'
 
-head -c 67108864 /dev/zero | tr '\0' '#' | "$program" > "$dir/out" 2> "$dir/err"; status=$?
-printf 'fault 6\n' > "$dir/wanted"
-ended 'the longest script' 1 ''; told "$dir/wanted"
-head -c 67108865 /dev/zero | tr '\0' '#' | "$program" > "$dir/out" 2> "$dir/err"; status=$?
-: > "$dir/wanted"
-ended 'one byte more' 3 'gwb: script too long'; told "$dir/wanted"
-yes '' | "$program" > "$dir/out" 2> "$dir/err"; status=$?
-ended 'newlines for ever' 3 'gwb: script too long'; told "$dir/wanted"
+# The longest line, in bytes, and one more; the longest script, as one line and as lines alone; and longer ones.
+printf 'list%65532s\n' '' | gwb; ended 'the longest line' 0; wrote 'the longest line' 'empty\n'
+printf 'list%65533s\nlist\n' '' | gwb; ended 'a longer line' 1; wrote 'a longer line' 'fault 6\nempty\n'
+printf '%65537s\n' '' | tr ' ' a | gwb; ended 'a longer word' 1; wrote 'a longer word' 'fault 6\n'
+head -c 67108864 /dev/zero | tr '\0' '#' | gwb; ended 'the longest script' 1; wrote 'the longest script' 'fault 6\n'
+yes '' | head -c 67108864 | gwb; ended 'the most lines' 0; wrote 'the most lines' ''
+head -c 67108865 /dev/zero | tr '\0' '#' | gwb; ended 'a longer script' 3 'gwb: script too long'; wrote 'a longer script' ''
+yes '' | gwb; ended 'newlines for ever' 3 'gwb: script too long'; wrote 'newlines for ever' ''
 
 # A person at a terminal sees each reply before the next command is typed.
 mkfifo "$dir/to" "$dir/from"
-"$program" < "$dir/to" > "$dir/from" 2> "$dir/err" &
+timeout 60 "$program" < "$dir/to" > "$dir/from" 2> "$dir/err" &
 exec 3> "$dir/to" 4< "$dir/from"
 echo list >&3
 read -r reply <&4
-count=$((count + 1))
-[ "$reply" = empty ] || { wrong=$((wrong + 1)); echo "no reply before the end: $reply"; }
+same 'a reply before the end' empty "$reply"
 exec 3>&- 4<&-
-wait $!
-status=$?
-ended 'a conversation' 0 ''
+wait $!; echo $? > "$dir/status"
+ended 'a conversation' 0
 
 echo "$count compared, $wrong wrong"
 [ "$wrong" = 0 ]

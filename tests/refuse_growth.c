@@ -1,4 +1,4 @@
-/* Preloaded into the program: refuses the growth with the number REFUSE_AT, counted from 1, and writes how many it saw to GROWTHS_TO. */
+/* Preloaded into the program: refuses the allocation with the number REFUSE_AT, counted from 1, and writes how many it saw to ALLOCATIONS_TO. */
 #define _GNU_SOURCE
 #include <dlfcn.h>
 #include <errno.h>
@@ -31,13 +31,13 @@ void *realloc(void *p, size_t n) {
 }
 
 __attribute__((destructor)) static void tell(void) {
-    const char *name = getenv("GROWTHS_TO");
-    long growths = seen;
+    const char *name = getenv("ALLOCATIONS_TO");
+    long allocations = seen;
     FILE *file;
     at = 0;
     file = name ? fopen(name, "w") : NULL;
     if (file) {
-        fprintf(file, "%ld\n", growths);
+        fprintf(file, "%ld\n", allocations);
         fclose(file);
     }
 }

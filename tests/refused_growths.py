@@ -1,12 +1,12 @@
 #!/usr/bin/env python3
-"""Refuses each growth of memory of the built program in turn.
+"""Refuses each allocation of the built program in turn, and compares its replies.
 
     tests/refused_growths.py [PROGRAM]        PROGRAM is crates/gwb/out/gwb where none is given
 
-Needs a C compiler, `cc`. Each script is run as often as the program asks for memory, each time with another growth refused. Where
+Needs a C compiler, `cc`. Each script is run as often as the program asks for memory, each time with another allocation refused. Where
 the memory that a run begins with is refused, nothing is written, the status is 3 and the text `gwb: out of memory`. Otherwise one
 command is answered `memory`: then the replies are those to the script without that command, so the refused command changed
-nothing; and where the script has that command a second time behind it, all else is answered as if nothing had been refused.
+nothing; and where the script has that command a second time after it, all else is answered as if nothing had been refused.
 """
 import os
 import subprocess
@@ -23,7 +23,7 @@ SCRIPTS = {
     'rings moved': 'mvfs 1 1 1 1 0 0 0;mev @1 @1 1 2 5 0 0;kemr +1 2;ringmv 2 1 out;mfkrh 1 2;kfmrh 1 2;list',
     'triangle': 'mvfs 1 1 1 1 0 0 0;mev @1 @1 1 2 3 0 0;mev -1 -1 2 3 0 3 0;mef -2 +1 3 2 2;mev +1 -3 4 4 1 1 0;list',
     'undone and redone': 'mvfs 1 1 1 1 0 0 0;mev @1 @1 1 2 5 0 0;undo;undo;redo;redo;mev -1 -1 2 3 5 5 0;undo;redo;list',
-    'command before redo': 'mvfs 1 1 1 1 0 0 0;mev @1 @1 1 2 5 0 0;undo;mvfs 9 9 9 9 0 0 0;redo;list',
+    'command before redo': 'mvfs 1 1 1 1 0 0 0;mev @1 @1 1 2 5 0 0;undo;mvfs 1000000 9 9 9 0 0 0;redo;list',
     'block': 'block 1 0 0 0 4 4 4;undo;redo;count 1;list',
     'sweep with a ring': 'lamina 1 0 0 0 9 0 0 9 9 0 0 9 0;mev +1 +1 5 5 3 3 0;kemr +5 3;mev @3 @3 5 6 3 6 0;mev -5 -5 6 7 6 6 0;mef -6 +5 7 3 4;'
                          'sweep 1 0 0 4;volume 1;undo;sweep 1 0 0 5;list',
@@ -33,7 +33,7 @@ SCRIPTS = {
     'split through a hole': HOLED + 'split 1 1 0 0 -3 2;volume 2;undo;split 1 0 0 1 -3 2;list',
     'split refused late': 'lamina 1 2 0 2 0 2 -2 -2 0 2 0 -2 -2;mef -4 -2 5 3 3;mev +1 +1 6 5 0 0 0;mef -6 +2 7 4 4;mef +7 +3 8 5 5;mef +8 +4 9 6 6;'
                           'split 1 0 0 1 0 2;undo;redo;list',
-    'redo behind a refusal': 'mvfs 1 1 1 1 0 0 0;mev @1 @1 1 2 5 0 0;undo;mvfs 9 9 9 9 0 0 0;undo;kvfs 1;undo;list',
+    'redo after a refusal': 'mvfs 1 1 1 1 0 0 0;mev @1 @1 1 2 5 0 0;undo;mvfs 9 9 9 9 0 0 0;undo;kvfs 1;undo;list',
 }
 
 
@@ -50,48 +50,58 @@ class Program:
         self.count = os.path.join(folder, 'count')
 
     def run(self, commands, refused=0):
-        """Replies (the listing is the last), status and text with a growth refused, and how many growths there were."""
-        env = dict(os.environ, LD_PRELOAD=self.library, REFUSE_AT=str(refused), GROWTHS_TO=self.count)
+        """Replies (the listing is the last), status and text with an allocation refused, or none."""
+        env = dict(os.environ, LD_PRELOAD=self.library, REFUSE_AT=str(refused), ALLOCATIONS_TO=self.count)
         script = ''.join(c + '\n' for c in commands).encode()
         done = subprocess.run([self.path], input=script, capture_output=True, env=env, timeout=60)
         lines = done.stdout.decode().splitlines()
         cut = len(commands) - 1
-        replies = lines[:cut] + [lines[cut:]]
+        return lines[:cut] + [lines[cut:]], done.returncode, done.stderr.decode()
+
+    def allocations(self):
+        """How many allocations the last run asked for."""
         with open(self.count) as file:
-            return replies, done.returncode, done.stderr.decode(), int(file.read())
+            return int(file.read())
 
 
-def check(program, name, commands):
-    """How many growths were refused before the run, and how many commands were answered `memory`."""
-    whole, ends, text, growths = program.run(commands)
-    assert ends in (0, 1) and text == '' and 'memory' not in whole, (name, ends, text)
-    begin = memory = harmless = 0
-    for n in range(1, growths + 1):
-        replies, status, text, _ = program.run(commands, n)
-        if status == 3:
-            assert replies == [[]] and text == 'gwb: out of memory\n', (name, n, replies, text)
-            begin += 1
-        elif 'memory' not in replies:
-            assert (replies, status, text) == (whole, ends, ''), (name, n, replies)
-            harmless += 1
-        else:
-            assert (status, text) == (1, '') and replies.count('memory') == 1, (name, n, replies)
-            k = replies.index('memory')
-            without = program.run(commands[:k] + commands[k + 1:])[0]
-            assert replies[:k] + replies[k + 1:] == without, (name, n, 'the refused command changed something')
-            twice = program.run(commands[:k + 1] + commands[k:], n)[0]
-            assert twice == whole[:k] + ['memory'] + whole[k:], (name, n, 'the command given again', twice)
-            memory += 1
-    print('%-22s %4d growths: %3d before the run, %3d told as memory, %d not needed' % (name, growths, begin, memory, harmless))
+def complaint(program, commands, n, whole, done):
+    """What is wrong with a run in which allocation n was refused, or None. The whole run had all its memory."""
+    replies, status, text = done
+    if status == 3:
+        return None if (replies, text) == ([[]], 'gwb: out of memory\n') else 'before the run: %r, %r' % (text, replies)
+    if 'memory' not in replies:
+        return None if done == whole else 'other replies without a word of memory: %r' % replies
+    if (status, text) != (1, '') or replies.count('memory') != 1:
+        return 'status %d, %r: %r' % (status, text, replies)
+    k = replies.index('memory')
+    if replies[:k] + replies[k + 1:] != program.run(commands[:k] + commands[k + 1:])[0]:
+        return 'the refused command changed something: %r' % replies
+    twice = program.run(commands[:k + 1] + commands[k:], n)[0]
+    if twice != whole[0][:k] + ['memory'] + whole[0][k:]:
+        return 'the command given again: %r' % twice
+    return None
 
 
 def main():
     path = os.path.abspath(sys.argv[1] if len(sys.argv) > 1 else os.path.join(HERE, '..', 'crates', 'gwb', 'out', 'gwb'))
+    count = wrong = 0
     with tempfile.TemporaryDirectory() as folder:
         program = Program(path, folder)
         for name, commands in SCRIPTS.items():
-            check(program, name, commands.split(';'))
+            commands = commands.split(';')
+            whole = program.run(commands)
+            runs = [program.run(commands, n) for n in range(1, program.allocations() + 1)]
+            complaints = [complaint(program, commands, n, whole, done) for n, done in enumerate(runs, 1)]
+            if whole[1] not in (0, 1) or whole[2] or not any('memory' in replies for replies, _, _ in runs):
+                complaints.append('no allocation of a command was refused: %r' % (whole,))
+            count += len(complaints)
+            for n, why in enumerate(complaints, 1):
+                if why:
+                    wrong += 1
+                    print('%s, allocation %d: %s' % (name, n, why))
+    print('%d compared, %d wrong' % (count, wrong))
+    return 1 if wrong else 0
 
 
 if __name__ == '__main__':
-    main()
+    sys.exit(main())

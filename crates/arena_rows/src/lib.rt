@@ -1,4 +1,9 @@
-//! Rows by number, and what an arena of rows and rings stands for.
+//! Rows by number, and what an arena of rows and rings of half-edges stands for.
+//!
+//! `rows` is the table of one kind. `owner_chains` holds items by owner: each owner's items, from the least to the greatest.
+//! `ring_spots` holds half-edges over raw rings: each edge is a pair of nodes, and each ring stands in a loop or is loose. In proofs/
+//! stand the laws of these together: what the model says by the nodes, and what becomes of rows and rings where loops are cut,
+//! joined, emptied and filled, and where edges come and go.
 #![tactic(auto)]
 
 mod owner_chains;

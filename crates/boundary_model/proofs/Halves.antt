@@ -87,3 +87,11 @@ is_first-code h = go h.edge h.first where
   go : (e : ℕ) (b : Bool) → nat_eq (cond b (2 * e) (2 * e + 1) % 2) 0 ≡ b
   go e true = grind (arith, nat_tests)
   go e false = grind (arith, nat_tests)
+
+pub half-plus : (e : ℕ) → half (plus e) ≡ record { edge = e; first = true }
+unfolding code
+half-plus e = half-code (record { edge = e; first = true })
+
+pub half-minus : (e : ℕ) → half (minus e) ≡ record { edge = e; first = false }
+unfolding code
+half-minus e = half-code (record { edge = e; first = false })

@@ -1,12 +1,11 @@
 -- Edges between listed faces and others.
-use Rattle.std.proofs.Common.{◌≡◌, ◌≢◌, ℕ, ◌≤◌, ◌<◌, Bool, true, false, cond, not, nat_eq, ◌&&◌, ◌||◌, List, [], ◌∷◌, ◌++◌, length, append_assoc, Option, Some, None, Ok, Err, is_some, refl, sym, ap, subst, ◌∙◌, arith, true≢false, ◌⊎◌, inl, inr}
-use Rattle.std.proofs.lemmas.Bool.Decides.{nat_tests, eqb_tells}
+use Rattle.std.proofs.Common.{◌≡◌, ◌≢◌, ℕ, ◌≤◌, ◌<◌, Bool, true, false, cond, not, nat_eq, ◌||◌, List, [], ◌∷◌, ◌++◌, length, append_assoc, Option, Some, None, Ok, Err, is_some, refl, sym, ap, subst, ◌∙◌, arith, true≢false, ◌⊎◌, inl, inr}
+use Rattle.std.proofs.lemmas.Bool.Decides.{nat_tests}
 use Rattle.euler_operators.specs.Items.{IsIn}
 use Rattle.euler_operators.specs.HalfEdge.{code, mate, edge_of, plus, minus}
 use Rattle.euler_operators.specs.declared.HalfEdge.{HalfEdge}
 use Rattle.euler_operators.specs.declared.Content.TheVariants as Content
 use Rattle.euler_operators.specs.Table as table
-use Rattle.euler_operators.specs.Table.{first_where}
 use Rattle.euler_operators.specs.Model.{Model, EdgeRow, LoopContent, lone, cycle, items_of, content, face_of, outer, loop_of, solid_of, faces_of, is_ring_of, is_number}
 use Rattle.euler_operators.specs.Sound.{Sound, Has, HasHalf}
 use Rattle.euler_operators.proofs.Halves.{plus_row, minus_row}
@@ -18,13 +17,14 @@ use Rattle.euler_operators.specs.declared.Refusal.{Refusal}
 use Rattle.euler_operators.specs.declared.Why.TheVariants.{NoSolid, SolidTaken, BadPart}
 use Rattle.euler_operators.specs.declared.Op.TheVariants.{Part}
 use Rattle.euler_laws.proofs.shared.Arcs.{halves_of_edge}
+use Rattle.euler_laws.proofs.shared.FaceRings.{outer_or_ring}
 use Rattle.euler_laws.proofs.shared.Goes.{all_hold, equal, equals, differs, not_true}
 use Rattle.euler_laws.proofs.shared.Loops.{some_row}
 use Rattle.euler_laws.proofs.shared.Rows.{no_rings_means, face_there}
 use Rattle.euler_laws.proofs.shared.Listed.{all_where-rises, passes_listed, listed_cases}
 use Rattle.euler_conditions.specs.Parts.{StaysIn, FaceLeadsOut, FaceStaysIn, AreFacesOf, parts_known}
 use Rattle.euler_conditions.proofs.Orders.{part_refuses, part_holds}
-use Rattle.euler_conditions.proofs.Rising.{all_listed}
+use Rattle.euler_laws.proofs.shared.RisingLists.{all_listed}
 use Rattle.euler_conditions.proofs.Parallel.{mate_plus, mate_minus}
 use Rattle.euler_conditions.proofs.Known.{loop_there}
 
@@ -35,24 +35,6 @@ lone_has_none (cycle hs) v t = absurd t
 pub ring_has : (c : LoopContent) (h : HalfEdge) → Tells c (Content.Ring h) → IsIn (code h) (items_of c)
 ring_has (lone w) h t = absurd t
 ring_has (cycle hs) h t = t
-
-and_parts : (a b : Bool) → (a && b) ≡ true → (a ≡ true) × (b ≡ true)
-and_parts true b e = (refl, e)
-and_parts false b e = absurd (true≢false (sym e))
-
-pub ring_there : (M : Model) (f l : ℕ) → is_ring_of M f l ≡ true → Has M.loops l × (face_of M l ≡ f)
-ring_there M f l e = let p = and_parts (table.has M.loops l && nat_eq (face_of M l) f) (not (nat_eq (outer M f) l)) e in let q = and_parts (table.has M.loops l) (nat_eq (face_of M l) f) p.0 in (q.0, equal (face_of M l) f q.1)
-
-pub outer_or_ring : (M : Model) (f l : ℕ) → Has M.loops l → face_of M l ≡ f → (outer M f ≡ l) ⊎ (is_ring_of M f l ≡ true)
-outer_or_ring M f l t e = elim (eqb_tells (outer M f) l) [
-  | inl o ↦ inl o.1
-  | inr o ↦ inr (ap (λ b. b && nat_eq (face_of M l) f && not (nat_eq (outer M f) l)) t ∙ ap (λ b. b && not (nat_eq (outer M f) l)) (equals (face_of M l) f e) ∙ ap not o.0)
-]
-
-pub ring_number : (M : Model) → Sound M → (l : ℕ) → Has M.loops l → l ≤ 1000000
-ring_number M sound l t = go l (sound.loops_fit l t) where
-  go : (l : ℕ) → is_number l ≡ true → l ≤ 1000000
-  go l e = grind (arith, nat_tests)
 
 -- a face whose outer loop and rings stay in
 pub face_stays : (M : Model) (fs : List ℕ) (f : ℕ) → StaysIn M fs (outer M f) → ((l : ℕ) → is_ring_of M f l ≡ true → StaysIn M fs l) → FaceStaysIn M fs f

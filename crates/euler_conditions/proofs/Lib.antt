@@ -3,5 +3,4 @@ pub mod Orders
 pub mod Parallel
 pub mod Around
 pub mod Solids
-pub mod Rising
 pub mod Borders

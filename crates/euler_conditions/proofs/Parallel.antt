@@ -1,7 +1,7 @@
 -- The walk round one end of an edge meets every edge beside it.
-use Rattle.std.proofs.Common.{◌≡◌, ◌≢◌, ℕ, zero, suc, ◌+◌, ◌<◌, ◌≤◌, Bool, true, false, cond, not, nat_eq, nat_lt, ◌&&◌, ◌||◌, List, [], ◌∷◌, ◌++◌, length, Some, is_some, refl, sym, ap, subst, ◌∙◌, arith, true≢false, ◌⊎◌, inl, inr}
+use Rattle.std.proofs.Common.{◌≡◌, ◌≢◌, ℕ, ◌+◌, ◌≤◌, Bool, true, false, cond, not, nat_eq, ◌&&◌, ◌||◌, List, [], ◌∷◌, ◌++◌, length, Some, is_some, refl, sym, ap, subst, ◌∙◌, arith, true≢false, ◌⊎◌, inl, inr}
 use Rattle.std.proofs.lemmas.Bool.Decides.{nat_tests, eqb_tells}
-use Rattle.euler_operators.specs.Items.{count, tick, IsIn, IsApart}
+use Rattle.euler_operators.specs.Items.{count, IsIn}
 use Rattle.euler_operators.specs.Rings.{rotate_to, walk_to, orbit}
 use Rattle.euler_operators.proofs.Lists.{count-append, tick_same, tick_other}
 use Rattle.euler_operators.proofs.Rings.{orbit_from}
@@ -9,100 +9,19 @@ use Rattle.euler_operators.proofs.Rotations.{count-rotate_to}
 use Rattle.euler_operators.proofs.Places.{walk_done, walk_on, walk_over}
 use Rattle.euler_operators.specs.HalfEdge.{mate, edge_of, plus, minus}
 use Rattle.euler_operators.specs.Table as table
-use Rattle.euler_operators.specs.Table.{Table, first_where, all_where, first_in, all_in}
 use Rattle.euler_operators.specs.Model.{Model, EdgeRow, tail, tail_in, after, round, is_number}
 use Rattle.euler_operators.specs.Sound.{Sound, HasHalf}
 use Rattle.euler_operators.proofs.Halves.{mate_cases, plus_row, minus_row}
 use Rattle.euler_operators.proofs.Models.{tail_row}
 use Rattle.euler_operators.proofs.Tables.{first_where_zero}
-use Rattle.euler_operators.specs.Conditions.{lists, strictly_rises, parallel}
-use Rattle.euler_operators.specs.Effect.{head_or_zero}
+use Rattle.euler_operators.specs.Conditions.{parallel}
 use Rattle.euler_laws.proofs.shared.Fans.{Fan, fan_of}
 use Rattle.euler_laws.proofs.shared.Arcs.{halves_of_edge}
-use Rattle.euler_laws.proofs.shared.Listed.{first_listed, listed_cases, listed_passes, passes_listed, all_where-rises}
 use Rattle.euler_laws.proofs.shared.Loops.{some_row}
+use Rattle.euler_laws.proofs.shared.Bounds.{steps, length_below, half_below}
+use Rattle.euler_laws.proofs.shared.FirstWhere.{first_where_least}
 use Rattle.euler_laws.proofs.shared.Goes.{equal, equals, not_true}
 use Rattle.euler_conditions.specs.Ends.{leads_to, lesser}
-
--- more than the half-edges that a model can have
-pub steps : ℕ
-steps = 2000002
-
-pub steps_are : steps ≡ 2000002
-unfolding steps
-steps_are = refl
-
--- ---- a list of numbers below n, without repeats, has at most n of them
-
-total : ℕ → List ℕ → ℕ
-total zero xs = 0
-total (suc n) xs = count n xs + total n xs
-
-total-nil : (n : ℕ) → total n [] ≡ 0
-unfolding total
-total-nil zero = refl
-total-nil (suc n) = omega (arith, total-nil n)
-
-below_one : ℕ → ℕ → ℕ
-below_one y n = cond (nat_lt y n) 1 0
-
-below_zero : (y : ℕ) → below_one y 0 ≡ 0
-unfolding below_one
-below_zero y = grind (arith, nat_tests)
-
-tick_below : (y n : ℕ) → tick n y + below_one y n ≡ below_one y (suc n)
-unfolding below_one
-tick_below y n = grind (arith, nat_tests)
-
-total-cons : (n y : ℕ) (ys : List ℕ) → total n (y ∷ ys) ≡ below_one y n + total n ys
-unfolding total
-total-cons zero y ys = sym (omega (arith, below_zero y))
-total-cons (suc n) y ys = omega (arith, total-cons n y ys, tick_below y n)
-
-total_le : (n : ℕ) (xs : List ℕ) → IsApart xs → total n xs ≤ n
-unfolding total
-total_le zero xs d = omega arith
-total_le (suc n) xs d = omega (arith, d n, total_le n xs d)
-
-below_is : (y n : ℕ) → y < n → below_one y n ≡ 1
-unfolding below_one
-below_is y n h = grind (arith, nat_tests)
-
-total_all : (n : ℕ) (xs : List ℕ) → ((x : ℕ) → IsIn x xs → x < n) → total n xs ≡ length xs
-total_all n [] h = total-nil n
-total_all n (x ∷ xs) h = omega (arith, total-cons n x xs, below_is x n (h x (omega (arith, tick_same x))), total_all n xs (λ y i. h y (omega arith)))
-
-pub length_below : (n : ℕ) (xs : List ℕ) → IsApart xs → ((x : ℕ) → IsIn x xs → x < n) → length xs ≤ n
-length_below n xs d h = omega (arith, total_le n xs d, total_all n xs h)
-
--- ---- the first number whose row passes is the least one
-
-head_is_least : (m q : ℕ) (ns : List ℕ) → strictly_rises (m ∷ ns) ≡ true → lists (m ∷ ns) q ≡ true → m ≤ q
-head_is_least m q [] r l = elim (listed_cases m q [] l) [ inl e ↦ omega arith | inr e ↦ absurd (true≢false (sym e)) ]
-head_is_least m q (k ∷ ns) r l = elim (listed_cases m q (k ∷ ns) l) [
-  | inl e ↦ omega arith
-  | inr e ↦ let s = both m k (strictly_rises (k ∷ ns)) r in omega (arith, s.0, head_is_least k q ns s.1 e)
-] where
-  both : (m k : ℕ) (b : Bool) → (nat_lt m k && b) ≡ true → (m < k) × (b ≡ true)
-  both m k true e = (grind (arith, nat_tests), refl)
-  both m k false e = grind (arith, nat_tests)
-
-module _ {X : Type 0} (p : ℕ → X → Bool) (t : Table X) where
-  first_is_head : first_where p t ≡ head_or_zero (all_where p t)
-  unfolding first_where all_where
-  first_is_head = go t.rows where
-    go : (es : List (ℕ × X)) → first_in p es ≡ head_or_zero (all_in p es)
-    go [] = refl
-    go (e ∷ es) = step e.0 (p e.0 e.1) (first_in p es) (all_in p es) (go es) where
-      step : (n : ℕ) (b : Bool) (m : ℕ) (ns : List ℕ) → m ≡ head_or_zero ns → cond b n m ≡ head_or_zero (cond b (n ∷ ns) ns)
-      step n true m ns e = refl
-      step n false m ns e = e
-
-  pub first_where_least : (n : ℕ) (x : X) → table.get t n ≡ Some x → p n x ≡ true → ((q : ℕ) (y : X) → table.get t q ≡ Some y → p q y ≡ true → n ≤ q) → first_where p t ≡ n
-  first_where_least n x there passes least = first_is_head ∙ go (all_where p t) (all_where-rises p t) (passes_listed p t n x there passes) (λ q l. let y = listed_passes p t q l in least q y.0 y.1 y.2) where
-    go : (ns : List ℕ) → strictly_rises ns ≡ true → lists ns n ≡ true → ((q : ℕ) → lists ns q ≡ true → n ≤ q) → head_or_zero ns ≡ n
-    go [] r l h = absurd (true≢false (sym l))
-    go (m ∷ ns) r l h = omega (arith, head_is_least m n ns r l, h m (first_listed m ns))
 
 -- ---- what the walk has found
 
@@ -191,12 +110,8 @@ module _ (M : Model) (sound : Sound M) (h : ℕ) (there : HasHalf M h) where
   h_in : IsIn h fan.items
   h_in = fan.all h there refl
 
-  half_below : (e x : ℕ) → is_number e ≡ true → edge_of x ≡ e → x < steps
-  unfolding edge_of
-  half_below e x n is = let l : e ≤ 1000000 = grind (arith, nat_tests) in omega (arith, steps_are)
-
   fan_short : length fan.items ≤ steps
-  fan_short = length_below steps fan.items fan.apart (λ x i. half_below (edge_of x) x (sound.edges_fit (edge_of x) (fan.of_it x i).0) refl)
+  fan_short = length_below steps fan.items fan.apart (λ x i. half_below M sound x (fan.of_it x i).0)
 
   pub whole : List ℕ
   whole = orbit (round M) h steps

@@ -15,6 +15,11 @@ pub AreAccepted-append : (M : Model) (ops more : List Op) → AreAccepted M ops 
 AreAccepted-append M [] more a b = b
 AreAccepted-append M (op ∷ ops) more a b = (a.0, AreAccepted-append (effect M op) ops more a.1 b)
 
+-- of lists of operators accepted one after the other, the second is accepted after the first
+pub AreAccepted-back : (M : Model) (ops more : List Op) → AreAccepted M (ops ++ more) → AreAccepted (effects M ops) more
+AreAccepted-back M [] more a = a
+AreAccepted-back M (op ∷ ops) more a = AreAccepted-back (effect M op) ops more a.1
+
 pub effects_keep_sound : (M : Model) (ops : List Op) → Sound M → AreAccepted M ops → Sound (effects M ops)
 effects_keep_sound M [] sound a = sound
 effects_keep_sound M (op ∷ ops) sound a = effects_keep_sound (effect M op) ops (effect_keeps_sound M op sound a.0) a.1

@@ -10,4 +10,11 @@ pub mod Rings
 pub mod Faces
 pub mod Goes
 pub mod Listed
+pub mod RisingLists
+pub mod Counted
+pub mod UpTo
+pub mod FirstWhere
+pub mod Bounds
+pub mod FaceRings
+pub mod KnownLoop
 pub mod Empty

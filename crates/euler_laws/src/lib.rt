@@ -1,5 +1,11 @@
-//! The laws of the Euler operators. Each function does nothing: its contract is what is proved, over every sound model
-//! and every operator whose conditions hold in it. The lemmas stand in a folder for each operator, and in `shared` those of several.
+//! The laws of the Euler operators: an accepted operator keeps a sound model sound (`effects_are_sound`), its inverse takes it back
+//! (`inverses_undo`), so for lists of operators (`runs_are_undone`), and how the Euler number grows (`euler_number_grows`). Each
+//! function does nothing: its contract is what is proved, over every sound model and every operator whose conditions hold in it.
+//!
+//! The lemmas stand in folders: `mev`, `kev`, `mef` (with kef), `kemr`, `mekr`, `faces` (the operators that change only which face a loop
+//! is of, and mvfs and kvfs), `merge` (Merge and Part), and `shared` (half-edges round a vertex, loops and their walks, models that
+//! answer alike, what conditions say). `kev` and `mef` have both directions of undoing; `kemr` has how mekr takes it back, `mekr` how
+//! kemr does.
 #![tactic(auto)]
 
 ghost use Rattle.euler_laws.specs.Laws.{EmptyIsSound, EffectsAreSound, InversesAreAccepted, InversesUndo, RunsAreSound, InversesOfRunsAreAccepted, InversesOfRunsUndo, LoopsAreOuterOrRings, EulerNumberGrows};

@@ -18,7 +18,7 @@ use Rattle.euler_operators.specs.Conditions.{first_false}
 use Rattle.euler_operators.specs.Effect.{effect}
 use Rattle.euler_laws.specs.Laws.{effects, AreAccepted}
 use Rattle.euler_laws.proofs.Runs.{effects_keep_sound}
-use Rattle.sweeps_laws.proofs.prism.Steps.{Around, half_is, cycle_is, apart_xs}
+use Rattle.euler_laws.proofs.shared.KnownLoop.{Around, half_is, cycle_is, apart_xs}
 use Rattle.shapes.specs.glue.Glue.{rim, partner, glue_model}
 use Rattle.shapes.specs.glue.GlueOps.{fresh_edge, closing}
 use Rattle.shapes.specs.glue.Part.{seam, glued_part}

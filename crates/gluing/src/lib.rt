@@ -1,11 +1,11 @@
 //! Gluing: two solids become one along a face of each, as one command.
+//!
+//! `glue_checks` tests the conditions on an arena, in their order; `joining` glues the two faces operator by operator in a draft.
 #![tactic(auto)]
 
 mod command;
 mod glue_checks;
 mod joining;
 mod rims;
-#[cfg(test)]
-mod tests;
 
 pub use command::glue;

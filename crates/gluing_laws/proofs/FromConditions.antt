@@ -12,7 +12,7 @@ use Rattle.euler_laws.proofs.shared.Rows.{loop_row, face_there, not_lone_cycle}
 use Rattle.shapes.specs.Faces.{least_lone, faces_of_both}
 use Rattle.shapes.specs.Fresh.{first_such}
 use Rattle.shapes.specs.Measure.{is_flat, six_volume}
-use Rattle.solid_walks.proofs.Rising.{in_listed}
+use Rattle.euler_laws.proofs.shared.Counted.{in_listed}
 use Rattle.shapes.specs.glue.Glue.{rim, outline, has_repeats, is_rotation, glue_conditions, glue_refusal, partner, glue_model}
 use Rattle.gluing_laws.proofs.glue.Ending.{glued_all, glued_along_is}
 use Rattle.gluing_laws.proofs.Seams.{Seamed, Glued}

@@ -9,11 +9,11 @@ use Rattle.euler_operators.specs.Model.{Model}
 use Rattle.euler_operators.specs.Conditions.{lists, strictly_rises}
 use Rattle.euler_laws.proofs.shared.Listed.{first_listed, listed_passes, listed_as, all_where-rises, IsIn-from_listed}
 use Rattle.euler_laws.proofs.shared.Rows.{no_items}
-use Rattle.solid_walks.proofs.RisingLists.{within}
 use Rattle.shapes.specs.Measure.{anchor, normal, volume_in}
-use Rattle.solid_walks.proofs.Rising.{counted_once, none_counted, in_listed}
 use Rattle.euler_operators.proofs.Vectors.{add_assoc, none_add, add_exchanged}
 use Rattle.euler_operators.proofs.Members.{count_taken}
+use Rattle.euler_laws.proofs.shared.RisingLists.{within}
+use Rattle.euler_laws.proofs.shared.Counted.{counted_once, none_counted, in_listed}
 
 -- ---- lists
 

@@ -1,5 +1,7 @@
-//! The laws of glues: two solids glued together operator by operator, at a face of each, and their volumes. Each function does
-//! nothing: its contract is what is proved, over every sound model and every glue that isn't refused.
+//! The laws of glues: two solids glued together operator by operator, at a face of each (`glues_make_glued`), and their volumes
+//! (`glues_add`). Each function does nothing: its contract is what is proved, over every sound model and every glue that isn't refused.
+//!
+//! `glue` goes operator by operator; beside it stand the laws of volumes.
 #![tactic(auto)]
 
 ghost use Rattle.gluing_laws.specs.glue.Laws.{GluesAreAccepted, GluesMakeGlued, GluedAreSound};

@@ -6,8 +6,6 @@
 #![tactic(auto)]
 
 mod ending;
-#[cfg(test)]
-mod tests;
 mod words;
 
 pub use ending::{Trouble, status_of};

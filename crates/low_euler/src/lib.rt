@@ -2,6 +2,9 @@
 //! the only call that takes memory, and then applies it: by `apply`, which answers the operator that takes it back, or by
 //! `replay`, which answers nothing.
 //! A number that once had its room keeps it, so that an operator can be taken back, and applied again, when memory is spent.
+//!
+//! `vertex_operators` makes and kills vertices (mvfs, kvfs, mev, kev), `loop_operators` parts and joins loops (mef, kef, kemr, mekr) by
+//! the steps of `loop_steps`, and `face_operators` moves rings and faces (kfmrh, mfkrh, RingIn, RingOut, Outer, Merge, Part).
 #![tactic(auto)]
 
 mod applying;

@@ -6,8 +6,7 @@ use Rattle.euler_operators.specs.Sound.{Sound}
 use Rattle.euler_operators.specs.declared.Op.{Op}
 use Rattle.euler_operators.specs.declared.Op.TheVariants.{Part}
 use Rattle.euler_laws.specs.Laws.{AreAccepted, effects}
-use Rattle.euler_laws.proofs.Runs.{effects-append}
-use Rattle.sweeps_laws.proofs.prism.Turns.{AreAccepted-back}
+use Rattle.euler_laws.proofs.Runs.{effects-append, AreAccepted-back}
 use Rattle.shapes.specs.split.Sides.{faces_above}
 use Rattle.shapes.specs.split.Section.{below_halves, section_cycles}
 use Rattle.shapes.specs.split.Drawing.{Drawing, with_drawings}
@@ -18,8 +17,8 @@ use Rattle.split_drawing_laws.proofs.pairs.Whole.{rewritings_made}
 use Rattle.split_drawing_laws.proofs.drawings.Runs.{Leads}
 use Rattle.split_opening_laws.specs.sections.InTurn.{CanBeOpenedInTurn}
 use Rattle.split_laws.proofs.drawn.Drawn.{begins, can_open_all}
-use Rattle.split_drawing.specs.face_drawing.Codes.{drawing_of}
-use Rattle.split_drawing.specs.declared.face_drawing.progress.Progress.{Progress}
+use Rattle.split_checks.specs.Progress.{drawing_of}
+use Rattle.split_checks.specs.declared.progress.Progress.{Progress}
 use Rattle.split_sections.specs.section_checks.Sections.{IsSection, cycles_of}
 use Rattle.split_sections.specs.declared.section_checks.section.Section.{Section}
 use Rattle.split_drawing.specs.solid_drawing.Drawn.{put_aside}

@@ -1,10 +1,11 @@
 //! Splitting: a solid is cut by a plane into two, as one command.
+//!
+//! `command` tests the conditions and makes the split one command; `steps` has the three rewritings one after the other; `solid_opening`
+//! is the third of them, the solid opened along the cycles of its section and parted.
 #![tactic(auto)]
 
 mod command;
 mod solid_opening;
 mod steps;
-#[cfg(test)]
-mod tests;
 
 pub use command::split;

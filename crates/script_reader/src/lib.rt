@@ -1,4 +1,6 @@
 //! Reads a script: its bytes as lines, and a line as a command or a fault.
+//!
+//! Each function of `laws` does nothing: its contract is a law of the lines or of the grammar.
 #![tactic(auto)]
 
 mod buffer;
@@ -19,6 +21,3 @@ pub use laws::{
 };
 pub use line::{Short, read_line, read_short};
 pub use lines::{Lines, NextLine};
-
-#[cfg(test)]
-mod tests;

@@ -1,9 +1,14 @@
 //! Running: a whole script answered, from the bytes of a reader to those of a writer.
+//!
+//! `script_judging` has the answer to one line, and what its command does to the session; `running` the lines one after the other.
+//! `one_output` does nothing: its contract is the law that a script has one output where no reply is `memory`.
 #![tactic(auto)]
 
 mod laws;
 mod running;
 mod script_judging;
+#[cfg(test)]
+mod tests;
 
 pub use laws::one_output;
 pub use running::{RunFault, run};

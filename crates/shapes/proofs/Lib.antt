@@ -1,5 +1,6 @@
 mod WorkedScripts
 pub mod Areas
 pub mod fresh
+pub mod walks
 pub mod glue
 pub mod split

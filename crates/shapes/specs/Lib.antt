@@ -1,4 +1,5 @@
 pub mod Faces
+pub mod Walks
 pub mod Fresh
 pub mod Rewriting
 pub mod Lamina

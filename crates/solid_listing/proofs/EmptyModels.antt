@@ -12,8 +12,8 @@ use Rattle.euler_conditions.specs.Store.{Store, IsGreatest}
 use Rattle.solid_listing.specs.Lines.{text_of}
 use Rattle.solid_listing.specs.Listing.{line, numbers_of, lines, or_empty, listing}
 use Rattle.solid_listing.proofs.Lines.{here}
-use Rattle.solid_walks.proofs.face_walks_laws.Rising.{member}
 use Rattle.solid_walks.proofs.face_walks_laws.TableWalks.{member_numbers}
+use Rattle.solid_walks.proofs.face_walks_laws.Above.{member}
 
 no_members : (ks : List ℕ) → ((k : ℕ) → member k ks ≡ true → ⊥) → ks ≡ []
 no_members [] h = refl

@@ -9,7 +9,7 @@ use Rattle.euler_operators.specs.declared.Kind.TheVariants.{Solid, Face, Loop, E
 use Rattle.euler_operators.specs.Model.{Model}
 use Rattle.euler_operators.specs.Sound.{Sound}
 use Rattle.solid_listing.specs.Listing.{line, numbers_of, kind_lines, lines}
-use Rattle.solid_walks.proofs.face_walks_laws.Rising.{member}
+use Rattle.solid_walks.proofs.face_walks_laws.Above.{member}
 use Rattle.solid_walks.proofs.face_walks_laws.TableWalks.{member_numbers}
 use Rattle.solid_listing.proofs.Parsing.{Word, Line}
 use Rattle.solid_listing.proofs.Lines.{here, later, solid_small, face_small, loop_small, edge_small, vertex_small}

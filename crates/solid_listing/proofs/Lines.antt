@@ -16,7 +16,7 @@ use Rattle.euler_operators.proofs.Halves.{plus_row, minus_row}
 use Rattle.euler_operators.proofs.Models.{in-holds}
 use Rattle.euler_operators.proofs.Tests.{and_first, and_second}
 use Rattle.solid_listing.specs.Listing.{line, content_words, half_word, point_words, numbers_of, kind_lines, lines}
-use Rattle.solid_walks.proofs.face_walks_laws.Rising.{member}
+use Rattle.solid_walks.proofs.face_walks_laws.Above.{member}
 use Rattle.solid_walks.proofs.face_walks_laws.TableWalks.{member_numbers}
 use Rattle.solid_walks.proofs.face_walks_laws.RingWalks.{member_rings}
 use Rattle.solid_listing.proofs.Parsing.{Word, Line, is_clean, are_clean, is_good, are_good}

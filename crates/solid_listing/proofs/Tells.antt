@@ -14,7 +14,7 @@ use Rattle.euler_operators.proofs.Models.{content_row, face_row, solid_row, oute
 use Rattle.euler_operators.proofs.Tests.{and_first, and_second}
 use Rattle.solid_listing.specs.Lines.{text_of}
 use Rattle.solid_listing.specs.Listing.{line, content_words, half_word, lines, or_empty, listing}
-use Rattle.solid_walks.proofs.face_walks_laws.Rising.{member}
+use Rattle.solid_walks.proofs.face_walks_laws.Above.{member}
 use Rattle.solid_walks.proofs.face_walks_laws.TableWalks.{member_numbers}
 use Rattle.solid_walks.proofs.face_walks_laws.RingWalks.{member_rings}
 use Rattle.solid_listing.proofs.Parsing.{Word, Line, is_good, are_good, parsed, parsed_text, parsed_one}

@@ -8,7 +8,7 @@ use Rattle.euler_operators.specs.Model.{Model, LoopRow, no_loop, face_of, outer,
 use Rattle.euler_operators.specs.Sound.{Sound, NumbersFit}
 use Rattle.euler_conditions.specs.Store.{Store, IsNextNumber, IsNextRing}
 use Rattle.solid_listing.specs.Listing.{numbers_of}
-use Rattle.solid_walks.proofs.face_walks_laws.Rising.{above, member, all_above, next_above, none_above, all_above_members}
+use Rattle.solid_walks.proofs.face_walks_laws.Above.{above, member, all_above, next_above, none_above, all_above_members}
 use Rattle.solid_walks.proofs.face_walks_laws.TableWalks.{passes, rising_numbers, member_numbers, rising_passing, member_passing}
 
 -- the numbers of a table

@@ -1,4 +1,6 @@
 //! The texts that the workbench writes: replies and listings.
+//!
+//! `listing_tells` does nothing: its contract is the law that a listing says all of a sound model.
 #![tactic(auto)]
 
 mod cycle;
@@ -6,8 +8,6 @@ mod entry;
 mod laws;
 mod listing;
 mod reply;
-#[cfg(test)]
-mod tests;
 mod text;
 mod writing;
 

@@ -8,11 +8,11 @@ use Rattle.euler_operators.specs.declared.Content.{Content}
 use Rattle.euler_operators.specs.Model.{Model, LoopContent, lone, cycle, items_of, content, after}
 use Rattle.euler_operators.specs.Sound.{Sound}
 use Rattle.euler_conditions.specs.Store.{Tells}
-use Rattle.euler_conditions.proofs.Parallel.{steps}
+use Rattle.euler_laws.proofs.shared.Bounds.{steps}
 use Rattle.shapes.specs.Faces.{start, finish}
 use Rattle.solid_measure.specs.Measure.{area, area_limit}
-use Rattle.solid_walks.proofs.Rounds.{Round, round_start, round_more, round_closed, round_ended, half_in, met_once, items_apart}
-use Rattle.solid_walks.proofs.FaceLoops.{AreHalves}
+use Rattle.shapes.proofs.walks.Rounds.{Round, round_start, round_more, round_closed, round_ended, half_in, met_once, items_apart}
+use Rattle.shapes.proofs.walks.FaceLoops.{AreHalves}
 use Rattle.solid_measure.proofs.Areas.{area_turned, area_push, area_limited, moved_more, moved_nothing, moved_within}
 
 -- a lone loop adds nothing

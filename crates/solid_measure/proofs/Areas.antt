@@ -15,7 +15,7 @@ use Rattle.euler_operators.specs.Sound.{Sound}
 use Rattle.shapes.specs.Faces.{start, finish}
 pub use Rattle.shapes.proofs.Areas.{same_vector, moved_more, moved_turned, moved_nothing, nothing_moved, area-append, area_turned, area_push}
 use Rattle.solid_measure.specs.Measure.{area, area_limit}
-use Rattle.solid_walks.proofs.FaceLoops.{AreHalves, halves_short}
+use Rattle.shapes.proofs.walks.FaceLoops.{AreHalves, halves_short}
 
 pub point_fits : (M : Model) → Sound M → (v : ℕ) → IsInRange (point_of M v)
 unfolding point_of

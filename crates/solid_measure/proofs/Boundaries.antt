@@ -8,7 +8,8 @@ use Rattle.euler_operators.specs.declared.Point.{Point}
 use Rattle.euler_operators.specs.Ranges.{IsVectorWithin}
 use Rattle.euler_operators.specs.Vectors.{origin, moved}
 use Rattle.shapes.specs.Faces.{items_in, boundary}
-use Rattle.solid_walks.proofs.FaceLoops.{loops_to, items_joined, different_items, loops_apart, loops_none, loops_more, loops_all}
+use Rattle.shapes.proofs.walks.FaceLoops.{loops_to, items_joined, different_items, loops_apart, loops_none}
+use Rattle.solid_walks.proofs.NextRing.{loops_more, loops_all}
 use Rattle.solid_measure.specs.Measure.{area, area_limit, normal}
 use Rattle.solid_measure.proofs.Areas.{area-append, area_limited, nothing_moved}
 

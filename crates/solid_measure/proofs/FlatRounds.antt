@@ -17,11 +17,11 @@ use Rattle.euler_operators.specs.Sound.{Sound}
 use Rattle.euler_conditions.specs.Store.{IsNextRing, Tells}
 use Rattle.euler_operators.specs.Conditions.{lists}
 use Rattle.euler_laws.proofs.shared.Listed.{first_listed, rest_listed, listed_cases}
-use Rattle.euler_conditions.proofs.Parallel.{steps}
+use Rattle.euler_laws.proofs.shared.Bounds.{steps}
 use Rattle.shapes.specs.Faces.{start, vertices_on, vertices_in, corners, loops_of}
 use Rattle.solid_measure.specs.Measure.{plane_of, is_flat}
-use Rattle.solid_walks.proofs.Rising.{below_or}
-use Rattle.solid_walks.proofs.Rounds.{Round, round_start, round_more, round_closed, round_ended}
+use Rattle.euler_laws.proofs.shared.UpTo.{below_or}
+use Rattle.shapes.proofs.walks.Rounds.{Round, round_start, round_more, round_closed, round_ended}
 
 left_false : (a b : Bool) → a ≡ false → (a && b) ≡ false
 left_false a b p = ap (λ c. c && b) p

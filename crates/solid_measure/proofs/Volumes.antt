@@ -14,10 +14,11 @@ use Rattle.euler_operators.specs.Model.{Model, faces_of}
 use Rattle.euler_operators.specs.Sound.{Sound}
 use Rattle.euler_conditions.specs.Store.{IsNextFace}
 use Rattle.shapes.specs.Faces.{items_in, loops_of, boundary}
-use Rattle.solid_walks.specs.Walks.{loops_in}
-use Rattle.solid_walks.proofs.Rising.{up_to}
-use Rattle.solid_walks.proofs.FaceLoops.{halves_short, items_joined, different_items}
-use Rattle.solid_walks.proofs.SolidFaces.{faces_none, faces_more, faces_all, solid_loops_apart}
+use Rattle.shapes.specs.Walks.{loops_in}
+use Rattle.euler_laws.proofs.shared.UpTo.{up_to}
+use Rattle.shapes.proofs.walks.FaceLoops.{halves_short, items_joined, different_items}
+use Rattle.shapes.proofs.walks.SolidFaces.{faces_none, solid_loops_apart}
+use Rattle.solid_walks.proofs.NextFace.{faces_more, faces_all}
 use Rattle.solid_measure.specs.Measure.{anchor, normal, six_volume, volume_in}
 use Rattle.solid_measure.proofs.Areas.{point_fits, area_within}
 

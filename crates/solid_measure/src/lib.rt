@@ -1,21 +1,24 @@
 //! Measures of a boundary model: normals, planes, volumes and counts. Nothing here takes memory, and every number is exact.
+//!
+//! `solid_counts` counts what a solid has; `solid_checks` says what the larger commands ask of whole solids: that no loop is lone, and
+//! that each face is flat.
 #![tactic(auto)]
 
 mod faces;
-mod halves;
 mod loops;
 mod measures;
 mod solid_checks;
 mod solid_counts;
 
+pub use loops::half_added;
 pub use measures::{is_flat, normal, plane, six_volume};
 pub use solid_checks::{least_bent, least_bent_of_both, least_lone, least_lone_of_both};
 pub use solid_counts::{Tally, counts};
 
 /// A sum of cross products of points.
 #[derive(Clone, Copy, Debug, PartialEq, Eq)]
-struct Vector {
-    x: i128,
-    y: i128,
-    z: i128,
+pub struct Vector {
+    pub x: i128,
+    pub y: i128,
+    pub z: i128,
 }

@@ -18,8 +18,8 @@ use Rattle.euler_laws.proofs.shared.Rows.{loop_row, face_there}
 use Rattle.shapes.specs.Faces.{items_in, loops_of, boundary}
 use Rattle.shapes.specs.Measure.{area, normal, six_volume}
 use Rattle.shapes.proofs.Areas.{area-append}
-use Rattle.solid_walks.proofs.FaceLoops.{items_there}
-use Rattle.solid_walks.proofs.Rising.{counted_once, none_counted}
+use Rattle.shapes.proofs.walks.FaceLoops.{items_there}
+use Rattle.euler_laws.proofs.shared.Counted.{counted_once, none_counted}
 use Rattle.euler_operators.proofs.Vectors.{dot_turned, dot_origin, add_none}
 use Rattle.solid_measure_laws.specs.Models.{shifted, normals_in}
 use Rattle.solid_measure_laws.proofs.Sums.{area_same, area_mates, own_opposite, count-mates}

@@ -7,5 +7,3 @@ pub mod Inverted
 pub mod Shifted
 pub mod Closed
 pub mod Cuts
-pub use Rattle.solid_walks.proofs.FaceLoops
-pub use Rattle.solid_walks.proofs.Rising

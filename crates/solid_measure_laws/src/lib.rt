@@ -1,4 +1,5 @@
-//! The laws of normals, volumes and cut points. Each function does nothing: its contract is what is proved.
+//! The laws of normals and volumes (`flat_faces`, `turned_loops`, `moved_solids_keep_volumes`) and of cut points (`cut_points`). Each
+//! function does nothing: its contract is what is proved.
 #![tactic(auto)]
 
 ghost use Rattle.solid_measure_laws.specs.Laws.{FlatFaces, ToldAnywhere, ToldFromCorners, TurnedPaths, OpposedFaces, TurnedFaces, InvertedSolids, ShiftedFaces, ShiftedSolids, ClosedSolids, MovedSolids, CutsOnPlane, CutsInside, CutsOnEachPlane, CutsKeepAreas, CutsEitherWay};

@@ -13,10 +13,9 @@ use Rattle.euler_operators.specs.Sound.{Sound, HasHalf}
 use Rattle.euler_operators.proofs.Halves.{edge_of-code, mate-mate}
 use Rattle.euler_operators.proofs.Models.{in-holds, cycle_there, cycle_sound}
 use Rattle.euler_laws.proofs.shared.Fans.{Fan, fan_of, half_mate, loop_after}
-use Rattle.euler_conditions.proofs.Parallel.{steps, length_below}
-use Rattle.solid_walks.specs.Walks.{leads}
-use Rattle.solid_walks.proofs.Rounds.{half_below}
-use Rattle.solid_walks.proofs.FirstEdges.{leads_true, leads_false}
+use Rattle.euler_laws.proofs.shared.Bounds.{steps, length_below, half_below}
+use Rattle.shapes.specs.Walks.{leads}
+use Rattle.shapes.proofs.walks.FirstEdges.{leads_true, leads_false}
 
 pub before_there : (M : Model) → Sound M → (x : ℕ) → HasHalf M x → HasHalf M (before M x)
 unfolding before

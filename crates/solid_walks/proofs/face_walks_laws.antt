@@ -1,5 +1,5 @@
+pub mod Above
 pub mod CycleWalks
 pub mod HalfCodes
-pub mod Rising
 pub mod RingWalks
 pub mod TableWalks

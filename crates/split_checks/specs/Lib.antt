@@ -1,3 +1,4 @@
 pub mod cut_places
 pub mod place_order
 pub mod begin_checks
+pub mod Progress

@@ -3,11 +3,9 @@
 mod drawing;
 mod joining;
 mod pairs;
-mod progress;
 mod rings;
 
 pub(crate) use drawing::draw_pairs;
 pub(crate) use joining::join_pairs;
 pub(crate) use pairs::Pair;
-pub use progress::Progress;
 pub(crate) use rings::{move_rings, ring_free};

@@ -1,4 +1,7 @@
 //! The first two rewritings of a split, in a draft: crossing edges are cut, and straddling faces drawn.
+//!
+//! `edge_cutting` cuts the edges; `face_pairs` takes the cut places of faces in pairs; `face_drawing` draws edges in one face,
+//! `solid_drawing` in all of a solid.
 #![tactic(auto)]
 
 mod edge_cutting;
@@ -6,5 +9,4 @@ mod face_drawing;
 mod face_pairs;
 mod solid_drawing;
 
-pub use face_drawing::Progress;
 pub use solid_drawing::draw_solid;

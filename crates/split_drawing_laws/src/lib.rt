@@ -1,6 +1,12 @@
 //! The laws of the first two rewritings of a split: the edges that cross the plane are cut, and edges are drawn between the cut places
 //! of faces; on which side of the plane loops and faces lie then, and what the volumes are. The functions do nothing: their contracts
 //! are what is proved, over every sound model in which the first conditions of a split hold.
+//!
+//! `crossings`: edges cut, operator by operator (`operators_cut_crossings`, `crossings_leave`). `drawings`: edges drawn in faces, operator by
+//! operator, over all faces whose pairs of half-edges fit (`drawings_are_made`). `pairs`: the cut places of a face fit so
+//! (`cut_places_can_be_drawn`, `rewritings_are_accepted`). `half_sides`, `loop_sides`, `face_sides`: on which side of the plane
+//! half-edges, loops and faces lie (`half_edges_take_sides`, `loops_lie_on_one_side`, `faces_lie_on_one_side`). `cut_volumes`,
+//! `drawn_volumes`: the six volumes in each of the two rewritings (`crossings_keep_volumes`, `drawings_keep_volumes`).
 #![tactic(auto)]
 
 ghost use Rattle.split_drawing_laws.specs.crossings.Laws.{CrossingsAreAccepted, CrossingsAreMade, CrossingsAreSound, CrossingsAreCounted, CrossingsKeep, NoneCrosses, PlacesStart, TailsStay};

@@ -16,7 +16,6 @@ use Rattle.euler_laws.specs.Laws.{AreAccepted, effects}
 use Rattle.euler_laws.proofs.Runs.{effects_keep_sound}
 use Rattle.euler_laws.proofs.shared.Fans.{half_mate}
 use Rattle.euler_laws.proofs.shared.Listed.{IsIn-from_listed}
-use Rattle.solid_walks.proofs.Rising.{none_counted, counted_once, in_listed}
 use Rattle.shapes.specs.split.Sides.{faces_above}
 use Rattle.shapes.specs.split.Drawing.{with_drawings}
 use Rattle.shapes.specs.split.Section.{below_halves, section_cycles}
@@ -40,6 +39,7 @@ use Rattle.split_laws.specs.drawn.Kept.{HasFace}
 use Rattle.split_laws.proofs.drawn.Drawn.{begins, t_fits, no_stray, t_free, above_facts, can_open_all, no_caps}
 use Rattle.split_laws.proofs.drawn.BothSides.{some_above, some_below}
 use Rattle.split_laws.proofs.OldFaces.{IsOld, all_old, solids_still}
+use Rattle.euler_laws.proofs.shared.Counted.{none_counted, counted_once, in_listed}
 
 -- ---- which of the caps are listed
 

@@ -1,5 +1,12 @@
 //! The laws of splits: a solid split by a plane operator by operator, the six volumes of its two parts, and the sides on which they
 //! lie. The functions do nothing: their contracts are what is proved, over every sound model and every split that isn't refused.
+//!
+//! `drawn`: what a solid has once its faces are drawn (`solids_reach_both_sides`, `sections_can_be_opened`). The files beside the folders:
+//! the openings and the whole split, operator by operator (`sections_open_in_turn`, `splits_make_split`). `opened`: volumes while a solid
+//! is opened along cycles on a plane (`openings_keep_volumes`). `volumes`: those of the two parts, over a drawn model that can be split
+//! (`parting_shares_volumes`, `closed_holes_keep_volumes`, `splits_share_volumes`). `sides`: where the parts lie
+//! (`parts_lie_on_their_sides`). `measures`: the same of every split that isn't refused (`splits_can_be_split`, `parts_share_volumes`,
+//! `parts_lie_on_either_side`).
 #![tactic(auto)]
 
 ghost use Rattle.split_laws.specs.drawn.Laws.{DrawingsKeepSolids, SolidsHaveAFaceAbove, SolidsHaveAFaceBelow, SectionsOpenInTurn};

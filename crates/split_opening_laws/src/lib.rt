@@ -1,6 +1,11 @@
 //! The laws of the third rewriting of a split: the cycles of a section, and a solid opened along one of them, operator by operator:
-//! strips cut off, copies raised, caps closed. The functions do nothing: their contracts are what is proved, over every model and every
-//! cycle along which a solid can be opened.
+//! strips cut off, copies raised, caps closed. The functions do nothing: their contracts are what is proved, of the cycles over every
+//! sound model and every list of faces of a solid, and of the openings over every model and every cycle along which a solid can be opened.
+//!
+//! `cycles`: the edges between the faces above and the others form cycles (`below_halves_are`, `halves_lead_on`, `halves_form_cycles`); no
+//! point is looked at there. `sections`: one cycle after the other (`other_cycles_stay`, `cycles_open_in_turn`,
+//! `caps_have_no_rings`). `strips`, `copies`, `caps`: the three steps along one cycle (`strips_are_cut`, `copies_are_raised`,
+//! `strips_make_caps`). `opening`: these together (`cycles_open_solids`).
 #![tactic(auto)]
 
 ghost use Rattle.split_opening_laws.specs.cycles.Laws.{BelowHalvesRise, BelowHalvesAre, AsManyStartAsEnd, OneStartsAndOneEnds, NextBelowPermutes, CyclesCover, CyclesRise, CyclesLeadRound, CyclesAreApart};

@@ -13,8 +13,8 @@ use Rattle.euler_conditions.specs.Store.{IsNextRing}
 use Rattle.euler_operators.specs.Conditions.{is_lone, lists}
 use Rattle.euler_laws.proofs.shared.Goes.{equals, no_zero}
 use Rattle.euler_laws.proofs.shared.Rows.{loop_row}
-use Rattle.euler_conditions.proofs.Borders.{ring_there, outer_or_ring}
-use Rattle.euler_conditions.proofs.Parallel.{first_where_least}
+use Rattle.euler_laws.proofs.shared.FaceRings.{ring_there, outer_or_ring}
+use Rattle.euler_laws.proofs.shared.FirstWhere.{first_where_least}
 use Rattle.shapes.specs.Faces.{least_lone}
 use Rattle.sweeps.specs.Corners.{IsLoneRing}
 

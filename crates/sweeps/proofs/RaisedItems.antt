@@ -23,9 +23,10 @@ use Rattle.shapes.specs.Faces.{start}
 use Rattle.shapes.specs.Fresh.{Taken}
 use Rattle.shapes.specs.Prism.{riser}
 use Rattle.sweeps_laws.specs.prism.SweepOps.{raise_item, close, close_last, rounds, loop_ops}
-use Rattle.sweeps_laws.proofs.prism.Sides.{Ready, half_there, two_items}
+use Rattle.sweeps_laws.proofs.prism.Sides.{half_there, two_items}
 use Rattle.sweeps_laws.proofs.prism.Turns.{turn_half, turn_range, raise_accepted, close_accepted, turn_is, last_accepted, last_is}
 use Rattle.sweeps_laws.proofs.prism.Loops.{first_accepted}
+use Rattle.sweeps_laws.specs.prism.Ready.{Ready}
 
 -- what an arena answers of a loop with half-edges stands in it
 pub ring_in : (t : LoopContent) (h : HalfEdge) → Tells t (Ring h) → IsIn (code h) (items_of t)

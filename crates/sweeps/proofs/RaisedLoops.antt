@@ -9,7 +9,7 @@ use Rattle.shapes.specs.Faces.{loops_of}
 use Rattle.shapes.specs.Fresh.{Taken, taken_in}
 use Rattle.shapes.specs.Prism.{prism_from, prism_model}
 use Rattle.sweeps_laws.specs.prism.SweepOps.{loop_ops, taken_after}
-use Rattle.sweeps_laws.proofs.prism.Sides.{Ready}
+use Rattle.sweeps_laws.specs.prism.Ready.{Ready}
 use Rattle.sweeps_laws.proofs.prism.Whole.{Going, turn_ready, turn_next, turn_model}
 
 -- the first of a list, and the rest

@@ -17,7 +17,7 @@ use Rattle.euler_conditions.specs.Store.{IsNextRing, Tells}
 use Rattle.euler_conditions.proofs.Borders.{ring_has}
 use Rattle.shapes.specs.Faces.{vertices_on, vertices_in, loops_of, corners}
 use Rattle.shapes.specs.Fresh.{first_such}
-use Rattle.solid_walks.proofs.face_walks_laws.Rising.{above}
+use Rattle.solid_walks.proofs.face_walks_laws.Above.{above}
 use Rattle.solid_walks.proofs.face_walks_laws.RingWalks.{next_ring, no_ring, rings_from_zero}
 use Rattle.solid_walks.proofs.face_walks_laws.CycleWalks.{seen, start_seen, cycle_apart, item_in}
 use Rattle.sweeps.specs.Corners.{is_far, IsTally}

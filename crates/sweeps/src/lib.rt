@@ -3,12 +3,9 @@
 
 mod blocks;
 mod corners;
-mod fresh;
 mod laminas;
 mod raising;
 mod sweeping;
-#[cfg(test)]
-mod tests;
 
 pub use blocks::block;
 pub use laminas::lamina;

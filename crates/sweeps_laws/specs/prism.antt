@@ -1,3 +1,4 @@
 pub mod SweepOps
+pub mod Ready
 pub mod Part
 pub mod Laws

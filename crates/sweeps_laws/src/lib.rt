@@ -1,5 +1,9 @@
-//! The laws of laminas and sweeps, operator by operator, and of volumes under sweeps. Each function does nothing: its contract is what
-//! is proved, over every sound model in which the command's conditions hold.
+//! The laws of laminas, blocks and sweeps: their operators are accepted in turn and together make the model
+//! (`operators_make_lamina`, `blocks_rise_from_bases`, `sweeps_make_prisms`), and what they measure (`sweeps_add`, `blocks_measure`).
+//! Each function does nothing: its contract is what is proved, over every sound model in which the command's conditions hold.
+//!
+//! `lamina` and `prism` go operator by operator, `swept` says what one loop of a face that is swept becomes, and beside them stand the
+//! laws of volumes.
 #![tactic(auto)]
 
 ghost use Rattle.sweeps_laws.specs.lamina.Laws.{OperatorsAreAccepted, OperatorsMakeLamina, LaminaIsSound, BlocksHaveBases, BasesRise};

@@ -8,8 +8,6 @@ mod draft;
 mod record;
 mod session;
 mod steps;
-#[cfg(test)]
-mod tests;
 
 pub use draft::Draft;
 pub use record::{OpList, Record};

@@ -23,7 +23,7 @@ use Rattle.euler_laws.proofs.shared.Rows.{face_there}
 use Rattle.euler_laws.proofs.mef.KefSound as kill
 use Rattle.euler_laws.proofs.mef.KefSound.{KefGoes}
 use Rattle.euler_laws.proofs.mef.Kef.{kef_accepted}
-use Rattle.sweeps_laws.proofs.prism.Steps.{Around, half_is, loop_is, apart_xs, cycle_is}
+use Rattle.euler_laws.proofs.shared.KnownLoop.{Around, half_is, loop_is, apart_xs, cycle_is}
 use Rattle.shapes.specs.Rewriting.{rewritten_row, renamed, without_rows}
 use Rattle.shapes.specs.glue.Glue.{glued_along, renamed_tails, moves, partner, partners}
 use Rattle.shapes.specs.glue.Part.{paired, glued_part}

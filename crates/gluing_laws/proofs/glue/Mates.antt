@@ -16,7 +16,7 @@ use Rattle.euler_operators.specs.Sound.{HasHalf, StandsIn}
 use Rattle.euler_operators.proofs.Models.{content_row, holds_in, none-holds, other_loop, row_of, cycle_there, cycle_sound}
 use Rattle.euler_laws.proofs.shared.Fans.{half_mate}
 use Rattle.euler_laws.proofs.shared.Rows.{one_row}
-use Rattle.sweeps_laws.proofs.prism.Steps.{Around, half_is, loop_is}
+use Rattle.euler_laws.proofs.shared.KnownLoop.{Around, half_is, loop_is}
 use Rattle.shapes.specs.Rewriting.{rewritten_row, renamed}
 use Rattle.shapes.specs.glue.Part.{paired, seam, glued_part}
 use Rattle.shapes.proofs.glue.Renamings.{renamed_more, replaced}

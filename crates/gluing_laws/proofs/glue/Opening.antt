@@ -15,7 +15,7 @@ use Rattle.euler_operators.specs.HalfEdge.{mate, edge_of, half, plus, minus}
 use Rattle.euler_operators.specs.Table as table
 use Rattle.euler_operators.specs.Table.{Table, tables, same_table, get-map_rows}
 use Rattle.euler_operators.specs.declared.Corner.TheVariants.{At}
-use Rattle.euler_operators.specs.Model.{Model, FaceRow, LoopRow, EdgeRow, lone, cycle, LoopContent, items_of, holds, tail, tail_in, loop_of, content, face_of, solid_of, outer, cycle_of, no_face, is_number}
+use Rattle.euler_operators.specs.Model.{Model, FaceRow, LoopRow, EdgeRow, lone, cycle, LoopContent, items_of, holds, tail, tail_in, content, face_of, solid_of, outer, no_face, is_number}
 use Rattle.euler_operators.specs.Model as model
 use Rattle.euler_operators.specs.Sound.{Sound, Has, HasHalf}
 use Rattle.euler_operators.proofs.Halves.{code-half, plus_row, minus_row, edge_of-mate, mate_plus}
@@ -37,7 +37,7 @@ use Rattle.euler_laws.proofs.kev.MevUndo.{as_cycle}
 use Rattle.euler_laws.specs.Laws.{effects, AreAccepted}
 use Rattle.euler_laws.proofs.Cases.{effect_keeps_sound}
 use Rattle.shapes.proofs.fresh.Rows.{get-put_here, get-put_other}
-use Rattle.sweeps_laws.proofs.prism.Steps.{Around, half_is, loop_is, cycle_is, apart_xs, edge_plus}
+use Rattle.sweeps_laws.proofs.prism.Steps.{edge_plus}
 use Rattle.shapes.specs.Rewriting.{rewritten, rewritten_row, renamed}
 use Rattle.shapes.specs.glue.Glue.{renamed_tails}
 use Rattle.shapes.specs.glue.GlueOps.{opening}
@@ -45,8 +45,9 @@ use Rattle.shapes.specs.glue.Part.{paired, seam, glued_part}
 use Rattle.shapes.proofs.glue.Renamings.{renamed_more}
 use Rattle.shapes.proofs.glue.Swapped.{map_agree, map_removed}
 use Rattle.shapes.proofs.glue.Facing as facing
-use Rattle.shapes.proofs.glue.Facing.{Facing, side}
+use Rattle.shapes.proofs.glue.Facing.{Facing}
 use Rattle.gluing_laws.proofs.glue.Round.{out_edge, out_here, out_none, same_edge_row}
+use Rattle.euler_laws.proofs.shared.KnownLoop.{Around, half_is, loop_is, cycle_is, apart_xs}
 
 same_items : (cs : List ℕ) → map (renamed []) cs ≡ cs
 same_items [] = refl

@@ -33,7 +33,8 @@ use Rattle.euler_laws.proofs.mef.Kef.{kef_accepted}
 use Rattle.euler_laws.specs.Laws.{effects, AreAccepted}
 use Rattle.euler_laws.proofs.Cases.{effect_keeps_sound}
 use Rattle.shapes.proofs.fresh.Rows.{get-put_here, get-put_other}
-use Rattle.sweeps_laws.proofs.prism.Steps.{Around, with_chord, mef_does, mef_fits, apart_xs, loop_is, half_is}
+use Rattle.euler_laws.proofs.shared.KnownLoop.{Around, apart_xs, loop_is, half_is}
+use Rattle.sweeps_laws.proofs.prism.Steps.{with_chord, mef_does, mef_fits}
 use Rattle.shapes.specs.glue.GlueOps.{closing}
 
 -- an item taken out of a loop

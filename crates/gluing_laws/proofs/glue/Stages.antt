@@ -14,7 +14,7 @@ use Rattle.euler_operators.specs.Sound.{Sound, HasHalf}
 use Rattle.euler_operators.specs.Effect.{faces_to_solid}
 use Rattle.euler_laws.proofs.shared.Same.{mapped_some}
 use Rattle.shapes.proofs.fresh.Rows.{get-put_here, get-put_other}
-use Rattle.sweeps_laws.proofs.prism.Steps.{Around}
+use Rattle.euler_laws.proofs.shared.KnownLoop.{Around}
 use Rattle.shapes.specs.Rewriting.{rewritten_row, renamed, without_rows}
 use Rattle.shapes.specs.glue.Glue.{renamed_tails}
 use Rattle.shapes.specs.glue.Part.{paired, seam, glued_part}

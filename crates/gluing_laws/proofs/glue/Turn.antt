@@ -17,7 +17,7 @@ use Rattle.euler_operators.specs.Effect.{moved_tail}
 use Rattle.euler_laws.proofs.shared.Fans.{half_mate}
 use Rattle.euler_laws.proofs.shared.Same.{map_twice}
 use Rattle.euler_laws.specs.Laws.{effects, AreAccepted}
-use Rattle.sweeps_laws.proofs.prism.Steps.{Around, half_is, apart_xs}
+use Rattle.euler_laws.proofs.shared.KnownLoop.{Around, half_is, apart_xs}
 use Rattle.shapes.specs.Rewriting.{rewritten_row, renamed, without_rows}
 use Rattle.shapes.specs.glue.Glue.{renamed_tails}
 use Rattle.shapes.specs.glue.GlueOps.{closing}

@@ -5,14 +5,13 @@ ghost use Rattle.euler_operators.specs.Model.{has_half};
 ghost use Rattle.euler_laws.specs.Laws.{effects};
 ghost use Rattle.euler_operators.specs.Conditions.{first_false};
 ghost use Rattle.undo_journal.specs.Machine.{draft_step};
-ghost use Rattle.split_drawing.specs.face_drawing.Codes.{taken_of};
+ghost use Rattle.split_checks.specs.Progress.{taken_of};
 ghost use Rattle.split_opening_laws.specs.strips.StripOps as ops;
 ghost use Rattle.plane_split.specs.solid_opening.Stages.{CanOpen};
 
 use crate::solid_opening::halves::next_item;
 use euler_operators::{HalfEdge, Op};
-use solid_walks::plus;
-use split_drawing::Progress;
+use split_checks::Progress;
 use std::alloc::AllocError;
 use undo_journal::Draft;
 
@@ -34,7 +33,7 @@ fn cut_strip(
 {
     let mate = halves[i as usize].mate();
     let next = next_item(draft.arena(), mate);
-    let edge = plus(from.edges + i + 1);
+    let edge = HalfEdge::plus(from.edges + i + 1);
     draft.step_accepted(Op::Mef(mate, next, edge, from.faces + i + 1, from.loops + i + 1))
 }
 

@@ -6,7 +6,7 @@ use Rattle.euler_operators.specs.Sound.{Sound}
 use Rattle.shapes.specs.Faces.{faces_of_both}
 use Rattle.shapes.specs.Fresh.{first_such}
 use Rattle.solid_measure.specs.Measure.{is_flat}
-use Rattle.solid_walks.proofs.face_walks_laws.Rising.{member}
+use Rattle.solid_walks.proofs.face_walks_laws.Above.{member}
 use Rattle.solid_measure.specs.solid_checks.Least.{found, lesser}
 use Rattle.solid_measure.proofs.solid_checks_laws.Searches.{IsLeast, one_least, least_same, least_either, least_rising, and_or}
 use Rattle.solid_measure.proofs.solid_checks_laws.FaceWalks.{member_both, faces_rise, both_rise, faces_positive, both_positive}

@@ -9,7 +9,7 @@ use Rattle.euler_operators.specs.Conditions.{lists, is_lone}
 use Rattle.euler_operators.proofs.Tests.{and_first}
 use Rattle.euler_operators.proofs.Models.{one_or_more}
 use Rattle.shapes.specs.Faces.{loops_of, least_lone, faces_of_both}
-use Rattle.solid_walks.proofs.face_walks_laws.Rising.{member, AllAbove, all_above_members}
+use Rattle.solid_walks.proofs.face_walks_laws.Above.{member, AllAbove, all_above_members}
 use Rattle.solid_walks.proofs.face_walks_laws.TableWalks.{passes, member_passing}
 use Rattle.solid_walks.proofs.face_walks_laws.RingWalks.{member_rings}
 use Rattle.solid_measure.specs.solid_checks.Least.{found, lesser, least_such}

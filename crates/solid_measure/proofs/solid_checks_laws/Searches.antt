@@ -5,7 +5,7 @@ use Rattle.std.proofs.lemmas.Bool.{or_left, or_right}
 use Rattle.euler_operators.specs.Table.{Table, get, first_in, first_where, all_in, all_where}
 use Rattle.euler_operators.proofs.Tests.{and_false}
 use Rattle.shapes.specs.Fresh.{first_such}
-use Rattle.solid_walks.proofs.face_walks_laws.Rising.{member, AllAbove, Rising, not_member}
+use Rattle.solid_walks.proofs.face_walks_laws.Above.{member, AllAbove, Rising, not_member}
 use Rattle.solid_walks.proofs.face_walks_laws.TableWalks.{passes, rising_passing, member_passing}
 use Rattle.solid_measure.specs.solid_checks.Least.{found, only, lesser, least_such}
 

@@ -10,11 +10,14 @@ use Rattle.euler_conditions.specs.Store.{IsNextRing, IsNextFace}
 use Rattle.shapes.specs.Faces.{loops_of}
 use Rattle.solid_measure.specs.declared.solid_counts.Met.{Met}
 use Rattle.solid_measure.specs.solid_counts.Counts.{rings_in}
-use Rattle.solid_walks.specs.Walks.{loops_in}
+use Rattle.shapes.specs.Walks.{loops_in}
 use Rattle.solid_measure.specs.solid_counts.Sums.{together, nothing, IsFew, loop_met, loops_met}
-use Rattle.solid_walks.proofs.Rising.{up_to, in_listed}
-use Rattle.solid_walks.proofs.FaceLoops.{loops_to, loops_apart, loops_of_apart, loops_none, loops_more, loops_all}
-use Rattle.solid_walks.proofs.SolidFaces.{loops_joined, loops_short, faces_none, faces_more, faces_all, solid_loops_apart, solid_loops_there, all_loops_apart, loop_in_solid, face_of_loop, loops_to_there}
+use Rattle.euler_laws.proofs.shared.UpTo.{up_to}
+use Rattle.euler_laws.proofs.shared.Counted.{in_listed}
+use Rattle.shapes.proofs.walks.FaceLoops.{loops_to, loops_apart, loops_of_apart, loops_none}
+use Rattle.solid_walks.proofs.NextRing.{loops_more, loops_all}
+use Rattle.shapes.proofs.walks.SolidFaces.{loops_joined, loops_short, faces_none, solid_loops_apart, solid_loops_there, all_loops_apart, loop_in_solid, face_of_loop, loops_to_there}
+use Rattle.solid_walks.proofs.NextFace.{faces_more, faces_all}
 use Rattle.solid_measure.proofs.solid_counts_laws.Sums.{loops-append, loops_push, loop_is, loops_few}
 
 rings_joined : (M : Model) (fs gs : List ℕ) → rings_in M (fs ++ gs) ≡ rings_in M fs ++ rings_in M gs

@@ -9,12 +9,12 @@ use Rattle.euler_operators.specs.Model.{Model, LoopContent, lone, cycle, items_o
 use Rattle.euler_operators.specs.Sound.{Sound}
 use Rattle.euler_operators.proofs.Halves.{is_first-code}
 use Rattle.euler_conditions.specs.Store.{Tells}
-use Rattle.euler_conditions.proofs.Parallel.{steps}
+use Rattle.euler_laws.proofs.shared.Bounds.{steps}
 use Rattle.solid_measure.specs.declared.solid_counts.Met.{Met}
-use Rattle.solid_walks.specs.Walks.{leads}
+use Rattle.shapes.specs.Walks.{leads}
 use Rattle.solid_measure.specs.solid_counts.Sums.{IsFew, together, nothing, half_met, halves_met, loop_met}
-use Rattle.solid_walks.proofs.Rounds.{Round, round_start, round_more, round_closed, round_ended, half_in, met_once, items_apart}
-use Rattle.solid_walks.proofs.FaceLoops.{AreHalves}
+use Rattle.shapes.proofs.walks.Rounds.{Round, round_start, round_more, round_closed, round_ended, half_in, met_once, items_apart}
+use Rattle.shapes.proofs.walks.FaceLoops.{AreHalves}
 use Rattle.solid_measure.proofs.solid_counts_laws.Sums.{halves_push, halves_turned, halves_few}
 
 -- the walk has come to h, and has counted what was met

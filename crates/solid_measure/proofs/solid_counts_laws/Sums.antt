@@ -8,11 +8,11 @@ use Rattle.euler_operators.specs.Sound.{Sound, Has}
 use Rattle.euler_operators.specs.Conditions.{is_lone}
 use Rattle.shapes.specs.Faces.{items_in}
 use Rattle.solid_measure.specs.declared.solid_counts.Met.{Met}
-use Rattle.solid_walks.specs.Walks.{leads}
+use Rattle.shapes.specs.Walks.{leads}
 use Rattle.solid_measure.specs.solid_counts.Sums.{together, nothing, IsFew, half_met, halves_met, loop_met, loops_met}
 use Rattle.solid_measure.proofs.solid_counts_laws.HowMany.{how_many, how_many-append, how_many_short}
-use Rattle.solid_walks.proofs.FaceLoops.{AreHalves, halves_short, different_items}
-use Rattle.solid_walks.proofs.SolidFaces.{loops_short}
+use Rattle.shapes.proofs.walks.FaceLoops.{AreHalves, halves_short, different_items}
+use Rattle.shapes.proofs.walks.SolidFaces.{loops_short}
 
 same_met : (a b : Met) → a.vertices ≡ b.vertices → a.edges ≡ b.edges → a ≡ b
 same_met a b v e = λ i. record { vertices = v i; edges = e i }

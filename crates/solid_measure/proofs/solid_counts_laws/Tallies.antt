@@ -26,15 +26,15 @@ use Rattle.shapes.specs.Faces.{items_in, loops_of, vertices_on, vertices_in, cor
 use Rattle.solid_measure.specs.solid_counts.Counts.{corners_in, rings_in, vertices_of, counts}
 use Rattle.solid_measure.specs.declared.solid_counts.Met.{Met}
 use Rattle.solid_measure.specs.declared.solid_counts.Tally.{Tally}
-use Rattle.solid_walks.specs.Walks.{leads, loops_in}
 use Rattle.solid_measure.specs.solid_counts.Sums.{IsFew, loops_met}
-use Rattle.solid_walks.proofs.Rising.{counted_once, in_listed}
-use Rattle.solid_walks.proofs.FaceLoops.{different_items, items_counted, items_there}
-use Rattle.solid_walks.proofs.SolidFaces.{listed_in, solid_loops, all_loops_apart, loop_in_solid, solid_has_loop, faces_short}
 use Rattle.solid_measure.proofs.solid_counts_laws.HowMany.{passing, passing_are, passing_apart, of_passing, in_passing, of_map, equally_many}
-use Rattle.solid_walks.proofs.FirstEdges.{one_leads, only_leads}
 use Rattle.solid_measure.proofs.solid_counts_laws.Sums.{is_lone_loop, loops_are, loops_few}
 use Rattle.solid_measure.proofs.solid_counts_laws.FaceSums.{all_rings_few}
+use Rattle.shapes.specs.Walks.{leads, loops_in}
+use Rattle.euler_laws.proofs.shared.Counted.{counted_once, in_listed, listed_in}
+use Rattle.shapes.proofs.walks.FaceLoops.{different_items, items_counted, items_there}
+use Rattle.shapes.proofs.walks.SolidFaces.{solid_loops, all_loops_apart, loop_in_solid, solid_has_loop, faces_short}
+use Rattle.shapes.proofs.walks.FirstEdges.{one_leads, only_leads}
 
 -- ---- corners, by loops
 

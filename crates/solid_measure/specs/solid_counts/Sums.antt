@@ -2,7 +2,7 @@
 use Rattle.std.specs.Prelude.{ℕ, ◌+◌, ◌≤◌, cond, List, [], ◌∷◌}
 use Rattle.euler_operators.specs.HalfEdge.{is_first}
 use Rattle.euler_operators.specs.Model.{Model, LoopContent, lone, cycle, content}
-use Rattle.solid_walks.specs.Walks.{leads}
+use Rattle.shapes.specs.Walks.{leads}
 use Rattle.solid_measure.specs.declared.solid_counts.Met.{Met}
 
 abbrev pub together : Met → Met → Met

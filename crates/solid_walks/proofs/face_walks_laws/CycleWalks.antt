@@ -7,7 +7,7 @@ use Rattle.euler_operators.specs.Rings.{rotate_to, canonical, successor, rest}
 use Rattle.euler_operators.proofs.Lists.{count-append, tick_same, tick_other, split_at, count-before, before_of, after_of, least_le, least_in}
 use Rattle.euler_operators.proofs.Rotations.{rotate_to-rotates, IsApart-rotate_to, count-rotate_to, rotate_to_is}
 use Rattle.euler_operators.proofs.Rings.{successor_at, successor_same, IsIn_successor}
-use Rattle.euler_operators.specs.Model.{Model, content, has_half, loop_of, cycle_of, is_number}
+use Rattle.euler_operators.specs.Model.{Model, content, loop_of, cycle_of, is_number}
 use Rattle.euler_operators.specs.Model as model
 use Rattle.euler_operators.specs.Sound.{Sound, HasHalf, StandsIn}
 use Rattle.euler_operators.proofs.Models.{in-holds, held_row, cycle_there, cycle_sound}

@@ -1,5 +1,5 @@
 -- Half-edges, their codes, and the test for equal ones.
-use Rattle.std.proofs.Common.{◌≡◌, ◌≢◌, ℕ, ◌≤◌, Bool, true, false, cond, ◌&&◌, nat_eq, ◌∷◌, ap, sym, ◌∙◌, arith, decimal, refl, true≢false}
+use Rattle.std.proofs.Common.{◌≡◌, ◌≢◌, ℕ, ◌≤◌, Bool, true, false, ◌&&◌, nat_eq, ap, sym, ◌∙◌, arith, refl, true≢false}
 use mathlib.Core.Bool.{beq}
 use Rattle.std.proofs.lemmas.Bool.Decides.{nat_tests}
 use Rattle.euler_operators.specs.declared.HalfEdge.{HalfEdge}

@@ -5,7 +5,7 @@ use Rattle.euler_operators.specs.Table.{get, has}
 use Rattle.euler_operators.specs.Model.{Model, LoopRow, no_loop, face_of, outer, rings_of, is_ring_of, is_number}
 use Rattle.euler_operators.specs.Sound.{Sound}
 use Rattle.euler_conditions.specs.Store.{IsNextRing}
-use Rattle.solid_walks.proofs.face_walks_laws.Rising.{above, member, all_above, next_above, none_above, all_above_members}
+use Rattle.solid_walks.proofs.face_walks_laws.Above.{above, member, all_above, next_above, none_above, all_above_members}
 use Rattle.solid_walks.proofs.face_walks_laws.TableWalks.{passes, rising_passing, member_passing}
 
 -- the rings of a face

@@ -6,7 +6,7 @@ use Rattle.std.specs.FinMap.Entries.{find, is_sorted, below_all}
 use Rattle.std.specs.Cmp.{unsigned_tied}
 use Rattle.euler_operators.specs.Table.{Table, get, has, numbers, all_in, all_where}
 use Rattle.euler_operators.proofs.Tables.{and_left, and_right}
-use Rattle.solid_walks.proofs.face_walks_laws.Rising.{member, AllAbove, Rising, not_member}
+use Rattle.solid_walks.proofs.face_walks_laws.Above.{member, AllAbove, Rising, not_member}
 
 less_means : (k a : ℕ) → T (is_lt (nat_cmp k a)) → k < a
 less_means k a h = grind (arith, nat_tests)

@@ -22,14 +22,9 @@ use Rattle.euler_laws.proofs.shared.Goes.{equal, equals}
 use Rattle.euler_laws.proofs.shared.Listed.{listed_passes, passes_listed, all_where-rises}
 use Rattle.euler_laws.proofs.shared.Loops.{some_row}
 use Rattle.euler_conditions.proofs.Known.{loop_there}
-use Rattle.solid_walks.proofs.face_walks_laws.Rising.{member, AllAbove, Rising, all_above_members}
 use Rattle.solid_walks.proofs.face_walks_laws.TableWalks.{rising_passing}
 use Rattle.shapes.specs.Faces.{items_in, loops_of, boundary, edges_of}
 use Rattle.shapes.specs.Fresh.{first_such}
-use Rattle.solid_walks.specs.Walks.{loops_in}
-use Rattle.solid_walks.proofs.Rising.{counted_once, in_listed}
-use Rattle.solid_walks.proofs.FaceLoops.{different_items, items_counted, items_there, items_joined}
-use Rattle.solid_walks.proofs.SolidFaces.{listed_in, solid_loops, all_loops_apart, loop_in_solid, solid_has_loop, face_of_loop, listed_face}
 use Rattle.solid_measure.proofs.solid_counts_laws.HowMany.{of_map, equally_many}
 use Rattle.solid_measure.specs.solid_checks.Least.{found, least_such}
 use Rattle.solid_measure.proofs.solid_checks_laws.FaceWalks.{lists_member}
@@ -41,6 +36,11 @@ use Rattle.split_checks.specs.cut_places.Walks.{AreIn}
 use Rattle.split_checks.proofs.cut_places_laws.CrossingHalves.{plus_crosses}
 use Rattle.split_checks.proofs.cut_places_laws.Lists.{of_picked, picked_apart, picked_rise, none_passes}
 use Rattle.split_checks.proofs.cut_places_laws.Walks.{all_in}
+use Rattle.solid_walks.proofs.face_walks_laws.Above.{member, AllAbove, Rising, all_above_members}
+use Rattle.shapes.specs.Walks.{loops_in}
+use Rattle.euler_laws.proofs.shared.Counted.{counted_once, in_listed, listed_in}
+use Rattle.shapes.proofs.walks.FaceLoops.{different_items, items_counted, items_there, items_joined}
+use Rattle.shapes.proofs.walks.SolidFaces.{solid_loops, all_loops_apart, loop_in_solid, solid_has_loop, face_of_loop, listed_face}
 
 member_in : (k : ℕ) (ks : List ℕ) → member k ks ≡ true → IsIn k ks
 member_in k ks m = listed_in k ks (lists_member ks k ∙ m)

@@ -14,8 +14,8 @@ use Rattle.euler_operators.specs.Conditions.{lists}
 use Rattle.euler_laws.proofs.shared.Listed.{first_listed, rest_listed}
 use Rattle.euler_conditions.proofs.Borders.{ring_has}
 use Rattle.shapes.specs.Faces.{loops_of, items_in, boundary, vertices_on}
-use Rattle.solid_walks.proofs.FaceLoops.{items_there}
-use Rattle.solid_walks.proofs.SolidFaces.{face_of_loop}
+use Rattle.shapes.proofs.walks.FaceLoops.{items_there}
+use Rattle.shapes.proofs.walks.SolidFaces.{face_of_loop}
 use Rattle.split_checks.specs.cut_places.Walks.{AreThere, AreIn}
 
 -- each of some numbers is in use, and the edge of each of some half-edges is there

@@ -8,7 +8,7 @@ use Rattle.euler_operators.specs.Model.{Model}
 use Rattle.euler_operators.specs.Sound.{Sound, HasHalf}
 use Rattle.euler_operators.proofs.Halves.{code-half}
 use Rattle.shapes.specs.Faces.{boundary, loops_of}
-use Rattle.solid_walks.proofs.FaceLoops.{items_there}
+use Rattle.shapes.proofs.walks.FaceLoops.{items_there}
 use Rattle.shapes.specs.split.Places.{is_place, place_point, places, sorted_in, sorted}
 use Rattle.split_checks.specs.cut_places.Places.{IsWholeFace}
 use Rattle.split_checks.specs.cut_places.Walks.{AreThere}

@@ -4,8 +4,9 @@ use Rattle.euler_operators.specs.declared.Plane.{Plane}
 use Rattle.euler_operators.specs.Model.{Model}
 use Rattle.shapes.specs.split.Drawing.{drawn_between}
 use Rattle.split_drawing.specs.declared.face_drawing.pairs.Pair.{Pair}
-use Rattle.split_drawing.specs.declared.face_drawing.progress.Progress.{Progress}
-use Rattle.split_drawing.specs.face_drawing.Codes.{codes, drawing_of}
+use Rattle.split_checks.specs.declared.progress.Progress.{Progress}
+use Rattle.split_drawing.specs.face_drawing.Codes.{codes}
+use Rattle.split_checks.specs.Progress.{drawing_of}
 use Rattle.split_drawing.specs.declared.face_pairs.pairs.FacePairs.{FacePairs}
 use Rattle.split_drawing.specs.face_pairs.Paired.{paired}
 use Rattle.split_drawing.specs.solid_drawing.Drawn.{put_aside, faces_between, CanDrawFace, CanDrawFaces}

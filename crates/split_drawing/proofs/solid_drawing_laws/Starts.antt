@@ -5,7 +5,7 @@ use Rattle.euler_operators.specs.Items.{IsIn}
 use Rattle.euler_operators.proofs.Lists.{tick_same}
 use Rattle.euler_operators.specs.Model.{Model}
 use Rattle.euler_operators.specs.Sound.{Sound, HasHalf}
-use Rattle.solid_walks.proofs.FaceLoops.{items_there}
+use Rattle.shapes.proofs.walks.FaceLoops.{items_there}
 use Rattle.shapes.specs.Faces.{loops_of, boundary}
 use Rattle.shapes.specs.split.Places.{is_place, places, goes_up, sorted, in_pairs, sorted_pairs, up_first, place_pairs}
 use Rattle.shapes.specs.split.Drawing.{drawn_pairs}

@@ -9,16 +9,15 @@ use Rattle.shapes.specs.split.Sides.{straddles, straddling_faces}
 use Rattle.shapes.specs.split.Crossings.{with_crossings}
 use Rattle.shapes.specs.split.Drawing.{Drawing, drawn_pairs, with_drawings}
 use Rattle.split_drawing_laws.specs.crossings.Kept.{Kept}
-use Rattle.split_drawing_laws.proofs.crossings.Listed.{all_where_has}
+use Rattle.euler_laws.proofs.shared.Counted.{all_where_has, listed_in}
 use Rattle.split_drawing_laws.proofs.crossings.Whole.{crossings_keep, crossings_counted}
 use Rattle.split_drawing_laws.proofs.drawings.Whole.{drawable}
 use Rattle.split_drawing_laws.proofs.pairs.Whole.{can_be_drawn}
-use Rattle.solid_walks.proofs.SolidFaces.{listed_in}
 use Rattle.split_checks.proofs.cut_places_laws.Lists.{of_picked}
 use Rattle.split_checks.proofs.cut_places_laws.Walks.{all_in}
 use Rattle.split_drawing.specs.edge_cutting.Begins.{CanBeCut}
-use Rattle.split_drawing.specs.declared.face_drawing.progress.Progress.{Progress}
-use Rattle.split_drawing.specs.face_drawing.Codes.{taken_of, drawing_of}
+use Rattle.split_checks.specs.declared.progress.Progress.{Progress}
+use Rattle.split_checks.specs.Progress.{taken_of, drawing_of}
 use Rattle.split_drawing.specs.face_pairs.Paired.{paired_faces}
 use Rattle.split_drawing.specs.solid_drawing.Starts.{FacesThere, faces_started}
 use Rattle.split_drawing.specs.solid_drawing.Drawn.{put_aside, faces_between, CanDrawFaces}

@@ -4,12 +4,13 @@ ghost use Rattle.euler_operators.specs.Conditions.{first_false};
 ghost use Rattle.undo_journal.specs.Machine.{draft_step};
 ghost use Rattle.shapes.specs.split.Drawing.{draw_next};
 ghost use Rattle.split_drawing_laws.specs.drawings.DrawingOps as ops;
-ghost use Rattle.split_drawing.specs.face_drawing.Codes.{codes, drawing_of, stuck_at, taken_of};
+ghost use Rattle.split_drawing.specs.face_drawing.Codes.{codes, stuck_at};
+ghost use Rattle.split_checks.specs.Progress.{drawing_of, taken_of};
 ghost use Rattle.split_drawing.specs.face_drawing.Passes.{CanDraw};
 
 use crate::face_drawing::pairs::{Pair, in_one_loop};
-use crate::face_drawing::progress::Progress;
 use euler_operators::{HalfEdge, Op};
+use split_checks::Progress;
 use std::alloc::AllocError;
 use undo_journal::Draft;
 

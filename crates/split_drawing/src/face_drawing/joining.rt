@@ -6,11 +6,12 @@ ghost use Rattle.euler_operators.specs.Conditions.{first_false};
 ghost use Rattle.undo_journal.specs.Machine.{draft_step};
 ghost use Rattle.shapes.specs.split.Drawing.{join_next};
 ghost use Rattle.split_drawing_laws.specs.drawings.DrawingOps as ops;
-ghost use Rattle.split_drawing.specs.face_drawing.Codes.{codes, drawing_of};
+ghost use Rattle.split_drawing.specs.face_drawing.Codes.{codes};
+ghost use Rattle.split_checks.specs.Progress.{drawing_of};
 ghost use Rattle.split_drawing.specs.face_drawing.Passes.{CanJoin};
 
 use crate::face_drawing::pairs::{Pair, in_one_loop, join_op};
-use crate::face_drawing::progress::Progress;
+use split_checks::Progress;
 use std::alloc::{AllocError, Global};
 use undo_journal::Draft;
 

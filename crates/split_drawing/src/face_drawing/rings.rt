@@ -7,9 +7,9 @@ ghost use Rattle.split_drawing_laws.specs.drawings.DrawingOps.{ring_ops};
 ghost use Rattle.split_drawing.specs.face_drawing.Codes.{stuck_at};
 
 use crate::face_drawing::drawing::stuck_at;
-use crate::face_drawing::progress::Progress;
 use euler_conditions::Arena;
 use euler_operators::{Kind, Op};
+use split_checks::Progress;
 use std::alloc::AllocError;
 use undo_journal::Draft;
 

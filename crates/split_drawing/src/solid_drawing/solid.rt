@@ -4,17 +4,17 @@ ghost use Rattle.euler_operators.specs.Ranges.{IsCutPlane};
 ghost use Rattle.shapes.specs.Fresh.{taken_in};
 ghost use Rattle.shapes.specs.split.Drawing.{with_drawings};
 ghost use Rattle.split_drawing.specs.edge_cutting.Begins.{CanBeCut};
-ghost use Rattle.split_drawing.specs.face_drawing.Codes.{drawing_of, taken_of};
+ghost use Rattle.split_checks.specs.Progress.{drawing_of, taken_of};
 ghost use Rattle.split_drawing.specs.face_pairs.Paired.{paired};
 ghost use Rattle.split_drawing.specs.solid_drawing.Drawn.{CanDrawFaces, faces_between, put_aside};
 
 use crate::edge_cutting::cut_edges;
-use crate::face_drawing::Progress;
 use crate::face_pairs::{FacePairs, face_pairs};
 use crate::solid_drawing::face::draw_face;
 use crate::solid_drawing::places::faces_started;
 use euler_conditions::Arena;
 use euler_operators::{Kind, Plane};
+use split_checks::Progress;
 use std::alloc::{AllocError, Global};
 use undo_journal::Draft;
 

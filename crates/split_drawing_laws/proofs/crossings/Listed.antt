@@ -1,20 +1,19 @@
 -- Lists that tests pick from, and the items and corners of faces.
 use Rattle.std.specs.Prelude.{map, filter}
 use Rattle.std.specs.List.{list_any}
-use Rattle.std.proofs.Common.{◌≡◌, ◌≢◌, ℕ, ◌+◌, ◌≤◌, Bool, true, false, cond, not, nat_eq, ◌&&◌, ◌||◌, List, [], ◌∷◌, Some, refl, sym, ap, ◌∙◌, subst, arith, inl, inr}
+use Rattle.std.proofs.Common.{◌≡◌, ◌≢◌, ℕ, ◌+◌, ◌≤◌, Bool, true, false, cond, not, nat_eq, ◌&&◌, ◌||◌, List, [], ◌∷◌, refl, sym, ap, ◌∙◌, subst, arith, inl, inr}
 use Rattle.std.proofs.lemmas.Bool.Decides.{eqb_tells}
 use Rattle.euler_operators.specs.Items.{count, tick, IsIn}
 use Rattle.euler_operators.proofs.Lists.{count-append, tick_same, tick_other}
 use Rattle.euler_operators.specs.Table as table
-use Rattle.euler_operators.specs.Table.{Table}
 use Rattle.euler_operators.specs.Model.{Model, LoopContent, lone, cycle, items_of, content, outer, tail, face_of, rings_of}
 use Rattle.euler_operators.specs.Sound.{Has}
 use Rattle.euler_laws.proofs.shared.Goes.{equals, differs, not_false}
 use Rattle.euler_laws.proofs.shared.Rows.{loop_row}
-use Rattle.euler_laws.proofs.shared.Listed.{listed_passes, passes_listed, IsIn-from_listed}
-use Rattle.solid_measure_laws.proofs.Rising.{in_listed}
+use Rattle.euler_laws.proofs.shared.Listed.{IsIn-from_listed}
 use Rattle.shapes.proofs.fresh.Tests.{NoneSuch, NoZero}
 use Rattle.shapes.specs.Faces.{loops_of, items_in, boundary, vertices_on, vertices_in, corners}
+use Rattle.euler_laws.proofs.shared.Counted.{all_where_in}
 
 -- ---- lists
 
@@ -46,14 +45,6 @@ none_at p x (m ∷ ns) n i = elim (eqb_tells x m) [
 pub all_not_zero : (ns : List ℕ) → ((x : ℕ) → IsIn x ns → x ≢ 0) → NoZero ns
 all_not_zero [] f = tt
 all_not_zero (n ∷ ns) f = (f n (here n n ns refl), all_not_zero ns (λ x i. f x (omega (arith, i))))
-
--- ---- tables
-
-pub all_where_has : {X : Type 0} (p : ℕ → X → Bool) (t : Table X) (n : ℕ) → IsIn n (table.all_where p t) → (x : X) × (table.get t n ≡ Some x) × (p n x ≡ true)
-all_where_has p t n i = listed_passes p t n (in_listed n (table.all_where p t) i)
-
-pub all_where_in : {X : Type 0} (p : ℕ → X → Bool) (t : Table X) (n : ℕ) (x : X) → table.get t n ≡ Some x → p n x ≡ true → IsIn n (table.all_where p t)
-all_where_in p t n x at e = IsIn-from_listed n (table.all_where p t) (passes_listed p t n x at e)
 
 -- ---- the loops of a face
 

@@ -19,7 +19,6 @@ use Rattle.euler_laws.proofs.shared.Arcs.{halves_of_edge}
 use Rattle.euler_laws.proofs.shared.Fans.{half_after, loop_after}
 use Rattle.euler_laws.proofs.shared.Goes.{equal, equals}
 use Rattle.euler_laws.proofs.shared.Listed.{IsIn-from_listed}
-use Rattle.solid_measure_laws.proofs.FaceLoops.{items_counted, items_there}
 use Rattle.shapes.specs.Faces.{start, finish, loops_of, boundary, edges_of}
 use Rattle.shapes.specs.split.Sides.{crosses, straddles, straddling_faces, crossing_edges}
 use Rattle.shapes.specs.split.Places.{is_place, place_point, places}
@@ -27,10 +26,11 @@ use Rattle.shapes.specs.split.Crossings.{with_crossings}
 use Rattle.shapes.specs.split.Drawing.{from_place}
 use Rattle.shapes.specs.split.Split.{first_conditions}
 use Rattle.split_drawing_laws.specs.crossings.AtPlace.{AtPlace}
-use Rattle.split_drawing_laws.proofs.crossings.Listed.{all_where_has}
 use Rattle.split_drawing_laws.proofs.crossings.Runs.{kept_start}
 use Rattle.split_drawing_laws.proofs.crossings.Premises.{crossing_here, crossing_point, one_point, minus_crosses}
 use Rattle.split_drawing_laws.proofs.crossings.Whole.{can_cut, gone, is_cut, listed_edge, crossings_cut, crossings_keep, crossings_sound}
+use Rattle.shapes.proofs.walks.FaceLoops.{items_counted, items_there}
+use Rattle.euler_laws.proofs.shared.Counted.{all_where_has}
 
 module _ (M : Model) (sound : Sound M) (f : ℕ) (there : Has M.faces f) where
   -- the loops of a face are of that face, and so are its half-edges

@@ -1,8 +1,7 @@
 -- What it says that the first conditions of a split hold: each edge that crosses the plane can be cut there.
-use Rattle.std.specs.Prelude.{filter}
+use Rattle.std.specs.Prelude.{filter, int_lt}
 use Rattle.std.specs.List.{list_any, list_all}
 use Rattle.std.proofs.Common.{◌≡◌, ◌≢◌, ℕ, ◌+◌, ◌≤◌, Bool, true, false, cond, not, nat_eq, ◌&&◌, ◌||◌, ℤ, pos, List, [], ◌∷◌, length, is_some, refl, sym, ap, ◌∙◌, subst, arith, ◌⊎◌, inl, inr, true≢false}
-use Rattle.std.specs.Prelude.{int_lt}
 use Rattle.std.proofs.lemmas.Bool.Decides.{eqb_tells}
 use Rattle.euler_operators.specs.declared.Plane.{Plane}
 use Rattle.euler_operators.specs.Points.{IsInRange}
@@ -27,8 +26,9 @@ use Rattle.shapes.specs.Fresh.{first_such, taken_in}
 use Rattle.shapes.specs.split.Sides.{crosses, straddles, straddling_faces, crossing_edges, reaches_above, reaches_below}
 use Rattle.shapes.specs.split.Places.{is_place, place_point, places, some_meet, is_touched, is_cut_often, is_crossed, is_up_and_down, sorted_pairs, pair_count}
 use Rattle.shapes.specs.split.Split.{first_conditions}
-use Rattle.split_drawing_laws.proofs.crossings.Listed.{any_passes, none_at, all_not_zero, all_where_has, all_where_in, item_in_face, tail_in_face}
+use Rattle.split_drawing_laws.proofs.crossings.Listed.{any_passes, none_at, all_not_zero, item_in_face, tail_in_face}
 use Rattle.split_drawing_laws.proofs.crossings.Runs.{Crossing}
+use Rattle.euler_laws.proofs.shared.Counted.{all_where_has, all_where_in}
 
 -- ---- two places of a face with equal points
 

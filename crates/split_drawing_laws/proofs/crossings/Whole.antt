@@ -15,7 +15,6 @@ use Rattle.euler_laws.specs.Laws.{AreAccepted, effects}
 use Rattle.euler_laws.proofs.shared.Goes.{all_hold, equal, equals}
 use Rattle.euler_laws.proofs.shared.Listed.{all_where-rises}
 use Rattle.euler_laws.proofs.shared.Loops.{some_row}
-use Rattle.solid_measure_laws.proofs.Rising.{counted_once, none_counted}
 use Rattle.shapes.specs.Faces.{start, edges_of}
 use Rattle.shapes.specs.Fresh.{taken_in, growing}
 use Rattle.shapes.specs.split.Sides.{crosses, crossing_edges}
@@ -23,9 +22,10 @@ use Rattle.shapes.specs.split.Crossings.{with_crossings}
 use Rattle.shapes.specs.split.Split.{first_conditions}
 use Rattle.split_drawing_laws.specs.crossings.CrossingOps.{crossing_ops}
 use Rattle.split_drawing_laws.specs.crossings.Kept.{Kept}
-use Rattle.split_drawing_laws.proofs.crossings.Listed.{picked_none, all_where_has, all_where_in}
+use Rattle.split_drawing_laws.proofs.crossings.Listed.{picked_none}
 use Rattle.split_drawing_laws.proofs.crossings.Runs.{AreCut, Going, Gone, all_gone, none_cut, kept_start}
 use Rattle.split_drawing_laws.proofs.crossings.Premises.{Cuttable, cuttable, crossing_here}
+use Rattle.euler_laws.proofs.shared.Counted.{counted_once, none_counted, all_where_has, all_where_in}
 
 module _ (M : Model) (s : ℕ) (p : Plane) (t : ℕ) (sound : Sound M) (accepted : first_refusal (first_conditions M s p t) ≡ None) where
   pub can_cut : Cuttable M s p

@@ -13,11 +13,11 @@ use Rattle.euler_operators.specs.Sound.{Sound}
 use Rattle.euler_operators.proofs.Models.{in-holds, item_there}
 use Rattle.euler_operators.proofs.Members.{IsIn_rest, each_mapped}
 use Rattle.euler_operators.proofs.Rotations.{IsIn_head}
-use Rattle.solid_walks.proofs.RisingLists.{within}
 use Rattle.euler_operators.specs.Conditions.{lists, strictly_rises}
-use Rattle.solid_walks.proofs.FaceLoops.{listed_ring, ring_listed, rings_rise}
 use Rattle.shapes.specs.Faces.{start, finish, vertices_on, vertices_in}
 use Rattle.solid_measure_laws.proofs.FlatFaces.{list_parts, are_on}
+use Rattle.euler_laws.proofs.shared.RisingLists.{within}
+use Rattle.shapes.proofs.walks.FaceLoops.{listed_ring, ring_listed, rings_rise}
 
 -- ---- lists
 

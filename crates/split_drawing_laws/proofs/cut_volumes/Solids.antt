@@ -15,9 +15,8 @@ use Rattle.euler_operators.specs.Sound.{Has}
 use Rattle.euler_laws.proofs.shared.Goes.{equal, equals}
 use Rattle.euler_laws.proofs.shared.Listed.{all_where-rises}
 use Rattle.euler_laws.proofs.shared.Rows.{face_there, no_items}
-use Rattle.solid_walks.proofs.Rising.{counted_once}
 use Rattle.shapes.specs.Measure.{normal, anchor, volume_in, six_volume}
-use Rattle.split_drawing_laws.proofs.crossings.Listed.{all_where_has, all_where_in}
+use Rattle.euler_laws.proofs.shared.Counted.{counted_once, all_where_has, all_where_in}
 
 -- ---- the faces of a solid
 

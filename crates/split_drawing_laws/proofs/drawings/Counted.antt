@@ -7,7 +7,7 @@ use Rattle.euler_operators.specs.Model.{Model, faces_of}
 use Rattle.euler_operators.proofs.Members.{count-filter}
 use Rattle.euler_laws.proofs.shared.Listed.{all_where-rises}
 use Rattle.shapes.proofs.fresh.Rows.{none_above}
-use Rattle.solid_walks.proofs.Rising.{counted_once}
+use Rattle.euler_laws.proofs.shared.Counted.{counted_once}
 use Rattle.shapes.specs.Fresh.{taken_in}
 use Rattle.shapes.specs.split.Sides.{straddles, straddling_faces}
 use Rattle.shapes.specs.split.Places.{places, sorted, in_pairs, sorted_pairs, up_first, place_pairs, pair_count}

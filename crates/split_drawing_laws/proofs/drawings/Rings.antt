@@ -20,7 +20,7 @@ use Rattle.euler_laws.proofs.shared.Faces.{SameWalks}
 use Rattle.euler_laws.proofs.shared.Listed.{listed_passes, all_where-rises}
 use Rattle.euler_laws.proofs.faces.RingIn as moved
 use Rattle.euler_laws.proofs.faces.RingIn.{RingGoes, ring_in_accepted, sound-ring_in}
-use Rattle.solid_walks.proofs.Rising.{in_listed, counted_once}
+use Rattle.euler_laws.proofs.shared.Counted.{in_listed, counted_once}
 use Rattle.shapes.specs.Fresh.{Taken}
 use Rattle.shapes.specs.split.Drawing.{with_rings}
 use Rattle.split_drawing_laws.specs.drawings.DrawnIn.{Stays, DrawnIn, Fresh}

@@ -16,14 +16,15 @@ use Rattle.euler_operators.proofs.Rotations.{IsIn_head}
 use Rattle.euler_operators.specs.Conditions.{face_at}
 use Rattle.euler_laws.proofs.shared.Fans.{half_mate}
 use Rattle.euler_laws.proofs.shared.Goes.{equal}
-use Rattle.solid_walks.proofs.FaceLoops.{AreHalves, different_items, loops_of_apart}
 use Rattle.shapes.specs.Faces.{start, finish, loops_of, boundary, vertices_on, corners}
 use Rattle.shapes.specs.Measure.{area, anchor, first_vertex}
 use Rattle.solid_measure_laws.proofs.FlatFaces.{are_on}
-use Rattle.split_drawing_laws.proofs.crossings.Listed.{all_where_has, loop_in_face, item_in_face}
+use Rattle.split_drawing_laws.proofs.crossings.Listed.{loop_in_face, item_in_face}
 use Rattle.split_drawing_laws.proofs.crossings.Places.{item_face}
 use Rattle.split_drawing_laws.specs.drawings.DrawnIn.{Stays}
 use Rattle.split_drawing_laws.proofs.cut_volumes.Corners.{loop_on, loops_on, item_on, item_loop}
+use Rattle.shapes.proofs.walks.FaceLoops.{AreHalves, different_items, loops_of_apart}
+use Rattle.euler_laws.proofs.shared.Counted.{all_where_has}
 
 -- the half-edges and the lone vertices of face f lie on the plane
 pub record OnFace (N : Model) (t : Plane) (f : ℕ) : Type 0 where

@@ -5,7 +5,7 @@ use Rattle.euler_operators.specs.Items.{IsIn}
 use Rattle.euler_operators.specs.Model.{Model, solid_of, faces_of}
 use Rattle.euler_operators.specs.Sound.{Sound, Has}
 use Rattle.euler_operators.specs.Conditions.{first_refusal, lists}
-use Rattle.solid_walks.proofs.Rising.{in_listed}
+use Rattle.euler_laws.proofs.shared.Counted.{in_listed, listed_in}
 use Rattle.shapes.specs.Measure.{plane_of, is_flat, six_volume}
 use Rattle.shapes.specs.split.Sides.{straddling_faces}
 use Rattle.shapes.specs.split.Crossings.{with_crossings}

@@ -19,7 +19,6 @@ use Rattle.euler_laws.proofs.shared.Fans.{half_after, loop_after}
 use Rattle.euler_laws.proofs.shared.Goes.{all_hold, equal, equals, no_zero}
 use Rattle.euler_laws.proofs.shared.Rows.{loop_row, face_there, not_lone_cycle}
 use Rattle.euler_laws.proofs.shared.Listed.{IsIn-from_listed}
-use Rattle.solid_walks.proofs.Rising.{in_listed}
 use Rattle.shapes.specs.Faces.{start, finish, least_lone, boundary, vertices_on}
 use Rattle.shapes.specs.split.Sides.{some_above, reaches_above, straddling_faces}
 use Rattle.shapes.specs.split.Places.{is_place, places}
@@ -28,7 +27,7 @@ use Rattle.shapes.specs.split.Drawing.{from_place, drawn_pairs}
 use Rattle.shapes.specs.split.Split.{first_conditions}
 use Rattle.split_drawing_laws.specs.crossings.Kept.{Kept}
 use Rattle.split_drawing_laws.specs.crossings.Laws.{CanBegin}
-use Rattle.split_drawing_laws.proofs.crossings.Listed.{all_where_in, any_passes, item_in_face}
+use Rattle.split_drawing_laws.proofs.crossings.Listed.{any_passes, item_in_face}
 use Rattle.split_drawing_laws.proofs.crossings.Places.{at_place, face_facts}
 use Rattle.split_drawing_laws.proofs.crossings.Whole.{can_cut, crossings_keep, crossings_sound, same_solid}
 use Rattle.split_drawing_laws.proofs.pairs.Whole.{can_be_drawn, outer_cut}
@@ -42,6 +41,7 @@ use Rattle.split_drawing_laws.proofs.face_sides.OneFace.{IsSided, PairsOf}
 use Rattle.split_drawing_laws.proofs.face_sides.Passing.{AllOld}
 use Rattle.split_drawing_laws.proofs.face_sides.Same.{any_from}
 use Rattle.split_drawing_laws.proofs.face_sides.Shared.{HeldOn}
+use Rattle.euler_laws.proofs.shared.Counted.{in_listed, all_where_in}
 
 -- the half-edges of pairs that fit are there
 fits_old : (N : Model) (f : ℕ) (qs : List (ℕ × ℕ)) → AllFit N f qs → AllOld N qs

@@ -14,13 +14,11 @@ use Rattle.euler_operators.specs.Conditions.{face_at, lists}
 use Rattle.euler_laws.proofs.shared.Goes.{equal, equals}
 use Rattle.euler_laws.proofs.shared.Listed.{IsIn-from_listed}
 use Rattle.euler_laws.proofs.shared.Fans.{half_face}
-use Rattle.solid_walks.proofs.Rising.{none_counted}
 use Rattle.shapes.specs.Faces.{start, loops_of, vertices_on, vertices_in, corners}
 use Rattle.shapes.specs.split.Sides.{straddles, straddling_faces, reaches_above, reaches_below}
 use Rattle.shapes.specs.split.Crossings.{with_crossings}
 use Rattle.shapes.specs.split.Drawing.{Drawing, faces_drawn, with_drawings}
 use Rattle.split_drawing_laws.specs.crossings.Laws.{CanBegin}
-use Rattle.split_drawing_laws.proofs.crossings.Listed.{all_where_has}
 use Rattle.split_drawing_laws.proofs.crossings.Places.{face_facts}
 use Rattle.split_drawing_laws.proofs.crossings.Premises.{faces_not_zero}
 use Rattle.split_drawing_laws.proofs.crossings.Whole.{crossings_keep, crossings_sound, same_solid}
@@ -38,6 +36,7 @@ use Rattle.split_drawing_laws.proofs.face_sides.Begun.{sided_first, pairs_of}
 use Rattle.split_drawing_laws.proofs.face_sides.OneFace.{IsSided}
 use Rattle.split_drawing_laws.proofs.face_sides.Same.{none_from}
 use Rattle.split_drawing_laws.proofs.face_sides.Stages.{Stage, all_done}
+use Rattle.euler_laws.proofs.shared.Counted.{none_counted, all_where_has}
 
 cycle_of_items : (c : LoopContent) (zs : List ℕ) → c ≡ cycle zs → c ≡ cycle (items_of c)
 cycle_of_items c zs e = e ∙ ap (λ d. cycle (items_of d)) (sym e)

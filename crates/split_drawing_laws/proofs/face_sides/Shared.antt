@@ -11,8 +11,6 @@ use Rattle.euler_operators.proofs.Members.{IsIn-filter, filter_passes}
 use Rattle.euler_operators.proofs.Models.{same_face}
 use Rattle.euler_laws.proofs.shared.Goes.{equals, differs}
 use Rattle.euler_laws.proofs.shared.Listed.{IsIn-from_listed}
-use Rattle.solid_walks.proofs.FaceLoops.{ring_listed}
-use Rattle.solid_walks.proofs.Rising.{in_listed}
 use Rattle.shapes.specs.Faces.{vertices_on}
 use Rattle.shapes.specs.split.Sides.{some_above}
 use Rattle.shapes.specs.split.Drawing.{face_drawn, rings_above, with_rings}
@@ -22,6 +20,8 @@ use Rattle.split_drawing_laws.proofs.drawings.Rings.{RingOf, rings_are}
 use Rattle.split_drawing_laws.proofs.drawings.Stays.{row_else, draw_beside}
 use Rattle.split_drawing_laws.proofs.face_sides.Alone.{Held, u_goes, k_stays, outer_kept}
 use Rattle.split_drawing_laws.proofs.face_sides.Beside.{old_loop_face, new_loop_face, never_free, given_content, given_has, given_else, given_face}
+use Rattle.shapes.proofs.walks.FaceLoops.{ring_listed}
+use Rattle.euler_laws.proofs.shared.Counted.{in_listed}
 
 -- loop q of N holds a half-edge of B on side b
 pub record HeldOn (B N : Model) (side : ℕ → Bool) (q : ℕ) (b : Bool) : Type 0 where

@@ -19,7 +19,6 @@ use Rattle.euler_operators.proofs.Crossings.{level_on}
 use Rattle.euler_operators.specs.Conditions.{face_at, differ}
 use Rattle.euler_laws.proofs.shared.Arcs.{halves_of_edge}
 use Rattle.euler_laws.proofs.shared.Fans.{back_of}
-use Rattle.solid_walks.proofs.Rising.{in_listed}
 use Rattle.shapes.specs.Faces.{start, finish, boundary}
 use Rattle.shapes.specs.split.Sides.{crosses, reaches_above, straddling_faces, crossing_edges}
 use Rattle.shapes.specs.split.Places.{is_place, place_point, places, goes_up, some_meet, is_crossed, is_up_and_down, in_pairs, sorted, sorted_pairs, place_pairs}
@@ -41,6 +40,7 @@ use Rattle.split_drawing_laws.specs.half_sides.HalfSides.{half_is_above, side_of
 use Rattle.split_drawing_laws.proofs.half_sides.EndLists.{ends_are}
 use Rattle.split_drawing_laws.proofs.half_sides.Heights.{side_ahead}
 use Rattle.split_drawing_laws.proofs.half_sides.Starts.{TurnAt, turn_at}
+use Rattle.euler_laws.proofs.shared.Counted.{in_listed}
 
 -- of each pair the first is above and the second below
 abbrev pub AllUp : (ℕ → Bool) → List (ℕ × ℕ) → Type 0

@@ -19,13 +19,12 @@ use Rattle.euler_laws.proofs.shared.Goes.{equal, equals}
 use Rattle.euler_laws.proofs.shared.Loops.{some_row}
 use Rattle.euler_laws.proofs.shared.Rows.{face_there}
 use Rattle.euler_laws.proofs.shared.Listed.{IsIn-from_listed}
-use Rattle.solid_walks.proofs.Rising.{in_listed}
 use Rattle.shapes.specs.Faces.{start, finish, corners, edges_of}
 use Rattle.shapes.specs.split.Sides.{crosses, straddles, straddling_faces, reaches_above, reaches_below}
 use Rattle.shapes.specs.split.Crossings.{with_crossings}
 use Rattle.shapes.specs.split.Drawing.{drawn_pairs}
 use Rattle.split_drawing_laws.specs.crossings.Laws.{CanBegin}
-use Rattle.split_drawing_laws.proofs.crossings.Listed.{any_passes, all_where_in, tail_in_face}
+use Rattle.split_drawing_laws.proofs.crossings.Listed.{any_passes, tail_in_face}
 use Rattle.split_drawing_laws.proofs.crossings.Places.{face_facts}
 use Rattle.split_drawing_laws.proofs.crossings.Premises.{faces_not_zero}
 use Rattle.split_drawing_laws.proofs.crossings.Whole.{crossings_sound, same_solid, none_crosses}
@@ -38,6 +37,7 @@ use Rattle.split_drawing_laws.proofs.half_sides.Heights.{side_kept, side_changed
 use Rattle.split_drawing_laws.proofs.half_sides.PlaceEnds.{side_within, place_face, place_there, place_on, pairs_cross, place_in_ends, place_of_end, ends_once}
 use Rattle.split_drawing_laws.proofs.half_sides.Starts.{TurnAt, turn_at, comes_from}
 use Rattle.split_drawing_laws.proofs.loop_sides.Parting.{on_both}
+use Rattle.euler_laws.proofs.shared.Counted.{in_listed, all_where_in}
 
 module _ (M : Model) (s : ℕ) (p : Plane) (t : ℕ) (sound : Sound M) (begins : CanBegin M s p t) where
   abbrev N : Model

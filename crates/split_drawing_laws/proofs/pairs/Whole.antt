@@ -12,8 +12,6 @@ use Rattle.euler_operators.proofs.Members.{count-filter}
 use Rattle.euler_operators.specs.Conditions.{face_at}
 use Rattle.euler_laws.specs.Laws.{AreAccepted, effects}
 use Rattle.euler_laws.proofs.Runs.{AreAccepted-append, effects-append}
-use Rattle.solid_walks.proofs.FaceLoops.{different_items, loops_of_apart}
-use Rattle.solid_walks.proofs.Rising.{in_listed}
 use Rattle.shapes.specs.Faces.{loops_of, boundary}
 use Rattle.shapes.specs.split.Sides.{straddles, straddling_faces}
 use Rattle.shapes.specs.split.Places.{is_place, places, loop_is_cut, is_cut_often, sorted, sorted_pairs, place_pairs}
@@ -22,7 +20,6 @@ use Rattle.shapes.specs.split.Drawing.{from_place, drawn_pairs, with_drawings}
 use Rattle.split_drawing_laws.specs.crossings.AtPlace.{AtPlace}
 use Rattle.split_drawing_laws.specs.crossings.CrossingOps.{crossing_ops}
 use Rattle.split_drawing_laws.specs.crossings.Laws.{CanBegin}
-use Rattle.split_drawing_laws.proofs.crossings.Listed.{all_where_has}
 use Rattle.split_drawing_laws.proofs.crossings.Places.{at_place, item_face}
 use Rattle.split_drawing_laws.proofs.crossings.Premises.{Cuttable}
 use Rattle.split_drawing_laws.proofs.crossings.Whole.{can_cut, crossings_accepted, crossings_made, crossings_sound, crossings_counted, crossings_keep}
@@ -39,6 +36,8 @@ use Rattle.split_drawing_laws.proofs.pairs.LoopPlaces.{places_even, two_outer}
 use Rattle.split_drawing_laws.proofs.pairs.Meetings.{points_apart}
 use Rattle.split_drawing_laws.proofs.pairs.Numbers.{pairs_room}
 use Rattle.split_drawing_laws.proofs.pairs.Turns.{IsEven}
+use Rattle.shapes.proofs.walks.FaceLoops.{different_items, loops_of_apart}
+use Rattle.euler_laws.proofs.shared.Counted.{in_listed, all_where_has}
 
 -- ---- the half-edges of a face
 

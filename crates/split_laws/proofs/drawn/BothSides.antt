@@ -19,8 +19,6 @@ use Rattle.euler_laws.proofs.shared.Fans.{loop_after, half_face}
 use Rattle.euler_laws.proofs.shared.Goes.{no_zero, equal, equals}
 use Rattle.euler_laws.proofs.shared.Rows.{face_there, loop_row, not_lone_cycle}
 use Rattle.euler_laws.proofs.shared.Listed.{IsIn-from_listed}
-use Rattle.solid_walks.proofs.Rising.{in_listed}
-use Rattle.solid_walks.proofs.SolidFaces.{face_of_loop}
 use Rattle.shapes.specs.Measure.{normal}
 use Rattle.shapes.specs.Faces.{loops_of, corners}
 use Rattle.shapes.specs.split.Sides.{reaches_above, reaches_below, straddles, crossing_edges, face_is_above, faces_above}
@@ -28,7 +26,7 @@ use Rattle.shapes.specs.split.Crossings.{with_crossings}
 use Rattle.shapes.specs.split.Drawing.{with_drawings}
 use Rattle.shapes.specs.split.Split.{split_refusal}
 use Rattle.split_drawing_laws.specs.crossings.Laws.{CanBegin}
-use Rattle.split_drawing_laws.proofs.crossings.Listed.{any_passes, all_where_has, all_where_in, tail_in_face}
+use Rattle.split_drawing_laws.proofs.crossings.Listed.{any_passes, tail_in_face}
 use Rattle.split_drawing_laws.proofs.crossings.Whole.{crossings_cut, crossings_keep, crossings_sound, same_solid, not_cut}
 use Rattle.split_drawing_laws.proofs.half_sides.Pieces.{CutBy, crossing_pieces}
 use Rattle.split_drawing_laws.proofs.half_sides.Starts.{old_face}
@@ -36,6 +34,8 @@ use Rattle.split_drawing_laws.proofs.face_sides.Final.{TailIn, tail_in, none_str
 use Rattle.split_drawing_laws.proofs.face_sides.Same.{any_from}
 use Rattle.split_laws.specs.drawn.Kept.{HasFace}
 use Rattle.split_laws.proofs.drawn.Drawn.{begins, none_lone, meets, never_stuck, drawn_sound, drawn_stays, drawn_keeps}
+use Rattle.euler_laws.proofs.shared.Counted.{in_listed, all_where_has, all_where_in}
+use Rattle.shapes.proofs.walks.SolidFaces.{face_of_loop}
 
 -- a half-edge of N that starts at point v, of face f
 pub record HalfAt (N : Model) (v f : ℕ) : Type 0 where

@@ -23,7 +23,6 @@ use Rattle.shapes.specs.split.Drawing.{Drawing, stuck_at, in_one_loop, join_next
 use Rattle.shapes.specs.split.Section.{below_halves, section_cycles, has_stray_hole}
 use Rattle.shapes.specs.split.Split.{first_conditions, later_conditions, section_conditions, split_conditions, split_refusal}
 use Rattle.split_drawing_laws.specs.crossings.Laws.{CanBegin}
-use Rattle.split_drawing_laws.proofs.crossings.Listed.{all_where_has}
 use Rattle.split_drawing_laws.proofs.crossings.Whole.{crossings_counted, crossings_keep}
 use Rattle.split_drawing_laws.proofs.pairs.Whole.{can_be_drawn, rewritings_sound}
 use Rattle.split_drawing_laws.specs.drawings.DrawnIn.{Stays, Fresh}
@@ -37,6 +36,7 @@ use Rattle.split_opening_laws.specs.sections.InTurn.{AreFree, AreLeft, CanBeOpen
 use Rattle.split_opening_laws.proofs.sections.InTurn.{can_be_opened}
 use Rattle.split_laws.specs.drawn.Kept.{KeepsSolids}
 use Rattle.split_laws.proofs.drawn.Solids.{drawing_keeps}
+use Rattle.euler_laws.proofs.shared.Counted.{all_where_has}
 
 -- ---- drawing takes no vertex
 

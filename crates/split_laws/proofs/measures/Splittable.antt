@@ -18,7 +18,7 @@ use Rattle.euler_operators.proofs.Models.{cycle_there, loop_there as has_loop, i
 use Rattle.euler_operators.specs.Conditions.{AllHold, face_at, lists, strictly_rises}
 use Rattle.euler_laws.proofs.shared.Fans.{half_after, half_mate, loop_after, half_face}
 use Rattle.euler_laws.proofs.shared.Goes.{all_hold, not_true}
-use Rattle.solid_walks.proofs.Rising.{in_listed}
+use Rattle.euler_laws.proofs.shared.Counted.{in_listed}
 use Rattle.shapes.specs.Faces.{start, corners}
 use Rattle.shapes.specs.Measure.{plane_of}
 use Rattle.solid_measure_laws.proofs.FlatFaces.{are_on, told_anywhere}

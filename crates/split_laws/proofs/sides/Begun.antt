@@ -13,7 +13,7 @@ use Rattle.euler_laws.proofs.shared.Listed.{passes_listed, IsIn-from_listed}
 use Rattle.euler_laws.proofs.shared.Rows.{face_there}
 use Rattle.shapes.specs.Faces.{start, loops_of, corners}
 use Rattle.shapes.specs.Measure.{normal}
-use Rattle.solid_walks.proofs.Rising.{in_listed}
+use Rattle.euler_laws.proofs.shared.Counted.{in_listed}
 use Rattle.shapes.specs.split.Sides.{reaches_above, reaches_below, straddles, face_is_above, faces_above}
 use Rattle.split_opening_laws.proofs.cycles.Meets.{count_filter}
 use Rattle.split_laws.specs.sides.Sided.{IsOnSide, AreSided}

@@ -13,7 +13,7 @@ use Rattle.euler_operators.specs.Sound.{Has}
 use Rattle.euler_operators.specs.Conditions.{strictly_rises}
 use Rattle.euler_operators.specs.Effect.{kfmrh}
 use Rattle.shapes.specs.Measure.{six_volume}
-use Rattle.solid_walks.proofs.Rising.{counted_once}
+use Rattle.euler_laws.proofs.shared.Counted.{counted_once}
 use Rattle.shapes.specs.split.Drawing.{Drawing}
 use Rattle.shapes.specs.split.Section.{is_hole, holes_in, below_halves, section_cycles, has_stray_hole}
 use Rattle.shapes.specs.split.Opening.{Caps, Opening, next_opened, outer_caps, holes_closed}

@@ -19,7 +19,6 @@ use Rattle.euler_laws.proofs.shared.Rows.{no_items, face_there, loop_row, conten
 use Rattle.shapes.specs.Faces.{start, items_in, loops_of, boundary}
 use Rattle.shapes.specs.Measure.{area, normal, anchor, first_vertex, volume_in, six_volume}
 use Rattle.shapes.proofs.Areas.{area-append}
-use Rattle.solid_walks.proofs.FaceLoops.{items_joined}
 use Rattle.euler_operators.proofs.Vectors.{dot_turned, dot_moved, none_moved, add_exchanged, add_assoc}
 use Rattle.euler_operators.proofs.Members.{count_taken}
 use Rattle.solid_measure_laws.proofs.FlatFaces.{told_alike}
@@ -29,6 +28,7 @@ use Rattle.gluing_laws.proofs.Listed.{one_if, passed, count_where, same_search, 
 use Rattle.gluing_laws.proofs.Adding.{only_loop}
 use Rattle.split_laws.specs.opened.Told.{LiesAlong, OutersAreOwn}
 use Rattle.split_laws.proofs.opened.Caps.{area_kept, anchor_along}
+use Rattle.shapes.proofs.walks.FaceLoops.{items_joined}
 
 -- ---- lists of loops, and of faces
 

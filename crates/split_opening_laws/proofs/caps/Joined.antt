@@ -22,7 +22,7 @@ use Rattle.euler_laws.proofs.mef.KefSound as kill
 use Rattle.euler_laws.proofs.mef.KefSound.{KefGoes}
 use Rattle.euler_laws.proofs.mef.Kef.{kef_accepted}
 use Rattle.shapes.proofs.fresh.Rows.{get-put_here, get-put_other}
-use Rattle.sweeps_laws.proofs.prism.Steps.{Around, apart_xs, loop_is, half_is, cycle_is, face_is}
+use Rattle.euler_laws.proofs.shared.KnownLoop.{Around, apart_xs, loop_is, half_is, cycle_is, face_is}
 use Rattle.sweeps_laws.proofs.prism.Sides.{next_inner}
 use Rattle.sweeps_laws.proofs.lamina.Lists.{numbers_last}
 use Rattle.shapes.specs.Fresh.{Taken, numbers_after}

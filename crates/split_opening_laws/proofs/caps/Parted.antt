@@ -25,7 +25,7 @@ use Rattle.euler_laws.proofs.faces.Kfmrh.{MakeGoes, mfkrh_accepted}
 use Rattle.euler_laws.proofs.Cases.{effect_keeps_sound}
 use Rattle.euler_laws.specs.Laws.{effects, AreAccepted}
 use Rattle.shapes.proofs.fresh.Rows.{get-put_here, put-put}
-use Rattle.sweeps_laws.proofs.prism.Steps.{Around, apart_xs, loop_is, half_is, cycle_is, face_is}
+use Rattle.euler_laws.proofs.shared.KnownLoop.{Around, apart_xs, loop_is, half_is, cycle_is, face_is}
 use Rattle.sweeps_laws.proofs.prism.Sides.{next_last}
 use Rattle.shapes.specs.Fresh.{Taken, numbers_after}
 use Rattle.shapes.specs.Rewriting.{without_rows}

@@ -8,7 +8,7 @@ use Rattle.euler_operators.specs.Items.{count, IsIn}
 use Rattle.euler_operators.proofs.Lists.{count-append, tick_same}
 use Rattle.euler_operators.specs.HalfEdge.{mate, edge_of, plus, minus}
 use Rattle.euler_operators.specs.Table as table
-use Rattle.euler_operators.specs.Table.{Table, get-map_rows}
+use Rattle.euler_operators.specs.Table.{get-map_rows}
 use Rattle.euler_operators.specs.Model.{Model, EdgeRow, tail, tail_in, face_of}
 use Rattle.euler_operators.specs.Sound.{Sound, HasHalf}
 use Rattle.euler_operators.proofs.Models.{tail_row, plus_tail_row, minus_tail_row}
@@ -16,7 +16,6 @@ use Rattle.euler_operators.specs.Conditions.{face_at, lists}
 use Rattle.euler_laws.proofs.shared.Arcs.{halves_of_edge}
 use Rattle.euler_laws.proofs.shared.Loops.{some_row}
 use Rattle.euler_laws.proofs.shared.Same.{mapped_some}
-use Rattle.sweeps_laws.proofs.prism.Steps.{Around, loop_is, face_is}
 use Rattle.shapes.specs.Fresh.{Taken}
 use Rattle.shapes.specs.Prism.{next_place}
 use Rattle.shapes.specs.Rewriting.{rewritten_row, renamed}
@@ -26,6 +25,7 @@ use Rattle.split_opening_laws.specs.strips.Opened.{CanBeOpened}
 use Rattle.split_opening_laws.proofs.strips.Rows.{rows_at, rows_low, rows_split}
 use Rattle.split_opening_laws.proofs.strips.Cycle as on
 use Rattle.split_opening_laws.proofs.strips.Places as places
+use Rattle.euler_laws.proofs.shared.KnownLoop.{Around, loop_is, face_is}
 
 pub not_less : (a b : ℕ) → b ≤ a → nat_lt a b ≡ false
 not_less a b l = grind (arith, nat_tests)

@@ -23,7 +23,7 @@ use Rattle.euler_operators.specs.Effect.{with_before}
 use Rattle.euler_laws.proofs.shared.Rows.{where_held_none, where_held_there}
 use Rattle.euler_laws.proofs.shared.Same.{map_twice, mapped_some}
 use Rattle.euler_laws.proofs.shared.Undo.{put_apart}
-use Rattle.sweeps_laws.proofs.prism.Steps.{edge_plus, loop_is, apart_xs}
+use Rattle.sweeps_laws.proofs.prism.Steps.{edge_plus}
 use Rattle.shapes.specs.Fresh.{Taken}
 use Rattle.shapes.specs.Prism.{next_place}
 use Rattle.shapes.specs.Rewriting.{rewritten_row, renamed}
@@ -37,6 +37,7 @@ use Rattle.split_opening_laws.proofs.strips.Cycle.{before_below, before_apart, n
 use Rattle.split_opening_laws.proofs.copies.Raised as raised
 use Rattle.split_opening_laws.proofs.copies.Raised.{not_less}
 use Rattle.split_opening_laws.proofs.copies.Sides as sides
+use Rattle.euler_laws.proofs.shared.KnownLoop.{loop_is, apart_xs}
 
 less_next : (a i : ℕ) → a ≢ i → nat_lt a (suc i) ≡ nat_lt a i
 less_next a i ne = grind (arith, nat_tests)

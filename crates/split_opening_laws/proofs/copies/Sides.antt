@@ -12,7 +12,6 @@ use Rattle.euler_operators.specs.Sound.{Sound, HasHalf}
 use Rattle.euler_operators.proofs.Halves.{mate-mate, minus_row, mate_plus, mate_minus}
 use Rattle.euler_operators.specs.Conditions.{face_at, lists}
 use Rattle.euler_laws.proofs.shared.Fans.{half_mate, loop_after}
-use Rattle.sweeps_laws.proofs.prism.Steps.{half_is, cycle_is, apart_xs}
 use Rattle.shapes.specs.Fresh.{Taken}
 use Rattle.shapes.specs.Prism.{next_place}
 use Rattle.shapes.specs.Rewriting.{renamed}
@@ -25,6 +24,7 @@ use Rattle.split_opening_laws.proofs.strips.Copied as copy
 use Rattle.split_opening_laws.proofs.copies.Raised as raised
 use Rattle.split_opening_laws.proofs.copies.Raised.{not_less}
 use Rattle.split_opening_laws.proofs.copies.Arc.{Splits}
+use Rattle.euler_laws.proofs.shared.KnownLoop.{half_is, cycle_is, apart_xs}
 
 module _ (M : Model) (above : List ℕ) (s : ℕ) (c : Taken) (bs : List ℕ) (w : CanBeOpened M above s c bs) (i : ℕ) (lt : i < length bs) (sound : Sound (copies_raised M above s c bs i)) where
   abbrev N : Model

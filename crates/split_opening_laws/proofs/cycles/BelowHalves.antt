@@ -6,7 +6,6 @@ use Rattle.euler_operators.specs.Items.{tick, count, IsIn, IsApart}
 use Rattle.euler_operators.proofs.Lists.{tick_same, tick_other, count-append}
 use Rattle.euler_operators.specs.HalfEdge.{mate, edge_of, plus, minus}
 use Rattle.euler_operators.specs.Table as table
-use Rattle.euler_operators.specs.Table.{Table}
 use Rattle.euler_operators.specs.Model.{Model, solid_of}
 use Rattle.euler_operators.specs.Sound.{Sound, HasHalf}
 use Rattle.euler_operators.proofs.Halves.{plus_row, minus_row, mate_plus, mate_minus, plus_other}
@@ -16,15 +15,14 @@ use Rattle.euler_laws.proofs.shared.Goes.{equal, equals}
 use Rattle.euler_laws.proofs.shared.Listed.{listed_passes, passes_listed, all_where-rises}
 use Rattle.euler_laws.proofs.shared.Loops.{some_row}
 use Rattle.euler_laws.proofs.Sizes.{rises_over}
-use Rattle.solid_walks.proofs.RisingLists.{rest_rises}
 use Rattle.shapes.specs.Faces.{edges_of}
-use Rattle.solid_walks.proofs.Rising.{counted_once, in_listed}
-use Rattle.solid_walks.proofs.SolidFaces.{listed_in}
 use Rattle.shapes.specs.split.Section.{below_half, below_halves}
 use Rattle.split_opening_laws.specs.cycles.SectionCycles.{IsBelowHalf}
 use Rattle.split_opening_laws.proofs.cycles.Meets.{total_same, total_ticks, count_flat}
 use Rattle.split_opening_laws.proofs.cycles.Changes.{bit}
 use Rattle.split_opening_laws.proofs.cycles.RisingLists.{rises_cons}
+use Rattle.euler_laws.proofs.shared.RisingLists.{rest_rises}
+use Rattle.euler_laws.proofs.shared.Counted.{counted_once, in_listed, listed_in}
 
 -- ---- one of two numbers, or neither
 

@@ -17,11 +17,9 @@ use Rattle.euler_operators.proofs.Tables.{in_use_within}
 use Rattle.euler_operators.specs.Conditions.{strictly_rises}
 use Rattle.euler_laws.proofs.shared.Loops.{some_row}
 use Rattle.euler_laws.proofs.Sizes.{rises_over}
-use Rattle.solid_walks.proofs.RisingLists.{rest_rises}
 use Rattle.shapes.proofs.fresh.Rows.{get-put_here, get-put_other, get-put_cases}
 use Rattle.shapes.specs.Fresh.{Taken, numbers_after}
 use Rattle.shapes.specs.Rewriting.{rewritten_row, renamed}
-use Rattle.solid_walks.proofs.Rising.{in_listed}
 use Rattle.shapes.specs.split.Section.{is_hole}
 use Rattle.shapes.specs.split.Opening.{Caps, Opening, both_lists, opened_along, next_opened, all_opened}
 use Rattle.split_opening_laws.proofs.cycles.RisingLists.{rises_cons}
@@ -31,6 +29,8 @@ use Rattle.split_opening_laws.specs.sections.Laws.{OpeningsAreSound}
 use Rattle.split_opening_laws.proofs.sections.OpenedRows.{faces_are, loops_are, face_still, solid_kept}
 use Rattle.split_opening_laws.proofs.sections.OpenedFaces.{upper_row}
 use Rattle.split_opening_laws.proofs.sections.InTurn.{upper_next, above_there, others_on}
+use Rattle.euler_laws.proofs.shared.RisingLists.{rest_rises}
+use Rattle.euler_laws.proofs.shared.Counted.{in_listed}
 
 -- ---- one more at the end of a rising list
 

@@ -7,11 +7,8 @@ use Rattle.euler_operators.specs.Model.{Model, solid_of, faces_of, no_face}
 use Rattle.euler_operators.specs.Sound.{Sound}
 use Rattle.euler_operators.specs.Conditions.{strictly_rises}
 use Rattle.euler_operators.proofs.Members.{count-filter}
-use Rattle.split_drawing_laws.proofs.crossings.Listed.{all_where_has}
 use Rattle.euler_laws.proofs.shared.Goes.{equal}
 use Rattle.euler_laws.proofs.shared.Listed.{all_where-rises}
-use Rattle.solid_walks.proofs.SolidFaces.{listed_in}
-use Rattle.solid_walks.proofs.FaceLoops.{halves_short}
 use Rattle.shapes.specs.split.Sides.{face_is_above, faces_above}
 use Rattle.shapes.specs.split.Section.{below_halves, cycle_from, section_cycles}
 use Rattle.split_opening_laws.specs.cycles.SectionCycles.{AreOf, IsUnbranched, AreSectionCycles}
@@ -20,6 +17,8 @@ use Rattle.split_opening_laws.proofs.cycles.BelowHalves.{halves_apart, halves_ar
 use Rattle.split_opening_laws.proofs.cycles.Cycles.{cycles_lead_round}
 use Rattle.split_sections.specs.section_cycles.Halves.{AreThere}
 use Rattle.split_sections.specs.section_checks.Cycles.{AreCycles}
+use Rattle.euler_laws.proofs.shared.Counted.{all_where_has, listed_in}
+use Rattle.shapes.proofs.walks.FaceLoops.{halves_short}
 
 as_long : (f : ℕ → List ℕ) (bs : List ℕ) → length (map f bs) ≡ length bs
 as_long f [] = refl

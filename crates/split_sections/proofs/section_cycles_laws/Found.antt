@@ -7,13 +7,12 @@ use Rattle.euler_operators.specs.Items.{count, IsIn, SameItems, least}
 use Rattle.euler_operators.proofs.Lists.{tick_same, tick_other, count-append, IsIn_or_not, least_le, least_in, least_same}
 use Rattle.euler_operators.specs.Rings.{orbit}
 use Rattle.euler_operators.specs.Conditions.{lists, strictly_rises}
-use Rattle.euler_conditions.proofs.Rising.{rest_rises}
 use Rattle.euler_laws.proofs.shared.Goes.{differs, equals}
 use Rattle.euler_laws.proofs.Sizes.{rises_over}
-use Rattle.solid_walks.proofs.Rising.{in_listed}
-use Rattle.solid_walks.proofs.SolidFaces.{listed_in}
 use Rattle.split_opening_laws.specs.cycles.Permuting.{Permutes}
 use Rattle.split_opening_laws.proofs.cycles.Orbits.{around_within, around_here, around_same}
+use Rattle.euler_laws.proofs.shared.RisingLists.{rest_rises}
+use Rattle.euler_laws.proofs.shared.Counted.{in_listed, listed_in}
 
 -- what stands before an item of a rising list is less
 before_less : (done : List ℕ) (b : ℕ) (rest : List ℕ) → strictly_rises (done ++ b ∷ rest) ≡ true → (d : ℕ) → IsIn d done → d < b

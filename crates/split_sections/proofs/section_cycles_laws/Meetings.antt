@@ -17,7 +17,7 @@ use Rattle.euler_operators.specs.Table as table
 use Rattle.euler_operators.specs.Model.{Model, tail, is_number}
 use Rattle.euler_operators.specs.Sound.{Sound, HasHalf, Has}
 use Rattle.euler_laws.proofs.shared.Fans.{half_mate}
-use Rattle.solid_walks.proofs.face_walks_laws.Rising.{AllAbove, all_above_members}
+use Rattle.solid_walks.proofs.face_walks_laws.Above.{AllAbove, all_above_members}
 use Rattle.solid_walks.proofs.face_walks_laws.TableWalks.{passes, member_passing}
 use Rattle.solid_measure.specs.solid_checks.Least.{found, least_such}
 use Rattle.solid_measure.proofs.solid_checks_laws.Searches.{IsLeast, one_least, least_same, least_row}

@@ -15,7 +15,7 @@ use Rattle.euler_laws.proofs.shared.Fans.{half_mate}
 use Rattle.shapes.specs.Faces.{start, finish}
 use Rattle.solid_measure.specs.Measure.{area, area_limit}
 use Rattle.solid_measure.proofs.Areas.{area_push, area_limited}
-use Rattle.solid_walks.proofs.FaceLoops.{AreHalves}
+use Rattle.shapes.proofs.walks.FaceLoops.{AreHalves}
 use Rattle.split_sections.specs.section_cycles.Halves.{AreThere}
 
 -- of all halves these are left, and the sum is now that over the mates of the others

@@ -9,7 +9,7 @@ use Rattle.euler_operators.specs.declared.Refusal.{Refusal}
 use Rattle.euler_operators.specs.declared.Why.TheVariants.{NumberRange, NoFace}
 use Rattle.euler_operators.proofs.Magnitudes.{vector_within}
 use Rattle.shapes.specs.Faces.{boundary, loops_of}
-use Rattle.solid_walks.proofs.FaceLoops.{different_items, loops_of_apart}
+use Rattle.shapes.proofs.walks.FaceLoops.{different_items, loops_of_apart}
 use Rattle.solid_measure.specs.Measure.{normal, answer, face_refusal, area_limit}
 use Rattle.solid_measure.proofs.Areas.{area_limited}
 

@@ -6,7 +6,7 @@ use Rattle.std.specs.List.Sorted.{IsBinarySearchResult}
 use Rattle.std.proofs.lemmas.Bool.Decides.{eqb_tells}
 use Rattle.std.proofs.lemmas.List.Sorted.{searched}
 use Rattle.euler_operators.specs.Conditions.{lists, strictly_rises}
-use Rattle.euler_conditions.proofs.Rising.{rising, listed_at, not_found}
+use Rattle.euler_laws.proofs.shared.RisingLists.{rising, listed_at, not_found}
 
 less : (a b : ℕ) → a ≤ b → a ≢ b → a < b
 less a b l ne = grind arith

@@ -13,9 +13,8 @@ use Rattle.euler_operators.proofs.Halves.{edge_of-code, same_edge}
 use Rattle.euler_operators.proofs.Tests.{less_or_same}
 use Rattle.euler_operators.proofs.Std.{SameItems-from_permutation}
 use Rattle.euler_operators.specs.Conditions.{face_at, lists, strictly_rises}
-use Rattle.euler_conditions.proofs.Rising.{within}
-use Rattle.solid_walks.proofs.Rising.{in_listed}
-use Rattle.solid_walks.proofs.SolidFaces.{listed_in}
+use Rattle.euler_laws.proofs.shared.RisingLists.{within}
+use Rattle.euler_laws.proofs.shared.Counted.{in_listed, listed_in}
 use Rattle.solid_measure.proofs.solid_counts_laws.HowMany.{equally_many}
 use Rattle.shapes.specs.split.Section.{below_halves}
 use Rattle.split_opening_laws.specs.cycles.SectionCycles.{IsBelowHalf}

@@ -14,12 +14,12 @@ use Rattle.euler_operators.proofs.Members.{IsIn-filter}
 use Rattle.euler_operators.specs.Conditions.{face_at, lists}
 use Rattle.euler_conditions.proofs.Known.{loop_there}
 use Rattle.shapes.specs.Faces.{items_in, loops_of, boundary}
-use Rattle.solid_walks.specs.Walks.{loops_in}
-use Rattle.solid_walks.proofs.FaceLoops.{different_items, items_counted, items_there, items_joined}
-use Rattle.solid_walks.proofs.SolidFaces.{solid_loops, all_loops_apart, loop_in_solid, solid_has_loop}
 use Rattle.split_checks.proofs.cut_places_laws.Lists.{of_picked, picked_apart}
 use Rattle.split_opening_laws.specs.cycles.SectionCycles.{IsBelowHalf}
 use Rattle.split_sections.specs.section_edges.BelowHalves.{is_below, below_met}
+use Rattle.shapes.specs.Walks.{loops_in}
+use Rattle.shapes.proofs.walks.FaceLoops.{different_items, items_counted, items_there, items_joined}
+use Rattle.shapes.proofs.walks.SolidFaces.{solid_loops, all_loops_apart, loop_in_solid, solid_has_loop}
 
 -- an item of a loop stands among the items of some loops with it
 item_of : (M : Model) (ls : List ℕ) (l x : ℕ) → IsIn l ls → IsIn x (items_of (content M l)) → IsIn x (items_in M ls)

@@ -9,7 +9,7 @@ ghost use Rattle.euler_operators.specs.Ranges.{IsCutPlane};
 ghost use Rattle.split_opening_laws.specs.cycles.SectionCycles.{AreOf};
 ghost use Rattle.shapes.specs.split.Section.{below_halves};
 ghost use Rattle.shapes.specs.split.Split.{later_conditions, section_conditions};
-ghost use Rattle.split_drawing.specs.face_drawing.Codes.{drawing_of, taken_of};
+ghost use Rattle.split_checks.specs.Progress.{drawing_of, taken_of};
 ghost use Rattle.split_sections.specs.section_checks.Cycles.{AreCyclesOf};
 ghost use Rattle.split_sections.specs.section_checks.Sections.{IsSection};
 ghost use Rattle.split_sections.specs.declared.section_checks.section.Cycle.{Cycle};
@@ -22,7 +22,7 @@ use crate::section_cycles::{cycles, least_branched};
 use crate::section_edges::{below_halves, faces_above};
 use euler_conditions::Arena;
 use euler_operators::{Kind, Plane, Refusal, Why};
-use split_drawing::Progress;
+use split_checks::Progress;
 use std::alloc::{AllocError, Global};
 
 /// The cycles of the section of solid s between these faces above, which rise, and its other faces, where the solid can be opened

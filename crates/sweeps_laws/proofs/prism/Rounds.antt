@@ -26,9 +26,11 @@ use Rattle.shapes.specs.Fresh.{Taken}
 use Rattle.shapes.specs.Prism.{riser, top_edge, top_items, next_place, with_side, with_sides}
 use Rattle.sweeps_laws.specs.prism.Part.{lifted_part, prism_part}
 use Rattle.sweeps_laws.specs.prism.SweepOps.{raise, close}
-use Rattle.sweeps_laws.proofs.prism.Steps.{Around, apart_xs, with_spur, with_chord, mev_does, mev_fits, mef_does, mef_fits}
-use Rattle.sweeps_laws.proofs.prism.Sides.{Ready, fits, riser_is, next_inner, half_there, old_tail, old_start, old_solid, sides_edges, sides_faces, sides_loops, sides_vertices}
+use Rattle.sweeps_laws.proofs.prism.Steps.{with_spur, with_chord, mev_does, mev_fits, mef_does, mef_fits}
+use Rattle.sweeps_laws.proofs.prism.Sides.{fits, riser_is, next_inner, half_there, old_tail, old_start, old_solid, sides_edges, sides_faces, sides_loops, sides_vertices}
 use Rattle.sweeps_laws.proofs.swept.Numbers.{top_cases}
+use Rattle.euler_laws.proofs.shared.KnownLoop.{Around, apart_xs}
+use Rattle.sweeps_laws.specs.prism.Ready.{Ready}
 
 pub drop_next : (hs : List ℕ) (i : ℕ) → i < length hs → drop i hs ≡ get_or hs i 0 ∷ drop (suc i) hs
 drop_next hs i h = drop_more hs i 0 h ∙ ap (λ k. get_or hs i 0 ∷ drop k hs) (let e : i + 1 ≡ suc i = omega arith in e)

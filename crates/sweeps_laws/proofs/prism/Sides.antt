@@ -1,10 +1,8 @@
--- A loop ready to be swept, the numbers that its sweep takes, and what the sides leave as it was.
-use Rattle.std.proofs.Common.{◌≡◌, ◌≢◌, ℕ, zero, suc, ◌+◌, ◌*◌, ◌≤◌, ◌<◌, cond, List, [], ◌∷◌, length, Some, None, is_some, unwrap_or, IsTrue, refl, sym, ap, ◌∙◌, subst, arith, ◌⊎◌, inl, inr}
+-- The numbers that the sweep of a loop takes, and what the sides leave as it was.
+use Rattle.std.proofs.Common.{◌≡◌, ◌≢◌, ℕ, zero, suc, ◌+◌, ◌*◌, ◌≤◌, ◌<◌, cond, List, [], ◌∷◌, length, is_some, unwrap_or, IsTrue, refl, sym, ap, ◌∙◌, subst, arith, ◌⊎◌, inl, inr}
 use Rattle.std.proofs.lemmas.Bool.{eq-eqb, ne_eqb, cases_eq}
 use Rattle.std.proofs.lemmas.Bool.Decides.{nat_tests}
 use Rattle.euler_operators.specs.declared.Point.{Point}
-use Rattle.euler_operators.specs.Points.{IsInRange}
-use Rattle.euler_operators.specs.Vectors.{moved}
 use Rattle.euler_operators.specs.Items.{IsIn}
 use Rattle.euler_operators.specs.Rings.{canonical, successor}
 use Rattle.euler_operators.proofs.Lists.{tick_same}
@@ -12,13 +10,14 @@ use Rattle.euler_operators.proofs.Rings.{successor_head}
 use Rattle.euler_operators.specs.HalfEdge.{edge_of, is_first}
 use Rattle.euler_operators.specs.Table as table
 use Rattle.euler_operators.specs.Model.{Model, cycle, items_of, holds, tail, tail_in, no_edge, no_face, no_point, content, solid_of, point_of, loop_of, after, cycle_of, is_number}
-use Rattle.euler_operators.specs.Sound.{Sound, Has, HasHalf}
+use Rattle.euler_operators.specs.Sound.{Has, HasHalf}
 use Rattle.euler_operators.proofs.Models.{content_row, face_row, in-holds}
 use Rattle.euler_operators.proofs.Tables.{get-put_other, in_use_within}
 use Rattle.shapes.specs.Faces.{start}
 use Rattle.shapes.specs.Fresh.{Taken}
 use Rattle.shapes.specs.Prism.{riser, top_edge, next_place, with_side, with_sides}
 use Rattle.sweeps_laws.proofs.swept.Numbers.{top_cases}
+use Rattle.sweeps_laws.specs.prism.Ready.{Ready}
 
 -- ---- numbers
 
@@ -48,20 +47,6 @@ next_last n i h = ap (λ b. cond b 0 (i + 1)) (eq-eqb (i + 1) n h)
 -- ---- rows put
 
 -- ---- a loop to be swept
-
--- loop l of face f in a sound model holds the cycle hs; all numbers above those taken are free, and there are enough of them; the moved points are in range
-pub record Ready (M : Model) (c : Taken) (f l : ℕ) (d : Point) (hs : List ℕ) : Type 0 where
-  pub sound : Sound M
-  pub at : table.get M.loops l ≡ Some (record { face = f; content = cycle hs })
-  pub faces_free : (q : ℕ) → c.face < q → table.get M.faces q ≡ None
-  pub loops_free : (q : ℕ) → c.loop < q → table.get M.loops q ≡ None
-  pub edges_free : (q : ℕ) → c.edge < q → table.get M.edges q ≡ None
-  pub vertices_free : (q : ℕ) → c.vertex < q → table.get M.vertices q ≡ None
-  pub faces_left : c.face + length hs ≤ 1000000
-  pub loops_left : c.loop + length hs ≤ 1000000
-  pub edges_left : c.edge + 2 * length hs ≤ 1000000
-  pub vertices_left : c.vertex + length hs ≤ 1000000
-  pub points_fit : (h : ℕ) → IsIn h hs → IsInRange (moved (start M h) d)
 
 module _ (M : Model) (c : Taken) (f l : ℕ) (d : Point) (hs : List ℕ) (w : Ready M c f l d hs) where
   abbrev pub n : ℕ

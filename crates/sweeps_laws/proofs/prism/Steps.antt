@@ -1,23 +1,23 @@
 -- What mev at one corner and mef make of a sound model of which one loop is known.
-use Rattle.std.proofs.Common.{◌≡◌, ◌≢◌, ℕ, List, [], ◌∷◌, ◌++◌, Some, None, is_some, IsTrue, refl, sym, ap, ◌∙◌, subst, arith}
+use Rattle.std.proofs.Common.{◌≡◌, ◌≢◌, ℕ, List, [], ◌∷◌, ◌++◌, None, IsTrue, refl, sym, ap, ◌∙◌, subst, arith}
 use Rattle.euler_operators.specs.declared.Point.{Point}
 use Rattle.euler_operators.specs.Points.{IsInRange}
 use Rattle.euler_operators.specs.declared.Corner.TheVariants.{At}
 use Rattle.euler_operators.specs.Items.{count, IsIn, IsApart}
-use Rattle.euler_operators.specs.Rings.{canonical, rotate_to, upto, onward, IsRotation}
+use Rattle.euler_operators.specs.Rings.{canonical, rotate_to, upto, onward}
 use Rattle.euler_operators.specs.Edits.{insert_before}
 use Rattle.euler_operators.proofs.Lists.{count-append, tick_same, tick_other}
-use Rattle.euler_operators.proofs.Rotations.{canonical-rotates, count-canonical, rotate_to_same, rotate_at, rotate_to_head, canonical_same}
+use Rattle.euler_operators.proofs.Rotations.{count-canonical, rotate_at, rotate_to_head, canonical_same}
 use Rattle.euler_operators.proofs.Cuts.{upto_itself, onward_itself, upto_once}
 use Rattle.euler_operators.proofs.Edits.{count-insert_before}
 use Rattle.euler_operators.proofs.Operators.{apart_front}
 use Rattle.euler_operators.specs.HalfEdge.{edge_of, plus, minus, code, half}
 use Rattle.euler_operators.specs.Table as table
-use Rattle.euler_operators.specs.Model.{Model, EdgeRow, cycle, items_of, holds, tail, loop_of, content, face_of, solid_of, cycle_of, arc, is_number}
-use Rattle.euler_operators.specs.Sound.{Sound, HasHalf, StandsIn}
+use Rattle.euler_operators.specs.Model.{Model, EdgeRow, cycle, tail, loop_of, content, face_of, solid_of, cycle_of, arc, is_number}
+use Rattle.euler_operators.specs.Sound.{HasHalf}
 use Rattle.euler_operators.proofs.Halves.{plus_row, minus_row, code-half, mate_plus, plus_other}
 use Rattle.euler_operators.proofs.Tables.{map_one, map_same, map-put, put-put}
-use Rattle.euler_operators.proofs.Models.{content_row, face_row, in-holds, not_held, other_loop}
+use Rattle.euler_operators.proofs.Models.{in-holds, not_held, other_loop}
 use Rattle.euler_operators.specs.declared.Op.TheVariants.{Mev, Mef}
 use Rattle.euler_operators.specs.Conditions.{face_at, first_false}
 use Rattle.euler_operators.specs.Effect.{effect, mev_at, mef, with_before, with_tails, edge_row}
@@ -29,42 +29,10 @@ use Rattle.euler_laws.proofs.mef.MefUndo.{loops-mef}
 use Rattle.euler_laws.proofs.mef.MefSound.{MefGoes}
 use Rattle.euler_laws.proofs.mef.Kef.{mef_accepted}
 use Rattle.sweeps_laws.proofs.lamina.Steps.{arc_none}
+use Rattle.euler_laws.proofs.shared.KnownLoop.{Around, face_is, canonical_apart, apart_xs, loop_is, half_is, cycle_is, rotated_canonical}
 
 pub edge_plus : (e : ℕ) → edge_of (plus e) ≡ e
 edge_plus e = (plus_row e).0
-
--- a loop of a model, written from anywhere on
-pub record Around (M : Model) (l f : ℕ) (xs : List ℕ) : Type 0 where
-  pub sound : Sound M
-  pub at : table.get M.loops l ≡ Some (record { face = f; content = cycle (canonical xs) })
-
-module _ (M : Model) (l f : ℕ) (xs : List ℕ) (a : Around M l f xs) where
-  pub content_is : content M l ≡ cycle (canonical xs)
-  content_is = content_row M l (record { face = f; content = cycle (canonical xs) }) a.at
-
-  pub face_is : face_of M l ≡ f
-  face_is = face_row M l (record { face = f; content = cycle (canonical xs) }) a.at
-
-  pub canonical_apart : IsApart (canonical xs)
-  canonical_apart = (a.sound.cycles l (canonical xs) (ap is_some a.at) content_is).apart
-
-  pub apart_xs : IsApart xs
-  apart_xs = λ x. omega (arith, canonical_apart x, count-canonical x xs)
-
-  pub stands_in : (g : ℕ) → IsIn g xs → StandsIn M g l
-  stands_in g i = ap (holds g) content_is ∙ in-holds g (cycle (canonical xs)) (omega (arith, i, count-canonical g xs))
-
-  pub loop_is : (g : ℕ) → IsIn g xs → loop_of M g ≡ l
-  loop_is g i = a.sound.one_loop g l (stands_in g i)
-
-  pub half_is : (g : ℕ) → IsIn g xs → HasHalf M g
-  half_is g i = a.sound.only_edges g l (stands_in g i)
-
-  pub cycle_is : (g : ℕ) → IsIn g xs → cycle_of M g ≡ canonical xs
-  cycle_is g i = ap (λ q. items_of (content M q)) (loop_is g i) ∙ ap items_of content_is
-
-  pub rotated_canonical : (g : ℕ) → IsIn g xs → rotate_to g (canonical xs) ≡ rotate_to g xs
-  rotated_canonical g i = sym (rotate_to_same g xs (canonical xs) (canonical-rotates xs) apart_xs i)
 
 -- the model with another cycle in loop l, one more edge and one more vertex
 abbrev pub with_spur : Model → ℕ → ℕ → List ℕ → ℕ → EdgeRow → ℕ → Point → Model

@@ -1,5 +1,5 @@
 -- The steps of a loop's sweep, as they are taken one after the other.
-use Rattle.std.proofs.Common.{◌≡◌, ◌≢◌, ℕ, suc, ◌+◌, ◌-◌, ◌≤◌, ◌<◌, List, [], ◌∷◌, ◌++◌, length, Option, None, is_some, true, true≢false, unwrap_or, refl, sym, ap, ◌∙◌, subst, arith}
+use Rattle.std.proofs.Common.{◌≡◌, ◌≢◌, ℕ, suc, ◌+◌, ◌-◌, ◌≤◌, ◌<◌, List, [], ◌∷◌, length, None, is_some, true, true≢false, unwrap_or, sym, ap, ◌∙◌, subst, arith}
 use Rattle.std.specs.Prelude.{get_or}
 use Rattle.euler_operators.specs.declared.Point.{Point}
 use Rattle.euler_operators.specs.Points.{IsInRange}
@@ -12,25 +12,20 @@ use Rattle.euler_operators.specs.HalfEdge.{edge_of, half, plus}
 use Rattle.euler_operators.specs.Table as table
 use Rattle.euler_operators.specs.Model.{Model, no_point, point_of, tail}
 use Rattle.euler_operators.specs.Sound.{HasHalf}
-use Rattle.euler_operators.specs.declared.Op.{Op}
 use Rattle.euler_operators.specs.declared.Op.TheVariants.{Mev}
 use Rattle.euler_operators.specs.Conditions.{first_false}
 use Rattle.euler_operators.specs.Effect.{effect}
 use Rattle.euler_laws.specs.Laws.{AreAccepted, effects}
-use Rattle.euler_laws.proofs.Runs.{effects-append}
+use Rattle.euler_laws.proofs.Runs.{effects-append, AreAccepted-back}
 use Rattle.shapes.specs.Faces.{start}
 use Rattle.shapes.specs.Fresh.{Taken}
-use Rattle.shapes.specs.Prism.{riser, with_sides}
+use Rattle.shapes.specs.Prism.{riser}
 use Rattle.sweeps_laws.specs.prism.Part.{prism_part}
 use Rattle.sweeps_laws.specs.prism.SweepOps.{raise_item, raise, close, close_last, rounds, loop_ops}
-use Rattle.sweeps_laws.proofs.prism.Sides.{Ready, riser_is, half_there, old_edge, sides_vertices}
+use Rattle.sweeps_laws.proofs.prism.Sides.{riser_is, half_there, old_edge, sides_vertices}
 use Rattle.sweeps_laws.proofs.prism.Rounds.{part_tail}
 use Rattle.sweeps_laws.proofs.prism.Loops.{rounds_go, loop_swept}
-
--- of lists of operators accepted one after the other, the second is accepted after the first
-pub AreAccepted-back : (M : Model) (ops more : List Op) → AreAccepted M (ops ++ more) → AreAccepted (effects M ops) more
-AreAccepted-back M [] more a = a
-AreAccepted-back M (op ∷ ops) more a = AreAccepted-back (effect M op) ops more a.1
+use Rattle.sweeps_laws.specs.prism.Ready.{Ready}
 
 module _ (M : Model) (c : Taken) (f l : ℕ) (d : Point) (hs : List ℕ) (w : Ready M c f l d hs) where
   -- the model once the item at place i is raised and the sides before it stand

@@ -11,7 +11,6 @@ use Rattle.euler_operators.proofs.Std.{IsIn-get_or}
 use Rattle.euler_operators.specs.declared.Corner.TheVariants.{At}
 use Rattle.euler_operators.specs.HalfEdge.{edge_of, half, plus}
 use Rattle.euler_operators.specs.Table as table
-use Rattle.euler_operators.specs.Table.{Table}
 use Rattle.euler_operators.specs.Model.{face_of, Model, cycle, items_of, content, tail, point_of, solid_of}
 use Rattle.euler_operators.specs.Sound.{Sound, HasHalf}
 use Rattle.euler_operators.proofs.Models.{content_row, face_row}
@@ -26,10 +25,11 @@ use Rattle.shapes.specs.Faces.{start, vertices_on, vertices_in}
 use Rattle.shapes.specs.Fresh.{Taken}
 use Rattle.shapes.specs.Prism.{riser, top_items, with_sides, lifted, raised, raised_over, prism_from}
 use Rattle.sweeps_laws.specs.prism.SweepOps.{close, close_last, rounds, loop_ops, taken_after, ops_from}
-use Rattle.sweeps_laws.proofs.prism.Sides.{Ready, riser_is, old_edge, old_start, sides_edges, sides_faces, sides_loops, sides_vertices, two_items}
+use Rattle.sweeps_laws.proofs.prism.Sides.{riser_is, old_edge, old_start, sides_edges, sides_faces, sides_loops, sides_vertices, two_items}
 use Rattle.sweeps_laws.proofs.prism.Rounds.{loop_within}
 use Rattle.sweeps_laws.proofs.prism.Loops.{loop_swept}
 use Rattle.sweeps_laws.proofs.swept.Numbers.{top_cases}
+use Rattle.sweeps_laws.specs.prism.Ready.{Ready}
 
 -- N has grown out of M by sweeping some loops of face f along d; ls are the other ones
 pub record Going (M N : Model) (c : Taken) (f : ℕ) (d : Point) (ls : List ℕ) : Type 0 where

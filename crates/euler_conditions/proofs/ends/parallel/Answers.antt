@@ -5,7 +5,8 @@ use Rattle.euler_operators.specs.Sound.{HasHalf}
 use Rattle.euler_laws.proofs.shared.Goes.{equal, unequal}
 use Rattle.euler_conditions.specs.Ends.{leads_to, lesser}
 use Rattle.euler_conditions.proofs.Known.{half_there, edge_there, found_then, found_else}
-use Rattle.euler_conditions.proofs.Parallel.{HalfSeen, steps, steps_are, walk_start, walk_more, walk_closed, walk_ended}
+use Rattle.euler_conditions.proofs.Parallel.{HalfSeen, walk_start, walk_more, walk_closed, walk_ended}
+use Rattle.euler_laws.proofs.shared.Bounds.{steps, steps_are}
 use Rattle.euler_conditions.proofs.ends.parallel.Goals as goal
 use Rattle.euler_conditions.proofs.ends.parallel.Goals.{then-leads_to, else-leads_to}
 

@@ -1,6 +1,7 @@
 use Rattle.std.proofs.Common.{◌-◌}
 use Rattle.euler_operators.specs.HalfEdge.{code}
-use Rattle.euler_conditions.proofs.Parallel.{HalfSeen, steps}
+use Rattle.euler_conditions.proofs.Parallel.{HalfSeen}
+use Rattle.euler_laws.proofs.shared.Bounds.{steps}
 use Rattle.euler_conditions.proofs.ends.parallel.Given as goal
 
 abbrev pub invariant-round : goal.invariant-round

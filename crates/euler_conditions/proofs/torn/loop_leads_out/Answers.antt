@@ -5,7 +5,7 @@ use Rattle.euler_operators.specs.Sound.{HasHalf}
 use Rattle.euler_operators.specs.Conditions.{lists, face_at}
 use Rattle.euler_laws.proofs.shared.Goes.{equal, unequal}
 use Rattle.euler_conditions.proofs.Known.{filled, half_there, edge_there}
-use Rattle.euler_conditions.proofs.Parallel.{steps, steps_are}
+use Rattle.euler_laws.proofs.shared.Bounds.{steps, steps_are}
 use Rattle.euler_conditions.proofs.Around.{HalfRound, round_start, round_closed, round_more, round_ended, next_in}
 use Rattle.euler_conditions.proofs.Borders.{ring_has, kept_in}
 use Rattle.euler_conditions.proofs.torn.loop_leads_out.Goals as goal

@@ -1,4 +1,6 @@
-use Rattle.euler_conditions.proofs.Borders.{ring_there, ring_number, rings_met, rings_done}
+use Rattle.euler_laws.proofs.shared.FaceRings.{ring_there}
+use Rattle.euler_laws.proofs.shared.Bounds.{ring_number}
+use Rattle.euler_conditions.proofs.Borders.{rings_met, rings_done}
 use Rattle.euler_conditions.proofs.torn.rings_lead_out.Goals as goal
 
 pub rings-preserved : goal.rings-preserved

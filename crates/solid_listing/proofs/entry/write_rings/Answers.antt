@@ -6,7 +6,7 @@ use Rattle.euler_operators.specs.Model.{rings_of}
 use Rattle.solid_listing.specs.Lines.{spaced}
 use Rattle.solid_listing.specs.Writing.{Stops}
 use Rattle.solid_listing.proofs.LineLaws.{spaced_one}
-use Rattle.solid_walks.proofs.face_walks_laws.Rising.{above}
+use Rattle.solid_walks.proofs.face_walks_laws.Above.{above}
 use Rattle.solid_walks.proofs.face_walks_laws.RingWalks.{next_ring, no_ring, rings_from_zero}
 use Rattle.solid_listing.proofs.WritingLaws.{Writes, none_yet, wrote_more, stops_inside, all_written}
 use Rattle.solid_listing.proofs.entry.write_rings.Goals as goal

@@ -1,7 +1,7 @@
 use Rattle.std.proofs.Common.{length, map, decimal}
 use Rattle.euler_operators.specs.Model.{rings_of}
 use Rattle.solid_listing.specs.Lines.{spaced}
-use Rattle.solid_walks.proofs.face_walks_laws.Rising.{above}
+use Rattle.solid_walks.proofs.face_walks_laws.Above.{above}
 use Rattle.solid_listing.proofs.WritingLaws.{Writes}
 use Rattle.solid_listing.proofs.entry.write_rings.Given as goal
 

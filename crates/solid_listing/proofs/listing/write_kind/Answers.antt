@@ -2,7 +2,7 @@ use Rattle.std.proofs.Common.{ap, sym, subst, map, length, arith}
 use Rattle.std.proofs.lemmas.Result.{err_from_is_err_and}
 use Rattle.solid_listing.specs.Lines.{line_text, text_of}
 use Rattle.solid_listing.specs.Listing.{line, kind_lines, numbers_of}
-use Rattle.solid_walks.proofs.face_walks_laws.Rising.{above}
+use Rattle.solid_walks.proofs.face_walks_laws.Above.{above}
 use Rattle.solid_listing.proofs.Walks.{next_number, no_number, from_zero}
 use Rattle.solid_listing.proofs.WritingLaws.{Writes, none_yet, wrote_more, stops_inside, all_written}
 use Rattle.solid_listing.proofs.listing.write_kind.Goals as goal

@@ -1,7 +1,7 @@
 use Rattle.std.proofs.Common.{length, map}
 use Rattle.solid_listing.specs.Lines.{text_of}
 use Rattle.solid_listing.specs.Listing.{line, kind_lines, numbers_of}
-use Rattle.solid_walks.proofs.face_walks_laws.Rising.{above}
+use Rattle.solid_walks.proofs.face_walks_laws.Above.{above}
 use Rattle.solid_listing.proofs.WritingLaws.{Writes}
 use Rattle.solid_listing.proofs.listing.write_kind.Given as goal
 

@@ -1,8 +1,9 @@
 use Rattle.std.proofs.Common.{sym, ◌∙◌}
 use Rattle.euler_operators.specs.Vectors.{is_on}
 use Rattle.euler_operators.specs.Model.{point_of, rings_of}
-use Rattle.euler_conditions.proofs.Borders.{ring_there, ring_number}
-use Rattle.solid_walks.proofs.FaceLoops.{listed_ring, ring_listed}
+use Rattle.euler_laws.proofs.shared.FaceRings.{ring_there}
+use Rattle.euler_laws.proofs.shared.Bounds.{ring_number}
+use Rattle.shapes.proofs.walks.FaceLoops.{listed_ring, ring_listed}
 use Rattle.solid_measure.proofs.FlatRounds.{all_in, off_in, rings_more, rings_all}
 use Rattle.solid_measure.proofs.faces.rings_lie_on.Goals as goal
 

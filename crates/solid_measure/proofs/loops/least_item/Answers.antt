@@ -2,8 +2,9 @@ use Rattle.std.proofs.Common.{ℕ, ◌+◌, ◌-◌, sym, subst, ◌∙◌, arit
 use Rattle.euler_operators.specs.HalfEdge.{code}
 use Rattle.euler_laws.proofs.shared.Goes.{equal, unequal}
 use Rattle.euler_conditions.proofs.Known.{edge_there}
-use Rattle.euler_conditions.proofs.Parallel.{steps, steps_are}
-use Rattle.solid_walks.proofs.Rounds.{half_in, edge_number}
+use Rattle.euler_laws.proofs.shared.Bounds.{steps, steps_are}
+use Rattle.shapes.proofs.walks.Rounds.{half_in}
+use Rattle.solid_walks.proofs.face_walks_laws.HalfCodes.{edge_fits}
 use Rattle.solid_measure.proofs.LeastRounds.{LeastRound, least_start, least_closed, least_more, least_ended, lower_item}
 use Rattle.solid_measure.proofs.loops.least_item.Goals as goal
 
@@ -13,10 +14,10 @@ round-init c =
     subst (λ n. LeastRound M l first first n first) (omega arith) (least_start M c.requires.ready.sound l first c.requires.item)
 
 pub lesser-least-requires-clause-a : goal.lesser-least-requires-clause-a
-lesser-least-requires-clause-a c = let M = c.args.arena.now.model in let s = c.requires.ready.sound in let l = c.args.l in let first : ℕ = code c.args.first in let i = c.requires.item in let h : ℕ = code c.round.h in let n = steps - c.round.counter in let k : ℕ = code c.round.least in let w = c.round.invariant in edge_number M s c.round.least (half_in M s l first i k w.item)
+lesser-least-requires-clause-a c = let M = c.args.arena.now.model in let s = c.requires.ready.sound in let l = c.args.l in let first : ℕ = code c.args.first in let i = c.requires.item in let h : ℕ = code c.round.h in let n = steps - c.round.counter in let k : ℕ = code c.round.least in let w = c.round.invariant in edge_fits M s c.round.least (half_in M s l first i k w.item)
 
 pub lesser-least-requires-clause-b : goal.lesser-least-requires-clause-b
-lesser-least-requires-clause-b c = let M = c.args.arena.now.model in let s = c.requires.ready.sound in let l = c.args.l in let first : ℕ = code c.args.first in let i = c.requires.item in let h : ℕ = code c.round.h in let n = steps - c.round.counter in let k : ℕ = code c.round.least in let w = c.round.invariant in edge_number M s c.round.h w.round.there
+lesser-least-requires-clause-b c = let M = c.args.arena.now.model in let s = c.requires.ready.sound in let l = c.args.l in let first : ℕ = code c.args.first in let i = c.requires.item in let h : ℕ = code c.round.h in let n = steps - c.round.counter in let k : ℕ = code c.round.least in let w = c.round.invariant in edge_fits M s c.round.h w.round.there
 
 pub next-h-requires-clause-there : goal.next-h-requires-clause-there
 next-h-requires-clause-there c = edge_there c.args.arena.now.model c.round.h c.round.invariant.round.there

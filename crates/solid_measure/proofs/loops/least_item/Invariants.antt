@@ -1,6 +1,6 @@
 use Rattle.std.proofs.Common.{◌-◌}
 use Rattle.euler_operators.specs.HalfEdge.{code}
-use Rattle.euler_conditions.proofs.Parallel.{steps}
+use Rattle.euler_laws.proofs.shared.Bounds.{steps}
 use Rattle.solid_measure.proofs.LeastRounds.{LeastRound}
 use Rattle.solid_measure.proofs.loops.least_item.Given as goal
 

@@ -3,7 +3,7 @@ use Rattle.euler_operators.specs.HalfEdge.{code}
 use Rattle.euler_operators.specs.Model.{content}
 use Rattle.euler_laws.proofs.shared.Goes.{equal, unequal}
 use Rattle.euler_conditions.proofs.Known.{filled, edge_there}
-use Rattle.euler_conditions.proofs.Parallel.{steps, steps_are}
+use Rattle.euler_laws.proofs.shared.Bounds.{steps, steps_are}
 use Rattle.euler_conditions.proofs.Borders.{ring_has}
 use Rattle.solid_measure.specs.Measure.{read}
 use Rattle.solid_measure.proofs.AreaRounds.{AreaRound, lone_adds, area_start, area_room, area_closed, area_more, area_ended}
@@ -21,7 +21,7 @@ round-init c =
     subst (λ n. AreaRound M l first first n (read c.args.n) (read c.args.n)) (omega arith) (area_start M c.requires.ready.sound l first item (read c.args.n))
 
 pub half_added-sum-requires-clause-there : goal.half_added-sum-requires-clause-there
-half_added-sum-requires-clause-there c = edge_there c.args.arena.now.model c.round.h c.round.invariant.round.there
+half_added-sum-requires-clause-there c = c.round.invariant.round.there
 
 pub half_added-sum-requires-clause-n : goal.half_added-sum-requires-clause-n
 half_added-sum-requires-clause-n c =

@@ -1,6 +1,6 @@
 use Rattle.std.proofs.Common.{◌-◌}
 use Rattle.euler_operators.specs.HalfEdge.{code}
-use Rattle.euler_conditions.proofs.Parallel.{steps}
+use Rattle.euler_laws.proofs.shared.Bounds.{steps}
 use Rattle.solid_measure.specs.Measure.{read}
 use Rattle.solid_measure.proofs.AreaRounds.{AreaRound}
 use Rattle.solid_measure.proofs.loops.loop_added.Given as goal

@@ -3,7 +3,7 @@ use Rattle.euler_operators.specs.Vectors.{is_on}
 use Rattle.euler_operators.specs.HalfEdge.{code}
 use Rattle.euler_laws.proofs.shared.Goes.{equal, unequal}
 use Rattle.euler_conditions.proofs.Known.{edge_there}
-use Rattle.euler_conditions.proofs.Parallel.{steps, steps_are}
+use Rattle.euler_laws.proofs.shared.Bounds.{steps, steps_are}
 use Rattle.shapes.specs.Faces.{start}
 use Rattle.solid_measure.proofs.FlatRounds.{FlatRound, flat_start, flat_off, flat_closed, flat_more, flat_ended}
 use Rattle.solid_measure.proofs.loops.ring_lies_on.Goals as goal
@@ -14,7 +14,7 @@ round-init c =
     subst (FlatRound M c.args.plane l first first) (omega arith) (flat_start M c.requires.ready.sound c.args.plane l first c.requires.item)
 
 pub start-requires-clause-there : goal.start-requires-clause-there
-start-requires-clause-there c = edge_there c.args.arena.now.model c.round.h c.round.invariant.round.there
+start-requires-clause-there c = c.round.invariant.round.there
 
 pub returns-then-not-lies_on : goal.returns-then-not-lies_on
 returns-then-not-lies_on c =

@@ -1,6 +1,6 @@
 use Rattle.std.proofs.Common.{◌-◌}
 use Rattle.euler_operators.specs.HalfEdge.{code}
-use Rattle.euler_conditions.proofs.Parallel.{steps}
+use Rattle.euler_laws.proofs.shared.Bounds.{steps}
 use Rattle.solid_measure.proofs.FlatRounds.{FlatRound}
 use Rattle.solid_measure.proofs.loops.ring_lies_on.Given as goal
 

@@ -3,7 +3,7 @@ use Rattle.euler_operators.specs.HalfEdge.{code, mate}
 use Rattle.euler_operators.specs.Model.{before, round}
 use Rattle.euler_laws.proofs.shared.Goes.{equal, unequal}
 use Rattle.euler_conditions.proofs.Known.{half_there, edge_there}
-use Rattle.euler_conditions.proofs.Parallel.{steps, steps_are}
+use Rattle.euler_laws.proofs.shared.Bounds.{steps, steps_are}
 use Rattle.solid_walks.proofs.TwoWays.{Unseen, unseen_start, unseen_ended, met_ahead, lesser_ahead, step_ahead, met_behind, lesser_behind, step_behind, not_less, less}
 use Rattle.solid_walks.proofs.around.leads.Goals as goal
 

@@ -1,6 +1,6 @@
 use Rattle.std.proofs.Common.{length}
 use Rattle.euler_operators.specs.Model.{rings_of}
-use Rattle.solid_walks.proofs.face_walks_laws.Rising.{above}
+use Rattle.solid_walks.proofs.face_walks_laws.Above.{above}
 use Rattle.sweeps.proofs.LoneLoops.{NoneLone}
 use Rattle.sweeps.proofs.corners.lone_ring.Given as goal
 

@@ -1,7 +1,7 @@
 use Rattle.std.proofs.Common.{◌∙◌, ap, arith}
 use Rattle.std.proofs.lemmas.Result.{on_ok_weaker}
 use Rattle.undo_journal.specs.Machine.{DraftState}
-use Rattle.split_drawing.specs.face_drawing.Codes.{taken_of}
+use Rattle.split_checks.specs.Progress.{taken_of}
 use Rattle.plane_split.proofs.solid_opening_laws.Cycles.{some_half, faces_left, loops_left, edges_left, stripped, caps_go, opened_whole}
 use Rattle.plane_split.proofs.solid_opening.cycle.open_cycle.Goals as goal
 

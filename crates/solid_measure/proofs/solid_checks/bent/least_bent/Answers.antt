@@ -2,11 +2,11 @@ use Rattle.std.proofs.Common.{◌∙◌, ap, sym, length, arith}
 use Rattle.euler_operators.specs.Table.{has}
 use Rattle.euler_operators.specs.Model.{faces_of}
 use Rattle.euler_operators.proofs.Tests.{and_first}
-use Rattle.solid_walks.proofs.face_walks_laws.Rising.{above}
 use Rattle.solid_measure.specs.solid_checks.Least.{found}
 use Rattle.solid_measure.proofs.solid_checks_laws.FaceWalks.{next_face, no_face_left, faces_from_zero, face_positive}
 use Rattle.solid_measure.proofs.solid_checks_laws.BentFaces.{first_bent, bent_here, bent_later, found_bent}
 use Rattle.solid_measure.proofs.solid_checks.bent.least_bent.Goals as goal
+use Rattle.solid_walks.proofs.face_walks_laws.Above.{above}
 
 pub faces-init : goal.faces-init
 faces-init c = let M = c.args.arena.now.model in ap (first_bent M) (faces_from_zero M c.requires.sound c.args.s)

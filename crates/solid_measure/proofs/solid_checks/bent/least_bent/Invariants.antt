@@ -1,6 +1,6 @@
 use Rattle.std.proofs.Common.{◌≡◌, length}
 use Rattle.euler_operators.specs.Model.{faces_of}
-use Rattle.solid_walks.proofs.face_walks_laws.Rising.{above}
+use Rattle.solid_walks.proofs.face_walks_laws.Above.{above}
 use Rattle.solid_measure.proofs.solid_checks_laws.BentFaces.{first_bent}
 use Rattle.solid_measure.proofs.solid_checks.bent.least_bent.Given as goal
 

@@ -1,7 +1,7 @@
 use Rattle.std.proofs.Common.{◌∙◌, ap, sym, length, arith}
 use Rattle.euler_operators.specs.Model.{faces_of}
 use Rattle.shapes.specs.Faces.{loops_of}
-use Rattle.solid_walks.proofs.face_walks_laws.Rising.{above}
+use Rattle.solid_walks.proofs.face_walks_laws.Above.{above}
 use Rattle.solid_measure.specs.solid_checks.Least.{lesser}
 use Rattle.solid_measure.proofs.solid_checks_laws.Searches.{lesser_of_three, lesser_none}
 use Rattle.solid_measure.proofs.solid_checks_laws.FaceWalks.{next_face, no_face_left, faces_from_zero}

@@ -1,6 +1,6 @@
 use Rattle.std.proofs.Common.{◌≡◌, length}
 use Rattle.euler_operators.specs.Model.{faces_of}
-use Rattle.solid_walks.proofs.face_walks_laws.Rising.{above}
+use Rattle.solid_walks.proofs.face_walks_laws.Above.{above}
 use Rattle.solid_measure.specs.solid_checks.Least.{lesser}
 use Rattle.solid_measure.proofs.solid_checks_laws.LoneLoops.{lone_among}
 use Rattle.solid_measure.proofs.solid_checks.lone.least_lone.Given as goal

@@ -1,6 +1,6 @@
 use Rattle.std.proofs.Common.{◌∙◌, ap, sym, ◌∷◌, length, arith}
 use Rattle.euler_operators.specs.Model.{outer, rings_of}
-use Rattle.solid_walks.proofs.face_walks_laws.Rising.{above}
+use Rattle.solid_walks.proofs.face_walks_laws.Above.{above}
 use Rattle.solid_walks.proofs.face_walks_laws.RingWalks.{next_ring, no_ring, rings_from_zero}
 use Rattle.solid_measure.specs.solid_checks.Least.{lesser, only}
 use Rattle.solid_measure.proofs.solid_checks_laws.Searches.{lesser_of_three, lesser_none}

@@ -1,6 +1,7 @@
 use Rattle.std.proofs.Common.{sym, ap, subst, ◌∙◌, arith}
 use Rattle.euler_operators.specs.Model.{content}
-use Rattle.euler_conditions.proofs.Borders.{ring_there, ring_number}
+use Rattle.euler_laws.proofs.shared.FaceRings.{ring_there}
+use Rattle.euler_laws.proofs.shared.Bounds.{ring_number}
 use Rattle.solid_measure.specs.solid_counts.Sums.{IsFew, together, loop_met}
 use Rattle.solid_measure.proofs.solid_counts_laws.FaceSums.{loop_few, face_start, face_few, face_next, face_end}
 use Rattle.solid_measure.proofs.solid_counts.loops.face_met.Goals as goal

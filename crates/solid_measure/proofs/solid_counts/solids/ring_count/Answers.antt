@@ -1,5 +1,5 @@
 use Rattle.std.proofs.Common.{◌+◌, ◌∙◌, arith}
-use Rattle.solid_walks.proofs.SolidFaces.{next_face}
+use Rattle.solid_walks.proofs.NextFace.{next_face}
 use Rattle.solid_measure.proofs.solid_counts_laws.FaceSums.{rings_start, rings_few, rings_next, rings_end}
 use Rattle.solid_measure.proofs.solid_counts.solids.ring_count.Goals as goal
 

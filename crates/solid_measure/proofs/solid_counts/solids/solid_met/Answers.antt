@@ -1,6 +1,6 @@
 use Rattle.std.proofs.Common.{sym, subst, ◌∙◌, arith}
 use Rattle.solid_measure.specs.solid_counts.Sums.{IsFew, together}
-use Rattle.solid_walks.proofs.SolidFaces.{next_face}
+use Rattle.solid_walks.proofs.NextFace.{next_face}
 use Rattle.solid_measure.proofs.solid_counts_laws.FaceSums.{face_all_few, solid_start, solid_few, solid_next, solid_end}
 use Rattle.solid_measure.proofs.solid_counts.solids.solid_met.Goals as goal
 

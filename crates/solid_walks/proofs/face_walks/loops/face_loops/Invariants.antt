@@ -1,7 +1,7 @@
 use Rattle.std.proofs.Common.{◌≡◌, ◌++◌, length}
 use Rattle.euler_operators.specs.Model.{rings_of}
 use Rattle.shapes.specs.Faces.{loops_of}
-use Rattle.solid_walks.proofs.face_walks_laws.Rising.{above}
+use Rattle.solid_walks.proofs.face_walks_laws.Above.{above}
 use Rattle.solid_walks.proofs.face_walks.loops.face_loops.Given as goal
 
 abbrev pub invariant-loop-l : goal.invariant-loop-l

@@ -4,7 +4,7 @@ use Rattle.std.proofs.lemmas.List.{append-nil}
 use Rattle.euler_operators.specs.declared.Plane.{Plane}
 use Rattle.euler_operators.specs.Model.{Model, rings_of, content}
 use Rattle.shapes.specs.Faces.{vertices_on}
-use Rattle.solid_walks.proofs.face_walks_laws.Rising.{above}
+use Rattle.solid_walks.proofs.face_walks_laws.Above.{above}
 use Rattle.solid_walks.proofs.face_walks_laws.RingWalks.{next_ring, no_ring, rings_from_zero}
 use Rattle.shapes.specs.split.Sides.{some_above}
 use Rattle.split_drawing.proofs.solid_drawing_laws.RingSteps.{ring_there}

@@ -1,5 +1,5 @@
 use Rattle.std.proofs.Common.{◌≡◌, [], map, length}
-use Rattle.split_drawing.specs.face_drawing.Codes.{drawing_of}
+use Rattle.split_checks.specs.Progress.{drawing_of}
 use Rattle.split_drawing.specs.face_pairs.Paired.{paired}
 use Rattle.split_drawing.specs.solid_drawing.Drawn.{CanDrawFaces, faces_between, put_aside}
 use Rattle.split_drawing.proofs.solid_drawing.solid.draw_faces.Given as goal

@@ -6,7 +6,7 @@ use Rattle.shapes.specs.split.Crossings.{with_crossings}
 use Rattle.shapes.specs.split.Drawing.{Drawing}
 use Rattle.undo_journal.specs.Machine.{DraftState}
 use Rattle.split_drawing.proofs.edge_cutting_laws.Remaining.{cut_plane}
-use Rattle.split_drawing.specs.face_drawing.Codes.{drawing_of}
+use Rattle.split_checks.specs.Progress.{drawing_of}
 use Rattle.split_drawing.specs.face_pairs.Paired.{paired, paired_faces}
 use Rattle.split_drawing.specs.solid_drawing.Starts.{FacesThere, faces_started}
 use Rattle.split_drawing.proofs.solid_drawing_laws.WholeSolid.{all_there, can_draw, made}

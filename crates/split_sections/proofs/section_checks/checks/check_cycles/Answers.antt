@@ -6,7 +6,7 @@ use Rattle.euler_operators.specs.Conditions.{first_refusal}
 use Rattle.solid_measure.specs.solid_checks.Least.{found}
 use Rattle.shapes.specs.split.Section.{below_halves, section_ends, least_branched}
 use Rattle.shapes.specs.split.Split.{section_conditions}
-use Rattle.split_drawing.specs.face_drawing.Codes.{taken_of}
+use Rattle.split_checks.specs.Progress.{taken_of}
 use Rattle.split_sections.specs.section_cycles.Halves.{codes}
 use Rattle.split_sections.specs.section_checks.Cycles.{AreCyclesOf, has_stray}
 use Rattle.split_sections.specs.declared.section_checks.section.Cycle.{Cycle}

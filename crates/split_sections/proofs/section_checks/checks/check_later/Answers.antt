@@ -1,13 +1,11 @@
 use Rattle.std.proofs.Common.{◌≡◌, ◌∙◌, List, ℕ, [], true, nat_eq, Ok, None, Some, sym, ap, subst, arith}
-use Rattle.euler_operators.specs.Conditions.{strictly_rises}
+use Rattle.euler_operators.specs.Conditions.{strictly_rises, first_refusal}
 use Rattle.split_opening_laws.specs.cycles.SectionCycles.{AreOf}
-use Rattle.split_drawing.specs.face_drawing.Codes.{drawing_of}
+use Rattle.split_checks.specs.Progress.{drawing_of, taken_of}
 use Rattle.split_sections.proofs.section_checks_laws.Above.{above_rises, above_of}
 use Rattle.std.proofs.lemmas.Bool.Decides.{nat_tests}
-use Rattle.euler_operators.specs.Conditions.{first_refusal}
 use Rattle.shapes.specs.split.Section.{below_halves}
 use Rattle.shapes.specs.split.Split.{later_conditions, section_conditions}
-use Rattle.split_drawing.specs.face_drawing.Codes.{taken_of}
 use Rattle.split_sections.specs.section_checks.Cycles.{AreCyclesOf}
 use Rattle.split_sections.specs.section_checks.Sections.{IsSection}
 use Rattle.split_sections.specs.declared.section_checks.section.Section.{Section}

@@ -3,7 +3,7 @@ use Rattle.std.proofs.lemmas.List.{append-nil, map-append}
 use Rattle.euler_operators.specs.declared.HalfEdge.{HalfEdge}
 use Rattle.euler_operators.specs.HalfEdge.{code}
 use Rattle.euler_operators.specs.Model.{faces_of}
-use Rattle.solid_walks.proofs.face_walks_laws.Rising.{above}
+use Rattle.solid_walks.proofs.face_walks_laws.Above.{above}
 use Rattle.shapes.specs.Faces.{boundary}
 use Rattle.solid_measure.proofs.solid_checks_laws.FaceWalks.{next_face, no_face_left, faces_from_zero}
 use Rattle.split_sections.specs.section_edges.BelowHalves.{below_in, below_met}

@@ -1,0 +1,4 @@
+pub mod Rounds
+pub mod FaceLoops
+pub mod SolidFaces
+pub mod FirstEdges

@@ -1,0 +1,103 @@
+-- The loops of a face, and the half-edges of some loops, are different ones.
+use Rattle.std.proofs.Common.{◌≡◌, ℕ, ◌≤◌, ◌<◌, Bool, true, false, not, nat_eq, nat_le, ◌&&◌, List, [], ◌∷◌, ◌++◌, length, Some, is_some, refl, sym, ap, ◌∙◌, arith, true≢false, inl, inr}
+use Rattle.std.specs.Prelude.{unwrap_or}
+use Rattle.std.proofs.lemmas.Bool.Decides.{nat_tests, eqb_tells}
+use Rattle.std.proofs.lemmas.List.{append_assoc}
+use Rattle.euler_operators.specs.Items.{count, tick, IsIn, IsApart}
+use Rattle.euler_operators.proofs.Lists.{count-append, tick_same, tick_other, IsIn_or_not}
+use Rattle.euler_operators.specs.Table as table
+use Rattle.euler_operators.specs.Model.{Model, LoopRow, no_loop, items_of, content, loop_of, outer, face_of, rings_of, is_ring_of}
+use Rattle.euler_operators.specs.Sound.{Sound, HasHalf}
+use Rattle.euler_operators.proofs.Models.{in-holds}
+use Rattle.euler_operators.specs.Conditions.{lists, strictly_rises}
+use Rattle.euler_laws.proofs.shared.Listed.{listed_passes, passes_listed, all_where-rises}
+use Rattle.euler_laws.proofs.shared.Loops.{some_row}
+use Rattle.euler_laws.proofs.shared.FaceRings.{ring_there}
+use Rattle.euler_laws.proofs.shared.Bounds.{steps, steps_are, length_below, half_below}
+use Rattle.euler_laws.proofs.shared.Counted.{none_counted, counted_once}
+use Rattle.euler_laws.proofs.shared.UpTo.{up_to, up_to_none, count_up_to}
+use Rattle.shapes.specs.Faces.{items_in, loops_of}
+use Rattle.shapes.proofs.walks.Rounds.{half_in, items_apart}
+
+-- the outer loop of a face and its rings that don't pass n
+abbrev pub loops_to : Model → ℕ → ℕ → List ℕ
+loops_to M f n = outer M f ∷ up_to n (rings_of M f)
+
+-- different half-edges that are there
+pub record AreHalves (M : Model) (hs : List ℕ) : Type 0 where
+  pub apart : IsApart hs
+  pub there : (x : ℕ) → IsIn x hs → HasHalf M x
+
+pub halves_short : (M : Model) → Sound M → (hs : List ℕ) → AreHalves M hs → length hs ≤ 2000002
+halves_short M sound hs a = omega (arith, steps_are, length_below steps hs a.apart (λ x i. half_below M sound x (a.there x i)))
+
+pub items_joined : (M : Model) (ls ks : List ℕ) → items_in M (ls ++ ks) ≡ items_in M ls ++ items_in M ks
+items_joined M [] ks = refl
+items_joined M (l ∷ ls) ks = ap (λ xs. items_of (content M l) ++ xs) (items_joined M ls ks) ∙ sym (append_assoc (items_of (content M l)) (items_in M ls) (items_in M ks))
+
+module _ (M : Model) (sound : Sound M) where
+  one_item : (l x : ℕ) → count x (items_of (content M l)) ≤ tick (loop_of M x) l
+  one_item l x = elim (IsIn_or_not x (items_of (content M l))) [
+    | inl i ↦ let e = sound.one_loop x l (in-holds x (content M l) i) in omega (arith, items_apart M sound l x i x, ap (λ k. tick k l) e, tick_same l)
+    | inr z ↦ omega (arith, z)
+  ]
+
+  -- a half-edge stands no more often in some loops than its loop among them
+  pub items_counted : (ls : List ℕ) (x : ℕ) → count x (items_in M ls) ≤ count (loop_of M x) ls
+  items_counted [] x = omega arith
+  items_counted (l ∷ ls) x = omega (arith, count-append x (items_of (content M l)) (items_in M ls), one_item l x, items_counted ls x)
+
+  pub items_there : (ls : List ℕ) (x : ℕ) → IsIn x (items_in M ls) → HasHalf M x
+  items_there [] x i = absurd (omega arith)
+  items_there (l ∷ ls) x i = elim (IsIn_or_not x (items_of (content M l))) [
+    | inl j ↦ half_in M sound l x j x j
+    | inr z ↦ items_there ls x (omega (arith, z, count-append x (items_of (content M l)) (items_in M ls)))
+  ]
+
+  pub different_items : (ls : List ℕ) → IsApart ls → AreHalves M (items_in M ls)
+  different_items ls a = record { apart = λ x. omega (arith, items_counted ls x, a (loop_of M x)); there = items_there ls }
+
+  module _ (f : ℕ) where
+    ring_row : (l : ℕ) (row : LoopRow) → table.get M.loops l ≡ Some row → (nat_eq row.face f && not (nat_eq (outer M f) l)) ≡ is_ring_of M f l
+    unfolding face_of
+    ring_row l row e = sym (λ i. is_some (e i) && nat_eq ((unwrap_or (e i) no_loop).face) f && not (nat_eq (outer M f) l))
+
+    pub listed_ring : (l : ℕ) → lists (rings_of M f) l ≡ true → is_ring_of M f l ≡ true
+    listed_ring l i = let r = listed_passes (λ l row. nat_eq row.face f && not (nat_eq (outer M f) l)) M.loops l i in sym (ring_row l r.0 r.1) ∙ r.2
+
+    pub ring_listed : (l : ℕ) → is_ring_of M f l ≡ true → lists (rings_of M f) l ≡ true
+    ring_listed l e = let r = some_row (table.get M.loops l) (ring_there M f l e).0 in passes_listed (λ l row. nat_eq row.face f && not (nat_eq (outer M f) l)) M.loops l r.0 r.1 (ring_row l r.0 r.1 ∙ e)
+
+    pub rings_rise : strictly_rises (rings_of M f) ≡ true
+    rings_rise = all_where-rises (λ l row. nat_eq row.face f && not (nat_eq (outer M f) l)) M.loops
+
+    not_outer : lists (rings_of M f) (outer M f) ≡ false
+    not_outer = go (lists (rings_of M f) (outer M f)) refl where
+      no_ring : (a : Bool) → (a && not (nat_eq (outer M f) (outer M f))) ≡ true → ⊥
+      no_ring true e = let s : nat_eq (outer M f) (outer M f) ≡ true = grind (arith, nat_tests) in true≢false (sym e ∙ ap not s)
+      no_ring false e = true≢false (sym e)
+
+      go : (b : Bool) → lists (rings_of M f) (outer M f) ≡ b → b ≡ false
+      go true e = absurd (no_ring (table.has M.loops (outer M f) && nat_eq (face_of M (outer M f)) f) (listed_ring (outer M f) e))
+      go false e = refl
+
+    pub loops_apart : (n : ℕ) → IsApart (loops_to M f n)
+    loops_apart n x = elim (eqb_tells x (outer M f)) [
+      | inl p ↦ omega (arith, ap (λ k. tick k (outer M f)) p.1, tick_same (outer M f), count_up_to x n (rings_of M f), ap (λ k. count k (rings_of M f)) p.1, none_counted (outer M f) (rings_of M f) not_outer)
+      | inr p ↦ omega (arith, tick_other x (outer M f) p.1, count_up_to x n (rings_of M f), counted_once x (rings_of M f) rings_rise)
+    ]
+
+    pub loops_of_apart : IsApart (loops_of M f)
+    unfolding loops_of
+    loops_of_apart x = elim (eqb_tells x (outer M f)) [
+      | inl p ↦ omega (arith, ap (λ k. tick k (outer M f)) p.1, tick_same (outer M f), ap (λ k. count k (rings_of M f)) p.1, none_counted (outer M f) (rings_of M f) not_outer)
+      | inr p ↦ omega (arith, tick_other x (outer M f) p.1, counted_once x (rings_of M f) rings_rise)
+    ]
+
+    ring_positive : (l : ℕ) → lists (rings_of M f) l ≡ true → 0 < l
+    ring_positive l i = number l (sound.loops_fit l (ring_there M f l (listed_ring l i)).0) where
+      number : (l : ℕ) → (nat_le 1 l && nat_le l 1000000) ≡ true → 0 < l
+      number l e = grind (arith, nat_tests)
+
+    pub loops_none : loops_to M f 0 ≡ outer M f ∷ []
+    loops_none = ap (λ ls. outer M f ∷ ls) (up_to_none 0 (rings_of M f) ring_positive)

@@ -1,0 +1,143 @@
+-- The faces of a solid, and their loops.
+use Rattle.std.proofs.Common.{◌≡◌, ℕ, ◌≤◌, ◌<◌, true, nat_eq, nat_le, ◌&&◌, List, [], ◌∷◌, ◌++◌, length, Some, is_some, refl, sym, ap, ◌∙◌, arith, inl, inr}
+use Rattle.std.specs.Prelude.{unwrap_or}
+use Rattle.std.proofs.lemmas.Bool.Decides.{nat_tests, eqb_tells}
+use Rattle.std.proofs.lemmas.List.{append_assoc}
+use Rattle.euler_operators.specs.Items.{count, tick, IsIn, IsApart}
+use Rattle.euler_operators.proofs.Lists.{count-append, tick_same, IsIn_or_not}
+use Rattle.euler_operators.specs.Table as table
+use Rattle.euler_operators.specs.Model.{Model, FaceRow, no_face, outer, face_of, rings_of, faces_of, solid_of}
+use Rattle.euler_operators.specs.Sound.{Sound, Has}
+use Rattle.euler_operators.specs.Conditions.{lists, strictly_rises}
+use Rattle.euler_laws.proofs.shared.Listed.{first_listed, rest_listed, listed_cases, listed_passes, passes_listed, all_where-rises}
+use Rattle.euler_laws.proofs.shared.Loops.{some_row}
+use Rattle.euler_laws.proofs.shared.Goes.{equal, equals}
+use Rattle.euler_laws.proofs.shared.FaceRings.{ring_there, outer_or_ring}
+use Rattle.euler_laws.proofs.shared.Bounds.{length_below, ring_number}
+use Rattle.euler_laws.proofs.shared.Counted.{counted_once, in_listed, listed_in}
+use Rattle.euler_laws.proofs.shared.UpTo.{up_to, up_to_none, count_up_to, listed_up_to}
+use Rattle.shapes.specs.Faces.{loops_of}
+use Rattle.shapes.specs.Walks.{loops_in}
+use Rattle.shapes.proofs.walks.FaceLoops.{loops_to, listed_ring, ring_listed, loops_of_apart}
+
+pub loops_joined : (M : Model) (fs gs : List ℕ) → loops_in M (fs ++ gs) ≡ loops_in M fs ++ loops_in M gs
+loops_joined M [] gs = refl
+loops_joined M (f ∷ fs) gs = ap (λ ls. loops_of M f ++ ls) (loops_joined M fs gs) ∙ sym (append_assoc (loops_of M f) (loops_in M fs) (loops_in M gs))
+
+module _ (M : Model) (sound : Sound M) where
+  -- a loop of a face names it
+  pub face_of_loop : (f l : ℕ) → Has M.faces f → lists (loops_of M f) l ≡ true → Has M.loops l × (face_of M l ≡ f)
+  unfolding loops_of
+  face_of_loop f l t i = elim (listed_cases (outer M f) l (rings_of M f) i) [
+    | inl e ↦ let o = sound.outers_there f t in (ap (table.has M.loops) e ∙ o.0, ap (face_of M) e ∙ o.1)
+    | inr r ↦ ring_there M f l (listed_ring M sound f l r)
+  ]
+
+  -- also the loops up to a number
+  pub loops_to_there : (f : ℕ) → Has M.faces f → (n l : ℕ) → IsIn l (loops_to M f n) → Has M.loops l
+  loops_to_there f t n l i = elim (listed_cases (outer M f) l (up_to n (rings_of M f)) (in_listed l (loops_to M f n) i)) [
+    | inl e ↦ ap (table.has M.loops) e ∙ (sound.outers_there f t).0
+    | inr r ↦ (ring_there M f l (listed_ring M sound f l (listed_up_to l n (rings_of M f) r))).0
+  ]
+
+  loop_of_face : (l : ℕ) → Has M.loops l → IsIn l (loops_of M (face_of M l))
+  unfolding loops_of
+  loop_of_face l t = listed_in l (outer M (face_of M l) ∷ rings_of M (face_of M l)) (elim (outer_or_ring M (face_of M l) l t refl) [
+    | inl o ↦ ap (λ k. lists (k ∷ rings_of M (face_of M l)) l) o ∙ first_listed l (rings_of M (face_of M l))
+    | inr r ↦ rest_listed (outer M (face_of M l)) l (rings_of M (face_of M l)) (ring_listed M sound (face_of M l) l r)
+  ])
+
+  one_face : (f l : ℕ) → Has M.faces f → count l (loops_of M f) ≤ tick (face_of M l) f
+  one_face f l t = elim (IsIn_or_not l (loops_of M f)) [
+    | inl i ↦ let e = (face_of_loop f l t (in_listed l (loops_of M f) i)).1 in omega (arith, loops_of_apart M sound f l, ap (λ k. tick k f) e, tick_same f)
+    | inr z ↦ omega (arith, z)
+  ]
+
+  -- all these are faces
+  abbrev AreFaces : List ℕ → Type 0
+  AreFaces fs = (f : ℕ) → lists fs f ≡ true → Has M.faces f
+
+  -- a loop stands no more often among the loops of some faces than its face among these
+  loops_counted : (fs : List ℕ) (l : ℕ) → AreFaces fs → count l (loops_in M fs) ≤ count (face_of M l) fs
+  loops_counted [] l t = omega arith
+  loops_counted (f ∷ fs) l t = omega (arith, count-append l (loops_of M f) (loops_in M fs), one_face f l (t f (first_listed f fs)), loops_counted fs l (λ g i. t g (rest_listed f g fs i)))
+
+  pub loops_there : (fs : List ℕ) (l : ℕ) → AreFaces fs → IsIn l (loops_in M fs) → Has M.loops l
+  loops_there [] l t i = absurd (omega arith)
+  loops_there (f ∷ fs) l t i = elim (IsIn_or_not l (loops_of M f)) [
+    | inl j ↦ (face_of_loop f l (t f (first_listed f fs)) (in_listed l (loops_of M f) j)).0
+    | inr z ↦ loops_there fs l (λ g k. t g (rest_listed f g fs k)) (omega (arith, z, count-append l (loops_of M f) (loops_in M fs)))
+  ]
+
+  loops_held : (fs : List ℕ) (l : ℕ) → Has M.loops l → IsIn (face_of M l) fs → IsIn l (loops_in M fs)
+  loops_held [] l t i = absurd (omega arith)
+  loops_held (f ∷ fs) l t i = elim (eqb_tells (face_of M l) f) [
+    | inl e ↦ omega (arith, count-append l (loops_of M f) (loops_in M fs), loop_of_face l t, ap (λ g. count l (loops_of M g)) e.1)
+    | inr e ↦ omega (arith, count-append l (loops_of M f) (loops_in M fs), loops_held fs l t (listed_in (face_of M l) fs (later (face_of M l) f (in_listed (face_of M l) (f ∷ fs) i) e.1)))
+  ] where
+    later : (g f : ℕ) → lists (f ∷ fs) g ≡ true → (g ≡ f → ⊥) → lists fs g ≡ true
+    later g f l ne = elim (listed_cases f g fs l) [ inl e ↦ absurd (ne e) | inr e ↦ e ]
+
+  module _ (s : ℕ) where
+    face_row : (f : ℕ) (row : FaceRow) → table.get M.faces f ≡ Some row → row.solid ≡ solid_of M f
+    unfolding solid_of
+    face_row f row e = sym (ap (λ o. (unwrap_or o no_face).solid) e)
+
+    pub listed_face : (f : ℕ) → lists (faces_of M s) f ≡ true → Has M.faces f × (solid_of M f ≡ s)
+    listed_face f i = let r = listed_passes (λ _ row. nat_eq row.solid s) M.faces f i in (ap is_some r.1, sym (face_row f r.0 r.1) ∙ equal r.0.solid s r.2)
+
+    pub face_listed : (f : ℕ) → Has M.faces f → solid_of M f ≡ s → lists (faces_of M s) f ≡ true
+    face_listed f t e = let r = some_row (table.get M.faces f) t in passes_listed (λ _ row. nat_eq row.solid s) M.faces f r.0 r.1 (equals r.0.solid s (face_row f r.0 r.1 ∙ e))
+
+    pub faces_rise : strictly_rises (faces_of M s) ≡ true
+    faces_rise = all_where-rises (λ _ row. nat_eq row.solid s) M.faces
+
+    pub face_number : (f : ℕ) → Has M.faces f → (0 < f) × (f ≤ 1000000)
+    face_number f t = number f (sound.faces_fit f t) where
+      number : (f : ℕ) → (nat_le 1 f && nat_le f 1000000) ≡ true → (0 < f) × (f ≤ 1000000)
+      number f e = (grind (arith, nat_tests), grind (arith, nat_tests))
+
+    -- the faces of the solid that don't pass n
+    abbrev pub faces_to : ℕ → List ℕ
+    faces_to n = up_to n (faces_of M s)
+
+    pub faces_none : faces_to 0 ≡ []
+    faces_none = up_to_none 0 (faces_of M s) (λ f i. (face_number f (listed_face f i).0).0)
+
+    pub faces_short : length (faces_of M s) ≤ 1000001
+    faces_short = length_below 1000001 (faces_of M s) (λ f. counted_once f (faces_of M s) faces_rise) (λ f i. below f (face_number f (listed_face f (in_listed f (faces_of M s) i)).0).1) where
+      below : (f : ℕ) → f ≤ 1000000 → f < 1000001
+      below f l = omega arith
+
+    -- ---- the loops of these faces
+
+    faces_there : (n : ℕ) → AreFaces (faces_to n)
+    faces_there n f i = (listed_face f (listed_up_to f n (faces_of M s) i)).0
+
+    pub solid_loops_apart : (n : ℕ) → IsApart (loops_in M (faces_to n))
+    solid_loops_apart n l = omega (arith, loops_counted (faces_to n) l (faces_there n), count_up_to (face_of M l) n (faces_of M s), counted_once (face_of M l) (faces_of M s) faces_rise)
+
+    pub solid_loops_there : (n l : ℕ) → IsIn l (loops_in M (faces_to n)) → Has M.loops l
+    solid_loops_there n l i = loops_there (faces_to n) l (faces_there n) i
+
+    -- the loops of the solid's faces
+    abbrev pub solid_loops : List ℕ
+    solid_loops = loops_in M (faces_of M s)
+
+    pub all_loops_apart : IsApart solid_loops
+    all_loops_apart l = omega (arith, loops_counted (faces_of M s) l (λ f i. (listed_face f i).0), counted_once (face_of M l) (faces_of M s) faces_rise)
+
+    pub loop_in_solid : (l : ℕ) → IsIn l solid_loops → Has M.loops l × (solid_of M (face_of M l) ≡ s)
+    loop_in_solid l i = (
+      loops_there (faces_of M s) l (λ f j. (listed_face f j).0) i,
+      (listed_face (face_of M l) (in_listed (face_of M l) (faces_of M s) (omega (arith, i, loops_counted (faces_of M s) l (λ f j. (listed_face f j).0))))).1,
+    )
+
+    pub solid_has_loop : (l : ℕ) → Has M.loops l → solid_of M (face_of M l) ≡ s → IsIn l solid_loops
+    solid_has_loop l t e = loops_held (faces_of M s) l t (listed_in (face_of M l) (faces_of M s) (face_listed (face_of M l) (sound.loops_of_faces l t) e))
+
+-- different loops that are there are at most so many
+pub loops_short : (M : Model) → Sound M → (ls : List ℕ) → IsApart ls → ((l : ℕ) → IsIn l ls → Has M.loops l) → length ls ≤ 1000001
+loops_short M sound ls a t = length_below 1000001 ls a (λ l i. below l (ring_number M sound l (t l i))) where
+  below : (l : ℕ) → l ≤ 1000000 → l < 1000001
+  below l h = omega arith
