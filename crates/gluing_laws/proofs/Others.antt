@@ -16,13 +16,12 @@ use Rattle.euler_operators.specs.Conditions.{lists}
 use Rattle.euler_operators.specs.Effect.{faces_to_solid}
 use Rattle.euler_laws.proofs.shared.Goes.{equal, differs}
 use Rattle.euler_laws.proofs.shared.Listed.{listed_passes, listed_as}
-use Rattle.euler_laws.proofs.shared.Rows.{face_there}
+use Rattle.euler_laws.proofs.shared.Rows.{face_there, solid_either}
 use Rattle.shapes.specs.Faces.{start}
 use Rattle.shapes.specs.Rewriting.{rewritten}
 use Rattle.shapes.specs.Measure.{anchor, first_vertex, volume_in, six_volume}
 use Rattle.shapes.proofs.glue.Renamings.{renamed_not}
 use Rattle.gluing_laws.proofs.Listed.{one_if, passed, same_search, volume_of, same_volumes}
-use Rattle.gluing_laws.proofs.Adding.{moved_solid}
 use Rattle.gluing_laws.proofs.Seams as seams
 use Rattle.gluing_laws.proofs.Seams.{Seamed, Glued, side}
 use Rattle.gluing_laws.proofs.Places as places
@@ -57,7 +56,7 @@ module _ (M N : Model) (f g : ℕ) (partner_of : ℕ → ℕ) (hs gs : List ℕ)
 
   row_kept : (k : ℕ) (o : Option FaceRow) → passed of k (option_map (to_s k) o) ≡ passed of k o
   row_kept k None = refl
-  row_kept k (Some row) = ap (λ v. one_if (nat_eq v u)) (moved_solid (nat_eq row.solid (solid_of M g)) row (solid_of M f)) ∙ of_neither row.solid (solid_of M f) (solid_of M g) u not_s not_t
+  row_kept k (Some row) = ap (λ v. one_if (nat_eq v u)) (solid_either (nat_eq row.solid (solid_of M g)) row (solid_of M f)) ∙ of_neither row.solid (solid_of M f) (solid_of M g) u not_s not_t
 
   faces_are : faces_of N u ≡ faces_of M u
   faces_are = same_search of of N.faces M.faces (λ k. elim (eqb_tells k f) [

@@ -15,9 +15,9 @@ use Rattle.euler_operators.specs.Effect.{part}
 use Rattle.euler_laws.specs.Laws.{AreAccepted, effects}
 use Rattle.euler_laws.proofs.Runs.{effects_keep_sound}
 use Rattle.euler_laws.proofs.shared.Fans.{half_mate}
-use Rattle.euler_laws.proofs.shared.Counted.{none_counted, counted_once, in_listed, listed_in}
+use Rattle.euler_laws.proofs.shared.Listed.{IsIn-from_listed}
 use Rattle.shapes.specs.split.Sides.{faces_above}
-use Rattle.shapes.specs.split.Drawing.{Drawing, with_drawings}
+use Rattle.shapes.specs.split.Drawing.{with_drawings}
 use Rattle.shapes.specs.split.Section.{below_halves, section_cycles}
 use Rattle.shapes.specs.split.Opening.{Caps, Opening, all_opened, outer_caps, hole_closed, holes_closed}
 use Rattle.shapes.specs.split.Split.{split_above, split_refusal, split_model}
@@ -39,6 +39,7 @@ use Rattle.split_laws.specs.drawn.Kept.{HasFace}
 use Rattle.split_laws.proofs.drawn.Drawn.{begins, t_fits, no_stray, t_free, above_facts, can_open_all, no_caps}
 use Rattle.split_laws.proofs.drawn.BothSides.{some_above, some_below}
 use Rattle.split_laws.proofs.OldFaces.{IsOld, all_old, solids_still}
+use Rattle.euler_laws.proofs.shared.Counted.{none_counted, counted_once, in_listed}
 
 -- ---- which of the caps are listed
 
@@ -46,7 +47,7 @@ not_listed : (x : ℕ) (ns : List ℕ) → count x ns ≡ 0 → lists ns x ≡ f
 not_listed x ns z = go (lists ns x) refl where
   go : (b : Bool) → lists ns x ≡ b → lists ns x ≡ false
   go false e = e
-  go true e = absurd (omega (arith, z, listed_in x ns e))
+  go true e = absurd (omega (arith, z, IsIn-from_listed x ns e))
 
 caps_counted : (x : ℕ) (ks : List Caps) → count x (cap_faces ks) ≡ count x (map (λ k. k.lower) ks) + count x (map (λ k. k.upper) ks)
 caps_counted x [] = refl
@@ -67,9 +68,6 @@ some_length k ks = omega arith
 -- ---- all openings made
 
 module _ (M : Model) (s : ℕ) (p : Plane) (t : ℕ) (sound : Sound M) (accepted : split_refusal M s p t ≡ None) where
-  abbrev d : Drawing
-  d = with_drawings M s p
-
   abbrev D : Model
   D = (with_drawings M s p).model
 
@@ -156,7 +154,7 @@ module _ (M : Model) (s : ℕ) (p : Plane) (t : ℕ) (sound : Sound M) (accepted
       record {
         upper = a.face;
         upper_there = ap is_some (left_row a.face a.there) ∙ a.there;
-        upper_listed = in_listed a.face us (omega (arith, listed_in a.face above a.is, count-append a.face above (map (λ k. k.upper) ks)));
+        upper_listed = in_listed a.face us (omega (arith, IsIn-from_listed a.face above a.is, count-append a.face above (map (λ k. k.upper) ks)));
         lower = b.face;
         lower_there = ap is_some (left_row b.face b.there) ∙ b.there;
         lower_of = solid_left b.face b.there ∙ b.of_solid;

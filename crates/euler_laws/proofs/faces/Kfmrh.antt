@@ -6,17 +6,18 @@ use Rattle.euler_operators.specs.Table as table
 use Rattle.euler_operators.specs.Table.{map_rows, tables}
 use Rattle.euler_operators.specs.Model.{Model, FaceRow, no_face, loop_of, face_of, solid_of, outer, is_number}
 use Rattle.euler_operators.specs.Sound.{Sound, Has}
-use Rattle.euler_operators.proofs.Tables.{put-remove, remove-put}
+use Rattle.euler_operators.proofs.Tables.{put-remove, remove-put, no_row}
 use Rattle.euler_operators.proofs.Models.{row_of}
+use Rattle.euler_operators.proofs.Tests.{nat_eq_itself}
 use Rattle.euler_operators.specs.declared.Op.TheVariants.{Kfmrh, Mfkrh}
 use Rattle.euler_operators.specs.Conditions.{first_false, conditions}
 use Rattle.euler_operators.specs.Effect.{effect, inverse, kfmrh, mfkrh, loop_to_face}
-use Rattle.euler_laws.proofs.shared.Goes.{all_hold, none_refuses, not_true, not_false, free, taken, equal, unequal, equals, differs}
+use Rattle.euler_laws.proofs.shared.Goes.{all_hold, none_refuses, not_true, not_false, taken, equal, unequal, equals, differs}
 use Rattle.euler_laws.proofs.shared.Fans.{half_mate}
 use Rattle.euler_laws.proofs.shared.Same.{solid_at}
 use Rattle.euler_laws.proofs.shared.Undo.{same_loops}
 use Rattle.euler_laws.proofs.shared.Faces.{SameWalks, sound-same, content-moved, loop-moved, face-moved, face-kept}
-use Rattle.euler_laws.proofs.shared.Rows.{face_there, no_rings_means, means_no_rings, never_outer, ring_test, test_ring, same_number}
+use Rattle.euler_laws.proofs.shared.Rows.{face_there, no_rings_means, means_no_rings, never_outer, ring_test, test_ring}
 
 pub record KillGoes (M : Model) (f g : ℕ) : Type 0 where
   pub f_there : Has M.faces f
@@ -337,7 +338,7 @@ pub mfkrh_goes : (M : Model) (l f : ℕ) → first_false M (Mfkrh l f) ≡ None 
 unfolding first_false conditions
 mfkrh_goes M l f e = let w = all_hold (conditions M (Mfkrh l f)) e in let t = w.1.1 in record {
   l_there = t.0;
-  face_free = free _ (not_true _ t.1.0);
+  face_free = no_row _ (not_true _ t.1.0);
   is_ring = unequal _ _ (ring_test (table.has M.loops l) (nat_eq (face_of M l) (face_of M l)) (nat_eq (outer M (face_of M l)) l) t.1.1.0);
   face_fits = w.1.0;
 }
@@ -352,7 +353,7 @@ mfkrh_accepted N l f sound goes = none_refuses (conditions N (Mfkrh l f)) (
       goes.l_there,
       (
         not_false _ (taken _ goes.face_free),
-        (test_ring (table.has N.loops l) (nat_eq (face_of N l) (face_of N l)) (nat_eq (outer N (face_of N l)) l) goes.l_there (same_number (face_of N l)) (differs _ _ goes.is_ring), tt),
+        (test_ring (table.has N.loops l) (nat_eq (face_of N l) (face_of N l)) (nat_eq (outer N (face_of N l)) l) goes.l_there (nat_eq_itself (face_of N l)) (differs _ _ goes.is_ring), tt),
       ),
     ),
   ),

@@ -9,11 +9,12 @@ use Rattle.euler_operators.specs.Sound.{Sound, Has}
 use Rattle.euler_operators.specs.declared.Op.TheVariants.{RingIn}
 use Rattle.euler_operators.specs.Conditions.{first_false, conditions}
 use Rattle.euler_operators.specs.Effect.{effect, inverse, ring_in}
+use Rattle.euler_operators.proofs.Tests.{nat_eq_itself}
 use Rattle.euler_laws.proofs.shared.Goes.{all_hold, none_refuses, not_true, not_false, equal, unequal, equals, differs}
 use Rattle.euler_laws.proofs.shared.Same.{solid_at}
 use Rattle.euler_laws.proofs.shared.Undo.{same_loops}
 use Rattle.euler_laws.proofs.shared.Faces.{SameWalks, sound-same, content-moved, loop-moved, face-moved, face-kept}
-use Rattle.euler_laws.proofs.shared.Rows.{never_outer, ring_test, test_ring, same_number}
+use Rattle.euler_laws.proofs.shared.Rows.{never_outer, ring_test, test_ring}
 
 -- loop l is a ring, and face f is of its solid
 pub record RingGoes (M : Model) (l f : ℕ) : Type 0 where
@@ -159,7 +160,7 @@ ring_in_accepted N l f sound goes apart = none_refuses (conditions N (RingIn l f
         goes.f_there,
         (
           equals _ _ goes.one_solid,
-          (test_ring (table.has N.loops l) (nat_eq (face_of N l) (face_of N l)) (nat_eq (outer N (face_of N l)) l) goes.l_there (same_number (face_of N l)) (differs _ _ goes.is_ring), (not_false _ (differs _ _ apart), tt)),
+          (test_ring (table.has N.loops l) (nat_eq (face_of N l) (face_of N l)) (nat_eq (outer N (face_of N l)) l) goes.l_there (nat_eq_itself (face_of N l)) (differs _ _ goes.is_ring), (not_false _ (differs _ _ apart), tt)),
         ),
       ),
     ),

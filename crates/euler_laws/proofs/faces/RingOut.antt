@@ -10,12 +10,13 @@ use Rattle.euler_operators.specs.Sound.{Sound, Has}
 use Rattle.euler_operators.specs.declared.Op.TheVariants.{RingOut, Outer}
 use Rattle.euler_operators.specs.Conditions.{first_false, conditions}
 use Rattle.euler_operators.specs.Effect.{effect, inverse, ring_out, take_outer, loop_to_face, face_to_outer}
+use Rattle.euler_operators.proofs.Tests.{nat_eq_itself}
 use Rattle.euler_laws.proofs.shared.Goes.{all_hold, none_refuses, equal, unequal, equals, differs}
 use Rattle.euler_laws.proofs.shared.Same.{solid_at}
 use Rattle.euler_laws.proofs.shared.Undo.{same_loops}
 use Rattle.euler_laws.proofs.shared.Faces.{SameWalks, sound-same, content-moved, loop-moved, face-moved, face-kept}
 use Rattle.euler_laws.proofs.faces.RingIn.{RingGoes}
-use Rattle.euler_laws.proofs.shared.Rows.{never_outer, ring_test, test_ring, same_number}
+use Rattle.euler_laws.proofs.shared.Rows.{never_outer, ring_test, test_ring}
 
 face_alike : (a b : Option FaceRow) → is_some a ≡ is_some b → (is_some b ≡ true → (unwrap_or a no_face).solid ≡ (unwrap_or b no_face).solid) → (is_some b ≡ true → (unwrap_or a no_face).outer ≡ (unwrap_or b no_face).outer) → a ≡ b
 face_alike None None s f c = refl
@@ -277,7 +278,7 @@ ring_out_accepted N l f sound goes = none_refuses (conditions N (RingOut l f)) (
         goes.f_there,
         (
           equals _ _ goes.one_solid,
-          (test_ring (table.has N.loops l) (nat_eq (face_of N l) (face_of N l)) (nat_eq (outer N (face_of N l)) l) goes.l_there (same_number (face_of N l)) (differs _ _ goes.is_ring), tt),
+          (test_ring (table.has N.loops l) (nat_eq (face_of N l) (face_of N l)) (nat_eq (outer N (face_of N l)) l) goes.l_there (nat_eq_itself (face_of N l)) (differs _ _ goes.is_ring), tt),
         ),
       ),
     ),
@@ -296,7 +297,7 @@ outer_accepted N l f sound goes = none_refuses (conditions N (Outer l f)) (
         goes.f_there,
         (
           equals _ _ goes.one_solid,
-          (test_ring (table.has N.loops l) (nat_eq (face_of N l) (face_of N l)) (nat_eq (outer N (face_of N l)) l) goes.l_there (same_number (face_of N l)) (differs _ _ goes.is_ring), tt),
+          (test_ring (table.has N.loops l) (nat_eq (face_of N l) (face_of N l)) (nat_eq (outer N (face_of N l)) l) goes.l_there (nat_eq_itself (face_of N l)) (differs _ _ goes.is_ring), tt),
         ),
       ),
     ),

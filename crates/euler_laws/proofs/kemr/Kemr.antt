@@ -14,12 +14,12 @@ use Rattle.euler_operators.specs.Table.{Table}
 use Rattle.euler_operators.specs.Model.{Model, cycle, LoopRow, EdgeRow, items_of, tail, loop_of, content, cycle_of, face_of, outer, is_number, is_ring_of}
 use Rattle.euler_operators.specs.Sound.{Sound, Has, HasHalf}
 use Rattle.euler_operators.proofs.Halves.{edge_of-code, code-half, mate-mate}
-use Rattle.euler_operators.proofs.Tables.{put-remove, two_undone}
+use Rattle.euler_operators.proofs.Tables.{put-remove, two_undone, no_row}
 use Rattle.euler_operators.proofs.Models.{row_of}
 use Rattle.euler_operators.specs.declared.Op.TheVariants.{Kemr, Mekr}
 use Rattle.euler_operators.specs.Conditions.{first_false, conditions, corner_tail, corner_loop, corner_list, corner_known, corner_lone, corner_number, lone_vertex, is_lone}
 use Rattle.euler_operators.specs.Effect.{effect, inverse, kemr, mekr, corner_of, cycle_or_lone, edge_row}
-use Rattle.euler_laws.proofs.shared.Goes.{all_hold, none_refuses, not_true, not_false, free, taken, equal, equals, differs}
+use Rattle.euler_laws.proofs.shared.Goes.{all_hold, none_refuses, not_true, not_false, taken, equal, equals, differs}
 use Rattle.euler_laws.proofs.shared.EdgeLess.{edge_gone, tail_old}
 use Rattle.euler_laws.proofs.kemr.KemrSound as parted
 use Rattle.euler_laws.proofs.kemr.KemrSound.{KemrGoes, sound-kemr}
@@ -114,7 +114,7 @@ kemr_goes M h l e =
     let w = all_hold (conditions M (Kemr h l)) e in
     record {
       h_there = half_of M h w.1.1.0;
-      loop_free = free _ (not_true _ w.1.1.1.0);
+      loop_free = no_row _ (not_true _ w.1.1.1.0);
       one_loop = equal _ _ w.1.1.1.1.0;
       loop_fits = w.1.0;
     }

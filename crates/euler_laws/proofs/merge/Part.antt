@@ -6,18 +6,17 @@ use Rattle.euler_operators.specs.Table as table
 use Rattle.euler_operators.specs.Table.{Table, map_rows, tables}
 use Rattle.euler_operators.specs.Model.{Model, FaceRow, no_face, loop_of, face_of, solid_of, outer, is_number, faces_of}
 use Rattle.euler_operators.specs.Sound.{Sound, Has, HasHalf}
-use Rattle.euler_operators.proofs.Halves.{plus_row}
-use Rattle.euler_operators.proofs.Models.{row_of}
-use Rattle.euler_operators.proofs.Tables.{put-remove, remove-put, map_same, first_where_zero, zero_first_where}
+use Rattle.euler_operators.proofs.Halves.{plus_row, mate_plus, mate_minus}
+use Rattle.euler_operators.proofs.Tables.{put-remove, remove-put, map_same, first_where_zero, zero_first_where, no_row}
+use Rattle.euler_operators.proofs.Tests.{and_false}
 use Rattle.euler_operators.specs.declared.Op.TheVariants.{Merge, Part}
 use Rattle.euler_operators.specs.Conditions.{Condition, AllHold, first_false, conditions, numbers_in_range, faces_known, faces_in, face_at, lists, lists_all, strictly_rises, is_empty, torn_edge, differ}
 use Rattle.euler_operators.specs.Effect.{effect, inverse, merge, part, faces_to_solid}
-use Rattle.euler_laws.proofs.shared.Goes.{all_hold, none_refuses, not_true, not_false, free, taken, equal, equals, not_back, no_zero}
-use Rattle.euler_laws.proofs.shared.Fans.{half_mate}
+use Rattle.euler_laws.proofs.shared.Goes.{all_hold, none_refuses, not_true, not_false, taken, equal, equals, not_back, no_zero, all_hold-append}
+use Rattle.euler_laws.proofs.shared.Fans.{half_mate, half_face}
 use Rattle.euler_laws.proofs.shared.Loops.{some_row}
 use Rattle.euler_laws.proofs.shared.Arcs.{halves_of_edge}
 use Rattle.euler_laws.proofs.shared.Same.{map_twice}
-use Rattle.euler_laws.proofs.shared.Undo.{mate_plus, mate_minus}
 use Rattle.euler_laws.proofs.shared.Rows.{face_there, solid_row}
 use Rattle.euler_laws.proofs.shared.Listed.{listed_as, listed_passes, passes_listed, all_where-rises, first_listed, rest_listed, listed_cases}
 use Rattle.euler_laws.proofs.merge.Merge as joins
@@ -84,9 +83,6 @@ module _ (M : Model) (sound : Sound M) (s t : ℕ) (fs : List ℕ) (goes : PartG
   solid_back : (n : ℕ) → n ≢ t → Has N.solids n → Has M.solids n
   solid_back n a there = ap is_some (sym (solid_other n a)) ∙ there
 
-  face_loop : (x : ℕ) → HasHalf M x → Has M.faces (face_at M x)
-  face_loop x there = sound.loops_of_faces (loop_of M x) (ap is_some (row_of M sound x there))
-
   face_of_solid : (n q : ℕ) (b : Bool) → lists fs q ≡ b → Has M.faces q → solid_of M q ≡ n → n ≢ t → (f : ℕ) × Has M.faces f × (solid_of N f ≡ n)
   face_of_solid n q true l there e a = let o = goes.left in (o.0, o.1, solid_unlisted o.0 o.1 o.3 ∙ o.2 ∙ sym (goes.each q l).1 ∙ e)
   face_of_solid n q false l there e a = (q, there, solid_unlisted q there l ∙ e)
@@ -98,7 +94,7 @@ module _ (M : Model) (sound : Sound M) (s t : ℕ) (fs : List ℕ) (goes : PartG
         | inl e ↦ let o = goes.listed in (o.0, (goes.each o.0 o.1).0, solid_listed o.0 o.1 ∙ sym e.1)
         | inr e ↦ let x = sound.solid_has_face n (solid_back n e.1 there) in face_of_solid n x.0 (lists fs x.0) refl x.1 x.2 e.1
       ])
-      (λ x there. solid_new _ (face_loop x there) ∙ (λ i. cond (goes.whole x there i) t (sound.one_solid x there i)) ∙ sym (solid_new _ (face_loop (mate x) (half_mate M sound x there))))
+      (λ x there. solid_new _ (half_face M sound x there) ∙ (λ i. cond (goes.whole x there i) t (sound.one_solid x there i)) ∙ sym (solid_new _ (half_face M sound (mate x) (half_mate M sound x there))))
       (λ n there. elim (eqb_tells n t) [ inl e ↦ subst (λ y. IsTrue (is_number y)) (sym e.1) goes.t_fits | inr e ↦ sound.solids_fit n (solid_back n e.1 there) ]) where
         either : (b : Bool) (q : ℕ) → Has M.solids (solid_of M q) → Has N.solids (cond b t (solid_of M q))
         either true q there = t_new
@@ -145,9 +141,6 @@ module _ (M : Model) (sound : Sound M) (s t : ℕ) (goes : MergeGoes M s t) wher
   listed_face q l = let x = listed_passes (λ _ row. nat_eq row.solid t) M.faces q l in
       (ap is_some x.1, ap (λ o. (unwrap_or o no_face).solid) x.1 ∙ equal x.0.solid t x.2)
 
-  face_half : (x : ℕ) → HasHalf M x → Has M.faces (face_at M x)
-  face_half x there = sound.loops_of_faces (loop_of M x) (ap is_some (row_of M sound x there))
-
   face_at_same : (x : ℕ) → face_at J x ≡ face_at M x
   face_at_same x = let o = joins.merge_other M sound s t goes in ap (face_of J) (loop_same M J o x) ∙ face_same M J o (loop_of M x)
 
@@ -169,8 +162,8 @@ module _ (M : Model) (sound : Sound M) (s t : ℕ) (goes : MergeGoes M s t) wher
     left = let x = sound.solid_has_face s goes.s_there in
         (x.0, face_on x.0 x.1, joins.solid_new M sound s t goes x.0 x.1 ∙ ap (joins.joined s t) x.2 ∙ joins.joined_same M sound s t goes s goes.apart, face_listed x.0 x.1 ∙ ap (λ n. nat_eq n t) x.2 ∙ s_not_t);
     whole = λ x h. let there = half_back x h in
-        ap (lists (faces_of M t)) (face_at_same x) ∙ face_listed (face_at M x) (face_half x there) ∙ ap (λ n. nat_eq n t) (sound.one_solid x there)
-        ∙ sym (ap (lists (faces_of M t)) (face_at_same (mate x)) ∙ face_listed (face_at M (mate x)) (face_half (mate x) (half_mate M sound x there)));
+        ap (lists (faces_of M t)) (face_at_same x) ∙ face_listed (face_at M x) (half_face M sound x there) ∙ ap (λ n. nat_eq n t) (sound.one_solid x there)
+        ∙ sym (ap (lists (faces_of M t)) (face_at_same (mate x)) ∙ face_listed (face_at M (mate x)) (half_face M sound (mate x) (half_mate M sound x there)));
   } where
     s_not_t : nat_eq s t ≡ false
     s_not_t = let a = goes.apart in grind (arith, nat_tests)
@@ -198,10 +191,6 @@ module _ (M : Model) (sound : Sound M) (s t : ℕ) (goes : MergeGoes M s t) wher
 all_split : (cs ds : List Condition) → AllHold (cs ++ ds) → AllHold cs × AllHold ds
 all_split [] ds h = (tt, h)
 all_split (c ∷ cs) ds h = let r = all_split cs ds h.1 in ((h.0, r.0), r.1)
-
-all_both : (cs ds : List Condition) → AllHold cs → AllHold ds → AllHold (cs ++ ds)
-all_both [] ds h k = k
-all_both (c ∷ cs) ds h k = (h.0, all_both cs ds h.1 k)
 
 -- conditions on each number of a list
 numbers_hold : (fs : List ℕ) → ((f : ℕ) → lists fs f ≡ true → is_number f ≡ true) → AllHold (numbers_in_range fs)
@@ -262,10 +251,7 @@ out_left fs [] f l o = absurd (true≢false (sym l))
 out_left fs (n ∷ ns) f l o = elim (listed_cases n f ns l) [
   | inl e ↦ ap (λ b. b && lists_all fs ns) (ap (lists fs) (sym e) ∙ o)
   | inr r ↦ ap (λ b. lists fs n && b) (out_left fs ns f r o) ∙ and_false (lists fs n)
-] where
-  and_false : (b : Bool) → (b && false) ≡ false
-  and_false true = refl
-  and_false false = refl
+]
 
 -- no edge is torn
 same_means : (a b : Bool) → a ≡ b → differ a b ≡ false
@@ -311,7 +297,7 @@ part_goes M s t fs sound e =
     let i = face_in M s o.0 o.1 in
     record {
       s_there = x.0;
-      t_free = free _ (not_true _ x.1.0);
+      t_free = no_row _ (not_true _ x.1.0);
       t_fits = w.1.0;
       each = λ f l. (hold_known M fs z.0 f l, hold_in M s fs z.1 f l);
       listed = some_listed fs n.first;
@@ -328,11 +314,11 @@ part_accepted N s t fs sound goes =
       sound.solids_fit s goes.s_there,
       (
         goes.t_fits,
-        all_both (numbers_in_range fs) _ (numbers_hold fs (λ f l. sound.faces_fit f (goes.each f l).0)) (
+        all_hold-append (numbers_in_range fs) _ (numbers_hold fs (λ f l. sound.faces_fit f (goes.each f l).0)) (
           goes.s_there,
           (
             not_false _ (taken _ goes.t_free),
-            all_both (faces_known N fs ++ faces_in N s fs) _ (all_both (faces_known N fs) (faces_in N s fs) (known_hold N fs (λ f l. (goes.each f l).0)) (in_hold N s fs (λ f l. (goes.each f l).1))) (
+            all_hold-append (faces_known N fs ++ faces_in N s fs) _ (all_hold-append (faces_known N fs) (faces_in N s fs) (known_hold N fs (λ f l. (goes.each f l).0)) (in_hold N s fs (λ f l. (goes.each f l).1))) (
               not_false _ (or_false (is_empty fs) (not (strictly_rises fs)) (lists_all fs (faces_of N s)) (not (nat_eq (torn_edge N fs) 0))
                   (listed_some fs goes.listed.0 goes.listed.1)
                   (ap not goes.rises)

@@ -9,10 +9,11 @@ use Rattle.euler_operators.specs.Table as table
 use Rattle.euler_operators.specs.Model.{Model, lone, content, is_number}
 use Rattle.euler_operators.specs.Sound.{Sound, HasHalf}
 use Rattle.euler_operators.proofs.Halves.{edge_of-code}
+use Rattle.euler_operators.proofs.Tables.{no_row}
 use Rattle.euler_operators.specs.declared.Op.TheVariants.{Mev}
 use Rattle.euler_operators.specs.Conditions.{first_false, conditions, lone_vertex, is_lone}
 use Rattle.euler_operators.specs.Effect.{effect}
-use Rattle.euler_laws.proofs.shared.Goes.{all_hold, none_refuses, not_true, not_false, free, taken, equal, equals}
+use Rattle.euler_laws.proofs.shared.Goes.{all_hold, none_refuses, not_true, not_false, taken, equal, equals}
 use Rattle.euler_laws.proofs.mev.MevSound.{MevGoes, sound-mev}
 use Rattle.euler_laws.proofs.mev.MevLoneSound.{LoneGoes, sound-mev_lone}
 use Rattle.euler_laws.proofs.shared.Rows.{half_of, of_half, lone_is, is_lone_of}
@@ -25,8 +26,8 @@ mev_goes M g k h v p e =
     record {
       g_there = half_of M g t.0;
       k_there = half_of M k t.1.0;
-      edge_free = ap (table.get M.edges) (edge_of-code h) ∙ free _ (not_true _ t.1.1.1.1.0);
-      vertex_free = free _ (not_true _ t.1.1.1.1.1.0);
+      edge_free = ap (table.get M.edges) (edge_of-code h) ∙ no_row _ (not_true _ t.1.1.1.1.0);
+      vertex_free = no_row _ (not_true _ t.1.1.1.1.1.0);
       one_tail = sym (equal _ _ t.1.1.1.1.1.1.1.0);
       edge_fits = ap is_number (edge_of-code h) ∙ w.1.1.0;
       vertex_fits = w.1.1.1.0;
@@ -80,8 +81,8 @@ lone_goes M l d h v p e =
     record {
       is_lone = lone_is (content M l) t.1.1.0;
       loop_there = t.0;
-      edge_free = ap (table.get M.edges) (edge_of-code h) ∙ free _ (not_true _ t.1.1.1.1.0);
-      vertex_free = free _ (not_true _ t.1.1.1.1.1.0);
+      edge_free = ap (table.get M.edges) (edge_of-code h) ∙ no_row _ (not_true _ t.1.1.1.1.0);
+      vertex_free = no_row _ (not_true _ t.1.1.1.1.1.0);
       edge_fits = ap is_number (edge_of-code h) ∙ w.1.1.0;
       vertex_fits = w.1.1.1.0;
       point_fits = t.1.1.1.1.1.1.0;

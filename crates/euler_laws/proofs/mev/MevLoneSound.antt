@@ -14,11 +14,11 @@ use Rattle.euler_operators.specs.Table.{Table, tables}
 use Rattle.euler_operators.specs.Model.{Model, LoopContent, lone, cycle, LoopRow, items_of, holds, tail, loop_of, content, face_of, after, no_loop, is_number}
 use Rattle.euler_operators.specs.Sound.{Sound, Has, HasHalf, StandsIn, IsTail, IsLoneAt, NumbersFit}
 use Rattle.euler_operators.proofs.Halves.{mate_other, edge_of-mate, mate-mate}
-use Rattle.euler_operators.proofs.Models.{no_tail, in-holds, holds_in}
+use Rattle.euler_operators.proofs.Models.{no_tail, in-holds, holds_in, never_lone}
 use Rattle.euler_operators.specs.Conditions.{lone_vertex}
 use Rattle.euler_operators.specs.Effect.{mev_lone, edge_row}
 use Rattle.euler_laws.proofs.shared.Fans.{Fan, fan_of, half_mate}
-use Rattle.euler_laws.proofs.shared.Loops.{IsLoop, canonical_cycle, canonical_ring, loop_sound, Walks, loop_at, stands-walks, one_loop-walks, cycles-walks, ends_meet-walks, one_fan-walks, after-walks, not_lone, one_vertex}
+use Rattle.euler_laws.proofs.shared.Loops.{IsLoop, canonical_cycle, canonical_ring, loop_sound, Walks, loop_at, stands-walks, one_loop-walks, cycles-walks, ends_meet-walks, one_fan-walks, after-walks, one_vertex}
 use Rattle.euler_laws.proofs.shared.Same.{SameFaces, solid_at, loops_of_faces-same, outers_there-same, faces_of_solids-same, solid_has_face-same, solids_fit-same, faces_fit-same, loops_fit-same, solid_at-same}
 use Rattle.euler_laws.proofs.shared.Rows.{one_row}
 use Rattle.euler_laws.proofs.shared.EdgeMore as more
@@ -57,9 +57,6 @@ module _ (M : Model) (sound : Sound M) (l h v u : ℕ) (p : Point) (goes : LoneG
   F_old : (x : ℕ) → x ≢ h → x ≢ m → F x ≡ after M x
   F_old x a b = let e : nat_eq x h ≡ false = grind (arith, nat_tests) in let f : nat_eq x m ≡ false = grind (arith, nat_tests) in
       ap (λ t. cond t m (cond (nat_eq x m) h (after M x))) e ∙ ap (λ t. cond t h (after M x)) f
-
-  m_free : table.get M.edges (edge_of m) ≡ None
-  m_free = ap (table.get M.edges) (edge_of-mate h) ∙ goes.edge_free
 
   edges_are : N.edges ≡ table.put M.edges (edge_of h) (edge_row h u v)
   unfolding mev_lone
@@ -261,7 +258,7 @@ module _ (M : Model) (sound : Sound M) (l h v u : ℕ) (p : Point) (goes : LoneG
 
   lone_back : (q w : ℕ) → content N q ≡ lone w → (content M q ≡ lone w) × (w ≢ u)
   lone_back q w e = elim (eqb_tells q l) [
-    | inl a ↦ absurd (not_lone ps w (sym content_new ∙ ap (content N) (sym a.1) ∙ e))
+    | inl a ↦ absurd (never_lone ps w (sym content_new ∙ ap (content N) (sym a.1) ∙ e))
     | inr a ↦ let b = sym (content_other q a.1) ∙ e in (b, λ s. a.1 (sound.one_lone q l u (b ∙ ap lone s) goes.is_lone))
   ]
 

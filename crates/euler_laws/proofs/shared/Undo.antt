@@ -16,7 +16,7 @@ use Rattle.euler_operators.specs.Table as table
 use Rattle.euler_operators.specs.Table.{Table, same_table}
 use Rattle.euler_operators.specs.Model.{Model, LoopRow, no_loop, EdgeRow, no_edge, tail_in, tail, content, face_of, is_number}
 use Rattle.euler_operators.specs.Sound.{Has, HasHalf}
-use Rattle.euler_operators.proofs.Halves.{plus_row, minus_row, same_edge, mate-mate}
+use Rattle.euler_operators.proofs.Halves.{plus_row, minus_row, mate_plus, mate_minus}
 use Rattle.euler_operators.proofs.Tables.{first_where_zero, zero_first_where}
 use Rattle.euler_operators.specs.Conditions.{parallel}
 use Rattle.euler_laws.proofs.shared.Loops.{some_row, apart_out}
@@ -121,12 +121,6 @@ module _ (hs : List ℕ) (d : IsApart hs) where
     head_in (x ∷ xs) m ys = refl
 
 -- ---- the two half-edges of an edge
-
-pub mate_plus : (e : ℕ) → mate (plus e) ≡ minus e
-mate_plus e = elim (same_edge (minus e) (plus e) ((minus_row e).0 ∙ sym (plus_row e).0)) [ inl q ↦ absurd (omega arith) | inr q ↦ sym q ]
-
-pub mate_minus : (e : ℕ) → mate (minus e) ≡ plus e
-mate_minus e = ap mate (sym (mate_plus e)) ∙ mate-mate (plus e)
 
 -- ---- parallel edges
 

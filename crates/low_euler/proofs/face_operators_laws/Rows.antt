@@ -1,21 +1,12 @@
 -- A rewriting of one row is a row that is put.
-use Rattle.std.proofs.Common.{◌≡◌, ℕ, true, cond, Option, Some, None, is_some, unwrap_or, refl, sym, ap, ◌∙◌, true≢false}
-use Rattle.euler_operators.specs.Table as table
+use Rattle.std.proofs.Common.{◌≡◌, ℕ, cond, refl, ap, ◌∙◌}
 use Rattle.euler_operators.specs.Table.{Table, map_rows, put}
-use Rattle.euler_operators.specs.Model.{Model, FaceRow, LoopRow, no_loop, content, face_of, solid_of, outer}
+use Rattle.euler_operators.specs.Model.{Model, FaceRow, LoopRow, content, face_of, solid_of, outer}
 use Rattle.euler_operators.specs.Sound.{Has}
 use Rattle.euler_operators.proofs.Tables.{map_one}
 use Rattle.euler_operators.specs.Effect.{loop_to_face, face_to_outer}
 use Rattle.euler_laws.proofs.shared.Goes.{equals, differs}
-use Rattle.euler_laws.proofs.shared.Rows.{face_there}
-
--- the row of a loop that is there
-loop_row : (M : Model) (l : ℕ) → Has M.loops l → table.get M.loops l ≡ Some (record { face = face_of M l; content = content M l })
-unfolding face_of content
-loop_row M l t = go (table.get M.loops l) t where
-  go : (o : Option LoopRow) → is_some o ≡ true → o ≡ Some (record { face = (unwrap_or o no_loop).face; content = (unwrap_or o no_loop).content })
-  go None e = absurd (true≢false (sym e))
-  go (Some row) e = refl
+use Rattle.euler_laws.proofs.shared.Rows.{face_there, loop_row}
 
 -- one loop that goes to another face
 pub loop_moved : (M : Model) (l f : ℕ) → Has M.loops l → map_rows (loop_to_face l f) M.loops ≡ put M.loops l (record { face = f; content = content M l })

@@ -13,7 +13,7 @@ use Rattle.euler_operators.specs.Model.{Model, LoopContent, LoopRow, cycle, item
 use Rattle.euler_operators.specs.Sound.{Sound}
 use Rattle.euler_operators.proofs.Halves.{mate_other}
 use Rattle.euler_operators.proofs.Tables.{put_same}
-use Rattle.euler_operators.proofs.Models.{row_of}
+use Rattle.euler_operators.proofs.Models.{row_of, number_real}
 use Rattle.euler_operators.specs.declared.Op.TheVariants.{Kemr}
 use Rattle.euler_operators.specs.Conditions.{face_at}
 use Rattle.euler_operators.specs.Effect.{effect, kemr, cycle_or_lone}
@@ -29,7 +29,7 @@ use Rattle.low_euler.proofs.loop_steps_laws.RingSteps.{rest_left, rest_right}
 use Rattle.low_euler.proofs.loop_steps_laws.TwoLoops as two
 use Rattle.low_euler.proofs.loop_steps_laws.TwoLoops.{TwoLoops}
 use Rattle.low_euler.proofs.loop_steps_laws.LooseRings.{pair, get_plus, get_minus, edge_gone, halves_of}
-use Rattle.low_euler.proofs.loop_steps_laws.SoundLoops.{number_real, sound_loops}
+use Rattle.low_euler.proofs.loop_steps_laws.SoundLoops.{sound_loops}
 
 module _ (s : Store) (half : HalfEdge) (l : ℕ) (ok : Accepts s (Kemr half l)) where
   abbrev M : Model

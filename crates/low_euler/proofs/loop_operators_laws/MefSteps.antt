@@ -12,7 +12,7 @@ use Rattle.euler_operators.specs.Model.{Model, LoopRow, cycle, items_of, content
 use Rattle.euler_operators.specs.Sound.{Sound}
 use Rattle.euler_operators.proofs.Halves.{mate_other}
 use Rattle.euler_operators.proofs.Tables.{put_same}
-use Rattle.euler_operators.proofs.Models.{row_of, cycle_there, cycle_sound}
+use Rattle.euler_operators.proofs.Models.{row_of, cycle_there, cycle_sound, number_real}
 use Rattle.euler_operators.specs.declared.Op.TheVariants.{Mef}
 use Rattle.euler_operators.specs.Conditions.{face_at}
 use Rattle.euler_operators.specs.Effect.{effect, mef, edge_row}
@@ -27,7 +27,7 @@ use Rattle.low_euler.proofs.loop_steps_laws.RingSteps.{cut_old, cut_new, count_p
 use Rattle.low_euler.proofs.loop_steps_laws.TwoLoops as two
 use Rattle.low_euler.proofs.loop_steps_laws.TwoLoops.{TwoLoops}
 use Rattle.low_euler.proofs.loop_steps_laws.LooseRings.{pair, pair_singles, get_first, left_second, pair_gone, singles_remove, key_is, ring_is}
-use Rattle.low_euler.proofs.loop_steps_laws.SoundLoops.{number_real, edged_loops, none_h, none_m}
+use Rattle.low_euler.proofs.loop_steps_laws.SoundLoops.{edged_loops, none_h, none_m}
 
 module _ (s : Store) (first second half : HalfEdge) (f l : ℕ) (ok : Accepts s (Mef first second half f l)) where
   abbrev M : Model

@@ -9,13 +9,12 @@ use Rattle.euler_operators.specs.Table as table
 use Rattle.euler_operators.specs.Table.{Table, tables, same_table}
 use Rattle.euler_operators.specs.Model.{Model, LoopContent, LoopRow, cycle, holds, items_of, content, face_of, loop_of, cycle_of, before, tail, no_loop}
 use Rattle.euler_operators.specs.Sound.{HasHalf}
-use Rattle.euler_operators.proofs.Tables.{first_where_is}
+use Rattle.euler_operators.proofs.Tables.{first_where_is, put-put, put_turned}
 use Rattle.euler_operators.proofs.Models.{content_row, face_row, in-holds, holds_in}
 use Rattle.euler_operators.specs.Effect.{cycle_or_lone}
 use Rattle.euler_laws.proofs.shared.Goes.{differs}
 use Rattle.euler_conditions.specs.Store.{Store, Room, loose_key, loose_ring, fill, join, join_loose, join_loops, cut_to}
 use Rattle.low_euler.specs.loop_steps.Steps.{IsStanding, put_before, take_out}
-use Rattle.low_euler.proofs.loop_steps_laws.StoreSteps.{put_again, put_apart}
 
 -- two loops of a model, and half-edges that stand in no other loop
 pub record TwoLoops (N : Model) (r l : ℕ) (all : List ℕ) : Type 0 where
@@ -63,10 +62,10 @@ module _ (N : Model) (r l fr fl : ℕ) (all : List ℕ) (loops : TwoLoops N r l 
   face_l c d = face_row (holding c d) l (row_l d) (get_l N.loops (row_r c) (row_l d))
 
   pub put_r : (c d e : LoopContent) → table.put (holding c d).loops r (row_r e) ≡ (holding e d).loops
-  put_r c d e = put_apart (table.put N.loops r (row_r c)) l r (row_l d) (row_r e) (λ q. loops.apart (sym q)) ∙ ap (λ t. table.put t l (row_l d)) (put_again N.loops r (row_r c) (row_r e))
+  put_r c d e = put_turned (table.put N.loops r (row_r c)) l r (row_l d) (row_r e) (λ q. loops.apart (sym q)) ∙ ap (λ t. table.put t l (row_l d)) (put-put N.loops r (row_r c) (row_r e))
 
   pub put_l : (c d e : LoopContent) → table.put (holding c d).loops l (row_l e) ≡ (holding c e).loops
-  put_l c d e = put_again (table.put N.loops r (row_r c)) l (row_l d) (row_l e)
+  put_l c d e = put-put (table.put N.loops r (row_r c)) l (row_l d) (row_l e)
 
   module _ (c d : LoopContent) (fits : Fits c d) where
     abbrev P : Model

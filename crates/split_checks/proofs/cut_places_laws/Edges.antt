@@ -1,6 +1,6 @@
 -- The edges that a walk over the faces of a solid meets as crossing a plane are those of the solid that do.
 use Rattle.std.specs.Prelude.{filter}
-use Rattle.std.proofs.Common.{◌≡◌, ℕ, Bool, true, false, ◌&&◌, nat_eq, List, [], ◌∷◌, ◌++◌, length, map, is_some, refl, sym, ap, subst, ◌∙◌, arith, true≢false, inl, inr}
+use Rattle.std.proofs.Common.{◌≡◌, ℕ, Bool, true, ◌&&◌, nat_eq, List, [], ◌∷◌, ◌++◌, length, map, is_some, refl, sym, ap, subst, ◌∙◌, arith, inl, inr}
 use Rattle.std.proofs.lemmas.Bool.{and_parts}
 use Rattle.std.proofs.lemmas.Bool.Decides.{eqb_tells}
 use Rattle.std.proofs.lemmas.List.{map-append}
@@ -12,46 +12,41 @@ use Rattle.euler_operators.specs.HalfEdge.{edge_of, is_first, mate, plus}
 use Rattle.euler_operators.specs.Table as table
 use Rattle.euler_operators.specs.Model.{Model, items_of, content, loop_of, solid_of, faces_of}
 use Rattle.euler_operators.specs.Sound.{Sound, Has, HasHalf}
-use Rattle.euler_operators.proofs.Halves.{plus_row}
-use Rattle.euler_operators.proofs.Models.{cycle_there}
+use Rattle.euler_operators.proofs.Halves.{plus_row, mate_minus, first_is_plus}
+use Rattle.euler_operators.proofs.Models.{cycle_there, one_or_more}
+use Rattle.euler_operators.proofs.Tests.{same_truth}
+use Rattle.euler_operators.proofs.Members.{IsIn-map, IsApart-images, IsIn-filter}
 use Rattle.euler_operators.specs.Conditions.{face_at}
 use Rattle.euler_laws.proofs.shared.Arcs.{halves_of_edge}
 use Rattle.euler_laws.proofs.shared.Goes.{equal, equals}
 use Rattle.euler_laws.proofs.shared.Listed.{listed_passes, passes_listed, all_where-rises}
 use Rattle.euler_laws.proofs.shared.Loops.{some_row}
-use Rattle.euler_laws.proofs.shared.Undo.{mate_minus}
 use Rattle.euler_conditions.proofs.Known.{loop_there}
-use Rattle.solid_walks.proofs.face_walks_laws.Above.{member, AllAbove, Rising, all_above_members}
 use Rattle.solid_walks.proofs.face_walks_laws.TableWalks.{rising_passing}
 use Rattle.shapes.specs.Faces.{items_in, loops_of, boundary, edges_of}
 use Rattle.shapes.specs.Fresh.{first_such}
-use Rattle.shapes.specs.Walks.{loops_in}
-use Rattle.euler_laws.proofs.shared.Counted.{counted_once, in_listed, listed_in}
-use Rattle.shapes.proofs.walks.FaceLoops.{different_items, items_counted, items_there, items_joined}
-use Rattle.shapes.proofs.walks.SolidFaces.{solid_loops, all_loops_apart, loop_in_solid, solid_has_loop, face_of_loop, listed_face}
-use Rattle.solid_measure.proofs.solid_counts_laws.HowMany.{of_map, in_map, map_apart, equally_many}
+use Rattle.solid_measure.proofs.solid_counts_laws.HowMany.{of_map, equally_many}
 use Rattle.solid_measure.specs.solid_checks.Least.{found, least_such}
-use Rattle.solid_measure.proofs.solid_checks_laws.FaceWalks.{one_or_more, lists_member}
+use Rattle.solid_measure.proofs.solid_checks_laws.FaceWalks.{lists_member}
 use Rattle.solid_measure.proofs.solid_checks_laws.Searches.{one_least, least_same, least_listed, least_rising}
 use Rattle.shapes.specs.split.Sides.{crosses, straddles, straddling_faces, crossing_edges}
 use Rattle.split_checks.specs.cut_places.Crossings.{leads_across, crossings_met, IsCrossing, AreCrossing, is_off}
 use Rattle.split_checks.specs.cut_places.Places.{IsWholeFace, AreWholeFaces}
 use Rattle.split_checks.specs.cut_places.Walks.{AreIn}
 use Rattle.split_checks.proofs.cut_places_laws.CrossingHalves.{plus_crosses}
-use Rattle.split_checks.proofs.cut_places_laws.Lists.{of_picked, in_picked, picked_apart, picked_rise, none_passes}
+use Rattle.split_checks.proofs.cut_places_laws.Lists.{of_picked, picked_apart, picked_rise, none_passes}
 use Rattle.split_checks.proofs.cut_places_laws.Walks.{all_in}
+use Rattle.solid_walks.proofs.face_walks_laws.Above.{member, AllAbove, Rising, all_above_members}
+use Rattle.shapes.specs.Walks.{loops_in}
+use Rattle.euler_laws.proofs.shared.Counted.{counted_once, in_listed, listed_in}
+use Rattle.shapes.proofs.walks.FaceLoops.{different_items, items_counted, items_there, items_joined}
+use Rattle.shapes.proofs.walks.SolidFaces.{solid_loops, all_loops_apart, loop_in_solid, solid_has_loop, face_of_loop, listed_face}
 
 member_in : (k : ℕ) (ks : List ℕ) → member k ks ≡ true → IsIn k ks
 member_in k ks m = listed_in k ks (lists_member ks k ∙ m)
 
 in_member : (k : ℕ) (ks : List ℕ) → IsIn k ks → member k ks ≡ true
 in_member k ks i = sym (lists_member ks k) ∙ in_listed k ks i
-
-either_way : (a b : Bool) → (a ≡ true → b ≡ true) → (b ≡ true → a ≡ true) → a ≡ b
-either_way true true f g = refl
-either_way true false f g = sym (f refl)
-either_way false true f g = g refl
-either_way false false f g = refl
 
 -- an item of a loop stands among the items of some loops with it
 item_of : (M : Model) (ls : List ℕ) (l x : ℕ) → IsIn l ls → IsIn x (items_of (content M l)) → IsIn x (items_in M ls)
@@ -60,9 +55,6 @@ item_of M (k ∷ ls) l x i j = elim (eqb_tells l k) [
   | inl e ↦ omega (arith, count-append x (items_of (content M k)) (items_in M ls), j, ap (λ m. count x (items_of (content M m))) e.1)
   | inr n ↦ omega (arith, count-append x (items_of (content M k)) (items_in M ls), item_of M ls l x (omega (arith, i, tick_other l k n.1)) j)
 ]
-
-first_is_plus : (x : ℕ) → is_first x ≡ true → x ≡ plus (edge_of x)
-first_is_plus x f = elim (halves_of_edge x) [ inl p ↦ p.0 | inr p ↦ absurd (true≢false (sym f ∙ p.1)) ]
 
 all_crossing : (M : Model) (p : Plane) (es : List ℕ) → ((e : ℕ) → IsIn e es → IsCrossing M p e) → AreCrossing M p es
 all_crossing M p [] each = tt
@@ -110,7 +102,7 @@ module _ (M : Model) (sound : Sound M) (s : ℕ) (p : Plane) where
   edge_in : (e : ℕ) → Has M.edges e → solid_of M (face_at M (plus e)) ≡ s → crosses M p (plus e) ≡ true → IsIn e (crossing_edges M p s)
   edge_in e there of_s c =
       let r = some_row (table.get M.edges e) there in
-      in_picked (λ x. crosses M p (plus x)) e (edges_of M s) (listed_in e (edges_of M s) (passes_listed (λ x _. of_solid x) M.edges e r.0 r.1 (equals (solid_of M (face_at M (plus e))) s of_s))) c
+      IsIn-filter (λ x. crosses M p (plus x)) e (edges_of M s) (listed_in e (edges_of M s) (passes_listed (λ x _. of_solid x) M.edges e r.0 r.1 (equals (solid_of M (face_at M (plus e))) s of_s))) c
 
   in_edge : (e : ℕ) → IsIn e (crossing_edges M p s) → Has M.edges e × (solid_of M (face_at M (plus e)) ≡ s) × (crosses M p (plus e) ≡ true)
   in_edge e i =
@@ -133,10 +125,10 @@ module _ (M : Model) (sound : Sound M) (s : ℕ) (p : Plane) where
       let t : HasHalf M (plus e) = ap (table.has M.edges) (plus_row e).0 ∙ o.0 in
       let h : IsIn (plus e) halves = solid_half (plus e) t o.1 in
       subst (IsIn e) (sym met_is) (subst (λ k. IsIn k (map edge_of (filter across halves))) (plus_row e).0
-      (in_map edge_of (plus e) (filter across halves) (in_picked across (plus e) halves h (ap (λ b. b && crosses M p (plus e)) (plus_row e).1 ∙ o.2))))
+      (IsIn-map edge_of (plus e) (filter across halves) (IsIn-filter across (plus e) halves h (ap (λ b. b && crosses M p (plus e)) (plus_row e).1 ∙ o.2))))
 
   pub met_apart : IsApart met
-  met_apart = subst IsApart (sym met_is) (map_apart edge_of (filter across halves) (picked_apart across halves halves_apart) (λ x y i j e.
+  met_apart = subst IsApart (sym met_is) (IsApart-images edge_of (filter across halves) (picked_apart across halves halves_apart) (λ x y i j e.
       first_is_plus x (and_parts (is_first x) (crosses M p x) (of_picked across x halves i).1).0 ∙ ap plus e ∙ sym (first_is_plus y (and_parts (is_first y) (crosses M p y) (of_picked across y halves j).1).0)))
 
   pub crossing_apart : IsApart (crossing_edges M p s)
@@ -159,7 +151,7 @@ module _ (M : Model) (sound : Sound M) (s : ℕ) (p : Plane) where
   pub least_met : least_such (is_off M p) met ≡ found (first_such (is_off M p) (crossing_edges M p s))
   least_met = one_least (λ k. is_off M p k && member k (crossing_edges M p s)) (least_such (is_off M p) met) (found (first_such (is_off M p) (crossing_edges M p s)))
       (least_same (λ k. is_off M p k && member k met) (λ k. is_off M p k && member k (crossing_edges M p s))
-      (λ k. ap (λ b. is_off M p k && b) (either_way (member k met) (member k (crossing_edges M p s))
+      (λ k. ap (λ b. is_off M p k && b) (same_truth (member k met) (member k (crossing_edges M p s))
       (λ m. in_member k (crossing_edges M p s) (met_crosses k (member_in k met m))) (λ m. in_member k met (crossing_met k (member_in k (crossing_edges M p s) m)))))
       (least_such (is_off M p) met) (least_listed (is_off M p) met))
       (least_rising (is_off M p) (crossing_edges M p s) positive rising)

@@ -23,6 +23,7 @@ use Rattle.split_drawing_laws.proofs.cut_volumes.Solids.{solid_facts, in_solid}
 use Rattle.split_drawing_laws.proofs.drawn_volumes.Spread.{Comes, Spread, LiesFlat, nothing_spread, all_spread}
 use Rattle.split_drawing_laws.proofs.cut_volumes.Told.{flat_on, solid_stays}
 use Rattle.split_drawing_laws.proofs.drawn_volumes.Volumes.{IsPlane}
+use Rattle.euler_laws.proofs.shared.Listed.{IsIn-from_listed}
 
 module _ (M : Model) (s : ℕ) (p : Plane) (t : ℕ) (sound : Sound M) (accepted : first_refusal (first_conditions M s p t) ≡ None) where
   abbrev N : Model
@@ -87,7 +88,7 @@ module _ (M : Model) (s : ℕ) (p : Plane) (t : ℕ) (sound : Sound M) (accepted
 
   pub drawn_lies : (f : ℕ) → lists (faces_of (with_drawings M s p).model s) f ≡ true → LiesOnOld M (with_drawings M s p).model s f
   unfolding with_drawings
-  drawn_lies f l = lies_now f (listed_in f (faces_of D s) l)
+  drawn_lies f l = lies_now f (IsIn-from_listed f (faces_of D s) l)
 
   pub drawings_volumes : (u : ℕ) → six_volume (with_drawings M s p).model u ≡ six_volume M u
   unfolding with_drawings

@@ -4,11 +4,12 @@ use Rattle.std.specs.Prelude.{fold}
 use Rattle.euler_operators.specs.declared.Plane.{Plane}
 use Rattle.euler_operators.specs.Items.{IsIn}
 use Rattle.euler_operators.proofs.Lists.{tick_same}
+use Rattle.euler_operators.proofs.Tables.{no_row}
 use Rattle.euler_operators.specs.Table as table
 use Rattle.euler_operators.specs.Model.{Model, content, solid_of}
 use Rattle.euler_operators.specs.Sound.{Has}
 use Rattle.euler_operators.specs.Conditions.{has_rings}
-use Rattle.euler_laws.proofs.shared.Goes.{equal, free}
+use Rattle.euler_laws.proofs.shared.Goes.{equal}
 use Rattle.shapes.specs.Faces.{vertices_on}
 use Rattle.shapes.specs.Measure.{six_volume}
 use Rattle.shapes.specs.split.Sides.{some_above}
@@ -106,7 +107,7 @@ module _ (B : Model) (s : ℕ) where
           record { face = c.face; there = c.there; solid = c.solid; own = c.own; on = λ t on. w.olds g e t (c.on t on) }
       go false e =
           let c : Comes B X s f = a.origin f f_there f_solid in
-          let none : table.get X.faces g ≡ None = free (table.get X.faces g) e in
+          let none : table.get X.faces g ≡ None = no_row (table.get X.faces g) e in
           record { face = c.face; there = c.there; solid = c.solid; own = λ was. absurd (never_free X g (a.there g was) none); on = λ t on. w.news g there none t (c.on t on) }
 
   module _ (M : Model) (p : Plane) (flat : (f : ℕ) → Has B.faces f → solid_of B f ≡ s → LiesFlat B f) where

@@ -4,7 +4,7 @@ use Rattle.std.proofs.lemmas.Int.{ints}
 use Rattle.std.proofs.lemmas.Bool.Decides.{eqb_tells}
 use Rattle.euler_operators.specs.declared.Point.{Point}
 use Rattle.euler_operators.specs.declared.Plane.{Plane}
-use Rattle.euler_operators.specs.Vectors.{origin, moved, dot, same_point, is_on, direction}
+use Rattle.euler_operators.specs.Vectors.{origin, dot, same_point, is_on, direction}
 use Rattle.euler_operators.specs.Items.{count, tick, SameItems}
 use Rattle.euler_operators.proofs.Lists.{tick_same, tick_other}
 use Rattle.euler_operators.specs.Table as table
@@ -13,12 +13,12 @@ use Rattle.euler_operators.specs.Sound.{Sound, Has}
 use Rattle.euler_operators.specs.Conditions.{face_at}
 use Rattle.euler_operators.specs.Effect.{ring_in}
 use Rattle.euler_laws.proofs.shared.Goes.{equals, differs}
+use Rattle.euler_laws.proofs.shared.Fans.{half_face}
 use Rattle.shapes.specs.Measure.{normal, anchor, six_volume}
 use Rattle.solid_measure_laws.proofs.FlatFaces.{anchor_on, told_anywhere}
 use Rattle.shapes.specs.split.Drawing.{face_drawn, loops_joined}
 use Rattle.split_drawing_laws.proofs.drawings.Drawn.{CanDraw, CanJoin}
-use Rattle.split_drawing_laws.proofs.drawings.Stays.{has_face}
-use Rattle.euler_operators.proofs.Vectors.{dot_moved, dot_turned}
+use Rattle.euler_operators.proofs.Vectors.{dot_sum}
 use Rattle.split_drawing_laws.proofs.drawn_volumes.Bounds.{OnFace, face_on}
 use Rattle.split_drawing_laws.proofs.drawn_volumes.Draws as draws
 use Rattle.split_drawing_laws.proofs.drawn_volumes.Joins as joins
@@ -29,9 +29,6 @@ use Rattle.split_drawing_laws.proofs.cut_volumes.Solids.{solid_facts, counted_in
 -- the plane has a direction
 abbrev pub IsPlane : Plane → Type 0
 IsPlane r = not (same_point (direction r) origin) ≡ true
-
-dot_sum : (p a b : Point) → dot p (moved a b) ≡ dot p a +ℤ dot p b
-dot_sum p a b = dot_turned p (moved a b) ∙ dot_moved a b p ∙ (λ i. dot_turned a p i +ℤ dot_turned b p i)
 
 -- what a face adds, told from a point of a plane on which it lies
 module _ (N : Model) (sound : Sound N) (r : Plane) (some : IsPlane r) where
@@ -51,7 +48,7 @@ module _ (N : Model) (u k e g l : ℕ) (can : CanDraw N u k e g l) (r : Plane) (
   F = face_at N u
 
   F_there : Has N.faces F
-  F_there = has_face N can.sound u can.u_there
+  F_there = half_face N can.sound u can.u_there
 
   new_sound : Sound K
   new_sound = draws.K_sound N u k e g l can

@@ -1,7 +1,8 @@
 -- The six volumes of a solid that is opened along a cycle on a plane, and those of the other solids.
-use Rattle.std.proofs.Common.{◌≡◌, ◌≢◌, ℕ, ◌+◌, ℤ, pos, ◌+ℤ◌, neg_ℤ, Bool, true, not, nat_eq, List, ◌∷◌, length, None, is_some, refl, sym, ap, subst, ◌∙◌, arith, true≢false, inl, inr}
+use Rattle.std.proofs.Common.{◌≡◌, ◌≢◌, ℕ, ◌+◌, ℤ, pos, ◌+ℤ◌, neg_ℤ, Bool, true, not, nat_eq, List, ◌∷◌, length, None, is_some, refl, sym, ap, subst, ◌∙◌, arith, inl, inr}
 use Rattle.std.specs.Prelude.{map}
 use Rattle.std.proofs.lemmas.Bool.Decides.{eqb_tells}
+use Rattle.std.proofs.lemmas.Bool.{and_parts}
 use Rattle.std.proofs.lemmas.Int.{ints}
 use Rattle.euler_operators.specs.declared.Plane.{Plane}
 use Rattle.euler_operators.specs.Vectors.{origin, dot, same_point, direction}
@@ -13,6 +14,8 @@ use Rattle.euler_operators.specs.Table as table
 use Rattle.euler_operators.specs.Model.{Model, FaceRow, items_of, tail, content, face_of, loop_of, outer, solid_of, faces_of}
 use Rattle.euler_operators.specs.Sound.{Has}
 use Rattle.euler_operators.proofs.Models.{in-holds}
+use Rattle.euler_operators.proofs.Tables.{in_use_within}
+use Rattle.euler_operators.proofs.Vectors.{none_added}
 use Rattle.euler_operators.specs.Conditions.{lists}
 use Rattle.euler_laws.proofs.shared.Goes.{equal, equals, differs}
 use Rattle.euler_laws.proofs.shared.Listed.{listed_passes, listed_as}
@@ -20,11 +23,11 @@ use Rattle.euler_laws.proofs.shared.Rows.{face_there}
 use Rattle.shapes.proofs.fresh.Rows.{get-put_other}
 use Rattle.shapes.specs.Fresh.{Taken, numbers_after}
 use Rattle.shapes.specs.Measure.{area, anchor, is_plane_of, volume_in, six_volume}
-use Rattle.solid_measure_laws.proofs.FlatFaces.{and_parts, told_alike}
+use Rattle.solid_measure_laws.proofs.FlatFaces.{told_alike, some_direction}
 use Rattle.solid_measure_laws.proofs.Sums.{dot_back}
 use Rattle.shapes.specs.split.Opening.{opened_along}
 use Rattle.split_opening_laws.specs.strips.Opened.{CanBeOpened}
-use Rattle.split_opening_laws.proofs.strips.Cycle.{at_most, two_halves}
+use Rattle.split_opening_laws.proofs.strips.Cycle.{two_halves}
 use Rattle.split_opening_laws.proofs.sections.OpenedRows.{faces_are, loop_row, face_still}
 use Rattle.split_opening_laws.proofs.sections.OpenedFaces.{upper_row}
 use Rattle.split_opening_laws.proofs.sections.Pairs.{renamed_not}
@@ -34,9 +37,6 @@ use Rattle.split_laws.proofs.opened.Starts.{swap, point_old, swapped}
 use Rattle.split_laws.proofs.opened.Kept as kept
 use Rattle.split_laws.proofs.opened.Kept.{Rewritten}
 use Rattle.split_laws.proofs.opened.Caps.{free, lower_row, loop_kinds, lower_normal, upper_normal, cycle_across, lower_along, upper_along, anchor_along}
-
-pub some_direction : (p : Plane) → not (same_point (direction p) origin) ≡ true → direction p ≢ origin
-some_direction p e z = true≢false (sym e ∙ ap (λ v. not (same_point v origin)) z)
 
 module _ (M : Model) (above : List ℕ) (s : ℕ) (c : Taken) (bs : List ℕ) (w : CanBeOpened M above s c bs) where
   abbrev N : Model
@@ -62,7 +62,7 @@ module _ (M : Model) (above : List ℕ) (s : ℕ) (c : Taken) (bs : List ℕ) (w
       ]
     ];
     stays = swapped M above s c bs w;
-    points = λ v there. point_old M above s c bs w v (at_most M.vertices c.vertex v w.vertices_free there);
+    points = λ v there. point_old M above s c bs w v (in_use_within M.vertices c.vertex w.vertices_free v there);
   }
 
   -- ---- which faces there are
@@ -160,9 +160,6 @@ module _ (M : Model) (above : List ℕ) (s : ℕ) (c : Taken) (bs : List ℕ) (w
         ∙ opposite (dot (anchor N lower) a) (dot (anchor N upper) a)
         (told_alike N p a (anchor N lower) (anchor N upper) (some_direction p (and_parts (not (same_point (direction p) origin)) _ on).0) (cycle_across M above s c bs w p on)
         (anchor_along N p lower (lower_along M above s c bs w p on)) (anchor_along N p upper (upper_along M above s c bs w p on)))
-
-    none_added : (a b d : ℤ) → a +ℤ b ≡ pos 0 → a +ℤ (b +ℤ d) ≡ d
-    none_added a b d e = omega (arith, ints)
 
     solid_keeps : AllTellAlike M s → six_volume N s ≡ six_volume M s
     unfolding six_volume

@@ -2,7 +2,6 @@
 use Rattle.std.proofs.Common.{◌≡◌, ◌≢◌, ℕ, ◌+◌, ℤ, ◌+ℤ◌, Bool, true, false, cond, not, nat_eq, ◌&&◌, List, [], ◌∷◌, ◌++◌, Option, Some, None, is_some, unwrap_or, refl, sym, ap, subst, ◌∙◌, arith, true≢false, inl, inr}
 use Rattle.std.specs.Option.{option_map}
 use Rattle.std.proofs.lemmas.Bool.Decides.{eqb_tells}
-use Rattle.std.proofs.lemmas.Int.{ints}
 use Rattle.euler_operators.specs.declared.Point.{Point}
 use Rattle.euler_operators.specs.declared.Plane.{Plane}
 use Rattle.euler_operators.specs.Vectors.{origin, moved, dot, cross, direction, is_on}
@@ -16,29 +15,28 @@ use Rattle.euler_operators.specs.Sound.{Has}
 use Rattle.euler_operators.proofs.Models.{face_row}
 use Rattle.euler_operators.specs.Effect.{kfmrh, loop_to_face}
 use Rattle.euler_laws.proofs.shared.Goes.{equals, differs}
-use Rattle.euler_laws.proofs.shared.Rows.{no_items, face_there, loop_row}
+use Rattle.euler_laws.proofs.shared.Rows.{no_items, face_there, loop_row, content_either}
 use Rattle.shapes.specs.Faces.{start, items_in, loops_of, boundary}
 use Rattle.shapes.specs.Measure.{area, normal, anchor, first_vertex, volume_in, six_volume}
 use Rattle.shapes.proofs.Areas.{area-append}
-use Rattle.shapes.proofs.walks.FaceLoops.{items_joined}
-use Rattle.euler_operators.proofs.Vectors.{dot_turned, dot_moved, none_moved}
+use Rattle.euler_operators.proofs.Vectors.{dot_turned, dot_moved, none_moved, add_exchanged, add_assoc}
+use Rattle.euler_operators.proofs.Members.{count_taken}
 use Rattle.solid_measure_laws.proofs.FlatFaces.{told_alike}
 use Rattle.solid_measure_laws.proofs.Products.{cross_moved}
 use Rattle.solid_measure_laws.proofs.Sums.{area_same}
 use Rattle.gluing_laws.proofs.Listed.{one_if, passed, count_where, same_search, volume_of, volume_same}
+use Rattle.gluing_laws.proofs.Adding.{only_loop}
 use Rattle.split_laws.specs.opened.Told.{LiesAlong, OutersAreOwn}
-use Rattle.split_laws.proofs.opened.Caps.{area_kept, only_loop, anchor_along}
+use Rattle.split_laws.proofs.opened.Caps.{area_kept, anchor_along}
+use Rattle.shapes.proofs.walks.FaceLoops.{items_joined}
 
 -- ---- lists of loops, and of faces
-
-loops_left : (x y : ℕ) (xs ys : List ℕ) → SameItems (x ∷ xs) ys → ys ≡ before x ys ++ x ∷ after x ys → count y xs ≡ count y (before x ys ++ after x ys)
-loops_left x y xs ys s e = omega (arith, s y, ap (count y) e, count-append y (before x ys) (x ∷ after x ys), count-append y (before x ys) (after x ys))
 
 same_loops : (M : Model) (ls ks : List ℕ) → SameItems ls ks → SameItems (items_in M ls) (items_in M ks)
 same_loops M [] ks s x = ap (λ q. count x (items_in M q)) (sym (no_items ks (λ y. sym (s y))))
 same_loops M (l ∷ ls) ks s x =
     let e = split_at l ks (omega (arith, s l, tick_same l)) in
-    let r = same_loops M ls (before l ks ++ after l ks) (λ y. loops_left l y ls ks s e) x in
+    let r = same_loops M ls (before l ks ++ after l ks) (λ y. count_taken l y ls ks s e) x in
     omega (
       arith,
       r,
@@ -57,12 +55,6 @@ module _ (M N : Model) (f : ℕ) where
   sum_without [] z e = refl
   sum_without (k ∷ ks) z e = λ i. e k (omega (arith, tick_same k)) (λ q. absurd (omega (arith, z, ap (λ j. tick f j) q, tick_same f))) i +ℤ sum_without ks (omega (arith, z)) (λ j l. e j (omega (arith, l))) i
 
-  added_first : (a b d : ℤ) → (d +ℤ a) +ℤ b ≡ d +ℤ (a +ℤ b)
-  added_first a b d = omega (arith, ints)
-
-  added_later : (a b d : ℤ) → a +ℤ (d +ℤ b) ≡ d +ℤ (a +ℤ b)
-  added_later a b d = omega (arith, ints)
-
   -- faces among which f is, to which something is added
   sum_with : (d : ℤ) → volume_of N f ≡ d +ℤ volume_of M f → (ks : List ℕ) → count f ks ≡ 1 → ((k : ℕ) → IsIn k ks → k ≢ f → volume_of N k ≡ volume_of M k) → volume_in N ks ≡ d +ℤ volume_in M ks
   sum_with d more [] o e = absurd (omega (arith, o))
@@ -70,10 +62,10 @@ module _ (M N : Model) (f : ℕ) where
     | inl q ↦
         let rest : count f ks ≡ 0 = omega (arith, o, ap (λ j. tick f j) (sym q.1), tick_same f) in
         ap (λ j. volume_of N j +ℤ volume_in N ks) (sym q.1) ∙ (λ i. more i +ℤ sum_without ks rest (λ j l. e j (omega (arith, l))) i)
-        ∙ added_first (volume_of M f) (volume_in M ks) d ∙ ap (λ j. d +ℤ (volume_of M j +ℤ volume_in M ks)) q.1
+        ∙ add_assoc d (volume_of M f) (volume_in M ks) ∙ ap (λ j. d +ℤ (volume_of M j +ℤ volume_in M ks)) q.1
     | inr q ↦
         (λ i. e k (omega (arith, tick_same k)) (λ z. q.1 (sym z)) i +ℤ sum_with d more ks (omega (arith, o, tick_other f k q.1)) (λ j l. e j (omega (arith, l))) i)
-        ∙ added_later (volume_of M k) (volume_in M ks) d
+        ∙ add_exchanged (volume_of M k) d (volume_in M ks)
   ]
 
 -- face g can become a ring of face f
@@ -92,9 +84,6 @@ module _ (M : Model) (p : Plane) (f g : ℕ) (w : CanTake M p f g) where
   abbrev N : Model
   N = kfmrh M f g
 
-  abbrev ring : ℕ
-  ring = outer M g
-
   row_is : (l : ℕ) → table.get N.loops l ≡ option_map (loop_to_face (outer M g) f l) (table.get M.loops l)
   unfolding kfmrh
   row_is l = get-map_rows (loop_to_face (outer M g) f) M.loops l
@@ -109,13 +98,9 @@ module _ (M : Model) (p : Plane) (f g : ℕ) (w : CanTake M p f g) where
 
   -- ---- loops and points stay
 
-  content_either : (b : Bool) (row : LoopRow) → (cond b (record row { face = f }) row).content ≡ row.content
-  content_either true row = refl
-  content_either false row = refl
-
   content_in : (l : ℕ) (o : Option LoopRow) → (unwrap_or (option_map (loop_to_face (outer M g) f l) o) no_loop).content ≡ (unwrap_or o no_loop).content
   content_in l None = refl
-  content_in l (Some row) = content_either (nat_eq l (outer M g)) row
+  content_in l (Some row) = content_either (nat_eq l (outer M g)) row f
 
   pub content_same : (l : ℕ) → content N l ≡ content M l
   unfolding content

@@ -9,11 +9,9 @@ use Rattle.euler_operators.proofs.Rings.{successor_same, successor_last}
 use Rattle.euler_operators.specs.HalfEdge.{mate, edge_of, plus, minus}
 use Rattle.euler_operators.specs.Model.{Model, tail, face_of, after, round}
 use Rattle.euler_operators.specs.Sound.{Sound, HasHalf}
-use Rattle.euler_operators.proofs.Halves.{mate-mate, minus_row}
+use Rattle.euler_operators.proofs.Halves.{mate-mate, minus_row, mate_plus, mate_minus}
 use Rattle.euler_operators.specs.Conditions.{face_at, lists}
 use Rattle.euler_laws.proofs.shared.Fans.{half_mate, loop_after}
-use Rattle.euler_laws.proofs.shared.Undo.{mate_plus, mate_minus}
-use Rattle.euler_laws.proofs.shared.KnownLoop.{half_is, cycle_is, apart_xs}
 use Rattle.shapes.specs.Fresh.{Taken}
 use Rattle.shapes.specs.Prism.{next_place}
 use Rattle.shapes.specs.Rewriting.{renamed}
@@ -26,6 +24,7 @@ use Rattle.split_opening_laws.proofs.strips.Copied as copy
 use Rattle.split_opening_laws.proofs.copies.Raised as raised
 use Rattle.split_opening_laws.proofs.copies.Raised.{not_less}
 use Rattle.split_opening_laws.proofs.copies.Arc.{Splits}
+use Rattle.euler_laws.proofs.shared.KnownLoop.{half_is, cycle_is, apart_xs}
 
 module _ (M : Model) (above : List ℕ) (s : ℕ) (c : Taken) (bs : List ℕ) (w : CanBeOpened M above s c bs) (i : ℕ) (lt : i < length bs) (sound : Sound (copies_raised M above s c bs i)) where
   abbrev N : Model
@@ -128,10 +127,6 @@ module _ (M : Model) (above : List ℕ) (s : ℕ) (c : Taken) (bs : List ℕ) (w
         ap side (ap mate q.2 ∙ mate-mate b) ∙ raised.old_side M above s c bs w i sound b (on.half_there M above s c bs w j q.1) (on.half_no_mate M above s c bs w j q.1)
             ∙ w.below b (on.half_in M above s c bs w j q.1),
       )
-
-  -- a below half is not above
-  half_side : (h : ℕ) → IsIn h bs → lists above (face_at M h) ≡ false
-  half_side h at = w.below h at
 
   listed_mate : (h : ℕ) → IsIn h bs → lists mates (mate h) ≡ true
   listed_mate h at = let q = on.place_of M above s c bs w h at in ap (λ y. lists mates (mate y)) q.2 ∙ on.mate_listed M above s c bs w q.0 q.1

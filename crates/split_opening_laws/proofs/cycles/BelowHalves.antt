@@ -6,24 +6,23 @@ use Rattle.euler_operators.specs.Items.{tick, count, IsIn, IsApart}
 use Rattle.euler_operators.proofs.Lists.{tick_same, tick_other, count-append}
 use Rattle.euler_operators.specs.HalfEdge.{mate, edge_of, plus, minus}
 use Rattle.euler_operators.specs.Table as table
-use Rattle.euler_operators.specs.Table.{Table}
 use Rattle.euler_operators.specs.Model.{Model, solid_of}
 use Rattle.euler_operators.specs.Sound.{Sound, HasHalf}
-use Rattle.euler_operators.proofs.Halves.{plus_row, minus_row}
+use Rattle.euler_operators.proofs.Halves.{plus_row, minus_row, mate_plus, mate_minus, plus_other}
 use Rattle.euler_operators.specs.Conditions.{face_at, lists, strictly_rises}
 use Rattle.euler_laws.proofs.shared.Arcs.{halves_of_edge}
 use Rattle.euler_laws.proofs.shared.Goes.{equal, equals}
 use Rattle.euler_laws.proofs.shared.Listed.{listed_passes, passes_listed, all_where-rises}
 use Rattle.euler_laws.proofs.shared.Loops.{some_row}
-use Rattle.euler_laws.proofs.shared.Undo.{mate_plus, mate_minus}
-use Rattle.euler_laws.proofs.shared.RisingLists.{rest_rises}
+use Rattle.euler_laws.proofs.Sizes.{rises_over}
 use Rattle.shapes.specs.Faces.{edges_of}
-use Rattle.euler_laws.proofs.shared.Counted.{counted_once, in_listed, listed_in}
 use Rattle.shapes.specs.split.Section.{below_half, below_halves}
 use Rattle.split_opening_laws.specs.cycles.SectionCycles.{IsBelowHalf}
 use Rattle.split_opening_laws.proofs.cycles.Meets.{total_same, total_ticks, count_flat}
 use Rattle.split_opening_laws.proofs.cycles.Changes.{bit}
-use Rattle.split_opening_laws.proofs.cycles.RisingLists.{rises_cons, first_least}
+use Rattle.split_opening_laws.proofs.cycles.RisingLists.{rises_cons}
+use Rattle.euler_laws.proofs.shared.RisingLists.{rest_rises}
+use Rattle.euler_laws.proofs.shared.Counted.{counted_once, in_listed, listed_in}
 
 -- ---- one of two numbers, or neither
 
@@ -54,9 +53,6 @@ pick_rises true false p m ns l r = rises_cons m ns (λ k i. (l k i).1) r
 pick_rises false true p m ns l r = rises_cons p ns (λ k i. (l k i).0) r
 pick_rises false false p m ns l r = r
 
-halves_differ : (e : ℕ) → plus e ≢ minus e
-halves_differ e s = absurd (omega arith)
-
 above_halves : (k e : ℕ) → e < edge_of k → (plus e < k) × (minus e < k)
 unfolding edge_of
 above_halves k e l = (omega (arith, l), omega (arith, l))
@@ -77,11 +73,11 @@ module _ (M : Model) (above : List ℕ) where
       (λ s. ne (ap edge_of s ∙ (plus_row e).0)) (λ s. ne (ap edge_of s ∙ (minus_row e).0))
 
   own_plus : (e : ℕ) → count (plus e) (below_half M above e) ≡ bit (is_below (plus e))
-  own_plus e = pick_plus (lists above (face_at M (plus e))) (lists above (face_at M (minus e))) (plus e) (minus e) (halves_differ e)
+  own_plus e = pick_plus (lists above (face_at M (plus e))) (lists above (face_at M (minus e))) (plus e) (minus e) (plus_other e)
       ∙ ap (λ m. bit (not (lists above (face_at M (plus e))) && lists above (face_at M m))) (sym (mate_plus e))
 
   own_minus : (e : ℕ) → count (minus e) (below_half M above e) ≡ bit (is_below (minus e))
-  own_minus e = pick_minus (lists above (face_at M (plus e))) (lists above (face_at M (minus e))) (plus e) (minus e) (halves_differ e)
+  own_minus e = pick_minus (lists above (face_at M (plus e))) (lists above (face_at M (minus e))) (plus e) (minus e) (plus_other e)
       ∙ ap (λ m. bit (not (lists above (face_at M (minus e))) && lists above (face_at M m))) (sym (mate_minus e))
 
   own_edge : (x : ℕ) → count x (below_half M above (edge_of x)) ≡ bit (is_below x)
@@ -118,7 +114,7 @@ module _ (M : Model) (above : List ℕ) where
   flat_rises : (es : List ℕ) → strictly_rises es ≡ true → strictly_rises (flat_map (below_half M above) es) ≡ true
   flat_rises [] r = refl
   flat_rises (e ∷ es) r = pick_rises (lists above (face_at M (plus e))) (lists above (face_at M (minus e))) (plus e) (minus e) (flat_map (below_half M above) es)
-      (λ k i. above_halves k e (first_least e (edge_of k) es r (in_flat k es i).1)) (flat_rises es (rest_rises e es r))
+      (λ k i. above_halves k e (rises_over e (edge_of k) es r (in_flat k es i).1)) (flat_rises es (rest_rises e es r))
 
   -- ---- those of a solid
 

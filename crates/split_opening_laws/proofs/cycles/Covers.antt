@@ -4,9 +4,10 @@ use Rattle.std.specs.Prelude.{filter, flat_map}
 use Rattle.std.proofs.lemmas.Bool.Decides.{eqb_tells}
 use Rattle.euler_operators.specs.Items.{tick, count, IsIn, SameItems, least}
 use Rattle.euler_operators.proofs.Lists.{tick_same, tick_other, least_in, least_same, IsIn_or_not}
+use Rattle.euler_operators.proofs.Members.{count-filter, filter_passes}
 use Rattle.euler_laws.proofs.shared.Goes.{equal, equals}
 use Rattle.split_opening_laws.specs.cycles.Permuting.{Permutes}
-use Rattle.split_opening_laws.proofs.cycles.Meets.{total, total_same, total_ticks, count_filter, filter_less, filter_passes, count_flat}
+use Rattle.split_opening_laws.proofs.cycles.Meets.{total, total_same, total_ticks, count_filter, count_flat}
 use Rattle.split_opening_laws.proofs.cycles.Orbits.{around, around_apart, around_within, around_here, around_same, around_shared}
 
 module _ (next : ℕ → ℕ) (xs : List ℕ) (w : Permutes next xs) where
@@ -17,7 +18,7 @@ module _ (next : ℕ → ℕ) (xs : List ℕ) (w : Permutes next xs) where
   leaders = filter leads xs
 
   pub leader_in : (b : ℕ) → IsIn b leaders → IsIn b xs
-  leader_in b i = omega (arith, i, filter_less leads b xs)
+  leader_in b i = omega (arith, i, count-filter leads b xs)
 
   pub leader_least : (b : ℕ) → IsIn b leaders → least (around next xs w b) ≡ b
   leader_least b i = equal (least (around next xs w b)) b (filter_passes leads b xs i)

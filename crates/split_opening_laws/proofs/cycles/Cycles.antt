@@ -11,6 +11,7 @@ use Rattle.euler_operators.specs.HalfEdge.{mate}
 use Rattle.euler_operators.specs.Model.{Model, tail}
 use Rattle.euler_operators.specs.Sound.{Sound, HasHalf}
 use Rattle.euler_operators.proofs.Halves.{mate-mate}
+use Rattle.euler_operators.proofs.Members.{apart_within}
 use Rattle.euler_operators.specs.Conditions.{face_at, lists, strictly_rises}
 use Rattle.euler_laws.proofs.shared.Fans.{half_mate}
 use Rattle.euler_laws.proofs.shared.Goes.{equals, differs}
@@ -18,7 +19,7 @@ use Rattle.shapes.specs.Prism.{next_place}
 use Rattle.shapes.specs.split.Section.{below_halves, next_below, cycle_from, section_cycles}
 use Rattle.split_opening_laws.specs.cycles.Permuting.{Permutes}
 use Rattle.split_opening_laws.specs.cycles.SectionCycles.{AreOf, IsUnbranched, IsSectionCycle, AreSectionCycles, AreApartCycles}
-use Rattle.split_opening_laws.proofs.cycles.Meets.{known_by, apart_within}
+use Rattle.split_opening_laws.proofs.cycles.Meets.{known_by}
 use Rattle.split_opening_laws.proofs.cycles.RisingLists.{filter_rises}
 use Rattle.split_opening_laws.proofs.cycles.BelowHalves.{halves_rise, halves_apart, halves_are}
 use Rattle.split_opening_laws.proofs.cycles.Ends.{half_there, is_half}

@@ -9,13 +9,14 @@ use Rattle.euler_operators.specs.Table as table
 use Rattle.euler_operators.specs.Model.{Model, tail}
 use Rattle.euler_operators.specs.Sound.{Sound, Has}
 use Rattle.euler_operators.proofs.Tables.{zero_first_where}
+use Rattle.euler_operators.proofs.Members.{IsIn-map}
 use Rattle.euler_laws.proofs.shared.Goes.{equal, equals, no_zero}
 use Rattle.euler_laws.proofs.shared.Loops.{some_row}
 use Rattle.shapes.specs.Fresh.{first_such}
 use Rattle.shapes.specs.split.Section.{below_halves, section_ends, next_below}
 use Rattle.split_opening_laws.specs.cycles.Permuting.{Permutes}
 use Rattle.split_opening_laws.specs.cycles.SectionCycles.{AreOf, IsUnbranched}
-use Rattle.split_opening_laws.proofs.cycles.Meets.{in_map, known_by}
+use Rattle.split_opening_laws.proofs.cycles.Meets.{known_by}
 use Rattle.split_opening_laws.proofs.cycles.BelowHalves.{halves_apart}
 use Rattle.split_opening_laws.proofs.cycles.Ends.{half_there, starts_are_ends}
 
@@ -69,7 +70,7 @@ module _ (M : Model) (above : List ℕ) (s : ℕ) (sound : Sound M) (faces : Are
   -- what starts where b ends is found
   found : (b : ℕ) → IsIn b halves → IsIn (next_below M halves b) halves × (nat_eq (tail M (next_below M halves b)) (tail M (mate b)) ≡ true)
   found b i =
-      let r = from_map (tail M) (tail M (mate b)) halves (omega (arith, in_map (λ b. tail M (mate b)) b halves i, same (tail M (mate b)))) in
+      let r = from_map (tail M) (tail M (mate b)) halves (omega (arith, IsIn-map (λ b. tail M (mate b)) b halves i, same (tail M (mate b)))) in
       first_found (λ c. nat_eq (tail M c) (tail M (mate b))) halves r.0 r.1 (equals (tail M r.0) (tail M (mate b)) (sym r.2))
 
   pub next_starts : (b : ℕ) → IsIn b (below_halves M above s) → tail M (next_below M (below_halves M above s) b) ≡ tail M (mate b)

@@ -7,18 +7,18 @@ use Rattle.euler_operators.specs.Items.{count, IsIn, SameItems, least}
 use Rattle.euler_operators.proofs.Lists.{tick_same, tick_other, count-append, IsIn_or_not, least_le, least_in, least_same}
 use Rattle.euler_operators.specs.Rings.{orbit}
 use Rattle.euler_operators.specs.Conditions.{lists, strictly_rises}
-use Rattle.euler_laws.proofs.shared.RisingLists.{rest_rises}
 use Rattle.euler_laws.proofs.shared.Goes.{differs, equals}
-use Rattle.euler_laws.proofs.shared.Counted.{in_listed, listed_in}
+use Rattle.euler_laws.proofs.Sizes.{rises_over}
 use Rattle.split_opening_laws.specs.cycles.Permuting.{Permutes}
-use Rattle.split_opening_laws.proofs.cycles.RisingLists.{first_least}
 use Rattle.split_opening_laws.proofs.cycles.Orbits.{around_within, around_here, around_same}
+use Rattle.euler_laws.proofs.shared.RisingLists.{rest_rises}
+use Rattle.euler_laws.proofs.shared.Counted.{in_listed, listed_in}
 
 -- what stands before an item of a rising list is less
 before_less : (done : List ℕ) (b : ℕ) (rest : List ℕ) → strictly_rises (done ++ b ∷ rest) ≡ true → (d : ℕ) → IsIn d done → d < b
 before_less [] b rest r d i = absurd (omega (arith, i))
 before_less (x ∷ xs) b rest r d i = elim (eqb_tells d x) [
-  | inl e ↦ omega (arith, e.1, first_least x b (xs ++ b ∷ rest) r (omega (arith, count-append b xs (b ∷ rest), tick_same b)))
+  | inl e ↦ omega (arith, e.1, rises_over x b (xs ++ b ∷ rest) r (omega (arith, count-append b xs (b ∷ rest), tick_same b)))
   | inr e ↦ before_less xs b rest (rest_rises x (xs ++ b ∷ rest) r) d (omega (arith, i, tick_other d x e.1))
 ]
 
@@ -75,7 +75,7 @@ module _ (next : ℕ → ℕ) (bs : List ℕ) where
       later : IsIn m (b ∷ rest) → ⊥
       later j = elim (eqb_tells m b) [
         | inl s ↦ omega (arith, l, s.1)
-        | inr s ↦ omega (arith, l, first_least b m rest (from_rises f.done (b ∷ rest) rises) (omega (arith, j, tick_other m b s.1)))
+        | inr s ↦ omega (arith, l, rises_over b m rest (from_rises f.done (b ∷ rest) rises) (omega (arith, j, tick_other m b s.1)))
       ]
 
     -- a half that is met isn't the least of its cycle

@@ -4,12 +4,13 @@ use Rattle.std.specs.List.Sorted.{IsPermutation, IsSorted, IsNonDecreasing}
 use Rattle.std.specs.Ordering.{nat_cmp}
 use Rattle.std.specs.List.{sum_by}
 use Rattle.std.proofs.lemmas.Bool.Decides.{nat_tests}
-use Rattle.std.proofs.lemmas.List.Sorted.{sum_by-IsPermutation, IsNonDecreasingBy-from_sort}
+use Rattle.std.proofs.lemmas.List.Sorted.{IsNonDecreasingBy-from_sort}
 use Rattle.std.proofs.lemmas.List.Sums.{sum_by-cons}
 use Rattle.euler_operators.specs.declared.Point.{Point}
 use Rattle.euler_operators.specs.Items.{tick, count, IsIn, SameItems}
 use Rattle.euler_operators.proofs.Lists.{tick_same, count-append, IsIn_or_not}
 use Rattle.euler_operators.proofs.Maps.{from_map}
+use Rattle.euler_operators.proofs.Std.{SameItems-from_permutation}
 use Rattle.euler_operators.specs.declared.HalfEdge.{HalfEdge}
 use Rattle.euler_operators.specs.HalfEdge.{code, mate}
 use Rattle.euler_operators.specs.Table as table
@@ -66,9 +67,6 @@ counted : (x : ℕ) (xs : List ℕ) → sum_by (tick x) xs ≡ count x xs
 counted x [] = refl
 counted x (y ∷ ys) = sum_by-cons (tick x) y ys ∙ ap (λ n. tick x y + n) (counted x ys)
 
-moved_same : (xs ys : List ℕ) → IsPermutation xs ys → SameItems xs ys
-moved_same xs ys moved x = sym (counted x xs) ∙ sym (sum_by-IsPermutation (tick x) xs ys moved) ∙ counted x ys
-
 pub sorted_up : (xs : List ℕ) → IsSorted nat_cmp xs → IsNonDecreasing xs
 sorted_up xs sorted = IsNonDecreasingBy-from_sort (λ x. x) xs sorted
 
@@ -106,4 +104,4 @@ module _ (M : Model) (sound : Sound M) (bs : List ℕ) (there : AreThere M bs) w
   pub least_is : (ends sorted : List ℕ) → SameItems ends (section_ends M bs) → IsPermutation ends sorted → least_such (often sorted) sorted ≡ found (least_branched M (section_ends M bs))
   least_is ends sorted same moved =
       one_least (often sorted) (least_such (often sorted) sorted) (found (least_branched M (section_ends M bs))) (least_often sorted)
-      (least_same (λ v. nat_lt 2 (count v (section_ends M bs))) (often sorted) (λ v. ap (nat_lt 2) (sym (same v) ∙ moved_same ends sorted moved v)) (found (least_branched M (section_ends M bs))) branched_least)
+      (least_same (λ v. nat_lt 2 (count v (section_ends M bs))) (often sorted) (λ v. ap (nat_lt 2) (sym (same v) ∙ SameItems-from_permutation ends sorted moved v)) (found (least_branched M (section_ends M bs))) branched_least)

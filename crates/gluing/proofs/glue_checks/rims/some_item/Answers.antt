@@ -5,9 +5,9 @@ use Rattle.euler_operators.specs.Model.{content, outer, items_of}
 use Rattle.euler_operators.specs.Sound.{Has, StandsIn}
 use Rattle.euler_operators.proofs.Models.{in-holds}
 use Rattle.euler_conditions.specs.Store.{Tells}
-use Rattle.gluing.proofs.glue_checks_laws.Halves.{ring_in}
 use Rattle.gluing.proofs.glue_checks.rims.some_item.Goals as goal
 use Rattle.gluing.proofs.glue_checks.rims.some_item.Goals.{In-Ring}
+use Rattle.sweeps.proofs.RaisedItems.{ring_in}
 
 pub content-requires-clause-filled : goal.content-requires-clause-filled
 content-requires-clause-filled c e = (c.requires.ready.sound.cycles _ _ (subst (Has c.args.arena.now.model.loops) (sym c.outer.ensures) (c.requires.ready.sound.outers_there c.args.f c.requires.there).0) e).some_item refl
