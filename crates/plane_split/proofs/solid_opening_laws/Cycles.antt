@@ -5,7 +5,7 @@ use Rattle.euler_operators.specs.declared.HalfEdge.{HalfEdge}
 use Rattle.euler_operators.specs.HalfEdge.{code}
 use Rattle.euler_operators.specs.Model.{Model}
 use Rattle.euler_laws.specs.Laws.{AreAccepted, effects}
-use Rattle.euler_laws.proofs.Runs.{effects-append}
+use Rattle.euler_laws.proofs.Runs.{effects-append, AreAccepted-back}
 use Rattle.shapes.specs.Fresh.{Taken}
 use Rattle.split_opening_laws.specs.strips.StripOps.{strip_ops, copy_ops}
 use Rattle.split_opening_laws.proofs.strips.Cycle.{two_halves}
@@ -15,7 +15,6 @@ use Rattle.split_opening_laws.proofs.opening.Whole.{opening_accepted}
 use Rattle.plane_split.specs.solid_opening.Stages.{CanOpen, AreStripped}
 use Rattle.plane_split.proofs.solid_opening_laws.CutOff.{so_far}
 use Rattle.plane_split.proofs.solid_opening_laws.Raised.{read_before}
-use Rattle.sweeps_laws.proofs.prism.Turns.{AreAccepted-back}
 
 -- a place among the halves is one among their codes
 pub inside_codes : (halves : List HalfEdge) (i : ℕ) → i < length halves → i < length (map code halves)

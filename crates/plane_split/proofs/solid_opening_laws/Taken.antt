@@ -5,8 +5,7 @@ use Rattle.euler_operators.specs.declared.Op.{Op}
 use Rattle.euler_operators.specs.Conditions.{first_false}
 use Rattle.euler_operators.specs.Effect.{effect}
 use Rattle.euler_laws.specs.Laws.{AreAccepted, effects}
-use Rattle.euler_laws.proofs.Runs.{effects-append}
-use Rattle.sweeps_laws.proofs.prism.Turns.{AreAccepted-back}
+use Rattle.euler_laws.proofs.Runs.{effects-append, AreAccepted-back}
 
 -- of two lists of operators, one after the other, the first is accepted in turn, and then the second
 pub first_part : (M : Model) (ops more : List Op) → AreAccepted M (ops ++ more) → AreAccepted M ops
