@@ -56,3 +56,11 @@ plus_row e = (omega arith, grind (arith, nat_tests))
 pub minus_row : (e : ℕ) → (edge_of (minus e) ≡ e) × (is_first (minus e) ≡ false)
 unfolding edge_of is_first
 minus_row e = (omega arith, grind (arith, nat_tests))
+
+pub half-plus : (e : ℕ) → half (plus e) ≡ record { edge = e; first = true }
+unfolding code
+half-plus e = half-code (record { edge = e; first = true })
+
+pub half-minus : (e : ℕ) → half (minus e) ≡ record { edge = e; first = false }
+unfolding code
+half-minus e = half-code (record { edge = e; first = false })

@@ -3,12 +3,27 @@
 #![tactic(auto)]
 
 ghost use Rattle.std.specs.Prelude.{◌≡◌, ◌≤◌};
+ghost use Rattle.boundary_model.specs.HalfEdge as half_edge;
 ghost use Rattle.boundary_model.specs.HalfEdge.{code, half, mate};
+ghost use Rattle.boundary_model.specs.Model.{is_number};
 
 pub use lattice::{
     COORDINATE_LIMIT, Plane, Point, Sign, cross_add, cut_point, dot, lex_cmp, point_in_range, side,
     sum, sum_in_range,
 };
+
+/// The greatest number that a solid, a face, a loop, an edge or a vertex can have.
+pub const NUMBER_LIMIT: u32 = 1_000_000;
+
+/// More than the codes of half-edges, and so more than the half-edges of a model.
+pub const HALF_EDGE_CODES: u32 = 2 * NUMBER_LIMIT + 2;
+
+/// Whether n lies from 1 to the limit of numbers.
+pub fn is_number(n: u32) -> bool
+    ensures { result ≡ is_number n }
+{
+    1 <= n && n <= NUMBER_LIMIT
+}
 
 /// One of the two directions of an edge; `first` is the one that a script writes with a plus.
 #[derive(Clone, Copy, Debug, PartialEq, Eq)]
@@ -18,6 +33,20 @@ pub struct HalfEdge {
 }
 
 impl HalfEdge {
+    /// The first half-edge of an edge.
+    pub fn plus(edge: u32) -> HalfEdge
+        ensures { result ≡ half (half_edge.plus edge) }
+    {
+        HalfEdge { edge, first: true }
+    }
+
+    /// The second half-edge of an edge.
+    pub fn minus(edge: u32) -> HalfEdge
+        ensures { result ≡ half (half_edge.minus edge) }
+    {
+        HalfEdge { edge, first: false }
+    }
+
     /// The same edge in the opposite direction.
     pub fn mate(self) -> HalfEdge
         ensures { code result ≡ mate (code self) }

@@ -6,8 +6,7 @@ ghost use Rattle.euler_operators.specs.Conditions.{corner_number, corner_known, 
 ghost use Rattle.euler_conditions.specs.Ready.{IsReady};
 
 use crate::halves;
-use crate::single::refused;
-use euler_operators::{Content, Corner, Kind, Refusal, Why};
+use euler_operators::{Content, Corner, Kind, Refusal, Why, refused};
 use halfedge_arena::Arena;
 
 /// The number that a corner names.
@@ -43,7 +42,7 @@ pub(crate) fn known(arena: &Arena, corner: Corner) -> Result<(), Refusal>
 }
 
 /// Whether the loop is lone.
-pub(crate) fn is_lone(arena: &Arena, l: u32) -> bool
+pub fn is_lone(arena: &Arena, l: u32) -> bool
     requires ready { IsReady arena.now }
     requires there { has_number arena.now Kind.Loop l ≡ true }
     ensures { result ≡ is_lone (content arena.now.model l) }
@@ -107,7 +106,7 @@ pub(crate) fn tail(arena: &Arena, corner: Corner) -> u32
 }
 
 /// The loop in which a corner stands.
-pub(crate) fn loop_of(arena: &Arena, corner: Corner) -> u32
+pub fn corner_loop(arena: &Arena, corner: Corner) -> u32
     requires ready { IsReady arena.now }
     requires known { (corner_known arena.now.model corner).holds ≡ true }
     ensures is { result ≡ corner_loop arena.now.model corner }

@@ -8,11 +8,8 @@ ghost use Rattle.euler_conditions.specs.Ready.{IsReady};
 ghost use Rattle.euler_conditions.specs.Ends.{leads_to, lesser};
 
 use crate::halves;
-use euler_operators::{HalfEdge, Kind};
+use euler_operators::{HALF_EDGE_CODES, HalfEdge, Kind};
 use halfedge_arena::Arena;
-
-/// More than the half-edges that an arena can have.
-const HALVES: u32 = 2_000_002;
 
 /// Whether only this edge leaves the kept vertex, while others leave the killed one.
 pub(crate) fn kept_end_bare(arena: &Arena, h: HalfEdge) -> bool
@@ -58,7 +55,7 @@ pub(crate) fn parallel(arena: &Arena, h: HalfEdge) -> u32
     let far = halves::tail(arena, halves::mate(h));
     let mut least = 0;
     let mut g = h;
-    'round: for _ in 0..HALVES {
+    'round: for _ in 0..HALF_EDGE_CODES {
         if leads_to(arena, h, far, g) {
             least = lesser(least, g.edge);
         }

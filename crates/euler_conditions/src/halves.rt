@@ -11,14 +11,14 @@ use euler_operators::{HalfEdge, Kind};
 use halfedge_arena::Arena;
 
 /// Whether the two are the same half-edge.
-pub(crate) fn same(a: HalfEdge, b: HalfEdge) -> bool
+pub fn same(a: HalfEdge, b: HalfEdge) -> bool
     ensures { result ≡ nat_eq (code a) (code b) }
 {
     a == b
 }
 
 /// The same edge in the opposite direction.
-pub(crate) fn mate(h: HalfEdge) -> HalfEdge
+pub fn mate(h: HalfEdge) -> HalfEdge
     ensures mate { code result ≡ mate (code h) }
     ensures edge { result.edge ≡ h.edge }
 {
@@ -34,7 +34,7 @@ pub(crate) fn tail(arena: &Arena, h: HalfEdge) -> u32
 }
 
 /// The next item of the half-edge's loop.
-pub(crate) fn next(arena: &Arena, h: HalfEdge) -> HalfEdge
+pub fn next(arena: &Arena, h: HalfEdge) -> HalfEdge
     requires ready { IsReady arena.now }
     requires there { has_number arena.now Kind.Edge h.edge ≡ true }
     ensures next { code result ≡ after arena.now.model (code h) }
@@ -44,7 +44,7 @@ pub(crate) fn next(arena: &Arena, h: HalfEdge) -> HalfEdge
 }
 
 /// The loop in which the half-edge stands.
-pub(crate) fn loop_of(arena: &Arena, h: HalfEdge) -> u32
+pub fn loop_of(arena: &Arena, h: HalfEdge) -> u32
     requires ready { IsReady arena.now }
     requires there { has_number arena.now Kind.Edge h.edge ≡ true }
     ensures is { result ≡ loop_of arena.now.model (code h) }

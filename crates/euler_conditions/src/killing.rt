@@ -5,9 +5,9 @@ ghost use Rattle.euler_operators.specs.Model.{faces_of};
 ghost use Rattle.halfedge_arena.specs.Store.{has_number};
 ghost use Rattle.euler_conditions.specs.Ready.{IsReady};
 
-use crate::single::{in_range, refused};
+use crate::single::in_range;
 use crate::{corners, ends, faces, halves};
-use euler_operators::{HalfEdge, Kind, Op, Refusal, Why};
+use euler_operators::{HalfEdge, Kind, Op, Refusal, Why, refused};
 use halfedge_arena::Arena;
 
 /// Whether the solid has one face, that face no ring, and its outer loop no edge.

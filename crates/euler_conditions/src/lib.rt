@@ -13,5 +13,7 @@ mod parts;
 mod single;
 mod torn;
 
+pub use corners::{corner_loop, is_lone};
 pub use every::check;
 pub use halfedge_arena::Arena;
+pub use halves::{loop_of, mate, next, same};

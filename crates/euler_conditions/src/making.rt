@@ -3,9 +3,9 @@ ghost use Rattle.std.specs.Prelude.{◌≡◌};
 ghost use Rattle.euler_operators.specs.Conditions.{first_false, verdict};
 ghost use Rattle.euler_conditions.specs.Ready.{IsReady};
 
-use crate::single::{fits, in_range, refused};
+use crate::single::{fits, in_range};
 use crate::{corners, faces, halves};
-use euler_operators::{Corner, HalfEdge, Kind, Op, Point, Refusal, Why};
+use euler_operators::{Corner, HalfEdge, Kind, Op, Point, Refusal, Why, refused};
 use halfedge_arena::Arena;
 
 /// Whether mvfs can be done: new solid, face, outer loop and vertex, at a point.
@@ -144,8 +144,8 @@ pub(crate) fn check_mekr(
     if arena.has(Kind::Edge, made.edge) {
         return refused(Why::EdgeTaken, made.edge);
     }
-    let kept = corners::loop_of(arena, from);
-    let ring = corners::loop_of(arena, to);
+    let kept = corners::corner_loop(arena, from);
+    let ring = corners::corner_loop(arena, to);
     if kept == ring {
         return refused(Why::SameLoop, ring);
     }

@@ -4,8 +4,8 @@ ghost use Rattle.euler_operators.specs.Conditions.{first_false, first_refusal, r
 ghost use Rattle.euler_conditions.specs.Ready.{IsReady};
 
 use crate::faces;
-use crate::single::{in_range, refused};
-use euler_operators::{Kind, Op, Refusal, Why};
+use crate::single::in_range;
+use euler_operators::{Kind, Op, Refusal, Why, refused};
 use halfedge_arena::Arena;
 
 /// What is asked of a ring and a face of its solid.

@@ -6,9 +6,9 @@ ghost use Rattle.euler_operators.specs.Conditions.{faces_in, faces_known, first_
 ghost use Rattle.euler_conditions.specs.Ready.{IsReady};
 ghost use Rattle.euler_conditions.specs.Parts.{AreFacesOf, parts_known};
 
-use crate::single::{in_range, is_number, refused};
+use crate::single::in_range;
 use crate::torn;
-use euler_operators::{FaceList, Kind, Op, Refusal, Why};
+use euler_operators::{FaceList, Kind, Op, Refusal, Why, is_number, refused};
 use halfedge_arena::Arena;
 
 /// Each number of the list lies from 1 to the limit.

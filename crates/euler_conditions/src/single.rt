@@ -1,23 +1,9 @@
 //! Single conditions.
 ghost use Rattle.std.specs.Prelude.{◌≡◌, ℕ, Bool, true, List, [], ◌∷◌, take, drop};
-ghost use Rattle.euler_operators.specs.Model.{is_number};
 ghost use Rattle.euler_operators.specs.Points.{is_in_range};
 ghost use Rattle.euler_operators.specs.Conditions.{need, numbers_in_range, first_refusal, verdict};
 
-use euler_operators::{Point, Refusal, Why, point_in_range};
-
-/// A refusal.
-pub(crate) fn refused(why: Why, number: u32) -> Result<(), Refusal>
-    ensures { result ≡ Err (record { why = why; number = number }) }
-{
-    Err(Refusal { why, number })
-}
-
-pub(crate) fn is_number(n: u32) -> bool
-    ensures { result ≡ is_number n }
-{
-    1 <= n && n <= 1_000_000
-}
+use euler_operators::{Point, Refusal, Why, is_number, point_in_range, refused};
 
 /// Each number lies from 1 to the limit.
 pub(crate) fn in_range(numbers: &[u32]) -> Result<(), Refusal>

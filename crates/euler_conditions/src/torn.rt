@@ -8,11 +8,8 @@ ghost use Rattle.euler_conditions.specs.Ready.{IsReady};
 ghost use Rattle.euler_conditions.specs.Parts.{LeadsOut, StaysIn, FaceLeadsOut, FaceStaysIn};
 
 use crate::{faces, halves};
-use euler_operators::{Content, FaceList, HalfEdge, Kind};
+use euler_operators::{Content, FaceList, HALF_EDGE_CODES, HalfEdge, Kind};
 use halfedge_arena::Arena;
-
-/// More than the half-edges that an arena can have.
-const HALVES: u32 = 2_000_002;
 
 /// Whether n stands in the rising list.
 fn listed(faces: &FaceList, n: u32) -> bool
@@ -58,7 +55,7 @@ fn loop_leads_out(arena: &Arena, listed_faces: &FaceList, l: u32) -> bool
         return false;
     };
     let mut h = first;
-    'round: for _ in 0..HALVES {
+    'round: for _ in 0..HALF_EDGE_CODES {
         if leads_out(arena, listed_faces, h) {
             return true;
         }

@@ -1,12 +1,12 @@
 //! Euler operators and their conditions.
 #![tactic(auto)]
 
-ghost use Rattle.std.specs.Prelude.{◌≡◌, ℕ, List, [], ◌++◌, ◌∷◌, length, OnOk, OnErr, slice_index, ◌<◌};
+ghost use Rattle.std.specs.Prelude.{◌≡◌, ℕ, List, [], ◌++◌, ◌∷◌, length, OnOk, OnErr, Err, slice_index, ◌<◌};
 ghost use Rattle.euler_operators.specs.Refusal.{code_of};
 
 pub use boundary_model::{
-    COORDINATE_LIMIT, Content, Corner, HalfEdge, Kind, Plane, Point, Sign, cross_add, cut_point,
-    dot, lex_cmp, point_in_range, side, sum, sum_in_range,
+    COORDINATE_LIMIT, Content, Corner, HALF_EDGE_CODES, HalfEdge, Kind, NUMBER_LIMIT, Plane, Point,
+    Sign, cross_add, cut_point, dot, is_number, lex_cmp, point_in_range, side, sum, sum_in_range,
 };
 use std::alloc::{AllocError, Global};
 use std::marker::Model;
@@ -189,4 +189,11 @@ impl Why {
 pub struct Refusal {
     pub why: Why,
     pub number: u32,
+}
+
+/// A refusal.
+pub fn refused(why: Why, number: u32) -> Result<(), Refusal>
+    ensures { result ≡ Err (record { why = why; number = number }) }
+{
+    Err(Refusal { why, number })
 }

@@ -12,7 +12,6 @@ ghost use Rattle.shapes.specs.glue.GlueOps.{closing, fresh_edge, opening};
 use crate::rims::{first_item, item_at};
 use euler_conditions::Arena;
 use euler_operators::{Corner, HalfEdge, Kind, Op};
-use solid_walks::{minus, plus};
 use std::alloc::AllocError;
 use undo_journal::Draft;
 
@@ -76,8 +75,8 @@ fn open_seam(
     let other = draft.arena().solid_of(g);
     draft.step_accepted(Op::Merge(solid, other))?;
     draft.step_accepted(Op::Kfmrh(f, g))?;
-    draft.step_accepted(Op::Mekr(Corner::At(first), Corner::At(partner), plus(edge)))?;
-    draft.step_accepted(Op::Kev(plus(edge)))
+    draft.step_accepted(Op::Mekr(Corner::At(first), Corner::At(partner), HalfEdge::plus(edge)))?;
+    draft.step_accepted(Op::Kev(HalfEdge::plus(edge)))
 }
 
 /// Glues the item between its partner and the next item: both get a loop of their own, then their ends become one, and then the
@@ -92,8 +91,14 @@ fn close_item(
     ensures ok { OnOk result (draft.new ≡ record draft.old { model = effects draft.old.model (closing (code partner) (code next) spare.edge spare.face spare.ring) }) }
     ensures err { OnErr result (draft.new.session ≡ draft.old.session) }
 {
-    draft.step_accepted(Op::Mef(partner, next, plus(spare.edge), spare.face, spare.ring))?;
-    draft.step_accepted(Op::Kev(minus(spare.edge)))?;
+    draft.step_accepted(Op::Mef(
+        partner,
+        next,
+        HalfEdge::plus(spare.edge),
+        spare.face,
+        spare.ring,
+    ))?;
+    draft.step_accepted(Op::Kev(HalfEdge::minus(spare.edge)))?;
     draft.step_accepted(Op::Kef(partner.mate()))
 }
 

@@ -10,7 +10,7 @@ use Rattle.euler_operators.specs.Rings.{between, beyond, successor}
 use Rattle.euler_operators.specs.Table as table
 use Rattle.euler_operators.specs.Model.{Model, items_of, after, tail, loop_of, face_of, outer, content, point_of, faces_of, cycle_of}
 use Rattle.euler_operators.specs.Sound.{Sound, HasHalf}
-use Rattle.euler_operators.proofs.Halves.{code-half, mate_other, edge_of-mate}
+use Rattle.euler_operators.proofs.Halves.{code-half, half-code, mate_other, edge_of-mate}
 use Rattle.euler_operators.proofs.Models.{cycle_there, cycle_sound}
 use Rattle.euler_conditions.specs.Store.{only_item}
 use Rattle.euler_operators.specs.declared.Op.{Op}
@@ -20,6 +20,10 @@ use Rattle.euler_operators.specs.Effect.{inverse, head_or_zero, kev_corner, kev_
 use Rattle.euler_conditions.proofs.Known.{half_there}
 use Rattle.low_euler.proofs.Accepted.{kemr_has, kemr_one_loop}
 use Rattle.low_euler.proofs.Parts.{corner_between, between_back}
+
+-- a half-edge by its code
+pub half_then : (h : HalfEdge) {n : ℕ} → code h ≡ n → h ≡ half n
+half_then h e = sym (half-code h) ∙ ap half e
 
 head_is : (fs : List ℕ) (f : ℕ) → only_item fs ≡ Some f → head_or_zero fs ≡ f
 head_is [] f e = absurd (true≢false (sym (ap is_some e)))

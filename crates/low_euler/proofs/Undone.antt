@@ -35,25 +35,3 @@ module _ (s : Store) (o i : Op) (ok : Accepts s o) (is : i ≡ inverse s.model o
 
   pub inverse_back : after (after s o) i ≡ s
   inverse_back = ap (λ (M : Model). record s { model = M }) (ap (effect (effect s.model o)) is ∙ inverse_undoes s.model o ok.ready.sound ok.holds)
-
--- only a merge is taken back by a part, which lists the faces that it moves
-one_part : (s t k l : ℕ) (fs gs : List ℕ) → Part s t fs ≡ Part k l gs → (s ≡ k) × (t ≡ l) × (fs ≡ gs)
-one_part s t k l fs gs e = (cc, cc, cc)
-
-pub part_of_merge : (M : Model) (o : Op) (k l : ℕ) (fs : List ℕ) → inverse M o ≡ Part k l fs → (o ≡ Merge k l) × (fs ≡ faces_of M l)
-unfolding inverse
-part_of_merge M (Mvfs s f l v p) k m fs e = cc
-part_of_merge M (Kvfs s) k m fs e = cc
-part_of_merge M (Mev c d h v p) k m fs e = cc
-part_of_merge M (Kev h) k m fs e = cc
-part_of_merge M (Mef g n h f l) k m fs e = cc
-part_of_merge M (Kef h) k m fs e = cc
-part_of_merge M (Kemr h l) k m fs e = cc
-part_of_merge M (Mekr c d h) k m fs e = cc
-part_of_merge M (Kfmrh f g) k m fs e = cc
-part_of_merge M (Mfkrh l f) k m fs e = cc
-part_of_merge M (RingIn l f) k m fs e = cc
-part_of_merge M (RingOut l f) k m fs e = cc
-part_of_merge M (Outer l f) k m fs e = cc
-part_of_merge M (Merge s t) k m fs e = let w = one_part s t k m (faces_of M t) fs e in ((λ i. Merge (w.0 i) (w.1 i)), sym w.2 ∙ ap (faces_of M) w.1)
-part_of_merge M (Part s t gs) k m fs e = cc

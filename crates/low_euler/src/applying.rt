@@ -8,7 +8,6 @@ use crate::face_operators::{kfmrh, merge, mfkrh, outer, part, ring_in, ring_out}
 use crate::inverse::inverse_of;
 use crate::loop_operators::{kef, kemr, mef, mekr};
 use crate::making::Room;
-use crate::moving;
 use crate::vertex_operators::{kev, kvfs, mev, mvfs};
 use euler_conditions::Arena;
 use euler_operators::Op;
@@ -32,7 +31,7 @@ fn change(arena: &mut Arena, op: &Op)
         Op::RingIn(l, f) => ring_in(arena, *l, *f),
         Op::RingOut(l, f) => ring_out(arena, *l, *f),
         Op::Outer(l, f) => outer(arena, *l, *f),
-        Op::Merge(kept, gone) => moving::merge(arena, *kept, *gone),
+        Op::Merge(kept, gone) => merge(arena, *kept, *gone),
         Op::Part(kept, made, faces) => part(arena, *kept, *made, faces),
     }
 }
@@ -46,18 +45,6 @@ pub fn replay(arena: &mut Arena, op: &Op)
     ensures ready { IsReady arena.new }
 {
     change(arena, op);
-}
-
-/// Applies an operator whose inverse is known: that of a merge lists the faces that it moves.
-fn change_listed(arena: &mut Arena, op: &Op, back: &Op)
-    requires accepted { Accepts arena.old op.now }
-    requires inverse { back.now ≡ inverse arena.old.model op.now }
-    ensures { arena.new ≡ after arena.old op.now }
-{
-    match back {
-        Op::Part(kept, gone, faces) => merge(arena, *kept, *gone, faces),
-        _ => change(arena, op),
-    }
 }
 
 /// Applies an operator as `replay` does, and answers the operator that takes it back. That is accepted in the model after,
@@ -74,6 +61,6 @@ pub fn apply(arena: &mut Arena, op: &Op, room: Room) -> Op
     ensures undone { after arena.new result ≡ arena.old }
 {
     let back = inverse_of(arena, op, room);
-    change_listed(arena, op, &back);
+    replay(arena, op);
     back
 }

@@ -8,7 +8,7 @@ ghost use Rattle.low_euler.specs.Room.{faces_for};
 
 use crate::making::Room;
 use crate::reading;
-use euler_conditions::Arena;
+use euler_conditions::{Arena, corner_loop, loop_of, next, same};
 use euler_operators::{Corner, HalfEdge, Kind, Op};
 
 fn kvfs(arena: &Arena, solid: u32) -> Op
@@ -39,12 +39,12 @@ fn kev_corners(arena: &Arena, h: HalfEdge) -> (Corner, Corner)
     ensures second { result.1 ≡ kev_corner_mate arena.now.model (code h) }
 {
     let mate = h.mate();
-    let following = reading::next(arena, h);
-    let back = reading::next(arena, mate);
-    if !reading::same(following, mate) {
+    let following = next(arena, h);
+    let back = next(arena, mate);
+    if !same(following, mate) {
         (Corner::At(following), Corner::At(back))
-    } else if reading::same(back, h) {
-        let lone = Corner::Lone(reading::loop_of(arena, h));
+    } else if same(back, h) {
+        let lone = Corner::Lone(loop_of(arena, h));
         (lone, lone)
     } else {
         (Corner::At(back), Corner::At(back))
@@ -72,10 +72,10 @@ fn kef(arena: &Arena, h: HalfEdge) -> Op
     ensures room { HasRoomFor arena.now result }
 {
     let mate = h.mate();
-    let killed = reading::loop_of(arena, mate);
+    let killed = loop_of(arena, mate);
     let face = arena.face_of(killed);
-    let first = reading::next(arena, mate);
-    let second = reading::next(arena, h);
+    let first = next(arena, mate);
+    let second = next(arena, h);
     reading::in_use(arena, Kind::Edge, h.edge);
     reading::in_use(arena, Kind::Face, face);
     reading::in_use(arena, Kind::Loop, killed);
@@ -89,7 +89,7 @@ fn kemr(arena: &Arena, h: HalfEdge, ring: u32) -> Op
     ensures room { HasRoomFor arena.now result }
 {
     let mate = h.mate();
-    let kept = reading::loop_of(arena, h);
+    let kept = loop_of(arena, h);
     let first = reading::corner_after(arena, mate, h, kept);
     let second = reading::corner_after(arena, h, mate, ring);
     reading::in_use(arena, Kind::Edge, h.edge);
@@ -102,7 +102,7 @@ fn mekr(arena: &Arena, first: Corner, second: Corner, h: HalfEdge) -> Op
     ensures is { result ≡ inverse arena.now.model (Op.Mekr first second h) }
     ensures room { HasRoomFor arena.now result }
 {
-    let ring = reading::corner_loop(arena, second);
+    let ring = corner_loop(arena, second);
     reading::in_use(arena, Kind::Loop, ring);
     Op::Kemr(h, ring)
 }

@@ -1,10 +1,10 @@
 //! The faces of a solid, met in the order of their numbers.
 ghost use Rattle.std.specs.Prelude.{◌≡◌, IfOk};
 ghost use Rattle.euler_operators.specs.Model.{faces_of};
-ghost use Rattle.euler_conditions.specs.Ready.{IsReady, Accepts, after};
+ghost use Rattle.euler_conditions.specs.Ready.{IsReady};
 
 use euler_conditions::Arena;
-use euler_operators::{FaceList, Kind, Op};
+use euler_operators::FaceList;
 use std::alloc::{AllocError, Global};
 
 /// The faces of a solid, rising. It looks at these alone.
@@ -19,18 +19,4 @@ pub(crate) fn faces_of(alloc: Global, arena: &Arena, solid: u32) -> Result<FaceL
         last = face;
     }
     Ok(faces)
-}
-
-/// All faces of solid `gone` go to solid `kept`, the least first, and `gone` goes. It looks at these faces and at those of `kept`
-/// between them.
-pub(crate) fn merge(arena: &mut Arena, kept: u32, gone: u32)
-    requires { Accepts arena.old (Op.Merge kept gone) }
-    ensures { arena.new ≡ after arena.old (Op.Merge kept gone) }
-{
-    // a number in use has its room
-    let _in_use = arena.has(Kind::Solid, kept);
-    'faces: while let Some(face) = arena.face_after(gone, 0) {
-        arena.set_solid(face, kept);
-    }
-    arena.take_solid(gone);
 }

@@ -10,10 +10,11 @@ ghost use Rattle.euler_conditions.specs.Ready.{IsReady};
 ghost use Rattle.shapes.specs.Faces.{corners, vertices_in};
 ghost use Rattle.solid_measure.specs.Measure.{anchor, area_limit, is_flat, normal, plane_of, read};
 
+use crate::Vector;
 use crate::loops::{least_item, loop_added, loop_lies_on};
-use crate::{Vector, halves};
 use euler_conditions::Arena;
 use euler_operators::{Content, Kind, Plane, Point, dot};
+use solid_walks::start;
 
 /// The face's normal: the sum of the cross products over the half-edges of its loops.
 pub(crate) fn normal_of(arena: &Arena, f: u32) -> Vector
@@ -41,7 +42,7 @@ pub(crate) fn anchor_of(arena: &Arena, f: u32) -> Point
     let outer = arena.outer(f);
     match arena.content(outer) {
         Content::Lone(v) => arena.point(v),
-        Content::Ring(first) => halves::start(arena, least_item(arena, outer, first)),
+        Content::Ring(first) => start(arena, least_item(arena, outer, first)),
     }
 }
 

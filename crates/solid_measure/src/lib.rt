@@ -5,20 +5,20 @@
 #![tactic(auto)]
 
 mod faces;
-mod halves;
 mod loops;
 mod measures;
 mod solid_checks;
 mod solid_counts;
 
+pub use loops::half_added;
 pub use measures::{is_flat, normal, plane, six_volume};
 pub use solid_checks::{least_bent, least_bent_of_both, least_lone, least_lone_of_both};
 pub use solid_counts::{Tally, counts};
 
 /// A sum of cross products of points.
 #[derive(Clone, Copy, Debug, PartialEq, Eq)]
-struct Vector {
-    x: i128,
-    y: i128,
-    z: i128,
+pub struct Vector {
+    pub x: i128,
+    pub y: i128,
+    pub z: i128,
 }

@@ -6,32 +6,27 @@ ghost use Rattle.euler_operators.specs.Ranges.{IsPlane, IsVectorWithin, normal_l
 ghost use Rattle.euler_operators.specs.Vectors.{moved, cross, is_on};
 ghost use Rattle.euler_operators.specs.Items.{IsIn, head_or};
 ghost use Rattle.euler_operators.specs.HalfEdge.{code};
-ghost use Rattle.euler_operators.specs.Model.{items_of, content, point_of, tail};
+ghost use Rattle.euler_operators.specs.Model.{items_of, content, has_half, point_of, tail};
 ghost use Rattle.euler_conditions.specs.Store.{has_number};
 ghost use Rattle.euler_conditions.specs.Ready.{IsReady};
 ghost use Rattle.shapes.specs.Faces.{start, finish, vertices_on};
 ghost use Rattle.solid_measure.specs.Measure.{area, area_limit, read};
 
-use crate::{Vector, halves};
-use euler_conditions::Arena;
-use euler_operators::{Content, HalfEdge, Kind, Plane, Point, Sign, cross_add, side};
-use solid_walks::{next, same};
-
-/// More than the half-edges that an arena can have.
-const HALVES: u32 = 2_000_002;
+use crate::Vector;
+use euler_conditions::{Arena, next, same};
+use euler_operators::{
+    Content, HALF_EDGE_CODES, HalfEdge, Kind, Plane, Point, Sign, cross_add, side,
+};
+use solid_walks::{finish, start};
 
 /// The vector n plus the cross product of the points at which the half-edge starts and ends.
-fn half_added(arena: &Arena, n: Vector, h: HalfEdge) -> Vector
+pub fn half_added(arena: &Arena, n: Vector, h: HalfEdge) -> Vector
     requires ready { IsReady arena.now }
-    requires there { has_number arena.now Kind.Edge h.edge ≡ true }
+    requires there { has_half arena.now.model (code h) ≡ true }
     requires n { IsVectorWithin normal_limit (read n) }
     ensures { read result ≡ moved (read n) (cross (start arena.now.model (code h)) (finish arena.now.model (code h))) }
 {
-    let [x, y, z] = cross_add(
-        [n.x, n.y, n.z],
-        halves::start(arena, h),
-        halves::finish(arena, h),
-    );
+    let [x, y, z] = cross_add([n.x, n.y, n.z], start(arena, h), finish(arena, h));
     Vector { x, y, z }
 }
 
@@ -47,7 +42,7 @@ pub(crate) fn loop_added(arena: &Arena, n: Vector, l: u32) -> Vector
     };
     let mut sum = n;
     let mut h = first;
-    'round: for _ in 0..HALVES {
+    'round: for _ in 0..HALF_EDGE_CODES {
         sum = half_added(arena, sum, h);
         h = next(arena, h);
         if same(h, first) {
@@ -75,7 +70,7 @@ pub(crate) fn least_item(arena: &Arena, l: u32, first: HalfEdge) -> HalfEdge
 {
     let mut least = first;
     let mut h = first;
-    'round: for _ in 0..HALVES {
+    'round: for _ in 0..HALF_EDGE_CODES {
         least = lesser(least, h);
         h = next(arena, h);
         if same(h, first) {
@@ -105,8 +100,8 @@ fn ring_lies_on(arena: &Arena, plane: Plane, l: u32, first: HalfEdge) -> bool
     ensures { result ≡ list_all (λ v. is_on plane (point_of arena.now.model v)) (map (tail arena.now.model) (items_of (content arena.now.model l))) }
 {
     let mut h = first;
-    'round: for _ in 0..HALVES {
-        if !lies_on(plane, halves::start(arena, h)) {
+    'round: for _ in 0..HALF_EDGE_CODES {
+        if !lies_on(plane, start(arena, h)) {
             return false;
         }
         h = next(arena, h);

@@ -1,7 +1,6 @@
 //! Measures of faces and solids by number.
 ghost use Rattle.std.specs.Prelude.{◌≡◌};
 ghost use Rattle.euler_operators.specs.Vectors.{numbers_of};
-ghost use Rattle.euler_operators.specs.Model.{is_number};
 ghost use Rattle.euler_conditions.specs.Store.{has_number};
 ghost use Rattle.euler_conditions.specs.Ready.{IsReady};
 ghost use Rattle.solid_measure.specs.Measure.{answer, face_refusal, is_flat, normal, plane_of, six_volume, solid_refusal};
@@ -9,14 +8,7 @@ ghost use Rattle.solid_measure.specs.Measure.{answer, face_refusal, is_flat, nor
 use crate::faces;
 use crate::solid_counts::refusal_of_solid;
 use euler_conditions::Arena;
-use euler_operators::{Kind, Plane, Refusal, Why};
-
-/// Whether the number lies from 1 to the limit.
-fn is_number(n: u32) -> bool
-    ensures { result ≡ is_number n }
-{
-    1 <= n && n <= 1_000_000
-}
+use euler_operators::{Kind, Plane, Refusal, Why, is_number};
 
 /// The refusal of a query about face f, if there is one.
 fn refusal_of_face(arena: &Arena, f: u32) -> Option<Refusal>

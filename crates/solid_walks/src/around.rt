@@ -6,11 +6,8 @@ ghost use Rattle.euler_conditions.specs.Ready.{IsReady};
 ghost use Rattle.shapes.specs.Walks.{leads};
 
 use crate::halves;
-use euler_conditions::Arena;
-use euler_operators::{HalfEdge, Kind};
-
-/// More than the half-edges that an arena can have.
-const HALVES: u32 = 2_000_002;
+use euler_conditions::{Arena, same};
+use euler_operators::{HALF_EDGE_CODES, HalfEdge, Kind};
 
 /// Whether h is of the least edge at its vertex.
 ///
@@ -23,16 +20,16 @@ pub fn leads(arena: &Arena, h: HalfEdge) -> bool
 {
     let mut ahead = h;
     let mut behind = h;
-    'round: for _ in 0..HALVES {
+    'round: for _ in 0..HALF_EDGE_CODES {
         let next = halves::round(arena, ahead);
-        if halves::same(next, behind) {
+        if same(next, behind) {
             return true;
         }
         if next.edge < h.edge {
             return false;
         }
         let before = halves::back(arena, behind);
-        if halves::same(before, next) {
+        if same(before, next) {
             return true;
         }
         if before.edge < h.edge {

@@ -1,9 +1,7 @@
-//! The two half-edges of an edge, and walks along the loops of a face and the half-edges of a loop, in the order of listings.
+//! Walks along the loops of a face and the half-edges of a loop, in the order of listings.
 
-mod halves;
 mod items;
 mod loops;
 
-pub use halves::{minus, plus};
 pub use items::{items_from, least_item};
 pub use loops::face_loops;

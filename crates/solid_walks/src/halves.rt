@@ -1,46 +1,43 @@
 //! What an arena says of a half-edge whose edge is there.
-ghost use Rattle.std.specs.Prelude.{◌≡◌, true, nat_eq};
+ghost use Rattle.std.specs.Prelude.{◌≡◌, true};
 ghost use Rattle.euler_operators.specs.HalfEdge.{code, mate};
-ghost use Rattle.euler_operators.specs.Model.{after, before, round};
+ghost use Rattle.euler_operators.specs.Model.{before, has_half, round};
 ghost use Rattle.euler_conditions.specs.Store.{has_number};
 ghost use Rattle.euler_conditions.specs.Ready.{IsReady};
+ghost use Rattle.euler_operators.specs.Points.{IsInRange};
+ghost use Rattle.shapes.specs.Faces.{finish, start};
 
-use euler_conditions::Arena;
-use euler_operators::{HalfEdge, Kind};
+use euler_conditions::{Arena, mate, next};
+use euler_operators::{HalfEdge, Kind, Point};
 
-/// Whether the two are the same half-edge.
-pub fn same(a: HalfEdge, b: HalfEdge) -> bool
-    ensures { result ≡ nat_eq (code a) (code b) }
+/// The point at which the half-edge starts.
+pub fn start(arena: &Arena, h: HalfEdge) -> Point
+    requires ready { IsReady arena.now }
+    requires there { has_half arena.now.model (code h) ≡ true }
+    ensures point { result ≡ start arena.now.model (code h) }
+    ensures range { IsInRange result }
 {
-    a == b
+    arena.point(arena.tail(h))
 }
 
-/// The next item of the half-edge's loop.
-pub fn next(arena: &Arena, h: HalfEdge) -> HalfEdge
+/// The point at which the half-edge ends.
+pub fn finish(arena: &Arena, h: HalfEdge) -> Point
     requires ready { IsReady arena.now }
-    requires there { has_number arena.now Kind.Edge h.edge ≡ true }
-    ensures next { code result ≡ after arena.now.model (code h) }
-    ensures there { has_number arena.now Kind.Edge result.edge ≡ true }
+    requires there { has_half arena.now.model (code h) ≡ true }
+    ensures point { result ≡ finish arena.now.model (code h) }
+    ensures range { IsInRange result }
 {
-    arena.next(h)
+    start(arena, h.mate())
 }
 
-/// The item before it in the half-edge's loop.
-fn previous(arena: &Arena, h: HalfEdge) -> HalfEdge
+/// The item before the half-edge in its loop.
+pub fn previous(arena: &Arena, h: HalfEdge) -> HalfEdge
     requires ready { IsReady arena.now }
-    requires there { has_number arena.now Kind.Edge h.edge ≡ true }
+    requires there { has_half arena.now.model (code h) ≡ true }
     ensures previous { code result ≡ before arena.now.model (code h) }
-    ensures there { has_number arena.now Kind.Edge result.edge ≡ true }
+    ensures there { has_half arena.now.model (code result) ≡ true }
 {
     arena.prev(h)
-}
-
-/// The same edge in the opposite direction.
-fn turned(h: HalfEdge) -> HalfEdge
-    ensures mate { code result ≡ mate (code h) }
-    ensures edge { result.edge ≡ h.edge }
-{
-    h.mate()
 }
 
 /// The next half-edge that leaves the same vertex.
@@ -50,7 +47,7 @@ pub(crate) fn round(arena: &Arena, h: HalfEdge) -> HalfEdge
     ensures round { code result ≡ round arena.now.model (code h) }
     ensures there { has_number arena.now Kind.Edge result.edge ≡ true }
 {
-    next(arena, turned(h))
+    next(arena, mate(h))
 }
 
 /// The half-edge that leaves the same vertex, and that this one is the next of.
@@ -60,5 +57,5 @@ pub(crate) fn back(arena: &Arena, h: HalfEdge) -> HalfEdge
     ensures back { code result ≡ mate (before arena.now.model (code h)) }
     ensures there { has_number arena.now Kind.Edge result.edge ≡ true }
 {
-    turned(previous(arena, h))
+    mate(previous(arena, h))
 }

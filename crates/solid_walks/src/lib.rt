@@ -1,10 +1,13 @@
-//! Walks over a solid: from face to face and from loop to loop, round a loop, and round a vertex.
+//! Walks over a solid: from face to face and from loop to loop, round a loop, and round a vertex. Beside them, the numbers that
+//! are left for what a larger command makes.
 #![tactic(auto)]
 
 mod around;
 mod face_walks;
 mod halves;
+mod numbers;
 
 pub use around::leads;
-pub use face_walks::{face_loops, items_from, least_item, minus, plus};
-pub use halves::{next, same};
+pub use face_walks::{face_loops, items_from, least_item};
+pub use halves::{finish, previous, start};
+pub use numbers::{Counters, check_left, counters_of};

@@ -9,7 +9,7 @@ mod sides;
 
 pub use across::{crossing_point, crossings};
 pub use faces::places;
-pub(crate) use halves::{crosses, finish, is_place, start, touches};
+pub(crate) use halves::{crosses, is_place, touches};
 pub use halves::{goes_up, starts_on};
 pub use loops::boundary;
 pub(crate) use loops::loop_items;

@@ -3,5 +3,5 @@
 mod above;
 mod halves;
 
-pub(crate) use above::faces_above;
+pub(crate) use above::{direction, faces_above};
 pub(crate) use halves::below_halves;

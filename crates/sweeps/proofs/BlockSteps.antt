@@ -13,8 +13,8 @@ use Rattle.shapes.specs.Prism.{prism_refusal, prism_model}
 use Rattle.shapes.specs.Block.{vector, base_of, block_refusal, block_model}
 use Rattle.sweeps_laws.proofs.lamina.Walk.{lamina_goes}
 use Rattle.sweeps_laws.proofs.lamina.Blocks.{blocks_have_bases, bases_rise}
-use Rattle.sweeps.specs.Counters.{taken_of}
-use Rattle.sweeps.specs.declared.fresh.Counters.{Counters}
+use Rattle.solid_walks.specs.Counters.{taken_of}
+use Rattle.solid_walks.specs.declared.numbers.Counters.{Counters}
 
 -- the session of a draft stays, whatever a call answers
 pub session_kept : (N : Model) (s : Machine) (new : DraftState) (r : Result (Unit {0}) AllocError) → OnOk r (new ≡ record { session = s; model = N }) → OnErr r (new.session ≡ s) → new.session ≡ s

@@ -17,8 +17,8 @@ use Rattle.shapes.specs.Lamina.{lamina_refusal, lamina_at, lamina_model}
 use Rattle.sweeps_laws.specs.lamina.Path.{path_at, first_half, second_half, first_point, end_corner, next_point, last_edge}
 use Rattle.sweeps_laws.proofs.lamina.Steps.{Goes, first_accepted, first_made}
 use Rattle.sweeps_laws.proofs.lamina.Walk.{lamina_goes, next_accepted, next_made, path_sound, close_accepted, close_made}
-use Rattle.sweeps.specs.Counters.{taken_of}
-use Rattle.sweeps.specs.declared.fresh.Counters.{Counters}
+use Rattle.solid_walks.specs.Counters.{taken_of}
+use Rattle.solid_walks.specs.declared.numbers.Counters.{Counters}
 
 -- the premises, from what the calls before the first step say
 pub begun : (M N : Model) (k : Counters) (s : ℕ) (ps qs : List Point) → N ≡ M → Sound N → taken_of k ≡ taken_in N → qs ≡ ps → lamina_refusal M s ps ≡ None → Goes M (taken_of k) s qs (length qs)

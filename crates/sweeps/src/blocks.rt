@@ -8,12 +8,14 @@ ghost use Rattle.euler_conditions.specs.Ready.{IsReady};
 ghost use Rattle.undo_journal.specs.Machine.{held, accepted};
 ghost use Rattle.shapes.specs.Block.{vector, base_of, block_refusal, block_model};
 
-use crate::fresh::{check_left, counters_of, is_number, refused};
 use crate::laminas::draw_lamina;
 use crate::raising::raise;
 use arrayvec::ArrayVec;
 use euler_conditions::Arena;
-use euler_operators::{Kind, Point, Refusal, Why, point_in_range, sum, sum_in_range};
+use euler_operators::{
+    Kind, Point, Refusal, Why, is_number, point_in_range, refused, sum, sum_in_range,
+};
+use solid_walks::{check_left, counters_of};
 use std::alloc::{AllocError, Global};
 use undo_journal::{Draft, Failure, Session};
 
@@ -54,7 +56,7 @@ fn check_block(arena: &Arena, solid: u32, corner: Point, size: Point) -> Result<
     if !sum_in_range(corner, size) {
         return refused(Why::PointRange, 2);
     }
-    check_left(&counters_of(arena), 6, 6, 12, 8)
+    check_left(counters_of(arena), 6, 6, 12, 8)
 }
 
 /// The corners of a block's base.

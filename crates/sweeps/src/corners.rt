@@ -3,26 +3,13 @@ ghost use Rattle.std.specs.Prelude.{◌≡◌, ◌≤◌, ◌+◌, true, min, co
 ghost use Rattle.euler_operators.specs.HalfEdge.{code};
 ghost use Rattle.euler_operators.specs.Model.{has_half, content, cycle_of, tail};
 ghost use Rattle.euler_conditions.specs.Store.{has_number};
-ghost use Rattle.euler_operators.specs.Conditions.{is_lone};
 ghost use Rattle.euler_conditions.specs.Ready.{IsReady};
 ghost use Rattle.shapes.specs.Faces.{corners, least_lone, vertices_on};
 ghost use Rattle.sweeps.specs.Corners.{IsLoneRing, IsTally};
 
-use euler_conditions::Arena;
+use euler_conditions::{Arena, is_lone};
 use euler_operators::{Content, HalfEdge, Kind, Point, sum_in_range};
 use solid_walks::least_item;
-
-/// Whether the loop is lone.
-fn is_lone(arena: &Arena, l: u32) -> bool
-    requires ready { IsReady arena.now }
-    requires there { has_number arena.now Kind.Loop l ≡ true }
-    ensures { result ≡ is_lone (content arena.now.model l) }
-{
-    match arena.content(l) {
-        Content::Lone(_) => true,
-        Content::Ring(_) => false,
-    }
-}
 
 /// The least lone ring of face f, or 0.
 fn lone_ring(arena: &Arena, f: u32) -> u32

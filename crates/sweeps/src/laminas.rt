@@ -7,14 +7,15 @@ ghost use Rattle.euler_operators.specs.Conditions.{verdict};
 ghost use Rattle.euler_conditions.specs.Ready.{IsReady};
 ghost use Rattle.euler_operators.specs.declared.Refusal.{Refusal};
 ghost use Rattle.undo_journal.specs.Machine.{held, accepted};
-ghost use Rattle.sweeps_laws.specs.lamina.Path as path;
 ghost use Rattle.shapes.specs.Lamina.{lamina_refusal, lamina_model};
 ghost use Rattle.shapes.specs.Lamina as spec;
 
-use crate::fresh::{check_left, counters_of, refused};
 use arrayvec::ArrayVec;
 use euler_conditions::Arena;
-use euler_operators::{Corner, HalfEdge, Kind, Op, Point, Refusal, Why, point_in_range};
+use euler_operators::{
+    Corner, HalfEdge, Kind, Op, Point, Refusal, Why, is_number, point_in_range, refused,
+};
+use solid_walks::{check_left, counters_of};
 use std::alloc::{AllocError, Global};
 use undo_journal::{Draft, Failure, Session};
 
@@ -73,15 +74,15 @@ fn check_lamina(arena: &Arena, solid: u32, points: &ArrayVec<Point, 64>) -> Resu
     requires { IsReady arena.now }
     ensures { result ≡ verdict (lamina_refusal arena.now.model solid points.now.items) }
 {
-    if solid < 1 || solid > 1_000_000 {
+    if !is_number(solid) {
         return refused(Why::NumberRange, solid);
     }
     if arena.has(Kind::Solid, solid) {
         return refused(Why::SolidTaken, solid);
     }
-    let count = points.len() as u32;
+    let count = points.len();
     if count < 3 {
-        return refused(Why::FewPoints, count);
+        return refused(Why::FewPoints, count as u32);
     }
     let far = first_far(points.as_slice());
     if far > 0 {
@@ -91,19 +92,7 @@ fn check_lamina(arena: &Arena, solid: u32, points: &ArrayVec<Point, 64>) -> Resu
     if repeated > 0 {
         return refused(Why::RepeatedPoint, repeated);
     }
-    check_left(&counters_of(arena), 2, 2, count, count)
-}
-
-fn first_half(edge: u32) -> HalfEdge
-    ensures { result ≡ path.first_half edge }
-{
-    HalfEdge { edge, first: true }
-}
-
-fn second_half(edge: u32) -> HalfEdge
-    ensures { result ≡ path.second_half edge }
-{
-    HalfEdge { edge, first: false }
+    check_left(counters_of(arena), 2, 2, count, count)
 }
 
 /// Point i of some points.
@@ -140,16 +129,16 @@ pub(crate) fn draw_lamina(
         let edge = taken.edges + i as u32;
         let vertex = taken.vertices + 1 + i as u32;
         let next = point_at(corners, i);
-        draft.step_accepted(Op::Mev(end, end, first_half(edge), vertex, next))?;
-        end = Corner::At(second_half(edge));
+        draft.step_accepted(Op::Mev(end, end, HalfEdge::plus(edge), vertex, next))?;
+        end = Corner::At(HalfEdge::minus(edge));
     }
     let last = taken.edges + corners.len() as u32;
-    let turn = second_half(last - 1);
-    let start = first_half(taken.edges + 1);
+    let turn = HalfEdge::minus(last - 1);
+    let start = HalfEdge::plus(taken.edges + 1);
     draft.step_accepted(Op::Mef(
         turn,
         start,
-        first_half(last),
+        HalfEdge::plus(last),
         taken.faces + 2,
         taken.loops + 2,
     ))

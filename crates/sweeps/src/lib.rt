@@ -3,7 +3,6 @@
 
 mod blocks;
 mod corners;
-mod fresh;
 mod laminas;
 mod raising;
 mod sweeping;

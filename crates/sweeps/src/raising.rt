@@ -14,12 +14,11 @@ ghost use Rattle.shapes.specs.Prism as prism;
 ghost use Rattle.shapes.specs.Prism.{prism_refusal, prism_model};
 ghost use Rattle.sweeps_laws.specs.prism.SweepOps as ops;
 ghost use Rattle.sweeps_laws.specs.prism.Ready.{Ready};
-ghost use Rattle.sweeps.specs.Counters.{taken_of};
+ghost use Rattle.solid_walks.specs.Counters.{taken_of};
 
-use crate::fresh::{Counters, counters_of};
 use euler_conditions::Arena;
 use euler_operators::{Content, Corner, HalfEdge, Kind, Op, Point, sum};
-use solid_walks::{face_loops, items_from, minus, plus};
+use solid_walks::{Counters, counters_of, face_loops, items_from};
 use std::alloc::{AllocError, Global};
 use undo_journal::Draft;
 
@@ -90,7 +89,7 @@ fn raise_item(
 {
     let arena = draft.arena();
     let top = sum(arena.point(arena.tail(item)), d);
-    let edge = plus(riser(taken, i));
+    let edge = HalfEdge::plus(riser(taken, i));
     let vertex = taken.vertices + 1 + i;
     draft.step_accepted(Op::Mev(Corner::At(item), Corner::At(item), edge, vertex, top))
 }
@@ -105,9 +104,9 @@ fn close_side(draft: &mut Draft, taken: &Counters, count: u32, i: u32) -> Result
     ensures ok { OnOk result (draft.new ≡ draft_step draft.old (ops.close (taken_of taken.now) count i)) }
     ensures err { OnErr result (draft.new ≡ draft.old) }
 {
-    let from = minus(riser(taken, i));
-    let to = minus(riser(taken, i + 1));
-    let top = plus(top_edge(taken, count, i));
+    let from = HalfEdge::minus(riser(taken, i));
+    let to = HalfEdge::minus(riser(taken, i + 1));
+    let top = HalfEdge::plus(top_edge(taken, count, i));
     draft.step_accepted(Op::Mef(from, to, top, taken.faces + 1 + i, taken.loops + 1 + i))
 }
 
@@ -122,9 +121,9 @@ fn close_last(draft: &mut Draft, taken: &Counters, count: u32) -> Result<(), All
     ensures err { OnErr result (draft.new ≡ draft.old) }
 {
     let last = count - 1;
-    let from = minus(riser(taken, last));
-    let to = plus(top_edge(taken, count, 0));
-    let top = plus(top_edge(taken, count, last));
+    let from = HalfEdge::minus(riser(taken, last));
+    let to = HalfEdge::plus(top_edge(taken, count, 0));
+    let top = HalfEdge::plus(top_edge(taken, count, last));
     draft.step_accepted(Op::Mef(
         from,
         to,

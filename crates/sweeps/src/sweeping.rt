@@ -8,10 +8,10 @@ ghost use Rattle.undo_journal.specs.Machine.{held, accepted};
 ghost use Rattle.shapes.specs.Prism.{prism_refusal, prism_model};
 
 use crate::corners::{face_tally, lone_loop};
-use crate::fresh::{check_left, counters_of, is_number, refused};
 use crate::raising::raise;
 use euler_conditions::Arena;
-use euler_operators::{Kind, Point, Refusal, Why};
+use euler_operators::{Kind, Point, Refusal, Why, is_number, refused};
+use solid_walks::{check_left, counters_of};
 use std::alloc::Global;
 use undo_journal::{Draft, Failure, Session};
 
@@ -49,8 +49,8 @@ fn check_sweep(arena: &Arena, f: u32, d: Point) -> Result<(), Refusal>
     if tally.far > 0 {
         return refused(Why::PointRange, tally.far);
     }
-    let count = tally.count;
-    check_left(&counters_of(arena), count, count, 2 * count, count)
+    let count = tally.count as usize;
+    check_left(counters_of(arena), count, count, 2 * count, count)
 }
 
 /// A sweep as one command: face f moves along d. At each corner of its loops a new edge rises to a new vertex, and each edge of

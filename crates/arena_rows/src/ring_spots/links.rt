@@ -6,6 +6,7 @@ ghost use Rattle.boundary_model.specs.HalfEdge.{plus, minus};
 ghost use Rattle.arena_rows.specs.ring_spots.Spots.{live, ring, labelled, woken, asleep, spliced_at, retailed, AreRings};
 ghost use Rattle.arena_rows.specs.ring_spots.Last.{IsLast, is_edge};
 
+use boundary_model::{HALF_EDGE_CODES, NUMBER_LIMIT};
 use raw_ring::Rings;
 use std::alloc::AllocError;
 
@@ -13,7 +14,7 @@ use std::alloc::AllocError;
 pub(crate) fn has_edge(rings: &Rings, e: u32) -> bool
     ensures { result ≡ nat_le e 1000000 && is_some (spot rings.now (plus e)) }
 {
-    e <= 1_000_000 && rings.is_live(2 * e)
+    e <= NUMBER_LIMIT && rings.is_live(2 * e)
 }
 
 /// The greatest live edge, or 0 where none is live. No edge above e is.
@@ -35,7 +36,7 @@ pub(crate) fn last_from(rings: &Rings, e: u32) -> u32
 pub(crate) fn has_edge_room(rings: &Rings, e: u32) -> bool
     ensures { result ≡ nat_le e 1000000 && (nat_lt 0 e && (contains_key rings.now (plus e) && contains_key rings.now (minus e))) }
 {
-    e <= 1_000_000 && (0 < e && (rings.has_room(2 * e) && rings.has_room(2 * e + 1)))
+    e <= NUMBER_LIMIT && (0 < e && (rings.has_room(2 * e) && rings.has_room(2 * e + 1)))
 }
 
 /// Wakes both half-edges of an edge.
@@ -70,7 +71,7 @@ pub(crate) fn relabel(rings: &mut Rings, from: u32, l: u32)
     ensures known { contains_key rings.new ≡ contains_key rings.old }
 {
     let mut h = from;
-    'round: for _ in 0..2_000_002u32 {
+    'round: for _ in 0..HALF_EDGE_CODES {
         rings.set_label(h, l);
         h = rings.next(h);
         if h == from {

@@ -56,29 +56,6 @@ all_passed xs (Err r) is e = absurd (true≢false e)
 number_fits : (n : ℕ) → is_number n ≡ true → n ≤ 1000000
 number_fits n e = grind (arith, nat_tests)
 
--- no number in use passes the limit
-greatest_fits : {X : Type 0} (t : Table X) → NumbersFit t → greatest t ≤ 1000000
-greatest_fits t fits = elim (cases_eq (greatest t) 0) [ inl z ↦ omega (arith, z) | inr n ↦ number_fits (greatest t) (fits (greatest t) (greatest_used t n)) ]
-
-fits_zero : (n : ℕ) → n ≤ 1000000 → nat_le (n + 0) 1000000 ≡ true
-fits_zero n l = grind (arith, nat_tests)
-
--- an edge is left but where the greatest is the last
-module _ (M : Model) (sound : Sound M) where
-  left_is : (b : Bool) → nat_le (greatest M.edges + 1) 1000000 ≡ b → first_refusal (numbers_left (taken_in M) 0 0 1 0) ≡ cond b None (Some (record { why = NumbersSpent; number = 4 }))
-  unfolding taken_in
-  left_is b e =
-      ap (λ x. cond x (first_refusal (need (nat_le (greatest M.loops + 0) 1000000) NumbersSpent 3 ∷ need (nat_le (greatest M.edges + 1) 1000000) NumbersSpent 4 ∷ need (nat_le (greatest M.vertices + 0) 1000000) NumbersSpent 5 ∷ [])) (Some (record { why = NumbersSpent; number = 2 }))) (fits_zero (greatest M.faces) (greatest_fits M.faces sound.faces_fit))
-      ∙ ap (λ x. cond x (first_refusal (need (nat_le (greatest M.edges + 1) 1000000) NumbersSpent 4 ∷ need (nat_le (greatest M.vertices + 0) 1000000) NumbersSpent 5 ∷ [])) (Some (record { why = NumbersSpent; number = 3 }))) (fits_zero (greatest M.loops) (greatest_fits M.loops sound.loops_fit))
-      ∙ ap (λ x. cond x (first_refusal (need (nat_le (greatest M.vertices + 0) 1000000) NumbersSpent 5 ∷ [])) (Some (record { why = NumbersSpent; number = 4 }))) e
-      ∙ ap (λ x. cond b (cond x None (Some (record { why = NumbersSpent; number = 5 }))) (Some (record { why = NumbersSpent; number = 4 }))) (fits_zero (greatest M.vertices) (greatest_fits M.vertices sound.vertices_fit))
-
-  pub none_left : greatest M.edges ≡ 1000000 → verdict (first_refusal (numbers_left (taken_in M) 0 0 1 0)) ≡ Err (record { why = NumbersSpent; number = 4 })
-  none_left e = ap verdict (left_is false (grind (arith, nat_tests)))
-
-  pub one_left : (greatest M.edges ≡ 1000000 → ⊥) → verdict (first_refusal (numbers_left (taken_in M) 0 0 1 0)) ≡ Ok tt
-  one_left ne = ap verdict (left_is true (let l : greatest M.edges ≤ 1000000 = greatest_fits M.edges sound.edges_fit in grind (arith, nat_tests)))
-
 both : (a b : Bool) → a && b ≡ true → (a ≡ true) × (b ≡ true)
 both true true e = (refl, refl)
 both true false e = absurd (true≢false (sym e))

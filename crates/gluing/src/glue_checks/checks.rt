@@ -1,32 +1,19 @@
 //! The conditions of a glue, in the order in which they are tested.
-ghost use Rattle.std.specs.Prelude.{◌≡◌, true, false, Err, IfOk};
-ghost use Rattle.euler_operators.specs.Model.{content, is_number, outer};
+ghost use Rattle.std.specs.Prelude.{◌≡◌, true, false, IfOk};
+ghost use Rattle.euler_operators.specs.Model.{content, outer};
 ghost use Rattle.euler_conditions.specs.Ready.{IsReady};
 ghost use Rattle.euler_operators.specs.Conditions.{first_refusal, has_rings, is_lone, verdict};
 ghost use Rattle.euler_conditions.specs.Store.{has_number};
-ghost use Rattle.shapes.specs.Fresh.{numbers_left, taken_in};
 ghost use Rattle.shapes.specs.glue.Glue.{glue_refusal};
 ghost use Rattle.gluing.specs.glue_checks.Conditions.{face_conditions, outline_conditions, solid_conditions};
 
 use crate::glue_checks::outlines::{backwards, has_repeats, is_rotation};
 use crate::glue_checks::rims::outline;
 use euler_conditions::Arena;
-use euler_operators::{Kind, Refusal, Why};
+use euler_operators::{Kind, Refusal, Why, is_number, refused};
 use solid_measure::{least_bent_of_both, least_lone_of_both};
+use solid_walks::{check_left, counters_of};
 use std::alloc::{AllocError, Global};
-
-/// A refusal.
-fn refused(why: Why, number: u32) -> Result<(), Refusal>
-    ensures { result ≡ Err (record { why = why; number = number }) }
-{
-    Err(Refusal { why, number })
-}
-
-fn is_number(n: u32) -> bool
-    ensures { result ≡ is_number n }
-{
-    1 <= n && n <= 1_000_000
-}
 
 /// Whether face f has a ring.
 #[tactic(auto, unfolding(euler_operators::specs::Conditions::has_rings))]
@@ -109,17 +96,6 @@ fn check_outlines(
     Ok(Ok(()))
 }
 
-/// Whether one more edge number stays within the limit.
-fn check_left(arena: &Arena) -> Result<(), Refusal>
-    requires { IsReady arena.now }
-    ensures { result ≡ verdict (first_refusal (numbers_left (taken_in arena.now.model) 0 0 1 0)) }
-{
-    if arena.greatest(Kind::Edge) == 1_000_000 {
-        return refused(Why::NumbersSpent, 4);
-    }
-    Ok(())
-}
-
 /// Whether face g can be glued to face f.
 ///
 /// Refused, in this order: NumberRange; NoFace; SameSolid with the solid; HasRings with the face; LoneLoop with the least lone
@@ -150,5 +126,5 @@ pub(crate) fn check_glue(
     if outlines.is_err() {
         return Ok(outlines);
     }
-    Ok(check_left(arena))
+    Ok(check_left(counters_of(arena), 0, 0, 1, 0))
 }

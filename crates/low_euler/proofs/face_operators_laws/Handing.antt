@@ -90,13 +90,6 @@ start s n = ap (λ t. record s { model = record s.model { faces = t } }) (same_t
   go None = refl
   go (Some row) = refl
 
--- the faces of a solid are those whose rows name it
-pub all_given : (M : Model) (s t : ℕ) → map_rows (given (faces_of M t) s) M.faces ≡ map_rows (faces_to_solid (λ _ row. nat_eq row.solid t) s) M.faces
-all_given M s t = same_table _ _ (λ q. get-map_rows (given (faces_of M t) s) M.faces q ∙ go q (table.get M.faces q) refl ∙ sym (get-map_rows (faces_to_solid (λ _ row. nat_eq row.solid t) s) M.faces q)) where
-  go : (q : ℕ) (o : Option FaceRow) → table.get M.faces q ≡ o → option_map (given (faces_of M t) s q) o ≡ option_map (faces_to_solid (λ _ row. nat_eq row.solid t) s q) o
-  go q None e = refl
-  go q (Some row) e = ap (λ b. Some (cond b (record row { solid = s }) row)) (listed_as (λ _ r. nat_eq r.solid t) M.faces q row e)
-
 -- the listed faces of part are there
 hold_right : (cs ds : List Condition) → AllHold (cs ++ ds) → AllHold ds
 hold_right [] ds h = h

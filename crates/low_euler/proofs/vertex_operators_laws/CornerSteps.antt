@@ -15,7 +15,8 @@ use Rattle.euler_laws.proofs.mev.MevSound.{MevGoes}
 use Rattle.euler_laws.proofs.mev.Mev.{mev_goes}
 use Rattle.euler_conditions.specs.Store.{Store, put_vertex}
 use Rattle.euler_conditions.specs.Ready.{Accepts, after}
-use Rattle.low_euler.specs.vertex_operators.Steps.{IsPlaced, HasLoop, IsAlone, with_edge, put_before, with_tails_at}
+use Rattle.low_euler.specs.loop_steps.Steps.{with_edge}
+use Rattle.low_euler.specs.vertex_operators.Steps.{IsPlaced, HasLoop, IsAlone, put_before, with_tails_at}
 use Rattle.low_euler.proofs.vertex_operators_laws.StoreSteps.{placed_of, placed-same, loop-same, placed-edge, loops_E, alone-first, alone-second, placed-put, loop-put, alone-put}
 use Rattle.low_euler.proofs.vertex_operators_laws.LoneSteps.{loose_again}
 use Rattle.low_euler.proofs.vertex_operators_laws.Tails.{loops-tails, loose-tails, half-tails, free-tails}

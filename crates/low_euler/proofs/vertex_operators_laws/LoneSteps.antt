@@ -26,7 +26,8 @@ use Rattle.euler_laws.proofs.mev.Mev.{lone_goes}
 use Rattle.euler_conditions.specs.Store.{Store, put_vertex, fill, with_loop, join, join_loose, join_loops, loose_key, loose_ring}
 use Rattle.euler_conditions.specs.Ready.{Accepts, after}
 use Rattle.low_euler.proofs.vertex_operators_laws.PutRows.{put_twice, put_row, put_other}
-use Rattle.low_euler.specs.vertex_operators.Steps.{IsPlaced, IsAlone, with_edge}
+use Rattle.low_euler.specs.loop_steps.Steps.{with_edge}
+use Rattle.low_euler.specs.vertex_operators.Steps.{IsPlaced, IsAlone}
 use Rattle.low_euler.proofs.vertex_operators_laws.StoreSteps.{placed_of, placed-same, content-same, in_none, none_in, alone_key, alone_still, placed-edge, loops_E, alone-first, alone-second}
 
 both_gone : {X : Type 0} (h m : ℕ) (x y : X) → table.remove (table.remove (table.put (table.put (table.empty {X = X}) h x) m y) h) m ≡ table.empty

@@ -24,7 +24,8 @@ use Rattle.euler_laws.proofs.shared.Loops as loops
 use Rattle.euler_laws.proofs.shared.Same.{Rewritten, content-new, face-same}
 use Rattle.euler_laws.proofs.shared.Same as same
 use Rattle.euler_conditions.specs.Store.{Store, loose_key, loose_ring, loosened, with_loop, join, join_loose, join_loops, cut, cut_loose, clear}
-use Rattle.low_euler.specs.vertex_operators.Steps.{IsPlaced, HasLoop, IsAlone, with_edge, put_before, taken_out}
+use Rattle.low_euler.specs.loop_steps.Steps.{with_edge}
+use Rattle.low_euler.specs.vertex_operators.Steps.{IsPlaced, HasLoop, IsAlone, put_before, taken_out}
 use Rattle.low_euler.proofs.vertex_operators_laws.RingSteps.{joined_before, cut_keeps, cut_takes, whole_ring, without_whole}
 
 -- ---- placed models

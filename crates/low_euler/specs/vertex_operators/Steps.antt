@@ -3,11 +3,10 @@ use Rattle.std.specs.Prelude.{◌≡◌, ℕ, List, [], ◌∷◌, Some, None}
 use Rattle.euler_operators.specs.Items.{IsIn, IsApart}
 use Rattle.euler_operators.specs.Rings.{canonical}
 use Rattle.euler_operators.specs.Edits.{without}
-use Rattle.euler_operators.specs.HalfEdge.{mate, edge_of}
 use Rattle.euler_operators.specs.Table as table
 use Rattle.euler_operators.specs.Model.{Model, cycle, items_of, content, loop_of}
 use Rattle.euler_operators.specs.Sound.{StandsIn, HasHalf}
-use Rattle.euler_operators.specs.Effect.{edge_row, where_held, with_before, with_tails}
+use Rattle.euler_operators.specs.Effect.{where_held, with_before, with_tails}
 use Rattle.euler_conditions.specs.Store.{Store}
 
 -- loops hold half-edges of edges that are there, each once and in one loop only, and 0 is no loop
@@ -27,13 +26,6 @@ pub record IsAlone (s : Store) (h : ℕ) : Type 0 where
   pub no_loop : loop_of s.model h ≡ 0
   pub ring : table.get s.loose h ≡ Some (h ∷ [])
   pub only : (k : ℕ) (hs : List ℕ) → table.get s.loose k ≡ Some hs → IsIn h hs → k ≡ h
-
--- the edge of h, from one vertex to another; its half-edges stand alone
-unfoldable pub with_edge : Store → ℕ → ℕ → ℕ → Store
-with_edge s h from to = record s {
-  model = record s.model { edges = table.put s.model.edges (edge_of h) (edge_row h from to) };
-  loose = table.put (table.put s.loose h (h ∷ [])) (mate h) (mate h ∷ []);
-}
 
 -- h, which stood alone, is put before g in its loop
 unfoldable pub put_before : Store → ℕ → ℕ → Store

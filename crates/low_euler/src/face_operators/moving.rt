@@ -1,6 +1,5 @@
 //! Operators that move faces from one solid to another.
 ghost use Rattle.std.specs.Prelude.{◌≡◌, ℕ, true};
-ghost use Rattle.euler_operators.specs.Model.{faces_of};
 ghost use Rattle.euler_conditions.specs.Store.{has_number, has_room};
 ghost use Rattle.euler_operators.specs.Conditions.{lists};
 ghost use Rattle.euler_conditions.specs.Ready.{Accepts, after};
@@ -20,15 +19,17 @@ fn give_faces(arena: &mut Arena, faces: &FaceList, s: u32)
     }
 }
 
-/// All faces of solid `gone` go to solid `kept`, and `gone` goes. `faces` lists the faces of `gone`, rising.
-pub(crate) fn merge(arena: &mut Arena, kept: u32, gone: u32, faces: &FaceList)
-    requires accepted { Accepts arena.old (Op.Merge kept gone) }
-    requires listed { faces.now ≡ faces_of arena.old.model gone }
+/// All faces of solid `gone` go to solid `kept`, the least first, and `gone` goes. It looks at these faces and at those of `kept`
+/// between them.
+pub(crate) fn merge(arena: &mut Arena, kept: u32, gone: u32)
+    requires { Accepts arena.old (Op.Merge kept gone) }
     ensures { arena.new ≡ after arena.old (Op.Merge kept gone) }
 {
     // a number in use has its room
     let _in_use = arena.has(Kind::Solid, kept);
-    give_faces(arena, faces, kept);
+    'faces: while let Some(face) = arena.face_after(gone, 0) {
+        arena.set_solid(face, kept);
+    }
     arena.take_solid(gone);
 }
 

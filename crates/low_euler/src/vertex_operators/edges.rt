@@ -2,6 +2,8 @@
 ghost use Rattle.std.specs.Prelude.{◌≡◌};
 ghost use Rattle.euler_conditions.specs.Ready.{Accepts, after};
 
+use crate::loop_steps::put_edge;
+use crate::reading;
 use crate::vertex_operators::steps;
 use euler_conditions::Arena;
 use euler_operators::{Corner, HalfEdge, Op, Point};
@@ -38,9 +40,9 @@ fn mev_lone(arena: &mut Arena, l: u32, half: HalfEdge, vertex: u32, point: Point
     requires { Accepts arena.old (Op.Mev (Corner.Lone l) (Corner.Lone l) half vertex point) }
     ensures { arena.new ≡ after arena.old (Op.Mev (Corner.Lone l) (Corner.Lone l) half vertex point) }
 {
-    let old = steps::lone_vertex(arena, l);
+    let old = reading::lone_vertex(arena, l);
     arena.put_vertex(vertex, point);
-    steps::put_edge(arena, half, old, vertex);
+    put_edge(arena, half, old, vertex);
     arena.fill(l, half);
     arena.join(half, half.mate());
 }
@@ -60,7 +62,7 @@ fn mev_at(
     let old = arena.tail(from);
     steps::move_tails(arena, from, to, vertex);
     arena.put_vertex(vertex, point);
-    steps::put_edge(arena, half, old, vertex);
+    put_edge(arena, half, old, vertex);
     steps::put_half(arena, from, half);
     steps::put_half(arena, to, half.mate());
 }

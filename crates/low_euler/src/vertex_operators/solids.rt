@@ -2,7 +2,7 @@
 ghost use Rattle.std.specs.Prelude.{◌≡◌};
 ghost use Rattle.euler_conditions.specs.Ready.{Accepts, after};
 
-use crate::vertex_operators::steps;
+use crate::reading;
 use euler_conditions::Arena;
 use euler_operators::{Op, Point};
 
@@ -29,7 +29,7 @@ pub(crate) fn kvfs(arena: &mut Arena, solid: u32)
         unreachable!()
     };
     let outer = arena.outer(face);
-    let vertex = steps::lone_vertex(arena, outer);
+    let vertex = reading::lone_vertex(arena, outer);
     arena.take_vertex(vertex);
     arena.take_loop(outer);
     arena.take_face(face);

@@ -1,41 +1,13 @@
 //! The steps of which the operators are made: half-edges that go into a loop or leave one, and tails that move.
 //! A store between two steps isn't sound, so each step asks only for what it stands on.
-ghost use Rattle.std.specs.Prelude.{◌≡◌, true, false};
+ghost use Rattle.std.specs.Prelude.{◌≡◌};
 ghost use Rattle.euler_operators.specs.HalfEdge.{code};
-ghost use Rattle.euler_operators.specs.Model.{arc, content, tail};
+ghost use Rattle.euler_operators.specs.Model.{arc, tail};
 ghost use Rattle.euler_operators.specs.Sound.{Sound, HasHalf};
-ghost use Rattle.euler_conditions.specs.Store.{has_number, has_room};
-ghost use Rattle.euler_operators.specs.Conditions.{is_lone, lone_vertex};
-ghost use Rattle.low_euler.specs.vertex_operators.Steps.{IsPlaced, HasLoop, IsAlone, with_edge, put_before, taken_out, with_tails_at};
+ghost use Rattle.low_euler.specs.vertex_operators.Steps.{IsPlaced, HasLoop, IsAlone, put_before, taken_out, with_tails_at};
 
 use euler_conditions::Arena;
-use euler_operators::{Content, HalfEdge, Kind};
-
-/// The vertex of loop l, which is there and lone.
-pub(crate) fn lone_vertex(arena: &Arena, l: u32) -> u32
-    requires there { has_number arena.now Kind.Loop l ≡ true }
-    requires lone { is_lone (content arena.now.model l) ≡ true }
-    ensures { result ≡ lone_vertex (content arena.now.model l) }
-{
-    match arena.content(l) {
-        Content::Lone(vertex) => vertex,
-        Content::Ring(_) => unreachable!(),
-    }
-}
-
-/// Makes the edge of `half`, whose number is free and has its room: `half` starts at `start`, its mate at `end`.
-/// Both stand alone then.
-pub(crate) fn put_edge(arena: &mut Arena, half: HalfEdge, start: u32, end: u32)
-    requires room { has_room arena.old Kind.Edge half.edge ≡ true }
-    requires free { has_number arena.old Kind.Edge half.edge ≡ false }
-    ensures { arena.new ≡ with_edge arena.old (code half) start end }
-{
-    if half.first {
-        arena.put_edge(half.edge, start, end);
-    } else {
-        arena.put_edge(half.edge, end, start);
-    }
-}
+use euler_operators::HalfEdge;
 
 /// Puts `half`, which stands alone, before `corner` in the loop of that. It costs the same for every loop.
 pub(crate) fn put_half(arena: &mut Arena, corner: HalfEdge, half: HalfEdge)

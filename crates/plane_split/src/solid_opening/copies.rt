@@ -9,9 +9,8 @@ ghost use Rattle.split_checks.specs.Progress.{taken_of};
 ghost use Rattle.split_opening_laws.specs.strips.StripOps as ops;
 ghost use Rattle.plane_split.specs.solid_opening.Stages.{AreStripped};
 
-use crate::solid_opening::halves::start;
 use euler_operators::{Corner, HalfEdge, Op};
-use solid_walks::{minus, plus};
+use solid_walks::start;
 use split_checks::Progress;
 use std::alloc::AllocError;
 use undo_journal::Draft;
@@ -41,9 +40,9 @@ fn raise_copy(
     ensures err { OnErr result (draft.new ≡ draft.old) }
 {
     let count = halves.len() as u32;
-    let back = minus(from.edges + i + 1);
+    let back = HalfEdge::minus(from.edges + i + 1);
     let before = halves[place_before(count, i) as usize].mate();
-    let riser = plus(from.edges + count + i + 1);
+    let riser = HalfEdge::plus(from.edges + count + i + 1);
     let point = start(draft.arena(), halves[i as usize]);
     draft.step_accepted(Op::Mev(
         Corner::At(back),

@@ -1,11 +1,11 @@
 //! What an arena says of half-edges.
 ghost use Rattle.std.specs.Prelude.{◌≡◌, true};
 ghost use Rattle.euler_operators.specs.HalfEdge.{code};
-ghost use Rattle.euler_operators.specs.Model.{after, has_half, point_of, tail};
+ghost use Rattle.euler_operators.specs.Model.{after, has_half};
 ghost use Rattle.euler_conditions.specs.Ready.{IsReady};
 
 use euler_conditions::Arena;
-use euler_operators::{HalfEdge, Point};
+use euler_operators::HalfEdge;
 
 /// The item after the half-edge in its loop.
 pub(crate) fn next_item(arena: &Arena, h: HalfEdge) -> HalfEdge
@@ -14,13 +14,4 @@ pub(crate) fn next_item(arena: &Arena, h: HalfEdge) -> HalfEdge
     ensures { code result ≡ after arena.now.model (code h) }
 {
     arena.next(h)
-}
-
-/// The point at which the half-edge starts.
-pub(crate) fn start(arena: &Arena, h: HalfEdge) -> Point
-    requires ready { IsReady arena.now }
-    requires there { has_half arena.now.model (code h) ≡ true }
-    ensures { result ≡ point_of arena.now.model (tail arena.now.model (code h)) }
-{
-    arena.point(arena.tail(h))
 }

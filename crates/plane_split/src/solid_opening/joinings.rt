@@ -4,8 +4,7 @@ ghost use Rattle.euler_laws.specs.Laws.{AreAccepted, effects};
 ghost use Rattle.split_checks.specs.Progress.{taken_of};
 ghost use Rattle.split_opening_laws.specs.caps.CapOps.{cap_ops, joinings};
 
-use euler_operators::Op;
-use solid_walks::{minus, plus};
+use euler_operators::{HalfEdge, Op};
 use split_checks::Progress;
 use std::alloc::AllocError;
 use undo_journal::Draft;
@@ -23,7 +22,7 @@ fn join_strips(draft: &mut Draft, from: &Progress, count: u32) -> Result<(), All
     let mut riser = from.edges + count + 1;
     'risers: while riser < last {
         riser += 1;
-        draft.step_accepted(Op::Kef(minus(riser)))?;
+        draft.step_accepted(Op::Kef(HalfEdge::minus(riser)))?;
     }
     Ok(())
 }
@@ -40,6 +39,6 @@ pub(crate) fn make_caps(draft: &mut Draft, from: &Progress, count: u32) -> Resul
 {
     join_strips(draft, from, count)?;
     let ring = from.loops + count + 1;
-    draft.step_accepted(Op::Kemr(plus(from.edges + count + 1), ring))?;
+    draft.step_accepted(Op::Kemr(HalfEdge::plus(from.edges + count + 1), ring))?;
     draft.step_accepted(Op::Mfkrh(ring, from.faces + count + 1))
 }

@@ -11,7 +11,6 @@ ghost use Rattle.plane_split.specs.solid_opening.Stages.{CanOpen};
 
 use crate::solid_opening::halves::next_item;
 use euler_operators::{HalfEdge, Op};
-use solid_walks::plus;
 use split_checks::Progress;
 use std::alloc::AllocError;
 use undo_journal::Draft;
@@ -34,7 +33,7 @@ fn cut_strip(
 {
     let mate = halves[i as usize].mate();
     let next = next_item(draft.arena(), mate);
-    let edge = plus(from.edges + i + 1);
+    let edge = HalfEdge::plus(from.edges + i + 1);
     draft.step_accepted(Op::Mef(mate, next, edge, from.faces + i + 1, from.loops + i + 1))
 }
 

@@ -9,12 +9,9 @@ ghost use Rattle.shapes.specs.Faces.{loops_of};
 ghost use Rattle.solid_measure.specs.solid_counts.Sums.{IsFew, half_met, halves_met, loop_met, loops_met, together};
 
 use crate::solid_counts::Met;
-use euler_conditions::Arena;
-use euler_operators::{Content, HalfEdge, Kind};
-use solid_walks::{leads, next, same};
-
-/// More than the half-edges that an arena can have.
-const HALVES: u32 = 2_000_002;
+use euler_conditions::{Arena, next, same};
+use euler_operators::{Content, HALF_EDGE_CODES, HalfEdge, Kind};
+use solid_walks::leads;
 
 /// What two walks have counted together.
 pub(crate) fn together(a: Met, b: Met) -> Met
@@ -51,7 +48,7 @@ fn ring_met(arena: &Arena, l: u32, first: HalfEdge) -> Met
         edges: 0,
     };
     let mut h = first;
-    'round: for _ in 0..HALVES {
+    'round: for _ in 0..HALF_EDGE_CODES {
         sum = together(sum, half_met(arena, h));
         h = next(arena, h);
         if same(h, first) {

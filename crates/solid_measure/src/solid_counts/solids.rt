@@ -1,6 +1,6 @@
 //! Counts of a solid by number.
 ghost use Rattle.std.specs.Prelude.{◌≡◌, length, true};
-ghost use Rattle.euler_operators.specs.Model.{faces_of, is_number};
+ghost use Rattle.euler_operators.specs.Model.{faces_of};
 ghost use Rattle.euler_conditions.specs.Ready.{IsReady};
 ghost use Rattle.solid_measure.specs.solid_counts.Counts.{answer, counts, rings_in, solid_refusal};
 ghost use Rattle.shapes.specs.Walks.{loops_in};
@@ -9,14 +9,7 @@ ghost use Rattle.solid_measure.specs.solid_counts.Sums.{loops_met};
 use crate::solid_counts::loops::{face_met, together};
 use crate::solid_counts::{Met, Tally};
 use euler_conditions::Arena;
-use euler_operators::{Kind, Refusal, Why};
-
-/// Whether the number lies from 1 to the limit.
-fn is_number(n: u32) -> bool
-    ensures { result ≡ is_number n }
-{
-    1 <= n && n <= 1_000_000
-}
+use euler_operators::{Kind, Refusal, Why, is_number};
 
 /// The refusal of a query about solid s, if there is one: NumberRange, then NoSolid.
 pub(crate) fn refusal_of_solid(arena: &Arena, s: u32) -> Option<Refusal>

@@ -12,11 +12,11 @@ ghost use Rattle.shapes.specs.split.Split.{first_conditions};
 
 use crate::begin_checks::crossed::{Flaw, first_flawed, pair_count};
 use crate::begin_checks::crossings::least_off;
-use crate::begin_checks::numbers::{TOO_MANY, check_left, is_number, refused};
+use crate::begin_checks::numbers::{TOO_MANY, check_left};
 use crate::begin_checks::planes::check_plane;
 use crate::cut_places::{crossings, solid_reaches, straddling};
 use euler_conditions::Arena;
-use euler_operators::{Kind, Plane, Refusal, Sign, Why};
+use euler_operators::{Kind, Plane, Refusal, Sign, Why, is_number, refused};
 use solid_measure::{least_bent, least_lone};
 use std::alloc::{AllocError, Global};
 

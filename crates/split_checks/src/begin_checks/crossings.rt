@@ -5,9 +5,9 @@ ghost use Rattle.euler_operators.specs.Ranges.{IsCutPlane};
 ghost use Rattle.solid_measure.specs.solid_checks.Least.{least_such, lesser};
 ghost use Rattle.split_checks.specs.cut_places.Crossings.{AreCrossing, IsCrossing, is_off};
 
-use crate::cut_places::{finish, start};
 use euler_conditions::Arena;
 use euler_operators::{HalfEdge, Plane, cut_point};
+use solid_walks::{finish, start};
 
 /// Whether an edge that crosses the plane meets it off the lattice.
 fn is_off(arena: &Arena, plane: Plane, e: u32) -> bool

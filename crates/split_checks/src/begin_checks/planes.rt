@@ -5,8 +5,7 @@ ghost use Rattle.euler_operators.specs.Points.{is_coordinate};
 ghost use Rattle.euler_operators.specs.Vectors.{direction, is_offset, origin, same_point};
 ghost use Rattle.shapes.specs.split.Split.{plane_in_range};
 
-use crate::begin_checks::numbers::refused;
-use euler_operators::{Plane, Refusal, Why};
+use euler_operators::{Plane, Refusal, Why, refused};
 
 /// Whether a number of a plane is in the range of coordinates.
 fn is_coordinate(n: i128) -> bool

@@ -11,10 +11,11 @@ ghost use Rattle.split_checks.specs.cut_places.Crossings.{crossings_in, crossing
 ghost use Rattle.split_checks.specs.cut_places.Walks.{AreThere};
 ghost use Rattle.shapes.specs.split.Sides.{crosses};
 
-use crate::cut_places::halves::{crosses, finish, start};
+use crate::cut_places::halves::crosses;
 use crate::cut_places::loops::boundary;
 use euler_conditions::Arena;
 use euler_operators::{HalfEdge, Kind, Plane, Point, cut_point};
+use solid_walks::{finish, start};
 use std::alloc::{AllocError, Global};
 
 /// The edge of the half-edge.

@@ -3,7 +3,6 @@ ghost use Rattle.std.specs.Prelude.{◌≡◌, true, ◌&&◌, not};
 ghost use Rattle.euler_operators.specs.HalfEdge.{code};
 ghost use Rattle.euler_operators.specs.Model.{before, has_half};
 ghost use Rattle.euler_conditions.specs.Ready.{IsReady};
-ghost use Rattle.euler_operators.specs.Points.{IsInRange};
 ghost use Rattle.euler_operators.specs.Ranges.{IsCutPlane};
 ghost use Rattle.euler_operators.specs.Vectors.{are_opposite, is_on};
 ghost use Rattle.shapes.specs.Faces.{finish, start};
@@ -13,37 +12,8 @@ ghost use Rattle.shapes.specs.split.Sides.{crosses};
 
 use crate::cut_places::planes::{are_opposite, lies};
 use euler_conditions::Arena;
-use euler_operators::{HalfEdge, Plane, Point, Sign};
-
-/// The point at which the half-edge starts.
-pub(crate) fn start(arena: &Arena, h: HalfEdge) -> Point
-    requires ready { IsReady arena.now }
-    requires there { has_half arena.now.model (code h) ≡ true }
-    ensures point { result ≡ start arena.now.model (code h) }
-    ensures range { IsInRange result }
-{
-    arena.point(arena.tail(h))
-}
-
-/// The point at which the half-edge ends.
-pub(crate) fn finish(arena: &Arena, h: HalfEdge) -> Point
-    requires ready { IsReady arena.now }
-    requires there { has_half arena.now.model (code h) ≡ true }
-    ensures point { result ≡ finish arena.now.model (code h) }
-    ensures range { IsInRange result }
-{
-    start(arena, h.mate())
-}
-
-/// The item before the half-edge in its loop.
-fn previous(arena: &Arena, h: HalfEdge) -> HalfEdge
-    requires ready { IsReady arena.now }
-    requires there { has_half arena.now.model (code h) ≡ true }
-    ensures previous { code result ≡ before arena.now.model (code h) }
-    ensures there { has_half arena.now.model (code result) ≡ true }
-{
-    arena.prev(h)
-}
+use euler_operators::{HalfEdge, Plane, Sign};
+use solid_walks::{finish, previous, start};
 
 /// Whether the ends of the half-edge lie strictly on opposite sides of the plane.
 pub(crate) fn crosses(arena: &Arena, plane: Plane, h: HalfEdge) -> bool

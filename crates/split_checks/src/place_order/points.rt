@@ -6,9 +6,10 @@ ghost use Rattle.euler_operators.specs.Ranges.{IsCutPlane};
 ghost use Rattle.split_checks.specs.place_order.Order.{IsWholePlace, key};
 ghost use Rattle.shapes.specs.split.Places.{place_point};
 
-use crate::cut_places::{crossing_point, start, starts_on};
+use crate::cut_places::{crossing_point, starts_on};
 use euler_conditions::Arena;
 use euler_operators::{HalfEdge, Plane, Point};
+use solid_walks::start;
 
 /// The point of a cut place, which is on the lattice.
 pub(crate) fn place_point(arena: &Arena, plane: Plane, h: HalfEdge) -> Point

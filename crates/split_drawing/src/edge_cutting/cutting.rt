@@ -16,7 +16,6 @@ use crate::edge_cutting::fresh::{fresh_edge, fresh_vertex};
 use crate::edge_cutting::rising::rising_crossings;
 use euler_conditions::Arena;
 use euler_operators::{Corner, HalfEdge, Op, Plane};
-use solid_walks::{minus, plus};
 use split_checks::crossing_point;
 use std::alloc::{AllocError, Global};
 use undo_journal::Draft;
@@ -43,9 +42,9 @@ fn cut_edge(draft: &mut Draft, plane: Plane, e: u32) -> Result<(), AllocError>
     ensures err { OnErr result (draft.new ≡ draft.old) }
 {
     let arena = draft.arena();
-    let first = plus(e);
-    let next = next_item(arena, minus(e));
-    let edge = plus(fresh_edge(arena));
+    let first = HalfEdge::plus(e);
+    let next = next_item(arena, HalfEdge::minus(e));
+    let edge = HalfEdge::plus(fresh_edge(arena));
     let vertex = fresh_vertex(arena);
     let point = crossing_point(arena, plane, first);
     draft.step_accepted(Op::Mev(Corner::At(first), Corner::At(next), edge, vertex, point))

@@ -12,9 +12,8 @@ ghost use Rattle.split_sections.specs.section_cycles.Halves.{AreThere, codes};
 ghost use Rattle.split_sections.specs.section_cycles.Starts.{AreStarts};
 
 use crate::section_cycles::starts::{next_half, starts_of};
-use euler_conditions::Arena;
+use euler_conditions::{Arena, same};
 use euler_operators::HalfEdge;
-use solid_walks::same;
 use std::alloc::{AllocError, Global};
 use std::collections::{BTreeMap, BTreeSet};
 

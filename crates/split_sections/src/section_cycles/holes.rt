@@ -1,41 +1,19 @@
 //! Whether a cycle of a section is a hole.
 ghost use Rattle.std.specs.Prelude.{◌≡◌, true, map};
 ghost use Rattle.euler_operators.specs.Points.{IsInRange};
-ghost use Rattle.euler_operators.specs.Ranges.{IsCutPlane, IsVectorWithin, IsWithin, normal_limit};
-ghost use Rattle.euler_operators.specs.Vectors.{cross, direction, dot, moved};
+ghost use Rattle.euler_operators.specs.Ranges.{IsCutPlane, IsVectorWithin, IsWithin};
+ghost use Rattle.euler_operators.specs.Vectors.{dot};
 ghost use Rattle.euler_operators.specs.Items.{IsApart};
 ghost use Rattle.euler_operators.specs.HalfEdge.{code, mate};
-ghost use Rattle.euler_operators.specs.Model.{has_half};
 ghost use Rattle.euler_conditions.specs.Ready.{IsReady};
-ghost use Rattle.shapes.specs.Faces.{finish, start};
-ghost use Rattle.solid_measure.specs.Measure.{area, area_limit};
+ghost use Rattle.solid_measure.specs.Measure.{area, area_limit, read};
 ghost use Rattle.shapes.specs.split.Section.{is_hole};
 ghost use Rattle.split_sections.specs.section_cycles.Halves.{AreThere};
-ghost use Rattle.split_sections.specs.section_cycles.Sums.{read};
 
+use crate::section_edges::direction;
 use euler_conditions::Arena;
-use euler_operators::{HalfEdge, Plane, Point, cross_add, dot};
-
-/// A sum of cross products of points.
-#[derive(Clone, Copy)]
-struct Vector {
-    x: i128,
-    y: i128,
-    z: i128,
-}
-
-/// The vector n plus the cross product of the points at which the half-edge starts and ends.
-fn half_added(arena: &Arena, n: Vector, h: HalfEdge) -> Vector
-    requires ready { IsReady arena.now }
-    requires there { has_half arena.now.model (code h) ≡ true }
-    requires n { IsVectorWithin normal_limit (read n) }
-    ensures { read result ≡ moved (read n) (cross (start arena.now.model (code h)) (finish arena.now.model (code h))) }
-{
-    let from = arena.point(arena.tail(h));
-    let to = arena.point(arena.tail(h.mate()));
-    let [x, y, z] = cross_add([n.x, n.y, n.z], from, to);
-    Vector { x, y, z }
-}
+use euler_operators::{HalfEdge, Plane, Point, dot};
+use solid_measure::{Vector, half_added};
 
 /// The sum of the cross products over the mates of these half-edges.
 fn mates_area(arena: &Arena, halves: &[HalfEdge]) -> Vector
@@ -52,19 +30,6 @@ fn mates_area(arena: &Arena, halves: &[HalfEdge]) -> Vector
         rest = others;
     }
     area
-}
-
-/// The direction of a plane along which points are cut.
-fn direction_of(plane: Plane) -> Point
-    requires { IsCutPlane plane }
-    ensures is { result ≡ direction plane }
-    ensures range { IsInRange result }
-{
-    Point {
-        x: plane.a as i64,
-        y: plane.b as i64,
-        z: plane.c as i64,
-    }
 }
 
 /// The product of a sum of cross products with a direction, at most 3 * 10^34 in magnitude.
@@ -86,5 +51,5 @@ pub(crate) fn is_hole(arena: &Arena, plane: Plane, halves: &[HalfEdge]) -> bool
     requires apart { IsApart (map code halves.now) }
     ensures { result ≡ is_hole arena.now.model plane (map code halves.now) }
 {
-    along(mates_area(arena, halves), direction_of(plane)) < 0
+    along(mates_area(arena, halves), direction(plane)) < 0
 }

@@ -15,7 +15,7 @@ use split_checks::reaches;
 use std::alloc::{AllocError, Global};
 
 /// The direction in which the plane has its above side, as a point in range.
-fn direction(plane: Plane) -> Point
+pub(crate) fn direction(plane: Plane) -> Point
     requires { IsCutPlane plane }
     ensures is { result ≡ direction plane }
     ensures range { IsInRange result }

@@ -1,7 +1,7 @@
 use Rattle.std.proofs.Common.{ap, ◌∙◌}
 use Rattle.euler_operators.specs.Table as table
 use Rattle.low_euler.proofs.Accepted.{kef_has, mate_there}
-use Rattle.low_euler.proofs.Inverses.{kef_inverse}
+use Rattle.low_euler.proofs.Inverses.{half_then, kef_inverse}
 use Rattle.low_euler.proofs.inverse.kef.Goals as goal
 
 pub loop_of-killed-requires-clause-there : goal.loop_of-killed-requires-clause-there
@@ -25,4 +25,4 @@ in_use-requires-2 c =
 
 pub returns-clause-is : goal.returns-clause-is
 returns-clause-is c =
-    kef_inverse c.args.arena.now.model c.args.h c.mate-mate.result c.next-first.result c.next-second.result c.face_of-face.result c.loop_of-killed.result c.mate-mate.ensures c.next-first.ensures c.next-second.ensures c.loop_of-killed.ensures.is c.face_of-face.ensures
+    kef_inverse c.args.arena.now.model c.args.h c.mate-mate.result c.next-first.result c.next-second.result c.face_of-face.result c.loop_of-killed.result c.mate-mate.ensures (half_then c.next-first.result c.next-first.ensures.next) (half_then c.next-second.result c.next-second.ensures.next) c.loop_of-killed.ensures.is c.face_of-face.ensures

@@ -21,7 +21,7 @@ round-init c =
     subst (λ n. AreaRound M l first first n (read c.args.n) (read c.args.n)) (omega arith) (area_start M c.requires.ready.sound l first item (read c.args.n))
 
 pub half_added-sum-requires-clause-there : goal.half_added-sum-requires-clause-there
-half_added-sum-requires-clause-there c = edge_there c.args.arena.now.model c.round.h c.round.invariant.round.there
+half_added-sum-requires-clause-there c = c.round.invariant.round.there
 
 pub half_added-sum-requires-clause-n : goal.half_added-sum-requires-clause-n
 half_added-sum-requires-clause-n c =

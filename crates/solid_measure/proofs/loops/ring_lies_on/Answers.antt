@@ -14,7 +14,7 @@ round-init c =
     subst (FlatRound M c.args.plane l first first) (omega arith) (flat_start M c.requires.ready.sound c.args.plane l first c.requires.item)
 
 pub start-requires-clause-there : goal.start-requires-clause-there
-start-requires-clause-there c = edge_there c.args.arena.now.model c.round.h c.round.invariant.round.there
+start-requires-clause-there c = c.round.invariant.round.there
 
 pub returns-then-not-lies_on : goal.returns-then-not-lies_on
 returns-then-not-lies_on c =

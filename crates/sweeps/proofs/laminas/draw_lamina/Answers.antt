@@ -2,6 +2,7 @@ use Rattle.std.proofs.Common.{rules, arith, ◌≡◌, ◌<◌, ◌+◌, length,
 use Rattle.std.proofs.lemmas.Bool.Decides.{nat_tests}
 use Rattle.std.proofs.lemmas.Result.{on_ok_weaker}
 use Rattle.euler_operators.specs.declared.Op.TheVariants.{Mef}
+use Rattle.euler_operators.proofs.Halves.{half-plus, half-minus}
 use Rattle.shapes.specs.Fresh.{taken_in}
 use Rattle.shapes.specs.Lamina.{lamina_model}
 use Rattle.undo_journal.specs.Machine.{DraftState}
@@ -27,13 +28,13 @@ pub step_accepted-requires-in-further : goal.step_accepted-requires-in-further
 step_accepted-requires-in-further c =
     let g = begun _ _ c.counters_of-taken.result c.args.solid _ c.as_slice-corners.result.now c.arena.ensures.model c.arena.ensures.ready.sound c.counters_of-taken.ensures.is c.as_slice-corners.ensures.value c.requires in
     let l : c.further.i < length c.as_slice-corners.result.now = search rules in
-    next_goes _ _ c.args.solid c.as_slice-corners.result.now g c.further.i _ c.further.end c.further.invariant.0 _ _ _ _ refl c.first_half.ensures refl c.point_at-next.ensures l
+    next_goes _ _ c.args.solid c.as_slice-corners.result.now g c.further.i _ c.further.end c.further.invariant.0 _ _ _ _ refl (c.plus.ensures ∙ half-plus _) refl c.point_at-next.ensures l
 
 pub further-preserved : goal.further-preserved
 further-preserved c =
     let g = begun _ _ c.counters_of-taken.result c.args.solid _ c.as_slice-corners.result.now c.arena.ensures.model c.arena.ensures.ready.sound c.counters_of-taken.ensures.is c.as_slice-corners.ensures.value c.requires in
     let l : c.further.i < length c.as_slice-corners.result.now = search rules in (
-      next_along _ _ c.args.solid c.as_slice-corners.result.now g c.further.i _ c.further.end c.further.invariant.0 _ _ _ _ refl c.first_half.ensures refl c.point_at-next.ensures l _ _ (ap (λ (d : DraftState). d.model) c.in_ok-step_accepted-2.ensures.ok) c.second_half.ensures,
+      next_along _ _ c.args.solid c.as_slice-corners.result.now g c.further.i _ c.further.end c.further.invariant.0 _ _ _ _ refl (c.plus.ensures ∙ half-plus _) refl c.point_at-next.ensures l _ _ (ap (λ (d : DraftState). d.model) c.in_ok-step_accepted-2.ensures.ok) (c.minus.ensures ∙ half-minus _),
       ap (λ (d : DraftState). d.session) c.in_ok-step_accepted-2.ensures.ok ∙ c.further.invariant.1,
     )
 
@@ -42,13 +43,13 @@ step_accepted-requires-2 c =
     let g = begun _ _ c.counters_of-taken.result c.args.solid _ c.as_slice-corners.result.now c.arena.ensures.model c.arena.ensures.ready.sound c.counters_of-taken.ensures.is c.as_slice-corners.ensures.value c.requires in
     let e : c.further.i ≡ length c.as_slice-corners.result.now = grind (arith, nat_tests, c.further.invariant.0.within, c.further-test.false) in
     last_goes _ _ c.args.solid c.as_slice-corners.result.now g c.further.i _ c.further.end c.further.invariant.0 e _
-    (λ t. Mef (c.second_half-turn.ensures t) (c.first_half-start.ensures t) (c.first_half-2.ensures t) (c.counters_of-taken.result.faces + 2) (c.counters_of-taken.result.loops + 2))
+    (λ t. Mef ((c.minus-turn.ensures ∙ half-minus _) t) ((c.plus-start.ensures ∙ half-plus _) t) ((c.plus-2.ensures ∙ half-plus _) t) (c.counters_of-taken.result.faces + 2) (c.counters_of-taken.result.loops + 2))
 
 pub returns-clause-ok : goal.returns-clause-ok
 returns-clause-ok c =
     let g = begun _ _ c.counters_of-taken.result c.args.solid _ c.as_slice-corners.result.now c.arena.ensures.model c.arena.ensures.ready.sound c.counters_of-taken.ensures.is c.as_slice-corners.ensures.value c.requires in
     let e : c.further.i ≡ length c.as_slice-corners.result.now = grind (arith, nat_tests, c.further.invariant.0.within, c.further-test.false) in
     on_ok_weaker c.step_accepted-2.result (λ step. last_done _ _ c.args.solid c.as_slice-corners.result.now g c.further.i _ c.further.end c.further.invariant.0 e _
-    (λ t. Mef (c.second_half-turn.ensures t) (c.first_half-start.ensures t) (c.first_half-2.ensures t) (c.counters_of-taken.result.faces + 2) (c.counters_of-taken.result.loops + 2))
+    (λ t. Mef ((c.minus-turn.ensures ∙ half-minus _) t) ((c.plus-start.ensures ∙ half-plus _) t) ((c.plus-2.ensures ∙ half-plus _) t) (c.counters_of-taken.result.faces + 2) (c.counters_of-taken.result.loops + 2))
     _ (ap (λ (d : DraftState). d.model) step) (c.counters_of-taken.ensures.is ∙ ap taken_in c.arena.ensures.model)
     ∙ ap (lamina_model c.args.draft.now.model c.args.solid) c.as_slice-corners.ensures.value) c.step_accepted-2.ensures.ok

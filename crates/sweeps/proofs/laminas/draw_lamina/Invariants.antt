@@ -1,5 +1,5 @@
 use Rattle.std.proofs.Common.{◌≡◌}
-use Rattle.sweeps.specs.Counters.{taken_of}
+use Rattle.solid_walks.specs.Counters.{taken_of}
 use Rattle.sweeps.proofs.Drawing.{Along}
 use Rattle.sweeps.proofs.laminas.draw_lamina.Given as goal
 

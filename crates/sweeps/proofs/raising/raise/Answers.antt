@@ -8,7 +8,7 @@ use Rattle.shapes.specs.Prism.{prism_from}
 use Rattle.sweeps_laws.specs.prism.SweepOps.{taken_after}
 use Rattle.sweeps_laws.proofs.prism.Whole.{Going}
 use Rattle.sweeps_laws.proofs.prism.Accepted.{face_there, begins}
-use Rattle.sweeps.specs.Counters.{taken_of}
+use Rattle.solid_walks.specs.Counters.{taken_of}
 use Rattle.sweeps.proofs.RaisedLoops as raised
 use Rattle.sweeps.proofs.raising.raise.Goals as goal
 

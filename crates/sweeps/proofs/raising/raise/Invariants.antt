@@ -1,7 +1,7 @@
 use Rattle.std.proofs.Common.{◌≡◌, length}
 use Rattle.shapes.specs.Prism.{prism_from, prism_model}
 use Rattle.sweeps_laws.proofs.prism.Whole.{Going}
-use Rattle.sweeps.specs.Counters.{taken_of}
+use Rattle.solid_walks.specs.Counters.{taken_of}
 use Rattle.sweeps.proofs.raising.raise.Given as goal
 
 abbrev pub invariant-loops : goal.invariant-loops

@@ -7,7 +7,7 @@ use Rattle.euler_operators.specs.Conditions.{first_false}
 use Rattle.shapes.specs.Faces.{start}
 use Rattle.std.specs.Result.{OnOk}
 use Rattle.undo_journal.specs.Machine.{draft_step}
-use Rattle.sweeps.specs.Counters.{taken_of}
+use Rattle.solid_walks.specs.Counters.{taken_of}
 use Rattle.sweeps.proofs.RaisedItems.{same_raise}
 use Rattle.sweeps.proofs.raising.raise_item.Goals as goal
 

@@ -5,7 +5,7 @@ use Rattle.euler_operators.specs.Effect.{effect}
 use Rattle.undo_journal.specs.Machine.{DraftState}
 use Rattle.sweeps_laws.specs.prism.SweepOps.{close, close_last}
 use Rattle.sweeps_laws.proofs.prism.Sides.{content_is, two_items}
-use Rattle.sweeps.specs.Counters.{taken_of}
+use Rattle.solid_walks.specs.Counters.{taken_of}
 use Rattle.sweeps.proofs.RaisedItems as raised
 use Rattle.sweeps.proofs.raising.raise_loop.Goals as goal
 

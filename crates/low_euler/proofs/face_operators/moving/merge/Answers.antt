@@ -1,31 +1,48 @@
-use Rattle.std.proofs.Common.{sym, ap, ◌∙◌, is_some, nat_eq}
+use Rattle.std.proofs.Common.{◌≡◌, ◌+◌, length, refl, ap, ◌∙◌, subst, arith}
 use Rattle.euler_operators.specs.Table as table
-use Rattle.euler_operators.specs.Table.{Table}
-use Rattle.euler_operators.specs.Model.{FaceRow}
-use Rattle.euler_conditions.specs.Store.{Store, take_solid}
-use Rattle.euler_operators.specs.Conditions.{lists}
-use Rattle.euler_operators.specs.Effect.{effect, merge}
-use Rattle.euler_laws.proofs.shared.Listed.{listed_passes}
-use Rattle.low_euler.specs.face_operators.Moving.{moved}
+use Rattle.euler_conditions.specs.Store.{Store, set_solid, within, is_face_of, IsNextFace}
+use Rattle.euler_operators.specs.Model.{faces_of}
+use Rattle.euler_operators.specs.declared.Op.TheVariants.{Merge}
+use Rattle.euler_conditions.specs.Ready.{after}
 use Rattle.low_euler.proofs.face_operators_laws.Facts.{merge_has}
-use Rattle.low_euler.proofs.face_operators_laws.Handing.{all_given}
+use Rattle.low_euler.proofs.Merging.{merge_apart, merge_same, one_less, zero_stays, merge_ends, no_zero_face, no_face_left}
 use Rattle.low_euler.proofs.face_operators.moving.merge.Goals as goal
 
-pub give_faces-requires-clause-there : goal.give_faces-requires-clause-there
-give_faces-requires-clause-there c = λ f l.
-    ap is_some (listed_passes (λ _ row. nat_eq row.solid c.args.gone) c.args.arena.now.model.faces f (ap (λ fs. lists fs f) (sym c.requires.listed) ∙ l)).1
+pub faces-init : goal.faces-init
+faces-init c =
+    let M = c.args.arena.now.model in
+    record {
+      same = refl;
+      zero = no_zero_face M c.args.gone c.requires.ready.sound;
+      room = c.has-in_use.ensures.room (c.has-in_use.ensures.used ∙ (merge_has M c.args.kept c.args.gone c.requires.holds).0);
+      there = (merge_has M c.args.kept c.args.gone c.requires.holds).1;
+    }
 
-pub give_faces-requires-clause-room : goal.give_faces-requires-clause-room
-give_faces-requires-clause-room c =
-    c.has-in_use.ensures.room (c.has-in_use.ensures.used ∙ (merge_has c.args.arena.now.model c.args.kept c.args.gone c.requires.accepted.holds).0)
+pub faces-smaller : goal.faces-smaller
+faces-smaller c =
+    let s : Store = c.faces.arena in
+    let next = subst (IsNextFace s.model c.args.gone 0) c.in-Some.is c.face_after.ensures in
+    let differs = merge_apart c.args.arena.now.model c.args.kept c.args.gone c.requires.holds in
+    let less : length (faces_of s.model c.args.gone) ≡ 1 + length (faces_of (set_solid s c.in-Some.face c.args.kept).model c.args.gone) = one_less s c.args.kept c.args.gone c.in-Some.face differs next.1 in
+    let now : length (faces_of c.set_solid.new.self.model c.args.gone) ≡ length (faces_of (set_solid s c.in-Some.face c.args.kept).model c.args.gone) = ap (λ (t : Store). length (faces_of t.model c.args.gone)) c.set_solid.ensures in
+    omega (arith, less, now)
 
-pub take_solid-requires : goal.take_solid-requires
-take_solid-requires c =
-    ap (λ (s : Store). table.has s.model.solids c.args.gone) c.give_faces.ensures ∙ (merge_has c.args.arena.now.model c.args.kept c.args.gone c.requires.accepted.holds).1
+pub faces-preserved : goal.faces-preserved
+faces-preserved c =
+    let s : Store = c.faces.arena in
+    let next = subst (IsNextFace s.model c.args.gone 0) c.in-Some.is c.face_after.ensures in
+    let differs = merge_apart c.args.arena.now.model c.args.kept c.args.gone c.requires.holds in
+    record {
+      same = ap (λ t. after t (Merge c.args.kept c.args.gone)) c.set_solid.ensures ∙ merge_same s c.args.kept c.args.gone c.in-Some.face differs next.1 ∙ c.faces.invariant.same;
+      zero = ap (λ (t : Store). is_face_of t.model c.args.gone 0) c.set_solid.ensures ∙ zero_stays s c.args.kept c.args.gone c.in-Some.face differs next.0 c.faces.invariant.zero;
+      room = ap (λ (t : Store). within c.args.kept t.room.solids) c.set_solid.ensures ∙ c.faces.invariant.room;
+      there = ap (λ (t : Store). table.has t.model.solids c.args.gone) c.set_solid.ensures ∙ c.faces.invariant.there;
+    }
 
 pub returns : goal.returns
-unfolding effect merge
 returns c =
-    let s = c.args.arena.now in let M = s.model in
-    c.take_solid.ensures ∙ ap (λ (a : Store). take_solid a c.args.gone) (c.give_faces.ensures ∙ ap (λ fs. moved s fs c.args.kept) c.requires.listed)
-    ∙ ap (λ (t : Table FaceRow). record s { model = record M { solids = table.remove M.solids c.args.gone; faces = t } }) (all_given M c.args.kept c.args.gone)
+    let s : Store = c.faces.arena in
+    let none = subst (IsNextFace s.model c.args.gone 0) c.in_default.is c.face_after.ensures in
+    c.take_solid.ensures
+    ∙ merge_ends s c.args.kept c.args.gone (no_face_left s.model c.args.gone c.faces.invariant.zero none)
+    ∙ c.faces.invariant.same

@@ -3,7 +3,8 @@ use Rattle.euler_operators.specs.HalfEdge.{code}
 use Rattle.euler_operators.specs.Table as table
 use Rattle.euler_operators.specs.Model.{tail, arc}
 use Rattle.euler_conditions.specs.Store.{Store, Room, within, put_vertex}
-use Rattle.low_euler.specs.vertex_operators.Steps.{IsPlaced, HasLoop, IsAlone, with_edge, put_before}
+use Rattle.low_euler.specs.loop_steps.Steps.{with_edge}
+use Rattle.low_euler.specs.vertex_operators.Steps.{IsPlaced, HasLoop, IsAlone, put_before}
 use Rattle.low_euler.proofs.vertex_operators_laws.Tails.{room-tails}
 use Rattle.low_euler.proofs.vertex_operators_laws.CornerSteps.{V, E, P, from_there, to_there, one_tail, point_fits, number_free, placed_E, from_in, first_alone, placed_P, to_placed, mate_alone, corner_made}
 use Rattle.low_euler.proofs.vertex_operators.edges.mev_at.Goals as goal

@@ -4,7 +4,7 @@ use Rattle.euler_operators.specs.Table as table
 use Rattle.euler_operators.specs.Model.{has_half, loop_of, content, items_of}
 use Rattle.euler_conditions.specs.Store.{Store, fill, join}
 use Rattle.euler_operators.specs.Conditions.{lone_vertex}
-use Rattle.low_euler.specs.vertex_operators.Steps.{with_edge}
+use Rattle.low_euler.specs.loop_steps.Steps.{with_edge}
 use Rattle.low_euler.proofs.vertex_operators_laws.LoneSteps.{E, F, there, is_lone_there, point_fits, edge_free, loop_there, loop_bare, first_alone, filled, half_first, half_second, looped, apart, lone_made}
 use Rattle.low_euler.proofs.vertex_operators.edges.mev_lone.Goals as goal
 

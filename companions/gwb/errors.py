@@ -1,0 +1,17 @@
+"""What the companions raise. Each message is one line for the reader."""
+
+
+class CompanionError(Exception):
+    """Base of all errors of the companions."""
+
+
+class NotReplies(CompanionError):
+    """The text isn't what gwb writes, or is cut short."""
+
+
+class NotAListing(CompanionError):
+    """The lines aren't the listing of a model, or are cut short."""
+
+
+class Unfit(CompanionError):
+    """The model has something that can't be drawn or written in the wanted form."""

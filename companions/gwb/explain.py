@@ -1,0 +1,125 @@
+"""Joins a script and its replies: each complaint with its line, its command and its meaning in words."""
+
+import argparse
+from typing import Iterator, List, NamedTuple, Optional, Sequence
+
+from .command_line import FOUND, OK, read_bytes, run
+from .errors import CompanionError, NotReplies
+from .language import FAULTS, first_word, is_answered, refusal
+from .replies import Reply, shortened, split_replies
+
+PROGRAM = 'gwb-explain'
+_WIDTH = 48
+
+
+class Answered(NamedTuple):
+    """A line of a script with its reply; None where it has none."""
+
+    number: int
+    line: bytes
+    reply: Optional[Reply]
+
+    @property
+    def text(self) -> str:
+        """The line as text of one byte a character."""
+        return self.line.decode('ascii', 'backslashreplace').strip()
+
+
+def join(script: bytes, replies: Sequence[Reply]) -> List[Answered]:
+    """The lines of the script, each with its reply. After a last complaint lines may be unanswered, as with --stop."""
+    left = iter(replies)
+    joined = []
+    for number, line in enumerate(_lines(script), 1):
+        reply = next(left, None) if is_answered(line) else None
+        if is_answered(line) and reply is None and not (replies and replies[-1].is_complaint):
+            raise NotReplies(f'line {number} of the script has no reply: the replies are cut short, or of another script')
+        if reply is not None:
+            _require_fit(number, line, reply)
+        joined.append(Answered(number, line, reply))
+    if next(left, None) is not None:
+        raise NotReplies('there are more replies than commands: they are of another script')
+    return joined
+
+
+def _lines(script: bytes) -> List[bytes]:
+    lines = script.split(b'\n')
+    return lines if lines[-1] else lines[:-1]
+
+
+def _require_fit(number: int, line: bytes, reply: Reply) -> None:
+    """Refuses a reply that the command can't have."""
+    word = first_word(line)
+    wanted = {'list': 'listing', 'plane': 'plane', 'volume': 'volume', 'count': 'count'}.get(word, 'ok')
+    given = 'listing' if reply.is_listing else reply.word
+    if not reply.is_complaint and given != wanted:
+        raise NotReplies(f'line {number} of the script is `{shortened(word)}`, and its reply `{shortened(reply.lines[0])}`: '
+                         'the replies are of another script')
+
+
+def meaning(word: str, reply: Reply) -> str:
+    """The name and the words of a complaint about a command with this first word."""
+    if reply.word == 'refused':
+        number, value = reply.numbers
+        return str(refusal(number, value, word))
+    if reply.word == 'fault':
+        return str(FAULTS[reply.numbers[0]])
+    return 'memory was refused; the same command may be given again'
+
+
+def complaints(name: str, joined: Sequence[Answered]) -> Iterator[str]:
+    """A line for each complaint, and one with their number."""
+    count = 0
+    for answered in joined:
+        reply = answered.reply
+        if reply is not None and reply.is_complaint:
+            count += 1
+            yield (f'{name}:{answered.number}: {shortened(answered.text)}: {reply.lines[0]}: '
+                   + meaning(first_word(answered.line), reply))
+    yield f'{count} complaint' + ('' if count == 1 else 's')
+
+
+def annotated(joined: Sequence[Answered]) -> Iterator[str]:
+    """The script with each reply beside its line, a listing below one another."""
+    width = max((len(answered.text) for answered in joined
+                 if answered.reply is not None and len(answered.text) <= _WIDTH), default=0)
+    for answered in joined:
+        beside = _beside(answered)
+        for place, reply in enumerate(beside or ['']):
+            text = answered.text if place == 0 else ''
+            yield f'{text:<{width}}   {reply}'.rstrip()
+
+
+def _beside(answered: Answered) -> List[str]:
+    reply = answered.reply
+    if reply is None:
+        return []
+    if reply.is_complaint:
+        return [f'{reply.lines[0]}: {meaning(first_word(answered.line), reply)}']
+    return list(reply.lines)
+
+
+def _parser() -> argparse.ArgumentParser:
+    parser = argparse.ArgumentParser(
+        prog=PROGRAM, description='Says in words what gwb complained about: gwb part.gwb | gwb-explain part.gwb',
+        epilog='Status 0: no complaint; 1: some; 2: the command line is refused; '
+               '3: the replies are refused, or reading or writing failed.')
+    parser.add_argument('script', metavar='SCRIPT', help='the script')
+    parser.add_argument('replies', nargs='?', metavar='REPLIES', help='what gwb replied to it (default: standard input)')
+    parser.add_argument('--annotate', action='store_true', help='print the script with each reply beside its line')
+    return parser
+
+
+def work(words: Optional[Sequence[str]]) -> int:
+    """Reads a script and its replies and explains them."""
+    options = _parser().parse_args(words)
+    if options.script == '-' and options.replies in (None, '-'):
+        raise CompanionError("the script and the replies can't both come from standard input")
+    joined = join(read_bytes(options.script), split_replies(read_bytes(options.replies)))
+    for line in annotated(joined) if options.annotate else complaints(options.script, joined):
+        print(line)
+    return FOUND if any(answered.reply is not None and answered.reply.is_complaint for answered in joined) else OK
+
+
+def main(words: Optional[Sequence[str]] = None) -> int:
+    """The program: its status."""
+    return run(PROGRAM, work, words)

@@ -1,0 +1,95 @@
+"""A conversation with the program over pipes: lines go to it, replies come back."""
+
+import os
+import shutil
+import subprocess
+from pathlib import Path
+from typing import List, Optional
+
+from .errors import CompanionError, NotReplies
+from .language import is_answered
+from .replies import Reply, group_lines, is_listed
+
+_AFTER_LISTING = 'count 1'
+
+
+class ProgramMissing(CompanionError):
+    """There is no program to talk to."""
+
+
+class Ended(CompanionError):
+    """The program ended while a reply was awaited."""
+
+
+def find_program() -> str:
+    """The program: what the environment variable GWB names, else the one built in this repository, else that on the path."""
+    built = Path(__file__).resolve().parents[2] / 'crates' / 'gwb' / 'out' / 'gwb'
+    program = os.environ.get('GWB') or (str(built) if built.is_file() else shutil.which('gwb'))
+    if program is None:
+        raise ProgramMissing(f"gwb isn't built at {built}, nor on the path; GWB may name it")
+    return program
+
+
+class Pipe:
+    """The program, started, and what it says."""
+
+    def __init__(self, program: Optional[str] = None) -> None:
+        try:
+            self._process = subprocess.Popen([program or find_program()], stdin=subprocess.PIPE,
+                                             stdout=subprocess.PIPE, stderr=subprocess.PIPE)
+        except OSError as error:
+            raise ProgramMissing(f'{error.filename}: {error.strerror}') from None
+
+    def ask(self, line: str) -> Reply:
+        """The reply to one line that is a command, or a fault."""
+        data = line.encode('utf-8', 'surrogateescape')
+        if b'\n' in data or not is_answered(data):
+            raise ValueError(f'not one line that gwb answers: {line!r}')
+        self._send(data)
+        return self._listing() if line.split() == ['list'] else self._one_line(self._receive())
+
+    def close(self) -> int:
+        """Ends the program; its status."""
+        self._process.communicate()
+        return self._process.returncode
+
+    def _send(self, data: bytes) -> None:
+        try:
+            self._process.stdin.write(data + b'\n')
+            self._process.stdin.flush()
+        except (BrokenPipeError, ValueError):
+            raise self._ended() from None
+
+    def _receive(self) -> str:
+        try:
+            line = self._process.stdout.readline()
+        except ValueError:
+            raise self._ended() from None
+        if not line.endswith(b'\n'):
+            raise self._ended()
+        return line[:-1].decode('ascii', 'backslashreplace')
+
+    def _listing(self) -> Reply:
+        """A listing has no end mark, so a query is sent after it, whose reply ends it."""
+        self._send(_AFTER_LISTING.encode())
+        lines: List[str] = [self._receive()]
+        while is_listed(lines[-1]) or len(lines) == 1:
+            lines.append(self._receive())
+        return self._only(lines[:-1])
+
+    def _one_line(self, line: str) -> Reply:
+        return self._only([line])
+
+    @staticmethod
+    def _only(lines: List[str]) -> Reply:
+        replies = group_lines(lines)
+        if len(replies) != 1:
+            raise NotReplies(f'not one reply: {lines}')
+        return replies[0]
+
+    def _ended(self) -> Ended:
+        """The error that says how the program ended."""
+        if self._process.stdin.closed:
+            return Ended('the session is closed')
+        complaint = self._process.communicate()[1].decode('utf-8', 'replace').strip()
+        return Ended(complaint or f'the program ended with status {self._process.returncode}')

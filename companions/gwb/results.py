@@ -1,0 +1,101 @@
+"""The numbers that commands of a workbench return."""
+
+from typing import NamedTuple, Tuple, Union
+
+Numbers = Tuple[int, ...]
+
+
+class Lone(NamedTuple):
+    """The corner of a lone loop, `@L` in scripts."""
+
+    loop: int
+
+
+Corner = Union[int, Lone]
+
+
+class NewSolid(NamedTuple):
+    """What mvfs makes."""
+
+    solid: int
+    face: int
+    loop: int
+    vertex: int
+
+
+class NewEdge(NamedTuple):
+    """What mev makes."""
+
+    edge: int
+    vertex: int
+
+
+class NewFace(NamedTuple):
+    """What mef makes."""
+
+    edge: int
+    face: int
+    loop: int
+
+
+class Lamina(NamedTuple):
+    """What lamina makes: the face that has the points in their order, the one at its back, edge i from point i on."""
+
+    solid: int
+    front: int
+    back: int
+    edges: Numbers
+    vertices: Numbers
+
+
+class Block(NamedTuple):
+    """What block makes: sides and edges in the order of their numbers, vertices from the base up."""
+
+    solid: int
+    top: int
+    bottom: int
+    sides: Numbers
+    edges: Numbers
+    vertices: Numbers
+
+
+class Sweep(NamedTuple):
+    """What sweep makes, for each corner of the face in order: the side over its half-edge, the edge that rises there,
+    the far edge of the side, and the far vertex."""
+
+    face: int
+    sides: Numbers
+    rising: Numbers
+    far: Numbers
+    vertices: Numbers
+
+
+class Split(NamedTuple):
+    """What split makes: the solid above, the caps of both solids, and all new faces, edges and vertices."""
+
+    solid: int
+    lower_caps: Numbers
+    upper_caps: Numbers
+    faces: Numbers
+    edges: Numbers
+    vertices: Numbers
+
+
+class Plane(NamedTuple):
+    """The plane a x + b y + c z + d = 0 of a face, and whether the face is flat."""
+
+    a: int
+    b: int
+    c: int
+    d: int
+    flat: bool
+
+
+class Count(NamedTuple):
+    """How many vertices, edges, faces and rings a solid has, and vertices - edges + faces - rings."""
+
+    vertices: int
+    edges: int
+    faces: int
+    rings: int
+    sum: int

@@ -1,0 +1,168 @@
+"""Writes a listing as STEP AP214 with advanced boundary representations.
+
+Each shell that holds material is a solid; one that bounds a hollow is a void of the solid around it. Rings are further bounds
+of their faces. Solids, faces, edges and vertices have gwb's numbers as names.
+"""
+
+from typing import Callable, Dict, Hashable, List, Optional, Sequence
+
+from .command_line import OK, listing_parser, run, filled_model
+from .measures import normal, require_fit
+from .model import Model
+from .nesting import Nest, nests
+from .vectors import Vector, negative, reduced, subtract
+
+PROGRAM = 'gwb-step'
+
+_HEAD = """ISO-10303-21;
+HEADER;
+FILE_DESCRIPTION(('boundary model of gwb'),'2;1');
+FILE_NAME('gwb.step','1970-01-01T00:00:00',(''),(''),'gwb-step','gwb','');
+FILE_SCHEMA(('AUTOMOTIVE_DESIGN { 1 0 10303 214 1 1 1 1 }'));
+ENDSEC;
+DATA;"""
+_FOOT = """ENDSEC;
+END-ISO-10303-21;
+"""
+
+
+class _Entities:
+    """The numbered lines of the data section."""
+
+    def __init__(self) -> None:
+        self.lines: List[str] = []
+        self._made: Dict[Hashable, str] = {}
+
+    def put(self, text: str) -> str:
+        """A new entity; its reference."""
+        self.lines.append(f'#{len(self.lines) + 1}={text};')
+        return f'#{len(self.lines)}'
+
+    def once(self, key: Hashable, make: Callable[[], str]) -> str:
+        """The reference of the entity with this key, made where it isn't there."""
+        if key not in self._made:
+            self._made[key] = make()
+        return self._made[key]
+
+
+def _triple(vector: Vector) -> str:
+    return '({}.,{}.,{}.)'.format(*vector)
+
+
+def _references(items: Sequence[str]) -> str:
+    return '(' + ','.join(items) + ')'
+
+
+class _Shapes:
+    """The geometry and topology of a model as entities."""
+
+    def __init__(self, model: Model, entities: _Entities) -> None:
+        self._model = model
+        self._put, self._once = entities.put, entities.once
+
+    def direction(self, vector: Vector) -> str:
+        """A unit vector, given by a whole one."""
+        short = reduced(vector)
+        return self._once(('direction', short), lambda: self._put(f"DIRECTION('',{_triple(short)})"))
+
+    def _point(self, vertex: int) -> str:
+        point = self._model.vertices[vertex]
+        return self._once(('point', vertex), lambda: self._put(f"CARTESIAN_POINT('vertex {vertex}',{_triple(point)})"))
+
+    def _vertex(self, vertex: int) -> str:
+        return self._once(('vertex', vertex), lambda: self._put(f"VERTEX_POINT('vertex {vertex}',{self._point(vertex)})"))
+
+    def _edge(self, edge: int) -> str:
+        return self._once(('edge', edge), lambda: self._new_edge(edge))
+
+    def _new_edge(self, edge: int) -> str:
+        start, end = self._model.edges[edge]
+        along = subtract(self._model.vertices[end], self._model.vertices[start])
+        vector = self._put(f"VECTOR('',{self.direction(along)},1.)")
+        line = self._put(f"LINE('',{self._point(start)},{vector})")
+        return self._put(f"EDGE_CURVE('edge {edge}',{self._vertex(start)},{self._vertex(end)},{line},.T.)")
+
+    def _loop(self, loop: int) -> str:
+        halves = [self._put(f"ORIENTED_EDGE('',*,*,{self._edge(abs(half))},.{'T' if half > 0 else 'F'}.)")
+                  for half in self._model.loops[loop].halves]
+        return self._put(f"EDGE_LOOP('loop {loop}',{_references(halves)})")
+
+    def _face(self, face: int, turned: bool) -> str:
+        """A face; turned for a void, whose shell looks out of the hollow."""
+        outer, *rings = self._model.faces[face].loops
+        plane = self._plane(face, turned)
+        sense = 'F' if turned else 'T'
+        bounds = [self._put(f"FACE_OUTER_BOUND('',{self._loop(outer)},.{sense}.)")]
+        bounds += [self._put(f"FACE_BOUND('',{self._loop(ring)},.{sense}.)") for ring in rings]
+        return self._put(f"ADVANCED_FACE('face {face}',{_references(bounds)},{plane},.T.)")
+
+    def _plane(self, face: int, turned: bool) -> str:
+        first = self._model.loops[self._model.faces[face].outer].halves[0]
+        across = normal(self._model, face)
+        along = subtract(self._model.point(-first), self._model.point(first))
+        axes = f'{self.direction(negative(across) if turned else across)},{self.direction(along)}'
+        place = self._put(f"AXIS2_PLACEMENT_3D('',{self._point(self._model.tail(first))},{axes})")
+        return self._put(f"PLANE('',{place})")
+
+    def _shell(self, faces: Sequence[int], turned: bool = False) -> str:
+        return self._put(f"CLOSED_SHELL('',{_references([self._face(face, turned) for face in faces])})")
+
+    def solid(self, number: int, nest: Nest) -> str:
+        """A shell with material within, less its voids."""
+        outside = self._shell(nest.outer)
+        if not nest.voids:
+            return self._put(f"MANIFOLD_SOLID_BREP('solid {number}',{outside})")
+        voids = [self._put(f"ORIENTED_CLOSED_SHELL('',*,{self._shell(void, turned=True)},.F.)") for void in nest.voids]
+        return self._put(f"BREP_WITH_VOIDS('solid {number}',{outside},{_references(voids)})")
+
+
+def _put_product(entities: _Entities, representation: str) -> None:
+    """What says that the shape is that of a part."""
+    put = entities.put
+    application = put("APPLICATION_CONTEXT('core data for automotive mechanical design processes')")
+    put(f"APPLICATION_PROTOCOL_DEFINITION('international standard','automotive_design',2000,{application})")
+    context = put(f"PRODUCT_CONTEXT('',{application},'mechanical')")
+    product = put(f"PRODUCT('gwb','gwb','',({context}))")
+    put(f"PRODUCT_RELATED_PRODUCT_CATEGORY('part','',({product}))")
+    formation = put(f"PRODUCT_DEFINITION_FORMATION('','',{product})")
+    stage = put(f"PRODUCT_DEFINITION_CONTEXT('part definition',{application},'design')")
+    definition = put(f"PRODUCT_DEFINITION('design','',{formation},{stage})")
+    shape = put(f"PRODUCT_DEFINITION_SHAPE('','',{definition})")
+    put(f'SHAPE_DEFINITION_REPRESENTATION({shape},{representation})')
+
+
+def _put_context(entities: _Entities) -> str:
+    """The units, millimetres and radians, and how exact lengths are."""
+    put = entities.put
+    length = put('(LENGTH_UNIT()NAMED_UNIT(*)SI_UNIT(.MILLI.,.METRE.))')
+    angle = put('(NAMED_UNIT(*)PLANE_ANGLE_UNIT()SI_UNIT($,.RADIAN.))')
+    solid_angle = put('(NAMED_UNIT(*)SI_UNIT($,.STERADIAN.)SOLID_ANGLE_UNIT())')
+    exact = put(f"UNCERTAINTY_MEASURE_WITH_UNIT(LENGTH_MEASURE(1.E-06),{length},'distance_accuracy_value','')")
+    return put(f'(GEOMETRIC_REPRESENTATION_CONTEXT(3)GLOBAL_UNCERTAINTY_ASSIGNED_CONTEXT(({exact}))'
+               f"GLOBAL_UNIT_ASSIGNED_CONTEXT(({length},{angle},{solid_angle}))REPRESENTATION_CONTEXT('',''))")
+
+
+def step_text(model: Model) -> str:
+    """The whole file; raises Unfit where a face isn't a plain flat one, or a shell no boundary of a solid."""
+    require_fit(model)
+    entities = _Entities()
+    shapes = _Shapes(model, entities)
+    items = [shapes.solid(solid, nest) for solid in model.solids for nest in nests(model, solid)]
+    origin = entities.put("CARTESIAN_POINT('',(0.,0.,0.))")
+    axes = f'{shapes.direction((0, 0, 1))},{shapes.direction((1, 0, 0))}'
+    items.append(entities.put(f"AXIS2_PLACEMENT_3D('',{origin},{axes})"))
+    context = _put_context(entities)
+    _put_product(entities, entities.put(f"ADVANCED_BREP_SHAPE_REPRESENTATION('',{_references(items)},{context})"))
+    return '\n'.join([_HEAD, *entities.lines, _FOOT])
+
+
+def work(words: Optional[Sequence[str]]) -> int:
+    """Reads a listing and writes it as STEP."""
+    parser = listing_parser(PROGRAM, 'Writes a listing of gwb as STEP AP214 (advanced boundary representation, in millimetres).')
+    print(step_text(filled_model(parser.parse_args(words))), end='')
+    return OK
+
+
+def main(words: Optional[Sequence[str]] = None) -> int:
+    """The program: its status."""
+    return run(PROGRAM, work, words)

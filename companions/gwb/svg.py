@@ -1,0 +1,178 @@
+"""Draws a listing: visible edges black, hidden ones thin and dashed, seams between faces of one plane grey."""
+
+from typing import Dict, Iterator, List, NamedTuple, Optional, Sequence, Tuple
+
+from .command_line import OK, listing_parser, run, filled_model
+from .errors import Unfit
+from .hidden_lines import Piece, Scene
+from .measures import normal, why_unfit
+from .model import Model
+from .plane_figures import turn
+from .triangulation import face_triangles
+from .vectors import Vector, ZERO, dot, flat_axes, same_direction, total
+from .view import View
+
+PROGRAM = 'gwb-svg'
+_SIZE, _MARGIN = 600, 30
+_STYLE = """<style>
+line { stroke-linecap: round }
+.visible { stroke: #000; stroke-width: 2 }
+.seam { stroke: #aaa; stroke-width: 1 }
+.hidden { stroke: #999; stroke-width: 0.7; stroke-dasharray: 3 4 }
+text { font: 13px sans-serif; text-anchor: middle; stroke: #fff; stroke-width: 3px; paint-order: stroke }
+.face { fill: #080; font-weight: bold }
+.edge { fill: #06c; font-size: 11px }
+.vertex { fill: #b00 }
+.away { opacity: 0.5 }
+</style>"""
+
+
+class _Frame:
+    """Brings screen coordinates to those of the drawing, which fits its size."""
+
+    def __init__(self, spots: Sequence[Tuple[int, int]], view: View) -> None:
+        self._units = view.units
+        across, up = ([spot[axis] * self._units[axis] for spot in spots] for axis in (0, 1))
+        self._left, self._top = min(across), max(up)
+        wide, high = max(across) - self._left, self._top - min(up)
+        self._scale = (_SIZE - 2 * _MARGIN) / (max(wide, high) or 1)
+        self.width, self.height = (2 * _MARGIN + length * self._scale for length in (wide, high))
+
+    def place(self, x: float, y: float) -> Tuple[float, float]:
+        """The place in the drawing of a screen point."""
+        return (_MARGIN + (x * self._units[0] - self._left) * self._scale,
+                _MARGIN + (self._top - y * self._units[1]) * self._scale)
+
+
+class _Spot(NamedTuple):
+    """A point of a face, times a whole weight."""
+
+    point: Vector
+    weight: int
+
+
+class _Drawing:
+    """A model, the scene that a viewer sees of it, and the drawing's frame."""
+
+    def __init__(self, model: Model, view: View) -> None:
+        self._model, self._view = model, view
+        self._scene = Scene(model, view)
+        self._frame = _Frame(list(self._scene.spots.values()), view)
+        self._pieces = {edge: self._scene.pieces(edge) for edge in model.edges}
+
+    def lines(self, names: bool, hidden: bool) -> Iterator[str]:
+        """The drawing, line by line."""
+        width, height = f'{self._frame.width:.0f}', f'{self._frame.height:.0f}'
+        yield f'<svg xmlns="http://www.w3.org/2000/svg" width="{width}" height="{height}" viewBox="0 0 {width} {height}">'
+        yield _STYLE
+        yield '<rect width="100%" height="100%" fill="#fff"/>'
+        yield from self._edges(['hidden', 'seam', 'visible'] if hidden else ['seam', 'visible'])
+        yield from self._lone_vertices()
+        if names:
+            yield from self._names()
+        yield '</svg>'
+
+    def _edges(self, classes: Sequence[str]) -> Iterator[str]:
+        drawn: Dict[str, List[str]] = {name: [] for name in ('hidden', 'seam', 'visible')}
+        for edge, pieces in self._pieces.items():
+            seen = 'seam' if self._is_seam(edge) else 'visible'
+            for piece in pieces:
+                drawn['hidden' if piece.hidden else seen].append(self._line(edge, piece))
+        for name in classes:
+            if drawn[name]:
+                yield f'<g class="{name}">'
+                yield from drawn[name]
+                yield '</g>'
+
+    def _is_seam(self, edge: int) -> bool:
+        """Whether the edge lies within a plane: between two faces that look the same way, or within one face."""
+        one, other = (self._model.face_of(half) for half in (edge, -edge))
+        across, beyond = normal(self._model, one), normal(self._model, other)
+        return across != ZERO and beyond != ZERO and same_direction(across, beyond)
+
+    def _line(self, edge: int, piece: Piece) -> str:
+        (x1, y1), (x2, y2) = (self._on_edge(edge, float(way)) for way in (piece.start, piece.end))
+        return f'<line x1="{x1:.2f}" y1="{y1:.2f}" x2="{x2:.2f}" y2="{y2:.2f}"/>'
+
+    def _on_edge(self, edge: int, way: float) -> Tuple[float, float]:
+        (ax, ay), (bx, by) = (self._scene.spots[vertex] for vertex in self._model.edges[edge])
+        return self._frame.place(ax + way * (bx - ax), ay + way * (by - ay))
+
+    def _lone_vertices(self) -> Iterator[str]:
+        for loop in self._model.loops.values():
+            if loop.vertex is not None:
+                x, y = self._frame.place(*self._scene.spots[loop.vertex])
+                yield f'<circle cx="{x:.2f}" cy="{y:.2f}" r="3"/>'
+
+    def _names(self) -> Iterator[str]:
+        seen = {vertex for edge, pieces in self._pieces.items() for vertex in self._seen_ends(edge, pieces)}
+        for vertex, spot in self._scene.spots.items():
+            x, y = self._frame.place(*spot)
+            yield _text('vertex', vertex, x + 9, y - 4, away=vertex not in seen)
+        for edge, pieces in self._pieces.items():
+            if pieces:
+                piece = max(pieces, key=lambda piece: (not piece.hidden, piece.end - piece.start))
+                x, y = self._on_edge(edge, float(piece.start + piece.end) / 2)
+                yield _text('edge', edge, x, y + 4, away=piece.hidden)
+        for face in self._model.faces:
+            yield self._face_name(face)
+
+    def _seen_ends(self, edge: int, pieces: Sequence[Piece]) -> Iterator[int]:
+        """The ends of an edge that the viewer sees."""
+        start, end = self._model.edges[edge]
+        if pieces and not pieces[0].hidden:
+            yield start
+        if pieces and not pieces[-1].hidden:
+            yield end
+
+    def _face_name(self, face: int) -> str:
+        point, weight = _middle(self._model, face)
+        spot = self._view.spot(point)
+        x, y = self._frame.place(spot[0] / weight, spot[1] / weight)
+        turned = dot(normal(self._model, face), self._view.into) > 0
+        return _text('face', face, x, y + (17 if turned else 4), away=turned or self._scene.is_hidden(point, spot, weight))
+
+
+def _text(kind: str, number: int, x: float, y: float, away: bool) -> str:
+    return f'<text class="{kind}{" away" if away else ""}" x="{x:.1f}" y="{y:.1f}">{number}</text>'
+
+
+def _middle(model: Model, face: int) -> _Spot:
+    """A place for the face's number: in the largest of its triangles, or amid its vertices where it has none."""
+    corners = model.face_vertices(face)
+    if why_unfit(model, face) is None:
+        try:
+            corners = list(max(face_triangles(model, face), key=lambda triangle: _size(model, face, triangle)))
+        except Unfit:
+            pass
+    return _Spot(total(model.vertices[vertex] for vertex in corners), len(corners))
+
+
+def _size(model: Model, face: int, triangle: Sequence[int]) -> int:
+    first, second = flat_axes(normal(model, face))
+    points = (model.vertices[vertex] for vertex in triangle)
+    return abs(turn(*((point[first], point[second]) for point in points)))
+
+
+def svg_text(model: Model, stand: Vector, names: bool = False, hidden: bool = True) -> str:
+    """The drawing of the model for a viewer who stands in the given direction."""
+    return '\n'.join(_Drawing(model, View(stand)).lines(names, hidden)) + '\n'
+
+
+def work(words: Optional[Sequence[str]]) -> int:
+    """Reads a listing and draws it."""
+    parser = listing_parser(PROGRAM, 'Draws a listing of gwb as SVG: visible edges black, hidden ones thin and dashed (found '
+                                     'exactly), seams between faces of one plane grey.')
+    parser.add_argument('--view', nargs=3, type=int, default=(2, -3, 2), metavar=('X', 'Y', 'Z'),
+                        help='the viewer stands in this direction, z is up (default: 2 -3 2)')
+    parser.add_argument('--names', action='store_true',
+                        help='with the numbers of faces (green), edges (blue) and vertices (red); pale where they are hidden')
+    parser.add_argument('--no-hidden', dest='hidden', action='store_false', help='leave hidden lines out')
+    options = parser.parse_args(words)
+    print(svg_text(filled_model(options), tuple(options.view), options.names, options.hidden), end='')
+    return OK
+
+
+def main(words: Optional[Sequence[str]] = None) -> int:
+    """The program: its status."""
+    return run(PROGRAM, work, words)

@@ -1,0 +1,129 @@
+"""What the tests share: where things lie, how a companion is run, and listings made from points and faces."""
+
+import io
+import os
+import sys
+import unittest
+from contextlib import redirect_stderr, redirect_stdout
+from importlib import import_module
+from pathlib import Path
+from typing import Dict, List, NamedTuple, Sequence, Tuple
+
+TESTS = Path(__file__).resolve().parent
+COMPANIONS = TESTS.parent
+REPOSITORY = COMPANIONS.parent
+STORED = TESTS / 'stored'
+sys.path.insert(0, str(COMPANIONS))
+
+Point = Tuple[int, int, int]
+Cycle = Sequence[int]
+
+
+class Outcome(NamedTuple):
+    """What a companion wrote, and its status."""
+
+    out: str
+    err: str
+    status: int
+
+
+def run(companion: str, *words: str) -> Outcome:
+    """Runs a companion on command line words within this process."""
+    out, err = io.StringIO(), io.StringIO()
+    with redirect_stdout(out), redirect_stderr(err):
+        try:
+            status = import_module(f'gwb.{companion}').main(list(words))
+        except SystemExit as end:
+            status = end.code
+    return Outcome(out.getvalue(), err.getvalue(), status)
+
+
+def examples() -> List[Path]:
+    """The example scripts."""
+    return sorted((REPOSITORY / 'examples').glob('*.gwb'))
+
+
+def scripts() -> List[Path]:
+    """All scripts that have replies beside them."""
+    worked = sorted((REPOSITORY / 'tests' / 'scripts').glob('*.gwb'))
+    return [script for script in examples() + worked if script.with_suffix('.expected').exists()]
+
+
+def program() -> str:
+    """The program that the environment names, or the one built in this repository; the test is skipped where none is."""
+    path = Path(os.environ.get('GWB') or REPOSITORY / 'crates' / 'gwb' / 'out' / 'gwb')
+    if not path.is_file():
+        raise unittest.SkipTest(f'needs gwb, which is not built at {path}; GWB may name it')
+    return str(path)
+
+
+def box(low: Point, high: Point, first: int = 1) -> Tuple[List[Point], List[List[Cycle]]]:
+    """The points of a box, numbered from first, and its faces: bottom, top, front, right, back, left."""
+    (x, y, z), (u, v, w) = low, high
+    points = [(x, y, z), (u, y, z), (u, v, z), (x, v, z), (x, y, w), (u, y, w), (u, v, w), (x, v, w)]
+    cycles = [(1, 4, 3, 2), (5, 6, 7, 8), (1, 2, 6, 5), (2, 3, 7, 6), (3, 4, 8, 7), (4, 1, 5, 8)]
+    return points, [[tuple(first - 1 + vertex for vertex in cycle)] for cycle in cycles]
+
+
+def turned(faces: List[List[Cycle]]) -> List[List[Cycle]]:
+    """The faces as seen from the other side."""
+    return [[tuple(reversed(cycle)) for cycle in face] for face in faces]
+
+
+def lamina(*loops: Sequence[Tuple[int, int]]) -> str:
+    """A listing of a lamina in the plane z = 0 with an outer loop and rings, which are closed by faces of their own."""
+    points = [(x, y, 0) for loop in loops for x, y in loop]
+    cycles: List[Cycle] = []
+    for loop in loops:
+        first = sum(map(len, cycles)) + 1
+        cycles.append(tuple(range(first, first + len(loop))))
+    return listing(points, [cycles, *turned([[cycle] for cycle in cycles])])
+
+
+def plate(count: int) -> str:
+    """A listing of a plate, two thick, with count times count square holes of two by two."""
+    width = 4 * count
+    points, faces = box((0, 0, 0), (width, width, 2))
+    for x in range(1, width, 4):
+        for y in range(1, width, 4):
+            more, walls = box((x, y, 0), (x + 2, y + 2, 2), len(points) + 1)
+            bottom, top, *sides = turned(walls)
+            points += more
+            faces[0] += bottom
+            faces[1] += top
+            faces += sides
+    return listing(points, faces)
+
+
+def listing(points: Sequence[Point], *solids: List[List[Cycle]]) -> str:
+    """A listing of solids, each a list of faces, each a list of cycles of vertices: the outer loop, then rings."""
+    rows: Dict[str, List[str]] = {kind: [] for kind in ('solid', 'face', 'loop', 'edge', 'vertex')}
+    edges: Dict[Tuple[int, int], int] = {}
+    for solid, faces in enumerate(solids, 1):
+        rows['solid'].append(f'solid {solid}')
+        for cycles in faces:
+            first = len(rows['loop']) + 1
+            loops = ' '.join(str(first + i) for i in range(len(cycles)))
+            rows['face'].append(f'face {len(rows["face"]) + 1} {solid} {loops}')
+            for cycle in cycles:
+                rows['loop'].append(f'loop {len(rows["loop"]) + 1} {_halves(cycle, edges)}')
+    rows['edge'] = [f'edge {number} {start} {end}' for (start, end), number in edges.items()]
+    rows['vertex'] = [f'vertex {number} {x} {y} {z}' for number, (x, y, z) in enumerate(points, 1)]
+    return ''.join(line + '\n' for lines in rows.values() for line in lines)
+
+
+def _halves(cycle: Cycle, edges: Dict[Tuple[int, int], int]) -> str:
+    """The half-edges of a cycle, from the least on; new edges get the next numbers."""
+    halves = []
+    for start, end in zip(cycle, (*cycle[1:], cycle[0])):
+        if (end, start) in edges:
+            halves.append(-edges[end, start])
+        else:
+            halves.append(edges.setdefault((start, end), len(edges) + 1))
+    least = halves.index(min(halves, key=lambda half: (abs(half), half < 0)))
+    return ' '.join(f'{half:+d}' for half in halves[least:] + halves[:least])
+
+
+def model_in(text: str):
+    """The model of a listing."""
+    return import_module('gwb').read_model(text.encode())

@@ -1,0 +1,159 @@
+"""Complaints are explained, and replies that aren't those of the script are refused."""
+
+import os
+import tempfile
+import unittest
+
+from support import REPOSITORY, run, scripts
+
+from gwb.errors import NotReplies
+from gwb.explain import annotated, complaints, join
+from gwb.language import FAULTS, REFUSALS, first_word, is_answered, refusal
+from gwb.replies import split_replies
+
+
+def explained(script, replies):
+    """The lines that explain a script named s."""
+    return list(complaints('s', join(script, split_replies(replies))))
+
+
+class Complaints(unittest.TestCase):
+    """What is said of complaints."""
+
+    def test_none(self):
+        self.assertEqual(explained(b'undo\n', b'ok\n'), ['0 complaints'])
+        self.assertEqual(explained(b'', b''), ['0 complaints'])
+
+    def test_a_refusal(self):
+        self.assertEqual(explained(b'# a wire\n\n\tkev +1\r\n', b'refused 16 1\n'), [
+            's:3: kev +1: refused 16 1: KeptEndBare: only this edge leaves vertex 1, which is kept, '
+            'and others leave the one that goes', '1 complaint'])
+
+    def test_a_fault(self):
+        self.assertEqual(explained(b'kev\n', b'fault 3\n')[0],
+                         "s:1: kev: fault 3: MissingWord: a word is missing, or the numbers of a lamina's points don't come in threes")
+
+    def test_memory(self):
+        self.assertIn('may be given again', explained(b'undo\n', b'memory\n')[0])
+
+    def test_listings_count_as_one_reply(self):
+        listing = b'solid 1\nface 1 1 1\nloop 1 at 1\nvertex 1 0 0 0\n'
+        self.assertEqual(explained(b'list\nlist\nundo\nundo', listing + listing + b'ok\nrefused 25 0\n')[0],
+                         's:4: undo: refused 25 0: NothingToUndo: there is nothing to undo')
+
+    def test_lines_that_are_long_or_not_ascii(self):
+        lines = explained(b'#' * 65537 + b'\n# caf\xe9\n' + b'#' * 65536 + b'\n', b'fault 6\nfault 5\n')
+        self.assertEqual(lines[0], 's:1: ' + '#' * 58 + '..: fault 6: LongLine: the line has more than 65,536 bytes')
+        self.assertEqual(lines[1], 's:2: # caf\\xe9: fault 5: NotAscii: the line has a byte above 127')
+
+    def test_the_value_is_said_as_the_command_means_it(self):
+        self.assertIn('point 3', refusal(33, 3, 'lamina').text)
+        self.assertIn('face 3', refusal(33, 3, 'glue').text)
+        self.assertIn('all zero', refusal(35, 0, 'split').text)
+        self.assertIn('coefficient 2', refusal(35, 2, 'split').text)
+
+    def test_a_run_that_stopped(self):
+        self.assertEqual(len(explained(b'undo\nlist\n', b'refused 25 0\n')), 2)
+
+
+class Refusing(unittest.TestCase):
+    """Replies that can't be those of the script."""
+
+    def refuse(self, script, replies, part):
+        with self.assertRaises(NotReplies) as caught:
+            explained(script, replies)
+        self.assertIn(part, str(caught.exception))
+
+    def test_too_few(self):
+        self.refuse(b'list\nundo\n', b'empty\n', 'line 2 of the script has no reply')
+        self.refuse(b'undo\nlist\n', b'refused 25 0', 'no newline')
+
+    def test_too_many(self):
+        self.refuse(b'# undo\n', b'ok\n', 'more replies')
+
+    def test_others(self):
+        self.refuse(b'volume 1\n', b'ok\n', 'line 1')
+        self.refuse(b'undo\n', b'empty\n', 'line 1')
+        self.refuse(b'list\n', b'ok\n', 'line 1')
+        self.refuse(b'list\n', b'hello\n', 'no reply of gwb')
+
+
+class Annotating(unittest.TestCase):
+    """The script with its replies beside it."""
+
+    def test_replies_stand_beside_their_lines(self):
+        joined = join(b'# nothing\nlist\nmvfs 1 1 1 1 0 0 0\n\nlist\nundo\n',
+                      split_replies(b'empty\nok\nsolid 1\nface 1 1 1\nloop 1 at 1\nvertex 1 0 0 0\nok\n'))
+        self.assertEqual(list(annotated(joined)), [
+            '# nothing',
+            'list                 empty',
+            'mvfs 1 1 1 1 0 0 0   ok',
+            '',
+            'list                 solid 1',
+            '                     face 1 1 1',
+            '                     loop 1 at 1',
+            '                     vertex 1 0 0 0',
+            'undo                 ok'])
+
+
+class Language(unittest.TestCase):
+    """Which lines are commands, and the names of complaints."""
+
+    def test_which_lines_are_answered(self):
+        for line in (b'', b' \t\r', b'# x', b'  #x', b'#' * 65536):
+            self.assertFalse(is_answered(line), line)
+        for line in (b'list', b'x', b'\x0b', b'# \xff', b' ' * 65537):
+            self.assertTrue(is_answered(line), line)
+
+    def test_the_first_word(self):
+        self.assertEqual(first_word(b'\t kev\r+1'), 'kev')
+        self.assertEqual(first_word(b''), '')
+
+    def test_all_refusals_have_names_of_the_language(self):
+        language = (REPOSITORY / 'docs' / 'SCRIPT.md').read_text()
+        self.assertEqual(list(REFUSALS), list(range(1, 45)))
+        self.assertEqual(list(FAULTS), list(range(1, 7)))
+        for name, text in REFUSALS.values():
+            self.assertIn(name, language)
+            self.assertLessEqual(text.count('{}'), 1)
+
+
+class Scripts(unittest.TestCase):
+    """Every example and every worked script."""
+
+    def test_every_script(self):
+        for script in scripts():
+            with self.subTest(script.stem):
+                replies = script.with_suffix('.expected').read_bytes()
+                outcome = run('explain', str(script), str(script.with_suffix('.expected')))
+                complaining = [line for line in replies.split(b'\n') if line.startswith((b'refused', b'fault', b'memory'))]
+                self.assertEqual(outcome.err, '')
+                self.assertEqual(outcome.status, 1 if complaining else 0)
+                lines = outcome.out.splitlines()
+                self.assertEqual(len(lines), len(complaining) + 1)
+                self.assertTrue(lines[-1].startswith(f'{len(complaining)} complaint'))
+                for line, complaint in zip(lines, complaining):
+                    self.assertIn(f': {complaint.decode()}: ', line)
+
+    def test_every_script_annotated(self):
+        for script in scripts():
+            with self.subTest(script.stem):
+                outcome = run('explain', '--annotate', str(script), str(script.with_suffix('.expected')))
+                for reply in script.with_suffix('.expected').read_text().splitlines():
+                    self.assertIn(reply, outcome.out)
+
+    def test_both_from_standard_input(self):
+        self.assertEqual(run('explain', '-').status, 3)
+
+    def test_replies_of_another_script(self):
+        with tempfile.TemporaryDirectory() as folder:
+            path = os.path.join(folder, 'part.gwb')
+            with open(path, 'w') as file:
+                file.write('list\n')
+            outcome = run('explain', path, str(scripts()[0].with_suffix('.expected')))
+        self.assertEqual(outcome.status, 3)
+        self.assertEqual(outcome.err.count('\n'), 1)
+
+
+if __name__ == '__main__':
+    unittest.main()

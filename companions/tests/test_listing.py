@@ -1,0 +1,119 @@
+"""Listings are read, and what is none, or is cut short, is refused with one line."""
+
+import unittest
+
+from support import box, examples, listing, model_in
+
+from gwb.errors import CompanionError, NotAListing, NotReplies
+from gwb.listing import read_model
+
+WIRE = 'solid 1\nface 1 1 1\nloop 1 +1 -1\nedge 1 1 2\nvertex 1 0 0 0\nvertex 2 5 0 0\n'
+SQUARE = listing([(0, 0, 0), (4, 0, 0), (4, 4, 0), (0, 4, 0)], [[(1, 2, 3, 4)], [(4, 3, 2, 1)]])
+
+
+class Reading(unittest.TestCase):
+    """What is understood."""
+
+    def test_a_wire(self):
+        model = model_in(WIRE)
+        self.assertEqual(model.solids, (1,))
+        self.assertEqual(model.faces[1].loops, (1,))
+        self.assertEqual(model.loops[1].halves, (1, -1))
+        self.assertEqual(model.tail(-1), 2)
+        self.assertEqual(model.vertices[2], (5, 0, 0))
+
+    def test_a_lone_loop(self):
+        model = model_in('solid 1\nface 1 1 1\nloop 1 at 1\nvertex 1 0 0 0\n')
+        self.assertTrue(model.loops[1].is_lone)
+        self.assertEqual(model.loop_vertices(1), [1])
+
+    def test_the_last_listing_of_a_run_is_taken(self):
+        self.assertEqual(model_in('ok\n' + SQUARE + WIRE), model_in(WIRE))
+        self.assertEqual(model_in(WIRE + 'volume 0\nempty\nok\n').solids, ())
+
+    def test_one_solid_of_a_model(self):
+        points, faces = box((0, 0, 0), (1, 1, 1))
+        more, others = box((5, 0, 0), (6, 1, 1), 9)
+        model = model_in(listing(points + more, faces, others)).only(2)
+        self.assertEqual(list(model.faces), [7, 8, 9, 10, 11, 12])
+        self.assertEqual(list(model.vertices), list(range(9, 17)))
+
+    def test_shells(self):
+        points, faces = box((0, 0, 0), (1, 1, 1))
+        more, others = box((5, 0, 0), (6, 1, 1), 9)
+        model = model_in(listing(points + more, faces + others))
+        self.assertEqual(model.shells(1), [[1, 2, 3, 4, 5, 6], [7, 8, 9, 10, 11, 12]])
+
+    def test_the_examples(self):
+        for script in examples():
+            with self.subTest(script.stem):
+                read_model(script.with_suffix('.expected').read_bytes())
+
+
+class Refusing(unittest.TestCase):
+    """What isn't."""
+
+    def refuse(self, text, error, part):
+        with self.assertRaises(error) as caught:
+            model_in(text)
+        self.assertIn(part, str(caught.exception))
+        self.assertNotIn('\n', str(caught.exception))
+
+    def test_every_way_to_cut_a_listing_short(self):
+        for text in (WIRE, SQUARE, listing(*[box((0, 0, 0), (9, 10, 11))[i] for i in (0, 1)])):
+            for length in range(1, len(text)):
+                with self.subTest(text[:length][-20:]), self.assertRaises(CompanionError):
+                    model_in(text[:length])
+
+    def test_no_replies(self):
+        self.refuse('hello\n', NotReplies, 'line 1')
+        self.refuse('ok\nvertex 1 2\n', NotReplies, 'line 2')
+        self.refuse('refused 16\n', NotReplies, 'line 1')
+        self.refuse('ok \n', NotReplies, 'line 1')
+        self.refuse('caf\u00e9\n', NotReplies, 'byte 4')
+        self.refuse('ok\n' + 'x' * 1000 + '\n', NotReplies, '..')
+
+    def test_no_listing(self):
+        self.refuse('', NotAListing, 'list')
+        self.refuse('ok\nvolume 7\n', NotAListing, 'list')
+
+    def test_order(self):
+        lines = WIRE.splitlines(keepends=True)
+        self.refuse(''.join(lines[:4] + lines[:3:-1]), NotAListing, 'out of order')
+        self.refuse(''.join([lines[1], lines[0], *lines[2:]]), NotReplies, 'none begins there')
+        self.refuse(''.join([lines[0], lines[2], lines[1], *lines[3:]]), NotAListing, 'out of order')
+        self.refuse(WIRE.replace('vertex 2', 'vertex 1'), NotAListing, 'out of order')
+
+    def test_parts_that_do_not_fit(self):
+        for old, new, part in (
+                ('face 1 1 1', 'face 1 2 1', 'solid 2'),
+                ('face 1 1 1', 'face 1 1 1 3', 'loop 3 is missing'),
+                ('face 1 1 1', 'face 1 1 3', 'loop 3 is missing'),
+                ('solid 1', 'solid 1\nsolid 2', 'solid 2 has no face'),
+                ('face 2 1 2', 'face 2 1 2\nface 3 1 2', 'loop 2 stands in 2 places'),
+                ('face 2 1 2\n', '', 'loop 2 is of no face'),
+                ('edge 4 4 1\n', '', 'edge 4 is missing'),
+                ('edge 4 4 1', 'edge 4 4 1\nedge 5 1 3', 'edge 5'),
+                ('edge 4 4 1', 'edge 4 4 4', 'edge 4'),
+                ('edge 4 4 1', 'edge 4 4 2', 'loop'),
+                ('vertex 4 0 4 0\n', '', 'vertex 4 is missing'),
+                ('vertex 4 0 4 0', 'vertex 4 0 4 0\nvertex 5 0 0 0', 'vertex 5'),
+                ('+1 +2 +3 +4', '+2 +3 +4 +1', 'least half-edge'),
+                ('+1 +2 +3 +4', '+1 +2 +3', 'edge 4'),
+                ('+1 +2 +3 +4', '+1 +2 +3 +4 +4', 'half-edge 4 stands'),
+                ('+1 +2 +3 +4', '+1 +2 +3 +5', 'edge 5')):
+            with self.subTest(new):
+                self.assertIn(old, SQUARE)
+                self.refuse(SQUARE.replace(old, new), NotAListing, part)
+
+    def test_an_edge_between_two_solids(self):
+        self.refuse(SQUARE.replace('solid 1', 'solid 1\nsolid 2').replace('face 2 1', 'face 2 2'), NotAListing, 'two solids')
+
+    def test_a_vertex_with_two_fans(self):
+        points = [(0, 0, 0), (4, 0, 0), (0, 4, 0), (-4, 0, 0), (0, -4, 0)]
+        text = listing(points, [[(1, 2, 3)], [(3, 2, 1)], [(1, 4, 5)], [(5, 4, 1)]])
+        self.refuse(text, NotAListing, 'vertex 1 form more than one fan')
+
+
+if __name__ == '__main__':
+    unittest.main()

@@ -1,0 +1,200 @@
+"""The Python session gives what the scripts do: on every worked script, and on its own."""
+
+import unittest
+
+from support import program, scripts
+
+from gwb import Complaint, Faulted, Lone, Refused, Workbench
+from gwb.complaints import complaint
+from gwb.errors import CompanionError
+from gwb.explain import join
+from gwb.listing import model_of
+from gwb.pipe import Ended, ProgramMissing
+from gwb.replies import Reply, split_replies
+
+
+def corner(word):
+    """A corner as the methods take it."""
+    return Lone(int(word[1:])) if word.startswith('@') else int(word)
+
+
+def call(bench, command, words):
+    """Calls the method for a command that is well formed."""
+    numbers = [corner(word) if word not in ('in', 'out') else word for word in words]
+    point = tuple(numbers[-3:])
+    calls = {
+        'mvfs': lambda s, f, l, v, *_: bench.mvfs(point, solid=s, face=f, loop=l, vertex=v),
+        'mev': lambda a, b, e, v, *_: bench.mev(a, b, point, edge=e, vertex=v),
+        'mef': lambda a, b, e, f, l: bench.mef(a, b, edge=e, face=f, loop=l),
+        'kemr': lambda half, l: bench.kemr(half, loop=l),
+        'mekr': lambda a, b, e: bench.mekr(a, b, edge=e),
+        'mfkrh': lambda l, f: bench.mfkrh(l, face=f),
+        'lamina': lambda s, *xs: bench.lamina([xs[i:i + 3] for i in range(0, len(xs), 3)], solid=s),
+        'block': lambda s, x, y, z, *sizes: bench.block((x, y, z), sizes, solid=s),
+        'sweep': lambda f, *vector: bench.sweep(f, vector),
+        'split': lambda s, a, b, c, d, t: bench.split(s, (a, b, c, d), above=t),
+        'list': bench.listing,
+    }
+    return calls.get(command, getattr(bench, {'list': 'listing'}.get(command, command)))(*numbers)
+
+
+class Scripts(unittest.TestCase):
+    """Every example and every worked script, by calls."""
+
+    def test_every_script(self):
+        path = program()
+        for script in scripts():
+            with self.subTest(script.stem), Workbench(path) as bench:
+                replies = split_replies(script.with_suffix('.expected').read_bytes())
+                for answered in join(script.read_bytes(), replies):
+                    if answered.reply is not None:
+                        self.compare(bench, answered.line, answered.reply)
+
+    def compare(self, bench, line, reply):
+        if reply.word == 'fault':
+            self.assertEqual(bench.ask(line.decode('utf-8', 'surrogateescape')), reply)
+            return
+        command, *words = line.decode().split()
+        try:
+            result = call(bench, command, words)
+        except Refused as refused:
+            self.assertEqual(f'refused {refused.number} {refused.value}', reply.lines[0])
+            return
+        if reply.is_listing:
+            self.assertEqual(result, model_of(reply))
+        elif command == 'plane':
+            self.assertEqual([*result[:4], 'flat' if result.flat else 'bent'], [*reply.numbers, reply.lines[0].split()[-1]])
+        elif command in ('volume', 'count'):
+            self.assertEqual(list(result) if command == 'count' else [result], reply.numbers)
+        else:
+            self.assertEqual(reply.lines, ('ok',))
+
+
+class Session(unittest.TestCase):
+    """The workbench by itself."""
+
+    def setUp(self):
+        self.bench = Workbench(program())
+        self.addCleanup(self.bench.close)
+
+    def test_a_block_with_a_hole_without_a_number_given(self):
+        bench = self.bench
+        block = bench.block((0, 0, 0), (6, 6, 6))
+        corner_there = bench.listing().loops[bench.listing().faces[block.top].outer].halves[0]
+        spur = bench.mev(corner_there, corner_there, (2, 2, 6))
+        ring = bench.kemr(spur.edge)
+        first = bench.mev(Lone(ring), Lone(ring), (2, 4, 6))
+        second = bench.mev(-first.edge, -first.edge, (4, 4, 6))
+        third = bench.mev(-second.edge, -second.edge, (4, 2, 6))
+        inside = bench.mef(-third.edge, first.edge)
+        bench.sweep(inside.face, (0, 0, -6))
+        bench.kfmrh(block.bottom, inside.face)
+        self.assertEqual(bench.count(block.solid), (16, 24, 10, 2, 0))
+        self.assertEqual(bench.volume(block.solid), 1152)
+
+    def test_fresh_numbers_are_those_of_the_model(self):
+        bench = self.bench
+        bench.mvfs((0, 0, 0), solid=7, face=40, loop=50, vertex=60)
+        block = bench.block((0, 0, 0), (1, 1, 1))
+        model = bench.listing()
+        self.assertEqual(block.solid, 8)
+        self.assertEqual([face for face in model.faces if face != 40], [block.top, block.bottom, *block.sides])
+        self.assertEqual(list(model.edges), list(block.edges))
+        self.assertEqual([vertex for vertex in model.vertices if vertex != 60], list(block.vertices))
+        self.assertEqual(bench.plane(block.top), (0, 0, 2, -2, True))
+        self.assertEqual(bench.plane(block.bottom), (0, 0, -2, 0, True))
+
+    def test_a_sweep_says_which_side_is_which(self):
+        bench = self.bench
+        lamina = bench.lamina([(0, 0, 0), (4, 0, 0), (0, 4, 0)])
+        swept = bench.sweep(lamina.front, (0, 0, 3))
+        model = bench.listing()
+        for edge, side, rising, far, vertex, below in zip(
+                lamina.edges, swept.sides, swept.rising, swept.far, swept.vertices, lamina.vertices):
+            halves = set(map(abs, model.face_halves(side)))
+            self.assertLessEqual({edge, rising, far}, halves)
+            self.assertEqual(model.edges[rising], (below, vertex))
+
+    def test_a_sweep_of_a_face_with_a_ring(self):
+        bench = self.bench
+        lamina = bench.lamina([(0, 0, 0), (9, 0, 0), (9, 9, 0), (0, 9, 0)])
+        spur = bench.mev(lamina.edges[0], lamina.edges[0], (2, 2, 0))
+        ring = bench.kemr(spur.edge)
+        first = bench.mev(Lone(ring), Lone(ring), (2, 4, 0))
+        second = bench.mev(-first.edge, -first.edge, (4, 4, 0))
+        bench.mef(-second.edge, first.edge)
+        swept = bench.sweep(lamina.front, (0, 0, 1))
+        model = bench.listing()
+        self.assertEqual(sorted(swept.sides), [face for face in model.faces if face > swept.face and face >= min(swept.sides)])
+        for side, rising, far in zip(swept.sides, swept.rising, swept.far):
+            self.assertLessEqual({rising, far}, set(map(abs, model.face_halves(side))))
+
+    def test_a_split_gives_both_caps(self):
+        bench = self.bench
+        block = bench.block((0, 0, 0), (4, 4, 4))
+        parts = bench.split(block.solid, (1, 0, 0, -2))
+        self.assertEqual([bench.plane(face) for face in parts.lower_caps], [(32, 0, 0, -64, True)])
+        self.assertEqual([bench.plane(face) for face in parts.upper_caps], [(-32, 0, 0, 64, True)])
+        self.assertEqual(bench.volume(block.solid), bench.volume(parts.solid))
+        self.assertEqual(bench.glue(parts.lower_caps[0], parts.upper_caps[0]), block.solid)
+
+    def test_a_refusal_has_its_name_and_value(self):
+        bench = self.bench
+        made = bench.mvfs((0, 0, 0))
+        edge = bench.mev(Lone(made.loop), Lone(made.loop), (5, 0, 0))
+        bench.mev(-edge.edge, -edge.edge, (5, 5, 0))
+        with self.assertRaises(Refused) as caught:
+            bench.kev(edge.edge)
+        self.assertEqual((caught.exception.name, caught.exception.value, caught.exception.number), ('KeptEndBare', made.vertex, 16))
+        self.assertIn('kev +1: refused 16 1: KeptEndBare', str(caught.exception))
+
+    def test_a_fault(self):
+        with self.assertRaises(Faulted) as caught:
+            self.bench.block((10 ** 20, 0, 0), (1, 1, 1))
+        self.assertEqual((caught.exception.name, caught.exception.number), ('BadNumber', 2))
+
+    def test_undo_and_redo(self):
+        bench = self.bench
+        self.assertEqual(bench.listing().solids, ())
+        block = bench.block((0, 0, 0), (1, 2, 3))
+        held = bench.listing()
+        bench.undo()
+        self.assertEqual(bench.listing().solids, ())
+        bench.redo()
+        self.assertEqual(bench.listing(), held)
+        self.assertEqual(bench.volume(block.solid), 36)
+        with self.assertRaises(Refused) as caught:
+            bench.redo()
+        self.assertEqual(caught.exception.name, 'NothingToRedo')
+
+    def test_lines_that_are_no_command(self):
+        for line in ('', '# note', 'undo\nundo'):
+            with self.assertRaises(ValueError):
+                self.bench.ask(line)
+        self.assertEqual(self.bench.ask('nonsense').lines, ('fault 1',))
+
+    def test_a_closed_session(self):
+        self.assertEqual(self.bench.close(), 0)
+        with self.assertRaises(Ended):
+            self.bench.undo()
+
+
+class WithoutAProgram(unittest.TestCase):
+    """What can be said without one."""
+
+    def test_a_program_that_is_missing(self):
+        with self.assertRaises(ProgramMissing):
+            Workbench('/nowhere/gwb')
+
+    def test_a_program_that_is_another(self):
+        with Workbench('/bin/cat') as bench, self.assertRaises(CompanionError):
+            bench.undo()
+        with Workbench('/bin/true') as bench, self.assertRaises(CompanionError):
+            bench.undo()
+
+    def test_refused_memory(self):
+        self.assertIsInstance(complaint('undo', Reply(('memory',))), Complaint)
+
+
+if __name__ == '__main__':
+    unittest.main()

@@ -1,0 +1,19 @@
+use Rattle.std.proofs.Common.{◌≡◌, length, true, false}
+use Rattle.euler_operators.specs.declared.Kind.TheVariants.{Solid}
+use Rattle.euler_operators.specs.Table as table
+use Rattle.euler_operators.specs.Model.{faces_of}
+use Rattle.euler_conditions.specs.Store.{has_room, is_face_of}
+use Rattle.euler_operators.specs.declared.Op.TheVariants.{Merge}
+use Rattle.euler_conditions.specs.Ready.{after}
+use Rattle.low_euler.proofs.face_operators.moving.merge.Given as goal
+
+abbrev pub invariant-faces : goal.invariant-faces
+invariant-faces l = record {
+  same : after l.arena (Merge l.kept l.gone) ≡ after l.initial.arena (Merge l.kept l.gone);
+  zero : is_face_of l.arena.model l.gone 0 ≡ false;
+  room : has_room l.arena Solid l.kept ≡ true;
+  there : table.has l.arena.model.solids l.gone ≡ true;
+}
+
+abbrev pub decreases-faces : goal.decreases-faces
+decreases-faces l = length (faces_of l.arena.model l.gone)

@@ -1,9 +1,0 @@
-use Rattle.std.proofs.Common.{ap, ◌∙◌}
-use Rattle.euler_operators.specs.HalfEdge.{code}
-use Rattle.euler_operators.specs.Table as table
-use Rattle.euler_operators.specs.Model.{has_half}
-use Rattle.euler_operators.proofs.Halves.{edge_of-mate}
-use Rattle.split_checks.proofs.cut_places.halves.finish.Goals as goal
-
-pub start-requires-clause-there : goal.start-requires-clause-there
-start-requires-clause-there c = ap (has_half c.args.arena.now.model) c.mate.ensures ∙ ap (table.has c.args.arena.now.model.edges) (edge_of-mate (code c.args.h)) ∙ c.requires.there
