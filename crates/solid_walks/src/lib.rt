@@ -1,5 +1,8 @@
 //! Walks over a solid: from face to face and from loop to loop, round a loop, and round a vertex. Beside them, the numbers that
 //! are left for what a larger command makes.
+//!
+//! `face_walks` has the loops of a face and the half-edges of a loop in the order of listings, `around` the walk round a vertex, both
+//! ways, `numbers` the greatest numbers in use.
 #![tactic(auto)]
 
 mod around;
