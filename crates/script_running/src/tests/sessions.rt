@@ -31,13 +31,32 @@ fn command(n: u32) -> Op {
     Op::Mev(end, end, plus(n - 1), n, point)
 }
 
+fn act(rt: &impl Abort, session: &mut Session, op: Op) {
+    assert!(rt; session.act(op).is_ok());
+}
+
+fn undo(rt: &impl Abort, session: &mut Session) {
+    assert!(rt; session.undo().is_ok());
+}
+
+fn redo(rt: &impl Abort, session: &mut Session) {
+    assert!(rt; session.redo().is_ok());
+}
+
 /// A session after commands 1 to n.
-fn line(alloc: Global, n: u32) -> Result<Session, Fail> {
+fn line(rt: &impl Abort, alloc: Global, n: u32) -> Result<Session, Fail> {
     let mut session = Session::new(alloc)?;
     for k in 1..=n {
-        session.act(command(k)).map_err(|_| "a command")?;
+        act(rt, &mut session, command(k));
     }
     Ok(session)
+}
+
+fn opened(session: Session) -> Result<Draft, Fail> {
+    match Draft::open(session) {
+        Ok(draft) => Ok(draft),
+        Err((_, error)) => Err(error)?,
+    }
 }
 
 /// Whether the session's listing is this.
@@ -68,31 +87,26 @@ fn faces(alloc: Global, numbers: &[u32]) -> Result<FaceList, Fail> {
 }
 
 /// A session with two solids of one vertex each.
-fn two_points(alloc: Global) -> Result<Session, Fail> {
+fn two_points(rt: &impl Abort, alloc: Global) -> Result<Session, Fail> {
     let mut session = Session::new(alloc)?;
     let far = Point { x: 1, y: 1, z: 1 };
-    session
-        .act(Op::Mvfs(1, 1, 1, 1, Point::default()))
-        .map_err(|_| "mvfs 1")?;
-    session
-        .act(Op::Mvfs(2, 2, 2, 2, far))
-        .map_err(|_| "mvfs 2")?;
+    act(rt, &mut session, Op::Mvfs(1, 1, 1, 1, Point::default()));
+    act(rt, &mut session, Op::Mvfs(2, 2, 2, 2, far));
     Ok(session)
 }
 
 #[test]
 fn merge_and_part(rt: HostRuntime) -> Result<(), Fail> {
     let alloc = rt.alloc();
-    let mut session = two_points(alloc)?;
+    let mut session = two_points(&rt, alloc)?;
     refused(&rt, session.act(Op::Merge(1, 1)), Why::SameSolid, 1);
-    session.act(Op::Merge(1, 2)).map_err(|_| "merge")?;
-    for list in [&[].as_slice(), &[1, 2].as_slice()] {
-        let part = Op::Part(1, 3, faces(alloc, list)?);
-        refused(&rt, session.act(part), Why::BadPart, 1);
-    }
-    session
-        .act(Op::Part(1, 3, faces(alloc, &[2])?))
-        .map_err(|_| "part")?;
+    act(&rt, &mut session, Op::Merge(1, 2));
+    let nothing = Op::Part(1, 3, faces(alloc, &[])?);
+    let all = Op::Part(1, 3, faces(alloc, &[1, 2])?);
+    let second = Op::Part(1, 3, faces(alloc, &[2])?);
+    refused(&rt, session.act(nothing), Why::BadPart, 1);
+    refused(&rt, session.act(all), Why::BadPart, 1);
+    act(&rt, &mut session, second);
     lists(
         &rt,
         alloc,
@@ -104,18 +118,18 @@ fn merge_and_part(rt: HostRuntime) -> Result<(), Fail> {
 #[test]
 fn a_ring_made_outer(rt: HostRuntime) -> Result<(), Fail> {
     let alloc = rt.alloc();
-    let mut session = two_points(alloc)?;
-    session.act(Op::Merge(1, 2)).map_err(|_| "merge")?;
-    session.act(Op::Kfmrh(1, 2)).map_err(|_| "kfmrh")?;
+    let mut session = two_points(&rt, alloc)?;
+    act(&rt, &mut session, Op::Merge(1, 2));
+    act(&rt, &mut session, Op::Kfmrh(1, 2));
     refused(&rt, session.act(Op::Outer(1, 1)), Why::NotRing, 1);
-    session.act(Op::Outer(2, 1)).map_err(|_| "outer")?;
+    act(&rt, &mut session, Op::Outer(2, 1));
     lists(
         &rt,
         alloc,
         &session,
         b"solid 1\nface 1 1 2 1\nloop 1 at 1\nloop 2 at 2\nvertex 1 0 0 0\nvertex 2 1 1 1\n",
     )?;
-    session.undo().map_err(|_| "undo")?;
+    undo(&rt, &mut session);
     lists(
         &rt,
         alloc,
@@ -129,40 +143,47 @@ const WIRE: &[u8] =
 
 #[test]
 fn a_draft_abandoned(rt: HostRuntime) -> Result<(), Fail> {
-    let mut session = line(rt.alloc(), 2)?;
-    session.undo().map_err(|_| "undo")?;
-    let mut draft = Draft::open(session).map_err(|_| "open")?;
+    let mut session = line(&rt, rt.alloc(), 2)?;
+    undo(&rt, &mut session);
+    let mut draft = opened(session)?;
     let unknown = draft.step(Op::Kvfs(9));
     let lone = Corner::Lone(1);
     let step = draft.step(Op::Mev(lone, lone, plus(5), 5, Point::default()));
     let mut session = draft.abandon();
     refused(&rt, unknown, Why::NoSolid, 9);
     assert!(rt; step.is_ok());
-    session.redo().map_err(|_| "redo")?;
+    redo(&rt, &mut session);
     lists(&rt, rt.alloc(), &session, WIRE)
+}
+
+/// Whether a command's record has as many operators each way.
+fn has_lengths(session: &Session, i: usize, length: usize) -> bool {
+    if i >= session.depth() {
+        return false;
+    }
+    let record = session.record(i);
+    record.forward.len() == length && record.back.len() == length
 }
 
 #[test]
 fn drafts_committed(rt: HostRuntime) -> Result<(), Fail> {
-    let empty = Draft::open(Session::new(rt.alloc())?).map_err(|_| "open")?;
-    let mut draft = Draft::open(empty.commit()).map_err(|_| "open")?;
-    let steps = [draft.step(command(1)), draft.step(command(2))];
+    let empty = opened(Session::new(rt.alloc())?)?;
+    let mut draft = opened(empty.commit())?;
+    let first = draft.step(command(1));
+    let second = draft.step(command(2));
     let mut session = draft.commit();
-    assert!(rt; steps.iter().all(|step| step.is_ok()));
+    assert!(rt; first.is_ok() && second.is_ok());
     assert_eq!(rt; session.depth(), 2);
-    for (i, length) in [(0, 0), (1, 2)] {
-        let record = session.record(i);
-        assert_eq!(rt; (record.forward.len(), record.back.len()), (length, length));
-    }
-    session.undo().map_err(|_| "undo")?;
+    assert!(rt; has_lengths(&session, 0, 0) && has_lengths(&session, 1, 2));
+    undo(&rt, &mut session);
     lists(&rt, rt.alloc(), &session, b"empty\n")?;
-    session.redo().map_err(|_| "redo")?;
+    redo(&rt, &mut session);
     lists(&rt, rt.alloc(), &session, WIRE)
 }
 
 #[test]
 fn a_copy_lists_the_same(rt: HostRuntime) -> Result<(), Fail> {
-    let session = line(rt.alloc(), 64)?;
+    let session = line(&rt, rt.alloc(), 64)?;
     let copy = session.arena().copy(rt.alloc())?;
     let mut out = Vec::new(rt.alloc());
     write_listing(&copy, &mut out)?;
@@ -171,14 +192,14 @@ fn a_copy_lists_the_same(rt: HostRuntime) -> Result<(), Fail> {
 
 #[test]
 fn many_commands(rt: HostRuntime) -> Result<(), Fail> {
-    let mut session = line(rt.alloc(), 10_000)?;
+    let mut session = line(&rt, rt.alloc(), 10_000)?;
     for _ in 0..10_000 {
-        session.undo().map_err(|_| "undo")?;
+        undo(&rt, &mut session);
     }
     assert_eq!(rt; (session.depth(), session.ahead()), (0, 10_000));
     lists(&rt, rt.alloc(), &session, b"empty\n")?;
     for _ in 0..10_000 {
-        session.redo().map_err(|_| "redo")?;
+        redo(&rt, &mut session);
     }
     let arena = session.arena();
     assert_eq!(rt;
