@@ -148,10 +148,20 @@ class SolidCheck:
         """Faces of one plane where one has a point within the other; edges that cross or run along faces are found by then."""
         for faces in self._faces_by_planes():
             inner = {face: self._inner_point(face) for face in faces}
-            for face, other in combinations(faces, 2):
-                if self._overlap(face, other, inner[face], inner[other]) and not self._are_back_to_back({face}, {other}):
-                    yield Finding(MEETING if self._look_alike(face, other) else TOUCHING,
-                                  f'faces {face} and {other} lie on each other')
+            boxes = {face: box_of(self._model.face_points(face)) for face in faces}
+            index = BoxIndex(boxes)
+            for face in faces:
+                for other in sorted(index.meeting(boxes[face])):
+                    if other > face and self._overlap(face, other, inner):
+                        yield from self._overlapping(face, other)
+
+    def _overlap(self, face: int, other: int, inner: Dict[int, Optional[ExactVector]]) -> bool:
+        return any(point is not None and self._shapes[around].locate(point) is Place.INSIDE
+                   for point, around in ((inner[face], other), (inner[other], face)))
+
+    def _overlapping(self, face: int, other: int) -> Iterator[Finding]:
+        if not self._are_back_to_back({face}, {other}):
+            yield Finding(MEETING if self._look_alike(face, other) else TOUCHING, f'faces {face} and {other} lie on each other')
 
     def _faces_by_planes(self) -> List[List[int]]:
         planes: Dict[Tuple[Vector, int], List[int]] = {}
@@ -168,10 +178,6 @@ class SolidCheck:
             return None
         x, y, z = (Fraction(sum(axis), 3) for axis in zip(*corners))
         return (x, y, z)
-
-    def _overlap(self, face: int, other: int, inner: Optional[ExactVector], beyond: Optional[ExactVector]) -> bool:
-        return (inner is not None and self._shapes[other].locate(inner) is Place.INSIDE
-                or beyond is not None and self._shapes[face].locate(beyond) is Place.INSIDE)
 
 
 def _on_way(start: Vector, end: Vector, way: Fraction) -> ExactVector:
