@@ -16,8 +16,9 @@ from .measures import normal
 from .model import Model
 from .plane_figures import Place, turn
 from .shell_checks import shell_findings
+from .touched_edges import touched_edges
 from .triangulation import face_triangles
-from .vectors import Vector, ZERO, cross, dot, reduced, subtract
+from .vectors import Vector, ZERO, cross, dot, lies_between, reduced, subtract
 
 
 class SolidCheck:
@@ -29,6 +30,7 @@ class SolidCheck:
         self._normals = {face: normal(self._model, face) for face in self._model.faces}
         self._flat_shells = self._find_flat_shells()
         self._shapes = {face: FlatFace(self._model, face) for face in self._model.faces if is_flat(self._model, face)}
+        self._touched = touched_edges(self._model)
         self._around = self._faces_around_vertices()
         self._edges = BoxIndex({edge: box_of(self._ends(edge)) for edge in self._model.edges})
         self._vertices = BoxIndex({vertex: box_of([point]) for vertex, point in self._model.vertices.items()})
@@ -103,7 +105,7 @@ class SolidCheck:
         for edge in self._model.edges:
             start, end = self._ends(edge)
             for vertex in sorted(self._vertices.meeting(box_of((start, end)))):
-                if (_is_between(start, end, self._model.vertices[vertex]) and not self._are_back_to_back(
+                if (lies_between(start, end, self._model.vertices[vertex]) and not self._are_back_to_back(
                         self._around[vertex], self._faces_beside(edge))):
                     yield Finding(TOUCHING, f'vertex {vertex} lies on edge {edge}')
 
@@ -173,7 +175,7 @@ class SolidCheck:
 
     def _inner_point(self, face: int) -> Optional[ExactVector]:
         try:
-            corners = [self._model.vertices[vertex] for vertex in face_triangles(self._model, face)[0]]
+            corners = [self._model.vertices[vertex] for vertex in face_triangles(self._model, face, self._touched)[0]]
         except Unfit:
             return None
         x, y, z = (Fraction(sum(axis), 3) for axis in zip(*corners))
@@ -183,12 +185,6 @@ class SolidCheck:
 def _on_way(start: Vector, end: Vector, way: Fraction) -> ExactVector:
     x, y, z = (a + way * (b - a) for a, b in zip(start, end))
     return (x, y, z)
-
-
-def _is_between(start: Vector, end: Vector, point: Vector) -> bool:
-    """Whether the point lies on the segment, not at its ends."""
-    along, way = subtract(end, start), subtract(point, start)
-    return cross(along, way) == ZERO and 0 < dot(along, way) < dot(along, along)
 
 
 def _cross_between(a: Vector, b: Vector, c: Vector, d: Vector) -> bool:

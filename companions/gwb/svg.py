@@ -8,6 +8,7 @@ from .hidden_lines import Piece, Scene
 from .measures import normal, why_unfit
 from .model import Model
 from .plane_figures import turn
+from .touched_edges import TouchedEdges, touched_edges
 from .triangulation import face_triangles
 from .vectors import Vector, ZERO, dot, flat_axes, same_direction, total
 from .view import View
@@ -58,6 +59,7 @@ class _Drawing:
         self._model, self._view = model, view
         self._scene = Scene(model, view)
         self._frame = _Frame(list(self._scene.spots.values()), view)
+        self._touched = touched_edges(model)
         self._pieces = {edge: self._scene.pieces(edge) for edge in model.edges}
 
     def lines(self, names: bool, hidden: bool) -> Iterator[str]:
@@ -126,7 +128,7 @@ class _Drawing:
             yield end
 
     def _face_name(self, face: int) -> str:
-        point, weight = _middle(self._model, face)
+        point, weight = _middle(self._model, face, self._touched)
         spot = self._view.spot(point)
         x, y = self._frame.place(spot[0] / weight, spot[1] / weight)
         turned = dot(normal(self._model, face), self._view.into) > 0
@@ -137,12 +139,12 @@ def _text(kind: str, number: int, x: float, y: float, away: bool) -> str:
     return f'<text class="{kind}{" away" if away else ""}" x="{x:.1f}" y="{y:.1f}">{number}</text>'
 
 
-def _middle(model: Model, face: int) -> _Spot:
+def _middle(model: Model, face: int, touched: TouchedEdges) -> _Spot:
     """A place for the face's number: in the largest of its triangles, or amid its vertices where it has none."""
     corners = model.face_vertices(face)
     if why_unfit(model, face) is None:
         try:
-            corners = list(max(face_triangles(model, face), key=lambda triangle: _size(model, face, triangle)))
+            corners = list(max(face_triangles(model, face, touched), key=lambda triangle: _size(model, face, triangle)))
         except Unfit:
             pass
     return _Spot(total(model.vertices[vertex] for vertex in corners), len(corners))

@@ -95,6 +95,18 @@ class Faces(unittest.TestCase):
         self.assertEqual(self.area(lamina([(0, 0), (9, 0), (9, 9), (0, 9)], [(1, 1), (1, 4), (4, 4), (4, 1)],
                                           [(4, 4), (4, 7), (7, 7), (7, 4)])), 81 - 18)
 
+    def test_a_ring_that_touches_the_outline_amid_an_edge(self):
+        square = [(0, 0), (9, 0), (9, 9), (0, 9)]
+        self.assertEqual(self.area(lamina(square, [(4, 0), (3, 3), (5, 3)])), 81 - 3)
+        self.assertEqual(self.area(lamina(square, [(4, 0), (3, 3), (9, 4)])), 81 - 9.5)
+
+    def test_a_ring_that_touches_another_amid_an_edge(self):
+        square = [(0, 0), (9, 0), (9, 9), (0, 9)]
+        self.assertEqual(self.area(lamina(square, [(2, 2), (2, 5), (5, 5), (5, 2)], [(5, 3), (7, 4), (7, 1)])), 81 - 9 - 3)
+
+    def test_an_outline_that_touches_itself_amid_an_edge(self):
+        self.assertEqual(self.area(lamina([(0, 0), (8, 0), (8, 4), (4, 0), (0, 4)])), 16)
+
     def refuse(self, text, part):
         with self.assertRaises(Unfit) as caught:
             mesh_of(model_in(text))
