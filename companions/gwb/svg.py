@@ -1,5 +1,6 @@
 """Draws a listing: visible edges black, hidden ones thin and dashed, seams between faces of one plane grey."""
 
+from argparse import ArgumentTypeError
 from typing import Dict, Iterator, List, NamedTuple, Optional, Sequence, Tuple
 
 from .command_line import OK, listing_parser, run, filled_model
@@ -161,16 +162,25 @@ def svg_text(model: Model, stand: Vector, names: bool = False, hidden: bool = Tr
     return '\n'.join(_Drawing(model, View(stand)).lines(names, hidden)) + '\n'
 
 
+def _view_step(word: str) -> int:
+    step = int(word)
+    if abs(step) > 1_000_000:
+        raise ArgumentTypeError('past 1,000,000')
+    return step
+
+
 def work(words: Optional[Sequence[str]]) -> int:
     """Reads a listing and draws it."""
     parser = listing_parser(PROGRAM, 'Draws a listing of gwb as SVG: visible edges black, hidden ones thin and dashed (found '
                                      'exactly), seams between faces of one plane grey.')
-    parser.add_argument('--view', nargs=3, type=int, default=(2, -3, 2), metavar=('X', 'Y', 'Z'),
+    parser.add_argument('--view', nargs=3, type=_view_step, default=(2, -3, 2), metavar=('X', 'Y', 'Z'),
                         help='the viewer stands in this direction, z is up (default: 2 -3 2)')
     parser.add_argument('--names', action='store_true',
                         help='with the numbers of faces (green), edges (blue) and vertices (red); pale where they are hidden')
     parser.add_argument('--no-hidden', dest='hidden', action='store_false', help='leave hidden lines out')
     options = parser.parse_args(words)
+    if not any(options.view):
+        parser.error('argument --view: the viewer stands in no direction')
     print(svg_text(filled_model(options), tuple(options.view), options.names, options.hidden), end='')
     return OK
 

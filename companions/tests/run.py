@@ -18,7 +18,7 @@ def main() -> int:
     result = unittest.TextTestRunner(stream=sys.stdout).run(unittest.defaultTestLoader.discover(str(TESTS)))
     for test, reason in result.skipped:
         print(f'skipped: {test}: {reason}')
-    failed = len({test for test, _ in result.failures + result.errors})
+    failed = len({getattr(test, 'test_case', test) for test, _ in result.failures + result.errors})
     print(f'{result.testsRun - len(result.skipped) - failed} passed, {failed} failed')
     return 0 if result.wasSuccessful() else 1
 
