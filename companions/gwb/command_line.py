@@ -27,6 +27,9 @@ def run(program: str, work: Callable[[Optional[Sequence[str]]], int], words: Opt
     except OSError as error:
         print(f'{program}: {_told(error)}', file=sys.stderr)
         return REFUSED
+    except MemoryError:
+        print(f'{program}: out of memory', file=sys.stderr)
+        return REFUSED
     except KeyboardInterrupt:
         return INTERRUPTED
 

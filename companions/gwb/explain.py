@@ -115,7 +115,8 @@ def work(words: Optional[Sequence[str]]) -> int:
     if options.script == '-' and options.replies in (None, '-'):
         raise CompanionError("the script and the replies can't both come from standard input")
     joined = join(read_bytes(options.script), split_replies(read_bytes(options.replies)))
-    for line in annotated(joined) if options.annotate else complaints(options.script, joined):
+    name = options.script.encode('utf-8', 'backslashreplace').decode('utf-8')
+    for line in annotated(joined) if options.annotate else complaints(name, joined):
         print(line)
     return FOUND if any(answered.reply is not None and answered.reply.is_complaint for answered in joined) else OK
 

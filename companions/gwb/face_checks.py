@@ -2,6 +2,7 @@
 
 from typing import Iterator, Optional
 
+from .box_index import BoxIndex, box_of
 from .findings import BENT, OUTSIDE, WRONG_WAY, Finding
 from .measures import loop_normal, normal, off_plane
 from .model import Model
@@ -21,33 +22,45 @@ def face_findings(model: Model, face: int) -> Iterator[Finding]:
     if vertex is not None:
         yield Finding(BENT, f'vertex {vertex} lies off the plane of face {face}')
         return
+    yield from _directions(model, face)
+    yield from _places(model, face)
+
+
+def _directions(model: Model, face: int) -> Iterator[Finding]:
+    """Rings that run as the outer loop does."""
     outer, *rings = model.faces[face].loops
     across = loop_normal(model, outer)
     for ring in rings:
         if dot(loop_normal(model, ring), across) > 0:
             yield Finding(WRONG_WAY, f'ring {ring} of face {face} runs the same way round as its outer loop {outer}')
-        yield from _places(model, face, ring)
 
 
-def _places(model: Model, face: int, ring: int) -> Iterator[Finding]:
-    """Whether the ring lies outside the outer loop, or in another ring."""
-    outer, *rings = model.faces[face].loops
-    across = normal(model, face)
-    vertex = _vertex_at(model, ring, outer, Place.OUTSIDE, across)
-    if vertex is not None:
-        yield Finding(OUTSIDE, f'ring {ring} of face {face} lies outside its outer loop {outer}, at vertex {vertex}')
-    for other in rings:
-        vertex = _vertex_at(model, ring, other, Place.INSIDE, across) if other != ring else None
+def _places(model: Model, face: int) -> Iterator[Finding]:
+    """Rings outside the outer loop, or in other rings."""
+    outer, *rings = (_FlatLoop(model, loop, normal(model, face)) for loop in model.faces[face].loops)
+    boxes = BoxIndex({ring: ring.box for ring in rings})
+    for ring in rings:
+        vertex = ring.first_at(Place.OUTSIDE, outer)
         if vertex is not None:
-            yield Finding(OUTSIDE, f'ring {ring} of face {face} lies inside ring {other}, at vertex {vertex}')
+            yield Finding(OUTSIDE, f'ring {ring.number} of face {face} lies outside its outer loop {outer.number}, at vertex {vertex}')
+        for other in boxes.meeting(ring.box):
+            vertex = ring.first_at(Place.INSIDE, other) if other is not ring else None
+            if vertex is not None:
+                yield Finding(OUTSIDE, f'ring {ring.number} of face {face} lies inside ring {other.number}, at vertex {vertex}')
 
 
-def _vertex_at(model: Model, loop: int, around: int, place: Place, across: Vector) -> Optional[int]:
-    """The first vertex of a loop that lies at this place against another loop of the face, or None."""
-    first, second = flat_axes(across)
-    sides = segments([(point[first], point[second]) for point in model.loop_points(around)])
-    for vertex in model.loop_vertices(loop):
-        point = model.vertices[vertex]
-        if locate(sides, (point[first], point[second])) is place:
-            return vertex
-    return None
+class _FlatLoop:
+    """A loop as seen from the front of its face."""
+
+    def __init__(self, model: Model, number: int, across: Vector) -> None:
+        self.number = number
+        first, second = flat_axes(across)
+        self._corners = [(vertex, (model.vertices[vertex][first], model.vertices[vertex][second]))
+                         for vertex in model.loop_vertices(number)]
+        points = [point for _, point in self._corners]
+        self.box = box_of(points)
+        self._sides = segments(points)
+
+    def first_at(self, place: Place, around: '_FlatLoop') -> Optional[int]:
+        """The first vertex of the loop that lies at this place against another one, or None."""
+        return next((vertex for vertex, point in self._corners if locate(around._sides, point) is place), None)

@@ -6,6 +6,7 @@ from typing import Dict, Iterator, List, NamedTuple, Optional, Sequence, Tuple
 from .command_line import OK, listing_parser, run, filled_model
 from .measures import require_fit
 from .model import Model
+from .touched_edges import touched_edges
 from .triangulation import Triangle, face_triangles
 from .vectors import Vector, cross, subtract
 
@@ -35,11 +36,12 @@ class Mesh(NamedTuple):
 def mesh_of(model: Model) -> Mesh:
     """The model's faces as triangles; raises Unfit at a face that isn't a plain flat one."""
     require_fit(model)
+    touched = touched_edges(model)
     first: Dict[Tuple[int, Vector], int] = {}
     faces = {}
     for face, row in model.faces.items():
         faces[face] = [tuple(first.setdefault((row.solid, model.vertices[vertex]), vertex) for vertex in triangle)
-                       for triangle in face_triangles(model, face)]
+                       for triangle in face_triangles(model, face, touched)]
     return Mesh(model, faces)
 
 

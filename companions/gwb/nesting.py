@@ -2,7 +2,7 @@
 
 from fractions import Fraction
 from itertools import count
-from typing import Iterable, List, NamedTuple, Sequence
+from typing import List, NamedTuple, Sequence
 
 from .errors import Unfit
 from .flat_face import FlatFace
@@ -39,20 +39,17 @@ def nests(model: Model, solid: int) -> List[Nest]:
 
 def lies_in(model: Model, inner: Shell, outer: Shell) -> bool:
     """Whether a shell that meets the other at most by touching it lies within it."""
-    walls = ShellWalls(model, outer)
-    corners = dict.fromkeys(vertex for face in inner for vertex in model.face_vertices(face))
-    return walls.first_place_off(model.vertices[vertex] for vertex in corners) is Place.INSIDE
+    walls = _ShellWalls(model, outer)
+    corners = dict.fromkeys(point for face in inner for point in model.face_points(face))
+    places = (walls.place_of(point) for point in corners)
+    return next((place for place in places if place is not Place.ON), Place.ON) is Place.INSIDE
 
 
-class ShellWalls:
+class _ShellWalls:
     """The faces of a shell, ready for points to be placed against it."""
 
     def __init__(self, model: Model, faces: Sequence[int]) -> None:
         self._faces = [FlatFace(model, face) for face in faces]
-
-    def first_place_off(self, points: Iterable[Vector]) -> Place:
-        """Where the first of the points that isn't on the shell lies; ON where all are."""
-        return next((place for place in map(self.place_of, points) if place is not Place.ON), Place.ON)
 
     def place_of(self, point: Vector) -> Place:
         """Where the point lies, by the parity of crossings of a ray that meets no edge.

@@ -2,11 +2,21 @@
 
 from enum import Enum
 from fractions import Fraction
-from typing import Iterable, List, Sequence, Tuple, Union
+from typing import Iterable, List, NamedTuple, Sequence, Tuple, Union
 
 Exact = Union[int, Fraction]
 Flat = Tuple[Exact, Exact]
 Segment = Tuple[Flat, Flat]
+
+
+class Corner(NamedTuple):
+    """A corner of a loop: its vertex, and its point in the plane of the face."""
+
+    vertex: int
+    point: Flat
+
+
+Path = List[Corner]
 
 
 class Place(Enum):

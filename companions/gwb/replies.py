@@ -6,7 +6,7 @@ from typing import List, NamedTuple, Tuple
 from .errors import NotReplies
 
 _COMPLAINTS = ('refused', 'fault', 'memory')
-_NUMBER, _WHOLE = r'[0-9]+', r'-?[0-9]+'
+_NUMBER, _WHOLE = r'(?:0|[1-9][0-9]{0,9})', r'(?:0|-?[1-9][0-9]{0,39})'
 _ONE_LINE = re.compile(
     rf'ok|empty|memory|refused {_NUMBER} {_NUMBER}|fault [1-6]|volume {_WHOLE}'
     rf'|plane {_WHOLE} {_WHOLE} {_WHOLE} {_WHOLE} (?:flat|bent)'

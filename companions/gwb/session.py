@@ -29,7 +29,8 @@ class Workbench:
     def __init__(self, program: Optional[str] = None) -> None:
         """Starts the program at the path, or the one that the environment variable GWB, the repository or the path has."""
         self._pipe = Pipe(program)
-        self._greatest: Dict[str, int] = dict.fromkeys(_KINDS, 0)
+        self._greatest = dict.fromkeys(_KINDS, 0)
+        self._asked = False
         self._held: Optional[Model] = None
 
     def __enter__(self) -> 'Workbench':
@@ -44,24 +45,15 @@ class Workbench:
 
     def ask(self, line: str) -> Reply:
         """The reply to one line of the script language, whatever it is."""
-        self._held = None
+        self._held, self._asked = None, True
         return self._pipe.ask(line)
-
-    def do(self, *words: object) -> Reply:
-        """The reply to the command of these words; a complaint is raised."""
-        line = ' '.join(map(str, words))
-        reply = self._pipe.ask(line)
-        if reply.is_complaint:
-            raise complaint(line, reply)
-        if reply.word == 'ok':
-            self._held = None
-        return reply
 
     def listing(self) -> Model:
         """The model held."""
         if self._held is None:
-            self._held = model_of(self.do('list'))
+            self._held = model_of(self._do('list'))
             self._note(**_greatest_of(self._held))
+            self._asked = False
         return self._held
 
     def mvfs(self, point: Vector, *, solid: Optional[int] = None, face: Optional[int] = None,
@@ -69,72 +61,72 @@ class Workbench:
         """A new solid of one face, whose outer loop is one vertex at the point."""
         made = NewSolid(self._new('solid', solid), self._new('face', face),
                         self._new('loop', loop), self._new('vertex', vertex))
-        self.do('mvfs', *made, *point)
+        self._do('mvfs', *made, *point)
         self._note(**made._asdict())
         return made
 
     def kvfs(self, solid: int) -> None:
         """The solid goes, with its one face, loop and vertex."""
-        self.do('kvfs', solid)
+        self._do('kvfs', solid)
 
     def mev(self, first: Corner, second: Corner, point: Vector, *,
             edge: Optional[int] = None, vertex: Optional[int] = None) -> NewEdge:
         """A new edge from the vertex of both corners to a new one at the point."""
         made = NewEdge(self._new('edge', edge), self._new('vertex', vertex))
-        self.do('mev', _corner(first), _corner(second), *made, *point)
+        self._do('mev', _corner(first), _corner(second), *made, *point)
         self._note(**made._asdict())
         return made
 
     def kev(self, half: int) -> None:
         """The edge goes, and the vertex at which the half-edge ends."""
-        self.do('kev', _half(half))
+        self._do('kev', _half(half))
 
     def mef(self, first: int, second: int, *, edge: Optional[int] = None,
             face: Optional[int] = None, loop: Optional[int] = None) -> NewFace:
         """A new edge across a face; the part of its loop from the first half-edge to before the second is of the new face."""
         made = NewFace(self._new('edge', edge), self._new('face', face), self._new('loop', loop))
-        self.do('mef', _half(first), _half(second), *made)
+        self._do('mef', _half(first), _half(second), *made)
         self._note(**made._asdict())
         return made
 
     def kef(self, half: int) -> None:
         """The edge goes, and the face on the other side of the half-edge."""
-        self.do('kef', _half(half))
+        self._do('kef', _half(half))
 
     def kemr(self, half: int, *, loop: Optional[int] = None) -> int:
         """The edge goes, and the part of its loop after the half-edge is a new ring: its number."""
         made = self._new('loop', loop)
-        self.do('kemr', _half(half), made)
+        self._do('kemr', _half(half), made)
         self._note(loop=made)
         return made
 
     def mekr(self, first: Corner, second: Corner, *, edge: Optional[int] = None) -> int:
         """A new edge from the first corner to one in a ring of the same face, which becomes part of the first one's loop."""
         made = self._new('edge', edge)
-        self.do('mekr', _corner(first), _corner(second), made)
+        self._do('mekr', _corner(first), _corner(second), made)
         self._note(edge=made)
         return made
 
     def kfmrh(self, face: int, other: int) -> None:
         """The other face goes, and its loop becomes a ring of the face."""
-        self.do('kfmrh', face, other)
+        self._do('kfmrh', face, other)
 
     def mfkrh(self, ring: int, *, face: Optional[int] = None) -> int:
         """The ring becomes the outer loop of a new face: its number."""
         made = self._new('face', face)
-        self.do('mfkrh', ring, made)
+        self._do('mfkrh', ring, made)
         self._note(face=made)
         return made
 
     def ringmv(self, ring: int, face: int, way: str) -> None:
         """The ring becomes a ring of the face (way `in`), or its outer loop (way `out`)."""
-        self.do('ringmv', ring, face, way)
+        self._do('ringmv', ring, face, way)
 
     def lamina(self, points: Sequence[Vector], *, solid: Optional[int] = None) -> Lamina:
         """A new solid of two faces, back to back, through the points."""
         fresh = _Fresh(self.listing())
         number = self._new('solid', solid)
-        self.do('lamina', number, *(part for point in points for part in point))
+        self._do('lamina', number, *(part for point in points for part in point))
         faces, _ = fresh.take('face', 2), fresh.take('loop', 2)
         made = Lamina(number, *faces, fresh.take('edge', len(points)), fresh.take('vertex', len(points)))
         self._note(**fresh.greatest)
@@ -145,7 +137,7 @@ class Workbench:
         """A new solid: the block from the point on with edges along the axes, so long as the sizes say."""
         fresh = _Fresh(self.listing())
         number = self._new('solid', solid)
-        self.do('block', number, *point, *sizes)
+        self._do('block', number, *point, *sizes)
         faces, _ = fresh.take('face', 6), fresh.take('loop', 6)
         made = Block(number, faces[0], faces[1], faces[2:], fresh.take('edge', 12), fresh.take('vertex', 8))
         self._note(**fresh.greatest)
@@ -156,7 +148,7 @@ class Workbench:
         """The face moves by the vector and leaves a side behind each of its half-edges."""
         before = self.listing()
         fresh = _Fresh(before)
-        self.do('sweep', face, *vector)
+        self._do('sweep', face, *vector)
         rising: Numbers = ()
         far: Numbers = ()
         for loop in before.faces[face].loops:
@@ -172,14 +164,14 @@ class Workbench:
     def glue(self, face: int, other: int) -> int:
         """The solids of the two faces become one along them: its number."""
         before = self.listing()
-        self.do('glue', face, other)
+        self._do('glue', face, other)
         return before.faces[face].solid
 
     def split(self, solid: int, plane: Tuple[int, int, int, int], *, above: Optional[int] = None) -> Split:
         """The solid is cut by the plane a x + b y + c z + d = 0; what lies above it becomes a new solid."""
         before = self.listing()
         number = self._new('solid', above)
-        self.do('split', solid, *plane, number)
+        self._do('split', solid, *plane, number)
         after = self.listing()
         made = _new_things(before, after)
         caps = [face for face in made['face'] if _lies_on(after, face, plane)]
@@ -188,31 +180,45 @@ class Workbench:
 
     def undo(self) -> None:
         """The last accepted command is taken back."""
-        self.do('undo')
+        self._do('undo')
 
     def redo(self) -> None:
         """The command that was taken back last is done again."""
-        self.do('redo')
+        self._do('redo')
 
     def plane(self, face: int) -> Plane:
         """The plane of the face."""
-        reply = self.do('plane', face)
+        reply = self._do('plane', face)
         return Plane(*reply.numbers, reply.lines[0].endswith(' flat'))
 
     def volume(self, solid: int) -> int:
         """Six times the volume of the solid."""
-        return self.do('volume', solid).numbers[0]
+        return self._do('volume', solid).numbers[0]
 
     def count(self, solid: int) -> Count:
         """How many things of each kind the solid has."""
-        return Count(*self.do('count', solid).numbers)
+        return Count(*self._do('count', solid).numbers)
+
+    def _do(self, *words: object) -> Reply:
+        """The reply to the command of these words; a complaint is raised."""
+        line = ' '.join(map(str, words))
+        reply = self._pipe.ask(line)
+        if reply.is_complaint:
+            raise complaint(line, reply)
+        if reply.word == 'ok':
+            self._held = None
+        return reply
 
     def _new(self, kind: str, given: Optional[int]) -> int:
-        """The number that was given, or a free one."""
-        return self._greatest[kind] + 1 if given is None else given
+        """The number that was given, or one above all that are in use or were."""
+        if given is not None:
+            return given
+        if self._asked:
+            self.listing()
+        return self._greatest[kind] + 1
 
     def _note(self, **numbers: int) -> None:
-        """Numbers that are in use now: those that are taken later are greater."""
+        """Numbers that are in use now."""
         for kind, number in numbers.items():
             self._greatest[kind] = max(self._greatest[kind], number)
 

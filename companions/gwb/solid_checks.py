@@ -1,25 +1,24 @@
-"""Slips of a whole solid: faces that meet, places where it touches itself, shells that are inside out.
+"""Slips of a whole solid: faces that meet, and places where it touches itself.
 
 A flat shell, such as a lamina, has faces back to back: what looks one way may lie on what looks the other way.
 """
 
 from fractions import Fraction
 from itertools import combinations
-from typing import Dict, FrozenSet, Iterator, List, Optional, Sequence, Set, Tuple
+from typing import AbstractSet, Dict, FrozenSet, Iterator, List, Optional, Set, Tuple
 
 from .box_index import BoxIndex, box_of
 from .errors import Unfit
 from .face_checks import is_flat
-from .findings import CROSSING, INSIDE_OUT, MEETING, TOUCHING, Finding
+from .findings import CROSSING, MEETING, TOUCHING, Finding
 from .flat_face import ExactVector, FlatFace
-from .measures import normal, six_volume
+from .measures import normal
 from .model import Model
-from .nesting import ShellWalls
 from .plane_figures import Place, turn
+from .shell_checks import shell_findings
+from .touched_edges import touched_edges
 from .triangulation import face_triangles
-from .vectors import Vector, ZERO, cross, dot, reduced, subtract
-
-Faces = FrozenSet[int]
+from .vectors import Vector, ZERO, cross, dot, lies_between, reduced, subtract
 
 
 class SolidCheck:
@@ -28,9 +27,10 @@ class SolidCheck:
     def __init__(self, model: Model, solid: int) -> None:
         self._model = model.only(solid)
         self._solid = solid
-        self._shells = self._model.shells(solid)
+        self._normals = {face: normal(self._model, face) for face in self._model.faces}
         self._flat_shells = self._find_flat_shells()
         self._shapes = {face: FlatFace(self._model, face) for face in self._model.faces if is_flat(self._model, face)}
+        self._touched = touched_edges(self._model)
         self._around = self._faces_around_vertices()
         self._edges = BoxIndex({edge: box_of(self._ends(edge)) for edge in self._model.edges})
         self._vertices = BoxIndex({vertex: box_of([point]) for vertex, point in self._model.vertices.items()})
@@ -46,7 +46,7 @@ class SolidCheck:
             yield from self._edges_at_face(face)
         yield from self._faces_on_faces()
         if len(self._shapes) == len(self._model.faces):
-            yield from self._misplaced_shells()
+            yield from shell_findings(self._model, self._solid)
 
     # What stands ready
 
@@ -54,7 +54,7 @@ class SolidCheck:
         start, end = self._model.edges[edge]
         return (self._model.vertices[start], self._model.vertices[end])
 
-    def _faces_beside(self, edge: int) -> Faces:
+    def _faces_beside(self, edge: int) -> FrozenSet[int]:
         return frozenset((self._model.face_of(edge), self._model.face_of(-edge)))
 
     def _faces_around_vertices(self) -> Dict[int, Set[int]]:
@@ -67,21 +67,21 @@ class SolidCheck:
     def _find_flat_shells(self) -> Dict[int, int]:
         """The faces of shells that lie in one plane, each with the least face of its shell."""
         flat: Dict[int, int] = {}
-        for shell in self._shells:
-            normals = {reduced(across) for across in (normal(self._model, face) for face in shell) if across != ZERO}
+        for shell in self._model.shells(self._solid):
+            normals = {reduced(self._normals[face]) for face in shell if self._normals[face] != ZERO}
             if len(normals) <= 2 and all(cross(a, b) == ZERO for a, b in combinations(normals, 2)):
                 flat.update(dict.fromkeys(shell, shell[0]))
         return flat
 
-    def _are_back_to_back(self, some: Sequence[int], others: Sequence[int]) -> bool:
+    def _are_back_to_back(self, some: AbstractSet[int], others: AbstractSet[int]) -> bool:
         """Whether both are faces of one flat shell, and none of the first looks as one of the others does."""
-        homes = {self._flat_shells.get(face) for face in (*some, *others)}
+        homes = {self._flat_shells.get(face) for face in some | others}
         if len(homes) != 1 or None in homes:
             return False
         return not any(self._look_alike(face, other) for face in some for other in others)
 
     def _look_alike(self, face: int, other: int) -> bool:
-        return dot(normal(self._model, face), normal(self._model, other)) > 0
+        return dot(self._normals[face], self._normals[other]) > 0
 
     # Vertices and edges
 
@@ -97,7 +97,7 @@ class SolidCheck:
         for edge in self._model.edges:
             ends = frozenset(self._ends(edge))
             if ends in first and not self._are_back_to_back(
-                    tuple(self._faces_beside(edge)), tuple(self._faces_beside(first[ends]))):
+                    self._faces_beside(edge), self._faces_beside(first[ends])):
                 yield Finding(TOUCHING, f'edges {first[ends]} and {edge} of solid {self._solid} lie on each other')
             first.setdefault(ends, edge)
 
@@ -105,8 +105,8 @@ class SolidCheck:
         for edge in self._model.edges:
             start, end = self._ends(edge)
             for vertex in sorted(self._vertices.meeting(box_of((start, end)))):
-                if (_is_between(start, end, self._model.vertices[vertex]) and not self._are_back_to_back(
-                        tuple(self._around[vertex]), tuple(self._faces_beside(edge)))):
+                if (lies_between(start, end, self._model.vertices[vertex]) and not self._are_back_to_back(
+                        self._around[vertex], self._faces_beside(edge))):
                     yield Finding(TOUCHING, f'vertex {vertex} lies on edge {edge}')
 
     def _crossing_edges(self) -> Iterator[Finding]:
@@ -119,7 +119,7 @@ class SolidCheck:
         beside, beyond = self._faces_beside(edge), self._faces_beside(other)
         if beside & beyond:
             yield Finding(CROSSING, f'edges {edge} and {other} of face {min(beside & beyond)} cross')
-        elif not self._are_back_to_back(tuple(beside), tuple(beyond)):
+        elif not self._are_back_to_back(beside, beyond):
             yield Finding(MEETING, f'edges {edge} and {other} cross')
 
     # Faces
@@ -129,7 +129,7 @@ class SolidCheck:
         for vertex in sorted(self._vertices.meeting(box_of(self._model.face_points(face)))):
             point = self._model.vertices[vertex]
             if (face not in self._around[vertex] and shape.height(point) == 0 and shape.locate(point) is Place.INSIDE
-                    and not self._are_back_to_back(tuple(self._around[vertex]), (face,))):
+                    and not self._are_back_to_back(self._around[vertex], {face})):
                 yield Finding(TOUCHING, f'vertex {vertex} lies on face {face}')
 
     def _edges_at_face(self, face: int) -> Iterator[Finding]:
@@ -143,17 +143,27 @@ class SolidCheck:
                 if shape.locate(_on_way(start, end, Fraction(before, before - after))) is Place.INSIDE:
                     yield Finding(MEETING, f'edge {edge} passes through face {face}')
             elif (before == after == 0 and _runs_within(shape, start, end)
-                    and not self._are_back_to_back(tuple(self._faces_beside(edge)), (face,))):
+                    and not self._are_back_to_back(self._faces_beside(edge), {face})):
                 yield Finding(TOUCHING, f'edge {edge} runs along face {face}')
 
     def _faces_on_faces(self) -> Iterator[Finding]:
         """Faces of one plane where one has a point within the other; edges that cross or run along faces are found by then."""
         for faces in self._faces_by_planes():
             inner = {face: self._inner_point(face) for face in faces}
-            for face, other in combinations(faces, 2):
-                if self._overlap(face, other, inner[face], inner[other]) and not self._are_back_to_back((face,), (other,)):
-                    yield Finding(MEETING if self._look_alike(face, other) else TOUCHING,
-                                  f'faces {face} and {other} lie on each other')
+            boxes = {face: box_of(self._model.face_points(face)) for face in faces}
+            index = BoxIndex(boxes)
+            for face in faces:
+                for other in sorted(index.meeting(boxes[face])):
+                    if other > face and self._overlap(face, other, inner):
+                        yield from self._overlapping(face, other)
+
+    def _overlap(self, face: int, other: int, inner: Dict[int, Optional[ExactVector]]) -> bool:
+        return any(point is not None and self._shapes[around].locate(point) is Place.INSIDE
+                   for point, around in ((inner[face], other), (inner[other], face)))
+
+    def _overlapping(self, face: int, other: int) -> Iterator[Finding]:
+        if not self._are_back_to_back({face}, {other}):
+            yield Finding(MEETING if self._look_alike(face, other) else TOUCHING, f'faces {face} and {other} lie on each other')
 
     def _faces_by_planes(self) -> List[List[int]]:
         planes: Dict[Tuple[Vector, int], List[int]] = {}
@@ -165,45 +175,16 @@ class SolidCheck:
 
     def _inner_point(self, face: int) -> Optional[ExactVector]:
         try:
-            corners = [self._model.vertices[vertex] for vertex in face_triangles(self._model, face)[0]]
+            corners = [self._model.vertices[vertex] for vertex in face_triangles(self._model, face, self._touched)[0]]
         except Unfit:
             return None
         x, y, z = (Fraction(sum(axis), 3) for axis in zip(*corners))
         return (x, y, z)
 
-    def _overlap(self, face: int, other: int, inner: Optional[ExactVector], beyond: Optional[ExactVector]) -> bool:
-        return (inner is not None and self._shapes[other].locate(inner) is Place.INSIDE
-                or beyond is not None and self._shapes[face].locate(beyond) is Place.INSIDE)
-
-    # Shells
-
-    def _misplaced_shells(self) -> Iterator[Finding]:
-        """Shells whose outside isn't where they lie: in no material for one that bounds some, in some for one that doesn't."""
-        volumes = [six_volume(self._model, shell) for shell in self._shells]
-        solid_shells = [(shell, volume) for shell, volume in zip(self._shells, volumes) if volume != 0]
-        for shell, volume in solid_shells:
-            around = [1 if beyond > 0 else -1 for other, beyond in solid_shells
-                      if other is not shell and self._lies_in(shell, other)]
-            if volume < 0 and sum(around) < 1:
-                yield Finding(INSIDE_OUT, f'the shell of face {shell[0]} of solid {self._solid} is inside out')
-            elif volume > 0 and sum(around) > 0:
-                yield Finding(MEETING, f'the shell of face {shell[0]} of solid {self._solid} lies in the material of another')
-
-    def _lies_in(self, shell: List[int], other: List[int]) -> bool:
-        corners = dict.fromkeys(vertex for face in shell for vertex in self._model.face_vertices(face))
-        walls = ShellWalls(self._model, other)
-        return walls.first_place_off(self._model.vertices[vertex] for vertex in corners) is Place.INSIDE
-
 
 def _on_way(start: Vector, end: Vector, way: Fraction) -> ExactVector:
     x, y, z = (a + way * (b - a) for a, b in zip(start, end))
     return (x, y, z)
-
-
-def _is_between(start: Vector, end: Vector, point: Vector) -> bool:
-    """Whether the point lies on the segment, not at its ends."""
-    along, way = subtract(end, start), subtract(point, start)
-    return cross(along, way) == ZERO and 0 < dot(along, way) < dot(along, along)
 
 
 def _cross_between(a: Vector, b: Vector, c: Vector, d: Vector) -> bool:

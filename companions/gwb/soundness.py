@@ -1,14 +1,17 @@
 """Whether the parts of a model fit together: the rules of *Soundness* in docs/MODEL.md."""
 
 from collections import Counter
-from typing import Dict, Iterable, Set
+from typing import Dict, Iterable
 
 from .errors import NotAListing
 from .model import Model
 
+_NUMBERS, _COORDINATES = 1_000_000, 1_000_000_000
+
 
 def require_sound(model: Model) -> None:
     """Raises NotAListing, with the first rule that the model breaks."""
+    _require_ranges(model)
     _require_faces(model)
     _require_loops(model)
     _require_halves(model)
@@ -27,11 +30,20 @@ def _require_once(numbers: Iterable[int], kind: str) -> None:
         _require(times == 1, f'{kind} {number} stands in {times} places')
 
 
+def _require_ranges(model: Model) -> None:
+    """Numbers and coordinates lie in their ranges."""
+    for numbers in (model.solids, model.faces, model.loops, model.edges, model.vertices):
+        _require(max(numbers, default=0) <= _NUMBERS, f'the number {max(numbers, default=0)} is out of range')
+    for vertex, point in model.vertices.items():
+        _require(max(map(abs, point)) <= _COORDINATES, f'vertex {vertex} lies out of range')
+
+
 def _require_faces(model: Model) -> None:
     """Each face is of a solid that is there, and each solid has a face."""
-    faced: Set[int] = {face.solid for face in model.faces.values()}
+    faced = {face.solid for face in model.faces.values()}
+    solids = set(model.solids)
     for number, face in model.faces.items():
-        _require(face.solid in model.solids, f'face {number} is of solid {face.solid}, which is missing')
+        _require(face.solid in solids, f'face {number} is of solid {face.solid}, which is missing')
         _require(list(face.rings) == sorted(face.rings), f"the rings of face {number} don't rise")
     for solid in model.solids:
         _require(solid in faced, f'solid {solid} has no face')

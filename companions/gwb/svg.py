@@ -1,5 +1,6 @@
 """Draws a listing: visible edges black, hidden ones thin and dashed, seams between faces of one plane grey."""
 
+from argparse import ArgumentTypeError
 from typing import Dict, Iterator, List, NamedTuple, Optional, Sequence, Tuple
 
 from .command_line import OK, listing_parser, run, filled_model
@@ -8,6 +9,7 @@ from .hidden_lines import Piece, Scene
 from .measures import normal, why_unfit
 from .model import Model
 from .plane_figures import turn
+from .touched_edges import TouchedEdges, touched_edges
 from .triangulation import face_triangles
 from .vectors import Vector, ZERO, dot, flat_axes, same_direction, total
 from .view import View
@@ -58,6 +60,7 @@ class _Drawing:
         self._model, self._view = model, view
         self._scene = Scene(model, view)
         self._frame = _Frame(list(self._scene.spots.values()), view)
+        self._touched = touched_edges(model)
         self._pieces = {edge: self._scene.pieces(edge) for edge in model.edges}
 
     def lines(self, names: bool, hidden: bool) -> Iterator[str]:
@@ -126,7 +129,7 @@ class _Drawing:
             yield end
 
     def _face_name(self, face: int) -> str:
-        point, weight = _middle(self._model, face)
+        point, weight = _middle(self._model, face, self._touched)
         spot = self._view.spot(point)
         x, y = self._frame.place(spot[0] / weight, spot[1] / weight)
         turned = dot(normal(self._model, face), self._view.into) > 0
@@ -137,12 +140,12 @@ def _text(kind: str, number: int, x: float, y: float, away: bool) -> str:
     return f'<text class="{kind}{" away" if away else ""}" x="{x:.1f}" y="{y:.1f}">{number}</text>'
 
 
-def _middle(model: Model, face: int) -> _Spot:
+def _middle(model: Model, face: int, touched: TouchedEdges) -> _Spot:
     """A place for the face's number: in the largest of its triangles, or amid its vertices where it has none."""
     corners = model.face_vertices(face)
     if why_unfit(model, face) is None:
         try:
-            corners = list(max(face_triangles(model, face), key=lambda triangle: _size(model, face, triangle)))
+            corners = list(max(face_triangles(model, face, touched), key=lambda triangle: _size(model, face, triangle)))
         except Unfit:
             pass
     return _Spot(total(model.vertices[vertex] for vertex in corners), len(corners))
@@ -159,16 +162,25 @@ def svg_text(model: Model, stand: Vector, names: bool = False, hidden: bool = Tr
     return '\n'.join(_Drawing(model, View(stand)).lines(names, hidden)) + '\n'
 
 
+def _view_step(word: str) -> int:
+    step = int(word)
+    if abs(step) > 1_000_000:
+        raise ArgumentTypeError('past 1,000,000')
+    return step
+
+
 def work(words: Optional[Sequence[str]]) -> int:
     """Reads a listing and draws it."""
     parser = listing_parser(PROGRAM, 'Draws a listing of gwb as SVG: visible edges black, hidden ones thin and dashed (found '
                                      'exactly), seams between faces of one plane grey.')
-    parser.add_argument('--view', nargs=3, type=int, default=(2, -3, 2), metavar=('X', 'Y', 'Z'),
+    parser.add_argument('--view', nargs=3, type=_view_step, default=(2, -3, 2), metavar=('X', 'Y', 'Z'),
                         help='the viewer stands in this direction, z is up (default: 2 -3 2)')
     parser.add_argument('--names', action='store_true',
                         help='with the numbers of faces (green), edges (blue) and vertices (red); pale where they are hidden')
     parser.add_argument('--no-hidden', dest='hidden', action='store_false', help='leave hidden lines out')
     options = parser.parse_args(words)
+    if not any(options.view):
+        parser.error('argument --view: the viewer stands in no direction')
     print(svg_text(filled_model(options), tuple(options.view), options.names, options.hidden), end='')
     return OK
 

@@ -1,59 +1,63 @@
-"""Cuts faces into triangles by exact tests: rings are joined to the outline by bridges, then ears are cut off.
+"""Cuts faces into triangles by exact tests: loops that touch are joined, rings are bridged to the outline, ears are cut off.
 
-Only corners of the face become corners of triangles, and no edge is cut. So faces that share an edge have triangles that share it.
+Only vertices of the model become corners of triangles, so faces that share an edge have triangles that share it.
 """
 
 from collections import deque
 from heapq import heapify, heappop
-from typing import Deque, Dict, Iterator, List, NamedTuple, Optional, Sequence, Tuple
+from typing import Deque, Iterator, List, Optional, Sequence, Tuple
 
 from .box_index import BoxIndex, box_of
 from .errors import Unfit
 from .measures import normal
 from .model import Model
-from .plane_figures import Flat, Segment, crossing, inside_segment, on_segment, segments, turn, twice_area
+from .pinches import unpinched
+from .plane_figures import Corner, Flat, Path, Place, Segment, crossing, inside_segment, locate, segments, turn, twice_area
+from .touched_edges import TouchedEdges
 from .vectors import flat_axes
 
 Triangle = Tuple[int, int, int]
 
 
-class Corner(NamedTuple):
-    """A corner of a loop: its vertex, and its point in the plane of the face."""
+def face_triangles(model: Model, face: int, touched: TouchedEdges) -> List[Triangle]:
+    """A plain flat face as triangles of vertices, which run as its outer loop does.
 
-    vertex: int
-    point: Flat
-
-
-Path = List[Corner]
-
-
-def face_triangles(model: Model, face: int) -> List[Triangle]:
-    """A plain flat face as triangles of vertices, which run as its outer loop does. Where it touches itself, triangles at
-    one point may have other vertices there.
+    The edges of the face are given a corner where they are touched. At a point that several vertices of the face have,
+    triangles may take either.
     """
-    outline, *rings = flat_loops(model, face)
+    outline, *rings = _flat_loops(model, face, touched)
     try:
         return triangulate(outline, rings)
     except Unfit as error:
         raise Unfit(f'face {face}: {error}') from None
 
 
-def flat_loops(model: Model, face: int) -> List[Path]:
+def _flat_loops(model: Model, face: int, touched: TouchedEdges) -> List[Path]:
     """The loops of a face with an area as seen from its front, the outer loop first."""
     first, second = flat_axes(normal(model, face))
     paths = []
     for loop in model.faces[face].loops:
-        points = ((vertex, model.vertices[vertex]) for vertex in model.loop_vertices(loop))
+        points = ((vertex, model.vertices[vertex]) for vertex in _loop_corners(model, loop, touched))
         paths.append([Corner(vertex, (point[first], point[second])) for vertex, point in points])
     return paths
+
+
+def _loop_corners(model: Model, loop: int, touched: TouchedEdges) -> Iterator[int]:
+    """The vertices along a loop, those that touch its edges among them."""
+    for half in model.loops[loop].halves:
+        yield model.tail(half)
+        amid = touched.get(abs(half), [])
+        yield from amid if half > 0 else reversed(amid)
 
 
 def triangulate(outline: Path, rings: Sequence[Path]) -> List[Triangle]:
     """The region within the outline (which runs to the left) and without the rings (which run to the right)."""
     _require_directions(outline, rings)
-    corners = _bridged(outline, rings)
-    triangles = _EarCutter(corners).triangles()
-    return [(corners[a].vertex, corners[b].vertex, corners[c].vertex) for a, b, c in triangles]
+    triangles: List[Triangle] = []
+    for outer, inner in _regions(unpinched([outline, *rings])):
+        corners = _bridged(outer, inner)
+        triangles += [(corners[a].vertex, corners[b].vertex, corners[c].vertex) for a, b, c in _EarCutter(corners).triangles()]
+    return triangles
 
 
 def _require_directions(outline: Path, rings: Sequence[Path]) -> None:
@@ -62,6 +66,18 @@ def _require_directions(outline: Path, rings: Sequence[Path]) -> None:
     for ring in rings:
         if twice_area(_points(ring)) > 0:
             raise Unfit(f'the ring at vertex {ring[0].vertex} runs the same way round as the outer loop')
+
+
+def _regions(loops: Sequence[Path]) -> Iterator[Tuple[Path, List[Path]]]:
+    """Each loop that goes round an area, with the loops in it that leave one out."""
+    outer = [loop for loop in loops if twice_area(_points(loop)) > 0]
+    inner = [loop for loop in loops if twice_area(_points(loop)) <= 0]
+    if len(outer) == 1:
+        yield outer[0], inner
+        return
+    for loop in outer:
+        sides = segments(_points(loop))
+        yield loop, [ring for ring in inner if any(locate(sides, point) is Place.INSIDE for point in _points(ring))]
 
 
 def _points(path: Path) -> List[Flat]:
@@ -92,8 +108,8 @@ def _bridge_end(path: Path, ring: Path, start: int, walls: '_Walls') -> Optional
     nearest = [((corner.point[0] - x) ** 2 + (corner.point[1] - y) ** 2, i) for i, corner in enumerate(path)]
     heapify(nearest)
     while nearest:
-        distance, end = heappop(nearest)
-        if (distance > 0 and _opens_to(path, end, point) and _opens_to(ring, start, path[end].point)
+        _, end = heappop(nearest)
+        if (_opens_to(path, end, point) and _opens_to(ring, start, path[end].point)
                 and not walls.stand_between(path[end].point, point)):
             return end
     return None
@@ -126,11 +142,11 @@ class _Walls:
     @staticmethod
     def _blocks(a: Flat, b: Flat, p: Flat, q: Flat) -> bool:
         return (crossing(a, b, p, q) or inside_segment(p, q, a) or inside_segment(p, q, b)
-                or inside_segment(a, b, p) or inside_segment(a, b, q) or {a, b} == {p, q})
+                or inside_segment(a, b, p) or inside_segment(a, b, q))
 
 
 class _EarCutter:
-    """Cuts ears off a path until a triangle is left. The path may touch itself, but not cross itself."""
+    """Cuts ears off a path until a triangle is left. The path may touch itself, but no two of its corners share a sector."""
 
     def __init__(self, corners: Path) -> None:
         self._points = _points(corners)
@@ -141,7 +157,6 @@ class _EarCutter:
         hollow = {i: box_of([self._points[i]]) for i in range(count) if self._turn(i) <= 0}
         self._hollow = BoxIndex(hollow)
         self._cut = [False] * count
-        self._twins = _twins(self._points)
 
     def triangles(self) -> List[Triangle]:
         """The triangles as places in the path."""
@@ -150,25 +165,19 @@ class _EarCutter:
         failures = 0
         while self._left > 2:
             if failures > len(waiting):
-                raise Unfit('its loops cross, or touch amid an edge')
+                raise Unfit('its loops cross')
             tip = waiting.popleft()
             if self._cut[tip]:
                 continue
-            if self._is_ear(tip):
-                found.append((self._before[tip], tip, self._after[tip]))
-            elif not self._is_fold(tip):
+            if not self._is_ear(tip):
                 waiting.append(tip)
                 failures += 1
                 continue
+            found.append((self._before[tip], tip, self._after[tip]))
             waiting.extend((self._before[tip], self._after[tip]))
             self._cut_off(tip)
             failures = 0
         return found
-
-    def _is_fold(self, tip: int) -> bool:
-        """Whether the path goes nowhere, or forth and back, at the corner, so that nothing lies between."""
-        before, here, after = (self._points[i] for i in (self._before[tip], tip, self._after[tip]))
-        return here in (before, after) or before == after
 
     def _turn(self, tip: int) -> int:
         return turn(self._points[self._before[tip]], self._points[tip], self._points[self._after[tip]])
@@ -183,42 +192,10 @@ class _EarCutter:
         """Whether the triangle at the corner lies within the path, and nothing of the path in it."""
         if self._turn(tip) <= 0:
             return False
-        places = (self._before[tip], tip, self._after[tip])
-        a, b, c = (self._points[place] for place in places)
+        a, b, c = (self._points[place] for place in (self._before[tip], tip, self._after[tip]))
         for place in self._hollow.meeting(box_of((a, b, c))):
             point = self._points[place]
             if (not self._cut[place] and point not in (a, b, c)
-                    and min(turn(a, b, point), turn(b, c, point), turn(c, a, point)) >= 0
-                    and self._spoils(place, a, b, c)):
+                    and min(turn(a, b, point), turn(b, c, point), turn(c, a, point)) >= 0):
                 return False
-        return not any(self._enters(place, corner, (a, b, c)) for place, corner in self._touching(places))
-
-    def _spoils(self, place: int, a: Flat, b: Flat, c: Flat) -> bool:
-        """Whether a corner in the triangle forbids it: one that only touches a side from outside does not."""
-        point = self._points[place]
-        beside = [self._points[i] for i in (self._before[place], self._after[place])]
-        for start, end in ((a, b), (b, c)):
-            if on_segment(start, end, point):
-                return any(turn(start, end, other) > 0 for other in beside)
         return True
-
-    def _touching(self, places: Tuple[int, int, int]) -> Iterator[Tuple[int, int]]:
-        """Other corners of the path at the points of the triangle, each with its place in the triangle."""
-        for i, place in enumerate(places):
-            for twin in self._twins.get(self._points[place], ()):
-                if twin not in places and not self._cut[twin]:
-                    yield twin, i
-
-    def _enters(self, place: int, corner: int, triangle: Tuple[Flat, Flat, Flat]) -> bool:
-        """Whether a side that starts at this corner of the triangle leads into it."""
-        here, following, last = (triangle[(corner + i) % 3] for i in range(3))
-        return any(turn(here, following, other) > 0 and turn(here, last, other) < 0
-                   for other in (self._points[self._before[place]], self._points[self._after[place]]))
-
-
-def _twins(points: Sequence[Flat]) -> Dict[Flat, List[int]]:
-    """The places of each point that comes more than once."""
-    places: Dict[Flat, List[int]] = {}
-    for place, point in enumerate(points):
-        places.setdefault(point, []).append(place)
-    return {point: found for point, found in places.items() if len(found) > 1}

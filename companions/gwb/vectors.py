@@ -54,6 +54,12 @@ def same_direction(a: Vector, b: Vector) -> bool:
     return cross(a, b) == ZERO and dot(a, b) > 0
 
 
+def lies_between(start: Vector, end: Vector, point: Vector) -> bool:
+    """Whether the point lies on the segment, not at its ends."""
+    along, way = subtract(end, start), subtract(point, start)
+    return cross(along, way) == ZERO and 0 < dot(along, way) < dot(along, along)
+
+
 def flat_axes(normal: Vector) -> Tuple[int, int]:
     """The two axes to look at so that a plane with this normal is seen from its front, undistorted enough to be exact.
 

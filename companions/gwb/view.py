@@ -3,7 +3,6 @@
 from math import sqrt
 from typing import Tuple
 
-from .errors import CompanionError
 from .vectors import Vector, ZERO, cross, dot, negative, reduced
 
 Spot = Tuple[int, int]
@@ -13,9 +12,7 @@ class View:
     """A view from far away, with z upwards. Screen coordinates are whole; their units across and up differ."""
 
     def __init__(self, stand: Vector) -> None:
-        """The viewer stands in this direction from the model."""
-        if stand == ZERO:
-            raise CompanionError("the direction in which the viewer stands can't be zero")
+        """The viewer stands in this direction, which isn't zero, from the model."""
         self.into = negative(reduced(stand))
         level = (self.into[1], -self.into[0], 0)
         self._across = (1, 0, 0) if level == ZERO else level

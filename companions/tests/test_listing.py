@@ -70,6 +70,8 @@ class Refusing(unittest.TestCase):
         self.refuse('ok\nvertex 1 2\n', NotReplies, 'line 2')
         self.refuse('refused 16\n', NotReplies, 'line 1')
         self.refuse('ok \n', NotReplies, 'line 1')
+        self.refuse('volume 007\n', NotReplies, 'line 1')
+        self.refuse('volume ' + '9' * 5000 + '\n', NotReplies, 'line 1')
         self.refuse('caf\u00e9\n', NotReplies, 'byte 4')
         self.refuse('ok\n' + 'x' * 1000 + '\n', NotReplies, '..')
 
@@ -105,6 +107,10 @@ class Refusing(unittest.TestCase):
             with self.subTest(new):
                 self.assertIn(old, SQUARE)
                 self.refuse(SQUARE.replace(old, new), NotAListing, part)
+
+    def test_ranges(self):
+        self.refuse(WIRE.replace('vertex 2', 'vertex 1000001').replace('edge 1 1 2', 'edge 1 1 1000001'), NotAListing, 'range')
+        self.refuse(WIRE.replace('5 0 0', '5 0 1000000001'), NotAListing, 'vertex 2 lies out of range')
 
     def test_an_edge_between_two_solids(self):
         self.refuse(SQUARE.replace('solid 1', 'solid 1\nsolid 2').replace('face 2 1', 'face 2 2'), NotAListing, 'two solids')

@@ -95,6 +95,28 @@ class Faces(unittest.TestCase):
         self.assertEqual(self.area(lamina([(0, 0), (9, 0), (9, 9), (0, 9)], [(1, 1), (1, 4), (4, 4), (4, 1)],
                                           [(4, 4), (4, 7), (7, 7), (7, 4)])), 81 - 18)
 
+    def test_a_ring_that_touches_the_outline_amid_an_edge(self):
+        square = [(0, 0), (9, 0), (9, 9), (0, 9)]
+        self.assertEqual(self.area(lamina(square, [(4, 0), (3, 3), (5, 3)])), 81 - 3)
+        self.assertEqual(self.area(lamina(square, [(4, 0), (3, 3), (9, 4)])), 81 - 9.5)
+
+    def test_a_ring_that_touches_another_amid_an_edge(self):
+        square = [(0, 0), (9, 0), (9, 9), (0, 9)]
+        self.assertEqual(self.area(lamina(square, [(2, 2), (2, 5), (5, 5), (5, 2)], [(5, 3), (7, 4), (7, 1)])), 81 - 9 - 3)
+
+    def test_an_outline_that_touches_itself_amid_an_edge(self):
+        self.assertEqual(self.area(lamina([(0, 0), (8, 0), (8, 4), (4, 0), (0, 4)])), 16)
+
+    def test_edges_with_one_face_on_both_sides(self):
+        points = [(0, 0, 0), (9, 0, 0), (9, 9, 0), (0, 9, 0), (2, 2, 0), (2, 4, 0), (4, 2, 0)]
+        spur = listing(points[:5], [[(1, 2, 3, 4, 1, 5)], [(4, 3, 2, 1)]])
+        self.assertEqual(self.area(spur), 81)
+        bridge = listing(points, [[(1, 2, 3, 4, 1, 5, 6, 7, 5)], [(4, 3, 2, 1)], [(7, 6, 5)]])
+        self.assertEqual(self.area(bridge), 81 - 2)
+        star = listing(points[:4] + [(2, 2, 0), (3, 5, 0), (5, 3, 0), (6, 6, 0)],
+                       [[(1, 2, 3, 4), (5, 6, 5, 7, 5, 8)], [(4, 3, 2, 1)]])
+        self.assertEqual(self.area(star), 81)
+
     def refuse(self, text, part):
         with self.assertRaises(Unfit) as caught:
             mesh_of(model_in(text))

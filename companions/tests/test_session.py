@@ -167,6 +167,13 @@ class Session(unittest.TestCase):
             bench.redo()
         self.assertEqual(caught.exception.name, 'NothingToRedo')
 
+    def test_numbers_after_lines_of_the_language(self):
+        bench = self.bench
+        bench.ask('mvfs 5 6 7 8 0 0 0')
+        self.assertEqual(bench.mvfs((1, 1, 1)), (6, 7, 8, 9))
+        bench.undo()
+        self.assertEqual(bench.mvfs((1, 1, 1)), (7, 8, 9, 10))
+
     def test_lines_that_are_no_command(self):
         for line in ('', '# note', 'undo\nundo'):
             with self.assertRaises(ValueError):

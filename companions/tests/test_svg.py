@@ -6,7 +6,6 @@ from fractions import Fraction
 
 from support import box, examples, lamina, listing, model_in, plate, run
 
-from gwb.errors import CompanionError
 from gwb.hidden_lines import Scene
 from gwb.svg import svg_text
 from gwb.view import View
@@ -83,10 +82,6 @@ class Blocks(unittest.TestCase):
         lone = 'solid 1\nface 1 1 1\nloop 1 at 1\nvertex 1 0 0 0\n'
         self.assertIn('<circle', svg_text(model_in(lone), STAND))
 
-    def test_a_view_from_nowhere(self):
-        with self.assertRaises(CompanionError):
-            svg_text(model_in(BLOCK), (0, 0, 0))
-
     def test_a_plate_with_64_holes(self):
         lines = counted(svg_text(model_in(plate(8)), (0, 0, 1)))
         self.assertEqual(lines, {'visible': 4 + 4 + 2 * 4 * 64})
@@ -122,6 +117,8 @@ class Words(unittest.TestCase):
         self.assertEqual((whole.status, half.status), (0, 0))
         self.assertLess(half.out.count('<line'), whole.out.count('<line'))
         self.assertNotEqual(run('svg', '--view', '-2', '3', '1', replies).out, whole.out)
+        for view in (('0', '0', '0'), ('1', '2', '9' * 400), ('1', '2'), ('x', 'y', 'z')):
+            self.assertEqual(run('svg', '--view', *view, '--', replies).status, 2)
         self.assertEqual(run('svg', '--solid', '9', replies).err, 'gwb-svg: there is no solid 9 in the listing\n')
 
 
