@@ -1,6 +1,7 @@
 -- The store after a cut and after a join.
 use Rattle.std.proofs.Common.{◌≡◌, ◌≢◌, ℕ, Bool, true, cond, nat_eq, List, [], length, Option, Some, None, is_some, refl, sym, ap, subst, ◌∙◌, eq-eqb, ne_eqb, inl, inr}
 use Rattle.std.proofs.lemmas.Bool.Decides.{eqb_tells}
+use Rattle.std.proofs.lemmas.Option.{same_Some}
 use Rattle.boundary_model.specs.declared.Point.{Point}
 use Rattle.arena_rows.specs.declared.rows.FaceCell.{FaceCell}
 use Rattle.arena_rows.specs.declared.rows.LoopCell.{LoopCell}
@@ -11,16 +12,18 @@ use Rattle.boundary_model.specs.Model.{Model, cycle}
 use Rattle.arena_rows.specs.Store.{Store, loosened}
 use Rattle.arena_rows.specs.ring_spots.Spots.{Spots, live, label, ring, spliced_at, labelled, AreRings}
 use Rattle.arena_rows.specs.View.{store_of, IsTied, held_content, loop_row, AreLoops}
-use Rattle.arena_rows.proofs.Views.{get-table_of, some_is}
+use Rattle.arena_rows.proofs.Views.{get-table_of}
 use Rattle.boundary_model.specs.Rings.{cut_left, cut_right, joined}
 use Rattle.boundary_model.specs.Model.{has_half, loop_of, items_of, content, cycle_of}
+use Rattle.boundary_model.proofs.Tables.{row_some}
 use Rattle.arena_rows.specs.Store.{cut_loose, cut_to, join_loops, join_loose, loose_ring, held_row}
 use Rattle.arena_rows.specs.View.{Fits}
 use Rattle.arena_rows.proofs.Views.{has-row, fits-write, table_of-put}
-use Rattle.arena_rows.proofs.Writes.{row_here, row_some}
+use Rattle.arena_rows.proofs.Writes.{row_here}
 use Rattle.arena_rows.proofs.Stands.{half_there, loop_of_is, cycle_of_is, content_row, face_row_of, loose_key_is, loose_ring_is}
 use Rattle.arena_rows.proofs.Tellings.{store_is, content_alike}
 use Rattle.arena_rows.proofs.Cutting.{IsBare, rings1, rings2, live2, AreLoops-cut, loose-cut_to, loose-cut_loose, edges-cut, loops-cut, ring_of_right, apart_rows, jrings1, a_live1, b_live1, jrings2, jlive2, jedges, jkept, jring_a, loose-join_loops, loose-join_loose, AreLoops-join}
+use Rattle.arena_rows.proofs.Filling.{tied_with}
 
 pub record CutFacts (sp : Spots) (loops : List (Option LoopCell)) (a b l : ℕ) : Type 0 where
   pub a_there : live sp a ≡ true
@@ -92,9 +95,6 @@ module _ (sp : Spots) (known : ℕ → Bool) (solids : List (Option Bool)) (face
   pub row_of : (h : ℕ) → live sp h ≡ true → label sp h ≢ 0 → is_some (row_at loops (label sp h)) ≡ true
   row_of h a n = ap is_some (are.stands h a n).here
 
-  tied_with : (new : Spots) (known' : ℕ → Bool) (rows : List (Option LoopCell)) → AreRings new → live new 0 ≡ live sp 0 → AreLoops new rows → Fits rows → IsTied new known' solids faces rows vertices
-  tied_with new known' rows N z A F = record { rings = N; no_edge = λ e. tied.no_edge (sym z ∙ e); loops_tied = A; solids_fit = tied.solids_fit; faces_fit = tied.faces_fit; loops_fit = F; vertices_fit = tied.vertices_fit; points = tied.points }
-
   module _ (a b l : ℕ) (g : CutFacts sp loops a b l) (ne : a ≢ b) where
     abbrev cutted : Spots
     cutted = labelled (spliced_at sp a b) l (ring (spliced_at sp a b) b)
@@ -123,7 +123,7 @@ module _ (sp : Spots) (known : ℕ → Bool) (solids : List (Option Bool)) (face
           ∙ ap (λ n. put M.loops n (held_row M n (cycle (cut_left a b (cycle_of M a))))) (sym (loop_of_is sp known solids faces loops vertices tied a g.a_there))
 
       pub tied_cut_loose : (known' : ℕ → Bool) → l ≡ 0 → (new : Spots) → new ≡ cutted → IsTied new known' solids faces rows1 vertices
-      tied_cut_loose known' z new e = subst (λ s. IsTied s known' solids faces rows1 vertices) (sym e) (tied_with cutted known' rows1 cut_rings2 (cut_live 0)
+      tied_cut_loose known' z new e = subst (λ s. IsTied s known' solids faces rows1 vertices) (sym e) (tied_with sp known solids faces loops vertices tied cutted known' rows1 cut_rings2 (cut_live 0)
           (AreLoops-cut sp loops R are tied.loops_fit.no_zero a b g.a_there g.b_there g.looped g.one ne l g.free rows1 cell.face (row_here loops rows1 here _ is1) (λ n. absurd (n z)) (λ q n m. row_there loops rows1 here _ is1 q n) fits1.no_zero) fits1)
 
       pub store_cut_loose : (known' : ℕ → Bool) → known' ≡ known → l ≡ 0 → (new : Spots) → new ≡ cutted → store_of new known' solids faces rows1 vertices ≡ cut_loose S a b
@@ -144,7 +144,7 @@ module _ (sp : Spots) (known : ℕ → Bool) (solids : List (Option Bool)) (face
         fits2 = fits-write rows1 rows2 l _ fits1 n len2 is2
 
         pub tied_cut_to : (known' : ℕ → Bool) → (new : Spots) → new ≡ cutted → IsTied new known' solids faces rows2 vertices
-        tied_cut_to known' new e = subst (λ s. IsTied s known' solids faces rows2 vertices) (sym e) (tied_with cutted known' rows2 cut_rings2 (cut_live 0)
+        tied_cut_to known' new e = subst (λ s. IsTied s known' solids faces rows2 vertices) (sym e) (tied_with sp known solids faces loops vertices tied cutted known' rows2 cut_rings2 (cut_live 0)
             (AreLoops-cut sp loops R are tied.loops_fit.no_zero a b g.a_there g.b_there g.looped g.one ne l g.free rows2 cell.face
             (row_there rows1 rows2 l _ is2 here (λ q. not_here (sym q)) ∙ row_here loops rows1 here _ is1) (λ _. (cell2.face, row_here rows1 rows2 l _ is2))
             (λ q u v. row_there rows1 rows2 l _ is2 q v ∙ row_there loops rows1 here _ is1 q u) fits2.no_zero) fits2)
@@ -187,7 +187,7 @@ module _ (sp : Spots) (known : ℕ → Bool) (solids : List (Option Bool)) (face
       jfits = fits-write rows0 rows jhere _ fits0 g.looped len is1
 
       pub tied_join : (known' : ℕ → Bool) (new : Spots) → new ≡ jspots → IsTied new known' solids faces rows vertices
-      tied_join known' new e = subst (λ s. IsTied s known' solids faces rows vertices) (sym e) (tied_with jspots known' rows
+      tied_join known' new e = subst (λ s. IsTied s known' solids faces rows vertices) (sym e) (tied_with sp known solids faces loops vertices tied jspots known' rows
           (jrings2 sp loops R are tied.loops_fit.no_zero a b g.a_there g.b_there g.looped g.other) (jlive2 sp loops R are tied.loops_fit.no_zero a b g.a_there g.b_there g.looped g.other 0)
           (AreLoops-join sp loops R are tied.loops_fit.no_zero a b g.a_there g.b_there g.looped g.other rows cell.face (row_here rows0 rows jhere _ is1)
           (λ c at. empty_b c (sym (row_there rows0 rows jhere _ is1 jthere g.other) ∙ at)) (λ q n m. row_there rows0 rows jhere _ is1 q n ∙ same q m)) jfits)
@@ -243,7 +243,7 @@ pub join_other : (s : Store) (a b : ℕ) → loop_of s.model b ≢ 0 → join_lo
 join_other s a b n = sym (ap (λ t. cond t (join_loose s a b) (join_loops s a b)) (ne_eqb (loop_of s.model b) 0 n))
 
 pub empty_cell : (rows new : List (Option LoopCell)) (n : ℕ) (f : ℕ) → ((q : ℕ) → row_at new q ≡ cond (nat_eq q n) (Some (record { face = f; held = Empty })) (row_at rows q)) → (c : LoopCell) → row_at new n ≡ Some c → c.held ≡ Empty
-empty_cell rows new n f is c at = ap (λ (k : LoopCell). k.held) (some_is _ _ (sym at ∙ row_here rows new n _ is))
+empty_cell rows new n f is c at = ap (λ (k : LoopCell). k.held) (same_Some _ _ (sym at ∙ row_here rows new n _ is))
 
 pub zero_cell : (rows : List (Option LoopCell)) (n : ℕ) → row_at rows 0 ≡ None → n ≡ 0 → (c : LoopCell) → row_at rows n ≡ Some c → c.held ≡ Empty
 zero_cell rows n none z c at = let e = sym (ap (row_at rows) z ∙ none) ∙ at in cc

@@ -1,6 +1,7 @@
 -- A cut and a join, as the nodes and rows do them.
 use Rattle.std.proofs.Common.{◌≡◌, ◌≢◌, ℕ, ◌+◌, Bool, true, false, cond, nat_eq, List, [], Option, Some, None, is_some, refl, sym, ap, subst, ◌∙◌, arith, true≢false, inl, inr}
 use Rattle.std.proofs.lemmas.Bool.Decides.{eqb_tells}
+use Rattle.std.proofs.lemmas.Option.{same_Some}
 use Rattle.boundary_model.specs.Items.{count, IsIn, head_or}
 use Rattle.boundary_model.proofs.Lists.{IsIn_or_not}
 use Rattle.arena_rows.specs.declared.rows.LoopCell.{LoopCell}
@@ -13,7 +14,6 @@ use Rattle.arena_rows.specs.Store.{loosened}
 use Rattle.arena_rows.specs.ring_spots.Spots.{Spots, codes, live, label, ring, spliced_at, labelled, AreRings}
 use Rattle.arena_rows.specs.View.{held_content, loop_row, HasEntry, AreLoops, StandsAt}
 use Rattle.arena_rows.specs.ring_spots.SpotTables.{edge_row, loose_row}
-use Rattle.arena_rows.proofs.Views.{some_is}
 use Rattle.boundary_model.specs.Rings.{cut_left, cut_right, joined}
 use Rattle.boundary_model.proofs.Cuts.{IsIn-cut}
 use Rattle.arena_rows.proofs.ring_spots_laws.SpotLaws.{ring_left, ring_right, ring_beside, cut_items, AreRings-cut, AreRings-labelled, ring-labelled, live-labelled, live-spliced, label-spliced, label-labelled_in, label-labelled_out, ring_joint, ring_aside, join_items, AreRings-join}
@@ -112,7 +112,7 @@ module _ (sp : Spots) (loops : List (Option LoopCell)) (R : AreRings sp) (are : 
     apart_l n e =
         let f = free n in
         let i : IsIn a (ring sp (are.stands a a_there looped).entry) = (are.stands a a_there looped).item in
-        let z : held_content sp f.cell.held ≡ cycle (ring sp (are.stands a a_there looped).entry) = ap (λ (c : LoopCell). held_content sp c.held) (some_is _ _ (sym f.here ∙ ap (row_at loops) e ∙ (are.stands a a_there looped).here)) in
+        let z : held_content sp f.cell.held ≡ cycle (ring sp (are.stands a a_there looped).entry) = ap (λ (c : LoopCell). held_content sp c.held) (same_Some _ _ (sym f.here ∙ ap (row_at loops) e ∙ (are.stands a a_there looped).here)) in
         let k : count a (ring sp (are.stands a a_there looped).entry) ≡ 0 = ap (count a) (sym (ap items_of z) ∙ f.bare) in
         absurd (omega arith)
 
@@ -126,11 +126,11 @@ module _ (sp : Spots) (loops : List (Option LoopCell)) (R : AreRings sp) (are : 
 
       cut_entries : (q : ℕ) (cell : LoopCell) → row_at new q ≡ Some cell → HasEntry sp2 q cell.held
       cut_entries q cell at = elim (eqb_tells q la) [
-        | inl p ↦ subst (HasEntry sp2 q) (ap (λ (c : LoopCell). c.held) (some_is _ _ (sym (ap (row_at new) p.1 ∙ at_la) ∙ at))) (live2 a ∙ a_there, label_left a a_left ∙ sym p.1)
+        | inl p ↦ subst (HasEntry sp2 q) (ap (λ (c : LoopCell). c.held) (same_Some _ _ (sym (ap (row_at new) p.1 ∙ at_la) ∙ at))) (live2 a ∙ a_there, label_left a a_left ∙ sym p.1)
         | inr p ↦ elim (eqb_tells q l) [
           | inl r ↦
               let n : l ≢ 0 = λ z. true≢false (ap is_some (sym at) ∙ ap is_some (ap (row_at new) (r.1 ∙ z) ∙ new_zero)) in
-              subst (HasEntry sp2 q) (ap (λ (c : LoopCell). c.held) (some_is _ _ (sym (ap (row_at new) r.1 ∙ (at_l n).1) ∙ at))) (live2 b ∙ b_there, label_right b b_right ∙ sym r.1)
+              subst (HasEntry sp2 q) (ap (λ (c : LoopCell). c.held) (same_Some _ _ (sym (ap (row_at new) r.1 ∙ (at_l n).1) ∙ at))) (live2 b ∙ b_there, label_right b b_right ∙ sym r.1)
           | inr r ↦ old q p.1 cell.held (are.entries q cell (sym (elsewhere q p.1 r.1) ∙ at))
         ]
       ]
@@ -151,7 +151,7 @@ module _ (sp : Spots) (loops : List (Option LoopCell)) (R : AreRings sp) (are : 
               let not_la : label sp x ≢ la = λ z. let w : IsIn x whole = same_loop sp loops R are a x a_there there looped z in absurd (omega arith) in
               let not_l : label sp x ≢ l = λ z.
               let nz : l ≢ 0 = λ y. n (e ∙ z ∙ y) in let f = free nz in
-              let c : held_content sp f.cell.held ≡ cycle (ring sp s.entry) = ap (λ (c : LoopCell). held_content sp c.held) (some_is _ _ (sym f.here ∙ ap (row_at loops) (sym z) ∙ s.here)) in
+              let c : held_content sp f.cell.held ≡ cycle (ring sp s.entry) = ap (λ (c : LoopCell). held_content sp c.held) (same_Some _ _ (sym f.here ∙ ap (row_at loops) (sym z) ∙ s.here)) in
               let u : count x (ring sp s.entry) ≡ 0 = ap (count x) (sym (ap items_of c) ∙ f.bare) in
               let i = s.item in absurd (omega arith) in
               subst (StandsAt sp2 new x) (sym e) (record {
@@ -344,7 +344,7 @@ module _ (sp : Spots) (loops : List (Option LoopCell)) (R : AreRings sp) (are : 
 
       join_entries : (q : ℕ) (cell : LoopCell) → row_at new q ≡ Some cell → HasEntry js2 q cell.held
       join_entries q cell at = elim (eqb_tells q jla) [
-        | inl p ↦ subst (HasEntry js2 q) (ap (λ (c : LoopCell). c.held) (some_is _ _ (sym (ap (row_at new) p.1 ∙ at_la) ∙ at))) (jlive2 a ∙ a_there, jlabel_in a a_joint ∙ sym p.1)
+        | inl p ↦ subst (HasEntry js2 q) (ap (λ (c : LoopCell). c.held) (same_Some _ _ (sym (ap (row_at new) p.1 ∙ at_la) ∙ at))) (jlive2 a ∙ a_there, jlabel_in a a_joint ∙ sym p.1)
         | inr p ↦ elim (eqb_tells q jlb) [
           | inl r ↦ subst (HasEntry js2 q) (sym (at_lb cell (ap (row_at new) (sym r.1) ∙ at))) tt
           | inr r ↦ jold q p.1 r.1 cell.held (are.entries q cell (sym (elsewhere q p.1 r.1) ∙ at))

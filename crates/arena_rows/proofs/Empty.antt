@@ -7,9 +7,10 @@ use Rattle.arena_rows.proofs.ring_spots_laws.Lasts.{last_same}
 use Rattle.arena_rows.specs.Store.{within}
 use Rattle.arena_rows.specs.View.{Fits}
 use Rattle.arena_rows.proofs.Views.{row_within, row_not_zero}
-use Rattle.arena_rows.proofs.ring_spots_laws.SpotTables.{and-false, nothing, edge_has}
+use Rattle.arena_rows.proofs.ring_spots_laws.SpotTables.{nothing, edge_has}
 use Rattle.std.proofs.Common.{◌≡◌, ◌≢◌, ℕ, ◌≤◌, Bool, true, false, cond, nat_eq, nat_lt, nat_le, ◌&&◌, List, [], Option, Some, None, is_some, sym, ap, ◌∙◌, arith, true≢false}
 use Rattle.std.proofs.lemmas.Bool.Decides.{nat_tests}
+use Rattle.std.proofs.lemmas.Bool.{and_from}
 use Rattle.boundary_model.specs.declared.Point.{Point}
 use Rattle.boundary_model.specs.HalfEdge.{plus, minus}
 use Rattle.boundary_model.specs.Table.{get, tabulate}
@@ -17,6 +18,7 @@ use Rattle.boundary_model.specs.Model.{empty_model}
 use Rattle.arena_rows.specs.Store.{empty_store}
 use Rattle.arena_rows.specs.ring_spots.Spots.{Spots, codes, edges_end, live, label, ring, AreRings}
 use Rattle.boundary_model.specs.Items.{head_or}
+use Rattle.boundary_model.proofs.Tests.{and_false}
 use Rattle.arena_rows.specs.View.{store_of, IsTied, solid_row, face_row, loop_row}
 use Rattle.arena_rows.specs.ring_spots.SpotTables.{edge_row, both_tails, edge_room, loose_row}
 use Rattle.arena_rows.specs.Rows.{table_of}
@@ -40,7 +42,7 @@ module _ (sp : Spots) (known : ℕ → Bool) (none : (q : ℕ) → sp q ≡ None
   }
 
   no_room_row : (e : ℕ) → edge_room known e ≡ None
-  no_room_row e = ap (λ b. cond (nat_lt 0 e && (b && known (minus e))) (Some tt) None) (unknown (plus e)) ∙ ap (λ b. cond b (Some tt) None) (and-false (nat_lt 0 e))
+  no_room_row e = ap (λ b. cond (nat_lt 0 e && (b && known (minus e))) (Some tt) None) (unknown (plus e)) ∙ ap (λ b. cond b (Some tt) None) (and_false (nat_lt 0 e))
 
   pub view-empty : store_of sp known [] [] [] [] ≡ empty_store
   unfolding empty_model
@@ -65,10 +67,6 @@ greatest_edge sp R m last = last_same (is_edge sp) (λ k. is_some (get (tabulate
 
 -- ---- a number in use has its room
 
-and_both : (p q : Bool) → p ≡ true → q ≡ true → p && q ≡ true
-and_both true q e f = f
-and_both false q e f = e
-
 pub row_has_room : {X : Type 0} (rows : List (Option X)) (n : ℕ) → Fits rows → is_some (row_at rows n) ≡ true → within n (length rows - 1) ≡ true
 row_has_room rows n fits h =
     let some = row_not_zero rows n fits h in
@@ -82,4 +80,4 @@ edge_keeps_room sp R zero known awake e h =
     let some : e ≢ 0 = λ z. zero (ap (λ k. live sp (plus k)) (sym z) ∙ both.0) in
     let least : nat_lt 0 e ≡ true = grind (arith, nat_tests) in
     let most : nat_le e 1000000 ≡ true = let l : e ≤ 1000000 = omega (arith, codes_are, within) in grind (arith, nat_tests) in
-    edge_has_room known e ∙ and_both _ _ most (and_both _ _ least (and_both _ _ (awake (plus e) both.0) (awake (minus e) both.1)))
+    edge_has_room known e ∙ and_from _ _ most (and_from _ _ least (and_from _ _ (awake (plus e) both.0) (awake (minus e) both.1)))

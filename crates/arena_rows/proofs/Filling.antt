@@ -1,20 +1,21 @@
 -- A loop is cleared, takes a loose ring, and a half-edge starts elsewhere.
-use Rattle.std.proofs.Common.{◌≡◌, ◌≢◌, ℕ, Bool, true, cond, nat_eq, List, [], length, Option, Some, is_some, refl, sym, ap, subst, ◌∙◌, arith, eq-eqb, ne_eqb, inl, inr}
+use Rattle.std.proofs.Common.{◌≡◌, ◌≢◌, ℕ, Bool, true, cond, nat_eq, List, [], length, Option, Some, is_some, refl, sym, ap, subst, ◌∙◌, arith, ne_eqb, inl, inr}
 use Rattle.std.proofs.lemmas.Bool.Decides.{eqb_tells}
+use Rattle.std.proofs.lemmas.Option.{same_Some}
 use Rattle.boundary_model.specs.declared.Point.{Point}
 use Rattle.boundary_model.specs.Items.{count, IsIn}
 use Rattle.boundary_model.proofs.Lists.{IsIn_or_not}
+use Rattle.boundary_model.proofs.Tables.{get-put_here}
 use Rattle.arena_rows.specs.declared.rows.FaceCell.{FaceCell}
 use Rattle.arena_rows.specs.declared.rows.LoopCell.{LoopCell}
 use Rattle.arena_rows.specs.declared.rows.Held.{Held}
 use Rattle.arena_rows.specs.declared.rows.Held.TheVariants.{Empty, Lone, At}
-use Rattle.boundary_model.specs.Table.{Table, get, put, remove, get-put}
+use Rattle.boundary_model.specs.Table.{get, put, remove}
 use Rattle.arena_rows.specs.Rows.{row_at}
 use Rattle.boundary_model.specs.Model.{Model, cycle}
 use Rattle.arena_rows.specs.Store.{Store, loosened}
 use Rattle.arena_rows.specs.ring_spots.Spots.{Spots, live, label, ring, labelled, AreRings}
 use Rattle.arena_rows.specs.View.{store_of, IsTied, held_content, loop_row, HasEntry, AreLoops, StandsAt}
-use Rattle.arena_rows.proofs.Views.{some_is}
 use Rattle.std.proofs.Common.{unwrap_or}
 use Rattle.boundary_model.specs.Model.{no_loop}
 use Rattle.boundary_model.specs.Model.{items_of, content, face_of}
@@ -40,7 +41,7 @@ module _ (sp : Spots) (known : ℕ → Bool) (solids : List (Option Bool)) (face
   abbrev are : AreLoops sp loops
   are = tied.loops_tied
 
-  tied_with : (new : Spots) (known' : ℕ → Bool) (rows : List (Option LoopCell)) → AreRings new → live new 0 ≡ live sp 0 → AreLoops new rows → Fits rows → IsTied new known' solids faces rows vertices
+  pub tied_with : (new : Spots) (known' : ℕ → Bool) (rows : List (Option LoopCell)) → AreRings new → live new 0 ≡ live sp 0 → AreLoops new rows → Fits rows → IsTied new known' solids faces rows vertices
   tied_with new known' rows N z A F = record { rings = N; no_edge = λ e. tied.no_edge (sym z ∙ e); loops_tied = A; solids_fit = tied.solids_fit; faces_fit = tied.faces_fit; loops_fit = F; vertices_fit = tied.vertices_fit; points = tied.points }
 
   module _ (l : ℕ) (cell : LoopCell) (found : row_at loops l ≡ Some cell) (rows : List (Option LoopCell)) (len : length rows ≡ length loops) where
@@ -87,7 +88,7 @@ module _ (sp : Spots) (known : ℕ → Bool) (solids : List (Option Bool)) (face
       c_loops : AreLoops cleared rows
       c_loops = record {
         entries = λ q k at. elim (eqb_tells q l) [
-          | inl p ↦ subst (HasEntry cleared q) (ap (λ (w : LoopCell). w.held) (some_is _ _ (sym (ap (row_at rows) p.1 ∙ row_here loops rows l _ is) ∙ at))) tt
+          | inl p ↦ subst (HasEntry cleared q) (ap (λ (w : LoopCell). w.held) (same_Some _ _ (sym (ap (row_at rows) p.1 ∙ row_here loops rows l _ is) ∙ at))) tt
           | inr p ↦ old_entry q p.1 k.held (are.entries q k (sym (is q ∙ ap (λ b. cond b (Some (record { face = cell.face; held = Empty })) (row_at loops q)) p.0) ∙ at))
         ];
         stands = λ h a n. elim (IsIn_or_not h (ring sp d)) [
@@ -96,7 +97,7 @@ module _ (sp : Spots) (known : ℕ → Bool) (solids : List (Option Bool)) (face
               let e = c_out h m in
               let s = are.stands h (sym (c_live h) ∙ a) (λ z. n (e ∙ z)) in
               let other : label sp h ≢ l = λ z.
-              let f : At s.entry ≡ At d = ap (λ (w : LoopCell). w.held) (some_is _ _ (sym s.here ∙ ap (row_at loops) z ∙ found)) ∙ held in
+              let f : At s.entry ≡ At d = ap (λ (w : LoopCell). w.held) (same_Some _ _ (sym s.here ∙ ap (row_at loops) z ∙ found)) ∙ held in
               let g : s.entry ≡ d = cc in
               let i : IsIn h (ring sp d) = subst (λ w. IsIn h (ring sp w)) g s.item in absurd (omega arith) in
               subst (StandsAt cleared rows h) (sym e) (record {
@@ -125,7 +126,7 @@ module _ (sp : Spots) (known : ℕ → Bool) (solids : List (Option Bool)) (face
     module _ (bare : items_of (held_content sp cell.held) ≡ []) (x : Held) (free : HasEntry sp l x) (is : (q : ℕ) → row_at rows q ≡ cond (nat_eq q l) (Some (record { face = cell.face; held = x })) (row_at loops q)) where
       pub tied_bare : IsTied sp known solids faces rows vertices
       tied_bare = tied_loops sp known solids faces loops vertices tied rows (fits-write loops rows l _ tied.loops_fit l_not len is)
-          (loops_write sp loops rows l _ are (λ k e. subst (HasEntry sp l) (ap (λ (w : LoopCell). w.held) (some_is _ _ e)) free) (λ h a s. no_stand_bare sp loops rows cell h l found bare s) is)
+          (loops_write sp loops rows l _ are (λ k e. subst (HasEntry sp l) (ap (λ (w : LoopCell). w.held) (same_Some _ _ e)) free) (λ h a s. no_stand_bare sp loops rows cell h l found bare s) is)
 
       pub store_bare : store_of sp known solids faces rows vertices ≡ record S { model = with_loop M l (held_content sp x) }
       store_bare = store_loops sp known solids faces loops vertices tied rows _ len
@@ -167,7 +168,7 @@ module _ (sp : Spots) (known : ℕ → Bool) (solids : List (Option Bool)) (face
       f_loops : AreLoops filled rows
       f_loops = record {
         entries = λ q k at. elim (eqb_tells q l) [
-          | inl p ↦ subst (HasEntry filled q) (ap (λ (w : LoopCell). w.held) (some_is _ _ (sym (ap (row_at rows) p.1 ∙ row_here loops rows l _ is) ∙ at))) (f_live h ∙ a, f_in h (R.rings h a).item ∙ sym p.1)
+          | inl p ↦ subst (HasEntry filled q) (ap (λ (w : LoopCell). w.held) (same_Some _ _ (sym (ap (row_at rows) p.1 ∙ row_here loops rows l _ is) ∙ at))) (f_live h ∙ a, f_in h (R.rings h a).item ∙ sym p.1)
           | inr p ↦
               let old = sym (is q ∙ ap (λ b. cond b (Some (record { face = cell.face; held = At h })) (row_at loops q)) p.0) ∙ at in
               f_entry q (row_not_zero loops q tied.loops_fit (ap is_some old)) k.held (are.entries q k old)
@@ -204,13 +205,10 @@ bare_of sp Empty n = refl
 bare_of sp (Lone v) n = refl
 bare_of sp (At c) n = absurd (n c refl)
 
-put_here : {X : Type 0} (t : Table X) (n : ℕ) (x : X) → get (put t n x) n ≡ Some x
-put_here t n x = get-put t n x n ∙ ap (λ b. cond b (Some x) (get t n)) (eq-eqb n n refl)
-
 pub has-clear : (s : Store) (l : ℕ) → is_some (get (clear s l).model.loops l) ≡ true
 unfolding clear
-has-clear s l = ap is_some (put_here s.model.loops l (record { face = face_of s.model l; content = cycle [] }))
+has-clear s l = ap is_some (get-put_here s.model.loops l (record { face = face_of s.model l; content = cycle [] }))
 
 pub content-clear : (s : Store) (l : ℕ) → items_of (content (clear s l).model l) ≡ []
 unfolding clear content
-content-clear s l = ap (λ o. items_of (unwrap_or o no_loop).content) (put_here s.model.loops l (record { face = face_of s.model l; content = cycle [] }))
+content-clear s l = ap (λ o. items_of (unwrap_or o no_loop).content) (get-put_here s.model.loops l (record { face = face_of s.model l; content = cycle [] }))

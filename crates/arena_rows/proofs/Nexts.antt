@@ -4,6 +4,7 @@ use Rattle.std.proofs.lemmas.Bool.Decides.{eqb_tells, leb_tells}
 use Rattle.boundary_model.specs.declared.Point.{Point}
 use Rattle.boundary_model.specs.Items.{count, IsIn}
 use Rattle.boundary_model.proofs.Lists.{tick_same, tick_other}
+use Rattle.boundary_model.proofs.Tests.{and_false}
 use Rattle.std.specs.Option.{option_eq}
 use Rattle.boundary_model.specs.Table.{get}
 use Rattle.boundary_model.specs.Model.{Model, FaceRow, solid_of, face_of, outer, is_ring_of, faces_of, no_face, no_loop}
@@ -48,10 +49,7 @@ module _ (sp : Spots) (known : ℕ → Bool) (solids : List (Option Bool)) (face
   not_ring f k h = sym (ring_test f k) ∙ ap (λ b. b && not (nat_eq (outer M f) k)) h
 
   no_outer_ring : (f k : ℕ) → k ≡ outer M f → is_ring_of M f k ≡ false
-  no_outer_ring f k e = sym (ring_test f k) ∙ ap (λ b. is_owner f (get fs.owner_of k) && not b) (eq-eqb (outer M f) k (sym e)) ∙ go (is_owner f (get fs.owner_of k)) where
-    go : (b : Bool) → b && false ≡ false
-    go true = refl
-    go false = refl
+  no_outer_ring f k e = sym (ring_test f k) ∙ ap (λ b. is_owner f (get fs.owner_of k) && not b) (eq-eqb (outer M f) k (sym e)) ∙ and_false (is_owner f (get fs.owner_of k))
 
   -- the next loop of a face is its next ring, where it isn't the outer loop
   pub next_ring : (f n : ℕ) (r : Option ℕ) → r ≢ Some (outer M f) → IsNextItem fs.owner_of f n r → IsNextRing M f n r

@@ -1,6 +1,7 @@
 -- The store where rows have been added, or nodes.
-use Rattle.std.proofs.Common.{◌≡◌, ℕ, ◌-◌, ◌≤◌, Bool, true, false, List, length, Option, is_some, refl, sym, ap, subst, ◌∙◌, arith, true≢false}
+use Rattle.std.proofs.Common.{◌≡◌, ℕ, ◌-◌, ◌≤◌, Bool, true, List, length, Option, is_some, refl, sym, ap, subst, ◌∙◌, arith}
 use Rattle.std.proofs.lemmas.Bool.Decides.{nat_tests}
+use Rattle.std.proofs.lemmas.Bool.{and_from}
 use Rattle.boundary_model.specs.declared.Point.{Point}
 use Rattle.arena_rows.specs.declared.rows.FaceCell.{FaceCell}
 use Rattle.arena_rows.specs.declared.rows.LoopCell.{LoopCell}
@@ -9,10 +10,11 @@ use Rattle.arena_rows.specs.Rows.{row_at}
 use Rattle.arena_rows.specs.Store.{Store}
 use Rattle.arena_rows.specs.ring_spots.Spots.{Spots, label}
 use Rattle.arena_rows.specs.View.{store_of, IsTied, Fits, AreLoops, loop_row, face_row, solid_row}
-use Rattle.std.proofs.Common.{ℕ, ◌<◌, ◌&&◌, nat_le, nat_lt, Result, Ok, Err, OnOk}
+use Rattle.std.proofs.Common.{ℕ, ◌<◌, nat_le, nat_lt, Result, Ok, Err, OnOk}
 use Rattle.boundary_model.specs.declared.Kind.{Kind}
 use Rattle.boundary_model.specs.HalfEdge.{plus, minus}
 use Rattle.boundary_model.specs.Table.{tabulate}
+use Rattle.boundary_model.proofs.Tests.{and_first, and_second}
 use Rattle.arena_rows.specs.Rows.{map_row}
 use Rattle.arena_rows.specs.Store.{within, has_room, HasGrown}
 use Rattle.arena_rows.specs.ring_spots.Spots.{edges_end}
@@ -33,18 +35,6 @@ fits-same rows new fits same limit = record { no_zero = same 0 ∙ fits.no_zero;
 pub rooms_ok : {E : Type 0} (r : Result (Unit {0}) E) (n k : ℕ) → 1 ≤ n → OnOk r (n < k) → OnOk r (within n (k - 1) ≡ true)
 rooms_ok (Ok u) n k l h = within_is n k l h
 rooms_ok (Err e) n k l h = tt
-
-and_both : (p q : Bool) → p ≡ true → q ≡ true → p && q ≡ true
-and_both true q e f = f
-and_both false q e f = e
-
-and_first : (p q : Bool) → p && q ≡ true → p ≡ true
-and_first true q h = refl
-and_first false q h = h
-
-and_second : (p q : Bool) → p && q ≡ true → q ≡ true
-and_second true q h = h
-and_second false q h = absurd (true≢false (sym h))
 
 module _ (sp : Spots) (known : ℕ → Bool) (solids : List (Option Bool)) (faces : List (Option FaceCell)) (loops : List (Option LoopCell)) (vertices : List (Option Point)) (tied : IsTied sp known solids faces loops vertices) where
   abbrev S : Store
@@ -133,8 +123,8 @@ module _ (sp : Spots) (known : ℕ → Bool) (solids : List (Option Bool)) (face
         let r = sym (edge_has_room known e) ∙ h in
         let rest = and_second (nat_le e 1000000) _ r in
         let keys = and_second (nat_lt 0 e) _ rest in
-        edge_has_room known' e ∙ and_both (nat_le e 1000000) _ (and_first (nat_le e 1000000) _ r)
-        (and_both (nat_lt 0 e) _ (and_first (nat_lt 0 e) _ rest) (and_both (known' (plus e)) _ (keeps (plus e) (and_first (known (plus e)) _ keys)) (keeps (minus e) (and_second (known (plus e)) _ keys))))
+        edge_has_room known' e ∙ and_from (nat_le e 1000000) _ (and_first (nat_le e 1000000) _ r)
+        (and_from (nat_lt 0 e) _ (and_first (nat_lt 0 e) _ rest) (and_from (known' (plus e)) _ (keeps (plus e) (and_first (known (plus e)) _ keys)) (keeps (minus e) (and_second (known (plus e)) _ keys))))
 
     pub grown_edges : HasGrown S (store_of sp' known' solids faces loops vertices)
     grown_edges = record {
@@ -153,5 +143,5 @@ pub edges_ok : {E : Type 0} (known : ℕ → Bool) (r : Result (Unit {0}) E) (e 
 edges_ok known (Ok u) e l m h =
     let p : nat_le e 1000000 ≡ true = grind (arith, nat_tests) in
     let q : nat_lt 0 e ≡ true = grind (arith, nat_tests) in
-    edge_has_room known e ∙ and_both _ _ p (and_both _ _ q (and_both _ _ h.0 h.1))
+    edge_has_room known e ∙ and_from _ _ p (and_from _ _ q (and_from _ _ h.0 h.1))
 edges_ok known (Err x) e l m h = tt

@@ -2,6 +2,7 @@
 use Rattle.arena_rows.proofs.ring_spots_laws.SpotTables.{half_is, half_live, row_live, edges_at, key_is, got_loose}
 use Rattle.std.proofs.Common.{◌≡◌, ◌≢◌, ℕ, Bool, true, false, cond, List, [], Option, Some, None, unwrap_or, refl, sym, ap, subst, ◌∙◌, arith, inl, inr}
 use Rattle.std.proofs.lemmas.Bool.Decides.{eqb_tells}
+use Rattle.std.proofs.lemmas.Option.{same_Some}
 use Rattle.boundary_model.specs.declared.Point.{Point}
 use Rattle.boundary_model.specs.Items.{IsIn, head_or}
 use Rattle.boundary_model.specs.Rings.{successor, predecessor}
@@ -19,7 +20,7 @@ use Rattle.arena_rows.specs.ring_spots.Spots.{Spots, live, next, label, tail_at,
 use Rattle.arena_rows.specs.View.{store_of, IsTied, held_content, loop_row, HasEntry}
 use Rattle.boundary_model.proofs.Tables.{first_where_is, first_where_zero}
 use Rattle.boundary_model.proofs.Models.{holds_in, in-holds}
-use Rattle.arena_rows.proofs.Views.{get-table_of, some_is}
+use Rattle.arena_rows.proofs.Views.{get-table_of}
 use Rattle.arena_rows.proofs.ring_spots_laws.SpotLaws.{ring_same, next_in_ring}
 
 module _ (sp : Spots) (known : ℕ → Bool) (solids : List (Option Bool)) (faces : List (Option FaceCell)) (loops : List (Option LoopCell)) (vertices : List (Option Point)) (tied : IsTied sp known solids faces loops vertices) where
@@ -56,7 +57,7 @@ module _ (sp : Spots) (known : ℕ → Bool) (solids : List (Option Bool)) (face
     go : (o : Option LoopCell) → row_at loops q ≡ o → map_row (loop_row sp) o ≡ Some row → (label sp h ≡ q) × (live sp h ≡ true) × (row.content ≡ cycle (ring sp h))
     go None e s = cc
     go (Some cell) e s =
-        let r : row ≡ loop_row sp cell = sym (some_is _ _ s) in
+        let r : row ≡ loop_row sp cell = sym (same_Some _ _ s) in
         let got = held_by h q cell.held (tied.loops_tied.entries q cell e) (ap (λ w. holds h w.content) (sym r) ∙ k) in
         (got.0, got.1, ap (λ w. w.content) r ∙ got.2)
 

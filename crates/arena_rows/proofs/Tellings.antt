@@ -2,6 +2,7 @@
 use Rattle.arena_rows.proofs.ring_spots_laws.SpotTables.{loose_put}
 use Rattle.std.proofs.Common.{◌≡◌, ◌≢◌, ℕ, ◌-◌, Bool, true, cond, nat_eq, List, [], ◌∷◌, length, Option, Some, None, is_some, refl, sym, ap, subst, ◌∙◌, arith, true≢false, inl, inr}
 use Rattle.std.proofs.lemmas.Bool.Decides.{eqb_tells}
+use Rattle.std.proofs.lemmas.Option.{same_Some}
 use Rattle.boundary_model.specs.declared.Point.{Point}
 use Rattle.boundary_model.specs.Items.{count, IsIn, head_or}
 use Rattle.arena_rows.specs.declared.rows.FaceCell.{FaceCell}
@@ -15,7 +16,7 @@ use Rattle.arena_rows.specs.Store.{Store, loosened}
 use Rattle.arena_rows.specs.ring_spots.Spots.{Spots, codes, live, label, ring, AreRings}
 use Rattle.arena_rows.specs.View.{store_of, held_content, loop_row, HasEntry, AreLoops, StandsAt}
 use Rattle.arena_rows.specs.ring_spots.SpotTables.{edge_row, loose_row}
-use Rattle.arena_rows.proofs.Views.{get-table_of, some_is}
+use Rattle.arena_rows.proofs.Views.{get-table_of}
 use Rattle.arena_rows.proofs.ring_spots_laws.SpotLaws.{ring_same}
 
 loosened_is : (hs : List ℕ) (t : Table (List ℕ)) (c : ℕ) → IsIn c hs → loosened hs t ≡ put t (head_or 0 hs) hs
@@ -59,7 +60,7 @@ pub same_loop : (sp : Spots) (loops : List (Option LoopCell)) → (R : AreRings 
 same_loop sp loops R are a c k j n e =
     let s = are.stands a k n in
     let t = subst (StandsAt sp loops c) e (are.stands c j (λ z. n (sym e ∙ z))) in
-    let f : At t.entry ≡ At s.entry = ap (λ (w : LoopCell). w.held) (some_is _ _ (sym t.here ∙ s.here)) in
+    let f : At t.entry ≡ At s.entry = ap (λ (w : LoopCell). w.held) (same_Some _ _ (sym t.here ∙ s.here)) in
     let d : t.entry ≡ s.entry = cc in
     let h = are.entries (label sp a) (record { face = s.face; held = At s.entry }) s.here in
     let i : IsIn c (ring sp s.entry) = subst (λ w. IsIn c (ring sp w)) d t.item in

@@ -5,9 +5,6 @@ use Rattle.boundary_model.specs.Table.{get, put, remove, empty, get-empty, get-p
 use Rattle.arena_rows.specs.Rows.{row_at, map_row, table_of}
 use Rattle.arena_rows.specs.View.{Fits}
 
-pub some_is : {X : Type 0} (x y : X) → Some x ≡ Some y → x ≡ y
-some_is x y e = cc
-
 module _ {X : Type 0} where
   pub row_past : (rows : List (Option X)) (q : ℕ) → length rows ≤ q → row_at rows q ≡ None
   row_past [] q h = refl

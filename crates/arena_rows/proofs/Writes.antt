@@ -1,6 +1,7 @@
 -- What becomes of the store where one row is written.
-use Rattle.std.proofs.Common.{◌≡◌, ℕ, ◌-◌, Bool, true, false, cond, nat_eq, List, [], length, Option, Some, None, is_some, refl, sym, ap, subst, ◌∙◌, arith, true≢false, eq-eqb, inl, inr}
+use Rattle.std.proofs.Common.{◌≡◌, ℕ, ◌-◌, Bool, true, false, cond, nat_eq, List, [], length, Option, Some, is_some, refl, sym, ap, subst, ◌∙◌, arith, true≢false, eq-eqb, inl, inr}
 use Rattle.std.proofs.lemmas.Bool.Decides.{eqb_tells}
+use Rattle.std.proofs.lemmas.Option.{same_Some}
 use Rattle.boundary_model.specs.declared.Point.{Point}
 use Rattle.boundary_model.specs.Points.{IsInRange}
 use Rattle.boundary_model.specs.Items.{count}
@@ -14,7 +15,6 @@ use Rattle.boundary_model.specs.Model.{cycle, FaceRow, LoopRow, items_of}
 use Rattle.arena_rows.specs.Store.{Store}
 use Rattle.arena_rows.specs.ring_spots.Spots.{Spots, live, label, ring}
 use Rattle.arena_rows.specs.View.{store_of, IsTied, Fits, AreLoops, HasEntry, StandsAt, held_content, loop_row, face_row, solid_row}
-use Rattle.arena_rows.proofs.Views.{some_is}
 
 pub row_here : {X : Type 0} (rows new : List (Option X)) (n : ℕ) (x : Option X) → ((q : ℕ) → row_at new q ≡ cond (nat_eq q n) x (row_at rows q)) → row_at new n ≡ x
 row_here rows new n x is = is n ∙ ap (λ b. cond b x (row_at rows n)) (eq-eqb n n refl)
@@ -80,7 +80,7 @@ no_stand_free sp rows new h l free s = absurd (no_stand sp rows h l free s)
 
 pub no_stand_bare : (sp : Spots) (rows new : List (Option LoopCell)) (cell : LoopCell) (h l : ℕ) → row_at rows l ≡ Some cell → items_of (held_content sp cell.held) ≡ [] → StandsAt sp rows h l → StandsAt sp new h l
 no_stand_bare sp rows new cell h l at bare s =
-    let e : held_content sp cell.held ≡ cycle (ring sp s.entry) = ap (λ c. held_content sp c.held) (some_is _ _ (sym at ∙ s.here)) in
+    let e : held_content sp cell.held ≡ cycle (ring sp s.entry) = ap (λ c. held_content sp c.held) (same_Some _ _ (sym at ∙ s.here)) in
     let z : count h (ring sp s.entry) ≡ 0 = ap (count h) (sym (ap items_of e) ∙ bare) in
     let i = s.item in
     absurd (omega arith)
@@ -89,16 +89,12 @@ pub stand_moved : (sp : Spots) (rows new : List (Option LoopCell)) (cell : LoopC
 stand_moved sp rows new cell h l f at is s = record {
   face = f;
   entry = s.entry;
-  here = is ∙ ap (λ c. Some (record { face = f; held = c.held })) (some_is _ _ (sym at ∙ s.here));
+  here = is ∙ ap (λ c. Some (record { face = f; held = c.held })) (same_Some _ _ (sym at ∙ s.here));
   item = s.item;
 }
 
 pub entry_empty : (sp : Spots) (l f : ℕ) (cell : LoopCell) → Some (record { face = f; held = Empty }) ≡ Some cell → HasEntry sp l cell.held
-entry_empty sp l f cell e = subst (HasEntry sp l) (ap (λ c. c.held) (some_is _ _ e)) tt
+entry_empty sp l f cell e = subst (HasEntry sp l) (ap (λ c. c.held) (same_Some _ _ e)) tt
 
 pub entry_same : (sp : Spots) (l f : ℕ) (held : Held) (cell : LoopCell) → HasEntry sp l held → Some (record { face = f; held = held }) ≡ Some cell → HasEntry sp l cell.held
-entry_same sp l f held cell h e = subst (HasEntry sp l) (ap (λ c. c.held) (some_is _ _ e)) h
-
-pub row_some : {X : Type 0} (o : Option X) → is_some o ≡ true → (x : X) × (o ≡ Some x)
-row_some None h = absurd (true≢false (sym h))
-row_some (Some x) h = (x, refl)
+entry_same sp l f held cell h e = subst (HasEntry sp l) (ap (λ c. c.held) (same_Some _ _ e)) h

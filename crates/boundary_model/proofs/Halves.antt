@@ -57,6 +57,37 @@ pub minus_row : (e : ℕ) → (edge_of (minus e) ≡ e) × (is_first (minus e) �
 unfolding edge_of is_first
 minus_row e = (omega arith, grind (arith, nat_tests))
 
+pub mate_plus : (e : ℕ) → mate (plus e) ≡ minus e
+mate_plus e = elim (mate_cases (plus e)) [ inl p ↦ omega arith | inr p ↦ omega arith ]
+
+pub mate_minus : (e : ℕ) → mate (minus e) ≡ plus e
+mate_minus e = elim (mate_cases (minus e)) [ inl p ↦ omega arith | inr p ↦ omega arith ]
+
+pub plus_other : (e : ℕ) → plus e ≢ minus e
+plus_other e s = absurd (omega (arith, s))
+
+pub first_is_plus : (h : ℕ) → is_first h ≡ true → h ≡ plus (edge_of h)
+unfolding edge_of is_first
+first_is_plus h e = grind (arith, nat_tests)
+
+-- half-edges of two edges
+pub edges_apart : (h m : ℕ) → edge_of h ≢ edge_of m → h ≢ m
+edges_apart h m a e = a (ap edge_of e)
+
+pub mate_edge_apart : (h m : ℕ) → edge_of h ≢ edge_of m → edge_of (mate h) ≢ edge_of m
+mate_edge_apart h m a e = a (sym (edge_of-mate h) ∙ e)
+
+-- half-edges are known by their codes
+pub same_code : (h m : HalfEdge) → code h ≡ code m → h ≡ m
+same_code h m e = sym (half-code h) ∙ ap half e ∙ half-code m
+
+pub is_first-code : (h : HalfEdge) → is_first (code h) ≡ h.first
+unfolding code is_first
+is_first-code h = go h.edge h.first where
+  go : (e : ℕ) (b : Bool) → nat_eq (cond b (2 * e) (2 * e + 1) % 2) 0 ≡ b
+  go e true = grind (arith, nat_tests)
+  go e false = grind (arith, nat_tests)
+
 pub half-plus : (e : ℕ) → half (plus e) ≡ record { edge = e; first = true }
 unfolding code
 half-plus e = half-code (record { edge = e; first = true })

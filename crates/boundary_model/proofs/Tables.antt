@@ -1,11 +1,15 @@
 -- Laws of tables under several changes.
-use Rattle.std.proofs.Common.{◌≡◌, ◌≢◌, ℕ, Bool, true, false, cond, not, nat_eq, nat_lt, ◌<◌, T, List, [], ◌∷◌, Option, Some, None, is_some, refl, sym, ap, subst, ◌∙◌, arith, ◌&&◌, eq-eqb, ne_eqb, true≢false, inl, inr}
+use Rattle.std.proofs.Common.{◌≡◌, ◌≢◌, ℕ, Bool, true, false, cond, not, nat_eq, nat_lt, ◌<◌, ◌≤◌, T, List, [], ◌∷◌, Option, Some, None, is_some, refl, sym, ap, subst, ◌∙◌, arith, ◌&&◌, eq-eqb, ne_eqb, true≢false, inl, inr}
 use Rattle.std.specs.Option.{option_map}
 use Rattle.std.specs.Ordering.{nat_cmp, eq_by_cmp, is_eq, is_lt}
 use Rattle.std.specs.FinMap.Entries.{find, is_sorted, below_all}
 use Rattle.std.specs.Cmp.{unsigned_tied}
 use Rattle.std.proofs.lemmas.Bool.Decides.{nat_tests, eqb_tells}
-use Rattle.boundary_model.specs.Table.{Table, get, put, remove, map_rows, first_where, first_in, all_where, all_in, tables, same_table, get-map_rows, get-put, get-remove}
+use Rattle.std.proofs.lemmas.Option.{same_Some}
+use Rattle.cyclic_list.proofs.Members.{no_cons}
+use Rattle.cyclic_list.proofs.Tests.{at_most_or_above}
+use Rattle.boundary_model.specs.Sound.{Has}
+use Rattle.boundary_model.specs.Table.{Table, get, put, remove, map_rows, map_entries, greatest, greatest_in, first_where, first_in, all_where, all_in, tables, same_table, get-map_rows, get-put, get-remove}
 
 -- a row that is put at a free number and taken away again
 pub remove-put : {X : Type 0} (t : Table X) (n : ℕ) (x : X) → get t n ≡ None → remove (put t n x) n ≡ t
@@ -42,10 +46,7 @@ map_one f t n x there alone = same_table _ _ (λ q. get-map_rows f t q ∙ elim 
 pub two_undone : {X : Type 0} (t : Table X) (n k : ℕ) (x y z : X) → n ≢ k → get t n ≡ Some z → get t k ≡ None → remove (put (put (put t n x) k y) n z) k ≡ t
 two_undone t n k x y z apart there free = same_table _ _ (λ q. grind (arith, nat_tests, tables))
 
-some_is : {X : Type 0} (x y : X) → Some x ≡ Some y → x ≡ y
-some_is x y e = cc
-
-less_means : (k a : ℕ) → T (is_lt (nat_cmp k a)) → k < a
+pub less_means : (k a : ℕ) → T (is_lt (nat_cmp k a)) → k < a
 less_means k a h = grind (arith, nat_tests)
 
 pub and_left : (a b : Bool) → T (a && b) → T a
@@ -56,10 +57,10 @@ pub and_right : (a b : Bool) → T (a && b) → T b
 and_right true b h = h
 and_right false b h = absurd h
 
-find_here : {X : Type 0} (e : ℕ × X) (es : List (ℕ × X)) → find nat_cmp e.0 (e ∷ es) ≡ Some e.1
+pub find_here : {X : Type 0} (e : ℕ × X) (es : List (ℕ × X)) → find nat_cmp e.0 (e ∷ es) ≡ Some e.1
 find_here e es = ap (λ b. cond b (Some e.1) (find nat_cmp e.0 es)) (unsigned_tied e.0 e.0 ∙ eq-eqb e.0 e.0 refl)
 
-find_later : {X : Type 0} (q : ℕ) (e : ℕ × X) (es : List (ℕ × X)) → q ≢ e.0 → find nat_cmp q (e ∷ es) ≡ find nat_cmp q es
+pub find_later : {X : Type 0} (q : ℕ) (e : ℕ × X) (es : List (ℕ × X)) → q ≢ e.0 → find nat_cmp q (e ∷ es) ≡ find nat_cmp q es
 find_later q e es apart = ap (λ b. cond b (Some e.1) (find nat_cmp q es)) (unsigned_tied q e.0 ∙ ne_eqb q e.0 apart)
 
 below_not_found : {X : Type 0} (k q : ℕ) (es : List (ℕ × X)) (y : X) → T (below_all nat_cmp k es) → find nat_cmp q es ≡ Some y → q ≢ k
@@ -79,7 +80,7 @@ first_where_is {X = X} p t n x there passes only = go t.rows t.rising there only
       elim (p e.0 e.1) as (λ b. p e.0 e.1 ≡ b → cond b e.0 (first_in p es) ≡ n) [
         | true ↦ λ t. only e.0 e.1 (find_here e es) t
         | false ↦ λ t.
-            let apart : n ≢ e.0 = λ same. true≢false (sym passes ∙ ap (p n) (some_is x e.1 (sym there ∙ ap (λ k. find nat_cmp k (e ∷ es)) same ∙ find_here e es)) ∙ ap (λ k. p k e.1) same ∙ t) in
+            let apart : n ≢ e.0 = λ same. true≢false (sym passes ∙ ap (p n) (same_Some x e.1 (sym there ∙ ap (λ k. find nat_cmp k (e ∷ es)) same ∙ find_here e es)) ∙ ap (λ k. p k e.1) same ∙ t) in
             go es (and_right _ _ s) (sym (find_later n e es apart) ∙ there)
             (λ q y at holds. only q y (find_later q e es (below_not_found e.0 q es y (and_left _ _ s) at) ∙ at) holds)
       ] refl
@@ -113,13 +114,10 @@ zero_first_where {X = X} p t pos zero q y at = go t.rows t.rising pos zero q y a
       elim (p e.0 e.1) as (λ b. p e.0 e.1 ≡ b → cond b e.0 (first_in p es) ≡ 0 → p q y ≡ false) [
         | true ↦ λ t z. absurd (pos e.0 e.1 (find_here e es) z)
         | false ↦ λ t z. elim (eqb_tells q e.0) [
-          | inl a ↦ ap (p q) (some_is y e.1 (sym at ∙ ap (λ k. find nat_cmp k (e ∷ es)) a.1 ∙ find_here e es)) ∙ ap (λ k. p k e.1) a.1 ∙ t
+          | inl a ↦ ap (p q) (same_Some y e.1 (sym at ∙ ap (λ k. find nat_cmp k (e ∷ es)) a.1 ∙ find_here e es)) ∙ ap (λ k. p k e.1) a.1 ∙ t
           | inr a ↦ go es (and_right _ _ s) (λ k x f. pos k x (find_later k e es (below_not_found e.0 k es x (and_left _ _ s) f) ∙ f)) z q y (sym (find_later q e es a.1) ∙ at)
         ]
       ] refl zero
-
-no_cons : (n : ℕ) (ns : List ℕ) → n ∷ ns ≡ [] → ⊥
-no_cons n ns e = cc
 
 pub none_all_where : {X : Type 0} (p : ℕ → X → Bool) (t : Table X) → all_where p t ≡ [] → NonePasses p t
 unfolding all_where get
@@ -130,7 +128,73 @@ none_all_where {X = X} p t zero q y at = go t.rows t.rising zero q y at where
       elim (p e.0 e.1) as (λ b. p e.0 e.1 ≡ b → cond b (e.0 ∷ all_in p es) (all_in p es) ≡ [] → p q y ≡ false) [
         | true ↦ λ t z. absurd (no_cons e.0 (all_in p es) z)
         | false ↦ λ t z. elim (eqb_tells q e.0) [
-          | inl a ↦ ap (p q) (some_is y e.1 (sym at ∙ ap (λ k. find nat_cmp k (e ∷ es)) a.1 ∙ find_here e es)) ∙ ap (λ k. p k e.1) a.1 ∙ t
+          | inl a ↦ ap (p q) (same_Some y e.1 (sym at ∙ ap (λ k. find nat_cmp k (e ∷ es)) a.1 ∙ find_here e es)) ∙ ap (λ k. p k e.1) a.1 ∙ t
           | inr a ↦ go es (and_right _ _ s) z q y (sym (find_later q e es a.1) ∙ at)
         ]
       ] refl zero
+
+-- ---- what stands at a number
+
+pub row_some : {X : Type 0} (o : Option X) → is_some o ≡ true → (x : X) × (o ≡ Some x)
+row_some None h = absurd (true≢false (sym h))
+row_some (Some x) h = (x, refl)
+
+pub no_row : {X : Type 0} (o : Option X) → is_some o ≡ false → o ≡ None
+no_row None e = refl
+no_row (Some x) e = absurd (true≢false e)
+
+pub get-put_here : {X : Type 0} (t : Table X) (n : ℕ) (x : X) → get (put t n x) n ≡ Some x
+get-put_here t n x = get-put t n x n ∙ ap (λ b. cond b (Some x) (get t n)) (eq-eqb n n refl)
+
+pub get-put_other : {X : Type 0} (t : Table X) (n : ℕ) (x : X) (q : ℕ) → q ≢ n → get (put t n x) q ≡ get t q
+get-put_other t n x q ne = get-put t n x q ∙ ap (λ b. cond b (Some x) (get t q)) (ne_eqb q n ne)
+
+pub get-remove_here : {X : Type 0} (t : Table X) (n : ℕ) → get (remove t n) n ≡ None
+get-remove_here t n = get-remove t n n ∙ ap (λ b. cond b None (get t n)) (eq-eqb n n refl)
+
+pub get-remove_other : {X : Type 0} (t : Table X) (n q : ℕ) → q ≢ n → get (remove t n) q ≡ get t q
+get-remove_other t n q ne = get-remove t n q ∙ ap (λ b. cond b None (get t q)) (ne_eqb q n ne)
+
+-- a number with a row isn't one without
+pub row_elsewhere : {X : Type 0} (t : Table X) (q n : ℕ) → Has t q → get t n ≡ None → q ≢ n
+row_elsewhere t q n there free e = true≢false (sym there ∙ ap is_some (ap (get t) e ∙ free))
+
+-- a number in use isn't above all numbers in use
+pub in_use_within : {X : Type 0} (t : Table X) (n : ℕ) → ((q : ℕ) → n < q → get t q ≡ None) → (q : ℕ) → Has t q → q ≤ n
+in_use_within t n free q there = elim (at_most_or_above q n) [ inl l ↦ l | inr l ↦ absurd (true≢false (sym there ∙ ap is_some (free q l))) ]
+
+-- ---- a row put twice, and two rows put or taken in either order
+
+pub put-put : {X : Type 0} (t : Table X) (n : ℕ) (x y : X) → put (put t n x) n y ≡ put t n y
+put-put t n x y = same_table _ _ (λ q. grind (arith, nat_tests, tables))
+
+pub put_turned : {X : Type 0} (t : Table X) (n k : ℕ) (x y : X) → n ≢ k → put (put t n x) k y ≡ put (put t k y) n x
+put_turned t n k x y ne = same_table _ _ (λ q. grind (arith, nat_tests, tables))
+
+pub remove_turned : {X : Type 0} (t : Table X) (n k : ℕ) → remove (remove t n) k ≡ remove (remove t k) n
+remove_turned t n k = same_table _ _ (λ q. grind (arith, nat_tests, tables))
+
+-- ---- rewritings
+
+pub map_alike : {X : Type 0} (g h : ℕ → X → X) (t : Table X) → ((q : ℕ) (x : X) → get t q ≡ Some x → g q x ≡ h q x) → map_rows g t ≡ map_rows h t
+map_alike {X} g h t e = same_table (map_rows g t) (map_rows h t) (λ q. get-map_rows g t q ∙ go q (get t q) refl ∙ sym (get-map_rows h t q)) where
+  go : (q : ℕ) (o : Option X) → get t q ≡ o → option_map (g q) o ≡ option_map (h q) o
+  go q None at = refl
+  go q (Some x) at = ap Some (e q x at)
+
+pub all_in-map : {X : Type 0} (f : ℕ → X → X) (p : ℕ → X → Bool) (es : List (ℕ × X)) → all_in p (map_entries f es) ≡ all_in (λ q x. p q (f q x)) es
+all_in-map f p [] = refl
+all_in-map f p (e ∷ es) = ap (λ ns. cond (p e.0 (f e.0 e.1)) (e.0 ∷ ns) ns) (all_in-map f p es)
+
+pub all_where-map : {X : Type 0} (f : ℕ → X → X) (p : ℕ → X → Bool) (t : Table X) → all_where p (map_rows f t) ≡ all_where (λ q x. p q (f q x)) t
+unfolding all_where map_rows
+all_where-map f p t = all_in-map f p t.rows
+
+pub greatest_in-map : {X : Type 0} (f : ℕ → X → X) (es : List (ℕ × X)) → greatest_in (map_entries f es) ≡ greatest_in es
+greatest_in-map f [] = refl
+greatest_in-map f (e ∷ []) = refl
+greatest_in-map f (e ∷ d ∷ es) = greatest_in-map f (d ∷ es)
+
+pub greatest-map : {X : Type 0} (f : ℕ → X → X) (t : Table X) → greatest (map_rows f t) ≡ greatest t
+unfolding greatest map_rows
+greatest-map f t = greatest_in-map f t.rows

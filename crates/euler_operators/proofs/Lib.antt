@@ -1,6 +1,8 @@
 pub mod WorkedScripts
+pub use Rattle.boundary_model.proofs.Crossings
 pub use Rattle.boundary_model.proofs.Integers
 pub use Rattle.boundary_model.proofs.Magnitudes
+pub use Rattle.boundary_model.proofs.Orders
 pub use Rattle.boundary_model.proofs.Rectangles
 pub use Rattle.boundary_model.proofs.Sweeps
 pub use Rattle.boundary_model.proofs.Vectors
@@ -10,11 +12,13 @@ pub use Rattle.boundary_model.proofs.Edits
 pub use Rattle.boundary_model.proofs.Leads
 pub use Rattle.boundary_model.proofs.Lists
 pub use Rattle.boundary_model.proofs.Maps
+pub use Rattle.boundary_model.proofs.Members
 pub use Rattle.boundary_model.proofs.Operators
 pub use Rattle.boundary_model.proofs.Places
 pub use Rattle.boundary_model.proofs.Rings
 pub use Rattle.boundary_model.proofs.Rotations
 pub use Rattle.boundary_model.proofs.Std
+pub use Rattle.boundary_model.proofs.Tests
 pub use Rattle.boundary_model.proofs.Vertices
 pub use Rattle.boundary_model.proofs.Halves
 pub use Rattle.boundary_model.proofs.Models

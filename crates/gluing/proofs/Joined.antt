@@ -6,7 +6,7 @@ use Rattle.euler_operators.specs.Items.{IsIn, IsApart, head_or, last_or}
 use Rattle.euler_operators.specs.Rings.{canonical, successor, predecessor}
 use Rattle.euler_operators.proofs.Lists.{count-append, tick_same}
 use Rattle.euler_operators.proofs.Rotations.{canonical-rotates, length-canonical}
-use Rattle.euler_operators.proofs.Rings.{successor_head, successor_same, predecessor_head, predecessor_same, last_or_push}
+use Rattle.euler_operators.proofs.Rings.{successor_head, successor_same, predecessor_head, predecessor_same, last_or_push, IsIn_last}
 use Rattle.euler_operators.proofs.Maps.{reverse-cons, count-reverse}
 use Rattle.euler_operators.specs.HalfEdge.{mate, half}
 use Rattle.euler_operators.specs.Model.{Model, outer, cycle_of}
@@ -25,7 +25,6 @@ use Rattle.shapes.specs.glue.Part.{seam, glued_part}
 use Rattle.gluing_laws.proofs.glue.Stages.{Stage, around_l}
 use Rattle.gluing_laws.proofs.glue.Turn.{turn_accepted, turn_is}
 use Rattle.gluing_laws.proofs.glue.Ending.{glued_all, ending_ok, ending_is, glued_along_is}
-use Rattle.gluing_laws.proofs.glue.Whole.{last_in}
 
 -- of a glue of face g to face f, a model in which the items from `item` on are left
 pub record Joining (M : Model) (f g : ℕ) (N : Model) (item : ℕ) : Type 0 where
@@ -184,10 +183,10 @@ module _ (M : Model) (f g : ℕ) (N : Model) (item : ℕ) (w : Joining M f g N i
       model_next = w.model ∙ ap (λ ls. glued_part M f g p (last_or item ls) w.done (item ∷ ls)) later_is
 
       accepted_here : AreAccepted Y (closing (p item) n x g (outer M g))
-      accepted_here = turn_accepted M f g p hs x (last_or n ks) w.done item n ks stage_next (last_in n ks)
+      accepted_here = turn_accepted M f g p hs x (last_or n ks) w.done item n ks stage_next (IsIn_last n ks)
 
       made_here : effects Y (closing (p item) n x g (outer M g)) ≡ glued_part M f g p (last_or n ks) (w.done ++ item ∷ []) (n ∷ ks)
-      made_here = turn_is M f g p hs x (last_or n ks) w.done item n ks stage_next (last_in n ks)
+      made_here = turn_is M f g p hs x (last_or n ks) w.done item n ks stage_next (IsIn_last n ks)
 
       module _ (e s l : ℕ) (edge : e ≡ x) (face : s ≡ g) (ring : l ≡ outer M g) where
         ops_are : closing q n e s l ≡ closing (p item) n x g (outer M g)
@@ -206,7 +205,7 @@ module _ (M : Model) (f g : ℕ) (N : Model) (item : ℕ) (w : Joining M f g N i
             stage = record {
               facing = w.stage.facing;
               split = stage_next.split ∙ sym (append_assoc w.done (item ∷ []) (n ∷ ks));
-              last_in = last_in n ks;
+              last_in = IsIn_last n ks;
               sound = subst Sound made_here (effects_keep_sound Y (closing (p item) n x g (outer M g)) stage_next.sound accepted_here);
             };
             model = made ∙ (λ i. effects (model_next i) (ops_are i)) ∙ made_here;

@@ -1,19 +1,19 @@
 -- Before two faces are glued: the first item of the one, and the half-edge of the other that starts where it does. And what opens
 -- the seam.
-use Rattle.std.proofs.Common.{◌≡◌, ◌≢◌, ℕ, ◌≤◌, Bool, true, false, cond, List, [], ◌∷◌, ◌++◌, refl, sym, ap, ◌∙◌, subst, None, arith, true≢false}
-use Rattle.std.proofs.lemmas.Bool.Decides.{nat_tests}
+use Rattle.std.proofs.Common.{◌≡◌, ◌≢◌, ℕ, ◌≤◌, Bool, true, false, cond, List, [], ◌∷◌, ◌++◌, refl, sym, ap, ◌∙◌, subst, None}
+use Rattle.std.proofs.lemmas.Bool.{not-true}
 use Rattle.euler_operators.specs.declared.Point.{Point}
 use Rattle.euler_operators.specs.Vectors.{same_point}
 use Rattle.euler_operators.specs.Items.{IsIn, head_or, last_or}
-use Rattle.euler_operators.proofs.Rings.{last_or_push}
-use Rattle.euler_operators.specs.HalfEdge.{edge_of}
-use Rattle.euler_operators.specs.Model.{Model, items_of, content, outer, point_of, is_number}
-use Rattle.euler_operators.specs.Sound.{Sound, Has, HasHalf}
+use Rattle.euler_operators.proofs.Rings.{last_or_push, IsIn_last}
+use Rattle.euler_operators.proofs.Models.{number_fits, half_number}
+use Rattle.euler_operators.specs.Model.{Model, items_of, content, outer, point_of}
+use Rattle.euler_operators.specs.Sound.{Sound, Has}
 use Rattle.euler_operators.specs.Conditions.{is_lone}
 use Rattle.euler_operators.specs.declared.Op.{Op}
 use Rattle.euler_laws.specs.Laws.{effects, AreAccepted}
 use Rattle.euler_laws.proofs.Runs.{effects_keep_sound}
-use Rattle.euler_laws.proofs.shared.Goes.{all_hold, not_true}
+use Rattle.euler_laws.proofs.shared.Goes.{all_hold}
 use Rattle.shapes.specs.Faces.{start, finish}
 use Rattle.shapes.specs.Fresh.{first_such}
 use Rattle.shapes.specs.glue.Glue.{rim, outline, partner, has_repeats, glue_conditions, glue_refusal}
@@ -24,7 +24,6 @@ use Rattle.shapes.proofs.glue.Facing.{Facing}
 use Rattle.shapes.proofs.glue.Facts as facts
 use Rattle.shapes.proofs.glue.Points.{same_is}
 use Rattle.gluing_laws.proofs.glue.Opening.{opening_accepted, opening_is}
-use Rattle.gluing_laws.proofs.glue.Whole.{last_in}
 use Rattle.gluing.specs.Rims.{item_at}
 use Rattle.gluing.proofs.Joined.{Joining}
 
@@ -35,14 +34,6 @@ such_passes test (n ∷ ns) some = elim (test n) as (λ b. test n ≡ b → cond
   | true ↦ λ e _. e
   | false ↦ λ _ more. such_passes test ns more
 ] refl some
-
-number_fits : (n : ℕ) → is_number n ≡ true → n ≤ 1000000
-number_fits n e = grind (arith, nat_tests)
-
--- no half-edge has the code 0
-never_zero : (M : Model) → Sound M → (h : ℕ) → HasHalf M h → h ≢ 0
-unfolding edge_of
-never_zero M sound h there z = true≢false (sym (sound.edges_fit (edge_of h) there) ∙ ap (λ k. is_number (edge_of k)) z)
 
 module _ (M : Model) (f g : ℕ) (sound : Sound M) (accepted : glue_refusal M f g ≡ None) where
   abbrev hs : List ℕ
@@ -68,7 +59,7 @@ module _ (M : Model) (f g : ℕ) (sound : Sound M) (accepted : glue_refusal M f 
 
   pub points_apart : has_repeats (outline M g) ≡ false
   unfolding glue_conditions
-  points_apart = not_true _ (all_hold (glue_conditions M f g) accepted).1.1.1.1.1.1.1.1.1.1.0
+  points_apart = not-true _ (all_hold (glue_conditions M f g) accepted).1.1.1.1.1.1.1.1.1.1.0
 
   shape : (h : ℕ) × (mid : List ℕ) × (last : ℕ) × (hs ≡ h ∷ (mid ++ last ∷ []))
   shape = facts.shape M f g sound accepted
@@ -77,7 +68,7 @@ module _ (M : Model) (f g : ℕ) (sound : Sound M) (accepted : glue_refusal M f 
   last = last_or 0 hs
 
   last_there : IsIn last hs
-  last_there = subst (λ q. IsIn (last_or 0 q) q) (sym shape.3) (last_in shape.0 (shape.1 ++ shape.2 ∷ []))
+  last_there = subst (λ q. IsIn (last_or 0 q) q) (sym shape.3) (IsIn_last shape.0 (shape.1 ++ shape.2 ∷ []))
 
   last_is : last ≡ shape.2
   last_is = ap (last_or 0) shape.3 ∙ last_or_push shape.0 shape.2 shape.1
@@ -91,7 +82,7 @@ module _ (M : Model) (f g : ℕ) (sound : Sound M) (accepted : glue_refusal M f 
 
   partner_starts : start M (p last) ≡ finish M last
   partner_starts = same_is (start M (p last)) (finish M last)
-      (such_passes (λ k. same_point (start M k) (finish M last)) (rim M g) (never_zero M sound (p last) (facing.half_g M f g p hs (fresh_edge M) w last last_there)))
+      (such_passes (λ k. same_point (start M k) (finish M last)) (rim M g) (half_number M sound (p last) (facing.half_g M f g p hs (fresh_edge M) w last last_there)))
 
   module _ (point : Point) (at : point ≡ start M (head_or 0 hs)) where
     -- the partner of the last item starts there
@@ -131,7 +122,7 @@ module _ (M : Model) (f g : ℕ) (sound : Sound M) (accepted : glue_refusal M f 
     stage = record {
       facing = w;
       split = shape.3;
-      last_in = last_in shape.0 (shape.1 ++ shape.2 ∷ []);
+      last_in = IsIn_last shape.0 (shape.1 ++ shape.2 ∷ []);
       sound = subst Sound made (effects_keep_sound M (first_ops shape.0 shape.2) sound goes);
     };
     model = made;

@@ -1,31 +1,30 @@
 -- The six volumes of the glued solid: both faces go, and together they added nothing.
-use Rattle.std.proofs.Common.{◌≡◌, ◌≢◌, ℕ, ◌+◌, ℤ, pos, ◌+ℤ◌, ◌*ℤ◌, neg_ℤ, true, false, cond, nat_eq, Bool, List, [], ◌∷◌, ◌++◌, map, Option, Some, None, is_some, refl, sym, ap, ◌∙◌, subst, arith, true≢false, ◌⊎◌, inl, inr}
+use Rattle.std.proofs.Common.{◌≡◌, ◌≢◌, ℕ, ◌+◌, ℤ, pos, ◌+ℤ◌, neg_ℤ, true, cond, nat_eq, Bool, List, [], ◌∷◌, ◌++◌, map, Option, Some, None, is_some, refl, sym, ap, ◌∙◌, subst, arith, true≢false, ◌⊎◌, inl, inr}
 use Rattle.std.specs.Option.{option_map}
 use Rattle.std.proofs.lemmas.Int.{ints}
 use Rattle.std.proofs.lemmas.Bool.Decides.{nat_tests, eqb_tells}
-use Rattle.euler_operators.specs.declared.Point.{Point}
+use Rattle.std.proofs.lemmas.Bool.{ne_eqb, eq-eqb, eqb-true}
 use Rattle.euler_operators.specs.Vectors.{dot}
 use Rattle.euler_operators.specs.Items.{count, IsIn, SameItems, head_or}
 use Rattle.euler_operators.specs.Rings.{successor}
 use Rattle.euler_operators.proofs.Lists.{count-append, tick_same, tick_other}
 use Rattle.euler_operators.proofs.Rings.{IsIn_successor}
-use Rattle.euler_operators.proofs.Rotations.{IsIn_head}
 use Rattle.euler_operators.specs.Table as table
 use Rattle.euler_operators.specs.Table.{Table, tables}
 use Rattle.euler_operators.specs.Model.{Model, cycle, FaceRow, items_of, tail, content, outer, solid_of, point_of, rings_of, faces_of, after, cycle_of}
 use Rattle.euler_operators.specs.Sound.{Has}
 use Rattle.euler_operators.specs.Conditions.{lists}
 use Rattle.euler_operators.specs.Effect.{faces_to_solid}
-use Rattle.euler_laws.proofs.shared.Goes.{equal, equals, differs}
 use Rattle.euler_laws.proofs.shared.Listed.{listed_passes, listed_as}
-use Rattle.euler_laws.proofs.shared.Rows.{face_there}
+use Rattle.euler_laws.proofs.shared.Rows.{face_there, solid_either}
 use Rattle.euler_laws.proofs.shared.Same.{mapped_some}
 use Rattle.shapes.specs.Faces.{start, finish, items_in, loops_of, boundary}
 use Rattle.shapes.specs.Measure.{area, normal, anchor, first_vertex, volume_in, six_volume}
 use Rattle.shapes.proofs.Areas.{area-append, moved_nothing}
-use Rattle.euler_operators.proofs.Integers.{dif, dif-parts, difs, same_dif}
+use Rattle.euler_operators.proofs.Members.{IsIn_some_head}
+use Rattle.euler_operators.proofs.Vectors.{none_added}
 use Rattle.solid_measure_laws.specs.Vectors.{negated}
-use Rattle.solid_measure_laws.proofs.Sums.{area_same, area_opposed}
+use Rattle.solid_measure_laws.proofs.Sums.{area_same, area_opposed, dot_back}
 use Rattle.gluing_laws.proofs.Listed.{one_if, passed, count_where, volume_of, volume_append, volume_same, same_volumes}
 use Rattle.gluing_laws.proofs.Seams as seams
 use Rattle.gluing_laws.proofs.Seams.{Seamed, Glued}
@@ -34,36 +33,18 @@ use Rattle.gluing_laws.proofs.Normals.{item_told}
 
 -- ---- the opposite vector along another
 
-back_dif : (a b c e f g a' b' c' e' f' g' : ℕ) →
-    dif a a' *ℤ neg_ℤ (dif e e') +ℤ dif b b' *ℤ neg_ℤ (dif f f') +ℤ dif c c' *ℤ neg_ℤ (dif g g') ≡ neg_ℤ (dif a a' *ℤ dif e e' +ℤ dif b b' *ℤ dif f f' +ℤ dif c c' *ℤ dif g g')
-back_dif a b c e f g a' b' c' e' f' g' = simp difs (same_dif _ _ _ _ (omega arith))
-
-back_part : (a b c e f g : ℤ) → a *ℤ neg_ℤ e +ℤ b *ℤ neg_ℤ f +ℤ c *ℤ neg_ℤ g ≡ neg_ℤ (a *ℤ e +ℤ b *ℤ f +ℤ c *ℤ g)
-back_part a b c e f g = rw (dif-parts a, dif-parts b, dif-parts c, dif-parts e, dif-parts f, dif-parts g) (back_dif _ _ _ _ _ _ _ _ _ _ _ _)
-
-pub dot_negated : (p v : Point) → dot p (negated v) ≡ neg_ℤ (dot p v)
-dot_negated p v = back_part p.x p.y p.z v.x v.y v.z
-
 -- ---- faces with one loop
 
-only_loop : (M : Model) (k : ℕ) (cs : List ℕ) → rings_of M k ≡ [] → content M (outer M k) ≡ cycle cs → normal M k ≡ area M cs
+pub only_loop : (M : Model) (k : ℕ) (cs : List ℕ) → rings_of M k ≡ [] → content M (outer M k) ≡ cycle cs → normal M k ≡ area M cs
 unfolding normal boundary loops_of
 only_loop M k cs alone is = ap (λ rs. area M (items_in M (outer M k ∷ rs))) alone ∙ ap (λ c. area M (items_of c ++ [])) is ∙ area-append M cs [] ∙ moved_nothing (area M cs)
 
-some_head : (xs : List ℕ) → xs ≢ [] → IsIn (head_or 0 xs) xs
-some_head [] ne = absurd (ne refl)
-some_head (x ∷ xs) ne = IsIn_head x xs
-
 -- ---- rows of faces
-
-pub moved_solid : (b : Bool) (row : FaceRow) (s : ℕ) → (cond b (record row { solid = s }) row).solid ≡ cond b s row.solid
-moved_solid true row s = refl
-moved_solid false row s = refl
 
 -- what is of s afterwards was of s or of t
 of_both : (a s t : ℕ) → s ≢ t → one_if (nat_eq (cond (nat_eq a t) s a) s) ≡ one_if (nat_eq a s) + one_if (nat_eq a t)
 of_both a s t ne = elim (eqb_tells a t) [
-  | inl e ↦ ap (λ b. one_if (nat_eq (cond b s a) s)) e.0 ∙ ap one_if (equals s s refl) ∙ sym (λ i. one_if (differs a s (λ q. ne (sym q ∙ e.1)) i) + one_if (e.0 i))
+  | inl e ↦ ap (λ b. one_if (nat_eq (cond b s a) s)) e.0 ∙ ap one_if (eq-eqb s s refl) ∙ sym (λ i. one_if (ne_eqb a s (λ q. ne (sym q ∙ e.1)) i) + one_if (e.0 i))
   | inr e ↦ ap (λ b. one_if (nat_eq (cond b s a) s)) e.0 ∙ alone (one_if (nat_eq a s)) ∙ sym (ap (λ b. one_if (nat_eq a s) + one_if b) e.0)
 ] where
   alone : (n : ℕ) → n ≡ n + 0
@@ -72,7 +53,7 @@ of_both a s t ne = elim (eqb_tells a t) [
 was_either : (a s t : ℕ) → nat_eq (cond (nat_eq a t) s a) s ≡ true → (a ≡ s) ⊎ (a ≡ t)
 was_either a s t is = elim (eqb_tells a t) [
   | inl e ↦ inr e.1
-  | inr e ↦ inl (equal a s (sym (ap (λ b. nat_eq (cond b s a) s) e.0) ∙ is))
+  | inr e ↦ inl (eqb-true a s (sym (ap (λ b. nat_eq (cond b s a) s) e.0) ∙ is))
 ]
 
 module _ (M N : Model) (f g : ℕ) (partner_of : ℕ → ℕ) (hs gs : List ℕ) (w : Seamed M f g partner_of hs gs) (n : Glued M N f g partner_of hs) where
@@ -101,12 +82,12 @@ module _ (M N : Model) (f g : ℕ) (partner_of : ℕ → ℕ) (hs gs : List ℕ)
 
   anchor_g : dot (anchor M g) (normal M f) ≡ volume_of M f
   anchor_g =
-      let p = seams.partner_back M f g partner_of hs gs w (head_or 0 gs) (some_head gs some_of_g) in
+      let p = seams.partner_back M f g partner_of hs gs w (head_or 0 gs) (IsIn_some_head gs some_of_g) in
       ap (λ c. dot (point_of M (first_vertex M c)) (normal M f)) w.second ∙ ap (λ k. dot (start M k) (normal M f)) p.2 ∙ ap (λ q. dot q (normal M f)) (w.starts p.0 p.1) ∙ item_ends p.0 p.1
 
   -- together they add nothing
   both_nothing : volume_of M f +ℤ volume_of M g ≡ pos 0
-  both_nothing = ap (λ v. volume_of M f +ℤ v) (ap (dot (anchor M g)) normals_opposed ∙ dot_negated (anchor M g) (normal M f) ∙ ap neg_ℤ anchor_g) ∙ none (volume_of M f) where
+  both_nothing = ap (λ v. volume_of M f +ℤ v) (ap (dot (anchor M g)) normals_opposed ∙ dot_back (anchor M g) (normal M f) ∙ ap neg_ℤ anchor_g) ∙ none (volume_of M f) where
     none : (a : ℤ) → a +ℤ neg_ℤ a ≡ pos 0
     none a = omega (arith, ints)
 
@@ -141,19 +122,19 @@ module _ (M N : Model) (f g : ℕ) (partner_of : ℕ → ℕ) (hs gs : List ℕ)
 
   at_f : SameAt f
   at_f =
-      let here : count f (faces_of M s) ≡ 1 = of_solid f s w.f_there ∙ ap one_if (equals s s refl) in
-      let there : count f (faces_of M t) ≡ 0 = of_solid f t w.f_there ∙ ap one_if (differs s t w.solids_apart) in
+      let here : count f (faces_of M s) ≡ 1 = of_solid f s w.f_there ∙ ap one_if (eq-eqb s s refl) in
+      let there : count f (faces_of M t) ≡ 0 = of_solid f t w.f_there ∙ ap one_if (ne_eqb s t w.solids_apart) in
       omega (arith, tick_same f, tick_other f g (seams.faces_apart M f g partner_of hs gs w), none_after f left_f, here, there, count-append f (faces_of M s) (faces_of M t))
 
   at_g : SameAt g
   at_g =
-      let here : count g (faces_of M s) ≡ 0 = of_solid g s w.g_there ∙ ap one_if (differs t s (λ e. w.solids_apart (sym e))) in
-      let there : count g (faces_of M t) ≡ 1 = of_solid g t w.g_there ∙ ap one_if (equals t t refl) in
+      let here : count g (faces_of M s) ≡ 0 = of_solid g s w.g_there ∙ ap one_if (ne_eqb t s (λ e. w.solids_apart (sym e))) in
+      let there : count g (faces_of M t) ≡ 1 = of_solid g t w.g_there ∙ ap one_if (eq-eqb t t refl) in
       omega (arith, tick_same g, tick_other g f (λ e. seams.faces_apart M f g partner_of hs gs w (sym e)), none_after g left_g, here, there, count-append g (faces_of M s) (faces_of M t))
 
   both_rows : (k : ℕ) (o : Option FaceRow) → passed (of s) k (option_map (to_s k) o) ≡ passed (of s) k o + passed (of t) k o
   both_rows k None = refl
-  both_rows k (Some row) = ap (λ v. one_if (nat_eq v s)) (moved_solid (nat_eq row.solid t) row s) ∙ of_both row.solid s t w.solids_apart
+  both_rows k (Some row) = ap (λ v. one_if (nat_eq v s)) (solid_either (nat_eq row.solid t) row s) ∙ of_both row.solid s t w.solids_apart
 
   at_other : (k : ℕ) → k ≢ f → k ≢ g → SameAt k
   at_other k a b =
@@ -181,11 +162,8 @@ module _ (M N : Model) (f g : ℕ) (partner_of : ℕ → ℕ) (hs gs : List ℕ)
       let there : Has M.faces k = sym (mapped_some (to_s k) (table.get M.faces k)) ∙ ap is_some (sym at ∙ r.1) in
       let now : table.get N.faces k ≡ Some (to_s k (record { solid = solid_of M k; outer = outer M k })) = at ∙ ap (option_map (to_s k)) (face_there M k there) in
       let passes : of s k (to_s k (record { solid = solid_of M k; outer = outer M k })) ≡ true = sym (listed_as (of s) N.faces k (to_s k (record { solid = solid_of M k; outer = outer M k })) now) ∙ i in
-      let solid = was_either (solid_of M k) s t (sym (ap (λ v. nat_eq v s) (moved_solid (nat_eq (solid_of M k) t) (record { solid = solid_of M k; outer = outer M k }) s)) ∙ passes) in
+      let solid = was_either (solid_of M k) s t (sym (ap (λ v. nat_eq v s) (solid_either (nat_eq (solid_of M k) t) (record { solid = solid_of M k; outer = outer M k }) s)) ∙ passes) in
       normals.volume_is M N f g partner_of hs gs w n k there not_f not_g (w.flat k there solid)
-
-  none_added : (a b c : ℤ) → a +ℤ b ≡ pos 0 → a +ℤ (b +ℤ c) ≡ c
-  none_added a b c e = omega (arith, ints)
 
   pub solids_add : six_volume N s ≡ six_volume M s +ℤ six_volume M t
   unfolding six_volume

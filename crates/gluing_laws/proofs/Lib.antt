@@ -3,7 +3,7 @@ pub mod Listed
 mod Seams
 mod Places
 mod Normals
-mod Adding
+pub mod Adding
 mod Others
 mod Outlines
 mod FromConditions

@@ -1,34 +1,27 @@
 -- How often a number stands in what a search lists, and volumes of lists of faces in any order.
-use Rattle.std.proofs.Common.{◌≡◌, ℕ, ◌≤◌, ℤ, ◌+ℤ◌, Bool, true, false, cond, List, [], ◌∷◌, ◌++◌, Option, Some, None, is_some, refl, sym, ap, ◌∙◌, arith, true≢false, inl, inr}
-use Rattle.std.proofs.lemmas.Int.{ints}
+use Rattle.std.proofs.Common.{◌≡◌, ℕ, ◌≤◌, ℤ, ◌+ℤ◌, Bool, true, false, cond, List, [], ◌∷◌, ◌++◌, Option, Some, None, is_some, refl, sym, ap, ◌∙◌, arith, true≢false}
 use Rattle.euler_operators.specs.Vectors.{dot}
-use Rattle.euler_operators.specs.Items.{count, tick, IsIn, SameItems, before, after}
-use Rattle.euler_operators.proofs.Lists.{count-append, tick_same, split_at}
+use Rattle.euler_operators.specs.Items.{count, IsIn, SameItems, before, after}
+use Rattle.euler_operators.proofs.Lists.{tick_same, split_at}
 use Rattle.euler_operators.specs.Table as table
 use Rattle.euler_operators.specs.Table.{Table}
 use Rattle.euler_operators.specs.Model.{Model}
 use Rattle.euler_operators.specs.Conditions.{lists, strictly_rises}
-use Rattle.euler_laws.proofs.shared.Listed.{first_listed, listed_cases, listed_passes, listed_as, all_where-rises}
+use Rattle.euler_laws.proofs.shared.Listed.{first_listed, listed_passes, listed_as, all_where-rises, IsIn-from_listed, listed-from_in}
 use Rattle.euler_laws.proofs.shared.Rows.{no_items}
-use Rattle.euler_laws.proofs.shared.RisingLists.{within}
 use Rattle.shapes.specs.Measure.{anchor, normal, volume_in}
-use Rattle.euler_laws.proofs.shared.Counted.{counted_once, none_counted, in_listed}
-use Rattle.euler_operators.proofs.Vectors.{add_assoc, none_add}
+use Rattle.euler_operators.proofs.Vectors.{add_assoc, none_add, add_exchanged}
+use Rattle.euler_operators.proofs.Members.{count_taken}
+use Rattle.euler_laws.proofs.shared.RisingLists.{within}
+use Rattle.euler_laws.proofs.shared.Counted.{counted_once, none_counted}
 
 -- ---- lists
-
-pub listed_in : (q : ℕ) (ns : List ℕ) → lists ns q ≡ true → IsIn q ns
-listed_in q [] e = absurd (true≢false (sym e))
-listed_in q (n ∷ ns) e = elim (listed_cases n q ns e) [
-  | inl s ↦ omega (arith, ap (tick q) s, tick_same q)
-  | inr i ↦ omega (arith, listed_in q ns i)
-]
 
 -- rising lists with the same items are one
 pub rising_same : (xs ys : List ℕ) → strictly_rises xs ≡ true → strictly_rises ys ≡ true → SameItems xs ys → xs ≡ ys
 rising_same xs ys r s e =
-    let a = within xs ys r s (λ q i. in_listed q ys (omega (arith, e q, listed_in q xs i))) in
-    let b = within ys xs s r (λ q i. in_listed q xs (omega (arith, e q, listed_in q ys i))) in
+    let a = within xs ys r s (λ q i. listed-from_in q ys (omega (arith, e q, IsIn-from_listed q xs i))) in
+    let b = within ys xs s r (λ q i. listed-from_in q xs (omega (arith, e q, IsIn-from_listed q ys i))) in
     a.1 (omega (arith, a.0, b.0))
 
 -- ---- searches
@@ -47,7 +40,7 @@ count_listed q ns up = go (lists ns q) refl where
   once n l m = omega arith
 
   go : (b : Bool) → lists ns q ≡ b → count q ns ≡ one_if b
-  go true e = once (count q ns) (counted_once q ns up) (listed_in q ns e)
+  go true e = once (count q ns) (counted_once q ns up) (IsIn-from_listed q ns e)
   go false e = none_counted q ns e
 
 pub count_where : {X : Type 0} (p : ℕ → X → Bool) (t : Table X) (k : ℕ) → count k (table.all_where p t) ≡ passed p k (table.get t k)
@@ -74,20 +67,14 @@ module _ (M : Model) where
   volume_append [] ys = sym (none_add (volume_in M ys))
   volume_append (x ∷ xs) ys = ap (λ v. volume_of x +ℤ v) (volume_append xs ys) ∙ sym (add_assoc (volume_of x) (volume_in M xs) (volume_in M ys))
 
-  exchanged : (a b c : ℤ) → a +ℤ (b +ℤ c) ≡ b +ℤ (a +ℤ c)
-  exchanged a b c = omega (arith, ints)
-
-  taken : (x y : ℕ) (xs ys : List ℕ) → SameItems (x ∷ xs) ys → ys ≡ before x ys ++ x ∷ after x ys → count y xs ≡ count y (before x ys ++ after x ys)
-  taken x y xs ys s e = omega (arith, s y, ap (count y) e, count-append y (before x ys) (x ∷ after x ys), count-append y (before x ys) (after x ys))
-
   -- the order of the faces doesn't matter
   pub volume_same : (xs ys : List ℕ) → SameItems xs ys → volume_in M xs ≡ volume_in M ys
   volume_same [] ys s = ap (volume_in M) (sym (no_items ys (λ x. sym (s x))))
   volume_same (x ∷ xs) ys s =
       let i : IsIn x ys = omega (arith, s x, tick_same x) in
       let e = split_at x ys i in
-      ap (λ v. volume_of x +ℤ v) (volume_same xs (before x ys ++ after x ys) (λ y. taken x y xs ys s e) ∙ volume_append (before x ys) (after x ys))
-      ∙ exchanged (volume_of x) (volume_in M (before x ys)) (volume_in M (after x ys))
+      ap (λ v. volume_of x +ℤ v) (volume_same xs (before x ys ++ after x ys) (λ y. count_taken x y xs ys s e) ∙ volume_append (before x ys) (after x ys))
+      ∙ add_exchanged (volume_of x) (volume_in M (before x ys)) (volume_in M (after x ys))
       ∙ sym (ap (volume_in M) e ∙ volume_append (before x ys) (x ∷ after x ys))
 
 module _ (M N : Model) where
@@ -96,4 +83,4 @@ module _ (M N : Model) where
   same_volumes [] e = refl
   same_volumes (k ∷ ks) e = λ i. e k (first_listed k ks) i +ℤ same_volumes ks (λ q l. e q (later k q ks l)) i where
     later : (k q : ℕ) (ks : List ℕ) → lists ks q ≡ true → lists (k ∷ ks) q ≡ true
-    later k q ks l = in_listed q (k ∷ ks) (omega (arith, listed_in q ks l))
+    later k q ks l = listed-from_in q (k ∷ ks) (omega (arith, IsIn-from_listed q ks l))

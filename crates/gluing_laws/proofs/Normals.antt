@@ -1,8 +1,9 @@
 -- The other faces of the glued solid: their loops, normals and volumes are what they were.
-use Rattle.std.proofs.Common.{◌≡◌, ◌≢◌, ℕ, true, false, cond, not, nat_eq, ◌&&◌, Bool, List, [], ◌∷◌, ◌++◌, Option, Some, None, unwrap_or, refl, sym, ap, ◌∙◌, arith, true≢false, inl, inr}
+use Rattle.std.proofs.Common.{◌≡◌, ◌≢◌, ℕ, true, false, cond, not, nat_eq, ◌&&◌, Bool, List, [], ◌∷◌, Option, Some, None, unwrap_or, refl, sym, ap, ◌∙◌, arith, inl, inr}
 use Rattle.std.specs.Prelude.{map}
 use Rattle.std.specs.Option.{option_map}
 use Rattle.std.proofs.lemmas.Bool.Decides.{nat_tests, eqb_tells}
+use Rattle.std.proofs.lemmas.Bool.{ne_eqb, eqb-true}
 use Rattle.euler_operators.specs.Vectors.{moved, dot, cross}
 use Rattle.euler_operators.specs.Items.{count, IsIn, head_or}
 use Rattle.euler_operators.specs.Rings.{canonical}
@@ -14,16 +15,16 @@ use Rattle.euler_operators.specs.Table.{Table, tables, get-map_rows}
 use Rattle.euler_operators.specs.Model.{Model, LoopContent, lone, cycle, FaceRow, LoopRow, no_face, no_loop, items_of, tail, content, face_of, outer, solid_of, point_of, rings_of}
 use Rattle.euler_operators.specs.Sound.{Has, StandsIn}
 use Rattle.euler_operators.proofs.Models.{in-holds, face_row}
+use Rattle.euler_operators.proofs.Tests.{and_first}
+use Rattle.euler_operators.proofs.Members.{IsIn_rest, IsIn_first}
 use Rattle.euler_operators.specs.Conditions.{lists}
 use Rattle.euler_operators.specs.Effect.{faces_to_solid}
-use Rattle.euler_laws.proofs.shared.Goes.{equal, differs}
-use Rattle.euler_laws.proofs.shared.Listed.{first_listed, rest_listed, listed_cases, listed_passes}
+use Rattle.euler_laws.proofs.shared.Listed.{first_listed, rest_listed, listed_cases, listed_passes, listed_front}
 use Rattle.shapes.specs.Faces.{start, items_in, loops_of, boundary, corners, vertices_on}
 use Rattle.shapes.specs.Rewriting.{rewritten, rewritten_row}
 use Rattle.shapes.specs.Measure.{area, normal, anchor, first_vertex, is_flat}
 use Rattle.shapes.proofs.Areas.{area-append}
 use Rattle.solid_measure_laws.proofs.FlatFaces.{corner_told}
-use Rattle.solid_measure_laws.proofs.Paths.{first_in, rest_in}
 use Rattle.solid_measure_laws.proofs.Sums.{area_same}
 use Rattle.gluing_laws.proofs.Listed.{one_if, passed, same_search, volume_of}
 use Rattle.gluing_laws.proofs.Seams as seams
@@ -32,17 +33,6 @@ use Rattle.gluing_laws.proofs.Places as places
 use Rattle.gluing_laws.proofs.Places.{Stays}
 
 -- ---- corners
-
-and_first : (a b : Bool) → (a && b) ≡ true → a ≡ true
-and_first true b e = refl
-and_first false b e = absurd (true≢false (sym e))
-
-listed_front : (xs ys : List ℕ) (q : ℕ) → lists xs q ≡ true → lists (xs ++ ys) q ≡ true
-listed_front [] ys q e = absurd (true≢false (sym e))
-listed_front (x ∷ xs) ys q e = elim (listed_cases x q xs e) [
-  | inl s ↦ ap (λ k. lists (x ∷ (xs ++ ys)) k) s ∙ first_listed x (xs ++ ys)
-  | inr i ↦ rest_listed x q (xs ++ ys) (listed_front xs ys q i)
-]
 
 listed_map : (a : ℕ → ℕ) (x : ℕ) (xs : List ℕ) → IsIn x xs → lists (map a xs) (a x) ≡ true
 listed_map a x [] i = absurd (omega (arith, i))
@@ -67,12 +57,8 @@ loop_face : (M : Model) (k l : ℕ) → face_of M (outer M k) ≡ k → lists (l
 unfolding loops_of
 loop_face M k l own i = elim (listed_cases (outer M k) l (rings_of M k) i) [
   | inl e ↦ ap (face_of M) e ∙ own
-  | inr j ↦ let r = listed_passes (λ q row. nat_eq row.face k && not (nat_eq (outer M k) q)) M.loops l j in face_row M l r.0 r.1 ∙ equal r.0.face k (and_first _ _ r.2)
+  | inr j ↦ let r = listed_passes (λ q row. nat_eq row.face k && not (nat_eq (outer M k) q)) M.loops l j in face_row M l r.0 r.1 ∙ eqb-true r.0.face k (and_first _ _ r.2)
 ]
-
-head_in : (xs : List ℕ) (y : ℕ) → IsIn y xs → IsIn (head_or 0 xs) xs
-head_in [] y i = absurd (omega (arith, i))
-head_in (x ∷ xs) y i = IsIn_head x xs
 
 module _ (M N : Model) (f g : ℕ) (partner_of : ℕ → ℕ) (hs gs : List ℕ) (w : Seamed M f g partner_of hs gs) (n : Glued M N f g partner_of hs) where
   abbrev swap : ℕ → ℕ
@@ -111,7 +97,7 @@ module _ (M N : Model) (f g : ℕ) (partner_of : ℕ → ℕ) (hs gs : List ℕ)
 
   swapped_area : (cs : List ℕ) → ((y : ℕ) → IsIn y cs → StaysHere (swap y) y) → area N (map swap cs) ≡ area M cs
   swapped_area [] e = refl
-  swapped_area (y ∷ ys) e = let p = e y (first_in y ys) in λ i. moved (cross (p.0 i) (p.1 i)) (swapped_area ys (λ z j. e z (rest_in z y ys j)) i)
+  swapped_area (y ∷ ys) e = let p = e y (IsIn_head y ys) in λ i. moved (cross (p.0 i) (p.1 i)) (swapped_area ys (λ z j. e z (IsIn_rest z y ys j)) i)
 
   content_area : (c : LoopContent) → ((y : ℕ) → IsIn y (items_of c) → StaysHere (swap y) y) → area N (items_of (rewritten (map swap) c)) ≡ area M (items_of c)
   content_area (lone v) e = refl
@@ -178,7 +164,7 @@ module _ (M N : Model) (f g : ℕ) (partner_of : ℕ → ℕ) (hs gs : List ℕ)
     none_passes l ne = go (table.get M.loops l) refl where
       go : (o : Option LoopRow) → table.get M.loops l ≡ o → passed ring_before l o ≡ 0
       go None e = refl
-      go (Some row) e = ap (λ b. one_if (b && not (nat_eq (outer M k) l))) (differs row.face k (λ s. ne (face_row M l row e ∙ s)))
+      go (Some row) e = ap (λ b. one_if (b && not (nat_eq (outer M k) l))) (ne_eqb row.face k (λ s. ne (face_row M l row e ∙ s)))
 
     loop_gone : (l : ℕ) → table.get kept l ≡ None → face_of M l ≢ k → passed ring_after l (table.get N.loops l) ≡ passed ring_before l (table.get M.loops l)
     loop_gone l e ne = ap (passed ring_after l) (row_in l ∙ ap (option_map (rewritten_row (map swap) l)) e) ∙ sym (none_passes l ne)
@@ -219,7 +205,7 @@ module _ (M N : Model) (f g : ℕ) (partner_of : ℕ → ℕ) (hs gs : List ℕ)
     anchor_in (cycle (c ∷ cs)) ne is flat =
         let zs : List ℕ = canonical (map swap (c ∷ cs)) in
         let some : IsIn (swap c) zs = omega (arith, count-canonical (swap c) (map swap (c ∷ cs)), tick_same (swap c)) in
-        let first : IsIn (head_or 0 zs) (map swap (c ∷ cs)) = omega (arith, head_in zs (swap c) some, count-canonical (head_or 0 zs) (map swap (c ∷ cs))) in
+        let first : IsIn (head_or 0 zs) (map swap (c ∷ cs)) = omega (arith, IsIn_first zs (swap c) some, count-canonical (head_or 0 zs) (map swap (c ∷ cs))) in
         let y = from_map swap (head_or 0 zs) (c ∷ cs) first in
         ap (λ p. dot p (normal M k)) (ap (start N) y.2 ∙ (each_swapped (outer M k) (loop_else (outer M k) own).1 y.0 (ap_in y.0 (c ∷ cs) is y.1)).0)
         ∙ item_told M k (c ∷ cs) y.0 flat is y.1 where

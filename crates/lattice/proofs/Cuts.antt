@@ -1,5 +1,5 @@
 -- Where a segment meets a plane: how great the numbers are.
-use Rattle.std.proofs.Common.{◌≡◌, ◌≢◌, ℕ, zero, suc, ◌+◌, ◌*◌, ◌/◌, ◌<◌, ◌≤◌, true, false, cond, ℤ, pos, negsuc, Some, None, refl, sym, ap, subst, ◌∙◌, arith}
+use Rattle.std.proofs.Common.{◌≡◌, ◌≢◌, ℕ, zero, suc, ◌+◌, ◌*◌, ◌/◌, ◌≤◌, true, false, cond, ℤ, pos, negsuc, Some, None, refl, sym, ap, subst, ◌∙◌, arith}
 use Rattle.std.specs.Prelude.{◌+ℤ◌, ◌-ℤ◌, ◌*ℤ◌, neg_ℤ, FitsSigned, Option}
 use Rattle.std.specs.Int.RustNames.{unsigned_abs, int_div, int_rem}
 use Rattle.std.specs.Int.{cast_signed, cast_unsigned}
@@ -13,6 +13,7 @@ use Rattle.lattice.specs.declared.Plane.{Plane}
 use Rattle.lattice.specs.Point.{is_coordinate, IsInRange}
 use Rattle.lattice.specs.Ranges.{IsWithin, IsCutPlane}
 use Rattle.lattice.specs.Vectors.{height, opposite, whole_quotient}
+use Rattle.lattice.proofs.Crossings.{cut_within, quotient_within, within_coordinate}
 use Rattle.lattice.proofs.Magnitudes.{coordinates, coordinate_within, product_within, sum_within, fits, held, held_short, held_is, coordinate_is, Told, difference_told}
 
 pub height_within : (s : Plane) (p : Point) → IsCutPlane s → IsInRange p → IsWithin 6000000000000000000 (height s p)
@@ -24,39 +25,6 @@ height_within s p w r =
     let xy = sum_within (s.a *ℤ p.x) (s.b *ℤ p.y) _ _ 2000000000000000000 x y (omega arith) in
     let xyz = sum_within (s.a *ℤ p.x +ℤ s.b *ℤ p.y) (s.c *ℤ p.z) _ _ 3000000000000000000 xy z (omega arith) in
     sum_within (s.a *ℤ p.x +ℤ s.b *ℤ p.y +ℤ s.c *ℤ p.z) s.d _ _ 6000000000000000000 xyz w.1 (omega arith)
-
-pub apart : (m n : ℤ) → opposite m n ≡ true → m -ℤ n ≢ pos 0
-apart m n e z = grind (arith, ints)
-
--- numbers of opposite signs are as far apart as both magnitudes together
-far_apart : (m n : ℤ) → opposite m n ≡ true → unsigned_abs (m -ℤ n) ≡ unsigned_abs m + unsigned_abs n
-far_apart m n e = grind (arith, ints)
-
-pub cut_within : (to from m n : ℤ) → IsWithin 1000000000 to → IsWithin 1000000000 from → opposite m n ≡ true → unsigned_abs (to *ℤ m -ℤ from *ℤ n) ≤ 1000000000 * unsigned_abs (m -ℤ n)
-cut_within to from m n wt wf o =
-    let a = product_within to m 1000000000 (unsigned_abs m) _ wt (omega arith) refl in
-    let b = product_within from n 1000000000 (unsigned_abs n) _ wf (omega arith) refl in
-    let c : unsigned_abs (to *ℤ m -ℤ from *ℤ n) ≤ unsigned_abs (to *ℤ m) + unsigned_abs (from *ℤ n) = omega (arith, ints) in
-    omega (arith, a, b, c, far_apart m n o)
-
-some_size : (w : ℤ) → w ≢ pos 0 → 0 < unsigned_abs w
-some_size w ne = grind (arith, ints)
-
-turned_size : (n : ℕ) → unsigned_abs (neg_ℤ (pos n)) ≡ n
-turned_size zero = refl
-turned_size (suc n) = refl
-
-quotient_size : (m w : ℤ) → unsigned_abs (int_div m w) ≡ unsigned_abs m / unsigned_abs w
-quotient_size (pos a) (pos b) = refl
-quotient_size (pos a) (negsuc b) = turned_size (a / suc b)
-quotient_size (negsuc a) (pos b) = turned_size (suc a / b)
-quotient_size (negsuc a) (negsuc b) = refl
-
-quotient_within : (m w : ℤ) → unsigned_abs m ≤ 1000000000 * unsigned_abs w → IsWithin 1000000000 (int_div m w)
-quotient_within m w h = subst (λ n. n ≤ 1000000000) (sym (quotient_size m w)) (div-le_of_le-mul (unsigned_abs w) (omega (arith, h)))
-
-within_coordinate : (x : ℤ) → IsWithin 1000000000 x → is_coordinate x ≡ true
-within_coordinate x h = grind (arith, ints)
 
 zero_bits : (z : ℤ) → FitsSigned w128 z → cast_unsigned w128 z ≡ 0 → int_eq z (pos 0) ≡ true
 zero_bits z f e = let h : z ≡ pos 0 = sym (held_is z f) ∙ ap (cast_signed w128) e in ap (λ y. int_eq y (pos 0)) h

@@ -1,6 +1,7 @@
 pub mod Magnitudes
-mod Orders
+pub mod Orders
 mod Cuts
+pub mod Crossings
 mod Coordinates
 pub mod Integers
 pub mod Vectors

@@ -4,22 +4,26 @@ use Rattle.std.specs.Prelude.{◌+ℤ◌, ◌-ℤ◌, ◌*ℤ◌, ◌&&◌, Fits
 use Rattle.std.specs.Int.RustNames.{unsigned_abs}
 use Rattle.std.specs.Int.{cast_signed, cast_unsigned}
 use Rattle.std.proofs.lemmas.Int.{ints, to_z-of_z, unsigned_abs-mul, fits_signed_from_abs}
+use Rattle.std.proofs.lemmas.Bool.{and_parts}
 use Rattle.std.proofs.Math.Nat.{mul-le-mul}
 use mir.Syntax.{w64, w128}
 use Rattle.lattice.specs.declared.Point.{Point}
 use Rattle.lattice.specs.Point.{is_coordinate, IsInRange}
-use Rattle.lattice.specs.Ranges.{IsWithin}
+use Rattle.lattice.specs.Ranges.{IsWithin, IsVectorWithin}
+use Rattle.lattice.specs.Vectors.{is_offset}
 
 pub coordinate_within : (x : ℤ) → is_coordinate x ≡ true → IsWithin 1000000000 x
 coordinate_within x e = grind (arith, ints)
 
-both : (a b : Bool) → (a && b) ≡ true → (a ≡ true) × (b ≡ true)
-both true b e = (refl, e)
-both false b e = absurd (true≢false (sym e))
+pub offset_within : (d : ℤ) → is_offset d ≡ true → IsWithin 3000000000000000000 d
+offset_within d e = grind (arith, ints)
+
+pub vector_within : (v : Point) (m n : ℕ) → IsVectorWithin m v → m ≤ n → IsVectorWithin n v
+vector_within v m n w l = (omega (arith, w.0, l), omega (arith, w.1, l), omega (arith, w.2, l))
 
 -- the coordinates of a point in range
 pub coordinates : (p : Point) → IsInRange p → (is_coordinate p.x ≡ true) × (is_coordinate p.y ≡ true) × (is_coordinate p.z ≡ true)
-coordinates p r = let xs = both (is_coordinate p.x) (is_coordinate p.y && is_coordinate p.z) r in let ys = both (is_coordinate p.y) (is_coordinate p.z) xs.1 in (xs.0, ys.0, ys.1)
+coordinates p r = let xs = and_parts (is_coordinate p.x) (is_coordinate p.y && is_coordinate p.z) r in let ys = and_parts (is_coordinate p.y) (is_coordinate p.z) xs.1 in (xs.0, ys.0, ys.1)
 
 pub product_within : (a b : ℤ) (m n k : ℕ) → IsWithin m a → IsWithin n b → m * n ≡ k → IsWithin k (a *ℤ b)
 product_within a b m n k h g e = subst (λ x. x ≤ k) (sym (unsigned_abs-mul a b)) (subst (λ x. unsigned_abs a * unsigned_abs b ≤ x) e (mul-le-mul h g))

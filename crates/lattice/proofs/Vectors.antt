@@ -27,6 +27,12 @@ none_add a = omega (arith, ints)
 pub add_assoc : (a b c : ℤ) → (a +ℤ b) +ℤ c ≡ a +ℤ (b +ℤ c)
 add_assoc a b c = omega (arith, ints)
 
+pub add_exchanged : (a b c : ℤ) → a +ℤ (b +ℤ c) ≡ b +ℤ (a +ℤ c)
+add_exchanged a b c = omega (arith, ints)
+
+pub none_added : (a b c : ℤ) → a +ℤ b ≡ pos 0 → a +ℤ (b +ℤ c) ≡ c
+none_added a b c e = omega (arith, ints)
+
 pub moved_none : (p : Point) → moved p origin ≡ p
 moved_none p = same_vector _ _ (add_none p.x) (add_none p.y) (add_none p.z)
 
@@ -81,3 +87,6 @@ three_dif v u v' u' = simp difs (same_dif _ _ _ _ (omega arith))
 
 pub three_times : (v u : ℤ) → (v +ℤ pos 2 *ℤ u) +ℤ u ≡ v +ℤ pos 3 *ℤ u
 three_times v u = rw (dif-parts v, dif-parts u, number 2, number 3) (three_dif _ _ _ _)
+
+pub dot_sum : (d p q : Point) → dot d (moved p q) ≡ dot d p +ℤ dot d q
+dot_sum d p q = dot_turned d (moved p q) ∙ dot_moved p q d ∙ (λ i. dot_turned p d i +ℤ dot_turned q d i)

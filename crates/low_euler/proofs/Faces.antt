@@ -1,45 +1,25 @@
 -- The faces of a solid, met in the order of their numbers.
-use Rattle.std.proofs.Common.{◌≡◌, ◌≢◌, ℕ, ◌<◌, ◌≤◌, Bool, true, false, cond, nat_eq, nat_lt, T, ◌&&◌, List, [], ◌∷◌, ◌++◌, append-nil, Some, None, is_some, unwrap_or, refl, sym, ap, subst, ◌∙◌, arith, true≢false, inl, inr}
-use Rattle.std.specs.Ordering.{nat_cmp, is_lt}
-use Rattle.std.specs.Cmp.{unsigned_tied}
-use Rattle.std.specs.FinMap.Entries.{find, is_sorted, below_all}
+use Rattle.std.proofs.Common.{◌≡◌, ◌≢◌, ℕ, ◌<◌, ◌≤◌, Bool, true, false, cond, nat_eq, nat_lt, T, ◌&&◌, List, [], ◌∷◌, ◌++◌, append-nil, Some, None, is_some, unwrap_or, refl, sym, ap, ◌∙◌, arith, true≢false, inl, inr}
+use Rattle.std.specs.Ordering.{nat_cmp}
+use Rattle.std.specs.FinMap.Entries.{find, is_sorted}
 use Rattle.std.proofs.lemmas.Bool.Decides.{nat_tests, eqb_tells}
+use Rattle.std.proofs.lemmas.Bool.{and_parts, false_from_ne_true}
+use Rattle.std.proofs.lemmas.Option.{same_Some}
 use Rattle.euler_operators.specs.Table as table
 use Rattle.euler_operators.specs.Table.{Table, get, all_where, all_in, map_rows, put, get-map_rows}
 use Rattle.euler_operators.specs.Model.{Model, FaceRow, no_face, solid_of, faces_of, is_number}
 use Rattle.euler_operators.specs.Sound.{NumbersFit}
-use Rattle.euler_operators.proofs.Tables.{and_left, and_right, all_where_none}
-use Rattle.euler_laws.proofs.shared.Loops.{some_row}
+use Rattle.euler_operators.proofs.Tables.{and_left, and_right, all_where_none, find_here, find_later, row_some}
+use Rattle.euler_operators.proofs.Tests.{and_first}
+use Rattle.euler_laws.proofs.shared.Listed.{found_past}
 use Rattle.euler_conditions.specs.Store.{is_face_of, IsNextFace}
 
 -- ---- the numbers of a table whose rows pass a test
 
-less_means : (k a : ℕ) → T (is_lt (nat_cmp k a)) → k < a
-less_means k a h = grind (arith, nat_tests)
-
 apart : (k q : ℕ) → k < q → q ≢ k
 apart k q l e = absurd (omega arith)
 
-one_value : {X : Type 0} (x y : X) → Some x ≡ Some y → x ≡ y
-one_value x y e = cc
-
 module _ {X : Type 0} where
-  find_in : (q : ℕ) (e : ℕ × X) (es : List (ℕ × X)) → find nat_cmp q (e ∷ es) ≡ cond (nat_eq q e.0) (Some e.1) (find nat_cmp q es)
-  find_in q e es = ap (λ b. cond b (Some e.1) (find nat_cmp q es)) (unsigned_tied q e.0)
-
-  find_here : (e : ℕ × X) (es : List (ℕ × X)) → find nat_cmp e.0 (e ∷ es) ≡ Some e.1
-  find_here e es = let s : nat_eq e.0 e.0 ≡ true = grind (arith, nat_tests) in find_in e.0 e es ∙ ap (λ b. cond b (Some e.1) (find nat_cmp e.0 es)) s
-
-  find_later : (q : ℕ) (e : ℕ × X) (es : List (ℕ × X)) → q ≢ e.0 → find nat_cmp q (e ∷ es) ≡ find nat_cmp q es
-  find_later q e es a = let s : nat_eq q e.0 ≡ false = grind (arith, nat_tests) in find_in q e es ∙ ap (λ b. cond b (Some e.1) (find nat_cmp q es)) s
-
-  found_past : (k q : ℕ) (es : List (ℕ × X)) (y : X) → T (below_all nat_cmp k es) → find nat_cmp q es ≡ Some y → k < q
-  found_past k q [] y h is = cc
-  found_past k q (e ∷ es) y h is = elim (eqb_tells q e.0) [
-    | inl s ↦ subst (λ n. k < n) (sym s.1) (less_means k e.0 (and_left _ _ h))
-    | inr a ↦ found_past k q es y (and_right _ _ h) (sym (find_later q e es a.1) ∙ is)
-  ]
-
   -- tests that agree on each row pick the same numbers
   agree_in : (p q : ℕ → X → Bool) (es : List (ℕ × X)) → T (is_sorted nat_cmp es) → ((k : ℕ) (x : X) → find nat_cmp k es ≡ Some x → p k x ≡ q k x) → all_in p es ≡ all_in q es
   agree_in p q [] s same = refl
@@ -61,7 +41,7 @@ module _ {X : Type 0} where
   next_in p m x [] s at passes least = cc
   next_in p m x (e ∷ es) s at passes least = elim (eqb_tells m e.0) [
     | inl same ↦
-        let value : x ≡ e.1 = one_value x e.1 (sym at ∙ ap (λ k. find nat_cmp k (e ∷ es)) same.1 ∙ find_here e es) in
+        let value : x ≡ e.1 = same_Some x e.1 (sym at ∙ ap (λ k. find nat_cmp k (e ∷ es)) same.1 ∙ find_here e es) in
         let t : p e.0 e.1 ≡ true = (λ i. p (sym same.1 i) (sym value i)) ∙ passes in
         let skip : nat_lt m e.0 ≡ false = let q : m ≡ e.0 = same.1 in grind (arith, nat_tests) in
         let rest : all_in p es ≡ all_in (later p m) es = agree_in p (later p m) es (and_right _ _ s)
@@ -73,7 +53,7 @@ module _ {X : Type 0} where
         let found : find nat_cmp m es ≡ Some x = sym (find_later m e es other.1) ∙ at in
         let past : e.0 < m = found_past e.0 m es x (and_left _ _ s) found in
         let skip : nat_lt m e.0 ≡ false = grind (arith, nat_tests) in
-        let fails : p e.0 e.1 ≡ false = never (p e.0 e.1) (λ t. too_low e.0 m past (least e.0 e.1 (find_here e es) t)) in
+        let fails : p e.0 e.1 ≡ false = false_from_ne_true (p e.0 e.1) (λ t. too_low e.0 m past (least e.0 e.1 (find_here e es) t)) in
         ap (λ b. cond b (e.0 ∷ all_in p es) (all_in p es)) fails
         ∙ next_in p m x es (and_right _ _ s) found passes (λ k y f t. least k y (find_later k e es (apart e.0 k (found_past e.0 k es y (and_left _ _ s) f)) ∙ f) t)
         ∙ ap (λ (ks : List ℕ). m ∷ ks) (sym (ap (λ b. cond (b && p e.0 e.1) (e.0 ∷ all_in (later p m) es) (all_in (later p m) es)) skip))
@@ -83,10 +63,6 @@ module _ {X : Type 0} where
 
     too_low : (a m : ℕ) → a < m → m ≤ a → ⊥
     too_low a m l h = absurd (omega arith)
-
-    never : (b : Bool) → (b ≡ true → ⊥) → b ≡ false
-    never true h = absurd (h refl)
-    never false h = refl
 
   -- the least number whose row passes, and then those above it
   pub next_where : (p : ℕ → X → Bool) (t : Table X) (m : ℕ) (x : X) → get t m ≡ Some x → p m x ≡ true → ((k : ℕ) (y : X) → get t k ≡ Some y → p k y ≡ true → m ≤ k) → all_where p t ≡ m ∷ all_where (λ k y. nat_lt m k && p k y) t
@@ -105,10 +81,7 @@ module _ (M : Model) (n : ℕ) where
   row_tells k row at = (λ i. is_some (at i) && nat_eq (unwrap_or (at i) no_face).solid n)
 
   pub row_there : (k : ℕ) → is_face_of M n k ≡ true → (row : FaceRow) × (get M.faces k ≡ Some row) × (nat_eq row.solid n ≡ true)
-  row_there k e = let r = some_row (get M.faces k) (first (table.has M.faces k) (nat_eq (solid_of M k) n) e) in (r.0, r.1, sym (row_tells k r.0 r.1) ∙ e) where
-    first : (a b : Bool) → (a && b) ≡ true → a ≡ true
-    first true b e = refl
-    first false b e = e
+  row_there k e = let r = row_some (get M.faces k) (and_first (table.has M.faces k) (nat_eq (solid_of M k) n) e) in (r.0, r.1, sym (row_tells k r.0 r.1) ∙ e)
 
   pub next_faces : (last m : ℕ) → IsNextFace M n last (Some m) → faces_above last ≡ m ∷ faces_above m
   next_faces last m next =
@@ -116,12 +89,8 @@ module _ (M : Model) (n : ℕ) where
       let l : last < m = next.0 in
       let up : nat_lt last m ≡ true = grind (arith, nat_tests) in
       next_where (λ k row. nat_lt last k && nat_eq row.solid n) M.faces m r.0 r.1 (λ i. up i && r.2 i)
-      (λ k y at passes. least k y at (split (nat_lt last k) (nat_eq y.solid n) passes).0 (split (nat_lt last k) (nat_eq y.solid n) passes).1)
+      (λ k y at passes. least k y at (and_parts (nat_lt last k) (nat_eq y.solid n) passes).0 (and_parts (nat_lt last k) (nat_eq y.solid n) passes).1)
       ∙ ap (λ (ks : List ℕ). m ∷ ks) (agree (λ k row. nat_lt m k && (nat_lt last k && nat_eq row.solid n)) (λ k row. nat_lt m k && nat_eq row.solid n) M.faces (λ k y at. shorter last m k (nat_eq y.solid n) l)) where
-        split : (a b : Bool) → (a && b) ≡ true → (a ≡ true) × (b ≡ true)
-        split true b e = (refl, e)
-        split false b e = absurd (true≢false (sym e))
-
         shorter : (last m k : ℕ) (b : Bool) → last < m → (nat_lt m k && (nat_lt last k && b)) ≡ (nat_lt m k && b)
         shorter last m k b l = elim (nat_lt m k) as (λ t. nat_lt m k ≡ t → (t && (nat_lt last k && b)) ≡ (t && b)) [
           | true ↦ λ t. let u : nat_lt last k ≡ true = grind (arith, nat_tests) in ap (λ c. c && b) u

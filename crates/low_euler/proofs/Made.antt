@@ -35,9 +35,6 @@ made_fit M (op.Part s t fs) e = let w = all_hold (conditions M (op.Part s t fs))
 pub least : (n : ℕ) → is_number n ≡ true → 1 ≤ n
 least n e = grind (arith, nat_tests)
 
-pub most : (n : ℕ) → is_number n ≡ true → n ≤ 1000000
-most n e = grind (arith, nat_tests)
-
 pub fit_at : (ks : List (Kind × ℕ)) (i : ℕ) (d : Kind × ℕ) → i < length ks → AllFit ks → is_number (get_or ks i d).1 ≡ true
 fit_at [] i d h all = absurd (omega arith)
 fit_at (k ∷ ks) zero d h all = all.0

@@ -2,6 +2,7 @@
 use Rattle.std.proofs.Common.{◌≡◌, ◌≢◌, ℕ, ◌<◌, Bool, true, false, cond, nat_eq, ◌&&◌, [], ◌∷◌, ◌+◌, length, Option, Some, None, is_some, unwrap_or, refl, sym, ap, ◌∙◌, arith, inl, inr}
 use Rattle.std.specs.Option.{option_map}
 use Rattle.std.proofs.lemmas.Bool.Decides.{nat_tests, eqb_tells}
+use Rattle.std.proofs.lemmas.Bool.{not-true}
 use Rattle.euler_operators.specs.Items.{count, tick}
 use Rattle.euler_operators.proofs.Lists.{tick_same, tick_other}
 use Rattle.euler_operators.specs.Table.{Table, get, map_rows, put, remove, get-map_rows, get-put}
@@ -11,7 +12,7 @@ use Rattle.euler_operators.proofs.Tables.{map-put, put_same, map_same, all_where
 use Rattle.euler_operators.specs.Conditions.{conditions, first_false}
 use Rattle.euler_operators.specs.Effect.{effect, merge, faces_to_solid}
 use Rattle.euler_operators.specs.declared.Op.TheVariants.{Merge}
-use Rattle.euler_laws.proofs.shared.Goes.{all_hold, not_true}
+use Rattle.euler_laws.proofs.shared.Goes.{all_hold}
 use Rattle.euler_conditions.specs.Store.{Store, set_solid, take_solid, is_face_of, IsNextFace}
 use Rattle.arena_rows.proofs.owner_chains_laws.Counting.{passes, count-all_where, same_length}
 use Rattle.euler_conditions.specs.Ready.{after}
@@ -19,7 +20,7 @@ use Rattle.low_euler.proofs.Faces.{row_there, row_tells}
 
 pub merge_apart : (M : Model) (s t : ℕ) → first_false M (Merge s t) ≡ None → nat_eq s t ≡ false
 unfolding conditions first_false
-merge_apart M s t e = not_true (nat_eq s t) (all_hold (conditions M (Merge s t)) e).1.1.1.1.0
+merge_apart M s t e = not-true (nat_eq s t) (all_hold (conditions M (Merge s t)) e).1.1.1.1.0
 
 module _ (s : Store) (kept gone : ℕ) where
   abbrev given : ℕ → FaceRow → FaceRow

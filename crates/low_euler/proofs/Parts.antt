@@ -1,32 +1,23 @@
 -- The first items of the two parts of a ring that is cut at two of its items.
-use Rattle.std.proofs.Common.{◌≡◌, ◌≢◌, ℕ, true, false, cond, nat_eq, List, [], ◌∷◌, ◌++◌, sym, ap, ◌∙◌, arith}
-use Rattle.std.proofs.lemmas.Bool.Decides.{nat_tests}
+use Rattle.std.proofs.Common.{◌≡◌, ◌≢◌, ℕ, cond, nat_eq, List, [], ◌∷◌, ◌++◌, sym, ap, ◌∙◌, arith}
+use Rattle.std.proofs.lemmas.Bool.{ne_eqb}
 use Rattle.euler_operators.specs.Items.{count, tick, IsIn, IsApart, before, head_or}
 use Rattle.euler_operators.specs.Rings.{rotate_to, rest, between, beyond, successor}
-use Rattle.euler_operators.proofs.Lists.{count-append, count-before, before_at, after_at, tick_same, tick_other}
-use Rattle.euler_operators.proofs.Rotations.{rest_same, rotate_to-rotates}
+use Rattle.euler_operators.proofs.Lists.{count-append, count-before, before_at, tick_same, tick_other}
+use Rattle.euler_operators.proofs.Rotations.{rest_same, rotate_to-rotates, rest_at}
 use Rattle.euler_operators.proofs.Cuts.{ring_split, apart_split}
+use Rattle.euler_operators.proofs.Tests.{nat_eq_itself}
 use Rattle.euler_laws.proofs.shared.Undo.{after_first}
 use Rattle.euler_operators.specs.declared.Corner.TheVariants.{At, Lone}
 use Rattle.euler_operators.specs.HalfEdge.{half}
 use Rattle.euler_operators.specs.Effect.{corner_of}
 
-is_same : (a : ℕ) → nat_eq a a ≡ true
-is_same a = grind (arith, nat_tests)
-
-is_other : (a b : ℕ) → a ≢ b → nat_eq a b ≡ false
-is_other a b ne = grind (arith, nat_tests)
-
 -- the corner of a list that stands before b, by the item that comes next
 corner_cases : (xs : List ℕ) (b l : ℕ) → count b xs ≡ 0 → corner_of xs l ≡ cond (nat_eq (head_or b xs) b) (Lone l) (At (half (head_or b xs)))
-corner_cases [] b l n = sym (ap (λ t. cond t (Lone l) (At (half b))) (is_same b))
-corner_cases (x ∷ xs) b l n = sym (ap (λ t. cond t (Lone l) (At (half x))) (is_other x b (apart x b xs n))) where
+corner_cases [] b l n = sym (ap (λ t. cond t (Lone l) (At (half b))) (nat_eq_itself b))
+corner_cases (x ∷ xs) b l n = sym (ap (λ t. cond t (Lone l) (At (half x))) (ne_eqb x b (apart x b xs n))) where
   apart : (x b : ℕ) (xs : List ℕ) → count b (x ∷ xs) ≡ 0 → x ≢ b
   apart x b xs n e = absurd (omega (arith, n, ap (tick b) e, tick_same b))
-
-rest_at : (b : ℕ) (ps qs : List ℕ) → count b ps ≡ 0 → rest b (ps ++ b ∷ qs) ≡ qs ++ ps
-unfolding rest
-rest_at b ps qs n = λ t. after_at b ps qs n t ++ before_at b ps qs n t
 
 module _ (hs : List ℕ) (d : IsApart hs) (a b : ℕ) (i : IsIn a hs) (j : IsIn b hs) (ne : a ≢ b) where
   pub corner_between : (l : ℕ) → corner_of (between a b hs) l ≡ cond (nat_eq (successor hs a) b) (Lone l) (At (half (successor hs a)))

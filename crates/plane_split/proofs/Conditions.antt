@@ -1,14 +1,12 @@
 -- The conditions of a split: those that are tested first and what they say, and those that are tested once the faces are drawn.
-use Rattle.std.proofs.Common.{◌≡◌, ℕ, ℤ, true, Option, None, Some, Result, Ok, Err, refl, sym, ap, ◌∙◌, arith}
-use Rattle.std.proofs.lemmas.Int.{ints}
+use Rattle.std.proofs.Common.{◌≡◌, ℕ, true, Some, Result, Err, sym, ap, ◌∙◌}
 use Rattle.euler_operators.specs.declared.Plane.{Plane}
-use Rattle.euler_operators.specs.Ranges.{IsWithin, IsCutPlane}
-use Rattle.euler_operators.specs.Vectors.{is_offset}
-use Rattle.euler_operators.proofs.Magnitudes.{coordinate_within}
+use Rattle.euler_operators.specs.Ranges.{IsCutPlane}
+use Rattle.euler_operators.proofs.Magnitudes.{coordinate_within, offset_within}
 use Rattle.euler_operators.specs.Table as table
 use Rattle.euler_operators.specs.Model.{Model}
 use Rattle.euler_operators.specs.Sound.{Sound, Has}
-use Rattle.euler_operators.specs.Conditions.{AllHold, first_refusal, verdict}
+use Rattle.euler_operators.specs.Conditions.{AllHold, first_refusal}
 use Rattle.euler_operators.specs.declared.Refusal.{Refusal}
 use Rattle.euler_laws.proofs.shared.Goes.{all_hold}
 use Rattle.shapes.proofs.fresh.Tests.{first_refusal-append, first_refusal-refused}
@@ -25,20 +23,8 @@ use Rattle.split_drawing.specs.solid_drawing.Drawn.{put_aside}
 use Rattle.undo_journal.specs.declared.session.Failure.{Failure}
 use Rattle.undo_journal.specs.declared.session.Failure.TheVariants as failure
 
--- a verdict tells whether there is a refusal, and which
-pub passed : (o : Option Refusal) (u : Unit {0}) → Ok u ≡ verdict o → o ≡ None
-passed None u e = refl
-passed (Some r) u e = cc
-
-pub failed : (o : Option Refusal) (r : Refusal) → Err r ≡ verdict o → o ≡ Some r
-failed None r e = cc
-failed (Some q) r e = cc
-
 pub same_refusal : (q r : Refusal) → ◌≡◌ {A = Result (Unit {0}) Failure} (Err (failure.Refused q)) (Err (failure.Refused r)) → q ≡ r
 same_refusal q r e = cc
-
-offset_within : (d : ℤ) → is_offset d ≡ true → IsWithin 3000000000000000000 d
-offset_within d e = grind (arith, ints)
 
 module _ (M : Model) (s : ℕ) (p : Plane) (t : ℕ) where
   -- a refusal before anything is changed is that of the split

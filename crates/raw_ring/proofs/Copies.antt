@@ -7,25 +7,23 @@
 use Rattle.std.proofs.Common.{◌≡◌, ℕ, ◌+◌, ◌<◌, ◌≤◌, ◌==◌, true, false, cond, Option, Some, None, IsSome, is_some, inl, inr, refl, sym, ap, ◌∙◌, subst, arith}
 use Rattle.std.specs.Ordering.{nat_cmp}
 use Rattle.std.specs.FinMap.{get, insert, empty, contains_key, get-empty}
-use Rattle.std.proofs.lemmas.Bool.{eqb-false, cases_lt}
+use Rattle.std.proofs.lemmas.Bool.{eqb-false, cases_lt, false≢true}
+use Rattle.std.proofs.lemmas.Option.{same_Some}
 use Rattle.raw_ring.specs.Rings.{Spot, RingMap, awake, of_spot, spot, next_of, tail_of, label_of, IsLive, IsAsleep, put_spot, ring_of_one, with_room, with_label, Exchanged, IsPermutation}
 use Rattle.raw_ring.specs.Copying.{but_next, IsAlike, IsCopied, IsLed}
-use Rattle.raw_ring.proofs.Pointers.{some_is}
 use Rattle.raw_ring.proofs.Mapping.{get-put, same_ring, test_same, test_is, test_other, asleep_is}
-
-no_some : false ≡ true → ⊥
-no_some h = cc
+use Rattle.raw_ring.proofs.Tying.{none_by}
 
 -- two entries that are known alike, live alike and marked alike
 alike_at : (o p : Option (Option Spot)) → is_some p ≡ is_some o → is_some (awake p) ≡ is_some (awake o) → of_spot (λ s. s.tail) (awake p) ≡ of_spot (λ s. s.tail) (awake o)
     → of_spot (λ s. s.label) (awake p) ≡ of_spot (λ s. s.label) (awake o) → but_next p ≡ but_next o
 alike_at None None known live tail label = refl
-alike_at None (Some p) known live tail label = absurd (no_some (sym known))
-alike_at (Some o) None known live tail label = absurd (no_some known)
+alike_at None (Some p) known live tail label = absurd (false≢true (sym known))
+alike_at (Some o) None known live tail label = absurd (false≢true known)
 alike_at (Some None) (Some None) known live tail label = refl
-alike_at (Some None) (Some (Some t)) known live tail label = absurd (no_some (sym live))
-alike_at (Some (Some s)) (Some None) known live tail label = absurd (no_some live)
-alike_at (Some (Some s)) (Some (Some t)) known live tail label = λ i. Some (Some (some_is t.tail s.tail tail i, some_is t.label s.label label i))
+alike_at (Some None) (Some (Some t)) known live tail label = absurd (false≢true (sym live))
+alike_at (Some (Some s)) (Some None) known live tail label = absurd (false≢true live)
+alike_at (Some (Some s)) (Some (Some t)) known live tail label = λ i. Some (Some (same_Some t.tail s.tail tail i, same_Some t.label s.label label i))
 
 alike_live : (o p : Option (Option Spot)) → but_next p ≡ but_next o → is_some (awake p) ≡ is_some (awake o)
 alike_live None None e = refl
@@ -48,8 +46,8 @@ alike_same (Some None) (Some None) e n = refl
 alike_same (Some None) (Some (Some t)) e n = cc
 alike_same (Some (Some s)) (Some None) e n = cc
 alike_same (Some (Some s)) (Some (Some t)) e n =
-    let marks : (t.tail, t.label) ≡ (s.tail, s.label) = some_is _ _ (some_is _ _ e) in
-    λ i. Some (Some (record { next = some_is t.next s.next n i; tail = (marks i).0; label = (marks i).1 }))
+    let marks : (t.tail, t.label) ≡ (s.tail, s.label) = same_Some _ _ (same_Some _ _ e) in
+    λ i. Some (Some (record { next = same_Some t.next s.next n i; tail = (marks i).0; label = (marks i).1 }))
 
 pub IsLed-spliced : (old new : RingMap) (a b p : ℕ) → next_of old p ≡ Some b → Exchanged old new a p → IsLed old new a b
 IsLed-spliced old new a b p before X = record {
@@ -83,7 +81,7 @@ IsLive-put m c s = subst IsSome (sym (spot_put m c s)) refl
 told : (o : Option (Option Spot)) (t l : ℕ) → of_spot (λ s. s.tail) (awake o) ≡ Some t → of_spot (λ s. s.label) (awake o) ≡ Some l → Some (Some (t, l)) ≡ but_next o
 told None t l tail label = cc
 told (Some None) t l tail label = cc
-told (Some (Some s)) t l tail label = λ i. Some (Some (sym (some_is s.tail t tail) i, sym (some_is s.label l label) i))
+told (Some (Some s)) t l tail label = λ i. Some (Some (sym (same_Some s.tail t tail) i, sym (same_Some s.label l label) i))
 
 -- a live code: it is made known, woken and labelled
 pub IsCopied-live : (m old one two new : RingMap) (c t l : ℕ) → get old c ≡ None → one ≡ with_room old c → two ≡ insert one c (Some (ring_of_one c t)) → new ≡ with_label two c l
@@ -113,10 +111,6 @@ pub record IsBegun (m copy : RingMap) (n : ℕ) : Type 0 where
 
 pub Begun-empty : (m copy : RingMap) → copy ≡ empty → IsBegun m copy 0
 Begun-empty m copy e = record { below = λ c within. absurd (omega (arith, within)); above = λ c past. ap (λ n. get n c) e ∙ get-empty nat_cmp c }
-
-none_by : {X : Type 0} (o : Option X) → is_some o ≡ false → o ≡ None
-none_by None e = refl
-none_by (Some x) e = absurd (no_some (sym e))
 
 pub Begun-copied : (m copy new : RingMap) (n : ℕ) → IsBegun m copy n → IsCopied m copy new n → IsBegun m new (n + 1)
 Begun-copied m copy new n B C = record {

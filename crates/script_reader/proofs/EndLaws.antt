@@ -49,7 +49,7 @@ leaves found.End e text line rest last a = record { shut = λ o. cc (o, a.2); la
 leaves found.Read e text line rest last a = record { shut = λ o. cc (o, a.2); lacks = a.1; quiet = λ o. absurd (cc (o, a.2)); stands = rw a.2 refl }
 leaves found.TooLong e text line rest last a = record { shut = λ o. cc (o, a.2); lacks = a.1; quiet = λ o. absurd (cc (o, a.2)); stands = rw a.2 refl }
 
-ready : (e : Ending) (unread : List ℕ) → e ≢ Open → is_ready e unread ≡ true
+pub ready : (e : Ending) (unread : List ℕ) → e ≢ Open → is_ready e unread ≡ true
 ready Open unread ne = absurd (ne refl)
 ready Ended unread ne = refl
 ready Failed unread ne = refl

@@ -9,6 +9,7 @@ use Rattle.script_reader.specs.declared.command.Fault.TheVariants.{BadWord, BadN
 use Rattle.script_reader.specs.Spelling.{SaysWhole, Begins, BeginsPlace, ArePoints, Means, FailsWord, FailsPlace, FailsPoints, Fails}
 use Rattle.script_reader.proofs.OptionLaws.{some_or_none, bind_ok, bind_err}
 use Rattle.script_reader.proofs.SayingLaws.{Tells, tells_number, tells_whole, tells_half, tells_corner, tells_way}
+use Rattle.script_reader.proofs.PointLaws.{no_words}
 
 -- ---- a place of one word
 
@@ -111,12 +112,8 @@ points_ok (suc room) (w ∷ ws) r e =
     let more = points_ok room a.0.1 b.0 b.1 in
     subst (λ (s : List Point × List Word). ArePoints s.0 (w ∷ ws) × (length s.0 ≤ suc room) × (s.1 ≡ [])) same ((a.0.1, point_ok (w ∷ ws) a.0 a.1, more.0), omega (arith, more.1), more.2)
 
-no_points : (room : ℕ) → points_of room [] ≡ Ok ([], [])
-no_points zero = refl
-no_points (suc room) = refl
-
 ok_points : (room : ℕ) (ws : List Word) (ps : List Point) → ArePoints ps ws → length ps ≤ room → points_of room ws ≡ Ok (ps, [])
-ok_points room ws [] h le = rw h (no_points room)
+ok_points room ws [] h le = rw h (no_words room)
 ok_points zero ws (p ∷ ps) h le = absurd (omega (arith, le))
 ok_points (suc room) [] (p ∷ ps) h le = absurd h.1.2
 ok_points (suc room) (w ∷ ws) (p ∷ ps) h le = rw (ok_point (w ∷ ws) p h.0 h.1, ok_points room h.0 ps h.2 (omega (arith, le))) refl

@@ -37,7 +37,7 @@ is_full front (w ∷ ws) total full some so_far =
     let one : with_front front (points_of (64 - length front) (w ∷ ws)) ≡ Err ExtraWord = rw full refl in
     sym so_far ∙ one
 
-no_words : (room : ℕ) → points_of room [] ≡ Ok ([], [])
+pub no_words : (room : ℕ) → points_of room [] ≡ Ok ([], [])
 no_words zero = refl
 no_words (suc room) = refl
 

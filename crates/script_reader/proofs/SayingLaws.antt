@@ -3,7 +3,7 @@ use Rattle.std.proofs.Common.{◌≡◌, inl, inr, ℕ, ◌<◌, ◌≤◌, ◌^
 use Rattle.std.specs.Prelude.{◌==◌, ◌&&◌, ℤ, pos, neg_ℤ, codes, option_map, option_and_then, nat_lt, nat_le}
 use Rattle.std.specs.Str.{bytes_eq}
 use Rattle.std.specs.Str.Parse.{IsNumeral, AllDigits, digits_value}
-use Rattle.std.proofs.lemmas.Bool.{cases_Bool}
+use Rattle.std.proofs.lemmas.Bool.{cases_Bool, and_parts}
 use Rattle.std.proofs.lemmas.Bool.Decides.{nat_tests}
 use Rattle.std.proofs.lemmas.Slice.Eq.{bytes_eq-Decides}
 use Rattle.std.proofs.lemmas.Str.Parse.{IsNumeralModel, numerals_by_fold, digit_from_value}
@@ -34,16 +34,11 @@ own = numerals_by_fold _ (search rules) value_after (search rules)
 equal_bytes : (a b : ℕ) → (a == b) ≡ true → a ≡ b
 equal_bytes a b e = grind (arith, nat_tests)
 
-both_true : (a b : Bool) → (a && b) ≡ true → (a ≡ true) × (b ≡ true)
-both_true true true e = (refl, refl)
-both_true true false e = absurd (cc e)
-both_true false b e = absurd (cc e)
-
 below_told : (limit : ℕ) (w : Word) (n : ℕ) → below limit w ≡ Some n → IsNumeral 10 w × (digits_value 10 w ≡ n) × (n < limit)
 below_told limit [] n e = absurd (cc e)
 below_told limit (c ∷ cs) n e =
     let t = test_some (all_digits (c ∷ cs) && nat_lt (value_after 0 (c ∷ cs)) limit) (value_after 0 (c ∷ cs)) n e in
-    let both = both_true (all_digits (c ∷ cs)) (nat_lt (value_after 0 (c ∷ cs)) limit) t.0 in
+    let both = and_parts (all_digits (c ∷ cs)) (nat_lt (value_after 0 (c ∷ cs)) limit) t.0 in
     let digits = own.to (c ∷ cs) both.0 in
     let low : value_after 0 (c ∷ cs) < limit = grind (arith, nat_tests, both.1) in
     ((omega arith, digits), sym (own.same (c ∷ cs) digits) ∙ t.1, subst (λ (m : ℕ). m < limit) t.1 low)

@@ -4,7 +4,7 @@ use Rattle.std.proofs.lemmas.List.{append-nil, nil_from_length}
 use Rattle.std.proofs.KnownBytes.{Consumes-nil, Consumes-trans}
 use Rattle.std.specs.Io.KnownBytes.{Consumes, IsAtEnd}
 use Rattle.script_reader.specs.Lines.{lines_of, within_limit, FirstLine}
-use Rattle.script_reader.specs.State.{reader_of, taken_of, unread_of, line_of, is_ready, has_line, IsFresh, IsStill}
+use Rattle.script_reader.specs.State.{reader_of, taken_of, unread_of, line_of, has_line, IsFresh, IsStill}
 use Rattle.script_reader.specs.Next.{Went}
 use Rattle.script_reader.specs.Script.{Reading, HasRead, IsReadOut, BreaksOff, to_come}
 use Rattle.script_reader.specs.declared.lines.Ending.{Ending}
@@ -14,17 +14,9 @@ use Rattle.script_reader.specs.declared.lines.Found.TheVariants as found
 use Rattle.script_reader.specs.declared.lines.Lines.{Lines}
 use Rattle.script_reader.proofs.LinesLaws.{limit_append, limit_none}
 use Rattle.script_reader.proofs.LinesOf.{first_line, last_line}
+use Rattle.script_reader.proofs.EndLaws.{ready}
 
 -- ---- over the bytes alone
-
-begins : (first : Option (List ℕ)) → Reading first first 0 [] Open []
-begins first = record {
-  given = [];
-  consumed = Consumes-nil first;
-  counted = refl;
-  text = λ future _. ap (λ (xs : List ℕ). lines_of (xs ++ future)) (limit_none 0);
-  at_end = λ e. absurd (cc e);
-}
 
 -- bytes that were read stand behind the unread ones
 reads : (first before now : Option (List ℕ)) (taken count : ℕ) (unread given : List ℕ) (was ending : Ending) (heard : List (List ℕ)) → Reading first before taken unread was heard
@@ -69,12 +61,6 @@ so_far first now taken unread ending heard r =
     ap lines_of (sym (append-nil (within_limit 0 r.given))) ∙ r.text [] (λ _. refl) ∙ ap (λ (xs : List ℕ). heard ++ lines_of xs) (append-nil unread)
 
 -- ---- over the calls of `next_line`
-
-ready : (e : Ending) (unread : List ℕ) → e ≢ Open → is_ready e unread ≡ true
-ready Open unread ne = absurd (ne refl)
-ready Ended unread ne = refl
-ready Failed unread ne = refl
-ready Over unread ne = refl
 
 -- where the end was reached before, nothing is read
 still_ended : {R : Type 0} (old new : Lines R) (given : List ℕ) → new.taken ≡ old.taken + length given → (has_line old ≡ true → IsStill old new) → old.ending ≡ Ended → (new.ending ≡ Ended) × (given ≡ [])

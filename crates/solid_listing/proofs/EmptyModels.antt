@@ -1,22 +1,19 @@
 -- A sound model without solids has nothing.
-use Rattle.std.proofs.Common.{◌≡◌, ◌≢◌, ℕ, ◌<◌, true, List, [], ◌∷◌, ◌++◌, map, codes, Option, Some, None, is_some, unwrap_or, refl, sym, ap, ◌∙◌, arith, true≢false, inl, inr}
-use Rattle.std.proofs.lemmas.Bool.Decides.{nat_tests}
+use Rattle.std.proofs.Common.{◌≡◌, ◌≢◌, ℕ, true, List, [], ◌∷◌, ◌++◌, map, codes, Option, Some, None, is_some, unwrap_or, refl, sym, ap, ◌∙◌, true≢false, inl, inr}
 use Rattle.euler_operators.specs.declared.Kind.{Kind}
 use Rattle.euler_operators.specs.declared.Kind.TheVariants.{Solid, Face, Loop, Edge, Vertex}
 use Rattle.euler_operators.specs.HalfEdge.{plus}
 use Rattle.euler_operators.specs.Table.{Table, get, has, numbers}
-use Rattle.euler_operators.specs.Model.{Model, LoopRow, lone, no_loop, content, solid_of, face_of, loop_of, is_number}
+use Rattle.euler_operators.specs.Model.{Model, LoopRow, lone, no_loop, content, solid_of, face_of, loop_of}
 use Rattle.euler_operators.specs.Sound.{Sound, Has, HasHalf}
 use Rattle.euler_operators.proofs.Halves.{plus_row}
-use Rattle.euler_operators.proofs.Models.{held_row}
+use Rattle.euler_operators.proofs.Models.{held_row, one_or_more}
 use Rattle.euler_conditions.specs.Store.{Store, IsGreatest}
 use Rattle.solid_listing.specs.Lines.{text_of}
 use Rattle.solid_listing.specs.Listing.{line, numbers_of, lines, or_empty, listing}
-use Rattle.solid_walks.proofs.face_walks_laws.Above.{member}
+use Rattle.solid_listing.proofs.Lines.{here}
 use Rattle.solid_walks.proofs.face_walks_laws.TableWalks.{member_numbers}
-
-here : (k : ℕ) (ks : List ℕ) → member k (k ∷ ks) ≡ true
-here k ks = grind (arith, nat_tests)
+use Rattle.solid_walks.proofs.face_walks_laws.Above.{member}
 
 no_members : (ks : List ℕ) → ((k : ℕ) → member k ks ≡ true → ⊥) → ks ≡ []
 no_members [] h = refl
@@ -61,9 +58,6 @@ module _ (M : Model) (sound : Sound M) (none : (k : ℕ) → Has M.solids k → 
   no_lines : lines M ≡ []
   unfolding lines
   no_lines = λ i. map (line M Solid) (none_of Solid i) ++ (map (line M Face) (none_of Face i) ++ (map (line M Loop) (none_of Loop i) ++ (map (line M Edge) (none_of Edge i) ++ (map (line M Vertex) (none_of Vertex i) ++ []))))
-
-one_or_more : (k : ℕ) → is_number k ≡ true → 0 < k
-one_or_more k e = grind (arith, nat_tests)
 
 -- where no solid is in use the listing is one line
 pub empty_text : (s : Store) → Sound s.model → IsGreatest s Solid 0 → listing s.model ≡ codes "empty\n"

@@ -1,6 +1,7 @@
 -- The lines of a sound model can be read back.
 use Rattle.std.proofs.Common.{◌≡◌, ℕ, ◌+◌, ◌^◌, ◌<◌, ◌≤◌, Bool, true, false, cond, ◌&&◌, ◌||◌, not, nat_eq, List, [], ◌∷◌, ◌++◌, map, Option, Some, None, is_some, unwrap_or, refl, sym, ap, ◌∙◌, arith, true≢false}
 use Rattle.std.proofs.lemmas.Bool.Decides.{nat_tests}
+use Rattle.std.proofs.lemmas.Bool.{and_from}
 use Rattle.std.specs.Fmt.{decimal}
 use Rattle.euler_operators.specs.declared.Point.{Point}
 use Rattle.euler_operators.specs.Points.{is_coordinate, is_in_range}
@@ -13,11 +14,12 @@ use Rattle.euler_operators.specs.Model.{Model, LoopContent, lone, cycle, no_poin
 use Rattle.euler_operators.specs.Sound.{Sound, Has, HasHalf}
 use Rattle.euler_operators.proofs.Halves.{plus_row, minus_row}
 use Rattle.euler_operators.proofs.Models.{in-holds}
+use Rattle.euler_operators.proofs.Tests.{and_first, and_second}
 use Rattle.solid_listing.specs.Listing.{line, content_words, half_word, point_words, numbers_of, kind_lines, lines}
 use Rattle.solid_walks.proofs.face_walks_laws.Above.{member}
 use Rattle.solid_walks.proofs.face_walks_laws.TableWalks.{member_numbers}
 use Rattle.solid_walks.proofs.face_walks_laws.RingWalks.{member_rings}
-use Rattle.solid_listing.proofs.Parsing.{Word, Line, is_clean, are_clean, is_good, are_good, and_left, and_right, and_both}
+use Rattle.solid_listing.proofs.Parsing.{Word, Line, is_clean, are_clean, is_good, are_good}
 use Rattle.solid_listing.proofs.Words.{number_small, coordinate_small, clean_decimal, clean_signed, clean_half}
 
 pub member_in : (x : ℕ) (xs : List ℕ) → member x xs ≡ true → IsIn x xs
@@ -35,15 +37,15 @@ later k x ks m = elim (nat_eq k x) as (λ b. b || member k ks ≡ true) [ true �
 
 pub clean_map : (f : ℕ → Word) (ns : List ℕ) → ((n : ℕ) → member n ns ≡ true → is_clean (f n) ≡ true) → are_clean (map f ns) ≡ true
 clean_map f [] h = refl
-clean_map f (n ∷ ns) h = and_both (is_clean (f n)) (are_clean (map f ns)) (h n (here n ns)) (clean_map f ns (λ k m. h k (later k n ns m)))
+clean_map f (n ∷ ns) h = and_from (is_clean (f n)) (are_clean (map f ns)) (h n (here n ns)) (clean_map f ns (λ k m. h k (later k n ns m)))
 
 pub good_map : (f : ℕ → Line) (ns : List ℕ) → ((n : ℕ) → member n ns ≡ true → is_good (f n) ≡ true) → are_good (map f ns) ≡ true
 good_map f [] h = refl
-good_map f (n ∷ ns) h = and_both (is_good (f n)) (are_good (map f ns)) (h n (here n ns)) (good_map f ns (λ k m. h k (later k n ns m)))
+good_map f (n ∷ ns) h = and_from (is_good (f n)) (are_good (map f ns)) (h n (here n ns)) (good_map f ns (λ k m. h k (later k n ns m)))
 
 good_append : (ls ms : List Line) → are_good ls ≡ true → are_good ms ≡ true → are_good (ls ++ ms) ≡ true
 good_append [] ms p q = q
-good_append (l ∷ ls) ms p q = and_both (is_good l) (are_good (ls ++ ms)) (and_left (is_good l) (are_good ls) p) (good_append ls ms (and_right (is_good l) (are_good ls) p) q)
+good_append (l ∷ ls) ms p q = and_from (is_good l) (are_good (ls ++ ms)) (and_first (is_good l) (are_good ls) p) (good_append ls ms (and_second (is_good l) (are_good ls) p) q)
 
 and_one : (a b c : Bool) → a && b && c ≡ true → a ≡ true
 and_one true b c e = refl
@@ -87,35 +89,35 @@ module _ (M : Model) (sound : Sound M) where
     go (Some p) e t = sound.points_fit v p e
 
   clean_content : (l : ℕ) → Has M.loops l → (c : LoopContent) → content M l ≡ c → are_clean (content_words c) ≡ true
-  clean_content l there (lone v) e = and_both (is_clean (decimal v)) true (clean_decimal v (vertex_small v (sound.lone_at_vertex l v e))) refl
+  clean_content l there (lone v) e = and_from (is_clean (decimal v)) true (clean_decimal v (vertex_small v (sound.lone_at_vertex l v e))) refl
   clean_content l there (cycle hs) e = clean_map half_word hs (λ h m. clean_half h (edge_small (edge_of h) (item_there l hs e h m)))
 
   clean_point : (p : Point) → is_in_range p ≡ true → are_clean (point_words p) ≡ true
   clean_point p r =
-      let xyz = and_right (is_coordinate p.x) (is_coordinate p.y && is_coordinate p.z) r in
-      let x = coordinate_small p.x (and_left (is_coordinate p.x) (is_coordinate p.y && is_coordinate p.z) r) in
-      let y = coordinate_small p.y (and_left (is_coordinate p.y) (is_coordinate p.z) xyz) in
-      let z = coordinate_small p.z (and_right (is_coordinate p.y) (is_coordinate p.z) xyz) in
-      and_both _ _ (clean_signed p.x x) (and_both _ _ (clean_signed p.y y) (and_both _ true (clean_signed p.z z) refl))
+      let xyz = and_second (is_coordinate p.x) (is_coordinate p.y && is_coordinate p.z) r in
+      let x = coordinate_small p.x (and_first (is_coordinate p.x) (is_coordinate p.y && is_coordinate p.z) r) in
+      let y = coordinate_small p.y (and_first (is_coordinate p.y) (is_coordinate p.z) xyz) in
+      let z = coordinate_small p.z (and_second (is_coordinate p.y) (is_coordinate p.z) xyz) in
+      and_from _ _ (clean_signed p.x x) (and_from _ _ (clean_signed p.y y) (and_from _ true (clean_signed p.z z) refl))
 
   pub line_good : (kind : Kind) (n : ℕ) → member n (numbers_of M kind) ≡ true → is_good (line M kind n) ≡ true
-  line_good Solid s m = and_both (is_clean (decimal s)) true (clean_decimal s (solid_small s (sym (member_numbers M.solids s) ∙ m))) refl
+  line_good Solid s m = and_from (is_clean (decimal s)) true (clean_decimal s (solid_small s (sym (member_numbers M.solids s) ∙ m))) refl
   line_good Face f m =
       let there = sym (member_numbers M.faces f) ∙ m in
-      and_both _ _ (clean_decimal f (face_small f there))
-      (and_both _ _ (clean_decimal (solid_of M f) (solid_small (solid_of M f) (sound.faces_of_solids f there)))
-      (and_both _ _ (clean_decimal (outer M f) (loop_small (outer M f) (sound.outers_there f there).0))
+      and_from _ _ (clean_decimal f (face_small f there))
+      (and_from _ _ (clean_decimal (solid_of M f) (solid_small (solid_of M f) (sound.faces_of_solids f there)))
+      (and_from _ _ (clean_decimal (outer M f) (loop_small (outer M f) (sound.outers_there f there).0))
       (clean_map decimal (rings_of M f) (λ n r. clean_decimal n (loop_small n (ring_there f n r))))))
   line_good Loop l m =
       let there = sym (member_numbers M.loops l) ∙ m in
-      and_both _ _ (clean_decimal l (loop_small l there)) (clean_content l there (content M l) refl)
+      and_from _ _ (clean_decimal l (loop_small l there)) (clean_content l there (content M l) refl)
   line_good Edge e m =
       let there = sym (member_numbers M.edges e) ∙ m in
-      and_both _ _ (clean_decimal e (edge_small e there))
-      (and_both _ _ (clean_decimal (tail M (plus e)) (plus_tail_small e there)) (and_both _ true (clean_decimal (tail M (minus e)) (minus_tail_small e there)) refl))
+      and_from _ _ (clean_decimal e (edge_small e there))
+      (and_from _ _ (clean_decimal (tail M (plus e)) (plus_tail_small e there)) (and_from _ true (clean_decimal (tail M (minus e)) (minus_tail_small e there)) refl))
   line_good Vertex v m =
       let there = sym (member_numbers M.vertices v) ∙ m in
-      and_both _ _ (clean_decimal v (vertex_small v there)) (clean_point (point_of M v) (point_in_range v there))
+      and_from _ _ (clean_decimal v (vertex_small v there)) (clean_point (point_of M v) (point_in_range v there))
 
   kind_good : (kind : Kind) → are_good (kind_lines M kind) ≡ true
   kind_good kind = good_map (line M kind) (numbers_of M kind) (line_good kind)

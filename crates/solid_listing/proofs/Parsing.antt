@@ -2,7 +2,9 @@
 use Rattle.std.proofs.Common.{◌≡◌, ℕ, Bool, true, false, cond, ◌&&◌, nat_eq, nat_lt, List, [], ◌∷◌, ◌++◌, refl, sym, ap, ◌∙◌, arith, append_assoc, true≢false}
 use Rattle.std.proofs.lemmas.List.{append-nil}
 use Rattle.std.proofs.lemmas.Bool.Decides.{nat_tests}
+use Rattle.std.proofs.lemmas.Bool.{and_from}
 use Rattle.solid_listing.specs.Lines.{spaced, line_text, text_of}
+use Rattle.euler_operators.proofs.Tests.{and_first, and_second}
 
 abbrev pub Word : Type 0
 Word = List ℕ
@@ -29,17 +31,6 @@ abbrev pub are_good : List Line → Bool
 are_good [] = true
 are_good (l ∷ ls) = is_good l && are_good ls
 
-pub and_left : (a b : Bool) → a && b ≡ true → a ≡ true
-and_left true b e = refl
-and_left false b e = e
-
-pub and_right : (a b : Bool) → a && b ≡ true → b ≡ true
-and_right true b e = e
-and_right false b e = absurd (true≢false (sym e))
-
-pub and_both : (a b : Bool) → a ≡ true → b ≡ true → a && b ≡ true
-and_both a b p q = ap (λ c. c && b) p ∙ q
-
 -- a byte is put before the first word of the first line
 onto : ℕ → List Line → List Line
 onto b [] = []
@@ -64,12 +55,12 @@ parsed_word : (w t v : List ℕ) (vs : Line) (ls : List Line) → is_clean w ≡
 unfolding parsed
 parsed_word [] t v vs ls c e = e
 parsed_word (b ∷ w) t v vs ls c e =
-    let big : nat_lt 32 b ≡ true = and_left (nat_lt 32 b) (is_clean w) c in
+    let big : nat_lt 32 b ≡ true = and_first (nat_lt 32 b) (is_clean w) c in
     let p : nat_eq b 10 ≡ false = grind (arith, nat_tests) in
     let q : nat_eq b 32 ≡ false = grind (arith, nat_tests) in
     ap (λ x. cond x (([] ∷ []) ∷ parsed (w ++ t)) (cond (nat_eq b 32) (begun (parsed (w ++ t))) (onto b (parsed (w ++ t))))) p
     ∙ ap (λ x. cond x (begun (parsed (w ++ t))) (onto b (parsed (w ++ t)))) q
-    ∙ ap (onto b) (parsed_word w t v vs ls (and_right (nat_lt 32 b) (is_clean w) c) e)
+    ∙ ap (onto b) (parsed_word w t v vs ls (and_second (nat_lt 32 b) (is_clean w) c) e)
     ∙ put_before b (w ++ v) vs ls
 
 parsed_newline : (t : List ℕ) → parsed (10 ∷ t) ≡ ([] ∷ []) ∷ parsed t
@@ -84,13 +75,13 @@ parsed_words : (ws : Line) (t : List ℕ) → are_clean ws ≡ true → parsed (
 parsed_words [] t c = parsed_newline t
 parsed_words (w ∷ ws) t c = parsed_space ((w ++ spaced ws) ++ 10 ∷ t) (w ∷ ws) (parsed t)
     (ap parsed (append_assoc w (spaced ws) (10 ∷ t))
-    ∙ parsed_word w (spaced ws ++ 10 ∷ t) [] ws (parsed t) (and_left (is_clean w) (are_clean ws) c) (parsed_words ws t (and_right (is_clean w) (are_clean ws) c))
+    ∙ parsed_word w (spaced ws ++ 10 ∷ t) [] ws (parsed t) (and_first (is_clean w) (are_clean ws) c) (parsed_words ws t (and_second (is_clean w) (are_clean ws) c))
     ∙ ap (λ (v : Word). (v ∷ ws) ∷ parsed t) (append-nil w))
 
 parsed_line : (w : Word) (ws : Line) (t : List ℕ) → are_clean (w ∷ ws) ≡ true → parsed (line_text (w ∷ ws) ++ t) ≡ (w ∷ ws) ∷ parsed t
 parsed_line w ws t c =
     ap parsed (append_assoc w (spaced ws ++ 10 ∷ []) t ∙ ap (λ (s : List ℕ). w ++ s) (append_assoc (spaced ws) (10 ∷ []) t))
-    ∙ parsed_word w (spaced ws ++ 10 ∷ t) [] ws (parsed t) (and_left (is_clean w) (are_clean ws) c) (parsed_words ws t (and_right (is_clean w) (are_clean ws) c))
+    ∙ parsed_word w (spaced ws ++ 10 ∷ t) [] ws (parsed t) (and_first (is_clean w) (are_clean ws) c) (parsed_words ws t (and_second (is_clean w) (are_clean ws) c))
     ∙ ap (λ (v : Word). (v ∷ ws) ∷ parsed t) (append-nil w)
 
 parsed_nothing : parsed [] ≡ []
@@ -103,8 +94,8 @@ parsed_text [] g = parsed_nothing
 parsed_text ([] ∷ ls) g = absurd (true≢false (sym g))
 parsed_text ((w ∷ []) ∷ ls) g = absurd (true≢false (sym g))
 parsed_text ((w ∷ v ∷ ws) ∷ ls) g =
-    parsed_line w (v ∷ ws) (text_of ls) (and_left (is_good (w ∷ v ∷ ws)) (are_good ls) g)
-    ∙ ap (λ (ms : List Line). (w ∷ v ∷ ws) ∷ ms) (parsed_text ls (and_right (is_good (w ∷ v ∷ ws)) (are_good ls) g))
+    parsed_line w (v ∷ ws) (text_of ls) (and_first (is_good (w ∷ v ∷ ws)) (are_good ls) g)
+    ∙ ap (λ (ms : List Line). (w ∷ v ∷ ws) ∷ ms) (parsed_text ls (and_second (is_good (w ∷ v ∷ ws)) (are_good ls) g))
 
 pub parsed_one : (w : Word) → is_clean w ≡ true → parsed (text_of ((w ∷ []) ∷ [])) ≡ (w ∷ []) ∷ []
-parsed_one w c = parsed_line w [] [] (and_both (is_clean w) true c refl) ∙ ap (λ (ms : List Line). (w ∷ []) ∷ ms) (parsed_text [] refl)
+parsed_one w c = parsed_line w [] [] (and_from (is_clean w) true c refl) ∙ ap (λ (ms : List Line). (w ∷ []) ∷ ms) (parsed_text [] refl)

@@ -1,5 +1,5 @@
 -- A listing tells all of a sound model.
-use Rattle.std.proofs.Common.{◌≡◌, ℕ, Bool, true, false, cond, ◌&&◌, not, nat_eq, List, [], ◌∷◌, map, codes, Option, Some, None, is_some, unwrap_or, refl, sym, ap, ◌∙◌, arith, true≢false, inl, inr}
+use Rattle.std.proofs.Common.{◌≡◌, ℕ, Bool, true, false, cond, ◌&&◌, not, nat_eq, List, [], ◌∷◌, map, codes, Option, Some, None, is_some, refl, sym, ap, ◌∙◌, arith, true≢false, inl, inr}
 use Rattle.std.proofs.lemmas.Bool.Decides.{nat_tests, eqb_tells}
 use Rattle.std.proofs.lemmas.Fmt.{decimal_injective, signed_decimal_injective}
 use Rattle.std.specs.Fmt.{decimal, signed_decimal}
@@ -8,16 +8,16 @@ use Rattle.euler_operators.specs.Points.{is_coordinate, is_in_range}
 use Rattle.euler_operators.specs.declared.Kind.TheVariants.{Solid, Face, Loop, Edge, Vertex}
 use Rattle.euler_operators.specs.HalfEdge.{plus, minus, edge_of, is_first}
 use Rattle.euler_operators.specs.Table.{Table, get, has, numbers, same_table}
-use Rattle.euler_operators.specs.Model.{Model, LoopContent, FaceRow, EdgeRow, lone, cycle, no_face, no_point, solid_of, outer, face_of, content, tail, tail_in, point_of, rings_of}
+use Rattle.euler_operators.specs.Model.{Model, LoopContent, lone, cycle, solid_of, outer, face_of, content, tail, point_of, rings_of}
 use Rattle.euler_operators.specs.Sound.{Sound, Has}
-use Rattle.euler_operators.proofs.Halves.{plus_row, minus_row}
-use Rattle.euler_operators.proofs.Models.{content_row, face_row, tail_row}
+use Rattle.euler_operators.proofs.Models.{content_row, face_row, solid_row, outer_row, point_row, plus_tail_row, minus_tail_row}
+use Rattle.euler_operators.proofs.Tests.{and_first, and_second}
 use Rattle.solid_listing.specs.Lines.{text_of}
 use Rattle.solid_listing.specs.Listing.{line, content_words, half_word, lines, or_empty, listing}
 use Rattle.solid_walks.proofs.face_walks_laws.Above.{member}
 use Rattle.solid_walks.proofs.face_walks_laws.TableWalks.{member_numbers}
 use Rattle.solid_walks.proofs.face_walks_laws.RingWalks.{member_rings}
-use Rattle.solid_listing.proofs.Parsing.{Word, Line, is_good, are_good, and_left, and_right, parsed, parsed_text, parsed_one}
+use Rattle.solid_listing.proofs.Parsing.{Word, Line, is_good, are_good, parsed, parsed_text, parsed_one}
 use Rattle.solid_listing.proofs.Words.{coordinate_small, half_told}
 use Rattle.solid_listing.proofs.Lines.{lines_good, solid_small, loop_small, edge_small, vertex_small, ring_there, item_there, plus_tail_small, minus_tail_small, point_in_range}
 use Rattle.solid_listing.proofs.KindLines.{head_word, later_words, same_numbers, numbers_told, line_told}
@@ -30,7 +30,7 @@ read (l ∷ ls) g = parsed_text (l ∷ ls) g
 bare_told : (l : Line) (ls : List Line) → are_good (l ∷ ls) ≡ true → (codes "empty" ∷ []) ∷ [] ≡ l ∷ ls → ⊥
 bare_told l ls g e =
     let p : codes "empty" ∷ [] ≡ l = cc in
-    true≢false (sym (ap is_good p ∙ and_left (is_good l) (are_good ls) g))
+    true≢false (sym (ap is_good p ∙ and_first (is_good l) (are_good ls) g))
 
 unbarred : (ls ms : List Line) → are_good ls ≡ true → are_good ms ≡ true → or_empty ls ≡ or_empty ms → ls ≡ ms
 unbarred [] [] g h e = refl
@@ -51,24 +51,6 @@ same_rows {X = X} s t numbers rows = same_table s t (λ q. go (get s q) (get t q
   go None (Some y) e r = absurd (true≢false (sym e))
   go (Some x) None e r = absurd (true≢false e)
   go (Some x) (Some y) e r = ap Some (r x y refl refl)
-
-solid_row : (M : Model) (f : ℕ) (row : FaceRow) → get M.faces f ≡ Some row → solid_of M f ≡ row.solid
-unfolding solid_of
-solid_row M f row at = ap (λ o. (unwrap_or o no_face).solid) at
-
-outer_row : (M : Model) (f : ℕ) (row : FaceRow) → get M.faces f ≡ Some row → outer M f ≡ row.outer
-unfolding outer
-outer_row M f row at = ap (λ o. (unwrap_or o no_face).outer) at
-
-point_row : (M : Model) (v : ℕ) (p : Point) → get M.vertices v ≡ Some p → point_of M v ≡ p
-unfolding point_of
-point_row M v p at = ap (λ o. unwrap_or o no_point) at
-
-plus_tail_row : (M : Model) (e : ℕ) (row : EdgeRow) → get M.edges e ≡ Some row → tail M (plus e) ≡ row.plus_tail
-plus_tail_row M e row at = tail_row M (plus e) row (ap (get M.edges) (plus_row e).0 ∙ at) ∙ ap (tail_in row) (plus_row e).1
-
-minus_tail_row : (M : Model) (e : ℕ) (row : EdgeRow) → get M.edges e ≡ Some row → tail M (minus e) ≡ row.minus_tail
-minus_tail_row M e row at = tail_row M (minus e) row (ap (get M.edges) (minus_row e).0 ∙ at) ∙ ap (tail_in row) (minus_row e).1
 
 -- a vertex of a lone loop is no half-edge
 no_half : (v : ℕ) (hs : List ℕ) → content_words (lone v) ≡ map half_word hs → ⊥
@@ -162,11 +144,11 @@ module _ (M N : Model) (one : Sound M) (two : Sound N) (same : lines M ≡ lines
 
   points_told : (p q : Point) → is_in_range p ≡ true → is_in_range q ≡ true → signed_decimal p.x ≡ signed_decimal q.x → signed_decimal p.y ≡ signed_decimal q.y → signed_decimal p.z ≡ signed_decimal q.z → p ≡ q
   points_told p q r s x y z =
-      let left : (p : Point) → is_in_range p ≡ true → is_coordinate p.x ≡ true = λ p r. and_left (is_coordinate p.x) (is_coordinate p.y && is_coordinate p.z) r in
-      let right : (p : Point) → is_in_range p ≡ true → is_coordinate p.y && is_coordinate p.z ≡ true = λ p r. and_right (is_coordinate p.x) (is_coordinate p.y && is_coordinate p.z) r in
+      let left : (p : Point) → is_in_range p ≡ true → is_coordinate p.x ≡ true = λ p r. and_first (is_coordinate p.x) (is_coordinate p.y && is_coordinate p.z) r in
+      let right : (p : Point) → is_in_range p ≡ true → is_coordinate p.y && is_coordinate p.z ≡ true = λ p r. and_second (is_coordinate p.x) (is_coordinate p.y && is_coordinate p.z) r in
       let xs = signed_decimal_injective p.x q.x (coordinate_small p.x (left p r)) (coordinate_small q.x (left q s)) x in
-      let ys = signed_decimal_injective p.y q.y (coordinate_small p.y (and_left (is_coordinate p.y) (is_coordinate p.z) (right p r))) (coordinate_small q.y (and_left (is_coordinate q.y) (is_coordinate q.z) (right q s))) y in
-      let zs = signed_decimal_injective p.z q.z (coordinate_small p.z (and_right (is_coordinate p.y) (is_coordinate p.z) (right p r))) (coordinate_small q.z (and_right (is_coordinate q.y) (is_coordinate q.z) (right q s))) z in
+      let ys = signed_decimal_injective p.y q.y (coordinate_small p.y (and_first (is_coordinate p.y) (is_coordinate p.z) (right p r))) (coordinate_small q.y (and_first (is_coordinate q.y) (is_coordinate q.z) (right q s))) y in
+      let zs = signed_decimal_injective p.z q.z (coordinate_small p.z (and_second (is_coordinate p.y) (is_coordinate p.z) (right p r))) (coordinate_small q.z (and_second (is_coordinate q.y) (is_coordinate q.z) (right q s))) z in
       λ i. record { x = xs i; y = ys i; z = zs i }
 
   point_told : (v : ℕ) → Has M.vertices v → point_of M v ≡ point_of N v

@@ -1,6 +1,7 @@
 -- Numbers and half-edges are read back from their words.
 use Rattle.std.proofs.Common.{◌≡◌, ℕ, suc, ◌+◌, ◌/◌, ◌%◌, ◌^◌, ◌<◌, ◌≤◌, Bool, true, false, cond, nat_eq, nat_lt, [], ◌∷◌, ◌++◌, ℤ, pos, negsuc, refl, sym, ap, ◌∙◌, arith}
 use Rattle.std.proofs.lemmas.Bool.Decides.{nat_tests}
+use Rattle.std.proofs.lemmas.Bool.{and_from}
 use Rattle.std.proofs.lemmas.Fmt.{decimal_by_steps, decimal_injective}
 use Rattle.std.specs.Fmt.{decimal, signed_decimal}
 use Rattle.std.specs.Int.Signed.{mag}
@@ -8,18 +9,19 @@ use Rattle.euler_operators.specs.Points.{is_coordinate}
 use Rattle.euler_operators.specs.HalfEdge.{code, half, edge_of, is_first}
 use Rattle.euler_operators.specs.Model.{is_number}
 use Rattle.euler_operators.proofs.Halves.{code-half}
+use Rattle.euler_operators.proofs.Tests.{and_first, and_second}
 use Rattle.solid_listing.specs.Listing.{half_word}
-use Rattle.solid_listing.proofs.Parsing.{Word, is_clean, and_left, and_right, and_both}
+use Rattle.solid_listing.proofs.Parsing.{Word, is_clean}
 
 pub number_small : (n : ℕ) → is_number n ≡ true → n < 2 ^ 64
 number_small n e = let f : n ≤ 1000000 = grind (arith, nat_tests) in omega arith
 
 clean_append : (v w : Word) → is_clean v ≡ true → is_clean w ≡ true → is_clean (v ++ w) ≡ true
 clean_append [] w p q = q
-clean_append (b ∷ v) w p q = and_both (nat_lt 32 b) (is_clean (v ++ w)) (and_left (nat_lt 32 b) (is_clean v) p) (clean_append v w (and_right (nat_lt 32 b) (is_clean v) p) q)
+clean_append (b ∷ v) w p q = and_from (nat_lt 32 b) (is_clean (v ++ w)) (and_first (nat_lt 32 b) (is_clean v) p) (clean_append v w (and_second (nat_lt 32 b) (is_clean v) p) q)
 
 clean_byte : (b : ℕ) → 32 < b → is_clean (b ∷ []) ≡ true
-clean_byte b l = let e : nat_lt 32 b ≡ true = grind (arith, nat_tests) in and_both (nat_lt 32 b) true e refl
+clean_byte b l = let e : nat_lt 32 b ≡ true = grind (arith, nat_tests) in and_from (nat_lt 32 b) true e refl
 
 pub clean_decimal : (n : ℕ) → n < 2 ^ 64 → is_clean (decimal n) ≡ true
 clean_decimal = decimal_by_steps (λ _ ds. is_clean ds ≡ true) (λ n _. clean_byte (48 + n) (omega arith)) (λ n ds _ c. clean_append ds ((48 + n % 10) ∷ []) c (clean_byte (48 + n % 10) (omega arith)))
@@ -33,7 +35,7 @@ clean_signed (pos n) l = let small : n < 2 ^ 64 = omega arith in clean_decimal n
 clean_signed (negsuc n) l = let small : suc n < 2 ^ 64 = omega arith in clean_decimal (suc n) small
 
 pub clean_half : (h : ℕ) → edge_of h < 2 ^ 64 → is_clean (half_word h) ≡ true
-clean_half h l = and_both (nat_lt 32 (cond (is_first h) 43 45)) (is_clean (decimal (edge_of h))) (above_space (is_first h)) (clean_decimal (edge_of h) l) where
+clean_half h l = and_from (nat_lt 32 (cond (is_first h) 43 45)) (is_clean (decimal (edge_of h))) (above_space (is_first h)) (clean_decimal (edge_of h) l) where
   above_space : (b : Bool) → nat_lt 32 (cond b 43 45) ≡ true
   above_space true = refl
   above_space false = refl

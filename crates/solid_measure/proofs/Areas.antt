@@ -6,7 +6,7 @@ use Rattle.euler_operators.specs.declared.Point.{Point}
 use Rattle.euler_operators.specs.Points.{IsInRange}
 use Rattle.euler_operators.specs.Ranges.{IsVectorWithin}
 use Rattle.euler_operators.specs.Vectors.{origin, moved, cross}
-use Rattle.euler_operators.proofs.Magnitudes.{coordinates, coordinate_within, product_within, sum_within, difference_within}
+use Rattle.euler_operators.proofs.Magnitudes.{coordinates, coordinate_within, product_within, sum_within, difference_within, vector_within}
 use Rattle.euler_operators.specs.Rings.{IsRotation}
 use Rattle.euler_operators.specs.HalfEdge.{mate}
 use Rattle.euler_operators.specs.Table as table
@@ -42,8 +42,5 @@ area_within M sound [] = (omega arith, omega arith, omega arith)
 area_within M sound (h ∷ hs) =
     moved_within (cross (start M h) (finish M h)) (area M hs) _ _ _ (cross_within (start M h) (finish M h) (point_fits M sound (tail M h)) (point_fits M sound (tail M (mate h)))) (area_within M sound hs) (omega arith)
 
-wider : (v : Point) (m n : ℕ) → IsVectorWithin m v → m ≤ n → IsVectorWithin n v
-wider v m n w l = (omega (arith, w.0, l), omega (arith, w.1, l), omega (arith, w.2, l))
-
 pub area_limited : (M : Model) → Sound M → (hs : List ℕ) → AreHalves M hs → IsVectorWithin area_limit (area M hs)
-area_limited M sound hs a = wider (area M hs) _ area_limit (area_within M sound hs) (omega (arith, halves_short M sound hs a))
+area_limited M sound hs a = vector_within (area M hs) _ area_limit (area_within M sound hs) (omega (arith, halves_short M sound hs a))

@@ -1,13 +1,16 @@
 -- Whether the corners that a walk round a loop meets lie on a plane.
 use Rattle.std.proofs.Common.{◌≡◌, ◌≢◌, ℕ, ◌+◌, ◌≤◌, Bool, true, false, ◌&&◌, List, [], ◌∷◌, ◌++◌, map, not, refl, sym, ap, ◌∙◌, arith, true≢false, Some, None, inl, inr}
 use Rattle.std.proofs.lemmas.Bool.Decides.{eqb_tells}
+use Rattle.std.proofs.lemmas.Bool.{and_from}
 use Rattle.std.specs.List.{list_all}
 use Rattle.euler_operators.specs.declared.Plane.{Plane}
 use Rattle.euler_operators.specs.Vectors.{is_on, same_point, direction, origin}
 use Rattle.euler_operators.specs.Items.{IsIn}
 use Rattle.euler_operators.specs.Rings.{IsRotation}
-use Rattle.euler_operators.proofs.Lists.{count-append, tick_same, tick_other}
+use Rattle.euler_operators.proofs.Lists.{count-append, tick_other}
 use Rattle.euler_operators.proofs.Rotations.{IsRotation-same}
+use Rattle.euler_operators.proofs.Members.{all_mapped}
+use Rattle.euler_operators.proofs.Tests.{at_most_or_above}
 use Rattle.euler_operators.specs.declared.HalfEdge.{HalfEdge}
 use Rattle.euler_operators.specs.declared.Content.{Content}
 use Rattle.euler_operators.specs.Model.{Model, LoopContent, lone, cycle, items_of, content, after, tail, point_of, outer, rings_of, is_ring_of}
@@ -18,11 +21,7 @@ use Rattle.euler_laws.proofs.shared.Listed.{first_listed, rest_listed, listed_ca
 use Rattle.euler_laws.proofs.shared.Bounds.{steps}
 use Rattle.shapes.specs.Faces.{start, vertices_on, vertices_in, corners, loops_of}
 use Rattle.solid_measure.specs.Measure.{plane_of, is_flat}
-use Rattle.euler_laws.proofs.shared.UpTo.{below_or}
 use Rattle.shapes.proofs.walks.Rounds.{Round, round_start, round_more, round_closed, round_ended}
-
-both_true : (a b : Bool) → a ≡ true → b ≡ true → (a && b) ≡ true
-both_true a b p q = ap (λ c. c && b) p ∙ q
 
 left_false : (a b : Bool) → a ≡ false → (a && b) ≡ false
 left_false a b p = ap (λ c. c && b) p
@@ -32,10 +31,6 @@ right_false true b p = p
 right_false false b p = refl
 
 module _ (P : ℕ → Bool) where
-  all_on : (f : ℕ → ℕ) (xs : List ℕ) → ((x : ℕ) → IsIn x xs → P (f x) ≡ true) → list_all P (map f xs) ≡ true
-  all_on f [] h = refl
-  all_on f (x ∷ xs) h = both_true (P (f x)) (list_all P (map f xs)) (h x (omega (arith, tick_same x))) (all_on f xs (λ y i. h y (omega arith)))
-
   one_off : (f : ℕ → ℕ) (xs : List ℕ) (x : ℕ) → IsIn x xs → P (f x) ≡ false → list_all P (map f xs) ≡ false
   one_off f [] x i e = absurd (omega arith)
   one_off f (y ∷ xs) x i e = elim (eqb_tells x y) [
@@ -54,7 +49,7 @@ module _ (P : ℕ → Bool) where
     -- all vertices on some loops pass
     pub all_in : (ls : List ℕ) → ((l : ℕ) → lists ls l ≡ true → list_all P (vertices_on M (content M l)) ≡ true) → list_all P (vertices_in M ls) ≡ true
     all_in [] h = refl
-    all_in (l ∷ ls) h = all_joined (vertices_on M (content M l)) (vertices_in M ls) ∙ both_true _ _ (h l (first_listed l ls)) (all_in ls (λ k i. h k (rest_listed l k ls i)))
+    all_in (l ∷ ls) h = all_joined (vertices_on M (content M l)) (vertices_in M ls) ∙ and_from _ _ (h l (first_listed l ls)) (all_in ls (λ k i. h k (rest_listed l k ls i)))
 
     pub off_in : (ls : List ℕ) (l : ℕ) → lists ls l ≡ true → list_all P (vertices_on M (content M l)) ≡ false → list_all P (vertices_in M ls) ≡ false
     off_in [] l i e = absurd (true≢false (sym i))
@@ -74,7 +69,7 @@ module _ (P : ℕ → Bool) where
     -- the rings that don't pass a number
     pub rings_more : (f last ring : ℕ) → IsNextRing M f last (Some ring) → ((k : ℕ) → k ≤ last → is_ring_of M f k ≡ true → list_all P (vertices_on M (content M k)) ≡ true) →
         list_all P (vertices_on M (content M ring)) ≡ true → (k : ℕ) → k ≤ ring → is_ring_of M f k ≡ true → list_all P (vertices_on M (content M k)) ≡ true
-    rings_more f last ring next old new k l e = elim (below_or k last) [
+    rings_more f last ring next old new k l e = elim (at_most_or_above k last) [
       | inl s ↦ old k s e
       | inr s ↦ elim (eqb_tells k ring) [
         | inl p ↦ ap (λ j. list_all P (vertices_on M (content M j))) p.1 ∙ new
@@ -83,7 +78,7 @@ module _ (P : ℕ → Bool) where
     ]
 
     pub rings_all : (f last : ℕ) → IsNextRing M f last None → ((k : ℕ) → k ≤ last → is_ring_of M f k ≡ true → list_all P (vertices_on M (content M k)) ≡ true) → (k : ℕ) → is_ring_of M f k ≡ true → list_all P (vertices_on M (content M k)) ≡ true
-    rings_all f last none old k e = elim (below_or k last) [ inl s ↦ old k s e | inr s ↦ absurd (true≢false (sym e ∙ none k s)) ]
+    rings_all f last none old k e = elim (at_most_or_above k last) [ inl s ↦ old k s e | inr s ↦ absurd (true≢false (sym e ∙ none k s)) ]
 
 -- the vertices on a loop that isn't lone
 pub ring_vertices : (M : Model) (s : Plane) (c : LoopContent) (h : HalfEdge) → Tells c (Content.Ring h) → list_all (λ v. is_on s (point_of M v)) (map (tail M) (items_of c)) ≡ list_all (λ v. is_on s (point_of M v)) (vertices_on M c)
@@ -115,7 +110,7 @@ module _ (M : Model) (sound : Sound M) (s : Plane) (l first : ℕ) (item : IsIn 
   flat_start = record { round = round_start M sound l first item; on = λ x i. absurd (omega arith) }
 
   flat_is : (ys : List ℕ) → IsRotation (items_of (content M l)) ys → ((x : ℕ) → IsIn x ys → is_on s (start M x) ≡ true) → true ≡ answer_is
-  flat_is ys r on = sym (all_on (λ v. is_on s (point_of M v)) (tail M) (items_of (content M l)) (λ x i. on x (omega (arith, IsRotation-same (items_of (content M l)) ys r x))))
+  flat_is ys r on = sym (all_mapped (λ v. is_on s (point_of M v)) (tail M) (items_of (content M l)) (λ x i. on x (omega (arith, IsRotation-same (items_of (content M l)) ys r x))))
 
   module _ (h n : ℕ) (w : FlatRound M s l first h n) where
     pub flat_off : is_on s (start M h) ≡ false → false ≡ answer_is

@@ -3,12 +3,13 @@ use Rattle.std.proofs.Common.{◌≡◌, ℕ, ◌*◌, ℤ, pos, List, [], ◌�
 use Rattle.std.specs.Prelude.{◌+ℤ◌, ◌*ℤ◌, FitsSigned}
 use mir.Syntax.{w128}
 use Rattle.std.proofs.lemmas.List.{length-append}
-use Rattle.std.proofs.Math.IntN.{+ℤ_assoc, +ℤ_idl, +ℤ_idr, *ℤ_comm}
+use Rattle.std.proofs.Math.IntN.{+ℤ_assoc, +ℤ_idl, +ℤ_idr}
 use Rattle.euler_operators.specs.declared.Point.{Point}
 use Rattle.euler_operators.specs.Points.{IsInRange}
 use Rattle.euler_operators.specs.Ranges.{IsWithin, IsVectorWithin}
 use Rattle.euler_operators.specs.Vectors.{dot}
 use Rattle.euler_operators.proofs.Magnitudes.{coordinates, coordinate_within, product_within, sum_within, fits, fits_as, held, held_is, held_as}
+use Rattle.euler_operators.proofs.Vectors.{dot_turned}
 use Rattle.euler_operators.specs.Model.{Model, faces_of}
 use Rattle.euler_operators.specs.Sound.{Sound}
 use Rattle.euler_conditions.specs.Store.{IsNextFace}
@@ -28,9 +29,6 @@ halves_of M fs = items_in M (loops_in M fs)
 -- the sum over the faces of a solid that don't pass n
 unfoldable pub volume_to : Model → ℕ → ℕ → ℤ
 volume_to M s n = volume_in M (up_to n (faces_of M s))
-
-dot_turned : (p q : Point) → dot p q ≡ dot q p
-dot_turned p q = λ i. *ℤ_comm p.x q.x i +ℤ *ℤ_comm p.y q.y i +ℤ *ℤ_comm p.z q.z i
 
 pub face_volume : (M : Model) (f : ℕ) (r : ℤ) (n a : Point) → n ≡ normal M f → a ≡ anchor M f → r ≡ dot n a → r ≡ dot (anchor M f) (normal M f)
 face_volume M f r n a en ea e = e ∙ (λ i. dot (en i) (ea i)) ∙ dot_turned (normal M f) (anchor M f)

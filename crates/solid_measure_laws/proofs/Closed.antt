@@ -3,16 +3,16 @@ use Rattle.std.proofs.Common.{◌≡◌, ◌≢◌, ℕ, ◌+◌, ◌≤◌, Boo
 use Rattle.std.proofs.lemmas.Bool.Decides.{nat_tests, eqb_tells}
 use Rattle.euler_operators.specs.declared.Point.{Point}
 use Rattle.euler_operators.specs.Vectors.{origin, moved, dot}
-use Rattle.euler_operators.specs.Items.{count, tick, IsIn}
+use Rattle.euler_operators.specs.Items.{count, tick}
 use Rattle.euler_operators.proofs.Lists.{count-append, tick_same, tick_other, IsIn_or_not}
 use Rattle.euler_operators.specs.HalfEdge.{mate}
 use Rattle.euler_operators.specs.Table as table
 use Rattle.euler_operators.specs.Model.{Model, has_half, items_of, holds, content, loop_of, face_of, outer, solid_of, rings_of, faces_of}
 use Rattle.euler_operators.specs.Sound.{Sound, Has, HasHalf}
 use Rattle.euler_operators.proofs.Halves.{edge_of-mate}
-use Rattle.euler_operators.proofs.Models.{in-holds, holds_in, held_row}
+use Rattle.euler_operators.proofs.Models.{in-holds, holds_in, loop_there}
 use Rattle.euler_operators.specs.Conditions.{lists, strictly_rises}
-use Rattle.euler_laws.proofs.shared.Listed.{first_listed, rest_listed, listed_cases, listed_passes, listed_as, all_where-rises}
+use Rattle.euler_laws.proofs.shared.Listed.{first_listed, rest_listed, listed_passes, listed_as, all_where-rises, IsIn-from_listed}
 use Rattle.euler_laws.proofs.shared.Loops.{light}
 use Rattle.euler_laws.proofs.shared.Rows.{loop_row, face_there}
 use Rattle.shapes.specs.Faces.{items_in, loops_of, boundary}
@@ -22,18 +22,10 @@ use Rattle.shapes.proofs.walks.FaceLoops.{items_there}
 use Rattle.euler_laws.proofs.shared.Counted.{counted_once, none_counted}
 use Rattle.euler_operators.proofs.Vectors.{dot_turned, dot_origin, add_none}
 use Rattle.solid_measure_laws.specs.Models.{shifted, normals_in}
-use Rattle.solid_measure_laws.proofs.Paths.{rest_in}
 use Rattle.solid_measure_laws.proofs.Sums.{area_same, area_mates, own_opposite, count-mates}
 use Rattle.solid_measure_laws.proofs.Shifted.{volume_moved}
 
 -- ---- counting
-
-in_listed : (q : ℕ) (ns : List ℕ) → lists ns q ≡ true → IsIn q ns
-in_listed q [] e = absurd (true≢false (sym e))
-in_listed q (n ∷ ns) e = elim (listed_cases n q ns e) [
-  | inl s ↦ omega (arith, ap (tick q) s, tick_same q)
-  | inr i ↦ rest_in q n ns (in_listed q ns i)
-]
 
 -- a rising list has once what it lists
 count_listed : (q : ℕ) (ns : List ℕ) → strictly_rises ns ≡ true → count q ns ≡ cond (lists ns q) 1 0
@@ -42,7 +34,7 @@ count_listed q ns up = go (lists ns q) refl where
   once n l m = omega arith
 
   go : (b : Bool) → lists ns q ≡ b → count q ns ≡ cond b 1 0
-  go true e = once (count q ns) (counted_once q ns up) (in_listed q ns e)
+  go true e = once (count q ns) (counted_once q ns up) (IsIn-from_listed q ns e)
   go false e = none_counted q ns e
 
 -- the half-edges of some faces
@@ -72,12 +64,6 @@ module _ (M : Model) (sound : Sound M) where
     in_loops : (ls : List ℕ) → count x (items_in M ls) ≡ count (loop_of M x) ls
     in_loops [] = refl
     in_loops (l ∷ ls) = count-append x (items_of (content M l)) (items_in M ls) ∙ (λ i. in_loop l i + in_loops ls i)
-
-    loop_there : Has M.loops (loop_of M x)
-    loop_there = ap is_some (held_row M x (loop_of M x) (sound.stands x there))
-
-  abbrev is_ring : ℕ → ℕ → Bool
-  is_ring f l = nat_eq (face_of M l) f && not (nat_eq (outer M f) l)
 
   -- a loop is one of its face's loops, and of no other's
   loop_counted : (l f : ℕ) → Has M.loops l → Has M.faces f → count l (loops_of M f) ≡ tick (face_of M l) f
@@ -111,7 +97,7 @@ module _ (M : Model) (sound : Sound M) where
   unfolding boundary
   in_faces x there [] faces = refl
   in_faces x there (f ∷ fs) faces = count-append x (items_in M (loops_of M f)) (halves_in M fs)
-      ∙ (λ i. (in_loops x there (loops_of M f) ∙ loop_counted (loop_of M x) f (loop_there x there) (faces f (first_listed f fs))) i + in_faces x there fs (λ g j. faces g (rest_listed f g fs j)) i)
+      ∙ (λ i. (in_loops x there (loops_of M f) ∙ loop_counted (loop_of M x) f (loop_there M sound x there) (faces f (first_listed f fs))) i + in_faces x there fs (λ g j. faces g (rest_listed f g fs j)) i)
 
   -- a face is one of its solid's
   face_counted : (f s : ℕ) → Has M.faces f → count f (faces_of M s) ≡ cond (nat_eq (solid_of M f) s) 1 0
@@ -122,7 +108,7 @@ module _ (M : Model) (sound : Sound M) where
     each_there f i = ap is_some (listed_passes (λ _ row. nat_eq row.solid s) M.faces f i).1
 
     half_counted : (x : ℕ) → HasHalf M x → count x (halves_in M (faces_of M s)) ≡ cond (nat_eq (solid_of M (face_of M (loop_of M x))) s) 1 0
-    half_counted x there = in_faces x there (faces_of M s) each_there ∙ face_counted (face_of M (loop_of M x)) s (sound.loops_of_faces (loop_of M x) (loop_there x there))
+    half_counted x there = in_faces x there (faces_of M s) each_there ∙ face_counted (face_of M (loop_of M x)) s (sound.loops_of_faces (loop_of M x) (loop_there M sound x there))
 
     none_there : (x : ℕ) (fs : List ℕ) → has_half M x ≡ false → count x (halves_in M fs) ≡ 0
     unfolding boundary

@@ -10,6 +10,7 @@ use Rattle.euler_operators.specs.declared.Plane.{Plane}
 use Rattle.euler_operators.specs.Vectors.{origin, moved, cross, height, is_on, opposite, are_opposite, cut_multiple, cuts_lattice, cut_between}
 use Rattle.euler_operators.proofs.Integers.{dif, dif-parts, difs, neg-dif, same_dif, number}
 use Rattle.euler_operators.proofs.Vectors.{same_vector, moved_none}
+use Rattle.euler_operators.proofs.Crossings.{opposite_apart, turned_difference}
 use Rattle.solid_measure_laws.specs.Vectors.{scaled, towards}
 use Rattle.solid_measure_laws.proofs.Products.{no_product}
 
@@ -82,9 +83,6 @@ level_part : (m n z : ℤ) → z ≡ pos 0 → z *ℤ m -ℤ z *ℤ n ≡ z
 level_part m n z e = rw (dif-parts m, dif-parts n, e ∙ number 0) (level_dif _ _ _ _)
 
 -- ---- heights of opposite signs
-
-apart : (m n : ℤ) → opposite m n ≡ true → m -ℤ n ≢ pos 0
-apart m n e z = grind (arith, ints)
 
 pub some_height : (m n : ℤ) → opposite m n ≡ true → (0 < unsigned_abs m) × (0 < unsigned_abs n)
 some_height m n e = grind (arith, ints)
@@ -189,7 +187,7 @@ module _ (s : Plane) (p q : Point) (o : are_opposite s p q ≡ true) (cuts : cut
   height_told t u v at_p at_q = height_at t.a t.b t.c t.d p.x p.y p.z q.x q.y q.z cut.x cut.y cut.z m n u v at_p at_q x_is y_is z_is
 
   height_none : (t : Plane) → height t cut *ℤ (m -ℤ n) ≡ pos 0 → is_on t cut ≡ true
-  height_none t e = (signed_Decides (height t cut) (pos 0)).1 (no_product (m -ℤ n) (height t cut) e (apart m n o))
+  height_none t e = (signed_Decides (height t cut) (pos 0)).1 (no_product (m -ℤ n) (height t cut) e (opposite_apart m n o))
 
   pub cut_on : is_on s (cut_between s p q) ≡ true
   cut_on = height_none s (height_told s m n refl refl ∙ cancel m n)
@@ -217,9 +215,6 @@ multiple_dif p q m n p' q' m' n' = simp (difs, neg-dif) (same_dif _ _ _ _ (omega
 
 multiple_turned : (p q m n : ℤ) → p *ℤ n -ℤ q *ℤ m ≡ neg_ℤ (q *ℤ m -ℤ p *ℤ n)
 multiple_turned p q m n = rw (dif-parts p, dif-parts q, dif-parts m, dif-parts n) (multiple_dif _ _ _ _ _ _ _ _)
-
-gap_turned : (m n : ℤ) → n -ℤ m ≡ neg_ℤ (m -ℤ n)
-gap_turned m n = omega (arith, ints)
 
 none_over : (n : ℕ) → neg_ℤ (pos (0 / n)) ≡ pos (0 / n)
 none_over n = ap (λ k. neg_ℤ (pos k)) (zero-div n) ∙ sym (ap pos (zero-div n))
@@ -266,7 +261,7 @@ module _ (s : Plane) (p q : Point) where
   turned_multiple a b = multiple_turned a b (height s p) (height s q)
 
   turned_gap : height s q -ℤ height s p ≡ neg_ℤ gap
-  turned_gap = gap_turned (height s p) (height s q)
+  turned_gap = turned_difference (height s p) (height s q)
 
   quotient : (a b : ℤ) → int_div (cut_multiple s q p b a) (height s q -ℤ height s p) ≡ int_div (multiple a b) gap
   quotient a b = (λ i. int_div (turned_multiple a b i) (turned_gap i)) ∙ quotient_turned (multiple a b) gap

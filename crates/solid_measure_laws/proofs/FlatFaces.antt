@@ -1,8 +1,9 @@
 -- What the normal of a flat face is across: all ways between two points of its plane.
-use Rattle.std.proofs.Common.{◌≡◌, ◌≢◌, ℕ, Bool, true, false, not, ◌&&◌, ℤ, pos, ◌+ℤ◌, neg_ℤ, List, [], ◌∷◌, ◌++◌, map, refl, sym, ap, ◌∙◌, arith, true≢false, inl, inr}
+use Rattle.std.proofs.Common.{◌≡◌, ◌≢◌, ℕ, Bool, true, not, ◌&&◌, ℤ, pos, ◌+ℤ◌, neg_ℤ, List, [], ◌∷◌, ◌++◌, map, refl, sym, ap, ◌∙◌, arith, true≢false, inl, inr}
 use Rattle.std.specs.List.{list_all}
 use Rattle.std.specs.Cmp.{signed_Decides}
 use Rattle.std.proofs.lemmas.Int.{ints}
+use Rattle.std.proofs.lemmas.Bool.{and_parts}
 use Rattle.euler_operators.specs.declared.Point.{Point}
 use Rattle.euler_operators.specs.declared.Plane.{Plane}
 use Rattle.euler_operators.specs.Vectors.{origin, moved, dot, cross, same_point, is_on, height, direction}
@@ -20,10 +21,6 @@ use Rattle.solid_measure_laws.proofs.Paths.{begins, Leads, IsClosed, loop_closed
 
 -- ---- tests
 
-pub and_parts : (a b : Bool) → (a && b) ≡ true → (a ≡ true) × (b ≡ true)
-and_parts true b e = (refl, e)
-and_parts false b e = absurd (true≢false (sym e))
-
 pub list_parts : (p : ℕ → Bool) (xs ys : List ℕ) → list_all p (xs ++ ys) ≡ true → (list_all p xs ≡ true) × (list_all p ys ≡ true)
 list_parts p [] ys e = (refl, e)
 list_parts p (x ∷ xs) ys e = let a = and_parts (p x) (list_all p (xs ++ ys)) e in let r = list_parts p xs ys a.1 in (λ i. a.0 i && r.0 i, r.1)
@@ -38,7 +35,7 @@ on_plane s p e = part (dot (direction s) p) s.d ((signed_Decides (height s p) (p
   part : (a d : ℤ) → a +ℤ d ≡ pos 0 → a ≡ neg_ℤ d
   part a d e = omega (arith, ints)
 
-some_direction : (s : Plane) → not (same_point (direction s) origin) ≡ true → direction s ≢ origin
+pub some_direction : (s : Plane) → not (same_point (direction s) origin) ≡ true → direction s ≢ origin
 some_direction s e z = true≢false (sym e ∙ ap (λ p. not (same_point p origin)) z)
 
 -- ---- paths on a plane

@@ -1,14 +1,13 @@
 -- A solid with flat faces, turned inside out.
-use Rattle.std.proofs.Common.{◌≡◌, ◌≢◌, ℕ, Bool, true, not, nat_eq, ℤ, ◌+ℤ◌, neg_ℤ, List, [], ◌∷◌, map, reverse, is_some, refl, sym, ap, ◌∙◌, arith, inl, inr}
+use Rattle.std.proofs.Common.{◌≡◌, ◌≢◌, ℕ, true, not, nat_eq, ℤ, ◌+ℤ◌, neg_ℤ, List, [], ◌∷◌, map, reverse, is_some, refl, sym, ap, ◌∙◌, arith}
 use Rattle.std.specs.List.{list_all}
-use Rattle.std.proofs.lemmas.Bool.Decides.{eqb_tells}
+use Rattle.std.proofs.lemmas.Bool.{and_parts}
 use Rattle.std.proofs.lemmas.Int.{ints}
 use Rattle.euler_operators.specs.declared.Plane.{Plane}
 use Rattle.euler_operators.specs.Vectors.{origin, dot, same_point, is_on, direction}
 use Rattle.euler_operators.specs.Items.{count, IsIn, head_or}
 use Rattle.euler_operators.specs.Rings.{canonical, IsRing}
-use Rattle.euler_operators.proofs.Lists.{tick_other}
-use Rattle.euler_operators.proofs.Rotations.{count-canonical}
+use Rattle.euler_operators.proofs.Rotations.{count-canonical, IsIn_head}
 use Rattle.euler_operators.proofs.Std.{SameItems-from_permutation}
 use Rattle.std.proofs.lemmas.List.Sorted.{IsPermutation-reverse}
 use Rattle.euler_operators.specs.HalfEdge.{mate}
@@ -16,29 +15,17 @@ use Rattle.euler_operators.specs.Model.{Model, LoopContent, lone, cycle, items_o
 use Rattle.euler_operators.specs.Sound.{Sound, Has}
 use Rattle.euler_operators.proofs.Halves.{mate-mate}
 use Rattle.euler_operators.proofs.Models.{in-holds}
+use Rattle.euler_operators.proofs.Members.{IsIn_first, each_mapped}
+use Rattle.euler_operators.proofs.Rings.{ring_stays}
 use Rattle.euler_operators.specs.Conditions.{lists}
-use Rattle.euler_laws.proofs.shared.Fans.{ring_stays}
 use Rattle.euler_laws.proofs.shared.Listed.{first_listed, rest_listed, listed_passes}
 use Rattle.euler_laws.proofs.shared.Loops.{light}
 use Rattle.shapes.specs.Faces.{vertices_on, corners, loops_of}
 use Rattle.shapes.specs.Measure.{normal, anchor, first_vertex, plane_of, is_flat, volume_in, six_volume}
 use Rattle.solid_measure_laws.specs.Models.{run_back, turned}
-use Rattle.solid_measure_laws.proofs.Paths.{first_in}
-use Rattle.solid_measure_laws.proofs.FlatFaces.{and_parts, list_parts, are_on, plane_told}
+use Rattle.solid_measure_laws.proofs.FlatFaces.{list_parts, are_on, plane_told}
 use Rattle.solid_measure_laws.proofs.Sums.{dot_back, count-mates}
 use Rattle.solid_measure_laws.proofs.Turned.{outer_kept, content_turned, normal_turned}
-
--- what an item of a list passes
-each_passes : (p : ℕ → Bool) (f : ℕ → ℕ) (xs : List ℕ) (x : ℕ) → list_all p (map f xs) ≡ true → IsIn x xs → p (f x) ≡ true
-each_passes p f [] x all i = absurd (omega arith)
-each_passes p f (y ∷ ys) x all i = let a = and_parts (p (f y)) (list_all p (map f ys)) all in elim (eqb_tells x y) [
-  | inl e ↦ ap (λ k. p (f k)) e.1 ∙ a.0
-  | inr e ↦ each_passes p f ys x a.1 (omega (arith, tick_other x y e.1))
-]
-
-head_in : (xs : List ℕ) (y : ℕ) → IsIn y xs → IsIn (head_or 0 xs) xs
-head_in [] y i = i
-head_in (x ∷ xs) y i = first_in x xs
 
 -- a loop run back, from its least item on
 abbrev back : List ℕ → List ℕ
@@ -78,10 +65,10 @@ module _ (M : Model) where
     first_back (cycle (h ∷ hs)) ne ring meet on =
         let ks = back (h ∷ hs) in
         let k = head_or 0 ks in
-        let there : IsIn (mate h) ks = omega (arith, count_back (mate h) (h ∷ hs), ap (λ x. count x (h ∷ hs)) (mate-mate h), first_in h hs) in
-        let g : IsIn (mate k) (h ∷ hs) = omega (arith, count_back k (h ∷ hs), head_in ks (mate h) there) in
+        let there : IsIn (mate h) ks = omega (arith, count_back (mate h) (h ∷ hs), ap (λ x. count x (h ∷ hs)) (mate-mate h), IsIn_head h hs) in
+        let g : IsIn (mate k) (h ∷ hs) = omega (arith, count_back k (h ∷ hs), IsIn_first ks (mate h) there) in
         ap (λ v. is_on s (point_of M v)) (ap (tail M) (sym (mate-mate k)) ∙ sym (meet (mate k) g))
-        ∙ each_passes (λ v. is_on s (point_of M v)) (tail M) (h ∷ hs) (next (mate k)) on (ring_stays next (h ∷ hs) (mate k) ring g)
+        ∙ each_mapped (λ v. is_on s (point_of M v)) (tail M) (h ∷ hs) (next (mate k)) on (ring_stays next (h ∷ hs) (mate k) ring g)
 
   module _ (sound : Sound M) where
     anchor_on : (f : ℕ) (s : Plane) → Has M.faces f → are_on M s (corners M f) ≡ true → is_on s (anchor (turned M) f) ≡ true

@@ -1,13 +1,14 @@
 -- Paths of half-edges, each of which ends where the next one starts; the loops of a sound model are closed ones.
-use Rattle.std.proofs.Common.{◌≡◌, ℕ, List, [], ◌∷◌, refl, sym, ap, ◌∙◌, arith}
+use Rattle.std.proofs.Common.{◌≡◌, ℕ, List, [], ◌∷◌, refl, sym, ap, ◌∙◌}
 use Rattle.euler_operators.specs.declared.Point.{Point}
 use Rattle.euler_operators.specs.Vectors.{origin}
 use Rattle.euler_operators.specs.Items.{IsIn, head_or}
 use Rattle.euler_operators.specs.Rings.{IsPath, IsRing}
-use Rattle.euler_operators.proofs.Lists.{tick_same}
 use Rattle.euler_operators.specs.Model.{Model, items_of, content, point_of, after}
 use Rattle.euler_operators.specs.Sound.{Sound}
 use Rattle.euler_operators.proofs.Models.{in-holds}
+use Rattle.euler_operators.proofs.Members.{IsIn_rest}
+use Rattle.euler_operators.proofs.Rotations.{IsIn_head}
 use Rattle.euler_laws.proofs.shared.Loops.{light}
 use Rattle.shapes.specs.Faces.{start, finish}
 
@@ -25,13 +26,6 @@ Leads M (h ∷ hs) e = (finish M h ≡ begins M hs e) × Leads M hs e
 abbrev pub IsClosed : Model → List ℕ → Type 0
 IsClosed M hs = Leads M hs (begins M hs origin)
 
--- the first of a list stands in it, and what stands in the rest does
-pub first_in : (x : ℕ) (xs : List ℕ) → IsIn x (x ∷ xs)
-first_in x xs = omega (arith, tick_same x)
-
-pub rest_in : (x y : ℕ) (ys : List ℕ) → IsIn x ys → IsIn x (y ∷ ys)
-rest_in x y ys i = omega arith
-
 module _ (M : Model) (next : ℕ → ℕ) where
   heads : (hs : List ℕ) (d : ℕ) → start M (head_or d hs) ≡ begins M hs (start M d)
   heads [] d = refl
@@ -40,7 +34,7 @@ module _ (M : Model) (next : ℕ → ℕ) where
   -- where next leads from each half-edge to one that starts at its end
   path_leads : (hs : List ℕ) (d : ℕ) → IsPath next hs d → ((h : ℕ) → IsIn h hs → finish M h ≡ start M (next h)) → Leads M hs (start M d)
   path_leads [] d p meet = tt
-  path_leads (h ∷ hs) d p meet = (meet h (first_in h hs) ∙ ap (start M) p.0 ∙ heads hs d, path_leads hs d p.1 (λ g i. meet g (rest_in g h hs i)))
+  path_leads (h ∷ hs) d p meet = (meet h (IsIn_head h hs) ∙ ap (start M) p.0 ∙ heads hs d, path_leads hs d p.1 (λ g i. meet g (IsIn_rest g h hs i)))
 
   pub ring_closed : (hs : List ℕ) → IsRing next hs → ((h : ℕ) → IsIn h hs → finish M h ≡ start M (next h)) → IsClosed M hs
   ring_closed [] r meet = tt

@@ -10,19 +10,20 @@ use Rattle.euler_operators.specs.Table as table
 use Rattle.euler_operators.specs.Table.{get-map_rows}
 use Rattle.euler_operators.specs.Model.{Model, LoopContent, lone, cycle, no_point, items_of, tail, content, outer, point_of, faces_of}
 use Rattle.euler_operators.specs.Sound.{Sound, Has, HasHalf}
-use Rattle.euler_operators.proofs.Halves.{edge_of-mate}
-use Rattle.euler_operators.proofs.Models.{in-holds}
+use Rattle.euler_operators.proofs.Models.{in-holds, mate_there}
 use Rattle.euler_operators.specs.Conditions.{lists}
 use Rattle.euler_laws.proofs.shared.Listed.{first_listed, rest_listed, listed_passes}
 use Rattle.shapes.specs.Faces.{start, finish, loops_of, items_in, boundary}
 use Rattle.shapes.specs.Measure.{area, normal, anchor, first_vertex, volume_in, six_volume}
 use Rattle.shapes.proofs.Areas.{area-append}
 use Rattle.euler_operators.proofs.Integers.{dif, dif-parts, difs, same_dif}
-use Rattle.euler_operators.proofs.Vectors.{same_vector, moved_none, dot_moved, dot_turned, dot_origin}
+use Rattle.euler_operators.proofs.Vectors.{same_vector, moved_none, dot_moved, dot_turned, dot_origin, dot_sum}
+use Rattle.euler_operators.proofs.Members.{IsIn_rest}
+use Rattle.euler_operators.proofs.Rotations.{IsIn_head}
 use Rattle.solid_measure_laws.specs.Vectors.{towards}
 use Rattle.solid_measure_laws.specs.Models.{shifted, normals_in}
 use Rattle.solid_measure_laws.proofs.Products.{cross_nothing}
-use Rattle.solid_measure_laws.proofs.Paths.{begins, Leads, first_in, rest_in, loop_closed}
+use Rattle.solid_measure_laws.proofs.Paths.{begins, Leads, loop_closed}
 
 -- ---- a path moved by d: from p over q to e
 
@@ -87,20 +88,17 @@ module _ (M : Model) (d : Point) where
   -- ---- normals
 
   module _ (sound : Sound M) where
-    mate_there : (h : ℕ) → HasHalf M h → HasHalf M (mate h)
-    mate_there h there = ap (table.has M.edges) (edge_of-mate h) ∙ there
-
     start_moved : (h : ℕ) → HasHalf M h → start after h ≡ moved (start M h) d
     start_moved h there = ap (point_of after) (tail_kept h) ∙ point_moved (tail M h) (sound.tails_there h there)
 
     finish_moved : (h : ℕ) → HasHalf M h → finish after h ≡ moved (finish M h) d
-    finish_moved h there = start_moved (mate h) (mate_there h there)
+    finish_moved h there = start_moved (mate h) (mate_there M h there)
 
     path_moved : (hs : List ℕ) (e : Point) → Leads M hs e → ((h : ℕ) → IsIn h hs → HasHalf M h) → area after hs ≡ moved (area M hs) (cross d (towards (begins M hs e) e))
     path_moved [] e leads there = sym (stays d e origin)
     path_moved (h ∷ hs) e leads there =
-        let t = there h (first_in h hs) in
-        (λ i. moved (cross (start_moved h t i) (finish_moved h t i)) ((path_moved hs e leads.1 (λ g j. there g (rest_in g h hs j)) ∙ ap (λ p. moved (area M hs) (cross d (towards p e))) (sym leads.0)) i))
+        let t = there h (IsIn_head h hs) in
+        (λ i. moved (cross (start_moved h t i) (finish_moved h t i)) ((path_moved hs e leads.1 (λ g j. there g (IsIn_rest g h hs j)) ∙ ap (λ p. moved (area M hs) (cross d (towards p e))) (sym leads.0)) i))
         ∙ step_moved (start M h) (finish M h) d (area M hs) e
 
     loop_moved : (l : ℕ) → area after (items_of (content M l)) ≡ area M (items_of (content M l))
@@ -123,7 +121,7 @@ module _ (M : Model) (d : Point) where
     first_moved : (x : LoopContent) → x ≢ cycle [] → ((v : ℕ) → x ≡ lone v → Has M.vertices v) → ((h : ℕ) → IsIn h (items_of x) → HasHalf M h) → point_of after (first_vertex after x) ≡ moved (point_of M (first_vertex M x)) d
     first_moved (lone v) ne lones halves = point_moved v (lones v refl)
     first_moved (cycle []) ne lones halves = absurd (ne refl)
-    first_moved (cycle (h ∷ hs)) ne lones halves = start_moved h (halves h (first_in h hs))
+    first_moved (cycle (h ∷ hs)) ne lones halves = start_moved h (halves h (IsIn_head h hs))
 
     anchor_moved : (f : ℕ) → Has M.faces f → anchor after f ≡ moved (anchor M f) d
     anchor_moved f there =
@@ -133,9 +131,6 @@ module _ (M : Model) (d : Point) where
 
     face_moved : (f : ℕ) → Has M.faces f → dot (anchor after f) (normal after f) ≡ dot (anchor M f) (normal M f) +ℤ dot d (normal M f)
     face_moved f there = (λ i. dot (anchor_moved f there i) (normal_kept f i)) ∙ dot_moved (anchor M f) d (normal M f)
-
-    along_sum : (p q : Point) → dot d (moved p q) ≡ dot d p +ℤ dot d q
-    along_sum p q = dot_turned d (moved p q) ∙ dot_moved p q d ∙ (λ i. dot_turned p d i +ℤ dot_turned q d i)
 
     exchanged : (a b c e : ℤ) → (a +ℤ b) +ℤ (c +ℤ e) ≡ (a +ℤ c) +ℤ (b +ℤ e)
     exchanged a b c e = omega (arith, ints)
@@ -147,7 +142,7 @@ module _ (M : Model) (d : Point) where
     faces_moved (f ∷ fs) there =
         (λ i. face_moved f (there f (first_listed f fs)) i +ℤ faces_moved fs (λ g j. there g (rest_listed f g fs j)) i)
         ∙ exchanged (dot (anchor M f) (normal M f)) (dot d (normal M f)) (volume_in M fs) (dot d (normals_in M fs))
-        ∙ ap (λ t. volume_in M (f ∷ fs) +ℤ t) (sym (along_sum (normal M f) (normals_in M fs)))
+        ∙ ap (λ t. volume_in M (f ∷ fs) +ℤ t) (sym (dot_sum d (normal M f) (normals_in M fs)))
 
     -- the six volumes grow by the sum of the normals along d
     pub volume_moved : (s : ℕ) → six_volume after s ≡ six_volume M s +ℤ dot d (normals_in M (faces_of M s))

@@ -6,7 +6,7 @@ use Rattle.std.proofs.lemmas.List.Sorted.{IsPermutation-reverse}
 use Rattle.euler_operators.specs.declared.Point.{Point}
 use Rattle.euler_operators.specs.Vectors.{origin, moved, dot, cross}
 use Rattle.euler_operators.specs.Items.{count, tick, IsIn, SameItems, before, after}
-use Rattle.euler_operators.proofs.Lists.{count-append, tick_same, tick_other, split_at}
+use Rattle.euler_operators.proofs.Lists.{tick_same, tick_other, split_at}
 use Rattle.euler_operators.proofs.Std.{SameItems-from_permutation}
 use Rattle.euler_operators.specs.HalfEdge.{mate}
 use Rattle.euler_operators.specs.Model.{Model}
@@ -16,9 +16,10 @@ use Rattle.shapes.specs.Faces.{start, finish}
 use Rattle.shapes.specs.Measure.{area}
 use Rattle.shapes.proofs.Areas.{area-append}
 use Rattle.euler_operators.proofs.Integers.{dif, dif-parts, difs, neg-dif, same_dif}
-use Rattle.euler_operators.proofs.Vectors.{same_vector}
+use Rattle.euler_operators.proofs.Vectors.{same_vector, add_exchanged}
+use Rattle.euler_operators.proofs.Members.{IsIn_rest, count_taken}
+use Rattle.euler_operators.proofs.Rotations.{IsIn_head}
 use Rattle.solid_measure_laws.specs.Vectors.{negated}
-use Rattle.solid_measure_laws.proofs.Paths.{first_in, rest_in}
 
 -- ---- opposite vectors
 
@@ -59,11 +60,8 @@ own_opposite p e = same_vector p origin (none p.x (ap (λ v. v.x) e)) (none p.y 
   none : (a : ℤ) → a ≡ neg_ℤ a → a ≡ pos 0
   none a e = omega (arith, ints)
 
-exchange_part : (a b c : ℤ) → a +ℤ (b +ℤ c) ≡ b +ℤ (a +ℤ c)
-exchange_part a b c = omega (arith, ints)
-
 exchanged : (p q r : Point) → moved p (moved q r) ≡ moved q (moved p r)
-exchanged p q r = same_vector _ _ (exchange_part p.x q.x r.x) (exchange_part p.y q.y r.y) (exchange_part p.z q.z r.z)
+exchanged p q r = same_vector _ _ (add_exchanged p.x q.x r.x) (add_exchanged p.y q.y r.y) (add_exchanged p.z q.z r.z)
 
 module _ (M : Model) where
   -- ---- the same half-edges in any order
@@ -71,15 +69,12 @@ module _ (M : Model) where
   abbrev part : ℕ → Point
   part h = cross (start M h) (finish M h)
 
-  taken : (x y : ℕ) (xs ys : List ℕ) → SameItems (x ∷ xs) ys → ys ≡ before x ys ++ x ∷ after x ys → count y xs ≡ count y (before x ys ++ after x ys)
-  taken x y xs ys s e = omega (arith, s y, ap (count y) e, count-append y (before x ys) (x ∷ after x ys), count-append y (before x ys) (after x ys))
-
   pub area_same : (xs ys : List ℕ) → SameItems xs ys → area M xs ≡ area M ys
   area_same [] ys s = ap (area M) (sym (no_items ys (λ x. sym (s x))))
   area_same (x ∷ xs) ys s =
       let i : IsIn x ys = omega (arith, s x, tick_same x) in
       let e = split_at x ys i in
-      ap (moved (part x)) (area_same xs (before x ys ++ after x ys) (λ y. taken x y xs ys s e) ∙ area-append M (before x ys) (after x ys))
+      ap (moved (part x)) (area_same xs (before x ys ++ after x ys) (λ y. count_taken x y xs ys s e) ∙ area-append M (before x ys) (after x ys))
       ∙ exchanged (part x) (area M (before x ys)) (area M (after x ys))
       ∙ sym (ap (area M) e ∙ area-append M (before x ys) (x ∷ after x ys))
 
@@ -89,8 +84,8 @@ module _ (M : Model) where
   pub area_opposed : (g : ℕ → ℕ) (hs : List ℕ) → ((h : ℕ) → IsIn h hs → (start M (g h) ≡ finish M h) × (finish M (g h) ≡ start M h)) → area M (map g hs) ≡ negated (area M hs)
   area_opposed g [] e = refl
   area_opposed g (h ∷ hs) e =
-      let p = e h (first_in h hs) in
-      (λ i. moved (cross (p.0 i) (p.1 i)) (area_opposed g hs (λ x j. e x (rest_in x h hs j)) i))
+      let p = e h (IsIn_head h hs) in
+      (λ i. moved (cross (p.0 i) (p.1 i)) (area_opposed g hs (λ x j. e x (IsIn_rest x h hs j)) i))
       ∙ ap (λ v. moved v (negated (area M hs))) (cross_back (start M h) (finish M h)) ∙ moved_back (part h) (area M hs)
 
   pub area_mates : (hs : List ℕ) → area M (map mate hs) ≡ negated (area M hs)
@@ -110,7 +105,7 @@ module _ (M : Model) where
 -- half-edges renamed, where they start and end as they did
 pub area_renamed : (M N : Model) (g : ℕ → ℕ) (hs : List ℕ) → ((h : ℕ) → IsIn h hs → (start N (g h) ≡ start M h) × (finish N (g h) ≡ finish M h)) → area N (map g hs) ≡ area M hs
 area_renamed M N g [] e = refl
-area_renamed M N g (h ∷ hs) e = let p = e h (first_in h hs) in λ i. moved (cross (p.0 i) (p.1 i)) (area_renamed M N g hs (λ x j. e x (rest_in x h hs j)) i)
+area_renamed M N g (h ∷ hs) e = let p = e h (IsIn_head h hs) in λ i. moved (cross (p.0 i) (p.1 i)) (area_renamed M N g hs (λ x j. e x (IsIn_rest x h hs j)) i)
 
 -- ---- counting
 

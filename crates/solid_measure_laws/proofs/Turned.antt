@@ -1,13 +1,14 @@
 -- A model with its loops run the other way.
-use Rattle.std.proofs.Common.{◌≡◌, ℕ, Bool, cond, not, nat_eq, ◌&&◌, List, [], ◌∷◌, map, reverse, Option, Some, None, unwrap_or, refl, sym, ap, ◌∙◌}
+use Rattle.std.proofs.Common.{◌≡◌, ℕ, not, nat_eq, ◌&&◌, List, [], ◌∷◌, map, reverse, Option, Some, None, unwrap_or, refl, sym, ap, ◌∙◌}
 use Rattle.std.specs.Option.{option_map}
 use Rattle.euler_operators.specs.Vectors.{moved, cross}
 use Rattle.euler_operators.specs.Items.{SameItems}
 use Rattle.euler_operators.specs.Rings.{canonical}
 use Rattle.euler_operators.proofs.Rotations.{canonical_nil, count-canonical}
+use Rattle.euler_operators.proofs.Tables.{all_where-map}
 use Rattle.euler_operators.specs.HalfEdge.{mate}
 use Rattle.euler_operators.specs.Table as table
-use Rattle.euler_operators.specs.Table.{Table, all_in, map_entries, map_rows, get-map_rows}
+use Rattle.euler_operators.specs.Table.{get-map_rows}
 use Rattle.euler_operators.specs.Model.{Model, LoopContent, lone, cycle, LoopRow, no_loop, items_of, tail, content, outer, point_of, rings_of}
 use Rattle.shapes.specs.Faces.{start, loops_of, items_in, boundary}
 use Rattle.shapes.specs.Measure.{area, normal}
@@ -15,15 +16,6 @@ use Rattle.shapes.proofs.Areas.{area-append}
 use Rattle.solid_measure_laws.specs.Vectors.{negated}
 use Rattle.solid_measure_laws.specs.Models.{run_back, row_back, turned}
 use Rattle.solid_measure_laws.proofs.Sums.{area_same, area_mates, area_back, moved_back}
-
--- a search after a rewriting
-all_in-map : {X : Type 0} (f : ℕ → X → X) (p : ℕ → X → Bool) (es : List (ℕ × X)) → all_in p (map_entries f es) ≡ all_in (λ q x. p q (f q x)) es
-all_in-map f p [] = refl
-all_in-map f p (e ∷ es) = ap (λ ns. cond (p e.0 (f e.0 e.1)) (e.0 ∷ ns) ns) (all_in-map f p es)
-
-all_where-map : {X : Type 0} (f : ℕ → X → X) (p : ℕ → X → Bool) (t : Table X) → table.all_where p (map_rows f t) ≡ table.all_where (λ q x. p q (f q x)) t
-unfolding table.all_where map_rows
-all_where-map f p t = all_in-map f p t.rows
 
 module _ (M : Model) where
   start_kept : (h : ℕ) → start (turned M) h ≡ start M h

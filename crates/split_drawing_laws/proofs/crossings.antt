@@ -1,4 +1,3 @@
-pub mod Levels
 pub mod Doubled
 pub mod OneCut
 pub mod Steps

@@ -12,7 +12,8 @@ use Rattle.euler_operators.specs.Table as table
 use Rattle.euler_operators.specs.Model.{Model, tail, point_of, no_point}
 use Rattle.euler_operators.specs.Sound.{Sound, Has, HasHalf}
 use Rattle.euler_operators.proofs.Halves.{mate-mate}
-use Rattle.euler_laws.proofs.shared.Fans.{half_mate}
+use Rattle.euler_operators.proofs.Tables.{in_use_within}
+use Rattle.euler_operators.proofs.Models.{mate_there}
 use Rattle.shapes.specs.Faces.{start, finish}
 use Rattle.shapes.specs.Fresh.{Taken, numbers_after}
 use Rattle.shapes.specs.Measure.{area}
@@ -21,7 +22,6 @@ use Rattle.shapes.specs.split.Opening.{Caps, Opening, opened_along, next_opened,
 use Rattle.split_opening_laws.specs.cycles.SectionCycles.{IsSectionCycle, AreSectionCycles}
 use Rattle.split_opening_laws.specs.sections.InTurn.{AreFree, CanBeOpenedInTurn}
 use Rattle.split_opening_laws.proofs.sections.Pairs.{in_numbers}
-use Rattle.split_opening_laws.proofs.sections.Rims.{at_most}
 use Rattle.split_opening_laws.proofs.sections.OpenedRows.{vertices_are}
 use Rattle.split_opening_laws.proofs.sections.StillFree.{copied_other}
 use Rattle.split_opening_laws.proofs.sections.CyclesStay.{start_same, end_same, starts_elsewhere}
@@ -40,7 +40,7 @@ module _ (M : Model) (above : List ℕ) (s : ℕ) (c : Taken) (bs : List ℕ) (s
   point_still v there = ap (λ o. unwrap_or o no_point) (ap (λ t. table.get t v) (vertices_are M above s c bs) ∙ copied_other M M.vertices (map (tail M) bs) (numbers_after c.vertex (length bs)) v none) where
     none : count v (numbers_after c.vertex (length bs)) ≡ 0
     none = elim (IsIn_or_not v (numbers_after c.vertex (length bs))) [
-      | inl i ↦ absurd (omega (arith, (in_numbers c.vertex (length bs) v i).0, at_most M.vertices c.vertex free.vertices v there))
+      | inl i ↦ absurd (omega (arith, (in_numbers c.vertex (length bs) v i).0, in_use_within M.vertices c.vertex free.vertices v there))
       | inr z ↦ z
     ]
 
@@ -53,7 +53,7 @@ module _ (M : Model) (above : List ℕ) (s : ℕ) (c : Taken) (bs : List ℕ) (s
     begins_still d i = start_still d (w.there d i) (start_same M above s c bs sound free first ds w elsewhere d i)
 
     ends_still : (d : ℕ) → IsIn d ds → start N (mate d) ≡ start M (mate d)
-    ends_still d i = start_still (mate d) (half_mate M sound d (w.there d i)) (end_same M above s c bs sound free first ds w elsewhere d i)
+    ends_still d i = start_still (mate d) (mate_there M d (w.there d i)) (end_same M above s c bs sound free first ds w elsewhere d i)
 
     area_still : (hs : List ℕ) → ((d : ℕ) → IsIn d hs → IsIn d ds) → area N (map mate hs) ≡ area M (map mate hs)
     area_still [] within = refl
@@ -76,7 +76,7 @@ next_holes : (above : List ℕ) (s : ℕ) (p : Plane) (o : Opening) (bs : List �
 unfolding next_opened
 next_holes above s p o bs cs w = holes_still o.model above s o.taken bs w.sound w.free w.cycles.cycles.0 p cs w.cycles.cycles.1 (starts_elsewhere o.model above s bs cs w.cycles)
 
-next_flags : (above : List ℕ) (s : ℕ) (p : Plane) (o : Opening) (bs : List ℕ) → map (λ k. k.hole) (next_opened p above s o bs).caps ≡ map (λ k. k.hole) o.caps ++ is_hole o.model p bs ∷ []
+pub next_flags : (above : List ℕ) (s : ℕ) (p : Plane) (o : Opening) (bs : List ℕ) → map (λ k. k.hole) (next_opened p above s o bs).caps ≡ map (λ k. k.hole) o.caps ++ is_hole o.model p bs ∷ []
 unfolding next_opened
 next_flags above s p o bs = map-append (λ k. k.hole) o.caps (record { lower = o.taken.face + 1; upper = o.taken.face + length bs + 1; hole = is_hole o.model p bs } ∷ [])
 
@@ -104,7 +104,7 @@ filter_trues f (x ∷ xs) = go (f x) (filter_trues f xs) where
   go true e = ap suc e
   go false e = e
 
-map_length : {X : Type 0} (f : X → Bool) (xs : List X) → length (map f xs) ≡ length xs
+pub map_length : {X : Type 0} (f : X → Bool) (xs : List X) → length (map f xs) ≡ length xs
 map_length f [] = refl
 map_length f (x ∷ xs) = ap suc (map_length f xs)
 

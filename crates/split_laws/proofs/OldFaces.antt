@@ -4,6 +4,7 @@ use Rattle.std.proofs.lemmas.Grind.{flat_map-append}
 use Rattle.euler_operators.specs.declared.Plane.{Plane}
 use Rattle.euler_operators.specs.Items.{tick, count}
 use Rattle.euler_operators.proofs.Lists.{count-append, tick_other}
+use Rattle.euler_operators.proofs.Tables.{in_use_within}
 use Rattle.euler_operators.specs.Table as table
 use Rattle.euler_operators.specs.Model.{Model}
 use Rattle.euler_operators.specs.Sound.{Has}
@@ -12,7 +13,7 @@ use Rattle.shapes.specs.split.Section.{is_hole}
 use Rattle.shapes.specs.split.Opening.{Caps, Opening, opened_along, next_opened, all_opened}
 use Rattle.split_opening_laws.specs.sections.Capped.{cap_faces}
 use Rattle.split_opening_laws.specs.sections.InTurn.{CanBeOpenedInTurn}
-use Rattle.split_opening_laws.proofs.sections.Rims.{at_most, other_number}
+use Rattle.split_opening_laws.proofs.sections.Rims.{other_number}
 use Rattle.split_opening_laws.proofs.sections.OpenedRows.{face_still}
 use Rattle.split_opening_laws.proofs.sections.InTurn.{others_on}
 use Rattle.split_laws.proofs.Openings.{openings_sound}
@@ -27,7 +28,7 @@ unfolding next_opened
 old_next M above s p o bs cs w f there a =
     let c : Taken = o.taken in
     let here : Has o.model.faces f = ap is_some a.row ∙ there in
-    let low = at_most o.model.faces c.face w.free.faces f here in
+    let low = in_use_within o.model.faces c.face w.free.faces f here in
     let k : Caps = record { lower = c.face + 1; upper = c.face + length bs + 1; hole = is_hole o.model p bs } in
     record {
       row = face_still o.model above s c bs w.sound w.free f here ∙ a.row;
@@ -43,7 +44,7 @@ pub all_old : (M : Model) (above : List ℕ) (s : ℕ) (p : Plane) (o : Opening)
 all_old M above s p o [] w f there a = a
 all_old M above s p o (bs ∷ cs) w f there a = all_old M above s p (next_opened p above s o bs) cs (others_on above s p o bs cs w (openings_sound above s p o bs cs w)) f there (old_next M above s p o bs cs w f there a)
 
-next_solids : (above : List ℕ) (s : ℕ) (p : Plane) (o : Opening) (bs : List ℕ) → (next_opened p above s o bs).model.solids ≡ o.model.solids
+pub next_solids : (above : List ℕ) (s : ℕ) (p : Plane) (o : Opening) (bs : List ℕ) → (next_opened p above s o bs).model.solids ≡ o.model.solids
 unfolding next_opened opened_along
 next_solids above s p o bs = refl
 

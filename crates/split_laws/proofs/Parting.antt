@@ -1,17 +1,16 @@
 -- The upper faces that are left parted from the solid.
-use Rattle.std.proofs.Common.{◌≡◌, ℕ, Bool, true, false, cond, List, [], ◌∷◌, Option, Some, None, is_some, IsTrue, refl, sym, ap, ◌∙◌, subst, inl, inr, true≢false}
+use Rattle.std.proofs.Common.{◌≡◌, ℕ, Bool, true, false, cond, List, [], ◌∷◌, None, is_some, IsTrue, refl, sym, ap, ◌∙◌, subst, inl, inr, true≢false}
 use Rattle.std.specs.Prelude.{filter}
-use Rattle.std.specs.Option.{option_map}
 use Rattle.euler_operators.specs.HalfEdge.{mate}
 use Rattle.euler_operators.specs.Table as table
-use Rattle.euler_operators.specs.Table.{Table, same_table, get-map_rows}
 use Rattle.euler_operators.specs.Model.{Model, loop_of, solid_of, is_number}
 use Rattle.euler_operators.specs.Sound.{Has, HasHalf}
-use Rattle.euler_operators.proofs.Models.{row_of}
+use Rattle.euler_operators.proofs.Models.{row_of, mate_there}
+use Rattle.euler_operators.proofs.Tests.{same_truth}
+use Rattle.euler_operators.proofs.Tables.{map_alike}
 use Rattle.euler_operators.specs.declared.Op.TheVariants.{Part}
 use Rattle.euler_operators.specs.Conditions.{face_at, lists, strictly_rises}
 use Rattle.euler_operators.specs.Effect.{effect, part, faces_to_solid}
-use Rattle.euler_laws.proofs.shared.Fans.{half_mate}
 use Rattle.euler_laws.proofs.shared.Listed.{first_listed, rest_listed, listed_cases}
 use Rattle.euler_laws.proofs.merge.Part.{PartGoes, part_accepted}
 use Rattle.split_drawing_laws.proofs.drawings.Runs.{Leads, leads_one}
@@ -47,28 +46,16 @@ lists_filter p (g ∷ fs) f t l = go (p g) refl (lists_filter p fs f t) where
     | inr k ↦ r k
   ]
 
-same_truth : (a b : Bool) → (a ≡ true → b ≡ true) → (b ≡ true → a ≡ true) → a ≡ b
-same_truth true b f g = sym (f refl)
-same_truth false false f g = refl
-same_truth false true f g = g refl
-
 -- of what is there, all that is listed is still
 pub still_lists : (N : Model) (us : List ℕ) (f : ℕ) → Has N.faces f → lists (still_there N us) f ≡ lists us f
 still_lists N us f t = same_truth (lists (still_there N us) f) (lists us f) (λ l. (filter_lists (table.has N.faces) us f l).1) (λ l. lists_filter (table.has N.faces) us f t l)
-
--- rows that are there alone tell what a rewriting makes of a table
-maps_same : {X : Type 0} (g h : ℕ → X → X) (t : Table X) → ((q : ℕ) (x : X) → table.get t q ≡ Some x → g q x ≡ h q x) → table.map_rows g t ≡ table.map_rows h t
-maps_same {X} g h t e = same_table (table.map_rows g t) (table.map_rows h t) (λ q. get-map_rows g t q ∙ go q (table.get t q) refl ∙ sym (get-map_rows h t q)) where
-  go : (q : ℕ) (o : Option X) → table.get t q ≡ o → option_map (g q) o ≡ option_map (h q) o
-  go q None at = refl
-  go q (Some x) at = ap Some (e q x at)
 
 -- listing also faces that are gone changes nothing
 part_same : (N : Model) (s t : ℕ) (us : List ℕ) → part N s t (still_there N us) ≡ part N s t us
 unfolding part
 part_same N s t us = λ i. record {
   solids = table.put N.solids t tt;
-  faces = maps_same (faces_to_solid (λ f _. lists (still_there N us) f) t) (faces_to_solid (λ f _. lists us f) t) N.faces
+  faces = map_alike (faces_to_solid (λ f _. lists (still_there N us) f) t) (faces_to_solid (λ f _. lists us f) t) N.faces
       (λ q x at. ap (λ b. cond b (record x { solid = t }) x) (still_lists N us q (ap is_some at))) i;
   loops = N.loops;
   edges = N.edges;
@@ -105,7 +92,7 @@ module _ (N : Model) (s t : ℕ) (us : List ℕ) (w : CanPart N s us) (both : Bo
     listed = (both.upper, still_lists N us both.upper both.upper_there ∙ both.upper_listed);
     rises = filter_rises (table.has N.faces) us rises;
     left = (both.lower, both.lower_there, both.lower_of, still_lists N us both.lower both.lower_there ∙ both.lower_unlisted);
-    whole = λ x h. still_lists N us (face_at N x) (face_there x h) ∙ w.whole x h ∙ sym (still_lists N us (face_at N (mate x)) (face_there (mate x) (half_mate N w.sound x h)));
+    whole = λ x h. still_lists N us (face_at N x) (face_there x h) ∙ w.whole x h ∙ sym (still_lists N us (face_at N (mate x)) (face_there (mate x) (mate_there N x h)));
   }
 
   pub part_leads : Leads N (part N s t us) (Part s t (still_there N us) ∷ [])

@@ -1,6 +1,6 @@
 mod Drawing
-mod RaisedItems
+pub mod RaisedItems
 mod RaisedLoops
-mod BlockSteps
+pub mod BlockSteps
 mod LoneLoops
 mod Tallies

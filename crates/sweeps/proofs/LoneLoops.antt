@@ -1,23 +1,22 @@
 -- The least lone loop of a face is its outer loop or its least lone ring.
-use Rattle.std.specs.Prelude.{cond, min, unwrap_or}
-use Rattle.std.proofs.Common.{◌≡◌, ◌≢◌, ℕ, ◌<◌, ◌≤◌, ◌⊎◌, Bool, true, false, ◌&&◌, ◌||◌, nat_eq, [], ◌∷◌, Some, None, is_some, refl, sym, ap, subst, ◌∙◌, arith, true≢false, inl, inr}
+use Rattle.std.specs.Prelude.{cond, min}
+use Rattle.std.proofs.Common.{◌≡◌, ◌≢◌, ℕ, ◌≤◌, ◌⊎◌, Bool, true, false, ◌&&◌, ◌||◌, nat_eq, [], ◌∷◌, Some, None, is_some, refl, sym, ap, subst, ◌∙◌, arith, true≢false, inl, inr}
 use Rattle.std.proofs.lemmas.Bool.Decides.{eqb_tells}
+use Rattle.std.proofs.lemmas.Bool.{and_parts, and_from, false_from_ne_true, eq-eqb}
 use Rattle.euler_operators.specs.Table as table
-use Rattle.euler_operators.specs.Model.{Model, LoopRow, no_loop, content, face_of, outer, is_ring_of}
+use Rattle.euler_operators.specs.Model.{Model, LoopRow, content, face_of, outer, is_ring_of}
 use Rattle.euler_operators.specs.Sound.{Sound, Has}
-use Rattle.euler_operators.proofs.Models.{face_row}
+use Rattle.euler_operators.proofs.Models.{face_row, content_row}
 use Rattle.euler_operators.proofs.Tables.{first_where_zero}
+use Rattle.euler_operators.proofs.Tests.{at_most_or_above}
 use Rattle.euler_conditions.specs.Store.{IsNextRing}
 use Rattle.euler_operators.specs.Conditions.{is_lone, lists}
-use Rattle.euler_laws.proofs.shared.Goes.{equals, no_zero}
+use Rattle.euler_laws.proofs.shared.Goes.{no_zero}
 use Rattle.euler_laws.proofs.shared.Rows.{loop_row}
 use Rattle.euler_laws.proofs.shared.FaceRings.{ring_there, outer_or_ring}
 use Rattle.euler_laws.proofs.shared.FirstWhere.{first_where_least}
 use Rattle.shapes.specs.Faces.{least_lone}
 use Rattle.sweeps.specs.Corners.{IsLoneRing}
-
-below_or : (a b : ℕ) → (a ≤ b) ⊎ (b < a)
-below_or a b = grind arith
 
 -- no ring of the face up to a number is lone
 abbrev pub NoneLone : Model → ℕ → ℕ → Type 0
@@ -30,7 +29,7 @@ module _ (M : Model) (f last : ℕ) (none : NoneLone M f last) where
   pub none_more : (ring : ℕ) → IsNextRing M f last (Some ring) → is_lone (content M ring) ≡ false → NoneLone M f ring
   none_more ring next bound l le is = elim (eqb_tells l ring) [
     | inl e ↦ ap (λ k. is_lone (content M k)) e.1 ∙ bound
-    | inr e ↦ elim (below_or l last) [
+    | inr e ↦ elim (at_most_or_above l last) [
       | inl s ↦ none l s is
       | inr s ↦ absurd (true≢false (sym is ∙ next.2 l s (let ne : l ≢ ring = e.1 in omega (arith, le))))
     ]
@@ -41,9 +40,9 @@ module _ (M : Model) (f last : ℕ) (none : NoneLone M f last) where
     one = λ ne. (next.1, found);
     least = λ l is alone. (
       (λ z. no_zero ring z (sound.loops_fit ring (ring_there M f ring next.1).0)),
-      elim (below_or ring l) [
+      elim (at_most_or_above ring l) [
         | inl s ↦ s
-        | inr s ↦ absurd (elim (below_or l last) [
+        | inr s ↦ absurd (elim (at_most_or_above l last) [
           | inl t ↦ true≢false (sym alone ∙ none l t is)
           | inr t ↦ true≢false (sym is ∙ next.2 l t s)
         ])
@@ -54,7 +53,7 @@ module _ (M : Model) (f last : ℕ) (none : NoneLone M f last) where
   pub none_found : IsNextRing M f last None → IsLoneRing M f 0
   none_found end = record {
     one = λ ne. absurd (ne refl);
-    least = λ l is alone. absurd (elim (below_or l last) [
+    least = λ l is alone. absurd (elim (at_most_or_above l last) [
       | inl t ↦ true≢false (sym alone ∙ none l t is)
       | inr t ↦ true≢false (sym is ∙ end l t)
     ]);
@@ -65,13 +64,6 @@ module _ (M : Model) (f last : ℕ) (none : NoneLone M f last) where
 abbrev IsLoneOf : ℕ → ℕ → LoopRow → Bool
 IsLoneOf f l row = is_lone row.content && lists (f ∷ []) row.face
 
-both : (a b : Bool) → (a && b) ≡ true → (a ≡ true) × (b ≡ true)
-both true b e = (refl, e)
-both false b e = absurd (true≢false (sym e))
-
-joins : (a b : Bool) → a ≡ true → b ≡ true → (a && b) ≡ true
-joins a b p q = ap (λ c. c && b) p ∙ q
-
 listed_one : (f k : ℕ) → lists (f ∷ []) k ≡ true → k ≡ f
 listed_one f k e = elim (eqb_tells f k) [
   | inl p ↦ sym p.1
@@ -79,17 +71,13 @@ listed_one f k e = elim (eqb_tells f k) [
 ]
 
 lists_one : (f k : ℕ) → k ≡ f → lists (f ∷ []) k ≡ true
-lists_one f k e = ap (λ b. b || false) (equals f k (sym e))
-
-content_row : (M : Model) (q : ℕ) (row : LoopRow) → table.get M.loops q ≡ Some row → content M q ≡ row.content
-unfolding content
-content_row M q row at = ap (λ o. (unwrap_or o no_loop).content) at
+lists_one f k e = ap (λ b. b || false) (eq-eqb f k (sym e))
 
 module _ (M : Model) (sound : Sound M) (f : ℕ) (there : Has M.faces f) (ring : ℕ) (is : IsLoneRing M f ring) where
   -- a lone loop of the face is its outer loop or no less than the least lone ring
   lone_cases : (q : ℕ) (row : LoopRow) → table.get M.loops q ≡ Some row → IsLoneOf f q row ≡ true → ((outer M f ≡ q) × (is_lone (content M q) ≡ true)) ⊎ ((ring ≢ 0) × (ring ≤ q))
   lone_cases q row at passes =
-      let p = both (is_lone row.content) (lists (f ∷ []) row.face) passes in
+      let p = and_parts (is_lone row.content) (lists (f ∷ []) row.face) passes in
       let alone : is_lone (content M q) ≡ true = ap is_lone (content_row M q row at) ∙ p.0 in
       elim (outer_or_ring M f q (ap is_some at) (face_row M q row at ∙ listed_one f row.face p.1)) [
         | inl o ↦ inl (o, alone)
@@ -97,7 +85,7 @@ module _ (M : Model) (sound : Sound M) (f : ℕ) (there : Has M.faces f) (ring :
       ]
 
   passes_at : (l : ℕ) → Has M.loops l → face_of M l ≡ f → is_lone (content M l) ≡ true → IsLoneOf f l (record { face = face_of M l; content = content M l }) ≡ true
-  passes_at l t of alone = joins (is_lone (content M l)) (lists (f ∷ []) (face_of M l)) alone (lists_one f (face_of M l) of)
+  passes_at l t of alone = and_from (is_lone (content M l)) (lists (f ∷ []) (face_of M l)) alone (lists_one f (face_of M l) of)
 
   outer_least : is_lone (content M (outer M f)) ≡ true → (ring ≢ 0 → outer M f ≤ ring) → outer M f ≡ least_lone M (f ∷ [])
   outer_least alone less =
@@ -109,7 +97,7 @@ module _ (M : Model) (sound : Sound M) (f : ℕ) (there : Has M.faces f) (ring :
 
   ring_least : (is_lone (content M (outer M f)) ≡ true → (ring ≢ 0) × (ring ≤ outer M f)) → ring ≡ least_lone M (f ∷ [])
   ring_least less = elim (eqb_tells ring 0) [
-    | inl z ↦ z.1 ∙ sym (first_where_zero (IsLoneOf f) M.loops (λ q row at. fails (IsLoneOf f q row) (λ passes. (after q row at passes).0 z.1)))
+    | inl z ↦ z.1 ∙ sym (first_where_zero (IsLoneOf f) M.loops (λ q row at. false_from_ne_true (IsLoneOf f q row) (λ passes. (after q row at passes).0 z.1)))
     | inr nz ↦
         let r = is.one nz.1 in
         let t = ring_there M f ring r.0 in
@@ -121,17 +109,13 @@ module _ (M : Model) (sound : Sound M) (f : ℕ) (there : Has M.faces f) (ring :
       | inr e ↦ e
     ]
 
-    fails : (b : Bool) → (b ≡ true → ⊥) → b ≡ false
-    fails true never = absurd (never refl)
-    fails false never = refl
-
   pub outer_not_lone : is_lone (content M (outer M f)) ≡ false → ring ≡ least_lone M (f ∷ [])
   outer_not_lone bound = ring_least (λ alone. absurd (true≢false (sym alone ∙ bound)))
 
   pub outer_lone : (n : ℕ) → is_lone (content M (outer M f)) ≡ true → n ≡ cond (nat_eq ring 0) (outer M f) (min (outer M f) ring) → n ≡ least_lone M (f ∷ [])
   outer_lone n alone e = elim (eqb_tells ring 0) [
     | inl z ↦ e ∙ ap (λ b. cond b (outer M f) (min (outer M f) ring)) z.0 ∙ outer_least alone (λ nz. absurd (nz z.1))
-    | inr nz ↦ e ∙ ap (λ b. cond b (outer M f) (min (outer M f) ring)) nz.0 ∙ elim (below_or (outer M f) ring) [
+    | inr nz ↦ e ∙ ap (λ b. cond b (outer M f) (min (outer M f) ring)) nz.0 ∙ elim (at_most_or_above (outer M f) ring) [
       | inl le ↦ let s : min (outer M f) ring ≡ outer M f = omega (arith, le) in s ∙ outer_least alone (λ w. le)
       | inr lt ↦ let s : min (outer M f) ring ≡ ring = omega (arith, lt) in s ∙ ring_least (λ w. (nz.1, omega (arith, lt)))
     ]

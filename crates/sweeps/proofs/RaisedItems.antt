@@ -1,5 +1,5 @@
 -- The items of a loop that is swept, as the code holds them, and the steps that it takes with them.
-use Rattle.std.proofs.Common.{◌≡◌, ℕ, suc, zero, ◌+◌, ◌-◌, ◌<◌, ◌≤◌, List, [], ◌∷◌, map, length, None, sym, ap, ◌∙◌, subst, arith}
+use Rattle.std.proofs.Common.{◌≡◌, ℕ, suc, zero, ◌+◌, ◌-◌, ◌<◌, ◌≤◌, List, [], ◌∷◌, map, length, None, sym, ap, ◌∙◌, subst, arith, add-one}
 use Rattle.std.specs.Prelude.{get_or}
 use Rattle.std.proofs.lemmas.List.{get_or-map}
 use Rattle.euler_operators.specs.declared.Point.{Point}
@@ -11,10 +11,8 @@ use Rattle.euler_operators.specs.declared.HalfEdge.{HalfEdge}
 use Rattle.euler_operators.specs.declared.Corner.TheVariants.{At}
 use Rattle.euler_operators.specs.HalfEdge.{code, half, plus}
 use Rattle.euler_operators.proofs.Halves.{half-code}
-use Rattle.euler_operators.specs.Model.{Model, LoopContent, lone, cycle, items_of}
-use Rattle.euler_operators.specs.declared.Content.TheVariants.{Ring}
+use Rattle.euler_operators.specs.Model.{Model}
 use Rattle.euler_operators.specs.Sound.{HasHalf}
-use Rattle.euler_conditions.specs.Store.{Tells}
 use Rattle.euler_operators.specs.declared.Op.TheVariants.{Mev}
 use Rattle.euler_operators.specs.Conditions.{first_false}
 use Rattle.euler_operators.specs.Effect.{effect}
@@ -23,14 +21,10 @@ use Rattle.shapes.specs.Faces.{start}
 use Rattle.shapes.specs.Fresh.{Taken}
 use Rattle.shapes.specs.Prism.{riser}
 use Rattle.sweeps_laws.specs.prism.SweepOps.{raise_item, close, close_last, rounds, loop_ops}
-use Rattle.sweeps_laws.specs.prism.Ready.{Ready}
 use Rattle.sweeps_laws.proofs.prism.Sides.{half_there, two_items}
-use Rattle.sweeps_laws.proofs.prism.Turns.{first_accepted, turn_half, turn_range, raise_accepted, close_accepted, turn_is, last_accepted, last_is}
-
--- what an arena answers of a loop with half-edges stands in it
-pub ring_in : (t : LoopContent) (h : HalfEdge) → Tells t (Ring h) → IsIn (code h) (items_of t)
-ring_in (lone v) h s = absurd s
-ring_in (cycle hs) h s = s
+use Rattle.sweeps_laws.proofs.prism.Turns.{turn_half, turn_range, raise_accepted, close_accepted, turn_is, last_accepted, last_is}
+use Rattle.sweeps_laws.proofs.prism.Loops.{first_accepted}
+use Rattle.sweeps_laws.specs.prism.Ready.{Ready}
 
 -- the operator that raises an item
 pub same_raise : (M : Model) (c : Taken) (d : Point) (item : HalfEdge) (i : ℕ) (edge : HalfEdge) (p : Point) → edge ≡ half (plus (riser c.edge i)) → p ≡ moved (start M (code item)) d
@@ -69,14 +63,11 @@ module _ (M : Model) (c : Taken) (f l : ℕ) (d : Point) (hs : List ℕ) (w : Re
 
   -- one more
   module _ (i : ℕ) (X : Model) (x : X ≡ effects M (rounds M c d hs i)) (lt : i + 1 < length hs) (h : HalfEdge) (e : h ≡ get_or items (i + 1) h) where
-    next : i + 1 ≡ suc i
-    next = omega arith
-
     below : suc i < length hs
     below = omega (arith, lt)
 
     is_next : code h ≡ get_or hs (suc i) 0
-    is_next = item_is (i + 1) h lt e ∙ ap (λ k. get_or hs k 0) next
+    is_next = item_is (i + 1) h lt e ∙ ap (λ k. get_or hs k 0) (add-one i)
 
     pub there_next : HasHalf X (code h)
     there_next = subst (λ N. HasHalf N (code h)) (sym x) (turn_half M c f l d hs w i (omega (arith, lt)) (code h) (item_in (i + 1) h lt e))
@@ -85,7 +76,7 @@ module _ (M : Model) (c : Taken) (f l : ℕ) (d : Point) (hs : List ℕ) (w : Re
     range_next = subst (λ N. IsInRange (moved (start N (code h)) d)) (sym x) (turn_range M c f l d hs w i (omega (arith, lt)) (code h) (item_in (i + 1) h lt e))
 
     op_is : raise_item X c d (code h) (i + 1) ≡ raise_item (effects M (rounds M c d hs i)) c d (get_or hs (suc i) 0) (suc i)
-    op_is = λ j. raise_item (x j) c d (is_next j) (next j)
+    op_is = λ j. raise_item (x j) c d (is_next j) (add-one i j)
 
     pub accepted_next : first_false X (raise_item X c d (code h) (i + 1)) ≡ None
     accepted_next = (λ j. first_false (x j) (op_is j)) ∙ raise_accepted M c f l d hs w i below
@@ -98,7 +89,7 @@ module _ (M : Model) (c : Taken) (f l : ℕ) (d : Point) (hs : List ℕ) (w : Re
       closes_next = ap (λ N. first_false N (close c (length hs) i)) made ∙ close_accepted M c f l d hs w i below
 
       pub after_next : effect Y (close c (length hs) i) ≡ effects M (rounds M c d hs (i + 1))
-      after_next = ap (λ N. effect N (close c (length hs) i)) made ∙ turn_is M c f l d hs w i below ∙ ap (λ k. effects M (rounds M c d hs k)) (sym next)
+      after_next = ap (λ N. effect N (close c (length hs) i)) made ∙ turn_is M c f l d hs w i below ∙ ap (λ k. effects M (rounds M c d hs k)) (sym (add-one i))
 
   -- the last side
   module _ (i : ℕ) (X : Model) (x : X ≡ effects M (rounds M c d hs i)) (inside : i < length hs) (ends : length hs ≤ i + 1) where

@@ -1,20 +1,14 @@
 -- Areas of lists of half-edges, and volumes of lists of faces.
-use Rattle.std.proofs.Common.{◌≡◌, ℕ, ℤ, ◌+ℤ◌, List, [], ◌∷◌, ◌++◌, length, get_or, refl, sym, ap, ◌∙◌, arith}
+use Rattle.std.proofs.Common.{◌≡◌, ℕ, ℤ, ◌+ℤ◌, List, [], ◌∷◌, ◌++◌, length, get_or, refl, sym, ap, ◌∙◌}
 use Rattle.euler_operators.specs.Vectors.{moved, dot, cross}
 use Rattle.euler_operators.specs.Items.{IsIn}
-use Rattle.euler_operators.proofs.Lists.{tick_same}
 use Rattle.euler_operators.specs.Model.{Model}
 use Rattle.shapes.specs.Faces.{start, finish}
 use Rattle.shapes.specs.Measure.{area, normal, anchor, volume_in}
 use Rattle.euler_operators.proofs.Vectors.{moved_none, none_moved, moved_twice, add_none, none_add, add_assoc}
 use Rattle.euler_operators.proofs.Sweeps.{sum_to, sum_first}
-
--- the first of a list stands in it, and what stands in the rest does
-pub first_in : (x : ℕ) (xs : List ℕ) → IsIn x (x ∷ xs)
-first_in x xs = omega (arith, tick_same x)
-
-pub rest_in : (x y : ℕ) (ys : List ℕ) → IsIn x ys → IsIn x (y ∷ ys)
-rest_in x y ys i = omega arith
+use Rattle.euler_operators.proofs.Members.{IsIn_rest}
+use Rattle.euler_operators.proofs.Rotations.{IsIn_head}
 
 module _ (M : Model) where
   pub area_append : (xs ys : List ℕ) → area M (xs ++ ys) ≡ moved (area M xs) (area M ys)
@@ -41,4 +35,4 @@ module _ (M N : Model) where
   -- half-edges that start and end where they did have the area that they had
   pub same_area : (hs : List ℕ) → ((h : ℕ) → IsIn h hs → (start N h ≡ start M h) × (finish N h ≡ finish M h)) → area N hs ≡ area M hs
   same_area [] e = refl
-  same_area (h ∷ hs) e = let p = e h (first_in h hs) in λ i. moved (cross (p.0 i) (p.1 i)) (same_area hs (λ g s. e g (rest_in g h hs s)) i)
+  same_area (h ∷ hs) e = let p = e h (IsIn_head h hs) in λ i. moved (cross (p.0 i) (p.1 i)) (same_area hs (λ g s. e g (IsIn_rest g h hs s)) i)

@@ -1,5 +1,5 @@
 -- A lamina of four points: its two faces and their volumes.
-use Rattle.std.proofs.Common.{◌≡◌, ◌≢◌, ℕ, ◌+◌, ◌≤◌, pos, ◌+ℤ◌, Bool, true, false, cond, not, nat_eq, ◌&&◌, ◌||◌, List, [], ◌∷◌, ◌++◌, map, reverse, Some, is_some, unwrap_or, refl, sym, ap, subst, ◌∙◌, arith, ◌⊎◌, inl, inr}
+use Rattle.std.proofs.Common.{◌≡◌, ◌≢◌, ℕ, ◌+◌, ◌≤◌, pos, ◌+ℤ◌, true, cond, not, nat_eq, ◌&&◌, List, [], ◌∷◌, ◌++◌, map, reverse, Some, is_some, sym, ap, subst, ◌∙◌, arith, ◌⊎◌, inl, inr}
 use Rattle.std.proofs.lemmas.Bool.Decides.{nat_tests}
 use Rattle.euler_operators.specs.declared.Point.{Point}
 use Rattle.euler_operators.specs.Vectors.{origin, moved, dot, cross}
@@ -7,41 +7,28 @@ use Rattle.euler_operators.specs.Items.{IsIn, IsApart}
 use Rattle.euler_operators.specs.Rings.{canonical}
 use Rattle.euler_operators.specs.HalfEdge.{plus, minus}
 use Rattle.euler_operators.specs.Table as table
-use Rattle.euler_operators.specs.Model.{Model, cycle, FaceRow, LoopRow, EdgeRow, no_face, no_point, items_of, content, outer, solid_of, point_of, rings_of, faces_of}
+use Rattle.euler_operators.specs.Model.{Model, cycle, FaceRow, LoopRow, EdgeRow, items_of, content, outer, solid_of, point_of, rings_of, faces_of}
 use Rattle.euler_operators.specs.Sound.{Has}
-use Rattle.euler_operators.proofs.Tables.{all_where_none, first_where_zero}
-use Rattle.euler_operators.proofs.Models.{content_row, face_row}
+use Rattle.euler_operators.proofs.Tables.{all_where_none, first_where_zero, get-put_here, get-put_other}
+use Rattle.euler_operators.proofs.Models.{content_row, face_row, solid_row, outer_row, point_row, plus_tail_row, minus_tail_row}
 use Rattle.euler_operators.specs.Conditions.{is_lone, lists}
 use Rattle.shapes.specs.Faces.{start, finish, least_lone, items_in}
 use Rattle.shapes.specs.Fresh.{Taken, numbers_after}
 use Rattle.shapes.specs.Lamina.{with_path, with_points, lamina_at}
 use Rattle.shapes.specs.Measure.{area, normal, anchor, first_vertex, volume_in, six_volume}
-use Rattle.shapes.proofs.fresh.Rows.{get-put_here, get-put_other, get-put_cases, all_where-put_last, greatest-put_last}
+use Rattle.shapes.proofs.fresh.Rows.{get-put_cases, all_where-put_last, greatest-put_last}
 use Rattle.sweeps_laws.proofs.lamina.Lists.{plus_halves, minus_halves, back_apart, first_moved, canonical_first}
+use Rattle.sweeps_laws.proofs.lamina.Blocks.{no_lone}
 use Rattle.euler_operators.proofs.Rectangles.{ring_area}
-use Rattle.sweeps_laws.proofs.swept.Numbers.{mate_plus, mate_minus, tail_plus, tail_minus}
+use Rattle.euler_operators.proofs.Tests.{none_but}
+use Rattle.euler_operators.proofs.Halves.{mate_plus, mate_minus}
 use Rattle.sweeps_laws.proofs.swept.Kept.{in_cases}
-use Rattle.sweeps_laws.proofs.swept.Lifted.{Bounded, outer_row}
+use Rattle.sweeps_laws.proofs.swept.Lifted.{Bounded}
 use Rattle.sweeps_laws.proofs.Loops.{normal_is}
 use Rattle.sweeps_laws.proofs.Volumes.{six_volume_is}
 
 apart_by : (a i j : ℕ) → i ≢ j → a + i ≢ a + j
 apart_by a i j ne e = ne (omega arith)
-
-found_point : (N : Model) (v : ℕ) (p : Point) → table.get N.vertices v ≡ Some p → point_of N v ≡ p
-unfolding point_of
-found_point N v p e = ap (λ o. unwrap_or o no_point) e
-
-pub found_solid : (N : Model) (k : ℕ) (row : FaceRow) → table.get N.faces k ≡ Some row → solid_of N k ≡ row.solid
-unfolding solid_of
-found_solid N k row e = ap (λ o. (unwrap_or o no_face).solid) e
-
-none_ring : (a f o q : ℕ) → (a ≡ f → o ≡ q) → (nat_eq a f && not (nat_eq o q)) ≡ false
-none_ring a f o q p = grind (arith, nat_tests)
-
-no_lone : (b : Bool) (f g : ℕ) → f ≢ g → (b && (nat_eq f g || false)) ≡ false
-no_lone true f g ne = grind (arith, nat_tests)
-no_lone false f g ne = refl
 
 -- four half-edges the other way round, from the least on
 four_back : (e : ℕ) → canonical (minus (e + 4) ∷ minus (e + 3) ∷ minus (e + 2) ∷ minus (e + 1) ∷ []) ≡ minus (e + 1) ∷ minus (e + 4) ∷ minus (e + 3) ∷ minus (e + 2) ∷ []
@@ -127,49 +114,49 @@ module _ (M : Model) (c : Taken) (s : ℕ) (a b g h : Point) where
   edge_four = get-put_here (with_path M.edges c.edge c.vertex 3) (c.edge + 4) last_row
 
   point_one : point_of base (c.vertex + 1) ≡ a
-  point_one = found_point base (c.vertex + 1) a (get-put_other (with_points M.vertices c.vertex corner_points 3) (c.vertex + 4) h (c.vertex + 1) (apart_by c.vertex 1 4 (λ e. absurd (omega (arith, e))))
+  point_one = point_row base (c.vertex + 1) a (get-put_other (with_points M.vertices c.vertex corner_points 3) (c.vertex + 4) h (c.vertex + 1) (apart_by c.vertex 1 4 (λ e. absurd (omega (arith, e))))
       ∙ get-put_other (with_points M.vertices c.vertex corner_points 2) (c.vertex + 3) g (c.vertex + 1) (apart_by c.vertex 1 3 (λ e. absurd (omega (arith, e))))
       ∙ get-put_other (with_points M.vertices c.vertex corner_points 1) (c.vertex + 2) b (c.vertex + 1) (apart_by c.vertex 1 2 (λ e. absurd (omega (arith, e))))
       ∙ get-put_here M.vertices (c.vertex + 1) a)
 
   point_two : point_of base (c.vertex + 2) ≡ b
-  point_two = found_point base (c.vertex + 2) b (get-put_other (with_points M.vertices c.vertex corner_points 3) (c.vertex + 4) h (c.vertex + 2) (apart_by c.vertex 2 4 (λ e. absurd (omega (arith, e))))
+  point_two = point_row base (c.vertex + 2) b (get-put_other (with_points M.vertices c.vertex corner_points 3) (c.vertex + 4) h (c.vertex + 2) (apart_by c.vertex 2 4 (λ e. absurd (omega (arith, e))))
       ∙ get-put_other (with_points M.vertices c.vertex corner_points 2) (c.vertex + 3) g (c.vertex + 2) (apart_by c.vertex 2 3 (λ e. absurd (omega (arith, e))))
       ∙ get-put_here (with_points M.vertices c.vertex corner_points 1) (c.vertex + 2) b)
 
   point_three : point_of base (c.vertex + 3) ≡ g
-  point_three = found_point base (c.vertex + 3) g (get-put_other (with_points M.vertices c.vertex corner_points 3) (c.vertex + 4) h (c.vertex + 3) (apart_by c.vertex 3 4 (λ e. absurd (omega (arith, e))))
+  point_three = point_row base (c.vertex + 3) g (get-put_other (with_points M.vertices c.vertex corner_points 3) (c.vertex + 4) h (c.vertex + 3) (apart_by c.vertex 3 4 (λ e. absurd (omega (arith, e))))
       ∙ get-put_here (with_points M.vertices c.vertex corner_points 2) (c.vertex + 3) g)
 
   point_four : point_of base (c.vertex + 4) ≡ h
-  point_four = found_point base (c.vertex + 4) h (get-put_here (with_points M.vertices c.vertex corner_points 3) (c.vertex + 4) h)
+  point_four = point_row base (c.vertex + 4) h (get-put_here (with_points M.vertices c.vertex corner_points 3) (c.vertex + 4) h)
 
   one_more : (v i : ℕ) → v + i + 1 ≡ v + (i + 1)
   one_more v i = omega arith
 
   out_one : start base (plus (c.edge + 1)) ≡ a
-  out_one = ap (point_of base) (tail_plus base (c.edge + 1) (path_row 1) edge_one) ∙ point_one
+  out_one = ap (point_of base) (plus_tail_row base (c.edge + 1) (path_row 1) edge_one) ∙ point_one
 
   out_two : start base (plus (c.edge + 2)) ≡ b
-  out_two = ap (point_of base) (tail_plus base (c.edge + 2) (path_row 2) edge_two) ∙ point_two
+  out_two = ap (point_of base) (plus_tail_row base (c.edge + 2) (path_row 2) edge_two) ∙ point_two
 
   out_three : start base (plus (c.edge + 3)) ≡ g
-  out_three = ap (point_of base) (tail_plus base (c.edge + 3) (path_row 3) edge_three) ∙ point_three
+  out_three = ap (point_of base) (plus_tail_row base (c.edge + 3) (path_row 3) edge_three) ∙ point_three
 
   out_four : start base (plus (c.edge + 4)) ≡ h
-  out_four = ap (point_of base) (tail_plus base (c.edge + 4) last_row edge_four) ∙ point_four
+  out_four = ap (point_of base) (plus_tail_row base (c.edge + 4) last_row edge_four) ∙ point_four
 
   back_one : start base (minus (c.edge + 1)) ≡ b
-  back_one = ap (point_of base) (tail_minus base (c.edge + 1) (path_row 1) edge_one ∙ one_more c.vertex 1) ∙ point_two
+  back_one = ap (point_of base) (minus_tail_row base (c.edge + 1) (path_row 1) edge_one ∙ one_more c.vertex 1) ∙ point_two
 
   back_two : start base (minus (c.edge + 2)) ≡ g
-  back_two = ap (point_of base) (tail_minus base (c.edge + 2) (path_row 2) edge_two ∙ one_more c.vertex 2) ∙ point_three
+  back_two = ap (point_of base) (minus_tail_row base (c.edge + 2) (path_row 2) edge_two ∙ one_more c.vertex 2) ∙ point_three
 
   back_three : start base (minus (c.edge + 3)) ≡ h
-  back_three = ap (point_of base) (tail_minus base (c.edge + 3) (path_row 3) edge_three ∙ one_more c.vertex 3) ∙ point_four
+  back_three = ap (point_of base) (minus_tail_row base (c.edge + 3) (path_row 3) edge_three ∙ one_more c.vertex 3) ∙ point_four
 
   back_four : start base (minus (c.edge + 4)) ≡ a
-  back_four = ap (point_of base) (tail_minus base (c.edge + 4) last_row edge_four) ∙ point_one
+  back_four = ap (point_of base) (minus_tail_row base (c.edge + 4) last_row edge_four) ∙ point_one
 
   -- a half-edge ends where its mate starts
   plus_ends : (e : ℕ) (p : Point) → start base (minus e) ≡ p → finish base (plus e) ≡ p
@@ -179,7 +166,7 @@ module _ (M : Model) (c : Taken) (s : ℕ) (a b g h : Point) where
   minus_ends e p i = ap (start base) (mate_minus e) ∙ i
 
   pub solid_one : solid_of base (c.face + 1) ≡ s
-  solid_one = found_solid base (c.face + 1) first_face face_one
+  solid_one = solid_row base (c.face + 1) first_face face_one
 
   pub there_one : Has base.faces (c.face + 1)
   there_one = ap is_some face_one
@@ -196,7 +183,7 @@ module _ (M : Model) (c : Taken) (s : ℕ) (a b g h : Point) where
     ]
 
     rings_one : rings_of base (c.face + 1) ≡ []
-    rings_one = all_where_none (λ q row. nat_eq row.face (c.face + 1) && not (nat_eq (outer base (c.face + 1)) q)) base.loops (λ q y at. none_ring y.face (c.face + 1) (outer base (c.face + 1)) q (λ e. elim (loop_cases q y at) [
+    rings_one = all_where_none (λ q row. nat_eq row.face (c.face + 1) && not (nat_eq (outer base (c.face + 1)) q)) base.loops (λ q y at. none_but y.face (c.face + 1) (outer base (c.face + 1)) q (λ e. elim (loop_cases q y at) [
       | inl p ↦ absurd (other c.face y.face (ap (λ r. r.face) p.1) e)
       | inr (inl p) ↦ outer_row base (c.face + 1) first_face face_one ∙ sym p.0
       | inr (inr p) ↦ absurd (low c.face y.face p e)
@@ -208,7 +195,7 @@ module _ (M : Model) (c : Taken) (s : ℕ) (a b g h : Point) where
       low k g p e = absurd (omega arith)
 
     rings_two : rings_of base (c.face + 2) ≡ []
-    rings_two = all_where_none (λ q row. nat_eq row.face (c.face + 2) && not (nat_eq (outer base (c.face + 2)) q)) base.loops (λ q y at. none_ring y.face (c.face + 2) (outer base (c.face + 2)) q (λ e. elim (loop_cases q y at) [
+    rings_two = all_where_none (λ q row. nat_eq row.face (c.face + 2) && not (nat_eq (outer base (c.face + 2)) q)) base.loops (λ q y at. none_but y.face (c.face + 2) (outer base (c.face + 2)) q (λ e. elim (loop_cases q y at) [
       | inl p ↦ outer_row base (c.face + 2) second_face face_two ∙ sym p.0
       | inr (inl p) ↦ absurd (other c.face y.face (ap (λ r. r.face) p.1) e)
       | inr (inr p) ↦ absurd (low c.face y.face p e)

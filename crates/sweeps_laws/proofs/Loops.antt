@@ -1,6 +1,6 @@
 -- One loop of a face swept: areas, anchors and volumes of the faces after.
-use Rattle.std.proofs.Common.{◌≡◌, ◌≢◌, ℕ, zero, suc, ◌+◌, ◌≤◌, ◌<◌, ℤ, pos, ◌+ℤ◌, ◌*ℤ◌, Bool, true, false, not, nat_eq, nat_lt, ◌&&◌, List, [], ◌∷◌, ◌++◌, length, get_or, is_some, refl, sym, ap, subst, ◌∙◌, arith, inl, inr, true≢false}
-use Rattle.std.proofs.lemmas.Bool.Decides.{nat_tests, eqb_tells}
+use Rattle.std.proofs.Common.{◌≡◌, ◌≢◌, ℕ, zero, suc, ◌+◌, ◌≤◌, ◌<◌, ℤ, pos, ◌+ℤ◌, ◌*ℤ◌, true, not, nat_eq, ◌&&◌, List, [], ◌∷◌, ◌++◌, length, get_or, is_some, refl, sym, ap, subst, ◌∙◌, arith, inl, inr, true≢false}
+use Rattle.std.proofs.lemmas.Bool.Decides.{eqb_tells}
 use Rattle.std.proofs.lemmas.Int.{ints}
 use Rattle.euler_operators.specs.declared.Point.{Point}
 use Rattle.euler_operators.specs.Vectors.{origin, moved, dot, cross}
@@ -10,6 +10,7 @@ use Rattle.euler_operators.specs.Table as table
 use Rattle.euler_operators.specs.Model.{Model, LoopContent, lone, cycle, items_of, tail, content, outer, point_of, rings_of}
 use Rattle.euler_operators.specs.Conditions.{lists, strictly_rises}
 use Rattle.euler_laws.proofs.shared.Listed.{first_listed, rest_listed, listed_cases, listed_passes}
+use Rattle.euler_laws.proofs.Sizes.{rises_on, rises_apart}
 use Rattle.shapes.specs.Faces.{start, finish, loops_of, items_in, boundary}
 use Rattle.shapes.specs.Fresh.{Taken}
 use Rattle.shapes.specs.Prism.{riser, top_edge, top_items, next_place}
@@ -17,47 +18,27 @@ use Rattle.shapes.specs.Measure.{area, normal, anchor, first_vertex, volume_in}
 use Rattle.shapes.proofs.fresh.Rows.{at_most_greatest}
 use Rattle.euler_operators.proofs.Vectors.{dot_moved, add_assoc}
 use Rattle.euler_operators.proofs.Sweeps.{sum_to, moved_at, area_at, moved_ring, side_area, side_volume, Linked}
-use Rattle.sweeps_laws.proofs.swept.Numbers.{next_cases, mate_plus, mate_minus, and_none, and_right}
-use Rattle.sweeps_laws.proofs.Areas.{first_in, area_append, area_last, area_sum, same_area, volume_of}
+use Rattle.euler_operators.proofs.Rotations.{IsIn_head}
+use Rattle.euler_operators.proofs.Halves.{mate_plus, mate_minus}
+use Rattle.sweeps_laws.proofs.swept.Numbers.{next_cases}
+use Rattle.sweeps_laws.proofs.Areas.{area_append, area_last, area_sum, same_area, volume_of}
 use Rattle.sweeps_laws.proofs.swept.Sides.{Keeps, start_kept, finish_kept}
 use Rattle.sweeps_laws.proofs.swept.Lifted.{Bounded, IsPathOf, swept, keeps_swept, outer_new, content_here, content_old, content_new, outer_old, rings_old, rings_new, from_point, to_point, riser_start, riser_finish, top_start, top_finish, next_start, next_finish, item_start, item_finish}
+use Rattle.sweeps_laws.proofs.prism.Loops.{tops_head}
 
 -- the normal of a face, over its outer loop and its rings
 pub normal_is : (M : Model) (k : ℕ) → normal M k ≡ area M (items_in M (outer M k ∷ rings_of M k))
 unfolding normal boundary loops_of
 normal_is M k = refl
 
-pub rest_up : (k : ℕ) (ks : List ℕ) → strictly_rises (k ∷ ks) ≡ true → strictly_rises ks ≡ true
-rest_up k [] up = refl
-rest_up k (q ∷ ks) up = and_right (nat_lt k q) (strictly_rises (q ∷ ks)) up
-
--- what comes after the first number of a rising list is greater
-pub past_first : (n q : ℕ) (ns : List ℕ) → strictly_rises (n ∷ ns) ≡ true → lists ns q ≡ true → n < q
-past_first n q [] r l = absurd (true≢false (sym l))
-past_first n q (m ∷ ns) r l = elim (listed_cases m q ns l) [
-  | inl e ↦ subst (λ k. n < k) (sym e) (parts n m (strictly_rises (m ∷ ns)) r).0
-  | inr i ↦ between n m q (parts n m (strictly_rises (m ∷ ns)) r).0 (past_first m q ns (parts n m (strictly_rises (m ∷ ns)) r).1 i)
-] where
-  parts : (n m : ℕ) (b : Bool) → (nat_lt n m && b) ≡ true → (n < m) × (b ≡ true)
-  parts n m true r = (grind (arith, nat_tests), refl)
-  parts n m false r = absurd (true≢false (sym r ∙ and_none (nat_lt n m)))
-
-  between : (n m q : ℕ) → n < m → m < q → n < q
-  between n m q a b = omega arith
-
 -- the first item
 pub head_is : (hs : List ℕ) → head_or 0 hs ≡ get_or hs 0 0
 head_is [] = refl
 head_is (h ∷ hs) = refl
 
--- the top edges begin with the one over the first item
-top_first : (e n k : ℕ) → (zs : List ℕ) × (top_items e n (suc k) ≡ plus (top_edge e n 0) ∷ zs)
-top_first e n zero = ([], refl)
-top_first e n (suc k) = let p = top_first e n k in (p.0 ++ plus (top_edge e n (suc k)) ∷ [], ap (λ xs. xs ++ plus (top_edge e n (suc k)) ∷ []) p.1)
-
 pub top_head : (e n k : ℕ) → 0 < k → head_or 0 (top_items e n k) ≡ plus (top_edge e n 0)
 top_head e n zero l = absurd (omega arith)
-top_head e n (suc k) l = ap (head_or 0) (top_first e n k).1
+top_head e n (suc k) l = ap (head_or 0) (tops_head e n k).1
 
 first_edge : (e : ℕ) → edge_of 0 ≤ e
 unfolding edge_of
@@ -68,7 +49,7 @@ first_kept : (M N : Model) (e v : ℕ) (keeps : Keeps M N e v) (bounded : (h : �
     ((h : ℕ) → IsIn h (items_of x) → edge_of h ≤ e) → ((w : ℕ) → x ≡ lone w → w ≤ v) → point_of N (first_vertex N x) ≡ point_of M (first_vertex M x)
 first_kept M N e v keeps bounded (lone w) a b = keeps.points w (b w refl)
 first_kept M N e v keeps bounded (cycle []) a b = start_kept M N e v keeps bounded 0 (first_edge e)
-first_kept M N e v keeps bounded (cycle (h ∷ hs)) a b = start_kept M N e v keeps bounded h (a h (first_in h hs))
+first_kept M N e v keeps bounded (cycle (h ∷ hs)) a b = start_kept M N e v keeps bounded h (a h (IsIn_head h hs))
 
 -- a closed path of n steps keeps its area where it is moved
 ring_moved : (p q : ℕ → Point) (d : Point) (n : ℕ) → 0 < n → Linked p q d n → ((m : ℕ) → suc m ≡ n → q m ≡ p 0) → sum_to (moved_at p q d) n ≡ sum_to (area_at p q d) n
@@ -205,9 +186,9 @@ module _ (M : Model) (c : Taken) (s : ℕ) (d : Point) (hs : List ℕ) (f l : �
       volume_in after ks ≡ volume_in M ks +ℤ dot d (normal M f)
   faces_moved [] up i e w = absurd (true≢false (sym i))
   faces_moved (k ∷ ks) up i e w = elim (eqb_tells f k) [
-    | inl p ↦ (λ t. volume_moved k (w k (first_listed k ks)).0 (ap (outer M) (sym p.1) ∙ e) t +ℤ faces_kept ks (λ q j. ((w q (rest_listed k q ks j)).0, (w q (rest_listed k q ks j)).1 (later k q f p.1 (past_first k q ks up j)))) t)
+    | inl p ↦ (λ t. volume_moved k (w k (first_listed k ks)).0 (ap (outer M) (sym p.1) ∙ e) t +ℤ faces_kept ks (λ q j. ((w q (rest_listed k q ks j)).0, (w q (rest_listed k q ks j)).1 (later k q f p.1 (rises_apart k q ks up j)))) t)
         ∙ turned (volume_of M k) (dot d (normal M k)) (volume_in M ks) ∙ ap (λ j. volume_of M k +ℤ volume_in M ks +ℤ dot d (normal M j)) (sym p.1)
-    | inr p ↦ (λ t. volume_kept k (w k (first_listed k ks)).0 ((w k (first_listed k ks)).1 (λ x. p.1 (sym x))) t +ℤ faces_moved ks (rest_up k ks up) (rest_of k f ks i p.1) e (λ q j. w q (rest_listed k q ks j)) t)
+    | inr p ↦ (λ t. volume_kept k (w k (first_listed k ks)).0 ((w k (first_listed k ks)).1 (λ x. p.1 (sym x))) t +ℤ faces_moved ks (rises_on k ks up) (rest_of k f ks i p.1) e (λ q j. w q (rest_listed k q ks j)) t)
         ∙ sym (add_assoc (volume_of M k) (volume_in M ks) (dot d (normal M f)))
   ] where
     later : (k q f : ℕ) → f ≡ k → k < q → q ≢ f

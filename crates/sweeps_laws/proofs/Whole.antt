@@ -7,6 +7,7 @@ use Rattle.euler_operators.specs.Model.{Model, items_of, content, outer, solid_o
 use Rattle.euler_operators.specs.Sound.{Has}
 use Rattle.euler_operators.specs.Conditions.{lists, strictly_rises}
 use Rattle.euler_laws.proofs.shared.Listed.{first_listed, rest_listed}
+use Rattle.euler_laws.proofs.Sizes.{rises_on, rises_apart}
 use Rattle.shapes.specs.Faces.{items_in, loops_of}
 use Rattle.shapes.specs.Fresh.{Taken, Growing, growing, taken_in}
 use Rattle.shapes.specs.Prism.{raised, prism_from, prism_model}
@@ -14,7 +15,7 @@ use Rattle.shapes.specs.Measure.{area, normal, six_volume}
 use Rattle.euler_operators.proofs.Vectors.{dot_moved, dot_origin, dot_turned, twice_sum, three_times, add_none, add_assoc}
 use Rattle.sweeps_laws.proofs.Areas.{area_append}
 use Rattle.sweeps_laws.proofs.swept.Lifted.{Bounded, IsPathOf, swept, within}
-use Rattle.sweeps_laws.proofs.Loops.{normal_is, past_first, loops_area, rest_up}
+use Rattle.sweeps_laws.proofs.Loops.{normal_is, loops_area}
 use Rattle.sweeps_laws.proofs.Volumes.{ring_adds, outer_adds}
 use Rattle.sweeps_laws.proofs.swept.Kept.{counted, bounded_after, there_after, solid_after, outer_after, path_after}
 
@@ -47,7 +48,7 @@ module _ (f : ℕ) (d : Point) (s : ℕ) where
       ∙ ap (λ x. pos 2 *ℤ x) (sym (dot_moved (area M (items_of (content M l))) (area M (items_in M ls)) d) ∙ ap (λ a. dot a d) (sym (area_append M (items_of (content M l)) (items_in M ls)))))
 
   after_least : (l : ℕ) (ls : List ℕ) → strictly_rises (l ∷ ls) ≡ true → (q : ℕ) → lists ls q ≡ true → q ≢ l
-  after_least l ls up q i = greater l q (past_first l q ls up i) where
+  after_least l ls up q i = greater l q (rises_apart l q ls up i) where
     greater : (l q : ℕ) → l < q → q ≢ l
     greater l q m e = absurd (omega arith)
 
@@ -66,7 +67,7 @@ module _ (f : ℕ) (d : Point) (s : ℕ) where
       let rest : Paths M f ls = λ q i. ps q (rest_listed l q ls i) in
       let o = outer_after M g.taken s d hs f l b r there in
       ap (λ x. six_volume (prism_from f d x ls).model s) (raised_is f d g l ∙ ap (raised_as f d g l) of)
-      ∙ rings_swept ls (raised_as f d g l s) (bounded_after M g.taken s d hs f l b r) (there_after M g.taken s d hs f l b r there) (solid_after M g.taken s d hs f l b r there ∙ of) (rest_up l ls up)
+      ∙ rings_swept ls (raised_as f d g l s) (bounded_after M g.taken s d hs f l b r) (there_after M g.taken s d hs f l b r there) (solid_after M g.taken s d hs f l b r there ∙ of) (rises_on l ls up)
       (paths_after M g.taken hs l b r ls (after_least l ls up) rest) (λ q i e. rings q (rest_listed l q ls i) (sym o ∙ e))
       ∙ (λ t. ring_adds M g.taken s d hs f l b r (rings l (first_listed l ls)) t +ℤ pos 2 *ℤ dot (items_after M g.taken hs l b r ls rest t) d)
       ∙ both M l ls (six_volume M s)

@@ -1,6 +1,6 @@
 -- The records of a session lead on from the empty model, and the models that they stand for are those after it.
 use Rattle.std.specs.Prelude.{◌≡◌, ℕ, zero, suc, ◌+◌, ◌-◌, ◌<◌, ◌≤◌, List, [], ◌∷◌, ◌++◌, length, take, drop, get_or, refl}
-use Rattle.std.proofs.Common.{sym, subst, ap, ◌∙◌, arith}
+use Rattle.std.proofs.Common.{sym, subst, ap, ◌∙◌, arith, add-one}
 use Rattle.std.proofs.lemmas.List.{take-append-drop, length-take-le, take_all, length_push}
 use Rattle.euler_operators.specs.Model.{Model, empty_model}
 use Rattle.euler_laws.specs.Laws.{effects, AreAccepted}
@@ -74,9 +74,6 @@ models_are M records place kept =
     ∙ ap (λ (rs : List Record). empty_model ∷ models_ahead empty_model rs) (take-append-drop place records)
 
 module _ (M : Model) (records : List Record) (place : ℕ) (kept : IsJournal M records place) where
-  one_more : place + 1 ≡ suc place
-  one_more = omega arith
-
   pub models_length : length (models_of M records place) ≡ suc (length records)
   models_length = ap length (models_are M records place kept) ∙ ap suc (ahead-length empty_model records)
 
@@ -124,7 +121,7 @@ module _ (M : Model) (records : List Record) (place : ℕ) (kept : IsJournal M r
 
   -- the models up to the one held
   fronts : take (place + 1) (empty_model ∷ models_ahead empty_model records) ≡ empty_model ∷ models_ahead empty_model (take place records)
-  fronts = ap (λ (n : ℕ). take n (empty_model ∷ models_ahead empty_model records)) one_more
+  fronts = ap (λ (n : ℕ). take n (empty_model ∷ models_ahead empty_model records)) (add-one place)
       ∙ ap (λ (Xs : List Model). empty_model ∷ Xs) (sym (ahead-take empty_model place records))
 
   last : (r : Record) (N : Model) → Leads M r N → effects (gone_forth empty_model (take place records)) r.forward ≡ N

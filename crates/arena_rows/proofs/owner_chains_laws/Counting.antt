@@ -3,15 +3,14 @@
 --     same_length      lists with the same items have the same length
 --     owned-put, owned-remove      how many items an owner has, where one more item has an owner, or one less
 use Rattle.std.proofs.Common.{◌≡◌, ◌≢◌, ℕ, suc, ◌+◌, ◌-◌, ◌≤◌, ◌<◌, Bool, true, false, cond, nat_eq, T, List, [], ◌∷◌, ◌++◌, length, Option, Some, None, is_some, refl, sym, ap, ◌∙◌, arith, eq-eqb, ne_eqb, inl, inr}
-use Rattle.std.proofs.lemmas.Bool.Decides.{nat_tests, eqb_tells}
+use Rattle.std.proofs.lemmas.Bool.Decides.{eqb_tells}
 use Rattle.std.proofs.lemmas.List.{length-append}
-use Rattle.std.specs.Ordering.{nat_cmp, is_lt}
+use Rattle.std.specs.Ordering.{nat_cmp}
 use Rattle.std.specs.FinMap.Entries.{find, is_sorted, below_all}
-use Rattle.std.specs.Cmp.{unsigned_tied}
 use Rattle.boundary_model.specs.Items.{count, tick, IsIn, before, after}
 use Rattle.boundary_model.proofs.Lists.{count-append, tick_same, tick_other, split_at}
 use Rattle.boundary_model.specs.Table.{Table, get, put, remove, all_where, all_in, get-put, get-remove}
-use Rattle.boundary_model.proofs.Tables.{and_left, and_right, put-remove}
+use Rattle.boundary_model.proofs.Tables.{and_left, and_right, put-remove, less_means, find_here, find_later}
 use Rattle.arena_rows.specs.owner_chains.Owners.{owned}
 
 -- ---- the numbers whose rows pass a test
@@ -20,16 +19,7 @@ abbrev pub passes : {X : Type 0} → (ℕ → X → Bool) → ℕ → Option X �
 passes p q None = 0
 passes p q (Some x) = cond (p q x) 1 0
 
-less_means : (k a : ℕ) → T (is_lt (nat_cmp k a)) → k < a
-less_means k a h = grind (arith, nat_tests)
-
 module _ {X : Type 0} where
-  find_here : (e : ℕ × X) (es : List (ℕ × X)) → find nat_cmp e.0 (e ∷ es) ≡ Some e.1
-  find_here e es = ap (λ b. cond b (Some e.1) (find nat_cmp e.0 es)) (unsigned_tied e.0 e.0 ∙ eq-eqb e.0 e.0 refl)
-
-  find_later : (q : ℕ) (e : ℕ × X) (es : List (ℕ × X)) → q ≢ e.0 → find nat_cmp q (e ∷ es) ≡ find nat_cmp q es
-  find_later q e es apart = ap (λ b. cond b (Some e.1) (find nat_cmp q es)) (unsigned_tied q e.0 ∙ ne_eqb q e.0 apart)
-
   not_below : (k : ℕ) (es : List (ℕ × X)) → T (below_all nat_cmp k es) → find nat_cmp k es ≡ None
   not_below k [] h = refl
   not_below k (e ∷ es) h =

@@ -1,18 +1,12 @@
 -- What becomes of a row where two items are led elsewhere.
-use Rattle.std.proofs.Common.{◌≡◌, ◌≢◌, ℕ, Bool, true, false, cond, nat_eq, Option, Some, None, refl, sym, ap, ◌∙◌, true≢false, eq-eqb, inl, inr}
-use Rattle.std.proofs.lemmas.Bool.Decides.{eqb_tells}
+use Rattle.std.proofs.Common.{◌≡◌, ◌≢◌, ℕ, Bool, true, false, cond, nat_eq, Option, Some, None, refl, sym, ap}
+use Rattle.std.proofs.lemmas.Bool.{eqb-true, eqb-false}
 use Rattle.arena_rows.specs.declared.owner_chains.rows.Link.{Link}
 use Rattle.arena_rows.specs.owner_chains.Owners.{is_owner}
 use Rattle.arena_rows.specs.owner_chains.Chains.{owner_in, is_of, leading_on, leading_back, relinked}
 
 pub same_link : (x y : Link) → Some x ≡ Some y → x ≡ y
 same_link x y e = cc
-
-true_equal : (q a : ℕ) → nat_eq q a ≡ true → q ≡ a
-true_equal q a e = elim (eqb_tells q a) [ inl p ↦ p.1 | inr p ↦ absurd (true≢false (sym e ∙ p.0)) ]
-
-false_apart : (q a : ℕ) → nat_eq q a ≡ false → q ≢ a
-false_apart q a e s = true≢false (sym (eq-eqb q a s) ∙ e)
 
 -- the row that stands there now, by the one before
 pub record IsRelinked (a x b y q : ℕ) (row : Option Link) (now : Link) : Type 0 where
@@ -40,35 +34,35 @@ module _ (a x b y q : ℕ) where
       was = refl;
       owner = ap (λ l. l.owner) (sym s);
       on = λ h. ap (λ l. l.next) (sym s);
-      next = λ h. absurd (h (true_equal q a ea));
+      next = λ h. absurd (h (eqb-true q a ea));
       back = λ h. ap (λ l. l.previous) (sym s);
-      previous = λ h. absurd (h (true_equal q b eb));
+      previous = λ h. absurd (h (eqb-true q b eb));
     }
     go true ea false eb (Some link) e = let s = same_link _ _ e in record {
       link = link;
       was = refl;
       owner = ap (λ l. l.owner) (sym s);
       on = λ h. ap (λ l. l.next) (sym s);
-      next = λ h. absurd (h (true_equal q a ea));
-      back = λ h. absurd (false_apart q b eb h);
+      next = λ h. absurd (h (eqb-true q a ea));
+      back = λ h. absurd (eqb-false q b eb h);
       previous = λ h. ap (λ l. l.previous) (sym s);
     }
     go false ea true eb (Some link) e = let s = same_link _ _ e in record {
       link = link;
       was = refl;
       owner = ap (λ l. l.owner) (sym s);
-      on = λ h. absurd (false_apart q a ea h);
+      on = λ h. absurd (eqb-false q a ea h);
       next = λ h. ap (λ l. l.next) (sym s);
       back = λ h. ap (λ l. l.previous) (sym s);
-      previous = λ h. absurd (h (true_equal q b eb));
+      previous = λ h. absurd (h (eqb-true q b eb));
     }
     go false ea false eb (Some link) e = let s = same_link _ _ e in record {
       link = link;
       was = refl;
       owner = ap (λ l. l.owner) (sym s);
-      on = λ h. absurd (false_apart q a ea h);
+      on = λ h. absurd (eqb-false q a ea h);
       next = λ h. ap (λ l. l.next) (sym s);
-      back = λ h. absurd (false_apart q b eb h);
+      back = λ h. absurd (eqb-false q b eb h);
       previous = λ h. ap (λ l. l.previous) (sym s);
     }
 

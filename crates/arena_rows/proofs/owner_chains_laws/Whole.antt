@@ -1,5 +1,6 @@
 -- What the chains say of the owners; chains of nothing, and with more room.
-use Rattle.std.proofs.Common.{◌≡◌, ◌≢◌, ℕ, ◌≤◌, Bool, true, false, nat_eq, List, [], length, Option, Some, None, refl, sym, ap, subst, ◌∙◌, arith}
+use Rattle.std.proofs.Common.{◌≡◌, ◌≢◌, ℕ, ◌≤◌, nat_eq, List, [], length, Option, Some, None, refl, sym, ap, subst, ◌∙◌, arith}
+use Rattle.std.proofs.lemmas.Bool.{false_from_ne_true}
 use Rattle.boundary_model.specs.Table.{empty, get-empty, same_table}
 use Rattle.boundary_model.proofs.Tables.{all_where_none}
 use Rattle.arena_rows.specs.declared.owner_chains.rows.Head.{Head}
@@ -9,16 +10,12 @@ use Rattle.arena_rows.specs.owner_chains.Chains.{AreChained, IsAbove, items, is_
 use Rattle.arena_rows.proofs.owner_chains_laws.Order.{above_same, below_same}
 use Rattle.arena_rows.proofs.owner_chains_laws.Tables.{owner_at, item_at, owners_of-same}
 
-not_true : (b : Bool) → (b ≡ true → ⊥) → b ≡ false
-not_true true never = absurd (never refl)
-not_true false never = refl
-
 module _ (links : List (Option Link)) (o n : ℕ) where
   pub none_above : (m : ℕ) → m ≡ 0 → IsAbove (items links o) n m → IsNextItem (owners_of links) o n None
-  none_above m e above k l = not_true _ (λ h. (above.least k l (sym (item_at links o k) ∙ h)).0 e)
+  none_above m e above k l = false_from_ne_true _ (λ h. (above.least k l (sym (item_at links o k) ∙ h)).0 e)
 
   pub one_above : (m : ℕ) → m ≢ 0 → IsAbove (items links o) n m → IsNextItem (owners_of links) o n (Some m)
-  one_above m some above = ((above.found some).0, item_at links o m ∙ (above.found some).1, λ k l less. not_true _ (λ h. omega (arith, less, (above.least k l (sym (item_at links o k) ∙ h)).1)))
+  one_above m some above = ((above.found some).0, item_at links o m ∙ (above.found some).1, λ k l less. false_from_ne_true _ (λ h. omega (arith, less, (above.least k l (sym (item_at links o k) ∙ h)).1)))
 
 -- the same rows, and more
 module _ (heads heads' : List Head) (links links' : List (Option Link)) (are : AreChained heads links) (same_heads : (q : ℕ) → head_at heads' q ≡ head_at heads q) (same_links : (q : ℕ) → link_at links' q ≡ link_at links q) where

@@ -1,23 +1,22 @@
 -- The nodes where a half-edge starts elsewhere, where an edge wakes and where one goes to sleep.
 use Rattle.std.proofs.Common.{◌≡◌, ◌≢◌, ℕ, ◌≤◌, ◌<◌, Bool, true, false, cond, nat_lt, nat_le, ◌&&◌, List, [], ◌∷◌, Option, Some, None, is_some, unwrap_or, refl, sym, ap, subst, ◌∙◌, arith, true≢false, eq-eqb, ne_eqb, ◌⊎◌, inl, inr}
 use Rattle.std.proofs.lemmas.Bool.Decides.{nat_tests, eqb_tells}
+use Rattle.std.proofs.lemmas.Bool.{false_from_ne_true}
 use Rattle.raw_ring.specs.Rings.{Spot, or_zero, of_spot, ring_of_one}
 use Rattle.boundary_model.specs.Items.{IsIn, head_or}
-use Rattle.boundary_model.specs.Rings.{canonical}
-use Rattle.boundary_model.proofs.Lists.{tick_other, tick_le}
-use Rattle.boundary_model.proofs.Rotations.{canonical_is, rest_head, IsIn_head}
+use Rattle.boundary_model.proofs.Lists.{tick_le}
+use Rattle.boundary_model.proofs.Rotations.{IsIn_head, canonical_one}
 use Rattle.boundary_model.proofs.Rings.{IsPath-agree}
 use Rattle.boundary_model.specs.HalfEdge.{plus, minus, edge_of, is_first, mate}
 use Rattle.boundary_model.specs.Table.{Table, get, put, remove, tabulate, get-put, get-remove, same_table}
 use Rattle.boundary_model.specs.Model.{EdgeRow, no_edge}
-use Rattle.boundary_model.proofs.Halves.{plus_row, minus_row, mate-mate}
+use Rattle.boundary_model.proofs.Halves.{plus_row, minus_row, mate-mate, mate_plus, mate_minus}
+use Rattle.boundary_model.proofs.Tests.{and_first, and_second}
+use Rattle.boundary_model.proofs.Members.{IsIn_one}
 use Rattle.arena_rows.specs.ring_spots.Spots.{Spots, codes, edges_end, live, next, label, tail_at, ring, map_spot, woken, asleep, retailed, IsRingOf, AreRings}
 use Rattle.arena_rows.specs.ring_spots.SpotTables.{edge_row, both_tails, loose_row, edge_room}
 use Rattle.arena_rows.proofs.ring_spots_laws.SpotLaws.{AreRings-retailed, live-retailed, ring_kept, ring_of, ring_same, next_in_ring, canonical_ring}
-use Rattle.arena_rows.proofs.ring_spots_laws.SpotTables.{half_is, row_live, edges_at, loose_row_is, loose_at, loose_row_means, loose_dead, loose_alike, codes_are, mate_plus, mate_minus, edge_has, edge_has_room}
-
-pub only : (x y : ℕ) → IsIn y (x ∷ []) → y ≡ x
-only x y i = elim (eqb_tells y x) [ inl p ↦ p.1 | inr p ↦ absurd (omega (arith, tick_other y x p.1)) ]
+use Rattle.arena_rows.proofs.ring_spots_laws.SpotTables.{half_is, row_live, edges_at, loose_row_is, loose_at, loose_row_means, loose_dead, loose_alike, codes_are, edge_has, edge_has_room}
 
 module _ (sp : Spots) (R : AreRings sp) where
   module _ (h v : ℕ) (a : live sp h ≡ true) where
@@ -94,16 +93,13 @@ module _ (sp : Spots) (R : AreRings sp) where
     w_bound : (x : ℕ) → live wide x ≡ true → x < codes
     w_bound x a = elim (w_cases x a) [ inl p ↦ omega (arith, codes_are) | inr (inl q) ↦ omega (arith, codes_are) | inr (inr b) ↦ R.bound x b ]
 
-    canonical_one : (x : ℕ) → canonical (x ∷ []) ≡ x ∷ []
-    canonical_one x = canonical_is x (x ∷ []) (IsIn_head x []) ∙ ap (λ r. x ∷ r) (rest_head x [])
-
     one_ring : (x : ℕ) → next wide x ≡ x → live wide x ≡ true → (ring wide x ≡ x ∷ []) × IsRingOf wide x (ring wide x)
     one_ring x n a = ring_of wide w_bound x (x ∷ []) (record {
       leads = (n, tt);
       apart = λ y. omega (arith, tick_le y x);
       item = IsIn_head x [];
-      awake = λ y i. ap (live wide) (only x y i) ∙ a;
-      one_label = λ y i. ap (label wide) (only x y i);
+      awake = λ y i. ap (live wide) (IsIn_one x y i) ∙ a;
+      one_label = λ y i. ap (label wide) (IsIn_one x y i);
     }) (canonical_one x)
 
     pub old_ring : (c : ℕ) → live sp c ≡ true → (ring wide c ≡ ring sp c) × IsRingOf wide c (ring wide c)
@@ -188,10 +184,10 @@ module _ (sp : Spots) (R : AreRings sp) where
     t_minus = loose_row_means sp R (minus e) (minus e ∷ []) row_minus
 
     pub alone_plus : next sp (plus e) ≡ plus e
-    alone_plus = only (plus e) (next sp (plus e)) (subst (IsIn (next sp (plus e))) t_plus.3 (next_in_ring sp R (plus e) t_plus.0))
+    alone_plus = IsIn_one (plus e) (next sp (plus e)) (subst (IsIn (next sp (plus e))) t_plus.3 (next_in_ring sp R (plus e) t_plus.0))
 
     pub alone_minus : next sp (minus e) ≡ minus e
-    alone_minus = only (minus e) (next sp (minus e)) (subst (IsIn (next sp (minus e))) t_minus.3 (next_in_ring sp R (minus e) t_minus.0))
+    alone_minus = IsIn_one (minus e) (next sp (minus e)) (subst (IsIn (next sp (minus e))) t_minus.3 (next_in_ring sp R (minus e) t_minus.0))
 
     pub live_plus : live sp (plus e) ≡ true
     live_plus = t_plus.0
@@ -221,8 +217,8 @@ module _ (sp : Spots) (R : AreRings sp) where
     -- the items of another ring are other codes
     s_item : (c x : ℕ) → live sp c ≡ true → c ≢ plus e → c ≢ minus e → IsIn x (ring sp c) → less x ≡ sp x
     s_item c x a n m i = s_other x
-        (λ q. n (only (plus e) c (subst (IsIn c) (sym (ring_same sp R c x a i) ∙ ap (ring sp) q ∙ t_plus.3) (R.rings c a).item)))
-        (λ q. m (only (minus e) c (subst (IsIn c) (sym (ring_same sp R c x a i) ∙ ap (ring sp) q ∙ t_minus.3) (R.rings c a).item)))
+        (λ q. n (IsIn_one (plus e) c (subst (IsIn c) (sym (ring_same sp R c x a i) ∙ ap (ring sp) q ∙ t_plus.3) (R.rings c a).item)))
+        (λ q. m (IsIn_one (minus e) c (subst (IsIn c) (sym (ring_same sp R c x a i) ∙ ap (ring sp) q ∙ t_minus.3) (R.rings c a).item)))
 
     pub s_ring : (c : ℕ) → live sp c ≡ true → c ≢ plus e → c ≢ minus e → (ring less c ≡ ring sp c) × IsRingOf less c (ring less c)
     s_ring c a n m =
@@ -287,14 +283,6 @@ pub record IsFree (sp : Spots) (known : ℕ → Bool) (e : ℕ) : Type 0 where
   pub dead_plus : live sp (plus e) ≡ false
   pub dead_minus : live sp (minus e) ≡ false
 
-and_first : (p q : Bool) → p && q ≡ true → p ≡ true
-and_first true q h = refl
-and_first false q h = h
-
-and_second : (p q : Bool) → p && q ≡ true → q ≡ true
-and_second true q h = h
-and_second false q h = absurd (true≢false (sym h))
-
 pub free_edge : (sp : Spots) (known : ℕ → Bool) → AreRings sp → (e : ℕ) → is_some (get (tabulate (edge_room known) edges_end) e) ≡ true → is_some (get (tabulate (edge_row sp) codes) e) ≡ false → IsFree sp known e
 free_edge sp known R e room free =
     let r = sym (edge_has_room known e) ∙ room in
@@ -310,9 +298,5 @@ free_edge sp known R e room free =
       known_plus = and_first (known (plus e)) _ keys;
       known_minus = and_second (known (plus e)) _ keys;
       dead_plus = dead;
-      dead_minus = not_true (live sp (minus e)) (λ h. true≢false (sym (sym (ap (live sp) (mate_minus e)) ∙ R.mates (minus e) h) ∙ dead));
+      dead_minus = false_from_ne_true (live sp (minus e)) (λ h. true≢false (sym (sym (ap (live sp) (mate_minus e)) ∙ R.mates (minus e) h) ∙ dead));
     }
-  where
-    not_true : (b : Bool) → b ≢ true → b ≡ false
-    not_true true n = absurd (n refl)
-    not_true false n = refl

@@ -1,19 +1,16 @@
 -- The greatest edge in use where an edge comes or goes.
-use Rattle.std.proofs.Common.{◌≡◌, ◌≢◌, ℕ, ◌≤◌, Bool, true, false, cond, nat_le, ◌&&◌, List, Some, None, is_some, refl, ap, ◌∙◌, arith, eq-eqb, ne_eqb}
+use Rattle.std.proofs.Common.{◌≡◌, ◌≢◌, ℕ, ◌≤◌, true, cond, nat_le, ◌&&◌, List, Some, None, is_some, refl, ap, ◌∙◌, arith, eq-eqb, ne_eqb}
 use Rattle.std.proofs.lemmas.Bool.Decides.{nat_tests}
 use Rattle.raw_ring.specs.Rings.{ring_of_one}
 use Rattle.boundary_model.specs.HalfEdge.{plus, minus}
+use Rattle.boundary_model.proofs.Tests.{and_false}
 use Rattle.arena_rows.specs.ring_spots.Spots.{Spots, live, woken, asleep, labelled, spliced_at, retailed}
 use Rattle.arena_rows.proofs.ring_spots_laws.SpotLaws.{live-labelled, live-spliced, live-retailed}
 use Rattle.arena_rows.specs.ring_spots.Last.{IsLast, is_edge}
 use Rattle.arena_rows.proofs.ring_spots_laws.Lasts.{last_none, last_same}
 
-none_is : (b : Bool) → b && false ≡ false
-none_is true = refl
-none_is false = refl
-
 pub no_edge_last : (sp : Spots) → ((c : ℕ) → sp c ≡ None) → IsLast (is_edge sp) 0
-no_edge_last sp none = last_none (is_edge sp) (λ k. ap (λ o. nat_le k 1000000 && is_some o) (none (plus k)) ∙ none_is (nat_le k 1000000))
+no_edge_last sp none = last_none (is_edge sp) (λ k. ap (λ o. nat_le k 1000000 && is_some o) (none (plus k)) ∙ and_false (nat_le k 1000000))
 
 -- the same codes are live
 last_alike : (sp new : Spots) (m : ℕ) → ((c : ℕ) → live new c ≡ live sp c) → IsLast (is_edge sp) m → IsLast (is_edge new) m

@@ -1,6 +1,8 @@
 -- The tables of edges and of loose rings, and what becomes of them where the nodes change.
 use Rattle.std.proofs.Common.{◌≡◌, ◌≢◌, ℕ, ◌+◌, ◌*◌, ◌≤◌, ◌<◌, Bool, true, false, cond, nat_eq, nat_lt, nat_le, ◌&&◌, List, [], Option, Some, None, is_some, unwrap_or, refl, sym, ap, subst, ◌∙◌, arith, true≢false, eq-eqb, ne_eqb, ◌⊎◌, inl, inr}
 use Rattle.std.proofs.lemmas.Bool.Decides.{nat_tests, eqb_tells}
+use Rattle.std.proofs.lemmas.Bool.{eqb-true}
+use Rattle.std.proofs.lemmas.Option.{same_Some}
 use Rattle.raw_ring.specs.Rings.{Spot, or_zero, of_spot}
 use Rattle.boundary_model.specs.Items.{count, IsIn, head_or, least}
 use Rattle.boundary_model.proofs.Lists.{least_in, IsIn_or_not}
@@ -9,26 +11,13 @@ use Rattle.boundary_model.specs.HalfEdge.{plus, minus, edge_of, is_first, mate, 
 use Rattle.boundary_model.specs.declared.HalfEdge.{HalfEdge}
 use Rattle.boundary_model.specs.Table.{get, put, remove, empty, tabulate, first_where, get-tabulate, get-empty, get-put, get-remove, same_table}
 use Rattle.boundary_model.specs.Model.{cycle, EdgeRow, holds}
-use Rattle.boundary_model.proofs.Halves.{mate_cases}
+use Rattle.boundary_model.proofs.Halves.{mate_cases, mate_plus}
 use Rattle.boundary_model.proofs.Tables.{first_where_is}
 use Rattle.boundary_model.proofs.Models.{holds_in, in-holds}
+use Rattle.boundary_model.proofs.Tests.{and_first, and_second, and_false}
 use Rattle.arena_rows.specs.ring_spots.Spots.{Spots, codes, edges_end, live, label, tail_at, ring, map_spot, is_in, spliced_at, labelled, AreRings}
 use Rattle.arena_rows.specs.ring_spots.SpotTables.{edge_row, both_tails, loose_row, edge_room}
 use Rattle.arena_rows.proofs.ring_spots_laws.SpotLaws.{either, ring_same, canonical_ring}
-
-some_is : {X : Type 0} (x y : X) → Some x ≡ Some y → x ≡ y
-some_is x y e = cc
-
-and_left : (a b : Bool) → a && b ≡ true → a ≡ true
-and_left true b h = refl
-and_left false b h = h
-
-and_right : (a b : Bool) → a && b ≡ true → b ≡ true
-and_right true b h = h
-and_right false b h = absurd (true≢false (sym h))
-
-means_equal : (a b : ℕ) → nat_eq a b ≡ true → a ≡ b
-means_equal a b h = grind (arith, nat_tests)
 
 pub half_is : (h : ℕ) → ((h ≡ plus (edge_of h)) × (is_first h ≡ true) × (mate h ≡ minus (edge_of h))) ⊎ ((h ≡ minus (edge_of h)) × (is_first h ≡ false) × (mate h ≡ plus (edge_of h)))
 unfolding edge_of
@@ -103,8 +92,8 @@ module _ (sp : Spots) (R : AreRings sp) where
   pub loose_row_means : (k : ℕ) (hs : List ℕ) → loose_row sp k ≡ Some hs → (live sp k ≡ true) × (label sp k ≡ 0) × (head_or 0 (ring sp k) ≡ k) × (ring sp k ≡ hs)
   loose_row_means k hs is = go (live sp k && (nat_eq (label sp k) 0 && nat_eq (head_or 0 (ring sp k)) k)) refl is where
     go : (b : Bool) → live sp k && (nat_eq (label sp k) 0 && nat_eq (head_or 0 (ring sp k)) k) ≡ b → cond b (Some (ring sp k)) None ≡ Some hs → (live sp k ≡ true) × (label sp k ≡ 0) × (head_or 0 (ring sp k) ≡ k) × (ring sp k ≡ hs)
-    go true e s = let r = and_right (live sp k) _ e in
-        (and_left (live sp k) _ e, means_equal _ _ (and_left (nat_eq (label sp k) 0) _ r), means_equal _ _ (and_right (nat_eq (label sp k) 0) _ r), some_is _ _ s)
+    go true e s = let r = and_second (live sp k) _ e in
+        (and_first (live sp k) _ e, eqb-true _ _ (and_first (nat_eq (label sp k) 0) _ r), eqb-true _ _ (and_second (nat_eq (label sp k) 0) _ r), same_Some _ _ s)
     go false e s = cc
 
   -- the loose ring of a live code that is in no loop
@@ -228,16 +217,6 @@ edge_below h below = go h.first below where
   go true l = omega (arith, codes_are)
   go false l = omega (arith, codes_are)
 
-pub mate_plus : (e : ℕ) → mate (plus e) ≡ minus e
-mate_plus e = elim (mate_cases (plus e)) [ inl p ↦ omega arith | inr p ↦ omega arith ]
-
-pub mate_minus : (e : ℕ) → mate (minus e) ≡ plus e
-mate_minus e = elim (mate_cases (minus e)) [ inl p ↦ omega arith | inr p ↦ omega arith ]
-
-pub and-false : (b : Bool) → b && false ≡ false
-and-false true = refl
-and-false false = refl
-
 some_some : (o p : Option Spot) → is_some p ≡ true → is_some (both_tails o p) ≡ is_some o
 some_some (Some s) (Some t) h = refl
 some_some (Some s) None h = absurd (true≢false (sym h))
@@ -256,7 +235,7 @@ edge_has sp R e = ap is_some (edges_at sp R e) ∙ go (live sp (plus e)) refl wh
       let l : e ≤ 1000000 = omega (arith, codes_are, below) in
       let t : nat_le e 1000000 ≡ true = grind (arith, nat_tests) in
       some_some (sp (plus e)) (sp (minus e)) m ∙ h ∙ sym (ap (λ b. b && true) t)
-  go false h = none_there (sp (plus e)) (sp (minus e)) h ∙ sym (and-false (nat_le e 1000000))
+  go false h = none_there (sp (plus e)) (sp (minus e)) h ∙ sym (and_false (nat_le e 1000000))
 
 within_both : (e : ℕ) → nat_lt e edges_end ≡ nat_le e 1000000
 within_both e = ap (nat_lt e) edges_end_is ∙ grind (arith, nat_tests)

@@ -1,17 +1,17 @@
 -- A model, and the one with one more solid of one face, one lone loop and one vertex: where one is sound, the other is.
-use Rattle.std.proofs.Common.{◌≡◌, ◌≢◌, ℕ, List, [], Some, None, unwrap_or, is_some, IsTrue, refl, sym, ap, ◌∙◌, subst, arith, ◌⊎◌, inl, inr, true≢false}
-use Rattle.std.proofs.lemmas.Bool.Decides.{nat_tests, eqb_tells}
+use Rattle.std.proofs.Common.{◌≡◌, ◌≢◌, ℕ, List, [], Some, None, unwrap_or, is_some, IsTrue, refl, sym, ap, ◌∙◌, subst, ◌⊎◌, inl, inr, true≢false}
+use Rattle.std.proofs.lemmas.Bool.Decides.{eqb_tells}
 use Rattle.euler_operators.specs.declared.Point.{Point}
 use Rattle.euler_operators.specs.Points.{IsInRange}
 use Rattle.euler_operators.specs.HalfEdge.{mate}
 use Rattle.euler_operators.specs.Table as table
-use Rattle.euler_operators.specs.Table.{Table, tables}
+use Rattle.euler_operators.specs.Table.{Table}
 use Rattle.euler_operators.specs.Model.{Model, lone, cycle, FaceRow, LoopRow, no_face, no_loop, holds, tail, loop_of, content, cycle_of, face_of, solid_of, outer, after, is_number}
 use Rattle.euler_operators.specs.Sound.{Sound, Has, HasHalf}
-use Rattle.euler_operators.proofs.Models.{row_of, content_cycle}
+use Rattle.euler_operators.proofs.Models.{row_of, content_cycle, never_lone, mate_there}
+use Rattle.euler_operators.proofs.Tables.{get-put_here, get-put_other, row_elsewhere}
 use Rattle.euler_operators.specs.Effect.{mvfs}
-use Rattle.euler_laws.proofs.shared.Fans.{half_mate}
-use Rattle.euler_laws.proofs.shared.Loops.{IsLoop, loop_sound, Walks, stands-walks, one_loop-walks, cycles-walks, ends_meet-walks, one_fan-walks, not_lone, one_vertex}
+use Rattle.euler_laws.proofs.shared.Loops.{IsLoop, loop_sound, Walks, stands-walks, one_loop-walks, cycles-walks, ends_meet-walks, one_fan-walks, one_vertex}
 use Rattle.euler_laws.proofs.shared.Same.{solid_at}
 use Rattle.euler_laws.proofs.shared.Rings.{SameRings, half_back, tail_same, walks-rings, loop-rings, ends_differ-rings, tail-rings, edges_fit-rings}
 use Rattle.euler_laws.proofs.shared.Rows.{one_row}
@@ -31,20 +31,11 @@ pub record MvfsGoes (M : Model) (s f l v : ℕ) (p : Point) : Type 0 where
 -- ---- a table with one more row
 
 module _ {X : Type 0} (t : Table X) (n : ℕ) (x : X) (is_free : table.get t n ≡ None) where
-  pub added_there : table.get (table.put t n x) n ≡ Some x
-  added_there = grind (arith, nat_tests, tables)
-
-  pub added_other : (q : ℕ) → q ≢ n → table.get (table.put t n x) q ≡ table.get t q
-  added_other q a = grind (arith, nat_tests, tables)
-
-  pub not_added : (q : ℕ) → Has t q → q ≢ n
-  not_added q there e = true≢false (sym there ∙ ap is_some (ap (table.get t) e ∙ is_free))
-
   pub added_on : (q : ℕ) → Has t q → Has (table.put t n x) q
-  added_on q there = ap is_some (added_other q (not_added q there)) ∙ there
+  added_on q there = ap is_some (get-put_other t n x q (row_elsewhere t q n there is_free)) ∙ there
 
   pub added_back : (q : ℕ) → q ≢ n → Has (table.put t n x) q → Has t q
-  added_back q a there = ap is_some (sym (added_other q a)) ∙ there
+  added_back q a there = ap is_some (sym (get-put_other t n x q a)) ∙ there
 
 -- ---- the model with one more solid, face, loop and vertex
 
@@ -79,35 +70,35 @@ module _ (M : Model) (s f l v : ℕ) (p : Point) (goes : MvfsGoes M s f l v p) w
   vertices_are = refl
 
   pub face_new : table.get N.faces f ≡ Some face_row
-  face_new = ap (λ t. table.get t f) faces_are ∙ added_there M.faces f face_row goes.face_free
+  face_new = ap (λ t. table.get t f) faces_are ∙ get-put_here M.faces f face_row
 
   pub face_other : (q : ℕ) → q ≢ f → table.get N.faces q ≡ table.get M.faces q
-  face_other q a = ap (λ t. table.get t q) faces_are ∙ added_other M.faces f face_row goes.face_free q a
+  face_other q a = ap (λ t. table.get t q) faces_are ∙ get-put_other M.faces f face_row q a
 
   pub loop_new : table.get N.loops l ≡ Some loop_row
-  loop_new = ap (λ t. table.get t l) loops_are ∙ added_there M.loops l loop_row goes.loop_free
+  loop_new = ap (λ t. table.get t l) loops_are ∙ get-put_here M.loops l loop_row
 
   pub loop_other : (q : ℕ) → q ≢ l → table.get N.loops q ≡ table.get M.loops q
-  loop_other q a = ap (λ t. table.get t q) loops_are ∙ added_other M.loops l loop_row goes.loop_free q a
+  loop_other q a = ap (λ t. table.get t q) loops_are ∙ get-put_other M.loops l loop_row q a
 
   pub vertex_new : table.get N.vertices v ≡ Some p
-  vertex_new = ap (λ t. table.get t v) vertices_are ∙ added_there M.vertices v p goes.vertex_free
+  vertex_new = ap (λ t. table.get t v) vertices_are ∙ get-put_here M.vertices v p
 
   pub vertex_other : (q : ℕ) → q ≢ v → table.get N.vertices q ≡ table.get M.vertices q
-  vertex_other q a = ap (λ t. table.get t q) vertices_are ∙ added_other M.vertices v p goes.vertex_free q a
+  vertex_other q a = ap (λ t. table.get t q) vertices_are ∙ get-put_other M.vertices v p q a
 
   -- what is in the old tables, and what in the new ones
   pub not_f : (q : ℕ) → Has M.faces q → q ≢ f
-  not_f = not_added M.faces f face_row goes.face_free
+  not_f = λ q there. row_elsewhere M.faces q f there goes.face_free
 
   pub not_l : (q : ℕ) → Has M.loops q → q ≢ l
-  not_l = not_added M.loops l loop_row goes.loop_free
+  not_l = λ q there. row_elsewhere M.loops q l there goes.loop_free
 
   pub not_v : (q : ℕ) → Has M.vertices q → q ≢ v
-  not_v = not_added M.vertices v p goes.vertex_free
+  not_v = λ q there. row_elsewhere M.vertices q v there goes.vertex_free
 
   pub not_s : (q : ℕ) → Has M.solids q → q ≢ s
-  not_s = not_added M.solids s tt goes.solid_free
+  not_s = λ q there. row_elsewhere M.solids q s there goes.solid_free
 
   pub face_on : (q : ℕ) → Has M.faces q → Has N.faces q
   face_on q t = ap is_some (face_other q (not_f q t)) ∙ t
@@ -128,7 +119,7 @@ module _ (M : Model) (s f l v : ℕ) (p : Point) (goes : MvfsGoes M s f l v p) w
   vertex_back q a t = ap is_some (sym (vertex_other q a)) ∙ t
 
   pub solid_new : Has N.solids s
-  solid_new = subst (λ t. Has t s) (sym solids_are) (ap is_some (added_there M.solids s tt goes.solid_free))
+  solid_new = subst (λ t. Has t s) (sym solids_are) (ap is_some (get-put_here M.solids s tt))
 
   pub solid_on : (q : ℕ) → Has M.solids q → Has N.solids q
   solid_on q t = subst (λ y. Has y q) (sym solids_are) (added_on M.solids s tt goes.solid_free q t)
@@ -184,7 +175,7 @@ module _ (M : Model) (s f l v : ℕ) (p : Point) (goes : MvfsGoes M s f l v p) w
 
   -- a lone loop of the old model is another than l
   lone_not_l : (q w : ℕ) → content M q ≡ lone w → q ≢ l
-  lone_not_l q w e a = not_lone [] w (sym content_free ∙ ap (content M) (sym a) ∙ e)
+  lone_not_l q w e a = never_lone [] w (sym content_free ∙ ap (content M) (sym a) ∙ e)
 
   -- ---- from the old model to the new one
 
@@ -266,7 +257,7 @@ module _ (M : Model) (s f l v : ℕ) (p : Point) (goes : MvfsGoes M s f l v p) w
         | inl e ↦ (f, ap is_some face_new, solid_of_new ∙ sym e.1)
         | inr e ↦ let x = sound.solid_has_face n (solid_back n e.1 t) in (x.0, face_on x.0 x.1, solid_of_other x.0 (not_f x.0 x.1) ∙ x.2)
       ];
-      one_solid = λ x t. let o = half_old x t in solid_at_old x o ∙ sound.one_solid x o ∙ sym (solid_at_old (mate x) (half_mate M sound x o));
+      one_solid = λ x t. let o = half_old x t in solid_at_old x o ∙ sound.one_solid x o ∙ sym (solid_at_old (mate x) (mate_there M x o));
       solids_fit = λ n t. elim (eqb_tells n s) [ inl e ↦ subst (λ y. IsTrue (is_number y)) (sym e.1) goes.solid_fits | inr e ↦ sound.solids_fit n (solid_back n e.1 t) ];
       faces_fit = λ n t. elim (eqb_tells n f) [ inl e ↦ subst (λ y. IsTrue (is_number y)) (sym e.1) goes.face_fits | inr e ↦ sound.faces_fit n (face_back n e.1 t) ];
       loops_fit = λ n t. elim (eqb_tells n l) [ inl e ↦ subst (λ y. IsTrue (is_number y)) (sym e.1) goes.loop_fits | inr e ↦ sound.loops_fit n (loop_back n e.1 t) ];
@@ -313,7 +304,7 @@ module _ (M : Model) (s f l v : ℕ) (p : Point) (goes : MvfsGoes M s f l v p) w
         let k : face_of N (loop_of N x) ≡ face_of M (loop_of N x) = face_of_other (loop_of N x) a in
         ap (solid_at M) e ∙ ap (solid_of M) (sym k) ∙ sym (solid_of_other (face_of N (loop_of N x)) (λ z. no_ring (loop_of N x) r (sym k ∙ z))) where
           not_cycle : {hs : List ℕ} → lone v ≡ cycle hs → ⊥
-          not_cycle e = not_lone _ v (sym e)
+          not_cycle e = never_lone _ v (sym e)
 
           content_new_at : (x : ℕ) → HasHalf N x → loop_of N x ≡ l → lone v ≡ cycle (cycle_of N x)
           content_new_at x o z = sym content_new ∙ ap (content N) (sym z) ∙ content_cycle N sound x o

@@ -14,12 +14,12 @@ use Rattle.euler_operators.specs.Table as table
 use Rattle.euler_operators.specs.Table.{Table, tables}
 use Rattle.euler_operators.specs.Model.{Model, LoopContent, lone, cycle, LoopRow, items_of, holds, tail, loop_of, content, face_of, cycle_of, after, round, outer, no_loop, solid_of, no_face, is_number}
 use Rattle.euler_operators.specs.Sound.{Sound, Has, HasHalf, StandsIn, IsCycle, IsTail, IsLoneAt, NumbersFit}
-use Rattle.euler_operators.proofs.Halves.{mate_other, edge_of-mate, mate-mate, same_edge}
+use Rattle.euler_operators.proofs.Halves.{mate_other, edge_of-mate, mate-mate, same_edge, edges_apart, mate_edge_apart}
 use Rattle.euler_operators.proofs.Tables.{map_one}
-use Rattle.euler_operators.proofs.Models.{in-holds, holds_in, cycle_there, cycle_sound, content_cycle, row_of, other_loop}
+use Rattle.euler_operators.proofs.Models.{in-holds, holds_in, cycle_there, cycle_sound, content_cycle, row_of, other_loop, never_lone, mate_there}
 use Rattle.euler_operators.specs.Effect.{kemr, where_held, cycle_or_lone}
-use Rattle.euler_laws.proofs.shared.Fans.{Fan, fan_of, half_after, half_mate, fixed_reaches}
-use Rattle.euler_laws.proofs.shared.Loops.{IsLoop, light, loop_sound, Walks, loop_at, stands-walks, one_loop-walks, cycles-walks, ends_meet-walks, one_fan-walks, not_lone}
+use Rattle.euler_laws.proofs.shared.Fans.{Fan, fan_of, half_after, fixed_reaches, none_in_fan}
+use Rattle.euler_laws.proofs.shared.Loops.{IsLoop, light, loop_sound, Walks, loop_at, stands-walks, one_loop-walks, cycles-walks, ends_meet-walks, one_fan-walks}
 use Rattle.euler_laws.proofs.shared.Arcs.{fan_kef_first, fan_kef_second, fan_kef_other}
 use Rattle.euler_laws.proofs.shared.Same.{solid_at}
 use Rattle.euler_laws.proofs.shared.Undo.{after_first}
@@ -65,7 +65,7 @@ module _ (M : Model) (sound : Sound M) (h l : ℕ) (goes : KemrGoes M h l) where
   hm = mate_other h
 
   pub m_there : HasHalf M m
-  m_there = half_mate M sound h goes.h_there
+  m_there = mate_there M h goes.h_there
 
   pub u_w : u ≢ w
   u_w = sound.ends_differ h goes.h_there
@@ -230,14 +230,8 @@ module _ (M : Model) (sound : Sound M) (h l : ℕ) (goes : KemrGoes M h l) where
   pub other_edge : (x : ℕ) → x ≢ h → x ≢ m → edge_of x ≢ edge_of h
   other_edge x a b e = elim (same_edge x h e) [ inl q ↦ a q | inr q ↦ b q ]
 
-  not_h : (x : ℕ) → edge_of x ≢ edge_of h → x ≢ h
-  not_h x a e = a (ap edge_of e)
-
   not_m : (x : ℕ) → edge_of x ≢ edge_of h → x ≢ m
   not_m x a e = a (ap edge_of e ∙ edge_of-mate h)
-
-  mate_edge : (x : ℕ) → edge_of x ≢ edge_of h → edge_of (mate x) ≢ edge_of h
-  mate_edge x a e = a (sym (edge_of-mate x) ∙ e)
 
   pub old_half : (x : ℕ) → HasHalf N x → HasHalf M x × (edge_of x ≢ edge_of h)
   old_half x there = half_cases M N h edges_are x there
@@ -284,7 +278,7 @@ module _ (M : Model) (sound : Sound M) (h l : ℕ) (goes : KemrGoes M h l) where
   place_cases x there a = elim (eqb_tells (loop_of M x) r) [
     | inl e ↦
         let i : IsIn x xs = subst (λ q. IsIn x (items_of (content M q))) e.1 (cycle_there M sound x there) in
-        elim (IsIn_or_not x Y) [ inl j ↦ inl (e.1, j) | inr j ↦ inr (inl (e.1, omega (arith, count_xs x, tick_other x h (not_h x a), tick_other x m (not_m x a)))) ]
+        elim (IsIn_or_not x Y) [ inl j ↦ inl (e.1, j) | inr j ↦ inr (inl (e.1, omega (arith, count_xs x, tick_other x h (edges_apart x h a), tick_other x m (not_m x a)))) ]
     | inr e ↦ inr (inr e.1)
   ]
 
@@ -325,9 +319,6 @@ module _ (M : Model) (sound : Sound M) (h l : ℕ) (goes : KemrGoes M h l) where
     ]
   ]
 
-  none_in : {t : ℕ} (g : Fan (after M) M t) (x : ℕ) → tail M x ≢ t → count x g.items ≡ 0
-  none_in g x a = elim (IsIn_or_not x g.items) [ inl i ↦ absurd (a (g.of_it x i).1) | inr n ↦ n ]
-
   abbrev fan_h : Fan (after M) M u
   fan_h = fan_of M sound h goes.h_there
 
@@ -337,22 +328,22 @@ module _ (M : Model) (sound : Sound M) (h l : ℕ) (goes : KemrGoes M h l) where
   fan_u : after M m ≢ h → Fan F N u
   fan_u ne = let i : IsIn h fan_h.items = fan_h.all h goes.h_there refl in
       fan_less M N h edges_are (after M) F u h fan_h i refl (λ y j n. other_edge y n (λ p. u_w (sym (fan_h.of_it y j).1 ∙ ap (tail M) p)))
-      (fan_kef_first (after M) h fan_h.items fan_h.apart fan_h.ring i (none_in fan_h m (λ e. u_w (sym e))) ne)
+      (fan_kef_first (after M) h fan_h.items fan_h.apart fan_h.ring i (none_in_fan M fan_h m (λ e. u_w (sym e))) ne)
 
   fan_w : after M h ≢ m → Fan F N w
   fan_w ne = let i : IsIn m fan_m.items = fan_m.all m m_there refl in
       fan_less M N h edges_are (after M) F w m fan_m i (edge_of-mate h) (λ y j n. other_edge y (λ p. u_w (ap (tail M) (sym p) ∙ (fan_m.of_it y j).1)) n)
-      (fan_kef_second (after M) h fan_m.items fan_m.apart fan_m.ring i (none_in fan_m h u_w) (λ e. ne (ap (after M) (sym (mate-mate h)) ∙ e)))
+      (fan_kef_second (after M) h fan_m.items fan_m.apart fan_m.ring i (none_in_fan M fan_m h u_w) (λ e. ne (ap (after M) (sym (mate-mate h)) ∙ e)))
 
   fan_else : (x : ℕ) → HasHalf M x → tail M x ≢ u → tail M x ≢ w → Fan F N (tail M x)
   fan_else x o a b = let g = fan_of M sound x o in
       fan_stays M N h edges_are (after M) F (tail M x) g
       (λ y i. other_edge y (λ e. a (sym (g.of_it y i).1 ∙ ap (tail M) e)) (λ e. b (sym (g.of_it y i).1 ∙ ap (tail M) e)))
-      (fan_kef_other (after M) h g.items g.apart g.ring (none_in g h (λ e. a (sym e))) (none_in g m (λ e. b (sym e))))
+      (fan_kef_other (after M) h g.items g.apart g.ring (none_in_fan M g h (λ e. a (sym e))) (none_in_fan M g m (λ e. b (sym e))))
 
   -- an end at which only this edge stood
   bare_u : after M m ≡ h → (x : ℕ) → HasHalf M x → edge_of x ≢ edge_of h → tail M x ≢ u
-  bare_u e x there a t = not_h x a (fixed_reaches (round M) h x e (sound.one_fan h x goes.h_there there (sym t)))
+  bare_u e x there a t = edges_apart x h a (fixed_reaches (round M) h x e (sound.one_fan h x goes.h_there there (sym t)))
 
   bare_w : after M h ≡ m → (x : ℕ) → HasHalf M x → edge_of x ≢ edge_of h → tail M x ≢ w
   bare_w e x there a t = not_m x a (fixed_reaches (round M) m x (ap (after M) (mate-mate h) ∙ e) (sound.one_fan m x m_there there (sym t)))
@@ -396,11 +387,11 @@ module _ (M : Model) (sound : Sound M) (h l : ℕ) (goes : KemrGoes M h l) where
   unfolding content
   has_lone q t e = go (table.get M.loops q) e where
     go : (o : Option LoopRow) → (unwrap_or o no_loop).content ≡ lone t → is_some o ≡ true
-    go None e = absurd (not_lone [] t e)
+    go None e = absurd (never_lone [] t e)
     go (Some x) e = refl
 
   lone_on : (q t : ℕ) → content M q ≡ lone t → content N q ≡ lone t
-  lone_on q t e = content_else q (λ p. not_lone xs t (sym (content_cycle M sound h goes.h_there) ∙ ap (content M) (sym p) ∙ e)) (not_l q (has_lone q t e)) ∙ e
+  lone_on q t e = content_else q (λ p. never_lone xs t (sym (content_cycle M sound h goes.h_there) ∙ ap (content M) (sym p) ∙ e)) (not_l q (has_lone q t e)) ∙ e
 
   lone_u : after M m ≡ h → content N r ≡ lone u
   lone_u e = content_r ∙ ap (λ z. cycle_or_lone z u) (y_empty e)
@@ -509,7 +500,7 @@ module _ (M : Model) (sound : Sound M) (h l : ℕ) (goes : KemrGoes M h l) where
 
   one_solid-kemr : (x : ℕ) → HasHalf N x → solid_at N (loop_of N x) ≡ solid_at N (loop_of N (mate x))
   one_solid-kemr x there = let o = old_half x there in
-      solid_old x o.0 o.1 ∙ sound.one_solid x o.0 ∙ sym (solid_old (mate x) (half_mate M sound x o.0) (mate_edge x o.1))
+      solid_old x o.0 o.1 ∙ sound.one_solid x o.0 ∙ sym (solid_old (mate x) (mate_there M x o.0) (mate_edge_apart x h o.1))
 
   loops_fit-kemr : NumbersFit N.loops
   loops_fit-kemr q there = elim (eqb_tells q l) [
@@ -526,7 +517,7 @@ module _ (M : Model) (sound : Sound M) (h l : ℕ) (goes : KemrGoes M h l) where
     cycles = cycles-walks N F walks;
     ends_meet = ends_meet-walks N F walks;
     tails_there = λ x there. let o = old_half x there in subst (Has N.vertices) (sym (tail_old M N h edges_are x o.1)) (has_vertex _ (sound.tails_there x o.0));
-    ends_differ = λ x there e. let o = old_half x there in sound.ends_differ x o.0 (sym (tail_old M N h edges_are x o.1) ∙ e ∙ tail_old M N h edges_are (mate x) (mate_edge x o.1));
+    ends_differ = λ x there e. let o = old_half x there in sound.ends_differ x o.0 (sym (tail_old M N h edges_are x o.1) ∙ e ∙ tail_old M N h edges_are (mate x) (mate_edge_apart x h o.1));
     lone_or_tail = lone_or_tail-kemr;
     lone_is_no_tail = lone_is_no_tail-kemr;
     one_lone = one_lone-kemr;

@@ -17,10 +17,11 @@ use Rattle.euler_operators.specs.Table as table
 use Rattle.euler_operators.specs.Table.{Table, tables}
 use Rattle.euler_operators.specs.Model.{Model, LoopContent, lone, cycle, EdgeRow, items_of, holds, tail, loop_of, content, after, round, tail_in, no_edge}
 use Rattle.euler_operators.specs.Sound.{Sound, Has, HasHalf, StandsIn, IsTail, IsLoneAt, NumbersFit}
-use Rattle.euler_operators.proofs.Halves.{mate_other, edge_of-mate, mate-mate, same_edge}
-use Rattle.euler_operators.proofs.Models.{in-holds, holds_in, holds-none, cycle_there}
+use Rattle.euler_operators.proofs.Halves.{mate_other, edge_of-mate, mate-mate, same_edge, edges_apart, mate_edge_apart}
+use Rattle.euler_operators.proofs.Models.{in-holds, holds_in, holds-none, cycle_there, mate_there}
+use Rattle.euler_operators.proofs.Tests.{or_true}
 use Rattle.euler_operators.specs.Effect.{kev, without_edge, moved_tail, cycle_or_lone}
-use Rattle.euler_laws.proofs.shared.Fans.{Fan, fan_of, half_after, half_mate, loop_after, ring_reaches, fixed_reaches, two_reaches}
+use Rattle.euler_laws.proofs.shared.Fans.{Fan, fan_of, half_after, loop_after, ring_reaches, fixed_reaches, two_reaches, none_in_fan}
 use Rattle.euler_laws.proofs.shared.Loops.{IsLoop, count_out, count_gone, apart_out, ring_out, light, loop_sound, Walks, loop_at, stands-walks, one_loop-walks, cycles-walks, ends_meet-walks, one_fan-walks}
 use Rattle.euler_laws.proofs.shared.Arcs.{fan_kev, fan_kev_other}
 use Rattle.euler_laws.proofs.shared.Same.{mapped_some, Rewritten, content-new, face-same, loop-same, SameFaces, solid_at, loops_of_faces-same, outers_there-same, faces_of_solids-same, solid_has_face-same, solids_fit-same, faces_fit-same, loops_fit-same, solid_at-same}
@@ -58,7 +59,7 @@ module _ (M : Model) (sound : Sound M) (h : ℕ) (goes : KevGoes M h) where
   F = after_kev (after M) h m
 
   pub m_there : HasHalf M m
-  m_there = half_mate M sound h goes.h_there
+  m_there = mate_there M h goes.h_there
 
   pub u_w : u ≢ w
   u_w = sound.ends_differ h goes.h_there
@@ -94,10 +95,6 @@ module _ (M : Model) (sound : Sound M) (h : ℕ) (goes : KevGoes M h) where
 
   pub new_h : (c : LoopContent) → IsIn h (items_of c) → new c ≡ cycle_or_lone (out c) u
   new_h c a = ap (λ t. cond (t || holds m c) (cycle_or_lone (out c) u) c) (in-holds h c a)
-
-  pub or_true : (b : Bool) → (b || true) ≡ true
-  or_true true = refl
-  or_true false = refl
 
   pub new_m : (c : LoopContent) → IsIn m (items_of c) → new c ≡ cycle_or_lone (out c) u
   new_m c a = ap (λ t. cond (holds h c || t) (cycle_or_lone (out c) u) c) (in-holds m c a) ∙ ap (λ t. cond t (cycle_or_lone (out c) u) c) (or_true (holds h c))
@@ -179,14 +176,8 @@ module _ (M : Model) (sound : Sound M) (h : ℕ) (goes : KevGoes M h) where
   pub other_edge : (x : ℕ) → x ≢ h → x ≢ m → edge_of x ≢ edge_of h
   other_edge x a b e = elim (same_edge x h e) [ inl q ↦ a q | inr q ↦ b q ]
 
-  pub not_h : (x : ℕ) → edge_of x ≢ edge_of h → x ≢ h
-  not_h x a e = a (ap edge_of e)
-
   pub not_m : (x : ℕ) → edge_of x ≢ edge_of h → x ≢ m
   not_m x a e = a (ap edge_of e ∙ edge_of-mate h)
-
-  pub mate_edge : (x : ℕ) → edge_of x ≢ edge_of h → edge_of (mate x) ≢ edge_of h
-  mate_edge x a e = a (sym (edge_of-mate x) ∙ e)
 
   pub tail_old : (x : ℕ) → HasHalf M x → edge_of x ≢ edge_of h → tail N x ≡ cond (nat_eq (tail M x) w) u (tail M x)
   unfolding tail
@@ -201,7 +192,7 @@ module _ (M : Model) (sound : Sound M) (h : ℕ) (goes : KevGoes M h) where
   -- ---- walks
 
   pub placed_old : (x : ℕ) → HasHalf M x → edge_of x ≢ edge_of h → StandsIn N x (loop_of M x) × ((q : ℕ) → StandsIn N x q → q ≡ loop_of M x)
-  placed_old x there a = (stay x (loop_of M x) (not_h x a) (not_m x a) (sound.stands x there), λ q s. sym (sound.one_loop x q (came x q s).2))
+  placed_old x there a = (stay x (loop_of M x) (edges_apart x h a) (not_m x a) (sound.stands x there), λ q s. sym (sound.one_loop x q (came x q s).2))
 
   pub loop_old : (x : ℕ) → HasHalf M x → edge_of x ≢ edge_of h → loop_of N x ≡ loop_of M x
   loop_old x there a = loop_at N x (loop_of M x) (placed_old x there a).0 (placed_old x there a).1
@@ -227,7 +218,7 @@ module _ (M : Model) (sound : Sound M) (h : ℕ) (goes : KevGoes M h) where
   -- where after(m) is h nothing else starts at the two ends
   pub bare : after M m ≡ h → (x : ℕ) → HasHalf M x → edge_of x ≢ edge_of h → (tail M x ≢ u) × (tail M x ≢ w)
   bare e x there a = (
-    λ t. not_h x a (fixed_reaches (round M) h x e (sound.one_fan h x goes.h_there there (sym t))),
+    λ t. edges_apart x h a (fixed_reaches (round M) h x e (sound.one_fan h x goes.h_there there (sym t))),
     λ t. not_m x a (fixed_reaches (round M) m x (ap (after M) (mate-mate h) ∙ goes.not_bare e) (sound.one_fan m x m_there there (sym t))),
   )
 
@@ -266,18 +257,15 @@ module _ (M : Model) (sound : Sound M) (h : ℕ) (goes : KevGoes M h) where
     ];
     all = λ x there e. let o = half_cases x there in elim (eqb_tells (tail M x) w) [
       | inl t ↦ omega (arith, in_both x, count_at x m vs m_in, fan_killed.all x o.0 t.1, tick_other x m (not_m x o.1))
-      | inr t ↦ omega (arith, in_both x, count_at x h ws h_in, fan.all x o.0 (sym (tail_kept x o.0 o.1 t.1) ∙ e), tick_other x h (not_h x o.1))
+      | inr t ↦ omega (arith, in_both x, count_at x h ws h_in, fan.all x o.0 (sym (tail_kept x o.0 o.1 t.1) ∙ e), tick_other x h (edges_apart x h o.1))
     ];
   }
-
-  pub none_in : {t : ℕ} (f : Fan (after M) M t) (x : ℕ) → tail M x ≢ t → count x f.items ≡ 0
-  none_in f x a = elim (IsIn_or_not x f.items) [ inl i ↦ absurd (a (f.of_it x i).1) | inr n ↦ n ]
 
   pub fan_else : (x : ℕ) → HasHalf M x → tail M x ≢ u → tail M x ≢ w → Fan F N (tail M x)
   fan_else x o a b =
       let f = fan_of M sound x o in
-      let nh : count h f.items ≡ 0 = none_in f h (λ e. a (sym e)) in
-      let nm : count m f.items ≡ 0 = none_in f m (λ e. b (sym e)) in
+      let nh : count h f.items ≡ 0 = none_in_fan M f h (λ e. a (sym e)) in
+      let nm : count m f.items ≡ 0 = none_in_fan M f m (λ e. b (sym e)) in
       record {
         items = f.items;
         apart = f.apart;
@@ -397,8 +385,8 @@ module _ (M : Model) (sound : Sound M) (h : ℕ) (goes : KevGoes M h) where
   pub ends_differ-kev : (x : ℕ) → HasHalf N x → tail N x ≢ tail N (mate x)
   ends_differ-kev x there e =
       let o = half_cases x there in
-      let t = half_mate M sound x o.0 in
-      let a = mate_edge x o.1 in
+      let t = mate_there M x o.0 in
+      let a = mate_edge_apart x h o.1 in
       elim (eqb_tells (tail M x) w) [
         | inl p ↦ elim (eqb_tells (tail M (mate x)) w) [
           | inl q ↦ sound.ends_differ x o.0 (p.1 ∙ sym q.1)
@@ -469,7 +457,7 @@ module _ (M : Model) (sound : Sound M) (h : ℕ) (goes : KevGoes M h) where
   one_solid-kev x there =
       let o = half_cases x there in
       let old : (y : ℕ) → HasHalf M y → edge_of y ≢ edge_of h → solid_at N (loop_of N y) ≡ solid_at M (loop_of M y) = λ y t a. ap (solid_at N) (loop_old y t a) ∙ solid_at-same M N sound same (loop_of M y) in
-      old x o.0 o.1 ∙ sound.one_solid x o.0 ∙ sym (old (mate x) (half_mate M sound x o.0) (mate_edge x o.1))
+      old x o.0 o.1 ∙ sound.one_solid x o.0 ∙ sym (old (mate x) (mate_there M x o.0) (mate_edge_apart x h o.1))
 
   pub edges_fit-kev : NumbersFit N.edges
   edges_fit-kev e there =

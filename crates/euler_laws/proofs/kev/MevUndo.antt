@@ -1,5 +1,5 @@
 -- mev at two half-edges is taken back by kev.
-use Rattle.std.proofs.Common.{◌≡◌, ◌≢◌, ℕ, ◌+◌, Bool, true, false, cond, ◌||◌, List, [], ◌∷◌, ◌++◌, is_some, refl, sym, ap, ◌∙◌, arith, inl, inr, eq-eqb}
+use Rattle.std.proofs.Common.{◌≡◌, ◌≢◌, ℕ, ◌+◌, cond, ◌||◌, List, [], ◌∷◌, ◌++◌, is_some, refl, sym, ap, ◌∙◌, arith, inl, inr, eq-eqb}
 use Rattle.std.proofs.lemmas.Bool.Decides.{eqb_tells}
 use Rattle.euler_operators.specs.declared.Point.{Point}
 use Rattle.euler_operators.specs.Items.{count, tick, IsIn, IsApart}
@@ -17,9 +17,9 @@ use Rattle.euler_operators.specs.Model.{Model, LoopContent, lone, cycle, items_o
 use Rattle.euler_operators.specs.Sound.{Sound, Has, HasHalf, IsCycle}
 use Rattle.euler_operators.proofs.Halves.{mate_other, edge_of-mate}
 use Rattle.euler_operators.proofs.Tables.{remove-put}
-use Rattle.euler_operators.proofs.Models.{in-holds, holds-none}
+use Rattle.euler_operators.proofs.Models.{in-holds, holds-none, mate_there}
+use Rattle.euler_operators.proofs.Tests.{or_true}
 use Rattle.euler_operators.specs.Effect.{mev_at, kev, cycle_or_lone}
-use Rattle.euler_laws.proofs.shared.Fans.{half_mate}
 use Rattle.euler_laws.proofs.shared.Loops.{put_before, put_there, put_none, put_lone, none_free, count_out, after-walks}
 use Rattle.euler_laws.proofs.shared.Same.{mapped_some}
 use Rattle.euler_laws.proofs.shared.Undo.{same_loops, same_edges, same_model, taken_out, both_out, put_in, both_in}
@@ -46,10 +46,6 @@ module _ (h g k t : ℕ) where
 
   pub back_h : (c : LoopContent) → IsIn h (items_of c) → without_both h t c ≡ cycle_or_lone (without (mate h) (without h (items_of c))) t
   back_h c a = ap (λ s. cond (s || holds (mate h) c) (cycle_or_lone (without (mate h) (without h (items_of c))) t) c) (in-holds h c a)
-
-  or_true : (b : Bool) → (b || true) ≡ true
-  or_true true = refl
-  or_true false = refl
 
   pub back_m : (c : LoopContent) → IsIn (mate h) (items_of c) → without_both h t c ≡ cycle_or_lone (without (mate h) (without h (items_of c))) t
   back_m c a = ap (λ s. cond (holds h c || s) (cycle_or_lone (without (mate h) (without h (items_of c))) t) c) (in-holds (mate h) c a) ∙ ap (λ s. cond s (cycle_or_lone (without (mate h) (without h (items_of c))) t) c) (or_true (holds h c))
@@ -118,7 +114,7 @@ module _ (M : Model) (sound : Sound M) (g k h v : ℕ) (p : Point) (goes : MevGo
   no_parallel-N : (x : ℕ) → HasHalf N x → edge_of x ≢ edge_of h → tail N x ≡ tail N h → tail N (mate x) ≢ tail N (mate h)
   no_parallel-N x there a e f = elim (put.half_cases M sound g k h v p goes x there) [
     | inl o ↦
-        let t = half_mate M sound x o in
+        let t = mate_there M x o in
         let far : tail N (mate x) ≡ v = f ∙ put.tail-m M sound g k h v p goes in
         let near : tail N x ≡ tail M g = e ∙ put.tail-h M sound g k h v p goes in
         elim (IsIn_or_not (mate x) (put.moved M sound g k h v p goes)) [

@@ -13,13 +13,13 @@ use Rattle.euler_operators.specs.Table as table
 use Rattle.euler_operators.specs.Table.{Table, tables}
 use Rattle.euler_operators.specs.Model.{Model, LoopContent, lone, cycle, LoopRow, no_face, items_of, holds, tail, loop_of, content, face_of, cycle_of, after, outer, no_loop, solid_of}
 use Rattle.euler_operators.specs.Sound.{Sound, Has, HasHalf, StandsIn, IsTail, IsLoneAt}
-use Rattle.euler_operators.proofs.Halves.{mate_other, edge_of-mate, mate-mate, same_edge}
+use Rattle.euler_operators.proofs.Halves.{mate_other, edge_of-mate, mate-mate, same_edge, edges_apart, mate_edge_apart}
 use Rattle.euler_operators.proofs.Tables.{map_one}
-use Rattle.euler_operators.proofs.Models.{in-holds, holds_in, cycle_there, cycle_sound, content_cycle, row_of, other_loop}
+use Rattle.euler_operators.proofs.Models.{in-holds, holds_in, cycle_there, cycle_sound, content_cycle, row_of, other_loop, never_lone, mate_there}
 use Rattle.euler_operators.specs.Conditions.{face_at}
 use Rattle.euler_operators.specs.Effect.{kef, where_held}
-use Rattle.euler_laws.proofs.shared.Fans.{Fan, fan_of, half_after, half_mate, loop_after}
-use Rattle.euler_laws.proofs.shared.Loops.{IsLoop, canonical_cycle, light, loop_sound, Walks, loop_at, stands-walks, one_loop-walks, cycles-walks, ends_meet-walks, one_fan-walks, not_lone}
+use Rattle.euler_laws.proofs.shared.Fans.{Fan, fan_of, half_after, loop_after, none_in_fan}
+use Rattle.euler_laws.proofs.shared.Loops.{IsLoop, canonical_cycle, light, loop_sound, Walks, loop_at, stands-walks, one_loop-walks, cycles-walks, ends_meet-walks, one_fan-walks}
 use Rattle.euler_laws.proofs.shared.Arcs.{fan_kef_first, fan_kef_second, fan_kef_other}
 use Rattle.euler_laws.proofs.shared.Same.{solid_at}
 use Rattle.euler_laws.proofs.shared.Rows.{where_held_none, where_held_there}
@@ -66,7 +66,7 @@ module _ (M : Model) (sound : Sound M) (h : ℕ) (goes : KefGoes M h) where
   F = after_kef (after M) h m
 
   pub m_there : HasHalf M m
-  m_there = half_mate M sound h goes.h_there
+  m_there = mate_there M h goes.h_there
 
   pub u_w : u ≢ w
   u_w = sound.ends_differ h goes.h_there
@@ -234,22 +234,16 @@ module _ (M : Model) (sound : Sound M) (h : ℕ) (goes : KefGoes M h) where
   pub other_edge : (x : ℕ) → x ≢ h → x ≢ m → edge_of x ≢ edge_of h
   other_edge x a b e = elim (same_edge x h e) [ inl q ↦ a q | inr q ↦ b q ]
 
-  not_h : (x : ℕ) → edge_of x ≢ edge_of h → x ≢ h
-  not_h x a e = a (ap edge_of e)
-
   not_m : (x : ℕ) → edge_of x ≢ edge_of h → x ≢ m
   not_m x a e = a (ap edge_of e ∙ edge_of-mate h)
-
-  mate_edge : (x : ℕ) → edge_of x ≢ edge_of h → edge_of (mate x) ≢ edge_of h
-  mate_edge x a e = a (sym (edge_of-mate x) ∙ e)
 
   -- ---- walks
 
   in_zs : (x : ℕ) → edge_of x ≢ edge_of h → IsIn x xs ⊎ IsIn x ys → StandsIn N x r × ((q : ℕ) → StandsIn N x q → q ≡ r)
   in_zs x a i = (
     in-holds x (content N r) (subst (λ c. IsIn x (items_of c)) (sym content_r) (elim i [
-      | inl j ↦ omega (arith, count_zs x, tick_other x h (not_h x a), tick_other x m (not_m x a))
-      | inr j ↦ omega (arith, count_zs x, tick_other x h (not_h x a), tick_other x m (not_m x a))
+      | inl j ↦ omega (arith, count_zs x, tick_other x h (edges_apart x h a), tick_other x m (not_m x a))
+      | inr j ↦ omega (arith, count_zs x, tick_other x h (edges_apart x h a), tick_other x m (not_m x a))
     ])),
     λ q t. elim (came x q t).2 [
       | inl b ↦ b.0
@@ -322,9 +316,6 @@ module _ (M : Model) (sound : Sound M) (h : ℕ) (goes : KefGoes M h) where
     | inr e ↦ subst (IsLoop F) (sym (content_else q e.1 (not_s q there))) (old_loop q (content M q) refl e.1 (not_s q there) (loop_sound M sound q (loop_back q there)))
   ]
 
-  none_in : {t : ℕ} (g : Fan (after M) M t) (x : ℕ) → tail M x ≢ t → count x g.items ≡ 0
-  none_in g x a = elim (IsIn_or_not x g.items) [ inl i ↦ absurd (a (g.of_it x i).1) | inr n ↦ n ]
-
   abbrev pub fan_h : Fan (after M) M u
   fan_h = fan_of M sound h goes.h_there
 
@@ -334,18 +325,18 @@ module _ (M : Model) (sound : Sound M) (h : ℕ) (goes : KefGoes M h) where
   fan_u : Fan F N u
   fan_u = let i : IsIn h fan_h.items = fan_h.all h goes.h_there refl in
       parted.fan_less M N h edges_are (after M) F u h fan_h i refl (λ y j n. other_edge y n (λ p. u_w (sym (fan_h.of_it y j).1 ∙ ap (tail M) p)))
-      (fan_kef_first (after M) h fan_h.items fan_h.apart fan_h.ring i (none_in fan_h m (λ e. u_w (sym e))) after_m)
+      (fan_kef_first (after M) h fan_h.items fan_h.apart fan_h.ring i (none_in_fan M fan_h m (λ e. u_w (sym e))) after_m)
 
   fan_w : Fan F N w
   fan_w = let i : IsIn m fan_m.items = fan_m.all m m_there refl in
       parted.fan_less M N h edges_are (after M) F w m fan_m i (edge_of-mate h) (λ y j n. other_edge y (λ p. u_w (ap (tail M) (sym p) ∙ (fan_m.of_it y j).1)) n)
-      (fan_kef_second (after M) h fan_m.items fan_m.apart fan_m.ring i (none_in fan_m h u_w) (λ e. after_h (ap (after M) (sym (mate-mate h)) ∙ e)))
+      (fan_kef_second (after M) h fan_m.items fan_m.apart fan_m.ring i (none_in_fan M fan_m h u_w) (λ e. after_h (ap (after M) (sym (mate-mate h)) ∙ e)))
 
   fan_else : (x : ℕ) → HasHalf M x → tail M x ≢ u → tail M x ≢ w → Fan F N (tail M x)
   fan_else x o a b = let g = fan_of M sound x o in
       parted.fan_stays M N h edges_are (after M) F (tail M x) g
       (λ y i. let t = g.of_it y i in other_edge y (λ e. a (sym t.1 ∙ ap (tail M) e)) (λ e. b (sym t.1 ∙ ap (tail M) e)))
-      (fan_kef_other (after M) h g.items g.apart g.ring (none_in g h (λ e. a (sym e))) (none_in g m (λ e. b (sym e))))
+      (fan_kef_other (after M) h g.items g.apart g.ring (none_in_fan M g h (λ e. a (sym e))) (none_in_fan M g m (λ e. b (sym e))))
 
   fans : (x : ℕ) → HasHalf N x → Fan F N (tail N x)
   fans x there = let o = half_cases x there in subst (Fan F N) (sym (tail_old x o.1)) (elim (eqb_tells (tail M x) u) [
@@ -371,17 +362,17 @@ module _ (M : Model) (sound : Sound M) (h : ℕ) (goes : KefGoes M h) where
 
   lone_back : (q t : ℕ) → content N q ≡ lone t → content M q ≡ lone t
   lone_back q t e = elim (eqb_tells q r) [
-    | inl p ↦ absurd (not_lone zs t (sym content_r ∙ ap (content N) (sym p.1) ∙ e))
+    | inl p ↦ absurd (never_lone zs t (sym content_r ∙ ap (content N) (sym p.1) ∙ e))
     | inr p ↦ elim (eqb_tells q s) [
-      | inl k ↦ absurd (not_lone [] t (sym content_s ∙ ap (content N) (sym k.1) ∙ e))
+      | inl k ↦ absurd (never_lone [] t (sym content_s ∙ ap (content N) (sym k.1) ∙ e))
       | inr k ↦ sym (content_else q p.1 k.1) ∙ e
     ]
   ]
 
   lone_on : (q t : ℕ) → content M q ≡ lone t → content N q ≡ lone t
   lone_on q t e = content_else q
-      (λ p. not_lone xs t (sym (content_cycle M sound h goes.h_there) ∙ ap (content M) (sym p) ∙ e))
-      (λ p. not_lone ys t (sym (content_cycle M sound m m_there) ∙ ap (content M) (sym p) ∙ e)) ∙ e
+      (λ p. never_lone xs t (sym (content_cycle M sound h goes.h_there) ∙ ap (content M) (sym p) ∙ e))
+      (λ p. never_lone ys t (sym (content_cycle M sound m m_there) ∙ ap (content M) (sym p) ∙ e)) ∙ e
 
   -- others start at the two ends
   tail_at : (x : ℕ) → HasHalf M x → IsTail N (tail M x)
@@ -483,7 +474,7 @@ module _ (M : Model) (sound : Sound M) (h : ℕ) (goes : KefGoes M h) where
 
   one_solid-kef : (x : ℕ) → HasHalf N x → solid_at N (loop_of N x) ≡ solid_at N (loop_of N (mate x))
   one_solid-kef x there = let o = half_cases x there in
-      solid_old x o.0 o.1 ∙ sound.one_solid x o.0 ∙ sym (solid_old (mate x) (half_mate M sound x o.0) (mate_edge x o.1))
+      solid_old x o.0 o.1 ∙ sound.one_solid x o.0 ∙ sym (solid_old (mate x) (mate_there M x o.0) (mate_edge_apart x h o.1))
 
   -- a sound model stays sound under kef
   pub sound-kef : Sound N
@@ -494,7 +485,7 @@ module _ (M : Model) (sound : Sound M) (h : ℕ) (goes : KefGoes M h) where
     cycles = cycles-walks N F walks;
     ends_meet = ends_meet-walks N F walks;
     tails_there = λ x there. let o = half_cases x there in subst (Has N.vertices) (sym (tail_old x o.1)) (has_vertex _ (sound.tails_there x o.0));
-    ends_differ = λ x there e. let o = half_cases x there in sound.ends_differ x o.0 (sym (tail_old x o.1) ∙ e ∙ tail_old (mate x) (mate_edge x o.1));
+    ends_differ = λ x there e. let o = half_cases x there in sound.ends_differ x o.0 (sym (tail_old x o.1) ∙ e ∙ tail_old (mate x) (mate_edge_apart x h o.1));
     lone_or_tail = lone_or_tail-kef;
     lone_is_no_tail = λ q x there e. let o = half_cases x there in sound.lone_is_no_tail q x o.0 (lone_back q (tail N x) e ∙ ap lone (tail_old x o.1));
     one_lone = λ a b t x y. sound.one_lone a b t (lone_back a t x) (lone_back b t y);

@@ -1,6 +1,7 @@
 -- The corners that mekr joins: a loop, its vertex, and the half-edges of the loop from the corner on, none where it is lone.
 use Rattle.std.proofs.Common.{◌≡◌, ◌≢◌, ℕ, Bool, true, not, nat_eq, ◌&&◌, List, [], ◌∷◌, None, is_some, IsTrue, refl, sym, ap, ◌∙◌, subst, arith, ◌⊎◌, inl, inr}
 use Rattle.std.proofs.lemmas.Bool.Decides.{nat_tests}
+use Rattle.std.proofs.lemmas.Bool.{not-true, eqb-true, eqb-false}
 use Rattle.euler_operators.specs.Items.{count, IsIn, IsApart, head_or}
 use Rattle.euler_operators.specs.Rings.{canonical, rotate_to, rest, IsRing}
 use Rattle.euler_operators.proofs.Lists.{tick_same}
@@ -15,12 +16,14 @@ use Rattle.euler_operators.specs.Model.{Model, lone, cycle, items_of, tail, afte
 use Rattle.euler_operators.specs.Sound.{Sound, Has, HasHalf, StandsIn}
 use Rattle.euler_operators.proofs.Halves.{edge_of-code}
 use Rattle.euler_operators.proofs.Models.{in-holds, holds_in, row_of, content_cycle, cycle_there, cycle_sound}
+use Rattle.euler_operators.proofs.Tables.{no_row}
+use Rattle.euler_operators.proofs.Members.{same_head}
 use Rattle.euler_operators.specs.declared.Op.TheVariants.{Mekr}
 use Rattle.euler_operators.specs.Conditions.{first_false, conditions, corner_tail, corner_loop, corner_list, corner_known, corner_lone}
 use Rattle.euler_operators.specs.Effect.{cycle_or_lone}
 use Rattle.euler_laws.proofs.shared.Loops.{light}
 use Rattle.euler_laws.proofs.shared.Rows.{items_or_lone, count_or_lone, lone_is}
-use Rattle.euler_laws.proofs.shared.Goes.{all_hold, not_true, free, equal, unequal}
+use Rattle.euler_laws.proofs.shared.Goes.{all_hold}
 
 -- loop q reads zs from a corner at vertex v on, or is lone there
 pub record Spot (M : Model) (q v : ℕ) (zs : List ℕ) : Type 0 where
@@ -28,9 +31,6 @@ pub record Spot (M : Model) (q v : ℕ) (zs : List ℕ) : Type 0 where
   pub holds_it : content M q ≡ cycle_or_lone zs v
   pub apart : IsApart zs
   pub starts : (y : ℕ) (ys : List ℕ) → zs ≡ y ∷ ys → tail M y ≡ v
-
-same_head : (x y : ℕ) (xs ys : List ℕ) → x ∷ xs ≡ y ∷ ys → y ≡ x
-same_head x y xs ys e = cc
 
 no_first : (y : ℕ) (ys : List ℕ) → [] ≡ y ∷ ys → ⊥
 no_first y ys e = cc
@@ -71,7 +71,7 @@ pub record JoinGoes (M : Model) (h q l u w : ℕ) (Y X : List ℕ) : Type 0 wher
   pub no_outer : outer M (face_of M l) ≢ l
   pub ends_apart : u ≢ w
 
-ring_is : (b : Bool) (f o k : ℕ) → (b && nat_eq f f && not (nat_eq o k)) ≡ true → o ≢ k
+pub ring_is : (b : Bool) (f o k : ℕ) → (b && nat_eq f f && not (nat_eq o k)) ≡ true → o ≢ k
 ring_is b f o k e p = grind (arith, nat_tests)
 
 pub join_goes : (M : Model) (c d : Corner) (h : HalfEdge) → Sound M → first_false M (Mekr c d h) ≡ None →
@@ -83,12 +83,12 @@ join_goes M c d h sound e =
     record {
       first = spot_of M sound c t.0 t.1.1.0;
       second = spot_of M sound d t.1.0 t.1.1.1.0;
-      edge_free = ap (table.get M.edges) (edge_of-code h) ∙ free _ (not_true _ t.1.1.1.1.0);
+      edge_free = ap (table.get M.edges) (edge_of-code h) ∙ no_row _ (not-true _ t.1.1.1.1.0);
       edge_fits = ap is_number (edge_of-code h) ∙ w.1.1.0;
-      loops_apart = unequal _ _ (not_true _ t.1.1.1.1.1.0);
-      one_face = equal _ _ t.1.1.1.1.1.1.0;
+      loops_apart = eqb-false _ _ (not-true _ t.1.1.1.1.1.0);
+      one_face = eqb-true _ _ t.1.1.1.1.1.1.0;
       no_outer = ring_is (table.has M.loops (corner_loop M d)) (face_of M (corner_loop M d)) (outer M (face_of M (corner_loop M d))) (corner_loop M d) t.1.1.1.1.1.1.1.0;
-      ends_apart = unequal _ _ (not_true _ t.1.1.1.1.1.1.1.1.0);
+      ends_apart = eqb-false _ _ (not-true _ t.1.1.1.1.1.1.1.1.0);
     }
 
 first_of : (k : ℕ) (zs : List ℕ) → ((zs ≡ []) × (head_or k zs ≡ k)) ⊎ ((ys : List ℕ) × (zs ≡ head_or k zs ∷ ys))

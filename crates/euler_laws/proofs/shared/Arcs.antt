@@ -1,15 +1,13 @@
 -- The part of a vertex's fan from one half-edge up to another, and what operators make of fans.
-use Rattle.std.proofs.Common.{◌≡◌, ◌≢◌, ℕ, ◌*◌, ◌≤◌, true, false, cond, List, [], ◌∷◌, ◌++◌, length, Some, is_some, refl, sym, ap, ◌∙◌, arith, ◌⊎◌, inl, inr, true≢false, ne_eqb, length-append}
+use Rattle.std.proofs.Common.{◌≡◌, ◌≢◌, ℕ, ◌*◌, true, false, cond, List, [], ◌∷◌, ◌++◌, length, Some, is_some, refl, sym, ap, ◌∙◌, arith, ◌⊎◌, inl, inr, true≢false, ne_eqb}
 use Rattle.std.proofs.lemmas.Bool.Decides.{eqb_tells}
 use Rattle.std.specs.Ordering.{nat_cmp}
 use Rattle.std.specs.Cmp.{unsigned_tied}
 use Rattle.std.specs.FinMap.Entries.{find}
-use Rattle.euler_operators.specs.Items.{count, tick, IsIn, IsApart, before as before_item, after as after_item}
+use Rattle.euler_operators.specs.Items.{count, tick, IsIn, IsApart}
 use Rattle.euler_operators.specs.Rings.{rest, canonical, upto, onward, IsRing}
-use Rattle.euler_operators.specs.Edits.{without}
 use Rattle.euler_operators.specs.Operators.{after_mev, after_mef, after_kev, after_kef, put_ring, take_ring}
-use Rattle.euler_operators.proofs.Lists.{tick_same, tick_other, split_at}
-use Rattle.euler_operators.proofs.Edits.{count-without}
+use Rattle.euler_operators.proofs.Lists.{tick_same}
 use Rattle.euler_operators.proofs.Cuts.{arc_ring}
 use Rattle.euler_operators.proofs.Vertices.{vertex_mev, vertex_mev_other, vertex_mef_first, vertex_mef_second, vertex_mef_other, vertex_kev, vertex_kev_other, vertex_kef_first, vertex_kef_second, vertex_kef_other}
 use Rattle.euler_operators.specs.HalfEdge.{mate, edge_of, is_first, plus, minus}
@@ -17,16 +15,7 @@ use Rattle.euler_operators.specs.Table as table
 use Rattle.euler_operators.specs.Model.{Model, EdgeRow, round, arc}
 use Rattle.euler_operators.specs.Sound.{HasHalf}
 use Rattle.euler_operators.proofs.Halves.{mate_cases}
-
--- a list without repeats within another is no longer
-apart_within : (xs ys : List ℕ) → IsApart xs → ((x : ℕ) → IsIn x xs → IsIn x ys) → length xs ≤ length ys
-apart_within [] ys d i = omega arith
-apart_within (x ∷ xs) ys d i =
-    let j : IsIn x ys = i x (omega (arith, tick_same x)) in
-    let less : length xs ≤ length (without x ys) = apart_within xs (without x ys) (λ z. omega (arith, d z)) (λ z k. omega (arith, i z, count-without z x ys j, other z k)) in
-    omega (arith, less, ap length (split_at x ys j), length-append (before_item x ys) (x ∷ after_item x ys), length-append (before_item x ys) (after_item x ys)) where
-      other : (z : ℕ) → IsIn z xs → tick z x ≡ 0
-      other z k = elim (eqb_tells z x) [ inl e ↦ absurd (omega (arith, d x, tick_same x, ap (λ y. count y xs) e.1)) | inr e ↦ tick_other z x e.1 ]
+use Rattle.euler_operators.proofs.Members.{apart_within}
 
 pub halves_of_edge : (x : ℕ) → ((x ≡ plus (edge_of x)) × (is_first x ≡ true)) ⊎ ((x ≡ minus (edge_of x)) × (is_first x ≡ false))
 unfolding edge_of

@@ -5,8 +5,7 @@ use Rattle.euler_operators.specs.Table as table
 use Rattle.euler_operators.specs.Table.{Table, get-empty}
 use Rattle.euler_operators.specs.Model.{cycle, no_loop, empty_model, holds, content}
 use Rattle.euler_operators.specs.Sound.{Sound, Has, HasHalf, StandsIn, IsLoneAt}
-use Rattle.euler_operators.proofs.Models.{holds_in}
-use Rattle.euler_laws.proofs.shared.Loops.{not_lone}
+use Rattle.euler_operators.proofs.Models.{holds_in, never_lone}
 
 has_nothing : (X : Type 0) (n : ℕ) → Has (table.empty {X = X}) n → ⊥
 has_nothing X n t = true≢false (sym t ∙ ap is_some (get-empty {X = X} n))
@@ -23,7 +22,7 @@ none_stands : (h l : ℕ) → StandsIn empty_model h l → ⊥
 none_stands h l s = absurd (omega (arith, holds_in h (cycle []) (sym (ap (holds h) (no_content l)) ∙ s)))
 
 none_lone : (l v : ℕ) → IsLoneAt empty_model l v → ⊥
-none_lone l v e = not_lone [] v (sym (no_content l) ∙ e)
+none_lone l v e = never_lone [] v (sym (no_content l) ∙ e)
 
 -- the model that has nothing is sound
 pub empty_sound : Sound empty_model

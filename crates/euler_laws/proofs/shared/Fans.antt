@@ -1,17 +1,17 @@
 -- The half-edges that leave a vertex, as a ring.
-use Rattle.std.proofs.Common.{◌≡◌, ℕ, ◌≤◌, cond, List, [], ◌∷◌, ◌++◌, is_some, refl, sym, ap, ◌∙◌, subst, arith, ◌⊎◌, inl, inr}
+use Rattle.std.proofs.Common.{◌≡◌, ◌≢◌, ℕ, ◌≤◌, cond, List, [], ◌∷◌, ◌++◌, is_some, refl, sym, ap, ◌∙◌, subst, arith, ◌⊎◌, inl, inr}
 use Rattle.std.proofs.lemmas.Bool.Decides.{nat_tests, eqb_tells}
 use Rattle.euler_operators.specs.Items.{count, tick, IsIn, IsApart, head_or, before, after as after_item}
 use Rattle.euler_operators.specs.Rings.{rest, successor, predecessor, IsPath, IsRing}
 use Rattle.euler_operators.proofs.Lists.{count-append, tick_same, tick_other, split_at, IsIn_or_not}
 use Rattle.euler_operators.proofs.Operators.{apart_back}
-use Rattle.euler_operators.proofs.Rings.{rotation_at, count_at, IsRing-same, next_is_successor, IsIn_successor, IsIn_predecessor, successor-predecessor, IsPath-append, IsPath-left}
+use Rattle.euler_operators.proofs.Rings.{rotation_at, count_at, IsRing-same, IsIn_successor, IsIn_predecessor, successor-predecessor, IsPath-append, IsPath-left, ring_stays}
 use Rattle.euler_operators.specs.HalfEdge.{mate}
-use Rattle.euler_operators.specs.Table as table
 use Rattle.euler_operators.specs.Model.{Model, items_of, tail, loop_of, content, cycle_of, after, round}
-use Rattle.euler_operators.specs.Sound.{Sound, HasHalf, StandsIn, Reaches, here, further}
-use Rattle.euler_operators.proofs.Halves.{edge_of-mate, mate-mate}
-use Rattle.euler_operators.proofs.Models.{in-holds, cycle_there, cycle_sound}
+use Rattle.euler_operators.specs.Sound.{Sound, Has, HasHalf, StandsIn, Reaches, here, further}
+use Rattle.euler_operators.proofs.Halves.{mate-mate}
+use Rattle.euler_operators.proofs.Models.{in-holds, cycle_there, cycle_sound, row_of, mate_there}
+use Rattle.euler_operators.specs.Conditions.{face_at}
 
 pub reaches_trans : (next : ℕ → ℕ) (x y z : ℕ) → Reaches next x y → Reaches next y z → Reaches next x z
 reaches_trans next x y z p here = p
@@ -33,9 +33,6 @@ path_reaches next x (z ∷ zs) d y p i = elim (eqb_tells y x) [
 -- of two items of a ring each is reached from the other
 pub ring_reaches : (next : ℕ → ℕ) (ws : List ℕ) (x y : ℕ) → IsRing next ws → IsIn x ws → IsIn y ws → Reaches next x y
 ring_reaches next ws x y r i j = path_reaches next x (rest x ws) x y (IsRing-same next ws (x ∷ rest x ws) (rotation_at x ws i) r) (omega (arith, count_at y x ws i))
-
-pub ring_stays : (next : ℕ → ℕ) (xs : List ℕ) (x : ℕ) → IsRing next xs → IsIn x xs → IsIn (next x) xs
-ring_stays next xs x r i = subst (λ q. IsIn q xs) (sym (next_is_successor next xs x r i)) (IsIn_successor x xs i)
 
 -- what is reached from an item of a ring is one
 pub reached_in : (next : ℕ → ℕ) (ws : List ℕ) (x y : ℕ) → IsRing next ws → IsIn x ws → Reaches next x y → IsIn y ws
@@ -95,13 +92,17 @@ pub record Fan (next : ℕ → ℕ) (M : Model) (v : ℕ) : Type 0 where
   pub of_it : (x : ℕ) → IsIn x items → HasHalf M x × (tail M x ≡ v)
   pub all : (x : ℕ) → HasHalf M x → tail M x ≡ v → IsIn x items
 
+-- what doesn't start at the vertex stands not in its fan
+pub none_in_fan : (M : Model) {v : ℕ} (fan : Fan (after M) M v) (x : ℕ) → tail M x ≢ v → count x fan.items ≡ 0
+none_in_fan M fan x a = elim (IsIn_or_not x fan.items) [ inl i ↦ absurd (a (fan.of_it x i).1) | inr n ↦ n ]
+
 module _ (M : Model) (sound : Sound M) where
+  pub half_face : (z : ℕ) → HasHalf M z → Has M.faces (face_at M z)
+  half_face z there = sound.loops_of_faces (loop_of M z) (ap is_some (row_of M sound z there))
+
   pub half_after : (z : ℕ) → HasHalf M z → HasHalf M (after M z)
   unfolding after
   half_after z there = sound.only_edges (successor (cycle_of M z) z) (loop_of M z) (in-holds _ (content M (loop_of M z)) (IsIn_successor z (cycle_of M z) (cycle_there M sound z there)))
-
-  pub half_mate : (z : ℕ) → HasHalf M z → HasHalf M (mate z)
-  half_mate z there = ap (λ q. is_some (table.get M.edges q)) (edge_of-mate z) ∙ there
 
   pub loop_after : (z : ℕ) → HasHalf M z → loop_of M (after M z) ≡ loop_of M z
   unfolding after
@@ -112,7 +113,7 @@ module _ (M : Model) (sound : Sound M) where
   reach_half x y there here = (there, refl)
   reach_half x y there (further {h = w} p) =
       let q = reach_half x w there p in
-      (half_after (mate w) (half_mate w q.0), sound.ends_meet (mate w) (half_mate w q.0) ∙ ap (tail M) (mate-mate w) ∙ q.1)
+      (half_after (mate w) (mate_there M w q.0), sound.ends_meet (mate w) (mate_there M w q.0) ∙ ap (tail M) (mate-mate w) ∙ q.1)
 
   -- the half-edge from which one comes to g
   pub back_of : (g : ℕ) → HasHalf M g → (b : ℕ) × HasHalf M b × (after M b ≡ g)
@@ -128,7 +129,7 @@ module _ (M : Model) (sound : Sound M) where
   fan_of g there =
       let b = back_of g there in
       let p : ℕ = mate b.0 in
-      let pt : HasHalf M p = half_mate b.0 b.1 in
+      let pt : HasHalf M p = mate_there M b.0 b.1 in
       let back : round M p ≡ g = ap (after M) (mate-mate b.0) ∙ b.2 in
       let e : tail M g ≡ tail M p = sym (ap (tail M) b.2) ∙ sound.ends_meet b.0 b.1 in
       let w : Way (round M) g p = way_of (round M) g p (sound.one_fan g p there pt e) in
@@ -149,7 +150,7 @@ module _ (M : Model) (sound : Sound M) where
   kept_round f a b x y there here = refl
   kept_round f a b x y there (further {h = w} p) =
       let q = reach_half x w there p in
-      a (mate w) (half_mate w q.0) ∙ b w q.0 ∙ kept_round f a b x w there p
+      a (mate w) (mate_there M w q.0) ∙ b w q.0 ∙ kept_round f a b x w there p
 
 pub fixed_reaches : (next : ℕ → ℕ) (x y : ℕ) → next x ≡ x → Reaches next x y → y ≡ x
 fixed_reaches next x y e here = refl

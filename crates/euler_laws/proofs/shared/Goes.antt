@@ -1,7 +1,7 @@
 -- The facts that the conditions of an operator say, and conditions from facts.
-use Rattle.std.proofs.Common.{◌≡◌, ◌≢◌, ℕ, Bool, true, false, cond, not, nat_eq, List, [], ◌∷◌, Option, Some, None, is_some, refl, sym, ap, ◌∙◌, arith, true≢false, IsTrue}
-use Rattle.std.proofs.lemmas.Bool.Decides.{nat_tests}
-use Rattle.euler_operators.specs.Conditions.{Condition, AllHold, first_refusal}
+use Rattle.std.proofs.Common.{◌≡◌, ℕ, Bool, true, false, cond, not, List, [], ◌∷◌, ◌++◌, Ok, Err, Option, Some, None, is_some, refl, sym, ap, ◌∙◌, true≢false, IsTrue}
+use Rattle.euler_operators.specs.Conditions.{Condition, AllHold, first_refusal, verdict}
+use Rattle.euler_operators.specs.declared.Refusal.{Refusal}
 use Rattle.euler_operators.specs.Model.{is_number}
 
 all_step : (c : Condition) (cs : List Condition) (b : Bool) → c.holds ≡ b → cond b (first_refusal cs) (Some c.refusal) ≡ None → (first_refusal cs ≡ None → AllHold cs) → AllHold (c ∷ cs)
@@ -18,36 +18,36 @@ pub none_refuses : (cs : List Condition) → AllHold cs → first_refusal cs ≡
 none_refuses [] h = refl
 none_refuses (c ∷ cs) h = ap (λ b. cond b (first_refusal cs) (Some c.refusal)) h.0 ∙ none_refuses cs h.1
 
-pub not_true : (b : Bool) → not b ≡ true → b ≡ false
-not_true true e = sym e
-not_true false e = refl
-
 pub not_false : (b : Bool) → b ≡ false → not b ≡ true
 not_false b e = ap not e
-
-pub not_back : (b : Bool) → not b ≡ false → b ≡ true
-not_back true e = refl
-not_back false e = sym e
 
 -- no number of a kind is 0
 pub no_zero : (n : ℕ) → n ≡ 0 → IsTrue (is_number n) → ⊥
 no_zero n z fits = true≢false (sym fits ∙ ap is_number z)
 
-pub free : {X : Type 0} (o : Option X) → is_some o ≡ false → o ≡ None
-free None e = refl
-free (Some x) e = absurd (true≢false e)
-
 pub taken : {X : Type 0} (o : Option X) → o ≡ None → is_some o ≡ false
 taken o e = ap is_some e
 
-pub equal : (a b : ℕ) → nat_eq a b ≡ true → a ≡ b
-equal a b e = grind (arith, nat_tests)
+-- ---- conditions put after conditions
 
-pub unequal : (a b : ℕ) → nat_eq a b ≡ false → a ≢ b
-unequal a b e = grind (arith, nat_tests)
+pub all_hold-append : (cs ds : List Condition) → AllHold cs → AllHold ds → AllHold (cs ++ ds)
+all_hold-append [] ds h k = k
+all_hold-append (c ∷ cs) ds h k = (h.0, all_hold-append cs ds h.1 k)
 
-pub equals : (a b : ℕ) → a ≡ b → nat_eq a b ≡ true
-equals a b e = grind (arith, nat_tests)
+pub all_hold-front : (cs ds : List Condition) → AllHold (cs ++ ds) → AllHold cs
+all_hold-front [] ds h = tt
+all_hold-front (c ∷ cs) ds h = (h.0, all_hold-front cs ds h.1)
 
-pub differs : (a b : ℕ) → a ≢ b → nat_eq a b ≡ false
-differs a b e = grind (arith, nat_tests)
+pub all_hold-back : (cs ds : List Condition) → AllHold (cs ++ ds) → AllHold ds
+all_hold-back [] ds h = h
+all_hold-back (c ∷ cs) ds h = all_hold-back cs ds h.1
+
+-- ---- verdicts
+
+pub verdict_passed : (o : Option Refusal) (u : Unit {0}) → Ok u ≡ verdict o → o ≡ None
+verdict_passed None u e = refl
+verdict_passed (Some r) u e = cc
+
+pub verdict_failed : (o : Option Refusal) (r : Refusal) → Err r ≡ verdict o → o ≡ Some r
+verdict_failed None r e = cc
+verdict_failed (Some s) r e = cc

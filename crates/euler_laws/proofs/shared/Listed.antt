@@ -1,19 +1,17 @@
 -- The numbers of a table whose rows pass a test: which they are, and that they rise.
-use Rattle.std.proofs.Common.{◌≡◌, ◌≢◌, ℕ, Bool, true, false, cond, nat_eq, nat_lt, ◌<◌, ◌&&◌, ◌||◌, T, List, [], ◌∷◌, Some, refl, sym, ap, subst, ◌∙◌, arith, true≢false, ◌⊎◌, inl, inr}
-use Rattle.std.specs.Ordering.{nat_cmp, is_lt}
+use Rattle.std.proofs.Common.{◌≡◌, ◌≢◌, ℕ, Bool, true, false, cond, nat_eq, nat_lt, ◌<◌, ◌&&◌, ◌||◌, T, List, [], ◌∷◌, ◌++◌, Some, ne_eqb, refl, sym, ap, subst, ◌∙◌, arith, true≢false, ◌⊎◌, inl, inr}
+use Rattle.std.specs.Ordering.{nat_cmp}
 use Rattle.std.specs.Cmp.{unsigned_tied}
 use Rattle.std.specs.FinMap.Entries.{find, is_sorted, below_all}
 use Rattle.std.proofs.lemmas.Bool.Decides.{nat_tests, eqb_tells}
+use Rattle.std.proofs.lemmas.Bool.{false_from_ne_true}
+use Rattle.std.proofs.lemmas.Option.{same_Some}
+use Rattle.euler_operators.specs.Items.{tick, IsIn}
+use Rattle.euler_operators.proofs.Lists.{tick_same, tick_other}
 use Rattle.euler_operators.specs.Table.{Table, get, all_where, all_in}
-use Rattle.euler_operators.proofs.Tables.{and_left, and_right}
+use Rattle.euler_operators.proofs.Tables.{and_left, and_right, less_means, find_here, find_later}
+use Rattle.euler_operators.proofs.Tests.{or_true}
 use Rattle.euler_operators.specs.Conditions.{lists, strictly_rises}
-
-one_value : {X : Type 0} (x y : X) → Some x ≡ Some y → x ≡ y
-one_value x y e = cc
-
-or_true : (a : Bool) → (a || true) ≡ true
-or_true true = refl
-or_true false = refl
 
 -- the first of a list stands in it, and what stands in the rest does
 pub first_listed : (n : ℕ) (ns : List ℕ) → lists (n ∷ ns) n ≡ true
@@ -28,21 +26,38 @@ listed_cases n q ns l = elim (eqb_tells q n) [ inl e ↦ inl e.1 | inr e ↦ inr
   other : (a b : ℕ) → a ≢ b → nat_eq b a ≡ false
   other a b ne = grind (arith, nat_tests)
 
-less_means : (k a : ℕ) → T (is_lt (nat_cmp k a)) → k < a
-less_means k a h = grind (arith, nat_tests)
+-- to be listed is to stand in the list
+pub IsIn-from_listed : (q : ℕ) (ns : List ℕ) → lists ns q ≡ true → IsIn q ns
+IsIn-from_listed q [] l = absurd (true≢false (sym l))
+IsIn-from_listed q (n ∷ ns) l = elim (listed_cases n q ns l) [
+  | inl s ↦ omega (arith, ap (tick q) s, tick_same q)
+  | inr i ↦ omega (arith, IsIn-from_listed q ns i)
+]
+
+pub listed-from_in : (q : ℕ) (ns : List ℕ) → IsIn q ns → lists ns q ≡ true
+listed-from_in q [] i = absurd (omega (arith, i))
+listed-from_in q (n ∷ ns) i = elim (eqb_tells q n) [
+  | inl e ↦ subst (λ k. lists (n ∷ ns) k ≡ true) (sym e.1) (first_listed n ns)
+  | inr e ↦ rest_listed n q ns (listed-from_in q ns (omega (arith, i, tick_other q n e.1)))
+]
+
+pub listed_front : (xs ys : List ℕ) (q : ℕ) → lists xs q ≡ true → lists (xs ++ ys) q ≡ true
+listed_front [] ys q e = absurd (true≢false (sym e))
+listed_front (x ∷ xs) ys q e = elim (listed_cases x q xs e) [
+  | inl s ↦ ap (λ k. lists (x ∷ (xs ++ ys)) k) s ∙ first_listed x (xs ++ ys)
+  | inr i ↦ rest_listed x q (xs ++ ys) (listed_front xs ys q i)
+]
+
+pub other_last : (fs : List ℕ) (u f : ℕ) → f ≢ u → lists (fs ++ u ∷ []) f ≡ lists fs f
+other_last [] u f ne = ap (λ b. b || false) (ne_eqb u f (λ e. ne (sym e)))
+other_last (g ∷ gs) u f ne = ap (λ b. nat_eq g f || b) (other_last gs u f ne)
 
 module _ {X : Type 0} where
-  find_in : (q : ℕ) (e : ℕ × X) (es : List (ℕ × X)) → find nat_cmp q (e ∷ es) ≡ cond (nat_eq q e.0) (Some e.1) (find nat_cmp q es)
+  pub find_in : (q : ℕ) (e : ℕ × X) (es : List (ℕ × X)) → find nat_cmp q (e ∷ es) ≡ cond (nat_eq q e.0) (Some e.1) (find nat_cmp q es)
   find_in q e es = ap (λ b. cond b (Some e.1) (find nat_cmp q es)) (unsigned_tied q e.0)
 
-  find_here : (e : ℕ × X) (es : List (ℕ × X)) → find nat_cmp e.0 (e ∷ es) ≡ Some e.1
-  find_here e es = let s : nat_eq e.0 e.0 ≡ true = grind (arith, nat_tests) in find_in e.0 e es ∙ ap (λ b. cond b (Some e.1) (find nat_cmp e.0 es)) s
-
-  find_later : (q : ℕ) (e : ℕ × X) (es : List (ℕ × X)) → q ≢ e.0 → find nat_cmp q (e ∷ es) ≡ find nat_cmp q es
-  find_later q e es a = let s : nat_eq q e.0 ≡ false = grind (arith, nat_tests) in find_in q e es ∙ ap (λ b. cond b (Some e.1) (find nat_cmp q es)) s
-
   -- what is found past the numbers below k is greater
-  found_past : (k q : ℕ) (es : List (ℕ × X)) (y : X) → T (below_all nat_cmp k es) → find nat_cmp q es ≡ Some y → k < q
+  pub found_past : (k q : ℕ) (es : List (ℕ × X)) (y : X) → T (below_all nat_cmp k es) → find nat_cmp q es ≡ Some y → k < q
   found_past k q [] y h is = cc
   found_past k q (e ∷ es) y h is = elim (eqb_tells q e.0) [
     | inl s ↦ subst (λ n. k < n) (sym s.1) (less_means k e.0 (and_left _ _ h))
@@ -72,7 +87,7 @@ module _ {X : Type 0} where
   in_list p n x [] at passes = cc
   in_list p n x (e ∷ es) at passes = elim (eqb_tells n e.0) [
     | inl q ↦
-        let v : x ≡ e.1 = one_value x e.1 (sym at ∙ ap (λ k. find nat_cmp k (e ∷ es)) q.1 ∙ find_here e es) in
+        let v : x ≡ e.1 = same_Some x e.1 (sym at ∙ ap (λ k. find nat_cmp k (e ∷ es)) q.1 ∙ find_here e es) in
         let t : p e.0 e.1 ≡ true = (λ i. p (sym q.1 i) (sym v i)) ∙ passes in
         ap (λ b. lists (cond b (e.0 ∷ all_in p es) (all_in p es)) n) t ∙ subst (λ k. lists (e.0 ∷ all_in p es) k ≡ true) (sym q.1) (first_listed e.0 (all_in p es))
     | inr q ↦
@@ -113,11 +128,8 @@ passes_listed p t n x at passes = in_list p n x t.rows at passes
 pub listed_as : {X : Type 0} (p : ℕ → X → Bool) (t : Table X) (n : ℕ) (x : X) → get t n ≡ Some x → lists (all_where p t) n ≡ p n x
 listed_as p t n x at = elim (p n x) as (λ b. p n x ≡ b → lists (all_where p t) n ≡ b) [
   | true ↦ λ e. passes_listed p t n x at e
-  | false ↦ λ e. never (lists (all_where p t) n) (λ l. let y = listed_passes p t n l in true≢false (sym y.2 ∙ ap (p n) (one_value y.0 x (sym y.1 ∙ at)) ∙ e))
-] refl where
-  never : (b : Bool) → (b ≡ true → ⊥) → b ≡ false
-  never true h = absurd (h refl)
-  never false h = refl
+  | false ↦ λ e. false_from_ne_true (lists (all_where p t) n) (λ l. let y = listed_passes p t n l in true≢false (sym y.2 ∙ ap (p n) (same_Some y.0 x (sym y.1 ∙ at)) ∙ e))
+] refl
 
 pub all_where-rises : {X : Type 0} (p : ℕ → X → Bool) (t : Table X) → strictly_rises (all_where p t) ≡ true
 unfolding all_where

@@ -5,7 +5,7 @@ use Rattle.euler_operators.specs.Items.{count, tick, IsIn, IsApart}
 use Rattle.euler_operators.specs.Rings.{canonical, successor, IsRing}
 use Rattle.euler_operators.specs.Edits.{insert_before, without, redirect, led_over}
 use Rattle.euler_operators.proofs.Lists.{tick_same, tick_other, IsIn_or_not}
-use Rattle.euler_operators.proofs.Rings.{IsRing-same, next_is_successor, IsRing-from_successor}
+use Rattle.euler_operators.proofs.Rings.{IsRing-same, next_is_successor, IsRing-from_successor, ring_stays}
 use Rattle.euler_operators.proofs.Rotations.{canonical-rotates, count-canonical, IsApart-canonical, canonical-canonical}
 use Rattle.euler_operators.proofs.Edits.{count-insert_before, count-without, without_none, IsRing-insert_before, IsRing-without}
 use Rattle.euler_operators.proofs.Leads.{IsRing-redirect_other, IsRing-led_over_other}
@@ -15,13 +15,9 @@ use Rattle.euler_operators.specs.Table.{Table, tables}
 use Rattle.euler_operators.specs.Model.{Model, LoopContent, lone, cycle, LoopRow, no_loop, items_of, holds, tail, loop_of, content, cycle_of, after, round}
 use Rattle.euler_operators.specs.Sound.{Sound, Has, HasHalf, StandsIn, Reaches, here, further, IsCycle}
 use Rattle.euler_operators.proofs.Tables.{first_where_is}
-use Rattle.euler_operators.proofs.Models.{content_row, held_row, in-holds, holds_in, holds-none}
+use Rattle.euler_operators.proofs.Models.{content_row, held_row, in-holds, holds_in, holds-none, never_lone}
 use Rattle.euler_operators.proofs.Halves.{mate-mate}
-use Rattle.euler_laws.proofs.shared.Fans.{Fan, ring_reaches, ring_stays}
-
-pub some_row : {X : Type 0} (o : Option X) → is_some o ≡ true → (x : X) × (o ≡ Some x)
-some_row None e = absurd (true≢false (sym e))
-some_row (Some x) e = (x, refl)
+use Rattle.euler_laws.proofs.shared.Fans.{Fan, ring_reaches}
 
 -- a loop is lone, or a cycle round which next leads
 abbrev pub IsLoop : (ℕ → ℕ) → LoopContent → Type 0
@@ -56,15 +52,12 @@ put_none g h c n = ap (λ b. cond b (cycle (canonical (insert_before g h (items_
 pub put_lone : (g h v : ℕ) → put_before g h (lone v) ≡ lone v
 put_lone g h v = put_none g h (lone v) refl
 
-pub not_lone : (a : List ℕ) (v : ℕ) → cycle a ≢ lone v
-not_lone a v e = cc
-
 pub one_vertex : (a b : ℕ) → lone a ≡ lone b → a ≡ b
 one_vertex a b e = cc
 
 pub lone_put : (g h v : ℕ) (c : LoopContent) → put_before g h c ≡ lone v → c ≡ lone v
 lone_put g h v c e = elim (IsIn_or_not g (items_of c)) [
-  | inl i ↦ absurd (not_lone _ v (sym (put_there g h c i) ∙ e))
+  | inl i ↦ absurd (never_lone _ v (sym (put_there g h c i) ∙ e))
   | inr n ↦ sym (put_none g h c n) ∙ e
 ]
 

@@ -9,17 +9,18 @@ use Rattle.euler_operators.proofs.Rings.{successor_at, successor_same}
 use Rattle.euler_operators.proofs.Cuts.{upto-onward, ring_split}
 use Rattle.euler_operators.proofs.Lists.{count-append, tick_same, tick_other, count-before}
 use Rattle.euler_operators.specs.declared.HalfEdge.{HalfEdge}
-use Rattle.euler_operators.specs.HalfEdge.{code, mate, edge_of, is_first}
+use Rattle.euler_operators.specs.HalfEdge.{code, mate, edge_of, is_first, plus}
 use Rattle.euler_operators.specs.Table as table
 use Rattle.euler_operators.specs.Table.{Table, tables, same_table}
 use Rattle.euler_operators.specs.Model.{Model, LoopContent, lone, cycle, FaceRow, LoopRow, EdgeRow, no_face, no_edge, no_point, tail_in, items_of, holds, tail, face_of, outer, solid_of, point_of, no_loop, content, rings_of}
 use Rattle.euler_operators.specs.Sound.{Sound, Has, HasHalf, IsCycle}
-use Rattle.euler_operators.proofs.Halves.{edge_of-code, edge_of-mate, is_first-mate}
-use Rattle.euler_operators.proofs.Tables.{all_where_none, none_all_where}
+use Rattle.euler_operators.proofs.Halves.{edge_of-code, edge_of-mate, is_first-mate, plus_row}
+use Rattle.euler_operators.proofs.Tables.{all_where_none, none_all_where, row_some}
 use Rattle.euler_operators.proofs.Models.{face_row}
+use Rattle.euler_operators.proofs.Tests.{none_but}
 use Rattle.euler_operators.specs.Conditions.{has_rings, is_empty, is_lone, lone_vertex}
 use Rattle.euler_operators.specs.Effect.{where_held, edge_row, cycle_or_lone}
-use Rattle.euler_laws.proofs.shared.Loops.{some_row, IsLoop, canonical_cycle, canonical_ring}
+use Rattle.euler_laws.proofs.shared.Loops.{IsLoop, canonical_cycle, canonical_ring}
 
 -- a rewriting where a half-edge stands leaves a loop without it alone
 pub where_held_none : (g : ℕ) (new : List ℕ → LoopContent) (l : ℕ) (row : LoopRow) → holds g row.content ≡ false → where_held g new l row ≡ row
@@ -117,27 +118,24 @@ half_of M g t = ap (λ x. is_some (table.get M.edges x)) (edge_of-code g) ∙ t
 pub of_half : (M : Model) (g : HalfEdge) → HasHalf M (code g) → table.has M.edges g.edge ≡ true
 of_half M g t = ap (λ x. is_some (table.get M.edges x)) (sym (edge_of-code g)) ∙ t
 
-empty_is : (xs : List ℕ) → not (is_empty xs) ≡ false → xs ≡ []
+pub empty_is : (xs : List ℕ) → not (is_empty xs) ≡ false → xs ≡ []
 empty_is [] e = refl
 empty_is (x ∷ xs) e = absurd (true≢false e)
 
 ring_none : (a f o l : ℕ) → (nat_eq a f && not (nat_eq o l)) ≡ false → a ≡ f → o ≡ l
 ring_none a f o l e p = grind (arith, nat_tests)
 
-none_ring : (a f o l : ℕ) → (a ≡ f → o ≡ l) → (nat_eq a f && not (nat_eq o l)) ≡ false
-none_ring a f o l p = grind (arith, nat_tests)
-
 -- a face without a ring has its outer loop only
 pub no_rings_means : (M : Model) (f : ℕ) → has_rings M f ≡ false → (q : ℕ) → Has M.loops q → face_of M q ≡ f → outer M f ≡ q
 unfolding has_rings
 no_rings_means M f e q there p =
-    let w = some_row (table.get M.loops q) there in
+    let w = row_some (table.get M.loops q) there in
     ring_none w.0.face f (outer M f) q (none_all_where (λ l row. nat_eq row.face f && not (nat_eq (outer M f) l)) M.loops (empty_is (rings_of M f) e) q w.0 w.1) (sym (face_row M q w.0 w.1) ∙ p)
 
 pub means_no_rings : (M : Model) (f : ℕ) → ((q : ℕ) → Has M.loops q → face_of M q ≡ f → outer M f ≡ q) → has_rings M f ≡ false
 unfolding has_rings
 means_no_rings M f n = ap (λ xs. not (is_empty xs)) (all_where_none (λ l row. nat_eq row.face f && not (nat_eq (outer M f) l)) M.loops
-    (λ q row at. none_ring row.face f (outer M f) q (λ e. n q (ap is_some at) (face_row M q row at ∙ e))))
+    (λ q row at. none_but row.face f (outer M f) q (λ e. n q (ap is_some at) (face_row M q row at ∙ e))))
 
 pub lone_is : (c : LoopContent) → is_lone c ≡ true → c ≡ lone (lone_vertex c)
 lone_is (lone v) e = refl
@@ -161,9 +159,6 @@ ring_test false b false e = refl
 pub test_ring : (a b c : Bool) → a ≡ true → b ≡ true → c ≡ false → (a && b && not c) ≡ true
 test_ring a b c x y z = (λ i. x i && y i && not (z i))
 
-pub same_number : (n : ℕ) → nat_eq n n ≡ true
-same_number n = grind (arith, nat_tests)
-
 -- what follows m in the ring h X m Y
 pub after_second : (hs : List ℕ) → IsCycle hs → (h m : ℕ) → h ≢ m → IsIn h hs → IsIn m hs → successor hs m ≡ head_or h (beyond h m hs)
 after_second hs cy h m hm i j = successor_same m hs (rotate_to h hs) (rotate_to-rotates h hs) cy.apart j ∙ ap (λ q. successor q m) (ring_split h m hs i j hm)
@@ -171,3 +166,23 @@ after_second hs cy h m hm i j = successor_same m hs (rotate_to h hs) (rotate_to-
       head_in : (ys : List ℕ) → head_or m (ys ++ h ∷ between h m hs) ≡ head_or h ys
       head_in [] = refl
       head_in (y ∷ ys) = refl
+
+pub not_lone_cycle : (c : LoopContent) → is_lone c ≡ false → c ≡ cycle (items_of c)
+not_lone_cycle (lone v) e = absurd (true≢false e)
+not_lone_cycle (cycle hs) e = refl
+
+-- the row of an edge that the plus half-edge brings
+pub edge_row_plus : (e a b : ℕ) → edge_row (plus e) a b ≡ record { plus_tail = a; minus_tail = b }
+edge_row_plus e a b = ap (λ t. cond t (record { plus_tail = a; minus_tail = b }) (record { plus_tail = b; minus_tail = a })) (plus_row e).1
+
+pub cycle_filled : (ys : List ℕ) (v : ℕ) → ys ≢ [] → cycle_or_lone ys v ≡ cycle (canonical ys)
+cycle_filled [] v e = absurd (e refl)
+cycle_filled (y ∷ ys) v e = refl
+
+pub solid_either : (b : Bool) (row : FaceRow) (s : ℕ) → (cond b (record row { solid = s }) row).solid ≡ cond b s row.solid
+solid_either true row s = refl
+solid_either false row s = refl
+
+pub content_either : (b : Bool) (row : LoopRow) (f : ℕ) → (cond b (record row { face = f }) row).content ≡ row.content
+content_either true row f = refl
+content_either false row f = refl

@@ -1,23 +1,25 @@
 -- The conditions of a glue, part by part.
-use Rattle.std.proofs.Common.{◌≡◌, ◌≢◌, ℕ, ◌≤◌, ◌+◌, Bool, true, false, cond, not, ◌&&◌, ◌||◌, nat_eq, nat_le, List, [], ◌∷◌, ◌++◌, Option, Some, None, Result, Ok, Err, is_err, is_some, unwrap_or, refl, sym, ap, ◌∙◌, arith, true≢false, inl, inr}
+use Rattle.std.proofs.Common.{◌≡◌, ℕ, ◌≤◌, ◌+◌, Bool, true, false, cond, not, ◌&&◌, ◌||◌, nat_eq, nat_le, List, [], ◌∷◌, ◌++◌, Option, Some, None, Result, Ok, Err, is_err, is_some, unwrap_or, refl, sym, ap, ◌∙◌, arith, true≢false, inl, inr}
 use Rattle.std.proofs.lemmas.Bool.Decides.{nat_tests}
 use Rattle.std.proofs.lemmas.Bool.{cases_eq}
 use Rattle.euler_operators.specs.Table.{Table, get, greatest}
-use Rattle.euler_operators.specs.Model.{Model, LoopRow, no_loop, content, face_of, solid_of, outer, faces_of, is_number}
+use Rattle.euler_operators.specs.Model.{Model, LoopRow, no_loop, content, face_of, solid_of, outer, faces_of}
 use Rattle.euler_operators.specs.Sound.{Sound, Has, NumbersFit}
 use Rattle.euler_operators.proofs.Tables.{zero_first_where}
+use Rattle.euler_operators.proofs.Tests.{first_fails, or_true}
+use Rattle.euler_operators.proofs.Models.{number_fits, loop_number}
 use Rattle.euler_operators.specs.Conditions.{Condition, first_refusal, verdict, is_lone, lists, need}
 use Rattle.euler_operators.specs.declared.Why.TheVariants.{LoneLoop, NotFlat, NumbersSpent}
 use Rattle.euler_operators.specs.declared.Refusal.{Refusal}
-use Rattle.euler_laws.proofs.shared.Goes.{all_hold}
+use Rattle.euler_laws.proofs.shared.Goes.{all_hold, verdict_passed, verdict_failed}
 use Rattle.shapes.specs.Faces.{faces_of_both, least_lone}
 use Rattle.shapes.specs.Fresh.{taken_in, numbers_left, no_such, first_such}
-use Rattle.solid_walks.proofs.face_walks_laws.Above.{member}
 use Rattle.solid_measure.proofs.solid_checks_laws.FaceWalks.{lists_member, member_faces, member_both}
 use Rattle.solid_measure.specs.Measure.{is_flat}
 use Rattle.shapes.proofs.fresh.Rows.{greatest_used}
 use Rattle.shapes.specs.glue.Glue.{glue_conditions}
 use Rattle.gluing.specs.glue_checks.Conditions.{face_conditions, solid_conditions, outline_conditions}
+use Rattle.solid_walks.proofs.face_walks_laws.Above.{member}
 
 -- a list of conditions in two parts
 pub refusal_parts : (xs ys : List Condition) → first_refusal xs ≡ None → first_refusal (xs ++ ys) ≡ first_refusal ys
@@ -34,39 +36,17 @@ refusal_first (x ∷ xs) ys r e = elim x.holds as (λ b. cond b (first_refusal x
   | false ↦ λ t. t
 ] e
 
--- a verdict tells whether there is a refusal, and which
-pub passed : (o : Option Refusal) (u : Unit {0}) → Ok u ≡ verdict o → o ≡ None
-passed None u e = refl
-passed (Some r) u e = cc
-
-pub failed : (o : Option Refusal) (r : Refusal) → Err r ≡ verdict o → o ≡ Some r
-failed None r e = cc
-failed (Some s) r e = cc
-
 -- a verdict that is an error is the whole verdict
 pub first_failed : (xs ys : List Condition) (v : Result (Unit {0}) Refusal) → v ≡ verdict (first_refusal xs) → is_err v ≡ true → v ≡ verdict (first_refusal (xs ++ ys))
 first_failed xs ys (Ok u) is e = absurd (true≢false (sym e))
-first_failed xs ys (Err r) is e = ap verdict (sym (refusal_first xs ys r (failed (first_refusal xs) r is)))
+first_failed xs ys (Err r) is e = ap verdict (sym (refusal_first xs ys r (verdict_failed (first_refusal xs) r is)))
 
 -- and one that isn't leaves the rest
 pub all_passed : (xs : List Condition) (v : Result (Unit {0}) Refusal) → v ≡ verdict (first_refusal xs) → is_err v ≡ false → first_refusal xs ≡ None
-all_passed xs (Ok u) is e = passed (first_refusal xs) u is
+all_passed xs (Ok u) is e = verdict_passed (first_refusal xs) u is
 all_passed xs (Err r) is e = absurd (true≢false e)
 
-number_fits : (n : ℕ) → is_number n ≡ true → n ≤ 1000000
-number_fits n e = grind (arith, nat_tests)
-
-both : (a b : Bool) → a && b ≡ true → (a ≡ true) × (b ≡ true)
-both true true e = (refl, refl)
-both true false e = absurd (true≢false (sym e))
-both false b e = absurd (true≢false (sym e))
-
 module _ (M : Model) (sound : Sound M) where
-  positive : (q : ℕ) (row : LoopRow) → get M.loops q ≡ Some row → q ≢ 0
-  positive q row e z = no_zero q z (sound.loops_fit q (ap is_some e)) where
-    no_zero : (q : ℕ) → q ≡ 0 → is_number q ≡ true → ⊥
-    no_zero q z e = true≢false (sym e ∙ ap is_number z)
-
   -- where no loop of some faces is lone, none of their outer loops is
   pub outer_held : (fs : List ℕ) (f : ℕ) → least_lone M fs ≡ 0 → Has M.faces f → lists fs f ≡ true → is_lone (content M (outer M f)) ≡ false
   unfolding content face_of
@@ -77,22 +57,15 @@ module _ (M : Model) (sound : Sound M) where
     go : (o : Option LoopRow) → get M.loops (outer M f) ≡ o → is_lone (unwrap_or (get M.loops (outer M f)) no_loop).content ≡ false
     go None e = ap (λ o. is_lone (unwrap_or o no_loop).content) e
     go (Some row) e =
-        let p = zero_first_where (λ _ row. is_lone row.content && lists fs row.face) M.loops positive none (outer M f) row e in
+        let p = zero_first_where (λ _ row. is_lone row.content && lists fs row.face) M.loops (loop_number M sound) none (outer M f) row e in
         let face : row.face ≡ f = sym (ap (λ o. (unwrap_or o no_loop).face) e) ∙ its_face in
-        ap (λ o. is_lone (unwrap_or o no_loop).content) e ∙ other (is_lone row.content) (lists fs row.face) (ap (lists fs) face ∙ listed) p where
-          other : (a b : Bool) → b ≡ true → a && b ≡ false → a ≡ false
-          other true true t e = e
-          other true false t e = absurd (true≢false (sym t))
-          other false b t e = refl
+        ap (λ o. is_lone (unwrap_or o no_loop).content) e ∙ first_fails (is_lone row.content) (lists fs row.face) p (ap (lists fs) face ∙ listed)
 
   listed_first : (s t f : ℕ) → Has M.faces f → solid_of M f ≡ s → lists (faces_of_both M s t) f ≡ true
   listed_first s t f there e = lists_member (faces_of_both M s t) f ∙ member_both M s t f ∙ ap (λ b. b || member f (faces_of M t)) (member_faces M s f ∙ (let n : nat_eq (solid_of M f) s ≡ true = grind (arith, nat_tests) in λ i. there i && n i))
 
   listed_second : (s t f : ℕ) → Has M.faces f → solid_of M f ≡ t → lists (faces_of_both M s t) f ≡ true
-  listed_second s t f there e = lists_member (faces_of_both M s t) f ∙ member_both M s t f ∙ ap (λ b. member f (faces_of M s) || b) (member_faces M t f ∙ (let n : nat_eq (solid_of M f) t ≡ true = grind (arith, nat_tests) in λ i. there i && n i)) ∙ or_true (member f (faces_of M s)) where
-    or_true : (a : Bool) → a || true ≡ true
-    or_true true = refl
-    or_true false = refl
+  listed_second s t f there e = lists_member (faces_of_both M s t) f ∙ member_both M s t f ∙ ap (λ b. member f (faces_of M s) || b) (member_faces M t f ∙ (let n : nat_eq (solid_of M f) t ≡ true = grind (arith, nat_tests) in λ i. there i && n i)) ∙ or_true (member f (faces_of M s))
 
 -- the conditions of a glue, one part after the other
 module _ (M : Model) (f g : ℕ) where

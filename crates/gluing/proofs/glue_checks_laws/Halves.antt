@@ -3,19 +3,12 @@ use Rattle.std.proofs.Common.{ℕ, ◌≤◌, List, [], ◌∷◌, map, length, 
 use Rattle.euler_operators.specs.Items.{IsIn}
 use Rattle.euler_operators.proofs.Lists.{tick_same}
 use Rattle.euler_operators.specs.declared.HalfEdge.{HalfEdge}
-use Rattle.euler_operators.specs.declared.Content.TheVariants.{Ring}
 use Rattle.euler_operators.specs.HalfEdge.{code}
-use Rattle.euler_operators.specs.Model.{Model, LoopContent, lone, cycle, items_of, content, outer}
+use Rattle.euler_operators.specs.Model.{Model, content, outer}
 use Rattle.euler_operators.specs.Sound.{Sound, HasHalf}
 use Rattle.euler_operators.proofs.Models.{in-holds}
-use Rattle.euler_conditions.specs.Store.{Tells}
 use Rattle.shapes.specs.glue.Glue.{rim}
 use Rattle.gluing.specs.glue_checks.Rims.{AreThere}
-
--- what an arena answers of a loop with half-edges stands in it
-pub ring_in : (t : LoopContent) (h : HalfEdge) → Tells t (Ring h) → IsIn (code h) (items_of t)
-ring_in (lone v) h s = absurd s
-ring_in (cycle hs) h s = s
 
 pub all_there : (M : Model) (hs : List ℕ) → ((h : ℕ) → IsIn h hs → HasHalf M h) → AreThere M hs
 all_there M [] each = tt

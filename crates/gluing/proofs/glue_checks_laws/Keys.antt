@@ -1,6 +1,6 @@
 -- Points as keys of an ordered set.
-use Rattle.std.proofs.Common.{◌≡◌, ℤ, ◌-◌, ◌≤◌, List, [], ◌∷◌, length, sym, Bool, true, false, cond, not, ◌&&◌, ◌||◌, int_cmp, Ordering, Less, Equal, Greater, BTreeSet, refl, ap, ◌∙◌, arith}
-use Rattle.std.specs.Ordering.{ordering_then, is_eq, int_eq}
+use Rattle.std.proofs.Common.{◌≡◌, ℤ, ◌-◌, ◌≤◌, List, [], ◌∷◌, length, sym, Bool, true, false, cond, not, ◌&&◌, ◌||◌, int_cmp, Ordering, BTreeSet, refl, ap, ◌∙◌, arith}
+use Rattle.std.specs.Ordering.{ordering_then, is_eq}
 use Rattle.std.specs.BTreeSet as sorted
 use Rattle.std.specs.Prelude.{take, drop, slice_index_or}
 use Rattle.std.specs.List.{list_any}
@@ -9,6 +9,7 @@ use Rattle.shapes.specs.glue.Glue.{has_repeats}
 use Rattle.gluing.proofs.glue_checks_laws.Points.{new_point, old_point}
 use Rattle.euler_operators.specs.declared.Point.{Point}
 use Rattle.euler_operators.specs.Vectors.{same_point}
+use Rattle.euler_operators.proofs.Orders.{after_equal, equal_is}
 
 abbrev pub Key : Type 0
 Key = ℤ × ℤ × ℤ
@@ -23,19 +24,9 @@ key_cmp a b = ordering_then (ordering_then (int_cmp a.0 b.0) (int_cmp a.1 b.1)) 
 abbrev pub is_met : BTreeSet Key → Point → Bool
 is_met set p = sorted.contains key_cmp set (key p)
 
-tied : (a b c : Ordering) → is_eq (ordering_then (ordering_then a b) c) ≡ is_eq a && is_eq b && is_eq c
-tied Less b c = refl
-tied Greater b c = refl
-tied Equal Less c = refl
-tied Equal Greater c = refl
-tied Equal Equal c = refl
-
-number_tied : (m n : ℤ) → is_eq (int_cmp m n) ≡ int_eq m n
-number_tied m n = grind arith
-
 -- equal keys are those of equal points
 pub key_tied : (p q : Point) → is_eq (key_cmp (key p) (key q)) ≡ same_point p q
-key_tied p q = tied (int_cmp p.x q.x) (int_cmp p.y q.y) (int_cmp p.z q.z) ∙ (λ i. number_tied p.x q.x i && number_tied p.y q.y i && number_tied p.z q.z i)
+key_tied p q = after_equal (int_cmp p.x q.x) (int_cmp p.y q.y) (int_cmp p.z q.z) ∙ (λ i. equal_is p.x q.x i && equal_is p.y q.y i && equal_is p.z q.z i)
 
 -- the set with one point more
 pub met_more : (p q : Point) (k : Key) (old new : Bool) → k ≡ key p → new ≡ cond (is_eq (key_cmp k (key q))) true old → new ≡ same_point p q || old

@@ -7,13 +7,12 @@ use Rattle.std.proofs.lemmas.Bool.{or_parts}
 use Rattle.std.proofs.lemmas.List.{reverse-append}
 use Rattle.euler_operators.specs.declared.Point.{Point}
 use Rattle.euler_operators.specs.Vectors.{same_point}
+use Rattle.euler_operators.proofs.Crossings.{same_int}
+use Rattle.euler_operators.proofs.Tests.{or_false}
 use Rattle.shapes.specs.glue.Glue.{has_repeats}
 
 same_number : (m n : ℤ) → int_eq m n ≡ true → m ≡ n
 same_number m n e = grind arith
-
-number_itself : (m : ℤ) → int_eq m m ≡ true
-number_itself m = grind arith
 
 numbers_turned : (m n : ℤ) → int_eq m n ≡ int_eq n m
 numbers_turned m n = grind arith
@@ -27,7 +26,7 @@ same_is p q e = go (int_eq p.x q.x) (int_eq p.y q.y) (int_eq p.z q.z) refl refl 
   go false b c x y z e = absurd (true≢false (sym e))
 
 pub same_itself : (p : Point) → same_point p p ≡ true
-same_itself p = λ i. number_itself p.x i && number_itself p.y i && number_itself p.z i
+same_itself p = λ i. same_int p.x i && same_int p.y i && same_int p.z i
 
 pub same_turned : (p q : Point) → same_point p q ≡ same_point q p
 same_turned p q = λ i. numbers_turned p.x q.x i && numbers_turned p.y q.y i && numbers_turned p.z q.z i
@@ -65,10 +64,7 @@ old_point p ps old met = sym (ap (λ b. (b || list_any old ps) || has_repeats (p
 
 -- a list read backwards has the same repeats
 any_push : (p : Point) (ps : List Point) (q : Point) → list_any (same_point p) (ps ++ q ∷ []) ≡ list_any (same_point p) ps || same_point p q
-any_push p [] q = last (same_point p q) where
-  last : (b : Bool) → b || false ≡ b
-  last true = refl
-  last false = refl
+any_push p [] q = or_false (same_point p q)
 any_push p (r ∷ rs) q = ap (λ b. same_point p r || b) (any_push p rs q) ∙ grouped (same_point p r) (list_any (same_point p) rs) (same_point p q) where
   grouped : (a b c : Bool) → a || (b || c) ≡ (a || b) || c
   grouped true b c = refl

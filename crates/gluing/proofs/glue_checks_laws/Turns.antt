@@ -1,10 +1,11 @@
 -- Lists of points that are turns of one another.
-use Rattle.std.proofs.Common.{◌≡◌, ◌≢◌, ℕ, zero, suc, ◌+◌, ◌-◌, ◌<◌, ◌≤◌, Bool, true, false, cond, ◌&&◌, ◌||◌, List, [], ◌∷◌, ◌++◌, length, Some, None, refl, sym, ap, subst, ◌∙◌, arith, true≢false, inl, inr}
+use Rattle.std.proofs.Common.{◌≡◌, ◌≢◌, ℕ, zero, suc, ◌+◌, ◌-◌, ◌<◌, ◌≤◌, Bool, true, false, cond, ◌&&◌, List, [], ◌∷◌, ◌++◌, length, Some, None, refl, sym, ap, subst, ◌∙◌, arith, true≢false, inl, inr}
 use Rattle.std.specs.Prelude.{get_or, take, drop, is_some, slice_index_or}
 use Rattle.std.proofs.lemmas.List.{append-nil, get_or-drop, take_all, drop_all, length-drop, length-take-le}
-use Rattle.std.proofs.lemmas.Bool.{or_cases, and_parts, cases_eq}
+use Rattle.std.proofs.lemmas.Bool.{or_cases, and_parts, cases_eq, or_left, or_right}
 use Rattle.euler_operators.specs.declared.Point.{Point}
 use Rattle.euler_operators.specs.Vectors.{same_point}
+use Rattle.euler_operators.proofs.Tests.{same_truth}
 use Rattle.shapes.specs.glue.Glue.{has_repeats, same_points, is_turned, is_rotation}
 use Rattle.gluing.specs.glue_checks.Places.{place_from}
 use Rattle.gluing.proofs.glue_checks_laws.Points.{same_is, same_itself, one_place}
@@ -31,20 +32,6 @@ in_parts (x ∷ xs) (b ∷ bs) cs = grouped (same_point x b) (same_points (take 
 -- the list with its first k points moved to the end
 abbrev pub turned : ℕ → List Point → List Point
 turned k qs = drop k qs ++ take k qs
-
-either_truth : (a b : Bool) → (a ≡ true → b ≡ true) → (b ≡ true → a ≡ true) → a ≡ b
-either_truth true true f g = refl
-either_truth true false f g = sym (f refl)
-either_truth false true f g = g refl
-either_truth false false f g = refl
-
-or_left : (a b : Bool) → a ≡ true → a || b ≡ true
-or_left true b e = refl
-or_left false b e = absurd (true≢false (sym e))
-
-or_right : (a b : Bool) → b ≡ true → a || b ≡ true
-or_right true b e = refl
-or_right false b e = e
 
 turned_by : (n j : ℕ) (ps qs : List Point) → j ≤ n → ps ≡ turned j qs → is_turned n ps qs ≡ true
 turned_by zero j ps qs l e = at_zero j (omega arith) e where
@@ -75,7 +62,7 @@ length_turned j qs l = length_append (drop j qs) (take j qs) ∙ (let d = length
 
 -- lists of other lengths are no turns
 pub other_length : (ps qs : List Point) → length ps ≢ length qs → is_rotation ps qs ≡ false
-other_length ps qs ne = either_truth (is_rotation ps qs) false (λ e. let t = some_turn (length qs) ps qs e in absurd (ne (ap (λ (xs : List Point). length xs) t.2 ∙ length_turned t.0 qs t.1))) (λ e. absurd (true≢false (sym e)))
+other_length ps qs ne = same_truth (is_rotation ps qs) false (λ e. let t = some_turn (length qs) ps qs e in absurd (ne (ap (λ (xs : List Point). length xs) t.2 ∙ length_turned t.0 qs t.1))) (λ e. absurd (true≢false (sym e)))
 
 pub both_empty : (ps qs : List Point) → length ps ≡ length qs → ps ≡ [] → is_rotation ps qs ≡ true
 both_empty ps [] l e = ap (λ (xs : List Point). same_points xs []) e
@@ -121,13 +108,13 @@ module _ (p : Point) where
     at (suc i) l s t rest = rest i (omega (arith, l)) s
 
   pub not_found : (ps qs : List Point) → length (p ∷ ps) ≡ length qs → place_from 0 p qs ≡ None → is_rotation (p ∷ ps) qs ≡ false
-  not_found ps qs same e = either_truth (is_rotation (p ∷ ps) qs) false (λ r. absurd (
+  not_found ps qs same e = same_truth (is_rotation (p ∷ ps) qs) false (λ r. absurd (
       let t = turn_begins p ps qs (omega (arith, same)) (some_turn (length qs) (p ∷ ps) qs r) in
       missing_from 0 qs e t.0 t.1 t.2)) (λ e. absurd (true≢false (sym e)))
 
   -- where the first point is found, the lists are compared from there on
   pub found_at : (k : ℕ) (ps qs : List Point) → has_repeats qs ≡ false → length (p ∷ ps) ≡ length qs → place_from 0 p qs ≡ Some k → same_points (p ∷ ps) (turned k qs) ≡ is_rotation (p ∷ ps) qs
-  found_at k ps qs apart same e = either_truth (same_points (p ∷ ps) (turned k qs)) (is_rotation (p ∷ ps) qs) turns back where
+  found_at k ps qs apart same e = same_truth (same_points (p ∷ ps) (turned k qs)) (is_rotation (p ∷ ps) qs) turns back where
     here : (k < length qs) × (p ≡ get_or qs k p)
     here = found_there k qs e
 

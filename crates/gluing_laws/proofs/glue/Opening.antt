@@ -3,6 +3,7 @@ use Rattle.std.proofs.Common.{◌≡◌, ◌≢◌, ℕ, true, false, cond, nat_
 use Rattle.std.specs.Prelude.{map, reverse}
 use Rattle.std.specs.Option.{option_map}
 use Rattle.std.proofs.lemmas.Bool.Decides.{nat_tests}
+use Rattle.std.proofs.lemmas.Bool.{ne_eqb, eq-eqb}
 use Rattle.std.proofs.lemmas.List.{map-append, reverse-append}
 use Rattle.euler_operators.specs.Items.{count, IsIn, IsApart, before, after}
 use Rattle.euler_operators.specs.Rings.{canonical, rest, successor}
@@ -15,18 +16,18 @@ use Rattle.euler_operators.specs.HalfEdge.{mate, edge_of, half, plus, minus}
 use Rattle.euler_operators.specs.Table as table
 use Rattle.euler_operators.specs.Table.{Table, tables, same_table, get-map_rows}
 use Rattle.euler_operators.specs.declared.Corner.TheVariants.{At}
-use Rattle.euler_operators.specs.Model.{Model, FaceRow, LoopRow, EdgeRow, lone, cycle, LoopContent, items_of, holds, tail, tail_in, loop_of, content, face_of, solid_of, outer, cycle_of, no_face, is_number}
+use Rattle.euler_operators.specs.Model.{Model, FaceRow, LoopRow, EdgeRow, lone, cycle, LoopContent, items_of, holds, tail, tail_in, content, face_of, solid_of, outer, no_face, is_number}
 use Rattle.euler_operators.specs.Model as model
 use Rattle.euler_operators.specs.Sound.{Sound, Has, HasHalf}
-use Rattle.euler_operators.proofs.Halves.{code-half, plus_row, minus_row, edge_of-mate}
-use Rattle.euler_operators.proofs.Tables.{map-put, map_same, map_one, remove-put}
+use Rattle.euler_operators.proofs.Halves.{code-half, plus_row, minus_row, edge_of-mate, mate_plus}
+use Rattle.euler_operators.proofs.Tables.{map-put, map_same, map_one, remove-put, get-put_here, get-put_other}
 use Rattle.euler_operators.proofs.Models.{content_row, face_row, tail_row, in-holds, holds-none, not_held}
+use Rattle.euler_operators.proofs.Members.{same_head}
 use Rattle.euler_operators.specs.declared.Op.TheVariants.{Kev, Mekr, Kfmrh, Merge}
 use Rattle.euler_operators.specs.Conditions.{first_false}
 use Rattle.euler_operators.specs.Effect.{effect, merge, kfmrh, mekr, kev, faces_to_solid, loop_to_face, moved_tail, edge_row}
-use Rattle.euler_laws.proofs.shared.Undo.{mate_plus, both_out}
-use Rattle.euler_laws.proofs.shared.Rows.{face_there}
-use Rattle.euler_laws.proofs.shared.Goes.{equals, differs}
+use Rattle.euler_laws.proofs.shared.Undo.{both_out}
+use Rattle.euler_laws.proofs.shared.Rows.{face_there, edge_row_plus}
 use Rattle.euler_laws.proofs.merge.Merge.{MergeGoes, merge_accepted}
 use Rattle.euler_laws.proofs.faces.Kfmrh.{KillGoes, kfmrh_accepted}
 use Rattle.euler_laws.proofs.kemr.Kemr.{CornerAt, corner_here, MekrGoes, mekr_accepted}
@@ -35,9 +36,7 @@ use Rattle.euler_laws.proofs.kev.Kev.{kev_accepted}
 use Rattle.euler_laws.proofs.kev.MevUndo.{as_cycle}
 use Rattle.euler_laws.specs.Laws.{effects, AreAccepted}
 use Rattle.euler_laws.proofs.Cases.{effect_keeps_sound}
-use Rattle.shapes.proofs.fresh.Rows.{get-put_here, get-put_other}
-use Rattle.euler_laws.proofs.shared.KnownLoop.{Around, half_is, loop_is, cycle_is, apart_xs}
-use Rattle.sweeps_laws.proofs.prism.Steps.{edge_plus, row_plus}
+use Rattle.sweeps_laws.proofs.prism.Steps.{edge_plus}
 use Rattle.shapes.specs.Rewriting.{rewritten, rewritten_row, renamed}
 use Rattle.shapes.specs.glue.Glue.{renamed_tails}
 use Rattle.shapes.specs.glue.GlueOps.{opening}
@@ -45,8 +44,9 @@ use Rattle.shapes.specs.glue.Part.{paired, seam, glued_part}
 use Rattle.shapes.proofs.glue.Renamings.{renamed_more}
 use Rattle.shapes.proofs.glue.Swapped.{map_agree, map_removed}
 use Rattle.shapes.proofs.glue.Facing as facing
-use Rattle.shapes.proofs.glue.Facing.{Facing, side}
+use Rattle.shapes.proofs.glue.Facing.{Facing}
 use Rattle.gluing_laws.proofs.glue.Round.{out_edge, out_here, out_none, same_edge_row}
+use Rattle.euler_laws.proofs.shared.KnownLoop.{Around, half_is, loop_is, cycle_is, apart_xs}
 
 same_items : (cs : List ℕ) → map (renamed []) cs ≡ cs
 same_items [] = refl
@@ -57,9 +57,6 @@ solid_in row = row.solid
 
 abbrev outer_in : FaceRow → ℕ
 outer_in row = row.outer
-
-first_item : {a b : ℕ} {xs ys : List ℕ} → a ∷ xs ≡ b ∷ ys → b ≡ a
-first_item e = cc
 
 module _ (M : Model) (f g : ℕ) (partner_of : ℕ → ℕ) (h : ℕ) (mid : List ℕ) (last x : ℕ) (w : Facing M f g partner_of (h ∷ (mid ++ last ∷ [])) x) where
   abbrev hs : List ℕ
@@ -131,7 +128,7 @@ module _ (M : Model) (f g : ℕ) (partner_of : ℕ → ℕ) (h : ℕ) (mid : Lis
   moved_s a c e = elim (nat_eq a t) as (λ b. solid_in (cond b (record { solid = s; outer = c }) (record { solid = a; outer = c })) ≡ s) [ true ↦ refl | false ↦ e ]
 
   moved_t : (a c : ℕ) → (a ≡ t) → solid_in (cond (nat_eq a t) (record { solid = s; outer = c }) (record { solid = a; outer = c })) ≡ s
-  moved_t a c e = ap (λ b. solid_in (cond b (record { solid = s; outer = c }) (record { solid = a; outer = c }))) (equals a t e)
+  moved_t a c e = ap (λ b. solid_in (cond b (record { solid = s; outer = c }) (record { solid = a; outer = c }))) (eq-eqb a t e)
 
   solid_f1 : solid_of M1 f ≡ s
   unfolding solid_of
@@ -168,8 +165,8 @@ module _ (M : Model) (f g : ℕ) (partner_of : ℕ → ℕ) (h : ℕ) (mid : Lis
   }
 
   to_f : table.map_rows (loop_to_face r f) M.loops ≡ table.put M.loops r row_r
-  to_f = map_one (loop_to_face r f) M.loops r (record { face = g; content = cycle (canonical rs) }) w.second (λ q row ne at. ap (λ b. cond b (record row { face = f }) row) (differs q r ne))
-      ∙ ap (table.put M.loops r) (ap (λ b. cond b row_r (record { face = g; content = cycle (canonical rs) })) (equals r r refl))
+  to_f = map_one (loop_to_face r f) M.loops r (record { face = g; content = cycle (canonical rs) }) w.second (λ q row ne at. ap (λ b. cond b (record row { face = f }) row) (ne_eqb q r ne))
+      ∙ ap (table.put M.loops r) (ap (λ b. cond b row_r (record { face = g; content = cycle (canonical rs) })) (eq-eqb r r refl))
 
   A_is : effect M1 (Kfmrh f g) ≡ A
   unfolding effect kfmrh
@@ -197,11 +194,11 @@ module _ (M : Model) (f g : ℕ) (partner_of : ℕ → ℕ) (h : ℕ) (mid : Lis
 
   first_corner : CornerAt A (At (half h)) l (tail M h) hs
   first_corner = corner_here A sound_A hs l (tail M h) (content_row A l _ around_l.at) (ap is_some around_l.at) (apart_xs A l f hs around_l)
-      (λ y i. (loop_is A l f hs around_l y i, half_is A l f hs around_l y i)) (λ y ys e. tail_A y ∙ ap (tail M) (first_item e))
+      (λ y i. (loop_is A l f hs around_l y i, half_is A l f hs around_l y i)) (λ y ys e. tail_A y ∙ ap (tail M) (same_head _ _ _ _ e))
 
   second_corner : CornerAt A (At (half k)) r (tail M k) (k ∷ back)
   second_corner = corner_here A sound_A (k ∷ back) r (tail M k) (content_row A r _ around_r.at) (ap is_some around_r.at) (apart_xs A r f (k ∷ back) around_r)
-      (λ y i. (loop_is A r f (k ∷ back) around_r y i, half_is A r f (k ∷ back) around_r y i)) (λ y ys e. tail_A y ∙ ap (tail M) (first_item e))
+      (λ y i. (loop_is A r f (k ∷ back) around_r y i, half_is A r f (k ∷ back) around_r y i)) (λ y ys e. tail_A y ∙ ap (tail M) (same_head _ _ _ _ e))
 
   face_A : table.get A.faces f ≡ table.get M1.faces f
   face_A = removed (facing.faces_apart M f g partner_of hs x w) where
@@ -254,7 +251,7 @@ module _ (M : Model) (f g : ℕ) (partner_of : ℕ → ℕ) (h : ℕ) (mid : Lis
       face = (ap (face_of A) first_corner.loop ∙ face_l) i;
       content = cycle (canonical (plus x ∷ (second_corner.list ∙ sym rs_are) i ++ mate_plus x i ∷ first_corner.list i));
     })) (second_corner.loop i);
-    edges = table.put M.edges (edge_plus x i) (((λ j. edge_row (plus x) (first_corner.vertex j) (second_corner.vertex j)) ∙ row_plus x (tail M h) (tail M k)) i);
+    edges = table.put M.edges (edge_plus x i) (((λ j. edge_row (plus x) (first_corner.vertex j) (second_corner.vertex j)) ∙ edge_row_plus x (tail M h) (tail M k)) i);
   }
 
   B_is : effect A (Mekr (At (half h)) (At (half k)) (half (plus x))) ≡ B

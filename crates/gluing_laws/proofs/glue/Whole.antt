@@ -1,9 +1,8 @@
 -- All items glued, one after the other.
-use Rattle.std.proofs.Common.{◌≡◌, ℕ, List, [], ◌∷◌, ◌++◌, refl, sym, ap, ◌∙◌, subst, arith}
+use Rattle.std.proofs.Common.{◌≡◌, ℕ, List, [], ◌∷◌, ◌++◌, refl, sym, ap, ◌∙◌, subst}
 use Rattle.std.proofs.lemmas.List.{append_assoc}
 use Rattle.euler_operators.specs.Items.{IsIn, last_or}
-use Rattle.euler_operators.proofs.Lists.{tick_same}
-use Rattle.euler_operators.proofs.Rings.{last_or_push}
+use Rattle.euler_operators.proofs.Rings.{last_or_push, IsIn_last}
 use Rattle.euler_operators.specs.Model.{Model, outer}
 use Rattle.euler_operators.specs.Sound.{Sound}
 use Rattle.euler_operators.specs.declared.Op.{Op}
@@ -17,10 +16,6 @@ use Rattle.gluing_laws.proofs.glue.Turn.{turn_accepted, turn_is}
 use Rattle.gluing_laws.proofs.glue.Ending.{glued_all, ending_ok, ending_is}
 use Rattle.gluing_laws.proofs.glue.Opening.{opening_accepted, opening_is}
 
-pub last_in : (k : ℕ) (ks : List ℕ) → IsIn (last_or k ks) (k ∷ ks)
-last_in k [] = omega (arith, tick_same k)
-last_in k (j ∷ ks) = let r = last_in j ks in omega (arith, r)
-
 module _ (M : Model) (f g : ℕ) (partner_of : ℕ → ℕ) (hs : List ℕ) (x : ℕ) where
   -- the rest of the items, and then the solids are glued
   pub closings_go : (done : List ℕ) (h : ℕ) (more : List ℕ) → Stage M f g partner_of hs x (last_or h more) done (h ∷ more) →
@@ -29,7 +24,7 @@ module _ (M : Model) (f g : ℕ) (partner_of : ℕ → ℕ) (hs : List ℕ) (x :
   closings_go done h [] w = ((ending_ok M f g partner_of hs x done h w, tt), ending_is M f g partner_of hs x done h w ∙ ap (glued_all M f g partner_of) (sym w.split))
   closings_go done h (k ∷ ks) w =
       let last : ℕ = last_or k ks in
-      let later : IsIn last (k ∷ ks) = last_in k ks in
+      let later : IsIn last (k ∷ ks) = IsIn_last k ks in
       let ops : List Op = closing (partner_of h) k x g (outer M g) in
       let then : List Op = closings partner_of x g (outer M g) (k ∷ ks) in
       let N : Model = glued_part M f g partner_of last done (h ∷ k ∷ ks) in
@@ -59,7 +54,7 @@ module _ (M : Model) (f g : ℕ) (partner_of : ℕ → ℕ) (h : ℕ) (mid : Lis
   begins = record {
     facing = w;
     split = refl;
-    last_in = subst (λ n. IsIn n hs) (last_or_push h last mid) (last_in h (mid ++ last ∷ []));
+    last_in = subst (λ n. IsIn n hs) (last_or_push h last mid) (IsIn_last h (mid ++ last ∷ []));
     sound = subst Sound (opening_is M f g partner_of h mid last x w) (effects_keep_sound M start_ops w.sound (opening_accepted M f g partner_of h mid last x w));
   }
 

@@ -2,18 +2,20 @@
 use Rattle.std.proofs.Common.{◌≡◌, ◌≢◌, ℕ, ◌+◌, ◌<◌, Bool, true, false, cond, nat_eq, ◌||◌, List, [], ◌∷◌, ◌++◌, length, take, get_or, Option, Some, None, is_some, unwrap_or, refl, sym, ap, ◌∙◌, arith, inl, inr}
 use Rattle.std.specs.Option.{option_map}
 use Rattle.std.proofs.lemmas.Bool.Decides.{nat_tests, eqb_tells}
+use Rattle.std.proofs.lemmas.Bool.{eq-eqb}
 use Rattle.std.proofs.lemmas.List.{take_more}
 use Rattle.euler_operators.specs.Table as table
 use Rattle.euler_operators.specs.Table.{Table, map_rows, put, same_table, get-map_rows, get-put}
 use Rattle.euler_operators.specs.Model.{Model, FaceRow, no_face, outer, faces_of}
 use Rattle.euler_operators.specs.Sound.{Has}
 use Rattle.euler_conditions.specs.Store.{Store, set_solid}
-use Rattle.euler_operators.specs.Conditions.{Condition, AllHold, need, never, is_bad_part, lists, conditions, first_false, faces_known, faces_in, numbers_in_range}
+use Rattle.euler_operators.specs.Conditions.{AllHold, need, never, is_bad_part, lists, conditions, first_false, faces_known, faces_in, numbers_in_range}
 use Rattle.euler_operators.specs.declared.Op.TheVariants.{Part}
 use Rattle.euler_operators.specs.declared.Why.TheVariants.{NoSolid, SolidTaken, BadPart}
 use Rattle.euler_operators.specs.Effect.{faces_to_solid}
-use Rattle.euler_laws.proofs.shared.Goes.{all_hold}
-use Rattle.euler_laws.proofs.shared.Loops.{some_row}
+use Rattle.euler_operators.proofs.Tests.{or_true, or_false}
+use Rattle.euler_operators.proofs.Tables.{row_some}
+use Rattle.euler_laws.proofs.shared.Goes.{all_hold, all_hold-front, all_hold-back}
 use Rattle.euler_laws.proofs.shared.Listed.{listed_cases, listed_as}
 use Rattle.low_euler.specs.face_operators.Moving.{moved}
 
@@ -31,20 +33,9 @@ or_assoc : (a b c : Bool) → (a || (b || c)) ≡ ((a || b) || c)
 or_assoc true b c = refl
 or_assoc false b c = refl
 
-or_none : (a : Bool) → (a || false) ≡ a
-or_none true = refl
-or_none false = refl
-
-or_all : (a : Bool) → (a || true) ≡ true
-or_all true = refl
-or_all false = refl
-
 lists-push : (fs : List ℕ) (f q : ℕ) → lists (fs ++ f ∷ []) q ≡ (lists fs q || nat_eq f q)
-lists-push [] f q = or_none (nat_eq f q)
+lists-push [] f q = or_false (nat_eq f q)
 lists-push (g ∷ fs) f q = ap (λ b. nat_eq g q || b) (lists-push fs f q) ∙ or_assoc (nat_eq g q) (lists fs q) (nat_eq f q)
-
-same : (a b : ℕ) → a ≡ b → nat_eq a b ≡ true
-same a b e = grind (arith, nat_tests)
 
 apart : (a b : ℕ) → a ≢ b → nat_eq b a ≡ false
 apart a b e = grind (arith, nat_tests)
@@ -67,15 +58,15 @@ module _ (M : Model) (fs : List ℕ) (n f : ℕ) (there : Has M.faces f) where
   one_more : put old f (record { solid = n; outer = outer N f }) ≡ map_rows (given (fs ++ f ∷ []) n) M.faces
   one_more = same_table _ _ (λ q. get-put old f (record { solid = n; outer = outer N f }) q ∙ elim (eqb_tells q f) [
     | inl e ↦
-        let r = some_row (table.get M.faces f) there in
+        let r = row_some (table.get M.faces f) there in
         ap (λ b. cond b (Some (record { solid = n; outer = outer N f })) (table.get old q)) e.0
         ∙ ap (λ l. Some (record { solid = n; outer = l })) (here r.0 r.1)
-        ∙ sym (ap (λ b. Some (cond b (record r.0 { solid = n }) r.0)) (lists-push fs f f ∙ ap (λ b. lists fs f || b) (same f f refl) ∙ or_all (lists fs f)))
+        ∙ sym (ap (λ b. Some (cond b (record r.0 { solid = n }) r.0)) (lists-push fs f f ∙ ap (λ b. lists fs f || b) (eq-eqb f f refl) ∙ or_true (lists fs f)))
         ∙ sym (ap (λ k. table.get (map_rows (given (fs ++ f ∷ []) n) M.faces) k) e.1 ∙ get-map_rows (given (fs ++ f ∷ []) n) M.faces f ∙ ap (option_map (given (fs ++ f ∷ []) n f)) r.1)
     | inr e ↦
         ap (λ b. cond b (Some (record { solid = n; outer = outer N f })) (table.get old q)) e.0
         ∙ get-map_rows (given fs n) M.faces q
-        ∙ ap (λ b. option_map (λ (row : FaceRow). cond b (record row { solid = n }) row) (table.get M.faces q)) (sym (lists-push fs f q ∙ ap (λ b. lists fs q || b) (apart q f e.1) ∙ or_none (lists fs q)))
+        ∙ ap (λ b. option_map (λ (row : FaceRow). cond b (record row { solid = n }) row) (table.get M.faces q)) (sym (lists-push fs f q ∙ ap (λ b. lists fs q || b) (apart q f e.1) ∙ or_false (lists fs q)))
         ∙ sym (get-map_rows (given (fs ++ f ∷ []) n) M.faces q)
   ])
 
@@ -90,15 +81,6 @@ start s n = ap (λ t. record s { model = record s.model { faces = t } }) (same_t
   go None = refl
   go (Some row) = refl
 
--- the listed faces of part are there
-hold_right : (cs ds : List Condition) → AllHold (cs ++ ds) → AllHold ds
-hold_right [] ds h = h
-hold_right (c ∷ cs) ds h = hold_right cs ds h.1
-
-hold_left : (cs ds : List Condition) → AllHold (cs ++ ds) → AllHold cs
-hold_left [] ds h = tt
-hold_left (c ∷ cs) ds h = (h.0, hold_left cs ds h.1)
-
 known_has : (M : Model) (fs : List ℕ) → AllHold (faces_known M fs) → (q : ℕ) → lists fs q ≡ true → Has M.faces q
 known_has M [] h q l = cc
 known_has M (f ∷ fs) h q l = elim (listed_cases f q fs l) [ inl e ↦ ap (table.has M.faces) e ∙ h.0 | inr e ↦ known_has M fs h.1 q e ]
@@ -108,5 +90,5 @@ unfolding conditions first_false
 part_has M s t fs e =
     let front = need (table.has M.solids s) NoSolid s ∷ never (table.has M.solids t) SolidTaken t ∷ faces_known M fs in
     let last = never (is_bad_part M s fs) BadPart s ∷ [] in
-    let h = hold_right (numbers_in_range (s ∷ t ∷ fs)) ((front ++ faces_in M s fs) ++ last) (all_hold (conditions M (Part s t fs)) e) in
-    known_has M fs (hold_left front (faces_in M s fs) (hold_left (front ++ faces_in M s fs) last h)).1.1
+    let h = all_hold-back (numbers_in_range (s ∷ t ∷ fs)) ((front ++ faces_in M s fs) ++ last) (all_hold (conditions M (Part s t fs)) e) in
+    known_has M fs (all_hold-front front (faces_in M s fs) (all_hold-front (front ++ faces_in M s fs) last h)).1.1

@@ -14,7 +14,7 @@ use Rattle.euler_operators.specs.Model.{Model, LoopContent, LoopRow, cycle, item
 use Rattle.euler_operators.specs.Sound.{Sound}
 use Rattle.euler_operators.proofs.Halves.{mate_other}
 use Rattle.euler_operators.proofs.Tables.{put_same}
-use Rattle.euler_operators.proofs.Models.{row_of}
+use Rattle.euler_operators.proofs.Models.{row_of, number_real}
 use Rattle.euler_operators.specs.declared.Op.TheVariants.{Kef}
 use Rattle.euler_operators.specs.Conditions.{face_at}
 use Rattle.euler_operators.specs.Effect.{effect, kef, cycle_or_lone}
@@ -22,6 +22,7 @@ use Rattle.euler_conditions.specs.Ready.{Accepts, after}
 use Rattle.euler_laws.proofs.mef.KefSound as laws
 use Rattle.euler_laws.proofs.mef.KefSound.{KefGoes}
 use Rattle.euler_laws.proofs.mef.Kef.{kef_goes}
+use Rattle.euler_laws.proofs.shared.Rows.{cycle_filled}
 use Rattle.euler_conditions.specs.Store.{Store, join, take_edge, take_loop, take_face}
 use Rattle.low_euler.specs.loop_steps.Steps.{IsStanding, take_out}
 use Rattle.low_euler.proofs.loop_steps_laws.StoreSteps.{remove-put_same}
@@ -29,11 +30,7 @@ use Rattle.low_euler.proofs.loop_steps_laws.RingSteps.{rest_joined, rest_both}
 use Rattle.low_euler.proofs.loop_steps_laws.TwoLoops as two
 use Rattle.low_euler.proofs.loop_steps_laws.TwoLoops.{TwoLoops}
 use Rattle.low_euler.proofs.loop_steps_laws.LooseRings.{pair, get_plus, get_minus, edge_gone, halves_back}
-use Rattle.low_euler.proofs.loop_steps_laws.SoundLoops.{number_real, sound_loops}
-
-filled : (ys : List ℕ) (v : ℕ) → ys ≢ [] → cycle_or_lone ys v ≡ cycle (canonical ys)
-filled [] v e = absurd (e refl)
-filled (y ∷ ys) v e = refl
+use Rattle.low_euler.proofs.loop_steps_laws.SoundLoops.{sound_loops}
 
 left_filled : (ys zs : List ℕ) → ys ≢ [] → ys ++ zs ≢ []
 left_filled [] zs ne e = ne refl
@@ -197,7 +194,7 @@ module _ (s : Store) (half : HalfEdge) (ok : Accepts s (Kef half)) where
   first_is = ap (λ t. take_out t m) one_is
       ∙ two.take_out_r M r l (face_of M r) (face_of M l) all loops s.room (cycle as_join) (cycle []) table.empty fits_two m m_joined
       ∙ ap (λ q. state (cycle_or_lone q (tail M m)) (cycle []) (table.put table.empty m (m ∷ []))) (rest_joined h m xs ys once h_in m_in)
-      ∙ ap (λ c. state c (cycle []) (table.put table.empty m (m ∷ []))) (filled (B ++ h ∷ A) (tail M m) (right_filled B A h))
+      ∙ ap (λ c. state c (cycle []) (table.put table.empty m (m ∷ []))) (cycle_filled (B ++ h ∷ A) (tail M m) (right_filled B A h))
 
   count_kept : (x : ℕ) → count x kept ≡ count x B + count x (h ∷ A)
   count_kept x = count-canonical x (B ++ h ∷ A) ∙ count-append x B (h ∷ A)
@@ -220,7 +217,7 @@ module _ (s : Store) (half : HalfEdge) (ok : Accepts s (Kef half)) where
   second_is = ap (λ t. take_out t h) first_is
       ∙ two.take_out_r M r l (face_of M r) (face_of M l) all loops s.room (cycle kept) (cycle []) (table.put table.empty m (m ∷ [])) fits_three h h_kept
       ∙ ap (λ q. state (cycle_or_lone q (tail M h)) (cycle []) (pair m h hm)) (rest_both h m xs ys once h_in m_in)
-      ∙ ap (λ c. state c (cycle []) (pair m h hm)) (filled (A ++ B) (tail M h) some_follow)
+      ∙ ap (λ c. state c (cycle []) (pair m h hm)) (cycle_filled (A ++ B) (tail M h) some_follow)
 
   -- what the edge and the loop that go ask
   pub plus_loose : (p : Store) (e : ℕ) → e ≡ edge_of h → p ≡ second_out → table.get p.loose (plus e) ≡ Some (plus e ∷ [])

@@ -3,7 +3,7 @@ use Rattle.std.proofs.Common.{◌≡◌, ◌≢◌, ℕ, ◌+◌, true, List, []
 use Rattle.euler_operators.specs.Items.{count, tick, IsIn, IsApart}
 use Rattle.euler_operators.specs.Rings.{canonical, rotate_to, joined}
 use Rattle.euler_operators.proofs.Lists.{count-append, tick_same, tick_other}
-use Rattle.euler_operators.proofs.Rotations.{count-canonical}
+use Rattle.euler_operators.proofs.Rotations.{count-canonical, canonical_one}
 use Rattle.euler_operators.proofs.Operators.{apart_front}
 use Rattle.euler_operators.proofs.Cuts.{rest_canonical}
 use Rattle.euler_operators.specs.declared.HalfEdge.{HalfEdge}
@@ -16,7 +16,7 @@ use Rattle.euler_operators.specs.Model.{Model, LoopContent, lone, cycle, items_o
 use Rattle.euler_operators.specs.Sound.{Sound}
 use Rattle.euler_operators.proofs.Halves.{mate_other}
 use Rattle.euler_operators.proofs.Tables.{put_same}
-use Rattle.euler_operators.proofs.Models.{cycle_there}
+use Rattle.euler_operators.proofs.Models.{cycle_there, number_real}
 use Rattle.euler_operators.specs.declared.Op.TheVariants.{Mekr}
 use Rattle.euler_operators.specs.Conditions.{first_false, conditions, corner_known, corner_lone, corner_loop, corner_tail, corner_list, is_lone}
 use Rattle.euler_operators.specs.Effect.{effect, mekr, edge_row}
@@ -26,12 +26,11 @@ use Rattle.euler_laws.proofs.shared.Rows.{half_of, loop_row}
 use Rattle.euler_laws.proofs.mekr.MekrSpots.{JoinGoes, join_goes, count_spot}
 use Rattle.euler_conditions.specs.Store.{Store, join, take_loop, loose_key, loose_ring}
 use Rattle.low_euler.specs.loop_steps.Steps.{IsStanding, IsLoose, IsCorner, CanTake, with_edge, put_at}
-use Rattle.low_euler.proofs.loop_steps_laws.RingSteps.{canonical_one}
 use Rattle.low_euler.proofs.loop_steps_laws.StoreSteps.{remove-put_same}
 use Rattle.low_euler.proofs.loop_steps_laws.TwoLoops as two
 use Rattle.low_euler.proofs.loop_steps_laws.TwoLoops.{TwoLoops}
 use Rattle.low_euler.proofs.loop_steps_laws.LooseRings.{AreSingles, pair, pair_singles, get_first, left_second, pair_gone, singles_remove, key_is, ring_is}
-use Rattle.low_euler.proofs.loop_steps_laws.SoundLoops.{number_real, edged_loops, none_h, none_m}
+use Rattle.low_euler.proofs.loop_steps_laws.SoundLoops.{edged_loops, none_h, none_m}
 
 -- the two corners, by the conditions
 corner_there : (M : Model) (c : Corner) → (corner_known M c).holds ≡ true → (corner_lone M c).holds ≡ true → IsCorner M c

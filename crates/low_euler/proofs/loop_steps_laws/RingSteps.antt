@@ -6,11 +6,9 @@ use Rattle.euler_operators.specs.Operators.{put_ring, take_ring, mef_old, mef_ne
 use Rattle.euler_operators.proofs.Lists.{count-append, tick_same, before_at, after_at, split_at}
 use Rattle.euler_operators.proofs.Rings.{front_of, IsIn_predecessor, count_at}
 use Rattle.euler_operators.proofs.Cuts.{ring_split, upto_other, onward_other, rest_canonical, IsApart-exchanged, apart_split, apart_joined}
-use Rattle.euler_operators.proofs.Rotations.{canonical-rotates, count-canonical, count-rotate_to, rotate_to-rotates, IsApart-rotate_to, rotate_to_is, rest_at, rest_head, rest_parts, rest_same, IsIn_head, canonical_is, canonical_same}
+use Rattle.euler_operators.proofs.Rotations.{canonical-rotates, count-canonical, count-rotate_to, rotate_to-rotates, IsApart-rotate_to, rotate_to_is, rest_at, rest_head, rest_parts, rest_same, canonical_same, canonical_one}
 use Rattle.euler_operators.proofs.Operators.{apart_front, apart_braced, rotate_to_whole, between_canonical, beyond_canonical}
-
-pub canonical_one : (x : ℕ) → canonical (x ∷ []) ≡ x ∷ []
-canonical_one x = canonical_is x (x ∷ []) (IsIn_head x []) ∙ ap (λ q. x ∷ q) (rest_head x [])
+use Rattle.euler_operators.proofs.Members.{both_empty}
 
 -- a list whose last item, or x, isn't x, up to that item
 last_split : (x : ℕ) (us : List ℕ) → last_or x us ≢ x → (qs : List ℕ) × (us ≡ qs ++ last_or x us ∷ [])
@@ -19,12 +17,6 @@ last_split x (u ∷ us) ne = front_of u us
 
 pub count_put : (x h g : ℕ) (xs : List ℕ) → count x (put_ring h g xs) ≡ tick x h + count x xs
 count_put x h g xs = count-canonical x (h ∷ rotate_to g xs) ∙ omega (arith, count-rotate_to x g xs)
-
-both_empty : (a b : List ℕ) → a ++ b ≡ [] → (a ≡ []) × (b ≡ [])
-both_empty [] b e = (refl, e)
-both_empty (x ∷ a) b e = absurd (no_cons x (a ++ b) e) where
-  no_cons : (x : ℕ) (q : List ℕ) → x ∷ q ≡ [] → ⊥
-  no_cons x q e = cc
 
 module _ (xs : List ℕ) (d : IsApart xs) (g : ℕ) (i : IsIn g xs) where
   -- the item before g

@@ -1,5 +1,5 @@
 -- Two loops of a sound model, also with a new edge whose half-edges are loose.
-use Rattle.std.proofs.Common.{◌≡◌, ◌≢◌, ℕ, ◌+◌, true, cond, List, ◌∷◌, ◌++◌, Some, None, is_some, refl, sym, ap, ◌∙◌, subst, arith, inl, inr, true≢false}
+use Rattle.std.proofs.Common.{◌≡◌, ◌≢◌, ℕ, ◌+◌, cond, List, ◌∷◌, ◌++◌, Some, None, is_some, refl, sym, ap, ◌∙◌, subst, arith, inl, inr, true≢false}
 use Rattle.std.proofs.lemmas.Bool.Decides.{nat_tests, eqb_tells}
 use Rattle.euler_operators.specs.Items.{count, IsIn, IsApart}
 use Rattle.euler_operators.proofs.Lists.{count-append, tick_other, IsIn_or_not}
@@ -7,14 +7,11 @@ use Rattle.euler_operators.proofs.Operators.{apart_front}
 use Rattle.euler_operators.specs.HalfEdge.{mate, edge_of}
 use Rattle.euler_operators.specs.Table as table
 use Rattle.euler_operators.specs.Table.{Table, tables}
-use Rattle.euler_operators.specs.Model.{Model, EdgeRow, items_of, content, is_number}
+use Rattle.euler_operators.specs.Model.{Model, EdgeRow, items_of, content}
 use Rattle.euler_operators.specs.Sound.{Sound, HasHalf, StandsIn}
 use Rattle.euler_operators.proofs.Halves.{mate_other, edge_of-mate}
 use Rattle.euler_operators.proofs.Models.{in-holds, cycle_sound}
 use Rattle.low_euler.proofs.loop_steps_laws.TwoLoops.{TwoLoops}
-
-pub number_real : (n : ℕ) → is_number n ≡ true → n ≢ 0
-number_real n e z = true≢false (sym e ∙ ap is_number z)
 
 module _ (M : Model) (sound : Sound M) where
   abbrev hs : ℕ → List ℕ

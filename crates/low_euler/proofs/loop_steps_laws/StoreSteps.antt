@@ -2,41 +2,33 @@
 use Rattle.std.proofs.Common.{◌≡◌, ◌≢◌, ℕ, Bool, true, false, cond, nat_eq, List, [], ◌∷◌, Some, is_some, refl, sym, ap, ◌∙◌, arith, ◌⊎◌, inl, inr, ◌&&◌, true≢false}
 use mathlib.Core.Bool.{beq}
 use Rattle.std.proofs.lemmas.Bool.Decides.{nat_tests, eqb_tells}
-use Rattle.euler_operators.specs.Items.{count, IsIn}
-use Rattle.euler_operators.specs.Rings.{canonical, rest, cut_left, cut_right, joined}
+use Rattle.std.proofs.lemmas.Bool.{eq-eqb}
+use Rattle.euler_operators.specs.Items.{IsIn}
+use Rattle.euler_operators.specs.Rings.{rest, cut_left, cut_right, joined}
 use Rattle.euler_operators.specs.Operators.{put_ring, take_ring}
 use Rattle.euler_operators.specs.HalfEdge.{mate, edge_of, is_first, plus, minus, code, half}
 use Rattle.euler_operators.specs.declared.HalfEdge.{HalfEdge}
 use Rattle.euler_operators.specs.Table as table
 use Rattle.euler_operators.specs.Table.{Table, tables, same_table}
-use Rattle.euler_operators.specs.Model.{Model, EdgeRow, lone, cycle, holds, items_of, content, face_of, loop_of, cycle_of, before, tail}
-use Rattle.euler_operators.proofs.Halves.{mate_cases, plus_row, minus_row, half-code}
-use Rattle.euler_operators.proofs.Tables.{first_where_zero}
-use Rattle.euler_operators.proofs.Models.{content_row, face_row, holds-none, holds_in, held_row}
+use Rattle.euler_operators.specs.Model.{Model, EdgeRow, lone, cycle, items_of, content, face_of, loop_of, cycle_of, before, tail}
+use Rattle.euler_operators.proofs.Halves.{plus_row, minus_row, half-code, mate_plus, mate_minus}
+use Rattle.euler_operators.proofs.Tables.{put-put, put_turned}
+use Rattle.euler_operators.proofs.Models.{content_row, face_row, holds_in, held_row, in_no_loop}
+use Rattle.euler_operators.proofs.Tests.{beq_itself}
 use Rattle.euler_operators.specs.Effect.{edge_row, cycle_or_lone}
-use Rattle.euler_laws.proofs.shared.Goes.{equals}
+use Rattle.euler_laws.proofs.shared.Rows.{cycle_filled}
 use Rattle.euler_conditions.specs.Store as store
 use Rattle.euler_conditions.specs.Store.{Store, with_loop, with_lone, loosened, loose_key, loose_ring, join, join_loose, join_loops, cut, cut_loose, clear}
 use Rattle.low_euler.specs.loop_steps.Steps.{IsStanding, IsLoose, with_edge, put_before, take_out}
 use Rattle.low_euler.proofs.loop_steps_laws.RingSteps.{joined_before, cut_keeps, cut_takes, follows, nothing_follows, alone_list}
-
-pub put_again : {X : Type 0} (t : Table X) (n : ℕ) (x y : X) → table.put (table.put t n x) n y ≡ table.put t n y
-put_again t n x y = same_table _ _ (λ q. grind (arith, nat_tests, tables))
-
-pub put_apart : {X : Type 0} (t : Table X) (n k : ℕ) (x y : X) → n ≢ k → table.put (table.put t n x) k y ≡ table.put (table.put t k y) n x
-put_apart t n k x y ne = same_table _ _ (λ q. grind (arith, nat_tests, tables))
 
 pub remove-put_same : {X : Type 0} (t : Table X) (n : ℕ) (x : X) → table.remove (table.put t n x) n ≡ table.remove t n
 remove-put_same t n x = same_table _ _ (λ q. grind (arith, nat_tests, tables))
 
 -- ---- tests of half-edges
 
-same_bool : (b : Bool) → beq b b ≡ true
-same_bool true = refl
-same_bool false = refl
-
 itself : (h : HalfEdge) → (nat_eq h.edge h.edge && beq h.first h.first) ≡ true
-itself h = λ i. equals h.edge h.edge refl i && same_bool h.first i
+itself h = λ i. eq-eqb h.edge h.edge refl i && beq_itself h.first i
 
 pub differ_codes : (a b : HalfEdge) → (nat_eq a.edge b.edge && beq a.first b.first) ≡ false → code a ≢ code b
 differ_codes a b t e =
@@ -68,12 +60,6 @@ with_edge_is s h m n a b f e g i =
     ∙ ap (λ q. as_edge s h m q (edge_row h a b)) g
     ∙ ap (λ q. as_edge s h m n (cond q (record { plus_tail = a; minus_tail = b }) (record { plus_tail = b; minus_tail = a }))) i
 
-mate-plus : (e : ℕ) → mate (plus e) ≡ minus e
-mate-plus e = elim (mate_cases (plus e)) [ inl p ↦ omega arith | inr p ↦ omega arith ]
-
-mate-minus : (e : ℕ) → mate (minus e) ≡ plus e
-mate-minus e = elim (mate_cases (minus e)) [ inl p ↦ omega arith | inr p ↦ omega arith ]
-
 code_first : (h : HalfEdge) → h.first ≡ true → code h ≡ plus h.edge
 unfolding code
 code_first h e = ap (λ b. cond b (plus h.edge) (minus h.edge)) e
@@ -85,24 +71,18 @@ code_second h e = ap (λ b. cond b (plus h.edge) (minus h.edge)) e
 pub put_edge_first : (s : Store) (h : HalfEdge) (a b : ℕ) → h.first ≡ true → store.put_edge s h.edge a b ≡ with_edge s (code h) a b
 unfolding store.put_edge
 put_edge_first s h a b e = sym (ap (λ q. with_edge s q a b) (code_first h e)
-    ∙ with_edge_is s (plus h.edge) (minus h.edge) h.edge a b true (mate-plus h.edge) (plus_row h.edge).0 (plus_row h.edge).1)
+    ∙ with_edge_is s (plus h.edge) (minus h.edge) h.edge a b true (mate_plus h.edge) (plus_row h.edge).0 (plus_row h.edge).1)
 
 pub put_edge_second : (s : Store) (h : HalfEdge) (a b : ℕ) → h.first ≡ false → store.put_edge s h.edge b a ≡ with_edge s (code h) a b
 unfolding store.put_edge
 put_edge_second s h a b e =
     let ne : plus h.edge ≢ minus h.edge = omega arith in
     sym (ap (λ q. with_edge s q a b) (code_second h e)
-    ∙ with_edge_is s (minus h.edge) (plus h.edge) h.edge a b false (mate-minus h.edge) (minus_row h.edge).0 (minus_row h.edge).1
+    ∙ with_edge_is s (minus h.edge) (plus h.edge) h.edge a b false (mate_minus h.edge) (minus_row h.edge).0 (minus_row h.edge).1
     ∙ ap (λ t. record s { model = record s.model { edges = table.put s.model.edges h.edge (record { plus_tail = b; minus_tail = a }) }; loose = t })
-    (sym (put_apart s.loose (plus h.edge) (minus h.edge) (plus h.edge ∷ []) (minus h.edge ∷ []) ne)))
+    (sym (put_turned s.loose (plus h.edge) (minus h.edge) (plus h.edge ∷ []) (minus h.edge ∷ []) ne)))
 
 -- ---- half-edges that go in and out
-
--- a half-edge that stands in no loop
-pub no_loop_of : (M : Model) (h : ℕ) → ((l : ℕ) → count h (items_of (content M l)) ≡ 0) → loop_of M h ≡ 0
-unfolding loop_of
-no_loop_of M h none = first_where_zero (λ _ row. holds h row.content) M.loops
-    (λ q row at. holds-none h row.content (ap (λ c. count h (items_of c)) (sym (content_row M q row at)) ∙ none q))
 
 module _ (s : Store) (g : ℕ) (stands : IsStanding s.model g) where
   abbrev M : Model
@@ -134,12 +114,12 @@ module _ (s : Store) (g : ℕ) (stands : IsStanding s.model g) where
     ring_put = joined_before xs stands.apart g g_in h (loose.nowhere r)
 
     pub loops_apart : loop_of M h ≢ loop_of M p
-    loops_apart e = before_looped (sym e ∙ no_loop_of M h loose.nowhere)
+    loops_apart e = before_looped (sym e ∙ in_no_loop M h loose.nowhere)
 
     pub join_puts : join s p h ≡ put_before s g h
     unfolding join_loose put_before
     join_puts =
-        ap (λ b. cond b (join_loose s p h) (join_loops s p h)) (equals (loop_of M h) 0 (no_loop_of M h loose.nowhere))
+        ap (λ b. cond b (join_loose s p h) (join_loops s p h)) (eq-eqb (loop_of M h) 0 (in_no_loop M h loose.nowhere))
         ∙ ap (λ l. as_join l (joined p h (items_of (content M l)) (loose_ring s h))) stands.before_near
         ∙ ap (λ ring. as_join r (joined p h xs ring)) loose.alone
         ∙ ap (as_join r) ring_put
@@ -161,17 +141,13 @@ module _ (s : Store) (g : ℕ) (stands : IsStanding s.model g) where
     unfolding before
     some_follow = follows xs stands.apart g g_in ne
 
-    filled : (ys : List ℕ) (v : ℕ) → ys ≢ [] → cycle_or_lone ys v ≡ cycle (canonical ys)
-    filled [] v e = absurd (e refl)
-    filled (y ∷ ys) v e = refl
-
     pub cut_takes_out : cut s p g 0 ≡ take_out s g
     unfolding cut_loose take_out
     cut_takes_out =
         ap (λ l. as_cut l (cut_left p g (items_of (content M l))) (cut_right p g (items_of (content M l)))) stands.before_near
         ∙ ap (λ ring. as_cut r (cut_left p g xs) ring) ring_takes
         ∙ ap (λ ys. as_cut r ys (g ∷ [])) ring_keeps
-        ∙ ap (λ c. record s { model = with_loop M r c; loose = table.put s.loose g (g ∷ []) }) (sym (filled (rest g xs) (tail M g) some_follow))
+        ∙ ap (λ c. record s { model = with_loop M r c; loose = table.put s.loose g (g ∷ []) }) (sym (cycle_filled (rest g xs) (tail M g) some_follow))
 
   -- where g is alone in its loop, the loop cleared and made lone
   module _ (e : p ≡ g) where
@@ -181,7 +157,7 @@ module _ (s : Store) (g : ℕ) (stands : IsStanding s.model g) where
 
     face_again : face_of (with_loop M r (cycle [])) r ≡ face_of M r
     face_again = face_row (with_loop M r (cycle [])) r (record { face = face_of M r; content = cycle [] })
-        (table.get-put M.loops r (record { face = face_of M r; content = cycle [] }) r ∙ ap (λ b. cond b (Some (record { face = face_of M r; content = cycle [] })) (table.get M.loops r)) (equals r r refl))
+        (table.get-put M.loops r (record { face = face_of M r; content = cycle [] }) r ∙ ap (λ b. cond b (Some (record { face = face_of M r; content = cycle [] })) (table.get M.loops r)) (eq-eqb r r refl))
 
     one_item : xs ≡ g ∷ []
     one_item = alone_list (cycle_of M g) stands.apart g g_in none_follow
@@ -196,13 +172,13 @@ module _ (s : Store) (g : ℕ) (stands : IsStanding s.model g) where
     now_bare : items_of (content (clear s r).model r) ≡ []
     unfolding clear
     now_bare = ap items_of (content_row (with_loop M r (cycle [])) r (record { face = face_of M r; content = cycle [] })
-        (table.get-put M.loops r (record { face = face_of M r; content = cycle [] }) r ∙ ap (λ b. cond b (Some (record { face = face_of M r; content = cycle [] })) (table.get M.loops r)) (equals r r refl)))
+        (table.get-put M.loops r (record { face = face_of M r; content = cycle [] }) r ∙ ap (λ b. cond b (Some (record { face = face_of M r; content = cycle [] })) (table.get M.loops r)) (eq-eqb r r refl)))
 
     clear_takes_out : with_lone (clear s r) r (tail M g) ≡ take_out s g
     unfolding clear take_out
     clear_takes_out =
         ap (λ f. record s { model = record M { loops = table.put (table.put M.loops r (record { face = face_of M r; content = cycle [] })) r (record { face = f; content = lone (tail M g) }) }; loose = loosened xs s.loose }) face_again
-        ∙ ap (λ t. record s { model = record M { loops = t }; loose = loosened xs s.loose }) (put_again M.loops r (record { face = face_of M r; content = cycle [] }) (record { face = face_of M r; content = lone (tail M g) }))
+        ∙ ap (λ t. record s { model = record M { loops = t }; loose = loosened xs s.loose }) (put-put M.loops r (record { face = face_of M r; content = cycle [] }) (record { face = face_of M r; content = lone (tail M g) }))
         ∙ ap (λ ring. record s { model = with_loop M r (lone (tail M g)); loose = loosened ring s.loose }) one_item
         ∙ ap (λ ys. record s { model = with_loop M r (cycle_or_lone ys (tail M g)); loose = table.put s.loose g (g ∷ []) }) (sym none_follow)
 

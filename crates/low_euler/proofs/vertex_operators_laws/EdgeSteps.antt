@@ -1,10 +1,12 @@
 -- Half-edges and the edges that they are of.
-use Rattle.std.proofs.Common.{◌≡◌, ◌≢◌, ℕ, Bool, true, false, cond, not, ◌&&◌, nat_eq, true≢false, refl, sym, ap, ◌∙◌, arith, ◌⊎◌, inl, inr}
+use Rattle.std.proofs.Common.{◌≡◌, ◌≢◌, ℕ, Bool, true, false, cond, ◌&&◌, nat_eq, true≢false, refl, sym, ap, ◌∙◌, arith, ◌⊎◌, inl, inr}
 use Rattle.std.proofs.lemmas.Bool.Decides.{nat_tests}
+use Rattle.std.proofs.lemmas.Bool.{and_parts}
 use Rattle.euler_operators.specs.declared.HalfEdge.{HalfEdge}
 use mathlib.Core.Bool.{beq}
 use Rattle.euler_operators.specs.HalfEdge.{code, half, mate, plus, minus}
 use Rattle.euler_operators.proofs.Halves.{code-mate, half-code}
+use Rattle.euler_operators.proofs.Tests.{beq_itself, beq_true}
 
 mate_plus : (e : ℕ) → minus e ≡ mate (plus e)
 unfolding code
@@ -27,36 +29,18 @@ code_second h e = sym (ap (λ b. cond b (plus h.edge) (minus h.edge)) e)
 abbrev is_same : HalfEdge → HalfEdge → Bool
 is_same a b = nat_eq a.edge b.edge && beq a.first b.first
 
-both_hold : (a b : Bool) → (a && b) ≡ true → (a ≡ true) × (b ≡ true)
-both_hold true b e = (refl, e)
-both_hold false b e = absurd (true≢false (sym e))
-
-same_bool : (a b : Bool) → beq a b ≡ true → a ≡ b
-same_bool true true e = refl
-same_bool true false e = absurd (true≢false (sym e))
-same_bool false true e = absurd (true≢false (sym e))
-same_bool false false e = refl
-
-bool_itself : (b : Bool) → beq b b ≡ true
-bool_itself true = refl
-bool_itself false = refl
-
 pub same_half : (a b : HalfEdge) → is_same a b ≡ true → code a ≡ code b
 same_half a b t =
-    let w = both_hold (nat_eq a.edge b.edge) (beq a.first b.first) t in
+    let w = and_parts (nat_eq a.edge b.edge) (beq a.first b.first) t in
     let p : a.edge ≡ b.edge = let u = w.0 in grind (arith, nat_tests, u) in
-    let q : a.first ≡ b.first = same_bool a.first b.first w.1 in
+    let q : a.first ≡ b.first = beq_true a.first b.first w.1 in
     λ i. code (record { edge = p i; first = q i })
 
 is_itself : (b : HalfEdge) → is_same b b ≡ true
-is_itself b = let e : nat_eq b.edge b.edge ≡ true = grind (arith, nat_tests) in ap (λ t. t && beq b.first b.first) e ∙ bool_itself b.first
+is_itself b = let e : nat_eq b.edge b.edge ≡ true = grind (arith, nat_tests) in ap (λ t. t && beq b.first b.first) e ∙ beq_itself b.first
 
 pub other_half : (a b : HalfEdge) → is_same a b ≡ false → code a ≢ code b
 other_half a b t e = true≢false (sym (ap (λ z. is_same z b) (sym (half-code a) ∙ ap half e ∙ half-code b) ∙ is_itself b) ∙ t)
-
-pub is_not_false : (b : Bool) → not b ≡ false → b ≡ true
-is_not_false true e = refl
-is_not_false false e = absurd (true≢false e)
 
 -- the codes of an edge are a half-edge and its mate
 pub edge_codes : (h : HalfEdge) → ((plus h.edge ≡ code h) × (minus h.edge ≡ mate (code h))) ⊎ ((plus h.edge ≡ mate (code h)) × (minus h.edge ≡ code h))

@@ -16,15 +16,16 @@ use Rattle.euler_operators.specs.Table.{Table, tables, same_table}
 use Rattle.euler_operators.specs.Model.{Model, LoopContent, lone, cycle, no_loop, no_edge, items_of, holds, tail, tail_in, loop_of, face_of, content, after, round, arc}
 use Rattle.euler_operators.specs.Sound.{Sound, HasHalf}
 use Rattle.euler_operators.proofs.Halves.{mate_other, mate-mate, edge_of-code}
-use Rattle.euler_operators.proofs.Models.{in-holds, holds-none, cycle_there, row_of}
+use Rattle.euler_operators.proofs.Models.{in-holds, holds-none, cycle_there, row_of, mate_there as half_mate}
+use Rattle.euler_operators.proofs.Tables.{get-put_here, get-put_other}
 use Rattle.euler_operators.specs.declared.Op.TheVariants.{Kev}
-use Rattle.euler_operators.specs.Effect.{effect, kev, cycle_or_lone}
-use Rattle.euler_laws.proofs.shared.Fans.{Fan, half_after, half_mate, loop_after}
+use Rattle.euler_operators.specs.Effect.{effect, kev}
+use Rattle.euler_laws.proofs.shared.Fans.{Fan, half_after, loop_after, none_in_fan}
 use Rattle.euler_laws.proofs.shared.Loops.{apart_out}
 use Rattle.euler_laws.proofs.shared.Arcs.{arc_is}
 use Rattle.euler_laws.proofs.shared.Undo.{same_loops, same_edges, taken_out as taken_ring}
-use Rattle.euler_laws.proofs.kev.KevSound.{KevGoes, fan_killed, m_in, none_in, touched, emptied, lone_new, new_h, half_cases, half_old, tail_old, edge_gone, edge_mapped, not_m}
-use Rattle.euler_laws.proofs.shared.Rows.{was_empty}
+use Rattle.euler_laws.proofs.kev.KevSound.{KevGoes, fan_killed, m_in, touched, emptied, lone_new, new_h, half_cases, half_old, tail_old, edge_gone, edge_mapped, not_m}
+use Rattle.euler_laws.proofs.shared.Rows.{was_empty, cycle_filled}
 use Rattle.euler_laws.proofs.kev.KevSound as kill
 use Rattle.euler_laws.proofs.shared.Same.{mapped_some}
 use Rattle.euler_laws.proofs.kev.Kev.{kev_goes}
@@ -36,7 +37,6 @@ use Rattle.low_euler.proofs.vertex_operators_laws.EdgeSteps.{edge_codes}
 use Rattle.low_euler.proofs.vertex_operators_laws.StoreSteps.{placed_of, placed-same, loop-same, content-same, face_of-same, never_zero, placed-taken, loop-taken, content-O, face-O, has-O}
 use Rattle.low_euler.proofs.vertex_operators_laws.Tails.{loops-tails, half-tails, edges-tails, tail-tails}
 use Rattle.low_euler.proofs.vertex_operators_laws.LoneSteps.{loose_again}
-use Rattle.low_euler.proofs.vertex_operators_laws.PutRows.{put_row, put_other}
 
 -- ---- two half-edges taken out of what a loop holds
 
@@ -73,10 +73,6 @@ less_twice h m c d i = elim (IsIn_or_not h (items_of c)) [
 
 less_neither : (h m : ℕ) (c : LoopContent) → count h (items_of c) ≡ 0 → count m (items_of c) ≡ 0 → less m (less h c) ≡ c
 less_neither h m c a b = ap (less m) (less_none h c a) ∙ less_none m c b
-
-not_lone_then : (xs : List ℕ) (v : ℕ) → xs ≢ [] → cycle_or_lone xs v ≡ cycle (canonical xs)
-not_lone_then [] v ne = absurd (ne refl)
-not_lone_then (x ∷ xs) v ne = refl
 
 -- ---- the loose table
 
@@ -115,7 +111,7 @@ module _ (s : Store) (half : HalfEdge) (ok : Accepts s (Kev half)) where
   half_there = goes.h_there
 
   pub mate_there : HasHalf s.model (mate (code half))
-  mate_there = half_mate M sound h half_there
+  mate_there = half_mate M h half_there
 
   placed_M : IsPlaced M
   placed_M = placed_of M sound
@@ -192,9 +188,6 @@ module _ (s : Store) (half : HalfEdge) (ok : Accepts s (Kev half)) where
   abbrev vs : List ℕ
   vs = (fan_killed M sound h goes).items
 
-  fan_w : Fan (after M) M w
-  fan_w = fan_killed M sound h goes
-
   arc_rest : arc' ≡ rest m vs
   arc_rest =
       let f : Fan (after M) M w = fan_killed M sound h goes in
@@ -211,7 +204,7 @@ module _ (s : Store) (half : HalfEdge) (ok : Accepts s (Kev half)) where
       let n : count x arc' ≡ count x vs = ap (count x) arc_rest ∙ omega (arith, count_at x m vs (m_in M sound h goes), tick_other x m (not_m M sound h goes x ne)) in
       elim (eqb_tells (tail M x) w) [
         | inl e ↦ let i : IsIn x vs = f.all x there e.1 in let t : nat_lt 0 (count x arc') ≡ true = grind (arith, nat_tests, n, i) in t ∙ sym e.0
-        | inr e ↦ let z : count x vs ≡ 0 = none_in M sound h goes f x e.1 in let t : nat_lt 0 (count x arc') ≡ false = grind (arith, nat_tests, n, z) in t ∙ sym e.0
+        | inr e ↦ let z : count x vs ≡ 0 = none_in_fan M f x e.1 in let t : nat_lt 0 (count x arc') ≡ false = grind (arith, nat_tests, n, z) in t ∙ sym e.0
       ]
 
   edge_is : edge_of h ≡ half.edge
@@ -265,7 +258,7 @@ module _ (s : Store) (half : HalfEdge) (ok : Accepts s (Kev half)) where
   -- a loop that isn't left empty is as kev makes it
   content_made : (q : ℕ) → (without m (without h (items_of (content M q))) ≡ [] → IsIn h (items_of (content M q)) ⊎ IsIn m (items_of (content M q)) → ⊥) → content G.model q ≡ content (kev M h) q
   content_made q never = content_G q ∙ elim (touched M sound h goes (content M q)) [
-    | inl t ↦ less_twice h m (content M q) (placed_M.apart q) t.1 ∙ sym (not_lone_then (without m (without h (items_of (content M q)))) u (λ e. never e t.1)) ∙ sym t.0
+    | inl t ↦ less_twice h m (content M q) (placed_M.apart q) t.1 ∙ sym (cycle_filled (without m (without h (items_of (content M q)))) u (λ e. never e t.1)) ∙ sym t.0
     | inr t ↦ less_neither h m (content M q) t.1 t.2 ∙ sym t.0
   ] ∙ sym (kill.content-N M sound h goes q)
 
@@ -310,19 +303,19 @@ module _ (s : Store) (half : HalfEdge) (ok : Accepts s (Kev half)) where
 
     content_at : content L.model l ≡ lone u
     unfolding content
-    content_at = ap (λ o. (unwrap_or o no_loop).content) (put_row G.model.loops l (record { face = face_of G.model l; content = lone u }))
+    content_at = ap (λ o. (unwrap_or o no_loop).content) (get-put_here G.model.loops l (record { face = face_of G.model l; content = lone u }))
 
     content_off : (q : ℕ) → q ≢ l → content L.model q ≡ content G.model q
     unfolding content
-    content_off q ne = ap (λ o. (unwrap_or o no_loop).content) (put_other G.model.loops l q (record { face = face_of G.model l; content = lone u }) ne)
+    content_off q ne = ap (λ o. (unwrap_or o no_loop).content) (get-put_other G.model.loops l (record { face = face_of G.model l; content = lone u }) q ne)
 
     face_at : face_of L.model l ≡ face_of G.model l
     unfolding face_of
-    face_at = ap (λ o. (unwrap_or o no_loop).face) (put_row G.model.loops l (record { face = (unwrap_or (table.get G.model.loops l) no_loop).face; content = lone u }))
+    face_at = ap (λ o. (unwrap_or o no_loop).face) (get-put_here G.model.loops l (record { face = (unwrap_or (table.get G.model.loops l) no_loop).face; content = lone u }))
 
     face_off : (q : ℕ) → q ≢ l → face_of L.model q ≡ face_of G.model q
     unfolding face_of
-    face_off q ne = ap (λ o. (unwrap_or o no_loop).face) (put_other G.model.loops l q (record { face = (unwrap_or (table.get G.model.loops l) no_loop).face; content = lone u }) ne)
+    face_off q ne = ap (λ o. (unwrap_or o no_loop).face) (get-put_other G.model.loops l (record { face = (unwrap_or (table.get G.model.loops l) no_loop).face; content = lone u }) q ne)
 
     apart_off : (q : ℕ) → q ≢ l → IsIn h (items_of (content M q)) ⊎ IsIn m (items_of (content M q)) → ⊥
     apart_off q ne i = elim i [
@@ -344,8 +337,8 @@ module _ (s : Store) (half : HalfEdge) (ok : Accepts s (Kev half)) where
 
     has_L : (q : ℕ) → table.has L.model.loops q ≡ table.has (kev M h).loops q
     has_L q = elim (eqb_tells q l) [
-      | inl e ↦ ap (table.has L.model.loops) e.1 ∙ ap is_some (put_row G.model.loops l (record { face = face_of G.model l; content = lone u })) ∙ sym (ap (table.has (kev M h).loops) e.1 ∙ sym (has_made l) ∙ loop_there)
-      | inr e ↦ ap is_some (put_other G.model.loops l q (record { face = face_of G.model l; content = lone u }) e.1) ∙ has_made q
+      | inl e ↦ ap (table.has L.model.loops) e.1 ∙ ap is_some (get-put_here G.model.loops l (record { face = face_of G.model l; content = lone u })) ∙ sym (ap (table.has (kev M h).loops) e.1 ∙ sym (has_made l) ∙ loop_there)
+      | inr e ↦ ap is_some (get-put_other G.model.loops l (record { face = face_of G.model l; content = lone u }) q e.1) ∙ has_made q
     ]
 
     loops_lone : L.model.loops ≡ (kev M h).loops

@@ -1,6 +1,7 @@
 -- An edge made at a lone loop by the writers of an arena.
 use Rattle.std.proofs.Common.{◌≡◌, ◌≢◌, ℕ, true, false, cond, List, [], ◌∷◌, ◌++◌, is_some, unwrap_or, refl, sym, ap, subst, ◌∙◌, arith, true≢false, inl, inr}
 use Rattle.std.proofs.lemmas.Bool.Decides.{nat_tests, eqb_tells}
+use Rattle.std.proofs.lemmas.Bool.{eq-eqb}
 use Rattle.euler_operators.specs.declared.Point.{Point}
 use Rattle.euler_operators.specs.Points.{IsInRange}
 use Rattle.euler_operators.specs.Items.{count, IsIn}
@@ -15,20 +16,19 @@ use Rattle.euler_operators.specs.Table.{Table, tables, same_table}
 use Rattle.euler_operators.specs.Model.{Model, LoopContent, LoopRow, cycle, items_of, no_loop, loop_of, face_of, content, is_number}
 use Rattle.euler_operators.specs.Sound.{Sound, HasHalf, StandsIn}
 use Rattle.euler_operators.proofs.Halves.{mate_other, edge_of-code}
-use Rattle.euler_operators.proofs.Models.{holds_in, in-holds}
+use Rattle.euler_operators.proofs.Models.{holds_in, in-holds, in_no_loop}
+use Rattle.euler_operators.proofs.Tables.{get-put_here, get-put_other, put-put}
 use Rattle.euler_operators.specs.declared.Op.TheVariants.{Mev}
 use Rattle.euler_operators.specs.Conditions.{lone_vertex, is_lone}
 use Rattle.euler_operators.specs.Effect.{effect, mev_lone}
-use Rattle.euler_laws.proofs.shared.Goes.{equals}
 use Rattle.euler_laws.proofs.shared.Loops.{loop_at}
 use Rattle.euler_laws.proofs.mev.MevLoneSound.{LoneGoes}
 use Rattle.euler_laws.proofs.mev.Mev.{lone_goes}
 use Rattle.euler_conditions.specs.Store.{Store, put_vertex, fill, with_loop, join, join_loose, join_loops, loose_key, loose_ring}
 use Rattle.euler_conditions.specs.Ready.{Accepts, after}
-use Rattle.low_euler.proofs.vertex_operators_laws.PutRows.{put_twice, put_row, put_other}
-use Rattle.low_euler.specs.loop_steps.Steps.{with_edge}
 use Rattle.low_euler.specs.vertex_operators.Steps.{IsPlaced, IsAlone}
-use Rattle.low_euler.proofs.vertex_operators_laws.StoreSteps.{placed_of, placed-same, content-same, in_none, none_in, alone_key, alone_still, placed-edge, loops_E, alone-first, alone-second}
+use Rattle.low_euler.proofs.vertex_operators_laws.StoreSteps.{placed_of, placed-same, content-same, in_none, alone_key, alone_still, placed-edge, loops_E, alone-first, alone-second}
+use Rattle.low_euler.specs.loop_steps.Steps.{with_edge}
 
 both_gone : {X : Type 0} (h m : ℕ) (x y : X) → table.remove (table.remove (table.put (table.put (table.empty {X = X}) h x) m y) h) m ≡ table.empty
 both_gone h m x y = same_table _ _ (λ q. grind (arith, nat_tests, tables))
@@ -112,11 +112,11 @@ module _ (s : Store) (l : ℕ) (half : HalfEdge) (v : ℕ) (p : Point) (ok : Acc
 
   content_l : content F.model l ≡ cycle (h ∷ [])
   unfolding content
-  content_l = ap (λ o. (unwrap_or o no_loop).content) (put_row E.model.loops l (record { face = face_of E.model l; content = cycle (h ∷ []) }))
+  content_l = ap (λ o. (unwrap_or o no_loop).content) (get-put_here E.model.loops l (record { face = face_of E.model l; content = cycle (h ∷ []) }))
 
   content_other : (q : ℕ) → q ≢ l → content F.model q ≡ content E.model q
   unfolding content
-  content_other q ne = ap (λ o. (unwrap_or o no_loop).content) (put_other E.model.loops l q (record { face = face_of E.model l; content = cycle (h ∷ []) }) ne)
+  content_other q ne = ap (λ o. (unwrap_or o no_loop).content) (get-put_other E.model.loops l (record { face = face_of E.model l; content = cycle (h ∷ []) }) q ne)
 
   l_above : l ≢ 0
   l_above e = true≢false (sym (sound.loops_fit l goes.loop_there) ∙ ap is_number e)
@@ -140,7 +140,7 @@ module _ (s : Store) (l : ℕ) (half : HalfEdge) (v : ℕ) (p : Point) (ok : Acc
   ]
 
   loop_m : loop_of F.model m ≡ 0
-  loop_m = none_in F.model m none_m
+  loop_m = in_no_loop F.model m none_m
 
   pub apart : loop_of F.model m ≢ loop_of F.model h
   apart e = looped (sym e ∙ loop_m)
@@ -163,7 +163,7 @@ module _ (s : Store) (l : ℕ) (half : HalfEdge) (v : ℕ) (p : Point) (ok : Acc
   joined_is : join F h m ≡ as_joined l (h ∷ []) m (m ∷ [])
   unfolding join_loose
   joined_is =
-      ap (λ b. cond b (join_loose F h m) (join_loops F h m)) (equals (loop_of F.model m) 0 loop_m)
+      ap (λ b. cond b (join_loose F h m) (join_loops F h m)) (eq-eqb (loop_of F.model m) 0 loop_m)
       ∙ ap (λ q. as_joined q (items_of (content F.model q)) (loose_key F m) (loose_ring F m)) loop_h
       ∙ ap (λ c. as_joined l (items_of c) (loose_key F m) (loose_ring F m)) content_l
       ∙ ap (λ k. as_joined l (h ∷ []) k (unwrap_or (table.get F.loose k) [])) (alone_key F m m_alone)
@@ -175,10 +175,10 @@ module _ (s : Store) (l : ℕ) (half : HalfEdge) (v : ℕ) (p : Point) (ok : Acc
   lone_made =
       let row : LoopRow = record { face = face_of M l; content = cycle (h ∷ []) } in
       let t : Table LoopRow = table.put M.loops l row in
-      let face : (unwrap_or (table.get t l) no_loop).face ≡ face_of M l = ap (λ o. (unwrap_or o no_loop).face) (put_row M.loops l row) in
+      let face : (unwrap_or (table.get t l) no_loop).face ≡ face_of M l = ap (λ o. (unwrap_or o no_loop).face) (get-put_here M.loops l row) in
       joined_is
       ∙ ap (λ (q : Table LoopRow). record F { model = record F.model { loops = q }; loose = table.remove F.loose m })
       (ap (λ g. table.put t l (record { face = g; content = cycle (joined h m (h ∷ []) (m ∷ [])) })) face
       ∙ ap (λ q. table.put t l (record { face = face_of M l; content = cycle q })) pair
-      ∙ put_twice M.loops l row (record { face = face_of M l; content = cycle (canonical (h ∷ m ∷ [])) }))
+      ∙ put-put M.loops l row (record { face = face_of M l; content = cycle (canonical (h ∷ m ∷ [])) }))
       ∙ ap (λ q. record s { model = effect M (Mev (Lone l) (Lone l) half v p); loose = q }) (loose_again s.loose h m (h ∷ []) (m ∷ []) bare)

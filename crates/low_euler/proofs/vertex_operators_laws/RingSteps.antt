@@ -5,12 +5,10 @@ use Rattle.euler_operators.specs.Items.{count, IsIn, IsApart, head_or, last_or, 
 use Rattle.euler_operators.specs.Rings.{canonical, rotate_to, rest, predecessor, cut_left, cut_right, joined}
 use Rattle.euler_operators.specs.Edits.{insert_before, without}
 use Rattle.euler_operators.proofs.Lists.{count-append, tick_same, tick_other, tick_le, split_at, before_at, after_at}
-use Rattle.euler_operators.proofs.Rings.{front_of, IsIn_predecessor, successor-predecessor, rotation_at, count_at}
-use Rattle.euler_operators.proofs.Rotations.{rotate_to-rotates, IsApart-rotate_to, rotate_to_is, rest_parts, rest_at, rest_head, rest_same, IsIn_head, canonical_is, canonical_same, canonical_nil}
+use Rattle.euler_operators.proofs.Rings.{front_of, IsIn_predecessor, successor-predecessor, rotation_at, count_at, IsIn_last}
+use Rattle.euler_operators.proofs.Rotations.{rotate_to-rotates, IsApart-rotate_to, rotate_to_is, rest_parts, rest_at, rest_head, rest_same, canonical_same, canonical_nil, canonical_one}
+use Rattle.euler_operators.proofs.Members.{both_empty}
 use Rattle.euler_laws.proofs.shared.Undo.{taken_out, put_in}
-
-canonical_one : (x : ℕ) → canonical (x ∷ []) ≡ x ∷ []
-canonical_one x = canonical_is x (x ∷ []) (IsIn_head x []) ∙ ap (λ q. x ∷ q) (rest_head x [])
 
 -- a list whose first item, or b, is x
 starts_with : (b x : ℕ) (q : List ℕ) → head_or b q ≡ x → b ≢ x → (zs : List ℕ) × (q ≡ x ∷ zs)
@@ -19,16 +17,7 @@ starts_with b x (y ∷ q) e ne = (q, ap (λ z. z ∷ q) e)
 
 ends_in : (x : ℕ) (q : List ℕ) → count x q ≡ 0 → last_or x q ≡ x → q ≡ []
 ends_in x [] n e = refl
-ends_in x (y ∷ q) n e = absurd (omega (arith, last_in y q, ap (λ z. count z (y ∷ q)) e, n)) where
-  last_in : (y : ℕ) (q : List ℕ) → IsIn (last_or y q) (y ∷ q)
-  last_in y [] = omega (arith, tick_same y)
-  last_in y (z ∷ q) = omega (arith, last_in z q)
-
-both_empty : (a b : List ℕ) → a ++ b ≡ [] → (a ≡ []) × (b ≡ [])
-both_empty [] b e = (refl, e)
-both_empty (x ∷ a) b e = absurd (no_cons e) where
-  no_cons : {x : ℕ} {q : List ℕ} → x ∷ q ≡ [] → ⊥
-  no_cons e = cc
+ends_in x (y ∷ q) n e = absurd (omega (arith, IsIn_last y q, ap (λ z. count z (y ∷ q)) e, n))
 
 module _ (xs : List ℕ) (d : IsApart xs) (x : ℕ) (i : IsIn x xs) where
   abbrev b : ℕ

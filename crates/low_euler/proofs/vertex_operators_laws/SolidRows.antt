@@ -1,5 +1,6 @@
 -- A solid with one face and one vertex, made and killed by the writers of an arena.
 use Rattle.std.proofs.Common.{◌≡◌, ℕ, true, false, List, [], ◌∷◌, Some, None, is_some, unwrap_or, refl, sym, ap, subst, ◌∙◌, true≢false}
+use Rattle.std.proofs.lemmas.Bool.{not-true}
 use Rattle.euler_operators.specs.declared.Point.{Point}
 use Rattle.euler_operators.specs.Points.{IsInRange}
 use Rattle.euler_operators.specs.Table as table
@@ -8,20 +9,20 @@ use Rattle.euler_operators.specs.Model.{Model, LoopRow, lone, cycle, items_of, n
 use Rattle.euler_operators.specs.declared.Op.TheVariants.{Mvfs, Kvfs}
 use Rattle.euler_operators.specs.Conditions.{first_false, conditions, bare_face, is_lone, lone_vertex}
 use Rattle.euler_operators.specs.Effect.{effect, mvfs, kvfs_at, head_or_zero}
-use Rattle.euler_laws.proofs.shared.Goes.{all_hold, not_true}
+use Rattle.euler_operators.proofs.Tables.{get-put_here, put-put}
+use Rattle.euler_laws.proofs.shared.Goes.{all_hold}
 use Rattle.euler_laws.proofs.faces.Solids.{KvfsGoes, kvfs_goes}
 use Rattle.euler_conditions.specs.Store.{Store, put_vertex, put_solid, put_face, put_loop, with_lone, only_item, take_solid, take_face, take_loop, take_vertex}
-use Rattle.low_euler.proofs.vertex_operators_laws.PutRows.{put_twice, put_row}
 use Rattle.euler_conditions.specs.Ready.{Accepts, after}
 
 module _ (M : Model) (s f l v : ℕ) (p : Point) (holds : first_false M (Mvfs s f l v p) ≡ None) where
   pub mvfs_loop_free : table.has M.loops l ≡ false
   unfolding first_false conditions
-  mvfs_loop_free = let w = all_hold (conditions M (Mvfs s f l v p)) holds in not_true _ w.1.1.1.1.1.1.0
+  mvfs_loop_free = let w = all_hold (conditions M (Mvfs s f l v p)) holds in not-true _ w.1.1.1.1.1.1.0
 
   pub mvfs_face_free : table.has M.faces f ≡ false
   unfolding first_false conditions
-  mvfs_face_free = let w = all_hold (conditions M (Mvfs s f l v p)) holds in not_true _ w.1.1.1.1.1.0
+  mvfs_face_free = let w = all_hold (conditions M (Mvfs s f l v p)) holds in not-true _ w.1.1.1.1.1.0
 
   pub mvfs_point : IsInRange p
   unfolding first_false conditions
@@ -33,20 +34,20 @@ module _ (s : Store) (n f l v : ℕ) (p : Point) where
 
   pub new_loop_there : table.has (put_loop begun l f).model.loops l ≡ true
   unfolding put_loop
-  new_loop_there = ap is_some (put_row s.model.loops l (record { face = f; content = cycle [] }))
+  new_loop_there = ap is_some (get-put_here s.model.loops l (record { face = f; content = cycle [] }))
 
   pub new_loop_bare : items_of (content (put_loop begun l f).model l) ≡ []
   unfolding put_loop content
-  new_loop_bare = ap (λ o. items_of (unwrap_or o no_loop).content) (put_row s.model.loops l (record { face = f; content = cycle [] }))
+  new_loop_bare = ap (λ o. items_of (unwrap_or o no_loop).content) (get-put_here s.model.loops l (record { face = f; content = cycle [] }))
 
   -- the writers make what mvfs makes
   pub mvfs_made : with_lone (put_loop begun l f) l v ≡ after s (Mvfs n f l v p)
   unfolding put_loop face_of effect mvfs
   mvfs_made =
       let t : Table LoopRow = table.put s.model.loops l (record { face = f; content = cycle [] }) in
-      let face : (unwrap_or (table.get t l) no_loop).face ≡ f = ap (λ o. (unwrap_or o no_loop).face) (put_row s.model.loops l (record { face = f; content = cycle [] })) in
+      let face : (unwrap_or (table.get t l) no_loop).face ≡ f = ap (λ o. (unwrap_or o no_loop).face) (get-put_here s.model.loops l (record { face = f; content = cycle [] })) in
       ap (λ (q : Table LoopRow). record s { model = record s.model { solids = table.put s.model.solids n tt; faces = table.put s.model.faces f (record { solid = n; outer = l }); loops = q; vertices = table.put s.model.vertices v p } })
-      (ap (λ g. table.put t l (record { face = g; content = lone v })) face ∙ put_twice s.model.loops l (record { face = f; content = cycle [] }) (record { face = f; content = lone v }))
+      (ap (λ g. table.put t l (record { face = g; content = lone v })) face ∙ put-put s.model.loops l (record { face = f; content = cycle [] }) (record { face = f; content = lone v }))
 
 -- ---- a solid that is killed
 

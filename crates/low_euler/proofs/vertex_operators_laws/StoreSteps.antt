@@ -2,6 +2,8 @@
 use Rattle.std.proofs.Common.{◌≡◌, ◌≢◌, ℕ, Bool, true, false, cond, List, [], ◌∷◌, Option, Some, None, is_some, unwrap_or, refl, sym, ap, ◌∙◌, subst, arith, ◌⊎◌, inl, inr, true≢false}
 use Rattle.std.specs.Option.{option_map}
 use Rattle.std.proofs.lemmas.Bool.Decides.{nat_tests, eqb_tells}
+use Rattle.std.proofs.lemmas.Bool.{eq-eqb}
+use Rattle.std.proofs.lemmas.Option.{same_Some}
 use Rattle.euler_operators.specs.Items.{count, tick, IsIn, IsApart}
 use Rattle.euler_operators.specs.Rings.{canonical, predecessor, cut_left, cut_right, joined}
 use Rattle.euler_operators.specs.Edits.{insert_before, without}
@@ -15,10 +17,9 @@ use Rattle.euler_operators.specs.Table.{Table, tables}
 use Rattle.euler_operators.specs.Model.{Model, LoopContent, cycle, LoopRow, no_loop, items_of, holds, loop_of, content, face_of, cycle_of, before}
 use Rattle.euler_operators.specs.Sound.{Sound, HasHalf, StandsIn}
 use Rattle.euler_operators.proofs.Halves.{mate_other, edge_of-mate}
-use Rattle.euler_operators.proofs.Tables.{map_one, first_where_is, first_where_zero}
-use Rattle.euler_operators.proofs.Models.{holds_in, in-holds, holds-none, content_row, held_row}
+use Rattle.euler_operators.proofs.Tables.{map_one, first_where_is}
+use Rattle.euler_operators.proofs.Models.{holds_in, in-holds, holds-none, content_row, held_row, in_no_loop}
 use Rattle.euler_operators.specs.Effect.{edge_row, where_held}
-use Rattle.euler_laws.proofs.shared.Goes.{equals}
 use Rattle.euler_laws.proofs.shared.Loops.{count_put_there, count_put_none, count_out, count_gone, apart_out, light, none_free, loop_at}
 use Rattle.euler_laws.proofs.shared.Loops as loops
 use Rattle.euler_laws.proofs.shared.Same.{Rewritten, content-new, face-same}
@@ -67,11 +68,6 @@ module _ (M N : Model) (same : N.loops ≡ M.loops) where
     one_loop = λ x q s. loop_of-same x ∙ placed.one_loop x q (stands-same x q s);
     no_zero = ap (λ t. table.get t 0) same ∙ placed.no_zero;
   }
-
--- a half-edge that no loop holds is in no loop
-pub none_in : (M : Model) (h : ℕ) → ((l : ℕ) → count h (items_of (content M l)) ≡ 0) → loop_of M h ≡ 0
-unfolding loop_of
-none_in M h n = first_where_zero (λ _ row. holds h row.content) M.loops (λ q row at. holds-none h row.content (ap (λ c. count h (items_of c)) (sym (content_row M q row at)) ∙ n q))
 
 module _ (M : Model) (placed : IsPlaced M) where
   content_zero : content M 0 ≡ cycle []
@@ -195,7 +191,7 @@ module _ (s : Store) (placed : IsPlaced s.model) (g h : ℕ) (stands : HasLoop s
   pub join_puts : join s (before M g) h ≡ put_before s g h
   unfolding join_loose put_before
   join_puts =
-      ap (λ b. cond b (join_loose s (before M g) h) (join_loops s (before M g) h)) (equals (loop_of M h) 0 alone.no_loop)
+      ap (λ b. cond b (join_loose s (before M g) h) (join_loops s (before M g) h)) (eq-eqb (loop_of M h) 0 alone.no_loop)
       ∙ ap (λ l. as_put l (loose_key s h) (loose_ring s h)) (before_loop M placed g stands)
       ∙ ap (λ k. as_put (loop_of M g) k (unwrap_or (table.get s.loose k) [])) (alone_key s h alone)
       ∙ ap (λ o. as_put (loop_of M g) h (unwrap_or o [])) alone.ring
@@ -269,12 +265,9 @@ module _ (s : Store) (placed : IsPlaced s.model) (g h : ℕ) (stands : HasLoop s
   -- another that stands alone still does
   pub alone-put : (m : ℕ) → m ≢ h → IsAlone s m → IsAlone (put_before s g h) m
   unfolding put_before
-  alone-put m ne a = alone_still s (put_before s g h) h m ne a refl a.there (none_in N m (none_N m ne (in_none M placed m a.no_loop)))
+  alone-put m ne a = alone_still s (put_before s g h) h m ne a refl a.there (in_no_loop N m (none_N m ne (in_none M placed m a.no_loop)))
 
 -- ---- the new edge
-
-some_is : {X : Type 0} (x y : X) → Some x ≡ Some y → x ≡ y
-some_is x y e = cc
 
 module _ (s : Store) (placed : IsPlaced s.model) (bare : s.loose ≡ table.empty) (h a b : ℕ) (free : table.get s.model.edges (edge_of h) ≡ None) where
   abbrev E : Store
@@ -305,16 +298,16 @@ module _ (s : Store) (placed : IsPlaced s.model) (bare : s.loose ≡ table.empty
   ]
 
   no_loop_E : (x : ℕ) → edge_of x ≡ edge_of h → loop_of E.model x ≡ 0
-  no_loop_E x e = none_in E.model x (λ q. ap (λ c. count x (items_of c)) (content-same s.model E.model loops_E q) ∙ free_none x (ap (table.get s.model.edges) e ∙ free) q)
+  no_loop_E x e = in_no_loop E.model x (λ q. ap (λ c. count x (items_of c)) (content-same s.model E.model loops_E q) ∙ free_none x (ap (table.get s.model.edges) e ∙ free) q)
 
   rows_E : (k : ℕ) (xs : List ℕ) → table.get E.loose k ≡ Some xs → ((k ≡ h) × (xs ≡ h ∷ [])) ⊎ ((k ≡ mate h) × (xs ≡ mate h ∷ []))
   unfolding with_edge
   rows_E k xs at = elim (eqb_tells k (mate h)) [
-    | inl e ↦ inr (e.1, some_is _ _ (sym at ∙ table.get-put (table.put s.loose h (h ∷ [])) (mate h) (mate h ∷ []) k ∙ ap (λ c. cond c (Some (mate h ∷ [])) (table.get (table.put s.loose h (h ∷ [])) k)) e.0))
+    | inl e ↦ inr (e.1, same_Some _ _ (sym at ∙ table.get-put (table.put s.loose h (h ∷ [])) (mate h) (mate h ∷ []) k ∙ ap (λ c. cond c (Some (mate h ∷ [])) (table.get (table.put s.loose h (h ∷ [])) k)) e.0))
     | inr e ↦
         let u : table.get (table.put s.loose h (h ∷ [])) k ≡ Some xs = sym (table.get-put (table.put s.loose h (h ∷ [])) (mate h) (mate h ∷ []) k ∙ ap (λ c. cond c (Some (mate h ∷ [])) (table.get (table.put s.loose h (h ∷ [])) k)) e.0) ∙ at in
         elim (eqb_tells k h) [
-          | inl f ↦ inl (f.1, some_is _ _ (sym u ∙ table.get-put s.loose h (h ∷ []) k ∙ ap (λ c. cond c (Some (h ∷ [])) (table.get s.loose k)) f.0))
+          | inl f ↦ inl (f.1, same_Some _ _ (sym u ∙ table.get-put s.loose h (h ∷ []) k ∙ ap (λ c. cond c (Some (h ∷ [])) (table.get s.loose k)) f.0))
           | inr f ↦ absurd (true≢false (sym (ap is_some (sym (table.get-put s.loose h (h ∷ []) k ∙ ap (λ c. cond c (Some (h ∷ [])) (table.get s.loose k)) f.0) ∙ u)) ∙ ap (λ t. is_some (table.get t k)) bare ∙ ap is_some (table.get-empty k)))
         ]
   ]

@@ -15,7 +15,7 @@ use Rattle.split_opening_laws.proofs.opening.Whole.{opening_accepted}
 use Rattle.plane_split.specs.solid_opening.Stages.{CanOpen, AreStripped}
 use Rattle.plane_split.proofs.solid_opening_laws.CutOff.{so_far}
 use Rattle.plane_split.proofs.solid_opening_laws.Raised.{read_before}
-use Rattle.plane_split.proofs.solid_opening_laws.Taken.{second_part}
+use Rattle.euler_laws.proofs.Runs.{AreAccepted-back}
 
 -- a place among the halves is one among their codes
 pub inside_codes : (halves : List HalfEdge) (i : ℕ) → i < length halves → i < length (map code halves)
@@ -67,7 +67,7 @@ module _ (M : Model) (s : ℕ) (c : Taken) (halves : List HalfEdge) (can : CanOp
       pub caps_go : AreAccepted N (cap_ops c n)
       unfolding opening_ops
       caps_go = subst (λ k. AreAccepted N (cap_ops c k)) size (subst (λ Y. AreAccepted Y (cap_ops c (length bs))) (sym raised_all)
-          (second_part M (strip_ops M s c bs (length bs) ++ copy_ops M c bs (length bs)) (cap_ops c (length bs)) (opening_accepted M can.0 s c bs can.1)))
+          (AreAccepted-back M (strip_ops M s c bs (length bs) ++ copy_ops M c bs (length bs)) (cap_ops c (length bs)) (opening_accepted M can.0 s c bs can.1)))
 
       -- the caps are made
       pub opened_whole : (K : Model) → K ≡ effects N (cap_ops c n) → K ≡ effects M (opening_ops M s c bs)

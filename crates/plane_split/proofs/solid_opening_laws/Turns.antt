@@ -14,7 +14,7 @@ use Rattle.split_opening_laws.proofs.sections.InTurn.{others_on}
 use Rattle.split_opening_laws.specs.opening.OpeningOps.{opening_ops}
 use Rattle.split_opening_laws.proofs.opening.Whole.{opening_made}
 use Rattle.split_laws.proofs.Openings.{can_open, openings_sound}
-use Rattle.split_laws.proofs.Flags.{flags_are}
+use Rattle.split_laws.proofs.Flags.{flags_are, next_flags}
 use Rattle.split_checks.proofs.cut_places_laws.Lists.{others, parts}
 use Rattle.split_checks.specs.Progress.{taken_of}
 use Rattle.split_checks.specs.declared.progress.Progress.{Progress}
@@ -35,10 +35,6 @@ abbrev head_flag : List Bool → Bool
 head_flag [] = false
 head_flag (b ∷ bs) = b
 
-one_flag : (above : List ℕ) (s : ℕ) (p : Plane) (o : Opening) (bs : List ℕ) → map (λ k. k.hole) (next_opened p above s o bs).caps ≡ map (λ k. k.hole) o.caps ++ is_hole o.model p bs ∷ []
-unfolding next_opened
-one_flag above s p o bs = map-append (λ k. k.hole) o.caps (record { lower = o.taken.face + 1; upper = o.taken.face + length bs + 1; hole = is_hole o.model p bs } ∷ [])
-
 -- an opening leaves the other cycles the holes that they were
 next_holes : (above : List ℕ) (s : ℕ) (p : Plane) (o : Opening) (bs : List ℕ) (cs : List (List ℕ)) → CanBeOpenedInTurn above s o (bs ∷ cs) → CanBeOpenedInTurn above s (next_opened p above s o bs) cs →
     map (is_hole (next_opened p above s o bs).model p) cs ≡ map (is_hole o.model p) cs
@@ -49,7 +45,7 @@ next_holes above s p o bs cs w next =
     let then : List Bool = map (is_hole (next_opened p above s o bs).model p) cs in
     let known : before ++ (k ∷ then) ≡ before ++ (k ∷ here) =
     sym (append_assoc before (k ∷ []) then)
-    ∙ ap (λ hs. hs ++ then) (sym (one_flag above s p o bs))
+    ∙ ap (λ hs. hs ++ then) (sym (next_flags above s p o bs))
     ∙ sym (flags_are above s p (next_opened p above s o bs) cs next)
     ∙ flags_are above s p o (bs ∷ cs) w in
     ap (drop 1) (cancel before (k ∷ then) (k ∷ here) known)

@@ -9,6 +9,7 @@ use Rattle.solid_listing.specs.declared.reply.Reply.TheVariants as reply
 use Rattle.script_running.specs.script_judging.Judging.{Acts, Tries, refused, outcome}
 use Rattle.script_running.specs.declared.script_judging.judging.Answer.{Answer}
 use Rattle.script_running.specs.declared.script_judging.judging.Answer.TheVariants.{Reply as Told}
+use Rattle.sweeps.proofs.BlockSteps.{at_sizes}
 
 -- memory is told only where the command isn't refused
 told_memory : (o : Option Refusal) (s acted t : Machine) → ((r : Refusal) → o ≡ Some r → ⊥) → t ≡ s → Acts o s acted (Told reply.Memory) t
@@ -36,10 +37,6 @@ pub tries_told : (o : Option Refusal) (s acted : Machine) (ended : Result (Unit 
     → ((r : Refusal) → ended ≡ Err (failure.Refused r) → o ≡ Some r) → OnErr ended (t ≡ s) → Tries o s acted a t
 tries_told o s acted ended t a is ok told err = subst (λ (b : Answer). Tries o s acted b t) (sym is) (tries o s acted ended t ok told err)
 
--- a fact about sizes as the code keeps them is one about the sizes
-pub of_sizes : (P : ℤ → ℤ → ℤ → Type 0) (a b g x y z : ℤ) → a ≡ x → b ≡ y → g ≡ z → P a b g → P x y z
-of_sizes P a b g x y z ea eb eg h = subst (λ i. P i y z) ea (subst (λ i. P a i z) eb (subst (λ i. P a b i) eg h))
-
 -- and so for the coefficients of a plane
 pub of_coefficients : (P : ℤ → ℤ → ℤ → ℤ → Type 0) (a b g e x y z w : ℤ) → a ≡ x → b ≡ y → g ≡ z → e ≡ w → P a b g e → P x y z w
-of_coefficients P a b g e x y z w ea eb eg ee h = of_sizes (λ i j k. P i j k w) a b g x y z ea eb eg (subst (P a b g) ee h)
+of_coefficients P a b g e x y z w ea eb eg ee h = at_sizes (λ i j k. P i j k w) a b g x y z ea eb eg (subst (P a b g) ee h)

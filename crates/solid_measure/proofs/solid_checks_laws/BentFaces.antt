@@ -1,5 +1,5 @@
 -- The least face that isn't flat, solid by solid.
-use Rattle.std.proofs.Common.{◌≡◌, ℕ, ◌<◌, Bool, true, false, cond, not, ◌&&◌, ◌||◌, nat_eq, List, ◌∷◌, Some, None, refl, sym, ap, ◌∙◌, arith}
+use Rattle.std.proofs.Common.{◌≡◌, ℕ, ◌<◌, Bool, true, false, cond, not, ◌&&◌, ◌||◌, nat_eq, List, ◌∷◌, Some, None, sym, ap, ◌∙◌, arith}
 use Rattle.std.proofs.lemmas.Bool.Decides.{nat_tests}
 use Rattle.euler_operators.specs.Model.{Model, faces_of}
 use Rattle.euler_operators.specs.Sound.{Sound}
@@ -8,12 +8,8 @@ use Rattle.shapes.specs.Fresh.{first_such}
 use Rattle.solid_measure.specs.Measure.{is_flat}
 use Rattle.solid_walks.proofs.face_walks_laws.Above.{member}
 use Rattle.solid_measure.specs.solid_checks.Least.{found, lesser}
-use Rattle.solid_measure.proofs.solid_checks_laws.Searches.{IsLeast, one_least, least_same, least_either, least_rising}
+use Rattle.solid_measure.proofs.solid_checks_laws.Searches.{IsLeast, one_least, least_same, least_either, least_rising, and_or}
 use Rattle.solid_measure.proofs.solid_checks_laws.FaceWalks.{member_both, faces_rise, both_rise, faces_positive, both_positive}
-
-one_or_other : (a b c : Bool) → (a && b) || (a && c) ≡ a && (b || c)
-one_or_other true b c = refl
-one_or_other false b c = refl
 
 module _ (M : Model) where
   abbrev is_bent : ℕ → Bool
@@ -39,7 +35,7 @@ module _ (M : Model) where
     pub both_bent : (s t : ℕ) → lesser (found (first_bent (faces_of M s))) (found (first_bent (faces_of M t))) ≡ found (first_bent (faces_of_both M s t))
     both_bent s t = one_least (λ k. is_bent k && member k (faces_of_both M s t)) (lesser (found (first_bent (faces_of M s))) (found (first_bent (faces_of M t)))) (found (first_bent (faces_of_both M s t)))
         (least_same (λ k. (is_bent k && member k (faces_of M s)) || (is_bent k && member k (faces_of M t))) (λ k. is_bent k && member k (faces_of_both M s t))
-        (λ k. one_or_other (is_bent k) (member k (faces_of M s)) (member k (faces_of M t)) ∙ ap (λ b. is_bent k && b) (sym (member_both M s t k)))
+        (λ k. and_or (is_bent k) (member k (faces_of M s)) (member k (faces_of M t)) ∙ ap (λ b. is_bent k && b) (sym (member_both M s t k)))
         (lesser (found (first_bent (faces_of M s))) (found (first_bent (faces_of M t))))
         (least_either (λ k. is_bent k && member k (faces_of M s)) (λ k. is_bent k && member k (faces_of M t)) (found (first_bent (faces_of M s))) (found (first_bent (faces_of M t))) (least_of_solid s) (least_of_solid t)))
         (least_rising is_bent (faces_of_both M s t) (both_positive M sound s t) (both_rise M s t))

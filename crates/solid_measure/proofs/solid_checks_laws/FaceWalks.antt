@@ -1,21 +1,16 @@
 -- What an arena answers as a walk goes from a face of a solid to the next.
-use Rattle.std.proofs.Common.{◌≡◌, ℕ, ◌<◌, Bool, true, false, ◌&&◌, ◌||◌, nat_eq, List, [], ◌∷◌, Option, Some, None, is_some, unwrap_or, refl, sym, ◌∙◌, arith}
+use Rattle.std.proofs.Common.{◌≡◌, ℕ, ◌<◌, Bool, true, ◌&&◌, ◌||◌, nat_eq, List, [], ◌∷◌, Option, Some, None, is_some, unwrap_or, refl, sym, ◌∙◌, arith}
 use Rattle.std.proofs.lemmas.Bool.Decides.{nat_tests}
 use Rattle.euler_operators.specs.Table.{get, has}
-use Rattle.euler_operators.specs.Model.{Model, FaceRow, no_face, solid_of, faces_of, is_number}
+use Rattle.euler_operators.specs.Model.{Model, FaceRow, no_face, solid_of, faces_of}
 use Rattle.euler_operators.specs.Sound.{Sound}
 use Rattle.euler_operators.specs.Conditions.{lists}
+use Rattle.euler_operators.proofs.Tests.{and_first}
+use Rattle.euler_operators.proofs.Models.{one_or_more}
 use Rattle.euler_conditions.specs.Store.{IsNextFace, is_face_of}
 use Rattle.shapes.specs.Faces.{faces_of_both}
 use Rattle.solid_walks.proofs.face_walks_laws.Above.{above, member, AllAbove, Rising, all_above, next_above, none_above, all_above_members}
 use Rattle.solid_walks.proofs.face_walks_laws.TableWalks.{passes, rising_passing, member_passing}
-
-pub one_or_more : (k : ℕ) → is_number k ≡ true → 0 < k
-one_or_more k e = grind (arith, nat_tests)
-
-pub first_true : (a b : Bool) → a && b ≡ true → a ≡ true
-first_true true b e = refl
-first_true false b e = e
 
 pub lists_member : (ks : List ℕ) (k : ℕ) → lists ks k ≡ member k ks
 lists_member [] k = refl
@@ -59,7 +54,7 @@ module _ (M : Model) where
     face_positive k there = one_or_more k (sound.faces_fit k there)
 
     pub faces_positive : (s : ℕ) → AllAbove 0 (faces_of M s)
-    faces_positive s = all_above_members 0 (faces_of M s) (λ k m. face_positive k (first_true (has M.faces k) (nat_eq (solid_of M k) s) (sym (member_faces s k) ∙ m)))
+    faces_positive s = all_above_members 0 (faces_of M s) (λ k m. face_positive k (and_first (has M.faces k) (nat_eq (solid_of M k) s) (sym (member_faces s k) ∙ m)))
 
     pub both_positive : (s t : ℕ) → AllAbove 0 (faces_of_both M s t)
     both_positive s t = all_above_members 0 (faces_of_both M s t) (λ k m. face_positive k (there k (get M.faces k) (sym (member_passing (of_either s t) M.faces k) ∙ m))) where

@@ -1,26 +1,25 @@
 -- The least lone loop of some faces, face by face.
 use Rattle.std.proofs.Common.{◌≡◌, ℕ, Bool, true, false, not, ◌&&◌, ◌||◌, nat_eq, List, [], ◌∷◌, Option, Some, None, is_some, unwrap_or, refl, sym, ap, ◌∙◌, arith, inl, inr}
 use Rattle.std.proofs.lemmas.Bool.Decides.{nat_tests, eqb_tells}
+use Rattle.std.proofs.lemmas.Bool.{or_right}
 use Rattle.euler_operators.specs.Table.{get, has, all_where}
 use Rattle.euler_operators.specs.Model.{Model, LoopRow, no_loop, face_of, outer, content, rings_of, faces_of}
 use Rattle.euler_operators.specs.Sound.{Sound, Has}
 use Rattle.euler_operators.specs.Conditions.{lists, is_lone}
+use Rattle.euler_operators.proofs.Tests.{and_first}
+use Rattle.euler_operators.proofs.Models.{one_or_more}
 use Rattle.shapes.specs.Faces.{loops_of, least_lone, faces_of_both}
 use Rattle.solid_walks.proofs.face_walks_laws.Above.{member, AllAbove, all_above_members}
 use Rattle.solid_walks.proofs.face_walks_laws.TableWalks.{passes, member_passing}
 use Rattle.solid_walks.proofs.face_walks_laws.RingWalks.{member_rings}
 use Rattle.solid_measure.specs.solid_checks.Least.{found, lesser, least_such}
 use Rattle.solid_measure.proofs.solid_checks_laws.Searches.{IsLeast, one_least, least_same, least_either, least_listed, least_row}
-use Rattle.solid_measure.proofs.solid_checks_laws.FaceWalks.{one_or_more, lists_member, member_faces, member_both}
+use Rattle.solid_measure.proofs.solid_checks_laws.FaceWalks.{lists_member, member_faces, member_both}
 
 last_true : (a b c : Bool) → c ≡ true → a && b && c ≡ a && b
 last_true true true c e = e
 last_true true false c e = refl
 last_true false b c e = refl
-
-first_true : (a b : Bool) → a && b ≡ true → a ≡ true
-first_true true b e = refl
-first_true false b e = e
 
 none_listed : (a b : Bool) → false ≡ a && (b && false)
 none_listed true true = refl
@@ -92,21 +91,17 @@ module _ (M : Model) where
     among_least : (fs : List ℕ) → ((f : ℕ) → member f fs ≡ true → Has M.faces f) → IsLeast (lone_in fs) (lone_among fs)
     among_least [] here = λ k. sym (none_listed (lone_at k) (has M.loops k))
     among_least (f ∷ fs) here =
-        let rest = among_least fs (λ g m. here g (later (nat_eq g f) (member g fs) m)) in
+        let rest = among_least fs (λ g m. here g (or_right (nat_eq g f) (member g fs) m)) in
         least_same (λ k. (lone_at k && member k (loops_of M f)) || lone_in fs k) (lone_in (f ∷ fs))
         (λ k. ap (λ b. (lone_at k && b) || lone_in fs k) (member_loops f k (here f (itself f))) ∙ spread (lone_at k) (has M.loops k) (nat_eq f (face_of M k)) (lists fs (face_of M k)))
         (lone_among (f ∷ fs)) (least_either (λ k. lone_at k && member k (loops_of M f)) (lone_in fs) (least_such lone_at (loops_of M f)) (lone_among fs) (least_listed lone_at (loops_of M f)) rest) where
-          later : (a b : Bool) → b ≡ true → a || b ≡ true
-          later true b e = refl
-          later false b e = e
-
           itself : (n : ℕ) → nat_eq n n || member n fs ≡ true
           itself n = let e : nat_eq n n ≡ true = grind (arith, nat_tests) in ap (λ b. b || member n fs) e
 
     -- face by face one finds the least of all
     pub among_is : (s : ℕ) → lone_among (faces_of M s) ≡ found (least_lone M (faces_of M s))
     among_is s = one_least (lone_in (faces_of M s)) (lone_among (faces_of M s)) (found (least_lone M (faces_of M s)))
-        (among_least (faces_of M s) (λ f m. first_true (has M.faces f) _ (sym (member_faces M s f) ∙ m))) (found_least (faces_of M s))
+        (among_least (faces_of M s) (λ f m. and_first (has M.faces f) _ (sym (member_faces M s f) ∙ m))) (found_least (faces_of M s))
 
     both_lists : (s t k : ℕ) → lists (faces_of_both M s t) k ≡ lists (faces_of M s) k || lists (faces_of M t) k
     both_lists s t k = lists_member (faces_of_both M s t) k ∙ member_both M s t k ∙ sym (λ i. lists_member (faces_of M s) k i || lists_member (faces_of M t) k i)

@@ -1,7 +1,9 @@
 -- The least number that passes a test.
 use Rattle.std.proofs.Common.{◌≡◌, ℕ, ◌<◌, Bool, true, false, cond, ◌&&◌, ◌||◌, nat_eq, nat_lt, nat_le, List, [], ◌∷◌, Option, Some, None, refl, sym, ap, ◌∙◌, arith, true≢false, inl, inr, subst}
 use Rattle.std.proofs.lemmas.Bool.Decides.{nat_tests, eqb_tells}
+use Rattle.std.proofs.lemmas.Bool.{or_left, or_right}
 use Rattle.euler_operators.specs.Table.{Table, get, first_in, first_where, all_in, all_where}
+use Rattle.euler_operators.proofs.Tests.{and_false}
 use Rattle.shapes.specs.Fresh.{first_such}
 use Rattle.solid_walks.proofs.face_walks_laws.Above.{member, AllAbove, Rising, not_member}
 use Rattle.solid_walks.proofs.face_walks_laws.TableWalks.{passes, rising_passing, member_passing}
@@ -29,24 +31,17 @@ pub least_same : (p q : ℕ → Bool) → ((k : ℕ) → p k ≡ q k) → (n : O
 least_same p q e None h = λ k. sym (e k) ∙ h k
 least_same p q e (Some n) h = (sym (e n) ∙ h.0, λ k l. sym (e k) ∙ h.1 k l)
 
-either_first : (a b : Bool) → a ≡ true → a || b ≡ true
-either_first a b e = ap (λ c. c || b) e
-
-either_second : (a b : Bool) → b ≡ true → a || b ≡ true
-either_second true b e = refl
-either_second false b e = e
-
 neither : (a b : Bool) → a ≡ false → b ≡ false → a || b ≡ false
 neither a b e f = ap (λ c. c || b) e ∙ f
 
 -- the least that passes one of two tests
 pub least_either : (p q : ℕ → Bool) (m n : Option ℕ) → IsLeast p m → IsLeast q n → IsLeast (λ k. p k || q k) (lesser m n)
 least_either p q None None a b = λ k. neither (p k) (q k) (a k) (b k)
-least_either p q None (Some n) a b = (either_second (p n) (q n) b.0, λ k l. neither (p k) (q k) (a k) (b.1 k l))
-least_either p q (Some m) None a b = (either_first (p m) (q m) a.0, λ k l. neither (p k) (q k) (a.1 k l) (b k))
+least_either p q None (Some n) a b = (or_right (p n) (q n) b.0, λ k l. neither (p k) (q k) (a k) (b.1 k l))
+least_either p q (Some m) None a b = (or_left (p m) (q m) a.0, λ k l. neither (p k) (q k) (a.1 k l) (b k))
 least_either p q (Some m) (Some n) a b = elim (nat_le m n) as (λ c. nat_le m n ≡ c → IsLeast (λ k. p k || q k) (Some (cond c m n))) [
-  | true ↦ λ t. (either_first (p m) (q m) a.0, λ k l. neither (p k) (q k) (a.1 k l) (b.1 k (grind (arith, nat_tests))))
-  | false ↦ λ t. (either_second (p n) (q n) b.0, λ k l. neither (p k) (q k) (a.1 k (grind (arith, nat_tests))) (b.1 k l))
+  | true ↦ λ t. (or_left (p m) (q m) a.0, λ k l. neither (p k) (q k) (a.1 k l) (b.1 k (grind (arith, nat_tests))))
+  | false ↦ λ t. (or_right (p n) (q n) b.0, λ k l. neither (p k) (q k) (a.1 k (grind (arith, nat_tests))) (b.1 k l))
 ] refl
 
 -- one number
@@ -58,14 +53,10 @@ only_least p n = elim (p n) as (λ b. p n ≡ b → IsLeast (λ k. p k && nat_eq
   same : p n ≡ true → p n && nat_eq n n ≡ true
   same t = let e : nat_eq n n ≡ true = grind (arith, nat_tests) in (λ i. t i && e i)
 
-  and_false : (b : Bool) → b && false ≡ false
-  and_false true = refl
-  and_false false = refl
-
   other : (k : ℕ) → nat_eq k n ≡ false → p k && nat_eq k n ≡ false
   other k e = ap (λ b. p k && b) e ∙ and_false (p k)
 
-and_or : (a b c : Bool) → (a && b) || (a && c) ≡ a && (b || c)
+pub and_or : (a b c : Bool) → (a && b) || (a && c) ≡ a && (b || c)
 and_or true b c = refl
 and_or false b c = refl
 

@@ -1,10 +1,10 @@
 -- How many items of a list pass a test, and lists that have equally many items.
 use Rattle.std.proofs.Common.{◌≡◌, ℕ, ◌+◌, ◌≤◌, Bool, true, false, cond, List, [], ◌∷◌, ◌++◌, length, map, refl, sym, ap, subst, ◌∙◌, arith, inl, inr}
 use Rattle.std.proofs.lemmas.Bool.Decides.{eqb_tells}
-use Rattle.std.proofs.lemmas.List.{length-append}
-use Rattle.euler_operators.specs.Items.{count, tick, IsIn, IsApart, before, after}
+use Rattle.euler_operators.specs.Items.{count, tick, IsIn, IsApart}
 use Rattle.euler_operators.specs.Rings.{IsRotation}
-use Rattle.euler_operators.proofs.Lists.{count-append, tick_same, tick_other, split_at, IsIn_or_not}
+use Rattle.euler_operators.proofs.Lists.{tick_same, tick_other}
+use Rattle.euler_operators.proofs.Members.{apart_within}
 
 -- how many items pass a test, and which
 abbrev pub how_many : (ℕ → Bool) → List ℕ → ℕ
@@ -67,36 +67,7 @@ module _ (f : ℕ → ℕ) where
     | inr n ↦ let r = of_map y xs (omega (arith, i, tick_other y (f x) n.1)) in (r.0, omega (arith, r.1), r.2)
   ]
 
-  pub in_map : (x : ℕ) (xs : List ℕ) → IsIn x xs → IsIn (f x) (map f xs)
-  in_map x [] i = absurd (omega arith)
-  in_map x (y ∷ ys) i = elim (eqb_tells x y) [
-    | inl s ↦ omega (arith, ap (λ k. tick (f k) (f y)) s.1, tick_same (f y))
-    | inr n ↦ omega (arith, in_map x ys (omega (arith, i, tick_other x y n.1)))
-  ]
-
-  -- different items have different images
-  pub map_apart : (xs : List ℕ) → IsApart xs → ((x y : ℕ) → IsIn x xs → IsIn y xs → f x ≡ f y → x ≡ y) → IsApart (map f xs)
-  map_apart [] d one z = omega arith
-  map_apart (x ∷ xs) d one z = let rest = map_apart xs (λ y. omega (arith, d y)) (λ y w i j. one y w (omega (arith, i)) (omega (arith, j))) z in elim (eqb_tells z (f x)) [
-    | inl s ↦ elim (IsIn_or_not z (map f xs)) [
-      | inl i ↦ let r = of_map z xs i in absurd (let e : r.0 ≡ x = one r.0 x (omega (arith, r.1)) (omega (arith, tick_same x)) (r.2 ∙ s.1) in omega (arith, d x, tick_same x, r.1, ap (λ k. count k xs) e))
-      | inr n ↦ omega (arith, n, ap (λ k. tick k (f x)) s.1, tick_same (f x))
-    ]
-    | inr n ↦ omega (arith, tick_other z (f x) n.1, rest)
-  ]
-
 -- ---- lists of the same items
 
--- different items that all stand in another list are no more than its items
-no_more : (xs ys : List ℕ) → IsApart xs → ((x : ℕ) → IsIn x xs → IsIn x ys) → length xs ≤ length ys
-no_more [] ys d h = omega arith
-no_more (x ∷ xs) ys d h =
-    let s : ys ≡ before x ys ++ x ∷ after x ys = split_at x ys (h x (omega (arith, tick_same x))) in
-    let l = no_more xs (before x ys ++ after x ys) (λ y. omega (arith, d y)) (λ y i. elim (eqb_tells y x) [
-      | inl e ↦ absurd (omega (arith, d x, tick_same x, i, ap (λ k. count k xs) e.1))
-      | inr n ↦ omega (arith, h y (omega (arith, i)), ap (count y) s, count-append y (before x ys) (x ∷ after x ys), count-append y (before x ys) (after x ys), tick_other y x n.1)
-    ]) in
-    omega (arith, l, ap (λ (zs : List ℕ). length zs) s, length-append (before x ys) (x ∷ after x ys), length-append (before x ys) (after x ys))
-
 pub equally_many : (xs ys : List ℕ) → IsApart xs → IsApart ys → ((x : ℕ) → IsIn x xs → IsIn x ys) → ((x : ℕ) → IsIn x ys → IsIn x xs) → length xs ≡ length ys
-equally_many xs ys d e h k = omega (arith, no_more xs ys d h, no_more ys xs e k)
+equally_many xs ys d e h k = omega (arith, apart_within xs ys d h, apart_within ys xs e k)

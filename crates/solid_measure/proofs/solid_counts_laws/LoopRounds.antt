@@ -1,13 +1,13 @@
 -- What a walk round a loop counts.
-use Rattle.std.proofs.Common.{◌≡◌, ◌≢◌, ℕ, ◌+◌, ◌*◌, ◌%◌, Bool, true, false, cond, nat_eq, [], ◌∷◌, ◌++◌, sym, ap, subst, ◌∙◌, arith}
+use Rattle.std.proofs.Common.{◌≡◌, ◌≢◌, ℕ, ◌+◌, Bool, true, false, cond, [], ◌∷◌, ◌++◌, sym, ap, subst, ◌∙◌, arith}
 use mir.Val.{bool_byte}
-use Rattle.std.proofs.lemmas.Bool.Decides.{nat_tests}
 use Rattle.euler_operators.specs.Items.{IsIn}
-use Rattle.euler_operators.specs.HalfEdge.{code, is_first}
+use Rattle.euler_operators.specs.HalfEdge.{code}
 use Rattle.euler_operators.specs.declared.Content.TheVariants as Content
 use Rattle.euler_operators.specs.declared.HalfEdge.{HalfEdge}
 use Rattle.euler_operators.specs.Model.{Model, LoopContent, lone, cycle, items_of, content, after}
 use Rattle.euler_operators.specs.Sound.{Sound}
+use Rattle.euler_operators.proofs.Halves.{is_first-code}
 use Rattle.euler_conditions.specs.Store.{Tells}
 use Rattle.euler_laws.proofs.shared.Bounds.{steps}
 use Rattle.solid_measure.specs.declared.solid_counts.Met.{Met}
@@ -57,13 +57,6 @@ lone_counts M (cycle hs) v t = absurd t
 pub ring_counts : (M : Model) (c : LoopContent) (h : HalfEdge) → Tells c (Content.Ring h) → halves_met M (items_of c) ≡ loop_met M c
 ring_counts M (lone w) h t = absurd t
 ring_counts M (cycle hs) h t = λ i. halves_met M hs
-
-is_first-code : (h : HalfEdge) → is_first (code h) ≡ h.first
-unfolding code is_first
-is_first-code h = go h.edge h.first where
-  go : (e : ℕ) (b : Bool) → nat_eq (cond b (2 * e) (2 * e + 1) % 2) 0 ≡ b
-  go e true = grind (arith, nat_tests)
-  go e false = grind (arith, nat_tests)
 
 bit : (b : Bool) → bool_byte b ≡ cond b 1 0
 bit true = λ i. 1

@@ -1,18 +1,16 @@
 -- The conditions with which a split begins, part by part.
 use Rattle.std.specs.Prelude.{min}
 use Rattle.std.specs.List.{list_any}
-use Rattle.std.proofs.Common.{◌≡◌, ℕ, ◌+◌, ℤ, true, false, cond, ◌&&◌, nat_eq, nat_le, List, [], ◌∷◌, ◌++◌, length, Option, Some, None, Result, Ok, Err, is_err, is_some, refl, sym, ap, ◌∙◌, arith, true≢false}
+use Rattle.std.proofs.Common.{◌≡◌, ℕ, ◌+◌, true, false, cond, ◌&&◌, nat_eq, nat_le, List, [], ◌∷◌, ◌++◌, length, Some, None, Result, Ok, Err, is_err, is_some, refl, sym, ap, ◌∙◌, arith, true≢false}
 use Rattle.std.proofs.lemmas.Bool.Decides.{nat_tests}
-use Rattle.std.proofs.lemmas.Int.{ints}
 use Rattle.euler_operators.specs.declared.Plane.{Plane}
-use Rattle.euler_operators.specs.Ranges.{IsWithin, IsCutPlane}
-use Rattle.euler_operators.specs.Vectors.{is_offset}
-use Rattle.euler_operators.proofs.Magnitudes.{coordinate_within}
+use Rattle.euler_operators.specs.Ranges.{IsCutPlane}
+use Rattle.euler_operators.proofs.Magnitudes.{coordinate_within, offset_within}
 use Rattle.euler_operators.specs.Model.{Model, faces_of}
 use Rattle.euler_operators.specs.Conditions.{Condition, need, first_refusal, verdict}
 use Rattle.euler_operators.specs.declared.Why.TheVariants.{PlaneMisses, NotLattice, NumbersSpent}
 use Rattle.euler_operators.specs.declared.Refusal.{Refusal}
-use Rattle.euler_laws.proofs.shared.Goes.{all_hold}
+use Rattle.euler_laws.proofs.shared.Goes.{all_hold, verdict_passed, verdict_failed}
 use Rattle.shapes.proofs.fresh.Tests.{first_refusal-append, first_refusal-refused}
 use Rattle.shapes.specs.Fresh.{Taken, taken_in, numbers_left, first_such}
 use Rattle.solid_measure.specs.solid_checks.Least.{found}
@@ -25,22 +23,13 @@ use Rattle.split_checks.specs.cut_places.Crossings.{is_off}
 abbrev Verdict : Type 0
 Verdict = Result (Unit {0}) Refusal
 
--- a verdict tells whether there is a refusal, and which
-passed : (o : Option Refusal) (u : Unit {0}) → Ok u ≡ verdict o → o ≡ None
-passed None u e = refl
-passed (Some r) u e = cc
-
-failed : (o : Option Refusal) (r : Refusal) → Err r ≡ verdict o → o ≡ Some r
-failed None r e = cc
-failed (Some s) r e = cc
-
 -- a verdict on the first conditions that is an error is the whole verdict, and one that isn't leaves the others
 pub first_failed : (xs ys : List Condition) (v : Verdict) → v ≡ verdict (first_refusal xs) → is_err v ≡ true → v ≡ verdict (first_refusal (xs ++ ys))
 first_failed xs ys (Ok u) is e = absurd (true≢false (sym e))
-first_failed xs ys (Err r) is e = ap verdict (sym (first_refusal-refused xs ys r (failed (first_refusal xs) r is)))
+first_failed xs ys (Err r) is e = ap verdict (sym (first_refusal-refused xs ys r (verdict_failed (first_refusal xs) r is)))
 
 pub all_passed : (xs : List Condition) (v : Verdict) → v ≡ verdict (first_refusal xs) → is_err v ≡ false → first_refusal xs ≡ None
-all_passed xs (Ok u) is e = passed (first_refusal xs) u is
+all_passed xs (Ok u) is e = verdict_passed (first_refusal xs) u is
 all_passed xs (Err r) is e = absurd (true≢false e)
 
 -- what a search has found, and whether it has found anything
@@ -110,9 +99,6 @@ module _ (M : Model) (s : ℕ) (p : Plane) where
             ∙ sym (first_refusal-append (face_conditions M p fs) numbers (all_passed (face_conditions M p fs) v cut e)) ∙ sym after_edges)
 
 -- ---- the whole
-
-offset_within : (d : ℤ) → is_offset d ≡ true → IsWithin 3000000000000000000 d
-offset_within d e = grind (arith, ints)
 
 module _ (M : Model) (s : ℕ) (p : Plane) (t : ℕ) where
   abbrev all : List Condition

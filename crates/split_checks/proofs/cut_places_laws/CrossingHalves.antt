@@ -4,11 +4,11 @@ use Rattle.euler_operators.specs.declared.Plane.{Plane}
 use Rattle.euler_operators.specs.Vectors.{height, are_opposite, cut_between}
 use Rattle.euler_operators.specs.HalfEdge.{edge_of, plus, minus}
 use Rattle.euler_operators.specs.Model.{Model}
+use Rattle.euler_operators.proofs.Halves.{mate_plus, mate_minus}
+use Rattle.euler_operators.proofs.Crossings.{opposite_turned, cut_back}
 use Rattle.euler_laws.proofs.shared.Arcs.{halves_of_edge}
-use Rattle.euler_laws.proofs.shared.Undo.{mate_plus, mate_minus}
 use Rattle.shapes.specs.Faces.{start, finish}
 use Rattle.shapes.specs.split.Sides.{crosses}
-use Rattle.split_checks.proofs.cut_places_laws.Cuts.{opposite_turned, cut_back}
 
 module _ (M : Model) (p : Plane) where
   minus_crosses : (e : ℕ) → crosses M p (minus e) ≡ crosses M p (plus e)

@@ -1,20 +1,10 @@
 -- Where a plane meets a segment: what is told of it, and the same from either end.
-use Rattle.std.proofs.Common.{◌≡◌, ◌≢◌, ℕ, zero, suc, ◌/◌, ◌≤◌, Bool, true, false, cond, not, ℤ, pos, negsuc, Option, Some, None, is_some, refl, sym, ap, ◌∙◌, arith, true≢false}
-use Rattle.std.specs.Prelude.{◌-ℤ◌, ◌*ℤ◌, neg_ℤ}
-use Rattle.std.specs.Int.RustNames.{int_div}
-use Rattle.std.proofs.lemmas.Int.{ints}
-use Rattle.std.proofs.Math.Nat.{div-le_of_le-mul}
+use Rattle.std.proofs.Common.{◌≡◌, Bool, true, false, cond, not, Option, Some, None, is_some, refl, sym, ap, ◌∙◌, true≢false}
 use Rattle.euler_operators.specs.declared.Point.{Point}
 use Rattle.euler_operators.specs.declared.Plane.{Plane}
-use Rattle.euler_operators.specs.Vectors.{height, opposite, are_opposite, cuts_lattice, cut_between, cut_point}
+use Rattle.euler_operators.specs.Vectors.{cuts_lattice, cut_between, cut_point}
 
 -- ---- signs
-
-pub opposite_turned : (m n : ℤ) → opposite m n ≡ opposite n m
-opposite_turned m n = grind (arith, ints)
-
-apart : (m n : ℤ) → opposite m n ≡ true → m -ℤ n ≢ pos 0
-apart m n e z = grind (arith, ints)
 
 -- ---- what a cut point tells
 
@@ -43,28 +33,3 @@ told_none s p q e = elim (cuts_lattice s p q) as (λ b. None ≡ cond b (Some (c
 ] e
 
 -- ---- the same from either end
-
-nothing_divided : (n : ℕ) → 0 / suc n ≡ 0
-nothing_divided n = let l : 0 / suc n ≤ 0 = div-le_of_le-mul (suc n) (omega arith) in omega arith
-
-turned_quotient : (m w : ℤ) → w ≢ pos 0 → int_div (neg_ℤ m) (neg_ℤ w) ≡ int_div m w
-turned_quotient m (pos zero) ne = absurd (ne refl)
-turned_quotient (pos zero) (pos (suc b)) ne = ap (λ k. neg_ℤ (pos k)) (nothing_divided b) ∙ sym (ap pos (nothing_divided b))
-turned_quotient (pos (suc a)) (pos (suc b)) ne = refl
-turned_quotient (negsuc a) (pos (suc b)) ne = refl
-turned_quotient (pos zero) (negsuc b) ne = ap pos (nothing_divided b) ∙ sym (ap (λ k. neg_ℤ (pos k)) (nothing_divided b))
-turned_quotient (pos (suc a)) (negsuc b) ne = refl
-turned_quotient (negsuc a) (negsuc b) ne = refl
-
-turned_difference : (a b : ℤ) → b -ℤ a ≡ neg_ℤ (a -ℤ b)
-turned_difference a b = omega (arith, ints)
-
-back_quotient : (p q m n : ℤ) → m -ℤ n ≢ pos 0 → int_div (p *ℤ n -ℤ q *ℤ m) (n -ℤ m) ≡ int_div (q *ℤ m -ℤ p *ℤ n) (m -ℤ n)
-back_quotient p q m n ne = (λ i. int_div (turned_difference (q *ℤ m) (p *ℤ n) i) (turned_difference m n i)) ∙ turned_quotient (q *ℤ m -ℤ p *ℤ n) (m -ℤ n) ne
-
-pub cut_back : (s : Plane) (p q : Point) → are_opposite s p q ≡ true → cut_between s q p ≡ cut_between s p q
-cut_back s p q o = let ne : height s p -ℤ height s q ≢ pos 0 = apart (height s p) (height s q) o in λ i. record {
-  x = back_quotient p.x q.x (height s p) (height s q) ne i;
-  y = back_quotient p.y q.y (height s p) (height s q) ne i;
-  z = back_quotient p.z q.z (height s p) (height s q) ne i;
-}

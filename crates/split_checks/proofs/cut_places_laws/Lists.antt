@@ -7,8 +7,8 @@ use Rattle.std.proofs.lemmas.Bool.Decides.{eqb_tells}
 use Rattle.euler_operators.specs.Items.{IsIn, IsApart}
 use Rattle.euler_operators.proofs.Lists.{tick_other}
 use Rattle.shapes.specs.Fresh.{first_such}
+use Rattle.solid_measure.proofs.solid_counts_laws.HowMany.{passing, of_passing, passing_apart}
 use Rattle.solid_walks.proofs.face_walks_laws.Above.{AllAbove, Rising}
-use Rattle.solid_measure.proofs.solid_counts_laws.HowMany.{passing, of_passing, in_passing, passing_apart}
 
 -- the first of a list, and the others
 abbrev pub others : {A : Type 0} → List A → List A
@@ -31,9 +31,6 @@ filter_passing p (x ∷ xs) = ap (λ (ys : List ℕ). cond (p x) (x ∷ ys) ys) 
 -- what stands among the picked stands in the list and passes, and the other way
 pub of_picked : (p : ℕ → Bool) (x : ℕ) (xs : List ℕ) → IsIn x (filter p xs) → IsIn x xs × (p x ≡ true)
 of_picked p x xs i = of_passing p x xs (subst (IsIn x) (filter_passing p xs) i)
-
-pub in_picked : (p : ℕ → Bool) (x : ℕ) (xs : List ℕ) → IsIn x xs → p x ≡ true → IsIn x (filter p xs)
-in_picked p x xs i e = subst (IsIn x) (sym (filter_passing p xs)) (in_passing p x xs i e)
 
 pub picked_apart : (p : ℕ → Bool) (xs : List ℕ) → IsApart xs → IsApart (filter p xs)
 picked_apart p xs d = subst IsApart (sym (filter_passing p xs)) (passing_apart p xs d)

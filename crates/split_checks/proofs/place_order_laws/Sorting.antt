@@ -1,16 +1,17 @@
 -- Places put one by one into a map under their points stand there in the order of `sorted`.
-use Rattle.std.proofs.Common.{◌≡◌, ℕ, ℤ, Bool, true, false, cond, ◌&&◌, ◌||◌, int_cmp, Ordering, Less, Equal, Greater, List, [], ◌∷◌, ◌++◌, is_some, Option, Some, refl, sym, ap, ◌∙◌, arith, true≢false, subst, append_assoc}
-use Rattle.std.specs.Prelude.{int_lt}
-use Rattle.std.specs.Ordering.{ordering_then, is_eq, is_gt, int_eq, match_ordering}
+use Rattle.std.proofs.Common.{◌≡◌, ℕ, Bool, true, false, cond, ◌&&◌, ◌||◌, int_cmp, Ordering, Less, Equal, Greater, List, [], ◌∷◌, ◌++◌, is_some, Option, Some, refl, sym, ap, ◌∙◌, arith, true≢false, subst, append_assoc}
+use Rattle.std.specs.Ordering.{ordering_then, is_eq, is_gt, match_ordering}
 use Rattle.std.specs.BTreeMap.{insert_entry}
 use Rattle.std.specs.Map.{lookup}
 use Rattle.std.specs.List.{list_any}
 use Rattle.std.proofs.lemmas.List.{append-nil}
+use Rattle.std.proofs.lemmas.Bool.{or_parts}
 use Rattle.euler_operators.specs.declared.Point.{Point}
 use Rattle.euler_operators.specs.declared.Plane.{Plane}
 use Rattle.euler_operators.specs.Vectors.{same_point, lex_less}
 use Rattle.euler_operators.specs.Items.{IsIn}
 use Rattle.euler_operators.proofs.Lists.{count-append, tick_same}
+use Rattle.euler_operators.proofs.Orders.{after_greater, after_equal, turned_greater, turned_equal, equal_is}
 use Rattle.euler_operators.specs.declared.HalfEdge.{HalfEdge}
 use Rattle.euler_operators.specs.HalfEdge.{half}
 use Rattle.euler_operators.specs.Model.{Model}
@@ -21,40 +22,13 @@ use Rattle.split_checks.specs.place_order.Order.{Key, key, entries_of}
 abbrev pub key_cmp : Key → Key → Ordering
 key_cmp a b = ordering_then (ordering_then (int_cmp a.0 b.0) (int_cmp a.1 b.1)) (int_cmp a.2 b.2)
 
-equal_then : (a b c : Ordering) → is_eq (ordering_then (ordering_then a b) c) ≡ is_eq a && is_eq b && is_eq c
-equal_then Less b c = refl
-equal_then Greater b c = refl
-equal_then Equal Less c = refl
-equal_then Equal Greater c = refl
-equal_then Equal Equal c = refl
-
-greater_then : (a b c : Ordering) → is_gt (ordering_then (ordering_then a b) c) ≡ is_gt a || (is_eq a && (is_gt b || (is_eq b && is_gt c)))
-greater_then Less b c = refl
-greater_then Greater b c = refl
-greater_then Equal Less c = refl
-greater_then Equal Greater c = refl
-greater_then Equal Equal c = refl
-
-equal_is : (m n : ℤ) → is_eq (int_cmp m n) ≡ int_eq m n
-equal_is m n = grind arith
-
-equal_back : (m n : ℤ) → is_eq (int_cmp m n) ≡ int_eq n m
-equal_back m n = grind arith
-
-greater_back : (m n : ℤ) → is_gt (int_cmp m n) ≡ int_lt n m
-greater_back m n = grind arith
-
 -- equal keys are those of equal points, and a greater key is that of a point that comes later
 pub key_equal : (p q : Point) → is_eq (key_cmp (key p) (key q)) ≡ same_point p q
-key_equal p q = equal_then (int_cmp p.x q.x) (int_cmp p.y q.y) (int_cmp p.z q.z) ∙ (λ i. equal_is p.x q.x i && equal_is p.y q.y i && equal_is p.z q.z i)
+key_equal p q = after_equal (int_cmp p.x q.x) (int_cmp p.y q.y) (int_cmp p.z q.z) ∙ (λ i. equal_is p.x q.x i && equal_is p.y q.y i && equal_is p.z q.z i)
 
 pub key_greater : (p q : Point) → is_gt (key_cmp (key p) (key q)) ≡ lex_less q p
-key_greater p q = greater_then (int_cmp p.x q.x) (int_cmp p.y q.y) (int_cmp p.z q.z)
-    ∙ (λ i. greater_back p.x q.x i || (equal_back p.x q.x i && (greater_back p.y q.y i || (equal_back p.y q.y i && greater_back p.z q.z i))))
-
-either_false : (a b : Bool) → a || b ≡ false → (a ≡ false) × (b ≡ false)
-either_false true b e = absurd (true≢false e)
-either_false false b e = (refl, e)
+key_greater p q = after_greater (int_cmp p.x q.x) (int_cmp p.y q.y) (int_cmp p.z q.z)
+    ∙ (λ i. turned_greater p.x q.x i || (turned_equal p.x q.x i && (turned_greater p.y q.y i || (turned_equal p.y q.y i && turned_greater p.z q.z i))))
 
 swapped : (a b c : Bool) → a || (b || c) ≡ b || (a || c)
 swapped true true c = refl
@@ -84,7 +58,7 @@ module _ (M : Model) (p : Plane) where
   pub inserted : (h : ℕ) (ks : List ℕ) → list_any (meets h) ks ≡ false → insert_entry key_cmp (entries_of M p ks) (key (at h)) (half h) ≡ entries_of M p (sorted_in M p h ks)
   inserted h [] new = refl
   inserted h (k ∷ ks) new =
-      let apart = either_false (meets h k) (list_any (meets h) ks) new in
+      let apart = or_parts (meets h k) (list_any (meets h) ks) new in
       inserted_by h k ks (inserted h ks apart.1) (key_cmp (key (at h)) (key (at k))) (key_equal (at h) (at k) ∙ apart.0) (key_greater (at h) (at k))
 
   -- the map has a point where one of its places has

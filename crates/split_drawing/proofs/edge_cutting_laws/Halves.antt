@@ -9,7 +9,8 @@ use Rattle.euler_operators.specs.HalfEdge.{code, half, edge_of, plus, minus}
 use Rattle.euler_operators.specs.Table as table
 use Rattle.euler_operators.specs.Model.{Model, after}
 use Rattle.euler_operators.specs.Sound.{Has, HasHalf}
-use Rattle.euler_operators.proofs.Halves.{half-code, code-half, plus_row, minus_row}
+use Rattle.euler_operators.proofs.Halves.{half-code, code-half, plus_row}
+use Rattle.euler_operators.proofs.Models.{plus_there, minus_there}
 use Rattle.euler_operators.specs.declared.Op.TheVariants.{Mev}
 use Rattle.shapes.specs.Faces.{start, finish}
 use Rattle.shapes.specs.Fresh.{taken_in, growing}
@@ -18,19 +19,13 @@ use Rattle.split_drawing_laws.specs.crossings.CrossingOps.{cut_edge}
 use Rattle.split_checks.specs.cut_places.Crossings.{IsCrossing, is_off}
 
 module _ (M : Model) (p : Plane) (e : ℕ) where
-  pub plus_there : Has M.edges e → HasHalf M (plus e)
-  plus_there there = ap (table.has M.edges) (plus_row e).0 ∙ there
-
-  pub minus_there : Has M.edges e → HasHalf M (minus e)
-  minus_there there = ap (table.has M.edges) (minus_row e).0 ∙ there
-
   -- a half-edge that is written as the first one
   module _ (h : HalfEdge) (is : h ≡ half (plus e)) where
     pub plus_code : code h ≡ plus e
     plus_code = ap code is ∙ code-half (plus e)
 
     pub first_there : Has M.edges e → HasHalf M (code h)
-    first_there there = ap (λ x. table.has M.edges (edge_of x)) plus_code ∙ plus_there there
+    first_there there = ap (λ x. table.has M.edges (edge_of x)) plus_code ∙ plus_there M e there
 
     pub first_crosses : IsCrossing M p e → crosses M p (code h) ≡ true
     first_crosses c = ap (crosses M p) plus_code ∙ c.crossing
@@ -47,7 +42,7 @@ module _ (M : Model) (p : Plane) (e : ℕ) where
     minus_code = ap code is ∙ code-half (minus e)
 
     pub second_there : Has M.edges e → HasHalf M (code h)
-    second_there there = ap (λ x. table.has M.edges (edge_of x)) minus_code ∙ minus_there there
+    second_there there = ap (λ x. table.has M.edges (edge_of x)) minus_code ∙ minus_there M e there
 
   pub same_cut : (first next edge : HalfEdge) (vertex : ℕ) (point : Point) → first ≡ half (plus e) → code next ≡ after M (minus e) → edge ≡ half (plus ((taken_in M).edge + 1))
       → vertex ≡ (taken_in M).vertex + 1 → point ≡ cut_between p (start M (plus e)) (finish M (plus e)) → Mev (At first) (At next) edge vertex point ≡ cut_edge p (growing M) e

@@ -1,19 +1,19 @@
 -- Edges that are still to be cut.
-use Rattle.std.proofs.Common.{◌≡◌, ℕ, ◌+◌, ◌≤◌, ℤ, true, false, not, List, [], ◌∷◌, length, slice_index_or, None, refl, sym, ap, ◌∙◌, subst, arith}
-use Rattle.std.proofs.lemmas.Int.{ints}
+use Rattle.std.proofs.Common.{◌≡◌, ℕ, ◌+◌, ◌≤◌, true, false, not, List, [], ◌∷◌, length, slice_index_or, None, refl, sym, ap, ◌∙◌, subst, arith}
 use Rattle.euler_operators.specs.declared.Plane.{Plane}
-use Rattle.euler_operators.specs.Ranges.{IsWithin, IsCutPlane}
-use Rattle.euler_operators.specs.Vectors.{are_opposite, cuts_lattice, is_offset}
-use Rattle.euler_operators.proofs.Magnitudes.{coordinate_within}
+use Rattle.euler_operators.specs.Ranges.{IsCutPlane}
+use Rattle.euler_operators.specs.Vectors.{are_opposite, cuts_lattice}
+use Rattle.euler_operators.proofs.Magnitudes.{coordinate_within, offset_within}
 use Rattle.euler_operators.specs.Items.{count, IsIn}
 use Rattle.euler_operators.proofs.Lists.{tick_same}
+use Rattle.euler_operators.proofs.Halves.{mate_plus}
+use Rattle.euler_operators.proofs.Models.{plus_there, minus_there}
 use Rattle.euler_operators.specs.HalfEdge.{plus, minus}
 use Rattle.euler_operators.specs.Model.{Model}
 use Rattle.euler_operators.specs.Sound.{Sound}
 use Rattle.euler_operators.specs.Conditions.{AllHold, first_false}
 use Rattle.euler_operators.specs.Effect.{effect}
 use Rattle.euler_laws.proofs.shared.Goes.{all_hold}
-use Rattle.euler_laws.proofs.shared.Undo.{mate_plus}
 use Rattle.shapes.specs.Faces.{start, finish}
 use Rattle.shapes.specs.Fresh.{taken_in, Growing, growing}
 use Rattle.shapes.specs.split.Sides.{crossing_edges}
@@ -26,7 +26,6 @@ use Rattle.split_drawing_laws.proofs.crossings.Whole as whole
 use Rattle.split_checks.specs.cut_places.Crossings.{IsCrossing, is_off}
 use Rattle.split_checks.proofs.cut_places_laws.Lists.{others, parts}
 use Rattle.split_drawing.specs.edge_cutting.Begins.{CanBeCut}
-use Rattle.split_drawing.proofs.edge_cutting_laws.Halves.{plus_there, minus_there}
 
 -- N is M with some of its edges cut, and those of rs are still to be cut: that makes the first rewriting
 pub record Cutting (M : Model) (s : ℕ) (p : Plane) (N : Model) (rs : List ℕ) : Type 0 where
@@ -35,9 +34,6 @@ pub record Cutting (M : Model) (s : ℕ) (p : Plane) (N : Model) (rs : List ℕ)
   pub going : Going M p (growing N) done rs
   pub whole : (e : ℕ) → IsIn e rs → cuts_lattice p (start M (plus e)) (finish M (plus e)) ≡ true
   pub made : (all_cut p (growing N) rs).model ≡ (with_crossings M s p).model
-
-offset_within : (d : ℤ) → is_offset d ≡ true → IsWithin 3000000000000000000 d
-offset_within d e = grind (arith, ints)
 
 plane_within : (M : Model) (s : ℕ) (p : Plane) (t : ℕ) → AllHold (first_conditions M s p t) → IsCutPlane p
 unfolding first_conditions
@@ -81,10 +77,10 @@ module _ (M : Model) (s : ℕ) (p : Plane) (N : Model) (e : ℕ) (rs : List ℕ)
   uncut = omega (arith, c.going.apart e, tick_same e)
 
   near : start N (plus e) ≡ start M (plus e)
-  near = kept_start M N c.sound c.going.cut.kept (plus e) (plus_there M p e crossing.there) (c.going.cut.plus_tails e crossing.there uncut)
+  near = kept_start M N c.sound c.going.cut.kept (plus e) (plus_there M e crossing.there) (c.going.cut.plus_tails e crossing.there uncut)
 
   far : finish N (plus e) ≡ finish M (plus e)
-  far = ap (start N) (mate_plus e) ∙ kept_start M N c.sound c.going.cut.kept (minus e) (minus_there M p e crossing.there) (c.going.cut.minus_tails e crossing.there) ∙ sym (ap (start M) (mate_plus e))
+  far = ap (start N) (mate_plus e) ∙ kept_start M N c.sound c.going.cut.kept (minus e) (minus_there M e crossing.there) (c.going.cut.minus_tails e crossing.there) ∙ sym (ap (start M) (mate_plus e))
 
   -- it still crosses the plane, and meets it on the lattice
   pub next_crosses : IsCrossing N p e

@@ -1,10 +1,11 @@
 -- Rings of a face: whether they stop its drawing, and rings given one after the other.
-use Rattle.std.proofs.Common.{◌≡◌, ℕ, ◌≤◌, ◌<◌, Bool, true, false, ◌&&◌, List, [], ◌∷◌, length, slice_index_or, None, not, nat_lt, refl, sym, ap, ◌∙◌, subst, arith}
+use Rattle.std.proofs.Common.{◌≡◌, ℕ, ◌≤◌, ◌<◌, true, false, ◌&&◌, List, [], ◌∷◌, length, slice_index_or, None, not, nat_lt, sym, ap, ◌∙◌, subst, arith}
 use Rattle.std.proofs.lemmas.Bool.Decides.{nat_tests}
 use Rattle.euler_operators.specs.Model.{Model, rings_of}
 use Rattle.euler_operators.specs.declared.Op.TheVariants.{RingIn}
 use Rattle.euler_operators.specs.Conditions.{first_false, has_rings, is_empty}
 use Rattle.euler_operators.specs.Effect.{effect}
+use Rattle.euler_operators.proofs.Tests.{and_false}
 use Rattle.euler_laws.specs.Laws.{AreAccepted, effects}
 use Rattle.split_drawing_laws.specs.drawings.DrawingOps.{ring_ops}
 use Rattle.split_checks.proofs.cut_places_laws.Lists.{others, parts}
@@ -15,12 +16,8 @@ module _ (M : Model) (f n : ℕ) where
   both_hold m [] a e b = absurd (omega arith)
   both_hold m (l ∷ ls) a e b = let t : nat_lt 1 n ≡ true = grind (arith, nat_tests) in ap (λ b. b && true) t
 
-  not_both : (b : Bool) → b && false ≡ false
-  not_both true = refl
-  not_both false = refl
-
   none_held : (m : ℕ) (ls : List ℕ) → m ≡ length ls → m ≤ 0 → nat_lt 1 n && not (is_empty ls) ≡ false
-  none_held m [] e b = not_both (nat_lt 1 n)
+  none_held m [] e b = and_false (nat_lt 1 n)
   none_held m (l ∷ ls) e b = absurd (omega arith)
 
   pub ring_stops : (m : ℕ) → 1 < n → m ≡ length (rings_of M f) → 0 < m → nat_lt 1 n && has_rings M f ≡ true

@@ -1,6 +1,7 @@
 -- Where a plane can begin to split a solid, the cut places of each face that straddles can be paired.
 use Rattle.std.proofs.Common.{◌≡◌, ℕ, Bool, true, false, not, ◌||◌, List, [], ◌∷◌, refl, ap, arith}
 use Rattle.std.specs.List.{list_all}
+use Rattle.std.proofs.lemmas.Bool.{or_parts}
 use Rattle.euler_operators.specs.declared.Plane.{Plane}
 use Rattle.euler_operators.specs.Items.{IsIn}
 use Rattle.euler_operators.proofs.Lists.{tick_same}
@@ -22,15 +23,11 @@ none_found : (t : ℕ → Bool) (xs : List ℕ) → ((x : ℕ) → IsIn x xs →
 none_found t [] none = refl
 none_found t (x ∷ xs) none = rw (none x (omega (arith, tick_same x))) (none_found t xs (λ y i. none y (omega (arith, i))))
 
-first_false : (a b : Bool) → a || b ≡ false → a ≡ false
-first_false true b e = e
-first_false false b e = refl
-
 module _ (M : Model) (p : Plane) where
   -- no two places of a face that isn't crossed meet
   none_meet : (f : ℕ) → is_crossed M p f ≡ false → some_meet M p (places M p f) ≡ false
   unfolding is_crossed
-  none_meet f e = first_false (some_meet M p (places M p f)) (not (list_all (is_up_and_down M p) (sorted_pairs M p f))) e
+  none_meet f e = (or_parts (some_meet M p (places M p f)) (not (list_all (is_up_and_down M p) (sorted_pairs M p f))) e).0
 
   all_paired : (fs : List ℕ) → AreWholeFaces M p fs → ((f : ℕ) → IsIn f fs → is_crossed M p f ≡ false) → AllCanBePaired M p fs
   all_paired [] whole uncrossed = tt

@@ -1,27 +1,18 @@
 -- The greatest numbers in use, as an edge is cut.
 use Rattle.std.specs.Prelude.{flat_map}
-use Rattle.std.proofs.Common.{◌≡◌, ◌≢◌, ℕ, ◌≤◌, ◌<◌, List, [], ◌∷◌, is_some, refl, sym, ap, ◌∙◌, subst, arith, inl, inr}
+use Rattle.std.proofs.Common.{◌≡◌, ◌≢◌, ℕ, ◌≤◌, ◌<◌, is_some, refl, sym, ap, ◌∙◌, subst, arith, inl, inr}
 use Rattle.std.proofs.lemmas.Bool.Decides.{eqb_tells}
 use Rattle.euler_operators.specs.declared.Point.{Point}
 use Rattle.euler_operators.specs.HalfEdge.{plus, minus}
 use Rattle.euler_operators.specs.Table as table
-use Rattle.euler_operators.specs.Table.{Table, greatest_in, map_entries}
+use Rattle.euler_operators.specs.Table.{Table}
 use Rattle.euler_operators.specs.Model.{Model, tail}
 use Rattle.euler_operators.specs.Sound.{Has}
-use Rattle.shapes.proofs.fresh.Rows.{greatest-put_last, greatest_is, greatest_used, free_above, at_most_greatest, get-put_here, get-put_other, put_turned}
+use Rattle.euler_operators.proofs.Tables.{greatest-map, get-put_here, get-put_other, put_turned}
+use Rattle.shapes.proofs.fresh.Rows.{greatest-put_last, greatest_is, greatest_used, free_above, at_most_greatest}
 use Rattle.shapes.specs.Fresh.{taken_in}
 use Rattle.shapes.specs.Rewriting.{rewritten_row}
 use Rattle.shapes.specs.split.Crossings.{doubled, edge_cut}
-
-greatest-entries : {X : Type 0} (f : ℕ → X → X) (es : List (ℕ × X)) → greatest_in (map_entries f es) ≡ greatest_in es
-greatest-entries f [] = refl
-greatest-entries f (e ∷ []) = refl
-greatest-entries f (e ∷ d ∷ es) = greatest-entries f (d ∷ es)
-
--- rows rewritten or put where rows are leave the greatest number
-greatest-map : {X : Type 0} (f : ℕ → X → X) (t : Table X) → table.greatest (table.map_rows f t) ≡ table.greatest t
-unfolding table.greatest table.map_rows
-greatest-map f t = greatest-entries f t.rows
 
 greatest-put_old : {X : Type 0} (t : Table X) (n : ℕ) (x : X) → Has t n → table.greatest (table.put t n x) ≡ table.greatest t
 greatest-put_old t n x there = greatest_is (table.put t n x) (table.greatest t)

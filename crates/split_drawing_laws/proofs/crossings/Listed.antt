@@ -3,49 +3,23 @@ use Rattle.std.specs.Prelude.{map, filter}
 use Rattle.std.specs.List.{list_any}
 use Rattle.std.proofs.Common.{◌≡◌, ◌≢◌, ℕ, ◌+◌, ◌≤◌, Bool, true, false, cond, not, nat_eq, ◌&&◌, ◌||◌, List, [], ◌∷◌, refl, sym, ap, ◌∙◌, subst, arith, inl, inr}
 use Rattle.std.proofs.lemmas.Bool.Decides.{eqb_tells}
+use Rattle.std.proofs.lemmas.Bool.{ne_eqb, eq-eqb}
 use Rattle.euler_operators.specs.Items.{count, tick, IsIn}
 use Rattle.euler_operators.proofs.Lists.{count-append, tick_same, tick_other}
 use Rattle.euler_operators.specs.Table as table
 use Rattle.euler_operators.specs.Model.{Model, LoopContent, lone, cycle, items_of, content, outer, tail, face_of, rings_of}
 use Rattle.euler_operators.specs.Sound.{Has}
-use Rattle.euler_laws.proofs.shared.Goes.{equals, differs, not_false}
+use Rattle.euler_laws.proofs.shared.Goes.{not_false}
 use Rattle.euler_laws.proofs.shared.Rows.{loop_row}
-use Rattle.euler_laws.proofs.shared.Counted.{all_where_in}
+use Rattle.euler_laws.proofs.shared.Listed.{IsIn-from_listed}
 use Rattle.shapes.proofs.fresh.Tests.{NoneSuch, NoZero}
 use Rattle.shapes.specs.Faces.{loops_of, items_in, boundary, vertices_on, vertices_in, corners}
+use Rattle.euler_laws.proofs.shared.Counted.{all_where_in}
 
 -- ---- lists
 
 pub here : (x y : ℕ) (ns : List ℕ) → x ≡ y → IsIn x (y ∷ ns)
 here x y ns e = subst (λ k. 1 ≤ tick x k + count x ns) e (omega (arith, tick_same x))
-
--- what passes stands in the list of what passes, no oftener than before
-pub picked : (p : ℕ → Bool) (x : ℕ) (ns : List ℕ) → IsIn x ns → p x ≡ true → IsIn x (filter p ns)
-picked p x [] i e = absurd (omega arith)
-picked p x (n ∷ ns) i e = elim (eqb_tells x n) [
-  | inl s ↦ subst (λ b. IsIn x (cond b (n ∷ filter p ns) (filter p ns))) (sym (ap p (sym s.1) ∙ e)) (here x n (filter p ns) s.1)
-  | inr s ↦ later (p n) (picked p x ns (omega (arith, i, tick_other x n s.1)) e)
-] where
-  later : (b : Bool) → IsIn x (filter p ns) → IsIn x (cond b (n ∷ filter p ns) (filter p ns))
-  later true j = omega (arith, j)
-  later false j = j
-
-pub picked_count : (p : ℕ → Bool) (x : ℕ) (ns : List ℕ) → count x (filter p ns) ≤ count x ns
-picked_count p x [] = omega arith
-picked_count p x (n ∷ ns) = go (p n) (picked_count p x ns) where
-  go : (b : Bool) → count x (filter p ns) ≤ count x ns → count x (cond b (n ∷ filter p ns) (filter p ns)) ≤ tick x n + count x ns
-  go true l = omega (arith, l)
-  go false l = omega (arith, l)
-
-pub picked_passes : (p : ℕ → Bool) (x : ℕ) (ns : List ℕ) → IsIn x (filter p ns) → p x ≡ true
-picked_passes p x [] i = absurd (omega arith)
-picked_passes p x (n ∷ ns) i = go (p n) refl i (λ j. picked_passes p x ns j) where
-  go : (b : Bool) → p n ≡ b → IsIn x (cond b (n ∷ filter p ns) (filter p ns)) → (IsIn x (filter p ns) → p x ≡ true) → p x ≡ true
-  go true e j more = elim (eqb_tells x n) [
-    | inl s ↦ ap p s.1 ∙ e
-    | inr s ↦ more (omega (arith, j, tick_other x n s.1))
-  ]
-  go false e j more = more j
 
 pub picked_none : (p : ℕ → Bool) (ns : List ℕ) → ((x : ℕ) → IsIn x ns → p x ≡ false) → filter p ns ≡ []
 picked_none p [] none = refl
@@ -84,7 +58,7 @@ module _ (M : Model) where
     | inr s ↦
         let ring : IsIn l (rings_of M (face_of M l)) = all_where_in (λ k row. nat_eq row.face (face_of M l) && not (nat_eq (outer M (face_of M l)) k)) M.loops l
         (record { face = face_of M l; content = content M l }) (loop_row M l there)
-        (both (nat_eq (face_of M l) (face_of M l)) (nat_eq (outer M (face_of M l)) l) (equals (face_of M l) (face_of M l) refl) (differs (outer M (face_of M l)) l (λ e. s.1 (sym e)))) in
+        (both (nat_eq (face_of M l) (face_of M l)) (nat_eq (outer M (face_of M l)) l) (eq-eqb (face_of M l) (face_of M l) refl) (ne_eqb (outer M (face_of M l)) l (λ e. s.1 (sym e)))) in
         omega (arith, ring)
   ] where
     both : (a b : Bool) → a ≡ true → b ≡ false → (a && not b) ≡ true
@@ -106,7 +80,7 @@ module _ (M : Model) where
     | inr s ↦ omega (arith, mapped_in h hs (omega (arith, i, tick_other h g s.1)))
   ]
 
-  tail_on : (h : ℕ) (c : LoopContent) → IsIn h (items_of c) → IsIn (tail M h) (vertices_on M c)
+  pub tail_on : (h : ℕ) (c : LoopContent) → IsIn h (items_of c) → IsIn (tail M h) (vertices_on M c)
   tail_on h (lone v) i = absurd (omega arith)
   tail_on h (cycle hs) i = mapped_in h hs i
 

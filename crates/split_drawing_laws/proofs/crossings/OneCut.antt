@@ -16,17 +16,16 @@ use Rattle.euler_operators.proofs.Rotations.{count-canonical}
 use Rattle.euler_operators.proofs.Lists.{tick_same, tick_other}
 use Rattle.euler_operators.specs.HalfEdge.{edge_of, plus, minus}
 use Rattle.euler_operators.specs.Table as table
-use Rattle.euler_operators.specs.Table.{Table, tables, same_table, get-map_rows}
-use Rattle.euler_operators.specs.Model.{Model, LoopContent, lone, cycle, LoopRow, EdgeRow, items_of, holds, tail, tail_in, loop_of, content, face_of, cycle_of, after, arc, round}
+use Rattle.euler_operators.specs.Table.{Table, same_table, get-map_rows}
+use Rattle.euler_operators.specs.Model.{Model, LoopContent, lone, cycle, LoopRow, EdgeRow, items_of, holds, tail, loop_of, content, face_of, cycle_of, after, arc, round}
 use Rattle.euler_operators.specs.Sound.{Sound, Has, HasHalf}
-use Rattle.euler_operators.proofs.Tables.{map_one}
-use Rattle.euler_operators.proofs.Models.{content_row, tail_row, row_of, not_held, other_loop, in-holds, holds-none, none-holds, cycle_there, cycle_sound}
+use Rattle.euler_operators.proofs.Tables.{map_one, put_turned}
+use Rattle.euler_operators.proofs.Models.{content_row, row_of, not_held, other_loop, in-holds, holds-none, none-holds, cycle_there, cycle_sound, minus_tail_row}
 use Rattle.shapes.specs.Rewriting.{rewritten, rewritten_row}
 use Rattle.euler_operators.specs.Effect.{mev_at, with_before, with_tails, edge_row}
-use Rattle.euler_laws.proofs.shared.Rows.{where_held_none, where_held_there, one_row}
+use Rattle.euler_laws.proofs.shared.Rows.{where_held_none, where_held_there, one_row, edge_row_plus}
 use Rattle.shapes.specs.split.Crossings.{doubled, edge_cut}
-use Rattle.euler_operators.proofs.Halves.{plus_row, minus_row}
-use Rattle.euler_laws.proofs.shared.Undo.{mate_plus}
+use Rattle.euler_operators.proofs.Halves.{plus_row, minus_row, mate_plus}
 use Rattle.split_drawing_laws.proofs.crossings.Doubled.{doubled_none, doubled_plus, doubled_minus, put_between}
 
 -- two rewritings after one another are a third, where they agree row by row
@@ -56,9 +55,6 @@ pub record CanCut (M : Model) (e k : ℕ) : Type 0 where
   pub there : Has M.edges e
   pub apart : loop_of M (plus e) ≢ loop_of M (minus e)
   pub edge_free : table.get M.edges k ≡ None
-
-row_plus : (e a b : ℕ) → edge_row (plus e) a b ≡ record { plus_tail = a; minus_tail = b }
-row_plus e a b = ap (λ t. cond t (record { plus_tail = a; minus_tail = b }) (record { plus_tail = b; minus_tail = a })) (plus_row e).1
 
 module _ (M : Model) (e k v : ℕ) (q : Point) (goes : CanCut M e k) where
   -- the loops of the two halves, their items, and the item after the minus half
@@ -185,12 +181,6 @@ module _ (M : Model) (e k v : ℕ) (q : Point) (goes : CanCut M e k) where
   pub loops_agree : table.map_rows second (table.map_rows first M.loops) ≡ table.map_rows both M.loops
   loops_agree = maps_agree first second both M.loops all_rows
 
-  first_tail : (r : EdgeRow) → table.get M.edges e ≡ Some r → tail M (plus e) ≡ r.plus_tail
-  first_tail r at = tail_row M (plus e) r (ap (table.get M.edges) (plus_row e).0 ∙ at) ∙ ap (tail_in r) (plus_row e).1
-
-  second_tail : (r : EdgeRow) → table.get M.edges e ≡ Some r → tail M (minus e) ≡ r.minus_tail
-  second_tail r at = tail_row M (minus e) r (ap (table.get M.edges) (minus_row e).0 ∙ at) ∙ ap (tail_in r) (minus_row e).1
-
   -- round the tail of the plus half, the item after the minus half comes next
   one_leaves : (t : Table EdgeRow) → M.edges ≡ t → arc M (plus e) (after M (minus e)) ≡ plus e ∷ []
   unfolding arc after table.get
@@ -216,17 +206,14 @@ module _ (M : Model) (e k v : ℕ) (q : Point) (goes : CanCut M e k) where
     here : nat_lt 0 (count (plus e) (plus e ∷ [])) ≡ true
     here = ap (λ c. nat_lt 0 (c + 0)) (tick_same (plus e))
 
-  turned_about : {X : Type 0} (t : Table X) (a b : ℕ) (x y : X) → a ≢ b → table.put (table.put t a x) b y ≡ table.put (table.put t b y) a x
-  turned_about t a b x y n = same_table _ _ (λ z. grind (arith, nat_tests, tables))
-
   edges_agree : (r : EdgeRow) → table.get M.edges e ≡ Some r →
       table.put (table.map_rows (with_tails (arc M (plus e) (after M (minus e))) v) M.edges) (edge_of (plus k)) (edge_row (plus k) (tail M (plus e)) v)
       ≡ table.put (table.put M.edges k (record { plus_tail = tail M (plus e); minus_tail = v })) e (record { plus_tail = v; minus_tail = tail M (minus e) })
   edges_agree r at =
-      (λ i. table.put (table.map_rows (with_tails (one_leaves M.edges refl i) v) M.edges) ((plus_row k).0 i) (row_plus k (tail M (plus e)) v i))
+      (λ i. table.put (table.map_rows (with_tails (one_leaves M.edges refl i) v) M.edges) ((plus_row k).0 i) (edge_row_plus k (tail M (plus e)) v i))
       ∙ ap (λ t. table.put t k (record { plus_tail = tail M (plus e); minus_tail = v }))
-      (map_one (with_tails (plus e ∷ []) v) M.edges e r at (λ x y n _. only_plus x y n) ∙ ap (table.put M.edges e) (the_plus r ∙ (λ i. record { plus_tail = v; minus_tail = sym (second_tail r at) i })))
-      ∙ turned_about M.edges e k (record { plus_tail = v; minus_tail = tail M (minus e) }) (record { plus_tail = tail M (plus e); minus_tail = v }) (λ s. let h : table.get M.edges e ≡ None = ap (table.get M.edges) s ∙ goes.edge_free in true≢false (ap is_some (sym at ∙ h)))
+      (map_one (with_tails (plus e ∷ []) v) M.edges e r at (λ x y n _. only_plus x y n) ∙ ap (table.put M.edges e) (the_plus r ∙ (λ i. record { plus_tail = v; minus_tail = sym (minus_tail_row M e r at) i })))
+      ∙ put_turned M.edges e k (record { plus_tail = v; minus_tail = tail M (minus e) }) (record { plus_tail = tail M (plus e); minus_tail = v }) (λ s. let h : table.get M.edges e ≡ None = ap (table.get M.edges) s ∙ goes.edge_free in true≢false (ap is_some (sym at ∙ h)))
 
   has_row : (o : Option EdgeRow) → is_some o ≡ true → (r : EdgeRow) × (o ≡ Some r)
   has_row None t = absurd (true≢false (sym t))

@@ -1,25 +1,24 @@
 -- Where the cut places of a face are, once the edges are cut.
 use Rattle.std.specs.Prelude.{filter}
-use Rattle.std.proofs.Common.{◌≡◌, ℕ, Bool, true, false, cond, not, nat_eq, ◌&&◌, ◌||◌, ℤ, pos, None, is_some, unwrap_or, refl, sym, ap, ◌∙◌, subst, arith, inl, inr, true≢false}
+use Rattle.std.proofs.Common.{◌≡◌, ℕ, Bool, true, false, cond, not, nat_eq, ◌&&◌, ◌||◌, None, is_some, unwrap_or, refl, sym, ap, ◌∙◌, subst, arith, inl, inr, true≢false}
 use Rattle.std.proofs.lemmas.Bool.Decides.{eqb_tells}
-use Rattle.std.proofs.lemmas.Int.{ints}
-use Rattle.std.specs.Ordering.{int_eq}
+use Rattle.std.proofs.lemmas.Bool.{eq-eqb, eqb-true}
 use Rattle.euler_operators.specs.declared.Plane.{Plane}
-use Rattle.euler_operators.specs.Vectors.{height, opposite, are_opposite, is_on, cut_between}
+use Rattle.euler_operators.specs.Vectors.{height, are_opposite, is_on, cut_between}
 use Rattle.euler_operators.specs.Items.{count, IsIn}
 use Rattle.euler_operators.proofs.Lists.{tick_other, IsIn_or_not}
 use Rattle.euler_operators.specs.HalfEdge.{edge_of, plus, minus}
-use Rattle.euler_operators.specs.Table as table
 use Rattle.euler_operators.specs.Model.{Model, tail, loop_of, face_of, solid_of, no_face, outer, after, before, point_of, faces_of}
 use Rattle.euler_operators.specs.Sound.{Sound, Has, HasHalf}
-use Rattle.euler_operators.proofs.Halves.{plus_row, minus_row}
-use Rattle.euler_operators.proofs.Models.{face_row}
+use Rattle.euler_operators.proofs.Halves.{mate_plus, mate_minus}
+use Rattle.euler_operators.proofs.Models.{face_row, plus_there, minus_there}
+use Rattle.euler_operators.proofs.Tests.{and_first}
+use Rattle.euler_operators.proofs.Members.{IsIn-filter, count-filter, filter_passes}
+use Rattle.euler_operators.proofs.Crossings.{opposite_turned, level_on, not_level}
 use Rattle.euler_operators.specs.Conditions.{first_refusal, face_at, lists}
 use Rattle.euler_laws.proofs.shared.Arcs.{halves_of_edge}
 use Rattle.euler_laws.proofs.shared.Fans.{half_after, loop_after}
-use Rattle.euler_laws.proofs.shared.Goes.{equal, equals}
-use Rattle.euler_laws.proofs.shared.Undo.{mate_plus, mate_minus}
-use Rattle.shapes.proofs.walks.FaceLoops.{items_counted, items_there}
+use Rattle.euler_laws.proofs.shared.Listed.{IsIn-from_listed}
 use Rattle.shapes.specs.Faces.{start, finish, loops_of, boundary, edges_of}
 use Rattle.shapes.specs.split.Sides.{crosses, straddles, straddling_faces, crossing_edges}
 use Rattle.shapes.specs.split.Places.{is_place, place_point, places}
@@ -27,24 +26,11 @@ use Rattle.shapes.specs.split.Crossings.{with_crossings}
 use Rattle.shapes.specs.split.Drawing.{from_place}
 use Rattle.shapes.specs.split.Split.{first_conditions}
 use Rattle.split_drawing_laws.specs.crossings.AtPlace.{AtPlace}
-use Rattle.split_drawing_laws.proofs.crossings.Levels.{opposite_back, not_level}
-use Rattle.euler_laws.proofs.shared.Counted.{listed_in, all_where_has}
-use Rattle.split_drawing_laws.proofs.crossings.Listed.{picked, picked_count, picked_passes}
 use Rattle.split_drawing_laws.proofs.crossings.Runs.{kept_start}
 use Rattle.split_drawing_laws.proofs.crossings.Premises.{crossing_here, crossing_point, one_point, minus_crosses}
 use Rattle.split_drawing_laws.proofs.crossings.Whole.{can_cut, gone, is_cut, listed_edge, crossings_cut, crossings_keep, crossings_sound}
-
-level_on : (m : ℤ) → m ≡ pos 0 → int_eq m (pos 0) ≡ true
-level_on m e = grind (arith, ints)
-
-opposite_turned : (m n : ℤ) → opposite m n ≡ opposite n m
-opposite_turned m n = go (opposite n m) refl where
-  go : (b : Bool) → opposite n m ≡ b → opposite m n ≡ b
-  go true e = opposite_back n m e
-  go false e = other (opposite m n) refl e where
-    other : (c : Bool) → opposite m n ≡ c → opposite n m ≡ false → opposite m n ≡ false
-    other true f e = absurd (true≢false (sym (opposite_back m n f) ∙ e))
-    other false f e = f
+use Rattle.shapes.proofs.walks.FaceLoops.{items_counted, items_there}
+use Rattle.euler_laws.proofs.shared.Counted.{all_where_has}
 
 module _ (M : Model) (sound : Sound M) (f : ℕ) (there : Has M.faces f) where
   -- the loops of a face are of that face, and so are its half-edges
@@ -54,11 +40,8 @@ module _ (M : Model) (sound : Sound M) (f : ℕ) (there : Has M.faces f) where
     | inl e ↦ ap (face_of M) e.1 ∙ (sound.outers_there f there).1
     | inr e ↦
         let w = all_where_has (λ k row. nat_eq row.face f && not (nat_eq (outer M f) k)) M.loops l (omega (arith, i, tick_other l (outer M f) e.1)) in
-        face_row M l w.0 w.1 ∙ equal w.0.face f (first_of (nat_eq w.0.face f) (not (nat_eq (outer M f) l)) w.2)
-  ] where
-    first_of : (a b : Bool) → (a && b) ≡ true → a ≡ true
-    first_of true b e = refl
-    first_of false b e = absurd (true≢false (sym e))
+        face_row M l w.0 w.1 ∙ eqb-true w.0.face f (and_first (nat_eq w.0.face f) (not (nat_eq (outer M f) l)) w.2)
+  ]
 
   pub item_there : (h : ℕ) → IsIn h (boundary M f) → HasHalf M h
   unfolding boundary
@@ -71,12 +54,6 @@ module _ (M : Model) (sound : Sound M) (f : ℕ) (there : Has M.faces f) where
 module _ (M : Model) (s : ℕ) (p : Plane) (t : ℕ) (sound : Sound M) (accepted : first_refusal (first_conditions M s p t) ≡ None) where
   abbrev N : Model
   N = (with_crossings M s p).model
-
-  plus_half : (x : ℕ) → Has M.edges x → HasHalf M (plus x)
-  plus_half x there = ap (table.has M.edges) (plus_row x).0 ∙ there
-
-  minus_half : (x : ℕ) → Has M.edges x → HasHalf M (minus x)
-  minus_half x there = ap (table.has M.edges) (minus_row x).0 ∙ there
 
   -- a place that stays where it is
   at_itself : (h : ℕ) → HasHalf M h → start N h ≡ place_point M p h → is_on p (start N h) ≡ true → AtPlace M N p h
@@ -105,16 +82,16 @@ module _ (M : Model) (s : ℕ) (p : Plane) (t : ℕ) (sound : Sound M) (accepted
         (ap (height p) ((crossings_cut M s p t sound accepted).cut_starts e e_there (is_cut M s p t sound accepted e i)) ∙ (crossing_here M sound s p (can_cut M s p t sound accepted) e i).level)
 
     at_plus : AtPlace M N p (plus e)
-    at_plus = at_itself (plus e) (plus_half e e_there) plus_starts plus_on
+    at_plus = at_itself (plus e) (plus_there M e e_there) plus_starts plus_on
 
     minus_stays : start N (minus e) ≡ start M (minus e)
-    minus_stays = kept_start M N sound (crossings_keep M s p t sound accepted) (minus e) (minus_half e e_there) ((crossings_cut M s p t sound accepted).minus_tails e e_there)
+    minus_stays = kept_start M N sound (crossings_keep M s p t sound accepted) (minus e) (minus_there M e e_there) ((crossings_cut M s p t sound accepted).minus_tails e e_there)
 
     pub minus_off : is_on p (start N (minus e)) ≡ false
     minus_off = ap (is_on p) minus_stays ∙ not_level (height p (start M (minus e))) (height p (start M (plus e))) (minus_crosses M sound s p (can_cut M s p t sound accepted) e i)
 
     minus_in_N : HasHalf N (minus e)
-    minus_in_N = (crossings_keep M s p t sound accepted).halves (minus e) (minus_half e e_there)
+    minus_in_N = (crossings_keep M s p t sound accepted).halves (minus e) (minus_there M e e_there)
 
     at_minus : AtPlace M N p (minus e)
     at_minus =
@@ -123,22 +100,22 @@ module _ (M : Model) (s : ℕ) (p : Plane) (t : ℕ) (sound : Sound M) (accepted
         record {
           there = subst (HasHalf N) is (half_after N N_sound (minus e) minus_in_N);
           starts = ap (start N) (sym is) ∙ ap (point_of N) (N_sound.ends_meet (minus e) minus_in_N ∙ ap (tail N) (mate_minus e)) ∙ plus_starts ∙ one_point M sound s p (can_cut M s p t sound accepted) e i;
-          loop = ap (loop_of N) (sym is) ∙ loop_after N N_sound (minus e) minus_in_N ∙ (crossings_keep M s p t sound accepted).loop (minus e) (minus_half e e_there);
+          loop = ap (loop_of N) (sym is) ∙ loop_after N N_sound (minus e) minus_in_N ∙ (crossings_keep M s p t sound accepted).loop (minus e) (minus_there M e e_there);
         }
 
   -- another edge stays where it is
   module _ (e : ℕ) (e_there : Has M.edges e) (crosses_not : crosses M p (plus e) ≡ false) where
     uncut : count e (gone M s p t sound accepted).list ≡ 0
     uncut = elim (IsIn_or_not e (crossing_edges M p s)) [
-      | inl i ↦ absurd (true≢false (sym (picked_passes (λ x. crosses M p (plus x)) e (edges_of M s) i) ∙ crosses_not))
+      | inl i ↦ absurd (true≢false (sym (filter_passes (λ x. crosses M p (plus x)) e (edges_of M s) i) ∙ crosses_not))
       | inr z ↦ omega (arith, z, (gone M s p t sound accepted).same e)
     ]
 
     stays_plus : start N (plus e) ≡ start M (plus e)
-    stays_plus = kept_start M N sound (crossings_keep M s p t sound accepted) (plus e) (plus_half e e_there) ((crossings_cut M s p t sound accepted).plus_tails e e_there uncut)
+    stays_plus = kept_start M N sound (crossings_keep M s p t sound accepted) (plus e) (plus_there M e e_there) ((crossings_cut M s p t sound accepted).plus_tails e e_there uncut)
 
     stays_minus : start N (minus e) ≡ start M (minus e)
-    stays_minus = kept_start M N sound (crossings_keep M s p t sound accepted) (minus e) (minus_half e e_there) ((crossings_cut M s p t sound accepted).minus_tails e e_there)
+    stays_minus = kept_start M N sound (crossings_keep M s p t sound accepted) (minus e) (minus_there M e e_there) ((crossings_cut M s p t sound accepted).minus_tails e e_there)
 
   on_place : (h : ℕ) → is_on p (start M h) ≡ true → place_point M p h ≡ start M h
   unfolding place_point
@@ -160,25 +137,25 @@ module _ (M : Model) (s : ℕ) (p : Plane) (t : ℕ) (sound : Sound M) (accepted
       ∙ sym (ap (are_opposite p (start M (minus e))) (ap (start M) (mate_minus e))) ∙ is
 
   pub in_crossing : (e : ℕ) → Has M.edges e → solid_of M (face_at M (plus e)) ≡ s → crosses M p (plus e) ≡ true → IsIn e (crossing_edges M p s)
-  in_crossing e there of_s c = picked (λ x. crosses M p (plus x)) e (edges_of M s) (listed_edge M s p t sound accepted e there (equals (solid_of M (face_at M (plus e))) s of_s)) c
+  in_crossing e there of_s c = IsIn-filter (λ x. crosses M p (plus x)) e (edges_of M s) (listed_edge M s p t sound accepted e there (eq-eqb (solid_of M (face_at M (plus e))) s of_s)) c
 
   of_plus : (e : ℕ) → Has M.edges e → solid_of M (face_at M (plus e)) ≡ s → is_place M p (plus e) ≡ true → AtPlace M N p (plus e)
   of_plus e there of_s place = go (crosses M p (plus e)) refl where
     go : (b : Bool) → crosses M p (plus e) ≡ b → AtPlace M N p (plus e)
     go true c = at_plus e (in_crossing e there of_s c)
-    go false c = at_corner (plus e) (plus_half e there) (on_when (plus e) place c) (stays_plus e there c)
+    go false c = at_corner (plus e) (plus_there M e there) (on_when (plus e) place c) (stays_plus e there c)
 
   of_minus : (e : ℕ) → Has M.edges e → solid_of M (face_at M (plus e)) ≡ s → is_place M p (minus e) ≡ true → AtPlace M N p (minus e)
   of_minus e there of_s place = go (crosses M p (minus e)) refl where
     go : (b : Bool) → crosses M p (minus e) ≡ b → AtPlace M N p (minus e)
     go true c = at_minus e (in_crossing e there of_s (turned e true c))
-    go false c = at_corner (minus e) (minus_half e there) (on_when (minus e) place c) (stays_minus e there (turned e false c))
+    go false c = at_corner (minus e) (minus_there M e there) (on_when (minus e) place c) (stays_minus e there (turned e false c))
 
   pub face_facts : (f : ℕ) → IsIn f (straddling_faces M p s) → Has M.faces f × (solid_of M f ≡ s)
   unfolding solid_of
   face_facts f i =
-      let w = all_where_has (λ _ row. nat_eq row.solid s) M.faces f (omega (arith, i, picked_count (straddles M p) f (faces_of M s))) in
-      (ap is_some w.1, ap (λ o. (unwrap_or o no_face).solid) w.1 ∙ equal w.0.solid s w.2)
+      let w = all_where_has (λ _ row. nat_eq row.solid s) M.faces f (omega (arith, i, count-filter (straddles M p) f (faces_of M s))) in
+      (ap is_some w.1, ap (λ o. (unwrap_or o no_face).solid) w.1 ∙ eqb-true w.0.solid s w.2)
 
   -- a place of a face that straddles
   place_is : (f h : ℕ) → IsIn f (straddling_faces M p s) → IsIn h (boundary M f) → is_place M p h ≡ true → AtPlace M N p h
@@ -189,12 +166,12 @@ module _ (M : Model) (s : ℕ) (p : Plane) (t : ℕ) (sound : Sound M) (accepted
       elim (halves_of_edge h) [
         | inl e ↦ subst (AtPlace M N p) (sym e.0) (of_plus (edge_of h) there (ap (λ x. solid_of M (face_at M x)) (sym e.0) ∙ of_s) (ap (is_place M p) (sym e.0) ∙ place))
         | inr e ↦ subst (AtPlace M N p) (sym e.0) (of_minus (edge_of h) there
-            (sound.one_solid (plus (edge_of h)) (plus_half (edge_of h) there) ∙ ap (λ x. solid_of M (face_at M x)) (mate_plus (edge_of h) ∙ sym e.0) ∙ of_s)
+            (sound.one_solid (plus (edge_of h)) (plus_there M (edge_of h) there) ∙ ap (λ x. solid_of M (face_at M x)) (mate_plus (edge_of h) ∙ sym e.0) ∙ of_s)
             (ap (is_place M p) (sym e.0) ∙ place))
       ]
 
   pub at_place : (f h : ℕ) → lists (straddling_faces M p s) f ≡ true → lists (places M p f) h ≡ true → AtPlace M (with_crossings M s p).model p h
   unfolding places
   at_place f h i j =
-      let k : IsIn h (filter (is_place M p) (boundary M f)) = listed_in h (places M p f) j in
-      place_is f h (listed_in f (straddling_faces M p s) i) (omega (arith, k, picked_count (is_place M p) h (boundary M f))) (picked_passes (is_place M p) h (boundary M f) k)
+      let k : IsIn h (filter (is_place M p) (boundary M f)) = IsIn-from_listed h (places M p f) j in
+      place_is f h (IsIn-from_listed f (straddling_faces M p s) i) (omega (arith, k, count-filter (is_place M p) h (boundary M f))) (filter_passes (is_place M p) h (boundary M f) k)

@@ -3,6 +3,7 @@ use Rattle.std.specs.Prelude.{filter, int_lt}
 use Rattle.std.specs.List.{list_any, list_all}
 use Rattle.std.proofs.Common.{◌≡◌, ◌≢◌, ℕ, ◌+◌, ◌≤◌, Bool, true, false, cond, not, nat_eq, ◌&&◌, ◌||◌, ℤ, pos, List, [], ◌∷◌, length, is_some, refl, sym, ap, ◌∙◌, subst, arith, ◌⊎◌, inl, inr, true≢false}
 use Rattle.std.proofs.lemmas.Bool.Decides.{eqb_tells}
+use Rattle.std.proofs.lemmas.Bool.{not-false, eq-eqb, eqb-true}
 use Rattle.euler_operators.specs.declared.Plane.{Plane}
 use Rattle.euler_operators.specs.Points.{IsInRange}
 use Rattle.euler_operators.specs.Vectors.{height, opposite, are_opposite, is_above, is_below, is_on, same_point, cuts_lattice, cut_between}
@@ -12,12 +13,13 @@ use Rattle.euler_operators.specs.HalfEdge.{plus, minus}
 use Rattle.euler_operators.specs.Table as table
 use Rattle.euler_operators.specs.Model.{Model, items_of, content, tail, loop_of, face_of, solid_of, point_of, before, faces_of}
 use Rattle.euler_operators.specs.Sound.{Sound, Has, HasHalf, StandsIn}
-use Rattle.euler_operators.proofs.Halves.{plus_row, minus_row}
+use Rattle.euler_operators.proofs.Halves.{plus_row, minus_row, mate_plus, mate_minus}
 use Rattle.euler_operators.proofs.Models.{held_row, cycle_there}
+use Rattle.euler_operators.proofs.Members.{IsIn-filter, count-filter, filter_passes}
+use Rattle.euler_operators.proofs.Crossings.{same_as, cut_back, opposite_back, not_level, level_is, cut_fits}
 use Rattle.euler_operators.specs.Conditions.{AllHold, face_at}
-use Rattle.euler_laws.proofs.shared.Goes.{not_back, equal, equals, no_zero}
+use Rattle.euler_laws.proofs.shared.Goes.{no_zero}
 use Rattle.euler_laws.proofs.shared.Rows.{face_there, point_row}
-use Rattle.euler_laws.proofs.shared.Undo.{mate_plus, mate_minus}
 use Rattle.solid_measure_laws.proofs.Cuts.{cut_on}
 use Rattle.shapes.proofs.fresh.Tests.{none_such, Left, numbers_are_left}
 use Rattle.shapes.specs.Faces.{start, finish, edges_of, boundary, corners}
@@ -25,17 +27,16 @@ use Rattle.shapes.specs.Fresh.{first_such, taken_in}
 use Rattle.shapes.specs.split.Sides.{crosses, straddles, straddling_faces, crossing_edges, reaches_above, reaches_below}
 use Rattle.shapes.specs.split.Places.{is_place, place_point, places, some_meet, is_touched, is_cut_often, is_crossed, is_up_and_down, sorted_pairs, pair_count}
 use Rattle.shapes.specs.split.Split.{first_conditions}
-use Rattle.split_drawing_laws.proofs.crossings.Levels.{opposite_back, not_level, same_as, level_is, cut_back, cut_fits}
-use Rattle.split_drawing_laws.proofs.crossings.Listed.{picked, picked_count, picked_passes, any_passes, none_at, all_not_zero, item_in_face, tail_in_face}
-use Rattle.euler_laws.proofs.shared.Counted.{all_where_has, all_where_in}
+use Rattle.split_drawing_laws.proofs.crossings.Listed.{any_passes, none_at, all_not_zero, item_in_face, tail_in_face}
 use Rattle.split_drawing_laws.proofs.crossings.Runs.{Crossing}
+use Rattle.euler_laws.proofs.shared.Counted.{all_where_has, all_where_in}
 
 -- ---- two places of a face with equal points
 
 meets_first : (M : Model) (p : Plane) (x y : ℕ) (hs : List ℕ) → same_point (place_point M p x) (place_point M p y) ≡ true → IsIn y hs → list_any (λ k. same_point (place_point M p x) (place_point M p k)) hs ≡ true
 meets_first M p x y hs e i = any_passes (λ k. same_point (place_point M p x) (place_point M p k)) y hs i e
 
-two_meet : (M : Model) (p : Plane) (x y : ℕ) (hs : List ℕ) → x ≢ y → place_point M p x ≡ place_point M p y → IsIn x hs → IsIn y hs → some_meet M p hs ≡ true
+pub two_meet : (M : Model) (p : Plane) (x y : ℕ) (hs : List ℕ) → x ≢ y → place_point M p x ≡ place_point M p y → IsIn x hs → IsIn y hs → some_meet M p hs ≡ true
 two_meet M p x y [] ne e i j = absurd (omega (arith, i))
 two_meet M p x y (h ∷ hs) ne e i j = elim (eqb_tells x h) [
   | inl s ↦ ap (λ b. b || some_meet M p hs) (meets_first M p h y hs (same_as (place_point M p h) (place_point M p y) (ap (place_point M p) (sym s.1) ∙ e)) (rest y h hs (λ t. ne (s.1 ∙ sym t)) j))
@@ -64,35 +65,35 @@ pub record Cuttable (M : Model) (s : ℕ) (p : Plane) : Type 0 where
 module _ (M : Model) (sound : Sound M) (s : ℕ) (p : Plane) where
   pub edge_facts : (e : ℕ) → IsIn e (crossing_edges M p s) → Has M.edges e × (solid_of M (face_at M (plus e)) ≡ s) × (crosses M p (plus e) ≡ true)
   edge_facts e i =
-      let l : count e (crossing_edges M p s) ≤ count e (edges_of M s) = picked_count (λ x. crosses M p (plus x)) e (edges_of M s) in
+      let l : count e (crossing_edges M p s) ≤ count e (edges_of M s) = count-filter (λ x. crosses M p (plus x)) e (edges_of M s) in
       let w = all_where_has (λ x _. nat_eq (solid_of M (face_at M (plus x))) s) M.edges e (omega (arith, i, l)) in
-      (ap is_some w.1, equal (solid_of M (face_at M (plus e))) s w.2, picked_passes (λ x. crosses M p (plus x)) e (edges_of M s) i)
+      (ap is_some w.1, eqb-true (solid_of M (face_at M (plus e))) s w.2, filter_passes (λ x. crosses M p (plus x)) e (edges_of M s) i)
 
   edges_not_zero : (e : ℕ) → IsIn e (crossing_edges M p s) → e ≢ 0
   edges_not_zero e i z = no_zero e z (sound.edges_fit e (edge_facts e i).0)
 
   pub faces_not_zero : (f : ℕ) → IsIn f (straddling_faces M p s) → f ≢ 0
   faces_not_zero f i z =
-      let l : count f (straddling_faces M p s) ≤ count f (faces_of M s) = picked_count (straddles M p) f (faces_of M s) in
+      let l : count f (straddling_faces M p s) ≤ count f (faces_of M s) = count-filter (straddles M p) f (faces_of M s) in
       let w = all_where_has (λ _ row. nat_eq row.solid s) M.faces f (omega (arith, i, l)) in
       no_zero f z (sound.faces_fit f (ap is_some w.1))
 
   module _ (t : ℕ) (hold : AllHold (first_conditions M s p t)) where
     none_off : first_such (λ e. not (cuts_lattice p (start M (plus e)) (finish M (plus e)))) (crossing_edges M p s) ≡ 0
     unfolding first_conditions
-    none_off = equal (first_such (λ e. not (cuts_lattice p (start M (plus e)) (finish M (plus e)))) (crossing_edges M p s)) 0 hold.1.1.1.1.1.1.1.1.1.1.1.1.0
+    none_off = eqb-true (first_such (λ e. not (cuts_lattice p (start M (plus e)) (finish M (plus e)))) (crossing_edges M p s)) 0 hold.1.1.1.1.1.1.1.1.1.1.1.1.0
 
     none_touched : first_such (is_touched M p) (straddling_faces M p s) ≡ 0
     unfolding first_conditions
-    none_touched = equal (first_such (is_touched M p) (straddling_faces M p s)) 0 hold.1.1.1.1.1.1.1.1.1.1.1.1.1.0
+    none_touched = eqb-true (first_such (is_touched M p) (straddling_faces M p s)) 0 hold.1.1.1.1.1.1.1.1.1.1.1.1.1.0
 
     none_often : first_such (is_cut_often M p) (straddling_faces M p s) ≡ 0
     unfolding first_conditions
-    none_often = equal (first_such (is_cut_often M p) (straddling_faces M p s)) 0 hold.1.1.1.1.1.1.1.1.1.1.1.1.1.1.0
+    none_often = eqb-true (first_such (is_cut_often M p) (straddling_faces M p s)) 0 hold.1.1.1.1.1.1.1.1.1.1.1.1.1.1.0
 
     none_crossed : first_such (is_crossed M p) (straddling_faces M p s) ≡ 0
     unfolding first_conditions
-    none_crossed = equal (first_such (is_crossed M p) (straddling_faces M p s)) 0 hold.1.1.1.1.1.1.1.1.1.1.1.1.1.1.1.0
+    none_crossed = eqb-true (first_such (is_crossed M p) (straddling_faces M p s)) 0 hold.1.1.1.1.1.1.1.1.1.1.1.1.1.1.1.0
 
     numbers : Left (taken_in M) (pair_count M p (straddling_faces M p s)) (pair_count M p (straddling_faces M p s))
         (length (crossing_edges M p s) + pair_count M p (straddling_faces M p s)) (length (crossing_edges M p s))
@@ -105,7 +106,7 @@ module _ (M : Model) (sound : Sound M) (s : ℕ) (p : Plane) where
         let es = all_not_zero (crossing_edges M p s) edges_not_zero in
         let fs = all_not_zero (straddling_faces M p s) faces_not_zero in
         record {
-          whole = λ e i. not_back (cuts_lattice p (start M (plus e)) (finish M (plus e)))
+          whole = λ e i. not-false (cuts_lattice p (start M (plus e)) (finish M (plus e)))
               (none_at (λ x. not (cuts_lattice p (start M (plus x)) (finish M (plus x)))) e (crossing_edges M p s)
               (none_such (λ x. not (cuts_lattice p (start M (plus x)) (finish M (plus x)))) (crossing_edges M p s) es none_off) i);
           untouched = λ f i. none_at (is_touched M p) f (straddling_faces M p s) (none_such (is_touched M p) (straddling_faces M p s) fs none_touched) i;
@@ -171,10 +172,7 @@ module _ (M : Model) (sound : Sound M) (s : ℕ) (p : Plane) where
       of_solid = ap (λ q. solid_of M (face_of M q)) (sym first) ∙ (edge_facts e i).1
 
       face_in : IsIn (face_of M l) (faces_of M s)
-      face_in = all_where_in (λ _ row. nat_eq row.solid s) M.faces (face_of M l) _ (face_there M (face_of M l) (sound.loops_of_faces l l_there)) (equals (solid_of M (face_of M l)) s of_solid)
-
-      abbrev vs : List ℕ
-      vs = corners M (face_of M l)
+      face_in = all_where_in (λ _ row. nat_eq row.solid s) M.faces (face_of M l) _ (face_there M (face_of M l) (sound.loops_of_faces l l_there)) (eq-eqb (solid_of M (face_of M l)) s of_solid)
 
       plus_corner : IsIn (tail M (plus e)) (corners M (face_of M l))
       plus_corner = tail_in_face M (plus e) l l_there first_in
@@ -209,15 +207,15 @@ module _ (M : Model) (sound : Sound M) (s : ℕ) (p : Plane) where
       places_meet : some_meet M p (places M p (face_of M l)) ≡ true
       unfolding places
       places_meet = two_meet M p (plus e) (minus e) (filter (is_place M p) (boundary M (face_of M l))) (λ q. omega arith) one_point
-          (picked (is_place M p) (plus e) (boundary M (face_of M l)) (item_in_face M (plus e) l l_there first_in) (crossing_is_place (plus e) (edge_facts e i).2))
-          (picked (is_place M p) (minus e) (boundary M (face_of M l)) (item_in_face M (minus e) l l_there second_in) (crossing_is_place (minus e) minus_is))
+          (IsIn-filter (is_place M p) (plus e) (boundary M (face_of M l)) (item_in_face M (plus e) l l_there first_in) (crossing_is_place (plus e) (edge_facts e i).2))
+          (IsIn-filter (is_place M p) (minus e) (boundary M (face_of M l)) (item_in_face M (minus e) l l_there second_in) (crossing_is_place (minus e) minus_is))
 
       is_then_crossed : is_crossed M p (face_of M l) ≡ true
       unfolding is_crossed
       is_then_crossed = ap (λ b. b || not (list_all (is_up_and_down M p) (sorted_pairs M p (face_of M l)))) places_meet
 
       one_loop_absurd : ⊥
-      one_loop_absurd = true≢false (sym is_then_crossed ∙ c.uncrossed (face_of M l) (picked (straddles M p) (face_of M l) (faces_of M s) face_in face_straddles))
+      one_loop_absurd = true≢false (sym is_then_crossed ∙ c.uncrossed (face_of M l) (IsIn-filter (straddles M p) (face_of M l) (faces_of M s) face_in face_straddles))
 
     point_there : (h : ℕ) → HasHalf M h → IsInRange (start M h)
     point_there h there = sound.points_fit (tail M h) (start M h) (point_row M (tail M h) (sound.tails_there h there))

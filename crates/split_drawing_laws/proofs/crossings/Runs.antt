@@ -11,9 +11,10 @@ use Rattle.euler_operators.specs.HalfEdge.{mate, edge_of, plus, minus}
 use Rattle.euler_operators.specs.Table as table
 use Rattle.euler_operators.specs.Model.{Model, tail, loop_of, point_of, no_point, is_number}
 use Rattle.euler_operators.specs.Sound.{Sound, Has, HasHalf}
-use Rattle.euler_operators.proofs.Halves.{plus_row, minus_row, edge_of-mate}
+use Rattle.euler_operators.proofs.Halves.{plus_row, minus_row, edge_of-mate, mate_plus}
+use Rattle.euler_operators.proofs.Models.{plus_there, minus_there, plus_edge}
+use Rattle.euler_operators.proofs.Crossings.{level_first, level_second}
 use Rattle.euler_laws.specs.Laws.{AreAccepted, effects}
-use Rattle.euler_laws.proofs.shared.Undo.{mate_plus}
 use Rattle.shapes.proofs.fresh.Rows.{none_above}
 use Rattle.shapes.proofs.fresh.Tests.{number_fits}
 use Rattle.shapes.specs.Faces.{start, finish}
@@ -22,7 +23,6 @@ use Rattle.shapes.specs.split.Sides.{crosses}
 use Rattle.shapes.specs.split.Crossings.{edge_cut, next_cut, all_cut}
 use Rattle.split_drawing_laws.specs.crossings.CrossingOps.{cut_edge, ops_from}
 use Rattle.split_drawing_laws.specs.crossings.Kept.{Kept}
-use Rattle.split_drawing_laws.proofs.crossings.Levels.{level_first, level_second}
 use Rattle.split_drawing_laws.proofs.crossings.Steps.{CutGoes, cut_accepted, cut_made, cut_sound, cut_keeps, edge_other, point_new, tail_old, tail_new, tail_other}
 use Rattle.split_drawing_laws.proofs.crossings.Counters.{taken_then}
 
@@ -47,17 +47,8 @@ pub record AreCut (M N : Model) (p : Plane) (ds : List ℕ) : Type 0 where
   pub cut_starts : (x : ℕ) → Has M.edges x → IsIn x ds → start N (plus x) ≡ cut_at M p x
   pub cleared : (x : ℕ) → Has N.edges x → (Has M.edges x × (count x ds ≡ 0)) ⊎ (crosses N p (plus x) ≡ false)
 
-plus_half : (M : Model) (x : ℕ) → Has M.edges x → HasHalf M (plus x)
-plus_half M x there = ap (table.has M.edges) (plus_row x).0 ∙ there
-
-minus_half : (M : Model) (x : ℕ) → Has M.edges x → HasHalf M (minus x)
-minus_half M x there = ap (table.has M.edges) (minus_row x).0 ∙ there
-
-half_edge : (M : Model) (x : ℕ) → HasHalf M (plus x) → Has M.edges x
-half_edge M x there = ap (table.has M.edges) (sym (plus_row x).0) ∙ there
-
 pub kept_edge : (M N : Model) → Kept M N → (x : ℕ) → Has M.edges x → Has N.edges x
-kept_edge M N k x there = half_edge N x (k.halves (plus x) (plus_half M x there))
+kept_edge M N k x there = plus_edge N x (k.halves (plus x) (plus_there M x there))
 
 pub kept_point : (M N : Model) → Kept M N → (v : ℕ) → Has M.vertices v → point_of N v ≡ point_of M v
 unfolding point_of
@@ -82,10 +73,10 @@ kept_on M N K a b = record {
 module _ (M N : Model) (p : Plane) (ds : List ℕ) (sound : Sound M) (a : AreCut M N p ds) (e k v : ℕ) (c : Crossing M p e) (uncut : count e ds ≡ 0)
     (edge_free : table.get N.edges k ≡ None) (vertex_free : table.get N.vertices v ≡ None) (edge_fits : IsTrue (is_number k)) (vertex_fits : IsTrue (is_number v)) where
   same_start : start N (plus e) ≡ start M (plus e)
-  same_start = kept_start M N sound a.kept (plus e) (plus_half M e c.there) (a.plus_tails e c.there uncut)
+  same_start = kept_start M N sound a.kept (plus e) (plus_there M e c.there) (a.plus_tails e c.there uncut)
 
   same_finish : finish N (plus e) ≡ finish M (plus e)
-  same_finish = ap (start N) (mate_plus e) ∙ kept_start M N sound a.kept (minus e) (minus_half M e c.there) (a.minus_tails e c.there) ∙ sym (ap (start M) (mate_plus e))
+  same_finish = ap (start N) (mate_plus e) ∙ kept_start M N sound a.kept (minus e) (minus_there M e c.there) (a.minus_tails e c.there) ∙ sym (ap (start M) (mate_plus e))
 
   same_cut : cut_at N p e ≡ cut_at M p e
   same_cut = λ i. cut_between p (same_start i) (same_finish i)
@@ -98,7 +89,7 @@ module _ (M N : Model) (p : Plane) (ds : List ℕ) (sound : Sound M) (a : AreCut
     can = record {
       sound = a.sound;
       there = e_there;
-      apart = λ s. c.apart (sym (a.kept.loop (plus e) (plus_half M e c.there)) ∙ s ∙ a.kept.loop (minus e) (minus_half M e c.there));
+      apart = λ s. c.apart (sym (a.kept.loop (plus e) (plus_there M e c.there)) ∙ s ∙ a.kept.loop (minus e) (minus_there M e c.there));
       edge_free = edge_free;
     };
     vertex_free = vertex_free;
@@ -134,8 +125,8 @@ module _ (M N : Model) (p : Plane) (ds : List ℕ) (sound : Sound M) (a : AreCut
     old {x} there ne = elim (a.cleared x there) [
       | inl b ↦ inl (b.0, omega (arith, b.1, tick_other x e ne))
       | inr b ↦
-          let same : start K (plus x) ≡ start N (plus x) = start_other (plus x) (plus_half N x there) (λ s. ne (sym (plus_row x).0 ∙ s)) in
-          let far : finish K (plus x) ≡ finish N (plus x) = start_other (mate (plus x)) (ap (table.has N.edges) (edge_of-mate (plus x)) ∙ plus_half N x there) (λ s. ne (sym (plus_row x).0 ∙ sym (edge_of-mate (plus x)) ∙ s)) in
+          let same : start K (plus x) ≡ start N (plus x) = start_other (plus x) (plus_there N x there) (λ s. ne (sym (plus_row x).0 ∙ s)) in
+          let far : finish K (plus x) ≡ finish N (plus x) = start_other (mate (plus x)) (ap (table.has N.edges) (edge_of-mate (plus x)) ∙ plus_there N x there) (λ s. ne (sym (plus_row x).0 ∙ sym (edge_of-mate (plus x)) ∙ s)) in
           inr ((λ i. are_opposite p (same i) (far i)) ∙ b)
     ]
 
@@ -145,15 +136,15 @@ module _ (M N : Model) (p : Plane) (ds : List ℕ) (sound : Sound M) (a : AreCut
     kept = kept_on M N K a.kept keeps;
     minus_tails = λ x there. elim (eqb_tells x e) [
       | inl s ↦ ap (λ y. tail K (minus y)) s.1 ∙ (tail_old N e k v (cut_at N p e) goes).1 ∙ ap (λ y. tail N (minus y)) (sym s.1) ∙ a.minus_tails x there
-      | inr s ↦ tail_other N e k v (cut_at N p e) goes (minus x) (minus_half N x (kept_edge M N a.kept x there)) (λ t. s.1 (sym (minus_row x).0 ∙ t)) ∙ a.minus_tails x there
+      | inr s ↦ tail_other N e k v (cut_at N p e) goes (minus x) (minus_there N x (kept_edge M N a.kept x there)) (λ t. s.1 (sym (minus_row x).0 ∙ t)) ∙ a.minus_tails x there
     ];
     plus_tails = λ x there none. elim (eqb_tells x e) [
       | inl s ↦ absurd (let one : tick x e ≡ 1 = ap (λ y. tick y e) s.1 ∙ tick_same e in omega (arith, none, one))
-      | inr s ↦ tail_other N e k v (cut_at N p e) goes (plus x) (plus_half N x (kept_edge M N a.kept x there)) (λ t. s.1 (sym (plus_row x).0 ∙ t)) ∙ a.plus_tails x there (omega (arith, none))
+      | inr s ↦ tail_other N e k v (cut_at N p e) goes (plus x) (plus_there N x (kept_edge M N a.kept x there)) (λ t. s.1 (sym (plus_row x).0 ∙ t)) ∙ a.plus_tails x there (omega (arith, none))
     ];
     cut_starts = λ x there i. elim (eqb_tells x e) [
       | inl s ↦ new_start (plus x) (ap (λ y. tail K (plus y)) s.1 ∙ (tail_old N e k v (cut_at N p e) goes).0) ∙ ap (cut_at M p) (sym s.1)
-      | inr s ↦ start_other (plus x) (plus_half N x (kept_edge M N a.kept x there)) (λ t. s.1 (sym (plus_row x).0 ∙ t)) ∙ a.cut_starts x there (omega (arith, i, tick_other x e s.1))
+      | inr s ↦ start_other (plus x) (plus_there N x (kept_edge M N a.kept x there)) (λ t. s.1 (sym (plus_row x).0 ∙ t)) ∙ a.cut_starts x there (omega (arith, i, tick_other x e s.1))
     ];
     cleared = clear_now;
   }

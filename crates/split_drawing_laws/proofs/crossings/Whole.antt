@@ -1,20 +1,21 @@
 -- All edges of a solid that cross a plane cut: from the first conditions of a split to the model.
 use Rattle.std.proofs.Common.{◌≡◌, ℕ, ◌≤◌, Bool, true, false, nat_eq, [], None, is_some, unwrap_or, refl, sym, ap, ◌∙◌, arith, inl, inr}
+use Rattle.std.proofs.lemmas.Bool.{eq-eqb, eqb-true}
 use Rattle.euler_operators.specs.declared.Plane.{Plane}
 use Rattle.euler_operators.specs.Vectors.{are_opposite}
 use Rattle.euler_operators.specs.Items.{count, IsIn}
 use Rattle.euler_operators.specs.HalfEdge.{plus, minus}
 use Rattle.euler_operators.specs.Table as table
 use Rattle.euler_operators.specs.Model.{Model, tail, loop_of, face_of, solid_of, no_face}
-use Rattle.euler_operators.specs.Sound.{Sound, Has, HasHalf}
-use Rattle.euler_operators.proofs.Halves.{plus_row, minus_row}
+use Rattle.euler_operators.specs.Sound.{Sound, Has}
+use Rattle.euler_operators.proofs.Halves.{mate_plus}
+use Rattle.euler_operators.proofs.Members.{IsIn-filter, count-filter}
+use Rattle.euler_operators.proofs.Models.{plus_there, minus_there}
+use Rattle.euler_operators.proofs.Tables.{row_some}
 use Rattle.euler_operators.specs.Conditions.{first_refusal, face_at, lists}
 use Rattle.euler_laws.specs.Laws.{AreAccepted, effects}
-use Rattle.euler_laws.proofs.shared.Goes.{all_hold, equal, equals}
+use Rattle.euler_laws.proofs.shared.Goes.{all_hold}
 use Rattle.euler_laws.proofs.shared.Listed.{all_where-rises}
-use Rattle.euler_laws.proofs.shared.Loops.{some_row}
-use Rattle.euler_laws.proofs.shared.Undo.{mate_plus}
-use Rattle.euler_laws.proofs.shared.Counted.{counted_once, none_counted, all_where_has, all_where_in}
 use Rattle.shapes.specs.Faces.{start, edges_of}
 use Rattle.shapes.specs.Fresh.{taken_in, growing}
 use Rattle.shapes.specs.split.Sides.{crosses, crossing_edges}
@@ -22,16 +23,17 @@ use Rattle.shapes.specs.split.Crossings.{with_crossings}
 use Rattle.shapes.specs.split.Split.{first_conditions}
 use Rattle.split_drawing_laws.specs.crossings.CrossingOps.{crossing_ops}
 use Rattle.split_drawing_laws.specs.crossings.Kept.{Kept}
-use Rattle.split_drawing_laws.proofs.crossings.Listed.{picked, picked_count, picked_none}
+use Rattle.split_drawing_laws.proofs.crossings.Listed.{picked_none}
 use Rattle.split_drawing_laws.proofs.crossings.Runs.{AreCut, Going, Gone, all_gone, none_cut, kept_start}
 use Rattle.split_drawing_laws.proofs.crossings.Premises.{Cuttable, cuttable, crossing_here}
+use Rattle.euler_laws.proofs.shared.Counted.{counted_once, none_counted, all_where_has, all_where_in}
 
 module _ (M : Model) (s : ℕ) (p : Plane) (t : ℕ) (sound : Sound M) (accepted : first_refusal (first_conditions M s p t) ≡ None) where
   pub can_cut : Cuttable M s p
   can_cut = cuttable M sound s p t (all_hold (first_conditions M s p t) accepted)
 
   once : (x : ℕ) → count x (crossing_edges M p s) ≤ 1
-  once x = omega (arith, picked_count (λ e. crosses M p (plus e)) x (edges_of M s), counted_once x (edges_of M s) (all_where-rises (λ e _. nat_eq (solid_of M (face_at M (plus e))) s) M.edges))
+  once x = omega (arith, count-filter (λ e. crosses M p (plus e)) x (edges_of M s), counted_once x (edges_of M s) (all_where-rises (λ e _. nat_eq (solid_of M (face_at M (plus e))) s) M.edges))
 
   pub begins : Going M p (growing M) [] (crossing_edges M p s)
   begins = record {
@@ -79,27 +81,21 @@ module _ (M : Model) (s : ℕ) (p : Plane) (t : ℕ) (sound : Sound M) (accepted
 
   -- ---- no edge of the solid crosses the plane then
 
-  plus_half : (x : ℕ) → Has M.edges x → HasHalf M (plus x)
-  plus_half x there = ap (table.has M.edges) (plus_row x).0 ∙ there
-
-  minus_half : (x : ℕ) → Has M.edges x → HasHalf M (minus x)
-  minus_half x there = ap (table.has M.edges) (minus_row x).0 ∙ there
-
   pub same_solid : (f : ℕ) → solid_of N f ≡ solid_of M f
   unfolding solid_of
   same_solid f = ap (λ u. (unwrap_or (table.get u f) no_face).solid) crossings_keep.faces
 
   same_face : (x : ℕ) → Has M.edges x → face_at N (plus x) ≡ face_at M (plus x)
-  same_face x there = ap (face_of N) (crossings_keep.loop (plus x) (plus_half x there)) ∙ crossings_keep.face (loop_of M (plus x))
+  same_face x there = ap (face_of N) (crossings_keep.loop (plus x) (plus_there M x there)) ∙ crossings_keep.face (loop_of M (plus x))
 
   same_crossing : (x : ℕ) → Has M.edges x → count x gone.list ≡ 0 → crosses N p (plus x) ≡ crosses M p (plus x)
   same_crossing x there z =
-      let near : start N (plus x) ≡ start M (plus x) = kept_start M N sound crossings_keep (plus x) (plus_half x there) (crossings_cut.plus_tails x there z) in
-      let far : start N (minus x) ≡ start M (minus x) = kept_start M N sound crossings_keep (minus x) (minus_half x there) (crossings_cut.minus_tails x there) in
+      let near : start N (plus x) ≡ start M (plus x) = kept_start M N sound crossings_keep (plus x) (plus_there M x there) (crossings_cut.plus_tails x there z) in
+      let far : start N (minus x) ≡ start M (minus x) = kept_start M N sound crossings_keep (minus x) (minus_there M x there) (crossings_cut.minus_tails x there) in
       λ i. are_opposite p (near i) ((ap (start N) (mate_plus x) ∙ far ∙ sym (ap (start M) (mate_plus x))) i)
 
   pub listed_edge : (x : ℕ) → Has M.edges x → nat_eq (solid_of M (face_at M (plus x))) s ≡ true → IsIn x (edges_of M s)
-  listed_edge x there e = let w = some_row (table.get M.edges x) there in all_where_in (λ y _. nat_eq (solid_of M (face_at M (plus y))) s) M.edges x w.0 w.1 e
+  listed_edge x there e = let w = row_some (table.get M.edges x) there in all_where_in (λ y _. nat_eq (solid_of M (face_at M (plus y))) s) M.edges x w.0 w.1 e
 
   old_crossing : (x : ℕ) → Has M.edges x → count x gone.list ≡ 0 → solid_of N (face_at N (plus x)) ≡ s → crosses N p (plus x) ≡ false
   old_crossing x there z of_s = go (crosses M p (plus x)) refl where
@@ -109,14 +105,14 @@ module _ (M : Model) (s : ℕ) (p : Plane) (t : ℕ) (sound : Sound M) (accepted
     go : (b : Bool) → crosses M p (plus x) ≡ b → crosses N p (plus x) ≡ false
     go false e = same_crossing x there z ∙ e
     go true e =
-        let i : IsIn x (crossing_edges M p s) = picked (λ y. crosses M p (plus y)) x (edges_of M s) (listed_edge x there (equals (solid_of M (face_at M (plus x))) s of_solid)) e in
+        let i : IsIn x (crossing_edges M p s) = IsIn-filter (λ y. crosses M p (plus y)) x (edges_of M s) (listed_edge x there (eq-eqb (solid_of M (face_at M (plus x))) s of_solid)) e in
         absurd (omega (arith, i, z, gone.same x))
 
   pub none_crosses : crossing_edges (with_crossings M s p).model p s ≡ []
   none_crosses = picked_none (λ x. crosses N p (plus x)) (edges_of N s) (λ x i.
       let w = all_where_has (λ y _. nat_eq (solid_of N (face_at N (plus y))) s) N.edges x i in
       elim (crossings_cut.cleared x (ap is_some w.1)) [
-        | inl o ↦ old_crossing x o.0 o.1 (equal (solid_of N (face_at N (plus x))) s w.2)
+        | inl o ↦ old_crossing x o.0 o.1 (eqb-true (solid_of N (face_at N (plus x))) s w.2)
         | inr o ↦ o
       ])
 

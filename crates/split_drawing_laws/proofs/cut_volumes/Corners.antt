@@ -1,36 +1,27 @@
 -- Corners on a plane, loop by loop and item by item; rings that are the same.
 use Rattle.std.specs.List.{list_all}
-use Rattle.std.proofs.Common.{◌≡◌, ℕ, Bool, true, ◌&&◌, List, [], ◌∷◌, ◌++◌, map, refl, sym, ap, ◌∙◌, subst, arith, inl, inr}
+use Rattle.std.proofs.Common.{◌≡◌, ℕ, Bool, true, ◌&&◌, List, [], ◌∷◌, ◌++◌, refl, sym, ap, ◌∙◌, subst, arith, inl, inr}
 use Rattle.std.proofs.lemmas.Bool.Decides.{eqb_tells}
+use Rattle.std.proofs.lemmas.Bool.{and_parts}
 use Rattle.euler_operators.specs.declared.Plane.{Plane}
 use Rattle.euler_operators.specs.Vectors.{is_on}
 use Rattle.euler_operators.specs.Items.{IsIn}
 use Rattle.euler_operators.proofs.Lists.{tick_other}
 use Rattle.euler_operators.proofs.Rings.{IsIn_successor}
 use Rattle.euler_operators.specs.Model.{Model, LoopContent, lone, cycle, items_of, tail, content, point_of, loop_of, cycle_of, is_ring_of, rings_of, after}
-use Rattle.euler_operators.specs.Sound.{Sound, HasHalf}
-use Rattle.euler_operators.proofs.Models.{in-holds}
-use Rattle.euler_laws.proofs.shared.RisingLists.{within}
+use Rattle.euler_operators.specs.Sound.{Sound}
+use Rattle.euler_operators.proofs.Models.{in-holds, item_there}
+use Rattle.euler_operators.proofs.Members.{IsIn_rest, each_mapped}
+use Rattle.euler_operators.proofs.Rotations.{IsIn_head}
 use Rattle.euler_operators.specs.Conditions.{lists, strictly_rises}
-use Rattle.shapes.proofs.walks.FaceLoops.{listed_ring, ring_listed, rings_rise}
 use Rattle.shapes.specs.Faces.{start, finish, vertices_on, vertices_in}
-use Rattle.solid_measure_laws.proofs.FlatFaces.{and_parts, list_parts, are_on}
-use Rattle.solid_measure_laws.proofs.Paths.{first_in, rest_in}
+use Rattle.solid_measure_laws.proofs.FlatFaces.{list_parts, are_on}
+use Rattle.euler_laws.proofs.shared.RisingLists.{within}
+use Rattle.shapes.proofs.walks.FaceLoops.{listed_ring, ring_listed, rings_rise}
 
 -- ---- lists
 
 module _ (p : ℕ → Bool) where
-  pub each_mapped : (f : ℕ → ℕ) (xs : List ℕ) (x : ℕ) → list_all p (map f xs) ≡ true → IsIn x xs → p (f x) ≡ true
-  each_mapped f [] x all i = absurd (omega (arith, i))
-  each_mapped f (y ∷ ys) x all i = let a = and_parts (p (f y)) (list_all p (map f ys)) all in elim (eqb_tells x y) [
-    | inl e ↦ ap (λ k. p (f k)) e.1 ∙ a.0
-    | inr e ↦ each_mapped f ys x a.1 (omega (arith, i, tick_other x y e.1))
-  ]
-
-  pub all_mapped : (f : ℕ → ℕ) (xs : List ℕ) → ((x : ℕ) → IsIn x xs → p (f x) ≡ true) → list_all p (map f xs) ≡ true
-  all_mapped f [] each = refl
-  all_mapped f (x ∷ xs) each = λ i. each x (first_in x xs) i && all_mapped f xs (λ y j. each y (rest_in y x xs j)) i
-
   pub both_pass : (xs ys : List ℕ) → list_all p xs ≡ true → list_all p ys ≡ true → list_all p (xs ++ ys) ≡ true
   both_pass [] ys a b = b
   both_pass (x ∷ xs) ys a b = let s = and_parts (p x) (list_all p xs) a in λ i. s.0 i && both_pass xs ys s.1 b i
@@ -48,7 +39,7 @@ module _ (M : Model) (r : Plane) where
 
   pub loops_on : (ls : List ℕ) → ((l : ℕ) → IsIn l ls → are_on M r (vertices_on M (content M l)) ≡ true) → are_on M r (vertices_in M ls) ≡ true
   loops_on [] each = refl
-  loops_on (l ∷ ls) each = both_pass (λ v. is_on r (point_of M v)) (vertices_on M (content M l)) (vertices_in M ls) (each l (first_in l ls)) (loops_on ls (λ k j. each k (rest_in k l ls j)))
+  loops_on (l ∷ ls) each = both_pass (λ v. is_on r (point_of M v)) (vertices_on M (content M l)) (vertices_in M ls) (each l (IsIn_head l ls)) (loops_on ls (λ k j. each k (IsIn_rest k l ls j)))
 
   -- an item starts at a corner
   pub item_on : (c : LoopContent) (h : ℕ) → are_on M r (vertices_on M c) ≡ true → IsIn h (items_of c) → is_on r (start M h) ≡ true
@@ -56,9 +47,6 @@ module _ (M : Model) (r : Plane) where
   item_on (cycle hs) h on i = each_mapped (λ v. is_on r (point_of M v)) (tail M) hs h on i
 
 module _ (M : Model) (sound : Sound M) where
-  pub item_there : (l h : ℕ) → IsIn h (items_of (content M l)) → HasHalf M h
-  item_there l h i = sound.only_edges h l (in-holds h (content M l) i)
-
   pub item_loop : (l h : ℕ) → IsIn h (items_of (content M l)) → loop_of M h ≡ l
   item_loop l h i = sound.one_loop h l (in-holds h (content M l) i)
 
@@ -70,7 +58,7 @@ module _ (M : Model) (sound : Sound M) where
 
   -- so it ends at a corner
   pub item_ends_on : (r : Plane) (l h : ℕ) → are_on M r (vertices_on M (content M l)) ≡ true → IsIn h (items_of (content M l)) → is_on r (finish M h) ≡ true
-  item_ends_on r l h on i = ap (λ v. is_on r (point_of M v)) (sym (sound.ends_meet h (item_there l h i))) ∙ item_on M r (content M l) (after M h) on (next_item l h i)
+  item_ends_on r l h on i = ap (λ v. is_on r (point_of M v)) (sym (sound.ends_meet h (item_there M sound l h i))) ∙ item_on M r (content M l) (after M h) on (next_item l h i)
 
 -- ---- rings
 

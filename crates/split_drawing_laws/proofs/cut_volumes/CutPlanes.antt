@@ -8,36 +8,34 @@ use Rattle.euler_operators.specs.Vectors.{is_on}
 use Rattle.euler_operators.specs.Items.{count, IsIn}
 use Rattle.euler_operators.specs.Rings.{canonical}
 use Rattle.euler_operators.proofs.Lists.{count-append, tick_other, IsIn_or_not}
-use Rattle.euler_operators.proofs.Rotations.{count-canonical}
+use Rattle.euler_operators.proofs.Rotations.{count-canonical, IsIn_head}
+use Rattle.euler_operators.proofs.Members.{IsIn_one, all_mapped}
+use Rattle.euler_operators.proofs.Halves.{mate_plus, mate_minus}
+use Rattle.euler_operators.proofs.Models.{item_there}
 use Rattle.euler_operators.specs.HalfEdge.{plus, minus}
 use Rattle.euler_operators.specs.Model.{Model, LoopContent, lone, cycle, items_of, tail, content, outer, point_of, loop_of}
 use Rattle.euler_operators.specs.Sound.{Has, HasHalf}
-use Rattle.euler_laws.proofs.shared.Undo.{mate_plus, mate_minus}
 use Rattle.shapes.specs.Faces.{start, finish, loops_of, vertices_on, vertices_in, corners}
 use Rattle.shapes.specs.Rewriting.{rewritten}
 use Rattle.shapes.specs.Measure.{anchor, first_vertex}
 use Rattle.solid_measure_laws.proofs.FlatFaces.{are_on}
-use Rattle.solid_measure_laws.proofs.Paths.{first_in}
 use Rattle.shapes.specs.split.Crossings.{doubled, edge_cut}
 use Rattle.split_drawing_laws.proofs.crossings.Doubled.{doubled_none}
 use Rattle.split_drawing_laws.proofs.crossings.Steps.{CutGoes}
 use Rattle.split_drawing_laws.proofs.crossings.Runs.{kept_point}
-use Rattle.split_drawing_laws.proofs.cut_volumes.Corners.{all_mapped, loop_on, loops_on, item_on, item_there, item_loop, item_ends_on}
+use Rattle.split_drawing_laws.proofs.cut_volumes.Corners.{loop_on, loops_on, item_on, item_loop, item_ends_on}
 use Rattle.split_drawing_laws.proofs.cut_volumes.OneCut.{doubled_cases, other_edge, Between, keeps, plus_start, minus_start, new_plus, new_minus, other_start, content_cut, outer_stays, loops_stay}
 
 -- an item of lists that are joined stands in one of them
 from_flat : (g : ℕ → List ℕ) (x : ℕ) (hs : List ℕ) → IsIn x (flat_map g hs) → (h : ℕ) × IsIn h hs × IsIn x (g h)
 from_flat g x [] i = absurd (omega (arith, i))
 from_flat g x (h ∷ hs) i = elim (IsIn_or_not x (g h)) [
-  | inl j ↦ (h, first_in h hs, j)
+  | inl j ↦ (h, IsIn_head h hs, j)
   | inr z ↦ let r = from_flat g x hs (omega (arith, i, z, count-append x (g h) (flat_map g hs))) in (r.0, omega (arith, r.1), r.2)
 ]
 
-in_one : (x a : ℕ) → IsIn x (a ∷ []) → x ≡ a
-in_one x a i = elim (eqb_tells x a) [ inl e ↦ e.1 | inr e ↦ absurd (omega (arith, i, tick_other x a e.1)) ]
-
 in_two : (x a b : ℕ) → IsIn x (a ∷ b ∷ []) → (x ≡ a) ⊎ (x ≡ b)
-in_two x a b i = elim (eqb_tells x a) [ inl e ↦ inl e.1 | inr e ↦ inr (in_one x b (omega (arith, i, tick_other x a e.1))) ]
+in_two x a b i = elim (eqb_tells x a) [ inl e ↦ inl e.1 | inr e ↦ inr (IsIn_one b x (omega (arith, i, tick_other x a e.1))) ]
 
 module _ (M : Model) (e k v : ℕ) (q : Point) (goes : CutGoes M e k v q) where
   abbrev K : Model
@@ -64,7 +62,7 @@ module _ (M : Model) (e k v : ℕ) (q : Point) (goes : CutGoes M e k v q) where
       | inl c ↦ at_plus x (ap (λ y. is_on r (start M y)) (sym c.0) ∙ on_start) (ap (λ y. is_on r (finish M y)) (sym c.0) ∙ on_finish) (in_two x (plus k) (plus e) (subst (IsIn x) c.1 i))
       | inr c ↦ elim c [
         | inl d ↦ at_minus x (ap (λ y. is_on r (start M y)) (sym d.0) ∙ on_start) (ap (λ y. is_on r (finish M y)) (sym d.0) ∙ on_finish) (in_two x (minus e) (minus k) (subst (IsIn x) d.1 i))
-        | inr d ↦ ap (is_on r) (ap (start K) (in_one x h (subst (IsIn x) d.2 i)) ∙ other_start M e k v q goes h there (other_edge e h d.0 d.1)) ∙ on_start
+        | inr d ↦ ap (is_on r) (ap (start K) (IsIn_one h x (subst (IsIn x) d.2 i)) ∙ other_start M e k v q goes h there (other_edge e h d.0 d.1)) ∙ on_start
       ]
     ]
 
@@ -106,7 +104,7 @@ module _ (M : Model) (e k v : ℕ) (q : Point) (goes : CutGoes M e k v q) where
     first_stays : (c : LoopContent) → content M l ≡ c → point_of K (first_vertex K (rewritten (flat_map (doubled e k)) c)) ≡ point_of M (first_vertex M c)
     first_stays (lone n) is = kept_point M K (keeps M e k v q goes) n (goes.can.sound.lone_at_vertex l n is)
     first_stays (cycle []) is = absurd ((goes.can.sound.cycles l [] (goes.can.sound.outers_there f there).0 is).some_item refl)
-    first_stays (cycle (h ∷ hs)) is = ap (λ c. point_of K (first_vertex K c)) (same_list (h ∷ hs) is) ∙ first_start h (subst (λ c. IsIn h (items_of c)) (sym is) (first_in h hs))
+    first_stays (cycle (h ∷ hs)) is = ap (λ c. point_of K (first_vertex K c)) (same_list (h ∷ hs) is) ∙ first_start h (subst (λ c. IsIn h (items_of c)) (sym is) (IsIn_head h hs))
 
     pub anchor_stays : anchor (edge_cut M e k v q) f ≡ anchor M f
     anchor_stays = ap (λ n. point_of K (first_vertex K (content K n))) (outer_stays M e k v q goes f) ∙ ap (λ c. point_of K (first_vertex K c)) (content_cut M e k v q goes l) ∙ first_stays (content M l) refl

@@ -9,8 +9,8 @@ use Rattle.euler_operators.specs.HalfEdge.{plus, minus}
 use Rattle.euler_operators.specs.Table as table
 use Rattle.euler_operators.specs.Model.{Model, loop_of, face_of, solid_of, outer}
 use Rattle.euler_operators.specs.Sound.{Sound, Has, HasHalf}
-use Rattle.euler_operators.proofs.Halves.{plus_row, minus_row}
-use Rattle.euler_laws.proofs.shared.Undo.{mate_plus}
+use Rattle.euler_operators.proofs.Halves.{plus_row, minus_row, mate_plus}
+use Rattle.euler_operators.proofs.Rotations.{IsIn_head}
 use Rattle.euler_operators.specs.Conditions.{face_at}
 use Rattle.shapes.specs.Faces.{start, finish}
 use Rattle.shapes.specs.Fresh.{Growing}
@@ -50,11 +50,8 @@ module _ (M : Model) (p : Plane) (s : ℕ) (sound : Sound M) (g : Growing) (ds :
   abbrev N : Model
   N = g.model
 
-  here : IsIn e (e ∷ rs)
-  here = omega (arith, tick_same e)
-
   crossing : Crossing M p e
-  crossing = w.crossing e here
+  crossing = w.crossing e (IsIn_head e rs)
 
   plus_half : HasHalf M (plus e)
   plus_half = ap (table.has M.edges) (plus_row e).0 ∙ crossing.there
@@ -75,7 +72,7 @@ module _ (M : Model) (p : Plane) (s : ℕ) (sound : Sound M) (g : Growing) (ds :
   opposite_now = (λ i. are_opposite p (same_start i) (same_finish i)) ∙ crossing.crossing
 
   whole_now : cuts_lattice p (start N (plus e)) (finish N (plus e)) ≡ true
-  whole_now = (λ i. cuts_lattice p (same_start i) (same_finish i)) ∙ o.whole e here
+  whole_now = (λ i. cuts_lattice p (same_start i) (same_finish i)) ∙ o.whole e (IsIn_head e rs)
 
   between : Between (start N (plus e)) (finish N (plus e)) (cut_at N p e)
   between = record {
@@ -84,7 +81,7 @@ module _ (M : Model) (p : Plane) (s : ℕ) (sound : Sound M) (g : Growing) (ds :
   }
 
   of_s_now : solid_of N (face_at N (plus e)) ≡ s
-  of_s_now = solid_stays M N w.cut.kept.faces (face_at N (plus e)) ∙ ap (solid_of M) (ap (face_of N) (w.cut.kept.loop (plus e) plus_half) ∙ w.cut.kept.face (loop_of M (plus e))) ∙ o.of_s e here
+  of_s_now = solid_stays M N w.cut.kept.faces (face_at N (plus e)) ∙ ap (solid_of M) (ap (face_of N) (w.cut.kept.loop (plus e) plus_half) ∙ w.cut.kept.face (loop_of M (plus e))) ∙ o.of_s e (IsIn_head e rs)
 
   pub next_measured : Measured g.model (next_cut p g e).model s
   next_measured = subst (λ X. Measured g.model X s) (sym (next_model M p sound g ds e rs w))

@@ -1,21 +1,22 @@
 -- All edges of a solid that cross a plane cut: from the first conditions of a split to normals, planes and volumes.
 use Rattle.std.proofs.Common.{◌≡◌, ℕ, true, not, ◌&&◌, [], None}
+use Rattle.std.proofs.lemmas.Bool.{and_parts, not-false, eqb-true}
 use Rattle.euler_operators.specs.declared.Plane.{Plane}
 use Rattle.euler_operators.specs.Vectors.{origin, same_point, direction}
 use Rattle.euler_operators.specs.Items.{IsIn}
 use Rattle.euler_operators.specs.Model.{Model, solid_of, faces_of}
 use Rattle.euler_operators.specs.Sound.{Sound, Has}
 use Rattle.euler_operators.specs.Conditions.{AllHold, first_refusal, lists}
-use Rattle.euler_laws.proofs.shared.Goes.{all_hold, equal, not_back, no_zero}
+use Rattle.euler_laws.proofs.shared.Goes.{all_hold, no_zero}
+use Rattle.euler_laws.proofs.shared.Listed.{IsIn-from_listed}
 use Rattle.shapes.proofs.fresh.Tests.{none_such}
 use Rattle.shapes.specs.Faces.{corners}
 use Rattle.shapes.specs.Fresh.{first_such, growing}
 use Rattle.shapes.specs.Measure.{normal, plane_of, is_plane_of, is_flat, six_volume}
-use Rattle.solid_measure_laws.proofs.FlatFaces.{and_parts, are_on}
+use Rattle.solid_measure_laws.proofs.FlatFaces.{are_on}
 use Rattle.shapes.specs.split.Sides.{crossing_edges}
 use Rattle.shapes.specs.split.Crossings.{with_crossings}
 use Rattle.shapes.specs.split.Split.{first_conditions}
-use Rattle.euler_laws.proofs.shared.Counted.{listed_in}
 use Rattle.split_drawing_laws.proofs.crossings.Listed.{none_at, all_not_zero}
 use Rattle.split_drawing_laws.proofs.crossings.Premises.{Cuttable, edge_facts}
 use Rattle.split_drawing_laws.proofs.crossings.Whole.{can_cut, begins, crossings_sound}
@@ -28,10 +29,10 @@ module _ (M : Model) (s : ℕ) (p : Plane) (t : ℕ) (sound : Sound M) (accepted
 
   none_bent : AllHold (first_conditions M s p t) → first_such (λ f. not (is_flat M f)) (faces_of M s) ≡ 0
   unfolding first_conditions
-  none_bent hold = equal (first_such (λ f. not (is_flat M f)) (faces_of M s)) 0 hold.1.1.1.1.1.1.1.1.1.1.0
+  none_bent hold = eqb-true (first_such (λ f. not (is_flat M f)) (faces_of M s)) 0 hold.1.1.1.1.1.1.1.1.1.1.0
 
   listed_flat : (f : ℕ) → IsIn f (faces_of M s) → is_flat M f ≡ true
-  listed_flat f i = not_back (is_flat M f) (none_at (λ g. not (is_flat M g)) f (faces_of M s)
+  listed_flat f i = not-false (is_flat M f) (none_at (λ g. not (is_flat M g)) f (faces_of M s)
       (none_such (λ g. not (is_flat M g)) (faces_of M s) (all_not_zero (faces_of M s) (λ g j z. no_zero g z (sound.faces_fit g (solid_facts M s g j).0))) (none_bent (all_hold (first_conditions M s p t) accepted))) i)
 
   pub all_flat : (f : ℕ) → Has M.faces f → solid_of M f ≡ s → is_flat M f ≡ true
@@ -59,7 +60,7 @@ module _ (M : Model) (s : ℕ) (p : Plane) (t : ℕ) (sound : Sound M) (accepted
 
   pub crossings_flat : (f : ℕ) → lists (faces_of M s) f ≡ true → (is_flat (with_crossings M s p).model f ≡ true) × (plane_of (with_crossings M s p).model f ≡ plane_of M f)
   crossings_flat f l =
-      let i : IsIn f (faces_of M s) = listed_in f (faces_of M s) l in
+      let i : IsIn f (faces_of M s) = IsIn-from_listed f (faces_of M s) l in
       let there : Has M.faces f = (solid_facts M s f i).0 in (
         flat_still M (with_crossings M s p).model s (crossings_sound M s p t sound accepted) crossings_measured f there (listed_flat f i),
         same_plane M (with_crossings M s p).model s (crossings_sound M s p t sound accepted) crossings_measured f there (listed_flat f i),

@@ -7,28 +7,27 @@ use Rattle.euler_operators.specs.declared.Plane.{Plane}
 use Rattle.euler_operators.specs.Vectors.{origin, moved, cross, is_on}
 use Rattle.euler_operators.specs.Items.{IsIn}
 use Rattle.euler_operators.specs.Rings.{rotate_to, canonical}
-use Rattle.euler_operators.proofs.Rotations.{count-canonical}
+use Rattle.euler_operators.proofs.Rotations.{count-canonical, IsIn_head}
 use Rattle.euler_operators.specs.HalfEdge.{mate, edge_of, plus, minus}
 use Rattle.euler_operators.specs.Model.{Model, LoopContent, lone, cycle, no_face, items_of, tail, content, outer, point_of, rings_of}
 use Rattle.euler_operators.specs.Sound.{HasHalf}
 use Rattle.euler_operators.specs.Table as table
-use Rattle.euler_operators.proofs.Halves.{plus_row, same_edge, edge_of-mate}
-use Rattle.euler_laws.proofs.shared.Fans.{half_mate}
+use Rattle.euler_operators.proofs.Halves.{plus_row, same_edge, edge_of-mate, mate_plus, mate_minus}
+use Rattle.euler_operators.proofs.Members.{IsIn_rest}
+use Rattle.euler_operators.proofs.Models.{item_there, mate_there}
 use Rattle.euler_laws.proofs.shared.Same.{Rewritten, content-new}
-use Rattle.euler_laws.proofs.shared.Undo.{mate_plus, mate_minus}
 use Rattle.shapes.specs.Faces.{start, finish, loops_of, items_in, boundary}
 use Rattle.shapes.specs.Rewriting.{rewritten, rewritten_row}
 use Rattle.shapes.specs.Measure.{area, normal}
 use Rattle.shapes.proofs.Areas.{area-append, moved_nothing, moved_turned}
 use Rattle.solid_measure_laws.specs.Vectors.{negated}
-use Rattle.solid_measure_laws.proofs.Paths.{first_in, rest_in}
 use Rattle.solid_measure_laws.proofs.Sums.{area_same, cross_back, moved_back}
 use Rattle.shapes.specs.split.Crossings.{doubled, edge_cut}
 use Rattle.split_drawing_laws.specs.crossings.Kept.{Kept}
 use Rattle.split_drawing_laws.proofs.crossings.OneCut.{plus_there, minus_there}
 use Rattle.split_drawing_laws.proofs.crossings.Steps.{CutGoes, cut_sound, cut_keeps, point_new, tail_old, tail_new, tail_other}
 use Rattle.split_drawing_laws.proofs.crossings.Runs.{kept_point}
-use Rattle.split_drawing_laws.proofs.cut_volumes.Corners.{item_there, same_rings}
+use Rattle.split_drawing_laws.proofs.cut_volumes.Corners.{same_rings}
 
 -- what an item of a loop becomes
 pub doubled_cases : (e k h : ℕ) → ((h ≡ plus e) × (doubled e k h ≡ plus k ∷ plus e ∷ []))
@@ -97,7 +96,7 @@ module _ (M : Model) (e k v : ℕ) (q : Point) (goes : CutGoes M e k v q) where
   other_start h there ne = at_old h h there (tail_other M e k v q goes h there ne)
 
   other_finish : (h : ℕ) → HasHalf M h → edge_of h ≢ e → finish K h ≡ finish M h
-  other_finish h there ne = other_start (mate h) (half_mate M goes.can.sound h there) (λ s. ne (sym (edge_of-mate h) ∙ s))
+  other_finish h there ne = other_start (mate h) (mate_there M h there) (λ s. ne (sym (edge_of-mate h) ∙ s))
 
   -- ---- loops
 
@@ -160,7 +159,7 @@ module _ (M : Model) (e k v : ℕ) (q : Point) (goes : CutGoes M e k v q) where
 
     list_area : (hs : List ℕ) → ((h : ℕ) → IsIn h hs → HasHalf M h) → area K (flat_map (doubled e k) hs) ≡ area M hs
     list_area [] there = refl
-    list_area (h ∷ hs) there = area-append K (doubled e k h) (flat_map (doubled e k) hs) ∙ (λ i. moved (doubled_area h (there h (first_in h hs)) i) (list_area hs (λ x j. there x (rest_in x h hs j)) i))
+    list_area (h ∷ hs) there = area-append K (doubled e k h) (flat_map (doubled e k) hs) ∙ (λ i. moved (doubled_area h (there h (IsIn_head h hs)) i) (list_area hs (λ x j. there x (IsIn_rest x h hs j)) i))
 
     content_area : (c : LoopContent) → ((h : ℕ) → IsIn h (items_of c) → HasHalf M h) → area K (items_of (rewritten (flat_map (doubled e k)) c)) ≡ area M (items_of c)
     content_area (lone n) there = refl

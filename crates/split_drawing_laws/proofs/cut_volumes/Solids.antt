@@ -1,34 +1,33 @@
 -- The faces of a solid, and sums over them.
-use Rattle.std.proofs.Common.{◌≡◌, ◌≢◌, ℕ, ◌≤◌, ℤ, pos, ◌+ℤ◌, nat_eq, List, [], ◌∷◌, ◌++◌, Some, is_some, unwrap_or, refl, sym, ap, ◌∙◌, arith, inl, inr}
+use Rattle.std.proofs.Common.{◌≡◌, ◌≢◌, ℕ, ◌≤◌, ℤ, pos, ◌+ℤ◌, nat_eq, List, [], ◌∷◌, ◌++◌, is_some, refl, sym, ap, ◌∙◌, arith, inl, inr}
 use Rattle.std.proofs.lemmas.Int.{ints}
 use Rattle.std.proofs.lemmas.Bool.Decides.{eqb_tells}
+use Rattle.std.proofs.lemmas.Bool.{eq-eqb, eqb-true}
 use Rattle.euler_operators.specs.Vectors.{dot}
 use Rattle.euler_operators.specs.Items.{count, tick, IsIn, SameItems, before, after}
-use Rattle.euler_operators.proofs.Lists.{count-append, tick_same, tick_other, split_at, IsIn_or_not}
+use Rattle.euler_operators.proofs.Lists.{tick_same, tick_other, split_at, IsIn_or_not}
+use Rattle.euler_operators.proofs.Members.{IsIn_rest, count_taken}
+use Rattle.euler_operators.proofs.Rotations.{IsIn_head}
+use Rattle.euler_operators.proofs.Models.{solid_row, same_solid}
+use Rattle.euler_operators.proofs.Vectors.{add_exchanged}
 use Rattle.euler_operators.specs.Table as table
-use Rattle.euler_operators.specs.Model.{Model, FaceRow, no_face, solid_of, faces_of}
+use Rattle.euler_operators.specs.Model.{Model, solid_of, faces_of}
 use Rattle.euler_operators.specs.Sound.{Has}
-use Rattle.euler_laws.proofs.shared.Goes.{equal, equals}
 use Rattle.euler_laws.proofs.shared.Listed.{all_where-rises}
 use Rattle.euler_laws.proofs.shared.Rows.{face_there, no_items}
-use Rattle.euler_laws.proofs.shared.Counted.{counted_once, all_where_has, all_where_in}
 use Rattle.shapes.specs.Measure.{normal, anchor, volume_in, six_volume}
-use Rattle.solid_measure_laws.proofs.Paths.{first_in, rest_in}
+use Rattle.euler_laws.proofs.shared.Counted.{counted_once, all_where_has, all_where_in}
 
 -- ---- the faces of a solid
-
-solid_row : (M : Model) (f : ℕ) (row : FaceRow) → table.get M.faces f ≡ Some row → solid_of M f ≡ row.solid
-unfolding solid_of
-solid_row M f row e = ap (λ o. (unwrap_or o no_face).solid) e
 
 pub solid_facts : (M : Model) (u f : ℕ) → IsIn f (faces_of M u) → Has M.faces f × (solid_of M f ≡ u)
 solid_facts M u f i =
     let r = all_where_has (λ _ row. nat_eq row.solid u) M.faces f i in
     let there : Has M.faces f = ap is_some r.1 in
-    (there, solid_row M f r.0 r.1 ∙ equal r.0.solid u r.2)
+    (there, solid_row M f r.0 r.1 ∙ eqb-true r.0.solid u r.2)
 
 pub in_solid : (M : Model) (f u : ℕ) → Has M.faces f → solid_of M f ≡ u → IsIn f (faces_of M u)
-in_solid M f u there of_u = all_where_in (λ _ row. nat_eq row.solid u) M.faces f _ (face_there M f there) (equals (solid_of M f) u of_u)
+in_solid M f u there of_u = all_where_in (λ _ row. nat_eq row.solid u) M.faces f _ (face_there M f there) (eq-eqb (solid_of M f) u of_u)
 
 pub counted : (M : Model) (u f : ℕ) → count f (faces_of M u) ≤ 1
 counted M u f = counted_once f (faces_of M u) (all_where-rises (λ _ row. nat_eq row.solid u) M.faces)
@@ -38,11 +37,6 @@ counted_in M f u there of_u = omega (arith, in_solid M f u there of_u, counted M
 
 pub counted_out : (M : Model) (f u : ℕ) → (Has M.faces f → solid_of M f ≢ u) → count f (faces_of M u) ≡ 0
 counted_out M f u never = elim (IsIn_or_not f (faces_of M u)) [ inl i ↦ let w = solid_facts M u f i in absurd (never w.0 w.1) | inr z ↦ z ]
-
--- a face whose row stays is of the same solid
-pub same_solid : (N K : Model) (f : ℕ) → table.get K.faces f ≡ table.get N.faces f → solid_of K f ≡ solid_of N f
-unfolding solid_of
-same_solid N K f e = ap (λ o. (unwrap_or o no_face).solid) e
 
 pub same_count : (M N : Model) (u f : ℕ) → table.get N.faces f ≡ table.get M.faces f → count f (faces_of N u) ≡ count f (faces_of M u)
 same_count M N u f e = elim (IsIn_or_not f (faces_of M u)) [
@@ -72,7 +66,7 @@ six_is M u = volume_is M (faces_of M u)
 
 pub unchanged : (w z : ℕ → ℤ) (fs : List ℕ) → ((f : ℕ) → IsIn f fs → w f ≡ z f) → total w fs ≡ total z fs
 unchanged w z [] each = refl
-unchanged w z (f ∷ fs) each = λ i. each f (first_in f fs) i +ℤ unchanged w z fs (λ g j. each g (rest_in g f fs j)) i
+unchanged w z (f ∷ fs) each = λ i. each f (IsIn_head f fs) i +ℤ unchanged w z fs (λ g j. each g (IsIn_rest g f fs j)) i
 
 -- where one number changes by x, so does the sum
 pub changed_one : (w z : ℕ → ℤ) (k : ℕ) (x : ℤ) → w k ≡ z k +ℤ x → (fs : List ℕ) → ((f : ℕ) → IsIn f fs → f ≢ k → w f ≡ z f) → count k fs ≡ 1 → total w fs ≡ total z fs +ℤ x
@@ -81,11 +75,11 @@ changed_one w z k x e (f ∷ fs) each one = elim (eqb_tells f k) [
   | inl s ↦
       let here : w f ≡ z f +ℤ x = ap w s.1 ∙ e ∙ ap (λ q. z q +ℤ x) (sym s.1) in
       let gone : count k fs ≡ 0 = let t : tick k f ≡ 1 = ap (tick k) s.1 ∙ tick_same k in omega (arith, one, t) in
-      let rest : total w fs ≡ total z fs = unchanged w z fs (λ g j. each g (rest_in g f fs j) (λ q. absurd (omega (arith, gone, ap (λ y. count y fs) (sym q), j)))) in
+      let rest : total w fs ≡ total z fs = unchanged w z fs (λ g j. each g (IsIn_rest g f fs j) (λ q. absurd (omega (arith, gone, ap (λ y. count y fs) (sym q), j)))) in
       (λ i. here i +ℤ rest i) ∙ over (z f) x (total z fs)
   | inr s ↦
-      let more : total w fs ≡ total z fs +ℤ x = changed_one w z k x e fs (λ g j. each g (rest_in g f fs j)) (omega (arith, one, tick_other k f (λ q. s.1 (sym q)))) in
-      (λ i. each f (first_in f fs) s.1 i +ℤ more i) ∙ along (z f) (total z fs) x
+      let more : total w fs ≡ total z fs +ℤ x = changed_one w z k x e fs (λ g j. each g (IsIn_rest g f fs j)) (omega (arith, one, tick_other k f (λ q. s.1 (sym q)))) in
+      (λ i. each f (IsIn_head f fs) s.1 i +ℤ more i) ∙ along (z f) (total z fs) x
 ] where
   over : (a b c : ℤ) → (a +ℤ b) +ℤ c ≡ (a +ℤ c) +ℤ b
   over a b c = omega (arith, ints)
@@ -103,17 +97,11 @@ total_append w (x ∷ xs) ys = ap (λ v. w x +ℤ v) (total_append w xs ys) ∙ 
   along : (a b c : ℤ) → a +ℤ (b +ℤ c) ≡ (a +ℤ b) +ℤ c
   along a b c = omega (arith, ints)
 
-exchanged : (a b c : ℤ) → a +ℤ (b +ℤ c) ≡ b +ℤ (a +ℤ c)
-exchanged a b c = omega (arith, ints)
-
-taken : (x y : ℕ) (xs ys : List ℕ) → SameItems (x ∷ xs) ys → ys ≡ before x ys ++ x ∷ after x ys → count y xs ≡ count y (before x ys ++ after x ys)
-taken x y xs ys s e = omega (arith, s y, ap (count y) e, count-append y (before x ys) (x ∷ after x ys), count-append y (before x ys) (after x ys))
-
 pub total_same : (w : ℕ → ℤ) (xs ys : List ℕ) → SameItems xs ys → total w xs ≡ total w ys
 total_same w [] ys s = ap (total w) (sym (no_items ys (λ x. sym (s x))))
 total_same w (x ∷ xs) ys s =
     let i : IsIn x ys = omega (arith, s x, tick_same x) in
     let e = split_at x ys i in
-    ap (λ v. w x +ℤ v) (total_same w xs (before x ys ++ after x ys) (λ y. taken x y xs ys s e) ∙ total_append w (before x ys) (after x ys))
-    ∙ exchanged (w x) (total w (before x ys)) (total w (after x ys))
+    ap (λ v. w x +ℤ v) (total_same w xs (before x ys ++ after x ys) (λ y. count_taken x y xs ys s e) ∙ total_append w (before x ys) (after x ys))
+    ∙ add_exchanged (w x) (total w (before x ys)) (total w (after x ys))
     ∙ sym (ap (total w) e ∙ total_append w (before x ys) (x ∷ after x ys))

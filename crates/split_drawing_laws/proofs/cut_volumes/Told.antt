@@ -1,6 +1,7 @@
 -- Faces on one plane: what they add to the six volumes, told from any corner.
 use Rattle.std.proofs.Common.{◌≡◌, ◌≢◌, ℕ, ◌+ℤ◌, neg_ℤ, true, not, nat_eq, ◌&&◌, List, [], ◌∷◌, unwrap_or, refl, sym, ap, ◌∙◌, subst, inl, inr}
 use Rattle.std.proofs.lemmas.Bool.Decides.{eqb_tells}
+use Rattle.std.proofs.lemmas.Bool.{and_parts}
 use Rattle.euler_operators.specs.declared.Plane.{Plane}
 use Rattle.euler_operators.specs.Vectors.{origin, dot, same_point, direction}
 use Rattle.euler_operators.specs.Items.{IsIn}
@@ -9,9 +10,10 @@ use Rattle.euler_operators.specs.Model.{Model, no_face, solid_of, faces_of}
 use Rattle.euler_operators.specs.Sound.{Sound, Has}
 use Rattle.shapes.specs.Faces.{corners}
 use Rattle.shapes.specs.Measure.{normal, anchor, plane_through, plane_of, is_flat, volume_in, six_volume}
-use Rattle.solid_measure_laws.proofs.FlatFaces.{and_parts, are_on, anchor_on, plane_told}
-use Rattle.solid_measure_laws.proofs.Paths.{first_in, rest_in}
+use Rattle.solid_measure_laws.proofs.FlatFaces.{are_on, anchor_on, plane_told}
 use Rattle.euler_operators.proofs.Vectors.{dot_turned}
+use Rattle.euler_operators.proofs.Members.{IsIn_rest}
+use Rattle.euler_operators.proofs.Rotations.{IsIn_head}
 
 -- N is M with its faces, their normals, the planes on which their corners lie, and the anchors of the faces of other solids than s
 pub record Measured (M N : Model) (s : ℕ) : Type 0 where
@@ -40,7 +42,7 @@ measured_on M N K s a b = record {
 module _ (M N : Model) where
   pub volumes_stay : (fs : List ℕ) → ((f : ℕ) → IsIn f fs → dot (anchor N f) (normal N f) ≡ dot (anchor M f) (normal M f)) → volume_in N fs ≡ volume_in M fs
   volumes_stay [] each = refl
-  volumes_stay (f ∷ fs) each = λ i. each f (first_in f fs) i +ℤ volumes_stay fs (λ g j. each g (rest_in g f fs j)) i
+  volumes_stay (f ∷ fs) each = λ i. each f (IsIn_head f fs) i +ℤ volumes_stay fs (λ g j. each g (IsIn_rest g f fs j)) i
 
 -- the corners of a flat face lie on its plane
 pub flat_on : (M : Model) (f : ℕ) → is_flat M f ≡ true → (not (same_point (direction (plane_of M f)) origin) ≡ true) × (are_on M (plane_of M f) (corners M f) ≡ true)

@@ -1,20 +1,20 @@
 -- What is asked of a drawing: fresh numbers, how many pairs there are, and that no face is drawn twice.
-use Rattle.std.proofs.Common.{◌≡◌, ℕ, suc, ◌+◌, ◌/◌, true, false, cond, nat_eq, List, [], ◌∷◌, length, refl, ap, ◌∙◌, arith}
+use Rattle.std.proofs.Common.{◌≡◌, ℕ, suc, ◌+◌, ◌/◌, nat_eq, List, [], ◌∷◌, length, refl, ap, ◌∙◌, arith}
 use Rattle.std.specs.Prelude.{map}
 use Rattle.euler_operators.specs.declared.Plane.{Plane}
-use Rattle.euler_operators.specs.Vectors.{lex_less}
 use Rattle.euler_operators.specs.Items.{IsApart}
 use Rattle.euler_operators.specs.Model.{Model, faces_of}
+use Rattle.euler_operators.proofs.Members.{count-filter}
 use Rattle.euler_laws.proofs.shared.Listed.{all_where-rises}
 use Rattle.shapes.proofs.fresh.Rows.{none_above}
 use Rattle.euler_laws.proofs.shared.Counted.{counted_once}
 use Rattle.shapes.specs.Fresh.{taken_in}
 use Rattle.shapes.specs.split.Sides.{straddles, straddling_faces}
-use Rattle.shapes.specs.split.Places.{places, place_point, sorted_in, sorted, in_pairs, sorted_pairs, up_first, place_pairs, pair_count}
+use Rattle.shapes.specs.split.Places.{places, sorted, in_pairs, sorted_pairs, up_first, place_pairs, pair_count}
 use Rattle.shapes.specs.split.Drawing.{from_place, drawn_pairs}
 use Rattle.split_drawing_laws.specs.drawings.DrawnIn.{Fresh}
 use Rattle.split_drawing_laws.specs.drawings.Pairs.{pairs_in}
-use Rattle.split_drawing_laws.proofs.drawings.Rings.{count-filter}
+use Rattle.split_drawing_laws.proofs.pairs.Sorted.{length-sorted}
 
 -- above the greatest numbers in use all are free
 pub fresh_taken : (M : Model) → Fresh M (taken_in M)
@@ -29,17 +29,6 @@ length_map : {X Y : Type 0} (g : X → Y) (xs : List X) → length (map g xs) �
 length_map g [] = refl
 length_map g (x ∷ xs) = ap suc (length_map g xs)
 
-length_sorted_in : (M : Model) (p : Plane) (h : ℕ) (ks : List ℕ) → length (sorted_in M p h ks) ≡ suc (length ks)
-length_sorted_in M p h [] = refl
-length_sorted_in M p h (k ∷ ks) = elim (lex_less (place_point M p k) (place_point M p h)) as (λ b. length (cond b (k ∷ sorted_in M p h ks) (h ∷ k ∷ ks)) ≡ suc (suc (length ks))) [
-  | true ↦ ap suc (length_sorted_in M p h ks)
-  | false ↦ refl
-]
-
-length_sorted : (M : Model) (p : Plane) (hs : List ℕ) → length (sorted M p hs) ≡ length hs
-length_sorted M p [] = refl
-length_sorted M p (h ∷ hs) = length_sorted_in M p h (sorted M p hs) ∙ ap suc (length_sorted M p hs)
-
 length_in_pairs : (hs : List ℕ) → length (in_pairs hs) ≡ length hs / 2
 length_in_pairs [] = omega arith
 length_in_pairs (h ∷ []) = omega arith
@@ -50,7 +39,7 @@ unfolding drawn_pairs place_pairs sorted_pairs
 pairs_of M N p f = length_map (λ q. (from_place N p q.0, from_place N p q.1)) (map (up_first M p) (in_pairs (sorted M p (places M p f))))
     ∙ length_map (up_first M p) (in_pairs (sorted M p (places M p f)))
     ∙ length_in_pairs (sorted M p (places M p f))
-    ∙ ap (λ n. n / 2) (length_sorted M p (places M p f))
+    ∙ ap (λ n. n / 2) (length-sorted M p (places M p f))
 
 -- as many pairs are drawn as a split counts
 pub pairs_counted : (M N : Model) (p : Plane) (fs : List ℕ) → pairs_in M N p fs ≡ pair_count M p fs

@@ -1,5 +1,5 @@
 -- What is drawn in a face is what the operators make, and none of them is refused.
-use Rattle.std.proofs.Common.{◌≡◌, ◌≢◌, ℕ, cond, List, ◌∷◌, None, is_some, IsTrue, refl, sym, ap, ◌∙◌, subst, arith}
+use Rattle.std.proofs.Common.{◌≡◌, ◌≢◌, ℕ, List, ◌∷◌, Some, None, is_some, IsTrue, refl, sym, ap, ◌∙◌, subst, arith}
 use Rattle.std.proofs.lemmas.Bool.Decides.{nat_tests}
 use Rattle.euler_operators.specs.Rings.{rotate_to}
 use Rattle.euler_operators.specs.Operators.{mef_old, mef_new, mekr_ring}
@@ -10,13 +10,13 @@ use Rattle.euler_operators.specs.Table as table
 use Rattle.euler_operators.specs.Table.{Table, tables, same_table}
 use Rattle.euler_operators.specs.Model.{Model, LoopRow, cycle, tail, loop_of, cycle_of, solid_of, outer, is_number}
 use Rattle.euler_operators.specs.Sound.{Sound, HasHalf}
-use Rattle.euler_operators.proofs.Halves.{plus_row, code-half, edge_of-code}
+use Rattle.euler_operators.proofs.Halves.{plus_row, code-half, edge_of-code, mate_plus}
 use Rattle.euler_operators.proofs.Models.{row_of}
 use Rattle.euler_operators.specs.Conditions.{first_false, face_at}
-use Rattle.euler_operators.specs.Effect.{effect, mef, mekr, ring_in, edge_row}
+use Rattle.euler_operators.specs.Effect.{effect, mef, mekr, ring_in}
 use Rattle.euler_operators.specs.declared.Op.TheVariants.{RingIn}
-use Rattle.euler_laws.proofs.shared.Undo.{mate_plus}
-use Rattle.euler_laws.proofs.shared.Rows.{of_half}
+use Rattle.euler_operators.proofs.Tables.{get-put_here, get-put_other}
+use Rattle.euler_laws.proofs.shared.Rows.{of_half, edge_row_plus}
 use Rattle.euler_laws.proofs.mef.MefUndo.{loops-mef}
 use Rattle.euler_laws.proofs.mef.MefSound.{MefGoes}
 use Rattle.euler_laws.proofs.mef.Kef.{mef_accepted}
@@ -25,8 +25,20 @@ use Rattle.euler_laws.proofs.Cases.{effect_keeps_sound}
 use Rattle.shapes.specs.split.Drawing.{face_drawn, loops_joined, with_rings}
 use Rattle.split_drawing_laws.specs.drawings.DrawingOps.{draw_edge, join_edge}
 
-row-plus : (e a b : ℕ) → edge_row (plus e) a b ≡ record { plus_tail = a; minus_tail = b }
-row-plus e a b = ap (λ t. cond t (record { plus_tail = a; minus_tail = b }) (record { plus_tail = b; minus_tail = a })) (plus_row e).1
+-- ---- the faces where an edge is drawn or two loops are joined
+
+module _ (M : Model) (u k e f l : ℕ) where
+  pub face_drawn_new : table.get (face_drawn M u k e f l).faces f ≡ Some (record { solid = solid_of M (face_at M u); outer = l })
+  unfolding face_drawn
+  face_drawn_new = get-put_here M.faces f _
+
+  pub face_drawn_else : (q : ℕ) → q ≢ f → table.get (face_drawn M u k e f l).faces q ≡ table.get M.faces q
+  unfolding face_drawn
+  face_drawn_else q a = get-put_other M.faces f _ q a
+
+pub loops_joined_faces : (M : Model) (c d e : ℕ) → (loops_joined M c d e).faces ≡ M.faces
+unfolding loops_joined
+loops_joined_faces M c d e = refl
 
 -- ---- an edge drawn between two half-edges of a loop
 
@@ -58,7 +70,7 @@ module _ (M : Model) (u k e f l : ℕ) (can : CanDraw M u k e f l) where
   mef_draws = λ i. record M {
     faces = table.put M.faces f (record { solid = solid_of M (face_at M u); outer = l });
     loops = (loops-mef M can.sound u k (plus e) f l can.u_there free_plus can.loop_free ∙ ap put_new (mate_plus e)) i;
-    edges = table.put M.edges ((plus_row e).0 i) (row-plus e (tail M u) (tail M k) i);
+    edges = table.put M.edges ((plus_row e).0 i) (edge_row_plus e (tail M u) (tail M k) i);
   }
 
   draw_goes : MefGoes M u k (plus e) f l
@@ -111,7 +123,7 @@ unfolding mekr loops_joined
 mekr_joins M c d e apart = λ i. record M {
   loops = ((λ j. table.remove (table.put M.loops (loop_of M (code c)) (record { face = face_at M (code c); content = cycle (mekr_ring (plus e) (mate_plus e j) (code c) (code d) (cycle_of M (code c)) (cycle_of M (code d))) })) (loop_of M (code d)))
       ∙ swapped M.loops (loop_of M (code c)) (loop_of M (code d)) (record { face = face_at M (code c); content = cycle (mekr_ring (plus e) (minus e) (code c) (code d) (cycle_of M (code c)) (cycle_of M (code d))) }) apart) i;
-  edges = table.put M.edges ((plus_row e).0 i) (row-plus e (tail M (code c)) (tail M (code d)) i);
+  edges = table.put M.edges ((plus_row e).0 i) (edge_row_plus e (tail M (code c)) (tail M (code d)) i);
 }
 
 module _ (M : Model) (c d e : ℕ) (can : CanJoin M c d e) where

@@ -1,19 +1,22 @@
 -- A pair joined, and a pair between which an edge is drawn.
 use Rattle.std.proofs.Common.{◌≡◌, ◌≢◌, ℕ, ◌<◌, Bool, true, false, cond, not, nat_eq, ◌&&◌, [], ◌∷◌, None, is_some, IsTrue, refl, sym, ap, ◌∙◌, subst, arith, ◌⊎◌, inl, inr, true≢false}
 use Rattle.std.proofs.lemmas.Bool.Decides.{nat_tests, eqb_tells}
+use Rattle.std.proofs.lemmas.Bool.{eqb-true, eqb-false}
 use Rattle.euler_operators.specs.Table as table
 use Rattle.euler_operators.specs.Model.{Model, tail, loop_of, face_of, outer, solid_of, is_number, is_ring_of}
 use Rattle.euler_operators.specs.Sound.{Sound, Has, HasHalf}
 use Rattle.euler_operators.proofs.Models.{row_of}
+use Rattle.euler_operators.proofs.Tables.{no_row, row_elsewhere}
 use Rattle.euler_operators.specs.Conditions.{face_at}
-use Rattle.euler_laws.proofs.shared.Goes.{free, equal, unequal}
+use Rattle.euler_laws.proofs.shared.Fans.{half_face}
+use Rattle.euler_laws.proofs.mekr.MekrSpots.{ring_is}
 use Rattle.shapes.specs.Fresh.{Taken}
 use Rattle.shapes.specs.split.Drawing.{face_drawn, loops_joined, in_one_loop, joined_pair}
 use Rattle.split_drawing_laws.specs.drawings.DrawingOps.{join_edge, join_pair, draw_edge}
 use Rattle.split_drawing_laws.specs.drawings.DrawnIn.{JoinedIn, Stays, DrawnIn, Fresh}
 use Rattle.split_drawing_laws.specs.drawings.Pairs.{Fits}
 use Rattle.split_drawing_laws.proofs.drawings.Drawn.{CanDraw, draw_accepted, draw_made, draw_sound, CanJoin, join_accepted, join_made, join_sound}
-use Rattle.split_drawing_laws.proofs.drawings.Stays.{not_free, has_face, draw_stays, draw_beside, draw_within, draw_solid, draw_has, draw_free, join_stays, join_beside, join_faces, join_free}
+use Rattle.split_drawing_laws.proofs.drawings.Stays.{draw_stays, draw_beside, draw_within, draw_solid, draw_has, draw_free, join_stays, join_beside, join_faces, join_free}
 use Rattle.split_drawing_laws.proofs.drawings.Rings.{Newer}
 use Rattle.split_drawing_laws.proofs.drawings.Runs.{Leads, leads_one}
 
@@ -41,9 +44,6 @@ joined_drawn M N f j = record {
   within = λ h there is. inl (j.faces h there ∙ is);
 }
 
-ring_inner : (b : Bool) (f o k : ℕ) → (b && nat_eq f f && not (nat_eq o k)) ≡ true → o ≢ k
-ring_inner b f o k e s = grind (arith, nat_tests)
-
 ring_outer : (b : Bool) (f o k : ℕ) → b ≡ true → (b && nat_eq f f && not (nat_eq o k)) ≡ false → o ≡ k
 ring_outer true f o k t e = grind (arith, nat_tests)
 ring_outer false f o k t e = absurd (true≢false (sym t))
@@ -68,7 +68,7 @@ module _ (M N : Model) (f : ℕ) (q : ℕ × ℕ) (e : ℕ) (joined : JoinedIn M
   tails_apart s = fits.apart (sym (joined.stays.tails q.0 fits.u_there) ∙ s ∙ joined.stays.tails q.1 fits.k_there)
 
   loops_apart : loop_of N q.0 ≢ loop_of N q.1
-  loops_apart = unequal (loop_of N q.0) (loop_of N q.1) two
+  loops_apart = eqb-false (loop_of N q.0) (loop_of N q.1) two
 
   abbrev ringed : Bool
   ringed = is_ring_of N (face_at N q.0) (loop_of N q.0)
@@ -80,7 +80,7 @@ module _ (M N : Model) (f : ℕ) (q : ℕ × ℕ) (e : ℕ) (joined : JoinedIn M
     d_there = u_there;
     loops_apart = λ s. loops_apart (sym s);
     one_face = k_face ∙ sym u_face;
-    is_ring = ring_inner (table.has N.loops (loop_of N q.0)) (face_at N q.0) (outer N (face_at N q.0)) (loop_of N q.0) r;
+    is_ring = ring_is (table.has N.loops (loop_of N q.0)) (face_at N q.0) (outer N (face_at N q.0)) (loop_of N q.0) r;
     apart = λ s. tails_apart (sym s);
     edge_free = edge_free;
     edge_fits = edge_fits;
@@ -137,11 +137,11 @@ module _ (M N : Model) (f : ℕ) (q : ℕ × ℕ) (e : ℕ) (joined : JoinedIn M
 -- ---- an edge drawn between a pair
 
 -- a face that isn't there then wasn't there before
-was_free : (M N : Model) → Stays M N → (g : ℕ) → table.get N.faces g ≡ None → table.get M.faces g ≡ None
+pub was_free : (M N : Model) → Stays M N → (g : ℕ) → table.get N.faces g ≡ None → table.get M.faces g ≡ None
 was_free M N stays g none = go (table.has M.faces g) refl where
   go : (b : Bool) → table.has M.faces g ≡ b → table.get M.faces g ≡ None
   go true e = absurd (true≢false (sym (stays.faces g e) ∙ ap is_some none))
-  go false e = free (table.get M.faces g) e
+  go false e = no_row (table.get M.faces g) e
 
 module _ (M N : Model) (f : ℕ) (q : ℕ × ℕ) (e g l : ℕ) (sound : Sound M) (drawn : DrawnIn M N f) (fits : Fits M f q) (one : in_one_loop N q ≡ true)
     (edge_free : table.get N.edges e ≡ None) (face_free : table.get N.faces g ≡ None) (loop_free : table.get N.loops l ≡ None)
@@ -154,7 +154,7 @@ module _ (M N : Model) (f : ℕ) (q : ℕ × ℕ) (e g l : ℕ) (sound : Sound M
     sound = drawn.sound;
     u_there = drawn.stays.halves q.0 fits.u_there;
     k_there = drawn.stays.halves q.1 fits.k_there;
-    one_loop = equal (loop_of N q.0) (loop_of N q.1) one;
+    one_loop = eqb-true (loop_of N q.0) (loop_of N q.1) one;
     apart = λ s. fits.apart (sym (drawn.stays.tails q.0 fits.u_there) ∙ s ∙ drawn.stays.tails q.1 fits.k_there);
     edge_free = edge_free;
     face_free = face_free;
@@ -171,7 +171,7 @@ module _ (M N : Model) (f : ℕ) (q : ℕ × ℕ) (e g l : ℕ) (sound : Sound M
   not_there : (h : ℕ) → HasHalf M h → face_at M h ≢ f → loop_of N h ≢ loop_of N q.0
   not_there h there ne s = elim (drawn.within q.0 fits.u_there fits.u_face) [
     | inl a ↦ ne (sym (drawn.beside h there ne).1 ∙ ap (face_of N) s ∙ a)
-    | inr a ↦ not_free M.faces (face_at M h) (face_at N q.0) (has_face M sound h there) a (sym (drawn.beside h there ne).1 ∙ ap (face_of N) s)
+    | inr a ↦ row_elsewhere M.faces (face_at M h) (face_at N q.0) (half_face M sound h there) a (sym (drawn.beside h there ne).1 ∙ ap (face_of N) s)
   ]
 
   in_face : (h : ℕ) → HasHalf M h → face_at M h ≡ f → face_at K h ≡ face_at N h → (face_at K h ≡ f) ⊎ (table.get M.faces (face_at K h) ≡ None)
@@ -209,7 +209,7 @@ module _ (M N : Model) (f : ℕ) (q : ℕ × ℕ) (e g l : ℕ) (sound : Sound M
   -- where nothing was drawn before, the new face is one of f's solid
   pub drawn_newer : face_at N q.0 ≡ f → Newer M (face_drawn N q.0 q.1 e g l) f g
   drawn_newer at = record {
-    old = subst (Has M.faces) fits.u_face (has_face M sound q.0 fits.u_there);
+    old = subst (Has M.faces) fits.u_face (half_face M sound q.0 fits.u_there);
     new = was_free M N drawn.stays g face_free;
     there = draw_has N q.0 q.1 e g l pair_can;
     solid = ap (solid_of K) (sym at) ∙ sym (draw_solid N q.0 q.1 e g l pair_can);

@@ -1,29 +1,31 @@
 -- Rings of a face given to a new one.
-use Rattle.std.proofs.Common.{◌≡◌, ◌≢◌, ℕ, ◌+◌, ◌≤◌, Bool, true, false, cond, not, nat_eq, ◌&&◌, List, [], ◌∷◌, None, is_some, unwrap_or, refl, sym, ap, ◌∙◌, subst, arith, inl, inr, true≢false}
+use Rattle.std.proofs.Common.{◌≡◌, ◌≢◌, ℕ, Bool, true, false, not, nat_eq, ◌&&◌, List, [], ◌∷◌, None, is_some, unwrap_or, refl, sym, ap, ◌∙◌, subst, arith, inl, inr, true≢false}
 use Rattle.std.specs.Prelude.{filter}
 use Rattle.std.proofs.lemmas.Bool.Decides.{eqb_tells}
+use Rattle.std.proofs.lemmas.Bool.{eqb-true, eqb-false}
 use Rattle.euler_operators.specs.Rings.{successor}
-use Rattle.euler_operators.specs.Items.{count, tick, IsIn, IsApart}
+use Rattle.euler_operators.specs.Items.{tick, IsIn, IsApart}
 use Rattle.euler_operators.proofs.Lists.{tick_same}
 use Rattle.euler_operators.specs.HalfEdge.{edge_of, is_first}
 use Rattle.euler_operators.specs.Table as table
 use Rattle.euler_operators.specs.Model.{Model, no_edge, holds, tail, tail_in, items_of, content, loop_of, face_of, solid_of, outer, after, rings_of}
 use Rattle.euler_operators.specs.Sound.{Sound, Has, HasHalf}
 use Rattle.euler_operators.proofs.Models.{face_row}
+use Rattle.euler_operators.proofs.Members.{count-filter}
+use Rattle.euler_operators.proofs.Tables.{no_row, row_elsewhere}
 use Rattle.euler_operators.specs.declared.Op.TheVariants.{RingIn}
 use Rattle.euler_operators.specs.Conditions.{face_at, first_false}
 use Rattle.euler_operators.specs.Effect.{effect, ring_in}
-use Rattle.euler_laws.proofs.shared.Goes.{free, taken, equal, unequal}
+use Rattle.euler_laws.proofs.shared.Goes.{taken}
 use Rattle.euler_laws.proofs.shared.Faces.{SameWalks}
-use Rattle.euler_laws.proofs.shared.Listed.{listed_passes, all_where-rises}
+use Rattle.euler_laws.proofs.shared.Listed.{listed_passes, all_where-rises, listed-from_in}
 use Rattle.euler_laws.proofs.faces.RingIn as moved
 use Rattle.euler_laws.proofs.faces.RingIn.{RingGoes, ring_in_accepted, sound-ring_in}
-use Rattle.euler_laws.proofs.shared.Counted.{in_listed, counted_once}
+use Rattle.euler_laws.proofs.shared.Counted.{counted_once}
 use Rattle.shapes.specs.Fresh.{Taken}
 use Rattle.shapes.specs.split.Drawing.{with_rings}
 use Rattle.split_drawing_laws.specs.drawings.DrawnIn.{Stays, DrawnIn, Fresh}
 use Rattle.split_drawing_laws.specs.drawings.DrawingOps.{ring_ops}
-use Rattle.split_drawing_laws.proofs.drawings.Stays.{not_free}
 use Rattle.split_drawing_laws.proofs.drawings.Runs.{Leads, leads_none, leads_one, leads_on}
 
 -- l is a ring of face f
@@ -54,7 +56,7 @@ module _ (M N : Model) (f l k : ℕ) (drawn : DrawnIn M N f) (ring : RingOf N f 
   }
 
   apart : face_of N l ≢ k
-  apart e = not_free M.faces f k newer.old newer.new (sym ring.face ∙ e)
+  apart e = row_elsewhere M.faces f k newer.old newer.new (sym ring.face ∙ e)
 
   pub move_accepted : first_false N (RingIn l k) ≡ None
   move_accepted = ring_in_accepted N l k drawn.sound goes apart
@@ -147,7 +149,7 @@ module _ (M N : Model) (f l k : ℕ) (drawn : DrawnIn M N f) (ring : RingOf N f 
   pub moved_fresh : (c : Taken) → Fresh N c → Fresh (ring_in N l k) c
   moved_fresh c w = record {
     faces = λ q above. ap (λ t. table.get t q) faces_are ∙ w.faces q above;
-    loops = λ q above. free _ (same.loops q ∙ taken _ (w.loops q above));
+    loops = λ q above. no_row _ (same.loops q ∙ taken _ (w.loops q above));
     edges = λ q above. ap (λ t. table.get t q) same.edges ∙ w.edges q above;
   }
 
@@ -183,21 +185,14 @@ rings_move M N f k (l ∷ ls) c drawn are d newer fresh =
 
 -- ---- the rings of a face, and those of them that pass a test
 
-pub count-filter : (p : ℕ → Bool) (x : ℕ) (ns : List ℕ) → count x (filter p ns) ≤ count x ns
-count-filter p x [] = omega arith
-count-filter p x (n ∷ ns) = elim (p n) as (λ b. count x (cond b (n ∷ filter p ns) (filter p ns)) ≤ tick x n + count x ns) [
-  | true ↦ omega (arith, count-filter p x ns)
-  | false ↦ omega (arith, count-filter p x ns)
-]
-
 pub rings_apart : (N : Model) (f : ℕ) (p : ℕ → Bool) → IsApart (filter p (rings_of N f))
 rings_apart N f p x = omega (arith, count-filter p x (rings_of N f), counted_once x (rings_of N f) (all_where-rises (λ l row. nat_eq row.face f && not (nat_eq (outer N f) l)) N.loops))
 
 pub rings_are : (N : Model) (f : ℕ) (p : ℕ → Bool) → AreRings N f (filter p (rings_of N f))
 rings_are N f p l i =
-    let w = listed_passes (λ k row. nat_eq row.face f && not (nat_eq (outer N f) k)) N.loops l (in_listed l (rings_of N f) (omega (arith, i, count-filter p l (rings_of N f)))) in
+    let w = listed_passes (λ k row. nat_eq row.face f && not (nat_eq (outer N f) k)) N.loops l (listed-from_in l (rings_of N f) (omega (arith, i, count-filter p l (rings_of N f)))) in
     let t = both (nat_eq w.0.face f) (nat_eq (outer N f) l) w.2 in
-    record { there = ap is_some w.1; face = face_row N l w.0 w.1 ∙ equal w.0.face f t.0; inner = unequal (outer N f) l t.1 } where
+    record { there = ap is_some w.1; face = face_row N l w.0 w.1 ∙ eqb-true w.0.face f t.0; inner = eqb-false (outer N f) l t.1 } where
       both : (a b : Bool) → (a && not b) ≡ true → (a ≡ true) × (b ≡ false)
       both true true e = absurd (true≢false (sym e))
       both true false e = (refl, refl)

@@ -1,5 +1,5 @@
 -- What stays as an edge is drawn, as two loops are joined, and as a ring is moved.
-use Rattle.std.proofs.Common.{◌≡◌, ◌≢◌, ℕ, ◌+◌, ◌≤◌, ◌<◌, List, ◌∷◌, ◌++◌, Some, None, is_some, unwrap_or, refl, sym, ap, ◌∙◌, subst, arith, ◌⊎◌, inl, inr, true≢false}
+use Rattle.std.proofs.Common.{◌≡◌, ◌≢◌, ℕ, ◌+◌, ◌≤◌, ◌<◌, List, ◌∷◌, ◌++◌, Some, None, is_some, unwrap_or, refl, sym, ap, ◌∙◌, subst, arith, ◌⊎◌, inl, inr}
 use Rattle.std.proofs.lemmas.Bool.Decides.{nat_tests, eqb_tells}
 use Rattle.euler_operators.specs.Items.{count, IsIn}
 use Rattle.euler_operators.specs.Rings.{rotate_to}
@@ -9,40 +9,22 @@ use Rattle.euler_operators.proofs.Rotations.{count-canonical, count-rotate_to}
 use Rattle.euler_operators.specs.HalfEdge.{edge_of, is_first, plus, minus}
 use Rattle.euler_operators.specs.Table as table
 use Rattle.euler_operators.specs.Table.{Table, tables}
-use Rattle.euler_operators.specs.Model.{Model, cycle, no_edge, no_loop, no_face, items_of, holds, tail, tail_in, loop_of, content, face_of, solid_of, cycle_of}
+use Rattle.euler_operators.specs.Model.{Model, cycle, no_edge, no_face, items_of, holds, tail, tail_in, loop_of, content, face_of, solid_of, cycle_of}
 use Rattle.euler_operators.specs.Sound.{Sound, Has, HasHalf}
 use Rattle.euler_operators.proofs.Halves.{plus_row, minus_row}
-use Rattle.euler_operators.proofs.Models.{content_row, face_row, tail_row, in-holds, cycle_there, row_of}
+use Rattle.euler_operators.proofs.Models.{content_row, face_row, tail_row, in-holds, cycle_there, same_content, same_face, loop_there}
+use Rattle.euler_operators.proofs.Tables.{row_elsewhere, get-put_here, get-put_other}
 use Rattle.euler_operators.specs.Conditions.{face_at}
 use Rattle.euler_laws.proofs.shared.Rows.{count-halves}
+use Rattle.euler_laws.proofs.shared.Fans.{half_face}
 use Rattle.euler_laws.proofs.mef.MefUndo.{count-mef_old, count-mef_new}
-use Rattle.shapes.proofs.fresh.Rows.{get-put_here, get-put_other}
 use Rattle.shapes.specs.split.Drawing.{face_drawn, loops_joined}
 use Rattle.split_drawing_laws.specs.drawings.DrawnIn.{Stays}
-use Rattle.split_drawing_laws.proofs.drawings.Drawn.{CanDraw, draw_sound, CanJoin, join_sound}
-
--- a number in use isn't a free one
-pub not_free : {X : Type 0} (t : Table X) (n k : ℕ) → Has t n → table.get t k ≡ None → n ≢ k
-not_free t n k there free e = true≢false (sym there ∙ ap is_some (ap (table.get t) e ∙ free))
+use Rattle.split_drawing_laws.proofs.drawings.Drawn.{CanDraw, draw_sound, CanJoin, join_sound, face_drawn_new, face_drawn_else, loops_joined_faces}
 
 -- a half-edge stands where the content says so
 pub stands_at : (N : Model) → Sound N → (x q : ℕ) (xs : List ℕ) → content N q ≡ cycle xs → IsIn x xs → loop_of N x ≡ q
 stands_at N sound x q xs e i = sound.one_loop x q (ap (holds x) e ∙ in-holds x (cycle xs) i)
-
-pub has_loop : (M : Model) → Sound M → (x : ℕ) → HasHalf M x → Has M.loops (loop_of M x)
-has_loop M sound x there = ap is_some (row_of M sound x there)
-
-pub has_face : (M : Model) → Sound M → (x : ℕ) → HasHalf M x → Has M.faces (face_at M x)
-has_face M sound x there = sound.loops_of_faces (loop_of M x) (has_loop M sound x there)
-
--- where a loop's row stays, so does what stands in it
-pub same_content : (M N : Model) (q : ℕ) → table.get N.loops q ≡ table.get M.loops q → content N q ≡ content M q
-unfolding content
-same_content M N q e = ap (λ o. (unwrap_or o no_loop).content) e
-
-same_face : (M N : Model) (q : ℕ) → table.get N.loops q ≡ table.get M.loops q → face_of N q ≡ face_of M q
-unfolding face_of
-same_face M N q e = ap (λ o. (unwrap_or o no_loop).face) e
 
 -- where the row of its loop stays, a half-edge keeps loop and face
 kept_place : (M N : Model) → Sound M → Sound N → (x : ℕ) → HasHalf M x → table.get N.loops (loop_of M x) ≡ table.get M.loops (loop_of M x) → (loop_of N x ≡ loop_of M x) × (face_at N x ≡ face_at M x)
@@ -54,7 +36,7 @@ kept_place M N sound new x there e =
 
 module _ (M N : Model) (e a b : ℕ) (is : N.edges ≡ table.put M.edges e (record { plus_tail = a; minus_tail = b })) (free : table.get M.edges e ≡ None) where
   edge_stays : (h : ℕ) → HasHalf M h → table.get N.edges (edge_of h) ≡ table.get M.edges (edge_of h)
-  edge_stays h there = ap (λ t. table.get t (edge_of h)) is ∙ get-put_other M.edges e _ (edge_of h) (not_free M.edges (edge_of h) e there free)
+  edge_stays h there = ap (λ t. table.get t (edge_of h)) is ∙ get-put_other M.edges e _ (edge_of h) (row_elsewhere M.edges (edge_of h) e there free)
 
   half_stays : (h : ℕ) → HasHalf M h → HasHalf N h
   half_stays h there = ap is_some (edge_stays h there) ∙ there
@@ -78,14 +60,11 @@ module _ (M : Model) (u k e f l : ℕ) (can : CanDraw M u k e f l) where
   abbrev N : Model
   N = face_drawn M u k e f l
 
-  abbrev r : ℕ
-  r = loop_of M u
-
   new_sound : Sound (face_drawn M u k e f l)
   new_sound = draw_sound M u k e f l can
 
   pub r_l : loop_of M u ≢ l
-  r_l = not_free M.loops (loop_of M u) l (has_loop M can.sound u can.u_there) can.loop_free
+  r_l = row_elsewhere M.loops (loop_of M u) l (loop_there M can.sound u can.u_there) can.loop_free
 
   pub row_old : table.get (face_drawn M u k e f l).loops (loop_of M u) ≡ Some (record { face = face_at M u; content = cycle (mef_old (plus e) u k (cycle_of M u)) })
   unfolding face_drawn
@@ -98,14 +77,6 @@ module _ (M : Model) (u k e f l : ℕ) (can : CanDraw M u k e f l) where
   pub row_else : (q : ℕ) → q ≢ loop_of M u → q ≢ l → table.get (face_drawn M u k e f l).loops q ≡ table.get M.loops q
   unfolding face_drawn
   row_else q a b = get-put_other _ l _ q b ∙ get-put_other M.loops (loop_of M u) _ q a
-
-  face_new : table.get (face_drawn M u k e f l).faces f ≡ Some (record { solid = solid_of M (face_at M u); outer = l })
-  unfolding face_drawn
-  face_new = get-put_here M.faces f _
-
-  face_else : (q : ℕ) → q ≢ f → table.get (face_drawn M u k e f l).faces q ≡ table.get M.faces q
-  unfolding face_drawn
-  face_else q a = get-put_other M.faces f _ q a
 
   pub edges_are : (face_drawn M u k e f l).edges ≡ table.put M.edges e (record { plus_tail = tail M u; minus_tail = tail M k })
   unfolding face_drawn
@@ -120,7 +91,7 @@ module _ (M : Model) (u k e f l : ℕ) (can : CanDraw M u k e f l) where
     halves = half_stays M N e (tail M u) (tail M k) edges_are can.edge_free;
     tails = tail_stays M N e (tail M u) (tail M k) edges_are can.edge_free;
     vertices = vertices_are;
-    faces = λ g there. ap is_some (face_else g (not_free M.faces g f there can.face_free)) ∙ there;
+    faces = λ g there. ap is_some (face_drawn_else M u k e f l g (row_elsewhere M.faces g f there can.face_free)) ∙ there;
   }
 
   pub draw_tails : (tail (face_drawn M u k e f l) (plus e) ≡ tail M u) × (tail (face_drawn M u k e f l) (minus e) ≡ tail M k)
@@ -128,7 +99,7 @@ module _ (M : Model) (u k e f l : ℕ) (can : CanDraw M u k e f l) where
 
   -- what stands in another loop keeps loop and face
   pub draw_beside : (h : ℕ) → HasHalf M h → loop_of M h ≢ loop_of M u → (loop_of (face_drawn M u k e f l) h ≡ loop_of M h) × (face_at (face_drawn M u k e f l) h ≡ face_at M h)
-  draw_beside h there ne = kept_place M N can.sound new_sound h there (row_else (loop_of M h) ne (not_free M.loops (loop_of M h) l (has_loop M can.sound h there) can.loop_free))
+  draw_beside h there ne = kept_place M N can.sound new_sound h there (row_else (loop_of M h) ne (row_elsewhere M.loops (loop_of M h) l (loop_there M can.sound h there) can.loop_free))
 
   in_two : (h : ℕ) → HasHalf M h → loop_of M h ≡ loop_of M u → IsIn h (mef_old (plus e) u k (cycle_of M u)) ⊎ IsIn h (mef_new (minus e) u k (cycle_of M u))
   in_two h there at =
@@ -148,19 +119,19 @@ module _ (M : Model) (u k e f l : ℕ) (can : CanDraw M u k e f l) where
   -- the new face is of the same solid
   pub draw_solid : solid_of (face_drawn M u k e f l) f ≡ solid_of (face_drawn M u k e f l) (face_at M u)
   unfolding solid_of
-  draw_solid = ap (λ o. (unwrap_or o no_face).solid) face_new
-      ∙ sym (ap (λ o. (unwrap_or o no_face).solid) (face_else (face_at M u) (not_free M.faces (face_at M u) f (has_face M can.sound u can.u_there) can.face_free)))
+  draw_solid = ap (λ o. (unwrap_or o no_face).solid) (face_drawn_new M u k e f l)
+      ∙ sym (ap (λ o. (unwrap_or o no_face).solid) (face_drawn_else M u k e f l (face_at M u) (row_elsewhere M.faces (face_at M u) f (half_face M can.sound u can.u_there) can.face_free)))
 
   pub draw_has : Has (face_drawn M u k e f l).faces f
-  draw_has = ap is_some face_new
+  draw_has = ap is_some (face_drawn_new M u k e f l)
 
   -- higher numbers stay free
   pub draw_free : (q : ℕ) → (f < q → table.get M.faces q ≡ None → table.get (face_drawn M u k e f l).faces q ≡ None)
       × (l < q → table.get M.loops q ≡ None → table.get (face_drawn M u k e f l).loops q ≡ None)
       × (e < q → table.get M.edges q ≡ None → table.get (face_drawn M u k e f l).edges q ≡ None)
   draw_free q = (
-    (λ above none. face_else q (λ s. past f q above s) ∙ none),
-    (λ above none. row_else q (λ s. not_free M.loops (loop_of M u) q (has_loop M can.sound u can.u_there) none (sym s)) (λ s. past l q above s) ∙ none),
+    (λ above none. face_drawn_else M u k e f l q (λ s. past f q above s) ∙ none),
+    (λ above none. row_else q (λ s. row_elsewhere M.loops (loop_of M u) q (loop_there M can.sound u can.u_there) none (sym s)) (λ s. past l q above s) ∙ none),
     (λ above none. ap (λ t. table.get t q) edges_are ∙ get-put_other M.edges e _ q (λ s. past e q above s) ∙ none),
   ) where
     past : (a b : ℕ) → a < b → b ≢ a
@@ -192,7 +163,7 @@ module _ (M : Model) (c d e : ℕ) (can : CanJoin M c d e) where
     removed t n = grind (arith, nat_tests, tables)
 
   row_free : (q : ℕ) → table.get M.loops q ≡ None → table.get (loops_joined M c d e).loops q ≡ None
-  row_free q none = row_other q (λ s. not_free M.loops (loop_of M c) q (has_loop M can.sound c can.c_there) none (sym s)) (λ s. not_free M.loops (loop_of M d) q (has_loop M can.sound d can.d_there) none (sym s)) ∙ none
+  row_free q none = row_other q (λ s. row_elsewhere M.loops (loop_of M c) q (loop_there M can.sound c can.c_there) none (sym s)) (λ s. row_elsewhere M.loops (loop_of M d) q (loop_there M can.sound d can.d_there) none (sym s)) ∙ none
 
   pub joined_edges : (loops_joined M c d e).edges ≡ table.put M.edges e (record { plus_tail = tail M c; minus_tail = tail M d })
   unfolding loops_joined
@@ -202,16 +173,12 @@ module _ (M : Model) (c d e : ℕ) (can : CanJoin M c d e) where
   unfolding loops_joined
   joined_vertices = refl
 
-  joined_faces : (loops_joined M c d e).faces ≡ M.faces
-  unfolding loops_joined
-  joined_faces = refl
-
   pub join_stays : Stays M (loops_joined M c d e)
   join_stays = record {
     halves = half_stays M J e (tail M c) (tail M d) joined_edges can.edge_free;
     tails = tail_stays M J e (tail M c) (tail M d) joined_edges can.edge_free;
     vertices = joined_vertices;
-    faces = λ g there. subst (λ t. Has t g) (sym joined_faces) there;
+    faces = λ g there. subst (λ t. Has t g) (sym (loops_joined_faces M c d e)) there;
   }
 
   pub join_tails : (tail (loops_joined M c d e) (plus e) ≡ tail M c) × (tail (loops_joined M c d e) (minus e) ≡ tail M d)
@@ -244,7 +211,7 @@ module _ (M : Model) (c d e : ℕ) (can : CanJoin M c d e) where
       × (table.get M.loops q ≡ None → table.get (loops_joined M c d e).loops q ≡ None)
       × (e < q → table.get M.edges q ≡ None → table.get (loops_joined M c d e).edges q ≡ None)
   join_free q = (
-    (λ none. ap (λ t. table.get t q) joined_faces ∙ none),
+    (λ none. ap (λ t. table.get t q) (loops_joined_faces M c d e) ∙ none),
     row_free q,
     (λ above none. ap (λ t. table.get t q) joined_edges ∙ get-put_other M.edges e _ q (λ s. past e q above s) ∙ none),
   ) where

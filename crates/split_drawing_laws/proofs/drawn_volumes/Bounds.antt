@@ -1,42 +1,33 @@
 -- Faces by their half-edges: which half-edges bound a face, and when all corners of a face lie on a plane.
-use Rattle.std.proofs.Common.{◌≡◌, ◌≢◌, ℕ, Bool, true, false, not, nat_eq, ◌&&◌, List, [], ◌∷◌, Option, Some, None, is_some, unwrap_or, refl, sym, ap, ◌∙◌, subst, arith, inl, inr, true≢false}
+use Rattle.std.proofs.Common.{◌≡◌, ◌≢◌, ℕ, true, not, nat_eq, ◌&&◌, List, [], ◌∷◌, Option, Some, None, is_some, unwrap_or, refl, sym, ap, ◌∙◌, subst, arith, inl, inr}
 use Rattle.std.proofs.lemmas.Bool.Decides.{eqb_tells}
+use Rattle.std.proofs.lemmas.Bool.{and_parts, eqb-true}
 use Rattle.euler_operators.specs.declared.Plane.{Plane}
 use Rattle.euler_operators.specs.Vectors.{moved, cross, is_on}
 use Rattle.euler_operators.specs.Items.{count, IsIn}
-use Rattle.euler_operators.proofs.Lists.{count-append, tick_other, IsIn_or_not}
+use Rattle.euler_operators.proofs.Lists.{tick_other, IsIn_or_not}
 use Rattle.euler_operators.specs.HalfEdge.{mate}
 use Rattle.euler_operators.specs.Table as table
 use Rattle.euler_operators.specs.Model.{Model, LoopContent, LoopRow, lone, cycle, no_loop, no_point, items_of, tail, content, outer, point_of, loop_of, face_of}
 use Rattle.euler_operators.specs.Sound.{Sound, Has, HasHalf}
-use Rattle.euler_operators.proofs.Models.{cycle_there, face_row}
+use Rattle.euler_operators.proofs.Models.{cycle_there, face_row, loop_there, item_there, never_lone, mate_there}
+use Rattle.euler_operators.proofs.Members.{IsIn_rest, all_mapped}
+use Rattle.euler_operators.proofs.Rotations.{IsIn_head}
 use Rattle.euler_operators.specs.Conditions.{face_at}
-use Rattle.euler_laws.proofs.shared.Fans.{half_mate}
-use Rattle.euler_laws.proofs.shared.Goes.{equal}
-use Rattle.shapes.proofs.walks.FaceLoops.{AreHalves, different_items, loops_of_apart}
-use Rattle.shapes.specs.Faces.{start, finish, loops_of, items_in, boundary, vertices_on, corners}
+use Rattle.shapes.specs.Faces.{start, finish, loops_of, boundary, vertices_on, corners}
 use Rattle.shapes.specs.Measure.{area, anchor, first_vertex}
-use Rattle.solid_measure_laws.proofs.FlatFaces.{and_parts, are_on}
-use Rattle.solid_measure_laws.proofs.Paths.{first_in, rest_in}
-use Rattle.euler_laws.proofs.shared.Counted.{all_where_has}
+use Rattle.solid_measure_laws.proofs.FlatFaces.{are_on}
 use Rattle.split_drawing_laws.proofs.crossings.Listed.{loop_in_face, item_in_face}
+use Rattle.split_drawing_laws.proofs.crossings.Places.{item_face}
 use Rattle.split_drawing_laws.specs.drawings.DrawnIn.{Stays}
-use Rattle.split_drawing_laws.proofs.drawings.Stays.{has_loop}
-use Rattle.split_drawing_laws.proofs.cut_volumes.Corners.{all_mapped, loop_on, loops_on, item_on, item_there, item_loop}
+use Rattle.split_drawing_laws.proofs.cut_volumes.Corners.{loop_on, loops_on, item_on, item_loop}
+use Rattle.shapes.proofs.walks.FaceLoops.{AreHalves, different_items, loops_of_apart}
+use Rattle.euler_laws.proofs.shared.Counted.{all_where_has}
 
 -- the half-edges and the lone vertices of face f lie on the plane
 pub record OnFace (N : Model) (t : Plane) (f : ℕ) : Type 0 where
   pub halves : (h : ℕ) → HasHalf N h → face_at N h ≡ f → is_on t (start N h) ≡ true
   pub lones : (q v : ℕ) → face_of N q ≡ f → content N q ≡ lone v → is_on t (point_of N v) ≡ true
-
-lone_tells : LoopContent → Bool
-lone_tells (lone v) = true
-lone_tells (cycle hs) = false
-
--- a cycle isn't lone
-pub never_lone : (hs : List ℕ) (v : ℕ) → cycle hs ≡ lone v → ⊥
-unfolding lone_tells
-never_lone hs v e = true≢false (sym (ap lone_tells e))
 
 -- a lone loop is there
 pub lone_there : (N : Model) (q v : ℕ) → content N q ≡ lone v → Has N.loops q
@@ -46,13 +37,6 @@ lone_there N q v e = go (table.get N.loops q) e where
   go None e = absurd (never_lone [] v e)
   go (Some row) e = refl
 
-from_items : (N : Model) (ls : List ℕ) (h : ℕ) → IsIn h (items_in N ls) → (l : ℕ) × IsIn l ls × IsIn h (items_of (content N l))
-from_items N [] h i = absurd (omega (arith, i))
-from_items N (l ∷ ls) h i = elim (IsIn_or_not h (items_of (content N l))) [
-  | inl j ↦ (l, first_in l ls, j)
-  | inr z ↦ let r = from_items N ls h (omega (arith, i, z, count-append h (items_of (content N l)) (items_in N ls))) in (r.0, rest_in r.0 l ls r.1, r.2)
-]
-
 module _ (N : Model) (sound : Sound N) where
   -- the loops of a face are of it
   pub loop_facts : (f : ℕ) → Has N.faces f → (q : ℕ) → IsIn q (loops_of N f) → Has N.loops q × (face_of N q ≡ f)
@@ -61,7 +45,7 @@ module _ (N : Model) (sound : Sound N) where
     | inl e ↦ let o = sound.outers_there f there in (subst (Has N.loops) (sym e.1) o.0, ap (face_of N) e.1 ∙ o.1)
     | inr e ↦
         let w = all_where_has (λ k row. nat_eq row.face f && not (nat_eq (outer N f) k)) N.loops q (omega (arith, i, tick_other q (outer N f) e.1)) in
-        (ap is_some w.1, face_row N q w.0 w.1 ∙ equal w.0.face f (and_parts (nat_eq w.0.face f) (not (nat_eq (outer N f) q)) w.2).0)
+        (ap is_some w.1, face_row N q w.0 w.1 ∙ eqb-true w.0.face f (and_parts (nat_eq w.0.face f) (not (nat_eq (outer N f) q)) w.2).0)
   ]
 
   -- ---- half-edges
@@ -70,20 +54,16 @@ module _ (N : Model) (sound : Sound N) where
   unfolding boundary
   bound_halves f = different_items N sound (loops_of N f) (loops_of_apart N sound f)
 
-  bound_face : (f : ℕ) → Has N.faces f → (h : ℕ) → IsIn h (boundary N f) → face_at N h ≡ f
-  unfolding boundary
-  bound_face f there h i = let w = from_items N (loops_of N f) h i in ap (face_of N) (item_loop N sound w.0 h w.2) ∙ (loop_facts f there w.0 w.1).1
-
   -- a half-edge of a face bounds it once
   pub bound_one : (f h : ℕ) → HasHalf N h → face_at N h ≡ f → count h (boundary N f) ≡ 1
   bound_one f h there at =
-      let i : IsIn h (boundary N f) = subst (λ x. IsIn h (boundary N x)) at (item_in_face N h (loop_of N h) (has_loop N sound h there) (cycle_there N sound h there)) in
+      let i : IsIn h (boundary N f) = subst (λ x. IsIn h (boundary N x)) at (item_in_face N h (loop_of N h) (loop_there N sound h there) (cycle_there N sound h there)) in
       omega (arith, i, (bound_halves f).apart h)
 
   -- and no other does
   pub bound_none : (f h : ℕ) → Has N.faces f → (HasHalf N h → face_at N h ≢ f) → count h (boundary N f) ≡ 0
   bound_none f h there never = elim (IsIn_or_not h (boundary N f)) [
-    | inl i ↦ absurd (never ((bound_halves f).there h i) (bound_face f there h i))
+    | inl i ↦ absurd (never ((bound_halves f).there h i) (item_face N sound f there h i))
     | inr z ↦ z
   ]
 
@@ -93,7 +73,7 @@ module _ (N : Model) (sound : Sound N) where
   unfolding corners
   on_face t f on = record {
     halves = λ h there at. item_on N t (content N (loop_of N h)) h
-        (loop_on N t (loops_of N f) (loop_of N h) on (subst (λ x. IsIn (loop_of N h) (loops_of N x)) at (loop_in_face N (loop_of N h) (has_loop N sound h there)))) (cycle_there N sound h there);
+        (loop_on N t (loops_of N f) (loop_of N h) on (subst (λ x. IsIn (loop_of N h) (loops_of N x)) at (loop_in_face N (loop_of N h) (loop_there N sound h there)))) (cycle_there N sound h there);
     lones = λ q v at is.
         let on_q : are_on N t (vertices_on N (content N q)) ≡ true = loop_on N t (loops_of N f) q on (subst (λ x. IsIn q (loops_of N x)) at (loop_in_face N q (lone_there N q v is))) in
         (and_parts (is_on t (point_of N v)) true (subst (λ c. are_on N t (vertices_on N c) ≡ true) is on_q)).0;
@@ -119,11 +99,11 @@ module _ (N K : Model) (sound : Sound N) (stays : Stays N K) where
   start_still h there = ap (point_of K) (stays.tails h there) ∙ point_still (tail N h)
 
   finish_still : (h : ℕ) → HasHalf N h → finish K h ≡ finish N h
-  finish_still h there = start_still (mate h) (half_mate N sound h there)
+  finish_still h there = start_still (mate h) (mate_there N h there)
 
   pub area_still : (hs : List ℕ) → ((h : ℕ) → IsIn h hs → HasHalf N h) → area K hs ≡ area N hs
   area_still [] there = refl
-  area_still (h ∷ hs) there = λ i. moved (cross (start_still h (there h (first_in h hs)) i) (finish_still h (there h (first_in h hs)) i)) (area_still hs (λ x j. there x (rest_in x h hs j)) i)
+  area_still (h ∷ hs) there = λ i. moved (cross (start_still h (there h (IsIn_head h hs)) i) (finish_still h (there h (IsIn_head h hs)) i)) (area_still hs (λ x j. there x (IsIn_rest x h hs j)) i)
 
   -- a face keeps its anchor with its outer loop
   pub anchor_still : (f : ℕ) → Has N.faces f → outer K f ≡ outer N f → content K (outer N f) ≡ content N (outer N f) → anchor K f ≡ anchor N f
@@ -131,4 +111,4 @@ module _ (N K : Model) (sound : Sound N) (stays : Stays N K) where
     first_still : (x : LoopContent) → content N (outer N f) ≡ x → point_of K (first_vertex K x) ≡ point_of N (first_vertex N x)
     first_still (lone v) is = point_still v
     first_still (cycle []) is = absurd ((sound.cycles (outer N f) [] (sound.outers_there f there).0 is).some_item refl)
-    first_still (cycle (h ∷ hs)) is = start_still h (item_there N sound (outer N f) h (subst (λ x. IsIn h (items_of x)) (sym is) (first_in h hs)))
+    first_still (cycle (h ∷ hs)) is = start_still h (item_there N sound (outer N f) h (subst (λ x. IsIn h (items_of x)) (sym is) (IsIn_head h hs)))

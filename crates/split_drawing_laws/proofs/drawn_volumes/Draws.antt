@@ -10,20 +10,21 @@ use Rattle.euler_operators.specs.Table as table
 use Rattle.euler_operators.specs.Model.{Model, no_face, lone, tail, content, outer, point_of, loop_of, face_of, solid_of, cycle_of}
 use Rattle.euler_operators.specs.Sound.{Sound, Has, HasHalf}
 use Rattle.euler_operators.proofs.Halves.{plus_row, minus_row}
-use Rattle.euler_operators.proofs.Models.{content_row, face_row}
+use Rattle.euler_operators.proofs.Models.{content_row, face_row, same_content, same_face, same_outer, never_lone}
+use Rattle.euler_operators.proofs.Tables.{row_elsewhere}
 use Rattle.euler_operators.specs.Conditions.{face_at}
 use Rattle.euler_laws.proofs.mef.MefUndo.{count-mef_old, count-mef_new}
-use Rattle.shapes.proofs.fresh.Rows.{get-put_here, get-put_other}
+use Rattle.euler_laws.proofs.shared.Fans.{half_face}
 use Rattle.shapes.specs.Faces.{start, boundary}
 use Rattle.shapes.specs.Measure.{normal, anchor}
 use Rattle.shapes.proofs.Areas.{area-append}
 use Rattle.solid_measure_laws.proofs.Sums.{area_same}
 use Rattle.shapes.specs.split.Drawing.{face_drawn}
 use Rattle.split_drawing_laws.specs.drawings.DrawnIn.{Stays}
-use Rattle.split_drawing_laws.proofs.drawings.Drawn.{CanDraw, draw_sound}
-use Rattle.split_drawing_laws.proofs.drawings.Stays.{not_free, stands_at, has_face, row_old, row_new, row_else, edges_are, draw_stays, draw_tails, draw_beside, draw_within}
-use Rattle.split_drawing_laws.proofs.drawn_volumes.Bounds.{OnFace, anchor_still, never_lone, lone_there, bound_halves, bound_one, bound_none, point_still, start_still, area_still}
-use Rattle.split_drawing_laws.proofs.drawn_volumes.Edges.{half_there, plus_there, minus_there, half_cases, two_halves, no_area, normal_is, same_row_content, same_row_face, same_outer}
+use Rattle.split_drawing_laws.proofs.drawings.Drawn.{CanDraw, draw_sound, face_drawn_new, face_drawn_else}
+use Rattle.split_drawing_laws.proofs.drawings.Stays.{stands_at, row_old, row_new, row_else, edges_are, draw_stays, draw_tails, draw_beside, draw_within}
+use Rattle.split_drawing_laws.proofs.drawn_volumes.Bounds.{OnFace, anchor_still, lone_there, bound_halves, bound_one, bound_none, point_still, start_still, area_still}
+use Rattle.split_drawing_laws.proofs.drawn_volumes.Edges.{half_there, plus_there, minus_there, half_cases, two_halves, no_area, normal_is}
 
 module _ (N : Model) (u k e g l : ℕ) (can : CanDraw N u k e g l) where
   abbrev K : Model
@@ -39,22 +40,20 @@ module _ (N : Model) (u k e g l : ℕ) (can : CanDraw N u k e g l) where
   stays = draw_stays N u k e g l can
 
   pub face_else : (h : ℕ) → h ≢ g → table.get (face_drawn N u k e g l).faces h ≡ table.get N.faces h
-  unfolding face_drawn
-  face_else h ne = get-put_other N.faces g _ h ne
+  face_else = face_drawn_else N u k e g l
 
   pub face_new : table.get (face_drawn N u k e g l).faces g ≡ Some (record { solid = solid_of N (face_at N u); outer = l })
-  unfolding face_drawn
-  face_new = get-put_here N.faces g _
+  face_new = face_drawn_new N u k e g l
 
   pub solid_new : solid_of (face_drawn N u k e g l) g ≡ solid_of N (face_at N u)
   unfolding solid_of
   solid_new = ap (λ o. (unwrap_or o no_face).solid) face_new
 
   F_there : Has N.faces F
-  F_there = has_face N can.sound u can.u_there
+  F_there = half_face N can.sound u can.u_there
 
   pub not_new : (f : ℕ) → Has N.faces f → f ≢ g
-  not_new f there = not_free N.faces f g there can.face_free
+  not_new f there = row_elsewhere N.faces f g there can.face_free
 
   -- ---- the faces of half-edges then
 
@@ -94,7 +93,7 @@ module _ (N : Model) (u k e g l : ℕ) (can : CanDraw N u k e g l) where
   lone_on : (t : Plane) (q v : ℕ) → content K q ≡ lone v → OnFace N t (face_of K q) → is_on t (point_of K v) ≡ true
   lone_on t q v is w =
       let row = lone_row q v is in
-      ap (is_on t) (point_still N K can.sound stays v) ∙ w.lones q v (sym (same_row_face N K q row)) (sym (same_row_content N K q row) ∙ is)
+      ap (is_on t) (point_still N K can.sound stays v) ∙ w.lones q v (sym (same_face N K q row)) (sym (same_content N K q row) ∙ is)
 
   -- ---- planes
 
@@ -119,7 +118,7 @@ module _ (N : Model) (u k e g l : ℕ) (can : CanDraw N u k e g l) where
   new_on t w = record {
     halves = λ h now at. elim (cases h now) [
       | inl was ↦ ap (is_on t) (start_still N K can.sound stays h was) ∙ elim (face_then h was) [
-        | inl same ↦ absurd (not_new (face_at N h) (has_face N can.sound h was) (sym same ∙ at))
+        | inl same ↦ absurd (not_new (face_at N h) (half_face N can.sound h was) (sym same ∙ at))
         | inr new ↦ w.halves h was new.0
       ]
       | inr new ↦ elim new [
@@ -129,7 +128,7 @@ module _ (N : Model) (u k e g l : ℕ) (can : CanDraw N u k e g l) where
     ];
     lones = λ q v at is.
         let row = lone_row q v is in
-        absurd (not_new (face_of N q) (can.sound.loops_of_faces q (ap is_some (sym row) ∙ lone_there K q v is)) (sym (same_row_face N K q row) ∙ at));
+        absurd (not_new (face_of N q) (can.sound.loops_of_faces q (ap is_some (sym row) ∙ lone_there K q v is)) (sym (same_face N K q row) ∙ at));
   }
 
   -- ---- normals
@@ -152,7 +151,7 @@ module _ (N : Model) (u k e g l : ℕ) (can : CanDraw N u k e g l) where
       let now : HasHalf K h = stays.halves h was in
       elim (face_then h was) [
         | inl same ↦
-            let none : count h (boundary K g) ≡ 0 = bound_none K K_sound g h g_now (λ t at. not_new (face_at N h) (has_face N can.sound h was) (sym same ∙ at)) in
+            let none : count h (boundary K g) ≡ 0 = bound_none K K_sound g h g_now (λ t at. not_new (face_at N h) (half_face N can.sound h was) (sym same ∙ at)) in
             elim (eqb_tells (face_at N h) F) [
               | inl at ↦ omega (arith, none, bound_one K K_sound F h now (same ∙ at.1), bound_one N can.sound F h was at.1)
               | inr at ↦ omega (arith, none, bound_none K K_sound F h F_now (λ t s. at.1 (sym same ∙ s)), bound_none N can.sound F h F_there (λ t. at.1))
@@ -215,5 +214,5 @@ module _ (N : Model) (u k e g l : ℕ) (can : CanDraw N u k e g l) where
   -- and its anchor
   pub anchor_else : (f : ℕ) → Has N.faces f → f ≢ face_at N u → anchor (face_drawn N u k e g l) f ≡ anchor N f
   anchor_else f there ne = let o = can.sound.outers_there f there in
-      anchor_still N K can.sound stays f there (outer_else f there) (same_row_content N K (outer N f)
-      (row_else N u k e g l can (outer N f) (λ s. ne (sym o.1 ∙ ap (face_of N) s)) (not_free N.loops (outer N f) l o.0 can.loop_free)))
+      anchor_still N K can.sound stays f there (outer_else f there) (same_content N K (outer N f)
+      (row_else N u k e g l can (outer N f) (λ s. ne (sym o.1 ∙ ap (face_of N) s)) (row_elsewhere N.loops (outer N f) l o.0 can.loop_free)))

@@ -1,5 +1,5 @@
 -- A model with one edge more: its half-edges, and rows that stay.
-use Rattle.std.proofs.Common.{◌≡◌, ◌≢◌, ℕ, ◌+◌, Bool, true, false, List, ◌∷◌, ◌++◌, Some, is_some, unwrap_or, refl, sym, ap, ◌∙◌, arith, ◌⊎◌, inl, inr, true≢false}
+use Rattle.std.proofs.Common.{◌≡◌, ◌≢◌, ℕ, ◌+◌, Bool, true, false, List, ◌∷◌, ◌++◌, Some, is_some, refl, sym, ap, ◌∙◌, arith, ◌⊎◌, inl, inr, true≢false}
 use Rattle.std.proofs.lemmas.Bool.Decides.{eqb_tells}
 use Rattle.euler_operators.specs.declared.Point.{Point}
 use Rattle.euler_operators.specs.Vectors.{moved, cross}
@@ -7,11 +7,10 @@ use Rattle.euler_operators.specs.Items.{count, tick}
 use Rattle.euler_operators.proofs.Lists.{count-append, tick_same, tick_other}
 use Rattle.euler_operators.specs.HalfEdge.{mate, edge_of, plus, minus}
 use Rattle.euler_operators.specs.Table as table
-use Rattle.euler_operators.specs.Model.{Model, EdgeRow, no_loop, no_face, content, face_of, outer, has_half}
+use Rattle.euler_operators.specs.Model.{Model, EdgeRow, has_half}
 use Rattle.euler_operators.specs.Sound.{HasHalf}
-use Rattle.euler_operators.proofs.Halves.{plus_row, minus_row, same_edge}
-use Rattle.euler_laws.proofs.shared.Undo.{mate_plus}
-use Rattle.shapes.proofs.fresh.Rows.{get-put_here, get-put_other}
+use Rattle.euler_operators.proofs.Halves.{plus_row, minus_row, same_edge, mate_plus, plus_other}
+use Rattle.euler_operators.proofs.Tables.{get-put_here, get-put_other}
 use Rattle.shapes.specs.Faces.{start, finish, boundary}
 use Rattle.shapes.specs.Measure.{area, normal}
 use Rattle.shapes.proofs.Areas.{moved_more, nothing_moved}
@@ -26,18 +25,6 @@ half_there N h = go (has_half N h) refl where
 pub normal_is : (N : Model) (f : ℕ) → normal N f ≡ area N (boundary N f)
 unfolding normal
 normal_is N f = refl
-
-pub same_row_content : (N K : Model) (q : ℕ) → table.get K.loops q ≡ table.get N.loops q → content K q ≡ content N q
-unfolding content
-same_row_content N K q e = ap (λ o. (unwrap_or o no_loop).content) e
-
-pub same_row_face : (N K : Model) (q : ℕ) → table.get K.loops q ≡ table.get N.loops q → face_of K q ≡ face_of N q
-unfolding face_of
-same_row_face N K q e = ap (λ o. (unwrap_or o no_loop).face) e
-
-pub same_outer : (N K : Model) (f : ℕ) → table.get K.faces f ≡ table.get N.faces f → outer K f ≡ outer N f
-unfolding outer
-same_outer N K f e = ap (λ o. (unwrap_or o no_face).outer) e
 
 -- K has edge e more
 module _ (N K : Model) (e : ℕ) (row : EdgeRow) (is : K.edges ≡ table.put N.edges e row) where
@@ -56,9 +43,6 @@ module _ (N K : Model) (e : ℕ) (row : EdgeRow) (is : K.edges ≡ table.put N.e
     | inr s ↦ inl (sym (ap is_some (ap (λ t. table.get t (edge_of h)) is ∙ get-put_other N.edges e row (edge_of h) s.1)) ∙ there)
   ]
 
-halves_apart : (e : ℕ) → plus e ≢ minus e
-halves_apart e s = absurd (omega (arith, s))
-
 -- how often h stands in two lists and in a third one with both halves of e, where each case is known
 pub two_halves : (h e : ℕ) (xs ys zs : List ℕ) →
     (h ≡ plus e → (count h xs ≡ 1) × (count h ys ≡ 0) × (count h zs ≡ 0)) →
@@ -69,7 +53,7 @@ two_halves h e xs ys zs first second else = elim (eqb_tells h (plus e)) [
   | inl a ↦
       let w = first a.1 in
       let p : tick h (plus e) ≡ 1 = ap (λ x. tick x (plus e)) a.1 ∙ tick_same (plus e) in
-      let m : tick h (minus e) ≡ 0 = tick_other h (minus e) (λ s. halves_apart e (sym a.1 ∙ s)) in
+      let m : tick h (minus e) ≡ 0 = tick_other h (minus e) (λ s. plus_other e (sym a.1 ∙ s)) in
       omega (arith, w.0, w.1, w.2, p, m, count-append h xs ys)
   | inr a ↦ elim (eqb_tells h (minus e)) [
     | inl b ↦
@@ -87,7 +71,7 @@ two_in h e xs zs first second else = elim (eqb_tells h (plus e)) [
   | inl a ↦
       let w = first a.1 in
       let p : tick h (plus e) ≡ 1 = ap (λ x. tick x (plus e)) a.1 ∙ tick_same (plus e) in
-      let m : tick h (minus e) ≡ 0 = tick_other h (minus e) (λ s. halves_apart e (sym a.1 ∙ s)) in
+      let m : tick h (minus e) ≡ 0 = tick_other h (minus e) (λ s. plus_other e (sym a.1 ∙ s)) in
       omega (arith, w.0, w.1, p, m)
   | inr a ↦ elim (eqb_tells h (minus e)) [
     | inl b ↦

@@ -12,17 +12,17 @@ use Rattle.euler_operators.specs.Table as table
 use Rattle.euler_operators.specs.Model.{Model, lone, tail, content, outer, point_of, loop_of, face_of, cycle_of}
 use Rattle.euler_operators.specs.Sound.{Sound, Has, HasHalf}
 use Rattle.euler_operators.proofs.Halves.{plus_row, minus_row}
-use Rattle.euler_operators.proofs.Models.{content_row, face_row}
+use Rattle.euler_operators.proofs.Models.{content_row, face_row, same_content, same_face, same_outer, never_lone}
 use Rattle.euler_operators.specs.Conditions.{face_at}
 use Rattle.shapes.specs.Faces.{start, boundary}
 use Rattle.shapes.specs.Measure.{area, normal, anchor}
 use Rattle.solid_measure_laws.proofs.Sums.{area_same}
 use Rattle.shapes.specs.split.Drawing.{loops_joined}
 use Rattle.split_drawing_laws.specs.drawings.DrawnIn.{Stays}
-use Rattle.split_drawing_laws.proofs.drawings.Drawn.{CanJoin, join_sound}
-use Rattle.split_drawing_laws.proofs.drawings.Stays.{stands_at, has_face, row_joined, row_other, row_gone, joined_edges, join_stays, join_tails, join_faces}
-use Rattle.split_drawing_laws.proofs.drawn_volumes.Bounds.{OnFace, anchor_still, never_lone, lone_there, bound_halves, bound_one, bound_none, point_still, start_still, area_still}
-use Rattle.split_drawing_laws.proofs.drawn_volumes.Edges.{half_there, plus_there, minus_there, half_cases, two_in, no_area, normal_is, same_row_content, same_row_face, same_outer}
+use Rattle.split_drawing_laws.proofs.drawings.Drawn.{CanJoin, join_sound, loops_joined_faces}
+use Rattle.split_drawing_laws.proofs.drawings.Stays.{stands_at, row_joined, row_other, row_gone, joined_edges, join_stays, join_tails, join_faces}
+use Rattle.split_drawing_laws.proofs.drawn_volumes.Bounds.{OnFace, anchor_still, lone_there, bound_halves, bound_one, bound_none, point_still, start_still, area_still}
+use Rattle.split_drawing_laws.proofs.drawn_volumes.Edges.{half_there, plus_there, minus_there, half_cases, two_in, no_area, normal_is}
 
 module _ (N : Model) (c d e : ℕ) (can : CanJoin N c d e) where
   abbrev K : Model
@@ -38,11 +38,7 @@ module _ (N : Model) (c d e : ℕ) (can : CanJoin N c d e) where
   stays = join_stays N c d e can
 
   pub faces_joined : (loops_joined N c d e).faces ≡ N.faces
-  unfolding loops_joined
-  faces_joined = refl
-
-  F_there : Has N.faces F
-  F_there = has_face N can.sound c can.c_there
+  faces_joined = loops_joined_faces N c d e
 
   at_joined : (h : ℕ) → count h (plus e ∷ minus e ∷ []) ≡ 1 → face_at K h ≡ F
   at_joined h one = ap (face_of K) (stands_at K J_sound h (loop_of N c) _ (content_row K (loop_of N c) _ (row_joined N c d e can))
@@ -81,7 +77,7 @@ module _ (N : Model) (c d e : ℕ) (can : CanJoin N c d e) where
     ];
     lones = λ q v at is.
         let row = lone_row q v is in
-        ap (is_on t) (point_still N K can.sound stays v) ∙ w.lones q v (sym (same_row_face N K q row) ∙ at) (sym (same_row_content N K q row) ∙ is);
+        ap (is_on t) (point_still N K can.sound stays v) ∙ w.lones q v (sym (same_face N K q row) ∙ at) (sym (same_content N K q row) ∙ is);
   }
 
   -- ---- normals
@@ -135,5 +131,5 @@ module _ (N : Model) (c d e : ℕ) (can : CanJoin N c d e) where
     -- another face keeps its anchor
     pub anchor_joined : f ≢ face_at N c → anchor (loops_joined N c d e) f ≡ anchor N f
     anchor_joined ne = let o = can.sound.outers_there f there in
-        anchor_still N K can.sound stays f there (same_outer N K f (ap (λ t. table.get t f) faces_joined)) (same_row_content N K (outer N f)
+        anchor_still N K can.sound stays f there (same_outer N K f (ap (λ t. table.get t f) faces_joined)) (same_content N K (outer N f)
         (row_other N c d e can (outer N f) (λ s. ne (sym o.1 ∙ ap (face_of N) s)) (λ s. ne (sym o.1 ∙ ap (face_of N) s ∙ sym can.one_face))))

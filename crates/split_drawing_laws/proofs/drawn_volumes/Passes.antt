@@ -5,6 +5,7 @@ use Rattle.std.proofs.lemmas.Bool.Decides.{eqb_tells}
 use Rattle.euler_operators.specs.declared.Plane.{Plane}
 use Rattle.euler_operators.specs.Items.{tick, IsApart}
 use Rattle.euler_operators.proofs.Lists.{tick_same}
+use Rattle.euler_operators.proofs.Models.{same_solid}
 use Rattle.euler_operators.specs.Table as table
 use Rattle.euler_operators.specs.Model.{Model, loop_of, outer, solid_of, is_ring_of, is_number}
 use Rattle.euler_operators.specs.Sound.{Sound, Has}
@@ -19,14 +20,13 @@ use Rattle.split_drawing_laws.specs.drawings.Passing.{Joining, Going}
 use Rattle.split_drawing_laws.proofs.drawings.Pairs.{can_back, can_on, pair_can}
 use Rattle.split_drawing_laws.proofs.drawings.Passes.{join_one, join_next_one, join_next_two, draw_one, draw_next_one, draw_next_two, edge_free, edge_fits_now, edge_open, face_open, loop_open, room_here, edge_fits, face_fits, loop_fits}
 use Rattle.split_drawing_laws.proofs.drawings.Rings.{RingOf, AreRings, Newer, moved_drawn, moved_newer, moved_ring, rings_on}
-use Rattle.split_drawing_laws.proofs.drawings.Stays.{has_face}
-use Rattle.split_drawing_laws.proofs.cut_volumes.Solids.{same_solid}
 use Rattle.split_drawing_laws.proofs.drawn_volumes.Bounds.{OnFace}
 use Rattle.split_drawing_laws.proofs.drawn_volumes.Draws as draws
 use Rattle.split_drawing_laws.proofs.drawn_volumes.Joins as joins
 use Rattle.split_drawing_laws.proofs.drawn_volumes.Moves as moves
 use Rattle.split_drawing_laws.proofs.drawn_volumes.Moves.{CanMove}
 use Rattle.split_drawing_laws.proofs.drawn_volumes.Volumes.{IsPlane, draw_volumes, join_volumes, move_volumes}
+use Rattle.euler_laws.proofs.shared.Fans.{half_face}
 
 -- X is M with edges drawn in face f: volumes stay, faces lie on the planes on which they lay, and new ones on those of f
 pub record Within (M X : Model) (f : ℕ) : Type 0 where
@@ -99,7 +99,7 @@ module _ (M : Model) (f : ℕ) (sound : Sound M) (f_there : Has M.faces f) (r : 
     K = face_drawn X u k e g l
 
     F_there : Has X.faces (face_at X u)
-    F_there = has_face X can.sound u can.u_there
+    F_there = half_face X can.sound u can.u_there
 
     -- u's face lies on the planes of f
     comes_on : (t : Plane) → OnFace M t f → OnFace X t (face_at X u)

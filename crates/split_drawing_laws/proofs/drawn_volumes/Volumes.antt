@@ -2,9 +2,10 @@
 use Rattle.std.proofs.Common.{◌≡◌, ◌≢◌, ℕ, ℤ, ◌+ℤ◌, ◌-ℤ◌, true, not, cond, nat_eq, ◌&&◌, ◌∷◌, is_some, refl, sym, ap, ◌∙◌, subst, arith, inl, inr}
 use Rattle.std.proofs.lemmas.Int.{ints}
 use Rattle.std.proofs.lemmas.Bool.Decides.{eqb_tells}
+use Rattle.std.proofs.lemmas.Bool.{ne_eqb, eq-eqb}
 use Rattle.euler_operators.specs.declared.Point.{Point}
 use Rattle.euler_operators.specs.declared.Plane.{Plane}
-use Rattle.euler_operators.specs.Vectors.{origin, moved, dot, same_point, is_on, direction}
+use Rattle.euler_operators.specs.Vectors.{origin, dot, same_point, is_on, direction}
 use Rattle.euler_operators.specs.Items.{count, tick, SameItems}
 use Rattle.euler_operators.proofs.Lists.{tick_same, tick_other}
 use Rattle.euler_operators.specs.Table as table
@@ -12,13 +13,12 @@ use Rattle.euler_operators.specs.Model.{Model, solid_of, faces_of}
 use Rattle.euler_operators.specs.Sound.{Sound, Has}
 use Rattle.euler_operators.specs.Conditions.{face_at}
 use Rattle.euler_operators.specs.Effect.{ring_in}
-use Rattle.euler_laws.proofs.shared.Goes.{equals, differs}
+use Rattle.euler_laws.proofs.shared.Fans.{half_face}
 use Rattle.shapes.specs.Measure.{normal, anchor, six_volume}
 use Rattle.solid_measure_laws.proofs.FlatFaces.{anchor_on, told_anywhere}
 use Rattle.shapes.specs.split.Drawing.{face_drawn, loops_joined}
 use Rattle.split_drawing_laws.proofs.drawings.Drawn.{CanDraw, CanJoin}
-use Rattle.split_drawing_laws.proofs.drawings.Stays.{has_face}
-use Rattle.euler_operators.proofs.Vectors.{dot_moved, dot_turned}
+use Rattle.euler_operators.proofs.Vectors.{dot_sum}
 use Rattle.split_drawing_laws.proofs.drawn_volumes.Bounds.{OnFace, face_on}
 use Rattle.split_drawing_laws.proofs.drawn_volumes.Draws as draws
 use Rattle.split_drawing_laws.proofs.drawn_volumes.Joins as joins
@@ -29,9 +29,6 @@ use Rattle.split_drawing_laws.proofs.cut_volumes.Solids.{solid_facts, counted_in
 -- the plane has a direction
 abbrev pub IsPlane : Plane → Type 0
 IsPlane r = not (same_point (direction r) origin) ≡ true
-
-dot_sum : (p a b : Point) → dot p (moved a b) ≡ dot p a +ℤ dot p b
-dot_sum p a b = dot_turned p (moved a b) ∙ dot_moved a b p ∙ (λ i. dot_turned a p i +ℤ dot_turned b p i)
 
 -- what a face adds, told from a point of a plane on which it lies
 module _ (N : Model) (sound : Sound N) (r : Plane) (some : IsPlane r) where
@@ -51,7 +48,7 @@ module _ (N : Model) (u k e g l : ℕ) (can : CanDraw N u k e g l) (r : Plane) (
   F = face_at N u
 
   F_there : Has N.faces F
-  F_there = has_face N can.sound u can.u_there
+  F_there = half_face N can.sound u can.u_there
 
   new_sound : Sound K
   new_sound = draws.K_sound N u k e g l can
@@ -159,11 +156,11 @@ module _ (N : Model) (f l k : ℕ) (can : CanMove N f l k) (r : Plane) (some : I
 
   mid_k : mid k ≡ told N k
   unfolding mid
-  mid_k = ap (λ b. cond b (told N k) (told R k)) (equals k k refl)
+  mid_k = ap (λ b. cond b (told N k) (told R k)) (eq-eqb k k refl)
 
   mid_else : (h : ℕ) → h ≢ k → mid h ≡ told R h
   unfolding mid
-  mid_else h ne = ap (λ b. cond b (told N h) (told R h)) (differs h k ne)
+  mid_else h ne = ap (λ b. cond b (told N h) (told R h)) (ne_eqb h k ne)
 
   gap : (a b : ℤ) → a ≡ b +ℤ (a -ℤ b)
   gap a b = omega (arith, ints)

@@ -10,13 +10,15 @@ use Rattle.euler_operators.specs.HalfEdge.{plus, minus}
 use Rattle.euler_operators.specs.Table as table
 use Rattle.euler_operators.specs.Model.{Model, items_of, content, tail, loop_of, face_of, outer, cycle_of}
 use Rattle.euler_operators.specs.Sound.{Has, HasHalf}
-use Rattle.euler_operators.proofs.Models.{content_row, cycle_there}
+use Rattle.euler_operators.proofs.Models.{content_row, cycle_there, outer_row, same_face, same_outer, loop_there}
+use Rattle.euler_operators.proofs.Tables.{row_elsewhere}
 use Rattle.euler_operators.specs.Conditions.{face_at}
 use Rattle.shapes.specs.split.Drawing.{face_drawn}
 use Rattle.split_drawing_laws.specs.drawings.DrawnIn.{Stays}
-use Rattle.split_drawing_laws.proofs.drawings.Drawn.{CanDraw, draw_sound}
-use Rattle.split_drawing_laws.proofs.drawings.Stays.{not_free, stands_at, has_loop, has_face, row_old, row_new, row_else, draw_beside}
-use Rattle.split_drawing_laws.proofs.face_sides.Beside.{ComesOf, face_same, outer_same, outer_row, face_new, face_else, old_loop_face, new_loop_face}
+use Rattle.split_drawing_laws.proofs.drawings.Drawn.{CanDraw, draw_sound, face_drawn_new, face_drawn_else}
+use Rattle.split_drawing_laws.proofs.drawings.Stays.{stands_at, row_old, row_new, row_else, draw_beside}
+use Rattle.split_drawing_laws.proofs.face_sides.Beside.{ComesOf, old_loop_face, new_loop_face}
+use Rattle.euler_laws.proofs.shared.Fans.{half_face}
 
 -- loop q of N holds a half-edge of B
 pub record Held (B N : Model) (q : ℕ) : Type 0 where
@@ -58,25 +60,25 @@ module _ (N : Model) (u k e g l : ℕ) (can : CanDraw N u k e g l) where
 
   -- a face of N keeps its outer loop
   pub outer_kept : (h : ℕ) → Has N.faces h → outer (face_drawn N u k e g l) h ≡ outer N h
-  outer_kept h there = outer_same N K h (face_else N u k e g l can h (not_free N.faces h g there can.face_free))
+  outer_kept h there = same_outer N K h (face_drawn_else N u k e g l h (row_elsewhere N.faces h g there can.face_free))
 
   module _ (B M : Model) (f : ℕ) (stays : Stays B N) (u_old : HasHalf B u) (k_old : HasHalf B k) (drawn : ComesOf M f (face_at N u)) (a : Alone B M N f) where
     at_new : Lone B K l
     at_new = record {
-      outer_is = ap (outer K) (new_loop_face N u k e g l can) ∙ outer_row K g _ (face_new N u k e g l can);
+      outer_is = ap (outer K) (new_loop_face N u k e g l can) ∙ outer_row K g _ (face_drawn_new N u k e g l);
       held = record { half = u; old = u_old; at = u_goes };
     }
 
     at_old : Lone B K (loop_of N u)
     at_old = record {
-      outer_is = ap (outer K) (old_loop_face N u k e g l can) ∙ outer_kept (face_at N u) (has_face N can.sound u can.u_there) ∙ (a (loop_of N u) (has_loop N can.sound u can.u_there) drawn).outer_is;
+      outer_is = ap (outer K) (old_loop_face N u k e g l can) ∙ outer_kept (face_at N u) (half_face N can.sound u can.u_there) ∙ (a (loop_of N u) (loop_there N can.sound u can.u_there) drawn).outer_is;
       held = record { half = k; old = k_old; at = k_stays };
     }
 
     at_other : (q : ℕ) → q ≢ loop_of N u → q ≢ l → Has K.loops q → ComesOf M f (face_of K q) → Lone B K q
     at_other q x y there d =
         let same : table.get K.loops q ≡ table.get N.loops q = row_else N u k e g l can q x y in
-        let face : face_of K q ≡ face_of N q = face_same N K q same in
+        let face : face_of K q ≡ face_of N q = same_face N K q same in
         let was : Has N.loops q = ap is_some (sym same) ∙ there in
         let r : Lone B N q = a q was (subst (ComesOf M f) face d) in
         record {

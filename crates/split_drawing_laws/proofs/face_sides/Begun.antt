@@ -1,46 +1,48 @@
 -- What the first conditions of a split say of the loops of its solid, once edges are cut: each holds a half-edge, which tells its side.
 use Rattle.std.specs.Prelude.{map}
-use Rattle.std.specs.List.{list_all}
-use Rattle.std.proofs.Common.{◌≡◌, ◌≢◌, ℕ, Bool, true, false, not, nat_eq, ◌&&◌, ◌||◌, List, [], ◌∷◌, length, is_some, refl, sym, ap, ◌∙◌, subst, arith, inl, inr, true≢false}
+use Rattle.std.proofs.Common.{◌≡◌, ◌≢◌, ℕ, Bool, true, false, nat_eq, ◌&&◌, ◌||◌, List, [], ◌∷◌, is_some, refl, sym, ap, ◌∙◌, subst, arith, inl, inr, true≢false}
 use Rattle.std.proofs.lemmas.Bool.Decides.{eqb_tells}
+use Rattle.std.proofs.lemmas.Bool.{eq-eqb, eqb-true}
+use Rattle.euler_operators.proofs.Tests.{first_fails}
 use Rattle.euler_operators.specs.declared.Plane.{Plane}
 use Rattle.euler_operators.specs.Vectors.{is_above}
 use Rattle.euler_operators.specs.Items.{count, IsIn}
 use Rattle.euler_operators.proofs.Lists.{tick_same, tick_other}
 use Rattle.euler_operators.specs.Table as table
-use Rattle.euler_operators.specs.Model.{Model, LoopContent, lone, cycle, items_of, content, tail, loop_of, face_of, solid_of, outer, after, cycle_of, point_of, faces_of, rings_of}
+use Rattle.euler_operators.specs.Model.{Model, cycle, items_of, content, tail, loop_of, face_of, solid_of, outer, after, cycle_of, point_of, faces_of}
 use Rattle.euler_operators.specs.Sound.{Sound, Has, HasHalf}
-use Rattle.euler_operators.proofs.Models.{in-holds, content_cycle, cycle_there}
+use Rattle.euler_operators.proofs.Models.{in-holds, content_cycle, cycle_there, same_outer}
 use Rattle.euler_operators.proofs.Tables.{zero_first_where}
+use Rattle.euler_operators.proofs.Members.{IsIn-map, IsIn-filter}
+use Rattle.euler_operators.proofs.Maps.{from_map}
 use Rattle.euler_operators.specs.Conditions.{face_at, is_lone, lists}
 use Rattle.euler_laws.proofs.shared.Fans.{half_after, loop_after}
-use Rattle.euler_laws.proofs.shared.Goes.{all_hold, equal, equals, no_zero}
-use Rattle.euler_laws.proofs.shared.Rows.{loop_row, face_there}
-use Rattle.euler_laws.proofs.shared.Counted.{in_listed, listed_in, all_where_in}
+use Rattle.euler_laws.proofs.shared.Goes.{all_hold, no_zero}
+use Rattle.euler_laws.proofs.shared.Rows.{loop_row, face_there, not_lone_cycle}
+use Rattle.euler_laws.proofs.shared.Listed.{IsIn-from_listed, listed-from_in}
 use Rattle.shapes.specs.Faces.{start, finish, least_lone, boundary, vertices_on}
 use Rattle.shapes.specs.split.Sides.{some_above, reaches_above, straddling_faces}
-use Rattle.shapes.specs.split.Places.{is_place, places, loop_is_cut, is_cut_often}
+use Rattle.shapes.specs.split.Places.{is_place, places}
 use Rattle.shapes.specs.split.Crossings.{with_crossings}
 use Rattle.shapes.specs.split.Drawing.{from_place, drawn_pairs}
 use Rattle.shapes.specs.split.Split.{first_conditions}
 use Rattle.split_drawing_laws.specs.crossings.Kept.{Kept}
 use Rattle.split_drawing_laws.specs.crossings.Laws.{CanBegin}
-use Rattle.split_drawing_laws.proofs.crossings.Listed.{any_passes, picked, item_in_face}
+use Rattle.split_drawing_laws.proofs.crossings.Listed.{any_passes, item_in_face}
 use Rattle.split_drawing_laws.proofs.crossings.Places.{at_place, face_facts}
 use Rattle.split_drawing_laws.proofs.crossings.Whole.{can_cut, crossings_keep, crossings_sound, same_solid}
-use Rattle.split_drawing_laws.proofs.pairs.Whole.{can_be_drawn}
+use Rattle.split_drawing_laws.proofs.pairs.Whole.{can_be_drawn, outer_cut}
 use Rattle.split_drawing_laws.specs.drawings.Pairs.{AllFit, LoneInOneLoop, FacesFit}
 use Rattle.split_drawing_laws.specs.loop_sides.Parted.{ends}
 use Rattle.split_drawing_laws.specs.half_sides.HalfSides.{half_is_above, side_of}
-use Rattle.split_drawing_laws.proofs.half_sides.EndLists.{mapped_in, mapped_from}
 use Rattle.split_drawing_laws.proofs.half_sides.PlaceEnds.{side_within, place_in_ends, pairs_up}
 use Rattle.split_drawing_laws.proofs.half_sides.Taking.{side_beside}
 use Rattle.split_drawing_laws.proofs.face_sides.Alone.{Held}
-use Rattle.split_drawing_laws.proofs.face_sides.Beside.{outer_same}
 use Rattle.split_drawing_laws.proofs.face_sides.OneFace.{IsSided, PairsOf}
 use Rattle.split_drawing_laws.proofs.face_sides.Passing.{AllOld}
 use Rattle.split_drawing_laws.proofs.face_sides.Same.{any_from}
 use Rattle.split_drawing_laws.proofs.face_sides.Shared.{HeldOn}
+use Rattle.euler_laws.proofs.shared.Counted.{all_where_in}
 
 -- the half-edges of pairs that fit are there
 fits_old : (N : Model) (f : ℕ) (qs : List (ℕ × ℕ)) → AllFit N f qs → AllOld N qs
@@ -53,13 +55,6 @@ face_fits M N p f (g ∷ gs) w i = elim (eqb_tells f g) [
   | inl e ↦ subst (λ h. AllFit N h (drawn_pairs M N p h) × LoneInOneLoop N (drawn_pairs M N p h)) (sym e.1) w.0
   | inr e ↦ face_fits M N p f gs w.1 (omega (arith, i, tick_other f g e.1))
 ]
-
-outer_cut : (M : Model) (p : Plane) (f : ℕ) → is_cut_often M p f ≡ false → loop_is_cut M p (outer M f) ≡ true
-unfolding is_cut_often
-outer_cut M p f e = first_of (loop_is_cut M p (outer M f)) (not (list_all (loop_is_cut M p) (rings_of M f)) && not (nat_eq (length (places M p f)) 2)) e where
-  first_of : (a b : Bool) → (not a || b) ≡ false → a ≡ true
-  first_of true b e = refl
-  first_of false b e = absurd (true≢false e)
 
 some_item : (hs : List ℕ) → hs ≢ [] → (h : ℕ) × IsIn h hs
 some_item [] ne = absurd (ne refl)
@@ -85,21 +80,13 @@ module _ (M : Model) (s : ℕ) (p : Plane) (t : ℕ) (sound : Sound M) (begins :
 
   none_lone : table.first_where (λ _ row. is_lone row.content && lists (faces_of M s) row.face) M.loops ≡ 0
   unfolding first_conditions
-  none_lone = equal (least_lone M (faces_of M s)) 0 (all_hold (first_conditions M s p t) begins).1.1.1.1.1.1.1.1.1.0
+  none_lone = eqb-true (least_lone M (faces_of M s)) 0 (all_hold (first_conditions M s p t) begins).1.1.1.1.1.1.1.1.1.0
 
   is_cycle : (q : ℕ) → Has M.loops q → solid_of M (face_of M q) ≡ s → content M q ≡ cycle (items_of (content M q))
-  is_cycle q there of_s = go (content M q) (never (is_lone (content M q)) (lists (faces_of M s) (face_of M q)) listed
-      (zero_first_where (λ _ row. is_lone row.content && lists (faces_of M s) row.face) M.loops (λ l row at z. no_zero l z (sound.loops_fit l (ap is_some at))) none_lone q _ (loop_row M q there))) where
+  is_cycle q there of_s = not_lone_cycle (content M q) (first_fails (is_lone (content M q)) (lists (faces_of M s) (face_of M q))
+      (zero_first_where (λ _ row. is_lone row.content && lists (faces_of M s) row.face) M.loops (λ l row at z. no_zero l z (sound.loops_fit l (ap is_some at))) none_lone q _ (loop_row M q there)) listed) where
         listed : lists (faces_of M s) (face_of M q) ≡ true
-        listed = in_listed (face_of M q) (faces_of M s) (all_where_in (λ _ row. nat_eq row.solid s) M.faces (face_of M q) _ (face_there M (face_of M q) (sound.loops_of_faces q there)) (equals (solid_of M (face_of M q)) s of_s))
-
-        never : (a b : Bool) → b ≡ true → (a && b) ≡ false → a ≡ false
-        never false b l e = refl
-        never true b l e = absurd (true≢false (sym l ∙ e))
-
-        go : (c : LoopContent) → is_lone c ≡ false → c ≡ cycle (items_of c)
-        go (lone v) e = absurd (true≢false e)
-        go (cycle hs) e = refl
+        listed = listed-from_in (face_of M q) (faces_of M s) (all_where_in (λ _ row. nat_eq row.solid s) M.faces (face_of M q) _ (face_there M (face_of M q) (sound.loops_of_faces q there)) (eq-eqb (solid_of M (face_of M q)) s of_s))
 
   -- so each holds a half-edge
   pub loop_holds : (q : ℕ) → Has (with_crossings M s p).model.loops q → solid_of (with_crossings M s p).model (face_of (with_crossings M s p).model q) ≡ s → Held (with_crossings M s p).model (with_crossings M s p).model q
@@ -115,7 +102,7 @@ module _ (M : Model) (s : ℕ) (p : Plane) (t : ℕ) (sound : Sound M) (begins :
   not_listed g z = go (lists fs g) refl where
     go : (b : Bool) → lists fs g ≡ b → lists fs g ≡ false
     go false e = e
-    go true e = absurd (let i : IsIn g fs = listed_in g fs e in omega (arith, i, z))
+    go true e = absurd (let i : IsIn g fs = IsIn-from_listed g fs e in omega (arith, i, z))
 
   -- a face that doesn't straddle lies on one side
   pub sided_first : (g : ℕ) → Has (with_crossings M s p).model.faces g → solid_of (with_crossings M s p).model g ≡ s → count g (straddling_faces M p s) ≡ 0 → IsSided (with_crossings M s p).model (with_crossings M s p).model (side_of M s p) g
@@ -156,7 +143,7 @@ module _ (M : Model) (s : ℕ) (p : Plane) (t : ℕ) (sound : Sound M) (begins :
       held_above : some_above N p (vertices_on N (content N r)) ≡ true → HeldOn N N side r true
       held_above e =
           let v = any_from (λ v. is_above p (point_of N v)) (map (tail N) xs) (sym (ap (λ c. some_above N p (vertices_on N c)) content_is) ∙ e) in
-          let z = mapped_from (tail N) v.0 xs v.1 in
+          let z = from_map (tail N) v.0 xs v.1 in
           let w = item_loop z.0 z.1 in
           let up : is_above p (start N z.0) ≡ true = ap (λ u. is_above p (point_of N u)) (sym z.2) ∙ v.2 in
           record { held = record { half = z.0; old = w.0; at = w.1 }; on = side_own z.0 w.1 ∙ ap (λ b. b || is_above p (finish N z.0)) up }
@@ -165,7 +152,7 @@ module _ (M : Model) (s : ℕ) (p : Plane) (t : ℕ) (sound : Sound M) (begins :
       not_above e z j = go (is_above p (start N z)) refl where
         go : (b : Bool) → is_above p (start N z) ≡ b → is_above p (start N z) ≡ false
         go false a = a
-        go true a = absurd (true≢false (sym (any_passes (λ v. is_above p (point_of N v)) (tail N z) (map (tail N) xs) (mapped_in (tail N) z xs j) a)
+        go true a = absurd (true≢false (sym (any_passes (λ v. is_above p (point_of N v)) (tail N z) (map (tail N) xs) (IsIn-map (tail N) z xs j) a)
             ∙ sym (ap (λ c. some_above N p (vertices_on N c)) content_is) ∙ e))
 
       next_in : IsIn (after N h) xs
@@ -198,11 +185,11 @@ module _ (M : Model) (s : ℕ) (p : Plane) (t : ℕ) (sound : Sound M) (begins :
 
     x_place : IsIn x (places M p f)
     unfolding places
-    x_place = picked (is_place M p) x (boundary M f) (subst (λ g. IsIn x (boundary M g)) outer_facts.1 (item_in_face M x (outer M f) outer_facts.0 outer_place.1)) outer_place.2
+    x_place = IsIn-filter (is_place M p) x (boundary M f) (subst (λ g. IsIn x (boundary M g)) outer_facts.1 (item_in_face M x (outer M f) outer_facts.0 outer_place.1)) outer_place.2
 
     x_loop : loop_of N (from_place N p x) ≡ outer N f
-    x_loop = (at_place M s p t sound begins f x (in_listed f fs i) (in_listed x (places M p f) x_place)).loop ∙ sound.one_loop x (outer M f) (in-holds x (content M (outer M f)) outer_place.1)
-        ∙ sym (outer_same M N f (ap (λ u. table.get u f) keep.faces))
+    x_loop = (at_place M s p t sound begins f x (listed-from_in f fs i) (listed-from_in x (places M p f) x_place)).loop ∙ sound.one_loop x (outer M f) (in-holds x (content M (outer M f)) outer_place.1)
+        ∙ sym (same_outer M N f (ap (λ u. table.get u f) keep.faces))
 
     x_end : IsIn (from_place N p x) (ends (drawn_pairs M N p f))
     x_end = place_in_ends M s p t sound begins f i x x_place
@@ -216,7 +203,7 @@ module _ (M : Model) (s : ℕ) (p : Plane) (t : ℕ) (sound : Sound M) (begins :
       | inr a ↦
           let two : IsIn (from_place N p x) (q.0 ∷ q.1 ∷ []) = subst (λ qs. IsIn (from_place N p x) (ends qs)) e x_end in
           let one : from_place N p x ≡ q.1 = only (from_place N p x) q.1 (omega (arith, two, tick_other (from_place N p x) q.0 a.1)) in
-          equal (loop_of N q.0) (loop_of N q.1) (subst (LoneInOneLoop N) e fits.1) ∙ ap (loop_of N) (sym one) ∙ x_loop
+          eqb-true (loop_of N q.0) (loop_of N q.1) (subst (LoneInOneLoop N) e fits.1) ∙ ap (loop_of N) (sym one) ∙ x_loop
     ] where
       only : (a b : ℕ) → IsIn a (b ∷ []) → a ≡ b
       only a b j = elim (eqb_tells a b) [ inl y ↦ y.1 | inr y ↦ absurd (omega (arith, j, tick_other a b y.1)) ]

@@ -5,31 +5,15 @@ use Rattle.std.specs.Option.{option_map}
 use Rattle.std.proofs.lemmas.Bool.Decides.{nat_tests, eqb_tells}
 use Rattle.euler_operators.specs.Table as table
 use Rattle.euler_operators.specs.Table.{Table, get-map_rows}
-use Rattle.euler_operators.specs.Model.{Model, LoopRow, FaceRow, no_face, no_loop, loop_of, face_of, solid_of, outer, content}
+use Rattle.euler_operators.specs.Model.{Model, LoopRow, no_loop, loop_of, face_of, content}
 use Rattle.euler_operators.specs.Sound.{Has}
-use Rattle.euler_operators.proofs.Models.{face_row}
+use Rattle.euler_operators.proofs.Models.{face_row, same_face}
 use Rattle.euler_operators.specs.Conditions.{face_at, lists}
 use Rattle.euler_operators.specs.Effect.{loop_to_face}
-use Rattle.shapes.proofs.fresh.Rows.{get-put_here, get-put_other}
 use Rattle.shapes.specs.split.Drawing.{face_drawn, loops_joined, with_rings}
-use Rattle.split_drawing_laws.proofs.drawings.Drawn.{CanDraw, CanJoin}
+use Rattle.split_drawing_laws.proofs.drawings.Drawn.{CanDraw, CanJoin, face_drawn_else, loops_joined_faces}
 use Rattle.split_drawing_laws.proofs.drawings.Stays.{row_old, row_new, row_else, row_joined, row_gone, row_other}
-
-pub face_same : (M N : Model) (q : ℕ) → table.get N.loops q ≡ table.get M.loops q → face_of N q ≡ face_of M q
-unfolding face_of
-face_same M N q e = ap (λ o. (unwrap_or o no_loop).face) e
-
-pub outer_same : (M N : Model) (g : ℕ) → table.get N.faces g ≡ table.get M.faces g → outer N g ≡ outer M g
-unfolding outer
-outer_same M N g e = ap (λ o. (unwrap_or o no_face).outer) e
-
-pub solid_same : (M N : Model) (g : ℕ) → table.get N.faces g ≡ table.get M.faces g → solid_of N g ≡ solid_of M g
-unfolding solid_of
-solid_same M N g e = ap (λ o. (unwrap_or o no_face).solid) e
-
-pub outer_row : (N : Model) (g : ℕ) (row : FaceRow) → table.get N.faces g ≡ Some row → outer N g ≡ row.outer
-unfolding outer
-outer_row N g row e = ap (λ o. (unwrap_or o no_face).outer) e
+use Rattle.euler_laws.proofs.shared.Rows.{content_either}
 
 -- N is M with edges drawn in face f: the faces of M keep their rows, and their loops theirs, but for those of f
 pub record Beside (M N : Model) (f : ℕ) : Type 0 where
@@ -52,20 +36,16 @@ module _ (M N : Model) (f c d e : ℕ) (can : CanJoin N c d e) (at : face_at N c
   abbrev J : Model
   J = loops_joined N c d e
 
-  pub faces_joined : (loops_joined N c d e).faces ≡ N.faces
-  unfolding loops_joined
-  faces_joined = refl
-
   pub joined_beside : Beside M (loops_joined N c d e) f
   joined_beside = record {
-    faces = λ g there. ap (λ t. table.get t g) faces_joined ∙ w.faces g there;
+    faces = λ g there. ap (λ t. table.get t g) (loops_joined_faces N c d e) ∙ w.faces g there;
     loops = λ q there ne old. elim (eqb_tells q (loop_of N c)) [
       | inl a ↦ absurd (ne (ap (face_of J) a.1 ∙ face_row J (loop_of N c) _ (row_joined N c d e can) ∙ at))
       | inr a ↦ elim (eqb_tells q (loop_of N d)) [
         | inl b ↦ absurd (never_free J.loops (loop_of N d) (subst (Has J.loops) b.1 there) (row_gone N c d e can))
         | inr b ↦
             let same : table.get J.loops q ≡ table.get N.loops q = row_other N c d e can q a.1 b.1 in
-            let face : face_of J q ≡ face_of N q = face_same N J q same in
+            let face : face_of J q ≡ face_of N q = same_face N J q same in
             same ∙ w.loops q (ap is_some (sym same) ∙ there) (λ s. ne (face ∙ s)) (subst (Has M.faces) face old)
       ]
     ];
@@ -76,14 +56,6 @@ module _ (M N : Model) (f c d e : ℕ) (can : CanJoin N c d e) (at : face_at N c
 module _ (N : Model) (u k e g l : ℕ) (can : CanDraw N u k e g l) where
   abbrev K : Model
   K = face_drawn N u k e g l
-
-  pub face_new : table.get (face_drawn N u k e g l).faces g ≡ Some (record { solid = solid_of N (face_at N u); outer = l })
-  unfolding face_drawn
-  face_new = get-put_here N.faces g _
-
-  pub face_else : (h : ℕ) → h ≢ g → table.get (face_drawn N u k e g l).faces h ≡ table.get N.faces h
-  unfolding face_drawn
-  face_else h ne = get-put_other N.faces g _ h ne
 
   pub old_loop_face : face_of (face_drawn N u k e g l) (loop_of N u) ≡ face_at N u
   old_loop_face = face_row K (loop_of N u) _ (row_old N u k e g l can)
@@ -100,14 +72,14 @@ module _ (N : Model) (u k e g l : ℕ) (can : CanDraw N u k e g l) where
 
     pub drawn_beside : Beside M (face_drawn N u k e g l) f
     drawn_beside = record {
-      faces = λ h there. face_else h (λ s. never_free M.faces h there (ap (table.get M.faces) s ∙ new)) ∙ w.faces h there;
+      faces = λ h there. face_drawn_else N u k e g l h (λ s. never_free M.faces h there (ap (table.get M.faces) s ∙ new)) ∙ w.faces h there;
       loops = λ q there ne old. elim (eqb_tells q (loop_of N u)) [
         | inl a ↦ absurd (not_drawn (face_of K q) ne old (sym (ap (face_of K) a.1 ∙ old_loop_face)))
         | inr a ↦ elim (eqb_tells q l) [
           | inl b ↦ absurd (never_free M.faces (face_of K q) old (ap (table.get M.faces) (ap (face_of K) b.1 ∙ new_loop_face) ∙ new))
           | inr b ↦
               let same : table.get K.loops q ≡ table.get N.loops q = row_else N u k e g l can q a.1 b.1 in
-              let face : face_of K q ≡ face_of N q = face_same N K q same in
+              let face : face_of K q ≡ face_of N q = same_face N K q same in
               same ∙ w.loops q (ap is_some (sym same) ∙ there) (λ s. ne (face ∙ s)) (subst (Has M.faces) face old)
         ]
       ];
@@ -143,19 +115,12 @@ rows_given t (l ∷ ls) k q = rows_given (table.map_rows (loop_to_face l k) t) l
   go (Some row) = ap Some (given_twice l ls k q row)
 
 module _ (N : Model) (ls : List ℕ) (k q : ℕ) where
-  abbrev W : Model
-  W = with_rings N ls k
-
   pub given_content : content (with_rings N ls k) q ≡ content N q
   unfolding content
   given_content = ap (λ o. (unwrap_or o no_loop).content) (rows_given N.loops ls k q) ∙ go (table.get N.loops q) where
-    one : (b : Bool) (row : LoopRow) → (cond b (record row { face = k }) row).content ≡ row.content
-    one true row = refl
-    one false row = refl
-
     go : (o : Option LoopRow) → (unwrap_or (option_map (given ls k q) o) no_loop).content ≡ (unwrap_or o no_loop).content
     go None = refl
-    go (Some row) = one (lists ls q) row
+    go (Some row) = content_either (lists ls q) row k
 
   pub given_has : table.has (with_rings N ls k).loops q ≡ table.has N.loops q
   given_has = ap is_some (rows_given N.loops ls k q) ∙ go (table.get N.loops q) where

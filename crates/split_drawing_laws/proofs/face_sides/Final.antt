@@ -1,16 +1,19 @@
 -- From the first conditions of a split to the sides of its loops and faces.
-use Rattle.std.proofs.Common.{◌≡◌, ℕ, Bool, true, false, not, nat_eq, ◌&&◌, ◌||◌, List, [], ◌∷◌, is_some, unwrap_or, refl, sym, ap, ◌∙◌, subst, arith, inl, inr, true≢false}
+use Rattle.std.proofs.Common.{◌≡◌, ℕ, Bool, true, false, not, nat_eq, ◌&&◌, ◌||◌, List, [], ◌∷◌, is_some, unwrap_or, refl, sym, ap, ◌∙◌, subst, arith, inl, inr}
 use Rattle.std.proofs.lemmas.Bool.Decides.{eqb_tells}
+use Rattle.std.proofs.lemmas.Bool.{eq-eqb, eqb-true}
 use Rattle.euler_operators.specs.declared.Plane.{Plane}
 use Rattle.euler_operators.specs.Vectors.{is_above, is_below}
 use Rattle.euler_operators.specs.Items.{IsIn}
 use Rattle.euler_operators.proofs.Lists.{count-append, tick_same, tick_other, IsIn_or_not}
 use Rattle.euler_operators.specs.Model.{Model, LoopContent, cycle, items_of, content, has_half, tail, loop_of, face_of, solid_of, outer, point_of, faces_of, no_face}
 use Rattle.euler_operators.specs.Sound.{Sound, Has, HasHalf}
-use Rattle.euler_operators.proofs.Models.{in-holds, content_cycle, face_row}
+use Rattle.euler_operators.proofs.Models.{in-holds, content_cycle, face_row, same_solid as solid_same}
+use Rattle.euler_operators.proofs.Tests.{and_first, and_false}
+use Rattle.euler_operators.proofs.Maps.{from_map}
 use Rattle.euler_operators.specs.Conditions.{face_at, lists}
-use Rattle.euler_laws.proofs.shared.Goes.{equal, equals}
-use Rattle.euler_laws.proofs.shared.Counted.{none_counted, listed_in, all_where_has}
+use Rattle.euler_laws.proofs.shared.Listed.{IsIn-from_listed}
+use Rattle.euler_laws.proofs.shared.Fans.{half_face}
 use Rattle.shapes.specs.Faces.{start, loops_of, vertices_on, vertices_in, corners}
 use Rattle.shapes.specs.split.Sides.{straddles, straddling_faces, reaches_above, reaches_below}
 use Rattle.shapes.specs.split.Crossings.{with_crossings}
@@ -21,21 +24,19 @@ use Rattle.split_drawing_laws.proofs.crossings.Premises.{faces_not_zero}
 use Rattle.split_drawing_laws.proofs.crossings.Whole.{crossings_keep, crossings_sound, same_solid}
 use Rattle.split_drawing_laws.proofs.pairs.Whole.{can_be_drawn}
 use Rattle.split_drawing_laws.specs.drawings.Laws.{CanBeDrawn}
-use Rattle.split_drawing_laws.proofs.drawings.Stays.{has_face}
 use Rattle.split_drawing_laws.proofs.drawings.Whole.{drawable, drawing_sound}
 use Rattle.split_drawing_laws.specs.loop_sides.Laws.{TakeSides}
 use Rattle.split_drawing_laws.specs.loop_sides.Parted.{LiesOn, Parted}
 use Rattle.split_drawing_laws.proofs.loop_sides.Parting.{loop_on_one_side}
 use Rattle.split_drawing_laws.proofs.loop_sides.SidesWhole.{all_drawn_parted, loops_on_one_side}
 use Rattle.split_drawing_laws.specs.half_sides.HalfSides.{side_of, is_own}
-use Rattle.split_drawing_laws.proofs.half_sides.EndLists.{mapped_from}
 use Rattle.split_drawing_laws.proofs.half_sides.Taking.{take_sides}
 use Rattle.split_drawing_laws.specs.face_sides.Laws.{IsDrawn}
 use Rattle.split_drawing_laws.proofs.face_sides.Begun.{sided_first, pairs_of}
-use Rattle.split_drawing_laws.proofs.face_sides.Beside.{solid_same}
 use Rattle.split_drawing_laws.proofs.face_sides.OneFace.{IsSided}
 use Rattle.split_drawing_laws.proofs.face_sides.Same.{none_from}
 use Rattle.split_drawing_laws.proofs.face_sides.Stages.{Stage, all_done}
+use Rattle.euler_laws.proofs.shared.Counted.{none_counted, all_where_has}
 
 cycle_of_items : (c : LoopContent) (zs : List ℕ) → c ≡ cycle zs → c ≡ cycle (items_of c)
 cycle_of_items c zs e = e ∙ ap (λ d. cycle (items_of d)) (sym e)
@@ -52,7 +53,7 @@ pub tail_in : (D : Model) (v : ℕ) (ls : List ℕ) → ((q : ℕ) → IsIn q ls
 tail_in D v [] cycles i = absurd (omega (arith, i))
 tail_in D v (l ∷ ls) cycles i = elim (IsIn_or_not v (vertices_on D (content D l))) [
   | inl j ↦
-      let r = mapped_from (tail D) v (items_of (content D l)) (subst (λ c. IsIn v (vertices_on D c)) (cycles l (omega (arith, tick_same l))) j) in
+      let r = from_map (tail D) v (items_of (content D l)) (subst (λ c. IsIn v (vertices_on D c)) (cycles l (omega (arith, tick_same l))) j) in
       record { half = r.0; loop = l; loop_in = omega (arith, tick_same l); half_in = r.1; is = r.2 }
   | inr z ↦
       let r = tail_in D v ls (λ q k. cycles q (omega (arith, k))) (omega (arith, i, z, count-append v (vertices_on D (content D l)) (vertices_in D ls))) in
@@ -112,15 +113,15 @@ module _ (M : Model) (s : ℕ) (p : Plane) (t : ℕ) (sound : Sound M) (begins :
   own_before : (h : ℕ) → HasHalf N h → solid_of D (face_at D h) ≡ s → solid_of N (face_at N h) ≡ s
   own_before h there of_s = go (lists fs (face_at N h)) refl where
     go : (b : Bool) → lists fs (face_at N h) ≡ b → solid_of N (face_at N h) ≡ s
-    go true e = same_solid M s p t sound begins (face_at N h) ∙ (face_facts M s p t sound begins (face_at N h) (listed_in (face_at N h) fs e)).1
-    go false e = sym (solid_same N D (face_at N h) (stage.rows (face_at N h) (has_face N N_sound h there))) ∙ ap (solid_of D) (sym (stage.kept h there (none_counted (face_at N h) fs e))) ∙ of_s
+    go true e = same_solid M s p t sound begins (face_at N h) ∙ (face_facts M s p t sound begins (face_at N h) (IsIn-from_listed (face_at N h) fs e)).1
+    go false e = sym (solid_same N D (face_at N h) (stage.rows (face_at N h) (half_face N N_sound h there))) ∙ ap (solid_of D) (sym (stage.kept h there (none_counted (face_at N h) fs e))) ∙ of_s
 
   is_own_then : (h : ℕ) → solid_of D (face_at D h) ≡ s → is_own M s p h ≡ true
   unfolding is_own
   is_own_then h of_s = go (has_half N h) refl where
     go : (b : Bool) → has_half N h ≡ b → (not (has_half N h) || nat_eq (solid_of N (face_at N h)) s) ≡ true
     go false e = ap (λ b. not b || nat_eq (solid_of N (face_at N h)) s) e
-    go true e = ap (λ b. not b || nat_eq (solid_of N (face_at N h)) s) e ∙ equals (solid_of N (face_at N h)) s (own_before h e of_s)
+    go true e = ap (λ b. not b || nat_eq (solid_of N (face_at N h)) s) e ∙ eq-eqb (solid_of N (face_at N h)) s (own_before h e of_s)
 
   pub loops_are_sided : (x y : ℕ) → HasHalf D x → HasHalf D y → loop_of D x ≡ loop_of D y → solid_of D (face_at D x) ≡ s → (b : Bool) × LiesOn p b (start D x) × LiesOn p b (start D y)
   loops_are_sided x y xt yt same of_s = loops_on_one_side M p (with_crossings M s p) fs side (is_own M s p) can sides ends x y xt yt same
@@ -141,11 +142,8 @@ module _ (M : Model) (s : ℕ) (p : Plane) (t : ℕ) (sound : Sound M) (begins :
       | inl e ↦ let o = D_sound.outers_there f there in (subst (Has D.loops) (sym e.1) o.0, ap (face_of D) e.1 ∙ o.1)
       | inr e ↦
           let w = all_where_has (λ k row. nat_eq row.face f && not (nat_eq (outer D f) k)) D.loops q (omega (arith, i, tick_other q (outer D f) e.1)) in
-          (ap is_some w.1, face_row D q w.0 w.1 ∙ equal w.0.face f (first_of (nat_eq w.0.face f) (not (nat_eq (outer D f) q)) w.2))
-    ] where
-      first_of : (a c : Bool) → (a && c) ≡ true → a ≡ true
-      first_of true c e = refl
-      first_of false c e = absurd (true≢false (sym e))
+          (ap is_some w.1, face_row D q w.0 w.1 ∙ eqb-true w.0.face f (and_first (nat_eq w.0.face f) (not (nat_eq (outer D f) q)) w.2))
+    ]
 
     loop_cycle : (q : ℕ) → IsIn q (loops_of D f) → content D q ≡ cycle (items_of (content D q))
     loop_cycle q i =
@@ -176,10 +174,7 @@ module _ (M : Model) (s : ℕ) (p : Plane) (t : ℕ) (sound : Sound M) (begins :
 
     either_none : (c : Bool) → ((v : ℕ) → IsIn v (corners D f) → LiesOn p c (point_of D v)) → straddles D p f ≡ false
     unfolding straddles
-    either_none true lies = ap (λ a. reaches_above D p f && a) (none_below lies) ∙ nothing (reaches_above D p f) where
-      nothing : (a : Bool) → (a && false) ≡ false
-      nothing true = refl
-      nothing false = refl
+    either_none true lies = ap (λ a. reaches_above D p f && a) (none_below lies) ∙ and_false (reaches_above D p f)
     either_none false lies = ap (λ a. a && reaches_below D p f) (none_above lies)
 
     pub face_is_sided : straddles D p f ≡ false
@@ -197,5 +192,5 @@ pub none_straddles : (M D : Model) (s : ℕ) (p : Plane) (t : ℕ) → Sound M �
 unfolding with_drawings solid_of
 none_straddles M D s p t sound begins drawn = subst (λ X. (f : ℕ) → lists (faces_of X s) f ≡ true → straddles X p f ≡ false) drawn.1 (λ f i.
     let X : Model = (faces_drawn M p (with_crossings M s p) (straddling_faces M p s)).model in
-    let w = all_where_has (λ _ row. nat_eq row.solid s) X.faces f (listed_in f (faces_of X s) i) in
-    face_is_sided M s p t sound begins drawn.0 f (ap is_some w.1) (ap (λ o. (unwrap_or o no_face).solid) w.1 ∙ equal w.0.solid s w.2))
+    let w = all_where_has (λ _ row. nat_eq row.solid s) X.faces f (IsIn-from_listed f (faces_of X s) i) in
+    face_is_sided M s p t sound begins drawn.0 f (ap is_some w.1) (ap (λ o. (unwrap_or o no_face).solid) w.1 ∙ eqb-true w.0.solid s w.2))

@@ -6,22 +6,24 @@ use Rattle.euler_operators.specs.Table as table
 use Rattle.euler_operators.specs.Model.{Model, holds, content, loop_of, face_of, outer}
 use Rattle.euler_operators.specs.Sound.{Sound, Has, HasHalf}
 use Rattle.euler_operators.specs.Conditions.{face_at, lists, has_rings}
+use Rattle.euler_operators.proofs.Models.{same_content, same_face, same_outer, loop_there}
+use Rattle.euler_operators.proofs.Tables.{row_elsewhere}
 use Rattle.euler_laws.proofs.shared.Rows.{no_rings_means}
 use Rattle.shapes.specs.Faces.{vertices_on}
 use Rattle.shapes.specs.split.Sides.{some_above}
 use Rattle.shapes.specs.split.Drawing.{Drawing, face_drawn, stuck_at, all_joined, ring_free, all_drawn, rings_above, with_rings, rings_shared, drawn_between}
 use Rattle.split_drawing_laws.specs.drawings.DrawnIn.{Stays}
-use Rattle.split_drawing_laws.proofs.drawings.Drawn.{CanDraw}
+use Rattle.split_drawing_laws.proofs.drawings.Drawn.{CanDraw, face_drawn_else}
 use Rattle.split_drawing_laws.specs.drawings.Passing.{Ready}
 use Rattle.split_drawing_laws.proofs.drawings.Faces.{face_goes, begun_joining, joins, going}
 use Rattle.split_drawing_laws.proofs.drawings.Pairs.{none_joined, joined_drawn, pair_can, stays_on}
 use Rattle.split_drawing_laws.proofs.drawings.Passes.{join_next_one, draw_next_one, cut_off, edge_fits, face_fits, loop_fits, room_as}
-use Rattle.split_drawing_laws.proofs.drawings.Stays.{not_free, has_loop, same_content, row_else, draw_stays}
+use Rattle.split_drawing_laws.proofs.drawings.Stays.{row_else, draw_stays}
 use Rattle.split_drawing_laws.specs.drawings.DrawnIn.{Room}
 use Rattle.split_drawing_laws.proofs.loop_sides.SidesWhole.{draws_stuck}
 use Rattle.split_drawing_laws.proofs.half_sides.PlaceEnds.{AllUp}
 use Rattle.split_drawing_laws.proofs.face_sides.Alone.{Lone, Alone}
-use Rattle.split_drawing_laws.proofs.face_sides.Beside.{Beside, ComesOf, nothing_beside, drawn_beside, never_free, face_same, outer_same, face_else, given_has, given_else, given_face}
+use Rattle.split_drawing_laws.proofs.face_sides.Beside.{Beside, ComesOf, nothing_beside, drawn_beside, never_free, given_has, given_else, given_face}
 use Rattle.split_drawing_laws.proofs.face_sides.Passing.{AllOld, Joined, joins_beside, Parting, draws_part}
 use Rattle.split_drawing_laws.proofs.face_sides.Same.{above_stays}
 use Rattle.split_drawing_laws.proofs.face_sides.Shared.{HeldOn, LiesOnSide, Cut, old_lies, new_lies}
@@ -95,10 +97,10 @@ module _ (B : Model) (side : ℕ → Bool) (p : Plane) (f : ℕ) (q : ℕ × ℕ
       (edge_fits d.taken n room_one) (face_fits d.taken n room_one) (loop_fits d.taken n room_one)
 
   u_row : table.get X.loops (loop_of X q.0) ≡ table.get B.loops (loop_of X q.0)
-  u_row = untouched.loops (loop_of X q.0) (has_loop X w.sound q.0 w.fit.0.u_there) w.fit.0.u_face
+  u_row = untouched.loops (loop_of X q.0) (loop_there X w.sound q.0 w.fit.0.u_there) w.fit.0.u_face
 
   outer_is : outer X f ≡ loop_of X q.0
-  outer_is = outer_same B X f untouched.row ∙ sym (pairs.single q refl) ∙ loop_back B X B_sound w.sound q.0 w.fit.0.u_there u_row
+  outer_is = same_outer B X f untouched.row ∙ sym (pairs.single q refl) ∙ loop_back B X B_sound w.sound q.0 w.fit.0.u_there u_row
 
   K_stays : Stays X K
   K_stays = draw_stays X q.0 q.1 e g l can
@@ -106,8 +108,8 @@ module _ (B : Model) (side : ℕ → Bool) (p : Plane) (f : ℕ) (q : ℕ × ℕ
   ring_then : (r : ℕ) → Has X.loops r → face_of X r ≡ f → r ≢ outer X f → HeldOn B X side r (some_above K p (vertices_on K (content K r)))
   ring_then r there face inner =
       let row : table.get X.loops r ≡ table.get B.loops r = untouched.loops r there face in
-      let was = pairs.rings r (ap is_some (sym row) ∙ there) (sym (face_same B X r row) ∙ face) in
-      let same : content K r ≡ content B r = same_content X K r (row_else X q.0 q.1 e g l can r (λ s. inner (s ∙ sym outer_is)) (not_free X.loops r l there can.loop_free)) ∙ same_content B X r row in
+      let was = pairs.rings r (ap is_some (sym row) ∙ there) (sym (same_face B X r row) ∙ face) in
+      let same : content K r ≡ content B r = same_content X K r (row_else X q.0 q.1 e g l can r (λ s. inner (s ∙ sym outer_is)) (row_elsewhere X.loops r l there can.loop_free)) ∙ same_content B X r row in
       record {
         held = record { half = was.held.half; old = was.held.old; at = loop_on B X B_sound w.sound was.held.half r was.held.old was.held.at row };
         on = was.on ∙ sym (above_stays B K (stays_on B X K stays K_stays) p r B_sound same);
@@ -145,7 +147,7 @@ module _ (B : Model) (side : ℕ → Bool) (p : Plane) (f : ℕ) (q : ℕ × ℕ
     go r there ne old true i = absurd (never_free X.faces (face_of W r) old (ap (table.get X.faces) (given_face K (rings_above K p f) g r i (sym (given_has K (rings_above K p f) g r) ∙ there)) ∙ g_free))
     go r there ne old false i =
         let row : table.get W.loops r ≡ table.get K.loops r = given_else K (rings_above K p f) g r i in
-        let face : face_of W r ≡ face_of K r = face_same K W r row in
+        let face : face_of W r ≡ face_of K r = same_face K W r row in
         row ∙ K_beside.loops r (ap is_some (sym row) ∙ there) (λ s. ne (face ∙ s)) (subst (Has X.faces) face old)
 
   W_sided : (h : ℕ) → Has W.faces h → ComesOf X f h → IsSided B W side h
@@ -153,7 +155,7 @@ module _ (B : Model) (side : ℕ → Bool) (p : Plane) (f : ℕ) (q : ℕ × ℕ
     | inl a ↦ (false, subst (λ z. LiesOnSide B W side z false) (sym a) (old_lies B X side p f q.0 q.1 e g l cut K_stays W_sound))
     | inr none ↦ elim (eqb_tells h g) [
       | inl a ↦ (true, subst (λ z. LiesOnSide B W side z true) (sym a.1) (new_lies B X side p f q.0 q.1 e g l cut K_stays W_sound))
-      | inr a ↦ absurd (never_free K.faces h there (face_else X q.0 q.1 e g l can h a.1 ∙ none))
+      | inr a ↦ absurd (never_free K.faces h there (face_drawn_else X q.0 q.1 e g l h a.1 ∙ none))
     ]
   ]
 
@@ -220,7 +222,7 @@ module _ (B : Model) (side : ℕ → Bool) (p : Plane) (f : ℕ) (q r : ℕ × �
   q_face = (joins p f ps d n w).state.joined.faces q.0 w.fit.0.u_there ∙ w.fit.0.u_face
 
   q_outer : outer J.model f ≡ loop_of J.model q.0
-  q_outer = no_rings_means J.model f no_rings (loop_of J.model q.0) (has_loop J.model state_sound q.0 q_there) q_face
+  q_outer = no_rings_means J.model f no_rings (loop_of J.model q.0) (loop_there J.model state_sound q.0 q_there) q_face
 
   begun_alone : Alone B d.model J.model f
   begun_alone z there drawn = elim drawn [

@@ -1,27 +1,20 @@
 -- The two passes over the pairs of a face: what stays beside it, and that it stays without rings.
-use Rattle.std.proofs.Common.{◌≡◌, ℕ, ◌+◌, Bool, true, false, cond, List, [], ◌∷◌, ◌++◌, None, is_some, IsTrue, refl, sym, ap, ◌∙◌, subst, true≢false}
+use Rattle.std.proofs.Common.{◌≡◌, ℕ, ◌+◌, Bool, true, false, cond, List, [], ◌∷◌, ◌++◌, None, IsTrue, refl, sym, ◌∙◌, subst}
 use Rattle.std.specs.Prelude.{fold}
 use Rattle.euler_operators.specs.Table as table
 use Rattle.euler_operators.specs.Model.{Model, loop_of, is_ring_of, is_number}
 use Rattle.euler_operators.specs.Sound.{Sound, HasHalf}
 use Rattle.euler_operators.specs.Conditions.{face_at}
-use Rattle.euler_laws.proofs.shared.Goes.{free}
 use Rattle.shapes.specs.split.Drawing.{Drawing, loops_joined, in_one_loop, joined_pair, join_next, draw_next}
 use Rattle.split_drawing_laws.specs.drawings.DrawnIn.{JoinedIn, Stays}
 use Rattle.split_drawing_laws.specs.drawings.Pairs.{Fits, AllFit}
 use Rattle.split_drawing_laws.specs.drawings.Passing.{Joining, Going}
-use Rattle.split_drawing_laws.proofs.drawings.Pairs.{stays_on, can_back, can_on, pair_can}
+use Rattle.split_drawing_laws.proofs.drawings.Pairs.{stays_on, can_back, can_on, pair_can, was_free}
 use Rattle.split_drawing_laws.proofs.drawings.Passes.{join_one, join_next_one, join_next_two, draw_one, draw_next_one, draw_next_two, cut_off, edge_free, edge_fits_now, edge_open, face_open, loop_open, room_here, edge_fits, face_fits, loop_fits}
 use Rattle.split_drawing_laws.proofs.drawings.Stays.{draw_stays}
+use Rattle.split_drawing_laws.proofs.drawings.Drawn.{loops_joined_faces}
 use Rattle.split_drawing_laws.proofs.face_sides.Alone.{Alone, draw_alone}
-use Rattle.split_drawing_laws.proofs.face_sides.Beside.{Beside, ComesOf, faces_joined, joined_beside, drawn_beside}
-
--- a number that is free now was free before
-pub free_before : (M N : Model) → Stays M N → (g : ℕ) → table.get N.faces g ≡ None → table.get M.faces g ≡ None
-free_before M N stays g none = free (table.get M.faces g) (go (table.has M.faces g) refl) where
-  go : (b : Bool) → table.has M.faces g ≡ b → table.has M.faces g ≡ false
-  go true t = absurd (true≢false (sym (stays.faces g t) ∙ ap is_some none))
-  go false t = t
+use Rattle.split_drawing_laws.proofs.face_sides.Beside.{Beside, ComesOf, joined_beside, drawn_beside}
 
 -- the half-edges of pairs are in B
 abbrev pub AllOld : Model → List (ℕ × ℕ) → Type 0
@@ -49,11 +42,11 @@ module _ (B M : Model) (f : ℕ) where
     go true r =
         let can = can_back M N f q e joined fits two none efits r in
         let at : face_at N q.1 ≡ f = joined.faces q.1 fits.k_there ∙ fits.k_face in
-        (joined_beside M N f q.1 q.0 e can at w, faces_joined M N f q.1 q.0 e can at w ∙ same)
+        (joined_beside M N f q.1 q.0 e can at w, loops_joined_faces N q.1 q.0 e ∙ same)
     go false r =
         let can = can_on M N f q e joined fits two none efits r in
         let at : face_at N q.0 ≡ f = joined.faces q.0 fits.u_there ∙ fits.u_face in
-        (joined_beside M N f q.0 q.1 e can at w, faces_joined M N f q.0 q.1 e can at w ∙ same)
+        (joined_beside M N f q.0 q.1 e can at w, loops_joined_faces N q.0 q.1 e ∙ same)
 
   join_step : (d : Drawing) (q : ℕ × ℕ) (qs : List (ℕ × ℕ)) (n : ℕ) → Fits M f q → HasHalf B q.0 × HasHalf B q.1 → Joining M f d (q ∷ qs) n → Joined d → Joined (join_next d q)
   join_step d q qs n fits in_b w a = go (in_one_loop d.model q) refl where
@@ -86,7 +79,7 @@ module _ (B M : Model) (f : ℕ) where
           (edge_fits d.taken _ (room_here M f sound d q qs n fits w)) (face_fits d.taken _ (room_here M f sound d q qs n fits w)) (loop_fits d.taken _ (room_here M f sound d q qs n fits w)) in
           subst Parting (sym (draw_next_one f d q e)) (record {
             beside = drawn_beside d.model q.0 q.1 (d.taken.edge + 1) (d.taken.face + 1) (d.taken.loop + 1) can M f drawn
-                (free_before M d.model w.drawn.stays (d.taken.face + 1) (face_open M f sound d q qs n fits w)) a.beside;
+                (was_free M d.model w.drawn.stays (d.taken.face + 1) (face_open M f sound d q qs n fits w)) a.beside;
             stays = stays_on B d.model (cut_off d q).model a.stays (draw_stays d.model q.0 q.1 (d.taken.edge + 1) (d.taken.face + 1) (d.taken.loop + 1) can);
             alone = draw_alone d.model q.0 q.1 (d.taken.edge + 1) (d.taken.face + 1) (d.taken.loop + 1) can B M f a.stays u_old k_old drawn a.alone;
           })

@@ -1,25 +1,26 @@
 -- A face with one pair: its loop is cut in two, and the rings above go to the new face.
 use Rattle.std.proofs.Common.{◌≡◌, ◌≢◌, ℕ, Bool, true, false, not, nat_eq, ◌&&◌, is_some, refl, sym, ap, ◌∙◌, subst, inl, inr, true≢false}
 use Rattle.std.proofs.lemmas.Bool.Decides.{eqb_tells}
+use Rattle.std.proofs.lemmas.Bool.{ne_eqb, eq-eqb}
 use Rattle.std.specs.Prelude.{List}
 use Rattle.euler_operators.specs.declared.Plane.{Plane}
 use Rattle.euler_operators.specs.Table as table
 use Rattle.euler_operators.specs.Model.{Model, content, holds, loop_of, face_of, outer, rings_of, is_ring_of}
 use Rattle.euler_operators.specs.Sound.{Sound, Has, HasHalf, StandsIn}
 use Rattle.euler_operators.specs.Conditions.{face_at, lists}
-use Rattle.euler_laws.proofs.shared.Goes.{equals, differs}
-use Rattle.shapes.proofs.walks.FaceLoops.{ring_listed}
-use Rattle.euler_laws.proofs.shared.Counted.{in_listed, listed_in}
+use Rattle.euler_operators.proofs.Members.{IsIn-filter, filter_passes}
+use Rattle.euler_operators.proofs.Models.{same_face}
+use Rattle.euler_laws.proofs.shared.Listed.{IsIn-from_listed, listed-from_in}
 use Rattle.shapes.specs.Faces.{vertices_on}
 use Rattle.shapes.specs.split.Sides.{some_above}
 use Rattle.shapes.specs.split.Drawing.{face_drawn, rings_above, with_rings}
-use Rattle.split_drawing_laws.proofs.crossings.Listed.{picked, picked_passes}
 use Rattle.split_drawing_laws.specs.drawings.DrawnIn.{Stays}
 use Rattle.split_drawing_laws.proofs.drawings.Drawn.{CanDraw, draw_sound}
 use Rattle.split_drawing_laws.proofs.drawings.Rings.{RingOf, rings_are}
 use Rattle.split_drawing_laws.proofs.drawings.Stays.{row_else, draw_beside}
 use Rattle.split_drawing_laws.proofs.face_sides.Alone.{Held, u_goes, k_stays, outer_kept}
-use Rattle.split_drawing_laws.proofs.face_sides.Beside.{face_same, old_loop_face, new_loop_face, never_free, given_content, given_has, given_else, given_face}
+use Rattle.split_drawing_laws.proofs.face_sides.Beside.{old_loop_face, new_loop_face, never_free, given_content, given_has, given_else, given_face}
+use Rattle.shapes.proofs.walks.FaceLoops.{ring_listed}
 
 -- loop q of N holds a half-edge of B on side b
 pub record HeldOn (B N : Model) (side : ℕ → Bool) (q : ℕ) (b : Bool) : Type 0 where
@@ -71,22 +72,22 @@ module _ (B N : Model) (side : ℕ → Bool) (p : Plane) (f u k e g l : ℕ) (c 
   -- ---- the rings that are given away
 
   ring_of : (r : ℕ) → lists ls r ≡ true → RingOf K f r
-  ring_of r i = rings_are K f test r (listed_in r ls i)
+  ring_of r i = rings_are K f test r (IsIn-from_listed r ls i)
 
   passes : (r : ℕ) → lists ls r ≡ true → test r ≡ true
-  passes r i = picked_passes test r (rings_of K f) (listed_in r ls i)
+  passes r i = filter_passes test r (rings_of K f) (IsIn-from_listed r ls i)
 
   -- a ring that isn't given away doesn't pass
   passes_not : (r : ℕ) → Has K.loops r → face_of K r ≡ f → outer K f ≢ r → lists ls r ≡ false → test r ≡ false
   passes_not r there face inner not_listed = go (test r) refl where
     ring : is_ring_of K f r ≡ true
-    ring = three (table.has K.loops r) (nat_eq (face_of K r) f) (nat_eq (outer K f) r) there (equals (face_of K r) f face) (differs (outer K f) r inner) where
+    ring = three (table.has K.loops r) (nat_eq (face_of K r) f) (nat_eq (outer K f) r) there (eq-eqb (face_of K r) f face) (ne_eqb (outer K f) r inner) where
       three : (a b d : Bool) → a ≡ true → b ≡ true → d ≡ false → (a && b && not d) ≡ true
       three a b d x y z = (λ i. x i && y i && not (z i))
 
     go : (b : Bool) → test r ≡ b → test r ≡ false
     go false e = e
-    go true e = absurd (true≢false (sym (in_listed r ls (picked test r (rings_of K f) (listed_in r (rings_of K f) (ring_listed K K_sound f r ring)) e)) ∙ not_listed))
+    go true e = absurd (true≢false (sym (listed-from_in r ls (IsIn-filter test r (rings_of K f) (IsIn-from_listed r (rings_of K f) (ring_listed K K_sound f r ring)) e)) ∙ not_listed))
 
   -- a ring of f then was one before, and its half-edge stays there
   module _ (r : ℕ) (there : Has K.loops r) (face : face_of K r ≡ f) (inner : outer K f ≢ r) where
@@ -100,7 +101,7 @@ module _ (B N : Model) (side : ℕ → Bool) (p : Plane) (f u k e g l : ℕ) (c 
     same_row = row_else N u k e g l c.can r not_first not_second
 
     was : HeldOn B N side r (test r)
-    was = c.rings r (ap is_some (sym same_row) ∙ there) (sym (face_same N K r same_row) ∙ face) (λ s. not_first (s ∙ c.u_outer))
+    was = c.rings r (ap is_some (sym same_row) ∙ there) (sym (same_face N K r same_row) ∙ face) (λ s. not_first (s ∙ c.u_outer))
 
     ring_held : HeldOn B K side r (test r)
     ring_held = record {
@@ -151,7 +152,7 @@ module _ (B N : Model) (side : ℕ → Bool) (p : Plane) (f u k e g l : ℕ) (c 
 
       go : (b : Bool) → lists ls q ≡ b → HeldOn B K side q false
       go true e = absurd (f_other (sym face ∙ given_face K ls g q e (was_loop q there)))
-      go false e = below (sym (face_same K W q (given_else K ls g q e)) ∙ face) e
+      go false e = below (sym (same_face K W q (given_else K ls g q e)) ∙ face) e
 
     -- and the new one above
     pub new_lies : LiesOnSide B W side g true
@@ -163,10 +164,10 @@ module _ (B N : Model) (side : ℕ → Bool) (p : Plane) (f u k e g l : ℕ) (c 
           | inl b ↦ absurd (f_other (sym first_face ∙ ap (face_of K) (sym b.1) ∙ at))
           | inr b ↦
               let same : table.get K.loops q ≡ table.get N.loops q = row_else N u k e g l c.can q b.1 a.1 in
-              absurd (never_free N.faces g (subst (Has N.faces) (sym (face_same N K q same) ∙ at) (c.can.sound.loops_of_faces q (ap is_some (sym same) ∙ was_loop q there))) c.can.face_free)
+              absurd (never_free N.faces g (subst (Has N.faces) (sym (same_face N K q same) ∙ at) (c.can.sound.loops_of_faces q (ap is_some (sym same) ∙ was_loop q there))) c.can.face_free)
         ]
       ]
 
       go : (b : Bool) → lists ls q ≡ b → HeldOn B K side q true
       go true e = let r = ring_of q e in subst (HeldOn B K side q) (passes q e) (ring_held q r.there r.face r.inner)
-      go false e = cut_off (sym (face_same K W q (given_else K ls g q e)) ∙ face)
+      go false e = cut_off (sym (same_face K W q (given_else K ls g q e)) ∙ face)

@@ -5,11 +5,12 @@ use Rattle.std.proofs.lemmas.Bool.Decides.{eqb_tells}
 use Rattle.euler_operators.specs.declared.Plane.{Plane}
 use Rattle.euler_operators.specs.Items.{count, IsIn}
 use Rattle.euler_operators.proofs.Lists.{tick_same, tick_other}
+use Rattle.euler_operators.proofs.Tables.{no_row}
+use Rattle.euler_operators.proofs.Models.{same_face, same_solid}
 use Rattle.euler_operators.specs.Table as table
 use Rattle.euler_operators.specs.Model.{Model, face_of, solid_of}
 use Rattle.euler_operators.specs.Sound.{Sound, Has, HasHalf}
 use Rattle.euler_operators.specs.Conditions.{face_at}
-use Rattle.euler_laws.proofs.shared.Goes.{free}
 use Rattle.shapes.specs.split.Drawing.{Drawing, drawn_pairs, next_drawn}
 use Rattle.split_drawing_laws.specs.drawings.DrawnIn.{Stays, DrawnIn}
 use Rattle.split_drawing_laws.specs.drawings.Pairs.{pairs_in}
@@ -18,7 +19,6 @@ use Rattle.split_drawing_laws.proofs.drawings.Faces.{face_goes}
 use Rattle.split_drawing_laws.proofs.drawings.Pairs.{stays_on}
 use Rattle.split_drawing_laws.proofs.drawings.Whole.{ready, drawable_on, next_is}
 use Rattle.split_drawing_laws.proofs.loop_sides.SidesWhole.{not_stuck}
-use Rattle.split_drawing_laws.proofs.face_sides.Beside.{face_same, solid_same}
 use Rattle.split_drawing_laws.proofs.face_sides.OneFace.{Untouched, IsSided, PairsOf, FaceDone, face_done}
 use Rattle.split_drawing_laws.proofs.face_sides.Shared.{LiesOnSide}
 
@@ -56,7 +56,7 @@ module _ (M B : Model) (side : ℕ → Bool) (s : ℕ) (all : List ℕ) (p : Pla
     lies_still : (g : ℕ) (b : Bool) → g ≢ f → Has X.faces g → LiesOnSide B X side g b → LiesOnSide B Y side g b
     lies_still g b ne old lies q there at =
         let row : table.get Y.loops q ≡ table.get X.loops q = face.beside.loops q there (λ z. ne (sym at ∙ z)) (subst (Has X.faces) (sym at) old) in
-        let at_first : face_of X q ≡ g = sym (face_same X Y q row) ∙ at in
+        let at_first : face_of X q ≡ g = sym (same_face X Y q row) ∙ at in
         let was = lies q (ap is_some (sym row) ∙ there) at_first in
         record {
           held = record {
@@ -73,9 +73,9 @@ module _ (M B : Model) (side : ℕ → Bool) (s : ℕ) (all : List ℕ) (p : Pla
       | inr ne ↦ go (table.has X.faces g) refl ne.1
     ] where
       go : (b : Bool) → table.has X.faces g ≡ b → g ≢ f → IsSided B Y side g
-      go false e ne = face.sided g there (inr (free (table.get X.faces g) e))
+      go false e ne = face.sided g there (inr (no_row (table.get X.faces g) e))
       go true e ne =
-          let was = a.done g e (sym (solid_same X Y g (face.beside.faces g e)) ∙ of_s) (omega (arith, z, tick_other g f ne)) in
+          let was = a.done g e (sym (same_solid X Y g (face.beside.faces g e)) ∙ of_s) (omega (arith, z, tick_other g f ne)) in
           (was.0, lies_still g was.0 ne e was.1)
 
     to_do_then : (g : ℕ) → IsIn g fs → Untouched B Y g
@@ -87,7 +87,7 @@ module _ (M B : Model) (side : ℕ → Bool) (s : ℕ) (all : List ℕ) (p : Pla
           row = face.beside.faces g was.there ∙ was.row;
           loops = λ q there at.
               let row : table.get Y.loops q ≡ table.get X.loops q = face.beside.loops q there (λ z. ne (sym at ∙ z)) (subst (Has X.faces) (sym at) was.there) in
-              row ∙ was.loops q (ap is_some (sym row) ∙ there) (sym (face_same X Y q row) ∙ at);
+              row ∙ was.loops q (ap is_some (sym row) ∙ there) (sym (same_face X Y q row) ∙ at);
         }
 
     pub stage_on : Stage B Y side s all fs

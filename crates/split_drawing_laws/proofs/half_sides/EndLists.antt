@@ -1,9 +1,8 @@
 -- The half-edges that start at the cut places of faces, each once.
-use Rattle.std.specs.Prelude.{map}
-use Rattle.std.proofs.Common.{◌≡◌, ℕ, ◌≤◌, List, [], ◌∷◌, refl, sym, ap, ◌∙◌, subst, arith, inl, inr}
+use Rattle.std.proofs.Common.{◌≡◌, ℕ, ◌≤◌, List, [], ◌∷◌, refl, ap, subst, arith, inl, inr}
 use Rattle.std.proofs.lemmas.Bool.Decides.{eqb_tells}
 use Rattle.euler_operators.specs.declared.Plane.{Plane}
-use Rattle.euler_operators.specs.Items.{count, tick, IsIn, IsApart}
+use Rattle.euler_operators.specs.Items.{count, IsIn, IsApart}
 use Rattle.euler_operators.proofs.Lists.{count-append, tick_same, tick_other, IsIn_or_not}
 use Rattle.euler_operators.specs.Model.{Model}
 use Rattle.shapes.specs.split.Drawing.{drawn_pairs}
@@ -11,37 +10,6 @@ use Rattle.split_drawing_laws.specs.loop_sides.Parted.{ends, all_ends}
 use Rattle.split_drawing_laws.proofs.pairs.Members.{members}
 
 -- ---- a list mapped
-
-module _ (F : ℕ → ℕ) where
-  pub mapped_in : (h : ℕ) (hs : List ℕ) → IsIn h hs → IsIn (F h) (map F hs)
-  mapped_in h [] i = absurd (omega (arith, i))
-  mapped_in h (g ∷ hs) i = elim (eqb_tells h g) [
-    | inl s ↦ omega (arith, ap (λ z. tick (F h) (F z)) (sym s.1), tick_same (F h))
-    | inr s ↦ omega (arith, mapped_in h hs (omega (arith, i, tick_other h g s.1)))
-  ]
-
-  pub mapped_from : (y : ℕ) (hs : List ℕ) → IsIn y (map F hs) → (h : ℕ) × IsIn h hs × (y ≡ F h)
-  mapped_from y [] i = absurd (omega (arith, i))
-  mapped_from y (g ∷ hs) i = elim (eqb_tells y (F g)) [
-    | inl s ↦ (g, omega (arith, tick_same g), s.1)
-    | inr s ↦ let r = mapped_from y hs (omega (arith, i, tick_other y (F g) s.1)) in (r.0, omega (arith, r.1), r.2)
-  ]
-
-  -- a function that takes no value twice keeps items apart
-  pub mapped_apart : (hs : List ℕ) → IsApart hs → ((a b : ℕ) → IsIn a hs → IsIn b hs → F a ≡ F b → a ≡ b) → IsApart (map F hs)
-  mapped_apart [] apart once y = omega arith
-  mapped_apart (g ∷ hs) apart once y =
-      let later : count y (map F hs) ≤ 1 = mapped_apart hs (λ x. omega (arith, apart x)) (λ a b i j. once a b (omega (arith, i)) (omega (arith, j))) y in
-      elim (eqb_tells y (F g)) [
-        | inl s ↦ elim (IsIn_or_not y (map F hs)) [
-          | inl i ↦
-              let r = mapped_from y hs i in
-              let same : g ≡ r.0 = once g r.0 (omega (arith, tick_same g)) (omega (arith, r.1)) (sym s.1 ∙ r.2) in
-              absurd (omega (arith, apart g, tick_same g, r.1, ap (λ z. count z hs) same))
-          | inr z ↦ omega (arith, z, ap (λ x. tick x (F g)) s.1, tick_same (F g))
-        ]
-        | inr s ↦ omega (arith, later, tick_other y (F g) s.1)
-      ]
 
 -- ---- the half-edges of pairs
 

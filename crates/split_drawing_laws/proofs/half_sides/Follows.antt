@@ -10,13 +10,13 @@ use Rattle.euler_operators.specs.HalfEdge.{mate, plus, minus}
 use Rattle.euler_operators.specs.Model.{Model, items_of, loop_of, content, cycle_of, after, before}
 use Rattle.euler_operators.specs.Sound.{Sound, HasHalf}
 use Rattle.euler_operators.proofs.Models.{cycle_there, cycle_sound}
+use Rattle.euler_operators.proofs.Halves.{mate_plus}
 use Rattle.euler_operators.specs.Effect.{mev_at}
 use Rattle.euler_laws.proofs.shared.Fans.{loop_after}
 use Rattle.euler_laws.proofs.shared.Loops.{after-walks}
-use Rattle.euler_laws.proofs.shared.Undo.{mate_plus}
 use Rattle.euler_laws.proofs.mev.MevSound.{walks}
 use Rattle.shapes.specs.split.Crossings.{edge_cut}
-use Rattle.split_drawing_laws.proofs.crossings.OneCut.{cut_is_mev, plus_there, minus_there}
+use Rattle.split_drawing_laws.proofs.crossings.OneCut.{cut_is_mev, minus_there}
 use Rattle.split_drawing_laws.proofs.crossings.Steps.{CutGoes, mev_goes, cut_keeps}
 use Rattle.split_drawing_laws.proofs.loop_sides.After.{none_new}
 
@@ -54,18 +54,12 @@ module _ (next : ℕ → ℕ) (h m c d : ℕ) where
 -- ---- edge e cut by the new edge k
 
 module _ (N : Model) (e k v : ℕ) (q : Point) (goes : CutGoes N e k v q) where
-  abbrev K : Model
-  K = edge_cut N e k v q
-
   abbrev F : ℕ → ℕ
   F = after_mev (after N) (plus k) (mate (plus k)) (plus e) (after N (minus e))
 
   leads : (x : ℕ) → HasHalf (edge_cut N e k v q) x → after (edge_cut N e k v q) x ≡ F x
   leads = subst (λ X. (x : ℕ) → HasHalf X x → after X x ≡ F x) (cut_is_mev N e k v q goes.can)
       (λ x there. after-walks (mev_at N (plus e) (after N (minus e)) (plus k) v q) F (walks N goes.can.sound (plus e) (after N (minus e)) (plus k) v q (mev_goes N e k v q goes)) x there)
-
-  first_half : HasHalf N (plus e)
-  first_half = plus_there N e k v q goes.can
 
   second_half : HasHalf N (minus e)
   second_half = minus_there N e k v q goes.can

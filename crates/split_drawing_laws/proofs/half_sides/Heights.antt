@@ -39,6 +39,3 @@ level_not_below n on = grind (arith, ints)
 
 pub level_not_above : (n : ℤ) → int_eq n (pos 0) ≡ true → int_lt (pos 0) n ≡ false
 level_not_above n on = grind (arith, ints)
-
-pub level : (n : ℤ) → n ≡ pos 0 → int_eq n (pos 0) ≡ true
-level n e = grind (arith, ints)

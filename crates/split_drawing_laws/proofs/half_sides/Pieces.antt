@@ -5,10 +5,10 @@ use Rattle.euler_operators.specs.declared.Plane.{Plane}
 use Rattle.euler_operators.specs.Items.{count, tick, IsIn}
 use Rattle.euler_operators.proofs.Lists.{tick_same, tick_other}
 use Rattle.euler_operators.specs.HalfEdge.{edge_of, plus, minus}
-use Rattle.euler_operators.specs.Table as table
 use Rattle.euler_operators.specs.Model.{Model, tail, after}
 use Rattle.euler_operators.specs.Sound.{Sound, Has, HasHalf}
 use Rattle.euler_operators.proofs.Halves.{plus_row, minus_row}
+use Rattle.euler_operators.proofs.Models.{plus_there, minus_there, plus_edge}
 use Rattle.euler_operators.specs.Conditions.{first_refusal}
 use Rattle.shapes.specs.Fresh.{Growing, growing}
 use Rattle.shapes.specs.split.Sides.{crossing_edges}
@@ -34,23 +34,13 @@ pub record Pieces (M N : Model) (ds : List ℕ) : Type 0 where
   pub cuts : (e : ℕ) → IsIn e ds → (k : ℕ) × CutBy M N e k
   pub follows : (x : ℕ) → HasHalf M x → count (edge_of x) ds ≡ 0 → count (edge_of (after M x)) ds ≡ 0 → after N x ≡ after M x
 
--- both halves of an edge that is there
-pub half_plus : (M : Model) (x : ℕ) → Has M.edges x → HasHalf M (plus x)
-half_plus M x there = ap (table.has M.edges) (plus_row x).0 ∙ there
-
-pub half_minus : (M : Model) (x : ℕ) → Has M.edges x → HasHalf M (minus x)
-half_minus M x there = ap (table.has M.edges) (minus_row x).0 ∙ there
-
-half_edge : (M : Model) (x : ℕ) → HasHalf M (plus x) → Has M.edges x
-half_edge M x there = ap (table.has M.edges) (sym (plus_row x).0) ∙ there
-
 -- one edge more
 module _ (M N : Model) (p : Plane) (ds : List ℕ) (a : AreCut M N p ds) (w : Pieces M N ds) (e k v : ℕ) (c : Crossing M p e) (uncut : count e ds ≡ 0) (goes : CutGoes N e k v (cut_at N p e)) where
   abbrev K : Model
   K = edge_cut N e k v (cut_at N p e)
 
   in_n : (x : ℕ) → Has M.edges x → Has N.edges x
-  in_n x there = half_edge N x (a.kept.halves (plus x) (half_plus M x there))
+  in_n x there = plus_edge N x (a.kept.halves (plus x) (plus_there M x there))
 
   never_new : Has M.edges k → ⊥
   never_new there = true≢false (sym (in_n k there) ∙ ap is_some goes.can.edge_free)
@@ -64,7 +54,7 @@ module _ (M N : Model) (p : Plane) (ds : List ℕ) (a : AreCut M N p ds) (w : Pi
     there = there_now;
     new = never_new;
     starts = (tail_new N e k v (cut_at N p e) goes).0 ∙ a.plus_tails e c.there uncut;
-    first = after_first N e k v (cut_at N p e) goes (half_plus K k there_now);
+    first = after_first N e k v (cut_at N p e) goes (plus_there K k there_now);
     second = after_second N e k v (cut_at N p e) goes;
   }
 
@@ -76,9 +66,9 @@ module _ (M N : Model) (p : Plane) (ds : List ℕ) (a : AreCut M N p ds) (w : Pi
         old = b.old;
         there = edge_stays N e k v (cut_at N p e) goes j b.there;
         new = b.new;
-        starts = tail_other N e k v (cut_at N p e) goes (plus j) (half_plus N j b.there) (λ s. new (sym (plus_row j).0 ∙ s)) ∙ b.starts;
-        first = after_else N e k v (cut_at N p e) goes (plus j) (half_plus N j b.there) (λ s. absurd (omega (arith, s))) (λ s. other (halved d e (sym b.first ∙ s))) ∙ b.first;
-        second = after_else N e k v (cut_at N p e) goes (minus d) (half_minus N d (in_n d b.old)) (λ s. other (odd_halved d e s)) (λ s. even_odd j e (sym b.second ∙ s)) ∙ b.second;
+        starts = tail_other N e k v (cut_at N p e) goes (plus j) (plus_there N j b.there) (λ s. new (sym (plus_row j).0 ∙ s)) ∙ b.starts;
+        first = after_else N e k v (cut_at N p e) goes (plus j) (plus_there N j b.there) (λ s. absurd (omega (arith, s))) (λ s. other (halved d e (sym b.first ∙ s))) ∙ b.first;
+        second = after_else N e k v (cut_at N p e) goes (minus d) (minus_there N d (in_n d b.old)) (λ s. other (odd_halved d e s)) (λ s. even_odd j e (sym b.second ∙ s)) ∙ b.second;
       } where
         halved : (x y : ℕ) → plus x ≡ plus y → x ≡ y
         halved x y s = omega (arith, s)

@@ -1,8 +1,9 @@
 -- The half-edges that start at the cut places of faces that straddle: on the plane, each once, and on the side to which the loop goes there.
 use Rattle.std.specs.Prelude.{map}
 use Rattle.std.specs.List.{list_all}
-use Rattle.std.proofs.Common.{◌≡◌, ◌≢◌, ℕ, Bool, true, false, cond, not, ◌&&◌, ◌||◌, pos, List, [], ◌∷◌, refl, sym, ap, ◌∙◌, subst, arith, inl, inr, true≢false}
+use Rattle.std.proofs.Common.{◌≡◌, ◌≢◌, ℕ, Bool, true, false, cond, not, ◌||◌, pos, List, [], ◌∷◌, refl, sym, ap, ◌∙◌, subst, arith, inl, inr, true≢false}
 use Rattle.std.proofs.lemmas.Bool.Decides.{eqb_tells}
+use Rattle.std.proofs.lemmas.Bool.{and_parts}
 use Rattle.euler_operators.specs.declared.Plane.{Plane}
 use Rattle.euler_operators.specs.Vectors.{height, is_above, is_on, cut_between}
 use Rattle.euler_operators.specs.Items.{count, tick, IsIn, IsApart}
@@ -11,21 +12,21 @@ use Rattle.euler_operators.specs.HalfEdge.{edge_of, plus}
 use Rattle.euler_operators.specs.Table as table
 use Rattle.euler_operators.specs.Model.{Model, loop_of, face_of, solid_of, after}
 use Rattle.euler_operators.specs.Sound.{Sound, Has, HasHalf}
-use Rattle.euler_operators.proofs.Halves.{plus_row}
+use Rattle.euler_operators.proofs.Halves.{plus_row, mate_plus}
+use Rattle.euler_operators.proofs.Members.{IsIn-map, IsApart-images, count-filter, filter_passes}
+use Rattle.euler_operators.proofs.Maps.{from_map}
+use Rattle.euler_operators.proofs.Crossings.{level_on}
 use Rattle.euler_operators.specs.Conditions.{face_at, differ}
 use Rattle.euler_laws.proofs.shared.Arcs.{halves_of_edge}
 use Rattle.euler_laws.proofs.shared.Fans.{back_of}
-use Rattle.euler_laws.proofs.shared.Undo.{mate_plus}
-use Rattle.shapes.proofs.walks.FaceLoops.{items_counted, loops_of_apart}
-use Rattle.euler_laws.proofs.shared.Counted.{in_listed}
-use Rattle.shapes.specs.Faces.{start, finish, loops_of, boundary}
+use Rattle.euler_laws.proofs.shared.Listed.{listed-from_in}
+use Rattle.shapes.specs.Faces.{start, finish, boundary}
 use Rattle.shapes.specs.split.Sides.{crosses, reaches_above, straddling_faces, crossing_edges}
 use Rattle.shapes.specs.split.Places.{is_place, place_point, places, goes_up, some_meet, is_crossed, is_up_and_down, in_pairs, sorted, sorted_pairs, place_pairs}
 use Rattle.shapes.specs.split.Crossings.{with_crossings}
 use Rattle.shapes.specs.split.Drawing.{from_place, drawn_pairs}
 use Rattle.split_drawing_laws.specs.crossings.AtPlace.{AtPlace}
 use Rattle.split_drawing_laws.specs.crossings.Laws.{CanBegin}
-use Rattle.split_drawing_laws.proofs.crossings.Listed.{picked_count, picked_passes}
 use Rattle.split_drawing_laws.proofs.crossings.Places.{at_place, item_there, item_face, face_facts, turned, in_crossing, on_when}
 use Rattle.split_drawing_laws.proofs.crossings.Premises.{Cuttable, edge_facts, crossing_here, crossing_point, one_point}
 use Rattle.split_drawing_laws.proofs.crossings.Whole.{can_cut, crossings_keep, crossings_sound}
@@ -34,10 +35,11 @@ use Rattle.split_drawing_laws.proofs.pairs.LoopPlaces.{places_even}
 use Rattle.split_drawing_laws.proofs.pairs.Meetings.{points_apart}
 use Rattle.split_drawing_laws.proofs.pairs.Members.{all_places_drawn}
 use Rattle.split_drawing_laws.proofs.pairs.Sorted.{count-sorted, sorted_apart}
+use Rattle.split_drawing_laws.proofs.pairs.Whole.{places_apart}
 use Rattle.split_drawing_laws.specs.loop_sides.Parted.{Crosses, AllCross, ends}
 use Rattle.split_drawing_laws.specs.half_sides.HalfSides.{half_is_above, side_of}
-use Rattle.split_drawing_laws.proofs.half_sides.EndLists.{mapped_in, mapped_from, mapped_apart, ends_are}
-use Rattle.split_drawing_laws.proofs.half_sides.Heights.{side_ahead, level}
+use Rattle.split_drawing_laws.proofs.half_sides.EndLists.{ends_are}
+use Rattle.split_drawing_laws.proofs.half_sides.Heights.{side_ahead}
 use Rattle.split_drawing_laws.proofs.half_sides.Starts.{TurnAt, turn_at}
 
 -- of each pair the first is above and the second below
@@ -55,19 +57,19 @@ module _ (M : Model) (s : ℕ) (p : Plane) (t : ℕ) (sound : Sound M) (begins :
   -- in a face that straddles the side of a half-edge is its own
   pub side_within : (h : ℕ) → IsIn (face_at N h) fs → side_of M s p h ≡ half_is_above N p h
   unfolding side_of
-  side_within h i = ap (λ b. cond b (half_is_above N p h) (reaches_above M p (face_at N h))) (in_listed (face_at N h) fs i)
+  side_within h i = ap (λ b. cond b (half_is_above N p h) (reaches_above M p (face_at N h))) (listed-from_in (face_at N h) fs i)
 
   module _ (f : ℕ) (i : IsIn f (straddling_faces M p s)) where
     at : (h : ℕ) → IsIn h (places M p f) → AtPlace M N p h
-    at h j = at_place M s p t sound begins f h (in_listed f fs i) (in_listed h (places M p f) j)
+    at h j = at_place M s p t sound begins f h (listed-from_in f fs i) (listed-from_in h (places M p f) j)
 
     in_face : (h : ℕ) → IsIn h (places M p f) → IsIn h (boundary M f)
     unfolding places
-    in_face h j = omega (arith, j, picked_count (is_place M p) h (boundary M f))
+    in_face h j = omega (arith, j, count-filter (is_place M p) h (boundary M f))
 
     place_passes : (h : ℕ) → IsIn h (places M p f) → is_place M p h ≡ true
     unfolding places
-    place_passes h j = picked_passes (is_place M p) h (boundary M f) j
+    place_passes h j = filter_passes (is_place M p) h (boundary M f) j
 
     face_there : Has M.faces f
     face_there = (face_facts M s p t sound begins f i).0
@@ -117,7 +119,7 @@ module _ (M : Model) (s : ℕ) (p : Plane) (t : ℕ) (sound : Sound M) (begins :
     unfolding place_point
     point_on h j = go (crosses M p h) refl where
       go : (b : Bool) → crosses M p h ≡ b → is_on p (place_point M p h) ≡ true
-      go true c = level (height p (place_point M p h)) (cut_level h (edge_in h j c))
+      go true c = level_on (height p (place_point M p h)) (cut_level h (edge_in h j c))
       go false c =
           let on : is_on p (start M h) ≡ true = on_when M s p t sound begins h (place_passes h j) c in
           ap (is_on p) (ap (λ b. cond b (start M h) (cut_between p (start M h) (finish M h))) on) ∙ on
@@ -161,10 +163,6 @@ module _ (M : Model) (s : ℕ) (p : Plane) (t : ℕ) (sound : Sound M) (begins :
     differing false true e = (refl, refl)
     differing false false e = absurd (true≢false (sym e))
 
-    both : (a b : Bool) → (a && b) ≡ true → (a ≡ true) × (b ≡ true)
-    both true b e = (refl, e)
-    both false b e = absurd (true≢false (sym e))
-
     all_cross : (hs : List ℕ) → ((x : ℕ) → IsIn x hs → IsIn x (places M p f)) → IsApart hs → list_all (is_up_and_down M p) (in_pairs hs) ≡ true → AllCross N p (side_of M s p) (drawn M N p hs)
     all_cross [] within apart e = tt
     all_cross (h ∷ []) within apart e = tt
@@ -172,15 +170,11 @@ module _ (M : Model) (s : ℕ) (p : Plane) (t : ℕ) (sound : Sound M) (begins :
         let j : IsIn h (places M p f) = within h (omega (arith, tick_same h)) in
         let l : IsIn k (places M p f) = within k (omega (arith, tick_same k)) in
         let ne : h ≢ k = λ z. omega (arith, apart h, tick_same h, ap (tick h) z) in
-        let b = both (is_up_and_down M p (h, k)) (list_all (is_up_and_down M p) (in_pairs ks)) e in
+        let b = and_parts (is_up_and_down M p (h, k)) (list_all (is_up_and_down M p) (in_pairs ks)) e in
         let d = differing (goes_up M p h) (goes_up M p k) b.0 in (
           either_cross (goes_up M p h) h k (two_cross h k j l ne d.0) (two_cross k h l j (λ z. ne (sym z)) d.1),
           all_cross ks (λ x i. within x (omega (arith, i))) (λ x. omega (arith, apart x)) b.1,
         )
-
-    places_apart : IsApart (places M p f)
-    unfolding places boundary
-    places_apart x = omega (arith, picked_count (is_place M p) x (boundary M f), items_counted M sound (loops_of M f) x, loops_of_apart M sound f (loop_of M x))
 
     all_up_and_down : list_all (is_up_and_down M p) (sorted_pairs M p f) ≡ true
     unfolding is_crossed
@@ -192,7 +186,7 @@ module _ (M : Model) (s : ℕ) (p : Plane) (t : ℕ) (sound : Sound M) (begins :
 
     pub pairs_cross : AllCross N p (side_of M s p) (drawn_pairs M N p f)
     unfolding drawn_pairs place_pairs sorted_pairs
-    pairs_cross = all_cross (sorted M p (places M p f)) (λ x j. omega (arith, j, count-sorted M p x (places M p f))) (sorted_apart M p (places M p f) places_apart) all_up_and_down
+    pairs_cross = all_cross (sorted M p (places M p f)) (λ x j. omega (arith, j, count-sorted M p x (places M p f))) (sorted_apart M p (places M p f) (places_apart M sound f p)) all_up_and_down
 
     -- ---- the up place stands first
 
@@ -205,7 +199,7 @@ module _ (M : Model) (s : ℕ) (p : Plane) (t : ℕ) (sound : Sound M) (begins :
     all_up [] within e = tt
     all_up (h ∷ []) within e = tt
     all_up (h ∷ k ∷ ks) within e =
-        let b = both (is_up_and_down M p (h, k)) (list_all (is_up_and_down M p) (in_pairs ks)) e in (
+        let b = and_parts (is_up_and_down M p (h, k)) (list_all (is_up_and_down M p) (in_pairs ks)) e in (
           either_up (goes_up M p h) h k (within h (omega (arith, tick_same h))) (within k (omega (arith, tick_same k))) refl (differing (goes_up M p h) (goes_up M p k) b.0).1,
           all_up ks (λ x i. within x (omega (arith, i))) b.1,
         )
@@ -220,10 +214,10 @@ module _ (M : Model) (s : ℕ) (p : Plane) (t : ℕ) (sound : Sound M) (begins :
     counted y = ap (count y) (ends_are (drawn_pairs M N p f)) ∙ all_places_drawn M N p y f (places_even M sound p f ((can_cut M s p t sound begins).untouched f i))
 
     pub place_in_ends : (h : ℕ) → IsIn h (places M p f) → IsIn (from_place N p h) (ends (drawn_pairs M N p f))
-    place_in_ends h j = omega (arith, mapped_in (from_place N p) h (places M p f) j, counted (from_place N p h))
+    place_in_ends h j = omega (arith, IsIn-map (from_place N p) h (places M p f) j, counted (from_place N p h))
 
     pub place_of_end : (y : ℕ) → IsIn y (ends (drawn_pairs M N p f)) → (h : ℕ) × IsIn h (places M p f) × (y ≡ from_place N p h)
-    place_of_end y j = mapped_from (from_place N p) y (places M p f) (omega (arith, j, counted y))
+    place_of_end y j = from_map (from_place N p) y (places M p f) (omega (arith, j, counted y))
 
     pub ends_once : IsApart (ends (drawn_pairs M N p f))
-    ends_once y = omega (arith, counted y, mapped_apart (from_place N p) (places M p f) places_apart place_once y)
+    ends_once y = omega (arith, counted y, IsApart-images (from_place N p) (places M p f) (places_apart M sound f p) place_once y)

@@ -7,12 +7,12 @@ use Rattle.euler_operators.proofs.Lists.{IsIn_or_not}
 use Rattle.euler_operators.specs.HalfEdge.{mate, edge_of, plus, minus}
 use Rattle.euler_operators.specs.Model.{Model, tail, loop_of, face_of, after, before, point_of}
 use Rattle.euler_operators.specs.Sound.{Sound, Has, HasHalf}
-use Rattle.euler_operators.proofs.Halves.{edge_of-mate}
-use Rattle.euler_operators.proofs.Models.{cycle_there}
+use Rattle.euler_operators.proofs.Halves.{edge_of-mate, mate_plus, mate_minus}
+use Rattle.euler_operators.proofs.Models.{cycle_there, plus_there, minus_there, loop_there, mate_there}
+use Rattle.euler_operators.proofs.Members.{IsIn-filter}
 use Rattle.euler_operators.specs.Conditions.{face_at}
 use Rattle.euler_laws.proofs.shared.Arcs.{halves_of_edge}
-use Rattle.euler_laws.proofs.shared.Fans.{half_after, half_mate, loop_after, back_of}
-use Rattle.euler_laws.proofs.shared.Undo.{mate_plus, mate_minus}
+use Rattle.euler_laws.proofs.shared.Fans.{half_after, loop_after, back_of}
 use Rattle.shapes.specs.Faces.{start, finish, boundary}
 use Rattle.shapes.specs.split.Sides.{crosses, straddling_faces, crossing_edges}
 use Rattle.shapes.specs.split.Places.{is_place, places}
@@ -20,16 +20,15 @@ use Rattle.shapes.specs.split.Crossings.{with_crossings}
 use Rattle.shapes.specs.split.Drawing.{from_place}
 use Rattle.split_drawing_laws.specs.crossings.Kept.{Kept}
 use Rattle.split_drawing_laws.specs.crossings.Laws.{CanBegin}
-use Rattle.split_drawing_laws.proofs.crossings.Listed.{picked, item_in_face}
+use Rattle.split_drawing_laws.proofs.crossings.Listed.{item_in_face}
 use Rattle.split_drawing_laws.proofs.crossings.Places.{plus_on, minus_off}
 use Rattle.split_drawing_laws.proofs.crossings.Premises.{Cuttable, edge_facts, plus_crosses, minus_crosses, minus_is}
 use Rattle.split_drawing_laws.proofs.crossings.Runs.{kept_point, kept_start}
 use Rattle.split_drawing_laws.proofs.crossings.Whole.{can_cut, crossings_cut, crossings_keep, crossings_sound, not_cut}
 use Rattle.split_drawing_laws.proofs.pairs.LoopPlaces.{on_place}
-use Rattle.split_drawing_laws.proofs.drawings.Stays.{has_loop}
 use Rattle.split_drawing_laws.proofs.half_sides.Follows.{before_after, after_once}
 use Rattle.split_drawing_laws.proofs.half_sides.Heights.{level_start, level_end}
-use Rattle.split_drawing_laws.proofs.half_sides.Pieces.{CutBy, Pieces, half_plus, half_minus, crossing_pieces}
+use Rattle.split_drawing_laws.proofs.half_sides.Pieces.{CutBy, Pieces, crossing_pieces}
 
 -- what follows x in N starts at a cut place of M, and there the loop comes from one side and goes to the other
 pub record TurnAt (M N : Model) (p : Plane) (x : ℕ) : Type 0 where
@@ -61,10 +60,10 @@ module _ (M : Model) (s : ℕ) (p : Plane) (t : ℕ) (sound : Sound M) (begins :
   -- ---- old half-edges
 
   minus_start : (e : ℕ) → Has M.edges e → start N (minus e) ≡ start M (minus e)
-  minus_start e there = kept_start M N sound keep (minus e) (half_minus M e there) ((crossings_cut M s p t sound begins).minus_tails e there)
+  minus_start e there = kept_start M N sound keep (minus e) (minus_there M e there) ((crossings_cut M s p t sound begins).minus_tails e there)
 
   plus_start : (e : ℕ) → Has M.edges e → count e es ≡ 0 → start N (plus e) ≡ start M (plus e)
-  plus_start e there z = kept_start M N sound keep (plus e) (half_plus M e there) ((crossings_cut M s p t sound begins).plus_tails e there (not_cut M s p t sound begins e z))
+  plus_start e there z = kept_start M N sound keep (plus e) (plus_there M e there) ((crossings_cut M s p t sound begins).plus_tails e there (not_cut M s p t sound begins e z))
 
   uncut_start : (h : ℕ) → HasHalf M h → count (edge_of h) es ≡ 0 → start N h ≡ start M h
   uncut_start h there z = elim (halves_of_edge h) [
@@ -86,26 +85,26 @@ module _ (M : Model) (s : ℕ) (p : Plane) (t : ℕ) (sound : Sound M) (begins :
   crossing_is_place h x = ap (λ b. b || (is_on p (start M h) && are_opposite p (start M (before M h)) (finish M h))) x
 
   in_boundary : (h f : ℕ) → HasHalf M h → face_at M h ≡ f → IsIn h (boundary M f)
-  in_boundary h f there at = subst (λ g. IsIn h (boundary M g)) at (item_in_face M h (loop_of M h) (has_loop M sound h there) (cycle_there M sound h there))
+  in_boundary h f there at = subst (λ g. IsIn h (boundary M g)) at (item_in_face M h (loop_of M h) (loop_there M sound h there) (cycle_there M sound h there))
 
   in_places : (h f : ℕ) → HasHalf M h → face_at M h ≡ f → is_place M p h ≡ true → IsIn h (places M p f)
   unfolding places
-  in_places h f there at place = picked (is_place M p) h (boundary M f) (in_boundary h f there at) place
+  in_places h f there at place = IsIn-filter (is_place M p) h (boundary M f) (in_boundary h f there at) place
 
   -- ---- new half-edges
 
   module _ (e k : ℕ) (i : IsIn e es) (w : CutBy M N e k) where
     first_start : start N (plus k) ≡ start M (plus e)
-    first_start = ap (point_of N) w.starts ∙ kept_point M N keep (tail M (plus e)) (sound.tails_there (plus e) (half_plus M e w.old))
+    first_start = ap (point_of N) w.starts ∙ kept_point M N keep (tail M (plus e)) (sound.tails_there (plus e) (plus_there M e w.old))
 
     second_start : start N (minus k) ≡ start N (plus e)
-    second_start = ap (point_of N) (ap (tail N) (sym w.second) ∙ new_sound.ends_meet (minus e) (keep.halves (minus e) (half_minus M e w.old)) ∙ ap (tail N) (mate_minus e))
+    second_start = ap (point_of N) (ap (tail N) (sym w.second) ∙ new_sound.ends_meet (minus e) (keep.halves (minus e) (minus_there M e w.old)) ∙ ap (tail N) (mate_minus e))
 
     first_face : face_at N (plus k) ≡ face_at M (plus e)
-    first_face = ap (face_of N) (sym (loop_after N new_sound (plus k) (half_plus N k w.there)) ∙ ap (loop_of N) w.first) ∙ old_face (plus e) (half_plus M e w.old)
+    first_face = ap (face_of N) (sym (loop_after N new_sound (plus k) (plus_there N k w.there)) ∙ ap (loop_of N) w.first) ∙ old_face (plus e) (plus_there M e w.old)
 
     second_face : face_at N (minus k) ≡ face_at M (minus e)
-    second_face = ap (face_of N) (ap (loop_of N) (sym w.second) ∙ loop_after N new_sound (minus e) (keep.halves (minus e) (half_minus M e w.old))) ∙ old_face (minus e) (half_minus M e w.old)
+    second_face = ap (face_of N) (ap (loop_of N) (sym w.second) ∙ loop_after N new_sound (minus e) (keep.halves (minus e) (minus_there M e w.old))) ∙ old_face (minus e) (minus_there M e w.old)
 
     first_off : is_on p (start N (plus k)) ≡ true → ⊥
     first_off on = true≢false (sym (plus_crosses M sound s p premises e i)
@@ -128,7 +127,7 @@ module _ (M : Model) (s : ℕ) (p : Plane) (t : ℕ) (sound : Sound M) (begins :
       | inr a ↦ old_comes h old (ap (start N) a.0 ∙ minus_start (edge_of h) old ∙ ap (start M) (sym a.0))
     ]
     | inr w ↦ elim (halves_of_edge h) [
-      | inl a ↦ inr (plus w.0, half_plus M w.0 w.2.old, ap (start N) a.0 ∙ first_start w.0 (edge_of h) w.1 w.2, ap (face_at N) a.0 ∙ first_face w.0 (edge_of h) w.1 w.2)
+      | inl a ↦ inr (plus w.0, plus_there M w.0 w.2.old, ap (start N) a.0 ∙ first_start w.0 (edge_of h) w.1 w.2, ap (face_at N) a.0 ∙ first_face w.0 (edge_of h) w.1 w.2)
       | inr a ↦ inl (ap (λ x. is_on p (start N x)) a.0 ∙ ap (is_on p) (second_start w.0 (edge_of h) w.1 w.2) ∙ plus_on M s p t sound begins w.0 w.1)
     ]
   ]
@@ -147,11 +146,11 @@ module _ (M : Model) (s : ℕ) (p : Plane) (t : ℕ) (sound : Sound M) (begins :
     at_plus e i is =
         let k : ℕ = (pieces.cuts e i).0 in
         let w : CutBy M N e k = (pieces.cuts e i).1 in
-        let from : x ≡ plus k = after_once N new_sound x (plus k) there (half_plus N k w.there) (is ∙ sym w.first) in
+        let from : x ≡ plus k = after_once N new_sound x (plus k) there (plus_there N k w.there) (is ∙ sym w.first) in
         let end : finish N (after N x) ≡ start M (minus e) = ap (finish N) is ∙ ap (start N) (mate_plus e) ∙ minus_start e w.old in
         record {
           place = plus e;
-          of_face = in_places (plus e) f (half_plus M e w.old) (sym (old_face (plus e) (half_plus M e w.old)) ∙ ap (face_at N) (sym is)) (crossing_is_place (plus e) (edge_facts M sound s p e i).2);
+          of_face = in_places (plus e) f (plus_there M e w.old) (sym (old_face (plus e) (plus_there M e w.old)) ∙ ap (face_at N) (sym is)) (crossing_is_place (plus e) (edge_facts M sound s p e i).2);
           is = ap (λ b. cond b (plus e) (after N (plus e))) (plus_on M s p t sound begins e i) ∙ sym is;
           ends = end ∙ sym (ap (start M) (mate_plus e));
           across = (λ j. are_opposite p ((ap (start N) from ∙ first_start e k i w) j) (end j)) ∙ plus_crosses M sound s p premises e i;
@@ -160,7 +159,7 @@ module _ (M : Model) (s : ℕ) (p : Plane) (t : ℕ) (sound : Sound M) (begins :
     -- inside an edge, from its minus half
     at_minus : (e k : ℕ) → IsIn e es → CutBy M N e k → after N x ≡ minus k → TurnAt M N p x
     at_minus e k i w is =
-        let old : HasHalf M (minus e) = half_minus M e w.old in
+        let old : HasHalf M (minus e) = minus_there M e w.old in
         let from : x ≡ minus e = after_once N new_sound x (minus e) there (keep.halves (minus e) old) (is ∙ sym w.second) in
         let end : finish N (after N x) ≡ start M (plus e) = ap (finish N) is ∙ ap (start N) (mate_minus k) ∙ first_start e k i w in
         record {
@@ -220,7 +219,7 @@ module _ (M : Model) (s : ℕ) (p : Plane) (t : ℕ) (sound : Sound M) (begins :
           (sym (pieces.follows back back_there back_uncut (ap (λ z. count (edge_of z) es) back_leads ∙ uncut) ∙ back_leads))
 
       same_end : finish N y ≡ finish M y
-      same_end = uncut_start (mate y) (half_mate M sound y old) (ap (λ z. count z es) (edge_of-mate y) ∙ uncut)
+      same_end = uncut_start (mate y) (mate_there M y old) (ap (λ z. count z es) (edge_of-mate y) ∙ uncut)
 
       at_corner : TurnAt M N p x
       at_corner = record {

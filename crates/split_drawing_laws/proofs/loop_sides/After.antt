@@ -11,22 +11,18 @@ use Rattle.euler_operators.specs.HalfEdge.{edge_of, plus, minus}
 use Rattle.euler_operators.specs.Table as table
 use Rattle.euler_operators.specs.Model.{Model, items_of, loop_of, content, cycle_of, after}
 use Rattle.euler_operators.specs.Sound.{Sound, Has, HasHalf}
-use Rattle.euler_operators.proofs.Halves.{plus_row, minus_row, same_edge}
-use Rattle.euler_operators.proofs.Models.{content_row, in-holds, cycle_there, cycle_sound}
+use Rattle.euler_operators.proofs.Halves.{plus_row, minus_row, same_edge, mate_plus, plus_other}
+use Rattle.euler_operators.proofs.Models.{content_row, in-holds, cycle_there, cycle_sound, same_content, loop_there}
+use Rattle.euler_operators.proofs.Tables.{row_elsewhere, get-put_other}
 use Rattle.euler_laws.proofs.shared.Loops.{light, none_free}
-use Rattle.euler_laws.proofs.shared.Undo.{mate_plus}
-use Rattle.shapes.proofs.fresh.Rows.{get-put_other}
 use Rattle.shapes.specs.split.Drawing.{face_drawn, loops_joined}
 use Rattle.split_drawing_laws.proofs.drawings.Drawn.{CanDraw, draw_sound, CanJoin, join_sound}
-use Rattle.split_drawing_laws.proofs.drawings.Stays.{not_free, has_loop, same_content, row_old, row_new, row_else, edges_are, row_joined, row_gone, row_other, joined_edges}
+use Rattle.split_drawing_laws.proofs.drawings.Stays.{row_old, row_new, row_else, edges_are, row_joined, row_gone, row_other, joined_edges}
 
 -- a function that leads round each loop tells what follows what
 rings_lead : (K : Model) (F : ℕ → ℕ) → Sound K → ((q : ℕ) → Has K.loops q → IsRing F (items_of (content K q))) → (x : ℕ) → HasHalf K x → after K x ≡ F x
 unfolding after
-rings_lead K F sound ring x there = sym (next_is_successor F (cycle_of K x) x (ring (loop_of K x) (has_loop K sound x there)) (cycle_there K sound x there))
-
-pub halves_apart : (e : ℕ) → plus e ≢ minus e
-halves_apart e s = absurd (omega arith)
+rings_lead K F sound ring x there = sym (next_is_successor F (cycle_of K x) x (ring (loop_of K x) (loop_there K sound x there)) (cycle_there K sound x there))
 
 -- a half-edge stands in its loop only
 only_there : (M : Model) → Sound M → (x q : ℕ) → q ≢ loop_of M x → count x (items_of (content M q)) ≡ 0
@@ -45,8 +41,8 @@ new_cases M N e same x there = elim (eqb_tells (edge_of x) e) [
 -- no half-edge of the model before is a new one
 pub none_new : (M : Model) (e x : ℕ) → table.get M.edges e ≡ None → HasHalf M x → (x ≢ plus e) × (x ≢ minus e)
 none_new M e x free there = (
-  (λ s. not_free M.edges (edge_of x) e there free (ap edge_of s ∙ (plus_row e).0)),
-  (λ s. not_free M.edges (edge_of x) e there free (ap edge_of s ∙ (minus_row e).0)),
+  (λ s. row_elsewhere M.edges (edge_of x) e there free (ap edge_of s ∙ (plus_row e).0)),
+  (λ s. row_elsewhere M.edges (edge_of x) e there free (ap edge_of s ∙ (minus_row e).0)),
 )
 
 module _ (M : Model) (e c d : ℕ) (sound : Sound M) (free : table.get M.edges e ≡ None) where
@@ -75,7 +71,7 @@ module _ (M : Model) (u k e f l : ℕ) (can : CanDraw M u k e f l) where
   k_in = subst (λ q. IsIn k (items_of (content M q))) (sym can.one_loop) (cycle_there M can.sound k can.k_there)
 
   two_rings : IsRing (after_mef (after M) (plus e) (minus e) u k) (mef_old (plus e) u k (cycle_of M u)) × IsRing (after_mef (after M) (plus e) (minus e) u k) (mef_new (minus e) u k (cycle_of M u))
-  two_rings = IsRing-mef (plus e) (minus e) u k (cycle_of M u) (cycle_sound M can.sound u can.u_there).apart (halves_apart e)
+  two_rings = IsRing-mef (plus e) (minus e) u k (cycle_of M u) (cycle_sound M can.sound u can.u_there).apart (plus_other e)
       (no_plus M e u k can.sound can.edge_free (loop_of M u)) (no_minus M e u k can.sound can.edge_free (loop_of M u))
       (after M) (cycle_there M can.sound u can.u_there) k_in (ring_of M e u k can.sound can.edge_free (loop_of M u))
 
@@ -114,7 +110,7 @@ module _ (M : Model) (c d e : ℕ) (can : CanJoin M c d e) where
   ]
 
   joined_ring : IsRing (after_mef (after M) (plus e) (minus e) c d) (mekr_ring (plus e) (minus e) c d (cycle_of M c) (cycle_of M d))
-  joined_ring = IsRing-mekr (after M) (plus e) (minus e) c d (cycle_of M c) (cycle_of M d) apart_both (cycle_there M can.sound c can.c_there) (cycle_there M can.sound d can.d_there) (halves_apart e)
+  joined_ring = IsRing-mekr (after M) (plus e) (minus e) c d (cycle_of M c) (cycle_of M d) apart_both (cycle_there M can.sound c can.c_there) (cycle_there M can.sound d can.d_there) (plus_other e)
       (omega (arith, count-append (plus e) (cycle_of M c) (cycle_of M d), no_plus M e c d can.sound can.edge_free (loop_of M c), no_plus M e c d can.sound can.edge_free (loop_of M d)))
       (omega (arith, count-append (minus e) (cycle_of M c) (cycle_of M d), no_minus M e c d can.sound can.edge_free (loop_of M c), no_minus M e c d can.sound can.edge_free (loop_of M d)))
       (ring_of M e c d can.sound can.edge_free (loop_of M c)) (ring_of M e c d can.sound can.edge_free (loop_of M d))

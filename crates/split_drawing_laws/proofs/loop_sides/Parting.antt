@@ -11,14 +11,15 @@ use Rattle.euler_operators.specs.Items.{count, tick, IsIn, IsApart, head_or}
 use Rattle.euler_operators.specs.Rings.{IsPath}
 use Rattle.euler_operators.specs.Operators.{after_mef}
 use Rattle.euler_operators.proofs.Lists.{tick_same, tick_other, IsIn_or_not}
-use Rattle.euler_operators.proofs.Rings.{IsIn_successor}
 use Rattle.euler_operators.specs.HalfEdge.{plus, minus}
 use Rattle.euler_operators.specs.Table as table
 use Rattle.euler_operators.specs.Model.{Model, items_of, content, tail, loop_of, cycle_of, after, point_of, no_point}
 use Rattle.euler_operators.specs.Sound.{Sound, HasHalf}
 use Rattle.euler_operators.proofs.Models.{in-holds, cycle_there}
+use Rattle.euler_operators.proofs.Halves.{plus_other}
 use Rattle.euler_operators.specs.Effect.{ring_in}
 use Rattle.euler_laws.proofs.shared.Loops.{light}
+use Rattle.euler_laws.proofs.shared.Fans.{half_after}
 use Rattle.shapes.specs.Faces.{start}
 use Rattle.shapes.specs.split.Drawing.{face_drawn, loops_joined}
 use Rattle.split_drawing_laws.specs.drawings.DrawnIn.{Stays, DrawnIn}
@@ -28,20 +29,16 @@ use Rattle.split_drawing_laws.proofs.drawings.Stays.{draw_stays, join_stays, dra
 use Rattle.split_drawing_laws.proofs.drawings.Rings.{RingOf, Newer, now_stays, moved_after, moved_halves}
 use Rattle.split_drawing_laws.proofs.drawings.Pairs.{stays_on}
 use Rattle.split_drawing_laws.proofs.loop_sides.Follows.{Closing, sides_close, with_sides, side_old}
-use Rattle.split_drawing_laws.proofs.loop_sides.After.{halves_apart, none_new, after_drawn, halves_drawn, after_joined, halves_joined}
+use Rattle.split_drawing_laws.proofs.loop_sides.After.{none_new, after_drawn, halves_drawn, after_joined, halves_joined}
 
 -- a point on the plane lies on both closed sides
-on_both : (p : Plane) (q : Point) → is_on p q ≡ true → (b : Bool) → LiesOn p b q
+pub on_both : (p : Plane) (q : Point) → is_on p q ≡ true → (b : Bool) → LiesOn p b q
 on_both p q e true = not_below (height p q) e where
   not_below : (n : ℤ) → int_eq n (pos 0) ≡ true → int_lt n (pos 0) ≡ false
   not_below n z = grind (arith, ints)
 on_both p q e false = not_above (height p q) e where
   not_above : (n : ℤ) → int_eq n (pos 0) ≡ true → int_lt (pos 0) n ≡ false
   not_above n z = grind (arith, ints)
-
-after_there : (N : Model) → Sound N → (x : ℕ) → HasHalf N x → HasHalf N (after N x)
-unfolding after
-after_there N sound x there = sound.only_edges _ (loop_of N x) (in-holds _ (content N (loop_of N x)) (IsIn_successor x (cycle_of N x) (cycle_there N sound x there)))
 
 same_start : (B N : Model) (h : ℕ) → Stays B N → HasHalf B h → start N h ≡ start B h
 unfolding point_of
@@ -66,18 +63,15 @@ module _ (B N K : Model) (p : Plane) (first : ℕ → Bool) (OfSolid : ℕ → T
     (leads : (x : ℕ) → HasHalf K x → after K x ≡ after_mef (after N) (plus e) (minus e) c d x)
     (cases : (x : ℕ) → HasHalf K x → HasHalf N x ⊎ ((x ≡ plus e) ⊎ (x ≡ minus e)))
     (tails : (tail K (plus e) ≡ tail N c) × (tail K (minus e) ≡ tail N d)) where
-  new_side : ℕ → Bool
-  new_side = with_sides (plus e) (minus e) c d w.side
-
   none_counted : (x : ℕ) → (HasHalf N x → ⊥) → count x places ≡ 0
   none_counted x never = elim (IsIn_or_not x places) [ inl i ↦ absurd (never (w.stays.halves x (o.places_there x i))) | inr n ↦ n ]
 
   closing : Closing (HasHalf N) (after N) w.side (plus e) (minus e) c d places rest
   closing = record {
-    hm = halves_apart e;
+    hm = plus_other e;
     cd = o.apart;
     fresh = λ x there. none_new N e x free there;
-    goes_on = after_there N sound;
+    goes_on = half_after N sound;
     c_old = w.stays.halves c o.c_there;
     d_old = w.stays.halves d o.d_there;
     apart = o.places_apart;

@@ -5,6 +5,7 @@ use Rattle.std.proofs.Common.{◌≡◌, ℕ, ◌+◌, ◌≤◌, Bool, true, fa
 use Rattle.std.proofs.lemmas.List.{length-append}
 use Rattle.std.proofs.lemmas.List.Elements.{filter-append}
 use Rattle.std.proofs.lemmas.Bool.Decides.{nat_tests}
+use Rattle.std.proofs.lemmas.Bool.{not-false}
 use Rattle.euler_operators.specs.declared.Plane.{Plane}
 use Rattle.euler_operators.specs.Vectors.{height, is_on}
 use Rattle.euler_operators.specs.Items.{count, tick, IsIn}
@@ -14,12 +15,12 @@ use Rattle.euler_operators.proofs.Rings.{predecessor-successor}
 use Rattle.euler_operators.specs.Model.{Model, items_of, content, outer, cycle_of, loop_of, before, after, point_of, rings_of}
 use Rattle.euler_operators.specs.Sound.{Sound, HasHalf}
 use Rattle.euler_operators.proofs.Models.{in-holds, cycle_there, cycle_sound}
+use Rattle.euler_operators.proofs.Members.{count-filter}
 use Rattle.euler_laws.proofs.shared.Fans.{loop_after}
-use Rattle.euler_laws.proofs.shared.Goes.{not_back}
 use Rattle.euler_laws.proofs.shared.Loops.{light}
 use Rattle.shapes.specs.Faces.{start, finish, loops_of, items_in, boundary}
 use Rattle.shapes.specs.split.Places.{is_place, places, is_touched, loop_is_cut}
-use Rattle.split_drawing_laws.proofs.crossings.Listed.{any_passes, picked_count}
+use Rattle.split_drawing_laws.proofs.crossings.Listed.{any_passes}
 use Rattle.split_drawing_laws.proofs.pairs.Turns.{IsEven, even_sum, turns_even}
 use Rattle.split_drawing_laws.proofs.pairs.Levels.{crossed, side_from, side_turns, side_stays}
 
@@ -39,14 +40,14 @@ some_picked t (x ∷ xs) e = go (t x) e (some_picked t xs) where
   go false e more = more e
 
 -- a test that no item passes is false of each
-none_passes : (t : ℕ → Bool) (x : ℕ) (xs : List ℕ) → list_any t xs ≡ false → IsIn x xs → t x ≡ false
+pub none_passes : (t : ℕ → Bool) (x : ℕ) (xs : List ℕ) → list_any t xs ≡ false → IsIn x xs → t x ≡ false
 none_passes t x xs none i = go (t x) refl where
   go : (b : Bool) → t x ≡ b → t x ≡ false
   go true e = absurd (true≢false (sym (any_passes t x xs i e) ∙ none))
   go false e = e
 
 then_true : (a b : Bool) → (a && not b) ≡ false → a ≡ true → b ≡ true
-then_true true b e on = not_back b e
+then_true true b e on = not-false b e
 then_true false b e on = absurd (true≢false (sym on))
 
 then_false : (a b : Bool) → (a ≡ true → b ≡ true) → b ≡ false → a ≡ false
@@ -148,4 +149,4 @@ module _ (M : Model) (sound : Sound M) (p : Plane) where
           count_within x later_places,
           none,
         ) in
-        sound.one_loop x (outer M f) (in-holds x (content M (outer M f)) (omega (arith, here, picked_count (is_place M p) x first_items)))
+        sound.one_loop x (outer M f) (in-holds x (content M (outer M f)) (omega (arith, here, count-filter (is_place M p) x first_items)))

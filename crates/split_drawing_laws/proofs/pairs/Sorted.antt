@@ -22,7 +22,7 @@ module _ (M : Model) (p : Plane) where
   pub sorted_apart : (hs : List ℕ) → IsApart hs → IsApart (sorted M p hs)
   sorted_apart hs apart x = omega (arith, apart x, count-sorted x hs)
 
-  length-sorted_in : (h : ℕ) (ks : List ℕ) → length (sorted_in M p h ks) ≡ suc (length ks)
+  pub length-sorted_in : (h : ℕ) (ks : List ℕ) → length (sorted_in M p h ks) ≡ suc (length ks)
   length-sorted_in h [] = refl
   length-sorted_in h (k ∷ ks) = elim (lex_less (place_point M p k) (place_point M p h)) as (λ b. length (cond b (k ∷ sorted_in M p h ks) (h ∷ k ∷ ks)) ≡ suc (suc (length ks))) [
     | true ↦ ap suc (length-sorted_in h ks)

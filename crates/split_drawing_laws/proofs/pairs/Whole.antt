@@ -1,20 +1,17 @@
 -- From the first conditions of a split to the drawing of its faces.
-use Rattle.std.proofs.Common.{◌≡◌, ◌≢◌, ℕ, Bool, true, false, not, nat_eq, ◌&&◌, ◌||◌, List, [], ◌∷◌, length, is_some, refl, sym, ap, ◌∙◌, subst, arith, inl, inr, true≢false}
-use Rattle.std.proofs.lemmas.Bool.Decides.{eqb_tells}
+use Rattle.std.proofs.Common.{◌≡◌, ◌≢◌, ℕ, true, false, not, nat_eq, ◌&&◌, List, [], ◌∷◌, length, is_some, refl, sym, ap, ◌∙◌, subst, arith}
 use Rattle.std.specs.List.{list_all}
 use Rattle.euler_operators.specs.declared.Plane.{Plane}
 use Rattle.euler_operators.specs.Items.{IsIn, IsApart}
-use Rattle.euler_operators.proofs.Lists.{tick_same, tick_other}
+use Rattle.euler_operators.proofs.Lists.{tick_same}
 use Rattle.euler_operators.specs.Table as table
 use Rattle.euler_operators.specs.Model.{Model, tail, loop_of, face_of, outer, point_of, faces_of, rings_of}
 use Rattle.euler_operators.specs.Sound.{Sound, Has}
-use Rattle.euler_operators.proofs.Models.{face_row}
+use Rattle.euler_operators.proofs.Tests.{not_or_fails}
+use Rattle.euler_operators.proofs.Members.{count-filter}
 use Rattle.euler_operators.specs.Conditions.{face_at}
 use Rattle.euler_laws.specs.Laws.{AreAccepted, effects}
 use Rattle.euler_laws.proofs.Runs.{AreAccepted-append, effects-append}
-use Rattle.euler_laws.proofs.shared.Goes.{equal}
-use Rattle.shapes.proofs.walks.FaceLoops.{items_counted, different_items, loops_of_apart}
-use Rattle.euler_laws.proofs.shared.Counted.{in_listed, all_where_has}
 use Rattle.shapes.specs.Faces.{loops_of, boundary}
 use Rattle.shapes.specs.split.Sides.{straddles, straddling_faces}
 use Rattle.shapes.specs.split.Places.{is_place, places, loop_is_cut, is_cut_often, sorted, sorted_pairs, place_pairs}
@@ -23,8 +20,7 @@ use Rattle.shapes.specs.split.Drawing.{from_place, drawn_pairs, with_drawings}
 use Rattle.split_drawing_laws.specs.crossings.AtPlace.{AtPlace}
 use Rattle.split_drawing_laws.specs.crossings.CrossingOps.{crossing_ops}
 use Rattle.split_drawing_laws.specs.crossings.Laws.{CanBegin}
-use Rattle.split_drawing_laws.proofs.crossings.Listed.{picked_count}
-use Rattle.split_drawing_laws.proofs.crossings.Places.{at_place}
+use Rattle.split_drawing_laws.proofs.crossings.Places.{at_place, item_face}
 use Rattle.split_drawing_laws.proofs.crossings.Premises.{Cuttable}
 use Rattle.split_drawing_laws.proofs.crossings.Whole.{can_cut, crossings_accepted, crossings_made, crossings_sound, crossings_counted, crossings_keep}
 use Rattle.split_drawing_laws.specs.drawings.DrawingOps.{drawing_ops}
@@ -40,40 +36,24 @@ use Rattle.split_drawing_laws.proofs.pairs.LoopPlaces.{places_even, two_outer}
 use Rattle.split_drawing_laws.proofs.pairs.Meetings.{points_apart}
 use Rattle.split_drawing_laws.proofs.pairs.Numbers.{pairs_room}
 use Rattle.split_drawing_laws.proofs.pairs.Turns.{IsEven}
+use Rattle.shapes.proofs.walks.FaceLoops.{different_items, loops_of_apart}
+use Rattle.euler_laws.proofs.shared.Counted.{all_where_has}
+use Rattle.euler_laws.proofs.shared.Listed.{listed-from_in}
 
 -- ---- the half-edges of a face
 
 module _ (M : Model) (sound : Sound M) (f : ℕ) where
-  loop_face : Has M.faces f → (l : ℕ) → IsIn l (loops_of M f) → face_of M l ≡ f
-  unfolding loops_of
-  loop_face there l i = elim (eqb_tells l (outer M f)) [
-    | inl e ↦ ap (face_of M) e.1 ∙ (sound.outers_there f there).1
-    | inr e ↦
-        let w = all_where_has (λ k row. nat_eq row.face f && not (nat_eq (outer M f) k)) M.loops l (omega (arith, i, tick_other l (outer M f) e.1)) in
-        face_row M l w.0 w.1 ∙ equal w.0.face f (first_of (nat_eq w.0.face f) (not (nat_eq (outer M f) l)) w.2)
-  ] where
-    first_of : (a b : Bool) → (a && b) ≡ true → a ≡ true
-    first_of true b e = refl
-    first_of false b e = absurd (true≢false (sym e))
-
-  item_face : Has M.faces f → (h : ℕ) → IsIn h (boundary M f) → face_at M h ≡ f
-  unfolding boundary
-  item_face there h i = loop_face there (loop_of M h) (omega (arith, i, items_counted M sound (loops_of M f) h))
-
   places_in : (p : Plane) (x : ℕ) → IsIn x (places M p f) → IsIn x (boundary M f)
   unfolding places
-  places_in p x i = omega (arith, i, picked_count (is_place M p) x (boundary M f))
+  places_in p x i = omega (arith, i, count-filter (is_place M p) x (boundary M f))
 
-  places_apart : (p : Plane) → IsApart (places M p f)
+  pub places_apart : (p : Plane) → IsApart (places M p f)
   unfolding places boundary
-  places_apart p x = omega (arith, picked_count (is_place M p) x (boundary M f), (different_items M sound (loops_of M f) (loops_of_apart M sound f)).apart x)
+  places_apart p x = omega (arith, count-filter (is_place M p) x (boundary M f), (different_items M sound (loops_of M f) (loops_of_apart M sound f)).apart x)
 
-outer_cut : (M : Model) (p : Plane) (f : ℕ) → is_cut_often M p f ≡ false → loop_is_cut M p (outer M f) ≡ true
+pub outer_cut : (M : Model) (p : Plane) (f : ℕ) → is_cut_often M p f ≡ false → loop_is_cut M p (outer M f) ≡ true
 unfolding is_cut_often
-outer_cut M p f e = first_of (loop_is_cut M p (outer M f)) (not (list_all (loop_is_cut M p) (rings_of M f)) && not (nat_eq (length (places M p f)) 2)) e where
-  first_of : (a b : Bool) → (not a || b) ≡ false → a ≡ true
-  first_of true b e = refl
-  first_of false b e = absurd (true≢false e)
+outer_cut M p f e = not_or_fails (loop_is_cut M p (outer M f)) (not (list_all (loop_is_cut M p) (rings_of M f)) && not (nat_eq (length (places M p f)) 2)) e
 
 module _ (M : Model) (s : ℕ) (p : Plane) (t : ℕ) (sound : Sound M) (begins : CanBegin M s p t) where
   abbrev N : Model
@@ -86,10 +66,10 @@ module _ (M : Model) (s : ℕ) (p : Plane) (t : ℕ) (sound : Sound M) (begins :
 
   module _ (f : ℕ) (i : IsIn f (straddling_faces M p s)) where
     face_there : Has M.faces f
-    face_there = ap is_some (all_where_has (λ _ row. nat_eq row.solid s) M.faces f (omega (arith, i, picked_count (straddles M p) f (faces_of M s)))).1
+    face_there = ap is_some (all_where_has (λ _ row. nat_eq row.solid s) M.faces f (omega (arith, i, count-filter (straddles M p) f (faces_of M s)))).1
 
     at : (h : ℕ) → IsIn h (places M p f) → AtPlace M N p h
-    at h j = at_place M s p t sound begins f h (in_listed f (straddling_faces M p s) i) (in_listed h (places M p f) j)
+    at h j = at_place M s p t sound begins f h (listed-from_in f (straddling_faces M p s) i) (listed-from_in h (places M p f) j)
 
     place_face : (h : ℕ) → IsIn h (places M p f) → face_at N (from_place N p h) ≡ f
     place_face h j = ap (face_of N) (at h j).loop ∙ (crossings_keep M s p t sound begins).face (loop_of M h) ∙ item_face M sound f face_there h (places_in M sound f p h j)

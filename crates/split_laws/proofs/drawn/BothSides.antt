@@ -1,23 +1,25 @@
 -- Once the faces are drawn the solid has a face above and one that isn't.
 use Rattle.std.proofs.Common.{◌≡◌, ℕ, Bool, true, false, not, nat_eq, ◌&&◌, ◌||◌, List, None, is_some, unwrap_or, refl, sym, ap, ◌∙◌, subst, inl, inr, true≢false}
+use Rattle.std.proofs.lemmas.Bool.{eq-eqb, eqb-true}
 use Rattle.std.specs.Prelude.{pos, int_lt}
+use Rattle.euler_operators.proofs.Tests.{first_fails}
 use Rattle.euler_operators.specs.declared.Plane.{Plane}
 use Rattle.euler_operators.specs.Vectors.{is_above, is_below, dot, direction}
 use Rattle.euler_operators.specs.Items.{IsIn}
 use Rattle.euler_operators.proofs.Lists.{IsIn_or_not}
 use Rattle.euler_operators.specs.HalfEdge.{edge_of, plus, minus}
 use Rattle.euler_operators.specs.Table as table
-use Rattle.euler_operators.specs.Model.{Model, LoopContent, lone, cycle, no_face, no_point, items_of, content, tail, loop_of, face_of, solid_of, point_of, faces_of}
+use Rattle.euler_operators.specs.Model.{Model, no_face, no_point, content, tail, loop_of, face_of, solid_of, point_of, faces_of}
 use Rattle.euler_operators.specs.Sound.{Sound, Has, HasHalf}
-use Rattle.euler_operators.proofs.Models.{in-holds, cycle_there}
+use Rattle.euler_operators.proofs.Models.{in-holds, cycle_there, plus_there, minus_there, loop_there}
 use Rattle.euler_operators.proofs.Tables.{zero_first_where}
+use Rattle.euler_operators.proofs.Members.{IsIn-filter, filter_passes}
 use Rattle.euler_operators.specs.Conditions.{face_at, lists, is_lone}
 use Rattle.euler_laws.proofs.shared.Arcs.{halves_of_edge}
-use Rattle.euler_laws.proofs.shared.Fans.{loop_after}
-use Rattle.euler_laws.proofs.shared.Goes.{no_zero, equal, equals}
-use Rattle.euler_laws.proofs.shared.Rows.{face_there, loop_row}
-use Rattle.euler_laws.proofs.shared.Counted.{in_listed, listed_in, all_where_has, all_where_in}
-use Rattle.shapes.proofs.walks.SolidFaces.{face_of_loop}
+use Rattle.euler_laws.proofs.shared.Fans.{loop_after, half_face}
+use Rattle.euler_laws.proofs.shared.Goes.{no_zero}
+use Rattle.euler_laws.proofs.shared.Rows.{face_there, loop_row, not_lone_cycle}
+use Rattle.euler_laws.proofs.shared.Listed.{IsIn-from_listed, listed-from_in}
 use Rattle.shapes.specs.Measure.{normal}
 use Rattle.shapes.specs.Faces.{loops_of, corners}
 use Rattle.shapes.specs.split.Sides.{reaches_above, reaches_below, straddles, crossing_edges, face_is_above, faces_above}
@@ -25,23 +27,16 @@ use Rattle.shapes.specs.split.Crossings.{with_crossings}
 use Rattle.shapes.specs.split.Drawing.{with_drawings}
 use Rattle.shapes.specs.split.Split.{split_refusal}
 use Rattle.split_drawing_laws.specs.crossings.Laws.{CanBegin}
-use Rattle.split_drawing_laws.proofs.crossings.Listed.{picked, picked_passes, any_passes, tail_in_face}
+use Rattle.split_drawing_laws.proofs.crossings.Listed.{any_passes, tail_in_face}
 use Rattle.split_drawing_laws.proofs.crossings.Whole.{crossings_cut, crossings_keep, crossings_sound, same_solid, not_cut}
-use Rattle.split_drawing_laws.proofs.drawings.Stays.{has_loop, has_face}
-use Rattle.split_drawing_laws.proofs.half_sides.Pieces.{CutBy, half_plus, half_minus, crossing_pieces}
+use Rattle.split_drawing_laws.proofs.half_sides.Pieces.{CutBy, crossing_pieces}
 use Rattle.split_drawing_laws.proofs.half_sides.Starts.{old_face}
 use Rattle.split_drawing_laws.proofs.face_sides.Final.{TailIn, tail_in, none_straddles}
 use Rattle.split_drawing_laws.proofs.face_sides.Same.{any_from}
 use Rattle.split_laws.specs.drawn.Kept.{HasFace}
 use Rattle.split_laws.proofs.drawn.Drawn.{begins, none_lone, meets, never_stuck, drawn_sound, drawn_stays, drawn_keeps}
-
-cycle_of_items : (c : LoopContent) → is_lone c ≡ false → c ≡ cycle (items_of c)
-cycle_of_items (lone v) e = absurd (true≢false e)
-cycle_of_items (cycle hs) e = refl
-
-other_of : (a b : Bool) → b ≡ true → (a && b) ≡ false → a ≡ false
-other_of true b t e = absurd (true≢false (sym t ∙ e))
-other_of false b t e = refl
+use Rattle.euler_laws.proofs.shared.Counted.{all_where_has, all_where_in}
+use Rattle.shapes.proofs.walks.SolidFaces.{face_of_loop}
 
 -- a half-edge of N that starts at point v, of face f
 pub record HalfAt (N : Model) (v f : ℕ) : Type 0 where
@@ -69,16 +64,17 @@ module _ (M : Model) (s : ℕ) (p : Plane) (t : ℕ) (sound : Sound M) (accepted
   -- ---- at a corner of a face of the solid a half-edge starts
 
   not_lone : (f l : ℕ) → IsIn f (faces_of M s) → Has M.loops l → face_of M l ≡ f → is_lone (content M l) ≡ false
-  not_lone f l i there at = other_of (is_lone (content M l)) (lists (faces_of M s) (face_of M l)) (ap (lists (faces_of M s)) at ∙ in_listed f (faces_of M s) i)
+  not_lone f l i there at = first_fails (is_lone (content M l)) (lists (faces_of M s) (face_of M l))
       (zero_first_where (λ _ row. is_lone row.content && lists (faces_of M s) row.face) M.loops (λ q y got z. no_zero q z (sound.loops_fit q (ap is_some got)))
       (none_lone M s p t sound accepted) l (record { face = face_of M l; content = content M l }) (loop_row M l there))
+      (ap (lists (faces_of M s)) at ∙ listed-from_in f (faces_of M s) i)
 
   corner_half : (f v : ℕ) → IsIn f (faces_of M s) → IsIn v (corners M f) → HalfAt M v f
   unfolding corners
   corner_half f v i c =
       let row = all_where_has (λ _ row. nat_eq row.solid s) M.faces f i in
-      let of : (l : ℕ) → IsIn l (loops_of M f) → Has M.loops l × (face_of M l ≡ f) = λ l j. face_of_loop M sound f l (ap is_some row.1) (in_listed l (loops_of M f) j) in
-      let r : TailIn M v (loops_of M f) = tail_in M v (loops_of M f) (λ l j. cycle_of_items (content M l) (not_lone f l i (of l j).0 (of l j).1)) c in
+      let of : (l : ℕ) → IsIn l (loops_of M f) → Has M.loops l × (face_of M l ≡ f) = λ l j. face_of_loop M sound f l (ap is_some row.1) (listed-from_in l (loops_of M f) j) in
+      let r : TailIn M v (loops_of M f) = tail_in M v (loops_of M f) (λ l j. not_lone_cycle (content M l) (not_lone f l i (of l j).0 (of l j).1)) c in
       let stands = in-holds r.half (content M r.loop) r.half_in in
       record {
         half = r.half;
@@ -92,9 +88,9 @@ module _ (M : Model) (s : ℕ) (p : Plane) (t : ℕ) (sound : Sound M) (accepted
   cut_half : (e k : ℕ) → CutBy M N e k → HalfAt N (tail M (plus e)) (face_at M (plus e))
   cut_half e k w = record {
     half = plus k;
-    there = half_plus N k w.there;
+    there = plus_there N k w.there;
     starts = w.starts;
-    face = ap (face_of N) (sym (loop_after N N_sound (plus k) (half_plus N k w.there)) ∙ ap (loop_of N) w.first) ∙ old_face M s p t sound begun (plus e) (half_plus M e w.old);
+    face = ap (face_of N) (sym (loop_after N N_sound (plus k) (plus_there N k w.there)) ∙ ap (loop_of N) w.first) ∙ old_face M s p t sound begun (plus e) (plus_there M e w.old);
   }
 
   old_half : (h : ℕ) → HasHalf M h → tail N h ≡ tail M h → HalfAt N (tail M h) (face_at M h)
@@ -103,13 +99,13 @@ module _ (M : Model) (s : ℕ) (p : Plane) (t : ℕ) (sound : Sound M) (accepted
   plus_at : (e : ℕ) → Has M.edges e → HalfAt N (tail M (plus e)) (face_at M (plus e))
   plus_at e there = elim (IsIn_or_not e es) [
     | inl i ↦ let c = (crossing_pieces M s p t sound begun).cuts e i in cut_half e c.0 c.1
-    | inr z ↦ old_half (plus e) (half_plus M e there) ((crossings_cut M s p t sound begun).plus_tails e there (not_cut M s p t sound begun e z))
+    | inr z ↦ old_half (plus e) (plus_there M e there) ((crossings_cut M s p t sound begun).plus_tails e there (not_cut M s p t sound begun e z))
   ]
 
   half_then : (h : ℕ) → HasHalf M h → HalfAt N (tail M h) (face_at M h)
   half_then h there = elim (halves_of_edge h) [
     | inl a ↦ subst (λ x. HalfAt N (tail M x) (face_at M x)) (sym a.0) (plus_at (edge_of h) there)
-    | inr a ↦ subst (λ x. HalfAt N (tail M x) (face_at M x)) (sym a.0) (old_half (minus (edge_of h)) (half_minus M (edge_of h) there) ((crossings_cut M s p t sound begun).minus_tails (edge_of h) there))
+    | inr a ↦ subst (λ x. HalfAt N (tail M x) (face_at M x)) (sym a.0) (old_half (minus (edge_of h)) (minus_there M (edge_of h) there) ((crossings_cut M s p t sound begun).minus_tails (edge_of h) there))
   ]
 
   -- ---- and when the faces are drawn: in a face of the solid
@@ -128,7 +124,7 @@ module _ (M : Model) (s : ℕ) (p : Plane) (t : ℕ) (sound : Sound M) (accepted
 
   face_solid : (f : ℕ) → IsIn f (faces_of M s) → solid_of M f ≡ s
   unfolding solid_of
-  face_solid f i = let w = all_where_has (λ _ row. nat_eq row.solid s) M.faces f i in ap (λ o. (unwrap_or o no_face).solid) w.1 ∙ equal w.0.solid s w.2
+  face_solid f i = let w = all_where_has (λ _ row. nat_eq row.solid s) M.faces f i in ap (λ o. (unwrap_or o no_face).solid) w.1 ∙ eqb-true w.0.solid s w.2
 
   corner_then : (f v : ℕ) → IsIn f (faces_of M s) → IsIn v (corners M f) → CornerThen v
   corner_then f v i c =
@@ -139,14 +135,14 @@ module _ (M : Model) (s : ℕ) (p : Plane) (t : ℕ) (sound : Sound M) (accepted
       let starts : tail D x.half ≡ v = (drawn_stays M s p t sound accepted).tails x.half x.there ∙ x.starts ∙ h.starts in
       record {
         face = face_at D x.half;
-        there = has_face D S x.half there;
+        there = half_face D S x.half there;
         of_solid = (drawn_keeps M s p t sound accepted).halves x.half x.there ∙ ap (solid_of N) (x.face ∙ h.face) ∙ same_solid M s p t sound begun f ∙ face_solid f i;
-        corner = subst (λ n. IsIn n (corners D (face_at D x.half))) starts (tail_in_face D x.half (loop_of D x.half) (has_loop D S x.half there) (cycle_there D S x.half there));
+        corner = subst (λ n. IsIn n (corners D (face_at D x.half))) starts (tail_in_face D x.half (loop_of D x.half) (loop_there D S x.half there) (cycle_there D S x.half there));
         point = point_then v (subst (Has M.vertices) h.starts (sound.tails_there h.half h.there));
       }
 
   in_solid : (f : ℕ) → Has D.faces f → solid_of D f ≡ s → IsIn f (faces_of D s)
-  in_solid f there e = all_where_in (λ _ row. nat_eq row.solid s) D.faces f _ (face_there D f there) (equals (solid_of D f) s e)
+  in_solid f there e = all_where_in (λ _ row. nat_eq row.solid s) D.faces f _ (face_there D f there) (eq-eqb (solid_of D f) s e)
 
   -- ---- the two faces
 
@@ -156,7 +152,7 @@ module _ (M : Model) (s : ℕ) (p : Plane) (t : ℕ) (sound : Sound M) (accepted
 
   below_is : (f : ℕ) → reaches_below D p f ≡ true → straddles D p f ≡ false → face_is_above D p f ≡ false
   unfolding face_is_above straddles
-  below_is f e none = let up : reaches_above D p f ≡ false = other_of (reaches_above D p f) (reaches_below D p f) e none in
+  below_is f e none = let up : reaches_above D p f ≡ false = first_fails (reaches_above D p f) (reaches_below D p f) none e in
       ap (λ b. b || (not (reaches_below D p f) && not (int_lt (pos 0) (dot (normal D f) (direction p))))) up
       ∙ ap (λ b. not b && not (int_lt (pos 0) (dot (normal D f) (direction p)))) e
 
@@ -164,7 +160,7 @@ module _ (M : Model) (s : ℕ) (p : Plane) (t : ℕ) (sound : Sound M) (accepted
   unlisted f e = go (lists (faces_above D p s) f) refl where
     go : (b : Bool) → lists (faces_above D p s) f ≡ b → lists (faces_above D p s) f ≡ false
     go false n = n
-    go true l = absurd (true≢false (sym (picked_passes (face_is_above D p) f (faces_of D s) (listed_in f (faces_above D p s) l)) ∙ e))
+    go true l = absurd (true≢false (sym (filter_passes (face_is_above D p) f (faces_of D s) (IsIn-from_listed f (faces_above D p s) l)) ∙ e))
 
   pub some_above : HasFace (with_drawings M s p).model s (faces_above (with_drawings M s p).model p s) true
   some_above =
@@ -176,7 +172,7 @@ module _ (M : Model) (s : ℕ) (p : Plane) (t : ℕ) (sound : Sound M) (accepted
         face = c.face;
         there = c.there;
         of_solid = c.of_solid;
-        is = in_listed c.face (faces_above D p s) (picked (face_is_above D p) c.face (faces_of D s) (in_solid c.face c.there c.of_solid) (above_is c.face reaches));
+        is = listed-from_in c.face (faces_above D p s) (IsIn-filter (face_is_above D p) c.face (faces_of D s) (in_solid c.face c.there c.of_solid) (above_is c.face reaches));
       }
 
   pub some_below : HasFace (with_drawings M s p).model s (faces_above (with_drawings M s p).model p s) false
@@ -185,7 +181,7 @@ module _ (M : Model) (s : ℕ) (p : Plane) (t : ℕ) (sound : Sound M) (accepted
       let v = any_from (λ v. is_below p (point_of M v)) (corners M f.0) f.2 in
       let c : CornerThen v.0 = corner_then f.0 v.0 f.1 v.1 in
       let reaches : reaches_below D p c.face ≡ true = any_passes (λ v. is_below p (point_of D v)) v.0 (corners D c.face) c.corner (ap (is_below p) c.point ∙ v.2) in
-      let whole : straddles D p c.face ≡ false = none_straddles M D s p t sound begun (never_stuck M s p t sound accepted, refl) c.face (in_listed c.face (faces_of D s) (in_solid c.face c.there c.of_solid)) in
+      let whole : straddles D p c.face ≡ false = none_straddles M D s p t sound begun (never_stuck M s p t sound accepted, refl) c.face (listed-from_in c.face (faces_of D s) (in_solid c.face c.there c.of_solid)) in
       record {
         face = c.face;
         there = c.there;

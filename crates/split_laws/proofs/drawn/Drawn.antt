@@ -1,17 +1,20 @@
 -- What the conditions of a split say once the faces are drawn: the solid can be opened along its section.
-use Rattle.std.proofs.Common.{◌≡◌, ℕ, ◌+◌, ◌*◌, ◌<◌, Bool, true, false, cond, nat_eq, nat_lt, ◌&&◌, List, [], ◌∷◌, ◌++◌, length, None, is_some, unwrap_or, IsTrue, refl, sym, ap, ◌∙◌, subst, arith, true≢false}
+use Rattle.std.proofs.Common.{◌≡◌, ℕ, ◌+◌, ◌*◌, ◌<◌, Bool, true, false, cond, nat_eq, nat_lt, ◌&&◌, List, [], ◌∷◌, ◌++◌, length, None, is_some, unwrap_or, IsTrue, refl, ap, ◌∙◌, subst, arith}
 use Rattle.std.specs.Prelude.{fold}
 use Rattle.std.proofs.lemmas.List.{append-nil}
+use Rattle.std.proofs.lemmas.Bool.{and_parts, not-true, eqb-true}
 use Rattle.std.specs.List.{list_any}
 use Rattle.euler_operators.specs.declared.Plane.{Plane}
 use Rattle.euler_operators.specs.Table as table
 use Rattle.euler_operators.specs.Model.{Model, no_face, solid_of, is_number, faces_of}
 use Rattle.euler_operators.specs.Sound.{Sound, Has}
 use Rattle.euler_operators.specs.Conditions.{AllHold, lists, strictly_rises, has_rings}
-use Rattle.euler_laws.proofs.shared.Goes.{all_hold, none_refuses, not_true, free, equal}
-use Rattle.euler_laws.proofs.shared.Listed.{all_where-rises}
+use Rattle.euler_operators.proofs.Members.{count-filter}
+use Rattle.euler_operators.proofs.Tables.{no_row}
+use Rattle.euler_laws.proofs.shared.Goes.{all_hold, none_refuses, all_hold-front, all_hold-back}
+use Rattle.euler_laws.proofs.shared.Listed.{all_where-rises, IsIn-from_listed}
 use Rattle.shapes.proofs.fresh.Rows.{none_above}
-use Rattle.shapes.proofs.fresh.Tests.{all_hold-front, all_hold-back, Left, numbers_are_left}
+use Rattle.shapes.proofs.fresh.Tests.{Left, numbers_are_left}
 use Rattle.shapes.specs.Faces.{least_lone}
 use Rattle.shapes.specs.Fresh.{Growing, taken_in}
 use Rattle.shapes.specs.split.Sides.{straddling_faces, reaches_above, reaches_below, face_is_above, faces_above}
@@ -20,8 +23,6 @@ use Rattle.shapes.specs.split.Drawing.{Drawing, stuck_at, in_one_loop, join_next
 use Rattle.shapes.specs.split.Section.{below_halves, section_cycles, has_stray_hole}
 use Rattle.shapes.specs.split.Split.{first_conditions, later_conditions, section_conditions, split_conditions, split_refusal}
 use Rattle.split_drawing_laws.specs.crossings.Laws.{CanBegin}
-use Rattle.euler_laws.proofs.shared.Counted.{listed_in, all_where_has}
-use Rattle.split_drawing_laws.proofs.crossings.Listed.{picked_count}
 use Rattle.split_drawing_laws.proofs.crossings.Whole.{crossings_counted, crossings_keep}
 use Rattle.split_drawing_laws.proofs.pairs.Whole.{can_be_drawn, rewritings_sound}
 use Rattle.split_drawing_laws.specs.drawings.DrawnIn.{Stays, Fresh}
@@ -35,6 +36,7 @@ use Rattle.split_opening_laws.specs.sections.InTurn.{AreFree, AreLeft, CanBeOpen
 use Rattle.split_opening_laws.proofs.sections.InTurn.{can_be_opened}
 use Rattle.split_laws.specs.drawn.Kept.{KeepsSolids}
 use Rattle.split_laws.proofs.drawn.Solids.{drawing_keeps}
+use Rattle.euler_laws.proofs.shared.Counted.{all_where_has}
 
 -- ---- drawing takes no vertex
 
@@ -120,31 +122,26 @@ module _ (M : Model) (s : ℕ) (p : Plane) (t : ℕ) (sound : Sound M) (accepted
 
   t_free_before : table.get M.solids t ≡ None
   unfolding first_conditions
-  t_free_before = free (table.get M.solids t) (not_true (table.has M.solids t) first.1.1.1.0)
+  t_free_before = no_row (table.get M.solids t) (not-true (table.has M.solids t) first.1.1.1.0)
 
   pub none_lone : least_lone M (faces_of M s) ≡ 0
   unfolding first_conditions
-  none_lone = equal (least_lone M (faces_of M s)) 0 first.1.1.1.1.1.1.1.1.1.0
-
-  both : (a b : Bool) → (a && b) ≡ true → (a ≡ true) × (b ≡ true)
-  both true true e = (refl, refl)
-  both true false e = absurd (true≢false (sym e))
-  both false b e = absurd (true≢false (sym e))
+  none_lone = eqb-true (least_lone M (faces_of M s)) 0 first.1.1.1.1.1.1.1.1.1.0
 
   pub meets : (list_any (reaches_above M p) (faces_of M s) ≡ true) × (list_any (reaches_below M p) (faces_of M s) ≡ true)
   unfolding first_conditions
-  meets = both (list_any (reaches_above M p) (faces_of M s)) (list_any (reaches_below M p) (faces_of M s)) first.1.1.1.1.1.1.1.1.1.1.1.0
+  meets = and_parts (list_any (reaches_above M p) (faces_of M s)) (list_any (reaches_below M p) (faces_of M s)) first.1.1.1.1.1.1.1.1.1.1.1.0
 
   pub never_stuck : (with_drawings M s p).stuck ≡ 0
-  never_stuck = equal d.stuck 0 later.0
+  never_stuck = eqb-true d.stuck 0 later.0
 
   unbranched : IsUnbranched D halves
   unfolding section_conditions
-  unbranched = equal _ 0 later.1.0
+  unbranched = eqb-true _ 0 later.1.0
 
   pub no_stray : has_stray_hole (with_drawings M s p).model p (section_cycles (with_drawings M s p).model (below_halves (with_drawings M s p).model (faces_above (with_drawings M s p).model p s) s)) ≡ false
   unfolding section_conditions
-  no_stray = not_true (has_stray_hole D p cycles) later.1.1.0
+  no_stray = not-true (has_stray_hole D p cycles) later.1.1.0
 
   room : Left d.taken (length halves + length cycles) (length halves + length cycles) (2 * length halves) (length halves)
   unfolding section_conditions
@@ -190,8 +187,8 @@ module _ (M : Model) (s : ℕ) (p : Plane) (t : ℕ) (sound : Sound M) (accepted
   pub above_facts : (f : ℕ) → lists (faces_above (with_drawings M s p).model p s) f ≡ true → Has (with_drawings M s p).model.faces f × (solid_of (with_drawings M s p).model f ≡ s)
   unfolding solid_of
   above_facts f l =
-      let w = all_where_has (λ _ row. nat_eq row.solid s) D.faces f (omega (arith, listed_in f above l, picked_count (face_is_above D p) f (faces_of D s))) in
-      (ap is_some w.1, ap (λ o. (unwrap_or o no_face).solid) w.1 ∙ equal w.0.solid s w.2)
+      let w = all_where_has (λ _ row. nat_eq row.solid s) D.faces f (omega (arith, IsIn-from_listed f above l, count-filter (face_is_above D p) f (faces_of D s))) in
+      (ap is_some w.1, ap (λ o. (unwrap_or o no_face).solid) w.1 ∙ eqb-true w.0.solid s w.2)
 
   above_rises : strictly_rises above ≡ true
   above_rises = filter_rises (face_is_above D p) (faces_of D s) (all_where-rises (λ _ row. nat_eq row.solid s) D.faces)

@@ -1,24 +1,25 @@
 -- Each half-edge stays in its solid while faces are drawn, and solids stay.
-use Rattle.std.proofs.Common.{◌≡◌, ◌≢◌, ℕ, ◌+◌, Bool, true, false, cond, nat_eq, nat_lt, ◌&&◌, List, [], ◌∷◌, length, Some, None, is_some, unwrap_or, refl, sym, ap, ◌∙◌, subst, arith, inl, inr, true≢false}
+use Rattle.std.proofs.Common.{◌≡◌, ◌≢◌, ℕ, ◌+◌, Bool, true, false, cond, nat_eq, nat_lt, ◌&&◌, List, [], ◌∷◌, length, Some, None, is_some, refl, sym, ap, ◌∙◌, subst, arith, inl, inr, true≢false}
 use Rattle.std.specs.Prelude.{fold}
 use Rattle.std.proofs.lemmas.Bool.Decides.{eqb_tells}
 use Rattle.euler_operators.specs.declared.Plane.{Plane}
 use Rattle.euler_operators.specs.Table as table
-use Rattle.euler_operators.specs.Model.{Model, FaceRow, no_face, loop_of, solid_of, is_ring_of}
+use Rattle.euler_operators.specs.Model.{Model, loop_of, solid_of, is_ring_of}
 use Rattle.euler_operators.specs.Sound.{Sound, Has, HasHalf}
 use Rattle.euler_operators.specs.Conditions.{face_at, has_rings}
-use Rattle.shapes.proofs.fresh.Rows.{get-put_here, get-put_other}
+use Rattle.euler_operators.proofs.Models.{solid_row, same_solid}
+use Rattle.euler_operators.proofs.Tables.{get-put_here, get-put_other}
 use Rattle.shapes.specs.Fresh.{Growing}
 use Rattle.shapes.specs.split.Drawing.{Drawing, face_drawn, loops_joined, stuck_at, in_one_loop, joined_pair, join_next, all_joined, ring_free, draw_next, all_drawn, rings_above, with_rings, rings_shared, drawn_between, drawn_pairs, next_drawn, faces_drawn}
 use Rattle.split_drawing_laws.specs.drawings.DrawnIn.{DrawnIn}
 use Rattle.split_drawing_laws.specs.drawings.Pairs.{Fits, AllFit, pairs_in}
 use Rattle.split_drawing_laws.specs.drawings.Laws.{CanBeDrawn}
-use Rattle.split_drawing_laws.proofs.drawings.Stays.{has_face}
 use Rattle.split_drawing_laws.specs.drawings.Passing.{Going, Ready, Drawable}
 use Rattle.split_drawing_laws.proofs.drawings.Passes.{draw_next_one, draw_next_two, draw_one, join_next_one, join_next_two}
 use Rattle.split_drawing_laws.proofs.drawings.Faces.{joins, going, going_on, fitting_on, face_goes}
 use Rattle.split_drawing_laws.proofs.drawings.Whole.{ready, drawable, drawable_on, next_is}
 use Rattle.split_laws.specs.drawn.Kept.{KeepsSolids}
+use Rattle.euler_laws.proofs.shared.Fans.{half_face}
 
 -- ---- joining changes no face and no solid
 
@@ -57,14 +58,6 @@ draw_solids : (N : Model) (u k e f l : ℕ) → (face_drawn N u k e f l).solids 
 unfolding face_drawn
 draw_solids N u k e f l = refl
 
-solid_as : (M N : Model) (f : ℕ) → table.get N.faces f ≡ table.get M.faces f → solid_of N f ≡ solid_of M f
-unfolding solid_of
-solid_as M N f e = ap (λ o. (unwrap_or o no_face).solid) e
-
-solid_at_row : (N : Model) (f : ℕ) (row : FaceRow) → table.get N.faces f ≡ Some row → solid_of N f ≡ row.solid
-unfolding solid_of
-solid_at_row N f row e = ap (λ o. (unwrap_or o no_face).solid) e
-
 -- X is M with edges drawn in face f: M's faces have their rows, and the new ones are of the solid of f
 pub record NewOf (M X : Model) (f : ℕ) : Type 0 where
   pub rows : (g : ℕ) → Has M.faces g → table.get X.faces g ≡ table.get M.faces g
@@ -81,7 +74,7 @@ from_same M X f w = record {
 then_same : (M X Y : Model) (f : ℕ) → NewOf M X f → SameFaces X Y → NewOf M Y f
 then_same M X Y f a w = record {
   rows = λ g t. ap (λ u. table.get u g) w.faces ∙ a.rows g t;
-  news = λ g t n. solid_as X Y g (ap (λ u. table.get u g) w.faces) ∙ a.news g (subst (λ u. Has u g) w.faces t) n;
+  news = λ g t n. same_solid X Y g (ap (λ u. table.get u g) w.faces) ∙ a.news g (subst (λ u. Has u g) w.faces t) n;
   solids = w.solids ∙ a.solids;
 }
 
@@ -89,8 +82,8 @@ module _ (M : Model) (f : ℕ) (sound : Sound M) where
   -- a half-edge of the face is of its solid still
   half_of : (X : Model) → DrawnIn M X f → NewOf M X f → (h : ℕ) → HasHalf M h → face_at M h ≡ f → solid_of X (face_at X h) ≡ solid_of M f
   half_of X drawn a h there at = elim (drawn.within h there at) [
-    | inl e ↦ ap (solid_of X) e ∙ solid_as M X f (a.rows f (subst (Has M.faces) at (has_face M sound h there)))
-    | inr n ↦ a.news (face_at X h) (has_face X drawn.sound h (drawn.stays.halves h there)) n
+    | inl e ↦ ap (solid_of X) e ∙ same_solid M X f (a.rows f (subst (Has M.faces) at (half_face M sound h there)))
+    | inr n ↦ a.news (face_at X h) (half_face X drawn.sound h (drawn.stays.halves h there)) n
   ]
 
   module _ (X : Model) (q : ℕ × ℕ) (e g l : ℕ) (drawn : DrawnIn M X f) (fits : Fits M f q) (face_free : table.get X.faces g ≡ None) (a : NewOf M X f) where
@@ -110,8 +103,8 @@ module _ (M : Model) (f : ℕ) (sound : Sound M) where
     one_new = record {
       rows = λ k t. other_row k (was_there k t) ∙ a.rows k t;
       news = λ k t n. elim (eqb_tells k g) [
-        | inl s ↦ ap (solid_of K) s.1 ∙ solid_at_row K g (record { solid = solid_of X (face_at X q.0); outer = l }) new_here ∙ half_of X drawn a q.0 fits.u_there fits.u_face
-        | inr s ↦ solid_as X K k (other_row k s.1) ∙ a.news k (sym (ap is_some (other_row k s.1)) ∙ t) n
+        | inl s ↦ ap (solid_of K) s.1 ∙ solid_row K g (record { solid = solid_of X (face_at X q.0); outer = l }) new_here ∙ half_of X drawn a q.0 fits.u_there fits.u_face
+        | inr s ↦ same_solid X K k (other_row k s.1) ∙ a.news k (sym (ap is_some (other_row k s.1)) ∙ t) n
       ];
       solids = draw_solids X q.0 q.1 e g l ∙ a.solids;
     }
@@ -154,7 +147,7 @@ one_keeps : (X Y : Model) (f : ℕ) → Sound X → DrawnIn X Y f → NewOf X Y 
 one_keeps X Y f sound drawn a = record {
   halves = λ h t. elim (eqb_tells (face_at X h) f) [
     | inl e ↦ half_of X f sound Y drawn a h t e.1 ∙ ap (solid_of X) (sym e.1)
-    | inr e ↦ ap (solid_of Y) (drawn.beside h t e.1).1 ∙ solid_as X Y (face_at X h) (a.rows (face_at X h) (has_face X sound h t))
+    | inr e ↦ ap (solid_of Y) (drawn.beside h t e.1).1 ∙ same_solid X Y (face_at X h) (a.rows (face_at X h) (half_face X sound h t))
   ];
   solids = a.solids;
 }

@@ -1,9 +1,10 @@
 -- The two caps that close a solid once it is opened along a cycle on a plane: they lie along the plane, and have opposite normals.
-use Rattle.std.proofs.Common.{◌≡◌, ◌≢◌, ℕ, zero, suc, ◌+◌, ◌≤◌, ◌<◌, true, false, not, nat_eq, ◌&&◌, List, [], ◌∷◌, ◌++◌, length, Option, Some, None, is_some, unwrap_or, refl, sym, ap, ◌∙◌, arith, true≢false, ◌⊎◌, inl, inr}
+use Rattle.std.proofs.Common.{◌≡◌, ℕ, zero, suc, ◌+◌, ◌≤◌, ◌<◌, true, not, List, [], ◌∷◌, length, Option, Some, None, is_some, unwrap_or, refl, sym, ap, ◌∙◌, arith, true≢false, ◌⊎◌, inl, inr}
 use Rattle.std.specs.Prelude.{map, reverse, get_or}
 use Rattle.std.specs.List.{list_all}
 use Rattle.std.specs.Option.{option_map}
-use Rattle.std.proofs.lemmas.Bool.Decides.{nat_tests, eqb_tells}
+use Rattle.std.proofs.lemmas.Bool.Decides.{eqb_tells}
+use Rattle.std.proofs.lemmas.Bool.{and_parts}
 use Rattle.euler_operators.specs.declared.Point.{Point}
 use Rattle.euler_operators.specs.declared.Plane.{Plane}
 use Rattle.euler_operators.specs.Vectors.{origin, moved, cross, same_point, direction, is_on}
@@ -15,33 +16,33 @@ use Rattle.euler_operators.proofs.Rotations.{count-canonical, IsIn_head}
 use Rattle.euler_operators.specs.HalfEdge.{mate, plus, minus}
 use Rattle.euler_operators.specs.Table as table
 use Rattle.euler_operators.specs.Table.{get-map_rows}
-use Rattle.euler_operators.specs.Model.{Model, LoopRow, cycle, no_face, items_of, tail, content, face_of, outer, point_of, rings_of}
+use Rattle.euler_operators.specs.Model.{Model, LoopRow, cycle, no_face, tail, content, face_of, outer, point_of, rings_of}
 use Rattle.euler_operators.specs.Sound.{Has}
-use Rattle.euler_operators.proofs.Models.{content_row, face_row}
-use Rattle.euler_operators.proofs.Tables.{all_where_none}
-use Rattle.euler_laws.proofs.shared.Fans.{half_mate}
-use Rattle.shapes.proofs.fresh.Rows.{get-put_cases, get-put_here, get-put_other}
-use Rattle.shapes.specs.Faces.{start, finish, items_in, loops_of, boundary}
+use Rattle.euler_operators.proofs.Models.{content_row, face_row, mate_there}
+use Rattle.euler_operators.proofs.Tables.{all_where_none, in_use_within, get-put_here, get-put_other}
+use Rattle.shapes.proofs.fresh.Rows.{get-put_cases}
+use Rattle.shapes.specs.Faces.{start, finish}
 use Rattle.shapes.specs.Fresh.{Taken, numbers_after}
 use Rattle.shapes.specs.Prism.{next_place}
 use Rattle.shapes.specs.Rewriting.{rewritten_row, renamed}
 use Rattle.shapes.specs.Measure.{area, normal, anchor, first_vertex, is_plane_of}
-use Rattle.shapes.proofs.Areas.{area-append, moved_nothing}
 use Rattle.euler_operators.proofs.Vectors.{none_moved}
+use Rattle.euler_operators.proofs.Tests.{none_but}
+use Rattle.euler_operators.proofs.Members.{IsIn_rest, IsIn_some_head, IsIn-map}
 use Rattle.solid_measure_laws.specs.Vectors.{negated}
-use Rattle.solid_measure_laws.proofs.FlatFaces.{and_parts, flat_closed}
-use Rattle.solid_measure_laws.proofs.Paths.{Leads, IsClosed, first_in, rest_in}
+use Rattle.solid_measure_laws.proofs.FlatFaces.{flat_closed}
+use Rattle.solid_measure_laws.proofs.Paths.{Leads, IsClosed}
 use Rattle.solid_measure_laws.proofs.Products.{cross_moved, cross_nothing}
 use Rattle.solid_measure_laws.proofs.Sums.{none_left, area_same, area_mates}
 use Rattle.shapes.specs.split.Opening.{both_lists, opened_along}
 use Rattle.split_opening_laws.specs.strips.Opened.{CanBeOpened}
-use Rattle.split_opening_laws.proofs.strips.Cycle.{at_most, next_cases, next_below, two_halves, half_in, mate_start, place_of}
-use Rattle.split_opening_laws.proofs.strips.Places.{IsIn-map}
+use Rattle.split_opening_laws.proofs.strips.Cycle.{next_cases, next_below, two_halves, half_in, mate_start, place_of}
 use Rattle.split_opening_laws.specs.sections.InTurn.{AreFree}
 use Rattle.split_opening_laws.proofs.sections.OpenedRows.{faces_are, loops_are}
 use Rattle.split_opening_laws.proofs.sections.OpenedFaces.{upper_row}
 use Rattle.split_laws.specs.opened.Told.{LiesAlong}
 use Rattle.split_laws.proofs.opened.Starts.{start_old, finish_old, back_along}
+use Rattle.gluing_laws.proofs.Adding.{only_loop}
 
 -- ---- lists
 
@@ -98,27 +99,16 @@ back_area M N k (h ∷ hs) e = let q = e 0 (omega arith) in λ i. moved (cross (
 
 pub area_kept : (M N : Model) (hs : List ℕ) → ((h : ℕ) → IsIn h hs → (start N h ≡ start M h) × (finish N h ≡ finish M h)) → area N hs ≡ area M hs
 area_kept M N [] e = refl
-area_kept M N (h ∷ hs) e = let q = e h (first_in h hs) in λ i. moved (cross (q.0 i) (q.1 i)) (area_kept M N hs (λ x j. e x (rest_in x h hs j)) i)
+area_kept M N (h ∷ hs) e = let q = e h (IsIn_head h hs) in λ i. moved (cross (q.0 i) (q.1 i)) (area_kept M N hs (λ x j. e x (IsIn_rest x h hs j)) i)
 
 -- ---- vectors and planes
 
 cross_negated : (n a : Point) → cross n a ≡ origin → cross n (negated a) ≡ origin
 cross_negated n a e = sym (none_moved (cross n (negated a))) ∙ ap (λ v. moved v (cross n (negated a))) (sym e) ∙ sym (cross_moved n a (negated a)) ∙ ap (cross n) (none_left a) ∙ cross_nothing n
 
-pub only_loop : (M : Model) (k : ℕ) (cs : List ℕ) → rings_of M k ≡ [] → content M (outer M k) ≡ cycle cs → normal M k ≡ area M cs
-unfolding normal boundary loops_of
-only_loop M k cs alone is = ap (λ rs. area M (items_in M (outer M k ∷ rs))) alone ∙ ap (λ c. area M (items_of c ++ [])) is ∙ area-append M cs [] ∙ moved_nothing (area M cs)
-
-head_within : (xs : List ℕ) → xs ≢ [] → IsIn (head_or 0 xs) xs
-head_within [] ne = absurd (ne refl)
-head_within (x ∷ xs) ne = IsIn_head x xs
-
 -- the anchor of a face that lies along a plane is on it
 pub anchor_along : (M : Model) (p : Plane) (f : ℕ) → LiesAlong M p f → is_on p (anchor M f) ≡ true
-anchor_along M p f w = ap (λ c. is_on p (point_of M (first_vertex M c))) w.outer_is ∙ w.on_plane (head_or 0 w.items) (head_within w.items w.some_item)
-
-no_ring : (a f o l : ℕ) → (a ≡ f → o ≡ l) → (nat_eq a f && not (nat_eq o l)) ≡ false
-no_ring a f o l e = grind (arith, nat_tests)
+anchor_along M p f w = ap (λ c. is_on p (point_of M (first_vertex M c))) w.outer_is ∙ w.on_plane (head_or 0 w.items) (IsIn_some_head w.items w.some_item)
 
 module _ (M : Model) (above : List ℕ) (s : ℕ) (c : Taken) (bs : List ℕ) (w : CanBeOpened M above s c bs) where
   abbrev m : ℕ
@@ -165,7 +155,7 @@ module _ (M : Model) (above : List ℕ) (s : ℕ) (c : Taken) (bs : List ℕ) (w
   ]
 
   old_face : (l : ℕ) → Has M.loops l → face_of M l ≤ c.face
-  old_face l there = at_most M.faces c.face (face_of M l) w.faces_free (w.sound.loops_of_faces l there)
+  old_face l there = in_use_within M.faces c.face w.faces_free (face_of M l) (w.sound.loops_of_faces l there)
 
   -- ---- the caps have one loop each
 
@@ -184,7 +174,7 @@ module _ (M : Model) (above : List ℕ) (s : ℕ) (c : Taken) (bs : List ℕ) (w
   upper_content = ap (content N) outer_upper ∙ content_row N (c.loop + length bs + 1) _ upper_loop
 
   lower_alone : rings_of N (c.face + 1) ≡ []
-  lower_alone = all_where_none _ N.loops (λ l row at. no_ring row.face (c.face + 1) (outer N (c.face + 1)) l (λ e. elim (loop_kinds l row at) [
+  lower_alone = all_where_none _ N.loops (λ l row at. none_but row.face (c.face + 1) (outer N (c.face + 1)) l (λ e. elim (loop_kinds l row at) [
     | inl q ↦ absurd (omega (arith, e, q.1, two_halves M above s c bs w))
     | inr q ↦ elim q [
       | inl r ↦ outer_lower ∙ sym r.0
@@ -193,7 +183,7 @@ module _ (M : Model) (above : List ℕ) (s : ℕ) (c : Taken) (bs : List ℕ) (w
   ]))
 
   upper_alone : rings_of N (c.face + length bs + 1) ≡ []
-  upper_alone = all_where_none _ N.loops (λ l row at. no_ring row.face (c.face + length bs + 1) (outer N (c.face + length bs + 1)) l (λ e. elim (loop_kinds l row at) [
+  upper_alone = all_where_none _ N.loops (λ l row at. none_but row.face (c.face + length bs + 1) (outer N (c.face + length bs + 1)) l (λ e. elim (loop_kinds l row at) [
     | inl q ↦ outer_upper ∙ sym q.0
     | inr q ↦ elim q [
       | inl r ↦ absurd (omega (arith, e, r.1, two_halves M above s c bs w))
@@ -229,12 +219,12 @@ module _ (M : Model) (above : List ℕ) (s : ℕ) (c : Taken) (bs : List ℕ) (w
     cycle_across = flat_closed M p bs (closed_round M bs w.meet) (and_parts (not (same_point (direction p) origin)) _ on).1
 
     some_mate : IsIn (mate (get_or bs 0 0)) (map mate bs)
-    some_mate = IsIn-map mate bs (get_or bs 0 0) (half_in M above s c bs w 0 (omega (arith, two_halves M above s c bs w)))
+    some_mate = IsIn-map mate (get_or bs 0 0) bs (half_in M above s c bs w 0 (omega (arith, two_halves M above s c bs w)))
 
     in_lower : (h : ℕ) → IsIn h (canonical (reverse (map mate bs))) → is_on p (start N h) ≡ true
     in_lower h i =
         let r = from_map mate h bs (omega (arith, i, count-canonical h (reverse (map mate bs)), count-reverse h (map mate bs))) in
-        ap (λ x. is_on p (start N x)) r.2 ∙ ap (is_on p) (start_old M above s c bs w (mate r.0) (half_mate M w.sound r.0 (w.there r.0 r.1))) ∙ ends_on r.0 r.1
+        ap (λ x. is_on p (start N x)) r.2 ∙ ap (is_on p) (start_old M above s c bs w (mate r.0) (mate_there M r.0 (w.there r.0 r.1))) ∙ ends_on r.0 r.1
 
     in_upper : (h : ℕ) → IsIn h (map minus (numbers_after c.edge (length bs))) → is_on p (start N h) ≡ true
     in_upper h i =

@@ -1,5 +1,5 @@
 -- The six volumes of a solid that is opened along all cycles of its section, one after the other.
-use Rattle.std.proofs.Common.{◌≡◌, ◌≢◌, ℕ, ◌+◌, true, false, not, ◌&&◌, List, [], ◌∷◌, ◌++◌, length, is_some, refl, sym, ap, subst, ◌∙◌, arith, true≢false, length-append, ◌⊎◌, inl, inr}
+use Rattle.std.proofs.Common.{◌≡◌, ◌≢◌, ℕ, ◌+◌, true, false, not, ◌&&◌, List, [], ◌∷◌, ◌++◌, length, is_some, refl, sym, ap, subst, ◌∙◌, arith, true≢false, ◌⊎◌, inl, inr}
 use Rattle.std.specs.Prelude.{map}
 use Rattle.std.specs.List.{list_all}
 use Rattle.euler_operators.specs.declared.Plane.{Plane}
@@ -8,10 +8,10 @@ use Rattle.euler_operators.specs.Items.{count, IsIn}
 use Rattle.euler_operators.specs.Rings.{canonical}
 use Rattle.euler_operators.proofs.Lists.{count-append, tick_same}
 use Rattle.euler_operators.proofs.Rotations.{count-canonical, IsIn_head}
+use Rattle.euler_operators.proofs.Tables.{row_some}
 use Rattle.euler_operators.specs.Table as table
 use Rattle.euler_operators.specs.Model.{Model, cycle, items_of, tail, content, outer, point_of}
 use Rattle.euler_operators.specs.Sound.{Sound, Has, HasHalf}
-use Rattle.euler_laws.proofs.shared.Loops.{some_row}
 use Rattle.shapes.proofs.fresh.Rows.{get-put_cases}
 use Rattle.shapes.specs.Faces.{start}
 use Rattle.shapes.specs.Fresh.{Taken}
@@ -26,7 +26,7 @@ use Rattle.split_opening_laws.specs.sections.InTurn.{halves_in, CanBeOpenedInTur
 use Rattle.split_opening_laws.specs.sections.Capped.{ArePlain, HasCaps}
 use Rattle.split_opening_laws.proofs.sections.CyclesStay.{there_in}
 use Rattle.split_opening_laws.proofs.sections.OpenedRows.{faces_are}
-use Rattle.split_opening_laws.proofs.sections.InTurn.{above_there, others_on}
+use Rattle.split_opening_laws.proofs.sections.InTurn.{others_on}
 use Rattle.split_opening_laws.proofs.sections.Capping.{caps_stay}
 use Rattle.split_laws.specs.opened.Told.{TellsAlike, AllTellAlike, LiesAlong, AllLieAlong}
 use Rattle.split_laws.specs.opened.Laws.{LieOn}
@@ -34,29 +34,7 @@ use Rattle.split_laws.proofs.opened.Starts.{swap, start_old}
 use Rattle.split_laws.proofs.opened.Kept as kept
 use Rattle.split_laws.proofs.opened.Caps.{lower_along, upper_along, anchor_along}
 use Rattle.split_laws.proofs.opened.Opened.{is_rewritten, opening_keeps}
-
--- where a solid can be opened along some cycles in turn, it can be along the first
-pub first_can : (above : List ℕ) (s : ℕ) (o : Opening) (bs : List ℕ) (cs : List (List ℕ)) → CanBeOpenedInTurn above s o (bs ∷ cs) → CanBeOpened o.model above s o.taken bs
-first_can above s o bs cs w = let first = w.cycles.cycles.0 in record {
-  sound = w.sound;
-  faces_free = w.free.faces;
-  loops_free = w.free.loops;
-  edges_free = w.free.edges;
-  vertices_free = w.free.vertices;
-  faces_left = omega (arith, w.left.faces, length-append bs (halves_in cs));
-  loops_left = omega (arith, w.left.loops, length-append bs (halves_in cs));
-  edges_left = omega (arith, w.left.edges, length-append bs (halves_in cs));
-  vertices_left = omega (arith, w.left.vertices, length-append bs (halves_in cs));
-  some_half = first.some_half;
-  there = first.there;
-  meet = first.meet;
-  starts_apart = first.starts_apart;
-  below = first.below;
-  mates_above = first.mates_above;
-  of_solid = first.of_solid;
-  no_branch = first.no_branch;
-  above_there = above_there above s o (bs ∷ cs) w;
-}
+use Rattle.split_laws.proofs.Openings.{can_open}
 
 pub some_way : (p : Plane) → same_point (direction p) origin ≡ false → direction p ≢ origin
 some_way p e z = true≢false (sym (ap (λ v. same_point v origin) z) ∙ e)
@@ -79,7 +57,7 @@ module _ (M : Model) (above : List ℕ) (s : ℕ) (c : Taken) (bs : List ℕ) (p
   -- each face is a cap or was there
   face_kinds : (f : ℕ) → Has N.faces f → (f ≡ c.face + length bs + 1) ⊎ ((f ≡ c.face + 1) ⊎ Has M.faces f)
   face_kinds f there =
-      let r = some_row (table.get N.faces f) there in
+      let r = row_some (table.get N.faces f) there in
       elim (get-put_cases _ (c.face + length bs + 1) _ f r.0 (sym (ap (λ t. table.get t f) (faces_are M above s c bs)) ∙ r.1)) [
         | inl q ↦ inl q.0
         | inr q ↦ elim (get-put_cases M.faces (c.face + 1) _ f r.0 q.1) [
@@ -133,7 +111,7 @@ module _ (above : List ℕ) (s : ℕ) (p : Plane) (way : same_point (direction p
     M = o.model
 
     abbrev can : CanBeOpened o.model above s o.taken bs
-    can = first_can above s o bs cs w
+    can = can_open above s o bs cs w
 
     pub next_sound : Sound (next_opened p above s o bs).model
     unfolding next_opened

@@ -1,6 +1,7 @@
 -- Faces whose loops are rewritten: where what stands in the place of a half-edge starts and ends as that did, they keep their normals,
 -- and what they add to the six volumes.
 use Rattle.std.proofs.Common.{◌≡◌, ℕ, Bool, true, not, nat_eq, ◌&&◌, List, [], ◌∷◌, Option, Some, None, is_some, unwrap_or, refl, sym, ap, ◌∙◌, arith, true≢false, ◌⊎◌, inl, inr}
+use Rattle.std.proofs.lemmas.Bool.{ne_eqb}
 use Rattle.std.specs.Prelude.{map}
 use Rattle.euler_operators.specs.Vectors.{moved, dot}
 use Rattle.euler_operators.specs.Items.{count, IsIn, head_or}
@@ -11,8 +12,8 @@ use Rattle.euler_operators.specs.Table as table
 use Rattle.euler_operators.specs.Model.{Model, LoopContent, lone, cycle, LoopRow, no_face, items_of, content, face_of, outer, solid_of, point_of, rings_of}
 use Rattle.euler_operators.specs.Sound.{Sound, Has, HasHalf}
 use Rattle.euler_operators.proofs.Models.{in-holds, content_row, face_row}
+use Rattle.euler_operators.proofs.Members.{IsIn_first}
 use Rattle.euler_operators.specs.Conditions.{lists}
-use Rattle.euler_laws.proofs.shared.Goes.{differs}
 use Rattle.euler_laws.proofs.shared.Listed.{first_listed, rest_listed, listed_cases, listed_passes}
 use Rattle.euler_laws.proofs.shared.Rows.{loop_row}
 use Rattle.shapes.specs.Faces.{start, finish, items_in, loops_of, boundary}
@@ -31,10 +32,6 @@ pub record Rewritten (M N : Model) (swap : ℕ → ℕ) : Type 0 where
   pub others : (l : ℕ) (row : LoopRow) → table.get N.loops l ≡ Some row → Has M.loops l ⊎ (table.get M.faces row.face ≡ None)
   pub stays : (y : ℕ) → HasHalf M y → (start N (swap y) ≡ start M y) × (finish N (swap y) ≡ finish M y)
   pub points : (v : ℕ) → Has M.vertices v → point_of N v ≡ point_of M v
-
-head_among : (xs : List ℕ) (y : ℕ) → IsIn y xs → IsIn (head_or 0 xs) xs
-head_among [] y i = absurd (omega (arith, i))
-head_among (x ∷ xs) y i = IsIn_head x xs
 
 module _ (M N : Model) (swap : ℕ → ℕ) (w : Rewritten M N swap) where
   -- ---- loops
@@ -95,7 +92,7 @@ module _ (M N : Model) (swap : ℕ → ℕ) (w : Rewritten M N swap) where
     new_row l free None e = refl
     new_row l free (Some row) e = elim (w.others l row e) [
       | inl t ↦ absurd (true≢false (sym t ∙ ap is_some free))
-      | inr f ↦ ap (λ b. one_if (b && not (nat_eq (outer N k) l))) (differs row.face k (λ q. true≢false (sym there ∙ ap is_some (ap (table.get M.faces) (sym q) ∙ f))))
+      | inr f ↦ ap (λ b. one_if (b && not (nat_eq (outer N k) l))) (ne_eqb row.face k (λ q. true≢false (sym there ∙ ap is_some (ap (table.get M.faces) (sym q) ∙ f))))
     ]
 
     same_ring : (l : ℕ) (o : Option LoopRow) → table.get M.loops l ≡ o → passed ring_after l (table.get N.loops l) ≡ passed ring_before l o
@@ -136,7 +133,7 @@ module _ (M N : Model) (swap : ℕ → ℕ) (w : Rewritten M N swap) where
     anchor_from (cycle []) is = absurd ((w.sound.cycles (outer M k) [] outer_there is).some_item refl)
     anchor_from (cycle (y ∷ ys)) is =
         let first : IsIn (head_or 0 (canonical (map swap (y ∷ ys)))) (canonical (map swap (y ∷ ys))) =
-        head_among (canonical (map swap (y ∷ ys))) (swap y) (omega (arith, count-canonical (swap y) (map swap (y ∷ ys)), IsIn_head (swap y) (map swap ys))) in
+        IsIn_first (canonical (map swap (y ∷ ys))) (swap y) (omega (arith, count-canonical (swap y) (map swap (y ∷ ys)), IsIn_head (swap y) (map swap ys))) in
         let r = in_content (cycle (y ∷ ys)) (head_or 0 (canonical (map swap (y ∷ ys)))) first in
         let j : IsIn r.0 (items_of (content M (outer M k))) = omega (arith, r.1, ap (λ c. count r.0 (items_of c)) is) in
         inr (r.0, j, ap (start N) r.2 ∙ (item_stays (outer M k) r.0 j).0)

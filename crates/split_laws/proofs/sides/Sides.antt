@@ -1,5 +1,5 @@
 -- The sides on which faces lie, from step to step.
-use Rattle.std.proofs.Common.{◌≡◌, ◌≢◌, ℕ, ◌+◌, Bool, true, false, cond, nat_eq, ◌||◌, List, [], ◌∷◌, ◌++◌, length, Option, Some, None, is_some, unwrap_or, refl, sym, ap, subst, ◌∙◌, arith, true≢false, inl, inr}
+use Rattle.std.proofs.Common.{◌≡◌, ◌≢◌, ℕ, ◌+◌, Bool, true, false, cond, List, [], ◌∷◌, ◌++◌, length, Option, Some, None, is_some, unwrap_or, refl, sym, ap, subst, ◌∙◌, arith, true≢false, inl, inr}
 use Rattle.std.specs.Prelude.{map, pos, int_lt}
 use Rattle.std.specs.Option.{option_map}
 use Rattle.std.specs.Cmp.{signed_Decides}
@@ -14,8 +14,9 @@ use Rattle.euler_operators.specs.Model.{Model, FaceRow, no_face, items_of, tail,
 use Rattle.euler_operators.specs.Sound.{Has}
 use Rattle.euler_operators.specs.Conditions.{lists}
 use Rattle.euler_operators.specs.Effect.{kfmrh, part}
-use Rattle.euler_laws.proofs.shared.Goes.{differs}
-use Rattle.euler_laws.proofs.shared.Loops.{some_row}
+use Rattle.euler_operators.proofs.Tables.{row_some}
+use Rattle.euler_laws.proofs.shared.Listed.{other_last}
+use Rattle.euler_laws.proofs.shared.Rows.{solid_either}
 use Rattle.shapes.specs.Faces.{start}
 use Rattle.shapes.specs.Fresh.{Taken}
 use Rattle.shapes.specs.Measure.{is_plane_of}
@@ -32,13 +33,14 @@ use Rattle.split_laws.proofs.opened.Starts.{swap}
 use Rattle.split_laws.proofs.opened.Kept as kept
 use Rattle.split_laws.proofs.opened.Caps.{loop_kinds, outer_lower, outer_upper, lower_along, upper_along}
 use Rattle.split_laws.proofs.opened.Opened.{is_rewritten}
-use Rattle.split_laws.proofs.opened.InTurn.{first_can, first_on, next_can, next_on}
+use Rattle.split_laws.proofs.opened.InTurn.{first_on, next_can, next_on}
 use Rattle.split_laws.specs.volumes.Laws.{CanBeSplit}
 use Rattle.split_laws.proofs.volumes.Parted as parted
 use Rattle.split_laws.proofs.volumes.Taken as taken
 use Rattle.split_laws.proofs.volumes.Taken.{CanTake}
 use Rattle.split_laws.proofs.volumes.Closed.{closing_carries}
 use Rattle.split_laws.proofs.volumes.Split as split
+use Rattle.split_laws.proofs.Openings.{can_open}
 use Rattle.split_laws.specs.sides.Sided.{IsOnSide, IsOfSolid, AreSided}
 
 -- a point on the plane lies on both sides
@@ -49,10 +51,6 @@ on_both p r false e = ap (λ z. int_lt (pos 0) z) ((signed_Decides (height p r) 
 -- what stands in the outer loop of a face that lies along the plane starts on it
 along_on : (M : Model) (p : Plane) (f : ℕ) → LiesAlong M p f → (h : ℕ) → IsIn h (items_of (content M (outer M f))) → is_on p (start M h) ≡ true
 along_on M p f a h i = a.on_plane h (omega (arith, i, ap (λ c. count h (items_of c)) a.outer_is))
-
-other_last : (fs : List ℕ) (u f : ℕ) → f ≢ u → lists (fs ++ u ∷ []) f ≡ lists fs f
-other_last [] u f ne = ap (λ b. b || false) (differs u f (λ e. ne (sym e)))
-other_last (g ∷ gs) u f ne = ap (λ b. nat_eq g f || b) (other_last gs u f ne)
 
 -- ---- one opening
 
@@ -66,7 +64,7 @@ module _ (M : Model) (above : List ℕ) (s : ℕ) (c : Taken) (bs : List ℕ) (p
   opened_sided : AreSided M p s fs → AreSided N p s (fs ++ (c.face + length bs + 1) ∷ [])
   opened_sided sided l h i =
       let upper : ℕ = c.face + length bs + 1 in
-      let r = some_row (table.get N.loops l) i.loop_there in
+      let r = row_some (table.get N.loops l) i.loop_there in
       elim (loop_kinds M above s c bs w l r.0 r.1) [
         | inl q ↦ on_both p (start N h) (lists (fs ++ upper ∷ []) (face_of N l))
             (along_on N p upper (upper_along M above s c bs w p on) h (subst (λ k. IsIn h (items_of (content N k))) (q.0 ∙ sym (outer_upper M above s c bs w)) i.item))
@@ -93,7 +91,7 @@ next_sided above s p o bs cs w on sided =
     let M : Model = o.model in
     let k : Caps = record { lower = o.taken.face + 1; upper = o.taken.face + length bs + 1; hole = is_hole M p bs } in
     subst (AreSided (opened_along M above s o.taken bs) p s) (sym (upper_next above o.caps k))
-    (opened_sided M above s o.taken bs p (first_can above s o bs cs w) (first_on above s p on.some_way o bs cs on.on_plane) (upper_faces above o.caps) sided)
+    (opened_sided M above s o.taken bs p (can_open above s o bs cs w) (first_on above s p on.some_way o bs cs on.on_plane) (upper_faces above o.caps) sided)
 
 pub openings_sided : (above : List ℕ) (s : ℕ) (p : Plane) (o : Opening) (cs : List (List ℕ)) → CanBeOpenedInTurn above s o cs → LieOn o.model p cs → AreSided o.model p s (upper_faces above o.caps) →
     AreSided (all_opened p above s o cs).model p s (upper_faces above (all_opened p above s o cs).caps)
@@ -141,13 +139,9 @@ module _ (M : Model) (s t : ℕ) (fs : List ℕ) where
   solid_then : (k : ℕ) → Has P.faces k → Has M.faces k × (solid_of P k ≡ cond (lists fs k) t (solid_of M k))
   unfolding solid_of
   solid_then k there = go (table.get M.faces k) (parted.row_is M s t fs k) where
-    either : (b : Bool) (row : FaceRow) → (cond b (record row { solid = t }) row).solid ≡ cond b t row.solid
-    either true row = refl
-    either false row = refl
-
     go : (o : Option FaceRow) → table.get P.faces k ≡ option_map (parted.go M s t fs k) o → (is_some o ≡ true) × ((unwrap_or (table.get P.faces k) no_face).solid ≡ cond (lists fs k) t (unwrap_or o no_face).solid)
     go None e = absurd (true≢false (sym there ∙ ap is_some e))
-    go (Some row) e = (refl, ap (λ q. (unwrap_or q no_face).solid) e ∙ either (lists fs k) row)
+    go (Some row) e = (refl, ap (λ q. (unwrap_or q no_face).solid) e ∙ solid_either (lists fs k) row t)
 
   module _ (p : Plane) (apart : s ≢ t) (fresh : (f : ℕ) → Has M.faces f → solid_of M f ≢ t) (of_s : (f : ℕ) → Has M.faces f → lists fs f ≡ true → solid_of M f ≡ s) (sided : AreSided M p s fs) (l h : ℕ) where
     item_was : IsIn h (items_of (content P l)) → IsIn h (items_of (content M l))

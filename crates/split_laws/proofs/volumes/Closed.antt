@@ -19,6 +19,7 @@ use Rattle.split_laws.specs.opened.Told.{LiesAlong, OutersAreOwn, AllLieAlong}
 use Rattle.split_laws.specs.volumes.Closing.{CanClose}
 use Rattle.split_laws.proofs.volumes.Taken as taken
 use Rattle.split_laws.proofs.volumes.Taken.{CanTake}
+use Rattle.split_laws.proofs.Holes.{holes_counted}
 
 -- a cap of solid s along the plane
 pub record IsCap (M : Model) (p : Plane) (s f : ℕ) : Type 0 where
@@ -176,14 +177,6 @@ module _ (M : Model) (s : ℕ) (p : Plane) where
     go true later = (w.0, w.1, later)
     go false later = later
 
--- the holes' caps are among all
-holes_less : (x : ℕ) (ks : List Caps) → count x (cap_faces (filter (λ k. k.hole) ks)) ≤ count x (cap_faces ks)
-holes_less x [] = omega arith
-holes_less x (k ∷ ks) = go k.hole (holes_less x ks) where
-  go : (b : Bool) → count x (cap_faces (filter (λ k. k.hole) ks)) ≤ count x (cap_faces ks) → count x (cap_faces (cond b (k ∷ filter (λ k. k.hole) ks) (filter (λ k. k.hole) ks))) ≤ count x (cap_faces (k ∷ ks))
-  go true later = omega (arith, later)
-  go false later = omega (arith, later)
-
 -- and so are the outer ones besides
 abbrev told : ℕ → Caps → List Caps → Bool → ℕ
 told x k ks b = count x ((cond b (outer_caps ks) k).lower ∷ (cond b (outer_caps ks) k).upper ∷ cap_faces (cond b (k ∷ filter (λ k. k.hole) ks) (filter (λ k. k.hole) ks)))
@@ -195,7 +188,7 @@ all_less x (k ∷ ks) e = go k.hole refl (λ f. all_less x ks f) where
   go : (b : Bool) → k.hole ≡ b → (list_any (λ k. not k.hole) ks ≡ true → count x ((outer_caps ks).lower ∷ (outer_caps ks).upper ∷ cap_faces (filter (λ k. k.hole) ks)) ≤ count x (cap_faces ks)) →
       told x k ks k.hole ≤ count x (cap_faces (k ∷ ks))
   go true q later = omega (arith, ap (told x k ks) q, later (sym (ap (λ b. not b || list_any (λ k. not k.hole) ks) q) ∙ e))
-  go false q later = omega (arith, ap (told x k ks) q, holes_less x ks)
+  go false q later = omega (arith, ap (told x k ks) q, holes_counted x ks)
 
 pub closing_carries : (M : Model) (s : ℕ) (p : Plane) (ks : List Caps) (holds : Model → Type 0) → ((A : Model) (f g : ℕ) → CanTake A p f g → holds A → holds (kfmrh A f g)) →
     CanClose M s p ks → holds M → holds (holes_closed M ks)

@@ -1,16 +1,18 @@
 -- The six volumes of a solid some of whose faces go to a new solid.
 use Rattle.std.proofs.Common.{◌≡◌, ◌≢◌, ℕ, ◌+◌, ◌+ℤ◌, Bool, true, false, cond, not, nat_eq, ◌&&◌, List, [], ◌∷◌, ◌++◌, Option, Some, None, is_some, unwrap_or, refl, sym, ap, ◌∙◌, arith}
+use Rattle.std.proofs.lemmas.Bool.{ne_eqb, eq-eqb}
 use Rattle.std.specs.Option.{option_map}
 use Rattle.euler_operators.specs.Vectors.{dot}
 use Rattle.euler_operators.specs.Items.{SameItems, head_or}
 use Rattle.euler_operators.proofs.Lists.{count-append}
+use Rattle.euler_operators.proofs.Models.{solid_row}
 use Rattle.euler_operators.specs.HalfEdge.{mate}
 use Rattle.euler_operators.specs.Table as table
 use Rattle.euler_operators.specs.Table.{get-map_rows}
-use Rattle.euler_operators.specs.Model.{Model, LoopContent, lone, cycle, FaceRow, no_face, items_of, tail, content, outer, solid_of, point_of, rings_of, faces_of}
+use Rattle.euler_operators.specs.Model.{Model, LoopContent, lone, cycle, FaceRow, no_face, items_of, tail, content, outer, point_of, rings_of, faces_of}
 use Rattle.euler_operators.specs.Conditions.{lists}
 use Rattle.euler_operators.specs.Effect.{part, faces_to_solid}
-use Rattle.euler_laws.proofs.shared.Goes.{equals, differs}
+use Rattle.euler_laws.proofs.shared.Rows.{solid_either}
 use Rattle.shapes.specs.Faces.{start, items_in, loops_of, boundary}
 use Rattle.shapes.specs.Measure.{area, normal, anchor, first_vertex, volume_in, six_volume}
 use Rattle.gluing_laws.proofs.Listed.{one_if, passed, count_where, same_search, volume_of, volume_append, volume_same, same_volumes}
@@ -20,19 +22,15 @@ use Rattle.split_laws.proofs.opened.Caps.{area_kept}
 -- what is of s or of t then was of s
 one_of_two : (b : Bool) (a s t : ℕ) → s ≢ t → (b ≡ true → a ≡ s) → a ≢ t → one_if (nat_eq (cond b t a) s) + one_if (nat_eq (cond b t a) t) ≡ one_if (nat_eq a s)
 one_of_two true a s t apart is ne =
-    let x : one_if (nat_eq t s) ≡ 0 = ap one_if (differs t s (λ e. apart (sym e))) in
-    let y : one_if (nat_eq t t) ≡ 1 = ap one_if (equals t t refl) in
-    let z : one_if (nat_eq a s) ≡ 1 = ap one_if (equals a s (is refl)) in
+    let x : one_if (nat_eq t s) ≡ 0 = ap one_if (ne_eqb t s (λ e. apart (sym e))) in
+    let y : one_if (nat_eq t t) ≡ 1 = ap one_if (eq-eqb t t refl) in
+    let z : one_if (nat_eq a s) ≡ 1 = ap one_if (eq-eqb a s (is refl)) in
     omega (arith, x, y, z)
-one_of_two false a s t apart is ne = let x : one_if (nat_eq a t) ≡ 0 = ap one_if (differs a t ne) in omega (arith, x)
+one_of_two false a s t apart is ne = let x : one_if (nat_eq a t) ≡ 0 = ap one_if (ne_eqb a t ne) in omega (arith, x)
 
 of_another : (b : Bool) (a s t u : ℕ) → u ≢ s → u ≢ t → (b ≡ true → a ≡ s) → one_if (nat_eq (cond b t a) u) ≡ one_if (nat_eq a u)
-of_another true a s t u not_s not_t is = ap one_if (differs t u (λ e. not_t (sym e))) ∙ sym (ap one_if (differs a u (λ e. not_s (sym e ∙ is refl))))
+of_another true a s t u not_s not_t is = ap one_if (ne_eqb t u (λ e. not_t (sym e))) ∙ sym (ap one_if (ne_eqb a u (λ e. not_s (sym e ∙ is refl))))
 of_another false a s t u not_s not_t is = refl
-
-moved_solid : (b : Bool) (row : FaceRow) (t : ℕ) → (cond b (record row { solid = t }) row).solid ≡ cond b t row.solid
-moved_solid true row t = refl
-moved_solid false row t = refl
 
 module _ (M : Model) (s t : ℕ) (fs : List ℕ) where
   abbrev N : Model
@@ -108,20 +106,16 @@ module _ (M : Model) (s t : ℕ) (fs : List ℕ) where
     abbrev of : ℕ → ℕ → FaceRow → Bool
     of u k row = nat_eq row.solid u
 
-    solid_row : (k : ℕ) (row : FaceRow) → table.get M.faces k ≡ Some row → solid_of M k ≡ row.solid
-    unfolding solid_of
-    solid_row k row e = ap (λ o. (unwrap_or o no_face).solid) e
-
     shared_row : (k : ℕ) (o : Option FaceRow) → table.get M.faces k ≡ o → passed (of s) k (option_map (go k) o) + passed (of t) k (option_map (go k) o) ≡ passed (of s) k o
     shared_row k None e = refl
     shared_row k (Some row) e =
-        (λ i. one_if (nat_eq (moved_solid (lists fs k) row t i) s) + one_if (nat_eq (moved_solid (lists fs k) row t i) t))
-        ∙ one_of_two (lists fs k) row.solid s t w.apart (λ l. sym (solid_row k row e) ∙ w.of_solid k (ap is_some e) l) (λ q. w.fresh k (ap is_some e) (solid_row k row e ∙ q))
+        (λ i. one_if (nat_eq (solid_either (lists fs k) row t i) s) + one_if (nat_eq (solid_either (lists fs k) row t i) t))
+        ∙ one_of_two (lists fs k) row.solid s t w.apart (λ l. sym (solid_row M k row e) ∙ w.of_solid k (ap is_some e) l) (λ q. w.fresh k (ap is_some e) (solid_row M k row e ∙ q))
 
     other_row : (u : ℕ) → u ≢ s → u ≢ t → (k : ℕ) (o : Option FaceRow) → table.get M.faces k ≡ o → passed (of u) k (option_map (go k) o) ≡ passed (of u) k o
     other_row u not_s not_t k None e = refl
-    other_row u not_s not_t k (Some row) e = ap (λ v. one_if (nat_eq v u)) (moved_solid (lists fs k) row t)
-        ∙ of_another (lists fs k) row.solid s t u not_s not_t (λ l. sym (solid_row k row e) ∙ w.of_solid k (ap is_some e) l)
+    other_row u not_s not_t k (Some row) e = ap (λ v. one_if (nat_eq v u)) (solid_either (lists fs k) row t)
+        ∙ of_another (lists fs k) row.solid s t u not_s not_t (λ l. sym (solid_row M k row e) ∙ w.of_solid k (ap is_some e) l)
 
     both_faces : SameItems (faces_of M s) (faces_of N s ++ faces_of N t)
     both_faces k = omega (

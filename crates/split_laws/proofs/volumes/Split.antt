@@ -1,46 +1,41 @@
 -- The six volumes of the two parts of a split solid.
-use Rattle.std.proofs.Common.{◌≡◌, ◌≢◌, ℕ, suc, ◌+◌, ◌<◌, ◌+ℤ◌, Bool, true, false, cond, not, nat_eq, nat_lt, ◌&&◌, ◌||◌, List, [], ◌∷◌, ◌++◌, length, None, is_some, unwrap_or, refl, sym, ap, subst, ◌∙◌, arith, true≢false, ◌⊎◌, inl, inr}
-use Rattle.std.specs.Prelude.{map, filter, pos, int_lt}
+use Rattle.std.proofs.Common.{◌≡◌, ◌≢◌, ℕ, ◌+◌, ◌<◌, ◌+ℤ◌, Bool, true, false, cond, not, nat_eq, nat_lt, ◌&&◌, ◌||◌, List, [], ◌∷◌, ◌++◌, length, None, is_some, unwrap_or, refl, sym, ap, subst, ◌∙◌, arith, true≢false, ◌⊎◌, inl, inr}
+use Rattle.std.specs.Prelude.{map, filter}
 use Rattle.std.specs.List.{list_any}
 use Rattle.std.proofs.lemmas.Bool.Decides.{nat_tests, eqb_tells}
-use Rattle.std.proofs.lemmas.List.{append_assoc, append-nil, map-append}
+use Rattle.std.proofs.lemmas.List.{append-nil, nil_from_length}
 use Rattle.euler_operators.specs.declared.Plane.{Plane}
-use Rattle.euler_operators.specs.Vectors.{dot, direction}
-use Rattle.euler_operators.specs.Items.{IsIn}
 use Rattle.euler_operators.proofs.Lists.{count-append}
-use Rattle.euler_operators.proofs.Maps.{from_map}
-use Rattle.euler_operators.specs.HalfEdge.{mate}
 use Rattle.euler_operators.specs.Table as table
 use Rattle.euler_operators.specs.Table.{get-remove}
 use Rattle.euler_operators.specs.Model.{Model, no_face, solid_of}
-use Rattle.euler_operators.specs.Sound.{Has, HasHalf}
+use Rattle.euler_operators.specs.Sound.{Has}
 use Rattle.euler_operators.specs.Conditions.{strictly_rises}
 use Rattle.euler_operators.specs.Effect.{kfmrh}
-use Rattle.euler_laws.proofs.shared.Fans.{half_mate}
 use Rattle.shapes.specs.Measure.{six_volume}
 use Rattle.euler_laws.proofs.shared.Counted.{counted_once}
 use Rattle.shapes.specs.split.Drawing.{Drawing}
 use Rattle.shapes.specs.split.Section.{is_hole, holes_in, below_halves, section_cycles, has_stray_hole}
-use Rattle.shapes.specs.split.Opening.{Caps, Opening, opened_along, next_opened, all_opened, outer_caps, holes_closed}
+use Rattle.shapes.specs.split.Opening.{Caps, Opening, next_opened, outer_caps, holes_closed}
 use Rattle.shapes.specs.split.Split.{opened_at, split_drawn}
 use Rattle.split_opening_laws.proofs.opening.Whole.{opened_sound}
-use Rattle.split_opening_laws.specs.sections.InTurn.{halves_in, upper_faces, CanBeOpenedInTurn}
+use Rattle.split_opening_laws.specs.sections.InTurn.{upper_faces, CanBeOpenedInTurn}
 use Rattle.split_opening_laws.specs.sections.Capped.{cap_faces, HasCaps}
 use Rattle.split_opening_laws.specs.sections.Laws.{OpeningsAreSound}
-use Rattle.split_opening_laws.proofs.sections.CyclesStay.{there_in}
 use Rattle.split_opening_laws.proofs.sections.InTurn as in_turn
 use Rattle.split_opening_laws.proofs.sections.Capping.{caps_rise}
 use Rattle.split_laws.specs.volumes.Closing.{CanClose}
 use Rattle.split_laws.specs.volumes.Laws.{CanBeParted, CanBeSplit}
-use Rattle.split_laws.proofs.opened.Starts.{start_old, finish_old}
-use Rattle.split_laws.proofs.opened.Caps.{area_kept}
 use Rattle.split_laws.proofs.volumes.Parted.{part_shares, part_keeps}
 use Rattle.split_laws.proofs.volumes.Closed.{closing, all_taken, closed_by, closing_keeps}
-use Rattle.split_laws.proofs.opened.InTurn.{first_can, some_way, openings_keep, openings_lie}
+use Rattle.split_laws.proofs.opened.InTurn.{some_way, openings_keep, openings_lie}
+use Rattle.split_laws.proofs.Openings.{can_open}
+use Rattle.split_laws.proofs.Flags.{flags_are, map_length}
+use Rattle.split_laws.proofs.OldFaces.{solids_still}
 
 pub openings_sound : OpeningsAreSound
 unfolding next_opened
-openings_sound above s p o bs cs w = opened_sound o.model above s o.taken bs (first_can above s o bs cs w)
+openings_sound above s p o bs cs w = opened_sound o.model above s o.taken bs (can_open above s o bs cs w)
 
 -- ---- which caps are those of holes
 
@@ -55,14 +50,6 @@ filtered p (x ∷ xs) = go (p x) (filtered p xs) where
   go : (b : Bool) → length (filter p xs) ≡ trues (map p xs) → length (cond b (x ∷ filter p xs) (filter p xs)) ≡ cond b 1 0 + trues (map p xs)
   go true e = omega (arith, e)
   go false e = omega (arith, e)
-
-long : {X : Type 0} (p : X → Bool) (xs : List X) → length (map p xs) ≡ length xs
-long p [] = refl
-long p (x ∷ xs) = ap suc (long p xs)
-
-no_items_left : {X : Type 0} (xs : List X) → length xs ≡ 0 → xs ≡ []
-no_items_left [] e = refl
-no_items_left (x ∷ xs) e = absurd (omega (arith, e))
 
 some_other : (ks : List Caps) → trues (map (λ k. k.hole) ks) < length ks → list_any (λ k. not k.hole) ks ≡ true
 some_other [] l = absurd (omega (arith, l))
@@ -83,49 +70,15 @@ closable_of : (M : Model) (p : Plane) (cs : List (List ℕ)) (ks : List Caps) �
     (list_any (λ k. not k.hole) ks ≡ true) ⊎ (filter (λ k. k.hole) ks ≡ [])
 closable_of M p cs ks same e =
     let holes : length (holes_in M p cs) ≡ trues (map (λ k. k.hole) ks) = filtered (is_hole M p) cs ∙ ap trues (sym same) in
-    let size : length cs ≡ length ks = sym (long (is_hole M p) cs) ∙ ap length (sym same) ∙ long (λ k. k.hole) ks in
+    let size : length cs ≡ length ks = sym (map_length (is_hole M p) cs) ∙ ap length (sym same) ∙ map_length (λ k. k.hole) ks in
     elim (stray_cases (length (holes_in M p cs)) (length cs) e) [
-      | inl z ↦ inr (no_items_left (filter (λ k. k.hole) ks) (filtered (λ k. k.hole) ks ∙ sym holes ∙ z))
+      | inl z ↦ inr (nil_from_length (filter (λ k. k.hole) ks) (filtered (λ k. k.hole) ks ∙ sym holes ∙ z))
       | inr l ↦ inl (some_other ks (omega (arith, l, holes, size)))
     ]
 
 -- a cycle is a hole after another one is opened if it was before
-module _ (above : List ℕ) (s : ℕ) (p : Plane) (o : Opening) (bs : List ℕ) (cs : List (List ℕ)) (w : CanBeOpenedInTurn above s o (bs ∷ cs)) where
-  mates_there : (ds : List ℕ) → ((d : ℕ) → IsIn d ds → HasHalf o.model d) → (h : ℕ) → IsIn h (map mate ds) → HasHalf o.model h
-  mates_there ds e h i = let r = from_map mate h ds i in subst (HasHalf o.model) (sym r.2) (half_mate o.model w.sound r.0 (e r.0 r.1))
-
-  hole_still : (ds : List ℕ) → ((d : ℕ) → IsIn d ds → HasHalf o.model d) → is_hole (opened_along o.model above s o.taken bs) p ds ≡ is_hole o.model p ds
-  unfolding is_hole
-  hole_still ds e =
-      let can = first_can above s o bs cs w in
-      ap (λ a. int_lt (dot a (direction p)) (pos 0)) (area_kept o.model (opened_along o.model above s o.taken bs) (map mate ds)
-      (λ h i. (start_old o.model above s o.taken bs can h (mates_there ds e h i), finish_old o.model above s o.taken bs can h (mates_there ds e h i))))
-
-  holes_still : (ds : List (List ℕ)) → ((d : ℕ) → IsIn d (halves_in ds) → HasHalf o.model d) → map (is_hole (opened_along o.model above s o.taken bs) p) ds ≡ map (is_hole o.model p) ds
-  holes_still [] e = refl
-  holes_still (d ∷ ds) e = λ i. hole_still d (λ x j. e x (omega (arith, j, count-append x d (halves_in ds)))) i ∷ holes_still ds (λ x j. e x (omega (arith, j, count-append x d (halves_in ds)))) i
-
-  next_holes : map (λ k. k.hole) (next_opened p above s o bs).caps ++ map (is_hole (next_opened p above s o bs).model p) cs ≡ map (λ k. k.hole) o.caps ++ map (is_hole o.model p) (bs ∷ cs)
-  unfolding next_opened
-  next_holes =
-      (λ i. map-append (λ k. k.hole) o.caps (record { lower = o.taken.face + 1; upper = o.taken.face + length bs + 1; hole = is_hole o.model p bs } ∷ []) i
-      ++ holes_still cs (there_in o.model above s o.taken bs w.sound w.free w.cycles.cycles.0 cs w.cycles.cycles.1) i)
-      ∙ append_assoc (map (λ k. k.hole) o.caps) (is_hole o.model p bs ∷ []) (map (is_hole o.model p) cs)
-
-all_holes : (above : List ℕ) (s : ℕ) (p : Plane) (o : Opening) (cs : List (List ℕ)) → CanBeOpenedInTurn above s o cs →
-    map (λ k. k.hole) (all_opened p above s o cs).caps ≡ map (λ k. k.hole) o.caps ++ map (is_hole o.model p) cs
-all_holes above s p o [] w = sym (append-nil (map (λ k. k.hole) o.caps))
-all_holes above s p o (bs ∷ cs) w = all_holes above s p (next_opened p above s o bs) cs (in_turn.others_on above s p o bs cs w (openings_sound above s p o bs cs w)) ∙ next_holes above s p o bs cs w
 
 -- ---- solids and faces
-
-solids_next : (p : Plane) (above : List ℕ) (s : ℕ) (o : Opening) (bs : List ℕ) → (next_opened p above s o bs).model.solids ≡ o.model.solids
-unfolding next_opened opened_along
-solids_next p above s o bs = refl
-
-solids_same : (p : Plane) (above : List ℕ) (s : ℕ) (o : Opening) (cs : List (List ℕ)) → (all_opened p above s o cs).model.solids ≡ o.model.solids
-solids_same p above s o [] = refl
-solids_same p above s o (bs ∷ cs) = solids_same p above s (next_opened p above s o bs) cs ∙ solids_next p above s o bs
 
 taken_row : (M : Model) (f g k : ℕ) → Has (kfmrh M f g).faces k → table.get (kfmrh M f g).faces k ≡ table.get M.faces k
 unfolding kfmrh
@@ -177,7 +130,7 @@ module _ (d : Drawing) (above : List ℕ) (s : ℕ) (p : Plane) (t : ℕ) (w : C
     plain = caps.plain;
     along = openings_lie above s p begun cycles w.opens begun_caps tt w.lie_on;
     apart = λ x. omega (arith, counted_once x (above ++ cap_faces o.caps) caps.all_rise, count-append x above (cap_faces o.caps));
-    closable = closable_of d.model p cycles o.caps (all_holes above s p begun cycles w.opens) w.no_stray;
+    closable = closable_of d.model p cycles o.caps (flags_are above s p begun cycles w.opens) w.no_stray;
   }
 
   closed_keeps : (u : ℕ) → six_volume C u ≡ six_volume d.model u
@@ -193,7 +146,7 @@ module _ (d : Drawing) (above : List ℕ) (s : ℕ) (p : Plane) (t : ℕ) (w : C
   pub parts : CanBeParted C s t (upper_faces above o.caps)
   parts = record {
     apart = w.apart;
-    fresh = λ f there e. true≢false (sym (ended.sound.faces_of_solids f (was_there f there)) ∙ ap is_some (ap (table.get o.model.solids) (sym (solid_there f there) ∙ e) ∙ ap (λ q. table.get q t) (solids_same p above s begun cycles) ∙ w.fresh));
+    fresh = λ f there e. true≢false (sym (ended.sound.faces_of_solids f (was_there f there)) ∙ ap is_some (ap (table.get o.model.solids) (sym (solid_there f there) ∙ e) ∙ ap (λ q. table.get q t) (solids_still above s p begun cycles) ∙ w.fresh));
     of_solid = λ f there l. solid_there f there ∙ ended.upper_of_solid f l;
   }
 

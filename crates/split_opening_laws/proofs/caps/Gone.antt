@@ -1,12 +1,13 @@
 -- Numbers in a run, and the rows of such numbers that go.
-use Rattle.std.proofs.Common.{◌≡◌, ◌≢◌, ℕ, zero, suc, ◌+◌, ◌≤◌, ◌<◌, [], ◌∷◌, ◌++◌, map, None, is_some, refl, sym, ap, ◌∙◌, arith, inl, inr, true≢false}
+use Rattle.std.proofs.Common.{◌≡◌, ◌≢◌, ℕ, zero, suc, ◌+◌, ◌≤◌, ◌<◌, map, None, is_some, refl, sym, ap, ◌∙◌, arith, inl, inr, true≢false}
 use Rattle.std.proofs.lemmas.Bool.Decides.{nat_tests, eqb_tells}
 use Rattle.euler_operators.specs.Items.{IsIn}
 use Rattle.euler_operators.specs.Rings.{canonical}
 use Rattle.euler_operators.proofs.Lists.{tick_other}
+use Rattle.euler_operators.proofs.Tables.{get-remove_other, remove_turned}
 use Rattle.euler_operators.specs.HalfEdge.{minus}
 use Rattle.euler_operators.specs.Table as table
-use Rattle.euler_operators.specs.Table.{Table, tables, same_table}
+use Rattle.euler_operators.specs.Table.{Table, tables}
 use Rattle.euler_operators.specs.Sound.{Has}
 use Rattle.shapes.specs.Fresh.{numbers_after}
 use Rattle.shapes.specs.Rewriting.{without_rows}
@@ -16,10 +17,6 @@ use Rattle.sweeps_laws.proofs.lamina.Lists.{canonical_first}
 
 pub next_number : (k n : ℕ) → k + 1 + suc n ≡ k + suc (suc n)
 next_number k n = omega arith
-
-pub numbers_last : (k n : ℕ) → numbers_after k (suc n) ≡ numbers_after k n ++ (k + suc n) ∷ []
-numbers_last k zero = refl
-numbers_last k (suc n) = ap (λ ns. (k + 1) ∷ ns) (numbers_last (k + 1) n) ∙ ap (λ j. (k + 1) ∷ numbers_after (k + 1) n ++ j ∷ []) (next_number k n)
 
 minus_above : (k n x : ℕ) → IsIn x (map minus (numbers_after k n)) → minus k ≤ x
 minus_above k zero x i = absurd (omega (arith, i))
@@ -35,9 +32,6 @@ canonical_run k n = canonical_first (minus (k + 1)) (map minus (numbers_after (k
 -- ---- rows
 
 module _ {X : Type 0} where
-  remove_turned : (t : Table X) (k n : ℕ) → table.remove (table.remove t k) n ≡ table.remove (table.remove t n) k
-  remove_turned t k n = same_table _ _ (λ q. grind (arith, nat_tests, tables))
-
   -- one number more, behind the run or before it
   pub gone_more : (t : Table X) (k n : ℕ) → without_rows t (numbers_after k (suc n)) ≡ table.remove (without_rows t (numbers_after k n)) (k + suc n)
   gone_more t k zero = refl
@@ -49,9 +43,6 @@ module _ {X : Type 0} where
 
   removed_none : (t : Table X) (k q : ℕ) → table.get t q ≡ None → table.get (table.remove t k) q ≡ None
   removed_none t k q free = grind (arith, nat_tests, tables)
-
-  removed_else : (t : Table X) (k q : ℕ) → q ≢ k → table.get (table.remove t k) q ≡ table.get t q
-  removed_else t k q ne = grind (arith, nat_tests, tables)
 
   removed_here : (t : Table X) (k q : ℕ) → q ≡ k → table.get (table.remove t k) q ≡ None
   removed_here t k q e = grind (arith, nat_tests, tables)
@@ -67,17 +58,17 @@ module _ {X : Type 0} where
       let r = gone_back (table.remove t (k + 1)) (k + 1) n q there in
       elim (eqb_tells q (k + 1)) [
         | inl e ↦ absurd (true≢false (sym there ∙ ap is_some (r ∙ removed_here t (k + 1) q e.1)))
-        | inr ne ↦ r ∙ removed_else t (k + 1) q ne.1
+        | inr ne ↦ r ∙ get-remove_other t (k + 1) q ne.1
       ]
 
   -- the rows outside the run stay, those in it go
   pub gone_below : (t : Table X) (k n q : ℕ) → q ≤ k → table.get (without_rows t (numbers_after k n)) q ≡ table.get t q
   gone_below t k zero q l = refl
-  gone_below t k (suc n) q l = gone_below (table.remove t (k + 1)) (k + 1) n q (omega (arith, l)) ∙ removed_else t (k + 1) q (λ e. omega (arith, l, e))
+  gone_below t k (suc n) q l = gone_below (table.remove t (k + 1)) (k + 1) n q (omega (arith, l)) ∙ get-remove_other t (k + 1) q (λ e. omega (arith, l, e))
 
   pub gone_above : (t : Table X) (k n q : ℕ) → k + n < q → table.get (without_rows t (numbers_after k n)) q ≡ table.get t q
   gone_above t k zero q l = refl
-  gone_above t k (suc n) q l = gone_above (table.remove t (k + 1)) (k + 1) n q (omega (arith, l)) ∙ removed_else t (k + 1) q (λ e. omega (arith, l, e))
+  gone_above t k (suc n) q l = gone_above (table.remove t (k + 1)) (k + 1) n q (omega (arith, l)) ∙ get-remove_other t (k + 1) q (λ e. omega (arith, l, e))
 
   pub gone_within : (t : Table X) (k n q : ℕ) → k < q → q ≤ k + n → table.get (without_rows t (numbers_after k n)) q ≡ None
   gone_within t k zero q a b = absurd (omega (arith, a, b))

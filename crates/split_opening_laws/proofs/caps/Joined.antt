@@ -11,30 +11,26 @@ use Rattle.euler_operators.proofs.Rotations.{canonical-rotates, canonical_same, 
 use Rattle.euler_operators.specs.HalfEdge.{edge_of, mate, plus, minus, half}
 use Rattle.euler_operators.specs.Table as table
 use Rattle.euler_operators.specs.Table.{Table, tables, same_table}
-use Rattle.euler_operators.specs.Model.{Model, cycle, no_face, no_loop, loop_of, face_of, outer, cycle_of}
+use Rattle.euler_operators.specs.Model.{Model, cycle, no_face, loop_of, face_of, outer, cycle_of}
 use Rattle.euler_operators.specs.Sound.{Sound, Has}
-use Rattle.euler_operators.proofs.Halves.{minus_row, code-half}
+use Rattle.euler_operators.proofs.Halves.{minus_row, code-half, mate_minus}
+use Rattle.euler_operators.proofs.Models.{same_face}
+use Rattle.euler_operators.proofs.Tables.{get-put_here, get-put_other}
 use Rattle.euler_operators.specs.declared.Op.TheVariants.{Kef}
 use Rattle.euler_operators.specs.Conditions.{face_at, first_false}
 use Rattle.euler_operators.specs.Effect.{effect, kef}
-use Rattle.euler_laws.proofs.shared.Undo.{mate_minus}
 use Rattle.euler_laws.proofs.mef.KefSound as kill
 use Rattle.euler_laws.proofs.mef.KefSound.{KefGoes}
 use Rattle.euler_laws.proofs.mef.Kef.{kef_accepted}
-use Rattle.shapes.proofs.fresh.Rows.{get-put_here, get-put_other}
 use Rattle.euler_laws.proofs.shared.KnownLoop.{Around, apart_xs, loop_is, half_is, cycle_is, face_is}
 use Rattle.sweeps_laws.proofs.prism.Sides.{next_inner}
+use Rattle.sweeps_laws.proofs.lamina.Lists.{numbers_last}
 use Rattle.shapes.specs.Fresh.{Taken, numbers_after}
 use Rattle.shapes.specs.Prism.{next_place}
 use Rattle.shapes.specs.Rewriting.{without_rows}
 use Rattle.split_opening_laws.specs.caps.Strips.{HasStrips, riser}
 use Rattle.split_opening_laws.specs.caps.Caps.{joined_loop, joined_part}
-use Rattle.split_opening_laws.proofs.caps.Gone.{next_number, numbers_last, gone_more, gone_back, gone_above}
-
--- loops with one row are of one face
-same_face : (M N : Model) (q : ℕ) → table.get M.loops q ≡ table.get N.loops q → face_of M q ≡ face_of N q
-unfolding face_of
-same_face M N q at = ap (λ o. (unwrap_or o no_loop).face) at
+use Rattle.split_opening_laws.proofs.caps.Gone.{next_number, gone_more, gone_back, gone_above}
 
 module _ (N : Model) (s : ℕ) (c : Taken) (hs : List ℕ) (w : HasStrips N s c hs) (n : ℕ) where
   -- the tables with some strips joined
@@ -155,7 +151,7 @@ module _ (N : Model) (s : ℕ) (c : Taken) (hs : List ℕ) (w : HasStrips N s c 
     | inr ne ↦
         let kept : table.get P.loops q ≡ table.get (without_rows N.loops (numbers_after l1 n)) q = at_else N s c hs w n q ne.1 in
         let same : table.get P.loops q ≡ table.get N.loops q = kept ∙ gone_back N.loops l1 n q (sym (ap is_some kept) ∙ there) in
-        w.alone (suc n) q later (sym (ap is_some same) ∙ there) (same_face N P q (sym same) ∙ is)
+        w.alone (suc n) q later (sym (ap is_some same) ∙ there) (same_face P N q (sym same) ∙ is)
   ]
 
   goes : KefGoes P (minus x)

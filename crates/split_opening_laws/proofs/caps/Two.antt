@@ -7,14 +7,14 @@ use Rattle.euler_operators.specs.Rings.{canonical, successor}
 use Rattle.euler_operators.proofs.Lists.{count-append, tick_same}
 use Rattle.euler_operators.proofs.Rings.{successor_same, successor_head, successor_last}
 use Rattle.euler_operators.proofs.Rotations.{canonical-rotates}
+use Rattle.euler_operators.proofs.Halves.{mate_minus}
 use Rattle.euler_operators.specs.HalfEdge.{plus, minus}
 use Rattle.euler_operators.specs.Model.{Model, cycle, tail, after}
 use Rattle.euler_operators.specs.Sound.{Sound}
-use Rattle.euler_laws.proofs.shared.Undo.{mate_minus}
-use Rattle.euler_laws.proofs.shared.KnownLoop.{Around, apart_xs, half_is, cycle_is}
 use Rattle.sweeps_laws.proofs.prism.Sides.{next_last}
 use Rattle.shapes.specs.Fresh.{Taken}
 use Rattle.split_opening_laws.specs.caps.Strips.{HasStrips, riser}
+use Rattle.euler_laws.proofs.shared.KnownLoop.{Around, apart_xs, half_is, cycle_is}
 
 -- what follows an item in a loop of a model
 after_in : (M : Model) (l f : ℕ) (xs : List ℕ) → Around M l f xs → (g : ℕ) → IsIn g xs → after M g ≡ successor xs g

@@ -17,9 +17,9 @@ use Rattle.shapes.specs.Prism.{next_place}
 use Rattle.split_opening_laws.specs.caps.Strips.{HasStrips, riser, strip_loop}
 use Rattle.split_opening_laws.specs.caps.Caps.{joined_loop, joined_part, capped}
 use Rattle.split_opening_laws.specs.caps.CapOps.{joinings, partings, cap_ops}
-use Rattle.split_opening_laws.proofs.caps.Gone.{numbers_last}
 use Rattle.split_opening_laws.proofs.caps.Joined.{next_joined}
 use Rattle.split_opening_laws.proofs.caps.Parted.{parting_accepted, parting_is}
+use Rattle.sweeps_laws.proofs.lamina.Lists.{numbers_last}
 
 module _ (N : Model) (s : ℕ) (c : Taken) (hs : List ℕ) (sound : Sound N) (w : HasStrips N s c hs) where
   abbrev m : ℕ

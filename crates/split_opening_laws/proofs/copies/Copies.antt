@@ -19,10 +19,10 @@ use Rattle.split_opening_laws.specs.strips.Strips.{riser, copies_raised}
 use Rattle.split_opening_laws.specs.strips.StripOps.{place_before, raise_copy}
 use Rattle.split_opening_laws.specs.strips.Opened.{CanBeOpened}
 use Rattle.split_opening_laws.proofs.strips.Cycle as on
-use Rattle.split_opening_laws.proofs.strips.Cycle.{at_most, before_below, before_apart, next_apart, next-before, next_once}
+use Rattle.split_opening_laws.proofs.strips.Cycle.{before_below, before_apart, next_apart, next-before, next_once}
 use Rattle.split_opening_laws.proofs.strips.Copied as copy
 use Rattle.split_opening_laws.proofs.copies.Raised as raised
-use Rattle.split_opening_laws.proofs.copies.Raised.{less_is, not_less}
+use Rattle.split_opening_laws.proofs.copies.Raised.{not_less}
 use Rattle.split_opening_laws.proofs.copies.Sides as sides
 use Rattle.split_opening_laws.proofs.copies.Moves.{edges_next}
 use Rattle.split_opening_laws.proofs.copies.Risers.{edge_free, loops_next}

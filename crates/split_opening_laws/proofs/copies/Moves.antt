@@ -2,6 +2,7 @@
 use Rattle.std.proofs.Common.{◌≡◌, ◌≢◌, ℕ, suc, ◌+◌, ◌<◌, Bool, true, false, true≢false, cond, nat_eq, List, length, Some, is_some, refl, sym, ap, ◌∙◌, subst, arith, ◌⊎◌, inl, inr}
 use Rattle.std.specs.Prelude.{map, get_or, nat_lt, not, ◌&&◌}
 use Rattle.std.proofs.lemmas.Bool.Decides.{nat_tests, eqb_tells}
+use Rattle.std.proofs.lemmas.Bool.{lt-ltb}
 use Rattle.euler_operators.specs.Items.{count, IsIn}
 use Rattle.euler_operators.specs.HalfEdge.{mate, edge_of, plus, minus}
 use Rattle.euler_operators.specs.Table as table
@@ -9,11 +10,13 @@ use Rattle.euler_operators.specs.Table.{Table, get-map_rows}
 use Rattle.euler_operators.specs.Model.{Model, EdgeRow, tail, arc}
 use Rattle.euler_operators.specs.Sound.{Sound, HasHalf}
 use Rattle.euler_operators.proofs.Halves.{plus_row, minus_row}
+use Rattle.euler_operators.proofs.Tables.{map_alike}
+use Rattle.euler_operators.proofs.Models.{plus_tail_row, minus_tail_row}
 use Rattle.euler_operators.specs.Conditions.{face_at, lists}
 use Rattle.euler_operators.specs.Effect.{with_tails, edge_row}
 use Rattle.euler_laws.proofs.shared.Same.{map_twice}
-use Rattle.sweeps_laws.proofs.prism.Sides.{plus_tail_at, minus_tail_at}
-use Rattle.sweeps_laws.proofs.prism.Steps.{edge_plus, row_plus}
+use Rattle.euler_laws.proofs.shared.Rows.{edge_row_plus}
+use Rattle.sweeps_laws.proofs.prism.Steps.{edge_plus}
 use Rattle.shapes.specs.Fresh.{Taken}
 use Rattle.shapes.specs.Prism.{next_place}
 use Rattle.shapes.specs.Rewriting.{renamed}
@@ -21,12 +24,12 @@ use Rattle.shapes.specs.split.Opening.{opened_tail, opened_row}
 use Rattle.split_opening_laws.specs.strips.Strips.{with_rows, riser, riser_edge, copied, raised_items, raised_edge, copies_raised}
 use Rattle.split_opening_laws.specs.strips.StripOps.{place_before}
 use Rattle.split_opening_laws.specs.strips.Opened.{CanBeOpened}
-use Rattle.split_opening_laws.proofs.strips.Rows.{rows_same, rows_map, map_alike}
+use Rattle.split_opening_laws.proofs.strips.Rows.{rows_same, rows_map}
 use Rattle.split_opening_laws.proofs.strips.Cycle as on
-use Rattle.split_opening_laws.proofs.strips.Cycle.{at_most, before_below, before_apart, next_apart, next-before, next_once}
+use Rattle.split_opening_laws.proofs.strips.Cycle.{before_below, before_apart, next_apart, next-before, next_once}
 use Rattle.split_opening_laws.proofs.strips.Copied as copy
 use Rattle.split_opening_laws.proofs.copies.Raised as raised
-use Rattle.split_opening_laws.proofs.copies.Raised.{less_is, not_less}
+use Rattle.split_opening_laws.proofs.copies.Raised.{not_less}
 use Rattle.split_opening_laws.proofs.copies.Sides as sides
 use Rattle.split_opening_laws.proofs.copies.Arc.{arc_first, arc_up, arc_down, arc_else}
 
@@ -81,7 +84,7 @@ module _ (M : Model) (above : List ℕ) (s : ℕ) (c : Taken) (bs : List ℕ) (w
   g_tail = sides.g_tail M above s c bs w i lt sound
 
   some_less : (h : ℕ) → IsIn h moved → nat_lt 0 (count h moved) ≡ true
-  some_less h at = less_is 0 (count h moved) (omega (arith, at))
+  some_less h at = lt-ltb 0 (count h moved) (omega (arith, at))
 
   none_less : (h : ℕ) → count h moved ≡ 0 → nat_lt 0 (count h moved) ≡ false
   none_less h none = not_less 0 (count h moved) (omega (arith, none))
@@ -129,8 +132,8 @@ module _ (M : Model) (above : List ℕ) (s : ℕ) (c : Taken) (bs : List ℕ) (w
 
   old_row : (e : ℕ) (row : EdgeRow) → table.get M.edges e ≡ Some row → with_tails moved y e (opened_row M above mates copies e row) ≡ opened_row M above mates copies' e row
   old_row e row at =
-      let a : tail M (plus e) ≡ row.plus_tail = plus_tail_at M e row at in
-      let b : tail M (minus e) ≡ row.minus_tail = minus_tail_at M e row at in
+      let a : tail M (plus e) ≡ row.plus_tail = plus_tail_row M e row at in
+      let b : tail M (minus e) ≡ row.minus_tail = minus_tail_row M e row at in
       let pt : HasHalf M (plus e) = ap (λ q. is_some (table.get M.edges q)) (plus_row e).0 ∙ ap is_some at in
       let mt : HasHalf M (minus e) = ap (λ q. is_some (table.get M.edges q)) (minus_row e).0 ∙ ap is_some at in
       λ n. record {
@@ -193,7 +196,7 @@ module _ (M : Model) (above : List ℕ) (s : ℕ) (c : Taken) (bs : List ℕ) (w
       let base : Table EdgeRow = table.map_rows (opened_row M above mates copies) M.edges in
       let base' : Table EdgeRow = table.map_rows (opened_row M above mates copies') M.edges in
       let inner : Table EdgeRow = with_rows base c.edge (raised_edge M bs copies) m in
-      (λ n. table.put (table.map_rows turn (raised.raised_edges M above s c bs w i sound n)) (edge_plus u n) ((row_plus u (tail N g) y ∙ ap (λ v. record { plus_tail = v; minus_tail = y }) g_tail) n))
+      (λ n. table.put (table.map_rows turn (raised.raised_edges M above s c bs w i sound n)) (edge_plus u n) ((edge_row_plus u (tail N g) y ∙ ap (λ v. record { plus_tail = v; minus_tail = y }) g_tail) n))
       ∙ ap (λ t. table.put t u (riser_edge M c bs i)) (
       rows_map turn inner (c.edge + m) (riser_edge M c bs) i
       ∙ rows_same (table.map_rows turn inner) (c.edge + m) (λ j. turn (c.edge + m + suc j) (riser_edge M c bs j)) (riser_edge M c bs) i riser_row

@@ -3,20 +3,19 @@ use Rattle.std.proofs.Common.{◌≡◌, ℕ, suc, ◌+◌, ◌≤◌, ◌<◌, 
 use Rattle.std.specs.Prelude.{map, get_or, nat_lt}
 use Rattle.std.specs.Option.{option_map}
 use Rattle.std.proofs.lemmas.Bool.Decides.{nat_tests}
+use Rattle.std.proofs.lemmas.Bool.{lt-ltb}
 use Rattle.euler_operators.specs.Items.{count, IsIn}
 use Rattle.euler_operators.proofs.Lists.{count-append, tick_same}
 use Rattle.euler_operators.specs.HalfEdge.{mate, edge_of, plus, minus}
 use Rattle.euler_operators.specs.Table as table
-use Rattle.euler_operators.specs.Table.{Table, get-map_rows}
+use Rattle.euler_operators.specs.Table.{get-map_rows}
 use Rattle.euler_operators.specs.Model.{Model, EdgeRow, tail, tail_in, face_of}
 use Rattle.euler_operators.specs.Sound.{Sound, HasHalf}
-use Rattle.euler_operators.proofs.Models.{tail_row}
+use Rattle.euler_operators.proofs.Models.{tail_row, plus_tail_row, minus_tail_row}
+use Rattle.euler_operators.proofs.Tables.{row_some}
 use Rattle.euler_operators.specs.Conditions.{face_at, lists}
 use Rattle.euler_laws.proofs.shared.Arcs.{halves_of_edge}
-use Rattle.euler_laws.proofs.shared.Loops.{some_row}
 use Rattle.euler_laws.proofs.shared.Same.{mapped_some}
-use Rattle.sweeps_laws.proofs.prism.Sides.{plus_tail_at, minus_tail_at}
-use Rattle.euler_laws.proofs.shared.KnownLoop.{Around, loop_is, face_is}
 use Rattle.shapes.specs.Fresh.{Taken}
 use Rattle.shapes.specs.Prism.{next_place}
 use Rattle.shapes.specs.Rewriting.{rewritten_row, renamed}
@@ -26,9 +25,7 @@ use Rattle.split_opening_laws.specs.strips.Opened.{CanBeOpened}
 use Rattle.split_opening_laws.proofs.strips.Rows.{rows_at, rows_low, rows_split}
 use Rattle.split_opening_laws.proofs.strips.Cycle as on
 use Rattle.split_opening_laws.proofs.strips.Places as places
-
-pub less_is : (a b : ℕ) → a < b → nat_lt a b ≡ true
-less_is a b l = grind (arith, nat_tests)
+use Rattle.euler_laws.proofs.shared.KnownLoop.{Around, loop_is, face_is}
 
 pub not_less : (a b : ℕ) → b ≤ a → nat_lt a b ≡ false
 not_less a b l = grind (arith, nat_tests)
@@ -82,13 +79,13 @@ module _ (M : Model) (above : List ℕ) (s : ℕ) (c : Taken) (bs : List ℕ) (w
 
   pub rise_in : (j : ℕ) → j < i → IsIn (plus (riser c bs j)) (raised_items c bs i j)
   rise_in j lt =
-      let one : count (plus (riser c bs j)) (rise_part j) ≡ count (plus (riser c bs j)) (plus (riser c bs j) ∷ []) = ap (λ b. count (plus (riser c bs j)) (cond b (plus (riser c bs j) ∷ []) [])) (less_is j i lt) in
+      let one : count (plus (riser c bs j)) (rise_part j) ≡ count (plus (riser c bs j)) (plus (riser c bs j) ∷ []) = ap (λ b. count (plus (riser c bs j)) (cond b (plus (riser c bs j) ∷ []) [])) (lt-ltb j i lt) in
       omega (arith, one, count-append (plus (riser c bs j)) (rise_part j) (minus (c.edge + suc j) ∷ fall_part j), tick_same (plus (riser c bs j)))
 
   pub fall_in : (j : ℕ) → next_place m j < i → IsIn (minus (riser c bs (next_place m j))) (raised_items c bs i j)
   fall_in j lt =
       let f : ℕ = minus (riser c bs (next_place m j)) in
-      let one : count f (fall_part j) ≡ count f (f ∷ []) = ap (λ b. count f (cond b (f ∷ []) [])) (less_is (next_place m j) i lt) in
+      let one : count f (fall_part j) ≡ count f (f ∷ []) = ap (λ b. count f (cond b (f ∷ []) [])) (lt-ltb (next_place m j) i lt) in
       omega (arith, one, count-append f (rise_part j) (minus (c.edge + suc j) ∷ fall_part j), tick_same f)
 
   -- ---- sides
@@ -128,11 +125,11 @@ module _ (M : Model) (above : List ℕ) (s : ℕ) (c : Taken) (bs : List ℕ) (w
       ∙ get-map_rows (opened_row M above mates copies) M.edges e ∙ ap (option_map (opened_row M above mates copies e)) at
 
   pub old_half : (h : ℕ) → HasHalf M h → HasHalf N h
-  old_half h there = let r = some_row (table.get M.edges (edge_of h)) there in ap is_some (old_edge (edge_of h) r.0 r.1 (on.low_edge M above s c bs w h there))
+  old_half h there = let r = row_some (table.get M.edges (edge_of h)) there in ap is_some (old_edge (edge_of h) r.0 r.1 (on.low_edge M above s c bs w h there))
 
   pub old_tail : (h : ℕ) → HasHalf M h → tail N h ≡ opened_tail M above mates copies h (tail M h)
   old_tail h there =
-      let r = some_row (table.get M.edges (edge_of h)) there in
+      let r = row_some (table.get M.edges (edge_of h)) there in
       let new = tail_row N h (opened_row M above mates copies (edge_of h) r.0) (old_edge (edge_of h) r.0 r.1 (on.low_edge M above s c bs w h there)) in
       let was = tail_row M h r.0 r.1 in
       elim (halves_of_edge h) [
@@ -147,20 +144,20 @@ module _ (M : Model) (above : List ℕ) (s : ℕ) (c : Taken) (bs : List ℕ) (w
       ∙ rows_at (table.map_rows (opened_row M above mates copies) M.edges) c.edge (raised_edge M bs copies) m j lt
 
   pub out_tail : (j : ℕ) → j < m → tail N (plus (c.edge + suc j)) ≡ renamed copies (tail M (mate (get_or bs j 0)))
-  out_tail j lt = plus_tail_at N (c.edge + suc j) (raised_edge M bs copies j) (out_edge j lt)
+  out_tail j lt = plus_tail_row N (c.edge + suc j) (raised_edge M bs copies j) (out_edge j lt)
 
   pub back_tail : (j : ℕ) → j < m → tail N (minus (c.edge + suc j)) ≡ renamed copies (tail M (get_or bs j 0))
-  back_tail j lt = minus_tail_at N (c.edge + suc j) (raised_edge M bs copies j) (out_edge j lt)
+  back_tail j lt = minus_tail_row N (c.edge + suc j) (raised_edge M bs copies j) (out_edge j lt)
 
   riser_row : (j : ℕ) → j < i → table.get N.edges (riser c bs j) ≡ Some (riser_edge M c bs j)
   riser_row j lt = ap (λ t. table.get t (riser c bs j)) raised_edges
       ∙ rows_at (with_rows (table.map_rows (opened_row M above mates copies) M.edges) c.edge (raised_edge M bs copies) m) (c.edge + m) (riser_edge M c bs) i j lt
 
   pub rise_tail : (j : ℕ) → j < i → tail N (plus (riser c bs j)) ≡ tail M (get_or bs j 0)
-  rise_tail j lt = plus_tail_at N (riser c bs j) (riser_edge M c bs j) (riser_row j lt)
+  rise_tail j lt = plus_tail_row N (riser c bs j) (riser_edge M c bs j) (riser_row j lt)
 
   pub fall_tail : (j : ℕ) → j < i → tail N (minus (riser c bs j)) ≡ c.vertex + suc j
-  fall_tail j lt = minus_tail_at N (riser c bs j) (riser_edge M c bs j) (riser_row j lt)
+  fall_tail j lt = minus_tail_row N (riser c bs j) (riser_edge M c bs j) (riser_row j lt)
 
   -- ---- the half-edges that are there
 

@@ -3,6 +3,7 @@ use Rattle.std.proofs.Common.{◌≡◌, ◌≢◌, ℕ, suc, ◌+◌, ◌≤◌
 use Rattle.std.specs.Prelude.{map, get_or, nat_lt}
 use Rattle.std.specs.Option.{option_map}
 use Rattle.std.proofs.lemmas.Bool.Decides.{nat_tests, eqb_tells}
+use Rattle.std.proofs.lemmas.Bool.{lt-ltb}
 use Rattle.std.proofs.lemmas.List.{append_assoc}
 use Rattle.euler_operators.specs.Items.{count, IsIn, IsApart}
 use Rattle.euler_operators.specs.Rings.{canonical}
@@ -15,15 +16,14 @@ use Rattle.euler_operators.specs.Table as table
 use Rattle.euler_operators.specs.Table.{Table, get-map_rows}
 use Rattle.euler_operators.specs.Model.{Model, LoopContent, LoopRow, cycle, loop_of}
 use Rattle.euler_operators.specs.Sound.{Sound, Has}
-use Rattle.euler_operators.proofs.Halves.{plus_row, minus_row}
-use Rattle.euler_operators.proofs.Tables.{map_same}
+use Rattle.euler_operators.proofs.Halves.{plus_row, minus_row, mate_plus}
+use Rattle.euler_operators.proofs.Tables.{map_same, in_use_within}
 use Rattle.euler_operators.proofs.Models.{in-holds, holds-none, none-holds, other_loop, not_held}
 use Rattle.euler_operators.specs.Effect.{with_before}
 use Rattle.euler_laws.proofs.shared.Rows.{where_held_none, where_held_there}
 use Rattle.euler_laws.proofs.shared.Same.{map_twice, mapped_some}
-use Rattle.euler_laws.proofs.shared.Undo.{mate_plus, put_apart}
+use Rattle.euler_laws.proofs.shared.Undo.{put_apart}
 use Rattle.sweeps_laws.proofs.prism.Steps.{edge_plus}
-use Rattle.euler_laws.proofs.shared.KnownLoop.{loop_is, apart_xs}
 use Rattle.shapes.specs.Fresh.{Taken}
 use Rattle.shapes.specs.Prism.{next_place}
 use Rattle.shapes.specs.Rewriting.{rewritten_row, renamed}
@@ -33,10 +33,11 @@ use Rattle.split_opening_laws.specs.strips.StripOps.{place_before}
 use Rattle.split_opening_laws.specs.strips.Opened.{CanBeOpened}
 use Rattle.split_opening_laws.proofs.strips.Rows.{rows_low, rows_high, rows_same, rows_map}
 use Rattle.split_opening_laws.proofs.strips.Cycle as on
-use Rattle.split_opening_laws.proofs.strips.Cycle.{at_most, before_below, before_apart, next_apart, next-before, next_once}
+use Rattle.split_opening_laws.proofs.strips.Cycle.{before_below, before_apart, next_apart, next-before, next_once}
 use Rattle.split_opening_laws.proofs.copies.Raised as raised
-use Rattle.split_opening_laws.proofs.copies.Raised.{less_is, not_less}
+use Rattle.split_opening_laws.proofs.copies.Raised.{not_less}
 use Rattle.split_opening_laws.proofs.copies.Sides as sides
+use Rattle.euler_laws.proofs.shared.KnownLoop.{loop_is, apart_xs}
 
 less_next : (a i : ℕ) → a ≢ i → nat_lt a (suc i) ≡ nat_lt a i
 less_next a i ne = grind (arith, nat_tests)
@@ -120,7 +121,7 @@ module _ (M : Model) (above : List ℕ) (s : ℕ) (c : Taken) (bs : List ℕ) (w
   old_loop : (q : ℕ) (row : LoopRow) → table.get (table.map_rows (rewritten_row (map (renamed (put_out c bs m)))) M.loops) q ≡ Some row → both_before q row ≡ row
   old_loop q row at =
       let there : Has M.loops q = sym (ap is_some (get-map_rows (rewritten_row (map (renamed (put_out c bs m)))) M.loops q) ∙ mapped_some (rewritten_row (map (renamed (put_out c bs m))) q) (table.get M.loops q)) ∙ ap is_some at in
-      let low : q ≤ c.loop = at_most M.loops c.loop q w.loops_free there in
+      let low : q ≤ c.loop = in_use_within M.loops c.loop w.loops_free q there in
       neither q row (ap (λ t. table.get t q) (raised.raised_loops M above s c bs w i sound) ∙ rows_low (table.map_rows (rewritten_row (map (renamed (put_out c bs m)))) M.loops) c.loop (raised_loop c bs i) m q low ∙ at)
       (λ e. omega (arith, e, low)) (λ e. omega (arith, e, low))
 
@@ -163,7 +164,7 @@ module _ (M : Model) (above : List ℕ) (s : ℕ) (c : Taken) (bs : List ℕ) (w
       ∙ ap canonical (insert_before_at g (plus u) (mate (get_or bs i 0) ∷ []) falls (omega (arith, d g, ap (count g) flat, count-append g (mate (get_or bs i 0) ∷ []) (g ∷ falls), tick_same g)))
 
   risen_next : risen ≡ raised_items c bs (suc i) i
-  risen_next = λ n. mate (get_or bs i 0) ∷ cond (sym (less_is i (suc i) (omega arith)) n) (plus u ∷ []) [] ++ g ∷
+  risen_next = λ n. mate (get_or bs i 0) ∷ cond (sym (lt-ltb i (suc i) (omega arith)) n) (plus u ∷ []) [] ++ g ∷
       cond (sym (less_next (next_place m i) i (next_apart m i (on.two_halves M above s c bs w))) n) (minus (riser c bs (next_place m i)) ∷ []) []
 
   risen_k : count k (canonical risen) ≡ 0
@@ -190,7 +191,7 @@ module _ (M : Model) (above : List ℕ) (s : ℕ) (c : Taken) (bs : List ℕ) (w
       let here : insert_before k (minus u) (items p) ≡ minus u ∷ ((k ∷ rises) ++ b ∷ []) = ap (insert_before k (minus u)) last ∙ in_front in
       let new : ((k ∷ rises) ++ b ∷ []) ++ minus u ∷ [] ≡ raised_items c bs (suc i) p =
       append_assoc (k ∷ rises) (b ∷ []) (minus u ∷ [])
-      ∙ (λ n. k ∷ cond (sym (less_next p i p_apart) n) (plus (riser c bs p) ∷ []) [] ++ b ∷ cond (sym (less_is i (suc i) (omega arith)) n) (minus u ∷ []) [])
+      ∙ (λ n. k ∷ cond (sym (less_next p i p_apart) n) (plus (riser c bs p) ∷ []) [] ++ b ∷ cond (sym (lt-ltb i (suc i) (omega arith)) n) (minus u ∷ []) [])
       ∙ ap (λ q. k ∷ cond (nat_lt p (suc i)) (plus (riser c bs p) ∷ []) [] ++ b ∷ cond (nat_lt q (suc i)) (minus (riser c bs q) ∷ []) []) (sym (next-before m i lt)) in
       put_into k (minus u) (items p) d k_in none
       ∙ ap canonical here

@@ -9,11 +9,10 @@ use Rattle.euler_operators.proofs.Rings.{successor_same, successor_last}
 use Rattle.euler_operators.specs.HalfEdge.{mate, edge_of, plus, minus}
 use Rattle.euler_operators.specs.Model.{Model, tail, face_of, after, round}
 use Rattle.euler_operators.specs.Sound.{Sound, HasHalf}
-use Rattle.euler_operators.proofs.Halves.{mate-mate, minus_row}
+use Rattle.euler_operators.proofs.Halves.{mate-mate, minus_row, mate_plus, mate_minus}
+use Rattle.euler_operators.proofs.Models.{mate_there}
 use Rattle.euler_operators.specs.Conditions.{face_at, lists}
-use Rattle.euler_laws.proofs.shared.Fans.{half_mate, loop_after}
-use Rattle.euler_laws.proofs.shared.Undo.{mate_plus, mate_minus}
-use Rattle.euler_laws.proofs.shared.KnownLoop.{half_is, cycle_is, apart_xs}
+use Rattle.euler_laws.proofs.shared.Fans.{loop_after}
 use Rattle.shapes.specs.Fresh.{Taken}
 use Rattle.shapes.specs.Prism.{next_place}
 use Rattle.shapes.specs.Rewriting.{renamed}
@@ -26,6 +25,7 @@ use Rattle.split_opening_laws.proofs.strips.Copied as copy
 use Rattle.split_opening_laws.proofs.copies.Raised as raised
 use Rattle.split_opening_laws.proofs.copies.Raised.{not_less}
 use Rattle.split_opening_laws.proofs.copies.Arc.{Splits}
+use Rattle.euler_laws.proofs.shared.KnownLoop.{half_is, cycle_is, apart_xs}
 
 module _ (M : Model) (above : List ℕ) (s : ℕ) (c : Taken) (bs : List ℕ) (w : CanBeOpened M above s c bs) (i : ℕ) (lt : i < length bs) (sound : Sound (copies_raised M above s c bs i)) where
   abbrev N : Model
@@ -92,7 +92,7 @@ module _ (M : Model) (above : List ℕ) (s : ℕ) (c : Taken) (bs : List ℕ) (w
 
   -- the next half-edge round the vertex lies on the side of the mate
   round_side : (h : ℕ) → HasHalf N h → side (round N h) ≡ side (mate h)
-  round_side h there = ap (λ q. lists above (face_of N q)) (loop_after N sound (mate h) (half_mate N sound h there))
+  round_side h there = ap (λ q. lists above (face_of N q)) (loop_after N sound (mate h) (mate_there N h there))
 
   first_up : side (round N g) ≡ true
   first_up = round_side g g_there ∙ ap side (mate_minus (c.edge + suc i)) ∙ raised.out_side M above s c bs w i sound i lt
@@ -129,10 +129,6 @@ module _ (M : Model) (above : List ℕ) (s : ℕ) (c : Taken) (bs : List ℕ) (w
             ∙ w.below b (on.half_in M above s c bs w j q.1),
       )
 
-  -- a below half is not above
-  half_side : (h : ℕ) → IsIn h bs → lists above (face_at M h) ≡ false
-  half_side h at = w.below h at
-
   listed_mate : (h : ℕ) → IsIn h bs → lists mates (mate h) ≡ true
   listed_mate h at = let q = on.place_of M above s c bs w h at in ap (λ y. lists mates (mate y)) q.2 ∙ on.mate_listed M above s c bs w q.0 q.1
 
@@ -163,7 +159,7 @@ module _ (M : Model) (above : List ℕ) (s : ℕ) (c : Taken) (bs : List ℕ) (w
   -- so the mate of such a half-edge, which is no mate, lies on its side
   old_sides : (h : ℕ) → HasHalf M h → tail N h ≡ x → lists mates h ≡ false → lists mates (mate h) ≡ false → side (mate h) ≡ side h
   old_sides h there at un none =
-      raised.old_side M above s c bs w i sound (mate h) (half_mate M w.sound h there) none
+      raised.old_side M above s c bs w i sound (mate h) (mate_there M h there) none
       ∙ sym (one_side h there (started h there at) un none)
       ∙ sym (raised.old_side M above s c bs w i sound h there un)
 

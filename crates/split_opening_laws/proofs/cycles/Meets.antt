@@ -1,9 +1,10 @@
 -- Sums over a list, and how many items of a list stand in another, counted from either side.
-use Rattle.std.proofs.Common.{◌≡◌, ℕ, ◌+◌, ◌≤◌, Bool, true, false, cond, List, [], ◌∷◌, length, map, refl, sym, ap, ◌∙◌, arith, inl, inr}
+use Rattle.std.proofs.Common.{◌≡◌, ℕ, ◌+◌, Bool, true, false, cond, List, [], ◌∷◌, map, refl, sym, ap, ◌∙◌, arith, inl, inr}
 use Rattle.std.specs.Prelude.{filter, flat_map}
 use Rattle.std.proofs.lemmas.Bool.Decides.{eqb_tells}
 use Rattle.euler_operators.specs.Items.{tick, count, IsIn, IsApart}
 use Rattle.euler_operators.proofs.Lists.{tick_same, tick_other, count-append}
+use Rattle.euler_operators.proofs.Members.{IsIn-map}
 
 abbrev pub total : (ℕ → ℕ) → List ℕ → ℕ
 total f [] = 0
@@ -36,30 +37,11 @@ pub meet_turned : (xs ys : List ℕ) → total (λ x. count x ys) xs ≡ total (
 meet_turned [] ys = sym (total_zero (λ y. 0) ys (λ y. refl))
 meet_turned (x ∷ xs) ys = omega (arith, meet_turned xs ys, total_ticks x ys, total_sum (λ y. tick y x) (λ y. count y xs) ys)
 
-meet_at_least : (xs ys : List ℕ) → ((x : ℕ) → IsIn x xs → IsIn x ys) → length xs ≤ total (λ x. count x ys) xs
-meet_at_least [] ys i = omega arith
-meet_at_least (x ∷ xs) ys i = omega (arith, i x (omega (arith, tick_same x)), meet_at_least xs ys (λ y j. i y (omega (arith, j))))
-
-meet_at_most : (xs ys : List ℕ) → IsApart xs → total (λ y. count y xs) ys ≤ length ys
-meet_at_most xs [] d = omega arith
-meet_at_most xs (y ∷ ys) d = omega (arith, d y, meet_at_most xs ys d)
-
--- a list without repeats within another is no longer
-pub apart_within : (xs ys : List ℕ) → IsApart xs → ((x : ℕ) → IsIn x xs → IsIn x ys) → length xs ≤ length ys
-apart_within xs ys d i = omega (arith, meet_at_least xs ys i, meet_at_most xs ys d, meet_turned xs ys)
-
 -- ---- lists made of others
 
 pub count_map : (f : ℕ → ℕ) (x : ℕ) (ys : List ℕ) → count x (map f ys) ≡ total (λ y. tick x (f y)) ys
 count_map f x [] = refl
 count_map f x (y ∷ ys) = omega (arith, count_map f x ys)
-
-pub in_map : (f : ℕ → ℕ) (x : ℕ) (xs : List ℕ) → IsIn x xs → IsIn (f x) (map f xs)
-in_map f x [] i = absurd (omega arith)
-in_map f x (y ∷ ys) i = elim (eqb_tells x y) [
-  | inl e ↦ omega (arith, ap (λ z. tick (f z) (f y)) e.1, tick_same (f y))
-  | inr e ↦ omega (arith, in_map f x ys (omega (arith, i, tick_other x y e.1)))
-]
 
 -- where the values stay apart, an item is known by its own
 pub known_by : (f : ℕ → ℕ) (xs : List ℕ) → IsApart (map f xs) → (x y : ℕ) → IsIn x xs → IsIn y xs → f x ≡ f y → x ≡ y
@@ -67,10 +49,10 @@ known_by f [] d x y i j e = absurd (omega arith)
 known_by f (z ∷ zs) d x y i j e = elim (eqb_tells x z) [
   | inl p ↦ elim (eqb_tells y z) [
     | inl q ↦ p.1 ∙ sym q.1
-    | inr q ↦ absurd (omega (arith, d (f z), tick_same (f z), ap (λ w. count w (map f zs)) (sym e ∙ ap f p.1), in_map f y zs (omega (arith, j, tick_other y z q.1))))
+    | inr q ↦ absurd (omega (arith, d (f z), tick_same (f z), ap (λ w. count w (map f zs)) (sym e ∙ ap f p.1), IsIn-map f y zs (omega (arith, j, tick_other y z q.1))))
   ]
   | inr p ↦ elim (eqb_tells y z) [
-    | inl q ↦ absurd (omega (arith, d (f z), tick_same (f z), ap (λ w. count w (map f zs)) (e ∙ ap f q.1), in_map f x zs (omega (arith, i, tick_other x z p.1))))
+    | inl q ↦ absurd (omega (arith, d (f z), tick_same (f z), ap (λ w. count w (map f zs)) (e ∙ ap f q.1), IsIn-map f x zs (omega (arith, i, tick_other x z p.1))))
     | inr q ↦ known_by f zs (λ w. omega (arith, d w)) x y (omega (arith, i, tick_other x z p.1)) (omega (arith, j, tick_other y z q.1)) e
   ]
 ]
@@ -88,23 +70,6 @@ kept p x y ys false e t r = elim (eqb_tells x y) [
 pub count_filter : (p : ℕ → Bool) (x : ℕ) (ys : List ℕ) → p x ≡ true → count x (filter p ys) ≡ count x ys
 count_filter p x [] t = refl
 count_filter p x (y ∷ ys) t = kept p x y ys (p y) refl t (count_filter p x ys t)
-
-pub filter_less : (p : ℕ → Bool) (x : ℕ) (ys : List ℕ) → count x (filter p ys) ≤ count x ys
-filter_less p x [] = omega arith
-filter_less p x (y ∷ ys) = go (p y) (filter_less p x ys) where
-  go : (b : Bool) → count x (filter p ys) ≤ count x ys → count x (cond b (y ∷ filter p ys) (filter p ys)) ≤ tick x y + count x ys
-  go true l = omega (arith, l)
-  go false l = omega (arith, l)
-
-pub filter_passes : (p : ℕ → Bool) (x : ℕ) (ys : List ℕ) → IsIn x (filter p ys) → p x ≡ true
-filter_passes p x [] i = absurd (omega arith)
-filter_passes p x (y ∷ ys) i = go (p y) refl (filter_passes p x ys) i where
-  go : (b : Bool) → p y ≡ b → (IsIn x (filter p ys) → p x ≡ true) → IsIn x (cond b (y ∷ filter p ys) (filter p ys)) → p x ≡ true
-  go true e later i = elim (eqb_tells x y) [
-    | inl s ↦ ap p s.1 ∙ e
-    | inr s ↦ later (omega (arith, i, tick_other x y s.1))
-  ]
-  go false e later i = later i
 
 -- how often an item stands in lists that are put one after the other
 pub count_flat : (g : ℕ → List ℕ) (x : ℕ) (ls : List ℕ) → count x (flat_map g ls) ≡ total (λ l. count x (g l)) ls

@@ -8,18 +8,15 @@ use Rattle.euler_operators.proofs.Lists.{tick_same, tick_other, count-append}
 use Rattle.euler_operators.proofs.Rotations.{count-rotate_to}
 use Rattle.euler_operators.proofs.Operators.{apart_back}
 use Rattle.euler_operators.proofs.Maps.{IsApart-map}
-use Rattle.euler_operators.proofs.Rings.{IsPath-append, front_of, orbit_ring, orbit_from}
+use Rattle.euler_operators.proofs.Rings.{IsPath-append, orbit_ring, orbit_from, IsIn_last}
 use Rattle.euler_operators.proofs.Closed.{IsPath_last}
+use Rattle.euler_operators.proofs.Members.{apart_within}
 use Rattle.split_opening_laws.specs.cycles.Permuting.{Permutes}
-use Rattle.split_opening_laws.proofs.cycles.Meets.{apart_within}
 
 -- a path leads over its items but the first to its end
 path_maps : (next : ℕ → ℕ) (x : ℕ) (xs : List ℕ) (d : ℕ) → IsPath next (x ∷ xs) d → map next (x ∷ xs) ≡ xs ++ d ∷ []
 path_maps next x [] d p = ap (λ y. y ∷ []) p.0
 path_maps next x (y ∷ ys) d p = λ i. p.0 i ∷ path_maps next y ys d p.1 i
-
-in_last : (x : ℕ) (xs : List ℕ) → IsIn (last_or x xs) (x ∷ xs)
-in_last x xs = let f = front_of x xs in omega (arith, ap (count (last_or x xs)) f.1, count-append (last_or x xs) f.0 (last_or x xs ∷ []), tick_same (last_or x xs))
 
 -- the orbit of h within xs: a ring that begins with h, without repeats
 pub record Closed (next : ℕ → ℕ) (xs : List ℕ) (h : ℕ) : Type 0 where
@@ -37,7 +34,7 @@ module _ (next : ℕ → ℕ) (xs : List ℕ) (w : Permutes next xs) where
 
   module _ (h : ℕ) (ps : List ℕ) (q : ℕ) (d : IsApart (h ∷ ps)) (p : IsPath next (h ∷ ps) q) (i : (x : ℕ) → IsIn x (h ∷ ps) → IsIn x xs) where
     end_in : IsIn q xs
-    end_in = subst (λ y. IsIn y xs) (IsPath_last next h ps q p) (w.stays (last_or h ps) (i (last_or h ps) (in_last h ps)))
+    end_in = subst (λ y. IsIn y xs) (IsPath_last next h ps q p) (w.stays (last_or h ps) (i (last_or h ps) (IsIn_last h ps)))
 
     more_in : (x : ℕ) → IsIn x (h ∷ (ps ++ q ∷ [])) → IsIn x xs
     more_in x j = elim (eqb_tells x q) [

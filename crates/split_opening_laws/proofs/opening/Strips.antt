@@ -1,8 +1,8 @@
 -- Once the copies are raised there are strips along the mates.
-use Rattle.std.proofs.Common.{◌≡◌, ◌≢◌, ℕ, suc, ◌+◌, ◌≤◌, ◌<◌, true, cond, nat_lt, List, [], ◌∷◌, ◌++◌, length, Option, Some, None, is_some, refl, sym, ap, ◌∙◌, subst, arith, inl, inr, true≢false}
+use Rattle.std.proofs.Common.{◌≡◌, ◌≢◌, ℕ, suc, ◌+◌, ◌≤◌, ◌<◌, cond, nat_lt, List, [], ◌∷◌, ◌++◌, length, Option, Some, None, is_some, refl, sym, ap, ◌∙◌, subst, arith, inl, inr, true≢false}
 use Rattle.std.specs.Prelude.{map, get_or}
 use Rattle.std.specs.Option.{option_map}
-use Rattle.std.proofs.lemmas.Bool.Decides.{nat_tests}
+use Rattle.std.proofs.lemmas.Bool.{lt-ltb}
 use Rattle.std.proofs.lemmas.List.{length-map, get_or-map}
 use Rattle.euler_operators.specs.Rings.{canonical}
 use Rattle.euler_operators.specs.HalfEdge.{mate, plus, minus}
@@ -54,14 +54,11 @@ module _ (M : Model) (above : List ℕ) (s : ℕ) (c : Taken) (bs : List ℕ) (w
   pub loops_free : (q : ℕ) → c.loop < q → table.get (table.map_rows rewrite M.loops) q ≡ None
   loops_free q l = get-map_rows rewrite M.loops q ∙ ap (option_map (rewrite q)) (w.loops_free q l)
 
-  less_is : (a b : ℕ) → a < b → nat_lt a b ≡ true
-  less_is a b l = grind (arith, nat_tests)
-
   items_are : (j : ℕ) → j < m → raised_items c bs m j ≡ strip_loop c hs j
   items_are j lt =
       let k : ℕ = next_place m j in
-      ap (λ b. mate (get_or bs j 0) ∷ cond b (plus (c.edge + m + suc j) ∷ []) [] ++ minus (c.edge + suc j) ∷ cond (nat_lt k m) (minus (c.edge + m + suc k) ∷ []) []) (less_is j m lt)
-      ∙ ap (λ b. mate (get_or bs j 0) ∷ plus (c.edge + m + suc j) ∷ minus (c.edge + suc j) ∷ cond b (minus (c.edge + m + suc k) ∷ []) []) (less_is k m (next_below m j lt))
+      ap (λ b. mate (get_or bs j 0) ∷ cond b (plus (c.edge + m + suc j) ∷ []) [] ++ minus (c.edge + suc j) ∷ cond (nat_lt k m) (minus (c.edge + m + suc k) ∷ []) []) (lt-ltb j m lt)
+      ∙ ap (λ b. mate (get_or bs j 0) ∷ plus (c.edge + m + suc j) ∷ minus (c.edge + suc j) ∷ cond b (minus (c.edge + m + suc k) ∷ []) []) (lt-ltb k m (next_below m j lt))
       ∙ (λ i. sym (get_or-map mate bs j 0 0 lt) i ∷ plus (c.edge + sym size i + suc j) ∷ minus (c.edge + suc j) ∷ minus (c.edge + sym size i + suc (next_place (sym size i) j)) ∷ [])
 
   row_at : (j : ℕ) → j < m → table.get N.loops (c.loop + suc j) ≡ Some (raised_loop c bs m j)

@@ -13,33 +13,32 @@ use Rattle.euler_operators.specs.Table.{get-map_rows}
 use Rattle.euler_operators.specs.Model.{Model, LoopRow, no_face, face_of, solid_of, outer}
 use Rattle.euler_operators.specs.Sound.{Sound, Has}
 use Rattle.euler_operators.proofs.Models.{face_row}
+use Rattle.euler_operators.proofs.Tables.{in_use_within, row_some, get-put_here, get-put_other}
 use Rattle.euler_operators.specs.Conditions.{strictly_rises}
-use Rattle.euler_laws.proofs.shared.Loops.{some_row}
-use Rattle.euler_laws.proofs.shared.RisingLists.{rest_rises}
-use Rattle.shapes.proofs.fresh.Rows.{get-put_here, get-put_other, get-put_cases}
+use Rattle.euler_laws.proofs.Sizes.{rises_over, rises_on}
+use Rattle.shapes.proofs.fresh.Rows.{get-put_cases}
 use Rattle.shapes.specs.Fresh.{Taken, numbers_after}
 use Rattle.shapes.specs.Rewriting.{rewritten_row, renamed}
-use Rattle.euler_laws.proofs.shared.Counted.{in_listed}
 use Rattle.shapes.specs.split.Section.{is_hole}
 use Rattle.shapes.specs.split.Opening.{Caps, Opening, both_lists, opened_along, next_opened, all_opened}
-use Rattle.split_opening_laws.proofs.cycles.RisingLists.{rises_cons, first_least}
+use Rattle.split_opening_laws.proofs.cycles.RisingLists.{rises_cons}
 use Rattle.split_opening_laws.specs.sections.InTurn.{AreFree, upper_faces, CanBeOpenedInTurn}
 use Rattle.split_opening_laws.specs.sections.Capped.{IsPlain, ArePlain, cap_faces, HasCaps}
 use Rattle.split_opening_laws.specs.sections.Laws.{OpeningsAreSound}
-use Rattle.split_opening_laws.proofs.sections.Rims.{at_most}
 use Rattle.split_opening_laws.proofs.sections.OpenedRows.{faces_are, loops_are, face_still, solid_kept}
 use Rattle.split_opening_laws.proofs.sections.OpenedFaces.{upper_row}
 use Rattle.split_opening_laws.proofs.sections.InTurn.{upper_next, above_there, others_on}
+use Rattle.euler_laws.proofs.shared.Listed.{listed-from_in}
 
 -- ---- one more at the end of a rising list
 
 rises_last : (fs : List ℕ) (u : ℕ) → strictly_rises fs ≡ true → ((f : ℕ) → IsIn f fs → f < u) → strictly_rises (fs ++ u ∷ []) ≡ true
 rises_last [] u r l = refl
-rises_last (f ∷ fs) u r l = rises_cons f (fs ++ u ∷ []) less (rises_last fs u (rest_rises f fs r) (λ k i. l k (omega (arith, i)))) where
+rises_last (f ∷ fs) u r l = rises_cons f (fs ++ u ∷ []) less (rises_last fs u (rises_on f fs r) (λ k i. l k (omega (arith, i)))) where
   less : (k : ℕ) → IsIn k (fs ++ u ∷ []) → f < k
   less k i = elim (eqb_tells k u) [
     | inl e ↦ omega (arith, l f (omega (arith, tick_same f)), e.1)
-    | inr e ↦ first_least f k fs r (omega (arith, i, count-append k fs (u ∷ []), tick_other k u e.1))
+    | inr e ↦ rises_over f k fs r (omega (arith, i, count-append k fs (u ∷ []), tick_other k u e.1))
   ]
 
 caps_there : (M : Model) (s : ℕ) (ks : List Caps) → ArePlain M s ks → (f : ℕ) → IsIn f (cap_faces ks) → Has M.faces f
@@ -85,7 +84,7 @@ module _ (M : Model) (above : List ℕ) (s : ℕ) (c : Taken) (bs : List ℕ) (s
 
   loop_cases : (l : ℕ) → Has N.loops l → ((l ≡ c.loop + length bs + 1) × (face_of N l ≡ c.face + length bs + 1)) ⊎ (((l ≡ c.loop + 1) × (face_of N l ≡ c.face + 1)) ⊎ OldLoop l)
   loop_cases l t =
-      let r = some_row (table.get N.loops l) t in
+      let r = row_some (table.get N.loops l) t in
       let f : face_of N l ≡ r.0.face = face_row N l r.0 r.1 in
       elim (get-put_cases _ (c.loop + length bs + 1) _ l r.0 (sym (ap (λ t. table.get t l) (loops_are M above s c bs)) ∙ r.1)) [
         | inl p ↦ inl (p.0, f ∙ ap (λ x. x.face) p.1)
@@ -96,7 +95,7 @@ module _ (M : Model) (above : List ℕ) (s : ℕ) (c : Taken) (bs : List ℕ) (s
       ]
 
   old_loop : (l : ℕ) → OldLoop l → face_of M l ≤ c.face
-  old_loop l w = at_most M.faces c.face free.faces (face_of M l) (sound.loops_of_faces l w.there)
+  old_loop l w = in_use_within M.faces c.face free.faces (face_of M l) (sound.loops_of_faces l w.there)
 
   outer_still : (f : ℕ) → Has M.faces f → outer N f ≡ outer M f
   unfolding outer
@@ -104,7 +103,7 @@ module _ (M : Model) (above : List ℕ) (s : ℕ) (c : Taken) (bs : List ℕ) (s
 
   -- a face without rings has none then
   still_plain : (f : ℕ) → IsPlain M s f → IsPlain N s f
-  still_plain f w = let l : f ≤ c.face = at_most M.faces c.face free.faces f w.there in record {
+  still_plain f w = let l : f ≤ c.face = in_use_within M.faces c.face free.faces f w.there in record {
     there = ap is_some (face_still M above s c bs sound free f w.there) ∙ w.there;
     of_solid = solid_kept M above s c bs sound free f w.there ∙ w.of_solid;
     no_ring = λ k t e. elim (loop_cases k t) [
@@ -157,8 +156,8 @@ caps_stay above s p o bs cs w caps =
     let c : Taken = o.taken in
     let some : 1 ≤ length bs = omega (arith, w.cycles.cycles.0.two_halves) in
     let k : Caps = record { lower = c.face + 1; upper = c.face + length bs + 1; hole = is_hole M p bs } in
-    let low : (f : ℕ) → IsIn f (above ++ cap_faces o.caps) → f ≤ c.face = λ f i. at_most M.faces c.face w.free.faces f (all_there f i (IsIn_or_not f above)) in
-    let low_upper : (f : ℕ) → IsIn f (upper_faces above o.caps) → f ≤ c.face = λ f i. at_most M.faces c.face w.free.faces f (w.upper_there f (in_listed f (upper_faces above o.caps) i)) in
+    let low : (f : ℕ) → IsIn f (above ++ cap_faces o.caps) → f ≤ c.face = λ f i. in_use_within M.faces c.face w.free.faces f (all_there f i (IsIn_or_not f above)) in
+    let low_upper : (f : ℕ) → IsIn f (upper_faces above o.caps) → f ≤ c.face = λ f i. in_use_within M.faces c.face w.free.faces f (w.upper_there f (listed-from_in f (upper_faces above o.caps) i)) in
     record {
       plain = caps_more (opened_along M above s c bs) s o.caps k (all_still M above s c bs w.sound w.free some o.caps caps.plain) (plain_lower M above s c bs w.sound w.free some) (plain_upper M above s c bs w.sound w.free some);
       all_rise = ap strictly_rises (cap_faces_next above o.caps k)
@@ -169,7 +168,7 @@ caps_stay above s p o bs cs w caps =
     }
   where
     all_there : (f : ℕ) → IsIn f (above ++ cap_faces o.caps) → IsIn f above ⊎ (count f above ≡ 0) → Has o.model.faces f
-    all_there f i (inl j) = above_there above s o (bs ∷ cs) w f (in_listed f above j)
+    all_there f i (inl j) = above_there above s o (bs ∷ cs) w f (listed-from_in f above j)
     all_there f i (inr z) = caps_there o.model s o.caps caps.plain f (omega (arith, i, z, count-append f above (cap_faces o.caps)))
 
     before_last : (f : ℕ) (fs : List ℕ) (l u : ℕ) → IsIn f (fs ++ l ∷ []) → (IsIn f fs → f < u) → l < u → f < u

@@ -1,7 +1,6 @@
 -- Once a solid is opened along a cycle, the other cycles of its section are still such.
-use Rattle.std.proofs.Common.{◌≡◌, ◌≢◌, ℕ, ◌+◌, ◌<◌, cond, List, [], ◌∷◌, length, map, get_or, is_some, refl, sym, ap, subst, ◌∙◌, arith, ◌⊎◌, inl, inr}
+use Rattle.std.proofs.Common.{◌≡◌, ◌≢◌, ℕ, ◌<◌, List, [], ◌∷◌, length, map, get_or, is_some, refl, sym, ap, subst, ◌∙◌, arith, ◌⊎◌, inl, inr}
 use Rattle.std.specs.Prelude.{flat_map}
-use Rattle.std.proofs.lemmas.Bool.Decides.{nat_tests, eqb_tells}
 use Rattle.std.proofs.lemmas.List.{map-append, get_or_default}
 use Rattle.euler_operators.specs.Items.{count, IsIn, IsApart}
 use Rattle.euler_operators.proofs.Lists.{tick_same, count-append, IsIn_or_not}
@@ -11,25 +10,17 @@ use Rattle.euler_operators.specs.HalfEdge.{mate}
 use Rattle.euler_operators.specs.Model.{Model, tail, solid_of, loop_of}
 use Rattle.euler_operators.specs.Sound.{Sound, HasHalf}
 use Rattle.euler_operators.proofs.Halves.{mate-mate}
-use Rattle.euler_operators.proofs.Models.{row_of}
+use Rattle.euler_operators.proofs.Models.{row_of, mate_there}
+use Rattle.euler_operators.proofs.Members.{IsIn-map}
+use Rattle.euler_operators.proofs.Tables.{in_use_within}
 use Rattle.euler_operators.specs.Conditions.{face_at, lists}
-use Rattle.euler_laws.proofs.shared.Fans.{half_mate}
 use Rattle.shapes.specs.Fresh.{Taken}
 use Rattle.shapes.specs.Prism.{next_place}
 use Rattle.shapes.specs.split.Opening.{opened_along}
 use Rattle.split_opening_laws.specs.cycles.SectionCycles.{IsSectionCycle, AreSectionCycles, AreApartCycles}
 use Rattle.split_opening_laws.specs.sections.InTurn.{AreFree}
-use Rattle.split_opening_laws.proofs.cycles.Meets.{in_map}
-use Rattle.split_opening_laws.proofs.sections.Rims.{at_most}
 use Rattle.split_opening_laws.proofs.sections.OpenedRows.{solid_kept, face_kept, half_kept, tail_cases, tail_kept, half_cases}
-
-place_within : (n i : ℕ) → i < n → next_place n i < n
-place_within n i l = elim (eqb_tells (i + 1) n) [
-  | inl e ↦ subst (λ k. k < n) (sym (ap (λ b. cond b 0 (i + 1)) e.0)) (omega (arith, l))
-  | inr e ↦ subst (λ k. k < n) (sym (ap (λ b. cond b 0 (i + 1)) e.0)) (less e.1)
-] where
-  less : i + 1 ≢ n → i + 1 < n
-  less ne = grind (arith, nat_tests)
+use Rattle.sweeps_laws.proofs.swept.Numbers.{next_within}
 
 maps_agree : (f g : ℕ → ℕ) (xs : List ℕ) → ((x : ℕ) → IsIn x xs → f x ≡ g x) → map f xs ≡ map g xs
 maps_agree f g [] e = refl
@@ -40,7 +31,7 @@ follows : (M : Model) (above : List ℕ) (s : ℕ) (ds : List ℕ) → IsSection
 follows M above s ds w d i =
     let k = Contains-from_in d ds i in
     let e : get_or ds k.0 0 ≡ d = get_or_default ds k.0 0 d k.1 ∙ k.2 in
-    let n : next_place (length ds) k.0 < length ds = place_within (length ds) k.0 k.1 in
+    let n : next_place (length ds) k.0 < length ds = next_within (length ds) k.0 k.1 in
     (get_or ds (next_place (length ds) k.0) 0, IsIn-get_or ds (next_place (length ds) k.0) 0 n, w.meet k.0 k.1 ∙ ap (λ x. tail M (mate x)) e)
 
 module _ (M : Model) (above : List ℕ) (s : ℕ) (c : Taken) (bs : List ℕ) (sound : Sound M) (free : AreFree M c) (first : IsSectionCycle M above s bs) where
@@ -52,7 +43,7 @@ module _ (M : Model) (above : List ℕ) (s : ℕ) (c : Taken) (bs : List ℕ) (s
 
   -- the mates of the cycle start at its vertices
   mate_vertex : (b : ℕ) → IsIn b bs → IsIn (tail M (mate b)) vertices
-  mate_vertex b i = let r = follows M above s bs first b i in subst (λ v. IsIn v vertices) r.2 (in_map (tail M) r.0 bs r.1)
+  mate_vertex b i = let r = follows M above s bs first b i in subst (λ v. IsIn v vertices) r.2 (IsIn-map (tail M) r.0 bs r.1)
 
   -- what starts elsewhere is no mate of the cycle, nor is its mate
   pub no_mate : (h : ℕ) → count (tail M h) vertices ≡ 0 → count h (map mate bs) ≡ 0
@@ -64,7 +55,7 @@ module _ (M : Model) (above : List ℕ) (s : ℕ) (c : Taken) (bs : List ℕ) (s
   pub no_mates_mate : (h : ℕ) → count (tail M h) vertices ≡ 0 → count (mate h) (map mate bs) ≡ 0
   no_mates_mate h z = elim (IsIn_or_not (mate h) (map mate bs)) [
     | inl i ↦ let r = from_map mate (mate h) bs i in
-        absurd (omega (arith, z, ap (λ x. count (tail M x) vertices) (sym (mate-mate h) ∙ ap mate r.2 ∙ mate-mate r.0), in_map (tail M) r.0 bs r.1))
+        absurd (omega (arith, z, ap (λ x. count (tail M x) vertices) (sym (mate-mate h) ∙ ap mate r.2 ∙ mate-mate r.0), IsIn-map (tail M) r.0 bs r.1))
     | inr n ↦ n
   ]
 
@@ -73,7 +64,7 @@ module _ (M : Model) (above : List ℕ) (s : ℕ) (c : Taken) (bs : List ℕ) (s
   face_same h t z = face_kept M above s c bs sound free h t (no_mate h z)
 
   mate_face_same : (h : ℕ) → HasHalf M h → count (tail M h) vertices ≡ 0 → face_at N (mate h) ≡ face_at M (mate h)
-  mate_face_same h t z = face_kept M above s c bs sound free (mate h) (half_mate M sound h t) (no_mates_mate h z)
+  mate_face_same h t z = face_kept M above s c bs sound free (mate h) (mate_there M h t) (no_mates_mate h z)
 
   -- ---- another cycle
 
@@ -84,7 +75,7 @@ module _ (M : Model) (above : List ℕ) (s : ℕ) (c : Taken) (bs : List ℕ) (s
     pub end_same : (d : ℕ) → IsIn d ds → tail N (mate d) ≡ tail M (mate d)
     end_same d i =
         let r = follows M above s ds w d i in
-        tail_kept M above s c bs sound free (mate d) (half_mate M sound d (w.there d i)) (sym (ap (λ v. count v vertices) r.2) ∙ elsewhere r.0 r.1)
+        tail_kept M above s c bs sound free (mate d) (mate_there M d (w.there d i)) (sym (ap (λ v. count v vertices) r.2) ∙ elsewhere r.0 r.1)
 
     still_alone : (h b : ℕ) → HasHalf N h → IsIn b ds → tail N h ≡ tail N b → lists above (face_at N h) ≢ lists above (face_at N (mate h)) → IsIn h ds ⊎ IsIn (mate h) ds
     still_alone h b t i e ne = elim (half_cases M above s c bs sound free h t) [
@@ -98,7 +89,7 @@ module _ (M : Model) (above : List ℕ) (s : ℕ) (c : Taken) (bs : List ℕ) (s
       ]
     ] where
       too_high : c.vertex < tail N h → ⊥
-      too_high l = absurd (omega (arith, l, e, start_same b i, at_most M.vertices c.vertex free.vertices (tail M b) (sound.tails_there b (w.there b i))))
+      too_high l = absurd (omega (arith, l, e, start_same b i, in_use_within M.vertices c.vertex free.vertices (tail M b) (sound.tails_there b (w.there b i))))
 
     pub stays_cycle : IsSectionCycle (opened_along M above s c bs) above s ds
     stays_cycle = record {
@@ -106,7 +97,7 @@ module _ (M : Model) (above : List ℕ) (s : ℕ) (c : Taken) (bs : List ℕ) (s
       two_halves = w.two_halves;
       apart = w.apart;
       there = λ d i. half_kept M above s c bs sound free d (w.there d i);
-      meet = λ k l. start_same (get_or ds (next_place (length ds) k) 0) (IsIn-get_or ds (next_place (length ds) k) 0 (place_within (length ds) k l)) ∙ w.meet k l ∙ sym (end_same (get_or ds k 0) (IsIn-get_or ds k 0 l));
+      meet = λ k l. start_same (get_or ds (next_place (length ds) k) 0) (IsIn-get_or ds (next_place (length ds) k) 0 (next_within (length ds) k l)) ∙ w.meet k l ∙ sym (end_same (get_or ds k 0) (IsIn-get_or ds k 0 l));
       starts_apart = subst IsApart (sym (maps_agree (tail N) (tail M) ds start_same)) w.starts_apart;
       below = λ d i. ap (lists above) (face_same d (w.there d i) (elsewhere d i)) ∙ w.below d i;
       mates_above = λ d i. ap (lists above) (mate_face_same d (w.there d i) (elsewhere d i)) ∙ w.mates_above d i;
@@ -134,7 +125,7 @@ module _ (M : Model) (above : List ℕ) (s : ℕ) (c : Taken) (bs : List ℕ) (s
 -- the halves of the others start elsewhere
 pub starts_elsewhere : (M : Model) (above : List ℕ) (s : ℕ) (bs : List ℕ) (cs : List (List ℕ)) → AreApartCycles M above s (bs ∷ cs) → (d : ℕ) → IsIn d (flat_map (λ bs. bs) cs) → count (tail M d) (map (tail M) bs) ≡ 0
 starts_elsewhere M above s bs cs w d i = let rest : List ℕ = flat_map (λ bs. bs) cs in
-    omega (arith, w.starts_apart (tail M d), ap (count (tail M d)) (map-append (tail M) bs rest), count-append (tail M d) (map (tail M) bs) (map (tail M) rest), in_map (tail M) d rest i)
+    omega (arith, w.starts_apart (tail M d), ap (count (tail M d)) (map-append (tail M) bs rest), count-append (tail M d) (map (tail M) bs) (map (tail M) rest), IsIn-map (tail M) d rest i)
 
 pub cycles_stay : (M : Model) (above : List ℕ) (s : ℕ) (c : Taken) (bs : List ℕ) (cs : List (List ℕ)) → Sound M → AreFree M c → AreApartCycles M above s (bs ∷ cs) → AreApartCycles (opened_along M above s c bs) above s cs
 cycles_stay M above s c bs cs sound free w =

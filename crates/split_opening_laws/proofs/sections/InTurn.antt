@@ -1,5 +1,5 @@
 -- A solid is opened along the cycles of its section one after the other, and then nothing holds its upper faces to the others.
-use Rattle.std.proofs.Common.{◌≡◌, ℕ, ◌+◌, ◌*◌, Bool, true, false, List, [], ◌∷◌, ◌++◌, length, map, is_some, refl, sym, ap, subst, ◌∙◌, arith, true≢false, inl, inr, length-append}
+use Rattle.std.proofs.Common.{◌≡◌, ℕ, ◌+◌, ◌*◌, Bool, true, false, List, [], ◌∷◌, ◌++◌, length, map, is_some, refl, sym, ap, subst, ◌∙◌, arith, length-append}
 use Rattle.std.proofs.lemmas.List.{append_assoc, append-nil, map-append}
 use Rattle.euler_operators.specs.declared.Plane.{Plane}
 use Rattle.euler_operators.specs.Items.{IsIn}
@@ -7,11 +7,10 @@ use Rattle.euler_operators.specs.HalfEdge.{mate, plus, minus}
 use Rattle.euler_operators.specs.Table as table
 use Rattle.euler_operators.specs.Model.{Model, solid_of}
 use Rattle.euler_operators.specs.Sound.{Sound, Has, HasHalf}
-use Rattle.euler_operators.proofs.Halves.{plus_row, minus_row}
+use Rattle.euler_operators.proofs.Halves.{plus_row, minus_row, mate_plus, mate_minus}
 use Rattle.euler_operators.proofs.Tables.{first_where_zero}
 use Rattle.euler_operators.specs.Conditions.{face_at, lists, differ, torn_edge}
-use Rattle.euler_laws.proofs.shared.Listed.{first_listed, rest_listed, listed_cases}
-use Rattle.euler_laws.proofs.shared.Undo.{mate_plus, mate_minus}
+use Rattle.euler_laws.proofs.shared.Listed.{listed_front}
 use Rattle.shapes.specs.Fresh.{Taken}
 use Rattle.shapes.specs.split.Section.{below_halves, section_cycles, is_hole}
 use Rattle.shapes.specs.split.Opening.{Caps, Opening, opened_along, next_opened, all_opened}
@@ -27,13 +26,6 @@ use Rattle.split_opening_laws.proofs.sections.StillBetween.{still_between, still
 
 pub upper_next : (above : List ℕ) (ks : List Caps) (k : Caps) → upper_faces above (ks ++ k ∷ []) ≡ upper_faces above ks ++ k.upper ∷ []
 upper_next above ks k = ap (λ q. above ++ q) (map-append (λ k. k.upper) ks (k ∷ [])) ∙ sym (append_assoc above (map (λ k. k.upper) ks) (k.upper ∷ []))
-
-listed_front : (fs gs : List ℕ) (f : ℕ) → lists fs f ≡ true → lists (fs ++ gs) f ≡ true
-listed_front [] gs f l = absurd (true≢false (sym l))
-listed_front (n ∷ ns) gs f l = elim (listed_cases n f ns l) [
-  | inl e ↦ ap (λ k. lists (k ∷ (ns ++ gs)) f) (sym e) ∙ first_listed f (ns ++ gs)
-  | inr r ↦ rest_listed n f (ns ++ gs) (listed_front ns gs f r)
-]
 
 -- the faces above are there
 pub above_there : (above : List ℕ) (s : ℕ) (o : Opening) (cs : List (List ℕ)) → CanBeOpenedInTurn above s o cs → (f : ℕ) → lists above f ≡ true → Has o.model.faces f

@@ -11,15 +11,16 @@ use Rattle.euler_operators.specs.Model.{Model, LoopRow, cycle, loop_of, face_of,
 use Rattle.euler_operators.specs.Sound.{Sound, HasHalf}
 use Rattle.euler_operators.proofs.Halves.{mate-mate}
 use Rattle.euler_operators.proofs.Models.{in-holds, content_row, face_row, cycle_there, row_of}
+use Rattle.euler_operators.proofs.Members.{IsIn-map}
+use Rattle.euler_operators.proofs.Tables.{get-put_here, get-put_other}
 use Rattle.euler_operators.specs.Conditions.{face_at}
-use Rattle.shapes.proofs.fresh.Rows.{get-put_here, get-put_other}
 use Rattle.shapes.specs.Fresh.{Taken, numbers_after}
 use Rattle.shapes.specs.Rewriting.{renamed}
 use Rattle.shapes.specs.split.Opening.{both_lists, opened_along}
-use Rattle.split_opening_laws.proofs.cycles.Meets.{in_map}
 use Rattle.split_opening_laws.specs.sections.InTurn.{AreFree}
-use Rattle.split_opening_laws.proofs.sections.Pairs.{renamed_onto, length_numbers}
+use Rattle.split_opening_laws.proofs.sections.Pairs.{renamed_onto}
 use Rattle.split_opening_laws.proofs.sections.OpenedRows.{faces_are, loops_are, loop_row}
+use Rattle.split_opening_laws.proofs.strips.Rows.{length-numbers_after}
 
 some_length : (x : ℕ) (xs : List ℕ) → IsIn x xs → 1 ≤ length xs
 some_length x [] i = absurd (omega arith)
@@ -60,15 +61,15 @@ module _ (M : Model) (above : List ℕ) (s : ℕ) (c : Taken) (bs : List ℕ) wh
     pub minus_face : (k : ℕ) → IsIn k (numbers_after c.edge (length bs)) → face_at N (minus k) ≡ c.face + length bs + 1
     minus_face k i = found_in N then_sound (minus k) (c.loop + m + 1) _
         (ap (λ t. table.get t (c.loop + m + 1)) (loops_are M above s c bs) ∙ get-put_here _ (c.loop + m + 1) _)
-        (in-holds (minus k) (cycle (map minus rim)) (in_map minus k rim i))
+        (in-holds (minus k) (cycle (map minus rim)) (IsIn-map minus k rim i))
 
     -- and the other half stands in place of a mate
     pub plus_face : Sound M → AreFree M c → IsApart bs → ((b : ℕ) → IsIn b (map mate bs) → HasHalf M b) → (k : ℕ) → IsIn k (numbers_after c.edge (length bs)) → (a : ℕ) × IsIn a (map mate bs) × (face_at N (plus k) ≡ face_at M a)
     plus_face sound free d there k i =
-        let r = renamed_onto mates (map plus rim) (mates_apart bs d) (length-map bs mate ∙ sym (length-map rim plus ∙ length_numbers c.edge m)) (plus k) (in_map plus k rim i) in
+        let r = renamed_onto mates (map plus rim) (mates_apart bs d) (length-map bs mate ∙ sym (length-map rim plus ∙ length-numbers_after c.edge m)) (plus k) (IsIn-map plus k rim i) in
         let t : HasHalf M r.0 = there r.0 r.1 in
         let swap : ℕ → ℕ = renamed (both_lists mates (map plus rim)) in
-        let j : IsIn (plus k) (map swap (cycle_of M r.0)) = subst (λ x. IsIn x (map swap (cycle_of M r.0))) r.2 (in_map swap r.0 (cycle_of M r.0) (cycle_there M sound r.0 t)) in (
+        let j : IsIn (plus k) (map swap (cycle_of M r.0)) = subst (λ x. IsIn x (map swap (cycle_of M r.0))) r.2 (IsIn-map swap r.0 (cycle_of M r.0) (cycle_there M sound r.0 t)) in (
           r.0,
           r.1,
           found_in N then_sound (plus k) (loop_of M r.0) _ (loop_row M above s c bs sound free (loop_of M r.0) _ (row_of M sound r.0 t))

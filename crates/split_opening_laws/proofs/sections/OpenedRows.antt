@@ -12,17 +12,16 @@ use Rattle.euler_operators.specs.Model.{Model, LoopContent, LoopRow, FaceRow, Ed
 use Rattle.euler_operators.specs.Sound.{Sound, Has, HasHalf}
 use Rattle.euler_operators.proofs.Halves.{plus_row, minus_row}
 use Rattle.euler_operators.proofs.Models.{holds_in, in-holds, face_row, content_row, tail_row, cycle_there, row_of}
-use Rattle.euler_operators.proofs.Tables.{first_where_is}
+use Rattle.euler_operators.proofs.Tables.{first_where_is, in_use_within, row_some, get-put_other}
+use Rattle.euler_operators.proofs.Members.{IsIn-map}
 use Rattle.euler_operators.specs.Conditions.{face_at, lists}
 use Rattle.euler_laws.proofs.shared.Arcs.{halves_of_edge}
-use Rattle.euler_laws.proofs.shared.Loops.{some_row}
-use Rattle.shapes.proofs.fresh.Rows.{get-put_cases, get-put_other}
+use Rattle.shapes.proofs.fresh.Rows.{get-put_cases}
 use Rattle.shapes.specs.Fresh.{Taken, numbers_after}
 use Rattle.shapes.specs.Rewriting.{rewritten_row, renamed}
 use Rattle.shapes.specs.split.Opening.{opened_tail, opened_row, with_rim, with_copies, both_lists, opened_along}
 use Rattle.split_opening_laws.specs.sections.InTurn.{AreFree}
-use Rattle.split_opening_laws.proofs.cycles.Meets.{in_map}
-use Rattle.split_opening_laws.proofs.sections.Rims.{at_most, other_number, rim_below, rim_cases, rim_numbers}
+use Rattle.split_opening_laws.proofs.sections.Rims.{other_number, rim_below, rim_cases, rim_numbers}
 use Rattle.split_opening_laws.proofs.sections.Pairs.{renamed_one, renamed_not, in_numbers, numbers_in}
 
 module _ (M : Model) (above : List ℕ) (s : ℕ) (c : Taken) (bs : List ℕ) where
@@ -74,12 +73,12 @@ module _ (M : Model) (above : List ℕ) (s : ℕ) (c : Taken) (bs : List ℕ) wh
 
   module _ (sound : Sound M) (free : AreFree M c) where
     old_edge : (h : ℕ) → HasHalf M h → edge_of h ≤ c.edge
-    old_edge h there = at_most M.edges c.edge free.edges (edge_of h) there
+    old_edge h there = in_use_within M.edges c.edge free.edges (edge_of h) there
 
     -- ---- faces and loops
 
     pub face_still : (f : ℕ) → Has M.faces f → table.get opened.faces f ≡ table.get M.faces f
-    face_still f there = let l = at_most M.faces c.face free.faces f there in
+    face_still f there = let l = in_use_within M.faces c.face free.faces f there in
         ap (λ t. table.get t f) faces_are
         ∙ get-put_other (table.put M.faces (c.face + 1) below_cap) (c.face + m + 1) above_cap f (other_number f c.face (c.face + m + 1) l (omega arith))
         ∙ get-put_other M.faces (c.face + 1) below_cap f (other_number f c.face (c.face + 1) l (omega arith))
@@ -90,7 +89,7 @@ module _ (M : Model) (above : List ℕ) (s : ℕ) (c : Taken) (bs : List ℕ) wh
 
     -- an old loop is rewritten
     pub loop_row : (q : ℕ) (row : LoopRow) → table.get M.loops q ≡ Some row → table.get opened.loops q ≡ Some (rewritten_row (map (renamed swaps)) q row)
-    loop_row q row at = let l = at_most M.loops c.loop free.loops q (ap is_some at) in
+    loop_row q row at = let l = in_use_within M.loops c.loop free.loops q (ap is_some at) in
         ap (λ t. table.get t q) loops_are
         ∙ get-put_other (table.put (table.map_rows (rewritten_row (map (renamed swaps))) M.loops) (c.loop + 1) below_rim) (c.loop + m + 1) above_rim q (other_number q c.loop (c.loop + m + 1) l (omega arith))
         ∙ get-put_other (table.map_rows (rewritten_row (map (renamed swaps))) M.loops) (c.loop + 1) below_rim q (other_number q c.loop (c.loop + 1) l (omega arith))
@@ -107,7 +106,7 @@ module _ (M : Model) (above : List ℕ) (s : ℕ) (c : Taken) (bs : List ℕ) wh
 
     module _ (h : ℕ) (there : HasHalf M h) (no_mate : count h (map mate bs) ≡ 0) where
       renamed_in : (hs : List ℕ) → IsIn h hs → IsIn h (canonical (map (renamed swaps) hs))
-      renamed_in hs i = omega (arith, count-canonical h (map (renamed swaps) hs), subst (λ x. IsIn x (map (renamed swaps) hs)) (renamed_not (map mate bs) (map plus rim) h no_mate) (in_map (renamed swaps) h hs i))
+      renamed_in hs i = omega (arith, count-canonical h (map (renamed swaps) hs), subst (λ x. IsIn x (map (renamed swaps) hs)) (renamed_not (map mate bs) (map plus rim) h no_mate) (IsIn-map (renamed swaps) h hs i))
 
       -- a rewritten loop that holds it held it
       held : (q : ℕ) (k : LoopContent) → content M q ≡ k → IsIn h (items_of (rewritten_row (map (renamed swaps)) q (record { face = 0; content = k })).content) → loop_of M h ≡ q
@@ -155,15 +154,15 @@ module _ (M : Model) (above : List ℕ) (s : ℕ) (c : Taken) (bs : List ℕ) wh
 
     edge_row : (e : ℕ) (row : EdgeRow) → table.get M.edges e ≡ Some row → table.get opened.edges e ≡ Some (opened_row M above mates copies e row)
     edge_row e row at = ap (λ t. table.get t e) edges_are
-        ∙ rim_below (table.map_rows (opened_row M above mates copies) M.edges) c.edge c.vertex m m e (at_most M.edges c.edge free.edges e (ap is_some at))
+        ∙ rim_below (table.map_rows (opened_row M above mates copies) M.edges) c.edge c.vertex m m e (in_use_within M.edges c.edge free.edges e (ap is_some at))
         ∙ get-map_rows (opened_row M above mates copies) M.edges e ∙ ap (option_map (opened_row M above mates copies e)) at
 
     pub half_kept : (h : ℕ) → HasHalf M h → HasHalf opened h
-    half_kept h there = let r = some_row (table.get M.edges (edge_of h)) there in ap is_some (edge_row (edge_of h) r.0 r.1)
+    half_kept h there = let r = row_some (table.get M.edges (edge_of h)) there in ap is_some (edge_row (edge_of h) r.0 r.1)
 
     tail_is : (h : ℕ) → HasHalf M h → tail opened h ≡ opened_tail M above mates copies h (tail M h)
     tail_is h there =
-        let r = some_row (table.get M.edges (edge_of h)) there in
+        let r = row_some (table.get M.edges (edge_of h)) there in
         let now : tail opened h ≡ tail_in (opened_row M above mates copies (edge_of h) r.0) (is_first h) = tail_row opened h (opened_row M above mates copies (edge_of h) r.0) (edge_row (edge_of h) r.0 r.1) in
         let old : tail M h ≡ tail_in r.0 (is_first h) = tail_row M h r.0 r.1 in
         elim (halves_of_edge h) [
@@ -193,7 +192,7 @@ module _ (M : Model) (above : List ℕ) (s : ℕ) (c : Taken) (bs : List ℕ) wh
     -- a half-edge was there, or starts at a copy
     pub half_cases : (h : ℕ) → HasHalf opened h → HasHalf M h ⊎ (c.vertex < tail opened h)
     half_cases h there =
-        let r = some_row (table.get opened.edges (edge_of h)) there in
+        let r = row_some (table.get opened.edges (edge_of h)) there in
         elim (rim_cases (table.map_rows (opened_row M above mates copies) M.edges) c.edge c.vertex m m (edge_of h) r.0 (sym (ap (λ t. table.get t (edge_of h)) edges_are) ∙ r.1)) [
           | inl at ↦ inl (sym (mapped (table.get M.edges (edge_of h))) ∙ ap is_some (sym (get-map_rows (opened_row M above mates copies) M.edges (edge_of h)) ∙ at))
           | inr l ↦ inr (subst (λ n. c.vertex < n) (sym (tail_row opened h r.0 r.1)) (either (is_first h) r.0 l.0 l.1))
@@ -210,7 +209,7 @@ module _ (M : Model) (above : List ℕ) (s : ℕ) (c : Taken) (bs : List ℕ) wh
     -- a half-edge was there, or is of an edge round a cap
     pub half_back : (h : ℕ) → HasHalf opened h → HasHalf M h ⊎ IsIn (edge_of h) (numbers_after c.edge (length bs))
     half_back h there =
-        let r = some_row (table.get opened.edges (edge_of h)) there in
+        let r = row_some (table.get opened.edges (edge_of h)) there in
         elim (rim_numbers (table.map_rows (opened_row M above mates copies) M.edges) c.edge c.vertex m m (edge_of h) r.0 (sym (ap (λ t. table.get t (edge_of h)) edges_are) ∙ r.1)) [
           | inl at ↦ inl (sym (mapped (table.get M.edges (edge_of h))) ∙ ap is_some (sym (get-map_rows (opened_row M above mates copies) M.edges (edge_of h)) ∙ at))
           | inr l ↦ inr (numbers_in c.edge m (edge_of h) l.0 l.1)

@@ -46,10 +46,6 @@ numbers_in k (suc n) x l g = elim (eqb_tells x (k + 1)) [
   above : (x : ℕ) → x ≢ k + 1 → k < x → k + 1 < x
   above x ne l = grind (arith, nat_tests)
 
-pub length_numbers : (k n : ℕ) → length (numbers_after k n) ≡ n
-length_numbers k zero = refl
-length_numbers k (suc n) = omega (arith, length_numbers (k + 1) n)
-
 -- where the first list has no repeats and the second is as long, each of the second is the name of one of the first
 pub renamed_onto : (xs ys : List ℕ) → IsApart xs → length xs ≡ length ys → (y : ℕ) → IsIn y ys → (x : ℕ) × IsIn x xs × (renamed (both_lists xs ys) x ≡ y)
 renamed_onto xs [] d l y i = absurd (omega arith)

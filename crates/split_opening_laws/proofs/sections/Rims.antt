@@ -1,16 +1,11 @@
 -- The edges round a cap, which get the numbers after those taken.
-use Rattle.std.proofs.Common.{◌≡◌, ◌≢◌, ℕ, zero, suc, ◌+◌, ◌≤◌, ◌<◌, Bool, true, false, cond, nat_eq, Some, None, is_some, refl, sym, ap, subst, ◌∙◌, arith, true≢false, ◌⊎◌, inl, inr}
+use Rattle.std.proofs.Common.{◌≡◌, ◌≢◌, ℕ, zero, suc, ◌+◌, ◌≤◌, ◌<◌, Bool, true, false, cond, nat_eq, Some, refl, sym, ap, subst, ◌∙◌, arith, ◌⊎◌, inl, inr}
 use Rattle.euler_operators.specs.Table as table
 use Rattle.euler_operators.specs.Table.{Table}
 use Rattle.euler_operators.specs.Model.{EdgeRow}
-use Rattle.euler_operators.specs.Sound.{Has}
-use Rattle.shapes.proofs.fresh.Rows.{get-put_cases, get-put_other}
-use Rattle.euler_laws.proofs.shared.UpTo.{below_or}
+use Rattle.euler_operators.proofs.Tables.{get-put_other}
+use Rattle.shapes.proofs.fresh.Rows.{get-put_cases}
 use Rattle.shapes.specs.split.Opening.{with_rim}
-
--- where all numbers above n are free, a number in use is at most n
-pub at_most : {X : Type 0} (t : Table X) (n : ℕ) → ((q : ℕ) → n < q → table.get t q ≡ None) → (q : ℕ) → Has t q → q ≤ n
-at_most t n free q there = elim (below_or q n) [ inl l ↦ l | inr l ↦ absurd (true≢false (sym there ∙ ap is_some (free q l))) ]
 
 pub other_number : (q n k : ℕ) → q ≤ n → n < k → q ≢ k
 other_number q n k l m e = absurd (omega (arith, l, m, e))

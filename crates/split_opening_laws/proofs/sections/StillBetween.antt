@@ -1,5 +1,5 @@
 -- What is between the upper faces and the others, once a solid is opened along one cycle of several.
-use Rattle.std.proofs.Common.{◌≡◌, ◌≢◌, ℕ, ◌+◌, ◌≤◌, Bool, true, false, nat_eq, ◌||◌, List, [], ◌∷◌, ◌++◌, length, map, is_some, unwrap_or, refl, sym, ap, subst, ◌∙◌, arith, true≢false, inl, inr}
+use Rattle.std.proofs.Common.{◌≡◌, ℕ, ◌+◌, ◌≤◌, Bool, true, false, List, [], ◌∷◌, ◌++◌, length, map, is_some, unwrap_or, refl, sym, ap, subst, ◌∙◌, arith, true≢false, inl, inr}
 use Rattle.std.proofs.lemmas.Bool.Decides.{eqb_tells}
 use Rattle.euler_operators.specs.Items.{count, IsIn}
 use Rattle.euler_operators.proofs.Lists.{count-append, IsIn_or_not}
@@ -9,25 +9,19 @@ use Rattle.euler_operators.specs.Table as table
 use Rattle.euler_operators.specs.Model.{Model, loop_of, solid_of, no_face}
 use Rattle.euler_operators.specs.Sound.{Sound, Has, HasHalf}
 use Rattle.euler_operators.proofs.Halves.{mate-mate}
-use Rattle.euler_operators.proofs.Models.{row_of}
+use Rattle.euler_operators.proofs.Models.{row_of, mate_there as half_mate}
+use Rattle.euler_operators.proofs.Members.{IsIn-map}
+use Rattle.euler_operators.proofs.Tables.{in_use_within}
 use Rattle.euler_operators.specs.Conditions.{face_at, lists}
 use Rattle.euler_laws.proofs.shared.Arcs.{halves_of_edge}
-use Rattle.euler_laws.proofs.shared.Fans.{half_mate}
-use Rattle.euler_laws.proofs.shared.Goes.{differs}
-use Rattle.euler_laws.proofs.shared.Listed.{first_listed, rest_listed}
+use Rattle.euler_laws.proofs.shared.Listed.{first_listed, rest_listed, other_last}
 use Rattle.shapes.specs.Fresh.{Taken, numbers_after}
 use Rattle.shapes.specs.split.Opening.{opened_along}
 use Rattle.split_opening_laws.specs.cycles.SectionCycles.{IsSectionCycle, AreApartCycles}
-use Rattle.split_opening_laws.proofs.cycles.Meets.{in_map}
 use Rattle.split_opening_laws.specs.sections.InTurn.{AreFree, halves_in, AreBetween}
-use Rattle.split_opening_laws.proofs.sections.Rims.{at_most}
 use Rattle.split_opening_laws.proofs.sections.OpenedRows.{face_still, solid_kept, face_kept, half_back}
 use Rattle.split_opening_laws.proofs.sections.CyclesStay.{no_mate, no_mates_mate, there_in, starts_elsewhere}
 use Rattle.split_opening_laws.proofs.sections.OpenedFaces.{upper_row, mate_face, minus_face, plus_face}
-
-other_last : (fs : List ℕ) (u f : ℕ) → f ≢ u → lists (fs ++ u ∷ []) f ≡ lists fs f
-other_last [] u f ne = ap (λ b. b || false) (differs u f (λ e. ne (sym e)))
-other_last (g ∷ gs) u f ne = ap (λ b. nat_eq g f || b) (other_last gs u f ne)
 
 last_listed : (fs : List ℕ) (u : ℕ) → lists (fs ++ u ∷ []) u ≡ true
 last_listed [] u = first_listed u []
@@ -58,10 +52,10 @@ module _ (M : Model) (above : List ℕ) (s : ℕ) (c : Taken) (bs : List ℕ) (c
   in_rest d i = omega (arith, i, count-append d bs (halves_in cs))
 
   upper_old : (f : ℕ) → lists fs f ≡ true → f ≤ c.face
-  upper_old f l = at_most M.faces c.face free.faces f (upper_there f l)
+  upper_old f l = in_use_within M.faces c.face free.faces f (upper_there f l)
 
   face_old : (h : ℕ) → HasHalf M h → face_at M h ≤ c.face
-  face_old h t = at_most M.faces c.face free.faces (face_at M h) (sound.loops_of_faces (loop_of M h) (ap is_some (row_of M sound h t)))
+  face_old h t = in_use_within M.faces c.face free.faces (face_at M h) (sound.loops_of_faces (loop_of M h) (ap is_some (row_of M sound h t)))
 
   old_listed : (f : ℕ) → f ≤ c.face → lists (fs ++ u ∷ []) f ≡ lists fs f
   old_listed f l = other_last fs u f (λ e. absurd (omega (arith, l, e)))
@@ -77,7 +71,7 @@ module _ (M : Model) (above : List ℕ) (s : ℕ) (c : Taken) (bs : List ℕ) (c
   ]
 
   mate_there : (a : ℕ) → IsIn a (map mate bs) → HasHalf M a
-  mate_there a i = let r = from_map mate a bs i in subst (HasHalf M) (sym r.2) (half_mate M sound r.0 (first.there r.0 r.1))
+  mate_there a i = let r = from_map mate a bs i in subst (HasHalf M) (sym r.2) (half_mate M r.0 (first.there r.0 r.1))
 
   -- the cap below isn't an upper face
   below_unlisted : (b : ℕ) → IsIn b bs → lists (fs ++ u ∷ []) (c.face + 1) ≡ false
@@ -113,9 +107,9 @@ module _ (M : Model) (above : List ℕ) (s : ℕ) (c : Taken) (bs : List ℕ) (c
 
     old_between : HasHalf M h → count h (map mate bs) ≡ 0 → count (mate h) (map mate bs) ≡ 0 → IsIn h (halves_in cs)
     old_between t y z =
-        let i : IsIn h (halves_in (bs ∷ cs)) = between.only h t (sym (listed_same h t y) ∙ f) (sym (listed_same (mate h) (half_mate M sound h t) z) ∙ g) in
+        let i : IsIn h (halves_in (bs ∷ cs)) = between.only h t (sym (listed_same h t y) ∙ f) (sym (listed_same (mate h) (half_mate M h t) z) ∙ g) in
         elim (IsIn_or_not h bs) [
-          | inl j ↦ absurd (omega (arith, z, in_map mate h bs j))
+          | inl j ↦ absurd (omega (arith, z, IsIn-map mate h bs j))
           | inr n ↦ omega (arith, i, n, count-append h bs (halves_in cs))
         ]
 
@@ -137,7 +131,7 @@ module _ (M : Model) (above : List ℕ) (s : ℕ) (c : Taken) (bs : List ℕ) (c
   pub still_between : AreBetween (opened_along M above s c bs) (fs ++ (c.face + length bs + 1) ∷ []) (halves_in cs)
   still_between = record {
     below = λ d i. listed_same d (rest_there d i) (no_mate M above s c bs sound free first d (starts_elsewhere M above s bs cs apart d i)) ∙ between.below d (in_rest d i);
-    mates_above = λ d i. listed_same (mate d) (half_mate M sound d (rest_there d i)) (no_mates_mate M above s c bs sound free first d (starts_elsewhere M above s bs cs apart d i)) ∙ between.mates_above d (in_rest d i);
+    mates_above = λ d i. listed_same (mate d) (half_mate M d (rest_there d i)) (no_mates_mate M above s c bs sound free first d (starts_elsewhere M above s bs cs apart d i)) ∙ between.mates_above d (in_rest d i);
     only = λ h t f g. still_only h f g t;
   }
 

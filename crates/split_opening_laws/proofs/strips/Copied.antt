@@ -5,14 +5,15 @@ use Rattle.std.proofs.lemmas.List.{length-map, get_or-map}
 use Rattle.std.proofs.lemmas.List.Sums.{fold-append}
 use Rattle.euler_operators.specs.Table as table
 use Rattle.euler_operators.specs.Model.{Model, tail, point_of}
-use Rattle.shapes.proofs.fresh.Rows.{get-put_other}
+use Rattle.euler_operators.proofs.Tables.{get-put_other}
 use Rattle.shapes.specs.Fresh.{Taken, numbers_after}
 use Rattle.shapes.specs.Rewriting.{renamed}
 use Rattle.shapes.specs.split.Opening.{both_lists, with_copies}
 use Rattle.split_opening_laws.specs.strips.Strips.{copied}
 use Rattle.split_opening_laws.specs.strips.Opened.{CanBeOpened}
-use Rattle.split_opening_laws.proofs.strips.Rows.{numbers_more, length-numbers_after, numbers_at, numbers_above, both_more, both_none, renamed_cases, misses_both, renamed_more}
+use Rattle.split_opening_laws.proofs.strips.Rows.{length-numbers_after, numbers_at, numbers_above, both_more, both_none, renamed_cases, misses_both, renamed_more}
 use Rattle.split_opening_laws.proofs.strips.Cycle as on
+use Rattle.sweeps_laws.proofs.lamina.Lists.{numbers_last}
 
 module _ (M : Model) (above : List ℕ) (s : ℕ) (c : Taken) (bs : List ℕ) (w : CanBeOpened M above s c bs) where
   start_get : (j : ℕ) → j < length bs → get_or (map (tail M) bs) j 0 ≡ tail M (get_or bs j 0)
@@ -49,7 +50,7 @@ module _ (M : Model) (above : List ℕ) (s : ℕ) (c : Taken) (bs : List ℕ) (w
 
   pub copied_next : (i : ℕ) → i < length bs → copied M c bs (suc i) ≡ copied M c bs i ++ (tail M (get_or bs i 0), c.vertex + suc i) ∷ []
   copied_next i lt =
-      ap (both_lists (map (tail M) bs)) (numbers_more c.vertex i)
+      ap (both_lists (map (tail M) bs)) (numbers_last c.vertex i)
       ∙ both_more (map (tail M) bs) (numbers_after c.vertex i) (c.vertex + suc i) (omega (arith, lt, length-map bs (tail M), length-numbers_after c.vertex i))
       ∙ ap (λ x. copied M c bs i ++ (x, c.vertex + suc i) ∷ []) (ap (λ n. get_or (map (tail M) bs) n 0) (length-numbers_after c.vertex i) ∙ start_get i lt)
 

@@ -1,5 +1,5 @@
 -- What is known of a cycle along which a solid can be opened, place by place.
-use Rattle.std.proofs.Common.{◌≡◌, ◌≢◌, ℕ, zero, suc, ◌+◌, ◌-◌, ◌≤◌, ◌<◌, true, false, cond, List, [], ◌∷◌, length, None, is_some, refl, sym, ap, ◌∙◌, subst, arith, ◌⊎◌, inl, inr, true≢false}
+use Rattle.std.proofs.Common.{◌≡◌, ◌≢◌, ℕ, zero, suc, ◌+◌, ◌-◌, ◌≤◌, ◌<◌, true, false, cond, List, [], ◌∷◌, length, is_some, refl, sym, ap, ◌∙◌, subst, arith, ◌⊎◌, inl, inr, true≢false}
 use Rattle.std.specs.Prelude.{map, get_or}
 use Rattle.std.proofs.lemmas.Bool.Decides.{eqb_tells}
 use Rattle.std.proofs.lemmas.List.{length-map, get_or-map}
@@ -8,43 +8,19 @@ use Rattle.euler_operators.proofs.Lists.{tick_same, tick_other}
 use Rattle.euler_operators.proofs.Maps.{from_map}
 use Rattle.euler_operators.proofs.Std.{IsIn-get_or, Contains-from_in, AllPairs-from_apart}
 use Rattle.euler_operators.specs.HalfEdge.{mate, edge_of}
-use Rattle.euler_operators.specs.Table as table
-use Rattle.euler_operators.specs.Table.{Table}
 use Rattle.euler_operators.specs.Model.{Model, tail}
 use Rattle.euler_operators.specs.Sound.{HasHalf}
 use Rattle.euler_operators.proofs.Halves.{mate-mate}
+use Rattle.euler_operators.proofs.Tables.{in_use_within}
+use Rattle.euler_operators.proofs.Models.{mate_there as half_mate}
 use Rattle.euler_operators.specs.Conditions.{face_at, lists}
-use Rattle.euler_laws.proofs.shared.Fans.{half_mate}
-use Rattle.euler_laws.proofs.shared.Listed.{first_listed, rest_listed, listed_cases}
+use Rattle.euler_laws.proofs.shared.Listed.{IsIn-from_listed, listed-from_in}
 use Rattle.shapes.specs.Fresh.{Taken}
 use Rattle.shapes.specs.Prism.{next_place}
 use Rattle.split_opening_laws.specs.strips.StripOps.{place_before}
 use Rattle.split_opening_laws.specs.strips.Opened.{CanBeOpened}
 
 -- ---- lists of numbers
-
-pub listed_in : (n : ℕ) (ns : List ℕ) → lists ns n ≡ true → IsIn n ns
-listed_in n [] l = absurd (true≢false (sym l))
-listed_in n (k ∷ ns) l = elim (listed_cases k n ns l) [
-  | inl e ↦ subst (λ q. IsIn n (q ∷ ns)) e (omega (arith, tick_same n))
-  | inr r ↦ omega (arith, listed_in n ns r)
-]
-
-pub in_listed : (n : ℕ) (ns : List ℕ) → IsIn n ns → lists ns n ≡ true
-in_listed n [] i = absurd (omega (arith, i))
-in_listed n (k ∷ ns) i = elim (eqb_tells n k) [
-  | inl e ↦ subst (λ q. lists (k ∷ ns) q ≡ true) (sym e.1) (first_listed k ns)
-  | inr e ↦ rest_listed k n ns (in_listed n ns (omega (arith, i, tick_other n k e.1)))
-]
-
--- a number in use isn't above those taken
-pub at_most : {X : Type 0} (t : Table X) (n q : ℕ) → ((k : ℕ) → n < k → table.get t k ≡ None) → is_some (table.get t q) ≡ true → q ≤ n
-at_most t n q free there = elim (below q n) [
-  | inl l ↦ l
-  | inr g ↦ absurd (true≢false (sym there ∙ ap is_some (free q g)))
-] where
-  below : (a b : ℕ) → (a ≤ b) ⊎ (b < a)
-  below a b = grind arith
 
 -- ---- places round a list
 
@@ -109,10 +85,10 @@ module _ (M : Model) (above : List ℕ) (s : ℕ) (c : Taken) (bs : List ℕ) (w
   half_there j lt = w.there (half_at j) (half_in j lt)
 
   pub mate_there : (j : ℕ) → j < length bs → HasHalf M (mate_at j)
-  mate_there j lt = half_mate M w.sound (half_at j) (half_there j lt)
+  mate_there j lt = half_mate M (half_at j) (half_there j lt)
 
   pub low_edge : (h : ℕ) → HasHalf M h → edge_of h ≤ c.edge
-  low_edge h there = at_most M.edges c.edge (edge_of h) w.edges_free there
+  low_edge h there = in_use_within M.edges c.edge w.edges_free (edge_of h) there
 
   start_at : (j : ℕ) → j < length bs → get_or (map (tail M) bs) j 0 ≡ tail M (half_at j)
   start_at j lt = get_or-map (tail M) bs j 0 0 lt
@@ -160,7 +136,7 @@ module _ (M : Model) (above : List ℕ) (s : ℕ) (c : Taken) (bs : List ℕ) (w
   -- what is listed as a mate is the mate at a place
   pub mate_place : (h : ℕ) → lists (map mate bs) h ≡ true → (j : ℕ) × (j < length bs) × (h ≡ mate_at j)
   mate_place h l =
-      let r = from_map mate h bs (listed_in h (map mate bs) l) in
+      let r = from_map mate h bs (IsIn-from_listed h (map mate bs) l) in
       let p = Contains-from_in r.0 bs r.1 in
       (p.0, p.1, r.2 ∙ ap mate (sym (same_default bs p.0 r.0 p.1 p.2))) where
         same_default : (xs : List ℕ) (j x : ℕ) → j < length xs → get_or xs j x ≡ x → get_or xs j 0 ≡ x
@@ -169,7 +145,7 @@ module _ (M : Model) (above : List ℕ) (s : ℕ) (c : Taken) (bs : List ℕ) (w
         same_default (y ∷ ys) (suc j) x lt e = same_default ys j x (omega arith) e
 
   pub place_of : (h : ℕ) → IsIn h bs → (j : ℕ) × (j < length bs) × (h ≡ half_at j)
-  place_of h i = let p = mate_place (mate h) (in_listed (mate h) (map mate bs) (mapped bs h i)) in (p.0, p.1, sym (mate-mate h) ∙ ap mate p.2 ∙ mate-mate (half_at p.0)) where
+  place_of h i = let p = mate_place (mate h) (listed-from_in (mate h) (map mate bs) (mapped bs h i)) in (p.0, p.1, sym (mate-mate h) ∙ ap mate p.2 ∙ mate-mate (half_at p.0)) where
     mapped : (xs : List ℕ) (x : ℕ) → IsIn x xs → IsIn (mate x) (map mate xs)
     mapped [] x i = absurd (omega (arith, i))
     mapped (y ∷ ys) x i = elim (eqb_tells x y) [
@@ -178,7 +154,7 @@ module _ (M : Model) (above : List ℕ) (s : ℕ) (c : Taken) (bs : List ℕ) (w
     ]
 
   pub mate_listed : (j : ℕ) → j < length bs → lists (map mate bs) (mate_at j) ≡ true
-  mate_listed j lt = in_listed (mate_at j) (map mate bs) (subst (λ q. IsIn q (map mate bs)) (get_or-map mate bs j 0 0 lt) (IsIn-get_or (map mate bs) j 0 (omega (arith, lt, length-map bs mate))))
+  mate_listed j lt = listed-from_in (mate_at j) (map mate bs) (subst (λ q. IsIn q (map mate bs)) (get_or-map mate bs j 0 0 lt) (IsIn-get_or (map mate bs) j 0 (omega (arith, lt, length-map bs mate))))
 
   -- a below half is no mate
   pub half_no_mate : (j : ℕ) → j < length bs → lists (map mate bs) (half_at j) ≡ false
@@ -197,4 +173,4 @@ module _ (M : Model) (above : List ℕ) (s : ℕ) (c : Taken) (bs : List ℕ) (w
 
   -- a vertex isn't above those taken
   pub low_vertex : (h : ℕ) → HasHalf M h → tail M h ≤ c.vertex
-  low_vertex h there = at_most M.vertices c.vertex (tail M h) w.vertices_free (w.sound.tails_there h there)
+  low_vertex h there = in_use_within M.vertices c.vertex w.vertices_free (tail M h) (w.sound.tails_there h there)

@@ -2,11 +2,9 @@
 use Rattle.std.proofs.Common.{◌≡◌, ◌≢◌, ℕ, suc, ◌+◌, ◌≤◌, ◌<◌, cond, nat_eq, List, [], ◌∷◌, ◌++◌, length, Some, is_some, sym, ap, ◌∙◌, subst, arith, inl, inr}
 use Rattle.std.specs.Prelude.{map, get_or}
 use Rattle.std.specs.Option.{option_map}
-use Rattle.std.proofs.lemmas.Bool.Decides.{eqb_tells}
 use Rattle.std.proofs.lemmas.List.{length-map, get_or-map, map-append}
 use Rattle.euler_operators.specs.Items.{IsIn}
 use Rattle.euler_operators.specs.Rings.{canonical}
-use Rattle.euler_operators.proofs.Lists.{tick_same, tick_other}
 use Rattle.euler_operators.proofs.Maps.{from_map}
 use Rattle.euler_operators.proofs.Rotations.{count-canonical}
 use Rattle.euler_operators.specs.HalfEdge.{mate, edge_of, plus}
@@ -16,22 +14,17 @@ use Rattle.euler_operators.specs.Model.{Model, LoopRow, cycle, holds, loop_of, f
 use Rattle.euler_operators.specs.Sound.{Sound, Has, HasHalf}
 use Rattle.euler_operators.proofs.Halves.{plus_row}
 use Rattle.euler_operators.proofs.Models.{content_row, face_row, in-holds, cycle_there, row_of}
+use Rattle.euler_operators.proofs.Members.{IsIn-map}
+use Rattle.euler_operators.proofs.Tables.{in_use_within}
 use Rattle.euler_operators.specs.Conditions.{face_at}
 use Rattle.shapes.specs.Fresh.{Taken, numbers_after}
 use Rattle.shapes.specs.Rewriting.{rewritten_row, renamed}
 use Rattle.shapes.specs.split.Opening.{both_lists}
 use Rattle.split_opening_laws.specs.strips.Strips.{with_rows, put_out}
 use Rattle.split_opening_laws.specs.strips.Opened.{CanBeOpened}
-use Rattle.split_opening_laws.proofs.strips.Rows.{rows_at, rows_low, numbers_more, length-numbers_after, numbers_at, numbers_above, both_more, renamed_cases, misses_both, renamed_more}
+use Rattle.split_opening_laws.proofs.strips.Rows.{rows_at, rows_low, length-numbers_after, numbers_at, numbers_above, both_more, renamed_cases, misses_both, renamed_more}
 use Rattle.split_opening_laws.proofs.strips.Cycle as on
-use Rattle.split_opening_laws.proofs.strips.Cycle.{at_most}
-
-pub IsIn-map : (f : ℕ → ℕ) (xs : List ℕ) (x : ℕ) → IsIn x xs → IsIn (f x) (map f xs)
-IsIn-map f [] x i = absurd (omega (arith, i))
-IsIn-map f (y ∷ ys) x i = elim (eqb_tells x y) [
-  | inl e ↦ subst (λ q. IsIn (f x) (f q ∷ map f ys)) e.1 (omega (arith, tick_same (f x)))
-  | inr e ↦ omega (arith, IsIn-map f ys x (omega (arith, i, tick_other x y e.1)))
-]
+use Rattle.sweeps_laws.proofs.lamina.Lists.{numbers_last}
 
 -- a half-edge of a low edge is none of a higher one
 pub low_half : (h e n : ℕ) → edge_of h ≤ n → n < e → plus e ≢ h
@@ -70,7 +63,7 @@ module _ (M : Model) (above : List ℕ) (s : ℕ) (c : Taken) (bs : List ℕ) (w
 
   put_next : (i : ℕ) → i < length bs → put_out c bs (suc i) ≡ put_out c bs i ++ (mate (get_or bs i 0), plus (c.edge + suc i)) ∷ []
   put_next i lt =
-      ap (both_lists (map mate bs)) (ap (map plus) (numbers_more c.edge i) ∙ map-append plus (numbers_after c.edge i) ((c.edge + suc i) ∷ []))
+      ap (both_lists (map mate bs)) (ap (map plus) (numbers_last c.edge i) ∙ map-append plus (numbers_after c.edge i) ((c.edge + suc i) ∷ []))
       ∙ both_more (map mate bs) (map plus (numbers_after c.edge i)) (plus (c.edge + suc i)) (omega (arith, lt, length-map bs mate, length_out i))
       ∙ ap (λ x. put_out c bs i ++ (x, plus (c.edge + suc i)) ∷ []) (ap (λ n. get_or (map mate bs) n 0) (length_out i) ∙ mate_get i lt)
 
@@ -90,7 +83,7 @@ module _ (M : Model) (above : List ℕ) (s : ℕ) (c : Taken) (bs : List ℕ) (w
     rewrite = rewritten_row (map (renamed (put_out c bs i)))
 
     pub low_loop : (q : ℕ) → Has M.loops q → q ≤ c.loop
-    low_loop q there = at_most M.loops c.loop q w.loops_free there
+    low_loop q there = in_use_within M.loops c.loop w.loops_free q there
 
     -- the loops that were there
     pub old_loop : (q : ℕ) (x : LoopRow) → table.get M.loops q ≡ Some x → table.get N.loops q ≡ Some (rewritten_row (map (renamed (put_out c bs i))) q x)
@@ -106,7 +99,7 @@ module _ (M : Model) (above : List ℕ) (s : ℕ) (c : Taken) (bs : List ℕ) (w
         let q : ℕ = loop_of M h in
         let at = old_loop q _ (row_of M w.sound h there) in
         let new : ℕ = renamed (put_out c bs i) h in
-        let held : IsIn new (map (renamed (put_out c bs i)) (cycle_of M h)) = IsIn-map (renamed (put_out c bs i)) (cycle_of M h) h (cycle_there M w.sound h there) in
+        let held : IsIn new (map (renamed (put_out c bs i)) (cycle_of M h)) = IsIn-map (renamed (put_out c bs i)) h (cycle_of M h) (cycle_there M w.sound h there) in
         let stands : loop_of N new ≡ q = sound.one_loop new q (ap (holds new) (content_row N q _ at)
         ∙ in-holds new (cycle (canonical (map (renamed (put_out c bs i)) (cycle_of M h)))) (omega (arith, held, count-canonical new (map (renamed (put_out c bs i)) (cycle_of M h))))) in
         (stands, ap (face_of N) stands ∙ face_row N q _ at)

@@ -1,15 +1,14 @@
 -- Rows put at the numbers after one, and renamings by two lists.
-use Rattle.std.proofs.Common.{◌≡◌, ◌≢◌, ℕ, zero, suc, ◌+◌, ◌≤◌, ◌<◌, cond, nat_eq, List, [], ◌∷◌, ◌++◌, length, Option, Some, None, refl, sym, ap, ◌∙◌, subst, arith, ◌⊎◌, inl, inr}
+use Rattle.std.proofs.Common.{◌≡◌, ◌≢◌, ℕ, zero, suc, ◌+◌, ◌≤◌, ◌<◌, cond, nat_eq, List, [], ◌∷◌, ◌++◌, length, Some, refl, sym, ap, ◌∙◌, subst, arith, ◌⊎◌, inl, inr}
 use Rattle.std.specs.Prelude.{get_or}
-use Rattle.std.specs.Option.{option_map}
-use Rattle.std.proofs.lemmas.Bool.Decides.{nat_tests, eqb_tells}
+use Rattle.std.proofs.lemmas.Bool.Decides.{eqb_tells}
+use Rattle.std.proofs.lemmas.Bool.{ne_eqb}
 use Rattle.euler_operators.specs.Items.{IsIn}
 use Rattle.euler_operators.proofs.Lists.{tick_same, tick_other}
 use Rattle.euler_operators.specs.Table as table
-use Rattle.euler_operators.specs.Table.{Table, same_table, get-map_rows}
-use Rattle.euler_operators.proofs.Tables.{map-put}
-use Rattle.euler_laws.proofs.shared.Goes.{differs}
-use Rattle.shapes.proofs.fresh.Rows.{get-put_here, get-put_other}
+use Rattle.euler_operators.specs.Table.{Table}
+use Rattle.euler_operators.proofs.Tables.{map-put, get-put_here, get-put_other}
+use Rattle.euler_operators.proofs.Tests.{nat_eq_turned}
 use Rattle.shapes.specs.Fresh.{numbers_after}
 use Rattle.shapes.specs.Rewriting.{renamed}
 use Rattle.shapes.specs.split.Opening.{both_lists}
@@ -52,18 +51,7 @@ pub rows_map : {X : Type 0} (f : ℕ → X → X) (t : Table X) (k : ℕ) (row :
 rows_map f t k row zero = refl
 rows_map f t k row (suc i) = map-put f (with_rows t k row i) (k + suc i) (row i) ∙ ap (λ s. table.put s (k + suc i) (f (k + suc i) (row i))) (rows_map f t k row i)
 
--- two rewritings that agree on the rows that are there
-pub map_alike : {X : Type 0} (f g : ℕ → X → X) (t : Table X) → ((q : ℕ) (x : X) → table.get t q ≡ Some x → f q x ≡ g q x) → table.map_rows f t ≡ table.map_rows g t
-map_alike {X = X} f g t e = same_table _ _ (λ q. get-map_rows f t q ∙ on q (table.get t q) (e q) ∙ sym (get-map_rows g t q)) where
-  on : (q : ℕ) (o : Option X) → ((x : X) → o ≡ Some x → f q x ≡ g q x) → option_map (f q) o ≡ option_map (g q) o
-  on q None h = refl
-  on q (Some x) h = ap Some (h x refl)
-
 -- ---- numbers after one
-
-pub numbers_more : (k i : ℕ) → numbers_after k (suc i) ≡ numbers_after k i ++ (k + suc i) ∷ []
-numbers_more k zero = refl
-numbers_more k (suc i) = ap (λ t. (k + 1) ∷ t) (numbers_more (k + 1) i ∙ ap (λ n. numbers_after (k + 1) i ++ n ∷ []) (let e : k + 1 + suc i ≡ k + suc (suc i) = omega arith in e))
 
 pub length-numbers_after : (k i : ℕ) → length (numbers_after k i) ≡ i
 length-numbers_after k zero = refl
@@ -122,16 +110,13 @@ misses_both x [] ys e = tt
 misses_both x (z ∷ xs) [] e = tt
 misses_both x (z ∷ xs) (y ∷ ys) e = (e y (omega (arith, tick_same y)), misses_both x xs ys (λ q i. e q (omega (arith, i))))
 
-turned : (a b : ℕ) → nat_eq a b ≡ nat_eq b a
-turned a b = grind (arith, nat_tests)
-
 -- one pair more: what would stay x goes on to y
 pub renamed_more : (ps : List (ℕ × ℕ)) (x y u : ℕ) → Misses x ps → renamed (ps ++ (x, y) ∷ []) u ≡ cond (nat_eq (renamed ps u) x) y (renamed ps u)
-renamed_more [] x y u m = ap (λ b. cond b y u) (turned x u)
+renamed_more [] x y u m = ap (λ b. cond b y u) (nat_eq_turned x u)
 renamed_more (p ∷ ps) x y u m = elim (eqb_tells p.0 u) [
   | inl e ↦
       ap (λ b. cond b p.1 (renamed (ps ++ (x, y) ∷ []) u)) e.0
-      ∙ sym (ap (λ v. cond (nat_eq v x) y v) (ap (λ b. cond b p.1 (renamed ps u)) e.0) ∙ ap (λ b. cond b y p.1) (differs p.1 x m.0))
+      ∙ sym (ap (λ v. cond (nat_eq v x) y v) (ap (λ b. cond b p.1 (renamed ps u)) e.0) ∙ ap (λ b. cond b y p.1) (ne_eqb p.1 x m.0))
   | inr e ↦
       ap (λ b. cond b p.1 (renamed (ps ++ (x, y) ∷ []) u)) e.0
       ∙ renamed_more ps x y u m.1

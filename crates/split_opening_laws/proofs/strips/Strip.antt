@@ -12,27 +12,26 @@ use Rattle.euler_operators.specs.Table as table
 use Rattle.euler_operators.specs.Table.{Table}
 use Rattle.euler_operators.specs.Model.{Model, LoopContent, LoopRow, cycle, holds, tail, tail_in, no_edge, no_face, loop_of, solid_of, cycle_of, after, is_number}
 use Rattle.euler_operators.specs.Sound.{Sound, Has, HasHalf}
-use Rattle.euler_operators.proofs.Halves.{code-half, mate-mate}
+use Rattle.euler_operators.proofs.Halves.{code-half, mate-mate, mate_plus}
 use Rattle.euler_operators.proofs.Models.{row_of, in-holds, none-holds, not_held, other_loop, cycle_there, cycle_sound}
+use Rattle.euler_operators.proofs.Tables.{in_use_within, map_alike}
 use Rattle.euler_operators.specs.Conditions.{face_at, first_false}
 use Rattle.euler_operators.specs.Effect.{effect, mef, where_held}
 use Rattle.euler_laws.proofs.shared.Fans.{half_after, loop_after}
-use Rattle.euler_laws.proofs.shared.Rows.{where_held_none, where_held_there, one_row}
+use Rattle.euler_laws.proofs.shared.Rows.{where_held_none, where_held_there, one_row, edge_row_plus}
 use Rattle.euler_laws.proofs.shared.Same.{map_twice}
-use Rattle.euler_laws.proofs.shared.Undo.{mate_plus}
 use Rattle.euler_laws.proofs.mef.MefSound.{MefGoes}
 use Rattle.euler_laws.proofs.mef.Kef.{mef_accepted}
 use Rattle.sweeps_laws.proofs.prism.Sides.{fits}
-use Rattle.sweeps_laws.proofs.prism.Steps.{edge_plus, row_plus}
+use Rattle.sweeps_laws.proofs.prism.Steps.{edge_plus}
 use Rattle.shapes.specs.Fresh.{Taken}
 use Rattle.shapes.specs.Rewriting.{rewritten_row, renamed}
 use Rattle.shapes.proofs.glue.Swapped.{row_stays, row_turns}
 use Rattle.split_opening_laws.specs.strips.Strips.{with_rows, put_out, strip_face, strip_loop, strip_edge, strips_cut}
 use Rattle.split_opening_laws.specs.strips.StripOps.{cut_strip}
 use Rattle.split_opening_laws.specs.strips.Opened.{CanBeOpened}
-use Rattle.split_opening_laws.proofs.strips.Rows.{rows_low, rows_high, rows_same, rows_map, map_alike}
+use Rattle.split_opening_laws.proofs.strips.Rows.{rows_low, rows_high, rows_same, rows_map}
 use Rattle.split_opening_laws.proofs.strips.Cycle as on
-use Rattle.split_opening_laws.proofs.strips.Cycle.{at_most}
 use Rattle.split_opening_laws.proofs.strips.Places as places
 
 -- an item of a ring of others, cut before the next one
@@ -74,7 +73,7 @@ module _ (M : Model) (above : List ℕ) (s : ℕ) (c : Taken) (bs : List ℕ) (w
     pub cut_solid : (f : ℕ) → Has M.faces f → solid_of (strips_cut M s c bs i) f ≡ solid_of M f
     unfolding solid_of
     cut_solid f there = ap (λ t. (unwrap_or (table.get t f) no_face).solid) cut_faces
-        ∙ ap (λ o. (unwrap_or o no_face).solid) (rows_low M.faces c.face (strip_face s c) i f (at_most M.faces c.face f w.faces_free there))
+        ∙ ap (λ o. (unwrap_or o no_face).solid) (rows_low M.faces c.face (strip_face s c) i f (in_use_within M.faces c.face w.faces_free f there))
 
   -- ---- one strip more
 
@@ -222,7 +221,7 @@ module _ (M : Model) (above : List ℕ) (s : ℕ) (c : Taken) (bs : List ℕ) (w
     mef_is = λ n. record M {
       faces = table.put (with_rows M.faces c.face (strip_face s c) i) f (record { solid = solid_is n; outer = l });
       loops = loops_next n;
-      edges = table.put (with_rows M.edges c.edge (strip_edge M bs) i) (edge_plus e n) ((row_plus e (tail N a) (tail N k) ∙ (λ j. record { plus_tail = tail_a j; minus_tail = tail_k j })) n);
+      edges = table.put (with_rows M.edges c.edge (strip_edge M bs) i) (edge_plus e n) ((edge_row_plus e (tail N a) (tail N k) ∙ (λ j. record { plus_tail = tail_a j; minus_tail = tail_k j })) n);
     }
 
     pub strip_is : effect N (cut_strip N c bs i) ≡ strips_cut M s c bs (suc i)

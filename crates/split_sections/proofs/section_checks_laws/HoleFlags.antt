@@ -89,7 +89,3 @@ few_holes (c ∷ cs) = go c.hole (few_holes cs) where
   go : (b : Bool) → length (filter (λ (c : Cycle). c.hole) cs) ≤ length cs → length (cond b (c ∷ filter (λ (c : Cycle). c.hole) cs) (filter (λ (c : Cycle). c.hole) cs)) ≤ length (c ∷ cs)
   go true l = omega (arith, l)
   go false l = omega (arith, l)
-
-pub no_items : {A : Type 0} (xs : List A) → length xs ≡ 0 → xs ≡ []
-no_items [] e = refl
-no_items (x ∷ xs) e = absurd (omega (arith, e))

@@ -1,45 +1,24 @@
 -- The conditions that are tested once the faces are drawn, part by part.
-use Rattle.std.proofs.Common.{◌≡◌, ℕ, ◌+◌, ◌*◌, Bool, true, false, cond, not, nat_eq, List, length, Option, Some, None, is_some, Result, Ok, Err, is_ok, refl, sym, ap, subst, ◌∙◌, true≢false}
+use Rattle.std.proofs.Common.{◌≡◌, ℕ, ◌+◌, ◌*◌, Bool, true, false, cond, not, nat_eq, List, length, Option, Some, None, is_some, Result, Ok, Err, refl, sym, ap, subst, ◌∙◌, true≢false}
+use Rattle.std.proofs.lemmas.Bool.{eq-eqb, eqb-true}
 use Rattle.euler_operators.specs.declared.Plane.{Plane}
 use Rattle.euler_operators.specs.Model.{Model}
-use Rattle.euler_operators.specs.Conditions.{first_refusal, verdict}
+use Rattle.euler_operators.specs.Conditions.{first_refusal}
 use Rattle.euler_operators.specs.declared.Refusal.{Refusal}
 use Rattle.euler_operators.specs.declared.Why.TheVariants.{CutCrossed, BranchedVertex, SectionHoles}
-use Rattle.euler_laws.proofs.shared.Goes.{equal, equals}
 use Rattle.shapes.specs.Fresh.{Taken, numbers_left}
 use Rattle.solid_measure.specs.solid_checks.Least.{found}
 use Rattle.shapes.specs.split.Drawing.{Drawing}
 use Rattle.shapes.specs.split.Sides.{faces_above}
 use Rattle.shapes.specs.split.Section.{below_halves, section_ends, least_branched, section_cycles, has_stray_hole}
 use Rattle.shapes.specs.split.Split.{section_conditions, later_conditions}
+use Rattle.split_checks.proofs.begin_checks_laws.Stages.{found_number}
 
 pub found_none : (n : ℕ) → None ≡ found n → n ≡ 0
 found_none n e = go (nat_eq n 0) refl e where
   go : (b : Bool) → nat_eq n 0 ≡ b → None ≡ cond b None (Some n) → n ≡ 0
-  go true t e = equal n 0 t
+  go true t e = eqb-true n 0 t
   go false t e = absurd (true≢false (sym (ap is_some e)))
-
-found_some : (n v : ℕ) → Some v ≡ found n → (nat_eq n 0 ≡ false) × (n ≡ v)
-found_some n v e = go (nat_eq n 0) refl e where
-  value : Option ℕ → ℕ
-  value None = 0
-  value (Some k) = k
-
-  go : (b : Bool) → nat_eq n 0 ≡ b → Some v ≡ cond b None (Some n) → (nat_eq n 0 ≡ false) × (n ≡ v)
-  go true t e = absurd (true≢false (ap is_some e))
-  go false t e = (t, sym (ap value e))
-
--- a verdict tells whether there is a refusal, and which
-pub passed : (o : Option Refusal) (u : Unit {0}) → Ok u ≡ verdict o → o ≡ None
-passed None u e = refl
-passed (Some r) u e = absurd (true≢false (ap is_ok e))
-
-pub failed : (o : Option Refusal) (r : Refusal) → Err r ≡ verdict o → o ≡ Some r
-failed None r e = absurd (true≢false (sym (ap is_ok e)))
-failed (Some q) r e = ap Some (sym (ap inside e)) where
-  inside : Result (Unit {0}) Refusal → Refusal
-  inside (Ok u) = r
-  inside (Err x) = x
 
 module _ (M : Model) (s : ℕ) (p : Plane) (c : Taken) (bs : List ℕ) where
   abbrev numbers : Option Refusal
@@ -54,12 +33,12 @@ module _ (M : Model) (s : ℕ) (p : Plane) (c : Taken) (bs : List ℕ) where
 
   pub branched : (v : ℕ) → Some v ≡ found (least_branched M (section_ends M bs)) → first_refusal (section_conditions M s p c bs) ≡ Some (record { why = BranchedVertex; number = v })
   branched v e =
-      let r = found_some (least_branched M (section_ends M bs)) v e in
+      let r = found_number (least_branched M (section_ends M bs)) v e in
       whole ∙ ap (λ b. cond b cycles (Some (record { why = BranchedVertex; number = least_branched M (section_ends M bs) }))) r.0 ∙ ap (λ n. Some (record { why = BranchedVertex; number = n })) r.1
 
   module _ (none : least_branched M (section_ends M bs) ≡ 0) where
     to_cycles : first_refusal (section_conditions M s p c bs) ≡ cycles
-    to_cycles = whole ∙ ap (λ b. cond b cycles (Some (record { why = BranchedVertex; number = least_branched M (section_ends M bs) }))) (equals (least_branched M (section_ends M bs)) 0 none)
+    to_cycles = whole ∙ ap (λ b. cond b cycles (Some (record { why = BranchedVertex; number = least_branched M (section_ends M bs) }))) (eq-eqb (least_branched M (section_ends M bs)) 0 none)
 
     pub stray : has_stray_hole M p (section_cycles M bs) ≡ true → first_refusal (section_conditions M s p c bs) ≡ Some (record { why = SectionHoles; number = s })
     stray e = to_cycles ∙ ap (λ b. cond (not b) numbers (Some (record { why = SectionHoles; number = s }))) e

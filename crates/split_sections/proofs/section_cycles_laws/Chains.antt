@@ -7,6 +7,7 @@ use Rattle.std.proofs.lemmas.List.{append_assoc, append-nil, map-append}
 use Rattle.std.specs.Prelude.{take}
 use Rattle.euler_operators.specs.Items.{count}
 use Rattle.euler_operators.proofs.Lists.{tick_same, count-append}
+use Rattle.euler_operators.proofs.Tests.{number_tied}
 use Rattle.euler_operators.specs.declared.HalfEdge.{HalfEdge}
 use Rattle.euler_operators.specs.HalfEdge.{code}
 use Rattle.euler_operators.specs.Model.{Model, tail}
@@ -14,9 +15,6 @@ use Rattle.euler_operators.specs.Sound.{HasHalf}
 use Rattle.shapes.specs.Fresh.{first_such}
 use Rattle.split_sections.specs.section_cycles.Halves.{AreThere}
 use Rattle.split_sections.specs.section_cycles.Starts.{code_or_none, half_at, AreStarts}
-
-number_tied : (m n : ℕ) → is_eq (nat_cmp m n) ≡ nat_eq m n
-number_tied m n = grind arith
 
 -- of all half-edges these are left, and the others are in the map
 pub record Placed (M : Model) (all left : List ℕ) (starts : BTreeMap ℕ HalfEdge) : Type 0 where

@@ -3,6 +3,7 @@ use Rattle.std.proofs.Common.{◌≡◌, ℕ, ◌≤◌, Bool, true, false, cond
 use Rattle.std.specs.Ordering.{nat_cmp, is_eq}
 use Rattle.euler_operators.specs.Items.{IsIn}
 use Rattle.euler_operators.proofs.Lists.{tick_same}
+use Rattle.euler_operators.proofs.Tests.{number_tied}
 use Rattle.euler_operators.specs.declared.HalfEdge.{HalfEdge}
 use Rattle.euler_operators.specs.HalfEdge.{code, plus, minus}
 use Rattle.euler_operators.specs.Conditions.{lists}
@@ -25,9 +26,6 @@ first_low hs d l low =
 
 pub others_low : (hs : List HalfEdge) (d : HalfEdge) → 1 ≤ length hs → AreLow (map code hs) → AreLow (map code (others hs))
 others_low hs d l low b i = low b (subst (λ (ks : List HalfEdge). IsIn b (map code ks)) (sym (parts hs d l)) (omega (arith, i)))
-
-number_tied : (m n : ℕ) → is_eq (nat_cmp m n) ≡ nat_eq m n
-number_tied m n = grind arith
 
 -- the first is met now
 pub one_met : (hs : List HalfEdge) (d : HalfEdge) → 1 ≤ length hs → (b k : ℕ) (old new all : Bool) → k ≡ code (slice_index_or hs 0 d) → new ≡ cond (is_eq (nat_cmp k b)) true old

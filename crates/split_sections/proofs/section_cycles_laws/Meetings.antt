@@ -4,18 +4,19 @@ use Rattle.std.specs.List.Sorted.{IsPermutation, IsSorted, IsNonDecreasing}
 use Rattle.std.specs.Ordering.{nat_cmp}
 use Rattle.std.specs.List.{sum_by}
 use Rattle.std.proofs.lemmas.Bool.Decides.{nat_tests}
-use Rattle.std.proofs.lemmas.List.Sorted.{sum_by-IsPermutation, IsNonDecreasingBy-from_sort}
+use Rattle.std.proofs.lemmas.List.Sorted.{IsNonDecreasingBy-from_sort}
 use Rattle.std.proofs.lemmas.List.Sums.{sum_by-cons}
 use Rattle.euler_operators.specs.declared.Point.{Point}
 use Rattle.euler_operators.specs.Items.{tick, count, IsIn, SameItems}
 use Rattle.euler_operators.proofs.Lists.{tick_same, count-append, IsIn_or_not}
 use Rattle.euler_operators.proofs.Maps.{from_map}
+use Rattle.euler_operators.proofs.Std.{SameItems-from_permutation}
+use Rattle.euler_operators.proofs.Models.{mate_there}
 use Rattle.euler_operators.specs.declared.HalfEdge.{HalfEdge}
 use Rattle.euler_operators.specs.HalfEdge.{code, mate}
 use Rattle.euler_operators.specs.Table as table
 use Rattle.euler_operators.specs.Model.{Model, tail, is_number}
 use Rattle.euler_operators.specs.Sound.{Sound, HasHalf, Has}
-use Rattle.euler_laws.proofs.shared.Fans.{half_mate}
 use Rattle.solid_walks.proofs.face_walks_laws.Above.{AllAbove, all_above_members}
 use Rattle.solid_walks.proofs.face_walks_laws.TableWalks.{passes, member_passing}
 use Rattle.solid_measure.specs.solid_checks.Least.{found, least_such}
@@ -66,9 +67,6 @@ counted : (x : ℕ) (xs : List ℕ) → sum_by (tick x) xs ≡ count x xs
 counted x [] = refl
 counted x (y ∷ ys) = sum_by-cons (tick x) y ys ∙ ap (λ n. tick x y + n) (counted x ys)
 
-moved_same : (xs ys : List ℕ) → IsPermutation xs ys → SameItems xs ys
-moved_same xs ys moved x = sym (counted x xs) ∙ sym (sum_by-IsPermutation (tick x) xs ys moved) ∙ counted x ys
-
 pub sorted_up : (xs : List ℕ) → IsSorted nat_cmp xs → IsNonDecreasing xs
 sorted_up xs sorted = IsNonDecreasingBy-from_sort (λ x. x) xs sorted
 
@@ -76,7 +74,7 @@ module _ (M : Model) (sound : Sound M) (bs : List ℕ) (there : AreThere M bs) w
   end_there : (v : ℕ) → IsIn v (section_ends M bs) → Has M.vertices v
   end_there v i = elim (either (count v (map (tail M) bs)) (count v (map (λ b. tail M (mate b)) bs)) (omega (arith, i, count-append v (map (tail M) bs) (map (λ b. tail M (mate b)) bs)))) [
     | inl j ↦ let r = from_map (tail M) v bs j in subst (Has M.vertices) (sym r.2) (sound.tails_there r.0 (there r.0 r.1))
-    | inr j ↦ let r = from_map (λ b. tail M (mate b)) v bs j in subst (Has M.vertices) (sym r.2) (sound.tails_there (mate r.0) (half_mate M sound r.0 (there r.0 r.1)))
+    | inr j ↦ let r = from_map (λ b. tail M (mate b)) v bs j in subst (Has M.vertices) (sym r.2) (sound.tails_there (mate r.0) (mate_there M r.0 (there r.0 r.1)))
   ] where
     either : (m n : ℕ) → 1 ≤ m + n → (1 ≤ m) ⊎ (1 ≤ n)
     either m n l = grind arith
@@ -106,4 +104,4 @@ module _ (M : Model) (sound : Sound M) (bs : List ℕ) (there : AreThere M bs) w
   pub least_is : (ends sorted : List ℕ) → SameItems ends (section_ends M bs) → IsPermutation ends sorted → least_such (often sorted) sorted ≡ found (least_branched M (section_ends M bs))
   least_is ends sorted same moved =
       one_least (often sorted) (least_such (often sorted) sorted) (found (least_branched M (section_ends M bs))) (least_often sorted)
-      (least_same (λ v. nat_lt 2 (count v (section_ends M bs))) (often sorted) (λ v. ap (nat_lt 2) (sym (same v) ∙ moved_same ends sorted moved v)) (found (least_branched M (section_ends M bs))) branched_least)
+      (least_same (λ v. nat_lt 2 (count v (section_ends M bs))) (often sorted) (λ v. ap (nat_lt 2) (sym (same v) ∙ SameItems-from_permutation ends sorted moved v)) (found (least_branched M (section_ends M bs))) branched_least)

@@ -1,6 +1,5 @@
 -- What an arena answers of the normal of a face that is there.
-use Rattle.std.proofs.Common.{◌≡◌, ℕ, ℤ, ◌≤◌, List, [], ◌∷◌, None, Result, Ok, Err, sym, ap, subst, ◌∙◌, arith}
-use Rattle.euler_operators.specs.declared.Point.{Point}
+use Rattle.std.proofs.Common.{◌≡◌, ℕ, ℤ, List, [], ◌∷◌, None, Result, Ok, Err, sym, ap, subst, ◌∙◌, arith}
 use Rattle.euler_operators.specs.Ranges.{IsVectorWithin, normal_limit}
 use Rattle.euler_operators.specs.Vectors.{vector_of, numbers_of}
 use Rattle.euler_operators.specs.Model.{Model}
@@ -8,13 +7,11 @@ use Rattle.euler_operators.specs.Sound.{Sound, Has}
 use Rattle.euler_operators.specs.Conditions.{need, first_refusal}
 use Rattle.euler_operators.specs.declared.Refusal.{Refusal}
 use Rattle.euler_operators.specs.declared.Why.TheVariants.{NumberRange, NoFace}
+use Rattle.euler_operators.proofs.Magnitudes.{vector_within}
 use Rattle.shapes.specs.Faces.{boundary, loops_of}
 use Rattle.shapes.proofs.walks.FaceLoops.{different_items, loops_of_apart}
 use Rattle.solid_measure.specs.Measure.{normal, answer, face_refusal, area_limit}
 use Rattle.solid_measure.proofs.Areas.{area_limited}
-
-wider : (v : Point) (m n : ℕ) → IsVectorWithin m v → m ≤ n → IsVectorWithin n v
-wider v m n w l = (omega (arith, w.0, l), omega (arith, w.1, l), omega (arith, w.2, l))
 
 abbrev numbers_in : Result (List ℤ) Refusal → List ℤ
 numbers_in (Ok ns) = ns
@@ -23,7 +20,7 @@ numbers_in (Err r) = []
 module _ (M : Model) (sound : Sound M) (f : ℕ) where
   pub normal_limited : IsVectorWithin normal_limit (normal M f)
   unfolding normal boundary
-  normal_limited = wider (normal M f) area_limit normal_limit (area_limited M sound (boundary M f) (different_items M sound (loops_of M f) (loops_of_apart M sound f))) (omega arith)
+  normal_limited = vector_within (normal M f) area_limit normal_limit (area_limited M sound (boundary M f) (different_items M sound (loops_of M f) (loops_of_apart M sound f))) (omega arith)
 
   pub no_refusal : Has M.faces f → face_refusal M f ≡ None
   no_refusal there i = first_refusal (need (sound.faces_fit f there i) NumberRange f ∷ need (there i) NoFace f ∷ [])

@@ -1,41 +1,26 @@
 -- The halves in faces below, sorted by their edges after a walk over faces has met them.
-use Rattle.std.proofs.Common.{◌≡◌, ℕ, suc, ◌+◌, ◌≤◌, ◌<◌, true, ◌&&◌, nat_lt, List, [], ◌∷◌, map, refl, sym, ap, subst, ◌∙◌, arith, true≢false, ◌⊎◌, inl, inr}
-use Rattle.std.specs.List.{sum_by}
+use Rattle.std.proofs.Common.{◌≡◌, ℕ, suc, ◌<◌, true, ◌&&◌, List, [], ◌∷◌, map, refl, sym, ap, subst, ◌∙◌, arith, true≢false, inl, inr}
 use Rattle.std.specs.List.Sorted.{IsPermutation, IsNonDecreasingBy}
-use Rattle.std.proofs.lemmas.Bool.Decides.{nat_tests}
-use Rattle.std.proofs.lemmas.List.Sorted.{sum_by-IsPermutation, IsPermutation-map}
-use Rattle.std.proofs.lemmas.List.Sums.{sum_by-cons}
-use Rattle.euler_operators.specs.Items.{count, tick, IsIn, IsApart, SameItems}
+use Rattle.std.proofs.lemmas.Bool.{lt-ltb}
+use Rattle.std.proofs.lemmas.List.Sorted.{IsPermutation-map}
+use Rattle.euler_operators.specs.Items.{tick, IsIn, IsApart, SameItems}
 use Rattle.euler_operators.proofs.Lists.{tick_same}
 use Rattle.euler_operators.specs.declared.HalfEdge.{HalfEdge}
 use Rattle.euler_operators.specs.HalfEdge.{code, edge_of}
 use Rattle.euler_operators.specs.Model.{Model, faces_of}
 use Rattle.euler_operators.specs.Sound.{Sound}
 use Rattle.euler_operators.proofs.Halves.{edge_of-code, same_edge}
+use Rattle.euler_operators.proofs.Tests.{less_or_same}
+use Rattle.euler_operators.proofs.Std.{SameItems-from_permutation}
 use Rattle.euler_operators.specs.Conditions.{face_at, lists, strictly_rises}
 use Rattle.euler_laws.proofs.shared.RisingLists.{within}
-use Rattle.euler_laws.proofs.shared.Counted.{in_listed, listed_in}
+use Rattle.euler_laws.proofs.shared.Listed.{IsIn-from_listed, listed-from_in}
 use Rattle.solid_measure.proofs.solid_counts_laws.HowMany.{equally_many}
 use Rattle.shapes.specs.split.Section.{below_halves}
 use Rattle.split_opening_laws.specs.cycles.SectionCycles.{IsBelowHalf}
 use Rattle.split_opening_laws.proofs.cycles.BelowHalves.{halves_rise, halves_apart, halves_are, are_halves}
 use Rattle.split_sections.specs.section_edges.BelowHalves.{below_met}
 use Rattle.split_sections.proofs.section_edges_laws.Walked.{met_apart, met_below, below_is_met}
-
--- how often a number stands in a list is a sum
-counted : (x : ℕ) (xs : List ℕ) → sum_by (tick x) xs ≡ count x xs
-counted x [] = refl
-counted x (y ∷ ys) = sum_by-cons (tick x) y ys ∙ ap (λ n. tick x y + n) (counted x ys)
-
--- a list in another order has the same items
-moved_same : (xs ys : List ℕ) → IsPermutation xs ys → SameItems xs ys
-moved_same xs ys moved x = sym (counted x xs) ∙ sym (sum_by-IsPermutation (tick x) xs ys moved) ∙ counted x ys
-
-below : (a b : ℕ) → a < b → nat_lt a b ≡ true
-below a b l = grind (arith, nat_tests)
-
-less_or_same : (a b : ℕ) → a ≤ b → (a < b) ⊎ (a ≡ b)
-less_or_same a b l = grind arith
 
 -- a half of a lesser edge comes first in the order of listings
 lesser_edge : (m n : ℕ) → edge_of m < edge_of n → m < n
@@ -57,7 +42,7 @@ module _ (M : Model) (above : List ℕ) (s : ℕ) where
   rises : (hs : List HalfEdge) → IsNonDecreasingBy (λ h. h.edge) hs → IsApart (map code hs) → ((m : ℕ) → IsIn m (map code hs) → IsBelowHalf M above s m) → strictly_rises (map code hs) ≡ true
   rises [] up apart are = refl
   rises (g ∷ []) up apart are = refl
-  rises (g ∷ h ∷ hs) up apart are = ap (λ b. b && strictly_rises (map code (h ∷ hs))) (below (code g) (code h) first)
+  rises (g ∷ h ∷ hs) up apart are = ap (λ b. b && strictly_rises (map code (h ∷ hs))) (lt-ltb (code g) (code h) first)
       ∙ rises (h ∷ hs) (λ i j d l m. up (suc i) (suc j) d (omega (arith, l)) (omega (arith, m))) (λ z. omega (arith, apart z)) (λ m i. are m (omega (arith, i))) where
         same : g.edge ≡ h.edge → ⊥
         same e =
@@ -71,10 +56,10 @@ module _ (M : Model) (above : List ℕ) (s : ℕ) where
   pub sorted_met : Sound M → (found hs : List HalfEdge) → map code found ≡ below_met M above (faces_of M s) → IsPermutation found hs → IsNonDecreasingBy (λ h. h.edge) hs → map code hs ≡ below_halves M above s
   sorted_met sound found hs walked moved up =
       let ms = map code hs in let bs = below_halves M above s in
-      let same : SameItems (below_met M above (faces_of M s)) ms = subst (λ ks. SameItems ks ms) walked (moved_same (map code found) ms (IsPermutation-map code found hs moved)) in
+      let same : SameItems (below_met M above (faces_of M s)) ms = subst (λ ks. SameItems ks ms) walked (SameItems-from_permutation (map code found) ms (IsPermutation-map code found hs moved)) in
       let apart : IsApart ms = λ x. omega (arith, met_apart M sound above s x, same x) in
       let are : (m : ℕ) → IsIn m ms → IsBelowHalf M above s m = λ m i. met_below M sound above s m (omega (arith, i, same m)) in
       let in_halves : (m : ℕ) → IsIn m ms → IsIn m bs = λ m i. are_halves M above s sound m (are m i) in
       let in_met : (m : ℕ) → IsIn m bs → IsIn m ms = λ m i. omega (arith, same m, below_is_met M sound above s m (halves_are M above s sound m i)) in
-      let w = within ms bs (rises hs up apart are) (halves_rise M above s sound) (λ m l. in_listed m bs (in_halves m (listed_in m ms l))) in
+      let w = within ms bs (rises hs up apart are) (halves_rise M above s sound) (λ m l. listed-from_in m bs (in_halves m (IsIn-from_listed m ms l))) in
       w.1 (equally_many ms bs apart (halves_apart M above s sound) in_halves in_met)

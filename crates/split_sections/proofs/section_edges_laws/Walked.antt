@@ -1,7 +1,7 @@
 -- The halves in faces below that a walk over the faces of a solid meets are the below halves of its section.
 use Rattle.std.specs.Prelude.{filter}
-use Rattle.std.proofs.Common.{◌≡◌, ℕ, Bool, true, false, not, ◌&&◌, List, [], ◌∷◌, ◌++◌, refl, sym, ap, subst, ◌∙◌, arith, inl, inr}
-use Rattle.std.proofs.lemmas.Bool.{and_parts}
+use Rattle.std.proofs.Common.{◌≡◌, ℕ, Bool, not, ◌&&◌, List, [], ◌∷◌, ◌++◌, refl, sym, ap, subst, ◌∙◌, arith, inl, inr}
+use Rattle.std.proofs.lemmas.Bool.{and_parts, not-true}
 use Rattle.std.proofs.lemmas.Bool.Decides.{eqb_tells}
 use Rattle.std.proofs.lemmas.List.Elements.{filter-append}
 use Rattle.euler_operators.specs.Items.{count, IsIn, IsApart}
@@ -9,16 +9,16 @@ use Rattle.euler_operators.proofs.Lists.{count-append, tick_other}
 use Rattle.euler_operators.specs.HalfEdge.{mate}
 use Rattle.euler_operators.specs.Model.{Model, items_of, content, loop_of, faces_of}
 use Rattle.euler_operators.specs.Sound.{Sound}
-use Rattle.euler_operators.proofs.Models.{cycle_there}
+use Rattle.euler_operators.proofs.Models.{cycle_there, loop_there}
+use Rattle.euler_operators.proofs.Members.{IsIn-filter}
 use Rattle.euler_operators.specs.Conditions.{face_at, lists}
-use Rattle.euler_conditions.proofs.Known.{loop_there}
 use Rattle.shapes.specs.Faces.{items_in, loops_of, boundary}
+use Rattle.split_checks.proofs.cut_places_laws.Lists.{of_picked, picked_apart}
+use Rattle.split_opening_laws.specs.cycles.SectionCycles.{IsBelowHalf}
+use Rattle.split_sections.specs.section_edges.BelowHalves.{is_below, below_met}
 use Rattle.shapes.specs.Walks.{loops_in}
 use Rattle.shapes.proofs.walks.FaceLoops.{different_items, items_counted, items_there, items_joined}
 use Rattle.shapes.proofs.walks.SolidFaces.{solid_loops, all_loops_apart, loop_in_solid, solid_has_loop}
-use Rattle.split_checks.proofs.cut_places_laws.Lists.{of_picked, in_picked, picked_apart}
-use Rattle.split_opening_laws.specs.cycles.SectionCycles.{IsBelowHalf}
-use Rattle.split_sections.specs.section_edges.BelowHalves.{is_below, below_met}
 
 -- an item of a loop stands among the items of some loops with it
 item_of : (M : Model) (ls : List ℕ) (l x : ℕ) → IsIn l ls → IsIn x (items_of (content M l)) → IsIn x (items_in M ls)
@@ -27,10 +27,6 @@ item_of M (k ∷ ls) l x i j = elim (eqb_tells l k) [
   | inl e ↦ omega (arith, count-append x (items_of (content M k)) (items_in M ls), j, ap (λ m. count x (items_of (content M m))) e.1)
   | inr n ↦ omega (arith, count-append x (items_of (content M k)) (items_in M ls), item_of M ls l x (omega (arith, i, tick_other l k n.1)) j)
 ]
-
-is_false : (b : Bool) → not b ≡ true → b ≡ false
-is_false true e = sym e
-is_false false e = refl
 
 module _ (M : Model) (sound : Sound M) (above : List ℕ) (s : ℕ) where
   abbrev halves : List ℕ
@@ -62,11 +58,11 @@ module _ (M : Model) (sound : Sound M) (above : List ℕ) (s : ℕ) where
       record {
         there = items_there M sound (solid_loops M sound s) h o.0;
         of_solid = (loop_in_solid M sound s (loop_of M h) (omega (arith, o.0, items_counted M sound (solid_loops M sound s) h))).1;
-        below = is_false (lists above (face_at M h)) b.0;
+        below = not-true (lists above (face_at M h)) b.0;
         mate_above = b.1;
       }
 
   pub below_is_met : (h : ℕ) → IsBelowHalf M above s h → IsIn h met
   below_is_met h w =
       let i = item_of M (solid_loops M sound s) (loop_of M h) h (solid_has_loop M sound s (loop_of M h) (loop_there M sound h w.there) w.of_solid) (cycle_there M sound h w.there) in
-      subst (IsIn h) (sym met_is) (in_picked test h halves i (ap (λ b. not b && lists above (face_at M (mate h))) w.below ∙ w.mate_above))
+      subst (IsIn h) (sym met_is) (IsIn-filter test h halves i (ap (λ b. not b && lists above (face_at M (mate h))) w.below ∙ w.mate_above))

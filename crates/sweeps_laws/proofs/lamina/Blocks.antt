@@ -4,6 +4,7 @@ use Rattle.std.specs.Ordering.{int_eq}
 use Rattle.std.specs.Cmp.{signed_Decides}
 use Rattle.std.proofs.Common.{◌≡◌, ◌≢◌, ℕ, zero, suc, ◌+◌, ◌*◌, ◌≤◌, ◌<◌, ℤ, pos, negsuc, ◌+ℤ◌, Bool, true, false, cond, not, nat_eq, nat_le, ◌&&◌, ◌||◌, List, [], ◌∷◌, ◌++◌, Some, None, is_some, unwrap_or, refl, sym, ap, ◌∙◌, arith, true≢false, ◌⊎◌, inl, inr}
 use Rattle.std.proofs.lemmas.Bool.Decides.{nat_tests, eqb_tells}
+use Rattle.std.proofs.lemmas.Bool.{eq-eqb}
 use Rattle.std.proofs.lemmas.Int.{ints}
 use Rattle.euler_operators.specs.declared.Point.{Point}
 use Rattle.euler_operators.specs.Points.{is_coordinate, is_in_range}
@@ -16,11 +17,13 @@ use Rattle.euler_operators.specs.Model.{Model, cycle, FaceRow, LoopRow, EdgeRow,
 use Rattle.euler_operators.specs.Sound.{Sound}
 use Rattle.euler_operators.proofs.Halves.{plus_row}
 use Rattle.euler_operators.proofs.Models.{content_row, face_row, tail_row}
-use Rattle.euler_operators.proofs.Tables.{all_where_none, first_where_zero}
+use Rattle.euler_operators.proofs.Tables.{all_where_none, first_where_zero, get-put_here, get-put_other}
+use Rattle.euler_operators.proofs.Tests.{and_first, and_second, none_but, less_still}
+use Rattle.euler_operators.proofs.Vectors.{add_none}
 use Rattle.euler_operators.specs.Conditions.{Condition, need, never, first_refusal, numbers_in_range, is_lone, lists}
 use Rattle.euler_operators.specs.declared.Why.TheVariants.{NoFace, ZeroSweep, LoneLoop, PointRange}
-use Rattle.euler_laws.proofs.shared.Goes.{all_hold, none_refuses, equals}
-use Rattle.shapes.proofs.fresh.Rows.{at_most_greatest, greatest-put_last, get-put_here, get-put_other, get-put_cases}
+use Rattle.euler_laws.proofs.shared.Goes.{all_hold, none_refuses}
+use Rattle.shapes.proofs.fresh.Rows.{at_most_greatest, greatest-put_last, get-put_cases}
 use Rattle.shapes.proofs.fresh.Tests.{Left, numbers_are_left, left_numbers_hold, number_fits}
 use Rattle.shapes.specs.Faces.{corners, loops_of, vertices_in, vertices_on, least_lone}
 use Rattle.shapes.specs.Fresh.{Taken, taken_in, numbers_left, numbers_after, no_such, first_such}
@@ -33,29 +36,18 @@ use Rattle.sweeps_laws.proofs.lamina.Steps.{greatest-with_path, greatest-with_po
 
 -- ---- coordinates
 
-add_none : (a : ℤ) → a +ℤ pos 0 ≡ a
-add_none a = omega (arith, ints)
-
 none_twice : (a : ℤ) → (a +ℤ pos 0) +ℤ pos 0 ≡ a
 none_twice a = omega (arith, ints)
 
 none_then : (a b : ℤ) → (a +ℤ pos 0) +ℤ b ≡ a +ℤ b
 none_then a b = omega (arith, ints)
 
-and_left : (a b : Bool) → (a && b) ≡ true → a ≡ true
-and_left true b e = refl
-and_left false b e = absurd (true≢false (sym e))
-
-and_right : (a b : Bool) → (a && b) ≡ true → b ≡ true
-and_right true b e = e
-and_right false b e = absurd (true≢false (sym e))
-
-grown_other : (x u : ℤ) → int_le (pos 1) u ≡ true → x +ℤ u ≢ x
+pub grown_other : (x u : ℤ) → int_le (pos 1) u ≡ true → x +ℤ u ≢ x
 grown_other x (pos zero) l e = absurd (true≢false (sym l))
 grown_other x (pos (suc n)) l e = absurd (omega (arith, ints))
 grown_other x (negsuc n) l e = absurd (true≢false (sym l))
 
-other_number : (x y : ℤ) → x ≢ y → int_eq x y ≡ false
+pub other_number : (x y : ℤ) → x ≢ y → int_eq x y ≡ false
 other_number x y ne = go (int_eq x y) refl where
   go : (b : Bool) → int_eq x y ≡ b → int_eq x y ≡ false
   go true e = absurd (ne ((signed_Decides x y).0 e))
@@ -70,10 +62,10 @@ no_end true true = refl
 no_end true false = refl
 no_end false b = refl
 
-other_x : (p q : Point) → p.x ≢ q.x → same_point p q ≡ false
+pub other_x : (p q : Point) → p.x ≢ q.x → same_point p q ≡ false
 other_x p q ne = ap (λ b. b && int_eq p.y q.y && int_eq p.z q.z) (other_number p.x q.x ne)
 
-other_y : (p q : Point) → p.y ≢ q.y → same_point p q ≡ false
+pub other_y : (p q : Point) → p.y ≢ q.y → same_point p q ≡ false
 other_y p q ne = ap (λ b. int_eq p.x q.x && b && int_eq p.z q.z) (other_number p.y q.y ne) ∙ no_and (int_eq p.x q.x) (int_eq p.z q.z)
 
 other_z : (p q : Point) → p.z ≢ q.z → same_point p q ≡ false
@@ -102,23 +94,23 @@ ranges M s p dx dy dz e =
     let near = w.1.1.1.1.1.0 in
     let far = w.1.1.1.1.1.1.0 in
     record {
-      px = and_left (is_coordinate p.x) _ near;
-      py = and_left (is_coordinate p.y) _ (and_right (is_coordinate p.x) _ near);
-      pz = and_right (is_coordinate p.y) _ (and_right (is_coordinate p.x) _ near);
-      qx = and_left (is_coordinate (p.x +ℤ dx)) _ far;
-      qy = and_left (is_coordinate (p.y +ℤ dy)) _ (and_right (is_coordinate (p.x +ℤ dx)) _ far);
-      qz = and_right (is_coordinate (p.y +ℤ dy)) _ (and_right (is_coordinate (p.x +ℤ dx)) _ far);
+      px = and_first (is_coordinate p.x) _ near;
+      py = and_first (is_coordinate p.y) _ (and_second (is_coordinate p.x) _ near);
+      pz = and_second (is_coordinate p.y) _ (and_second (is_coordinate p.x) _ near);
+      qx = and_first (is_coordinate (p.x +ℤ dx)) _ far;
+      qy = and_first (is_coordinate (p.y +ℤ dy)) _ (and_second (is_coordinate (p.x +ℤ dx)) _ far);
+      qz = and_second (is_coordinate (p.y +ℤ dy)) _ (and_second (is_coordinate (p.x +ℤ dx)) _ far);
     }
 
 -- ---- the lamina of the base
 
-fewer : (a n m : ℕ) → m ≤ n → nat_le (a + n) 1000000 ≡ true → nat_le (a + m) 1000000 ≡ true
+pub fewer : (a n m : ℕ) → m ≤ n → nat_le (a + n) 1000000 ≡ true → nat_le (a + m) 1000000 ≡ true
 fewer a n m l e = grind (arith, nat_tests)
 
-all_near : (a b g h : Point) → is_in_range a ≡ true → is_in_range b ≡ true → is_in_range g ≡ true → is_in_range h ≡ true → first_far 0 (a ∷ b ∷ g ∷ h ∷ []) ≡ 0
+pub all_near : (a b g h : Point) → is_in_range a ≡ true → is_in_range b ≡ true → is_in_range g ≡ true → is_in_range h ≡ true → first_far 0 (a ∷ b ∷ g ∷ h ∷ []) ≡ 0
 all_near a b g h r s t u = λ i. cond (r i) (cond (s i) (cond (t i) (cond (u i) 0 4) 3) 2) 1
 
-none_repeated : (a b g h : Point) → same_point b a ≡ false → same_point g a ≡ false → same_point g b ≡ false → same_point h a ≡ false → same_point h b ≡ false → same_point h g ≡ false →
+pub none_repeated : (a b g h : Point) → same_point b a ≡ false → same_point g a ≡ false → same_point g b ≡ false → same_point h a ≡ false → same_point h b ≡ false → same_point h g ≡ false →
     first_repeated [] 0 (a ∷ b ∷ g ∷ h ∷ []) ≡ 0
 none_repeated a b g h ba ga gb ha hb hg = λ i. cond (ba i || false) 2 (cond (ga i || (gb i || false)) 3 (cond (ha i || (hb i || (hg i || false))) 4 0))
 
@@ -146,9 +138,9 @@ blocks_have_bases M s p dx dy dz e =
         (
           refl,
           (
-            equals _ _ near,
+            eq-eqb _ _ near,
             (
-              equals _ _ apart,
+              eq-eqb _ _ apart,
               (
                 fewer (taken_in M).face 6 2 (omega arith) left.0,
                 (
@@ -163,12 +155,6 @@ blocks_have_bases M s p dx dy dz e =
     )
 
 -- ---- the tables of a lamina
-
-less_still : (i j : ℕ) → i < suc j → i ≢ j → i < j
-less_still i j l ne = elim (nat_le j i) as (λ b. nat_le j i ≡ b → i < j) [
-  | true ↦ λ t. absurd (ne (grind (arith, nat_tests)))
-  | false ↦ λ t. grind (arith, nat_tests)
-] refl
 
 apart_by : (e i j : ℕ) → i ≢ j → e + suc i ≢ e + suc j
 apart_by e i j ne q = ne (omega arith)
@@ -191,10 +177,7 @@ point_row t v ps (suc j) i l = elim (eqb_tells i j) [
   | inr p ↦ get-put_other (with_points t v ps j) (v + suc j) (get_or ps j no_point) (v + suc i) (apart_by v i j p.1) ∙ point_row t v ps j i (less_still i j l p.1)
 ]
 
-none_ring : (a f o q : ℕ) → (a ≡ f → o ≡ q) → (nat_eq a f && not (nat_eq o q)) ≡ false
-none_ring a f o q p = grind (arith, nat_tests)
-
-no_lone : (b : Bool) (f g : ℕ) → f ≢ g → (b && (nat_eq f g || false)) ≡ false
+pub no_lone : (b : Bool) (f g : ℕ) → f ≢ g → (b && (nat_eq f g || false)) ≡ false
 no_lone true f g ne = grind (arith, nat_tests)
 no_lone false f g ne = refl
 
@@ -255,7 +238,7 @@ module _ (M : Model) (sound : Sound M) (c : Taken) (is : c ≡ taken_in M) (s : 
   ]
 
   rings_one : rings_of base (c.face + 1) ≡ []
-  rings_one = all_where_none (λ q row. nat_eq row.face (c.face + 1) && not (nat_eq (outer base (c.face + 1)) q)) base.loops (λ q y at. none_ring y.face (c.face + 1) (outer base (c.face + 1)) q (λ e. elim (loop_cases q y at) [
+  rings_one = all_where_none (λ q row. nat_eq row.face (c.face + 1) && not (nat_eq (outer base (c.face + 1)) q)) base.loops (λ q y at. none_but y.face (c.face + 1) (outer base (c.face + 1)) q (λ e. elim (loop_cases q y at) [
     | inl p ↦ absurd (other c.face y.face (ap (λ r. r.face) p.1) e)
     | inr (inl p) ↦ outer_one ∙ sym p.0
     | inr (inr p) ↦ absurd (low c.face y.face p e)
@@ -350,7 +333,7 @@ module _ (M : Model) (sound : Sound M) (c : Taken) (is : c ≡ taken_in M) (s : 
           ap is_some face_one,
           (
             ap not apart,
-            (equals _ _ none_lone, (equals _ _ (all_in_range d ra rb rg rh), left_numbers_hold (taken_in base) 4 4 8 4 (base_left left))),
+            (eq-eqb _ _ none_lone, (eq-eqb _ _ (all_in_range d ra rb rg rh), left_numbers_hold (taken_in base) 4 4 8 4 (base_left left))),
           ),
         ),
       )

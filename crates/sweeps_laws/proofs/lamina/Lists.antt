@@ -146,7 +146,7 @@ pub ring_minus : (e j : ℕ) → canonical (upto (minus (e + suc j)) (plus (e + 
 ring_minus e j = ap (λ xs. canonical (xs ++ minus (e + suc (suc j)) ∷ [])) (upto_first e j) ∙ first_moved (minus (e + suc (suc j))) (back e (suc j)) (back_apart e (suc (suc j)))
 
 -- the same lists from the numbers of the edges
-numbers_last : (e n : ℕ) → numbers_after e (suc n) ≡ numbers_after e n ++ (e + suc n) ∷ []
+pub numbers_last : (e n : ℕ) → numbers_after e (suc n) ≡ numbers_after e n ++ (e + suc n) ∷ []
 numbers_last e zero = refl
 numbers_last e (suc n) = ap (λ xs. (e + 1) ∷ xs) (numbers_last (e + 1) n) ∙ ap (λ k. (e + 1) ∷ numbers_after (e + 1) n ++ k ∷ []) (same e n) where
   same : (e n : ℕ) → e + 1 + suc n ≡ e + suc (suc n)

@@ -14,19 +14,19 @@ use Rattle.euler_operators.specs.Table as table
 use Rattle.euler_operators.specs.Table.{Table}
 use Rattle.euler_operators.specs.Model.{Model, LoopContent, cycle, EdgeRow, no_point, no_face, items_of, tail_in, content, face_of, solid_of, outer, tail, loop_of, cycle_of, arc, holds, is_number}
 use Rattle.euler_operators.specs.Sound.{Sound}
-use Rattle.euler_operators.proofs.Halves.{plus_row, minus_row}
+use Rattle.euler_operators.proofs.Halves.{plus_row, minus_row, mate_plus}
 use Rattle.euler_operators.proofs.Models.{in-holds, holds-none, not_held, content_row, face_row, tail_row}
-use Rattle.euler_operators.proofs.Tables.{map_same}
+use Rattle.euler_operators.proofs.Tables.{map_same, get-put_here, get-put_other, put-put}
 use Rattle.euler_operators.specs.Conditions.{first_false, lone_vertex, face_at}
 use Rattle.euler_operators.specs.Effect.{effect, edge_row, where_held, with_before, with_tails, mvfs, mev_lone, mev_at, mef}
-use Rattle.euler_laws.proofs.shared.Rows.{where_held_none, where_held_there}
+use Rattle.euler_laws.proofs.shared.Rows.{where_held_none, where_held_there, edge_row_plus}
 use Rattle.euler_laws.proofs.mev.Mev.{lone_accepted, mev_accepted}
 use Rattle.euler_laws.proofs.mev.MevLoneSound.{LoneGoes}
 use Rattle.euler_laws.proofs.mev.MevSound.{MevGoes}
 use Rattle.euler_laws.proofs.mef.MefSound.{MefGoes}
 use Rattle.euler_laws.proofs.mef.Kef.{mef_accepted}
 use Rattle.euler_laws.proofs.faces.Solids.{mvfs_accepted}
-use Rattle.shapes.proofs.fresh.Rows.{greatest-put_last, none_above, get-put_here, get-put_other, map-put_last, put-put}
+use Rattle.shapes.proofs.fresh.Rows.{greatest-put_last, none_above, map-put_last}
 use Rattle.shapes.proofs.fresh.Tests.{Left, number_fits}
 use Rattle.shapes.specs.Fresh.{Taken, numbers_after}
 use Rattle.shapes.specs.Lamina.{with_points, with_path, with_ring, lamina_at}
@@ -54,20 +54,13 @@ first_row t e v (suc j) = get-put_other (with_path t e v (suc j)) (e + suc (suc 
 
 -- ---- half-edges
 
-mate_plus : (e : ℕ) → mate (plus e) ≡ minus e
-unfolding mate
-mate_plus e = ap (λ b. cond b (plus e + 1) (plus e - 1)) (plus_row e).1
-
-edge_row_plus : (e a b : ℕ) → edge_row (plus e) a b ≡ record { plus_tail = a; minus_tail = b }
-edge_row_plus e a b = ap (λ c. cond c (record { plus_tail = a; minus_tail = b }) (record { plus_tail = b; minus_tail = a })) (plus_row e).1
-
-arc_itself : (next : ℕ → ℕ) (g n : ℕ) → rings.arc next g g n ≡ []
+pub arc_itself : (next : ℕ → ℕ) (g n : ℕ) → rings.arc next g g n ≡ []
 arc_itself next g zero = refl
 arc_itself next g (suc n) = ap (λ b. cond b [] (g ∷ rings.arc next (next g) g n)) (same g) where
   same : (g : ℕ) → nat_eq g g ≡ true
   same g = grind (arith, nat_tests)
 
-arc_none : (M : Model) (g : ℕ) → arc M g g ≡ []
+pub arc_none : (M : Model) (g : ℕ) → arc M g g ≡ []
 unfolding arc
 arc_none M g = arc_itself _ g _
 

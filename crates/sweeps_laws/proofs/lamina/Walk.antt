@@ -2,15 +2,17 @@
 use Rattle.std.specs.Prelude.{length, get_or, nat_le, ◌-◌}
 use Rattle.std.proofs.Common.{◌≡◌, ℕ, zero, suc, ◌+◌, ◌≤◌, ◌<◌, true, false, cond, List, [], ◌∷◌, ◌++◌, None, refl, sym, ap, subst, ◌∙◌, arith}
 use Rattle.std.proofs.lemmas.Bool.Decides.{nat_tests}
+use Rattle.std.proofs.lemmas.Bool.{not-true, eqb-true}
 use Rattle.euler_operators.specs.declared.Point.{Point}
 use Rattle.euler_operators.specs.Points.{is_in_range}
 use Rattle.euler_operators.specs.Model.{Model, no_point}
 use Rattle.euler_operators.specs.Sound.{Sound}
-use Rattle.euler_operators.specs.declared.Op.{Op}
 use Rattle.euler_operators.specs.Conditions.{first_false}
 use Rattle.euler_operators.specs.Effect.{effect}
-use Rattle.euler_laws.proofs.shared.Goes.{all_hold, not_true, free, equal}
+use Rattle.euler_operators.proofs.Tables.{no_row}
+use Rattle.euler_laws.proofs.shared.Goes.{all_hold}
 use Rattle.euler_laws.proofs.Cases.{effect_keeps_sound}
+use Rattle.euler_laws.proofs.Runs.{effects-append, AreAccepted-append}
 use Rattle.euler_laws.specs.Laws.{AreAccepted, effects}
 use Rattle.shapes.proofs.fresh.Tests.{numbers_are_left}
 use Rattle.shapes.specs.Fresh.{Taken, taken_in}
@@ -45,10 +47,10 @@ lamina_goes M s ps sound e =
       loops = refl;
       edges = refl;
       vertices = refl;
-      solid_free = free _ (not_true _ w.1.0);
+      solid_free = no_row _ (not-true _ w.1.0);
       solid_fits = w.0;
       many = three (length ps) w.1.1.0;
-      points_fit = none_far 0 ps (equal _ _ w.1.1.1.0);
+      points_fit = none_far 0 ps (eqb-true _ _ w.1.1.1.0);
       left = numbers_are_left (taken_in M) 2 2 (length ps) (length ps) w.1.1.1.1.1;
     }
 
@@ -76,22 +78,13 @@ module _ (M : Model) (c : Taken) (s : ℕ) (ps : List Point) (n : ℕ) (goes : G
   close_made zero all is = absurd (omega (arith, all, goes.many))
   close_made (suc j) all is = last_made M c s ps n goes j (path_sound (suc j) (omega (arith, all))) (is ∙ all)
 
--- lists of operators, one after the other
-accepted-append : (M : Model) (ops more : List Op) → AreAccepted M ops → AreAccepted (effects M ops) more → AreAccepted M (ops ++ more)
-accepted-append M [] more a b = b
-accepted-append M (op ∷ ops) more a b = (a.0, accepted-append (effect M op) ops more a.1 b)
-
-effects-append : (M : Model) (ops more : List Op) → effects M (ops ++ more) ≡ effects (effects M ops) more
-effects-append M [] more = refl
-effects-append M (op ∷ ops) more = effects-append (effect M op) ops more
-
 module _ (M : Model) (c : Taken) (s : ℕ) (ps : List Point) (n : ℕ) (goes : Goes M c s ps n) where
   walked : (j : ℕ) → j < n → AreAccepted (path_at M c s ps 0) (further_points c ps j) × (effects (path_at M c s ps 0) (further_points c ps j) ≡ path_at M c s ps j)
   walked zero l = (tt, refl)
   walked (suc j) l =
       let so_far = walked j (omega (arith, l)) in
       let accepted : first_false (path_at M c s ps j) (next_point c ps j) ≡ None = next_accepted M c s ps n goes j l (path_sound M c s ps n goes j (omega (arith, l))) in (
-        accepted-append (path_at M c s ps 0) (further_points c ps j) (next_point c ps j ∷ []) so_far.0 (subst (λ N. AreAccepted N (next_point c ps j ∷ [])) (sym so_far.1) (accepted, tt)),
+        AreAccepted-append (path_at M c s ps 0) (further_points c ps j) (next_point c ps j ∷ []) so_far.0 (subst (λ N. AreAccepted N (next_point c ps j ∷ [])) (sym so_far.1) (accepted, tt)),
         effects-append (path_at M c s ps 0) (further_points c ps j) (next_point c ps j ∷ []) ∙ ap (λ N. effect N (next_point c ps j)) so_far.1 ∙ next_made M c s ps n goes j,
       )
 
@@ -99,7 +92,7 @@ module _ (M : Model) (c : Taken) (s : ℕ) (ps : List Point) (n : ℕ) (goes : G
   all_accepted j all = let way = walked j (omega (arith, all)) in (
     first_accepted M c s ps n goes,
     subst (λ N. AreAccepted N (further_points c ps j ++ last_edge c j ∷ [])) (sym (first_made M c s ps n goes))
-        (accepted-append (path_at M c s ps 0) (further_points c ps j) (last_edge c j ∷ []) way.0 (subst (λ N. AreAccepted N (last_edge c j ∷ [])) (sym way.1) (close_accepted M c s ps n goes j all, tt))),
+        (AreAccepted-append (path_at M c s ps 0) (further_points c ps j) (last_edge c j ∷ []) way.0 (subst (λ N. AreAccepted N (last_edge c j ∷ [])) (sym way.1) (close_accepted M c s ps n goes j all, tt))),
   )
 
   all_made : (j : ℕ) → n ≡ suc j → length ps ≡ n → effects M (first_point c s ps ∷ further_points c ps j ++ last_edge c j ∷ []) ≡ lamina_at M c s ps

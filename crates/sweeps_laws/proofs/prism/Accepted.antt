@@ -1,24 +1,28 @@
 -- What it says that a sweep isn't refused; and so the sweep of a face, from its first operator to the prism.
-use Rattle.std.proofs.Common.{◌≡◌, ◌≢◌, ℕ, ◌*◌, ◌<◌, Bool, true, false, not, nat_eq, nat_lt, ◌&&◌, ◌||◌, List, [], ◌∷◌, ◌++◌, length, Some, None, is_some, refl, sym, ap, ◌∙◌, subst, arith, inl, inr, true≢false}
+use Rattle.std.proofs.Common.{◌≡◌, ◌≢◌, ℕ, ◌*◌, ◌<◌, Bool, true, false, not, nat_eq, ◌&&◌, ◌||◌, List, [], ◌∷◌, ◌++◌, length, Some, None, is_some, refl, sym, ap, ◌∙◌, subst, arith, inl, inr, true≢false}
 use Rattle.std.specs.Prelude.{map}
 use Rattle.std.proofs.lemmas.Bool.Decides.{nat_tests, eqb_tells}
+use Rattle.std.proofs.lemmas.Bool.{not-false, eqb-true}
 use Rattle.euler_operators.specs.declared.Point.{Point}
 use Rattle.euler_operators.specs.Points.{is_in_range, IsInRange}
 use Rattle.euler_operators.specs.Vectors.{moved}
-use Rattle.euler_operators.specs.Items.{count, tick, IsIn, IsApart}
+use Rattle.euler_operators.specs.Items.{count, IsIn, IsApart}
 use Rattle.euler_operators.proofs.Lists.{tick_same, tick_other}
 use Rattle.euler_operators.specs.Table as table
 use Rattle.euler_operators.specs.Table.{Table}
-use Rattle.euler_operators.specs.Model.{Model, LoopContent, LoopRow, lone, cycle, items_of, content, face_of, outer, tail, point_of, rings_of}
+use Rattle.euler_operators.specs.Model.{Model, cycle, items_of, content, face_of, outer, tail, point_of, rings_of}
 use Rattle.euler_operators.specs.Sound.{Sound, Has, HasHalf}
 use Rattle.euler_operators.proofs.Tables.{zero_first_where}
-use Rattle.euler_operators.proofs.Models.{face_row, in-holds}
+use Rattle.euler_operators.proofs.Models.{face_row, item_there, loop_number}
+use Rattle.euler_operators.proofs.Tests.{and_first, first_fails}
+use Rattle.euler_operators.proofs.Operators.{apart_front}
 use Rattle.euler_operators.specs.Conditions.{AllHold, is_lone, lists, strictly_rises}
 use Rattle.euler_laws.specs.Laws.{AreAccepted, effects}
 use Rattle.euler_laws.proofs.Runs.{effects_keep_sound}
-use Rattle.euler_laws.proofs.shared.Goes.{all_hold, not_back, equal, no_zero}
-use Rattle.euler_laws.proofs.shared.Listed.{listed_passes, all_where-rises}
-use Rattle.euler_laws.proofs.shared.Rows.{loop_row}
+use Rattle.euler_laws.proofs.shared.Goes.{all_hold, no_zero}
+use Rattle.euler_laws.proofs.shared.Listed.{listed_passes, all_where-rises, listed-from_in}
+use Rattle.euler_laws.proofs.shared.Rows.{loop_row, not_lone_cycle}
+use Rattle.euler_laws.proofs.Sizes.{rises_on, rises_over}
 use Rattle.shapes.proofs.fresh.Rows.{none_above}
 use Rattle.shapes.proofs.fresh.Tests.{NoneSuch, NoZero, none_such, none_such-append, Left, numbers_are_left}
 use Rattle.shapes.specs.Faces.{start, loops_of, corners, vertices_in, vertices_on, least_lone}
@@ -29,53 +33,12 @@ use Rattle.sweeps_laws.proofs.prism.Whole.{Going, loops_swept}
 
 -- ---- lists that rise
 
-right : (a b : Bool) → (a && b) ≡ true → b ≡ true
-right true b e = e
-right false b e = absurd (true≢false (sym e))
-
-rises_over : (n : ℕ) (ns : List ℕ) (q : ℕ) → strictly_rises (n ∷ ns) ≡ true → IsIn q ns → n < q
-rises_over n [] q r i = absurd (omega arith)
-rises_over n (m ∷ ns) q r i =
-    let less : n < m = less_of n m (strictly_rises (m ∷ ns)) r in
-    elim (eqb_tells q m) [
-      | inl e ↦ let s : q ≡ m = e.1 in omega arith
-      | inr e ↦ let far : m < q = rises_over m ns q (rest_of n m (strictly_rises (m ∷ ns)) r) (omega (arith, i, tick_other q m e.1)) in omega arith
-    ] where
-      less_of : (n m : ℕ) (b : Bool) → (nat_lt n m && b) ≡ true → n < m
-      less_of n m b e = grind (arith, nat_tests)
-
-      rest_of : (n m : ℕ) (b : Bool) → (nat_lt n m && b) ≡ true → b ≡ true
-      rest_of n m b e = right (nat_lt n m) b e
-
-apart_over : (n : ℕ) (ns : List ℕ) → count n ns ≡ 0 → IsApart ns → IsApart (n ∷ ns)
-apart_over n ns z d x = elim (eqb_tells x n) [
-  | inl e ↦ omega (arith, ap (λ q. count q ns) e.1, ap (λ q. tick q n) e.1, tick_same n, z)
-  | inr e ↦ omega (arith, tick_other x n e.1, d x)
-]
-
 not_in : (n : ℕ) (ns : List ℕ) → (IsIn n ns → ⊥) → count n ns ≡ 0
 not_in n ns never = elim (eqb_tells (count n ns) 0) [ inl e ↦ e.1 | inr e ↦ absurd (never (let s : count n ns ≢ 0 = e.1 in omega arith)) ]
 
-tail_rises : (n : ℕ) (ns : List ℕ) → strictly_rises (n ∷ ns) ≡ true → strictly_rises ns ≡ true
-tail_rises n [] r = refl
-tail_rises n (m ∷ ns) r = right (nat_lt n m) (strictly_rises (m ∷ ns)) r
-
 rises_apart : (ns : List ℕ) → strictly_rises ns ≡ true → IsApart ns
 rises_apart [] r = λ x. omega arith
-rises_apart (n ∷ ns) r = apart_over n ns (not_in n ns (λ i. let s : n < n = rises_over n ns n r i in omega arith)) (rises_apart ns (tail_rises n ns r))
-
-listed_in : (q : ℕ) (ns : List ℕ) → IsIn q ns → lists ns q ≡ true
-listed_in q [] i = absurd (omega arith)
-listed_in q (n ∷ ns) i = elim (eqb_tells q n) [
-  | inl e ↦ here (nat_eq n q) (lists ns q) (let s : n ≡ q = sym e.1 in grind (arith, nat_tests))
-  | inr e ↦ later (nat_eq n q) (lists ns q) (listed_in q ns (omega (arith, i, tick_other q n e.1)))
-] where
-  here : (a b : Bool) → a ≡ true → (a || b) ≡ true
-  here a b e = ap (λ x. x || b) e
-
-  later : (a b : Bool) → b ≡ true → (a || b) ≡ true
-  later true b e = refl
-  later false b e = e
+rises_apart (n ∷ ns) r = apart_front n ns (not_in n ns (λ i. let s : n < n = rises_over n n ns r i in omega arith)) (rises_apart ns (rises_on n ns r))
 
 -- ---- a sweep that isn't refused
 
@@ -89,37 +52,30 @@ module _ (M : Model) (f : ℕ) (d : Point) (sound : Sound M) (accepted : prism_r
 
   none_lone : table.first_where (λ _ row. is_lone row.content && lists (f ∷ []) row.face) M.loops ≡ 0
   unfolding prism_conditions
-  none_lone = equal (least_lone M (f ∷ [])) 0 hold.1.1.1.0
+  none_lone = eqb-true (least_lone M (f ∷ [])) 0 hold.1.1.1.0
 
   none_far : first_such (λ v. not (is_in_range (moved (point_of M v) d))) (corners M f) ≡ 0
   unfolding prism_conditions
-  none_far = equal (first_such (λ v. not (is_in_range (moved (point_of M v) d))) (corners M f)) 0 hold.1.1.1.1.0
+  none_far = eqb-true (first_such (λ v. not (is_in_range (moved (point_of M v) d))) (corners M f)) 0 hold.1.1.1.1.0
 
   left : Left (taken_in M) (length (corners M f)) (length (corners M f)) (2 * length (corners M f)) (length (corners M f))
   unfolding prism_conditions
   left = numbers_are_left (taken_in M) (length (corners M f)) (length (corners M f)) (2 * length (corners M f)) (length (corners M f)) hold.1.1.1.1.1
-
-  -- the loops of the face
-  not_zero : (q : ℕ) (row : LoopRow) → table.get M.loops q ≡ Some row → q ≢ 0
-  not_zero q row at z = no_zero q z (sound.loops_fit q (ap is_some at))
 
   of_face : (l : ℕ) → IsIn l (loops_of M f) → Has M.loops l × (face_of M l ≡ f)
   unfolding loops_of
   of_face l i = elim (eqb_tells l (outer M f)) [
     | inl e ↦ subst (λ q. Has M.loops q × (face_of M q ≡ f)) (sym e.1) (sound.outers_there f face_there)
     | inr e ↦
-        let p = listed_passes (λ k row. nat_eq row.face f && not (nat_eq (outer M f) k)) M.loops l (listed_in l (rings_of M f) (omega (arith, i, tick_other l (outer M f) e.1))) in
-        (ap is_some p.1, face_row M l p.0 p.1 ∙ equal p.0.face f (first_of (nat_eq p.0.face f) (not (nat_eq (outer M f) l)) p.2))
-  ] where
-    first_of : (a b : Bool) → (a && b) ≡ true → a ≡ true
-    first_of true b e = refl
-    first_of false b e = absurd (true≢false (sym e))
+        let p = listed_passes (λ k row. nat_eq row.face f && not (nat_eq (outer M f) k)) M.loops l (listed-from_in l (rings_of M f) (omega (arith, i, tick_other l (outer M f) e.1))) in
+        (ap is_some p.1, face_row M l p.0 p.1 ∙ eqb-true p.0.face f (and_first (nat_eq p.0.face f) (not (nat_eq (outer M f) l)) p.2))
+  ]
 
   loops_apart : IsApart (loops_of M f)
   unfolding loops_of
-  loops_apart = apart_over (outer M f) (rings_of M f)
+  loops_apart = apart_front (outer M f) (rings_of M f)
       (not_in (outer M f) (rings_of M f) (λ i.
-      let p = listed_passes (λ k row. nat_eq row.face f && not (nat_eq (outer M f) k)) M.loops (outer M f) (listed_in (outer M f) (rings_of M f) i) in
+      let p = listed_passes (λ k row. nat_eq row.face f && not (nat_eq (outer M f) k)) M.loops (outer M f) (listed-from_in (outer M f) (rings_of M f) i) in
       never (nat_eq p.0.face f) (outer M f) p.2))
       (rises_apart (rings_of M f) (all_where-rises (λ k row. nat_eq row.face f && not (nat_eq (outer M f) k)) M.loops)) where
         never : (a : Bool) (n : ℕ) → (a && not (nat_eq n n)) ≡ true → ⊥
@@ -131,24 +87,13 @@ module _ (M : Model) (f : ℕ) (d : Point) (sound : Sound M) (accepted : prism_r
   is_cycle l i =
       let p = of_face l i in
       let at : table.get M.loops l ≡ Some (record { face = face_of M l; content = content M l }) = loop_row M l p.0 in
-      let not_both : (is_lone (content M l) && lists (f ∷ []) (face_of M l)) ≡ false = zero_first_where (λ _ row. is_lone row.content && lists (f ∷ []) row.face) M.loops not_zero none_lone l (record { face = face_of M l; content = content M l }) at in
-      go (content M l) (left_false (is_lone (content M l)) (lists (f ∷ []) (face_of M l)) (listed (face_of M l) p.1) not_both) where
+      let not_both : (is_lone (content M l) && lists (f ∷ []) (face_of M l)) ≡ false = zero_first_where (λ _ row. is_lone row.content && lists (f ∷ []) row.face) M.loops (loop_number M sound) none_lone l (record { face = face_of M l; content = content M l }) at in
+      not_lone_cycle (content M l) (first_fails (is_lone (content M l)) (lists (f ∷ []) (face_of M l)) not_both (listed (face_of M l) p.1)) where
         listed : (k : ℕ) → k ≡ f → lists (f ∷ []) k ≡ true
         listed k e = let s : nat_eq f k ≡ true = grind (arith, nat_tests) in ap (λ b. b || false) s
 
-        left_false : (a b : Bool) → b ≡ true → (a && b) ≡ false → a ≡ false
-        left_false false b t e = refl
-        left_false true b t e = absurd (true≢false (sym t ∙ e))
-
-        go : (c : LoopContent) → is_lone c ≡ false → c ≡ cycle (items_of c)
-        go (lone v) e = absurd (true≢false e)
-        go (cycle hs) e = refl
-
   row_is : (l : ℕ) → IsIn l (loops_of M f) → table.get M.loops l ≡ Some (record { face = f; content = cycle (items_of (content M l)) })
   row_is l i = let p = of_face l i in loop_row M l p.0 ∙ (λ j. Some (record { face = p.1 j; content = is_cycle l i j }))
-
-  item_there : (l : ℕ) (h : ℕ) → IsIn h (items_of (content M l)) → HasHalf M h
-  item_there l h i = sound.only_edges h l (in-holds h (content M l) i)
 
   -- each corner's moved point is in range
   abbrev far : ℕ → Bool
@@ -167,7 +112,7 @@ module _ (M : Model) (f : ℕ) (d : Point) (sound : Sound M) (accepted : prism_r
   corners_no_zero [] are = tt
   corners_no_zero (l ∷ ls) are =
       no_zero-append (vertices_on M (content M l)) (vertices_in M ls)
-      (subst (λ c. NoZero (vertices_on M c)) (sym (are l (omega (arith, tick_same l)))) (tails_no_zero (items_of (content M l)) (item_there l)))
+      (subst (λ c. NoZero (vertices_on M c)) (sym (are l (omega (arith, tick_same l)))) (tails_no_zero (items_of (content M l)) (item_there M sound l)))
       (corners_no_zero ls (λ k i. are k (omega (arith, i))))
 
   all_near : NoneSuch far (vertices_in M (loops_of M f))
@@ -177,7 +122,7 @@ module _ (M : Model) (f : ℕ) (d : Point) (sound : Sound M) (accepted : prism_r
   near_item : (hs : List ℕ) → NoneSuch far (map (tail M) hs) → (h : ℕ) → IsIn h hs → IsInRange (moved (start M h) d)
   near_item [] n h i = absurd (omega arith)
   near_item (g ∷ hs) n h i = elim (eqb_tells h g) [
-    | inl e ↦ subst (λ q. IsInRange (moved (start M q) d)) (sym e.1) (not_back (is_in_range (moved (start M g) d)) n.0)
+    | inl e ↦ subst (λ q. IsInRange (moved (start M q) d)) (sym e.1) (not-false (is_in_range (moved (start M g) d)) n.0)
     | inr e ↦ near_item hs n.1 h (omega (arith, i, tick_other h g e.1))
   ]
 
@@ -207,7 +152,7 @@ module _ (M : Model) (f : ℕ) (d : Point) (sound : Sound M) (accepted : prism_r
     starts = λ h there. refl;
     apart = loops_apart;
     rows = row_is;
-    items_there = λ l i h j. item_there l h j;
+    items_there = λ l i h j. item_there M sound l h j;
     contents = is_cycle;
     points_fit = near (loops_of M f) is_cycle all_near;
   }

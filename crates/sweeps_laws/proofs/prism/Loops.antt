@@ -10,6 +10,8 @@ use Rattle.euler_operators.specs.Rings.{canonical, rotate_to}
 use Rattle.euler_operators.proofs.Lists.{count-append, tick_same, tick_other, least_le, least_in}
 use Rattle.euler_operators.proofs.Rotations.{canonical_same, rotate_to_head}
 use Rattle.euler_operators.proofs.Std.{IsIn-get_or}
+use Rattle.euler_operators.proofs.Tables.{get-put_here, get-put_other}
+use Rattle.euler_operators.proofs.Models.{plus_tail_row, minus_tail_row}
 use Rattle.euler_operators.specs.HalfEdge.{plus, minus}
 use Rattle.euler_operators.specs.Table as table
 use Rattle.euler_operators.specs.Table.{Table, tables, same_table}
@@ -27,11 +29,12 @@ use Rattle.shapes.specs.Fresh.{Taken}
 use Rattle.shapes.specs.Prism.{riser, top_edge, top_items, next_place, with_side, with_sides, lifted}
 use Rattle.sweeps_laws.specs.prism.Part.{lifted_part, prism_part}
 use Rattle.sweeps_laws.specs.prism.SweepOps.{raise, close, close_last, rounds, loop_ops}
-use Rattle.euler_laws.proofs.shared.KnownLoop.{Around, apart_xs}
 use Rattle.sweeps_laws.proofs.prism.Steps.{with_chord, mev_does, mev_fits, mef_does, mef_fits}
-use Rattle.sweeps_laws.specs.prism.Ready.{Ready}
-use Rattle.sweeps_laws.proofs.prism.Sides.{fits, riser_is, top_is, next_last, plus_tail_at, minus_tail_at, put_there, put_other, two_items, from_least}
+use Rattle.sweeps_laws.proofs.prism.Sides.{fits, riser_is, next_last, two_items, from_least}
 use Rattle.sweeps_laws.proofs.prism.Rounds.{drop_next, loop_within, part_loop, part_edge_free, part_face_free, part_loop_free, part_riser, part_solid, round_accepted, round_is}
+use Rattle.sweeps_laws.proofs.swept.Numbers.{top_cases}
+use Rattle.euler_laws.proofs.shared.KnownLoop.{Around, apart_xs}
+use Rattle.sweeps_laws.specs.prism.Ready.{Ready}
 
 -- a ring that starts at its least item is in the order of listings
 canonical_first : (x : ℕ) (ys : List ℕ) → ((y : ℕ) → IsIn y (x ∷ ys) → x ≤ y) → canonical (x ∷ ys) ≡ x ∷ ys
@@ -42,14 +45,14 @@ canonical_first x ys low =
     ap (λ y. rotate_to y (x ∷ ys)) is ∙ rotate_to_head x ys
 
 -- the top edges rise from the first one
-tops_head : (e n i : ℕ) → (ks : List ℕ) × (top_items e n (suc i) ≡ plus (top_edge e n 0) ∷ ks)
+pub tops_head : (e n i : ℕ) → (ks : List ℕ) × (top_items e n (suc i) ≡ plus (top_edge e n 0) ∷ ks)
 tops_head e n zero = ([], refl)
 tops_head e n (suc i) = let h = tops_head e n i in (h.0 ++ plus (top_edge e n (suc i)) ∷ [], ap (λ xs. xs ++ plus (top_edge e n (suc i)) ∷ []) h.1)
 
 tops_above : (e n i y : ℕ) → 2 ≤ n → IsIn y (top_items e n i) → plus (top_edge e n 0) ≤ y
 tops_above e n zero y two h = absurd (omega arith)
 tops_above e n (suc i) y two h = elim (eqb_tells y (plus (top_edge e n i))) [
-  | inl p ↦ let s : y ≡ plus (top_edge e n i) = p.1 in omega (arith, top_is e n 0, top_is e n i)
+  | inl p ↦ let s : y ≡ plus (top_edge e n i) = p.1 in omega (arith, top_cases e n 0, top_cases e n i)
   | inr p ↦ tops_above e n i y two (omega (arith, h, count-append y (top_items e n i) (plus (top_edge e n i) ∷ []), tick_other y (plus (top_edge e n i)) p.1))
 ]
 
@@ -74,7 +77,7 @@ module _ (M : Model) (c : Taken) (f l : ℕ) (d : Point) (hs : List ℕ) (w : Re
   around_first : Around M l f ([] ++ first_item ∷ more_items)
   around_first = record { sound = w.sound; at = w.at ∙ ap (λ xs. Some (record { face = f; content = cycle xs })) (sym (from_least M c f l d hs w) ∙ ap canonical items_are) }
 
-  first_accepted : first_false M (raise M c d hs 0) ≡ None
+  pub first_accepted : first_false M (raise M c d hs 0) ≡ None
   first_accepted = mev_fits M l f [] more_items first_item (riser c.edge 0) (c.vertex + 1 + 0) (moved (start M first_item) d) around_first
       (w.edges_free (riser c.edge 0) (omega arith)) (w.vertices_free (c.vertex + 1 + 0) (omega arith))
       (fits (riser c.edge 0) (omega arith) (omega (arith, w.edges_left, some_items))) (fits (c.vertex + 1 + 0) (omega arith) (omega (arith, w.vertices_left, some_items)))
@@ -111,11 +114,11 @@ module _ (M : Model) (c : Taken) (f l : ℕ) (d : Point) (hs : List ℕ) (w : Re
   -- the row of the first top edge
   first_top : (i : ℕ) → i < length hs → table.get (with_sides c (solid_of M f) d hs (suc i) M).edges (top_edge c.edge (length hs) 0) ≡ Some (record { plus_tail = c.vertex + 1 + 0; minus_tail = c.vertex + 1 + next_place (length hs) 0 })
   unfolding with_side
-  first_top zero lt = put_there _ _ _
+  first_top zero lt = get-put_here _ _ _
   first_top (suc i) lt =
       let two = two_items M c f l d hs w in
-      put_other _ _ _ (top_edge c.edge (length hs) 0) (λ s. omega (arith, top_is c.edge (length hs) 0, top_is c.edge (length hs) (suc i)))
-      ∙ put_other _ _ _ (top_edge c.edge (length hs) 0) (λ s. omega (arith, top_is c.edge (length hs) 0, riser_is c.edge (suc i)))
+      get-put_other _ _ _ (top_edge c.edge (length hs) 0) (λ s. omega (arith, top_cases c.edge (length hs) 0, top_cases c.edge (length hs) (suc i)))
+      ∙ get-put_other _ _ _ (top_edge c.edge (length hs) 0) (λ s. omega (arith, top_cases c.edge (length hs) 0, riser_is c.edge (suc i)))
       ∙ first_top i (omega arith)
 
   -- ---- the last side, over item j + 1
@@ -179,9 +182,9 @@ module _ (M : Model) (c : Taken) (f l : ℕ) (d : Point) (hs : List ℕ) (w : Re
     two = two_items M c f l d hs w
 
     t_free : table.get P.edges t ≡ None
-    t_free = part_edge_free M c f l d hs w (suc j) t (λ e. omega (arith, last, top_is c.edge (length hs) (suc j), riser_is c.edge (suc j)))
-        (λ i lt. ((λ e. omega (arith, last, top_is c.edge (length hs) (suc j), riser_is c.edge i)), (λ e. omega (arith, last, top_is c.edge (length hs) (suc j), top_is c.edge (length hs) i))))
-        (omega (arith, top_is c.edge (length hs) (suc j)))
+    t_free = part_edge_free M c f l d hs w (suc j) t (λ e. omega (arith, last, top_cases c.edge (length hs) (suc j), riser_is c.edge (suc j)))
+        (λ i lt. ((λ e. omega (arith, last, top_cases c.edge (length hs) (suc j), riser_is c.edge i)), (λ e. omega (arith, last, top_cases c.edge (length hs) (suc j), top_cases c.edge (length hs) i))))
+        (omega (arith, top_cases c.edge (length hs) (suc j)))
 
     r_other : l ≢ r
     r_other e = omega (arith, loop_within M c f l d hs w)
@@ -190,19 +193,19 @@ module _ (M : Model) (c : Taken) (f l : ℕ) (d : Point) (hs : List ℕ) (w : Re
     r_free = part_loop_free M c f l d hs w (suc j) r (omega arith)
 
     tail_b : tail P b ≡ c.vertex + 1 + suc j
-    tail_b = minus_tail_at P (riser c.edge (suc j)) _ (part_riser M c f l d hs w (suc j))
+    tail_b = minus_tail_row P (riser c.edge (suc j)) _ (part_riser M c f l d hs w (suc j))
 
     first_row : table.get P.edges (top_edge c.edge (length hs) 0) ≡ Some (record { plus_tail = c.vertex + 1 + 0; minus_tail = c.vertex + 1 + next_place (length hs) 0 })
     unfolding prism_part
-    first_row = put_other _ _ _ (top_edge c.edge (length hs) 0) (λ e. omega (arith, two, top_is c.edge (length hs) 0, riser_is c.edge (suc j))) ∙ first_top j (omega (arith, last))
+    first_row = get-put_other _ _ _ (top_edge c.edge (length hs) 0) (λ e. omega (arith, two, top_cases c.edge (length hs) 0, riser_is c.edge (suc j))) ∙ first_top j (omega (arith, last))
 
     tail_k : tail P k ≡ c.vertex + 1 + 0
-    tail_k = plus_tail_at P (top_edge c.edge (length hs) 0) _ first_row
+    tail_k = plus_tail_row P (top_edge c.edge (length hs) 0) _ first_row
 
     accepted : first_false P (close_last c (length hs) (suc j)) ≡ None
     accepted = mef_fits P l f b k (h ∷ a ∷ []) T t s r around_last t_free r_free (part_face_free M c f l d hs w (suc j) s (omega arith))
         (λ e. let q : c.vertex + 1 + suc j ≡ c.vertex + 1 + 0 = sym tail_b ∙ e ∙ tail_k in omega arith)
-        (fits t (omega (arith, top_is c.edge (length hs) (suc j))) (omega (arith, top_is c.edge (length hs) (suc j), w.edges_left, last)))
+        (fits t (omega (arith, top_cases c.edge (length hs) (suc j))) (omega (arith, top_cases c.edge (length hs) (suc j), w.edges_left, last)))
         (fits s (omega arith) (omega (arith, w.faces_left, last)))
         (fits r (omega arith) (omega (arith, w.loops_left, last)))
 
@@ -213,10 +216,10 @@ module _ (M : Model) (c : Taken) (f l : ℕ) (d : Point) (hs : List ℕ) (w : Re
     sound_after = subst Sound does (effect_keeps_sound P (close_last c (length hs) (suc j)) sound accepted)
 
     kept_there : Around N l f X3
-    kept_there = record { sound = sound_after; at = put_other _ r _ l r_other ∙ put_there _ l _ }
+    kept_there = record { sound = sound_after; at = get-put_other _ r _ l r_other ∙ get-put_here _ l _ }
 
     side_there : Around N r s X4
-    side_there = record { sound = sound_after; at = put_there _ r _ }
+    side_there = record { sound = sound_after; at = get-put_here _ r _ }
 
     all_tops : top_items c.edge (length hs) (suc (suc j)) ≡ k ∷ (T ++ plus t ∷ [])
     all_tops = ap (λ xs. xs ++ plus t ∷ []) tops_are

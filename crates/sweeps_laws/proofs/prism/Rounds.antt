@@ -9,6 +9,8 @@ use Rattle.euler_operators.specs.Items.{IsIn}
 use Rattle.euler_operators.specs.Rings.{canonical}
 use Rattle.euler_operators.proofs.Rotations.{canonical_same}
 use Rattle.euler_operators.proofs.Std.{IsIn-get_or}
+use Rattle.euler_operators.proofs.Tables.{get-put_here, get-put_other, put_turned, in_use_within}
+use Rattle.euler_operators.proofs.Models.{minus_tail_row}
 use Rattle.euler_operators.specs.HalfEdge.{edge_of, is_first, plus, minus}
 use Rattle.euler_operators.specs.Table as table
 use Rattle.euler_operators.specs.Table.{Table, tables, same_table}
@@ -24,10 +26,11 @@ use Rattle.shapes.specs.Fresh.{Taken}
 use Rattle.shapes.specs.Prism.{riser, top_edge, top_items, next_place, with_side, with_sides}
 use Rattle.sweeps_laws.specs.prism.Part.{lifted_part, prism_part}
 use Rattle.sweeps_laws.specs.prism.SweepOps.{raise, close}
-use Rattle.euler_laws.proofs.shared.KnownLoop.{Around, apart_xs}
 use Rattle.sweeps_laws.proofs.prism.Steps.{with_spur, with_chord, mev_does, mev_fits, mef_does, mef_fits}
+use Rattle.sweeps_laws.proofs.prism.Sides.{fits, riser_is, next_inner, half_there, old_tail, old_start, old_solid, sides_edges, sides_faces, sides_loops, sides_vertices}
+use Rattle.sweeps_laws.proofs.swept.Numbers.{top_cases}
+use Rattle.euler_laws.proofs.shared.KnownLoop.{Around, apart_xs}
 use Rattle.sweeps_laws.specs.prism.Ready.{Ready}
-use Rattle.sweeps_laws.proofs.prism.Sides.{fits, riser_is, top_is, next_inner, minus_tail_at, put_there, put_other, put_exchanged, within, half_there, old_tail, old_start, old_solid, sides_edges, sides_faces, sides_loops, sides_vertices}
 
 pub drop_next : (hs : List ℕ) (i : ℕ) → i < length hs → drop i hs ≡ get_or hs i 0 ∷ drop (suc i) hs
 drop_next hs i h = drop_more hs i 0 h ∙ ap (λ k. get_or hs i 0 ∷ drop k hs) (let e : i + 1 ≡ suc i = omega arith in e)
@@ -42,19 +45,19 @@ put_over t l r a b x y ne = same_table _ _ (λ q. grind (arith, nat_tests, table
 
 module _ (M : Model) (c : Taken) (f l : ℕ) (d : Point) (hs : List ℕ) (w : Ready M c f l d hs) where
   pub loop_within : l ≤ c.loop
-  loop_within = within M.loops c.loop l w.loops_free (ap is_some w.at)
+  loop_within = in_use_within M.loops c.loop w.loops_free l (ap is_some w.at)
 
   pub part_loop : (i : ℕ) → table.get (prism_part c f l d hs i M).loops l ≡ Some (record { face = f; content = cycle (canonical (lifted_part c hs i)) })
   unfolding prism_part
-  part_loop i = put_there _ l _
+  part_loop i = get-put_here _ l _
 
   pub part_edge_free : (i q : ℕ) → q ≢ riser c.edge i → ((j : ℕ) → j < i → (q ≢ riser c.edge j) × (q ≢ top_edge c.edge (length hs) j)) → c.edge < q → table.get (prism_part c f l d hs i M).edges q ≡ None
   unfolding prism_part
-  part_edge_free i q ne o above = put_other _ _ _ q ne ∙ sides_edges M c f l d hs w i q o ∙ w.edges_free q above
+  part_edge_free i q ne o above = get-put_other _ _ _ q ne ∙ sides_edges M c f l d hs w i q o ∙ w.edges_free q above
 
   pub part_vertex_free : (i q : ℕ) → c.vertex + 1 + i < q → table.get (prism_part c f l d hs i M).vertices q ≡ None
   unfolding prism_part
-  part_vertex_free i q above = put_other _ _ _ q (λ s. omega arith) ∙ sides_vertices M c f l d hs w i q (λ j lt s. omega arith) ∙ w.vertices_free q (omega arith)
+  part_vertex_free i q above = get-put_other _ _ _ q (λ s. omega arith) ∙ sides_vertices M c f l d hs w i q (λ j lt s. omega arith) ∙ w.vertices_free q (omega arith)
 
   pub part_face_free : (i q : ℕ) → c.face + 1 + i ≤ q → table.get (prism_part c f l d hs i M).faces q ≡ None
   unfolding prism_part
@@ -62,16 +65,16 @@ module _ (M : Model) (c : Taken) (f l : ℕ) (d : Point) (hs : List ℕ) (w : Re
 
   pub part_loop_free : (i q : ℕ) → c.loop + 1 + i ≤ q → table.get (prism_part c f l d hs i M).loops q ≡ None
   unfolding prism_part
-  part_loop_free i q above = let b = loop_within in put_other _ _ _ q (λ s. omega arith) ∙ sides_loops M c f l d hs w i q (λ j lt s. omega arith) ∙ w.loops_free q (omega arith)
+  part_loop_free i q above = let b = loop_within in get-put_other _ _ _ q (λ s. omega arith) ∙ sides_loops M c f l d hs w i q (λ j lt s. omega arith) ∙ w.loops_free q (omega arith)
 
   pub part_tail : (i h : ℕ) → HasHalf M h → tail (prism_part c f l d hs i M) h ≡ tail M h
   unfolding prism_part tail
-  part_tail i h there = let b : edge_of h ≤ c.edge = within M.edges c.edge (edge_of h) w.edges_free there in
-      ap (λ o. tail_in (unwrap_or o no_edge) (is_first h)) (put_other _ _ _ (edge_of h) (λ s. omega (arith, riser_is c.edge i))) ∙ old_tail M c f l d hs w i h there
+  part_tail i h there = let b : edge_of h ≤ c.edge = in_use_within M.edges c.edge w.edges_free (edge_of h) there in
+      ap (λ o. tail_in (unwrap_or o no_edge) (is_first h)) (get-put_other _ _ _ (edge_of h) (λ s. omega (arith, riser_is c.edge i))) ∙ old_tail M c f l d hs w i h there
 
   pub part_riser : (i : ℕ) → table.get (prism_part c f l d hs i M).edges (riser c.edge i) ≡ Some (record { plus_tail = tail (with_sides c (solid_of M f) d hs i M) (get_or hs i 0); minus_tail = c.vertex + 1 + i })
   unfolding prism_part
-  part_riser i = put_there _ _ _
+  part_riser i = get-put_here _ _ _
 
   pub part_solid : (i : ℕ) → solid_of (prism_part c f l d hs i M) f ≡ solid_of M f
   unfolding prism_part solid_of
@@ -146,16 +149,16 @@ module _ (M : Model) (c : Taken) (f l : ℕ) (d : Point) (hs : List ℕ) (w : Re
 
     -- the new edges
     u_new : (j : ℕ) → j < suc i → (u ≢ riser c.edge j) × (u ≢ top_edge c.edge (length hs) j)
-    u_new j lt = ((λ e. omega (arith, riser_is c.edge (suc i), riser_is c.edge j)), (λ e. omega (arith, riser_is c.edge (suc i), top_is c.edge (length hs) j)))
+    u_new j lt = ((λ e. omega (arith, riser_is c.edge (suc i), riser_is c.edge j)), (λ e. omega (arith, riser_is c.edge (suc i), top_cases c.edge (length hs) j)))
 
     t_new : (j : ℕ) → j < i → (t ≢ riser c.edge j) × (t ≢ top_edge c.edge (length hs) j)
-    t_new j lt = ((λ e. omega (arith, top_is c.edge (length hs) i, riser_is c.edge j)), (λ e. omega (arith, top_is c.edge (length hs) i, top_is c.edge (length hs) j)))
+    t_new j lt = ((λ e. omega (arith, top_cases c.edge (length hs) i, riser_is c.edge j)), (λ e. omega (arith, top_cases c.edge (length hs) i, top_cases c.edge (length hs) j)))
 
     t_riser : t ≢ riser c.edge i
-    t_riser e = omega (arith, top_is c.edge (length hs) i, riser_is c.edge i)
+    t_riser e = omega (arith, top_cases c.edge (length hs) i, riser_is c.edge i)
 
     t_u : t ≢ u
-    t_u e = omega (arith, top_is c.edge (length hs) i, riser_is c.edge (suc i))
+    t_u e = omega (arith, top_cases c.edge (length hs) i, riser_is c.edge (suc i))
 
     u_free : table.get P.edges u ≡ None
     u_free = part_edge_free i u (u_new i (omega arith)).0 (λ j lt. u_new j (omega arith)) (omega (arith, riser_is c.edge (suc i)))
@@ -173,33 +176,33 @@ module _ (M : Model) (c : Taken) (f l : ℕ) (d : Point) (hs : List ℕ) (w : Re
     sound1 = subst Sound first (effect_keeps_sound P (raise M c d hs (suc i)) sound accepted0)
 
     around1 : Around N1 l f X1
-    around1 = record { sound = sound1; at = put_there _ l _ }
+    around1 = record { sound = sound1; at = get-put_here _ l _ }
 
     turned1 : canonical X1 ≡ canonical X2
     turned1 = canonical_same X1 X2 (record { front = a ∷ T; back = b ∷ h ∷ plus u ∷ minus u ∷ g ∷ D; here = ap (λ xs. a ∷ xs) (joined_on T (b ∷ h ∷ []) (plus u ∷ minus u ∷ g ∷ D)); there = refl }) (apart_xs N1 l f X1 around1)
 
     around2 : Around N1 l f X2
-    around2 = record { sound = sound1; at = put_there _ l _ ∙ ap (λ xs. Some (record { face = f; content = cycle xs })) turned1 }
+    around2 = record { sound = sound1; at = get-put_here _ l _ ∙ ap (λ xs. Some (record { face = f; content = cycle xs })) turned1 }
 
     t_free : table.get N1.edges t ≡ None
-    t_free = put_other _ u _ t t_u ∙ part_edge_free i t t_riser t_new (omega (arith, top_is c.edge (length hs) i))
+    t_free = get-put_other _ u _ t t_u ∙ part_edge_free i t t_riser t_new (omega (arith, top_cases c.edge (length hs) i))
 
     r_other : l ≢ r
     r_other e = omega (arith, loop_within)
 
     r_free : table.get N1.loops r ≡ None
-    r_free = put_other _ l _ r (λ e. r_other (sym e)) ∙ part_loop_free i r (omega arith)
+    r_free = get-put_other _ l _ r (λ e. r_other (sym e)) ∙ part_loop_free i r (omega arith)
 
     tail_b : tail N1 b ≡ c.vertex + 1 + i
-    tail_b = minus_tail_at N1 (riser c.edge i) _ (put_other _ u _ (riser c.edge i) (λ e. (u_new i (omega arith)).0 (sym e)) ∙ part_riser i)
+    tail_b = minus_tail_row N1 (riser c.edge i) _ (get-put_other _ u _ (riser c.edge i) (λ e. (u_new i (omega arith)).0 (sym e)) ∙ part_riser i)
 
     tail_u : tail N1 (minus u) ≡ c.vertex + 1 + suc i
-    tail_u = minus_tail_at N1 u _ (put_there _ u _)
+    tail_u = minus_tail_row N1 u _ (get-put_here _ u _)
 
     accepted1 : first_false N1 (close c (length hs) i) ≡ None
     accepted1 = mef_fits N1 l f b (minus u) (h ∷ plus u ∷ []) ((g ∷ D) ++ a ∷ T) t s r around2 t_free r_free (part_face_free i s (omega arith))
         (λ e. let q : c.vertex + 1 + i ≡ c.vertex + 1 + suc i = sym tail_b ∙ e ∙ tail_u in omega arith)
-        (fits t (omega (arith, top_is c.edge (length hs) i)) (omega (arith, top_is c.edge (length hs) i, w.edges_left, below)))
+        (fits t (omega (arith, top_cases c.edge (length hs) i)) (omega (arith, top_cases c.edge (length hs) i, w.edges_left, below)))
         (fits s (omega arith) (omega (arith, w.faces_left, below)))
         (fits r (omega arith) (omega (arith, w.loops_left, below)))
 
@@ -211,10 +214,10 @@ module _ (M : Model) (c : Taken) (f l : ℕ) (d : Point) (hs : List ℕ) (w : Re
 
     -- the two loops that the chord leaves
     kept_there : Around N2 l f X3
-    kept_there = record { sound = sound2; at = put_other _ r _ l r_other ∙ put_there _ l _ }
+    kept_there = record { sound = sound2; at = get-put_other _ r _ l r_other ∙ get-put_here _ l _ }
 
     side_there : Around N2 r s X4
-    side_there = record { sound = sound2; at = put_there _ r _ }
+    side_there = record { sound = sound2; at = get-put_here _ r _ }
 
     kept_is : canonical X3 ≡ canonical (lifted_part c hs (suc i))
     kept_is = canonical_same X3 (lifted_part c hs (suc i))
@@ -245,7 +248,7 @@ module _ (M : Model) (c : Taken) (f l : ℕ) (d : Point) (hs : List ℕ) (w : Re
     unfolding prism_part with_side
     edges_are =
         let there : HasHalf M g = half_there M c f l d hs w g g_in in
-        put_exchanged _ u t _ _ (λ e. t_u (sym e))
+        put_turned _ u t _ _ (λ e. t_u (sym e))
         ∙ (λ j. table.put (table.put P.edges t (record { plus_tail = tail_b j; minus_tail = (tail_u ∙ ap (λ k. c.vertex + 1 + k) (sym next_is)) j })) u
         (record { plus_tail = (part_tail i g there ∙ sym (old_tail M c f l d hs w (suc i) g there)) j; minus_tail = v }))
 

@@ -1,23 +1,23 @@
 -- The numbers that the sweep of a loop takes, and what the sides leave as it was.
-use Rattle.std.proofs.Common.{◌≡◌, ◌≢◌, ℕ, zero, suc, ◌+◌, ◌*◌, ◌≤◌, ◌<◌, cond, List, [], ◌∷◌, length, Some, None, is_some, unwrap_or, IsTrue, refl, sym, ap, ◌∙◌, subst, arith, ◌⊎◌, inl, inr, true≢false}
-use Rattle.std.proofs.lemmas.Bool.{eq-eqb, ne_eqb, cases_eq, cases_lt}
+use Rattle.std.proofs.Common.{◌≡◌, ◌≢◌, ℕ, zero, suc, ◌+◌, ◌*◌, ◌≤◌, ◌<◌, cond, List, [], ◌∷◌, length, is_some, unwrap_or, IsTrue, refl, sym, ap, ◌∙◌, subst, arith, ◌⊎◌, inl, inr}
+use Rattle.std.proofs.lemmas.Bool.{eq-eqb, ne_eqb, cases_eq}
 use Rattle.std.proofs.lemmas.Bool.Decides.{nat_tests}
 use Rattle.euler_operators.specs.declared.Point.{Point}
 use Rattle.euler_operators.specs.Items.{IsIn}
 use Rattle.euler_operators.specs.Rings.{canonical, successor}
 use Rattle.euler_operators.proofs.Lists.{tick_same}
 use Rattle.euler_operators.proofs.Rings.{successor_head}
-use Rattle.euler_operators.specs.HalfEdge.{edge_of, is_first, plus, minus}
+use Rattle.euler_operators.specs.HalfEdge.{edge_of, is_first}
 use Rattle.euler_operators.specs.Table as table
-use Rattle.euler_operators.specs.Table.{Table, tables, same_table}
-use Rattle.euler_operators.specs.Model.{Model, EdgeRow, cycle, items_of, holds, tail, tail_in, no_edge, no_face, no_point, content, solid_of, point_of, loop_of, after, cycle_of, is_number}
+use Rattle.euler_operators.specs.Model.{Model, cycle, items_of, holds, tail, tail_in, no_edge, no_face, no_point, content, solid_of, point_of, loop_of, after, cycle_of, is_number}
 use Rattle.euler_operators.specs.Sound.{Has, HasHalf}
-use Rattle.euler_operators.proofs.Halves.{plus_row, minus_row}
-use Rattle.euler_operators.proofs.Models.{content_row, face_row, tail_row, in-holds}
+use Rattle.euler_operators.proofs.Models.{content_row, face_row, in-holds}
+use Rattle.euler_operators.proofs.Tables.{get-put_other, in_use_within}
 use Rattle.shapes.specs.Faces.{start}
 use Rattle.shapes.specs.Fresh.{Taken}
-use Rattle.sweeps_laws.specs.prism.Ready.{Ready}
 use Rattle.shapes.specs.Prism.{riser, top_edge, next_place, with_side, with_sides}
+use Rattle.sweeps_laws.proofs.swept.Numbers.{top_cases}
+use Rattle.sweeps_laws.specs.prism.Ready.{Ready}
 
 -- ---- numbers
 
@@ -28,12 +28,6 @@ pub riser_is : (e i : ℕ) → ((i ≡ 0) × (riser e i ≡ e + 1)) ⊎ ((1 ≤ 
 riser_is e i = elim (cases_eq i 0) [
   | inl p ↦ inl (p, ap (λ b. cond b (e + 1) (e + 2 * i)) (eq-eqb i 0 p))
   | inr p ↦ inr (omega arith, ap (λ b. cond b (e + 1) (e + 2 * i)) (ne_eqb i 0 p))
-]
-
-pub top_is : (e n i : ℕ) → ((i + 1 ≡ n) × (top_edge e n i ≡ e + 2 * n)) ⊎ ((i + 1 ≢ n) × (top_edge e n i ≡ e + 2 * i + 3))
-top_is e n i = elim (cases_eq (i + 1) n) [
-  | inl p ↦ inl (p, ap (λ b. cond b (e + 2 * n) (e + 2 * i + 3)) (eq-eqb (i + 1) n p))
-  | inr p ↦ inr (p, ap (λ b. cond b (e + 2 * n) (e + 2 * i + 3)) (ne_eqb (i + 1) n p))
 ]
 
 pub top_inner : (e n i : ℕ) → i + 1 < n → top_edge e n i ≡ e + 2 * i + 3
@@ -50,26 +44,7 @@ next_last n i h = ap (λ b. cond b 0 (i + 1)) (eq-eqb (i + 1) n h)
 
 -- ---- tails from rows
 
-pub plus_tail_at : (M : Model) (u : ℕ) (row : EdgeRow) → table.get M.edges u ≡ Some row → tail M (plus u) ≡ row.plus_tail
-plus_tail_at M u row at = tail_row M (plus u) row (ap (table.get M.edges) (plus_row u).0 ∙ at) ∙ ap (tail_in row) (plus_row u).1
-
-pub minus_tail_at : (M : Model) (u : ℕ) (row : EdgeRow) → table.get M.edges u ≡ Some row → tail M (minus u) ≡ row.minus_tail
-minus_tail_at M u row at = tail_row M (minus u) row (ap (table.get M.edges) (minus_row u).0 ∙ at) ∙ ap (tail_in row) (minus_row u).1
-
 -- ---- rows put
-
-pub put_there : {X : Type 0} (t : Table X) (n : ℕ) (x : X) → table.get (table.put t n x) n ≡ Some x
-put_there t n x = grind (arith, nat_tests, tables)
-
-pub put_other : {X : Type 0} (t : Table X) (n : ℕ) (x : X) (q : ℕ) → q ≢ n → table.get (table.put t n x) q ≡ table.get t q
-put_other t n x q ne = grind (arith, nat_tests, tables)
-
-pub put_exchanged : {X : Type 0} (t : Table X) (n k : ℕ) (x y : X) → n ≢ k → table.put (table.put t n x) k y ≡ table.put (table.put t k y) n x
-put_exchanged t n k x y ne = same_table _ _ (λ q. grind (arith, nat_tests, tables))
-
--- a number in use isn't above all numbers in use
-pub within : {X : Type 0} (t : Table X) (k q : ℕ) → ((q : ℕ) → k < q → table.get t q ≡ None) → Has t q → q ≤ k
-within t k q above there = elim (cases_lt k q) [ inl p ↦ absurd (true≢false (sym there ∙ ap is_some (above q p))) | inr p ↦ p ]
 
 -- ---- a loop to be swept
 
@@ -115,26 +90,26 @@ module _ (M : Model) (c : Taken) (f l : ℕ) (d : Point) (hs : List ℕ) (w : Re
   sides_edges zero q o = refl
   sides_edges (suc i) q o =
       let h = o i (omega arith) in
-      put_other _ _ _ q h.1 ∙ put_other _ _ _ q h.0 ∙ sides_edges i q (λ j lt. o j (omega arith))
+      get-put_other _ _ _ q h.1 ∙ get-put_other _ _ _ q h.0 ∙ sides_edges i q (λ j lt. o j (omega arith))
 
   pub sides_faces : (i q : ℕ) → ((j : ℕ) → j < i → q ≢ c.face + 1 + j) → table.get (with_sides c (solid_of M f) d hs i M).faces q ≡ table.get M.faces q
   unfolding with_side
   sides_faces zero q o = refl
-  sides_faces (suc i) q o = put_other _ _ _ q (o i (omega arith)) ∙ sides_faces i q (λ j lt. o j (omega arith))
+  sides_faces (suc i) q o = get-put_other _ _ _ q (o i (omega arith)) ∙ sides_faces i q (λ j lt. o j (omega arith))
 
   pub sides_loops : (i q : ℕ) → ((j : ℕ) → j < i → q ≢ c.loop + 1 + j) → table.get (with_sides c (solid_of M f) d hs i M).loops q ≡ table.get M.loops q
   unfolding with_side
   sides_loops zero q o = refl
-  sides_loops (suc i) q o = put_other _ _ _ q (o i (omega arith)) ∙ sides_loops i q (λ j lt. o j (omega arith))
+  sides_loops (suc i) q o = get-put_other _ _ _ q (o i (omega arith)) ∙ sides_loops i q (λ j lt. o j (omega arith))
 
   pub sides_vertices : (i q : ℕ) → ((j : ℕ) → j < i → q ≢ c.vertex + 1 + j) → table.get (with_sides c (solid_of M f) d hs i M).vertices q ≡ table.get M.vertices q
   unfolding with_side
   sides_vertices zero q o = refl
-  sides_vertices (suc i) q o = put_other _ _ _ q (o i (omega arith)) ∙ sides_vertices i q (λ j lt. o j (omega arith))
+  sides_vertices (suc i) q o = get-put_other _ _ _ q (o i (omega arith)) ∙ sides_vertices i q (λ j lt. o j (omega arith))
 
   pub old_edge : (i q : ℕ) → Has M.edges q → table.get (with_sides c (solid_of M f) d hs i M).edges q ≡ table.get M.edges q
-  old_edge i q there = let b : q ≤ c.edge = within M.edges c.edge q w.edges_free there in
-      sides_edges i q (λ j lt. ((λ s. omega (arith, riser_is c.edge j)), (λ s. omega (arith, top_is c.edge (length hs) j))))
+  old_edge i q there = let b : q ≤ c.edge = in_use_within M.edges c.edge w.edges_free q there in
+      sides_edges i q (λ j lt. ((λ s. omega (arith, riser_is c.edge j)), (λ s. omega (arith, top_cases c.edge (length hs) j))))
 
   pub old_tail : (i h : ℕ) → HasHalf M h → tail (with_sides c (solid_of M f) d hs i M) h ≡ tail M h
   unfolding tail
@@ -142,7 +117,7 @@ module _ (M : Model) (c : Taken) (f l : ℕ) (d : Point) (hs : List ℕ) (w : Re
 
   pub old_point : (i v : ℕ) → Has M.vertices v → point_of (with_sides c (solid_of M f) d hs i M) v ≡ point_of M v
   unfolding point_of
-  old_point i v there = let b : v ≤ c.vertex = within M.vertices c.vertex v w.vertices_free there in
+  old_point i v there = let b : v ≤ c.vertex = in_use_within M.vertices c.vertex w.vertices_free v there in
       ap (λ o. unwrap_or o no_point) (sides_vertices i v (λ j lt s. omega arith))
 
   pub old_start : (i h : ℕ) → HasHalf M h → start (with_sides c (solid_of M f) d hs i M) h ≡ start M h
@@ -150,5 +125,5 @@ module _ (M : Model) (c : Taken) (f l : ℕ) (d : Point) (hs : List ℕ) (w : Re
 
   pub old_solid : (i : ℕ) → solid_of (with_sides c (solid_of M f) d hs i M) f ≡ solid_of M f
   unfolding solid_of
-  old_solid i = let b : f ≤ c.face = within M.faces c.face f w.faces_free face_there in
+  old_solid i = let b : f ≤ c.face = in_use_within M.faces c.face w.faces_free f face_there in
       ap (λ o. (unwrap_or o no_face).solid) (sides_faces i f (λ j lt s. omega arith))

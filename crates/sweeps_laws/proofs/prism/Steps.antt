@@ -1,13 +1,10 @@
 -- What mev at one corner and mef make of a sound model of which one loop is known.
-use Rattle.std.proofs.Common.{◌≡◌, ◌≢◌, ℕ, zero, suc, cond, List, [], ◌∷◌, ◌++◌, None, IsTrue, refl, sym, ap, ◌∙◌, subst, arith}
-use Rattle.std.proofs.lemmas.Bool.{eq-eqb}
-use Rattle.std.proofs.lemmas.Bool.Decides.{nat_tests}
+use Rattle.std.proofs.Common.{◌≡◌, ◌≢◌, ℕ, List, [], ◌∷◌, ◌++◌, None, IsTrue, refl, sym, ap, ◌∙◌, subst, arith}
 use Rattle.euler_operators.specs.declared.Point.{Point}
 use Rattle.euler_operators.specs.Points.{IsInRange}
 use Rattle.euler_operators.specs.declared.Corner.TheVariants.{At}
 use Rattle.euler_operators.specs.Items.{count, IsIn, IsApart}
 use Rattle.euler_operators.specs.Rings.{canonical, rotate_to, upto, onward}
-use Rattle.euler_operators.specs.Rings as rings
 use Rattle.euler_operators.specs.Edits.{insert_before}
 use Rattle.euler_operators.proofs.Lists.{count-append, tick_same, tick_other}
 use Rattle.euler_operators.proofs.Rotations.{count-canonical, rotate_at, rotate_to_head, canonical_same}
@@ -16,37 +13,26 @@ use Rattle.euler_operators.proofs.Edits.{count-insert_before}
 use Rattle.euler_operators.proofs.Operators.{apart_front}
 use Rattle.euler_operators.specs.HalfEdge.{edge_of, plus, minus, code, half}
 use Rattle.euler_operators.specs.Table as table
-use Rattle.euler_operators.specs.Table.{Table, tables, same_table}
-use Rattle.euler_operators.specs.Model.{Model, EdgeRow, cycle, tail, loop_of, content, face_of, solid_of, cycle_of, arc, round, is_number}
+use Rattle.euler_operators.specs.Model.{Model, EdgeRow, cycle, tail, loop_of, content, face_of, solid_of, cycle_of, arc, is_number}
 use Rattle.euler_operators.specs.Sound.{HasHalf}
-use Rattle.euler_operators.proofs.Halves.{plus_row, minus_row, code-half}
-use Rattle.euler_operators.proofs.Tables.{map_one, map_same, map-put}
+use Rattle.euler_operators.proofs.Halves.{plus_row, minus_row, code-half, mate_plus, plus_other}
+use Rattle.euler_operators.proofs.Tables.{map_one, map_same, map-put, put-put}
 use Rattle.euler_operators.proofs.Models.{in-holds, not_held, other_loop}
 use Rattle.euler_operators.specs.declared.Op.TheVariants.{Mev, Mef}
 use Rattle.euler_operators.specs.Conditions.{face_at, first_false}
 use Rattle.euler_operators.specs.Effect.{effect, mev_at, mef, with_before, with_tails, edge_row}
-use Rattle.euler_laws.proofs.shared.KnownLoop.{Around, face_is, canonical_apart, apart_xs, loop_is, half_is, cycle_is, rotated_canonical}
-use Rattle.euler_laws.proofs.shared.Rows.{where_held_none, where_held_there}
-use Rattle.euler_laws.proofs.shared.Undo.{both_in, mate_plus}
+use Rattle.euler_laws.proofs.shared.Rows.{where_held_none, where_held_there, edge_row_plus}
+use Rattle.euler_laws.proofs.shared.Undo.{both_in}
 use Rattle.euler_laws.proofs.mev.MevSound.{MevGoes}
 use Rattle.euler_laws.proofs.mev.Mev.{mev_accepted}
 use Rattle.euler_laws.proofs.mef.MefUndo.{loops-mef}
 use Rattle.euler_laws.proofs.mef.MefSound.{MefGoes}
 use Rattle.euler_laws.proofs.mef.Kef.{mef_accepted}
+use Rattle.sweeps_laws.proofs.lamina.Steps.{arc_none}
+use Rattle.euler_laws.proofs.shared.KnownLoop.{Around, face_is, canonical_apart, apart_xs, loop_is, half_is, cycle_is, rotated_canonical}
 
 pub edge_plus : (e : ℕ) → edge_of (plus e) ≡ e
 edge_plus e = (plus_row e).0
-
-pub row_plus : (e a b : ℕ) → edge_row (plus e) a b ≡ record { plus_tail = a; minus_tail = b }
-row_plus e a b = ap (λ t. cond t (record { plus_tail = a; minus_tail = b }) (record { plus_tail = b; minus_tail = a })) (plus_row e).1
-
--- an arc from a half-edge to itself is empty
-arc_none : (next : ℕ → ℕ) (g n : ℕ) → rings.arc next g g n ≡ []
-arc_none next g zero = refl
-arc_none next g (suc n) = rw (eq-eqb g g refl) refl
-
-put_twice : {X : Type 0} (t : Table X) (n : ℕ) (x y : X) → table.put (table.put t n x) n y ≡ table.put t n y
-put_twice t n x y = same_table _ _ (λ q. grind (arith, nat_tests, tables))
 
 -- the model with another cycle in loop l, one more edge and one more vertex
 abbrev pub with_spur : Model → ℕ → ℕ → List ℕ → ℕ → EdgeRow → ℕ → Point → Model
@@ -73,9 +59,6 @@ module _ (M : Model) (l f : ℕ) (ps qs : List ℕ) (g u v : ℕ) (p : Point) (a
   none_new : (x : ℕ) → edge_of x ≡ u → count x (canonical (ps ++ g ∷ qs)) ≡ 0
   none_new x e = not_held M a.sound x (ap (table.get M.edges) e ∙ edge_free) l (record { face = f; content = cycle (canonical (ps ++ g ∷ qs)) }) a.at
 
-  new_apart : plus u ≢ minus u
-  new_apart e = omega arith
-
   put_in_loop : (x : ℕ) → table.map_rows (with_before g x) M.loops ≡ table.put M.loops l (record { face = f; content = cycle (canonical (insert_before g x (canonical (ps ++ g ∷ qs)))) })
   put_in_loop x =
       map_one (with_before g x) M.loops l (record { face = f; content = cycle (canonical (ps ++ g ∷ qs)) }) a.at
@@ -87,7 +70,7 @@ module _ (M : Model) (l f : ℕ) (ps qs : List ℕ) (g u v : ℕ) (p : Point) (a
       let base : IsApart (g ∷ (qs ++ ps)) = λ x. omega (arith, apart_xs M l f (ps ++ g ∷ qs) a x, count-append x ps (g ∷ qs), count-append x qs ps) in
       let same : (x : ℕ) → count x (g ∷ (qs ++ ps)) ≡ count x (canonical (ps ++ g ∷ qs)) = λ x. omega (arith, count-canonical x (ps ++ g ∷ qs), count-append x ps (g ∷ qs), count-append x qs ps) in
       let no_m : count (minus u) (g ∷ (qs ++ ps)) ≡ 0 = same (minus u) ∙ none_new (minus u) (minus_row u).0 in
-      let no_h : count (plus u) (minus u ∷ g ∷ (qs ++ ps)) ≡ 0 = omega (arith, same (plus u), none_new (plus u) (plus_row u).0, tick_other (plus u) (minus u) new_apart) in
+      let no_h : count (plus u) (minus u ∷ g ∷ (qs ++ ps)) ≡ 0 = omega (arith, same (plus u), none_new (plus u) (plus_row u).0, tick_other (plus u) (minus u) (plus_other u)) in
       apart_front (plus u) (minus u ∷ g ∷ (qs ++ ps)) no_h (apart_front (minus u) (g ∷ (qs ++ ps)) no_m base)
 
   turned : rotate_to g (canonical (ps ++ g ∷ qs)) ≡ g ∷ (qs ++ ps)
@@ -95,7 +78,7 @@ module _ (M : Model) (l f : ℕ) (ps qs : List ℕ) (g u v : ℕ) (p : Point) (a
 
   items_are : canonical (insert_before g (minus u) (canonical (insert_before g (plus u) (canonical (ps ++ g ∷ qs))))) ≡ canonical (ps ++ plus u ∷ minus u ∷ g ∷ qs)
   items_are =
-      both_in (canonical (ps ++ g ∷ qs)) (canonical_apart M l f (ps ++ g ∷ qs) a) (plus u) (minus u) g g g_here g_here new_apart (none_new (plus u) (plus_row u).0) (none_new (minus u) (minus_row u).0)
+      both_in (canonical (ps ++ g ∷ qs)) (canonical_apart M l f (ps ++ g ∷ qs) a) (plus u) (minus u) g g g_here g_here (plus_other u) (none_new (plus u) (plus_row u).0) (none_new (minus u) (minus_row u).0)
       ∙ (λ i. canonical ((plus u ∷ upto_itself g (canonical (ps ++ g ∷ qs)) g_here i) ++ minus u ∷ (onward_itself g (canonical (ps ++ g ∷ qs)) g_here ∙ turned) i))
       ∙ canonical_same (plus u ∷ minus u ∷ g ∷ (qs ++ ps)) (ps ++ plus u ∷ minus u ∷ g ∷ qs) (record { front = plus u ∷ minus u ∷ g ∷ qs; back = ps; here = refl; there = refl }) turned_apart
 
@@ -107,18 +90,14 @@ module _ (M : Model) (l f : ℕ) (ps qs : List ℕ) (g u v : ℕ) (p : Point) (a
       ap (table.map_rows (with_before g (minus u))) (put_in_loop (plus u))
       ∙ map-put (with_before g (minus u)) M.loops l (record { face = f; content = cycle (canonical (insert_before g (plus u) (canonical (ps ++ g ∷ qs)))) })
       ∙ ap (λ t. table.put t l (with_before g (minus u) l (record { face = f; content = cycle (canonical (insert_before g (plus u) (canonical (ps ++ g ∷ qs)))) }))) (put_in_loop (minus u))
-      ∙ put_twice M.loops l _ _
+      ∙ put-put M.loops l _ _
       ∙ ap (table.put M.loops l) (where_held_there g (λ hs. cycle (canonical (insert_before g (minus u) hs))) l (record { face = f; content = cycle (canonical (insert_before g (plus u) (canonical (ps ++ g ∷ qs)))) })
       (in-holds g (cycle (canonical (insert_before g (plus u) (canonical (ps ++ g ∷ qs))))) still_here)
       ∙ ap (λ xs. record { face = f; content = cycle xs }) items_are)
 
-  arc_is_none : arc M g g ≡ []
-  unfolding arc
-  arc_is_none = arc_none (round M) g _
-
   edges_are : table.put (table.map_rows (with_tails (arc M g g) v) M.edges) (edge_of (plus u)) (edge_row (plus u) (tail M g) v) ≡ table.put M.edges u (record { plus_tail = tail M g; minus_tail = v })
   edges_are =
-      (λ i. table.put (table.map_rows (with_tails (arc_is_none i) v) M.edges) (edge_plus u i) (row_plus u (tail M g) v i))
+      (λ i. table.put (table.map_rows (with_tails (arc_none M g i) v) M.edges) (edge_plus u i) (edge_row_plus u (tail M g) v i))
       ∙ ap (λ t. table.put t u (record { plus_tail = tail M g; minus_tail = v })) (map_same (with_tails [] v) M.edges (λ q x at. refl))
 
   pub mev_here : mev_at M g g (plus u) v p ≡ with_spur M l f (ps ++ plus u ∷ minus u ∷ g ∷ qs) u (record { plus_tail = tail M g; minus_tail = v }) v p
@@ -182,7 +161,7 @@ module _ (M : Model) (l f : ℕ) (g k : ℕ) (ps qs : List ℕ) (t s r : ℕ) (a
   mef_here = let at : face_at M g ≡ f = ap (face_of M) (loop_is M l f ((g ∷ ps) ++ k ∷ qs) a g first_in) ∙ face_is M l f ((g ∷ ps) ++ k ∷ qs) a in λ i. record M {
     faces = table.put M.faces s (record { solid = solid_of M (at i); outer = r });
     loops = chord_loops i;
-    edges = table.put M.edges (edge_plus t i) (row_plus t (tail M g) (tail M k) i);
+    edges = table.put M.edges (edge_plus t i) (edge_row_plus t (tail M g) (tail M k) i);
   }
 
   pub mef_does : effect M (Mef (half g) (half k) (half (plus t)) s r) ≡ with_chord M l f (plus t ∷ k ∷ qs) t (record { plus_tail = tail M g; minus_tail = tail M k }) s r ((g ∷ ps) ++ minus t ∷ [])

@@ -6,6 +6,7 @@ use Rattle.euler_operators.specs.Points.{IsInRange}
 use Rattle.euler_operators.specs.Vectors.{moved}
 use Rattle.euler_operators.specs.Items.{IsIn}
 use Rattle.euler_operators.proofs.Std.{IsIn-get_or}
+use Rattle.euler_operators.proofs.Tables.{get-put_other, in_use_within}
 use Rattle.euler_operators.specs.declared.Corner.TheVariants.{At}
 use Rattle.euler_operators.specs.HalfEdge.{edge_of, half, plus}
 use Rattle.euler_operators.specs.Table as table
@@ -21,10 +22,10 @@ use Rattle.shapes.specs.Fresh.{Taken}
 use Rattle.shapes.specs.Prism.{riser}
 use Rattle.sweeps_laws.specs.prism.Part.{prism_part}
 use Rattle.sweeps_laws.specs.prism.SweepOps.{raise_item, raise, close, close_last, rounds, loop_ops}
-use Rattle.sweeps_laws.specs.prism.Ready.{Ready}
-use Rattle.sweeps_laws.proofs.prism.Sides.{riser_is, put_other, within, half_there, old_edge, sides_vertices, two_items}
+use Rattle.sweeps_laws.proofs.prism.Sides.{riser_is, half_there, old_edge, sides_vertices}
 use Rattle.sweeps_laws.proofs.prism.Rounds.{part_tail}
 use Rattle.sweeps_laws.proofs.prism.Loops.{rounds_go, loop_swept}
+use Rattle.sweeps_laws.specs.prism.Ready.{Ready}
 
 module _ (M : Model) (c : Taken) (f l : ℕ) (d : Point) (hs : List ℕ) (w : Ready M c f l d hs) where
   -- the model once the item at place i is raised and the sides before it stand
@@ -34,12 +35,12 @@ module _ (M : Model) (c : Taken) (f l : ℕ) (d : Point) (hs : List ℕ) (w : Re
   part_half : (i h : ℕ) → HasHalf M h → HasHalf (prism_part c f l d hs i M) h
   unfolding prism_part
   part_half i h there =
-      let b : edge_of h ≤ c.edge = within M.edges c.edge (edge_of h) w.edges_free there in
-      ap is_some (put_other _ _ _ (edge_of h) (λ s. omega (arith, riser_is c.edge i)) ∙ old_edge M c f l d hs w i (edge_of h) there) ∙ there
+      let b : edge_of h ≤ c.edge = in_use_within M.edges c.edge w.edges_free (edge_of h) there in
+      ap is_some (get-put_other _ _ _ (edge_of h) (λ s. omega (arith, riser_is c.edge i)) ∙ old_edge M c f l d hs w i (edge_of h) there) ∙ there
 
   part_point : (i v : ℕ) → table.get M.vertices v ≢ None → point_of (prism_part c f l d hs i M) v ≡ point_of M v
   unfolding prism_part point_of
-  part_point i v there = ap (λ o. unwrap_or o no_point) (put_other _ _ _ v (λ s. there (w.vertices_free v (omega arith))) ∙ sides_vertices M c f l d hs w i v (λ j lt s. there (w.vertices_free v (omega arith))))
+  part_point i v there = ap (λ o. unwrap_or o no_point) (get-put_other _ _ _ v (λ s. there (w.vertices_free v (omega arith))) ∙ sides_vertices M c f l d hs w i v (λ j lt s. there (w.vertices_free v (omega arith))))
 
   some_vertex : (v : ℕ) → is_some (table.get M.vertices v) ≡ true → table.get M.vertices v ≢ None
   some_vertex v there none = true≢false (sym there ∙ ap is_some none)
@@ -56,10 +57,6 @@ module _ (M : Model) (c : Taken) (f l : ℕ) (d : Point) (hs : List ℕ) (w : Re
 
     pub turn_range : (h : ℕ) → IsIn h hs → IsInRange (moved (start (N i) h) d)
     turn_range h j = subst (λ p. IsInRange (moved p d)) (sym (turn_start h j)) (w.points_fit h j)
-
-  -- the first item
-  pub first_accepted : first_false M (raise M c d hs 0) ≡ None
-  first_accepted = (rounds_go M c f l d hs w 0 (let t = two_items M c f l d hs w in omega arith)).0.0
 
   -- one more item
   module _ (i : ℕ) (lt : suc i < length hs) where

@@ -11,10 +11,12 @@ use Rattle.euler_operators.proofs.Std.{IsIn-get_or}
 use Rattle.euler_operators.specs.declared.Corner.TheVariants.{At}
 use Rattle.euler_operators.specs.HalfEdge.{edge_of, half, plus}
 use Rattle.euler_operators.specs.Table as table
-use Rattle.euler_operators.specs.Table.{Table}
 use Rattle.euler_operators.specs.Model.{face_of, Model, cycle, items_of, content, tail, point_of, solid_of}
 use Rattle.euler_operators.specs.Sound.{Sound, HasHalf}
 use Rattle.euler_operators.proofs.Models.{content_row, face_row}
+use Rattle.euler_operators.proofs.Members.{IsIn_rest}
+use Rattle.euler_operators.proofs.Rotations.{IsIn_head}
+use Rattle.euler_operators.proofs.Tables.{get-put_other, in_use_within}
 use Rattle.euler_operators.specs.declared.Op.{Op}
 use Rattle.euler_operators.specs.declared.Op.TheVariants.{Mev}
 use Rattle.euler_laws.specs.Laws.{AreAccepted, effects}
@@ -23,10 +25,11 @@ use Rattle.shapes.specs.Faces.{start, vertices_on, vertices_in}
 use Rattle.shapes.specs.Fresh.{Taken}
 use Rattle.shapes.specs.Prism.{riser, top_items, with_sides, lifted, raised, raised_over, prism_from}
 use Rattle.sweeps_laws.specs.prism.SweepOps.{close, close_last, rounds, loop_ops, taken_after, ops_from}
-use Rattle.sweeps_laws.specs.prism.Ready.{Ready}
-use Rattle.sweeps_laws.proofs.prism.Sides.{riser_is, top_is, put_other, within, old_edge, old_start, sides_edges, sides_faces, sides_loops, sides_vertices, two_items}
+use Rattle.sweeps_laws.proofs.prism.Sides.{riser_is, old_edge, old_start, sides_edges, sides_faces, sides_loops, sides_vertices, two_items}
 use Rattle.sweeps_laws.proofs.prism.Rounds.{loop_within}
 use Rattle.sweeps_laws.proofs.prism.Loops.{loop_swept}
+use Rattle.sweeps_laws.proofs.swept.Numbers.{top_cases}
+use Rattle.sweeps_laws.specs.prism.Ready.{Ready}
 
 -- N has grown out of M by sweeping some loops of face f along d; ls are the other ones
 pub record Going (M N : Model) (c : Taken) (f : ℕ) (d : Point) (ls : List ℕ) : Type 0 where
@@ -57,12 +60,6 @@ module _ (M N : Model) (c : Taken) (f l : ℕ) (d : Point) (ls : List ℕ) (g : 
   abbrev hs : List ℕ
   hs = items_of (content M l)
 
-  l_in : IsIn l (l ∷ ls)
-  l_in = omega (arith, tick_same l)
-
-  later : (k : ℕ) → IsIn k ls → IsIn k (l ∷ ls)
-  later k i = omega (arith, i)
-
   l_once : count l ls ≡ 0
   l_once = omega (arith, g.apart l, tick_same l)
 
@@ -70,12 +67,12 @@ module _ (M N : Model) (c : Taken) (f l : ℕ) (d : Point) (ls : List ℕ) (g : 
   not_l k i e = let z : count k ls ≡ 0 = ap (λ q. count q ls) e ∙ l_once in omega (arith, i, z)
 
   corners_are : length (vertices_in M (l ∷ ls)) ≡ length hs + length (vertices_in M ls)
-  corners_are = ap (λ q. length (vertices_on M q ++ vertices_in M ls)) (g.contents l l_in) ∙ length-append (map (tail M) hs) (vertices_in M ls) ∙ ap (λ q. q + length (vertices_in M ls)) (length-map hs (tail M))
+  corners_are = ap (λ q. length (vertices_on M q ++ vertices_in M ls)) (g.contents l (IsIn_head l ls)) ∙ length-append (map (tail M) hs) (vertices_in M ls) ∙ ap (λ q. q + length (vertices_in M ls)) (length-map hs (tail M))
 
   ready : Ready N c f l d hs
   ready = record {
     sound = g.sound;
-    at = g.rows l l_in;
+    at = g.rows l (IsIn_head l ls);
     faces_free = g.faces_free;
     loops_free = g.loops_free;
     edges_free = g.edges_free;
@@ -84,7 +81,7 @@ module _ (M N : Model) (c : Taken) (f l : ℕ) (d : Point) (ls : List ℕ) (g : 
     loops_left = omega (arith, g.loops_left, corners_are);
     edges_left = omega (arith, g.edges_left, corners_are);
     vertices_left = omega (arith, g.vertices_left, corners_are);
-    points_fit = λ h i. subst (λ p. IsInRange (moved p d)) (sym (g.starts h (g.items_there l l_in h i))) (g.points_fit l l_in h i);
+    points_fit = λ h i. subst (λ p. IsInRange (moved p d)) (sym (g.starts h (g.items_there l (IsIn_head l ls) h i))) (g.points_fit l (IsIn_head l ls) h i);
   }
 
   -- the model with this loop swept
@@ -96,7 +93,7 @@ module _ (M N : Model) (c : Taken) (f l : ℕ) (d : Point) (ls : List ℕ) (g : 
 
   ops_are : loop_ops M c d hs ≡ loop_ops N c d hs
   ops_are = ap (λ ops. ops ++ close_last c (length hs) (length hs - 1) ∷ [])
-      (same_rounds M N c d hs (λ i lt. sym (g.starts (get_or hs i 0) (g.items_there l l_in (get_or hs i 0) (IsIn-get_or hs i 0 lt)))) (length hs - 1) (let s = some_items in omega arith))
+      (same_rounds M N c d hs (λ i lt. sym (g.starts (get_or hs i 0) (g.items_there l (IsIn_head l ls) (get_or hs i 0) (IsIn-get_or hs i 0 lt)))) (length hs - 1) (let s = some_items in omega arith))
 
   accepted : AreAccepted N (loop_ops M c d hs)
   accepted = subst (AreAccepted N) (sym ops_are) (loop_swept N c f l d hs ready).0
@@ -113,15 +110,15 @@ module _ (M N : Model) (c : Taken) (f l : ℕ) (d : Point) (ls : List ℕ) (g : 
 
   loop_after : (k : ℕ) → IsIn k ls → table.get N'.loops k ≡ table.get N.loops k
   loop_after k i =
-      let b : k ≤ c.loop = within N.loops c.loop k g.loops_free (ap is_some (g.rows k (later k i))) in
-      put_other _ l _ k (not_l k i) ∙ sides_loops N c f l d hs ready (length hs) k (λ j lt s. omega arith)
+      let b : k ≤ c.loop = in_use_within N.loops c.loop g.loops_free k (ap is_some (g.rows k (IsIn_rest k l ls i))) in
+      get-put_other _ l _ k (not_l k i) ∙ sides_loops N c f l d hs ready (length hs) k (λ j lt s. omega arith)
 
   next : Going M N' (taken_after c (length hs)) f d ls
   next = record {
     sound = sound_after;
     faces_free = λ q a. sides_faces N c f l d hs ready (length hs) q (λ j lt s. omega arith) ∙ g.faces_free q (omega arith);
-    loops_free = λ q a. put_other _ l _ q (λ s. omega (arith, loop_within N c f l d hs ready)) ∙ sides_loops N c f l d hs ready (length hs) q (λ j lt s. omega arith) ∙ g.loops_free q (omega arith);
-    edges_free = λ q a. sides_edges N c f l d hs ready (length hs) q (λ j lt. ((λ s. omega (arith, riser_is c.edge j)), (λ s. omega (arith, top_is c.edge (length hs) j)))) ∙ g.edges_free q (omega arith);
+    loops_free = λ q a. get-put_other _ l _ q (λ s. omega (arith, loop_within N c f l d hs ready)) ∙ sides_loops N c f l d hs ready (length hs) q (λ j lt s. omega arith) ∙ g.loops_free q (omega arith);
+    edges_free = λ q a. sides_edges N c f l d hs ready (length hs) q (λ j lt. ((λ s. omega (arith, riser_is c.edge j)), (λ s. omega (arith, top_cases c.edge (length hs) j)))) ∙ g.edges_free q (omega arith);
     vertices_free = λ q a. sides_vertices N c f l d hs ready (length hs) q (λ j lt s. omega arith) ∙ g.vertices_free q (omega arith);
     faces_left = omega (arith, g.faces_left, corners_are);
     loops_left = omega (arith, g.loops_left, corners_are);
@@ -130,22 +127,22 @@ module _ (M N : Model) (c : Taken) (f l : ℕ) (d : Point) (ls : List ℕ) (g : 
     halves = λ h there. ap is_some (old_edge N c f l d hs ready (length hs) (edge_of h) (g.halves h there)) ∙ g.halves h there;
     starts = λ h there. start_after h (g.halves h there) ∙ g.starts h there;
     apart = λ x. omega (arith, g.apart x);
-    rows = λ k i. loop_after k i ∙ g.rows k (later k i);
-    items_there = λ k i. g.items_there k (later k i);
-    contents = λ k i. g.contents k (later k i);
-    points_fit = λ k i. g.points_fit k (later k i);
+    rows = λ k i. loop_after k i ∙ g.rows k (IsIn_rest k l ls i);
+    items_there = λ k i. g.items_there k (IsIn_rest k l ls i);
+    contents = λ k i. g.contents k (IsIn_rest k l ls i);
+    points_fit = λ k i. g.points_fit k (IsIn_rest k l ls i);
   }
 
   raised_is : raised f d (record { model = N; taken = c }) l ≡ record { model = N'; taken = taken_after c (length hs) }
   unfolding raised
-  raised_is = ap (λ q. raised_over f d (record { model = N; taken = c }) l (items_of q)) (content_row N l (record { face = f; content = cycle hs }) (g.rows l l_in))
+  raised_is = ap (λ q. raised_over f d (record { model = N; taken = c }) l (items_of q)) (content_row N l (record { face = f; content = cycle hs }) (g.rows l (IsIn_head l ls)))
 
   -- the same, told from the model then
   same_items : items_of (content N l) ≡ hs
-  same_items = ap items_of (content_row N l (record { face = f; content = cycle hs }) (g.rows l l_in))
+  same_items = ap items_of (content_row N l (record { face = f; content = cycle hs }) (g.rows l (IsIn_head l ls)))
 
   pub turn_ready : Ready N c (face_of N l) l d (items_of (content N l))
-  turn_ready = subst (λ k. Ready N c k l d (items_of (content N l))) (sym (face_row N l (record { face = f; content = cycle hs }) (g.rows l l_in))) (subst (Ready N c f l d) (sym same_items) ready)
+  turn_ready = subst (λ k. Ready N c k l d (items_of (content N l))) (sym (face_row N l (record { face = f; content = cycle hs }) (g.rows l (IsIn_head l ls)))) (subst (Ready N c f l d) (sym same_items) ready)
 
   module _ (X : Model) (x : X ≡ effects N (loop_ops N c d (items_of (content N l)))) where
     is_swept : X ≡ N'

@@ -1,9 +1,10 @@
 -- Tables with rows put at the numbers after a, one after the other, and with one row rewritten.
-use Rattle.std.proofs.Common.{◌≡◌, ◌≢◌, ℕ, zero, suc, ◌+◌, ◌≤◌, ◌<◌, Bool, true, false, cond, nat_le, List, [], ◌∷◌, ◌++◌, Some, refl, sym, ap, subst, ◌∙◌, arith, ◌⊎◌, inl, inr, append-nil}
+use Rattle.std.proofs.Common.{◌≡◌, ◌≢◌, ℕ, zero, suc, ◌+◌, ◌≤◌, ◌<◌, Bool, true, false, cond, nat_le, [], ◌∷◌, ◌++◌, Some, refl, sym, ap, subst, ◌∙◌, arith, ◌⊎◌, inl, inr, append-nil}
 use Rattle.std.proofs.lemmas.Bool.Decides.{nat_tests, eqb_tells}
 use Rattle.euler_operators.specs.Table as table
-use Rattle.euler_operators.specs.Table.{Table, all_in, greatest_in, map_entries, map_rows}
-use Rattle.shapes.proofs.fresh.Rows.{all_where-put_last, greatest-put_last, get-put_here, get-put_other}
+use Rattle.euler_operators.specs.Table.{Table}
+use Rattle.euler_operators.proofs.Tables.{get-put_here, get-put_other}
+use Rattle.shapes.proofs.fresh.Rows.{all_where-put_last, greatest-put_last}
 
 -- a number is at most a, one of the n after a, or above these
 pub place_cases : (q a n : ℕ) → (q ≤ a) ⊎ (((i : ℕ) × (i < n) × (q ≡ a + 1 + i)) ⊎ (a + n < q))
@@ -85,25 +86,6 @@ module _ {X : Type 0} (t : Table X) (a : ℕ) (x : ℕ → X) where
     pub filled_none : (p : ℕ → X → Bool) (n : ℕ) → ((i : ℕ) → p (a + 1 + i) (x i) ≡ false) → table.all_where p (filled n) ≡ table.all_where p t
     filled_none p zero none = refl
     filled_none p (suc n) none = filled_search p n ∙ ap (λ b. table.all_where p (filled n) ++ cond b ((a + 1 + n) ∷ []) []) (none n) ∙ append-nil (table.all_where p (filled n)) ∙ filled_none p n none
-
-module _ {X : Type 0} (f : ℕ → X → X) where
-  all_in-map : (p : ℕ → X → Bool) (es : List (ℕ × X)) → all_in p (map_entries f es) ≡ all_in (λ q x. p q (f q x)) es
-  all_in-map p [] = refl
-  all_in-map p (e ∷ es) = ap (λ ns. cond (p e.0 (f e.0 e.1)) (e.0 ∷ ns) ns) (all_in-map p es)
-
-  -- a search after a rewriting
-  pub all_where-map : (p : ℕ → X → Bool) (t : Table X) → table.all_where p (map_rows f t) ≡ table.all_where (λ q x. p q (f q x)) t
-  unfolding table.all_where map_rows
-  all_where-map p t = all_in-map p t.rows
-
-  greatest_in-map : (es : List (ℕ × X)) → greatest_in (map_entries f es) ≡ greatest_in es
-  greatest_in-map [] = refl
-  greatest_in-map (e ∷ []) = refl
-  greatest_in-map (e ∷ k ∷ es) = greatest_in-map (k ∷ es)
-
-  pub greatest-map : (t : Table X) → table.greatest (map_rows f t) ≡ table.greatest t
-  unfolding table.greatest map_rows
-  greatest-map t = greatest_in-map t.rows
 
 -- searches by tests that agree
 pub same_search : {X : Type 0} (p q : ℕ → X → Bool) (t : Table X) → ((n : ℕ) (x : X) → p n x ≡ q n x) → table.all_where p t ≡ table.all_where q t

@@ -8,16 +8,18 @@ use Rattle.euler_operators.proofs.Std.{IsIn-get_or}
 use Rattle.euler_operators.specs.HalfEdge.{edge_of, is_first, plus, minus}
 use Rattle.euler_operators.specs.Table as table
 use Rattle.euler_operators.specs.Table.{Table}
-use Rattle.euler_operators.specs.Model.{Model, lone, cycle, EdgeRow, no_edge, items_of, tail, tail_in, content, face_of, outer, solid_of}
+use Rattle.euler_operators.specs.Model.{Model, lone, EdgeRow, no_edge, items_of, tail, tail_in, content, face_of, outer, solid_of}
 use Rattle.euler_operators.specs.Sound.{Has}
 use Rattle.euler_operators.proofs.Halves.{plus_row, minus_row}
+use Rattle.euler_operators.proofs.Tables.{greatest-map, get-put_here, get-put_other}
+use Rattle.euler_operators.proofs.Models.{same_outer, same_solid, never_lone}
 use Rattle.shapes.specs.Fresh.{Taken}
 use Rattle.shapes.specs.Prism.{riser, top_edge, top_items, next_place}
-use Rattle.shapes.proofs.fresh.Rows.{at_most_greatest, get-put_here, get-put_other}
-use Rattle.sweeps_laws.proofs.swept.Filled.{place_cases, filled_greatest, greatest-map}
+use Rattle.shapes.proofs.fresh.Rows.{at_most_greatest}
+use Rattle.sweeps_laws.proofs.swept.Filled.{place_cases, filled_greatest}
 use Rattle.sweeps_laws.proofs.swept.Numbers.{next_within, riser_most, top_most}
 use Rattle.sweeps_laws.proofs.swept.Sides.{start_kept, finish_kept, grown, item, side_face, side_items, side_loop, side_riser, side_top, faces_grown, edges_step}
-use Rattle.sweeps_laws.proofs.swept.Lifted.{Bounded, IsPathOf, same_outer, same_solid, swept, tail_lifted, keeps_swept, face_old, face_past, outer_new, loop_old, within, face_of_old, face_of_new, face_of_past, content_here, content_old, content_past, content_new, loops_are, outer_old}
+use Rattle.sweeps_laws.proofs.swept.Lifted.{Bounded, IsPathOf, swept, tail_lifted, keeps_swept, face_old, face_past, outer_new, loop_old, within, face_of_old, face_of_new, face_of_past, content_here, content_old, content_past, content_new, loops_are, outer_old}
 
 -- the counters after a loop of n items is swept
 abbrev pub counted : Taken → ℕ → Taken
@@ -62,9 +64,6 @@ put_within M N e row m is a b low h = elim (eqb_tells (edge_of h) e) [
   | inl p ↦ subst (λ t. t ≤ m) (sym (tail_got N h (Some row) (ap (λ t. table.get t (edge_of h)) is ∙ ap (table.get (table.put M.edges e row)) p.1 ∙ get-put_here M.edges e row))) (row_within row (is_first h) m a b)
   | inr p ↦ subst (λ t. t ≤ m) (sym (tail_got N h (table.get M.edges (edge_of h)) (ap (λ t. table.get t (edge_of h)) is ∙ get-put_other M.edges e row (edge_of h) p.1) ∙ sym (tail_got M h (table.get M.edges (edge_of h)) refl))) (low h)
 ]
-
-no_lone : (hs : List ℕ) (v : ℕ) → cycle hs ≡ lone v → ⊥
-no_lone hs v e = cc
 
 module _ (M : Model) (c : Taken) (s : ℕ) (d : Point) (hs : List ℕ) (f l : ℕ) (b : Bounded M c) (r : IsPathOf M f l hs) where
   abbrev after : Model
@@ -145,10 +144,10 @@ module _ (M : Model) (c : Taken) (s : ℕ) (d : Point) (hs : List ℕ) (f l : �
   lones_after : (q v : ℕ) → content after q ≡ lone v → v ≤ c.vertex + length hs
   lones_after q v e = elim (place_cases q c.loop (length hs)) [
     | inl o ↦ elim (eqb_tells q l) [
-      | inl p ↦ absurd (no_lone (top_items c.edge (length hs) (length hs)) v (sym (ap (content after) p.1 ∙ content_here M c s d hs f l b r) ∙ e))
+      | inl p ↦ absurd (never_lone (top_items c.edge (length hs) (length hs)) v (sym (ap (content after) p.1 ∙ content_here M c s d hs f l b r) ∙ e))
       | inr p ↦ more v c.vertex (length hs) (b.lones q v (sym (content_old M c s d hs f l b r q p.1 o) ∙ e))
     ]
-    | inr (inl j) ↦ absurd (no_lone (side_items M c s d hs j.0) v (sym (ap (content after) j.2 ∙ content_new M c s d hs f l b r j.0 j.1) ∙ e))
+    | inr (inl j) ↦ absurd (never_lone (side_items M c s d hs j.0) v (sym (ap (content after) j.2 ∙ content_new M c s d hs f l b r j.0 j.1) ∙ e))
     | inr (inr p) ↦ more v c.vertex (length hs) (b.lones q v (sym (content_past M c s d hs f l b r q p) ∙ e))
   ]
 

@@ -1,5 +1,5 @@
 -- One loop of a face swept: what the readers answer of the model after.
-use Rattle.std.proofs.Common.{◌≡◌, ◌≢◌, ℕ, ◌+◌, ◌≤◌, ◌<◌, true, false, cond, not, nat_eq, ◌&&◌, List, [], ◌∷◌, ◌++◌, length, get_or, Some, unwrap_or, refl, sym, ap, subst, ◌∙◌, arith, inl, inr, append-nil}
+use Rattle.std.proofs.Common.{◌≡◌, ◌≢◌, ℕ, ◌+◌, ◌≤◌, ◌<◌, true, false, cond, not, nat_eq, ◌&&◌, List, [], ◌∷◌, ◌++◌, length, get_or, Some, refl, sym, ap, subst, ◌∙◌, arith, inl, inr, append-nil}
 use Rattle.std.proofs.lemmas.Bool.Decides.{nat_tests, eqb_tells}
 use Rattle.euler_operators.specs.declared.Point.{Point}
 use Rattle.euler_operators.specs.Vectors.{moved}
@@ -10,17 +10,18 @@ use Rattle.euler_operators.proofs.Std.{IsIn-get_or}
 use Rattle.euler_operators.specs.HalfEdge.{edge_of, plus, minus}
 use Rattle.euler_operators.specs.Table as table
 use Rattle.euler_operators.specs.Table.{Table, map_rows}
-use Rattle.euler_operators.specs.Model.{Model, lone, cycle, FaceRow, LoopRow, no_face, no_loop, items_of, tail, content, face_of, outer, solid_of, point_of, rings_of}
+use Rattle.euler_operators.specs.Model.{Model, lone, cycle, LoopRow, items_of, tail, content, face_of, outer, point_of, rings_of}
 use Rattle.euler_operators.specs.Sound.{Has}
-use Rattle.euler_operators.proofs.Tables.{map_one, all_where_none}
-use Rattle.euler_operators.proofs.Models.{content_row, face_row}
+use Rattle.euler_operators.proofs.Tables.{map_one, all_where_none, all_where-map, get-put_here, get-put_other}
+use Rattle.euler_operators.proofs.Models.{content_row, face_row, outer_row, plus_tail_row, minus_tail_row, same_content, same_face, same_outer}
+use Rattle.euler_operators.proofs.Tests.{none_but}
 use Rattle.euler_laws.proofs.shared.Rows.{loop_row}
 use Rattle.shapes.specs.Faces.{start, finish}
 use Rattle.shapes.specs.Fresh.{Taken}
 use Rattle.shapes.specs.Prism.{riser, top_edge, top_items, next_place, lifted}
-use Rattle.shapes.proofs.fresh.Rows.{get-put_here, get-put_other, at_most_greatest}
-use Rattle.sweeps_laws.proofs.swept.Filled.{place_cases, filled, filled_old, filled_new, filled_past, filled_none, all_where-map, same_search}
-use Rattle.sweeps_laws.proofs.swept.Numbers.{riser_above, top_above, next_within, tail_plus, tail_minus}
+use Rattle.shapes.proofs.fresh.Rows.{at_most_greatest}
+use Rattle.sweeps_laws.proofs.swept.Filled.{place_cases, filled, filled_old, filled_new, filled_past, filled_none, same_search}
+use Rattle.sweeps_laws.proofs.swept.Numbers.{riser_above, top_above, next_within}
 use Rattle.sweeps_laws.proofs.swept.Sides.{Keeps, start_kept, finish_kept, grown, item, side_face, side_items, side_loop, faces_grown, loops_grown, keeps_grown, riser_row, top_row, point_grown}
 
 -- a model's numbers lie within the counters, and an outer loop is of its face
@@ -43,26 +44,6 @@ pub record IsPathOf (M : Model) (f l : ℕ) (hs : List ℕ) : Type 0 where
   pub linked : (i : ℕ) → i < length hs → finish M (get_or hs i 0) ≡ start M (get_or hs (next_place (length hs) i) 0)
 
 -- ---- what rows say
-
-pub same_outer : (M N : Model) (k : ℕ) → table.get N.faces k ≡ table.get M.faces k → outer N k ≡ outer M k
-unfolding outer
-same_outer M N k e = ap (λ o. (unwrap_or o no_face).outer) e
-
-pub same_solid : (M N : Model) (k : ℕ) → table.get N.faces k ≡ table.get M.faces k → solid_of N k ≡ solid_of M k
-unfolding solid_of
-same_solid M N k e = ap (λ o. (unwrap_or o no_face).solid) e
-
-pub outer_row : (N : Model) (k : ℕ) (row : FaceRow) → table.get N.faces k ≡ Some row → outer N k ≡ row.outer
-unfolding outer
-outer_row N k row e = ap (λ o. (unwrap_or o no_face).outer) e
-
-pub same_content : (M N : Model) (q : ℕ) → table.get N.loops q ≡ table.get M.loops q → content N q ≡ content M q
-unfolding content
-same_content M N q e = ap (λ o. (unwrap_or o no_loop).content) e
-
-pub same_face : (M N : Model) (q : ℕ) → table.get N.loops q ≡ table.get M.loops q → face_of N q ≡ face_of M q
-unfolding face_of
-same_face M N q e = ap (λ o. (unwrap_or o no_loop).face) e
 
 -- a list that begins with its least item is read from there
 canonical_least : (h : ℕ) (hs : List ℕ) → least (h ∷ hs) ≡ h → canonical (h ∷ hs) ≡ h ∷ hs
@@ -212,9 +193,6 @@ module _ (M : Model) (c : Taken) (s : ℕ) (d : Point) (hs : List ℕ) (f l : �
           new_face : (a i k : ℕ) → k ≤ a → nat_eq (a + 1 + i) k ≡ false
           new_face a i k m = grind (arith, nat_tests)
 
-    none_ring : (a f o l : ℕ) → (a ≡ f → o ≡ l) → (nat_eq a f && not (nat_eq o l)) ≡ false
-    none_ring a f o l p = grind (arith, nat_tests)
-
     only_loop : (i q : ℕ) → i < length hs → face_of swept q ≡ c.face + 1 + i → c.loop + 1 + i ≡ q
     only_loop i q m e = elim (place_cases q c.loop (length hs)) [
       | inl o ↦ absurd (low (face_of M q) c.face i (sym (face_of_old q o) ∙ e) (b.loop_faces q))
@@ -229,7 +207,7 @@ module _ (M : Model) (c : Taken) (s : ℕ) (d : Point) (hs : List ℕ) (f l : �
 
     pub rings_new : (i : ℕ) → i < length hs → rings_of swept (c.face + 1 + i) ≡ []
     rings_new i m = all_where_none (λ q row. nat_eq row.face (c.face + 1 + i) && not (nat_eq (outer swept (c.face + 1 + i)) q)) swept.loops
-        (λ q y at. none_ring y.face (c.face + 1 + i) (outer swept (c.face + 1 + i)) q (λ e. outer_new i m ∙ only_loop i q m (face_row swept q y at ∙ e)))
+        (λ q y at. none_but y.face (c.face + 1 + i) (outer swept (c.face + 1 + i)) q (λ e. outer_new i m ∙ only_loop i q m (face_row swept q y at ∙ e)))
 
     -- ---- where the new half-edges start and end
 
@@ -247,16 +225,16 @@ module _ (M : Model) (c : Taken) (s : ℕ) (d : Point) (hs : List ℕ) (f l : �
     next_point i m = sym (r.linked i m)
 
     pub riser_start : (i : ℕ) → i < length hs → start swept (plus (riser c.edge i)) ≡ from_point i
-    riser_start i m = ap (point_of swept) (tail_plus swept (riser c.edge i) _ (riser_row M c s d hs items_within b.tails i m)) ∙ keeps_swept.points (tail M (item M c s d hs i)) (b.tails (item M c s d hs i))
+    riser_start i m = ap (point_of swept) (plus_tail_row swept (riser c.edge i) _ (riser_row M c s d hs items_within b.tails i m)) ∙ keeps_swept.points (tail M (item M c s d hs i)) (b.tails (item M c s d hs i))
 
     pub riser_finish : (i : ℕ) → i < length hs → start swept (minus (riser c.edge i)) ≡ moved (from_point i) d
-    riser_finish i m = ap (point_of swept) (tail_minus swept (riser c.edge i) _ (riser_row M c s d hs items_within b.tails i m)) ∙ new_point i m
+    riser_finish i m = ap (point_of swept) (minus_tail_row swept (riser c.edge i) _ (riser_row M c s d hs items_within b.tails i m)) ∙ new_point i m
 
     pub top_start : (i : ℕ) → i < length hs → start swept (plus (top_edge c.edge (length hs) i)) ≡ moved (from_point i) d
-    top_start i m = ap (point_of swept) (tail_plus swept (top_edge c.edge (length hs) i) _ (top_row M c s d hs items_within b.tails i m)) ∙ new_point i m
+    top_start i m = ap (point_of swept) (plus_tail_row swept (top_edge c.edge (length hs) i) _ (top_row M c s d hs items_within b.tails i m)) ∙ new_point i m
 
     pub top_finish : (i : ℕ) → i < length hs → start swept (minus (top_edge c.edge (length hs) i)) ≡ moved (to_point i) d
-    top_finish i m = ap (point_of swept) (tail_minus swept (top_edge c.edge (length hs) i) _ (top_row M c s d hs items_within b.tails i m))
+    top_finish i m = ap (point_of swept) (minus_tail_row swept (top_edge c.edge (length hs) i) _ (top_row M c s d hs items_within b.tails i m))
         ∙ new_point (next_place (length hs) i) (next_within (length hs) i m) ∙ ap (λ p. moved p d) (next_point i m)
 
     pub next_start : (i : ℕ) → i < length hs → start swept (plus (riser c.edge (next_place (length hs) i))) ≡ to_point i

@@ -1,11 +1,6 @@
 -- The numbers of the edges that a sweep of a loop makes, and their half-edges. e is the greatest edge before, n the number of items.
-use Rattle.std.proofs.Common.{Bool, true, false, refl, ◌≡◌, ◌≢◌, ℕ, ◌+◌, ◌-◌, ◌*◌, ◌≤◌, ◌<◌, cond, Some, sym, ap, ◌∙◌, arith, ◌⊎◌, inl, inr, ◌&&◌, true≢false}
+use Rattle.std.proofs.Common.{◌≡◌, ◌≢◌, ℕ, ◌+◌, ◌*◌, ◌≤◌, ◌<◌, cond, sym, ap, ◌∙◌, arith, ◌⊎◌, inl, inr}
 use Rattle.std.proofs.lemmas.Bool.Decides.{eqb_tells}
-use Rattle.euler_operators.specs.HalfEdge.{mate, plus, minus}
-use Rattle.euler_operators.specs.Table as table
-use Rattle.euler_operators.specs.Model.{Model, EdgeRow, tail, tail_in}
-use Rattle.euler_operators.proofs.Halves.{plus_row, minus_row}
-use Rattle.euler_operators.proofs.Models.{tail_row}
 use Rattle.shapes.specs.Prism.{riser, top_edge, next_place}
 
 pub riser_cases : (e i : ℕ) → ((i ≡ 0) × (riser e i ≡ e + 1)) ⊎ ((i ≢ 0) × (riser e i ≡ e + 2 * i))
@@ -73,33 +68,4 @@ riser_no_top e n i j l m s = elim (riser_cases e i) [
 
 -- ---- the halves of an edge
 
-pub mate_plus : (e : ℕ) → mate (plus e) ≡ minus e
-unfolding mate
-mate_plus e = ap (λ b. cond b (plus e + 1) (plus e - 1)) (plus_row e).1
-
-pub mate_minus : (e : ℕ) → mate (minus e) ≡ plus e
-unfolding mate
-mate_minus e = ap (λ b. cond b (minus e + 1) (minus e - 1)) (minus_row e).1 ∙ before_one (2 * e) where
-  before_one : (n : ℕ) → n + 1 - 1 ≡ n
-  before_one n = omega arith
-
-module _ (M : Model) (e : ℕ) (row : EdgeRow) (at : table.get M.edges e ≡ Some row) where
-  pub tail_plus : tail M (plus e) ≡ row.plus_tail
-  tail_plus = tail_row M (plus e) row (ap (table.get M.edges) (plus_row e).0 ∙ at) ∙ ap (tail_in row) (plus_row e).1
-
-  pub tail_minus : tail M (minus e) ≡ row.minus_tail
-  tail_minus = tail_row M (minus e) row (ap (table.get M.edges) (minus_row e).0 ∙ at) ∙ ap (tail_in row) (minus_row e).1
-
 -- ---- tests
-
-pub and_none : (a : Bool) → (a && false) ≡ false
-and_none true = refl
-and_none false = refl
-
-pub and_left : (a b : Bool) → (a && b) ≡ true → a ≡ true
-and_left true b e = refl
-and_left false b e = absurd (true≢false (sym e))
-
-pub and_right : (a b : Bool) → (a && b) ≡ true → b ≡ true
-and_right true b e = e
-and_right false b e = absurd (true≢false (sym e))

@@ -9,10 +9,11 @@ use Rattle.euler_operators.specs.Table as table
 use Rattle.euler_operators.specs.Table.{Table}
 use Rattle.euler_operators.specs.Model.{Model, cycle, FaceRow, LoopRow, EdgeRow, no_edge, no_point, tail, tail_in, point_of}
 use Rattle.euler_operators.proofs.Halves.{edge_of-mate}
+use Rattle.euler_operators.proofs.Models.{point_row}
+use Rattle.euler_operators.proofs.Tables.{get-put_here, get-put_other}
 use Rattle.shapes.specs.Faces.{start, finish}
 use Rattle.shapes.specs.Fresh.{Taken}
 use Rattle.shapes.specs.Prism.{riser, top_edge, next_place, with_side, with_sides}
-use Rattle.shapes.proofs.fresh.Rows.{get-put_here, get-put_other}
 use Rattle.sweeps_laws.proofs.swept.Filled.{filled, filled_old, filled_new}
 use Rattle.sweeps_laws.proofs.swept.Numbers.{riser_above, top_above, riser_apart, top_apart, riser_no_top}
 
@@ -158,12 +159,8 @@ module _ (M : Model) (c : Taken) (s : ℕ) (d : Point) (hs : List ℕ) where
       all : (n : ℕ) → n ≤ n
       all n = omega arith
 
-    found : (N : Model) (w : ℕ) (p : Point) → table.get N.vertices w ≡ Some p → point_of N w ≡ p
-    unfolding point_of
-    found N w p e = ap (λ o. unwrap_or o no_point) e
-
     pub point_grown : (i : ℕ) → i < length hs → point_of (grown (length hs)) (c.vertex + 1 + i) ≡ moved (start M (item i)) d
-    point_grown i l = found (grown (length hs)) (c.vertex + 1 + i) (side_point i) (ap (λ t. table.get t (c.vertex + 1 + i)) (vertices_grown (length hs)) ∙ filled_new M.vertices c.vertex side_point (length hs) i l)
+    point_grown i l = point_row (grown (length hs)) (c.vertex + 1 + i) (side_point i) (ap (λ t. table.get t (c.vertex + 1 + i)) (vertices_grown (length hs)) ∙ filled_new M.vertices c.vertex side_point (length hs) i l)
         ∙ ap (λ p. moved p d) (start_kept M (grown i) c.edge c.vertex (keeps_grown i (before i (length hs) l)) bounded (item i) (items i l)) where
           before : (i n : ℕ) → i < n → i ≤ n
           before i n l = omega arith

@@ -1,11 +1,12 @@
-use Rattle.low_euler.proofs.Made.{least, most, fit_at, grown_more, room_more}
+use Rattle.low_euler.proofs.Made.{least, fit_at, grown_more, room_more}
 use Rattle.low_euler.proofs.making.make_room.Goals as goal
+use Rattle.euler_operators.proofs.Models.{number_fits}
 
 pub room_for-requires-clause-least : goal.room_for-requires-clause-least
 room_for-requires-clause-least c = least _ (fit_at c.args.numbers.now c.loop-kind.kind-index _ c.loop-kind-test.true c.requires)
 
 pub room_for-requires-clause-most : goal.room_for-requires-clause-most
-room_for-requires-clause-most c = most _ (fit_at c.args.numbers.now c.loop-kind.kind-index _ c.loop-kind-test.true c.requires)
+room_for-requires-clause-most c = number_fits _ (fit_at c.args.numbers.now c.loop-kind.kind-index _ c.loop-kind-test.true c.requires)
 
 pub loop-kind-preserved : goal.loop-kind-preserved
 loop-kind-preserved c = record {

@@ -4,8 +4,9 @@ use Rattle.std.proofs.lemmas.Int.{to_z-of_z}
 use Rattle.euler_operators.specs.declared.Plane.{Plane}
 use Rattle.undo_journal.specs.Machine.{accepted, commit}
 use Rattle.shapes.specs.split.Split.{split_refusal, split_model}
-use Rattle.plane_split.proofs.Conditions.{passed, failed, same_refusal}
+use Rattle.plane_split.proofs.Conditions.{same_refusal}
 use Rattle.plane_split.proofs.command.split.Goals as goal
+use Rattle.euler_laws.proofs.shared.Goes.{verdict_passed, verdict_failed}
 
 -- a plane of numbers that are passed
 abbrev passed_plane : ℤ → ℤ → ℤ → ℤ → Plane
@@ -26,7 +27,7 @@ returns-in-Ok-Ok-clause-ok c =
     c.plane_of-plane.ensures ∙ plane_is c.args.a c.args.b c.args.c c.args.d c.ranges.a c.ranges.b c.ranges.c c.ranges.d in
     let opened = c.in-Ok.ensures.ok in (
       sym (λ i. split_refusal (opened i).model c.args.s (plane i) c.args.t)
-          ∙ passed (split_refusal c.in-Ok.draft.model c.args.s c.plane_of-plane.result c.args.t) tt (sym c.in-Ok-Ok.field-0-is ∙ c.in-Ok-Ok.ensures.carried),
+          ∙ verdict_passed (split_refusal c.in-Ok.draft.model c.args.s c.plane_of-plane.result c.args.t) tt (sym c.in-Ok-Ok.field-0-is ∙ c.in-Ok-Ok.ensures.carried),
       c.commit.ensures ∙ ap commit (c.in-Ok-Ok.ensures.ok (ap Ok c.in-Ok-Ok.field-0-is))
           ∙ (λ i. accepted (opened i).session (split_model (opened i).model c.args.s (plane i) c.args.t)),
     )
@@ -36,5 +37,5 @@ returns-in-Ok-Err-clause-refused c = λ refusal is.
     let plane : c.plane_of-plane.result ≡ record { a = c.args.a; b = c.args.b; c = c.args.c; d = c.args.d } =
     c.plane_of-plane.ensures ∙ plane_is c.args.a c.args.b c.args.c c.args.d c.ranges.a c.ranges.b c.ranges.c c.ranges.d in
     sym (λ i. split_refusal (c.in-Ok.ensures.ok i).model c.args.s (plane i) c.args.t)
-    ∙ failed (split_refusal c.in-Ok.draft.model c.args.s c.plane_of-plane.result c.args.t) refusal
+    ∙ verdict_failed (split_refusal c.in-Ok.draft.model c.args.s c.plane_of-plane.result c.args.t) refusal
     (ap Err (sym (same_refusal c.in-Ok-Err.refusal refusal is)) ∙ sym c.in-Ok-Err.field-0-is ∙ c.in-Ok-Err.ensures.carried)

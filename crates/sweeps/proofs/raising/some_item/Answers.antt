@@ -4,7 +4,7 @@ use Rattle.euler_operators.specs.Model.{content, items_of}
 use Rattle.euler_operators.specs.Sound.{StandsIn}
 use Rattle.euler_operators.proofs.Models.{in-holds}
 use Rattle.euler_conditions.specs.Store.{Tells}
-use Rattle.sweeps.proofs.RaisedItems.{ring_in}
+use Rattle.euler_conditions.proofs.Borders.{ring_has}
 use Rattle.sweeps.proofs.raising.some_item.Goals as goal
 use Rattle.sweeps.proofs.raising.some_item.Goals.{In-Ring}
 
@@ -12,7 +12,7 @@ pub content-requires-clause-filled : goal.content-requires-clause-filled
 content-requires-clause-filled c e = (c.requires.ready.sound.cycles c.args.l _ c.requires.there e).some_item refl
 
 stands : (c : In-Ring) → StandsIn c.args.arena.now.model (code c.in-Ring.h) c.args.l
-stands c = in-holds (code c.in-Ring.h) (content c.args.arena.now.model c.args.l) (ring_in (content c.args.arena.now.model c.args.l) c.in-Ring.h (subst (Tells (content c.args.arena.now.model c.args.l)) c.in-Ring.is c.content.ensures))
+stands c = in-holds (code c.in-Ring.h) (content c.args.arena.now.model c.args.l) (ring_has (content c.args.arena.now.model c.args.l) c.in-Ring.h (subst (Tells (content c.args.arena.now.model c.args.l)) c.in-Ring.is c.content.ensures))
 
 pub returns-clause-there : goal.returns-clause-there
 returns-clause-there c = c.requires.ready.sound.only_edges (code c.in-Ring.h) c.args.l (stands c)

@@ -1,17 +1,15 @@
-use Rattle.std.proofs.Common.{ap, ◌∙◌, ◌≡◌, ℕ, Some, cond, ne_eqb, arith, None}
+use Rattle.std.proofs.Common.{ap, ◌∙◌, ◌≡◌, ℕ, Some, cond, ne_eqb, None, sym}
 use Rattle.std.specs.FinMap.{contains_key, insert}
 use Rattle.raw_ring.specs.Rings.{RingMap, Spot, spot, of_spot, next_of}
 use Rattle.raw_ring.proofs.Mapping.{IsLive-next}
 use Rattle.boundary_model.specs.HalfEdge.{plus, minus}
+use Rattle.boundary_model.proofs.Halves.{plus_other}
 use Rattle.arena_rows.specs.ring_spots.Spots.{asleep}
 use Rattle.arena_rows.proofs.ring_spots_laws.RingMaps.{spot-insert, spot-asleep, known-same, live_known}
 use Rattle.arena_rows.proofs.ring_spots.links.sleep_edge.Goals as goal
 
-other : (e : ℕ) → minus e ≡ plus e → ⊥
-other e q = omega arith
-
 still : (m new : RingMap) (e : ℕ) → new ≡ insert m (plus e) None → next_of m (minus e) ≡ Some (minus e) → next_of new (minus e) ≡ Some (minus e)
-still m new e is h = ap (λ (k : RingMap). next_of k (minus e)) is ∙ ap (of_spot (λ (s : Spot). s.next)) (spot-insert m (plus e) None (minus e) ∙ ap (λ b. cond b None (spot m (minus e))) (ne_eqb (minus e) (plus e) (other e))) ∙ h
+still m new e is h = ap (λ (k : RingMap). next_of k (minus e)) is ∙ ap (of_spot (λ (s : Spot). s.next)) (spot-insert m (plus e) None (minus e) ∙ ap (λ b. cond b None (spot m (minus e))) (ne_eqb (minus e) (plus e) (λ q. plus_other e (sym q)))) ∙ h
 
 pub sleep-requires-2 : goal.sleep-requires-2
 sleep-requires-2 c = still _ _ _ c.sleep.ensures c.requires.second

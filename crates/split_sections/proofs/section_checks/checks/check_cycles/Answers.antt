@@ -10,8 +10,9 @@ use Rattle.split_checks.specs.Progress.{taken_of}
 use Rattle.split_sections.specs.section_cycles.Halves.{codes}
 use Rattle.split_sections.specs.section_checks.Cycles.{AreCyclesOf, has_stray}
 use Rattle.split_sections.specs.declared.section_checks.section.Cycle.{Cycle}
-use Rattle.split_sections.proofs.section_checks_laws.Stages.{told, value_told, passed, failed}
+use Rattle.split_sections.proofs.section_checks_laws.Stages.{told, value_told}
 use Rattle.split_sections.proofs.section_checks.checks.check_cycles.Goals as goal
+use Rattle.euler_laws.proofs.shared.Goes.{verdict_passed, verdict_failed}
 
 pub least_branched-requires-clause-there : goal.least_branched-requires-clause-there
 least_branched-requires-clause-there c =
@@ -96,7 +97,7 @@ returns-in-Ok-clause-open c =
     let numbers = numbers_now M sound above s faces c.as_slice-2.result.now is none (map codes c.in_ok-found.found.items) c.in_ok-found.ensures p c.in_ok-cycles.cycles.items c.in_ok-cycles.ensures.halves c.in_ok-cycles.ensures.holes (taken_of c.args.drawn.now) stray c.len.result c.len-2.result long many in
     λ v e.
     value_told (λ (v : Vec Cycle Global). (first_refusal (section_conditions M s p (taken_of c.args.drawn.now) (below_halves M above s)) ≡ None) × AreCyclesOf M p (below_halves M above s) v.items)
-    c.in_ok-cycles.cycles v (numbers ∙ passed _ _ c.in-Ok.ensures, all_now M sound above s faces c.as_slice-2.result.now is none (map codes c.in_ok-found.found.items) c.in_ok-found.ensures p c.in_ok-cycles.cycles.items c.in_ok-cycles.ensures.halves c.in_ok-cycles.ensures.holes) e
+    c.in_ok-cycles.cycles v (numbers ∙ verdict_passed _ _ c.in-Ok.ensures, all_now M sound above s faces c.as_slice-2.result.now is none (map codes c.in_ok-found.found.items) c.in_ok-found.ensures p c.in_ok-cycles.cycles.items c.in_ok-cycles.ensures.halves c.in_ok-cycles.ensures.holes) e
 
 pub returns-clause-refused : goal.returns-clause-refused
 returns-clause-refused c =
@@ -109,4 +110,4 @@ returns-clause-refused c =
     let told_held : vec_len c.in_ok-cycles.cycles ≡ length c.in_ok-cycles.cycles.items = omega (arith, c.in_ok-cycles.cycles.ok.0) in
     let many = c.len-2.ensures ∙ told_held in
     let numbers = numbers_now M sound above s faces c.as_slice-2.result.now is none (map codes c.in_ok-found.found.items) c.in_ok-found.ensures p c.in_ok-cycles.cycles.items c.in_ok-cycles.ensures.halves c.in_ok-cycles.ensures.holes (taken_of c.args.drawn.now) stray c.len.result c.len-2.result long many in
-    λ r e. told _ _ r (numbers ∙ failed _ _ c.in-Err.ensures) e
+    λ r e. told _ _ r (numbers ∙ verdict_failed _ _ c.in-Err.ensures) e

@@ -1,12 +1,12 @@
 use Rattle.std.proofs.Common.{◌∙◌, ◌++◌, List, map, refl, sym, ap, subst, arith}
 use Rattle.std.specs.Prelude.{option_to_list}
-use Rattle.std.proofs.lemmas.List.{reverse-reverse}
+use Rattle.std.proofs.lemmas.List.{reverse-reverse, nil_from_length}
 use Rattle.euler_operators.specs.Items.{IsApart}
 use Rattle.euler_operators.specs.declared.HalfEdge.{HalfEdge}
 use Rattle.euler_operators.specs.HalfEdge.{code}
 use Rattle.shapes.specs.split.Section.{is_hole}
 use Rattle.split_sections.specs.section_cycles.Halves.{AreThere, codes}
-use Rattle.split_sections.proofs.section_checks_laws.HoleFlags.{Telling, none_told, next_cycle, one_told, all_told, no_items}
+use Rattle.split_sections.proofs.section_checks_laws.HoleFlags.{Telling, none_told, next_cycle, one_told, all_told}
 use Rattle.split_sections.specs.declared.section_checks.section.Cycle.{Cycle}
 use Rattle.split_sections.proofs.section_checks.holes.with_holes.Goals as goal
 
@@ -36,8 +36,8 @@ cycles-preserved c =
 
 pub returns-clause-halves : goal.returns-clause-halves
 returns-clause-halves c =
-    (all_told c.args.arena.now.model c.args.plane (map codes c.args.found.items) c.cycles.left.items c.cycles.cycles.items c.cycles.invariant (no_items c.cycles.left.items (omega (arith, c.in_default.ensures.cases.0, c.cycles.left.ok.0)))).0
+    (all_told c.args.arena.now.model c.args.plane (map codes c.args.found.items) c.cycles.left.items c.cycles.cycles.items c.cycles.invariant (nil_from_length c.cycles.left.items (omega (arith, c.in_default.ensures.cases.0, c.cycles.left.ok.0)))).0
 
 pub returns-clause-holes : goal.returns-clause-holes
 returns-clause-holes c =
-    (all_told c.args.arena.now.model c.args.plane (map codes c.args.found.items) c.cycles.left.items c.cycles.cycles.items c.cycles.invariant (no_items c.cycles.left.items (omega (arith, c.in_default.ensures.cases.0, c.cycles.left.ok.0)))).1
+    (all_told c.args.arena.now.model c.args.plane (map codes c.args.found.items) c.cycles.left.items c.cycles.cycles.items c.cycles.invariant (nil_from_length c.cycles.left.items (omega (arith, c.in_default.ensures.cases.0, c.cycles.left.ok.0)))).1

@@ -1,18 +1,24 @@
--- Where a segment meets a plane: the same from either end, and in range.
+-- Where a segment crosses a plane: heights of opposite signs, the same point from either end, and that it is in range.
 use Rattle.std.proofs.Common.{◌≡◌, ◌≢◌, ℕ, zero, suc, ◌+◌, ◌*◌, ◌/◌, ◌≤◌, true, false, ◌&&◌, ℤ, pos, negsuc, refl, sym, ap, subst, ◌∙◌, arith}
 use Rattle.std.specs.Prelude.{◌-ℤ◌, ◌*ℤ◌, neg_ℤ}
 use Rattle.std.specs.Int.RustNames.{unsigned_abs, int_div}
 use Rattle.std.specs.Ordering.{int_eq}
 use Rattle.std.proofs.lemmas.Int.{ints}
 use Rattle.std.proofs.Math.Nat.{div-le_of_le-mul}
-use Rattle.euler_operators.specs.declared.Point.{Point}
-use Rattle.euler_operators.specs.declared.Plane.{Plane}
-use Rattle.euler_operators.specs.Points.{is_coordinate, IsInRange}
-use Rattle.euler_operators.specs.Ranges.{IsWithin}
-use Rattle.euler_operators.specs.Vectors.{height, opposite, are_opposite, same_point, cut_between}
-use Rattle.euler_operators.proofs.Magnitudes.{coordinates, coordinate_within, product_within}
+use Rattle.lattice.specs.declared.Point.{Point}
+use Rattle.lattice.specs.declared.Plane.{Plane}
+use Rattle.lattice.specs.Point.{is_coordinate, IsInRange}
+use Rattle.lattice.specs.Ranges.{IsWithin}
+use Rattle.lattice.specs.Vectors.{height, opposite, are_opposite, same_point, cut_between}
+use Rattle.lattice.proofs.Magnitudes.{coordinates, coordinate_within, product_within}
 
 -- ---- signs
+
+pub opposite_turned : (m n : ℤ) → opposite m n ≡ opposite n m
+opposite_turned m n = grind (arith, ints)
+
+pub level_on : (m : ℤ) → m ≡ pos 0 → int_eq m (pos 0) ≡ true
+level_on m e = grind (arith, ints)
 
 pub level_first : (m n : ℤ) → m ≡ pos 0 → opposite m n ≡ false
 level_first m n e = grind (arith, ints)
@@ -29,10 +35,10 @@ not_level m n e = grind (arith, ints)
 pub level_is : (n : ℤ) → int_eq n (pos 0) ≡ true → n ≡ pos 0
 level_is n e = grind (arith, ints)
 
-apart : (m n : ℤ) → opposite m n ≡ true → m -ℤ n ≢ pos 0
-apart m n e z = grind (arith, ints)
+pub opposite_apart : (m n : ℤ) → opposite m n ≡ true → m -ℤ n ≢ pos 0
+opposite_apart m n e z = grind (arith, ints)
 
-same_int : (n : ℤ) → int_eq n n ≡ true
+pub same_int : (n : ℤ) → int_eq n n ≡ true
 same_int n = grind (arith, ints)
 
 pub same_as : (p q : Point) → p ≡ q → same_point p q ≡ true
@@ -52,14 +58,14 @@ turned_quotient (pos zero) (negsuc b) ne = ap pos (nothing_divided b) ∙ sym (a
 turned_quotient (pos (suc a)) (negsuc b) ne = refl
 turned_quotient (negsuc a) (negsuc b) ne = refl
 
-turned_difference : (a b : ℤ) → b -ℤ a ≡ neg_ℤ (a -ℤ b)
+pub turned_difference : (a b : ℤ) → b -ℤ a ≡ neg_ℤ (a -ℤ b)
 turned_difference a b = omega (arith, ints)
 
 back_quotient : (p q m n : ℤ) → m -ℤ n ≢ pos 0 → int_div (p *ℤ n -ℤ q *ℤ m) (n -ℤ m) ≡ int_div (q *ℤ m -ℤ p *ℤ n) (m -ℤ n)
 back_quotient p q m n ne = (λ i. int_div (turned_difference (q *ℤ m) (p *ℤ n) i) (turned_difference m n i)) ∙ turned_quotient (q *ℤ m -ℤ p *ℤ n) (m -ℤ n) ne
 
 pub cut_back : (s : Plane) (p q : Point) → are_opposite s p q ≡ true → cut_between s q p ≡ cut_between s p q
-cut_back s p q o = let ne : height s p -ℤ height s q ≢ pos 0 = apart (height s p) (height s q) o in λ i. record {
+cut_back s p q o = let ne : height s p -ℤ height s q ≢ pos 0 = opposite_apart (height s p) (height s q) o in λ i. record {
   x = back_quotient p.x q.x (height s p) (height s q) ne i;
   y = back_quotient p.y q.y (height s p) (height s q) ne i;
   z = back_quotient p.z q.z (height s p) (height s q) ne i;
@@ -81,22 +87,22 @@ quotient_size (negsuc a) (negsuc b) = refl
 far_apart : (m n : ℤ) → opposite m n ≡ true → unsigned_abs (m -ℤ n) ≡ unsigned_abs m + unsigned_abs n
 far_apart m n e = grind (arith, ints)
 
-multiple_within : (p q m n : ℤ) → IsWithin 1000000000 p → IsWithin 1000000000 q → opposite m n ≡ true → unsigned_abs (q *ℤ m -ℤ p *ℤ n) ≤ 1000000000 * unsigned_abs (m -ℤ n)
-multiple_within p q m n wp wq o =
-    let a = product_within q m 1000000000 (unsigned_abs m) _ wq (omega arith) refl in
-    let b = product_within p n 1000000000 (unsigned_abs n) _ wp (omega arith) refl in
-    let c : unsigned_abs (q *ℤ m -ℤ p *ℤ n) ≤ unsigned_abs (q *ℤ m) + unsigned_abs (p *ℤ n) = omega (arith, ints) in
+pub cut_within : (to from m n : ℤ) → IsWithin 1000000000 to → IsWithin 1000000000 from → opposite m n ≡ true → unsigned_abs (to *ℤ m -ℤ from *ℤ n) ≤ 1000000000 * unsigned_abs (m -ℤ n)
+cut_within to from m n wt wf o =
+    let a = product_within to m 1000000000 (unsigned_abs m) _ wt (omega arith) refl in
+    let b = product_within from n 1000000000 (unsigned_abs n) _ wf (omega arith) refl in
+    let c : unsigned_abs (to *ℤ m -ℤ from *ℤ n) ≤ unsigned_abs (to *ℤ m) + unsigned_abs (from *ℤ n) = omega (arith, ints) in
     omega (arith, a, b, c, far_apart m n o)
 
-quotient_within : (m w : ℤ) → unsigned_abs m ≤ 1000000000 * unsigned_abs w → IsWithin 1000000000 (int_div m w)
+pub quotient_within : (m w : ℤ) → unsigned_abs m ≤ 1000000000 * unsigned_abs w → IsWithin 1000000000 (int_div m w)
 quotient_within m w h = subst (λ n. n ≤ 1000000000) (sym (quotient_size m w)) (div-le_of_le-mul (unsigned_abs w) (omega (arith, h)))
 
-within_coordinate : (x : ℤ) → IsWithin 1000000000 x → is_coordinate x ≡ true
+pub within_coordinate : (x : ℤ) → IsWithin 1000000000 x → is_coordinate x ≡ true
 within_coordinate x h = grind (arith, ints)
 
 cut_coordinate : (p q m n : ℤ) → is_coordinate p ≡ true → is_coordinate q ≡ true → opposite m n ≡ true → is_coordinate (int_div (q *ℤ m -ℤ p *ℤ n) (m -ℤ n)) ≡ true
 cut_coordinate p q m n cp cq o = within_coordinate (int_div (q *ℤ m -ℤ p *ℤ n) (m -ℤ n))
-    (quotient_within (q *ℤ m -ℤ p *ℤ n) (m -ℤ n) (multiple_within p q m n (coordinate_within p cp) (coordinate_within q cq) o))
+    (quotient_within (q *ℤ m -ℤ p *ℤ n) (m -ℤ n) (cut_within q p m n (coordinate_within q cq) (coordinate_within p cp) o))
 
 pub cut_fits : (s : Plane) (p q : Point) → IsInRange p → IsInRange q → are_opposite s p q ≡ true → IsInRange (cut_between s p q)
 cut_fits s p q rp rq o =
