@@ -1,6 +1,7 @@
 -- Edges between listed faces and others.
 use Rattle.std.proofs.Common.{◌≡◌, ◌≢◌, ℕ, ◌≤◌, ◌<◌, Bool, true, false, cond, not, nat_eq, ◌||◌, List, [], ◌∷◌, ◌++◌, length, append_assoc, Option, Some, None, Ok, Err, is_some, refl, sym, ap, subst, ◌∙◌, arith, true≢false, ◌⊎◌, inl, inr}
 use Rattle.std.proofs.lemmas.Bool.Decides.{nat_tests}
+use Rattle.std.proofs.lemmas.Bool.{not-true, ne_eqb, eq-eqb, eqb-true}
 use Rattle.euler_operators.specs.Items.{IsIn}
 use Rattle.euler_operators.specs.HalfEdge.{code, mate, edge_of, plus, minus}
 use Rattle.euler_operators.specs.declared.HalfEdge.{HalfEdge}
@@ -8,9 +9,9 @@ use Rattle.euler_operators.specs.declared.Content.TheVariants as Content
 use Rattle.euler_operators.specs.Table as table
 use Rattle.euler_operators.specs.Model.{Model, EdgeRow, LoopContent, lone, cycle, items_of, content, face_of, outer, loop_of, solid_of, faces_of, is_ring_of, is_number}
 use Rattle.euler_operators.specs.Sound.{Sound, Has, HasHalf}
-use Rattle.euler_operators.proofs.Halves.{plus_row, minus_row}
-use Rattle.euler_operators.proofs.Models.{in-holds, holds_in}
-use Rattle.euler_operators.proofs.Tables.{first_where_zero, zero_first_where}
+use Rattle.euler_operators.proofs.Halves.{plus_row, minus_row, mate_plus, mate_minus}
+use Rattle.euler_operators.proofs.Models.{in-holds, holds_in, loop_there}
+use Rattle.euler_operators.proofs.Tables.{first_where_zero, zero_first_where, row_some}
 use Rattle.halfedge_arena.specs.Store.{Tells, IsNextRing}
 use Rattle.euler_operators.specs.Conditions.{Condition, AllHold, conditions, first_false, need, never, first_refusal, verdict, numbers_in_range, faces_known, faces_in, lists, lists_all, strictly_rises, is_empty, is_bad_part, face_at, torn_edge, differ, has_rings}
 use Rattle.euler_operators.specs.declared.Refusal.{Refusal}
@@ -18,15 +19,12 @@ use Rattle.euler_operators.specs.declared.Why.TheVariants.{NoSolid, SolidTaken, 
 use Rattle.euler_operators.specs.declared.Op.TheVariants.{Part}
 use Rattle.euler_laws.proofs.shared.Arcs.{halves_of_edge}
 use Rattle.euler_laws.proofs.shared.FaceRings.{outer_or_ring}
-use Rattle.euler_laws.proofs.shared.Goes.{all_hold, equal, equals, differs, not_true}
-use Rattle.euler_laws.proofs.shared.Loops.{some_row}
+use Rattle.euler_laws.proofs.shared.Goes.{all_hold, all_hold-front, all_hold-back}
 use Rattle.euler_laws.proofs.shared.Rows.{no_rings_means, face_there}
 use Rattle.euler_laws.proofs.shared.Listed.{all_where-rises, passes_listed, listed_cases}
 use Rattle.euler_conditions.specs.Parts.{StaysIn, FaceLeadsOut, FaceStaysIn, AreFacesOf, parts_known}
 use Rattle.euler_conditions.proofs.Orders.{part_refuses, part_holds}
 use Rattle.euler_laws.proofs.shared.RisingLists.{all_listed}
-use Rattle.euler_conditions.proofs.Parallel.{mate_plus, mate_minus}
-use Rattle.euler_conditions.proofs.Known.{loop_there}
 
 pub lone_has_none : (c : LoopContent) (v : ℕ) → Tells c (Content.Lone v) → items_of c ≡ []
 lone_has_none (lone w) v t = refl
@@ -54,7 +52,7 @@ module _ (M : Model) (sound : Sound M) (fs : List ℕ) where
   differ_out a b p q = ap (λ c. cond c (not b) b) p ∙ q
 
   differ_cases : (a b : Bool) → differ a b ≡ true → ((a ≡ true) × (b ≡ false)) ⊎ ((a ≡ false) × (b ≡ true))
-  differ_cases true b e = inl (refl, not_true b e)
+  differ_cases true b e = inl (refl, not-true b e)
   differ_cases false b e = inr (refl, e)
 
   tested : (x : ℕ) (row : EdgeRow) → lists fs (face_at M x) ≡ true → lists fs (face_at M (mate x)) ≡ false → Test (edge_of x) row ≡ true
@@ -73,24 +71,20 @@ module _ (M : Model) (sound : Sound M) (fs : List ℕ) where
       let x : ℕ = o.3.0 in let stands = in-holds x (content M o.0) o.3.1 in
       let there : HasHalf M x = sound.only_edges x o.0 stands in
       let face_is : face_at M x ≡ f = ap (face_of M) (sound.one_loop x o.0 stands) ∙ o.2 in
-      let r = some_row (table.get M.edges (edge_of x)) there in
-      sym (ap not (differs (torn_edge M fs) 0 (λ z. true≢false (sym (tested x r.0 (ap (lists fs) face_is ∙ l) o.3.2) ∙ zero_first_where Test M.edges edge_used z (edge_of x) r.0 r.1))))
+      let r = row_some (table.get M.edges (edge_of x)) there in
+      sym (ap not (ne_eqb (torn_edge M fs) 0 (λ z. true≢false (sym (tested x r.0 (ap (lists fs) face_is ∙ l) o.3.2) ∙ zero_first_where Test M.edges edge_used z (edge_of x) r.0 r.1))))
 
   listed_half : ((f : ℕ) → lists fs f ≡ true → FaceStaysIn M fs f) → (x : ℕ) → HasHalf M x → lists fs (face_at M x) ≡ true → lists fs (face_at M (mate x)) ≡ true
   listed_half stay x t l = stay (face_at M x) l (loop_of M x) (loop_there M sound x t) refl x (holds_in x (content M (loop_of M x)) (sound.stands x t))
 
   pub none_torn : ((f : ℕ) → lists fs f ≡ true → FaceStaysIn M fs f) → false ≡ not (nat_eq (torn_edge M fs) 0)
-  none_torn stay = sym (ap not (equals (torn_edge M fs) 0 (first_where_zero Test M.edges (λ e row at. go e row at (Test e row) refl)))) where
+  none_torn stay = sym (ap not (eq-eqb (torn_edge M fs) 0 (first_where_zero Test M.edges (λ e row at. go e row at (Test e row) refl)))) where
     go : (e : ℕ) (row : EdgeRow) → table.get M.edges e ≡ Some row → (b : Bool) → Test e row ≡ b → Test e row ≡ false
     go e row at false p = p
     go e row at true p = absurd (elim (differ_cases (lists fs (face_at M (plus e))) (lists fs (face_at M (minus e))) p) [
       | inl q ↦ true≢false (sym (ap (λ y. lists fs (face_at M y)) (sym (mate_plus e)) ∙ listed_half stay (plus e) (ap (table.has M.edges) (plus_row e).0 ∙ ap is_some at) q.0) ∙ q.1)
       | inr q ↦ true≢false (sym (ap (λ y. lists fs (face_at M y)) (sym (mate_minus e)) ∙ listed_half stay (minus e) (ap (table.has M.edges) (minus_row e).0 ∙ ap is_some at) q.1) ∙ q.0)
     ])
-
-pub kept_in : (b : Bool) → not b ≡ false → b ≡ true
-kept_in true e = refl
-kept_in false e = absurd (true≢false e)
 
 -- the rings up to the next one
 pub rings_met : (M : Model) (fs : List ℕ) (f last ring : ℕ) → IsNextRing M f last (Some ring) → ((k : ℕ) → k ≤ last → is_ring_of M f k ≡ true → StaysIn M fs k) → StaysIn M fs ring → (k : ℕ) → k ≤ ring → is_ring_of M f k ≡ true → StaysIn M fs k
@@ -117,7 +111,7 @@ bad_is M s fs are rises some =
     ∙ ap (λ b. not b || lists_all fs (faces_of M s) || not (nat_eq (torn_edge M fs) 0)) rises
     ∙ ap (λ b. b || not (nat_eq (torn_edge M fs) 0)) (all_listed fs (faces_of M s) rises (all_where-rises (λ _ row. nat_eq row.solid s) M.faces) inside) where
       inside : (q : ℕ) → lists fs q ≡ true → lists (faces_of M s) q ≡ true
-      inside q l = let a = are q l in let r = face_there M q a.0 in passes_listed (λ _ row. nat_eq row.solid s) M.faces q _ r (equals (solid_of M q) s a.1)
+      inside q l = let a = are q l in let r = face_there M q a.0 in passes_listed (λ _ row. nat_eq row.solid s) M.faces q _ r (eq-eqb (solid_of M q) s a.1)
 
 -- ---- the conditions of part, part by part
 
@@ -151,14 +145,6 @@ ok_none : (o : Option Refusal) → verdict o ≡ Ok tt → o ≡ None
 ok_none None e = refl
 ok_none (Some r) e = cc
 
-hold_right : (cs ds : List Condition) → AllHold (cs ++ ds) → AllHold ds
-hold_right [] ds h = h
-hold_right (c ∷ cs) ds h = hold_right cs ds h.1
-
-hold_left : (cs ds : List Condition) → AllHold (cs ++ ds) → AllHold cs
-hold_left [] ds h = tt
-hold_left (c ∷ cs) ds h = (h.0, hold_left cs ds h.1)
-
 pub known_there : (M : Model) (fs : List ℕ) → verdict (first_refusal (faces_known M fs)) ≡ Ok tt → (q : ℕ) → lists fs q ≡ true → Has M.faces q
 known_there M fs e q l = go fs (all_hold (faces_known M fs) (ok_none (first_refusal (faces_known M fs)) e)) l where
   go : (fs : List ℕ) → AllHold (faces_known M fs) → lists fs q ≡ true → Has M.faces q
@@ -186,22 +172,22 @@ module _ (M : Model) (s t : ℕ) (fs : List ℕ) where
   pub are_faces : verdict (first_refusal (parts_known M s t fs)) ≡ Ok tt → AreFacesOf M s fs
   are_faces e f l =
       let front = need (table.has M.solids s) NoSolid s ∷ never (table.has M.solids t) SolidTaken t ∷ faces_known M fs in
-      let h = hold_right (numbers_in_range (s ∷ t ∷ fs)) (front ++ faces_in M s fs) (all_hold (parts_known M s t fs) (ok_none (first_refusal (parts_known M s t fs)) e)) in
-      (known_in fs (hold_left front (faces_in M s fs) h).1.1 l, solid_in fs (hold_right front (faces_in M s fs) h) l) where
+      let h = all_hold-back (numbers_in_range (s ∷ t ∷ fs)) (front ++ faces_in M s fs) (all_hold (parts_known M s t fs) (ok_none (first_refusal (parts_known M s t fs)) e)) in
+      (known_in fs (all_hold-front front (faces_in M s fs) h).1.1 l, solid_in fs (all_hold-back front (faces_in M s fs) h) l) where
         known_in : (gs : List ℕ) → AllHold (faces_known M gs) → lists gs f ≡ true → Has M.faces f
         known_in [] h l = absurd (true≢false (sym l))
         known_in (g ∷ gs) h l = elim (listed_cases g f gs l) [ inl p ↦ ap (table.has M.faces) p ∙ h.0 | inr p ↦ known_in gs h.1 p ]
 
         solid_in : (gs : List ℕ) → AllHold (faces_in M s gs) → lists gs f ≡ true → solid_of M f ≡ s
         solid_in [] h l = absurd (true≢false (sym l))
-        solid_in (g ∷ gs) h l = elim (listed_cases g f gs l) [ inl p ↦ ap (solid_of M) p ∙ equal (solid_of M g) s h.0 | inr p ↦ solid_in gs h.1 p ]
+        solid_in (g ∷ gs) h l = elim (listed_cases g f gs l) [ inl p ↦ ap (solid_of M) p ∙ eqb-true (solid_of M g) s h.0 | inr p ↦ solid_in gs h.1 p ]
 
 pub not_empty : (fs : List ℕ) → length fs ≢ 0 → is_empty fs ≡ false
 not_empty [] ne = absurd (ne refl)
 not_empty (f ∷ fs) ne = refl
 
 pub bad_all : (M : Model) (s : ℕ) (fs : List ℕ) → AreFacesOf M s fs → strictly_rises fs ≡ true → is_empty fs ≡ false → length fs ≡ length (faces_of M s) → true ≡ is_bad_part M s fs
-bad_all M s fs are rises some e = sym (bad_is M s fs are rises some ∙ ap (λ b. b || not (nat_eq (torn_edge M fs) 0)) (equals (length fs) (length (faces_of M s)) e))
+bad_all M s fs are rises some e = sym (bad_is M s fs are rises some ∙ ap (λ b. b || not (nat_eq (torn_edge M fs) 0)) (eq-eqb (length fs) (length (faces_of M s)) e))
 
 pub bad_torn : (M : Model) (s : ℕ) (fs : List ℕ) → AreFacesOf M s fs → strictly_rises fs ≡ true → is_empty fs ≡ false → length fs ≢ length (faces_of M s) → not (nat_eq (torn_edge M fs) 0) ≡ is_bad_part M s fs
-bad_torn M s fs are rises some ne = sym (bad_is M s fs are rises some ∙ ap (λ b. b || not (nat_eq (torn_edge M fs) 0)) (differs (length fs) (length (faces_of M s)) ne))
+bad_torn M s fs are rises some ne = sym (bad_is M s fs are rises some ∙ ap (λ b. b || not (nat_eq (torn_edge M fs) 0)) (ne_eqb (length fs) (length (faces_of M s)) ne))

@@ -1,46 +1,23 @@
 -- What a sound model has: the things that its half-edges name.
-use Rattle.std.proofs.Common.{◌≡◌, ◌≢◌, ℕ, ◌+◌, ◌*◌, Bool, true, false, cond, not, nat_eq, ◌&&◌, [], is_some, refl, sym, ap, ◌∙◌, arith}
+use Rattle.std.proofs.Common.{◌≡◌, ◌≢◌, ℕ, ◌+◌, ◌*◌, Bool, true, false, cond, not, nat_eq, ◌&&◌, [], refl, sym, ap, ◌∙◌, arith}
 use mathlib.Core.Bool.{beq}
 use Rattle.std.proofs.lemmas.Bool.Decides.{nat_tests}
 use Rattle.euler_operators.specs.declared.HalfEdge.{HalfEdge}
-use Rattle.euler_operators.specs.HalfEdge.{code, half, edge_of, mate}
-use Rattle.euler_operators.specs.Table as table
-use Rattle.euler_operators.specs.Model.{Model, cycle, content, loop_of, cycle_of, after, tail, is_number}
+use Rattle.euler_operators.specs.HalfEdge.{code, edge_of, mate}
+use Rattle.euler_operators.specs.Model.{Model, cycle, content, loop_of, tail}
 use Rattle.euler_operators.specs.Sound.{Sound, Has, HasHalf}
 use Rattle.euler_conditions.specs.Ends.{leads_to, lesser}
-use Rattle.euler_operators.proofs.Halves.{edge_of-code, edge_of-mate, half-code}
-use Rattle.euler_operators.proofs.Models.{row_of, in-holds, cycle_there}
-use Rattle.euler_operators.specs.Rings.{successor}
-use Rattle.euler_operators.proofs.Rings.{IsIn_successor}
-
-pub half_there : (M : Model) (h : HalfEdge) → table.has M.edges h.edge ≡ true → HasHalf M (code h)
-half_there M h t = ap (table.has M.edges) (edge_of-code h) ∙ t
-
-pub edge_there : (M : Model) (h : HalfEdge) → HasHalf M (code h) → table.has M.edges h.edge ≡ true
-edge_there M h t = ap (table.has M.edges) (sym (edge_of-code h)) ∙ t
-
-pub loop_there : (M : Model) → Sound M → (x : ℕ) → HasHalf M x → Has M.loops (loop_of M x)
-loop_there M sound x t = ap is_some (row_of M sound x t)
-
-not_zero : (n : ℕ) → is_number n ≡ true → n ≢ 0
-not_zero n e = grind (arith, nat_tests)
+use Rattle.euler_operators.proofs.Halves.{edge_of-code, edge_of-mate}
+use Rattle.euler_operators.proofs.Models.{number_real, loop_there}
 
 pub in_a_loop : (M : Model) → Sound M → (x : ℕ) → HasHalf M x → loop_of M x ≢ 0
-in_a_loop M sound x t = not_zero _ (sound.loops_fit _ (loop_there M sound x t))
+in_a_loop M sound x t = number_real _ (sound.loops_fit _ (loop_there M sound x t))
 
 pub filled : (M : Model) → Sound M → (l : ℕ) → Has M.loops l → content M l ≢ cycle []
 filled M sound l t e = (sound.cycles l [] t e).some_item refl
 
-pub after_there : (M : Model) → Sound M → (x : ℕ) → HasHalf M x → HasHalf M (after M x)
-unfolding after
-after_there M sound x t = sound.only_edges (successor (cycle_of M x) x) (loop_of M x) (in-holds _ (content M (loop_of M x)) (IsIn_successor x (cycle_of M x) (cycle_there M sound x t)))
-
 pub mate_edge : (h m : HalfEdge) → code m ≡ mate (code h) → m.edge ≡ h.edge
 mate_edge h m e = sym (edge_of-code m) ∙ ap edge_of e ∙ edge_of-mate (code h) ∙ edge_of-code h
-
--- half-edges of one code are one
-pub same_half : (h m : HalfEdge) → code h ≡ code m → h ≡ m
-same_half h m e = sym (half-code h) ∙ ap half e ∙ half-code m
 
 -- two half-edges are one where their codes are
 pub same_test : (h m : HalfEdge) → (nat_eq h.edge m.edge && beq h.first m.first) ≡ nat_eq (code h) (code m)

@@ -1,26 +1,26 @@
 -- The walk round one end of an edge meets every edge beside it.
 use Rattle.std.proofs.Common.{◌≡◌, ◌≢◌, ℕ, ◌+◌, ◌≤◌, Bool, true, false, cond, not, nat_eq, ◌&&◌, ◌||◌, List, [], ◌∷◌, ◌++◌, length, Some, is_some, refl, sym, ap, subst, ◌∙◌, arith, true≢false, ◌⊎◌, inl, inr}
 use Rattle.std.proofs.lemmas.Bool.Decides.{nat_tests, eqb_tells}
+use Rattle.std.proofs.lemmas.Bool.{and_parts, and_from, or_left, or_right, or_cases, not-true, eq-eqb, eqb-true}
 use Rattle.euler_operators.specs.Items.{count, IsIn}
 use Rattle.euler_operators.specs.Rings.{rotate_to, walk_to, orbit}
-use Rattle.euler_operators.proofs.Lists.{count-append, tick_same, tick_other}
+use Rattle.euler_operators.proofs.Lists.{count-append, tick_same}
 use Rattle.euler_operators.proofs.Rings.{orbit_from}
 use Rattle.euler_operators.proofs.Rotations.{count-rotate_to}
 use Rattle.euler_operators.proofs.Places.{walk_done, walk_on, walk_over}
 use Rattle.euler_operators.specs.HalfEdge.{mate, edge_of, plus, minus}
 use Rattle.euler_operators.specs.Table as table
-use Rattle.euler_operators.specs.Model.{Model, EdgeRow, tail, tail_in, after, round, is_number}
+use Rattle.euler_operators.specs.Model.{Model, EdgeRow, tail, after, round, is_number}
 use Rattle.euler_operators.specs.Sound.{Sound, HasHalf}
-use Rattle.euler_operators.proofs.Halves.{mate_cases, plus_row, minus_row}
-use Rattle.euler_operators.proofs.Models.{tail_row}
-use Rattle.euler_operators.proofs.Tables.{first_where_zero}
+use Rattle.euler_operators.proofs.Halves.{plus_row, minus_row, mate_plus, mate_minus}
+use Rattle.euler_operators.proofs.Models.{plus_tail_row, minus_tail_row}
+use Rattle.euler_operators.proofs.Tables.{first_where_zero, row_some}
+use Rattle.euler_operators.proofs.Members.{IsIn_push}
 use Rattle.euler_operators.specs.Conditions.{parallel}
 use Rattle.euler_laws.proofs.shared.Fans.{Fan, fan_of}
 use Rattle.euler_laws.proofs.shared.Arcs.{halves_of_edge}
-use Rattle.euler_laws.proofs.shared.Loops.{some_row}
 use Rattle.euler_laws.proofs.shared.Bounds.{steps, length_below, half_below}
 use Rattle.euler_laws.proofs.shared.FirstWhere.{first_where_least}
-use Rattle.euler_laws.proofs.shared.Goes.{equal, equals, not_true}
 use Rattle.euler_conditions.specs.Ends.{leads_to, lesser}
 
 -- ---- what the walk has found
@@ -37,24 +37,6 @@ pub record HalfSeen (M : Model) (h far least g n : ℕ) : Type 0 where
   pub seen : Seen M h far least met
   pub there : HasHalf M g
 
-and_parts : (a b : Bool) → (a && b) ≡ true → (a ≡ true) × (b ≡ true)
-and_parts true b e = (refl, e)
-and_parts false b e = absurd (true≢false (sym e))
-
-or_parts : (a b : Bool) → (a || b) ≡ true → (a ≡ true) ⊎ (b ≡ true)
-or_parts true b e = inl refl
-or_parts false b e = inr e
-
-join_and : (a b : Bool) → a ≡ true → b ≡ true → (a && b) ≡ true
-join_and a b p q = ap (λ c. c && b) p ∙ q
-
-join_left : (a b : Bool) → a ≡ true → (a || b) ≡ true
-join_left a b p = ap (λ c. c || b) p
-
-join_right : (a b : Bool) → b ≡ true → (a || b) ≡ true
-join_right true b p = refl
-join_right false b p = p
-
 module _ (M : Model) (h far : ℕ) where
   seen_none : Seen M h far 0 []
   seen_none = record { one = λ ne. absurd (ne refl); all = λ x i. absurd (omega arith) }
@@ -65,13 +47,10 @@ module _ (M : Model) (h far : ℕ) where
   last_in : (g : ℕ) (met : List ℕ) → IsIn g (met ++ g ∷ [])
   last_in g met = omega (arith, count-append g met (g ∷ []), tick_same g)
 
-  met_cases : (x g : ℕ) (met : List ℕ) → IsIn x (met ++ g ∷ []) → IsIn x met ⊎ (x ≡ g)
-  met_cases x g met i = elim (eqb_tells x g) [ inl e ↦ inr e.1 | inr e ↦ inl (omega (arith, count-append x met (g ∷ []), tick_other x g e.1)) ]
-
   seen_other : (least g : ℕ) (met : List ℕ) → leads_to M h far g ≡ false → Seen M h far least met → Seen M h far least (met ++ g ∷ [])
   seen_other least g met other s = record {
     one = λ ne. let y = s.one ne in (y.0, more y.0 g met y.1, y.2, y.3);
-    all = λ x i b. elim (met_cases x g met i) [ inl j ↦ s.all x j b | inr e ↦ absurd (true≢false (sym b ∙ ap (leads_to M h far) e ∙ other)) ];
+    all = λ x i b. elim (IsIn_push x g met i) [ inl j ↦ s.all x j b | inr e ↦ absurd (true≢false (sym b ∙ ap (leads_to M h far) e ∙ other)) ];
   }
 
   lesser_cases : (least e : ℕ) → ((least ≡ 0) × (lesser least e ≡ e)) ⊎ ((least ≢ 0) × (least ≤ e) × (lesser least e ≡ least)) ⊎ ((least ≢ 0) × (e ≤ least) × (lesser least e ≡ e))
@@ -81,25 +60,19 @@ module _ (M : Model) (h far : ℕ) where
   seen_beside least g met beside fits s = elim (lesser_cases least (edge_of g)) [
     | inl z ↦ record {
       one = λ ne. (g, last_in g met, sym z.1, beside);
-      all = λ x i b. elim (met_cases x g met i) [ inl j ↦ absurd ((s.all x j b).0 z.0) | inr e ↦ (λ n. fits (sym z.1 ∙ n), omega (arith, z.1, ap edge_of e)) ];
+      all = λ x i b. elim (IsIn_push x g met i) [ inl j ↦ absurd ((s.all x j b).0 z.0) | inr e ↦ (λ n. fits (sym z.1 ∙ n), omega (arith, z.1, ap edge_of e)) ];
     }
     | inr w ↦ elim w [
       | inl k ↦ record {
         one = λ ne. let y = s.one k.0 in (y.0, more y.0 g met y.1, y.2 ∙ sym k.2, y.3);
-        all = λ x i b. elim (met_cases x g met i) [ inl j ↦ (λ n. k.0 (sym k.2 ∙ n), omega (arith, k.2, (s.all x j b).1)) | inr e ↦ (λ n. k.0 (sym k.2 ∙ n), omega (arith, k.1, k.2, ap edge_of e)) ];
+        all = λ x i b. elim (IsIn_push x g met i) [ inl j ↦ (λ n. k.0 (sym k.2 ∙ n), omega (arith, k.2, (s.all x j b).1)) | inr e ↦ (λ n. k.0 (sym k.2 ∙ n), omega (arith, k.1, k.2, ap edge_of e)) ];
       }
       | inr k ↦ record {
         one = λ ne. (g, last_in g met, sym k.2, beside);
-        all = λ x i b. elim (met_cases x g met i) [ inl j ↦ (λ n. fits (sym k.2 ∙ n), omega (arith, k.1, k.2, (s.all x j b).1)) | inr e ↦ (λ n. fits (sym k.2 ∙ n), omega (arith, k.2, ap edge_of e)) ];
+        all = λ x i b. elim (IsIn_push x g met i) [ inl j ↦ (λ n. fits (sym k.2 ∙ n), omega (arith, k.1, k.2, (s.all x j b).1)) | inr e ↦ (λ n. fits (sym k.2 ∙ n), omega (arith, k.2, ap edge_of e)) ];
       }
     ]
   ]
-
-pub mate_plus : (e : ℕ) → mate (plus e) ≡ minus e
-mate_plus e = elim (mate_cases (plus e)) [ inl p ↦ omega arith | inr p ↦ absurd (omega arith) ]
-
-pub mate_minus : (e : ℕ) → mate (minus e) ≡ plus e
-mate_minus e = elim (mate_cases (minus e)) [ inl p ↦ absurd (omega arith) | inr p ↦ omega arith ]
 
 -- ---- what the whole walk finds
 
@@ -133,53 +106,47 @@ module _ (M : Model) (sound : Sound M) (h : ℕ) (there : HasHalf M h) where
   abbrev Beside : ℕ → EdgeRow → Bool
   Beside e row = not (nat_eq e (edge_of h)) && ((nat_eq row.plus_tail (tail M h) && nat_eq row.minus_tail far) || (nat_eq row.plus_tail far && nat_eq row.minus_tail (tail M h)))
 
-  plus_tail_is : (e : ℕ) (row : EdgeRow) → table.get M.edges e ≡ Some row → tail M (plus e) ≡ row.plus_tail
-  plus_tail_is e row at = tail_row M (plus e) row (ap (table.get M.edges) (plus_row e).0 ∙ at) ∙ ap (tail_in row) (plus_row e).1
-
-  minus_tail_is : (e : ℕ) (row : EdgeRow) → table.get M.edges e ≡ Some row → tail M (minus e) ≡ row.minus_tail
-  minus_tail_is e row at = tail_row M (minus e) row (ap (table.get M.edges) (minus_row e).0 ∙ at) ∙ ap (tail_in row) (minus_row e).1
-
   leads : (x : ℕ) → nat_eq (edge_of x) (edge_of h) ≡ false → tail M (mate x) ≡ far → leads_to M h far x ≡ true
-  leads x other e = join_and (not (nat_eq (edge_of x) (edge_of h))) (nat_eq (tail M (mate x)) far) (ap not other) (equals (tail M (mate x)) far e)
+  leads x other e = and_from (not (nat_eq (edge_of x) (edge_of h))) (nat_eq (tail M (mate x)) far) (ap not other) (eq-eqb (tail M (mate x)) far e)
 
   -- an edge beside h was met
   beside_met : (e : ℕ) (row : EdgeRow) → table.get M.edges e ≡ Some row → Beside e row ≡ true → (x : ℕ) × IsIn x whole × (edge_of x ≡ e) × (leads_to M h far x ≡ true)
   beside_met e row at b =
       let parts = and_parts _ _ b in
-      let other : nat_eq e (edge_of h) ≡ false = not_true (nat_eq e (edge_of h)) parts.0 in
-      elim (or_parts _ _ parts.1) [
+      let other : nat_eq e (edge_of h) ≡ false = not-true (nat_eq e (edge_of h)) parts.0 in
+      elim (or_cases _ _ parts.1) [
         | inl p ↦
             let q = and_parts _ _ p in
             let has : HasHalf M (plus e) = ap (table.has M.edges) (plus_row e).0 ∙ ap is_some at in (
               plus e,
-              in_whole (plus e) has (plus_tail_is e row at ∙ equal row.plus_tail (tail M h) q.0),
+              in_whole (plus e) has (plus_tail_row M e row at ∙ eqb-true row.plus_tail (tail M h) q.0),
               (plus_row e).0,
-              leads (plus e) (ap (λ k. nat_eq k (edge_of h)) (plus_row e).0 ∙ other) (ap (tail M) (mate_plus e) ∙ minus_tail_is e row at ∙ equal row.minus_tail far q.1),
+              leads (plus e) (ap (λ k. nat_eq k (edge_of h)) (plus_row e).0 ∙ other) (ap (tail M) (mate_plus e) ∙ minus_tail_row M e row at ∙ eqb-true row.minus_tail far q.1),
             )
         | inr p ↦
             let q = and_parts _ _ p in
             let has : HasHalf M (minus e) = ap (table.has M.edges) (minus_row e).0 ∙ ap is_some at in (
               minus e,
-              in_whole (minus e) has (minus_tail_is e row at ∙ equal row.minus_tail (tail M h) q.1),
+              in_whole (minus e) has (minus_tail_row M e row at ∙ eqb-true row.minus_tail (tail M h) q.1),
               (minus_row e).0,
-              leads (minus e) (ap (λ k. nat_eq k (edge_of h)) (minus_row e).0 ∙ other) (ap (tail M) (mate_minus e) ∙ plus_tail_is e row at ∙ equal row.plus_tail far q.0),
+              leads (minus e) (ap (λ k. nat_eq k (edge_of h)) (minus_row e).0 ∙ other) (ap (tail M) (mate_minus e) ∙ plus_tail_row M e row at ∙ eqb-true row.plus_tail far q.0),
             )
       ]
 
   -- what was met and leads to the far end is of an edge beside h
   met_beside : (x : ℕ) → IsIn x whole → leads_to M h far x ≡ true → (row : EdgeRow) × (table.get M.edges (edge_of x) ≡ Some row) × (Beside (edge_of x) row ≡ true)
   met_beside x i l =
-      let o = of_whole x i in let r = some_row (table.get M.edges (edge_of x)) o.0 in let parts = and_parts _ _ l in
-      let ends : tail M (mate x) ≡ far = equal (tail M (mate x)) far parts.1 in (
+      let o = of_whole x i in let r = row_some (table.get M.edges (edge_of x)) o.0 in let parts = and_parts _ _ l in
+      let ends : tail M (mate x) ≡ far = eqb-true (tail M (mate x)) far parts.1 in (
         r.0,
         r.1,
-        join_and (not (nat_eq (edge_of x) (edge_of h))) _ parts.0 (elim (halves_of_edge x) [
-          | inl p ↦ join_left _ _ (join_and _ _
-              (equals r.0.plus_tail (tail M h) (sym (plus_tail_is (edge_of x) r.0 r.1) ∙ ap (tail M) (sym p.0) ∙ o.1))
-              (equals r.0.minus_tail far (sym (minus_tail_is (edge_of x) r.0 r.1) ∙ ap (tail M) (sym (ap mate p.0 ∙ mate_plus (edge_of x))) ∙ ends)))
-          | inr p ↦ join_right _ _ (join_and _ _
-              (equals r.0.plus_tail far (sym (plus_tail_is (edge_of x) r.0 r.1) ∙ ap (tail M) (sym (ap mate p.0 ∙ mate_minus (edge_of x))) ∙ ends))
-              (equals r.0.minus_tail (tail M h) (sym (minus_tail_is (edge_of x) r.0 r.1) ∙ ap (tail M) (sym p.0) ∙ o.1)))
+        and_from (not (nat_eq (edge_of x) (edge_of h))) _ parts.0 (elim (halves_of_edge x) [
+          | inl p ↦ or_left _ _ (and_from _ _
+              (eq-eqb r.0.plus_tail (tail M h) (sym (plus_tail_row M (edge_of x) r.0 r.1) ∙ ap (tail M) (sym p.0) ∙ o.1))
+              (eq-eqb r.0.minus_tail far (sym (minus_tail_row M (edge_of x) r.0 r.1) ∙ ap (tail M) (sym (ap mate p.0 ∙ mate_plus (edge_of x))) ∙ ends)))
+          | inr p ↦ or_right _ _ (and_from _ _
+              (eq-eqb r.0.plus_tail far (sym (plus_tail_row M (edge_of x) r.0 r.1) ∙ ap (tail M) (sym (ap mate p.0 ∙ mate_minus (edge_of x))) ∙ ends))
+              (eq-eqb r.0.minus_tail (tail M h) (sym (minus_tail_row M (edge_of x) r.0 r.1) ∙ ap (tail M) (sym p.0) ∙ o.1)))
         ]),
       )
 

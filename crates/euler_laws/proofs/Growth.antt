@@ -13,8 +13,8 @@ use Rattle.euler_operators.specs.declared.Op.{Op}
 use Rattle.euler_operators.specs.declared.Op.TheVariants.{Mvfs, Kvfs, Mev, Kev, Mef, Kef, Kemr, Mekr, Kfmrh, Mfkrh, RingIn, RingOut, Outer, Merge, Part}
 use Rattle.euler_operators.specs.Conditions.{first_false, lone_vertex}
 use Rattle.euler_operators.specs.Effect.{effect, inverse, mvfs, mev_at, mev_lone, mef, kemr, mfkrh, ring_in, ring_out, take_outer, merge, part}
+use Rattle.euler_operators.proofs.Tables.{row_some}
 use Rattle.euler_laws.specs.Laws.{size, euler_number, growth}
-use Rattle.euler_laws.proofs.shared.Loops.{some_row}
 use Rattle.euler_laws.proofs.mev.MevSound.{MevGoes}
 use Rattle.euler_laws.proofs.mev.MevLoneSound.{LoneGoes}
 use Rattle.euler_laws.proofs.mev.Mev.{mev_goes, lone_goes, mixed_first, mixed_second}
@@ -59,7 +59,7 @@ mev_lone_grown : (M : Model) (l h v u : ℕ) (p : Point) → LoneGoes M l h v u 
 unfolding mev_lone
 mev_lone_grown M l h v u p goes =
     let N : Model = mev_lone M l h v p in
-    let w = some_row (table.get M.loops l) goes.loop_there in
+    let w = row_some (table.get M.loops l) goes.loop_there in
     let a : size N.vertices ≡ size M.vertices + 1 = size-put_new M.vertices v p goes.vertex_free in
     let b : size N.edges ≡ size M.edges + 1 = size-put_new M.edges (edge_of h) _ goes.edge_free in
     let c : size N.loops ≡ size M.loops = size-put_old M.loops l _ w.0 w.1 in
@@ -78,7 +78,7 @@ kemr_grown : (M : Model) (h l : ℕ) → KemrGoes M h l → Grown M (kemr M h l)
 unfolding kemr
 kemr_grown M h l goes =
     let N : Model = kemr M h l in
-    let w = some_row (table.get M.edges (edge_of h)) goes.h_there in
+    let w = row_some (table.get M.edges (edge_of h)) goes.h_there in
     let a : size N.edges + 1 ≡ size M.edges = size-remove M.edges (edge_of h) w.0 w.1 in
     let c : size N.loops ≡ size M.loops + 1 = size-put_new _ l _ (mapped_none _ M.loops l goes.loop_free) ∙ ap (λ n. n + 1) (size-map_rows _ M.loops) in
     omega (arith, a, c)

@@ -5,16 +5,15 @@ use Rattle.std.specs.Ordering.{nat_cmp}
 use Rattle.std.specs.Cmp.{nat_cmp_total}
 use Rattle.std.specs.FinMap.Entries as entries
 use Rattle.std.proofs.lemmas.Bool.Decides.{nat_tests, eqb_tells}
-use Rattle.std.proofs.lemmas.Bool.{and_parts}
+use Rattle.std.proofs.lemmas.Bool.{and_parts, eq-eqb, eqb-true}
 use Rattle.euler_operators.specs.Table.{Table, put, remove, get, map_rows, map_entries, get-map_rows, all_where, all_in}
 use Rattle.euler_operators.specs.Model.{Model, LoopRow, face_of, outer}
 use Rattle.euler_operators.specs.Sound.{Sound, Has}
 use Rattle.euler_operators.proofs.Models.{face_row}
+use Rattle.euler_operators.proofs.Tables.{row_some}
 use Rattle.euler_operators.specs.Conditions.{lists, strictly_rises}
 use Rattle.euler_operators.specs.Items.{IsIn}
 use Rattle.euler_laws.specs.Laws.{size, all_rings}
-use Rattle.euler_laws.proofs.shared.Goes.{equal, equals}
-use Rattle.euler_laws.proofs.shared.Loops.{some_row}
 use Rattle.euler_laws.proofs.shared.Listed.{listed_passes, passes_listed, all_where-rises, first_listed, rest_listed, listed_cases, listed-from_in}
 
 -- ---- rows put, taken away and rewritten
@@ -133,18 +132,18 @@ module _ (M : Model) (sound : Sound M) where
   all_faces = all_where (λ _ _. true) M.faces
 
   face_listed : (f : ℕ) → Has M.faces f → lists all_faces f ≡ true
-  face_listed f there = let w = some_row (get M.faces f) there in passes_listed (λ _ _. true) M.faces f w.0 w.1 refl
+  face_listed f there = let w = row_some (get M.faces f) there in passes_listed (λ _ _. true) M.faces f w.0 w.1 refl
 
   listed_face : (f : ℕ) → lists all_faces f ≡ true → Has M.faces f
   listed_face f l = ap is_some (listed_passes (λ _ _. true) M.faces f l).1
 
   outer_there : (l : ℕ) → lists outers l ≡ true → Has M.loops l × (outer M (face_of M l) ≡ l)
   outer_there l k = let x = listed_passes is_outer M.loops l k in
-      (ap is_some x.1, ap (outer M) (face_row M l x.0 x.1) ∙ equal _ _ x.2)
+      (ap is_some x.1, ap (outer M) (face_row M l x.0 x.1) ∙ eqb-true _ _ x.2)
 
   there_outer : (l : ℕ) → Has M.loops l → outer M (face_of M l) ≡ l → lists outers l ≡ true
-  there_outer l there e = let w = some_row (get M.loops l) there in
-      passes_listed is_outer M.loops l w.0 w.1 (equals _ _ (sym (ap (outer M) (face_row M l w.0 w.1)) ∙ e))
+  there_outer l there e = let w = row_some (get M.loops l) there in
+      passes_listed is_outer M.loops l w.0 w.1 (eq-eqb _ _ (sym (ap (outer M) (face_row M l w.0 w.1)) ∙ e))
 
   -- as many loops are outer loops as there are faces
   outers_as_faces : length outers ≡ length all_faces

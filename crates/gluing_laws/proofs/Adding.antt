@@ -3,6 +3,7 @@ use Rattle.std.proofs.Common.{◌≡◌, ◌≢◌, ℕ, ◌+◌, ℤ, pos, ◌+
 use Rattle.std.specs.Option.{option_map}
 use Rattle.std.proofs.lemmas.Int.{ints}
 use Rattle.std.proofs.lemmas.Bool.Decides.{nat_tests, eqb_tells}
+use Rattle.std.proofs.lemmas.Bool.{ne_eqb, eq-eqb, eqb-true}
 use Rattle.euler_operators.specs.Vectors.{dot}
 use Rattle.euler_operators.specs.Items.{count, IsIn, SameItems, head_or}
 use Rattle.euler_operators.specs.Rings.{successor}
@@ -14,7 +15,6 @@ use Rattle.euler_operators.specs.Model.{Model, cycle, FaceRow, items_of, tail, c
 use Rattle.euler_operators.specs.Sound.{Has}
 use Rattle.euler_operators.specs.Conditions.{lists}
 use Rattle.euler_operators.specs.Effect.{faces_to_solid}
-use Rattle.euler_laws.proofs.shared.Goes.{equal, equals, differs}
 use Rattle.euler_laws.proofs.shared.Listed.{listed_passes, listed_as}
 use Rattle.euler_laws.proofs.shared.Rows.{face_there, solid_either}
 use Rattle.euler_laws.proofs.shared.Same.{mapped_some}
@@ -44,7 +44,7 @@ only_loop M k cs alone is = ap (λ rs. area M (items_in M (outer M k ∷ rs))) a
 -- what is of s afterwards was of s or of t
 of_both : (a s t : ℕ) → s ≢ t → one_if (nat_eq (cond (nat_eq a t) s a) s) ≡ one_if (nat_eq a s) + one_if (nat_eq a t)
 of_both a s t ne = elim (eqb_tells a t) [
-  | inl e ↦ ap (λ b. one_if (nat_eq (cond b s a) s)) e.0 ∙ ap one_if (equals s s refl) ∙ sym (λ i. one_if (differs a s (λ q. ne (sym q ∙ e.1)) i) + one_if (e.0 i))
+  | inl e ↦ ap (λ b. one_if (nat_eq (cond b s a) s)) e.0 ∙ ap one_if (eq-eqb s s refl) ∙ sym (λ i. one_if (ne_eqb a s (λ q. ne (sym q ∙ e.1)) i) + one_if (e.0 i))
   | inr e ↦ ap (λ b. one_if (nat_eq (cond b s a) s)) e.0 ∙ alone (one_if (nat_eq a s)) ∙ sym (ap (λ b. one_if (nat_eq a s) + one_if b) e.0)
 ] where
   alone : (n : ℕ) → n ≡ n + 0
@@ -53,7 +53,7 @@ of_both a s t ne = elim (eqb_tells a t) [
 was_either : (a s t : ℕ) → nat_eq (cond (nat_eq a t) s a) s ≡ true → (a ≡ s) ⊎ (a ≡ t)
 was_either a s t is = elim (eqb_tells a t) [
   | inl e ↦ inr e.1
-  | inr e ↦ inl (equal a s (sym (ap (λ b. nat_eq (cond b s a) s) e.0) ∙ is))
+  | inr e ↦ inl (eqb-true a s (sym (ap (λ b. nat_eq (cond b s a) s) e.0) ∙ is))
 ]
 
 module _ (M N : Model) (f g : ℕ) (partner_of : ℕ → ℕ) (hs gs : List ℕ) (w : Seamed M f g partner_of hs gs) (n : Glued M N f g partner_of hs) where
@@ -122,14 +122,14 @@ module _ (M N : Model) (f g : ℕ) (partner_of : ℕ → ℕ) (hs gs : List ℕ)
 
   at_f : SameAt f
   at_f =
-      let here : count f (faces_of M s) ≡ 1 = of_solid f s w.f_there ∙ ap one_if (equals s s refl) in
-      let there : count f (faces_of M t) ≡ 0 = of_solid f t w.f_there ∙ ap one_if (differs s t w.solids_apart) in
+      let here : count f (faces_of M s) ≡ 1 = of_solid f s w.f_there ∙ ap one_if (eq-eqb s s refl) in
+      let there : count f (faces_of M t) ≡ 0 = of_solid f t w.f_there ∙ ap one_if (ne_eqb s t w.solids_apart) in
       omega (arith, tick_same f, tick_other f g (seams.faces_apart M f g partner_of hs gs w), none_after f left_f, here, there, count-append f (faces_of M s) (faces_of M t))
 
   at_g : SameAt g
   at_g =
-      let here : count g (faces_of M s) ≡ 0 = of_solid g s w.g_there ∙ ap one_if (differs t s (λ e. w.solids_apart (sym e))) in
-      let there : count g (faces_of M t) ≡ 1 = of_solid g t w.g_there ∙ ap one_if (equals t t refl) in
+      let here : count g (faces_of M s) ≡ 0 = of_solid g s w.g_there ∙ ap one_if (ne_eqb t s (λ e. w.solids_apart (sym e))) in
+      let there : count g (faces_of M t) ≡ 1 = of_solid g t w.g_there ∙ ap one_if (eq-eqb t t refl) in
       omega (arith, tick_same g, tick_other g f (λ e. seams.faces_apart M f g partner_of hs gs w (sym e)), none_after g left_g, here, there, count-append g (faces_of M s) (faces_of M t))
 
   both_rows : (k : ℕ) (o : Option FaceRow) → passed (of s) k (option_map (to_s k) o) ≡ passed (of s) k o + passed (of t) k o

@@ -1,18 +1,18 @@
 -- What the conditions of a glue say, and the laws.
 use Rattle.std.proofs.Common.{◌≡◌, ◌≢◌, ℕ, ◌+ℤ◌, true, false, not, nat_eq, Bool, ◌&&◌, ◌||◌, List, [], ◌∷◌, reverse, None, is_some, refl, sym, ap, ◌∙◌, true≢false, ◌⊎◌, inl, inr}
+use Rattle.std.proofs.lemmas.Bool.{not-true, not-false, eq-eqb, eqb-true, eqb-false}
 use Rattle.euler_operators.specs.Items.{IsIn}
 use Rattle.euler_operators.specs.Model.{Model, cycle, content, face_of, outer, solid_of, rings_of}
 use Rattle.euler_operators.specs.Sound.{Sound, Has}
 use Rattle.euler_operators.proofs.Tables.{zero_first_where}
 use Rattle.euler_operators.proofs.Tests.{first_fails, or_true}
 use Rattle.euler_operators.specs.Conditions.{has_rings, is_empty, is_lone, lists}
-use Rattle.euler_laws.proofs.shared.Goes.{all_hold, no_zero, not_true, not_back, equal, unequal, equals}
-use Rattle.euler_laws.proofs.shared.Listed.{listed_passes, passes_listed, IsIn-from_listed}
+use Rattle.euler_laws.proofs.shared.Goes.{all_hold, no_zero}
+use Rattle.euler_laws.proofs.shared.Listed.{listed_passes, passes_listed, IsIn-from_listed, listed-from_in}
 use Rattle.euler_laws.proofs.shared.Rows.{loop_row, face_there, not_lone_cycle}
 use Rattle.shapes.specs.Faces.{least_lone, faces_of_both}
 use Rattle.shapes.specs.Fresh.{first_such}
 use Rattle.shapes.specs.Measure.{is_flat, six_volume}
-use Rattle.euler_laws.proofs.shared.Counted.{in_listed}
 use Rattle.shapes.specs.glue.Glue.{rim, outline, has_repeats, is_rotation, glue_conditions, glue_refusal, partner, glue_model}
 use Rattle.gluing_laws.proofs.glue.Ending.{glued_all, glued_along_is}
 use Rattle.gluing_laws.proofs.Seams.{Seamed, Glued}
@@ -39,13 +39,13 @@ unfolding glue_conditions
 fits M f g e = let h = all_hold (glue_conditions M f g) e in record {
   f_there = h.1.1.0;
   g_there = h.1.1.1.0;
-  solids_apart = unequal (solid_of M f) (solid_of M g) (not_true (nat_eq (solid_of M f) (solid_of M g)) h.1.1.1.1.0);
-  rings_f = not_true (has_rings M f) h.1.1.1.1.1.0;
-  rings_g = not_true (has_rings M g) h.1.1.1.1.1.1.0;
-  no_lone = equal (least_lone M (faces_of_both M (solid_of M f) (solid_of M g))) 0 h.1.1.1.1.1.1.1.0;
-  all_flat = equal (first_such (λ k. not (is_flat M k)) (faces_of_both M (solid_of M f) (solid_of M g))) 0 h.1.1.1.1.1.1.1.1.0;
-  once_f = not_true (has_repeats (outline M f)) h.1.1.1.1.1.1.1.1.1.0;
-  once_g = not_true (has_repeats (outline M g)) h.1.1.1.1.1.1.1.1.1.1.0;
+  solids_apart = eqb-false (solid_of M f) (solid_of M g) (not-true (nat_eq (solid_of M f) (solid_of M g)) h.1.1.1.1.0);
+  rings_f = not-true (has_rings M f) h.1.1.1.1.1.0;
+  rings_g = not-true (has_rings M g) h.1.1.1.1.1.1.0;
+  no_lone = eqb-true (least_lone M (faces_of_both M (solid_of M f) (solid_of M g))) 0 h.1.1.1.1.1.1.1.0;
+  all_flat = eqb-true (first_such (λ k. not (is_flat M k)) (faces_of_both M (solid_of M f) (solid_of M g))) 0 h.1.1.1.1.1.1.1.1.0;
+  once_f = not-true (has_repeats (outline M f)) h.1.1.1.1.1.1.1.1.1.0;
+  once_g = not-true (has_repeats (outline M g)) h.1.1.1.1.1.1.1.1.1.1.0;
   matched = h.1.1.1.1.1.1.1.1.1.1.1.0;
 }
 
@@ -55,7 +55,7 @@ empty_is (x ∷ xs) e = absurd (true≢false (sym e))
 
 no_rings : (M : Model) (k : ℕ) → has_rings M k ≡ false → rings_of M k ≡ []
 unfolding has_rings
-no_rings M k e = empty_is (rings_of M k) (not_back (is_empty (rings_of M k)) e)
+no_rings M k e = empty_is (rings_of M k) (not-false (is_empty (rings_of M k)) e)
 
 module _ (M : Model) (f g : ℕ) (sound : Sound M) (w : Fits M f g) where
   abbrev s : ℕ
@@ -68,14 +68,14 @@ module _ (M : Model) (f g : ℕ) (sound : Sound M) (w : Fits M f g) where
   both = faces_of_both M s t
 
   of_either : (k : ℕ) → (solid_of M k ≡ s) ⊎ (solid_of M k ≡ t) → (nat_eq (solid_of M k) s || nat_eq (solid_of M k) t) ≡ true
-  of_either k (inl e) = ap (λ b. b || nat_eq (solid_of M k) t) (equals (solid_of M k) s e)
-  of_either k (inr e) = ap (λ b. nat_eq (solid_of M k) s || b) (equals (solid_of M k) t e) ∙ or_true (nat_eq (solid_of M k) s)
+  of_either k (inl e) = ap (λ b. b || nat_eq (solid_of M k) t) (eq-eqb (solid_of M k) s e)
+  of_either k (inr e) = ap (λ b. nat_eq (solid_of M k) s || b) (eq-eqb (solid_of M k) t e) ∙ or_true (nat_eq (solid_of M k) s)
 
   face_listed : (k : ℕ) → Has M.faces k → (solid_of M k ≡ s) ⊎ (solid_of M k ≡ t) → lists both k ≡ true
   face_listed k there of = passes_listed (λ _ row. nat_eq row.solid s || nat_eq row.solid t) M.faces k (record { solid = solid_of M k; outer = outer M k }) (face_there M k there) (of_either k of)
 
   zero_not_listed : (k : ℕ) → IsIn k both → k ≢ 0
-  zero_not_listed k i e = no_zero k e (sound.faces_fit k (ap is_some (listed_passes (λ _ row. nat_eq row.solid s || nat_eq row.solid t) M.faces k (in_listed k both i)).1))
+  zero_not_listed k i e = no_zero k e (sound.faces_fit k (ap is_some (listed_passes (λ _ row. nat_eq row.solid s || nat_eq row.solid t) M.faces k (listed-from_in k both i)).1))
 
   each_flat : (k : ℕ) → Has M.faces k → (solid_of M k ≡ s) ⊎ (solid_of M k ≡ t) → is_flat M k ≡ true
   each_flat k there of = go (is_flat M k) refl where

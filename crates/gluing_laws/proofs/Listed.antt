@@ -7,21 +7,21 @@ use Rattle.euler_operators.specs.Table as table
 use Rattle.euler_operators.specs.Table.{Table}
 use Rattle.euler_operators.specs.Model.{Model}
 use Rattle.euler_operators.specs.Conditions.{lists, strictly_rises}
-use Rattle.euler_laws.proofs.shared.Listed.{first_listed, listed_passes, listed_as, all_where-rises, IsIn-from_listed}
+use Rattle.euler_laws.proofs.shared.Listed.{first_listed, listed_passes, listed_as, all_where-rises, IsIn-from_listed, listed-from_in}
 use Rattle.euler_laws.proofs.shared.Rows.{no_items}
 use Rattle.shapes.specs.Measure.{anchor, normal, volume_in}
 use Rattle.euler_operators.proofs.Vectors.{add_assoc, none_add, add_exchanged}
 use Rattle.euler_operators.proofs.Members.{count_taken}
 use Rattle.euler_laws.proofs.shared.RisingLists.{within}
-use Rattle.euler_laws.proofs.shared.Counted.{counted_once, none_counted, in_listed}
+use Rattle.euler_laws.proofs.shared.Counted.{counted_once, none_counted}
 
 -- ---- lists
 
 -- rising lists with the same items are one
 pub rising_same : (xs ys : List ℕ) → strictly_rises xs ≡ true → strictly_rises ys ≡ true → SameItems xs ys → xs ≡ ys
 rising_same xs ys r s e =
-    let a = within xs ys r s (λ q i. in_listed q ys (omega (arith, e q, IsIn-from_listed q xs i))) in
-    let b = within ys xs s r (λ q i. in_listed q xs (omega (arith, e q, IsIn-from_listed q ys i))) in
+    let a = within xs ys r s (λ q i. listed-from_in q ys (omega (arith, e q, IsIn-from_listed q xs i))) in
+    let b = within ys xs s r (λ q i. listed-from_in q xs (omega (arith, e q, IsIn-from_listed q ys i))) in
     a.1 (omega (arith, a.0, b.0))
 
 -- ---- searches
@@ -83,4 +83,4 @@ module _ (M N : Model) where
   same_volumes [] e = refl
   same_volumes (k ∷ ks) e = λ i. e k (first_listed k ks) i +ℤ same_volumes ks (λ q l. e q (later k q ks l)) i where
     later : (k q : ℕ) (ks : List ℕ) → lists ks q ≡ true → lists (k ∷ ks) q ≡ true
-    later k q ks l = in_listed q (k ∷ ks) (omega (arith, IsIn-from_listed q ks l))
+    later k q ks l = listed-from_in q (k ∷ ks) (omega (arith, IsIn-from_listed q ks l))

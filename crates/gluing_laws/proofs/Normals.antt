@@ -3,6 +3,7 @@ use Rattle.std.proofs.Common.{◌≡◌, ◌≢◌, ℕ, true, false, cond, not,
 use Rattle.std.specs.Prelude.{map}
 use Rattle.std.specs.Option.{option_map}
 use Rattle.std.proofs.lemmas.Bool.Decides.{nat_tests, eqb_tells}
+use Rattle.std.proofs.lemmas.Bool.{ne_eqb, eqb-true}
 use Rattle.euler_operators.specs.Vectors.{moved, dot, cross}
 use Rattle.euler_operators.specs.Items.{count, IsIn, head_or}
 use Rattle.euler_operators.specs.Rings.{canonical}
@@ -18,7 +19,6 @@ use Rattle.euler_operators.proofs.Tests.{and_first}
 use Rattle.euler_operators.proofs.Members.{IsIn_rest, IsIn_first}
 use Rattle.euler_operators.specs.Conditions.{lists}
 use Rattle.euler_operators.specs.Effect.{faces_to_solid}
-use Rattle.euler_laws.proofs.shared.Goes.{equal, differs}
 use Rattle.euler_laws.proofs.shared.Listed.{first_listed, rest_listed, listed_cases, listed_passes, listed_front}
 use Rattle.shapes.specs.Faces.{start, items_in, loops_of, boundary, corners, vertices_on}
 use Rattle.shapes.specs.Rewriting.{rewritten, rewritten_row}
@@ -57,7 +57,7 @@ loop_face : (M : Model) (k l : ℕ) → face_of M (outer M k) ≡ k → lists (l
 unfolding loops_of
 loop_face M k l own i = elim (listed_cases (outer M k) l (rings_of M k) i) [
   | inl e ↦ ap (face_of M) e ∙ own
-  | inr j ↦ let r = listed_passes (λ q row. nat_eq row.face k && not (nat_eq (outer M k) q)) M.loops l j in face_row M l r.0 r.1 ∙ equal r.0.face k (and_first _ _ r.2)
+  | inr j ↦ let r = listed_passes (λ q row. nat_eq row.face k && not (nat_eq (outer M k) q)) M.loops l j in face_row M l r.0 r.1 ∙ eqb-true r.0.face k (and_first _ _ r.2)
 ]
 
 module _ (M N : Model) (f g : ℕ) (partner_of : ℕ → ℕ) (hs gs : List ℕ) (w : Seamed M f g partner_of hs gs) (n : Glued M N f g partner_of hs) where
@@ -164,7 +164,7 @@ module _ (M N : Model) (f g : ℕ) (partner_of : ℕ → ℕ) (hs gs : List ℕ)
     none_passes l ne = go (table.get M.loops l) refl where
       go : (o : Option LoopRow) → table.get M.loops l ≡ o → passed ring_before l o ≡ 0
       go None e = refl
-      go (Some row) e = ap (λ b. one_if (b && not (nat_eq (outer M k) l))) (differs row.face k (λ s. ne (face_row M l row e ∙ s)))
+      go (Some row) e = ap (λ b. one_if (b && not (nat_eq (outer M k) l))) (ne_eqb row.face k (λ s. ne (face_row M l row e ∙ s)))
 
     loop_gone : (l : ℕ) → table.get kept l ≡ None → face_of M l ≢ k → passed ring_after l (table.get N.loops l) ≡ passed ring_before l (table.get M.loops l)
     loop_gone l e ne = ap (passed ring_after l) (row_in l ∙ ap (option_map (rewritten_row (map swap) l)) e) ∙ sym (none_passes l ne)

@@ -2,6 +2,7 @@
 use Rattle.std.proofs.Common.{◌≡◌, ◌≢◌, ℕ, true, cond, nat_eq, Bool, List, [], ◌∷◌, map, Option, Some, None, is_some, refl, sym, ap, ◌∙◌, arith, inl, inr}
 use Rattle.std.specs.Option.{option_map}
 use Rattle.std.proofs.lemmas.Bool.Decides.{nat_tests, eqb_tells}
+use Rattle.std.proofs.lemmas.Bool.{ne_eqb, eqb-true}
 use Rattle.euler_operators.specs.Vectors.{dot}
 use Rattle.euler_operators.specs.Items.{IsIn, head_or}
 use Rattle.euler_operators.specs.Rings.{canonical}
@@ -14,7 +15,6 @@ use Rattle.euler_operators.specs.Sound.{Has, StandsIn}
 use Rattle.euler_operators.proofs.Models.{in-holds}
 use Rattle.euler_operators.specs.Conditions.{lists}
 use Rattle.euler_operators.specs.Effect.{faces_to_solid}
-use Rattle.euler_laws.proofs.shared.Goes.{equal, differs}
 use Rattle.euler_laws.proofs.shared.Listed.{listed_passes, listed_as}
 use Rattle.euler_laws.proofs.shared.Rows.{face_there, solid_either}
 use Rattle.shapes.specs.Faces.{start}
@@ -30,7 +30,7 @@ use Rattle.gluing_laws.proofs.Normals as normals
 -- a solid that is neither s nor t has the faces that it had
 of_neither : (a s t u : ℕ) → u ≢ s → u ≢ t → one_if (nat_eq (cond (nat_eq a t) s a) u) ≡ one_if (nat_eq a u)
 of_neither a s t u not_s not_t = elim (eqb_tells a t) [
-  | inl e ↦ ap (λ b. one_if (nat_eq (cond b s a) u)) e.0 ∙ ap one_if (differs s u (λ q. not_s (sym q))) ∙ sym (ap one_if (differs a u (λ q. not_t (sym q ∙ e.1))))
+  | inl e ↦ ap (λ b. one_if (nat_eq (cond b s a) u)) e.0 ∙ ap one_if (ne_eqb s u (λ q. not_s (sym q))) ∙ sym (ap one_if (ne_eqb a u (λ q. not_t (sym q ∙ e.1))))
   | inr e ↦ ap (λ b. one_if (nat_eq (cond b s a) u)) e.0
 ]
 
@@ -52,7 +52,7 @@ module _ (M N : Model) (f g : ℕ) (partner_of : ℕ → ℕ) (hs gs : List ℕ)
 
   face_gone : (k : ℕ) → table.get left k ≡ None → Has M.faces k → solid_of M k ≢ u → passed of k (table.get N.faces k) ≡ passed of k (table.get M.faces k)
   face_gone k e there ne = ap (passed of k) (normals.face_at_row M N f g partner_of hs gs w n k ∙ ap (option_map (to_s k)) e)
-      ∙ sym (ap (passed of k) (face_there M k there) ∙ ap one_if (differs (solid_of M k) u ne))
+      ∙ sym (ap (passed of k) (face_there M k there) ∙ ap one_if (ne_eqb (solid_of M k) u ne))
 
   row_kept : (k : ℕ) (o : Option FaceRow) → passed of k (option_map (to_s k) o) ≡ passed of k o
   row_kept k None = refl
@@ -123,7 +123,7 @@ module _ (M N : Model) (f g : ℕ) (partner_of : ℕ → ℕ) (hs gs : List ℕ)
   each_stays : (k : ℕ) → lists (faces_of M u) k ≡ true → volume_of N k ≡ volume_of M k
   each_stays k i =
       let there : Has M.faces k = ap is_some (listed_passes of M.faces k i).1 in
-      volume_stays k there (equal (solid_of M k) u (sym (listed_as of M.faces k _ (face_there M k there)) ∙ i))
+      volume_stays k there (eqb-true (solid_of M k) u (sym (listed_as of M.faces k _ (face_there M k there)) ∙ i))
 
   pub others_stay : six_volume N u ≡ six_volume M u
   unfolding six_volume

@@ -14,12 +14,13 @@ use Rattle.euler_operators.specs.Table as table
 use Rattle.euler_operators.specs.Model.{Model, cycle, holds, items_of, tail, content, after, cycle_of, point_of}
 use Rattle.euler_operators.specs.Sound.{Sound, Has, HasHalf, StandsIn}
 use Rattle.euler_operators.proofs.Models.{in-holds}
+use Rattle.euler_operators.proofs.Members.{IsIn-map}
+use Rattle.euler_operators.proofs.Crossings.{same_as}
 use Rattle.euler_laws.proofs.shared.Goes.{no_zero}
 use Rattle.shapes.specs.Faces.{start, finish}
 use Rattle.shapes.specs.Fresh.{first_such}
 use Rattle.shapes.specs.glue.Glue.{has_repeats, is_rotation, partner}
-use Rattle.shapes.proofs.glue.Facing.{in_map}
-use Rattle.shapes.proofs.glue.Points.{same_is, is_same, once, turned_by}
+use Rattle.shapes.proofs.glue.Points.{same_is, once, turned_by}
 
 -- ---- searches
 
@@ -101,7 +102,7 @@ module _ (M : Model) (l r : ℕ) (hs gs : List ℕ) (w : Outlined M l r hs gs) w
   item_at p = first_such (λ h. same_point (start M h) p) hs
 
   item_again : (h : ℕ) → IsIn h hs → item_at (start M h) ≡ h
-  item_again h i = let s = such_there (λ k. same_point (start M k) (start M h)) hs h i (is_same (start M h) (start M h) refl) in once_f (item_at (start M h)) h s.1 i (same_is (start M (item_at (start M h))) (start M h) s.0)
+  item_again h i = let s = such_there (λ k. same_point (start M k) (start M h)) hs h i (same_as (start M h) (start M h) refl) in once_f (item_at (start M h)) h s.1 i (same_is (start M (item_at (start M h))) (start M h) s.0)
 
   all_again : (xs : List ℕ) → ((x : ℕ) → IsIn x xs → IsIn x hs) → map item_at (map (start M) xs) ≡ xs
   all_again [] within = refl
@@ -132,7 +133,7 @@ module _ (M : Model) (l r : ℕ) (hs gs : List ℕ) (w : Outlined M l r hs gs) w
   -- each item of the second loop faces one of the first, which starts where it does
   faces_item : (k : ℕ) → IsIn k gs → IsIn (facing k) hs × (start M (facing k) ≡ start M k)
   faces_item k i =
-      let j : IsIn (facing k) hs = omega (arith, in_map facing k gs i, counts (facing k)) in
+      let j : IsIn (facing k) hs = omega (arith, IsIn-map facing k gs i, counts (facing k)) in
       (j, same_is (start M (facing k)) (start M k) (found_such (λ h. same_point (start M h) (start M k)) hs (not_zero (facing k) j)).0)
 
   separate : (k : ℕ) → IsIn k gs → IsSeparate facing k gs
@@ -160,7 +161,7 @@ module _ (M : Model) (l r : ℕ) (hs gs : List ℕ) (w : Outlined M l r hs gs) w
   partner_found h i =
       let n = IsIn_successor h hs i in
       let k = from_map facing (successor hs h) gs (omega (arith, n, counts (successor hs h))) in
-      such_there (λ g. same_point (start M g) (finish M h)) gs k.0 k.1 (is_same (start M k.0) (finish M h) (sym (faces_item k.0 k.1).1 ∙ ap (start M) (sym k.2) ∙ sym (next_f h i)))
+      such_there (λ g. same_point (start M g) (finish M h)) gs k.0 k.1 (same_as (start M k.0) (finish M h) (sym (faces_item k.0 k.1).1 ∙ ap (start M) (sym k.2) ∙ sym (next_f h i)))
 
   pub partner_starts : (h : ℕ) → IsIn h hs → start M (partner M gs h) ≡ finish M h
   partner_starts h i = same_is (start M (partner M gs h)) (finish M h) (partner_found h i).0
@@ -184,7 +185,7 @@ module _ (M : Model) (l r : ℕ) (hs gs : List ℕ) (w : Outlined M l r hs gs) w
       let h : ℕ = predecessor hs (facing x) in
       let j : IsIn h hs = IsIn_predecessor (facing x) hs f.0 in
       let same : partner M gs h ≡ x = once_g (partner M gs h) x (partner_in h j) i (partner_starts h j ∙ next_f h j ∙ ap (start M) (successor-predecessor (facing x) hs apart_f f.0) ∙ f.1) in
-      subst (λ y. IsIn y (map (partner M gs) hs)) same (in_map (partner M gs) h hs j)
+      subst (λ y. IsIn y (map (partner M gs) hs)) same (IsIn-map (partner M gs) h hs j)
 
   -- the partners are the items of the second loop
   pub partners_are : SameItems gs (map (partner M gs) hs)

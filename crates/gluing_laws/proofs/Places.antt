@@ -11,7 +11,7 @@ use Rattle.euler_operators.specs.Table.{get-map_rows}
 use Rattle.euler_operators.specs.Model.{Model, EdgeRow, tail, tail_in, no_edge, no_point, loop_of, outer, point_of}
 use Rattle.euler_operators.specs.Sound.{HasHalf}
 use Rattle.euler_operators.proofs.Halves.{mate-mate, edge_of-mate, same_edge}
-use Rattle.euler_laws.proofs.shared.Fans.{half_mate}
+use Rattle.euler_operators.proofs.Models.{mate_there}
 use Rattle.shapes.specs.Faces.{start, finish}
 use Rattle.shapes.specs.Rewriting.{renamed, without_rows}
 use Rattle.shapes.specs.glue.Glue.{renamed_tails}
@@ -55,7 +55,7 @@ module _ (M N : Model) (f g : ℕ) (partner_of : ℕ → ℕ) (hs gs : List ℕ)
 
   end_kept : (h : ℕ) → IsIn h hs → point_of N (to_tail h) ≡ finish M h
   end_kept h i = point_kept (to_tail h) (λ k j. seams.never_met M f g partner_of hs gs w (mate h) (partner_of k)
-      (half_mate M w.sound h (seams.half_f M f g partner_of hs gs w h i)) (mate_of_f h i ∙ seams.side_f M f g partner_of hs gs w h i) (seams.partner_in M f g partner_of hs gs w k j))
+      (mate_there M h (seams.half_f M f g partner_of hs gs w h i)) (mate_of_f h i ∙ seams.side_f M f g partner_of hs gs w h i) (seams.partner_in M f g partner_of hs gs w k j))
 
   -- a vertex that replaces another has its point
   point_moved : (v : ℕ) → point_of N (renamed (paired from_tail to_tail hs) v) ≡ point_of M v
@@ -88,7 +88,7 @@ module _ (M N : Model) (f g : ℕ) (partner_of : ℕ → ℕ) (hs gs : List ℕ)
   Stays z y = (start N z ≡ start M y) × (finish N z ≡ finish M y)
 
   both_kept : (y : ℕ) → HasHalf M y → count (edge_of y) gone ≡ 0 → Stays y y
-  both_kept y there c = (start_kept y there c, start_kept (mate y) (half_mate M w.sound y there) (ap (λ e. count e gone) (edge_of-mate y) ∙ c))
+  both_kept y there c = (start_kept y there c, start_kept (mate y) (mate_there M y there) (ap (λ e. count e gone) (edge_of-mate y) ∙ c))
 
   edge_left : (y : ℕ) → ((h : ℕ) → IsIn h hs → y ≢ partner_of h) → ((h : ℕ) → IsIn h hs → y ≢ mate (partner_of h)) → count (edge_of y) gone ≡ 0
   edge_left y a b = elim (IsIn_or_not (edge_of y) gone) [

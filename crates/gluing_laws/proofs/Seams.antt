@@ -8,6 +8,7 @@ use Rattle.euler_operators.specs.Table as table
 use Rattle.euler_operators.specs.Model.{Model, cycle, holds, tail, loop_of, content, face_of, solid_of, outer, rings_of}
 use Rattle.euler_operators.specs.Sound.{Sound, Has, HasHalf, StandsIn}
 use Rattle.euler_operators.proofs.Models.{in-holds}
+use Rattle.euler_operators.proofs.Members.{IsIn-map}
 use Rattle.euler_operators.specs.Effect.{faces_to_solid}
 use Rattle.euler_laws.proofs.shared.Same.{one_solid_round}
 use Rattle.shapes.specs.Faces.{start, finish}
@@ -15,7 +16,6 @@ use Rattle.shapes.specs.Rewriting.{rewritten_row, renamed, without_rows}
 use Rattle.shapes.specs.Measure.{is_flat}
 use Rattle.shapes.specs.glue.Glue.{renamed_tails}
 use Rattle.shapes.specs.glue.Part.{paired}
-use Rattle.shapes.proofs.glue.Facing.{in_map}
 
 -- the items hs of f have partners, the items gs of g, which go back along them
 pub record Seamed (M : Model) (f g : ℕ) (partner_of : ℕ → ℕ) (hs gs : List ℕ) : Type 0 where
@@ -80,7 +80,7 @@ module _ (M : Model) (f g : ℕ) (partner_of : ℕ → ℕ) (hs gs : List ℕ) (
 
   -- they are the partners
   pub partner_in : (h : ℕ) → IsIn h hs → IsIn (partner_of h) gs
-  partner_in h i = omega (arith, w.partners (partner_of h), in_map partner_of h hs i)
+  partner_in h i = omega (arith, w.partners (partner_of h), IsIn-map partner_of h hs i)
 
   pub partner_back : (k : ℕ) → IsIn k gs → (h : ℕ) × IsIn h hs × (k ≡ partner_of h)
   partner_back k i = from_map partner_of k hs (omega (arith, i, w.partners k))

@@ -1,5 +1,6 @@
 -- What an accepted operator says of the model: its edges, loops and faces are there.
 use Rattle.std.proofs.Common.{◌≡◌, ℕ, true, None, ap, ◌∙◌}
+use Rattle.std.proofs.lemmas.Bool.{eqb-true}
 use Rattle.euler_operators.specs.declared.Corner.{Corner}
 use Rattle.euler_operators.specs.declared.HalfEdge.{HalfEdge}
 use Rattle.euler_operators.specs.HalfEdge.{code, mate}
@@ -8,7 +9,7 @@ use Rattle.euler_operators.specs.Model.{Model, loop_of}
 use Rattle.euler_operators.specs.Sound.{Has}
 use Rattle.euler_operators.specs.declared.Op.TheVariants.{Kev, Kef, Kemr, Mekr}
 use Rattle.euler_operators.specs.Conditions.{conditions, first_false, corner_known}
-use Rattle.euler_laws.proofs.shared.Goes.{all_hold, equal}
+use Rattle.euler_laws.proofs.shared.Goes.{all_hold}
 use Rattle.euler_conditions.proofs.Known.{mate_edge}
 
 module _ (M : Model) where
@@ -26,7 +27,7 @@ module _ (M : Model) where
 
   pub kemr_one_loop : (h : HalfEdge) (l : ℕ) → first_false M (Kemr h l) ≡ None → loop_of M (code h) ≡ loop_of M (mate (code h))
   unfolding conditions first_false
-  kemr_one_loop h l e = equal _ _ (all_hold (conditions M (Kemr h l)) e).1.1.1.1.0
+  kemr_one_loop h l e = eqb-true _ _ (all_hold (conditions M (Kemr h l)) e).1.1.1.1.0
 
   pub mekr_second : (c d : Corner) (h : HalfEdge) → first_false M (Mekr c d h) ≡ None → (corner_known M d).holds ≡ true
   unfolding conditions first_false

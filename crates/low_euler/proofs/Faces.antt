@@ -9,9 +9,8 @@ use Rattle.euler_operators.specs.Table as table
 use Rattle.euler_operators.specs.Table.{Table, get, all_where, all_in, map_rows, put, get-map_rows}
 use Rattle.euler_operators.specs.Model.{Model, FaceRow, no_face, solid_of, faces_of, is_number}
 use Rattle.euler_operators.specs.Sound.{NumbersFit}
-use Rattle.euler_operators.proofs.Tables.{and_left, and_right, all_where_none, find_here, find_later}
+use Rattle.euler_operators.proofs.Tables.{and_left, and_right, all_where_none, find_here, find_later, row_some}
 use Rattle.euler_operators.proofs.Tests.{and_first}
-use Rattle.euler_laws.proofs.shared.Loops.{some_row}
 use Rattle.euler_laws.proofs.shared.Listed.{found_past}
 use Rattle.euler_conditions.specs.Store.{is_face_of, IsNextFace}
 
@@ -82,7 +81,7 @@ module _ (M : Model) (n : ℕ) where
   row_tells k row at = (λ i. is_some (at i) && nat_eq (unwrap_or (at i) no_face).solid n)
 
   pub row_there : (k : ℕ) → is_face_of M n k ≡ true → (row : FaceRow) × (get M.faces k ≡ Some row) × (nat_eq row.solid n ≡ true)
-  row_there k e = let r = some_row (get M.faces k) (and_first (table.has M.faces k) (nat_eq (solid_of M k) n) e) in (r.0, r.1, sym (row_tells k r.0 r.1) ∙ e)
+  row_there k e = let r = row_some (get M.faces k) (and_first (table.has M.faces k) (nat_eq (solid_of M k) n) e) in (r.0, r.1, sym (row_tells k r.0 r.1) ∙ e)
 
   pub next_faces : (last m : ℕ) → IsNextFace M n last (Some m) → faces_above last ≡ m ∷ faces_above m
   next_faces last m next =

@@ -17,9 +17,9 @@ use Rattle.euler_operators.specs.declared.Op.{Op}
 use Rattle.euler_operators.specs.declared.Op.TheVariants.{Mvfs, Kvfs, Mev, Kev, Mef, Kef, Kemr, Mekr}
 use Rattle.euler_operators.specs.Conditions.{first_false, lone_vertex}
 use Rattle.euler_operators.specs.Effect.{inverse, head_or_zero, kev_corner, kev_corner_mate, corner_of}
-use Rattle.euler_conditions.proofs.Known.{half_there}
 use Rattle.low_euler.proofs.Accepted.{kemr_has, kemr_one_loop}
 use Rattle.low_euler.proofs.Parts.{corner_between, between_back}
+use Rattle.euler_laws.proofs.shared.Rows.{half_of}
 
 -- a half-edge by its code
 pub half_then : (h : HalfEdge) {n : ℕ} → code h ≡ n → h ≡ half n
@@ -79,7 +79,7 @@ module _ (M : Model) where
         let g : ℕ = code h in
         let n : ℕ = mate (code h) in
         let hs : List ℕ = cycle_of M g in
-        let there : HasHalf M g = half_there M h (kemr_has M h l ok) in
+        let there : HasHalf M g = half_of M h (kemr_has M h l ok) in
         let mate_there : HasHalf M n = ap (table.has M.edges) (edge_of-mate g) ∙ there in
         let apart : IsApart hs = (cycle_sound M sound g there).apart in
         let one : cycle_of M n ≡ hs = ap (λ q. items_of (content M q)) (sym (kemr_one_loop M h l ok)) in

@@ -11,15 +11,16 @@ use Rattle.euler_operators.proofs.Tables.{map-put, put_same, map_same, all_where
 use Rattle.euler_operators.specs.Conditions.{conditions, first_false}
 use Rattle.euler_operators.specs.Effect.{effect, merge, faces_to_solid}
 use Rattle.euler_operators.specs.declared.Op.TheVariants.{Merge}
-use Rattle.euler_laws.proofs.shared.Goes.{all_hold, not_true}
+use Rattle.euler_laws.proofs.shared.Goes.{all_hold}
 use Rattle.euler_conditions.specs.Store.{Store, set_solid, take_solid, is_face_of, IsNextFace}
 use Rattle.euler_operators.proofs.Members.{same_length}
 use Rattle.euler_conditions.specs.Ready.{after}
 use Rattle.low_euler.proofs.Faces.{row_there, row_tells}
+use Rattle.std.proofs.lemmas.Bool.{not-true}
 
 pub merge_apart : (M : Model) (s t : ℕ) → first_false M (Merge s t) ≡ None → nat_eq s t ≡ false
 unfolding conditions first_false
-merge_apart M s t e = not_true (nat_eq s t) (all_hold (conditions M (Merge s t)) e).1.1.1.1.0
+merge_apart M s t e = not-true (nat_eq s t) (all_hold (conditions M (Merge s t)) e).1.1.1.1.0
 
 module _ (s : Store) (kept gone : ℕ) where
   abbrev given : ℕ → FaceRow → FaceRow

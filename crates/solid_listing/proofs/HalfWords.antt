@@ -2,8 +2,7 @@
 use Rattle.std.proofs.Common.{◌≡◌, cond, ◌∷◌, ap, ◌∙◌, decimal}
 use Rattle.euler_operators.specs.declared.HalfEdge.{HalfEdge}
 use Rattle.euler_operators.specs.HalfEdge.{code, edge_of}
-use Rattle.euler_operators.proofs.Halves.{edge_of-code}
-use Rattle.solid_walks.proofs.face_walks_laws.HalfCodes.{is_first-code}
+use Rattle.euler_operators.proofs.Halves.{edge_of-code, is_first-code}
 use Rattle.solid_listing.specs.Listing.{half_word}
 
 -- the word of a half-edge

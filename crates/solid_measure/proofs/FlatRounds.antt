@@ -10,6 +10,7 @@ use Rattle.euler_operators.specs.Rings.{IsRotation}
 use Rattle.euler_operators.proofs.Lists.{count-append, tick_other}
 use Rattle.euler_operators.proofs.Rotations.{IsRotation-same}
 use Rattle.euler_operators.proofs.Members.{all_mapped}
+use Rattle.euler_operators.proofs.Tests.{at_most_or_above}
 use Rattle.euler_operators.specs.declared.HalfEdge.{HalfEdge}
 use Rattle.euler_operators.specs.declared.Content.{Content}
 use Rattle.euler_operators.specs.Model.{Model, LoopContent, lone, cycle, items_of, content, after, tail, point_of, outer, rings_of, is_ring_of}
@@ -20,7 +21,6 @@ use Rattle.euler_laws.proofs.shared.Listed.{first_listed, rest_listed, listed_ca
 use Rattle.euler_laws.proofs.shared.Bounds.{steps}
 use Rattle.shapes.specs.Faces.{start, vertices_on, vertices_in, corners, loops_of}
 use Rattle.solid_measure.specs.Measure.{plane_of, is_flat}
-use Rattle.euler_laws.proofs.shared.UpTo.{below_or}
 use Rattle.shapes.proofs.walks.Rounds.{Round, round_start, round_more, round_closed, round_ended}
 
 left_false : (a b : Bool) → a ≡ false → (a && b) ≡ false
@@ -69,7 +69,7 @@ module _ (P : ℕ → Bool) where
     -- the rings that don't pass a number
     pub rings_more : (f last ring : ℕ) → IsNextRing M f last (Some ring) → ((k : ℕ) → k ≤ last → is_ring_of M f k ≡ true → list_all P (vertices_on M (content M k)) ≡ true) →
         list_all P (vertices_on M (content M ring)) ≡ true → (k : ℕ) → k ≤ ring → is_ring_of M f k ≡ true → list_all P (vertices_on M (content M k)) ≡ true
-    rings_more f last ring next old new k l e = elim (below_or k last) [
+    rings_more f last ring next old new k l e = elim (at_most_or_above k last) [
       | inl s ↦ old k s e
       | inr s ↦ elim (eqb_tells k ring) [
         | inl p ↦ ap (λ j. list_all P (vertices_on M (content M j))) p.1 ∙ new
@@ -78,7 +78,7 @@ module _ (P : ℕ → Bool) where
     ]
 
     pub rings_all : (f last : ℕ) → IsNextRing M f last None → ((k : ℕ) → k ≤ last → is_ring_of M f k ≡ true → list_all P (vertices_on M (content M k)) ≡ true) → (k : ℕ) → is_ring_of M f k ≡ true → list_all P (vertices_on M (content M k)) ≡ true
-    rings_all f last none old k e = elim (below_or k last) [ inl s ↦ old k s e | inr s ↦ absurd (true≢false (sym e ∙ none k s)) ]
+    rings_all f last none old k e = elim (at_most_or_above k last) [ inl s ↦ old k s e | inr s ↦ absurd (true≢false (sym e ∙ none k s)) ]
 
 -- the vertices on a loop that isn't lone
 pub ring_vertices : (M : Model) (s : Plane) (c : LoopContent) (h : HalfEdge) → Tells c (Content.Ring h) → list_all (λ v. is_on s (point_of M v)) (map (tail M) (items_of c)) ≡ list_all (λ v. is_on s (point_of M v)) (vertices_on M c)

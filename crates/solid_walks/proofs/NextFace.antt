@@ -1,23 +1,21 @@
 -- The walk over the faces of a solid, from each to the next.
-use Rattle.std.proofs.Common.{◌≡◌, ℕ, ◌≤◌, ◌<◌, Bool, true, false, nat_eq, ◌&&◌, [], ◌∷◌, ◌++◌, Some, None, refl, sym, ap, ◌∙◌, true≢false, inl, inr}
+use Rattle.std.proofs.Common.{◌≡◌, ℕ, ◌≤◌, ◌<◌, true, false, nat_eq, ◌&&◌, [], ◌∷◌, ◌++◌, Some, None, sym, ap, ◌∙◌, true≢false, inl, inr}
+use Rattle.std.proofs.lemmas.Bool.{and_parts, eq-eqb, eqb-true}
 use Rattle.euler_operators.specs.Table as table
 use Rattle.euler_operators.specs.Model.{Model, faces_of, solid_of}
 use Rattle.euler_operators.specs.Sound.{Sound, Has}
 use Rattle.euler_operators.specs.Conditions.{lists}
-use Rattle.euler_laws.proofs.shared.Goes.{equal, equals}
-use Rattle.euler_laws.proofs.shared.UpTo.{below_or, up_to_all, up_to_next}
+use Rattle.euler_operators.proofs.Tests.{at_most_or_above}
+use Rattle.euler_laws.proofs.shared.UpTo.{up_to_all, up_to_next}
 use Rattle.euler_conditions.specs.Store.{IsNextFace, is_face_of}
 use Rattle.shapes.proofs.walks.SolidFaces.{listed_face, face_listed, faces_rise, face_number, faces_to}
 
 module _ (M : Model) (sound : Sound M) (s : ℕ) where
   face_is : (f : ℕ) → is_face_of M s f ≡ true → Has M.faces f × (solid_of M f ≡ s)
-  face_is f e = let p = parts (table.has M.faces f) (nat_eq (solid_of M f) s) e in (p.0, equal (solid_of M f) s p.1) where
-    parts : (a b : Bool) → (a && b) ≡ true → (a ≡ true) × (b ≡ true)
-    parts true b e = (refl, e)
-    parts false b e = absurd (true≢false (sym e))
+  face_is f e = let p = and_parts (table.has M.faces f) (nat_eq (solid_of M f) s) e in (p.0, eqb-true (solid_of M f) s p.1)
 
   is_face : (f : ℕ) → lists (faces_of M s) f ≡ true → is_face_of M s f ≡ true
-  is_face f i = let p = listed_face M sound s f i in ap (λ b. b && nat_eq (solid_of M f) s) p.0 ∙ equals (solid_of M f) s p.1
+  is_face f i = let p = listed_face M sound s f i in ap (λ b. b && nat_eq (solid_of M f) s) p.0 ∙ eq-eqb (solid_of M f) s p.1
 
   pub next_face : (last f : ℕ) → IsNextFace M s last (Some f) → Has M.faces f × (f ≤ 1000000)
   next_face last f next = let t = (face_is f next.1).0 in (t, (face_number M sound s f t).1)
@@ -27,9 +25,9 @@ module _ (M : Model) (sound : Sound M) (s : ℕ) where
       let t = face_is f next.1 in
       up_to_next last f (faces_of M s) (faces_rise M sound s) (face_listed M sound s f t.0 t.1) next.0 (λ k i l. not_before k (is_face k i) (next.2 k l)) where
         not_before : (k : ℕ) → is_face_of M s k ≡ true → (k < f → is_face_of M s k ≡ false) → f ≤ k
-        not_before k e none = elim (below_or f k) [ inl b ↦ b | inr b ↦ absurd (true≢false (sym e ∙ none b)) ]
+        not_before k e none = elim (at_most_or_above f k) [ inl b ↦ b | inr b ↦ absurd (true≢false (sym e ∙ none b)) ]
 
   pub faces_all : (last : ℕ) → IsNextFace M s last None → faces_to M sound s last ≡ faces_of M s
   faces_all last none = up_to_all last (faces_of M s) (λ k i. not_after k (is_face k i)) where
     not_after : (k : ℕ) → is_face_of M s k ≡ true → k ≤ last
-    not_after k e = elim (below_or k last) [ inl b ↦ b | inr b ↦ absurd (true≢false (sym e ∙ none k b)) ]
+    not_after k e = elim (at_most_or_above k last) [ inl b ↦ b | inr b ↦ absurd (true≢false (sym e ∙ none k b)) ]

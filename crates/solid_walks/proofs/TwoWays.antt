@@ -11,8 +11,8 @@ use Rattle.euler_operators.specs.HalfEdge.{code, mate, edge_of}
 use Rattle.euler_operators.specs.Model.{Model, items_of, content, cycle_of, loop_of, tail, after, before, round}
 use Rattle.euler_operators.specs.Sound.{Sound, HasHalf}
 use Rattle.euler_operators.proofs.Halves.{edge_of-code, mate-mate}
-use Rattle.euler_operators.proofs.Models.{in-holds, cycle_there, cycle_sound}
-use Rattle.euler_laws.proofs.shared.Fans.{Fan, fan_of, half_mate, loop_after}
+use Rattle.euler_operators.proofs.Models.{in-holds, cycle_there, cycle_sound, mate_there}
+use Rattle.euler_laws.proofs.shared.Fans.{Fan, fan_of, loop_after}
 use Rattle.euler_laws.proofs.shared.Bounds.{steps, length_below, half_below}
 use Rattle.shapes.specs.Walks.{leads}
 use Rattle.shapes.proofs.walks.FirstEdges.{leads_true, leads_false}
@@ -105,7 +105,7 @@ module _ (M : Model) (sound : Sound M) (h : ℕ) (there : HasHalf M h) where
         let l : ℕ = last_or a w.between in
         let e : round M l ≡ b = IsPath_at (round M) f.0 l [] b (subst (λ q. IsPath (round M) q b) f.1 w.path) in
         let t : HasHalf M l = last_there w.between refl in
-        ap (λ x. mate (before M x)) (sym e) ∙ ap mate (before_after M sound (mate l) (half_mate M sound l t)) ∙ mate-mate l where
+        ap (λ x. mate (before M x)) (sym e) ∙ ap mate (before_after M sound (mate l) (mate_there M l t)) ∙ mate-mate l where
           last_there : (xs : List ℕ) → w.between ≡ xs → HasHalf M (last_or a xs)
           last_there [] e = w.ahead_there
           last_there (x ∷ xs) e = let p = front_of x xs in (w.at_vertex (last_or x xs) (omega (arith, ap (count (last_or x xs)) e, ap (count (last_or x xs)) p.1, count-append (last_or x xs) p.0 (last_or x xs ∷ []), tick_same (last_or x xs)))).0

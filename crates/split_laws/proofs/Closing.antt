@@ -3,6 +3,7 @@ use Rattle.std.proofs.Common.{◌≡◌, ◌≢◌, ℕ, true, List, [], ◌∷�
 use Rattle.std.proofs.lemmas.Bool.Decides.{nat_tests, eqb_tells}
 use Rattle.euler_operators.specs.Items.{tick, count}
 use Rattle.euler_operators.proofs.Lists.{tick_same}
+use Rattle.euler_operators.proofs.Models.{mate_there}
 use Rattle.euler_operators.specs.HalfEdge.{mate}
 use Rattle.euler_operators.specs.Table as table
 use Rattle.euler_operators.specs.Table.{tables}
@@ -11,7 +12,6 @@ use Rattle.euler_operators.specs.Sound.{Sound, Has, HasHalf}
 use Rattle.euler_operators.specs.Conditions.{face_at, lists}
 use Rattle.euler_operators.specs.declared.Op.TheVariants.{Kfmrh}
 use Rattle.euler_operators.specs.Effect.{effect, kfmrh}
-use Rattle.euler_laws.proofs.shared.Fans.{half_mate}
 use Rattle.euler_laws.proofs.shared.Loops.{IsLoop, loop_sound}
 use Rattle.euler_laws.proofs.shared.Rings.{SameRings, half_back, loop-rings}
 use Rattle.euler_laws.proofs.faces.Kfmrh.{KillGoes, sound-kfmrh, kill_same, kill_face_l, kill_face_else, l_face, g_gone, kill_solid, kill_outer, kfmrh_accepted}
@@ -76,7 +76,7 @@ module _ (N : Model) (sound : Sound N) (f g : ℕ) (goes : KillGoes N f g) where
     of_solid = λ p l t. let a : p ≢ g = face_before p t in
         kill_solid N sound f g goes p a ∙ w.of_solid p l (sym (ap is_some (row_kept N f g p a)) ∙ t);
     whole = λ x t. let o : HasHalf N x = half_back N K sound rings x t in
-        half_level us level x o ∙ w.whole x o ∙ sym (half_level us level (mate x) (half_mate N sound x o));
+        half_level us level x o ∙ w.whole x o ∙ sym (half_level us level (mate x) (mate_there N x o));
   }
 
   -- another face without rings stays such

@@ -13,7 +13,7 @@ use Rattle.euler_operators.specs.Model.{Model, tail, point_of, no_point}
 use Rattle.euler_operators.specs.Sound.{Sound, Has, HasHalf}
 use Rattle.euler_operators.proofs.Halves.{mate-mate}
 use Rattle.euler_operators.proofs.Tables.{in_use_within}
-use Rattle.euler_laws.proofs.shared.Fans.{half_mate}
+use Rattle.euler_operators.proofs.Models.{mate_there}
 use Rattle.shapes.specs.Faces.{start, finish}
 use Rattle.shapes.specs.Fresh.{Taken, numbers_after}
 use Rattle.shapes.specs.Measure.{area}
@@ -53,7 +53,7 @@ module _ (M : Model) (above : List ℕ) (s : ℕ) (c : Taken) (bs : List ℕ) (s
     begins_still d i = start_still d (w.there d i) (start_same M above s c bs sound free first ds w elsewhere d i)
 
     ends_still : (d : ℕ) → IsIn d ds → start N (mate d) ≡ start M (mate d)
-    ends_still d i = start_still (mate d) (half_mate M sound d (w.there d i)) (end_same M above s c bs sound free first ds w elsewhere d i)
+    ends_still d i = start_still (mate d) (mate_there M d (w.there d i)) (end_same M above s c bs sound free first ds w elsewhere d i)
 
     area_still : (hs : List ℕ) → ((d : ℕ) → IsIn d hs → IsIn d ds) → area N (map mate hs) ≡ area M (map mate hs)
     area_still [] within = refl

@@ -5,13 +5,12 @@ use Rattle.euler_operators.specs.HalfEdge.{mate}
 use Rattle.euler_operators.specs.Table as table
 use Rattle.euler_operators.specs.Model.{Model, loop_of, solid_of, is_number}
 use Rattle.euler_operators.specs.Sound.{Has, HasHalf}
-use Rattle.euler_operators.proofs.Models.{row_of}
+use Rattle.euler_operators.proofs.Models.{row_of, mate_there}
 use Rattle.euler_operators.proofs.Tests.{same_truth}
 use Rattle.euler_operators.proofs.Tables.{map_alike}
 use Rattle.euler_operators.specs.declared.Op.TheVariants.{Part}
 use Rattle.euler_operators.specs.Conditions.{face_at, lists, strictly_rises}
 use Rattle.euler_operators.specs.Effect.{effect, part, faces_to_solid}
-use Rattle.euler_laws.proofs.shared.Fans.{half_mate}
 use Rattle.euler_laws.proofs.shared.Listed.{first_listed, rest_listed, listed_cases}
 use Rattle.euler_laws.proofs.merge.Part.{PartGoes, part_accepted}
 use Rattle.split_drawing_laws.proofs.drawings.Runs.{Leads, leads_one}
@@ -93,7 +92,7 @@ module _ (N : Model) (s t : ℕ) (us : List ℕ) (w : CanPart N s us) (both : Bo
     listed = (both.upper, still_lists N us both.upper both.upper_there ∙ both.upper_listed);
     rises = filter_rises (table.has N.faces) us rises;
     left = (both.lower, both.lower_there, both.lower_of, still_lists N us both.lower both.lower_there ∙ both.lower_unlisted);
-    whole = λ x h. still_lists N us (face_at N x) (face_there x h) ∙ w.whole x h ∙ sym (still_lists N us (face_at N (mate x)) (face_there (mate x) (half_mate N w.sound x h)));
+    whole = λ x h. still_lists N us (face_at N x) (face_there x h) ∙ w.whole x h ∙ sym (still_lists N us (face_at N (mate x)) (face_there (mate x) (mate_there N x h)));
   }
 
   pub part_leads : Leads N (part N s t us) (Part s t (still_there N us) ∷ [])

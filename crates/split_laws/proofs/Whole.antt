@@ -9,13 +9,13 @@ use Rattle.euler_operators.specs.Table as table
 use Rattle.euler_operators.specs.Model.{Model, no_face, solid_of}
 use Rattle.euler_operators.specs.Sound.{Sound, Has, HasHalf}
 use Rattle.euler_operators.proofs.Halves.{mate-mate}
+use Rattle.euler_operators.proofs.Models.{mate_there}
 use Rattle.euler_operators.specs.Conditions.{face_at, lists}
 use Rattle.euler_operators.specs.declared.Op.TheVariants.{Part}
 use Rattle.euler_operators.specs.Effect.{part}
 use Rattle.euler_laws.specs.Laws.{AreAccepted, effects}
 use Rattle.euler_laws.proofs.Runs.{effects_keep_sound}
-use Rattle.euler_laws.proofs.shared.Fans.{half_mate}
-use Rattle.euler_laws.proofs.shared.Listed.{IsIn-from_listed}
+use Rattle.euler_laws.proofs.shared.Listed.{IsIn-from_listed, listed-from_in}
 use Rattle.shapes.specs.split.Sides.{faces_above}
 use Rattle.shapes.specs.split.Drawing.{with_drawings}
 use Rattle.shapes.specs.split.Section.{below_halves, section_cycles}
@@ -39,7 +39,7 @@ use Rattle.split_laws.specs.drawn.Kept.{HasFace}
 use Rattle.split_laws.proofs.drawn.Drawn.{begins, t_fits, no_stray, t_free, above_facts, can_open_all, no_caps}
 use Rattle.split_laws.proofs.drawn.BothSides.{some_above, some_below}
 use Rattle.split_laws.proofs.OldFaces.{IsOld, all_old, solids_still}
-use Rattle.euler_laws.proofs.shared.Counted.{none_counted, counted_once, in_listed}
+use Rattle.euler_laws.proofs.shared.Counted.{none_counted, counted_once}
 
 -- ---- which of the caps are listed
 
@@ -58,7 +58,7 @@ module _ (above : List ℕ) (all : List Caps) (once : (x : ℕ) → count x abov
   level_in [] low up = tt
   level_in (k ∷ ks) low up = (
     not_listed k.lower (upper_faces above all) (omega (arith, once k.lower, caps_counted k.lower all, low k.lower, tick_same k.lower, count-append k.lower above (map (λ k. k.upper) all))),
-    in_listed k.upper (upper_faces above all) (omega (arith, up k.upper, tick_same k.upper, count-append k.upper above (map (λ k. k.upper) all))),
+    listed-from_in k.upper (upper_faces above all) (omega (arith, up k.upper, tick_same k.upper, count-append k.upper above (map (λ k. k.upper) all))),
     level_in ks (λ x. omega (arith, low x)) (λ x. omega (arith, up x)),
   )
 
@@ -113,7 +113,7 @@ module _ (M : Model) (s : ℕ) (p : Plane) (t : ℕ) (sound : Sound M) (accepted
     go true true e f = e ∙ sym f
     go false false e f = e ∙ sym f
     go false true e f = absurd (never_across x there e f)
-    go true false e f = absurd (never_across (mate x) (half_mate X.model opened.sound x there) f (ap (λ y. lists us (face_at X.model y)) (mate-mate x) ∙ e))
+    go true false e f = absurd (never_across (mate x) (mate_there X.model x there) f (ap (λ y. lists us (face_at X.model y)) (mate-mate x) ∙ e))
 
   can_part : CanPart X.model s us
   can_part = record { sound = opened.sound; of_solid = λ f l there. opened.upper_of_solid f l; whole = whole }
@@ -154,7 +154,7 @@ module _ (M : Model) (s : ℕ) (p : Plane) (t : ℕ) (sound : Sound M) (accepted
       record {
         upper = a.face;
         upper_there = ap is_some (left_row a.face a.there) ∙ a.there;
-        upper_listed = in_listed a.face us (omega (arith, IsIn-from_listed a.face above a.is, count-append a.face above (map (λ k. k.upper) ks)));
+        upper_listed = listed-from_in a.face us (omega (arith, IsIn-from_listed a.face above a.is, count-append a.face above (map (λ k. k.upper) ks)));
         lower = b.face;
         lower_there = ap is_some (left_row b.face b.there) ∙ b.there;
         lower_of = solid_left b.face b.there ∙ b.of_solid;
@@ -165,7 +165,7 @@ module _ (M : Model) (s : ℕ) (p : Plane) (t : ℕ) (sound : Sound M) (accepted
   t_left = ap (λ u. table.get u t) (closed.solids ∙ solids_still above s p begun cycles) ∙ t_free M s p t sound accepted
 
   faces_left : still_there K us ≡ upper_left above ks
-  faces_left = left_are X.model K s us above ks (hole_ops ks) closed caps.plain (λ x. omega (arith, once x)) (λ f i. let l = in_listed f above i in
+  faces_left = left_are X.model K s us above ks (hole_ops ks) closed caps.plain (λ x. omega (arith, once x)) (λ f i. let l = listed-from_in f above i in
       let there : Has D.faces f = (above_facts M s p t sound accepted f l).0 in ap is_some (left_row f there) ∙ there)
 
   parted : Leads K (part K s t us) (Part s t (upper_left above ks) ∷ [])

@@ -2,7 +2,7 @@
 use Rattle.std.specs.Prelude.{cond, min}
 use Rattle.std.proofs.Common.{◌≡◌, ◌≢◌, ℕ, ◌≤◌, ◌⊎◌, Bool, true, false, ◌&&◌, ◌||◌, nat_eq, [], ◌∷◌, Some, None, is_some, refl, sym, ap, subst, ◌∙◌, arith, true≢false, inl, inr}
 use Rattle.std.proofs.lemmas.Bool.Decides.{eqb_tells}
-use Rattle.std.proofs.lemmas.Bool.{and_parts, and_from, false_from_ne_true}
+use Rattle.std.proofs.lemmas.Bool.{and_parts, and_from, false_from_ne_true, eq-eqb}
 use Rattle.euler_operators.specs.Table as table
 use Rattle.euler_operators.specs.Model.{Model, LoopRow, content, face_of, outer, is_ring_of}
 use Rattle.euler_operators.specs.Sound.{Sound, Has}
@@ -11,7 +11,7 @@ use Rattle.euler_operators.proofs.Tables.{first_where_zero}
 use Rattle.euler_operators.proofs.Tests.{at_most_or_above}
 use Rattle.euler_conditions.specs.Store.{IsNextRing}
 use Rattle.euler_operators.specs.Conditions.{is_lone, lists}
-use Rattle.euler_laws.proofs.shared.Goes.{equals, no_zero}
+use Rattle.euler_laws.proofs.shared.Goes.{no_zero}
 use Rattle.euler_laws.proofs.shared.Rows.{loop_row}
 use Rattle.euler_laws.proofs.shared.FaceRings.{ring_there, outer_or_ring}
 use Rattle.euler_laws.proofs.shared.FirstWhere.{first_where_least}
@@ -71,7 +71,7 @@ listed_one f k e = elim (eqb_tells f k) [
 ]
 
 lists_one : (f k : ℕ) → k ≡ f → lists (f ∷ []) k ≡ true
-lists_one f k e = ap (λ b. b || false) (equals f k (sym e))
+lists_one f k e = ap (λ b. b || false) (eq-eqb f k (sym e))
 
 module _ (M : Model) (sound : Sound M) (f : ℕ) (there : Has M.faces f) (ring : ℕ) (is : IsLoneRing M f ring) where
   -- a lone loop of the face is its outer loop or no less than the least lone ring

@@ -9,14 +9,14 @@ use Rattle.euler_operators.specs.HalfEdge.{plus, minus}
 use Rattle.euler_operators.specs.Table as table
 use Rattle.euler_operators.specs.Model.{Model, cycle, FaceRow, LoopRow, EdgeRow, items_of, content, outer, solid_of, point_of, rings_of, faces_of}
 use Rattle.euler_operators.specs.Sound.{Has}
-use Rattle.euler_operators.proofs.Tables.{all_where_none, first_where_zero}
+use Rattle.euler_operators.proofs.Tables.{all_where_none, first_where_zero, get-put_here, get-put_other}
 use Rattle.euler_operators.proofs.Models.{content_row, face_row, solid_row, outer_row, point_row, plus_tail_row, minus_tail_row}
 use Rattle.euler_operators.specs.Conditions.{is_lone, lists}
 use Rattle.shapes.specs.Faces.{start, finish, least_lone, items_in}
 use Rattle.shapes.specs.Fresh.{Taken, numbers_after}
 use Rattle.shapes.specs.Lamina.{with_path, with_points, lamina_at}
 use Rattle.shapes.specs.Measure.{area, normal, anchor, first_vertex, volume_in, six_volume}
-use Rattle.shapes.proofs.fresh.Rows.{get-put_here, get-put_other, get-put_cases, all_where-put_last, greatest-put_last}
+use Rattle.shapes.proofs.fresh.Rows.{get-put_cases, all_where-put_last, greatest-put_last}
 use Rattle.sweeps_laws.proofs.lamina.Lists.{plus_halves, minus_halves, back_apart, first_moved, canonical_first}
 use Rattle.sweeps_laws.proofs.lamina.Blocks.{no_lone}
 use Rattle.euler_operators.proofs.Rectangles.{ring_area}

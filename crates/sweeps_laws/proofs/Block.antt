@@ -1,6 +1,7 @@
 -- The six volumes of a block.
 use Rattle.std.proofs.Common.{◌≡◌, ◌≢◌, ℕ, ◌+◌, ℤ, pos, ◌+ℤ◌, ◌*ℤ◌, true, false, nat_eq, ◌&&◌, List, [], None, is_some, refl, sym, ap, subst, ◌∙◌, arith, true≢false}
 use Rattle.std.proofs.lemmas.Bool.Decides.{nat_tests}
+use Rattle.std.proofs.lemmas.Bool.{not-true}
 use Rattle.euler_operators.specs.declared.Point.{Point}
 use Rattle.euler_operators.specs.Points.{is_coordinate, is_in_range}
 use Rattle.euler_operators.specs.Vectors.{dot}
@@ -8,7 +9,7 @@ use Rattle.euler_operators.specs.Table as table
 use Rattle.euler_operators.specs.Model.{Model, faces_of}
 use Rattle.euler_operators.specs.Sound.{Sound}
 use Rattle.euler_operators.proofs.Tables.{all_where_none}
-use Rattle.euler_laws.proofs.shared.Goes.{all_hold, none_refuses, not_true}
+use Rattle.euler_laws.proofs.shared.Goes.{all_hold, none_refuses}
 use Rattle.shapes.specs.Fresh.{taken_in}
 use Rattle.shapes.specs.Lamina.{lamina_conditions, lamina_refusal, lamina_at, lamina_model}
 use Rattle.shapes.specs.Prism.{prism_model}
@@ -82,7 +83,7 @@ base_accepted M s p dx dy dz e =
 
 solid_free : (M : Model) (s : ℕ) (p : Point) (dx dy dz : ℤ) → block_refusal M s p dx dy dz ≡ None → table.has M.solids s ≡ false
 unfolding block_conditions
-solid_free M s p dx dy dz e = not_true _ (all_hold (block_conditions M s p dx dy dz) e).1.0
+solid_free M s p dx dy dz e = not-true _ (all_hold (block_conditions M s p dx dy dz) e).1.0
 
 -- a solid that isn't there has no face
 no_faces : (M : Model) (s : ℕ) → Sound M → table.has M.solids s ≡ false → faces_of M s ≡ []

@@ -1,6 +1,7 @@
 -- In a sound model the numbers in use lie within the greatest ones, and the loops of a face without a lone one are closed paths.
 use Rattle.std.proofs.Common.{◌≡◌, ◌≢◌, ℕ, zero, suc, ◌+◌, ◌≤◌, ◌<◌, pos, ◌+ℤ◌, ◌*ℤ◌, Bool, true, false, not, nat_eq, ◌&&◌, ◌||◌, List, [], ◌∷◌, length, get_or, Option, Some, None, is_some, unwrap_or, refl, sym, ap, subst, ◌∙◌, arith, inl, inr, true≢false}
 use Rattle.std.proofs.lemmas.Bool.Decides.{nat_tests}
+use Rattle.std.proofs.lemmas.Bool.{eqb-true}
 use Rattle.euler_operators.specs.declared.Point.{Point}
 use Rattle.euler_operators.specs.Vectors.{dot}
 use Rattle.euler_operators.specs.Items.{IsIn, head_or}
@@ -10,12 +11,12 @@ use Rattle.euler_operators.specs.HalfEdge.{edge_of, is_first}
 use Rattle.euler_operators.specs.Table as table
 use Rattle.euler_operators.specs.Model.{Model, LoopContent, cycle, FaceRow, LoopRow, EdgeRow, no_face, no_loop, no_edge, items_of, tail, tail_in, content, face_of, outer, solid_of, point_of, rings_of, after}
 use Rattle.euler_operators.specs.Sound.{Sound, Has, HasHalf}
-use Rattle.euler_operators.proofs.Tables.{zero_first_where}
+use Rattle.euler_operators.proofs.Tables.{zero_first_where, row_some}
 use Rattle.euler_operators.proofs.Models.{content_row, face_row, in-holds}
 use Rattle.euler_operators.specs.Conditions.{is_lone, lists}
-use Rattle.euler_laws.proofs.shared.Goes.{all_hold, equal, no_zero}
+use Rattle.euler_laws.proofs.shared.Goes.{all_hold, no_zero}
 use Rattle.euler_laws.proofs.shared.Listed.{listed_cases, listed_passes, all_where-rises}
-use Rattle.euler_laws.proofs.shared.Loops.{some_row, loop_sound, IsLoop}
+use Rattle.euler_laws.proofs.shared.Loops.{loop_sound, IsLoop}
 use Rattle.euler_laws.proofs.shared.Rows.{not_lone_cycle}
 use Rattle.shapes.specs.Faces.{least_lone}
 use Rattle.shapes.specs.Fresh.{taken_in}
@@ -137,7 +138,7 @@ module _ (M : Model) (sound : Sound M) where
   module _ (f : ℕ) (there : Has M.faces f) (none : least_lone M (f ∷ []) ≡ 0) where
     content_is : (q : ℕ) → Has M.loops q → face_of M q ≡ f → content M q ≡ cycle (items_of (content M q))
     content_is q t of =
-        let row = some_row (table.get M.loops q) t in
+        let row = row_some (table.get M.loops q) t in
         let pass = zero_first_where (λ _ row. is_lone row.content && lists (f ∷ []) row.face) M.loops (λ k y at z. no_zero k z (sound.loops_fit k (ap is_some at))) none q row.0 row.1 in
         not_lone_cycle (content M q) (ap is_lone (content_row M q row.0 row.1) ∙ not_lone 0 row.0.face f (is_lone row.0.content) pass (sym (face_row M q row.0 row.1) ∙ of))
 
@@ -165,4 +166,4 @@ module _ (M : Model) (sound : Sound M) where
 -- the law of sweeps
 pub sweep_adds : (M : Model) (f : ℕ) (d : Point) → Sound M → prism_refusal M f d ≡ None → six_volume (prism_model M f d) (solid_of M f) ≡ six_volume M (solid_of M f) +ℤ pos 3 *ℤ dot (normal M f) d
 unfolding prism_conditions
-sweep_adds M f d sound e = let h = all_hold (prism_conditions M f d) e in face_adds M sound f h.1.0 (equal (least_lone M (f ∷ [])) 0 h.1.1.1.0) d
+sweep_adds M f d sound e = let h = all_hold (prism_conditions M f d) e in face_adds M sound f h.1.0 (eqb-true (least_lone M (f ∷ [])) 0 h.1.1.1.0) d

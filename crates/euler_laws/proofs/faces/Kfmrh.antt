@@ -1,19 +1,19 @@
 -- kfmrh makes a face a ring of another face, and mfkrh a ring a face: they keep a sound model sound and take each other back.
 use Rattle.std.proofs.Common.{◌≡◌, ◌≢◌, ℕ, nat_eq, Some, None, unwrap_or, is_some, IsTrue, refl, sym, ap, ◌∙◌, subst, arith, inl, inr, true≢false}
 use Rattle.std.proofs.lemmas.Bool.Decides.{nat_tests, eqb_tells}
+use Rattle.std.proofs.lemmas.Bool.{not-true, ne_eqb, eq-eqb, eqb-true, eqb-false}
 use Rattle.euler_operators.specs.HalfEdge.{mate}
 use Rattle.euler_operators.specs.Table as table
 use Rattle.euler_operators.specs.Table.{map_rows, tables}
 use Rattle.euler_operators.specs.Model.{Model, FaceRow, no_face, loop_of, face_of, solid_of, outer, is_number}
 use Rattle.euler_operators.specs.Sound.{Sound, Has}
 use Rattle.euler_operators.proofs.Tables.{put-remove, remove-put, no_row}
-use Rattle.euler_operators.proofs.Models.{row_of}
+use Rattle.euler_operators.proofs.Models.{row_of, mate_there}
 use Rattle.euler_operators.proofs.Tests.{nat_eq_itself}
 use Rattle.euler_operators.specs.declared.Op.TheVariants.{Kfmrh, Mfkrh}
 use Rattle.euler_operators.specs.Conditions.{first_false, conditions}
 use Rattle.euler_operators.specs.Effect.{effect, inverse, kfmrh, mfkrh, loop_to_face}
-use Rattle.euler_laws.proofs.shared.Goes.{all_hold, none_refuses, not_true, not_false, taken, equal, unequal, equals, differs}
-use Rattle.euler_laws.proofs.shared.Fans.{half_mate}
+use Rattle.euler_laws.proofs.shared.Goes.{all_hold, none_refuses, not_false, taken}
 use Rattle.euler_laws.proofs.shared.Same.{solid_at}
 use Rattle.euler_laws.proofs.shared.Undo.{same_loops}
 use Rattle.euler_laws.proofs.shared.Faces.{SameWalks, sound-same, content-moved, loop-moved, face-moved, face-kept}
@@ -115,7 +115,7 @@ module _ (M : Model) (sound : Sound M) (f g : ℕ) (goes : KillGoes M f g) where
       | inl e ↦ (f, face_on f goes.apart goes.f_there, kill_solid f goes.apart ∙ goes.one_solid ∙ ap (solid_of M) (sym e.1) ∙ x.2)
       | inr e ↦ (x.0, face_on x.0 e.1 x.1, kill_solid x.0 e.1 ∙ x.2)
     ];
-    one_solid = λ x t. kill_solid_at (loop_of M x) (ap is_some (row_of M sound x t)) ∙ sound.one_solid x t ∙ sym (kill_solid_at (loop_of M (mate x)) (ap is_some (row_of M sound (mate x) (half_mate M sound x t))));
+    one_solid = λ x t. kill_solid_at (loop_of M x) (ap is_some (row_of M sound x t)) ∙ sound.one_solid x t ∙ sym (kill_solid_at (loop_of M (mate x)) (ap is_some (row_of M sound (mate x) (mate_there M x t))));
     solids_fit = λ n t. sound.solids_fit n (subst (λ y. Has y n) solids_same t);
     faces_fit = λ n t. sound.faces_fit n (face_back n t);
   })
@@ -210,7 +210,7 @@ module _ (M : Model) (sound : Sound M) (l f : ℕ) (goes : MakeGoes M l f) where
       | inr e ↦ subst (Has M.solids) (sym (make_solid p e.1)) (sound.faces_of_solids p (old p e.1 t))
     ]);
     solid_has_face = λ s t. let x = sound.solid_has_face s (subst (λ y. Has y s) solids_same' t) in (x.0, on x.0 x.1, make_solid x.0 (not_f x.0 x.1) ∙ x.2);
-    one_solid = λ x t. make_solid_at (loop_of M x) (ap is_some (row_of M sound x t)) ∙ sound.one_solid x t ∙ sym (make_solid_at (loop_of M (mate x)) (ap is_some (row_of M sound (mate x) (half_mate M sound x t))));
+    one_solid = λ x t. make_solid_at (loop_of M x) (ap is_some (row_of M sound x t)) ∙ sound.one_solid x t ∙ sym (make_solid_at (loop_of M (mate x)) (ap is_some (row_of M sound (mate x) (mate_there M x t))));
     solids_fit = λ n t. sound.solids_fit n (subst (λ y. Has y n) solids_same' t);
     faces_fit = λ n t. elim (eqb_tells n f) [ inl e ↦ subst (λ y. IsTrue (is_number y)) (sym e.1) goes.face_fits | inr e ↦ sound.faces_fit n (old n e.1 t) ];
   })
@@ -313,9 +313,9 @@ unfolding first_false conditions
 kfmrh_goes M f g e = let w = all_hold (conditions M (Kfmrh f g)) e in let t = w.1.1 in record {
   f_there = t.0;
   g_there = t.1.0;
-  apart = unequal _ _ (not_true _ t.1.1.0);
-  one_solid = equal _ _ t.1.1.1.0;
-  no_rings = no_rings_means M g (not_true _ t.1.1.1.1.0);
+  apart = eqb-false _ _ (not-true _ t.1.1.0);
+  one_solid = eqb-true _ _ t.1.1.1.0;
+  no_rings = no_rings_means M g (not-true _ t.1.1.1.1.0);
 }
 
 pub kfmrh_accepted : (N : Model) (f g : ℕ) → Sound N → KillGoes N f g → first_false N (Kfmrh f g) ≡ None
@@ -328,7 +328,7 @@ kfmrh_accepted N f g sound goes = none_refuses (conditions N (Kfmrh f g)) (
       goes.f_there,
       (
         goes.g_there,
-        (not_false _ (differs _ _ goes.apart), (equals _ _ goes.one_solid, (not_false _ (means_no_rings N g goes.no_rings), tt))),
+        (not_false _ (ne_eqb _ _ goes.apart), (eq-eqb _ _ goes.one_solid, (not_false _ (means_no_rings N g goes.no_rings), tt))),
       ),
     ),
   ),
@@ -338,8 +338,8 @@ pub mfkrh_goes : (M : Model) (l f : ℕ) → first_false M (Mfkrh l f) ≡ None 
 unfolding first_false conditions
 mfkrh_goes M l f e = let w = all_hold (conditions M (Mfkrh l f)) e in let t = w.1.1 in record {
   l_there = t.0;
-  face_free = no_row _ (not_true _ t.1.0);
-  is_ring = unequal _ _ (ring_test (table.has M.loops l) (nat_eq (face_of M l) (face_of M l)) (nat_eq (outer M (face_of M l)) l) t.1.1.0);
+  face_free = no_row _ (not-true _ t.1.0);
+  is_ring = eqb-false _ _ (ring_test (table.has M.loops l) (nat_eq (face_of M l) (face_of M l)) (nat_eq (outer M (face_of M l)) l) t.1.1.0);
   face_fits = w.1.0;
 }
 
@@ -353,7 +353,7 @@ mfkrh_accepted N l f sound goes = none_refuses (conditions N (Mfkrh l f)) (
       goes.l_there,
       (
         not_false _ (taken _ goes.face_free),
-        (test_ring (table.has N.loops l) (nat_eq (face_of N l) (face_of N l)) (nat_eq (outer N (face_of N l)) l) goes.l_there (nat_eq_itself (face_of N l)) (differs _ _ goes.is_ring), tt),
+        (test_ring (table.has N.loops l) (nat_eq (face_of N l) (face_of N l)) (nat_eq (outer N (face_of N l)) l) goes.l_there (nat_eq_itself (face_of N l)) (ne_eqb _ _ goes.is_ring), tt),
       ),
     ),
   ),

@@ -8,10 +8,9 @@ use Rattle.euler_operators.specs.Table as table
 use Rattle.euler_operators.specs.Table.{Table}
 use Rattle.euler_operators.specs.Model.{Model, lone, cycle, FaceRow, LoopRow, no_face, no_loop, holds, tail, loop_of, content, cycle_of, face_of, solid_of, outer, after, is_number}
 use Rattle.euler_operators.specs.Sound.{Sound, Has, HasHalf}
-use Rattle.euler_operators.proofs.Models.{row_of, content_cycle, never_lone}
+use Rattle.euler_operators.proofs.Models.{row_of, content_cycle, never_lone, mate_there}
 use Rattle.euler_operators.proofs.Tables.{get-put_here, get-put_other, row_elsewhere}
 use Rattle.euler_operators.specs.Effect.{mvfs}
-use Rattle.euler_laws.proofs.shared.Fans.{half_mate}
 use Rattle.euler_laws.proofs.shared.Loops.{IsLoop, loop_sound, Walks, stands-walks, one_loop-walks, cycles-walks, ends_meet-walks, one_fan-walks, one_vertex}
 use Rattle.euler_laws.proofs.shared.Same.{solid_at}
 use Rattle.euler_laws.proofs.shared.Rings.{SameRings, half_back, tail_same, walks-rings, loop-rings, ends_differ-rings, tail-rings, edges_fit-rings}
@@ -258,7 +257,7 @@ module _ (M : Model) (s f l v : ℕ) (p : Point) (goes : MvfsGoes M s f l v p) w
         | inl e ↦ (f, ap is_some face_new, solid_of_new ∙ sym e.1)
         | inr e ↦ let x = sound.solid_has_face n (solid_back n e.1 t) in (x.0, face_on x.0 x.1, solid_of_other x.0 (not_f x.0 x.1) ∙ x.2)
       ];
-      one_solid = λ x t. let o = half_old x t in solid_at_old x o ∙ sound.one_solid x o ∙ sym (solid_at_old (mate x) (half_mate M sound x o));
+      one_solid = λ x t. let o = half_old x t in solid_at_old x o ∙ sound.one_solid x o ∙ sym (solid_at_old (mate x) (mate_there M x o));
       solids_fit = λ n t. elim (eqb_tells n s) [ inl e ↦ subst (λ y. IsTrue (is_number y)) (sym e.1) goes.solid_fits | inr e ↦ sound.solids_fit n (solid_back n e.1 t) ];
       faces_fit = λ n t. elim (eqb_tells n f) [ inl e ↦ subst (λ y. IsTrue (is_number y)) (sym e.1) goes.face_fits | inr e ↦ sound.faces_fit n (face_back n e.1 t) ];
       loops_fit = λ n t. elim (eqb_tells n l) [ inl e ↦ subst (λ y. IsTrue (is_number y)) (sym e.1) goes.loop_fits | inr e ↦ sound.loops_fit n (loop_back n e.1 t) ];

@@ -1,6 +1,7 @@
 -- RingIn, which takes a ring to another face of its solid: it keeps a sound model sound, and RingIn to the old face takes it back.
 use Rattle.std.proofs.Common.{◌≡◌, ◌≢◌, ℕ, cond, nat_eq, None, unwrap_or, refl, sym, ap, ◌∙◌, subst, inl, inr}
 use Rattle.std.proofs.lemmas.Bool.Decides.{eqb_tells}
+use Rattle.std.proofs.lemmas.Bool.{not-true, ne_eqb, eq-eqb, eqb-true, eqb-false}
 use Rattle.euler_operators.specs.HalfEdge.{mate}
 use Rattle.euler_operators.specs.Table as table
 use Rattle.euler_operators.specs.Table.{map_rows}
@@ -10,7 +11,7 @@ use Rattle.euler_operators.specs.declared.Op.TheVariants.{RingIn}
 use Rattle.euler_operators.specs.Conditions.{first_false, conditions}
 use Rattle.euler_operators.specs.Effect.{effect, inverse, ring_in}
 use Rattle.euler_operators.proofs.Tests.{nat_eq_itself}
-use Rattle.euler_laws.proofs.shared.Goes.{all_hold, none_refuses, not_true, not_false, equal, unequal, equals, differs}
+use Rattle.euler_laws.proofs.shared.Goes.{all_hold, none_refuses, not_false}
 use Rattle.euler_laws.proofs.shared.Same.{solid_at}
 use Rattle.euler_laws.proofs.shared.Undo.{same_loops}
 use Rattle.euler_laws.proofs.shared.Faces.{SameWalks, sound-same, content-moved, loop-moved, face-moved, face-kept}
@@ -142,10 +143,10 @@ ring_in_goes M l f e = let w = all_hold (conditions M (RingIn l f)) e in let t =
   record {
     l_there = t.0;
     f_there = t.1.0;
-    one_solid = equal _ _ t.1.1.0;
-    is_ring = unequal _ _ (ring_test (table.has M.loops l) (nat_eq (face_of M l) (face_of M l)) (nat_eq (outer M (face_of M l)) l) t.1.1.1.0);
+    one_solid = eqb-true _ _ t.1.1.0;
+    is_ring = eqb-false _ _ (ring_test (table.has M.loops l) (nat_eq (face_of M l) (face_of M l)) (nat_eq (outer M (face_of M l)) l) t.1.1.1.0);
   },
-  unequal _ _ (not_true _ t.1.1.1.1.0),
+  eqb-false _ _ (not-true _ t.1.1.1.1.0),
 )
 
 pub ring_in_accepted : (N : Model) (l f : ℕ) → Sound N → RingGoes N l f → face_of N l ≢ f → first_false N (RingIn l f) ≡ None
@@ -159,8 +160,8 @@ ring_in_accepted N l f sound goes apart = none_refuses (conditions N (RingIn l f
       (
         goes.f_there,
         (
-          equals _ _ goes.one_solid,
-          (test_ring (table.has N.loops l) (nat_eq (face_of N l) (face_of N l)) (nat_eq (outer N (face_of N l)) l) goes.l_there (nat_eq_itself (face_of N l)) (differs _ _ goes.is_ring), (not_false _ (differs _ _ apart), tt)),
+          eq-eqb _ _ goes.one_solid,
+          (test_ring (table.has N.loops l) (nat_eq (face_of N l) (face_of N l)) (nat_eq (outer N (face_of N l)) l) goes.l_there (nat_eq_itself (face_of N l)) (ne_eqb _ _ goes.is_ring), (not_false _ (ne_eqb _ _ apart), tt)),
         ),
       ),
     ),

@@ -2,6 +2,7 @@
 use Rattle.std.proofs.Common.{◌≡◌, ◌≢◌, ℕ, Bool, true, false, cond, nat_eq, Option, Some, None, unwrap_or, is_some, refl, sym, ap, ◌∙◌, subst, arith, ◌⊎◌, inl, inr, true≢false}
 use Rattle.std.specs.Option.{option_map}
 use Rattle.std.proofs.lemmas.Bool.Decides.{nat_tests, eqb_tells}
+use Rattle.std.proofs.lemmas.Bool.{ne_eqb, eq-eqb, eqb-true, eqb-false}
 use Rattle.euler_operators.specs.HalfEdge.{mate}
 use Rattle.euler_operators.specs.Table as table
 use Rattle.euler_operators.specs.Table.{map_rows, get-map_rows, same_table}
@@ -11,7 +12,7 @@ use Rattle.euler_operators.specs.declared.Op.TheVariants.{RingOut, Outer}
 use Rattle.euler_operators.specs.Conditions.{first_false, conditions}
 use Rattle.euler_operators.specs.Effect.{effect, inverse, ring_out, take_outer, loop_to_face, face_to_outer}
 use Rattle.euler_operators.proofs.Tests.{nat_eq_itself}
-use Rattle.euler_laws.proofs.shared.Goes.{all_hold, none_refuses, equal, unequal, equals, differs}
+use Rattle.euler_laws.proofs.shared.Goes.{all_hold, none_refuses}
 use Rattle.euler_laws.proofs.shared.Same.{solid_at}
 use Rattle.euler_laws.proofs.shared.Undo.{same_loops}
 use Rattle.euler_laws.proofs.shared.Faces.{SameWalks, sound-same, content-moved, loop-moved, face-moved, face-kept}
@@ -253,8 +254,8 @@ unfolding first_false conditions
 ring_out_goes M l f e = let w = all_hold (conditions M (RingOut l f)) e in let t = w.1.1 in record {
   l_there = t.0;
   f_there = t.1.0;
-  one_solid = equal _ _ t.1.1.0;
-  is_ring = unequal _ _ (ring_test (table.has M.loops l) (nat_eq (face_of M l) (face_of M l)) (nat_eq (outer M (face_of M l)) l) t.1.1.1.0);
+  one_solid = eqb-true _ _ t.1.1.0;
+  is_ring = eqb-false _ _ (ring_test (table.has M.loops l) (nat_eq (face_of M l) (face_of M l)) (nat_eq (outer M (face_of M l)) l) t.1.1.1.0);
 }
 
 pub outer_goes_so : (M : Model) (l f : ℕ) → first_false M (Outer l f) ≡ None → RingGoes M l f
@@ -262,8 +263,8 @@ unfolding first_false conditions
 outer_goes_so M l f e = let w = all_hold (conditions M (Outer l f)) e in let t = w.1.1 in record {
   l_there = t.0;
   f_there = t.1.0;
-  one_solid = equal _ _ t.1.1.0;
-  is_ring = unequal _ _ (ring_test (table.has M.loops l) (nat_eq (face_of M l) (face_of M l)) (nat_eq (outer M (face_of M l)) l) t.1.1.1.0);
+  one_solid = eqb-true _ _ t.1.1.0;
+  is_ring = eqb-false _ _ (ring_test (table.has M.loops l) (nat_eq (face_of M l) (face_of M l)) (nat_eq (outer M (face_of M l)) l) t.1.1.1.0);
 }
 
 pub ring_out_accepted : (N : Model) (l f : ℕ) → Sound N → RingGoes N l f → first_false N (RingOut l f) ≡ None
@@ -277,8 +278,8 @@ ring_out_accepted N l f sound goes = none_refuses (conditions N (RingOut l f)) (
       (
         goes.f_there,
         (
-          equals _ _ goes.one_solid,
-          (test_ring (table.has N.loops l) (nat_eq (face_of N l) (face_of N l)) (nat_eq (outer N (face_of N l)) l) goes.l_there (nat_eq_itself (face_of N l)) (differs _ _ goes.is_ring), tt),
+          eq-eqb _ _ goes.one_solid,
+          (test_ring (table.has N.loops l) (nat_eq (face_of N l) (face_of N l)) (nat_eq (outer N (face_of N l)) l) goes.l_there (nat_eq_itself (face_of N l)) (ne_eqb _ _ goes.is_ring), tt),
         ),
       ),
     ),
@@ -296,8 +297,8 @@ outer_accepted N l f sound goes = none_refuses (conditions N (Outer l f)) (
       (
         goes.f_there,
         (
-          equals _ _ goes.one_solid,
-          (test_ring (table.has N.loops l) (nat_eq (face_of N l) (face_of N l)) (nat_eq (outer N (face_of N l)) l) goes.l_there (nat_eq_itself (face_of N l)) (differs _ _ goes.is_ring), tt),
+          eq-eqb _ _ goes.one_solid,
+          (test_ring (table.has N.loops l) (nat_eq (face_of N l) (face_of N l)) (nat_eq (outer N (face_of N l)) l) goes.l_there (nat_eq_itself (face_of N l)) (ne_eqb _ _ goes.is_ring), tt),
         ),
       ),
     ),

@@ -1,18 +1,18 @@
 -- mvfs and kvfs as operators: they keep a model sound, and each passes its conditions after the other and takes it back.
 use Rattle.std.proofs.Common.{◌≡◌, ℕ, true, false, not, nat_eq, ◌&&◌, ◌||◌, List, [], ◌∷◌, Some, None, unwrap_or, is_some, refl, sym, ap, ◌∙◌, subst, arith, inl, inr, true≢false}
 use Rattle.std.proofs.lemmas.Bool.Decides.{nat_tests, eqb_tells}
+use Rattle.std.proofs.lemmas.Bool.{not-true, not-false, eq-eqb, eqb-true}
 use Rattle.euler_operators.specs.declared.Point.{Point}
 use Rattle.euler_operators.specs.Table as table
 use Rattle.euler_operators.specs.Table.{Table, tables}
 use Rattle.euler_operators.specs.Model.{Model, lone, no_face, content, face_of, solid_of, outer, point_of, faces_of, rings_of}
 use Rattle.euler_operators.specs.Sound.{Sound, Has}
-use Rattle.euler_operators.proofs.Tables.{put-remove, remove-put, no_row}
+use Rattle.euler_operators.proofs.Tables.{put-remove, remove-put, no_row, row_some}
 use Rattle.euler_operators.proofs.Tests.{and_first, and_second}
 use Rattle.euler_operators.specs.declared.Op.TheVariants.{Mvfs, Kvfs}
 use Rattle.euler_operators.specs.Conditions.{first_false, conditions, bare_face, has_rings, is_empty, is_lone, lone_vertex, lists}
 use Rattle.euler_operators.specs.Effect.{effect, inverse, mvfs, kvfs_at, head_or_zero}
-use Rattle.euler_laws.proofs.shared.Goes.{all_hold, none_refuses, not_true, not_false, taken, equal, equals, not_back}
-use Rattle.euler_laws.proofs.shared.Loops.{some_row}
+use Rattle.euler_laws.proofs.shared.Goes.{all_hold, none_refuses, not_false, taken}
 use Rattle.euler_laws.proofs.shared.Rows.{face_there, point_row, lone_is, no_rings_means, means_no_rings, solid_row, loop_row}
 use Rattle.euler_laws.proofs.shared.Listed.{listed_passes, passes_listed, all_where-rises, one_listed}
 use Rattle.euler_laws.proofs.faces.OneSolid as more
@@ -131,24 +131,24 @@ module _ (M : Model) (sound : Sound M) (s f l v : ℕ) (p : Point) (goes : MvfsG
 faces_one : (M : Model) → (s f : ℕ) → KvfsGoes M s f → faces_of M s ≡ f ∷ []
 unfolding solid_of
 faces_one M s f goes =
-    let row = some_row (table.get M.faces f) goes.f_there in
+    let row = row_some (table.get M.faces f) goes.f_there in
     one_listed (faces_of M s) f (all_where-rises (λ _ row. nat_eq row.solid s) M.faces)
-    (passes_listed (λ _ row. nat_eq row.solid s) M.faces f row.0 row.1 (equals row.0.solid s (sym (ap (λ o. (unwrap_or o no_face).solid) row.1) ∙ goes.of_s)))
+    (passes_listed (λ _ row. nat_eq row.solid s) M.faces f row.0 row.1 (eq-eqb row.0.solid s (sym (ap (λ o. (unwrap_or o no_face).solid) row.1) ∙ goes.of_s)))
     (λ q e. let x = listed_passes (λ _ row. nat_eq row.solid s) M.faces q e in
-    goes.only q (ap is_some x.1) (ap (λ o. (unwrap_or o no_face).solid) x.1 ∙ equal x.0.solid s x.2))
+    goes.only q (ap is_some x.1) (ap (λ o. (unwrap_or o no_face).solid) x.1 ∙ eqb-true x.0.solid s x.2))
 
 kvfs_facts : (M : Model) (s : ℕ) (fs : List ℕ) → faces_of M s ≡ fs → Has M.solids s → bare_face M fs ≡ true → KvfsGoes M s (head_or_zero fs)
 unfolding has_rings solid_of
 kvfs_facts M s [] is there e = absurd (true≢false (sym e))
 kvfs_facts M s (f ∷ g ∷ fs) is there e = absurd (true≢false (sym e))
 kvfs_facts M s (f ∷ []) is there e =
-    let x = listed_passes (λ _ row. nat_eq row.solid s) M.faces f (ap (λ ns. lists ns f) is ∙ ap (λ b. b || false) (equals f f refl)) in
+    let x = listed_passes (λ _ row. nat_eq row.solid s) M.faces f (ap (λ ns. lists ns f) is ∙ ap (λ b. b || false) (eq-eqb f f refl)) in
     record {
       s_there = there;
       f_there = ap is_some x.1;
-      of_s = ap (λ o. (unwrap_or o no_face).solid) x.1 ∙ equal x.0.solid s x.2;
-      only = λ q t k. let row = some_row (table.get M.faces q) t in
-          only_one q (sym (ap (λ ns. lists ns q) is) ∙ passes_listed (λ _ row. nat_eq row.solid s) M.faces q row.0 row.1 (equals row.0.solid s (sym (ap (λ o. (unwrap_or o no_face).solid) row.1) ∙ k)));
+      of_s = ap (λ o. (unwrap_or o no_face).solid) x.1 ∙ eqb-true x.0.solid s x.2;
+      only = λ q t k. let row = row_some (table.get M.faces q) t in
+          only_one q (sym (ap (λ ns. lists ns q) is) ∙ passes_listed (λ _ row. nat_eq row.solid s) M.faces q row.0 row.1 (eq-eqb row.0.solid s (sym (ap (λ o. (unwrap_or o no_face).solid) row.1) ∙ k)));
       no_rings = no_rings_means M f (ap not (and_first (is_empty (rings_of M f)) (is_lone (content M (outer M f))) e));
       is_bare = lone_is (content M (outer M f)) (and_second (is_empty (rings_of M f)) (is_lone (content M (outer M f))) e);
     } where
@@ -161,7 +161,7 @@ kvfs_goes M s e = let w = all_hold (conditions M (Kvfs s)) e in kvfs_facts M s (
 
 ringless : (N : Model) (f : ℕ) → has_rings N f ≡ false → is_empty (rings_of N f) ≡ true
 unfolding has_rings
-ringless N f r = not_back (is_empty (rings_of N f)) r
+ringless N f r = not-false (is_empty (rings_of N f)) r
 
 pub kvfs_accepted : (N : Model) (s f : ℕ) → Sound N → KvfsGoes N s f → first_false N (Kvfs s) ≡ None
 unfolding first_false conditions
@@ -178,10 +178,10 @@ kvfs_accepted N s f sound goes = none_refuses (conditions N (Kvfs s)) (
 pub mvfs_goes : (M : Model) (s f l v : ℕ) (p : Point) → first_false M (Mvfs s f l v p) ≡ None → MvfsGoes M s f l v p
 unfolding first_false conditions
 mvfs_goes M s f l v p e = let w = all_hold (conditions M (Mvfs s f l v p)) e in let t = w.1.1.1.1 in record {
-  solid_free = no_row _ (not_true _ t.0);
-  face_free = no_row _ (not_true _ t.1.0);
-  loop_free = no_row _ (not_true _ t.1.1.0);
-  vertex_free = no_row _ (not_true _ t.1.1.1.0);
+  solid_free = no_row _ (not-true _ t.0);
+  face_free = no_row _ (not-true _ t.1.0);
+  loop_free = no_row _ (not-true _ t.1.1.0);
+  vertex_free = no_row _ (not-true _ t.1.1.1.0);
   solid_fits = w.0;
   face_fits = w.1.0;
   loop_fits = w.1.1.0;

@@ -1,6 +1,7 @@
 -- kemr as an operator: it keeps a model sound, and mekr passes its conditions after it and takes it back.
 use Rattle.std.proofs.Common.{◌≡◌, ◌≢◌, ℕ, ◌≤◌, Bool, true, not, nat_eq, ◌&&◌, List, [], ◌∷◌, ◌++◌, Some, None, is_some, IsTrue, refl, sym, ap, ◌∙◌, subst, arith}
 use Rattle.std.proofs.lemmas.Bool.Decides.{nat_tests}
+use Rattle.std.proofs.lemmas.Bool.{not-true, ne_eqb, eq-eqb, eqb-true}
 use Rattle.euler_operators.specs.Items.{count, IsIn, IsApart, head_or}
 use Rattle.euler_operators.specs.Rings.{canonical, rotate_to, between, beyond}
 use Rattle.euler_operators.proofs.Lists.{tick_same}
@@ -19,7 +20,7 @@ use Rattle.euler_operators.proofs.Models.{row_of}
 use Rattle.euler_operators.specs.declared.Op.TheVariants.{Kemr, Mekr}
 use Rattle.euler_operators.specs.Conditions.{first_false, conditions, corner_tail, corner_loop, corner_list, corner_known, corner_lone, corner_number, lone_vertex, is_lone}
 use Rattle.euler_operators.specs.Effect.{effect, inverse, kemr, mekr, corner_of, cycle_or_lone, edge_row}
-use Rattle.euler_laws.proofs.shared.Goes.{all_hold, none_refuses, not_true, not_false, taken, equal, equals, differs}
+use Rattle.euler_laws.proofs.shared.Goes.{all_hold, none_refuses, not_false, taken}
 use Rattle.euler_laws.proofs.shared.EdgeLess.{edge_gone, tail_old}
 use Rattle.euler_laws.proofs.kemr.KemrSound as parted
 use Rattle.euler_laws.proofs.kemr.KemrSound.{KemrGoes, sound-kemr}
@@ -88,12 +89,12 @@ mekr_accepted N c d h q l u w ys xs goes = none_refuses (conditions N (Mekr c d 
               (
                 not_false _ (taken _ (ap (table.get N.edges) (sym (edge_of-code h)) ∙ goes.edge_free)),
                 (
-                  not_false _ (differs _ _ (λ e. goes.loops_apart (sym goes.first.loop ∙ e ∙ goes.second.loop))),
+                  not_false _ (ne_eqb _ _ (λ e. goes.loops_apart (sym goes.first.loop ∙ e ∙ goes.second.loop))),
                   (
-                    equals _ _ (ap (face_of N) goes.first.loop ∙ goes.one_face ∙ sym (ap (face_of N) goes.second.loop)),
+                    eq-eqb _ _ (ap (face_of N) goes.first.loop ∙ goes.one_face ∙ sym (ap (face_of N) goes.second.loop)),
                     (
                       ap (λ x. is_ring_of N (face_of N x) x) goes.second.loop ∙ ring (table.has N.loops l) (face_of N l) (outer N (face_of N l)) l goes.ring_there goes.no_outer,
-                      (not_false _ (differs _ _ (λ e. goes.ends_apart (sym goes.first.vertex ∙ e ∙ goes.second.vertex))), tt),
+                      (not_false _ (ne_eqb _ _ (λ e. goes.ends_apart (sym goes.first.vertex ∙ e ∙ goes.second.vertex))), tt),
                     ),
                   ),
                 ),
@@ -114,8 +115,8 @@ kemr_goes M h l e =
     let w = all_hold (conditions M (Kemr h l)) e in
     record {
       h_there = half_of M h w.1.1.0;
-      loop_free = no_row _ (not_true _ w.1.1.1.0);
-      one_loop = equal _ _ w.1.1.1.1.0;
+      loop_free = no_row _ (not-true _ w.1.1.1.0);
+      one_loop = eqb-true _ _ w.1.1.1.1.0;
       loop_fits = w.1.0;
     }
 

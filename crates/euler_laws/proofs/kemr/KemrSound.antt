@@ -16,9 +16,9 @@ use Rattle.euler_operators.specs.Model.{Model, LoopContent, lone, cycle, LoopRow
 use Rattle.euler_operators.specs.Sound.{Sound, Has, HasHalf, StandsIn, IsCycle, IsTail, IsLoneAt, NumbersFit}
 use Rattle.euler_operators.proofs.Halves.{mate_other, edge_of-mate, mate-mate, same_edge, edges_apart, mate_edge_apart}
 use Rattle.euler_operators.proofs.Tables.{map_one}
-use Rattle.euler_operators.proofs.Models.{in-holds, holds_in, cycle_there, cycle_sound, content_cycle, row_of, other_loop, never_lone}
+use Rattle.euler_operators.proofs.Models.{in-holds, holds_in, cycle_there, cycle_sound, content_cycle, row_of, other_loop, never_lone, mate_there}
 use Rattle.euler_operators.specs.Effect.{kemr, where_held, cycle_or_lone}
-use Rattle.euler_laws.proofs.shared.Fans.{Fan, fan_of, half_after, half_mate, fixed_reaches, none_in_fan}
+use Rattle.euler_laws.proofs.shared.Fans.{Fan, fan_of, half_after, fixed_reaches, none_in_fan}
 use Rattle.euler_laws.proofs.shared.Loops.{IsLoop, light, loop_sound, Walks, loop_at, stands-walks, one_loop-walks, cycles-walks, ends_meet-walks, one_fan-walks}
 use Rattle.euler_laws.proofs.shared.Arcs.{fan_kef_first, fan_kef_second, fan_kef_other}
 use Rattle.euler_laws.proofs.shared.Same.{solid_at}
@@ -65,7 +65,7 @@ module _ (M : Model) (sound : Sound M) (h l : ℕ) (goes : KemrGoes M h l) where
   hm = mate_other h
 
   pub m_there : HasHalf M m
-  m_there = half_mate M sound h goes.h_there
+  m_there = mate_there M h goes.h_there
 
   pub u_w : u ≢ w
   u_w = sound.ends_differ h goes.h_there
@@ -500,7 +500,7 @@ module _ (M : Model) (sound : Sound M) (h l : ℕ) (goes : KemrGoes M h l) where
 
   one_solid-kemr : (x : ℕ) → HasHalf N x → solid_at N (loop_of N x) ≡ solid_at N (loop_of N (mate x))
   one_solid-kemr x there = let o = old_half x there in
-      solid_old x o.0 o.1 ∙ sound.one_solid x o.0 ∙ sym (solid_old (mate x) (half_mate M sound x o.0) (mate_edge_apart x h o.1))
+      solid_old x o.0 o.1 ∙ sound.one_solid x o.0 ∙ sym (solid_old (mate x) (mate_there M x o.0) (mate_edge_apart x h o.1))
 
   loops_fit-kemr : NumbersFit N.loops
   loops_fit-kemr q there = elim (eqb_tells q l) [

@@ -1,6 +1,7 @@
 -- kev as an operator: it keeps a model sound. The inverses of mev and of kev pass their conditions and take them back.
 use Rattle.std.proofs.Common.{◌≡◌, ◌≢◌, ℕ, Bool, true, false, cond, not, nat_eq, ◌&&◌, None, refl, sym, ap, ◌∙◌, subst, arith, inl, inr}
 use Rattle.std.proofs.lemmas.Bool.Decides.{nat_tests, eqb_tells}
+use Rattle.std.proofs.lemmas.Bool.{not-true, ne_eqb, eq-eqb, eqb-true}
 use Rattle.euler_operators.specs.declared.Point.{Point}
 use Rattle.euler_operators.specs.declared.HalfEdge.{HalfEdge}
 use Rattle.euler_operators.specs.declared.Corner.{Corner}
@@ -12,7 +13,7 @@ use Rattle.euler_operators.proofs.Halves.{edge_of-code, code-half}
 use Rattle.euler_operators.specs.declared.Op.TheVariants.{Mev, Kev}
 use Rattle.euler_operators.specs.Conditions.{first_false, conditions, lone_vertex}
 use Rattle.euler_operators.specs.Effect.{effect, inverse, mev_at, mev_lone, kev, kev_corner, kev_corner_mate}
-use Rattle.euler_laws.proofs.shared.Goes.{all_hold, none_refuses, not_true, not_false, equal, equals, differs}
+use Rattle.euler_laws.proofs.shared.Goes.{all_hold, none_refuses, not_false}
 use Rattle.euler_laws.proofs.shared.Undo.{parallel_none, none_parallel}
 use Rattle.euler_laws.proofs.mev.MevSound.{MevGoes, sound-mev}
 use Rattle.euler_laws.proofs.kev.MevUndo.{kev-mev_at}
@@ -36,8 +37,8 @@ kev_goes M h sound e =
     let w = all_hold (conditions M (Kev h)) e in
     record {
       h_there = half_of M h w.1.0;
-      no_parallel = none_parallel M (code h) sound.edges_fit (equal _ _ w.1.1.0);
-      not_bare = λ b. not_end (after M (mate (code h))) (code h) (after M (code h)) (mate (code h)) (not_true _ w.1.1.1.0) b;
+      no_parallel = none_parallel M (code h) sound.edges_fit (eqb-true _ _ w.1.1.0);
+      not_bare = λ b. not_end (after M (mate (code h))) (code h) (after M (code h)) (mate (code h)) (not-true _ w.1.1.1.0) b;
     } where
       not_end : (a h b m : ℕ) → (nat_eq a h && not (nat_eq b m)) ≡ false → a ≡ h → b ≡ m
       not_end a h b m f e = grind (arith, nat_tests)
@@ -49,7 +50,7 @@ kev_accepted N h sound goes = none_refuses (conditions N (Kev h)) (
   (
     of_half N h goes.h_there,
     (
-      equals _ _ (parallel_none N (code h) goes.no_parallel),
+      eq-eqb _ _ (parallel_none N (code h) goes.no_parallel),
       (not_false _ (end_not (after N (mate (code h))) (code h) (after N (code h)) (mate (code h)) goes.not_bare), tt),
     ),
   ),
@@ -106,15 +107,15 @@ mate_at false f l c e = refl
 
 corners_open : (M : Model) (h : ℕ) → after M (mate h) ≢ h → (kev_corner M h ≡ At (half (corner M h))) × (kev_corner_mate M h ≡ At (half (after M (mate h))))
 corners_open M h ne =
-    let f : nat_eq (after M (mate h)) h ≡ false = differs _ _ ne in (
+    let f : nat_eq (after M (mate h)) h ≡ false = ne_eqb _ _ ne in (
       corner_at (nat_eq (after M h) (mate h)) (nat_eq (after M (mate h)) h) (loop_of M h) (after M h) (after M (mate h)) f,
       mate_at (nat_eq (after M h) (mate h)) (nat_eq (after M (mate h)) h) (loop_of M h) (after M (mate h)) f,
     )
 
 corners_bare : (M : Model) (h : ℕ) → after M (mate h) ≡ h → after M h ≡ mate h → (kev_corner M h ≡ Lone (loop_of M h)) × (kev_corner_mate M h ≡ Lone (loop_of M h))
 corners_bare M h a b =
-    let f : nat_eq (after M (mate h)) h ≡ true = equals _ _ a in
-    let g : nat_eq (after M h) (mate h) ≡ true = equals _ _ b in (
+    let f : nat_eq (after M (mate h)) h ≡ true = eq-eqb _ _ a in
+    let g : nat_eq (after M h) (mate h) ≡ true = eq-eqb _ _ b in (
       ap (λ x. cond x (cond (nat_eq (after M (mate h)) h) (Lone (loop_of M h)) (At (half (after M (mate h))))) (At (half (after M h)))) g ∙ ap (λ x. cond x (Lone (loop_of M h)) (At (half (after M (mate h))))) f,
       ap (λ x. cond (x && nat_eq (after M (mate h)) h) (Lone (loop_of M h)) (At (half (after M (mate h))))) g ∙ ap (λ x. cond x (Lone (loop_of M h)) (At (half (after M (mate h))))) f,
     )

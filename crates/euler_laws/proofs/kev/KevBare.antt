@@ -12,9 +12,9 @@ use Rattle.euler_operators.specs.Model.{Model, cycle, items_of, tail, loop_of, c
 use Rattle.euler_operators.specs.Sound.{Sound, Has, HasHalf, IsCycle}
 use Rattle.euler_operators.proofs.Halves.{mate_other, same_edge}
 use Rattle.euler_operators.proofs.Tables.{put-remove}
-use Rattle.euler_operators.proofs.Models.{in-holds, cycle_there, cycle_sound, content_cycle, row_of}
+use Rattle.euler_operators.proofs.Models.{in-holds, cycle_there, cycle_sound, content_cycle, row_of, mate_there}
 use Rattle.euler_operators.specs.Effect.{mev_lone, kev}
-use Rattle.euler_laws.proofs.shared.Fans.{half_mate, loop_after}
+use Rattle.euler_laws.proofs.shared.Fans.{loop_after}
 use Rattle.euler_laws.proofs.shared.Loops.{light}
 use Rattle.euler_laws.proofs.shared.Same.{mapped_some}
 use Rattle.euler_laws.proofs.shared.Undo.{same_loops, same_edges, same_model}
@@ -55,7 +55,7 @@ module _ (M : Model) (sound : Sound M) (h : ℕ) (goes : KevGoes M h) (bare : af
   to_m = goes.not_bare bare
 
   m_there : HasHalf M m
-  m_there = half_mate M sound h goes.h_there
+  m_there = mate_there M h goes.h_there
 
   point_there : table.get M.vertices w ≡ Some (point_of M w)
   point_there = point_row M w (sound.tails_there m m_there)

@@ -18,10 +18,10 @@ use Rattle.euler_operators.specs.Table.{Table, tables}
 use Rattle.euler_operators.specs.Model.{Model, LoopContent, lone, cycle, EdgeRow, items_of, holds, tail, loop_of, content, after, round, tail_in, no_edge}
 use Rattle.euler_operators.specs.Sound.{Sound, Has, HasHalf, StandsIn, IsTail, IsLoneAt, NumbersFit}
 use Rattle.euler_operators.proofs.Halves.{mate_other, edge_of-mate, mate-mate, same_edge, edges_apart, mate_edge_apart}
-use Rattle.euler_operators.proofs.Models.{in-holds, holds_in, holds-none, cycle_there}
+use Rattle.euler_operators.proofs.Models.{in-holds, holds_in, holds-none, cycle_there, mate_there}
 use Rattle.euler_operators.proofs.Tests.{or_true}
 use Rattle.euler_operators.specs.Effect.{kev, without_edge, moved_tail, cycle_or_lone}
-use Rattle.euler_laws.proofs.shared.Fans.{Fan, fan_of, half_after, half_mate, loop_after, ring_reaches, fixed_reaches, two_reaches, none_in_fan}
+use Rattle.euler_laws.proofs.shared.Fans.{Fan, fan_of, half_after, loop_after, ring_reaches, fixed_reaches, two_reaches, none_in_fan}
 use Rattle.euler_laws.proofs.shared.Loops.{IsLoop, count_out, count_gone, apart_out, ring_out, light, loop_sound, Walks, loop_at, stands-walks, one_loop-walks, cycles-walks, ends_meet-walks, one_fan-walks}
 use Rattle.euler_laws.proofs.shared.Arcs.{fan_kev, fan_kev_other}
 use Rattle.euler_laws.proofs.shared.Same.{mapped_some, Rewritten, content-new, face-same, loop-same, SameFaces, solid_at, loops_of_faces-same, outers_there-same, faces_of_solids-same, solid_has_face-same, solids_fit-same, faces_fit-same, loops_fit-same, solid_at-same}
@@ -59,7 +59,7 @@ module _ (M : Model) (sound : Sound M) (h : ℕ) (goes : KevGoes M h) where
   F = after_kev (after M) h m
 
   pub m_there : HasHalf M m
-  m_there = half_mate M sound h goes.h_there
+  m_there = mate_there M h goes.h_there
 
   pub u_w : u ≢ w
   u_w = sound.ends_differ h goes.h_there
@@ -385,7 +385,7 @@ module _ (M : Model) (sound : Sound M) (h : ℕ) (goes : KevGoes M h) where
   pub ends_differ-kev : (x : ℕ) → HasHalf N x → tail N x ≢ tail N (mate x)
   ends_differ-kev x there e =
       let o = half_cases x there in
-      let t = half_mate M sound x o.0 in
+      let t = mate_there M x o.0 in
       let a = mate_edge_apart x h o.1 in
       elim (eqb_tells (tail M x) w) [
         | inl p ↦ elim (eqb_tells (tail M (mate x)) w) [
@@ -457,7 +457,7 @@ module _ (M : Model) (sound : Sound M) (h : ℕ) (goes : KevGoes M h) where
   one_solid-kev x there =
       let o = half_cases x there in
       let old : (y : ℕ) → HasHalf M y → edge_of y ≢ edge_of h → solid_at N (loop_of N y) ≡ solid_at M (loop_of M y) = λ y t a. ap (solid_at N) (loop_old y t a) ∙ solid_at-same M N sound same (loop_of M y) in
-      old x o.0 o.1 ∙ sound.one_solid x o.0 ∙ sym (old (mate x) (half_mate M sound x o.0) (mate_edge_apart x h o.1))
+      old x o.0 o.1 ∙ sound.one_solid x o.0 ∙ sym (old (mate x) (mate_there M x o.0) (mate_edge_apart x h o.1))
 
   pub edges_fit-kev : NumbersFit N.edges
   edges_fit-kev e there =

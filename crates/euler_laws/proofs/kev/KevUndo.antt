@@ -17,9 +17,9 @@ use Rattle.euler_operators.specs.Model.{Model, LoopContent, lone, cycle, items_o
 use Rattle.euler_operators.specs.Sound.{Sound, Has, HasHalf, IsCycle}
 use Rattle.euler_operators.proofs.Halves.{mate_other, mate-mate, same_edge}
 use Rattle.euler_operators.proofs.Tables.{put-remove}
-use Rattle.euler_operators.proofs.Models.{in-holds, cycle_there}
+use Rattle.euler_operators.proofs.Models.{in-holds, cycle_there, mate_there}
 use Rattle.euler_operators.specs.Effect.{mev_at, kev}
-use Rattle.euler_laws.proofs.shared.Fans.{half_mate, half_after, loop_after}
+use Rattle.euler_laws.proofs.shared.Fans.{half_after, loop_after}
 use Rattle.euler_laws.proofs.shared.Loops.{put_before, put_there, put_none, put_lone, after-walks, count_out}
 use Rattle.euler_laws.proofs.shared.Arcs.{arc_is}
 use Rattle.euler_laws.proofs.shared.Same.{mapped_some}
@@ -113,7 +113,7 @@ module _ (M : Model) (sound : Sound M) (h : ℕ) (goes : KevGoes M h) (open_end 
   ]
 
   m_there : HasHalf M m
-  m_there = half_mate M sound h goes.h_there
+  m_there = mate_there M h goes.h_there
 
   d_there : HasHalf M d
   d_there = half_after M sound m m_there

@@ -17,10 +17,9 @@ use Rattle.euler_operators.specs.Model.{Model, LoopContent, lone, cycle, items_o
 use Rattle.euler_operators.specs.Sound.{Sound, Has, HasHalf, IsCycle}
 use Rattle.euler_operators.proofs.Halves.{mate_other, edge_of-mate}
 use Rattle.euler_operators.proofs.Tables.{remove-put}
-use Rattle.euler_operators.proofs.Models.{in-holds, holds-none}
+use Rattle.euler_operators.proofs.Models.{in-holds, holds-none, mate_there}
 use Rattle.euler_operators.proofs.Tests.{or_true}
 use Rattle.euler_operators.specs.Effect.{mev_at, kev, cycle_or_lone}
-use Rattle.euler_laws.proofs.shared.Fans.{half_mate}
 use Rattle.euler_laws.proofs.shared.Loops.{put_before, put_there, put_none, put_lone, none_free, count_out, after-walks}
 use Rattle.euler_laws.proofs.shared.Same.{mapped_some}
 use Rattle.euler_laws.proofs.shared.Undo.{same_loops, same_edges, same_model, taken_out, both_out, put_in, both_in}
@@ -115,7 +114,7 @@ module _ (M : Model) (sound : Sound M) (g k h v : ℕ) (p : Point) (goes : MevGo
   no_parallel-N : (x : ℕ) → HasHalf N x → edge_of x ≢ edge_of h → tail N x ≡ tail N h → tail N (mate x) ≢ tail N (mate h)
   no_parallel-N x there a e f = elim (put.half_cases M sound g k h v p goes x there) [
     | inl o ↦
-        let t = half_mate M sound x o in
+        let t = mate_there M x o in
         let far : tail N (mate x) ≡ v = f ∙ put.tail-m M sound g k h v p goes in
         let near : tail N x ≡ tail M g = e ∙ put.tail-h M sound g k h v p goes in
         elim (IsIn_or_not (mate x) (put.moved M sound g k h v p goes)) [

@@ -1,6 +1,7 @@
 -- kef as an operator: it keeps a model sound, and mef takes it back; and kef passes its conditions after mef.
 use Rattle.std.proofs.Common.{◌≡◌, ◌≢◌, ℕ, true, Some, None, is_some, refl, sym, ap, ◌∙◌, subst, inl, inr}
 use Rattle.std.proofs.lemmas.Bool.Decides.{eqb_tells}
+use Rattle.std.proofs.lemmas.Bool.{not-true, ne_eqb, eq-eqb, eqb-false}
 use Rattle.euler_operators.specs.Items.{IsIn}
 use Rattle.euler_operators.specs.Operators.{mef_old, mef_new, kef_ring}
 use Rattle.euler_operators.proofs.Operators.{mef-kef}
@@ -12,12 +13,12 @@ use Rattle.euler_operators.specs.Model.{Model, cycle, FaceRow, EdgeRow, items_of
 use Rattle.euler_operators.specs.Sound.{Sound, HasHalf}
 use Rattle.euler_operators.proofs.Halves.{edge_of-code, code-half, mate-mate}
 use Rattle.euler_operators.proofs.Tables.{put-remove}
-use Rattle.euler_operators.proofs.Models.{row_of, cycle_there, cycle_sound}
+use Rattle.euler_operators.proofs.Models.{row_of, cycle_there, cycle_sound, mate_there}
 use Rattle.euler_operators.specs.declared.Op.TheVariants.{Mef, Kef}
 use Rattle.euler_operators.specs.Conditions.{first_false, conditions, face_at}
 use Rattle.euler_operators.specs.Effect.{effect, inverse, mef, kef, edge_row}
-use Rattle.euler_laws.proofs.shared.Goes.{all_hold, none_refuses, not_true, not_false, taken, unequal, equals, differs}
-use Rattle.euler_laws.proofs.shared.Fans.{half_after, half_mate, loop_after}
+use Rattle.euler_laws.proofs.shared.Goes.{all_hold, none_refuses, not_false, taken}
+use Rattle.euler_laws.proofs.shared.Fans.{half_after, loop_after}
 use Rattle.euler_laws.proofs.mef.MefUndo.{loops-mef}
 use Rattle.euler_laws.proofs.mef.MefSound as made
 use Rattle.euler_laws.proofs.mef.MefSound.{MefGoes}
@@ -52,7 +53,7 @@ module _ (M : Model) (sound : Sound M) (h : ℕ) (goes : KefGoes M h) where
   sound-N = sound-kef M sound h goes
 
   m_there : HasHalf M m
-  m_there = half_mate M sound h goes.h_there
+  m_there = mate_there M h goes.h_there
 
   g_edge : edge_of g ≢ edge_of h
   g_edge = gone.other_edge M sound h goes g (gone.after_m M sound h goes) (gone.m_on M sound h goes)
@@ -151,8 +152,8 @@ kef_goes M h e =
     let w = all_hold (conditions M (Kef h)) e in
     record {
       h_there = half_of M h w.1.0;
-      faces_apart = unequal _ _ (not_true _ w.1.1.0);
-      no_rings = no_rings_means M (face_at M (mate (code h))) (not_true _ w.1.1.1.0);
+      faces_apart = eqb-false _ _ (not-true _ w.1.1.0);
+      no_rings = no_rings_means M (face_at M (mate (code h))) (not-true _ w.1.1.1.0);
     }
 
 pub kef_accepted : (N : Model) (h : HalfEdge) → Sound N → KefGoes N (code h) → first_false N (Kef h) ≡ None
@@ -162,7 +163,7 @@ kef_accepted N h sound goes = none_refuses (conditions N (Kef h)) (
   (
     of_half N h goes.h_there,
     (
-      not_false _ (differs _ _ goes.faces_apart),
+      not_false _ (ne_eqb _ _ goes.faces_apart),
       (not_false _ (means_no_rings N (face_at N (mate (code h))) goes.no_rings), tt),
     ),
   ),
@@ -191,8 +192,8 @@ mef_accepted N g k h f l sound goes = none_refuses (conditions N (Mef g k h f l)
                   (
                     not_false _ (taken _ goes.loop_free),
                     (
-                      equals _ _ (sym goes.one_loop),
-                      (not_false _ (differs _ _ goes.ends_apart), tt),
+                      eq-eqb _ _ (sym goes.one_loop),
+                      (not_false _ (ne_eqb _ _ goes.ends_apart), tt),
                     ),
                   ),
                 ),

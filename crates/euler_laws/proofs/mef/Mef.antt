@@ -1,5 +1,6 @@
 -- mef as an operator: what its conditions say; it keeps a model sound, and kef takes it back.
 use Rattle.std.proofs.Common.{◌≡◌, ℕ, None, is_some, sym, ap, ◌∙◌}
+use Rattle.std.proofs.lemmas.Bool.{not-true, eqb-true, eqb-false}
 use Rattle.euler_operators.specs.declared.HalfEdge.{HalfEdge}
 use Rattle.euler_operators.specs.HalfEdge.{code}
 use Rattle.euler_operators.specs.Table as table
@@ -10,7 +11,7 @@ use Rattle.euler_operators.proofs.Tables.{no_row}
 use Rattle.euler_operators.specs.declared.Op.TheVariants.{Mef}
 use Rattle.euler_operators.specs.Conditions.{first_false, conditions}
 use Rattle.euler_operators.specs.Effect.{effect, inverse}
-use Rattle.euler_laws.proofs.shared.Goes.{all_hold, not_true, equal, unequal}
+use Rattle.euler_laws.proofs.shared.Goes.{all_hold}
 use Rattle.euler_laws.proofs.mef.MefUndo.{kef-after-mef}
 use Rattle.euler_laws.proofs.mef.MefSound.{MefGoes, sound-mef}
 
@@ -22,11 +23,11 @@ mef_goes M g k h f l e =
     record {
       g_there = ap (λ x. is_some (table.get M.edges x)) (edge_of-code g) ∙ t.0;
       k_there = ap (λ x. is_some (table.get M.edges x)) (edge_of-code k) ∙ t.1.0;
-      edge_free = ap (table.get M.edges) (edge_of-code h) ∙ no_row _ (not_true _ t.1.1.0);
-      face_free = no_row _ (not_true _ t.1.1.1.0);
-      loop_free = no_row _ (not_true _ t.1.1.1.1.0);
-      one_loop = sym (equal _ _ t.1.1.1.1.1.0);
-      ends_apart = unequal _ _ (not_true _ t.1.1.1.1.1.1.0);
+      edge_free = ap (table.get M.edges) (edge_of-code h) ∙ no_row _ (not-true _ t.1.1.0);
+      face_free = no_row _ (not-true _ t.1.1.1.0);
+      loop_free = no_row _ (not-true _ t.1.1.1.1.0);
+      one_loop = sym (eqb-true _ _ t.1.1.1.1.1.0);
+      ends_apart = eqb-false _ _ (not-true _ t.1.1.1.1.1.1.0);
       edge_fits = ap is_number (edge_of-code h) ∙ w.1.1.0;
       face_fits = w.1.1.1.0;
       loop_fits = w.1.1.1.1.0;

@@ -13,9 +13,9 @@ use Rattle.euler_operators.specs.Table.{Table, tables}
 use Rattle.euler_operators.specs.Model.{Model, LoopContent, lone, cycle, FaceRow, LoopRow, items_of, holds, tail, loop_of, content, face_of, cycle_of, after, outer, no_loop, no_face, solid_of, is_number}
 use Rattle.euler_operators.specs.Sound.{Sound, Has, HasHalf, StandsIn, IsTail, IsLoneAt}
 use Rattle.euler_operators.proofs.Halves.{mate_other, edge_of-mate, mate-mate}
-use Rattle.euler_operators.proofs.Models.{in-holds, holds_in, cycle_there, cycle_sound, content_cycle, row_of, never_lone}
+use Rattle.euler_operators.proofs.Models.{in-holds, holds_in, cycle_there, cycle_sound, content_cycle, row_of, never_lone, mate_there}
 use Rattle.euler_operators.specs.Effect.{mef, edge_row}
-use Rattle.euler_laws.proofs.shared.Fans.{Fan, fan_of, half_mate}
+use Rattle.euler_laws.proofs.shared.Fans.{Fan, fan_of}
 use Rattle.euler_laws.proofs.shared.Loops.{IsLoop, canonical_cycle, light, loop_sound, none_free, Walks, loop_at, stands-walks, one_loop-walks, cycles-walks, ends_meet-walks, one_fan-walks}
 use Rattle.euler_laws.proofs.shared.Rows.{count-halves}
 use Rattle.euler_laws.proofs.shared.Arcs.{fan_mef_first, fan_mef_second, fan_mef_other}
@@ -409,7 +409,7 @@ module _ (M : Model) (sound : Sound M) (g k h f l : ℕ) (goes : MefGoes M g k h
 
   ends_differ-mef : (x : ℕ) → HasHalf N x → tail N x ≢ tail N (mate x)
   ends_differ-mef x there same = elim (half_cases x there) [
-    | inl o ↦ sound.ends_differ x o (sym (tail_old x o) ∙ same ∙ tail_old (mate x) (half_mate M sound x o))
+    | inl o ↦ sound.ends_differ x o (sym (tail_old x o) ∙ same ∙ tail_old (mate x) (mate_there M x o))
     | inr d ↦ elim d [
       | inl a ↦ goes.ends_apart (sym tail-h ∙ ap (tail N) (sym a) ∙ same ∙ ap (λ y. tail N (mate y)) a ∙ tail-m)
       | inr a ↦ goes.ends_apart (sym tail-h ∙ ap (tail N) (sym (ap mate a ∙ mate-mate h)) ∙ sym same ∙ ap (tail N) a ∙ tail-m)
@@ -486,7 +486,7 @@ module _ (M : Model) (sound : Sound M) (g k h f l : ℕ) (goes : MefGoes M g k h
 
   one_solid-mef : (x : ℕ) → HasHalf N x → solid_at N (loop_of N x) ≡ solid_at N (loop_of N (mate x))
   one_solid-mef x there = elim (half_cases x there) [
-    | inl o ↦ solid_old x o ∙ sound.one_solid x o ∙ sym (solid_old (mate x) (half_mate M sound x o))
+    | inl o ↦ solid_old x o ∙ sound.one_solid x o ∙ sym (solid_old (mate x) (mate_there M x o))
     | inr d ↦ elim d [
       | inl a ↦ ap (λ y. solid_at N (loop_of N y)) a ∙ solid_h ∙ sym (ap (λ y. solid_at N (loop_of N (mate y))) a ∙ solid_m)
       | inr a ↦ ap (λ y. solid_at N (loop_of N y)) a ∙ solid_m ∙ sym (ap (λ y. solid_at N (loop_of N y)) (ap mate a ∙ mate-mate h) ∙ solid_h)

@@ -1,5 +1,6 @@
 -- mekr as an operator: it keeps a model sound, and kemr passes its conditions after it and takes it back.
 use Rattle.std.proofs.Common.{◌≡◌, ℕ, List, ◌∷◌, ◌++◌, None, is_some, refl, sym, ap, ◌∙◌, subst, inl, inr}
+use Rattle.std.proofs.lemmas.Bool.{eq-eqb}
 use Rattle.euler_operators.specs.Rings.{canonical, between, beyond}
 use Rattle.euler_operators.proofs.Operators.{between_canonical, beyond_canonical}
 use Rattle.euler_operators.specs.declared.HalfEdge.{HalfEdge}
@@ -14,7 +15,7 @@ use Rattle.euler_operators.proofs.Tables.{remove-put}
 use Rattle.euler_operators.specs.declared.Op.TheVariants.{Kemr, Mekr}
 use Rattle.euler_operators.specs.Conditions.{first_false, conditions, corner_tail, corner_loop, corner_list}
 use Rattle.euler_operators.specs.Effect.{effect, inverse, kemr, mekr, cycle_or_lone, edge_row}
-use Rattle.euler_laws.proofs.shared.Goes.{none_refuses, not_false, taken, equals}
+use Rattle.euler_laws.proofs.shared.Goes.{none_refuses, not_false, taken}
 use Rattle.euler_laws.proofs.kemr.KemrSound as parted
 use Rattle.euler_laws.proofs.kemr.KemrSound.{KemrGoes}
 use Rattle.euler_laws.proofs.mekr.MekrSpots.{JoinGoes, join_goes}
@@ -33,7 +34,7 @@ kemr_accepted N h l sound goes = none_refuses (conditions N (Kemr h l)) (
       ap (λ x. is_some (table.get N.edges x)) (sym (edge_of-code h)) ∙ goes.h_there,
       (
         not_false _ (taken _ goes.loop_free),
-        (equals _ _ goes.one_loop, tt),
+        (eq-eqb _ _ goes.one_loop, tt),
       ),
     ),
   ),

@@ -14,9 +14,9 @@ use Rattle.euler_operators.specs.Table.{Table, tables}
 use Rattle.euler_operators.specs.Model.{Model, LoopContent, lone, cycle, LoopRow, items_of, holds, tail, loop_of, content, face_of, after, outer, no_loop, no_face, solid_of}
 use Rattle.euler_operators.specs.Sound.{Sound, Has, HasHalf, StandsIn, IsTail, IsLoneAt}
 use Rattle.euler_operators.proofs.Halves.{mate_other, edge_of-mate, mate-mate}
-use Rattle.euler_operators.proofs.Models.{in-holds, holds_in, never_lone}
+use Rattle.euler_operators.proofs.Models.{in-holds, holds_in, never_lone, mate_there}
 use Rattle.euler_operators.specs.Effect.{edge_row}
-use Rattle.euler_laws.proofs.shared.Fans.{Fan, fan_of, half_after, half_mate, loop_after}
+use Rattle.euler_laws.proofs.shared.Fans.{Fan, fan_of, half_after, loop_after}
 use Rattle.euler_laws.proofs.shared.Loops.{IsLoop, canonical_cycle, canonical_ring, loop_sound, Walks, loop_at, stands-walks, one_loop-walks, cycles-walks, ends_meet-walks, one_fan-walks}
 use Rattle.euler_laws.proofs.shared.Arcs.{fan_mef_first, fan_mef_second, fan_mef_other}
 use Rattle.euler_laws.proofs.shared.Same.{solid_at}
@@ -455,7 +455,7 @@ module _ (M : Model) (sound : Sound M) (h q l u w : ℕ) (Y X : List ℕ) (goes 
 
   ends_differ-mekr : (x : ℕ) → HasHalf N x → tail N x ≢ tail N (mate x)
   ends_differ-mekr x there same = elim (half_cases x there) [
-    | inl o ↦ sound.ends_differ x o (sym (tail_old x o) ∙ same ∙ tail_old (mate x) (half_mate M sound x o))
+    | inl o ↦ sound.ends_differ x o (sym (tail_old x o) ∙ same ∙ tail_old (mate x) (mate_there M x o))
     | inr d ↦ elim d [
       | inl a ↦ goes.ends_apart (sym tail-h ∙ ap (tail N) (sym a) ∙ same ∙ ap (λ y. tail N (mate y)) a ∙ tail-m)
       | inr a ↦ goes.ends_apart (sym tail-h ∙ ap (tail N) (sym (ap mate a ∙ mate-mate h)) ∙ sym same ∙ ap (tail N) a ∙ tail-m)
@@ -525,7 +525,7 @@ module _ (M : Model) (sound : Sound M) (h q l u w : ℕ) (Y X : List ℕ) (goes 
 
   one_solid-mekr : (x : ℕ) → HasHalf N x → solid_at N (loop_of N x) ≡ solid_at N (loop_of N (mate x))
   one_solid-mekr x there = elim (half_cases x there) [
-    | inl o ↦ solid_old x o ∙ sound.one_solid x o ∙ sym (solid_old (mate x) (half_mate M sound x o))
+    | inl o ↦ solid_old x o ∙ sound.one_solid x o ∙ sym (solid_old (mate x) (mate_there M x o))
     | inr d ↦ ap (solid_at N) (loop_new x d ∙ sym (loop_new (mate x) (elim d [ inl a ↦ inr (ap mate a) | inr a ↦ inl (ap mate a ∙ mate-mate h) ])))
   ]
 

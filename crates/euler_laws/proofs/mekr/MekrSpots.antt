@@ -1,6 +1,7 @@
 -- The corners that mekr joins: a loop, its vertex, and the half-edges of the loop from the corner on, none where it is lone.
 use Rattle.std.proofs.Common.{◌≡◌, ◌≢◌, ℕ, Bool, true, not, nat_eq, ◌&&◌, List, [], ◌∷◌, None, is_some, IsTrue, refl, sym, ap, ◌∙◌, subst, arith, ◌⊎◌, inl, inr}
 use Rattle.std.proofs.lemmas.Bool.Decides.{nat_tests}
+use Rattle.std.proofs.lemmas.Bool.{not-true, eqb-true, eqb-false}
 use Rattle.euler_operators.specs.Items.{count, IsIn, IsApart, head_or}
 use Rattle.euler_operators.specs.Rings.{canonical, rotate_to, rest, IsRing}
 use Rattle.euler_operators.proofs.Lists.{tick_same}
@@ -22,7 +23,7 @@ use Rattle.euler_operators.specs.Conditions.{first_false, conditions, corner_tai
 use Rattle.euler_operators.specs.Effect.{cycle_or_lone}
 use Rattle.euler_laws.proofs.shared.Loops.{light}
 use Rattle.euler_laws.proofs.shared.Rows.{items_or_lone, count_or_lone, lone_is}
-use Rattle.euler_laws.proofs.shared.Goes.{all_hold, not_true, equal, unequal}
+use Rattle.euler_laws.proofs.shared.Goes.{all_hold}
 
 -- loop q reads zs from a corner at vertex v on, or is lone there
 pub record Spot (M : Model) (q v : ℕ) (zs : List ℕ) : Type 0 where
@@ -82,12 +83,12 @@ join_goes M c d h sound e =
     record {
       first = spot_of M sound c t.0 t.1.1.0;
       second = spot_of M sound d t.1.0 t.1.1.1.0;
-      edge_free = ap (table.get M.edges) (edge_of-code h) ∙ no_row _ (not_true _ t.1.1.1.1.0);
+      edge_free = ap (table.get M.edges) (edge_of-code h) ∙ no_row _ (not-true _ t.1.1.1.1.0);
       edge_fits = ap is_number (edge_of-code h) ∙ w.1.1.0;
-      loops_apart = unequal _ _ (not_true _ t.1.1.1.1.1.0);
-      one_face = equal _ _ t.1.1.1.1.1.1.0;
+      loops_apart = eqb-false _ _ (not-true _ t.1.1.1.1.1.0);
+      one_face = eqb-true _ _ t.1.1.1.1.1.1.0;
       no_outer = ring_is (table.has M.loops (corner_loop M d)) (face_of M (corner_loop M d)) (outer M (face_of M (corner_loop M d))) (corner_loop M d) t.1.1.1.1.1.1.1.0;
-      ends_apart = unequal _ _ (not_true _ t.1.1.1.1.1.1.1.1.0);
+      ends_apart = eqb-false _ _ (not-true _ t.1.1.1.1.1.1.1.1.0);
     }
 
 first_of : (k : ℕ) (zs : List ℕ) → ((zs ≡ []) × (head_or k zs ≡ k)) ⊎ ((ys : List ℕ) × (zs ≡ head_or k zs ∷ ys))

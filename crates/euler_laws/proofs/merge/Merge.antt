@@ -2,17 +2,17 @@
 use Rattle.std.proofs.Common.{◌≡◌, ◌≢◌, ℕ, Bool, true, false, cond, nat_eq, Option, Some, None, unwrap_or, is_some, refl, sym, ap, ◌∙◌, subst, arith, inl, inr, true≢false}
 use Rattle.std.specs.Option.{option_map}
 use Rattle.std.proofs.lemmas.Bool.Decides.{nat_tests, eqb_tells}
+use Rattle.std.proofs.lemmas.Bool.{not-true, ne_eqb, eqb-false}
 use Rattle.euler_operators.specs.HalfEdge.{mate}
 use Rattle.euler_operators.specs.Table as table
 use Rattle.euler_operators.specs.Table.{map_rows, get-map_rows, tables}
 use Rattle.euler_operators.specs.Model.{Model, FaceRow, no_face, no_loop, loop_of, content, face_of, solid_of, outer}
 use Rattle.euler_operators.specs.Sound.{Sound, Has, HasHalf, NumbersFit}
-use Rattle.euler_operators.proofs.Models.{row_of}
+use Rattle.euler_operators.proofs.Models.{row_of, mate_there}
 use Rattle.euler_operators.specs.declared.Op.TheVariants.{Merge}
 use Rattle.euler_operators.specs.Conditions.{first_false, conditions}
 use Rattle.euler_operators.specs.Effect.{effect, merge, faces_to_solid}
-use Rattle.euler_laws.proofs.shared.Goes.{all_hold, none_refuses, not_true, not_false, unequal, differs}
-use Rattle.euler_laws.proofs.shared.Fans.{half_mate}
+use Rattle.euler_laws.proofs.shared.Goes.{all_hold, none_refuses, not_false}
 use Rattle.euler_laws.proofs.shared.Rows.{face_there}
 use Rattle.euler_laws.proofs.shared.Faces.{sound-same}
 
@@ -148,18 +148,18 @@ module _ (M : Model) (sound : Sound M) (s t : ℕ) (goes : MergeGoes M s t) wher
   sound-merge = sound-solids M N merge_other sound
       (λ q there. subst (Has N.solids) (sym (solid_new q there)) (joined_there (solid_of M q) (sound.faces_of_solids q there)))
       (λ n there. let x = sound.solid_has_face n (solid_back n there) in (x.0, x.1, solid_new x.0 x.1 ∙ ap (joined s t) x.2 ∙ joined_same n (not_t n there)))
-      (λ x there. solid_new _ (face_loop x there) ∙ ap (joined s t) (sound.one_solid x there) ∙ sym (solid_new _ (face_loop (mate x) (half_mate M sound x there))))
+      (λ x there. solid_new _ (face_loop x there) ∙ ap (joined s t) (sound.one_solid x there) ∙ sym (solid_new _ (face_loop (mate x) (mate_there M x there))))
       (λ n there. sound.solids_fit n (solid_back n there))
 
 pub merge_goes : (M : Model) (s t : ℕ) → first_false M (Merge s t) ≡ None → MergeGoes M s t
 unfolding first_false conditions
-merge_goes M s t e = let w = all_hold (conditions M (Merge s t)) e in let x = w.1.1 in record { s_there = x.0; t_there = x.1.0; apart = unequal _ _ (not_true _ x.1.1.0) }
+merge_goes M s t e = let w = all_hold (conditions M (Merge s t)) e in let x = w.1.1 in record { s_there = x.0; t_there = x.1.0; apart = eqb-false _ _ (not-true _ x.1.1.0) }
 
 pub merge_accepted : (N : Model) (s t : ℕ) → Sound N → MergeGoes N s t → first_false N (Merge s t) ≡ None
 unfolding first_false conditions
 merge_accepted N s t sound goes = none_refuses (conditions N (Merge s t)) (
   sound.solids_fit s goes.s_there,
-  (sound.solids_fit t goes.t_there, (goes.s_there, (goes.t_there, (not_false _ (differs _ _ goes.apart), tt)))),
+  (sound.solids_fit t goes.t_there, (goes.s_there, (goes.t_there, (not_false _ (ne_eqb _ _ goes.apart), tt)))),
 )
 
 pub merge_keeps_sound : (M : Model) (s t : ℕ) → Sound M → first_false M (Merge s t) ≡ None → Sound (effect M (Merge s t))

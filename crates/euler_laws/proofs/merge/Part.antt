@@ -1,20 +1,21 @@
 -- part as an operator: it keeps a sound model sound. merge and part pass their conditions after each other, and take each other back.
 use Rattle.std.proofs.Common.{◌≡◌, ◌≢◌, ℕ, Bool, true, false, cond, not, nat_eq, ◌&&◌, ◌||◌, List, [], ◌∷◌, ◌++◌, Some, None, unwrap_or, is_some, IsTrue, refl, sym, ap, ◌∙◌, subst, arith, inl, inr, true≢false}
 use Rattle.std.proofs.lemmas.Bool.Decides.{nat_tests, eqb_tells}
+use Rattle.std.proofs.lemmas.Bool.{not-true, not-false, eq-eqb, eqb-true}
 use Rattle.euler_operators.specs.HalfEdge.{mate, edge_of, plus, minus}
 use Rattle.euler_operators.specs.Table as table
 use Rattle.euler_operators.specs.Table.{Table, map_rows, tables}
 use Rattle.euler_operators.specs.Model.{Model, FaceRow, no_face, loop_of, face_of, solid_of, outer, is_number, faces_of}
 use Rattle.euler_operators.specs.Sound.{Sound, Has, HasHalf}
 use Rattle.euler_operators.proofs.Halves.{plus_row, mate_plus, mate_minus}
-use Rattle.euler_operators.proofs.Tables.{put-remove, remove-put, map_same, first_where_zero, zero_first_where, no_row}
+use Rattle.euler_operators.proofs.Tables.{put-remove, remove-put, map_same, first_where_zero, zero_first_where, no_row, row_some}
 use Rattle.euler_operators.proofs.Tests.{and_false}
+use Rattle.euler_operators.proofs.Models.{mate_there}
 use Rattle.euler_operators.specs.declared.Op.TheVariants.{Merge, Part}
 use Rattle.euler_operators.specs.Conditions.{Condition, AllHold, first_false, conditions, numbers_in_range, faces_known, faces_in, face_at, lists, lists_all, strictly_rises, is_empty, torn_edge, differ}
 use Rattle.euler_operators.specs.Effect.{effect, inverse, merge, part, faces_to_solid}
-use Rattle.euler_laws.proofs.shared.Goes.{all_hold, none_refuses, not_true, not_false, taken, equal, equals, not_back, no_zero, all_hold-append}
-use Rattle.euler_laws.proofs.shared.Fans.{half_mate, half_face}
-use Rattle.euler_laws.proofs.shared.Loops.{some_row}
+use Rattle.euler_laws.proofs.shared.Goes.{all_hold, none_refuses, not_false, taken, no_zero, all_hold-append}
+use Rattle.euler_laws.proofs.shared.Fans.{half_face}
 use Rattle.euler_laws.proofs.shared.Arcs.{halves_of_edge}
 use Rattle.euler_laws.proofs.shared.Same.{map_twice}
 use Rattle.euler_laws.proofs.shared.Rows.{face_there, solid_row}
@@ -94,7 +95,7 @@ module _ (M : Model) (sound : Sound M) (s t : ℕ) (fs : List ℕ) (goes : PartG
         | inl e ↦ let o = goes.listed in (o.0, (goes.each o.0 o.1).0, solid_listed o.0 o.1 ∙ sym e.1)
         | inr e ↦ let x = sound.solid_has_face n (solid_back n e.1 there) in face_of_solid n x.0 (lists fs x.0) refl x.1 x.2 e.1
       ])
-      (λ x there. solid_new _ (half_face M sound x there) ∙ (λ i. cond (goes.whole x there i) t (sound.one_solid x there i)) ∙ sym (solid_new _ (half_face M sound (mate x) (half_mate M sound x there))))
+      (λ x there. solid_new _ (half_face M sound x there) ∙ (λ i. cond (goes.whole x there i) t (sound.one_solid x there i)) ∙ sym (solid_new _ (half_face M sound (mate x) (mate_there M x there))))
       (λ n there. elim (eqb_tells n t) [ inl e ↦ subst (λ y. IsTrue (is_number y)) (sym e.1) goes.t_fits | inr e ↦ sound.solids_fit n (solid_back n e.1 there) ]) where
         either : (b : Bool) (q : ℕ) → Has M.solids (solid_of M q) → Has N.solids (cond b t (solid_of M q))
         either true q there = t_new
@@ -139,7 +140,7 @@ module _ (M : Model) (sound : Sound M) (s t : ℕ) (goes : MergeGoes M s t) wher
   listed_face : (q : ℕ) → lists (faces_of M t) q ≡ true → Has M.faces q × (solid_of M q ≡ t)
   unfolding solid_of
   listed_face q l = let x = listed_passes (λ _ row. nat_eq row.solid t) M.faces q l in
-      (ap is_some x.1, ap (λ o. (unwrap_or o no_face).solid) x.1 ∙ equal x.0.solid t x.2)
+      (ap is_some x.1, ap (λ o. (unwrap_or o no_face).solid) x.1 ∙ eqb-true x.0.solid t x.2)
 
   face_at_same : (x : ℕ) → face_at J x ≡ face_at M x
   face_at_same x = let o = joins.merge_other M sound s t goes in ap (face_of J) (loop_same M J o x) ∙ face_same M J o (loop_of M x)
@@ -157,13 +158,13 @@ module _ (M : Model) (sound : Sound M) (s t : ℕ) (goes : MergeGoes M s t) wher
     t_free = joins.solid_gone M sound s t goes;
     t_fits = sound.solids_fit t goes.t_there;
     each = λ f l. let x = listed_face f l in (face_on f x.0, joins.solid_new M sound s t goes f x.0 ∙ ap (joins.joined s t) x.1 ∙ joins.joined_t M sound s t goes);
-    listed = let x = sound.solid_has_face t goes.t_there in (x.0, face_listed x.0 x.1 ∙ equals (solid_of M x.0) t x.2);
+    listed = let x = sound.solid_has_face t goes.t_there in (x.0, face_listed x.0 x.1 ∙ eq-eqb (solid_of M x.0) t x.2);
     rises = all_where-rises (λ _ row. nat_eq row.solid t) M.faces;
     left = let x = sound.solid_has_face s goes.s_there in
         (x.0, face_on x.0 x.1, joins.solid_new M sound s t goes x.0 x.1 ∙ ap (joins.joined s t) x.2 ∙ joins.joined_same M sound s t goes s goes.apart, face_listed x.0 x.1 ∙ ap (λ n. nat_eq n t) x.2 ∙ s_not_t);
     whole = λ x h. let there = half_back x h in
         ap (lists (faces_of M t)) (face_at_same x) ∙ face_listed (face_at M x) (half_face M sound x there) ∙ ap (λ n. nat_eq n t) (sound.one_solid x there)
-        ∙ sym (ap (lists (faces_of M t)) (face_at_same (mate x)) ∙ face_listed (face_at M (mate x)) (half_face M sound (mate x) (half_mate M sound x there)));
+        ∙ sym (ap (lists (faces_of M t)) (face_at_same (mate x)) ∙ face_listed (face_at M (mate x)) (half_face M sound (mate x) (mate_there M x there)));
   } where
     s_not_t : nat_eq s t ≡ false
     s_not_t = let a = goes.apart in grind (arith, nat_tests)
@@ -172,7 +173,7 @@ module _ (M : Model) (sound : Sound M) (s t : ℕ) (goes : MergeGoes M s t) wher
       faces_to_solid (λ f _. lists (faces_of M t) f) t q (faces_to_solid (λ _ row. nat_eq row.solid t) s q row) ≡ row
   row_home q row at = ap (λ b. cond b (record (cond (nat_eq row.solid t) (record row { solid = s }) row) { solid = t }) (cond (nat_eq row.solid t) (record row { solid = s }) row))
       (listed_as (λ _ row. nat_eq row.solid t) M.faces q row at)
-      ∙ go (nat_eq row.solid t) (λ e. equal row.solid t e) where
+      ∙ go (nat_eq row.solid t) (λ e. eqb-true row.solid t e) where
         go : (b : Bool) → (b ≡ true → row.solid ≡ t) → cond b (record (cond b (record row { solid = s }) row) { solid = t }) (cond b (record row { solid = s }) row) ≡ row
         go true e = λ i. record { solid = sym (e refl) i; outer = row.outer }
         go false e = refl
@@ -207,11 +208,11 @@ hold_known M (g ∷ fs) h f l = elim (listed_cases g f fs l) [ inl e ↦ ap (tab
 
 in_hold : (M : Model) (s : ℕ) (fs : List ℕ) → ((f : ℕ) → lists fs f ≡ true → solid_of M f ≡ s) → AllHold (faces_in M s fs)
 in_hold M s [] each = tt
-in_hold M s (f ∷ fs) each = (equals _ _ (each f (first_listed f fs)), in_hold M s fs (λ q l. each q (rest_listed f q fs l)))
+in_hold M s (f ∷ fs) each = (eq-eqb _ _ (each f (first_listed f fs)), in_hold M s fs (λ q l. each q (rest_listed f q fs l)))
 
 hold_in : (M : Model) (s : ℕ) (fs : List ℕ) → AllHold (faces_in M s fs) → (f : ℕ) → lists fs f ≡ true → solid_of M f ≡ s
 hold_in M s [] h f l = absurd (true≢false (sym l))
-hold_in M s (g ∷ fs) h f l = elim (listed_cases g f fs l) [ inl e ↦ ap (solid_of M) e ∙ equal _ _ h.0 | inr r ↦ hold_in M s fs h.1 f r ]
+hold_in M s (g ∷ fs) h f l = elim (listed_cases g f fs l) [ inl e ↦ ap (solid_of M) e ∙ eqb-true _ _ h.0 | inr r ↦ hold_in M s fs h.1 f r ]
 
 -- the four causes of a bad part
 or_false : (a b c d : Bool) → a ≡ false → b ≡ false → c ≡ false → d ≡ false → (a || b || c || d) ≡ false
@@ -269,7 +270,7 @@ not_torn M fs whole = first_where_zero (λ e _. differ (lists fs (face_at M (plu
 
 torn_not : (M : Model) (fs : List ℕ) → Sound M → torn_edge M fs ≡ 0 → (x : ℕ) → HasHalf M x → lists fs (face_at M x) ≡ lists fs (face_at M (mate x))
 torn_not M fs sound z x there =
-    let w = some_row (table.get M.edges (edge_of x)) there in
+    let w = row_some (table.get M.edges (edge_of x)) there in
     let e : lists fs (face_at M (plus (edge_of x))) ≡ lists fs (face_at M (minus (edge_of x))) = means_same _ _
     (zero_first_where (λ e _. differ (lists fs (face_at M (plus e))) (lists fs (face_at M (minus e)))) M.edges (λ q row at s. no_zero q s (sound.edges_fit q (ap is_some at))) z (edge_of x) w.0 w.1) in
     elim (halves_of_edge x) [
@@ -280,10 +281,10 @@ torn_not M fs sound z x there =
 face_in : (M : Model) (s q : ℕ) → lists (faces_of M s) q ≡ true → Has M.faces q × (solid_of M q ≡ s)
 unfolding solid_of
 face_in M s q l = let x = listed_passes (λ _ row. nat_eq row.solid s) M.faces q l in
-    (ap is_some x.1, ap (λ o. (unwrap_or o no_face).solid) x.1 ∙ equal x.0.solid s x.2)
+    (ap is_some x.1, ap (λ o. (unwrap_or o no_face).solid) x.1 ∙ eqb-true x.0.solid s x.2)
 
 in_faces : (M : Model) (s q : ℕ) → Has M.faces q → solid_of M q ≡ s → lists (faces_of M s) q ≡ true
-in_faces M s q there e = passes_listed (λ _ row. nat_eq row.solid s) M.faces q (record { solid = solid_of M q; outer = outer M q }) (face_there M q there) (equals _ _ e)
+in_faces M s q there e = passes_listed (λ _ row. nat_eq row.solid s) M.faces q (record { solid = solid_of M q; outer = outer M q }) (face_there M q there) (eq-eqb _ _ e)
 
 pub part_goes : (M : Model) (s t : ℕ) (fs : List ℕ) → Sound M → first_false M (Part s t fs) ≡ None → PartGoes M s t fs
 unfolding first_false conditions
@@ -292,18 +293,18 @@ part_goes M s t fs sound e =
     let x = (all_split (numbers_in_range fs) _ w.1.1).1 in
     let y = all_split (faces_known M fs ++ faces_in M s fs) _ x.1.1 in
     let z = all_split (faces_known M fs) (faces_in M s fs) y.0 in
-    let n = false_or (is_empty fs) (not (strictly_rises fs)) (lists_all fs (faces_of M s)) (not (nat_eq (torn_edge M fs) 0)) (not_true _ y.1.0) in
+    let n = false_or (is_empty fs) (not (strictly_rises fs)) (lists_all fs (faces_of M s)) (not (nat_eq (torn_edge M fs) 0)) (not-true _ y.1.0) in
     let o = left_out fs (faces_of M s) n.third in
     let i = face_in M s o.0 o.1 in
     record {
       s_there = x.0;
-      t_free = no_row _ (not_true _ x.1.0);
+      t_free = no_row _ (not-true _ x.1.0);
       t_fits = w.1.0;
       each = λ f l. (hold_known M fs z.0 f l, hold_in M s fs z.1 f l);
       listed = some_listed fs n.first;
-      rises = not_back (strictly_rises fs) n.second;
+      rises = not-false (strictly_rises fs) n.second;
       left = (o.0, i.0, i.1, o.2);
-      whole = torn_not M fs sound (equal _ _ (not_back (nat_eq (torn_edge M fs) 0) n.fourth));
+      whole = torn_not M fs sound (eqb-true _ _ (not-false (nat_eq (torn_edge M fs) 0) n.fourth));
     }
 
 pub part_accepted : (N : Model) (s t : ℕ) (fs : List ℕ) → Sound N → PartGoes N s t fs → first_false N (Part s t fs) ≡ None
@@ -323,7 +324,7 @@ part_accepted N s t fs sound goes =
                   (listed_some fs goes.listed.0 goes.listed.1)
                   (ap not goes.rises)
                   (out_left fs (faces_of N s) o.0 (in_faces N s o.0 o.1 o.2) o.3)
-                  (ap not (equals _ _ (not_torn N fs goes.whole)))),
+                  (ap not (eq-eqb _ _ (not_torn N fs goes.whole)))),
               tt,
             ),
           ),

@@ -1,5 +1,6 @@
 -- mev as an operator: what its conditions say, and that it keeps a model sound.
 use Rattle.std.proofs.Common.{◌≡◌, ℕ, true, None, refl, sym, ap, ◌∙◌}
+use Rattle.std.proofs.lemmas.Bool.{not-true, eq-eqb, eqb-true}
 use Rattle.euler_operators.specs.declared.Point.{Point}
 use Rattle.euler_operators.specs.declared.HalfEdge.{HalfEdge}
 use Rattle.euler_operators.specs.declared.Corner.{Corner}
@@ -13,7 +14,7 @@ use Rattle.euler_operators.proofs.Tables.{no_row}
 use Rattle.euler_operators.specs.declared.Op.TheVariants.{Mev}
 use Rattle.euler_operators.specs.Conditions.{first_false, conditions, lone_vertex, is_lone}
 use Rattle.euler_operators.specs.Effect.{effect}
-use Rattle.euler_laws.proofs.shared.Goes.{all_hold, none_refuses, not_true, not_false, taken, equal, equals}
+use Rattle.euler_laws.proofs.shared.Goes.{all_hold, none_refuses, not_false, taken}
 use Rattle.euler_laws.proofs.mev.MevSound.{MevGoes, sound-mev}
 use Rattle.euler_laws.proofs.mev.MevLoneSound.{LoneGoes, sound-mev_lone}
 use Rattle.euler_laws.proofs.shared.Rows.{half_of, of_half, lone_is, is_lone_of}
@@ -26,9 +27,9 @@ mev_goes M g k h v p e =
     record {
       g_there = half_of M g t.0;
       k_there = half_of M k t.1.0;
-      edge_free = ap (table.get M.edges) (edge_of-code h) ∙ no_row _ (not_true _ t.1.1.1.1.0);
-      vertex_free = no_row _ (not_true _ t.1.1.1.1.1.0);
-      one_tail = sym (equal _ _ t.1.1.1.1.1.1.1.0);
+      edge_free = ap (table.get M.edges) (edge_of-code h) ∙ no_row _ (not-true _ t.1.1.1.1.0);
+      vertex_free = no_row _ (not-true _ t.1.1.1.1.1.0);
+      one_tail = sym (eqb-true _ _ t.1.1.1.1.1.1.1.0);
       edge_fits = ap is_number (edge_of-code h) ∙ w.1.1.0;
       vertex_fits = w.1.1.1.0;
       point_fits = t.1.1.1.1.1.1.0;
@@ -58,7 +59,7 @@ mev_accepted N g k h v p sound goes = none_refuses (conditions N (Mev (At g) (At
                     not_false _ (taken _ goes.vertex_free),
                     (
                       goes.point_fits,
-                      (equals _ _ (sym goes.one_tail), tt),
+                      (eq-eqb _ _ (sym goes.one_tail), tt),
                     ),
                   ),
                 ),
@@ -81,8 +82,8 @@ lone_goes M l d h v p e =
     record {
       is_lone = lone_is (content M l) t.1.1.0;
       loop_there = t.0;
-      edge_free = ap (table.get M.edges) (edge_of-code h) ∙ no_row _ (not_true _ t.1.1.1.1.0);
-      vertex_free = no_row _ (not_true _ t.1.1.1.1.1.0);
+      edge_free = ap (table.get M.edges) (edge_of-code h) ∙ no_row _ (not-true _ t.1.1.1.1.0);
+      vertex_free = no_row _ (not-true _ t.1.1.1.1.1.0);
       edge_fits = ap is_number (edge_of-code h) ∙ w.1.1.0;
       vertex_fits = w.1.1.1.0;
       point_fits = t.1.1.1.1.1.1.0;
@@ -115,7 +116,7 @@ lone_accepted N l h v u p sound goes =
                         not_false _ (taken _ goes.vertex_free),
                         (
                           goes.point_fits,
-                          (equals _ _ refl, tt),
+                          (eq-eqb _ _ refl, tt),
                         ),
                       ),
                     ),
@@ -134,14 +135,14 @@ unfolding first_false conditions
 mixed_first M g l h v p sound e =
     let w = all_hold (conditions M (Mev (At g) (Lone l) h v p)) e in
     let t = w.1.1.1.1 in
-    sound.lone_is_no_tail l (code g) (half_of M g t.0) (lone_is (content M l) t.1.1.1.0 ∙ ap lone (sym (equal _ _ t.1.1.1.1.1.1.1.0)))
+    sound.lone_is_no_tail l (code g) (half_of M g t.0) (lone_is (content M l) t.1.1.1.0 ∙ ap lone (sym (eqb-true _ _ t.1.1.1.1.1.1.1.0)))
 
 pub mixed_second : (M : Model) (l : ℕ) (k h : HalfEdge) (v : ℕ) (p : Point) → Sound M → first_false M (Mev (Lone l) (At k) h v p) ≡ None → ⊥
 unfolding first_false conditions
 mixed_second M l k h v p sound e =
     let w = all_hold (conditions M (Mev (Lone l) (At k) h v p)) e in
     let t = w.1.1.1.1 in
-    sound.lone_is_no_tail l (code k) (half_of M k t.1.0) (lone_is (content M l) t.1.1.0 ∙ ap lone (equal _ _ t.1.1.1.1.1.1.1.0))
+    sound.lone_is_no_tail l (code k) (half_of M k t.1.0) (lone_is (content M l) t.1.1.0 ∙ ap lone (eqb-true _ _ t.1.1.1.1.1.1.1.0))
 
 pub mev_keeps_sound : (M : Model) (c d : Corner) (h : HalfEdge) (v : ℕ) (p : Point) → Sound M → first_false M (Mev c d h v p) ≡ None → Sound (effect M (Mev c d h v p))
 unfolding effect

@@ -14,10 +14,10 @@ use Rattle.euler_operators.specs.Table.{Table, tables}
 use Rattle.euler_operators.specs.Model.{Model, LoopContent, lone, cycle, LoopRow, items_of, holds, tail, loop_of, content, face_of, after, no_loop, is_number}
 use Rattle.euler_operators.specs.Sound.{Sound, Has, HasHalf, StandsIn, IsTail, IsLoneAt, NumbersFit}
 use Rattle.euler_operators.proofs.Halves.{mate_other, edge_of-mate, mate-mate}
-use Rattle.euler_operators.proofs.Models.{no_tail, in-holds, holds_in, never_lone}
+use Rattle.euler_operators.proofs.Models.{no_tail, in-holds, holds_in, never_lone, mate_there}
 use Rattle.euler_operators.specs.Conditions.{lone_vertex}
 use Rattle.euler_operators.specs.Effect.{mev_lone, edge_row}
-use Rattle.euler_laws.proofs.shared.Fans.{Fan, fan_of, half_mate}
+use Rattle.euler_laws.proofs.shared.Fans.{Fan, fan_of}
 use Rattle.euler_laws.proofs.shared.Loops.{IsLoop, canonical_cycle, canonical_ring, loop_sound, Walks, loop_at, stands-walks, one_loop-walks, cycles-walks, ends_meet-walks, one_fan-walks, after-walks, one_vertex}
 use Rattle.euler_laws.proofs.shared.Same.{SameFaces, solid_at, loops_of_faces-same, outers_there-same, faces_of_solids-same, solid_has_face-same, solids_fit-same, faces_fit-same, loops_fit-same, solid_at-same}
 use Rattle.euler_laws.proofs.shared.Rows.{one_row}
@@ -226,7 +226,7 @@ module _ (M : Model) (sound : Sound M) (l h v u : ℕ) (p : Point) (goes : LoneG
   fan_else x o = let f = fan_of M sound x o in
       more.fan_stays M N h u v edges_are goes.edge_free (after M) F (tail M x) f (λ e. never_u x o (sym e)) (λ e. never_v x o (sym e))
       (IsPath-agree (λ y. after M (mate y)) (λ y. F (mate y)) f.items (head_or 0 f.items)
-      (λ y i. let t = half_mate M sound y (f.of_it y i).0 in sym (F_old (mate y) (not_h (mate y) t) (not_m (mate y) t))) f.ring)
+      (λ y i. let t = mate_there M y (f.of_it y i).0 in sym (F_old (mate y) (not_h (mate y) t) (not_m (mate y) t))) f.ring)
 
   fans : (x : ℕ) → HasHalf N x → Fan F N (tail N x)
   fans x there = elim (half_cases x there) [
@@ -276,7 +276,7 @@ module _ (M : Model) (sound : Sound M) (l h v u : ℕ) (p : Point) (goes : LoneG
 
   ends_differ-lone : (x : ℕ) → HasHalf N x → tail N x ≢ tail N (mate x)
   ends_differ-lone x there same = elim (half_cases x there) [
-    | inl o ↦ sound.ends_differ x o (sym (tail_old x o) ∙ same ∙ tail_old (mate x) (half_mate M sound x o))
+    | inl o ↦ sound.ends_differ x o (sym (tail_old x o) ∙ same ∙ tail_old (mate x) (mate_there M x o))
     | inr d ↦ elim d [
       | inl q ↦ u_v (sym tail-h ∙ ap (tail N) (sym q) ∙ same ∙ ap (λ y. tail N (mate y)) q ∙ tail-m)
       | inr q ↦ u_v (sym tail-h ∙ ap (tail N) (sym (ap mate q ∙ mate-mate h)) ∙ sym same ∙ ap (tail N) q ∙ tail-m)
@@ -306,7 +306,7 @@ module _ (M : Model) (sound : Sound M) (l h v u : ℕ) (p : Point) (goes : LoneG
 
   one_solid-lone : (x : ℕ) → HasHalf N x → solid_at N (loop_of N x) ≡ solid_at N (loop_of N (mate x))
   one_solid-lone x there = elim (half_cases x there) [
-    | inl o ↦ old x o ∙ sound.one_solid x o ∙ sym (old (mate x) (half_mate M sound x o))
+    | inl o ↦ old x o ∙ sound.one_solid x o ∙ sym (old (mate x) (mate_there M x o))
     | inr d ↦ ap (solid_at N) (at x d ∙ sym (at (mate x) (elim d [ inl e ↦ inr (ap mate e) | inr e ↦ inl (ap mate e ∙ mate-mate h) ])))
   ] where
     old : (y : ℕ) → HasHalf M y → solid_at N (loop_of N y) ≡ solid_at M (loop_of M y)

@@ -15,9 +15,9 @@ use Rattle.euler_operators.specs.Table.{Table, tables}
 use Rattle.euler_operators.specs.Model.{Model, LoopContent, lone, cycle, LoopRow, EdgeRow, items_of, holds, tail, loop_of, content, after, arc, tail_in, no_edge, is_number}
 use Rattle.euler_operators.specs.Sound.{Sound, Has, HasHalf, StandsIn, IsTail, IsLoneAt, NumbersFit}
 use Rattle.euler_operators.proofs.Halves.{mate_other, edge_of-mate, mate-mate, same_edge}
-use Rattle.euler_operators.proofs.Models.{tail_row, no_tail, in-holds, holds_in, cycle_there}
+use Rattle.euler_operators.proofs.Models.{tail_row, no_tail, in-holds, holds_in, cycle_there, mate_there}
 use Rattle.euler_operators.specs.Effect.{mev_at, edge_row, with_before, with_tails}
-use Rattle.euler_laws.proofs.shared.Fans.{Fan, fan_of, half_mate}
+use Rattle.euler_laws.proofs.shared.Fans.{Fan, fan_of}
 use Rattle.euler_laws.proofs.shared.Loops.{IsLoop, put_before, put_none, put_lone, lone_put, count_put_there, count_put_none, loop_put, loop_sound, none_free, Walks, loop_at, stands-walks, one_loop-walks, cycles-walks, ends_meet-walks, one_fan-walks}
 use Rattle.euler_laws.proofs.shared.Arcs.{halves_of_edge, arc_is, fan_mev, fan_mev_other}
 use Rattle.euler_laws.proofs.shared.Same.{map_twice, Rewritten, content-new, face-same, loop-same, SameFaces, solid_at, loops_of_faces-same, outers_there-same, faces_of_solids-same, solid_has_face-same, solids_fit-same, faces_fit-same, loops_fit-same, solid_at-same, one_solid_round}
@@ -414,12 +414,12 @@ module _ (M : Model) (sound : Sound M) (g k h v : ℕ) (p : Point) (goes : MevGo
   pub other_end : (x : ℕ) → IsIn x moved → HasHalf M (mate x) × (tail N (mate x) ≢ v)
   other_end x j =
       let o = moved_old x j in
-      let t = half_mate M sound x o.0 in
+      let t = mate_there M x o.0 in
       (t, λ e. never_v (mate x) t (sym (tail_kept (mate x) t (not_moved (mate x) (λ s. sound.ends_differ x o.0 (o.1 ∙ sym s)))) ∙ e))
 
   pub ends_differ-mev : (x : ℕ) → HasHalf N x → tail N x ≢ tail N (mate x)
   ends_differ-mev x there same = elim (half_cases x there) [
-    | inl o ↦ let t = half_mate M sound x o in elim (IsIn_or_not x moved) [
+    | inl o ↦ let t = mate_there M x o in elim (IsIn_or_not x moved) [
       | inl j ↦ (other_end x j).1 (sym same ∙ tail_moved x o j)
       | inr z ↦ elim (IsIn_or_not (mate x) moved) [
         | inl j ↦ never_v x o (sym (tail_kept x o z) ∙ same ∙ tail_moved (mate x) t j)
@@ -467,7 +467,7 @@ module _ (M : Model) (sound : Sound M) (g k h v : ℕ) (p : Point) (goes : MevGo
 
   pub one_solid-mev : (x : ℕ) → HasHalf N x → solid_at N (loop_of N x) ≡ solid_at N (loop_of N (mate x))
   one_solid-mev x there = elim (half_cases x there) [
-    | inl o ↦ old x o ∙ sound.one_solid x o ∙ sym (old (mate x) (half_mate M sound x o))
+    | inl o ↦ old x o ∙ sound.one_solid x o ∙ sym (old (mate x) (mate_there M x o))
     | inr d ↦ elim d [
       | inl e ↦ ap (λ y. solid_at N (loop_of N y)) e ∙ at_h ∙ sym (ap (λ y. solid_at N (loop_of N (mate y))) e ∙ at_m)
       | inr e ↦ ap (λ y. solid_at N (loop_of N y)) e ∙ at_m ∙ sym (ap (λ y. solid_at N (loop_of N y)) (ap mate e ∙ mate-mate h) ∙ at_h)

@@ -5,8 +5,8 @@ use Rattle.euler_operators.specs.Items.{count, tick, IsIn}
 use Rattle.euler_operators.proofs.Lists.{tick_same, tick_other}
 use Rattle.euler_operators.specs.Table.{Table, get, all_where}
 use Rattle.euler_operators.specs.Conditions.{lists, strictly_rises}
-use Rattle.euler_laws.proofs.shared.Listed.{first_listed, rest_listed, listed_cases, listed_passes, passes_listed}
-use Rattle.euler_laws.proofs.shared.RisingLists.{rest_rises, above_first}
+use Rattle.euler_laws.proofs.shared.Listed.{first_listed, rest_listed, listed_passes, passes_listed, IsIn-from_listed, listed-from_in}
+use Rattle.euler_laws.proofs.Sizes.{rises_on, rises_apart}
 
 -- a number that isn't listed stands nowhere in the list
 pub none_counted : (x : ℕ) (ns : List ℕ) → lists ns x ≡ false → count x ns ≡ 0
@@ -23,27 +23,15 @@ pub counted_once : (x : ℕ) (ns : List ℕ) → strictly_rises ns ≡ true → 
 counted_once x [] r = omega arith
 counted_once x (n ∷ ns) r = elim (eqb_tells x n) [
   | inl p ↦ omega (arith, ap (λ k. tick x k) (sym p.1), tick_same x, none_counted x ns (not_later (lists ns x) refl p.1))
-  | inr p ↦ omega (arith, tick_other x n p.1, counted_once x ns (rest_rises n ns r))
+  | inr p ↦ omega (arith, tick_other x n p.1, counted_once x ns (rises_on n ns r))
 ] where
   not_later : (b : Bool) → lists ns x ≡ b → x ≡ n → lists ns x ≡ false
-  not_later true q e = absurd (omega (arith, above_first n x ns r q, e))
+  not_later true q e = absurd (omega (arith, rises_apart n x ns r q, e))
   not_later false q e = q
-
--- what stands in the list is listed
-pub in_listed : (x : ℕ) (ns : List ℕ) → IsIn x ns → lists ns x ≡ true
-in_listed x ns i = go (lists ns x) refl where
-  go : (b : Bool) → lists ns x ≡ b → lists ns x ≡ true
-  go true e = e
-  go false e = absurd (omega (arith, none_counted x ns e))
-
--- what is listed stands in the list
-pub listed_in : (x : ℕ) (ns : List ℕ) → lists ns x ≡ true → IsIn x ns
-listed_in x [] l = absurd (true≢false (sym l))
-listed_in x (n ∷ ns) l = elim (listed_cases n x ns l) [ inl e ↦ omega (arith, ap (λ k. tick k n) e, tick_same n) | inr e ↦ omega (arith, listed_in x ns e) ]
 
 -- the numbers of a table whose rows pass a test
 pub all_where_has : {X : Type 0} (p : ℕ → X → Bool) (t : Table X) (n : ℕ) → IsIn n (all_where p t) → (x : X) × (get t n ≡ Some x) × (p n x ≡ true)
-all_where_has p t n i = listed_passes p t n (in_listed n (all_where p t) i)
+all_where_has p t n i = listed_passes p t n (listed-from_in n (all_where p t) i)
 
 pub all_where_in : {X : Type 0} (p : ℕ → X → Bool) (t : Table X) (n : ℕ) (x : X) → get t n ≡ Some x → p n x ≡ true → IsIn n (all_where p t)
-all_where_in p t n x at e = listed_in n (all_where p t) (passes_listed p t n x at e)
+all_where_in p t n x at e = IsIn-from_listed n (all_where p t) (passes_listed p t n x at e)

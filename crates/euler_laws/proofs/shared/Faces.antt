@@ -8,7 +8,7 @@ use Rattle.euler_operators.specs.Table.{map_rows, get-map_rows}
 use Rattle.euler_operators.specs.Model.{Model, lone, LoopRow, no_loop, holds, tail, loop_of, content, face_of, solid_of, outer, after}
 use Rattle.euler_operators.specs.Sound.{Sound, Has, HasHalf, IsLoneAt, NumbersFit}
 use Rattle.euler_operators.specs.Effect.{loop_to_face}
-use Rattle.euler_laws.proofs.shared.Fans.{half_mate}
+use Rattle.euler_operators.proofs.Models.{mate_there}
 use Rattle.euler_laws.proofs.shared.Loops.{IsLoop, loop_sound, Walks, stands-walks, one_loop-walks, cycles-walks, ends_meet-walks, one_fan-walks}
 use Rattle.euler_laws.proofs.shared.Same.{solid_at}
 use Rattle.euler_laws.proofs.shared.Rings.{SameRings, half_back, tail_same, walks-rings, loop-rings, ends_differ-rings, tail-rings, edges_fit-rings}
@@ -73,7 +73,7 @@ module _ (M N : Model) (sound : Sound M) (same : SameWalks M N) where
     lone_at_vertex = λ q v a. has_vertex v (sound.lone_at_vertex q v (lone_back q v a));
     faces_of_solids = w.faces_of_solids;
     solid_has_face = w.solid_has_face;
-    one_solid = λ x t. let o = back x t in ap (solid_at N) (loop-rings M N sound rings x o) ∙ w.one_solid x o ∙ sym (ap (solid_at N) (loop-rings M N sound rings (mate x) (half_mate M sound x o)));
+    one_solid = λ x t. let o = back x t in ap (solid_at N) (loop-rings M N sound rings x o) ∙ w.one_solid x o ∙ sym (ap (solid_at N) (loop-rings M N sound rings (mate x) (mate_there M x o)));
     solids_fit = w.solids_fit;
     faces_fit = w.faces_fit;
     loops_fit = λ q t. sound.loops_fit q (sym (same.loops q) ∙ t);

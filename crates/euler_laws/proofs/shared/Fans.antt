@@ -7,11 +7,10 @@ use Rattle.euler_operators.proofs.Lists.{count-append, tick_same, tick_other, sp
 use Rattle.euler_operators.proofs.Operators.{apart_back}
 use Rattle.euler_operators.proofs.Rings.{rotation_at, count_at, IsRing-same, IsIn_successor, IsIn_predecessor, successor-predecessor, IsPath-append, IsPath-left, ring_stays}
 use Rattle.euler_operators.specs.HalfEdge.{mate}
-use Rattle.euler_operators.specs.Table as table
 use Rattle.euler_operators.specs.Model.{Model, items_of, tail, loop_of, content, cycle_of, after, round}
 use Rattle.euler_operators.specs.Sound.{Sound, Has, HasHalf, StandsIn, Reaches, here, further}
-use Rattle.euler_operators.proofs.Halves.{edge_of-mate, mate-mate}
-use Rattle.euler_operators.proofs.Models.{in-holds, cycle_there, cycle_sound, row_of}
+use Rattle.euler_operators.proofs.Halves.{mate-mate}
+use Rattle.euler_operators.proofs.Models.{in-holds, cycle_there, cycle_sound, row_of, mate_there}
 use Rattle.euler_operators.specs.Conditions.{face_at}
 
 pub reaches_trans : (next : ℕ → ℕ) (x y z : ℕ) → Reaches next x y → Reaches next y z → Reaches next x z
@@ -105,9 +104,6 @@ module _ (M : Model) (sound : Sound M) where
   unfolding after
   half_after z there = sound.only_edges (successor (cycle_of M z) z) (loop_of M z) (in-holds _ (content M (loop_of M z)) (IsIn_successor z (cycle_of M z) (cycle_there M sound z there)))
 
-  pub half_mate : (z : ℕ) → HasHalf M z → HasHalf M (mate z)
-  half_mate z there = ap (λ q. is_some (table.get M.edges q)) (edge_of-mate z) ∙ there
-
   pub loop_after : (z : ℕ) → HasHalf M z → loop_of M (after M z) ≡ loop_of M z
   unfolding after
   loop_after z there = sound.one_loop (successor (cycle_of M z) z) (loop_of M z) (in-holds _ (content M (loop_of M z)) (IsIn_successor z (cycle_of M z) (cycle_there M sound z there)))
@@ -117,7 +113,7 @@ module _ (M : Model) (sound : Sound M) where
   reach_half x y there here = (there, refl)
   reach_half x y there (further {h = w} p) =
       let q = reach_half x w there p in
-      (half_after (mate w) (half_mate w q.0), sound.ends_meet (mate w) (half_mate w q.0) ∙ ap (tail M) (mate-mate w) ∙ q.1)
+      (half_after (mate w) (mate_there M w q.0), sound.ends_meet (mate w) (mate_there M w q.0) ∙ ap (tail M) (mate-mate w) ∙ q.1)
 
   -- the half-edge from which one comes to g
   pub back_of : (g : ℕ) → HasHalf M g → (b : ℕ) × HasHalf M b × (after M b ≡ g)
@@ -133,7 +129,7 @@ module _ (M : Model) (sound : Sound M) where
   fan_of g there =
       let b = back_of g there in
       let p : ℕ = mate b.0 in
-      let pt : HasHalf M p = half_mate b.0 b.1 in
+      let pt : HasHalf M p = mate_there M b.0 b.1 in
       let back : round M p ≡ g = ap (after M) (mate-mate b.0) ∙ b.2 in
       let e : tail M g ≡ tail M p = sym (ap (tail M) b.2) ∙ sound.ends_meet b.0 b.1 in
       let w : Way (round M) g p = way_of (round M) g p (sound.one_fan g p there pt e) in
@@ -154,7 +150,7 @@ module _ (M : Model) (sound : Sound M) where
   kept_round f a b x y there here = refl
   kept_round f a b x y there (further {h = w} p) =
       let q = reach_half x w there p in
-      a (mate w) (half_mate w q.0) ∙ b w q.0 ∙ kept_round f a b x w there p
+      a (mate w) (mate_there M w q.0) ∙ b w q.0 ∙ kept_round f a b x w there p
 
 pub fixed_reaches : (next : ℕ → ℕ) (x y : ℕ) → next x ≡ x → Reaches next x y → y ≡ x
 fixed_reaches next x y e here = refl

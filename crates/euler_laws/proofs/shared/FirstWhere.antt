@@ -1,22 +1,19 @@
 -- The first number of a table whose row passes a test is the least one.
-use Rattle.std.proofs.Common.{◌≡◌, ℕ, ◌<◌, ◌≤◌, Bool, true, false, cond, nat_lt, ◌&&◌, List, [], ◌∷◌, Some, refl, sym, ap, ◌∙◌, arith, true≢false, inl, inr}
-use Rattle.std.proofs.lemmas.Bool.Decides.{nat_tests}
+use Rattle.std.proofs.Common.{◌≡◌, ℕ, ◌≤◌, Bool, true, false, cond, List, [], ◌∷◌, Some, refl, sym, ap, ◌∙◌, arith, true≢false, inl, inr}
 use Rattle.euler_operators.specs.Table as table
 use Rattle.euler_operators.specs.Table.{Table, first_where, all_where, first_in, all_in}
 use Rattle.euler_operators.specs.Conditions.{lists, strictly_rises}
 use Rattle.euler_operators.specs.Effect.{head_or_zero}
+use Rattle.euler_operators.proofs.Tests.{less_and}
 use Rattle.euler_laws.proofs.shared.Listed.{first_listed, listed_cases, listed_passes, passes_listed, all_where-rises}
-use Rattle.euler_laws.proofs.shared.RisingLists.{above_first}
+use Rattle.euler_laws.proofs.Sizes.{rises_apart}
 
 head_is_least : (m q : ℕ) (ns : List ℕ) → strictly_rises (m ∷ ns) ≡ true → lists (m ∷ ns) q ≡ true → m ≤ q
 head_is_least m q [] r l = elim (listed_cases m q [] l) [ inl e ↦ omega arith | inr e ↦ absurd (true≢false (sym e)) ]
 head_is_least m q (k ∷ ns) r l = elim (listed_cases m q (k ∷ ns) l) [
   | inl e ↦ omega arith
-  | inr e ↦ let s = both m k (strictly_rises (k ∷ ns)) r in omega (arith, s.0, head_is_least k q ns s.1 e)
-] where
-  both : (m k : ℕ) (b : Bool) → (nat_lt m k && b) ≡ true → (m < k) × (b ≡ true)
-  both m k true e = (grind (arith, nat_tests), refl)
-  both m k false e = grind (arith, nat_tests)
+  | inr e ↦ let s = less_and m k (strictly_rises (k ∷ ns)) r in omega (arith, s.0, head_is_least k q ns s.1 e)
+]
 
 module _ {X : Type 0} (p : ℕ → X → Bool) (t : Table X) where
   first_is_head : first_where p t ≡ head_or_zero (all_where p t)
@@ -41,4 +38,4 @@ module _ {X : Type 0} (p : ℕ → X → Bool) (t : Table X) where
   first_passes q y at passes = go (all_where p t) (all_where-rises p t) first_is_head (passes_listed p t q y at passes) where
     go : (ns : List ℕ) → strictly_rises ns ≡ true → first_where p t ≡ head_or_zero ns → lists ns q ≡ true → (lists ns (first_where p t) ≡ true) × (first_where p t ≤ q)
     go [] r e l = absurd (true≢false (sym l))
-    go (m ∷ ns) r e l = (ap (lists (m ∷ ns)) e ∙ first_listed m ns, elim (listed_cases m q ns l) [ inl s ↦ omega (arith, e, s) | inr s ↦ omega (arith, e, above_first m q ns r s) ])
+    go (m ∷ ns) r e l = (ap (lists (m ∷ ns)) e ∙ first_listed m ns, elim (listed_cases m q ns l) [ inl s ↦ omega (arith, e, s) | inr s ↦ omega (arith, e, rises_apart m q ns r s) ])

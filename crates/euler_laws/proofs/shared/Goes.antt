@@ -1,6 +1,5 @@
 -- The facts that the conditions of an operator say, and conditions from facts.
-use Rattle.std.proofs.Common.{◌≡◌, ◌≢◌, ℕ, Bool, true, false, cond, not, nat_eq, List, [], ◌∷◌, ◌++◌, Ok, Err, Option, Some, None, is_some, refl, sym, ap, ◌∙◌, arith, true≢false, IsTrue}
-use Rattle.std.proofs.lemmas.Bool.Decides.{nat_tests}
+use Rattle.std.proofs.Common.{◌≡◌, ℕ, Bool, true, false, cond, not, List, [], ◌∷◌, ◌++◌, Ok, Err, Option, Some, None, is_some, refl, sym, ap, ◌∙◌, true≢false, IsTrue}
 use Rattle.euler_operators.specs.Conditions.{Condition, AllHold, first_refusal, verdict}
 use Rattle.euler_operators.specs.declared.Refusal.{Refusal}
 use Rattle.euler_operators.specs.Model.{is_number}
@@ -19,16 +18,8 @@ pub none_refuses : (cs : List Condition) → AllHold cs → first_refusal cs ≡
 none_refuses [] h = refl
 none_refuses (c ∷ cs) h = ap (λ b. cond b (first_refusal cs) (Some c.refusal)) h.0 ∙ none_refuses cs h.1
 
-pub not_true : (b : Bool) → not b ≡ true → b ≡ false
-not_true true e = sym e
-not_true false e = refl
-
 pub not_false : (b : Bool) → b ≡ false → not b ≡ true
 not_false b e = ap not e
-
-pub not_back : (b : Bool) → not b ≡ false → b ≡ true
-not_back true e = refl
-not_back false e = sym e
 
 -- no number of a kind is 0
 pub no_zero : (n : ℕ) → n ≡ 0 → IsTrue (is_number n) → ⊥
@@ -36,18 +27,6 @@ no_zero n z fits = true≢false (sym fits ∙ ap is_number z)
 
 pub taken : {X : Type 0} (o : Option X) → o ≡ None → is_some o ≡ false
 taken o e = ap is_some e
-
-pub equal : (a b : ℕ) → nat_eq a b ≡ true → a ≡ b
-equal a b e = grind (arith, nat_tests)
-
-pub unequal : (a b : ℕ) → nat_eq a b ≡ false → a ≢ b
-unequal a b e = grind (arith, nat_tests)
-
-pub equals : (a b : ℕ) → a ≡ b → nat_eq a b ≡ true
-equals a b e = grind (arith, nat_tests)
-
-pub differs : (a b : ℕ) → a ≢ b → nat_eq a b ≡ false
-differs a b e = grind (arith, nat_tests)
 
 -- ---- conditions put after conditions
 

@@ -19,10 +19,6 @@ use Rattle.euler_operators.proofs.Models.{content_row, held_row, in-holds, holds
 use Rattle.euler_operators.proofs.Halves.{mate-mate}
 use Rattle.euler_laws.proofs.shared.Fans.{Fan, ring_reaches}
 
-pub some_row : {X : Type 0} (o : Option X) → is_some o ≡ true → (x : X) × (o ≡ Some x)
-some_row None e = absurd (true≢false (sym e))
-some_row (Some x) e = (x, refl)
-
 -- a loop is lone, or a cycle round which next leads
 abbrev pub IsLoop : (ℕ → ℕ) → LoopContent → Type 0
 IsLoop next (lone v) = Unit {0}

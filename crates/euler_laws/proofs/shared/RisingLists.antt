@@ -1,26 +1,14 @@
 -- Rising lists of numbers.
-use Rattle.std.proofs.Common.{◌≡◌, ◌≢◌, ℕ, zero, suc, ◌+◌, ◌<◌, ◌≤◌, Bool, true, false, nat_eq, nat_lt, ◌&&◌, List, [], ◌∷◌, length, get_or, refl, sym, ap, ◌∙◌, arith, true≢false, ◌⊎◌, inl, inr}
-use Rattle.std.proofs.lemmas.Bool.Decides.{nat_tests, eqb_tells}
+use Rattle.std.proofs.Common.{◌≡◌, ◌≢◌, ℕ, zero, suc, ◌+◌, ◌<◌, ◌≤◌, Bool, true, false, nat_eq, ◌&&◌, List, [], ◌∷◌, length, get_or, refl, sym, ap, ◌∙◌, arith, true≢false, ◌⊎◌, inl, inr}
+use Rattle.std.proofs.lemmas.Bool.Decides.{eqb_tells}
+use Rattle.std.proofs.lemmas.Bool.{and_parts}
 use Rattle.euler_operators.specs.Conditions.{lists, lists_all, strictly_rises}
+use Rattle.euler_operators.proofs.Tests.{less_and}
 use Rattle.euler_laws.proofs.shared.Listed.{first_listed, rest_listed, listed_cases}
+use Rattle.euler_laws.proofs.Sizes.{rises_on, rises_apart}
 
 pub rises_parts : (m k : ℕ) (ns : List ℕ) → strictly_rises (m ∷ k ∷ ns) ≡ true → (m < k) × (strictly_rises (k ∷ ns) ≡ true)
-rises_parts m k ns r = go m k (strictly_rises (k ∷ ns)) r where
-  go : (m k : ℕ) (b : Bool) → (nat_lt m k && b) ≡ true → (m < k) × (b ≡ true)
-  go m k true e = (grind (arith, nat_tests), refl)
-  go m k false e = grind (arith, nat_tests)
-
-pub rest_rises : (m : ℕ) (ns : List ℕ) → strictly_rises (m ∷ ns) ≡ true → strictly_rises ns ≡ true
-rest_rises m [] r = refl
-rest_rises m (k ∷ ns) r = (rises_parts m k ns r).1
-
--- what stands after the first number of a rising list is greater
-pub above_first : (m q : ℕ) (ns : List ℕ) → strictly_rises (m ∷ ns) ≡ true → lists ns q ≡ true → m < q
-above_first m q [] r l = absurd (true≢false (sym l))
-above_first m q (k ∷ ns) r l = let p = rises_parts m k ns r in elim (listed_cases k q ns l) [
-  | inl e ↦ omega (arith, p.0, e)
-  | inr e ↦ omega (arith, p.0, above_first k q ns p.1 e)
-]
+rises_parts m k ns r = less_and m k (strictly_rises (k ∷ ns)) r
 
 pub listed_at : (fs : List ℕ) (i : ℕ) → i < length fs → lists fs (get_or fs i 0) ≡ true
 listed_at [] i l = absurd (omega arith)
@@ -37,8 +25,8 @@ place_of (f ∷ fs) n l = elim (listed_cases f n fs l) [
 pub rising : (fs : List ℕ) (i j : ℕ) → strictly_rises fs ≡ true → i < j → j < length fs → get_or fs i 0 < get_or fs j 0
 rising [] i j r l m = absurd (omega arith)
 rising (f ∷ fs) i zero r l m = absurd (omega arith)
-rising (f ∷ fs) zero (suc j) r l m = above_first f (get_or fs j 0) fs r (listed_at fs j (omega arith))
-rising (f ∷ fs) (suc i) (suc j) r l m = rising fs i j (rest_rises f fs r) (omega arith) (omega arith)
+rising (f ∷ fs) zero (suc j) r l m = rises_apart f (get_or fs j 0) fs r (listed_at fs j (omega arith))
+rising (f ∷ fs) (suc i) (suc j) r l m = rising fs i j (rises_on f fs r) (omega arith) (omega arith)
 
 pub short_rises : (xs : List ℕ) → length xs ≤ 1 → strictly_rises xs ≡ true
 short_rises [] l = refl
@@ -54,16 +42,16 @@ within [] (g ∷ gs) r s i = (omega arith, λ e. absurd (omega arith))
 within (f ∷ fs) [] r s i = absurd (true≢false (sym (i f (first_listed f fs))))
 within (f ∷ fs) (g ∷ gs) r s i = elim (listed_cases g f gs (i f (first_listed f fs))) [
   | inl e ↦
-      let w = within fs gs (rest_rises f fs r) (rest_rises g gs s) (λ q l. elim (listed_cases g q gs (i q (rest_listed f q fs l))) [
-        | inl h ↦ absurd (omega (arith, above_first f q fs r l, h, e))
+      let w = within fs gs (rises_on f fs r) (rises_on g gs s) (λ q l. elim (listed_cases g q gs (i q (rest_listed f q fs l))) [
+        | inl h ↦ absurd (omega (arith, rises_apart f q fs r l, h, e))
         | inr h ↦ h
       ]) in
       (omega (arith, w.0), λ n. (λ k. e k ∷ w.1 (omega arith) k))
   | inr e ↦
-      let w = within (f ∷ fs) gs r (rest_rises g gs s) (λ q l. elim (listed_cases g q gs (i q l)) [
+      let w = within (f ∷ fs) gs r (rises_on g gs s) (λ q l. elim (listed_cases g q gs (i q l)) [
         | inl h ↦ absurd (elim (listed_cases f q fs l) [
-          | inl p ↦ omega (arith, above_first g f gs s e, h, p)
-          | inr p ↦ omega (arith, above_first g f gs s e, above_first f q fs r p, h)
+          | inl p ↦ omega (arith, rises_apart g f gs s e, h, p)
+          | inr p ↦ omega (arith, rises_apart g f gs s e, rises_apart f q fs r p, h)
         ])
         | inr h ↦ h
       ]) in
@@ -72,10 +60,7 @@ within (f ∷ fs) (g ∷ gs) r s i = elim (listed_cases g f gs (i f (first_liste
 
 all_within : (fs gs : List ℕ) → lists_all fs gs ≡ true → (q : ℕ) → lists gs q ≡ true → lists fs q ≡ true
 all_within fs [] a q l = absurd (true≢false (sym l))
-all_within fs (g ∷ gs) a q l = let p = parts (lists fs g) (lists_all fs gs) a in elim (listed_cases g q gs l) [ inl e ↦ ap (lists fs) e ∙ p.0 | inr e ↦ all_within fs gs p.1 q e ] where
-  parts : (a b : Bool) → (a && b) ≡ true → (a ≡ true) × (b ≡ true)
-  parts true b e = (refl, e)
-  parts false b e = absurd (true≢false (sym e))
+all_within fs (g ∷ gs) a q l = let p = and_parts (lists fs g) (lists_all fs gs) a in elim (listed_cases g q gs l) [ inl e ↦ ap (lists fs) e ∙ p.0 | inr e ↦ all_within fs gs p.1 q e ]
 
 within_all : (fs gs : List ℕ) → ((q : ℕ) → lists gs q ≡ true → lists fs q ≡ true) → lists_all fs gs ≡ true
 within_all fs [] i = refl

@@ -15,12 +15,12 @@ use Rattle.euler_operators.specs.Table.{Table, tables, same_table}
 use Rattle.euler_operators.specs.Model.{Model, LoopContent, lone, cycle, FaceRow, LoopRow, EdgeRow, no_face, no_edge, no_point, tail_in, items_of, holds, tail, face_of, outer, solid_of, point_of, no_loop, content, rings_of}
 use Rattle.euler_operators.specs.Sound.{Sound, Has, HasHalf, IsCycle}
 use Rattle.euler_operators.proofs.Halves.{edge_of-code, edge_of-mate, is_first-mate, plus_row}
-use Rattle.euler_operators.proofs.Tables.{all_where_none, none_all_where}
+use Rattle.euler_operators.proofs.Tables.{all_where_none, none_all_where, row_some}
 use Rattle.euler_operators.proofs.Models.{face_row}
 use Rattle.euler_operators.proofs.Tests.{none_but}
 use Rattle.euler_operators.specs.Conditions.{has_rings, is_empty, is_lone, lone_vertex}
 use Rattle.euler_operators.specs.Effect.{where_held, edge_row, cycle_or_lone}
-use Rattle.euler_laws.proofs.shared.Loops.{some_row, IsLoop, canonical_cycle, canonical_ring}
+use Rattle.euler_laws.proofs.shared.Loops.{IsLoop, canonical_cycle, canonical_ring}
 
 -- a rewriting where a half-edge stands leaves a loop without it alone
 pub where_held_none : (g : ℕ) (new : List ℕ → LoopContent) (l : ℕ) (row : LoopRow) → holds g row.content ≡ false → where_held g new l row ≡ row
@@ -129,7 +129,7 @@ ring_none a f o l e p = grind (arith, nat_tests)
 pub no_rings_means : (M : Model) (f : ℕ) → has_rings M f ≡ false → (q : ℕ) → Has M.loops q → face_of M q ≡ f → outer M f ≡ q
 unfolding has_rings
 no_rings_means M f e q there p =
-    let w = some_row (table.get M.loops q) there in
+    let w = row_some (table.get M.loops q) there in
     ring_none w.0.face f (outer M f) q (none_all_where (λ l row. nat_eq row.face f && not (nat_eq (outer M f) l)) M.loops (empty_is (rings_of M f) e) q w.0 w.1) (sym (face_row M q w.0 w.1) ∙ p)
 
 pub means_no_rings : (M : Model) (f : ℕ) → ((q : ℕ) → Has M.loops q → face_of M q ≡ f → outer M f ≡ q) → has_rings M f ≡ false

@@ -17,9 +17,9 @@ use Rattle.euler_operators.specs.Table.{Table, same_table}
 use Rattle.euler_operators.specs.Model.{Model, LoopRow, no_loop, EdgeRow, no_edge, tail_in, tail, content, face_of, is_number}
 use Rattle.euler_operators.specs.Sound.{Has, HasHalf}
 use Rattle.euler_operators.proofs.Halves.{plus_row, minus_row, mate_plus, mate_minus}
-use Rattle.euler_operators.proofs.Tables.{first_where_zero, zero_first_where}
+use Rattle.euler_operators.proofs.Tables.{first_where_zero, zero_first_where, row_some}
 use Rattle.euler_operators.specs.Conditions.{parallel}
-use Rattle.euler_laws.proofs.shared.Loops.{some_row, apart_out}
+use Rattle.euler_laws.proofs.shared.Loops.{apart_out}
 use Rattle.euler_laws.proofs.shared.Arcs.{halves_of_edge}
 use Rattle.euler_laws.proofs.shared.Goes.{no_zero}
 
@@ -153,7 +153,7 @@ module _ (M : Model) (h : ℕ) where
 
   pub none_parallel : ((e : ℕ) → Has M.edges e → IsTrue (is_number e)) → parallel M h ≡ 0 → NoParallel
   none_parallel fit z x there ne a b =
-      let w = some_row (table.get M.edges (edge_of x)) there in
+      let w = row_some (table.get M.edges (edge_of x)) there in
       let t = tails_in (edge_of x) w.0 w.1 in
       let f = zero_first_where meets M.edges (λ e row at s. no_zero e s (fit e (ap is_some at))) z (edge_of x) w.0 w.1 in
       elim (halves_of_edge x) [

@@ -1,10 +1,11 @@
 -- The numbers of a rising list up to one.
-use Rattle.std.proofs.Common.{◌≡◌, ℕ, ◌≤◌, ◌<◌, true, false, cond, nat_le, List, [], ◌∷◌, ◌++◌, refl, sym, ap, ◌∙◌, arith, true≢false, ◌⊎◌, inl, inr}
+use Rattle.std.proofs.Common.{◌≡◌, ℕ, ◌≤◌, ◌<◌, true, false, cond, nat_le, List, [], ◌∷◌, ◌++◌, refl, sym, ap, ◌∙◌, arith, true≢false, inl, inr}
 use Rattle.std.proofs.lemmas.Bool.Decides.{nat_tests}
 use Rattle.euler_operators.specs.Items.{count}
 use Rattle.euler_operators.specs.Conditions.{lists, strictly_rises}
+use Rattle.euler_operators.proofs.Tests.{at_most_or_above}
 use Rattle.euler_laws.proofs.shared.Listed.{first_listed, rest_listed, listed_cases}
-use Rattle.euler_laws.proofs.shared.RisingLists.{rest_rises, above_first}
+use Rattle.euler_laws.proofs.Sizes.{rises_on, rises_apart}
 
 abbrev pub up_to : ℕ → List ℕ → List ℕ
 up_to n [] = []
@@ -24,13 +25,10 @@ pub up_to_all : (n : ℕ) (ns : List ℕ) → ((k : ℕ) → lists ns k ≡ true
 up_to_all n [] h = refl
 up_to_all n (m ∷ ms) h = takes m n ms (h m (first_listed m ms)) ∙ ap (λ xs. m ∷ xs) (up_to_all n ms (λ k l. h k (rest_listed m k ms l)))
 
-pub below_or : (a b : ℕ) → (a ≤ b) ⊎ (b < a)
-below_or a b = grind arith
-
 -- nothing stands between two numbers
 pub up_to_same : (n m : ℕ) (ns : List ℕ) → n ≤ m → ((k : ℕ) → lists ns k ≡ true → n < k → m < k) → up_to m ns ≡ up_to n ns
 up_to_same n m [] l h = refl
-up_to_same n m (a ∷ bs) l h = let rest = up_to_same n m bs l (λ k i. h k (rest_listed a k bs i)) in elim (below_or a n) [
+up_to_same n m (a ∷ bs) l h = let rest = up_to_same n m bs l (λ k i. h k (rest_listed a k bs i)) in elim (at_most_or_above a n) [
   | inl s ↦ takes a m bs (omega (arith, s, l)) ∙ ap (λ xs. a ∷ xs) rest ∙ sym (takes a n bs s)
   | inr s ↦ drops a m bs (h a (first_listed a bs) s) ∙ rest ∙ sym (drops a n bs s)
 ]
@@ -38,29 +36,29 @@ up_to_same n m (a ∷ bs) l h = let rest = up_to_same n m bs l (λ k i. h k (res
 -- m is the next number of the list after n
 pub up_to_next : (n m : ℕ) (ns : List ℕ) → strictly_rises ns ≡ true → lists ns m ≡ true → n < m → ((k : ℕ) → lists ns k ≡ true → n < k → m ≤ k) → up_to m ns ≡ up_to n ns ++ m ∷ []
 up_to_next n m [] r i l h = absurd (true≢false (sym i))
-up_to_next n m (a ∷ bs) r i l h = elim (below_or a n) [
+up_to_next n m (a ∷ bs) r i l h = elim (at_most_or_above a n) [
   | inl s ↦ elim (listed_cases a m bs i) [
     | inl e ↦ absurd (omega (arith, s, l, e))
-    | inr j ↦ takes a m bs (omega (arith, s, l)) ∙ ap (λ xs. a ∷ xs) (up_to_next n m bs (rest_rises a bs r) j l (λ k q. h k (rest_listed a k bs q))) ∙ sym (ap (λ xs. xs ++ m ∷ []) (takes a n bs s))
+    | inr j ↦ takes a m bs (omega (arith, s, l)) ∙ ap (λ xs. a ∷ xs) (up_to_next n m bs (rises_on a bs r) j l (λ k q. h k (rest_listed a k bs q))) ∙ sym (ap (λ xs. xs ++ m ∷ []) (takes a n bs s))
   ]
   | inr s ↦ elim (listed_cases a m bs i) [
     | inl e ↦
-        takes a m bs (omega (arith, e)) ∙ ap (λ xs. a ∷ xs) (up_to_none m bs (λ k q. omega (arith, above_first a k bs r q, e))) ∙ ap (λ x. x ∷ []) (sym e)
-        ∙ sym (ap (λ xs. xs ++ m ∷ []) (drops a n bs s ∙ up_to_none n bs (λ k q. omega (arith, above_first a k bs r q, s))))
-    | inr j ↦ absurd (omega (arith, h a (first_listed a bs) s, above_first a m bs r j))
+        takes a m bs (omega (arith, e)) ∙ ap (λ xs. a ∷ xs) (up_to_none m bs (λ k q. omega (arith, rises_apart a k bs r q, e))) ∙ ap (λ x. x ∷ []) (sym e)
+        ∙ sym (ap (λ xs. xs ++ m ∷ []) (drops a n bs s ∙ up_to_none n bs (λ k q. omega (arith, rises_apart a k bs r q, s))))
+    | inr j ↦ absurd (omega (arith, h a (first_listed a bs) s, rises_apart a m bs r j))
   ]
 ]
 
 pub count_up_to : (x n : ℕ) (ns : List ℕ) → count x (up_to n ns) ≤ count x ns
 count_up_to x n [] = omega arith
-count_up_to x n (m ∷ ms) = elim (below_or m n) [
+count_up_to x n (m ∷ ms) = elim (at_most_or_above m n) [
   | inl s ↦ omega (arith, ap (count x) (takes m n ms s), count_up_to x n ms)
   | inr s ↦ omega (arith, ap (count x) (drops m n ms s), count_up_to x n ms)
 ]
 
 pub listed_up_to : (x n : ℕ) (ns : List ℕ) → lists (up_to n ns) x ≡ true → lists ns x ≡ true
 listed_up_to x n [] i = i
-listed_up_to x n (m ∷ ms) i = elim (below_or m n) [
+listed_up_to x n (m ∷ ms) i = elim (at_most_or_above m n) [
   | inl s ↦ elim (listed_cases m x (up_to n ms) (sym (ap (λ xs. lists xs x) (takes m n ms s)) ∙ i)) [
     | inl e ↦ ap (lists (m ∷ ms)) e ∙ first_listed m ms
     | inr j ↦ rest_listed m x ms (listed_up_to x n ms j)

@@ -14,11 +14,10 @@ use Rattle.euler_operators.specs.Table.{Table, tables, same_table, get-map_rows,
 use Rattle.euler_operators.specs.Model.{Model, FaceRow, LoopRow, cycle, tail, loop_of, face_of, solid_of, outer, cycle_of, no_face}
 use Rattle.euler_operators.specs.Sound.{Has, HasHalf}
 use Rattle.euler_operators.proofs.Halves.{code-half, mate-mate, edge_of-mate}
-use Rattle.euler_operators.proofs.Models.{face_row, row_of}
+use Rattle.euler_operators.proofs.Models.{face_row, row_of, mate_there}
 use Rattle.euler_operators.specs.declared.Op.TheVariants.{Kef}
 use Rattle.euler_operators.specs.Conditions.{face_at, first_false}
 use Rattle.euler_operators.specs.Effect.{effect, kef, faces_to_solid}
-use Rattle.euler_laws.proofs.shared.Fans.{half_mate}
 use Rattle.euler_laws.proofs.shared.Rows.{face_there}
 use Rattle.euler_laws.proofs.mef.KefSound as kill
 use Rattle.euler_laws.proofs.mef.KefSound.{KefGoes}
@@ -77,7 +76,7 @@ module _ (M : Model) (f g : ℕ) (partner_of : ℕ → ℕ) (hs : List ℕ) (x :
   g_there = half_is N l f (h ∷ partner_of h ∷ []) around_l (partner_of h) g_in
 
   m_there : HasHalf N m
-  m_there = half_mate N w.sound (partner_of h) g_there
+  m_there = mate_there N (partner_of h) g_there
 
   q_l : q ≢ l
   q_l = mates.mate_else M f g partner_of hs x h done (h ∷ []) w h (omega (arith, tick_same h))

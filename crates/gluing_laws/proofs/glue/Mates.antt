@@ -13,8 +13,8 @@ use Rattle.euler_operators.specs.Table as table
 use Rattle.euler_operators.specs.Table.{Table, tables, same_table, get-map_rows, get-put, get-remove}
 use Rattle.euler_operators.specs.Model.{Model, LoopRow, cycle, items_of, loop_of, content, face_of, outer, cycle_of}
 use Rattle.euler_operators.specs.Sound.{HasHalf, StandsIn}
-use Rattle.euler_operators.proofs.Models.{content_row, holds_in, none-holds, other_loop, row_of, cycle_there, cycle_sound}
-use Rattle.euler_laws.proofs.shared.Fans.{half_mate}
+use Rattle.euler_operators.proofs.Models.{content_row, holds_in, none-holds, other_loop, row_of, cycle_there, cycle_sound, mate_there}
+use Rattle.euler_operators.proofs.Members.{IsIn-map}
 use Rattle.euler_laws.proofs.shared.Rows.{one_row}
 use Rattle.euler_laws.proofs.shared.KnownLoop.{Around, half_is, loop_is}
 use Rattle.shapes.specs.Rewriting.{rewritten_row, renamed}
@@ -22,7 +22,7 @@ use Rattle.shapes.specs.glue.Part.{paired, seam, glued_part}
 use Rattle.shapes.proofs.glue.Renamings.{renamed_more, replaced}
 use Rattle.shapes.proofs.glue.Swapped.{row_stays, row_turns}
 use Rattle.shapes.proofs.glue.Facing as facing
-use Rattle.shapes.proofs.glue.Facing.{Facing, side, in_map}
+use Rattle.shapes.proofs.glue.Facing.{Facing, side}
 use Rattle.gluing_laws.proofs.glue.Stages as stages
 use Rattle.gluing_laws.proofs.glue.Stages.{Stage}
 
@@ -64,13 +64,13 @@ module _ (M : Model) (f g : ℕ) (partner_of : ℕ → ℕ) (hs : List ℕ) (x l
   h_seam = omega (arith, h_more, count-append h more (reverse (map partner_of more)))
 
   g_seam : IsIn (partner_of h) (seam partner_of more)
-  g_seam = omega (arith, in_map partner_of h more h_more, count-reverse (partner_of h) (map partner_of more), count-append (partner_of h) more (reverse (map partner_of more)))
+  g_seam = omega (arith, IsIn-map partner_of h more h_more, count-reverse (partner_of h) (map partner_of more), count-append (partner_of h) more (reverse (map partner_of more)))
 
   pub g_there : HasHalf N (partner_of h)
   g_there = half_is N l f (seam partner_of more) around_seam (partner_of h) g_seam
 
   pub m_there : HasHalf N m
-  m_there = half_mate N w.sound (partner_of h) g_there
+  m_there = mate_there N (partner_of h) g_there
 
   -- it stands in another loop
   pub mate_else : q ≢ l

@@ -3,6 +3,7 @@ use Rattle.std.proofs.Common.{◌≡◌, ◌≢◌, ℕ, true, false, cond, nat_
 use Rattle.std.specs.Prelude.{map, reverse}
 use Rattle.std.specs.Option.{option_map}
 use Rattle.std.proofs.lemmas.Bool.Decides.{nat_tests}
+use Rattle.std.proofs.lemmas.Bool.{ne_eqb, eq-eqb}
 use Rattle.std.proofs.lemmas.List.{map-append, reverse-append}
 use Rattle.euler_operators.specs.Items.{count, IsIn, IsApart, before, after}
 use Rattle.euler_operators.specs.Rings.{canonical, rest, successor}
@@ -19,7 +20,7 @@ use Rattle.euler_operators.specs.Model.{Model, FaceRow, LoopRow, EdgeRow, lone, 
 use Rattle.euler_operators.specs.Model as model
 use Rattle.euler_operators.specs.Sound.{Sound, Has, HasHalf}
 use Rattle.euler_operators.proofs.Halves.{code-half, plus_row, minus_row, edge_of-mate, mate_plus}
-use Rattle.euler_operators.proofs.Tables.{map-put, map_same, map_one, remove-put}
+use Rattle.euler_operators.proofs.Tables.{map-put, map_same, map_one, remove-put, get-put_here, get-put_other}
 use Rattle.euler_operators.proofs.Models.{content_row, face_row, tail_row, in-holds, holds-none, not_held}
 use Rattle.euler_operators.proofs.Members.{same_head}
 use Rattle.euler_operators.specs.declared.Op.TheVariants.{Kev, Mekr, Kfmrh, Merge}
@@ -27,7 +28,6 @@ use Rattle.euler_operators.specs.Conditions.{first_false}
 use Rattle.euler_operators.specs.Effect.{effect, merge, kfmrh, mekr, kev, faces_to_solid, loop_to_face, moved_tail, edge_row}
 use Rattle.euler_laws.proofs.shared.Undo.{both_out}
 use Rattle.euler_laws.proofs.shared.Rows.{face_there, edge_row_plus}
-use Rattle.euler_laws.proofs.shared.Goes.{equals, differs}
 use Rattle.euler_laws.proofs.merge.Merge.{MergeGoes, merge_accepted}
 use Rattle.euler_laws.proofs.faces.Kfmrh.{KillGoes, kfmrh_accepted}
 use Rattle.euler_laws.proofs.kemr.Kemr.{CornerAt, corner_here, MekrGoes, mekr_accepted}
@@ -36,7 +36,6 @@ use Rattle.euler_laws.proofs.kev.Kev.{kev_accepted}
 use Rattle.euler_laws.proofs.kev.MevUndo.{as_cycle}
 use Rattle.euler_laws.specs.Laws.{effects, AreAccepted}
 use Rattle.euler_laws.proofs.Cases.{effect_keeps_sound}
-use Rattle.shapes.proofs.fresh.Rows.{get-put_here, get-put_other}
 use Rattle.sweeps_laws.proofs.prism.Steps.{edge_plus}
 use Rattle.shapes.specs.Rewriting.{rewritten, rewritten_row, renamed}
 use Rattle.shapes.specs.glue.Glue.{renamed_tails}
@@ -129,7 +128,7 @@ module _ (M : Model) (f g : ℕ) (partner_of : ℕ → ℕ) (h : ℕ) (mid : Lis
   moved_s a c e = elim (nat_eq a t) as (λ b. solid_in (cond b (record { solid = s; outer = c }) (record { solid = a; outer = c })) ≡ s) [ true ↦ refl | false ↦ e ]
 
   moved_t : (a c : ℕ) → (a ≡ t) → solid_in (cond (nat_eq a t) (record { solid = s; outer = c }) (record { solid = a; outer = c })) ≡ s
-  moved_t a c e = ap (λ b. solid_in (cond b (record { solid = s; outer = c }) (record { solid = a; outer = c }))) (equals a t e)
+  moved_t a c e = ap (λ b. solid_in (cond b (record { solid = s; outer = c }) (record { solid = a; outer = c }))) (eq-eqb a t e)
 
   solid_f1 : solid_of M1 f ≡ s
   unfolding solid_of
@@ -166,8 +165,8 @@ module _ (M : Model) (f g : ℕ) (partner_of : ℕ → ℕ) (h : ℕ) (mid : Lis
   }
 
   to_f : table.map_rows (loop_to_face r f) M.loops ≡ table.put M.loops r row_r
-  to_f = map_one (loop_to_face r f) M.loops r (record { face = g; content = cycle (canonical rs) }) w.second (λ q row ne at. ap (λ b. cond b (record row { face = f }) row) (differs q r ne))
-      ∙ ap (table.put M.loops r) (ap (λ b. cond b row_r (record { face = g; content = cycle (canonical rs) })) (equals r r refl))
+  to_f = map_one (loop_to_face r f) M.loops r (record { face = g; content = cycle (canonical rs) }) w.second (λ q row ne at. ap (λ b. cond b (record row { face = f }) row) (ne_eqb q r ne))
+      ∙ ap (table.put M.loops r) (ap (λ b. cond b row_r (record { face = g; content = cycle (canonical rs) })) (eq-eqb r r refl))
 
   A_is : effect M1 (Kfmrh f g) ≡ A
   unfolding effect kfmrh

@@ -14,15 +14,15 @@ use Rattle.euler_operators.specs.Table.{Table, tables, same_table, get-map_rows}
 use Rattle.euler_operators.specs.Model.{Model, EdgeRow, LoopRow, LoopContent, cycle, items_of, holds, tail, tail_in, no_edge, no_loop, no_face, loop_of, content, face_of, solid_of, outer, cycle_of, after, is_number}
 use Rattle.euler_operators.specs.Sound.{Sound, HasHalf, Has}
 use Rattle.euler_operators.proofs.Halves.{plus_row, minus_row, code-half, mate-mate, edge_of-mate, mate_minus}
-use Rattle.euler_operators.proofs.Tables.{map-put, map_same, remove-put}
-use Rattle.euler_operators.proofs.Models.{tail_row, content_row, face_row, in-holds, holds-none, not_held, row_of}
+use Rattle.euler_operators.proofs.Tables.{map-put, map_same, remove-put, get-put_here, get-put_other}
+use Rattle.euler_operators.proofs.Models.{tail_row, content_row, face_row, in-holds, holds-none, not_held, row_of, mate_there}
 use Rattle.euler_operators.proofs.Tests.{or_true}
 use Rattle.euler_operators.specs.declared.Op.TheVariants.{Mef, Kev, Kef}
 use Rattle.euler_operators.specs.Conditions.{face_at, first_false}
 use Rattle.euler_operators.specs.Effect.{effect, kev, kef, moved_tail, cycle_or_lone}
 use Rattle.euler_laws.proofs.shared.Undo.{taken_out}
 use Rattle.euler_laws.proofs.shared.Loops.{count_out}
-use Rattle.euler_laws.proofs.shared.Fans.{loop_after, half_mate}
+use Rattle.euler_laws.proofs.shared.Fans.{loop_after}
 use Rattle.euler_laws.proofs.shared.Same.{mapped_some}
 use Rattle.euler_laws.proofs.kev.MevUndo.{as_cycle}
 use Rattle.euler_laws.proofs.kev.KevSound.{KevGoes}
@@ -32,7 +32,6 @@ use Rattle.euler_laws.proofs.mef.KefSound.{KefGoes}
 use Rattle.euler_laws.proofs.mef.Kef.{kef_accepted}
 use Rattle.euler_laws.specs.Laws.{effects, AreAccepted}
 use Rattle.euler_laws.proofs.Cases.{effect_keeps_sound}
-use Rattle.shapes.proofs.fresh.Rows.{get-put_here, get-put_other}
 use Rattle.euler_laws.proofs.shared.KnownLoop.{Around, apart_xs, loop_is, half_is}
 use Rattle.sweeps_laws.proofs.prism.Steps.{with_chord, mef_does, mef_fits}
 use Rattle.shapes.specs.glue.GlueOps.{closing}
@@ -232,7 +231,7 @@ module _ (N : Model) (l f g h k : ℕ) (qs : List ℕ) (x s r : ℕ) (c : Closes
   g_there = half_is N l f ((g ∷ h ∷ []) ++ k ∷ qs) c.around g (omega (arith, tick_same g))
 
   m_there : HasHalf N (mate g)
-  m_there = half_mate N c.around.sound g g_there
+  m_there = mate_there N g g_there
 
   row_q : table.get N.loops q ≡ Some (record { face = face_of N q; content = cycle (cycle_of N (mate g)) })
   row_q = row_of N c.around.sound (mate g) m_there

@@ -8,13 +8,13 @@ use Rattle.euler_operators.specs.Rings.{canonical}
 use Rattle.euler_operators.proofs.Lists.{count-append, tick_same, tick_other}
 use Rattle.euler_operators.proofs.Rotations.{canonical_same}
 use Rattle.euler_operators.proofs.Maps.{reverse-cons}
+use Rattle.euler_operators.proofs.Models.{mate_there}
 use Rattle.euler_operators.specs.HalfEdge.{mate, edge_of}
 use Rattle.euler_operators.specs.Table as table
 use Rattle.euler_operators.specs.Table.{Table, tables, same_table, get-map_rows, get-put, get-remove}
 use Rattle.euler_operators.specs.Model.{Model, LoopRow, cycle, tail, loop_of, solid_of, outer}
 use Rattle.euler_operators.specs.Sound.{HasHalf}
 use Rattle.euler_operators.specs.Effect.{moved_tail}
-use Rattle.euler_laws.proofs.shared.Fans.{half_mate}
 use Rattle.euler_laws.proofs.shared.Same.{map_twice}
 use Rattle.euler_laws.specs.Laws.{effects, AreAccepted}
 use Rattle.euler_laws.proofs.shared.KnownLoop.{Around, half_is, apart_xs}
@@ -25,7 +25,7 @@ use Rattle.shapes.specs.glue.Part.{paired, seam, glued_part}
 use Rattle.shapes.proofs.glue.Renamings.{renamed_cases, renamed_more, without_more}
 use Rattle.shapes.proofs.glue.Swapped.{map_agree, map_removed}
 use Rattle.shapes.proofs.glue.Facing as facing
-use Rattle.shapes.proofs.glue.Facing.{Facing, side, in_map}
+use Rattle.shapes.proofs.glue.Facing.{Facing, side}
 use Rattle.gluing_laws.proofs.glue.Stages as stages
 use Rattle.gluing_laws.proofs.glue.Stages.{Stage}
 use Rattle.gluing_laws.proofs.glue.Mates as mates
@@ -107,7 +107,7 @@ module _ (M : Model) (f g : ℕ) (partner_of : ℕ → ℕ) (hs : List ℕ) (x l
 
   no_parallel : (y : ℕ) → HasHalf N y → tail N y ≡ tail N k → tail N (mate y) ≢ tail N (partner_of h)
   no_parallel y there a b =
-      let m_there : HasHalf N (mate y) = half_mate N w.sound y there in
+      let m_there : HasHalf N (mate y) = mate_there N y there in
       let y_M : HasHalf M y = stages.half_back M f g partner_of hs x last done (h ∷ k ∷ more) w y there in
       let m_M : HasHalf M (mate y) = stages.half_back M f g partner_of hs x last done (h ∷ k ∷ more) w (mate y) m_there in
       let ay : renamed (paired tail_from tail_to (last ∷ done)) (tail M y) ≡ tail M k = sym (stages.tail_is M f g partner_of hs x last done (h ∷ k ∷ more) w y there) ∙ a ∙ tail_k in

@@ -14,8 +14,8 @@ use Rattle.euler_operators.specs.declared.Op.TheVariants.{Part}
 use Rattle.euler_operators.specs.declared.Why.TheVariants.{NoSolid, SolidTaken, BadPart}
 use Rattle.euler_operators.specs.Effect.{faces_to_solid}
 use Rattle.euler_operators.proofs.Tests.{or_true, or_false}
+use Rattle.euler_operators.proofs.Tables.{row_some}
 use Rattle.euler_laws.proofs.shared.Goes.{all_hold, all_hold-front, all_hold-back}
-use Rattle.euler_laws.proofs.shared.Loops.{some_row}
 use Rattle.euler_laws.proofs.shared.Listed.{listed_cases, listed_as}
 use Rattle.low_euler.specs.face_operators.Moving.{moved}
 
@@ -58,7 +58,7 @@ module _ (M : Model) (fs : List ℕ) (n f : ℕ) (there : Has M.faces f) where
   one_more : put old f (record { solid = n; outer = outer N f }) ≡ map_rows (given (fs ++ f ∷ []) n) M.faces
   one_more = same_table _ _ (λ q. get-put old f (record { solid = n; outer = outer N f }) q ∙ elim (eqb_tells q f) [
     | inl e ↦
-        let r = some_row (table.get M.faces f) there in
+        let r = row_some (table.get M.faces f) there in
         ap (λ b. cond b (Some (record { solid = n; outer = outer N f })) (table.get old q)) e.0
         ∙ ap (λ l. Some (record { solid = n; outer = l })) (here r.0 r.1)
         ∙ sym (ap (λ b. Some (cond b (record r.0 { solid = n }) r.0)) (lists-push fs f f ∙ ap (λ b. lists fs f || b) (eq-eqb f f refl) ∙ or_true (lists fs f)))

@@ -1,12 +1,12 @@
 -- A face that gets another outer loop while a loop goes to another face.
 use Rattle.std.proofs.Common.{◌≡◌, ℕ, Bool, true, cond, nat_eq, false, Some, is_some, refl, sym, ap, ◌∙◌}
+use Rattle.std.proofs.lemmas.Bool.{eq-eqb}
 use Rattle.euler_operators.specs.Table as table
 use Rattle.euler_operators.specs.Table.{Table, map_rows, put, get-put}
 use Rattle.euler_operators.specs.Model.{Model, FaceRow, content, solid_of}
 use Rattle.euler_operators.specs.Sound.{Has}
 use Rattle.euler_conditions.specs.Store.{Store, set_face, set_outer}
 use Rattle.euler_operators.specs.Effect.{loop_to_face, face_to_outer}
-use Rattle.euler_laws.proofs.shared.Goes.{equals}
 use Rattle.low_euler.proofs.face_operators_laws.Rows.{loop_moved, outer_changed}
 
 -- content is read from the loops alone
@@ -38,4 +38,4 @@ loop_given M faces k f t = ap (λ c. put M.loops k (record { face = f; content =
 
 -- the face that was put is there
 pub face_put : (t : Table FaceRow) (f : ℕ) (x : FaceRow) → table.has (put t f x) f ≡ true
-face_put t f x = ap is_some (get-put t f x f) ∙ ap (λ b. is_some (cond b (Some x) (table.get t f))) (equals f f refl)
+face_put t f x = ap is_some (get-put t f x f) ∙ ap (λ b. is_some (cond b (Some x) (table.get t f))) (eq-eqb f f refl)

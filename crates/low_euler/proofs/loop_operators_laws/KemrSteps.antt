@@ -1,5 +1,6 @@
 -- What kemr's writers make of a store, one after another.
 use Rattle.std.proofs.Common.{◌≡◌, ◌≢◌, ℕ, ◌+◌, ◌≤◌, true, cond, List, [], ◌∷◌, ◌++◌, Some, is_some, unwrap_or, sym, ap, ◌∙◌, subst, arith}
+use Rattle.std.proofs.lemmas.Bool.{ne_eqb}
 use Rattle.euler_operators.specs.Items.{count, tick, IsIn, IsApart}
 use Rattle.euler_operators.specs.Rings.{between, beyond, cut_left, cut_right}
 use Rattle.euler_operators.proofs.Lists.{count-append}
@@ -18,7 +19,6 @@ use Rattle.euler_operators.specs.declared.Op.TheVariants.{Kemr}
 use Rattle.euler_operators.specs.Conditions.{face_at}
 use Rattle.euler_operators.specs.Effect.{effect, kemr, cycle_or_lone}
 use Rattle.euler_conditions.specs.Ready.{Accepts, after}
-use Rattle.euler_laws.proofs.shared.Goes.{differs}
 use Rattle.euler_laws.proofs.shared.Rows.{count_or_lone}
 use Rattle.euler_laws.proofs.kemr.KemrSound as laws
 use Rattle.euler_laws.proofs.kemr.KemrSound.{KemrGoes}
@@ -173,7 +173,7 @@ module _ (s : Store) (half : HalfEdge) (l : ℕ) (ok : Accepts s (Kemr half l)) 
   l_bare = subst (λ (t : Store). items_of (content t.model l) ≡ []) (sym looped_is) (ap items_of (two.content_l M r l (face_of M r) (face_of M r) all loops (cycle xs) (cycle [])))
 
   parted_is : parted ≡ state (cycle left) (cycle right) table.empty
-  parted_is = ap (λ b. cond b (cut_loose looped h m) (cut_to looped h m l)) (differs l 0 (number_real l goes.loop_fits))
+  parted_is = ap (λ b. cond b (cut_loose looped h m) (cut_to looped h m l)) (ne_eqb l 0 (number_real l goes.loop_fits))
       ∙ ap (λ t. cut_to t h m l) looped_is
       ∙ two.cut_parts M r l (face_of M r) (face_of M r) all loops s.room xs (cycle []) table.empty fits_one h m h_in
 

@@ -1,5 +1,6 @@
 -- What mef's writers make of a store, one after another.
 use Rattle.std.proofs.Common.{◌≡◌, ◌≢◌, ℕ, ◌+◌, true, false, cond, List, [], ◌∷◌, ◌++◌, Some, None, is_some, unwrap_or, sym, ap, ◌∙◌, subst, arith}
+use Rattle.std.proofs.lemmas.Bool.{ne_eqb}
 use Rattle.euler_operators.specs.Items.{count, tick, IsIn, IsApart}
 use Rattle.euler_operators.specs.Rings.{cut_right}
 use Rattle.euler_operators.specs.Operators.{put_ring, mef_old, mef_new}
@@ -17,7 +18,6 @@ use Rattle.euler_operators.specs.declared.Op.TheVariants.{Mef}
 use Rattle.euler_operators.specs.Conditions.{face_at}
 use Rattle.euler_operators.specs.Effect.{effect, mef, edge_row}
 use Rattle.euler_conditions.specs.Ready.{Accepts, after}
-use Rattle.euler_laws.proofs.shared.Goes.{differs}
 use Rattle.euler_laws.proofs.mef.MefSound.{MefGoes}
 use Rattle.euler_laws.proofs.mef.Mef.{mef_goes}
 use Rattle.euler_laws.proofs.mef.MefUndo.{loops-mef}
@@ -206,7 +206,7 @@ module _ (s : Store) (first second half : HalfEdge) (f l : ℕ) (ok : Accepts s 
   m_h : tick m h ≡ 0
   m_h = other m h (λ e. mate_other h (sym e)) where
     other : (x y : ℕ) → x ≢ y → tick x y ≡ 0
-    other x y ne = ap (λ b. cond b 1 0) (differs x y ne)
+    other x y ne = ap (λ b. cond b 1 0) (ne_eqb x y ne)
 
   pub m_loose : IsLoose first_in m
   m_loose = subst (λ (t : Store). IsLoose t m) (sym first_is) (record {
@@ -246,7 +246,7 @@ module _ (s : Store) (first second half : HalfEdge) (f l : ℕ) (ok : Accepts s 
   l_bare = subst (λ (t : Store). items_of (content t.model l) ≡ []) (sym second_is) (ap items_of (two.content_l N r l (face_of M r) f all loops (cycle zs) (cycle [])))
 
   parted_is : parted ≡ state (mef_old h g k xs) (mef_new m g k xs) table.empty
-  parted_is = ap (λ b. cond b (cut_loose second_in h m) (cut_to second_in h m l)) (differs l 0 l_real)
+  parted_is = ap (λ b. cond b (cut_loose second_in h m) (cut_to second_in h m l)) (ne_eqb l 0 l_real)
       ∙ ap (λ t. cut_to t h m l) second_is
       ∙ two.cut_parts N r l (face_of M r) f all loops s.room zs (cycle []) table.empty fits_three h m h_in
       ∙ ap (λ q. state q (cut_right h m zs) table.empty) (cut_old h m g k xs apart_xs g_in k_in g_k (mate_other h) no_h no_m)

@@ -2,6 +2,7 @@
 use Rattle.std.proofs.Common.{◌≡◌, ◌≢◌, ℕ, Bool, true, false, cond, nat_eq, List, [], ◌∷◌, Some, is_some, refl, sym, ap, ◌∙◌, arith, ◌⊎◌, inl, inr, ◌&&◌, true≢false}
 use mathlib.Core.Bool.{beq}
 use Rattle.std.proofs.lemmas.Bool.Decides.{nat_tests, eqb_tells}
+use Rattle.std.proofs.lemmas.Bool.{eq-eqb}
 use Rattle.euler_operators.specs.Items.{IsIn}
 use Rattle.euler_operators.specs.Rings.{rest, cut_left, cut_right, joined}
 use Rattle.euler_operators.specs.Operators.{put_ring, take_ring}
@@ -15,7 +16,6 @@ use Rattle.euler_operators.proofs.Tables.{put-put, put_turned}
 use Rattle.euler_operators.proofs.Models.{content_row, face_row, holds_in, held_row, in_no_loop}
 use Rattle.euler_operators.proofs.Tests.{beq_itself}
 use Rattle.euler_operators.specs.Effect.{edge_row, cycle_or_lone}
-use Rattle.euler_laws.proofs.shared.Goes.{equals}
 use Rattle.euler_laws.proofs.shared.Rows.{cycle_filled}
 use Rattle.euler_conditions.specs.Store as store
 use Rattle.euler_conditions.specs.Store.{Store, with_loop, with_lone, loosened, loose_key, loose_ring, join, join_loose, join_loops, cut, cut_loose, clear}
@@ -28,7 +28,7 @@ remove-put_same t n x = same_table _ _ (λ q. grind (arith, nat_tests, tables))
 -- ---- tests of half-edges
 
 itself : (h : HalfEdge) → (nat_eq h.edge h.edge && beq h.first h.first) ≡ true
-itself h = λ i. equals h.edge h.edge refl i && beq_itself h.first i
+itself h = λ i. eq-eqb h.edge h.edge refl i && beq_itself h.first i
 
 pub differ_codes : (a b : HalfEdge) → (nat_eq a.edge b.edge && beq a.first b.first) ≡ false → code a ≢ code b
 differ_codes a b t e =
@@ -119,7 +119,7 @@ module _ (s : Store) (g : ℕ) (stands : IsStanding s.model g) where
     pub join_puts : join s p h ≡ put_before s g h
     unfolding join_loose put_before
     join_puts =
-        ap (λ b. cond b (join_loose s p h) (join_loops s p h)) (equals (loop_of M h) 0 (in_no_loop M h loose.nowhere))
+        ap (λ b. cond b (join_loose s p h) (join_loops s p h)) (eq-eqb (loop_of M h) 0 (in_no_loop M h loose.nowhere))
         ∙ ap (λ l. as_join l (joined p h (items_of (content M l)) (loose_ring s h))) stands.before_near
         ∙ ap (λ ring. as_join r (joined p h xs ring)) loose.alone
         ∙ ap (as_join r) ring_put
@@ -157,7 +157,7 @@ module _ (s : Store) (g : ℕ) (stands : IsStanding s.model g) where
 
     face_again : face_of (with_loop M r (cycle [])) r ≡ face_of M r
     face_again = face_row (with_loop M r (cycle [])) r (record { face = face_of M r; content = cycle [] })
-        (table.get-put M.loops r (record { face = face_of M r; content = cycle [] }) r ∙ ap (λ b. cond b (Some (record { face = face_of M r; content = cycle [] })) (table.get M.loops r)) (equals r r refl))
+        (table.get-put M.loops r (record { face = face_of M r; content = cycle [] }) r ∙ ap (λ b. cond b (Some (record { face = face_of M r; content = cycle [] })) (table.get M.loops r)) (eq-eqb r r refl))
 
     one_item : xs ≡ g ∷ []
     one_item = alone_list (cycle_of M g) stands.apart g g_in none_follow
@@ -172,7 +172,7 @@ module _ (s : Store) (g : ℕ) (stands : IsStanding s.model g) where
     now_bare : items_of (content (clear s r).model r) ≡ []
     unfolding clear
     now_bare = ap items_of (content_row (with_loop M r (cycle [])) r (record { face = face_of M r; content = cycle [] })
-        (table.get-put M.loops r (record { face = face_of M r; content = cycle [] }) r ∙ ap (λ b. cond b (Some (record { face = face_of M r; content = cycle [] })) (table.get M.loops r)) (equals r r refl)))
+        (table.get-put M.loops r (record { face = face_of M r; content = cycle [] }) r ∙ ap (λ b. cond b (Some (record { face = face_of M r; content = cycle [] })) (table.get M.loops r)) (eq-eqb r r refl)))
 
     clear_takes_out : with_lone (clear s r) r (tail M g) ≡ take_out s g
     unfolding clear take_out

@@ -1,6 +1,7 @@
 -- Stores that differ in the contents of two loops only: what the readers answer there, and what the steps make of them.
 use Rattle.std.proofs.Common.{◌≡◌, ◌≢◌, ℕ, ◌+◌, ◌≤◌, cond, List, [], ◌∷◌, Some, unwrap_or, refl, sym, ap, ◌∙◌, subst, arith, inl, inr}
 use Rattle.std.proofs.lemmas.Bool.Decides.{nat_tests, eqb_tells}
+use Rattle.std.proofs.lemmas.Bool.{ne_eqb}
 use Rattle.euler_operators.specs.Items.{count, IsIn, IsApart}
 use Rattle.euler_operators.specs.Rings.{rest, predecessor, cut_left, cut_right, joined}
 use Rattle.euler_operators.specs.Operators.{put_ring}
@@ -12,7 +13,6 @@ use Rattle.euler_operators.specs.Sound.{HasHalf}
 use Rattle.euler_operators.proofs.Tables.{first_where_is, put-put, put_turned}
 use Rattle.euler_operators.proofs.Models.{content_row, face_row, in-holds, holds_in}
 use Rattle.euler_operators.specs.Effect.{cycle_or_lone}
-use Rattle.euler_laws.proofs.shared.Goes.{differs}
 use Rattle.euler_conditions.specs.Store.{Store, Room, loose_key, loose_ring, fill, join, join_loose, join_loops, cut_to}
 use Rattle.low_euler.specs.loop_steps.Steps.{IsStanding, put_before, take_out}
 
@@ -244,7 +244,7 @@ module _ (N : Model) (r l fr fl : ℕ) (all : List ℕ) (loops : TwoLoops N r l 
         let s : Store = state (cycle xs) (cycle ys) z in
         let la = loop_r (cycle xs) (cycle ys) fits a i in
         let lb = loop_l (cycle xs) (cycle ys) fits b j in
-        ap (λ t. cond t (join_loose s a b) (join_loops s a b)) (differs (loop_of P b) 0 (λ e. loops.second_real (sym lb ∙ e)))
+        ap (λ t. cond t (join_loose s a b) (join_loops s a b)) (ne_eqb (loop_of P b) 0 (λ e. loops.second_real (sym lb ∙ e)))
         ∙ ap (λ hs. state_2 (cycle xs) (cycle ys) (loop_of P b) (record { face = face_of P (loop_of P b); content = cycle [] }) (loop_of P a) (record { face = face_of P (loop_of P a); content = cycle (joined a b hs (cycle_of P b)) }) z) (cycle_r (cycle xs) (cycle ys) fits a i)
         ∙ ap (λ hs. state_2 (cycle xs) (cycle ys) (loop_of P b) (record { face = face_of P (loop_of P b); content = cycle [] }) (loop_of P a) (record { face = face_of P (loop_of P a); content = cycle (joined a b xs hs) }) z) (cycle_l (cycle xs) (cycle ys) fits b j)
         ∙ ap (λ q. state_2 (cycle xs) (cycle ys) q (record { face = face_of P q; content = cycle [] }) (loop_of P a) (record { face = face_of P (loop_of P a); content = cycle (joined a b xs ys) }) z) lb

@@ -1,5 +1,6 @@
 -- The corners at which mev may be called.
 use Rattle.std.proofs.Common.{◌≡◌, ℕ, None, sym, ap, subst, ◌∙◌}
+use Rattle.std.proofs.lemmas.Bool.{eqb-true}
 use Rattle.euler_operators.specs.declared.Point.{Point}
 use Rattle.euler_operators.specs.declared.HalfEdge.{HalfEdge}
 use Rattle.euler_operators.specs.declared.Corner.{Corner}
@@ -8,7 +9,7 @@ use Rattle.euler_operators.specs.Model.{Model, lone, content}
 use Rattle.euler_operators.specs.Sound.{Sound}
 use Rattle.euler_operators.specs.declared.Op.TheVariants.{Mev}
 use Rattle.euler_operators.specs.Conditions.{first_false, conditions, lone_vertex}
-use Rattle.euler_laws.proofs.shared.Goes.{all_hold, equal}
+use Rattle.euler_laws.proofs.shared.Goes.{all_hold}
 use Rattle.euler_laws.proofs.mev.Mev.{mixed_first, mixed_second}
 use Rattle.euler_laws.proofs.shared.Rows.{lone_is}
 use Rattle.euler_conditions.specs.Store.{Store}
@@ -20,7 +21,7 @@ unfolding first_false conditions
 same_lone M l d h v p sound e =
     let w = all_hold (conditions M (Mev (Lone l) (Lone d) h v p)) e in
     let t = w.1.1.1.1 in
-    sound.one_lone d l (lone_vertex (content M d)) (lone_is (content M d) t.1.1.1.0) (lone_is (content M l) t.1.1.0 ∙ ap lone (equal _ _ t.1.1.1.1.1.1.1.0))
+    sound.one_lone d l (lone_vertex (content M d)) (lone_is (content M d) t.1.1.1.0) (lone_is (content M l) t.1.1.0 ∙ ap lone (eqb-true _ _ t.1.1.1.1.1.1.1.0))
 
 module _ (s : Store) (l : ℕ) (h : HalfEdge) (v : ℕ) (p : Point) where
   -- beside a lone loop there is no other corner

@@ -16,11 +16,11 @@ use Rattle.euler_operators.specs.Table.{Table, tables, same_table}
 use Rattle.euler_operators.specs.Model.{Model, LoopContent, lone, cycle, no_loop, no_edge, items_of, holds, tail, tail_in, loop_of, face_of, content, after, round, arc}
 use Rattle.euler_operators.specs.Sound.{Sound, HasHalf}
 use Rattle.euler_operators.proofs.Halves.{mate_other, mate-mate, edge_of-code}
-use Rattle.euler_operators.proofs.Models.{in-holds, holds-none, cycle_there, row_of}
+use Rattle.euler_operators.proofs.Models.{in-holds, holds-none, cycle_there, row_of, mate_there as half_mate}
 use Rattle.euler_operators.proofs.Tables.{get-put_here, get-put_other}
 use Rattle.euler_operators.specs.declared.Op.TheVariants.{Kev}
 use Rattle.euler_operators.specs.Effect.{effect, kev}
-use Rattle.euler_laws.proofs.shared.Fans.{Fan, half_after, half_mate, loop_after, none_in_fan}
+use Rattle.euler_laws.proofs.shared.Fans.{Fan, half_after, loop_after, none_in_fan}
 use Rattle.euler_laws.proofs.shared.Loops.{apart_out}
 use Rattle.euler_laws.proofs.shared.Arcs.{arc_is}
 use Rattle.euler_laws.proofs.shared.Undo.{same_loops, same_edges, taken_out as taken_ring}
@@ -111,7 +111,7 @@ module _ (s : Store) (half : HalfEdge) (ok : Accepts s (Kev half)) where
   half_there = goes.h_there
 
   pub mate_there : HasHalf s.model (mate (code half))
-  mate_there = half_mate M sound h half_there
+  mate_there = half_mate M h half_there
 
   placed_M : IsPlaced M
   placed_M = placed_of M sound

@@ -1,6 +1,7 @@
 -- An edge made at a lone loop by the writers of an arena.
 use Rattle.std.proofs.Common.{◌≡◌, ◌≢◌, ℕ, true, false, cond, List, [], ◌∷◌, ◌++◌, is_some, unwrap_or, refl, sym, ap, subst, ◌∙◌, arith, true≢false, inl, inr}
 use Rattle.std.proofs.lemmas.Bool.Decides.{nat_tests, eqb_tells}
+use Rattle.std.proofs.lemmas.Bool.{eq-eqb}
 use Rattle.euler_operators.specs.declared.Point.{Point}
 use Rattle.euler_operators.specs.Points.{IsInRange}
 use Rattle.euler_operators.specs.Items.{count, IsIn}
@@ -20,7 +21,6 @@ use Rattle.euler_operators.proofs.Tables.{get-put_here, get-put_other, put-put}
 use Rattle.euler_operators.specs.declared.Op.TheVariants.{Mev}
 use Rattle.euler_operators.specs.Conditions.{lone_vertex, is_lone}
 use Rattle.euler_operators.specs.Effect.{effect, mev_lone}
-use Rattle.euler_laws.proofs.shared.Goes.{equals}
 use Rattle.euler_laws.proofs.shared.Loops.{loop_at}
 use Rattle.euler_laws.proofs.mev.MevLoneSound.{LoneGoes}
 use Rattle.euler_laws.proofs.mev.Mev.{lone_goes}
@@ -163,7 +163,7 @@ module _ (s : Store) (l : ℕ) (half : HalfEdge) (v : ℕ) (p : Point) (ok : Acc
   joined_is : join F h m ≡ as_joined l (h ∷ []) m (m ∷ [])
   unfolding join_loose
   joined_is =
-      ap (λ b. cond b (join_loose F h m) (join_loops F h m)) (equals (loop_of F.model m) 0 loop_m)
+      ap (λ b. cond b (join_loose F h m) (join_loops F h m)) (eq-eqb (loop_of F.model m) 0 loop_m)
       ∙ ap (λ q. as_joined q (items_of (content F.model q)) (loose_key F m) (loose_ring F m)) loop_h
       ∙ ap (λ c. as_joined l (items_of c) (loose_key F m) (loose_ring F m)) content_l
       ∙ ap (λ k. as_joined l (h ∷ []) k (unwrap_or (table.get F.loose k) [])) (alone_key F m m_alone)

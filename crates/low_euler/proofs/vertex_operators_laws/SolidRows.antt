@@ -1,5 +1,6 @@
 -- A solid with one face and one vertex, made and killed by the writers of an arena.
 use Rattle.std.proofs.Common.{◌≡◌, ℕ, true, false, List, [], ◌∷◌, Some, None, is_some, unwrap_or, refl, sym, ap, subst, ◌∙◌, true≢false}
+use Rattle.std.proofs.lemmas.Bool.{not-true}
 use Rattle.euler_operators.specs.declared.Point.{Point}
 use Rattle.euler_operators.specs.Points.{IsInRange}
 use Rattle.euler_operators.specs.Table as table
@@ -9,7 +10,7 @@ use Rattle.euler_operators.specs.declared.Op.TheVariants.{Mvfs, Kvfs}
 use Rattle.euler_operators.specs.Conditions.{first_false, conditions, bare_face, is_lone, lone_vertex}
 use Rattle.euler_operators.specs.Effect.{effect, mvfs, kvfs_at, head_or_zero}
 use Rattle.euler_operators.proofs.Tables.{get-put_here, put-put}
-use Rattle.euler_laws.proofs.shared.Goes.{all_hold, not_true}
+use Rattle.euler_laws.proofs.shared.Goes.{all_hold}
 use Rattle.euler_laws.proofs.faces.Solids.{KvfsGoes, kvfs_goes}
 use Rattle.euler_conditions.specs.Store.{Store, put_vertex, put_solid, put_face, put_loop, with_lone, only_item, take_solid, take_face, take_loop, take_vertex}
 use Rattle.euler_conditions.specs.Ready.{Accepts, after}
@@ -17,11 +18,11 @@ use Rattle.euler_conditions.specs.Ready.{Accepts, after}
 module _ (M : Model) (s f l v : ℕ) (p : Point) (holds : first_false M (Mvfs s f l v p) ≡ None) where
   pub mvfs_loop_free : table.has M.loops l ≡ false
   unfolding first_false conditions
-  mvfs_loop_free = let w = all_hold (conditions M (Mvfs s f l v p)) holds in not_true _ w.1.1.1.1.1.1.0
+  mvfs_loop_free = let w = all_hold (conditions M (Mvfs s f l v p)) holds in not-true _ w.1.1.1.1.1.1.0
 
   pub mvfs_face_free : table.has M.faces f ≡ false
   unfolding first_false conditions
-  mvfs_face_free = let w = all_hold (conditions M (Mvfs s f l v p)) holds in not_true _ w.1.1.1.1.1.0
+  mvfs_face_free = let w = all_hold (conditions M (Mvfs s f l v p)) holds in not-true _ w.1.1.1.1.1.0
 
   pub mvfs_point : IsInRange p
   unfolding first_false conditions

@@ -2,6 +2,7 @@
 use Rattle.std.proofs.Common.{◌≡◌, ◌≢◌, ℕ, Bool, true, false, cond, List, [], ◌∷◌, Option, Some, None, is_some, unwrap_or, refl, sym, ap, ◌∙◌, subst, arith, ◌⊎◌, inl, inr, true≢false}
 use Rattle.std.specs.Option.{option_map}
 use Rattle.std.proofs.lemmas.Bool.Decides.{nat_tests, eqb_tells}
+use Rattle.std.proofs.lemmas.Bool.{eq-eqb}
 use Rattle.std.proofs.lemmas.Option.{same_Some}
 use Rattle.euler_operators.specs.Items.{count, tick, IsIn, IsApart}
 use Rattle.euler_operators.specs.Rings.{canonical, predecessor, cut_left, cut_right, joined}
@@ -19,7 +20,6 @@ use Rattle.euler_operators.proofs.Halves.{mate_other, edge_of-mate}
 use Rattle.euler_operators.proofs.Tables.{map_one, first_where_is}
 use Rattle.euler_operators.proofs.Models.{holds_in, in-holds, holds-none, content_row, held_row, in_no_loop}
 use Rattle.euler_operators.specs.Effect.{edge_row, where_held}
-use Rattle.euler_laws.proofs.shared.Goes.{equals}
 use Rattle.euler_laws.proofs.shared.Loops.{count_put_there, count_put_none, count_out, count_gone, apart_out, light, none_free, loop_at}
 use Rattle.euler_laws.proofs.shared.Loops as loops
 use Rattle.euler_laws.proofs.shared.Same.{Rewritten, content-new, face-same}
@@ -191,7 +191,7 @@ module _ (s : Store) (placed : IsPlaced s.model) (g h : ℕ) (stands : HasLoop s
   pub join_puts : join s (before M g) h ≡ put_before s g h
   unfolding join_loose put_before
   join_puts =
-      ap (λ b. cond b (join_loose s (before M g) h) (join_loops s (before M g) h)) (equals (loop_of M h) 0 alone.no_loop)
+      ap (λ b. cond b (join_loose s (before M g) h) (join_loops s (before M g) h)) (eq-eqb (loop_of M h) 0 alone.no_loop)
       ∙ ap (λ l. as_put l (loose_key s h) (loose_ring s h)) (before_loop M placed g stands)
       ∙ ap (λ k. as_put (loop_of M g) k (unwrap_or (table.get s.loose k) [])) (alone_key s h alone)
       ∙ ap (λ o. as_put (loop_of M g) h (unwrap_or o [])) alone.ring

@@ -15,9 +15,9 @@ use Rattle.euler_operators.specs.Model.{Model, EdgeRow, no_edge, tail_in, tail, 
 use Rattle.euler_operators.specs.Sound.{Sound, HasHalf, StandsIn}
 use Rattle.euler_operators.proofs.Halves.{plus_row, minus_row}
 use Rattle.euler_operators.proofs.Tables.{map_same}
-use Rattle.euler_operators.proofs.Models.{held_row}
+use Rattle.euler_operators.proofs.Models.{held_row, mate_there as half_mate}
 use Rattle.euler_operators.specs.Effect.{with_tails}
-use Rattle.euler_laws.proofs.shared.Fans.{Fan, fan_of, half_mate}
+use Rattle.euler_laws.proofs.shared.Fans.{Fan, fan_of}
 use Rattle.euler_laws.proofs.shared.Same.{mapped_some}
 use Rattle.euler_laws.proofs.mev.MevSound.{tails_of_row}
 use Rattle.euler_laws.proofs.shared.Arcs.{halves_of_edge, arc_is}
@@ -177,10 +177,10 @@ module _ (s now : Store) (g k x v : ℕ) (sound : Sound s.model) (k_there : HasH
     set_to = cond (is_first x) (record (unwrap_or (table.get now.model.edges (edge_of x)) no_edge) { plus_tail = v }) (record (unwrap_or (table.get now.model.edges (edge_of x)) no_edge) { minus_tail = v })
 
   pub mate_there : HasHalf (set_tail now x v).model (mate x)
-  mate_there = set_halves (edge_of (mate x)) ∙ half_mate M sound x w.here
+  mate_there = set_halves (edge_of (mate x)) ∙ half_mate M x w.here
 
   mate_loop : loop_of M (mate x) ≢ 0
-  mate_loop e = zero_loop (loop_of M (mate x)) e (sound.stands (mate x) (half_mate M sound x w.here)) where
+  mate_loop e = zero_loop (loop_of M (mate x)) e (sound.stands (mate x) (half_mate M x w.here)) where
     zero_loop : (l : ℕ) → l ≡ 0 → StandsIn M (mate x) l → ⊥
     zero_loop l e s = true≢false (sym (sound.loops_fit 0 (ap is_some (held_row M (mate x) 0 (subst (StandsIn M (mate x)) e s)))))
 

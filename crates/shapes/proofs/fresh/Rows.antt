@@ -9,7 +9,7 @@ use Rattle.std.specs.Cmp.{unsigned_tied}
 use Rattle.std.specs.declared.cmp.Ordering.TheVariants.{Greater}
 use Rattle.euler_operators.proofs.Tables.{and_left, and_right, map-put, map_same}
 use Rattle.euler_operators.specs.Table as table
-use Rattle.euler_operators.specs.Table.{Table, all_in, greatest_in, tables, same_table}
+use Rattle.euler_operators.specs.Table.{Table, all_in, greatest_in}
 
 -- every number of the rows is below n
 abbrev pub AllBelow : {X : Type 0} → ℕ → List (ℕ × X) → Type 0
@@ -100,26 +100,9 @@ get-put_cases t k v q x at = elim (eqb_tells q k) [
   one : {X : Type 0} {x y : X} → Some x ≡ Some y → x ≡ y
   one e = cc
 
-pub get-put_here : {X : Type 0} (t : Table X) (k : ℕ) (v : X) → table.get (table.put t k v) k ≡ Some v
-get-put_here t k v = table.get-put t k v k ∙ ap (λ b. cond b (Some v) (table.get t k)) (same k) where
-  same : (n : ℕ) → nat_eq n n ≡ true
-  same n = grind (arith, nat_tests)
-
-pub get-put_other : {X : Type 0} (t : Table X) (k : ℕ) (v : X) (q : ℕ) → q ≢ k → table.get (table.put t k v) q ≡ table.get t q
-get-put_other t k v q ne = table.get-put t k v q ∙ ap (λ b. cond b (Some v) (table.get t q)) (other q k ne) where
-  other : (a b : ℕ) → a ≢ b → nat_eq a b ≡ false
-  other a b e = grind (arith, nat_tests)
-
 -- a rewriting after a row is put, where it leaves that row alone or the other ones
 pub map-put_last : {X : Type 0} (f : ℕ → X → X) (t : Table X) (k : ℕ) (v : X) → ((q : ℕ) (x : X) → table.get t q ≡ Some x → f q x ≡ x) → table.map_rows f (table.put t k v) ≡ table.put t k (f k v)
 map-put_last f t k v alone = map-put f t k v ∙ ap (λ s. table.put s k (f k v)) (map_same f t alone)
-
--- a row put twice, and two rows put in either order
-pub put-put : {X : Type 0} (t : Table X) (k : ℕ) (v w : X) → table.put (table.put t k v) k w ≡ table.put t k w
-put-put t k v w = same_table _ _ (λ q. grind (arith, nat_tests, tables))
-
-pub put_turned : {X : Type 0} (t : Table X) (k n : ℕ) (v w : X) → k ≢ n → table.put (table.put t k v) n w ≡ table.put (table.put t n w) k v
-put_turned t k n v w ne = same_table _ _ (λ q. grind (arith, nat_tests, tables))
 
 found_greatest : {X : Type 0} (e : ℕ × X) (es : List (ℕ × X)) → is_some (find nat_cmp (greatest_in (e ∷ es)) (e ∷ es)) ≡ true
 found_greatest e [] = ap (λ c. is_some (cond c (Some e.1) None)) (unsigned_tied e.0 e.0 ∙ same e.0) where

@@ -2,6 +2,7 @@
 use Rattle.std.specs.Prelude.{nat_le}
 use Rattle.std.proofs.Common.{◌≡◌, ◌≢◌, ℕ, ◌+◌, ◌≤◌, Bool, true, false, cond, List, [], ◌∷◌, ◌++◌, Some, None, refl, ap, ◌∙◌, arith}
 use Rattle.std.proofs.lemmas.Bool.Decides.{nat_tests}
+use Rattle.std.proofs.lemmas.Bool.{leb-true}
 use Rattle.euler_operators.specs.Model.{is_number}
 use Rattle.euler_operators.specs.Conditions.{Condition, AllHold, first_refusal}
 use Rattle.euler_operators.specs.declared.Refusal.{Refusal}
@@ -23,19 +24,6 @@ first_refusal-refused (c ∷ cs) ds r e =
       | true ↦ λ e. first_refusal-refused cs ds r e
       | false ↦ λ e. e
     ] e
-
--- what holds of two lists of conditions holds of the one after the other, and the other way
-pub all_hold-append : (cs ds : List Condition) → AllHold cs → AllHold ds → AllHold (cs ++ ds)
-all_hold-append [] ds h g = g
-all_hold-append (c ∷ cs) ds h g = (h.0, all_hold-append cs ds h.1 g)
-
-pub all_hold-front : (cs ds : List Condition) → AllHold (cs ++ ds) → AllHold cs
-all_hold-front [] ds h = tt
-all_hold-front (c ∷ cs) ds h = (h.0, all_hold-front cs ds h.1)
-
-pub all_hold-back : (cs ds : List Condition) → AllHold (cs ++ ds) → AllHold ds
-all_hold-back [] ds h = h
-all_hold-back (c ∷ cs) ds h = all_hold-back cs ds h.1
 
 -- a test is false of each number of a list
 abbrev pub NoneSuch : (ℕ → Bool) → List ℕ → Type 0
@@ -72,18 +60,15 @@ pub record Left (c : Taken) (f l e v : ℕ) : Type 0 where
   pub edges : c.edge + e ≤ 1000000
   pub vertices : c.vertex + v ≤ 1000000
 
-fits : (a n : ℕ) → nat_le a n ≡ true → a ≤ n
-fits a n e = grind (arith, nat_tests)
-
 fitting : (a n : ℕ) → a ≤ n → nat_le a n ≡ true
 fitting a n e = grind (arith, nat_tests)
 
 pub numbers_are_left : (c : Taken) (f l e v : ℕ) → AllHold (numbers_left c f l e v) → Left c f l e v
 numbers_are_left c f l e v h = record {
-  faces = fits (c.face + f) 1000000 h.0;
-  loops = fits (c.loop + l) 1000000 h.1.0;
-  edges = fits (c.edge + e) 1000000 h.1.1.0;
-  vertices = fits (c.vertex + v) 1000000 h.1.1.1.0;
+  faces = leb-true (c.face + f) 1000000 h.0;
+  loops = leb-true (c.loop + l) 1000000 h.1.0;
+  edges = leb-true (c.edge + e) 1000000 h.1.1.0;
+  vertices = leb-true (c.vertex + v) 1000000 h.1.1.1.0;
 }
 
 pub left_numbers_hold : (c : Taken) (f l e v : ℕ) → Left c f l e v → AllHold (numbers_left c f l e v)

@@ -1,10 +1,9 @@
 -- Two faces of two solids whose items go back along each other: what follows in a sound model.
-use Rattle.std.proofs.Common.{◌≡◌, ◌≢◌, ℕ, List, [], ◌∷◌, ◌++◌, Some, None, is_some, IsTrue, sym, ap, ◌∙◌, subst, arith, inl, inr}
+use Rattle.std.proofs.Common.{◌≡◌, ◌≢◌, ℕ, List, [], ◌∷◌, ◌++◌, Some, None, is_some, IsTrue, sym, ap, ◌∙◌, arith}
 use Rattle.std.specs.Prelude.{map, reverse}
-use Rattle.std.proofs.lemmas.Bool.Decides.{eqb_tells}
 use Rattle.euler_operators.specs.Items.{count, IsIn, IsApart}
 use Rattle.euler_operators.specs.Rings.{canonical, successor}
-use Rattle.euler_operators.proofs.Lists.{count-append, tick_same, tick_other}
+use Rattle.euler_operators.proofs.Lists.{count-append, tick_same}
 use Rattle.euler_operators.proofs.Rotations.{count-canonical}
 use Rattle.euler_operators.proofs.Rings.{successor_inner, successor_last}
 use Rattle.euler_operators.proofs.Maps.{count-reverse}
@@ -12,8 +11,8 @@ use Rattle.euler_operators.specs.HalfEdge.{mate}
 use Rattle.euler_operators.specs.Table as table
 use Rattle.euler_operators.specs.Model.{Model, cycle, items_of, holds, tail, loop_of, content, face_of, solid_of, outer, cycle_of, after, is_number}
 use Rattle.euler_operators.specs.Sound.{Sound, Has, HasHalf, StandsIn}
-use Rattle.euler_operators.proofs.Models.{content_row, face_row, in-holds}
-use Rattle.euler_laws.proofs.shared.Fans.{half_mate}
+use Rattle.euler_operators.proofs.Models.{content_row, face_row, in-holds, mate_there as half_mate}
+use Rattle.euler_operators.proofs.Members.{IsIn-map}
 use Rattle.euler_laws.proofs.shared.Same.{one_solid_round}
 
 -- f and g can be glued: hs are the items of f, each with its partner in g, and x is a fresh edge
@@ -35,13 +34,6 @@ pub record Facing (M : Model) (f g : ℕ) (partner_of : ℕ → ℕ) (hs : List 
   pub no_fold : (h k : ℕ) → IsIn h hs → IsIn k hs → mate (partner_of h) ≢ partner_of k
   pub edge_free : table.get M.edges x ≡ None
   pub edge_fits : IsTrue (is_number x)
-
-pub in_map : (a : ℕ → ℕ) (h : ℕ) (hs : List ℕ) → IsIn h hs → IsIn (a h) (map a hs)
-in_map a h [] i = absurd (omega (arith, i))
-in_map a h (k ∷ hs) i = elim (eqb_tells h k) [
-  | inl e ↦ subst (λ q. IsIn (a q) (map a (k ∷ hs))) (sym e.1) (omega (arith, tick_same (a k)))
-  | inr ne ↦ let r = in_map a h hs (omega (arith, i, tick_other h k ne.1)) in omega (arith, r)
-]
 
 module _ (M : Model) (f g : ℕ) (partner_of : ℕ → ℕ) (hs : List ℕ) (x : ℕ) (w : Facing M f g partner_of hs x) where
   abbrev pub side : ℕ → ℕ
@@ -83,7 +75,7 @@ module _ (M : Model) (f g : ℕ) (partner_of : ℕ → ℕ) (hs : List ℕ) (x :
 
   -- their partners
   pub partner_in : (h : ℕ) → IsIn h hs → IsIn (partner_of h) (canonical (reverse (map partner_of hs)))
-  partner_in h i = omega (arith, in_map partner_of h hs i, count-reverse (partner_of h) (map partner_of hs), count-canonical (partner_of h) (reverse (map partner_of hs)))
+  partner_in h i = omega (arith, IsIn-map partner_of h hs i, count-reverse (partner_of h) (map partner_of hs), count-canonical (partner_of h) (reverse (map partner_of hs)))
 
   pub stands_g : (h : ℕ) → IsIn h hs → StandsIn M (partner_of h) (outer M g)
   stands_g h i = ap (λ c. holds (partner_of h) c) content_g ∙ in-holds (partner_of h) (cycle (canonical (reverse (map partner_of hs)))) (partner_in h i)
@@ -105,7 +97,7 @@ module _ (M : Model) (f g : ℕ) (partner_of : ℕ → ℕ) (hs : List ℕ) (x :
   side_vertex y z a b e = one_solid_round M w.sound y z a b e
 
   pub mate_there : (y : ℕ) → HasHalf M y → HasHalf M (mate y)
-  mate_there y t = half_mate M w.sound y t
+  mate_there y t = half_mate M y t
 
   -- so nothing of f starts or ends where something of g starts
   pub never_met : (h k : ℕ) → IsIn h hs → IsIn k hs → tail M (partner_of h) ≢ tail M k

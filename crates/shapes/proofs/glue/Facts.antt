@@ -2,6 +2,7 @@
 use Rattle.std.proofs.Common.{◌≡◌, ◌≢◌, ℕ, suc, ◌≤◌, Bool, true, false, not, nat_eq, ◌&&◌, ◌||◌, List, [], ◌∷◌, ◌++◌, length, Some, None, is_some, refl, sym, ap, ◌∙◌, subst, arith, inl, inr, true≢false}
 use Rattle.std.specs.Prelude.{map, reverse}
 use Rattle.std.proofs.lemmas.Bool.Decides.{nat_tests}
+use Rattle.std.proofs.lemmas.Bool.{not-true, not-false, eqb-true, eqb-false}
 use Rattle.std.proofs.lemmas.List.{append-nil}
 use Rattle.euler_operators.specs.declared.Point.{Point}
 use Rattle.euler_operators.specs.Vectors.{same_point, origin, moved, cross}
@@ -13,15 +14,18 @@ use Rattle.euler_operators.proofs.Rings.{IsRing-same, IsIn_successor, predecesso
 use Rattle.euler_operators.proofs.Maps.{reverse-cons, reverse_at, count-reverse}
 use Rattle.euler_operators.specs.HalfEdge.{mate}
 use Rattle.euler_operators.specs.Table as table
-use Rattle.euler_operators.specs.Model.{Model, LoopContent, LoopRow, lone, cycle, items_of, holds, content, face_of, solid_of, outer, tail, point_of, after, rings_of}
+use Rattle.euler_operators.specs.Model.{Model, cycle, holds, content, face_of, solid_of, outer, tail, point_of, after, rings_of}
 use Rattle.euler_operators.specs.Sound.{Sound, Has, HasHalf, StandsIn, IsCycle}
 use Rattle.euler_operators.proofs.Halves.{mate-mate, mate_other}
 use Rattle.euler_operators.proofs.Tables.{zero_first_where}
-use Rattle.euler_operators.proofs.Models.{in-holds}
-use Rattle.euler_operators.specs.Conditions.{AllHold, is_empty, is_lone, lists, has_rings}
-use Rattle.euler_laws.proofs.shared.Goes.{all_hold, not_true, not_back, equal, unequal, no_zero}
+use Rattle.euler_operators.proofs.Models.{in-holds, loop_number}
+use Rattle.euler_operators.proofs.Tests.{and_first, first_fails, or_true}
+use Rattle.euler_operators.proofs.Members.{no_cons}
+use Rattle.euler_operators.proofs.Crossings.{same_as}
+use Rattle.euler_operators.specs.Conditions.{AllHold, is_lone, lists, has_rings}
+use Rattle.euler_laws.proofs.shared.Goes.{all_hold, no_zero}
 use Rattle.euler_laws.proofs.shared.Listed.{listed_as, listed_cases, listed_passes}
-use Rattle.euler_laws.proofs.shared.Rows.{loop_row, face_there, no_rings_means}
+use Rattle.euler_laws.proofs.shared.Rows.{loop_row, face_there, no_rings_means, not_lone_cycle, empty_is}
 use Rattle.euler_laws.proofs.shared.Loops.{IsLoop, loop_sound}
 use Rattle.shapes.proofs.fresh.Rows.{none_above}
 use Rattle.shapes.proofs.fresh.Tests.{NoneSuch, NoZero, none_such, Left, numbers_are_left, number_fits}
@@ -31,7 +35,7 @@ use Rattle.shapes.specs.Measure.{area, normal, is_flat, plane_of}
 use Rattle.shapes.specs.glue.Glue.{rim, outline, has_repeats, is_rotation, partner, glue_conditions, glue_refusal}
 use Rattle.shapes.specs.glue.GlueOps.{fresh_edge}
 use Rattle.shapes.proofs.glue.Facing.{Facing}
-use Rattle.shapes.proofs.glue.Points.{same_is, is_same, once, turned_list, other_list, such_is, there_and_back}
+use Rattle.shapes.proofs.glue.Points.{same_is, once, turned_list, other_list, such_is, there_and_back}
 
 -- ---- searches
 
@@ -47,10 +51,6 @@ none_zero [] never = tt
 none_zero (n ∷ ns) never = (never n (ap (λ b. b || lists ns n) (same n)), none_zero ns (λ k l. never k (ap (λ b. nat_eq n k || b) l ∙ or_true (nat_eq n k)))) where
   same : (n : ℕ) → nat_eq n n ≡ true
   same n = grind (arith, nat_tests)
-
-  or_true : (b : Bool) → (b || true) ≡ true
-  or_true true = refl
-  or_true false = refl
 
 -- ---- a loop of a sound model
 
@@ -86,14 +86,6 @@ module _ (M : Model) (sound : Sound M) where
     next_other h i e = sound.ends_differ h (half_l h i) (sym (ap (tail M) e) ∙ sound.ends_meet h (half_l h i))
 
 -- ---- a flat face without rings has three items or more
-
-empty_is : (xs : List ℕ) → not (is_empty xs) ≡ false → xs ≡ []
-empty_is [] e = refl
-empty_is (x ∷ xs) e = absurd (true≢false e)
-
-first_of : (a b : Bool) → (a && b) ≡ true → a ≡ true
-first_of true b e = refl
-first_of false b e = absurd (true≢false (sym e))
 
 two_of : (gs : List ℕ) → length gs ≡ 2 → (u : ℕ) × (v : ℕ) × (gs ≡ u ∷ v ∷ [])
 two_of [] e = absurd (omega (arith, e))
@@ -131,10 +123,10 @@ module _ (M : Model) (sound : Sound M) (g : ℕ) (there : Has M.faces g) (alone 
 
   has_normal : is_flat M g ≡ true → not (same_point (normal M g) origin) ≡ true
   unfolding is_flat plane_of
-  has_normal flat = first_of (not (same_point (normal M g) origin)) _ flat
+  has_normal flat = and_first (not (same_point (normal M g) origin)) _ flat
 
   pub never_two : is_flat M g ≡ true → length gs ≢ 2
-  never_two flat two = let p = two_of gs two in true≢false (sym (has_normal flat) ∙ ap not (is_same (normal M g) origin (two_thin p.0 p.1 p.2)))
+  never_two flat two = let p = two_of gs two in true≢false (sym (has_normal flat) ∙ ap not (same_as (normal M g) origin (two_thin p.0 p.1 p.2)))
 
 -- ---- the partners of a path
 
@@ -157,13 +149,10 @@ same_heads_some a [] ys e some = absurd (some refl)
 same_heads_some a (x ∷ xs) [] e some = absurd (no_points e)
 same_heads_some a (x ∷ xs) (y ∷ ys) e some = (both_points e).0
 
-not_nil : (z : ℕ) (zs : List ℕ) → z ∷ zs ≢ []
-not_nil z zs e = cc
-
 some_other : (a : ℕ → Point) (xs ys : List ℕ) → map a xs ≡ map a ys → xs ≢ [] → ys ≢ []
 some_other a [] ys e some = absurd (some refl)
 some_other a (x ∷ xs) [] e some = absurd (no_points e)
-some_other a (x ∷ xs) (y ∷ ys) e some = not_nil y ys
+some_other a (x ∷ xs) (y ∷ ys) e some = no_cons y ys
 
 -- a list moved on by one, with d at its end
 abbrev shifted : List ℕ → ℕ → List ℕ
@@ -188,10 +177,6 @@ shape_of : (hs : List ℕ) → hs ≢ [] → ((h : ℕ) → hs ≢ h ∷ []) →
 shape_of [] some more = absurd (some refl)
 shape_of (h ∷ []) some more = absurd (more h refl)
 shape_of (h ∷ k ∷ ks) some more = let p = front_of k ks in (h, p.0, last_or k ks, ap (λ t. h ∷ t) p.1)
-
-not_lone : (c : LoopContent) → is_lone c ≡ false → c ≡ cycle (items_of c)
-not_lone (lone v) e = absurd (true≢false e)
-not_lone (cycle cs) e = refl
 
 -- ---- a glue that isn't refused
 
@@ -227,31 +212,31 @@ module _ (M : Model) (f g : ℕ) (sound : Sound M) (accepted : glue_refusal M f 
 
   solids_apart : s ≢ t
   unfolding glue_conditions
-  solids_apart = unequal s t (not_true _ hold.1.1.1.1.0)
+  solids_apart = eqb-false s t (not-true _ hold.1.1.1.1.0)
 
   plain_f : has_rings M f ≡ false
   unfolding glue_conditions
-  plain_f = not_true _ hold.1.1.1.1.1.0
+  plain_f = not-true _ hold.1.1.1.1.1.0
 
   plain_g : has_rings M g ≡ false
   unfolding glue_conditions
-  plain_g = not_true _ hold.1.1.1.1.1.1.0
+  plain_g = not-true _ hold.1.1.1.1.1.1.0
 
   none_lone : table.first_where (λ _ row. is_lone row.content && lists fs row.face) M.loops ≡ 0
   unfolding glue_conditions
-  none_lone = equal (least_lone M fs) 0 hold.1.1.1.1.1.1.1.0
+  none_lone = eqb-true (least_lone M fs) 0 hold.1.1.1.1.1.1.1.0
 
   none_bent : first_such (λ k. not (is_flat M k)) fs ≡ 0
   unfolding glue_conditions
-  none_bent = equal (first_such (λ k. not (is_flat M k)) fs) 0 hold.1.1.1.1.1.1.1.1.0
+  none_bent = eqb-true (first_such (λ k. not (is_flat M k)) fs) 0 hold.1.1.1.1.1.1.1.1.0
 
   points_f : has_repeats (outline M f) ≡ false
   unfolding glue_conditions
-  points_f = not_true _ hold.1.1.1.1.1.1.1.1.1.0
+  points_f = not-true _ hold.1.1.1.1.1.1.1.1.1.0
 
   points_g : has_repeats (outline M g) ≡ false
   unfolding glue_conditions
-  points_g = not_true _ hold.1.1.1.1.1.1.1.1.1.1.0
+  points_g = not-true _ hold.1.1.1.1.1.1.1.1.1.1.0
 
   matches : is_rotation (outline M f) (reverse (outline M g)) ≡ true
   unfolding glue_conditions
@@ -272,18 +257,12 @@ module _ (M : Model) (f g : ℕ) (sound : Sound M) (accepted : glue_refusal M f 
     second : (a b : ℕ) → (nat_eq a b || nat_eq a a) ≡ true
     second a b = grind (arith, nat_tests)
 
-  not_zero : (q : ℕ) (row : LoopRow) → table.get M.loops q ≡ Some row → q ≢ 0
-  not_zero q row at z = no_zero q z (sound.loops_fit q (ap is_some at))
-
   is_cycle : (k : ℕ) → Has M.faces k → lists fs k ≡ true → content M (outer M k) ≡ cycle (rim M k)
   is_cycle k there listed =
       let p = sound.outers_there k there in
-      not_lone (content M (outer M k)) (never (is_lone (content M (outer M k))) (lists fs (face_of M (outer M k)))
-      (zero_first_where (λ _ row. is_lone row.content && lists fs row.face) M.loops not_zero none_lone (outer M k) _ (loop_row M (outer M k) p.0))
-      (ap (lists fs) p.1 ∙ listed)) where
-        never : (a b : Bool) → (a && b) ≡ false → b ≡ true → a ≡ false
-        never true b e l = absurd (true≢false (sym l ∙ e))
-        never false b e l = refl
+      not_lone_cycle (content M (outer M k)) (first_fails (is_lone (content M (outer M k))) (lists fs (face_of M (outer M k)))
+      (zero_first_where (λ _ row. is_lone row.content && lists fs row.face) M.loops (loop_number M sound) none_lone (outer M k) _ (loop_row M (outer M k) p.0))
+      (ap (lists fs) p.1 ∙ listed))
 
   cycle_f : content M (outer M f) ≡ cycle (rim M f)
   cycle_f = is_cycle f f_there listed_f
@@ -292,7 +271,7 @@ module _ (M : Model) (f g : ℕ) (sound : Sound M) (accepted : glue_refusal M f 
   cycle_g = is_cycle g g_there listed_g
 
   flat_g : is_flat M g ≡ true
-  flat_g = not_back (is_flat M g) (none_listed (λ k. not (is_flat M k)) fs g
+  flat_g = not-false (is_flat M g) (none_listed (λ k. not (is_flat M k)) fs g
       (none_such (λ k. not (is_flat M k)) fs (none_zero fs (λ n l z. no_zero n z (sound.faces_fit n (ap is_some (listed_passes (λ _ row. nat_eq row.solid s || nat_eq row.solid t) M.faces n l).1)))) none_bent) listed_g)
 
   has_f : Has M.loops (outer M f)
@@ -315,7 +294,7 @@ module _ (M : Model) (f g : ℕ) (sound : Sound M) (accepted : glue_refusal M f 
   in_g y i = omega (arith, i, IsRotation-same items_g (reverse turned.0) turned.2 y, count-reverse y turned.0)
 
   partner_is : (h y : ℕ) → IsIn y items_g → start M y ≡ finish M h → partner_of h ≡ y
-  partner_is h y i e = such_is (λ k. same_point (start M k) (finish M h)) items_g y i (is_same (start M y) (finish M h) e)
+  partner_is h y i e = such_is (λ k. same_point (start M k) (finish M h)) items_g y i (same_as (start M y) (finish M h) e)
       (λ j p q. once (start M) items_g points_g j y p i (same_is (start M j) (finish M h) q ∙ sym e))
 
   found : (h : ℕ) → IsIn h items_f → (y : ℕ) × IsIn y items_g × (start M y ≡ finish M h)

@@ -5,6 +5,7 @@ use Rattle.std.specs.List.{list_any}
 use Rattle.std.specs.Ordering.{int_eq}
 use Rattle.std.specs.Cmp.{signed_Decides}
 use Rattle.std.proofs.lemmas.Bool.Decides.{eqb_tells}
+use Rattle.std.proofs.lemmas.Bool.{and_parts, or_parts}
 use Rattle.std.proofs.lemmas.List.{append-nil, reverse-append, reverse-reverse, take-append-drop}
 use Rattle.euler_operators.specs.declared.Point.{Point}
 use Rattle.euler_operators.specs.Vectors.{same_point, moved, cross, origin}
@@ -15,32 +16,23 @@ use Rattle.euler_operators.proofs.Maps.{reverse-cons}
 use Rattle.shapes.specs.Fresh.{first_such}
 use Rattle.euler_operators.proofs.Integers.{dif, dif-parts, difs, same_dif, number}
 use Rattle.euler_operators.proofs.Vectors.{same_vector}
+use Rattle.euler_operators.proofs.Tests.{or_true}
+use Rattle.euler_operators.proofs.Crossings.{same_as}
 use Rattle.shapes.specs.glue.Glue.{has_repeats, same_points, is_turned, is_rotation}
 
 -- ---- equal points
 
-both : (a b : Bool) → (a && b) ≡ true → (a ≡ true) × (b ≡ true)
-both true b e = (refl, e)
-both false b e = absurd (true≢false (sym e))
-
-neither : (a b : Bool) → (a || b) ≡ false → (a ≡ false) × (b ≡ false)
-neither true b e = absurd (true≢false e)
-neither false b e = (refl, e)
-
 pub same_is : (p q : Point) → same_point p q ≡ true → p ≡ q
 same_is p q e =
-    let a = both (int_eq p.x q.x && int_eq p.y q.y) (int_eq p.z q.z) e in
-    let b = both (int_eq p.x q.x) (int_eq p.y q.y) a.0 in
+    let a = and_parts (int_eq p.x q.x && int_eq p.y q.y) (int_eq p.z q.z) e in
+    let b = and_parts (int_eq p.x q.x) (int_eq p.y q.y) a.0 in
     same_vector p q ((signed_Decides p.x q.x).0 b.0) ((signed_Decides p.y q.y).0 b.1) ((signed_Decides p.z q.z).0 a.1)
-
-pub is_same : (p q : Point) → p ≡ q → same_point p q ≡ true
-is_same p q e = λ i. ((signed_Decides p.x q.x).1 (ap (λ r. r.x) e)) i && ((signed_Decides p.y q.y).1 (ap (λ r. r.y) e)) i && ((signed_Decides p.z q.z).1 (ap (λ r. r.z) e)) i
 
 pub same_lists : (ps qs : List Point) → same_points ps qs ≡ true → ps ≡ qs
 same_lists [] [] e = refl
 same_lists [] (q ∷ qs) e = absurd (true≢false (sym e))
 same_lists (p ∷ ps) [] e = absurd (true≢false (sym e))
-same_lists (p ∷ ps) (q ∷ qs) e = let a = both (same_point p q) (same_points ps qs) e in λ i. same_is p q a.0 i ∷ same_lists ps qs a.1 i
+same_lists (p ∷ ps) (q ∷ qs) e = let a = and_parts (same_point p q) (same_points ps qs) e in λ i. same_is p q a.0 i ∷ same_lists ps qs a.1 i
 
 -- a list turned by i places
 pub turned_by : (n : ℕ) (ps qs : List Point) → is_turned n ps qs ≡ true → (i : ℕ) × (ps ≡ drop i qs ++ take i qs)
@@ -89,18 +81,15 @@ module _ (a : ℕ → Point) where
   any_in : (p : Point) (k : ℕ) (ks : List ℕ) → IsIn k ks → p ≡ a k → list_any (same_point p) (map a ks) ≡ true
   any_in p k [] i e = absurd (omega (arith, i))
   any_in p k (j ∷ ks) i e = elim (eqb_tells k j) [
-    | inl s ↦ ap (λ b. b || list_any (same_point p) (map a ks)) (is_same p (a j) (e ∙ ap a s.1))
+    | inl s ↦ ap (λ b. b || list_any (same_point p) (map a ks)) (same_as p (a j) (e ∙ ap a s.1))
     | inr ne ↦ ap (λ b. same_point p (a j) || b) (any_in p k ks (omega (arith, i, tick_other k j ne.1)) e) ∙ or_true (same_point p (a j))
-  ] where
-    or_true : (b : Bool) → (b || true) ≡ true
-    or_true true = refl
-    or_true false = refl
+  ]
 
   -- where no point stands twice, the point tells the number
   pub once : (ks : List ℕ) → has_repeats (map a ks) ≡ false → (h k : ℕ) → IsIn h ks → IsIn k ks → a h ≡ a k → h ≡ k
   once [] r h k i j e = absurd (omega (arith, i))
   once (n ∷ ks) r h k i j e =
-      let b = neither (list_any (same_point (a n)) (map a ks)) (has_repeats (map a ks)) r in
+      let b = or_parts (list_any (same_point (a n)) (map a ks)) (has_repeats (map a ks)) r in
       elim (eqb_tells h n) [
         | inl p ↦ elim (eqb_tells k n) [
           | inl q ↦ p.1 ∙ sym q.1

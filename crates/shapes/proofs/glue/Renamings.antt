@@ -6,15 +6,14 @@ use Rattle.euler_operators.specs.Items.{count, IsIn, IsApart, before, after}
 use Rattle.euler_operators.specs.Rings.{canonical, rest}
 use Rattle.euler_operators.proofs.Lists.{count-append, tick_same, tick_other, split_at, count-before}
 use Rattle.euler_operators.proofs.Rotations.{canonical-rotates, rest_same, rest_parts, canonical_same}
+use Rattle.euler_operators.proofs.Tests.{nat_eq_turned}
+use Rattle.euler_operators.proofs.Tables.{remove_turned}
 use Rattle.euler_operators.specs.Table as table
-use Rattle.euler_operators.specs.Table.{Table, tables, same_table}
+use Rattle.euler_operators.specs.Table.{Table, tables}
 use Rattle.shapes.specs.Rewriting.{renamed, without_rows}
 use Rattle.shapes.specs.glue.Part.{paired}
 
 -- ---- renamings
-
-turned : (a b : ℕ) → nat_eq a b ≡ nat_eq b a
-turned a b = grind (arith, nat_tests)
 
 module _ (from to : ℕ → ℕ) where
   -- a number is renamed to where one of the items leads, or stays, and then none starts there
@@ -38,7 +37,7 @@ module _ (from to : ℕ → ℕ) where
   -- one item more: what became w goes on to where the item leads
   pub renamed_more : (hs : List ℕ) (k : ℕ) → ((h : ℕ) → IsIn h hs → to h ≢ from k) → (u : ℕ) →
       renamed (paired from to (hs ++ k ∷ [])) u ≡ cond (nat_eq (renamed (paired from to hs) u) (from k)) (to k) (renamed (paired from to hs) u)
-  renamed_more [] k none u = ap (λ b. cond b (to k) u) (turned (from k) u)
+  renamed_more [] k none u = ap (λ b. cond b (to k) u) (nat_eq_turned (from k) u)
   renamed_more (h ∷ hs) k none u = elim (eqb_tells (from h) u) [
     | inl e ↦
         ap (λ b. cond b (to h) (renamed (paired from to (hs ++ k ∷ [])) u)) e.0
@@ -73,9 +72,6 @@ module _ (from to : ℕ → ℕ) where
 pub without_more : {X : Type 0} (t : Table X) (ns : List ℕ) (n : ℕ) → without_rows t (ns ++ n ∷ []) ≡ table.remove (without_rows t ns) n
 without_more t [] n = refl
 without_more t (k ∷ ns) n = without_more (table.remove t k) ns n
-
-remove_turned : {X : Type 0} (t : Table X) (k n : ℕ) → table.remove (table.remove t k) n ≡ table.remove (table.remove t n) k
-remove_turned t k n = same_table _ _ (λ q. grind (arith, nat_tests, tables))
 
 pub without_first : {X : Type 0} (t : Table X) (ns : List ℕ) (n : ℕ) → without_rows t (n ∷ ns) ≡ table.remove (without_rows t ns) n
 without_first t [] n = refl

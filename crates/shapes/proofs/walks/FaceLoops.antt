@@ -9,9 +9,9 @@ use Rattle.euler_operators.specs.Table as table
 use Rattle.euler_operators.specs.Model.{Model, LoopRow, no_loop, items_of, content, loop_of, outer, face_of, rings_of, is_ring_of}
 use Rattle.euler_operators.specs.Sound.{Sound, HasHalf}
 use Rattle.euler_operators.proofs.Models.{in-holds}
+use Rattle.euler_operators.proofs.Tables.{row_some}
 use Rattle.euler_operators.specs.Conditions.{lists, strictly_rises}
 use Rattle.euler_laws.proofs.shared.Listed.{listed_passes, passes_listed, all_where-rises}
-use Rattle.euler_laws.proofs.shared.Loops.{some_row}
 use Rattle.euler_laws.proofs.shared.FaceRings.{ring_there}
 use Rattle.euler_laws.proofs.shared.Bounds.{steps, steps_are, length_below, half_below}
 use Rattle.euler_laws.proofs.shared.Counted.{none_counted, counted_once}
@@ -66,7 +66,7 @@ module _ (M : Model) (sound : Sound M) where
     listed_ring l i = let r = listed_passes (λ l row. nat_eq row.face f && not (nat_eq (outer M f) l)) M.loops l i in sym (ring_row l r.0 r.1) ∙ r.2
 
     pub ring_listed : (l : ℕ) → is_ring_of M f l ≡ true → lists (rings_of M f) l ≡ true
-    ring_listed l e = let r = some_row (table.get M.loops l) (ring_there M f l e).0 in passes_listed (λ l row. nat_eq row.face f && not (nat_eq (outer M f) l)) M.loops l r.0 r.1 (ring_row l r.0 r.1 ∙ e)
+    ring_listed l e = let r = row_some (table.get M.loops l) (ring_there M f l e).0 in passes_listed (λ l row. nat_eq row.face f && not (nat_eq (outer M f) l)) M.loops l r.0 r.1 (ring_row l r.0 r.1 ∙ e)
 
     pub rings_rise : strictly_rises (rings_of M f) ≡ true
     rings_rise = all_where-rises (λ l row. nat_eq row.face f && not (nat_eq (outer M f) l)) M.loops

@@ -2,19 +2,19 @@
 use Rattle.std.proofs.Common.{◌≡◌, ℕ, ◌≤◌, ◌<◌, true, nat_eq, nat_le, ◌&&◌, List, [], ◌∷◌, ◌++◌, length, Some, is_some, refl, sym, ap, ◌∙◌, arith, inl, inr}
 use Rattle.std.specs.Prelude.{unwrap_or}
 use Rattle.std.proofs.lemmas.Bool.Decides.{nat_tests, eqb_tells}
+use Rattle.std.proofs.lemmas.Bool.{eq-eqb, eqb-true}
 use Rattle.std.proofs.lemmas.List.{append_assoc}
 use Rattle.euler_operators.specs.Items.{count, tick, IsIn, IsApart}
 use Rattle.euler_operators.proofs.Lists.{count-append, tick_same, IsIn_or_not}
+use Rattle.euler_operators.proofs.Tables.{row_some}
 use Rattle.euler_operators.specs.Table as table
 use Rattle.euler_operators.specs.Model.{Model, FaceRow, no_face, outer, face_of, rings_of, faces_of, solid_of}
 use Rattle.euler_operators.specs.Sound.{Sound, Has}
 use Rattle.euler_operators.specs.Conditions.{lists, strictly_rises}
-use Rattle.euler_laws.proofs.shared.Listed.{first_listed, rest_listed, listed_cases, listed_passes, passes_listed, all_where-rises}
-use Rattle.euler_laws.proofs.shared.Loops.{some_row}
-use Rattle.euler_laws.proofs.shared.Goes.{equal, equals}
+use Rattle.euler_laws.proofs.shared.Listed.{first_listed, rest_listed, listed_cases, listed_passes, passes_listed, all_where-rises, IsIn-from_listed, listed-from_in}
 use Rattle.euler_laws.proofs.shared.FaceRings.{ring_there, outer_or_ring}
 use Rattle.euler_laws.proofs.shared.Bounds.{length_below, ring_number}
-use Rattle.euler_laws.proofs.shared.Counted.{counted_once, in_listed, listed_in}
+use Rattle.euler_laws.proofs.shared.Counted.{counted_once}
 use Rattle.euler_laws.proofs.shared.UpTo.{up_to, up_to_none, count_up_to, listed_up_to}
 use Rattle.shapes.specs.Faces.{loops_of}
 use Rattle.shapes.specs.Walks.{loops_in}
@@ -35,21 +35,21 @@ module _ (M : Model) (sound : Sound M) where
 
   -- also the loops up to a number
   pub loops_to_there : (f : ℕ) → Has M.faces f → (n l : ℕ) → IsIn l (loops_to M f n) → Has M.loops l
-  loops_to_there f t n l i = elim (listed_cases (outer M f) l (up_to n (rings_of M f)) (in_listed l (loops_to M f n) i)) [
+  loops_to_there f t n l i = elim (listed_cases (outer M f) l (up_to n (rings_of M f)) (listed-from_in l (loops_to M f n) i)) [
     | inl e ↦ ap (table.has M.loops) e ∙ (sound.outers_there f t).0
     | inr r ↦ (ring_there M f l (listed_ring M sound f l (listed_up_to l n (rings_of M f) r))).0
   ]
 
   loop_of_face : (l : ℕ) → Has M.loops l → IsIn l (loops_of M (face_of M l))
   unfolding loops_of
-  loop_of_face l t = listed_in l (outer M (face_of M l) ∷ rings_of M (face_of M l)) (elim (outer_or_ring M (face_of M l) l t refl) [
+  loop_of_face l t = IsIn-from_listed l (outer M (face_of M l) ∷ rings_of M (face_of M l)) (elim (outer_or_ring M (face_of M l) l t refl) [
     | inl o ↦ ap (λ k. lists (k ∷ rings_of M (face_of M l)) l) o ∙ first_listed l (rings_of M (face_of M l))
     | inr r ↦ rest_listed (outer M (face_of M l)) l (rings_of M (face_of M l)) (ring_listed M sound (face_of M l) l r)
   ])
 
   one_face : (f l : ℕ) → Has M.faces f → count l (loops_of M f) ≤ tick (face_of M l) f
   one_face f l t = elim (IsIn_or_not l (loops_of M f)) [
-    | inl i ↦ let e = (face_of_loop f l t (in_listed l (loops_of M f) i)).1 in omega (arith, loops_of_apart M sound f l, ap (λ k. tick k f) e, tick_same f)
+    | inl i ↦ let e = (face_of_loop f l t (listed-from_in l (loops_of M f) i)).1 in omega (arith, loops_of_apart M sound f l, ap (λ k. tick k f) e, tick_same f)
     | inr z ↦ omega (arith, z)
   ]
 
@@ -65,7 +65,7 @@ module _ (M : Model) (sound : Sound M) where
   pub loops_there : (fs : List ℕ) (l : ℕ) → AreFaces fs → IsIn l (loops_in M fs) → Has M.loops l
   loops_there [] l t i = absurd (omega arith)
   loops_there (f ∷ fs) l t i = elim (IsIn_or_not l (loops_of M f)) [
-    | inl j ↦ (face_of_loop f l (t f (first_listed f fs)) (in_listed l (loops_of M f) j)).0
+    | inl j ↦ (face_of_loop f l (t f (first_listed f fs)) (listed-from_in l (loops_of M f) j)).0
     | inr z ↦ loops_there fs l (λ g k. t g (rest_listed f g fs k)) (omega (arith, z, count-append l (loops_of M f) (loops_in M fs)))
   ]
 
@@ -73,7 +73,7 @@ module _ (M : Model) (sound : Sound M) where
   loops_held [] l t i = absurd (omega arith)
   loops_held (f ∷ fs) l t i = elim (eqb_tells (face_of M l) f) [
     | inl e ↦ omega (arith, count-append l (loops_of M f) (loops_in M fs), loop_of_face l t, ap (λ g. count l (loops_of M g)) e.1)
-    | inr e ↦ omega (arith, count-append l (loops_of M f) (loops_in M fs), loops_held fs l t (listed_in (face_of M l) fs (later (face_of M l) f (in_listed (face_of M l) (f ∷ fs) i) e.1)))
+    | inr e ↦ omega (arith, count-append l (loops_of M f) (loops_in M fs), loops_held fs l t (IsIn-from_listed (face_of M l) fs (later (face_of M l) f (listed-from_in (face_of M l) (f ∷ fs) i) e.1)))
   ] where
     later : (g f : ℕ) → lists (f ∷ fs) g ≡ true → (g ≡ f → ⊥) → lists fs g ≡ true
     later g f l ne = elim (listed_cases f g fs l) [ inl e ↦ absurd (ne e) | inr e ↦ e ]
@@ -84,10 +84,10 @@ module _ (M : Model) (sound : Sound M) where
     face_row f row e = sym (ap (λ o. (unwrap_or o no_face).solid) e)
 
     pub listed_face : (f : ℕ) → lists (faces_of M s) f ≡ true → Has M.faces f × (solid_of M f ≡ s)
-    listed_face f i = let r = listed_passes (λ _ row. nat_eq row.solid s) M.faces f i in (ap is_some r.1, sym (face_row f r.0 r.1) ∙ equal r.0.solid s r.2)
+    listed_face f i = let r = listed_passes (λ _ row. nat_eq row.solid s) M.faces f i in (ap is_some r.1, sym (face_row f r.0 r.1) ∙ eqb-true r.0.solid s r.2)
 
     pub face_listed : (f : ℕ) → Has M.faces f → solid_of M f ≡ s → lists (faces_of M s) f ≡ true
-    face_listed f t e = let r = some_row (table.get M.faces f) t in passes_listed (λ _ row. nat_eq row.solid s) M.faces f r.0 r.1 (equals r.0.solid s (face_row f r.0 r.1 ∙ e))
+    face_listed f t e = let r = row_some (table.get M.faces f) t in passes_listed (λ _ row. nat_eq row.solid s) M.faces f r.0 r.1 (eq-eqb r.0.solid s (face_row f r.0 r.1 ∙ e))
 
     pub faces_rise : strictly_rises (faces_of M s) ≡ true
     faces_rise = all_where-rises (λ _ row. nat_eq row.solid s) M.faces
@@ -105,7 +105,7 @@ module _ (M : Model) (sound : Sound M) where
     faces_none = up_to_none 0 (faces_of M s) (λ f i. (face_number f (listed_face f i).0).0)
 
     pub faces_short : length (faces_of M s) ≤ 1000001
-    faces_short = length_below 1000001 (faces_of M s) (λ f. counted_once f (faces_of M s) faces_rise) (λ f i. below f (face_number f (listed_face f (in_listed f (faces_of M s) i)).0).1) where
+    faces_short = length_below 1000001 (faces_of M s) (λ f. counted_once f (faces_of M s) faces_rise) (λ f i. below f (face_number f (listed_face f (listed-from_in f (faces_of M s) i)).0).1) where
       below : (f : ℕ) → f ≤ 1000000 → f < 1000001
       below f l = omega arith
 
@@ -130,11 +130,11 @@ module _ (M : Model) (sound : Sound M) where
     pub loop_in_solid : (l : ℕ) → IsIn l solid_loops → Has M.loops l × (solid_of M (face_of M l) ≡ s)
     loop_in_solid l i = (
       loops_there (faces_of M s) l (λ f j. (listed_face f j).0) i,
-      (listed_face (face_of M l) (in_listed (face_of M l) (faces_of M s) (omega (arith, i, loops_counted (faces_of M s) l (λ f j. (listed_face f j).0))))).1,
+      (listed_face (face_of M l) (listed-from_in (face_of M l) (faces_of M s) (omega (arith, i, loops_counted (faces_of M s) l (λ f j. (listed_face f j).0))))).1,
     )
 
     pub solid_has_loop : (l : ℕ) → Has M.loops l → solid_of M (face_of M l) ≡ s → IsIn l solid_loops
-    solid_has_loop l t e = loops_held (faces_of M s) l t (listed_in (face_of M l) (faces_of M s) (face_listed (face_of M l) (sound.loops_of_faces l t) e))
+    solid_has_loop l t e = loops_held (faces_of M s) l t (IsIn-from_listed (face_of M l) (faces_of M s) (face_listed (face_of M l) (sound.loops_of_faces l t) e))
 
 -- different loops that are there are at most so many
 pub loops_short : (M : Model) → Sound M → (ls : List ℕ) → IsApart ls → ((l : ℕ) → IsIn l ls → Has M.loops l) → length ls ≤ 1000001

@@ -13,7 +13,7 @@ use Rattle.solid_measure.specs.solid_counts.Counts.{rings_in}
 use Rattle.shapes.specs.Walks.{loops_in}
 use Rattle.solid_measure.specs.solid_counts.Sums.{together, nothing, IsFew, loop_met, loops_met}
 use Rattle.euler_laws.proofs.shared.UpTo.{up_to}
-use Rattle.euler_laws.proofs.shared.Counted.{in_listed}
+use Rattle.euler_laws.proofs.shared.Listed.{listed-from_in}
 use Rattle.shapes.proofs.walks.FaceLoops.{loops_to, loops_apart, loops_of_apart, loops_none}
 use Rattle.solid_walks.proofs.NextRing.{loops_more, loops_all}
 use Rattle.shapes.proofs.walks.SolidFaces.{loops_joined, loops_short, faces_none, solid_loops_apart, solid_loops_there, all_loops_apart, loop_in_solid, face_of_loop, loops_to_there}
@@ -61,7 +61,7 @@ module _ (M : Model) (sound : Sound M) where
     face_end last none = ap (loops_met M) (loops_all M sound f last none)
 
     pub face_all_few : Has M.faces f → IsFew (loops_met M (loops_of M f))
-    face_all_few t = loops_few M sound (loops_of M f) (loops_of_apart M sound f) (λ l i. (face_of_loop M sound f l t (in_listed l (loops_of M f) i)).0)
+    face_all_few t = loops_few M sound (loops_of M f) (loops_of_apart M sound f) (λ l i. (face_of_loop M sound f l t (listed-from_in l (loops_of M f) i)).0)
 
   module _ (s : ℕ) where
     pub solid_start : nothing ≡ solid_met_to M s 0

@@ -6,6 +6,7 @@ use mir.Syntax.{w64}
 use mir.Val.{to_z, of_z}
 use Rattle.euler_operators.proofs.Magnitudes.{difference_within}
 use Rattle.std.proofs.lemmas.Bool.Decides.{eqb_tells}
+use Rattle.std.proofs.lemmas.Bool.{eq-eqb, eqb-true}
 use Rattle.std.proofs.lemmas.List.{length-append, length-map, append_assoc}
 use Rattle.euler_operators.specs.Items.{count, IsIn, IsApart}
 use Rattle.euler_operators.proofs.Lists.{count-append, tick_same, tick_other, IsIn_or_not}
@@ -14,14 +15,12 @@ use Rattle.euler_operators.specs.Table as table
 use Rattle.euler_operators.specs.Model.{Model, LoopContent, lone, cycle, items_of, tail, content, loop_of, face_of, solid_of, faces_of}
 use Rattle.euler_operators.specs.Sound.{Sound, Has, HasHalf, IsLoneAt}
 use Rattle.euler_operators.proofs.Halves.{plus_row, first_is_plus}
-use Rattle.euler_operators.proofs.Models.{cycle_there}
+use Rattle.euler_operators.proofs.Models.{cycle_there, loop_there}
 use Rattle.euler_operators.proofs.Members.{IsIn-map, IsApart-images}
+use Rattle.euler_operators.proofs.Tables.{row_some}
 use Rattle.euler_operators.specs.Conditions.{lists, is_lone, face_at}
 use Rattle.euler_laws.proofs.shared.Fans.{kept_round, loop_after}
-use Rattle.euler_laws.proofs.shared.Listed.{listed_passes, passes_listed, all_where-rises}
-use Rattle.euler_laws.proofs.shared.Loops.{some_row}
-use Rattle.euler_laws.proofs.shared.Goes.{equal, equals}
-use Rattle.euler_conditions.proofs.Known.{loop_there}
+use Rattle.euler_laws.proofs.shared.Listed.{listed_passes, passes_listed, all_where-rises, IsIn-from_listed, listed-from_in}
 use Rattle.shapes.specs.Faces.{items_in, loops_of, vertices_on, vertices_in, corners, edges_of}
 use Rattle.solid_measure.specs.solid_counts.Counts.{corners_in, rings_in, vertices_of, counts}
 use Rattle.solid_measure.specs.declared.solid_counts.Met.{Met}
@@ -31,7 +30,7 @@ use Rattle.solid_measure.proofs.solid_counts_laws.HowMany.{passing, passing_are,
 use Rattle.solid_measure.proofs.solid_counts_laws.Sums.{is_lone_loop, loops_are, loops_few}
 use Rattle.solid_measure.proofs.solid_counts_laws.FaceSums.{all_rings_few}
 use Rattle.shapes.specs.Walks.{leads, loops_in}
-use Rattle.euler_laws.proofs.shared.Counted.{counted_once, in_listed, listed_in}
+use Rattle.euler_laws.proofs.shared.Counted.{counted_once}
 use Rattle.shapes.proofs.walks.FaceLoops.{different_items, items_counted, items_there}
 use Rattle.shapes.proofs.walks.SolidFaces.{solid_loops, all_loops_apart, loop_in_solid, solid_has_loop, faces_short}
 use Rattle.shapes.proofs.walks.FirstEdges.{one_leads, only_leads}
@@ -122,14 +121,14 @@ module _ (M : Model) (sound : Sound M) (s : ℕ) where
       let p = of_passing is_first m.0 halves m.1 in
       let h = half_solid m.0 p.0 in
       let x : m.0 ≡ plus e = first_is_plus m.0 p.1 ∙ ap plus m.2 in
-      let r = some_row (table.get M.edges e) (ap (table.has M.edges) (sym m.2) ∙ h.0) in
-      listed_in e (edges_of M s) (passes_listed (λ e _. OfSolid e) M.edges e r.0 r.1 (equals (solid_of M (face_at M (plus e))) s (ap (λ y. solid_of M (face_at M y)) (sym x) ∙ h.1)))
+      let r = row_some (table.get M.edges e) (ap (table.has M.edges) (sym m.2) ∙ h.0) in
+      IsIn-from_listed e (edges_of M s) (passes_listed (λ e _. OfSolid e) M.edges e r.0 r.1 (eq-eqb (solid_of M (face_at M (plus e))) s (ap (λ y. solid_of M (face_at M y)) (sym x) ∙ h.1)))
 
   listed_edge : (e : ℕ) → IsIn e (edges_of M s) → IsIn e (map edge_of (passing is_first halves))
   listed_edge e i =
-      let r = listed_passes (λ e _. OfSolid e) M.edges e (in_listed e (edges_of M s) i) in
+      let r = listed_passes (λ e _. OfSolid e) M.edges e (listed-from_in e (edges_of M s) i) in
       let t : HasHalf M (plus e) = ap (table.has M.edges) (plus_row e).0 ∙ ap is_some r.1 in
-      let h : IsIn (plus e) halves = solid_half (plus e) t (equal (solid_of M (face_at M (plus e))) s r.2) in
+      let h : IsIn (plus e) halves = solid_half (plus e) t (eqb-true (solid_of M (face_at M (plus e))) s r.2) in
       subst (λ k. IsIn k (map edge_of (passing is_first halves))) (plus_row e).0 (IsIn-map edge_of (plus e) (passing is_first halves) (in_passing is_first (plus e) halves h (plus_row e).1))
 
   plus_apart : IsApart (map edge_of (passing is_first halves))
@@ -159,13 +158,13 @@ module _ (M : Model) (sound : Sound M) (s : ℕ) where
   vertex_listed : (v l : ℕ) → Has M.vertices v → IsIn l loops → IsIn v (vertices_on M (content M l)) → IsIn v solid_vertices
   vertex_listed v l t i j =
       let c : IsIn v (corners_in M (faces_of M s)) = omega (arith, ap (count v) (corners_are M (faces_of M s)), on_some M loops l v i j) in
-      let r = some_row (table.get M.vertices v) t in
-      listed_in v solid_vertices (passes_listed (λ v _. lists (corners_in M (faces_of M s)) v) M.vertices v r.0 r.1 (in_listed v (corners_in M (faces_of M s)) c))
+      let r = row_some (table.get M.vertices v) t in
+      IsIn-from_listed v solid_vertices (passes_listed (λ v _. lists (corners_in M (faces_of M s)) v) M.vertices v r.0 r.1 (listed-from_in v (corners_in M (faces_of M s)) c))
 
   listed_vertex : (v : ℕ) → IsIn v solid_vertices → (l : ℕ) × IsIn l loops × IsIn v (vertices_on M (content M l))
   listed_vertex v i =
-      let r = listed_passes (λ v _. lists (corners_in M (faces_of M s)) v) M.vertices v (in_listed v solid_vertices i) in
-      on_one M loops v (omega (arith, ap (count v) (corners_are M (faces_of M s)), listed_in v (corners_in M (faces_of M s)) r.2))
+      let r = listed_passes (λ v _. lists (corners_in M (faces_of M s)) v) M.vertices v (listed-from_in v solid_vertices i) in
+      on_one M loops v (omega (arith, ap (count v) (corners_are M (faces_of M s)), IsIn-from_listed v (corners_in M (faces_of M s)) r.2))
 
   -- the loop of a vertex that was counted for a lone loop
   lone_of : (v : ℕ) → IsIn v lone_ones → (l : ℕ) × IsIn l loops × IsLoneAt M l v

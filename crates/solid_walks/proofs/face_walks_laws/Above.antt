@@ -1,6 +1,7 @@
 -- Rising lists of numbers, and what of them stands above a number.
 use Rattle.std.proofs.Common.{◌≡◌, ℕ, ◌<◌, ◌≤◌, Bool, true, false, cond, ◌||◌, nat_eq, nat_lt, List, [], ◌∷◌, refl, sym, ap, ◌∙◌, arith, true≢false, inl, inr}
 use Rattle.std.proofs.lemmas.Bool.Decides.{nat_tests, eqb_tells}
+use Rattle.std.proofs.lemmas.Bool.{or_right}
 
 -- the numbers of the list that are greater than n
 abbrev pub above : ℕ → List ℕ → List ℕ
@@ -88,7 +89,4 @@ none_above n (x ∷ xs) none = elim (nat_lt n x) as (λ b. nat_lt n x ≡ b → 
 -- each number of the list is greater than n
 pub all_above_members : (n : ℕ) (ks : List ℕ) → ((k : ℕ) → member k ks ≡ true → n < k) → AllAbove n ks
 all_above_members n [] h = tt
-all_above_members n (x ∷ xs) h = (h x (here x xs), all_above_members n xs (λ k t. h k (or_true (nat_eq k x) (member k xs) t))) where
-  or_true : (a b : Bool) → b ≡ true → a || b ≡ true
-  or_true true b t = refl
-  or_true false b t = t
+all_above_members n (x ∷ xs) h = (h x (here x xs), all_above_members n xs (λ k t. h k (or_right (nat_eq k x) (member k xs) t)))

@@ -1,16 +1,14 @@
 -- A walk round a ring, from an item on until it is met again.
-use Rattle.std.proofs.Common.{◌≡◌, ◌≢◌, ℕ, ◌≤◌, true, List, [], ◌∷◌, ◌++◌, refl, sym, ap, ◌∙◌, arith, append_assoc, ◌⊎◌, inl, inr, is_some}
-use Rattle.std.proofs.lemmas.Bool.{cases_eq}
-use Rattle.std.proofs.lemmas.Bool.Decides.{nat_tests}
+use Rattle.std.proofs.Common.{◌≡◌, ◌≢◌, ℕ, ◌≤◌, List, [], ◌∷◌, ◌++◌, refl, sym, ap, ◌∙◌, arith, append_assoc, is_some}
 use Rattle.euler_operators.specs.Items.{count, IsIn, IsApart, before, after, head_or, least}
 use Rattle.euler_operators.specs.Rings.{rotate_to, canonical, successor, rest}
-use Rattle.euler_operators.proofs.Lists.{count-append, tick_same, tick_other, split_at, count-before, before_of, after_of, least_le, least_in}
+use Rattle.euler_operators.proofs.Lists.{count-append, tick_same, split_at, count-before, before_of, after_of, least_le, least_in}
 use Rattle.euler_operators.proofs.Rotations.{rotate_to-rotates, IsApart-rotate_to, count-rotate_to, rotate_to_is}
 use Rattle.euler_operators.proofs.Rings.{successor_at, successor_same, IsIn_successor}
-use Rattle.euler_operators.specs.Model.{Model, content, loop_of, cycle_of, is_number}
+use Rattle.euler_operators.specs.Model.{Model, content, loop_of, cycle_of}
 use Rattle.euler_operators.specs.Model as model
 use Rattle.euler_operators.specs.Sound.{Sound, HasHalf, StandsIn}
-use Rattle.euler_operators.proofs.Models.{in-holds, held_row, cycle_there, cycle_sound}
+use Rattle.euler_operators.proofs.Models.{in-holds, held_row, cycle_there, cycle_sound, number_real}
 
 -- the items of a walk from h that has come to x, x among them
 abbrev pub seen : ℕ → List ℕ → ℕ → List ℕ
@@ -19,9 +17,6 @@ seen h xs x = before x (rotate_to h xs) ++ x ∷ []
 -- the items that are still to come
 abbrev pub to_come : ℕ → List ℕ → ℕ → List ℕ
 to_come h xs x = after x (rotate_to h xs)
-
-pub IsIn_push : (x y : ℕ) (xs : List ℕ) → IsIn x (xs ++ y ∷ []) → IsIn x xs ⊎ (x ≡ y)
-IsIn_push x y xs i = elim (cases_eq x y) [ inl e ↦ inr e | inr ne ↦ inl (omega (arith, count-append x xs (y ∷ []), tick_other x y ne)) ]
 
 head_seen : (h x : ℕ) (ps qs zs : List ℕ) → ps ++ x ∷ qs ≡ h ∷ zs → IsIn h (ps ++ x ∷ [])
 head_seen h x [] qs zs e = let s : x ≡ h = cc in rw s (omega (arith, tick_same h))
@@ -95,11 +90,8 @@ module _ (M : Model) (sound : Sound M) (h : ℕ) (there : HasHalf M h) where
   pub same_cycle : (g : ℕ) → IsIn g (cycle_of M h) → cycle_of M g ≡ cycle_of M h
   same_cycle g i = ap (λ l. model.items_of (content M l)) (same_loop g i)
 
-  one_or_more : (k : ℕ) → is_number k ≡ true → k ≢ 0
-  one_or_more k e = grind (arith, nat_tests)
-
   looped : (g : ℕ) → IsIn g (cycle_of M h) → loop_of M g ≢ 0
-  looped g i = rw (same_loop g i) (one_or_more (loop_of M h) (sound.loops_fit (loop_of M h) (ap is_some (held_row M g (loop_of M h) (item_stands g i)))))
+  looped g i = rw (same_loop g i) (number_real (loop_of M h) (sound.loops_fit (loop_of M h) (ap is_some (held_row M g (loop_of M h) (item_stands g i)))))
 
   -- what an arena answers as the next item
   pub next_item : (g r : ℕ) → IsIn g (cycle_of M h) → (loop_of M g ≢ 0 → r ≡ model.after M g) → r ≡ successor (cycle_of M h) g

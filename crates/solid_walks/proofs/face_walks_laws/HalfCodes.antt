@@ -1,21 +1,16 @@
 -- Half-edges, their codes, and the test for equal ones.
-use Rattle.std.proofs.Common.{◌≡◌, ◌≢◌, ℕ, ◌≤◌, Bool, true, false, ◌&&◌, nat_eq, ap, sym, ◌∙◌, arith, refl, true≢false}
+use Rattle.std.proofs.Common.{◌≡◌, ◌≢◌, ℕ, ◌≤◌, true, false, ◌&&◌, nat_eq, ap, sym, ◌∙◌, arith, refl, true≢false}
 use mathlib.Core.Bool.{beq}
 use Rattle.std.proofs.lemmas.Bool.Decides.{nat_tests}
+use Rattle.std.proofs.lemmas.Bool.{and_parts}
 use Rattle.euler_operators.specs.declared.HalfEdge.{HalfEdge}
-use Rattle.euler_operators.specs.HalfEdge.{code, half, edge_of, is_first, mate, plus, minus}
+use Rattle.euler_operators.specs.HalfEdge.{code, edge_of, mate, plus, minus}
 use Rattle.euler_operators.specs.Table.{has}
 use Rattle.euler_operators.specs.Model.{Model, is_number}
 use Rattle.euler_operators.specs.Sound.{Sound, HasHalf}
-use Rattle.euler_operators.proofs.Halves.{half-code, edge_of-code, edge_of-mate, code-mate}
-
-pub is_first-code : (h : HalfEdge) → is_first (code h) ≡ h.first
-unfolding is_first half
-is_first-code h = ap (λ (g : HalfEdge). g.first) (half-code h)
-
--- two half-edges with one code are one
-pub same_code : (g h : HalfEdge) → code g ≡ code h → g ≡ h
-same_code g h e = sym (half-code g) ∙ ap half e ∙ half-code h
+use Rattle.euler_operators.proofs.Halves.{edge_of-code, code-mate, same_code}
+use Rattle.euler_operators.proofs.Models.{number_fits}
+use Rattle.euler_operators.proofs.Tests.{beq_itself, beq_true}
 
 pub code_plus : (e : ℕ) → code (record { edge = e; first = true }) ≡ plus e
 unfolding code
@@ -24,9 +19,6 @@ code_plus e = refl
 pub code_minus : (e : ℕ) → code (record { edge = e; first = false }) ≡ minus e
 unfolding code
 code_minus e = refl
-
-number_fits : (n : ℕ) → is_number n ≡ true → n ≤ 1000000
-number_fits n e = grind (arith, nat_tests)
 
 -- an edge that is there has a number in range
 pub edge_fits : (M : Model) → Sound M → (h : HalfEdge) → HasHalf M (code h) → h.edge ≤ 1000000
@@ -39,34 +31,16 @@ mate_plus e = sym (code-mate e true)
 pub plus_there : (M : Model) (e : ℕ) → has M.edges e ≡ true → HasHalf M (code (record { edge = e; first = true }))
 plus_there M e there = ap (λ k. has M.edges k) (edge_of-code (record { edge = e; first = true })) ∙ there
 
-pub mate_there : (M : Model) (h : ℕ) → HasHalf M h → HasHalf M (mate h)
-mate_there M h there = ap (λ k. has M.edges k) (edge_of-mate h) ∙ there
-
-both : (a b : Bool) → a && b ≡ true → (a ≡ true) × (b ≡ true)
-both true true e = (refl, refl)
-both true false e = absurd (true≢false (sym e))
-both false b e = absurd (true≢false (sym e))
-
-alike : (a b : Bool) → beq a b ≡ true → a ≡ b
-alike true true e = refl
-alike true false e = absurd (true≢false (sym e))
-alike false true e = absurd (true≢false (sym e))
-alike false false e = refl
-
-itself : (a : Bool) → beq a a ≡ true
-itself true = refl
-itself false = refl
-
 -- what the test for equal half-edges says
 pub codes_same : (g h : HalfEdge) → nat_eq g.edge h.edge && beq g.first h.first ≡ true → code g ≡ code h
 codes_same g h e =
-    let t = both (nat_eq g.edge h.edge) (beq g.first h.first) e in
+    let t = and_parts (nat_eq g.edge h.edge) (beq g.first h.first) e in
     let edges : g.edge ≡ h.edge = let s : nat_eq g.edge h.edge ≡ true = t.0 in grind (arith, nat_tests) in
-    let firsts = alike g.first h.first t.1 in
+    let firsts = beq_true g.first h.first t.1 in
     λ i. code (record { edge = edges i; first = firsts i })
 
 pub codes_differ : (g h : HalfEdge) → nat_eq g.edge h.edge && beq g.first h.first ≡ false → code g ≢ code h
 codes_differ g h e same =
     let s = same_code g h same in
     let one : nat_eq h.edge h.edge ≡ true = grind (arith, nat_tests) in
-    true≢false (sym (ap (λ (k : HalfEdge). nat_eq k.edge h.edge && beq k.first h.first) s ∙ ap (λ b. b && beq h.first h.first) one ∙ itself h.first) ∙ e)
+    true≢false (sym (ap (λ (k : HalfEdge). nat_eq k.edge h.edge && beq k.first h.first) s ∙ ap (λ b. b && beq h.first h.first) one ∙ beq_itself h.first) ∙ e)

@@ -1,7 +1,7 @@
 -- The edges that a walk over the faces of a solid meets as crossing a plane are those of the solid that do.
 use Rattle.std.specs.Prelude.{filter}
 use Rattle.std.proofs.Common.{◌≡◌, ℕ, Bool, true, ◌&&◌, nat_eq, List, [], ◌∷◌, ◌++◌, length, map, is_some, refl, sym, ap, subst, ◌∙◌, arith, inl, inr}
-use Rattle.std.proofs.lemmas.Bool.{and_parts}
+use Rattle.std.proofs.lemmas.Bool.{and_parts, eq-eqb, eqb-true}
 use Rattle.std.proofs.lemmas.Bool.Decides.{eqb_tells}
 use Rattle.std.proofs.lemmas.List.{map-append}
 use Rattle.std.proofs.lemmas.List.Elements.{filter-append}
@@ -13,15 +13,13 @@ use Rattle.euler_operators.specs.Table as table
 use Rattle.euler_operators.specs.Model.{Model, items_of, content, loop_of, solid_of, faces_of}
 use Rattle.euler_operators.specs.Sound.{Sound, Has, HasHalf}
 use Rattle.euler_operators.proofs.Halves.{plus_row, mate_minus, first_is_plus}
-use Rattle.euler_operators.proofs.Models.{cycle_there, one_or_more}
+use Rattle.euler_operators.proofs.Models.{cycle_there, one_or_more, loop_there}
 use Rattle.euler_operators.proofs.Tests.{same_truth}
 use Rattle.euler_operators.proofs.Members.{IsIn-map, IsApart-images, IsIn-filter}
+use Rattle.euler_operators.proofs.Tables.{row_some}
 use Rattle.euler_operators.specs.Conditions.{face_at}
 use Rattle.euler_laws.proofs.shared.Arcs.{halves_of_edge}
-use Rattle.euler_laws.proofs.shared.Goes.{equal, equals}
-use Rattle.euler_laws.proofs.shared.Listed.{listed_passes, passes_listed, all_where-rises}
-use Rattle.euler_laws.proofs.shared.Loops.{some_row}
-use Rattle.euler_conditions.proofs.Known.{loop_there}
+use Rattle.euler_laws.proofs.shared.Listed.{listed_passes, passes_listed, all_where-rises, IsIn-from_listed, listed-from_in}
 use Rattle.solid_walks.proofs.face_walks_laws.TableWalks.{rising_passing}
 use Rattle.shapes.specs.Faces.{items_in, loops_of, boundary, edges_of}
 use Rattle.shapes.specs.Fresh.{first_such}
@@ -38,15 +36,15 @@ use Rattle.split_checks.proofs.cut_places_laws.Lists.{of_picked, picked_apart, p
 use Rattle.split_checks.proofs.cut_places_laws.Walks.{all_in}
 use Rattle.solid_walks.proofs.face_walks_laws.Above.{member, AllAbove, Rising, all_above_members}
 use Rattle.shapes.specs.Walks.{loops_in}
-use Rattle.euler_laws.proofs.shared.Counted.{counted_once, in_listed, listed_in}
+use Rattle.euler_laws.proofs.shared.Counted.{counted_once}
 use Rattle.shapes.proofs.walks.FaceLoops.{different_items, items_counted, items_there, items_joined}
 use Rattle.shapes.proofs.walks.SolidFaces.{solid_loops, all_loops_apart, loop_in_solid, solid_has_loop, face_of_loop, listed_face}
 
 member_in : (k : ℕ) (ks : List ℕ) → member k ks ≡ true → IsIn k ks
-member_in k ks m = listed_in k ks (lists_member ks k ∙ m)
+member_in k ks m = IsIn-from_listed k ks (lists_member ks k ∙ m)
 
 in_member : (k : ℕ) (ks : List ℕ) → IsIn k ks → member k ks ≡ true
-in_member k ks i = sym (lists_member ks k) ∙ in_listed k ks i
+in_member k ks i = sym (lists_member ks k) ∙ listed-from_in k ks i
 
 -- an item of a loop stands among the items of some loops with it
 item_of : (M : Model) (ls : List ℕ) (l x : ℕ) → IsIn l ls → IsIn x (items_of (content M l)) → IsIn x (items_in M ls)
@@ -101,14 +99,14 @@ module _ (M : Model) (sound : Sound M) (s : ℕ) (p : Plane) where
   -- an edge of the solid that crosses
   edge_in : (e : ℕ) → Has M.edges e → solid_of M (face_at M (plus e)) ≡ s → crosses M p (plus e) ≡ true → IsIn e (crossing_edges M p s)
   edge_in e there of_s c =
-      let r = some_row (table.get M.edges e) there in
-      IsIn-filter (λ x. crosses M p (plus x)) e (edges_of M s) (listed_in e (edges_of M s) (passes_listed (λ x _. of_solid x) M.edges e r.0 r.1 (equals (solid_of M (face_at M (plus e))) s of_s))) c
+      let r = row_some (table.get M.edges e) there in
+      IsIn-filter (λ x. crosses M p (plus x)) e (edges_of M s) (IsIn-from_listed e (edges_of M s) (passes_listed (λ x _. of_solid x) M.edges e r.0 r.1 (eq-eqb (solid_of M (face_at M (plus e))) s of_s))) c
 
   in_edge : (e : ℕ) → IsIn e (crossing_edges M p s) → Has M.edges e × (solid_of M (face_at M (plus e)) ≡ s) × (crosses M p (plus e) ≡ true)
   in_edge e i =
       let o = of_picked (λ x. crosses M p (plus x)) e (edges_of M s) i in
-      let r = listed_passes (λ x _. of_solid x) M.edges e (in_listed e (edges_of M s) o.0) in
-      (ap is_some r.1, equal (solid_of M (face_at M (plus e))) s r.2, o.1)
+      let r = listed_passes (λ x _. of_solid x) M.edges e (listed-from_in e (edges_of M s) o.0) in
+      (ap is_some r.1, eqb-true (solid_of M (face_at M (plus e))) s r.2, o.1)
 
   pub met_crosses : (e : ℕ) → IsIn e met → IsIn e (crossing_edges M p s)
   met_crosses e i =
@@ -159,7 +157,7 @@ module _ (M : Model) (sound : Sound M) (s : ℕ) (p : Plane) where
   -- ---- the faces that straddle
 
   pub straddling_there : AreIn M.faces (straddling_faces M p s)
-  straddling_there = all_in M.faces (straddling_faces M p s) (λ f l. (listed_face M sound s f (in_listed f (faces_of M s) (of_picked (straddles M p) f (faces_of M s) (listed_in f (straddling_faces M p s) l)).0)).0)
+  straddling_there = all_in M.faces (straddling_faces M p s) (λ f l. (listed_face M sound s f (listed-from_in f (faces_of M s) (of_picked (straddles M p) f (faces_of M s) (IsIn-from_listed f (straddling_faces M p s) l)).0)).0)
 
   plus_solid : (h : ℕ) → HasHalf M h → solid_of M (face_at M h) ≡ s → solid_of M (face_at M (plus (edge_of h))) ≡ s
   plus_solid h t of_s = elim (halves_of_edge h) [
@@ -171,7 +169,7 @@ module _ (M : Model) (sound : Sound M) (s : ℕ) (p : Plane) where
   unfolding boundary
   boundary_half f h there of_s i =
       let l : IsIn (loop_of M h) (loops_of M f) = omega (arith, i, items_counted M sound (loops_of M f) h) in
-      (items_there M sound (loops_of M f) h i, ap (solid_of M) (face_of_loop M sound f (loop_of M h) there (in_listed (loop_of M h) (loops_of M f) l)).1 ∙ of_s)
+      (items_there M sound (loops_of M f) h i, ap (solid_of M) (face_of_loop M sound f (loop_of M h) there (listed-from_in (loop_of M h) (loops_of M f) l)).1 ∙ of_s)
 
   module _ (none : first_such (is_off M p) (crossing_edges M p s) ≡ 0) where
     whole_face : (f : ℕ) → Has M.faces f → solid_of M f ≡ s → IsWholeFace M p f
@@ -181,5 +179,5 @@ module _ (M : Model) (sound : Sound M) (s : ℕ) (p : Plane) where
 
     pub straddling_whole : AreWholeFaces M p (straddling_faces M p s)
     straddling_whole = all_whole M p (straddling_faces M p s) (λ f i.
-        let l = listed_face M sound s f (in_listed f (faces_of M s) (of_picked (straddles M p) f (faces_of M s) i).0) in
+        let l = listed_face M sound s f (listed-from_in f (faces_of M s) (of_picked (straddles M p) f (faces_of M s) i).0) in
         (l.0, whole_face f l.0 l.1))

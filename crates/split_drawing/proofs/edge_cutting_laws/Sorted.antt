@@ -14,7 +14,7 @@ use Rattle.euler_operators.specs.Sound.{Sound}
 use Rattle.euler_operators.specs.Conditions.{strictly_rises}
 use Rattle.euler_laws.proofs.shared.RisingLists.{within}
 use Rattle.solid_walks.proofs.face_walks_laws.Above.{Rising}
-use Rattle.euler_laws.proofs.shared.Counted.{in_listed, listed_in}
+use Rattle.euler_laws.proofs.shared.Listed.{IsIn-from_listed, listed-from_in}
 use Rattle.shapes.specs.split.Sides.{crossing_edges}
 use Rattle.split_checks.specs.cut_places.Crossings.{crossings_met}
 use Rattle.split_checks.proofs.cut_places_laws.Edges.{as_many, met_apart, met_crosses, rising}
@@ -40,5 +40,5 @@ sorted_crossings M sound s p es moved sorted =
     let same = SameItems-from_permutation met es moved in
     let up = rises es (IsNonDecreasingBy-from_sort (λ x. x) es sorted) (λ x. omega (arith, met_apart M sound s p x, same x)) in
     let w = within es (crossing_edges M p s) up (from_rising (crossing_edges M p s) (rising M sound s p))
-    (λ q l. in_listed q (crossing_edges M p s) (met_crosses M sound s p q (omega (arith, same q, listed_in q es l)))) in
+    (λ q l. listed-from_in q (crossing_edges M p s) (met_crosses M sound s p q (omega (arith, same q, IsIn-from_listed q es l)))) in
     w.1 (length_permutation met es moved ∙ as_many M sound s p)

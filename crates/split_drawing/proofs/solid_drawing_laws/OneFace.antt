@@ -1,12 +1,12 @@
 -- One face drawn between its pairs, step by step as the code does it.
 use Rattle.std.proofs.Common.{◌≡◌, ℕ, Bool, true, false, cond, ◌&&◌, nat_eq, nat_lt, suc, List, [], ◌∷◌, length, map, ◌≢◌, refl, sym, ap, ◌∙◌, subst}
+use Rattle.std.proofs.lemmas.Bool.{ne_eqb, eq-eqb}
 use Rattle.std.specs.Prelude.{fold}
 use Rattle.euler_operators.specs.declared.Plane.{Plane}
 use Rattle.euler_operators.specs.Model.{Model, content}
 use Rattle.euler_operators.specs.Sound.{Has}
 use Rattle.euler_operators.specs.Conditions.{has_rings}
 use Rattle.euler_laws.specs.Laws.{AreAccepted}
-use Rattle.euler_laws.proofs.shared.Goes.{equals, differs}
 use Rattle.shapes.specs.Faces.{vertices_on}
 use Rattle.shapes.specs.split.Sides.{some_above}
 use Rattle.shapes.specs.split.Drawing as drawing
@@ -122,7 +122,7 @@ module _ (p : Plane) (f : ℕ) (pairs : List Pair) (from : Progress) (M : Model)
       last_rings one = rings_go p f ps begun w (length_codes pairs ∙ one) (drawing_of u K (map codes now)) last_is
 
       pub with_shared : length pairs ≡ 1 → (Z : Model) → Z ≡ with_rings K (rings_above K p f) u.faces → drawing_of u Z [] ≡ put_aside (drawn_between p f (map codes pairs) (drawing_of from M []))
-      with_shared one Z is = shared p f ps begun w (equals (length ps) 1 (length_codes pairs ∙ one)) (drawing_of u K (map codes now)) last_is Z is
+      with_shared one Z is = shared p f ps begun w (eq-eqb (length ps) 1 (length_codes pairs ∙ one)) (drawing_of u K (map codes now)) last_is Z is
 
       pub with_none : length pairs ≢ 1 → drawing_of u K [] ≡ put_aside (drawn_between p f (map codes pairs) (drawing_of from M []))
-      with_none more = unshared p f ps begun w (differs (length ps) 1 (λ e. more (sym (length_codes pairs) ∙ e))) (drawing_of u K (map codes now)) last_is
+      with_none more = unshared p f ps begun w (ne_eqb (length ps) 1 (λ e. more (sym (length_codes pairs) ∙ e))) (drawing_of u K (map codes now)) last_is

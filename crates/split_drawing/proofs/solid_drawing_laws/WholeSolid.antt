@@ -9,7 +9,8 @@ use Rattle.shapes.specs.split.Sides.{straddles, straddling_faces}
 use Rattle.shapes.specs.split.Crossings.{with_crossings}
 use Rattle.shapes.specs.split.Drawing.{Drawing, drawn_pairs, with_drawings}
 use Rattle.split_drawing_laws.specs.crossings.Kept.{Kept}
-use Rattle.euler_laws.proofs.shared.Counted.{all_where_has, listed_in}
+use Rattle.euler_laws.proofs.shared.Counted.{all_where_has}
+use Rattle.euler_laws.proofs.shared.Listed.{IsIn-from_listed}
 use Rattle.split_drawing_laws.proofs.crossings.Whole.{crossings_keep, crossings_counted}
 use Rattle.split_drawing_laws.proofs.drawings.Whole.{drawable}
 use Rattle.split_drawing_laws.proofs.pairs.Whole.{can_be_drawn}
@@ -50,7 +51,7 @@ module _ (M : Model) (s : ℕ) (p : Plane) (sound : Sound M) (can : CanBeCut M s
     cut = N;
     faces = straddling_faces M p s;
     pairs = refl;
-    there = all_in N.faces (straddling_faces M p s) (λ f l. face_there f (listed_in f (straddling_faces M p s) l));
+    there = all_in N.faces (straddling_faces M p s) (λ f l. face_there f (IsIn-from_listed f (straddling_faces M p s) l));
     drawable = drawable M p (with_crossings M s p) (straddling_faces M p s) (can_be_drawn M s p can.0 sound can.1);
   }
 

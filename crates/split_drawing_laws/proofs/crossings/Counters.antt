@@ -8,8 +8,8 @@ use Rattle.euler_operators.specs.Table as table
 use Rattle.euler_operators.specs.Table.{Table}
 use Rattle.euler_operators.specs.Model.{Model, tail}
 use Rattle.euler_operators.specs.Sound.{Has}
-use Rattle.euler_operators.proofs.Tables.{greatest-map}
-use Rattle.shapes.proofs.fresh.Rows.{greatest-put_last, greatest_is, greatest_used, free_above, at_most_greatest, get-put_here, get-put_other, put_turned}
+use Rattle.euler_operators.proofs.Tables.{greatest-map, get-put_here, get-put_other, put_turned}
+use Rattle.shapes.proofs.fresh.Rows.{greatest-put_last, greatest_is, greatest_used, free_above, at_most_greatest}
 use Rattle.shapes.specs.Fresh.{taken_in}
 use Rattle.shapes.specs.Rewriting.{rewritten_row}
 use Rattle.shapes.specs.split.Crossings.{doubled, edge_cut}

@@ -3,12 +3,13 @@ use Rattle.std.specs.Prelude.{map, filter}
 use Rattle.std.specs.List.{list_any}
 use Rattle.std.proofs.Common.{◌≡◌, ◌≢◌, ℕ, ◌+◌, ◌≤◌, Bool, true, false, cond, not, nat_eq, ◌&&◌, ◌||◌, List, [], ◌∷◌, refl, sym, ap, ◌∙◌, subst, arith, inl, inr}
 use Rattle.std.proofs.lemmas.Bool.Decides.{eqb_tells}
+use Rattle.std.proofs.lemmas.Bool.{ne_eqb, eq-eqb}
 use Rattle.euler_operators.specs.Items.{count, tick, IsIn}
 use Rattle.euler_operators.proofs.Lists.{count-append, tick_same, tick_other}
 use Rattle.euler_operators.specs.Table as table
 use Rattle.euler_operators.specs.Model.{Model, LoopContent, lone, cycle, items_of, content, outer, tail, face_of, rings_of}
 use Rattle.euler_operators.specs.Sound.{Has}
-use Rattle.euler_laws.proofs.shared.Goes.{equals, differs, not_false}
+use Rattle.euler_laws.proofs.shared.Goes.{not_false}
 use Rattle.euler_laws.proofs.shared.Rows.{loop_row}
 use Rattle.euler_laws.proofs.shared.Listed.{IsIn-from_listed}
 use Rattle.shapes.proofs.fresh.Tests.{NoneSuch, NoZero}
@@ -57,7 +58,7 @@ module _ (M : Model) where
     | inr s ↦
         let ring : IsIn l (rings_of M (face_of M l)) = all_where_in (λ k row. nat_eq row.face (face_of M l) && not (nat_eq (outer M (face_of M l)) k)) M.loops l
         (record { face = face_of M l; content = content M l }) (loop_row M l there)
-        (both (nat_eq (face_of M l) (face_of M l)) (nat_eq (outer M (face_of M l)) l) (equals (face_of M l) (face_of M l) refl) (differs (outer M (face_of M l)) l (λ e. s.1 (sym e)))) in
+        (both (nat_eq (face_of M l) (face_of M l)) (nat_eq (outer M (face_of M l)) l) (eq-eqb (face_of M l) (face_of M l) refl) (ne_eqb (outer M (face_of M l)) l (λ e. s.1 (sym e)))) in
         omega (arith, ring)
   ] where
     both : (a b : Bool) → a ≡ true → b ≡ false → (a && not b) ≡ true

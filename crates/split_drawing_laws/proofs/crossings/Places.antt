@@ -2,6 +2,7 @@
 use Rattle.std.specs.Prelude.{filter}
 use Rattle.std.proofs.Common.{◌≡◌, ℕ, Bool, true, false, cond, not, nat_eq, ◌&&◌, ◌||◌, None, is_some, unwrap_or, refl, sym, ap, ◌∙◌, subst, arith, inl, inr, true≢false}
 use Rattle.std.proofs.lemmas.Bool.Decides.{eqb_tells}
+use Rattle.std.proofs.lemmas.Bool.{eq-eqb, eqb-true}
 use Rattle.euler_operators.specs.declared.Plane.{Plane}
 use Rattle.euler_operators.specs.Vectors.{height, are_opposite, is_on, cut_between}
 use Rattle.euler_operators.specs.Items.{count, IsIn}
@@ -17,7 +18,6 @@ use Rattle.euler_operators.proofs.Crossings.{opposite_turned, level_on, not_leve
 use Rattle.euler_operators.specs.Conditions.{first_refusal, face_at, lists}
 use Rattle.euler_laws.proofs.shared.Arcs.{halves_of_edge}
 use Rattle.euler_laws.proofs.shared.Fans.{half_after, loop_after}
-use Rattle.euler_laws.proofs.shared.Goes.{equal, equals}
 use Rattle.euler_laws.proofs.shared.Listed.{IsIn-from_listed}
 use Rattle.shapes.specs.Faces.{start, finish, loops_of, boundary, edges_of}
 use Rattle.shapes.specs.split.Sides.{crosses, straddles, straddling_faces, crossing_edges}
@@ -40,7 +40,7 @@ module _ (M : Model) (sound : Sound M) (f : ℕ) (there : Has M.faces f) where
     | inl e ↦ ap (face_of M) e.1 ∙ (sound.outers_there f there).1
     | inr e ↦
         let w = all_where_has (λ k row. nat_eq row.face f && not (nat_eq (outer M f) k)) M.loops l (omega (arith, i, tick_other l (outer M f) e.1)) in
-        face_row M l w.0 w.1 ∙ equal w.0.face f (and_first (nat_eq w.0.face f) (not (nat_eq (outer M f) l)) w.2)
+        face_row M l w.0 w.1 ∙ eqb-true w.0.face f (and_first (nat_eq w.0.face f) (not (nat_eq (outer M f) l)) w.2)
   ]
 
   pub item_there : (h : ℕ) → IsIn h (boundary M f) → HasHalf M h
@@ -137,7 +137,7 @@ module _ (M : Model) (s : ℕ) (p : Plane) (t : ℕ) (sound : Sound M) (accepted
       ∙ sym (ap (are_opposite p (start M (minus e))) (ap (start M) (mate_minus e))) ∙ is
 
   pub in_crossing : (e : ℕ) → Has M.edges e → solid_of M (face_at M (plus e)) ≡ s → crosses M p (plus e) ≡ true → IsIn e (crossing_edges M p s)
-  in_crossing e there of_s c = IsIn-filter (λ x. crosses M p (plus x)) e (edges_of M s) (listed_edge M s p t sound accepted e there (equals (solid_of M (face_at M (plus e))) s of_s)) c
+  in_crossing e there of_s c = IsIn-filter (λ x. crosses M p (plus x)) e (edges_of M s) (listed_edge M s p t sound accepted e there (eq-eqb (solid_of M (face_at M (plus e))) s of_s)) c
 
   of_plus : (e : ℕ) → Has M.edges e → solid_of M (face_at M (plus e)) ≡ s → is_place M p (plus e) ≡ true → AtPlace M N p (plus e)
   of_plus e there of_s place = go (crosses M p (plus e)) refl where
@@ -155,7 +155,7 @@ module _ (M : Model) (s : ℕ) (p : Plane) (t : ℕ) (sound : Sound M) (accepted
   unfolding solid_of
   face_facts f i =
       let w = all_where_has (λ _ row. nat_eq row.solid s) M.faces f (omega (arith, i, count-filter (straddles M p) f (faces_of M s))) in
-      (ap is_some w.1, ap (λ o. (unwrap_or o no_face).solid) w.1 ∙ equal w.0.solid s w.2)
+      (ap is_some w.1, ap (λ o. (unwrap_or o no_face).solid) w.1 ∙ eqb-true w.0.solid s w.2)
 
   -- a place of a face that straddles
   place_is : (f h : ℕ) → IsIn f (straddling_faces M p s) → IsIn h (boundary M f) → is_place M p h ≡ true → AtPlace M N p h

@@ -3,6 +3,7 @@ use Rattle.std.specs.Prelude.{filter, int_lt}
 use Rattle.std.specs.List.{list_any, list_all}
 use Rattle.std.proofs.Common.{◌≡◌, ◌≢◌, ℕ, ◌+◌, ◌≤◌, Bool, true, false, cond, not, nat_eq, ◌&&◌, ◌||◌, ℤ, pos, List, [], ◌∷◌, length, is_some, refl, sym, ap, ◌∙◌, subst, arith, ◌⊎◌, inl, inr, true≢false}
 use Rattle.std.proofs.lemmas.Bool.Decides.{eqb_tells}
+use Rattle.std.proofs.lemmas.Bool.{not-false, eq-eqb, eqb-true}
 use Rattle.euler_operators.specs.declared.Plane.{Plane}
 use Rattle.euler_operators.specs.Points.{IsInRange}
 use Rattle.euler_operators.specs.Vectors.{height, opposite, are_opposite, is_above, is_below, is_on, same_point, cuts_lattice, cut_between}
@@ -17,7 +18,7 @@ use Rattle.euler_operators.proofs.Models.{held_row, cycle_there}
 use Rattle.euler_operators.proofs.Members.{IsIn-filter, count-filter, filter_passes}
 use Rattle.euler_operators.proofs.Crossings.{same_as, cut_back, opposite_back, not_level, level_is, cut_fits}
 use Rattle.euler_operators.specs.Conditions.{AllHold, face_at}
-use Rattle.euler_laws.proofs.shared.Goes.{not_back, equal, equals, no_zero}
+use Rattle.euler_laws.proofs.shared.Goes.{no_zero}
 use Rattle.euler_laws.proofs.shared.Rows.{face_there, point_row}
 use Rattle.solid_measure_laws.proofs.Cuts.{cut_on}
 use Rattle.shapes.proofs.fresh.Tests.{none_such, Left, numbers_are_left}
@@ -66,7 +67,7 @@ module _ (M : Model) (sound : Sound M) (s : ℕ) (p : Plane) where
   edge_facts e i =
       let l : count e (crossing_edges M p s) ≤ count e (edges_of M s) = count-filter (λ x. crosses M p (plus x)) e (edges_of M s) in
       let w = all_where_has (λ x _. nat_eq (solid_of M (face_at M (plus x))) s) M.edges e (omega (arith, i, l)) in
-      (ap is_some w.1, equal (solid_of M (face_at M (plus e))) s w.2, filter_passes (λ x. crosses M p (plus x)) e (edges_of M s) i)
+      (ap is_some w.1, eqb-true (solid_of M (face_at M (plus e))) s w.2, filter_passes (λ x. crosses M p (plus x)) e (edges_of M s) i)
 
   edges_not_zero : (e : ℕ) → IsIn e (crossing_edges M p s) → e ≢ 0
   edges_not_zero e i z = no_zero e z (sound.edges_fit e (edge_facts e i).0)
@@ -80,19 +81,19 @@ module _ (M : Model) (sound : Sound M) (s : ℕ) (p : Plane) where
   module _ (t : ℕ) (hold : AllHold (first_conditions M s p t)) where
     none_off : first_such (λ e. not (cuts_lattice p (start M (plus e)) (finish M (plus e)))) (crossing_edges M p s) ≡ 0
     unfolding first_conditions
-    none_off = equal (first_such (λ e. not (cuts_lattice p (start M (plus e)) (finish M (plus e)))) (crossing_edges M p s)) 0 hold.1.1.1.1.1.1.1.1.1.1.1.1.0
+    none_off = eqb-true (first_such (λ e. not (cuts_lattice p (start M (plus e)) (finish M (plus e)))) (crossing_edges M p s)) 0 hold.1.1.1.1.1.1.1.1.1.1.1.1.0
 
     none_touched : first_such (is_touched M p) (straddling_faces M p s) ≡ 0
     unfolding first_conditions
-    none_touched = equal (first_such (is_touched M p) (straddling_faces M p s)) 0 hold.1.1.1.1.1.1.1.1.1.1.1.1.1.0
+    none_touched = eqb-true (first_such (is_touched M p) (straddling_faces M p s)) 0 hold.1.1.1.1.1.1.1.1.1.1.1.1.1.0
 
     none_often : first_such (is_cut_often M p) (straddling_faces M p s) ≡ 0
     unfolding first_conditions
-    none_often = equal (first_such (is_cut_often M p) (straddling_faces M p s)) 0 hold.1.1.1.1.1.1.1.1.1.1.1.1.1.1.0
+    none_often = eqb-true (first_such (is_cut_often M p) (straddling_faces M p s)) 0 hold.1.1.1.1.1.1.1.1.1.1.1.1.1.1.0
 
     none_crossed : first_such (is_crossed M p) (straddling_faces M p s) ≡ 0
     unfolding first_conditions
-    none_crossed = equal (first_such (is_crossed M p) (straddling_faces M p s)) 0 hold.1.1.1.1.1.1.1.1.1.1.1.1.1.1.1.0
+    none_crossed = eqb-true (first_such (is_crossed M p) (straddling_faces M p s)) 0 hold.1.1.1.1.1.1.1.1.1.1.1.1.1.1.1.0
 
     numbers : Left (taken_in M) (pair_count M p (straddling_faces M p s)) (pair_count M p (straddling_faces M p s))
         (length (crossing_edges M p s) + pair_count M p (straddling_faces M p s)) (length (crossing_edges M p s))
@@ -105,7 +106,7 @@ module _ (M : Model) (sound : Sound M) (s : ℕ) (p : Plane) where
         let es = all_not_zero (crossing_edges M p s) edges_not_zero in
         let fs = all_not_zero (straddling_faces M p s) faces_not_zero in
         record {
-          whole = λ e i. not_back (cuts_lattice p (start M (plus e)) (finish M (plus e)))
+          whole = λ e i. not-false (cuts_lattice p (start M (plus e)) (finish M (plus e)))
               (none_at (λ x. not (cuts_lattice p (start M (plus x)) (finish M (plus x)))) e (crossing_edges M p s)
               (none_such (λ x. not (cuts_lattice p (start M (plus x)) (finish M (plus x)))) (crossing_edges M p s) es none_off) i);
           untouched = λ f i. none_at (is_touched M p) f (straddling_faces M p s) (none_such (is_touched M p) (straddling_faces M p s) fs none_touched) i;
@@ -171,7 +172,7 @@ module _ (M : Model) (sound : Sound M) (s : ℕ) (p : Plane) where
       of_solid = ap (λ q. solid_of M (face_of M q)) (sym first) ∙ (edge_facts e i).1
 
       face_in : IsIn (face_of M l) (faces_of M s)
-      face_in = all_where_in (λ _ row. nat_eq row.solid s) M.faces (face_of M l) _ (face_there M (face_of M l) (sound.loops_of_faces l l_there)) (equals (solid_of M (face_of M l)) s of_solid)
+      face_in = all_where_in (λ _ row. nat_eq row.solid s) M.faces (face_of M l) _ (face_there M (face_of M l) (sound.loops_of_faces l l_there)) (eq-eqb (solid_of M (face_of M l)) s of_solid)
 
       plus_corner : IsIn (tail M (plus e)) (corners M (face_of M l))
       plus_corner = tail_in_face M (plus e) l l_there first_in

@@ -16,6 +16,7 @@ use Rattle.euler_operators.specs.Model.{Model, LoopContent, lone, cycle, EdgeRow
 use Rattle.euler_operators.specs.Sound.{Sound, Has, HasHalf}
 use Rattle.euler_operators.proofs.Halves.{plus_row, minus_row, code-half, mate_minus}
 use Rattle.euler_operators.proofs.Models.{in-holds, holds_in, tail_row}
+use Rattle.euler_operators.proofs.Tables.{get-put_here, get-put_other}
 use Rattle.euler_operators.specs.declared.Op.{Op}
 use Rattle.euler_operators.specs.declared.Op.TheVariants.{Mev}
 use Rattle.euler_operators.specs.Conditions.{first_false}
@@ -24,7 +25,6 @@ use Rattle.euler_laws.proofs.shared.Same.{Rewritten, content-new, face-same, loo
 use Rattle.euler_laws.proofs.mev.MevSound.{MevGoes}
 use Rattle.euler_laws.proofs.mev.Mev.{mev_accepted}
 use Rattle.euler_laws.proofs.Cases.{effect_keeps_sound}
-use Rattle.shapes.proofs.fresh.Rows.{get-put_here, get-put_other}
 use Rattle.shapes.specs.Rewriting.{rewritten, rewritten_row}
 use Rattle.shapes.specs.split.Crossings.{doubled, edge_cut}
 use Rattle.split_drawing_laws.specs.crossings.Kept.{Kept}

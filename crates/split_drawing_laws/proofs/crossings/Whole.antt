@@ -1,5 +1,6 @@
 -- All edges of a solid that cross a plane cut: from the first conditions of a split to the model.
 use Rattle.std.proofs.Common.{◌≡◌, ℕ, ◌≤◌, Bool, true, false, nat_eq, [], None, is_some, unwrap_or, refl, sym, ap, ◌∙◌, arith, inl, inr}
+use Rattle.std.proofs.lemmas.Bool.{eq-eqb, eqb-true}
 use Rattle.euler_operators.specs.declared.Plane.{Plane}
 use Rattle.euler_operators.specs.Vectors.{are_opposite}
 use Rattle.euler_operators.specs.Items.{count, IsIn}
@@ -10,11 +11,11 @@ use Rattle.euler_operators.specs.Sound.{Sound, Has}
 use Rattle.euler_operators.proofs.Halves.{mate_plus}
 use Rattle.euler_operators.proofs.Members.{IsIn-filter, count-filter}
 use Rattle.euler_operators.proofs.Models.{plus_there, minus_there}
+use Rattle.euler_operators.proofs.Tables.{row_some}
 use Rattle.euler_operators.specs.Conditions.{first_refusal, face_at, lists}
 use Rattle.euler_laws.specs.Laws.{AreAccepted, effects}
-use Rattle.euler_laws.proofs.shared.Goes.{all_hold, equal, equals}
+use Rattle.euler_laws.proofs.shared.Goes.{all_hold}
 use Rattle.euler_laws.proofs.shared.Listed.{all_where-rises}
-use Rattle.euler_laws.proofs.shared.Loops.{some_row}
 use Rattle.shapes.specs.Faces.{start, edges_of}
 use Rattle.shapes.specs.Fresh.{taken_in, growing}
 use Rattle.shapes.specs.split.Sides.{crosses, crossing_edges}
@@ -94,7 +95,7 @@ module _ (M : Model) (s : ℕ) (p : Plane) (t : ℕ) (sound : Sound M) (accepted
       λ i. are_opposite p (near i) ((ap (start N) (mate_plus x) ∙ far ∙ sym (ap (start M) (mate_plus x))) i)
 
   pub listed_edge : (x : ℕ) → Has M.edges x → nat_eq (solid_of M (face_at M (plus x))) s ≡ true → IsIn x (edges_of M s)
-  listed_edge x there e = let w = some_row (table.get M.edges x) there in all_where_in (λ y _. nat_eq (solid_of M (face_at M (plus y))) s) M.edges x w.0 w.1 e
+  listed_edge x there e = let w = row_some (table.get M.edges x) there in all_where_in (λ y _. nat_eq (solid_of M (face_at M (plus y))) s) M.edges x w.0 w.1 e
 
   old_crossing : (x : ℕ) → Has M.edges x → count x gone.list ≡ 0 → solid_of N (face_at N (plus x)) ≡ s → crosses N p (plus x) ≡ false
   old_crossing x there z of_s = go (crosses M p (plus x)) refl where
@@ -104,14 +105,14 @@ module _ (M : Model) (s : ℕ) (p : Plane) (t : ℕ) (sound : Sound M) (accepted
     go : (b : Bool) → crosses M p (plus x) ≡ b → crosses N p (plus x) ≡ false
     go false e = same_crossing x there z ∙ e
     go true e =
-        let i : IsIn x (crossing_edges M p s) = IsIn-filter (λ y. crosses M p (plus y)) x (edges_of M s) (listed_edge x there (equals (solid_of M (face_at M (plus x))) s of_solid)) e in
+        let i : IsIn x (crossing_edges M p s) = IsIn-filter (λ y. crosses M p (plus y)) x (edges_of M s) (listed_edge x there (eq-eqb (solid_of M (face_at M (plus x))) s of_solid)) e in
         absurd (omega (arith, i, z, gone.same x))
 
   pub none_crosses : crossing_edges (with_crossings M s p).model p s ≡ []
   none_crosses = picked_none (λ x. crosses N p (plus x)) (edges_of N s) (λ x i.
       let w = all_where_has (λ y _. nat_eq (solid_of N (face_at N (plus y))) s) N.edges x i in
       elim (crossings_cut.cleared x (ap is_some w.1)) [
-        | inl o ↦ old_crossing x o.0 o.1 (equal (solid_of N (face_at N (plus x))) s w.2)
+        | inl o ↦ old_crossing x o.0 o.1 (eqb-true (solid_of N (face_at N (plus x))) s w.2)
         | inr o ↦ o
       ])
 

@@ -1,13 +1,13 @@
 -- All edges of a solid that cross a plane cut: from the first conditions of a split to normals, planes and volumes.
 use Rattle.std.proofs.Common.{◌≡◌, ℕ, true, not, ◌&&◌, [], None}
-use Rattle.std.proofs.lemmas.Bool.{and_parts}
+use Rattle.std.proofs.lemmas.Bool.{and_parts, not-false, eqb-true}
 use Rattle.euler_operators.specs.declared.Plane.{Plane}
 use Rattle.euler_operators.specs.Vectors.{origin, same_point, direction}
 use Rattle.euler_operators.specs.Items.{IsIn}
 use Rattle.euler_operators.specs.Model.{Model, solid_of, faces_of}
 use Rattle.euler_operators.specs.Sound.{Sound, Has}
 use Rattle.euler_operators.specs.Conditions.{AllHold, first_refusal, lists}
-use Rattle.euler_laws.proofs.shared.Goes.{all_hold, equal, not_back, no_zero}
+use Rattle.euler_laws.proofs.shared.Goes.{all_hold, no_zero}
 use Rattle.euler_laws.proofs.shared.Listed.{IsIn-from_listed}
 use Rattle.shapes.proofs.fresh.Tests.{none_such}
 use Rattle.shapes.specs.Faces.{corners}
@@ -29,10 +29,10 @@ module _ (M : Model) (s : ℕ) (p : Plane) (t : ℕ) (sound : Sound M) (accepted
 
   none_bent : AllHold (first_conditions M s p t) → first_such (λ f. not (is_flat M f)) (faces_of M s) ≡ 0
   unfolding first_conditions
-  none_bent hold = equal (first_such (λ f. not (is_flat M f)) (faces_of M s)) 0 hold.1.1.1.1.1.1.1.1.1.1.0
+  none_bent hold = eqb-true (first_such (λ f. not (is_flat M f)) (faces_of M s)) 0 hold.1.1.1.1.1.1.1.1.1.1.0
 
   listed_flat : (f : ℕ) → IsIn f (faces_of M s) → is_flat M f ≡ true
-  listed_flat f i = not_back (is_flat M f) (none_at (λ g. not (is_flat M g)) f (faces_of M s)
+  listed_flat f i = not-false (is_flat M f) (none_at (λ g. not (is_flat M g)) f (faces_of M s)
       (none_such (λ g. not (is_flat M g)) (faces_of M s) (all_not_zero (faces_of M s) (λ g j z. no_zero g z (sound.faces_fit g (solid_facts M s g j).0))) (none_bent (all_hold (first_conditions M s p t) accepted))) i)
 
   pub all_flat : (f : ℕ) → Has M.faces f → solid_of M f ≡ s → is_flat M f ≡ true

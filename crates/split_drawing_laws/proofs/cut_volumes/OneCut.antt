@@ -14,8 +14,7 @@ use Rattle.euler_operators.specs.Sound.{HasHalf}
 use Rattle.euler_operators.specs.Table as table
 use Rattle.euler_operators.proofs.Halves.{plus_row, same_edge, edge_of-mate, mate_plus, mate_minus}
 use Rattle.euler_operators.proofs.Members.{IsIn_rest}
-use Rattle.euler_operators.proofs.Models.{item_there}
-use Rattle.euler_laws.proofs.shared.Fans.{half_mate}
+use Rattle.euler_operators.proofs.Models.{item_there, mate_there}
 use Rattle.euler_laws.proofs.shared.Same.{Rewritten, content-new}
 use Rattle.shapes.specs.Faces.{start, finish, loops_of, items_in, boundary}
 use Rattle.shapes.specs.Rewriting.{rewritten, rewritten_row}
@@ -97,7 +96,7 @@ module _ (M : Model) (e k v : ℕ) (q : Point) (goes : CutGoes M e k v q) where
   other_start h there ne = at_old h h there (tail_other M e k v q goes h there ne)
 
   other_finish : (h : ℕ) → HasHalf M h → edge_of h ≢ e → finish K h ≡ finish M h
-  other_finish h there ne = other_start (mate h) (half_mate M goes.can.sound h there) (λ s. ne (sym (edge_of-mate h) ∙ s))
+  other_finish h there ne = other_start (mate h) (mate_there M h there) (λ s. ne (sym (edge_of-mate h) ∙ s))
 
   -- ---- loops
 

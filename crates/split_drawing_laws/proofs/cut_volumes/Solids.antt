@@ -2,6 +2,7 @@
 use Rattle.std.proofs.Common.{◌≡◌, ◌≢◌, ℕ, ◌≤◌, ℤ, pos, ◌+ℤ◌, nat_eq, List, [], ◌∷◌, ◌++◌, is_some, refl, sym, ap, ◌∙◌, arith, inl, inr}
 use Rattle.std.proofs.lemmas.Int.{ints}
 use Rattle.std.proofs.lemmas.Bool.Decides.{eqb_tells}
+use Rattle.std.proofs.lemmas.Bool.{eq-eqb, eqb-true}
 use Rattle.euler_operators.specs.Vectors.{dot}
 use Rattle.euler_operators.specs.Items.{count, tick, IsIn, SameItems, before, after}
 use Rattle.euler_operators.proofs.Lists.{tick_same, tick_other, split_at, IsIn_or_not}
@@ -12,7 +13,6 @@ use Rattle.euler_operators.proofs.Vectors.{add_exchanged}
 use Rattle.euler_operators.specs.Table as table
 use Rattle.euler_operators.specs.Model.{Model, solid_of, faces_of}
 use Rattle.euler_operators.specs.Sound.{Has}
-use Rattle.euler_laws.proofs.shared.Goes.{equal, equals}
 use Rattle.euler_laws.proofs.shared.Listed.{all_where-rises}
 use Rattle.euler_laws.proofs.shared.Rows.{face_there, no_items}
 use Rattle.shapes.specs.Measure.{normal, anchor, volume_in, six_volume}
@@ -24,10 +24,10 @@ pub solid_facts : (M : Model) (u f : ℕ) → IsIn f (faces_of M u) → Has M.fa
 solid_facts M u f i =
     let r = all_where_has (λ _ row. nat_eq row.solid u) M.faces f i in
     let there : Has M.faces f = ap is_some r.1 in
-    (there, solid_row M f r.0 r.1 ∙ equal r.0.solid u r.2)
+    (there, solid_row M f r.0 r.1 ∙ eqb-true r.0.solid u r.2)
 
 pub in_solid : (M : Model) (f u : ℕ) → Has M.faces f → solid_of M f ≡ u → IsIn f (faces_of M u)
-in_solid M f u there of_u = all_where_in (λ _ row. nat_eq row.solid u) M.faces f _ (face_there M f there) (equals (solid_of M f) u of_u)
+in_solid M f u there of_u = all_where_in (λ _ row. nat_eq row.solid u) M.faces f _ (face_there M f there) (eq-eqb (solid_of M f) u of_u)
 
 pub counted : (M : Model) (u f : ℕ) → count f (faces_of M u) ≤ 1
 counted M u f = counted_once f (faces_of M u) (all_where-rises (λ _ row. nat_eq row.solid u) M.faces)

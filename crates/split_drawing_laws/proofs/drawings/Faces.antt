@@ -1,11 +1,11 @@
 -- Whole faces drawn, one after the other.
 use Rattle.std.proofs.Common.{◌≡◌, ℕ, suc, ◌+◌, Bool, true, false, cond, nat_eq, nat_lt, ◌&&◌, List, [], ◌∷◌, length, refl, sym, ap, ◌∙◌, subst, arith}
+use Rattle.std.proofs.lemmas.Bool.{eqb-true}
 use Rattle.euler_operators.specs.declared.Plane.{Plane}
 use Rattle.euler_operators.specs.Model.{Model, content}
 use Rattle.euler_operators.specs.Sound.{Sound}
 use Rattle.euler_operators.specs.declared.Op.{Op}
 use Rattle.euler_operators.specs.Conditions.{has_rings}
-use Rattle.euler_laws.proofs.shared.Goes.{equal}
 use Rattle.shapes.specs.Faces.{vertices_on}
 use Rattle.shapes.specs.split.Sides.{some_above}
 use Rattle.shapes.specs.split.Drawing.{Drawing, stuck_at, all_joined, ring_free, all_drawn, rings_above, with_rings, drawn_between}
@@ -123,7 +123,7 @@ module _ (p : Plane) (f : ℕ) (qs : List (ℕ × ℕ)) (d : Drawing) (n : ℕ) 
       Leads L.model S.model (cond b (ring_ops (rings_above L.model p f) L.taken.face) []) × DrawnIn d.model S.model f × Fresh S.model S.taken × Room S.taken n
 
   shared : (b : Bool) → nat_eq (length qs) 1 ≡ b → Shared b
-  shared true e = let m = moved (equal (length qs) 1 e) in (m.leads, m.drawn, m.fresh, room_last)
+  shared true e = let m = moved (eqb-true (length qs) 1 e) in (m.leads, m.drawn, m.fresh, room_last)
   shared false e = (leads_none L.model, last.drawn, last.fresh, room_last)
 
   pub face_goes : Gone d (drawn_between p f qs d) f (face_ops p f qs d) n

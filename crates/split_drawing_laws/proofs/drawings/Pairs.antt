@@ -1,13 +1,13 @@
 -- A pair joined, and a pair between which an edge is drawn.
 use Rattle.std.proofs.Common.{◌≡◌, ◌≢◌, ℕ, ◌<◌, Bool, true, false, cond, not, nat_eq, ◌&&◌, [], ◌∷◌, None, is_some, IsTrue, refl, sym, ap, ◌∙◌, subst, arith, ◌⊎◌, inl, inr, true≢false}
 use Rattle.std.proofs.lemmas.Bool.Decides.{nat_tests, eqb_tells}
+use Rattle.std.proofs.lemmas.Bool.{eqb-true, eqb-false}
 use Rattle.euler_operators.specs.Table as table
 use Rattle.euler_operators.specs.Model.{Model, tail, loop_of, face_of, outer, solid_of, is_number, is_ring_of}
 use Rattle.euler_operators.specs.Sound.{Sound, Has, HasHalf}
 use Rattle.euler_operators.proofs.Models.{row_of}
 use Rattle.euler_operators.proofs.Tables.{no_row, row_elsewhere}
 use Rattle.euler_operators.specs.Conditions.{face_at}
-use Rattle.euler_laws.proofs.shared.Goes.{equal, unequal}
 use Rattle.euler_laws.proofs.shared.Fans.{half_face}
 use Rattle.euler_laws.proofs.mekr.MekrSpots.{ring_is}
 use Rattle.shapes.specs.Fresh.{Taken}
@@ -68,7 +68,7 @@ module _ (M N : Model) (f : ℕ) (q : ℕ × ℕ) (e : ℕ) (joined : JoinedIn M
   tails_apart s = fits.apart (sym (joined.stays.tails q.0 fits.u_there) ∙ s ∙ joined.stays.tails q.1 fits.k_there)
 
   loops_apart : loop_of N q.0 ≢ loop_of N q.1
-  loops_apart = unequal (loop_of N q.0) (loop_of N q.1) two
+  loops_apart = eqb-false (loop_of N q.0) (loop_of N q.1) two
 
   abbrev ringed : Bool
   ringed = is_ring_of N (face_at N q.0) (loop_of N q.0)
@@ -154,7 +154,7 @@ module _ (M N : Model) (f : ℕ) (q : ℕ × ℕ) (e g l : ℕ) (sound : Sound M
     sound = drawn.sound;
     u_there = drawn.stays.halves q.0 fits.u_there;
     k_there = drawn.stays.halves q.1 fits.k_there;
-    one_loop = equal (loop_of N q.0) (loop_of N q.1) one;
+    one_loop = eqb-true (loop_of N q.0) (loop_of N q.1) one;
     apart = λ s. fits.apart (sym (drawn.stays.tails q.0 fits.u_there) ∙ s ∙ drawn.stays.tails q.1 fits.k_there);
     edge_free = edge_free;
     face_free = face_free;

@@ -2,6 +2,7 @@
 use Rattle.std.proofs.Common.{◌≡◌, ◌≢◌, ℕ, Bool, true, false, not, nat_eq, ◌&&◌, List, [], ◌∷◌, None, is_some, unwrap_or, refl, sym, ap, ◌∙◌, subst, arith, inl, inr, true≢false}
 use Rattle.std.specs.Prelude.{filter}
 use Rattle.std.proofs.lemmas.Bool.Decides.{eqb_tells}
+use Rattle.std.proofs.lemmas.Bool.{eqb-true, eqb-false}
 use Rattle.euler_operators.specs.Rings.{successor}
 use Rattle.euler_operators.specs.Items.{tick, IsIn, IsApart}
 use Rattle.euler_operators.proofs.Lists.{tick_same}
@@ -15,12 +16,12 @@ use Rattle.euler_operators.proofs.Tables.{no_row, row_elsewhere}
 use Rattle.euler_operators.specs.declared.Op.TheVariants.{RingIn}
 use Rattle.euler_operators.specs.Conditions.{face_at, first_false}
 use Rattle.euler_operators.specs.Effect.{effect, ring_in}
-use Rattle.euler_laws.proofs.shared.Goes.{taken, equal, unequal}
+use Rattle.euler_laws.proofs.shared.Goes.{taken}
 use Rattle.euler_laws.proofs.shared.Faces.{SameWalks}
-use Rattle.euler_laws.proofs.shared.Listed.{listed_passes, all_where-rises}
+use Rattle.euler_laws.proofs.shared.Listed.{listed_passes, all_where-rises, listed-from_in}
 use Rattle.euler_laws.proofs.faces.RingIn as moved
 use Rattle.euler_laws.proofs.faces.RingIn.{RingGoes, ring_in_accepted, sound-ring_in}
-use Rattle.euler_laws.proofs.shared.Counted.{in_listed, counted_once}
+use Rattle.euler_laws.proofs.shared.Counted.{counted_once}
 use Rattle.shapes.specs.Fresh.{Taken}
 use Rattle.shapes.specs.split.Drawing.{with_rings}
 use Rattle.split_drawing_laws.specs.drawings.DrawnIn.{Stays, DrawnIn, Fresh}
@@ -189,9 +190,9 @@ rings_apart N f p x = omega (arith, count-filter p x (rings_of N f), counted_onc
 
 pub rings_are : (N : Model) (f : ℕ) (p : ℕ → Bool) → AreRings N f (filter p (rings_of N f))
 rings_are N f p l i =
-    let w = listed_passes (λ k row. nat_eq row.face f && not (nat_eq (outer N f) k)) N.loops l (in_listed l (rings_of N f) (omega (arith, i, count-filter p l (rings_of N f)))) in
+    let w = listed_passes (λ k row. nat_eq row.face f && not (nat_eq (outer N f) k)) N.loops l (listed-from_in l (rings_of N f) (omega (arith, i, count-filter p l (rings_of N f)))) in
     let t = both (nat_eq w.0.face f) (nat_eq (outer N f) l) w.2 in
-    record { there = ap is_some w.1; face = face_row N l w.0 w.1 ∙ equal w.0.face f t.0; inner = unequal (outer N f) l t.1 } where
+    record { there = ap is_some w.1; face = face_row N l w.0 w.1 ∙ eqb-true w.0.face f t.0; inner = eqb-false (outer N f) l t.1 } where
       both : (a b : Bool) → (a && not b) ≡ true → (a ≡ true) × (b ≡ false)
       both true true e = absurd (true≢false (sym e))
       both true false e = (refl, refl)

@@ -13,12 +13,11 @@ use Rattle.euler_operators.specs.Model.{Model, cycle, no_edge, no_face, items_of
 use Rattle.euler_operators.specs.Sound.{Sound, Has, HasHalf}
 use Rattle.euler_operators.proofs.Halves.{plus_row, minus_row}
 use Rattle.euler_operators.proofs.Models.{content_row, face_row, tail_row, in-holds, cycle_there, same_content, same_face, loop_there}
-use Rattle.euler_operators.proofs.Tables.{row_elsewhere}
+use Rattle.euler_operators.proofs.Tables.{row_elsewhere, get-put_here, get-put_other}
 use Rattle.euler_operators.specs.Conditions.{face_at}
 use Rattle.euler_laws.proofs.shared.Rows.{count-halves}
 use Rattle.euler_laws.proofs.shared.Fans.{half_face}
 use Rattle.euler_laws.proofs.mef.MefUndo.{count-mef_old, count-mef_new}
-use Rattle.shapes.proofs.fresh.Rows.{get-put_here, get-put_other}
 use Rattle.shapes.specs.split.Drawing.{face_drawn, loops_joined}
 use Rattle.split_drawing_laws.specs.drawings.DrawnIn.{Stays}
 use Rattle.split_drawing_laws.proofs.drawings.Drawn.{CanDraw, draw_sound, CanJoin, join_sound, face_drawn_new, face_drawn_else, loops_joined_faces}

@@ -1,7 +1,7 @@
 -- Faces by their half-edges: which half-edges bound a face, and when all corners of a face lie on a plane.
 use Rattle.std.proofs.Common.{◌≡◌, ◌≢◌, ℕ, true, not, nat_eq, ◌&&◌, List, [], ◌∷◌, Option, Some, None, is_some, unwrap_or, refl, sym, ap, ◌∙◌, subst, arith, inl, inr}
 use Rattle.std.proofs.lemmas.Bool.Decides.{eqb_tells}
-use Rattle.std.proofs.lemmas.Bool.{and_parts}
+use Rattle.std.proofs.lemmas.Bool.{and_parts, eqb-true}
 use Rattle.euler_operators.specs.declared.Plane.{Plane}
 use Rattle.euler_operators.specs.Vectors.{moved, cross, is_on}
 use Rattle.euler_operators.specs.Items.{count, IsIn}
@@ -10,12 +10,10 @@ use Rattle.euler_operators.specs.HalfEdge.{mate}
 use Rattle.euler_operators.specs.Table as table
 use Rattle.euler_operators.specs.Model.{Model, LoopContent, LoopRow, lone, cycle, no_loop, no_point, items_of, tail, content, outer, point_of, loop_of, face_of}
 use Rattle.euler_operators.specs.Sound.{Sound, Has, HasHalf}
-use Rattle.euler_operators.proofs.Models.{cycle_there, face_row, loop_there, item_there, never_lone}
+use Rattle.euler_operators.proofs.Models.{cycle_there, face_row, loop_there, item_there, never_lone, mate_there}
 use Rattle.euler_operators.proofs.Members.{IsIn_rest, all_mapped}
 use Rattle.euler_operators.proofs.Rotations.{IsIn_head}
 use Rattle.euler_operators.specs.Conditions.{face_at}
-use Rattle.euler_laws.proofs.shared.Fans.{half_mate}
-use Rattle.euler_laws.proofs.shared.Goes.{equal}
 use Rattle.shapes.specs.Faces.{start, finish, loops_of, boundary, vertices_on, corners}
 use Rattle.shapes.specs.Measure.{area, anchor, first_vertex}
 use Rattle.solid_measure_laws.proofs.FlatFaces.{are_on}
@@ -47,7 +45,7 @@ module _ (N : Model) (sound : Sound N) where
     | inl e ↦ let o = sound.outers_there f there in (subst (Has N.loops) (sym e.1) o.0, ap (face_of N) e.1 ∙ o.1)
     | inr e ↦
         let w = all_where_has (λ k row. nat_eq row.face f && not (nat_eq (outer N f) k)) N.loops q (omega (arith, i, tick_other q (outer N f) e.1)) in
-        (ap is_some w.1, face_row N q w.0 w.1 ∙ equal w.0.face f (and_parts (nat_eq w.0.face f) (not (nat_eq (outer N f) q)) w.2).0)
+        (ap is_some w.1, face_row N q w.0 w.1 ∙ eqb-true w.0.face f (and_parts (nat_eq w.0.face f) (not (nat_eq (outer N f) q)) w.2).0)
   ]
 
   -- ---- half-edges
@@ -101,7 +99,7 @@ module _ (N K : Model) (sound : Sound N) (stays : Stays N K) where
   start_still h there = ap (point_of K) (stays.tails h there) ∙ point_still (tail N h)
 
   finish_still : (h : ℕ) → HasHalf N h → finish K h ≡ finish N h
-  finish_still h there = start_still (mate h) (half_mate N sound h there)
+  finish_still h there = start_still (mate h) (mate_there N h there)
 
   pub area_still : (hs : List ℕ) → ((h : ℕ) → IsIn h hs → HasHalf N h) → area K hs ≡ area N hs
   area_still [] there = refl

@@ -5,7 +5,6 @@ use Rattle.euler_operators.specs.Items.{IsIn}
 use Rattle.euler_operators.specs.Model.{Model, solid_of, faces_of}
 use Rattle.euler_operators.specs.Sound.{Sound, Has}
 use Rattle.euler_operators.specs.Conditions.{first_refusal, lists}
-use Rattle.euler_laws.proofs.shared.Counted.{in_listed, listed_in}
 use Rattle.shapes.specs.Measure.{plane_of, is_flat, six_volume}
 use Rattle.shapes.specs.split.Sides.{straddling_faces}
 use Rattle.shapes.specs.split.Crossings.{with_crossings}
@@ -23,7 +22,7 @@ use Rattle.split_drawing_laws.proofs.cut_volumes.Solids.{solid_facts, in_solid}
 use Rattle.split_drawing_laws.proofs.drawn_volumes.Spread.{Comes, Spread, LiesFlat, nothing_spread, all_spread}
 use Rattle.split_drawing_laws.proofs.cut_volumes.Told.{flat_on, solid_stays}
 use Rattle.split_drawing_laws.proofs.drawn_volumes.Volumes.{IsPlane}
-use Rattle.euler_laws.proofs.shared.Listed.{IsIn-from_listed}
+use Rattle.euler_laws.proofs.shared.Listed.{IsIn-from_listed, listed-from_in}
 
 module _ (M : Model) (s : ℕ) (p : Plane) (t : ℕ) (sound : Sound M) (accepted : first_refusal (first_conditions M s p t) ≡ None) where
   abbrev N : Model
@@ -81,7 +80,7 @@ module _ (M : Model) (s : ℕ) (p : Plane) (t : ℕ) (sound : Sound M) (accepted
       let c : Comes N D s f = spread.origin f w.0 w.1 in
       record {
         face = c.face;
-        of_solid = in_listed c.face (faces_of M s) (in_solid M c.face s (was_there c.face c.there) (was_solid c.face c.solid));
+        of_solid = listed-from_in c.face (faces_of M s) (in_solid M c.face s (was_there c.face c.there) (was_solid c.face c.solid));
         own = λ there. c.own (subst (λ x. Has x f) (sym same_faces) there);
         on = λ j. some_plane c.face c.there c.solid j && face_on D D_sound (plane_of M c.face) f w.0 (c.on (plane_of M c.face) (on_plane c.face c.there c.solid)) j;
       }

@@ -15,7 +15,6 @@ use Rattle.euler_operators.proofs.Tables.{row_elsewhere}
 use Rattle.euler_operators.specs.Conditions.{face_at}
 use Rattle.euler_laws.proofs.mef.MefUndo.{count-mef_old, count-mef_new}
 use Rattle.euler_laws.proofs.shared.Fans.{half_face}
-use Rattle.shapes.proofs.fresh.Rows.{get-put_here, get-put_other}
 use Rattle.shapes.specs.Faces.{start, boundary}
 use Rattle.shapes.specs.Measure.{normal, anchor}
 use Rattle.shapes.proofs.Areas.{area-append}

@@ -10,7 +10,7 @@ use Rattle.euler_operators.specs.Table as table
 use Rattle.euler_operators.specs.Model.{Model, EdgeRow, has_half}
 use Rattle.euler_operators.specs.Sound.{HasHalf}
 use Rattle.euler_operators.proofs.Halves.{plus_row, minus_row, same_edge, mate_plus, plus_other}
-use Rattle.shapes.proofs.fresh.Rows.{get-put_here, get-put_other}
+use Rattle.euler_operators.proofs.Tables.{get-put_here, get-put_other}
 use Rattle.shapes.specs.Faces.{start, finish, boundary}
 use Rattle.shapes.specs.Measure.{area, normal}
 use Rattle.shapes.proofs.Areas.{moved_more, nothing_moved}

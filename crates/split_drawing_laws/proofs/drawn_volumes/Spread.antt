@@ -1,5 +1,6 @@
 -- Faces drawn one after the other: volumes stay, and each face of the solid lies on the planes of one that was there before.
 use Rattle.std.proofs.Common.{◌≡◌, ℕ, ◌+◌, Bool, true, false, cond, nat_eq, nat_lt, ◌&&◌, List, [], ◌∷◌, length, None, refl, sym, ◌∙◌, subst, arith}
+use Rattle.std.proofs.lemmas.Bool.{eqb-true}
 use Rattle.std.specs.Prelude.{fold}
 use Rattle.euler_operators.specs.declared.Plane.{Plane}
 use Rattle.euler_operators.specs.Items.{IsIn}
@@ -9,7 +10,6 @@ use Rattle.euler_operators.specs.Table as table
 use Rattle.euler_operators.specs.Model.{Model, content, solid_of}
 use Rattle.euler_operators.specs.Sound.{Has}
 use Rattle.euler_operators.specs.Conditions.{has_rings}
-use Rattle.euler_laws.proofs.shared.Goes.{equal}
 use Rattle.shapes.specs.Faces.{vertices_on}
 use Rattle.shapes.specs.Measure.{six_volume}
 use Rattle.shapes.specs.split.Sides.{some_above}
@@ -55,7 +55,7 @@ module _ (p : Plane) (f : ℕ) (qs : List (ℕ × ℕ)) (d : Drawing) (n : ℕ) 
   shared true e = rings_within M f w.sound there r some on L.model L.taken.face (rings_above L.model p f) (last p f qs d n w).drawn
       (rings_are L.model f (λ l. some_above L.model p (vertices_on L.model (content L.model l))))
       (rings_apart L.model f (λ l. some_above L.model p (vertices_on L.model (content L.model l))))
-      (newer_face p f qs d n w (equal (length qs) 1 e)) drawn
+      (newer_face p f qs d n w (eqb-true (length qs) 1 e)) drawn
   shared false e = drawn
 
   pub face_within : Within d.model (drawn_between p f qs d).model f

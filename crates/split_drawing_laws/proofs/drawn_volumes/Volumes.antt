@@ -2,6 +2,7 @@
 use Rattle.std.proofs.Common.{◌≡◌, ◌≢◌, ℕ, ℤ, ◌+ℤ◌, ◌-ℤ◌, true, not, cond, nat_eq, ◌&&◌, ◌∷◌, is_some, refl, sym, ap, ◌∙◌, subst, arith, inl, inr}
 use Rattle.std.proofs.lemmas.Int.{ints}
 use Rattle.std.proofs.lemmas.Bool.Decides.{eqb_tells}
+use Rattle.std.proofs.lemmas.Bool.{ne_eqb, eq-eqb}
 use Rattle.euler_operators.specs.declared.Point.{Point}
 use Rattle.euler_operators.specs.declared.Plane.{Plane}
 use Rattle.euler_operators.specs.Vectors.{origin, dot, same_point, is_on, direction}
@@ -12,7 +13,6 @@ use Rattle.euler_operators.specs.Model.{Model, solid_of, faces_of}
 use Rattle.euler_operators.specs.Sound.{Sound, Has}
 use Rattle.euler_operators.specs.Conditions.{face_at}
 use Rattle.euler_operators.specs.Effect.{ring_in}
-use Rattle.euler_laws.proofs.shared.Goes.{equals, differs}
 use Rattle.euler_laws.proofs.shared.Fans.{half_face}
 use Rattle.shapes.specs.Measure.{normal, anchor, six_volume}
 use Rattle.solid_measure_laws.proofs.FlatFaces.{anchor_on, told_anywhere}
@@ -156,11 +156,11 @@ module _ (N : Model) (f l k : ℕ) (can : CanMove N f l k) (r : Plane) (some : I
 
   mid_k : mid k ≡ told N k
   unfolding mid
-  mid_k = ap (λ b. cond b (told N k) (told R k)) (equals k k refl)
+  mid_k = ap (λ b. cond b (told N k) (told R k)) (eq-eqb k k refl)
 
   mid_else : (h : ℕ) → h ≢ k → mid h ≡ told R h
   unfolding mid
-  mid_else h ne = ap (λ b. cond b (told N h) (told R h)) (differs h k ne)
+  mid_else h ne = ap (λ b. cond b (told N h) (told R h)) (ne_eqb h k ne)
 
   gap : (a b : ℤ) → a ≡ b +ℤ (a -ℤ b)
   gap a b = omega (arith, ints)

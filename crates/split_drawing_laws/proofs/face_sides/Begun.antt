@@ -2,6 +2,7 @@
 use Rattle.std.specs.Prelude.{map}
 use Rattle.std.proofs.Common.{◌≡◌, ◌≢◌, ℕ, Bool, true, false, nat_eq, ◌&&◌, ◌||◌, List, [], ◌∷◌, is_some, refl, sym, ap, ◌∙◌, subst, arith, inl, inr, true≢false}
 use Rattle.std.proofs.lemmas.Bool.Decides.{eqb_tells}
+use Rattle.std.proofs.lemmas.Bool.{eq-eqb, eqb-true}
 use Rattle.euler_operators.proofs.Tests.{first_fails}
 use Rattle.euler_operators.specs.declared.Plane.{Plane}
 use Rattle.euler_operators.specs.Vectors.{is_above}
@@ -16,9 +17,9 @@ use Rattle.euler_operators.proofs.Members.{IsIn-map, IsIn-filter}
 use Rattle.euler_operators.proofs.Maps.{from_map}
 use Rattle.euler_operators.specs.Conditions.{face_at, is_lone, lists}
 use Rattle.euler_laws.proofs.shared.Fans.{half_after, loop_after}
-use Rattle.euler_laws.proofs.shared.Goes.{all_hold, equal, equals, no_zero}
+use Rattle.euler_laws.proofs.shared.Goes.{all_hold, no_zero}
 use Rattle.euler_laws.proofs.shared.Rows.{loop_row, face_there, not_lone_cycle}
-use Rattle.euler_laws.proofs.shared.Listed.{IsIn-from_listed}
+use Rattle.euler_laws.proofs.shared.Listed.{IsIn-from_listed, listed-from_in}
 use Rattle.shapes.specs.Faces.{start, finish, least_lone, boundary, vertices_on}
 use Rattle.shapes.specs.split.Sides.{some_above, reaches_above, straddling_faces}
 use Rattle.shapes.specs.split.Places.{is_place, places}
@@ -41,7 +42,7 @@ use Rattle.split_drawing_laws.proofs.face_sides.OneFace.{IsSided, PairsOf}
 use Rattle.split_drawing_laws.proofs.face_sides.Passing.{AllOld}
 use Rattle.split_drawing_laws.proofs.face_sides.Same.{any_from}
 use Rattle.split_drawing_laws.proofs.face_sides.Shared.{HeldOn}
-use Rattle.euler_laws.proofs.shared.Counted.{in_listed, all_where_in}
+use Rattle.euler_laws.proofs.shared.Counted.{all_where_in}
 
 -- the half-edges of pairs that fit are there
 fits_old : (N : Model) (f : ℕ) (qs : List (ℕ × ℕ)) → AllFit N f qs → AllOld N qs
@@ -79,13 +80,13 @@ module _ (M : Model) (s : ℕ) (p : Plane) (t : ℕ) (sound : Sound M) (begins :
 
   none_lone : table.first_where (λ _ row. is_lone row.content && lists (faces_of M s) row.face) M.loops ≡ 0
   unfolding first_conditions
-  none_lone = equal (least_lone M (faces_of M s)) 0 (all_hold (first_conditions M s p t) begins).1.1.1.1.1.1.1.1.1.0
+  none_lone = eqb-true (least_lone M (faces_of M s)) 0 (all_hold (first_conditions M s p t) begins).1.1.1.1.1.1.1.1.1.0
 
   is_cycle : (q : ℕ) → Has M.loops q → solid_of M (face_of M q) ≡ s → content M q ≡ cycle (items_of (content M q))
   is_cycle q there of_s = not_lone_cycle (content M q) (first_fails (is_lone (content M q)) (lists (faces_of M s) (face_of M q))
       (zero_first_where (λ _ row. is_lone row.content && lists (faces_of M s) row.face) M.loops (λ l row at z. no_zero l z (sound.loops_fit l (ap is_some at))) none_lone q _ (loop_row M q there)) listed) where
         listed : lists (faces_of M s) (face_of M q) ≡ true
-        listed = in_listed (face_of M q) (faces_of M s) (all_where_in (λ _ row. nat_eq row.solid s) M.faces (face_of M q) _ (face_there M (face_of M q) (sound.loops_of_faces q there)) (equals (solid_of M (face_of M q)) s of_s))
+        listed = listed-from_in (face_of M q) (faces_of M s) (all_where_in (λ _ row. nat_eq row.solid s) M.faces (face_of M q) _ (face_there M (face_of M q) (sound.loops_of_faces q there)) (eq-eqb (solid_of M (face_of M q)) s of_s))
 
   -- so each holds a half-edge
   pub loop_holds : (q : ℕ) → Has (with_crossings M s p).model.loops q → solid_of (with_crossings M s p).model (face_of (with_crossings M s p).model q) ≡ s → Held (with_crossings M s p).model (with_crossings M s p).model q
@@ -187,7 +188,7 @@ module _ (M : Model) (s : ℕ) (p : Plane) (t : ℕ) (sound : Sound M) (begins :
     x_place = IsIn-filter (is_place M p) x (boundary M f) (subst (λ g. IsIn x (boundary M g)) outer_facts.1 (item_in_face M x (outer M f) outer_facts.0 outer_place.1)) outer_place.2
 
     x_loop : loop_of N (from_place N p x) ≡ outer N f
-    x_loop = (at_place M s p t sound begins f x (in_listed f fs i) (in_listed x (places M p f) x_place)).loop ∙ sound.one_loop x (outer M f) (in-holds x (content M (outer M f)) outer_place.1)
+    x_loop = (at_place M s p t sound begins f x (listed-from_in f fs i) (listed-from_in x (places M p f) x_place)).loop ∙ sound.one_loop x (outer M f) (in-holds x (content M (outer M f)) outer_place.1)
         ∙ sym (same_outer M N f (ap (λ u. table.get u f) keep.faces))
 
     x_end : IsIn (from_place N p x) (ends (drawn_pairs M N p f))
@@ -202,7 +203,7 @@ module _ (M : Model) (s : ℕ) (p : Plane) (t : ℕ) (sound : Sound M) (begins :
       | inr a ↦
           let two : IsIn (from_place N p x) (q.0 ∷ q.1 ∷ []) = subst (λ qs. IsIn (from_place N p x) (ends qs)) e x_end in
           let one : from_place N p x ≡ q.1 = only (from_place N p x) q.1 (omega (arith, two, tick_other (from_place N p x) q.0 a.1)) in
-          equal (loop_of N q.0) (loop_of N q.1) (subst (LoneInOneLoop N) e fits.1) ∙ ap (loop_of N) (sym one) ∙ x_loop
+          eqb-true (loop_of N q.0) (loop_of N q.1) (subst (LoneInOneLoop N) e fits.1) ∙ ap (loop_of N) (sym one) ∙ x_loop
     ] where
       only : (a b : ℕ) → IsIn a (b ∷ []) → a ≡ b
       only a b j = elim (eqb_tells a b) [ inl y ↦ y.1 | inr y ↦ absurd (omega (arith, j, tick_other a b y.1)) ]

@@ -1,6 +1,7 @@
 -- From the first conditions of a split to the sides of its loops and faces.
 use Rattle.std.proofs.Common.{◌≡◌, ℕ, Bool, true, false, not, nat_eq, ◌&&◌, ◌||◌, List, [], ◌∷◌, is_some, unwrap_or, refl, sym, ap, ◌∙◌, subst, arith, inl, inr}
 use Rattle.std.proofs.lemmas.Bool.Decides.{eqb_tells}
+use Rattle.std.proofs.lemmas.Bool.{eq-eqb, eqb-true}
 use Rattle.euler_operators.specs.declared.Plane.{Plane}
 use Rattle.euler_operators.specs.Vectors.{is_above, is_below}
 use Rattle.euler_operators.specs.Items.{IsIn}
@@ -11,7 +12,6 @@ use Rattle.euler_operators.proofs.Models.{in-holds, content_cycle, face_row, sam
 use Rattle.euler_operators.proofs.Tests.{and_first, and_false}
 use Rattle.euler_operators.proofs.Maps.{from_map}
 use Rattle.euler_operators.specs.Conditions.{face_at, lists}
-use Rattle.euler_laws.proofs.shared.Goes.{equal, equals}
 use Rattle.euler_laws.proofs.shared.Listed.{IsIn-from_listed}
 use Rattle.euler_laws.proofs.shared.Fans.{half_face}
 use Rattle.shapes.specs.Faces.{start, loops_of, vertices_on, vertices_in, corners}
@@ -121,7 +121,7 @@ module _ (M : Model) (s : ℕ) (p : Plane) (t : ℕ) (sound : Sound M) (begins :
   is_own_then h of_s = go (has_half N h) refl where
     go : (b : Bool) → has_half N h ≡ b → (not (has_half N h) || nat_eq (solid_of N (face_at N h)) s) ≡ true
     go false e = ap (λ b. not b || nat_eq (solid_of N (face_at N h)) s) e
-    go true e = ap (λ b. not b || nat_eq (solid_of N (face_at N h)) s) e ∙ equals (solid_of N (face_at N h)) s (own_before h e of_s)
+    go true e = ap (λ b. not b || nat_eq (solid_of N (face_at N h)) s) e ∙ eq-eqb (solid_of N (face_at N h)) s (own_before h e of_s)
 
   pub loops_are_sided : (x y : ℕ) → HasHalf D x → HasHalf D y → loop_of D x ≡ loop_of D y → solid_of D (face_at D x) ≡ s → (b : Bool) × LiesOn p b (start D x) × LiesOn p b (start D y)
   loops_are_sided x y xt yt same of_s = loops_on_one_side M p (with_crossings M s p) fs side (is_own M s p) can sides ends x y xt yt same
@@ -142,7 +142,7 @@ module _ (M : Model) (s : ℕ) (p : Plane) (t : ℕ) (sound : Sound M) (begins :
       | inl e ↦ let o = D_sound.outers_there f there in (subst (Has D.loops) (sym e.1) o.0, ap (face_of D) e.1 ∙ o.1)
       | inr e ↦
           let w = all_where_has (λ k row. nat_eq row.face f && not (nat_eq (outer D f) k)) D.loops q (omega (arith, i, tick_other q (outer D f) e.1)) in
-          (ap is_some w.1, face_row D q w.0 w.1 ∙ equal w.0.face f (and_first (nat_eq w.0.face f) (not (nat_eq (outer D f) q)) w.2))
+          (ap is_some w.1, face_row D q w.0 w.1 ∙ eqb-true w.0.face f (and_first (nat_eq w.0.face f) (not (nat_eq (outer D f) q)) w.2))
     ]
 
     loop_cycle : (q : ℕ) → IsIn q (loops_of D f) → content D q ≡ cycle (items_of (content D q))
@@ -193,4 +193,4 @@ unfolding with_drawings solid_of
 none_straddles M D s p t sound begins drawn = subst (λ X. (f : ℕ) → lists (faces_of X s) f ≡ true → straddles X p f ≡ false) drawn.1 (λ f i.
     let X : Model = (faces_drawn M p (with_crossings M s p) (straddling_faces M p s)).model in
     let w = all_where_has (λ _ row. nat_eq row.solid s) X.faces f (IsIn-from_listed f (faces_of X s) i) in
-    face_is_sided M s p t sound begins drawn.0 f (ap is_some w.1) (ap (λ o. (unwrap_or o no_face).solid) w.1 ∙ equal w.0.solid s w.2))
+    face_is_sided M s p t sound begins drawn.0 f (ap is_some w.1) (ap (λ o. (unwrap_or o no_face).solid) w.1 ∙ eqb-true w.0.solid s w.2))

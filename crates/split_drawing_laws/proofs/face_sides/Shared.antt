@@ -1,6 +1,7 @@
 -- A face with one pair: its loop is cut in two, and the rings above go to the new face.
 use Rattle.std.proofs.Common.{◌≡◌, ◌≢◌, ℕ, Bool, true, false, not, nat_eq, ◌&&◌, is_some, refl, sym, ap, ◌∙◌, subst, inl, inr, true≢false}
 use Rattle.std.proofs.lemmas.Bool.Decides.{eqb_tells}
+use Rattle.std.proofs.lemmas.Bool.{ne_eqb, eq-eqb}
 use Rattle.std.specs.Prelude.{List}
 use Rattle.euler_operators.specs.declared.Plane.{Plane}
 use Rattle.euler_operators.specs.Table as table
@@ -9,8 +10,7 @@ use Rattle.euler_operators.specs.Sound.{Sound, Has, HasHalf, StandsIn}
 use Rattle.euler_operators.specs.Conditions.{face_at, lists}
 use Rattle.euler_operators.proofs.Members.{IsIn-filter, filter_passes}
 use Rattle.euler_operators.proofs.Models.{same_face}
-use Rattle.euler_laws.proofs.shared.Goes.{equals, differs}
-use Rattle.euler_laws.proofs.shared.Listed.{IsIn-from_listed}
+use Rattle.euler_laws.proofs.shared.Listed.{IsIn-from_listed, listed-from_in}
 use Rattle.shapes.specs.Faces.{vertices_on}
 use Rattle.shapes.specs.split.Sides.{some_above}
 use Rattle.shapes.specs.split.Drawing.{face_drawn, rings_above, with_rings}
@@ -21,7 +21,6 @@ use Rattle.split_drawing_laws.proofs.drawings.Stays.{row_else, draw_beside}
 use Rattle.split_drawing_laws.proofs.face_sides.Alone.{Held, u_goes, k_stays, outer_kept}
 use Rattle.split_drawing_laws.proofs.face_sides.Beside.{old_loop_face, new_loop_face, never_free, given_content, given_has, given_else, given_face}
 use Rattle.shapes.proofs.walks.FaceLoops.{ring_listed}
-use Rattle.euler_laws.proofs.shared.Counted.{in_listed}
 
 -- loop q of N holds a half-edge of B on side b
 pub record HeldOn (B N : Model) (side : ℕ → Bool) (q : ℕ) (b : Bool) : Type 0 where
@@ -82,13 +81,13 @@ module _ (B N : Model) (side : ℕ → Bool) (p : Plane) (f u k e g l : ℕ) (c 
   passes_not : (r : ℕ) → Has K.loops r → face_of K r ≡ f → outer K f ≢ r → lists ls r ≡ false → test r ≡ false
   passes_not r there face inner not_listed = go (test r) refl where
     ring : is_ring_of K f r ≡ true
-    ring = three (table.has K.loops r) (nat_eq (face_of K r) f) (nat_eq (outer K f) r) there (equals (face_of K r) f face) (differs (outer K f) r inner) where
+    ring = three (table.has K.loops r) (nat_eq (face_of K r) f) (nat_eq (outer K f) r) there (eq-eqb (face_of K r) f face) (ne_eqb (outer K f) r inner) where
       three : (a b d : Bool) → a ≡ true → b ≡ true → d ≡ false → (a && b && not d) ≡ true
       three a b d x y z = (λ i. x i && y i && not (z i))
 
     go : (b : Bool) → test r ≡ b → test r ≡ false
     go false e = e
-    go true e = absurd (true≢false (sym (in_listed r ls (IsIn-filter test r (rings_of K f) (IsIn-from_listed r (rings_of K f) (ring_listed K K_sound f r ring)) e)) ∙ not_listed))
+    go true e = absurd (true≢false (sym (listed-from_in r ls (IsIn-filter test r (rings_of K f) (IsIn-from_listed r (rings_of K f) (ring_listed K K_sound f r ring)) e)) ∙ not_listed))
 
   -- a ring of f then was one before, and its half-edge stays there
   module _ (r : ℕ) (there : Has K.loops r) (face : face_of K r ≡ f) (inner : outer K f ≢ r) where

@@ -19,6 +19,7 @@ use Rattle.euler_operators.proofs.Crossings.{level_on}
 use Rattle.euler_operators.specs.Conditions.{face_at, differ}
 use Rattle.euler_laws.proofs.shared.Arcs.{halves_of_edge}
 use Rattle.euler_laws.proofs.shared.Fans.{back_of}
+use Rattle.euler_laws.proofs.shared.Listed.{listed-from_in}
 use Rattle.shapes.specs.Faces.{start, finish, boundary}
 use Rattle.shapes.specs.split.Sides.{crosses, reaches_above, straddling_faces, crossing_edges}
 use Rattle.shapes.specs.split.Places.{is_place, place_point, places, goes_up, some_meet, is_crossed, is_up_and_down, in_pairs, sorted, sorted_pairs, place_pairs}
@@ -40,7 +41,6 @@ use Rattle.split_drawing_laws.specs.half_sides.HalfSides.{half_is_above, side_of
 use Rattle.split_drawing_laws.proofs.half_sides.EndLists.{ends_are}
 use Rattle.split_drawing_laws.proofs.half_sides.Heights.{side_ahead}
 use Rattle.split_drawing_laws.proofs.half_sides.Starts.{TurnAt, turn_at}
-use Rattle.euler_laws.proofs.shared.Counted.{in_listed}
 
 -- of each pair the first is above and the second below
 abbrev pub AllUp : (ℕ → Bool) → List (ℕ × ℕ) → Type 0
@@ -57,11 +57,11 @@ module _ (M : Model) (s : ℕ) (p : Plane) (t : ℕ) (sound : Sound M) (begins :
   -- in a face that straddles the side of a half-edge is its own
   pub side_within : (h : ℕ) → IsIn (face_at N h) fs → side_of M s p h ≡ half_is_above N p h
   unfolding side_of
-  side_within h i = ap (λ b. cond b (half_is_above N p h) (reaches_above M p (face_at N h))) (in_listed (face_at N h) fs i)
+  side_within h i = ap (λ b. cond b (half_is_above N p h) (reaches_above M p (face_at N h))) (listed-from_in (face_at N h) fs i)
 
   module _ (f : ℕ) (i : IsIn f (straddling_faces M p s)) where
     at : (h : ℕ) → IsIn h (places M p f) → AtPlace M N p h
-    at h j = at_place M s p t sound begins f h (in_listed f fs i) (in_listed h (places M p f) j)
+    at h j = at_place M s p t sound begins f h (listed-from_in f fs i) (listed-from_in h (places M p f) j)
 
     in_face : (h : ℕ) → IsIn h (places M p f) → IsIn h (boundary M f)
     unfolding places

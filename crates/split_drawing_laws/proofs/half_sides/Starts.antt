@@ -8,11 +8,11 @@ use Rattle.euler_operators.specs.HalfEdge.{mate, edge_of, plus, minus}
 use Rattle.euler_operators.specs.Model.{Model, tail, loop_of, face_of, after, before, point_of}
 use Rattle.euler_operators.specs.Sound.{Sound, Has, HasHalf}
 use Rattle.euler_operators.proofs.Halves.{edge_of-mate, mate_plus, mate_minus}
-use Rattle.euler_operators.proofs.Models.{cycle_there, plus_there, minus_there, loop_there}
+use Rattle.euler_operators.proofs.Models.{cycle_there, plus_there, minus_there, loop_there, mate_there}
 use Rattle.euler_operators.proofs.Members.{IsIn-filter}
 use Rattle.euler_operators.specs.Conditions.{face_at}
 use Rattle.euler_laws.proofs.shared.Arcs.{halves_of_edge}
-use Rattle.euler_laws.proofs.shared.Fans.{half_after, half_mate, loop_after, back_of}
+use Rattle.euler_laws.proofs.shared.Fans.{half_after, loop_after, back_of}
 use Rattle.shapes.specs.Faces.{start, finish, boundary}
 use Rattle.shapes.specs.split.Sides.{crosses, straddling_faces, crossing_edges}
 use Rattle.shapes.specs.split.Places.{is_place, places}
@@ -219,7 +219,7 @@ module _ (M : Model) (s : ℕ) (p : Plane) (t : ℕ) (sound : Sound M) (begins :
           (sym (pieces.follows back back_there back_uncut (ap (λ z. count (edge_of z) es) back_leads ∙ uncut) ∙ back_leads))
 
       same_end : finish N y ≡ finish M y
-      same_end = uncut_start (mate y) (half_mate M sound y old) (ap (λ z. count z es) (edge_of-mate y) ∙ uncut)
+      same_end = uncut_start (mate y) (mate_there M y old) (ap (λ z. count z es) (edge_of-mate y) ∙ uncut)
 
       at_corner : TurnAt M N p x
       at_corner = record {

@@ -1,6 +1,7 @@
 -- From the first conditions of a split to the sides that half-edges take.
 use Rattle.std.specs.Prelude.{nat_eq}
 use Rattle.std.proofs.Common.{◌≡◌, ℕ, Bool, true, false, cond, not, ◌&&◌, ◌||◌, List, [], ◌∷◌, refl, sym, ap, ◌∙◌, subst, arith, inl, inr, true≢false}
+use Rattle.std.proofs.lemmas.Bool.{eq-eqb, eqb-true}
 use Rattle.euler_operators.specs.declared.Plane.{Plane}
 use Rattle.euler_operators.specs.Vectors.{height, are_opposite, is_above, is_below, is_on}
 use Rattle.euler_operators.specs.Items.{count, IsIn}
@@ -12,13 +13,12 @@ use Rattle.euler_operators.specs.Sound.{Sound, Has, HasHalf}
 use Rattle.euler_operators.proofs.Halves.{plus_row, mate_plus, mate_minus}
 use Rattle.euler_operators.proofs.Models.{cycle_there, loop_there}
 use Rattle.euler_operators.proofs.Members.{IsIn-filter}
+use Rattle.euler_operators.proofs.Tables.{row_some}
 use Rattle.euler_operators.specs.Conditions.{face_at, lists}
 use Rattle.euler_laws.proofs.shared.Arcs.{halves_of_edge}
 use Rattle.euler_laws.proofs.shared.Fans.{half_after, loop_after, half_face}
-use Rattle.euler_laws.proofs.shared.Goes.{equal, equals}
-use Rattle.euler_laws.proofs.shared.Loops.{some_row}
 use Rattle.euler_laws.proofs.shared.Rows.{face_there}
-use Rattle.euler_laws.proofs.shared.Listed.{IsIn-from_listed}
+use Rattle.euler_laws.proofs.shared.Listed.{IsIn-from_listed, listed-from_in}
 use Rattle.shapes.specs.Faces.{start, finish, corners, edges_of}
 use Rattle.shapes.specs.split.Sides.{crosses, straddles, straddling_faces, reaches_above, reaches_below}
 use Rattle.shapes.specs.split.Crossings.{with_crossings}
@@ -37,7 +37,7 @@ use Rattle.split_drawing_laws.proofs.half_sides.Heights.{side_kept, side_changed
 use Rattle.split_drawing_laws.proofs.half_sides.PlaceEnds.{side_within, place_face, place_there, place_on, pairs_cross, place_in_ends, place_of_end, ends_once}
 use Rattle.split_drawing_laws.proofs.half_sides.Starts.{TurnAt, turn_at, comes_from}
 use Rattle.split_drawing_laws.proofs.loop_sides.Parting.{on_both}
-use Rattle.euler_laws.proofs.shared.Counted.{in_listed, all_where_in}
+use Rattle.euler_laws.proofs.shared.Counted.{all_where_in}
 
 module _ (M : Model) (s : ℕ) (p : Plane) (t : ℕ) (sound : Sound M) (begins : CanBegin M s p t) where
   abbrev N : Model
@@ -65,7 +65,7 @@ module _ (M : Model) (s : ℕ) (p : Plane) (t : ℕ) (sound : Sound M) (begins :
   plus_stays_aside : (e : ℕ) → Has N.edges e → solid_of N (face_at N (plus e)) ≡ s → crosses N p (plus e) ≡ false
   plus_stays_aside e there of_s = go (crosses N p (plus e)) refl where
     listed : IsIn e (edges_of N s)
-    listed = let w = some_row (table.get N.edges e) there in all_where_in (λ x _. nat_eq (solid_of N (face_at N (plus x))) s) N.edges e w.0 w.1 (equals (solid_of N (face_at N (plus e))) s of_s)
+    listed = let w = row_some (table.get N.edges e) there in all_where_in (λ x _. nat_eq (solid_of N (face_at N (plus x))) s) N.edges e w.0 w.1 (eq-eqb (solid_of N (face_at N (plus e))) s of_s)
 
     go : (b : Bool) → crosses N p (plus e) ≡ b → crosses N p (plus e) ≡ false
     go false c = c
@@ -98,7 +98,7 @@ module _ (M : Model) (s : ℕ) (p : Plane) (t : ℕ) (sound : Sound M) (begins :
     corner = tail_in_face M g (loop_of M g) (loop_there M sound g there) (cycle_there M sound g there)
 
     of_solid : IsIn f (faces_of M s)
-    of_solid = all_where_in (λ _ row. nat_eq row.solid s) M.faces f _ (face_there M f (half_face M sound g there)) (equals (solid_of M f) s of_s)
+    of_solid = all_where_in (λ _ row. nat_eq row.solid s) M.faces f _ (face_there M f (half_face M sound g there)) (eq-eqb (solid_of M f) s of_s)
 
     above_then : (b : Bool) → is_above p (start M g) ≡ b → reaches_above M p f ≡ false → is_above p (start M g) ≡ false
     above_then false a none = a
@@ -107,7 +107,7 @@ module _ (M : Model) (s : ℕ) (p : Plane) (t : ℕ) (sound : Sound M) (begins :
     below_then : (b : Bool) → is_below p (start M g) ≡ b → reaches_above M p f ≡ true → is_below p (start M g) ≡ false
     below_then false a up = a
     below_then true a up = absurd (true≢false
-        (sym (in_listed f fs (IsIn-filter (straddles M p) f (faces_of M s) of_solid (both_ways f up (any_passes (λ v. is_below p (point_of M v)) (tail M g) (corners M f) corner a)))) ∙ beside))
+        (sym (listed-from_in f fs (IsIn-filter (straddles M p) f (faces_of M s) of_solid (both_ways f up (any_passes (λ v. is_below p (point_of M v)) (tail M g) (corners M f) corner a)))) ∙ beside))
 
     go : (b : Bool) → reaches_above M p f ≡ b → LiesOn p b (start M g)
     go true up = below_then (is_below p (start M g)) refl up
@@ -131,7 +131,7 @@ module _ (M : Model) (s : ℕ) (p : Plane) (t : ℕ) (sound : Sound M) (begins :
 
   own_solid : (h : ℕ) → HasHalf N h → is_own M s p h ≡ true → solid_of N (face_at N h) ≡ s
   unfolding is_own
-  own_solid h there own = equal (solid_of N (face_at N h)) s (go (has_half N h) there own) where
+  own_solid h there own = eqb-true (solid_of N (face_at N h)) s (go (has_half N h) there own) where
     go : (a : Bool) → a ≡ true → (not a || nat_eq (solid_of N (face_at N h)) s) ≡ true → nat_eq (solid_of N (face_at N h)) s ≡ true
     go true there e = e
     go false there e = absurd (true≢false (sym there))
@@ -168,7 +168,7 @@ module _ (M : Model) (s : ℕ) (p : Plane) (t : ℕ) (sound : Sound M) (begins :
     meets = ap (point_of N) (sym (new_sound.ends_meet x there))
 
     goes_beside : lists fs (face_at N (after N x)) ≡ false → Goes x
-    goes_beside e = never_place x (λ i. true≢false (sym (in_listed (face_at N (after N x)) fs (place_facts (after N x) i).1) ∙ e))
+    goes_beside e = never_place x (λ i. true≢false (sym (listed-from_in (face_at N (after N x)) fs (place_facts (after N x) i).1) ∙ e))
         (side_beside (after N x) e ∙ ap (reaches_above M p) one_face ∙ sym (side_beside x (ap (lists fs) (sym one_face) ∙ e)))
 
     -- in a face that straddles

@@ -13,9 +13,8 @@ use Rattle.euler_operators.specs.Model.{Model, items_of, loop_of, content, cycle
 use Rattle.euler_operators.specs.Sound.{Sound, Has, HasHalf}
 use Rattle.euler_operators.proofs.Halves.{plus_row, minus_row, same_edge, mate_plus, plus_other}
 use Rattle.euler_operators.proofs.Models.{content_row, in-holds, cycle_there, cycle_sound, same_content, loop_there}
-use Rattle.euler_operators.proofs.Tables.{row_elsewhere}
+use Rattle.euler_operators.proofs.Tables.{row_elsewhere, get-put_other}
 use Rattle.euler_laws.proofs.shared.Loops.{light, none_free}
-use Rattle.shapes.proofs.fresh.Rows.{get-put_other}
 use Rattle.shapes.specs.split.Drawing.{face_drawn, loops_joined}
 use Rattle.split_drawing_laws.proofs.drawings.Drawn.{CanDraw, draw_sound, CanJoin, join_sound}
 use Rattle.split_drawing_laws.proofs.drawings.Stays.{row_old, row_new, row_else, edges_are, row_joined, row_gone, row_other, joined_edges}

@@ -1,12 +1,12 @@
 -- The sides of half-edges once a whole face is drawn.
 use Rattle.std.proofs.Common.{◌≡◌, ◌≢◌, ℕ, Bool, true, false, cond, nat_eq, nat_lt, ◌&&◌, List, [], ◌∷◌, ◌++◌, length, refl, sym, ap, subst, arith}
+use Rattle.std.proofs.lemmas.Bool.{eqb-true}
 use Rattle.euler_operators.specs.declared.Plane.{Plane}
 use Rattle.euler_operators.specs.Items.{tick, IsApart}
 use Rattle.euler_operators.proofs.Lists.{tick_same}
 use Rattle.euler_operators.specs.Model.{Model, content}
 use Rattle.euler_operators.specs.Conditions.{has_rings}
 use Rattle.euler_operators.specs.Effect.{ring_in}
-use Rattle.euler_laws.proofs.shared.Goes.{equal}
 use Rattle.shapes.specs.Faces.{vertices_on}
 use Rattle.shapes.specs.split.Sides.{some_above}
 use Rattle.shapes.specs.split.Drawing.{Drawing, stuck_at, all_joined, ring_free, all_drawn, rings_above, with_rings, drawn_between}
@@ -71,6 +71,6 @@ module _ (B : Model) (p : Plane) (first : ℕ → Bool) (S : ℕ → Type 0) (ot
           rings_part d.model B L.model p first S f L.taken.face (rings_above L.model p f) others (last p f qs d n w).drawn
               (rings_are L.model f (λ l. some_above L.model p (vertices_on L.model (content L.model l))))
               (rings_apart L.model f (λ l. some_above L.model p (vertices_on L.model (content L.model l))))
-              (newer_face p f qs d n w (equal (length qs) 1 e)) a.1,
+              (newer_face p f qs d n w (eqb-true (length qs) 1 e)) a.1,
         )
     go false e free = at_drawn free

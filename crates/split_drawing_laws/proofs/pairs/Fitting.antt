@@ -1,11 +1,11 @@
 -- The pairs of a list of places fit where any two of these places do.
 use Rattle.std.specs.Prelude.{map}
 use Rattle.std.proofs.Common.{◌≡◌, ◌≢◌, ℕ, Bool, true, false, cond, List, [], ◌∷◌, length, refl, sym, ap, ◌∙◌, arith}
+use Rattle.std.proofs.lemmas.Bool.{eq-eqb}
 use Rattle.euler_operators.specs.declared.Plane.{Plane}
 use Rattle.euler_operators.specs.Items.{tick, IsIn, IsApart}
 use Rattle.euler_operators.proofs.Lists.{tick_same}
 use Rattle.euler_operators.specs.Model.{Model, loop_of}
-use Rattle.euler_laws.proofs.shared.Goes.{equals}
 use Rattle.shapes.specs.split.Places.{goes_up, in_pairs, up_first}
 use Rattle.shapes.specs.split.Drawing.{from_place, in_one_loop}
 use Rattle.split_drawing_laws.specs.drawings.Pairs.{Fits, AllFit, LoneInOneLoop}
@@ -36,8 +36,8 @@ module _ (M N : Model) (p : Plane) where
       )
 
   either_loop : (l : ℕ) (b : Bool) (h k : ℕ) → loop_of N (from_place N p h) ≡ l → loop_of N (from_place N p k) ≡ l → in_one_loop N (between (cond b (h, k) (k, h))) ≡ true
-  either_loop l true h k a c = equals (loop_of N (from_place N p h)) (loop_of N (from_place N p k)) (a ∙ sym c)
-  either_loop l false h k a c = equals (loop_of N (from_place N p k)) (loop_of N (from_place N p h)) (c ∙ sym a)
+  either_loop l true h k a c = eq-eqb (loop_of N (from_place N p h)) (loop_of N (from_place N p k)) (a ∙ sym c)
+  either_loop l false h k a c = eq-eqb (loop_of N (from_place N p k)) (loop_of N (from_place N p h)) (c ∙ sym a)
 
   -- an even number of places, where two alone are those of one loop
   pub lone_in_loop : (l : ℕ) (hs : List ℕ) → IsEven (length hs) → (length hs ≡ 2 → (x : ℕ) → IsIn x hs → loop_of N (from_place N p x) ≡ l) → LoneInOneLoop N (drawn hs)

@@ -5,6 +5,7 @@ use Rattle.std.proofs.Common.{◌≡◌, ℕ, ◌+◌, ◌≤◌, Bool, true, fa
 use Rattle.std.proofs.lemmas.List.{length-append}
 use Rattle.std.proofs.lemmas.List.Elements.{filter-append}
 use Rattle.std.proofs.lemmas.Bool.Decides.{nat_tests}
+use Rattle.std.proofs.lemmas.Bool.{not-false}
 use Rattle.euler_operators.specs.declared.Plane.{Plane}
 use Rattle.euler_operators.specs.Vectors.{height, is_on}
 use Rattle.euler_operators.specs.Items.{count, tick, IsIn}
@@ -16,7 +17,6 @@ use Rattle.euler_operators.specs.Sound.{Sound, HasHalf}
 use Rattle.euler_operators.proofs.Models.{in-holds, cycle_there, cycle_sound}
 use Rattle.euler_operators.proofs.Members.{count-filter}
 use Rattle.euler_laws.proofs.shared.Fans.{loop_after}
-use Rattle.euler_laws.proofs.shared.Goes.{not_back}
 use Rattle.euler_laws.proofs.shared.Loops.{light}
 use Rattle.shapes.specs.Faces.{start, finish, loops_of, items_in, boundary}
 use Rattle.shapes.specs.split.Places.{is_place, places, is_touched, loop_is_cut}
@@ -47,7 +47,7 @@ none_passes t x xs none i = go (t x) refl where
   go false e = e
 
 then_true : (a b : Bool) → (a && not b) ≡ false → a ≡ true → b ≡ true
-then_true true b e on = not_back b e
+then_true true b e on = not-false b e
 then_true false b e on = absurd (true≢false (sym on))
 
 then_false : (a b : Bool) → (a ≡ true → b ≡ true) → b ≡ false → a ≡ false

@@ -37,7 +37,8 @@ use Rattle.split_drawing_laws.proofs.pairs.Meetings.{points_apart}
 use Rattle.split_drawing_laws.proofs.pairs.Numbers.{pairs_room}
 use Rattle.split_drawing_laws.proofs.pairs.Turns.{IsEven}
 use Rattle.shapes.proofs.walks.FaceLoops.{different_items, loops_of_apart}
-use Rattle.euler_laws.proofs.shared.Counted.{in_listed, all_where_has}
+use Rattle.euler_laws.proofs.shared.Counted.{all_where_has}
+use Rattle.euler_laws.proofs.shared.Listed.{listed-from_in}
 
 -- ---- the half-edges of a face
 
@@ -68,7 +69,7 @@ module _ (M : Model) (s : ℕ) (p : Plane) (t : ℕ) (sound : Sound M) (begins :
     face_there = ap is_some (all_where_has (λ _ row. nat_eq row.solid s) M.faces f (omega (arith, i, count-filter (straddles M p) f (faces_of M s)))).1
 
     at : (h : ℕ) → IsIn h (places M p f) → AtPlace M N p h
-    at h j = at_place M s p t sound begins f h (in_listed f (straddling_faces M p s) i) (in_listed h (places M p f) j)
+    at h j = at_place M s p t sound begins f h (listed-from_in f (straddling_faces M p s) i) (listed-from_in h (places M p f) j)
 
     place_face : (h : ℕ) → IsIn h (places M p f) → face_at N (from_place N p h) ≡ f
     place_face h j = ap (face_of N) (at h j).loop ∙ (crossings_keep M s p t sound begins).face (loop_of M h) ∙ item_face M sound f face_there h (places_in M sound f p h j)

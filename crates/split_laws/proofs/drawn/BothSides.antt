@@ -1,5 +1,6 @@
 -- Once the faces are drawn the solid has a face above and one that isn't.
 use Rattle.std.proofs.Common.{◌≡◌, ℕ, Bool, true, false, not, nat_eq, ◌&&◌, ◌||◌, List, None, is_some, unwrap_or, refl, sym, ap, ◌∙◌, subst, inl, inr, true≢false}
+use Rattle.std.proofs.lemmas.Bool.{eq-eqb, eqb-true}
 use Rattle.std.specs.Prelude.{pos, int_lt}
 use Rattle.euler_operators.proofs.Tests.{first_fails}
 use Rattle.euler_operators.specs.declared.Plane.{Plane}
@@ -16,9 +17,9 @@ use Rattle.euler_operators.proofs.Members.{IsIn-filter, filter_passes}
 use Rattle.euler_operators.specs.Conditions.{face_at, lists, is_lone}
 use Rattle.euler_laws.proofs.shared.Arcs.{halves_of_edge}
 use Rattle.euler_laws.proofs.shared.Fans.{loop_after, half_face}
-use Rattle.euler_laws.proofs.shared.Goes.{no_zero, equal, equals}
+use Rattle.euler_laws.proofs.shared.Goes.{no_zero}
 use Rattle.euler_laws.proofs.shared.Rows.{face_there, loop_row, not_lone_cycle}
-use Rattle.euler_laws.proofs.shared.Listed.{IsIn-from_listed}
+use Rattle.euler_laws.proofs.shared.Listed.{IsIn-from_listed, listed-from_in}
 use Rattle.shapes.specs.Measure.{normal}
 use Rattle.shapes.specs.Faces.{loops_of, corners}
 use Rattle.shapes.specs.split.Sides.{reaches_above, reaches_below, straddles, crossing_edges, face_is_above, faces_above}
@@ -34,7 +35,7 @@ use Rattle.split_drawing_laws.proofs.face_sides.Final.{TailIn, tail_in, none_str
 use Rattle.split_drawing_laws.proofs.face_sides.Same.{any_from}
 use Rattle.split_laws.specs.drawn.Kept.{HasFace}
 use Rattle.split_laws.proofs.drawn.Drawn.{begins, none_lone, meets, never_stuck, drawn_sound, drawn_stays, drawn_keeps}
-use Rattle.euler_laws.proofs.shared.Counted.{in_listed, all_where_has, all_where_in}
+use Rattle.euler_laws.proofs.shared.Counted.{all_where_has, all_where_in}
 use Rattle.shapes.proofs.walks.SolidFaces.{face_of_loop}
 
 -- a half-edge of N that starts at point v, of face f
@@ -66,13 +67,13 @@ module _ (M : Model) (s : ℕ) (p : Plane) (t : ℕ) (sound : Sound M) (accepted
   not_lone f l i there at = first_fails (is_lone (content M l)) (lists (faces_of M s) (face_of M l))
       (zero_first_where (λ _ row. is_lone row.content && lists (faces_of M s) row.face) M.loops (λ q y got z. no_zero q z (sound.loops_fit q (ap is_some got)))
       (none_lone M s p t sound accepted) l (record { face = face_of M l; content = content M l }) (loop_row M l there))
-      (ap (lists (faces_of M s)) at ∙ in_listed f (faces_of M s) i)
+      (ap (lists (faces_of M s)) at ∙ listed-from_in f (faces_of M s) i)
 
   corner_half : (f v : ℕ) → IsIn f (faces_of M s) → IsIn v (corners M f) → HalfAt M v f
   unfolding corners
   corner_half f v i c =
       let row = all_where_has (λ _ row. nat_eq row.solid s) M.faces f i in
-      let of : (l : ℕ) → IsIn l (loops_of M f) → Has M.loops l × (face_of M l ≡ f) = λ l j. face_of_loop M sound f l (ap is_some row.1) (in_listed l (loops_of M f) j) in
+      let of : (l : ℕ) → IsIn l (loops_of M f) → Has M.loops l × (face_of M l ≡ f) = λ l j. face_of_loop M sound f l (ap is_some row.1) (listed-from_in l (loops_of M f) j) in
       let r : TailIn M v (loops_of M f) = tail_in M v (loops_of M f) (λ l j. not_lone_cycle (content M l) (not_lone f l i (of l j).0 (of l j).1)) c in
       let stands = in-holds r.half (content M r.loop) r.half_in in
       record {
@@ -123,7 +124,7 @@ module _ (M : Model) (s : ℕ) (p : Plane) (t : ℕ) (sound : Sound M) (accepted
 
   face_solid : (f : ℕ) → IsIn f (faces_of M s) → solid_of M f ≡ s
   unfolding solid_of
-  face_solid f i = let w = all_where_has (λ _ row. nat_eq row.solid s) M.faces f i in ap (λ o. (unwrap_or o no_face).solid) w.1 ∙ equal w.0.solid s w.2
+  face_solid f i = let w = all_where_has (λ _ row. nat_eq row.solid s) M.faces f i in ap (λ o. (unwrap_or o no_face).solid) w.1 ∙ eqb-true w.0.solid s w.2
 
   corner_then : (f v : ℕ) → IsIn f (faces_of M s) → IsIn v (corners M f) → CornerThen v
   corner_then f v i c =
@@ -141,7 +142,7 @@ module _ (M : Model) (s : ℕ) (p : Plane) (t : ℕ) (sound : Sound M) (accepted
       }
 
   in_solid : (f : ℕ) → Has D.faces f → solid_of D f ≡ s → IsIn f (faces_of D s)
-  in_solid f there e = all_where_in (λ _ row. nat_eq row.solid s) D.faces f _ (face_there D f there) (equals (solid_of D f) s e)
+  in_solid f there e = all_where_in (λ _ row. nat_eq row.solid s) D.faces f _ (face_there D f there) (eq-eqb (solid_of D f) s e)
 
   -- ---- the two faces
 
@@ -171,7 +172,7 @@ module _ (M : Model) (s : ℕ) (p : Plane) (t : ℕ) (sound : Sound M) (accepted
         face = c.face;
         there = c.there;
         of_solid = c.of_solid;
-        is = in_listed c.face (faces_above D p s) (IsIn-filter (face_is_above D p) c.face (faces_of D s) (in_solid c.face c.there c.of_solid) (above_is c.face reaches));
+        is = listed-from_in c.face (faces_above D p s) (IsIn-filter (face_is_above D p) c.face (faces_of D s) (in_solid c.face c.there c.of_solid) (above_is c.face reaches));
       }
 
   pub some_below : HasFace (with_drawings M s p).model s (faces_above (with_drawings M s p).model p s) false
@@ -180,7 +181,7 @@ module _ (M : Model) (s : ℕ) (p : Plane) (t : ℕ) (sound : Sound M) (accepted
       let v = any_from (λ v. is_below p (point_of M v)) (corners M f.0) f.2 in
       let c : CornerThen v.0 = corner_then f.0 v.0 f.1 v.1 in
       let reaches : reaches_below D p c.face ≡ true = any_passes (λ v. is_below p (point_of D v)) v.0 (corners D c.face) c.corner (ap (is_below p) c.point ∙ v.2) in
-      let whole : straddles D p c.face ≡ false = none_straddles M D s p t sound begun (never_stuck M s p t sound accepted, refl) c.face (in_listed c.face (faces_of D s) (in_solid c.face c.there c.of_solid)) in
+      let whole : straddles D p c.face ≡ false = none_straddles M D s p t sound begun (never_stuck M s p t sound accepted, refl) c.face (listed-from_in c.face (faces_of D s) (in_solid c.face c.there c.of_solid)) in
       record {
         face = c.face;
         there = c.there;

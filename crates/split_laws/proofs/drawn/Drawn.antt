@@ -2,7 +2,7 @@
 use Rattle.std.proofs.Common.{◌≡◌, ℕ, ◌+◌, ◌*◌, ◌<◌, Bool, true, false, cond, nat_eq, nat_lt, ◌&&◌, List, [], ◌∷◌, ◌++◌, length, None, is_some, unwrap_or, IsTrue, refl, ap, ◌∙◌, subst, arith}
 use Rattle.std.specs.Prelude.{fold}
 use Rattle.std.proofs.lemmas.List.{append-nil}
-use Rattle.std.proofs.lemmas.Bool.{and_parts}
+use Rattle.std.proofs.lemmas.Bool.{and_parts, not-true, eqb-true}
 use Rattle.std.specs.List.{list_any}
 use Rattle.euler_operators.specs.declared.Plane.{Plane}
 use Rattle.euler_operators.specs.Table as table
@@ -11,10 +11,10 @@ use Rattle.euler_operators.specs.Sound.{Sound, Has}
 use Rattle.euler_operators.specs.Conditions.{AllHold, lists, strictly_rises, has_rings}
 use Rattle.euler_operators.proofs.Members.{count-filter}
 use Rattle.euler_operators.proofs.Tables.{no_row}
-use Rattle.euler_laws.proofs.shared.Goes.{all_hold, none_refuses, not_true, equal}
+use Rattle.euler_laws.proofs.shared.Goes.{all_hold, none_refuses, all_hold-front, all_hold-back}
 use Rattle.euler_laws.proofs.shared.Listed.{all_where-rises, IsIn-from_listed}
 use Rattle.shapes.proofs.fresh.Rows.{none_above}
-use Rattle.shapes.proofs.fresh.Tests.{all_hold-front, all_hold-back, Left, numbers_are_left}
+use Rattle.shapes.proofs.fresh.Tests.{Left, numbers_are_left}
 use Rattle.shapes.specs.Faces.{least_lone}
 use Rattle.shapes.specs.Fresh.{Growing, taken_in}
 use Rattle.shapes.specs.split.Sides.{straddling_faces, reaches_above, reaches_below, face_is_above, faces_above}
@@ -122,26 +122,26 @@ module _ (M : Model) (s : ℕ) (p : Plane) (t : ℕ) (sound : Sound M) (accepted
 
   t_free_before : table.get M.solids t ≡ None
   unfolding first_conditions
-  t_free_before = no_row (table.get M.solids t) (not_true (table.has M.solids t) first.1.1.1.0)
+  t_free_before = no_row (table.get M.solids t) (not-true (table.has M.solids t) first.1.1.1.0)
 
   pub none_lone : least_lone M (faces_of M s) ≡ 0
   unfolding first_conditions
-  none_lone = equal (least_lone M (faces_of M s)) 0 first.1.1.1.1.1.1.1.1.1.0
+  none_lone = eqb-true (least_lone M (faces_of M s)) 0 first.1.1.1.1.1.1.1.1.1.0
 
   pub meets : (list_any (reaches_above M p) (faces_of M s) ≡ true) × (list_any (reaches_below M p) (faces_of M s) ≡ true)
   unfolding first_conditions
   meets = and_parts (list_any (reaches_above M p) (faces_of M s)) (list_any (reaches_below M p) (faces_of M s)) first.1.1.1.1.1.1.1.1.1.1.1.0
 
   pub never_stuck : (with_drawings M s p).stuck ≡ 0
-  never_stuck = equal d.stuck 0 later.0
+  never_stuck = eqb-true d.stuck 0 later.0
 
   unbranched : IsUnbranched D halves
   unfolding section_conditions
-  unbranched = equal _ 0 later.1.0
+  unbranched = eqb-true _ 0 later.1.0
 
   pub no_stray : has_stray_hole (with_drawings M s p).model p (section_cycles (with_drawings M s p).model (below_halves (with_drawings M s p).model (faces_above (with_drawings M s p).model p s) s)) ≡ false
   unfolding section_conditions
-  no_stray = not_true (has_stray_hole D p cycles) later.1.1.0
+  no_stray = not-true (has_stray_hole D p cycles) later.1.1.0
 
   room : Left d.taken (length halves + length cycles) (length halves + length cycles) (2 * length halves) (length halves)
   unfolding section_conditions
@@ -188,7 +188,7 @@ module _ (M : Model) (s : ℕ) (p : Plane) (t : ℕ) (sound : Sound M) (accepted
   unfolding solid_of
   above_facts f l =
       let w = all_where_has (λ _ row. nat_eq row.solid s) D.faces f (omega (arith, IsIn-from_listed f above l, count-filter (face_is_above D p) f (faces_of D s))) in
-      (ap is_some w.1, ap (λ o. (unwrap_or o no_face).solid) w.1 ∙ equal w.0.solid s w.2)
+      (ap is_some w.1, ap (λ o. (unwrap_or o no_face).solid) w.1 ∙ eqb-true w.0.solid s w.2)
 
   above_rises : strictly_rises above ≡ true
   above_rises = filter_rises (face_is_above D p) (faces_of D s) (all_where-rises (λ _ row. nat_eq row.solid s) D.faces)

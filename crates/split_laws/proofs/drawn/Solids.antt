@@ -8,7 +8,7 @@ use Rattle.euler_operators.specs.Model.{Model, loop_of, solid_of, is_ring_of}
 use Rattle.euler_operators.specs.Sound.{Sound, Has, HasHalf}
 use Rattle.euler_operators.specs.Conditions.{face_at, has_rings}
 use Rattle.euler_operators.proofs.Models.{solid_row, same_solid}
-use Rattle.shapes.proofs.fresh.Rows.{get-put_here, get-put_other}
+use Rattle.euler_operators.proofs.Tables.{get-put_here, get-put_other}
 use Rattle.shapes.specs.Fresh.{Growing}
 use Rattle.shapes.specs.split.Drawing.{Drawing, face_drawn, loops_joined, stuck_at, in_one_loop, joined_pair, join_next, all_joined, ring_free, draw_next, all_drawn, rings_above, with_rings, rings_shared, drawn_between, drawn_pairs, next_drawn, faces_drawn}
 use Rattle.split_drawing_laws.specs.drawings.DrawnIn.{DrawnIn}

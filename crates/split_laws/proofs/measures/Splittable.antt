@@ -4,7 +4,7 @@ use Rattle.std.specs.Prelude.{int_lt}
 use Rattle.std.specs.Ordering.{int_eq}
 use Rattle.std.proofs.lemmas.Int.{ints}
 use Rattle.std.proofs.lemmas.List.{append-nil}
-use Rattle.std.proofs.lemmas.Bool.{and_parts}
+use Rattle.std.proofs.lemmas.Bool.{and_parts, not-true}
 use Rattle.euler_operators.specs.declared.Plane.{Plane}
 use Rattle.euler_operators.specs.Vectors.{height, origin, same_point, direction, is_on, is_above, is_below}
 use Rattle.euler_operators.specs.Items.{IsIn}
@@ -14,11 +14,11 @@ use Rattle.euler_operators.specs.Table as table
 use Rattle.euler_operators.specs.Model.{Model, tail, after, loop_of, face_of, outer, point_of, solid_of, faces_of}
 use Rattle.euler_operators.specs.Sound.{Sound, Has, HasHalf}
 use Rattle.euler_operators.proofs.Halves.{mate-mate}
-use Rattle.euler_operators.proofs.Models.{cycle_there, loop_there as has_loop, item_there}
+use Rattle.euler_operators.proofs.Models.{cycle_there, loop_there as has_loop, item_there, mate_there}
 use Rattle.euler_operators.specs.Conditions.{AllHold, face_at, lists, strictly_rises}
-use Rattle.euler_laws.proofs.shared.Fans.{half_after, half_mate, loop_after, half_face}
-use Rattle.euler_laws.proofs.shared.Goes.{all_hold, not_true}
-use Rattle.euler_laws.proofs.shared.Counted.{in_listed}
+use Rattle.euler_laws.proofs.shared.Fans.{half_after, loop_after, half_face}
+use Rattle.euler_laws.proofs.shared.Goes.{all_hold}
+use Rattle.euler_laws.proofs.shared.Listed.{listed-from_in}
 use Rattle.shapes.specs.Faces.{start, corners}
 use Rattle.shapes.specs.Measure.{plane_of}
 use Rattle.solid_measure_laws.proofs.FlatFaces.{are_on, told_anywhere}
@@ -62,7 +62,7 @@ module _ (N : Model) (sound : Sound N) (p : Plane) (s : ℕ) (fs : List ℕ) (si
 
   pub between_on : (b : ℕ) → IsBelowHalf N fs s b → is_on p (start N b) ≡ true
   between_on b w =
-      let m : HasHalf N (mate b) = half_mate N sound b w.there in
+      let m : HasHalf N (mate b) = mate_there N b w.there in
       let n : HasHalf N (after N (mate b)) = half_after N sound (mate b) m in
       let face : face_at N (after N (mate b)) ≡ face_at N (mate b) = ap (face_of N) (loop_after N sound (mate b) m) in
       let starts : start N (after N (mate b)) ≡ start N b = ap (point_of N) (sound.ends_meet (mate b) m ∙ ap (tail N) (mate-mate b)) in
@@ -89,7 +89,7 @@ module _ (M : Model) (s : ℕ) (p : Plane) (t : ℕ) (sound : Sound M) (accepted
   -- the plane has a direction
   directed : AllHold (first_conditions M s p t) → same_point (direction p) origin ≡ false
   unfolding first_conditions
-  directed hold = not_true (same_point (direction p) origin) hold.1.1.1.1.1.1.1.1.0
+  directed hold = not-true (same_point (direction p) origin) hold.1.1.1.1.1.1.1.1.0
 
   some_way : same_point (direction p) origin ≡ false
   some_way = directed (all_hold (first_conditions M s p t) (begins M s p t sound accepted))
@@ -98,7 +98,7 @@ module _ (M : Model) (s : ℕ) (p : Plane) (t : ℕ) (sound : Sound M) (accepted
 
   alike : AllTellAlike D s
   alike f there of h i =
-      let old : LiesOnOld M D s f = drawn_lies M s p t sound (begins M s p t sound accepted) f (in_listed f (faces_of D s) (in_solid D f s there of)) in
+      let old : LiesOnOld M D s f = drawn_lies M s p t sound (begins M s p t sound accepted) f (listed-from_in f (faces_of D s) (in_solid D f s there of)) in
       let on : OnFace D (plane_of M old.face) f = on_face D D_sound (plane_of M old.face) f (and_parts (not (same_point (direction (plane_of M old.face)) origin)) (are_on D (plane_of M old.face) (corners D f)) old.on).1 in
       told_anywhere D (plane_of M old.face) f (start D h) D_sound there old.on
       (on.halves h (item_there D D_sound (outer D f) h i) (ap (face_of D) (item_loop D D_sound (outer D f) h i) ∙ (D_sound.outers_there f there).1))

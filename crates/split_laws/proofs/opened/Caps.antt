@@ -18,10 +18,9 @@ use Rattle.euler_operators.specs.Table as table
 use Rattle.euler_operators.specs.Table.{get-map_rows}
 use Rattle.euler_operators.specs.Model.{Model, LoopRow, cycle, no_face, tail, content, face_of, outer, point_of, rings_of}
 use Rattle.euler_operators.specs.Sound.{Has}
-use Rattle.euler_operators.proofs.Models.{content_row, face_row}
-use Rattle.euler_operators.proofs.Tables.{all_where_none, in_use_within}
-use Rattle.euler_laws.proofs.shared.Fans.{half_mate}
-use Rattle.shapes.proofs.fresh.Rows.{get-put_cases, get-put_here, get-put_other}
+use Rattle.euler_operators.proofs.Models.{content_row, face_row, mate_there}
+use Rattle.euler_operators.proofs.Tables.{all_where_none, in_use_within, get-put_here, get-put_other}
+use Rattle.shapes.proofs.fresh.Rows.{get-put_cases}
 use Rattle.shapes.specs.Faces.{start, finish}
 use Rattle.shapes.specs.Fresh.{Taken, numbers_after}
 use Rattle.shapes.specs.Prism.{next_place}
@@ -225,7 +224,7 @@ module _ (M : Model) (above : List ℕ) (s : ℕ) (c : Taken) (bs : List ℕ) (w
     in_lower : (h : ℕ) → IsIn h (canonical (reverse (map mate bs))) → is_on p (start N h) ≡ true
     in_lower h i =
         let r = from_map mate h bs (omega (arith, i, count-canonical h (reverse (map mate bs)), count-reverse h (map mate bs))) in
-        ap (λ x. is_on p (start N x)) r.2 ∙ ap (is_on p) (start_old M above s c bs w (mate r.0) (half_mate M w.sound r.0 (w.there r.0 r.1))) ∙ ends_on r.0 r.1
+        ap (λ x. is_on p (start N x)) r.2 ∙ ap (is_on p) (start_old M above s c bs w (mate r.0) (mate_there M r.0 (w.there r.0 r.1))) ∙ ends_on r.0 r.1
 
     in_upper : (h : ℕ) → IsIn h (map minus (numbers_after c.edge (length bs))) → is_on p (start N h) ≡ true
     in_upper h i =

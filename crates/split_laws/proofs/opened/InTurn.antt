@@ -8,10 +8,10 @@ use Rattle.euler_operators.specs.Items.{count, IsIn}
 use Rattle.euler_operators.specs.Rings.{canonical}
 use Rattle.euler_operators.proofs.Lists.{count-append, tick_same}
 use Rattle.euler_operators.proofs.Rotations.{count-canonical, IsIn_head}
+use Rattle.euler_operators.proofs.Tables.{row_some}
 use Rattle.euler_operators.specs.Table as table
 use Rattle.euler_operators.specs.Model.{Model, cycle, items_of, tail, content, outer, point_of}
 use Rattle.euler_operators.specs.Sound.{Sound, Has, HasHalf}
-use Rattle.euler_laws.proofs.shared.Loops.{some_row}
 use Rattle.shapes.proofs.fresh.Rows.{get-put_cases}
 use Rattle.shapes.specs.Faces.{start}
 use Rattle.shapes.specs.Fresh.{Taken}
@@ -57,7 +57,7 @@ module _ (M : Model) (above : List ℕ) (s : ℕ) (c : Taken) (bs : List ℕ) (p
   -- each face is a cap or was there
   face_kinds : (f : ℕ) → Has N.faces f → (f ≡ c.face + length bs + 1) ⊎ ((f ≡ c.face + 1) ⊎ Has M.faces f)
   face_kinds f there =
-      let r = some_row (table.get N.faces f) there in
+      let r = row_some (table.get N.faces f) there in
       elim (get-put_cases _ (c.face + length bs + 1) _ f r.0 (sym (ap (λ t. table.get t f) (faces_are M above s c bs)) ∙ r.1)) [
         | inl q ↦ inl q.0
         | inr q ↦ elim (get-put_cases M.faces (c.face + 1) _ f r.0 q.1) [

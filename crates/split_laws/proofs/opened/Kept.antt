@@ -1,6 +1,7 @@
 -- Faces whose loops are rewritten: where what stands in the place of a half-edge starts and ends as that did, they keep their normals,
 -- and what they add to the six volumes.
 use Rattle.std.proofs.Common.{◌≡◌, ℕ, Bool, true, not, nat_eq, ◌&&◌, List, [], ◌∷◌, Option, Some, None, is_some, unwrap_or, refl, sym, ap, ◌∙◌, arith, true≢false, ◌⊎◌, inl, inr}
+use Rattle.std.proofs.lemmas.Bool.{ne_eqb}
 use Rattle.std.specs.Prelude.{map}
 use Rattle.euler_operators.specs.Vectors.{moved, dot}
 use Rattle.euler_operators.specs.Items.{count, IsIn, head_or}
@@ -13,7 +14,6 @@ use Rattle.euler_operators.specs.Sound.{Sound, Has, HasHalf}
 use Rattle.euler_operators.proofs.Models.{in-holds, content_row, face_row}
 use Rattle.euler_operators.proofs.Members.{IsIn_first}
 use Rattle.euler_operators.specs.Conditions.{lists}
-use Rattle.euler_laws.proofs.shared.Goes.{differs}
 use Rattle.euler_laws.proofs.shared.Listed.{first_listed, rest_listed, listed_cases, listed_passes}
 use Rattle.euler_laws.proofs.shared.Rows.{loop_row}
 use Rattle.shapes.specs.Faces.{start, finish, items_in, loops_of, boundary}
@@ -92,7 +92,7 @@ module _ (M N : Model) (swap : ℕ → ℕ) (w : Rewritten M N swap) where
     new_row l free None e = refl
     new_row l free (Some row) e = elim (w.others l row e) [
       | inl t ↦ absurd (true≢false (sym t ∙ ap is_some free))
-      | inr f ↦ ap (λ b. one_if (b && not (nat_eq (outer N k) l))) (differs row.face k (λ q. true≢false (sym there ∙ ap is_some (ap (table.get M.faces) (sym q) ∙ f))))
+      | inr f ↦ ap (λ b. one_if (b && not (nat_eq (outer N k) l))) (ne_eqb row.face k (λ q. true≢false (sym there ∙ ap is_some (ap (table.get M.faces) (sym q) ∙ f))))
     ]
 
     same_ring : (l : ℕ) (o : Option LoopRow) → table.get M.loops l ≡ o → passed ring_after l (table.get N.loops l) ≡ passed ring_before l o

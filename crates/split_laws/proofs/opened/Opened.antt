@@ -2,7 +2,7 @@
 use Rattle.std.proofs.Common.{◌≡◌, ◌≢◌, ℕ, ◌+◌, ℤ, pos, ◌+ℤ◌, neg_ℤ, Bool, true, not, nat_eq, List, ◌∷◌, length, None, is_some, refl, sym, ap, subst, ◌∙◌, arith, inl, inr}
 use Rattle.std.specs.Prelude.{map}
 use Rattle.std.proofs.lemmas.Bool.Decides.{eqb_tells}
-use Rattle.std.proofs.lemmas.Bool.{and_parts}
+use Rattle.std.proofs.lemmas.Bool.{and_parts, ne_eqb, eq-eqb, eqb-true}
 use Rattle.std.proofs.lemmas.Int.{ints}
 use Rattle.euler_operators.specs.declared.Plane.{Plane}
 use Rattle.euler_operators.specs.Vectors.{origin, dot, same_point, direction}
@@ -14,13 +14,11 @@ use Rattle.euler_operators.specs.Table as table
 use Rattle.euler_operators.specs.Model.{Model, FaceRow, items_of, tail, content, face_of, loop_of, outer, solid_of, faces_of}
 use Rattle.euler_operators.specs.Sound.{Has}
 use Rattle.euler_operators.proofs.Models.{in-holds}
-use Rattle.euler_operators.proofs.Tables.{in_use_within}
+use Rattle.euler_operators.proofs.Tables.{in_use_within, get-put_other}
 use Rattle.euler_operators.proofs.Vectors.{none_added}
 use Rattle.euler_operators.specs.Conditions.{lists}
-use Rattle.euler_laws.proofs.shared.Goes.{equal, equals, differs}
 use Rattle.euler_laws.proofs.shared.Listed.{listed_passes, listed_as}
 use Rattle.euler_laws.proofs.shared.Rows.{face_there}
-use Rattle.shapes.proofs.fresh.Rows.{get-put_other}
 use Rattle.shapes.specs.Fresh.{Taken, numbers_after}
 use Rattle.shapes.specs.Measure.{area, anchor, is_plane_of, volume_in, six_volume}
 use Rattle.solid_measure_laws.proofs.FlatFaces.{told_alike, some_direction}
@@ -87,13 +85,13 @@ module _ (M : Model) (above : List ℕ) (s : ℕ) (c : Taken) (bs : List ℕ) (w
 
   at_lower : SameAt lower
   at_lower =
-      let here : count lower (faces_of N s) ≡ 1 = count_where (of s) N.faces lower ∙ ap (passed (of s) lower) (lower_row M above s c bs w) ∙ ap one_if (equals s s refl) in
+      let here : count lower (faces_of N s) ≡ 1 = count_where (of s) N.faces lower ∙ ap (passed (of s) lower) (lower_row M above s c bs w) ∙ ap one_if (eq-eqb s s refl) in
       let none : count lower (faces_of M s) ≡ 0 = count_where (of s) M.faces lower ∙ ap (passed (of s) lower) lower_free in
       omega (arith, here, none, tick_same lower, tick_other lower upper caps_apart)
 
   at_upper : SameAt upper
   at_upper =
-      let here : count upper (faces_of N s) ≡ 1 = count_where (of s) N.faces upper ∙ ap (passed (of s) upper) (upper_row M above s c bs) ∙ ap one_if (equals s s refl) in
+      let here : count upper (faces_of N s) ≡ 1 = count_where (of s) N.faces upper ∙ ap (passed (of s) upper) (upper_row M above s c bs) ∙ ap one_if (eq-eqb s s refl) in
       let none : count upper (faces_of M s) ≡ 0 = count_where (of s) M.faces upper ∙ ap (passed (of s) upper) upper_free in
       omega (arith, here, none, tick_same upper, tick_other upper lower (λ e. caps_apart (sym e)))
 
@@ -112,10 +110,10 @@ module _ (M : Model) (above : List ℕ) (s : ℕ) (c : Taken) (bs : List ℕ) (w
   -- another solid has its own
   other_faces : (u : ℕ) → u ≢ s → faces_of N u ≡ faces_of M u
   other_faces u ne = same_search (of u) (of u) N.faces M.faces (λ k. elim (eqb_tells k lower) [
-    | inl e ↦ ap (λ j. passed (of u) j (table.get N.faces j)) e.1 ∙ ap (passed (of u) lower) (lower_row M above s c bs w) ∙ ap one_if (differs s u (λ q. ne (sym q)))
+    | inl e ↦ ap (λ j. passed (of u) j (table.get N.faces j)) e.1 ∙ ap (passed (of u) lower) (lower_row M above s c bs w) ∙ ap one_if (ne_eqb s u (λ q. ne (sym q)))
         ∙ sym (ap (λ j. passed (of u) j (table.get M.faces j)) e.1 ∙ ap (passed (of u) lower) lower_free)
     | inr a ↦ elim (eqb_tells k upper) [
-      | inl e ↦ ap (λ j. passed (of u) j (table.get N.faces j)) e.1 ∙ ap (passed (of u) upper) (upper_row M above s c bs) ∙ ap one_if (differs s u (λ q. ne (sym q)))
+      | inl e ↦ ap (λ j. passed (of u) j (table.get N.faces j)) e.1 ∙ ap (passed (of u) upper) (upper_row M above s c bs) ∙ ap one_if (ne_eqb s u (λ q. ne (sym q)))
           ∙ sym (ap (λ j. passed (of u) j (table.get M.faces j)) e.1 ∙ ap (passed (of u) upper) upper_free)
       | inr b ↦ ap (passed (of u) k) (other_row k a.1 b.1)
     ]
@@ -124,7 +122,7 @@ module _ (M : Model) (above : List ℕ) (s : ℕ) (c : Taken) (bs : List ℕ) (w
   of_solid : (u k : ℕ) → lists (faces_of M u) k ≡ true → Has M.faces k × (solid_of M k ≡ u)
   of_solid u k i =
       let there : Has M.faces k = ap is_some (listed_passes (of u) M.faces k i).1 in
-      (there, equal (solid_of M k) u (sym (listed_as (of u) M.faces k _ (face_there M k there)) ∙ i))
+      (there, eqb-true (solid_of M k) u (sym (listed_as (of u) M.faces k _ (face_there M k there)) ∙ i))
 
   -- ---- another solid
 

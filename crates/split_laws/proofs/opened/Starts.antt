@@ -4,6 +4,7 @@ use Rattle.std.proofs.Common.{◌≡◌, ℕ, zero, suc, ◌+◌, ◌≤◌, ◌
 use Rattle.std.specs.Prelude.{map, get_or}
 use Rattle.std.specs.Option.{option_map}
 use Rattle.std.proofs.lemmas.Bool.Decides.{eqb_tells}
+use Rattle.std.proofs.lemmas.Bool.{ne_eqb, eq-eqb}
 use Rattle.std.proofs.lemmas.List.{length-map, get_or-map}
 use Rattle.euler_operators.specs.HalfEdge.{mate, edge_of, is_first, plus, minus}
 use Rattle.euler_operators.specs.Table as table
@@ -11,14 +12,11 @@ use Rattle.euler_operators.specs.Table.{Table, get-map_rows}
 use Rattle.euler_operators.specs.Model.{Model, EdgeRow, tail, tail_in, no_point, point_of}
 use Rattle.euler_operators.specs.Sound.{HasHalf}
 use Rattle.euler_operators.proofs.Halves.{mate-mate, plus_row, minus_row, mate_plus, mate_minus}
-use Rattle.euler_operators.proofs.Models.{tail_row}
+use Rattle.euler_operators.proofs.Models.{tail_row, mate_there}
 use Rattle.euler_operators.proofs.Tests.{less_still}
+use Rattle.euler_operators.proofs.Tables.{row_some, get-put_here, get-put_other}
 use Rattle.euler_operators.specs.Conditions.{face_at, lists}
 use Rattle.euler_laws.proofs.shared.Arcs.{halves_of_edge}
-use Rattle.euler_laws.proofs.shared.Fans.{half_mate}
-use Rattle.euler_laws.proofs.shared.Goes.{equals, differs}
-use Rattle.euler_laws.proofs.shared.Loops.{some_row}
-use Rattle.shapes.proofs.fresh.Rows.{get-put_here, get-put_other}
 use Rattle.shapes.specs.Faces.{start, finish}
 use Rattle.shapes.specs.Fresh.{Taken, numbers_after}
 use Rattle.shapes.specs.Prism.{next_place}
@@ -102,7 +100,7 @@ module _ (M : Model) (above : List ℕ) (s : ℕ) (c : Taken) (bs : List ℕ) (w
 
   tail_is : (h : ℕ) → HasHalf M h → tail N h ≡ opened_tail M above mates copies h (tail M h)
   tail_is h there =
-      let r = some_row (table.get M.edges (edge_of h)) there in
+      let r = row_some (table.get M.edges (edge_of h)) there in
       let now : tail N h ≡ tail_in (opened_row M above mates copies (edge_of h) r.0) (is_first h) = tail_row N h (opened_row M above mates copies (edge_of h) r.0) (edge_row (edge_of h) r.0 (low_edge M above s c bs w h there) r.1) in
       let old : tail M h ≡ tail_in r.0 (is_first h) = tail_row M h r.0 r.1 in
       elim (halves_of_edge h) [
@@ -121,7 +119,7 @@ module _ (M : Model) (above : List ℕ) (s : ℕ) (c : Taken) (bs : List ℕ) (w
   start_old h there = ap (point_of N) (tail_is h there) ∙ either_point (lists above (face_at M h) && not (lists (map mate bs) h)) (tail M h) (low_vertex M above s c bs w h there)
 
   pub finish_old : (h : ℕ) → HasHalf M h → finish N h ≡ finish M h
-  finish_old h there = start_old (mate h) (half_mate M w.sound h there)
+  finish_old h there = start_old (mate h) (mate_there M h there)
 
   -- ---- the edges round the cap above
 
@@ -130,8 +128,8 @@ module _ (M : Model) (above : List ℕ) (s : ℕ) (c : Taken) (bs : List ℕ) (w
 
   next_is : (j : ℕ) → cond (nat_eq (suc j) m) (c.vertex + 1) (c.vertex + suc j + 1) ≡ c.vertex + suc (next_place m j)
   next_is j = elim (next_cases m j) [
-    | inl p ↦ ap (λ b. cond b (c.vertex + 1) (c.vertex + suc j + 1)) (equals (suc j) m (omega (arith, p.0))) ∙ ap (λ i. c.vertex + suc i) (sym p.1)
-    | inr p ↦ ap (λ b. cond b (c.vertex + 1) (c.vertex + suc j + 1)) (differs (suc j) m (λ e. p.0 (omega (arith, e)))) ∙ omega arith ∙ ap (λ i. c.vertex + suc i) (sym p.1)
+    | inl p ↦ ap (λ b. cond b (c.vertex + 1) (c.vertex + suc j + 1)) (eq-eqb (suc j) m (omega (arith, p.0))) ∙ ap (λ i. c.vertex + suc i) (sym p.1)
+    | inr p ↦ ap (λ b. cond b (c.vertex + 1) (c.vertex + suc j + 1)) (ne_eqb (suc j) m (λ e. p.0 (omega (arith, e)))) ∙ omega arith ∙ ap (λ i. c.vertex + suc i) (sym p.1)
   ]
 
   -- the one half goes along the mate

@@ -1,5 +1,6 @@
 -- The sides on which the faces of a drawn solid lie.
 use Rattle.std.proofs.Common.{◌≡◌, ℕ, Bool, true, false, not, ◌&&◌, ◌||◌, refl, sym, subst, ◌∙◌, arith, true≢false}
+use Rattle.std.proofs.lemmas.Bool.{eq-eqb}
 use Rattle.std.specs.Prelude.{pos, int_lt}
 use Rattle.euler_operators.specs.declared.Plane.{Plane}
 use Rattle.euler_operators.specs.Vectors.{dot, direction, is_above, is_below}
@@ -8,12 +9,10 @@ use Rattle.euler_operators.proofs.Members.{filter_passes}
 use Rattle.euler_operators.specs.Model.{Model, items_of, tail, content, face_of, solid_of, point_of, faces_of}
 use Rattle.euler_operators.specs.Sound.{Sound, Has}
 use Rattle.euler_operators.specs.Conditions.{lists}
-use Rattle.euler_laws.proofs.shared.Goes.{equals}
-use Rattle.euler_laws.proofs.shared.Listed.{passes_listed, IsIn-from_listed}
+use Rattle.euler_laws.proofs.shared.Listed.{passes_listed, IsIn-from_listed, listed-from_in}
 use Rattle.euler_laws.proofs.shared.Rows.{face_there}
 use Rattle.shapes.specs.Faces.{start, loops_of, corners}
 use Rattle.shapes.specs.Measure.{normal}
-use Rattle.euler_laws.proofs.shared.Counted.{in_listed}
 use Rattle.shapes.specs.split.Sides.{reaches_above, reaches_below, straddles, face_is_above, faces_above}
 use Rattle.split_opening_laws.proofs.cycles.Meets.{count_filter}
 use Rattle.split_laws.specs.sides.Sided.{IsOnSide, AreSided}
@@ -43,7 +42,7 @@ module _ (M : Model) (p : Plane) (s : ℕ) where
   pub begun_sided : Sound M → ((f : ℕ) → lists (faces_of M s) f ≡ true → straddles M p f ≡ false) → AreSided M p s (faces_above M p s)
   begun_sided sound none l h i = go (face_is_above M p (face_of M l)) refl where
     of : lists (faces_of M s) (face_of M l) ≡ true
-    of = passes_listed _ M.faces (face_of M l) _ (face_there M (face_of M l) i.face_there) (equals (solid_of M (face_of M l)) s i.of_solid)
+    of = passes_listed _ M.faces (face_of M l) _ (face_there M (face_of M l) i.face_there) (eq-eqb (solid_of M (face_of M l)) s i.of_solid)
 
     corner : IsIn (tail M h) (corners M (face_of M l))
     corner = corner_of l h i.loop_there i.item
@@ -53,7 +52,7 @@ module _ (M : Model) (p : Plane) (s : ℕ) where
     unlisted false e q = refl
 
     go : (b : Bool) → face_is_above M p (face_of M l) ≡ b → IsOnSide p (lists (faces_above M p s) (face_of M l)) (start M h)
-    go true e = subst (λ b. IsOnSide p b (start M h)) (sym (in_listed (face_of M l) (faces_above M p s) (omega (arith, count_filter (face_is_above M p) (face_of M l) (faces_of M s) e, IsIn-from_listed (face_of M l) (faces_of M s) of))))
+    go true e = subst (λ b. IsOnSide p b (start M h)) (sym (listed-from_in (face_of M l) (faces_above M p s) (omega (arith, count_filter (face_is_above M p) (face_of M l) (faces_of M s) e, IsIn-from_listed (face_of M l) (faces_of M s) of))))
         (none_passes (λ v. is_below p (point_of M v)) (tail M h) (corners M (face_of M l)) (not_below (face_of M l) (none (face_of M l) of) e) corner)
     go false e = subst (λ b. IsOnSide p b (start M h)) (sym (unlisted (lists (faces_above M p s) (face_of M l)) refl e))
         (none_passes (λ v. is_above p (point_of M v)) (tail M h) (corners M (face_of M l)) (not_above (face_of M l) e) corner)

@@ -14,7 +14,7 @@ use Rattle.euler_operators.specs.Model.{Model, FaceRow, no_face, items_of, tail,
 use Rattle.euler_operators.specs.Sound.{Has}
 use Rattle.euler_operators.specs.Conditions.{lists}
 use Rattle.euler_operators.specs.Effect.{kfmrh, part}
-use Rattle.euler_laws.proofs.shared.Loops.{some_row}
+use Rattle.euler_operators.proofs.Tables.{row_some}
 use Rattle.euler_laws.proofs.shared.Listed.{other_last}
 use Rattle.euler_laws.proofs.shared.Rows.{solid_either}
 use Rattle.shapes.specs.Faces.{start}
@@ -64,7 +64,7 @@ module _ (M : Model) (above : List ℕ) (s : ℕ) (c : Taken) (bs : List ℕ) (p
   opened_sided : AreSided M p s fs → AreSided N p s (fs ++ (c.face + length bs + 1) ∷ [])
   opened_sided sided l h i =
       let upper : ℕ = c.face + length bs + 1 in
-      let r = some_row (table.get N.loops l) i.loop_there in
+      let r = row_some (table.get N.loops l) i.loop_there in
       elim (loop_kinds M above s c bs w l r.0 r.1) [
         | inl q ↦ on_both p (start N h) (lists (fs ++ upper ∷ []) (face_of N l))
             (along_on N p upper (upper_along M above s c bs w p on) h (subst (λ k. IsIn h (items_of (content N k))) (q.0 ∙ sym (outer_upper M above s c bs w)) i.item))

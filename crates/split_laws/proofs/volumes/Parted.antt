@@ -1,5 +1,6 @@
 -- The six volumes of a solid some of whose faces go to a new solid.
 use Rattle.std.proofs.Common.{◌≡◌, ◌≢◌, ℕ, ◌+◌, ◌+ℤ◌, Bool, true, false, cond, not, nat_eq, ◌&&◌, List, [], ◌∷◌, ◌++◌, Option, Some, None, is_some, unwrap_or, refl, sym, ap, ◌∙◌, arith}
+use Rattle.std.proofs.lemmas.Bool.{ne_eqb, eq-eqb}
 use Rattle.std.specs.Option.{option_map}
 use Rattle.euler_operators.specs.Vectors.{dot}
 use Rattle.euler_operators.specs.Items.{SameItems, head_or}
@@ -11,7 +12,6 @@ use Rattle.euler_operators.specs.Table.{get-map_rows}
 use Rattle.euler_operators.specs.Model.{Model, LoopContent, lone, cycle, FaceRow, no_face, items_of, tail, content, outer, point_of, rings_of, faces_of}
 use Rattle.euler_operators.specs.Conditions.{lists}
 use Rattle.euler_operators.specs.Effect.{part, faces_to_solid}
-use Rattle.euler_laws.proofs.shared.Goes.{equals, differs}
 use Rattle.euler_laws.proofs.shared.Rows.{solid_either}
 use Rattle.shapes.specs.Faces.{start, items_in, loops_of, boundary}
 use Rattle.shapes.specs.Measure.{area, normal, anchor, first_vertex, volume_in, six_volume}
@@ -22,14 +22,14 @@ use Rattle.split_laws.proofs.opened.Caps.{area_kept}
 -- what is of s or of t then was of s
 one_of_two : (b : Bool) (a s t : ℕ) → s ≢ t → (b ≡ true → a ≡ s) → a ≢ t → one_if (nat_eq (cond b t a) s) + one_if (nat_eq (cond b t a) t) ≡ one_if (nat_eq a s)
 one_of_two true a s t apart is ne =
-    let x : one_if (nat_eq t s) ≡ 0 = ap one_if (differs t s (λ e. apart (sym e))) in
-    let y : one_if (nat_eq t t) ≡ 1 = ap one_if (equals t t refl) in
-    let z : one_if (nat_eq a s) ≡ 1 = ap one_if (equals a s (is refl)) in
+    let x : one_if (nat_eq t s) ≡ 0 = ap one_if (ne_eqb t s (λ e. apart (sym e))) in
+    let y : one_if (nat_eq t t) ≡ 1 = ap one_if (eq-eqb t t refl) in
+    let z : one_if (nat_eq a s) ≡ 1 = ap one_if (eq-eqb a s (is refl)) in
     omega (arith, x, y, z)
-one_of_two false a s t apart is ne = let x : one_if (nat_eq a t) ≡ 0 = ap one_if (differs a t ne) in omega (arith, x)
+one_of_two false a s t apart is ne = let x : one_if (nat_eq a t) ≡ 0 = ap one_if (ne_eqb a t ne) in omega (arith, x)
 
 of_another : (b : Bool) (a s t u : ℕ) → u ≢ s → u ≢ t → (b ≡ true → a ≡ s) → one_if (nat_eq (cond b t a) u) ≡ one_if (nat_eq a u)
-of_another true a s t u not_s not_t is = ap one_if (differs t u (λ e. not_t (sym e))) ∙ sym (ap one_if (differs a u (λ e. not_s (sym e ∙ is refl))))
+of_another true a s t u not_s not_t is = ap one_if (ne_eqb t u (λ e. not_t (sym e))) ∙ sym (ap one_if (ne_eqb a u (λ e. not_s (sym e ∙ is refl))))
 of_another false a s t u not_s not_t is = refl
 
 module _ (M : Model) (s t : ℕ) (fs : List ℕ) where

@@ -2,6 +2,7 @@
 use Rattle.std.proofs.Common.{◌≡◌, ◌≢◌, ℕ, ◌+◌, ℤ, ◌+ℤ◌, Bool, true, false, cond, not, nat_eq, ◌&&◌, List, [], ◌∷◌, ◌++◌, Option, Some, None, is_some, unwrap_or, refl, sym, ap, subst, ◌∙◌, arith, true≢false, inl, inr}
 use Rattle.std.specs.Option.{option_map}
 use Rattle.std.proofs.lemmas.Bool.Decides.{eqb_tells}
+use Rattle.std.proofs.lemmas.Bool.{ne_eqb, eq-eqb}
 use Rattle.euler_operators.specs.declared.Point.{Point}
 use Rattle.euler_operators.specs.declared.Plane.{Plane}
 use Rattle.euler_operators.specs.Vectors.{origin, moved, dot, cross, direction, is_on}
@@ -14,7 +15,6 @@ use Rattle.euler_operators.specs.Model.{Model, LoopContent, lone, cycle, FaceRow
 use Rattle.euler_operators.specs.Sound.{Has}
 use Rattle.euler_operators.proofs.Models.{face_row}
 use Rattle.euler_operators.specs.Effect.{kfmrh, loop_to_face}
-use Rattle.euler_laws.proofs.shared.Goes.{equals, differs}
 use Rattle.euler_laws.proofs.shared.Rows.{no_items, face_there, loop_row, content_either}
 use Rattle.shapes.specs.Faces.{start, items_in, loops_of, boundary}
 use Rattle.shapes.specs.Measure.{area, normal, anchor, first_vertex, volume_in, six_volume}
@@ -90,11 +90,11 @@ module _ (M : Model) (p : Plane) (f g : ℕ) (w : CanTake M p f g) where
 
   pub face_stays : (k : ℕ) → k ≢ g → table.get N.faces k ≡ table.get M.faces k
   unfolding kfmrh
-  face_stays k ne = get-remove M.faces g k ∙ ap (λ b. cond b None (table.get M.faces k)) (differs k g ne)
+  face_stays k ne = get-remove M.faces g k ∙ ap (λ b. cond b None (table.get M.faces k)) (ne_eqb k g ne)
 
   pub face_goes : table.get N.faces g ≡ None
   unfolding kfmrh
-  face_goes = get-remove M.faces g g ∙ ap (λ b. cond b None (table.get M.faces g)) (equals g g refl)
+  face_goes = get-remove M.faces g g ∙ ap (λ b. cond b None (table.get M.faces g)) (eq-eqb g g refl)
 
   -- ---- loops and points stay
 
@@ -118,10 +118,10 @@ module _ (M : Model) (p : Plane) (f g : ℕ) (w : CanTake M p f g) where
   either_face false row = refl
 
   pub face_else : (l : ℕ) → Has M.loops l → l ≢ outer M g → face_of N l ≡ face_of M l
-  face_else l there ne = face_row N l _ (row_is l ∙ ap (option_map (loop_to_face (outer M g) f l)) (loop_row M l there)) ∙ either_face (nat_eq l (outer M g)) (record { face = face_of M l; content = content M l }) ∙ ap (λ b. cond b f (face_of M l)) (differs l (outer M g) ne)
+  face_else l there ne = face_row N l _ (row_is l ∙ ap (option_map (loop_to_face (outer M g) f l)) (loop_row M l there)) ∙ either_face (nat_eq l (outer M g)) (record { face = face_of M l; content = content M l }) ∙ ap (λ b. cond b f (face_of M l)) (ne_eqb l (outer M g) ne)
 
   pub face_taken : (l : ℕ) → Has M.loops l → l ≡ outer M g → face_of N l ≡ f
-  face_taken l there e = face_row N l _ (row_is l ∙ ap (option_map (loop_to_face (outer M g) f l)) (loop_row M l there)) ∙ either_face (nat_eq l (outer M g)) (record { face = face_of M l; content = content M l }) ∙ ap (λ b. cond b f (face_of M l)) (equals l (outer M g) e)
+  face_taken l there e = face_row N l _ (row_is l ∙ ap (option_map (loop_to_face (outer M g) f l)) (loop_row M l there)) ∙ either_face (nat_eq l (outer M g)) (record { face = face_of M l; content = content M l }) ∙ ap (λ b. cond b f (face_of M l)) (eq-eqb l (outer M g) e)
 
   tail_same : (h : ℕ) → tail N h ≡ tail M h
   unfolding kfmrh tail
@@ -171,14 +171,14 @@ module _ (M : Model) (p : Plane) (f g : ℕ) (w : CanTake M p f g) where
   row_of_g l row at e = sym (face_row M l row at) ∙ ap (face_of M) e ∙ own_g
 
   else_ring : (k l : ℕ) (row : LoopRow) → k ≢ g → l ≢ outer M g → passed (ring_after k) l (Some (loop_to_face (outer M g) f l row)) ≡ passed (ring_before k) l (Some row)
-  else_ring k l row ne away = ap (λ b. one_if (ring_after k l (cond b (record row { face = f }) row))) (differs l (outer M g) away) ∙ ap (λ o. one_if (nat_eq row.face k && not (nat_eq o l))) (outer_same k ne)
+  else_ring k l row ne away = ap (λ b. one_if (ring_after k l (cond b (record row { face = f }) row))) (ne_eqb l (outer M g) away) ∙ ap (λ o. one_if (nat_eq row.face k && not (nat_eq o l))) (outer_same k ne)
 
   same_ring : (k : ℕ) → k ≢ f → k ≢ g → (l : ℕ) (o : Option LoopRow) → table.get M.loops l ≡ o → passed (ring_after k) l (option_map (loop_to_face (outer M g) f l) o) ≡ passed (ring_before k) l o
   same_ring k not_f not_g l None e = refl
   same_ring k not_f not_g l (Some row) e = elim (eqb_tells l (outer M g)) [
     | inl q ↦ ap (λ b. one_if (ring_after k l (cond b (record row { face = f }) row))) q.0
-        ∙ ap (λ b. one_if (b && not (nat_eq (outer N k) l))) (differs f k (λ z. not_f (sym z)))
-        ∙ sym (ap (λ b. one_if (b && not (nat_eq (outer M k) l))) (differs row.face k (λ z. not_g (sym z ∙ row_of_g l row e q.1))))
+        ∙ ap (λ b. one_if (b && not (nat_eq (outer N k) l))) (ne_eqb f k (λ z. not_f (sym z)))
+        ∙ sym (ap (λ b. one_if (b && not (nat_eq (outer M k) l))) (ne_eqb row.face k (λ z. not_g (sym z ∙ row_of_g l row e q.1))))
     | inr q ↦ else_ring k l row not_g q.1
   ]
 
@@ -194,8 +194,8 @@ module _ (M : Model) (p : Plane) (f g : ℕ) (w : CanTake M p f g) where
     | inl q ↦
         let now : passed (ring_after f) l (Some (loop_to_face (outer M g) f l row)) ≡ 1 =
         ap (λ b. one_if (ring_after f l (cond b (record row { face = f }) row))) q.0
-        ∙ (λ i. one_if (equals f f refl i && not (differs (outer N f) l (λ z. not_outer_f (sym (outer_same f w.apart) ∙ z ∙ q.1)) i))) in
-        let then : passed (ring_before f) l (Some row) ≡ 0 = ap (λ b. one_if (b && not (nat_eq (outer M f) l))) (differs row.face f (λ z. w.apart (sym z ∙ row_of_g l row e q.1))) in
+        ∙ (λ i. one_if (eq-eqb f f refl i && not (ne_eqb (outer N f) l (λ z. not_outer_f (sym (outer_same f w.apart) ∙ z ∙ q.1)) i))) in
+        let then : passed (ring_before f) l (Some row) ≡ 0 = ap (λ b. one_if (b && not (nat_eq (outer M f) l))) (ne_eqb row.face f (λ z. w.apart (sym z ∙ row_of_g l row e q.1))) in
         omega (arith, now, then, ap (tick l) q.1, tick_same l)
     | inr q ↦ omega (arith, else_ring f l row w.apart q.1, tick_other l (outer M g) q.1)
   ]
@@ -249,7 +249,7 @@ module _ (M : Model) (p : Plane) (f g : ℕ) (w : CanTake M p f g) where
   with_g : SameItems (g ∷ faces_of N (solid_of M f)) (faces_of M (solid_of M f))
   with_g k = elim (eqb_tells k g) [
     | inl e ↦
-        let here : count g (faces_of M (solid_of M f)) ≡ 1 = solid_count (solid_of M f) g w.g_there ∙ ap one_if (equals (solid_of M g) (solid_of M f) w.one_solid) in
+        let here : count g (faces_of M (solid_of M f)) ≡ 1 = solid_count (solid_of M f) g w.g_there ∙ ap one_if (eq-eqb (solid_of M g) (solid_of M f) w.one_solid) in
         subst (λ j. count j (g ∷ faces_of N (solid_of M f)) ≡ count j (faces_of M (solid_of M f))) (sym e.1) (omega (arith, here, none_of_g (solid_of M f), tick_same g))
     | inr e ↦ omega (arith, same_at (solid_of M f) k e.1, tick_other k g e.1)
   ]
@@ -258,17 +258,17 @@ module _ (M : Model) (p : Plane) (f g : ℕ) (w : CanTake M p f g) where
   unfolding six_volume
   solid_keeps =
       let s = solid_of M f in
-      let here : count f (faces_of N s) ≡ 1 = same_at s f w.apart ∙ solid_count s f w.f_there ∙ ap one_if (equals s s refl) in
+      let here : count f (faces_of N s) ≡ 1 = same_at s f w.apart ∙ solid_count s f w.f_there ∙ ap one_if (eq-eqb s s refl) in
       sum_with M N f (volume_of M g) volume_f (faces_of N s) here (λ k i ne. volume_other k ne (not_g_in s k i)) ∙ volume_same M (g ∷ faces_of N s) (faces_of M s) with_g
 
   other_keeps : (u : ℕ) → u ≢ solid_of M f → six_volume N u ≡ six_volume M u
   unfolding six_volume
   other_keeps u ne =
       let same : SameItems (faces_of N u) (faces_of M u) = λ k. elim (eqb_tells k g) [
-        | inl e ↦ ap (λ j. count j (faces_of N u)) e.1 ∙ none_of_g u ∙ sym (ap (λ j. count j (faces_of M u)) e.1 ∙ solid_count u g w.g_there ∙ ap one_if (differs (solid_of M g) u (λ z. ne (sym z ∙ w.one_solid))))
+        | inl e ↦ ap (λ j. count j (faces_of N u)) e.1 ∙ none_of_g u ∙ sym (ap (λ j. count j (faces_of M u)) e.1 ∙ solid_count u g w.g_there ∙ ap one_if (ne_eqb (solid_of M g) u (λ z. ne (sym z ∙ w.one_solid))))
         | inr e ↦ same_at u k e.1
       ] in
-      let none : count f (faces_of N u) ≡ 0 = same_at u f w.apart ∙ solid_count u f w.f_there ∙ ap one_if (differs (solid_of M f) u (λ z. ne (sym z))) in
+      let none : count f (faces_of N u) ≡ 0 = same_at u f w.apart ∙ solid_count u f w.f_there ∙ ap one_if (ne_eqb (solid_of M f) u (λ z. ne (sym z))) in
       sum_without M N f (faces_of N u) none (λ k i q. volume_other k q (not_g_in u k i)) ∙ volume_same M (faces_of N u) (faces_of M u) same
 
   pub taken_keeps : (u : ℕ) → six_volume N u ≡ six_volume M u

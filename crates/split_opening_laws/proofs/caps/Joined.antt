@@ -15,13 +15,13 @@ use Rattle.euler_operators.specs.Model.{Model, cycle, no_face, loop_of, face_of,
 use Rattle.euler_operators.specs.Sound.{Sound, Has}
 use Rattle.euler_operators.proofs.Halves.{minus_row, code-half, mate_minus}
 use Rattle.euler_operators.proofs.Models.{same_face}
+use Rattle.euler_operators.proofs.Tables.{get-put_here, get-put_other}
 use Rattle.euler_operators.specs.declared.Op.TheVariants.{Kef}
 use Rattle.euler_operators.specs.Conditions.{face_at, first_false}
 use Rattle.euler_operators.specs.Effect.{effect, kef}
 use Rattle.euler_laws.proofs.mef.KefSound as kill
 use Rattle.euler_laws.proofs.mef.KefSound.{KefGoes}
 use Rattle.euler_laws.proofs.mef.Kef.{kef_accepted}
-use Rattle.shapes.proofs.fresh.Rows.{get-put_here, get-put_other}
 use Rattle.euler_laws.proofs.shared.KnownLoop.{Around, apart_xs, loop_is, half_is, cycle_is, face_is}
 use Rattle.sweeps_laws.proofs.prism.Sides.{next_inner}
 use Rattle.sweeps_laws.proofs.lamina.Lists.{numbers_last}

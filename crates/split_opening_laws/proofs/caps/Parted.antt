@@ -13,7 +13,7 @@ use Rattle.euler_operators.specs.Table.{Table, tables, same_table}
 use Rattle.euler_operators.specs.Model.{Model, LoopRow, cycle, no_face, tail, loop_of, face_of, solid_of, outer, cycle_of}
 use Rattle.euler_operators.specs.Sound.{Sound}
 use Rattle.euler_operators.proofs.Halves.{plus_row, code-half, mate_plus}
-use Rattle.euler_operators.proofs.Tables.{map_one}
+use Rattle.euler_operators.proofs.Tables.{map_one, get-put_here, put-put}
 use Rattle.euler_operators.proofs.Models.{face_row}
 use Rattle.euler_operators.specs.declared.Op.TheVariants.{Kemr, Mfkrh}
 use Rattle.euler_operators.specs.Conditions.{first_false}
@@ -24,7 +24,6 @@ use Rattle.euler_laws.proofs.mekr.Mekr.{kemr_accepted}
 use Rattle.euler_laws.proofs.faces.Kfmrh.{MakeGoes, mfkrh_accepted}
 use Rattle.euler_laws.proofs.Cases.{effect_keeps_sound}
 use Rattle.euler_laws.specs.Laws.{effects, AreAccepted}
-use Rattle.shapes.proofs.fresh.Rows.{get-put_here, put-put}
 use Rattle.euler_laws.proofs.shared.KnownLoop.{Around, apart_xs, loop_is, half_is, cycle_is, face_is}
 use Rattle.sweeps_laws.proofs.prism.Sides.{next_last}
 use Rattle.shapes.specs.Fresh.{Taken, numbers_after}

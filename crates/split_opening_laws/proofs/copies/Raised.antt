@@ -12,9 +12,9 @@ use Rattle.euler_operators.specs.Table.{get-map_rows}
 use Rattle.euler_operators.specs.Model.{Model, EdgeRow, tail, tail_in, face_of}
 use Rattle.euler_operators.specs.Sound.{Sound, HasHalf}
 use Rattle.euler_operators.proofs.Models.{tail_row, plus_tail_row, minus_tail_row}
+use Rattle.euler_operators.proofs.Tables.{row_some}
 use Rattle.euler_operators.specs.Conditions.{face_at, lists}
 use Rattle.euler_laws.proofs.shared.Arcs.{halves_of_edge}
-use Rattle.euler_laws.proofs.shared.Loops.{some_row}
 use Rattle.euler_laws.proofs.shared.Same.{mapped_some}
 use Rattle.shapes.specs.Fresh.{Taken}
 use Rattle.shapes.specs.Prism.{next_place}
@@ -125,11 +125,11 @@ module _ (M : Model) (above : List ℕ) (s : ℕ) (c : Taken) (bs : List ℕ) (w
       ∙ get-map_rows (opened_row M above mates copies) M.edges e ∙ ap (option_map (opened_row M above mates copies e)) at
 
   pub old_half : (h : ℕ) → HasHalf M h → HasHalf N h
-  old_half h there = let r = some_row (table.get M.edges (edge_of h)) there in ap is_some (old_edge (edge_of h) r.0 r.1 (on.low_edge M above s c bs w h there))
+  old_half h there = let r = row_some (table.get M.edges (edge_of h)) there in ap is_some (old_edge (edge_of h) r.0 r.1 (on.low_edge M above s c bs w h there))
 
   pub old_tail : (h : ℕ) → HasHalf M h → tail N h ≡ opened_tail M above mates copies h (tail M h)
   old_tail h there =
-      let r = some_row (table.get M.edges (edge_of h)) there in
+      let r = row_some (table.get M.edges (edge_of h)) there in
       let new = tail_row N h (opened_row M above mates copies (edge_of h) r.0) (old_edge (edge_of h) r.0 r.1 (on.low_edge M above s c bs w h there)) in
       let was = tail_row M h r.0 r.1 in
       elim (halves_of_edge h) [

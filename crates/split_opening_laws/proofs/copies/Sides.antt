@@ -10,8 +10,9 @@ use Rattle.euler_operators.specs.HalfEdge.{mate, edge_of, plus, minus}
 use Rattle.euler_operators.specs.Model.{Model, tail, face_of, after, round}
 use Rattle.euler_operators.specs.Sound.{Sound, HasHalf}
 use Rattle.euler_operators.proofs.Halves.{mate-mate, minus_row, mate_plus, mate_minus}
+use Rattle.euler_operators.proofs.Models.{mate_there}
 use Rattle.euler_operators.specs.Conditions.{face_at, lists}
-use Rattle.euler_laws.proofs.shared.Fans.{half_mate, loop_after}
+use Rattle.euler_laws.proofs.shared.Fans.{loop_after}
 use Rattle.shapes.specs.Fresh.{Taken}
 use Rattle.shapes.specs.Prism.{next_place}
 use Rattle.shapes.specs.Rewriting.{renamed}
@@ -91,7 +92,7 @@ module _ (M : Model) (above : List ℕ) (s : ℕ) (c : Taken) (bs : List ℕ) (w
 
   -- the next half-edge round the vertex lies on the side of the mate
   round_side : (h : ℕ) → HasHalf N h → side (round N h) ≡ side (mate h)
-  round_side h there = ap (λ q. lists above (face_of N q)) (loop_after N sound (mate h) (half_mate N sound h there))
+  round_side h there = ap (λ q. lists above (face_of N q)) (loop_after N sound (mate h) (mate_there N h there))
 
   first_up : side (round N g) ≡ true
   first_up = round_side g g_there ∙ ap side (mate_minus (c.edge + suc i)) ∙ raised.out_side M above s c bs w i sound i lt
@@ -158,7 +159,7 @@ module _ (M : Model) (above : List ℕ) (s : ℕ) (c : Taken) (bs : List ℕ) (w
   -- so the mate of such a half-edge, which is no mate, lies on its side
   old_sides : (h : ℕ) → HasHalf M h → tail N h ≡ x → lists mates h ≡ false → lists mates (mate h) ≡ false → side (mate h) ≡ side h
   old_sides h there at un none =
-      raised.old_side M above s c bs w i sound (mate h) (half_mate M w.sound h there) none
+      raised.old_side M above s c bs w i sound (mate h) (mate_there M h there) none
       ∙ sym (one_side h there (started h there at) un none)
       ∙ sym (raised.old_side M above s c bs w i sound h there un)
 

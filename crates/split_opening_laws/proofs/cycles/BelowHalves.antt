@@ -2,6 +2,7 @@
 use Rattle.std.proofs.Common.{◌≡◌, ◌≢◌, ℕ, ◌<◌, Bool, true, false, cond, not, nat_eq, ◌&&◌, List, [], ◌∷◌, ◌++◌, is_some, refl, sym, ap, subst, ◌∙◌, arith, true≢false, inl, inr}
 use Rattle.std.specs.Prelude.{flat_map}
 use Rattle.std.proofs.lemmas.Bool.Decides.{eqb_tells}
+use Rattle.std.proofs.lemmas.Bool.{eq-eqb, eqb-true}
 use Rattle.euler_operators.specs.Items.{tick, count, IsIn, IsApart}
 use Rattle.euler_operators.proofs.Lists.{tick_same, tick_other, count-append}
 use Rattle.euler_operators.specs.HalfEdge.{mate, edge_of, plus, minus}
@@ -9,20 +10,18 @@ use Rattle.euler_operators.specs.Table as table
 use Rattle.euler_operators.specs.Model.{Model, solid_of}
 use Rattle.euler_operators.specs.Sound.{Sound, HasHalf}
 use Rattle.euler_operators.proofs.Halves.{plus_row, minus_row, mate_plus, mate_minus, plus_other}
+use Rattle.euler_operators.proofs.Tables.{row_some}
 use Rattle.euler_operators.specs.Conditions.{face_at, lists, strictly_rises}
 use Rattle.euler_laws.proofs.shared.Arcs.{halves_of_edge}
-use Rattle.euler_laws.proofs.shared.Goes.{equal, equals}
-use Rattle.euler_laws.proofs.shared.Listed.{listed_passes, passes_listed, all_where-rises}
-use Rattle.euler_laws.proofs.shared.Loops.{some_row}
-use Rattle.euler_laws.proofs.Sizes.{rises_over}
+use Rattle.euler_laws.proofs.shared.Listed.{listed_passes, passes_listed, all_where-rises, IsIn-from_listed, listed-from_in}
+use Rattle.euler_laws.proofs.Sizes.{rises_over, rises_on}
 use Rattle.shapes.specs.Faces.{edges_of}
 use Rattle.shapes.specs.split.Section.{below_half, below_halves}
 use Rattle.split_opening_laws.specs.cycles.SectionCycles.{IsBelowHalf}
 use Rattle.split_opening_laws.proofs.cycles.Meets.{total_same, total_ticks, count_flat}
 use Rattle.split_opening_laws.proofs.cycles.Changes.{bit}
 use Rattle.split_opening_laws.proofs.cycles.RisingLists.{rises_cons}
-use Rattle.euler_laws.proofs.shared.RisingLists.{rest_rises}
-use Rattle.euler_laws.proofs.shared.Counted.{counted_once, in_listed, listed_in}
+use Rattle.euler_laws.proofs.shared.Counted.{counted_once}
 
 -- ---- one of two numbers, or neither
 
@@ -114,7 +113,7 @@ module _ (M : Model) (above : List ℕ) where
   flat_rises : (es : List ℕ) → strictly_rises es ≡ true → strictly_rises (flat_map (below_half M above) es) ≡ true
   flat_rises [] r = refl
   flat_rises (e ∷ es) r = pick_rises (lists above (face_at M (plus e))) (lists above (face_at M (minus e))) (plus e) (minus e) (flat_map (below_half M above) es)
-      (λ k i. above_halves k e (rises_over e (edge_of k) es r (in_flat k es i).1)) (flat_rises es (rest_rises e es r))
+      (λ k i. above_halves k e (rises_over e (edge_of k) es r (in_flat k es i).1)) (flat_rises es (rises_on e es r))
 
   -- ---- those of a solid
 
@@ -126,14 +125,14 @@ module _ (M : Model) (above : List ℕ) where
     ]
 
     edge_in : (x : ℕ) → HasHalf M x → solid_of M (face_at M x) ≡ s → IsIn (edge_of x) (edges_of M s)
-    edge_in x t e = let r = some_row (table.get M.edges (edge_of x)) t in
-        listed_in (edge_of x) (edges_of M s) (passes_listed (λ e _. nat_eq (solid_of M (face_at M (plus e))) s) M.edges (edge_of x) r.0 r.1 (equals (solid_of M (face_at M (plus (edge_of x)))) s (plus_solid x t ∙ e)))
+    edge_in x t e = let r = row_some (table.get M.edges (edge_of x)) t in
+        IsIn-from_listed (edge_of x) (edges_of M s) (passes_listed (λ e _. nat_eq (solid_of M (face_at M (plus e))) s) M.edges (edge_of x) r.0 r.1 (eq-eqb (solid_of M (face_at M (plus (edge_of x)))) s (plus_solid x t ∙ e)))
 
     edge_out : (x : ℕ) → IsIn (edge_of x) (edges_of M s) → HasHalf M x × (solid_of M (face_at M x) ≡ s)
     edge_out x i =
-        let r = listed_passes (λ e _. nat_eq (solid_of M (face_at M (plus e))) s) M.edges (edge_of x) (in_listed (edge_of x) (edges_of M s) i) in
+        let r = listed_passes (λ e _. nat_eq (solid_of M (face_at M (plus e))) s) M.edges (edge_of x) (listed-from_in (edge_of x) (edges_of M s) i) in
         let t : HasHalf M x = ap is_some r.1 in
-        (t, sym (plus_solid x t) ∙ equal (solid_of M (face_at M (plus (edge_of x)))) s r.2)
+        (t, sym (plus_solid x t) ∙ eqb-true (solid_of M (face_at M (plus (edge_of x)))) s r.2)
 
     pub halves_rise : strictly_rises (below_halves M above s) ≡ true
     unfolding below_halves

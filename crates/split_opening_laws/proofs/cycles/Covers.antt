@@ -2,10 +2,10 @@
 use Rattle.std.proofs.Common.{◌≡◌, ℕ, Bool, true, nat_eq, List, [], ◌∷◌, refl, sym, ap, ◌∙◌, arith, inl, inr}
 use Rattle.std.specs.Prelude.{filter, flat_map}
 use Rattle.std.proofs.lemmas.Bool.Decides.{eqb_tells}
+use Rattle.std.proofs.lemmas.Bool.{eq-eqb, eqb-true}
 use Rattle.euler_operators.specs.Items.{tick, count, IsIn, SameItems, least}
 use Rattle.euler_operators.proofs.Lists.{tick_same, tick_other, least_in, least_same, IsIn_or_not}
 use Rattle.euler_operators.proofs.Members.{count-filter, filter_passes}
-use Rattle.euler_laws.proofs.shared.Goes.{equal, equals}
 use Rattle.split_opening_laws.specs.cycles.Permuting.{Permutes}
 use Rattle.split_opening_laws.proofs.cycles.Meets.{total, total_same, total_ticks, count_filter, count_flat}
 use Rattle.split_opening_laws.proofs.cycles.Orbits.{around, around_apart, around_within, around_here, around_same, around_shared}
@@ -21,7 +21,7 @@ module _ (next : ℕ → ℕ) (xs : List ℕ) (w : Permutes next xs) where
   leader_in b i = omega (arith, i, count-filter leads b xs)
 
   pub leader_least : (b : ℕ) → IsIn b leaders → least (around next xs w b) ≡ b
-  leader_least b i = equal (least (around next xs w b)) b (filter_passes leads b xs i)
+  leader_least b i = eqb-true (least (around next xs w b)) b (filter_passes leads b xs i)
 
   module _ (x : ℕ) (i : IsIn x xs) where
     -- the least item of the ring of x
@@ -32,7 +32,7 @@ module _ (next : ℕ → ℕ) (xs : List ℕ) (w : Permutes next xs) where
     first_there = least_in (around next xs w x) x (around_here next xs w x i)
 
     first_leads : leads first ≡ true
-    first_leads = equals (least (around next xs w first)) first (least_same (around next xs w first) (around next xs w x) (around_same next xs w x i first first_there))
+    first_leads = eq-eqb (least (around next xs w first)) first (least_same (around next xs w first) (around next xs w x) (around_same next xs w x i first first_there))
 
     in_one : (l : ℕ) → IsIn l leaders → count x (around next xs w l) ≡ tick l first
     in_one l j = elim (IsIn_or_not x (around next xs w l)) [

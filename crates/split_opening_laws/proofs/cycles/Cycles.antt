@@ -2,6 +2,7 @@
 use Rattle.std.proofs.Common.{◌≡◌, ◌≢◌, ℕ, zero, suc, ◌+◌, ◌≤◌, ◌<◌, Bool, true, false, cond, List, [], ◌∷◌, ◌++◌, length, map, get_or, refl, sym, ap, subst, ◌∙◌, arith, ◌⊎◌, inl, inr}
 use Rattle.std.specs.Prelude.{flat_map}
 use Rattle.std.proofs.lemmas.Bool.Decides.{eqb_tells}
+use Rattle.std.proofs.lemmas.Bool.{ne_eqb, eq-eqb}
 use Rattle.euler_operators.specs.Items.{count, IsIn, IsApart, SameItems, head_or, least}
 use Rattle.euler_operators.specs.Rings.{IsPath, IsRing}
 use Rattle.euler_operators.proofs.Lists.{tick_same, tick_other, IsIn_or_not}
@@ -12,9 +13,8 @@ use Rattle.euler_operators.specs.Model.{Model, tail}
 use Rattle.euler_operators.specs.Sound.{Sound, HasHalf}
 use Rattle.euler_operators.proofs.Halves.{mate-mate}
 use Rattle.euler_operators.proofs.Members.{apart_within}
+use Rattle.euler_operators.proofs.Models.{mate_there}
 use Rattle.euler_operators.specs.Conditions.{face_at, lists, strictly_rises}
-use Rattle.euler_laws.proofs.shared.Fans.{half_mate}
-use Rattle.euler_laws.proofs.shared.Goes.{equals, differs}
 use Rattle.shapes.specs.Prism.{next_place}
 use Rattle.shapes.specs.split.Section.{below_halves, next_below, cycle_from, section_cycles}
 use Rattle.split_opening_laws.specs.cycles.Permuting.{Permutes}
@@ -42,8 +42,8 @@ path_place next x (y ∷ ys) d (suc i) p l = elim (path_place next y ys d i p.1 
 -- next leads from each place to the next one round
 ring_place : (next : ℕ → ℕ) (x : ℕ) (xs : List ℕ) (i : ℕ) → IsRing next (x ∷ xs) → i < length (x ∷ xs) → next (get_or (x ∷ xs) i 0) ≡ get_or (x ∷ xs) (next_place (length (x ∷ xs)) i) 0
 ring_place next x xs i r l = elim (path_place next x xs x i r l) [
-  | inl s ↦ s.1 ∙ sym (ap (λ b. get_or (x ∷ xs) (cond b 0 (i + 1)) 0) (equals (i + 1) (length (x ∷ xs)) s.0))
-  | inr s ↦ s.1 ∙ ap (λ k. get_or (x ∷ xs) k 0) (plus_one i) ∙ sym (ap (λ b. get_or (x ∷ xs) (cond b 0 (i + 1)) 0) (differs (i + 1) (length (x ∷ xs)) (less (i + 1) (length (x ∷ xs)) s.0)))
+  | inl s ↦ s.1 ∙ sym (ap (λ b. get_or (x ∷ xs) (cond b 0 (i + 1)) 0) (eq-eqb (i + 1) (length (x ∷ xs)) s.0))
+  | inr s ↦ s.1 ∙ ap (λ k. get_or (x ∷ xs) k 0) (plus_one i) ∙ sym (ap (λ b. get_or (x ∷ xs) (cond b 0 (i + 1)) 0) (ne_eqb (i + 1) (length (x ∷ xs)) (less (i + 1) (length (x ∷ xs)) s.0)))
 ] where
   plus_one : (n : ℕ) → suc n ≡ n + 1
   plus_one n = omega arith
@@ -134,7 +134,7 @@ module _ (M : Model) (above : List ℕ) (s : ℕ) (sound : Sound M) (faces : Are
       go false p true q = inl (subst (λ x. IsIn x (b ∷ others)) (sym (starts (is_half M above s sound faces h t p q))) j)
       go true p false q =
           let r = back c j in
-          inr (subst (λ x. IsIn x (b ∷ others)) (sym (finishes (is_half M above s sound faces (mate h) (half_mate M sound h t) q (ap (λ x. lists above (face_at M x)) (mate-mate h) ∙ p)) r.0 r.1 r.2)) r.1)
+          inr (subst (λ x. IsIn x (b ∷ others)) (sym (finishes (is_half M above s sound faces (mate h) (mate_there M h t) q (ap (λ x. lists above (face_at M x)) (mate-mate h) ∙ p)) r.0 r.1 r.2)) r.1)
 
     one_cycle : IsSectionCycle M above s (b ∷ others)
     one_cycle = record {

@@ -8,8 +8,9 @@ use Rattle.euler_operators.specs.HalfEdge.{mate}
 use Rattle.euler_operators.specs.Model.{Model, tail, face_of, round, after}
 use Rattle.euler_operators.specs.Sound.{Sound, HasHalf}
 use Rattle.euler_operators.proofs.Halves.{mate-mate}
+use Rattle.euler_operators.proofs.Models.{mate_there}
 use Rattle.euler_operators.specs.Conditions.{face_at, lists}
-use Rattle.euler_laws.proofs.shared.Fans.{Fan, fan_of, half_mate, loop_after}
+use Rattle.euler_laws.proofs.shared.Fans.{Fan, fan_of, loop_after}
 use Rattle.shapes.specs.split.Section.{below_halves}
 use Rattle.split_opening_laws.specs.cycles.SectionCycles.{AreOf, IsBelowHalf}
 use Rattle.split_opening_laws.proofs.cycles.Meets.{total, total_same, meet_turned, count_map}
@@ -56,7 +57,7 @@ module _ (M : Model) (above : List ℕ) (s : ℕ) (sound : Sound M) (faces : Are
 
   -- round a vertex the face of the next half-edge is that of the mate
   on_round : (x : ℕ) → HasHalf M x → on (round M x) ≡ on (mate x)
-  on_round x t = ap (λ l. lists above (face_of M l)) (loop_after M sound (mate x) (half_mate M sound x t))
+  on_round x t = ap (λ l. lists above (face_of M l)) (loop_after M sound (mate x) (mate_there M x t))
 
   pub is_half : (x : ℕ) → HasHalf M x → on x ≡ false → on (mate x) ≡ true → IsIn x (below_halves M above s)
   is_half x t f u = are_halves M above s sound x (record { there = t; of_solid = sound.one_solid x t ∙ faces (face_at M (mate x)) u; below = f; mate_above = u })
@@ -85,10 +86,10 @@ module _ (M : Model) (above : List ℕ) (s : ℕ) (sound : Sound M) (faces : Are
 
     at_end : (x : ℕ) → IsIn x fan.items → count x (map mate halves) ≡ bit (on x && not (on (round M x)))
     at_end x i = let t = (fan.of_it x i).0 in
-        mates_counted x ∙ counted (mate x) (half_mate M sound x t) ∙ turned_and (on (mate (mate x))) (on (mate x)) (on x) (ap on (mate-mate x)) ∙ ap (λ c. bit (on x && not c)) (sym (on_round x t))
+        mates_counted x ∙ counted (mate x) (mate_there M x t) ∙ turned_and (on (mate (mate x))) (on (mate x)) (on x) (ap on (mate-mate x)) ∙ ap (λ c. bit (on x && not c)) (sym (on_round x t))
 
     mate_in : (c : ℕ) → IsIn c (map mate halves) → HasHalf M c
-    mate_in c i = let r = from_map mate c halves i in subst (HasHalf M) (sym r.2) (half_mate M sound r.0 (half_there r.0 r.1))
+    mate_in c i = let r = from_map mate c halves i in subst (HasHalf M) (sym r.2) (mate_there M r.0 (half_there r.0 r.1))
 
     round_vertex : count (tail M g) (map (tail M) halves) ≡ count (tail M g) (map (λ b. tail M (mate b)) halves)
     round_vertex = starts_counted M (tail M g) fan halves half_there
@@ -103,7 +104,7 @@ module _ (M : Model) (above : List ℕ) (s : ℕ) (sound : Sound M) (faces : Are
     | inl i ↦ let r = from_map (tail M) v halves i in subst (λ u. count u (map (tail M) halves) ≡ count u (map (λ b. tail M (mate b)) halves)) (sym r.2) (round_vertex r.0 (half_there r.0 r.1))
     | inr z ↦ elim (IsIn_or_not v (map (λ b. tail M (mate b)) halves)) [
       | inl i ↦ let r = from_map (λ b. tail M (mate b)) v halves i in
-          subst (λ u. count u (map (tail M) halves) ≡ count u (map (λ b. tail M (mate b)) halves)) (sym r.2) (round_vertex (mate r.0) (half_mate M sound r.0 (half_there r.0 r.1)))
+          subst (λ u. count u (map (tail M) halves) ≡ count u (map (λ b. tail M (mate b)) halves)) (sym r.2) (round_vertex (mate r.0) (mate_there M r.0 (half_there r.0 r.1)))
       | inr y ↦ z ∙ sym y
     ]
   ]

@@ -1,6 +1,7 @@
 -- Where no vertex is branched, each below half leads to one other, and no two to the same.
 use Rattle.std.proofs.Common.{◌≡◌, ℕ, ◌≤◌, Bool, true, false, cond, nat_eq, nat_lt, List, [], ◌∷◌, map, is_some, refl, sym, ap, subst, ◌∙◌, arith, true≢false, inl, inr}
 use Rattle.std.proofs.lemmas.Bool.Decides.{nat_tests, eqb_tells}
+use Rattle.std.proofs.lemmas.Bool.{eq-eqb, eqb-true}
 use Rattle.euler_operators.specs.Items.{count, IsIn, IsApart}
 use Rattle.euler_operators.proofs.Lists.{tick_same, tick_other, count-append, IsIn_or_not}
 use Rattle.euler_operators.proofs.Maps.{from_map}
@@ -8,10 +9,9 @@ use Rattle.euler_operators.specs.HalfEdge.{mate}
 use Rattle.euler_operators.specs.Table as table
 use Rattle.euler_operators.specs.Model.{Model, tail}
 use Rattle.euler_operators.specs.Sound.{Sound, Has}
-use Rattle.euler_operators.proofs.Tables.{zero_first_where}
+use Rattle.euler_operators.proofs.Tables.{zero_first_where, row_some}
 use Rattle.euler_operators.proofs.Members.{IsIn-map}
-use Rattle.euler_laws.proofs.shared.Goes.{equal, equals, no_zero}
-use Rattle.euler_laws.proofs.shared.Loops.{some_row}
+use Rattle.euler_laws.proofs.shared.Goes.{no_zero}
 use Rattle.shapes.specs.Fresh.{first_such}
 use Rattle.shapes.specs.split.Section.{below_halves, section_ends, next_below}
 use Rattle.split_opening_laws.specs.cycles.Permuting.{Permutes}
@@ -48,7 +48,7 @@ module _ (M : Model) (above : List ℕ) (s : ℕ) (sound : Sound M) (faces : Are
   same v = starts_are_ends M above s sound faces v
 
   two_ends : (v : ℕ) → Has M.vertices v → count v (section_ends M halves) ≤ 2
-  two_ends v t = let r = some_row (table.get M.vertices v) t in
+  two_ends v t = let r = row_some (table.get M.vertices v) t in
       at_most_two (count v (section_ends M halves)) (zero_first_where (λ v _. nat_lt 2 (count v (section_ends M halves))) M.vertices (λ q y at z. no_zero q z (sound.vertices_fit q (ap is_some at))) unbranched v r.0 r.1)
 
   pub starts_apart : IsApart (map (tail M) (below_halves M above s))
@@ -71,10 +71,10 @@ module _ (M : Model) (above : List ℕ) (s : ℕ) (sound : Sound M) (faces : Are
   found : (b : ℕ) → IsIn b halves → IsIn (next_below M halves b) halves × (nat_eq (tail M (next_below M halves b)) (tail M (mate b)) ≡ true)
   found b i =
       let r = from_map (tail M) (tail M (mate b)) halves (omega (arith, IsIn-map (λ b. tail M (mate b)) b halves i, same (tail M (mate b)))) in
-      first_found (λ c. nat_eq (tail M c) (tail M (mate b))) halves r.0 r.1 (equals (tail M r.0) (tail M (mate b)) (sym r.2))
+      first_found (λ c. nat_eq (tail M c) (tail M (mate b))) halves r.0 r.1 (eq-eqb (tail M r.0) (tail M (mate b)) (sym r.2))
 
   pub next_starts : (b : ℕ) → IsIn b (below_halves M above s) → tail M (next_below M (below_halves M above s) b) ≡ tail M (mate b)
-  next_starts b i = equal (tail M (next_below M halves b)) (tail M (mate b)) (found b i).1
+  next_starts b i = eqb-true (tail M (next_below M halves b)) (tail M (mate b)) (found b i).1
 
   pub permutes : Permutes (next_below M (below_halves M above s)) (below_halves M above s)
   permutes = record {

@@ -5,14 +5,12 @@ use Rattle.std.proofs.lemmas.Bool.Decides.{nat_tests}
 use Rattle.euler_operators.specs.Items.{IsIn}
 use Rattle.euler_operators.specs.Conditions.{strictly_rises}
 use Rattle.euler_operators.proofs.Members.{count-filter}
-use Rattle.euler_laws.proofs.shared.Listed.{first_listed}
-use Rattle.euler_laws.proofs.Sizes.{rises_over}
-use Rattle.euler_laws.proofs.shared.RisingLists.{rest_rises}
-use Rattle.euler_laws.proofs.shared.Counted.{listed_in}
+use Rattle.euler_laws.proofs.shared.Listed.{first_listed, IsIn-from_listed}
+use Rattle.euler_laws.proofs.Sizes.{rises_over, rises_on}
 
 pub rises_cons : (n : ℕ) (ns : List ℕ) → ((k : ℕ) → IsIn k ns → n < k) → strictly_rises ns ≡ true → strictly_rises (n ∷ ns) ≡ true
 rises_cons n [] l r = refl
-rises_cons n (m ∷ ms) l r = both (nat_lt n m) (less n m (l m (listed_in m (m ∷ ms) (first_listed m ms)))) r where
+rises_cons n (m ∷ ms) l r = both (nat_lt n m) (less n m (l m (IsIn-from_listed m (m ∷ ms) (first_listed m ms)))) r where
   less : (a b : ℕ) → a < b → nat_lt a b ≡ true
   less a b l = grind (arith, nat_tests)
 
@@ -21,7 +19,7 @@ rises_cons n (m ∷ ms) l r = both (nat_lt n m) (less n m (l m (listed_in m (m �
 
 pub filter_rises : (p : ℕ → Bool) (ns : List ℕ) → strictly_rises ns ≡ true → strictly_rises (filter p ns) ≡ true
 filter_rises p [] r = refl
-filter_rises p (n ∷ ns) r = go (p n) (filter_rises p ns (rest_rises n ns r)) where
+filter_rises p (n ∷ ns) r = go (p n) (filter_rises p ns (rises_on n ns r)) where
   go : (b : Bool) → strictly_rises (filter p ns) ≡ true → strictly_rises (cond b (n ∷ filter p ns) (filter p ns)) ≡ true
   go true s = rises_cons n (filter p ns) (λ k i. rises_over n k ns r (omega (arith, i, count-filter p k ns))) s
   go false s = s

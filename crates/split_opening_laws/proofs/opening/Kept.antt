@@ -4,7 +4,7 @@ use Rattle.std.proofs.lemmas.Bool.{cases_lt}
 use Rattle.std.proofs.lemmas.Bool.Decides.{eqb_tells}
 use Rattle.euler_operators.specs.Table as table
 use Rattle.euler_operators.specs.Table.{Table, same_table}
-use Rattle.shapes.proofs.fresh.Rows.{get-put_here, get-put_other}
+use Rattle.euler_operators.proofs.Tables.{get-put_here, get-put_other}
 use Rattle.shapes.specs.Fresh.{numbers_after}
 use Rattle.shapes.specs.Rewriting.{without_rows}
 use Rattle.split_opening_laws.specs.strips.Strips.{with_rows}

@@ -7,7 +7,7 @@ use Rattle.euler_operators.specs.HalfEdge.{mate, minus}
 use Rattle.euler_operators.specs.Table as table
 use Rattle.euler_operators.specs.Table.{Table, get-map_rows}
 use Rattle.euler_operators.specs.Model.{Model, FaceRow, LoopRow, EdgeRow, cycle}
-use Rattle.shapes.proofs.fresh.Rows.{put-put}
+use Rattle.euler_operators.proofs.Tables.{put-put}
 use Rattle.shapes.specs.Fresh.{Taken, numbers_after}
 use Rattle.shapes.specs.Rewriting.{rewritten_row, renamed, without_rows}
 use Rattle.shapes.specs.split.Opening.{opened_row, opened_along, with_rim}

@@ -1,9 +1,9 @@
 -- The edges round the cap above lead from copy to copy.
 use Rattle.std.proofs.Common.{◌≡◌, ℕ, zero, suc, ◌+◌, ◌≤◌, ◌<◌, cond, nat_eq, List, length, refl, sym, ap, ◌∙◌, arith, inl, inr}
+use Rattle.std.proofs.lemmas.Bool.{ne_eqb, eq-eqb}
 use Rattle.euler_operators.specs.Table as table
 use Rattle.euler_operators.specs.Table.{Table}
 use Rattle.euler_operators.specs.Model.{Model, EdgeRow}
-use Rattle.euler_laws.proofs.shared.Goes.{equals, differs}
 use Rattle.shapes.specs.Fresh.{Taken}
 use Rattle.shapes.specs.Prism.{next_place}
 use Rattle.shapes.specs.Rewriting.{renamed}
@@ -20,8 +20,8 @@ module _ (M : Model) (above : List ℕ) (s : ℕ) (c : Taken) (bs : List ℕ) (w
   -- the edge at a place ends at the copy of the next one
   next_is : (j : ℕ) → c.vertex + suc (next_place m j) ≡ cond (nat_eq (suc j) m) (c.vertex + 1) (c.vertex + suc j + 1)
   next_is j = elim (next_cases m j) [
-    | inl p ↦ ap (λ i. c.vertex + suc i) p.1 ∙ sym (ap (λ b. cond b (c.vertex + 1) (c.vertex + suc j + 1)) (equals (suc j) m (omega (arith, p.0))))
-    | inr p ↦ ap (λ i. c.vertex + suc i) p.1 ∙ omega arith ∙ sym (ap (λ b. cond b (c.vertex + 1) (c.vertex + suc j + 1)) (differs (suc j) m (λ e. p.0 (omega (arith, e)))))
+    | inl p ↦ ap (λ i. c.vertex + suc i) p.1 ∙ sym (ap (λ b. cond b (c.vertex + 1) (c.vertex + suc j + 1)) (eq-eqb (suc j) m (omega (arith, p.0))))
+    | inr p ↦ ap (λ i. c.vertex + suc i) p.1 ∙ omega arith ∙ sym (ap (λ b. cond b (c.vertex + 1) (c.vertex + suc j + 1)) (ne_eqb (suc j) m (λ e. p.0 (omega (arith, e)))))
   ]
 
   abbrev rim : ℕ → EdgeRow

@@ -13,11 +13,10 @@ use Rattle.euler_operators.specs.Table.{get-map_rows}
 use Rattle.euler_operators.specs.Model.{Model, LoopRow, no_face, face_of, solid_of, outer}
 use Rattle.euler_operators.specs.Sound.{Sound, Has}
 use Rattle.euler_operators.proofs.Models.{face_row}
-use Rattle.euler_operators.proofs.Tables.{in_use_within}
+use Rattle.euler_operators.proofs.Tables.{in_use_within, row_some, get-put_here, get-put_other}
 use Rattle.euler_operators.specs.Conditions.{strictly_rises}
-use Rattle.euler_laws.proofs.shared.Loops.{some_row}
-use Rattle.euler_laws.proofs.Sizes.{rises_over}
-use Rattle.shapes.proofs.fresh.Rows.{get-put_here, get-put_other, get-put_cases}
+use Rattle.euler_laws.proofs.Sizes.{rises_over, rises_on}
+use Rattle.shapes.proofs.fresh.Rows.{get-put_cases}
 use Rattle.shapes.specs.Fresh.{Taken, numbers_after}
 use Rattle.shapes.specs.Rewriting.{rewritten_row, renamed}
 use Rattle.shapes.specs.split.Section.{is_hole}
@@ -29,14 +28,13 @@ use Rattle.split_opening_laws.specs.sections.Laws.{OpeningsAreSound}
 use Rattle.split_opening_laws.proofs.sections.OpenedRows.{faces_are, loops_are, face_still, solid_kept}
 use Rattle.split_opening_laws.proofs.sections.OpenedFaces.{upper_row}
 use Rattle.split_opening_laws.proofs.sections.InTurn.{upper_next, above_there, others_on}
-use Rattle.euler_laws.proofs.shared.RisingLists.{rest_rises}
-use Rattle.euler_laws.proofs.shared.Counted.{in_listed}
+use Rattle.euler_laws.proofs.shared.Listed.{listed-from_in}
 
 -- ---- one more at the end of a rising list
 
 rises_last : (fs : List ℕ) (u : ℕ) → strictly_rises fs ≡ true → ((f : ℕ) → IsIn f fs → f < u) → strictly_rises (fs ++ u ∷ []) ≡ true
 rises_last [] u r l = refl
-rises_last (f ∷ fs) u r l = rises_cons f (fs ++ u ∷ []) less (rises_last fs u (rest_rises f fs r) (λ k i. l k (omega (arith, i)))) where
+rises_last (f ∷ fs) u r l = rises_cons f (fs ++ u ∷ []) less (rises_last fs u (rises_on f fs r) (λ k i. l k (omega (arith, i)))) where
   less : (k : ℕ) → IsIn k (fs ++ u ∷ []) → f < k
   less k i = elim (eqb_tells k u) [
     | inl e ↦ omega (arith, l f (omega (arith, tick_same f)), e.1)
@@ -86,7 +84,7 @@ module _ (M : Model) (above : List ℕ) (s : ℕ) (c : Taken) (bs : List ℕ) (s
 
   loop_cases : (l : ℕ) → Has N.loops l → ((l ≡ c.loop + length bs + 1) × (face_of N l ≡ c.face + length bs + 1)) ⊎ (((l ≡ c.loop + 1) × (face_of N l ≡ c.face + 1)) ⊎ OldLoop l)
   loop_cases l t =
-      let r = some_row (table.get N.loops l) t in
+      let r = row_some (table.get N.loops l) t in
       let f : face_of N l ≡ r.0.face = face_row N l r.0 r.1 in
       elim (get-put_cases _ (c.loop + length bs + 1) _ l r.0 (sym (ap (λ t. table.get t l) (loops_are M above s c bs)) ∙ r.1)) [
         | inl p ↦ inl (p.0, f ∙ ap (λ x. x.face) p.1)
@@ -159,7 +157,7 @@ caps_stay above s p o bs cs w caps =
     let some : 1 ≤ length bs = omega (arith, w.cycles.cycles.0.two_halves) in
     let k : Caps = record { lower = c.face + 1; upper = c.face + length bs + 1; hole = is_hole M p bs } in
     let low : (f : ℕ) → IsIn f (above ++ cap_faces o.caps) → f ≤ c.face = λ f i. in_use_within M.faces c.face w.free.faces f (all_there f i (IsIn_or_not f above)) in
-    let low_upper : (f : ℕ) → IsIn f (upper_faces above o.caps) → f ≤ c.face = λ f i. in_use_within M.faces c.face w.free.faces f (w.upper_there f (in_listed f (upper_faces above o.caps) i)) in
+    let low_upper : (f : ℕ) → IsIn f (upper_faces above o.caps) → f ≤ c.face = λ f i. in_use_within M.faces c.face w.free.faces f (w.upper_there f (listed-from_in f (upper_faces above o.caps) i)) in
     record {
       plain = caps_more (opened_along M above s c bs) s o.caps k (all_still M above s c bs w.sound w.free some o.caps caps.plain) (plain_lower M above s c bs w.sound w.free some) (plain_upper M above s c bs w.sound w.free some);
       all_rise = ap strictly_rises (cap_faces_next above o.caps k)
@@ -170,7 +168,7 @@ caps_stay above s p o bs cs w caps =
     }
   where
     all_there : (f : ℕ) → IsIn f (above ++ cap_faces o.caps) → IsIn f above ⊎ (count f above ≡ 0) → Has o.model.faces f
-    all_there f i (inl j) = above_there above s o (bs ∷ cs) w f (in_listed f above j)
+    all_there f i (inl j) = above_there above s o (bs ∷ cs) w f (listed-from_in f above j)
     all_there f i (inr z) = caps_there o.model s o.caps caps.plain f (omega (arith, i, z, count-append f above (cap_faces o.caps)))
 
     before_last : (f : ℕ) (fs : List ℕ) (l u : ℕ) → IsIn f (fs ++ l ∷ []) → (IsIn f fs → f < u) → l < u → f < u

@@ -10,11 +10,10 @@ use Rattle.euler_operators.specs.HalfEdge.{mate}
 use Rattle.euler_operators.specs.Model.{Model, tail, solid_of, loop_of}
 use Rattle.euler_operators.specs.Sound.{Sound, HasHalf}
 use Rattle.euler_operators.proofs.Halves.{mate-mate}
-use Rattle.euler_operators.proofs.Models.{row_of}
+use Rattle.euler_operators.proofs.Models.{row_of, mate_there}
 use Rattle.euler_operators.proofs.Members.{IsIn-map}
 use Rattle.euler_operators.proofs.Tables.{in_use_within}
 use Rattle.euler_operators.specs.Conditions.{face_at, lists}
-use Rattle.euler_laws.proofs.shared.Fans.{half_mate}
 use Rattle.shapes.specs.Fresh.{Taken}
 use Rattle.shapes.specs.Prism.{next_place}
 use Rattle.shapes.specs.split.Opening.{opened_along}
@@ -65,7 +64,7 @@ module _ (M : Model) (above : List ℕ) (s : ℕ) (c : Taken) (bs : List ℕ) (s
   face_same h t z = face_kept M above s c bs sound free h t (no_mate h z)
 
   mate_face_same : (h : ℕ) → HasHalf M h → count (tail M h) vertices ≡ 0 → face_at N (mate h) ≡ face_at M (mate h)
-  mate_face_same h t z = face_kept M above s c bs sound free (mate h) (half_mate M sound h t) (no_mates_mate h z)
+  mate_face_same h t z = face_kept M above s c bs sound free (mate h) (mate_there M h t) (no_mates_mate h z)
 
   -- ---- another cycle
 
@@ -76,7 +75,7 @@ module _ (M : Model) (above : List ℕ) (s : ℕ) (c : Taken) (bs : List ℕ) (s
     pub end_same : (d : ℕ) → IsIn d ds → tail N (mate d) ≡ tail M (mate d)
     end_same d i =
         let r = follows M above s ds w d i in
-        tail_kept M above s c bs sound free (mate d) (half_mate M sound d (w.there d i)) (sym (ap (λ v. count v vertices) r.2) ∙ elsewhere r.0 r.1)
+        tail_kept M above s c bs sound free (mate d) (mate_there M d (w.there d i)) (sym (ap (λ v. count v vertices) r.2) ∙ elsewhere r.0 r.1)
 
     still_alone : (h b : ℕ) → HasHalf N h → IsIn b ds → tail N h ≡ tail N b → lists above (face_at N h) ≢ lists above (face_at N (mate h)) → IsIn h ds ⊎ IsIn (mate h) ds
     still_alone h b t i e ne = elim (half_cases M above s c bs sound free h t) [

@@ -12,12 +12,11 @@ use Rattle.euler_operators.specs.Model.{Model, LoopContent, LoopRow, FaceRow, Ed
 use Rattle.euler_operators.specs.Sound.{Sound, Has, HasHalf}
 use Rattle.euler_operators.proofs.Halves.{plus_row, minus_row}
 use Rattle.euler_operators.proofs.Models.{holds_in, in-holds, face_row, content_row, tail_row, cycle_there, row_of}
-use Rattle.euler_operators.proofs.Tables.{first_where_is, in_use_within}
+use Rattle.euler_operators.proofs.Tables.{first_where_is, in_use_within, row_some, get-put_other}
 use Rattle.euler_operators.proofs.Members.{IsIn-map}
 use Rattle.euler_operators.specs.Conditions.{face_at, lists}
 use Rattle.euler_laws.proofs.shared.Arcs.{halves_of_edge}
-use Rattle.euler_laws.proofs.shared.Loops.{some_row}
-use Rattle.shapes.proofs.fresh.Rows.{get-put_cases, get-put_other}
+use Rattle.shapes.proofs.fresh.Rows.{get-put_cases}
 use Rattle.shapes.specs.Fresh.{Taken, numbers_after}
 use Rattle.shapes.specs.Rewriting.{rewritten_row, renamed}
 use Rattle.shapes.specs.split.Opening.{opened_tail, opened_row, with_rim, with_copies, both_lists, opened_along}
@@ -159,11 +158,11 @@ module _ (M : Model) (above : List ℕ) (s : ℕ) (c : Taken) (bs : List ℕ) wh
         ∙ get-map_rows (opened_row M above mates copies) M.edges e ∙ ap (option_map (opened_row M above mates copies e)) at
 
     pub half_kept : (h : ℕ) → HasHalf M h → HasHalf opened h
-    half_kept h there = let r = some_row (table.get M.edges (edge_of h)) there in ap is_some (edge_row (edge_of h) r.0 r.1)
+    half_kept h there = let r = row_some (table.get M.edges (edge_of h)) there in ap is_some (edge_row (edge_of h) r.0 r.1)
 
     tail_is : (h : ℕ) → HasHalf M h → tail opened h ≡ opened_tail M above mates copies h (tail M h)
     tail_is h there =
-        let r = some_row (table.get M.edges (edge_of h)) there in
+        let r = row_some (table.get M.edges (edge_of h)) there in
         let now : tail opened h ≡ tail_in (opened_row M above mates copies (edge_of h) r.0) (is_first h) = tail_row opened h (opened_row M above mates copies (edge_of h) r.0) (edge_row (edge_of h) r.0 r.1) in
         let old : tail M h ≡ tail_in r.0 (is_first h) = tail_row M h r.0 r.1 in
         elim (halves_of_edge h) [
@@ -193,7 +192,7 @@ module _ (M : Model) (above : List ℕ) (s : ℕ) (c : Taken) (bs : List ℕ) wh
     -- a half-edge was there, or starts at a copy
     pub half_cases : (h : ℕ) → HasHalf opened h → HasHalf M h ⊎ (c.vertex < tail opened h)
     half_cases h there =
-        let r = some_row (table.get opened.edges (edge_of h)) there in
+        let r = row_some (table.get opened.edges (edge_of h)) there in
         elim (rim_cases (table.map_rows (opened_row M above mates copies) M.edges) c.edge c.vertex m m (edge_of h) r.0 (sym (ap (λ t. table.get t (edge_of h)) edges_are) ∙ r.1)) [
           | inl at ↦ inl (sym (mapped (table.get M.edges (edge_of h))) ∙ ap is_some (sym (get-map_rows (opened_row M above mates copies) M.edges (edge_of h)) ∙ at))
           | inr l ↦ inr (subst (λ n. c.vertex < n) (sym (tail_row opened h r.0 r.1)) (either (is_first h) r.0 l.0 l.1))
@@ -210,7 +209,7 @@ module _ (M : Model) (above : List ℕ) (s : ℕ) (c : Taken) (bs : List ℕ) wh
     -- a half-edge was there, or is of an edge round a cap
     pub half_back : (h : ℕ) → HasHalf opened h → HasHalf M h ⊎ IsIn (edge_of h) (numbers_after c.edge (length bs))
     half_back h there =
-        let r = some_row (table.get opened.edges (edge_of h)) there in
+        let r = row_some (table.get opened.edges (edge_of h)) there in
         elim (rim_numbers (table.map_rows (opened_row M above mates copies) M.edges) c.edge c.vertex m m (edge_of h) r.0 (sym (ap (λ t. table.get t (edge_of h)) edges_are) ∙ r.1)) [
           | inl at ↦ inl (sym (mapped (table.get M.edges (edge_of h))) ∙ ap is_some (sym (get-map_rows (opened_row M above mates copies) M.edges (edge_of h)) ∙ at))
           | inr l ↦ inr (numbers_in c.edge m (edge_of h) l.0 l.1)

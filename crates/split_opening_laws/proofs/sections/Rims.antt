@@ -3,7 +3,8 @@ use Rattle.std.proofs.Common.{◌≡◌, ◌≢◌, ℕ, zero, suc, ◌+◌, ◌
 use Rattle.euler_operators.specs.Table as table
 use Rattle.euler_operators.specs.Table.{Table}
 use Rattle.euler_operators.specs.Model.{EdgeRow}
-use Rattle.shapes.proofs.fresh.Rows.{get-put_cases, get-put_other}
+use Rattle.euler_operators.proofs.Tables.{get-put_other}
+use Rattle.shapes.proofs.fresh.Rows.{get-put_cases}
 use Rattle.shapes.specs.split.Opening.{with_rim}
 
 pub other_number : (q n k : ℕ) → q ≤ n → n < k → q ≢ k

@@ -9,12 +9,11 @@ use Rattle.euler_operators.specs.Table as table
 use Rattle.euler_operators.specs.Model.{Model, loop_of, solid_of, no_face}
 use Rattle.euler_operators.specs.Sound.{Sound, Has, HasHalf}
 use Rattle.euler_operators.proofs.Halves.{mate-mate}
-use Rattle.euler_operators.proofs.Models.{row_of}
+use Rattle.euler_operators.proofs.Models.{row_of, mate_there as half_mate}
 use Rattle.euler_operators.proofs.Members.{IsIn-map}
 use Rattle.euler_operators.proofs.Tables.{in_use_within}
 use Rattle.euler_operators.specs.Conditions.{face_at, lists}
 use Rattle.euler_laws.proofs.shared.Arcs.{halves_of_edge}
-use Rattle.euler_laws.proofs.shared.Fans.{half_mate}
 use Rattle.euler_laws.proofs.shared.Listed.{first_listed, rest_listed, other_last}
 use Rattle.shapes.specs.Fresh.{Taken, numbers_after}
 use Rattle.shapes.specs.split.Opening.{opened_along}
@@ -72,7 +71,7 @@ module _ (M : Model) (above : List ℕ) (s : ℕ) (c : Taken) (bs : List ℕ) (c
   ]
 
   mate_there : (a : ℕ) → IsIn a (map mate bs) → HasHalf M a
-  mate_there a i = let r = from_map mate a bs i in subst (HasHalf M) (sym r.2) (half_mate M sound r.0 (first.there r.0 r.1))
+  mate_there a i = let r = from_map mate a bs i in subst (HasHalf M) (sym r.2) (half_mate M r.0 (first.there r.0 r.1))
 
   -- the cap below isn't an upper face
   below_unlisted : (b : ℕ) → IsIn b bs → lists (fs ++ u ∷ []) (c.face + 1) ≡ false
@@ -108,7 +107,7 @@ module _ (M : Model) (above : List ℕ) (s : ℕ) (c : Taken) (bs : List ℕ) (c
 
     old_between : HasHalf M h → count h (map mate bs) ≡ 0 → count (mate h) (map mate bs) ≡ 0 → IsIn h (halves_in cs)
     old_between t y z =
-        let i : IsIn h (halves_in (bs ∷ cs)) = between.only h t (sym (listed_same h t y) ∙ f) (sym (listed_same (mate h) (half_mate M sound h t) z) ∙ g) in
+        let i : IsIn h (halves_in (bs ∷ cs)) = between.only h t (sym (listed_same h t y) ∙ f) (sym (listed_same (mate h) (half_mate M h t) z) ∙ g) in
         elim (IsIn_or_not h bs) [
           | inl j ↦ absurd (omega (arith, z, IsIn-map mate h bs j))
           | inr n ↦ omega (arith, i, n, count-append h bs (halves_in cs))
@@ -132,7 +131,7 @@ module _ (M : Model) (above : List ℕ) (s : ℕ) (c : Taken) (bs : List ℕ) (c
   pub still_between : AreBetween (opened_along M above s c bs) (fs ++ (c.face + length bs + 1) ∷ []) (halves_in cs)
   still_between = record {
     below = λ d i. listed_same d (rest_there d i) (no_mate M above s c bs sound free first d (starts_elsewhere M above s bs cs apart d i)) ∙ between.below d (in_rest d i);
-    mates_above = λ d i. listed_same (mate d) (half_mate M sound d (rest_there d i)) (no_mates_mate M above s c bs sound free first d (starts_elsewhere M above s bs cs apart d i)) ∙ between.mates_above d (in_rest d i);
+    mates_above = λ d i. listed_same (mate d) (half_mate M d (rest_there d i)) (no_mates_mate M above s c bs sound free first d (starts_elsewhere M above s bs cs apart d i)) ∙ between.mates_above d (in_rest d i);
     only = λ h t f g. still_only h f g t;
   }
 

@@ -6,11 +6,11 @@ use Rattle.euler_operators.specs.declared.Point.{Point}
 use Rattle.euler_operators.specs.declared.Plane.{Plane}
 use Rattle.euler_operators.specs.Items.{count}
 use Rattle.euler_operators.proofs.Lists.{tick_same, IsIn_or_not}
+use Rattle.euler_operators.proofs.Tables.{get-put_other}
 use Rattle.euler_operators.specs.HalfEdge.{mate, plus}
 use Rattle.euler_operators.specs.Table as table
 use Rattle.euler_operators.specs.Table.{Table, get-map_rows}
 use Rattle.euler_operators.specs.Model.{Model, tail, point_of}
-use Rattle.shapes.proofs.fresh.Rows.{get-put_other}
 use Rattle.shapes.specs.Fresh.{Taken, numbers_after}
 use Rattle.shapes.specs.Rewriting.{rewritten_row, renamed}
 use Rattle.shapes.specs.split.Opening.{opened_row, both_lists, opened_along, Opening, next_opened}

@@ -12,8 +12,8 @@ use Rattle.euler_operators.specs.Model.{Model, tail}
 use Rattle.euler_operators.specs.Sound.{HasHalf}
 use Rattle.euler_operators.proofs.Halves.{mate-mate}
 use Rattle.euler_operators.proofs.Tables.{in_use_within}
+use Rattle.euler_operators.proofs.Models.{mate_there as half_mate}
 use Rattle.euler_operators.specs.Conditions.{face_at, lists}
-use Rattle.euler_laws.proofs.shared.Fans.{half_mate}
 use Rattle.euler_laws.proofs.shared.Listed.{IsIn-from_listed, listed-from_in}
 use Rattle.shapes.specs.Fresh.{Taken}
 use Rattle.shapes.specs.Prism.{next_place}
@@ -85,7 +85,7 @@ module _ (M : Model) (above : List ℕ) (s : ℕ) (c : Taken) (bs : List ℕ) (w
   half_there j lt = w.there (half_at j) (half_in j lt)
 
   pub mate_there : (j : ℕ) → j < length bs → HasHalf M (mate_at j)
-  mate_there j lt = half_mate M w.sound (half_at j) (half_there j lt)
+  mate_there j lt = half_mate M (half_at j) (half_there j lt)
 
   pub low_edge : (h : ℕ) → HasHalf M h → edge_of h ≤ c.edge
   low_edge h there = in_use_within M.edges c.edge w.edges_free (edge_of h) there

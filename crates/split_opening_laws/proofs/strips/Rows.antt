@@ -2,14 +2,13 @@
 use Rattle.std.proofs.Common.{◌≡◌, ◌≢◌, ℕ, zero, suc, ◌+◌, ◌≤◌, ◌<◌, cond, nat_eq, List, [], ◌∷◌, ◌++◌, length, Some, refl, sym, ap, ◌∙◌, subst, arith, ◌⊎◌, inl, inr}
 use Rattle.std.specs.Prelude.{get_or}
 use Rattle.std.proofs.lemmas.Bool.Decides.{eqb_tells}
+use Rattle.std.proofs.lemmas.Bool.{ne_eqb}
 use Rattle.euler_operators.specs.Items.{IsIn}
 use Rattle.euler_operators.proofs.Lists.{tick_same, tick_other}
 use Rattle.euler_operators.specs.Table as table
 use Rattle.euler_operators.specs.Table.{Table}
-use Rattle.euler_operators.proofs.Tables.{map-put}
+use Rattle.euler_operators.proofs.Tables.{map-put, get-put_here, get-put_other}
 use Rattle.euler_operators.proofs.Tests.{nat_eq_turned}
-use Rattle.euler_laws.proofs.shared.Goes.{differs}
-use Rattle.shapes.proofs.fresh.Rows.{get-put_here, get-put_other}
 use Rattle.shapes.specs.Fresh.{numbers_after}
 use Rattle.shapes.specs.Rewriting.{renamed}
 use Rattle.shapes.specs.split.Opening.{both_lists}
@@ -117,7 +116,7 @@ renamed_more [] x y u m = ap (λ b. cond b y u) (nat_eq_turned x u)
 renamed_more (p ∷ ps) x y u m = elim (eqb_tells p.0 u) [
   | inl e ↦
       ap (λ b. cond b p.1 (renamed (ps ++ (x, y) ∷ []) u)) e.0
-      ∙ sym (ap (λ v. cond (nat_eq v x) y v) (ap (λ b. cond b p.1 (renamed ps u)) e.0) ∙ ap (λ b. cond b y p.1) (differs p.1 x m.0))
+      ∙ sym (ap (λ v. cond (nat_eq v x) y v) (ap (λ b. cond b p.1 (renamed ps u)) e.0) ∙ ap (λ b. cond b y p.1) (ne_eqb p.1 x m.0))
   | inr e ↦
       ap (λ b. cond b p.1 (renamed (ps ++ (x, y) ∷ []) u)) e.0
       ∙ renamed_more ps x y u m.1

@@ -1,5 +1,6 @@
 -- The faces above a plane, and the below halves and cycles along them.
 use Rattle.std.proofs.Common.{◌≡◌, ℕ, ◌≤◌, Bool, true, false, cond, nat_eq, List, [], ◌∷◌, length, map, refl, ap, ◌∙◌, arith}
+use Rattle.std.proofs.lemmas.Bool.{eqb-true}
 use Rattle.std.specs.Prelude.{filter, unwrap_or}
 use Rattle.euler_operators.specs.declared.Plane.{Plane}
 use Rattle.euler_operators.specs.Items.{least}
@@ -7,8 +8,7 @@ use Rattle.euler_operators.specs.Model.{Model, solid_of, faces_of, no_face}
 use Rattle.euler_operators.specs.Sound.{Sound}
 use Rattle.euler_operators.specs.Conditions.{strictly_rises}
 use Rattle.euler_operators.proofs.Members.{count-filter}
-use Rattle.euler_laws.proofs.shared.Goes.{equal}
-use Rattle.euler_laws.proofs.shared.Listed.{all_where-rises}
+use Rattle.euler_laws.proofs.shared.Listed.{all_where-rises, IsIn-from_listed}
 use Rattle.shapes.specs.split.Sides.{face_is_above, faces_above}
 use Rattle.shapes.specs.split.Section.{below_halves, cycle_from, section_cycles}
 use Rattle.split_opening_laws.specs.cycles.SectionCycles.{AreOf, IsUnbranched, AreSectionCycles}
@@ -17,7 +17,7 @@ use Rattle.split_opening_laws.proofs.cycles.BelowHalves.{halves_apart, halves_ar
 use Rattle.split_opening_laws.proofs.cycles.Cycles.{cycles_lead_round}
 use Rattle.split_sections.specs.section_cycles.Halves.{AreThere}
 use Rattle.split_sections.specs.section_checks.Cycles.{AreCycles}
-use Rattle.euler_laws.proofs.shared.Counted.{all_where_has, listed_in}
+use Rattle.euler_laws.proofs.shared.Counted.{all_where_has}
 use Rattle.shapes.proofs.walks.FaceLoops.{halves_short}
 
 as_long : (f : ℕ → List ℕ) (bs : List ℕ) → length (map f bs) ≡ length bs
@@ -41,8 +41,8 @@ module _ (M : Model) (sound : Sound M) (s : ℕ) (p : Plane) where
   pub above_of : AreOf M (faces_above M p s) s
   unfolding solid_of
   above_of f l =
-      let w = all_where_has (λ _ row. nat_eq row.solid s) M.faces f (omega (arith, listed_in f (faces_above M p s) l, count-filter (face_is_above M p) f (faces_of M s))) in
-      ap (λ o. (unwrap_or o no_face).solid) w.1 ∙ equal w.0.solid s w.2
+      let w = all_where_has (λ _ row. nat_eq row.solid s) M.faces f (omega (arith, IsIn-from_listed f (faces_above M p s) l, count-filter (face_is_above M p) f (faces_of M s))) in
+      ap (λ o. (unwrap_or o no_face).solid) w.1 ∙ eqb-true w.0.solid s w.2
 
 module _ (M : Model) (sound : Sound M) (above : List ℕ) (s : ℕ) (faces : AreOf M above s) where
   pub halves_there : AreThere M (below_halves M above s)

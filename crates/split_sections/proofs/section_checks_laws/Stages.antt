@@ -1,11 +1,11 @@
 -- The conditions that are tested once the faces are drawn, part by part.
 use Rattle.std.proofs.Common.{◌≡◌, ℕ, ◌+◌, ◌*◌, Bool, true, false, cond, not, nat_eq, List, length, Option, Some, None, is_some, Result, Ok, Err, refl, sym, ap, subst, ◌∙◌, true≢false}
+use Rattle.std.proofs.lemmas.Bool.{eq-eqb, eqb-true}
 use Rattle.euler_operators.specs.declared.Plane.{Plane}
 use Rattle.euler_operators.specs.Model.{Model}
 use Rattle.euler_operators.specs.Conditions.{first_refusal}
 use Rattle.euler_operators.specs.declared.Refusal.{Refusal}
 use Rattle.euler_operators.specs.declared.Why.TheVariants.{CutCrossed, BranchedVertex, SectionHoles}
-use Rattle.euler_laws.proofs.shared.Goes.{equal, equals}
 use Rattle.shapes.specs.Fresh.{Taken, numbers_left}
 use Rattle.solid_measure.specs.solid_checks.Least.{found}
 use Rattle.shapes.specs.split.Drawing.{Drawing}
@@ -17,7 +17,7 @@ use Rattle.split_checks.proofs.begin_checks_laws.Stages.{found_number}
 pub found_none : (n : ℕ) → None ≡ found n → n ≡ 0
 found_none n e = go (nat_eq n 0) refl e where
   go : (b : Bool) → nat_eq n 0 ≡ b → None ≡ cond b None (Some n) → n ≡ 0
-  go true t e = equal n 0 t
+  go true t e = eqb-true n 0 t
   go false t e = absurd (true≢false (sym (ap is_some e)))
 
 module _ (M : Model) (s : ℕ) (p : Plane) (c : Taken) (bs : List ℕ) where
@@ -38,7 +38,7 @@ module _ (M : Model) (s : ℕ) (p : Plane) (c : Taken) (bs : List ℕ) where
 
   module _ (none : least_branched M (section_ends M bs) ≡ 0) where
     to_cycles : first_refusal (section_conditions M s p c bs) ≡ cycles
-    to_cycles = whole ∙ ap (λ b. cond b cycles (Some (record { why = BranchedVertex; number = least_branched M (section_ends M bs) }))) (equals (least_branched M (section_ends M bs)) 0 none)
+    to_cycles = whole ∙ ap (λ b. cond b cycles (Some (record { why = BranchedVertex; number = least_branched M (section_ends M bs) }))) (eq-eqb (least_branched M (section_ends M bs)) 0 none)
 
     pub stray : has_stray_hole M p (section_cycles M bs) ≡ true → first_refusal (section_conditions M s p c bs) ≡ Some (record { why = SectionHoles; number = s })
     stray e = to_cycles ∙ ap (λ b. cond (not b) numbers (Some (record { why = SectionHoles; number = s }))) e

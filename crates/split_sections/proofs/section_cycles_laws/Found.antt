@@ -2,29 +2,28 @@
 use Rattle.std.proofs.Common.{◌≡◌, ℕ, ◌≤◌, ◌<◌, Bool, true, false, cond, ◌||◌, nat_eq, List, [], ◌∷◌, ◌++◌, map, length, refl, sym, ap, ◌∙◌, arith, true≢false, ◌⊎◌, inl, inr}
 use Rattle.std.specs.Prelude.{filter}
 use Rattle.std.proofs.lemmas.Bool.Decides.{eqb_tells}
+use Rattle.std.proofs.lemmas.Bool.{ne_eqb, eq-eqb}
 use Rattle.std.proofs.lemmas.List.{append_assoc, append-nil}
 use Rattle.euler_operators.specs.Items.{count, IsIn, SameItems, least}
 use Rattle.euler_operators.proofs.Lists.{tick_same, tick_other, count-append, IsIn_or_not, least_le, least_in, least_same}
 use Rattle.euler_operators.specs.Rings.{orbit}
 use Rattle.euler_operators.specs.Conditions.{lists, strictly_rises}
-use Rattle.euler_laws.proofs.shared.Goes.{differs, equals}
-use Rattle.euler_laws.proofs.Sizes.{rises_over}
+use Rattle.euler_laws.proofs.Sizes.{rises_over, rises_on}
 use Rattle.split_opening_laws.specs.cycles.Permuting.{Permutes}
 use Rattle.split_opening_laws.proofs.cycles.Orbits.{around_within, around_here, around_same}
-use Rattle.euler_laws.proofs.shared.RisingLists.{rest_rises}
-use Rattle.euler_laws.proofs.shared.Counted.{in_listed, listed_in}
+use Rattle.euler_laws.proofs.shared.Listed.{IsIn-from_listed, listed-from_in}
 
 -- what stands before an item of a rising list is less
 before_less : (done : List ℕ) (b : ℕ) (rest : List ℕ) → strictly_rises (done ++ b ∷ rest) ≡ true → (d : ℕ) → IsIn d done → d < b
 before_less [] b rest r d i = absurd (omega (arith, i))
 before_less (x ∷ xs) b rest r d i = elim (eqb_tells d x) [
   | inl e ↦ omega (arith, e.1, rises_over x b (xs ++ b ∷ rest) r (omega (arith, count-append b xs (b ∷ rest), tick_same b)))
-  | inr e ↦ before_less xs b rest (rest_rises x (xs ++ b ∷ rest) r) d (omega (arith, i, tick_other d x e.1))
+  | inr e ↦ before_less xs b rest (rises_on x (xs ++ b ∷ rest) r) d (omega (arith, i, tick_other d x e.1))
 ]
 
 from_rises : (done rest : List ℕ) → strictly_rises (done ++ rest) ≡ true → strictly_rises rest ≡ true
 from_rises [] rest r = r
-from_rises (x ∷ xs) rest r = from_rises xs rest (rest_rises x (xs ++ rest) r)
+from_rises (x ∷ xs) rest r = from_rises xs rest (rises_on x (xs ++ rest) r)
 
 -- the cycle from an item on, and whether the item is its least
 abbrev pub ring : (ℕ → ℕ) → List ℕ → ℕ → List ℕ
@@ -85,11 +84,11 @@ module _ (next : ℕ → ℕ) (bs : List ℕ) where
         let same : SameItems (ring next bs b) (ring next bs r.0) = around_same next bs w r.0 (done_in r.0 r.1) b r.2 in
         let least_is : least (ring next bs b) ≡ least (ring next bs r.0) = least_same (ring next bs b) (ring next bs r.0) same in
         let low : least (ring next bs r.0) ≤ r.0 = least_le (ring next bs r.0) r.0 (around_here next bs w r.0 (done_in r.0 r.1)) in
-        differs (least (ring next bs b)) b (λ s. absurd (omega (arith, s, least_is, low, before_less f.done b rest rises r.0 r.1)))
+        ne_eqb (least (ring next bs b)) b (λ s. absurd (omega (arith, s, least_is, low, before_less f.done b rest rises r.0 r.1)))
 
     -- a half that isn't met is
     new_leads : met b ≡ false → begins next bs b ≡ true
-    new_leads t = equals (least (ring next bs b)) b (at_least (least_le (ring next bs b) b (around_here next bs w b now_in))) where
+    new_leads t = eq-eqb (least (ring next bs b)) b (at_least (least_le (ring next bs b) b (around_here next bs w b now_in))) where
       m_in : IsIn (least (ring next bs b)) (ring next bs b)
       m_in = least_in (ring next bs b) b (around_here next bs w b now_in)
 
@@ -141,11 +140,11 @@ module _ (next : ℕ → ℕ) (bs : List ℕ) where
       of_done = λ x u. from_wider x (lists cycle x) refl (sym (ew x) ∙ u);
       is_met = λ d x i j. elim (in_more d i) [
         | inl k ↦ ew x ∙ either_second (lists cycle x) (met x) (f.is_met d x k j)
-        | inr s ↦ ew x ∙ ap (λ c. c || met x) (in_listed x cycle (omega (arith, ap (count x) is, j, ap (λ y. count x (ring next bs y)) s)))
+        | inr s ↦ ew x ∙ ap (λ c. c || met x) (listed-from_in x cycle (omega (arith, ap (count x) is, j, ap (λ y. count x (ring next bs y)) s)))
       ];
     } where
       from_wider : (x : ℕ) (c : Bool) → lists cycle x ≡ c → (c || met x) ≡ true → (d : ℕ) × IsIn d (f.done ++ b ∷ []) × IsIn x (ring next bs d)
-      from_wider x true l u = (b, new_in, omega (arith, ap (count x) is, listed_in x cycle l))
+      from_wider x true l u = (b, new_in, omega (arith, ap (count x) is, IsIn-from_listed x cycle l))
       from_wider x false l u = let r = f.of_done x u in (r.0, still_in r.0 r.1, r.2)
 
       either_second : (p q : Bool) → q ≡ true → (p || q) ≡ true

@@ -11,12 +11,12 @@ use Rattle.euler_operators.specs.Items.{tick, count, IsIn, SameItems}
 use Rattle.euler_operators.proofs.Lists.{tick_same, count-append, IsIn_or_not}
 use Rattle.euler_operators.proofs.Maps.{from_map}
 use Rattle.euler_operators.proofs.Std.{SameItems-from_permutation}
+use Rattle.euler_operators.proofs.Models.{mate_there}
 use Rattle.euler_operators.specs.declared.HalfEdge.{HalfEdge}
 use Rattle.euler_operators.specs.HalfEdge.{code, mate}
 use Rattle.euler_operators.specs.Table as table
 use Rattle.euler_operators.specs.Model.{Model, tail, is_number}
 use Rattle.euler_operators.specs.Sound.{Sound, HasHalf, Has}
-use Rattle.euler_laws.proofs.shared.Fans.{half_mate}
 use Rattle.solid_walks.proofs.face_walks_laws.Above.{AllAbove, all_above_members}
 use Rattle.solid_walks.proofs.face_walks_laws.TableWalks.{passes, member_passing}
 use Rattle.solid_measure.specs.solid_checks.Least.{found, least_such}
@@ -74,7 +74,7 @@ module _ (M : Model) (sound : Sound M) (bs : List ℕ) (there : AreThere M bs) w
   end_there : (v : ℕ) → IsIn v (section_ends M bs) → Has M.vertices v
   end_there v i = elim (either (count v (map (tail M) bs)) (count v (map (λ b. tail M (mate b)) bs)) (omega (arith, i, count-append v (map (tail M) bs) (map (λ b. tail M (mate b)) bs)))) [
     | inl j ↦ let r = from_map (tail M) v bs j in subst (Has M.vertices) (sym r.2) (sound.tails_there r.0 (there r.0 r.1))
-    | inr j ↦ let r = from_map (λ b. tail M (mate b)) v bs j in subst (Has M.vertices) (sym r.2) (sound.tails_there (mate r.0) (half_mate M sound r.0 (there r.0 r.1)))
+    | inr j ↦ let r = from_map (λ b. tail M (mate b)) v bs j in subst (Has M.vertices) (sym r.2) (sound.tails_there (mate r.0) (mate_there M r.0 (there r.0 r.1)))
   ] where
     either : (m n : ℕ) → 1 ≤ m + n → (1 ≤ m) ⊎ (1 ≤ n)
     either m n l = grind arith

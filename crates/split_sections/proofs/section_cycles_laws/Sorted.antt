@@ -2,11 +2,11 @@
 use Rattle.std.proofs.Common.{◌≡◌, ℕ, suc, ◌+◌, ◌≤◌, ◌<◌, Bool, true, false, cond, ◌&&◌, ◌||◌, nat_lt, List, [], ◌∷◌, length, slice_index_or, Option, Some, None, refl, sym, ap, ◌∙◌, arith, true≢false, inl, inr}
 use Rattle.std.specs.List.Sorted.{IsNonDecreasing}
 use Rattle.std.proofs.lemmas.Bool.Decides.{nat_tests, eqb_tells}
+use Rattle.std.proofs.lemmas.Bool.{eqb-true, eqb-false}
 use Rattle.std.proofs.lemmas.List.{take_rest}
 use Rattle.split_checks.proofs.cut_places_laws.Lists.{others}
 use Rattle.euler_operators.specs.Items.{tick, count, IsIn}
 use Rattle.euler_operators.proofs.Lists.{tick_same, tick_other, tick_le, IsIn_or_not}
-use Rattle.euler_laws.proofs.shared.Goes.{equal, unequal}
 use Rattle.solid_walks.proofs.face_walks_laws.Above.{member}
 use Rattle.solid_measure.specs.solid_checks.Least.{least_such}
 use Rattle.solid_measure.proofs.solid_checks_laws.Searches.{IsLeast, one_least, least_same, least_listed}
@@ -43,7 +43,7 @@ three : (x : ℕ) (xs : List ℕ) → Up (x ∷ xs) → is_thrice (x ∷ xs) ≡
 three x [] u t = absurd (true≢false (sym t))
 three x (y ∷ []) u t = absurd (true≢false (sym t))
 three x (y ∷ z ∷ zs) u t =
-    let e : x ≡ z = equal x z t in
+    let e : x ≡ z = eqb-true x z t in
     let first : x ≤ y = u.0 y (omega (arith, tick_same y)) in
     let second : y ≤ z = u.1.0 z (omega (arith, tick_same z)) in
     let same : x ≡ y = omega (arith, e, first, second) in
@@ -53,7 +53,7 @@ fewer : (x : ℕ) (xs : List ℕ) → Up (x ∷ xs) → is_thrice (x ∷ xs) ≡
 fewer x [] u f = omega arith
 fewer x (y ∷ []) u f = omega (arith, tick_le x y)
 fewer x (y ∷ z ∷ zs) u f = elim (IsIn_or_not x (z ∷ zs)) [
-  | inl i ↦ absurd (unequal x z f (omega (arith, u.0 z (omega (arith, tick_same z)), back i)))
+  | inl i ↦ absurd (eqb-false x z f (omega (arith, u.0 z (omega (arith, tick_same z)), back i)))
   | inr n ↦ omega (arith, n, tick_le x y)
 ] where
   back : IsIn x (z ∷ zs) → z ≤ x

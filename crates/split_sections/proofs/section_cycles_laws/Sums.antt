@@ -11,7 +11,7 @@ use Rattle.euler_operators.specs.HalfEdge.{mate}
 use Rattle.euler_operators.specs.Model.{Model}
 use Rattle.euler_operators.specs.Sound.{Sound, HasHalf}
 use Rattle.euler_operators.proofs.Halves.{mate-mate}
-use Rattle.euler_laws.proofs.shared.Fans.{half_mate}
+use Rattle.euler_operators.proofs.Models.{mate_there}
 use Rattle.shapes.specs.Faces.{start, finish}
 use Rattle.solid_measure.specs.Measure.{area, area_limit}
 use Rattle.solid_measure.proofs.Areas.{area_push, area_limited}
@@ -41,7 +41,7 @@ module _ (M : Model) (sound : Sound M) (all : List ℕ) (there : AreThere M all)
   mates : AreHalves M (map mate s.done)
   mates = record {
     apart = IsApart-map mate s.done (λ x i y j e. sym (mate-mate x) ∙ ap mate e ∙ mate-mate y) (λ x. omega (arith, apart x, ap (count x) s.parts, count-append x s.done left));
-    there = λ x i. let r = from_map mate x s.done i in subst (HasHalf M) (sym r.2) (half_mate M sound r.0 (there r.0 (omega (arith, r.1, ap (count r.0) s.parts, count-append r.0 s.done left))));
+    there = λ x i. let r = from_map mate x s.done i in subst (HasHalf M) (sym r.2) (mate_there M r.0 (there r.0 (omega (arith, r.1, ap (count r.0) s.parts, count-append r.0 s.done left))));
   }
 
   pub sum_limited : IsVectorWithin area_limit now

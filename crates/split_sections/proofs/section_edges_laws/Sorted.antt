@@ -14,7 +14,7 @@ use Rattle.euler_operators.proofs.Tests.{less_or_same}
 use Rattle.euler_operators.proofs.Std.{SameItems-from_permutation}
 use Rattle.euler_operators.specs.Conditions.{face_at, lists, strictly_rises}
 use Rattle.euler_laws.proofs.shared.RisingLists.{within}
-use Rattle.euler_laws.proofs.shared.Counted.{in_listed, listed_in}
+use Rattle.euler_laws.proofs.shared.Listed.{IsIn-from_listed, listed-from_in}
 use Rattle.solid_measure.proofs.solid_counts_laws.HowMany.{equally_many}
 use Rattle.shapes.specs.split.Section.{below_halves}
 use Rattle.split_opening_laws.specs.cycles.SectionCycles.{IsBelowHalf}
@@ -61,5 +61,5 @@ module _ (M : Model) (above : List ℕ) (s : ℕ) where
       let are : (m : ℕ) → IsIn m ms → IsBelowHalf M above s m = λ m i. met_below M sound above s m (omega (arith, i, same m)) in
       let in_halves : (m : ℕ) → IsIn m ms → IsIn m bs = λ m i. are_halves M above s sound m (are m i) in
       let in_met : (m : ℕ) → IsIn m bs → IsIn m ms = λ m i. omega (arith, same m, below_is_met M sound above s m (halves_are M above s sound m i)) in
-      let w = within ms bs (rises hs up apart are) (halves_rise M above s sound) (λ m l. in_listed m bs (in_halves m (listed_in m ms l))) in
+      let w = within ms bs (rises hs up apart are) (halves_rise M above s sound) (λ m l. listed-from_in m bs (in_halves m (IsIn-from_listed m ms l))) in
       w.1 (equally_many ms bs apart (halves_apart M above s sound) in_halves in_met)

@@ -9,10 +9,9 @@ use Rattle.euler_operators.proofs.Lists.{count-append, tick_other}
 use Rattle.euler_operators.specs.HalfEdge.{mate}
 use Rattle.euler_operators.specs.Model.{Model, items_of, content, loop_of, faces_of}
 use Rattle.euler_operators.specs.Sound.{Sound}
-use Rattle.euler_operators.proofs.Models.{cycle_there}
+use Rattle.euler_operators.proofs.Models.{cycle_there, loop_there}
 use Rattle.euler_operators.proofs.Members.{IsIn-filter}
 use Rattle.euler_operators.specs.Conditions.{face_at, lists}
-use Rattle.euler_conditions.proofs.Known.{loop_there}
 use Rattle.shapes.specs.Faces.{items_in, loops_of, boundary}
 use Rattle.split_checks.proofs.cut_places_laws.Lists.{of_picked, picked_apart}
 use Rattle.split_opening_laws.specs.cycles.SectionCycles.{IsBelowHalf}

@@ -4,6 +4,7 @@ use Rattle.std.specs.Ordering.{int_eq}
 use Rattle.std.specs.Cmp.{signed_Decides}
 use Rattle.std.proofs.Common.{◌≡◌, ◌≢◌, ℕ, zero, suc, ◌+◌, ◌*◌, ◌≤◌, ◌<◌, ℤ, pos, negsuc, ◌+ℤ◌, Bool, true, false, cond, not, nat_eq, nat_le, ◌&&◌, ◌||◌, List, [], ◌∷◌, ◌++◌, Some, None, is_some, unwrap_or, refl, sym, ap, ◌∙◌, arith, true≢false, ◌⊎◌, inl, inr}
 use Rattle.std.proofs.lemmas.Bool.Decides.{nat_tests, eqb_tells}
+use Rattle.std.proofs.lemmas.Bool.{eq-eqb}
 use Rattle.std.proofs.lemmas.Int.{ints}
 use Rattle.euler_operators.specs.declared.Point.{Point}
 use Rattle.euler_operators.specs.Points.{is_coordinate, is_in_range}
@@ -16,13 +17,13 @@ use Rattle.euler_operators.specs.Model.{Model, cycle, FaceRow, LoopRow, EdgeRow,
 use Rattle.euler_operators.specs.Sound.{Sound}
 use Rattle.euler_operators.proofs.Halves.{plus_row}
 use Rattle.euler_operators.proofs.Models.{content_row, face_row, tail_row}
-use Rattle.euler_operators.proofs.Tables.{all_where_none, first_where_zero}
+use Rattle.euler_operators.proofs.Tables.{all_where_none, first_where_zero, get-put_here, get-put_other}
 use Rattle.euler_operators.proofs.Tests.{and_first, and_second, none_but, less_still}
 use Rattle.euler_operators.proofs.Vectors.{add_none}
 use Rattle.euler_operators.specs.Conditions.{Condition, need, never, first_refusal, numbers_in_range, is_lone, lists}
 use Rattle.euler_operators.specs.declared.Why.TheVariants.{NoFace, ZeroSweep, LoneLoop, PointRange}
-use Rattle.euler_laws.proofs.shared.Goes.{all_hold, none_refuses, equals}
-use Rattle.shapes.proofs.fresh.Rows.{at_most_greatest, greatest-put_last, get-put_here, get-put_other, get-put_cases}
+use Rattle.euler_laws.proofs.shared.Goes.{all_hold, none_refuses}
+use Rattle.shapes.proofs.fresh.Rows.{at_most_greatest, greatest-put_last, get-put_cases}
 use Rattle.shapes.proofs.fresh.Tests.{Left, numbers_are_left, left_numbers_hold, number_fits}
 use Rattle.shapes.specs.Faces.{corners, loops_of, vertices_in, vertices_on, least_lone}
 use Rattle.shapes.specs.Fresh.{Taken, taken_in, numbers_left, numbers_after, no_such, first_such}
@@ -137,9 +138,9 @@ blocks_have_bases M s p dx dy dz e =
         (
           refl,
           (
-            equals _ _ near,
+            eq-eqb _ _ near,
             (
-              equals _ _ apart,
+              eq-eqb _ _ apart,
               (
                 fewer (taken_in M).face 6 2 (omega arith) left.0,
                 (
@@ -332,7 +333,7 @@ module _ (M : Model) (sound : Sound M) (c : Taken) (is : c ≡ taken_in M) (s : 
           ap is_some face_one,
           (
             ap not apart,
-            (equals _ _ none_lone, (equals _ _ (all_in_range d ra rb rg rh), left_numbers_hold (taken_in base) 4 4 8 4 (base_left left))),
+            (eq-eqb _ _ none_lone, (eq-eqb _ _ (all_in_range d ra rb rg rh), left_numbers_hold (taken_in base) 4 4 8 4 (base_left left))),
           ),
         ),
       )

@@ -16,7 +16,7 @@ use Rattle.euler_operators.specs.Model.{Model, LoopContent, cycle, EdgeRow, no_p
 use Rattle.euler_operators.specs.Sound.{Sound}
 use Rattle.euler_operators.proofs.Halves.{plus_row, minus_row, mate_plus}
 use Rattle.euler_operators.proofs.Models.{in-holds, holds-none, not_held, content_row, face_row, tail_row}
-use Rattle.euler_operators.proofs.Tables.{map_same}
+use Rattle.euler_operators.proofs.Tables.{map_same, get-put_here, get-put_other, put-put}
 use Rattle.euler_operators.specs.Conditions.{first_false, lone_vertex, face_at}
 use Rattle.euler_operators.specs.Effect.{effect, edge_row, where_held, with_before, with_tails, mvfs, mev_lone, mev_at, mef}
 use Rattle.euler_laws.proofs.shared.Rows.{where_held_none, where_held_there, edge_row_plus}
@@ -26,7 +26,7 @@ use Rattle.euler_laws.proofs.mev.MevSound.{MevGoes}
 use Rattle.euler_laws.proofs.mef.MefSound.{MefGoes}
 use Rattle.euler_laws.proofs.mef.Kef.{mef_accepted}
 use Rattle.euler_laws.proofs.faces.Solids.{mvfs_accepted}
-use Rattle.shapes.proofs.fresh.Rows.{greatest-put_last, none_above, get-put_here, get-put_other, map-put_last, put-put}
+use Rattle.shapes.proofs.fresh.Rows.{greatest-put_last, none_above, map-put_last}
 use Rattle.shapes.proofs.fresh.Tests.{Left, number_fits}
 use Rattle.shapes.specs.Fresh.{Taken, numbers_after}
 use Rattle.shapes.specs.Lamina.{with_points, with_path, with_ring, lamina_at}

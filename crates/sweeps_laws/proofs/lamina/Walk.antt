@@ -2,6 +2,7 @@
 use Rattle.std.specs.Prelude.{length, get_or, nat_le, ◌-◌}
 use Rattle.std.proofs.Common.{◌≡◌, ℕ, zero, suc, ◌+◌, ◌≤◌, ◌<◌, true, false, cond, List, [], ◌∷◌, ◌++◌, None, refl, sym, ap, subst, ◌∙◌, arith}
 use Rattle.std.proofs.lemmas.Bool.Decides.{nat_tests}
+use Rattle.std.proofs.lemmas.Bool.{not-true, eqb-true}
 use Rattle.euler_operators.specs.declared.Point.{Point}
 use Rattle.euler_operators.specs.Points.{is_in_range}
 use Rattle.euler_operators.specs.Model.{Model, no_point}
@@ -9,7 +10,7 @@ use Rattle.euler_operators.specs.Sound.{Sound}
 use Rattle.euler_operators.specs.Conditions.{first_false}
 use Rattle.euler_operators.specs.Effect.{effect}
 use Rattle.euler_operators.proofs.Tables.{no_row}
-use Rattle.euler_laws.proofs.shared.Goes.{all_hold, not_true, equal}
+use Rattle.euler_laws.proofs.shared.Goes.{all_hold}
 use Rattle.euler_laws.proofs.Cases.{effect_keeps_sound}
 use Rattle.euler_laws.proofs.Runs.{effects-append, AreAccepted-append}
 use Rattle.euler_laws.specs.Laws.{AreAccepted, effects}
@@ -46,10 +47,10 @@ lamina_goes M s ps sound e =
       loops = refl;
       edges = refl;
       vertices = refl;
-      solid_free = no_row _ (not_true _ w.1.0);
+      solid_free = no_row _ (not-true _ w.1.0);
       solid_fits = w.0;
       many = three (length ps) w.1.1.0;
-      points_fit = none_far 0 ps (equal _ _ w.1.1.1.0);
+      points_fit = none_far 0 ps (eqb-true _ _ w.1.1.1.0);
       left = numbers_are_left (taken_in M) 2 2 (length ps) (length ps) w.1.1.1.1.1;
     }
 

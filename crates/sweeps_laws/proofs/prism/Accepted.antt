@@ -2,6 +2,7 @@
 use Rattle.std.proofs.Common.{◌≡◌, ◌≢◌, ℕ, ◌*◌, ◌<◌, Bool, true, false, not, nat_eq, ◌&&◌, ◌||◌, List, [], ◌∷◌, ◌++◌, length, Some, None, is_some, refl, sym, ap, ◌∙◌, subst, arith, inl, inr, true≢false}
 use Rattle.std.specs.Prelude.{map}
 use Rattle.std.proofs.lemmas.Bool.Decides.{nat_tests, eqb_tells}
+use Rattle.std.proofs.lemmas.Bool.{not-false, eqb-true}
 use Rattle.euler_operators.specs.declared.Point.{Point}
 use Rattle.euler_operators.specs.Points.{is_in_range, IsInRange}
 use Rattle.euler_operators.specs.Vectors.{moved}
@@ -18,7 +19,7 @@ use Rattle.euler_operators.proofs.Operators.{apart_front}
 use Rattle.euler_operators.specs.Conditions.{AllHold, is_lone, lists, strictly_rises}
 use Rattle.euler_laws.specs.Laws.{AreAccepted, effects}
 use Rattle.euler_laws.proofs.Runs.{effects_keep_sound}
-use Rattle.euler_laws.proofs.shared.Goes.{all_hold, not_back, equal, no_zero}
+use Rattle.euler_laws.proofs.shared.Goes.{all_hold, no_zero}
 use Rattle.euler_laws.proofs.shared.Listed.{listed_passes, all_where-rises, listed-from_in}
 use Rattle.euler_laws.proofs.shared.Rows.{loop_row, not_lone_cycle}
 use Rattle.euler_laws.proofs.Sizes.{rises_on, rises_over}
@@ -51,11 +52,11 @@ module _ (M : Model) (f : ℕ) (d : Point) (sound : Sound M) (accepted : prism_r
 
   none_lone : table.first_where (λ _ row. is_lone row.content && lists (f ∷ []) row.face) M.loops ≡ 0
   unfolding prism_conditions
-  none_lone = equal (least_lone M (f ∷ [])) 0 hold.1.1.1.0
+  none_lone = eqb-true (least_lone M (f ∷ [])) 0 hold.1.1.1.0
 
   none_far : first_such (λ v. not (is_in_range (moved (point_of M v) d))) (corners M f) ≡ 0
   unfolding prism_conditions
-  none_far = equal (first_such (λ v. not (is_in_range (moved (point_of M v) d))) (corners M f)) 0 hold.1.1.1.1.0
+  none_far = eqb-true (first_such (λ v. not (is_in_range (moved (point_of M v) d))) (corners M f)) 0 hold.1.1.1.1.0
 
   left : Left (taken_in M) (length (corners M f)) (length (corners M f)) (2 * length (corners M f)) (length (corners M f))
   unfolding prism_conditions
@@ -67,7 +68,7 @@ module _ (M : Model) (f : ℕ) (d : Point) (sound : Sound M) (accepted : prism_r
     | inl e ↦ subst (λ q. Has M.loops q × (face_of M q ≡ f)) (sym e.1) (sound.outers_there f face_there)
     | inr e ↦
         let p = listed_passes (λ k row. nat_eq row.face f && not (nat_eq (outer M f) k)) M.loops l (listed-from_in l (rings_of M f) (omega (arith, i, tick_other l (outer M f) e.1))) in
-        (ap is_some p.1, face_row M l p.0 p.1 ∙ equal p.0.face f (and_first (nat_eq p.0.face f) (not (nat_eq (outer M f) l)) p.2))
+        (ap is_some p.1, face_row M l p.0 p.1 ∙ eqb-true p.0.face f (and_first (nat_eq p.0.face f) (not (nat_eq (outer M f) l)) p.2))
   ]
 
   loops_apart : IsApart (loops_of M f)
@@ -121,7 +122,7 @@ module _ (M : Model) (f : ℕ) (d : Point) (sound : Sound M) (accepted : prism_r
   near_item : (hs : List ℕ) → NoneSuch far (map (tail M) hs) → (h : ℕ) → IsIn h hs → IsInRange (moved (start M h) d)
   near_item [] n h i = absurd (omega arith)
   near_item (g ∷ hs) n h i = elim (eqb_tells h g) [
-    | inl e ↦ subst (λ q. IsInRange (moved (start M q) d)) (sym e.1) (not_back (is_in_range (moved (start M g) d)) n.0)
+    | inl e ↦ subst (λ q. IsInRange (moved (start M q) d)) (sym e.1) (not-false (is_in_range (moved (start M g) d)) n.0)
     | inr e ↦ near_item hs n.1 h (omega (arith, i, tick_other h g e.1))
   ]
 

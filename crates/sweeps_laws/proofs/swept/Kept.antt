@@ -11,11 +11,11 @@ use Rattle.euler_operators.specs.Table.{Table}
 use Rattle.euler_operators.specs.Model.{Model, lone, EdgeRow, no_edge, items_of, tail, tail_in, content, face_of, outer, solid_of}
 use Rattle.euler_operators.specs.Sound.{Has}
 use Rattle.euler_operators.proofs.Halves.{plus_row, minus_row}
-use Rattle.euler_operators.proofs.Tables.{greatest-map}
+use Rattle.euler_operators.proofs.Tables.{greatest-map, get-put_here, get-put_other}
 use Rattle.euler_operators.proofs.Models.{same_outer, same_solid, never_lone}
 use Rattle.shapes.specs.Fresh.{Taken}
 use Rattle.shapes.specs.Prism.{riser, top_edge, top_items, next_place}
-use Rattle.shapes.proofs.fresh.Rows.{at_most_greatest, get-put_here, get-put_other}
+use Rattle.shapes.proofs.fresh.Rows.{at_most_greatest}
 use Rattle.sweeps_laws.proofs.swept.Filled.{place_cases, filled_greatest}
 use Rattle.sweeps_laws.proofs.swept.Numbers.{next_within, riser_most, top_most}
 use Rattle.sweeps_laws.proofs.swept.Sides.{start_kept, finish_kept, grown, item, side_face, side_items, side_loop, side_riser, side_top, faces_grown, edges_step}

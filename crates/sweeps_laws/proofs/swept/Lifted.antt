@@ -12,14 +12,14 @@ use Rattle.euler_operators.specs.Table as table
 use Rattle.euler_operators.specs.Table.{Table, map_rows}
 use Rattle.euler_operators.specs.Model.{Model, lone, cycle, LoopRow, items_of, tail, content, face_of, outer, point_of, rings_of}
 use Rattle.euler_operators.specs.Sound.{Has}
-use Rattle.euler_operators.proofs.Tables.{map_one, all_where_none, all_where-map}
+use Rattle.euler_operators.proofs.Tables.{map_one, all_where_none, all_where-map, get-put_here, get-put_other}
 use Rattle.euler_operators.proofs.Models.{content_row, face_row, outer_row, plus_tail_row, minus_tail_row, same_content, same_face, same_outer}
 use Rattle.euler_operators.proofs.Tests.{none_but}
 use Rattle.euler_laws.proofs.shared.Rows.{loop_row}
 use Rattle.shapes.specs.Faces.{start, finish}
 use Rattle.shapes.specs.Fresh.{Taken}
 use Rattle.shapes.specs.Prism.{riser, top_edge, top_items, next_place, lifted}
-use Rattle.shapes.proofs.fresh.Rows.{get-put_here, get-put_other, at_most_greatest}
+use Rattle.shapes.proofs.fresh.Rows.{at_most_greatest}
 use Rattle.sweeps_laws.proofs.swept.Filled.{place_cases, filled, filled_old, filled_new, filled_past, filled_none, same_search}
 use Rattle.sweeps_laws.proofs.swept.Numbers.{riser_above, top_above, next_within}
 use Rattle.sweeps_laws.proofs.swept.Sides.{Keeps, start_kept, finish_kept, grown, item, side_face, side_items, side_loop, faces_grown, loops_grown, keeps_grown, riser_row, top_row, point_grown}

@@ -10,10 +10,10 @@ use Rattle.euler_operators.specs.Table.{Table}
 use Rattle.euler_operators.specs.Model.{Model, cycle, FaceRow, LoopRow, EdgeRow, no_edge, no_point, tail, tail_in, point_of}
 use Rattle.euler_operators.proofs.Halves.{edge_of-mate}
 use Rattle.euler_operators.proofs.Models.{point_row}
+use Rattle.euler_operators.proofs.Tables.{get-put_here, get-put_other}
 use Rattle.shapes.specs.Faces.{start, finish}
 use Rattle.shapes.specs.Fresh.{Taken}
 use Rattle.shapes.specs.Prism.{riser, top_edge, next_place, with_side, with_sides}
-use Rattle.shapes.proofs.fresh.Rows.{get-put_here, get-put_other}
 use Rattle.sweeps_laws.proofs.swept.Filled.{filled, filled_old, filled_new}
 use Rattle.sweeps_laws.proofs.swept.Numbers.{riser_above, top_above, riser_apart, top_apart, riser_no_top}
 

@@ -1,13 +1,14 @@
 use Rattle.std.proofs.Common.{ap, ◌∙◌}
 use Rattle.euler_operators.specs.HalfEdge.{code}
 use Rattle.euler_operators.specs.Table as table
-use Rattle.euler_conditions.proofs.Known.{half_there, loop_there}
+use Rattle.euler_operators.proofs.Models.{loop_there}
 use Rattle.euler_conditions.proofs.halves.loop_of.Goals as goal
+use Rattle.euler_laws.proofs.shared.Rows.{half_of}
 
 pub loop_of-requires : goal.loop_of-requires
-loop_of-requires c = half_there c.args.arena.now.model c.args.h c.requires.there
+loop_of-requires c = half_of c.args.arena.now.model c.args.h c.requires.there
 
 pub returns-clause-there : goal.returns-clause-there
 returns-clause-there c =
     let M = c.args.arena.now.model in
-    ap (table.has M.loops) c.loop_of.ensures ∙ loop_there M c.requires.ready.sound (code c.args.h) (half_there M c.args.h c.requires.there)
+    ap (table.has M.loops) c.loop_of.ensures ∙ loop_there M c.requires.ready.sound (code c.args.h) (half_of M c.args.h c.requires.there)

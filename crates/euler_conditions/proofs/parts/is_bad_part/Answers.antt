@@ -1,5 +1,5 @@
 use Rattle.std.proofs.Common.{sym, ◌∙◌}
-use Rattle.euler_laws.proofs.shared.Goes.{equals}
+use Rattle.std.proofs.lemmas.Bool.{eq-eqb}
 use Rattle.euler_conditions.proofs.Borders.{not_empty, bad_all, bad_torn}
 use Rattle.euler_conditions.proofs.parts.is_bad_part.Goals as goal
 
@@ -9,7 +9,7 @@ is_torn-requires-clause-there c = λ f l. (c.requires.faces f l).0
 pub returns-then-len-face_count : goal.returns-then-len-face_count
 returns-then-len-face_count c =
     let M = c.args.arena.now.model in let fs = c.args.faces.now in
-    equals c.len-2.result c.face_count.result c.if-len-face_count.true
+    eq-eqb c.len-2.result c.face_count.result c.if-len-face_count.true
     ∙ bad_all M c.args.solid fs c.requires.faces (sym c.rises.ensures ∙ c.if-not-rises.false) (not_empty fs (λ e. c.if-len-eq0.false (c.len.ensures ∙ e)))
     (sym c.len-2.ensures ∙ c.if-len-face_count.true ∙ c.face_count.ensures)
 

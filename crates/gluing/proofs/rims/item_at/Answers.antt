@@ -2,7 +2,8 @@ use Rattle.std.proofs.Common.{◌≡◌, ◌∙◌, Bool, true, false, ◌&&◌,
 use Rattle.euler_operators.specs.HalfEdge.{code}
 use Rattle.euler_operators.specs.Model.{content, outer, point_of}
 use Rattle.euler_operators.specs.Sound.{Has}
-use Rattle.shapes.proofs.glue.Points.{is_same, same_is}
+use Rattle.euler_operators.proofs.Crossings.{same_as}
+use Rattle.shapes.proofs.glue.Points.{same_is}
 use Rattle.gluing.specs.Rims.{item_at}
 use Rattle.gluing.proofs.Found.{rim_held, walk_begins, walked_there, walk_stays, walk_finds, walk_nears}
 use Rattle.gluing.proofs.rims.item_at.Goals as goal
@@ -44,7 +45,7 @@ pub round-smaller : goal.round-smaller
 round-smaller c =
     let M = c.args.arena.now.model in
     walk_nears M c.requires.ready.sound c.args.g c.args.point c.requires.inside c.requires.starts (code c.round.at) (code c.next-at.result) c.round.invariant c.next-at.ensures.in_loop
-    (λ e. true≢false (sym (is_same c.point.result c.args.point (c.point.ensures.point ∙ ap (point_of M) c.tail.ensures ∙ e)) ∙ sym (alike (int_eq c.point.result.x c.args.point.x) _ _) ∙ sym c.eq.ensures ∙ c.if-eq.false))
+    (λ e. true≢false (sym (same_as c.point.result c.args.point (c.point.ensures.point ∙ ap (point_of M) c.tail.ensures ∙ e)) ∙ sym (alike (int_eq c.point.result.x c.args.point.x) _ _) ∙ sym c.eq.ensures ∙ c.if-eq.false))
 
 pub round-preserved : goal.round-preserved
 round-preserved c = walk_stays c.args.arena.now.model c.requires.ready.sound c.args.g c.args.point c.requires.inside (code c.round.at) (code c.next-at.result) c.round.invariant c.next-at.ensures.in_loop

@@ -1,8 +1,9 @@
 use Rattle.std.proofs.Common.{◌≡◌, ◌∙◌, ap, [], ◌∷◌, map, decimal, codes}
 use Rattle.euler_operators.specs.HalfEdge.{plus, minus}
 use Rattle.euler_operators.specs.Model.{tail, has_half}
+use Rattle.euler_operators.proofs.Models.{mate_there}
 use Rattle.solid_listing.specs.Lines.{line_text}
-use Rattle.solid_walks.proofs.face_walks_laws.HalfCodes.{code_plus, mate_plus, plus_there, mate_there}
+use Rattle.solid_walks.proofs.face_walks_laws.HalfCodes.{code_plus, mate_plus, plus_there}
 use Rattle.solid_listing.proofs.entry.edge_line.Goals as goal
 
 pub tail-requires : goal.tail-requires

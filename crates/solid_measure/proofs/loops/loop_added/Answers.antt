@@ -1,9 +1,10 @@
 use Rattle.std.proofs.Common.{ℕ, ◌+◌, ◌-◌, sym, subst, ◌∙◌, arith}
+use Rattle.std.proofs.lemmas.Bool.{eqb-true, eqb-false}
 use Rattle.euler_operators.specs.HalfEdge.{code}
 use Rattle.euler_operators.specs.Model.{content}
-use Rattle.euler_laws.proofs.shared.Goes.{equal, unequal}
-use Rattle.euler_conditions.proofs.Known.{filled, edge_there}
+use Rattle.euler_conditions.proofs.Known.{filled}
 use Rattle.euler_laws.proofs.shared.Bounds.{steps, steps_are}
+use Rattle.euler_laws.proofs.shared.Rows.{of_half}
 use Rattle.euler_conditions.proofs.Borders.{ring_has}
 use Rattle.solid_measure.specs.Measure.{read}
 use Rattle.solid_measure.proofs.AreaRounds.{AreaRound, lone_adds, area_start, area_room, area_closed, area_more, area_ended}
@@ -29,18 +30,18 @@ half_added-sum-requires-clause-n c =
     area_room M c.requires.ready.sound l first item (read c.args.n) (code c.round.h) (steps - c.round.counter) (read c.round.sum) c.round.invariant c.requires.n
 
 pub next-h-requires-clause-there : goal.next-h-requires-clause-there
-next-h-requires-clause-there c = edge_there c.args.arena.now.model c.round.h c.round.invariant.round.there
+next-h-requires-clause-there c = of_half c.args.arena.now.model c.round.h c.round.invariant.round.there
 
 pub returns-then-same : goal.returns-then-same
 returns-then-same c =
     let M = c.args.arena.now.model in let l = c.args.l in let first : ℕ = code c.in-Ring.first in let item = ring_has (content M l) c.in-Ring.first c.in-Ring.ensures in
     area_closed M c.requires.ready.sound l first item (read c.args.n) (code c.round.h) (steps - c.round.counter) (read c.round.sum) c.round.invariant (steps - (c.round.counter + 1)) (omega (arith, steps_are))
-    (read c.half_added-sum.result) c.half_added-sum.ensures (sym c.next-h.ensures.next ∙ equal (code c.next-h.result) first (sym c.same.ensures ∙ c.if-same.true))
+    (read c.half_added-sum.result) c.half_added-sum.ensures (sym c.next-h.ensures.next ∙ eqb-true (code c.next-h.result) first (sym c.same.ensures ∙ c.if-same.true))
 
 pub round-preserved : goal.round-preserved
 round-preserved c =
     let M = c.args.arena.now.model in let l = c.args.l in let first : ℕ = code c.in-Ring.first in let item = ring_has (content M l) c.in-Ring.first c.in-Ring.ensures in
-    let apart = unequal (code c.next-h.result) first (sym c.same.ensures ∙ c.if-same.false) in
+    let apart = eqb-false (code c.next-h.result) first (sym c.same.ensures ∙ c.if-same.false) in
     subst (λ x. AreaRound M l first x (steps - (c.round.counter + 1)) (read c.args.n) (read c.half_added-sum.result)) (sym c.next-h.ensures.next)
     (area_more M c.requires.ready.sound l first item (read c.args.n) (code c.round.h) (steps - c.round.counter) (read c.round.sum) c.round.invariant (steps - (c.round.counter + 1)) (omega (arith, steps_are))
     (read c.half_added-sum.result) c.half_added-sum.ensures (λ e. apart (c.next-h.ensures.next ∙ e)))

@@ -1,9 +1,8 @@
 use Rattle.std.proofs.Common.{ap, sym, ◌∙◌, ◌≡◌, ◌≢◌, ◌<◌, subst, length}
-use Rattle.std.proofs.lemmas.Bool.{not-false}
+use Rattle.std.proofs.lemmas.Bool.{not-false, not-true}
 use Rattle.euler_operators.specs.HalfEdge.{code}
 use Rattle.euler_operators.specs.Model.{has_half, loop_of, after, round, arc}
 use Rattle.euler_conditions.specs.Store.{Store, set_tail}
-use Rattle.euler_laws.proofs.shared.Goes.{not_true}
 use Rattle.low_euler.proofs.vertex_operators_laws.EdgeSteps.{same_half, other_half}
 use Rattle.low_euler.proofs.vertex_operators_laws.Tails.{HasCome, come_first, half_now, mate_there, mate_looped, next_is, shorter, come_on, come_last}
 use Rattle.low_euler.proofs.vertex_operators.steps.move_tails.Goals as goal
@@ -23,7 +22,7 @@ next-half-requires c =
 
 pub round-smaller : goal.round-smaller
 round-smaller c =
-    let ne : code c.round.half ≢ code c.args.to = other_half c.round.half c.args.to (not_true _ (sym c.ne.ensures ∙ c.round-test.true)) in
+    let ne : code c.round.half ≢ code c.args.to = other_half c.round.half c.args.to (not-true _ (sym c.ne.ensures ∙ c.round-test.true)) in
     let now : c.set_tail.new.self ≡ set_tail c.round.arena (code c.round.half) c.args.vertex = c.set_tail.ensures in
     let looped : loop_of c.set_tail.new.self.model (code c.mate.result) ≢ 0 = λ e.
     mate_looped c.args.arena.now c.round.arena (code c.args.from) (code c.args.to) (code c.round.half) c.args.vertex c.requires.sound c.requires.to c.round.invariant
@@ -36,7 +35,7 @@ round-smaller c =
 
 pub round-preserved : goal.round-preserved
 round-preserved c =
-    let ne : code c.round.half ≢ code c.args.to = other_half c.round.half c.args.to (not_true _ (sym c.ne.ensures ∙ c.round-test.true)) in
+    let ne : code c.round.half ≢ code c.args.to = other_half c.round.half c.args.to (not-true _ (sym c.ne.ensures ∙ c.round-test.true)) in
     let now : c.set_tail.new.self ≡ set_tail c.round.arena (code c.round.half) c.args.vertex = c.set_tail.ensures in
     let looped : loop_of c.set_tail.new.self.model (code c.mate.result) ≢ 0 = λ e.
     mate_looped c.args.arena.now c.round.arena (code c.args.from) (code c.args.to) (code c.round.half) c.args.vertex c.requires.sound c.requires.to c.round.invariant

@@ -1,8 +1,8 @@
 use Rattle.std.proofs.Common.{ℕ, ◌+◌, ◌-◌, sym, ap, subst, ◌∙◌, arith}
+use Rattle.std.proofs.lemmas.Bool.{eqb-true, eqb-false}
 use Rattle.euler_operators.specs.HalfEdge.{code}
-use Rattle.euler_laws.proofs.shared.Goes.{equal, unequal}
-use Rattle.euler_conditions.proofs.Known.{edge_there}
 use Rattle.euler_laws.proofs.shared.Bounds.{steps, steps_are}
+use Rattle.euler_laws.proofs.shared.Rows.{of_half}
 use Rattle.solid_measure.specs.solid_counts.Sums.{nothing, together, IsFew}
 use Rattle.solid_measure.proofs.solid_counts_laws.Sums.{half_few}
 use Rattle.solid_measure.proofs.solid_counts_laws.LoopRounds.{MetRound, met_start, met_few, met_closed, met_more, met_ended}
@@ -14,10 +14,10 @@ round-init c =
     subst (λ n. MetRound M l first first n nothing) (omega arith) (met_start M c.requires.ready.sound l first c.requires.item)
 
 pub half_met-requires-clause-there : goal.half_met-requires-clause-there
-half_met-requires-clause-there c = edge_there c.args.arena.now.model c.round.h c.round.invariant.round.there
+half_met-requires-clause-there c = of_half c.args.arena.now.model c.round.h c.round.invariant.round.there
 
 pub next-h-requires-clause-there : goal.next-h-requires-clause-there
-next-h-requires-clause-there c = edge_there c.args.arena.now.model c.round.h c.round.invariant.round.there
+next-h-requires-clause-there c = of_half c.args.arena.now.model c.round.h c.round.invariant.round.there
 
 pub together-sum-requires-clause-a : goal.together-sum-requires-clause-a
 together-sum-requires-clause-a c =
@@ -30,12 +30,12 @@ pub returns-then-same : goal.returns-then-same
 returns-then-same c =
     let M = c.args.arena.now.model in let first : ℕ = code c.args.first in
     met_closed M c.requires.ready.sound c.args.l first c.requires.item (code c.round.h) (steps - c.round.counter) c.round.sum c.round.invariant (steps - (c.round.counter + 1)) (omega (arith, steps_are))
-    c.together-sum.result (c.together-sum.ensures ∙ ap (together c.round.sum) c.half_met.ensures) (sym c.next-h.ensures.next ∙ equal (code c.next-h.result) first (sym c.same.ensures ∙ c.if-same.true))
+    c.together-sum.result (c.together-sum.ensures ∙ ap (together c.round.sum) c.half_met.ensures) (sym c.next-h.ensures.next ∙ eqb-true (code c.next-h.result) first (sym c.same.ensures ∙ c.if-same.true))
 
 pub round-preserved : goal.round-preserved
 round-preserved c =
     let M = c.args.arena.now.model in let first : ℕ = code c.args.first in
-    let apart = unequal (code c.next-h.result) first (sym c.same.ensures ∙ c.if-same.false) in
+    let apart = eqb-false (code c.next-h.result) first (sym c.same.ensures ∙ c.if-same.false) in
     subst (λ x. MetRound M c.args.l first x (steps - (c.round.counter + 1)) c.together-sum.result) (sym c.next-h.ensures.next)
     (met_more M c.requires.ready.sound c.args.l first c.requires.item (code c.round.h) (steps - c.round.counter) c.round.sum c.round.invariant (steps - (c.round.counter + 1)) (omega (arith, steps_are))
     c.together-sum.result (c.together-sum.ensures ∙ ap (together c.round.sum) c.half_met.ensures) (λ e. apart (c.next-h.ensures.next ∙ e)))

@@ -2,8 +2,9 @@ use Rattle.std.proofs.Common.{◌∙◌, ◌≤◌, ap, sym, subst, ℕ, List, [
 use Rattle.euler_operators.specs.Items.{IsIn}
 use Rattle.euler_operators.specs.HalfEdge.{code}
 use Rattle.euler_operators.specs.Model.{cycle_of}
+use Rattle.euler_operators.proofs.Members.{IsIn_push}
 use Rattle.solid_walks.proofs.face_walks_laws.HalfCodes.{codes_same, codes_differ, edge_fits}
-use Rattle.solid_walks.proofs.face_walks_laws.CycleWalks.{seen, IsIn_push, least_is, start_seen, item_there, same_cycle, cycle_apart, item_in, goes_on, comes_back}
+use Rattle.solid_walks.proofs.face_walks_laws.CycleWalks.{seen, least_is, start_seen, item_there, same_cycle, cycle_apart, item_in, goes_on, comes_back}
 use Rattle.solid_walks.proofs.face_walks.items.least_item.Goals as goal
 
 pub round-init : goal.round-init

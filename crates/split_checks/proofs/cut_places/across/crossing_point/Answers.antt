@@ -2,18 +2,18 @@ use Rattle.std.proofs.Common.{◌∙◌, ap, sym, not, true≢false}
 use Rattle.euler_operators.specs.Vectors.{are_opposite, cuts_lattice, cut_between}
 use Rattle.euler_operators.specs.HalfEdge.{code, plus}
 use Rattle.euler_operators.proofs.Halves.{edge_of-code}
-use Rattle.euler_conditions.proofs.Known.{edge_there}
 use Rattle.solid_walks.proofs.face_walks_laws.HalfCodes.{plus_there, code_plus}
 use Rattle.shapes.specs.Faces.{start, finish}
 use Rattle.split_checks.proofs.cut_places_laws.Cuts.{told_point, told_none}
 use Rattle.split_checks.proofs.cut_places_laws.CrossingHalves.{plus_crosses, one_cut}
 use Rattle.split_checks.proofs.cut_places.across.crossing_point.Goals as goal
+use Rattle.euler_laws.proofs.shared.Rows.{of_half}
 
 pub start-requires-clause-there : goal.start-requires-clause-there
-start-requires-clause-there c = plus_there c.args.arena.now.model c.args.h.edge (edge_there c.args.arena.now.model c.args.h c.requires.there)
+start-requires-clause-there c = plus_there c.args.arena.now.model c.args.h.edge (of_half c.args.arena.now.model c.args.h c.requires.there)
 
 pub finish-requires-clause-there : goal.finish-requires-clause-there
-finish-requires-clause-there c = plus_there c.args.arena.now.model c.args.h.edge (edge_there c.args.arena.now.model c.args.h c.requires.there)
+finish-requires-clause-there c = plus_there c.args.arena.now.model c.args.h.edge (of_half c.args.arena.now.model c.args.h c.requires.there)
 
 pub cut_point-requires-clause-opposite : goal.cut_point-requires-clause-opposite
 cut_point-requires-clause-opposite c =

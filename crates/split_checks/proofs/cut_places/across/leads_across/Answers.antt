@@ -1,6 +1,6 @@
 use Rattle.std.proofs.Common.{◌∙◌, ap, sym, ◌&&◌}
 use Rattle.euler_operators.specs.HalfEdge.{code}
-use Rattle.solid_walks.proofs.face_walks_laws.HalfCodes.{is_first-code}
+use Rattle.euler_operators.proofs.Halves.{is_first-code}
 use Rattle.shapes.specs.split.Sides.{crosses}
 use Rattle.split_checks.proofs.cut_places.across.leads_across.Goals as goal
 

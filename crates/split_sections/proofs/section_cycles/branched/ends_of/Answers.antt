@@ -1,7 +1,7 @@
 use Rattle.std.proofs.Common.{◌∙◌, sym, ap, subst}
 use Rattle.euler_operators.specs.Model.{tail}
 use Rattle.euler_operators.specs.Sound.{HasHalf}
-use Rattle.euler_laws.proofs.shared.Fans.{half_mate}
+use Rattle.euler_operators.proofs.Models.{mate_there}
 use Rattle.split_sections.proofs.section_cycles_laws.Meetings.{first_there, others_there, ends_more}
 use Rattle.split_sections.proofs.section_cycles_laws.Chains.{none}
 use Rattle.split_sections.proofs.section_cycles.branched.ends_of.Goals as goal
@@ -11,7 +11,7 @@ tail-requires c = first_there c.args.arena.now.model c.halves.rest.now none c.in
 
 pub tail-requires-in-len1-up : goal.tail-requires-in-len1-up
 tail-requires-in-len1-up c =
-    subst (HasHalf c.args.arena.now.model) (sym c.mate.ensures) (half_mate c.args.arena.now.model c.requires.ready.sound _ (first_there c.args.arena.now.model c.halves.rest.now none c.in-len1-up.len_at_least c.halves.invariant.there))
+    subst (HasHalf c.args.arena.now.model) (sym c.mate.ensures) (mate_there c.args.arena.now.model _ (first_there c.args.arena.now.model c.halves.rest.now none c.in-len1-up.len_at_least c.halves.invariant.there))
 
 pub halves-preserved : goal.halves-preserved
 halves-preserved c =

@@ -2,8 +2,8 @@ use Rattle.std.proofs.Common.{◌∙◌, map, sym, ap, subst}
 use Rattle.euler_operators.specs.HalfEdge.{code}
 use Rattle.euler_operators.specs.Sound.{HasHalf}
 use Rattle.euler_operators.specs.Vectors.{moved, cross}
+use Rattle.euler_operators.proofs.Models.{mate_there}
 use Rattle.shapes.specs.Faces.{start, finish}
-use Rattle.euler_laws.proofs.shared.Fans.{half_mate}
 use Rattle.solid_measure.specs.Measure.{read}
 use Rattle.split_sections.proofs.section_cycles_laws.Meetings.{first_there, others_there, first_code}
 use Rattle.split_sections.proofs.section_cycles_laws.Sums.{more_summed, sum_limited, sum_room}
@@ -12,7 +12,7 @@ use Rattle.split_sections.proofs.section_cycles.holes.mates_area.Goals as goal
 
 pub half_added-area-requires-clause-there : goal.half_added-area-requires-clause-there
 half_added-area-requires-clause-there c =
-    subst (HasHalf c.args.arena.now.model) (sym c.mate.ensures) (half_mate c.args.arena.now.model c.requires.ready.sound _ (first_there c.args.arena.now.model c.halves.rest.now none c.in-len1-up.len_at_least c.halves.invariant.there))
+    subst (HasHalf c.args.arena.now.model) (sym c.mate.ensures) (mate_there c.args.arena.now.model _ (first_there c.args.arena.now.model c.halves.rest.now none c.in-len1-up.len_at_least c.halves.invariant.there))
 
 pub half_added-area-requires-clause-n : goal.half_added-area-requires-clause-n
 half_added-area-requires-clause-n c = sum_room c.args.arena.now.model c.requires.ready.sound (map code c.args.halves.now) c.requires.there c.requires.apart (map code c.halves.rest.now) (read c.halves.area) c.halves.invariant.sum

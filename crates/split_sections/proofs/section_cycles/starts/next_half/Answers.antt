@@ -1,8 +1,8 @@
 use Rattle.std.proofs.Common.{sym, subst}
 use Rattle.euler_operators.specs.HalfEdge.{code}
 use Rattle.euler_operators.specs.Sound.{HasHalf}
-use Rattle.euler_laws.proofs.shared.Fans.{half_mate}
+use Rattle.euler_operators.proofs.Models.{mate_there}
 use Rattle.split_sections.proofs.section_cycles.starts.next_half.Goals as goal
 
 pub tail-requires : goal.tail-requires
-tail-requires c = subst (HasHalf c.args.arena.now.model) (sym c.mate.ensures) (half_mate c.args.arena.now.model c.requires.ready.sound (code c.args.half) c.requires.there)
+tail-requires c = subst (HasHalf c.args.arena.now.model) (sym c.mate.ensures) (mate_there c.args.arena.now.model (code c.args.half) c.requires.there)

@@ -1,7 +1,7 @@
 use Rattle.std.proofs.Common.{ap, ◌∙◌}
 use Rattle.euler_operators.specs.HalfEdge.{code}
 use Rattle.euler_operators.specs.Model.{has_half}
-use Rattle.solid_walks.proofs.face_walks_laws.HalfCodes.{mate_there}
+use Rattle.euler_operators.proofs.Models.{mate_there}
 use Rattle.split_sections.proofs.section_edges.halves.is_below.Goals as goal
 
 pub is_above-requires-then-not-is_above-clause-there : goal.is_above-requires-then-not-is_above-clause-there
