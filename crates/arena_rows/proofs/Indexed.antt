@@ -1,6 +1,8 @@
 -- What stands beside the rows: what it says of the model, and what keeps it.
 use Rattle.std.proofs.Common.{◌≡◌, ◌≢◌, ℕ, ◌+◌, ◌≤◌, Bool, true, false, cond, not, nat_eq, ◌&&◌, List, [], length, Option, Some, None, is_some, unwrap_or, refl, sym, ap, ◌∙◌, arith, true≢false, eq-eqb, ne_eqb, inl, inr}
 use Rattle.std.proofs.lemmas.Bool.Decides.{eqb_tells}
+use Rattle.boundary_model.proofs.Members.{same_length}
+use Rattle.boundary_model.proofs.Tables.{passes, count-all_where}
 use Rattle.boundary_model.specs.declared.Point.{Point}
 use Rattle.boundary_model.specs.Items.{count, tick}
 use Rattle.boundary_model.proofs.Lists.{tick_same, tick_other}
@@ -8,7 +10,7 @@ use Rattle.boundary_model.specs.Table as table
 use Rattle.boundary_model.specs.Table.{Table, get, all_where, same_table, get-put, get-remove}
 use Rattle.boundary_model.specs.Model.{rings_of, outer, no_face}
 use Rattle.arena_rows.specs.owner_chains.Owners.{Owners, no_owners, put, take, owned, HasGrown}
-use Rattle.arena_rows.proofs.owner_chains_laws.Counting.{passes, count-all_where, same_length, more}
+use Rattle.arena_rows.proofs.owner_chains_laws.Counting.{more}
 use Rattle.arena_rows.specs.ring_spots.Spots.{Spots}
 use Rattle.arena_rows.specs.declared.rows.FaceCell.{FaceCell}
 use Rattle.arena_rows.specs.declared.rows.LoopCell.{LoopCell}

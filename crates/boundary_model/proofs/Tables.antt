@@ -6,6 +6,8 @@ use Rattle.std.specs.FinMap.Entries.{find, is_sorted, below_all}
 use Rattle.std.specs.Cmp.{unsigned_tied}
 use Rattle.std.proofs.lemmas.Bool.Decides.{nat_tests, eqb_tells}
 use Rattle.std.proofs.lemmas.Option.{same_Some}
+use Rattle.cyclic_list.specs.Items.{count, tick}
+use Rattle.cyclic_list.proofs.Lists.{tick_same, tick_other}
 use Rattle.cyclic_list.proofs.Members.{no_cons}
 use Rattle.cyclic_list.proofs.Tests.{at_most_or_above}
 use Rattle.boundary_model.specs.Sound.{Has}
@@ -198,3 +200,37 @@ greatest_in-map f (e ∷ d ∷ es) = greatest_in-map f (d ∷ es)
 pub greatest-map : {X : Type 0} (f : ℕ → X → X) (t : Table X) → greatest (map_rows f t) ≡ greatest t
 unfolding greatest map_rows
 greatest-map f t = greatest_in-map f t.rows
+
+-- ---- how often a number stands in the list of those whose rows pass a test
+
+abbrev pub passes : {X : Type 0} → (ℕ → X → Bool) → ℕ → Option X → ℕ
+passes p q None = 0
+passes p q (Some x) = cond (p q x) 1 0
+
+module _ {X : Type 0} where
+  not_below : (k : ℕ) (es : List (ℕ × X)) → T (below_all nat_cmp k es) → find nat_cmp k es ≡ None
+  not_below k [] h = refl
+  not_below k (e ∷ es) h =
+      let l = less_means k e.0 (and_left _ _ h) in
+      let apart : k ≢ e.0 = omega arith in
+      find_later k e es apart ∙ not_below k es (and_right _ _ h)
+
+  pub count-all_where : (p : ℕ → X → Bool) (t : Table X) (q : ℕ) → count q (all_where p t) ≡ passes p q (get t q)
+  unfolding all_where get
+  count-all_where p t q = go t.rows t.rising where
+    go : (es : List (ℕ × X)) → T (is_sorted nat_cmp es) → count q (all_in p es) ≡ passes p q (find nat_cmp q es)
+    go [] s = refl
+    go (e ∷ es) s = elim (eqb_tells q e.0) [
+      | inl a ↦
+          let rest : count q (all_in p es) ≡ 0 = go es (and_right _ _ s) ∙ ap (passes p q) (ap (λ k. find nat_cmp k es) a.1 ∙ not_below e.0 es (and_left _ _ s)) in
+          elim (p e.0 e.1) as (λ b. p e.0 e.1 ≡ b → count q (cond b (e.0 ∷ all_in p es) (all_in p es)) ≡ passes p q (find nat_cmp q (e ∷ es))) [
+            | true ↦ λ h. omega (arith, rest, ap (tick q) (sym a.1), tick_same q, ap (passes p q) (ap (λ k. find nat_cmp k (e ∷ es)) a.1 ∙ find_here e es), ap {B = ℕ} (λ k. cond (p k e.1) 1 0) a.1, ap {B = ℕ} (λ b. cond b 1 0) h)
+            | false ↦ λ h. rest ∙ sym (ap (passes p q) (ap (λ k. find nat_cmp k (e ∷ es)) a.1 ∙ find_here e es) ∙ ap {B = ℕ} (λ k. cond (p k e.1) 1 0) a.1 ∙ ap {B = ℕ} (λ b. cond b 1 0) h)
+          ] refl
+      | inr a ↦
+          let rest : count q (all_in p es) ≡ passes p q (find nat_cmp q (e ∷ es)) = go es (and_right _ _ s) ∙ ap (passes p q) (sym (find_later q e es a.1)) in
+          elim (p e.0 e.1) as (λ b. count q (cond b (e.0 ∷ all_in p es) (all_in p es)) ≡ passes p q (find nat_cmp q (e ∷ es))) [
+            | true ↦ omega (arith, rest, tick_other q e.0 a.1)
+            | false ↦ rest
+          ]
+    ]

@@ -125,3 +125,16 @@ apart_within (x ∷ xs) ys d h =
       | inr n ↦ omega (arith, h y (omega (arith, i)), ap (count y) s, count-append y (before x ys) (x ∷ after x ys), count-append y (before x ys) (after x ys), tick_other y x n.1)
     ]) in
     omega (arith, l, ap (λ (zs : List ℕ). length zs) s, length-append (before x ys) (x ∷ after x ys), length-append (before x ys) (after x ys))
+
+length-split : (x : ℕ) (ps qs : List ℕ) → length (ps ++ x ∷ qs) ≡ 1 + length (ps ++ qs)
+length-split x ps qs = omega (arith, length-append ps (x ∷ qs), length-append ps qs)
+
+-- lists with the same items have the same length
+pub same_length : (xs ys : List ℕ) → ((x : ℕ) → count x xs ≡ count x ys) → length xs ≡ length ys
+same_length [] [] h = refl
+same_length [] (y ∷ ys) h = absurd (omega (arith, h y, tick_same y))
+same_length (x ∷ xs) ys h =
+    let i : IsIn x ys = omega (arith, h x, tick_same x) in
+    let e = split_at x ys i in
+    let r = same_length xs (before x ys ++ after x ys) (λ q. omega (arith, h q, ap (count q) e, count-append q (before x ys) (x ∷ after x ys), count-append q (before x ys) (after x ys))) in
+    omega (arith, r, ap (λ (zs : List ℕ). length zs) e, length-split x (before x ys) (after x ys))

@@ -8,13 +8,13 @@ use Rattle.euler_operators.proofs.Lists.{tick_same, tick_other}
 use Rattle.euler_operators.specs.Table.{Table, get, map_rows, put, remove, get-map_rows, get-put}
 use Rattle.euler_operators.specs.Model.{Model, FaceRow, no_face, solid_of, outer, faces_of, is_number}
 use Rattle.euler_operators.specs.Sound.{Sound}
-use Rattle.euler_operators.proofs.Tables.{map-put, put_same, map_same, all_where_none, none_all_where}
+use Rattle.euler_operators.proofs.Tables.{map-put, put_same, map_same, all_where_none, none_all_where, passes, count-all_where}
 use Rattle.euler_operators.specs.Conditions.{conditions, first_false}
 use Rattle.euler_operators.specs.Effect.{effect, merge, faces_to_solid}
 use Rattle.euler_operators.specs.declared.Op.TheVariants.{Merge}
 use Rattle.euler_laws.proofs.shared.Goes.{all_hold}
 use Rattle.euler_conditions.specs.Store.{Store, set_solid, take_solid, is_face_of, IsNextFace}
-use Rattle.arena_rows.proofs.owner_chains_laws.Counting.{passes, count-all_where, same_length}
+use Rattle.euler_operators.proofs.Members.{same_length}
 use Rattle.euler_conditions.specs.Ready.{after}
 use Rattle.low_euler.proofs.Faces.{row_there, row_tells}
 

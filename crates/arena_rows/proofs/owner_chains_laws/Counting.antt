@@ -1,52 +1,20 @@
--- The numbers of a table whose rows pass a test, and how many there are where an item comes or goes.
---     count-all_where      how often a number stands in the list of those whose rows pass
---     same_length      lists with the same items have the same length
+-- How many items an owner has, where an item comes or goes.
+--     few      numbers below a bound are no more than the bound
 --     owned-put, owned-remove      how many items an owner has, where one more item has an owner, or one less
-use Rattle.std.proofs.Common.{◌≡◌, ◌≢◌, ℕ, suc, ◌+◌, ◌-◌, ◌≤◌, ◌<◌, Bool, true, false, cond, nat_eq, T, List, [], ◌∷◌, ◌++◌, length, Option, Some, None, is_some, refl, sym, ap, ◌∙◌, arith, eq-eqb, ne_eqb, inl, inr}
+use Rattle.std.proofs.Common.{◌≡◌, ◌≢◌, ℕ, suc, ◌+◌, ◌-◌, ◌≤◌, ◌<◌, Bool, true, false, cond, nat_eq, T, List, [], ◌∷◌, length, Some, None, is_some, refl, sym, ap, ◌∙◌, arith, eq-eqb, ne_eqb, inl, inr}
 use Rattle.std.proofs.lemmas.Bool.Decides.{eqb_tells}
-use Rattle.std.proofs.lemmas.List.{length-append}
 use Rattle.std.specs.Ordering.{nat_cmp}
 use Rattle.std.specs.FinMap.Entries.{find, is_sorted, below_all}
-use Rattle.boundary_model.specs.Items.{count, tick, IsIn, before, after}
-use Rattle.boundary_model.proofs.Lists.{count-append, tick_same, tick_other, split_at}
+use Rattle.boundary_model.specs.Items.{count, tick}
+use Rattle.boundary_model.proofs.Members.{same_length}
+use Rattle.boundary_model.proofs.Lists.{tick_same, tick_other}
 use Rattle.boundary_model.specs.Table.{Table, get, put, remove, all_where, all_in, get-put, get-remove}
-use Rattle.boundary_model.proofs.Tables.{and_left, and_right, put-remove, less_means, find_here, find_later}
+use Rattle.boundary_model.proofs.Tables.{passes, count-all_where, and_left, and_right, put-remove, less_means, find_here, find_later}
 use Rattle.arena_rows.specs.owner_chains.Owners.{owned}
 
 -- ---- the numbers whose rows pass a test
 
-abbrev pub passes : {X : Type 0} → (ℕ → X → Bool) → ℕ → Option X → ℕ
-passes p q None = 0
-passes p q (Some x) = cond (p q x) 1 0
-
 module _ {X : Type 0} where
-  not_below : (k : ℕ) (es : List (ℕ × X)) → T (below_all nat_cmp k es) → find nat_cmp k es ≡ None
-  not_below k [] h = refl
-  not_below k (e ∷ es) h =
-      let l = less_means k e.0 (and_left _ _ h) in
-      let apart : k ≢ e.0 = omega arith in
-      find_later k e es apart ∙ not_below k es (and_right _ _ h)
-
-  pub count-all_where : (p : ℕ → X → Bool) (t : Table X) (q : ℕ) → count q (all_where p t) ≡ passes p q (get t q)
-  unfolding all_where get
-  count-all_where p t q = go t.rows t.rising where
-    go : (es : List (ℕ × X)) → T (is_sorted nat_cmp es) → count q (all_in p es) ≡ passes p q (find nat_cmp q es)
-    go [] s = refl
-    go (e ∷ es) s = elim (eqb_tells q e.0) [
-      | inl a ↦
-          let rest : count q (all_in p es) ≡ 0 = go es (and_right _ _ s) ∙ ap (passes p q) (ap (λ k. find nat_cmp k es) a.1 ∙ not_below e.0 es (and_left _ _ s)) in
-          elim (p e.0 e.1) as (λ b. p e.0 e.1 ≡ b → count q (cond b (e.0 ∷ all_in p es) (all_in p es)) ≡ passes p q (find nat_cmp q (e ∷ es))) [
-            | true ↦ λ h. omega (arith, rest, ap (tick q) (sym a.1), tick_same q, ap (passes p q) (ap (λ k. find nat_cmp k (e ∷ es)) a.1 ∙ find_here e es), ap {B = ℕ} (λ k. cond (p k e.1) 1 0) a.1, ap {B = ℕ} (λ b. cond b 1 0) h)
-            | false ↦ λ h. rest ∙ sym (ap (passes p q) (ap (λ k. find nat_cmp k (e ∷ es)) a.1 ∙ find_here e es) ∙ ap {B = ℕ} (λ k. cond (p k e.1) 1 0) a.1 ∙ ap {B = ℕ} (λ b. cond b 1 0) h)
-          ] refl
-      | inr a ↦
-          let rest : count q (all_in p es) ≡ passes p q (find nat_cmp q (e ∷ es)) = go es (and_right _ _ s) ∙ ap (passes p q) (sym (find_later q e es a.1)) in
-          elim (p e.0 e.1) as (λ b. count q (cond b (e.0 ∷ all_in p es) (all_in p es)) ≡ passes p q (find nat_cmp q (e ∷ es))) [
-            | true ↦ omega (arith, rest, tick_other q e.0 a.1)
-            | false ↦ rest
-          ]
-    ]
-
   -- numbers below a bound: there are no more than the bound
   pub few : (p : ℕ → X → Bool) (t : Table X) (end : ℕ) → ((q : ℕ) → is_some (get t q) ≡ true → q < end) → length (all_where p t) ≤ end
   unfolding all_where get
@@ -75,20 +43,6 @@ module _ {X : Type 0} where
         let m = below e.0 (ap is_some (find_here e es)) in
         let r = from e.0 es (and_right _ _ s) (and_left _ _ s) (λ q h. below q (later e es (and_left _ _ s) q h)) in
         omega (arith, length-cond (p e.0 e.1) e.0 (all_in p es), m, r)
-
--- ---- lists with the same items
-
-length-split : (x : ℕ) (ps qs : List ℕ) → length (ps ++ x ∷ qs) ≡ 1 + length (ps ++ qs)
-length-split x ps qs = omega (arith, length-append ps (x ∷ qs), length-append ps qs)
-
-pub same_length : (xs ys : List ℕ) → ((x : ℕ) → count x xs ≡ count x ys) → length xs ≡ length ys
-same_length [] [] h = refl
-same_length [] (y ∷ ys) h = absurd (omega (arith, h y, tick_same y))
-same_length (x ∷ xs) ys h =
-    let i : IsIn x ys = omega (arith, h x, tick_same x) in
-    let e = split_at x ys i in
-    let r = same_length xs (before x ys ++ after x ys) (λ q. omega (arith, h q, ap (count q) e, count-append q (before x ys) (x ∷ after x ys), count-append q (before x ys) (after x ys))) in
-    omega (arith, r, ap (λ (zs : List ℕ). length zs) e, length-split x (before x ys) (after x ys))
 
 -- ---- the items of an owner
 
