@@ -37,7 +37,8 @@ def _directions(model: Model, face: int) -> Iterator[Finding]:
 
 def _places(model: Model, face: int) -> Iterator[Finding]:
     """Rings outside the outer loop, or in other rings."""
-    outer, *rings = (_FlatLoop(model, loop, normal(model, face)) for loop in model.faces[face].loops)
+    across = normal(model, face)
+    outer, *rings = (_FlatLoop(model, loop, across) for loop in model.faces[face].loops)
     boxes = BoxIndex({ring: ring.box for ring in rings})
     for ring in rings:
         vertex = ring.first_at(Place.OUTSIDE, outer)

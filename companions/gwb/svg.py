@@ -61,6 +61,7 @@ class _Drawing:
         self._scene = Scene(model, view)
         self._frame = _Frame(list(self._scene.spots.values()), view)
         self._touched = touched_edges(model)
+        self._normals = {face: normal(model, face) for face in model.faces}
         self._pieces = {edge: self._scene.pieces(edge) for edge in model.edges}
 
     def lines(self, names: bool, hidden: bool) -> Iterator[str]:
@@ -89,8 +90,7 @@ class _Drawing:
 
     def _is_seam(self, edge: int) -> bool:
         """Whether the edge lies within a plane: between two faces that look the same way, or within one face."""
-        one, other = (self._model.face_of(half) for half in (edge, -edge))
-        across, beyond = normal(self._model, one), normal(self._model, other)
+        across, beyond = (self._normals[self._model.face_of(half)] for half in (edge, -edge))
         return across != ZERO and beyond != ZERO and same_direction(across, beyond)
 
     def _line(self, edge: int, piece: Piece) -> str:
@@ -132,7 +132,7 @@ class _Drawing:
         point, weight = _middle(self._model, face, self._touched)
         spot = self._view.spot(point)
         x, y = self._frame.place(spot[0] / weight, spot[1] / weight)
-        turned = dot(normal(self._model, face), self._view.into) > 0
+        turned = dot(self._normals[face], self._view.into) > 0
         return _text('face', face, x, y + (17 if turned else 4), away=turned or self._scene.is_hidden(point, spot, weight))
 
 

@@ -5,7 +5,7 @@ Only vertices of the model become corners of triangles, so faces that share an e
 
 from collections import deque
 from heapq import heapify, heappop
-from typing import Deque, Iterator, List, Optional, Sequence, Tuple
+from typing import Iterator, List, Optional, Sequence, Tuple
 
 from .box_index import BoxIndex, box_of
 from .errors import Unfit
@@ -161,22 +161,19 @@ class _EarCutter:
     def triangles(self) -> List[Triangle]:
         """The triangles as places in the path."""
         found: List[Triangle] = []
-        waiting: Deque[int] = deque(range(len(self._points)))
+        waiting = deque(range(len(self._points)))
         failures = 0
         while self._left > 2:
             if failures > len(waiting):
                 raise Unfit('its loops cross')
             tip = waiting.popleft()
-            if self._cut[tip]:
-                continue
-            if not self._is_ear(tip):
+            if self._is_ear(tip):
+                found.append((self._before[tip], tip, self._after[tip]))
+                self._cut_off(tip)
+                failures = 0
+            else:
                 waiting.append(tip)
                 failures += 1
-                continue
-            found.append((self._before[tip], tip, self._after[tip]))
-            waiting.extend((self._before[tip], self._after[tip]))
-            self._cut_off(tip)
-            failures = 0
         return found
 
     def _turn(self, tip: int) -> int:
