@@ -1,10 +1,12 @@
 """Complaints are explained, and replies that aren't those of the script are refused."""
 
 import os
+import re
+import subprocess
 import tempfile
 import unittest
 
-from support import REPOSITORY, run, scripts
+from support import REPOSITORY, program, run, scripts
 
 from gwb.errors import NotReplies
 from gwb.explain import annotated, complaints, join
@@ -116,6 +118,13 @@ class Language(unittest.TestCase):
         for name, text in REFUSALS.values():
             self.assertIn(name, language)
             self.assertLessEqual(text.count('{}'), 1)
+
+    def test_the_program_has_the_same_names(self):
+        shown = subprocess.run([program(), '--help'], stdout=subprocess.PIPE, check=True).stdout.decode()
+        named = dict(re.findall(r'(\d+) ([A-Z]\w+)', shown.split('Refusals:')[1].split('Faults:')[0]))
+        self.assertEqual(named, {str(number): name for number, (name, _) in REFUSALS.items()})
+        named = dict(re.findall(r'(\d+) ([A-Z]\w+)', shown.split('Faults:')[1].split('\n\n')[0]))
+        self.assertEqual(named, {str(number): meaning.name for number, meaning in FAULTS.items()})
 
 
 class Scripts(unittest.TestCase):

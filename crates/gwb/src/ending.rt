@@ -2,7 +2,7 @@
 ghost use Rattle.std.specs.Prelude.{◌≡◌, ◌⊎◌};
 ghost use Rattle.clap.specs.Words.{kind_of};
 ghost use Rattle.clap.specs.declared.error.kind.ErrorKind.TheVariants as kind;
-ghost use Rattle.gwb.specs.Endings.{status};
+ghost use Rattle.gwb.specs.Endings.{complains, status, trouble_of, trouble_told};
 
 use crate::words::WordsFault;
 use clap::error::ErrorKind;
@@ -23,18 +23,46 @@ pub enum Trouble {
     Run(RunFault),
 }
 
+/// Refused memory is no mistake in the words.
 impl From<WordsFault> for Trouble {
+    ghost from_gives = { λ fault trouble. trouble ≡ trouble_of fault };
+
     fn from(fault: WordsFault) -> Trouble {
         match fault {
-            WordsFault::Line(error) if error.kind() != ErrorKind::OutOfMemory => Trouble::Words(
-                error,
-            ),
-            WordsFault::Line(_) | WordsFault::Memory(_) => Trouble::Run(RunFault::Memory),
+            WordsFault::Line(error) => match error.kind() {
+                ErrorKind::OutOfMemory => Trouble::Run(RunFault::Memory),
+                _ => Trouble::Words(error),
+            },
+            WordsFault::Memory(_) => Trouble::Run(RunFault::Memory),
         }
     }
 }
 
-/// The exit status: 0 and 1 behind a whole run, without and with a reply that begins with `refused`, `fault` or `memory`;
+impl Trouble {
+    /// The trouble of clap's text, once it was printed or could not be: help that can't be written is a write fault.
+    pub(crate) fn told(error: clap::Error, is_printed: bool) -> Trouble
+        ensures { result ≡ trouble_told error is_printed }
+    {
+        match error.kind() {
+            ErrorKind::DisplayHelp | ErrorKind::DisplayVersion if !is_printed => Trouble::Run(
+                RunFault::Write,
+            ),
+            _ => Trouble::Words(error),
+        }
+    }
+
+    /// Whether the program says on standard error why it ends; clap's text says it by itself.
+    pub(crate) fn complains(&self) -> bool
+        ensures { result ≡ complains self.now }
+    {
+        match self {
+            Trouble::Words(_) => false,
+            Trouble::Open | Trouble::Run(_) => true,
+        }
+    }
+}
+
+/// The exit status: 0 and 1 after a whole run, without and with a reply that begins with `refused`, `fault` or `memory`;
 /// 0 where help or the version was asked for, 2 where the words were refused, and else 3.
 pub fn status_of(ended: &Result<Summary, Trouble>) -> u8
     ensures { result ≡ status ended.now }

@@ -5,15 +5,17 @@
 //! then standard error has one line.
 #![tactic(auto)]
 
+ghost use Rattle.gwb.specs.Endings.{Answered};
+
 mod ending;
 mod words;
 
 pub use ending::{Trouble, status_of};
 pub use script_running::{RunFault, Summary, run};
-use std::alloc::AllocError;
+use std::alloc::{AllocError, Global};
 use std::env;
 use std::fs::File;
-use std::io::{BufWriter, ErrorKind, Read};
+use std::io::{BufWriter, ErrorKind, Read, Write};
 use std::process::ExitCode;
 use words::not_text;
 pub use words::{Choice, WordsFault, read_words};
@@ -37,31 +39,36 @@ fn choice(rt: &HostRuntime) -> Result<Choice, WordsFault> {
     read_words(rt.alloc(), words.as_slice())
 }
 
-/// Prints clap's text. Help that can't be written is a write fault.
+/// Prints clap's text.
 fn shown(rt: &HostRuntime, error: clap::Error) -> Trouble {
-    match error.print(rt) {
-        Err(_) if !error.use_stderr() => Trouble::Run(RunFault::Write),
-        _ => Trouble::Words(error),
-    }
+    let is_printed = error.print(rt).is_ok();
+    Trouble::told(error, is_printed)
 }
 
-/// Answers a script on standard output.
-fn answer<R: Read + Drop>(rt: &HostRuntime, script: R, stop: bool) -> Result<Summary, Trouble> {
+/// Answers a script.
+fn answer<R: Read + Drop, W: Write>(
+    alloc: Global,
+    script: R,
+    writer: &mut W,
+    stop: bool,
+) -> Result<Summary, Trouble>
+    ensures { Answered (R.remaining script) (W.contents writer.old) (W.contents writer.new) stop result }
+{
+    run(alloc, script, writer, stop).map_err(Trouble::Run)
+}
+
+/// Reads the command line, opens the script and answers it on standard output.
+fn serve(rt: &HostRuntime) -> Result<Summary, Trouble> {
+    let choice = choice(rt)?;
     let mut writer = BufWriter::new(rt.alloc(), rt.stdout()).map_err(|_| Trouble::Run(
         RunFault::Memory,
     ))?;
-    run(rt.alloc(), script, &mut writer, stop).map_err(Trouble::Run)
-}
-
-/// Reads the command line, opens the script and answers it.
-fn serve(rt: &HostRuntime) -> Result<Summary, Trouble> {
-    let choice = choice(rt)?;
     match &choice.file {
         Some(name) => {
             let script = File::open(rt, name).map_err(|_| Trouble::Open)?;
-            answer(rt, script, choice.stop)
+            answer(rt.alloc(), script, &mut writer, choice.stop)
         }
-        None => answer(rt, rt.stdin(), choice.stop),
+        None => answer(rt.alloc(), rt.stdin(), &mut writer, choice.stop),
     }
 }
 
@@ -70,8 +77,10 @@ fn main(rt: HostRuntime) -> ExitCode {
         Err(Trouble::Words(error)) => Err(shown(&rt, error)),
         ended => ended,
     };
-    if let Err(trouble @ (Trouble::Open | Trouble::Run(_))) = &ended {
-        let _ = eprintln!(rt; "gwb: {trouble}");
+    if let Err(trouble) = &ended {
+        if trouble.complains() {
+            let _ = eprintln!(rt; "gwb: {trouble}");
+        }
     }
     ExitCode::from(status_of(&ended))
 }

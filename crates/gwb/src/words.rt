@@ -15,7 +15,7 @@ use thiserror::Error;
 /// What the command line asks for.
 #[derive(Debug, PartialEq, Eq, Drop)]
 pub struct Choice {
-    /// Whether the run ends behind the first reply that begins with `refused`, `fault` or `memory`.
+    /// Whether the run ends after the first reply that begins with `refused`, `fault` or `memory`.
     pub stop: bool,
     /// The script's file; standard input where there is none.
     pub file: Option<String>,
@@ -58,7 +58,24 @@ Commands, one a line (S, F, L, E, V are numbers of a solid, face, loop, edge, ve
   undo, redo, list                  back, forth, the model held
 HALF is + or - and an edge number; CORNER is a HALF or @ and a lone loop's number.
 
-Replies: ok, refused N X (condition N is false, with its value), fault N (no command), memory.
+Replies: ok; refused N X, where condition N is the first false one and X its value; fault N, where the line is no command; memory,
+where memory was refused; or what a query asks for. After refused, fault and memory the model is as it was.
+
+Refusals:
+   1 NumberRange       12 NotBare           23 NotRing           34 NoMatch
+   2 NoSolid           13 NotLone           24 DifferentSolids   35 PlaneRange
+   3 NoFace            14 DifferentTails    25 NothingToUndo     36 PlaneMisses
+   4 NoLoop            15 ParallelEdge      26 NothingToRedo     37 NotLattice
+   5 NoEdge            16 KeptEndBare       27 NumbersSpent      38 TouchedFace
+   6 SolidTaken        17 DifferentLoops    28 FewPoints         39 CutOften
+   7 FaceTaken         18 SameTail          29 ZeroSweep         40 CutCrossed
+   8 LoopTaken         19 SameFace          30 LoneLoop          41 BranchedVertex
+   9 EdgeTaken         20 HasRings          31 SameSolid         42 SectionHoles
+  10 VertexTaken       21 SameLoop          32 NotFlat           43 SizeRange
+  11 PointRange        22 DifferentFaces    33 RepeatedPoint     44 BadPart
+
+Faults:
+   1 BadWord   2 BadNumber   3 MissingWord   4 ExtraWord   5 NotAscii   6 LongLine
 
 Exit status:
   0  the script was run, and no reply begins with refused, fault or memory
@@ -77,7 +94,7 @@ fn stop_flag<'a>(alloc: Global) -> Arg<'a>
     Arg::new(alloc, "stop")
         .long("stop")
         .action(ArgAction::SetTrue)
-        .help("End behind the first reply that begins with refused, fault or memory")
+        .help("End after the first reply that begins with refused, fault or memory")
 }
 
 /// `FILE`.
