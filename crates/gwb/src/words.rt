@@ -58,8 +58,9 @@ Commands, one a line (S, F, L, E, V are numbers of a solid, face, loop, edge, ve
   undo, redo, list                  back, forth, the model held
 HALF is + or - and an edge number; CORNER is a HALF or @ and a lone loop's number.
 
-Replies: ok; refused N X, where condition N is the first false one and X its value; fault N, where the line is no command; memory,
-where memory was refused; or what a query asks for. After refused, fault and memory the model is as it was.
+Replies: ok; refused N X, where condition N is the first false one and X its value; fault N, where the
+line is no command; memory, where memory was refused; or what a query asks for. After refused, fault and
+memory the model is as it was.
 
 Refusals:
    1 NumberRange       12 NotBare           23 NotRing           34 NoMatch
