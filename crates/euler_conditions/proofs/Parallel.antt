@@ -10,9 +10,10 @@ use Rattle.euler_operators.proofs.Rotations.{count-rotate_to}
 use Rattle.euler_operators.proofs.Places.{walk_done, walk_on, walk_over}
 use Rattle.euler_operators.specs.HalfEdge.{mate, edge_of, plus, minus}
 use Rattle.euler_operators.specs.Table as table
+use Rattle.euler_operators.specs.Table.{first_where}
 use Rattle.euler_operators.specs.Model.{Model, EdgeRow, tail, after, round, is_number}
 use Rattle.euler_operators.specs.Sound.{Sound, HasHalf}
-use Rattle.euler_operators.proofs.Halves.{plus_row, minus_row, mate_plus, mate_minus}
+use Rattle.euler_operators.proofs.Halves.{plus_row, minus_row, mate_plus, mate_minus, mate-mate, edge_of-mate}
 use Rattle.euler_operators.proofs.Models.{plus_tail_row, minus_tail_row}
 use Rattle.euler_operators.proofs.Tables.{first_where_zero, row_some}
 use Rattle.euler_operators.proofs.Members.{IsIn_push}
@@ -194,3 +195,44 @@ module _ (M : Model) (sound : Sound M) (h : ℕ) (there : HasHalf M h) where
   pub walk_ended : (least g n : ℕ) → HalfSeen M h far least g n → n ≡ 0 → least ≡ parallel M h
   unfolding whole
   walk_ended least g n w z = all_walked least (subst (Seen M h far least) (sym (walk_over (round M) h g n whole w.met w.walked z)) w.seen)
+
+-- ---- a step of a walk that has counted its steps
+
+module _ (M : Model) (sound : Sound M) (h : ℕ) (there : HasHalf M h) (f : ℕ) (ends : f ≡ tail M (mate h)) (old least g x n k : ℕ) (w : HalfSeen M h f old g n)
+    (counts : n ≡ k + 1) (found : least ≡ cond (leads_to M h f g) (lesser old (edge_of g)) old) (goes : x ≡ round M g) where
+  pub step_closed : x ≡ h → least ≡ parallel M h
+  step_closed e = subst (λ d. HalfSeen M h d old g n → (least ≡ cond (leads_to M h d g) (lesser old (edge_of g)) old) → least ≡ parallel M h) (sym ends)
+      (λ v i. walk_closed M sound h there old least g n k v counts i (sym goes ∙ e)) w found
+
+  pub step_more : x ≢ h → HasHalf M x → HalfSeen M h f least x k
+  step_more ne t = subst (λ d. HalfSeen M h d old g n → (least ≡ cond (leads_to M h d g) (lesser old (edge_of g)) old) → HalfSeen M h d least x k) (sym ends)
+      (λ v i. subst (λ y. HalfSeen M h (tail M (mate h)) least y k) (sym goes) (walk_more M sound h there old least g n k v counts i (λ e. ne (goes ∙ e)) (subst (HasHalf M) goes t))) w found
+
+-- ---- the other end
+
+or_turned : (a b : Bool) → (a || b) ≡ (b || a)
+or_turned true true = refl
+or_turned true false = refl
+or_turned false true = refl
+or_turned false false = refl
+
+-- the edges beside a half-edge are those beside its mate
+pub parallel_turned : (M : Model) (h : ℕ) → parallel M (mate h) ≡ parallel M h
+parallel_turned M h = λ i. first_where (λ e row. turned e row i) M.edges where
+  near : ℕ
+  near = tail M h
+
+  far : ℕ
+  far = tail M (mate h)
+
+  joins : EdgeRow → ℕ → ℕ → Bool
+  joins row a b = nat_eq row.plus_tail a && nat_eq row.minus_tail b
+
+  turned : (e : ℕ) (row : EdgeRow) → (not (nat_eq e (edge_of (mate h))) && (joins row far (tail M (mate (mate h))) || joins row (tail M (mate (mate h))) far)) ≡ (not (nat_eq e (edge_of h)) && (joins row near far || joins row far near))
+  turned e row =
+      ap (λ d. not (nat_eq e d) && (joins row far (tail M (mate (mate h))) || joins row (tail M (mate (mate h))) far)) (edge_of-mate h)
+      ∙ ap (λ k. not (nat_eq e (edge_of h)) && (joins row far (tail M k) || joins row (tail M k) far)) (mate-mate h)
+      ∙ ap (λ b. not (nat_eq e (edge_of h)) && b) (or_turned (joins row far near) (joins row near far))
+
+pub mate_there : (M : Model) (h m : ℕ) → HasHalf M h → m ≡ mate h → HasHalf M m
+mate_there M h m t e = ap (λ x. table.has M.edges (edge_of x)) e ∙ ap (table.has M.edges) (edge_of-mate h) ∙ t

@@ -1,6 +1,6 @@
 //! What an arena says of the two ends of an edge.
-ghost use Rattle.std.specs.Prelude.{◌≡◌, true};
-ghost use Rattle.euler_operators.specs.HalfEdge.{code};
+ghost use Rattle.std.specs.Prelude.{◌≡◌, true, cond};
+ghost use Rattle.euler_operators.specs.HalfEdge.{code, edge_of};
 ghost use Rattle.euler_operators.specs.Model.{round, tail};
 ghost use Rattle.halfedge_arena.specs.Store.{has_number};
 ghost use Rattle.euler_operators.specs.Conditions.{kept_end_bare, parallel};
@@ -46,22 +46,40 @@ fn lesser(least: u32, edge: u32) -> u32
     if least == 0 { edge } else { least.min(edge) }
 }
 
-/// The least other edge with the same two ends, or 0. It leaves the vertex at which h starts, so one walk round it is enough.
+/// The lesser of `least` and the edge of g, where g leads to `far` by another edge than h, and else `least`.
+fn seen(arena: &Arena, h: HalfEdge, far: u32, least: u32, g: HalfEdge) -> u32
+    requires { has_number arena.now Kind.Edge g.edge ≡ true }
+    ensures { result ≡ cond (leads_to arena.now.model (code h) far (code g)) (lesser least (edge_of (code g))) least }
+{
+    if leads_to(arena, h, far, g) {
+        lesser(least, g.edge)
+    } else {
+        least
+    }
+}
+
+/// The least other edge with the same two ends, or 0. It leaves both of them, so one walk round either is enough: both are
+/// walked round in step, and the shorter walk ends it.
 pub(crate) fn parallel(arena: &Arena, h: HalfEdge) -> u32
     requires ready { IsReady arena.now }
     requires there { has_number arena.now Kind.Edge h.edge ≡ true }
     ensures { result ≡ parallel arena.now.model (code h) }
 {
-    let far = halves::tail(arena, halves::mate(h));
-    let mut least = 0;
-    let mut g = h;
+    let mate = halves::mate(h);
+    let far = halves::tail(arena, mate);
+    let near = halves::tail(arena, h);
+    let (mut g, mut least) = (h, 0);
+    let (mut opposite, mut opposite_least) = (mate, 0);
     'round: for _ in 0..HALF_EDGE_CODES {
-        if leads_to(arena, h, far, g) {
-            least = lesser(least, g.edge);
-        }
+        least = seen(arena, h, far, least, g);
         g = round(arena, g);
         if halves::same(g, h) {
             return least;
+        }
+        opposite_least = seen(arena, mate, near, opposite_least, opposite);
+        opposite = round(arena, opposite);
+        if halves::same(opposite, mate) {
+            return opposite_least;
         }
     }
     least
