@@ -1,6 +1,6 @@
 -- Lines that grow by a word.
-use Rattle.std.proofs.Common.{◌≡◌, ℕ, ◌+◌, ◌<◌, List, [], ◌∷◌, ◌++◌, map, take, length, get_or, refl, sym, ap, ◌∙◌, append_assoc}
-use Rattle.std.proofs.lemmas.List.{append-nil, map_more}
+use Rattle.std.proofs.Common.{◌≡◌, ℕ, ◌+◌, ◌<◌, List, [], ◌∷◌, ◌++◌, map, drop, length, get_or, refl, sym, ap, ◌∙◌, append_assoc}
+use Rattle.std.proofs.lemmas.List.{append-nil, drop_more}
 use Rattle.solid_listing.specs.Lines.{spaced, line_text}
 
 pub spaced-append : (vs ws : List (List ℕ)) → spaced (vs ++ ws) ≡ spaced vs ++ spaced ws
@@ -10,12 +10,11 @@ spaced-append (v ∷ vs) ws = ap (λ (t : List ℕ). 32 ∷ (v ++ t)) (spaced-ap
 pub spaced_one : (w : List ℕ) → spaced (w ∷ []) ≡ 32 ∷ w
 spaced_one w = ap (λ (t : List ℕ). 32 ∷ t) (append-nil w)
 
--- one word more
-pub spaced_more : {X : Type 0} (f : X → List ℕ) (base : List ℕ) (xs : List X) (i : ℕ) (d : X) → i < length xs → base ++ spaced (map f (take (i + 1) xs)) ≡ (base ++ spaced (map f (take i xs))) ++ (32 ∷ f (get_or xs i d))
-spaced_more f base xs i d h =
-    ap (λ (ws : List (List ℕ)). base ++ spaced ws) (map_more f xs i d h)
-    ∙ ap (λ (t : List ℕ). base ++ t) (spaced-append (map f (take i xs)) (f (get_or xs i d) ∷ []) ∙ ap (λ (t : List ℕ). spaced (map f (take i xs)) ++ t) (spaced_one (f (get_or xs i d))))
-    ∙ sym (append_assoc base (spaced (map f (take i xs))) (32 ∷ f (get_or xs i d)))
+-- the next word of those to come
+pub spaced_next : {X : Type 0} (f : X → List ℕ) (xs : List X) (i : ℕ) (x : X) → i < length xs → x ≡ get_or xs i x → spaced (map f (drop i xs)) ≡ (32 ∷ f x) ++ spaced (map f (drop (i + 1) xs))
+spaced_next f xs i x h is =
+    ap (λ ys. spaced (map f ys)) (drop_more xs i x h)
+    ∙ ap (λ y. 32 ∷ (f y ++ spaced (map f (drop (i + 1) xs)))) (sym is)
 
 -- a last word and the newline, put behind a line's words
 pub last_word : (w v : List ℕ) (vs : List (List ℕ)) → (w ++ spaced vs) ++ ((32 ∷ v) ++ 10 ∷ []) ≡ line_text (w ∷ (vs ++ v ∷ []))

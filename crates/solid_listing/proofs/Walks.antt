@@ -1,15 +1,15 @@
 -- What an arena answers as a walk goes from a number to the next.
-use Rattle.std.proofs.Common.{◌≡◌, ℕ, ◌<◌, Bool, true, false, not, ◌&&◌, nat_eq, [], ◌∷◌, Option, Some, None, is_some, unwrap_or, refl, sym, ◌∙◌, arith}
+use Rattle.std.proofs.Common.{◌≡◌, ℕ, ◌<◌, true, false, [], ◌∷◌, Some, None, sym, ◌∙◌, arith}
 use Rattle.std.proofs.lemmas.Bool.Decides.{nat_tests}
 use Rattle.euler_operators.specs.declared.Kind.{Kind}
 use Rattle.euler_operators.specs.declared.Kind.TheVariants.{Solid, Face, Loop, Edge, Vertex}
-use Rattle.euler_operators.specs.Table.{Table, get, has, numbers}
-use Rattle.euler_operators.specs.Model.{Model, LoopRow, no_loop, face_of, outer, rings_of, is_ring_of, is_number}
+use Rattle.euler_operators.specs.Table.{Table, has, numbers}
+use Rattle.euler_operators.specs.Model.{Model, is_number}
 use Rattle.euler_operators.specs.Sound.{Sound, NumbersFit}
-use Rattle.euler_conditions.specs.Store.{Store, IsNextNumber, IsNextRing}
+use Rattle.euler_conditions.specs.Store.{Store, IsNextNumber}
 use Rattle.solid_listing.specs.Listing.{numbers_of}
-use Rattle.solid_walks.proofs.face_walks_laws.Above.{above, member, all_above, next_above, none_above, all_above_members}
-use Rattle.solid_walks.proofs.face_walks_laws.TableWalks.{passes, rising_numbers, member_numbers, rising_passing, member_passing}
+use Rattle.solid_walks.proofs.face_walks_laws.Above.{above, all_above, next_above, none_above, all_above_members}
+use Rattle.solid_walks.proofs.face_walks_laws.TableWalks.{rising_numbers, member_numbers}
 
 -- the numbers of a table
 module _ {X : Type 0} (t : Table X) where

@@ -8,22 +8,19 @@ ghost use Rattle.solid_listing.specs.Lines.{spaced};
 ghost use Rattle.solid_listing.specs.Listing.{half_word};
 ghost use Rattle.solid_listing.specs.Writing.{Puts};
 
-use crate::text::{Text, append, append_digits};
+use crate::text::put_number;
 use crate::writing::{WriteFault, put};
-use arrayvec::ArrayVec;
 use euler_conditions::Arena;
 use euler_operators::HalfEdge;
 use solid_walks::least_item;
 use std::io::Write;
 
-/// A space and a half-edge: its sign and its edge.
-fn half_text(h: HalfEdge) -> Text
-    ensures { result.items ≡ 32 ∷ half_word (code h) }
+/// Writes a space and a half-edge: its sign and its edge.
+fn put_half<W: Write>(writer: &mut W, h: HalfEdge) -> Result<(), WriteFault>
+    ensures { Puts (W.contents writer.old) (W.contents writer.new) (32 ∷ half_word (code h)) result }
 {
-    let mut text = ArrayVec::new();
-    append(&mut text, if h.first { b" +" } else { b" -" });
-    append_digits(&mut text, h.edge);
-    text
+    put(writer, if h.first { b" +" } else { b" -" })?;
+    put_number(writer, h.edge)
 }
 
 /// Writes the half-edges of a loop, each after a space, from its least one on, which is given.
@@ -35,7 +32,7 @@ fn write_from<W: Write>(arena: &Arena, first: HalfEdge, writer: &mut W) -> Resul
 {
     let mut at = first;
     'round: loop {
-        put(writer, half_text(at).as_slice())?;
+        put_half(writer, at)?;
         at = arena.next(at);
         if at == first {
             return Ok(());

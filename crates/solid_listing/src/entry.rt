@@ -8,31 +8,35 @@ ghost use Rattle.solid_listing.specs.Listing.{line, content_words};
 ghost use Rattle.solid_listing.specs.Writing.{Puts};
 
 use crate::cycle::write_cycle;
-use crate::text::{Text, line, words};
+use crate::text::{put_line, put_spaced, put_words};
 use crate::writing::{WriteFault, put};
 use euler_conditions::Arena;
 use euler_operators::{Content, HalfEdge, Kind};
 use std::io::Write;
 
-/// The line of an edge.
-fn edge_line(arena: &Arena, e: u32) -> Text
+/// Writes the line of an edge.
+fn write_edge<W: Write>(arena: &Arena, e: u32, writer: &mut W) -> Result<(), WriteFault>
     requires { has_number arena.now Kind.Edge e ≡ true }
-    ensures { result.items ≡ line_text (line arena.now.model Kind.Edge e) }
+    ensures { Puts (W.contents writer.old) (W.contents writer.new) (line_text (line arena.now.model Kind.Edge e)) result }
 {
     let plus = HalfEdge {
         edge: e,
         first: true,
     };
-    line(b"edge", &[e, arena.tail(plus), arena.tail(plus.mate())])
+    put_line(
+        writer,
+        b"edge",
+        &[e, arena.tail(plus), arena.tail(plus.mate())],
+    )
 }
 
-/// The line of a vertex.
-fn vertex_line(arena: &Arena, v: u32) -> Text
+/// Writes the line of a vertex.
+fn write_vertex<W: Write>(arena: &Arena, v: u32, writer: &mut W) -> Result<(), WriteFault>
     requires { has_number arena.now Kind.Vertex v ≡ true }
-    ensures { result.items ≡ line_text (line arena.now.model Kind.Vertex v) }
+    ensures { Puts (W.contents writer.old) (W.contents writer.new) (line_text (line arena.now.model Kind.Vertex v)) result }
 {
     let p = arena.point(v);
-    line(b"vertex", &[i64::from(v), p.x, p.y, p.z])
+    put_line(writer, b"vertex", &[i64::from(v), p.x, p.y, p.z])
 }
 
 /// Writes the rings of a face, each after a space. For a face without rings it looks at no loop.
@@ -46,7 +50,7 @@ fn write_rings<W: Write>(arena: &Arena, f: u32, writer: &mut W) -> Result<(), Wr
     }
     let mut above = 0;
     while let Some(l) = arena.ring_after(f, above) {
-        put(writer, words(b"", &[l]).as_slice())?;
+        put_spaced(writer, l)?;
         above = l;
     }
     Ok(())
@@ -58,8 +62,7 @@ fn write_face<W: Write>(arena: &Arena, f: u32, writer: &mut W) -> Result<(), Wri
     requires there { has_number arena.now Kind.Face f ≡ true }
     ensures { Puts (W.contents writer.old) (W.contents writer.new) (line_text (line arena.now.model Kind.Face f)) result }
 {
-    let head = words(b"face", &[f, arena.solid_of(f), arena.outer(f)]);
-    put(writer, head.as_slice())?;
+    put_words(writer, b"face", &[f, arena.solid_of(f), arena.outer(f)])?;
     write_rings(arena, f, writer)?;
     put(writer, b"\n")
 }
@@ -71,7 +74,7 @@ fn write_content<W: Write>(arena: &Arena, l: u32, writer: &mut W) -> Result<(), 
     ensures { Puts (W.contents writer.old) (W.contents writer.new) (spaced (content_words (content arena.now.model l))) result }
 {
     match arena.content(l) {
-        Content::Lone(v) => put(writer, words(b" at", &[v]).as_slice()),
+        Content::Lone(v) => put_words(writer, b" at", &[v]),
         Content::Ring(h) => write_cycle(arena, h, writer),
     }
 }
@@ -82,7 +85,7 @@ fn write_loop<W: Write>(arena: &Arena, l: u32, writer: &mut W) -> Result<(), Wri
     requires there { has_number arena.now Kind.Loop l ≡ true }
     ensures { Puts (W.contents writer.old) (W.contents writer.new) (line_text (line arena.now.model Kind.Loop l)) result }
 {
-    put(writer, words(b"loop", &[l]).as_slice())?;
+    put_words(writer, b"loop", &[l])?;
     write_content(arena, l, writer)?;
     put(writer, b"\n")
 }
@@ -99,10 +102,10 @@ pub fn write_entry<W: Write>(
     ensures { Puts (W.contents writer.old) (W.contents writer.new) (line_text (line arena.now.model kind n)) result }
 {
     match kind {
-        Kind::Solid => put(writer, line(b"solid", &[n]).as_slice()),
+        Kind::Solid => put_line(writer, b"solid", &[n]),
         Kind::Face => write_face(arena, n, writer),
         Kind::Loop => write_loop(arena, n, writer),
-        Kind::Edge => put(writer, edge_line(arena, n).as_slice()),
-        Kind::Vertex => put(writer, vertex_line(arena, n).as_slice()),
+        Kind::Edge => write_edge(arena, n, writer),
+        Kind::Vertex => write_vertex(arena, n, writer),
     }
 }

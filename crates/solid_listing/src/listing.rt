@@ -43,7 +43,7 @@ fn write_lines<W: Write>(arena: &Arena, writer: &mut W) -> Result<(), WriteFault
 /// Writes the listing of a model: a line for each solid, face, loop, edge and vertex, each kind by rising number,
 /// or the line `empty`. It takes no memory.
 ///
-/// A fault comes where a write fails or takes no byte; what went out is then a front of the listing.
+/// A fault comes where a write fails or takes no byte; what went out is then a prefix of the listing.
 pub fn write_listing<W: Write>(arena: &Arena, writer: &mut W) -> Result<(), WriteFault>
     requires sound { Sound arena.now.model }
     ensures { Puts (W.contents writer.old) (W.contents writer.new) (listing arena.now.model) result }

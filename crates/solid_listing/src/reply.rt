@@ -1,11 +1,10 @@
 //! Replies.
-ghost use Rattle.std.specs.Prelude.{◌≡◌, ◌≤◌, ◌++◌, codes};
-ghost use Rattle.arrayvec.specs.ArrayVec.{array_vec_len};
+ghost use Rattle.std.specs.Prelude.{◌++◌, codes};
 ghost use Rattle.solid_listing.specs.Lines.{spaced};
 ghost use Rattle.solid_listing.specs.Replies.{coefficient_words, reply_text};
 ghost use Rattle.solid_listing.specs.Writing.{Puts};
 
-use crate::text::{Text, append, line, words};
+use crate::text::{put_line, put_words};
 use crate::writing::{WriteFault, put};
 use euler_operators::Plane;
 use std::io::Write;
@@ -29,44 +28,35 @@ pub enum Reply {
     Count([i64; 5]),
 }
 
-/// The line of a plane, but for its last word.
-fn coefficients(plane: &Plane) -> Text
-    ensures items { result.items ≡ codes "plane" ++ spaced (coefficient_words plane.now) }
-    ensures len { array_vec_len result ≤ 169 }
+/// Writes the line of a plane, but for its last word.
+fn write_coefficients<W: Write>(plane: &Plane, writer: &mut W) -> Result<(), WriteFault>
+    ensures { Puts (W.contents writer.old) (W.contents writer.new) (codes "plane" ++ spaced (coefficient_words plane.now)) result }
 {
-    words(b"plane", &[plane.a, plane.b, plane.c, plane.d])
+    put_words(writer, b"plane", &[plane.a, plane.b, plane.c, plane.d])
 }
 
-/// The line of a face's plane.
-fn plane_line(plane: &Plane, flat: bool) -> Text
-    ensures { result.items ≡ reply_text (Reply.Plane plane.now flat) }
+/// Writes the line of a face's plane.
+fn write_plane<W: Write>(plane: &Plane, flat: bool, writer: &mut W) -> Result<(), WriteFault>
+    ensures { Puts (W.contents writer.old) (W.contents writer.new) (reply_text (Reply.Plane plane.now flat)) result }
 {
-    let mut text = coefficients(plane);
-    append(&mut text, if flat { b" flat\n" } else { b" bent\n" });
-    text
-}
-
-/// The line of a reply.
-#[tactic(auto, unfolding(crate::specs::Replies::reply_text))]
-fn line_of(reply: &Reply) -> Text
-    ensures { result.items ≡ reply_text reply.now }
-{
-    match reply {
-        Reply::Done => line::<u32>(b"ok", &[]),
-        Reply::Refused(why, value) => line(b"refused", &[*why, *value]),
-        Reply::Fault(cause) => line(b"fault", &[*cause]),
-        Reply::Memory => line::<u32>(b"memory", &[]),
-        Reply::Plane(plane, flat) => plane_line(plane, *flat),
-        Reply::Volume(n) => line(b"volume", &[*n]),
-        Reply::Count(counts) => line(b"count", counts),
-    }
+    write_coefficients(plane, writer)?;
+    put(writer, if flat { b" flat\n" } else { b" bent\n" })
 }
 
 /// Writes the line of a reply. It takes no memory.
 ///
-/// A fault comes where a write fails or takes no byte; what went out is then a front of the line.
+/// A fault comes where a write fails or takes no byte; what went out is then a prefix of the line.
+#[tactic(auto, unfolding(crate::specs::Replies::reply_text))]
 pub fn write_reply<W: Write>(reply: &Reply, writer: &mut W) -> Result<(), WriteFault>
     ensures { Puts (W.contents writer.old) (W.contents writer.new) (reply_text reply.now) result }
 {
-    put(writer, line_of(reply).as_slice())
+    match reply {
+        Reply::Done => put(writer, b"ok\n"),
+        Reply::Refused(why, value) => put_line(writer, b"refused", &[*why, *value]),
+        Reply::Fault(cause) => put_line(writer, b"fault", &[*cause]),
+        Reply::Memory => put(writer, b"memory\n"),
+        Reply::Plane(plane, flat) => write_plane(plane, *flat, writer),
+        Reply::Volume(n) => put_line(writer, b"volume", &[*n]),
+        Reply::Count(counts) => put_line(writer, b"count", counts),
+    }
 }

@@ -1,63 +1,51 @@
-//! Building a line, or a part of one, before it is written.
-ghost use Rattle.std.specs.Prelude.{◌≡◌, ◌≤◌, ◌+◌, ◌*◌, ◌∷◌, ◌++◌, length, map};
-ghost use Rattle.arrayvec.specs.ArrayVec.{array_vec_len};
+//! Writing words and numbers.
+ghost use Rattle.std.specs.Prelude.{◌≡◌, ◌∷◌, ◌++◌, map};
 ghost use Rattle.solid_listing.specs.Lines.{spaced, line_text};
+ghost use Rattle.solid_listing.specs.Writing.{Puts};
 
-use arrayvec::ArrayVec;
+use crate::writing::{WriteFault, put};
 use itoa::{Buffer, Integer};
+use std::io::Write;
 
-/// Room for the longest text that is written at once.
-pub type Text = ArrayVec<u8, 256>;
-
-/// Puts bytes behind a text.
-pub fn append(text: &mut Text, bytes: &[u8])
-    requires { array_vec_len text.old + length bytes.now ≤ 256 }
-    ensures items { text.new.items ≡ text.old.items ++ bytes.now }
-    ensures len { array_vec_len text.new ≡ array_vec_len text.old + length bytes.now }
-{
-    let _ = text.try_extend_from_slice(bytes);
-}
-
-/// Puts a number behind a text.
-pub fn append_digits<I: Integer>(text: &mut Text, n: I)
-    requires { array_vec_len text.old + 40 ≤ 256 }
-    ensures items { text.new.items ≡ text.old.items ++ I.text n }
-    ensures len { array_vec_len text.new ≤ array_vec_len text.old + 40 }
+/// Writes a number.
+pub fn put_number<W: Write, I: Integer>(writer: &mut W, n: I) -> Result<(), WriteFault>
+    ensures { Puts (W.contents writer.old) (W.contents writer.new) (I.text n) result }
 {
     let mut buffer = Buffer::new();
-    append(text, buffer.format(n).as_bytes());
+    put(writer, buffer.format(n).as_bytes())
 }
 
-/// Puts a space and a number behind a text.
-pub fn append_number<I: Integer>(text: &mut Text, n: I)
-    requires { array_vec_len text.old + 41 ≤ 256 }
-    ensures items { text.new.items ≡ text.old.items ++ (32 ∷ I.text n) }
-    ensures len { array_vec_len text.new ≤ array_vec_len text.old + 41 }
+/// Writes a space and a number.
+pub fn put_spaced<W: Write, I: Integer>(writer: &mut W, n: I) -> Result<(), WriteFault>
+    ensures { Puts (W.contents writer.old) (W.contents writer.new) (32 ∷ I.text n) result }
 {
-    append(text, b" ");
-    append_digits(text, n);
+    put(writer, b" ")?;
+    put_number(writer, n)
 }
 
-/// A word and numbers behind it.
-pub fn words<I: Integer>(name: &[u8], numbers: &[I]) -> Text
-    requires { length name.now + 41 * length numbers.now ≤ 256 }
-    ensures items { result.items ≡ name.now ++ spaced (map I.text numbers.now) }
-    ensures len { array_vec_len result ≤ length name.now + 41 * length numbers.now }
+/// Writes a word and the numbers that follow it.
+pub fn put_words<W: Write, I: Integer>(
+    writer: &mut W,
+    name: &[u8],
+    numbers: &[I],
+) -> Result<(), WriteFault>
+    ensures { Puts (W.contents writer.old) (W.contents writer.new) (name.now ++ spaced (map I.text numbers.now)) result }
 {
-    let mut text = ArrayVec::new();
-    append(&mut text, name);
+    put(writer, name)?;
     for n in numbers {
-        append_number(&mut text, *n);
+        put_spaced(writer, *n)?;
     }
-    text
+    Ok(())
 }
 
-/// The line of a word and numbers.
-pub fn line<I: Integer>(name: &[u8], numbers: &[I]) -> Text
-    requires { length name.now + 41 * length numbers.now ≤ 255 }
-    ensures { result.items ≡ line_text (name.now ∷ map I.text numbers.now) }
+/// Writes the line of a word and numbers.
+pub fn put_line<W: Write, I: Integer>(
+    writer: &mut W,
+    name: &[u8],
+    numbers: &[I],
+) -> Result<(), WriteFault>
+    ensures { Puts (W.contents writer.old) (W.contents writer.new) (line_text (name.now ∷ map I.text numbers.now)) result }
 {
-    let mut text = words(name, numbers);
-    append(&mut text, b"\n");
-    text
+    put_words(writer, name, numbers)?;
+    put(writer, b"\n")
 }

@@ -1,11 +1,9 @@
 use Rattle.std.proofs.Common.{◌∙◌, ap, sym, subst, ◌∷◌, map, length, arith, refl}
 use Rattle.std.proofs.lemmas.Result.{err_from_is_err_and}
-use Rattle.std.specs.Io.KnownBytes.{Appends}
 use Rattle.euler_operators.specs.HalfEdge.{code}
 use Rattle.euler_operators.specs.Model.{cycle_of}
 use Rattle.solid_listing.specs.Lines.{spaced}
 use Rattle.solid_listing.specs.Listing.{half_word}
-use Rattle.solid_listing.specs.Writing.{Stops}
 use Rattle.solid_walks.proofs.face_walks_laws.HalfCodes.{codes_same, codes_differ}
 use Rattle.solid_walks.proofs.face_walks_laws.CycleWalks.{to_come, item_there, item_in, from_least, goes_on, comes_back}
 use Rattle.solid_listing.proofs.WritingLaws.{Writes, none_yet, wrote_more, stops_inside, all_written}
@@ -21,15 +19,14 @@ round-init g c =
       written = subst (λ hs. Writes w w (spaced (map half_word (cycle_of M h))) (spaced (map half_word hs))) (from_least M c.requires.sound h c.requires.there c.requires.least) (none_yet w (spaced (map half_word (cycle_of M h))));
     }
 
-pub returns-in_err-put : goal.returns-in_err-put
-returns-in_err-put g c =
+pub returns-in_err-put_half : goal.returns-in_err-put_half
+returns-in_err-put_half g c =
     let M = c.args.arena.now.model in
     let h = code c.args.first in
     let p = err_from_is_err_and c.from_residual.result c.from_residual.ensures.1 in
-    let stop = subst (Stops (g.W.Write.contents c.round.writer) (g.W.Write.contents c.put.new.writer)) (c.as_slice.ensures.value ∙ c.half_text.ensures) c.in_err-put.ensures in
-    rw p.1 (stops_inside (g.W.Write.contents c.args.writer.now) (g.W.Write.contents c.round.writer) (g.W.Write.contents c.put.new.writer)
+    rw p.1 (stops_inside (g.W.Write.contents c.args.writer.now) (g.W.Write.contents c.round.writer) (g.W.Write.contents c.put_half.new.writer)
     (spaced (map half_word (cycle_of M h))) (spaced (map half_word (code c.round.at ∷ to_come h (cycle_of M h) (code c.round.at)))) (spaced (map half_word (to_come h (cycle_of M h) (code c.round.at)))) (32 ∷ half_word (code c.round.at))
-    c.round.invariant.written stop refl)
+    c.round.invariant.written c.in_err-put_half.ensures refl)
 
 pub next-at-requires : goal.next-at-requires
 next-at-requires g c = item_there c.args.arena.now.model c.requires.sound (code c.args.first) c.requires.there (code c.round.at) c.round.invariant.at_in
@@ -41,11 +38,10 @@ returns-then-eq g c =
     let hs = cycle_of M h in
     let a = g.W.Write.contents c.args.writer.now in
     let b = g.W.Write.contents c.round.writer in
-    let d = g.W.Write.contents c.put.new.writer in
+    let d = g.W.Write.contents c.put_half.new.writer in
     let text = spaced (map half_word hs) in
     let next = to_come h hs (code c.round.at) in
-    let wrote : Appends b d (32 ∷ half_word (code c.round.at)) = subst (Appends b d) (c.as_slice.ensures.value ∙ c.half_text.ensures) c.in_ok-put.ensures in
-    let more = wrote_more a b d text (spaced (map half_word (code c.round.at ∷ next))) (spaced (map half_word next)) (32 ∷ half_word (code c.round.at)) c.round.invariant.written wrote refl in
+    let more = wrote_more a b d text (spaced (map half_word (code c.round.at ∷ next))) (spaced (map half_word next)) (32 ∷ half_word (code c.round.at)) c.round.invariant.written c.in_ok-put_half.ensures refl in
     let back = comes_back M c.requires.sound h c.requires.there (code c.round.at) (code c.next-at.result) c.round.invariant.at_in c.next-at.ensures.in_loop (codes_same c.next-at.result c.args.first (sym c.eq.ensures ∙ c.if-eq.true)) in
     all_written a d text (subst (λ zs. Writes a d text (spaced (map half_word zs))) back.0 more)
 
@@ -61,11 +57,10 @@ round-preserved g c =
     let hs = cycle_of M h in
     let a = g.W.Write.contents c.args.writer.now in
     let b = g.W.Write.contents c.round.writer in
-    let d = g.W.Write.contents c.put.new.writer in
+    let d = g.W.Write.contents c.put_half.new.writer in
     let text = spaced (map half_word hs) in
     let next = to_come h hs (code c.round.at) in
-    let wrote : Appends b d (32 ∷ half_word (code c.round.at)) = subst (Appends b d) (c.as_slice.ensures.value ∙ c.half_text.ensures) c.in_ok-put.ensures in
-    let more = wrote_more a b d text (spaced (map half_word (code c.round.at ∷ next))) (spaced (map half_word next)) (32 ∷ half_word (code c.round.at)) c.round.invariant.written wrote refl in
+    let more = wrote_more a b d text (spaced (map half_word (code c.round.at ∷ next))) (spaced (map half_word next)) (32 ∷ half_word (code c.round.at)) c.round.invariant.written c.in_ok-put_half.ensures refl in
     let on = goes_on M c.requires.sound h c.requires.there (code c.round.at) (code c.next-at.result) c.round.invariant.at_in c.next-at.ensures.in_loop (codes_differ c.next-at.result c.args.first (sym c.eq.ensures ∙ c.if-eq.false)) in
     record {
       at_in = on.0;

@@ -1,4 +1,4 @@
-use Rattle.std.proofs.Common.{◌∙◌, ap, subst, ℕ, List}
+use Rattle.std.proofs.Common.{ap, subst, ℕ, List}
 use Rattle.euler_operators.specs.Model.{content}
 use Rattle.solid_listing.specs.Lines.{spaced}
 use Rattle.solid_listing.specs.Listing.{content_words}
@@ -14,8 +14,8 @@ write_cycle-requires-clause-there g c = told_there c.args.arena.now.model c.requ
 
 pub returns-in-Lone : goal.returns-in-Lone
 returns-in-Lone g c =
-    let is = c.as_slice.ensures.value ∙ c.words.ensures.items ∙ ap (λ k. spaced (content_words k)) (lone_told (content c.args.arena.now.model c.args.l) c.in-Lone.v c.in-Lone.ensures) in
-    subst (λ (t : List ℕ). Puts (g.W.Write.contents c.args.writer.now) (g.W.Write.contents c.put.new.writer) t c.put.result) is c.put.ensures
+    let is = ap (λ k. spaced (content_words k)) (lone_told (content c.args.arena.now.model c.args.l) c.in-Lone.v c.in-Lone.ensures) in
+    subst (λ (t : List ℕ). Puts (g.W.Write.contents c.args.writer.now) (g.W.Write.contents c.put_words.new.writer) t c.put_words.result) is c.put_words.ensures
 
 pub returns-in-Ring : goal.returns-in-Ring
 returns-in-Ring g c =

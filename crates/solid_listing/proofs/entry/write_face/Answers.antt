@@ -1,4 +1,4 @@
-use Rattle.std.proofs.Common.{◌≡◌, ◌∙◌, sym, subst, ℕ, List, [], ◌∷◌, ◌++◌, map, codes, decimal}
+use Rattle.std.proofs.Common.{◌≡◌, sym, subst, ℕ, List, [], ◌∷◌, ◌++◌, map, codes, decimal}
 use Rattle.std.proofs.lemmas.Result.{err_from_is_err_and}
 use Rattle.std.specs.Io.KnownBytes.{Appends}
 use Rattle.euler_operators.specs.declared.Kind.TheVariants.{Face}
@@ -23,26 +23,26 @@ parts M f = line_parts (codes "face") (map decimal (f ∷ solid_of M f ∷ outer
 head_is : (M : Model) (f s o : ℕ) → s ≡ solid_of M f → o ≡ outer M f → codes "face" ++ spaced (map decimal (f ∷ s ∷ o ∷ [])) ≡ head M f
 head_is M f s o p q = λ i. codes "face" ++ spaced (map decimal (f ∷ p i ∷ q i ∷ []))
 
-pub returns-in_err-put : goal.returns-in_err-put
-returns-in_err-put g c =
+pub returns-in_err-put_words : goal.returns-in_err-put_words
+returns-in_err-put_words g c =
     let M = c.args.arena.now.model in
     let f = c.args.f in
     let a = g.W.Write.contents c.args.writer.now in
-    let b = g.W.Write.contents c.put.new.writer in
-    let is = c.as_slice.ensures.value ∙ c.words-head.ensures.items ∙ head_is M f c.solid_of.result c.outer.result c.solid_of.ensures c.outer.ensures in
+    let b = g.W.Write.contents c.put_words.new.writer in
+    let is = head_is M f c.solid_of.result c.outer.result c.solid_of.ensures c.outer.ensures in
     let p = err_from_is_err_and c.from_residual.result c.from_residual.ensures.1 in
-    rw p.1 (subst (Stops a b) (sym (parts M f)) (Stops-longer a b (head M f) (rings M f ++ 10 ∷ []) (subst (Stops a b) is c.in_err-put.ensures)))
+    rw p.1 (subst (Stops a b) (sym (parts M f)) (Stops-longer a b (head M f) (rings M f ++ 10 ∷ []) (subst (Stops a b) is c.in_err-put_words.ensures)))
 
 pub returns-in_err-write_rings : goal.returns-in_err-write_rings
 returns-in_err-write_rings g c =
     let M = c.args.arena.now.model in
     let f = c.args.f in
     let a = g.W.Write.contents c.args.writer.now in
-    let b = g.W.Write.contents c.put.new.writer in
-    let is = c.as_slice.ensures.value ∙ c.words-head.ensures.items ∙ head_is M f c.solid_of.result c.outer.result c.solid_of.ensures c.outer.ensures in
+    let b = g.W.Write.contents c.put_words.new.writer in
+    let is = head_is M f c.solid_of.result c.outer.result c.solid_of.ensures c.outer.ensures in
     let d = g.W.Write.contents c.write_rings.new.writer in
     let p = err_from_is_err_and c.from_residual-in_err-write_rings.result c.from_residual-in_err-write_rings.ensures.1 in
-    let wrote = subst (Appends a b) is c.in_ok-put.ensures in
+    let wrote = subst (Appends a b) is c.in_ok-put_words.ensures in
     rw p.1 (subst (Stops a d) (sym (parts M f)) (Stops-after a b d (head M f) (rings M f ++ 10 ∷ []) wrote (Stops-longer b d (rings M f) (10 ∷ []) c.in_err-write_rings.ensures)))
 
 pub returns : goal.returns
@@ -50,10 +50,10 @@ returns g c =
     let M = c.args.arena.now.model in
     let f = c.args.f in
     let a = g.W.Write.contents c.args.writer.now in
-    let b = g.W.Write.contents c.put.new.writer in
-    let is = c.as_slice.ensures.value ∙ c.words-head.ensures.items ∙ head_is M f c.solid_of.result c.outer.result c.solid_of.ensures c.outer.ensures in
+    let b = g.W.Write.contents c.put_words.new.writer in
+    let is = head_is M f c.solid_of.result c.outer.result c.solid_of.ensures c.outer.ensures in
     let d = g.W.Write.contents c.write_rings.new.writer in
-    let e = g.W.Write.contents c.put-2.new.writer in
-    let r = c.put-2.result in
-    let wrote = subst (Appends a b) is c.in_ok-put.ensures in
-    subst (λ (t : List ℕ). Puts a e t r) (sym (parts M f)) (puts_after a b e (head M f) (rings M f ++ 10 ∷ []) r wrote (puts_after b d e (rings M f) (10 ∷ []) r c.in_ok-write_rings.ensures c.put-2.ensures))
+    let e = g.W.Write.contents c.put.new.writer in
+    let r = c.put.result in
+    let wrote = subst (Appends a b) is c.in_ok-put_words.ensures in
+    subst (λ (t : List ℕ). Puts a e t r) (sym (parts M f)) (puts_after a b e (head M f) (rings M f ++ 10 ∷ []) r wrote (puts_after b d e (rings M f) (10 ∷ []) r c.in_ok-write_rings.ensures c.put.ensures))

@@ -1,6 +1,5 @@
-use Rattle.std.proofs.Common.{◌≡◌, ◌∙◌, sym, subst, ℕ, List, [], ◌∷◌, ◌++◌, codes, decimal}
+use Rattle.std.proofs.Common.{◌≡◌, sym, subst, ℕ, List, [], ◌∷◌, ◌++◌, codes, decimal}
 use Rattle.std.proofs.lemmas.Result.{err_from_is_err_and}
-use Rattle.std.specs.Io.KnownBytes.{Appends}
 use Rattle.euler_operators.specs.declared.Kind.TheVariants.{Loop}
 use Rattle.euler_operators.specs.Model.{Model, content}
 use Rattle.solid_listing.specs.Lines.{spaced, line_text}
@@ -20,37 +19,32 @@ held M l = spaced (content_words (content M l))
 parts : (M : Model) (l : ℕ) → line_text (line M Loop l) ≡ head l ++ (held M l ++ 10 ∷ [])
 parts M l = line_parts (codes "loop") (decimal l ∷ []) (content_words (content M l))
 
-pub returns-in_err-put : goal.returns-in_err-put
-returns-in_err-put g c =
+pub returns-in_err-put_words : goal.returns-in_err-put_words
+returns-in_err-put_words g c =
     let M = c.args.arena.now.model in
     let l = c.args.l in
     let a = g.W.Write.contents c.args.writer.now in
-    let b = g.W.Write.contents c.put.new.writer in
-    let is = c.as_slice.ensures.value ∙ c.words.ensures.items in
+    let b = g.W.Write.contents c.put_words.new.writer in
     let p = err_from_is_err_and c.from_residual.result c.from_residual.ensures.1 in
-    rw p.1 (subst (Stops a b) (sym (parts M l)) (Stops-longer a b (head l) (held M l ++ 10 ∷ []) (subst (Stops a b) is c.in_err-put.ensures)))
+    rw p.1 (subst (Stops a b) (sym (parts M l)) (Stops-longer a b (head l) (held M l ++ 10 ∷ []) c.in_err-put_words.ensures))
 
 pub returns-in_err-write_content : goal.returns-in_err-write_content
 returns-in_err-write_content g c =
     let M = c.args.arena.now.model in
     let l = c.args.l in
     let a = g.W.Write.contents c.args.writer.now in
-    let b = g.W.Write.contents c.put.new.writer in
-    let is = c.as_slice.ensures.value ∙ c.words.ensures.items in
+    let b = g.W.Write.contents c.put_words.new.writer in
     let d = g.W.Write.contents c.write_content.new.writer in
     let p = err_from_is_err_and c.from_residual-in_err-write_content.result c.from_residual-in_err-write_content.ensures.1 in
-    let wrote = subst (Appends a b) is c.in_ok-put.ensures in
-    rw p.1 (subst (Stops a d) (sym (parts M l)) (Stops-after a b d (head l) (held M l ++ 10 ∷ []) wrote (Stops-longer b d (held M l) (10 ∷ []) c.in_err-write_content.ensures)))
+    rw p.1 (subst (Stops a d) (sym (parts M l)) (Stops-after a b d (head l) (held M l ++ 10 ∷ []) c.in_ok-put_words.ensures (Stops-longer b d (held M l) (10 ∷ []) c.in_err-write_content.ensures)))
 
 pub returns : goal.returns
 returns g c =
     let M = c.args.arena.now.model in
     let l = c.args.l in
     let a = g.W.Write.contents c.args.writer.now in
-    let b = g.W.Write.contents c.put.new.writer in
-    let is = c.as_slice.ensures.value ∙ c.words.ensures.items in
+    let b = g.W.Write.contents c.put_words.new.writer in
     let d = g.W.Write.contents c.write_content.new.writer in
-    let e = g.W.Write.contents c.put-2.new.writer in
-    let r = c.put-2.result in
-    let wrote = subst (Appends a b) is c.in_ok-put.ensures in
-    subst (λ (t : List ℕ). Puts a e t r) (sym (parts M l)) (puts_after a b e (head l) (held M l ++ 10 ∷ []) r wrote (puts_after b d e (held M l) (10 ∷ []) r c.in_ok-write_content.ensures c.put-2.ensures))
+    let e = g.W.Write.contents c.put.new.writer in
+    let r = c.put.result in
+    subst (λ (t : List ℕ). Puts a e t r) (sym (parts M l)) (puts_after a b e (head l) (held M l ++ 10 ∷ []) r c.in_ok-put_words.ensures (puts_after b d e (held M l) (10 ∷ []) r c.in_ok-write_content.ensures c.put.ensures))

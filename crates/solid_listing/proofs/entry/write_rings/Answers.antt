@@ -4,8 +4,6 @@ use Rattle.std.proofs.KnownBytes.{Appends-nil}
 use Rattle.std.specs.Io.KnownBytes.{Appends}
 use Rattle.euler_operators.specs.Model.{rings_of}
 use Rattle.solid_listing.specs.Lines.{spaced}
-use Rattle.solid_listing.specs.Writing.{Stops}
-use Rattle.solid_listing.proofs.LineLaws.{spaced_one}
 use Rattle.solid_walks.proofs.face_walks_laws.Above.{above}
 use Rattle.solid_walks.proofs.face_walks_laws.RingWalks.{next_ring, no_ring, rings_from_zero}
 use Rattle.solid_listing.proofs.WritingLaws.{Writes, none_yet, wrote_more, stops_inside, all_written}
@@ -18,22 +16,20 @@ loop-l-init g c =
     let text = spaced (map decimal (rings_of M c.args.f)) in
     subst (λ ns. Writes w w text (spaced (map decimal ns))) (sym (rings_from_zero M c.args.f c.requires.sound)) (none_yet w text)
 
-pub returns-in_err-put : goal.returns-in_err-put
-returns-in_err-put g c =
+pub returns-in_err-put_spaced : goal.returns-in_err-put_spaced
+returns-in_err-put_spaced g c =
     let M = c.args.arena.now.model in
     let rings = rings_of M c.args.f in
     let a = g.W.Write.contents c.args.writer.now in
     let b = g.W.Write.contents c.loop-l.writer in
     let text = spaced (map decimal rings) in
-    let d = g.W.Write.contents c.put.new.writer in
+    let d = g.W.Write.contents c.put_spaced.new.writer in
     let n = c.in-Some.l in
     let next = ap (λ ns. spaced (map decimal ns)) (next_ring M c.args.f c.loop-l.above n c.in-Some.ensures) in
-    let word = c.as_slice.ensures.value ∙ c.words.ensures.items ∙ spaced_one (decimal n) in
     let rest = spaced (map decimal (above c.loop-l.above rings)) in
     let later = spaced (map decimal (above n rings)) in
     let p = err_from_is_err_and c.from_residual.result c.from_residual.ensures.1 in
-    let stop = subst (Stops b d) word c.in_err-put.ensures in
-    rw p.1 (stops_inside a b d text rest later (32 ∷ decimal n) c.loop-l.invariant stop next)
+    rw p.1 (stops_inside a b d text rest later (32 ∷ decimal n) c.loop-l.invariant c.in_err-put_spaced.ensures next)
 
 pub loop-l-smaller : goal.loop-l-smaller
 loop-l-smaller g c = let next = next_ring c.args.arena.now.model c.args.f c.loop-l.above c.in-Some.l c.in-Some.ensures in omega (arith, ap length next)
@@ -45,13 +41,12 @@ loop-l-preserved g c =
     let a = g.W.Write.contents c.args.writer.now in
     let b = g.W.Write.contents c.loop-l.writer in
     let text = spaced (map decimal rings) in
-    let d = g.W.Write.contents c.put.new.writer in
+    let d = g.W.Write.contents c.put_spaced.new.writer in
     let n = c.in-Some.l in
     let next = ap (λ ns. spaced (map decimal ns)) (next_ring M c.args.f c.loop-l.above n c.in-Some.ensures) in
-    let word = c.as_slice.ensures.value ∙ c.words.ensures.items ∙ spaced_one (decimal n) in
     let rest = spaced (map decimal (above c.loop-l.above rings)) in
     let later = spaced (map decimal (above n rings)) in
-    wrote_more a b d text rest later (32 ∷ decimal n) c.loop-l.invariant (subst (Appends b d) word c.in_ok-put.ensures) next
+    wrote_more a b d text rest later (32 ∷ decimal n) c.loop-l.invariant c.in_ok-put_spaced.ensures next
 
 pub returns : goal.returns
 returns g c =

@@ -1,0 +1,22 @@
+use Rattle.std.proofs.Common.{◌≡◌, ◌∙◌, ap, subst, List, ℕ, [], ◌∷◌, map, decimal, codes}
+use Rattle.euler_operators.specs.HalfEdge.{plus, minus}
+use Rattle.euler_operators.specs.Model.{tail, has_half}
+use Rattle.euler_operators.proofs.Models.{mate_there}
+use Rattle.solid_listing.specs.Lines.{line_text}
+use Rattle.solid_listing.specs.Writing.{Puts}
+use Rattle.solid_walks.proofs.face_walks_laws.HalfCodes.{code_plus, mate_plus, plus_there}
+use Rattle.solid_listing.proofs.entry.write_edge.Goals as goal
+
+pub tail-requires : goal.tail-requires
+tail-requires g c = plus_there c.args.arena.now.model c.args.e c.requires
+
+pub tail-requires-2 : goal.tail-requires-2
+tail-requires-2 g c = ap (has_half c.args.arena.now.model) c.mate.ensures ∙ mate_there c.args.arena.now.model _ (plus_there c.args.arena.now.model c.args.e c.requires)
+
+pub returns : goal.returns
+returns g c =
+    let M = c.args.arena.now.model in
+    let first : c.tail.result ≡ tail M (plus c.args.e) = c.tail.ensures ∙ ap (tail M) (code_plus c.args.e) in
+    let second : c.tail-2.result ≡ tail M (minus c.args.e) = c.tail-2.ensures ∙ ap (tail M) (c.mate.ensures ∙ mate_plus c.args.e) in
+    subst (λ (t : List ℕ). Puts (g.W.Write.contents c.args.writer.now) (g.W.Write.contents c.put_line.new.writer) t c.put_line.result)
+    (λ i. line_text (codes "edge" ∷ map decimal (c.args.e ∷ first i ∷ second i ∷ []))) c.put_line.ensures
