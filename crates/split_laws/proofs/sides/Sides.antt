@@ -26,7 +26,7 @@ use Rattle.shapes.specs.split.Opening.{Caps, Opening, opened_along, next_opened,
 use Rattle.shapes.specs.split.Split.{split_drawn}
 use Rattle.split_opening_laws.specs.strips.Opened.{CanBeOpened}
 use Rattle.split_opening_laws.specs.sections.InTurn.{upper_faces, CanBeOpenedInTurn}
-use Rattle.split_opening_laws.proofs.sections.InTurn.{upper_next}
+use Rattle.split_opening_laws.proofs.sections.InTurn.{upper_next, can_open}
 use Rattle.split_laws.specs.opened.Told.{LiesAlong}
 use Rattle.split_laws.specs.opened.Laws.{LieOn}
 use Rattle.split_laws.proofs.opened.Starts.{swap}
@@ -40,7 +40,6 @@ use Rattle.split_laws.proofs.volumes.Taken as taken
 use Rattle.split_laws.proofs.volumes.Taken.{CanTake}
 use Rattle.split_laws.proofs.volumes.Closed.{closing_carries}
 use Rattle.split_laws.proofs.volumes.Split as split
-use Rattle.split_laws.proofs.Openings.{can_open}
 use Rattle.split_laws.specs.sides.Sided.{IsOnSide, IsOfSolid, AreSided}
 
 -- a point on the plane lies on both sides

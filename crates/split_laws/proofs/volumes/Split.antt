@@ -16,12 +16,10 @@ use Rattle.shapes.specs.Measure.{six_volume}
 use Rattle.euler_laws.proofs.shared.Counted.{counted_once}
 use Rattle.shapes.specs.split.Drawing.{Drawing}
 use Rattle.shapes.specs.split.Section.{is_hole, holes_in, below_halves, section_cycles, has_stray_hole}
-use Rattle.shapes.specs.split.Opening.{Caps, Opening, next_opened, outer_caps, holes_closed}
+use Rattle.shapes.specs.split.Opening.{Caps, Opening, outer_caps, holes_closed}
 use Rattle.shapes.specs.split.Split.{opened_at, split_drawn}
-use Rattle.split_opening_laws.proofs.opening.Whole.{opened_sound}
 use Rattle.split_opening_laws.specs.sections.InTurn.{upper_faces, CanBeOpenedInTurn}
 use Rattle.split_opening_laws.specs.sections.Capped.{cap_faces, HasCaps}
-use Rattle.split_opening_laws.specs.sections.Laws.{OpeningsAreSound}
 use Rattle.split_opening_laws.proofs.sections.InTurn as in_turn
 use Rattle.split_opening_laws.proofs.sections.Capping.{caps_rise}
 use Rattle.split_laws.specs.volumes.Closing.{CanClose}
@@ -29,13 +27,8 @@ use Rattle.split_laws.specs.volumes.Laws.{CanBeParted, CanBeSplit}
 use Rattle.split_laws.proofs.volumes.Parted.{part_shares, part_keeps}
 use Rattle.split_laws.proofs.volumes.Closed.{closing, all_taken, closed_by, closing_keeps}
 use Rattle.split_laws.proofs.opened.InTurn.{some_way, openings_keep, openings_lie}
-use Rattle.split_laws.proofs.Openings.{can_open}
 use Rattle.split_laws.proofs.Flags.{flags_are, map_length}
 use Rattle.split_laws.proofs.OldFaces.{solids_still}
-
-pub openings_sound : OpeningsAreSound
-unfolding next_opened
-openings_sound above s p o bs cs w = opened_sound o.model above s o.taken bs (can_open above s o bs cs w)
 
 -- ---- which caps are those of holes
 
@@ -118,10 +111,10 @@ module _ (d : Drawing) (above : List ℕ) (s : ℕ) (p : Plane) (t : ℕ) (w : C
   begun_caps = record { plain = tt; all_rise = ap strictly_rises (append-nil above) ∙ w.above_rise; upper_rise = ap strictly_rises (append-nil above) ∙ w.above_rise }
 
   pub ended : CanBeOpenedInTurn above s o []
-  ended = in_turn.all_on openings_sound above s p begun cycles w.opens
+  ended = in_turn.all_on above s p begun cycles w.opens
 
   caps : HasCaps above s o
-  caps = caps_rise openings_sound above s p begun cycles w.opens begun_caps
+  caps = caps_rise above s p begun cycles w.opens begun_caps
 
   pub closes : CanClose o.model s p o.caps
   closes = record {
