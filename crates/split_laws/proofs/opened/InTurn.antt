@@ -11,7 +11,7 @@ use Rattle.euler_operators.proofs.Rotations.{count-canonical, IsIn_head}
 use Rattle.euler_operators.proofs.Tables.{row_some}
 use Rattle.euler_operators.specs.Table as table
 use Rattle.euler_operators.specs.Model.{Model, cycle, items_of, tail, content, outer, point_of}
-use Rattle.euler_operators.specs.Sound.{Sound, Has, HasHalf}
+use Rattle.euler_operators.specs.Sound.{Has, HasHalf}
 use Rattle.shapes.proofs.fresh.Rows.{get-put_cases}
 use Rattle.shapes.specs.Faces.{start}
 use Rattle.shapes.specs.Fresh.{Taken}

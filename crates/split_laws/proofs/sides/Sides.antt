@@ -130,12 +130,12 @@ module _ (M : Model) (s t : ℕ) (fs : List ℕ) where
   unfolding part
   loops_stay l = refl
 
-  face_stays : (l : ℕ) → face_of P l ≡ face_of M l
+  pub face_stays : (l : ℕ) → face_of P l ≡ face_of M l
   unfolding part face_of
   face_stays l = refl
 
   -- a face went to t where it is listed, and else is of its solid
-  solid_then : (k : ℕ) → Has P.faces k → Has M.faces k × (solid_of P k ≡ cond (lists fs k) t (solid_of M k))
+  pub solid_then : (k : ℕ) → Has P.faces k → Has M.faces k × (solid_of P k ≡ cond (lists fs k) t (solid_of M k))
   unfolding solid_of
   solid_then k there = go (table.get M.faces k) (parted.row_is M s t fs k) where
     go : (o : Option FaceRow) → table.get P.faces k ≡ option_map (parted.go M s t fs k) o → (is_some o ≡ true) × ((unwrap_or (table.get P.faces k) no_face).solid ≡ cond (lists fs k) t (unwrap_or o no_face).solid)

@@ -6,11 +6,12 @@ use Rattle.euler_operators.specs.Model.{Model}
 use Rattle.euler_operators.specs.Sound.{Sound}
 use Rattle.shapes.specs.Faces.{start}
 use Rattle.shapes.specs.Measure.{six_volume}
-use Rattle.shapes.specs.split.Sides.{faces_above}
+use Rattle.shapes.specs.split.Sides.{some_above, some_below, faces_above}
 use Rattle.shapes.specs.split.Drawing.{with_drawings}
 use Rattle.shapes.specs.split.Split.{split_refusal, split_model}
+use Rattle.split_drawing_laws.specs.face_sides.Lone.{NoLoopIsLone}
 use Rattle.split_laws.specs.volumes.Laws.{CanBeSplit}
-use Rattle.split_laws.specs.sides.Sided.{IsOfSolid}
+use Rattle.split_laws.specs.sides.Sided.{IsOfSolid, corners_of}
 
 -- once its edges are cut and its faces drawn, the model meets all that is asked of a drawn model that is split
 abbrev pub SplitsCanBeSplit : Type 0
@@ -32,3 +33,13 @@ abbrev pub PartsLieOnEitherSide : Type 0
 PartsLieOnEitherSide = (M : Model) (s : ℕ) (p : Plane) (t : ℕ) → Sound M → split_refusal M s p t ≡ None → (l h : ℕ) →
     (IsOfSolid (split_model M s p t) s l h → is_above p (start (split_model M s p t) h) ≡ false)
     × (IsOfSolid (split_model M s p t) t l h → is_below p (start (split_model M s p t) h) ≡ false)
+
+-- no loop of either is lone
+abbrev pub PartsHaveNoLoneLoop : Type 0
+PartsHaveNoLoneLoop = (M : Model) (s : ℕ) (p : Plane) (t : ℕ) → Sound M → split_refusal M s p t ≡ None → NoLoopIsLone (split_model M s p t) s × NoLoopIsLone (split_model M s p t) t
+
+-- so no vertex of solid s lies above the plane any more, and none of t below it
+abbrev pub VerticesLieOnEitherSide : Type 0
+VerticesLieOnEitherSide = (M : Model) (s : ℕ) (p : Plane) (t : ℕ) → Sound M → split_refusal M s p t ≡ None →
+    (some_above (split_model M s p t) p (corners_of (split_model M s p t) s) ≡ false)
+    × (some_below (split_model M s p t) p (corners_of (split_model M s p t) t) ≡ false)
