@@ -4,7 +4,7 @@ use Rattle.euler_operators.specs.declared.Plane.{Plane}
 use Rattle.euler_operators.specs.Vectors.{is_above, is_below}
 use Rattle.euler_operators.specs.Model.{Model}
 use Rattle.euler_operators.specs.Sound.{Sound}
-use Rattle.shapes.specs.Faces.{start}
+use Rattle.shapes.specs.Faces.{start, vertices_of}
 use Rattle.shapes.specs.Measure.{six_volume}
 use Rattle.shapes.specs.split.Sides.{some_above, some_below, faces_above}
 use Rattle.shapes.specs.split.Drawing.{with_drawings}
@@ -15,7 +15,7 @@ use Rattle.split_drawing_laws.proofs.drawn_volumes.DrawWhole.{drawings_volumes}
 use Rattle.split_drawing_laws.proofs.face_sides.Final.{none_lone}
 use Rattle.split_laws.specs.volumes.Laws.{CanBeSplit}
 use Rattle.split_laws.proofs.volumes.Split.{split_shares, split_keeps}
-use Rattle.split_laws.specs.sides.Sided.{IsOfSolid, corners_of}
+use Rattle.split_laws.specs.sides.Sided.{IsOfSolid}
 use Rattle.split_laws.proofs.sides.Sides.{parts_sided}
 use Rattle.split_laws.proofs.sides.Lone.{NoneLone, parts_none}
 use Rattle.split_laws.proofs.sides.Vertices.{vertices_fail}
@@ -58,7 +58,7 @@ module _ (M : Model) (s : ℕ) (p : Plane) (t : ℕ) (sound : Sound M) (accepted
   )
 
   -- so the vertices lie where the half-edges start
-  pub vertices_sided : (some_above (split_model M s p t) p (corners_of (split_model M s p t) s) ≡ false) × (some_below (split_model M s p t) p (corners_of (split_model M s p t) t) ≡ false)
+  pub vertices_sided : (some_above (split_model M s p t) p (vertices_of (split_model M s p t) s) ≡ false) × (some_below (split_model M s p t) p (vertices_of (split_model M s p t) t) ≡ false)
   vertices_sided = (
     vertices_fail (split_model M s p t) parts_sound s none_is_lone.0 (is_above p) (λ l h. (on_either_side l h).0),
     vertices_fail (split_model M s p t) parts_sound t none_is_lone.1 (is_below p) (λ l h. (on_either_side l h).1),

@@ -4,14 +4,14 @@ use Rattle.euler_operators.specs.declared.Plane.{Plane}
 use Rattle.euler_operators.specs.Vectors.{is_above, is_below}
 use Rattle.euler_operators.specs.Model.{Model}
 use Rattle.euler_operators.specs.Sound.{Sound}
-use Rattle.shapes.specs.Faces.{start}
+use Rattle.shapes.specs.Faces.{start, vertices_of}
 use Rattle.shapes.specs.Measure.{six_volume}
 use Rattle.shapes.specs.split.Sides.{some_above, some_below, faces_above}
 use Rattle.shapes.specs.split.Drawing.{with_drawings}
 use Rattle.shapes.specs.split.Split.{split_refusal, split_model}
 use Rattle.split_drawing_laws.specs.face_sides.Lone.{NoLoopIsLone}
 use Rattle.split_laws.specs.volumes.Laws.{CanBeSplit}
-use Rattle.split_laws.specs.sides.Sided.{IsOfSolid, corners_of}
+use Rattle.split_laws.specs.sides.Sided.{IsOfSolid}
 
 -- once its edges are cut and its faces drawn, the model meets all that is asked of a drawn model that is split
 abbrev pub SplitsCanBeSplit : Type 0
@@ -41,5 +41,5 @@ PartsHaveNoLoneLoop = (M : Model) (s : ℕ) (p : Plane) (t : ℕ) → Sound M �
 -- so no vertex of solid s lies above the plane any more, and none of t below it
 abbrev pub VerticesLieOnEitherSide : Type 0
 VerticesLieOnEitherSide = (M : Model) (s : ℕ) (p : Plane) (t : ℕ) → Sound M → split_refusal M s p t ≡ None →
-    (some_above (split_model M s p t) p (corners_of (split_model M s p t) s) ≡ false)
-    × (some_below (split_model M s p t) p (corners_of (split_model M s p t) t) ≡ false)
+    (some_above (split_model M s p t) p (vertices_of (split_model M s p t) s) ≡ false)
+    × (some_below (split_model M s p t) p (vertices_of (split_model M s p t) t) ≡ false)

@@ -1,13 +1,13 @@
 -- On which sides of a plane the faces of a solid lie.
-use Rattle.std.specs.Prelude.{◌≡◌, ℕ, Bool, false, cond, List, flat_map}
+use Rattle.std.specs.Prelude.{◌≡◌, ℕ, Bool, false, cond, List}
 use Rattle.euler_operators.specs.declared.Point.{Point}
 use Rattle.euler_operators.specs.declared.Plane.{Plane}
 use Rattle.euler_operators.specs.Vectors.{is_above, is_below}
 use Rattle.euler_operators.specs.Items.{IsIn}
-use Rattle.euler_operators.specs.Model.{Model, items_of, content, face_of, solid_of, faces_of}
+use Rattle.euler_operators.specs.Model.{Model, items_of, content, face_of, solid_of}
 use Rattle.euler_operators.specs.Sound.{Has}
 use Rattle.euler_operators.specs.Conditions.{lists}
-use Rattle.shapes.specs.Faces.{start, corners}
+use Rattle.shapes.specs.Faces.{start}
 
 -- a point lies on or above the plane, or on or below it
 abbrev pub IsOnSide : Plane → Bool → Point → Type 0
@@ -23,7 +23,3 @@ pub record IsOfSolid (M : Model) (s l h : ℕ) : Type 0 where
 -- the listed faces of solid s lie on or above the plane, and its other faces on or below it
 abbrev pub AreSided : Model → Plane → ℕ → List ℕ → Type 0
 AreSided M p s fs = (l h : ℕ) → IsOfSolid M s l h → IsOnSide p (lists fs (face_of M l)) (start M h)
-
--- the vertices of a solid, each as often as the solid's faces have a corner there
-abbrev pub corners_of : Model → ℕ → List ℕ
-corners_of M s = flat_map (corners M) (faces_of M s)
