@@ -14,7 +14,7 @@ ghost use Rattle.split_laws.specs.Laws.{OpeningsAreAccepted, OpeningsAreMade, Sp
 ghost use Rattle.split_laws.specs.opened.Laws.{OpeningKeepsVolumes, OpeningsKeepVolumes, CapsLieAlong};
 ghost use Rattle.split_laws.specs.volumes.Laws.{PartSharesVolumes, PartKeepsOthers, ClosingKeepsVolumes, SplitSharesVolumes, SplitKeepsOthers};
 ghost use Rattle.split_laws.specs.sides.Laws.{FacesAreSided, OpeningsKeepSides, PartsLieOnTheirSides};
-ghost use Rattle.split_laws.specs.measures.Laws.{SplitsCanBeSplit, SplitsShareVolumes, SplitsKeepOthers, PartsLieOnEitherSide, PartsHaveNoLoneLoop, VerticesLieOnEitherSide};
+ghost use Rattle.split_laws.specs.measures.Laws.{SplitsCanBeSplit, PartsAreSolids, SplitsShareVolumes, SplitsKeepOthers, PartsLieOnEitherSide, PartsHaveNoLoneLoop, VerticesLieOnEitherSide};
 
 /// Edges cut and faces drawn: each half-edge stays in its solid, and the solid that is split has a face above and one that isn't.
 pub fn solids_reach_both_sides()
@@ -82,8 +82,9 @@ pub fn splits_can_be_split()
     ensures all { SplitsCanBeSplit }
 {}
 
-/// So the two parts of the solid share its six volumes, and all other solids keep theirs.
+/// So there are two solids then that share the six volumes of the one, and all others keep theirs.
 pub fn parts_share_volumes()
+    ensures solids { PartsAreSolids }
     ensures two { SplitsShareVolumes }
     ensures others { SplitsKeepOthers }
 {}

@@ -3,7 +3,7 @@ use Rattle.std.proofs.Common.{◌≡◌, ◌≢◌, ℕ, ◌+ℤ◌, false, List
 use Rattle.euler_operators.specs.declared.Plane.{Plane}
 use Rattle.euler_operators.specs.Vectors.{is_above, is_below}
 use Rattle.euler_operators.specs.Model.{Model}
-use Rattle.euler_operators.specs.Sound.{Sound}
+use Rattle.euler_operators.specs.Sound.{Sound, Has}
 use Rattle.shapes.specs.Faces.{start, vertices_of}
 use Rattle.shapes.specs.Measure.{six_volume}
 use Rattle.shapes.specs.split.Sides.{some_above, some_below, faces_above}
@@ -14,14 +14,14 @@ use Rattle.split_drawing_laws.proofs.drawn_volumes.Bounds.{lone_there}
 use Rattle.split_drawing_laws.proofs.drawn_volumes.DrawWhole.{drawings_volumes}
 use Rattle.split_drawing_laws.proofs.face_sides.Final.{none_lone}
 use Rattle.split_laws.specs.volumes.Laws.{CanBeSplit}
-use Rattle.split_laws.proofs.volumes.Split.{split_shares, split_keeps}
+use Rattle.split_laws.proofs.volumes.Split.{both_there, split_shares, split_keeps}
 use Rattle.split_laws.specs.sides.Sided.{IsOfSolid}
 use Rattle.split_laws.proofs.sides.Sides.{parts_sided}
 use Rattle.split_laws.proofs.sides.Lone.{NoneLone, parts_none}
 use Rattle.split_laws.proofs.sides.Vertices.{vertices_fail}
 use Rattle.split_laws.proofs.drawn.Drawn.{begins, never_stuck}
 use Rattle.split_laws.proofs.Whole.{split_sound}
-use Rattle.split_laws.proofs.measures.Splittable.{drawn_sided, can_be_split}
+use Rattle.split_laws.proofs.measures.Splittable.{drawn_sided, s_there, can_be_split}
 
 module _ (M : Model) (s : ℕ) (p : Plane) (t : ℕ) (sound : Sound M) (accepted : split_refusal M s p t ≡ None) where
   abbrev above : List ℕ
@@ -33,6 +33,10 @@ module _ (M : Model) (s : ℕ) (p : Plane) (t : ℕ) (sound : Sound M) (accepted
   -- cutting edges and drawing faces kept the six volumes
   drawn_same : (u : ℕ) → six_volume (with_drawings M s p).model u ≡ six_volume M u
   drawn_same u = drawings_volumes M s p t sound (begins M s p t sound accepted) u
+
+  pub parts_there : Has (split_model M s p t).solids s × Has (split_model M s p t).solids t
+  unfolding split_model
+  parts_there = both_there (with_drawings M s p) above s p t can (s_there M s p t sound accepted)
 
   pub volumes_shared : six_volume M s ≡ six_volume (split_model M s p t) s +ℤ six_volume (split_model M s p t) t
   unfolding split_model

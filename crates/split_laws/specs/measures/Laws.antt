@@ -3,7 +3,7 @@ use Rattle.std.specs.Prelude.{◌≡◌, ◌≢◌, ℕ, ◌+ℤ◌, false, None
 use Rattle.euler_operators.specs.declared.Plane.{Plane}
 use Rattle.euler_operators.specs.Vectors.{is_above, is_below}
 use Rattle.euler_operators.specs.Model.{Model}
-use Rattle.euler_operators.specs.Sound.{Sound}
+use Rattle.euler_operators.specs.Sound.{Sound, Has}
 use Rattle.shapes.specs.Faces.{start, vertices_of}
 use Rattle.shapes.specs.Measure.{six_volume}
 use Rattle.shapes.specs.split.Sides.{some_above, some_below, faces_above}
@@ -17,6 +17,10 @@ use Rattle.split_laws.specs.sides.Sided.{IsOfSolid}
 abbrev pub SplitsCanBeSplit : Type 0
 SplitsCanBeSplit = (M : Model) (s : ℕ) (p : Plane) (t : ℕ) → Sound M → split_refusal M s p t ≡ None →
     CanBeSplit (with_drawings M s p) (faces_above (with_drawings M s p).model p s) s p t
+
+-- both parts are solids of the model
+abbrev pub PartsAreSolids : Type 0
+PartsAreSolids = (M : Model) (s : ℕ) (p : Plane) (t : ℕ) → Sound M → split_refusal M s p t ≡ None → Has (split_model M s p t).solids s × Has (split_model M s p t).solids t
 
 -- the six volumes of the two parts sum to those of the solid
 abbrev pub SplitsShareVolumes : Type 0
