@@ -45,7 +45,7 @@ module _ (M : Model) (s : ℕ) (p : Plane) (t : ℕ) where
     unfolding first_conditions
     plane_within = ((coordinate_within p.a first.1.1.1.1.0, coordinate_within p.b first.1.1.1.1.1.0, coordinate_within p.c first.1.1.1.1.1.1.0), offset_within p.d first.1.1.1.1.1.1.1.0)
 
-    s_there : Has M.solids s
+    pub s_there : Has M.solids s
     unfolding first_conditions
     s_there = first.1.1.0
 

@@ -3,7 +3,7 @@ use Rattle.std.specs.Prelude.{◌≡◌, ℕ, Bool, true, false, cond, ◌&&◌,
 use Rattle.euler_operators.specs.declared.Point.{Point}
 use Rattle.euler_operators.specs.HalfEdge.{mate, plus}
 use Rattle.euler_operators.specs.Table as table
-use Rattle.euler_operators.specs.Model.{Model, LoopContent, lone, cycle, items_of, tail, content, outer, point_of, solid_of, rings_of}
+use Rattle.euler_operators.specs.Model.{Model, LoopContent, lone, cycle, items_of, tail, content, outer, point_of, solid_of, faces_of, rings_of}
 use Rattle.euler_operators.specs.Conditions.{face_at, is_lone, lists}
 
 -- the loops of a face: the outer one, then the rings, rising
@@ -32,12 +32,21 @@ vertices_in M (l ∷ ls) = vertices_on M (content M l) ++ vertices_in M ls
 unfoldable pub corners : Model → ℕ → List ℕ
 corners M f = vertices_in M (loops_of M f)
 
+-- the vertices of the corners of some faces
+abbrev pub corners_in : Model → List ℕ → List ℕ
+corners_in M [] = []
+corners_in M (f ∷ fs) = corners M f ++ corners_in M fs
+
 -- the points at which a half-edge starts and ends
 abbrev pub start : Model → ℕ → Point
 start M h = point_of M (tail M h)
 
 abbrev pub finish : Model → ℕ → Point
 finish M h = start M (mate h)
+
+-- the vertices of a solid, rising
+abbrev pub vertices_of : Model → ℕ → List ℕ
+vertices_of M s = table.all_where (λ v _. lists (corners_in M (faces_of M s)) v) M.vertices
 
 -- the edges of a solid, rising
 abbrev pub edges_of : Model → ℕ → List ℕ

@@ -11,10 +11,10 @@
 
 ghost use Rattle.split_drawing_laws.specs.crossings.Laws.{CrossingsAreAccepted, CrossingsAreMade, CrossingsAreSound, CrossingsAreCounted, CrossingsKeep, NoneCrosses, PlacesStart, TailsStay};
 ghost use Rattle.split_drawing_laws.specs.drawings.Laws.{DrawingsAreAccepted, DrawingsAreMade, DrawingsAreSound, DrawingsKeep};
-ghost use Rattle.split_drawing_laws.specs.pairs.Laws.{CutPlacesCanBeDrawn, RewritingsAreAccepted, RewritingsAreMade, RewritingsAreSound};
+ghost use Rattle.split_drawing_laws.specs.pairs.Laws.{CutPlacesCanBeDrawn, CutPlacesPairUp, RewritingsAreAccepted, RewritingsAreMade, RewritingsAreSound};
 ghost use Rattle.split_drawing_laws.specs.loop_sides.Laws.{LoopsLieOnOneSide};
 ghost use Rattle.split_drawing_laws.specs.half_sides.Laws.{HalfEdgesTakeSides};
-ghost use Rattle.split_drawing_laws.specs.face_sides.Laws.{LoopsOfSolidsLieOnOneSide, NoneStraddles};
+ghost use Rattle.split_drawing_laws.specs.face_sides.Laws.{LoopsOfSolidsLieOnOneSide, NoneStraddles, SolidsHaveNoLoneLoop};
 ghost use Rattle.split_drawing_laws.specs.cut_volumes.Laws.{CrossingsKeepNormals, CrossingsKeepPlanes, CrossingsKeepFlat, CrossingsKeepVolumes};
 ghost use Rattle.split_drawing_laws.specs.drawn_volumes.Laws.{DrawingsKeepPlanes, DrawingsKeepVolumes};
 
@@ -47,9 +47,11 @@ pub fn drawings_are_made()
 {}
 
 /// Once the edges that cross the plane are cut, the pairs of cut places of each face that straddles fit: their half-edges are of
-/// that face and start at different vertices, a pair that is the only one stands in one loop, and numbers are left for all.
+/// that face and start at different vertices, a pair that is the only one stands in one loop, and numbers are left for all. The cut
+/// places of such a face are even in number, so that each stands in a pair.
 pub fn cut_places_can_be_drawn()
     ensures drawable { CutPlacesCanBeDrawn }
+    ensures paired { CutPlacesPairUp }
 {}
 
 /// None of the operators that cut the crossing edges and then draw the faces is refused; together they make both rewritings, a
@@ -71,11 +73,12 @@ pub fn half_edges_take_sides()
     ensures sides { HalfEdgesTakeSides }
 {}
 
-/// Edges cut and drawn, no face being stuck: each loop of the solid then lies on one closed side of the plane, and no face of it
-/// straddles the plane any more.
+/// Edges cut and drawn, no face being stuck: each loop of the solid then lies on one closed side of the plane, no face of it
+/// straddles the plane any more, and no loop of it is lone.
 pub fn faces_lie_on_one_side()
     ensures loops { LoopsOfSolidsLieOnOneSide }
     ensures faces { NoneStraddles }
+    ensures lone { SolidsHaveNoLoneLoop }
 {}
 
 /// While the edges of a solid that cross a plane are cut, each face keeps its normal, the corners of a face stay on each plane

@@ -26,7 +26,6 @@ use Rattle.split_opening_laws.proofs.sections.OpenedRows.{vertices_are}
 use Rattle.split_opening_laws.proofs.sections.StillFree.{copied_other}
 use Rattle.split_opening_laws.proofs.sections.CyclesStay.{start_same, end_same, starts_elsewhere}
 use Rattle.split_opening_laws.proofs.sections.InTurn.{others_on}
-use Rattle.split_laws.proofs.Openings.{openings_sound}
 
 -- ---- one opening
 
@@ -87,7 +86,7 @@ pub flags_are : (above : List ℕ) (s : ℕ) (p : Plane) (o : Opening) (cs : Lis
 flags_are above s p o [] w = sym (append-nil (map (λ k. k.hole) o.caps))
 flags_are above s p o (bs ∷ cs) w =
     let n : Opening = next_opened p above s o bs in
-    flags_are above s p n cs (others_on above s p o bs cs w (openings_sound above s p o bs cs w))
+    flags_are above s p n cs (others_on above s p o bs cs w)
     ∙ (λ i. next_flags above s p o bs i ++ next_holes above s p o bs cs w i)
     ∙ append_assoc (map (λ k. k.hole) o.caps) (is_hole o.model p bs ∷ []) (map (is_hole o.model p) cs)
 

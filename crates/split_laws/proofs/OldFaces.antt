@@ -16,7 +16,6 @@ use Rattle.split_opening_laws.specs.sections.InTurn.{CanBeOpenedInTurn}
 use Rattle.split_opening_laws.proofs.sections.Rims.{other_number}
 use Rattle.split_opening_laws.proofs.sections.OpenedRows.{face_still}
 use Rattle.split_opening_laws.proofs.sections.InTurn.{others_on}
-use Rattle.split_laws.proofs.Openings.{openings_sound}
 
 -- face f has its row of M, and is none of the caps
 pub record IsOld (M : Model) (o : Opening) (f : ℕ) : Type 0 where
@@ -42,7 +41,7 @@ old_next M above s p o bs cs w f there a =
 
 pub all_old : (M : Model) (above : List ℕ) (s : ℕ) (p : Plane) (o : Opening) (cs : List (List ℕ)) → CanBeOpenedInTurn above s o cs → (f : ℕ) → Has M.faces f → IsOld M o f → IsOld M (all_opened p above s o cs) f
 all_old M above s p o [] w f there a = a
-all_old M above s p o (bs ∷ cs) w f there a = all_old M above s p (next_opened p above s o bs) cs (others_on above s p o bs cs w (openings_sound above s p o bs cs w)) f there (old_next M above s p o bs cs w f there a)
+all_old M above s p o (bs ∷ cs) w f there a = all_old M above s p (next_opened p above s o bs) cs (others_on above s p o bs cs w) f there (old_next M above s p o bs cs w f there a)
 
 pub next_solids : (above : List ℕ) (s : ℕ) (p : Plane) (o : Opening) (bs : List ℕ) → (next_opened p above s o bs).model.solids ≡ o.model.solids
 unfolding next_opened opened_along

@@ -29,7 +29,7 @@ use Rattle.split_opening_laws.specs.sections.InTurn.{upper_faces, CanBeOpenedInT
 use Rattle.split_opening_laws.proofs.sections.InTurn.{all_on}
 use Rattle.split_opening_laws.proofs.sections.Capping.{caps_rise}
 use Rattle.split_laws.specs.SplitOps.{openings_ops, closing_ops, hole_ops, upper_left, upper_ops, ops_above, split_ops}
-use Rattle.split_laws.proofs.Openings.{openings_sound, openings_go}
+use Rattle.split_laws.proofs.Openings.{openings_go}
 use Rattle.split_laws.proofs.Closing.{CanPart}
 use Rattle.split_laws.proofs.Holes.{AreLevel, CanClose, AreClosed, none_closed, all_close, can_close, holes_counted}
 use Rattle.split_laws.proofs.Parting.{still_there, BothSides, part_leads}
@@ -93,10 +93,10 @@ module _ (M : Model) (s : ℕ) (p : Plane) (t : ℕ) (sound : Sound M) (accepted
   K = holes_closed X.model ks
 
   opened : CanBeOpenedInTurn above s X []
-  opened = all_on openings_sound above s p begun cycles (can_open_all M s p t sound accepted)
+  opened = all_on above s p begun cycles (can_open_all M s p t sound accepted)
 
   caps : HasCaps above s X
-  caps = caps_rise openings_sound above s p begun cycles (can_open_all M s p t sound accepted) (no_caps M s p t sound accepted)
+  caps = caps_rise above s p begun cycles (can_open_all M s p t sound accepted) (no_caps M s p t sound accepted)
 
   old : (f : ℕ) → Has D.faces f → IsOld D X f
   old f there = all_old D above s p begun cycles (can_open_all M s p t sound accepted) f there (record { row = refl; no_cap = refl })

@@ -1,2 +1,4 @@
 pub mod Sides
 pub mod Begun
+pub mod Lone
+pub mod Vertices

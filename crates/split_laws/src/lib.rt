@@ -14,7 +14,7 @@ ghost use Rattle.split_laws.specs.Laws.{OpeningsAreAccepted, OpeningsAreMade, Sp
 ghost use Rattle.split_laws.specs.opened.Laws.{OpeningKeepsVolumes, OpeningsKeepVolumes, CapsLieAlong};
 ghost use Rattle.split_laws.specs.volumes.Laws.{PartSharesVolumes, PartKeepsOthers, ClosingKeepsVolumes, SplitSharesVolumes, SplitKeepsOthers};
 ghost use Rattle.split_laws.specs.sides.Laws.{FacesAreSided, OpeningsKeepSides, PartsLieOnTheirSides};
-ghost use Rattle.split_laws.specs.measures.Laws.{SplitsCanBeSplit, SplitsShareVolumes, SplitsKeepOthers, PartsLieOnEitherSide};
+ghost use Rattle.split_laws.specs.measures.Laws.{SplitsCanBeSplit, PartsAreSolids, SplitsShareVolumes, SplitsKeepOthers, PartsLieOnEitherSide, PartsHaveNoLoneLoop, VerticesLieOnEitherSide};
 
 /// Edges cut and faces drawn: each half-edge stays in its solid, and the solid that is split has a face above and one that isn't.
 pub fn solids_reach_both_sides()
@@ -82,13 +82,17 @@ pub fn splits_can_be_split()
     ensures all { SplitsCanBeSplit }
 {}
 
-/// So the two parts of the solid share its six volumes, and all other solids keep theirs.
+/// So there are two solids then that share the six volumes of the one, and all others keep theirs.
 pub fn parts_share_volumes()
+    ensures solids { PartsAreSolids }
     ensures two { SplitsShareVolumes }
     ensures others { SplitsKeepOthers }
 {}
 
-/// And the solid that keeps its number lies on or below the plane, the new one on or above it.
+/// And the solid that keeps its number lies on or below the plane, the new one on or above it: so do the starts of their half-edges,
+/// and, since no loop of either is lone, all their vertices.
 pub fn parts_lie_on_either_side()
     ensures sides { PartsLieOnEitherSide }
+    ensures lone { PartsHaveNoLoneLoop }
+    ensures vertices { VerticesLieOnEitherSide }
 {}

@@ -9,7 +9,7 @@
 #![tactic(auto)]
 
 ghost use Rattle.split_opening_laws.specs.cycles.Laws.{BelowHalvesRise, BelowHalvesAre, AsManyStartAsEnd, OneStartsAndOneEnds, NextBelowPermutes, CyclesCover, CyclesRise, CyclesLeadRound, CyclesAreApart};
-ghost use Rattle.split_opening_laws.specs.sections.Laws.{CyclesStay, NumbersStayFree, SectionsCanBeOpened, OthersCanBeOpened, AllAreOpened, NoneIsTorn, CapsStay, CapsRise};
+ghost use Rattle.split_opening_laws.specs.sections.Laws.{CyclesStay, NumbersStayFree, SectionsCanBeOpened, OpeningsAreSound, OthersCanBeOpened, AllAreOpened, NoneIsTorn, CapsStay, CapsRise};
 ghost use Rattle.split_opening_laws.specs.strips.Laws.{StripsAreAccepted, StripsAreCut, StrippedIsSound};
 ghost use Rattle.split_opening_laws.specs.copies.Laws.{CopiesAreAccepted, CopiesAreRaised, CopiesAreSound};
 ghost use Rattle.split_opening_laws.specs.caps.Laws.{CyclesHaveTwo, CapsAreAccepted, StripsAreJoined, CapsAreMade, CappedAreSound};
@@ -45,11 +45,12 @@ pub fn other_cycles_stay()
     ensures numbers { NumbersStayFree }
 {}
 
-/// A solid can be opened along the cycles of its section where no vertex is branched and numbers are left: along the first, then
-/// along the others. If each opening leaves a sound model, it can be opened along all of them. Then no edge is left between an upper
-/// face, which is one above or a cap above, and another face.
+/// A solid can be opened along the cycles of its section where no vertex is branched and numbers are left: along the first, which
+/// leaves a sound model, then along the others, and so along all of them. Then no edge is left between an upper face, which is one
+/// above or a cap above, and another face.
 pub fn cycles_open_in_turn()
     ensures first { SectionsCanBeOpened }
+    ensures sound { OpeningsAreSound }
     ensures others { OthersCanBeOpened }
     ensures all { AllAreOpened }
     ensures parted { NoneIsTorn }

@@ -10,10 +10,9 @@ use Rattle.euler_laws.specs.Laws.{effects}
 use Rattle.shapes.specs.split.Section.{is_hole}
 use Rattle.shapes.specs.split.Opening.{Opening, opened_along, next_opened, all_opened}
 use Rattle.split_opening_laws.specs.sections.InTurn.{CanBeOpenedInTurn}
-use Rattle.split_opening_laws.proofs.sections.InTurn.{others_on}
+use Rattle.split_opening_laws.proofs.sections.InTurn.{can_open, others_on}
 use Rattle.split_opening_laws.specs.opening.OpeningOps.{opening_ops}
 use Rattle.split_opening_laws.proofs.opening.Whole.{opening_made}
-use Rattle.split_laws.proofs.Openings.{can_open, openings_sound}
 use Rattle.split_laws.proofs.Flags.{flags_are, next_flags}
 use Rattle.split_checks.proofs.cut_places_laws.Lists.{others, parts}
 use Rattle.split_checks.specs.Progress.{taken_of}
@@ -69,7 +68,7 @@ module _ (above : List ℕ) (s : ℕ) (p : Plane) (M : Model) (c : Progress) (ca
   can_next = (above, can_open above s o bs cs w)
 
   others_next : CanBeOpenedInTurn above s (next_opened p above s o bs) cs
-  others_next = others_on above s p o bs cs w (openings_sound above s p o bs cs w)
+  others_next = others_on above s p o bs cs w
 
   -- where it is told whether the cycles are holes, and the solid is opened along the first
   module _ (flags : k.hole ∷ map (λ q. q.hole) ks ≡ is_hole M p (halves_of k) ∷ map (is_hole M p) (map halves_of ks)) (K : Model) (e : K ≡ effects M (opening_ops M s (taken_of c) (halves_of k)))

@@ -1,5 +1,6 @@
 -- Worked examples of splits that are refused, computed: one for each condition.
-use Rattle.std.specs.Prelude.{◌≡◌, pos, negsuc, [], ◌∷◌, None, refl}
+use Rattle.std.specs.Prelude.{◌≡◌, true, pos, negsuc, [], ◌∷◌, None, refl}
+use Rattle.std.specs.List.{list_all}
 use Rattle.euler_operators.specs.declared.Corner.TheVariants.{At, Lone}
 use Rattle.euler_operators.specs.Model.{Model, empty_model}
 use Rattle.euler_operators.specs.Conditions.{first_refusal}
@@ -9,6 +10,7 @@ use Rattle.euler_operators.proofs.WorkedScripts.{at, after_run, refused, plus, m
 use Rattle.shapes.specs.Lamina.{lamina_model}
 use Rattle.shapes.specs.Prism.{prism_model}
 use Rattle.shapes.specs.Block.{block_model}
+use Rattle.shapes.specs.split.Places.{sorted_pairs, is_up_and_down}
 use Rattle.shapes.specs.split.Split.{first_conditions, split_refusal}
 use Rattle.shapes.proofs.split.WorkedSplits.{computed, point, plane, block4}
 
@@ -75,9 +77,18 @@ pub cut-crossed : split_refusal (prism_model (lamina_model empty_model 1 (at 0 0
 unfolding computed
 cut-crossed = refl
 
--- a ring beside the outer loop: each is cut at two places that make a pair, so that a ring is left
-abbrev pub ring_beside : Model
-ring_beside = after_run (lamina_model empty_model 1 (at 0 0 0 ∷ at 2 0 0 ∷ at 2 2 0 ∷ at 0 2 0 ∷ [])) (Mev (At (plus 1)) (At (plus 1)) (plus 5) 5 (at 4 0 0)
+-- two cut places have equal points, where the boundary crosses itself; each pair is one up and one down
+abbrev pub crossing_itself : Model
+crossing_itself = lamina_model empty_model 1 (at 0 0 0 ∷ at 2 2 0 ∷ at 4 2 0 ∷ at 4 0 0 ∷ at 2 0 0 ∷ at 0 2 0 ∷ [])
+
+pub places-meet : (split_refusal crossing_itself 1 (plane (pos 0) (pos 1) (pos 0) (negsuc 0)) 2 ≡ refused CutCrossed 1)
+    × (list_all (is_up_and_down crossing_itself (plane (pos 0) (pos 1) (pos 0) (negsuc 0))) (sorted_pairs crossing_itself (plane (pos 0) (pos 1) (pos 0) (negsuc 0)) 1) ≡ true)
+unfolding computed
+places-meet = (refl, refl)
+
+-- a ring beside the outer loop of a lamina of four corners
+abbrev pub with_ring_beside : Model → Model
+with_ring_beside M = after_run M (Mev (At (plus 1)) (At (plus 1)) (plus 5) 5 (at 4 0 0)
     ∷ Mev (At (minus 5)) (At (minus 5)) (plus 6) 6 (at 7 0 0)
     ∷ Mev (At (minus 6)) (At (minus 6)) (plus 7) 7 (at 7 2 0)
     ∷ Mev (At (minus 7)) (At (minus 7)) (plus 8) 8 (at 4 2 0)
@@ -85,9 +96,26 @@ ring_beside = after_run (lamina_model empty_model 1 (at 0 0 0 ∷ at 2 0 0 ∷ a
     ∷ Kemr (plus 5) 4
     ∷ [])
 
+-- the ring is cut at two places, and the outer loop lies above
+pub outer-uncut : split_refusal (with_ring_beside (lamina_model empty_model 1 (at 0 2 0 ∷ at 2 2 0 ∷ at 2 4 0 ∷ at 0 4 0 ∷ []))) 1 (plane (pos 0) (pos 1) (pos 0) (negsuc 0)) 2 ≡ refused CutOften 3
+unfolding computed
+outer-uncut = refl
+
+-- each of the two is cut at two places that make a pair, so that a ring is left
+abbrev pub ring_beside : Model
+ring_beside = with_ring_beside (lamina_model empty_model 1 (at 0 0 0 ∷ at 2 0 0 ∷ at 2 2 0 ∷ at 0 2 0 ∷ []))
+
 pub ring-left : (first_refusal (first_conditions ring_beside 1 (plane (pos 0) (pos 1) (pos 0) (negsuc 0)) 2) ≡ None) × (split_refusal ring_beside 1 (plane (pos 0) (pos 1) (pos 0) (negsuc 0)) 2 ≡ refused CutCrossed 3)
 unfolding computed
 ring-left = (refl, refl)
+
+-- three pairs in one loop: the first cuts the places of the second apart, which can't be drawn then
+abbrev pub folded : Model
+folded = lamina_model empty_model 1 (at 0 0 0 ∷ at 0 2 0 ∷ at 2 2 0 ∷ at 2 0 0 ∷ at 4 0 0 ∷ at 4 2 0 ∷ at 1 2 0 ∷ at 1 0 0 ∷ at 3 0 0 ∷ at 3 2 0 ∷ at 5 2 0 ∷ at 5 0 0 ∷ [])
+
+pub pair-cut-apart : (first_refusal (first_conditions folded 1 (plane (pos 0) (pos 1) (pos 0) (negsuc 0)) 2) ≡ None) × (split_refusal folded 1 (plane (pos 0) (pos 1) (pos 0) (negsuc 0)) 2 ≡ refused CutCrossed 1)
+unfolding computed
+pair-cut-apart = (refl, refl)
 
 -- ---- the section
 

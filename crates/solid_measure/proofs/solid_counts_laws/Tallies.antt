@@ -21,8 +21,8 @@ use Rattle.euler_operators.proofs.Tables.{row_some}
 use Rattle.euler_operators.specs.Conditions.{lists, is_lone, face_at}
 use Rattle.euler_laws.proofs.shared.Fans.{kept_round, loop_after}
 use Rattle.euler_laws.proofs.shared.Listed.{listed_passes, passes_listed, all_where-rises, IsIn-from_listed, listed-from_in}
-use Rattle.shapes.specs.Faces.{items_in, loops_of, vertices_on, vertices_in, corners, edges_of}
-use Rattle.solid_measure.specs.solid_counts.Counts.{corners_in, rings_in, vertices_of, counts}
+use Rattle.shapes.specs.Faces.{items_in, loops_of, vertices_on, vertices_in, corners, corners_in, vertices_of, edges_of}
+use Rattle.solid_measure.specs.solid_counts.Counts.{rings_in, counts}
 use Rattle.solid_measure.specs.declared.solid_counts.Met.{Met}
 use Rattle.solid_measure.specs.declared.solid_counts.Tally.{Tally}
 use Rattle.solid_measure.specs.solid_counts.Sums.{IsFew, loops_met}

@@ -2,28 +2,16 @@
 use Rattle.std.specs.Prelude.{ℕ, ◌+◌, pos, ◌-ℤ◌, List, [], ◌∷◌, ◌++◌, length, Option, Some, None, Result, Ok, Err}
 use Rattle.euler_operators.specs.Table as table
 use Rattle.euler_operators.specs.Model.{Model, faces_of, rings_of}
-use Rattle.euler_operators.specs.Conditions.{need, first_refusal, numbers_in_range, lists}
+use Rattle.euler_operators.specs.Conditions.{need, first_refusal, numbers_in_range}
 use Rattle.euler_operators.specs.declared.Refusal.{Refusal}
 use Rattle.euler_operators.specs.declared.Why.TheVariants.{NoSolid}
-use Rattle.shapes.specs.Faces.{corners, edges_of}
+use Rattle.shapes.specs.Faces.{vertices_of, edges_of}
 use Rattle.solid_measure.specs.declared.solid_counts.Tally.{Tally}
 
--- the vertices of the corners of some faces, and the rings of these faces
-abbrev pub corners_in : Model → List ℕ → List ℕ
-corners_in M [] = []
-corners_in M (f ∷ fs) = corners M f ++ corners_in M fs
-
+-- the rings of some faces
 abbrev pub rings_in : Model → List ℕ → List ℕ
 rings_in M [] = []
 rings_in M (f ∷ fs) = rings_of M f ++ rings_in M fs
-
--- the vertices that stand in a list, rising
-abbrev pub vertices_listed : Model → List ℕ → List ℕ
-vertices_listed M vs = table.all_where (λ v _. lists vs v) M.vertices
-
--- the vertices of a solid, rising
-abbrev pub vertices_of : Model → ℕ → List ℕ
-vertices_of M s = vertices_listed M (corners_in M (faces_of M s))
 
 abbrev pub tally_of : ℕ → ℕ → ℕ → ℕ → Tally
 tally_of v e f r = record { v = v; e = e; f = f; r = r; sum = pos (v + f) -ℤ pos (e + r) }

@@ -6,12 +6,10 @@ use Rattle.std.proofs.lemmas.Bool.Decides.{eqb_tells}
 use Rattle.std.proofs.lemmas.Bool.{ne_eqb, eq-eqb}
 use Rattle.euler_operators.specs.Items.{count, tick, IsIn}
 use Rattle.euler_operators.proofs.Lists.{count-append, tick_same, tick_other}
-use Rattle.euler_operators.specs.Table as table
 use Rattle.euler_operators.specs.Model.{Model, LoopContent, lone, cycle, items_of, content, outer, tail, face_of, rings_of}
 use Rattle.euler_operators.specs.Sound.{Has}
 use Rattle.euler_laws.proofs.shared.Goes.{not_false}
 use Rattle.euler_laws.proofs.shared.Rows.{loop_row}
-use Rattle.euler_laws.proofs.shared.Listed.{IsIn-from_listed}
 use Rattle.shapes.proofs.fresh.Tests.{NoneSuch, NoZero}
 use Rattle.shapes.specs.Faces.{loops_of, items_in, boundary, vertices_on, vertices_in, corners}
 use Rattle.euler_laws.proofs.shared.Counted.{all_where_in}

@@ -7,7 +7,7 @@ use Rattle.std.specs.FinMap.Entries.{find}
 use Rattle.std.proofs.lemmas.Bool.Decides.{nat_tests, eqb_tells}
 use Rattle.euler_operators.specs.declared.Point.{Point}
 use Rattle.euler_operators.specs.Items.{count, IsIn}
-use Rattle.euler_operators.specs.Rings.{canonical, successor, rest}
+use Rattle.euler_operators.specs.Rings.{canonical, successor}
 use Rattle.euler_operators.specs.Rings as rings
 use Rattle.euler_operators.specs.Edits.{insert_before}
 use Rattle.euler_operators.proofs.Edits.{count-insert_before}

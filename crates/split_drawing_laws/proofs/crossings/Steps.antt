@@ -11,7 +11,6 @@ use Rattle.euler_operators.proofs.Rotations.{count-canonical}
 use Rattle.euler_operators.specs.declared.Corner.TheVariants.{At}
 use Rattle.euler_operators.specs.HalfEdge.{edge_of, is_first, plus, minus, half, code}
 use Rattle.euler_operators.specs.Table as table
-use Rattle.euler_operators.specs.Table.{Table}
 use Rattle.euler_operators.specs.Model.{Model, LoopContent, lone, cycle, EdgeRow, items_of, holds, tail, tail_in, loop_of, content, after, point_of, no_point, is_number}
 use Rattle.euler_operators.specs.Sound.{Sound, Has, HasHalf}
 use Rattle.euler_operators.proofs.Halves.{plus_row, minus_row, code-half, mate_minus}

@@ -3,7 +3,6 @@ use Rattle.std.proofs.Common.{◌≡◌, ℕ, suc, ◌+◌, Bool, true, false, c
 use Rattle.std.proofs.lemmas.Bool.{eqb-true}
 use Rattle.euler_operators.specs.declared.Plane.{Plane}
 use Rattle.euler_operators.specs.Model.{Model, content}
-use Rattle.euler_operators.specs.Sound.{Sound}
 use Rattle.euler_operators.specs.declared.Op.{Op}
 use Rattle.euler_operators.specs.Conditions.{has_rings}
 use Rattle.shapes.specs.Faces.{vertices_on}
@@ -11,7 +10,7 @@ use Rattle.shapes.specs.split.Sides.{some_above}
 use Rattle.shapes.specs.split.Drawing.{Drawing, stuck_at, all_joined, ring_free, all_drawn, rings_above, with_rings, drawn_between}
 use Rattle.split_drawing_laws.specs.drawings.DrawingOps.{draw_ops, ring_ops, share_ops, drawn_ops, join_ops, face_ops}
 use Rattle.split_drawing_laws.specs.drawings.DrawnIn.{DrawnIn, Fresh, Room}
-use Rattle.split_drawing_laws.specs.drawings.Pairs.{AllFit, LoneInOneLoop}
+use Rattle.split_drawing_laws.specs.drawings.Pairs.{AllFit}
 use Rattle.split_drawing_laws.proofs.drawings.Pairs.{none_joined, joined_drawn, drawn_newer}
 use Rattle.split_drawing_laws.specs.drawings.Passing.{Ready, Joining, Going}
 use Rattle.split_drawing_laws.proofs.drawings.Passes.{Joins, joins_go, join_next_one, Draws, draws_go, draw_next_one, cut_off, room_as, edge_fits, face_fits, loop_fits}

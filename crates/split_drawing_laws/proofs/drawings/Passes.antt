@@ -8,7 +8,7 @@ use Rattle.shapes.proofs.fresh.Tests.{number_fits}
 use Rattle.shapes.specs.Fresh.{Taken}
 use Rattle.shapes.specs.split.Drawing.{Drawing, face_drawn, in_one_loop, joined_pair, join_next, draw_next, stuck_at}
 use Rattle.split_drawing_laws.specs.drawings.DrawingOps.{join_pair, join_ops, draw_pair, draw_ops}
-use Rattle.split_drawing_laws.specs.drawings.DrawnIn.{JoinedIn, DrawnIn, Fresh, Room}
+use Rattle.split_drawing_laws.specs.drawings.DrawnIn.{Room}
 use Rattle.split_drawing_laws.specs.drawings.Pairs.{Fits, AllFit}
 use Rattle.split_drawing_laws.specs.drawings.Passing.{Joining, Going}
 use Rattle.split_drawing_laws.proofs.drawings.Pairs.{pair_leads, pair_joined, pair_fresh, pair_draws, pair_drawn, drawn_fresh}

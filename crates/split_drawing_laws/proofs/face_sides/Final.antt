@@ -8,7 +8,7 @@ use Rattle.euler_operators.specs.Items.{IsIn}
 use Rattle.euler_operators.proofs.Lists.{count-append, tick_same, tick_other, IsIn_or_not}
 use Rattle.euler_operators.specs.Model.{Model, LoopContent, cycle, items_of, content, has_half, tail, loop_of, face_of, solid_of, outer, point_of, faces_of, no_face}
 use Rattle.euler_operators.specs.Sound.{Sound, Has, HasHalf}
-use Rattle.euler_operators.proofs.Models.{in-holds, content_cycle, face_row, same_solid as solid_same}
+use Rattle.euler_operators.proofs.Models.{in-holds, content_cycle, face_row, never_lone, same_solid as solid_same}
 use Rattle.euler_operators.proofs.Tests.{and_first, and_false}
 use Rattle.euler_operators.proofs.Maps.{from_map}
 use Rattle.euler_operators.specs.Conditions.{face_at, lists}
@@ -31,7 +31,10 @@ use Rattle.split_drawing_laws.proofs.loop_sides.Parting.{loop_on_one_side}
 use Rattle.split_drawing_laws.proofs.loop_sides.SidesWhole.{all_drawn_parted, loops_on_one_side}
 use Rattle.split_drawing_laws.specs.half_sides.HalfSides.{side_of, is_own}
 use Rattle.split_drawing_laws.proofs.half_sides.Taking.{take_sides}
+use Rattle.split_drawing_laws.specs.face_sides.Lone.{NoLoopIsLone}
 use Rattle.split_drawing_laws.specs.face_sides.Laws.{IsDrawn}
+use Rattle.split_drawing_laws.proofs.crossings.Listed.{loop_in_face}
+use Rattle.split_drawing_laws.proofs.drawn_volumes.Bounds.{lone_there}
 use Rattle.split_drawing_laws.proofs.face_sides.Begun.{sided_first, pairs_of}
 use Rattle.split_drawing_laws.proofs.face_sides.OneFace.{IsSided}
 use Rattle.split_drawing_laws.proofs.face_sides.Same.{none_from}
@@ -180,6 +183,14 @@ module _ (M : Model) (s : ℕ) (p : Plane) (t : ℕ) (sound : Sound M) (begins :
     pub face_is_sided : straddles D p f ≡ false
     face_is_sided = either_none b corner_lies
 
+  -- ---- no loop of the solid is lone: each has a half-edge that is old
+
+  pub none_is_lone : NoLoopIsLone D s
+  none_is_lone l v at of_s =
+      let there : Has D.loops l = lone_there D l v at in
+      let face : Has D.faces (face_of D l) = D_sound.loops_of_faces l there in
+      never_lone (items_of (content D l)) v (sym (loop_cycle (face_of D l) face of_s l (loop_in_face D l there)) ∙ at)
+
 -- ---- the laws
 
 pub loops_lie : (M D : Model) (s : ℕ) (p : Plane) (t : ℕ) → Sound M → CanBegin M s p t → IsDrawn M s p D → (x y : ℕ) → HasHalf D x → HasHalf D y →
@@ -194,3 +205,7 @@ none_straddles M D s p t sound begins drawn = subst (λ X. (f : ℕ) → lists (
     let X : Model = (faces_drawn M p (with_crossings M s p) (straddling_faces M p s)).model in
     let w = all_where_has (λ _ row. nat_eq row.solid s) X.faces f (IsIn-from_listed f (faces_of X s) i) in
     face_is_sided M s p t sound begins drawn.0 f (ap is_some w.1) (ap (λ o. (unwrap_or o no_face).solid) w.1 ∙ eqb-true w.0.solid s w.2))
+
+pub none_lone : (M D : Model) (s : ℕ) (p : Plane) (t : ℕ) → Sound M → CanBegin M s p t → IsDrawn M s p D → NoLoopIsLone D s
+unfolding with_drawings
+none_lone M D s p t sound begins drawn = subst (λ X. NoLoopIsLone X s) drawn.1 (none_is_lone M s p t sound begins drawn.0)

@@ -1,20 +1,20 @@
 -- From the first conditions of a split to the drawing of its faces.
-use Rattle.std.proofs.Common.{◌≡◌, ◌≢◌, ℕ, true, false, not, nat_eq, ◌&&◌, List, [], ◌∷◌, length, is_some, refl, sym, ap, ◌∙◌, subst, arith}
+use Rattle.std.proofs.Common.{◌≡◌, ◌≢◌, ℕ, ◌*◌, true, false, not, nat_eq, ◌&&◌, List, [], ◌∷◌, length, is_some, refl, sym, ap, ◌∙◌, subst, arith}
 use Rattle.std.specs.List.{list_all}
+use Rattle.std.proofs.lemmas.List.{length-map}
 use Rattle.euler_operators.specs.declared.Plane.{Plane}
 use Rattle.euler_operators.specs.Items.{IsIn, IsApart}
 use Rattle.euler_operators.proofs.Lists.{tick_same}
-use Rattle.euler_operators.specs.Table as table
 use Rattle.euler_operators.specs.Model.{Model, tail, loop_of, face_of, outer, point_of, faces_of, rings_of}
 use Rattle.euler_operators.specs.Sound.{Sound, Has}
 use Rattle.euler_operators.proofs.Tests.{not_or_fails}
 use Rattle.euler_operators.proofs.Members.{count-filter}
-use Rattle.euler_operators.specs.Conditions.{face_at}
+use Rattle.euler_operators.specs.Conditions.{face_at, lists}
 use Rattle.euler_laws.specs.Laws.{AreAccepted, effects}
 use Rattle.euler_laws.proofs.Runs.{AreAccepted-append, effects-append}
 use Rattle.shapes.specs.Faces.{loops_of, boundary}
 use Rattle.shapes.specs.split.Sides.{straddles, straddling_faces}
-use Rattle.shapes.specs.split.Places.{is_place, places, loop_is_cut, is_cut_often, sorted, sorted_pairs, place_pairs}
+use Rattle.shapes.specs.split.Places.{is_place, places, loop_is_cut, is_cut_often, sorted, in_pairs, up_first, sorted_pairs, place_pairs}
 use Rattle.shapes.specs.split.Crossings.{with_crossings}
 use Rattle.shapes.specs.split.Drawing.{from_place, drawn_pairs, with_drawings}
 use Rattle.split_drawing_laws.specs.crossings.AtPlace.{AtPlace}
@@ -31,14 +31,14 @@ use Rattle.split_drawing_laws.proofs.drawings.Counted.{fresh_taken, straddling_a
 use Rattle.split_drawing_laws.proofs.drawings.Whole.{drawing_accepted, drawing_made, drawing_sound}
 use Rattle.split_drawing_laws.specs.pairs.Laws.{rewriting_ops}
 use Rattle.split_drawing_laws.proofs.pairs.Sorted.{count-sorted, sorted_apart, length-sorted}
-use Rattle.split_drawing_laws.proofs.pairs.Fitting.{between, drawn, all_fit, lone_in_loop}
+use Rattle.split_drawing_laws.proofs.pairs.Fitting.{all_paired, between, drawn, all_fit, lone_in_loop}
 use Rattle.split_drawing_laws.proofs.pairs.LoopPlaces.{places_even, two_outer}
 use Rattle.split_drawing_laws.proofs.pairs.Meetings.{points_apart}
 use Rattle.split_drawing_laws.proofs.pairs.Numbers.{pairs_room}
 use Rattle.split_drawing_laws.proofs.pairs.Turns.{IsEven}
 use Rattle.shapes.proofs.walks.FaceLoops.{different_items, loops_of_apart}
 use Rattle.euler_laws.proofs.shared.Counted.{all_where_has}
-use Rattle.euler_laws.proofs.shared.Listed.{listed-from_in}
+use Rattle.euler_laws.proofs.shared.Listed.{listed-from_in, IsIn-from_listed}
 
 -- ---- the half-edges of a face
 
@@ -100,12 +100,20 @@ module _ (M : Model) (s : ℕ) (p : Plane) (t : ℕ) (sound : Sound M) (begins :
     even : IsEven (length (sorted M p (places M p f)))
     even = subst IsEven (sym (length-sorted M p (places M p f))) (places_even M sound p f (premises.untouched f i))
 
+    paired : length (places M p f) ≡ 2 * length (place_pairs M p f)
+    unfolding place_pairs sorted_pairs
+    paired = sym (length-sorted M p (places M p f)) ∙ all_paired (sorted M p (places M p f)) even
+        ∙ ap (λ n. 2 * n) (sym (length-map (in_pairs (sorted M p (places M p f))) (up_first M p)))
+
     outer_only : length (sorted M p (places M p f)) ≡ 2 → (x : ℕ) → IsIn x (sorted M p (places M p f)) → loop_of N (from_place N p x) ≡ outer M f
     outer_only two x j = (at x (from_sorted x j)).loop
         ∙ two_outer M sound p f (premises.untouched f i) (outer_cut M p f (premises.not_often f i)) (sym (length-sorted M p (places M p f)) ∙ two) x (from_sorted x j)
 
     lone_pair : LoneInOneLoop N (drawn_pairs M N p f)
     lone_pair = subst (LoneInOneLoop N) (sym pairs_are) (lone_in_loop M N p (outer M f) (sorted M p (places M p f)) even outer_only)
+
+  pub pair_up : (f : ℕ) → lists (straddling_faces M p s) f ≡ true → length (places M p f) ≡ 2 * length (place_pairs M p f)
+  pair_up f l = paired f (IsIn-from_listed f (straddling_faces M p s) l)
 
   -- ---- all faces
 

@@ -1,5 +1,5 @@
--- The laws of the sides on which the loops and the faces of a solid lie once a split has drawn its edges, over every sound model
--- in which the first conditions of a split hold.
+-- The laws of the sides on which the loops and the faces of a solid lie once a split has drawn its edges, and that none of these loops
+-- is lone, over every sound model in which the first conditions of a split hold.
 use Rattle.std.specs.Prelude.{◌≡◌, ℕ, Bool, true, false}
 use Rattle.euler_operators.specs.declared.Plane.{Plane}
 use Rattle.euler_operators.specs.Model.{Model, loop_of, solid_of, faces_of}
@@ -10,6 +10,7 @@ use Rattle.shapes.specs.split.Sides.{straddles}
 use Rattle.shapes.specs.split.Drawing.{with_drawings}
 use Rattle.split_drawing_laws.specs.crossings.Laws.{CanBegin}
 use Rattle.split_drawing_laws.specs.loop_sides.Parted.{LiesOn}
+use Rattle.split_drawing_laws.specs.face_sides.Lone.{NoLoopIsLone}
 
 -- D is M with the edges of solid s cut and its faces drawn, none of which is stuck
 abbrev pub IsDrawn : Model → ℕ → Plane → Model → Type 0
@@ -23,3 +24,7 @@ LoopsOfSolidsLieOnOneSide = (M D : Model) (s : ℕ) (p : Plane) (t : ℕ) → So
 -- and no face of the solid straddles the plane any more
 abbrev pub NoneStraddles : Type 0
 NoneStraddles = (M D : Model) (s : ℕ) (p : Plane) (t : ℕ) → Sound M → CanBegin M s p t → IsDrawn M s p D → (f : ℕ) → lists (faces_of D s) f ≡ true → straddles D p f ≡ false
+
+-- nor is any loop of it lone
+abbrev pub SolidsHaveNoLoneLoop : Type 0
+SolidsHaveNoLoneLoop = (M D : Model) (s : ℕ) (p : Plane) (t : ℕ) → Sound M → CanBegin M s p t → IsDrawn M s p D → NoLoopIsLone D s

@@ -1,11 +1,13 @@
 -- The laws by which the first conditions of a split allow its second rewriting, over every sound model in which they hold.
-use Rattle.std.specs.Prelude.{◌≡◌, ℕ, List, ◌++◌}
+use Rattle.std.specs.Prelude.{◌≡◌, ℕ, ◌*◌, true, List, ◌++◌, length}
 use Rattle.euler_operators.specs.declared.Plane.{Plane}
 use Rattle.euler_operators.specs.Model.{Model}
 use Rattle.euler_operators.specs.Sound.{Sound}
 use Rattle.euler_operators.specs.declared.Op.{Op}
+use Rattle.euler_operators.specs.Conditions.{lists}
 use Rattle.euler_laws.specs.Laws.{AreAccepted, effects}
 use Rattle.shapes.specs.split.Sides.{straddling_faces}
+use Rattle.shapes.specs.split.Places.{places, place_pairs}
 use Rattle.shapes.specs.split.Crossings.{with_crossings}
 use Rattle.shapes.specs.split.Drawing.{with_drawings}
 use Rattle.split_drawing_laws.specs.crossings.CrossingOps.{crossing_ops}
@@ -16,6 +18,11 @@ use Rattle.split_drawing_laws.specs.drawings.Laws.{CanBeDrawn}
 -- once the edges that cross the plane are cut, the faces that straddle can be drawn between their pairs of cut places
 abbrev pub CutPlacesCanBeDrawn : Type 0
 CutPlacesCanBeDrawn = (M : Model) (s : ℕ) (p : Plane) (t : ℕ) → Sound M → CanBegin M s p t → CanBeDrawn M p (with_crossings M s p) (straddling_faces M p s)
+
+-- and none of a face's cut places is left out of its pairs: it has twice as many of the one as of the other
+abbrev pub CutPlacesPairUp : Type 0
+CutPlacesPairUp = (M : Model) (s : ℕ) (p : Plane) (t : ℕ) → Sound M → CanBegin M s p t → (f : ℕ) → lists (straddling_faces M p s) f ≡ true →
+    length (places M p f) ≡ 2 * length (place_pairs M p f)
 
 -- the operators of both rewritings: the edges that cross the plane cut, and then the faces that straddle drawn
 abbrev pub rewriting_ops : Model → ℕ → Plane → List Op

@@ -1,21 +1,27 @@
 -- The two parts of a split solid: from the drawn model to the one that the split makes.
-use Rattle.std.proofs.Common.{◌≡◌, ◌≢◌, ℕ, ◌+ℤ◌, false, List, None, sym, ◌∙◌}
+use Rattle.std.proofs.Common.{◌≡◌, ◌≢◌, ℕ, ◌+ℤ◌, false, List, None, refl, sym, ◌∙◌}
 use Rattle.euler_operators.specs.declared.Plane.{Plane}
 use Rattle.euler_operators.specs.Vectors.{is_above, is_below}
 use Rattle.euler_operators.specs.Model.{Model}
-use Rattle.euler_operators.specs.Sound.{Sound}
-use Rattle.shapes.specs.Faces.{start}
+use Rattle.euler_operators.specs.Sound.{Sound, Has}
+use Rattle.shapes.specs.Faces.{start, vertices_of}
 use Rattle.shapes.specs.Measure.{six_volume}
-use Rattle.shapes.specs.split.Sides.{faces_above}
+use Rattle.shapes.specs.split.Sides.{some_above, some_below, faces_above}
 use Rattle.shapes.specs.split.Drawing.{with_drawings}
 use Rattle.shapes.specs.split.Split.{split_refusal, split_model}
+use Rattle.split_drawing_laws.specs.face_sides.Lone.{NoLoopIsLone}
+use Rattle.split_drawing_laws.proofs.drawn_volumes.Bounds.{lone_there}
 use Rattle.split_drawing_laws.proofs.drawn_volumes.DrawWhole.{drawings_volumes}
+use Rattle.split_drawing_laws.proofs.face_sides.Final.{none_lone}
 use Rattle.split_laws.specs.volumes.Laws.{CanBeSplit}
-use Rattle.split_laws.proofs.volumes.Split.{split_shares, split_keeps}
+use Rattle.split_laws.proofs.volumes.Split.{both_there, split_shares, split_keeps}
 use Rattle.split_laws.specs.sides.Sided.{IsOfSolid}
 use Rattle.split_laws.proofs.sides.Sides.{parts_sided}
-use Rattle.split_laws.proofs.drawn.Drawn.{begins}
-use Rattle.split_laws.proofs.measures.Splittable.{drawn_sided, can_be_split}
+use Rattle.split_laws.proofs.sides.Lone.{NoneLone, parts_none}
+use Rattle.split_laws.proofs.sides.Vertices.{vertices_fail}
+use Rattle.split_laws.proofs.drawn.Drawn.{begins, never_stuck}
+use Rattle.split_laws.proofs.Whole.{split_sound}
+use Rattle.split_laws.proofs.measures.Splittable.{drawn_sided, s_there, can_be_split}
 
 module _ (M : Model) (s : ℕ) (p : Plane) (t : ℕ) (sound : Sound M) (accepted : split_refusal M s p t ≡ None) where
   abbrev above : List ℕ
@@ -28,6 +34,10 @@ module _ (M : Model) (s : ℕ) (p : Plane) (t : ℕ) (sound : Sound M) (accepted
   drawn_same : (u : ℕ) → six_volume (with_drawings M s p).model u ≡ six_volume M u
   drawn_same u = drawings_volumes M s p t sound (begins M s p t sound accepted) u
 
+  pub parts_there : Has (split_model M s p t).solids s × Has (split_model M s p t).solids t
+  unfolding split_model
+  parts_there = both_there (with_drawings M s p) above s p t can (s_there M s p t sound accepted)
+
   pub volumes_shared : six_volume M s ≡ six_volume (split_model M s p t) s +ℤ six_volume (split_model M s p t) t
   unfolding split_model
   volumes_shared = sym (drawn_same s) ∙ split_shares (with_drawings M s p) above s p t can
@@ -35,6 +45,28 @@ module _ (M : Model) (s : ℕ) (p : Plane) (t : ℕ) (sound : Sound M) (accepted
   pub on_either_side : (l h : ℕ) → (IsOfSolid (split_model M s p t) s l h → is_above p (start (split_model M s p t) h) ≡ false) × (IsOfSolid (split_model M s p t) t l h → is_below p (start (split_model M s p t) h) ≡ false)
   unfolding split_model
   on_either_side l h = parts_sided (with_drawings M s p) above s p t can (drawn_sided M s p t sound accepted) l h
+
+  -- no loop of either is lone
+  no_lone_left : NoneLone (split_model M s p t) s × NoneLone (split_model M s p t) t
+  unfolding split_model
+  no_lone_left = parts_none (with_drawings M s p) above s p t can
+      (λ l v at there. none_lone M (with_drawings M s p).model s p t sound (begins M s p t sound accepted) (never_stuck M s p t sound accepted, refl) l v at)
+
+  parts_sound : Sound (split_model M s p t)
+  parts_sound = split_sound M s p t sound accepted
+
+  pub none_is_lone : NoLoopIsLone (split_model M s p t) s × NoLoopIsLone (split_model M s p t) t
+  none_is_lone = (
+    λ l v at. no_lone_left.0 l v at (parts_sound.loops_of_faces l (lone_there (split_model M s p t) l v at)),
+    λ l v at. no_lone_left.1 l v at (parts_sound.loops_of_faces l (lone_there (split_model M s p t) l v at)),
+  )
+
+  -- so the vertices lie where the half-edges start
+  pub vertices_sided : (some_above (split_model M s p t) p (vertices_of (split_model M s p t) s) ≡ false) × (some_below (split_model M s p t) p (vertices_of (split_model M s p t) t) ≡ false)
+  vertices_sided = (
+    vertices_fail (split_model M s p t) parts_sound s none_is_lone.0 (is_above p) (λ l h. (on_either_side l h).0),
+    vertices_fail (split_model M s p t) parts_sound t none_is_lone.1 (is_below p) (λ l h. (on_either_side l h).1),
+  )
 
 pub others_kept : (M : Model) (s : ℕ) (p : Plane) (t u : ℕ) → Sound M → split_refusal M s p t ≡ None → u ≢ s → u ≢ t → six_volume (split_model M s p t) u ≡ six_volume M u
 unfolding split_model

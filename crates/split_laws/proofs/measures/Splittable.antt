@@ -116,7 +116,7 @@ module _ (M : Model) (s : ℕ) (p : Plane) (t : ℕ) (sound : Sound M) (accepted
 
   -- ---- the new solid's number is another one
 
-  s_there : Has D.solids s
+  pub s_there : Has (with_drawings M s p).model.solids s
   s_there = let f : HasFace D s above true = some_above M s p t sound accepted in subst (Has D.solids) f.of_solid (D_sound.faces_of_solids f.face f.there)
 
   two_solids : s ≢ t

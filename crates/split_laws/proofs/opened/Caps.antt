@@ -132,10 +132,10 @@ module _ (M : Model) (above : List ℕ) (s : ℕ) (c : Taken) (bs : List ℕ) (w
   pub lower_row : table.get N.faces (c.face + 1) ≡ Some (record { solid = s; outer = c.loop + 1 })
   lower_row = ap (λ t. table.get t (c.face + 1)) (faces_are M above s c bs) ∙ get-put_other _ (c.face + m + 1) _ (c.face + 1) (λ e. absurd (omega (arith, e, two_halves M above s c bs w))) ∙ get-put_here _ (c.face + 1) _
 
-  lower_loop : table.get N.loops (c.loop + 1) ≡ Some (record { face = c.face + 1; content = cycle (canonical (reverse (map mate bs))) })
+  pub lower_loop : table.get N.loops (c.loop + 1) ≡ Some (record { face = c.face + 1; content = cycle (canonical (reverse (map mate bs))) })
   lower_loop = ap (λ t. table.get t (c.loop + 1)) (loops_are M above s c bs) ∙ get-put_other _ (c.loop + m + 1) _ (c.loop + 1) (λ e. absurd (omega (arith, e, two_halves M above s c bs w))) ∙ get-put_here _ (c.loop + 1) _
 
-  upper_loop : table.get N.loops (c.loop + length bs + 1) ≡ Some (record { face = c.face + length bs + 1; content = cycle (map minus (numbers_after c.edge (length bs))) })
+  pub upper_loop : table.get N.loops (c.loop + length bs + 1) ≡ Some (record { face = c.face + length bs + 1; content = cycle (map minus (numbers_after c.edge (length bs))) })
   upper_loop = ap (λ t. table.get t (c.loop + m + 1)) (loops_are M above s c bs) ∙ get-put_here _ (c.loop + m + 1) _
 
   -- ---- which loops there are

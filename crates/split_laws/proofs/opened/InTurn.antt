@@ -11,7 +11,7 @@ use Rattle.euler_operators.proofs.Rotations.{count-canonical, IsIn_head}
 use Rattle.euler_operators.proofs.Tables.{row_some}
 use Rattle.euler_operators.specs.Table as table
 use Rattle.euler_operators.specs.Model.{Model, cycle, items_of, tail, content, outer, point_of}
-use Rattle.euler_operators.specs.Sound.{Sound, Has, HasHalf}
+use Rattle.euler_operators.specs.Sound.{Has, HasHalf}
 use Rattle.shapes.proofs.fresh.Rows.{get-put_cases}
 use Rattle.shapes.specs.Faces.{start}
 use Rattle.shapes.specs.Fresh.{Taken}
@@ -21,12 +21,11 @@ use Rattle.solid_measure_laws.proofs.FlatFaces.{told_alike}
 use Rattle.shapes.specs.split.Section.{is_hole}
 use Rattle.shapes.specs.split.Opening.{Caps, Opening, opened_along, next_opened, all_opened}
 use Rattle.split_opening_laws.specs.strips.Opened.{CanBeOpened}
-use Rattle.split_opening_laws.proofs.opening.Whole.{opened_sound}
 use Rattle.split_opening_laws.specs.sections.InTurn.{halves_in, CanBeOpenedInTurn}
 use Rattle.split_opening_laws.specs.sections.Capped.{ArePlain, HasCaps}
 use Rattle.split_opening_laws.proofs.sections.CyclesStay.{there_in}
 use Rattle.split_opening_laws.proofs.sections.OpenedRows.{faces_are}
-use Rattle.split_opening_laws.proofs.sections.InTurn.{others_on}
+use Rattle.split_opening_laws.proofs.sections.InTurn.{can_open, others_on}
 use Rattle.split_opening_laws.proofs.sections.Capping.{caps_stay}
 use Rattle.split_laws.specs.opened.Told.{TellsAlike, AllTellAlike, LiesAlong, AllLieAlong}
 use Rattle.split_laws.specs.opened.Laws.{LieOn}
@@ -34,7 +33,6 @@ use Rattle.split_laws.proofs.opened.Starts.{swap, start_old}
 use Rattle.split_laws.proofs.opened.Kept as kept
 use Rattle.split_laws.proofs.opened.Caps.{lower_along, upper_along, anchor_along}
 use Rattle.split_laws.proofs.opened.Opened.{is_rewritten, opening_keeps}
-use Rattle.split_laws.proofs.Openings.{can_open}
 
 pub some_way : (p : Plane) → same_point (direction p) origin ≡ false → direction p ≢ origin
 some_way p e z = true≢false (sym (ap (λ v. same_point v origin) z) ∙ e)
@@ -113,12 +111,8 @@ module _ (above : List ℕ) (s : ℕ) (p : Plane) (way : same_point (direction p
     abbrev can : CanBeOpened o.model above s o.taken bs
     can = can_open above s o bs cs w
 
-    pub next_sound : Sound (next_opened p above s o bs).model
-    unfolding next_opened
-    next_sound = opened_sound M above s o.taken bs can
-
     pub next_can : CanBeOpenedInTurn above s (next_opened p above s o bs) cs
-    next_can = others_on above s p o bs cs w next_sound
+    next_can = others_on above s p o bs cs w
 
     pub next_on : StartsOn o.model (bs ∷ cs) → StartsOn (next_opened p above s o bs).model cs
     unfolding next_opened

@@ -26,7 +26,7 @@ use Rattle.shapes.specs.split.Opening.{Caps, Opening, opened_along, next_opened,
 use Rattle.shapes.specs.split.Split.{split_drawn}
 use Rattle.split_opening_laws.specs.strips.Opened.{CanBeOpened}
 use Rattle.split_opening_laws.specs.sections.InTurn.{upper_faces, CanBeOpenedInTurn}
-use Rattle.split_opening_laws.proofs.sections.InTurn.{upper_next}
+use Rattle.split_opening_laws.proofs.sections.InTurn.{upper_next, can_open}
 use Rattle.split_laws.specs.opened.Told.{LiesAlong}
 use Rattle.split_laws.specs.opened.Laws.{LieOn}
 use Rattle.split_laws.proofs.opened.Starts.{swap}
@@ -40,7 +40,6 @@ use Rattle.split_laws.proofs.volumes.Taken as taken
 use Rattle.split_laws.proofs.volumes.Taken.{CanTake}
 use Rattle.split_laws.proofs.volumes.Closed.{closing_carries}
 use Rattle.split_laws.proofs.volumes.Split as split
-use Rattle.split_laws.proofs.Openings.{can_open}
 use Rattle.split_laws.specs.sides.Sided.{IsOnSide, IsOfSolid, AreSided}
 
 -- a point on the plane lies on both sides
@@ -131,12 +130,12 @@ module _ (M : Model) (s t : ℕ) (fs : List ℕ) where
   unfolding part
   loops_stay l = refl
 
-  face_stays : (l : ℕ) → face_of P l ≡ face_of M l
+  pub face_stays : (l : ℕ) → face_of P l ≡ face_of M l
   unfolding part face_of
   face_stays l = refl
 
   -- a face went to t where it is listed, and else is of its solid
-  solid_then : (k : ℕ) → Has P.faces k → Has M.faces k × (solid_of P k ≡ cond (lists fs k) t (solid_of M k))
+  pub solid_then : (k : ℕ) → Has P.faces k → Has M.faces k × (solid_of P k ≡ cond (lists fs k) t (solid_of M k))
   unfolding solid_of
   solid_then k there = go (table.get M.faces k) (parted.row_is M s t fs k) where
     go : (o : Option FaceRow) → table.get P.faces k ≡ option_map (parted.go M s t fs k) o → (is_some o ≡ true) × ((unwrap_or (table.get P.faces k) no_face).solid ≡ cond (lists fs k) t (unwrap_or o no_face).solid)

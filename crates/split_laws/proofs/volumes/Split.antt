@@ -11,31 +11,25 @@ use Rattle.euler_operators.specs.Table.{get-remove}
 use Rattle.euler_operators.specs.Model.{Model, no_face, solid_of}
 use Rattle.euler_operators.specs.Sound.{Has}
 use Rattle.euler_operators.specs.Conditions.{strictly_rises}
-use Rattle.euler_operators.specs.Effect.{kfmrh}
+use Rattle.euler_operators.specs.Effect.{kfmrh, part}
+use Rattle.euler_operators.proofs.Tables.{get-put_here, get-put_other}
 use Rattle.shapes.specs.Measure.{six_volume}
 use Rattle.euler_laws.proofs.shared.Counted.{counted_once}
 use Rattle.shapes.specs.split.Drawing.{Drawing}
 use Rattle.shapes.specs.split.Section.{is_hole, holes_in, below_halves, section_cycles, has_stray_hole}
-use Rattle.shapes.specs.split.Opening.{Caps, Opening, next_opened, outer_caps, holes_closed}
+use Rattle.shapes.specs.split.Opening.{Caps, Opening, outer_caps, holes_closed}
 use Rattle.shapes.specs.split.Split.{opened_at, split_drawn}
-use Rattle.split_opening_laws.proofs.opening.Whole.{opened_sound}
 use Rattle.split_opening_laws.specs.sections.InTurn.{upper_faces, CanBeOpenedInTurn}
 use Rattle.split_opening_laws.specs.sections.Capped.{cap_faces, HasCaps}
-use Rattle.split_opening_laws.specs.sections.Laws.{OpeningsAreSound}
 use Rattle.split_opening_laws.proofs.sections.InTurn as in_turn
 use Rattle.split_opening_laws.proofs.sections.Capping.{caps_rise}
 use Rattle.split_laws.specs.volumes.Closing.{CanClose}
 use Rattle.split_laws.specs.volumes.Laws.{CanBeParted, CanBeSplit}
 use Rattle.split_laws.proofs.volumes.Parted.{part_shares, part_keeps}
-use Rattle.split_laws.proofs.volumes.Closed.{closing, all_taken, closed_by, closing_keeps}
+use Rattle.split_laws.proofs.volumes.Closed.{closing, all_taken, closed_by, closing_carries, closing_keeps}
 use Rattle.split_laws.proofs.opened.InTurn.{some_way, openings_keep, openings_lie}
-use Rattle.split_laws.proofs.Openings.{can_open}
 use Rattle.split_laws.proofs.Flags.{flags_are, map_length}
 use Rattle.split_laws.proofs.OldFaces.{solids_still}
-
-pub openings_sound : OpeningsAreSound
-unfolding next_opened
-openings_sound above s p o bs cs w = opened_sound o.model above s o.taken bs (can_open above s o bs cs w)
 
 -- ---- which caps are those of holes
 
@@ -118,10 +112,10 @@ module _ (d : Drawing) (above : List ℕ) (s : ℕ) (p : Plane) (t : ℕ) (w : C
   begun_caps = record { plain = tt; all_rise = ap strictly_rises (append-nil above) ∙ w.above_rise; upper_rise = ap strictly_rises (append-nil above) ∙ w.above_rise }
 
   pub ended : CanBeOpenedInTurn above s o []
-  ended = in_turn.all_on openings_sound above s p begun cycles w.opens
+  ended = in_turn.all_on above s p begun cycles w.opens
 
   caps : HasCaps above s o
-  caps = caps_rise openings_sound above s p begun cycles w.opens begun_caps
+  caps = caps_rise above s p begun cycles w.opens begun_caps
 
   pub closes : CanClose o.model s p o.caps
   closes = record {
@@ -149,6 +143,28 @@ module _ (d : Drawing) (above : List ℕ) (s : ℕ) (p : Plane) (t : ℕ) (w : C
     fresh = λ f there e. true≢false (sym (ended.sound.faces_of_solids f (was_there f there)) ∙ ap is_some (ap (table.get o.model.solids) (sym (solid_there f there) ∙ e) ∙ ap (λ q. table.get q t) (solids_still above s p begun cycles) ∙ w.fresh));
     of_solid = λ f there l. solid_there f there ∙ ended.upper_of_solid f l;
   }
+
+-- ---- both parts are solids
+
+taken_solids : (M : Model) (f g : ℕ) → (kfmrh M f g).solids ≡ M.solids
+unfolding kfmrh
+taken_solids M f g = refl
+
+parted_solids : (M : Model) (s t : ℕ) (fs : List ℕ) → (part M s t fs).solids ≡ table.put M.solids t tt
+unfolding part
+parted_solids M s t fs = refl
+
+pub both_there : (d : Drawing) (above : List ℕ) (s : ℕ) (p : Plane) (t : ℕ) → CanBeSplit d above s p t → Has d.model.solids s → Has (split_drawn d above s p t).solids s × Has (split_drawn d above s p t).solids t
+both_there d above s p t w there =
+    let X : Opening = opened_at d above s p in
+    let K : Model = holes_closed X.model X.caps in
+    let closed : K.solids ≡ d.model.solids = closing_carries X.model s p X.caps (λ A. A.solids ≡ d.model.solids) (λ A f g c e. taken_solids A f g ∙ e) (closes d above s p t w) (solids_still above s p (begun d above s p t w) (cycles d above s p t w)) in
+    let now : (split_drawn d above s p t).solids ≡ table.put K.solids t tt = parted_solids K s t (upper_faces above X.caps) in (
+      ap (λ u. table.has u s) now ∙ ap is_some (get-put_other K.solids t tt s w.apart) ∙ ap (λ u. table.has u s) closed ∙ there,
+      ap (λ u. table.has u t) now ∙ ap is_some (get-put_here K.solids t tt),
+    )
+
+-- ---- their six volumes
 
 pub split_shares : (d : Drawing) (above : List ℕ) (s : ℕ) (p : Plane) (t : ℕ) → CanBeSplit d above s p t →
     six_volume d.model s ≡ six_volume (split_drawn d above s p t) s +ℤ six_volume (split_drawn d above s p t) t

@@ -3,12 +3,13 @@ use Rattle.std.specs.Prelude.{◌≡◌, ◌≢◌, ℕ, ◌+ℤ◌, false, None
 use Rattle.euler_operators.specs.declared.Plane.{Plane}
 use Rattle.euler_operators.specs.Vectors.{is_above, is_below}
 use Rattle.euler_operators.specs.Model.{Model}
-use Rattle.euler_operators.specs.Sound.{Sound}
-use Rattle.shapes.specs.Faces.{start}
+use Rattle.euler_operators.specs.Sound.{Sound, Has}
+use Rattle.shapes.specs.Faces.{start, vertices_of}
 use Rattle.shapes.specs.Measure.{six_volume}
-use Rattle.shapes.specs.split.Sides.{faces_above}
+use Rattle.shapes.specs.split.Sides.{some_above, some_below, faces_above}
 use Rattle.shapes.specs.split.Drawing.{with_drawings}
 use Rattle.shapes.specs.split.Split.{split_refusal, split_model}
+use Rattle.split_drawing_laws.specs.face_sides.Lone.{NoLoopIsLone}
 use Rattle.split_laws.specs.volumes.Laws.{CanBeSplit}
 use Rattle.split_laws.specs.sides.Sided.{IsOfSolid}
 
@@ -16,6 +17,10 @@ use Rattle.split_laws.specs.sides.Sided.{IsOfSolid}
 abbrev pub SplitsCanBeSplit : Type 0
 SplitsCanBeSplit = (M : Model) (s : ℕ) (p : Plane) (t : ℕ) → Sound M → split_refusal M s p t ≡ None →
     CanBeSplit (with_drawings M s p) (faces_above (with_drawings M s p).model p s) s p t
+
+-- both parts are solids of the model
+abbrev pub PartsAreSolids : Type 0
+PartsAreSolids = (M : Model) (s : ℕ) (p : Plane) (t : ℕ) → Sound M → split_refusal M s p t ≡ None → Has (split_model M s p t).solids s × Has (split_model M s p t).solids t
 
 -- the six volumes of the two parts sum to those of the solid
 abbrev pub SplitsShareVolumes : Type 0
@@ -32,3 +37,13 @@ abbrev pub PartsLieOnEitherSide : Type 0
 PartsLieOnEitherSide = (M : Model) (s : ℕ) (p : Plane) (t : ℕ) → Sound M → split_refusal M s p t ≡ None → (l h : ℕ) →
     (IsOfSolid (split_model M s p t) s l h → is_above p (start (split_model M s p t) h) ≡ false)
     × (IsOfSolid (split_model M s p t) t l h → is_below p (start (split_model M s p t) h) ≡ false)
+
+-- no loop of either is lone
+abbrev pub PartsHaveNoLoneLoop : Type 0
+PartsHaveNoLoneLoop = (M : Model) (s : ℕ) (p : Plane) (t : ℕ) → Sound M → split_refusal M s p t ≡ None → NoLoopIsLone (split_model M s p t) s × NoLoopIsLone (split_model M s p t) t
+
+-- so no vertex of solid s lies above the plane any more, and none of t below it
+abbrev pub VerticesLieOnEitherSide : Type 0
+VerticesLieOnEitherSide = (M : Model) (s : ℕ) (p : Plane) (t : ℕ) → Sound M → split_refusal M s p t ≡ None →
+    (some_above (split_model M s p t) p (vertices_of (split_model M s p t) s) ≡ false)
+    × (some_below (split_model M s p t) p (vertices_of (split_model M s p t) t) ≡ false)

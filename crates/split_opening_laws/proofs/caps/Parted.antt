@@ -9,7 +9,6 @@ use Rattle.euler_operators.proofs.Lists.{count-append, tick_same, before_at, aft
 use Rattle.euler_operators.proofs.Rotations.{canonical-rotates, rest_same, rest_at}
 use Rattle.euler_operators.specs.HalfEdge.{mate, plus, minus, half}
 use Rattle.euler_operators.specs.Table as table
-use Rattle.euler_operators.specs.Table.{Table, tables, same_table}
 use Rattle.euler_operators.specs.Model.{Model, LoopRow, cycle, no_face, tail, loop_of, face_of, solid_of, outer, cycle_of}
 use Rattle.euler_operators.specs.Sound.{Sound}
 use Rattle.euler_operators.proofs.Halves.{plus_row, code-half, mate_plus}

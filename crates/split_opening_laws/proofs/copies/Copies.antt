@@ -3,7 +3,6 @@ use Rattle.std.proofs.Common.{◌≡◌, ℕ, suc, ◌+◌, ◌<◌, List, lengt
 use Rattle.std.specs.Prelude.{get_or}
 use Rattle.euler_operators.specs.HalfEdge.{mate, plus, minus, code, half}
 use Rattle.euler_operators.specs.Table as table
-use Rattle.euler_operators.specs.Table.{Table, get-map_rows}
 use Rattle.euler_operators.specs.Model.{Model, tail, point_of, is_number}
 use Rattle.euler_operators.specs.Sound.{Sound}
 use Rattle.euler_operators.proofs.Halves.{code-half}

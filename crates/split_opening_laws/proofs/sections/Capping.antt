@@ -24,7 +24,6 @@ use Rattle.shapes.specs.split.Opening.{Caps, Opening, both_lists, opened_along, 
 use Rattle.split_opening_laws.proofs.cycles.RisingLists.{rises_cons}
 use Rattle.split_opening_laws.specs.sections.InTurn.{AreFree, upper_faces, CanBeOpenedInTurn}
 use Rattle.split_opening_laws.specs.sections.Capped.{IsPlain, ArePlain, cap_faces, HasCaps}
-use Rattle.split_opening_laws.specs.sections.Laws.{OpeningsAreSound}
 use Rattle.split_opening_laws.proofs.sections.OpenedRows.{faces_are, loops_are, face_still, solid_kept}
 use Rattle.split_opening_laws.proofs.sections.OpenedFaces.{upper_row}
 use Rattle.split_opening_laws.proofs.sections.InTurn.{upper_next, above_there, others_on}
@@ -177,6 +176,6 @@ caps_stay above s p o bs cs w caps =
       | inr e ↦ less (omega (arith, i, count-append f fs (l ∷ []), tick_other f l e.1))
     ]
 
-pub caps_rise : OpeningsAreSound → (above : List ℕ) (s : ℕ) (p : Plane) (o : Opening) (cs : List (List ℕ)) → CanBeOpenedInTurn above s o cs → HasCaps above s o → HasCaps above s (all_opened p above s o cs)
-caps_rise sounds above s p o [] w caps = caps
-caps_rise sounds above s p o (bs ∷ cs) w caps = caps_rise sounds above s p (next_opened p above s o bs) cs (others_on above s p o bs cs w (sounds above s p o bs cs w)) (caps_stay above s p o bs cs w caps)
+pub caps_rise : (above : List ℕ) (s : ℕ) (p : Plane) (o : Opening) (cs : List (List ℕ)) → CanBeOpenedInTurn above s o cs → HasCaps above s o → HasCaps above s (all_opened p above s o cs)
+caps_rise above s p o [] w caps = caps
+caps_rise above s p o (bs ∷ cs) w caps = caps_rise above s p (next_opened p above s o bs) cs (others_on above s p o bs cs w) (caps_stay above s p o bs cs w caps)

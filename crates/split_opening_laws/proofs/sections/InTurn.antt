@@ -14,12 +14,13 @@ use Rattle.euler_laws.proofs.shared.Listed.{listed_front}
 use Rattle.shapes.specs.Fresh.{Taken}
 use Rattle.shapes.specs.split.Section.{below_halves, section_cycles, is_hole}
 use Rattle.shapes.specs.split.Opening.{Caps, Opening, opened_along, next_opened, all_opened}
-use Rattle.split_opening_laws.specs.cycles.SectionCycles.{AreOf, IsUnbranched}
+use Rattle.split_opening_laws.specs.cycles.SectionCycles.{AreOf, IsUnbranched, IsSectionCycle}
 use Rattle.split_opening_laws.proofs.cycles.BelowHalves.{halves_are}
 use Rattle.split_opening_laws.proofs.cycles.Ends.{is_half}
 use Rattle.split_opening_laws.proofs.cycles.Cycles.{cycles_cover, cycles_long, cycles_apart}
 use Rattle.split_opening_laws.specs.sections.InTurn.{AreFree, AreLeft, halves_in, AreBetween, upper_faces, CanBeOpenedInTurn}
-use Rattle.split_opening_laws.specs.sections.Laws.{OpeningsAreSound}
+use Rattle.split_opening_laws.specs.strips.Opened.{CanBeOpened}
+use Rattle.split_opening_laws.proofs.opening.Whole.{opened_sound}
 use Rattle.split_opening_laws.proofs.sections.CyclesStay.{cycles_stay}
 use Rattle.split_opening_laws.proofs.sections.StillFree.{still_free}
 use Rattle.split_opening_laws.proofs.sections.StillBetween.{still_between, still_there, still_of_solid}
@@ -30,6 +31,38 @@ upper_next above ks k = ap (λ q. above ++ q) (map-append (λ k. k.upper) ks (k 
 -- the faces above are there
 pub above_there : (above : List ℕ) (s : ℕ) (o : Opening) (cs : List (List ℕ)) → CanBeOpenedInTurn above s o cs → (f : ℕ) → lists above f ≡ true → Has o.model.faces f
 above_there above s o cs w f l = w.upper_there f (listed_front above (map (λ k. k.upper) o.caps) f l)
+
+-- what can be opened along some cycles in turn can be opened along the first
+pub can_open : (above : List ℕ) (s : ℕ) (o : Opening) (bs : List ℕ) (cs : List (List ℕ)) → CanBeOpenedInTurn above s o (bs ∷ cs) → CanBeOpened o.model above s o.taken bs
+can_open above s o bs cs w =
+    let k : IsSectionCycle o.model above s bs = w.cycles.cycles.0 in
+    let n : length (halves_in (bs ∷ cs)) ≡ length bs + length (halves_in cs) = length-append bs (halves_in cs) in
+    let l : AreLeft o.taken (length (halves_in (bs ∷ cs))) (length (bs ∷ cs)) = w.left in
+    record {
+      sound = w.sound;
+      faces_free = w.free.faces;
+      loops_free = w.free.loops;
+      edges_free = w.free.edges;
+      vertices_free = w.free.vertices;
+      faces_left = omega (arith, l.faces, n);
+      loops_left = omega (arith, l.loops, n);
+      edges_left = omega (arith, l.edges, n);
+      vertices_left = omega (arith, l.vertices, n);
+      some_half = k.some_half;
+      there = k.there;
+      meet = k.meet;
+      starts_apart = k.starts_apart;
+      below = k.below;
+      mates_above = k.mates_above;
+      of_solid = k.of_solid;
+      no_branch = k.no_branch;
+      above_there = above_there above s o (bs ∷ cs) w;
+    }
+
+-- and that leaves a sound model
+pub openings_sound : (above : List ℕ) (s : ℕ) (p : Plane) (o : Opening) (bs : List ℕ) (cs : List (List ℕ)) → CanBeOpenedInTurn above s o (bs ∷ cs) → Sound (next_opened p above s o bs).model
+unfolding next_opened
+openings_sound above s p o bs cs w = opened_sound o.model above s o.taken bs (can_open above s o bs cs w)
 
 pub can_be_opened : (M : Model) (above : List ℕ) (s : ℕ) (c : Taken) → Sound M → AreFree M c → AreOf M above s → ((f : ℕ) → lists above f ≡ true → Has M.faces f) →
     IsUnbranched M (below_halves M above s) → AreLeft c (length (below_halves M above s)) (length (section_cycles M (below_halves M above s))) →
@@ -61,12 +94,12 @@ still_left c m n k t e l = record {
   vertices = omega (arith, l.vertices, e);
 }
 
-pub others_on : (above : List ℕ) (s : ℕ) (p : Plane) (o : Opening) (bs : List ℕ) (cs : List (List ℕ)) → CanBeOpenedInTurn above s o (bs ∷ cs) →
-    Sound (next_opened p above s o bs).model → CanBeOpenedInTurn above s (next_opened p above s o bs) cs
+pub others_on : (above : List ℕ) (s : ℕ) (p : Plane) (o : Opening) (bs : List ℕ) (cs : List (List ℕ)) → CanBeOpenedInTurn above s o (bs ∷ cs) → CanBeOpenedInTurn above s (next_opened p above s o bs) cs
 unfolding next_opened
-others_on above s p o bs cs w then_sound =
+others_on above s p o bs cs w =
     let fs : List ℕ = upper_faces above o.caps in
     let N : Model = opened_along o.model above s o.taken bs in
+    let then_sound : Sound (opened_along o.model above s o.taken bs) = openings_sound above s p o bs cs w in
     let k : Caps = record { lower = o.taken.face + 1; upper = o.taken.face + length bs + 1; hole = is_hole o.model p bs } in
     let now : upper_faces above (o.caps ++ k ∷ []) ≡ fs ++ (o.taken.face + length bs + 1) ∷ [] = upper_next above o.caps k in
     record {
@@ -82,9 +115,9 @@ others_on above s p o bs cs w then_sound =
     one_more : (ds : List (List ℕ)) → length (bs ∷ ds) ≡ length ds + 1
     one_more ds = omega arith
 
-pub all_on : OpeningsAreSound → (above : List ℕ) (s : ℕ) (p : Plane) (o : Opening) (cs : List (List ℕ)) → CanBeOpenedInTurn above s o cs → CanBeOpenedInTurn above s (all_opened p above s o cs) []
-all_on sounds above s p o [] w = w
-all_on sounds above s p o (bs ∷ cs) w = all_on sounds above s p (next_opened p above s o bs) cs (others_on above s p o bs cs w (sounds above s p o bs cs w))
+pub all_on : (above : List ℕ) (s : ℕ) (p : Plane) (o : Opening) (cs : List (List ℕ)) → CanBeOpenedInTurn above s o cs → CanBeOpenedInTurn above s (all_opened p above s o cs) []
+all_on above s p o [] w = w
+all_on above s p o (bs ∷ cs) w = all_on above s p (next_opened p above s o bs) cs (others_on above s p o bs cs w)
 
 module _ (above : List ℕ) (s : ℕ) (o : Opening) (w : CanBeOpenedInTurn above s o []) where
   abbrev upper : List ℕ

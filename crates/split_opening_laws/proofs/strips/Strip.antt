@@ -9,7 +9,6 @@ use Rattle.euler_operators.proofs.Rotations.{rotate_to_is}
 use Rattle.euler_operators.proofs.Cuts.{upto_once}
 use Rattle.euler_operators.specs.HalfEdge.{mate, edge_of, is_first, plus, code, half}
 use Rattle.euler_operators.specs.Table as table
-use Rattle.euler_operators.specs.Table.{Table}
 use Rattle.euler_operators.specs.Model.{Model, LoopContent, LoopRow, cycle, holds, tail, tail_in, no_edge, no_face, loop_of, solid_of, cycle_of, after, is_number}
 use Rattle.euler_operators.specs.Sound.{Sound, Has, HasHalf}
 use Rattle.euler_operators.proofs.Halves.{code-half, mate-mate, mate_plus}

@@ -27,18 +27,18 @@ SectionsCanBeOpened = (M : Model) (above : List ℕ) (s : ℕ) (c : Taken) → S
     IsUnbranched M (below_halves M above s) → AreLeft c (length (below_halves M above s)) (length (section_cycles M (below_halves M above s))) →
     CanBeOpenedInTurn above s (record { model = M; taken = c; caps = [] }) (section_cycles M (below_halves M above s))
 
--- once it is opened along the first, and the model is sound, it can be opened along the others
-abbrev pub OthersCanBeOpened : Type 0
-OthersCanBeOpened = (above : List ℕ) (s : ℕ) (p : Plane) (o : Opening) (bs : List ℕ) (cs : List (List ℕ)) → CanBeOpenedInTurn above s o (bs ∷ cs) →
-    Sound (next_opened p above s o bs).model → CanBeOpenedInTurn above s (next_opened p above s o bs) cs
-
--- each opening along the first of some cycles makes a sound model
+-- the opening along the first of them makes a sound model
 abbrev pub OpeningsAreSound : Type 0
 OpeningsAreSound = (above : List ℕ) (s : ℕ) (p : Plane) (o : Opening) (bs : List ℕ) (cs : List (List ℕ)) → CanBeOpenedInTurn above s o (bs ∷ cs) → Sound (next_opened p above s o bs).model
 
--- then the solid can be opened along all of them
+-- then it can be opened along the others
+abbrev pub OthersCanBeOpened : Type 0
+OthersCanBeOpened = (above : List ℕ) (s : ℕ) (p : Plane) (o : Opening) (bs : List ℕ) (cs : List (List ℕ)) → CanBeOpenedInTurn above s o (bs ∷ cs) →
+    CanBeOpenedInTurn above s (next_opened p above s o bs) cs
+
+-- and so along all of them
 abbrev pub AllAreOpened : Type 0
-AllAreOpened = OpeningsAreSound → (above : List ℕ) (s : ℕ) (p : Plane) (o : Opening) (cs : List (List ℕ)) → CanBeOpenedInTurn above s o cs →
+AllAreOpened = (above : List ℕ) (s : ℕ) (p : Plane) (o : Opening) (cs : List (List ℕ)) → CanBeOpenedInTurn above s o cs →
     CanBeOpenedInTurn above s (all_opened p above s o cs) []
 
 -- and no edge is left between an upper face and another one
@@ -52,5 +52,5 @@ CapsStay = (above : List ℕ) (s : ℕ) (p : Plane) (o : Opening) (bs : List ℕ
 
 -- and so do all openings in turn
 abbrev pub CapsRise : Type 0
-CapsRise = OpeningsAreSound → (above : List ℕ) (s : ℕ) (p : Plane) (o : Opening) (cs : List (List ℕ)) → CanBeOpenedInTurn above s o cs →
+CapsRise = (above : List ℕ) (s : ℕ) (p : Plane) (o : Opening) (cs : List (List ℕ)) → CanBeOpenedInTurn above s o cs →
     HasCaps above s o → HasCaps above s (all_opened p above s o cs)

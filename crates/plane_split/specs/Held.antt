@@ -1,0 +1,40 @@
+-- What a session holds once a split was answered Ok: the laws of splits, as they reach whoever called one.
+use Rattle.std.specs.Prelude.{◌≡◌, ◌≢◌, ℕ, ◌+ℤ◌, false, None}
+use Rattle.euler_operators.specs.declared.Plane.{Plane}
+use Rattle.euler_operators.specs.Sound.{Sound, Has}
+use Rattle.undo_journal.specs.Machine.{Machine, held, accepted}
+use Rattle.shapes.specs.Faces.{vertices_of}
+use Rattle.shapes.specs.Measure.{six_volume}
+use Rattle.shapes.specs.split.Sides.{some_above, some_below}
+use Rattle.shapes.specs.split.Split.{split_refusal, split_model}
+
+-- what a split says of the session that it took and of the one that it gave back with Ok
+abbrev pub IsSplit : Machine → Machine → ℕ → Plane → ℕ → Type 0
+IsSplit before after s p t = (split_refusal (held before) s p t ≡ None) × (after ≡ accepted before (split_model (held before) s p t))
+
+-- the session holds the split's model then
+abbrev pub SplitsAreHeld : Type 0
+SplitsAreHeld = (before after : Machine) (s : ℕ) (p : Plane) (t : ℕ) → Sound (held before) → IsSplit before after s p t → held after ≡ split_model (held before) s p t
+
+-- which is sound
+abbrev pub HeldAreSound : Type 0
+HeldAreSound = (before after : Machine) (s : ℕ) (p : Plane) (t : ℕ) → Sound (held before) → IsSplit before after s p t → Sound (held after)
+
+-- both parts are solids of it
+abbrev pub PartsAreHeld : Type 0
+PartsAreHeld = (before after : Machine) (s : ℕ) (p : Plane) (t : ℕ) → Sound (held before) → IsSplit before after s p t → Has (held after).solids s × Has (held after).solids t
+
+-- their six volumes sum to those that the solid had
+abbrev pub HeldShareVolumes : Type 0
+HeldShareVolumes = (before after : Machine) (s : ℕ) (p : Plane) (t : ℕ) → Sound (held before) → IsSplit before after s p t →
+    six_volume (held before) s ≡ six_volume (held after) s +ℤ six_volume (held after) t
+
+-- and every other solid keeps its own
+abbrev pub HeldKeepOthers : Type 0
+HeldKeepOthers = (before after : Machine) (s : ℕ) (p : Plane) (t u : ℕ) → Sound (held before) → IsSplit before after s p t → u ≢ s → u ≢ t →
+    six_volume (held after) u ≡ six_volume (held before) u
+
+-- no vertex of s lies above the plane, and none of t below it
+abbrev pub HeldLieOnEitherSide : Type 0
+HeldLieOnEitherSide = (before after : Machine) (s : ℕ) (p : Plane) (t : ℕ) → Sound (held before) → IsSplit before after s p t →
+    (some_above (held after) p (vertices_of (held after) s) ≡ false) × (some_below (held after) p (vertices_of (held after) t) ≡ false)
