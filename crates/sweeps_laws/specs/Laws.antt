@@ -1,5 +1,5 @@
--- What a sweep adds to the six volumes of a solid, and the six volumes of a block.
-use Rattle.std.specs.Prelude.{◌≡◌, ℕ, ℤ, pos, ◌+ℤ◌, ◌*ℤ◌, None}
+-- What a sweep adds to the six volumes of a solid, and the six volumes of a block; other solids keep theirs.
+use Rattle.std.specs.Prelude.{◌≡◌, ◌≢◌, ℕ, ℤ, pos, ◌+ℤ◌, ◌*ℤ◌, None}
 use Rattle.euler_operators.specs.declared.Point.{Point}
 use Rattle.euler_operators.specs.Vectors.{dot}
 use Rattle.euler_operators.specs.Model.{Model, solid_of}
@@ -11,6 +11,10 @@ use Rattle.shapes.specs.Measure.{normal, six_volume}
 -- three times the normal of the face before, along the vector
 abbrev pub SweepAdds : Type 0
 SweepAdds = (M : Model) (f : ℕ) (d : Point) → Sound M → prism_refusal M f d ≡ None → six_volume (prism_model M f d) (solid_of M f) ≡ six_volume M (solid_of M f) +ℤ pos 3 *ℤ dot (normal M f) d
+
+-- and every other solid keeps its own
+abbrev pub SweepKeepsOthers : Type 0
+SweepKeepsOthers = (M : Model) (f : ℕ) (d : Point) (u : ℕ) → Sound M → prism_refusal M f d ≡ None → u ≢ solid_of M f → six_volume (prism_model M f d) u ≡ six_volume M u
 
 -- six times the product of its sizes
 abbrev pub BlockMeasures : Type 0

@@ -8,7 +8,7 @@
 
 ghost use Rattle.sweeps_laws.specs.lamina.Laws.{OperatorsAreAccepted, OperatorsMakeLamina, LaminaIsSound, BlocksHaveBases, BasesRise};
 ghost use Rattle.sweeps_laws.specs.prism.Laws.{SweepsAreAccepted, SweepsMakePrisms, PrismsAreSound};
-ghost use Rattle.sweeps_laws.specs.Laws.{SweepAdds, BlockMeasures};
+ghost use Rattle.sweeps_laws.specs.Laws.{SweepAdds, SweepKeepsOthers, BlockMeasures};
 
 /// No operator of a lamina is refused, together they make it, and the model with it is sound.
 pub fn operators_make_lamina()
@@ -31,9 +31,10 @@ pub fn sweeps_make_prisms()
 {}
 
 /// A sweep adds to the six volumes of the face's solid three times the normal of the face before, along the vector: six
-/// times the volume of the prism. The face may have rings, and it needn't be flat.
+/// times the volume of the prism. The face may have rings, and it needn't be flat. Every other solid keeps its six volumes.
 pub fn sweeps_add()
     ensures adds { SweepAdds }
+    ensures others { SweepKeepsOthers }
 {}
 
 /// The six volumes of a block are six times the product of its sizes.
