@@ -5,6 +5,8 @@ mod Areas
 mod Loops
 mod Volumes
 mod Whole
-mod FromSound
+pub mod FromSound
 mod Base
-mod Block
+mod Laminas
+pub mod Block
+pub mod BlockOps

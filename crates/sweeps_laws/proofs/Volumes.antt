@@ -26,6 +26,12 @@ pub six_volume_is : (M : Model) (s : ℕ) → six_volume M s ≡ volume_in M (fa
 unfolding six_volume
 six_volume_is M s = refl
 
+-- a face of solid u
+pub face_within : (M : Model) (c : Taken) → Bounded M c → (u k : ℕ) → lists (faces_of M u) k ≡ true → (k ≤ c.face) × Has M.faces k × (solid_of M k ≡ u)
+face_within M c b u k i = let p = listed_passes (λ _ row. nat_eq row.solid u) M.faces k i in (at_most k (table.greatest M.faces) c.face (at_most_greatest M.faces k (ap is_some p.1)) b.faces, ap is_some p.1, solid_row M k p.0 p.1 ∙ eqb-true p.0.solid u p.2) where
+  at_most : (a b c : ℕ) → a ≤ b → b ≤ c → a ≤ c
+  at_most a b c m n = omega arith
+
 module _ (M : Model) (c : Taken) (s : ℕ) (d : Point) (hs : List ℕ) (f l : ℕ) (b : Bounded M c) (r : IsPathOf M f l hs) where
   abbrev after : Model
   after = swept M c s d hs f l
@@ -51,12 +57,6 @@ module _ (M : Model) (c : Taken) (s : ℕ) (d : Point) (hs : List ℕ) (f l : �
   volume_after : six_volume after s ≡ volume_in after (faces_of M s) +ℤ pos 2 *ℤ dot (area M hs) d
   volume_after = six_volume_is after s ∙ ap (λ t. volume_in after (table.all_where of_solid t)) (faces_grown M c s d hs (length hs)) ∙ sides_after (length hs) ∙ ap (λ v. volume_in after (faces_of M s) +ℤ v) sides_add
 
-  -- a face of solid u
-  face_within : (u k : ℕ) → lists (faces_of M u) k ≡ true → (k ≤ c.face) × Has M.faces k × (solid_of M k ≡ u)
-  face_within u k i = let p = listed_passes (λ _ row. nat_eq row.solid u) M.faces k i in (at_most k (table.greatest M.faces) c.face (at_most_greatest M.faces k (ap is_some p.1)) b.faces, ap is_some p.1, solid_row M k p.0 p.1 ∙ eqb-true p.0.solid u p.2) where
-    at_most : (a b c : ℕ) → a ≤ b → b ≤ c → a ≤ c
-    at_most a b c m n = omega arith
-
   other_outer : (k : ℕ) → Has M.faces k → k ≢ f → outer M k ≢ l
   other_outer k there ne e = ne (sym (b.own k there) ∙ ap (face_of M) e ∙ r.of_face)
 
@@ -64,7 +64,7 @@ module _ (M : Model) (c : Taken) (s : ℕ) (d : Point) (hs : List ℕ) (f l : �
   pub ring_adds : outer M f ≢ l → six_volume after s ≡ six_volume M s +ℤ pos 2 *ℤ dot (area M hs) d
   ring_adds ne = volume_after ∙ ap (λ v. v +ℤ pos 2 *ℤ dot (area M hs) d) (faces_kept M c s d hs f l b r (faces_of M s) each ∙ sym (six_volume_is M s)) where
     each : (k : ℕ) → lists (faces_of M s) k ≡ true → (k ≤ c.face) × (outer M k ≢ l)
-    each k i = let p = face_within s k i in (p.0, elim (eqb_tells k f) [ inl e ↦ λ o. ne (ap (outer M) (sym e.1) ∙ o) | inr e ↦ other_outer k p.1 e.1 ])
+    each k i = let p = face_within M c b s k i in (p.0, elim (eqb_tells k f) [ inl e ↦ λ o. ne (ap (outer M) (sym e.1) ∙ o) | inr e ↦ other_outer k p.1 e.1 ])
 
   -- an outer loop swept
   pub outer_adds : outer M f ≡ l → Has M.faces f → solid_of M f ≡ s → six_volume after s ≡ (six_volume M s +ℤ dot d (normal M f)) +ℤ pos 2 *ℤ dot (area M hs) d
@@ -75,7 +75,7 @@ module _ (M : Model) (c : Taken) (s : ℕ) (d : Point) (hs : List ℕ) (f l : �
         equal a b e = grind (arith, nat_tests)
 
         each : (k : ℕ) → lists (faces_of M s) k ≡ true → (k ≤ c.face) × (k ≢ f → outer M k ≢ l)
-        each k i = let p = face_within s k i in (p.0, other_outer k p.1)
+        each k i = let p = face_within M c b s k i in (p.0, other_outer k p.1)
 
   -- another solid than that of the face
   pub others_kept : (u : ℕ) → u ≢ s → solid_of M f ≡ s → six_volume after u ≡ six_volume M u
@@ -88,4 +88,4 @@ module _ (M : Model) (c : Taken) (s : ℕ) (d : Point) (hs : List ℕ) (f l : �
         ∙ filled_none M.faces c.face (side_face M c s d hs) b.faces (λ _ row. nat_eq row.solid u) (length hs) (λ i. other s u ne)
 
     each : (k : ℕ) → lists (faces_of M u) k ≡ true → (k ≤ c.face) × (outer M k ≢ l)
-    each k i = let p = face_within u k i in (p.0, other_outer k p.1 (λ e. ne (sym p.2 ∙ ap (solid_of M) e ∙ of)))
+    each k i = let p = face_within M c b u k i in (p.0, other_outer k p.1 (λ e. ne (sym p.2 ∙ ap (solid_of M) e ∙ of)))
