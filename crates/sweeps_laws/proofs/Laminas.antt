@@ -1,21 +1,20 @@
--- A lamina: what was there before, and the six volumes of other solids.
-use Rattle.std.specs.Prelude.{length, get_or, map, reverse, ◌-◌}
+-- What was there before a lamina: other solids keep their six volumes.
+use Rattle.std.specs.Prelude.{length, get_or, ◌-◌}
 use Rattle.std.proofs.Common.{◌≡◌, ◌≢◌, ℕ, zero, suc, ◌+◌, ◌≤◌, ◌<◌, Bool, false, cond, not, nat_eq, ◌&&◌, List, [], ◌∷◌, ◌++◌, unwrap_or, refl, sym, ap, ◌∙◌, arith, append-nil}
 use Rattle.std.proofs.lemmas.Bool.Decides.{nat_tests}
 use Rattle.euler_operators.specs.declared.Point.{Point}
 use Rattle.euler_operators.specs.Vectors.{dot}
-use Rattle.euler_operators.specs.Rings.{canonical}
-use Rattle.euler_operators.specs.HalfEdge.{edge_of, is_first, plus, minus}
+use Rattle.euler_operators.specs.HalfEdge.{edge_of, is_first}
 use Rattle.euler_operators.specs.Table as table
 use Rattle.euler_operators.specs.Table.{Table}
-use Rattle.euler_operators.specs.Model.{Model, cycle, FaceRow, LoopRow, EdgeRow, no_edge, no_point, tail_in, items_of, content, outer, tail, point_of, rings_of, faces_of}
+use Rattle.euler_operators.specs.Model.{Model, FaceRow, LoopRow, EdgeRow, no_edge, no_point, tail_in, items_of, content, outer, tail, point_of, rings_of, faces_of}
 use Rattle.euler_operators.proofs.Tables.{get-put_other}
 use Rattle.euler_operators.proofs.Models.{same_content, same_outer}
 use Rattle.shapes.specs.Faces.{items_in}
-use Rattle.shapes.specs.Fresh.{Taken, numbers_after}
-use Rattle.shapes.specs.Lamina.{with_points, with_path, with_ring, lamina_at}
+use Rattle.shapes.specs.Fresh.{Taken}
+use Rattle.shapes.specs.Lamina.{with_points, with_path, with_ring}
 use Rattle.shapes.specs.Measure.{area, normal, anchor, first_vertex, volume_in, six_volume}
-use Rattle.shapes.proofs.fresh.Rows.{all_where-put_last, greatest-put_last}
+use Rattle.sweeps_laws.proofs.LaminaRows as rows
 use Rattle.sweeps_laws.proofs.Areas.{same_area, same_loops, same_volumes}
 use Rattle.sweeps_laws.proofs.swept.Sides.{Keeps, start_kept, finish_kept}
 use Rattle.sweeps_laws.proofs.swept.Lifted.{Bounded}
@@ -47,20 +46,20 @@ unfolding point_of
 same_point_of M N w e = ap (λ o. unwrap_or o no_point) e
 
 module _ (M : Model) (c : Taken) (s : ℕ) (ps : List Point) (some : 0 < length ps) where
-  abbrev pub drawn : Model
-  drawn = lamina_at M c s ps
+  abbrev drawn : Model
+  drawn = rows.drawn M c s ps
 
-  abbrev pub first_face : FaceRow
-  first_face = record { solid = s; outer = c.loop + 1 }
+  abbrev first_face : FaceRow
+  first_face = rows.first_face M c s ps
 
-  abbrev pub second_face : FaceRow
-  second_face = record { solid = s; outer = c.loop + 2 }
+  abbrev second_face : FaceRow
+  second_face = rows.second_face M c s ps
 
-  abbrev pub first_loop : LoopRow
-  first_loop = record { face = c.face + 1; content = cycle (map plus (numbers_after c.edge (length ps))) }
+  abbrev first_loop : LoopRow
+  first_loop = rows.first_loop M c s ps
 
-  abbrev pub second_loop : LoopRow
-  second_loop = record { face = c.face + 2; content = cycle (canonical (reverse (map minus (numbers_after c.edge (length ps))))) }
+  abbrev second_loop : LoopRow
+  second_loop = rows.second_loop M c s ps
 
   keeps_drawn : Keeps M drawn c.edge c.vertex
   keeps_drawn = record {
@@ -81,26 +80,13 @@ module _ (M : Model) (c : Taken) (s : ℕ) (ps : List Point) (some : 0 < length 
   content_old q l = same_content M drawn q (loop_old q l)
 
   module _ (b : Bounded M c) where
-    -- a search of the faces, and of the loops
-    faces_found : (p : ℕ → FaceRow → Bool) → table.all_where p drawn.faces ≡ (table.all_where p M.faces ++ cond (p (c.face + 1) first_face) ((c.face + 1) ∷ []) []) ++ cond (p (c.face + 2) second_face) ((c.face + 2) ∷ []) []
-    faces_found p =
-        let first = table.put M.faces (c.face + 1) first_face in
-        all_where-put_last first (c.face + 2) second_face (omega (arith, greatest-put_last M.faces (c.face + 1) first_face (omega (arith, b.faces)))) p
-        ∙ ap (λ ks. ks ++ cond (p (c.face + 2) second_face) ((c.face + 2) ∷ []) []) (all_where-put_last M.faces (c.face + 1) first_face (omega (arith, b.faces)) p)
-
-    loops_found : (p : ℕ → LoopRow → Bool) → table.all_where p drawn.loops ≡ (table.all_where p M.loops ++ cond (p (c.loop + 1) first_loop) ((c.loop + 1) ∷ []) []) ++ cond (p (c.loop + 2) second_loop) ((c.loop + 2) ∷ []) []
-    loops_found p =
-        let first = table.put M.loops (c.loop + 1) first_loop in
-        all_where-put_last first (c.loop + 2) second_loop (omega (arith, greatest-put_last M.loops (c.loop + 1) first_loop (omega (arith, b.loops)))) p
-        ∙ ap (λ ks. ks ++ cond (p (c.loop + 2) second_loop) ((c.loop + 2) ∷ []) []) (all_where-put_last M.loops (c.loop + 1) first_loop (omega (arith, b.loops)) p)
-
     -- where neither new row passes
     none_found : (xs : List ℕ) (m n : ℕ) (p q : Bool) → p ≡ false → q ≡ false → (xs ++ cond p (m ∷ []) []) ++ cond q (n ∷ []) [] ≡ xs
     none_found xs m n p q e f = (λ i. (xs ++ cond (e i) (m ∷ []) []) ++ cond (f i) (n ∷ []) []) ∙ append-nil (xs ++ []) ∙ append-nil xs
 
     rings_old : (k : ℕ) → k ≤ c.face → rings_of drawn k ≡ rings_of M k
     rings_old k l = ap (λ o. table.all_where (λ q row. nat_eq row.face k && not (nat_eq o q)) drawn.loops) (outer_old k l)
-        ∙ loops_found (λ q row. nat_eq row.face k && not (nat_eq (outer M k) q))
+        ∙ rows.loops_found M c s ps b (λ q row. nat_eq row.face k && not (nat_eq (outer M k) q))
         ∙ none_found (rings_of M k) (c.loop + 1) (c.loop + 2) _ _ (other (c.face + 1) k _ (omega (arith, l))) (other (c.face + 2) k _ (omega (arith, l))) where
           other : (a k : ℕ) (t : Bool) → k < a → (nat_eq a k && t) ≡ false
           other a k t m = let e : nat_eq a k ≡ false = grind (arith, nat_tests) in ap (λ x. x && t) e
@@ -121,7 +107,7 @@ module _ (M : Model) (c : Taken) (s : ℕ) (ps : List Point) (some : 0 < length 
     -- every other solid keeps its six volumes
     pub lamina_keeps : (u : ℕ) → u ≢ s → six_volume drawn u ≡ six_volume M u
     lamina_keeps u ne = six_volume_is drawn u
-        ∙ ap (volume_in drawn) (faces_found (λ _ row. nat_eq row.solid u) ∙ none_found (faces_of M u) (c.face + 1) (c.face + 2) _ _ (other s u ne) (other s u ne))
+        ∙ ap (volume_in drawn) (rows.faces_found M c s ps b (λ _ row. nat_eq row.solid u) ∙ none_found (faces_of M u) (c.face + 1) (c.face + 2) _ _ (other s u ne) (other s u ne))
         ∙ same_volumes M drawn (faces_of M u) (λ k i. let p = face_within M c b u k i in λ t. dot (anchor_kept k p.0 t) (normal_kept k p.0 t))
         ∙ sym (six_volume_is M u) where
           other : (a b : ℕ) → b ≢ a → nat_eq a b ≡ false

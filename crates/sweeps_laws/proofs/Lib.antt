@@ -6,7 +6,9 @@ mod Loops
 mod Volumes
 mod Whole
 pub mod FromSound
+mod LaminaRows
 mod Base
 mod Laminas
+mod LaminaVolumes
 pub mod Block
 pub mod BlockOps

@@ -1,6 +1,6 @@
 //! The laws of laminas, blocks and sweeps: their operators are accepted in turn and together make the model
 //! (`operators_make_lamina`, `operators_make_blocks`, `sweeps_make_prisms`), and what they measure (`sweeps_add`, `blocks_measure`,
-//! `laminas_keep_others`). Each function does nothing: its contract is what is proved, over every sound model in which the command's
+//! `laminas_measure`). Each function does nothing: its contract is what is proved, over every sound model in which the command's
 //! conditions hold.
 //!
 //! `lamina` and `prism` go operator by operator, `swept` says what one loop of a face that is swept becomes, and beside them stand the
@@ -10,7 +10,7 @@
 ghost use Rattle.sweeps_laws.specs.lamina.Laws.{OperatorsAreAccepted, OperatorsMakeLamina, LaminaIsSound, BlocksHaveBases, BasesRise};
 ghost use Rattle.sweeps_laws.specs.prism.Laws.{SweepsAreAccepted, SweepsMakePrisms, PrismsAreSound};
 ghost use Rattle.sweeps_laws.specs.block.Laws.{BlocksAreAccepted, OperatorsMakeBlocks, BlocksAreSound};
-ghost use Rattle.sweeps_laws.specs.Laws.{SweepAdds, SweepKeepsOthers, BlockMeasures, BlockKeepsOthers, LaminaKeepsOthers};
+ghost use Rattle.sweeps_laws.specs.Laws.{SweepAdds, SweepKeepsOthers, BlockMeasures, BlockKeepsOthers, LaminaMeasures, FlatLaminasMeasureNothing, LaminaKeepsOthers};
 
 /// No operator of a lamina is refused, together they make it, and the model with it is sound.
 pub fn operators_make_lamina()
@@ -53,7 +53,10 @@ pub fn blocks_measure()
     ensures others { BlockKeepsOthers }
 {}
 
-/// Where a lamina is made every other solid keeps its six volumes.
-pub fn laminas_keep_others()
-    ensures { LaminaKeepsOthers }
+/// The six volumes of a lamina are what its first point tells more than its second along the normal of its first face: nothing where
+/// that face is flat. Every other solid keeps its own.
+pub fn laminas_measure()
+    ensures difference { LaminaMeasures }
+    ensures flat { FlatLaminasMeasureNothing }
+    ensures others { LaminaKeepsOthers }
 {}
