@@ -1,11 +1,14 @@
 //! Gluing: two solids become one along a face of each, as one command.
 //!
 //! `glue_checks` tests the conditions on an arena, in their order; `joining` glues the two faces operator by operator in a draft.
+//! What a glue makes of volumes is said by `glue_measures`.
 #![tactic(auto)]
 
 mod command;
 mod glue_checks;
 mod joining;
+mod laws;
 mod rims;
 
 pub use command::glue;
+pub use laws::glue_measures;

@@ -6,4 +6,4 @@ mod Normals
 pub mod Adding
 mod Others
 mod Outlines
-mod FromConditions
+pub mod FromConditions

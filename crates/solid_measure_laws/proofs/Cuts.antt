@@ -24,7 +24,7 @@ whole t w e = none (int_div t w *ℤ w) (int_rem t w) t (quot-rem t w) ((signed_
 spread_dif : (x p w x' p' w' : ℕ) → (dif x x' -ℤ dif p p') *ℤ dif w w' ≡ dif x x' *ℤ dif w w' -ℤ dif p p' *ℤ dif w w'
 spread_dif x p w x' p' w' = simp difs (same_dif _ _ _ _ (omega arith))
 
-spread : (x p w : ℤ) → (x -ℤ p) *ℤ w ≡ x *ℤ w -ℤ p *ℤ w
+pub spread : (x p w : ℤ) → (x -ℤ p) *ℤ w ≡ x *ℤ w -ℤ p *ℤ w
 spread x p w = rw (dif-parts x, dif-parts p, dif-parts w) (spread_dif _ _ _ _ _ _)
 
 rest_dif : (p q m n p' q' m' n' : ℕ) → (dif q q' *ℤ dif m m' -ℤ dif p p' *ℤ dif n n') -ℤ dif p p' *ℤ (dif m m' -ℤ dif n n') ≡ (dif q q' -ℤ dif p p') *ℤ dif m m'
@@ -103,7 +103,7 @@ turned_dif x w x' w' = simp (difs, neg-dif) (same_dif _ _ _ _ (omega arith))
 turned : (x w : ℤ) → x *ℤ neg_ℤ w ≡ neg_ℤ (w *ℤ x)
 turned x w = rw (dif-parts x, dif-parts w) (turned_dif _ _ _ _)
 
-turned_back : (a b : ℤ) → neg_ℤ a ≡ neg_ℤ b → a ≡ b
+pub turned_back : (a b : ℤ) → neg_ℤ a ≡ neg_ℤ b → a ≡ b
 turned_back a b e = omega (arith, ints)
 
 -- (x - p) in units of both heights is (q - p) in units of the first

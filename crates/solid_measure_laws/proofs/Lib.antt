@@ -7,3 +7,4 @@ pub mod Inverted
 pub mod Shifted
 pub mod Closed
 pub mod Cuts
+mod Exact

@@ -1,9 +1,9 @@
 -- What normals and volumes obey.
-use Rattle.std.specs.Prelude.{◌≡◌, ℕ, ◌+◌, ◌<◌, pos, ◌+ℤ◌, neg_ℤ, unsigned_abs, true, List, map, reverse}
+use Rattle.std.specs.Prelude.{◌≡◌, ℕ, ◌+◌, ◌<◌, pos, ◌+ℤ◌, neg_ℤ, unsigned_abs, true, List, map, reverse, Some}
 use Rattle.std.specs.List.{list_all}
 use Rattle.euler_operators.specs.declared.Point.{Point}
 use Rattle.euler_operators.specs.declared.Plane.{Plane}
-use Rattle.euler_operators.specs.Vectors.{origin, moved, dot, cross, height, is_on, are_opposite, cuts_lattice, cut_between}
+use Rattle.euler_operators.specs.Vectors.{origin, moved, dot, cross, height, is_on, are_opposite, cuts_lattice, cut_between, cut_point}
 use Rattle.euler_operators.specs.Items.{SameItems}
 use Rattle.euler_operators.specs.HalfEdge.{mate}
 use Rattle.euler_operators.specs.Model.{Model, point_of, faces_of}
@@ -70,7 +70,11 @@ CutsOnPlane = (s : Plane) (p q : Point) → are_opposite s p q ≡ true → cuts
 abbrev pub CutsInside : Type 0
 CutsInside = (s : Plane) (p q : Point) → are_opposite s p q ≡ true → cuts_lattice s p q ≡ true → Divides (unsigned_abs (height s p)) (unsigned_abs (height s q)) p q (cut_between s p q)
 
--- and on each plane on which both ends lie
+-- no lattice point is missed: one on the plane that lies inside the segment is the cut point
+abbrev pub CutsMissNone : Type 0
+CutsMissNone = (s : Plane) (m n : ℕ) (p q r : Point) → are_opposite s p q ≡ true → is_on s r ≡ true → Divides m n p q r → cut_point s p q ≡ Some r
+
+-- the cut point lies on each plane on which both ends lie
 abbrev pub CutsOnEachPlane : Type 0
 CutsOnEachPlane = (s t : Plane) (p q : Point) → are_opposite s p q ≡ true → cuts_lattice s p q ≡ true → is_on t p ≡ true → is_on t q ≡ true → is_on t (cut_between s p q) ≡ true
 

@@ -2,7 +2,7 @@
 //! function does nothing: its contract is what is proved.
 #![tactic(auto)]
 
-ghost use Rattle.solid_measure_laws.specs.Laws.{FlatFaces, ToldAnywhere, ToldFromCorners, TurnedPaths, OpposedFaces, TurnedFaces, InvertedSolids, ShiftedFaces, ShiftedSolids, ClosedSolids, MovedSolids, CutsOnPlane, CutsInside, CutsOnEachPlane, CutsKeepAreas, CutsEitherWay};
+ghost use Rattle.solid_measure_laws.specs.Laws.{FlatFaces, ToldAnywhere, ToldFromCorners, TurnedPaths, OpposedFaces, TurnedFaces, InvertedSolids, ShiftedFaces, ShiftedSolids, ClosedSolids, MovedSolids, CutsOnPlane, CutsInside, CutsMissNone, CutsOnEachPlane, CutsKeepAreas, CutsEitherWay};
 
 /// Points of a plane on which all corners of a face lie tell the same along the face's normal. So what a flat face adds to the
 /// six volumes may be told from any of its corners, and from any point of its plane.
@@ -31,11 +31,13 @@ pub fn moved_solids_keep_volumes()
 {}
 
 /// Where the ends of a segment lie strictly on opposite sides of a plane, and the point between them on the plane has whole
-/// coordinates, that cut point lies on the plane, and divides the segment as the heights of its ends. It lies on each plane on
-/// which both ends lie; a half-edge that is cut there keeps its part of an area; and it is the same from either end.
+/// coordinates, that cut point lies on the plane, and divides the segment as the heights of its ends; and no lattice point is
+/// missed: one that lies on the plane inside the segment is the cut point. The cut point lies on each plane on which both ends
+/// lie; a half-edge that is cut there keeps its part of an area; and it is the same from either end.
 pub fn cut_points()
     ensures on_plane { CutsOnPlane }
     ensures inside { CutsInside }
+    ensures none_missed { CutsMissNone }
     ensures on_each { CutsOnEachPlane }
     ensures areas { CutsKeepAreas }
     ensures either_way { CutsEitherWay }

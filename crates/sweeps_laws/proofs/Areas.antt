@@ -1,9 +1,11 @@
 -- Areas of lists of half-edges, and volumes of lists of faces.
-use Rattle.std.proofs.Common.{◌≡◌, ℕ, ℤ, ◌+ℤ◌, List, [], ◌∷◌, ◌++◌, length, get_or, refl, sym, ap, ◌∙◌}
+use Rattle.std.proofs.Common.{◌≡◌, ℕ, ℤ, ◌+ℤ◌, true, List, [], ◌∷◌, ◌++◌, length, get_or, refl, sym, ap, ◌∙◌}
 use Rattle.euler_operators.specs.Vectors.{moved, dot, cross}
 use Rattle.euler_operators.specs.Items.{IsIn}
-use Rattle.euler_operators.specs.Model.{Model}
-use Rattle.shapes.specs.Faces.{start, finish}
+use Rattle.euler_operators.specs.Model.{Model, items_of, content}
+use Rattle.euler_operators.specs.Conditions.{lists}
+use Rattle.euler_laws.proofs.shared.Listed.{first_listed, rest_listed}
+use Rattle.shapes.specs.Faces.{start, finish, items_in}
 use Rattle.shapes.specs.Measure.{area, normal, anchor, volume_in}
 use Rattle.euler_operators.proofs.Vectors.{moved_none, none_moved, moved_twice, add_none, none_add, add_assoc}
 use Rattle.euler_operators.proofs.Sweeps.{sum_to, sum_first}
@@ -36,3 +38,15 @@ module _ (M N : Model) where
   pub same_area : (hs : List ℕ) → ((h : ℕ) → IsIn h hs → (start N h ≡ start M h) × (finish N h ≡ finish M h)) → area N hs ≡ area M hs
   same_area [] e = refl
   same_area (h ∷ hs) e = let p = e h (IsIn_head h hs) in λ i. moved (cross (p.0 i) (p.1 i)) (same_area hs (λ g s. e g (IsIn_rest g h hs s)) i)
+
+  -- so have loops, where each has
+  pub same_loops : (ls : List ℕ) → ((q : ℕ) → lists ls q ≡ true → area N (items_of (content N q)) ≡ area M (items_of (content M q))) → area N (items_in N ls) ≡ area M (items_in M ls)
+  same_loops [] e = refl
+  same_loops (q ∷ ls) e = area_append N (items_of (content N q)) (items_in N ls)
+      ∙ (λ i. moved (e q (first_listed q ls) i) (same_loops ls (λ k l. e k (rest_listed q k ls l)) i))
+      ∙ sym (area_append M (items_of (content M q)) (items_in M ls))
+
+  -- and faces
+  pub same_volumes : (ks : List ℕ) → ((k : ℕ) → lists ks k ≡ true → volume_of N k ≡ volume_of M k) → volume_in N ks ≡ volume_in M ks
+  same_volumes [] e = refl
+  same_volumes (k ∷ ks) e = λ i. e k (first_listed k ks) i +ℤ same_volumes ks (λ q l. e q (rest_listed k q ks l)) i

@@ -1,85 +1,31 @@
--- The six volumes of a block.
-use Rattle.std.proofs.Common.{◌≡◌, ◌≢◌, ℕ, ◌+◌, ℤ, pos, ◌+ℤ◌, ◌*ℤ◌, true, false, nat_eq, ◌&&◌, List, [], None, is_some, refl, sym, ap, subst, ◌∙◌, arith, true≢false}
+-- The six volumes of a block and of a lamina, and of the other solids.
+use Rattle.std.specs.Prelude.{length, get_or, nat_le, ◌-◌}
+use Rattle.std.proofs.Common.{◌≡◌, ◌≢◌, ℕ, suc, ◌+◌, ◌≤◌, ◌<◌, ℤ, pos, ◌+ℤ◌, ◌-ℤ◌, ◌*ℤ◌, true, false, nat_eq, List, [], None, is_some, refl, sym, ap, subst, ◌∙◌, arith, true≢false}
 use Rattle.std.proofs.lemmas.Bool.Decides.{nat_tests}
 use Rattle.std.proofs.lemmas.Bool.{not-true}
 use Rattle.euler_operators.specs.declared.Point.{Point}
-use Rattle.euler_operators.specs.Points.{is_coordinate, is_in_range}
 use Rattle.euler_operators.specs.Vectors.{dot}
 use Rattle.euler_operators.specs.Table as table
-use Rattle.euler_operators.specs.Model.{Model, faces_of}
+use Rattle.euler_operators.specs.Model.{Model, no_point, faces_of}
 use Rattle.euler_operators.specs.Sound.{Sound}
 use Rattle.euler_operators.proofs.Tables.{all_where_none}
-use Rattle.euler_laws.proofs.shared.Goes.{all_hold, none_refuses}
+use Rattle.euler_laws.proofs.shared.Goes.{all_hold}
 use Rattle.shapes.specs.Fresh.{taken_in}
-use Rattle.shapes.specs.Lamina.{lamina_conditions, lamina_refusal, lamina_at, lamina_model}
+use Rattle.shapes.specs.Lamina.{lamina_conditions, lamina_refusal, lamina_at, lamina_model, lamina_face}
 use Rattle.shapes.specs.Prism.{prism_model}
 use Rattle.shapes.specs.Block.{vector, base_of, block_conditions, block_refusal, block_model}
-use Rattle.shapes.specs.Measure.{six_volume}
+use Rattle.shapes.specs.Measure.{normal, is_flat, six_volume}
 use Rattle.sweeps_laws.proofs.lamina.Walk.{lamina_is_sound}
-use Rattle.sweeps_laws.proofs.lamina.Blocks.{grown_other, other_x, other_y, all_near, none_repeated, fewer}
-use Rattle.euler_operators.proofs.Vectors.{add_none, none_add}
+use Rattle.sweeps_laws.proofs.lamina.Blocks.{blocks_have_bases}
+use Rattle.euler_operators.proofs.Vectors.{none_add}
 use Rattle.euler_operators.proofs.Rectangles.{second_corner, third_corner, fourth_corner, rectangle_flat, rectangle_raised}
-use Rattle.euler_operators.proofs.Tests.{and_first, and_second}
 use Rattle.euler_operators.proofs.Models.{solid_row}
-use Rattle.sweeps_laws.proofs.FromSound.{sound_bounded, face_adds}
-use Rattle.sweeps_laws.proofs.Base.{base, solid_one, there_one, none_lone, normal_one, base_volume}
-
--- ---- the corners of the base
-
--- each coordinate is one of p, or of the corner opposite
-in_range : (p : Point) → is_coordinate p.x ≡ true → is_coordinate p.y ≡ true → is_coordinate p.z ≡ true → is_in_range p ≡ true
-in_range p a b c = λ i. a i && (b i && c i)
-
-none_in : (x : ℤ) → is_coordinate x ≡ true → is_coordinate (x +ℤ pos 0) ≡ true
-none_in x e = ap is_coordinate (add_none x) ∙ e
-
--- ---- the lamina's conditions
-
-zero_is : (n : ℕ) → n ≡ 0 → nat_eq n 0 ≡ true
-zero_is n e = grind (arith, nat_tests)
-
-base_accepted : (M : Model) (s : ℕ) (p : Point) (dx dy dz : ℤ) → block_refusal M s p dx dy dz ≡ None → lamina_refusal M s (base_of p dx dy) ≡ None
-unfolding block_conditions lamina_conditions
-base_accepted M s p dx dy dz e =
-    let w = all_hold (block_conditions M s p dx dy dz) e in
-    let near = w.1.1.1.1.1.0 in
-    let far = w.1.1.1.1.1.1.0 in
-    let left = w.1.1.1.1.1.1.1 in
-    let px = and_first (is_coordinate p.x) _ near in
-    let py = and_first (is_coordinate p.y) _ (and_second (is_coordinate p.x) _ near) in
-    let pz = and_second (is_coordinate p.y) _ (and_second (is_coordinate p.x) _ near) in
-    let qx = and_first (is_coordinate (p.x +ℤ dx)) _ far in
-    let qy = and_first (is_coordinate (p.y +ℤ dy)) _ (and_second (is_coordinate (p.x +ℤ dx)) _ far) in
-    let b = second_corner p dx dy in
-    let g = third_corner p dx dy in
-    let h = fourth_corner p dx dy in
-    let x_grows = grown_other p.x dx w.1.1.0 in
-    let y_grows = grown_other p.y dy w.1.1.1.0 in
-    none_refuses (lamina_conditions M s (base_of p dx dy)) (
-      w.0,
-      (
-        w.1.0,
-        (
-          refl,
-          (
-            zero_is _ (all_near p b g h near (in_range b qx (none_in p.y py) (none_in p.z pz)) (in_range g qx qy (none_in p.z pz)) (in_range h (none_in p.x px) qy (none_in p.z pz))),
-            (
-              zero_is _ (none_repeated p b g h (other_x b p x_grows) (other_x g p x_grows) (other_y g b (λ s. y_grows (s ∙ add_none p.y))) (other_y h p y_grows) (other_x h b (λ s. x_grows (sym s ∙ add_none p.x))) (other_x h g (λ s. x_grows (sym s ∙ add_none p.x)))),
-              (
-                fewer (taken_in M).face 6 2 (omega arith) left.0,
-                (
-                  fewer (taken_in M).loop 6 2 (omega arith) left.1.0,
-                  (
-                    fewer (taken_in M).edge 12 4 (omega arith) left.1.1.0,
-                    (fewer (taken_in M).vertex 8 4 (omega arith) left.1.1.1.0, tt),
-                  ),
-                ),
-              ),
-            ),
-          ),
-        ),
-      ),
-    )
+use Rattle.sweeps_laws.proofs.FromSound.{sound_bounded, face_adds, face_keeps_others}
+use Rattle.sweeps_laws.proofs.Laminas.{lamina_keeps}
+use Rattle.sweeps_laws.proofs.LaminaVolumes.{lamina_volume, flat_volume}
+use Rattle.sweeps_laws.specs.Laws.{BlockMeasures, BlockKeepsOthers, LaminaMeasures, FlatLaminasMeasureNothing, LaminaKeepsOthers}
+use Rattle.sweeps_laws.proofs.Base.{base, normal_one, base_volume}
+use Rattle.sweeps_laws.proofs.LaminaRows.{solid_one, there_one, none_lone}
 
 solid_free : (M : Model) (s : ℕ) (p : Point) (dx dy dz : ℤ) → block_refusal M s p dx dy dz ≡ None → table.has M.solids s ≡ false
 unfolding block_conditions
@@ -100,7 +46,7 @@ unfolding lamina_model
 lamina_is M s ps = refl
 
 -- six times the product of its sizes
-pub block_volume : (M : Model) (s : ℕ) (p : Point) (dx dy dz : ℤ) → Sound M → block_refusal M s p dx dy dz ≡ None → six_volume (block_model M s p dx dy dz) s ≡ pos 6 *ℤ dx *ℤ dy *ℤ dz
+pub block_volume : BlockMeasures
 block_volume M s p dx dy dz sound e =
     let c = taken_in M in
     let b = second_corner p dx dy in
@@ -110,11 +56,52 @@ block_volume M s p dx dy dz sound e =
     let f = c.face + 1 in
     let d = vector (pos 0) (pos 0) dz in
     let bounded = sound_bounded M sound in
-    let sound_base : Sound L = subst Sound (lamina_is M s (base_of p dx dy)) (lamina_is_sound M s (base_of p dx dy) sound (base_accepted M s p dx dy dz e)) in
-    let of = solid_one M c s p b g h in
+    let sound_base : Sound L = subst Sound (lamina_is M s (base_of p dx dy)) (lamina_is_sound M s (base_of p dx dy) sound (blocks_have_bases M s p dx dy dz e)) in
+    let of = solid_one M c s (base_of p dx dy) in
     ap (λ x. six_volume x s) (block_is M s p dx dy dz)
     ∙ ap (six_volume (prism_model L f d)) (sym of)
-    ∙ face_adds L sound_base f (there_one M c s p b g h) (none_lone M c s p b g h bounded) d
+    ∙ face_adds L sound_base f (there_one M c s (base_of p dx dy)) (none_lone M c s (base_of p dx dy) bounded) d
     ∙ (λ i. six_volume L (of i) +ℤ pos 3 *ℤ dot (normal_one M c s p b g h bounded i) d)
     ∙ (λ i. (base_volume M c s p b g h bounded (no_faces M s sound (solid_free M s p dx dy dz e)) ∙ rectangle_flat p dx dy) i +ℤ rectangle_raised p dx dy dz i)
     ∙ none_add (pos 6 *ℤ dx *ℤ dy *ℤ dz)
+
+-- a lamina has three points or more, and its solid is new
+lamina_new : (M : Model) (s : ℕ) (ps : List Point) → lamina_refusal M s ps ≡ None → (length ps ≡ suc (suc (suc (length ps - 3)))) × (table.has M.solids s ≡ false)
+unfolding lamina_conditions
+lamina_new M s ps e = let w = all_hold (lamina_conditions M s ps) e in (more (length ps) (three (length ps) w.1.1.0), not-true _ w.1.0) where
+  three : (n : ℕ) → nat_le 3 n ≡ true → 3 ≤ n
+  three n e = grind (arith, nat_tests)
+
+  more : (n : ℕ) → 3 ≤ n → n ≡ suc (suc (suc (n - 3)))
+  more n l = omega (arith, l)
+
+some_points : (M : Model) (s : ℕ) (ps : List Point) → lamina_refusal M s ps ≡ None → 0 < length ps
+some_points M s ps e = omega (arith, (lamina_new M s ps e).0)
+
+pub lamina_measures : LaminaMeasures
+lamina_measures M s ps sound e = let g = lamina_new M s ps e in
+    subst (λ N. six_volume N s ≡ dot (get_or ps 0 no_point) (normal N (lamina_face M)) -ℤ dot (get_or ps 1 no_point) (normal N (lamina_face M))) (sym (lamina_is M s ps))
+    (lamina_volume M (taken_in M) s ps (length ps - 3) g.0 (sound_bounded M sound) (no_faces M s sound g.1))
+
+pub flat_laminas_measure_nothing : FlatLaminasMeasureNothing
+flat_laminas_measure_nothing M s ps sound e = let g = lamina_new M s ps e in
+    subst (λ N. is_flat N (lamina_face M) ≡ true → six_volume N s ≡ pos 0) (sym (lamina_is M s ps))
+    (flat_volume M (taken_in M) s ps (length ps - 3) g.0 (sound_bounded M sound) (no_faces M s sound g.1))
+
+-- other solids keep their six volumes
+pub lamina_keeps_others : LaminaKeepsOthers
+lamina_keeps_others M s ps u sound e ne = ap (λ x. six_volume x u) (lamina_is M s ps) ∙ lamina_keeps M (taken_in M) s ps (some_points M s ps e) (sound_bounded M sound) u ne
+
+pub block_keeps_others : BlockKeepsOthers
+block_keeps_others M s p dx dy dz u sound e ne =
+    let c = taken_in M in
+    let b = second_corner p dx dy in
+    let g = third_corner p dx dy in
+    let h = fourth_corner p dx dy in
+    let L = base M c s p b g h in
+    let bounded = sound_bounded M sound in
+    let goes = blocks_have_bases M s p dx dy dz e in
+    let sound_base : Sound L = subst Sound (lamina_is M s (base_of p dx dy)) (lamina_is_sound M s (base_of p dx dy) sound goes) in
+    ap (λ x. six_volume x u) (block_is M s p dx dy dz)
+    ∙ face_keeps_others L sound_base (c.face + 1) (there_one M c s (base_of p dx dy)) (none_lone M c s (base_of p dx dy) bounded) (vector (pos 0) (pos 0) dz) u (λ o. ne (o ∙ solid_one M c s (base_of p dx dy)))
+    ∙ lamina_keeps M c s (base_of p dx dy) (some_points M s (base_of p dx dy) goes) bounded u ne

@@ -13,7 +13,7 @@ use Rattle.euler_operators.specs.Model.{Model, LoopContent, cycle, FaceRow, Loop
 use Rattle.euler_operators.specs.Sound.{Sound, Has, HasHalf}
 use Rattle.euler_operators.proofs.Tables.{zero_first_where, row_some}
 use Rattle.euler_operators.proofs.Models.{content_row, face_row, in-holds}
-use Rattle.euler_operators.specs.Conditions.{is_lone, lists}
+use Rattle.euler_operators.specs.Conditions.{is_lone, lists, strictly_rises}
 use Rattle.euler_laws.proofs.shared.Goes.{all_hold, no_zero}
 use Rattle.euler_laws.proofs.shared.Listed.{listed_cases, listed_passes, all_where-rises}
 use Rattle.euler_laws.proofs.shared.Loops.{loop_sound, IsLoop}
@@ -23,10 +23,11 @@ use Rattle.shapes.specs.Fresh.{taken_in}
 use Rattle.shapes.specs.Prism.{next_place, prism_conditions, prism_refusal, prism_model}
 use Rattle.shapes.specs.Measure.{normal, six_volume}
 use Rattle.shapes.proofs.fresh.Rows.{at_most_greatest}
+use Rattle.sweeps_laws.specs.Laws.{SweepAdds, SweepKeepsOthers}
 use Rattle.sweeps_laws.proofs.swept.Numbers.{next_cases}
 use Rattle.sweeps_laws.proofs.swept.Lifted.{Bounded, IsPathOf}
 use Rattle.sweeps_laws.proofs.Loops.{head_is}
-use Rattle.sweeps_laws.proofs.Whole.{Paths, paths_add}
+use Rattle.sweeps_laws.proofs.Whole.{Paths, paths_add, paths_keep}
 
 -- ---- places of a ring
 
@@ -160,10 +161,23 @@ module _ (M : Model) (sound : Sound M) where
       | inr j ↦ let p = ring_parts q j in path_at q p.0 p.1
     ]
 
-    pub face_adds : (d : Point) → six_volume (prism_model M f d) (solid_of M f) ≡ six_volume M (solid_of M f) +ℤ pos 3 *ℤ dot (normal M f) d
-    face_adds d = paths_add M f d sound_bounded there sound_paths (all_where-rises (λ l row. nat_eq row.face f && not (nat_eq (outer M f) l)) M.loops) (λ q i. (ring_parts q i).2)
+    rings_rise : strictly_rises (rings_of M f) ≡ true
+    rings_rise = all_where-rises (λ l row. nat_eq row.face f && not (nat_eq (outer M f) l)) M.loops
 
--- the law of sweeps
-pub sweep_adds : (M : Model) (f : ℕ) (d : Point) → Sound M → prism_refusal M f d ≡ None → six_volume (prism_model M f d) (solid_of M f) ≡ six_volume M (solid_of M f) +ℤ pos 3 *ℤ dot (normal M f) d
+    pub face_adds : (d : Point) → six_volume (prism_model M f d) (solid_of M f) ≡ six_volume M (solid_of M f) +ℤ pos 3 *ℤ dot (normal M f) d
+    face_adds d = paths_add M f d sound_bounded there sound_paths rings_rise (λ q i. (ring_parts q i).2)
+
+    pub face_keeps_others : (d : Point) (u : ℕ) → u ≢ solid_of M f → six_volume (prism_model M f d) u ≡ six_volume M u
+    face_keeps_others d u ne = paths_keep M f d sound_bounded there sound_paths u ne rings_rise (λ q i. (ring_parts q i).2)
+
+-- what the conditions of a sweep say of its face
+face_goes : (M : Model) (f : ℕ) (d : Point) → prism_refusal M f d ≡ None → Has M.faces f × (least_lone M (f ∷ []) ≡ 0)
 unfolding prism_conditions
-sweep_adds M f d sound e = let h = all_hold (prism_conditions M f d) e in face_adds M sound f h.1.0 (eqb-true (least_lone M (f ∷ [])) 0 h.1.1.1.0) d
+face_goes M f d e = let h = all_hold (prism_conditions M f d) e in (h.1.0, eqb-true (least_lone M (f ∷ [])) 0 h.1.1.1.0)
+
+-- the laws of sweeps
+pub sweep_adds : SweepAdds
+sweep_adds M f d sound e = let g = face_goes M f d e in face_adds M sound f g.0 g.1 d
+
+pub sweep_keeps_others : SweepKeepsOthers
+sweep_keeps_others M f d u sound e ne = let g = face_goes M f d e in face_keeps_others M sound f g.0 g.1 d u ne

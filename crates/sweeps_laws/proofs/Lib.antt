@@ -5,6 +5,10 @@ mod Areas
 mod Loops
 mod Volumes
 mod Whole
-mod FromSound
+pub mod FromSound
+mod LaminaRows
 mod Base
-mod Block
+mod Laminas
+mod LaminaVolumes
+pub mod Block
+pub mod BlockOps

@@ -21,7 +21,7 @@ use Rattle.euler_operators.proofs.Sweeps.{sum_to, moved_at, area_at, moved_ring,
 use Rattle.euler_operators.proofs.Rotations.{IsIn_head}
 use Rattle.euler_operators.proofs.Halves.{mate_plus, mate_minus}
 use Rattle.sweeps_laws.proofs.swept.Numbers.{next_cases}
-use Rattle.sweeps_laws.proofs.Areas.{area_append, area_last, area_sum, same_area, volume_of}
+use Rattle.sweeps_laws.proofs.Areas.{area_last, area_sum, same_area, same_loops, same_volumes, volume_of}
 use Rattle.sweeps_laws.proofs.swept.Sides.{Keeps, start_kept, finish_kept}
 use Rattle.sweeps_laws.proofs.swept.Lifted.{Bounded, IsPathOf, swept, keeps_swept, outer_new, content_here, content_old, content_new, outer_old, rings_old, rings_new, from_point, to_point, riser_start, riser_finish, top_start, top_finish, next_start, next_finish, item_start, item_finish}
 use Rattle.sweeps_laws.proofs.prism.Loops.{tops_head}
@@ -45,11 +45,20 @@ unfolding edge_of
 first_edge e = omega arith
 
 -- what starts where the loop's path starts is its anchor
-first_kept : (M N : Model) (e v : ℕ) (keeps : Keeps M N e v) (bounded : (h : ℕ) → tail M h ≤ v) (x : LoopContent) →
+pub first_kept : (M N : Model) (e v : ℕ) (keeps : Keeps M N e v) (bounded : (h : ℕ) → tail M h ≤ v) (x : LoopContent) →
     ((h : ℕ) → IsIn h (items_of x) → edge_of h ≤ e) → ((w : ℕ) → x ≡ lone w → w ≤ v) → point_of N (first_vertex N x) ≡ point_of M (first_vertex M x)
 first_kept M N e v keeps bounded (lone w) a b = keeps.points w (b w refl)
 first_kept M N e v keeps bounded (cycle []) a b = start_kept M N e v keeps bounded 0 (first_edge e)
 first_kept M N e v keeps bounded (cycle (h ∷ hs)) a b = start_kept M N e v keeps bounded h (a h (IsIn_head h hs))
+
+-- the loops of a face
+pub loops_within : (M : Model) (c : Taken) → Bounded M c → (k q : ℕ) → lists (outer M k ∷ rings_of M k) q ≡ true → q ≤ c.loop
+loops_within M c b k q i = elim (listed_cases (outer M k) q (rings_of M k) i) [
+  | inl e ↦ subst (λ x. x ≤ c.loop) (sym e) (b.outers k)
+  | inr i ↦ let p = listed_passes (λ l row. nat_eq row.face k && not (nat_eq (outer M k) l)) M.loops q i in at_most q (table.greatest M.loops) c.loop (at_most_greatest M.loops q (ap is_some p.1)) b.loops
+] where
+  at_most : (a b c : ℕ) → a ≤ b → b ≤ c → a ≤ c
+  at_most a b c m n = omega arith
 
 -- a closed path of n steps keeps its area where it is moved
 ring_moved : (p q : ℕ → Point) (d : Point) (n : ℕ) → 0 < n → Linked p q d n → ((m : ℕ) → suc m ≡ n → q m ≡ p 0) → sum_to (moved_at p q d) n ≡ sum_to (area_at p q d) n
@@ -138,23 +147,12 @@ module _ (M : Model) (c : Taken) (s : ℕ) (d : Point) (hs : List ℕ) (f l : �
   ]
 
   pub loops_area : (ls : List ℕ) → ((q : ℕ) → lists ls q ≡ true → q ≤ c.loop) → area after (items_in after ls) ≡ area M (items_in M ls)
-  loops_area [] m = refl
-  loops_area (q ∷ ls) m = area_append after (items_of (content after q)) (items_in after ls)
-      ∙ (λ t. moved (loop_area q (m q (first_listed q ls)) t) (loops_area ls (λ k i. m k (rest_listed q k ls i)) t))
-      ∙ sym (area_append M (items_of (content M q)) (items_in M ls))
-
-  loops_within : (k q : ℕ) → lists (outer M k ∷ rings_of M k) q ≡ true → q ≤ c.loop
-  loops_within k q i = elim (listed_cases (outer M k) q (rings_of M k) i) [
-    | inl e ↦ subst (λ x. x ≤ c.loop) (sym e) (b.outers k)
-    | inr i ↦ let p = listed_passes (λ l row. nat_eq row.face k && not (nat_eq (outer M k) l)) M.loops q i in at_most q (table.greatest M.loops) c.loop (at_most_greatest M.loops q (ap is_some p.1)) b.loops
-  ] where
-    at_most : (a b c : ℕ) → a ≤ b → b ≤ c → a ≤ c
-    at_most a b c m n = omega arith
+  loops_area ls m = same_loops M after ls (λ q i. loop_area q (m q i))
 
   -- each face that was there keeps its normal
   pub normal_kept : (k : ℕ) → k ≤ c.face → normal after k ≡ normal M k
   normal_kept k m = normal_is after k ∙ (λ t. area after (items_in after (outer_old M c s d hs f l b r k m t ∷ rings_old M c s d hs f l b r k m t)))
-      ∙ loops_area (outer M k ∷ rings_of M k) (loops_within k) ∙ sym (normal_is M k)
+      ∙ loops_area (outer M k ∷ rings_of M k) (loops_within M c b k) ∙ sym (normal_is M k)
 
   -- and its anchor, where its outer loop isn't the swept one
   anchor_kept : (k : ℕ) → k ≤ c.face → outer M k ≢ l → anchor after k ≡ anchor M k
@@ -179,8 +177,7 @@ module _ (M : Model) (c : Taken) (s : ℕ) (d : Point) (hs : List ℕ) (f l : �
   -- ---- the six volumes
 
   pub faces_kept : (ks : List ℕ) → ((k : ℕ) → lists ks k ≡ true → (k ≤ c.face) × (outer M k ≢ l)) → volume_in after ks ≡ volume_in M ks
-  faces_kept [] w = refl
-  faces_kept (k ∷ ks) w = let p = w k (first_listed k ks) in λ t. volume_kept k p.0 p.1 t +ℤ faces_kept ks (λ q i. w q (rest_listed k q ks i)) t
+  faces_kept ks w = same_volumes M after ks (λ k i. let p = w k i in volume_kept k p.0 p.1)
 
   pub faces_moved : (ks : List ℕ) → strictly_rises ks ≡ true → lists ks f ≡ true → outer M f ≡ l → ((k : ℕ) → lists ks k ≡ true → (k ≤ c.face) × (k ≢ f → outer M k ≢ l)) →
       volume_in after ks ≡ volume_in M ks +ℤ dot d (normal M f)

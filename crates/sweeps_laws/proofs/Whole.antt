@@ -16,7 +16,7 @@ use Rattle.euler_operators.proofs.Vectors.{dot_moved, dot_origin, dot_turned, tw
 use Rattle.sweeps_laws.proofs.Areas.{area_append}
 use Rattle.sweeps_laws.proofs.swept.Lifted.{Bounded, IsPathOf, swept, within}
 use Rattle.sweeps_laws.proofs.Loops.{normal_is, loops_area}
-use Rattle.sweeps_laws.proofs.Volumes.{ring_adds, outer_adds}
+use Rattle.sweeps_laws.proofs.Volumes.{ring_adds, outer_adds, others_kept}
 use Rattle.sweeps_laws.proofs.swept.Kept.{counted, bounded_after, there_after, solid_after, outer_after, path_after}
 
 -- each listed loop is a closed path of face f
@@ -88,6 +88,29 @@ module _ (f : ℕ) (d : Point) (s : ℕ) where
       ∙ (λ t. outer_adds M g.taken s d hs f l b r is there of t +ℤ pos 2 *ℤ dot (items_after M g.taken hs l b r ls rest t) d)
       ∙ both M l ls (six_volume M s +ℤ dot d (normal M f))
 
+  -- each listed number stands once
+  abbrev AreApart : List ℕ → Type 0
+  AreApart [] = Unit {0}
+  AreApart (l ∷ ls) = ((q : ℕ) → lists ls q ≡ true → q ≢ l) × AreApart ls
+
+  rising_apart : (ls : List ℕ) → strictly_rises ls ≡ true → AreApart ls
+  rising_apart [] up = tt
+  rising_apart (l ∷ ls) up = (after_least l ls up, rising_apart ls (rises_on l ls up))
+
+  -- another solid, whatever loops of the face are swept
+  others_swept : (u : ℕ) → u ≢ s → (ls : List ℕ) (g : Growing) → Bounded g.model g.taken → Has g.model.faces f → solid_of g.model f ≡ s → AreApart ls → Paths g.model f ls →
+      six_volume (prism_from f d g ls).model u ≡ six_volume g.model u
+  others_swept u ne [] g b there of apart ps = refl
+  others_swept u ne (l ∷ ls) g b there of apart ps =
+      let M = g.model in
+      let hs = items_of (content M l) in
+      let r = ps l (first_listed l ls) in
+      let rest : Paths M f ls = λ q i. ps q (rest_listed l q ls i) in
+      ap (λ x. six_volume (prism_from f d x ls).model u) (raised_is f d g l ∙ ap (raised_as f d g l) of)
+      ∙ others_swept u ne ls (raised_as f d g l s) (bounded_after M g.taken s d hs f l b r) (there_after M g.taken s d hs f l b r there) (solid_after M g.taken s d hs f l b r there ∙ of) apart.1
+      (paths_after M g.taken hs l b r ls apart.0 rest)
+      ∙ others_kept M g.taken s d hs f l b r u ne of
+
 -- the law, of a face whose loops are closed paths
 module _ (M : Model) (f : ℕ) (d : Point) (b : Bounded M (taken_in M)) (there : Has M.faces f) (ps : Paths M f (outer M f ∷ rings_of M f)) where
   prism_is : prism_model M f d ≡ (prism_from f d (growing M) (outer M f ∷ rings_of M f)).model
@@ -105,3 +128,8 @@ module _ (M : Model) (f : ℕ) (d : Point) (b : Bounded M (taken_in M)) (there :
       ∙ loops_swept f d (solid_of M f) (outer M f) (rings_of M f) (growing M) b there refl refl up ps rings
       ∙ ap (λ a. (six_volume M (solid_of M f) +ℤ dot d (normal M f)) +ℤ pos 2 *ℤ dot a d) (sym (normal_is M f))
       ∙ three (six_volume M (solid_of M f)) (dot (normal M f) d) (dot d (normal M f)) (dot_turned (normal M f) d)
+
+  -- every other solid keeps its six volumes
+  pub paths_keep : (u : ℕ) → u ≢ solid_of M f → strictly_rises (rings_of M f) ≡ true → ((q : ℕ) → lists (rings_of M f) q ≡ true → outer M f ≢ q) → six_volume (prism_model M f d) u ≡ six_volume M u
+  paths_keep u ne up rings = ap (λ x. six_volume x u) prism_is
+      ∙ others_swept f d (solid_of M f) u ne (outer M f ∷ rings_of M f) (growing M) b there refl ((λ q i e. rings q i (sym e)), rising_apart f d (solid_of M f) (rings_of M f) up) ps

@@ -1,6 +1,7 @@
 //! The laws of laminas, blocks and sweeps: their operators are accepted in turn and together make the model
-//! (`operators_make_lamina`, `blocks_rise_from_bases`, `sweeps_make_prisms`), and what they measure (`sweeps_add`, `blocks_measure`).
-//! Each function does nothing: its contract is what is proved, over every sound model in which the command's conditions hold.
+//! (`operators_make_lamina`, `operators_make_blocks`, `sweeps_make_prisms`), and what they measure (`sweeps_add`, `blocks_measure`,
+//! `laminas_measure`). Each function does nothing: its contract is what is proved, over every sound model in which the command's
+//! conditions hold.
 //!
 //! `lamina` and `prism` go operator by operator, `swept` says what one loop of a face that is swept becomes, and beside them stand the
 //! laws of volumes.
@@ -8,7 +9,8 @@
 
 ghost use Rattle.sweeps_laws.specs.lamina.Laws.{OperatorsAreAccepted, OperatorsMakeLamina, LaminaIsSound, BlocksHaveBases, BasesRise};
 ghost use Rattle.sweeps_laws.specs.prism.Laws.{SweepsAreAccepted, SweepsMakePrisms, PrismsAreSound};
-ghost use Rattle.sweeps_laws.specs.Laws.{SweepAdds, BlockMeasures};
+ghost use Rattle.sweeps_laws.specs.block.Laws.{BlocksAreAccepted, OperatorsMakeBlocks, BlocksAreSound};
+ghost use Rattle.sweeps_laws.specs.Laws.{SweepAdds, SweepKeepsOthers, BlockMeasures, BlockKeepsOthers, LaminaMeasures, FlatLaminasMeasureNothing, LaminaKeepsOthers};
 
 /// No operator of a lamina is refused, together they make it, and the model with it is sound.
 pub fn operators_make_lamina()
@@ -23,6 +25,14 @@ pub fn blocks_rise_from_bases()
     ensures rise { BasesRise }
 {}
 
+/// No operator of a block is refused: those of the lamina of its base, and then those of the sweep. Together they make it, and the
+/// model with it is sound.
+pub fn operators_make_blocks()
+    ensures accepted { BlocksAreAccepted }
+    ensures made { OperatorsMakeBlocks }
+    ensures sound { BlocksAreSound }
+{}
+
 /// A sweep that isn't refused: none of its operators is, they make the prism, and the prism is a sound model.
 pub fn sweeps_make_prisms()
     ensures accepted { SweepsAreAccepted }
@@ -31,12 +41,22 @@ pub fn sweeps_make_prisms()
 {}
 
 /// A sweep adds to the six volumes of the face's solid three times the normal of the face before, along the vector: six
-/// times the volume of the prism. The face may have rings, and it needn't be flat.
+/// times the volume of the prism. The face may have rings, and it needn't be flat. Every other solid keeps its six volumes.
 pub fn sweeps_add()
     ensures adds { SweepAdds }
+    ensures others { SweepKeepsOthers }
 {}
 
-/// The six volumes of a block are six times the product of its sizes.
+/// The six volumes of a block are six times the product of its sizes. Every other solid keeps its own.
 pub fn blocks_measure()
     ensures product { BlockMeasures }
+    ensures others { BlockKeepsOthers }
+{}
+
+/// The six volumes of a lamina are what its first point tells more than its second along the normal of its first face: nothing where
+/// that face is flat. Every other solid keeps its own.
+pub fn laminas_measure()
+    ensures difference { LaminaMeasures }
+    ensures flat { FlatLaminasMeasureNothing }
+    ensures others { LaminaKeepsOthers }
 {}

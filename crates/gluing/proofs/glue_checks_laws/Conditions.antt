@@ -1,22 +1,20 @@
 -- The conditions of a glue, part by part.
-use Rattle.std.proofs.Common.{◌≡◌, ℕ, ◌≤◌, ◌+◌, Bool, true, false, cond, not, ◌&&◌, ◌||◌, nat_eq, nat_le, List, [], ◌∷◌, ◌++◌, Option, Some, None, Result, Ok, Err, is_err, is_some, unwrap_or, refl, sym, ap, ◌∙◌, arith, true≢false, inl, inr}
+use Rattle.std.proofs.Common.{◌≡◌, ℕ, true, false, cond, not, ◌&&◌, ◌||◌, nat_eq, List, [], ◌∷◌, ◌++◌, Option, Some, None, Result, Ok, Err, is_err, is_some, unwrap_or, refl, sym, ap, ◌∙◌, arith, true≢false}
 use Rattle.std.proofs.lemmas.Bool.Decides.{nat_tests}
-use Rattle.std.proofs.lemmas.Bool.{cases_eq}
-use Rattle.euler_operators.specs.Table.{Table, get, greatest}
+use Rattle.euler_operators.specs.Table.{get}
 use Rattle.euler_operators.specs.Model.{Model, LoopRow, no_loop, content, face_of, solid_of, outer, faces_of}
-use Rattle.euler_operators.specs.Sound.{Sound, Has, NumbersFit}
+use Rattle.euler_operators.specs.Sound.{Sound, Has}
 use Rattle.euler_operators.proofs.Tables.{zero_first_where}
 use Rattle.euler_operators.proofs.Tests.{first_fails, or_true}
-use Rattle.euler_operators.proofs.Models.{number_fits, loop_number}
-use Rattle.euler_operators.specs.Conditions.{Condition, first_refusal, verdict, is_lone, lists, need}
-use Rattle.euler_operators.specs.declared.Why.TheVariants.{LoneLoop, NotFlat, NumbersSpent}
+use Rattle.euler_operators.proofs.Models.{loop_number}
+use Rattle.euler_operators.specs.Conditions.{Condition, first_refusal, verdict, is_lone, lists}
+use Rattle.euler_operators.specs.declared.Why.TheVariants.{LoneLoop, NotFlat}
 use Rattle.euler_operators.specs.declared.Refusal.{Refusal}
 use Rattle.euler_laws.proofs.shared.Goes.{all_hold, verdict_passed, verdict_failed}
 use Rattle.shapes.specs.Faces.{faces_of_both, least_lone}
 use Rattle.shapes.specs.Fresh.{taken_in, numbers_left, no_such, first_such}
 use Rattle.solid_measure.proofs.solid_checks_laws.FaceWalks.{lists_member, member_faces, member_both}
 use Rattle.solid_measure.specs.Measure.{is_flat}
-use Rattle.shapes.proofs.fresh.Rows.{greatest_used}
 use Rattle.shapes.specs.glue.Glue.{glue_conditions}
 use Rattle.gluing.specs.glue_checks.Conditions.{face_conditions, solid_conditions, outline_conditions}
 use Rattle.solid_walks.proofs.face_walks_laws.Above.{member}

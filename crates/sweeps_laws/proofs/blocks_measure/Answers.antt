@@ -1,5 +1,5 @@
-use Rattle.sweeps_laws.proofs.Block.{block_volume}
+use Rattle.sweeps_laws.proofs.Block.{block_volume, block_keeps_others}
 use Rattle.sweeps_laws.proofs.blocks_measure.Goals as goal
 
 pub returns : goal.returns
-returns c = record { product = block_volume }
+returns c = record { product = block_volume; others = block_keeps_others }

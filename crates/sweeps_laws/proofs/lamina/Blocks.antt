@@ -13,7 +13,7 @@ use Rattle.euler_operators.specs.Rings.{canonical}
 use Rattle.euler_operators.specs.HalfEdge.{plus, minus}
 use Rattle.euler_operators.specs.Table as table
 use Rattle.euler_operators.specs.Table.{Table}
-use Rattle.euler_operators.specs.Model.{Model, cycle, FaceRow, LoopRow, EdgeRow, no_face, no_point, tail_in, content, outer, tail, point_of, rings_of}
+use Rattle.euler_operators.specs.Model.{Model, cycle, FaceRow, LoopRow, EdgeRow, no_face, no_point, tail_in, outer, tail, point_of, rings_of}
 use Rattle.euler_operators.specs.Sound.{Sound}
 use Rattle.euler_operators.proofs.Halves.{plus_row}
 use Rattle.euler_operators.proofs.Models.{content_row, face_row, tail_row}

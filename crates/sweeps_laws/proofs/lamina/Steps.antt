@@ -12,7 +12,7 @@ use Rattle.euler_operators.proofs.Lists.{count-append, tick_same}
 use Rattle.euler_operators.specs.HalfEdge.{code, mate, edge_of, plus, minus}
 use Rattle.euler_operators.specs.Table as table
 use Rattle.euler_operators.specs.Table.{Table}
-use Rattle.euler_operators.specs.Model.{Model, LoopContent, cycle, EdgeRow, no_point, no_face, items_of, tail_in, content, face_of, solid_of, outer, tail, loop_of, cycle_of, arc, holds, is_number}
+use Rattle.euler_operators.specs.Model.{Model, LoopContent, cycle, EdgeRow, no_point, no_face, items_of, tail_in, content, face_of, solid_of, tail, loop_of, cycle_of, arc, holds, is_number}
 use Rattle.euler_operators.specs.Sound.{Sound}
 use Rattle.euler_operators.proofs.Halves.{plus_row, minus_row, mate_plus}
 use Rattle.euler_operators.proofs.Models.{in-holds, holds-none, not_held, content_row, face_row, tail_row}

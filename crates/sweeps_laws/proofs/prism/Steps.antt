@@ -13,7 +13,7 @@ use Rattle.euler_operators.proofs.Edits.{count-insert_before}
 use Rattle.euler_operators.proofs.Operators.{apart_front}
 use Rattle.euler_operators.specs.HalfEdge.{edge_of, plus, minus, code, half}
 use Rattle.euler_operators.specs.Table as table
-use Rattle.euler_operators.specs.Model.{Model, EdgeRow, cycle, tail, loop_of, content, face_of, solid_of, cycle_of, arc, is_number}
+use Rattle.euler_operators.specs.Model.{Model, EdgeRow, cycle, tail, loop_of, face_of, solid_of, cycle_of, arc, is_number}
 use Rattle.euler_operators.specs.Sound.{HasHalf}
 use Rattle.euler_operators.proofs.Halves.{plus_row, minus_row, code-half, mate_plus, plus_other}
 use Rattle.euler_operators.proofs.Tables.{map_one, map_same, map-put, put-put}

@@ -7,7 +7,6 @@ use Rattle.euler_operators.proofs.Lists.{count-append, tick_other, IsIn_or_not}
 use Rattle.euler_operators.proofs.Std.{IsIn-get_or}
 use Rattle.euler_operators.specs.HalfEdge.{edge_of, is_first, plus, minus}
 use Rattle.euler_operators.specs.Table as table
-use Rattle.euler_operators.specs.Table.{Table}
 use Rattle.euler_operators.specs.Model.{Model, lone, EdgeRow, no_edge, items_of, tail, tail_in, content, face_of, outer, solid_of}
 use Rattle.euler_operators.specs.Sound.{Has}
 use Rattle.euler_operators.proofs.Halves.{plus_row, minus_row}

@@ -9,7 +9,7 @@ use Rattle.euler_operators.proofs.Lists.{from_at, before_at}
 use Rattle.euler_operators.proofs.Std.{IsIn-get_or}
 use Rattle.euler_operators.specs.HalfEdge.{edge_of, plus, minus}
 use Rattle.euler_operators.specs.Table as table
-use Rattle.euler_operators.specs.Table.{Table, map_rows}
+use Rattle.euler_operators.specs.Table.{map_rows}
 use Rattle.euler_operators.specs.Model.{Model, lone, cycle, LoopRow, items_of, tail, content, face_of, outer, point_of, rings_of}
 use Rattle.euler_operators.specs.Sound.{Has}
 use Rattle.euler_operators.proofs.Tables.{map_one, all_where_none, all_where-map, get-put_here, get-put_other}

@@ -1,0 +1,11 @@
+use Rattle.std.proofs.Common.{ap, ◌∙◌}
+use Rattle.undo_journal.specs.Machine.{held}
+use Rattle.shapes.specs.Measure.{six_volume}
+use Rattle.sweeps_laws.proofs.Block.{block_volume, block_keeps_others}
+use Rattle.sweeps.proofs.laws.block_measures.Goals as goal
+
+pub returns : goal.returns
+returns c = record {
+  solid = λ s t n p dx dy dz sound goes is. ap (λ N. six_volume N n) is ∙ block_volume (held s) n p dx dy dz sound goes;
+  others = λ s t n p dx dy dz u sound goes is ne. ap (λ N. six_volume N u) is ∙ block_keeps_others (held s) n p dx dy dz u sound goes ne;
+}

@@ -1,0 +1,17 @@
+use Rattle.std.specs.Prelude.{get_or}
+use Rattle.std.proofs.Common.{◌≡◌, pos, ◌-ℤ◌, true, sym, ap, subst, ◌∙◌}
+use Rattle.euler_operators.specs.Vectors.{dot}
+use Rattle.euler_operators.specs.Model.{no_point}
+use Rattle.undo_journal.specs.Machine.{held}
+use Rattle.shapes.specs.Lamina.{lamina_face}
+use Rattle.shapes.specs.Measure.{normal, is_flat, six_volume}
+use Rattle.sweeps_laws.proofs.Block.{lamina_measures, flat_laminas_measure_nothing, lamina_keeps_others}
+use Rattle.sweeps.proofs.laws.lamina_measures.Goals as goal
+
+pub returns : goal.returns
+returns c = record {
+  solid = λ s t n ps sound goes is.
+      subst (λ N. six_volume N n ≡ dot (get_or ps 0 no_point) (normal N (lamina_face (held s))) -ℤ dot (get_or ps 1 no_point) (normal N (lamina_face (held s)))) (sym is) (lamina_measures (held s) n ps sound goes);
+  flat = λ s t n ps sound goes is. subst (λ N. is_flat N (lamina_face (held s)) ≡ true → six_volume N n ≡ pos 0) (sym is) (flat_laminas_measure_nothing (held s) n ps sound goes);
+  others = λ s t n ps u sound goes is ne. ap (λ N. six_volume N u) is ∙ lamina_keeps_others (held s) n ps u sound goes ne;
+}

@@ -1,0 +1,59 @@
+-- The operators of a block: those of its base, and then those of the sweep.
+use Rattle.std.proofs.Common.{◌≡◌, ℕ, ℤ, pos, None, sym, ap, subst, ◌∙◌}
+use Rattle.euler_operators.specs.declared.Point.{Point}
+use Rattle.euler_operators.specs.Model.{Model}
+use Rattle.euler_operators.specs.Sound.{Sound}
+use Rattle.euler_laws.specs.Laws.{AreAccepted, effects}
+use Rattle.euler_laws.proofs.Runs.{effects-append, AreAccepted-append}
+use Rattle.shapes.specs.Lamina.{lamina_refusal, lamina_model, lamina_face}
+use Rattle.shapes.specs.Prism.{prism_refusal}
+use Rattle.shapes.specs.Block.{vector, base_of, block_refusal, block_model}
+use Rattle.sweeps_laws.specs.lamina.Path.{lamina_operators}
+use Rattle.sweeps_laws.specs.prism.SweepOps.{sweep_ops}
+use Rattle.sweeps_laws.specs.block.BlockOps.{block_ops}
+use Rattle.sweeps_laws.specs.block.Laws.{BlocksAreAccepted, OperatorsMakeBlocks, BlocksAreSound}
+use Rattle.sweeps_laws.proofs.lamina.Walk.{operators_are_accepted, operators_make_lamina, lamina_is_sound}
+use Rattle.sweeps_laws.proofs.lamina.Blocks.{blocks_have_bases, bases_rise}
+use Rattle.sweeps_laws.proofs.prism.Accepted.{sweep_accepted, sweep_is_prism, prism_sound}
+
+module _ (M : Model) (s : ℕ) (p : Point) (dx dy dz : ℤ) (sound : Sound M) (e : block_refusal M s p dx dy dz ≡ None) where
+  abbrev base : Model
+  base = lamina_model M s (base_of p dx dy)
+
+  abbrev up : Point
+  up = vector (pos 0) (pos 0) dz
+
+  goes : lamina_refusal M s (base_of p dx dy) ≡ None
+  goes = blocks_have_bases M s p dx dy dz e
+
+  base_sound : Sound base
+  base_sound = lamina_is_sound M s (base_of p dx dy) sound goes
+
+  base_made : effects M (lamina_operators M s (base_of p dx dy)) ≡ base
+  base_made = operators_make_lamina M s (base_of p dx dy) sound goes
+
+  rise : prism_refusal base (lamina_face M) up ≡ None
+  rise = bases_rise M s p dx dy dz sound e
+
+  pub accepted : AreAccepted M (block_ops M s p dx dy dz)
+  unfolding block_ops
+  accepted = AreAccepted-append M (lamina_operators M s (base_of p dx dy)) (sweep_ops base (lamina_face M) up) (operators_are_accepted M s (base_of p dx dy) sound goes)
+      (subst (λ N. AreAccepted N (sweep_ops base (lamina_face M) up)) (sym base_made) (sweep_accepted base (lamina_face M) up base_sound rise))
+
+  pub made : effects M (block_ops M s p dx dy dz) ≡ block_model M s p dx dy dz
+  unfolding block_ops block_model
+  made = effects-append M (lamina_operators M s (base_of p dx dy)) (sweep_ops base (lamina_face M) up)
+      ∙ ap (λ N. effects N (sweep_ops base (lamina_face M) up)) base_made ∙ sweep_is_prism base (lamina_face M) up base_sound rise
+
+  pub block_sound : Sound (block_model M s p dx dy dz)
+  unfolding block_model
+  block_sound = prism_sound base (lamina_face M) up base_sound rise
+
+pub blocks_are_accepted : BlocksAreAccepted
+blocks_are_accepted = accepted
+
+pub operators_make_blocks : OperatorsMakeBlocks
+operators_make_blocks = made
+
+pub blocks_are_sound : BlocksAreSound
+blocks_are_sound = block_sound

@@ -1,0 +1,122 @@
+-- The rows of a lamina: its two faces and their loops.
+use Rattle.std.specs.Prelude.{length, map, reverse}
+use Rattle.std.proofs.Common.{◌≡◌, ◌≢◌, ℕ, ◌+◌, ◌≤◌, Bool, true, cond, not, nat_eq, ◌&&◌, List, [], ◌∷◌, ◌++◌, Some, is_some, sym, ap, subst, ◌∙◌, arith, ◌⊎◌, inl, inr}
+use Rattle.std.proofs.lemmas.Bool.Decides.{nat_tests}
+use Rattle.euler_operators.specs.declared.Point.{Point}
+use Rattle.euler_operators.specs.Rings.{canonical}
+use Rattle.euler_operators.specs.HalfEdge.{plus, minus}
+use Rattle.euler_operators.specs.Table as table
+use Rattle.euler_operators.specs.Model.{Model, cycle, FaceRow, LoopRow, outer, solid_of, rings_of, faces_of}
+use Rattle.euler_operators.specs.Sound.{Has}
+use Rattle.euler_operators.proofs.Tables.{all_where_none, first_where_zero, get-put_here, get-put_other}
+use Rattle.euler_operators.proofs.Models.{face_row, solid_row, outer_row}
+use Rattle.euler_operators.proofs.Tests.{none_but}
+use Rattle.euler_operators.specs.Conditions.{is_lone, lists}
+use Rattle.shapes.specs.Faces.{least_lone}
+use Rattle.shapes.specs.Fresh.{Taken, numbers_after}
+use Rattle.shapes.specs.Lamina.{lamina_at}
+use Rattle.shapes.proofs.fresh.Rows.{get-put_cases, all_where-put_last, greatest-put_last}
+use Rattle.sweeps_laws.proofs.lamina.Blocks.{no_lone}
+use Rattle.sweeps_laws.proofs.swept.Lifted.{Bounded}
+
+one_two : (a : ℕ) → a + 1 ≢ a + 2
+one_two a e = absurd (omega arith)
+
+module _ (M : Model) (c : Taken) (s : ℕ) (ps : List Point) where
+  abbrev pub drawn : Model
+  drawn = lamina_at M c s ps
+
+  abbrev pub first_face : FaceRow
+  first_face = record { solid = s; outer = c.loop + 1 }
+
+  abbrev pub second_face : FaceRow
+  second_face = record { solid = s; outer = c.loop + 2 }
+
+  abbrev pub first_loop : LoopRow
+  first_loop = record { face = c.face + 1; content = cycle (map plus (numbers_after c.edge (length ps))) }
+
+  abbrev pub second_loop : LoopRow
+  second_loop = record { face = c.face + 2; content = cycle (canonical (reverse (map minus (numbers_after c.edge (length ps))))) }
+
+  pub face_one : table.get drawn.faces (c.face + 1) ≡ Some first_face
+  face_one = get-put_other (table.put M.faces (c.face + 1) first_face) (c.face + 2) second_face (c.face + 1) (one_two c.face) ∙ get-put_here M.faces (c.face + 1) first_face
+
+  pub face_two : table.get drawn.faces (c.face + 2) ≡ Some second_face
+  face_two = get-put_here (table.put M.faces (c.face + 1) first_face) (c.face + 2) second_face
+
+  pub loop_one : table.get drawn.loops (c.loop + 1) ≡ Some first_loop
+  loop_one = get-put_other (table.put M.loops (c.loop + 1) first_loop) (c.loop + 2) second_loop (c.loop + 1) (one_two c.loop) ∙ get-put_here M.loops (c.loop + 1) first_loop
+
+  pub loop_two : table.get drawn.loops (c.loop + 2) ≡ Some second_loop
+  loop_two = get-put_here (table.put M.loops (c.loop + 1) first_loop) (c.loop + 2) second_loop
+
+  pub solid_one : solid_of drawn (c.face + 1) ≡ s
+  solid_one = solid_row drawn (c.face + 1) first_face face_one
+
+  pub there_one : Has drawn.faces (c.face + 1)
+  there_one = ap is_some face_one
+
+  module _ (bounded : Bounded M c) where
+    -- a loop is one of the two new ones, or was there
+    loop_cases : (q : ℕ) (y : LoopRow) → table.get drawn.loops q ≡ Some y → ((q ≡ c.loop + 2) × (y ≡ second_loop)) ⊎ (((q ≡ c.loop + 1) × (y ≡ first_loop)) ⊎ (y.face ≤ c.face))
+    loop_cases q y at = elim (get-put_cases (table.put M.loops (c.loop + 1) first_loop) (c.loop + 2) second_loop q y at) [
+      | inl p ↦ inl p
+      | inr p ↦ elim (get-put_cases M.loops (c.loop + 1) first_loop q y p.1) [
+        | inl r ↦ inr (inl r)
+        | inr r ↦ inr (inr (subst (λ k. k ≤ c.face) (face_row M q y r.1) (bounded.loop_faces q)))
+      ]
+    ]
+
+    pub rings_one : rings_of drawn (c.face + 1) ≡ []
+    rings_one = all_where_none (λ q row. nat_eq row.face (c.face + 1) && not (nat_eq (outer drawn (c.face + 1)) q)) drawn.loops (λ q y at. none_but y.face (c.face + 1) (outer drawn (c.face + 1)) q (λ e. elim (loop_cases q y at) [
+      | inl p ↦ absurd (other c.face y.face (ap (λ r. r.face) p.1) e)
+      | inr (inl p) ↦ outer_row drawn (c.face + 1) first_face face_one ∙ sym p.0
+      | inr (inr p) ↦ absurd (low c.face y.face p e)
+    ])) where
+      other : (k g : ℕ) → g ≡ k + 2 → g ≡ k + 1 → ⊥
+      other k g p e = absurd (omega arith)
+
+      low : (k g : ℕ) → g ≤ k → g ≡ k + 1 → ⊥
+      low k g p e = absurd (omega arith)
+
+    pub rings_two : rings_of drawn (c.face + 2) ≡ []
+    rings_two = all_where_none (λ q row. nat_eq row.face (c.face + 2) && not (nat_eq (outer drawn (c.face + 2)) q)) drawn.loops (λ q y at. none_but y.face (c.face + 2) (outer drawn (c.face + 2)) q (λ e. elim (loop_cases q y at) [
+      | inl p ↦ outer_row drawn (c.face + 2) second_face face_two ∙ sym p.0
+      | inr (inl p) ↦ absurd (other c.face y.face (ap (λ r. r.face) p.1) e)
+      | inr (inr p) ↦ absurd (low c.face y.face p e)
+    ])) where
+      other : (k g : ℕ) → g ≡ k + 1 → g ≡ k + 2 → ⊥
+      other k g p e = absurd (omega arith)
+
+      low : (k g : ℕ) → g ≤ k → g ≡ k + 2 → ⊥
+      low k g p e = absurd (omega arith)
+
+    -- no loop of the first face is lone
+    pub none_lone : least_lone drawn ((c.face + 1) ∷ []) ≡ 0
+    none_lone = first_where_zero (λ _ row. is_lone row.content && lists ((c.face + 1) ∷ []) row.face) drawn.loops (λ q y at. elim (loop_cases q y at) [
+      | inl p ↦ ap (λ r. is_lone r.content && lists ((c.face + 1) ∷ []) r.face) p.1
+      | inr (inl p) ↦ ap (λ r. is_lone r.content && lists ((c.face + 1) ∷ []) r.face) p.1
+      | inr (inr p) ↦ no_lone (is_lone y.content) (c.face + 1) y.face (above c.face y.face p)
+    ]) where
+      above : (k g : ℕ) → g ≤ k → k + 1 ≢ g
+      above k g p e = absurd (omega arith)
+
+    -- a search of the faces, and of the loops
+    pub faces_found : (p : ℕ → FaceRow → Bool) → table.all_where p drawn.faces ≡ (table.all_where p M.faces ++ cond (p (c.face + 1) first_face) ((c.face + 1) ∷ []) []) ++ cond (p (c.face + 2) second_face) ((c.face + 2) ∷ []) []
+    faces_found p =
+        let first = table.put M.faces (c.face + 1) first_face in
+        all_where-put_last first (c.face + 2) second_face (omega (arith, greatest-put_last M.faces (c.face + 1) first_face (omega (arith, bounded.faces)))) p
+        ∙ ap (λ ks. ks ++ cond (p (c.face + 2) second_face) ((c.face + 2) ∷ []) []) (all_where-put_last M.faces (c.face + 1) first_face (omega (arith, bounded.faces)) p)
+
+    pub loops_found : (p : ℕ → LoopRow → Bool) → table.all_where p drawn.loops ≡ (table.all_where p M.loops ++ cond (p (c.loop + 1) first_loop) ((c.loop + 1) ∷ []) []) ++ cond (p (c.loop + 2) second_loop) ((c.loop + 2) ∷ []) []
+    loops_found p =
+        let first = table.put M.loops (c.loop + 1) first_loop in
+        all_where-put_last first (c.loop + 2) second_loop (omega (arith, greatest-put_last M.loops (c.loop + 1) first_loop (omega (arith, bounded.loops)))) p
+        ∙ ap (λ ks. ks ++ cond (p (c.loop + 2) second_loop) ((c.loop + 2) ∷ []) []) (all_where-put_last M.loops (c.loop + 1) first_loop (omega (arith, bounded.loops)) p)
+
+    -- the faces of a solid that was not there
+    pub faces_are : faces_of M s ≡ [] → faces_of drawn s ≡ (c.face + 1) ∷ (c.face + 2) ∷ []
+    faces_are none = faces_found (λ _ row. nat_eq row.solid s)
+        ∙ (λ i. (none i ++ cond (same s i) ((c.face + 1) ∷ []) []) ++ cond (same s i) ((c.face + 2) ∷ []) []) where
+          same : (n : ℕ) → nat_eq n n ≡ true
+          same n = grind (arith, nat_tests)

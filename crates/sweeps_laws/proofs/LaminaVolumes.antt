@@ -1,0 +1,191 @@
+-- The six volumes of a lamina: its two faces have opposite normals, and one is told from the first point, the other from the second.
+use Rattle.std.specs.Prelude.{length, get_or, map, reverse, ◌-◌}
+use Rattle.std.proofs.Common.{◌≡◌, ◌≢◌, ℕ, zero, suc, ◌+◌, ◌≤◌, ◌<◌, ℤ, pos, ◌+ℤ◌, ◌-ℤ◌, neg_ℤ, true, List, [], ◌∷◌, ◌++◌, Some, refl, sym, ap, subst, ◌∙◌, arith, inl, inr, append-nil}
+use Rattle.std.proofs.lemmas.Bool.Decides.{eqb_tells}
+use Rattle.std.proofs.lemmas.Int.{ints}
+use Rattle.euler_operators.specs.declared.Point.{Point}
+use Rattle.euler_operators.specs.Vectors.{dot}
+use Rattle.euler_operators.specs.Items.{count, IsIn, IsApart, head_or}
+use Rattle.euler_operators.specs.Rings.{canonical}
+use Rattle.euler_operators.specs.HalfEdge.{mate, plus, minus}
+use Rattle.euler_operators.specs.Table as table
+use Rattle.euler_operators.specs.Table.{Table}
+use Rattle.euler_operators.specs.Model.{Model, EdgeRow, cycle, no_point, items_of, tail, content, outer, point_of, faces_of}
+use Rattle.euler_operators.specs.Conditions.{lists}
+use Rattle.euler_operators.proofs.Tables.{get-put_here, get-put_other}
+use Rattle.euler_operators.proofs.Models.{content_row, outer_row, point_row, plus_tail_row, minus_tail_row}
+use Rattle.euler_operators.proofs.Halves.{mate_plus}
+use Rattle.euler_operators.proofs.Lists.{count-append, tick_same, tick_other}
+use Rattle.euler_operators.proofs.Rotations.{count-canonical}
+use Rattle.euler_operators.proofs.Members.{IsIn-map}
+use Rattle.euler_laws.proofs.shared.Listed.{listed-from_in}
+use Rattle.shapes.specs.Faces.{items_in, vertices_in, vertices_on, corners, loops_of}
+use Rattle.shapes.specs.Fresh.{Taken, numbers_after}
+use Rattle.shapes.specs.Lamina.{with_points, with_path}
+use Rattle.shapes.specs.Measure.{area, normal, anchor, first_vertex, is_flat, volume_in, six_volume}
+use Rattle.solid_measure_laws.specs.Vectors.{negated}
+use Rattle.solid_measure_laws.proofs.Sums.{dot_back, area_same, area_back}
+use Rattle.solid_measure_laws.proofs.FlatFaces.{corner_told}
+use Rattle.sweeps_laws.specs.lamina.Path.{out, back}
+use Rattle.sweeps_laws.proofs.lamina.Lists.{out_first, plus_halves, minus_halves, back_apart, first_moved, canonical_first}
+use Rattle.sweeps_laws.proofs.LaminaRows as rows
+use Rattle.sweeps_laws.proofs.swept.Lifted.{Bounded}
+use Rattle.sweeps_laws.proofs.Loops.{normal_is}
+use Rattle.sweeps_laws.proofs.Volumes.{six_volume_is}
+
+-- ---- the loop the other way round, from its least half-edge on
+
+-- the minus halves before the first edge's
+abbrev earlier : ℕ → ℕ → List ℕ
+earlier e zero = []
+earlier e (suc j) = minus (e + suc (suc j)) ∷ earlier e j
+
+back_last : (e j : ℕ) → back e (suc j) ≡ earlier e j ++ minus (e + 1) ∷ []
+back_last e zero = refl
+back_last e (suc j) = ap (λ xs. minus (e + suc (suc j)) ∷ xs) (back_last e j)
+
+earlier_high : (e j y : ℕ) → IsIn y (earlier e j) → minus (e + 1) ≤ y
+earlier_high e zero y i = absurd (omega arith)
+earlier_high e (suc j) y i = elim (eqb_tells y (minus (e + suc (suc j)))) [
+  | inl p ↦ omega (arith, p.1)
+  | inr p ↦ earlier_high e j y (omega (arith, i, tick_other y (minus (e + suc (suc j))) p.1))
+]
+
+back_from_first : (e j : ℕ) → canonical (back e (suc j)) ≡ minus (e + 1) ∷ earlier e j
+back_from_first e j = ap canonical (back_last e j) ∙ first_moved (minus (e + 1)) (earlier e j) apart ∙ canonical_first (minus (e + 1)) (earlier e j) (earlier_high e j) where
+  apart : IsApart (minus (e + 1) ∷ earlier e j)
+  apart x = omega (arith, back_apart e (suc j) x, ap (count x) (back_last e j), count-append x (earlier e j) (minus (e + 1) ∷ []))
+
+mates : (es : List ℕ) → map minus es ≡ map mate (map plus es)
+mates [] = refl
+mates (e ∷ es) = λ i. sym (mate_plus e) i ∷ mates es i
+
+second_in : (e j : ℕ) → IsIn (plus (e + 2)) (out e (suc (suc j)))
+second_in e zero = omega (arith, count-append (plus (e + 2)) (out e 1) (plus (e + 2) ∷ []), tick_same (plus (e + 2)))
+second_in e (suc j) = omega (arith, count-append (plus (e + 2)) (out e (suc (suc j))) (plus (e + suc (suc (suc j))) ∷ []), second_in e j)
+
+-- ---- rows put one after the other
+
+other_place : (a i j : ℕ) → i ≢ j → a + suc i ≢ a + suc j
+other_place a i j ne e = ne (omega arith)
+
+less_still : (i j : ℕ) → i < suc j → i ≢ j → i < j
+less_still i j l ne = grind arith
+
+path_new : (t : Table EdgeRow) (e v j i : ℕ) → i < j → table.get (with_path t e v j) (e + suc i) ≡ Some (record { plus_tail = v + suc i; minus_tail = v + suc i + 1 })
+path_new t e v zero i l = absurd (omega arith)
+path_new t e v (suc j) i l = elim (eqb_tells i j) [
+  | inl p ↦ subst (λ k. table.get (with_path t e v (suc j)) (e + suc k) ≡ Some (record { plus_tail = v + suc k; minus_tail = v + suc k + 1 })) (sym p.1)
+      (get-put_here (with_path t e v j) (e + suc j) (record { plus_tail = v + suc j; minus_tail = v + suc j + 1 }))
+  | inr p ↦ get-put_other (with_path t e v j) (e + suc j) (record { plus_tail = v + suc j; minus_tail = v + suc j + 1 }) (e + suc i) (other_place e i j p.1) ∙ path_new t e v j i (less_still i j l p.1)
+]
+
+points_new : (t : Table Point) (v : ℕ) (ps : List Point) (j i : ℕ) → i < j → table.get (with_points t v ps j) (v + suc i) ≡ Some (get_or ps i no_point)
+points_new t v ps zero i l = absurd (omega arith)
+points_new t v ps (suc j) i l = elim (eqb_tells i j) [
+  | inl p ↦ subst (λ k. table.get (with_points t v ps (suc j)) (v + suc k) ≡ Some (get_or ps k no_point)) (sym p.1) (get-put_here (with_points t v ps j) (v + suc j) (get_or ps j no_point))
+  | inr p ↦ get-put_other (with_points t v ps j) (v + suc j) (get_or ps j no_point) (v + suc i) (other_place v i j p.1) ∙ points_new t v ps j i (less_still i j l p.1)
+]
+
+difference : (m n : ℤ) → m +ℤ (neg_ℤ n +ℤ pos 0) ≡ m -ℤ n
+difference m n = omega (arith, ints)
+
+no_difference : (m n : ℤ) → n ≡ m → m -ℤ n ≡ pos 0
+no_difference m n e = omega (arith, ints)
+
+-- ---- n points, k + 3 of them
+
+module _ (M : Model) (c : Taken) (s : ℕ) (ps : List Point) (k : ℕ) (many : length ps ≡ suc (suc (suc k))) (b : Bounded M c) where
+  abbrev drawn : Model
+  drawn = rows.drawn M c s ps
+
+  abbrev face : ℕ
+  face = c.face + 1
+
+  abbrev halves : List ℕ
+  halves = map plus (numbers_after c.edge (length ps))
+
+  abbrev halves_back : List ℕ
+  halves_back = reverse (map minus (numbers_after c.edge (length ps)))
+
+  -- the rows of the first two edges and points
+  edge_at : (i : ℕ) → i < suc (suc k) → table.get drawn.edges (c.edge + suc i) ≡ Some (record { plus_tail = c.vertex + suc i; minus_tail = c.vertex + suc i + 1 })
+  edge_at i l = get-put_other (with_path M.edges c.edge c.vertex (length ps - 1)) (c.edge + length ps) (record { plus_tail = c.vertex + length ps; minus_tail = c.vertex + 1 }) (c.edge + suc i) (before c.edge i (length ps) k many l)
+      ∙ path_new M.edges c.edge c.vertex (length ps - 1) i (omega (arith, many, l)) where
+        before : (e i n k : ℕ) → n ≡ suc (suc (suc k)) → i < suc (suc k) → e + suc i ≢ e + n
+        before e i n k m l z = absurd (omega arith)
+
+  point_at : (i : ℕ) → i < suc (suc k) → point_of drawn (c.vertex + suc i) ≡ get_or ps i no_point
+  point_at i l = point_row drawn (c.vertex + suc i) (get_or ps i no_point) (points_new M.vertices c.vertex ps (length ps) i (omega (arith, many, l)))
+
+  out_at : (i : ℕ) → i < suc (suc k) → tail drawn (plus (c.edge + suc i)) ≡ c.vertex + suc i
+  out_at i l = plus_tail_row drawn (c.edge + suc i) (record { plus_tail = c.vertex + suc i; minus_tail = c.vertex + suc i + 1 }) (edge_at i l)
+
+  one_more : (v : ℕ) → v + 1 + 1 ≡ v + 2
+  one_more v = omega arith
+
+  back_one : tail drawn (minus (c.edge + 1)) ≡ c.vertex + 2
+  back_one = minus_tail_row drawn (c.edge + 1) (record { plus_tail = c.vertex + 1; minus_tail = c.vertex + 1 + 1 }) (edge_at 0 (omega arith)) ∙ one_more c.vertex
+
+  -- ---- the first face
+
+  outer_one : outer drawn face ≡ c.loop + 1
+  outer_one = outer_row drawn face (rows.first_face M c s ps) (rows.face_one M c s ps)
+
+  content_one : content drawn (c.loop + 1) ≡ cycle halves
+  content_one = content_row drawn (c.loop + 1) (rows.first_loop M c s ps) (rows.loop_one M c s ps)
+
+  halves_are : halves ≡ out c.edge (suc (suc (suc k)))
+  halves_are = plus_halves c.edge (length ps) ∙ ap (out c.edge) many
+
+  anchor_one : anchor drawn face ≡ get_or ps 0 no_point
+  anchor_one = ap (λ q. point_of drawn (first_vertex drawn (content drawn q))) outer_one ∙ ap (λ x. point_of drawn (first_vertex drawn x)) content_one
+      ∙ ap (λ hs. point_of drawn (tail drawn (head_or 0 hs))) (halves_are ∙ out_first c.edge (suc (suc k)))
+      ∙ ap (point_of drawn) (out_at 0 (omega arith)) ∙ point_at 0 (omega arith)
+
+  normal_one : normal drawn face ≡ area drawn halves
+  normal_one = normal_is drawn face ∙ ap (λ rs. area drawn (items_in drawn (outer drawn face ∷ rs))) (rows.rings_one M c s ps b)
+      ∙ ap (λ q. area drawn (items_in drawn (q ∷ []))) outer_one ∙ ap (λ x. area drawn (items_of x ++ [])) content_one ∙ ap (area drawn) (append-nil halves)
+
+  -- ---- the second face
+
+  outer_two : outer drawn (c.face + 2) ≡ c.loop + 2
+  outer_two = outer_row drawn (c.face + 2) (rows.second_face M c s ps) (rows.face_two M c s ps)
+
+  content_two : content drawn (c.loop + 2) ≡ cycle (canonical halves_back)
+  content_two = content_row drawn (c.loop + 2) (rows.second_loop M c s ps) (rows.loop_two M c s ps)
+
+  anchor_two : anchor drawn (c.face + 2) ≡ get_or ps 1 no_point
+  anchor_two = ap (λ q. point_of drawn (first_vertex drawn (content drawn q))) outer_two ∙ ap (λ x. point_of drawn (first_vertex drawn x)) content_two
+      ∙ ap (λ hs. point_of drawn (tail drawn (head_or 0 (canonical hs)))) (minus_halves c.edge (length ps) ∙ ap (back c.edge) many)
+      ∙ ap (λ hs. point_of drawn (tail drawn (head_or 0 hs))) (back_from_first c.edge (suc (suc k)))
+      ∙ ap (point_of drawn) back_one ∙ point_at 1 (omega arith)
+
+  normal_two : normal drawn (c.face + 2) ≡ negated (normal drawn face)
+  normal_two = normal_is drawn (c.face + 2) ∙ ap (λ rs. area drawn (items_in drawn (outer drawn (c.face + 2) ∷ rs))) (rows.rings_two M c s ps b)
+      ∙ ap (λ q. area drawn (items_in drawn (q ∷ []))) outer_two ∙ ap (λ x. area drawn (items_of x ++ [])) content_two ∙ ap (area drawn) (append-nil (canonical halves_back))
+      ∙ area_same drawn (canonical halves_back) halves_back (λ x. count-canonical x halves_back)
+      ∙ ap (λ hs. area drawn (reverse hs)) (mates (numbers_after c.edge (length ps))) ∙ area_back drawn halves ∙ ap negated (sym normal_one)
+
+  -- ---- both
+
+  pub lamina_volume : faces_of M s ≡ [] → six_volume drawn s ≡ dot (get_or ps 0 no_point) (normal drawn face) -ℤ dot (get_or ps 1 no_point) (normal drawn face)
+  lamina_volume none = six_volume_is drawn s ∙ ap (volume_in drawn) (rows.faces_are M c s ps b none)
+      ∙ (λ i. dot (anchor_one i) (normal drawn face) +ℤ (dot (anchor_two i) (normal_two i) +ℤ pos 0))
+      ∙ ap (λ v. dot (get_or ps 0 no_point) (normal drawn face) +ℤ (v +ℤ pos 0)) (dot_back (get_or ps 1 no_point) (normal drawn face))
+      ∙ difference (dot (get_or ps 0 no_point) (normal drawn face)) (dot (get_or ps 1 no_point) (normal drawn face))
+
+  -- the second vertex is one of the first face's corners
+  second_corner : lists (corners drawn face) (c.vertex + 2) ≡ true
+  unfolding corners loops_of
+  second_corner = ap (λ rs. lists (vertices_in drawn (outer drawn face ∷ rs)) (c.vertex + 2)) (rows.rings_one M c s ps b)
+      ∙ ap (λ q. lists (vertices_in drawn (q ∷ [])) (c.vertex + 2)) outer_one
+      ∙ ap (λ x. lists (vertices_on drawn x ++ []) (c.vertex + 2)) content_one
+      ∙ ap (λ vs. lists vs (c.vertex + 2)) (append-nil (map (tail drawn) halves))
+      ∙ ap (λ hs. lists (map (tail drawn) hs) (c.vertex + 2)) halves_are
+      ∙ listed-from_in (c.vertex + 2) (map (tail drawn) (out c.edge (suc (suc (suc k)))))
+      (subst (λ v. IsIn v (map (tail drawn) (out c.edge (suc (suc (suc k)))))) (out_at 1 (omega arith)) (IsIn-map (tail drawn) (plus (c.edge + 2)) (out c.edge (suc (suc (suc k)))) (second_in c.edge (suc k))))
+
+  pub flat_volume : faces_of M s ≡ [] → is_flat drawn face ≡ true → six_volume drawn s ≡ pos 0
+  flat_volume none flat = lamina_volume none ∙ no_difference (dot (get_or ps 0 no_point) (normal drawn face)) (dot (get_or ps 1 no_point) (normal drawn face))
+      (ap (λ p. dot p (normal drawn face)) (sym (point_at 1 (omega arith))) ∙ corner_told drawn face (c.vertex + 2) flat second_corner ∙ ap (λ p. dot p (normal drawn face)) anchor_one)

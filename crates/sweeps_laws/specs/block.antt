@@ -1,0 +1,2 @@
+pub mod BlockOps
+pub mod Laws
