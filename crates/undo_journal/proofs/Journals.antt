@@ -144,7 +144,7 @@ module _ (M : Model) (records : List Record) (place : ℕ) (kept : IsJournal M r
   ahead_is = future_length M records place
 
   model_at_is : (i : ℕ) → i ≤ length records → model_at (machine_of M records place) i ≡ gone_forth empty_model (take i records)
-  model_at_is i h = ap (λ (Ms : List Model). get_or Ms i M) (models_are M records place kept) ∙ at_is empty_model M records i h
+  model_at_is i h = ap (λ (Ms : List Model). get_or Ms i empty_model) (models_are M records place kept) ∙ at_is empty_model empty_model records i h
 
   pub leads_at : (i : ℕ) (r : Record) → i < length records → r ≡ get_or records i r → Leads (model_at (machine_of M records place) i) r (model_at (machine_of M records place) (i + 1))
   leads_at i r h e =
