@@ -1,2 +1,3 @@
 pub mod glue_checks
 pub mod Rims
+pub mod Machine

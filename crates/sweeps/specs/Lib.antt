@@ -1,1 +1,2 @@
 pub mod Corners
+pub mod Machine
