@@ -1,3 +1,4 @@
 pub mod glue_checks
 pub mod Rims
 pub mod Measures
+pub mod Machine

@@ -2,8 +2,8 @@
 ghost use Rattle.std.specs.Prelude.{◌≡◌, None, Some, Err, OnOk, OnErr};
 ghost use Rattle.euler_operators.specs.declared.Refusal.{Refusal};
 ghost use Rattle.euler_conditions.specs.Ready.{IsReady};
-ghost use Rattle.undo_journal.specs.Machine.{held, accepted};
-ghost use Rattle.shapes.specs.glue.Glue.{glue_refusal, glue_model};
+ghost use Rattle.shapes.specs.glue.Glue as spec;
+ghost use Rattle.gluing.specs.Machine.{glue, glue_refusal};
 
 use crate::glue_checks::check_glue;
 use crate::joining::join;
@@ -14,8 +14,8 @@ use undo_journal::{Draft, Failure, Session};
 /// Whether face g can be glued to face f, and if it can't why.
 fn admit(alloc: Global, arena: &Arena, f: u32, g: u32) -> Result<(), Failure>
     requires { IsReady arena.now }
-    ensures ok { OnOk result (glue_refusal arena.now.model f g ≡ None) }
-    ensures refused { (refusal : Refusal) → (result ≡ Err (Failure.Refused refusal)) → (glue_refusal arena.now.model f g ≡ Some refusal) }
+    ensures ok { OnOk result (spec.glue_refusal arena.now.model f g ≡ None) }
+    ensures refused { (refusal : Refusal) → (result ≡ Err (Failure.Refused refusal)) → (spec.glue_refusal arena.now.model f g ≡ Some refusal) }
 {
     match check_glue(alloc, arena, f, g) {
         Ok(Ok(())) => Ok(()),
@@ -37,8 +37,8 @@ fn admit(alloc: Global, arena: &Arena, f: u32, g: u32) -> Result<(), Failure>
 /// becomes a ring of f and one loop with that of f, and then each item of f is closed with the item of g that goes back along it.
 /// For n items they are 3 n + 2. Cost: the tests', those of the merge, and for each item the cost of its three operators.
 pub fn glue(alloc: Global, session: Session, f: u32, g: u32) -> (Session, Result<(), Failure>)
-    ensures ok { OnOk result.1 ((glue_refusal (held session) f g ≡ None) × (result.0 ≡ accepted session (glue_model (held session) f g))) }
-    ensures refused { (refusal : Refusal) → (result.1 ≡ Err (Failure.Refused refusal)) → (glue_refusal (held session) f g ≡ Some refusal) }
+    ensures ok { OnOk result.1 ((glue_refusal session f g ≡ None) × (result.0 ≡ glue session f g)) }
+    ensures refused { (refusal : Refusal) → (result.1 ≡ Err (Failure.Refused refusal)) → (glue_refusal session f g ≡ Some refusal) }
     ensures err { OnErr result.1 (result.0 ≡ session) }
 {
     if let Err(failure) = admit(alloc, session.arena(), f, g) {

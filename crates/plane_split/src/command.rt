@@ -3,8 +3,9 @@ ghost use Rattle.std.specs.Prelude.{◌≡◌, None, Some, Err, OnOk, OnErr};
 ghost use Rattle.euler_operators.specs.declared.Refusal.{Refusal};
 ghost use Rattle.euler_conditions.specs.Ready.{IsReady};
 ghost use Rattle.euler_operators.specs.Sound.{Sound};
-ghost use Rattle.undo_journal.specs.Machine.{held, accepted};
-ghost use Rattle.shapes.specs.split.Split.{split_refusal, split_model};
+ghost use Rattle.undo_journal.specs.Machine.{held};
+ghost use Rattle.shapes.specs.split.Split as spec;
+ghost use Rattle.plane_split.specs.Machine.{plane_with, split, split_refusal};
 ghost use Rattle.split_drawing_laws.specs.crossings.Laws.{CanBegin};
 
 use crate::steps::carry_out;
@@ -16,7 +17,7 @@ use undo_journal::{Draft, Failure, Session};
 
 /// The plane with these numbers.
 fn plane_of(a: i64, b: i64, c: i64, d: i64) -> Plane
-    ensures { result ≡ record { a = a; b = b; c = c; d = d } }
+    ensures { result ≡ plane_with a b c d }
 {
     Plane {
         a: i128::from(a),
@@ -30,7 +31,7 @@ fn plane_of(a: i64, b: i64, c: i64, d: i64) -> Plane
 fn admit(alloc: Global, arena: &Arena, s: u32, plane: &Plane, t: u32) -> Result<(), Failure>
     requires { IsReady arena.now }
     ensures ok { OnOk result (CanBegin arena.now.model s plane.now t) }
-    ensures refused { (refusal : Refusal) → (result ≡ Err (Failure.Refused refusal)) → (split_refusal arena.now.model s plane.now t ≡ Some refusal) }
+    ensures refused { (refusal : Refusal) → (result ≡ Err (Failure.Refused refusal)) → (spec.split_refusal arena.now.model s plane.now t ≡ Some refusal) }
 {
     match check_begin(alloc, arena, s, plane, t) {
         Ok(Ok(())) => Ok(()),
@@ -73,8 +74,8 @@ pub fn split(
     t: u32,
 ) -> (Session, Result<(), Failure>)
     ensures sound { Sound (held session) }
-    ensures ok { OnOk result.1 ((split_refusal (held session) s (record { a = a; b = b; c = c; d = d }) t ≡ None) × (result.0 ≡ accepted session (split_model (held session) s (record { a = a; b = b; c = c; d = d }) t))) }
-    ensures refused { (refusal : Refusal) → (result.1 ≡ Err (Failure.Refused refusal)) → (split_refusal (held session) s (record { a = a; b = b; c = c; d = d }) t ≡ Some refusal) }
+    ensures ok { OnOk result.1 ((split_refusal session s (plane_with a b c d) t ≡ None) × (result.0 ≡ split session s (plane_with a b c d) t)) }
+    ensures refused { (refusal : Refusal) → (result.1 ≡ Err (Failure.Refused refusal)) → (split_refusal session s (plane_with a b c d) t ≡ Some refusal) }
     ensures err { OnErr result.1 (result.0 ≡ session) }
 {
     let plane = plane_of(a, b, c, d);

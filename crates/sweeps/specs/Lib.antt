@@ -1,2 +1,3 @@
 pub mod Corners
 pub mod Measures
+pub mod Machine

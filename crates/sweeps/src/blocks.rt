@@ -5,8 +5,9 @@ ghost use Rattle.euler_operators.specs.Vectors.{moved};
 ghost use Rattle.euler_operators.specs.Conditions.{verdict};
 ghost use Rattle.euler_operators.specs.declared.Refusal.{Refusal};
 ghost use Rattle.euler_conditions.specs.Ready.{IsReady};
-ghost use Rattle.undo_journal.specs.Machine.{held, accepted};
-ghost use Rattle.shapes.specs.Block.{vector, base_of, block_refusal, block_model};
+ghost use Rattle.shapes.specs.Block.{vector, base_of, block_model};
+ghost use Rattle.shapes.specs.Block as spec;
+ghost use Rattle.sweeps.specs.Machine.{block, block_refusal};
 
 use crate::laminas::draw_lamina;
 use crate::raising::raise;
@@ -33,7 +34,7 @@ fn is_near(point: Point) -> bool
 #[tactic(auto, unfolding(shapes::specs::Block::block_conditions))]
 fn check_block(arena: &Arena, solid: u32, corner: Point, size: Point) -> Result<(), Refusal>
     requires { IsReady arena.now }
-    ensures { result ≡ verdict (block_refusal arena.now.model solid corner size.x size.y size.z) }
+    ensures { result ≡ verdict (spec.block_refusal arena.now.model solid corner size.x size.y size.z) }
 {
     if !is_number(solid) {
         return refused(Why::NumberRange, solid);
@@ -94,7 +95,7 @@ fn draw_block(
     corner: Point,
     size: Point,
 ) -> Result<(), AllocError>
-    requires { block_refusal draft.old.model solid corner size.x size.y size.z ≡ None }
+    requires { spec.block_refusal draft.old.model solid corner size.x size.y size.z ≡ None }
     ensures ok { OnOk result (draft.new.model ≡ block_model draft.old.model solid corner size.x size.y size.z) }
     ensures session { draft.new.session ≡ draft.old.session }
 {
@@ -115,8 +116,8 @@ fn block_of(
     corner: Point,
     size: Point,
 ) -> (Session, Result<(), Failure>)
-    ensures ok { OnOk result.1 ((block_refusal (held session) solid corner size.x size.y size.z ≡ None) × (result.0 ≡ accepted session (block_model (held session) solid corner size.x size.y size.z))) }
-    ensures refused { (refusal : Refusal) → ((result.1 ≡ Err (Failure.Refused refusal)) ↔ (block_refusal (held session) solid corner size.x size.y size.z ≡ Some refusal)) }
+    ensures ok { OnOk result.1 ((block_refusal session solid corner size.x size.y size.z ≡ None) × (result.0 ≡ block session solid corner size.x size.y size.z)) }
+    ensures refused { (refusal : Refusal) → ((result.1 ≡ Err (Failure.Refused refusal)) ↔ (block_refusal session solid corner size.x size.y size.z ≡ Some refusal)) }
     ensures err { OnErr result.1 (result.0 ≡ session) }
 {
     if let Err(refusal) = check_block(session.arena(), solid, corner, size) {
@@ -147,8 +148,8 @@ pub fn block(
     dy: i64,
     dz: i64,
 ) -> (Session, Result<(), Failure>)
-    ensures ok { OnOk result.1 ((block_refusal (held session) solid corner dx dy dz ≡ None) × (result.0 ≡ accepted session (block_model (held session) solid corner dx dy dz))) }
-    ensures refused { (refusal : Refusal) → ((result.1 ≡ Err (Failure.Refused refusal)) ↔ (block_refusal (held session) solid corner dx dy dz ≡ Some refusal)) }
+    ensures ok { OnOk result.1 ((block_refusal session solid corner dx dy dz ≡ None) × (result.0 ≡ block session solid corner dx dy dz)) }
+    ensures refused { (refusal : Refusal) → ((result.1 ≡ Err (Failure.Refused refusal)) ↔ (block_refusal session solid corner dx dy dz ≡ Some refusal)) }
     ensures err { OnErr result.1 (result.0 ≡ session) }
 {
     let size = Point {

@@ -6,9 +6,9 @@ ghost use Rattle.euler_operators.specs.Model.{no_point};
 ghost use Rattle.euler_operators.specs.Conditions.{verdict};
 ghost use Rattle.euler_conditions.specs.Ready.{IsReady};
 ghost use Rattle.euler_operators.specs.declared.Refusal.{Refusal};
-ghost use Rattle.undo_journal.specs.Machine.{held, accepted};
-ghost use Rattle.shapes.specs.Lamina.{lamina_refusal, lamina_model};
+ghost use Rattle.shapes.specs.Lamina.{lamina_model};
 ghost use Rattle.shapes.specs.Lamina as spec;
+ghost use Rattle.sweeps.specs.Machine.{lamina, lamina_refusal};
 
 use arrayvec::ArrayVec;
 use euler_conditions::Arena;
@@ -72,7 +72,7 @@ fn first_repeated(points: &[Point]) -> u32
 #[tactic(auto, unfolding(shapes::specs::Lamina::lamina_conditions))]
 fn check_lamina(arena: &Arena, solid: u32, points: &ArrayVec<Point, 64>) -> Result<(), Refusal>
     requires { IsReady arena.now }
-    ensures { result ≡ verdict (lamina_refusal arena.now.model solid points.now.items) }
+    ensures { result ≡ verdict (spec.lamina_refusal arena.now.model solid points.now.items) }
 {
     if !is_number(solid) {
         return refused(Why::NumberRange, solid);
@@ -110,7 +110,7 @@ pub(crate) fn draw_lamina(
     solid: u32,
     points: &ArrayVec<Point, 64>,
 ) -> Result<(), AllocError>
-    requires { lamina_refusal draft.old.model solid points.now.items ≡ None }
+    requires { spec.lamina_refusal draft.old.model solid points.now.items ≡ None }
     ensures ok { OnOk result (draft.new.model ≡ lamina_model draft.old.model solid points.now.items) }
     ensures session { draft.new.session ≡ draft.old.session }
 {
@@ -156,8 +156,8 @@ pub fn lamina(
     solid: u32,
     points: &ArrayVec<Point, 64>,
 ) -> (Session, Result<(), Failure>)
-    ensures ok { OnOk result.1 ((lamina_refusal (held session) solid points.now.items ≡ None) × (result.0 ≡ accepted session (lamina_model (held session) solid points.now.items))) }
-    ensures refused { (refusal : Refusal) → ((result.1 ≡ Err (Failure.Refused refusal)) ↔ (lamina_refusal (held session) solid points.now.items ≡ Some refusal)) }
+    ensures ok { OnOk result.1 ((lamina_refusal session solid points.now.items ≡ None) × (result.0 ≡ lamina session solid points.now.items)) }
+    ensures refused { (refusal : Refusal) → ((result.1 ≡ Err (Failure.Refused refusal)) ↔ (lamina_refusal session solid points.now.items ≡ Some refusal)) }
     ensures err { OnErr result.1 (result.0 ≡ session) }
 {
     if let Err(refusal) = check_lamina(session.arena(), solid, points) {

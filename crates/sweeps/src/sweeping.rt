@@ -4,8 +4,8 @@ ghost use Rattle.euler_operators.specs.Vectors.{origin, same_point};
 ghost use Rattle.euler_operators.specs.Conditions.{verdict};
 ghost use Rattle.euler_operators.specs.declared.Refusal.{Refusal};
 ghost use Rattle.euler_conditions.specs.Ready.{IsReady};
-ghost use Rattle.undo_journal.specs.Machine.{held, accepted};
-ghost use Rattle.shapes.specs.Prism.{prism_refusal, prism_model};
+ghost use Rattle.shapes.specs.Prism.{prism_refusal};
+ghost use Rattle.sweeps.specs.Machine.{sweep, sweep_refusal};
 
 use crate::corners::{face_tally, lone_loop};
 use crate::raising::raise;
@@ -61,8 +61,8 @@ fn check_sweep(arena: &Arena, f: u32, d: Point) -> Result<(), Refusal>
 /// rising; NumbersSpent with 2 for faces, 3 for loops, 4 for edges, 5 for vertices. Where memory is refused `Memory` is answered.
 /// On any failure the session is as it was.
 pub fn sweep(alloc: Global, session: Session, f: u32, d: Point) -> (Session, Result<(), Failure>)
-    ensures ok { OnOk result.1 ((prism_refusal (held session) f d ≡ None) × (result.0 ≡ accepted session (prism_model (held session) f d))) }
-    ensures refused { (refusal : Refusal) → ((result.1 ≡ Err (Failure.Refused refusal)) ↔ (prism_refusal (held session) f d ≡ Some refusal)) }
+    ensures ok { OnOk result.1 ((sweep_refusal session f d ≡ None) × (result.0 ≡ sweep session f d)) }
+    ensures refused { (refusal : Refusal) → ((result.1 ≡ Err (Failure.Refused refusal)) ↔ (sweep_refusal session f d ≡ Some refusal)) }
     ensures err { OnErr result.1 (result.0 ≡ session) }
 {
     if let Err(refusal) = check_sweep(session.arena(), f, d) {

@@ -1,25 +1,57 @@
 -- The records of a session lead on from the empty model, and the models that they stand for are those after it.
-use Rattle.std.specs.Prelude.{◌≡◌, ℕ, zero, suc, ◌+◌, ◌-◌, ◌<◌, ◌≤◌, List, [], ◌∷◌, ◌++◌, length, take, drop, get_or, refl}
-use Rattle.std.proofs.Common.{sym, subst, ap, ◌∙◌, arith, add-one}
-use Rattle.std.proofs.lemmas.List.{take-append-drop, length-take-le, take_all, length_push}
+use Rattle.std.specs.Prelude.{◌≡◌, ℕ, zero, suc, ◌+◌, ◌-◌, ◌<◌, ◌≤◌, List, [], ◌∷◌, ◌++◌, length, take, drop, reverse, get_or, refl}
+use Rattle.std.proofs.Common.{sym, subst, ap, ◌∙◌, arith}
+use Rattle.std.proofs.lemmas.List.{take-append-drop, length-take-le, length-reverse, length-drop, take_all, drop_all, take_more, drop_more, length_push, reverse-append}
 use Rattle.euler_operators.specs.Model.{Model, empty_model}
 use Rattle.euler_laws.specs.Laws.{effects, AreAccepted}
 use Rattle.undo_journal.specs.declared.record.Record.{Record}
-use Rattle.undo_journal.specs.Machine.{held, accepted}
-use Rattle.undo_journal.specs.Recorded.{model_at}
-use Rattle.undo_journal.specs.Held.{gone_back, models_behind, models_ahead, models_of, machine_of, Leads, AllLead, gone_forth, IsJournal}
+use Rattle.undo_journal.specs.Machine.{depth, ahead, accepted, back_to, forth_to, undo, redo}
+use Rattle.undo_journal.specs.Recorded.{models, model_at}
+use Rattle.undo_journal.specs.Held.{models_back, models_ahead, past_of, future_of, machine_of, Leads, AllLead, gone_forth, IsJournal}
+
+-- records taken back in their order
+abbrev gone_back : Model → List Record → Model
+gone_back M [] = M
+gone_back M (r ∷ rs) = gone_back (effects M r.back) rs
+
+gone-append : (M : Model) (rs more : List Record) → gone_back M (rs ++ more) ≡ gone_back (gone_back M rs) more
+gone-append M [] more = refl
+gone-append M (r ∷ rs) more = gone-append (effects M r.back) rs more
+
+back-append : (M : Model) (rs more : List Record) → models_back M (rs ++ more) ≡ models_back M rs ++ models_back (gone_back M rs) more
+back-append M [] more = refl
+back-append M (r ∷ rs) more = ap (λ (Xs : List Model). effects M r.back ∷ Xs) (back-append (effects M r.back) rs more)
+
+back-length : (M : Model) (rs : List Record) → length (models_back M rs) ≡ length rs
+back-length M [] = refl
+back-length M (r ∷ rs) = ap suc (back-length (effects M r.back) rs)
 
 -- going back over records that lead on from A comes to A
-back_is : (A : Model) (rs : List Record) → AllLead A rs → gone_back (gone_forth A rs) rs ≡ A
+back_is : (A : Model) (rs : List Record) → AllLead A rs → gone_back (gone_forth A rs) (reverse rs) ≡ A
 back_is A [] lead = refl
-back_is A (r ∷ rs) lead = ap (λ (X : Model). effects X r.back) (back_is (effects A r.forward) rs lead.1) ∙ lead.0.back
+back_is A (r ∷ rs) lead =
+    let K : Model = gone_forth (effects A r.forward) rs in
+    ap (gone_back K) (reverse-append (r ∷ []) rs)
+    ∙ gone-append K (reverse rs) (r ∷ [])
+    ∙ ap (λ (X : Model). effects X r.back) (back_is (effects A r.forward) rs lead.1)
+    ∙ lead.0.back
 
-split_is : (A : Model) (rs more : List Record) → AllLead A rs → models_behind (gone_forth A rs) rs ++ gone_forth A rs ∷ models_ahead (gone_forth A rs) more ≡ A ∷ models_ahead A (rs ++ more)
+-- the models behind, of which the last is A
+last_is : (A : Model) (r : Record) (rs : List Record) → AllLead A (r ∷ rs) → models_back (gone_forth A (r ∷ rs)) (reverse (r ∷ rs)) ≡ models_back (gone_forth A (r ∷ rs)) (reverse rs) ++ A ∷ []
+last_is A r rs lead =
+    let K : Model = gone_forth (effects A r.forward) rs in
+    ap (models_back K) (reverse-append (r ∷ []) rs)
+    ∙ back-append K (reverse rs) (r ∷ [])
+    ∙ ap (λ (X : Model). models_back K (reverse rs) ++ effects X r.back ∷ []) (back_is (effects A r.forward) rs lead.1)
+    ∙ ap (λ (X : Model). models_back K (reverse rs) ++ X ∷ []) lead.0.back
+
+split_is : (A : Model) (rs : List Record) (more : List Model) → AllLead A rs → reverse (models_back (gone_forth A rs) (reverse rs)) ++ gone_forth A rs ∷ more ≡ A ∷ (models_ahead A rs ++ more)
 split_is A [] more lead = refl
 split_is A (r ∷ rs) more lead =
     let N : Model = effects A r.forward in
     let K : Model = gone_forth N rs in
-    ap (λ (X : Model). X ∷ (models_behind K rs ++ K ∷ models_ahead K more)) (back_is A (r ∷ rs) lead)
+    ap (λ (Xs : List Model). reverse Xs ++ K ∷ more) (last_is A r rs lead)
+    ∙ ap (λ (Xs : List Model). Xs ++ K ∷ more) (reverse-append (models_back K (reverse rs)) (A ∷ []))
     ∙ ap (λ (Xs : List Model). A ∷ Xs) (split_is N rs more lead.1)
 
 lead-append : (A : Model) (rs more : List Record) → AllLead A rs → AllLead (gone_forth A rs) more → AllLead A (rs ++ more)
@@ -38,11 +70,6 @@ forth-append A (r ∷ rs) more = forth-append (effects A r.forward) rs more
 ahead-append : (A : Model) (rs more : List Record) → models_ahead A (rs ++ more) ≡ models_ahead A rs ++ models_ahead (gone_forth A rs) more
 ahead-append A [] more = refl
 ahead-append A (r ∷ rs) more = ap (λ (Xs : List Model). effects A r.forward ∷ Xs) (ahead-append (effects A r.forward) rs more)
-
-ahead-take : (A : Model) (n : ℕ) (rs : List Record) → models_ahead A (take n rs) ≡ take n (models_ahead A rs)
-ahead-take A zero rs = refl
-ahead-take A (suc n) [] = refl
-ahead-take A (suc n) (r ∷ rs) = ap (λ (Xs : List Model). effects A r.forward ∷ Xs) (ahead-take (effects A r.forward) n rs)
 
 ahead-length : (A : Model) (rs : List Record) → length (models_ahead A rs) ≡ length rs
 ahead-length A [] = refl
@@ -66,22 +93,58 @@ lead_next records i r h e lead =
     subst (λ (n : ℕ). Leads (gone_forth empty_model (take i records)) r (gone_forth empty_model (take n records))) next (lead_at empty_model records i r h e lead)
 
 -- the models that a session stands for
-pub models_are : (M : Model) (records : List Record) (place : ℕ) → IsJournal M records place → models_of M records place ≡ empty_model ∷ models_ahead empty_model records
-unfolding models_of
+pub models_are : (M : Model) (records : List Record) (place : ℕ) → IsJournal M records place → models (machine_of M records place) ≡ empty_model ∷ models_ahead empty_model records
+unfolding past_of future_of
 models_are M records place kept =
-    ap (λ (X : Model). models_behind X (take place records) ++ X ∷ models_ahead X (drop place records)) kept.held
-    ∙ split_is empty_model (take place records) (drop place records) (lead-take empty_model place records kept.lead)
+    ap (λ (X : Model). reverse (models_back X (reverse (take place records))) ++ X ∷ models_ahead X (drop place records)) kept.held
+    ∙ split_is empty_model (take place records) (models_ahead (gone_forth empty_model (take place records)) (drop place records)) (lead-take empty_model place records kept.lead)
+    ∙ ap (λ (Xs : List Model). empty_model ∷ Xs) (sym (ahead-append empty_model (take place records) (drop place records)))
     ∙ ap (λ (rs : List Record). empty_model ∷ models_ahead empty_model rs) (take-append-drop place records)
 
+-- their numbers
+past_length : (M : Model) (records : List Record) (place : ℕ) → place ≤ length records → length (past_of M records place) ≡ place
+unfolding past_of
+past_length M records place h = back-length M (reverse (take place records)) ∙ length-reverse (take place records) ∙ length-take-le place records h
+
+future_length : (M : Model) (records : List Record) (place : ℕ) → length (future_of M records place) ≡ length records - place
+unfolding future_of
+future_length M records place = ahead-length M (drop place records) ∙ length-drop place records
+
+-- two places beside each other, and the record between them
+module _ (A N : Model) (records : List Record) (i : ℕ) (r : Record) (within : i < length records) (is : r ≡ get_or records i r) (leads : Leads A r N) where
+  turned : reverse (take (i + 1) records) ≡ r ∷ reverse (take i records)
+  turned = ap reverse (take_more records i r within) ∙ ap (λ (x : Record). reverse (take i records ++ x ∷ [])) (sym is) ∙ reverse-append (take i records) (r ∷ [])
+
+  past_next : past_of N records (i + 1) ≡ A ∷ past_of A records i
+  unfolding past_of
+  past_next = ap (models_back N) turned ∙ ap (λ (X : Model). X ∷ models_back X (reverse (take i records))) leads.back
+
+  future_next : future_of A records i ≡ N ∷ future_of N records (i + 1)
+  unfolding future_of
+  future_next =
+      ap (models_ahead A) (drop_more records i r within)
+      ∙ ap (λ (x : Record). models_ahead A (x ∷ drop (i + 1) records)) (sym is)
+      ∙ ap (λ (X : Model). X ∷ models_ahead X (drop (i + 1) records)) leads.forward
+
+  pub place_back : machine_of A records i ≡ undo (machine_of N records (i + 1))
+  place_back =
+      ap (λ (Ms : List Model). record { past = past_of A records i; present = A; future = Ms }) future_next
+      ∙ ap (λ (Ms : List Model). back_to Ms (machine_of N records (i + 1))) (sym past_next)
+
+  pub place_on : machine_of N records (i + 1) ≡ redo (machine_of A records i)
+  place_on =
+      ap (λ (Ms : List Model). record { past = Ms; present = N; future = future_of N records (i + 1) }) past_next
+      ∙ ap (λ (Ms : List Model). forth_to Ms (machine_of A records i)) (sym future_next)
+
 module _ (M : Model) (records : List Record) (place : ℕ) (kept : IsJournal M records place) where
-  pub models_length : length (models_of M records place) ≡ suc (length records)
-  models_length = ap length (models_are M records place kept) ∙ ap suc (ahead-length empty_model records)
+  pub depth_is : depth (machine_of M records place) ≡ place
+  depth_is = past_length M records place kept.placed
+
+  pub ahead_is : ahead (machine_of M records place) ≡ length records - place
+  ahead_is = future_length M records place
 
   model_at_is : (i : ℕ) → i ≤ length records → model_at (machine_of M records place) i ≡ gone_forth empty_model (take i records)
   model_at_is i h = ap (λ (Ms : List Model). get_or Ms i empty_model) (models_are M records place kept) ∙ at_is empty_model empty_model records i h
-
-  pub held_is : held (machine_of M records place) ≡ M
-  held_is = model_at_is place kept.placed ∙ sym kept.held
 
   pub leads_at : (i : ℕ) (r : Record) → i < length records → r ≡ get_or records i r → Leads (model_at (machine_of M records place) i) r (model_at (machine_of M records place) (i + 1))
   leads_at i r h e =
@@ -98,6 +161,11 @@ module _ (M : Model) (records : List Record) (place : ℕ) (kept : IsJournal M r
 
   pub journal_on : (r : Record) → place < length records → r ≡ get_or records place r → IsJournal (effects M r.forward) records (place + 1)
   journal_on r h e = record { placed = omega arith; lead = kept.lead; held = (leads_next r h e).forward }
+
+  pub place_redone : (r : Record) → place < length records → r ≡ get_or records place r → machine_of (effects M r.forward) records (place + 1) ≡ redo (machine_of M records place)
+  place_redone r h e =
+      let leads = leads_next r h e in
+      place_on M (effects M r.forward) records place r h e (subst (Leads M r) (sym leads.forward) leads)
 
   -- a record more, in the place of those ahead
   front : length (take place records) ≡ place
@@ -119,24 +187,21 @@ module _ (M : Model) (records : List Record) (place : ℕ) (kept : IsJournal M r
         ∙ ap (gone_forth empty_model) (sym (whole r));
   }
 
-  -- the models up to the one held
-  fronts : take (place + 1) (empty_model ∷ models_ahead empty_model records) ≡ empty_model ∷ models_ahead empty_model (take place records)
-  fronts = ap (λ (n : ℕ). take n (empty_model ∷ models_ahead empty_model records)) (add-one place)
-      ∙ ap (λ (Xs : List Model). empty_model ∷ Xs) (sym (ahead-take empty_model place records))
+  past_more : (r : Record) (N : Model) → Leads M r N → past_of N (take place records ++ r ∷ []) (place + 1) ≡ M ∷ past_of M records place
+  unfolding past_of
+  past_more r N leads =
+      ap (λ (rs : List Record). models_back N (reverse rs)) (whole r)
+      ∙ ap (models_back N) (reverse-append (take place records) (r ∷ []))
+      ∙ ap (λ (X : Model). X ∷ models_back X (reverse (take place records))) leads.back
 
-  last : (r : Record) (N : Model) → Leads M r N → effects (gone_forth empty_model (take place records)) r.forward ≡ N
-  last r N leads = ap (λ (X : Model). effects X r.forward) (sym kept.held) ∙ leads.forward
-
-  models_more : (r : Record) (N : Model) → Leads M r N → models_of N (take place records ++ r ∷ []) (place + 1) ≡ take (place + 1) (models_of M records place) ++ N ∷ []
-  models_more r N leads =
-      models_are N (take place records ++ r ∷ []) (place + 1) (journal_more r N leads)
-      ∙ ap (λ (Xs : List Model). empty_model ∷ Xs) (ahead-append empty_model (take place records) (r ∷ []))
-      ∙ ap (λ (X : Model). empty_model ∷ (models_ahead empty_model (take place records) ++ X ∷ [])) (last r N leads)
-      ∙ ap (λ (Xs : List Model). Xs ++ N ∷ []) (sym fronts)
-      ∙ ap (λ (Xs : List Model). take (place + 1) Xs ++ N ∷ []) (sym (models_are M records place kept))
+  future_more : (r : Record) (N : Model) → future_of N (take place records ++ r ∷ []) (place + 1) ≡ []
+  unfolding future_of
+  future_more r N = ap (models_ahead N) (drop_all (place + 1) (take place records ++ r ∷ []) (omega (arith, long r)))
 
   pub machine_more : (r : Record) (N : Model) → Leads M r N → machine_of N (take place records ++ r ∷ []) (place + 1) ≡ accepted (machine_of M records place) N
-  machine_more r N leads = ap (λ (Xs : List Model). record { models = Xs; place = place + 1 }) (models_more r N leads)
+  machine_more r N leads =
+      ap (λ (Ms : List Model). record { past = Ms; present = N; future = future_of N (take place records ++ r ∷ []) (place + 1) }) (past_more r N leads)
+      ∙ ap (λ (Ms : List Model). record { past = M ∷ past_of M records place; present = N; future = Ms }) (future_more r N)
 
 -- the record before the place leads back
 module _ (M : Model) (records : List Record) (place : ℕ) (before : 0 < place) (kept : IsJournal M records place) (r : Record) (is : r ≡ get_or records (place - 1) r) where
@@ -153,9 +218,11 @@ module _ (M : Model) (records : List Record) (place : ℕ) (before : 0 < place) 
   pub journal_back : IsJournal (effects M r.back) records (place - 1)
   journal_back = record { placed = let h = kept.placed in omega arith; lead = kept.lead; held = leads_to.back }
 
--- two places in one journal: the models stay
-pub models_stay : (M N : Model) (records : List Record) (place other : ℕ) → IsJournal M records place → IsJournal N records other → models_of N records other ≡ models_of M records place
-models_stay M N records place other kept moved = models_are N records other moved ∙ sym (models_are M records place kept)
+  pub place_undone : machine_of (effects M r.back) records (place - 1) ≡ undo (machine_of M records place)
+  place_undone =
+      let next : place - 1 + 1 ≡ place = omega arith in
+      place_back (effects M r.back) M records (place - 1) r (let h = kept.placed in omega arith) is (subst (λ (X : Model). Leads X r M) (sym leads_to.back) leads_to)
+      ∙ ap (λ (n : ℕ). undo (machine_of M records n)) next
 
 -- a session of no command
 pub journal_start : IsJournal empty_model [] 0

@@ -15,8 +15,8 @@ use Rattle.euler_laws.proofs.Runs.{effects-append, AreAccepted-append}
 use Rattle.euler_conditions.specs.Ready.{IsReady}
 use Rattle.undo_journal.specs.declared.record.Record.{Record}
 use Rattle.undo_journal.specs.Machine.{start}
-use Rattle.undo_journal.specs.Held.{machine_of, Leads, IsJournal, AllHaveRoom, RecordsHaveRoom, IsKept, opened, command_of, IsDrafted, all_after, IsStepped}
-use Rattle.undo_journal.proofs.Journals.{journal_start, journal_more, models_are, journal_on, journal_back}
+use Rattle.undo_journal.specs.Held.{past_of, future_of, machine_of, Leads, IsJournal, AllHaveRoom, RecordsHaveRoom, IsKept, opened, command_of, IsDrafted, all_after, IsStepped}
+use Rattle.undo_journal.proofs.Journals.{journal_start, journal_more, journal_on, journal_back}
 use Rattle.undo_journal.proofs.Rooms.{ops_kept, records_kept, ops-append, ops-reverse, records-append, records-take, keeps_all_after}
 
 -- a session of no command
@@ -24,7 +24,8 @@ pub kept_start : IsKept empty_store [] 0
 kept_start = record { ready = record { sound = empty_sound; bare = refl }; journal = journal_start; room = tt }
 
 pub machine_start : machine_of empty_model [] 0 ≡ start
-machine_start = ap (λ (Ms : List Model). record { models = Ms; place = 0 }) (models_are empty_model [] 0 journal_start)
+unfolding past_of future_of
+machine_start = refl
 
 -- room that grows
 pub ready_grown : (s t : Store) → HasGrown s t → IsReady s → IsReady t

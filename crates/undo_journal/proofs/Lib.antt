@@ -1,5 +1,7 @@
 pub mod WorkedScripts
+pub mod Copies
 pub mod Journals
+pub mod Consistent
 pub mod Rooms
 pub mod Turns
 pub mod Kept

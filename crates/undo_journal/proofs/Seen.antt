@@ -1,36 +1,37 @@
 -- What callers see of a session and of a draft: the plain machine.
-use Rattle.std.specs.Prelude.{◌≡◌, ℕ, suc, ◌+◌, ◌-◌, ◌<◌, ◌≤◌, List, [], ◌∷◌, ◌++◌, take, get_or, length, None}
+use Rattle.std.specs.Prelude.{◌≡◌, ℕ, ◌+◌, ◌-◌, ◌<◌, ◌≤◌, List, [], ◌∷◌, ◌++◌, take, get_or, length, None}
 use Rattle.std.proofs.Common.{sym, ap, subst, ◌∙◌, arith}
 use Rattle.euler_operators.specs.Model.{Model}
 use Rattle.euler_conditions.specs.Store.{Store}
 use Rattle.euler_operators.specs.declared.Op.{Op}
 use Rattle.euler_operators.specs.Conditions.{first_false}
 use Rattle.euler_operators.specs.Effect.{effect, inverse}
+use Rattle.euler_laws.specs.Laws.{effects}
 use Rattle.undo_journal.specs.declared.record.Record.{Record}
 use Rattle.undo_journal.specs.Machine.{Machine, DraftState, held, depth, ahead, accepted, act, open_draft, draft_step, commit}
 use Rattle.undo_journal.specs.Machine as machine
 use Rattle.undo_journal.specs.Recorded.{model_at}
-use Rattle.undo_journal.specs.Held.{models_of, machine_of, Leads, IsJournal, IsKept, opened, draft_of, command_of, IsDrafted, IsStepped}
-use Rattle.undo_journal.proofs.Journals.{models_length, held_is, leads_at, machine_more, models_stay}
+use Rattle.undo_journal.specs.Held.{machine_of, Leads, IsKept, opened, draft_of, command_of, IsDrafted, IsStepped}
+use Rattle.undo_journal.proofs.Journals.{depth_is, ahead_is, leads_at, machine_more, place_undone, place_redone}
 use Rattle.undo_journal.proofs.Kept.{one_leads, opened_same}
 
 module _ (s : Store) (records : List Record) (place : ℕ) (m : Machine) (kept : IsKept s records place) (seen : machine_of s.model records place ≡ m) where
   pub held_seen : s.model ≡ held m
-  held_seen = sym (held_is s.model records place kept.journal) ∙ ap held seen
+  held_seen = ap held seen
 
   pub goes_seen : (o : Op) → first_false (held m) o ≡ None → first_false s.model o ≡ None
   goes_seen o goes = ap (λ (M : Model). first_false M o) held_seen ∙ goes
 
+  pub depth_seen : place ≡ depth m
+  depth_seen = sym (depth_is s.model records place kept.journal) ∙ ap depth seen
+
   pub ahead_seen : length records - place ≡ ahead m
-  ahead_seen =
-      let long : length (models_of s.model records place) ≡ suc (length records) = models_length s.model records place kept.journal in
-      let counted : length records - place ≡ ahead (machine_of s.model records place) = omega (arith, long) in
-      counted ∙ ap ahead seen
+  ahead_seen = sym (ahead_is s.model records place kept.journal) ∙ ap ahead seen
 
   pub within : (i : ℕ) → i < depth m + ahead m → i < length records
   within i h =
       let a : length records - place ≡ ahead m = ahead_seen in
-      let d : place ≡ m.place = ap (λ (x : Machine). x.place) seen in
+      let d : place ≡ depth m = depth_seen in
       let p : place ≤ length records = kept.journal.placed in
       omega (arith, a, d, p, h)
 
@@ -50,11 +51,11 @@ module _ (s : Store) (records : List Record) (place : ℕ) (m : Machine) (kept :
   open_seen = ap (λ (x : Machine). record { session = x; model = s.model }) seen ∙ ap (λ (M : Model). record { session = m; model = M }) held_seen
 
   -- the place moved
-  pub undo_seen : (N : Model) → IsJournal N records (place - 1) → machine_of N records (place - 1) ≡ machine.undo m
-  undo_seen N moved = ap (λ (Ms : List Model). record { models = Ms; place = place - 1 }) (models_stay s.model N records place (place - 1) kept.journal moved) ∙ ap machine.undo seen
+  pub undo_seen : (r : Record) → 0 < place → r ≡ get_or records (place - 1) r → machine_of (effects s.model r.back) records (place - 1) ≡ machine.undo m
+  undo_seen r before is = place_undone s.model records place before kept.journal r is ∙ ap machine.undo seen
 
-  pub redo_seen : (N : Model) → IsJournal N records (place + 1) → machine_of N records (place + 1) ≡ machine.redo m
-  redo_seen N moved = ap (λ (Ms : List Model). record { models = Ms; place = place + 1 }) (models_stay s.model N records place (place + 1) kept.journal moved) ∙ ap machine.redo seen
+  pub redo_seen : (r : Record) → place < length records → r ≡ get_or records place r → machine_of (effects s.model r.forward) records (place + 1) ≡ machine.redo m
+  redo_seen r h is = place_redone s.model records place kept.journal r h is ∙ ap machine.redo seen
 
 module _ (s : Store) (records : List Record) (place : ℕ) (forward back : List Op) (d : DraftState) (kept : IsDrafted s records place forward back) (seen : draft_of s.model records place back ≡ d) where
   pub step_seen : (t : Store) (o : Op) → first_false s.model o ≡ None → IsStepped s o t → draft_of t.model records place (back ++ inverse s.model o ∷ []) ≡ draft_step d o

@@ -1,5 +1,5 @@
 -- What a session and a draft hold: one arena, the records of the commands, and a place among them.
-use Rattle.std.specs.Prelude.{◌≡◌, ℕ, ◌≤◌, true, List, [], ◌∷◌, ◌++◌, length, take, drop, reverse}
+use Rattle.std.specs.Prelude.{◌≡◌, ℕ, ◌≤◌, true, List, [], ◌∷◌, length, take, drop, reverse}
 use Rattle.euler_operators.specs.declared.Kind.{Kind}
 use Rattle.euler_operators.specs.Model.{Model, empty_model}
 use Rattle.euler_conditions.specs.Store.{Store, has_room}
@@ -10,27 +10,26 @@ use Rattle.euler_conditions.specs.Ready.{IsReady, HasRoomFor}
 use Rattle.undo_journal.specs.declared.record.Record.{Record}
 use Rattle.undo_journal.specs.Machine.{Machine, DraftState}
 
--- the model from which some records lead to M: their commands are taken back, the last first
-abbrev pub gone_back : Model → List Record → Model
-gone_back M [] = M
-gone_back M (r ∷ rs) = effects (gone_back M rs) r.back
-
--- the models behind M, one before each record
-abbrev pub models_behind : Model → List Record → List Model
-models_behind M [] = []
-models_behind M (r ∷ rs) = gone_back M (r ∷ rs) ∷ models_behind M rs
+-- the models behind M, the nearest first: records that lead to it are taken back, the last one first
+abbrev pub models_back : Model → List Record → List Model
+models_back M [] = []
+models_back M (r ∷ rs) = effects M r.back ∷ models_back (effects M r.back) rs
 
 -- the models ahead of M, one after each record
 abbrev pub models_ahead : Model → List Record → List Model
 models_ahead M [] = []
 models_ahead M (r ∷ rs) = effects M r.forward ∷ models_ahead (effects M r.forward) rs
 
--- the models that the model held, the records and the place among them stand for
-unfoldable pub models_of : Model → List Record → ℕ → List Model
-models_of M records place = models_behind M (take place records) ++ M ∷ models_ahead M (drop place records)
+-- the models to which the records before the place lead back from M, and those after it lead on
+unfoldable pub past_of : Model → List Record → ℕ → List Model
+past_of M records place = models_back M (reverse (take place records))
 
+unfoldable pub future_of : Model → List Record → ℕ → List Model
+future_of M records place = models_ahead M (drop place records)
+
+-- the machine that the model held, the records and the place among them stand for
 abbrev pub machine_of : Model → List Record → ℕ → Machine
-machine_of M records place = record { models = models_of M records place; place = place }
+machine_of M records place = record { past = past_of M records place; present = M; future = future_of M records place }
 
 -- the record takes one model to another, and back, each operator accepted in its turn
 pub record Leads (M : Model) (r : Record) (N : Model) : Type 0 where

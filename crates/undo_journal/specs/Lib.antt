@@ -1,3 +1,5 @@
 pub mod Machine
 pub mod Recorded
+pub mod Histories
+pub mod Laws
 pub mod Held

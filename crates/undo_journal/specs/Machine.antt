@@ -1,5 +1,5 @@
 -- The plain machine: it keeps a whole copy of every model.
-use Rattle.std.specs.Prelude.{ℕ, ◌+◌, ◌-◌, List, [], ◌∷◌, ◌++◌, length, take, get_or, nat_eq, Option, refl}
+use Rattle.std.specs.Prelude.{ℕ, List, [], ◌∷◌, length, nat_eq, Option, refl}
 use Rattle.euler_operators.specs.Model.{Model, empty_model}
 use Rattle.euler_conditions.specs.Store.{coded_model}
 use Rattle.euler_operators.specs.Conditions.{first_false, first_refusal, never}
@@ -7,31 +7,32 @@ use Rattle.euler_operators.specs.declared.Op.{Op}
 use Rattle.euler_operators.specs.declared.Why.TheVariants.{NothingToUndo, NothingToRedo}
 use Rattle.euler_operators.specs.declared.Refusal.{Refusal}
 use Rattle.euler_operators.specs.Effect.{effect}
-use Rattle.std.specs.Coded.{Coded, code_by, coded×, coded_ℕ, coded_list}
+use Rattle.std.specs.Coded.{Coded, code_by, coded×, coded_list}
 
--- the models from the empty one on, and the place of the one that is held
+-- the model held, those behind it, and those ahead of it, of each the nearest first
 pub record Machine : Type 0 where
-  pub models : List Model
-  pub place : ℕ
+  pub past : List Model
+  pub present : Model
+  pub future : List Model
 
 -- it starts with the empty model alone
 abbrev pub start : Machine
-start = record { models = empty_model ∷ []; place = 0 }
+start = record { past = []; present = empty_model; future = [] }
 
 -- the model held
 abbrev pub held : Machine → Model
-held s = get_or s.models s.place empty_model
+held s = s.present
 
 -- how many commands can be undone, and how many redone
 abbrev pub depth : Machine → ℕ
-depth s = s.place
+depth s = length s.past
 
 abbrev pub ahead : Machine → ℕ
-ahead s = length s.models - 1 - s.place
+ahead s = length s.future
 
--- an accepted command drops the models ahead and appends the one that it makes
+-- an accepted command drops the models ahead, and holds the one that it makes
 abbrev pub accepted : Machine → Model → Machine
-accepted s N = record { models = take (s.place + 1) s.models ++ N ∷ []; place = s.place + 1 }
+accepted s N = record { past = s.present ∷ s.past; present = N; future = [] }
 
 -- where the first false condition refuses an operator, and else its effect
 abbrev pub act_refusal : Machine → Op → Option Refusal
@@ -42,16 +43,25 @@ act s op = accepted s (effect (held s) op)
 
 -- undo is refused only at the first model, and redo only at the last
 abbrev pub undo_refusal : Machine → Option Refusal
-undo_refusal s = first_refusal (never (nat_eq s.place 0) NothingToUndo 0 ∷ [])
+undo_refusal s = first_refusal (never (nat_eq (depth s) 0) NothingToUndo 0 ∷ [])
 
 abbrev pub redo_refusal : Machine → Option Refusal
 redo_refusal s = first_refusal (never (nat_eq (ahead s) 0) NothingToRedo 0 ∷ [])
 
+-- to the nearest of the models behind, or of those ahead; where there is none the machine stays
+abbrev pub back_to : List Model → Machine → Machine
+back_to [] s = s
+back_to (M ∷ Ms) s = record { past = Ms; present = M; future = s.present ∷ s.future }
+
+abbrev pub forth_to : List Model → Machine → Machine
+forth_to [] s = s
+forth_to (M ∷ Ms) s = record { past = s.present ∷ s.past; present = M; future = Ms }
+
 abbrev pub undo : Machine → Machine
-undo s = record s { place = s.place - 1 }
+undo s = back_to s.past s
 
 abbrev pub redo : Machine → Machine
-redo s = record s { place = s.place + 1 }
+redo s = forth_to s.future s
 
 -- what a draft holds: the machine as it was opened, and a model
 pub record DraftState : Type 0 where
@@ -74,7 +84,7 @@ abandon d = d.session
 
 -- a code, by which a machine can be what contracts see of a session
 abbrev pub coded_machine : Coded Machine
-coded_machine = code_by (List Model × ℕ) (coded× (coded_list coded_model) coded_ℕ) (λ s. (s.models, s.place)) (λ t. record { models = t.0; place = t.1 }) (λ _. refl)
+coded_machine = code_by (List Model × (Model × List Model)) (coded× (coded_list coded_model) (coded× coded_model (coded_list coded_model))) (λ s. (s.past, (s.present, s.future))) (λ t. record { past = t.0; present = t.1.0; future = t.1.1 }) (λ _. refl)
 
 abbrev pub coded_draft : Coded DraftState
 coded_draft = code_by (Machine × Model) (coded× coded_machine coded_model) (λ d. (d.session, d.model)) (λ t. record { session = t.0; model = t.1 }) (λ _. refl)

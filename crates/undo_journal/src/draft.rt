@@ -1,7 +1,9 @@
 //! A draft: steps that become one command together, or are taken back together.
 ghost use Rattle.std.specs.Prelude.{◌≡◌, ◌↔◌, OnOk, OnErr, IfOk, IfErr, None, Some, Err};
 ghost use Rattle.euler_conditions.specs.Ready.{IsReady};
-ghost use Rattle.undo_journal.specs.Machine.{open_draft, draft_step, commit, abandon};
+ghost use Rattle.euler_operators.specs.Sound.{Sound};
+ghost use Rattle.undo_journal.specs.Machine.{held, open_draft, draft_step, commit, abandon};
+ghost use Rattle.undo_journal.specs.Histories.{Follows, IsConsistent};
 ghost use Rattle.euler_operators.specs.Conditions.{first_false};
 ghost use Rattle.euler_operators.specs.declared.Refusal.{Refusal};
 
@@ -74,6 +76,16 @@ impl Draft {
         ensures ready { IsReady result.now }
     {
         &self.arena
+    }
+
+    /// The session of a draft is as `Session::stays_consistent` says, and accepted operators make the draft's model of the model that it
+    /// holds. It does nothing: its contract is what is proved.
+    pub fn stays_consistent(&self)
+        ensures session { IsConsistent self.now.session }
+        ensures model { Sound self.now.model }
+        ensures follows { Follows (held self.now.session) self.now.model }
+    {
+        let _ = &self.arena;
     }
 
     /// One operator that is accepted, as a step: its conditions aren't tested. All memory for it and for its inverse is taken before

@@ -5,10 +5,12 @@
 #![tactic(auto)]
 
 mod draft;
+mod laws;
 mod record;
 mod session;
 mod steps;
 
 pub use draft::Draft;
+pub use laws::{histories_are_consistent, machines_are_copies, undo_gives_the_model_before};
 pub use record::{OpList, Record};
 pub use session::{Failure, Session};

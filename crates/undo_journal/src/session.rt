@@ -3,6 +3,7 @@ ghost use Rattle.std.specs.Prelude.{◌≡◌, ◌↔◌, ◌+◌, ◌<◌, OnOk
 ghost use Rattle.euler_conditions.specs.Ready.{IsReady};
 ghost use Rattle.undo_journal.specs.Machine.{start, held, depth, ahead, act_refusal, undo_refusal, redo_refusal};
 ghost use Rattle.undo_journal.specs.Recorded.{model_at};
+ghost use Rattle.undo_journal.specs.Histories.{IsConsistent};
 ghost use Rattle.euler_laws.specs.Laws.{effects, AreAccepted};
 ghost use Rattle.euler_operators.specs.Conditions.{verdict};
 ghost use Rattle.euler_operators.specs.declared.Refusal.{Refusal};
@@ -64,6 +65,14 @@ impl Session {
         ensures ready { IsReady result.now }
     {
         &self.arena
+    }
+
+    /// A session's models are sound, and each next one is made by accepted operators, whoever gave the session. It does nothing: its
+    /// contract is what is proved.
+    pub fn stays_consistent(&self)
+        ensures { IsConsistent self.now }
+    {
+        let _ = &self.arena;
     }
 
     /// How many commands can be undone.

@@ -4,14 +4,12 @@ use Rattle.euler_operators.specs.declared.Plane.{Plane}
 use Rattle.euler_operators.specs.declared.Refusal.{Refusal}
 use Rattle.euler_operators.specs.Refusal as refusal
 use Rattle.euler_operators.specs.Model.{Model}
-use Rattle.shapes.specs.Lamina.{lamina_refusal, lamina_model}
-use Rattle.shapes.specs.Block.{block_refusal, block_model}
-use Rattle.shapes.specs.Prism.{prism_refusal, prism_model}
-use Rattle.shapes.specs.glue.Glue.{glue_refusal, glue_model}
-use Rattle.shapes.specs.split.Split.{split_refusal, split_model}
+use Rattle.sweeps.specs.Machine.{lamina, lamina_refusal, block, block_refusal, sweep, sweep_refusal}
+use Rattle.gluing.specs.Machine.{glue, glue_refusal}
+use Rattle.plane_split.specs.Machine.{plane_with, split, split_refusal}
 use Rattle.solid_measure.specs.declared.solid_counts.Tally.{Tally}
 use Rattle.solid_measure.specs.Measure.{answer, face_refusal, solid_refusal, plane_of, is_flat, six_volume, counts}
-use Rattle.undo_journal.specs.Machine.{Machine, held, accepted, act, act_refusal, undo, undo_refusal, redo, redo_refusal}
+use Rattle.undo_journal.specs.Machine.{Machine, held, act, act_refusal, undo, undo_refusal, redo, redo_refusal}
 use Rattle.undo_journal.specs.declared.session.Failure.{Failure}
 use Rattle.undo_journal.specs.declared.session.Failure.TheVariants as failure
 use Rattle.script_reader.specs.declared.command.Command.{Command}
@@ -55,7 +53,7 @@ Tries o s acted a t = Acts o s acted a t ⊎ ((a ≡ Told reply.Memory) × (t �
 
 -- the plane that has the four coefficients
 abbrev pub given_plane : List ℤ → Plane
-given_plane cs = record { a = get_or cs 0 (pos 0); b = get_or cs 1 (pos 0); c = get_or cs 2 (pos 0); d = get_or cs 3 (pos 0) }
+given_plane cs = plane_with (get_or cs 0 (pos 0)) (get_or cs 1 (pos 0)) (get_or cs 2 (pos 0)) (get_or cs 3 (pos 0))
 
 -- a query is told a reply, or refused
 abbrev pub told : Result Reply Refusal → Answer
@@ -80,11 +78,11 @@ count_reply M s = answer (solid_refusal M s) (reply.Count (tally_words (counts M
 abbrev pub Obeys : Machine → Command → Answer → Machine → Type 0
 Obeys s command.Nothing a t = (a ≡ Silent) × (t ≡ s)
 Obeys s (command.Act op) a t = Acts (act_refusal s op) s (act s op) a t
-Obeys s (command.Lamina n ps) a t = Acts (lamina_refusal (held s) n ps) s (accepted s (lamina_model (held s) n ps)) a t
-Obeys s (command.Block n p dx dy dz) a t = Acts (block_refusal (held s) n p dx dy dz) s (accepted s (block_model (held s) n p dx dy dz)) a t
-Obeys s (command.Sweep f d) a t = Acts (prism_refusal (held s) f d) s (accepted s (prism_model (held s) f d)) a t
-Obeys s (command.Glue f g) a t = Tries (glue_refusal (held s) f g) s (accepted s (glue_model (held s) f g)) a t
-Obeys s (command.Split n cs m) a t = Tries (split_refusal (held s) n (given_plane cs) m) s (accepted s (split_model (held s) n (given_plane cs) m)) a t
+Obeys s (command.Lamina n ps) a t = Acts (lamina_refusal s n ps) s (lamina s n ps) a t
+Obeys s (command.Block n p dx dy dz) a t = Acts (block_refusal s n p dx dy dz) s (block s n p dx dy dz) a t
+Obeys s (command.Sweep f d) a t = Acts (sweep_refusal s f d) s (sweep s f d) a t
+Obeys s (command.Glue f g) a t = Tries (glue_refusal s f g) s (glue s f g) a t
+Obeys s (command.Split n cs m) a t = Tries (split_refusal s n (given_plane cs) m) s (split s n (given_plane cs) m) a t
 Obeys s (command.Plane f) a t = (a ≡ told (plane_reply (held s) f)) × (t ≡ s)
 Obeys s (command.Volume n) a t = (a ≡ told (volume_reply (held s) n)) × (t ≡ s)
 Obeys s (command.Count n) a t = (a ≡ told (count_reply (held s) n)) × (t ≡ s)

@@ -1,11 +1,8 @@
 //! Commands of several operators: each takes the session, and gives it back with its answer.
 ghost use Rattle.std.specs.Prelude.{◌≡◌};
-ghost use Rattle.shapes.specs.Lamina.{lamina_refusal, lamina_model};
-ghost use Rattle.shapes.specs.Block.{block_refusal, block_model};
-ghost use Rattle.shapes.specs.Prism.{prism_refusal, prism_model};
-ghost use Rattle.shapes.specs.glue.Glue.{glue_refusal, glue_model};
-ghost use Rattle.shapes.specs.split.Split.{split_refusal, split_model};
-ghost use Rattle.undo_journal.specs.Machine.{held, accepted};
+ghost use Rattle.sweeps.specs.Machine.{lamina, lamina_refusal, block, block_refusal, sweep, sweep_refusal};
+ghost use Rattle.gluing.specs.Machine.{glue, glue_refusal};
+ghost use Rattle.plane_split.specs.Machine.{plane_with, split, split_refusal};
 ghost use Rattle.script_running.specs.script_judging.Judging.{Acts, Obeys, Tries, given_plane};
 ghost use Rattle.script_running.specs.script_judging.Settling.{spelled};
 
@@ -34,7 +31,7 @@ pub enum Larger {
 }
 
 fn make_lamina(alloc: Global, session: Session, solid: u32, corners: &Corners) -> (Session, Answer)
-    ensures { Acts (lamina_refusal (held session) solid corners.now) session (accepted session (lamina_model (held session) solid corners.now)) result.1 result.0 }
+    ensures { Acts (lamina_refusal session solid corners.now) session (lamina session solid corners.now) result.1 result.0 }
 {
     let (session, ended) = lamina(alloc, session, solid, corners.points());
     (session, outcome(ended))
@@ -49,7 +46,7 @@ fn make_block(
     dy: i64,
     dz: i64,
 ) -> (Session, Answer)
-    ensures { Acts (block_refusal (held session) solid corner dx dy dz) session (accepted session (block_model (held session) solid corner dx dy dz)) result.1 result.0 }
+    ensures { Acts (block_refusal session solid corner dx dy dz) session (block session solid corner dx dy dz) result.1 result.0 }
 {
     let (session, ended) = block(alloc, session, solid, corner, dx, dy, dz);
     (session, outcome(ended))
@@ -57,7 +54,7 @@ fn make_block(
 
 #[tactic(auto, using(crate::proofs::script_judging_laws::Acted::acts))]
 fn make_sweep(alloc: Global, session: Session, face: u32, way: Point) -> (Session, Answer)
-    ensures { Acts (prism_refusal (held session) face way) session (accepted session (prism_model (held session) face way)) result.1 result.0 }
+    ensures { Acts (sweep_refusal session face way) session (sweep session face way) result.1 result.0 }
 {
     let (session, ended) = sweep(alloc, session, face, way);
     (session, outcome(ended))
@@ -65,7 +62,7 @@ fn make_sweep(alloc: Global, session: Session, face: u32, way: Point) -> (Sessio
 
 #[tactic(auto, using(crate::proofs::script_judging_laws::Acted::tries))]
 fn make_glue(alloc: Global, session: Session, face: u32, other: u32) -> (Session, Answer)
-    ensures { Tries (glue_refusal (held session) face other) session (accepted session (glue_model (held session) face other)) result.1 result.0 }
+    ensures { Tries (glue_refusal session face other) session (glue session face other) result.1 result.0 }
 {
     let (session, ended) = glue(alloc, session, face, other);
     (session, outcome(ended))
@@ -81,7 +78,7 @@ fn make_split(
     d: i64,
     above: u32,
 ) -> (Session, Answer)
-    ensures { Tries (split_refusal (held session) solid (record { a = a; b = b; c = c; d = d }) above) session (accepted session (split_model (held session) solid (record { a = a; b = b; c = c; d = d }) above)) result.1 result.0 }
+    ensures { Tries (split_refusal session solid (plane_with a b c d) above) session (split session solid (plane_with a b c d) above) result.1 result.0 }
 {
     let (session, ended) = split(alloc, session, solid, a, b, c, d, above);
     (session, outcome(ended))
@@ -95,7 +92,7 @@ fn split_by(
     plane: [i64; 4],
     above: u32,
 ) -> (Session, Answer)
-    ensures { Tries (split_refusal (held session) solid (given_plane plane) above) session (accepted session (split_model (held session) solid (given_plane plane) above)) result.1 result.0 }
+    ensures { Tries (split_refusal session solid (given_plane plane) above) session (split session solid (given_plane plane) above) result.1 result.0 }
 {
     let [a, b, c, d] = plane;
     make_split(alloc, session, solid, a, b, c, d, above)

@@ -40,4 +40,4 @@ invariant_of-self c = subst (λ (s : Store). IsKept s c.self.inside.records.item
 pub returns-clause-ok : goal.returns-clause-ok
 returns-clause-ok c =
     ap (λ (s : Store). machine_of s.model c.self.inside.records.items (c.self.inside.place + 1)) (arena c)
-    ∙ redo_seen _ _ _ _ c.self.invariant c.self.view_is _ (kept c).journal
+    ∙ redo_seen _ _ _ _ c.self.invariant c.self.view_is _ (more_ahead _ _ _ _ c.self.invariant c.self.view_is _ c.ahead.ensures (omega (arith, c.if-ahead-eq0.false))) c.index-record.ensures

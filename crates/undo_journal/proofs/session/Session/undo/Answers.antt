@@ -1,13 +1,17 @@
-use Rattle.std.specs.Prelude.{◌≡◌, ◌-◌, ◌<◌}
+use Rattle.std.specs.Prelude.{◌≡◌, ℕ, zero, ◌-◌, ◌<◌, Bool, false, [], ◌∷◌, nat_eq, Ok}
 use Rattle.std.proofs.Common.{sym, subst, ap, ◌∙◌, arith}
+use Rattle.std.proofs.lemmas.Bool.Decides.{nat_tests}
 use Rattle.euler_conditions.specs.Store.{Store}
 use Rattle.euler_laws.specs.Laws.{AreAccepted}
+use Rattle.euler_operators.specs.Conditions.{verdict, first_refusal, never}
+use Rattle.euler_operators.specs.declared.Why.TheVariants.{NothingToUndo}
 use Rattle.euler_conditions.specs.Ready.{IsReady}
+use Rattle.undo_journal.specs.Machine.{depth}
 use Rattle.undo_journal.specs.Held.{machine_of, AllHaveRoom, IsKept, all_after}
 use Rattle.undo_journal.proofs.Journals.{goes_back}
 use Rattle.undo_journal.proofs.Rooms.{record_room}
 use Rattle.undo_journal.proofs.Kept.{kept_undo}
-use Rattle.undo_journal.proofs.Seen.{undo_seen}
+use Rattle.undo_journal.proofs.Seen.{depth_seen, undo_seen}
 use Rattle.undo_journal.proofs.session.Session.undo.Goals as goal
 
 pub replay_all-requires-clause-accepted : goal.replay_all-requires-clause-accepted
@@ -35,4 +39,18 @@ invariant_of-self c = subst (λ (s : Store). IsKept s c.self.inside.records.item
 pub returns-clause-ok : goal.returns-clause-ok
 returns-clause-ok c =
     ap (λ (s : Store). machine_of s.model c.self.inside.records.items (c.self.inside.place - 1)) (arena c)
-    ∙ undo_seen _ _ _ _ c.self.invariant c.self.view_is _ (kept c).journal
+    ∙ undo_seen _ _ _ _ c.self.invariant c.self.view_is _ (omega (arith, c.if-self-eq0.false)) c.index-record.ensures
+
+pub returns-then-self-eq0-clause-refused : goal.returns-then-self-eq0-clause-refused
+returns-then-self-eq0-clause-refused c =
+    let none : zero ≡ depth c.args.self.now = omega (arith, c.if-self-eq0.true, depth_seen _ _ _ _ c.self.invariant c.self.view_is) in
+    ap (λ (n : ℕ). verdict (first_refusal (never (nat_eq n 0) NothingToUndo 0 ∷ []))) none
+
+-- some command can be undone
+goes : (n : ℕ) → 0 < n → Ok tt ≡ verdict (first_refusal (never (nat_eq n 0) NothingToUndo 0 ∷ []))
+goes n h =
+    let some : nat_eq n 0 ≡ false = grind (arith, nat_tests) in
+    ap (λ (b : Bool). verdict (first_refusal (never b NothingToUndo 0 ∷ []))) (sym some)
+
+pub returns-clause-refused : goal.returns-clause-refused
+returns-clause-refused c = goes (depth c.args.self.now) (omega (arith, c.if-self-eq0.false, depth_seen _ _ _ _ c.self.invariant c.self.view_is))
