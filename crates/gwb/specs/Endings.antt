@@ -1,13 +1,14 @@
 -- How the program ends.
-use Rattle.std.specs.Prelude.{◌≡◌, ℕ, Bool, true, false, List, Option, if◌then◌else◌, ◌&&◌, ◌==◌, Result, Ok, Err}
+use Rattle.std.specs.Prelude.{◌≡◌, ℕ, Bool, true, false, List, Option, if◌then◌else◌, Result, Ok, Err}
 use Rattle.clap.specs.Words.{kind_of}
 use Rattle.clap.specs.declared.error.Error.{Error}
 use Rattle.clap.specs.declared.error.kind.ErrorKind.{ErrorKind}
 use Rattle.clap.specs.declared.error.kind.ErrorKind.TheVariants as kind
+use Rattle.script_running.specs.Outs.{Runs, is_clean}
 use Rattle.script_running.specs.declared.script_judging.judging.Summary.{Summary}
 use Rattle.script_running.specs.declared.running.RunFault.{RunFault}
 use Rattle.script_running.specs.declared.running.RunFault.TheVariants as fault
-use Rattle.script_running.specs.Outs.{Runs}
+use Rattle.script_running.specs.Outs.{Runs, is_clean}
 use Rattle.gwb.specs.declared.words.WordsFault.{WordsFault}
 use Rattle.gwb.specs.declared.words.WordsFault.TheVariants as words
 use Rattle.gwb.specs.declared.ending.Trouble.{Trouble}
@@ -21,7 +22,7 @@ line_status _ = 2
 
 -- a clean run, a run with complaints
 abbrev pub run_status : Summary → ℕ
-run_status s = if s.refused == 0 && s.faults == 0 && s.memory == 0 then 0 else 1
+run_status s = if is_clean s then 0 else 1
 
 -- the status of a whole run, of refused words, of a run that could not be made or broke off
 abbrev pub status : Result Summary Trouble → ℕ

@@ -1,7 +1,11 @@
 -- The counts of a run.
-use Rattle.std.proofs.Common.{◌≡◌, ◌≤◌, refl, arith}
+use Rattle.std.proofs.Common.{◌≡◌, ◌⊎◌, inl, inr, ◌+◌, ◌≤◌, ℕ, Bool, true, false, refl, ap, arith}
+use Rattle.std.specs.Prelude.{◌==◌, ◌&&◌, not}
+use Rattle.std.proofs.lemmas.Bool.{and_left, and_right, false≢true}
+use Rattle.std.proofs.lemmas.Bool.Decides.{nat_tests}
 use Rattle.solid_listing.specs.declared.reply.Reply.TheVariants as reply
-use Rattle.script_running.specs.script_judging.Judging.{no_lines, one_line, counted}
+use Rattle.script_running.specs.script_judging.Judging.{complains, no_lines, one_line, counted}
+use Rattle.script_running.specs.Outs.{is_clean, stops, was_stopped}
 use Rattle.script_running.specs.declared.script_judging.judging.Answer.{Answer}
 use Rattle.script_running.specs.declared.script_judging.judging.Answer.TheVariants.{Silent, Reply as Told, Listing}
 use Rattle.script_running.specs.declared.script_judging.judging.Summary.{Summary}
@@ -52,3 +56,29 @@ counted_within n a h = let o = one_within a in record {
   faults = omega (arith, h.faults, o.faults);
   memory = omega (arith, h.memory, o.memory);
 }
+
+-- a number that was raised by one
+one_up : (n : ℕ) → (n + 1 == 0) ≡ false
+one_up n = grind (arith, nat_tests)
+
+not_clean : (r f m : Bool) → (r ≡ false) ⊎ (f ≡ false) ⊎ (m ≡ false) → (r && f && m) ≡ false
+not_clean r f m (inl e) = and_left (r && f) m (and_left r f e)
+not_clean r f m (inr (inl e)) = and_left (r && f) m (and_right r f e)
+not_clean r f m (inr (inr e)) = and_right (r && f) m e
+
+-- an answer that complains leaves the counts no longer clean
+pub complaint_counted : (n : Summary) (a : Answer) → complains a ≡ true → is_clean (counted n (one_line a)) ≡ false
+complaint_counted n Silent e = absurd (false≢true e)
+complaint_counted n (Told reply.Done) e = absurd (false≢true e)
+complaint_counted n (Told (reply.Refused w x)) e = not_clean (n.refused + 1 == 0) (n.faults + 0 == 0) (n.memory + 0 == 0) (inl (one_up n.refused))
+complaint_counted n (Told (reply.Fault w)) e = not_clean (n.refused + 0 == 0) (n.faults + 1 == 0) (n.memory + 0 == 0) (inr (inl (one_up n.faults)))
+complaint_counted n (Told reply.Memory) e = not_clean (n.refused + 0 == 0) (n.faults + 0 == 0) (n.memory + 1 == 0) (inr (inr (one_up n.memory)))
+complaint_counted n (Told (reply.Plane p flat)) e = absurd (false≢true e)
+complaint_counted n (Told (reply.Volume w)) e = absurd (false≢true e)
+complaint_counted n (Told (reply.Count ns)) e = absurd (false≢true e)
+complaint_counted n Listing e = absurd (false≢true e)
+
+-- the answer that stops a run is counted
+pub stop_counted : (stop : Bool) (n : Summary) (a : Answer) → stops stop a ≡ true → was_stopped stop (counted n (one_line a)) ≡ true
+stop_counted true n a e = ap not (complaint_counted n a e)
+stop_counted false n a e = absurd (false≢true e)

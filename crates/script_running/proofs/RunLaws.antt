@@ -1,7 +1,7 @@
 -- One line after another.
 use Rattle.std.proofs.Common.{◌≡◌, ◌≢◌, inl, inr, ℕ, ◌<◌, Bool, true, false, List, [], ◌∷◌, ◌++◌, length, refl, sym, ap, subst, ◌∙◌, arith, append_assoc, Option, Some, None, Ok, Err}
 use Rattle.std.proofs.lemmas.List.{append-nil}
-use Rattle.std.proofs.lemmas.Bool.{cases_Bool}
+use Rattle.std.proofs.lemmas.Bool.{cases_Bool, false≢true}
 use Rattle.std.proofs.lemmas.Bool.Decides.{nat_tests}
 use Rattle.std.proofs.KnownBytes.{Appends-nil, Appends-trans, Appends-kept}
 use Rattle.std.specs.Prelude.{nat_lt, IfOk, IfErr, Result, if◌then◌else◌}
@@ -23,7 +23,7 @@ use Rattle.solid_listing.specs.Writing.{Stops}
 use Rattle.undo_journal.specs.Machine.{Machine, start}
 use Rattle.script_running.specs.script_judging.Judging.{Obeys, Judges, Answers, answer_text, no_lines, one_line, counted}
 use Rattle.script_running.specs.script_judging.Settling.{spelled}
-use Rattle.script_running.specs.Outs.{stops, Outs, Served, Breaks, Runs}
+use Rattle.script_running.specs.Outs.{stops, was_stopped, Outs, Served, Breaks, Runs}
 use Rattle.script_running.specs.Hearing.{Hears}
 use Rattle.script_running.specs.declared.script_judging.judging.Answer.{Answer}
 use Rattle.script_running.specs.declared.script_judging.judging.Summary.{Summary}
@@ -31,7 +31,7 @@ use Rattle.script_running.specs.declared.script_judging.larger.Larger.{Larger}
 use Rattle.script_running.specs.declared.running.Heard.TheVariants as heard
 use Rattle.script_running.specs.declared.running.RunFault.{RunFault}
 use Rattle.script_running.specs.declared.running.RunFault.TheVariants as faults
-use Rattle.script_running.proofs.Counting.{counted_assoc, counted_none, none_counted}
+use Rattle.script_running.proofs.Counting.{counted_assoc, counted_none, none_counted, stop_counted}
 
 -- what some lines are answered goes before what the lines after them are answered
 abbrev pub Continues : Bool → List (List ℕ) → List ℕ → Machine → Summary → Type 0
@@ -118,15 +118,15 @@ outs_same stop s ls ms x y n m e f g o = rw (← e, ← f, ← g) o
 
 -- the answer stops the run
 pub stopped : {R : Type 0} (remaining : R → Option (List ℕ)) (first : Option (List ℕ)) (lines : Lines R) (old mid new : Option (List ℕ)) (stop : Bool) (s : Machine) (n m : Summary) (a : Answer) (t : Machine)
-    → Turn remaining first lines old mid stop s n a t → stop ≡ true → stops stop a ≡ true → Appends mid new (answer_text t a) → m ≡ counted n (one_line a) → Served first old new stop m
-stopped remaining first lines old mid new stop s n m a t w is_stop bad h count = record {
+    → Turn remaining first lines old mid stop s n a t → stops stop a ≡ true → Appends mid new (answer_text t a) → m ≡ counted n (one_line a) → Served first old new stop m
+stopped remaining first lines old mid new stop s n m a t w bad h count = record {
   moves = record { given = w.read.given; left = remaining (reader_of lines); out = w.out ++ answer_text t a; consumed = w.read.consumed; appended = Appends-trans old mid new w.out (answer_text t a) w.appended h };
   outs =
       let behind = lines_of (unread_of lines) in
       let one = w.runs (w.line ∷ behind) (answer_text t a) (one_line a) (a, t, w.judges, inl (bad, refl, refl)) in
       let all : lines_of (within_limit 0 w.read.given) ≡ w.heard ++ w.line ∷ behind = so_far first _ _ _ _ _ w.read ∙ append_assoc w.heard (w.line ∷ []) behind in
       outs_same stop start (w.heard ++ w.line ∷ behind) (lines_of (within_limit 0 w.read.given)) (w.out ++ answer_text t a) (w.out ++ answer_text t a) (counted n (one_line a)) m (sym all) refl (sym count) one;
-  finished = λ e. absurd (cc (e, is_stop));
+  finished = λ e. absurd (false≢true (sym e ∙ ap (was_stopped stop) count ∙ stop_counted stop n a bad));
 }
 
 -- what was heard was answered
@@ -248,7 +248,3 @@ nothing_begins first last old stop none = record {
 pub falls : {R : Type 0} (remaining : R → Option (List ℕ)) (lines next : Lines R) (s : Machine) (a : Answer) (t : Machine) → Hears remaining lines next s t None (heard.Line a)
     → to_come (taken_of next) (unread_of next) < to_come (taken_of lines) (unread_of lines)
 falls remaining lines next s a t h = elim h [ inl short ↦ falls_by_line remaining lines next short.0 | inr long ↦ falls_by_long remaining lines next long.0 ]
-
-pub stop_is : (stop : Bool) (a : Answer) → stops stop a ≡ true → stop ≡ true
-stop_is true a e = refl
-stop_is false a e = absurd (cc e)

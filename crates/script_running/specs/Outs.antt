@@ -1,5 +1,5 @@
 -- What the program may write for the bytes that it read.
-use Rattle.std.specs.Prelude.{◌≡◌, ◌⊎◌, ℕ, ◌≤◌, Bool, true, false, ◌&&◌, List, [], ◌∷◌, ◌++◌, length, Option, Result, Ok, Err}
+use Rattle.std.specs.Prelude.{◌≡◌, ◌⊎◌, ℕ, ◌≤◌, ◌==◌, Bool, true, false, not, ◌&&◌, List, [], ◌∷◌, ◌++◌, length, Option, Result, Ok, Err}
 use Rattle.std.specs.Io.KnownBytes.{Consumes, Appends, IsAtEnd}
 use Rattle.script_reader.specs.Lines.{lines_of, within_limit}
 use Rattle.undo_journal.specs.Machine.{Machine, start}
@@ -9,9 +9,17 @@ use Rattle.script_running.specs.declared.script_judging.judging.Summary.{Summary
 use Rattle.script_running.specs.declared.running.RunFault.{RunFault}
 use Rattle.script_running.specs.declared.running.RunFault.TheVariants as fault
 
+-- no reply begins with `refused`, `fault` or `memory`
+abbrev pub is_clean : Summary → Bool
+is_clean n = n.refused == 0 && n.faults == 0 && n.memory == 0
+
 -- the answer ends a run that is to stop
 abbrev pub stops : Bool → Answer → Bool
 stops stop a = stop && complains a
+
+-- a reply stopped a run with these counts
+abbrev pub was_stopped : Bool → Summary → Bool
+was_stopped stop n = stop && not (is_clean n)
 
 -- From s the lines may be answered by this text, with these counts: all of them, or those up to the answer that stops the run.
 abbrev pub Outs : Bool → Machine → List (List ℕ) → List ℕ → Summary → Type 0
@@ -28,11 +36,11 @@ pub record Moves (reader writer old : Option (List ℕ)) : Type 0 where
   pub consumed : Consumes reader left given
   pub appended : Appends old writer out
 
--- all lines of the bytes are answered, or those up to the answer that stopped the run
+-- all lines of the bytes are answered, or those up to the answer that stopped the run; where none stopped it, the reader gave its end
 pub record Served (reader old new : Option (List ℕ)) (stop : Bool) (summary : Summary) : Type 0 where
   pub moves : Moves reader new old
   pub outs : Outs stop start (lines_of (within_limit 0 moves.given)) moves.out summary
-  pub finished : stop ≡ false → IsAtEnd moves.left × (length moves.given ≤ 67108864)
+  pub finished : was_stopped stop summary ≡ false → IsAtEnd moves.left × (length moves.given ≤ 67108864)
 
 -- a front of the answers to the first lines of the bytes went out
 pub record Breaks (reader old new : Option (List ℕ)) (stop : Bool) (f : RunFault) : Type 0 where

@@ -1,8 +1,9 @@
 //! What a line is answered.
-ghost use Rattle.std.specs.Prelude.{◌≡◌, ◌<◌, ◌≤◌, ◌↔◌, IsTrue};
+ghost use Rattle.std.specs.Prelude.{◌≡◌, ◌<◌, ◌≤◌};
 ghost use Rattle.euler_conditions.specs.Ready.{IsReady};
 ghost use Rattle.script_running.specs.script_judging.Judging.{refused, outcome, told, plane_reply, volume_reply, count_reply, Moves, Acts, complains, one_line, counted};
 ghost use Rattle.script_running.specs.script_judging.Settling.{Settles, Decides};
+ghost use Rattle.script_running.specs.Outs.{is_clean};
 ghost use Rattle.undo_journal.specs.Machine as machine;
 
 use crate::script_judging::larger::Larger;
@@ -39,7 +40,7 @@ pub struct Summary {
 impl Summary {
     /// Whether no reply begins with `refused`, `fault` or `memory`.
     pub fn is_clean(&self) -> bool
-        ensures { IsTrue result ↔ ((self.now.refused ≡ 0) × (self.now.faults ≡ 0) × (self.now.memory ≡ 0)) }
+        ensures { result ≡ is_clean self.now }
     {
         self.refused == 0 && self.faults == 0 && self.memory == 0
     }

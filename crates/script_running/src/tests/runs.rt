@@ -40,6 +40,9 @@ fn counts(rt: HostRuntime) -> Result<(), Fail> {
     assert_eq!(rt; (faults.lines, faults.faults, faults.refused), (7, 5, 0));
     let (_, stopped) = answers(alloc, b"kvfs 1\nlist\n", true)?;
     assert_eq!(rt; (stopped.lines, stopped.faults, stopped.refused), (1, 0, 1));
+    let (out, clean) = answers(alloc, b"list\n\nlist\n", true)?;
+    assert_eq!(rt; out.as_slice(), b"empty\nempty\n".as_slice());
+    assert_eq!(rt; clean.lines, 3);
     Ok(())
 }
 

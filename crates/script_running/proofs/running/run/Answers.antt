@@ -4,7 +4,7 @@ use Rattle.std.proofs.KnownBytes.{Consumes-nil}
 use Rattle.script_running.specs.declared.script_judging.judging.Summary.{Summary}
 use Rattle.script_running.specs.script_judging.Judging.{no_lines}
 use Rattle.script_running.proofs.Counting.{IsWithin, same_counts, counted_within, one_more}
-use Rattle.script_running.proofs.RunLaws.{Progress, begins, flushed, turn_of, goes_on, answered_line, carried, stopped, ends, finished, read_fails, too_long, write_fails, flush_fails, nothing_begins, falls, stop_is}
+use Rattle.script_running.proofs.RunLaws.{Progress, begins, flushed, turn_of, goes_on, answered_line, carried, stopped, ends, finished, read_fails, too_long, write_fails, flush_fails, nothing_begins, falls}
 use Rattle.script_running.specs.Hearing.{Hears}
 use Rattle.script_running.specs.declared.running.Heard.TheVariants as heard
 use Rattle.script_running.proofs.running.run.Goals.{in-Line, in-Larger}
@@ -79,7 +79,7 @@ returns-then-stops g c =
     let turn = turn_of g.R.Read.remaining _ c.script.lines c.hear.new.lines _ _ _ _ _ c.match-hear.answer c.match-hear.session at told in
     let bad = sym c.stops.ensures ∙ c.if-stops.true in
     finished _ _ (g.W.Write.contents c.say.new.writer) _ _ _ c.finish-then-stops.result
-    (stopped g.R.Read.remaining _ c.hear.new.lines _ (g.W.Write.contents c.flush.new.writer) (g.W.Write.contents c.say.new.writer) _ _ _ _ c.match-hear.answer c.match-hear.session turn (stop_is c.args.stop c.match-hear.answer bad) bad c.in_ok-say.ensures.puts c.count.ensures)
+    (stopped g.R.Read.remaining _ c.hear.new.lines _ (g.W.Write.contents c.flush.new.writer) (g.W.Write.contents c.say.new.writer) _ _ _ _ c.match-hear.answer c.match-hear.session turn bad c.in_ok-say.ensures.puts c.count.ensures)
     c.finish-then-stops.ensures.kept c.finish-then-stops.ensures.ok c.finish-then-stops.ensures.fault
 
 pub script-smaller : goal.script-smaller
