@@ -11,7 +11,9 @@ _NO_TEXT = ctypes.c_size_t(-1).value
 _ROOM = 4096
 
 
-class _Handle(ctypes.Structure):
+class Handle(ctypes.Structure):
+    """What the library keeps in its caller's memory."""
+
     _fields_ = [('is_open', ctypes.c_bool), ('held', ctypes.c_void_p)]
 
 
@@ -22,7 +24,7 @@ class TextRefused(CompanionError):
 def load(path: str) -> ctypes.PyDLL:
     """The library with the types of its calls. The interpreter's lock is kept in a call, so that a handle has one at a time."""
     library = ctypes.PyDLL(path)
-    handle, text, size = ctypes.POINTER(_Handle), ctypes.c_char_p, ctypes.c_size_t
+    handle, text, size = ctypes.POINTER(Handle), ctypes.c_char_p, ctypes.c_size_t
     for name, result, arguments in (
             ('gwb_open', ctypes.c_bool, [handle]), ('gwb_close', None, [handle]),
             ('gwb_line', ctypes.c_uint32, [handle, text, size]), ('gwb_reply', size, [handle, text, size])):
@@ -35,7 +37,7 @@ class Library:
     """A session of the library, and what it says."""
 
     def __init__(self, path: str) -> None:
-        self._handle = _Handle()
+        self._handle = Handle()
         try:
             self._library = load(path)
         except OSError as error:
