@@ -12,4 +12,4 @@ mod tests;
 
 pub use laws::one_output;
 pub use running::{RunFault, run};
-pub use script_judging::Summary;
+pub use script_judging::{Answer, Larger, Summary, carry_out, judge};

@@ -3,6 +3,6 @@
 mod judging;
 mod larger;
 
-pub use judging::Summary;
-pub(crate) use judging::{Answer, complains, judge};
-pub(crate) use larger::{Larger, carry_out};
+pub(crate) use judging::complains;
+pub use judging::{Answer, Summary, judge};
+pub use larger::{Larger, carry_out};

@@ -18,6 +18,7 @@ use undo_journal::{Failure, Session};
 pub enum Answer {
     /// A blank line or a comment has no reply.
     Silent,
+    /// One line.
     Reply(Reply),
     /// The listing of the model held.
     Listing,
@@ -205,7 +206,7 @@ fn judge_command(session: &mut Session, line: &[u8], later: &mut Option<Larger>)
 
 /// Judges a line: its answer, or none where it spells a larger command, which is put in `later`. A blank line, a comment or an operator
 /// is answered without a command, which has room for a lamina's points and so costs more to make than most lines to answer.
-pub(crate) fn judge(
+pub fn judge(
     session: &mut Session,
     line: &[u8],
     later: &mut Option<Larger>,

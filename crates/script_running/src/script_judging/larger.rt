@@ -101,8 +101,8 @@ fn split_by(
     make_split(alloc, session, solid, a, b, c, d, above)
 }
 
-/// Carries a larger command out.
-pub(crate) fn carry_out(alloc: Global, session: Session, larger: Larger) -> (Session, Answer)
+/// Carries a larger command out: gives the session back with its answer. Where the answer is not `ok`, the session is as it was.
+pub fn carry_out(alloc: Global, session: Session, larger: Larger) -> (Session, Answer)
     ensures { Obeys session (spelled larger) result.1 result.0 }
 {
     match larger {

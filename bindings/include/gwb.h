@@ -1,0 +1,147 @@
+/* The Geometric WorkBench in process: a boundary-representation solid modeller with unlimited undo.
+ *
+ * Link libgwb_c.a and three functions for the heap (see BUILD.md).
+ *
+ * What a caller owes, which nothing checks:
+ * - A `gwb` begins as {0}. Never read, write or copy its fields: two copies would free one session twice.
+ * - One call at a time for each handle, and all calls for one handle from the thread that opened it. Two handles share nothing.
+ * - No pointer is null, not even that of a line of no bytes or of a buffer without room, and each is aligned for its type.
+ * - What a call writes to does not overlap the handle, nor another argument of that call.
+ * - `n` bytes can be read at `line`, and `room` items be written at `buf`.
+ * - No call from a signal handler, nor from the forked child of a process with threads.
+ *
+ * A closed handle is one before `gwb_open` or behind `gwb_close`. A call for a closed handle changes nothing and writes nothing. */
+#ifndef GWB_H
+#define GWB_H
+#include <stdbool.h>
+#include <stddef.h>
+#include <stdint.h>
+#ifdef __cplusplus
+extern "C" {
+#endif
+
+typedef struct gwb {
+    bool is_open;
+    void *held;
+} gwb;
+
+/* The kind of an answer. */
+enum gwb_kind {
+    GWB_SILENT = 0,  /* a blank line or a comment */
+    GWB_OK = 1,      /* the command was accepted */
+    GWB_REFUSED = 2, /* a condition is false; the model is as it was */
+    GWB_FAULT = 3,   /* the line is no command; the model is as it was */
+    GWB_MEMORY = 4,  /* memory was refused; the model is as it was */
+    GWB_PLANE = 5,   /* the plane of a face */
+    GWB_VOLUME = 6,  /* six times the volume of a solid */
+    GWB_COUNT = 7,   /* the counts of a solid */
+    GWB_LISTING = 8, /* the listing of the model */
+    GWB_CLOSED = 9   /* the handle is closed */
+};
+
+/* What a reader says: GWB_FOUND and the value is written, or GWB_ABSENT or GWB_CLOSED (9) and nothing is written. */
+enum gwb_found { GWB_ABSENT = 0, GWB_FOUND = 1 };
+
+/* The kinds of what has a number. */
+enum gwb_entity { GWB_SOLID = 0, GWB_FACE = 1, GWB_LOOP = 2, GWB_EDGE = 3, GWB_VERTEX = 4 };
+
+/* Sessions and lines, as text. */
+
+/* Opens a session that holds the empty model; its last answer is GWB_SILENT. The handle must be closed. False where memory is
+ * refused: the handle is still closed. */
+bool gwb_open(gwb *g);
+
+/* Frees the session, if there is one: the handle is closed. */
+void gwb_close(gwb *g);
+
+/* Answers one line of a script, without its newline, keeps the answer and says its kind. A line of more than 65,536 bytes is a
+ * fault. */
+uint32_t gwb_line(gwb *g, const uint8_t *line, size_t n);
+
+/* The text of the last answer, its newline included, as the program writes it: writes as much as there is room for, and returns the
+ * whole length. SIZE_MAX where memory is refused, or the handle is closed; then nothing is written. It can be asked again. A listing
+ * is that of the model held now. */
+size_t gwb_reply(gwb *g, uint8_t *buf, size_t room);
+
+/* How many commands can be undone, and how many redone. SIZE_MAX where the handle is closed. */
+size_t gwb_depth(gwb *g);
+size_t gwb_ahead(gwb *g);
+
+/* The last answer, as values. GWB_ABSENT where the last answer is of another kind. */
+
+typedef struct gwb_refusal {
+    uint32_t number; /* of the condition that is false */
+    uint32_t value;  /* that goes with it */
+} gwb_refusal;
+
+/* The plane a x + b y + c z + d = 0, each coefficient in two halves: high * 2^64 + low. */
+typedef struct gwb_wide {
+    int64_t high;
+    uint64_t low;
+} gwb_wide;
+
+typedef struct gwb_plane {
+    gwb_wide a, b, c, d;
+    bool flat; /* whether each vertex of the face lies in it */
+} gwb_plane;
+
+typedef struct gwb_counts {
+    int64_t vertices, edges, faces, rings;
+    int64_t sum; /* vertices - edges + faces - rings */
+} gwb_counts;
+
+uint32_t gwb_last_refusal(gwb *g, gwb_refusal *refusal);
+uint32_t gwb_last_fault(gwb *g, uint32_t *number);
+uint32_t gwb_last_plane(gwb *g, gwb_plane *plane);
+uint32_t gwb_last_volume(gwb *g, gwb_wide *six_volumes);
+uint32_t gwb_last_counts(gwb *g, gwb_counts *counts);
+
+/* The model held, read without text. */
+
+/* The least number of a kind in use above n: from 0 on, all numbers in use, rising. GWB_ABSENT also for an unknown kind. */
+uint32_t gwb_number_after(gwb *g, uint32_t entity, uint32_t n, uint32_t *number);
+
+typedef struct gwb_face_row {
+    uint32_t solid;
+    uint32_t outer_loop;
+} gwb_face_row;
+
+uint32_t gwb_face(gwb *g, uint32_t face, gwb_face_row *row);
+
+/* The least ring of a face above n. GWB_ABSENT also where the face is not there. */
+uint32_t gwb_ring_after(gwb *g, uint32_t face, uint32_t n, uint32_t *ring);
+
+/* The least face of a solid above n. */
+uint32_t gwb_face_after(gwb *g, uint32_t solid, uint32_t n, uint32_t *face);
+
+/* The face of a loop. */
+uint32_t gwb_loop(gwb *g, uint32_t loop, uint32_t *face);
+
+/* The vertex of a loop that has one and no edge. GWB_ABSENT also where the loop has edges. */
+uint32_t gwb_lone_vertex(gwb *g, uint32_t loop, uint32_t *vertex);
+
+/* A half-edge is its edge's number times 2, and 1 more for the edge's second. */
+
+/* A half-edge of a loop. GWB_ABSENT also where the loop has none. */
+uint32_t gwb_first_half_edge(gwb *g, uint32_t loop, uint32_t *half_edge);
+
+/* The half-edge after another in its loop. GWB_ABSENT where its edge is not there. */
+uint32_t gwb_next_half_edge(gwb *g, uint32_t half_edge, uint32_t *next);
+
+typedef struct gwb_edge_row {
+    uint32_t from; /* the vertex at which the first half-edge starts */
+    uint32_t to;   /* the vertex at which the second one starts */
+} gwb_edge_row;
+
+uint32_t gwb_edge(gwb *g, uint32_t edge, gwb_edge_row *row);
+
+typedef struct gwb_point {
+    int64_t x, y, z;
+} gwb_point;
+
+uint32_t gwb_vertex(gwb *g, uint32_t vertex, gwb_point *point);
+
+#ifdef __cplusplus
+}
+#endif
+#endif
