@@ -58,7 +58,7 @@ def main():
         why = 'the program wrote more'
         print(why)
     session.close()
-    print('%d compared, %d wrong' % (count, 1 if why else 0))
+    print('%d lines compared' % count)
     return 1 if why else 0
 
 

@@ -90,7 +90,8 @@ def main():
             count += 1
             if complaints:
                 wrong += 1
-                print('%s, request %d: %s' % (name, request, '; '.join(complaints)))
+                if wrong <= 10:
+                    print('%s, request %d: %s' % (name, request, '; '.join(complaints)[:500]))
     print('%d compared, %d wrong' % (count, wrong))
     return 1 if wrong or not count else 0
 
