@@ -105,6 +105,14 @@ def is_answered(line: bytes) -> bool:
     return bool(words) and not words.startswith(b'#')
 
 
+def command_bytes(line: str) -> bytes:
+    """The bytes of one line that gwb answers."""
+    data = line.encode('utf-8', 'surrogateescape')
+    if b'\n' in data or not is_answered(data):
+        raise ValueError(f'not one line that gwb answers: {line!r}')
+    return data
+
+
 def first_word(line: bytes) -> str:
     """The first word of a line, which is the command where it is one."""
     words = line.replace(b'\t', b' ').replace(b'\r', b' ').split(b' ')

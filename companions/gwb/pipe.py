@@ -4,11 +4,11 @@ import os
 import shutil
 import subprocess
 from pathlib import Path
-from typing import List, Optional
+from typing import List
 
-from .errors import CompanionError, NotReplies
-from .language import is_answered
-from .replies import Reply, group_lines, is_listed
+from .errors import CompanionError
+from .language import command_bytes
+from .replies import Reply, is_listed, only_reply
 
 _AFTER_LISTING = 'count 1'
 
@@ -33,20 +33,17 @@ def find_program() -> str:
 class Pipe:
     """The program, started, and what it says."""
 
-    def __init__(self, program: Optional[str] = None) -> None:
+    def __init__(self, program: str) -> None:
         try:
-            self._process = subprocess.Popen([program or find_program()], stdin=subprocess.PIPE,
+            self._process = subprocess.Popen([program], stdin=subprocess.PIPE,
                                              stdout=subprocess.PIPE, stderr=subprocess.PIPE)
         except OSError as error:
             raise ProgramMissing(f'{error.filename}: {error.strerror}') from None
 
     def ask(self, line: str) -> Reply:
         """The reply to one line that is a command, or a fault."""
-        data = line.encode('utf-8', 'surrogateescape')
-        if b'\n' in data or not is_answered(data):
-            raise ValueError(f'not one line that gwb answers: {line!r}')
-        self._send(data)
-        return self._listing() if line.split() == ['list'] else self._one_line(self._receive())
+        self._send(command_bytes(line))
+        return self._listing() if line.split() == ['list'] else only_reply([self._receive()])
 
     def close(self) -> int:
         """Ends the program; its status."""
@@ -75,17 +72,7 @@ class Pipe:
         lines: List[str] = [self._receive()]
         while is_listed(lines[-1]) or len(lines) == 1:
             lines.append(self._receive())
-        return self._only(lines[:-1])
-
-    def _one_line(self, line: str) -> Reply:
-        return self._only([line])
-
-    @staticmethod
-    def _only(lines: List[str]) -> Reply:
-        replies = group_lines(lines)
-        if len(replies) != 1:
-            raise NotReplies(f'not one reply: {lines}')
-        return replies[0]
+        return only_reply(lines[:-1])
 
     def _ended(self) -> Ended:
         """The error that says how the program ended."""

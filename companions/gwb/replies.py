@@ -79,6 +79,14 @@ def group_lines(lines: List[str]) -> List[Reply]:
     return [Reply(tuple(reply)) for reply in replies]
 
 
+def only_reply(lines: List[str]) -> Reply:
+    """The one reply that the lines are."""
+    replies = group_lines(lines)
+    if len(replies) != 1:
+        raise NotReplies(f'not one reply: {lines}')
+    return replies[0]
+
+
 def shortened(line: str, limit: int = 60) -> str:
     """The line, or its beginning where it is long."""
     return line if len(line) <= limit else line[:limit - 2] + '..'

@@ -10,12 +10,13 @@
 Numbers of new things may be given, by name, as the script language does; where one isn't, the workbench takes a free one.
 """
 
-from typing import Collection, Dict, Optional, Sequence, Tuple
+from typing import Collection, Dict, Optional, Sequence, Tuple, Union
 
 from .complaints import complaint
+from .library import Library
 from .listing import model_of
 from .model import Model
-from .pipe import Pipe
+from .pipe import Pipe, find_program
 from .replies import Reply
 from .results import Block, Corner, Count, Lamina, Lone, NewEdge, NewFace, NewSolid, Numbers, Plane, Split, Sweep
 from .vectors import Vector, dot
@@ -27,8 +28,12 @@ class Workbench:
     """A running gwb. Each command is a method; one that isn't accepted raises Refused, Faulted or MemoryRefused."""
 
     def __init__(self, program: Optional[str] = None) -> None:
-        """Starts the program at the path, or the one that the environment variable GWB, the repository or the path has."""
-        self._pipe = Pipe(program)
+        """Starts the program at the path, or the one that the environment variable GWB, the repository or the path has.
+
+        Where that is a shared object, `libgwb.so`, it is loaded in place of it.
+        """
+        path = program or find_program()
+        self._lines: Union[Library, Pipe] = Library(path) if path.endswith('.so') else Pipe(path)
         self._greatest = dict.fromkeys(_KINDS, 0)
         self._asked = False
         self._held: Optional[Model] = None
@@ -41,12 +46,12 @@ class Workbench:
 
     def close(self) -> int:
         """Ends the program; its status."""
-        return self._pipe.close()
+        return self._lines.close()
 
     def ask(self, line: str) -> Reply:
         """The reply to one line of the script language, whatever it is."""
         self._held, self._asked = None, True
-        return self._pipe.ask(line)
+        return self._lines.ask(line)
 
     def listing(self) -> Model:
         """The model held."""
@@ -202,7 +207,7 @@ class Workbench:
     def _do(self, *words: object) -> Reply:
         """The reply to the command of these words; a complaint is raised."""
         line = ' '.join(map(str, words))
-        reply = self._pipe.ask(line)
+        reply = self._lines.ask(line)
         if reply.is_complaint:
             raise complaint(line, reply)
         if reply.word == 'ok':

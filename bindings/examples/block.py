@@ -1,0 +1,31 @@
+#!/usr/bin/env python3
+"""A block is made, cut in two and put back. It runs over the library and over the program alike.
+
+    bindings/examples/block.py bindings/out/libgwb.so
+    bindings/examples/block.py crates/gwb/out/gwb
+"""
+import sys
+from pathlib import Path
+
+sys.path.insert(0, str(Path(__file__).resolve().parents[2] / 'companions'))
+from gwb import Refused, Workbench  # noqa: E402
+
+
+def main():
+    with Workbench(sys.argv[1]) as bench:
+        block = bench.block((0, 0, 0), (4, 4, 4))
+        print(block)
+        parts = bench.split(block.solid, (0, 0, 1, -2))
+        print(parts)
+        print(bench.volume(block.solid), bench.volume(parts.solid))
+        try:
+            bench.kvfs(parts.solid)
+        except Refused as refused:
+            print(refused.name, refused.value)
+        bench.undo()
+        print(bench.volume(block.solid), bench.count(block.solid))
+        print(len(bench.listing().faces), 'faces')
+
+
+if __name__ == '__main__':
+    main()

@@ -1,0 +1,117 @@
+#!/bin/sh
+# Tries the kernel as a library: builds the shared object and the examples in bindings/, compares what they print, looks for leaks, refuses each
+# allocation in turn, and compares the answers to 100,000 random lines with the program's. The last line counts.
+#
+#   tests/library.sh [ARCHIVE [PROGRAM]]
+#
+# ARCHIVE is crates/gwb_c/out/libgwb_c.a where none is given, which is built then (`rt lib`: it proves what isn't proved yet); PROGRAM is
+# crates/gwb/out/gwb. Needs cc, c++ and python3; what needs rustc, valgrind or the program is left out where they aren't there, and says so.
+cd "$(dirname "$0")/.." || exit 2
+archive=$(realpath -m "${1:-crates/gwb_c/out/libgwb_c.a}")
+program=$(realpath -m "${2:-crates/gwb/out/gwb}")
+dir=$(mktemp -d)
+trap 'rm -rf "$dir"' EXIT
+passed=0
+failed=0
+
+# tried NAME COMMAND..: runs a command that has to succeed
+tried() {
+    name=$1
+    shift
+    "$@" > "$dir/log" 2>&1
+    status=$?
+    if [ "$status" = 0 ]; then
+        passed=$((passed + 1))
+    else
+        failed=$((failed + 1))
+        echo "$name: status $status"
+        tail -n 12 "$dir/log" | cut -c 1-400
+    fi
+}
+
+# counted NAME COMMAND..: runs a command whose last line is 'N compared, M wrong' or 'N passed, M failed'
+counted() {
+    name=$1
+    shift
+    "$@" > "$dir/log" 2>&1
+    status=$?
+    read -r well first bad second <<END
+$(tail -n 1 "$dir/log")
+END
+    case "$first $second" in
+    'compared, wrong') well=$((well - bad)) ;;
+    'passed, failed') ;;
+    *) well=0 bad=1 ;;
+    esac
+    [ "$status" = 0 ] || [ "$bad" != 0 ] || bad=1
+    if [ "$bad" != 0 ]; then
+        echo "$name: status $status"
+        tail -n 12 "$dir/log" | cut -c 1-400
+    fi
+    echo "$name: $well passed, $bad failed"
+    passed=$((passed + well))
+    failed=$((failed + bad))
+}
+
+# prints NAME EXPECTED COMMAND..: runs a command that has to print what the file says
+prints() {
+    name=$1
+    expected=$2
+    shift 2
+    "$@" > "$dir/out" 2> "$dir/err" && cmp "$expected" "$dir/out" >> "$dir/err" 2>&1 && [ ! -s "$dir/err" ]
+    if [ $? = 0 ]; then
+        passed=$((passed + 1))
+    else
+        failed=$((failed + 1))
+        echo "$name:"
+        diff "$expected" "$dir/out" | head -n 5
+        head -n 5 "$dir/err"
+    fi
+}
+
+began=$(date +%s)
+if [ $# = 0 ]; then
+    (cd crates/gwb_c && rt lib) || exit 1
+    echo "the archive took $(($(date +%s) - began)) seconds"
+fi
+if [ ! -f "$archive" ]; then
+    echo "there is no archive $archive"
+    echo '0 passed, 1 failed'
+    exit 1
+fi
+
+make_here() {
+    make -C bindings "ARCHIVE=$archive" "OUT=$dir/built" "$@"
+}
+began=$(date +%s)
+tried 'the shared object and the examples in C and C++' make_here
+echo "the shared object and two examples took $(($(date +%s) - began)) seconds"
+prints 'the example in C' bindings/examples/block_c.expected "$dir/built/block_c"
+prints 'the example in C++' bindings/examples/block_cpp.expected "$dir/built/block_cpp"
+prints 'the example in Python' bindings/examples/block_python.expected bindings/examples/block.py "$dir/built/libgwb.so"
+if command -v rustc > /dev/null; then
+    tried 'the example in Rust is built' make_here rust
+    prints 'the example in Rust' bindings/examples/block_rust.expected "$dir/built/block_rust"
+else
+    echo 'not tried: the example in Rust, since there is no rustc'
+fi
+if command -v valgrind > /dev/null; then
+    tried 'valgrind over the example in C' valgrind -q --error-exitcode=9 --leak-check=full --show-leak-kinds=all "$dir/built/block_c"
+else
+    echo 'not tried: the example in C under valgrind, which is not there'
+fi
+
+tried 'models by readers' python3 tests/library_readers.py "$dir/built/libgwb.so"
+tried 'the names of the conditions' python3 tests/library_names.py
+tried 'the library over a heap that refuses' cc -O2 -shared -fPIC -o "$dir/built/counting.so" bindings/heap.c tests/counting_heap.c \
+    -Wl,--whole-archive "$archive" -Wl,--no-whole-archive -Wl,--wrap=malloc,--wrap=realloc,--wrap=free
+counted 'each allocation refused' python3 tests/library_refusals.py "$dir/built/counting.so"
+if [ -x "$program" ]; then
+    tried '100,000 random lines' python3 tests/library_lines.py "$dir/built/libgwb.so" "$program"
+    prints 'the example in Python over the program' bindings/examples/block_python.expected bindings/examples/block.py "$program"
+else
+    echo "not tried: random lines against the program, since there is no $program"
+fi
+counted 'the session in Python over the library' env "GWB=$dir/built/libgwb.so" python3 tests/library_companions.py
+echo "$passed passed, $failed failed"
+[ "$failed" = 0 ]

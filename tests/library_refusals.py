@@ -1,0 +1,100 @@
+#!/usr/bin/env python3
+"""Refuses each allocation of the library in turn.
+
+    tests/library_refusals.py LIBRARY       a shared object that was linked over counting_heap.c
+
+Each script of refused_growths.py is run in a session as often as it asks for memory, each time with another request refused. After
+`memory` depths are as before, and the line given again has its answer; a text that was refused is given when it is asked for again; a
+session that could not be opened opens when it is tried again; and when it is closed no block is held.
+"""
+import ctypes
+import sys
+
+from library_session import MEMORY, Session, loaded
+from refused_growths import SCRIPTS
+
+
+class Heap:
+    """The counters of the heap below the library."""
+
+    def __init__(self, library):
+        self.refused, self.requests, self.held = (
+            ctypes.c_long.in_dll(library, name) for name in ('refused_request', 'requests', 'held_blocks'))
+
+    def refuse(self, request):
+        """Refuses the request with this number from here on; 0 refuses none."""
+        self.requests.value, self.refused.value = 0, request
+
+
+def answered(session, line):
+    """The kind and text of the answer, and the depths after it."""
+    kind = session.line(line)
+    return kind, session.text(), session.depths()
+
+
+def given(session, line, wanted, complaints):
+    """Gives the line, again where memory was refused, and compares with what is wanted."""
+    before = session.depths()
+    kind = session.line(line)
+    if kind == MEMORY:
+        if session.depths() != before or session.text() != b'memory\n':
+            complaints.append('%r: depths %r after memory, not %r' % (line, session.depths(), before))
+        kind = session.line(line)
+    text = session.text()
+    got = kind, session.text() if text is None else text, session.depths()
+    if got != wanted:
+        complaints.append('%r: %r, not %r' % (line, got, wanted))
+    return kind
+
+
+def run(library, heap, lines, wanted, request):
+    """What is wrong with a run in which this request for memory is refused."""
+    complaints = []
+    session = Session(library)
+    heap.refuse(request)
+    if not session.open():
+        if heap.held.value != 0 or not session.open():
+            complaints.append('no session after one was refused')
+    for line, answer in zip(lines, wanted):
+        given(session, line, answer, complaints)
+    if heap.requests.value < request:
+        complaints.append('only %d requests' % heap.requests.value)
+    heap.refuse(0)
+    session.close()
+    if heap.held.value != 0:
+        complaints.append('%d blocks are held after the session is closed' % heap.held.value)
+    return complaints
+
+
+def whole(library, heap, lines):
+    """The answers of a run in which nothing is refused, and how often it asks for memory."""
+    session = Session(library)
+    heap.refuse(0)
+    if not session.open():
+        sys.exit('no session')
+    wanted = [answered(session, line) for line in lines]
+    requests = heap.requests.value
+    session.close()
+    return wanted, requests
+
+
+def main():
+    library = loaded(sys.argv[1])
+    heap = Heap(library)
+    count = wrong = 0
+    for name, script in SCRIPTS.items():
+        lines = [line.encode() for line in script.split(';')]
+        wanted, requests = whole(library, heap, lines)
+        for request in range(1, requests + 1):
+            complaints = run(library, heap, lines, wanted, request)
+            count += 1
+            if complaints:
+                wrong += 1
+                if wrong <= 10:
+                    print('%s, request %d: %s' % (name, request, '; '.join(complaints)[:500]))
+    print('%d compared, %d wrong' % (count, wrong))
+    return 1 if wrong or not count else 0
+
+
+if __name__ == '__main__':
+    sys.exit(main())
