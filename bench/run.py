@@ -4,14 +4,13 @@ tells the processor time of a line, the peak of memory, and the ratio of both.
 
     bench/run.py [--program PROGRAM] [--sizes 10000,100000,1000000] [--only FAMILY,FAMILY] [--seconds S] [--times N] [--markdown]
 
-The time is the best of up to N runs (7), user and system together, less the best time for the lines that come before those measured
+The time is the best of N runs (7; fewer of those that take long), user and system together, less the best time for the lines that come before those measured
 (the start of the program, where there are none). A run past S seconds (20) is given up, and so are larger scripts of its family.
 """
 import argparse
 import filecmp
 import math
 import os
-import resource
 import subprocess
 import tempfile
 
@@ -31,15 +30,13 @@ def run_once(program, script, out, limit):
     script.seek(0)
     out.seek(0)
     out.truncate()
-    child = subprocess.Popen([program], stdin=script, stdout=out, stderr=subprocess.DEVNULL)
-    resource.prlimit(child.pid, resource.RLIMIT_CPU, (limit, limit + 1))
-    _, status, used = os.wait4(child.pid, 0)
-    child.returncode = os.waitstatus_to_exitcode(status)
-    if child.returncode < 0:
+    done = subprocess.run([os.path.join(HERE, 'timed'), str(limit), program], stdin=script, stdout=out, stderr=subprocess.PIPE, check=True)
+    status, microseconds, kibibytes = map(int, done.stderr.split())
+    if status < 0:
         raise TooSlow
-    if child.returncode > 1:
-        raise SystemExit('%s ended with status %d' % (program, child.returncode))
-    return used.ru_utime + used.ru_stime, used.ru_maxrss / 1024
+    if status > 1:
+        raise SystemExit('%s ended with status %d' % (program, status))
+    return microseconds / 1e6, kibibytes / 1024
 
 
 class Bench:
@@ -82,10 +79,10 @@ class Bench:
 
     def measure(self, family, size):
         """Of each program (seconds a line, MiB), or None where it takes too long."""
-        before = scripts.script(family.before(size))
+        before = scripts.script(family.before(size)) if family.before else b''
         lines = scripts.script(family.lines(size))
         whole = self.best(before + lines, self.programs)
-        rest = self.best(before, self.programs) if before else self.start()
+        rest = self.best(before, self.programs) if before else self.start() if family.before else [(0, 0)] * len(whole)
         count = lines.count(b'\n')
         return [w and r and (max(w[0] - r[0], 0) / count, w[1]) for w, r in zip(whole, rest)]
 
@@ -134,31 +131,40 @@ def options():
     return ap.parse_args()
 
 
-def main():
-    a = options()
-    subprocess.run(['make', '-s', '-C', os.path.join(HERE, 'plain')], check=True)
-    bench = Bench((a.program, os.path.join(HERE, 'plain', 'plain')), a.seconds, a.times)
-    names = a.only.split(',') if a.only else list(scripts.FAMILIES)
-    ratios = {int(size): [] for size in a.sizes.split(',')}
+def measure_kind(bench, names, sizes, a):
+    """A row for each family and size; the geometric mean of the ratios of each size at the end, except of families that may grow."""
+    ratios = {size: [] for size in sizes}
     show(HEAD, a.markdown)
     if a.markdown:
         show(['---'] * len(HEAD), True)
     for name in names:
         family = scripts.FAMILIES[name]
-        for size in ratios:
+        for size in sizes:
             if size > family.most:
                 continue
             got = bench.measure(family, size)
             cells, ratio = table_row(name, size, got, a.seconds)
             show(cells, a.markdown)
-            if ratio:
+            if ratio and not family.may_grow:
                 ratios[size].append(ratio)
             if None in got or name == 'first_use':
                 break
-    for size, list_of in ratios.items():
-        if list_of:
-            mean = math.exp(sum(map(math.log, list_of)) / len(list_of))
-            show(['mean', '{:,}'.format(size), '', '', '%.1f' % mean, '', ''], a.markdown)
+    for size, found in ratios.items():
+        if found:
+            show(['(mean)', '{:,}'.format(size), '', '', '%.1f' % math.exp(sum(map(math.log, found)) / len(found)), '', ''], a.markdown)
+    print()
+
+
+def main():
+    a = options()
+    subprocess.run(['make', '-s', '-C', HERE], check=True)
+    bench = Bench((a.program, os.path.join(HERE, 'plain', 'plain')), a.seconds, a.times)
+    names = a.only.split(',') if a.only else list(scripts.FAMILIES)
+    sizes = [int(size) for size in a.sizes.split(',')]
+    for may_grow in (False, True):
+        chosen = [name for name in names if scripts.FAMILIES[name].may_grow == may_grow]
+        if chosen:
+            measure_kind(bench, chosen, sizes, a)
 
 
 if __name__ == '__main__':

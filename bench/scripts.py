@@ -1,7 +1,9 @@
 #!/usr/bin/env python3
 """Families of scripts that run.py measures: scripts.py FAMILY SIZE prints one of them, scripts.py alone tells what there is.
 
-A family gives the lines that are measured and, where the model has to be made first, the lines that come before them.
+A family gives the lines that are measured and, where the model has to be made first, the lines that come before them (None where the
+start of the program is measured too). Families of the
+second kind are those of which the cost may grow faster than their size.
 """
 import collections
 import random
@@ -9,7 +11,7 @@ import sys
 
 TOP = 1000000           # the greatest number of a kind
 
-Family = collections.namedtuple('Family', 'what lines before most')
+Family = collections.namedtuple('Family', 'what lines before most may_grow')
 FAMILIES = {}
 
 
@@ -17,12 +19,16 @@ def nothing(n):
     return ()
 
 
-def family(name, what, before=nothing, most=TOP):
+def family(name, what, before=nothing, most=TOP, may_grow=False):
     """Puts a family in the table; sizes past `most` don't fit the numbers of a model."""
     def put(lines):
-        FAMILIES[name] = Family(what, lines, before, most)
+        FAMILIES[name] = Family(what, lines, before, most, may_grow)
         return lines
     return put
+
+
+def may_grow(name, what, before=nothing, most=TOP):
+    return family(name, what, before, most, True)
 
 
 def script(lines):
@@ -102,6 +108,14 @@ def block_made(i):
 BLOCK_UNMADE = ['kef +12', 'kef +11', 'kev +10', 'kef +9', 'kev +8', 'kef +7', 'kev +6', 'kev +5', 'kef +4', 'kev +3', 'kev +2', 'kev +1', 'kvfs 1']
 
 
+def edge_alone(n):
+    return ['mvfs 1 1 1 1 0 0 0', 'mev @1 @1 1 2 1 0 0']
+
+
+def block_alone(n):
+    return ['block 1 0 0 0 4 4 4']
+
+
 def in_turn(lines, n):
     """The first n of these lines over and over."""
     return (lines[k % len(lines)] for k in range(n))
@@ -170,7 +184,7 @@ def undo_redo(n):
     return in_turn(['undo', 'redo'], n)
 
 
-@family('listed', '`list` of one block', before=lambda n: ['block 1 0 0 0 4 4 4'])
+@family('listed', '`list` of one block', before=block_alone)
 def listed(n):
     return in_turn(['list'], n)
 
@@ -180,7 +194,7 @@ def glued(n):
     return in_turn(['block 1 0 0 0 4 4 4', 'block 2 0 0 4 4 4 4', 'glue 1 8', 'undo', 'undo', 'undo'], n)
 
 
-@family('halved', '`split` of a block and `undo` in turn', before=lambda n: ['block 1 0 0 0 4 4 4'])
+@family('halved', '`split` of a block and `undo` in turn', before=block_alone)
 def halved(n):
     return in_turn(['split 1 1 0 0 -2 2', 'undo'], n)
 
@@ -217,36 +231,31 @@ def prism_split(n):
     return ['split 1 0 0 1 -1 2', 'undo'] * 4
 
 
-@family('comb', 'a comb of so many teeth split through all of them, and `undo`', before=lambda n: prism(comb_polygon(n)), most=30000)
-def comb_split(n):
-    return ['split 1 0 1 0 -4 2', 'undo'] * 4
-
-
 # ---- what may cost more than its size
 
-@family('top_solid', 'solid 1,000,000 made and killed in turn')
+@may_grow('top_solid', 'solid 1,000,000 made and killed in turn')
 def top_solid(n):
     return in_turn(['mvfs 1000000 1 1 1 0 0 0', 'kvfs 1000000'], n)
 
 
-@family('top_undone', 'solid 1,000,000 undone and redone in turn', before=lambda n: ['mvfs 1000000 1 1 1 0 0 0'])
+@may_grow('top_undone', 'solid 1,000,000 undone and redone in turn', before=lambda n: ['mvfs 1000000 1 1 1 0 0 0'])
 def top_undone(n):
     return in_turn(['undo', 'redo'], n)
 
 
-@family('top_edge', 'edge 1,000,000 made and killed in turn', before=lambda n: ['mvfs 1 1 1 1 0 0 0', 'mev @1 @1 1 2 1 0 0'])
+@may_grow('top_edge', 'edge 1,000,000 made and killed in turn', before=edge_alone)
 def top_edge(n):
     return in_turn(['mev +1 +1 1000000 1000000 2 0 0', 'kev +1000000'], n)
 
 
-@family('rising', 'solids made and killed in turn under rising numbers')
+@may_grow('rising', 'solids made and killed in turn under rising numbers')
 def rising(n):
     for k in range(n):
         i = k // 2 + 1
         yield 'kvfs %d' % i if k % 2 else 'mvfs %d %d %d %d 0 0 0' % (i, i, i, i)
 
 
-@family('rings', 'rings cut off one by one: `mev` and `kemr` in turn', before=lambda n: ['mvfs 1 1 1 1 0 0 0', 'mev @1 @1 1 2 1 0 0'])
+@may_grow('rings', 'rings cut off one by one: `mev` and `kemr` in turn', before=edge_alone)
 def rings(n):
     for k in range(n):
         i = k // 2 + 2
@@ -255,15 +264,15 @@ def rings(n):
 
 def far_numbers(n):
     f = 999900
-    return ['mvfs 1 1 1 1 0 0 0', 'mev @1 @1 1 2 1 0 0', 'mvfs %d %d %d %d 5 0 0' % (f, f, f, f), 'mev @%d @%d %d %d 6 0 0' % (f, f, f, f + 1)]
+    return edge_alone(n) + ['mvfs %d %d %d %d 5 0 0' % (f, f, f, f), 'mev @%d @%d %d %d 6 0 0' % (f, f, f, f + 1)]
 
 
-@family('far_numbers', 'numbers from 1 to 999,900 in one model: `list`, `block`, `undo`, `redo`, `undo` in turn', before=far_numbers)
+@may_grow('far_numbers', 'numbers from 1 to 999,900 in one model: `list`, `block`, `undo`, `redo`, `undo` in turn', before=far_numbers)
 def far_turns(n):
     return in_turn(['list', 'block 2 0 0 0 4 4 4', 'undo', 'redo', 'undo'], n)
 
 
-@family('hub_killed', 'a hub of half as many spokes, each of which is killed', before=lambda n: hub(n // 2))
+@may_grow('hub_killed', 'a hub of half as many spokes, each of which is killed', before=lambda n: hub(n // 2))
 def hub_killed(n):
     return ('kev +%d' % k for k in range(2, n // 2 + 1))
 
@@ -273,21 +282,21 @@ def permuted_fan(n, faces):
     yield from fan(n // 2 - 1, faces)
 
 
-@family('faces_random', 'as fan, with the numbers of the faces in random order')
+@may_grow('faces_random', 'as fan, with the numbers of the faces in random order')
 def faces_random(n):
     faces = list(range(2, n // 2 - 2))
     random.Random(1).shuffle(faces)
     return permuted_fan(n, faces)
 
 
-@family('faces_outward', 'as fan, with the numbers of the faces from the middle outwards')
+@may_grow('faces_outward', 'as fan, with the numbers of the faces from the middle outwards')
 def faces_outward(n):
     middle, count = n // 4, n // 2 - 4
     faces = (middle + (-(k // 2) if k % 2 else k // 2 + 1) for k in range(count))
     return permuted_fan(n, faces)
 
 
-@family('fan_long', 'as fan, where the long part gets the new loop each time')
+@may_grow('fan_long', 'as fan, where the long part gets the new loop each time')
 def fan_long(n):
     edges = n // 2 - 1
     yield from path(row(n // 2))
@@ -297,7 +306,12 @@ def fan_long(n):
         last = '-%d' % (edges + 1 + k)
 
 
-@family('first_use', 'the first use of number 1,000,000 of each kind: one line')
+@may_grow('comb', 'a comb of so many teeth split through all of them, and `undo`', before=lambda n: prism(comb_polygon(n)), most=30000)
+def comb_split(n):
+    return ['split 1 0 1 0 -4 2', 'undo'] * 4
+
+
+@may_grow('first_use', 'the first use of number 1,000,000 of each kind: one line, with the start of the program', before=None)
 def first_use(n):
     return ['mvfs 1000000 1000000 1000000 1000000 0 0 0']
 
@@ -306,7 +320,7 @@ if __name__ == '__main__':
     if len(sys.argv) == 3:
         chosen = FAMILIES[sys.argv[1]]
         size = int(sys.argv[2])
-        sys.stdout.buffer.write(script(chosen.before(size)) + script(chosen.lines(size)))
+        sys.stdout.buffer.write(script(chosen.before(size) if chosen.before else []) + script(chosen.lines(size)))
     else:
         for name, row_of in FAMILIES.items():
             print('%-14s %s' % (name, row_of.what))

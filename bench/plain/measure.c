@@ -9,12 +9,10 @@ void add_cross(struct vector *n, const struct point *p, const struct point *q)
     n->z += (i64)p->x * q->y - (i64)p->y * q->x;
 }
 
-/* Adds the cross products of a loop and answers its least item, or LONE | vertex. */
-static u32 walk_loop(struct vector *n, u32 loop)
+/* Adds the cross products of a loop and answers its least item, or LONE | vertex. Once more for small coordinates, whose sums fit 64 bits. */
+static u32 walk_loop_wide(struct vector *n, u32 loop)
 {
     u32 first = loops[loop].content, h = first, least = first;
-    if (first & LONE)
-        return first;
     struct vector sum = *n;
     const struct point *p = point_of(h);
     do {
@@ -22,16 +20,35 @@ static u32 walk_loop(struct vector *n, u32 loop)
         const struct point *q = point_of(h);
         add_cross(&sum, p, q);
         p = q;
-        if (h < least)
-            least = h;
+        least = h < least ? h : least;
     } while (h != first);
     *n = sum;
     return least;
 }
 
-void add_normal(struct vector *n, u32 loop)
+static u32 walk_loop_small(struct vector *n, u32 loop)
 {
-    walk_loop(n, loop);
+    u32 first = loops[loop].content, h = first, least = first;
+    i64 x = 0, y = 0, z = 0;
+    const struct point *p = point_of(h);
+    do {
+        h = after(h);
+        const struct point *q = point_of(h);
+        x += (i64)p->y * q->z - (i64)p->z * q->y;
+        y += (i64)p->z * q->x - (i64)p->x * q->z;
+        z += (i64)p->x * q->y - (i64)p->y * q->x;
+        p = q;
+        least = h < least ? h : least;
+    } while (h != first);
+    *n = (struct vector){ n->x + x, n->y + y, n->z + z };
+    return least;
+}
+
+static u32 walk_loop(struct vector *n, u32 loop)
+{
+    if (is_lone(loop))
+        return loops[loop].content;
+    return any_wide_point ? walk_loop_wide(n, loop) : walk_loop_small(n, loop);
 }
 
 /* The normal of a face, and its anchor: the point at which the outer loop's listing starts. */

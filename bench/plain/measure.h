@@ -6,8 +6,7 @@
 
 struct vector { i128 x, y, z; };
 
-/* n + p x q for each half-edge of the loop, going from point p to q. */
-void add_normal(struct vector *n, u32 loop);
+/* n + p x q */
 void add_cross(struct vector *n, const struct point *p, const struct point *q);
 
 struct vector face_normal(u32 face);

@@ -11,6 +11,7 @@ struct face faces[NUMBER_LIMIT + 1];
 struct solid solids[NUMBER_LIMIT + 1];
 struct numbers in_use[KINDS];
 u32 label_loop[NUMBER_LIMIT + 2];
+bool any_wide_point;
 
 static u32 free_labels[NUMBER_LIMIT + 2], free_label_count, label_count;
 

@@ -39,6 +39,10 @@ extern struct solid solids[NUMBER_LIMIT + 1];
 extern struct numbers in_use[KINDS];
 extern u32 label_loop[NUMBER_LIMIT + 2];
 
+/* Whether some coordinate was ever past this limit. Up to it the cross products of all half-edges of a model add up in 64 bits. */
+#define SMALL_LIMIT 1000000
+extern bool any_wide_point;
+
 static inline bool has_solid(u32 n) { return solids[n].face_count != 0; }
 static inline bool has_face(u32 n) { return faces[n].solid != 0; }
 static inline bool has_loop(u32 n) { return loops[n].face != 0; }

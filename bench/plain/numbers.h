@@ -20,9 +20,12 @@ static inline uint64_t bit_of(uint32_t n)
 
 static inline void put_number(struct numbers *set, uint32_t n)
 {
-    set->low[n >> 6] |= bit_of(n);
-    set->middle[n >> 12] |= bit_of(n >> 6);
-    set->high[n >> 18] |= bit_of(n >> 12);
+    uint64_t before = set->low[n >> 6];
+    set->low[n >> 6] = before | bit_of(n);
+    if (before == 0) {
+        set->middle[n >> 12] |= bit_of(n >> 6);
+        set->high[n >> 18] |= bit_of(n >> 12);
+    }
 }
 
 static inline void take_number(struct numbers *set, uint32_t n)

@@ -220,8 +220,15 @@ struct refusal check(const struct step *s)
 
 /* ---- small effects */
 
+static bool is_small(i32 c)
+{
+    return -SMALL_LIMIT <= c && c <= SMALL_LIMIT;
+}
+
 static void make_vertex(u32 vertex, struct point point)
 {
+    if (!(is_small(point.x) && is_small(point.y) && is_small(point.z)))
+        any_wide_point = true;
     vertices[vertex] = (struct vertex){ point, 1 };
     put_number(&in_use[VERTEX], vertex);
 }
