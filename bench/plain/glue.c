@@ -4,16 +4,6 @@
 #include "measure.h"
 #include <stdlib.h>
 
-static int by_point(const void *a, const void *b)
-{
-    const struct point *p = a, *q = b;
-    if (p->x != q->x)
-        return p->x < q->x ? -1 : 1;
-    if (p->y != q->y)
-        return p->y < q->y ? -1 : 1;
-    return (p->z > q->z) - (p->z < q->z);
-}
-
 /* Whether two corners of the loop have equal points. */
 static bool has_repeated_point(u32 loop)
 {
@@ -26,7 +16,7 @@ static bool has_repeated_point(u32 loop)
         points[count++] = *point_of(h);
         h = after(h);
     } while (h != first);
-    qsort(points, count, sizeof *points, by_point);
+    qsort(points, count, sizeof *points, compare_points);
     for (size_t i = 1; i < count; i++)
         if (same_point(&points[i - 1], &points[i]))
             return true;

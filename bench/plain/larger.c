@@ -151,22 +151,13 @@ static struct refusal check_sweep_loop(u32 loop, const struct wide_point *by, u3
     ACCEPT;
 }
 
-static u32 least_lone_loop(u32 face)
-{
-    u32 least = 0;
-    for (u32 l = faces[face].outer; l; l = next_loop(face, l))
-        if (is_lone(l) && (!least || l < least))
-            least = l;
-    return least;
-}
-
 struct refusal sweep(u32 face, struct wide_point by)
 {
     if (!has_face(face))
         REFUSE(NO_FACE, face);
     if (by.x == 0 && by.y == 0 && by.z == 0)
         REFUSE(ZERO_SWEEP, face);
-    u32 lone = least_lone_loop(face), count = 0;
+    u32 lone = least_lone_loop(face, 0), count = 0;
     if (lone)
         REFUSE(LONE_LOOP, lone);
     const u32 *rings = sorted_rings(face);

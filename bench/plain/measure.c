@@ -114,9 +114,7 @@ bool is_flat(u32 face)
 void find_unfit(u32 solid, u32 *lone, u32 *bent)
 {
     for (u32 f = solids[solid].faces; f; f = faces[f].next) {
-        for (u32 l = faces[f].outer; l; l = next_loop(f, l))
-            if (is_lone(l) && (!*lone || l < *lone))
-                *lone = l;
+        *lone = least_lone_loop(f, *lone);
         if (!*lone && (!*bent || f < *bent) && !is_flat(f))
             *bent = f;
     }

@@ -164,6 +164,26 @@ u32 least_item(u32 loop)
     return least;
 }
 
+u32 least_lone_loop(u32 face, u32 lone)
+{
+    for (u32 l = faces[face].outer; l; l = next_loop(face, l))
+        if (is_lone(l) && (!lone || l < lone))
+            lone = l;
+    return lone;
+}
+
+static int compare_coordinates(i32 a, i32 b)
+{
+    return (a > b) - (a < b);
+}
+
+int compare_points(const void *a, const void *b)
+{
+    const struct point *p = a, *q = b;
+    int by_x = compare_coordinates(p->x, q->x), by_y = compare_coordinates(p->y, q->y);
+    return by_x ? by_x : by_y ? by_y : compare_coordinates(p->z, q->z);
+}
+
 static void insertion_sort(u32 *list, u32 count)
 {
     for (u32 i = 1; i < count; i++) {

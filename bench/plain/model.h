@@ -103,6 +103,12 @@ void hand_label(u32 from, u32 to);
 /* The least item of a loop that isn't lone: + before - of the same edge. */
 u32 least_item(u32 loop);
 
+/* The least lone loop of a face and `lone`, 0 for none. */
+u32 least_lone_loop(u32 face, u32 lone);
+
+/* The order by x, then y, then z of points, or of structures that begin with one; for qsort. */
+int compare_points(const void *a, const void *b);
+
 /* Sorts numbers or half-edges. */
 void sort_numbers(u32 *list, u32 count);
 

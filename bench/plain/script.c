@@ -275,8 +275,8 @@ static void answer_ringmv(struct words *w, const unsigned char *line)
     answer_operator(w, line, &step);
 }
 
-/* kvfs, kev, kef, kemr, kfmrh, mfkrh: one or two words. */
-static void answer_killer(struct words *w, const unsigned char *line, enum operator operator)
+/* The operators of one or two words. */
+static void answer_short(struct words *w, const unsigned char *line, enum operator operator)
 {
     struct step step = { .operator = operator };
     switch (operator) {
@@ -381,15 +381,15 @@ static void answer_command(struct words *w, const unsigned char *line)
 {
     switch (read_name(w)) {
     case NAME4('m', 'v', 'f', 's'): answer_mvfs(w, line); break;
-    case NAME4('k', 'v', 'f', 's'): answer_killer(w, line, KVFS); break;
+    case NAME4('k', 'v', 'f', 's'): answer_short(w, line, KVFS); break;
     case NAME3('m', 'e', 'v'): answer_mev(w, line); break;
-    case NAME3('k', 'e', 'v'): answer_killer(w, line, KEV); break;
+    case NAME3('k', 'e', 'v'): answer_short(w, line, KEV); break;
     case NAME3('m', 'e', 'f'): answer_mef(w, line); break;
-    case NAME3('k', 'e', 'f'): answer_killer(w, line, KEF); break;
-    case NAME4('k', 'e', 'm', 'r'): answer_killer(w, line, KEMR); break;
+    case NAME3('k', 'e', 'f'): answer_short(w, line, KEF); break;
+    case NAME4('k', 'e', 'm', 'r'): answer_short(w, line, KEMR); break;
     case NAME4('m', 'e', 'k', 'r'): answer_mekr(w, line); break;
-    case NAME5('k', 'f', 'm', 'r', 'h'): answer_killer(w, line, KFMRH); break;
-    case NAME5('m', 'f', 'k', 'r', 'h'): answer_killer(w, line, MFKRH); break;
+    case NAME5('k', 'f', 'm', 'r', 'h'): answer_short(w, line, KFMRH); break;
+    case NAME5('m', 'f', 'k', 'r', 'h'): answer_short(w, line, MFKRH); break;
     case NAME6('r', 'i', 'n', 'g', 'm', 'v'): answer_ringmv(w, line); break;
     case NAME6('l', 'a', 'm', 'i', 'n', 'a'): answer_lamina(w, line); break;
     case NAME5('b', 'l', 'o', 'c', 'k'): answer_block(w, line); break;

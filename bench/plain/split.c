@@ -18,7 +18,8 @@ struct place {
     bool up;
 };
 
-/* A straddling face, its places in the list of all places, and whether some loop of it has too few of them. */
+/* A straddling face and its places in the list of all places. It is cut too often where its outer loop has none, or a ring has none while
+ * there are more than two. */
 struct cut_face {
     u32 face;
     size_t from, count;
@@ -39,10 +40,10 @@ static struct place *places;
 static struct cut_face *cut_faces;
 static size_t edge_point_room, place_room, place_count, cut_face_room, cut_face_count;
 
-/* By number: the side of a vertex and of a face, the place of a cut edge in its list, the below half that leaves a vertex, and the number of
+/* By number: the side of a vertex and of a face, the index of a cut edge in its list, the below half that leaves a vertex, and the number of
  * cut edges there (3 stands for more than two). */
 static signed char vertex_side[NUMBER_LIMIT + 1], face_side[NUMBER_LIMIT + 1];
-static u32 edge_place[NUMBER_LIMIT + 1], leaving[NUMBER_LIMIT + 1];
+static u32 edge_index[NUMBER_LIMIT + 1], leaving[NUMBER_LIMIT + 1];
 static unsigned char degree[NUMBER_LIMIT + 1];
 
 static void push(struct list *list, u32 n)
@@ -159,7 +160,7 @@ static struct refusal find_cut_points(void)
     make_room(&edge_points, &edge_point_room, edge_list.count, sizeof *edge_points);
     for (size_t i = 0; i < edge_list.count; i++) {
         u32 edge = edge_list.at[i];
-        edge_place[edge] = i;
+        edge_index[edge] = i;
         if (!cut_point(edge, &edge_points[i]))
             REFUSE(NOT_LATTICE, edge);
     }
@@ -168,10 +169,10 @@ static struct refusal find_cut_points(void)
 
 /* ---- cut places */
 
-/* The new half-edge that step 1 draws from the start of the cut edge at this place of the list. */
-static u32 drawn_half(size_t place)
+/* The new half-edge that step 1 draws from the start of the cut edge at this index. */
+static u32 drawn_half(size_t index)
 {
-    return 2 * (fresh.edge + 1 + place);
+    return 2 * (fresh.edge + 1 + index);
 }
 
 static void push_place(struct point point, u32 half, bool up)
@@ -188,8 +189,8 @@ static bool find_places_of_loop(u32 loop)
     do {
         enum side here = side_at(h), next = side_at(after(h));
         if (here * next < 0) {
-            u32 place = edge_place[edge_of(h)];
-            push_place(edge_points[place], h & 1 ? mate(drawn_half(place)) : h, next == ABOVE);
+            u32 index = edge_index[edge_of(h)];
+            push_place(edge_points[index], h & 1 ? mate(drawn_half(index)) : h, next == ABOVE);
         } else if (here == ON) {
             if (last * next >= 0)
                 return false;
@@ -221,23 +222,11 @@ static struct refusal find_places(struct cut_face *cut)
     ACCEPT;
 }
 
-static int compare_numbers(i64 a, i64 b)
-{
-    return (a > b) - (a < b);
-}
-
-static int compare_places(const void *a, const void *b)
-{
-    const struct point *p = &((const struct place *)a)->point, *q = &((const struct place *)b)->point;
-    int by_x = compare_numbers(p->x, q->x), by_y = compare_numbers(p->y, q->y);
-    return by_x ? by_x : by_y ? by_y : compare_numbers(p->z, q->z);
-}
-
 /* Puts the places in pairs that follow each other, each up and then down; false where they can't be. */
 static bool pair_places(struct place *list, size_t count)
 {
     if (count > 2)
-        qsort(list, count, sizeof *list, compare_places);
+        qsort(list, count, sizeof *list, compare_points);
     for (size_t i = 1; i < count; i++)
         if (same_point(&list[i - 1].point, &list[i].point))
             return false;
