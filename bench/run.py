@@ -1,62 +1,170 @@
 #!/usr/bin/env python3
-"""Measures the built program: how many lines a second, by families of scripts and their sizes.
+"""Runs the built program and the plain C program side by side on families of scripts, checks that they answer the same bytes, and
+tells the processor time of a line, the peak of memory, and the ratio of both.
 
-    bench/run.py [--program PROGRAM] [--seconds S] [--megabytes M] [--sizes 10000,100000,1000000]
+    bench/run.py [--program PROGRAM] [--sizes 10000,100000,1000000] [--only FAMILY,FAMILY] [--seconds S] [--times N] [--markdown]
 
-A run that takes longer than S seconds (60) or more than M megabytes (4,000) is given up, and larger scripts of its family are
-left out.
+The time is the best of N runs (7; fewer of those that take long), user and system together, less the best time for the lines that come before those measured
+(the start of the program, where there are none). A run past S seconds (20) is given up, and so are larger scripts of its family.
 """
 import argparse
+import filecmp
+import math
 import os
-import resource
 import subprocess
-import time
+import tempfile
 
 import scripts
 
 HERE = os.path.dirname(os.path.abspath(__file__))
+NAMES = ('gwb', 'C')
+ENOUGH = 2.0            # seconds of processor time after which a script isn't run again
 
 
-def measure(program, family, lines, seconds, megabytes):
-    """Seconds of the best of three runs, or why there are none."""
-    script = scripts.text(family, lines)
-    size = megabytes * 1000000
+class TooSlow(Exception):
+    pass
 
-    def limited():
-        resource.setrlimit(resource.RLIMIT_AS, (size, size))
-    best = None
-    for _ in range(3):
-        start = time.perf_counter()
-        try:
-            done = subprocess.run([program], input=script, capture_output=True, timeout=seconds, preexec_fn=limited)
-        except subprocess.TimeoutExpired:
-            return 'more than %d s' % seconds
-        took = time.perf_counter() - start
-        if done.returncode == 3 or b'memory' in done.stdout:
-            return 'more than %d MB' % megabytes
-        assert done.stdout.count(b'\n') == sum(1 for line in scripts.FAMILIES[family](lines) if line)
-        best = took if best is None else min(best, took)
-        if took > 10:
-            break
-    return best
+
+def run_once(program, script, out, limit):
+    """Seconds of processor time and peak of memory in MiB."""
+    script.seek(0)
+    out.seek(0)
+    out.truncate()
+    done = subprocess.run([os.path.join(HERE, 'timed'), str(limit), program], stdin=script, stdout=out, stderr=subprocess.PIPE, check=True)
+    status, microseconds, kibibytes = map(int, done.stderr.split())
+    if status < 0:
+        raise TooSlow
+    if status > 1:
+        raise SystemExit('%s ended with status %d' % (program, status))
+    return microseconds / 1e6, kibibytes / 1024
+
+
+class Bench:
+    def __init__(self, programs, limit, times):
+        self.programs = programs
+        self.limit = limit
+        self.times = times
+        self.starts = [None] * len(programs)
+
+    def best(self, text, which):
+        """(seconds, MiB) of the chosen programs, whose answers are compared; None for a program that takes too long."""
+        with tempfile.TemporaryFile() as script, tempfile.NamedTemporaryFile() as one, tempfile.NamedTemporaryFile() as two:
+            script.write(text)
+            script.flush()
+            outs = (one, two)
+            best = [None] * len(which)
+            for i, program in enumerate(which):
+                try:
+                    best[i] = self.best_of(program, script, outs[i])
+                except TooSlow:
+                    pass
+            if None not in best and len(best) == 2 and not filecmp.cmp(one.name, two.name, shallow=False):
+                raise SystemExit('the answers differ')
+            return best
+
+    def best_of(self, program, script, out):
+        best, spent = None, 0
+        for _ in range(self.times):
+            seconds, memory = run_once(program, script, out, self.limit)
+            best = (seconds, memory) if best is None else (min(best[0], seconds), max(best[1], memory))
+            spent += seconds
+            if spent > ENOUGH:
+                break
+        return best
+
+    def start(self):
+        if None in self.starts:
+            self.starts = self.best(b'', self.programs)
+        return self.starts
+
+    def measure(self, family, size):
+        """Of each program (seconds a line, MiB), or None where it takes too long."""
+        before = scripts.script(family.before(size)) if family.before else b''
+        lines = scripts.script(family.lines(size))
+        whole = self.best(before + lines, self.programs)
+        rest = self.best(before, self.programs) if before else self.start() if family.before else [(0, 0)] * len(whole)
+        count = lines.count(b'\n')
+        return [w and r and (max(w[0] - r[0], 0) / count, w[1]) for w, r in zip(whole, rest)]
+
+
+def time_text(seconds):
+    for unit, scale in (('s', 1), ('ms', 1e-3), ('us', 1e-6)):
+        if seconds >= 10 * scale:
+            return '%.0f %s' % (seconds / scale, unit)
+        if seconds >= scale:
+            return '%.1f %s' % (seconds / scale, unit)
+    return '%.0f ns' % (seconds / 1e-9)
+
+
+def memory_text(mebibytes):
+    return '%.1f' % mebibytes if mebibytes < 10 else '%.0f' % mebibytes
+
+
+def table_row(name, size, got, limit):
+    cells = [name, '{:,}'.format(size)]
+    cells += [time_text(g[0]) if g else 'over %d s in all' % limit for g in got]
+    ratio = got[0][0] / got[1][0] if None not in got and got[1][0] > 0 else None
+    cells.append('%.1f' % ratio if ratio else '')
+    cells += [memory_text(g[1]) if g else '' for g in got]
+    return cells, ratio
+
+
+HEAD = ['Family', 'Size', 'gwb, a line', 'C, a line', 'Ratio', 'gwb, MiB', 'C, MiB']
+WIDTHS = [15, 10, 16, 16, 7, 9, 9]
+
+
+def show(cells, markdown):
+    if markdown:
+        print('| ' + ' | '.join(cells) + ' |', flush=True)
+    else:
+        print(' '.join(cell.ljust(width) for cell, width in zip(cells, WIDTHS)).rstrip(), flush=True)
+
+
+def options():
+    ap = argparse.ArgumentParser()
+    ap.add_argument('--program', default=os.path.join(HERE, '..', 'crates', 'gwb', 'out', 'gwb'))
+    ap.add_argument('--sizes', default='10000,100000,1000000')
+    ap.add_argument('--only', help='names of families; all without it')
+    ap.add_argument('--seconds', type=int, default=20)
+    ap.add_argument('--times', type=int, default=7)
+    ap.add_argument('--markdown', action='store_true')
+    return ap.parse_args()
+
+
+def measure_kind(bench, names, sizes, a):
+    """A row for each family and size; the geometric mean of the ratios of each size at the end, except of families that may grow."""
+    ratios = {size: [] for size in sizes}
+    show(HEAD, a.markdown)
+    if a.markdown:
+        show(['---'] * len(HEAD), True)
+    for name in names:
+        family = scripts.FAMILIES[name]
+        for size in sizes:
+            if size > family.most:
+                continue
+            got = bench.measure(family, size)
+            cells, ratio = table_row(name, size, got, a.seconds)
+            show(cells, a.markdown)
+            if ratio and not family.may_grow:
+                ratios[size].append(ratio)
+            if None in got or name == 'first_use':
+                break
+    for size, found in ratios.items():
+        if found:
+            show(['(mean)', '{:,}'.format(size), '', '', '%.1f' % math.exp(sum(map(math.log, found)) / len(found)), '', ''], a.markdown)
+    print()
 
 
 def main():
-    ap = argparse.ArgumentParser()
-    ap.add_argument('--program', default=os.path.join(HERE, '..', 'crates', 'gwb', 'out', 'gwb'))
-    ap.add_argument('--seconds', type=float, default=60)
-    ap.add_argument('--megabytes', type=int, default=4000)
-    ap.add_argument('--sizes', default='10000,100000,1000000')
-    a = ap.parse_args()
-    print('| Script | Lines | Seconds | Lines a second |')
-    print('|---|---|---|---|')
-    for family in scripts.FAMILIES:
-        for lines in map(int, a.sizes.split(',')):
-            took = measure(a.program, family, lines, a.seconds, a.megabytes)
-            if isinstance(took, str):
-                print('| %s | %d | %s | |' % (family, lines, took), flush=True)
-                break
-            print('| %s | %d | %.3f | %d |' % (family, lines, took, lines / took), flush=True)
+    a = options()
+    subprocess.run(['make', '-s', '-C', HERE], check=True)
+    bench = Bench((a.program, os.path.join(HERE, 'plain', 'plain')), a.seconds, a.times)
+    names = a.only.split(',') if a.only else list(scripts.FAMILIES)
+    sizes = [int(size) for size in a.sizes.split(',')]
+    for may_grow in (False, True):
+        chosen = [name for name in names if scripts.FAMILIES[name].may_grow == may_grow]
+        if chosen:
+            measure_kind(bench, chosen, sizes, a)
 
 
 if __name__ == '__main__':
