@@ -2,6 +2,7 @@
 #include "output.h"
 #include "script.h"
 #include <fcntl.h>
+#include <signal.h>
 #include <stdio.h>
 #include <unistd.h>
 
@@ -19,6 +20,7 @@ int main(int count, char **words)
             return 2;
         }
     }
+    signal(SIGPIPE, SIG_IGN);
     int file = path ? open(path, O_RDONLY) : STDIN_FILENO;
     if (file < 0)
         fail("cannot open the script");

@@ -424,30 +424,32 @@ static const unsigned char *answer_line(const unsigned char *line)
 
 static unsigned char input[INPUT_SIZE + 1];
 static size_t held;             /* bytes of `input` that aren't answered yet */
-static bool skipping;           /* the line that goes on is too long and was answered */
+static bool skipping;           /* the line that goes on is too long, and its bytes are dropped */
+
+/* Answers the long line that ends here; answers where the next one starts. */
+static const unsigned char *end_long_line(void)
+{
+    skipping = false;
+    output_room();
+    reply_fault(LONG_LINE);
+    return (const unsigned char *)memchr(input, '\n', held) + 1;
+}
 
 /* Answers the whole lines held; true where the run stops there. */
 static bool answer_lines(bool stop)
 {
-    const unsigned char *at = input, *last = memrchr(input, '\n', held);
+    const unsigned char *last = memrchr(input, '\n', held);
     if (last) {
-        if (skipping)
-            at = (const unsigned char *)memchr(input, '\n', held) + 1;
-        skipping = false;
-        while (at <= last) {
+        const unsigned char *at = skipping ? end_long_line() : input;
+        while (at <= last && !(stop && any_bad)) {
             output_room();
             at = answer_line(at);
-            if (stop && any_bad)
-                return true;
         }
         held -= at - input;
         memmove(input, at, held);
     }
-    if (!skipping && held > LINE_LIMIT) {
-        output_room();
-        reply_fault(LONG_LINE);
+    if (held > LINE_LIMIT)
         skipping = true;
-    }
     if (skipping)
         held = 0;
     return stop && any_bad;
@@ -468,7 +470,7 @@ enum run_end run_script(int file, bool stop)
         held += count;
         if (total > SCRIPT_LIMIT)
             held--;
-        else if (count == 0 && held > 0)
+        else if (count == 0 && (held > 0 || skipping))
             input[held++] = '\n';
         if (answer_lines(stop))
             return RUN_ENDED;
