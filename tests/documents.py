@@ -71,7 +71,7 @@ class Page:
                 self._line(number, line)
 
     def _line(self, number: int, line: str) -> None:
-        image = re.match(r'!\[.*\]\((.*pictures/.*\.svg)\)$', line)
+        image = re.match(r'(?:!\[.*\]\(|<img src=")(.*pictures/.*\.svg)[")]', line)
         if image:
             self.pictures.append(Picture(self._place(number), (self._path.parent / image.group(1)).resolve(), self._left))
         if STRAY.match(line):
