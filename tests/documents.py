@@ -71,7 +71,7 @@ class Page:
                 self._line(number, line)
 
     def _line(self, number: int, line: str) -> None:
-        image = re.match(r'!\[.*\]\((.*pictures/.*\.svg)\)$', line)
+        image = re.match(r'(?:!\[.*\]\(|<img src=")(.*pictures/.*\.svg)[")]', line)
         if image:
             self.pictures.append(Picture(self._place(number), (self._path.parent / image.group(1)).resolve(), self._left))
         if STRAY.match(line):
@@ -82,7 +82,7 @@ class Page:
 
     def _script(self, number: int, lines: List[str]) -> None:
         lead = ' '.join(self._paragraph).strip()
-        before = self._before(lead)
+        before = self._before(number, lead)
         steps = list(_steps(lines))
         self.blocks.append(Block(self._place(number), before, steps))
         self._left = before + steps
@@ -90,11 +90,13 @@ class Page:
         if named:
             self._models[named.group(1)] = self._left
 
-    def _before(self, lead: str) -> List[Step]:
+    def _before(self, number: int, lead: str) -> List[Step]:
         if lead.endswith('And then:'):
             return self._left
         model = re.search(r'(?:From|In) the (\w+):$', lead)
-        return self._models[model.group(1)] if model else []
+        if model and model.group(1) not in self._models:
+            self.wrong.append(f'{self._place(number)}: no block before it makes the {model.group(1)}')
+        return self._models.get(model.group(1), []) if model else []
 
     def _place(self, number: int) -> str:
         return f'{self._path.relative_to(TOP)}:{number}'
