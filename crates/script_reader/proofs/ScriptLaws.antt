@@ -1,9 +1,9 @@
 -- Each answer is the next line of the bytes.
 use Rattle.std.proofs.Common.{◌≡◌, ◌≢◌, inl, inr, ℕ, suc, ◌+◌, ◌-◌, ◌<◌, ◌≤◌, true, List, [], ◌∷◌, ◌++◌, length, refl, sym, ap, subst, ◌∙◌, arith, append_assoc, length-append, length-take, Option}
-use Rattle.std.proofs.lemmas.List.{append-nil, nil_from_length}
+use Rattle.std.proofs.lemmas.List.{append-nil, append_cancel_right, nil_from_length}
 use Rattle.std.proofs.KnownBytes.{Consumes-nil, Consumes-trans}
 use Rattle.std.specs.Io.KnownBytes.{Consumes, IsAtEnd}
-use Rattle.script_reader.specs.Lines.{lines_of, within_limit, FirstLine}
+use Rattle.script_reader.specs.Lines.{lines_of, with_newlines, within_limit, FirstLine}
 use Rattle.script_reader.specs.State.{reader_of, taken_of, unread_of, line_of, has_line, IsFresh, IsStill}
 use Rattle.script_reader.specs.Next.{Went}
 use Rattle.script_reader.specs.Script.{Reading, HasRead, IsReadOut, BreaksOff, to_come}
@@ -13,7 +13,7 @@ use Rattle.script_reader.specs.declared.lines.Found.{Found}
 use Rattle.script_reader.specs.declared.lines.Found.TheVariants as found
 use Rattle.script_reader.specs.declared.lines.Lines.{Lines}
 use Rattle.script_reader.proofs.LinesLaws.{limit_append, limit_none}
-use Rattle.script_reader.proofs.LinesOf.{first_line, last_line}
+use Rattle.script_reader.proofs.LinesOf.{first_line, last_line, ended_text, with_newlines-append}
 use Rattle.script_reader.proofs.EndLaws.{ready}
 
 -- ---- over the bytes alone
@@ -59,6 +59,13 @@ hears first now taken text line rest ending heard r f = record {
 pub so_far : (first now : Option (List ℕ)) (taken : ℕ) (unread : List ℕ) (ending : Ending) (heard : List (List ℕ)) (r : Reading first now taken unread ending heard) → lines_of (within_limit 0 r.given) ≡ heard ++ lines_of unread
 so_far first now taken unread ending heard r =
     ap lines_of (sym (append-nil (within_limit 0 r.given))) ∙ r.text [] (λ _. refl) ∙ ap (λ (xs : List ℕ). heard ++ lines_of xs) (append-nil unread)
+
+-- where more may come, each line that was heard has its newline
+heard_text : (G unread : List ℕ) (heard : List (List ℕ)) → lines_of (G ++ 10 ∷ []) ≡ heard ++ lines_of (unread ++ 10 ∷ []) → G ≡ with_newlines heard ++ unread
+heard_text G unread heard e =
+    append_cancel_right G (with_newlines heard ++ unread) (10 ∷ [])
+    (sym (ended_text G) ∙ ap with_newlines e ∙ with_newlines-append heard (lines_of (unread ++ 10 ∷ []))
+    ∙ ap (λ (xs : List ℕ). with_newlines heard ++ xs) (ended_text unread) ∙ sym (append_assoc (with_newlines heard) unread (10 ∷ [])))
 
 -- ---- over the calls of `next_line`
 
@@ -134,6 +141,7 @@ breaks_at_fault remaining first old new heard h w =
       consumed = r.consumed;
       rest = text;
       lacks = a.answered.0;
+      text = heard_text (within_limit 0 r.given) text heard (r.text (10 ∷ []) (λ e. absurd (cc (e, a.answered.2))));
       lines = so_far first (remaining new.reader) new.taken text new.ending heard r;
       too_long = λ e. absurd (cc e);
     }
@@ -150,6 +158,7 @@ breaks_at_limit remaining first old new heard h w =
       consumed = r.consumed;
       rest = text;
       lacks = a.answered.0;
+      text = heard_text (within_limit 0 r.given) text heard (r.text (10 ∷ []) (λ e. absurd (cc (e, a.answered.2))));
       lines = so_far first (remaining new.reader) new.taken text new.ending heard r;
       too_long = λ _. sym r.counted ∙ new.over a.answered.2;
     }

@@ -14,6 +14,11 @@ abbrev pub lines_of : List ℕ → List (List ℕ)
 lines_of [] = []
 lines_of (b ∷ bs) = if b == 10 then [] ∷ lines_of bs else onto_first b (lines_of bs)
 
+-- the text of lines that all have their newline
+abbrev pub with_newlines : List (List ℕ) → List ℕ
+with_newlines [] = []
+with_newlines (line ∷ lines) = line ++ 10 ∷ with_newlines lines
+
 -- the bytes that a script of the limit has room for, where so many were read before
 unfoldable pub within_limit : ℕ → List ℕ → List ℕ
 within_limit taken given = take (67108864 - taken) given

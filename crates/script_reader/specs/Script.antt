@@ -2,7 +2,7 @@
 use Rattle.std.specs.Prelude.{◌≡◌, ◌≤◌, ◌+◌, ◌-◌, ℕ, List, [], ◌++◌, length, Option}
 use Rattle.std.specs.Io.KnownBytes.{Consumes, IsAtEnd}
 use Rattle.script_reader.specs.Newline.{Lacks}
-use Rattle.script_reader.specs.Lines.{lines_of, within_limit}
+use Rattle.script_reader.specs.Lines.{lines_of, with_newlines, within_limit}
 use Rattle.script_reader.specs.State.{reader_of, taken_of, unread_of, ending_of}
 use Rattle.script_reader.specs.declared.lines.Ending.{Ending}
 use Rattle.script_reader.specs.declared.lines.Ending.TheVariants.{Ended}
@@ -30,12 +30,13 @@ pub record IsReadOut (first last : Option (List ℕ)) (heard : List (List ℕ)) 
   pub within : length given ≤ 67108864
   pub end : IsAtEnd last
 
--- the reading ended behind a newline or within a line, which wasn't heard
+-- the reading ended after a newline or within a line, which wasn't heard; those that were heard have their newlines
 pub record BreaksOff (first last : Option (List ℕ)) (heard : List (List ℕ)) (answer : Found) : Type 0 where
   pub given : List ℕ
   pub consumed : Consumes first last given
   pub rest : List ℕ
   pub lacks : Lacks rest
+  pub text : within_limit 0 given ≡ with_newlines heard ++ rest
   pub lines : lines_of (within_limit 0 given) ≡ heard ++ lines_of rest
   pub too_long : answer ≡ found.TooLong → length given ≡ 67108865
 

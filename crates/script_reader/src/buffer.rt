@@ -1,10 +1,12 @@
 //! A buffer of a fixed size, between a reader and the lines.
-ghost use Rattle.std.specs.Prelude.{◌≡◌, ◌≤◌, ◌<◌, ◌+◌, ◌-◌, length, take, drop, slice_range, IfOk, OnErr};
-ghost use Rattle.std.specs.Io.KnownBytes.{Consumes, Keeps, IsAtEnd};
+ghost use Rattle.std.specs.Prelude.{◌≡◌, ◌≢◌, ◌≤◌, ◌<◌, ◌+◌, ◌-◌, length, take, drop, slice_range, IfErr, IfOk, OnErr};
+ghost use Rattle.std.specs.Io.{ReadsAtMost};
+ghost use Rattle.std.specs.Io.KnownBytes.{Consumes, Keeps, IsAtEnd, ReadConsumes};
+ghost use Rattle.std.specs.IoError.{error_kind};
 ghost use Rattle.script_reader.specs.Newline.{FindsNewline};
 
 use std::alloc::{AllocError, Global};
-use std::io::{self, Read};
+use std::io::{self, ErrorKind, Read};
 use std::marker::Model;
 
 /// A line has at most so many bytes, without its newline.
@@ -12,6 +14,9 @@ pub const LINE_LIMIT: usize = 65_536;
 
 /// The longest line, and as many bytes again for a read.
 const SIZE: usize = 131_072;
+
+/// So many reads in a row may be interrupted by signals; after that many, reading has failed.
+const READ_TRIES: u32 = 1_000_000;
 
 /// The bytes that were read and are in no line yet, and the line that was taken last.
 #[derive(Drop)]
@@ -127,7 +132,7 @@ impl Buffer {
         self.searched = self.searched.min(self.end);
     }
 
-    /// Reads once, at most so many bytes.
+    /// Reads at most so many bytes.
     pub fn read_from<R: Read>(&mut self, reader: &mut R, most: usize) -> io::Result<usize>
         requires room { length self.old.unread ≤ 65536 }
         requires some { 0 < most }
@@ -167,7 +172,23 @@ fn read_at<R: Read>(reader: &mut R, bytes: &mut [u8], at: usize, most: usize) ->
     ensures err { OnErr result (Keeps (R.remaining reader.old) (R.remaining reader.new)) }
 {
     let room = most.min(bytes.len() - at);
-    reader.read(&mut bytes[at..at + room])
+    read_retrying(reader, &mut bytes[at..at + room])
+}
+
+/// Reads once, and again where a signal interrupted the read before any byte came, at most 1,000,000 times in a row.
+fn read_retrying<R: Read>(reader: &mut R, bytes: &mut [u8]) -> io::Result<usize>
+    ensures bound { ReadsAtMost result bytes.new }
+    ensures bytes { ReadConsumes (R.remaining reader.old) (R.remaining reader.new) result bytes.new }
+    ensures retried { IfErr result (λ e. error_kind e ≢ ErrorKind.Interrupted) }
+{
+    'tries: for _ in 0..READ_TRIES {
+        match reader.read(bytes) {
+            Ok(n) => return Ok(n),
+            Err(error) if error.kind() != ErrorKind::Interrupted => return Err(error),
+            Err(_) => {}
+        }
+    }
+    Err(io::Error::from(ErrorKind::TimedOut))
 }
 
 /// Where the first newline is.

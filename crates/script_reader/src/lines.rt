@@ -65,7 +65,7 @@ impl<R: Read> Lines<R> {
     ghost use Rattle.std.specs.Io.BufRead.{Rests};
     ghost use Rattle.std.specs.Borrow.{sem};
 
-    /// Reads once.
+    /// Reads some bytes.
     #[tactic(auto, unfolding(crate::specs::Lines::within_limit))]
     fn fill(&mut self)
         requires open { self.old.ending ≡ Open }

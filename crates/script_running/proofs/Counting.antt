@@ -1,5 +1,5 @@
 -- The counts of a run.
-use Rattle.std.proofs.Common.{◌≡◌, ◌⊎◌, inl, inr, ◌+◌, ◌≤◌, ℕ, Bool, true, false, refl, ap, arith}
+use Rattle.std.proofs.Common.{◌≡◌, ◌⊎◌, inl, inr, ◌+◌, ◌≤◌, ℕ, Bool, true, false, refl, sym, ap, ◌∙◌, arith}
 use Rattle.std.specs.Prelude.{◌==◌, ◌&&◌, not}
 use Rattle.std.proofs.lemmas.Bool.{and_left, and_right, false≢true}
 use Rattle.std.proofs.lemmas.Bool.Decides.{nat_tests}
@@ -82,3 +82,38 @@ complaint_counted n Listing e = absurd (false≢true e)
 pub stop_counted : (stop : Bool) (n : Summary) (a : Answer) → stops stop a ≡ true → was_stopped stop (counted n (one_line a)) ≡ true
 stop_counted true n a e = ap not (complaint_counted n a e)
 stop_counted false n a e = absurd (false≢true e)
+
+unraised : (n m : ℕ) (b : Bool) → m ≡ 0 → (n == 0) ≡ b → (n + m == 0) ≡ b
+unraised n m b e h = ap (λ (k : ℕ). k == 0) (omega (arith, e)) ∙ h
+
+unraised_all : (r f m x y z : Bool) → x ≡ r → y ≡ f → z ≡ m → (r && f && m) ≡ true → (x && y && z) ≡ true
+unraised_all r f m x y z e g h c = rw (e, g, h) c
+
+still_clean : (n k : Summary) → is_clean n ≡ true → k.refused ≡ 0 → k.faults ≡ 0 → k.memory ≡ 0 → is_clean (counted n k) ≡ true
+still_clean n k c r f m =
+    unraised_all (n.refused == 0) (n.faults == 0) (n.memory == 0) (n.refused + k.refused == 0) (n.faults + k.faults == 0) (n.memory + k.memory == 0)
+    (unraised n.refused k.refused _ r refl) (unraised n.faults k.faults _ f refl) (unraised n.memory k.memory _ m refl) c
+
+is_true_from : (b : Bool) → not b ≡ false → b ≡ true
+is_true_from true e = refl
+is_true_from false e = absurd (false≢true (sym e))
+
+-- an answer that doesn't stop a run leaves it unstopped
+clean_counted : (n : Summary) (a : Answer) → complains a ≡ false → is_clean n ≡ true → is_clean (counted n (one_line a)) ≡ true
+clean_counted n Silent e c = still_clean n (one_line Silent) c refl refl refl
+clean_counted n (Told reply.Done) e c = still_clean n (one_line (Told reply.Done)) c refl refl refl
+clean_counted n (Told (reply.Refused w x)) e c = absurd (false≢true (sym e))
+clean_counted n (Told (reply.Fault w)) e c = absurd (false≢true (sym e))
+clean_counted n (Told reply.Memory) e c = absurd (false≢true (sym e))
+clean_counted n (Told (reply.Plane p flat)) e c = still_clean n (one_line (Told (reply.Plane p flat))) c refl refl refl
+clean_counted n (Told (reply.Volume w)) e c = still_clean n (one_line (Told (reply.Volume w))) c refl refl refl
+clean_counted n (Told (reply.Count ns)) e c = still_clean n (one_line (Told (reply.Count ns))) c refl refl refl
+clean_counted n Listing e c = still_clean n (one_line Listing) c refl refl refl
+
+pub calm_counted : (stop : Bool) (n : Summary) (a : Answer) → was_stopped stop n ≡ false → stops stop a ≡ false → was_stopped stop (counted n (one_line a)) ≡ false
+calm_counted true n a u calm = ap not (clean_counted n a calm (is_true_from (is_clean n) u))
+calm_counted false n a u calm = refl
+
+pub none_calm : (stop : Bool) → was_stopped stop no_lines ≡ false
+none_calm true = refl
+none_calm false = refl

@@ -1,4 +1,6 @@
 pub mod script_judging
 pub mod Outs
+pub mod Output
+pub mod Runs
 pub mod Hearing
 pub mod Laws

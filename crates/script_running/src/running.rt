@@ -4,7 +4,8 @@ ghost use Rattle.std.specs.Io.KnownBytes.{Keeps};
 ghost use Rattle.solid_listing.specs.Writing.{Puts};
 ghost use Rattle.undo_journal.specs.Machine.{Machine};
 ghost use Rattle.script_running.specs.script_judging.Judging.{answer_text};
-ghost use Rattle.script_running.specs.Outs.{Runs, stops};
+ghost use Rattle.script_running.specs.Outs.{stops};
+ghost use Rattle.script_running.specs.Runs.{Runs};
 ghost use Rattle.script_running.specs.Hearing.{Hears};
 
 use crate::script_judging::{Answer, Larger, Summary, carry_out, complains, judge};
@@ -101,11 +102,14 @@ fn finish<W: Write>(writer: &mut W, summary: Summary) -> Result<Summary, RunFaul
 }
 
 /// Runs a script: judges each line of what the reader gives, in order, and writes its answer. Answers are flushed
-/// before each read that may wait, and at the end. Where `stop` is set, the run ends behind the first reply that begins with `refused`,
-/// `fault` or `memory`; bytes behind that line may have been read.
+/// before each read that may wait, and at the end. Where `stop` is set, the run ends after the first reply that begins with `refused`,
+/// `fault` or `memory`; bytes after that line may have been read.
 ///
-/// `RunFault::Memory` comes only where the first memory was refused, and then nothing is written. After `Read`, `Write`
-/// or `TooLong` what was written is a front of the replies to the lines read so far.
+/// `RunFault::Memory` comes only where the first memory was refused, and then nothing is read or written. After `Read` or
+/// `TooLong` the replies to the lines that were read to their newline are written, and nothing else; after `Write` a prefix
+/// of the replies to the lines read so far.
+///
+/// A read that a signal interrupts is tried again, at most 1,000,000 times in a row.
 pub fn run<R: Read + Drop, W: Write>(
     alloc: Global,
     reader: R,

@@ -1,5 +1,5 @@
 //! Runs over readers and writers that cut, fail or never end.
-use super::streams::{Flushed, Halt, Pieces, Repeated, Taker};
+use super::streams::{Flushed, Halt, Interrupted, Pieces, Repeated, Taker};
 use crate::{RunFault, Summary, run};
 use script_reader::{Short, read_short};
 use std::alloc::Global;
@@ -75,6 +75,27 @@ fn reads_in_pieces(rt: HostRuntime) -> Result<(), Fail> {
         }
     }
     Ok(())
+}
+
+/// A read that is interrupted is tried again, but not a million times in a row.
+#[test]
+fn reads_interrupted(rt: HostRuntime) {
+    for times in [1, 1_000, 999_999, 1_000_000] {
+        let mut out = Vec::new(rt.alloc());
+        let reader = Interrupted {
+            bytes: WIRE,
+            times,
+            left: times,
+        };
+        let ended = run(rt.alloc(), reader, &mut out, false);
+        if times < 1_000_000 {
+            assert!(rt; ended.is_ok());
+            assert_eq!(rt; out.as_slice(), WIRE_TOLD, "interrupted {times} times");
+        } else {
+            assert_eq!(rt; ended.err(), Some(RunFault::Read));
+            assert!(rt; out.is_empty());
+        }
+    }
 }
 
 /// The lines of a text whose newlines are there.

@@ -22,6 +22,28 @@ impl Read for Pieces<'_> {
     }
 }
 
+/// A reader that signals interrupt so many times before each read.
+#[derive(Drop)]
+pub struct Interrupted<'a> {
+    pub bytes: &'a [u8],
+    pub times: u32,
+    pub left: u32,
+}
+
+impl Read for Interrupted<'_> {
+    fn read(&mut self, buf: &mut [u8]) -> io::Result<usize> {
+        if self.left > 0 {
+            self.left -= 1;
+            return Err(io::Error::from(ErrorKind::Interrupted));
+        }
+        self.left = self.times;
+        let n = self.bytes.len().min(buf.len());
+        buf[..n].copy_from_slice(&self.bytes[..n]);
+        self.bytes = &self.bytes[n..];
+        Ok(n)
+    }
+}
+
 /// A reader of one byte over and over, so many times.
 #[derive(Drop)]
 pub struct Repeated {

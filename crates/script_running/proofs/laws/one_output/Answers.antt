@@ -1,5 +1,15 @@
-use Rattle.script_running.proofs.Outputs.{outs_one}
+use Rattle.std.proofs.Common.{ℕ, List, sym, subst}
+use Rattle.script_running.specs.Outs.{Outs}
+use Rattle.script_running.specs.Output.{summary_from}
+use Rattle.script_running.specs.declared.script_judging.judging.Summary.{Summary}
+use Rattle.script_running.proofs.Outputs.{outs_so, outs_to, summary_quiet}
 use Rattle.script_running.proofs.laws.one_output.Goals as goal
 
 pub returns : goal.returns
-returns c = outs_one
+returns c = record {
+  one = λ stop s lines out n none. (
+    λ o. outs_so stop s lines out n o none,
+    λ e. subst (λ (k : Summary). Outs stop s lines out k) (sym e.1) (subst (λ (text : List ℕ). Outs stop s lines text (summary_from stop s lines)) (sym e.0) (outs_to stop s lines)),
+  );
+  quiet = summary_quiet;
+}

@@ -11,10 +11,10 @@ use Rattle.script_running.proofs.running.run.Goals.{in-Line, in-Larger}
 use Rattle.script_running.proofs.running.run.Goals as goal
 
 pub returns-in_default : goal.returns-in_default
-returns-in_default g c = nothing_begins _ _ _ _ (Consumes-nil (g.R.Read.remaining c.args.reader))
+returns-in_default g c = nothing_begins _ _ _ (Consumes-nil (g.R.Read.remaining c.args.reader))
 
 pub returns-in_default-new : goal.returns-in_default-new
-returns-in_default-new g c = nothing_begins _ _ _ _ (Consumes-nil (g.R.Read.remaining c.args.reader))
+returns-in_default-new g c = nothing_begins _ _ _ (Consumes-nil (g.R.Read.remaining c.args.reader))
 
 pub script-init : goal.script-init
 script-init g c =
