@@ -1,12 +1,10 @@
 -- The output of a script, as a function of its lines: what they are answered where no memory is refused.
 use Rattle.std.specs.Prelude.{ℕ, Bool, List, [], ◌∷◌, ◌++◌, Option, Some, None, Result, Ok, Err, if◌then◌else◌}
 use Rattle.euler_operators.specs.declared.Refusal.{Refusal}
-use Rattle.shapes.specs.Lamina.{lamina_refusal, lamina_model}
-use Rattle.shapes.specs.Block.{block_refusal, block_model}
-use Rattle.shapes.specs.Prism.{prism_refusal, prism_model}
-use Rattle.shapes.specs.glue.Glue.{glue_refusal, glue_model}
-use Rattle.shapes.specs.split.Split.{split_refusal, split_model}
-use Rattle.undo_journal.specs.Machine.{Machine, start, held, accepted, act, act_refusal, undo, undo_refusal, redo, redo_refusal}
+use Rattle.sweeps.specs.Machine.{lamina, lamina_refusal, block, block_refusal, sweep, sweep_refusal}
+use Rattle.gluing.specs.Machine.{glue, glue_refusal}
+use Rattle.plane_split.specs.Machine.{split, split_refusal}
+use Rattle.undo_journal.specs.Machine.{Machine, start, held, act, act_refusal, undo, undo_refusal, redo, redo_refusal}
 use Rattle.script_reader.specs.declared.command.Command.{Command}
 use Rattle.script_reader.specs.declared.command.Command.TheVariants as command
 use Rattle.script_reader.specs.declared.command.Fault.{Fault}
@@ -28,11 +26,11 @@ moved (Some r) s next = (refused r, s)
 abbrev pub obeyed : Machine → Command → Answer × Machine
 obeyed s command.Nothing = (Silent, s)
 obeyed s (command.Act op) = moved (act_refusal s op) s (act s op)
-obeyed s (command.Lamina n ps) = moved (lamina_refusal (held s) n ps) s (accepted s (lamina_model (held s) n ps))
-obeyed s (command.Block n p dx dy dz) = moved (block_refusal (held s) n p dx dy dz) s (accepted s (block_model (held s) n p dx dy dz))
-obeyed s (command.Sweep f d) = moved (prism_refusal (held s) f d) s (accepted s (prism_model (held s) f d))
-obeyed s (command.Glue f g) = moved (glue_refusal (held s) f g) s (accepted s (glue_model (held s) f g))
-obeyed s (command.Split n cs m) = moved (split_refusal (held s) n (given_plane cs) m) s (accepted s (split_model (held s) n (given_plane cs) m))
+obeyed s (command.Lamina n ps) = moved (lamina_refusal s n ps) s (lamina s n ps)
+obeyed s (command.Block n p dx dy dz) = moved (block_refusal s n p dx dy dz) s (block s n p dx dy dz)
+obeyed s (command.Sweep f d) = moved (sweep_refusal s f d) s (sweep s f d)
+obeyed s (command.Glue f g) = moved (glue_refusal s f g) s (glue s f g)
+obeyed s (command.Split n cs m) = moved (split_refusal s n (given_plane cs) m) s (split s n (given_plane cs) m)
 obeyed s (command.Plane f) = (told (plane_reply (held s) f), s)
 obeyed s (command.Volume n) = (told (volume_reply (held s) n), s)
 obeyed s (command.Count n) = (told (count_reply (held s) n), s)
