@@ -2,15 +2,16 @@
 use Rattle.std.specs.Prelude.{◌≡◌, ◌≢◌, ℕ, ◌+ℤ◌, false, None}
 use Rattle.euler_operators.specs.declared.Plane.{Plane}
 use Rattle.euler_operators.specs.Sound.{Sound, Has}
-use Rattle.undo_journal.specs.Machine.{Machine, held, accepted}
+use Rattle.undo_journal.specs.Machine.{Machine, held}
 use Rattle.shapes.specs.Faces.{vertices_of}
 use Rattle.shapes.specs.Measure.{six_volume}
 use Rattle.shapes.specs.split.Sides.{some_above, some_below}
-use Rattle.shapes.specs.split.Split.{split_refusal, split_model}
+use Rattle.shapes.specs.split.Split.{split_model}
+use Rattle.plane_split.specs.Machine.{split, split_refusal}
 
 -- what a split says of the session that it took and of the one that it gave back with Ok
 abbrev pub IsSplit : Machine → Machine → ℕ → Plane → ℕ → Type 0
-IsSplit before after s p t = (split_refusal (held before) s p t ≡ None) × (after ≡ accepted before (split_model (held before) s p t))
+IsSplit before after s p t = (split_refusal before s p t ≡ None) × (after ≡ split before s p t)
 
 -- the session holds the split's model then
 abbrev pub SplitsAreHeld : Type 0
