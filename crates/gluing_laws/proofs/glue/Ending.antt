@@ -10,7 +10,7 @@ use Rattle.euler_operators.proofs.Lists.{count-append, tick_same}
 use Rattle.euler_operators.proofs.Rotations.{rest_same, rest_at, canonical-rotates}
 use Rattle.euler_operators.specs.HalfEdge.{mate, edge_of, half}
 use Rattle.euler_operators.specs.Table as table
-use Rattle.euler_operators.specs.Table.{Table, tables, same_table, get-map_rows, get-put}
+use Rattle.euler_operators.specs.Table.{Table, tables, same_table, get-map_rows}
 use Rattle.euler_operators.specs.Model.{Model, FaceRow, LoopRow, cycle, tail, loop_of, face_of, solid_of, outer, cycle_of, no_face}
 use Rattle.euler_operators.specs.Sound.{Has, HasHalf}
 use Rattle.euler_operators.proofs.Halves.{code-half, mate-mate, edge_of-mate}

@@ -10,7 +10,7 @@ use Rattle.euler_operators.proofs.Rotations.{count-canonical}
 use Rattle.euler_operators.proofs.Maps.{from_map, count-reverse}
 use Rattle.euler_operators.specs.HalfEdge.{mate}
 use Rattle.euler_operators.specs.Table as table
-use Rattle.euler_operators.specs.Table.{Table, tables, same_table, get-map_rows, get-put, get-remove}
+use Rattle.euler_operators.specs.Table.{Table, tables, same_table, get-map_rows, get-put}
 use Rattle.euler_operators.specs.Model.{Model, LoopRow, cycle, items_of, loop_of, content, face_of, outer, cycle_of}
 use Rattle.euler_operators.specs.Sound.{HasHalf, StandsIn}
 use Rattle.euler_operators.proofs.Models.{content_row, holds_in, none-holds, other_loop, row_of, cycle_there, cycle_sound, mate_there}

@@ -9,7 +9,7 @@ use Rattle.euler_operators.proofs.Lists.{count-append, tick_other, IsIn_or_not}
 use Rattle.euler_operators.proofs.Tables.{get-put_here, get-put_other}
 use Rattle.euler_operators.specs.HalfEdge.{mate, edge_of, is_first}
 use Rattle.euler_operators.specs.Table as table
-use Rattle.euler_operators.specs.Table.{Table, tables, same_table, get-map_rows}
+use Rattle.euler_operators.specs.Table.{Table, tables, get-map_rows}
 use Rattle.euler_operators.specs.Model.{Model, EdgeRow, LoopRow, cycle, tail, tail_in, no_edge, solid_of, outer}
 use Rattle.euler_operators.specs.Sound.{Sound, HasHalf}
 use Rattle.euler_operators.specs.Effect.{faces_to_solid}

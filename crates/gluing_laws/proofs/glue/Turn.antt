@@ -11,7 +11,7 @@ use Rattle.euler_operators.proofs.Maps.{reverse-cons}
 use Rattle.euler_operators.proofs.Models.{mate_there}
 use Rattle.euler_operators.specs.HalfEdge.{mate, edge_of}
 use Rattle.euler_operators.specs.Table as table
-use Rattle.euler_operators.specs.Table.{Table, tables, same_table, get-map_rows, get-put, get-remove}
+use Rattle.euler_operators.specs.Table.{Table, tables, same_table}
 use Rattle.euler_operators.specs.Model.{Model, LoopRow, cycle, tail, loop_of, solid_of, outer}
 use Rattle.euler_operators.specs.Sound.{HasHalf}
 use Rattle.euler_operators.specs.Effect.{moved_tail}
