@@ -139,7 +139,7 @@ def measure_kind(bench, names, sizes, a):
         show(['---'] * len(HEAD), True)
     for name in names:
         family = scripts.FAMILIES[name]
-        for size in sizes:
+        for size in sizes if family.before else [1]:
             if size > family.most:
                 continue
             got = bench.measure(family, size)
@@ -147,7 +147,7 @@ def measure_kind(bench, names, sizes, a):
             show(cells, a.markdown)
             if ratio and not family.may_grow:
                 ratios[size].append(ratio)
-            if None in got or name == 'first_use':
+            if None in got:
                 break
     for size, found in ratios.items():
         if found:

@@ -2,7 +2,7 @@
 """Families of scripts that run.py measures: scripts.py FAMILY SIZE prints one of them, scripts.py alone tells what there is.
 
 A family gives the lines that are measured and, where the model has to be made first, the lines that come before them (None where the
-start of the program is measured too). Families of the
+start of the program is measured too, and there is one size). Families of the
 second kind are those of which the cost may grow faster than their size.
 """
 import collections
