@@ -7,6 +7,6 @@ use Rattle.gluing.proofs.laws.glue_measures.Goals as goal
 
 pub returns : goal.returns
 returns c = record {
-  solid = λ s t f g sound goes is. ap (λ N. six_volume N (solid_of (held s) f)) is ∙ glue_adds (held s) f g sound goes;
-  others = λ s t f g u sound goes is not_f not_g. ap (λ N. six_volume N u) is ∙ glue_keeps_others (held s) f g u sound goes not_f not_g;
+  solid = λ s t f g sound goes is. ap (λ N. six_volume N (solid_of (held s) f)) (ap held is) ∙ glue_adds (held s) f g sound goes;
+  others = λ s t f g u sound goes is not_f not_g. ap (λ N. six_volume N u) (ap held is) ∙ glue_keeps_others (held s) f g u sound goes not_f not_g;
 }
