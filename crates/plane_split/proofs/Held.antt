@@ -5,7 +5,7 @@ use Rattle.euler_operators.specs.Table as table
 use Rattle.euler_operators.specs.Table.{get-empty}
 use Rattle.euler_operators.specs.Model.{Model, empty_model}
 use Rattle.euler_operators.specs.Sound.{Sound, Has}
-use Rattle.undo_journal.specs.Machine.{Machine, held, accepted}
+use Rattle.undo_journal.specs.Machine.{Machine, held}
 use Rattle.shapes.specs.Faces.{vertices_of}
 use Rattle.shapes.specs.Measure.{six_volume}
 use Rattle.shapes.specs.split.Sides.{some_above, some_below}
