@@ -47,8 +47,8 @@ enum gwb_entity { GWB_SOLID = 0, GWB_FACE = 1, GWB_LOOP = 2, GWB_EDGE = 3, GWB_V
 
 /* Sessions and lines, as text. */
 
-/* Opens a session that holds the empty model; its last answer is GWB_SILENT. The handle must be closed. False where memory is
- * refused: the handle is still closed. */
+/* Opens a session that holds the empty model; its last answer is GWB_SILENT. False where memory is refused, or the handle is open
+ * already: then nothing has changed. */
 bool gwb_open(gwb *g);
 
 /* Frees the session, if there is one: the handle is closed. */
@@ -63,7 +63,8 @@ uint32_t gwb_line(gwb *g, const uint8_t *line, size_t n);
  * is that of the model held now. */
 size_t gwb_reply(gwb *g, uint8_t *buf, size_t room);
 
-/* How many commands can be undone, and how many redone. SIZE_MAX where the handle is closed. */
+/* How many commands can be undone, and how many redone. SIZE_MAX where the handle is closed. Undo is possible where the depth is not
+ * 0, and redo where something is ahead. */
 size_t gwb_depth(gwb *g);
 size_t gwb_ahead(gwb *g);
 
@@ -74,17 +75,6 @@ typedef struct gwb_refusal {
     uint32_t value;  /* that goes with it */
 } gwb_refusal;
 
-/* The plane a x + b y + c z + d = 0, each coefficient in two halves: high * 2^64 + low. */
-typedef struct gwb_wide {
-    int64_t high;
-    uint64_t low;
-} gwb_wide;
-
-typedef struct gwb_plane {
-    gwb_wide a, b, c, d;
-    bool flat; /* whether each vertex of the face lies in it */
-} gwb_plane;
-
 typedef struct gwb_counts {
     int64_t vertices, edges, faces, rings;
     int64_t sum; /* vertices - edges + faces - rings */
@@ -92,8 +82,6 @@ typedef struct gwb_counts {
 
 uint32_t gwb_last_refusal(gwb *g, gwb_refusal *refusal);
 uint32_t gwb_last_fault(gwb *g, uint32_t *number);
-uint32_t gwb_last_plane(gwb *g, gwb_plane *plane);
-uint32_t gwb_last_volume(gwb *g, gwb_wide *six_volumes);
 uint32_t gwb_last_counts(gwb *g, gwb_counts *counts);
 
 /* The model held, read without text. */
@@ -121,9 +109,6 @@ uint32_t gwb_loop(gwb *g, uint32_t loop, uint32_t *face);
 uint32_t gwb_lone_vertex(gwb *g, uint32_t loop, uint32_t *vertex);
 
 /* A half-edge is its edge's number times 2, and 1 more for the edge's second. */
-
-/* A half-edge of a loop. GWB_ABSENT also where the loop has none. */
-uint32_t gwb_first_half_edge(gwb *g, uint32_t loop, uint32_t *half_edge);
 
 /* The half-edge after another in its loop. GWB_ABSENT where its edge is not there. */
 uint32_t gwb_next_half_edge(gwb *g, uint32_t half_edge, uint32_t *next);

@@ -1,0 +1,22 @@
+-- The numbers in use are those of the model that an arena holds.
+use Rattle.std.proofs.Common.{◌≡◌, ℕ, Option, Some, None, subst}
+use Rattle.euler_operators.specs.Model.{Model}
+use Rattle.euler_operators.specs.declared.Kind.{Kind}
+use Rattle.euler_operators.specs.declared.Kind.TheVariants.{Solid, Face, Loop, Edge, Vertex}
+use Rattle.euler_conditions.specs.Store.{Store, IsNextNumber}
+use Rattle.gwb_c.specs.Reading.{store_of}
+
+here : (s : Store) (k : Kind) (n : ℕ) (o : Option ℕ) → IsNextNumber s k n o → IsNextNumber (store_of s.model) k n o
+here s Solid n None h = h
+here s Solid n (Some m) h = h
+here s Face n None h = h
+here s Face n (Some m) h = h
+here s Loop n None h = h
+here s Loop n (Some m) h = h
+here s Edge n None h = h
+here s Edge n (Some m) h = h
+here s Vertex n None h = h
+here s Vertex n (Some m) h = h
+
+pub next_held : (s : Store) (M : Model) → s.model ≡ M → (k : Kind) (n : ℕ) (o : Option ℕ) → IsNextNumber s k n o → IsNextNumber (store_of M) k n o
+next_held s M is k n o h = subst (λ (N : Model). IsNextNumber (store_of N) k n o) is (here s k n o h)

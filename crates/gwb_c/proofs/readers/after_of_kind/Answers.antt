@@ -1,0 +1,5 @@
+use Rattle.gwb_c.proofs.Numbers.{next_held}
+use Rattle.gwb_c.proofs.readers.after_of_kind.Goals as goal
+
+pub returns : goal.returns
+returns c = next_held c.arena.result.now _ c.arena.ensures.model c.args.kind c.args.n c.after_number.result c.after_number.ensures

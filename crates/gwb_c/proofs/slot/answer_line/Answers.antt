@@ -1,0 +1,17 @@
+use Rattle.std.proofs.Common.{◌≡◌, ◌∙◌, Option, Some, Result, Ok, refl, sym, subst}
+use Rattle.undo_journal.specs.Machine.{Machine}
+use Rattle.script_running.specs.script_judging.Judging.{Obeys, Answers}
+use Rattle.script_running.specs.script_judging.Settling.{spelled}
+use Rattle.script_reader.specs.Grammar.{command_of}
+use Rattle.gwb_c.proofs.slot.answer_line.Goals as goal
+
+same : (s t : Machine) (o : Option Machine) → o ≡ Some s → o ≡ Some t → s ≡ t
+same s t o e f = cc
+
+pub returns-in-None : goal.returns-in-None
+returns-in-None c = λ s is.
+    let d = c.in-None.ensures in let new = c.finish.new.slot in
+    let f = c.finish.ensures c.judge.new.session d.0 refl d.1 in
+    let here : c.judge.new.session ≡ s = d.3 ∙ same c.in-Some.session s c.args.slot.now.session c.in-Some.is is in
+    let obeyed : Obeys s (spelled d.0) new.answer f.0 = subst (λ m. Obeys m (spelled d.0) new.answer f.0) here f.2 in
+    (f.0, f.1, subst (λ r. Answers s r new.answer f.0) (sym d.2) obeyed)

@@ -1,0 +1,86 @@
+-- What C's calls do to the session behind a handle.
+use Rattle.std.specs.Prelude.{◌≡◌, ◌⊎◌, ◌-◌, ◌^◌, ℕ, Bool, true, false, List, ◌++◌, length, take, drop, Option, Some, None}
+use Rattle.euler_operators.specs.Model.{Model}
+use Rattle.undo_journal.specs.Machine.{Machine, start, held}
+use Rattle.solid_listing.specs.declared.reply.Reply.TheVariants as reply
+use Rattle.script_running.specs.script_judging.Judging.{Judges, Obeys, answer_text}
+use Rattle.script_running.specs.script_judging.Settling.{spelled}
+use Rattle.script_running.specs.declared.script_judging.larger.Larger.{Larger}
+use Rattle.script_running.specs.declared.script_judging.judging.Answer.{Answer}
+use Rattle.script_running.specs.declared.script_judging.judging.Answer.TheVariants.{Silent, Reply as Told, Listing}
+use Rattle.gwb_c.specs.declared.slot.Slot.{Slot}
+
+-- what C is told of an answer
+abbrev pub status_of : Answer → ℕ
+status_of Silent = 0
+status_of (Told reply.Done) = 1
+status_of (Told (reply.Refused n x)) = 2
+status_of (Told (reply.Fault n)) = 3
+status_of (Told reply.Memory) = 4
+status_of (Told (reply.Plane p flat)) = 5
+status_of (Told (reply.Volume n)) = 6
+status_of (Told (reply.Count ns)) = 7
+status_of Listing = 8
+
+-- the machine that a handle holds
+abbrev pub machine_in : Option Slot → Option Machine
+machine_in None = None
+machine_in (Some x) = x.session
+
+-- the answer to the last line
+abbrev pub answer_in : Option Slot → Option Answer
+answer_in None = None
+answer_in (Some x) = Some x.answer
+
+-- a closed handle gets a new session that has answered nothing; else nothing has changed
+abbrev pub Opened : Option Slot → Option Slot → Bool → Type 0
+Opened None new true = (machine_in new ≡ Some start) × (answer_in new ≡ Some Silent)
+Opened None new false = new ≡ None
+Opened (Some x) new opened = (opened ≡ false) × (new ≡ Some x)
+
+-- a session goes on as the line is answered, and the answer is kept
+abbrev pub Slot_hears : Slot → List ℕ → Slot → Type 0
+Slot_hears old line new = (s : Machine) → old.session ≡ Some s → (t : Machine) × (new.session ≡ Some t) × Judges s line new.answer t
+
+-- the larger command that was put aside is obeyed
+abbrev pub Slot_finishes : Slot → Slot → Type 0
+Slot_finishes old new = (s : Machine) → (l : Larger) → old.session ≡ Some s → old.later ≡ Some l → (t : Machine) × (new.session ≡ Some t) × Obeys s (spelled l) new.answer t
+
+-- the same for a handle, and C is told the kind of the answer; a closed handle stays as it is
+abbrev pub Hears : Option Slot → List ℕ → Option Slot → ℕ → Type 0
+Hears None line new kind = (new ≡ None) × (kind ≡ 9)
+Hears (Some x) line new kind = (y : Slot) × (new ≡ Some y) × (kind ≡ status_of y.answer) × Slot_hears x line y
+
+-- the number that a machine tells; a closed handle tells the greatest 64-bit number
+abbrev pub Counts : (Machine → ℕ) → Option Slot → ℕ → Type 0
+Counts f None n = n ≡ 2 ^ 64 - 1
+Counts f (Some x) n = (s : Machine) → x.session ≡ Some s → n ≡ f s
+
+-- the text of the answer, as far as there is room, and its length; or memory was refused, and nothing is written
+abbrev pub Writes : List ℕ → List ℕ → List ℕ → ℕ → Type 0
+Writes text old new n = ((n ≡ length text) × (new ≡ take (length old) text ++ drop (length text) old)) ⊎ ((n ≡ 2 ^ 64 - 1) × (new ≡ old))
+
+-- the text of the last answer; a closed handle has none
+abbrev pub Replies : Option Slot → List ℕ → List ℕ → ℕ → Type 0
+Replies None old new n = (n ≡ 2 ^ 64 - 1) × (new ≡ old)
+Replies (Some x) old new n = (s : Machine) → x.session ≡ Some s → Writes (answer_text s x.answer) old new n
+
+-- a value that is there is written; else nothing is
+abbrev pub Gives : {X : Type 0} → Option X → X → X → ℕ → Type 0
+Gives None old new told = (told ≡ 0) × (new ≡ old)
+Gives (Some x) old new told = (told ≡ 1) × (new ≡ x)
+
+-- a value of the last answer; a closed handle has none
+abbrev pub Recalls : {X : Type 0} → (Answer → Option X) → Option Slot → X → X → ℕ → Type 0
+Recalls f None old new told = (told ≡ 9) × (new ≡ old)
+Recalls f (Some y) old new told = Gives (f y.answer) old new told
+
+-- a value of the model held; a closed handle has none
+abbrev pub Reads : {X : Type 0} → (Model → Option X) → Option Slot → X → X → ℕ → Type 0
+Reads f None old new told = (told ≡ 9) × (new ≡ old)
+Reads f (Some y) old new told = (s : Machine) → y.session ≡ Some s → Gives (f (held s)) old new told
+
+-- a number that a relation to the model held fixes; a closed handle has none
+abbrev pub Finds : (Model → Option ℕ → Type 0) → Option Slot → ℕ → ℕ → ℕ → Type 0
+Finds R None old new told = (told ≡ 9) × (new ≡ old)
+Finds R (Some y) old new told = (s : Machine) → y.session ≡ Some s → ((told ≡ 1) × R (held s) (Some new)) ⊎ ((told ≡ 0) × (new ≡ old) × R (held s) None)

@@ -1,0 +1,4 @@
+pub mod Owned
+pub mod Handle
+pub mod Answered
+pub mod Reading

@@ -1,0 +1,116 @@
+//! Calls of C: sessions, and lines as text.
+ghost use Rattle.std.specs.Prelude.{◌≡◌, Some, None};
+ghost use Rattle.undo_journal.specs.Machine.{depth, ahead};
+ghost use Rattle.gwb_c.specs.Handle.{Opened, Hears, Counts, Replies};
+
+use crate::handle::{Gwb, put, take};
+use crate::slot::{Slot, answer_line, copy_front, made, status, text_of};
+use std::alloc::Global;
+
+/// Opens a session that holds the empty model. False where memory is refused, or there is a session; then nothing has changed.
+#[unsafe(no_mangle)]
+pub extern "C" fn gwb_open(alloc: Global, gwb: &mut Gwb) -> bool
+    ensures { Opened gwb.old.held.value gwb.new.held.value result }
+{
+    if let Some(slot) = take(alloc, gwb) {
+        put(gwb, slot);
+        return false;
+    }
+    match made(alloc) {
+        None => false,
+        Some(slot) => {
+            put(gwb, slot);
+            true
+        }
+    }
+}
+
+/// Frees the session, if there is one.
+#[unsafe(no_mangle)]
+pub extern "C" fn gwb_close(alloc: Global, gwb: &mut Gwb)
+    ensures { gwb.new.held.value ≡ None }
+{
+    drop(take(alloc, gwb));
+}
+
+/// Answers a line, without its newline, and keeps the answer. Says what kind of answer it is: 0 silent, 1 `ok`, 2 `refused`,
+/// 3 `fault`, 4 `memory`, 5 `plane`, 6 `volume`, 7 `count`, 8 a listing; 9 where there is no session.
+#[unsafe(no_mangle)]
+pub extern "C" fn gwb_line(alloc: Global, gwb: &mut Gwb, line: &[u8]) -> u32
+    ensures { Hears gwb.old.held.value line.now gwb.new.held.value result }
+{
+    let Some(slot) = take(alloc, gwb) else {
+        return 9;
+    };
+    let mut slot = slot;
+    answer_line(alloc, &mut slot, line);
+    let kind = status(&slot.answer);
+    put(gwb, slot);
+    kind
+}
+
+/// Writes the text of the last answer, as far as there is room, and says how long it is: `SIZE_MAX` where memory is refused, or
+/// there is no session. It can be asked again with more room.
+#[unsafe(no_mangle)]
+pub extern "C" fn gwb_reply(alloc: Global, gwb: &mut Gwb, buf: &mut [u8]) -> usize
+    ensures state { gwb.new.held.value ≡ gwb.old.held.value }
+    ensures text { Replies gwb.old.held.value buf.old buf.new result }
+{
+    let Some(slot) = take(alloc, gwb) else {
+        return usize::MAX;
+    };
+    let mut length = usize::MAX;
+    if let Some(session) = &slot.session {
+        if let Some(text) = text_of(alloc, session, &slot.answer) {
+            length = copy_front(&text, buf);
+        }
+    }
+    put(gwb, slot);
+    length
+}
+
+fn depth_of(slot: &Slot) -> usize
+    ensures { Counts depth (Some slot.now) result }
+{
+    match &slot.session {
+        Some(session) => session.depth(),
+        None => 0,
+    }
+}
+
+fn ahead_of(slot: &Slot) -> usize
+    ensures { Counts ahead (Some slot.now) result }
+{
+    match &slot.session {
+        Some(session) => session.ahead(),
+        None => 0,
+    }
+}
+
+/// How many commands can be undone: `SIZE_MAX` where there is no session.
+#[unsafe(no_mangle)]
+pub extern "C" fn gwb_depth(alloc: Global, gwb: &mut Gwb) -> usize
+    ensures state { gwb.new.held.value ≡ gwb.old.held.value }
+    ensures value { Counts depth gwb.old.held.value result }
+{
+    let Some(slot) = take(alloc, gwb) else {
+        return usize::MAX;
+    };
+    let depth = depth_of(&slot);
+    put(gwb, slot);
+    depth
+}
+
+/// How many commands can be redone: `SIZE_MAX` where there is no session.
+#[unsafe(no_mangle)]
+pub extern "C" fn gwb_ahead(alloc: Global, gwb: &mut Gwb) -> usize
+    ensures state { gwb.new.held.value ≡ gwb.old.held.value }
+    ensures value { Counts ahead gwb.old.held.value result }
+{
+    let Some(slot) = take(alloc, gwb) else {
+        return usize::MAX;
+    };
+    let ahead = ahead_of(&slot);
+    put(gwb, slot);
+    ahead
+}

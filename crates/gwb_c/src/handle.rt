@@ -1,0 +1,48 @@
+//! The handle: a session that lies with C, or none.
+ghost use Rattle.std.specs.Prelude.{◌≡◌, ◌↔◌, IsTrue, IsSome, Some, None, MatchOption};
+
+use crate::held::Held;
+use crate::slot::Slot;
+use std::alloc::Global;
+use std::mem;
+
+/// A session, or none before `gwb_open` and behind `gwb_close`.
+#[repr(C)]
+#[derive(Drop)]
+pub struct Gwb {
+    is_open: bool,
+    held: Held,
+    ghost agrees: { IsTrue is_open ↔ IsSome held.value },
+}
+
+fn closed() -> Gwb
+    ensures { result.held.value ≡ None }
+{
+    Gwb {
+        is_open: false,
+        held: Held::none(),
+    }
+}
+
+/// Hands a session over to C.
+pub(crate) fn put(gwb: &mut Gwb, slot: Box<Slot, Global>)
+    ensures { gwb.new.held.value ≡ Some slot.value }
+{
+    *gwb = Gwb {
+        is_open: true,
+        held: Held::of(slot),
+    };
+}
+
+/// The session, if there is one: until it is handed over again the handle is closed.
+pub(crate) fn take(alloc: Global, gwb: &mut Gwb) -> Option<Box<Slot, Global>>
+    ensures left { gwb.new.held.value ≡ None }
+    ensures slot { MatchOption result (gwb.old.held.value ≡ None) (λ b. gwb.old.held.value ≡ Some b.value) }
+{
+    let old = mem::replace(gwb, closed());
+    if old.is_open {
+        Some(old.held.into_box(alloc))
+    } else {
+        None
+    }
+}

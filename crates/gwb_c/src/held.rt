@@ -1,0 +1,66 @@
+//! The pointer that C keeps.
+ghost use Rattle.std.specs.Prelude.{◌≡◌, Option, None, Some, IsSome};
+ghost use Rattle.gwb_c.specs.declared.slot.Slot.{Slot};
+
+use crate::loose::Loose;
+use crate::slot::Slot;
+use std::alloc::Global;
+use std::marker::Model;
+use std::ptr;
+
+/// A box whose pointer lies with C, or none.
+#[repr(C)]
+#[derive(Drop)]
+pub struct Held {
+    at: *mut u8,
+    ghost value: { Option Slot },
+}
+
+impl Model for Held {
+    ghost use Rattle.gwb_c.specs.Owned.{held_owns};
+
+    ghost also_owns = { λ h. held_owns h.at h.value };
+}
+
+impl Held {
+    /// No box.
+    pub(crate) fn none() -> Held
+        ensures { result.value ≡ None }
+    {
+        let at = ptr::null_mut();
+        Held { at }
+    }
+
+    fn lay_down(loose: Loose<Slot, Global>) -> Held
+        ensures { result.value ≡ Some loose.value }
+    {
+        let Loose { at, alloc: _ } = loose;
+        Held { at: at as *mut u8 }
+    }
+
+    fn take_up(self, alloc: Global) -> Loose<Slot, Global>
+        requires { IsSome self.value }
+        ensures { Some result.value ≡ self.value }
+    {
+        let Held { at } = self;
+        Loose {
+            at: at as *mut Slot,
+            alloc,
+        }
+    }
+
+    /// Puts a box down.
+    pub(crate) fn of(boxed: Box<Slot, Global>) -> Held
+        ensures { result.value ≡ Some boxed.value }
+    {
+        Held::lay_down(Loose::of(boxed))
+    }
+
+    /// Takes the box up again.
+    pub(crate) fn into_box(self, alloc: Global) -> Box<Slot, Global>
+        requires { IsSome self.value }
+        ensures { Some result.value ≡ self.value }
+    {
+        self.take_up(alloc).into_box()
+    }
+}

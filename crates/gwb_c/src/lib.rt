@@ -1,0 +1,19 @@
+//! The workbench as a static library for C: a session behind a handle, lines that are answered, and readers of the model held.
+//!
+//! `exports` has the calls that take and give text, `recalls` those that give the last answer as values, `reads` those that read the
+//! model held; the contract of each says what the handle stands for before and after it. `bindings/include/gwb.h` declares them for C.
+#![tactic(auto)]
+
+mod answers;
+mod exports;
+mod handle;
+mod held;
+mod loose;
+mod readers;
+mod reads;
+mod recalls;
+mod slot;
+
+pub use answers::{Counts, Refused};
+pub use handle::Gwb;
+pub use readers::{EdgeRow, FaceRow, Place};

@@ -1,0 +1,219 @@
+//! Calls of C: the model held, read without text. Each says 1 where the value is there, and writes it; 0 where it is not there, and 9
+//! where there is no session: then nothing is written.
+ghost use Rattle.std.specs.Prelude.{◌≡◌, Some};
+ghost use Rattle.gwb_c.specs.Reading.{face_in, face_of_loop_in, edge_in, point_in, lone_in, after_in, IsRingAfter, IsFaceAfter, kind_of, IsNumberAfter};
+ghost use Rattle.gwb_c.specs.Handle.{Reads, Finds};
+
+use crate::answers::give;
+use crate::handle::{Gwb, put, take};
+use crate::readers;
+use crate::readers::{EdgeRow, FaceRow, Place};
+use crate::slot::Slot;
+use std::alloc::Global;
+
+/// The solid and the outer loop of a face.
+#[unsafe(no_mangle)]
+pub extern "C" fn gwb_face(alloc: Global, gwb: &mut Gwb, face: u32, row: &mut FaceRow) -> u32
+    ensures state { gwb.new.held.value ≡ gwb.old.held.value }
+    ensures value { Reads (face_in face) gwb.old.held.value row.old row.new result }
+{
+    let Some(slot) = take(alloc, gwb) else {
+        return 9;
+    };
+    let told = match &slot.session {
+        Some(session) => give(readers::face(session, face), row),
+        None => 0,
+    };
+    put(gwb, slot);
+    told
+}
+
+/// The face of a loop.
+#[unsafe(no_mangle)]
+pub extern "C" fn gwb_loop(alloc: Global, gwb: &mut Gwb, l: u32, face: &mut u32) -> u32
+    ensures state { gwb.new.held.value ≡ gwb.old.held.value }
+    ensures value { Reads (face_of_loop_in l) gwb.old.held.value face.old face.new result }
+{
+    let Some(slot) = take(alloc, gwb) else {
+        return 9;
+    };
+    let told = match &slot.session {
+        Some(session) => give(readers::face_of_loop(session, l), face),
+        None => 0,
+    };
+    put(gwb, slot);
+    told
+}
+
+/// The vertices at which the half-edges of an edge start.
+#[unsafe(no_mangle)]
+pub extern "C" fn gwb_edge(alloc: Global, gwb: &mut Gwb, edge: u32, row: &mut EdgeRow) -> u32
+    ensures state { gwb.new.held.value ≡ gwb.old.held.value }
+    ensures value { Reads (edge_in edge) gwb.old.held.value row.old row.new result }
+{
+    let Some(slot) = take(alloc, gwb) else {
+        return 9;
+    };
+    let told = match &slot.session {
+        Some(session) => give(readers::edge(session, edge), row),
+        None => 0,
+    };
+    put(gwb, slot);
+    told
+}
+
+/// The coordinates of a vertex.
+#[unsafe(no_mangle)]
+pub extern "C" fn gwb_vertex(alloc: Global, gwb: &mut Gwb, vertex: u32, place: &mut Place) -> u32
+    ensures state { gwb.new.held.value ≡ gwb.old.held.value }
+    ensures value { Reads (point_in vertex) gwb.old.held.value place.old place.new result }
+{
+    let Some(slot) = take(alloc, gwb) else {
+        return 9;
+    };
+    let told = match &slot.session {
+        Some(session) => give(readers::vertex(session, vertex), place),
+        None => 0,
+    };
+    put(gwb, slot);
+    told
+}
+
+/// The vertex of a loop that has one and no edge.
+#[unsafe(no_mangle)]
+pub extern "C" fn gwb_lone_vertex(alloc: Global, gwb: &mut Gwb, l: u32, vertex: &mut u32) -> u32
+    ensures state { gwb.new.held.value ≡ gwb.old.held.value }
+    ensures value { Reads (lone_in l) gwb.old.held.value vertex.old vertex.new result }
+{
+    let Some(slot) = take(alloc, gwb) else {
+        return 9;
+    };
+    let told = match &slot.session {
+        Some(session) => give(readers::lone_vertex(session, l), vertex),
+        None => 0,
+    };
+    put(gwb, slot);
+    told
+}
+
+/// The half-edge after another in its loop.
+#[unsafe(no_mangle)]
+pub extern "C" fn gwb_next_half_edge(alloc: Global, gwb: &mut Gwb, item: u32, next: &mut u32) -> u32
+    ensures state { gwb.new.held.value ≡ gwb.old.held.value }
+    ensures value { Reads (after_in item) gwb.old.held.value next.old next.new result }
+{
+    let Some(slot) = take(alloc, gwb) else {
+        return 9;
+    };
+    let told = match &slot.session {
+        Some(session) => give(readers::next_half_edge(session, item), next),
+        None => 0,
+    };
+    put(gwb, slot);
+    told
+}
+
+fn find_ring_after(slot: &Slot, face: u32, n: u32, ring: &mut u32) -> u32
+    ensures { Finds (IsRingAfter face n) (Some slot.now) ring.old ring.new result }
+{
+    let Some(session) = &slot.session else {
+        return 0;
+    };
+    match readers::ring_after(session, face, n) {
+        Some(found) => {
+            *ring = found;
+            1
+        }
+        None => 0,
+    }
+}
+
+/// The least ring of a face above n.
+#[unsafe(no_mangle)]
+pub extern "C" fn gwb_ring_after(
+    alloc: Global,
+    gwb: &mut Gwb,
+    face: u32,
+    n: u32,
+    ring: &mut u32,
+) -> u32
+    ensures state { gwb.new.held.value ≡ gwb.old.held.value }
+    ensures value { Finds (IsRingAfter face n) gwb.old.held.value ring.old ring.new result }
+{
+    let Some(slot) = take(alloc, gwb) else {
+        return 9;
+    };
+    let told = find_ring_after(&slot, face, n, ring);
+    put(gwb, slot);
+    told
+}
+
+fn find_face_after(slot: &Slot, solid: u32, n: u32, face: &mut u32) -> u32
+    ensures { Finds (IsFaceAfter solid n) (Some slot.now) face.old face.new result }
+{
+    let Some(session) = &slot.session else {
+        return 0;
+    };
+    match readers::face_after(session, solid, n) {
+        Some(found) => {
+            *face = found;
+            1
+        }
+        None => 0,
+    }
+}
+
+/// The least face of a solid above n.
+#[unsafe(no_mangle)]
+pub extern "C" fn gwb_face_after(
+    alloc: Global,
+    gwb: &mut Gwb,
+    solid: u32,
+    n: u32,
+    face: &mut u32,
+) -> u32
+    ensures state { gwb.new.held.value ≡ gwb.old.held.value }
+    ensures value { Finds (IsFaceAfter solid n) gwb.old.held.value face.old face.new result }
+{
+    let Some(slot) = take(alloc, gwb) else {
+        return 9;
+    };
+    let told = find_face_after(&slot, solid, n, face);
+    put(gwb, slot);
+    told
+}
+
+fn find_number_after(slot: &Slot, entity: u32, n: u32, number: &mut u32) -> u32
+    ensures { Finds (IsNumberAfter (kind_of entity) n) (Some slot.now) number.old number.new result }
+{
+    let Some(session) = &slot.session else {
+        return 0;
+    };
+    match readers::number_after(session, entity, n) {
+        Some(found) => {
+            *number = found;
+            1
+        }
+        None => 0,
+    }
+}
+
+/// The least number of a kind in use above n: 0 for solids, 1 for faces, 2 for loops, 3 for edges, 4 for vertices.
+#[unsafe(no_mangle)]
+pub extern "C" fn gwb_number_after(
+    alloc: Global,
+    gwb: &mut Gwb,
+    entity: u32,
+    n: u32,
+    number: &mut u32,
+) -> u32
+    ensures state { gwb.new.held.value ≡ gwb.old.held.value }
+    ensures value { Finds (IsNumberAfter (kind_of entity) n) gwb.old.held.value number.old number.new result }
+{
+    let Some(slot) = take(alloc, gwb) else {
+        return 9;
+    };
+    let told = find_number_after(&slot, entity, n, number);
+    put(gwb, slot);
+    told
+}
