@@ -6,7 +6,6 @@
 The models are those that the lines of random_lines.py leave, every 50th line.
 """
 import ctypes
-import re
 import sys
 
 from library_session import Handle, Session, loaded
@@ -19,7 +18,7 @@ U32, I64 = ctypes.c_uint32, ctypes.c_int64
 NUMBER, PAIR, POINT = U32 * 1, U32 * 2, I64 * 3
 READERS = {
     'number_after': (2, NUMBER), 'face': (1, PAIR), 'ring_after': (2, NUMBER), 'face_after': (2, NUMBER), 'loop': (1, NUMBER),
-    'lone_vertex': (1, NUMBER), 'next_half_edge': (1, NUMBER), 'edge': (1, PAIR), 'vertex': (1, POINT)}
+    'lone_vertex': (1, NUMBER), 'first_half_edge': (1, NUMBER), 'next_half_edge': (1, NUMBER), 'edge': (1, PAIR), 'vertex': (1, POINT)}
 
 
 class Readers:
@@ -48,25 +47,22 @@ class Readers:
             number, = found
             yield number
 
-    def cycle(self, first):
-        """The half-edges of the loop in which one stands, from it on."""
-        found = [first]
-        while (after := self.ask('next_half_edge', found[-1])[0]) != first:
-            found.append(after)
-        return found
-
-    def cycles(self):
-        """The loops that have edges, each as a listing has it, from its least half-edge on."""
-        left = {2 * edge + side for edge in self.rising('number_after', EDGE) for side in (0, 1)}
-        while left:
-            found = self.cycle(min(left))
-            left.difference_update(found)
-            yield ' '.join('%s%d' % ('+-'[half % 2], half // 2) for half in found)
+    def half_edges(self, loop):
+        """The half-edges of a loop from the least on; none where it is lone."""
+        found = self.ask('first_half_edge', loop)
+        if found is None:
+            return []
+        cycle = [found[0]]
+        while (after := self.ask('next_half_edge', cycle[-1])[0]) != cycle[0]:
+            cycle.append(after)
+        least = cycle.index(min(cycle))
+        return cycle[least:] + cycle[:least]
 
     def loop_row(self, loop):
-        """`at V` of a lone loop; of others, what no reader says, nothing."""
-        lone = self.ask('lone_vertex', loop)
-        return 'at %d' % lone if lone else ''
+        halves, lone = self.half_edges(loop), self.ask('lone_vertex', loop)
+        if (lone is None) != bool(halves):
+            raise ValueError('loop %d: %r, %r' % (loop, halves, lone))
+        return 'at %d' % lone if lone else ' '.join('%s%d' % ('+-'[half % 2], half // 2) for half in halves)
 
     def face_row(self, face):
         solid, outer = self.ask('face', face)
@@ -77,7 +73,7 @@ class Readers:
         return ' '.join(map(str, [solid, outer, *rings]))
 
     def listing(self):
-        """The listing of the model, made of what the readers say, but for the half-edges of its loops."""
+        """The listing of the model, made of what the readers say."""
         rows = {SOLID: lambda solid: '', FACE: self.face_row, LOOP: self.loop_row,
                 EDGE: lambda edge: '%d %d' % self.ask('edge', edge), VERTEX: lambda vertex: '%d %d %d' % self.ask('vertex', vertex)}
         lines = []
@@ -93,21 +89,13 @@ class Readers:
                    for solid in self.rising('number_after', SOLID))
 
 
-def parted(listing):
-    """The listing without the half-edges of its loops, and these."""
-    cycles = re.findall('^loop [0-9]+ ([+-].*)$', listing.decode(), re.MULTILINE)
-    return re.sub(b'(?m)^(loop [0-9]+) [+-].*$', b'\\1', listing), sorted(cycles)
-
-
 def complaint(session, readers):
     """What is wrong with the readers of the model held, or None."""
     session.line(b'list')
-    wanted, cycles = parted(session.text())
+    wanted = session.text()
     got = readers.listing()
     if got != wanted:
         return '%r, not %r' % (got[:300], wanted[:300])
-    if sorted(readers.cycles()) != cycles:
-        return 'loops %r, not %r' % (sorted(readers.cycles()), cycles)
     if not readers.faces_of_solids():
         return 'other faces of a solid: %r' % wanted[:300]
     absent = [readers.ask('number_after', 5, 0)] + [readers.ask(name, *[999999] * takes) for name, (takes, _) in READERS.items()]

@@ -18,19 +18,6 @@ static void say(gwb *g, const char *line)
     printf("%-20s -> %.*s", line, (int)length, (const char *)text);
 }
 
-/* Prints the faces of a solid: the outer loop of each, and its rings. */
-static void print_faces(gwb *g, uint32_t solid)
-{
-    for (uint32_t face = 0; gwb_face_after(g, solid, face, &face) == GWB_FOUND;) {
-        gwb_face_row row;
-        gwb_face(g, face, &row);
-        printf("face %" PRIu32 ": loop %" PRIu32, face, row.outer_loop);
-        for (uint32_t ring = 0; gwb_ring_after(g, face, ring, &ring) == GWB_FOUND;)
-            printf(" %" PRIu32, ring);
-        printf("\n");
-    }
-}
-
 /* The least half-edge of the loop in which one stands. */
 static uint32_t least_of(gwb *g, uint32_t first)
 {
@@ -41,23 +28,33 @@ static uint32_t least_of(gwb *g, uint32_t first)
     return least;
 }
 
-/* Prints a loop from a half-edge on. */
-static void print_cycle(gwb *g, uint32_t first)
+/* Prints the half-edges of a loop, from the least on, or its one vertex. */
+static void print_loop(gwb *g, uint32_t loop)
 {
-    uint32_t half_edge = first;
-    do
-        printf(" %c%" PRIu32, half_edge % 2 == 0 ? '+' : '-', half_edge / 2);
-    while (gwb_next_half_edge(g, half_edge, &half_edge) == GWB_FOUND && half_edge != first);
+    uint32_t found, vertex;
+    printf("  loop %" PRIu32, loop);
+    if (gwb_lone_vertex(g, loop, &vertex) == GWB_FOUND)
+        printf(" at %" PRIu32, vertex);
+    if (gwb_first_half_edge(g, loop, &found) == GWB_FOUND) {
+        uint32_t least = least_of(g, found), half_edge = least;
+        do
+            printf(" %c%" PRIu32, half_edge % 2 == 0 ? '+' : '-', half_edge / 2);
+        while (gwb_next_half_edge(g, half_edge, &half_edge) == GWB_FOUND && half_edge != least);
+    }
     printf("\n");
 }
 
-/* Prints each loop of the model that has edges, once, from its least half-edge on. */
-static void print_cycles(gwb *g)
+/* Prints the faces of a solid with their loops. */
+static void print_faces(gwb *g, uint32_t solid)
 {
-    for (uint32_t edge = 0; gwb_number_after(g, GWB_EDGE, edge, &edge) == GWB_FOUND;)
-        for (uint32_t half_edge = 2 * edge; half_edge <= 2 * edge + 1; half_edge++)
-            if (least_of(g, half_edge) == half_edge)
-                print_cycle(g, half_edge);
+    for (uint32_t face = 0; gwb_face_after(g, solid, face, &face) == GWB_FOUND;) {
+        gwb_face_row row;
+        gwb_face(g, face, &row);
+        printf("face %" PRIu32 " of solid %" PRIu32 "\n", face, row.solid);
+        print_loop(g, row.outer_loop);
+        for (uint32_t ring = 0; gwb_ring_after(g, face, ring, &ring) == GWB_FOUND;)
+            print_loop(g, ring);
+    }
 }
 
 /* Prints the highest vertex, and how many there are. */
@@ -78,15 +75,13 @@ int main(void)
 {
     gwb g = {0};
     gwb_refusal refusal;
-    gwb_counts counts;
+    gwb_wide volume;
     if (!gwb_open(&g))
         return 1;
     say(&g, "block 1 0 0 0 4 4 4");
     say(&g, "volume 1");
-    say(&g, "count 1");
-    if (gwb_last_counts(&g, &counts) == GWB_FOUND)
-        printf("%" PRId64 " faces, %" PRId64 " edges, %" PRId64 " vertices\n", counts.faces, counts.edges, counts.vertices);
-    print_cycles(&g);
+    if (gwb_last_volume(&g, &volume) == GWB_FOUND)
+        printf("six volumes: %" PRId64 " * 2^64 + %" PRIu64 "\n", volume.high, volume.low);
     say(&g, "split 1 0 0 1 -2 2");
     say(&g, "volume 1");
     say(&g, "volume 2");
