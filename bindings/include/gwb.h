@@ -75,6 +75,11 @@ typedef struct gwb_refusal {
     uint32_t value;  /* that goes with it */
 } gwb_refusal;
 
+typedef struct gwb_wide {
+    int64_t high;
+    uint64_t low;
+} gwb_wide; /* high * 2^64 + low */
+
 typedef struct gwb_counts {
     int64_t vertices, edges, faces, rings;
     int64_t sum; /* vertices - edges + faces - rings */
@@ -82,6 +87,7 @@ typedef struct gwb_counts {
 
 uint32_t gwb_last_refusal(gwb *g, gwb_refusal *refusal);
 uint32_t gwb_last_fault(gwb *g, uint32_t *number);
+uint32_t gwb_last_volume(gwb *g, gwb_wide *six_volumes);
 uint32_t gwb_last_counts(gwb *g, gwb_counts *counts);
 
 /* The model held, read without text. */
@@ -109,6 +115,9 @@ uint32_t gwb_loop(gwb *g, uint32_t loop, uint32_t *face);
 uint32_t gwb_lone_vertex(gwb *g, uint32_t loop, uint32_t *vertex);
 
 /* A half-edge is its edge's number times 2, and 1 more for the edge's second. */
+
+/* A half-edge of a loop. GWB_ABSENT also where the loop has one vertex and no edge. */
+uint32_t gwb_first_half_edge(gwb *g, uint32_t loop, uint32_t *half_edge);
 
 /* The half-edge after another in its loop. GWB_ABSENT where its edge is not there. */
 uint32_t gwb_next_half_edge(gwb *g, uint32_t half_edge, uint32_t *next);

@@ -1,12 +1,11 @@
 -- The last answer, as values.
-use Rattle.std.specs.Prelude.{◌≡◌, ℕ, ℤ, List, Option, Some, None, get_or, pos}
-use Rattle.euler_operators.specs.declared.Plane.{Plane}
+use Rattle.std.specs.Prelude.{ℕ, ℤ, ◌+ℤ◌, ◌*ℤ◌, Option, Some, None, get_or, pos}
 use Rattle.solid_listing.specs.declared.reply.Reply.TheVariants as reply
 use Rattle.script_running.specs.declared.script_judging.judging.Answer.{Answer}
 use Rattle.script_running.specs.declared.script_judging.judging.Answer.TheVariants.{Silent, Reply as Told, Listing}
 use Rattle.gwb_c.specs.declared.answers.Refused.{Refused}
 use Rattle.gwb_c.specs.declared.answers.Counts.{Counts}
-use Rattle.gwb_c.specs.declared.slot.Slot.{Slot}
+use Rattle.gwb_c.specs.declared.answers.Wide.{Wide}
 
 -- what a refusal names, if the answer is one
 abbrev pub refusal_in : Answer → Option Refused
@@ -55,3 +54,7 @@ volume_in (Told (reply.Plane p flat)) = None
 volume_in (Told (reply.Volume n)) = Some n
 volume_in (Told (reply.Count ns)) = None
 volume_in Listing = None
+
+-- the number of two halves, whose upper one has the sign
+abbrev pub whole : Wide → ℤ
+whole w = w.high *ℤ pos 18446744073709551616 +ℤ pos w.low

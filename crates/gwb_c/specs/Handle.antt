@@ -75,6 +75,15 @@ abbrev pub Recalls : {X : Type 0} → (Answer → Option X) → Option Slot → 
 Recalls f None old new told = (told ≡ 9) × (new ≡ old)
 Recalls f (Some y) old new told = Gives (f y.answer) old new told
 
+-- the same where it is written in another form
+abbrev pub GivesBy : {X Y : Type 0} → (Y → X) → Option X → Y → Y → ℕ → Type 0
+GivesBy f None old new told = (told ≡ 0) × (new ≡ old)
+GivesBy f (Some x) old new told = (told ≡ 1) × (f new ≡ x)
+
+abbrev pub RecallsBy : {X Y : Type 0} → (Y → X) → (Answer → Option X) → Option Slot → Y → Y → ℕ → Type 0
+RecallsBy g f None old new told = (told ≡ 9) × (new ≡ old)
+RecallsBy g f (Some y) old new told = GivesBy g (f y.answer) old new told
+
 -- a value of the model held; a closed handle has none
 abbrev pub Reads : {X : Type 0} → (Model → Option X) → Option Slot → X → X → ℕ → Type 0
 Reads f None old new told = (told ≡ 9) × (new ≡ old)

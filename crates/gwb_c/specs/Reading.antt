@@ -1,5 +1,6 @@
 -- What readers tell of a model.
 use Rattle.std.specs.Prelude.{◌≡◌, ℕ, true, false, cond, nat_eq, Option, Some, None}
+use Rattle.euler_operators.specs.Items.{IsIn}
 use Rattle.euler_operators.specs.Table as table
 use Rattle.euler_operators.specs.HalfEdge.{plus, minus, edge_of}
 use Rattle.euler_operators.specs.Model.{Model, LoopContent, lone, cycle, solid_of, outer, face_of, content, tail, after, point_of}
@@ -32,6 +33,17 @@ lone_of (cycle hs) = None
 
 abbrev pub lone_in : ℕ → Model → Option ℕ
 lone_in l M = cond (table.has M.loops l) (lone_of (content M l)) None
+
+-- a half-edge of the loop; none where the loop is lone
+abbrev pub IsItemOf : LoopContent → Option ℕ → Type 0
+IsItemOf (lone v) None = Unit {0}
+IsItemOf (lone v) (Some h) = ⊥
+IsItemOf (cycle hs) None = ⊥
+IsItemOf (cycle hs) (Some h) = IsIn h hs
+
+-- a half-edge of loop l; none where l is not there
+abbrev pub IsFirst : ℕ → Model → Option ℕ → Type 0
+IsFirst l M o = (table.has M.loops l ≡ true → IsItemOf (content M l) o) × (table.has M.loops l ≡ false → o ≡ None)
 
 -- the item after half-edge h in its loop, if h's edge is there
 abbrev pub after_in : ℕ → Model → Option ℕ

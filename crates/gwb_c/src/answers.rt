@@ -1,8 +1,9 @@
 //! The last answer, as values.
-ghost use Rattle.std.specs.Prelude.{◌≡◌};
-ghost use Rattle.gwb_c.specs.Answered.{refusal_in, fault_in, counts_in};
-ghost use Rattle.gwb_c.specs.Handle.{Gives};
+ghost use Rattle.std.specs.Prelude.{◌≡◌, ◌+◌, ◌*◌, ◌<◌, ◌≤ℤ◌, pos, unsigned_abs};
+ghost use Rattle.gwb_c.specs.Answered.{refusal_in, fault_in, counts_in, volume_in, whole};
+ghost use Rattle.gwb_c.specs.Handle.{Gives, GivesBy};
 
+use crate::handle::{ABSENT, FOUND};
 use script_running::Answer;
 use solid_listing::Reply;
 
@@ -23,6 +24,40 @@ pub struct Counts {
     pub faces: i64,
     pub rings: i64,
     pub sum: i64,
+}
+
+/// A number in two halves: `high * 2^64 + low`.
+#[repr(C)]
+#[derive(Clone, Copy)]
+pub struct Wide {
+    pub high: i64,
+    pub low: u64,
+}
+
+/// A number that is not negative, in two halves.
+fn split_in_words(n: u128) -> (i64, u64)
+    requires { n < 170141183460469231731687303715884105728 }
+    ensures value { n ≡ unsigned_abs result.0 * 18446744073709551616 + result.1 }
+    ensures sign { pos 0 ≤ℤ result.0 }
+{
+    let word = 1 << 64;
+    ((n / word) as i64, (n % word) as u64)
+}
+
+/// A number in two halves.
+fn halves(n: i128) -> Wide
+    ensures { whole result ≡ n }
+{
+    if n >= 0 {
+        let (high, low) = split_in_words(n as u128);
+        Wide { high, low }
+    } else {
+        let (high, low) = split_in_words(-(n + 1) as u128);
+        Wide {
+            high: -1 - high,
+            low: u64::MAX - low,
+        }
+    }
 }
 
 /// What the refusal names, if the answer is one.
@@ -71,8 +106,31 @@ pub(crate) fn give<T: Copy>(value: Option<T>, out: &mut T) -> u32
     match value {
         Some(value) => {
             *out = value;
-            1
+            FOUND
         }
-        None => 0,
+        None => ABSENT,
+    }
+}
+
+/// Six times the volume, if the answer tells it.
+pub(crate) fn volume_of(answer: &Answer) -> Option<i128>
+    ensures { result ≡ volume_in answer.now }
+{
+    match answer {
+        Answer::Reply(Reply::Volume(n)) => Some(*n),
+        _ => None,
+    }
+}
+
+/// Writes a number that is there in two halves, and says whether it is.
+pub(crate) fn give_wide(value: Option<i128>, out: &mut Wide) -> u32
+    ensures { GivesBy whole value out.old out.new result }
+{
+    match value {
+        Some(n) => {
+            *out = halves(n);
+            FOUND
+        }
+        None => ABSENT,
     }
 }

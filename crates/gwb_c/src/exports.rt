@@ -3,7 +3,7 @@ ghost use Rattle.std.specs.Prelude.{◌≡◌, Some, None};
 ghost use Rattle.undo_journal.specs.Machine.{depth, ahead};
 ghost use Rattle.gwb_c.specs.Handle.{Opened, Hears, Counts, Replies};
 
-use crate::handle::{Gwb, put, take};
+use crate::handle::{CLOSED, Gwb, put, take};
 use crate::slot::{Slot, answer_line, copy_front, made, status, text_of};
 use std::alloc::Global;
 
@@ -40,7 +40,7 @@ pub extern "C" fn gwb_line(alloc: Global, gwb: &mut Gwb, line: &[u8]) -> u32
     ensures { Hears gwb.old.held.value line.now gwb.new.held.value result }
 {
     let Some(slot) = take(alloc, gwb) else {
-        return 9;
+        return CLOSED;
     };
     let mut slot = slot;
     answer_line(alloc, &mut slot, line);

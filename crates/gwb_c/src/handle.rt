@@ -6,6 +6,13 @@ use crate::slot::Slot;
 use std::alloc::Global;
 use std::mem;
 
+/// What a call says of a closed handle, and of a value that is there or not.
+pub(crate) const CLOSED: u32 = 9;
+
+pub(crate) const FOUND: u32 = 1;
+
+pub(crate) const ABSENT: u32 = 0;
+
 /// A session, or none before `gwb_open` and behind `gwb_close`.
 #[repr(C)]
 #[derive(Drop)]
@@ -15,7 +22,8 @@ pub struct Gwb {
     ghost agrees: { IsTrue is_open ↔ IsSome held.value },
 }
 
-fn closed() -> Gwb
+/// A closed handle.
+pub(crate) fn closed() -> Gwb
     ensures { result.held.value ≡ None }
 {
     Gwb {

@@ -14,6 +14,6 @@ mod reads;
 mod recalls;
 mod slot;
 
-pub use answers::{Counts, Refused};
+pub use answers::{Counts, Refused, Wide};
 pub use handle::Gwb;
 pub use readers::{EdgeRow, FaceRow, Place};

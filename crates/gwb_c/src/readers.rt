@@ -5,7 +5,7 @@ ghost use Rattle.euler_operators.specs.Model.{content, after};
 ghost use Rattle.euler_conditions.specs.Store.{has_number, IsNextNumber};
 ghost use Rattle.euler_conditions.specs.Ready.{IsReady};
 ghost use Rattle.undo_journal.specs.Machine.{held};
-ghost use Rattle.gwb_c.specs.Reading.{face_in, edge_in, ends_of, point_in, face_of_loop_in, lone_of, lone_in, after_in, IsRingAfter, IsFaceAfter, kind_of, store_of, IsNumberAfter};
+ghost use Rattle.gwb_c.specs.Reading.{face_in, edge_in, ends_of, point_in, face_of_loop_in, lone_of, lone_in, after_in, IsRingAfter, IsFaceAfter, IsItemOf, IsFirst, kind_of, store_of, IsNumberAfter};
 
 use euler_conditions::{Arena, next};
 use euler_operators::{Content, HalfEdge, Kind, Point};
@@ -108,6 +108,29 @@ pub(crate) fn lone_vertex(session: &Session, l: u32) -> Option<u32>
         return None;
     }
     lone_at(arena, l)
+}
+
+/// A half-edge of a loop that is there, where it has any.
+fn item_at(arena: &Arena, l: u32) -> Option<u32>
+    requires ready { IsReady arena.now }
+    requires there { has_number arena.now Kind.Loop l ≡ true }
+    ensures { IsItemOf (content arena.now.model l) result }
+{
+    match arena.content(l) {
+        Content::Lone(_) => None,
+        Content::Ring(half) => Some(half.code()),
+    }
+}
+
+/// A half-edge of a loop.
+pub(crate) fn first_half_edge(session: &Session, l: u32) -> Option<u32>
+    ensures { IsFirst l (held session.now) result }
+{
+    let arena = session.arena();
+    if !arena.has(Kind::Loop, l) {
+        return None;
+    }
+    item_at(arena, l)
 }
 
 /// The code of the item after a half-edge whose edge is there.

@@ -1,11 +1,11 @@
 //! Calls of C: the model held, read without text. Each says 1 where the value is there, and writes it; 0 where it is not there, and 9
 //! where there is no session: then nothing is written.
 ghost use Rattle.std.specs.Prelude.{◌≡◌, Some};
-ghost use Rattle.gwb_c.specs.Reading.{face_in, face_of_loop_in, edge_in, point_in, lone_in, after_in, IsRingAfter, IsFaceAfter, kind_of, IsNumberAfter};
+ghost use Rattle.gwb_c.specs.Reading.{face_in, face_of_loop_in, edge_in, point_in, lone_in, after_in, IsRingAfter, IsFaceAfter, IsFirst, kind_of, IsNumberAfter};
 ghost use Rattle.gwb_c.specs.Handle.{Reads, Finds};
 
 use crate::answers::give;
-use crate::handle::{Gwb, put, take};
+use crate::handle::{ABSENT, CLOSED, FOUND, Gwb, put, take};
 use crate::readers;
 use crate::readers::{EdgeRow, FaceRow, Place};
 use crate::slot::Slot;
@@ -18,11 +18,11 @@ pub extern "C" fn gwb_face(alloc: Global, gwb: &mut Gwb, face: u32, row: &mut Fa
     ensures value { Reads (face_in face) gwb.old.held.value row.old row.new result }
 {
     let Some(slot) = take(alloc, gwb) else {
-        return 9;
+        return CLOSED;
     };
     let told = match &slot.session {
         Some(session) => give(readers::face(session, face), row),
-        None => 0,
+        None => ABSENT,
     };
     put(gwb, slot);
     told
@@ -35,11 +35,11 @@ pub extern "C" fn gwb_loop(alloc: Global, gwb: &mut Gwb, l: u32, face: &mut u32)
     ensures value { Reads (face_of_loop_in l) gwb.old.held.value face.old face.new result }
 {
     let Some(slot) = take(alloc, gwb) else {
-        return 9;
+        return CLOSED;
     };
     let told = match &slot.session {
         Some(session) => give(readers::face_of_loop(session, l), face),
-        None => 0,
+        None => ABSENT,
     };
     put(gwb, slot);
     told
@@ -52,11 +52,11 @@ pub extern "C" fn gwb_edge(alloc: Global, gwb: &mut Gwb, edge: u32, row: &mut Ed
     ensures value { Reads (edge_in edge) gwb.old.held.value row.old row.new result }
 {
     let Some(slot) = take(alloc, gwb) else {
-        return 9;
+        return CLOSED;
     };
     let told = match &slot.session {
         Some(session) => give(readers::edge(session, edge), row),
-        None => 0,
+        None => ABSENT,
     };
     put(gwb, slot);
     told
@@ -69,11 +69,11 @@ pub extern "C" fn gwb_vertex(alloc: Global, gwb: &mut Gwb, vertex: u32, place: &
     ensures value { Reads (point_in vertex) gwb.old.held.value place.old place.new result }
 {
     let Some(slot) = take(alloc, gwb) else {
-        return 9;
+        return CLOSED;
     };
     let told = match &slot.session {
         Some(session) => give(readers::vertex(session, vertex), place),
-        None => 0,
+        None => ABSENT,
     };
     put(gwb, slot);
     told
@@ -86,11 +86,11 @@ pub extern "C" fn gwb_lone_vertex(alloc: Global, gwb: &mut Gwb, l: u32, vertex: 
     ensures value { Reads (lone_in l) gwb.old.held.value vertex.old vertex.new result }
 {
     let Some(slot) = take(alloc, gwb) else {
-        return 9;
+        return CLOSED;
     };
     let told = match &slot.session {
         Some(session) => give(readers::lone_vertex(session, l), vertex),
-        None => 0,
+        None => ABSENT,
     };
     put(gwb, slot);
     told
@@ -103,12 +103,41 @@ pub extern "C" fn gwb_next_half_edge(alloc: Global, gwb: &mut Gwb, item: u32, ne
     ensures value { Reads (after_in item) gwb.old.held.value next.old next.new result }
 {
     let Some(slot) = take(alloc, gwb) else {
-        return 9;
+        return CLOSED;
     };
     let told = match &slot.session {
         Some(session) => give(readers::next_half_edge(session, item), next),
-        None => 0,
+        None => ABSENT,
     };
+    put(gwb, slot);
+    told
+}
+
+fn find_first_half_edge(slot: &Slot, l: u32, item: &mut u32) -> u32
+    ensures { Finds (IsFirst l) (Some slot.now) item.old item.new result }
+{
+    let Some(session) = &slot.session else {
+        return ABSENT;
+    };
+    match readers::first_half_edge(session, l) {
+        Some(found) => {
+            *item = found;
+            FOUND
+        }
+        None => ABSENT,
+    }
+}
+
+/// A half-edge of a loop.
+#[unsafe(no_mangle)]
+pub extern "C" fn gwb_first_half_edge(alloc: Global, gwb: &mut Gwb, l: u32, item: &mut u32) -> u32
+    ensures state { gwb.new.held.value ≡ gwb.old.held.value }
+    ensures value { Finds (IsFirst l) gwb.old.held.value item.old item.new result }
+{
+    let Some(slot) = take(alloc, gwb) else {
+        return CLOSED;
+    };
+    let told = find_first_half_edge(&slot, l, item);
     put(gwb, slot);
     told
 }
@@ -117,14 +146,14 @@ fn find_ring_after(slot: &Slot, face: u32, n: u32, ring: &mut u32) -> u32
     ensures { Finds (IsRingAfter face n) (Some slot.now) ring.old ring.new result }
 {
     let Some(session) = &slot.session else {
-        return 0;
+        return ABSENT;
     };
     match readers::ring_after(session, face, n) {
         Some(found) => {
             *ring = found;
-            1
+            FOUND
         }
-        None => 0,
+        None => ABSENT,
     }
 }
 
@@ -141,7 +170,7 @@ pub extern "C" fn gwb_ring_after(
     ensures value { Finds (IsRingAfter face n) gwb.old.held.value ring.old ring.new result }
 {
     let Some(slot) = take(alloc, gwb) else {
-        return 9;
+        return CLOSED;
     };
     let told = find_ring_after(&slot, face, n, ring);
     put(gwb, slot);
@@ -152,14 +181,14 @@ fn find_face_after(slot: &Slot, solid: u32, n: u32, face: &mut u32) -> u32
     ensures { Finds (IsFaceAfter solid n) (Some slot.now) face.old face.new result }
 {
     let Some(session) = &slot.session else {
-        return 0;
+        return ABSENT;
     };
     match readers::face_after(session, solid, n) {
         Some(found) => {
             *face = found;
-            1
+            FOUND
         }
-        None => 0,
+        None => ABSENT,
     }
 }
 
@@ -176,7 +205,7 @@ pub extern "C" fn gwb_face_after(
     ensures value { Finds (IsFaceAfter solid n) gwb.old.held.value face.old face.new result }
 {
     let Some(slot) = take(alloc, gwb) else {
-        return 9;
+        return CLOSED;
     };
     let told = find_face_after(&slot, solid, n, face);
     put(gwb, slot);
@@ -187,14 +216,14 @@ fn find_number_after(slot: &Slot, entity: u32, n: u32, number: &mut u32) -> u32
     ensures { Finds (IsNumberAfter (kind_of entity) n) (Some slot.now) number.old number.new result }
 {
     let Some(session) = &slot.session else {
-        return 0;
+        return ABSENT;
     };
     match readers::number_after(session, entity, n) {
         Some(found) => {
             *number = found;
-            1
+            FOUND
         }
-        None => 0,
+        None => ABSENT,
     }
 }
 
@@ -211,7 +240,7 @@ pub extern "C" fn gwb_number_after(
     ensures value { Finds (IsNumberAfter (kind_of entity) n) gwb.old.held.value number.old number.new result }
 {
     let Some(slot) = take(alloc, gwb) else {
-        return 9;
+        return CLOSED;
     };
     let told = find_number_after(&slot, entity, n, number);
     put(gwb, slot);

@@ -1,11 +1,13 @@
 //! Calls of C: the last answer, as values. Each says 1 where the value is there, and writes it; 0 where the last answer is of another
 //! kind, and 9 where there is no session: then nothing is written.
 ghost use Rattle.std.specs.Prelude.{◌≡◌};
-ghost use Rattle.gwb_c.specs.Answered.{refusal_in, fault_in, counts_in};
-ghost use Rattle.gwb_c.specs.Handle.{Recalls};
+ghost use Rattle.gwb_c.specs.Answered.{refusal_in, fault_in, counts_in, volume_in, whole};
+ghost use Rattle.gwb_c.specs.Handle.{Recalls, RecallsBy};
 
-use crate::answers::{Counts, Refused, counts_of, fault_of, give, refusal_of};
-use crate::handle::{Gwb, put, take};
+use crate::answers::{
+    Counts, Refused, Wide, counts_of, fault_of, give, give_wide, refusal_of, volume_of,
+};
+use crate::handle::{CLOSED, Gwb, put, take};
 use std::alloc::Global;
 
 /// What the last answer refused.
@@ -15,7 +17,7 @@ pub extern "C" fn gwb_last_refusal(alloc: Global, gwb: &mut Gwb, refusal: &mut R
     ensures value { Recalls refusal_in gwb.old.held.value refusal.old refusal.new result }
 {
     let Some(slot) = take(alloc, gwb) else {
-        return 9;
+        return CLOSED;
     };
     let told = give(refusal_of(&slot.answer), refusal);
     put(gwb, slot);
@@ -29,7 +31,7 @@ pub extern "C" fn gwb_last_fault(alloc: Global, gwb: &mut Gwb, number: &mut u32)
     ensures value { Recalls fault_in gwb.old.held.value number.old number.new result }
 {
     let Some(slot) = take(alloc, gwb) else {
-        return 9;
+        return CLOSED;
     };
     let told = give(fault_of(&slot.answer), number);
     put(gwb, slot);
@@ -43,9 +45,23 @@ pub extern "C" fn gwb_last_counts(alloc: Global, gwb: &mut Gwb, counts: &mut Cou
     ensures value { Recalls counts_in gwb.old.held.value counts.old counts.new result }
 {
     let Some(slot) = take(alloc, gwb) else {
-        return 9;
+        return CLOSED;
     };
     let told = give(counts_of(&slot.answer), counts);
+    put(gwb, slot);
+    told
+}
+
+/// Six times the volume that the last answer told.
+#[unsafe(no_mangle)]
+pub extern "C" fn gwb_last_volume(alloc: Global, gwb: &mut Gwb, volume: &mut Wide) -> u32
+    ensures state { gwb.new.held.value ≡ gwb.old.held.value }
+    ensures value { RecallsBy whole volume_in gwb.old.held.value volume.old volume.new result }
+{
+    let Some(slot) = take(alloc, gwb) else {
+        return CLOSED;
+    };
+    let told = give_wide(volume_of(&slot.answer), volume);
     put(gwb, slot);
     told
 }
