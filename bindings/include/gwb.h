@@ -90,6 +90,14 @@ uint32_t gwb_last_fault(gwb *g, uint32_t *number);
 uint32_t gwb_last_volume(gwb *g, gwb_wide *six_volumes);
 uint32_t gwb_last_counts(gwb *g, gwb_counts *counts);
 
+typedef struct gwb_range {
+    uint32_t first, last;
+} gwb_range;
+
+/* The fresh numbers of a kind: those above all that were in use before the last line, up to the greatest in use now. A larger command
+ * takes its faces, loops, edges and vertices there. GWB_ABSENT where there are none, and for solids, whose numbers a line names. */
+uint32_t gwb_fresh(gwb *g, uint32_t entity, gwb_range *range);
+
 /* The model held, read without text. */
 
 /* The least number of a kind in use above n: from 0 on, all numbers in use, rising. GWB_ABSENT also for an unknown kind. */

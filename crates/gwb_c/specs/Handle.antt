@@ -8,6 +8,11 @@ use Rattle.script_running.specs.script_judging.Settling.{spelled}
 use Rattle.script_running.specs.declared.script_judging.larger.Larger.{Larger}
 use Rattle.script_running.specs.declared.script_judging.judging.Answer.{Answer}
 use Rattle.script_running.specs.declared.script_judging.judging.Answer.TheVariants.{Silent, Reply as Told, Listing}
+use Rattle.shapes.specs.Fresh.{taken_in}
+use Rattle.solid_walks.specs.Counters.{taken_of}
+use Rattle.solid_walks.specs.declared.numbers.Counters.{Counters}
+use Rattle.gwb_c.specs.FreshNumbers.{fresh_in}
+use Rattle.gwb_c.specs.declared.fresh.Range.{Range}
 use Rattle.gwb_c.specs.declared.slot.Slot.{Slot}
 
 -- what C is told of an answer
@@ -42,6 +47,14 @@ Opened (Some x) new opened = (opened ≡ false) × (new ≡ Some x)
 abbrev pub Slot_hears : Slot → List ℕ → Slot → Type 0
 Slot_hears old line new = (s : Machine) → old.session ≡ Some s → (t : Machine) × (new.session ≡ Some t) × Judges s line new.answer t
 
+-- the greatest numbers in use in the model held
+abbrev pub Counts_in : Slot → Counters → Type 0
+Counts_in x n = (s : Machine) → x.session ≡ Some s → taken_of n ≡ taken_in (held s)
+
+-- and the greatest numbers in use before the line are kept
+abbrev pub Slot_notes : Slot → List ℕ → Slot → Type 0
+Slot_notes old line new = Slot_hears old line new × Counts_in old new.before
+
 -- the larger command that was put aside is obeyed
 abbrev pub Slot_finishes : Slot → Slot → Type 0
 Slot_finishes old new = (s : Machine) → (l : Larger) → old.session ≡ Some s → old.later ≡ Some l → (t : Machine) × (new.session ≡ Some t) × Obeys s (spelled l) new.answer t
@@ -49,12 +62,12 @@ Slot_finishes old new = (s : Machine) → (l : Larger) → old.session ≡ Some 
 -- the same for a handle, and C is told the kind of the answer; a closed handle stays as it is
 abbrev pub Hears : Option Slot → List ℕ → Option Slot → ℕ → Type 0
 Hears None line new kind = (new ≡ None) × (kind ≡ 9)
-Hears (Some x) line new kind = (y : Slot) × (new ≡ Some y) × (kind ≡ status_of y.answer) × Slot_hears x line y
+Hears (Some x) line new kind = (y : Slot) × (new ≡ Some y) × (kind ≡ status_of y.answer) × Slot_notes x line y
 
 -- the number that a machine tells; a closed handle tells the greatest 64-bit number
-abbrev pub Counts : (Machine → ℕ) → Option Slot → ℕ → Type 0
-Counts f None n = n ≡ 2 ^ 64 - 1
-Counts f (Some x) n = (s : Machine) → x.session ≡ Some s → n ≡ f s
+abbrev pub Numbers : (Machine → ℕ) → Option Slot → ℕ → Type 0
+Numbers f None n = n ≡ 2 ^ 64 - 1
+Numbers f (Some x) n = (s : Machine) → x.session ≡ Some s → n ≡ f s
 
 -- the text of the answer, as far as there is room, and its length; or memory was refused, and nothing is written
 abbrev pub Writes : List ℕ → List ℕ → List ℕ → ℕ → Type 0
@@ -93,3 +106,8 @@ Reads f (Some y) old new told = (s : Machine) → y.session ≡ Some s → Gives
 abbrev pub Finds : (Model → Option ℕ → Type 0) → Option Slot → ℕ → ℕ → ℕ → Type 0
 Finds R None old new told = (told ≡ 9) × (new ≡ old)
 Finds R (Some y) old new told = (s : Machine) → y.session ≡ Some s → ((told ≡ 1) × R (held s) (Some new)) ⊎ ((told ≡ 0) × (new ≡ old) × R (held s) None)
+
+-- the fresh numbers of the kind k; a closed handle has none
+abbrev pub GivesFresh : ℕ → Option Slot → Range → Range → ℕ → Type 0
+GivesFresh k None old new told = (told ≡ 9) × (new ≡ old)
+GivesFresh k (Some y) old new told = (s : Machine) → y.session ≡ Some s → Gives (fresh_in (taken_of y.before) (taken_in (held s)) k) old new told

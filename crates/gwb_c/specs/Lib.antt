@@ -2,3 +2,4 @@ pub mod Owned
 pub mod Handle
 pub mod Answered
 pub mod Reading
+pub mod FreshNumbers

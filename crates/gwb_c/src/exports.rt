@@ -1,10 +1,10 @@
 //! Calls of C: sessions, and lines as text.
 ghost use Rattle.std.specs.Prelude.{◌≡◌, Some, None};
 ghost use Rattle.undo_journal.specs.Machine.{depth, ahead};
-ghost use Rattle.gwb_c.specs.Handle.{Opened, Hears, Counts, Replies};
+ghost use Rattle.gwb_c.specs.Handle.{Opened, Hears, Numbers, Replies};
 
 use crate::handle::{CLOSED, Gwb, put, take};
-use crate::slot::{Slot, answer_line, copy_front, made, status, text_of};
+use crate::slot::{Slot, copy_front, hear, made, status, text_of};
 use std::alloc::Global;
 
 /// Opens a session that holds the empty model. False where memory is refused, or there is a session; then nothing has changed.
@@ -43,7 +43,7 @@ pub extern "C" fn gwb_line(alloc: Global, gwb: &mut Gwb, line: &[u8]) -> u32
         return CLOSED;
     };
     let mut slot = slot;
-    answer_line(alloc, &mut slot, line);
+    hear(alloc, &mut slot, line);
     let kind = status(&slot.answer);
     put(gwb, slot);
     kind
@@ -70,7 +70,7 @@ pub extern "C" fn gwb_reply(alloc: Global, gwb: &mut Gwb, buf: &mut [u8]) -> usi
 }
 
 fn depth_of(slot: &Slot) -> usize
-    ensures { Counts depth (Some slot.now) result }
+    ensures { Numbers depth (Some slot.now) result }
 {
     match &slot.session {
         Some(session) => session.depth(),
@@ -79,7 +79,7 @@ fn depth_of(slot: &Slot) -> usize
 }
 
 fn ahead_of(slot: &Slot) -> usize
-    ensures { Counts ahead (Some slot.now) result }
+    ensures { Numbers ahead (Some slot.now) result }
 {
     match &slot.session {
         Some(session) => session.ahead(),
@@ -91,7 +91,7 @@ fn ahead_of(slot: &Slot) -> usize
 #[unsafe(no_mangle)]
 pub extern "C" fn gwb_depth(alloc: Global, gwb: &mut Gwb) -> usize
     ensures state { gwb.new.held.value ≡ gwb.old.held.value }
-    ensures value { Counts depth gwb.old.held.value result }
+    ensures value { Numbers depth gwb.old.held.value result }
 {
     let Some(slot) = take(alloc, gwb) else {
         return usize::MAX;
@@ -105,7 +105,7 @@ pub extern "C" fn gwb_depth(alloc: Global, gwb: &mut Gwb) -> usize
 #[unsafe(no_mangle)]
 pub extern "C" fn gwb_ahead(alloc: Global, gwb: &mut Gwb) -> usize
     ensures state { gwb.new.held.value ≡ gwb.old.held.value }
-    ensures value { Counts ahead gwb.old.held.value result }
+    ensures value { Numbers ahead gwb.old.held.value result }
 {
     let Some(slot) = take(alloc, gwb) else {
         return usize::MAX;

@@ -6,6 +6,7 @@
 
 mod answers;
 mod exports;
+mod fresh;
 mod handle;
 mod held;
 mod loose;
@@ -15,5 +16,6 @@ mod recalls;
 mod slot;
 
 pub use answers::{Counts, Refused, Wide};
+pub use fresh::Range;
 pub use handle::Gwb;
 pub use readers::{EdgeRow, FaceRow, Place};

@@ -2,9 +2,10 @@
 //! where there is no session: then nothing is written.
 ghost use Rattle.std.specs.Prelude.{◌≡◌, Some};
 ghost use Rattle.gwb_c.specs.Reading.{face_in, face_of_loop_in, edge_in, point_in, lone_in, after_in, IsRingAfter, IsFaceAfter, IsFirst, kind_of, IsNumberAfter};
-ghost use Rattle.gwb_c.specs.Handle.{Reads, Finds};
+ghost use Rattle.gwb_c.specs.Handle.{Reads, Finds, GivesFresh};
 
 use crate::answers::give;
+use crate::fresh::{Range, counted, fresh_of};
 use crate::handle::{ABSENT, CLOSED, FOUND, Gwb, put, take};
 use crate::readers;
 use crate::readers::{EdgeRow, FaceRow, Place};
@@ -243,6 +244,30 @@ pub extern "C" fn gwb_number_after(
         return CLOSED;
     };
     let told = find_number_after(&slot, entity, n, number);
+    put(gwb, slot);
+    told
+}
+
+fn give_fresh(slot: &Slot, entity: u32, range: &mut Range) -> u32
+    ensures { GivesFresh entity (Some slot.now) range.old range.new result }
+{
+    match &slot.session {
+        Some(session) => give(fresh_of(slot.before, counted(session), entity), range),
+        None => ABSENT,
+    }
+}
+
+/// The numbers that the last line brought into use above all that were in use before it: 1 for faces, 2 for loops, 3 for edges, 4 for
+/// vertices.
+#[unsafe(no_mangle)]
+pub extern "C" fn gwb_fresh(alloc: Global, gwb: &mut Gwb, entity: u32, range: &mut Range) -> u32
+    ensures state { gwb.new.held.value ≡ gwb.old.held.value }
+    ensures value { GivesFresh entity gwb.old.held.value range.old range.new result }
+{
+    let Some(slot) = take(alloc, gwb) else {
+        return CLOSED;
+    };
+    let told = give_fresh(&slot, entity, range);
     put(gwb, slot);
     told
 }

@@ -2,10 +2,12 @@
 ghost use Rattle.std.specs.Prelude.{◌≡◌, ◌++◌, IfSome, IsSome, Some, length, take, drop};
 ghost use Rattle.script_running.specs.script_judging.Judging.{answer_text};
 ghost use Rattle.undo_journal.specs.Machine.{start};
-ghost use Rattle.gwb_c.specs.Handle.{Slot_hears, Slot_finishes, status_of};
+ghost use Rattle.gwb_c.specs.Handle.{Counts_in, Slot_hears, Slot_finishes, Slot_notes, status_of};
 
+use crate::fresh::counted;
 use script_running::{Answer, Larger, carry_out, judge};
 use solid_listing::{Reply, write_listing, write_reply};
+use solid_walks::Counters;
 use std::alloc::Global;
 use undo_journal::Session;
 
@@ -15,6 +17,8 @@ pub struct Slot {
     pub(crate) session: Option<Session>,
     pub(crate) answer: Answer,
     pub(crate) later: Option<Larger>,
+    /// The greatest numbers in use before the last line.
+    pub(crate) before: Counters,
 }
 
 /// A new session in its box.
@@ -30,6 +34,12 @@ pub(crate) fn made(alloc: Global) -> Option<Box<Slot, Global>>
             session: Some(session),
             answer: Answer::Silent,
             later: None,
+            before: Counters {
+                faces: 0,
+                loops: 0,
+                edges: 0,
+                vertices: 0,
+            },
         },
     )
     .ok()
@@ -49,7 +59,7 @@ fn finish(alloc: Global, slot: &mut Slot)
 }
 
 /// Answers a line, and keeps the answer.
-pub(crate) fn answer_line(alloc: Global, slot: &mut Slot, line: &[u8])
+fn answer_line(alloc: Global, slot: &mut Slot, line: &[u8])
     ensures { Slot_hears slot.old line.now slot.new }
 {
     let Some(session) = &mut slot.session else {
@@ -59,6 +69,25 @@ pub(crate) fn answer_line(alloc: Global, slot: &mut Slot, line: &[u8])
         Some(answer) => slot.answer = answer,
         None => finish(alloc, slot),
     }
+}
+
+/// The greatest numbers in use.
+fn counted_in(slot: &Slot) -> Counters
+    ensures { Counts_in slot.now result }
+{
+    match &slot.session {
+        Some(session) => counted(session),
+        None => slot.before,
+    }
+}
+
+/// Answers a line, and keeps the answer and the greatest numbers in use before it.
+pub(crate) fn hear(alloc: Global, slot: &mut Slot, line: &[u8])
+    ensures { Slot_notes slot.old line.now slot.new }
+{
+    let before = counted_in(slot);
+    answer_line(alloc, slot, line);
+    slot.before = before;
 }
 
 /// What C is told of an answer.
