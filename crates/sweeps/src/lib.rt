@@ -4,9 +4,11 @@
 mod blocks;
 mod corners;
 mod laminas;
+mod laws;
 mod raising;
 mod sweeping;
 
 pub use blocks::block;
 pub use laminas::lamina;
+pub use laws::larger_commands_are_calls;
 pub use sweeping::sweep;
