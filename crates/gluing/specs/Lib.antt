@@ -1,3 +1,4 @@
 pub mod glue_checks
 pub mod Rims
 pub mod Machine
+pub mod Calls

@@ -6,6 +6,8 @@
 mod command;
 mod glue_checks;
 mod joining;
+mod laws;
 mod rims;
 
 pub use command::glue;
+pub use laws::glues_are_calls;
