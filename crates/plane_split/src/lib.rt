@@ -5,7 +5,9 @@
 #![tactic(auto)]
 
 mod command;
+mod laws;
 mod solid_opening;
 mod steps;
 
 pub use command::split;
+pub use laws::splits_are_calls;
