@@ -2,3 +2,4 @@ pub mod glue_checks
 pub mod Rims
 pub mod Measures
 pub mod Machine
+pub mod Calls

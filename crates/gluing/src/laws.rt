@@ -1,5 +1,6 @@
-//! What a glue makes of the six volumes of the solids that a session holds. The function does nothing: its contract is what is proved.
+//! The laws of glues as commands. Each function does nothing: its contract is what is proved, over every machine.
 
+ghost use Rattle.gluing.specs.Calls.{GluesAreCalls};
 ghost use Rattle.gluing.specs.Measures.{GluedSolid, OthersThanGlued};
 
 /// After a glue that isn't refused the solid of the first face has the six volumes that the two solids had together. Every solid that
@@ -7,4 +8,9 @@ ghost use Rattle.gluing.specs.Measures.{GluedSolid, OthersThanGlued};
 pub fn glue_measures()
     ensures solid { GluedSolid }
     ensures others { OthersThanGlued }
+{}
+
+/// A glue that isn't refused is a call of a history: accepted operators make its model.
+pub fn glues_are_calls()
+    ensures { GluesAreCalls }
 {}

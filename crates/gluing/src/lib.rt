@@ -11,4 +11,4 @@ mod laws;
 mod rims;
 
 pub use command::glue;
-pub use laws::glue_measures;
+pub use laws::{glue_measures, glues_are_calls};

@@ -5,3 +5,4 @@ pub use Rattle.split_laws.specs.drawn.Kept
 pub use Rattle.split_opening_laws.specs.sections.InTurn
 pub mod solid_opening
 pub mod Machine
+pub mod Calls

@@ -1,3 +1,4 @@
 pub mod Corners
 pub mod Measures
 pub mod Machine
+pub mod Calls

@@ -11,5 +11,5 @@ mod sweeping;
 
 pub use blocks::block;
 pub use laminas::lamina;
-pub use laws::{block_measures, lamina_measures, sweep_measures};
+pub use laws::{block_measures, lamina_measures, larger_commands_are_calls, sweep_measures};
 pub use sweeping::sweep;

@@ -1,0 +1,9 @@
+use Rattle.std.proofs.Common.{ap, ◌∙◌}
+use Rattle.shapes.specs.glue.GlueOps.{glue_ops}
+use Rattle.undo_journal.specs.Machine.{held, accepted}
+use Rattle.undo_journal.proofs.Consistent.{larger_commands_are_calls}
+use Rattle.gluing_laws.proofs.glue.Accepted.{glue_accepted, glue_is_glued}
+use Rattle.gluing.proofs.laws.glues_are_calls.Goals as goal
+
+pub returns : goal.returns
+returns c m f g sound goes = larger_commands_are_calls m (glue_ops (held m) f g) (glue_accepted (held m) f g sound goes) ∙ ap (accepted m) (glue_is_glued (held m) f g sound goes)

@@ -1,0 +1,11 @@
+-- A glue is a call of a history.
+use Rattle.std.specs.Prelude.{◌≡◌, ℕ, None}
+use Rattle.euler_operators.specs.Sound.{Sound}
+use Rattle.shapes.specs.glue.GlueOps.{glue_ops}
+use Rattle.undo_journal.specs.Machine.{Machine, held}
+use Rattle.undo_journal.specs.Histories.{made, after_call}
+use Rattle.gluing.specs.Machine.{glue, glue_refusal}
+
+-- where it isn't refused, it is the larger command of its operators
+abbrev pub GluesAreCalls : Type 0
+GluesAreCalls = (m : Machine) (f g : ℕ) → Sound (held m) → glue_refusal m f g ≡ None → after_call m (made (glue_ops (held m) f g)) ≡ glue m f g

@@ -1,0 +1,21 @@
+//! The law of splits as commands. It does nothing: its contract is what is proved, over every machine.
+ghost use Rattle.plane_split.specs.Calls.{SplitsAreCalls};
+ghost use Rattle.plane_split.specs.Held.{SplitsAreHeld, HeldAreSound, PartsAreHeld, HeldShareVolumes, HeldKeepOthers, HeldLieOnEitherSide};
+
+/// A split that isn't refused is a call of a history: accepted operators make its model.
+pub fn splits_are_calls()
+    ensures { SplitsAreCalls }
+{}
+
+/// What whoever called `split` and was answered Ok holds. The premises are what the call says: the model held before it was sound
+/// (`sound`), no condition was false, and the session has one accepted command more (`ok`). Then the session holds the split's model,
+/// which is sound. In it both parts are solids; their six volumes sum to those that the solid had, and every other solid keeps its own;
+/// and no vertex of the part that keeps the number lies above the plane, none of the other one below it.
+pub fn splits_are_held()
+    ensures made { SplitsAreHeld }
+    ensures sound { HeldAreSound }
+    ensures parts { PartsAreHeld }
+    ensures volumes { HeldShareVolumes }
+    ensures others { HeldKeepOthers }
+    ensures sides { HeldLieOnEitherSide }
+{}
