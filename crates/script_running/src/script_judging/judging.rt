@@ -207,11 +207,7 @@ fn judge_command(session: &mut Session, line: &[u8], later: &mut Option<Larger>)
 
 /// Judges a line: its answer, or none where it spells a larger command, which is put in `later`. A blank line, a comment or an operator
 /// is answered without a command, which has room for a lamina's points and so costs more to make than most lines to answer.
-pub fn judge(
-    session: &mut Session,
-    line: &[u8],
-    later: &mut Option<Larger>,
-) -> Option<Answer>
+pub fn judge(session: &mut Session, line: &[u8], later: &mut Option<Larger>) -> Option<Answer>
     ensures { Decides session.old line.now result session.new later.new }
 {
     match read_short(line) {
