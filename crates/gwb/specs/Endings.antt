@@ -4,11 +4,11 @@ use Rattle.clap.specs.Words.{kind_of}
 use Rattle.clap.specs.declared.error.Error.{Error}
 use Rattle.clap.specs.declared.error.kind.ErrorKind.{ErrorKind}
 use Rattle.clap.specs.declared.error.kind.ErrorKind.TheVariants as kind
-use Rattle.script_running.specs.Outs.{Runs, is_clean}
+use Rattle.script_running.specs.Outs.{is_clean}
+use Rattle.script_running.specs.Runs.{Runs}
 use Rattle.script_running.specs.declared.script_judging.judging.Summary.{Summary}
 use Rattle.script_running.specs.declared.running.RunFault.{RunFault}
 use Rattle.script_running.specs.declared.running.RunFault.TheVariants as fault
-use Rattle.script_running.specs.Outs.{Runs, is_clean}
 use Rattle.gwb.specs.declared.words.WordsFault.{WordsFault}
 use Rattle.gwb.specs.declared.words.WordsFault.TheVariants as words
 use Rattle.gwb.specs.declared.ending.Trouble.{Trouble}
