@@ -10,7 +10,7 @@
  * - `n` bytes can be read at `line`, and `room` items be written at `buf`.
  * - No call from a signal handler, nor from the forked child of a process with threads.
  *
- * A closed handle is one before `gwb_open` or behind `gwb_close`. A call for a closed handle changes nothing and writes nothing. */
+ * A closed handle is one before `gwb_open` or after `gwb_close`. A call for a closed handle changes nothing and writes nothing. */
 #ifndef GWB_H
 #define GWB_H
 #include <stdbool.h>

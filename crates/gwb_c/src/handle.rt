@@ -13,7 +13,7 @@ pub(crate) const FOUND: u32 = 1;
 
 pub(crate) const ABSENT: u32 = 0;
 
-/// A session, or none before `gwb_open` and behind `gwb_close`.
+/// A session, or none before `gwb_open` and after `gwb_close`.
 #[repr(C)]
 #[derive(Drop)]
 pub struct Gwb {

@@ -13,7 +13,7 @@ abbrev pub TakesLine : Holding → Holding → Bool → Type 0
 TakesLine old new true = (old.unread ≡ new.line ++ 10 ∷ new.unread) × Lacks new.line
 TakesLine old new false = (new.unread ≡ old.unread) × Lacks old.unread
 
--- bytes that were read stand behind the unread ones
+-- bytes that were read stand after the unread ones
 abbrev pub ReadsMore : {E : Type 0} → Holding → Holding → Option (List ℕ) → Option (List ℕ) → ℕ → Result ℕ E → Type 0
 ReadsMore old new before after most (Ok n) = (given : List ℕ) × Consumes before after given × (new.unread ≡ old.unread ++ given) × (length given ≡ n) × (n ≤ most) × (n ≡ 0 → IsAtEnd after)
 ReadsMore old new before after most (Err e) = Keeps before after × (new.unread ≡ old.unread)

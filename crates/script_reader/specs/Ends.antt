@@ -1,4 +1,4 @@
--- The answers behind the last line.
+-- The answers after the last line.
 use Rattle.std.specs.Prelude.{⊤}
 use Rattle.script_reader.specs.declared.lines.Found.{Found}
 use Rattle.script_reader.specs.declared.lines.Found.TheVariants as found

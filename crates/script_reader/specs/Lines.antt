@@ -23,7 +23,7 @@ with_newlines (line ∷ lines) = line ++ 10 ∷ with_newlines lines
 unfoldable pub within_limit : ℕ → List ℕ → List ℕ
 within_limit taken given = take (67108864 - taken) given
 
--- the reader gave bytes, which are counted, and those within the limit stand behind the unread ones
+-- the reader gave bytes, which are counted, and those within the limit stand after the unread ones
 pub record Reads (before after : Option (List ℕ)) (taken count : ℕ) (old new : List ℕ) : Type 0 where
   pub given : List ℕ
   pub consumed : Consumes before after given
@@ -49,7 +49,7 @@ pub record Advances (before after : Option (List ℕ)) (taken count : ℕ) (unre
   pub counted : count ≡ taken + length given
   pub answered : Answers answer ending (unread ++ within_limit taken given) line rest
 
--- behind the last newline
+-- after the last newline
 abbrev pub LastAnswer : Holding → Holding → Ending → Bool → Found → Type 0
 LastAnswer old new Open is_long answer = ⊥
 LastAnswer old new Failed is_long answer = (answer ≡ found.Read) × (new.unread ≡ old.unread)

@@ -35,7 +35,7 @@ abbrev pub IsAtGap : List ℕ → Type 0
 IsAtGap [] = Unit {0}
 IsAtGap (b ∷ bs) = IsSeparator b
 
--- these words, with separators before, between and behind them
+-- these words, with separators before, between and after them
 abbrev pub IsParted : List Word → List ℕ → Type 0
 IsParted [] line = IsGap line
 IsParted (w ∷ ws) line = (gap : List ℕ) × (rest : List ℕ) × (line ≡ gap ++ (w ++ rest)) × IsGap gap × (0 < length w) × HasNoGap w × IsAtGap rest × IsParted ws rest
@@ -78,7 +78,7 @@ Begins says (w ∷ ws) x rest = says w x × (rest ≡ ws)
 abbrev pub BeginsPlace : List Word → Point → List Word → Type 0
 BeginsPlace ws p rest = (us : List Word) × (vs : List Word) × Begins SaysWhole ws p.x us × Begins SaysWhole us p.y vs × Begins SaysWhole vs p.z rest
 
--- three words for each point, and nothing behind them
+-- three words for each point, and nothing after them
 abbrev pub ArePoints : List Point → List Word → Type 0
 ArePoints [] ws = ws ≡ []
 ArePoints (p ∷ ps) ws = (us : List Word) × BeginsPlace ws p us × ArePoints ps us
@@ -127,7 +127,7 @@ abbrev pub Spells : (ks : List Kind) → Builder ks → List Word → Command �
 Spells [] c ws d = (ws ≡ []) × (d ≡ c)
 Spells (k ∷ ks) make ws d = (x : Meaning k) × (rest : List Word) × Means k ws x rest × Spells ks (make x) rest d
 
--- the first place at which something is wrong, or a word behind the last place
+-- the first place at which something is wrong, or a word after the last place
 abbrev pub Misspells : List Kind → List Word → Fault → Type 0
 Misspells [] [] fault = ⊥
 Misspells [] (w ∷ ws) fault = fault ≡ ExtraWord

@@ -161,7 +161,7 @@ fn shift(bytes: &mut [u8], start: usize, end: usize)
     }
 }
 
-/// Reads at most so many bytes behind the first ones.
+/// Reads at most so many bytes after the first ones.
 fn read_at<R: Read>(reader: &mut R, bytes: &mut [u8], at: usize, most: usize) -> io::Result<usize>
     requires room { at < length bytes.old }
     requires some { 0 < most }

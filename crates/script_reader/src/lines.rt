@@ -37,9 +37,9 @@ pub enum NextLine<'a> {
     Long,
     /// The reader gave its end.
     End,
-    /// A read failed. What was read behind the last newline is no line.
+    /// A read failed. What was read after the last newline is no line.
     Read,
-    /// The reader gave a byte past 67,108,864. What was read behind the last newline is no line.
+    /// The reader gave a byte past 67,108,864. What was read after the last newline is no line.
     TooLong,
 }
 
@@ -89,7 +89,7 @@ impl<R: Read> Lines<R> {
         }
     }
 
-    /// What stands behind the last newline, where nothing more can be read.
+    /// What stands after the last newline, where nothing more can be read.
     fn last(&mut self, is_long: bool) -> Found
         requires { self.old.ending ≢ Open }
         ensures answer { LastAnswer self.old.buffer self.new.buffer self.old.ending is_long result }

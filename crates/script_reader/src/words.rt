@@ -24,7 +24,7 @@ fn skip_gap(line: &[u8]) -> &[u8]
     rest
 }
 
-/// How many bytes of a word stand at the front.
+/// How many bytes of a word come first.
 fn word_len(line: &[u8]) -> usize
     ensures value { result ≡ word_len line.now }
     ensures bound { result ≤ length line.now }
@@ -37,7 +37,7 @@ fn word_len(line: &[u8]) -> usize
     line.len()
 }
 
-/// The word at the front, and what follows it.
+/// The first word, and what follows it.
 #[tactic(auto, using(crate::proofs::WordLaws::first_word))]
 fn split_word(line: &[u8]) -> (&[u8], &[u8])
     requires some { 0 < length line.now }

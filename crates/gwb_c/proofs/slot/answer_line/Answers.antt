@@ -1,6 +1,6 @@
 use Rattle.std.proofs.Common.{◌≡◌, ◌∙◌, Option, Some, Result, Ok, refl, sym, subst}
 use Rattle.undo_journal.specs.Machine.{Machine}
-use Rattle.script_running.specs.script_judging.Judging.{Obeys, Answers}
+use Rattle.script_running.specs.script_judging.Judging.{Obeys, Answers, Judges}
 use Rattle.script_running.specs.script_judging.Settling.{spelled}
 use Rattle.script_reader.specs.Grammar.{command_of}
 use Rattle.gwb_c.proofs.slot.answer_line.Goals as goal
@@ -15,3 +15,8 @@ returns-in-None c = λ s is.
     let here : c.judge.new.session ≡ s = d.3 ∙ same c.in-Some.session s c.args.slot.now.session c.in-Some.is is in
     let obeyed : Obeys s (spelled d.0) new.answer f.0 = subst (λ m. Obeys m (spelled d.0) new.answer f.0) here f.2 in
     (f.0, f.1, subst (λ r. Answers s r new.answer f.0) (sym d.2) obeyed)
+
+pub returns-in-Some-judge : goal.returns-in-Some-judge
+returns-in-Some-judge c = λ s is.
+    let answer = c.in-Some-judge.answer in let t = c.judge.new.session in
+    (t, refl, subst (λ m. Judges m c.args.line.now answer t) (same c.in-Some.session s c.args.slot.now.session c.in-Some.is is) c.in-Some-judge.ensures)
