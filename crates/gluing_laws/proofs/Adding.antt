@@ -23,8 +23,8 @@ use Rattle.shapes.specs.Measure.{area, normal, anchor, first_vertex, volume_in, 
 use Rattle.shapes.proofs.Areas.{area-append, moved_nothing}
 use Rattle.euler_operators.proofs.Members.{IsIn_some_head}
 use Rattle.euler_operators.proofs.Vectors.{none_added}
-use Rattle.solid_measure_laws.specs.Vectors.{negated}
-use Rattle.solid_measure_laws.proofs.Sums.{area_same, area_opposed, dot_back}
+use Rattle.shapes.specs.Vectors.{negated}
+use Rattle.shapes.proofs.measures.Sums.{area_same, area_opposed, dot_back}
 use Rattle.gluing_laws.proofs.Listed.{one_if, passed, count_where, volume_of, volume_append, volume_same, same_volumes}
 use Rattle.gluing_laws.proofs.Seams as seams
 use Rattle.gluing_laws.proofs.Seams.{Seamed, Glued}

@@ -24,8 +24,8 @@ use Rattle.shapes.specs.Faces.{start, items_in, loops_of, boundary, corners, ver
 use Rattle.shapes.specs.Rewriting.{rewritten, rewritten_row}
 use Rattle.shapes.specs.Measure.{area, normal, anchor, first_vertex, is_flat}
 use Rattle.shapes.proofs.Areas.{area-append}
-use Rattle.solid_measure_laws.proofs.FlatFaces.{corner_told}
-use Rattle.solid_measure_laws.proofs.Sums.{area_same}
+use Rattle.shapes.proofs.measures.FlatFaces.{corner_told}
+use Rattle.shapes.proofs.measures.Sums.{area_same}
 use Rattle.gluing_laws.proofs.Listed.{one_if, passed, same_search, volume_of}
 use Rattle.gluing_laws.proofs.Seams as seams
 use Rattle.gluing_laws.proofs.Seams.{Seamed, Glued}

@@ -4,3 +4,4 @@ pub mod fresh
 pub mod walks
 pub mod glue
 pub mod split
+pub mod measures

@@ -8,3 +8,4 @@ pub mod Block
 pub mod Measure
 pub mod glue
 pub mod split
+pub mod Vectors

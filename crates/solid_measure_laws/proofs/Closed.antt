@@ -22,7 +22,7 @@ use Rattle.shapes.proofs.walks.FaceLoops.{items_there}
 use Rattle.euler_laws.proofs.shared.Counted.{counted_once, none_counted}
 use Rattle.euler_operators.proofs.Vectors.{dot_turned, dot_origin, add_none}
 use Rattle.solid_measure_laws.specs.Models.{shifted, normals_in}
-use Rattle.solid_measure_laws.proofs.Sums.{area_same, area_mates, own_opposite, count-mates}
+use Rattle.shapes.proofs.measures.Sums.{area_same, area_mates, own_opposite, count-mates}
 use Rattle.solid_measure_laws.proofs.Shifted.{volume_moved}
 
 -- ---- counting

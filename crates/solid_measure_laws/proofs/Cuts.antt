@@ -11,8 +11,8 @@ use Rattle.euler_operators.specs.Vectors.{origin, moved, cross, height, is_on, o
 use Rattle.euler_operators.proofs.Integers.{dif, dif-parts, difs, neg-dif, same_dif, number}
 use Rattle.euler_operators.proofs.Vectors.{same_vector, moved_none}
 use Rattle.euler_operators.proofs.Crossings.{opposite_apart, turned_difference}
-use Rattle.solid_measure_laws.specs.Vectors.{scaled, towards}
-use Rattle.solid_measure_laws.proofs.Products.{no_product}
+use Rattle.shapes.specs.Vectors.{scaled, towards}
+use Rattle.shapes.proofs.measures.Products.{no_product}
 
 -- ---- one coordinate: from p to q, m and n the heights there, x the coordinate of the cut
 

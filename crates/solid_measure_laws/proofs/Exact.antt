@@ -8,9 +8,9 @@ use Rattle.euler_operators.specs.declared.Plane.{Plane}
 use Rattle.euler_operators.specs.Vectors.{height, cut_between}
 use Rattle.euler_operators.proofs.Integers.{dif, dif-parts, difs, neg-dif, same_dif, number}
 use Rattle.euler_operators.proofs.Crossings.{opposite_apart}
-use Rattle.solid_measure_laws.specs.Vectors.{scaled, towards}
+use Rattle.shapes.specs.Vectors.{scaled, towards}
 use Rattle.solid_measure_laws.specs.Laws.{CutsMissNone}
-use Rattle.solid_measure_laws.proofs.Products.{no_product}
+use Rattle.shapes.proofs.measures.Products.{no_product}
 use Rattle.solid_measure_laws.proofs.Cuts.{spread, turned_back}
 
 -- ---- a multiple of a number, divided by it

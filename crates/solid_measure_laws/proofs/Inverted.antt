@@ -23,8 +23,8 @@ use Rattle.euler_laws.proofs.shared.Loops.{light}
 use Rattle.shapes.specs.Faces.{vertices_on, corners, loops_of}
 use Rattle.shapes.specs.Measure.{normal, anchor, first_vertex, plane_of, is_flat, volume_in, six_volume}
 use Rattle.solid_measure_laws.specs.Models.{run_back, turned}
-use Rattle.solid_measure_laws.proofs.FlatFaces.{list_parts, are_on, plane_told}
-use Rattle.solid_measure_laws.proofs.Sums.{dot_back, count-mates}
+use Rattle.shapes.proofs.measures.FlatFaces.{list_parts, are_on, plane_told}
+use Rattle.shapes.proofs.measures.Sums.{dot_back, count-mates}
 use Rattle.solid_measure_laws.proofs.Turned.{outer_kept, content_turned, normal_turned}
 
 -- a loop run back, from its least item on

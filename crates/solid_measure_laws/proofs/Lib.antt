@@ -1,7 +1,3 @@
-pub mod Products
-pub mod Paths
-pub mod FlatFaces
-pub mod Sums
 pub mod Turned
 pub mod Inverted
 pub mod Shifted

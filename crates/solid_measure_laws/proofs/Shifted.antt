@@ -20,10 +20,10 @@ use Rattle.euler_operators.proofs.Integers.{dif, dif-parts, difs, same_dif}
 use Rattle.euler_operators.proofs.Vectors.{same_vector, moved_none, dot_moved, dot_turned, dot_origin, dot_sum}
 use Rattle.euler_operators.proofs.Members.{IsIn_rest}
 use Rattle.euler_operators.proofs.Rotations.{IsIn_head}
-use Rattle.solid_measure_laws.specs.Vectors.{towards}
+use Rattle.shapes.specs.Vectors.{towards}
 use Rattle.solid_measure_laws.specs.Models.{shifted, normals_in}
-use Rattle.solid_measure_laws.proofs.Products.{cross_nothing}
-use Rattle.solid_measure_laws.proofs.Paths.{begins, Leads, loop_closed}
+use Rattle.shapes.proofs.measures.Products.{cross_nothing}
+use Rattle.shapes.proofs.measures.Paths.{begins, Leads, loop_closed}
 
 -- ---- a path moved by d: from p over q to e
 

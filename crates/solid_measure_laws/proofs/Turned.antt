@@ -13,9 +13,9 @@ use Rattle.euler_operators.specs.Model.{Model, LoopContent, lone, cycle, LoopRow
 use Rattle.shapes.specs.Faces.{start, loops_of, items_in, boundary}
 use Rattle.shapes.specs.Measure.{area, normal}
 use Rattle.shapes.proofs.Areas.{area-append}
-use Rattle.solid_measure_laws.specs.Vectors.{negated}
+use Rattle.shapes.specs.Vectors.{negated}
 use Rattle.solid_measure_laws.specs.Models.{run_back, row_back, turned}
-use Rattle.solid_measure_laws.proofs.Sums.{area_same, area_mates, area_back, moved_back}
+use Rattle.shapes.proofs.measures.Sums.{area_same, area_mates, area_back, moved_back}
 
 module _ (M : Model) where
   start_kept : (h : ℕ) → start (turned M) h ≡ start M h

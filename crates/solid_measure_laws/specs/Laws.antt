@@ -11,7 +11,7 @@ use Rattle.euler_operators.specs.Sound.{Sound, Has}
 use Rattle.euler_operators.specs.Conditions.{lists}
 use Rattle.shapes.specs.Faces.{boundary, corners}
 use Rattle.shapes.specs.Measure.{area, normal, anchor, is_plane_of, is_flat, six_volume}
-use Rattle.solid_measure_laws.specs.Vectors.{negated, scaled, towards}
+use Rattle.shapes.specs.Vectors.{negated, scaled, towards}
 use Rattle.solid_measure_laws.specs.Models.{turned, shifted, normals_in}
 
 -- any two points of a plane on which all corners of a face lie have the same product along the face's normal

@@ -23,9 +23,9 @@ use Rattle.shapes.specs.Faces.{items_in, vertices_in, vertices_on, corners, loop
 use Rattle.shapes.specs.Fresh.{Taken, numbers_after}
 use Rattle.shapes.specs.Lamina.{with_points, with_path}
 use Rattle.shapes.specs.Measure.{area, normal, anchor, first_vertex, is_flat, volume_in, six_volume}
-use Rattle.solid_measure_laws.specs.Vectors.{negated}
-use Rattle.solid_measure_laws.proofs.Sums.{dot_back, area_same, area_back}
-use Rattle.solid_measure_laws.proofs.FlatFaces.{corner_told}
+use Rattle.shapes.specs.Vectors.{negated}
+use Rattle.shapes.proofs.measures.Sums.{dot_back, area_same, area_back}
+use Rattle.shapes.proofs.measures.FlatFaces.{corner_told}
 use Rattle.sweeps_laws.specs.lamina.Path.{out, back}
 use Rattle.sweeps_laws.proofs.lamina.Lists.{out_first, plus_halves, minus_halves, back_apart, first_moved, canonical_first}
 use Rattle.sweeps_laws.proofs.LaminaRows as rows

@@ -15,7 +15,7 @@ use Rattle.euler_operators.proofs.Members.{IsIn_rest, each_mapped}
 use Rattle.euler_operators.proofs.Rotations.{IsIn_head}
 use Rattle.euler_operators.specs.Conditions.{lists, strictly_rises}
 use Rattle.shapes.specs.Faces.{start, finish, vertices_on, vertices_in}
-use Rattle.solid_measure_laws.proofs.FlatFaces.{list_parts, are_on}
+use Rattle.shapes.proofs.measures.FlatFaces.{list_parts, are_on}
 use Rattle.euler_laws.proofs.shared.RisingLists.{within}
 use Rattle.shapes.proofs.walks.FaceLoops.{listed_ring, ring_listed, rings_rise}
 

@@ -18,7 +18,7 @@ use Rattle.euler_operators.specs.Sound.{Has, HasHalf}
 use Rattle.shapes.specs.Faces.{start, finish, loops_of, vertices_on, vertices_in, corners}
 use Rattle.shapes.specs.Rewriting.{rewritten}
 use Rattle.shapes.specs.Measure.{anchor, first_vertex}
-use Rattle.solid_measure_laws.proofs.FlatFaces.{are_on}
+use Rattle.shapes.proofs.measures.FlatFaces.{are_on}
 use Rattle.shapes.specs.split.Crossings.{doubled, edge_cut}
 use Rattle.split_drawing_laws.proofs.crossings.Doubled.{doubled_none}
 use Rattle.split_drawing_laws.proofs.crossings.Steps.{CutGoes}

@@ -13,7 +13,7 @@ use Rattle.shapes.proofs.fresh.Tests.{none_such}
 use Rattle.shapes.specs.Faces.{corners}
 use Rattle.shapes.specs.Fresh.{first_such, growing}
 use Rattle.shapes.specs.Measure.{normal, plane_of, is_plane_of, is_flat, six_volume}
-use Rattle.solid_measure_laws.proofs.FlatFaces.{are_on}
+use Rattle.shapes.proofs.measures.FlatFaces.{are_on}
 use Rattle.shapes.specs.split.Sides.{crossing_edges}
 use Rattle.shapes.specs.split.Crossings.{with_crossings}
 use Rattle.shapes.specs.split.Split.{first_conditions}

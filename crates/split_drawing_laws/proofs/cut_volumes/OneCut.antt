@@ -20,8 +20,8 @@ use Rattle.shapes.specs.Faces.{start, finish, loops_of, items_in, boundary}
 use Rattle.shapes.specs.Rewriting.{rewritten, rewritten_row}
 use Rattle.shapes.specs.Measure.{area, normal}
 use Rattle.shapes.proofs.Areas.{area-append, moved_nothing, moved_turned}
-use Rattle.solid_measure_laws.specs.Vectors.{negated}
-use Rattle.solid_measure_laws.proofs.Sums.{area_same, cross_back, moved_back}
+use Rattle.shapes.specs.Vectors.{negated}
+use Rattle.shapes.proofs.measures.Sums.{area_same, cross_back, moved_back}
 use Rattle.shapes.specs.split.Crossings.{doubled, edge_cut}
 use Rattle.split_drawing_laws.specs.crossings.Kept.{Kept}
 use Rattle.split_drawing_laws.proofs.crossings.OneCut.{plus_there, minus_there}

@@ -10,7 +10,7 @@ use Rattle.euler_operators.specs.Model.{Model, no_face, solid_of, faces_of}
 use Rattle.euler_operators.specs.Sound.{Sound, Has}
 use Rattle.shapes.specs.Faces.{corners}
 use Rattle.shapes.specs.Measure.{normal, anchor, plane_through, plane_of, is_flat, volume_in, six_volume}
-use Rattle.solid_measure_laws.proofs.FlatFaces.{are_on, anchor_on, plane_told}
+use Rattle.shapes.proofs.measures.FlatFaces.{are_on, anchor_on, plane_told}
 use Rattle.euler_operators.proofs.Vectors.{dot_turned}
 use Rattle.euler_operators.proofs.Members.{IsIn_rest}
 use Rattle.euler_operators.proofs.Rotations.{IsIn_head}

@@ -16,7 +16,7 @@ use Rattle.euler_operators.proofs.Rotations.{IsIn_head}
 use Rattle.euler_operators.specs.Conditions.{face_at}
 use Rattle.shapes.specs.Faces.{start, finish, loops_of, boundary, vertices_on, corners}
 use Rattle.shapes.specs.Measure.{area, anchor, first_vertex}
-use Rattle.solid_measure_laws.proofs.FlatFaces.{are_on}
+use Rattle.shapes.proofs.measures.FlatFaces.{are_on}
 use Rattle.split_drawing_laws.proofs.crossings.Listed.{loop_in_face, item_in_face}
 use Rattle.split_drawing_laws.proofs.crossings.Places.{item_face}
 use Rattle.split_drawing_laws.specs.drawings.DrawnIn.{Stays}

@@ -18,7 +18,7 @@ use Rattle.euler_laws.proofs.shared.Fans.{half_face}
 use Rattle.shapes.specs.Faces.{start, boundary}
 use Rattle.shapes.specs.Measure.{normal, anchor}
 use Rattle.shapes.proofs.Areas.{area-append}
-use Rattle.solid_measure_laws.proofs.Sums.{area_same}
+use Rattle.shapes.proofs.measures.Sums.{area_same}
 use Rattle.shapes.specs.split.Drawing.{face_drawn}
 use Rattle.split_drawing_laws.specs.drawings.DrawnIn.{Stays}
 use Rattle.split_drawing_laws.proofs.drawings.Drawn.{CanDraw, draw_sound, face_drawn_new, face_drawn_else}

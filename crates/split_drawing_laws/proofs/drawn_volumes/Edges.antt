@@ -14,7 +14,7 @@ use Rattle.euler_operators.proofs.Tables.{get-put_here, get-put_other}
 use Rattle.shapes.specs.Faces.{start, finish, boundary}
 use Rattle.shapes.specs.Measure.{area, normal}
 use Rattle.shapes.proofs.Areas.{moved_more, nothing_moved}
-use Rattle.solid_measure_laws.proofs.Sums.{halves_cancel}
+use Rattle.shapes.proofs.measures.Sums.{halves_cancel}
 
 pub half_there : (N : Model) (h : ℕ) → HasHalf N h ⊎ (HasHalf N h → ⊥)
 half_there N h = go (has_half N h) refl where

@@ -16,7 +16,7 @@ use Rattle.euler_operators.proofs.Models.{content_row, face_row, same_content, s
 use Rattle.euler_operators.specs.Conditions.{face_at}
 use Rattle.shapes.specs.Faces.{start, boundary}
 use Rattle.shapes.specs.Measure.{area, normal, anchor}
-use Rattle.solid_measure_laws.proofs.Sums.{area_same}
+use Rattle.shapes.proofs.measures.Sums.{area_same}
 use Rattle.shapes.specs.split.Drawing.{loops_joined}
 use Rattle.split_drawing_laws.specs.drawings.DrawnIn.{Stays}
 use Rattle.split_drawing_laws.proofs.drawings.Drawn.{CanJoin, join_sound, loops_joined_faces}

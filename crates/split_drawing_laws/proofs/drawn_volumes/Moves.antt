@@ -17,7 +17,7 @@ use Rattle.euler_laws.proofs.faces.RingIn.{RingGoes, sound-ring_in}
 use Rattle.shapes.specs.Faces.{boundary}
 use Rattle.shapes.specs.Measure.{area, normal, anchor}
 use Rattle.shapes.proofs.Areas.{area-append}
-use Rattle.solid_measure_laws.proofs.Sums.{area_same}
+use Rattle.shapes.proofs.measures.Sums.{area_same}
 use Rattle.split_drawing_laws.specs.drawings.DrawnIn.{Stays}
 use Rattle.split_drawing_laws.proofs.drawn_volumes.Bounds.{OnFace, anchor_still, bound_halves, bound_one, bound_none, point_still, start_still, area_still}
 use Rattle.split_drawing_laws.proofs.drawn_volumes.Edges.{half_there, normal_is}

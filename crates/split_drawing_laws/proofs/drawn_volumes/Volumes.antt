@@ -15,7 +15,7 @@ use Rattle.euler_operators.specs.Conditions.{face_at}
 use Rattle.euler_operators.specs.Effect.{ring_in}
 use Rattle.euler_laws.proofs.shared.Fans.{half_face}
 use Rattle.shapes.specs.Measure.{normal, anchor, six_volume}
-use Rattle.solid_measure_laws.proofs.FlatFaces.{anchor_on, told_anywhere}
+use Rattle.shapes.proofs.measures.FlatFaces.{anchor_on, told_anywhere}
 use Rattle.shapes.specs.split.Drawing.{face_drawn, loops_joined}
 use Rattle.split_drawing_laws.proofs.drawings.Drawn.{CanDraw, CanJoin}
 use Rattle.euler_operators.proofs.Vectors.{dot_sum}

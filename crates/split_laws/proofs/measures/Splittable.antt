@@ -21,7 +21,7 @@ use Rattle.euler_laws.proofs.shared.Goes.{all_hold}
 use Rattle.euler_laws.proofs.shared.Listed.{listed-from_in}
 use Rattle.shapes.specs.Faces.{start, corners}
 use Rattle.shapes.specs.Measure.{plane_of}
-use Rattle.solid_measure_laws.proofs.FlatFaces.{are_on, told_anywhere}
+use Rattle.shapes.proofs.measures.FlatFaces.{are_on, told_anywhere}
 use Rattle.shapes.specs.split.Sides.{faces_above}
 use Rattle.shapes.specs.split.Drawing.{with_drawings}
 use Rattle.shapes.specs.split.Section.{below_halves, section_cycles}

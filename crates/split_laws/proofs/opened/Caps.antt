@@ -29,11 +29,11 @@ use Rattle.shapes.specs.Measure.{area, normal, anchor, first_vertex, is_plane_of
 use Rattle.euler_operators.proofs.Vectors.{none_moved}
 use Rattle.euler_operators.proofs.Tests.{none_but}
 use Rattle.euler_operators.proofs.Members.{IsIn_rest, IsIn_some_head, IsIn-map}
-use Rattle.solid_measure_laws.specs.Vectors.{negated}
-use Rattle.solid_measure_laws.proofs.FlatFaces.{flat_closed}
-use Rattle.solid_measure_laws.proofs.Paths.{Leads, IsClosed}
-use Rattle.solid_measure_laws.proofs.Products.{cross_moved, cross_nothing}
-use Rattle.solid_measure_laws.proofs.Sums.{none_left, area_same, area_mates}
+use Rattle.shapes.specs.Vectors.{negated}
+use Rattle.shapes.proofs.measures.FlatFaces.{flat_closed}
+use Rattle.shapes.proofs.measures.Paths.{Leads, IsClosed}
+use Rattle.shapes.proofs.measures.Products.{cross_moved, cross_nothing}
+use Rattle.shapes.proofs.measures.Sums.{none_left, area_same, area_mates}
 use Rattle.shapes.specs.split.Opening.{both_lists, opened_along}
 use Rattle.split_opening_laws.specs.strips.Opened.{CanBeOpened}
 use Rattle.split_opening_laws.proofs.strips.Cycle.{next_cases, next_below, two_halves, half_in, mate_start, place_of}

@@ -17,7 +17,7 @@ use Rattle.shapes.specs.Faces.{start}
 use Rattle.shapes.specs.Fresh.{Taken}
 use Rattle.shapes.specs.Rewriting.{rewritten}
 use Rattle.shapes.specs.Measure.{normal, anchor, is_plane_of, six_volume}
-use Rattle.solid_measure_laws.proofs.FlatFaces.{told_alike}
+use Rattle.shapes.proofs.measures.FlatFaces.{told_alike}
 use Rattle.shapes.specs.split.Section.{is_hole}
 use Rattle.shapes.specs.split.Opening.{Caps, Opening, opened_along, next_opened, all_opened}
 use Rattle.split_opening_laws.specs.strips.Opened.{CanBeOpened}

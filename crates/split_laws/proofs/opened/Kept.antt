@@ -20,7 +20,7 @@ use Rattle.shapes.specs.Faces.{start, finish, items_in, loops_of, boundary}
 use Rattle.shapes.specs.Rewriting.{rewritten, rewritten_row}
 use Rattle.shapes.specs.Measure.{area, normal, anchor, first_vertex}
 use Rattle.shapes.proofs.Areas.{area-append}
-use Rattle.solid_measure_laws.proofs.Sums.{area_same, area_renamed}
+use Rattle.shapes.proofs.measures.Sums.{area_same, area_renamed}
 use Rattle.gluing_laws.proofs.Listed.{one_if, passed, same_search, volume_of}
 use Rattle.split_laws.specs.opened.Told.{TellsAlike}
 

@@ -21,8 +21,8 @@ use Rattle.euler_laws.proofs.shared.Listed.{listed_passes, listed_as}
 use Rattle.euler_laws.proofs.shared.Rows.{face_there}
 use Rattle.shapes.specs.Fresh.{Taken, numbers_after}
 use Rattle.shapes.specs.Measure.{area, anchor, is_plane_of, volume_in, six_volume}
-use Rattle.solid_measure_laws.proofs.FlatFaces.{told_alike, some_direction}
-use Rattle.solid_measure_laws.proofs.Sums.{dot_back}
+use Rattle.shapes.proofs.measures.FlatFaces.{told_alike, some_direction}
+use Rattle.shapes.proofs.measures.Sums.{dot_back}
 use Rattle.shapes.specs.split.Opening.{opened_along}
 use Rattle.split_opening_laws.specs.strips.Opened.{CanBeOpened}
 use Rattle.split_opening_laws.proofs.strips.Cycle.{two_halves}

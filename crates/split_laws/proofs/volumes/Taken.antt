@@ -21,9 +21,9 @@ use Rattle.shapes.specs.Measure.{area, normal, anchor, first_vertex, volume_in, 
 use Rattle.shapes.proofs.Areas.{area-append}
 use Rattle.euler_operators.proofs.Vectors.{dot_turned, dot_moved, none_moved, add_exchanged, add_assoc}
 use Rattle.euler_operators.proofs.Members.{count_taken}
-use Rattle.solid_measure_laws.proofs.FlatFaces.{told_alike}
-use Rattle.solid_measure_laws.proofs.Products.{cross_moved}
-use Rattle.solid_measure_laws.proofs.Sums.{area_same}
+use Rattle.shapes.proofs.measures.FlatFaces.{told_alike}
+use Rattle.shapes.proofs.measures.Products.{cross_moved}
+use Rattle.shapes.proofs.measures.Sums.{area_same}
 use Rattle.gluing_laws.proofs.Listed.{one_if, passed, count_where, same_search, volume_of, volume_same}
 use Rattle.gluing_laws.proofs.Adding.{only_loop}
 use Rattle.split_laws.specs.opened.Told.{LiesAlong, OutersAreOwn}

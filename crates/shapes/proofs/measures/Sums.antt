@@ -19,7 +19,7 @@ use Rattle.euler_operators.proofs.Integers.{dif, dif-parts, difs, neg-dif, same_
 use Rattle.euler_operators.proofs.Vectors.{same_vector, add_exchanged}
 use Rattle.euler_operators.proofs.Members.{IsIn_rest, count_taken}
 use Rattle.euler_operators.proofs.Rotations.{IsIn_head}
-use Rattle.solid_measure_laws.specs.Vectors.{negated}
+use Rattle.shapes.specs.Vectors.{negated}
 
 -- ---- opposite vectors
 

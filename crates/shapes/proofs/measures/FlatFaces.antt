@@ -15,9 +15,9 @@ use Rattle.shapes.specs.Faces.{start, finish, loops_of, items_in, boundary, vert
 use Rattle.shapes.specs.Measure.{area, normal, anchor, first_vertex, plane_through, plane_of, is_plane_of, is_flat}
 use Rattle.shapes.proofs.Areas.{area-append}
 use Rattle.euler_operators.proofs.Vectors.{dot_turned}
-use Rattle.solid_measure_laws.specs.Vectors.{scaled, towards}
-use Rattle.solid_measure_laws.proofs.Products.{cross_moved, cross_nothing, flat_step, no_way, same_part}
-use Rattle.solid_measure_laws.proofs.Paths.{begins, Leads, IsClosed, loop_closed}
+use Rattle.shapes.specs.Vectors.{scaled, towards}
+use Rattle.shapes.proofs.measures.Products.{cross_moved, cross_nothing, flat_step, no_way, same_part}
+use Rattle.shapes.proofs.measures.Paths.{begins, Leads, IsClosed, loop_closed}
 
 -- ---- tests
 

@@ -5,7 +5,7 @@ use Rattle.euler_operators.specs.declared.Point.{Point}
 use Rattle.euler_operators.specs.Vectors.{origin, moved, dot, cross}
 use Rattle.euler_operators.proofs.Integers.{dif, dif-parts, difs, same_dif, number}
 use Rattle.euler_operators.proofs.Vectors.{same_vector}
-use Rattle.solid_measure_laws.specs.Vectors.{scaled, towards}
+use Rattle.shapes.specs.Vectors.{scaled, towards}
 
 -- ---- across a sum
 

@@ -1,0 +1,4 @@
+pub mod Products
+pub mod Paths
+pub mod Sums
+pub mod FlatFaces
