@@ -1,13 +1,11 @@
 -- How great sums of cross products over half-edges are.
-use Rattle.std.proofs.Common.{◌≡◌, ℕ, ◌+◌, ◌*◌, ◌≤◌, List, [], ◌∷◌, ◌++◌, length, Some, None, Option, refl, sym, ap, ◌∙◌, arith}
+use Rattle.std.proofs.Common.{◌≡◌, ℕ, ◌+◌, ◌*◌, ◌≤◌, List, [], ◌∷◌, length, Some, None, Option, refl, arith}
 use Rattle.std.specs.Prelude.{◌*ℤ◌, unwrap_or}
-use Rattle.std.proofs.Math.IntN.{+ℤ_comm, +ℤ_assoc, +ℤ_idl, +ℤ_idr}
 use Rattle.euler_operators.specs.declared.Point.{Point}
 use Rattle.euler_operators.specs.Points.{IsInRange}
 use Rattle.euler_operators.specs.Ranges.{IsVectorWithin}
-use Rattle.euler_operators.specs.Vectors.{origin, moved, cross}
+use Rattle.euler_operators.specs.Vectors.{moved, cross}
 use Rattle.euler_operators.proofs.Magnitudes.{coordinates, coordinate_within, product_within, sum_within, difference_within, vector_within}
-use Rattle.euler_operators.specs.Rings.{IsRotation}
 use Rattle.euler_operators.specs.HalfEdge.{mate}
 use Rattle.euler_operators.specs.Table as table
 use Rattle.euler_operators.specs.Model.{Model, tail, point_of, no_point}

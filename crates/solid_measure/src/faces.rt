@@ -3,27 +3,61 @@ ghost use Rattle.std.specs.Prelude.{◌≡◌, true, not};
 ghost use Rattle.std.specs.List.{list_all};
 ghost use Rattle.euler_operators.specs.Points.{IsInRange};
 ghost use Rattle.euler_operators.specs.Ranges.{IsPlane, IsVectorWithin, IsWithin};
-ghost use Rattle.euler_operators.specs.Vectors.{direction, dot, is_on, origin, same_point};
-ghost use Rattle.euler_operators.specs.Model.{point_of, rings_of};
+ghost use Rattle.euler_operators.specs.Vectors.{direction, dot, is_on, moved, origin, same_point};
+ghost use Rattle.euler_operators.specs.Model.{content, items_of, outer, point_of, rings_of};
 ghost use Rattle.euler_conditions.specs.Store.{has_number};
 ghost use Rattle.euler_conditions.specs.Ready.{IsReady};
 ghost use Rattle.shapes.specs.Faces.{corners, vertices_in};
-ghost use Rattle.solid_measure.specs.Measure.{anchor, area_limit, is_flat, normal, plane_of, read};
+ghost use Rattle.solid_measure.specs.Measure.{anchor, area, area_limit, is_flat, normal, plane_of, read};
 
 use crate::Vector;
-use crate::loops::{least_item, loop_added, loop_lies_on};
+use crate::loops::{loop_added, loop_lies_on, walk_round};
 use euler_conditions::Arena;
 use euler_operators::{Content, Kind, Plane, Point, dot};
 use solid_walks::start;
 
-/// The face's normal: the sum of the cross products over the half-edges of its loops.
-pub(crate) fn normal_of(arena: &Arena, f: u32) -> Vector
+/// Where a face lies: the sum of the cross products over the half-edges of its loops, and the point of its first corner.
+#[derive(Drop)]
+pub(crate) struct Frame {
+    pub(crate) normal: Vector,
+    pub(crate) anchor: Point,
+}
+
+/// The cross products over the half-edges of the face's outer loop, and the point of its first corner: where the first item of that
+/// loop starts, or where it is lone.
+fn outer_frame(arena: &Arena, f: u32) -> Frame
     requires ready { IsReady arena.now }
     requires there { has_number arena.now Kind.Face f ≡ true }
+    ensures normal { read result.normal ≡ moved origin (area arena.now.model (items_of (content arena.now.model (outer arena.now.model f)))) }
+    ensures anchor { result.anchor ≡ anchor arena.now.model f }
+    ensures range { IsInRange result.anchor }
+{
+    let outer = arena.outer(f);
+    let normal = Vector { x: 0, y: 0, z: 0 };
+    match arena.content(outer) {
+        Content::Lone(v) => Frame {
+            normal,
+            anchor: arena.point(v),
+        },
+        Content::Ring(first) => {
+            let round = walk_round(arena, normal, outer, first);
+            Frame {
+                normal: round.sum,
+                anchor: start(arena, round.least),
+            }
+        }
+    }
+}
+
+/// The vector n, the sum over the face's outer loop, plus the cross products over the half-edges of its rings.
+fn rings_added(arena: &Arena, n: Vector, f: u32) -> Vector
+    requires ready { IsReady arena.now }
+    requires there { has_number arena.now Kind.Face f ≡ true }
+    requires n { read n ≡ moved origin (area arena.now.model (items_of (content arena.now.model (outer arena.now.model f)))) }
     ensures is { read result ≡ normal arena.now.model f }
     ensures within { IsVectorWithin area_limit (read result) }
 {
-    let mut sum = loop_added(arena, Vector { x: 0, y: 0, z: 0 }, arena.outer(f));
+    let mut sum = n;
     let mut last = 0;
     'rings: while let Some(ring) = arena.ring_after(f, last) {
         sum = loop_added(arena, sum, ring);
@@ -32,17 +66,20 @@ pub(crate) fn normal_of(arena: &Arena, f: u32) -> Vector
     sum
 }
 
-/// The point of the face's first corner: where the first item of its outer loop starts, or where that loop is lone.
-pub(crate) fn anchor_of(arena: &Arena, f: u32) -> Point
+/// The face's normal, the sum of the cross products over the half-edges of its loops, and the point of its first corner: where the
+/// first item of its outer loop starts, or where that loop is lone.
+pub(crate) fn frame_of(arena: &Arena, f: u32) -> Frame
     requires ready { IsReady arena.now }
     requires there { has_number arena.now Kind.Face f ≡ true }
-    ensures point { result ≡ anchor arena.now.model f }
-    ensures range { IsInRange result }
+    ensures normal { read result.normal ≡ normal arena.now.model f }
+    ensures within { IsVectorWithin area_limit (read result.normal) }
+    ensures anchor { result.anchor ≡ anchor arena.now.model f }
+    ensures range { IsInRange result.anchor }
 {
-    let outer = arena.outer(f);
-    match arena.content(outer) {
-        Content::Lone(v) => arena.point(v),
-        Content::Ring(first) => start(arena, least_item(arena, outer, first)),
+    let Frame { normal, anchor } = outer_frame(arena, f);
+    Frame {
+        normal: rings_added(arena, normal, f),
+        anchor,
     }
 }
 
@@ -53,8 +90,8 @@ pub(crate) fn plane_of(arena: &Arena, f: u32) -> Plane
     ensures is { result ≡ plane_of arena.now.model f }
     ensures range { IsPlane result }
 {
-    let n = normal_of(arena, f);
-    let d = -dot([n.x, n.y, n.z], anchor_of(arena, f));
+    let Frame { normal: n, anchor } = frame_of(arena, f);
+    let d = -dot([n.x, n.y, n.z], anchor);
     Plane {
         a: n.x,
         b: n.y,
@@ -114,6 +151,6 @@ pub(crate) fn volume_over(arena: &Arena, f: u32) -> i128
     ensures is { result ≡ dot (anchor arena.now.model f) (normal arena.now.model f) }
     ensures within { IsWithin 30000000000000000000000000000000000 result }
 {
-    let n = normal_of(arena, f);
-    dot([n.x, n.y, n.z], anchor_of(arena, f))
+    let Frame { normal: n, anchor } = frame_of(arena, f);
+    dot([n.x, n.y, n.z], anchor)
 }

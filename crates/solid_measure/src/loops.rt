@@ -30,28 +30,6 @@ pub fn half_added(arena: &Arena, n: Vector, h: HalfEdge) -> Vector
     Vector { x, y, z }
 }
 
-/// The vector n plus the cross products over the half-edges of the loop.
-pub(crate) fn loop_added(arena: &Arena, n: Vector, l: u32) -> Vector
-    requires ready { IsReady arena.now }
-    requires there { has_number arena.now Kind.Loop l ≡ true }
-    requires n { IsVectorWithin area_limit (read n) }
-    ensures { read result ≡ moved (read n) (area arena.now.model (items_of (content arena.now.model l))) }
-{
-    let Content::Ring(first) = arena.content(l) else {
-        return n;
-    };
-    let mut sum = n;
-    let mut h = first;
-    'round: for _ in 0..HALF_EDGE_CODES {
-        sum = half_added(arena, sum, h);
-        h = next(arena, h);
-        if same(h, first) {
-            return sum;
-        }
-    }
-    sum
-}
-
 /// The lesser of two half-edges in the order of listings.
 fn lesser(a: HalfEdge, b: HalfEdge) -> HalfEdge
     requires a { a.edge ≤ 1000000 }
@@ -61,23 +39,49 @@ fn lesser(a: HalfEdge, b: HalfEdge) -> HalfEdge
     if b.code() < a.code() { b } else { a }
 }
 
-/// The first item, in the order of listings, of loop l, in which `first` stands.
-pub(crate) fn least_item(arena: &Arena, l: u32, first: HalfEdge) -> HalfEdge
+/// What a walk round a loop finds.
+#[derive(Drop)]
+pub(crate) struct Round {
+    /// A vector plus the cross products over the half-edges of the loop.
+    pub(crate) sum: Vector,
+    /// The first item of the loop in the order of listings.
+    pub(crate) least: HalfEdge,
+}
+
+/// Walks once round loop l, in which `first` stands: the vector n plus the cross products over its half-edges, and its first item.
+pub(crate) fn walk_round(arena: &Arena, n: Vector, l: u32, first: HalfEdge) -> Round
     requires ready { IsReady arena.now }
+    requires n { IsVectorWithin area_limit (read n) }
     requires item { IsIn (code first) (items_of (content arena.now.model l)) }
-    ensures least { code result ≡ head_or 0 (items_of (content arena.now.model l)) }
-    ensures there { has_number arena.now Kind.Edge result.edge ≡ true }
+    ensures sum { read result.sum ≡ moved (read n) (area arena.now.model (items_of (content arena.now.model l))) }
+    ensures least { code result.least ≡ head_or 0 (items_of (content arena.now.model l)) }
+    ensures there { has_half arena.now.model (code result.least) ≡ true }
 {
+    let mut sum = n;
     let mut least = first;
     let mut h = first;
     'round: for _ in 0..HALF_EDGE_CODES {
+        sum = half_added(arena, sum, h);
         least = lesser(least, h);
         h = next(arena, h);
         if same(h, first) {
-            return least;
+            return Round { sum, least };
         }
     }
-    least
+    Round { sum, least }
+}
+
+/// The vector n plus the cross products over the half-edges of the loop.
+pub(crate) fn loop_added(arena: &Arena, n: Vector, l: u32) -> Vector
+    requires ready { IsReady arena.now }
+    requires there { has_number arena.now Kind.Loop l ≡ true }
+    requires n { IsVectorWithin area_limit (read n) }
+    ensures { read result ≡ moved (read n) (area arena.now.model (items_of (content arena.now.model l))) }
+{
+    match arena.content(l) {
+        Content::Lone(_) => n,
+        Content::Ring(first) => walk_round(arena, n, l, first).sum,
+    }
 }
 
 /// Whether the point lies on the plane.

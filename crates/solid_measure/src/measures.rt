@@ -40,7 +40,7 @@ pub fn normal(arena: &Arena, f: u32) -> Result<[i128; 3], Refusal>
     if let Some(refusal) = refusal_of_face(arena, f) {
         return Err(refusal);
     }
-    let n = faces::normal_of(arena, f);
+    let n = faces::frame_of(arena, f).normal;
     Ok([n.x, n.y, n.z])
 }
 
@@ -87,7 +87,7 @@ fn volume_of(arena: &Arena, s: u32) -> i128
 /// Six times the volume of solid s: the sum over its faces of the product of the anchor with the normal. It is below 3 * 10^34
 /// in magnitude.
 ///
-/// Refused, in this order: NumberRange, NoSolid. It walks over the solid's own faces, and once or twice round each of their loops.
+/// Refused, in this order: NumberRange, NoSolid. It walks over the solid's own faces, and once round each of their loops.
 pub fn six_volume(arena: &Arena, s: u32) -> Result<i128, Refusal>
     requires { IsReady arena.now }
     ensures { result ≡ answer (solid_refusal arena.now.model s) (six_volume arena.now.model s) }

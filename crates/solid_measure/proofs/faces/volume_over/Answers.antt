@@ -8,7 +8,7 @@ use Rattle.solid_measure.proofs.faces.volume_over.Goals as goal
 
 pub returns-clause-is : goal.returns-clause-is
 returns-clause-is c =
-    let n = read c.normal_of-n.result in
+    let n = read c.frame_of.result.normal in
     held_is c.dot.result (fits _ _ c.dot.ensures.within (omega arith))
-    ∙ face_volume c.args.arena.now.model c.args.f c.dot.result n c.anchor_of.result c.normal_of-n.ensures.is c.anchor_of.ensures.point
-    (c.dot.ensures.is ∙ ap (λ v. dot v c.anchor_of.result) (held_vector_is n c.anchor_of.result c.dot.result c.normal_of-n.ensures.within c.dot.ensures.within))
+    ∙ face_volume c.args.arena.now.model c.args.f c.dot.result n c.frame_of.result.anchor c.frame_of.ensures.normal c.frame_of.ensures.anchor
+    (c.dot.ensures.is ∙ ap (λ v. dot v c.frame_of.result.anchor) (held_vector_is n c.frame_of.result.anchor c.dot.result c.frame_of.ensures.within c.dot.ensures.within))

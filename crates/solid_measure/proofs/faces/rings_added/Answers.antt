@@ -1,28 +1,24 @@
 use Rattle.std.proofs.Common.{sym, ap, subst, ◌∙◌, arith}
 use Rattle.euler_operators.specs.Ranges.{IsVectorWithin}
-use Rattle.euler_operators.specs.Vectors.{origin, moved}
+use Rattle.euler_operators.specs.Vectors.{moved}
 use Rattle.euler_operators.specs.Model.{items_of, content}
 use Rattle.euler_laws.proofs.shared.FaceRings.{ring_there}
 use Rattle.euler_laws.proofs.shared.Bounds.{ring_number}
 use Rattle.solid_measure.specs.Measure.{area, area_limit}
 use Rattle.solid_measure.proofs.Boundaries.{area_to_limited, area_to_start, area_to_next, area_to_end}
-use Rattle.solid_measure.proofs.faces.normal_of.Goals as goal
+use Rattle.solid_measure.proofs.faces.rings_added.Goals as goal
 
 pub rings-init : goal.rings-init
-rings-init c =
-    let M = c.args.arena.now.model in record {
-      most = omega arith;
-      summed = c.loop_added-sum.ensures ∙ ap (λ l. moved origin (area M (items_of (content M l)))) c.outer.ensures ∙ area_to_start M c.requires.ready.sound c.args.f;
-    }
+rings-init c = record { most = omega arith; summed = c.requires.n ∙ area_to_start c.args.arena.now.model c.requires.ready.sound c.args.f }
 
-pub loop_added-sum-requires-in-Some-clause-n : goal.loop_added-sum-requires-in-Some-clause-n
-loop_added-sum-requires-in-Some-clause-n c = subst (IsVectorWithin area_limit) (sym c.rings.invariant.summed) (area_to_limited c.args.arena.now.model c.requires.ready.sound c.args.f c.rings.last)
+pub loop_added-sum-requires-clause-n : goal.loop_added-sum-requires-clause-n
+loop_added-sum-requires-clause-n c = subst (IsVectorWithin area_limit) (sym c.rings.invariant.summed) (area_to_limited c.args.arena.now.model c.requires.ready.sound c.args.f c.rings.last)
 
 pub rings-preserved : goal.rings-preserved
 rings-preserved c =
     let M = c.args.arena.now.model in let ring = c.in-Some.ring in record {
       most = ring_number M c.requires.ready.sound ring (ring_there M c.args.f ring c.in-Some.ensures.1).0;
-      summed = c.loop_added-sum-in-Some.ensures ∙ ap (λ p. moved p (area M (items_of (content M ring)))) c.rings.invariant.summed ∙ area_to_next M c.requires.ready.sound c.args.f c.rings.last ring c.in-Some.ensures;
+      summed = c.loop_added-sum.ensures ∙ ap (λ p. moved p (area M (items_of (content M ring)))) c.rings.invariant.summed ∙ area_to_next M c.requires.ready.sound c.args.f c.rings.last ring c.in-Some.ensures;
     }
 
 pub returns-clause-is : goal.returns-clause-is

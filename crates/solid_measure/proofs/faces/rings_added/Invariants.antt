@@ -1,7 +1,7 @@
 use Rattle.std.proofs.Common.{◌≡◌, ◌≤◌, ◌-◌}
 use Rattle.solid_measure.specs.Measure.{read}
 use Rattle.solid_measure.proofs.Boundaries.{area_to}
-use Rattle.solid_measure.proofs.faces.normal_of.Given as goal
+use Rattle.solid_measure.proofs.faces.rings_added.Given as goal
 
 abbrev pub invariant-rings : goal.invariant-rings
 invariant-rings l = record {

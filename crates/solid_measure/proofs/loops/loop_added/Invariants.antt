@@ -1,9 +1,0 @@
-use Rattle.std.proofs.Common.{◌-◌}
-use Rattle.euler_operators.specs.HalfEdge.{code}
-use Rattle.euler_laws.proofs.shared.Bounds.{steps}
-use Rattle.solid_measure.specs.Measure.{read}
-use Rattle.solid_measure.proofs.AreaRounds.{AreaRound}
-use Rattle.solid_measure.proofs.loops.loop_added.Given as goal
-
-abbrev pub invariant-round : goal.invariant-round
-invariant-round l = AreaRound l.arena.model l.l (code l.first) (code l.h) (steps - l.counter) (read l.fn.n) (read l.sum)
