@@ -3,3 +3,4 @@ pub mod Recorded
 pub mod Histories
 pub mod Laws
 pub mod Held
+pub mod Listed

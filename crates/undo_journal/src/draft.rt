@@ -135,8 +135,8 @@ impl Draft {
         records.truncate(place);
         back.reverse();
         let record = Record {
-            forward: OpList::new(forward),
-            back: OpList::new(back),
+            forward: OpList::many(forward),
+            back: OpList::many(back),
         };
         records.push(record).unwrap();
         Session {

@@ -1,42 +1,63 @@
 //! The record of a command: lists of operators.
-ghost use Rattle.std.specs.Prelude.{◌≡◌, ◌<◌, length, slice_index_or};
+ghost use Rattle.std.specs.Prelude.{◌≡◌, ◌<◌, [], ◌∷◌, length, slice_index_or};
 
 use euler_operators::Op;
 use std::marker::Model;
+use std::slice;
 
-/// Operators in the order in which they are applied.
+/// Operators in the order in which they are applied. A list of one operator takes no memory of its own.
 #[derive(Drop)]
 pub struct OpList {
-    ops: Vec<Op>,
+    ops: Ops,
+}
+
+#[derive(Drop)]
+enum Ops {
+    One(Op),
+    Many(Vec<Op>),
 }
 
 impl Model for OpList {
     ghost use Rattle.std.specs.Prelude.{List};
     ghost use Rattle.euler_operators.specs.declared.Op.{Op};
+    ghost use Rattle.undo_journal.specs.Listed.{listed};
 
     ghost Value = { List Op };
 
-    ghost view = { λ a. a.ops.items };
+    ghost view = { λ a. listed a.ops };
 }
 
 impl OpList {
-    pub(crate) fn new(ops: Vec<Op>) -> Self
+    /// The list of one operator.
+    pub(crate) fn one(op: Op) -> Self
+        ensures { result ≡ op ∷ [] }
+    {
+        OpList { ops: Ops::One(op) }
+    }
+
+    /// The list of some operators.
+    pub(crate) fn many(ops: Vec<Op>) -> Self
         ensures { result ≡ ops.items }
     {
-        OpList { ops }
+        OpList {
+            ops: Ops::Many(ops),
+        }
     }
 
     pub(crate) fn as_slice(&self) -> &[Op]
         ensures { result.now ≡ self.now }
     {
-        self.ops.as_slice()
+        match &self.ops {
+            Ops::One(op) => slice::from_ref(op),
+            Ops::Many(ops) => ops.as_slice(),
+        }
     }
 
     /// How many operators there are.
     pub fn len(&self) -> usize
         ensures { result ≡ length self.now }
     {
-        self.ops.len()
+        self.as_slice().len()
     }
 
     /// The operator at place i, counted from 0.
@@ -44,7 +65,7 @@ impl OpList {
         requires { i < length self.now }
         ensures { result.now ≡ slice_index_or self.now i result.now }
     {
-        &self.ops[i]
+        &self.as_slice()[i]
     }
 }
 

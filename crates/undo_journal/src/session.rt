@@ -10,7 +10,7 @@ ghost use Rattle.euler_operators.specs.declared.Refusal.{Refusal};
 ghost use Rattle.undo_journal.specs.Machine as machine;
 
 use crate::record::{OpList, Record};
-use crate::steps::{replay_all, step};
+use crate::steps::{advance, replay_all};
 use euler_conditions::{Arena, check};
 use euler_operators::{Op, Refusal, Why};
 use std::alloc::{AllocError, Global};
@@ -106,14 +106,12 @@ impl Session {
         ensures ok { OnOk result (self.new ≡ machine.act self.old op) }
         ensures err { OnErr result (self.new ≡ self.old) }
     {
-        let mut forward = Vec::with_capacity(self.alloc, 1)?;
-        let mut back = Vec::with_capacity(self.alloc, 1)?;
         self.records.reserve(1)?;
-        step(self.alloc, &mut self.arena, &mut forward, &mut back, op)?;
+        let inverse = advance(self.alloc, &mut self.arena, &op)?;
         self.records.truncate(self.place);
         let record = Record {
-            forward: OpList::new(forward),
-            back: OpList::new(back),
+            forward: OpList::one(op),
+            back: OpList::one(inverse),
         };
         self.records.push(record).unwrap();
         self.place += 1;

@@ -1,5 +1,5 @@
 //! Operators applied in turn.
-ghost use Rattle.std.specs.Prelude.{◌≡◌, [], ◌∷◌, ◌++◌, OnOk, OnErr, None};
+ghost use Rattle.std.specs.Prelude.{◌≡◌, [], ◌∷◌, ◌++◌, OnOk, OnErr, IfOk, None};
 ghost use Rattle.euler_conditions.specs.Store.{HasGrown};
 ghost use Rattle.euler_operators.specs.Conditions.{first_false};
 ghost use Rattle.euler_operators.specs.Effect.{inverse};
@@ -25,6 +25,19 @@ pub(crate) fn replay_all(arena: &mut Arena, ops: &[Op])
     }
 }
 
+/// Applies an operator that is accepted, and answers its inverse. All memory is taken before the change: on `AllocError` the model
+/// is as it was.
+pub(crate) fn advance(alloc: Global, arena: &mut Arena, op: &Op) -> Result<Op, AllocError>
+    requires ready { IsReady arena.old }
+    requires accepted { first_false arena.old.model op.now ≡ None }
+    ensures stepped { IfOk result (λ back. IsStepped arena.old op.now arena.new) }
+    ensures inverse { IfOk result (λ back. back ≡ inverse arena.old.model op.now) }
+    ensures err { OnErr result (HasGrown arena.old arena.new) }
+{
+    let room = room_op(alloc, arena, op)?;
+    Ok(apply(arena, op, room))
+}
+
 /// Applies an operator that is accepted, and appends it and its inverse to two lists. All memory is taken before the change:
 /// on `AllocError` the model and the lists are as they were.
 pub(crate) fn step(
@@ -45,8 +58,7 @@ pub(crate) fn step(
 {
     forward.reserve(1)?;
     back.reserve(1)?;
-    let room = room_op(alloc, arena, &op)?;
-    let inverse = apply(arena, &op, room);
+    let inverse = advance(alloc, arena, &op)?;
     forward.push(op).unwrap();
     back.push(inverse).unwrap();
     Ok(())

@@ -10,9 +10,9 @@ use Rattle.undo_journal.proofs.draft.Draft.commit.Goals as goal
 abbrev records : (c : goal.After-unwrap) → c.push.new.self.items ≡ take c.self.inside.place c.self.inside.records.items ++ command_of c.self.inside.forward.items c.self.inside.back.items ∷ []
 records c =
     (rw c.unwrap.ensures at c.push.ensures.items)
-    ∙ ap (λ (rs : List Record). rs ++ record { forward = c.new.result; back = c.new-2.result } ∷ []) c.truncate.ensures.items
-    ∙ ap (λ (ops : List Op). take c.self.inside.place c.self.inside.records.items ++ record { forward = ops; back = c.new-2.result } ∷ []) c.new.ensures
-    ∙ ap (λ (ops : List Op). take c.self.inside.place c.self.inside.records.items ++ record { forward = c.self.inside.forward.items; back = ops } ∷ []) (c.new-2.ensures ∙ c.reverse.ensures.items)
+    ∙ ap (λ (rs : List Record). rs ++ record { forward = c.many.result; back = c.many-2.result } ∷ []) c.truncate.ensures.items
+    ∙ ap (λ (ops : List Op). take c.self.inside.place c.self.inside.records.items ++ record { forward = ops; back = c.many-2.result } ∷ []) c.many.ensures
+    ∙ ap (λ (ops : List Op). take c.self.inside.place c.self.inside.records.items ++ record { forward = c.self.inside.forward.items; back = ops } ∷ []) (c.many-2.ensures ∙ c.reverse.ensures.items)
 
 pub invariant_of-result : goal.invariant_of-result
 invariant_of-result c =

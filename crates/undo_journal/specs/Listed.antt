@@ -1,0 +1,9 @@
+-- The operators of a list, which holds one in itself or several behind a pointer.
+use Rattle.std.specs.Prelude.{List, [], ◌∷◌}
+use Rattle.euler_operators.specs.declared.Op.{Op}
+use Rattle.undo_journal.specs.declared.record.Ops.{Ops}
+use Rattle.undo_journal.specs.declared.record.Ops.TheVariants.{One, Many}
+
+abbrev pub listed : Ops → List Op
+listed (One op) = op ∷ []
+listed (Many ops) = ops.items
