@@ -11,7 +11,7 @@ use Rattle.arena_rows.specs.Rows.{row_at, map_row, table_of}
 use Rattle.boundary_model.specs.Model.{Model, cycle}
 use Rattle.arena_rows.specs.Store.{Store, loosened}
 use Rattle.arena_rows.specs.ring_spots.Spots.{Spots, live, label, ring, spliced_at, labelled, AreRings}
-use Rattle.arena_rows.specs.View.{store_of, IsTied, held_content, loop_row, AreLoops}
+use Rattle.arena_rows.specs.View.{store_of, RowsAreTied, held_content, loop_row, AreLoops}
 use Rattle.arena_rows.proofs.Views.{get-table_of}
 use Rattle.boundary_model.specs.Rings.{cut_left, cut_right, joined}
 use Rattle.boundary_model.specs.Model.{has_half, loop_of, items_of, content, cycle_of}
@@ -55,7 +55,7 @@ loops_table_rows sp new rows0 rows l cell is alike = same_table (table_of (loop_
     other q n None at = refl
     other q n (Some c) at = ap (λ k. Some (record { face = c.face; content = k })) (alike q c n at)
 
-module _ (sp : Spots) (known : ℕ → Bool) (solids : List (Option Bool)) (faces : List (Option FaceCell)) (loops : List (Option LoopCell)) (vertices : List (Option Point)) (tied : IsTied sp known solids faces loops vertices) where
+module _ (sp : Spots) (known : ℕ → Bool) (solids : List (Option Bool)) (faces : List (Option FaceCell)) (loops : List (Option LoopCell)) (vertices : List (Option Point)) (tied : RowsAreTied sp known solids faces loops vertices) where
   abbrev S : Store
   S = store_of sp known solids faces loops vertices
 
@@ -122,8 +122,8 @@ module _ (sp : Spots) (known : ℕ → Bool) (solids : List (Option Bool)) (face
           ∙ ap (λ hs. put M.loops here (held_row M here (cycle (cut_left a b hs)))) (sym (cycle_of_is sp known solids faces loops vertices tied a g.a_there g.looped))
           ∙ ap (λ n. put M.loops n (held_row M n (cycle (cut_left a b (cycle_of M a))))) (sym (loop_of_is sp known solids faces loops vertices tied a g.a_there))
 
-      pub tied_cut_loose : (known' : ℕ → Bool) → l ≡ 0 → (new : Spots) → new ≡ cutted → IsTied new known' solids faces rows1 vertices
-      tied_cut_loose known' z new e = subst (λ s. IsTied s known' solids faces rows1 vertices) (sym e) (tied_with sp known solids faces loops vertices tied cutted known' rows1 cut_rings2 (cut_live 0)
+      pub tied_cut_loose : (known' : ℕ → Bool) → l ≡ 0 → (new : Spots) → new ≡ cutted → RowsAreTied new known' solids faces rows1 vertices
+      tied_cut_loose known' z new e = subst (λ s. RowsAreTied s known' solids faces rows1 vertices) (sym e) (tied_with sp known solids faces loops vertices tied cutted known' rows1 cut_rings2 (cut_live 0)
           (AreLoops-cut sp loops R are tied.loops_fit.no_zero a b g.a_there g.b_there g.looped g.one ne l g.free rows1 cell.face (row_here loops rows1 here _ is1) (λ n. absurd (n z)) (λ q n m. row_there loops rows1 here _ is1 q n) fits1.no_zero) fits1)
 
       pub store_cut_loose : (known' : ℕ → Bool) → known' ≡ known → l ≡ 0 → (new : Spots) → new ≡ cutted → store_of new known' solids faces rows1 vertices ≡ cut_loose S a b
@@ -143,8 +143,8 @@ module _ (sp : Spots) (known : ℕ → Bool) (solids : List (Option Bool)) (face
         fits2 : Fits rows2
         fits2 = fits-write rows1 rows2 l _ fits1 n len2 is2
 
-        pub tied_cut_to : (known' : ℕ → Bool) → (new : Spots) → new ≡ cutted → IsTied new known' solids faces rows2 vertices
-        tied_cut_to known' new e = subst (λ s. IsTied s known' solids faces rows2 vertices) (sym e) (tied_with sp known solids faces loops vertices tied cutted known' rows2 cut_rings2 (cut_live 0)
+        pub tied_cut_to : (known' : ℕ → Bool) → (new : Spots) → new ≡ cutted → RowsAreTied new known' solids faces rows2 vertices
+        tied_cut_to known' new e = subst (λ s. RowsAreTied s known' solids faces rows2 vertices) (sym e) (tied_with sp known solids faces loops vertices tied cutted known' rows2 cut_rings2 (cut_live 0)
             (AreLoops-cut sp loops R are tied.loops_fit.no_zero a b g.a_there g.b_there g.looped g.one ne l g.free rows2 cell.face
             (row_there rows1 rows2 l _ is2 here (λ q. not_here (sym q)) ∙ row_here loops rows1 here _ is1) (λ _. (cell2.face, row_here rows1 rows2 l _ is2))
             (λ q u v. row_there rows1 rows2 l _ is2 q v ∙ row_there loops rows1 here _ is1 q u) fits2.no_zero) fits2)
@@ -186,8 +186,8 @@ module _ (sp : Spots) (known : ℕ → Bool) (solids : List (Option Bool)) (face
       jfits : Fits rows
       jfits = fits-write rows0 rows jhere _ fits0 g.looped len is1
 
-      pub tied_join : (known' : ℕ → Bool) (new : Spots) → new ≡ jspots → IsTied new known' solids faces rows vertices
-      tied_join known' new e = subst (λ s. IsTied s known' solids faces rows vertices) (sym e) (tied_with sp known solids faces loops vertices tied jspots known' rows
+      pub tied_join : (known' : ℕ → Bool) (new : Spots) → new ≡ jspots → RowsAreTied new known' solids faces rows vertices
+      tied_join known' new e = subst (λ s. RowsAreTied s known' solids faces rows vertices) (sym e) (tied_with sp known solids faces loops vertices tied jspots known' rows
           (jrings2 sp loops R are tied.loops_fit.no_zero a b g.a_there g.b_there g.looped g.other) (jlive2 sp loops R are tied.loops_fit.no_zero a b g.a_there g.b_there g.looped g.other 0)
           (AreLoops-join sp loops R are tied.loops_fit.no_zero a b g.a_there g.b_there g.looped g.other rows cell.face (row_here rows0 rows jhere _ is1)
           (λ c at. empty_b c (sym (row_there rows0 rows jhere _ is1 jthere g.other) ∙ at)) (λ q n m. row_there rows0 rows jhere _ is1 q n ∙ same q m)) jfits)

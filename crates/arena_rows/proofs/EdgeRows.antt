@@ -11,7 +11,7 @@ use Rattle.boundary_model.specs.HalfEdge.{plus, minus}
 use Rattle.boundary_model.specs.Model.{Model}
 use Rattle.arena_rows.specs.Store.{Store}
 use Rattle.arena_rows.specs.ring_spots.Spots.{Spots, live, label, retailed, AreRings}
-use Rattle.arena_rows.specs.View.{store_of, IsTied, HasEntry, AreLoops, StandsAt}
+use Rattle.arena_rows.specs.View.{store_of, RowsAreTied, HasEntry, AreLoops, StandsAt}
 use Rattle.arena_rows.specs.ring_spots.SpotTables.{loose_row}
 use Rattle.arena_rows.specs.Store.{set_tail, put_edge, take_edge}
 use Rattle.arena_rows.specs.ring_spots.Spots.{woken, asleep}
@@ -21,7 +21,7 @@ use Rattle.arena_rows.proofs.Tellings.{loops_same}
 use Rattle.arena_rows.proofs.ring_spots_laws.SpotLaws.{AreRings-retailed, live-retailed, label-retailed, ring-retailed}
 use Rattle.arena_rows.proofs.ring_spots_laws.EdgeSpots.{edges_tail, w_plus, w_minus, w_other, w_old, w_cases, old_ring, w_rings, w_label, w_loose, w_edges, s_other, s_left, s_ring, s_rings, s_label, s_named, s_loose, s_edges}
 
-module _ (sp : Spots) (known : ℕ → Bool) (solids : List (Option Bool)) (faces : List (Option FaceCell)) (loops : List (Option LoopCell)) (vertices : List (Option Point)) (tied : IsTied sp known solids faces loops vertices) where
+module _ (sp : Spots) (known : ℕ → Bool) (solids : List (Option Bool)) (faces : List (Option FaceCell)) (loops : List (Option LoopCell)) (vertices : List (Option Point)) (tied : RowsAreTied sp known solids faces loops vertices) where
   abbrev S : Store
   S = store_of sp known solids faces loops vertices
 
@@ -34,7 +34,7 @@ module _ (sp : Spots) (known : ℕ → Bool) (solids : List (Option Bool)) (face
   abbrev are : AreLoops sp loops
   are = tied.loops_tied
 
-  tied_with : (new : Spots) (known' : ℕ → Bool) → AreRings new → live new 0 ≡ live sp 0 → AreLoops new loops → IsTied new known' solids faces loops vertices
+  tied_with : (new : Spots) (known' : ℕ → Bool) → AreRings new → live new 0 ≡ live sp 0 → AreLoops new loops → RowsAreTied new known' solids faces loops vertices
   tied_with new known' N z A = record { rings = N; no_edge = λ e. tied.no_edge (sym z ∙ e); loops_tied = A; solids_fit = tied.solids_fit; faces_fit = tied.faces_fit; loops_fit = tied.loops_fit; vertices_fit = tied.vertices_fit; points = tied.points }
 
   module _ (h v : ℕ) (a : live sp h ≡ true) where
@@ -58,8 +58,8 @@ module _ (sp : Spots) (known : ℕ → Bool) (solids : List (Option Bool)) (face
           subst (StandsAt moved loops x) (sym e) (record { face = s.face; entry = s.entry; here = s.here; item = subst (IsIn x) (sym (ring-retailed sp R h v s.entry)) s.item });
     }
 
-    pub tied_tail : (known' : ℕ → Bool) (new : Spots) → new ≡ moved → IsTied new known' solids faces loops vertices
-    tied_tail known' new e = subst (λ s. IsTied s known' solids faces loops vertices) (sym e) (tied_with moved known' m_rings (live-retailed sp h v 0) m_loops)
+    pub tied_tail : (known' : ℕ → Bool) (new : Spots) → new ≡ moved → RowsAreTied new known' solids faces loops vertices
+    tied_tail known' new e = subst (λ s. RowsAreTied s known' solids faces loops vertices) (sym e) (tied_with moved known' m_rings (live-retailed sp h v 0) m_loops)
 
     pub store_tail : (known' : ℕ → Bool) → known' ≡ known → (new : Spots) → new ≡ moved → store_of new known' solids faces loops vertices ≡ set_tail S h v
     unfolding set_tail
@@ -95,8 +95,8 @@ module _ (sp : Spots) (known : ℕ → Bool) (solids : List (Option Bool)) (face
       ];
     }
 
-    pub tied_edge : (known' : ℕ → Bool) (new : Spots) → new ≡ wide → IsTied new known' solids faces loops vertices
-    tied_edge known' new q = subst (λ s. IsTied s known' solids faces loops vertices) (sym q) (tied_with wide known' (w_rings sp R e u v limit some dead_plus dead_minus) (ap is_some (w_other sp R e u v limit some dead_plus dead_minus 0 (λ z. some (omega arith)) (λ z. some (omega arith)))) w_loops)
+    pub tied_edge : (known' : ℕ → Bool) (new : Spots) → new ≡ wide → RowsAreTied new known' solids faces loops vertices
+    tied_edge known' new q = subst (λ s. RowsAreTied s known' solids faces loops vertices) (sym q) (tied_with wide known' (w_rings sp R e u v limit some dead_plus dead_minus) (ap is_some (w_other sp R e u v limit some dead_plus dead_minus 0 (λ z. some (omega arith)) (λ z. some (omega arith)))) w_loops)
 
     pub store_edge : (known' : ℕ → Bool) → known' ≡ known → (new : Spots) → new ≡ wide → store_of new known' solids faces loops vertices ≡ put_edge S e u v
     unfolding put_edge
@@ -126,8 +126,8 @@ module _ (sp : Spots) (known : ℕ → Bool) (solids : List (Option Bool)) (face
           subst (StandsAt less loops x) (sym eq) (record { face = s.face; entry = s.entry; here = s.here; item = subst (IsIn x) (sym (s_ring sp R e row_plus row_minus s.entry t.0 en.0 en.1).0) s.item });
     }
 
-    pub tied_gone : (known' : ℕ → Bool) (new : Spots) → new ≡ less → IsTied new known' solids faces loops vertices
-    tied_gone known' new q = subst (λ s. IsTied s known' solids faces loops vertices) (sym q) (record { rings = (s_rings sp R e row_plus row_minus); no_edge = λ h. tied.no_edge (s_left sp R e row_plus row_minus 0 h).2; loops_tied = s_loops; solids_fit = tied.solids_fit; faces_fit = tied.faces_fit; loops_fit = tied.loops_fit; vertices_fit = tied.vertices_fit; points = tied.points })
+    pub tied_gone : (known' : ℕ → Bool) (new : Spots) → new ≡ less → RowsAreTied new known' solids faces loops vertices
+    tied_gone known' new q = subst (λ s. RowsAreTied s known' solids faces loops vertices) (sym q) (record { rings = (s_rings sp R e row_plus row_minus); no_edge = λ h. tied.no_edge (s_left sp R e row_plus row_minus 0 h).2; loops_tied = s_loops; solids_fit = tied.solids_fit; faces_fit = tied.faces_fit; loops_fit = tied.loops_fit; vertices_fit = tied.vertices_fit; points = tied.points })
 
     pub store_gone : (known' : ℕ → Bool) → known' ≡ known → (new : Spots) → new ≡ less → store_of new known' solids faces loops vertices ≡ take_edge S e
     unfolding take_edge

@@ -19,7 +19,7 @@ use Rattle.arena_rows.specs.Store.{empty_store}
 use Rattle.arena_rows.specs.ring_spots.Spots.{Spots, codes, edges_end, live, label, ring, AreRings}
 use Rattle.boundary_model.specs.Items.{head_or}
 use Rattle.boundary_model.proofs.Tests.{and_false}
-use Rattle.arena_rows.specs.View.{store_of, IsTied, solid_row, face_row, loop_row}
+use Rattle.arena_rows.specs.View.{store_of, RowsAreTied, solid_row, face_row, loop_row}
 use Rattle.arena_rows.specs.ring_spots.SpotTables.{edge_row, both_tails, edge_room, loose_row}
 use Rattle.arena_rows.specs.Rows.{table_of}
 use Rattle.std.proofs.Common.{length}
@@ -29,7 +29,7 @@ module _ (sp : Spots) (known : ℕ → Bool) (none : (q : ℕ) → sp q ≡ None
   dead : (c : ℕ) → live sp c ≢ true
   dead c h = true≢false (sym h ∙ ap is_some (none c))
 
-  pub tied-empty : IsTied sp known [] [] [] []
+  pub tied-empty : RowsAreTied sp known [] [] [] []
   tied-empty = record {
     rings = record { bound = λ c h. absurd (dead c h); rings = λ c h. absurd (dead c h); mates = λ c h. absurd (dead c h) };
     no_edge = dead 0;

@@ -15,7 +15,7 @@ use Rattle.arena_rows.specs.Rows.{row_at}
 use Rattle.boundary_model.specs.Model.{Model, cycle}
 use Rattle.arena_rows.specs.Store.{Store, loosened}
 use Rattle.arena_rows.specs.ring_spots.Spots.{Spots, live, label, ring, labelled, AreRings}
-use Rattle.arena_rows.specs.View.{store_of, IsTied, held_content, loop_row, HasEntry, AreLoops, StandsAt}
+use Rattle.arena_rows.specs.View.{store_of, RowsAreTied, held_content, loop_row, HasEntry, AreLoops, StandsAt}
 use Rattle.std.proofs.Common.{unwrap_or}
 use Rattle.boundary_model.specs.Model.{no_loop}
 use Rattle.boundary_model.specs.Model.{items_of, content, face_of}
@@ -28,7 +28,7 @@ use Rattle.arena_rows.proofs.ring_spots_laws.SpotTables.{loose_none, loose_alike
 use Rattle.arena_rows.proofs.Tellings.{loose_added, loops_table, store_is}
 use Rattle.arena_rows.proofs.ring_spots_laws.SpotLaws.{live-labelled, label-labelled_in, label-labelled_out, ring-labelled, AreRings-labelled}
 
-module _ (sp : Spots) (known : ℕ → Bool) (solids : List (Option Bool)) (faces : List (Option FaceCell)) (loops : List (Option LoopCell)) (vertices : List (Option Point)) (tied : IsTied sp known solids faces loops vertices) where
+module _ (sp : Spots) (known : ℕ → Bool) (solids : List (Option Bool)) (faces : List (Option FaceCell)) (loops : List (Option LoopCell)) (vertices : List (Option Point)) (tied : RowsAreTied sp known solids faces loops vertices) where
   abbrev S : Store
   S = store_of sp known solids faces loops vertices
 
@@ -41,7 +41,7 @@ module _ (sp : Spots) (known : ℕ → Bool) (solids : List (Option Bool)) (face
   abbrev are : AreLoops sp loops
   are = tied.loops_tied
 
-  pub tied_with : (new : Spots) (known' : ℕ → Bool) (rows : List (Option LoopCell)) → AreRings new → live new 0 ≡ live sp 0 → AreLoops new rows → Fits rows → IsTied new known' solids faces rows vertices
+  pub tied_with : (new : Spots) (known' : ℕ → Bool) (rows : List (Option LoopCell)) → AreRings new → live new 0 ≡ live sp 0 → AreLoops new rows → Fits rows → RowsAreTied new known' solids faces rows vertices
   tied_with new known' rows N z A F = record { rings = N; no_edge = λ e. tied.no_edge (sym z ∙ e); loops_tied = A; solids_fit = tied.solids_fit; faces_fit = tied.faces_fit; loops_fit = F; vertices_fit = tied.vertices_fit; points = tied.points }
 
   module _ (l : ℕ) (cell : LoopCell) (found : row_at loops l ≡ Some cell) (rows : List (Option LoopCell)) (len : length rows ≡ length loops) where
@@ -109,8 +109,8 @@ module _ (sp : Spots) (known : ℕ → Bool) (solids : List (Option Bool)) (face
         ];
       }
 
-      pub tied_clear : (known' : ℕ → Bool) (new : Spots) → new ≡ cleared → IsTied new known' solids faces rows vertices
-      tied_clear known' new e = subst (λ s. IsTied s known' solids faces rows vertices) (sym e) (tied_with cleared known' rows c_rings (c_live 0) c_loops (fits-write loops rows l _ tied.loops_fit l_not len is))
+      pub tied_clear : (known' : ℕ → Bool) (new : Spots) → new ≡ cleared → RowsAreTied new known' solids faces rows vertices
+      tied_clear known' new e = subst (λ s. RowsAreTied s known' solids faces rows vertices) (sym e) (tied_with cleared known' rows c_rings (c_live 0) c_loops (fits-write loops rows l _ tied.loops_fit l_not len is))
 
       pub store_clear : (known' : ℕ → Bool) → known' ≡ known → (new : Spots) → new ≡ cleared → store_of new known' solids faces rows vertices ≡ clear S l
       unfolding clear
@@ -124,7 +124,7 @@ module _ (sp : Spots) (known : ℕ → Bool) (solids : List (Option Bool)) (face
 
     -- loop l, which holds no half-edge, gets other content without one
     module _ (bare : items_of (held_content sp cell.held) ≡ []) (x : Held) (free : HasEntry sp l x) (is : (q : ℕ) → row_at rows q ≡ cond (nat_eq q l) (Some (record { face = cell.face; held = x })) (row_at loops q)) where
-      pub tied_bare : IsTied sp known solids faces rows vertices
+      pub tied_bare : RowsAreTied sp known solids faces rows vertices
       tied_bare = tied_loops sp known solids faces loops vertices tied rows (fits-write loops rows l _ tied.loops_fit l_not len is)
           (loops_write sp loops rows l _ are (λ k e. subst (HasEntry sp l) (ap (λ (w : LoopCell). w.held) (same_Some _ _ e)) free) (λ h a s. no_stand_bare sp loops rows cell h l found bare s) is)
 
@@ -186,8 +186,8 @@ module _ (sp : Spots) (known : ℕ → Bool) (solids : List (Option Bool)) (face
         ];
       }
 
-      pub tied_fill : (known' : ℕ → Bool) (new : Spots) → new ≡ filled → IsTied new known' solids faces rows vertices
-      tied_fill known' new e = subst (λ s. IsTied s known' solids faces rows vertices) (sym e) (tied_with filled known' rows f_rings (f_live 0) f_loops (fits-write loops rows l _ tied.loops_fit l_not len is))
+      pub tied_fill : (known' : ℕ → Bool) (new : Spots) → new ≡ filled → RowsAreTied new known' solids faces rows vertices
+      tied_fill known' new e = subst (λ s. RowsAreTied s known' solids faces rows vertices) (sym e) (tied_with filled known' rows f_rings (f_live 0) f_loops (fits-write loops rows l _ tied.loops_fit l_not len is))
 
       pub store_fill : (known' : ℕ → Bool) → known' ≡ known → (new : Spots) → new ≡ filled → store_of new known' solids faces rows vertices ≡ fill S l h
       unfolding fill

@@ -9,7 +9,7 @@ use Rattle.boundary_model.proofs.Lists.{tick_same, tick_other}
 use Rattle.boundary_model.specs.Table as table
 use Rattle.boundary_model.specs.Table.{Table, get, all_where, same_table, get-put, get-remove}
 use Rattle.boundary_model.specs.Model.{rings_of, outer, no_face}
-use Rattle.arena_rows.specs.owner_chains.Owners.{Owners, no_owners, put, take, owned, HasGrown}
+use Rattle.arena_rows.specs.owner_chains.Owners.{Owners, no_owners, put, take, owned, OwnersHaveGrown}
 use Rattle.arena_rows.proofs.owner_chains_laws.Counting.{more}
 use Rattle.arena_rows.specs.ring_spots.Spots.{Spots}
 use Rattle.arena_rows.specs.declared.rows.FaceCell.{FaceCell}
@@ -189,7 +189,7 @@ module _ (solids : List (Option Bool)) (faces : List (Option FaceCell)) (loops :
   indexed_solids new len = record { of_solids = indexed.of_solids; of_faces = indexed.of_faces; solid_owners = omega (arith, indexed.solid_owners, len); face_owners = indexed.face_owners; face_items = indexed.face_items; loop_items = indexed.loop_items }
 
   -- more rows, for which there is room beside them
-  pub indexed_more_solids : (new : List (Option Bool)) (ss' : Owners) → HasGrown ss ss' → length new ≤ ss'.owners_end → AreIndexed new faces loops ss' fs
+  pub indexed_more_solids : (new : List (Option Bool)) (ss' : Owners) → OwnersHaveGrown ss ss' → length new ≤ ss'.owners_end → AreIndexed new faces loops ss' fs
   indexed_more_solids new ss' grown reach = record {
     of_solids = grown.same ∙ indexed.of_solids;
     of_faces = indexed.of_faces;
@@ -199,7 +199,7 @@ module _ (solids : List (Option Bool)) (faces : List (Option FaceCell)) (loops :
     loop_items = indexed.loop_items;
   }
 
-  pub indexed_more_faces : (new : List (Option FaceCell)) (ss' fs' : Owners) → ((q : ℕ) → row_at new q ≡ row_at faces q) → HasGrown ss ss' → HasGrown fs fs' → length new ≤ ss'.items_end → length new ≤ fs'.owners_end → AreIndexed solids new loops ss' fs'
+  pub indexed_more_faces : (new : List (Option FaceCell)) (ss' fs' : Owners) → ((q : ℕ) → row_at new q ≡ row_at faces q) → OwnersHaveGrown ss ss' → OwnersHaveGrown fs fs' → length new ≤ ss'.items_end → length new ≤ fs'.owners_end → AreIndexed solids new loops ss' fs'
   indexed_more_faces new ss' fs' rows more_ss more_fs reach_items reach_owners = record {
     of_solids = more_ss.same ∙ indexed.of_solids ∙ sym (table_of-same (λ cell. cell.solid) (λ cell. cell.solid) faces new (λ q. ap (map_row (λ (cell : FaceCell). cell.solid)) (rows q)));
     of_faces = more_fs.same ∙ indexed.of_faces;
@@ -209,7 +209,7 @@ module _ (solids : List (Option Bool)) (faces : List (Option FaceCell)) (loops :
     loop_items = omega (arith, indexed.loop_items, more_fs.items);
   }
 
-  pub indexed_more_loops : (new : List (Option LoopCell)) (fs' : Owners) → ((q : ℕ) → row_at new q ≡ row_at loops q) → HasGrown fs fs' → length new ≤ fs'.items_end → AreIndexed solids faces new ss fs'
+  pub indexed_more_loops : (new : List (Option LoopCell)) (fs' : Owners) → ((q : ℕ) → row_at new q ≡ row_at loops q) → OwnersHaveGrown fs fs' → length new ≤ fs'.items_end → AreIndexed solids faces new ss fs'
   indexed_more_loops new fs' rows grown reach = record {
     of_solids = indexed.of_solids;
     of_faces = grown.same ∙ indexed.of_faces ∙ sym (table_of-same (λ cell. cell.face) (λ cell. cell.face) loops new (λ q. ap (map_row (λ (cell : LoopCell). cell.face)) (rows q)));

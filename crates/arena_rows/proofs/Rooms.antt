@@ -9,7 +9,7 @@ use Rattle.boundary_model.specs.Table.{get}
 use Rattle.arena_rows.specs.Rows.{row_at}
 use Rattle.arena_rows.specs.Store.{Store}
 use Rattle.arena_rows.specs.ring_spots.Spots.{Spots, label}
-use Rattle.arena_rows.specs.View.{store_of, IsTied, Fits, AreLoops, loop_row, face_row, solid_row}
+use Rattle.arena_rows.specs.View.{store_of, RowsAreTied, Fits, AreLoops, loop_row, face_row, solid_row}
 use Rattle.std.proofs.Common.{ℕ, ◌<◌, nat_le, nat_lt, Result, Ok, Err, OnOk}
 use Rattle.boundary_model.specs.declared.Kind.{Kind}
 use Rattle.boundary_model.specs.HalfEdge.{plus, minus}
@@ -36,12 +36,12 @@ pub rooms_ok : {E : Type 0} (r : Result (Unit {0}) E) (n k : ℕ) → 1 ≤ n �
 rooms_ok (Ok u) n k l h = within_is n k l h
 rooms_ok (Err e) n k l h = tt
 
-module _ (sp : Spots) (known : ℕ → Bool) (solids : List (Option Bool)) (faces : List (Option FaceCell)) (loops : List (Option LoopCell)) (vertices : List (Option Point)) (tied : IsTied sp known solids faces loops vertices) where
+module _ (sp : Spots) (known : ℕ → Bool) (solids : List (Option Bool)) (faces : List (Option FaceCell)) (loops : List (Option LoopCell)) (vertices : List (Option Point)) (tied : RowsAreTied sp known solids faces loops vertices) where
   abbrev S : Store
   S = store_of sp known solids faces loops vertices
 
   module _ (new : List (Option Bool)) (same : (q : ℕ) → row_at new q ≡ row_at solids q) (grows : length solids ≤ length new) (limit : length new ≤ 1000001) where
-    pub more_solids : IsTied sp known new faces loops vertices
+    pub more_solids : RowsAreTied sp known new faces loops vertices
     more_solids = tied_solids sp known solids faces loops vertices tied new (fits-same solids new tied.solids_fit same limit)
 
     pub grown_solids : HasGrown S (store_of sp known new faces loops vertices)
@@ -58,7 +58,7 @@ module _ (sp : Spots) (known : ℕ → Bool) (solids : List (Option Bool)) (face
       kept_solids n Kind.Vertex h = h
 
   module _ (new : List (Option FaceCell)) (same : (q : ℕ) → row_at new q ≡ row_at faces q) (grows : length faces ≤ length new) (limit : length new ≤ 1000001) where
-    pub more_faces : IsTied sp known solids new loops vertices
+    pub more_faces : RowsAreTied sp known solids new loops vertices
     more_faces = tied_faces sp known solids faces loops vertices tied new (fits-same faces new tied.faces_fit same limit)
 
     pub grown_faces : HasGrown S (store_of sp known solids new loops vertices)
@@ -81,7 +81,7 @@ module _ (sp : Spots) (known : ℕ → Bool) (solids : List (Option Bool)) (face
       stands = λ h a n. let s = tied.loops_tied.stands h a n in record { face = s.face; entry = s.entry; here = same (label sp h) ∙ s.here; item = s.item };
     }
 
-    pub more_loops : IsTied sp known solids faces new vertices
+    pub more_loops : RowsAreTied sp known solids faces new vertices
     more_loops = tied_loops sp known solids faces loops vertices tied new (fits-same loops new tied.loops_fit same limit) loops_same_rows
 
     pub grown_loops : HasGrown S (store_of sp known solids faces new vertices)
@@ -98,7 +98,7 @@ module _ (sp : Spots) (known : ℕ → Bool) (solids : List (Option Bool)) (face
       kept_loops n Kind.Vertex h = h
 
   module _ (new : List (Option Point)) (same : (q : ℕ) → row_at new q ≡ row_at vertices q) (grows : length vertices ≤ length new) (limit : length new ≤ 1000001) where
-    pub more_vertices : IsTied sp known solids faces loops new
+    pub more_vertices : RowsAreTied sp known solids faces loops new
     more_vertices = tied_vertices sp known solids faces loops vertices tied new (fits-same vertices new tied.vertices_fit same limit) (λ v p at. tied.points v p (sym (same v) ∙ at))
 
     pub grown_vertices : HasGrown S (store_of sp known solids faces loops new)
@@ -115,8 +115,8 @@ module _ (sp : Spots) (known : ℕ → Bool) (solids : List (Option Bool)) (face
       kept_vertices n Kind.Vertex h = within_more n (length vertices) (length new) grows h
 
   module _ (sp' : Spots) (known' : ℕ → Bool) (spots : sp' ≡ sp) (keeps : (c : ℕ) → known c ≡ true → known' c ≡ true) where
-    pub more_edges : IsTied sp' known' solids faces loops vertices
-    more_edges = subst (λ s. IsTied s known' solids faces loops vertices) (sym spots) (record { rings = tied.rings; no_edge = tied.no_edge; loops_tied = tied.loops_tied; solids_fit = tied.solids_fit; faces_fit = tied.faces_fit; loops_fit = tied.loops_fit; vertices_fit = tied.vertices_fit; points = tied.points })
+    pub more_edges : RowsAreTied sp' known' solids faces loops vertices
+    more_edges = subst (λ s. RowsAreTied s known' solids faces loops vertices) (sym spots) (record { rings = tied.rings; no_edge = tied.no_edge; loops_tied = tied.loops_tied; solids_fit = tied.solids_fit; faces_fit = tied.faces_fit; loops_fit = tied.loops_fit; vertices_fit = tied.vertices_fit; points = tied.points })
 
     room_kept : (e : ℕ) → is_some (get (tabulate (edge_room known) edges_end) e) ≡ true → is_some (get (tabulate (edge_room known') edges_end) e) ≡ true
     room_kept e h =

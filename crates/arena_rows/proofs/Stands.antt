@@ -17,13 +17,13 @@ use Rattle.arena_rows.specs.Rows.{row_at, map_row}
 use Rattle.boundary_model.specs.Model.{Model, lone, cycle, LoopRow, holds, items_of, has_half, tail, tail_in, loop_of, content, face_of, cycle_of, after, before, no_loop, no_edge}
 use Rattle.arena_rows.specs.Store.{Store, loose_key, loose_ring}
 use Rattle.arena_rows.specs.ring_spots.Spots.{Spots, live, next, label, tail_at, ring, AreRings}
-use Rattle.arena_rows.specs.View.{store_of, IsTied, held_content, loop_row, HasEntry}
+use Rattle.arena_rows.specs.View.{store_of, RowsAreTied, held_content, loop_row, HasEntry}
 use Rattle.boundary_model.proofs.Tables.{first_where_is, first_where_zero}
 use Rattle.boundary_model.proofs.Models.{holds_in, in-holds}
 use Rattle.arena_rows.proofs.Views.{get-table_of}
 use Rattle.arena_rows.proofs.ring_spots_laws.SpotLaws.{ring_same, next_in_ring}
 
-module _ (sp : Spots) (known : ℕ → Bool) (solids : List (Option Bool)) (faces : List (Option FaceCell)) (loops : List (Option LoopCell)) (vertices : List (Option Point)) (tied : IsTied sp known solids faces loops vertices) where
+module _ (sp : Spots) (known : ℕ → Bool) (solids : List (Option Bool)) (faces : List (Option FaceCell)) (loops : List (Option LoopCell)) (vertices : List (Option Point)) (tied : RowsAreTied sp known solids faces loops vertices) where
   abbrev R : AreRings sp
   R = tied.rings
 

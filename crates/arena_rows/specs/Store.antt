@@ -17,7 +17,7 @@ use Rattle.boundary_model.specs.Model.{Model, LoopContent, lone, cycle, FaceRow,
 
 -- for each kind but edges the greatest number that has room, and each smaller one from 1 on has it too;
 -- for edges the numbers that have room
-pub record Room : Type 0 where
+pub record Extents : Type 0 where
   pub solids : ℕ
   pub faces : ℕ
   pub loops : ℕ
@@ -28,7 +28,7 @@ pub record Room : Type 0 where
 pub record Store : Type 0 where
   pub model : Model
   pub loose : Table (List ℕ)
-  pub room : Room
+  pub room : Extents
 
 abbrev pub within : ℕ → ℕ → Bool
 within n greatest = nat_le 1 n && nat_le n greatest
@@ -49,7 +49,7 @@ has_number s Loop n = table.has s.model.loops n
 has_number s Edge n = table.has s.model.edges n
 has_number s Vertex n = table.has s.model.vertices n
 
-abbrev pub no_room : Room
+abbrev pub no_room : Extents
 no_room = record { solids = 0; faces = 0; loops = 0; edges = table.empty; vertices = 0 }
 
 -- an arena that holds nothing and has no room
@@ -186,9 +186,9 @@ abbrev pub set_ring : Store → ℕ → ℕ → Store
 set_ring s l h = fill (clear s l) l h
 
 -- the item that is named stands in a loose ring
-abbrev pub IsReady : Store → Content → Type 0
-IsReady s (Content.Lone v) = Unit {0}
-IsReady s (Content.Ring h) = (table.has s.model.edges (edge_of (code h)) ≡ true) × (loop_of s.model (code h) ≡ 0)
+abbrev pub IsLoose : Store → Content → Type 0
+IsLoose s (Content.Lone v) = Unit {0}
+IsLoose s (Content.Ring h) = (table.has s.model.edges (edge_of (code h)) ≡ true) × (loop_of s.model (code h) ≡ 0)
 
 abbrev pub set_content : Store → ℕ → Content → Store
 set_content s l (Content.Lone v) = set_lone s l v
@@ -271,11 +271,11 @@ coded_model = code_by Tables
     (λ M. (M.solids, (M.faces, (M.loops, (M.edges, M.vertices)))))
     (λ t. record { solids = t.0; faces = t.1.0; loops = t.1.1.0; edges = t.1.1.1.0; vertices = t.1.1.1.1 }) (λ _. refl)
 
-abbrev pub coded_room : Coded Room
+abbrev pub coded_room : Coded Extents
 coded_room = code_by (ℕ × (ℕ × (ℕ × (Table (Unit {0}) × ℕ)))) (coded× coded_ℕ (coded× coded_ℕ (coded× coded_ℕ (coded× (table.code coded_unit) coded_ℕ))))
     (λ r. (r.solids, (r.faces, (r.loops, (r.edges, r.vertices)))))
     (λ t. record { solids = t.0; faces = t.1.0; loops = t.1.1.0; edges = t.1.1.1.0; vertices = t.1.1.1.1 }) (λ _. refl)
 
 abbrev pub coded_store : Coded Store
-coded_store = code_by (Model × (Table (List ℕ) × Room)) (coded× coded_model (coded× (table.code (coded_list coded_ℕ)) coded_room))
+coded_store = code_by (Model × (Table (List ℕ) × Extents)) (coded× coded_model (coded× (table.code (coded_list coded_ℕ)) coded_room))
     (λ s. (s.model, (s.loose, s.room))) (λ t. record { model = t.0; loose = t.1.0; room = t.1.1 }) (λ _. refl)

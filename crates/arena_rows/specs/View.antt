@@ -70,7 +70,7 @@ pub record AreLoops (sp : Spots) (loops : List (Option LoopCell)) : Type 0 where
   pub entries : (l : ℕ) (cell : LoopCell) → row_at loops l ≡ Some cell → HasEntry sp l cell.held
   pub stands : (h : ℕ) → live sp h ≡ true → label sp h ≢ 0 → StandsAt sp loops h (label sp h)
 
-pub record IsTied (sp : Spots) (known : ℕ → Bool) (solids : List (Option Bool)) (faces : List (Option FaceCell)) (loops : List (Option LoopCell)) (vertices : List (Option Point)) : Type 0 where
+pub record RowsAreTied (sp : Spots) (known : ℕ → Bool) (solids : List (Option Bool)) (faces : List (Option FaceCell)) (loops : List (Option LoopCell)) (vertices : List (Option Point)) : Type 0 where
   pub rings : AreRings sp
   pub no_edge : live sp 0 ≢ true
   pub loops_tied : AreLoops sp loops
@@ -97,5 +97,5 @@ pub record AreIndexed (solids : List (Option Bool)) (faces : List (Option FaceCe
   pub loop_items : length loops ≤ face_loops.items_end
 
 pub record IsWhole (sp : Spots) (known : ℕ → Bool) (solids : List (Option Bool)) (faces : List (Option FaceCell)) (loops : List (Option LoopCell)) (vertices : List (Option Point)) (solid_faces face_loops : Owners) : Type 0 where
-  pub tied : IsTied sp known solids faces loops vertices
+  pub tied : RowsAreTied sp known solids faces loops vertices
   pub indexed : AreIndexed solids faces loops solid_faces face_loops

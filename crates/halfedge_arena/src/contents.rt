@@ -2,7 +2,7 @@
 ghost use Rattle.std.specs.Prelude.{◌≡◌, true, []};
 ghost use Rattle.boundary_model.specs.HalfEdge.{code};
 ghost use Rattle.boundary_model.specs.Model.{items_of, content, has_half, loop_of};
-ghost use Rattle.arena_rows.specs.Store.{has_number, clear, fill, with_lone, set_content, IsReady};
+ghost use Rattle.arena_rows.specs.Store.{has_number, clear, fill, with_lone, set_content, IsLoose};
 
 use crate::arena::Arena;
 use arena_rows::{Held, LoopCell};
@@ -70,7 +70,7 @@ impl Arena {
     /// It walks round the ring that goes and the one that comes, once each.
     pub fn set_content(&mut self, l: u32, content: Content)
         requires there { has_number self.old Kind.Loop l ≡ true }
-        requires ready { IsReady (clear self.old l) content }
+        requires ready { IsLoose (clear self.old l) content }
         ensures { self.new ≡ set_content self.old l content }
     {
         self.clear(l);

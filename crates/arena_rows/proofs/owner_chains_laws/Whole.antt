@@ -5,7 +5,7 @@ use Rattle.boundary_model.specs.Table.{empty, get-empty, same_table}
 use Rattle.boundary_model.proofs.Tables.{all_where_none}
 use Rattle.arena_rows.specs.declared.owner_chains.rows.Head.{Head}
 use Rattle.arena_rows.specs.declared.owner_chains.rows.Link.{Link}
-use Rattle.arena_rows.specs.owner_chains.Owners.{no_owners, owned, IsNextItem, HasGrown}
+use Rattle.arena_rows.specs.owner_chains.Owners.{no_owners, owned, IsNextItem, OwnersHaveGrown}
 use Rattle.arena_rows.specs.owner_chains.Chains.{AreChained, IsAbove, items, is_of, link_at, head_at, owners_of, view_of}
 use Rattle.arena_rows.proofs.owner_chains_laws.Order.{above_same, below_same}
 use Rattle.arena_rows.proofs.owner_chains_laws.Tables.{owner_at, item_at, owners_of-same}
@@ -34,7 +34,7 @@ module _ (heads heads' : List Head) (links links' : List (Option Link)) (are : A
     reached = λ n link at. omega (arith, are.reached n link (sym (same_links n) ∙ at), grows);
   }
 
-  pub grown : length heads ≤ length heads' → length links ≤ length links' → HasGrown (view_of heads links) (view_of heads' links')
+  pub grown : length heads ≤ length heads' → length links ≤ length links' → OwnersHaveGrown (view_of heads links) (view_of heads' links')
   grown more_heads more_links = record { same = owners_of-same links links' same_links; owners = more_heads; items = more_links }
 
 -- nothing

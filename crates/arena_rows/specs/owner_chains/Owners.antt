@@ -37,7 +37,7 @@ IsNextItem t o n None = (k : ℕ) → n < k → is_owner o (table.get t k) ≡ f
 IsNextItem t o n (Some m) = (n < m) × (is_owner o (table.get t m) ≡ true) × ((k : ℕ) → n < k → k < m → is_owner o (table.get t k) ≡ false)
 
 -- the owners stay, and no room is lost
-pub record HasGrown (old new : Owners) : Type 0 where
+pub record OwnersHaveGrown (old new : Owners) : Type 0 where
   pub same : new.owner_of ≡ old.owner_of
   pub owners : old.owners_end ≤ new.owners_end
   pub items : old.items_end ≤ new.items_end

@@ -1,7 +1,7 @@
 //! Items by owner.
 ghost use Rattle.std.specs.Prelude.{◌≡◌, ◌≢◌, ◌<◌, ◌≤◌, true, length, None, IfOk, OnOk};
 ghost use Rattle.boundary_model.specs.Table.{get, has};
-ghost use Rattle.arena_rows.specs.owner_chains.Owners.{no_owners, put, take, owned, IsNextItem, HasGrown};
+ghost use Rattle.arena_rows.specs.owner_chains.Owners.{no_owners, put, take, owned, IsNextItem, OwnersHaveGrown};
 
 use crate::owner_chains::places::{above, below};
 use crate::owner_chains::rows::{
@@ -97,7 +97,7 @@ impl Chains {
     /// as it was.
     pub fn reach_owner(&mut self, owner: u32) -> Result<(), AllocError>
         requires { owner ≤ 1000000 }
-        ensures grown { HasGrown self.old self.new }
+        ensures grown { OwnersHaveGrown self.old self.new }
         ensures ok { OnOk result (owner < self.new.owners_end) }
     {
         reach_heads(&mut self.heads, owner)
@@ -107,7 +107,7 @@ impl Chains {
     /// as it was.
     pub fn reach_item(&mut self, n: u32) -> Result<(), AllocError>
         requires { n ≤ 1000000 }
-        ensures grown { HasGrown self.old self.new }
+        ensures grown { OwnersHaveGrown self.old self.new }
         ensures ok { OnOk result (n < self.new.items_end) }
     {
         reach_links(&mut self.links, n)

@@ -21,7 +21,7 @@ use Rattle.euler_conditions.specs.Ready.{Accepts, after}
 use Rattle.euler_laws.proofs.mef.MefSound.{MefGoes}
 use Rattle.euler_laws.proofs.mef.Mef.{mef_goes}
 use Rattle.euler_laws.proofs.mef.MefUndo.{loops-mef}
-use Rattle.euler_conditions.specs.Store.{Store, Room, within, put_loop, cut, cut_loose, cut_to, put_face}
+use Rattle.euler_conditions.specs.Store.{Store, Extents, within, put_loop, cut, cut_loose, cut_to, put_face}
 use Rattle.low_euler.specs.loop_steps.Steps.{IsStanding, IsLoose, with_edge, put_before}
 use Rattle.low_euler.proofs.loop_steps_laws.RingSteps.{cut_old, cut_new, count_put}
 use Rattle.low_euler.proofs.loop_steps_laws.TwoLoops as two
@@ -282,10 +282,10 @@ module _ (s : Store) (first second half : HalfEdge) (f l : ℕ) (ok : Accepts s 
   parted_room p e = ap (λ (t : Store). t.room) (e ∙ parted_is)
 
   pub face_room : (p : Store) → p ≡ parted → within f p.room.faces ≡ true
-  face_room p e = ap (λ (q : Room). within f q.faces) (parted_room p e) ∙ ok.room.1.0
+  face_room p e = ap (λ (q : Extents). within f q.faces) (parted_room p e) ∙ ok.room.1.0
 
   pub solid_room : (p : Store) (n : ℕ) → p ≡ parted → within n s.room.solids ≡ true → within n p.room.solids ≡ true
-  solid_room p n e t = ap (λ (q : Room). within n q.solids) (parted_room p e) ∙ t
+  solid_room p n e t = ap (λ (q : Extents). within n q.solids) (parted_room p e) ∙ t
 
   pub face_free : (p : Store) → p ≡ parted → table.has p.model.faces f ≡ false
   face_free p e = ap (λ (t : Store). table.has t.model.faces f) (e ∙ parted_is) ∙ ap is_some goes.face_free

@@ -13,7 +13,7 @@ use Rattle.euler_operators.specs.Sound.{HasHalf}
 use Rattle.euler_operators.proofs.Tables.{first_where_is, put-put, put_turned}
 use Rattle.euler_operators.proofs.Models.{content_row, face_row, in-holds, holds_in}
 use Rattle.euler_operators.specs.Effect.{cycle_or_lone}
-use Rattle.euler_conditions.specs.Store.{Store, Room, loose_key, loose_ring, fill, join, join_loose, join_loops, cut_to}
+use Rattle.euler_conditions.specs.Store.{Store, Extents, loose_key, loose_ring, fill, join, join_loose, join_loops, cut_to}
 use Rattle.low_euler.specs.loop_steps.Steps.{IsStanding, put_before, take_out}
 
 -- two loops of a model, and half-edges that stand in no other loop
@@ -159,7 +159,7 @@ module _ (N : Model) (r l fr fl : ℕ) (all : List ℕ) (loops : TwoLoops N r l 
 
   -- ---- the steps
 
-  module _ (R : Room) where
+  module _ (R : Extents) where
     -- the store whose loops r and l hold c and d, with loose rings z
     abbrev pub state : LoopContent → LoopContent → Table (List ℕ) → Store
     state c d z = record { model = holding c d; loose = z; room = R }

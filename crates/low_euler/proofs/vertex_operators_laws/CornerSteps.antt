@@ -16,7 +16,7 @@ use Rattle.euler_laws.proofs.mev.Mev.{mev_goes}
 use Rattle.euler_conditions.specs.Store.{Store, put_vertex}
 use Rattle.euler_conditions.specs.Ready.{Accepts, after}
 use Rattle.low_euler.specs.loop_steps.Steps.{with_edge}
-use Rattle.low_euler.specs.vertex_operators.Steps.{IsPlaced, HasLoop, IsAlone, put_before, with_tails_at}
+use Rattle.low_euler.specs.vertex_operators.Steps.{LoopsStandApart, HasLoop, IsAlone, put_before, with_tails_at}
 use Rattle.low_euler.proofs.vertex_operators_laws.StoreSteps.{placed_of, placed-same, loop-same, placed-edge, loops_E, alone-first, alone-second, placed-put, loop-put, alone-put}
 use Rattle.low_euler.proofs.vertex_operators_laws.LoneSteps.{loose_again}
 use Rattle.low_euler.proofs.vertex_operators_laws.Tails.{loops-tails, loose-tails, half-tails, free-tails}
@@ -82,13 +82,13 @@ module _ (s : Store) (from to half : HalfEdge) (v : ℕ) (p : Point) (ok : Accep
   pub number_free : table.has V.model.edges half.edge ≡ false
   number_free = ap is_some (ap (table.get V.model.edges) (sym (edge_of-code half)) ∙ edge_free)
 
-  placed_V : IsPlaced V.model
+  placed_V : LoopsStandApart V.model
   placed_V = placed-same M V.model (loops-tails s (arc M g k) v) (half-tails s (arc M g k) v) (placed_of M sound)
 
   bare_V : V.loose ≡ table.empty
   bare_V = loose-tails s (arc M g k) v ∙ bare
 
-  pub placed_E : IsPlaced E.model
+  pub placed_E : LoopsStandApart E.model
   placed_E = placed-edge V placed_V bare_V h u v edge_free
 
   pub first_alone : IsAlone E h
@@ -106,7 +106,7 @@ module _ (s : Store) (from to half : HalfEdge) (v : ℕ) (p : Point) (ok : Accep
   to_in : HasLoop E.model k
   to_in = loop-same M E.model loops_are k (sound.stands k goes.k_there)
 
-  pub placed_P : IsPlaced P.model
+  pub placed_P : LoopsStandApart P.model
   placed_P = placed-put E placed_E g h from_in first_alone
 
   pub to_placed : HasLoop P.model k

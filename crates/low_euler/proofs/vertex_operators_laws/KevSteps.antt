@@ -31,7 +31,7 @@ use Rattle.euler_laws.proofs.shared.Same.{mapped_some}
 use Rattle.euler_laws.proofs.kev.Kev.{kev_goes}
 use Rattle.euler_conditions.specs.Store.{Store, take_edge, take_vertex, with_lone}
 use Rattle.euler_conditions.specs.Ready.{Accepts, after as after_op}
-use Rattle.low_euler.specs.vertex_operators.Steps.{IsPlaced, HasLoop, taken_out, with_tails_at}
+use Rattle.low_euler.specs.vertex_operators.Steps.{LoopsStandApart, HasLoop, taken_out, with_tails_at}
 use Rattle.low_euler.proofs.vertex_operators_laws.RingSteps.{from_before}
 use Rattle.low_euler.proofs.vertex_operators_laws.EdgeSteps.{edge_codes}
 use Rattle.low_euler.proofs.vertex_operators_laws.StoreSteps.{placed_of, placed-same, loop-same, content-same, face_of-same, never_zero, placed-taken, loop-taken, content-O, face-O, has-O}
@@ -113,7 +113,7 @@ module _ (s : Store) (half : HalfEdge) (ok : Accepts s (Kev half)) where
   pub mate_there : HasHalf s.model (mate (code half))
   mate_there = half_mate M h half_there
 
-  placed_M : IsPlaced M
+  placed_M : LoopsStandApart M
   placed_M = placed_of M sound
 
   pub half_looped : loop_of s.model (code half) ≢ 0
@@ -146,13 +146,13 @@ module _ (s : Store) (half : HalfEdge) (ok : Accepts s (Kev half)) where
   loops_A : A.model.loops ≡ M.loops
   loops_A = loops-tails s arc' u
 
-  pub placed_A : IsPlaced A.model
+  pub placed_A : LoopsStandApart A.model
   placed_A = placed-same M A.model loops_A (half-tails s arc' u) placed_M
 
   pub half_in : HasLoop A.model (code half)
   half_in = loop-same M A.model loops_A h (sound.stands h half_there)
 
-  pub placed_B : IsPlaced B.model
+  pub placed_B : LoopsStandApart B.model
   placed_B = placed-taken A placed_A h half_in
 
   pub mate_in : HasLoop B.model (mate (code half))

@@ -26,7 +26,7 @@ use Rattle.euler_laws.proofs.mev.MevLoneSound.{LoneGoes}
 use Rattle.euler_laws.proofs.mev.Mev.{lone_goes}
 use Rattle.euler_conditions.specs.Store.{Store, put_vertex, fill, with_loop, join, join_loose, join_loops, loose_key, loose_ring}
 use Rattle.euler_conditions.specs.Ready.{Accepts, after}
-use Rattle.low_euler.specs.vertex_operators.Steps.{IsPlaced, IsAlone}
+use Rattle.low_euler.specs.vertex_operators.Steps.{LoopsStandApart, IsAlone}
 use Rattle.low_euler.proofs.vertex_operators_laws.StoreSteps.{placed_of, placed-same, content-same, in_none, alone_key, alone_still, placed-edge, loops_E, alone-first, alone-second}
 use Rattle.low_euler.specs.loop_steps.Steps.{with_edge}
 
@@ -80,10 +80,10 @@ module _ (s : Store) (l : ℕ) (half : HalfEdge) (v : ℕ) (p : Point) (ok : Acc
   abbrev pub E : Store
   E = with_edge (put_vertex s v p) (code half) (lone_vertex (content s.model l)) v
 
-  placed_V : IsPlaced V.model
+  placed_V : LoopsStandApart V.model
   placed_V = placed-same M V.model refl (λ x t. t) (placed_of M sound)
 
-  placed_E : IsPlaced E.model
+  placed_E : LoopsStandApart E.model
   placed_E = placed-edge V placed_V bare h u v goes.edge_free
 
   pub first_alone : IsAlone E h

@@ -26,12 +26,12 @@ use Rattle.euler_laws.proofs.shared.Same.{Rewritten, content-new, face-same}
 use Rattle.euler_laws.proofs.shared.Same as same
 use Rattle.euler_conditions.specs.Store.{Store, loose_key, loose_ring, loosened, with_loop, join, join_loose, join_loops, cut, cut_loose, clear}
 use Rattle.low_euler.specs.loop_steps.Steps.{with_edge}
-use Rattle.low_euler.specs.vertex_operators.Steps.{IsPlaced, HasLoop, IsAlone, put_before, taken_out}
+use Rattle.low_euler.specs.vertex_operators.Steps.{LoopsStandApart, HasLoop, IsAlone, put_before, taken_out}
 use Rattle.low_euler.proofs.vertex_operators_laws.RingSteps.{joined_before, cut_keeps, cut_takes, whole_ring, without_whole}
 
 -- ---- placed models
 
-pub placed_of : (M : Model) → Sound M → IsPlaced M
+pub placed_of : (M : Model) → Sound M → LoopsStandApart M
 placed_of M sound = record {
   only = sound.only_edges;
   apart = λ l. (light M sound l).0;
@@ -61,7 +61,7 @@ module _ (M N : Model) (same : N.loops ≡ M.loops) where
   pub loop-same : (x : ℕ) → HasLoop M x → HasLoop N x
   loop-same x t = ap (λ q. holds x (content N q)) (loop_of-same x) ∙ ap (holds x) (content-same (loop_of M x)) ∙ t
 
-  pub placed-same : ((x : ℕ) → HasHalf M x → HasHalf N x) → IsPlaced M → IsPlaced N
+  pub placed-same : ((x : ℕ) → HasHalf M x → HasHalf N x) → LoopsStandApart M → LoopsStandApart N
   placed-same halves placed = record {
     only = λ x q s. halves x (placed.only x q (stands-same x q s));
     apart = λ q. subst (λ c. IsApart (items_of c)) (sym (content-same q)) (placed.apart q);
@@ -69,7 +69,7 @@ module _ (M N : Model) (same : N.loops ≡ M.loops) where
     no_zero = ap (λ t. table.get t 0) same ∙ placed.no_zero;
   }
 
-module _ (M : Model) (placed : IsPlaced M) where
+module _ (M : Model) (placed : LoopsStandApart M) where
   content_zero : content M 0 ≡ cycle []
   unfolding content
   content_zero = ap (λ o. (unwrap_or o no_loop).content) placed.no_zero
@@ -167,7 +167,7 @@ alone_still s t h m ne a is there none = record {
     | inr e ↦ sym (table.get-remove s.loose h k ∙ ap (λ b. cond b None (table.get s.loose k)) e.0) ∙ at
   ]
 
-module _ (s : Store) (placed : IsPlaced s.model) (g h : ℕ) (stands : HasLoop s.model g) (alone : IsAlone s h) where
+module _ (s : Store) (placed : LoopsStandApart s.model) (g h : ℕ) (stands : HasLoop s.model g) (alone : IsAlone s h) where
   abbrev M : Model
   M = s.model
 
@@ -244,7 +244,7 @@ module _ (s : Store) (placed : IsPlaced s.model) (g h : ℕ) (stands : HasLoop s
   unfolding put_before
   half_N x t = t
 
-  pub placed-put : IsPlaced N
+  pub placed-put : LoopsStandApart N
   unfolding put_before
   placed-put = record {
     only = λ x q t. half_N x (elim (put_came x q t) [ inl a ↦ subst (HasHalf M) (sym a.0) alone.there | inr a ↦ placed.only x q a ]);
@@ -269,7 +269,7 @@ module _ (s : Store) (placed : IsPlaced s.model) (g h : ℕ) (stands : HasLoop s
 
 -- ---- the new edge
 
-module _ (s : Store) (placed : IsPlaced s.model) (bare : s.loose ≡ table.empty) (h a b : ℕ) (free : table.get s.model.edges (edge_of h) ≡ None) where
+module _ (s : Store) (placed : LoopsStandApart s.model) (bare : s.loose ≡ table.empty) (h a b : ℕ) (free : table.get s.model.edges (edge_of h) ≡ None) where
   abbrev E : Store
   E = with_edge s h a b
 
@@ -288,7 +288,7 @@ module _ (s : Store) (placed : IsPlaced s.model) (bare : s.loose ≡ table.empty
   unfolding with_edge
   loops_E = refl
 
-  pub placed-edge : IsPlaced E.model
+  pub placed-edge : LoopsStandApart E.model
   placed-edge = placed-same s.model E.model loops_E half_E placed
 
   free_none : (x : ℕ) → table.get s.model.edges (edge_of x) ≡ None → (q : ℕ) → count x (items_of (content s.model q)) ≡ 0
@@ -335,7 +335,7 @@ module _ (s : Store) (placed : IsPlaced s.model) (bare : s.loose ≡ table.empty
 
 -- ---- a half-edge taken out
 
-module _ (s : Store) (placed : IsPlaced s.model) (h : ℕ) (stands : HasLoop s.model h) where
+module _ (s : Store) (placed : LoopsStandApart s.model) (h : ℕ) (stands : HasLoop s.model h) where
   abbrev K : Model
   K = s.model
 
@@ -394,7 +394,7 @@ module _ (s : Store) (placed : IsPlaced s.model) (h : ℕ) (stands : HasLoop s.m
   taken_keeps : (x q : ℕ) → x ≢ h → StandsIn K x q → StandsIn O x q
   taken_keeps x q a t = in-holds x (content O q) (omega (arith, holds_in x (content K q) t, count_O x q, count_out x h (items_of (content K q)) a))
 
-  pub placed-taken : IsPlaced O
+  pub placed-taken : LoopsStandApart O
   unfolding taken_out
   placed-taken = record {
     only = λ x q t. placed.only x q (taken_came x q t).1;

@@ -10,7 +10,7 @@ use Rattle.euler_operators.specs.Effect.{where_held, with_before, with_tails}
 use Rattle.euler_conditions.specs.Store.{Store}
 
 -- loops hold half-edges of edges that are there, each once and in one loop only, and 0 is no loop
-pub record IsPlaced (M : Model) : Type 0 where
+pub record LoopsStandApart (M : Model) : Type 0 where
   pub only : (h l : ℕ) → StandsIn M h l → HasHalf M h
   pub apart : (l : ℕ) → IsApart (items_of (content M l))
   pub one_loop : (h l : ℕ) → StandsIn M h l → loop_of M h ≡ l

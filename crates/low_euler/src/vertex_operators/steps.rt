@@ -4,14 +4,14 @@ ghost use Rattle.std.specs.Prelude.{◌≡◌};
 ghost use Rattle.euler_operators.specs.HalfEdge.{code};
 ghost use Rattle.euler_operators.specs.Model.{arc, tail};
 ghost use Rattle.euler_operators.specs.Sound.{Sound, HasHalf};
-ghost use Rattle.low_euler.specs.vertex_operators.Steps.{IsPlaced, HasLoop, IsAlone, put_before, taken_out, with_tails_at};
+ghost use Rattle.low_euler.specs.vertex_operators.Steps.{LoopsStandApart, HasLoop, IsAlone, put_before, taken_out, with_tails_at};
 
 use euler_conditions::Arena;
 use euler_operators::HalfEdge;
 
 /// Puts `half`, which stands alone, before `corner` in the loop of that. It costs the same for every loop.
 pub(crate) fn put_half(arena: &mut Arena, corner: HalfEdge, half: HalfEdge)
-    requires placed { IsPlaced arena.old.model }
+    requires placed { LoopsStandApart arena.old.model }
     requires corner { HasLoop arena.old.model (code corner) }
     requires half { IsAlone arena.old (code half) }
     ensures { arena.new ≡ put_before arena.old (code corner) (code half) }
@@ -23,7 +23,7 @@ pub(crate) fn put_half(arena: &mut Arena, corner: HalfEdge, half: HalfEdge)
 /// Takes a half-edge out of its loop; it stands alone then. A loop that held no other is left empty.
 /// It costs the same for every loop.
 pub(crate) fn take_half(arena: &mut Arena, half: HalfEdge)
-    requires placed { IsPlaced arena.old.model }
+    requires placed { LoopsStandApart arena.old.model }
     requires half { HasLoop arena.old.model (code half) }
     ensures { arena.new ≡ taken_out arena.old (code half) }
 {

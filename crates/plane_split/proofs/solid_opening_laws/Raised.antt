@@ -19,7 +19,7 @@ use Rattle.shapes.specs.Fresh.{Taken, numbers_after}
 use Rattle.shapes.specs.Rewriting.{renamed}
 use Rattle.split_opening_laws.proofs.sections.Pairs.{in_numbers}
 use Rattle.split_opening_laws.proofs.sections.StillFree.{copied_other}
-use Rattle.split_opening_laws.specs.strips.Strips.{riser, copied, strips_cut, copies_raised}
+use Rattle.split_opening_laws.specs.strips.Strips.{copy_riser, copied, strips_cut, copies_raised}
 use Rattle.split_opening_laws.specs.strips.StripOps.{place_before, raise_copy, copy_ops}
 use Rattle.split_opening_laws.specs.strips.Opened.{CanBeOpened}
 use Rattle.split_opening_laws.proofs.strips.Cycle as on
@@ -32,7 +32,7 @@ use Rattle.plane_split.proofs.solid_opening_laws.Items.{one_on}
 
 -- an operator that raises a copy, by the point of the vertex
 abbrev raised_at : Taken → List ℕ → ℕ → Point → Op
-raised_at c bs i point = Mev (At (half (minus (c.edge + suc i)))) (At (half (mate (get_or bs (place_before (length bs) i) 0)))) (half (plus (riser c bs i))) (c.vertex + suc i) point
+raised_at c bs i point = Mev (At (half (minus (c.edge + suc i)))) (At (half (mate (get_or bs (place_before (length bs) i) 0)))) (half (plus (copy_riser c bs i))) (c.vertex + suc i) point
 
 module _ (M : Model) (above : List ℕ) (s : ℕ) (c : Taken) (bs : List ℕ) (w : CanBeOpened M above s c bs) where
   abbrev m : ℕ

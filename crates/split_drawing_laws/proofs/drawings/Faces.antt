@@ -9,7 +9,7 @@ use Rattle.shapes.specs.Faces.{vertices_on}
 use Rattle.shapes.specs.split.Sides.{some_above}
 use Rattle.shapes.specs.split.Drawing.{Drawing, stuck_at, all_joined, ring_free, all_drawn, rings_above, with_rings, drawn_between}
 use Rattle.split_drawing_laws.specs.drawings.DrawingOps.{draw_ops, ring_ops, share_ops, drawn_ops, join_ops, face_ops}
-use Rattle.split_drawing_laws.specs.drawings.DrawnIn.{DrawnIn, Fresh, Room}
+use Rattle.split_drawing_laws.specs.drawings.DrawnIn.{DrawnIn, Fresh, PairsHaveRoom}
 use Rattle.split_drawing_laws.specs.drawings.Pairs.{AllFit}
 use Rattle.split_drawing_laws.proofs.drawings.Pairs.{none_joined, joined_drawn, drawn_newer}
 use Rattle.split_drawing_laws.specs.drawings.Passing.{Ready, Joining, Going}
@@ -36,7 +36,7 @@ pub record Gone (d D : Drawing) (f : ℕ) (ops : List Op) (n : ℕ) : Type 0 whe
   pub leads : Leads d.model D.model ops
   pub drawn : DrawnIn d.model D.model f
   pub fresh : Fresh D.model D.taken
-  pub room : Room D.taken n
+  pub room : PairsHaveRoom D.taken n
 
 module _ (p : Plane) (f : ℕ) (qs : List (ℕ × ℕ)) (d : Drawing) (n : ℕ) (w : Ready p f qs d n) where
   abbrev begun : Drawing
@@ -84,7 +84,7 @@ module _ (p : Plane) (f : ℕ) (q : ℕ × ℕ) (d : Drawing) (n : ℕ) (w : Rea
   drawn_is : all_drawn f (ring_free f (q ∷ []) (all_joined (q ∷ []) d)) ≡ cut_off held q
   drawn_is = ap (λ x. all_drawn f (ring_free f (q ∷ []) x)) joined_is ∙ draw_next_one f held q w.alone
 
-  room_one : Room d.taken (suc n)
+  room_one : PairsHaveRoom d.taken (suc n)
   room_one = room_as d.taken (length (q ∷ []) + n) (suc n) (omega arith) w.room
 
   cut_newer : Newer d.model (cut_off held q).model f (cut_off held q).taken.face
@@ -108,7 +108,7 @@ module _ (p : Plane) (f : ℕ) (qs : List (ℕ × ℕ)) (d : Drawing) (n : ℕ) 
   pub last : Going d.model f L [] n
   last = (draws p f qs d n w).state
 
-  room_last : Room L.taken n
+  room_last : PairsHaveRoom L.taken n
   room_last = room_as L.taken (0 + n) n (omega arith) last.room
 
   moved : length qs ≡ 1 → Moved d.model L.model f L.taken.face (rings_above L.model p f) L.taken
@@ -119,7 +119,7 @@ module _ (p : Plane) (f : ℕ) (qs : List (ℕ × ℕ)) (d : Drawing) (n : ℕ) 
 
   abbrev Shared : Bool → Type 0
   Shared b = let S = cond b (record L { model = with_rings L.model (rings_above L.model p f) L.taken.face }) L in
-      Leads L.model S.model (cond b (ring_ops (rings_above L.model p f) L.taken.face) []) × DrawnIn d.model S.model f × Fresh S.model S.taken × Room S.taken n
+      Leads L.model S.model (cond b (ring_ops (rings_above L.model p f) L.taken.face) []) × DrawnIn d.model S.model f × Fresh S.model S.taken × PairsHaveRoom S.taken n
 
   shared : (b : Bool) → nat_eq (length qs) 1 ≡ b → Shared b
   shared true e = let m = moved (eqb-true (length qs) 1 e) in (m.leads, m.drawn, m.fresh, room_last)

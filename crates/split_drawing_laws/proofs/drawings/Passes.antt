@@ -8,7 +8,7 @@ use Rattle.shapes.proofs.fresh.Tests.{number_fits}
 use Rattle.shapes.specs.Fresh.{Taken}
 use Rattle.shapes.specs.split.Drawing.{Drawing, face_drawn, in_one_loop, joined_pair, join_next, draw_next, stuck_at}
 use Rattle.split_drawing_laws.specs.drawings.DrawingOps.{join_pair, join_ops, draw_pair, draw_ops}
-use Rattle.split_drawing_laws.specs.drawings.DrawnIn.{Room}
+use Rattle.split_drawing_laws.specs.drawings.DrawnIn.{PairsHaveRoom}
 use Rattle.split_drawing_laws.specs.drawings.Pairs.{Fits, AllFit}
 use Rattle.split_drawing_laws.specs.drawings.Passing.{Joining, Going}
 use Rattle.split_drawing_laws.proofs.drawings.Pairs.{pair_leads, pair_joined, pair_fresh, pair_draws, pair_drawn, drawn_fresh}
@@ -22,11 +22,11 @@ all_fit_last : (M : Model) (f : ℕ) (qs : List (ℕ × ℕ)) (q : ℕ × ℕ) �
 all_fit_last M f [] q a b = (b, tt)
 all_fit_last M f (r ∷ qs) q a b = (a.0, all_fit_last M f qs q a.1 b)
 
-pub room_as : (c : Taken) (a b : ℕ) → a ≡ b → Room c a → Room c b
-room_as c a b e = subst (Room c) e
+pub room_as : (c : Taken) (a b : ℕ) → a ≡ b → PairsHaveRoom c a → PairsHaveRoom c b
+room_as c a b e = subst (PairsHaveRoom c) e
 
 -- the next edge, face and loop
-module _ (c : Taken) (n : ℕ) (room : Room c (suc n)) where
+module _ (c : Taken) (n : ℕ) (room : PairsHaveRoom c (suc n)) where
   pub edge_fits : IsTrue (is_number (c.edge + 1))
   edge_fits = number_fits (c.edge + 1) (omega arith) (omega (arith, room.edges))
 
@@ -36,10 +36,10 @@ module _ (c : Taken) (n : ℕ) (room : Room c (suc n)) where
   pub loop_fits : IsTrue (is_number (c.loop + 1))
   loop_fits = number_fits (c.loop + 1) (omega arith) (omega (arith, room.loops))
 
-  room_joined : Room (record c { edge = c.edge + 1 }) n
+  room_joined : PairsHaveRoom (record c { edge = c.edge + 1 }) n
   room_joined = record { faces = omega (arith, room.faces); loops = omega (arith, room.loops); edges = omega (arith, room.edges) }
 
-  room_drawn : Room (record c { face = c.face + 1; loop = c.loop + 1; edge = c.edge + 1 }) n
+  room_drawn : PairsHaveRoom (record c { face = c.face + 1; loop = c.loop + 1; edge = c.edge + 1 }) n
   room_drawn = record { faces = omega (arith, room.faces); loops = omega (arith, room.loops); edges = omega (arith, room.edges) }
 
 next_above : (a : ℕ) → a < a + 1
@@ -60,7 +60,7 @@ module _ (M : Model) (f : ℕ) (d : Drawing) (q : ℕ × ℕ) (qs : List (ℕ ×
   abbrev Next : Drawing → Type 0
   Next x = Leads d.model x.model (cond (in_one_loop d.model q) [] (join_pair d.model q (d.taken.edge + 1) ∷ [])) × Joining M f x qs n
 
-  room_now : Room d.taken (suc (length d.left + length qs + n))
+  room_now : PairsHaveRoom d.taken (suc (length d.left + length qs + n))
   room_now = room_as d.taken (length d.left + length (q ∷ qs) + n) (suc (length d.left + length qs + n)) (omega arith) w.room
 
   kept : in_one_loop d.model q ≡ true → Next (join_next d q)
@@ -133,7 +133,7 @@ module _ (M : Model) (f : ℕ) (sound : Sound M) (d : Drawing) (q : ℕ × ℕ) 
   abbrev After : Drawing → Type 0
   After x = Leads d.model x.model (cond (in_one_loop d.model q) (draw_pair d.taken q ∷ []) []) × Going M f x qs n
 
-  pub room_here : Room d.taken (suc (length qs + n))
+  pub room_here : PairsHaveRoom d.taken (suc (length qs + n))
   room_here = room_as d.taken (length (q ∷ qs) + n) (suc (length qs + n)) (omega arith) w.room
 
   left_out : in_one_loop d.model q ≡ false → After (draw_next f d q)

@@ -12,7 +12,7 @@ use Rattle.euler_laws.specs.Laws.{AreAccepted, effects}
 use Rattle.shapes.specs.Fresh.{Growing}
 use Rattle.shapes.specs.split.Drawing.{Drawing, drawn_between, drawn_pairs, next_drawn, faces_drawn}
 use Rattle.split_drawing_laws.specs.drawings.DrawingOps.{face_ops, ops_from, drawing_ops}
-use Rattle.split_drawing_laws.specs.drawings.DrawnIn.{Stays, DrawnIn, Fresh, Room}
+use Rattle.split_drawing_laws.specs.drawings.DrawnIn.{Stays, DrawnIn, Fresh, PairsHaveRoom}
 use Rattle.split_drawing_laws.specs.drawings.Pairs.{Fits, AllFit, LoneInOneLoop, FacesFit, pairs_in}
 use Rattle.split_drawing_laws.specs.drawings.Laws.{CanBeDrawn}
 use Rattle.split_drawing_laws.proofs.drawings.Pairs.{stays_on}
@@ -60,7 +60,7 @@ pub record AllGone (d D : Drawing) (ops : List Op) (n : ℕ) : Type 0 where
   pub sound : Sound D.model
   pub stays : Stays d.model D.model
   pub fresh : Fresh D.model D.taken
-  pub room : Room D.taken n
+  pub room : PairsHaveRoom D.taken n
 
 -- one face more
 module _ (M N : Model) (p : Plane) (d : Drawing) (f : ℕ) (fs : List ℕ) (n : ℕ) (w : Drawable M N p d (f ∷ fs) n) where
@@ -72,7 +72,7 @@ module _ (M N : Model) (p : Plane) (d : Drawing) (f : ℕ) (fs : List ℕ) (n : 
   ready = record {
     sound = w.sound;
     fresh = w.fresh;
-    room = subst (Room d.taken) (let s : length (drawn_pairs M N p f) + pairs_in M N p fs + n ≡ length (drawn_pairs M N p f) + (pairs_in M N p fs + n) = omega arith in s) w.room;
+    room = subst (PairsHaveRoom d.taken) (let s : length (drawn_pairs M N p f) + pairs_in M N p fs + n ≡ length (drawn_pairs M N p f) + (pairs_in M N p fs + n) = omega arith in s) w.room;
     fit = w.fit.0.0;
     alone = w.fit.0.1;
   }
@@ -120,7 +120,7 @@ module _ (M : Model) (p : Plane) (g : Growing) (fs : List ℕ) (can : CanBeDrawn
   drawable = record {
     sound = can.sound;
     fresh = can.fresh;
-    room = subst (Room g.taken) (let s : pairs_in M g.model p fs ≡ pairs_in M g.model p fs + 0 = omega arith in s) can.room;
+    room = subst (PairsHaveRoom g.taken) (let s : pairs_in M g.model p fs ≡ pairs_in M g.model p fs + 0 = omega arith in s) can.room;
     fit = can.fit;
     apart = can.apart;
   }

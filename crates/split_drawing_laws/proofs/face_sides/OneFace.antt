@@ -19,7 +19,7 @@ use Rattle.split_drawing_laws.proofs.drawings.Faces.{face_goes, begun_joining, j
 use Rattle.split_drawing_laws.proofs.drawings.Pairs.{none_joined, joined_drawn, pair_can, stays_on}
 use Rattle.split_drawing_laws.proofs.drawings.Passes.{join_next_one, draw_next_one, cut_off, edge_fits, face_fits, loop_fits, room_as}
 use Rattle.split_drawing_laws.proofs.drawings.Stays.{row_else, draw_stays}
-use Rattle.split_drawing_laws.specs.drawings.DrawnIn.{Room}
+use Rattle.split_drawing_laws.specs.drawings.DrawnIn.{PairsHaveRoom}
 use Rattle.split_drawing_laws.proofs.loop_sides.SidesWhole.{draws_stuck}
 use Rattle.split_drawing_laws.proofs.half_sides.PlaceEnds.{AllUp}
 use Rattle.split_drawing_laws.proofs.face_sides.Alone.{Lone, Alone}
@@ -86,7 +86,7 @@ module _ (B : Model) (side : ℕ → Bool) (p : Plane) (f : ℕ) (q : ℕ × ℕ
   shared_is : (drawn_between p f (q ∷ []) d).model ≡ with_rings K (rings_above K p f) g
   shared_is = ap (λ x. (rings_shared p f (q ∷ []) x).model) drawn_is
 
-  room_one : Room d.taken (suc n)
+  room_one : PairsHaveRoom d.taken (suc n)
   room_one = room_as d.taken (length (q ∷ []) + n) (suc n) (omega arith) w.room
 
   g_free : table.get X.faces g ≡ None

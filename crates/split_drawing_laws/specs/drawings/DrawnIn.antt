@@ -34,7 +34,7 @@ pub record Fresh (M : Model) (c : Taken) : Type 0 where
   pub edges : (q : ℕ) → c.edge < q → table.get M.edges q ≡ None
 
 -- a face, a loop and an edge for each of n pairs are left
-pub record Room (c : Taken) (n : ℕ) : Type 0 where
+pub record PairsHaveRoom (c : Taken) (n : ℕ) : Type 0 where
   pub faces : c.face + n ≤ 1000000
   pub loops : c.loop + n ≤ 1000000
   pub edges : c.edge + n ≤ 1000000

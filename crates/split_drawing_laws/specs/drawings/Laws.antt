@@ -8,14 +8,14 @@ use Rattle.euler_laws.specs.Laws.{effects, AreAccepted}
 use Rattle.shapes.specs.Fresh.{Growing}
 use Rattle.shapes.specs.split.Drawing.{faces_drawn}
 use Rattle.split_drawing_laws.specs.drawings.DrawingOps.{drawing_ops}
-use Rattle.split_drawing_laws.specs.drawings.DrawnIn.{Stays, Fresh, Room}
+use Rattle.split_drawing_laws.specs.drawings.DrawnIn.{Stays, Fresh, PairsHaveRoom}
 use Rattle.split_drawing_laws.specs.drawings.Pairs.{FacesFit, pairs_in}
 
 -- in the model with its edges cut, that of g, the faces fs can be drawn between their pairs; M is the model before
 pub record CanBeDrawn (M : Model) (p : Plane) (g : Growing) (fs : List ℕ) : Type 0 where
   pub sound : Sound g.model
   pub fresh : Fresh g.model g.taken
-  pub room : Room g.taken (pairs_in M g.model p fs)
+  pub room : PairsHaveRoom g.taken (pairs_in M g.model p fs)
   pub fit : FacesFit g.model M g.model p fs
   pub apart : IsApart fs
 

@@ -5,27 +5,27 @@ use Rattle.euler_operators.specs.Items.{IsApart}
 use Rattle.euler_operators.specs.Model.{Model}
 use Rattle.euler_operators.specs.Sound.{Sound}
 use Rattle.shapes.specs.split.Drawing.{Drawing}
-use Rattle.split_drawing_laws.specs.drawings.DrawnIn.{JoinedIn, DrawnIn, Fresh, Room}
+use Rattle.split_drawing_laws.specs.drawings.DrawnIn.{JoinedIn, DrawnIn, Fresh, PairsHaveRoom}
 use Rattle.split_drawing_laws.specs.drawings.Pairs.{AllFit, LoneInOneLoop, FacesFit, pairs_in}
 
 -- d is being joined in face f of M: qs are still to come, and numbers for n more pairs are left
 pub record Joining (M : Model) (f : ℕ) (d : Drawing) (qs : List (ℕ × ℕ)) (n : ℕ) : Type 0 where
   pub joined : JoinedIn M d.model f
   pub fresh : Fresh d.model d.taken
-  pub room : Room d.taken (length d.left + length qs + n)
+  pub room : PairsHaveRoom d.taken (length d.left + length qs + n)
   pub pairs : AllFit M f d.left
 
 -- d is being drawn in face f of M: qs are still to come, and numbers for n more pairs are left
 pub record Going (M : Model) (f : ℕ) (d : Drawing) (qs : List (ℕ × ℕ)) (n : ℕ) : Type 0 where
   pub drawn : DrawnIn M d.model f
   pub fresh : Fresh d.model d.taken
-  pub room : Room d.taken (length qs + n)
+  pub room : PairsHaveRoom d.taken (length qs + n)
 
 -- face f of d's model can be drawn between the pairs qs, and numbers for n more pairs are left
 pub record Ready (p : Plane) (f : ℕ) (qs : List (ℕ × ℕ)) (d : Drawing) (n : ℕ) : Type 0 where
   pub sound : Sound d.model
   pub fresh : Fresh d.model d.taken
-  pub room : Room d.taken (length qs + n)
+  pub room : PairsHaveRoom d.taken (length qs + n)
   pub fit : AllFit d.model f qs
   pub alone : LoneInOneLoop d.model qs
 
@@ -33,6 +33,6 @@ pub record Ready (p : Plane) (f : ℕ) (qs : List (ℕ × ℕ)) (d : Drawing) (n
 pub record Drawable (M N : Model) (p : Plane) (d : Drawing) (fs : List ℕ) (n : ℕ) : Type 0 where
   pub sound : Sound d.model
   pub fresh : Fresh d.model d.taken
-  pub room : Room d.taken (pairs_in M N p fs + n)
+  pub room : PairsHaveRoom d.taken (pairs_in M N p fs + n)
   pub fit : FacesFit d.model M N p fs
   pub apart : IsApart fs

@@ -1,4 +1,4 @@
--- One strip more joined to the first ones: kef of the riser between them.
+-- One strip more joined to the first ones: kef of the strip_riser between them.
 use Rattle.std.proofs.Common.{◌≡◌, ◌≢◌, ℕ, suc, ◌+◌, ◌<◌, List, [], ◌∷◌, ◌++◌, map, length, Some, None, is_some, unwrap_or, refl, sym, ap, ◌∙◌, subst, arith, inl, inr}
 use Rattle.std.specs.Prelude.{reverse, take, get_or}
 use Rattle.std.proofs.Math.Seq.{take-suc}
@@ -28,7 +28,7 @@ use Rattle.sweeps_laws.proofs.lamina.Lists.{numbers_last}
 use Rattle.shapes.specs.Fresh.{Taken, numbers_after}
 use Rattle.shapes.specs.Prism.{next_place}
 use Rattle.shapes.specs.Rewriting.{without_rows}
-use Rattle.split_opening_laws.specs.caps.Strips.{HasStrips, riser}
+use Rattle.split_opening_laws.specs.caps.Strips.{HasStrips, strip_riser}
 use Rattle.split_opening_laws.specs.caps.Caps.{joined_loop, joined_part}
 use Rattle.split_opening_laws.proofs.caps.Gone.{next_number, gone_more, gone_back, gone_above}
 
@@ -59,7 +59,7 @@ module _ (N : Model) (s : ℕ) (c : Taken) (hs : List ℕ) (w : HasStrips N s c 
   abbrev P : Model
   P = joined_part N c hs n
 
-  -- the first face and loop, those of the next strip, and the riser between them
+  -- the first face and loop, those of the next strip, and the strip_riser between them
   abbrev f1 : ℕ
   f1 = c.face + 1
 
@@ -73,17 +73,17 @@ module _ (N : Model) (s : ℕ) (c : Taken) (hs : List ℕ) (w : HasStrips N s c 
   l = c.loop + suc (suc n)
 
   abbrev x : ℕ
-  x = riser c m (suc n)
+  x = strip_riser c m (suc n)
 
   abbrev a : ℕ
   a = get_or hs (suc n) 0
 
-  -- the copy of the next strip, and the riser behind it
+  -- the copy of the next strip, and the strip_riser behind it
   abbrev e : ℕ
   e = minus (c.edge + suc (suc n))
 
   abbrev z : ℕ
-  z = minus (riser c m (next_place m (suc n)))
+  z = minus (strip_riser c m (next_place m (suc n)))
 
   abbrev mates : List ℕ
   mates = reverse (take (suc n) hs)
@@ -98,7 +98,7 @@ module _ (N : Model) (s : ℕ) (c : Taken) (hs : List ℕ) (w : HasStrips N s c 
   strip = a ∷ plus x ∷ e ∷ z ∷ []
 
   loop_here : joined_loop c hs n ≡ front ++ minus x ∷ []
-  loop_here = ap (λ i. mates ++ plus (riser c m 0) ∷ (copies ++ minus (riser c m i) ∷ [])) (next_inner m n (omega (arith, later)))
+  loop_here = ap (λ i. mates ++ plus (strip_riser c m 0) ∷ (copies ++ minus (strip_riser c m i) ∷ [])) (next_inner m n (omega (arith, later)))
       ∙ sym (append_assoc mates (plus (c.edge + m + 1) ∷ copies) (minus x ∷ []))
 
   around_first : Around P l1 f1 (front ++ minus x ∷ [])
@@ -233,6 +233,6 @@ module _ (N : Model) (s : ℕ) (c : Taken) (hs : List ℕ) (w : HasStrips N s c 
   unfolding effect
   next_is = ap (kef P) (code-half (minus x)) ∙ kef_is
 
-  -- the next riser goes, and its strip is joined too
+  -- the next strip_riser goes, and its strip is joined too
   pub next_joined : (first_false P (Kef (half (minus (c.edge + m + 1 + suc n)))) ≡ None) × (effect P (Kef (half (minus (c.edge + m + 1 + suc n)))) ≡ X)
   next_joined = subst (λ r. (first_false P (Kef (half (minus r))) ≡ None) × (effect P (Kef (half (minus r))) ≡ X)) (sym riser_is) (next_ok, next_is)

@@ -1,4 +1,4 @@
--- All strips joined: kemr of the first riser parts their loop, and mfkrh makes a face of the ring.
+-- All strips joined: kemr of the first strip_riser parts their loop, and mfkrh makes a face of the ring.
 use Rattle.std.proofs.Common.{◌≡◌, ◌≢◌, ℕ, suc, ◌+◌, ◌-◌, ◌≤◌, List, [], ◌∷◌, ◌++◌, map, length, Some, None, is_some, unwrap_or, cond, refl, sym, ap, ◌∙◌, subst, arith}
 use Rattle.std.specs.Prelude.{reverse, take}
 use Rattle.std.proofs.lemmas.Bool.{eq-eqb, ne_eqb}
@@ -27,7 +27,7 @@ use Rattle.euler_laws.proofs.shared.KnownLoop.{Around, apart_xs, loop_is, half_i
 use Rattle.sweeps_laws.proofs.prism.Sides.{next_last}
 use Rattle.shapes.specs.Fresh.{Taken, numbers_after}
 use Rattle.shapes.specs.Rewriting.{without_rows}
-use Rattle.split_opening_laws.specs.caps.Strips.{HasStrips, riser}
+use Rattle.split_opening_laws.specs.caps.Strips.{HasStrips, strip_riser}
 use Rattle.split_opening_laws.specs.caps.Caps.{joined_loop, joined_part, capped}
 use Rattle.split_opening_laws.specs.caps.CapOps.{partings}
 use Rattle.split_opening_laws.proofs.caps.Gone.{canonical_run, gone_first, gone_free, gone_below}
@@ -58,7 +58,7 @@ module _ (N : Model) (s : ℕ) (c : Taken) (hs : List ℕ) (w : HasStrips N s c 
   L = c.loop + m + 1
 
   abbrev x : ℕ
-  x = riser c m 0
+  x = strip_riser c m 0
 
   -- the two caps' items
   abbrev lower : List ℕ
@@ -77,7 +77,7 @@ module _ (N : Model) (s : ℕ) (c : Taken) (hs : List ℕ) (w : HasStrips N s c 
   some_upper = subst (λ j. 1 ≤ length (map minus (numbers_after c.edge j))) (sym all) (omega arith)
 
   loop_here : joined_loop c hs n ≡ ring
-  loop_here = (λ i. reverse (take (sym all i) hs) ++ plus x ∷ (map minus (numbers_after c.edge (sym all i)) ++ minus (riser c m (next_last m n (omega (arith, all)) i)) ∷ []))
+  loop_here = (λ i. reverse (take (sym all i) hs) ++ plus x ∷ (map minus (numbers_after c.edge (sym all i)) ++ minus (strip_riser c m (next_last m n (omega (arith, all)) i)) ∷ []))
       ∙ ap (λ xs. reverse xs ++ plus x ∷ (upper ++ minus x ∷ [])) (take_all m hs (omega arith))
 
   around : Around P l1 f1 ring

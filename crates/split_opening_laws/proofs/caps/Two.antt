@@ -13,7 +13,7 @@ use Rattle.euler_operators.specs.Model.{Model, cycle, tail, after}
 use Rattle.euler_operators.specs.Sound.{Sound}
 use Rattle.sweeps_laws.proofs.prism.Sides.{next_last}
 use Rattle.shapes.specs.Fresh.{Taken}
-use Rattle.split_opening_laws.specs.caps.Strips.{HasStrips, riser}
+use Rattle.split_opening_laws.specs.caps.Strips.{HasStrips, strip_riser}
 use Rattle.euler_laws.proofs.shared.KnownLoop.{Around, apart_xs, half_is, cycle_is}
 
 -- what follows an item in a loop of a model
@@ -26,7 +26,7 @@ module _ (N : Model) (s : ℕ) (c : Taken) (hs : List ℕ) (sound : Sound N) (w 
   a = get_or hs 0 0
 
   abbrev x : ℕ
-  x = riser c (length hs) 0
+  x = strip_riser c (length hs) 0
 
   abbrev strip : List ℕ
   strip = (a ∷ plus x ∷ minus (c.edge + 1) ∷ []) ++ minus x ∷ []
@@ -34,7 +34,7 @@ module _ (N : Model) (s : ℕ) (c : Taken) (hs : List ℕ) (sound : Sound N) (w 
   around : Around N (c.loop + 1) (c.face + 1) strip
   around = record {
     sound = sound;
-    at = w.loops 0 (omega (arith, w.some)) ∙ ap (λ i. Some (record { face = c.face + 1; content = cycle (canonical (a ∷ plus x ∷ minus (c.edge + 1) ∷ minus (riser c (length hs) i) ∷ [])) })) (next_last (length hs) 0 (sym single));
+    at = w.loops 0 (omega (arith, w.some)) ∙ ap (λ i. Some (record { face = c.face + 1; content = cycle (canonical (a ∷ plus x ∷ minus (c.edge + 1) ∷ minus (strip_riser c (length hs) i) ∷ [])) })) (next_last (length hs) 0 (sym single));
   }
 
   apart : IsApart strip

@@ -14,7 +14,7 @@ use Rattle.euler_laws.specs.Laws.{effects, AreAccepted}
 use Rattle.euler_laws.proofs.Runs.{effects-append, AreAccepted-append, effects_keep_sound}
 use Rattle.shapes.specs.Fresh.{Taken, numbers_after}
 use Rattle.shapes.specs.Prism.{next_place}
-use Rattle.split_opening_laws.specs.caps.Strips.{HasStrips, riser, strip_loop}
+use Rattle.split_opening_laws.specs.caps.Strips.{HasStrips, strip_riser, strip_loop}
 use Rattle.split_opening_laws.specs.caps.Caps.{joined_loop, joined_part, capped}
 use Rattle.split_opening_laws.specs.caps.CapOps.{joinings, partings, cap_ops}
 use Rattle.split_opening_laws.proofs.caps.Joined.{next_joined}
@@ -27,7 +27,7 @@ module _ (N : Model) (s : ℕ) (c : Taken) (hs : List ℕ) (sound : Sound N) (w 
 
   -- before the first operator the first strip stands alone
   loop_alone : strip_loop c hs 0 ≡ joined_loop c hs 0
-  loop_alone = ap (λ xs. reverse xs ++ plus (riser c m 0) ∷ minus (c.edge + 1) ∷ minus (riser c m (next_place m 0)) ∷ []) (sym (take-suc hs 0 0 (omega (arith, w.some))))
+  loop_alone = ap (λ xs. reverse xs ++ plus (strip_riser c m 0) ∷ minus (c.edge + 1) ∷ minus (strip_riser c m (next_place m 0)) ∷ []) (sym (take-suc hs 0 0 (omega (arith, w.some))))
 
   first_alone : N ≡ joined_part N c hs 0
   unfolding joined_part

@@ -14,7 +14,7 @@ use Rattle.euler_laws.proofs.mev.Mev.{mev_accepted}
 use Rattle.sweeps_laws.proofs.prism.Sides.{fits}
 use Rattle.sweeps_laws.proofs.prism.Steps.{edge_plus}
 use Rattle.shapes.specs.Fresh.{Taken}
-use Rattle.split_opening_laws.specs.strips.Strips.{riser, copies_raised}
+use Rattle.split_opening_laws.specs.strips.Strips.{copy_riser, copies_raised}
 use Rattle.split_opening_laws.specs.strips.StripOps.{place_before, raise_copy}
 use Rattle.split_opening_laws.specs.strips.Opened.{CanBeOpened}
 use Rattle.split_opening_laws.proofs.strips.Cycle as on
@@ -43,7 +43,7 @@ module _ (M : Model) (above : List ℕ) (s : ℕ) (c : Taken) (bs : List ℕ) (w
   k = mate (get_or bs (place_before (length bs) i) 0)
 
   abbrev u : ℕ
-  u = riser c bs i
+  u = copy_riser c bs i
 
   -- ---- the operator is accepted
 

@@ -21,7 +21,7 @@ use Rattle.shapes.specs.Fresh.{Taken}
 use Rattle.shapes.specs.Prism.{next_place}
 use Rattle.shapes.specs.Rewriting.{renamed}
 use Rattle.shapes.specs.split.Opening.{opened_tail, opened_row}
-use Rattle.split_opening_laws.specs.strips.Strips.{with_rows, riser, riser_edge, copied, raised_items, raised_edge, copies_raised}
+use Rattle.split_opening_laws.specs.strips.Strips.{with_rows, copy_riser, riser_edge, copied, raised_items, raised_edge, copies_raised}
 use Rattle.split_opening_laws.specs.strips.StripOps.{place_before}
 use Rattle.split_opening_laws.specs.strips.Opened.{CanBeOpened}
 use Rattle.split_opening_laws.proofs.strips.Rows.{rows_same, rows_map}
@@ -75,7 +75,7 @@ module _ (M : Model) (above : List ℕ) (s : ℕ) (c : Taken) (bs : List ℕ) (w
   k = mate (get_or bs (place_before (length bs) i) 0)
 
   abbrev u : ℕ
-  u = riser c bs i
+  u = copy_riser c bs i
 
   abbrev moved : List ℕ
   moved = arc (copies_raised M above s c bs i) (minus (c.edge + suc i)) (mate (get_or bs (place_before (length bs) i) 0))
@@ -174,20 +174,20 @@ module _ (M : Model) (above : List ℕ) (s : ℕ) (c : Taken) (bs : List ℕ) (w
   -- the risers that stand
   riser_row : (j : ℕ) → j < i → with_tails moved y (c.edge + m + suc j) (riser_edge M c bs j) ≡ riser_edge M c bs j
   riser_row j less = λ n. record { plus_tail = ap (λ b. cond b y (tail M (get_or bs j 0))) rise_stays n; minus_tail = ap (λ b. cond b y (c.vertex + suc j)) fall_stays n } where
-    other : (h : ℕ) → edge_of h ≡ riser c bs j → h ≢ g
-    other h is = other_edge h (riser c bs j) is (λ e. omega arith)
+    other : (h : ℕ) → edge_of h ≡ copy_riser c bs j → h ≢ g
+    other h is = other_edge h (copy_riser c bs j) is (λ e. omega arith)
 
-    rise_stays : nat_lt 0 (count (plus (riser c bs j)) moved) ≡ false
-    rise_stays = stays (plus (riser c bs j)) (raised.strip_side M above s c bs w i sound j (plus (riser c bs j)) (omega arith) (raised.rise_in M above s c bs w i sound j less)) (other (plus (riser c bs j)) (plus_row (riser c bs j)).0)
+    rise_stays : nat_lt 0 (count (plus (copy_riser c bs j)) moved) ≡ false
+    rise_stays = stays (plus (copy_riser c bs j)) (raised.strip_side M above s c bs w i sound j (plus (copy_riser c bs j)) (omega arith) (raised.rise_in M above s c bs w i sound j less)) (other (plus (copy_riser c bs j)) (plus_row (copy_riser c bs j)).0)
 
     at : next_place m (place_before m j) ≡ j
     at = next-before m j (omega arith)
 
-    fall_stays : nat_lt 0 (count (minus (riser c bs j)) moved) ≡ false
-    fall_stays = stays (minus (riser c bs j))
-        (raised.strip_side M above s c bs w i sound (place_before m j) (minus (riser c bs j)) (before_below m j (omega arith))
-        (subst (λ q. IsIn (minus (riser c bs q)) (raised_items c bs i (place_before m j))) at (raised.fall_in M above s c bs w i sound (place_before m j) (subst (λ q. q < i) (sym at) less))))
-        (other (minus (riser c bs j)) (minus_row (riser c bs j)).0)
+    fall_stays : nat_lt 0 (count (minus (copy_riser c bs j)) moved) ≡ false
+    fall_stays = stays (minus (copy_riser c bs j))
+        (raised.strip_side M above s c bs w i sound (place_before m j) (minus (copy_riser c bs j)) (before_below m j (omega arith))
+        (subst (λ q. IsIn (minus (copy_riser c bs q)) (raised_items c bs i (place_before m j))) at (raised.fall_in M above s c bs w i sound (place_before m j) (subst (λ q. q < i) (sym at) less))))
+        (other (minus (copy_riser c bs j)) (minus_row (copy_riser c bs j)).0)
 
   pub edges_next : table.put (table.map_rows (with_tails moved y) N.edges) (edge_of (plus u)) (edge_row (plus u) (tail N g) y) ≡ (copies_raised M above s c bs (suc i)).edges
   unfolding copies_raised

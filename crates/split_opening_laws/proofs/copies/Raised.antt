@@ -20,7 +20,7 @@ use Rattle.shapes.specs.Fresh.{Taken}
 use Rattle.shapes.specs.Prism.{next_place}
 use Rattle.shapes.specs.Rewriting.{rewritten_row, renamed}
 use Rattle.shapes.specs.split.Opening.{opened_tail, opened_row, with_copies}
-use Rattle.split_opening_laws.specs.strips.Strips.{with_rows, put_out, strip_face, riser, riser_edge, copied, raised_items, raised_loop, raised_edge, copies_raised}
+use Rattle.split_opening_laws.specs.strips.Strips.{with_rows, put_out, strip_face, copy_riser, riser_edge, copied, raised_items, raised_loop, raised_edge, copies_raised}
 use Rattle.split_opening_laws.specs.strips.Opened.{CanBeOpened}
 use Rattle.split_opening_laws.proofs.strips.Rows.{rows_at, rows_low, rows_split}
 use Rattle.split_opening_laws.proofs.strips.Cycle as on
@@ -64,12 +64,12 @@ module _ (M : Model) (above : List ℕ) (s : ℕ) (c : Taken) (bs : List ℕ) (w
   pub around : (j : ℕ) → j < m → Around N (c.loop + suc j) (c.face + suc j) (raised_items c bs i j)
   around j lt = record { sound = sound; at = places.new_loop M above s c bs w N sound m m (raised_loop c bs i) raised_loops j lt }
 
-  -- the riser at a place, and the riser at the next one, where they stand
+  -- the copy_riser at a place, and the copy_riser at the next one, where they stand
   abbrev pub rise_part : ℕ → List ℕ
-  rise_part j = cond (nat_lt j i) (plus (riser c bs j) ∷ []) []
+  rise_part j = cond (nat_lt j i) (plus (copy_riser c bs j) ∷ []) []
 
   abbrev pub fall_part : ℕ → List ℕ
-  fall_part j = cond (nat_lt (next_place (length bs) j) i) (minus (riser c bs (next_place (length bs) j)) ∷ []) []
+  fall_part j = cond (nat_lt (next_place (length bs) j) i) (minus (copy_riser c bs (next_place (length bs) j)) ∷ []) []
 
   pub mate_in : (j : ℕ) → IsIn (mate (get_or bs j 0)) (raised_items c bs i j)
   mate_in j = omega (arith, tick_same (mate (get_or bs j 0)))
@@ -77,14 +77,14 @@ module _ (M : Model) (above : List ℕ) (s : ℕ) (c : Taken) (bs : List ℕ) (w
   pub back_in : (j : ℕ) → IsIn (minus (c.edge + suc j)) (raised_items c bs i j)
   back_in j = omega (arith, count-append (minus (c.edge + suc j)) (rise_part j) (minus (c.edge + suc j) ∷ fall_part j), tick_same (minus (c.edge + suc j)))
 
-  pub rise_in : (j : ℕ) → j < i → IsIn (plus (riser c bs j)) (raised_items c bs i j)
+  pub rise_in : (j : ℕ) → j < i → IsIn (plus (copy_riser c bs j)) (raised_items c bs i j)
   rise_in j lt =
-      let one : count (plus (riser c bs j)) (rise_part j) ≡ count (plus (riser c bs j)) (plus (riser c bs j) ∷ []) = ap (λ b. count (plus (riser c bs j)) (cond b (plus (riser c bs j) ∷ []) [])) (lt-ltb j i lt) in
-      omega (arith, one, count-append (plus (riser c bs j)) (rise_part j) (minus (c.edge + suc j) ∷ fall_part j), tick_same (plus (riser c bs j)))
+      let one : count (plus (copy_riser c bs j)) (rise_part j) ≡ count (plus (copy_riser c bs j)) (plus (copy_riser c bs j) ∷ []) = ap (λ b. count (plus (copy_riser c bs j)) (cond b (plus (copy_riser c bs j) ∷ []) [])) (lt-ltb j i lt) in
+      omega (arith, one, count-append (plus (copy_riser c bs j)) (rise_part j) (minus (c.edge + suc j) ∷ fall_part j), tick_same (plus (copy_riser c bs j)))
 
-  pub fall_in : (j : ℕ) → next_place m j < i → IsIn (minus (riser c bs (next_place m j))) (raised_items c bs i j)
+  pub fall_in : (j : ℕ) → next_place m j < i → IsIn (minus (copy_riser c bs (next_place m j))) (raised_items c bs i j)
   fall_in j lt =
-      let f : ℕ = minus (riser c bs (next_place m j)) in
+      let f : ℕ = minus (copy_riser c bs (next_place m j)) in
       let one : count f (fall_part j) ≡ count f (f ∷ []) = ap (λ b. count f (cond b (f ∷ []) [])) (lt-ltb (next_place m j) i lt) in
       omega (arith, one, count-append f (rise_part j) (minus (c.edge + suc j) ∷ fall_part j), tick_same f)
 
@@ -149,15 +149,15 @@ module _ (M : Model) (above : List ℕ) (s : ℕ) (c : Taken) (bs : List ℕ) (w
   pub back_tail : (j : ℕ) → j < m → tail N (minus (c.edge + suc j)) ≡ renamed copies (tail M (get_or bs j 0))
   back_tail j lt = minus_tail_row N (c.edge + suc j) (raised_edge M bs copies j) (out_edge j lt)
 
-  riser_row : (j : ℕ) → j < i → table.get N.edges (riser c bs j) ≡ Some (riser_edge M c bs j)
-  riser_row j lt = ap (λ t. table.get t (riser c bs j)) raised_edges
+  riser_row : (j : ℕ) → j < i → table.get N.edges (copy_riser c bs j) ≡ Some (riser_edge M c bs j)
+  riser_row j lt = ap (λ t. table.get t (copy_riser c bs j)) raised_edges
       ∙ rows_at (with_rows (table.map_rows (opened_row M above mates copies) M.edges) c.edge (raised_edge M bs copies) m) (c.edge + m) (riser_edge M c bs) i j lt
 
-  pub rise_tail : (j : ℕ) → j < i → tail N (plus (riser c bs j)) ≡ tail M (get_or bs j 0)
-  rise_tail j lt = plus_tail_row N (riser c bs j) (riser_edge M c bs j) (riser_row j lt)
+  pub rise_tail : (j : ℕ) → j < i → tail N (plus (copy_riser c bs j)) ≡ tail M (get_or bs j 0)
+  rise_tail j lt = plus_tail_row N (copy_riser c bs j) (riser_edge M c bs j) (riser_row j lt)
 
-  pub fall_tail : (j : ℕ) → j < i → tail N (minus (riser c bs j)) ≡ c.vertex + suc j
-  fall_tail j lt = minus_tail_row N (riser c bs j) (riser_edge M c bs j) (riser_row j lt)
+  pub fall_tail : (j : ℕ) → j < i → tail N (minus (copy_riser c bs j)) ≡ c.vertex + suc j
+  fall_tail j lt = minus_tail_row N (copy_riser c bs j) (riser_edge M c bs j) (riser_row j lt)
 
   -- ---- the half-edges that are there
 
@@ -168,10 +168,10 @@ module _ (M : Model) (above : List ℕ) (s : ℕ) (c : Taken) (bs : List ℕ) (w
   of_edge : (h e : ℕ) → edge_of h ≡ e → OfEdge h e
   of_edge h e is = elim (halves_of_edge h) [ inl p ↦ inl (p.0 ∙ ap plus is) | inr p ↦ inr (p.0 ∙ ap minus is) ]
 
-  -- it was there, or is of an edge ci, or of a riser
-  pub kinds : (h : ℕ) → HasHalf N h → HasHalf M h ⊎ (((j : ℕ) × (j < m) × OfEdge h (c.edge + suc j)) ⊎ ((j : ℕ) × (j < i) × OfEdge h (riser c bs j)))
+  -- it was there, or is of an edge ci, or of a copy_riser
+  pub kinds : (h : ℕ) → HasHalf N h → HasHalf M h ⊎ (((j : ℕ) × (j < m) × OfEdge h (c.edge + suc j)) ⊎ ((j : ℕ) × (j < i) × OfEdge h (copy_riser c bs j)))
   kinds h there = elim (rows_split (with_rows (table.map_rows (opened_row M above mates copies) M.edges) c.edge (raised_edge M bs copies) m) (c.edge + m) (riser_edge M c bs) i (edge_of h)) [
-    | inl p ↦ inr (inr (p.0, p.1, of_edge h (riser c bs p.0) p.2))
+    | inl p ↦ inr (inr (p.0, p.1, of_edge h (copy_riser c bs p.0) p.2))
     | inr p ↦ elim (rows_split (table.map_rows (opened_row M above mates copies) M.edges) c.edge (raised_edge M bs copies) m (edge_of h)) [
       | inl q ↦ inr (inl (q.0, q.1, of_edge h (c.edge + suc q.0) q.2))
       | inr q ↦ inl (sym (ap is_some (ap (λ t. table.get t (edge_of h)) raised_edges ∙ p ∙ q ∙ get-map_rows (opened_row M above mates copies) M.edges (edge_of h))

@@ -16,7 +16,7 @@ use Rattle.shapes.specs.Fresh.{Taken}
 use Rattle.shapes.specs.Prism.{next_place}
 use Rattle.shapes.specs.Rewriting.{rewritten_row, renamed}
 use Rattle.shapes.specs.split.Opening.{opened_tail, opened_row, with_copies}
-use Rattle.split_opening_laws.specs.strips.Strips.{with_rows, put_out, strip_face, strip_loop, riser, copied, raised_loop, raised_edge, strips_cut, copies_raised}
+use Rattle.split_opening_laws.specs.strips.Strips.{with_rows, put_out, strip_face, strip_row, copy_riser, copied, raised_loop, raised_edge, strips_cut, copies_raised}
 use Rattle.split_opening_laws.specs.strips.StripOps.{raise_copy, copy_ops}
 use Rattle.split_opening_laws.specs.strips.Opened.{CanBeOpened}
 use Rattle.split_opening_laws.proofs.strips.Rows.{rows_same}
@@ -34,11 +34,11 @@ module _ (M : Model) (above : List ℕ) (s : ℕ) (c : Taken) (bs : List ℕ) (w
   base = table.map_rows (rewritten_row (map (renamed (put_out c bs (length bs))))) M.loops
 
   -- a strip without risers
-  bare_strip : (j : ℕ) → strip_loop c bs j ≡ raised_loop c bs 0 j
+  bare_strip : (j : ℕ) → strip_row c bs j ≡ raised_loop c bs 0 j
   bare_strip j = λ n. record {
     face = c.face + suc j;
-    content = cycle (canonical (mate (get_or bs j 0) ∷ cond (sym (not_less j 0 (omega arith)) n) (plus (riser c bs j) ∷ []) [] ++ minus (c.edge + suc j) ∷
-        cond (sym (not_less (next_place (length bs) j) 0 (omega arith)) n) (minus (riser c bs (next_place (length bs) j)) ∷ []) []));
+    content = cycle (canonical (mate (get_or bs j 0) ∷ cond (sym (not_less j 0 (omega arith)) n) (plus (copy_riser c bs j) ∷ []) [] ++ minus (c.edge + suc j) ∷
+        cond (sym (not_less (next_place (length bs) j) 0 (omega arith)) n) (minus (copy_riser c bs (next_place (length bs) j)) ∷ []) []));
   }
 
   tail_stays : (h v : ℕ) → opened_tail M above (map mate bs) [] h v ≡ v
@@ -53,7 +53,7 @@ module _ (M : Model) (above : List ℕ) (s : ℕ) (c : Taken) (bs : List ℕ) (w
       let copies : copied M c bs 0 ≡ [] = copy.none_copied M above s c bs w in
       λ n. record M {
         faces = with_rows M.faces c.face (strip_face s c) (length bs);
-        loops = rows_same base c.loop (strip_loop c bs) (raised_loop c bs 0) (length bs) (λ j lt. bare_strip j) n;
+        loops = rows_same base c.loop (strip_row c bs) (raised_loop c bs 0) (length bs) (λ j lt. bare_strip j) n;
         edges = (ap (λ t. with_rows t c.edge (raised_edge M bs []) (length bs)) (sym edges_stay)
             ∙ ap (λ ps. with_rows (table.map_rows (opened_row M above (map mate bs) ps) M.edges) c.edge (raised_edge M bs ps) (length bs)) (sym copies)) n;
         vertices = ap (with_copies M) (sym copies) n;

@@ -28,7 +28,7 @@ use Rattle.shapes.specs.Fresh.{Taken}
 use Rattle.shapes.specs.Prism.{next_place}
 use Rattle.shapes.specs.Rewriting.{rewritten_row, renamed}
 use Rattle.shapes.specs.split.Opening.{opened_row}
-use Rattle.split_opening_laws.specs.strips.Strips.{with_rows, put_out, riser, riser_edge, copied, raised_items, raised_loop, raised_edge, copies_raised}
+use Rattle.split_opening_laws.specs.strips.Strips.{with_rows, put_out, copy_riser, riser_edge, copied, raised_items, raised_loop, raised_edge, copies_raised}
 use Rattle.split_opening_laws.specs.strips.StripOps.{place_before}
 use Rattle.split_opening_laws.specs.strips.Opened.{CanBeOpened}
 use Rattle.split_opening_laws.proofs.strips.Rows.{rows_low, rows_high, rows_same, rows_map}
@@ -69,7 +69,7 @@ module _ (M : Model) (above : List ℕ) (s : ℕ) (c : Taken) (bs : List ℕ) (w
   k = mate (get_or bs (place_before (length bs) i) 0)
 
   abbrev u : ℕ
-  u = riser c bs i
+  u = copy_riser c bs i
 
   p_below : p < m
   p_below = before_below m i lt
@@ -86,10 +86,10 @@ module _ (M : Model) (above : List ℕ) (s : ℕ) (c : Taken) (bs : List ℕ) (w
       ∙ get-map_rows (opened_row M above mates copies) M.edges u ∙ ap (option_map (opened_row M above mates copies u)) (w.edges_free u (omega arith))
 
   abbrev up_before : ℕ → LoopRow → LoopRow
-  up_before = with_before (minus (c.edge + suc i)) (plus (riser c bs i))
+  up_before = with_before (minus (c.edge + suc i)) (plus (copy_riser c bs i))
 
   abbrev down_before : ℕ → LoopRow → LoopRow
-  down_before = with_before (mate (get_or bs (place_before (length bs) i) 0)) (minus (riser c bs i))
+  down_before = with_before (mate (get_or bs (place_before (length bs) i) 0)) (minus (copy_riser c bs i))
 
   abbrev both_before : ℕ → LoopRow → LoopRow
   both_before q row = down_before q (up_before q row)
@@ -143,14 +143,14 @@ module _ (M : Model) (above : List ℕ) (s : ℕ) (c : Taken) (bs : List ℕ) (w
       ∙ none-holds g (cycle (canonical (items p))) (other_loop N sound g (c.loop + suc p) (raised_loop c bs i p) (λ e. p_apart (omega (arith, e, g_loop))) (strip_there p p_below))
 
   abbrev up_put : List ℕ → LoopContent
-  up_put hs = cycle (canonical (insert_before (minus (c.edge + suc i)) (plus (riser c bs i)) hs))
+  up_put hs = cycle (canonical (insert_before (minus (c.edge + suc i)) (plus (copy_riser c bs i)) hs))
 
   abbrev down_put : List ℕ → LoopContent
-  down_put hs = cycle (canonical (insert_before (mate (get_or bs (place_before (length bs) i) 0)) (minus (riser c bs i)) hs))
+  down_put hs = cycle (canonical (insert_before (mate (get_or bs (place_before (length bs) i) 0)) (minus (copy_riser c bs i)) hs))
 
-  -- the strip of -ci gets the riser
+  -- the strip of -ci gets the copy_riser
   abbrev risen : List ℕ
-  risen = mate (get_or bs i 0) ∷ plus (riser c bs i) ∷ minus (c.edge + suc i) ∷ raised.fall_part M above s c bs w i sound i
+  risen = mate (get_or bs i 0) ∷ plus (copy_riser c bs i) ∷ minus (c.edge + suc i) ∷ raised.fall_part M above s c bs w i sound i
 
   flat : items i ≡ (mate (get_or bs i 0) ∷ []) ++ g ∷ raised.fall_part M above s c bs w i sound i
   flat = ap (λ b. mate (get_or bs i 0) ∷ cond b (plus u ∷ []) [] ++ g ∷ raised.fall_part M above s c bs w i sound i) (not_less i i (omega arith))
@@ -165,7 +165,7 @@ module _ (M : Model) (above : List ℕ) (s : ℕ) (c : Taken) (bs : List ℕ) (w
 
   risen_next : risen ≡ raised_items c bs (suc i) i
   risen_next = λ n. mate (get_or bs i 0) ∷ cond (sym (lt-ltb i (suc i) (omega arith)) n) (plus u ∷ []) [] ++ g ∷
-      cond (sym (less_next (next_place m i) i (next_apart m i (on.two_halves M above s c bs w))) n) (minus (riser c bs (next_place m i)) ∷ []) []
+      cond (sym (less_next (next_place m i) i (next_apart m i (on.two_halves M above s c bs w))) n) (minus (copy_riser c bs (next_place m i)) ∷ []) []
 
   risen_k : count k (canonical risen) ≡ 0
   risen_k = count-canonical k risen ∙ omega (arith, k_else, ap (count k) flat, tick_other k (plus u) k_new)
@@ -191,8 +191,8 @@ module _ (M : Model) (above : List ℕ) (s : ℕ) (c : Taken) (bs : List ℕ) (w
       let here : insert_before k (minus u) (items p) ≡ minus u ∷ ((k ∷ rises) ++ b ∷ []) = ap (insert_before k (minus u)) last ∙ in_front in
       let new : ((k ∷ rises) ++ b ∷ []) ++ minus u ∷ [] ≡ raised_items c bs (suc i) p =
       append_assoc (k ∷ rises) (b ∷ []) (minus u ∷ [])
-      ∙ (λ n. k ∷ cond (sym (less_next p i p_apart) n) (plus (riser c bs p) ∷ []) [] ++ b ∷ cond (sym (lt-ltb i (suc i) (omega arith)) n) (minus u ∷ []) [])
-      ∙ ap (λ q. k ∷ cond (nat_lt p (suc i)) (plus (riser c bs p) ∷ []) [] ++ b ∷ cond (nat_lt q (suc i)) (minus (riser c bs q) ∷ []) []) (sym (next-before m i lt)) in
+      ∙ (λ n. k ∷ cond (sym (less_next p i p_apart) n) (plus (copy_riser c bs p) ∷ []) [] ++ b ∷ cond (sym (lt-ltb i (suc i) (omega arith)) n) (minus u ∷ []) [])
+      ∙ ap (λ q. k ∷ cond (nat_lt p (suc i)) (plus (copy_riser c bs p) ∷ []) [] ++ b ∷ cond (nat_lt q (suc i)) (minus (copy_riser c bs q) ∷ []) []) (sym (next-before m i lt)) in
       put_into k (minus u) (items p) d k_in none
       ∙ ap canonical here
       ∙ canonical_same (minus u ∷ ((k ∷ rises) ++ b ∷ [])) (((k ∷ rises) ++ b ∷ []) ++ minus u ∷ []) (record { front = minus u ∷ []; back = (k ∷ rises) ++ b ∷ []; here = refl; there = refl })
@@ -216,8 +216,8 @@ module _ (M : Model) (above : List ℕ) (s : ℕ) (c : Taken) (bs : List ℕ) (w
           neither (c.loop + suc j) (raised_loop c bs i j) (strip_there j below) (λ q. e.1 (omega arith)) (λ q. f.1 (omega arith))
           ∙ (λ n. record {
             face = c.face + suc j;
-            content = cycle (canonical (mate (get_or bs j 0) ∷ cond (sym (less_next j i e.1) n) (plus (riser c bs j) ∷ []) [] ++ minus (c.edge + suc j) ∷
-                cond (sym (less_next (next_place m j) i ne) n) (minus (riser c bs (next_place m j)) ∷ []) []));
+            content = cycle (canonical (mate (get_or bs j 0) ∷ cond (sym (less_next j i e.1) n) (plus (copy_riser c bs j) ∷ []) [] ++ minus (c.edge + suc j) ∷
+                cond (sym (less_next (next_place m j) i ne) n) (minus (copy_riser c bs (next_place m j)) ∷ []) []));
           })
     ]
   ]

@@ -16,7 +16,7 @@ use Rattle.euler_laws.proofs.shared.Fans.{loop_after}
 use Rattle.shapes.specs.Fresh.{Taken}
 use Rattle.shapes.specs.Prism.{next_place}
 use Rattle.shapes.specs.Rewriting.{renamed}
-use Rattle.split_opening_laws.specs.strips.Strips.{riser, copied, raised_items, copies_raised}
+use Rattle.split_opening_laws.specs.strips.Strips.{copy_riser, copied, raised_items, copies_raised}
 use Rattle.split_opening_laws.specs.strips.StripOps.{place_before}
 use Rattle.split_opening_laws.specs.strips.Opened.{CanBeOpened}
 use Rattle.split_opening_laws.proofs.strips.Cycle as on
@@ -100,7 +100,7 @@ module _ (M : Model) (above : List ℕ) (s : ℕ) (c : Taken) (bs : List ℕ) (w
   -- ---- the last one above
 
   pub last_items : raised_items c bs i p ≡ (k ∷ raised.rise_part M above s c bs w i sound p) ++ minus (c.edge + suc p) ∷ []
-  last_items = ap (λ b. (k ∷ raised.rise_part M above s c bs w i sound p) ++ minus (c.edge + suc p) ∷ cond b (minus (riser c bs (next_place m p)) ∷ []) [])
+  last_items = ap (λ b. (k ∷ raised.rise_part M above s c bs w i sound p) ++ minus (c.edge + suc p) ∷ cond b (minus (copy_riser c bs (next_place m p)) ∷ []) [])
       (not_less (next_place m p) i (omega (arith, next-before m i lt)))
 
   after_last : after N (minus (c.edge + suc p)) ≡ k
@@ -171,10 +171,10 @@ module _ (M : Model) (above : List ℕ) (s : ℕ) (c : Taken) (bs : List ℕ) (w
   pub back_start : (j : ℕ) → j < m → tail N (minus (c.edge + suc j)) ≡ x → j ≡ i
   back_start j below at = on.starts_differ M above s c bs w j i below lt (copy.copy_back M above s c bs w i (tail M (get_or bs j 0)) x x_low (sym (raised.back_tail M above s c bs w i sound j below) ∙ at))
 
-  rise_start : (j : ℕ) → j < i → tail N (plus (riser c bs j)) ≡ x → ⊥
+  rise_start : (j : ℕ) → j < i → tail N (plus (copy_riser c bs j)) ≡ x → ⊥
   rise_start j less at = let q = on.starts_differ M above s c bs w j i (omega (arith, less, lt)) lt (sym (raised.rise_tail M above s c bs w i sound j less) ∙ at) in omega (arith, q, less)
 
-  fall_start : (j : ℕ) → j < i → tail N (minus (riser c bs j)) ≡ x → ⊥
+  fall_start : (j : ℕ) → j < i → tail N (minus (copy_riser c bs j)) ≡ x → ⊥
   fall_start j less at = omega (arith, raised.fall_tail M above s c bs w i sound j less, at, x_low)
 
   stays_up : (h : ℕ) → HasHalf N h → tail N h ≡ x → side h ≡ true → (round N h ≡ k) ⊎ (side (round N h) ≡ true)

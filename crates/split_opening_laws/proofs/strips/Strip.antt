@@ -26,7 +26,7 @@ use Rattle.sweeps_laws.proofs.prism.Steps.{edge_plus}
 use Rattle.shapes.specs.Fresh.{Taken}
 use Rattle.shapes.specs.Rewriting.{rewritten_row, renamed}
 use Rattle.shapes.proofs.glue.Swapped.{row_stays, row_turns}
-use Rattle.split_opening_laws.specs.strips.Strips.{with_rows, put_out, strip_face, strip_loop, strip_edge, strips_cut}
+use Rattle.split_opening_laws.specs.strips.Strips.{with_rows, put_out, strip_face, strip_row, strip_edge, strips_cut}
 use Rattle.split_opening_laws.specs.strips.StripOps.{cut_strip}
 use Rattle.split_opening_laws.specs.strips.Opened.{CanBeOpened}
 use Rattle.split_opening_laws.proofs.strips.Rows.{rows_low, rows_high, rows_same, rows_map}
@@ -47,7 +47,7 @@ module _ (M : Model) (above : List ℕ) (s : ℕ) (c : Taken) (bs : List ℕ) (w
   -- ---- what stays in the model with i strips
 
   module _ (i : ℕ) where
-    pub cut_loops : (strips_cut M s c bs i).loops ≡ with_rows (table.map_rows (rewritten_row (map (renamed (put_out c bs i)))) M.loops) c.loop (strip_loop c bs) i
+    pub cut_loops : (strips_cut M s c bs i).loops ≡ with_rows (table.map_rows (rewritten_row (map (renamed (put_out c bs i)))) M.loops) c.loop (strip_row c bs) i
     unfolding strips_cut
     cut_loops = refl
 
@@ -120,7 +120,7 @@ module _ (M : Model) (above : List ℕ) (s : ℕ) (c : Taken) (bs : List ℕ) (w
     face_free = ap (λ t. table.get t f) (cut_faces i) ∙ rows_high M.faces c.face (strip_face s c) i f (omega arith) ∙ w.faces_free f (omega arith)
 
     loop_free : table.get N.loops l ≡ None
-    loop_free = ap (λ t. table.get t l) (cut_loops i) ∙ rows_high (table.map_rows (rewritten_row (map (renamed (put_out c bs i)))) M.loops) c.loop (strip_loop c bs) i l (omega arith)
+    loop_free = ap (λ t. table.get t l) (cut_loops i) ∙ rows_high (table.map_rows (rewritten_row (map (renamed (put_out c bs i)))) M.loops) c.loop (strip_row c bs) i l (omega arith)
         ∙ table.get-map_rows (rewritten_row (map (renamed (put_out c bs i)))) M.loops l ∙ ap (option_map (rewritten_row (map (renamed (put_out c bs i))) l)) (w.loops_free l (omega arith))
 
     goes : MefGoes N a k (plus e) f l
@@ -155,7 +155,7 @@ module _ (M : Model) (above : List ℕ) (s : ℕ) (c : Taken) (bs : List ℕ) (w
     kept = places.out_other M above s c bs w i a (λ j less below same. let z = on.mates_differ M above s c bs w j i below lt same in omega (arith, z, less))
 
     place : (loop_of N a ≡ loop_of M a) × (face_at N a ≡ face_at M a)
-    place = subst (λ x. (loop_of N x ≡ loop_of M a) × (face_at N x ≡ face_at M a)) kept (places.old_place M above s c bs w N sound i i (strip_loop c bs) (cut_loops i) a a_old)
+    place = subst (λ x. (loop_of N x ≡ loop_of M a) × (face_at N x ≡ face_at M a)) kept (places.old_place M above s c bs w N sound i i (strip_row c bs) (cut_loops i) a a_old)
 
     in_xs : IsIn a xs
     in_xs = cycle_there N sound a a_there
@@ -174,7 +174,7 @@ module _ (M : Model) (above : List ℕ) (s : ℕ) (c : Taken) (bs : List ℕ) (w
     -- the row of a loop that was there
     row_next : (q : ℕ) (row : LoopRow) → table.get M.loops q ≡ Some row → where_held a turn q (rewritten_row (map old) q row) ≡ rewritten_row (map new) q row
     row_next q row at =
-        let here = places.old_loop M above s c bs w N sound i i (strip_loop c bs) (cut_loops i) q row at in
+        let here = places.old_loop M above s c bs w N sound i i (strip_row c bs) (cut_loops i) q row at in
         let more : (u : ℕ) → new u ≡ cond (nat_eq (old u) a) (plus e) (old u) = λ u. places.out_next M above s c bs w i u lt in
         elim (eqb_tells q (loop_of N a)) [
           | inl p ↦
@@ -191,20 +191,20 @@ module _ (M : Model) (above : List ℕ) (s : ℕ) (c : Taken) (bs : List ℕ) (w
         ]
 
     -- and of a strip
-    strip_stays : (j : ℕ) → j < i → where_held a turn (c.loop + suc j) (strip_loop c bs j) ≡ strip_loop c bs j
-    strip_stays j less = where_held_none a turn (c.loop + suc j) (strip_loop c bs j)
-        (other_loop N sound a (c.loop + suc j) (strip_loop c bs j)
-        (λ q. omega (arith, q, place.0, places.low_loop M above s c bs w N sound i i (strip_loop c bs) (cut_loops i) (loop_of M a) (ap is_some (row_of M w.sound a a_old))))
-        (places.new_loop M above s c bs w N sound i i (strip_loop c bs) (cut_loops i) j less))
+    strip_stays : (j : ℕ) → j < i → where_held a turn (c.loop + suc j) (strip_row c bs j) ≡ strip_row c bs j
+    strip_stays j less = where_held_none a turn (c.loop + suc j) (strip_row c bs j)
+        (other_loop N sound a (c.loop + suc j) (strip_row c bs j)
+        (λ q. omega (arith, q, place.0, places.low_loop M above s c bs w N sound i i (strip_row c bs) (cut_loops i) (loop_of M a) (ap is_some (row_of M w.sound a a_old))))
+        (places.new_loop M above s c bs w N sound i i (strip_row c bs) (cut_loops i) j less))
 
     loops_next : (mef N a k (plus e) f l).loops ≡ (strips_cut M s c bs (suc i)).loops
     unfolding mef
     loops_next =
         (λ n. table.put (table.map_rows (where_held a turn) (cut_loops i n)) l (record { face = f; content = cycle (canonical (parts.0 n ++ mate_plus e n ∷ [])) }))
-        ∙ ap (λ t. table.put t l (strip_loop c bs i)) (
-        rows_map (where_held a turn) (table.map_rows (rewritten_row (map old)) M.loops) c.loop (strip_loop c bs) i
-        ∙ rows_same (table.map_rows (where_held a turn) (table.map_rows (rewritten_row (map old)) M.loops)) c.loop (λ j. where_held a turn (c.loop + suc j) (strip_loop c bs j)) (strip_loop c bs) i strip_stays
-        ∙ ap (λ t. with_rows t c.loop (strip_loop c bs) i) (map_twice (where_held a turn) (rewritten_row (map old)) M.loops
+        ∙ ap (λ t. table.put t l (strip_row c bs i)) (
+        rows_map (where_held a turn) (table.map_rows (rewritten_row (map old)) M.loops) c.loop (strip_row c bs) i
+        ∙ rows_same (table.map_rows (where_held a turn) (table.map_rows (rewritten_row (map old)) M.loops)) c.loop (λ j. where_held a turn (c.loop + suc j) (strip_row c bs j)) (strip_row c bs) i strip_stays
+        ∙ ap (λ t. with_rows t c.loop (strip_row c bs) i) (map_twice (where_held a turn) (rewritten_row (map old)) M.loops
         ∙ map_alike (λ q row. where_held a turn q (rewritten_row (map old) q row)) (rewritten_row (map new)) M.loops row_next)
         )
         ∙ sym (cut_loops (suc i))

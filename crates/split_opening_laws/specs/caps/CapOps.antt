@@ -4,15 +4,15 @@ use Rattle.euler_operators.specs.HalfEdge.{half, plus, minus}
 use Rattle.euler_operators.specs.declared.Op.{Op}
 use Rattle.euler_operators.specs.declared.Op.TheVariants.{Kef, Kemr, Mfkrh}
 use Rattle.shapes.specs.Fresh.{Taken, numbers_after}
-use Rattle.split_opening_laws.specs.caps.Strips.{riser}
+use Rattle.split_opening_laws.specs.caps.Strips.{strip_riser}
 
 -- the n risers after the first go, so that the first strip takes in the n next ones
 abbrev pub joinings : Taken → ℕ → ℕ → List Op
 joinings c m n = map (λ e. Kef (half (minus e))) (numbers_after (c.edge + m + 1) n)
 
--- the first riser goes, and the ring that it leaves becomes a face
+-- the first strip_riser goes, and the ring that it leaves becomes a face
 abbrev pub partings : Taken → ℕ → List Op
-partings c m = Kemr (half (plus (riser c m 0))) (c.loop + m + 1) ∷ Mfkrh (c.loop + m + 1) (c.face + m + 1) ∷ []
+partings c m = Kemr (half (plus (strip_riser c m 0))) (c.loop + m + 1) ∷ Mfkrh (c.loop + m + 1) (c.face + m + 1) ∷ []
 
 -- of m strips two caps
 unfoldable pub cap_ops : Taken → ℕ → List Op

@@ -1,4 +1,4 @@
--- Strips joined into one, and that one parted along the first riser into the two caps.
+-- Strips joined into one, and that one parted along the first strip_riser into the two caps.
 use Rattle.std.specs.Prelude.{ℕ, suc, ◌+◌, ◌-◌, List, [], ◌∷◌, ◌++◌, map, reverse, length, take}
 use Rattle.euler_operators.specs.Rings.{canonical}
 use Rattle.euler_operators.specs.HalfEdge.{plus, minus}
@@ -7,11 +7,11 @@ use Rattle.euler_operators.specs.Model.{Model, cycle}
 use Rattle.shapes.specs.Fresh.{Taken, numbers_after}
 use Rattle.shapes.specs.Prism.{next_place}
 use Rattle.shapes.specs.Rewriting.{without_rows}
-use Rattle.split_opening_laws.specs.caps.Strips.{riser}
+use Rattle.split_opening_laws.specs.caps.Strips.{strip_riser}
 
--- the first strip with the n next ones: back along their mates, up the first riser, along their copies, and down the next riser
+-- the first strip with the n next ones: back along their mates, up the first strip_riser, along their copies, and down the next strip_riser
 abbrev pub joined_loop : Taken → List ℕ → ℕ → List ℕ
-joined_loop c hs n = let m = length hs in reverse (take (suc n) hs) ++ plus (riser c m 0) ∷ (map minus (numbers_after c.edge (suc n)) ++ minus (riser c m (next_place m n)) ∷ [])
+joined_loop c hs n = let m = length hs in reverse (take (suc n) hs) ++ plus (strip_riser c m 0) ∷ (map minus (numbers_after c.edge (suc n)) ++ minus (strip_riser c m (next_place m n)) ∷ [])
 
 -- the first strip has taken in the n next ones
 unfoldable pub joined_part : Model → Taken → List ℕ → ℕ → Model

@@ -1,6 +1,6 @@
 -- Strips, which are faces of four edges one beside the other along a cycle of section edges, and what is asked of them. Numbers are
 -- taken from c on: the strip at place i, from 0 on, of m has face c.face + i + 1, loop c.loop + i + 1 and edge c.edge + i + 1, its copy
--- of a section edge, and edge c.edge + m + i + 1, its riser.
+-- of a section edge, and edge c.edge + m + i + 1, its strip_riser.
 use Rattle.std.specs.Prelude.{◌≡◌, ◌≤◌, ◌<◌, ℕ, suc, ◌+◌, IsTrue, List, [], ◌∷◌, length, get_or, Some, None}
 use Rattle.euler_operators.specs.Rings.{canonical}
 use Rattle.euler_operators.specs.HalfEdge.{plus, minus}
@@ -11,12 +11,12 @@ use Rattle.shapes.specs.Fresh.{Taken}
 use Rattle.shapes.specs.Prism.{next_place}
 
 -- the edge that rises from the start of the strip at place i, of m strips in a ring
-abbrev pub riser : Taken → ℕ → ℕ → ℕ
-riser c m i = c.edge + m + suc i
+abbrev pub strip_riser : Taken → ℕ → ℕ → ℕ
+strip_riser c m i = c.edge + m + suc i
 
--- the strip at place i: the mate that is kept below, up its riser, back along the copy for above, and down the next riser
+-- the strip at place i: the mate that is kept below, up its strip_riser, back along the copy for above, and down the next strip_riser
 abbrev pub strip_loop : Taken → List ℕ → ℕ → List ℕ
-strip_loop c hs i = let m = length hs in get_or hs i 0 ∷ plus (riser c m i) ∷ minus (c.edge + suc i) ∷ minus (riser c m (next_place m i)) ∷ []
+strip_loop c hs i = let m = length hs in get_or hs i 0 ∷ plus (strip_riser c m i) ∷ minus (c.edge + suc i) ∷ minus (strip_riser c m (next_place m i)) ∷ []
 
 -- along the mates hs there are strips of solid s
 pub record HasStrips (N : Model) (s : ℕ) (c : Taken) (hs : List ℕ) : Type 0 where

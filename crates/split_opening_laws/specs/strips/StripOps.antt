@@ -6,7 +6,7 @@ use Rattle.euler_operators.specs.Model.{Model, tail, point_of, after}
 use Rattle.euler_operators.specs.declared.Op.{Op}
 use Rattle.euler_operators.specs.declared.Op.TheVariants.{Mev, Mef}
 use Rattle.shapes.specs.Fresh.{Taken}
-use Rattle.split_opening_laws.specs.strips.Strips.{riser, strips_cut}
+use Rattle.split_opening_laws.specs.strips.Strips.{copy_riser, strips_cut}
 
 -- the strip at a place: mef from ai up to what follows it in the model then
 abbrev pub cut_strip : Model → Taken → List ℕ → ℕ → Op
@@ -23,7 +23,7 @@ place_before n i = cond (nat_eq i 0) (n - 1) (i - 1)
 
 -- the copy at a place: mev from -ci up to the mate before ai
 abbrev pub raise_copy : Model → Taken → List ℕ → ℕ → Op
-raise_copy M c bs i = Mev (At (half (minus (c.edge + suc i)))) (At (half (mate (get_or bs (place_before (length bs) i) 0)))) (half (plus (riser c bs i)))
+raise_copy M c bs i = Mev (At (half (minus (c.edge + suc i)))) (At (half (mate (get_or bs (place_before (length bs) i) 0)))) (half (plus (copy_riser c bs i)))
     (c.vertex + suc i) (point_of M (tail M (get_or bs i 0)))
 
 -- the first i copies

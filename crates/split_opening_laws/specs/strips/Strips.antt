@@ -27,8 +27,8 @@ put_out c bs i = both_lists (map mate bs) (map plus (numbers_after c.edge i))
 abbrev pub strip_face : ℕ → Taken → ℕ → FaceRow
 strip_face s c j = record { solid = s; outer = c.loop + suc j }
 
-abbrev pub strip_loop : Taken → List ℕ → ℕ → LoopRow
-strip_loop c bs j = record { face = c.face + suc j; content = cycle (canonical (mate (get_or bs j 0) ∷ minus (c.edge + suc j) ∷ [])) }
+abbrev pub strip_row : Taken → List ℕ → ℕ → LoopRow
+strip_row c bs j = record { face = c.face + suc j; content = cycle (canonical (mate (get_or bs j 0) ∷ minus (c.edge + suc j) ∷ [])) }
 
 -- and ci has the ends of ai
 abbrev pub strip_edge : Model → List ℕ → ℕ → EdgeRow
@@ -38,15 +38,15 @@ strip_edge M bs j = record { plus_tail = tail M (mate (get_or bs j 0)); minus_ta
 unfoldable pub strips_cut : Model → ℕ → Taken → List ℕ → ℕ → Model
 strips_cut M s c bs i = record M {
   faces = with_rows M.faces c.face (strip_face s c) i;
-  loops = with_rows (table.map_rows (rewritten_row (map (renamed (put_out c bs i)))) M.loops) c.loop (strip_loop c bs) i;
+  loops = with_rows (table.map_rows (rewritten_row (map (renamed (put_out c bs i)))) M.loops) c.loop (strip_row c bs) i;
   edges = with_rows M.edges c.edge (strip_edge M bs) i;
 }
 
 -- ---- copies
 
 -- the edge Ei, from the vertex xi at a place to its copy yi
-abbrev pub riser : Taken → List ℕ → ℕ → ℕ
-riser c bs j = c.edge + length bs + suc j
+abbrev pub copy_riser : Taken → List ℕ → ℕ → ℕ
+copy_riser c bs j = c.edge + length bs + suc j
 
 abbrev pub riser_edge : Model → Taken → List ℕ → ℕ → EdgeRow
 riser_edge M c bs j = record { plus_tail = tail M (get_or bs j 0); minus_tail = c.vertex + suc j }
@@ -55,10 +55,10 @@ riser_edge M c bs j = record { plus_tail = tail M (get_or bs j 0); minus_tail = 
 abbrev pub copied : Model → Taken → List ℕ → ℕ → List (ℕ × ℕ)
 copied M c bs i = both_lists (map (tail M) bs) (numbers_after c.vertex i)
 
--- the loop of a strip then: ai, up its riser, back along -ci, and down the next riser, where these two stand
+-- the loop of a strip then: ai, up its copy_riser, back along -ci, and down the next copy_riser, where these two stand
 abbrev pub raised_items : Taken → List ℕ → ℕ → ℕ → List ℕ
 raised_items c bs i j = let k = next_place (length bs) j in
-    mate (get_or bs j 0) ∷ cond (nat_lt j i) (plus (riser c bs j) ∷ []) [] ++ minus (c.edge + suc j) ∷ cond (nat_lt k i) (minus (riser c bs k) ∷ []) []
+    mate (get_or bs j 0) ∷ cond (nat_lt j i) (plus (copy_riser c bs j) ∷ []) [] ++ minus (c.edge + suc j) ∷ cond (nat_lt k i) (minus (copy_riser c bs k) ∷ []) []
 
 abbrev pub raised_loop : Taken → List ℕ → ℕ → ℕ → LoopRow
 raised_loop c bs i j = record { face = c.face + suc j; content = cycle (canonical (raised_items c bs i j)) }

@@ -4,7 +4,7 @@ use Rattle.euler_operators.specs.Table as table
 use Rattle.euler_operators.specs.Model.{has_half, tail, loop_of, after, arc, content, items_of}
 use Rattle.euler_operators.specs.Sound.{HasHalf}
 use Rattle.euler_conditions.specs.Store.{Store, take_edge, take_vertex, with_lone}
-use Rattle.low_euler.specs.vertex_operators.Steps.{IsPlaced, HasLoop, taken_out, with_tails_at}
+use Rattle.low_euler.specs.vertex_operators.Steps.{LoopsStandApart, HasLoop, taken_out, with_tails_at}
 use Rattle.low_euler.proofs.vertex_operators_laws.EdgeSteps.{same_half, other_half}
 use Rattle.low_euler.proofs.vertex_operators_laws.KevSteps.{A, B, C, G, half_there, mate_there, half_looped, mate_looped, following_there, one_tail, placed_A, half_in, placed_B, mate_in, plus_loose, minus_loose, vertex_there, loop_there, loop_bare, kev_made, kev_lone_made}
 use Rattle.low_euler.proofs.vertex_operators.edges.kev.Goals as goal
@@ -42,7 +42,7 @@ take_half-requires-clause-placed c =
     ∙ ap (λ x. with_tails_at c.args.arena.now (arc c.args.arena.now.model x (code c.mate-mate.result)) c.tail-kept.result) (c.next-following.ensures.in_loop (half_looped c.args.arena.now c.args.half c.requires))
     ∙ ap (λ x. with_tails_at c.args.arena.now (arc c.args.arena.now.model (after c.args.arena.now.model (code c.args.half)) x) c.tail-kept.result) c.mate-mate.ensures
     ∙ ap (with_tails_at c.args.arena.now (arc c.args.arena.now.model (after c.args.arena.now.model (code c.args.half)) (mate (code c.args.half)))) c.tail-kept.ensures in
-    subst (λ (t : Store). IsPlaced t.model) (sym moved) (placed_A c.args.arena.now c.args.half c.requires)
+    subst (λ (t : Store). LoopsStandApart t.model) (sym moved) (placed_A c.args.arena.now c.args.half c.requires)
 
 pub take_half-requires-clause-half : goal.take_half-requires-clause-half
 take_half-requires-clause-half c =
@@ -59,7 +59,7 @@ take_half-requires-2-clause-placed c =
     ∙ ap (λ x. with_tails_at c.args.arena.now (arc c.args.arena.now.model (after c.args.arena.now.model (code c.args.half)) x) c.tail-kept.result) c.mate-mate.ensures
     ∙ ap (with_tails_at c.args.arena.now (arc c.args.arena.now.model (after c.args.arena.now.model (code c.args.half)) (mate (code c.args.half)))) c.tail-kept.ensures in
     let first : c.take_half.new.arena ≡ B c.args.arena.now c.args.half c.requires = c.take_half.ensures ∙ ap (λ t. taken_out t (code c.args.half)) moved in
-    subst (λ (t : Store). IsPlaced t.model) (sym first) (placed_B c.args.arena.now c.args.half c.requires)
+    subst (λ (t : Store). LoopsStandApart t.model) (sym first) (placed_B c.args.arena.now c.args.half c.requires)
 
 pub take_half-requires-2-clause-half : goal.take_half-requires-2-clause-half
 take_half-requires-2-clause-half c =
