@@ -1,3 +1,4 @@
+pub mod AsciiLaws
 pub mod LinesLaws
 pub mod LinesOf
 pub mod NameLaws

@@ -1,20 +1,11 @@
 -- Newlines, by index and by list.
-use Rattle.std.proofs.Common.{◌≡◌, ◌≢◌, ℕ, ◌+◌, ◌-◌, ◌<◌, ◌≤◌, true, false, List, [], ◌∷◌, ◌++◌, length, take, drop, get_or, refl, sym, ap, subst, ◌∙◌, arith, length-take, add-one, drop-cons, append_assoc}
-use Rattle.std.specs.Prelude.{slice_range, Some, None, Option, is_some}
+use Rattle.std.proofs.Common.{◌≡◌, inl, inr, ℕ, suc, ◌+◌, ◌-◌, ◌<◌, ◌≤◌, min, true, false, List, [], ◌∷◌, ◌++◌, length, take, drop, get_or, refl, sym, ap, subst, ◌∙◌, arith, add-one, drop-cons, le_refl}
+use Rattle.std.specs.Prelude.{slice_range, nat_lt}
 use Rattle.std.proofs.Math.Seq.{take-add}
+use Rattle.std.proofs.lemmas.Bool.{cases_Bool}
 use Rattle.std.proofs.lemmas.Bool.Decides.{nat_tests}
-use Rattle.std.proofs.lemmas.List.{take-append-drop, get_or-take, take-take, drop-take, drop-drop, length-drop, take_at}
-use Rattle.std.proofs.lemmas.List.Elements.{recursion_from_All, All-from_get_or}
-use Rattle.script_reader.specs.Newline.{Lacks, has_newline, FindsNewline}
-
-pub lacks_before : (xs : List ℕ) (i : ℕ) → ((k : ℕ) → k < i → get_or xs k 0 ≡ 10 → ⊥) → Lacks (take i xs)
-lacks_before xs i none = recursion_from_All (λ b. b ≢ 10) (take i xs) (All-from_get_or (λ b. b ≢ 10) (take i xs) 0 (λ k h. let low : k < i = omega (arith, length-take i xs) in rw get_or-take (none k low)))
-
-pub lacks_all : (xs : List ℕ) → ((k : ℕ) → k < length xs → get_or xs k 0 ≡ 10 → ⊥) → Lacks xs
-lacks_all xs none = recursion_from_All (λ b. b ≢ 10) xs (All-from_get_or (λ b. b ≢ 10) xs 0 none)
-
-pub is_newline : (xs : List ℕ) (i : ℕ) → i < length xs → get_or xs i 0 ≡ 10 → xs ≡ take i xs ++ 10 ∷ drop (i + 1) xs
-is_newline xs i h e = sym (take-append-drop i xs) ∙ ap (λ (ys : List ℕ). take i xs ++ ys) (rw (add-one, drop-cons xs i 0, e) refl)
+use Rattle.std.proofs.lemmas.List.{take-take, drop-drop, take_at, get_or-take, get_or-drop}
+use Rattle.script_reader.specs.Newline.{Lacks, has_newline, FirstNewline}
 
 pub Lacks-append : (xs ys : List ℕ) → Lacks xs → Lacks ys → Lacks (xs ++ ys)
 Lacks-append [] ys h k = k
@@ -38,13 +29,6 @@ has-newline (x ∷ xs) ys =
     let later = has-newline xs ys in
     grind (arith, nat_tests)
 
-pub has-append : (xs ys : List ℕ) → Lacks xs → has_newline (xs ++ ys) ≡ has_newline ys
-has-append [] ys h = refl
-has-append (x ∷ xs) ys h =
-    let later = has-append xs ys h.1 in
-    let here = h.0 in
-    grind (arith, nat_tests)
-
 -- ---- a part of a buffer
 
 -- a part in two parts
@@ -55,18 +39,12 @@ parts b s p e le le' =
     let back : drop (p - s) (drop s b) ≡ drop p b = drop-drop (p - s) s b ∙ ap (λ (n : ℕ). drop n b) at in
     ap (λ (n : ℕ). take n (drop s b)) long ∙ take-add (p - s) (e - p) (drop s b) ∙ ap (λ (xs : List ℕ). take (p - s) (drop s b) ++ take (e - p) xs) back
 
--- what stands before an index of a part, and behind it
+-- what stands before an index of a part
 take_part : (b : List ℕ) (s i e : ℕ) → s + i ≤ e → take i (slice_range b s e) ≡ slice_range b s (s + i)
 take_part b s i e h =
     let le : i ≤ e - s = omega arith in
     let same : s + i - s ≡ i = omega arith in
     rw (take-take i (e - s) (drop s b) le, same) refl
-
-drop_part : (b : List ℕ) (s i e : ℕ) → s + i + 1 ≤ e → drop (i + 1) (slice_range b s e) ≡ slice_range b (s + i + 1) e
-drop_part b s i e h =
-    let long : e - s ≡ (i + 1) + (e - (s + i + 1)) = omega arith in
-    let at : s + (i + 1) ≡ s + i + 1 = omega arith in
-    rw (long, drop-take, drop-drop, at) refl
 
 no_part : (b : List ℕ) (s : ℕ) → slice_range b s s ≡ []
 no_part b s = let none : s - s ≡ 0 = omega arith in rw none refl
@@ -78,30 +56,46 @@ lacks_none b s = subst Lacks (sym (no_part b s)) tt
 pub lacks_shorter : (b : List ℕ) (s p q : ℕ) → s ≤ q → q ≤ p → Lacks (slice_range b s p) → Lacks (slice_range b s q)
 lacks_shorter b s p q le le' h = Lacks-front (slice_range b s q) (slice_range b q p) (subst Lacks (parts b s q p le le') h)
 
--- the search goes on from p, and finds nothing
-pub lacks_whole : (b : List ℕ) (s p e : ℕ) → s ≤ p → p ≤ e → Lacks (slice_range b s p) → Lacks (slice_range b p e) → Lacks (slice_range b s e)
-lacks_whole b s p e le le' h k = subst Lacks (sym (parts b s p e le le')) (Lacks-append (slice_range b s p) (slice_range b p e) h k)
+-- ---- the first newline
 
--- the search goes on from p, and finds the newline at index i
-pub taken_line : (b : List ℕ) (s p i e : ℕ) → s ≤ p → p ≤ e → e ≤ length b → Lacks (slice_range b s p) → FindsNewline (slice_range b p e) (Some i)
-    → (slice_range b s e ≡ slice_range b s (p + i) ++ 10 ∷ slice_range b (p + i + 1) e) × Lacks (slice_range b s (p + i))
-taken_line b s p i e le le' fits h f =
-    let long : length (slice_range b p e) ≡ e - p = simp (length-take, length-drop) (omega arith) in
-    let in_part : p + i + 1 ≤ e = omega (arith, f.0) in
-    let front = take_part b p i e (omega arith) in
-    let back = drop_part b p i e in_part in
-    let line : slice_range b s (p + i) ≡ slice_range b s p ++ slice_range b p (p + i) = parts b s p (p + i) le (omega arith) in
-    let found : slice_range b p e ≡ slice_range b p (p + i) ++ 10 ∷ slice_range b (p + i + 1) e = f.1 ∙ rw (front, back) refl in (
-      parts b s p e le le' ∙ ap (λ (xs : List ℕ). slice_range b s p ++ xs) found ∙ sym (append_assoc (slice_range b s p) (slice_range b p (p + i)) (10 ∷ slice_range b (p + i + 1) e)) ∙ ap (λ (xs : List ℕ). xs ++ 10 ∷ slice_range b (p + i + 1) e) (sym line),
-      lacks_whole b s p (p + i) le (omega arith) h (subst Lacks front f.2),
-    )
+-- the search goes on from p
+pub goes_on : (b : List ℕ) (s p e at : ℕ) → s ≤ p → Lacks (slice_range b s p) → FirstNewline b p e at → FirstNewline b s e at
+goes_on b s p e at le lacks f = record {
+  low = omega (arith, le, f.low);
+  high = f.high;
+  before = subst Lacks (sym (parts b s p at le f.low)) (Lacks-append (slice_range b s p) (slice_range b p at) lacks f.before);
+  stands = f.stands;
+}
 
--- what the search from p says of the whole part
-pub found_is : (b : List ℕ) (s p e : ℕ) (r : Option ℕ) → s ≤ p → p ≤ e → e ≤ length b → Lacks (slice_range b s p) → FindsNewline (slice_range b p e) r → has_newline (slice_range b s e) ≡ is_some r
-found_is b s p e None le le' fits h f = has-lacks (slice_range b s e) (lacks_whole b s p e le le' h f)
-found_is b s p e (Some i) le le' fits h f =
-    let line = taken_line b s p i e le le' fits h f in
-    ap has_newline line.0 ∙ has-newline (slice_range b s (p + i)) (slice_range b (p + i + 1) e)
+-- there is none where there are no bytes
+pub of_nothing : (b : List ℕ) (s : ℕ) → FirstNewline b s s s
+of_nothing b s = record { low = le_refl s; high = le_refl s; before = subst Lacks (sym (no_part b s)) tt; stands = λ lt. absurd (omega (arith, lt)) }
+
+-- the last byte is dropped
+pub without_last : (b : List ℕ) (s e at : ℕ) → s < e → FirstNewline b s e at → FirstNewline b s (e - 1) (min at (e - 1))
+without_last b s e at some f = record {
+  low = omega (arith, f.low);
+  high = omega arith;
+  before = lacks_shorter b s at (min at (e - 1)) (omega (arith, f.low)) (omega arith) f.before;
+  stands = λ lt. let same : min at (e - 1) ≡ at = omega (arith, lt) in rw same (f.stands (omega (arith, lt)));
+}
+
+-- the bytes up to the newline, and those behind it
+pub taken_line : (b : List ℕ) (s e at : ℕ) → e ≤ length b → at < e → FirstNewline b s e at → slice_range b s e ≡ slice_range b s at ++ 10 ∷ slice_range b (at + 1) e
+taken_line b s e at fits lt f =
+    let long : e - at ≡ suc (e - (at + 1)) = omega (arith, lt) in
+    let first : slice_range b at e ≡ 10 ∷ slice_range b (at + 1) e = rw (long, add-one, drop-cons b at 0 (omega (arith, lt)), f.stands lt) refl in
+    parts b s at e f.low f.high ∙ ap (λ (xs : List ℕ). slice_range b s at ++ xs) first
+
+pub found_is : (b : List ℕ) (s e at : ℕ) → e ≤ length b → FirstNewline b s e at → nat_lt at e ≡ has_newline (slice_range b s e)
+found_is b s e at fits f = elim (cases_Bool (nat_lt at e)) [
+  | inl there ↦
+      let lt : at < e = grind (arith, nat_tests, there) in
+      there ∙ sym (ap has_newline (taken_line b s e at fits lt f) ∙ has-newline (slice_range b s at) (slice_range b (at + 1) e))
+  | inr none ↦
+      let same : at ≡ e = let high = f.high in grind (arith, nat_tests, none, high) in
+      none ∙ sym (has-lacks (slice_range b s e) (subst (λ (n : ℕ). Lacks (slice_range b s n)) same f.before))
+]
 
 -- ---- a vector whose items were lent twice: to move the unread bytes to the front, and to read behind them
 
@@ -129,3 +123,24 @@ still_lacks items d1 b1 d2 b2 len s p e le le' f1 moved f2 l1 front l2 h =
     let part : take (p - s) b2 ≡ slice_range items s p =
     sym (take-take (p - s) (e - s) b2 (omega arith)) ∙ ap (λ (xs : List ℕ). take (p - s) xs) kept ∙ take_part items s (p - s) e (omega arith) ∙ ap (λ (n : ℕ). slice_range items s n) at in
     rw (take_at b2 (drop (length b2) (take len (b1 ++ drop (length b1) items))) len l2, all) (subst Lacks (sym part) h)
+
+-- the newline that was found is at the same place of the unread bytes
+pub still_found : (items d1 b1 d2 b2 : List ℕ) (len s p e : ℕ) → e ≤ len → d1 ≡ items → take (e - s) b1 ≡ slice_range d1 s e
+    → d2 ≡ take len (b1 ++ drop (length b1) items) → length b1 ≡ len → take (e - s) b2 ≡ take (e - s) d2 → length b2 ≡ len → FirstNewline items s e p
+    → FirstNewline (take len (b2 ++ drop (length b2) (take len (b1 ++ drop (length b1) items)))) 0 (e - s) (p - s)
+still_found items d1 b1 d2 b2 len s p e fits f1 moved f2 l1 front l2 h =
+    let first : d2 ≡ b1 = f2 ∙ take_at b1 (drop (length b1) items) len l1 in
+    let kept : take (e - s) b2 ≡ slice_range items s e = front ∙ ap (λ (xs : List ℕ). take (e - s) xs) first ∙ moved ∙ ap (λ (xs : List ℕ). slice_range xs s e) f1 in
+    let low = h.low in
+    let high = h.high in
+    record {
+      low = omega arith;
+      high = omega (arith, low, high);
+      before = still_lacks items d1 b1 d2 b2 len s p e low high f1 moved f2 l1 front l2 h.before;
+      stands = λ lt.
+          let at : s + (p - s) ≡ p = omega (arith, low) in
+          let in_part : p - s < e - s = lt in
+          let there : get_or b2 (p - s) 0 ≡ get_or items p 0 =
+          sym (get_or-take (e - s) b2 (p - s) 0 in_part) ∙ ap (λ (xs : List ℕ). get_or xs (p - s) 0) kept ∙ get_or-take (e - s) (drop s items) (p - s) 0 in_part ∙ get_or-drop s items (p - s) 0 ∙ ap (λ (n : ℕ). get_or items n 0) at in
+          rw (take_at b2 (drop (length b2) (take len (b1 ++ drop (length b1) items))) len l2) (there ∙ h.stands (omega (arith, lt)));
+    }

@@ -1,5 +1,5 @@
 -- Newlines.
-use Rattle.std.specs.Prelude.{◌≡◌, ◌≢◌, ◌<◌, ◌+◌, ◌==◌, ◌||◌, ℕ, Bool, false, List, [], ◌∷◌, ◌++◌, length, take, drop, Option, Some, None}
+use Rattle.std.specs.Prelude.{◌≡◌, ◌≢◌, ◌≤◌, ◌<◌, ◌==◌, ◌||◌, ℕ, Bool, false, List, [], ◌∷◌, slice_range, slice_index}
 use Rattle.std.specs.List.{AllByRecursion}
 
 -- no byte of the list is a newline
@@ -10,7 +10,9 @@ abbrev pub has_newline : List ℕ → Bool
 has_newline [] = false
 has_newline (b ∷ bs) = b == 10 || has_newline bs
 
--- the index is that of the first newline
-abbrev pub FindsNewline : List ℕ → Option ℕ → Type 0
-FindsNewline xs None = Lacks xs
-FindsNewline xs (Some i) = (i < length xs) × (xs ≡ take i xs ++ 10 ∷ drop (i + 1) xs) × Lacks (take i xs)
+-- the index is that of the first newline from start on, or the end where none comes before it
+pub record FirstNewline (bytes : List ℕ) (start end at : ℕ) : Type 0 where
+  pub low : start ≤ at
+  pub high : at ≤ end
+  pub before : Lacks (slice_range bytes start at)
+  pub stands : at < end → slice_index bytes at ≡ 10

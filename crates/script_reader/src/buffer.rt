@@ -3,8 +3,9 @@ ghost use Rattle.std.specs.Prelude.{◌≡◌, ◌≢◌, ◌≤◌, ◌<◌, �
 ghost use Rattle.std.specs.Io.{ReadsAtMost};
 ghost use Rattle.std.specs.Io.KnownBytes.{Consumes, Keeps, IsAtEnd, ReadConsumes};
 ghost use Rattle.std.specs.IoError.{error_kind};
-ghost use Rattle.script_reader.specs.Newline.{FindsNewline};
+ghost use Rattle.script_reader.specs.Newline.{FirstNewline};
 
+use memchr::memchr;
 use std::alloc::{AllocError, Global};
 use std::io::{self, ErrorKind, Read};
 use std::marker::Model;
@@ -25,14 +26,14 @@ pub struct Buffer {
     line_start: usize,
     line_end: usize,
     start: usize,
-    /// Before it no unread byte is a newline.
-    searched: usize,
+    /// Where the first unread newline is, or the end.
+    newline: usize,
     end: usize,
 }
 
 impl Model for Buffer {
     ghost use Rattle.std.specs.Prelude.{◌≡◌, ◌≤◌, slice_range, vec_len};
-    ghost use Rattle.script_reader.specs.Newline.{Lacks};
+    ghost use Rattle.script_reader.specs.Newline.{FirstNewline};
     ghost use Rattle.script_reader.specs.Buffer.{Holding};
 
     ghost Value = { Holding };
@@ -42,9 +43,8 @@ impl Model for Buffer {
       line = slice_range b.bytes.items b.line_start b.line_end;
     } };
 
-    ghost invariant = { λ b. (b.start ≤ b.searched) × (b.searched ≤ b.end) × (b.end ≤ 131072)
-        × (b.line_start ≤ b.line_end) × (b.line_end ≤ 131072) × (vec_len b.bytes ≡ 131072)
-        × Lacks (slice_range b.bytes.items b.start b.searched) };
+    ghost invariant = { λ b. FirstNewline b.bytes.items b.start b.end b.newline × (b.end ≤ 131072)
+        × (b.line_start ≤ b.line_end) × (b.line_end ≤ 131072) × (vec_len b.bytes ≡ 131072) };
 }
 
 impl Buffer {
@@ -61,7 +61,7 @@ impl Buffer {
             line_start: 0,
             line_end: 0,
             start: 0,
-            searched: 0,
+            newline: 0,
             end: 0,
         })
     }
@@ -85,7 +85,7 @@ impl Buffer {
     pub fn has_newline(&self) -> bool
         ensures { result ≡ has_newline self.now.unread }
     {
-        newline(&self.bytes[self.searched..self.end]).is_some()
+        self.newline < self.end
     }
 
     /// Drops all unread bytes.
@@ -93,7 +93,7 @@ impl Buffer {
         ensures { self.new.unread ≡ [] }
     {
         self.start = 0;
-        self.searched = 0;
+        self.newline = 0;
         self.end = 0;
     }
 
@@ -101,14 +101,13 @@ impl Buffer {
     pub fn take_line(&mut self) -> bool
         ensures { TakesLine self.old self.new result }
     {
-        let Some(len) = newline(&self.bytes[self.searched..self.end]) else {
-            self.searched = self.end;
+        if self.newline == self.end {
             return false;
-        };
+        }
         self.line_start = self.start;
-        self.line_end = self.searched + len;
-        self.start = self.line_end + 1;
-        self.searched = self.start;
+        self.line_end = self.newline;
+        self.start = self.newline + 1;
+        self.newline = first_newline(&self.bytes, self.start, self.end);
         true
     }
 
@@ -120,7 +119,7 @@ impl Buffer {
         self.line_start = self.start;
         self.line_end = self.end;
         self.start = self.end;
-        self.searched = self.end;
+        self.newline = self.end;
     }
 
     /// Drops the last unread byte.
@@ -129,7 +128,7 @@ impl Buffer {
         ensures { self.new.unread ≡ take (length self.old.unread - 1) self.old.unread }
     {
         self.end -= 1;
-        self.searched = self.searched.min(self.end);
+        self.newline = self.newline.min(self.end);
     }
 
     /// Reads at most so many bytes.
@@ -139,13 +138,14 @@ impl Buffer {
         ensures { ReadsMore self.old self.new (R.remaining reader.old) (R.remaining reader.new) most result }
     {
         shift(&mut self.bytes, self.start, self.end);
-        self.searched -= self.start;
+        self.newline -= self.start;
         self.end -= self.start;
         self.start = 0;
         self.line_start = 0;
         self.line_end = 0;
         let n = read_at(reader, &mut self.bytes, self.end, most)?;
         self.end += n;
+        self.newline = first_newline(&self.bytes, self.newline, self.end);
         Ok(n)
     }
 }
@@ -191,14 +191,14 @@ fn read_retrying<R: Read>(reader: &mut R, bytes: &mut [u8]) -> io::Result<usize>
     Err(io::Error::from(ErrorKind::TimedOut))
 }
 
-/// Where the first newline is.
-fn newline(bytes: &[u8]) -> Option<usize>
-    ensures { FindsNewline bytes.now result }
+/// Where the first newline of a range is, or its end.
+fn first_newline(bytes: &[u8], start: usize, end: usize) -> usize
+    requires low { start ≤ end }
+    requires high { end ≤ length bytes.now }
+    ensures { FirstNewline bytes.now start end result }
 {
-    for (i, byte) in bytes.iter().enumerate() {
-        if *byte == b'\n' {
-            return Some(i);
-        }
+    match memchr(b'\n', &bytes[start..end]) {
+        Some(len) => start + len,
+        None => end,
     }
-    None
 }

@@ -1,7 +1,7 @@
 //! Reads a line.
 ghost use Rattle.std.specs.Prelude.{◌≡◌};
 ghost use Rattle.script_reader.specs.Words.{words};
-ghost use Rattle.script_reader.specs.Grammar.{is_ascii, is_comment, command_of_words, command_of};
+ghost use Rattle.script_reader.specs.Grammar.{is_comment, command_of_words, command_of};
 ghost use Rattle.script_reader.specs.Short.{Tells};
 
 use super::command::{Command, Fault};
@@ -33,27 +33,15 @@ fn read_words(line: &[u8]) -> Result<Command, Fault>
     arguments(name, rest)
 }
 
-fn is_ascii(line: &[u8]) -> bool
-    ensures { result ≡ is_ascii line.now }
-{
-    let mut rest = line;
-    while let [first, others @ ..] = rest {
-        if *first > 127 {
-            return false;
-        }
-        rest = others;
-    }
-    true
-}
-
 /// The command of a line, which is given without its newline, or the line's first fault. It takes no memory.
+#[tactic(auto, using(crate::proofs::AsciiLaws::ascii_is))]
 pub fn read_line(line: &[u8]) -> Result<Command, Fault>
     ensures { result ≡ command_of line.now }
 {
     if line.len() > LINE_LIMIT {
         return Err(Fault::LongLine);
     }
-    if !is_ascii(line) {
+    if !line.is_ascii() {
         return Err(Fault::NotAscii);
     }
     read_words(line)
@@ -90,10 +78,11 @@ fn short_of_words(line: &[u8]) -> Short
 
 /// What `read_line` says of a blank line, a comment or the line of an operator, at less cost; `Other` of lines with a fault and of
 /// other commands. The line is given without its newline. It takes no memory.
+#[tactic(auto, using(crate::proofs::AsciiLaws::ascii_is))]
 pub fn read_short(line: &[u8]) -> Short
     ensures { Tells result (command_of line.now) }
 {
-    if line.len() > LINE_LIMIT || !is_ascii(line) {
+    if line.len() > LINE_LIMIT || !line.is_ascii() {
         return Short::Other;
     }
     short_of_words(line)

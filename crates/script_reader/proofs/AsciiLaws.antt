@@ -1,0 +1,25 @@
+-- Bytes below 128, by index and by list.
+use Rattle.std.proofs.Common.{◌≡◌, ℕ, zero, suc, ◌<◌, ◌≤◌, Bool, true, false, List, [], ◌∷◌, sym, refl, arith}
+use Rattle.std.specs.Prelude.{slice_index}
+use Rattle.std.specs.Bool.{MatchBool}
+use Rattle.std.specs.Str.{IsAscii, IsNotAscii}
+use Rattle.std.proofs.lemmas.Bool.Decides.{nat_tests}
+use Rattle.script_reader.specs.Grammar.{is_ascii}
+
+all_below : (line : List ℕ) → IsAscii line → is_ascii line ≡ true
+all_below [] all = refl
+all_below (b ∷ line) all =
+    let here : b < 128 = all 0 in
+    let later = all_below line (λ i. all (suc i)) in
+    grind (arith, nat_tests, here, later)
+
+one_above : (line : List ℕ) (i : ℕ) → 128 ≤ slice_index line i → is_ascii line ≡ false
+one_above [] i above = absurd (omega (arith, above))
+one_above (b ∷ line) zero above = grind (arith, nat_tests, above)
+one_above (b ∷ line) (suc i) above =
+    let later = one_above line i above in
+    grind (arith, nat_tests, later)
+
+pub ascii_is : (line : List ℕ) (is : Bool) → MatchBool is (IsAscii line) (IsNotAscii line) → is ≡ is_ascii line
+ascii_is line true all = sym (all_below line all)
+ascii_is line false some = sym (one_above line some.0 some.1)
