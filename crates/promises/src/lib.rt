@@ -4,6 +4,8 @@
 #![tactic(auto)]
 
 ghost use Rattle.promises.specs.Splices.{SplicesCut, SplicesJoin, SplicesKeepOthers};
+ghost use Rattle.split_laws.specs.Laws.{SplitsAreAccepted, SplitsMakeSplit, SplitAreSound};
+ghost use Rattle.split_laws.specs.measures.Laws.{PartsAreSolids, SplitsShareVolumes, SplitsKeepOthers, VerticesLieOnEitherSide};
 ghost use Rattle.sweeps.specs.BlockLaws.{BlocksAreAccepted, OperatorsMakeBlocks, BlocksAreSound};
 ghost use Rattle.sweeps.specs.Calls.{LaminasAreCalls, BlocksAreCalls, SweepsAreCalls};
 ghost use Rattle.sweeps.specs.JournalLaws.{HeldIsAtThePlace, AcceptedIsAppended, UndoMovesThePlace, RedoMovesThePlace, UndoGivesTheModelBefore, LargerCommandsAreCalls, HistoriesAreConsistent};
@@ -134,4 +136,29 @@ pub fn sweeps_add_their_prism()
     ensures others { OthersThanSwept }
 {
     sweeps::sweep_measures();
+}
+
+/// A split that isn't refused: none of its operators is, they make its model, and that is sound.
+pub fn splits_are_made()
+    ensures accepted { SplitsAreAccepted }
+    ensures made { SplitsMakeSplit }
+    ensures sound { SplitAreSound }
+{
+    split_laws::splits_make_split();
+}
+
+/// Both parts of a split are solids, whose six volumes sum to those that the solid had. Every other solid keeps its own.
+pub fn parts_share_the_volume()
+    ensures solids { PartsAreSolids }
+    ensures two { SplitsShareVolumes }
+    ensures others { SplitsKeepOthers }
+{
+    split_laws::parts_share_volumes();
+}
+
+/// No vertex of the part that keeps the solid's number lies above the plane, none of the new one below it.
+pub fn parts_lie_on_their_sides()
+    ensures { VerticesLieOnEitherSide }
+{
+    split_laws::parts_lie_on_either_side();
 }
