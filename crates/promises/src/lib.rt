@@ -3,6 +3,8 @@
 //! every list of calls.
 #![tactic(auto)]
 
+ghost use Rattle.gluing_laws.specs.Laws.{GlueAdds, OthersStay};
+ghost use Rattle.gluing_laws.specs.glue.Laws.{GluesAreAccepted, GluesMakeGlued, GluedAreSound};
 ghost use Rattle.promises.specs.Splices.{SplicesCut, SplicesJoin, SplicesKeepOthers};
 ghost use Rattle.split_laws.specs.Laws.{SplitsAreAccepted, SplitsMakeSplit, SplitAreSound};
 ghost use Rattle.split_laws.specs.measures.Laws.{PartsAreSolids, SplitsShareVolumes, SplitsKeepOthers, VerticesLieOnEitherSide};
@@ -136,6 +138,23 @@ pub fn sweeps_add_their_prism()
     ensures others { OthersThanSwept }
 {
     sweeps::sweep_measures();
+}
+
+/// A glue that isn't refused: none of its operators is, they make its model, and that is sound.
+pub fn glues_are_made()
+    ensures accepted { GluesAreAccepted }
+    ensures made { GluesMakeGlued }
+    ensures sound { GluedAreSound }
+{
+    gluing_laws::glues_make_glued();
+}
+
+/// The solid of the first face has the six volumes then that the two solids had together. Every solid that wasn't glued keeps its own.
+pub fn glued_solids_add_their_volumes()
+    ensures two { GlueAdds }
+    ensures others { OthersStay }
+{
+    gluing_laws::glues_add();
 }
 
 /// A split that isn't refused: none of its operators is, they make its model, and that is sound.
