@@ -4,3 +4,5 @@ mod RaisedLoops
 pub mod BlockSteps
 mod LoneLoops
 mod Tallies
+pub use Rattle.euler_operators.proofs.Cuts
+pub use Rattle.euler_operators.proofs.Leads

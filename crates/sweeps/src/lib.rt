@@ -10,6 +10,13 @@ mod raising;
 mod sweeping;
 
 pub use blocks::block;
+pub use euler_laws::{effects_are_sound, euler_number_grows, inverses_undo, runs_are_undone};
+pub use euler_operators::{Op, Point};
 pub use laminas::lamina;
 pub use laws::{block_measures, lamina_measures, larger_commands_are_calls, sweep_measures};
 pub use sweeping::sweep;
+pub use sweeps_laws::{operators_make_blocks, operators_make_lamina, sweeps_make_prisms};
+pub use undo_journal::{
+    Draft, Failure, Session, histories_are_consistent, machines_are_copies,
+    undo_gives_the_model_before,
+};

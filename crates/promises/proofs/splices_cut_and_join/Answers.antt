@@ -1,0 +1,6 @@
+use Rattle.sweeps.proofs.Cuts.{IsRing-cut, IsRing-join}
+use Rattle.sweeps.proofs.Leads.{IsRing-splice_other}
+use Rattle.promises.proofs.splices_cut_and_join.Goals as goal
+
+pub returns : goal.returns
+returns c = record { cut = IsRing-cut; join = IsRing-join; others = IsRing-splice_other }
