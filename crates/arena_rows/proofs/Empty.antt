@@ -1,10 +1,12 @@
--- The arena that holds nothing, the greatest number in use, and the room of numbers in use.
+-- The arena that holds nothing, the greatest number in use and the next one, and the room of numbers in use.
 use Rattle.std.proofs.Common.{◌-◌}
 use Rattle.arena_rows.proofs.ring_spots_laws.SpotTables.{edge_live, edge_has_room, codes_are}
 use Rattle.arena_rows.specs.Rows.{row_at, has_row}
 use Rattle.arena_rows.specs.ring_spots.Last.{IsLast, is_edge}
 use Rattle.arena_rows.proofs.ring_spots_laws.Lasts.{last_same}
-use Rattle.arena_rows.specs.Store.{within}
+use Rattle.boundary_model.specs.declared.Kind.{Kind}
+use Rattle.arena_rows.specs.Store.{Store, within, has_number, IsNextNumber}
+use Rattle.arena_rows.specs.Groups.{IsNext}
 use Rattle.arena_rows.specs.View.{Fits}
 use Rattle.arena_rows.proofs.Views.{row_within, row_not_zero}
 use Rattle.arena_rows.proofs.ring_spots_laws.SpotTables.{nothing, edge_has}
@@ -64,6 +66,11 @@ greatest_row f rows m last = last_same (has_row rows) (λ k. is_some (get (table
 
 pub greatest_edge : (sp : Spots) → AreRings sp → (m : ℕ) → IsLast (is_edge sp) m → IsLast (λ k. is_some (get (tabulate (edge_row sp) codes) k)) m
 greatest_edge sp R m last = last_same (is_edge sp) (λ k. is_some (get (tabulate (edge_row sp) codes) k)) m (λ k. edge_has sp R k) last
+
+-- the next number in use of a kind, which stands for what the rows have, or the edges
+pub next_number : (s : Store) (kind : Kind) (used : ℕ → Bool) → ((k : ℕ) → has_number s kind k ≡ used k) → (n : ℕ) (found : Option ℕ) → IsNext used n found → IsNextNumber s kind n found
+next_number s kind used same n None none = λ k a. same k ∙ none k a
+next_number s kind used same n (Some m) next = (next.0, same m ∙ next.1, λ k a b. same k ∙ next.2 k a b)
 
 -- ---- a number in use has its room
 
