@@ -1,29 +1,24 @@
--- The arena that holds nothing, the greatest number in use, and the room of numbers in use.
-use Rattle.std.proofs.Common.{◌-◌}
-use Rattle.arena_rows.proofs.ring_spots_laws.SpotTables.{edge_live, edge_has_room, codes_are}
-use Rattle.arena_rows.specs.Rows.{row_at, has_row}
+-- The arena that holds nothing, the greatest number in use and the next one, and the room of numbers in use.
+use Rattle.std.proofs.Common.{◌-◌, ◌≡◌, ◌≢◌, ℕ, ◌≤◌, Bool, true, false, cond, nat_eq, nat_lt, nat_le, ◌&&◌, List, [], Option, Some, None, is_some, sym, ap, ◌∙◌, arith, true≢false, length}
+use Rattle.arena_rows.proofs.ring_spots_laws.SpotTables.{edge_live, edge_has_room, codes_are, nothing, edge_has}
+use Rattle.arena_rows.specs.Rows.{row_at, has_row, table_of}
 use Rattle.arena_rows.specs.ring_spots.Last.{IsLast, is_edge}
 use Rattle.arena_rows.proofs.ring_spots_laws.Lasts.{last_same}
-use Rattle.arena_rows.specs.Store.{within}
-use Rattle.arena_rows.specs.View.{Fits}
-use Rattle.arena_rows.proofs.Views.{row_within, row_not_zero}
-use Rattle.arena_rows.proofs.ring_spots_laws.SpotTables.{nothing, edge_has}
-use Rattle.std.proofs.Common.{◌≡◌, ◌≢◌, ℕ, ◌≤◌, Bool, true, false, cond, nat_eq, nat_lt, nat_le, ◌&&◌, List, [], Option, Some, None, is_some, sym, ap, ◌∙◌, arith, true≢false}
+use Rattle.arena_rows.specs.Store.{within, empty_store, Store, has_number, IsNextNumber}
+use Rattle.arena_rows.specs.View.{Fits, store_of, RowsAreTied, solid_row, face_row, loop_row}
+use Rattle.arena_rows.proofs.Views.{row_within, row_not_zero, table_of-empty, fits-empty, has_is}
 use Rattle.std.proofs.lemmas.Bool.Decides.{nat_tests}
 use Rattle.std.proofs.lemmas.Bool.{and_from}
 use Rattle.boundary_model.specs.declared.Point.{Point}
 use Rattle.boundary_model.specs.HalfEdge.{plus, minus}
 use Rattle.boundary_model.specs.Table.{get, tabulate}
 use Rattle.boundary_model.specs.Model.{empty_model}
-use Rattle.arena_rows.specs.Store.{empty_store}
 use Rattle.arena_rows.specs.ring_spots.Spots.{Spots, codes, edges_end, live, label, ring, AreRings}
 use Rattle.boundary_model.specs.Items.{head_or}
 use Rattle.boundary_model.proofs.Tests.{and_false}
-use Rattle.arena_rows.specs.View.{store_of, RowsAreTied, solid_row, face_row, loop_row}
 use Rattle.arena_rows.specs.ring_spots.SpotTables.{edge_row, both_tails, edge_room, loose_row}
-use Rattle.arena_rows.specs.Rows.{table_of}
-use Rattle.std.proofs.Common.{length}
-use Rattle.arena_rows.proofs.Views.{table_of-empty, fits-empty, has_is}
+use Rattle.boundary_model.specs.declared.Kind.{Kind}
+use Rattle.arena_rows.specs.Groups.{IsNext}
 
 module _ (sp : Spots) (known : ℕ → Bool) (none : (q : ℕ) → sp q ≡ None) (unknown : (q : ℕ) → known q ≡ false) where
   dead : (c : ℕ) → live sp c ≢ true
@@ -64,6 +59,11 @@ greatest_row f rows m last = last_same (has_row rows) (λ k. is_some (get (table
 
 pub greatest_edge : (sp : Spots) → AreRings sp → (m : ℕ) → IsLast (is_edge sp) m → IsLast (λ k. is_some (get (tabulate (edge_row sp) codes) k)) m
 greatest_edge sp R m last = last_same (is_edge sp) (λ k. is_some (get (tabulate (edge_row sp) codes) k)) m (λ k. edge_has sp R k) last
+
+-- the next number in use of a kind, which stands for what the rows have, or the edges
+pub next_number : (s : Store) (kind : Kind) (used : ℕ → Bool) → ((k : ℕ) → has_number s kind k ≡ used k) → (n : ℕ) (found : Option ℕ) → IsNext used n found → IsNextNumber s kind n found
+next_number s kind used same n None none = λ k a. same k ∙ none k a
+next_number s kind used same n (Some m) next = (next.0, same m ∙ next.1, λ k a b. same k ∙ next.2 k a b)
 
 -- ---- a number in use has its room
 

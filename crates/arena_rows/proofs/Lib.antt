@@ -10,5 +10,6 @@ pub mod Rooms
 pub mod Empty
 pub mod Indexed
 pub mod Nexts
+pub mod groups_laws
 pub mod owner_chains_laws
 pub mod ring_spots_laws

@@ -4,4 +4,4 @@ pub mod SpotTables
 pub mod EdgeSpots
 pub mod Relabelling
 pub mod Lasts
-pub mod LastEdges
+pub mod LiveEdges

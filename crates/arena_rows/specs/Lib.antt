@@ -1,5 +1,6 @@
 pub mod Store
 pub mod Rows
+pub mod Groups
 pub mod View
 pub mod owner_chains
 pub mod ring_spots

@@ -1,3 +1,4 @@
 pub mod Spots
 pub mod SpotTables
 pub mod Last
+pub mod Edges

@@ -6,6 +6,7 @@
 //! joined, emptied and filled, and where edges come and go.
 #![tactic(auto)]
 
+mod groups;
 mod owner_chains;
 mod ring_spots;
 mod rows;

@@ -2,8 +2,10 @@
 ghost use Rattle.std.specs.Prelude.{◌≡◌, ℕ, ◌<◌, ◌≤◌, ◌-◌, ◌+◌, true, false, cond, nat_eq, is_some, List, [], length, OnOk, IfOk, Option, Some, None, IsSome};
 ghost use Rattle.arena_rows.specs.ring_spots.Last.{IsLast};
 ghost use Rattle.arena_rows.specs.Rows.{row_at, has_row, names};
+ghost use Rattle.arena_rows.specs.Groups.{IsNext, IsCounted};
 ghost use Rattle.arena_rows.specs.Store.{within};
 
+use crate::groups::{GROUP, find, next_row, previous_row, recount};
 use std::alloc::{AllocError, Global};
 use std::marker::Model;
 
@@ -36,12 +38,14 @@ pub struct LoopCell {
     pub held: Held,
 }
 
-/// Rows by number, with the greatest number that has one.
+/// Rows by number, with their counts by groups and by blocks of groups, and the greatest number that has one.
 ///
 /// A contract sees the list of the cells, one for each number from 0 on. Only `reach` and `copy` take memory.
 #[derive(Drop)]
 pub struct Rows<T: Copy> {
     cells: Vec<Option<T>>,
+    groups: Vec<Option<u32>>,
+    blocks: Vec<Option<u32>>,
     last: u32,
 }
 
@@ -50,12 +54,11 @@ impl<T: Copy> Model for Rows<T> {
 
     ghost Value = { List (Option T) };
 
-    ghost use Rattle.arena_rows.specs.Rows.{has_row};
-    ghost use Rattle.arena_rows.specs.ring_spots.Last.{IsLast};
+    ghost use Rattle.arena_rows.specs.Groups.{AreCounted};
 
     ghost view = { λ a. a.cells.items };
 
-    ghost invariant = { λ a. IsLast (has_row a.cells.items) a.last };
+    ghost invariant = { λ a. AreCounted a.cells.items a.groups.items a.blocks.items a.last };
 }
 
 impl<T: Copy> Rows<T> {
@@ -65,6 +68,8 @@ impl<T: Copy> Rows<T> {
     {
         Self {
             cells: Vec::new(alloc),
+            groups: Vec::new(alloc),
+            blocks: Vec::new(alloc),
             last: 0,
         }
     }
@@ -76,6 +81,8 @@ impl<T: Copy> Rows<T> {
     {
         Ok(Rows {
             cells: self.cells.as_slice().to_vec(alloc)?,
+            groups: self.groups.as_slice().to_vec(alloc)?,
+            blocks: self.blocks.as_slice().to_vec(alloc)?,
             last: self.last,
         })
     }
@@ -105,15 +112,29 @@ impl<T: Copy> Rows<T> {
         self.last
     }
 
-    /// Writes row n, or takes it away. Where the last row goes, it looks at each number below down to the next row.
+    /// The least number above n that has a row, or none. It looks at the rows of two groups at most, and at the groups of two
+    /// blocks.
+    pub fn after(&self, n: u32) -> Option<u32>
+        ensures { IsNext (has_row self.now) n result }
+    {
+        if n < self.last {
+            next_row(&self.cells, &self.groups, &self.blocks, n)
+        } else {
+            None
+        }
+    }
+
+    /// Writes row n, or takes it away. Where the last row goes, it looks for the next one below as `after` does.
     pub fn write(&mut self, n: u32, row: Option<T>)
         requires { n < length self.old }
         ensures rows { (q : ℕ) → row_at self.new q ≡ cond (nat_eq q n) row (row_at self.old q) }
         ensures len { length self.new ≡ length self.old }
     {
+        let was = find(&self.cells, n).is_some();
         self.cells[n as usize] = row;
+        recount(&mut self.groups, &mut self.blocks, n, was, row.is_some());
         if self.last <= n {
-            self.last = last_from(&self.cells, n);
+            self.last = last_from(&self.cells, &self.groups, &self.blocks, n);
         }
     }
 
@@ -132,6 +153,9 @@ impl<T: Copy> Rows<T> {
         ensures limit { (k : ℕ) → n < k → length self.old ≤ k → length self.new ≤ k }
         ensures ok { OnOk result (n < length self.new) }
     {
+        let group = n / GROUP;
+        reach(&mut self.blocks, group / GROUP)?;
+        reach(&mut self.groups, group)?;
         reach(&mut self.cells, n)
     }
 }
@@ -148,28 +172,22 @@ impl Rows<LoopCell> {
     }
 }
 
-fn find<T: Copy>(cells: &[Option<T>], n: u32) -> Option<T>
-    ensures { result ≡ row_at cells.now n }
-{
-    match cells.get(n as usize) {
-        Some(row) => *row,
-        None => None,
-    }
-}
-
 /// The greatest number that has a row, or 0 where none has. None above n has one.
-fn last_from<T: Copy>(cells: &[Option<T>], n: u32) -> u32
-    requires { (k : ℕ) → n < k → has_row cells.now k ≡ false }
+fn last_from<T: Copy>(
+    cells: &[Option<T>],
+    groups: &[Option<u32>],
+    blocks: &[Option<u32>],
+    n: u32,
+) -> u32
+    requires above { (k : ℕ) → n < k → has_row cells.now k ≡ false }
+    requires grouped { IsCounted cells.now groups.now }
+    requires counted { IsCounted groups.now blocks.now }
     ensures { IsLast (has_row cells.now) result }
 {
-    let mut m = n;
-    'down: while m > 0 {
-        if find(cells, m).is_some() {
-            return m;
-        }
-        m -= 1;
+    if find(cells, n).is_some() {
+        return n;
     }
-    m
+    previous_row(cells, groups, blocks, n).unwrap_or(0)
 }
 
 fn reach<T: Copy>(cells: &mut Vec<Option<T>>, n: u32) -> Result<(), AllocError>

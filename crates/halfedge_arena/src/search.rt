@@ -6,20 +6,18 @@ use crate::arena::Arena;
 use boundary_model::Kind;
 
 impl Arena {
-    /// The least number of a kind in use above n, or none. It looks at each number from n on to the one that it finds, or to
-    /// the greatest in use.
+    /// The least number of a kind in use above n, or none. It looks at a few hundred numbers and counts at most, and at one where
+    /// the next number is in use.
     pub fn after_number(&self, kind: Kind, n: u32) -> Option<u32>
         ensures { IsNextNumber self.now kind n result }
     {
-        let greatest = self.greatest(kind);
-        let mut m = n;
-        'up: while m < greatest {
-            m += 1;
-            if self.has(kind, m) {
-                return Some(m);
-            }
+        match kind {
+            Kind::Solid => self.solids.after(n),
+            Kind::Face => self.faces.after(n),
+            Kind::Loop => self.loops.after(n),
+            Kind::Edge => self.rings.edge_after(n),
+            Kind::Vertex => self.vertices.after(n),
         }
-        None
     }
 
     /// The greatest number of a kind in use, or 0 where none is. The number is kept, so this walks over nothing.

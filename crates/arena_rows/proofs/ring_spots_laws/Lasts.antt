@@ -1,5 +1,5 @@
 -- The greatest number in use where one number comes or goes.
-use Rattle.std.proofs.Common.{◌≡◌, ◌≢◌, ℕ, ◌≤◌, ◌<◌, Bool, true, false, ◌∙◌, arith, refl}
+use Rattle.std.proofs.Common.{◌≡◌, ◌≢◌, ℕ, ◌<◌, Bool, false, ◌∙◌, arith, refl}
 use Rattle.arena_rows.specs.ring_spots.Last.{IsLast}
 
 pub last_none : (used : ℕ → Bool) → ((k : ℕ) → used k ≡ false) → IsLast used 0
@@ -8,16 +8,9 @@ last_none used none = record { here = λ n. absurd (n refl); above = λ k h. non
 pub last_same : (used new : ℕ → Bool) (m : ℕ) → ((k : ℕ) → new k ≡ used k) → IsLast used m → IsLast new m
 last_same used new m same last = record { here = λ n. same m ∙ last.here n; above = λ k h. same k ∙ last.above k h }
 
--- nothing has changed but at n
-module _ (used new : ℕ → Bool) (m n : ℕ) (last : IsLast used m) (same : (k : ℕ) → k ≢ n → new k ≡ used k) where
-  pub last_kept : n < m → IsLast new m
-  last_kept below = record {
-    here = λ z. same m (λ e. omega arith) ∙ last.here z;
-    above = λ k h. same k (λ e. omega arith) ∙ last.above k h;
-  }
-
-  pub none_above : m ≤ n → (k : ℕ) → n < k → new k ≡ false
-  none_above most k h = same k (λ e. omega arith) ∙ last.above k (omega arith)
-
-  pub last_raised : m ≤ n → new n ≡ true → IsLast new n
-  last_raised most there = record { here = λ z. there; above = none_above most }
+-- nothing has changed but at n, which is less
+pub last_kept : (used new : ℕ → Bool) (m n : ℕ) → IsLast used m → ((k : ℕ) → k ≢ n → new k ≡ used k) → n < m → IsLast new m
+last_kept used new m n last same below = record {
+  here = λ z. same m (λ e. omega arith) ∙ last.here z;
+  above = λ k h. same k (λ e. omega arith) ∙ last.above k h;
+}

@@ -1,5 +1,5 @@
 -- What the map of the rings says of each code once it is changed.
-use Rattle.std.proofs.Common.{◌≡◌, ℕ, Bool, true, false, cond, nat_eq, Option, Some, None, is_some, Result, Ok, Err, OnOk, OnErr, refl, sym, ap, ◌∙◌, true≢false, eq-eqb, inl, inr}
+use Rattle.std.proofs.Common.{◌≡◌, ◌≢◌, ℕ, Bool, true, false, cond, nat_eq, Option, Some, None, is_some, Result, Ok, Err, OnOk, OnErr, refl, sym, ap, ◌∙◌, true≢false, eq-eqb, ne_eqb, inl, inr}
 use Rattle.std.proofs.lemmas.Bool.Decides.{eqb_tells}
 use Rattle.std.specs.FinMap.{get, insert, contains_key, empty}
 use Rattle.std.specs.FinMap as map
@@ -154,6 +154,12 @@ known-room m c q k = go (contains_key m c) where
   go true = k
   go false = known-insert m c None q ∙ ap (cond (nat_eq q c) true) k ∙ yes (nat_eq q c)
 
+pub known-room_other : (m : RingMap) (c q : ℕ) → q ≢ c → contains_key (with_room m c) q ≡ contains_key m q
+known-room_other m c q ne = go (contains_key m c) where
+  go : (b : Bool) → contains_key (cond b m (insert m c None)) q ≡ contains_key m q
+  go true = refl
+  go false = known-insert m c None q ∙ ap (λ b. cond b true (contains_key m q)) (ne_eqb q c ne)
+
 pub known_now : (m : RingMap) (c : ℕ) → contains_key (with_room m c) c ≡ true
 known_now m c = go (contains_key m c) refl where
   go : (b : Bool) → contains_key m c ≡ b → contains_key (cond b m (insert m c None)) c ≡ true
@@ -168,6 +174,10 @@ room_spots m new c (Err e) ok err = ap (λ (k : RingMap). spot k) err
 pub room_kept : {E : Type 0} (m new : RingMap) (c : ℕ) (r : Result (Unit {0}) E) → OnOk r (new ≡ with_room m c) → OnErr r (new ≡ m) → (q : ℕ) → contains_key m q ≡ true → contains_key new q ≡ true
 room_kept m new c (Ok u) ok err q k = ap (λ (n : RingMap). contains_key n q) ok ∙ known-room m c q k
 room_kept m new c (Err e) ok err q k = ap (λ (n : RingMap). contains_key n q) err ∙ k
+
+pub room_only : {E : Type 0} (m new : RingMap) (c : ℕ) (r : Result (Unit {0}) E) → OnOk r (new ≡ with_room m c) → OnErr r (new ≡ m) → (q : ℕ) → q ≢ c → contains_key new q ≡ contains_key m q
+room_only m new c (Ok u) ok err q ne = ap (λ (n : RingMap). contains_key n q) ok ∙ known-room_other m c q ne
+room_only m new c (Err e) ok err q ne = ap (λ (n : RingMap). contains_key n q) err
 
 pub room_ok : {E : Type 0} (m new : RingMap) (c : ℕ) (r : Result (Unit {0}) E) → OnOk r (new ≡ with_room m c) → OnOk r (contains_key new c ≡ true)
 room_ok m new c (Ok u) ok = ap (λ (n : RingMap). contains_key n c) ok ∙ known_now m c

@@ -1,28 +1,30 @@
-//! The rings of half-edges, with the greatest edge in use.
+//! The rings of half-edges, with the edges in use as rows.
 ghost use Rattle.std.specs.Prelude.{◌≡◌, ◌≤◌, ◌&&◌, nat_lt, nat_le, is_some, true, Some, OnOk, IfOk, ℕ};
 ghost use Rattle.std.specs.FinMap.{empty, contains_key};
 ghost use Rattle.raw_ring.specs.Rings.{spot, next_of, tail_of, label_of, IsLive, IsAsleep, IsPermutation};
 ghost use Rattle.boundary_model.specs.HalfEdge.{plus, minus};
 ghost use Rattle.arena_rows.specs.ring_spots.Spots.{live, ring, labelled, woken, asleep, spliced_at, retailed, AreRings};
 ghost use Rattle.arena_rows.specs.ring_spots.Last.{IsLast, is_edge};
+ghost use Rattle.arena_rows.specs.Groups.{IsNext};
 
 use crate::ring_spots::links;
+use crate::rows::Rows;
 use raw_ring::Rings;
 use std::alloc::{AllocError, Global};
 use std::marker::Model;
 
-/// Rings of half-edges, two for each edge, with the greatest edge in use.
+/// Rings of half-edges, two for each edge, with a row for each edge in use.
 ///
 /// A contract sees what stands at each known half-edge. Only `room_edge` and `copy` take memory.
 #[derive(Drop)]
 pub struct EdgeRings {
     rings: Rings,
-    last: u32,
+    edges: Rows<bool>,
 }
 
 impl Model for EdgeRings {
-    ghost use Rattle.raw_ring.specs.Rings.{RingMap, ring_map_code, spot};
-    ghost use Rattle.arena_rows.specs.ring_spots.Last.{IsLast, is_edge};
+    ghost use Rattle.raw_ring.specs.Rings.{RingMap, ring_map_code};
+    ghost use Rattle.arena_rows.specs.ring_spots.Edges.{AreEdges};
 
     ghost Value = { RingMap };
 
@@ -30,7 +32,7 @@ impl Model for EdgeRings {
 
     ghost view = { λ a. a.rings };
 
-    ghost invariant = { λ a. IsLast (is_edge (spot a.rings)) a.last };
+    ghost invariant = { λ a. AreEdges a.rings a.edges };
 }
 
 impl EdgeRings {
@@ -40,7 +42,7 @@ impl EdgeRings {
     {
         Self {
             rings: Rings::new(alloc),
-            last: 0,
+            edges: Rows::new(alloc),
         }
     }
 
@@ -50,7 +52,7 @@ impl EdgeRings {
     {
         Ok(EdgeRings {
             rings: self.rings.copy(alloc)?,
-            last: self.last,
+            edges: self.edges.copy(alloc)?,
         })
     }
 
@@ -65,7 +67,14 @@ impl EdgeRings {
     pub fn last_edge(&self) -> u32
         ensures { IsLast (is_edge (spot self.now)) result }
     {
-        self.last
+        self.edges.last()
+    }
+
+    /// The least edge in use above e, or none. It looks for it as `Rows::after` does.
+    pub fn edge_after(&self, e: u32) -> Option<u32>
+        ensures { IsNext (is_edge (spot self.now)) e result }
+    {
+        self.edges.after(e)
     }
 
     /// Whether both half-edges of an edge have their nodes.
@@ -84,13 +93,11 @@ impl EdgeRings {
         ensures known { contains_key self.new ≡ contains_key self.old }
     {
         links::wake_edge(&mut self.rings, e, a, b);
-        if self.last <= e {
-            self.last = e;
-        }
+        self.edges.write(e, Some(true));
     }
 
     /// Puts both half-edges of an edge to sleep, each of which is a ring of one. Where it was the greatest edge in use, it looks
-    /// at each number below it down to the next one.
+    /// for the next one below as `Rows::write` does.
     pub fn sleep_edge(&mut self, e: u32)
         requires limit { e ≤ 1000000 }
         requires first { next_of self.old (plus e) ≡ Some (plus e) }
@@ -99,9 +106,7 @@ impl EdgeRings {
         ensures known { contains_key self.new ≡ contains_key self.old }
     {
         links::sleep_edge(&mut self.rings, e);
-        if self.last <= e {
-            self.last = links::last_from(&self.rings, e);
-        }
+        self.edges.write(e, None);
     }
 
     /// Gives each item of a ring the label l.
@@ -140,6 +145,7 @@ impl EdgeRings {
         ensures kept { (c : ℕ) → contains_key self.old c ≡ true → contains_key self.new c ≡ true }
         ensures ok { OnOk result ((contains_key self.new (plus e) ≡ true) × (contains_key self.new (minus e) ≡ true)) }
     {
+        self.edges.reach(e)?;
         links::room_edge(&mut self.rings, e)
     }
 

@@ -1,10 +1,9 @@
 //! Edges as pairs of nodes.
-ghost use Rattle.std.specs.Prelude.{◌≡◌, ◌≤◌, ◌<◌, ◌&&◌, ◌*◌, ◌+◌, nat_lt, nat_le, is_some, true, false, Some, OnOk, ℕ};
+ghost use Rattle.std.specs.Prelude.{◌≡◌, ◌≢◌, ◌≤◌, ◌&&◌, ◌*◌, ◌+◌, nat_lt, nat_le, is_some, true, Some, OnOk, ℕ};
 ghost use Rattle.std.specs.FinMap.{contains_key};
 ghost use Rattle.raw_ring.specs.Rings.{spot, next_of, IsAsleep};
 ghost use Rattle.boundary_model.specs.HalfEdge.{plus, minus};
 ghost use Rattle.arena_rows.specs.ring_spots.Spots.{live, ring, labelled, woken, asleep, spliced_at, retailed, AreRings};
-ghost use Rattle.arena_rows.specs.ring_spots.Last.{IsLast, is_edge};
 
 use boundary_model::{HALF_EDGE_CODES, NUMBER_LIMIT};
 use raw_ring::Rings;
@@ -15,21 +14,6 @@ pub(crate) fn has_edge(rings: &Rings, e: u32) -> bool
     ensures { result ≡ nat_le e 1000000 && is_some (spot rings.now (plus e)) }
 {
     e <= NUMBER_LIMIT && rings.is_live(2 * e)
-}
-
-/// The greatest live edge, or 0 where none is live. No edge above e is.
-pub(crate) fn last_from(rings: &Rings, e: u32) -> u32
-    requires { (k : ℕ) → e < k → is_edge (spot rings.now) k ≡ false }
-    ensures { IsLast (is_edge (spot rings.now)) result }
-{
-    let mut m = e;
-    'down: while m > 0 {
-        if has_edge(rings, m) {
-            return m;
-        }
-        m -= 1;
-    }
-    m
 }
 
 /// Whether both half-edges of an edge have their nodes.
@@ -104,6 +88,7 @@ pub(crate) fn room_edge(rings: &mut Rings, e: u32) -> Result<(), AllocError>
     requires { e ≤ 1000000 }
     ensures spots { spot rings.new ≡ spot rings.old }
     ensures kept { (c : ℕ) → contains_key rings.old c ≡ true → contains_key rings.new c ≡ true }
+    ensures only { (q : ℕ) → q ≢ plus e → q ≢ minus e → contains_key rings.new q ≡ contains_key rings.old q }
     ensures ok { OnOk result ((contains_key rings.new (plus e) ≡ true) × (contains_key rings.new (minus e) ≡ true)) }
 {
     room_code(rings, 2 * e)?;
@@ -114,6 +99,7 @@ fn room_code(rings: &mut Rings, c: u32) -> Result<(), AllocError>
     requires { c ≤ 2000001 }
     ensures spots { spot rings.new ≡ spot rings.old }
     ensures kept { (q : ℕ) → contains_key rings.old q ≡ true → contains_key rings.new q ≡ true }
+    ensures only { (q : ℕ) → q ≢ c → contains_key rings.new q ≡ contains_key rings.old q }
     ensures ok { OnOk result (contains_key rings.new c ≡ true) }
 {
     rings.room(c)

@@ -1,0 +1,3 @@
+pub mod Uses
+pub mod Counted
+pub mod Writing

@@ -1,0 +1,97 @@
+-- The rows of the edges in use, where an edge comes or goes.
+use Rattle.std.proofs.Common.{◌≡◌, ◌≢◌, ℕ, ◌≤◌, ◌<◌, Bool, true, false, cond, nat_eq, nat_le, ◌&&◌, List, [], length, Option, Some, None, is_some, refl, sym, ap, subst, ◌∙◌, arith, eq-eqb, ne_eqb, true≢false, inl, inr}
+use Rattle.std.proofs.lemmas.Bool.{cases_eq}
+use Rattle.std.proofs.lemmas.Bool.Decides.{nat_tests}
+use Rattle.std.specs.FinMap.{contains_key}
+use Rattle.raw_ring.specs.Rings.{RingMap, spot, ring_of_one}
+use Rattle.boundary_model.specs.HalfEdge.{plus, minus}
+use Rattle.boundary_model.proofs.Tests.{and_false}
+use Rattle.arena_rows.specs.Rows.{row_at}
+use Rattle.arena_rows.specs.ring_spots.Spots.{Spots, live, woken, asleep, labelled, spliced_at, retailed}
+use Rattle.arena_rows.specs.ring_spots.Last.{is_edge}
+use Rattle.arena_rows.specs.ring_spots.Edges.{AreEdges}
+use Rattle.arena_rows.proofs.ring_spots_laws.SpotLaws.{live-labelled, live-spliced, live-retailed}
+use Rattle.arena_rows.proofs.ring_spots_laws.RingMaps.{no_codes, spot-empty, known-empty}
+
+module _ (sp new : Spots) (e : ℕ) where
+  edge_woken : (a b : ℕ) → e ≤ 1000000 → new ≡ woken (woken sp (plus e) a) (minus e) b → is_edge new e ≡ true
+  edge_woken a b limit is =
+      let most : nat_le e 1000000 ≡ true = grind (arith, nat_tests) in
+      let there : woken (woken sp (plus e) a) (minus e) b (plus e) ≡ Some (ring_of_one (plus e) a) =
+      ap (λ t. cond t (Some (ring_of_one (minus e) b)) (woken sp (plus e) a (plus e))) (ne_eqb (plus e) (minus e) (λ q. omega arith))
+      ∙ ap (λ t. cond t (Some (ring_of_one (plus e) a)) (sp (plus e))) (eq-eqb (plus e) (plus e) refl) in
+      ap (λ (s : Spots). is_edge s e) is ∙ (λ i. most i && is_some (there i))
+
+  other_woken : (a b : ℕ) → new ≡ woken (woken sp (plus e) a) (minus e) b → (k : ℕ) → k ≢ e → is_edge new k ≡ is_edge sp k
+  other_woken a b is k ne = ap (λ (s : Spots). is_edge s k) is ∙ ap (λ o. nat_le k 1000000 && is_some o) (
+      ap (λ t. cond t (Some (ring_of_one (minus e) b)) (woken sp (plus e) a (plus k))) (ne_eqb (plus k) (minus e) (λ q. omega arith))
+      ∙ ap (λ t. cond t (Some (ring_of_one (plus e) a)) (sp (plus k))) (ne_eqb (plus k) (plus e) (λ q. ne (omega arith))))
+
+  edge_asleep : new ≡ asleep (asleep sp (plus e)) (minus e) → is_edge new e ≡ false
+  edge_asleep is = ap (λ (s : Spots). is_edge s e) is ∙ ap (λ o. nat_le e 1000000 && is_some o) (
+      ap (λ t. cond t None (asleep sp (plus e) (plus e))) (ne_eqb (plus e) (minus e) (λ q. omega arith))
+      ∙ ap (λ t. cond t None (sp (plus e))) (eq-eqb (plus e) (plus e) refl)) ∙ and_false (nat_le e 1000000)
+
+  other_asleep : new ≡ asleep (asleep sp (plus e)) (minus e) → (k : ℕ) → k ≢ e → is_edge new k ≡ is_edge sp k
+  other_asleep is k ne = ap (λ (s : Spots). is_edge s k) is ∙ ap (λ o. nat_le k 1000000 && is_some o) (
+      ap (λ t. cond t None (asleep sp (plus e) (plus k))) (ne_eqb (plus k) (minus e) (λ q. omega arith))
+      ∙ ap (λ t. cond t None (sp (plus k))) (ne_eqb (plus k) (plus e) (λ q. ne (omega arith))))
+
+pub no_edges : (m : RingMap) (edges : List (Option Bool)) → m ≡ no_codes → edges ≡ [] → AreEdges m edges
+no_edges m edges a b = subst (λ (k : RingMap). AreEdges k edges) (sym a) (subst (λ (es : List (Option Bool)). AreEdges no_codes es) (sym b) (record {
+  live = λ e. sym (ap (λ o. nat_le e 1000000 && is_some o) (spot-empty (plus e)) ∙ and_false (nat_le e 1000000));
+  room = λ e l h. absurd (true≢false (sym h ∙ known-empty (plus e)));
+}))
+
+module _ (m : RingMap) (edges : List (Option Bool)) (A : AreEdges m edges) where
+  -- the same codes are live and known
+  edges_alike : (new : RingMap) → ((c : ℕ) → live (spot new) c ≡ live (spot m) c) → contains_key new ≡ contains_key m → AreEdges new edges
+  edges_alike new same known = record {
+    live = λ e. A.live e ∙ sym (ap (λ b. nat_le e 1000000 && b) (same (plus e)));
+    room = λ e l h. A.room e l (sym (ap (λ (k : ℕ → Bool). k (plus e)) known) ∙ h);
+  }
+
+  pub edges_labelled : (new : RingMap) (l : ℕ) (hs : List ℕ) → spot new ≡ labelled (spot m) l hs → contains_key new ≡ contains_key m → AreEdges new edges
+  edges_labelled new l hs is = edges_alike new (λ c. ap (λ (s : Spots). live s c) is ∙ live-labelled (spot m) l hs c)
+
+  pub edges_spliced : (new : RingMap) (a b : ℕ) → spot new ≡ spliced_at (spot m) a b → contains_key new ≡ contains_key m → AreEdges new edges
+  edges_spliced new a b is = edges_alike new (λ c. ap (λ (s : Spots). live s c) is ∙ live-spliced (spot m) a b c)
+
+  pub edges_retailed : (new : RingMap) (h t : ℕ) → spot new ≡ retailed (spot m) h t → contains_key new ≡ contains_key m → AreEdges new edges
+  edges_retailed new h t is = edges_alike new (λ c. ap (λ (s : Spots). live s c) is ∙ live-retailed (spot m) h t c)
+
+  -- edge e comes or goes, and its row with it
+  edges_turned : (new : RingMap) (rows : List (Option Bool)) (e : ℕ) (row : Option Bool) → is_edge (spot new) e ≡ is_some row → ((k : ℕ) → k ≢ e → is_edge (spot new) k ≡ is_edge (spot m) k) → contains_key new ≡ contains_key m →
+      ((q : ℕ) → row_at rows q ≡ cond (nat_eq q e) row (row_at edges q)) → length rows ≡ length edges → AreEdges new rows
+  edges_turned new rows e row here others known is len = record {
+    live = λ k. elim (cases_eq k e) [
+      | inl same ↦ ap is_some (is k ∙ ap (λ t. cond t row (row_at edges k)) (eq-eqb k e same)) ∙ sym (ap (is_edge (spot new)) same ∙ here)
+      | inr ne ↦ ap is_some (is k ∙ ap (λ t. cond t row (row_at edges k)) (ne_eqb k e ne)) ∙ A.live k ∙ sym (others k ne)
+    ];
+    room = λ k l h. let below : k < length edges = A.room k l (sym (ap (λ (p : ℕ → Bool). p (plus k)) known) ∙ h) in omega (arith, below, len);
+  }
+
+  pub edges_woken : (new : RingMap) (rows : List (Option Bool)) (e a b : ℕ) → e ≤ 1000000 → spot new ≡ woken (woken (spot m) (plus e) a) (minus e) b → contains_key new ≡ contains_key m →
+      ((q : ℕ) → row_at rows q ≡ cond (nat_eq q e) (Some true) (row_at edges q)) → length rows ≡ length edges → AreEdges new rows
+  edges_woken new rows e a b limit is = edges_turned new rows e (Some true) (edge_woken (spot m) (spot new) e a b limit is) (other_woken (spot m) (spot new) e a b is)
+
+  pub edges_asleep : (new : RingMap) (rows : List (Option Bool)) (e : ℕ) → spot new ≡ asleep (asleep (spot m) (plus e)) (minus e) → contains_key new ≡ contains_key m →
+      ((q : ℕ) → row_at rows q ≡ cond (nat_eq q e) None (row_at edges q)) → length rows ≡ length edges → AreEdges new rows
+  edges_asleep new rows e is = edges_turned new rows e None (edge_asleep (spot m) (spot new) e is) (other_asleep (spot m) (spot new) e is)
+
+  module _ (rows : List (Option Bool)) (same : (q : ℕ) → row_at rows q ≡ row_at edges q) (more : length edges ≤ length rows) where
+    -- there is room for more rows, and then for the nodes of an edge
+    pub edges_more : AreEdges m rows
+    edges_more = record {
+      live = λ e. ap is_some (same e) ∙ A.live e;
+      room = λ e l h. let below : e < length edges = A.room e l h in omega (arith, below, more);
+    }
+
+    pub edges_roomed : (new : RingMap) (n : ℕ) → n < length rows → spot new ≡ spot m → ((q : ℕ) → q ≢ plus n → q ≢ minus n → contains_key new q ≡ contains_key m q) → AreEdges new rows
+    edges_roomed new n there spots only = record {
+      live = λ e. edges_more.live e ∙ sym (ap (λ (s : Spots). is_edge s e) spots);
+      room = λ e l h. elim (cases_eq e n) [
+        | inl is ↦ omega (arith, is, there)
+        | inr ne ↦ edges_more.room e l (sym (only (plus e) (λ q. ne (omega arith)) (λ q. omega arith)) ∙ h)
+      ];
+    }

@@ -1,0 +1,12 @@
+-- The edges in use, as rows by number.
+use Rattle.std.specs.Prelude.{◌≡◌, ℕ, ◌<◌, ◌≤◌, Bool, true, List, length, Option}
+use Rattle.std.specs.FinMap.{contains_key}
+use Rattle.raw_ring.specs.Rings.{RingMap, spot}
+use Rattle.boundary_model.specs.HalfEdge.{plus}
+use Rattle.arena_rows.specs.Rows.{has_row}
+use Rattle.arena_rows.specs.ring_spots.Last.{is_edge}
+
+-- the edges that are live have their row, and each edge with a node has room for one
+pub record AreEdges (m : RingMap) (edges : List (Option Bool)) : Type 0 where
+  pub live : (e : ℕ) → has_row edges e ≡ is_edge (spot m) e
+  pub room : (e : ℕ) → e ≤ 1000000 → contains_key m (plus e) ≡ true → e < length edges
