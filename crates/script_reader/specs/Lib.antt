@@ -6,8 +6,8 @@ pub mod Newline
 pub mod Next
 pub mod Numbers
 pub mod Places
+pub mod Polygon
 pub mod Script
-pub mod Short
 pub mod State
 pub mod Words
 pub mod Ends

@@ -2,69 +2,18 @@
 ghost use Rattle.std.specs.Prelude.{◌≡◌};
 ghost use Rattle.script_reader.specs.Fault.{code_of};
 
-use arrayvec::ArrayVec;
+use super::polygon::Polygon;
 use euler_operators::{Op, Point};
-use std::marker::Model;
-
-/// The points of a lamina, in order: at most 64.
-#[derive(Drop)]
-pub struct Corners {
-    points: ArrayVec<Point, 64>,
-}
-
-impl Model for Corners {
-    ghost use Rattle.std.specs.Prelude.{List};
-    ghost use Rattle.euler_operators.specs.declared.Point.{Point};
-
-    ghost Value = { List Point };
-
-    ghost view = { λ c. c.points.items };
-}
-
-impl Corners {
-    ghost use Rattle.std.specs.Prelude.{◌≡◌, ◌<◌, [], ◌∷◌, ◌++◌, length, IsTrue, ◌↔◌};
-
-    /// No points.
-    pub(crate) fn new() -> Corners
-        ensures { result ≡ [] }
-    {
-        Corners {
-            points: ArrayVec::new(),
-        }
-    }
-
-    /// The points, for a call that takes them.
-    pub fn points(&self) -> &ArrayVec<Point, 64>
-        ensures { result.now.items ≡ self.now }
-    {
-        &self.points
-    }
-
-    /// Whether there is room for no further point.
-    pub(crate) fn is_full(&self) -> bool
-        ensures { IsTrue result ↔ (length self.now ≡ 64) }
-    {
-        self.points.is_full()
-    }
-
-    /// Appends a point.
-    pub(crate) fn push(&mut self, point: Point)
-        requires { length self.old < 64 }
-        ensures { self.new ≡ self.old ++ point ∷ [] }
-    {
-        self.points.push(point);
-    }
-}
 
 /// What a line of a script asks for. Numbers may be outside their ranges; who carries the command out tests them.
 #[derive(Drop)]
-pub enum Command {
+pub enum Command<'a> {
     /// A blank line or a comment.
     Nothing,
     /// One Euler operator.
     Act(Op),
     /// The new solid, and the points of its polygon.
-    Lamina(u32, Corners),
+    Lamina(u32, Polygon<'a>),
     /// The new solid, a corner, and the sizes along x, y and z.
     Block(u32, Point, i64, i64, i64),
     /// The face, and the vector by which it moves.

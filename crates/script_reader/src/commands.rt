@@ -7,12 +7,13 @@ ghost use Rattle.script_reader.specs.declared.name.Name.TheVariants as name;
 use super::command::{Command, Fault};
 use super::name::Name;
 use super::operators::{kef, kemr, kev, kfmrh, kvfs, mef, mekr, mev, mfkrh, mvfs, ringmv};
-use super::places::{number, point, points, whole};
+use super::places::{number, point, whole};
+use super::polygon::Polygon;
 use super::words::next_word;
 
 /// The command, where no word is left over.
-fn finish(command: Command, rest: &[u8]) -> Result<Command, Fault>
-    ensures { result ≡ read_all [] command (words rest.now) }
+pub(crate) fn finish<'a>(command: Command<'a>, rest: &[u8]) -> Result<Command<'a>, Fault>
+    ensures { result ≡ read_all [] command.entry (words rest.now) }
 {
     match next_word(rest) {
         None => Ok(command),
@@ -21,16 +22,16 @@ fn finish(command: Command, rest: &[u8]) -> Result<Command, Fault>
 }
 
 #[tactic(auto, unfolding(crate::specs::Grammar::arguments))]
-fn lamina(line: &[u8]) -> Result<Command, Fault>
+fn lamina(line: &[u8]) -> Result<Command<'_>, Fault>
     ensures { result ≡ arguments name.Lamina (words line.now) }
 {
     let (solid, rest) = number(line)?;
-    let corners = points(rest)?;
-    Ok(Command::Lamina(solid, corners))
+    let polygon = Polygon::read(rest)?;
+    Ok(Command::Lamina(solid, polygon))
 }
 
 #[tactic(auto, unfolding(crate::specs::Grammar::arguments))]
-fn block(line: &[u8]) -> Result<Command, Fault>
+fn block(line: &[u8]) -> Result<Command<'_>, Fault>
     ensures { result ≡ arguments name.Block (words line.now) }
 {
     let (solid, rest) = number(line)?;
@@ -42,7 +43,7 @@ fn block(line: &[u8]) -> Result<Command, Fault>
 }
 
 #[tactic(auto, unfolding(crate::specs::Grammar::arguments))]
-fn sweep(line: &[u8]) -> Result<Command, Fault>
+fn sweep(line: &[u8]) -> Result<Command<'_>, Fault>
     ensures { result ≡ arguments name.Sweep (words line.now) }
 {
     let (face, rest) = number(line)?;
@@ -51,7 +52,7 @@ fn sweep(line: &[u8]) -> Result<Command, Fault>
 }
 
 #[tactic(auto, unfolding(crate::specs::Grammar::arguments))]
-fn glue(line: &[u8]) -> Result<Command, Fault>
+fn glue(line: &[u8]) -> Result<Command<'_>, Fault>
     ensures { result ≡ arguments name.Glue (words line.now) }
 {
     let (kept, rest) = number(line)?;
@@ -60,7 +61,7 @@ fn glue(line: &[u8]) -> Result<Command, Fault>
 }
 
 #[tactic(auto, unfolding(crate::specs::Grammar::arguments))]
-fn split(line: &[u8]) -> Result<Command, Fault>
+fn split(line: &[u8]) -> Result<Command<'_>, Fault>
     ensures { result ≡ arguments name.Split (words line.now) }
 {
     let (solid, rest) = number(line)?;
@@ -73,7 +74,7 @@ fn split(line: &[u8]) -> Result<Command, Fault>
 }
 
 #[tactic(auto, unfolding(crate::specs::Grammar::arguments))]
-fn plane(line: &[u8]) -> Result<Command, Fault>
+fn plane(line: &[u8]) -> Result<Command<'_>, Fault>
     ensures { result ≡ arguments name.Plane (words line.now) }
 {
     let (face, rest) = number(line)?;
@@ -81,7 +82,7 @@ fn plane(line: &[u8]) -> Result<Command, Fault>
 }
 
 #[tactic(auto, unfolding(crate::specs::Grammar::arguments))]
-fn volume(line: &[u8]) -> Result<Command, Fault>
+fn volume(line: &[u8]) -> Result<Command<'_>, Fault>
     ensures { result ≡ arguments name.Volume (words line.now) }
 {
     let (solid, rest) = number(line)?;
@@ -89,7 +90,7 @@ fn volume(line: &[u8]) -> Result<Command, Fault>
 }
 
 #[tactic(auto, unfolding(crate::specs::Grammar::arguments))]
-fn count(line: &[u8]) -> Result<Command, Fault>
+fn count(line: &[u8]) -> Result<Command<'_>, Fault>
     ensures { result ≡ arguments name.Count (words line.now) }
 {
     let (solid, rest) = number(line)?;
@@ -97,42 +98,42 @@ fn count(line: &[u8]) -> Result<Command, Fault>
 }
 
 #[tactic(auto, unfolding(crate::specs::Grammar::arguments))]
-fn undo(line: &[u8]) -> Result<Command, Fault>
+fn undo(line: &[u8]) -> Result<Command<'_>, Fault>
     ensures { result ≡ arguments name.Undo (words line.now) }
 {
     finish(Command::Undo, line)
 }
 
 #[tactic(auto, unfolding(crate::specs::Grammar::arguments))]
-fn redo(line: &[u8]) -> Result<Command, Fault>
+fn redo(line: &[u8]) -> Result<Command<'_>, Fault>
     ensures { result ≡ arguments name.Redo (words line.now) }
 {
     finish(Command::Redo, line)
 }
 
 #[tactic(auto, unfolding(crate::specs::Grammar::arguments))]
-fn list(line: &[u8]) -> Result<Command, Fault>
+fn list(line: &[u8]) -> Result<Command<'_>, Fault>
     ensures { result ≡ arguments name.List (words line.now) }
 {
     finish(Command::List, line)
 }
 
 /// The command of this name, with the words in the rest of its line.
-pub fn arguments(name: Name, rest: &[u8]) -> Result<Command, Fault>
+pub fn arguments(name: Name, rest: &[u8]) -> Result<Command<'_>, Fault>
     ensures { result ≡ arguments name (words rest.now) }
 {
     match name {
-        Name::Mvfs => Ok(Command::Act(mvfs(rest)?)),
-        Name::Kvfs => Ok(Command::Act(kvfs(rest)?)),
-        Name::Mev => Ok(Command::Act(mev(rest)?)),
-        Name::Kev => Ok(Command::Act(kev(rest)?)),
-        Name::Mef => Ok(Command::Act(mef(rest)?)),
-        Name::Kef => Ok(Command::Act(kef(rest)?)),
-        Name::Kemr => Ok(Command::Act(kemr(rest)?)),
-        Name::Mekr => Ok(Command::Act(mekr(rest)?)),
-        Name::Kfmrh => Ok(Command::Act(kfmrh(rest)?)),
-        Name::Mfkrh => Ok(Command::Act(mfkrh(rest)?)),
-        Name::Ringmv => Ok(Command::Act(ringmv(rest)?)),
+        Name::Mvfs => mvfs(rest),
+        Name::Kvfs => kvfs(rest),
+        Name::Mev => mev(rest),
+        Name::Kev => kev(rest),
+        Name::Mef => mef(rest),
+        Name::Kef => kef(rest),
+        Name::Kemr => kemr(rest),
+        Name::Mekr => mekr(rest),
+        Name::Kfmrh => kfmrh(rest),
+        Name::Mfkrh => mfkrh(rest),
+        Name::Ringmv => ringmv(rest),
         Name::Lamina => lamina(rest),
         Name::Block => block(rest),
         Name::Sweep => sweep(rest),

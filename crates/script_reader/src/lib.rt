@@ -13,11 +13,13 @@ mod name;
 mod numbers;
 mod operators;
 mod places;
+mod polygon;
 mod words;
 
-pub use command::{Command, Corners, Fault};
+pub use command::{Command, Fault};
 pub use laws::{
     lines_and_words_are_parts, lines_come_in_order, reading_is_spelling, the_end_stays,
 };
-pub use line::{Short, read_line, read_short};
+pub use line::read_line;
 pub use lines::{Lines, NextLine};
+pub use polygon::{Corners, Polygon};

@@ -5,8 +5,9 @@ ghost use Rattle.script_reader.specs.Numbers.{number_of, whole_of};
 ghost use Rattle.script_reader.specs.Places.{Agrees, half_of, lone_of, corner_of, way_of, next_of, point_of, points_of};
 ghost use Rattle.script_reader.specs.declared.command.Fault.TheVariants.{BadWord, BadNumber};
 
-use super::command::{Corners, Fault};
+use super::command::Fault;
 use super::numbers::{number_of, whole_of};
+use super::polygon::Corners;
 use super::words::next_word;
 use euler_operators::{Corner, HalfEdge, Point};
 

@@ -9,7 +9,7 @@ ghost use Rattle.undo_journal.specs.Machine as machine;
 use crate::script_judging::larger::Larger;
 use euler_conditions::Arena;
 use euler_operators::{Op, Refusal};
-use script_reader::{Command, Short, read_line, read_short};
+use script_reader::{Command, read_line};
 use solid_listing::{Reply, WriteFault};
 use solid_measure::{counts, is_flat, plane, six_volume};
 use undo_journal::{Failure, Session};
@@ -160,13 +160,13 @@ fn count_reply(arena: &Arena, solid: u32) -> Result<Reply, Refusal>
 
 /// Answers a command, or puts a larger one in `later`.
 fn obey(session: &mut Session, command: Command, later: &mut Option<Larger>) -> Option<Answer>
-    ensures { Settles session.old command result session.new later.new }
+    ensures { Settles session.old command.entry result session.new later.new }
 {
     match command {
         Command::Nothing => Some(Answer::Silent),
         Command::Act(op) => Some(act(session, op)),
-        Command::Lamina(solid, corners) => {
-            *later = Some(Larger::Lamina(solid, corners));
+        Command::Lamina(solid, polygon) => {
+            *later = Some(Larger::Lamina(solid, polygon.corners()));
             None
         }
         Command::Block(solid, corner, dx, dy, dz) => {
@@ -194,25 +194,12 @@ fn obey(session: &mut Session, command: Command, later: &mut Option<Larger>) -> 
     }
 }
 
-/// Judges a line by its command.
-#[inline(never)]
-fn judge_command(session: &mut Session, line: &[u8], later: &mut Option<Larger>) -> Option<Answer>
+/// Judges a line: its answer, or none where it spells a larger command, which is put in `later`.
+pub fn judge(session: &mut Session, line: &[u8], later: &mut Option<Larger>) -> Option<Answer>
     ensures { Decides session.old line.now result session.new later.new }
 {
     match read_line(line) {
         Ok(command) => obey(session, command, later),
         Err(fault) => Some(Answer::Reply(Reply::Fault(fault.code()))),
-    }
-}
-
-/// Judges a line: its answer, or none where it spells a larger command, which is put in `later`. A blank line, a comment or an operator
-/// is answered without a command, which has room for a lamina's points and so costs more to make than most lines to answer.
-pub fn judge(session: &mut Session, line: &[u8], later: &mut Option<Larger>) -> Option<Answer>
-    ensures { Decides session.old line.now result session.new later.new }
-{
-    match read_short(line) {
-        Short::Nothing => Some(Answer::Silent),
-        Short::Act(op) => Some(act(session, op)),
-        Short::Other => judge_command(session, line, later),
     }
 }

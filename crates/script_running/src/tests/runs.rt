@@ -1,7 +1,6 @@
 //! Runs over readers and writers that cut, fail or never end.
 use super::streams::{Flushed, Halt, Interrupted, Pieces, Repeated, Taker};
 use crate::{RunFault, Summary, run};
-use script_reader::{Short, read_short};
 use std::alloc::Global;
 use std::process::Abort;
 use std::test::Fail;
@@ -196,12 +195,4 @@ fn each_flush_fails(rt: HostRuntime) {
         };
         assert_eq!(rt; ended, wanted, "after {left} flushes");
     }
-}
-
-/// Comments and operators are read without the whole grammar.
-#[test]
-fn short_lines(rt: HostRuntime) {
-    assert!(rt; matches!(read_short(b"# note"), Short::Nothing));
-    assert!(rt; matches!(read_short(b"kvfs 1"), Short::Act(_)));
-    assert!(rt; matches!(read_short(b"list"), Short::Other));
 }

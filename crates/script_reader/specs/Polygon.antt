@@ -1,0 +1,15 @@
+-- The points of a lamina's line.
+use Rattle.std.specs.Prelude.{ℕ, List, [], Result, Ok, Err}
+use Rattle.euler_operators.specs.declared.Point.{Point}
+use Rattle.script_reader.specs.Words.{words}
+use Rattle.script_reader.specs.Places.{Word, points_of}
+use Rattle.script_reader.specs.declared.command.Fault.{Fault}
+
+-- the points that were read, or none
+abbrev pub points_read : Result (List Point × List Word) Fault → List Point
+points_read (Ok x) = x.0
+points_read (Err f) = []
+
+-- the points that the words of a line say
+abbrev pub polygon_of : List ℕ → List Point
+polygon_of line = points_read (points_of 64 (words line))
