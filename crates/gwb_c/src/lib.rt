@@ -5,6 +5,7 @@
 #![tactic(auto)]
 
 mod answers;
+mod cycles;
 mod exports;
 mod fresh;
 mod handle;
@@ -15,7 +16,7 @@ mod reads;
 mod recalls;
 mod slot;
 
-pub use answers::{Counts, Refused, Wide};
+pub use answers::{Counts, PlaneRow, Refused, Wide};
 pub use fresh::Range;
 pub use handle::Gwb;
 pub use readers::{EdgeRow, FaceRow, Place};
