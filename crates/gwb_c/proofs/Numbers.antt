@@ -1,5 +1,5 @@
 -- What an arena tells of the model that it holds.
-use Rattle.std.proofs.Common.{◌≡◌, ℕ, false, List, [], Option, Some, None, is_some, unwrap_or, true≢false, refl, ap, subst}
+use Rattle.std.proofs.Common.{◌≡◌, ℕ, false, [], Option, Some, None, is_some, unwrap_or, true≢false, refl, ap, subst}
 use Rattle.euler_operators.specs.Items.{IsIn}
 use Rattle.euler_operators.specs.HalfEdge.{code}
 use Rattle.euler_operators.specs.Table.{has}

@@ -15,6 +15,8 @@ mod readers;
 mod reads;
 mod recalls;
 mod slot;
+#[cfg(test)]
+mod tests;
 
 pub use answers::{Counts, PlaneRow, Refused, Wide};
 pub use fresh::Range;

@@ -1,4 +1,4 @@
-use Rattle.std.proofs.Common.{◌≡◌, ◌∙◌, Option, Some, Result, Ok, refl, sym, subst}
+use Rattle.std.proofs.Common.{◌≡◌, ◌∙◌, Option, Some, refl, sym, subst}
 use Rattle.undo_journal.specs.Machine.{Machine}
 use Rattle.script_running.specs.script_judging.Judging.{Obeys, Answers, Judges}
 use Rattle.script_running.specs.script_judging.Settling.{spelled}
