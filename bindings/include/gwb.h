@@ -85,10 +85,16 @@ typedef struct gwb_counts {
     int64_t sum; /* vertices - edges + faces - rings */
 } gwb_counts;
 
+typedef struct gwb_plane {
+    gwb_wide a, b, c, d; /* on the plane a x + b y + c z + d is 0 */
+    uint32_t flat;       /* 1 where the face is flat, 0 where it is bent */
+} gwb_plane;
+
 uint32_t gwb_last_refusal(gwb *g, gwb_refusal *refusal);
 uint32_t gwb_last_fault(gwb *g, uint32_t *number);
 uint32_t gwb_last_volume(gwb *g, gwb_wide *six_volumes);
 uint32_t gwb_last_counts(gwb *g, gwb_counts *counts);
+uint32_t gwb_last_plane(gwb *g, gwb_plane *plane);
 
 typedef struct gwb_range {
     uint32_t first, last;
@@ -126,6 +132,10 @@ uint32_t gwb_lone_vertex(gwb *g, uint32_t loop, uint32_t *vertex);
 
 /* A half-edge of a loop. GWB_ABSENT also where the loop has one vertex and no edge. */
 uint32_t gwb_first_half_edge(gwb *g, uint32_t loop, uint32_t *half_edge);
+
+/* Writes the half-edges of a loop, from the least on, as far as there is room for them in `buf`, and returns how many there are: 0 where
+ * the loop has one vertex and no edge, or is not there. SIZE_MAX where the handle is closed; then nothing is written. */
+size_t gwb_half_edges(gwb *g, uint32_t loop, uint32_t *buf, size_t room);
 
 /* The half-edge after another in its loop. GWB_ABSENT where its edge is not there. */
 uint32_t gwb_next_half_edge(gwb *g, uint32_t half_edge, uint32_t *next);

@@ -8,6 +8,7 @@
 #include <stdexcept>
 #include <string>
 #include <string_view>
+#include <vector>
 
 namespace gwb_session {
 
@@ -99,6 +100,28 @@ public:
             throw std::bad_alloc();
         text.resize(length);
         return text;
+    }
+
+    // The plane of a face, and whether the face is flat.
+    gwb_plane plane(std::uint32_t face)
+    {
+        gwb_plane plane{};
+        run("plane " + std::to_string(face));
+        gwb_last_plane(&handle_, &plane);
+        return plane;
+    }
+
+    // The half-edges of a loop, from the least on: none where it has one vertex and no edge, or is not there.
+    std::vector<std::uint32_t> half_edges(std::uint32_t loop)
+    {
+        std::vector<std::uint32_t> found(16);
+        std::size_t count = gwb_half_edges(&handle_, loop, found.data(), found.size());
+        if (count > found.size()) {
+            found.resize(count);
+            gwb_half_edges(&handle_, loop, found.data(), count);
+        }
+        found.resize(count);
+        return found;
     }
 
     // How many commands can be undone, and how many redone.

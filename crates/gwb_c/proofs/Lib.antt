@@ -1,3 +1,5 @@
 pub mod Values
 pub mod HeldSteps
+pub mod Overlaid
+pub mod CycleRounds
 mod Numbers

@@ -1,11 +1,13 @@
 -- The last answer, as values.
-use Rattle.std.specs.Prelude.{ℕ, ℤ, ◌+ℤ◌, ◌*ℤ◌, Option, Some, None, get_or, pos}
+use Rattle.std.specs.Prelude.{ℕ, ℤ, ◌+ℤ◌, ◌*ℤ◌, cond, Option, Some, None, get_or, pos}
+use Rattle.euler_operators.specs.declared.Plane.{Plane}
 use Rattle.solid_listing.specs.declared.reply.Reply.TheVariants as reply
 use Rattle.script_running.specs.declared.script_judging.judging.Answer.{Answer}
 use Rattle.script_running.specs.declared.script_judging.judging.Answer.TheVariants.{Silent, Reply as Told, Listing}
 use Rattle.gwb_c.specs.declared.answers.Refused.{Refused}
 use Rattle.gwb_c.specs.declared.answers.Counts.{Counts}
 use Rattle.gwb_c.specs.declared.answers.Wide.{Wide}
+use Rattle.gwb_c.specs.declared.answers.PlaneRow.{PlaneRow}
 
 -- what a refusal names, if the answer is one
 abbrev pub refusal_in : Answer → Option Refused
@@ -55,6 +57,22 @@ volume_in (Told (reply.Volume n)) = Some n
 volume_in (Told (reply.Count ns)) = None
 volume_in Listing = None
 
+-- a plane, and 1 where its face is flat, else 0
+abbrev pub plane_in : Answer → Option (Plane × ℕ)
+plane_in Silent = None
+plane_in (Told reply.Done) = None
+plane_in (Told (reply.Refused n x)) = None
+plane_in (Told (reply.Fault n)) = None
+plane_in (Told reply.Memory) = None
+plane_in (Told (reply.Plane p flat)) = Some (p, cond flat 1 0)
+plane_in (Told (reply.Volume n)) = None
+plane_in (Told (reply.Count ns)) = None
+plane_in Listing = None
+
 -- the number of two halves, whose upper one has the sign
 abbrev pub whole : Wide → ℤ
 whole w = w.high *ℤ pos 18446744073709551616 +ℤ pos w.low
+
+-- a plane whose coefficients are in halves
+abbrev pub whole_plane : PlaneRow → Plane × ℕ
+whole_plane r = (record { a = whole r.a; b = whole r.b; c = whole r.c; d = whole r.d }, r.flat)

@@ -69,9 +69,13 @@ abbrev pub Numbers : (Machine → ℕ) → Option Slot → ℕ → Type 0
 Numbers f None n = n ≡ 2 ^ 64 - 1
 Numbers f (Some x) n = (s : Machine) → x.session ≡ Some s → n ≡ f s
 
+-- the items of the first list in the places of the second, as far as there is room; what they don't reach stays
+abbrev pub laid_over : List ℕ → List ℕ → List ℕ
+laid_over xs old = take (length old) xs ++ drop (length xs) old
+
 -- the text of the answer, as far as there is room, and its length; or memory was refused, and nothing is written
 abbrev pub Writes : List ℕ → List ℕ → List ℕ → ℕ → Type 0
-Writes text old new n = ((n ≡ length text) × (new ≡ take (length old) text ++ drop (length text) old)) ⊎ ((n ≡ 2 ^ 64 - 1) × (new ≡ old))
+Writes text old new n = ((n ≡ length text) × (new ≡ laid_over text old)) ⊎ ((n ≡ 2 ^ 64 - 1) × (new ≡ old))
 
 -- the text of the last answer; a closed handle has none
 abbrev pub Replies : Option Slot → List ℕ → List ℕ → ℕ → Type 0
@@ -111,3 +115,8 @@ Finds R (Some y) old new told = (s : Machine) → y.session ≡ Some s → ((tol
 abbrev pub GivesFresh : ℕ → Option Slot → Range → Range → ℕ → Type 0
 GivesFresh k None old new told = (told ≡ 9) × (new ≡ old)
 GivesFresh k (Some y) old new told = (s : Machine) → y.session ≡ Some s → Gives (fresh_in (taken_of y.before) (taken_in (held s)) k) old new told
+
+-- the items that the model held has, as far as there is room, and how many they are; a closed handle has none
+abbrev pub Lists : (Model → List ℕ) → Option Slot → List ℕ → List ℕ → ℕ → Type 0
+Lists f None old new n = (n ≡ 2 ^ 64 - 1) × (new ≡ old)
+Lists f (Some y) old new n = (s : Machine) → y.session ≡ Some s → (n ≡ length (f (held s))) × (new ≡ laid_over (f (held s)) old)

@@ -1,9 +1,10 @@
 //! The last answer, as values.
 ghost use Rattle.std.specs.Prelude.{◌≡◌, ◌+◌, ◌*◌, ◌<◌, ◌≤ℤ◌, pos, unsigned_abs};
-ghost use Rattle.gwb_c.specs.Answered.{refusal_in, fault_in, counts_in, volume_in, whole};
+ghost use Rattle.gwb_c.specs.Answered.{refusal_in, fault_in, counts_in, volume_in, plane_in, whole, whole_plane};
 ghost use Rattle.gwb_c.specs.Handle.{Gives, GivesBy};
 
 use crate::handle::{ABSENT, FOUND};
+use euler_operators::Plane;
 use script_running::Answer;
 use solid_listing::Reply;
 
@@ -32,6 +33,17 @@ pub struct Counts {
 pub struct Wide {
     pub high: i64,
     pub low: u64,
+}
+
+/// The plane of a face: the points at which `a x + b y + c z + d` is zero; and whether the face is flat, 1, or bent, 0.
+#[repr(C)]
+#[derive(Clone, Copy)]
+pub struct PlaneRow {
+    pub a: Wide,
+    pub b: Wide,
+    pub c: Wide,
+    pub d: Wide,
+    pub flat: u32,
 }
 
 /// A number that is not negative, in two halves.
@@ -129,6 +141,42 @@ pub(crate) fn give_wide(value: Option<i128>, out: &mut Wide) -> u32
     match value {
         Some(n) => {
             *out = halves(n);
+            FOUND
+        }
+        None => ABSENT,
+    }
+}
+
+/// The plane and whether its face is flat, if the answer tells them.
+pub(crate) fn plane_of(answer: &Answer) -> Option<(Plane, u32)>
+    ensures { result ≡ plane_in answer.now }
+{
+    match answer {
+        Answer::Reply(Reply::Plane(plane, flat)) => Some((*plane, u32::from(*flat))),
+        _ => None,
+    }
+}
+
+/// A plane whose coefficients are in halves.
+fn plane_row(plane: Plane, flat: u32) -> PlaneRow
+    ensures { whole_plane result ≡ (plane, flat) }
+{
+    PlaneRow {
+        a: halves(plane.a),
+        b: halves(plane.b),
+        c: halves(plane.c),
+        d: halves(plane.d),
+        flat,
+    }
+}
+
+/// Writes a plane that is there with its coefficients in halves, and says whether it is.
+pub(crate) fn give_plane(value: Option<(Plane, u32)>, out: &mut PlaneRow) -> u32
+    ensures { GivesBy whole_plane value out.old out.new result }
+{
+    match value {
+        Some((plane, flat)) => {
+            *out = plane_row(plane, flat);
             FOUND
         }
         None => ABSENT,

@@ -5,6 +5,7 @@
 #![tactic(auto)]
 
 mod answers;
+mod cycles;
 mod exports;
 mod fresh;
 mod handle;
@@ -14,8 +15,10 @@ mod readers;
 mod reads;
 mod recalls;
 mod slot;
+#[cfg(test)]
+mod tests;
 
-pub use answers::{Counts, Refused, Wide};
+pub use answers::{Counts, PlaneRow, Refused, Wide};
 pub use fresh::Range;
 pub use handle::Gwb;
 pub use readers::{EdgeRow, FaceRow, Place};

@@ -1,11 +1,12 @@
 //! Calls of C: the last answer, as values. Each says 1 where the value is there, and writes it; 0 where the last answer is of another
 //! kind, and 9 where there is no session: then nothing is written.
 ghost use Rattle.std.specs.Prelude.{◌≡◌};
-ghost use Rattle.gwb_c.specs.Answered.{refusal_in, fault_in, counts_in, volume_in, whole};
+ghost use Rattle.gwb_c.specs.Answered.{refusal_in, fault_in, counts_in, volume_in, plane_in, whole, whole_plane};
 ghost use Rattle.gwb_c.specs.Handle.{Recalls, RecallsBy};
 
 use crate::answers::{
-    Counts, Refused, Wide, counts_of, fault_of, give, give_wide, refusal_of, volume_of,
+    Counts, PlaneRow, Refused, Wide, counts_of, fault_of, give, give_plane, give_wide, plane_of,
+    refusal_of, volume_of,
 };
 use crate::handle::{CLOSED, Gwb, put, take};
 use std::alloc::Global;
@@ -62,6 +63,20 @@ pub extern "C" fn gwb_last_volume(alloc: Global, gwb: &mut Gwb, volume: &mut Wid
         return CLOSED;
     };
     let told = give_wide(volume_of(&slot.answer), volume);
+    put(gwb, slot);
+    told
+}
+
+/// The plane that the last answer told, and whether its face is flat.
+#[unsafe(no_mangle)]
+pub extern "C" fn gwb_last_plane(alloc: Global, gwb: &mut Gwb, plane: &mut PlaneRow) -> u32
+    ensures state { gwb.new.held.value ≡ gwb.old.held.value }
+    ensures value { RecallsBy whole_plane plane_in gwb.old.held.value plane.old plane.new result }
+{
+    let Some(slot) = take(alloc, gwb) else {
+        return CLOSED;
+    };
+    let told = give_plane(plane_of(&slot.answer), plane);
     put(gwb, slot);
     told
 }

@@ -1,8 +1,8 @@
 //! What a handle stands for, and what a line does to it.
-ghost use Rattle.std.specs.Prelude.{◌≡◌, ◌++◌, IfSome, IsSome, Some, length, take, drop};
+ghost use Rattle.std.specs.Prelude.{◌≡◌, IfSome, IsSome, Some, length};
 ghost use Rattle.script_running.specs.script_judging.Judging.{answer_text};
 ghost use Rattle.undo_journal.specs.Machine.{start};
-ghost use Rattle.gwb_c.specs.Handle.{Counts_in, Slot_hears, Slot_finishes, Slot_notes, status_of};
+ghost use Rattle.gwb_c.specs.Handle.{Counts_in, Slot_hears, Slot_finishes, Slot_notes, status_of, laid_over};
 
 use crate::fresh::counted;
 use script_running::{Answer, Larger, carry_out, judge};
@@ -126,7 +126,7 @@ pub(crate) fn text_of(alloc: Global, session: &Session, answer: &Answer) -> Opti
 /// Copies as much of a text as there is room for, and says how long it is.
 pub(crate) fn copy_front(text: &[u8], buf: &mut [u8]) -> usize
     ensures value { result ≡ length text.now }
-    ensures front { buf.new ≡ take (length buf.old) text.now ++ drop (length text.now) buf.old }
+    ensures front { buf.new ≡ laid_over text.now buf.old }
 {
     let n = text.len().min(buf.len());
     buf[..n].copy_from_slice(&text[..n]);

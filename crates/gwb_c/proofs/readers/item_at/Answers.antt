@@ -4,7 +4,7 @@ use Rattle.euler_conditions.proofs.Known.{filled}
 use Rattle.solid_listing.proofs.Contents.{told_there}
 use Rattle.solid_walks.proofs.face_walks_laws.HalfCodes.{edge_fits}
 use Rattle.gwb_c.specs.Reading.{IsItemOf}
-use Rattle.gwb_c.proofs.Numbers.{lone_item, ring_item}
+use Rattle.gwb_c.proofs.Numbers.{ring_item}
 use Rattle.gwb_c.proofs.readers.item_at.Goals as goal
 
 pub content-requires-clause-filled : goal.content-requires-clause-filled

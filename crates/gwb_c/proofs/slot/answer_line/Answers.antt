@@ -1,8 +1,7 @@
-use Rattle.std.proofs.Common.{◌≡◌, ◌∙◌, Option, Some, Result, Ok, refl, sym, subst}
+use Rattle.std.proofs.Common.{◌≡◌, ◌∙◌, Option, Some, refl, sym, subst}
 use Rattle.undo_journal.specs.Machine.{Machine}
 use Rattle.script_running.specs.script_judging.Judging.{Obeys, Answers, Judges}
 use Rattle.script_running.specs.script_judging.Settling.{spelled}
-use Rattle.script_reader.specs.Grammar.{command_of}
 use Rattle.gwb_c.proofs.slot.answer_line.Goals as goal
 
 same : (s t : Machine) (o : Option Machine) → o ≡ Some s → o ≡ Some t → s ≡ t

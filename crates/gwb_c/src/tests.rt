@@ -1,0 +1,155 @@
+//! The calls over worked scripts, and as they answer a caller who has too little room, too long a line or no session.
+use crate::answers::{PlaneRow, Refused, Wide};
+use crate::exports::{gwb_ahead, gwb_close, gwb_depth, gwb_line, gwb_open, gwb_reply};
+use crate::fresh::Range;
+use crate::handle::{Gwb, closed};
+use crate::readers::FaceRow;
+use crate::reads::{gwb_face, gwb_fresh, gwb_half_edges, gwb_number_after};
+use crate::recalls::{gwb_last_fault, gwb_last_plane, gwb_last_refusal, gwb_last_volume};
+use std::alloc::Global;
+use std::process::Abort;
+use std::test::Fail;
+
+/// A block with a hole is split through the hole; what is refused, undone and redone.
+const SCRIPT: &[u8] =
+    b"block 1 0 0 0 6 6 6\nmev +7 +7 13 9 2 2 6\nkemr +13 7\nmev @7 @7 13 10 2 4 6\nmev -13 -13 14 11 4 4 6\nmev -14 -14 15 12 4 2 6\nmef -15 +13 16 7 8\nsweep 7 0 0 -6\nkfmrh 2 7\n# a comment\nvolume 1\nredo\nsplit 1 1 0 0 -3 2\nvolume 1\ncount 2\nplane 18\nkvfs 2\nsplitt 2\nundo\nvolume 2\nredo\nvolume 2\nundo";
+
+const TOLD: &[u8] =
+    b"ok\nok\nok\nok\nok\nok\nok\nok\nok\nvolume 1152\nrefused 26 0\nok\nvolume 576\ncount 16 24 10 0 2\nplane 24 0 0 -72 flat\nrefused 12 2\nfault 1\nok\nrefused 2 2\nok\nvolume 576\nok\n";
+
+/// An open session.
+fn opened(rt: &impl Abort, alloc: Global) -> Gwb {
+    let mut gwb = closed();
+    assert!(rt; gwb_open(alloc, &mut gwb));
+    gwb
+}
+
+/// The texts of the answers to the lines of a script.
+fn told(rt: &impl Abort, alloc: Global, gwb: &mut Gwb, script: &[u8]) -> Result<Vec<u8>, Fail> {
+    let mut told = Vec::new(alloc);
+    for line in script.split(|byte| *byte == b'\n') {
+        let mut text = [0; 64];
+        gwb_line(alloc, gwb, line);
+        let length = gwb_reply(alloc, gwb, &mut text);
+        assert!(rt; length <= text.len());
+        told.extend_from_slice(&text[..length])?;
+    }
+    Ok(told)
+}
+
+#[test]
+fn split_through_a_hole(rt: HostRuntime) -> Result<(), Fail> {
+    let alloc = rt.alloc();
+    let mut gwb = opened(&rt, alloc);
+    assert_eq!(rt; told(&rt, alloc, &mut gwb, SCRIPT)?.as_slice(), TOLD);
+    assert_eq!(rt;
+        (gwb_depth(alloc, &mut gwb), gwb_ahead(alloc, &mut gwb)),
+        (9, 1)
+    );
+    gwb_close(alloc, &mut gwb);
+    Ok(())
+}
+
+/// A block cut in two: solid 2 is its upper part, whose cap is face 15.
+const HALVED: &[u8] = b"block 1 0 0 0 4 4 4\nsplit 1 0 0 1 -2 2";
+
+#[test]
+fn answers_as_values(rt: HostRuntime) -> Result<(), Fail> {
+    let alloc = rt.alloc();
+    let mut gwb = opened(&rt, alloc);
+    told(&rt, alloc, &mut gwb, HALVED)?;
+    let mut faces = Range { first: 0, last: 0 };
+    assert_eq!(rt; gwb_fresh(alloc, &mut gwb, 1, &mut faces), 1);
+    assert_eq!(rt; (faces.first, faces.last), (7, 15));
+    let mut volume = Wide { high: 7, low: 7 };
+    assert_eq!(rt; gwb_line(alloc, &mut gwb, b"volume 2"), 6);
+    assert_eq!(rt; gwb_last_volume(alloc, &mut gwb, &mut volume), 1);
+    assert_eq!(rt; (volume.high, volume.low), (0, 192));
+    let mut plane = PlaneRow {
+        a: volume,
+        b: volume,
+        c: volume,
+        d: volume,
+        flat: 7,
+    };
+    assert_eq!(rt; gwb_last_plane(alloc, &mut gwb, &mut plane), 0);
+    assert_eq!(rt; plane.flat, 7);
+    assert_eq!(rt; gwb_line(alloc, &mut gwb, b"plane 15"), 5);
+    assert_eq!(rt; gwb_last_plane(alloc, &mut gwb, &mut plane), 1);
+    assert_eq!(rt; (plane.a.high, plane.a.low), (0, 0));
+    assert_eq!(rt; (plane.c.high, plane.c.low), (-1, u64::MAX - 31));
+    assert_eq!(rt; (plane.d.high, plane.d.low, plane.flat), (0, 64, 1));
+    let mut refused = Refused {
+        number: 0,
+        value: 0,
+    };
+    assert_eq!(rt; gwb_line(alloc, &mut gwb, b"kvfs 2"), 2);
+    assert_eq!(rt; gwb_last_refusal(alloc, &mut gwb, &mut refused), 1);
+    assert_eq!(rt; (refused.number, refused.value), (12, 2));
+    gwb_close(alloc, &mut gwb);
+    Ok(())
+}
+
+#[test]
+fn too_little_room(rt: HostRuntime) -> Result<(), Fail> {
+    let alloc = rt.alloc();
+    let mut gwb = opened(&rt, alloc);
+    told(&rt, alloc, &mut gwb, HALVED)?;
+    let mut row = FaceRow {
+        solid: 0,
+        outer_loop: 0,
+    };
+    assert_eq!(rt; gwb_face(alloc, &mut gwb, 15, &mut row), 1);
+    assert_eq!(rt; (row.solid, row.outer_loop), (2, 15));
+    let mut few = [7; 3];
+    let mut many = [7; 5];
+    assert_eq!(rt;
+        gwb_half_edges(alloc, &mut gwb, row.outer_loop, &mut few),
+        4
+    );
+    assert_eq!(rt; few, [43, 45, 47]);
+    assert_eq!(rt;
+        gwb_half_edges(alloc, &mut gwb, row.outer_loop, &mut many),
+        4
+    );
+    assert_eq!(rt; many, [43, 45, 47, 49, 7]);
+    assert_eq!(rt; gwb_half_edges(alloc, &mut gwb, 99, &mut few), 0);
+    let mut text = [b'.'; 3];
+    assert_eq!(rt; gwb_line(alloc, &mut gwb, b"volume 1"), 6);
+    assert_eq!(rt; gwb_reply(alloc, &mut gwb, &mut text), 11);
+    assert_eq!(rt; text, *b"vol");
+    gwb_close(alloc, &mut gwb);
+    Ok(())
+}
+
+/// A line may have 65,536 bytes.
+#[test]
+fn longest_line(rt: HostRuntime) -> Result<(), Fail> {
+    let alloc = rt.alloc();
+    let mut gwb = opened(&rt, alloc);
+    let mut fault = 0;
+    let longer = [b'#'; 65537];
+    assert_eq!(rt; gwb_line(alloc, &mut gwb, &longer[1..]), 0);
+    assert_eq!(rt; gwb_line(alloc, &mut gwb, &longer), 3);
+    assert_eq!(rt; gwb_last_fault(alloc, &mut gwb, &mut fault), 1);
+    assert_eq!(rt; fault, 6);
+    gwb_close(alloc, &mut gwb);
+    Ok(())
+}
+
+#[test]
+fn closed_handle(rt: HostRuntime) {
+    let alloc = rt.alloc();
+    let mut gwb = opened(&rt, alloc);
+    assert!(rt; !gwb_open(alloc, &mut gwb));
+    gwb_close(alloc, &mut gwb);
+    let mut found = [7];
+    let mut number = 7;
+    assert_eq!(rt; gwb_line(alloc, &mut gwb, b"list"), 9);
+    assert_eq!(rt; gwb_number_after(alloc, &mut gwb, 0, 0, &mut number), 9);
+    assert_eq!(rt; gwb_last_fault(alloc, &mut gwb, &mut number), 9);
+    assert_eq!(rt; gwb_half_edges(alloc, &mut gwb, 1, &mut found), usize::MAX);
+    assert_eq!(rt; (number, found), (7, [7]));
+    assert_eq!(rt; gwb_depth(alloc, &mut gwb), usize::MAX);
+    gwb_close(alloc, &mut gwb);
+}
