@@ -9,3 +9,4 @@ mod section_cycles;
 mod section_edges;
 
 pub use section_checks::{Cycle, Section, check_later};
+pub use solid_walks::start;

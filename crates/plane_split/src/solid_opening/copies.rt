@@ -10,8 +10,8 @@ ghost use Rattle.split_opening_laws.specs.strips.StripOps as ops;
 ghost use Rattle.plane_split.specs.solid_opening.Stages.{AreStripped};
 
 use euler_operators::{Corner, HalfEdge, Op};
-use solid_walks::start;
 use split_checks::Progress;
+use split_sections::start;
 use std::alloc::AllocError;
 use undo_journal::Draft;
 
