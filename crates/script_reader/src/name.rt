@@ -1,5 +1,7 @@
 //! The command words.
-ghost use Rattle.std.specs.Prelude.{◌≡◌};
+ghost use Rattle.std.specs.Prelude.{◌≡◌, ℕ, List, ◌∷◌};
+ghost use Rattle.std.specs.List.{find};
+ghost use Rattle.std.specs.Str.{bytes_eq};
 ghost use Rattle.script_reader.specs.Grammar.{word_of, name_of};
 
 /// The command words of a script.
@@ -29,30 +31,25 @@ pub enum Name {
     List,
 }
 
-const NAMES: [Name; 22] = [
-    Name::Mvfs,
-    Name::Kvfs,
-    Name::Mev,
-    Name::Kev,
-    Name::Mef,
-    Name::Kef,
-    Name::Kemr,
-    Name::Mekr,
-    Name::Kfmrh,
-    Name::Mfkrh,
-    Name::Ringmv,
-    Name::Lamina,
-    Name::Block,
-    Name::Sweep,
-    Name::Glue,
-    Name::Split,
-    Name::Plane,
-    Name::Volume,
-    Name::Count,
-    Name::Undo,
-    Name::Redo,
-    Name::List,
-];
+/// The names that begin with this letter.
+fn names_by(letter: u8) -> &'static [Name]
+    ensures { (letters : List ℕ) → find (λ n. bytes_eq (letter ∷ letters) (word_of n)) result.now ≡ name_of (letter ∷ letters) }
+{
+    match letter {
+        b'm' => &[Name::Mvfs, Name::Mev, Name::Mef, Name::Mekr, Name::Mfkrh],
+        b'k' => &[Name::Kvfs, Name::Kev, Name::Kef, Name::Kemr, Name::Kfmrh],
+        b'r' => &[Name::Ringmv, Name::Redo],
+        b'l' => &[Name::Lamina, Name::List],
+        b's' => &[Name::Sweep, Name::Split],
+        b'b' => &[Name::Block],
+        b'g' => &[Name::Glue],
+        b'p' => &[Name::Plane],
+        b'v' => &[Name::Volume],
+        b'c' => &[Name::Count],
+        b'u' => &[Name::Undo],
+        _ => &[],
+    }
+}
 
 /// How a name is written.
 fn word_of(name: Name) -> &'static [u8]
@@ -88,9 +85,10 @@ fn word_of(name: Name) -> &'static [u8]
 pub fn name_of(word: &[u8]) -> Option<Name>
     ensures { result ≡ name_of word.now }
 {
-    for name in NAMES {
-        if word == word_of(name) {
-            return Some(name);
+    let first = word.first()?;
+    for name in names_by(*first) {
+        if word == word_of(*name) {
+            return Some(*name);
         }
     }
     None
