@@ -1,10 +1,10 @@
-/* Measures the library: what a call costs, in nanoseconds, the best of five rounds. */
+/* Measures the library: what a call costs, in nanoseconds of processor time, the best of a hundred rounds. */
 #include "gwb.h"
 #include <stdio.h>
 #include <string.h>
 #include <time.h>
 
-enum { ROUNDS = 5, CALLS = 200000 };
+enum { ROUNDS = 100, CALLS = 20000 };
 
 static gwb g;
 static volatile uint64_t sink;
@@ -12,7 +12,7 @@ static volatile uint64_t sink;
 static double now(void)
 {
     struct timespec t;
-    clock_gettime(CLOCK_MONOTONIC, &t);
+    clock_gettime(CLOCK_PROCESS_CPUTIME_ID, &t);
     return (double)t.tv_sec * 1e9 + (double)t.tv_nsec;
 }
 
@@ -47,6 +47,12 @@ static void next_half_edge(void)
     sink += gwb_next_half_edge(&g, half_edge, &half_edge);
 }
 
+static void half_edges(void)
+{
+    uint32_t found[16];
+    sink += gwb_half_edges(&g, 3, found, 16) + found[3];
+}
+
 static void number_after(void)
 {
     static uint32_t edge;
@@ -61,7 +67,7 @@ static void reply(void)
 }
 
 static void comment(void) { line("# nothing"); }
-static void refused(void) { line("kev +99"); }
+static void refused(void) { line("kvfs 9"); }
 static void refused_query(void) { line("count 9"); }
 static void count(void) { line("count 1"); }
 static void volume(void) { line("volume 1"); }
@@ -98,10 +104,11 @@ int main(void)
     measure("`gwb_vertex`", vertex_point, CALLS);
     measure("`gwb_face`", face_row, CALLS);
     measure("`gwb_next_half_edge`", next_half_edge, CALLS);
+    measure("`gwb_half_edges`, of four", half_edges, CALLS);
     measure("`gwb_number_after`, edges", number_after, CALLS);
     measure("a comment", comment, CALLS);
-    measure("an operator that is refused", refused, CALLS);
-    measure("a query that is refused", refused_query, CALLS);
+    measure("`kvfs 9`, refused", refused, CALLS);
+    measure("`count 9`, refused", refused_query, CALLS);
     measure("`count` of a block", count, CALLS);
     measure("`gwb_reply` of it", reply, CALLS);
     measure("`volume` of a block", volume, CALLS);

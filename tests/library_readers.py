@@ -8,7 +8,7 @@ The models are those that the lines of random_lines.py leave, every 50th line.
 import ctypes
 import sys
 
-from library_session import Handle, Session, loaded
+from library_session import NO_TEXT, Handle, Session, loaded
 from random_lines import Lines
 
 ABSENT, FOUND, CLOSED = 0, 1, 9
@@ -31,6 +31,8 @@ class Readers:
             function = getattr(library, 'gwb_' + name)
             function.restype, function.argtypes = U32, [ctypes.POINTER(Handle)] + [U32] * takes + [ctypes.POINTER(row)]
             self.functions[name] = function, row
+        self.cycle = library.gwb_half_edges
+        self.cycle.restype, self.cycle.argtypes = ctypes.c_size_t, [ctypes.POINTER(Handle), U32, ctypes.c_void_p, ctypes.c_size_t]
 
     def ask(self, name, *numbers):
         function, row = self.functions[name]
@@ -48,7 +50,18 @@ class Readers:
             yield number
 
     def half_edges(self, loop):
-        """The half-edges of a loop from the least on; none where it is lone."""
+        """The half-edges of a loop from the least on; none where it is lone. The reader that writes all of them says the same, also where
+        there is less room."""
+        wanted = self.stepped(loop)
+        for room in {len(wanted), len(wanted) // 2, len(wanted) + 2}:
+            written = (U32 * (room + 1))(*[77] * (room + 1))
+            count = self.cycle(self.session.handle, loop, written, room)
+            if count != len(wanted) or list(written) != (wanted[:room] + [77] * (room + 1))[:room + 1]:
+                raise ValueError('loop %d with room for %d: %d, %r, not %r' % (loop, room, count, list(written), wanted))
+        return wanted
+
+    def stepped(self, loop):
+        """The same, step by step."""
         found = self.ask('first_half_edge', loop)
         if found is None:
             return []
@@ -98,7 +111,7 @@ def complaint(session, readers):
         return '%r, not %r' % (got[:300], wanted[:300])
     if not readers.faces_of_solids():
         return 'other faces of a solid: %r' % wanted[:300]
-    absent = [readers.ask('number_after', 5, 0)] + [readers.ask(name, *[999999] * takes) for name, (takes, _) in READERS.items()]
+    absent = [readers.ask('number_after', 5, 0), readers.half_edges(999999)] + [readers.ask(name, *[999999] * takes) for name, (takes, _) in READERS.items()]
     return 'found what is not there: %r' % absent if any(absent) else None
 
 
@@ -109,6 +122,9 @@ def closed(session, readers):
         written = row(*[77] * len(row()))
         if function(session.handle, *[1] * takes, written) != CLOSED or set(written) != {77}:
             return 'gwb_%s of a closed handle' % name
+    written = NUMBER(77)
+    if readers.cycle(session.handle, 1, written, 1) != NO_TEXT or set(written) != {77}:
+        return 'gwb_half_edges of a closed handle'
     return None
 
 

@@ -18,29 +18,18 @@ static void say(gwb *g, const char *line)
     printf("%-20s -> %.*s", line, (int)length, (const char *)text);
 }
 
-/* The least half-edge of the loop in which one stands. */
-static uint32_t least_of(gwb *g, uint32_t first)
-{
-    uint32_t least = first, half_edge = first;
-    while (gwb_next_half_edge(g, half_edge, &half_edge) == GWB_FOUND && half_edge != first)
-        if (half_edge < least)
-            least = half_edge;
-    return least;
-}
-
 /* Prints the half-edges of a loop, from the least on, or its one vertex. */
 static void print_loop(gwb *g, uint32_t loop)
 {
-    uint32_t found, vertex;
+    uint32_t vertex, half_edges[64];
+    size_t room = sizeof half_edges / sizeof *half_edges, count = gwb_half_edges(g, loop, half_edges, room);
     printf("  loop %" PRIu32, loop);
     if (gwb_lone_vertex(g, loop, &vertex) == GWB_FOUND)
         printf(" at %" PRIu32, vertex);
-    if (gwb_first_half_edge(g, loop, &found) == GWB_FOUND) {
-        uint32_t least = least_of(g, found), half_edge = least;
-        do
-            printf(" %c%" PRIu32, half_edge % 2 == 0 ? '+' : '-', half_edge / 2);
-        while (gwb_next_half_edge(g, half_edge, &half_edge) == GWB_FOUND && half_edge != least);
-    }
+    for (size_t i = 0; i < count && i < room; i++)
+        printf(" %c%" PRIu32, half_edges[i] % 2 == 0 ? '+' : '-', half_edges[i] / 2);
+    if (count > room)
+        printf(" and %zu more", count - room);
     printf("\n");
 }
 
@@ -55,6 +44,12 @@ static void print_faces(gwb *g, uint32_t solid)
         for (uint32_t ring = 0; gwb_ring_after(g, face, ring, &ring) == GWB_FOUND;)
             print_loop(g, ring);
     }
+}
+
+/* A number that fits in 64 bits. */
+static int64_t narrow(gwb_wide number)
+{
+    return (int64_t)number.low;
 }
 
 /* Prints the highest vertex, and how many there are. */
@@ -76,6 +71,7 @@ int main(void)
     gwb g = {0};
     gwb_refusal refusal;
     gwb_wide volume;
+    gwb_plane plane;
     if (!gwb_open(&g))
         return 1;
     say(&g, "block 1 0 0 0 4 4 4");
@@ -86,6 +82,9 @@ int main(void)
     say(&g, "volume 1");
     say(&g, "volume 2");
     print_faces(&g, 2);
+    say(&g, "plane 15");
+    if (gwb_last_plane(&g, &plane) == GWB_FOUND)
+        printf("on it z is %" PRId64 ", and the face is %s\n", -narrow(plane.d) / narrow(plane.c), plane.flat ? "flat" : "bent");
     print_vertices(&g);
     say(&g, "kvfs 2");
     if (gwb_last_refusal(&g, &refusal) == GWB_FOUND)

@@ -35,4 +35,8 @@ int main()
     while (gwb_face_after(bench.handle(), 1, face, &face) == GWB_FOUND)
         faces++;
     std::cout << faces << " faces\n";
+    std::cout << "face 1 is " << (bench.plane(1).flat ? "flat" : "bent") << ", with the half-edges";
+    for (std::uint32_t half_edge : bench.half_edges(1))
+        std::cout << ' ' << half_edge;
+    std::cout << '\n';
 }

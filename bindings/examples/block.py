@@ -25,6 +25,7 @@ def main():
         bench.undo()
         print(bench.volume(block.solid), bench.count(block.solid))
         print(len(bench.listing().faces), 'faces')
+        print(bench.half_edges(bench.listing().faces[block.top].outer))
 
 
 if __name__ == '__main__':

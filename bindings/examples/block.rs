@@ -13,6 +13,7 @@ mod library {
         pub fn gwb_reply(handle: *mut Handle, buf: *mut u8, room: usize) -> usize;
         pub fn gwb_depth(handle: *mut Handle) -> usize;
         pub fn gwb_ahead(handle: *mut Handle) -> usize;
+        pub fn gwb_half_edges(handle: *mut Handle, l: u32, buf: *mut u32, room: usize) -> usize;
         pub fn gwb_last_refusal(handle: *mut Handle, refusal: *mut super::Refusal) -> u32;
     }
 }
@@ -93,6 +94,19 @@ impl Workbench {
         }
     }
 
+    /// The half-edges of a loop, from the least on: none where it has one vertex and no edge, or is not there.
+    fn half_edges(&mut self, l: u32) -> Vec<u32> {
+        let mut found = vec![0; 16];
+        loop {
+            let count = unsafe { library::gwb_half_edges(&mut *self.handle, l, found.as_mut_ptr(), found.len()) };
+            let fits = count <= found.len();
+            found.resize(count, 0);
+            if fits {
+                return found;
+            }
+        }
+    }
+
     /// How many commands can be undone, and how many redone.
     fn depths(&mut self) -> (usize, usize) {
         unsafe { (library::gwb_depth(&mut *self.handle), library::gwb_ahead(&mut *self.handle)) }
@@ -113,6 +127,7 @@ fn main() {
             Err(complaint) => println!("{line} -> {complaint}"),
         }
     }
+    println!("loop 1 has the half-edges {:?}", bench.half_edges(1));
     let (depth, ahead) = bench.depths();
     println!("depth {depth}, ahead {ahead}");
 }

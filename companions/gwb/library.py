@@ -1,6 +1,7 @@
 """The kernel in this process: lines go to the library `libgwb.so`, replies come back as over a pipe."""
 
 import ctypes
+from typing import Tuple
 
 from .errors import CompanionError
 from .language import command_bytes
@@ -9,6 +10,7 @@ from .replies import Reply, only_reply
 
 _NO_TEXT = ctypes.c_size_t(-1).value
 _ROOM = 4096
+_FEW = 64
 
 
 class Handle(ctypes.Structure):
@@ -27,7 +29,8 @@ def load(path: str) -> ctypes.PyDLL:
     handle, text, size = ctypes.POINTER(Handle), ctypes.c_char_p, ctypes.c_size_t
     for name, result, arguments in (
             ('gwb_open', ctypes.c_bool, [handle]), ('gwb_close', None, [handle]),
-            ('gwb_line', ctypes.c_uint32, [handle, text, size]), ('gwb_reply', size, [handle, text, size])):
+            ('gwb_line', ctypes.c_uint32, [handle, text, size]), ('gwb_reply', size, [handle, text, size]),
+            ('gwb_half_edges', size, [handle, ctypes.c_uint32, ctypes.POINTER(ctypes.c_uint32), size])):
         function = getattr(library, name)
         function.restype, function.argtypes = result, arguments
     return library
@@ -55,6 +58,18 @@ class Library:
             raise Ended('the session is closed')
         self._library.gwb_line(self._handle, data, len(data))
         return only_reply(self._text().decode('ascii').split('\n')[:-1])
+
+    def half_edges(self, loop: int) -> Tuple[int, ...]:
+        """The half-edges of a loop, from the least on: none of a lone loop, or of one that is not there."""
+        room = _FEW
+        while True:
+            codes = (ctypes.c_uint32 * room)()
+            count = self._library.gwb_half_edges(self._handle, loop, codes, room)
+            if not self._handle.is_open:
+                raise Ended('the session is closed')
+            if count <= room:
+                return tuple(-(code // 2) if code % 2 else code // 2 for code in codes[:count])
+            room = count
 
     def close(self) -> int:
         """Ends the session; 0, as the status of a program that ends well."""

@@ -61,6 +61,13 @@ class Workbench:
             self._asked = False
         return self._held
 
+    def half_edges(self, loop: int) -> Tuple[int, ...]:
+        """The half-edges of a loop, from the least on: none of a lone loop, or of one that is not there. The library reads no listing for it."""
+        if isinstance(self._lines, Library):
+            return self._lines.half_edges(loop)
+        found = self.listing().loops.get(loop)
+        return found.halves if found else ()
+
     def mvfs(self, point: Vector, *, solid: Optional[int] = None, face: Optional[int] = None,
              loop: Optional[int] = None, vertex: Optional[int] = None) -> NewSolid:
         """A new solid of one face, whose outer loop is one vertex at the point."""

@@ -148,6 +148,14 @@ class Session(unittest.TestCase):
         self.assertEqual((caught.exception.name, caught.exception.value, caught.exception.number), ('KeptEndBare', made.vertex, 16))
         self.assertIn('kev +1: refused 16 1: KeptEndBare', str(caught.exception))
 
+    def test_half_edges_are_those_of_the_listing(self):
+        bench = self.bench
+        bench.block((0, 0, 0), (4, 4, 4))
+        lone = bench.mvfs((9, 9, 9)).loop
+        loops = bench.listing().loops
+        self.assertEqual([bench.half_edges(loop) for loop in loops], [row.halves for row in loops.values()])
+        self.assertEqual((bench.half_edges(lone), bench.half_edges(lone + 1)), ((), ()))
+
     def test_a_fault(self):
         with self.assertRaises(Faulted) as caught:
             self.bench.block((10 ** 20, 0, 0), (1, 1, 1))
