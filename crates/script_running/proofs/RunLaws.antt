@@ -245,6 +245,15 @@ flush_fails remaining first lines old new stop s n f p is_write = is_write_fault
       );
 })
 
+-- fresh lines have the reader that was given
+pub from_start : {R : Type 0} (remaining : R → Option (List ℕ)) (given : R) (lines : Lines R) (old new : Option (List ℕ)) (stop : Bool) (r : Result Summary RunFault)
+    → IsFresh given lines → Runs (remaining (reader_of lines)) old new stop r → Runs (remaining given) old new stop r
+from_start {R = R} remaining given lines old new stop r fresh h = subst (λ (reader : R). Runs (remaining reader) old new stop r) fresh.reader h
+
+-- the run that left this, under other names
+pub same_run : (first old mid new : Option (List ℕ)) (stop : Bool) (r q : Result Summary RunFault) → new ≡ mid → q ≡ r → Runs first old mid stop r → Runs first old new stop q
+same_run first old mid new stop r q e f h = subst (λ (end : Result Summary RunFault). Runs first old new stop end) (sym f) (subst (λ (text : Option (List ℕ)). Runs first old text stop r) (sym e) h)
+
 -- the first memory was refused
 pub nothing_begins : (first last old : Option (List ℕ)) → Consumes first last [] → (m : Moves first old old) × (m.given ≡ []) × (m.out ≡ [])
 nothing_begins first last old none = (record { given = []; left = last; out = []; consumed = none; appended = Appends-nil old }, refl, refl)

@@ -2,7 +2,8 @@
 ghost use Rattle.std.specs.Prelude.{◌≡◌, IfOk, IfErr};
 ghost use Rattle.std.specs.Io.KnownBytes.{Keeps};
 ghost use Rattle.solid_listing.specs.Writing.{Puts};
-ghost use Rattle.undo_journal.specs.Machine.{Machine};
+ghost use Rattle.script_reader.specs.State.{reader_of, IsFresh};
+ghost use Rattle.undo_journal.specs.Machine.{Machine, start};
 ghost use Rattle.script_running.specs.script_judging.Judging.{answer_text};
 ghost use Rattle.script_running.specs.Outs.{stops};
 ghost use Rattle.script_running.specs.Runs.{Runs};
@@ -101,6 +102,46 @@ fn finish<W: Write>(writer: &mut W, summary: Summary) -> Result<Summary, RunFaul
     }
 }
 
+/// Answers the lines of a script from its start, in a new session.
+fn run_lines<R: Read, W: Write>(
+    alloc: Global,
+    lines: &mut Lines<R>,
+    mut session: Session,
+    writer: &mut W,
+    stop: bool,
+) -> Result<Summary, RunFault>
+    requires fresh { IsFresh (reader_of lines.old) lines.old }
+    requires start { session ≡ start }
+    ensures { Runs (R.remaining (reader_of lines.old)) (W.contents writer.old) (W.contents writer.new) stop result }
+{
+    let mut later = None;
+    let mut summary = Summary::default();
+    'script: loop {
+        if let Err(fault) = flush(lines, writer) {
+            break Err(fault);
+        }
+        let answer = match hear(lines, &mut session, &mut later) {
+            Heard::Line(answer) => answer,
+            Heard::Larger => {
+                let larger = later.take().unwrap();
+                let (next, answer) = carry_out(alloc, session, larger);
+                session = next;
+                answer
+            }
+            Heard::End => break Ok(summary),
+            Heard::Read => break Err(RunFault::Read),
+            Heard::TooLong => break Err(RunFault::TooLong),
+        };
+        summary.count(&answer);
+        if let Err(fault) = say(writer, &session, &answer) {
+            break Err(fault);
+        }
+        if stops(stop, &answer) {
+            break Ok(summary);
+        }
+    }
+}
+
 /// Runs a script: judges each line of what the reader gives, in order, and writes its answer. Answers are flushed
 /// before each read that may wait, and at the end. Where `stop` is set, the run ends after the first reply that begins with `refused`,
 /// `fault` or `memory`; bytes after that line may have been read.
@@ -121,29 +162,9 @@ pub fn run<R: Read + Drop, W: Write>(
     let Ok(mut lines) = Lines::new(alloc, reader) else {
         return Err(RunFault::Memory);
     };
-    let Ok(mut session) = Session::new(alloc) else {
+    let Ok(session) = Session::new(alloc) else {
         return Err(RunFault::Memory);
     };
-    let mut later = None;
-    let mut summary = Summary::default();
-    'script: loop {
-        flush(&lines, writer)?;
-        let answer = match hear(&mut lines, &mut session, &mut later) {
-            Heard::Line(answer) => answer,
-            Heard::Larger => {
-                let larger = later.take().unwrap();
-                let (next, answer) = carry_out(alloc, session, larger);
-                session = next;
-                answer
-            }
-            Heard::End => return finish(writer, summary),
-            Heard::Read => return Err(RunFault::Read),
-            Heard::TooLong => return Err(RunFault::TooLong),
-        };
-        summary.count(&answer);
-        say(writer, &session, &answer)?;
-        if stops(stop, &answer) {
-            return finish(writer, summary);
-        }
-    }
+    let summary = run_lines(alloc, &mut lines, session, writer, stop)?;
+    finish(writer, summary)
 }
