@@ -56,11 +56,11 @@ round-preserved c =
     let M = c.args.arena.now.model in let s = c.requires.ready.sound in let l = c.args.l in let first : ℕ = code c.args.first in let i = c.requires.item in let k = steps - (c.round.counter + 1) in
     let apart = eqb-false (code c.next-h.result) first (sym c.same.ensures ∙ c.if-same.false) in record {
       area = subst (λ x. AreaRound M l first x k (read c.args.n) (read c.half_added-sum.result)) (sym c.next-h.ensures.next)
-        (area_more M s l first i (read c.args.n) (code c.round.h) (steps - c.round.counter) (read c.round.sum) c.round.invariant.area k (omega (arith, steps_are))
-        (read c.half_added-sum.result) c.half_added-sum.ensures (λ e. apart (c.next-h.ensures.next ∙ e)));
+          (area_more M s l first i (read c.args.n) (code c.round.h) (steps - c.round.counter) (read c.round.sum) c.round.invariant.area k (omega (arith, steps_are))
+          (read c.half_added-sum.result) c.half_added-sum.ensures (λ e. apart (c.next-h.ensures.next ∙ e)));
       least = subst (λ x. LeastRound M l first x k (code c.lesser-least.result)) (sym c.next-h.ensures.next)
-        (least_more M s l first i (code c.round.h) (steps - c.round.counter) (code c.round.least) c.round.invariant.least k (omega (arith, steps_are))
-        (code c.lesser-least.result) c.lesser-least.ensures (λ e. apart (c.next-h.ensures.next ∙ e)));
+          (least_more M s l first i (code c.round.h) (steps - c.round.counter) (code c.round.least) c.round.invariant.least k (omega (arith, steps_are))
+          (code c.lesser-least.result) c.lesser-least.ensures (λ e. apart (c.next-h.ensures.next ∙ e)));
     }
 
 pub returns-clause-sum : goal.returns-clause-sum
