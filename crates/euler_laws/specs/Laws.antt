@@ -1,13 +1,31 @@
 -- The laws of the Euler operators, each over every sound model and every operator whose conditions hold in it.
-use Rattle.std.specs.Prelude.{◌≡◌, ℕ, ℤ, pos, neg_ℤ, ◌+◌, ◌+ℤ◌, ◌-ℤ◌, not, nat_eq, List, [], ◌∷◌, ◌++◌, length, None}
+use Rattle.std.specs.Prelude.{◌≡◌, ◌↔◌, ℕ, ℤ, pos, neg_ℤ, ◌+◌, ◌+ℤ◌, ◌-ℤ◌, false, not, nat_eq, List, [], ◌∷◌, ◌++◌, length, Some, None}
 use Rattle.euler_operators.specs.Table as table
 use Rattle.euler_operators.specs.Table.{Table}
 use Rattle.euler_operators.specs.Model.{Model, outer, empty_model}
 use Rattle.euler_operators.specs.Sound.{Sound}
 use Rattle.euler_operators.specs.declared.Op.{Op}
 use Rattle.euler_operators.specs.declared.Op.TheVariants.{Mvfs, Kvfs, Mev, Kev, Mef, Kef, Kemr, Mekr, Kfmrh, Mfkrh, RingIn, RingOut, Outer, Merge, Part}
-use Rattle.euler_operators.specs.Conditions.{first_false}
+use Rattle.euler_operators.specs.declared.Refusal.{Refusal}
+use Rattle.euler_operators.specs.Conditions.{Condition, AllHold, first_refusal, first_false}
 use Rattle.euler_operators.specs.Effect.{effect, inverse}
+
+-- nothing is refused exactly where each condition holds
+abbrev pub NothingIsRefusedWhereAllHold : Type 0
+NothingIsRefusedWhereAllHold = (cs : List Condition) → (first_refusal cs ≡ None) ↔ AllHold cs
+
+-- the refusal is that of a condition that doesn't hold, and each one before it holds
+pub record IsFirstFalse (cs : List Condition) (r : Refusal) : Type 0 where
+  pub before : List Condition
+  pub condition : Condition
+  pub after : List Condition
+  pub order : cs ≡ before ++ condition ∷ after
+  pub hold : AllHold before
+  pub fails : condition.holds ≡ false
+  pub named : condition.refusal ≡ r
+
+abbrev pub RefusalsNameTheFirstFalse : Type 0
+RefusalsNameTheFirstFalse = (cs : List Condition) (r : Refusal) → (first_refusal cs ≡ Some r) ↔ IsFirstFalse cs r
 
 -- all conditions of the operator hold in the model
 abbrev pub IsAccepted : Model → Op → Type 0

@@ -1,6 +1,7 @@
 //! The laws of the Euler operators: an accepted operator keeps a sound model sound (`effects_are_sound`), its inverse takes it back
 //! (`inverses_undo`), so for lists of operators (`runs_are_undone`), and how the Euler number grows (`euler_number_grows`). Each
 //! function does nothing: its contract is what is proved, over every sound model and every operator whose conditions hold in it.
+//! `refusals_name_the_first_false` is of conditions alone.
 //!
 //! The lemmas stand in folders: `mev`, `kev`, `mef` (with kef), `kemr`, `mekr`, `faces` (the operators that change only which face a loop
 //! is of, and mvfs and kvfs), `merge` (Merge and Part), and `shared` (half-edges round a vertex, loops and their walks, models that
@@ -8,7 +9,13 @@
 //! kemr does.
 #![tactic(auto)]
 
-ghost use Rattle.euler_laws.specs.Laws.{EmptyIsSound, EffectsAreSound, InversesAreAccepted, InversesUndo, RunsAreSound, InversesOfRunsAreAccepted, InversesOfRunsUndo, LoopsAreOuterOrRings, EulerNumberGrows};
+ghost use Rattle.euler_laws.specs.Laws.{NothingIsRefusedWhereAllHold, RefusalsNameTheFirstFalse, EmptyIsSound, EffectsAreSound, InversesAreAccepted, InversesUndo, RunsAreSound, InversesOfRunsAreAccepted, InversesOfRunsUndo, LoopsAreOuterOrRings, EulerNumberGrows};
+
+/// Of conditions in their order nothing is refused exactly where each of them holds; what is refused else is the first that doesn't.
+pub fn refusals_name_the_first_false()
+    ensures nothing { NothingIsRefusedWhereAllHold }
+    ensures first { RefusalsNameTheFirstFalse }
+{}
 
 /// The model that has nothing is sound, and an accepted operator takes a sound model to a sound one.
 pub fn effects_are_sound()

@@ -13,8 +13,17 @@ ghost use Rattle.sweeps.specs.Calls.{LaminasAreCalls, BlocksAreCalls, SweepsAreC
 ghost use Rattle.sweeps.specs.JournalLaws.{HeldIsAtThePlace, AcceptedIsAppended, UndoMovesThePlace, RedoMovesThePlace, UndoGivesTheModelBefore, LargerCommandsAreCalls, HistoriesAreConsistent};
 ghost use Rattle.sweeps.specs.LaminaLaws.{OperatorsAreAccepted, OperatorsMakeLamina, LaminaIsSound};
 ghost use Rattle.sweeps.specs.Measures.{SweptSolid, OthersThanSwept, NewBlock, OthersThanBlock, NewLamina, NewFlatLamina, OthersThanLamina};
-ghost use Rattle.sweeps.specs.OperatorLaws.{EmptyIsSound, EffectsAreSound, EulerNumberGrows, InversesAreAccepted, InversesUndo, RunsAreSound, InversesOfRunsAreAccepted, InversesOfRunsUndo};
+ghost use Rattle.sweeps.specs.OperatorLaws.{NothingIsRefusedWhereAllHold, RefusalsNameTheFirstFalse, EmptyIsSound, EffectsAreSound, EulerNumberGrows, InversesAreAccepted, InversesUndo, RunsAreSound, InversesOfRunsAreAccepted, InversesOfRunsUndo};
 ghost use Rattle.sweeps.specs.SweepLaws.{SweepsAreAccepted, SweepsMakePrisms, PrismsAreSound};
+
+/// Of the conditions of an operator or of a larger command, in their order, nothing is refused exactly where each of them holds; what is
+/// refused else is the first that doesn't.
+pub fn refusals_name_the_first_false()
+    ensures nothing { NothingIsRefusedWhereAllHold }
+    ensures first { RefusalsNameTheFirstFalse }
+{
+    sweeps::refusals_name_the_first_false();
+}
 
 /// The empty model is sound, and so is the model after an operator that isn't refused. Vertices less edges, plus faces, less rings:
 /// mvfs and mfkrh add 2, kvfs and kfmrh take 2, and the other operators keep it.

@@ -10,7 +10,10 @@ mod raising;
 mod sweeping;
 
 pub use blocks::block;
-pub use euler_laws::{effects_are_sound, euler_number_grows, inverses_undo, runs_are_undone};
+pub use euler_laws::{
+    effects_are_sound, euler_number_grows, inverses_undo, refusals_name_the_first_false,
+    runs_are_undone,
+};
 pub use euler_operators::{Op, Point};
 pub use laminas::lamina;
 pub use laws::{block_measures, lamina_measures, larger_commands_are_calls, sweep_measures};

@@ -3,6 +3,7 @@ use Rattle.std.proofs.Common.{◌≡◌, ℕ, Bool, true, false, cond, not, List
 use Rattle.euler_operators.specs.Conditions.{Condition, AllHold, first_refusal, verdict}
 use Rattle.euler_operators.specs.declared.Refusal.{Refusal}
 use Rattle.euler_operators.specs.Model.{is_number}
+use Rattle.euler_laws.specs.Laws.{IsFirstFalse}
 
 all_step : (c : Condition) (cs : List Condition) (b : Bool) → c.holds ≡ b → cond b (first_refusal cs) (Some c.refusal) ≡ None → (first_refusal cs ≡ None → AllHold cs) → AllHold (c ∷ cs)
 all_step c cs true e is rest = (e, rest is)
@@ -17,6 +18,34 @@ all_hold (c ∷ cs) e = all_step c cs c.holds refl e (all_hold cs)
 pub none_refuses : (cs : List Condition) → AllHold cs → first_refusal cs ≡ None
 none_refuses [] h = refl
 none_refuses (c ∷ cs) h = ap (λ b. cond b (first_refusal cs) (Some c.refusal)) h.0 ∙ none_refuses cs h.1
+
+-- conditions that hold are passed over
+passed_over : (cs ds : List Condition) → AllHold cs → first_refusal (cs ++ ds) ≡ first_refusal ds
+passed_over [] ds h = refl
+passed_over (c ∷ cs) ds h = ap (λ b. cond b (first_refusal (cs ++ ds)) (Some c.refusal)) h.0 ∙ passed_over cs ds h.1
+
+first_step : (c : Condition) (cs : List Condition) (r : Refusal) (b : Bool) → c.holds ≡ b → cond b (first_refusal cs) (Some c.refusal) ≡ Some r → (first_refusal cs ≡ Some r → IsFirstFalse cs r) → IsFirstFalse (c ∷ cs) r
+first_step c cs r true e is rest =
+    let f = rest is in record {
+      before = c ∷ f.before;
+      condition = f.condition;
+      after = f.after;
+      order = ap (λ ds. c ∷ ds) f.order;
+      hold = (e, f.hold);
+      fails = f.fails;
+      named = f.named;
+    }
+first_step c cs r false e is rest = record { before = []; condition = c; after = cs; order = refl; hold = tt; fails = e; named = cc }
+
+-- what is named is the first condition that doesn't hold
+pub first_is_named : (cs : List Condition) (r : Refusal) → first_refusal cs ≡ Some r → IsFirstFalse cs r
+first_is_named [] r e = cc
+first_is_named (c ∷ cs) r e = first_step c cs r c.holds refl e (first_is_named cs r)
+
+pub named_is_first : (cs : List Condition) (r : Refusal) → IsFirstFalse cs r → first_refusal cs ≡ Some r
+named_is_first cs r f =
+    ap first_refusal f.order ∙ passed_over f.before (f.condition ∷ f.after) f.hold
+    ∙ ap (λ b. cond b (first_refusal f.after) (Some f.condition.refusal)) f.fails ∙ ap (λ s. Some s) f.named
 
 pub not_false : (b : Bool) → b ≡ false → not b ≡ true
 not_false b e = ap not e
