@@ -124,15 +124,20 @@ impl<T: Copy> Rows<T> {
         }
     }
 
-    /// Writes row n, or takes it away. Where the last row goes, it looks for the next one below as `after` does.
+    /// Writes row n, or takes it away. Where it was there before and is, this is one step. Where the last row goes, it looks for the
+    /// next one below as `after` does.
     pub fn write(&mut self, n: u32, row: Option<T>)
         requires { n < length self.old }
         ensures rows { (q : ℕ) → row_at self.new q ≡ cond (nat_eq q n) row (row_at self.old q) }
         ensures len { length self.new ≡ length self.old }
     {
         let was = find(&self.cells, n).is_some();
+        let is = row.is_some();
         self.cells[n as usize] = row;
-        recount(&mut self.groups, &mut self.blocks, n, was, row.is_some());
+        if was == is {
+            return;
+        }
+        recount(&mut self.groups, &mut self.blocks, n, was, is);
         if self.last <= n {
             self.last = last_from(&self.cells, &self.groups, &self.blocks, n);
         }

@@ -1,5 +1,7 @@
 -- Rows with their groups and blocks: with none, with more room, and with a row written.
-use Rattle.std.proofs.Common.{◌≡◌, ◌≢◌, ℕ, ◌*◌, ◌/◌, ◌≤◌, ◌<◌, Bool, false, cond, nat_eq, List, [], length, Option, None, is_some, refl, sym, ap, ◌∙◌, arith, subst, slice_set}
+use Rattle.std.proofs.Common.{◌≡◌, ◌≢◌, ℕ, ◌*◌, ◌/◌, ◌≤◌, ◌<◌, Bool, true, false, cond, nat_eq, List, [], length, Option, None, is_some, refl, sym, ap, ◌∙◌, arith, subst, slice_set, inl, inr}
+use Rattle.std.proofs.Math.Bool.{beq}
+use Rattle.std.proofs.lemmas.Bool.{cases_eq}
 use Rattle.std.proofs.lemmas.List.{get_or-set_same, get_or-set_other, length-set}
 use Rattle.arena_rows.specs.Rows.{row_at, has_row}
 use Rattle.arena_rows.specs.ring_spots.Last.{IsLast}
@@ -15,6 +17,13 @@ counted-empty = record { right = λ g. sym (ap as_row (uses_none (λ k. false) (
 pub none-counted : {X : Type 0} (rows : List (Option X)) (groups blocks : List (Option ℕ)) → rows ≡ [] → groups ≡ [] → blocks ≡ [] → AreCounted rows groups blocks 0
 none-counted {X} rows groups blocks a b c = subst (λ (r : List (Option X)). AreCounted r groups blocks 0) (sym a) (subst (λ gs. AreCounted {X = X} [] gs blocks 0) (sym b) (subst (λ bs. AreCounted {X = X} [] [] bs 0) (sym c)
     (record { limit = omega arith; grouped = counted-empty; counted = counted-empty; is_last = last_none _ (λ k. refl) })))
+
+-- two tests that the code finds equal
+pub found_equal : (a b : Bool) → beq a b ≡ true → a ≡ b
+found_equal true true e = refl
+found_equal true false e = sym e
+found_equal false true e = e
+found_equal false false e = refl
 
 -- whether row n was there, as the code reads it
 pub was_there : {X : Type 0} (rows seen : List (Option X)) → seen ≡ rows → (n : ℕ) (found : Option X) → found ≡ row_at seen n → (was : Bool) → was ≡ is_some found → was ≡ has_row rows n
@@ -32,6 +41,26 @@ module _ {X : Type 0} (rows : List (Option X)) (groups blocks : List (Option ℕ
 
     pub limit-set : length (slice_set rows n x) ≤ 1000001
     limit-set = omega (arith, C.limit, length-set rows n x)
+
+    -- row n was there and is, or wasn't and isn't
+    pub same-set : has_row rows n ≡ is_some x → AreCounted (slice_set rows n x) groups blocks last
+    same-set there =
+        let here = ap is_some (get_or-set_same rows n x None below) ∙ sym there in
+        let used : (k : ℕ) → has_row (slice_set rows n x) k ≡ has_row rows k = λ k. elim (cases_eq k n) [
+          | inl e ↦ ap (has_row (slice_set rows n x)) e ∙ here ∙ ap (has_row rows) (sym e)
+          | inr ne ↦ other-set k ne
+        ] in
+        let uses : has_row (slice_set rows n x) ≡ has_row rows = λ i k. used k i in
+        record {
+          limit = limit-set;
+          grouped = record {
+            right = λ g. C.grouped.right g ∙ ap (λ u. group_row u g) (sym uses);
+            room = omega (arith, C.grouped.room, length-set rows n x);
+            limit = C.grouped.limit;
+          };
+          counted = C.counted;
+          is_last = last_same (has_row rows) (has_row (slice_set rows n x)) last used C.is_last;
+        }
 
     pub kept-set : n < last → IsLast (has_row (slice_set rows n x)) last
     kept-set less = last_kept (has_row rows) (has_row (slice_set rows n x)) last n C.is_last other-set less
