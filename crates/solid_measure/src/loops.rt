@@ -19,6 +19,17 @@ use euler_operators::{
 };
 use solid_walks::{finish, start};
 
+/// The vector n plus the cross product of two points.
+fn crossed(n: Vector, p: Point, q: Point) -> Vector
+    requires n { IsVectorWithin normal_limit (read n) }
+    requires p { IsInRange p }
+    requires q { IsInRange q }
+    ensures { read result ≡ moved (read n) (cross p q) }
+{
+    let [x, y, z] = cross_add([n.x, n.y, n.z], p, q);
+    Vector { x, y, z }
+}
+
 /// The vector n plus the cross product of the points at which the half-edge starts and ends.
 pub fn half_added(arena: &Arena, n: Vector, h: HalfEdge) -> Vector
     requires ready { IsReady arena.now }
@@ -26,8 +37,7 @@ pub fn half_added(arena: &Arena, n: Vector, h: HalfEdge) -> Vector
     requires n { IsVectorWithin normal_limit (read n) }
     ensures { read result ≡ moved (read n) (cross (start arena.now.model (code h)) (finish arena.now.model (code h))) }
 {
-    let [x, y, z] = cross_add([n.x, n.y, n.z], start(arena, h), finish(arena, h));
-    Vector { x, y, z }
+    crossed(n, start(arena, h), finish(arena, h))
 }
 
 /// The lesser of two half-edges in the order of listings.
@@ -48,7 +58,8 @@ pub(crate) struct Round {
     pub(crate) least: HalfEdge,
 }
 
-/// Walks once round loop l, in which `first` stands: the vector n plus the cross products over its half-edges, and its first item.
+/// Walks once round loop l, in which `first` stands: the vector n plus the cross products over its half-edges, and its first item. Each
+/// point is looked up once, since a half-edge ends where the next one starts.
 pub(crate) fn walk_round(arena: &Arena, n: Vector, l: u32, first: HalfEdge) -> Round
     requires ready { IsReady arena.now }
     requires n { IsVectorWithin area_limit (read n) }
@@ -60,13 +71,17 @@ pub(crate) fn walk_round(arena: &Arena, n: Vector, l: u32, first: HalfEdge) -> R
     let mut sum = n;
     let mut least = first;
     let mut h = first;
+    let mut from = start(arena, first);
     'round: for _ in 0..HALF_EDGE_CODES {
-        sum = half_added(arena, sum, h);
+        let after = next(arena, h);
+        let to = start(arena, after);
+        sum = crossed(sum, from, to);
         least = lesser(least, h);
-        h = next(arena, h);
-        if same(h, first) {
+        if same(after, first) {
             return Round { sum, least };
         }
+        h = after;
+        from = to;
     }
     Round { sum, least }
 }
