@@ -1,5 +1,5 @@
 //! Walks round the loops of a face.
-ghost use Rattle.std.specs.Prelude.{◌≡◌, ◌≤◌, true, min, map};
+ghost use Rattle.std.specs.Prelude.{◌≡◌, true, map};
 ghost use Rattle.std.specs.List.{list_all};
 ghost use Rattle.euler_operators.specs.Points.{IsInRange};
 ghost use Rattle.euler_operators.specs.Ranges.{IsPlane, IsVectorWithin, normal_limit};
@@ -40,22 +40,13 @@ pub fn half_added(arena: &Arena, n: Vector, h: HalfEdge) -> Vector
     crossed(n, start(arena, h), finish(arena, h))
 }
 
-/// The lesser of two half-edges in the order of listings.
-fn lesser(a: HalfEdge, b: HalfEdge) -> HalfEdge
-    requires a { a.edge ≤ 1000000 }
-    requires b { b.edge ≤ 1000000 }
-    ensures { code result ≡ min (code a) (code b) }
-{
-    if b.code() < a.code() { b } else { a }
-}
-
 /// What a walk round a loop finds.
 #[derive(Drop)]
 pub(crate) struct Round {
     /// A vector plus the cross products over the half-edges of the loop.
     pub(crate) sum: Vector,
-    /// The first item of the loop in the order of listings.
-    pub(crate) least: HalfEdge,
+    /// The place of the loop's first item in the order of listings.
+    pub(crate) least: u32,
 }
 
 /// Walks once round loop l, in which `first` stands: the vector n plus the cross products over its half-edges, and its first item. Each
@@ -65,18 +56,18 @@ pub(crate) fn walk_round(arena: &Arena, n: Vector, l: u32, first: HalfEdge) -> R
     requires n { IsVectorWithin area_limit (read n) }
     requires item { IsIn (code first) (items_of (content arena.now.model l)) }
     ensures sum { read result.sum ≡ moved (read n) (area arena.now.model (items_of (content arena.now.model l))) }
-    ensures least { code result.least ≡ head_or 0 (items_of (content arena.now.model l)) }
-    ensures there { has_half arena.now.model (code result.least) ≡ true }
+    ensures least { result.least ≡ head_or 0 (items_of (content arena.now.model l)) }
+    ensures there { has_half arena.now.model result.least ≡ true }
 {
     let mut sum = n;
-    let mut least = first;
+    let mut least = first.code();
     let mut h = first;
     let mut from = start(arena, first);
     'round: for _ in 0..HALF_EDGE_CODES {
         let after = next(arena, h);
         let to = start(arena, after);
         sum = crossed(sum, from, to);
-        least = lesser(least, h);
+        least = least.min(h.code());
         if same(after, first) {
             return Round { sum, least };
         }

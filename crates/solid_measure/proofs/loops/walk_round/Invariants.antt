@@ -13,5 +13,5 @@ invariant-round l = record {
   from : l.from ≡ start l.arena.model (code l.h);
   range : IsInRange l.from;
   area : AreaRound l.arena.model l.l (code l.first) (code l.h) (steps - l.counter) (read l.fn.n) (read l.sum);
-  least : LeastRound l.arena.model l.l (code l.first) (code l.h) (steps - l.counter) (code l.least);
+  least : LeastRound l.arena.model l.l (code l.first) (code l.h) (steps - l.counter) l.least;
 }
