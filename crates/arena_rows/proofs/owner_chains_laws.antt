@@ -1,6 +1,7 @@
 pub mod Counting
 pub mod Order
 pub mod Following
+pub mod Placing
 pub mod Tables
 pub mod Linking
 pub mod Coming

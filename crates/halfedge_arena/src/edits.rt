@@ -31,8 +31,9 @@ impl Arena {
 
     /// A new face f of solid n with outer loop l. Number f is free and has its room, and so has the solid's number its room.
     ///
-    /// Its place among the solid's faces is looked for from the one that came last: one step where faces come in order, else
-    /// one for each face between.
+    /// Its place among the solid's faces is one step where faces come in order. Else it takes as many steps as there are faces
+    /// between it and the one that came last, or numbers between it and the nearest face of the solid, whichever is less.
+    /// Where none goes, faces up to number N cost no more than about N log N in all, in whatever order they come.
     pub fn put_face(&mut self, f: u32, n: u32, l: u32)
         requires room { has_room self.old Kind.Face f ≡ true }
         requires free { has_number self.old Kind.Face f ≡ false }
@@ -98,8 +99,8 @@ impl Arena {
 
     /// A new loop l of face f, which is empty. Number l is free and has its room, and so has the face's number its room.
     ///
-    /// Its place among the face's loops is looked for from the one that came last: one step where loops come in order, else one
-    /// for each loop between.
+    /// Its place among the face's loops is looked for as `put_face` does among the faces of a solid: one step where loops come in
+    /// order.
     pub fn put_loop(&mut self, l: u32, f: u32)
         requires room { has_room self.old Kind.Loop l ≡ true }
         requires free { has_number self.old Kind.Loop l ≡ false }

@@ -33,8 +33,8 @@ impl Arena {
         }
     }
 
-    /// The least face of solid s above n, or none. Where n is 0 or a face of the solid, this is one step; else it walks over the
-    /// solid's faces from the one that came last to n.
+    /// The least face of solid s above n, or none. Where n is 0 or a face of the solid, this is one step; else its place is
+    /// looked for as `put_face` does.
     pub fn face_after(&self, s: u32, n: u32) -> Option<u32>
         ensures { IsNextFace self.now.model s n result }
     {
@@ -42,7 +42,7 @@ impl Arena {
     }
 
     /// The least ring of face f above n, or none; face f is there. Where n is 0 or a loop of the face, this is one step or two;
-    /// else it walks over the face's loops from the one that came last to n. `ring_count` tells how many there are to ask for.
+    /// else its place is looked for as `put_loop` does. `ring_count` tells how many there are to ask for.
     pub fn ring_after(&self, f: u32, n: u32) -> Option<u32>
         requires { has_number self.now Kind.Face f ≡ true }
         ensures { IsNextRing self.now.model f n result }

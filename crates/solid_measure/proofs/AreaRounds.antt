@@ -5,8 +5,8 @@ use Rattle.euler_operators.specs.Ranges.{IsVectorWithin, normal_limit}
 use Rattle.euler_operators.specs.Vectors.{moved, cross}
 use Rattle.euler_operators.specs.Items.{IsIn}
 use Rattle.euler_operators.specs.declared.Content.{Content}
-use Rattle.euler_operators.specs.Model.{Model, LoopContent, lone, cycle, items_of, content, after}
-use Rattle.euler_operators.specs.Sound.{Sound}
+use Rattle.euler_operators.specs.Model.{Model, LoopContent, lone, cycle, items_of, content, point_of, after}
+use Rattle.euler_operators.specs.Sound.{Sound, HasHalf}
 use Rattle.euler_conditions.specs.Store.{Tells}
 use Rattle.euler_laws.proofs.shared.Bounds.{steps}
 use Rattle.shapes.specs.Faces.{start, finish}
@@ -19,6 +19,10 @@ use Rattle.solid_measure.proofs.Areas.{area_turned, area_push, area_limited, mov
 pub lone_adds : (M : Model) (c : LoopContent) (v : ℕ) (n : Point) → Tells c (Content.Lone v) → n ≡ moved n (area M (items_of c))
 lone_adds M (lone w) v n t = sym (moved_nothing n)
 lone_adds M (cycle hs) v n t = absurd t
+
+-- a half-edge ends where the one after it starts
+pub crossed_is : (M : Model) (h k : ℕ) (now next p q : Point) → Sound M → HasHalf M h → k ≡ after M h → p ≡ start M h → q ≡ start M k → next ≡ moved now (cross p q) → next ≡ moved now (cross (start M h) (finish M h))
+crossed_is M h k now next p q sound there goes starts ends adds = adds ∙ (λ i. moved now (cross (starts i) ((ends ∙ ap (start M) goes ∙ ap (point_of M) (sound.ends_meet h there)) i)))
 
 -- the walk has come to h, and the sum is now that of what was met
 pub record AreaRound (M : Model) (l first h n : ℕ) (from now : Point) : Type 0 where

@@ -13,7 +13,7 @@ ghost use Rattle.solid_measure.specs.Measure.{anchor, area, area_limit, is_flat,
 use crate::Vector;
 use crate::loops::{loop_added, loop_lies_on, walk_round};
 use euler_conditions::Arena;
-use euler_operators::{Content, Kind, Plane, Point, dot};
+use euler_operators::{Content, HalfEdge, Kind, Plane, Point, dot};
 use solid_walks::start;
 
 /// Where a face lies: the sum of the cross products over the half-edges of its loops, and the point of its first corner.
@@ -43,7 +43,7 @@ fn outer_frame(arena: &Arena, f: u32) -> Frame
             let round = walk_round(arena, normal, outer, first);
             Frame {
                 normal: round.sum,
-                anchor: start(arena, round.least),
+                anchor: start(arena, HalfEdge::of_code(round.least)),
             }
         }
     }

@@ -1,5 +1,5 @@
 //! Walks round the loops of a face.
-ghost use Rattle.std.specs.Prelude.{◌≡◌, ◌≤◌, true, min, map};
+ghost use Rattle.std.specs.Prelude.{◌≡◌, true, map};
 ghost use Rattle.std.specs.List.{list_all};
 ghost use Rattle.euler_operators.specs.Points.{IsInRange};
 ghost use Rattle.euler_operators.specs.Ranges.{IsPlane, IsVectorWithin, normal_limit};
@@ -19,6 +19,17 @@ use euler_operators::{
 };
 use solid_walks::{finish, start};
 
+/// The vector n plus the cross product of two points.
+fn crossed(n: Vector, p: Point, q: Point) -> Vector
+    requires n { IsVectorWithin normal_limit (read n) }
+    requires p { IsInRange p }
+    requires q { IsInRange q }
+    ensures { read result ≡ moved (read n) (cross p q) }
+{
+    let [x, y, z] = cross_add([n.x, n.y, n.z], p, q);
+    Vector { x, y, z }
+}
+
 /// The vector n plus the cross product of the points at which the half-edge starts and ends.
 pub fn half_added(arena: &Arena, n: Vector, h: HalfEdge) -> Vector
     requires ready { IsReady arena.now }
@@ -26,17 +37,7 @@ pub fn half_added(arena: &Arena, n: Vector, h: HalfEdge) -> Vector
     requires n { IsVectorWithin normal_limit (read n) }
     ensures { read result ≡ moved (read n) (cross (start arena.now.model (code h)) (finish arena.now.model (code h))) }
 {
-    let [x, y, z] = cross_add([n.x, n.y, n.z], start(arena, h), finish(arena, h));
-    Vector { x, y, z }
-}
-
-/// The lesser of two half-edges in the order of listings.
-fn lesser(a: HalfEdge, b: HalfEdge) -> HalfEdge
-    requires a { a.edge ≤ 1000000 }
-    requires b { b.edge ≤ 1000000 }
-    ensures { code result ≡ min (code a) (code b) }
-{
-    if b.code() < a.code() { b } else { a }
+    crossed(n, start(arena, h), finish(arena, h))
 }
 
 /// What a walk round a loop finds.
@@ -44,29 +45,34 @@ fn lesser(a: HalfEdge, b: HalfEdge) -> HalfEdge
 pub(crate) struct Round {
     /// A vector plus the cross products over the half-edges of the loop.
     pub(crate) sum: Vector,
-    /// The first item of the loop in the order of listings.
-    pub(crate) least: HalfEdge,
+    /// The place of the loop's first item in the order of listings.
+    pub(crate) least: u32,
 }
 
-/// Walks once round loop l, in which `first` stands: the vector n plus the cross products over its half-edges, and its first item.
+/// Walks once round loop l, in which `first` stands: the vector n plus the cross products over its half-edges, and its first item. Each
+/// point is looked up once, since a half-edge ends where the next one starts.
 pub(crate) fn walk_round(arena: &Arena, n: Vector, l: u32, first: HalfEdge) -> Round
     requires ready { IsReady arena.now }
     requires n { IsVectorWithin area_limit (read n) }
     requires item { IsIn (code first) (items_of (content arena.now.model l)) }
     ensures sum { read result.sum ≡ moved (read n) (area arena.now.model (items_of (content arena.now.model l))) }
-    ensures least { code result.least ≡ head_or 0 (items_of (content arena.now.model l)) }
-    ensures there { has_half arena.now.model (code result.least) ≡ true }
+    ensures least { result.least ≡ head_or 0 (items_of (content arena.now.model l)) }
+    ensures there { has_half arena.now.model result.least ≡ true }
 {
     let mut sum = n;
-    let mut least = first;
+    let mut least = first.code();
     let mut h = first;
+    let mut from = start(arena, first);
     'round: for _ in 0..HALF_EDGE_CODES {
-        sum = half_added(arena, sum, h);
-        least = lesser(least, h);
-        h = next(arena, h);
-        if same(h, first) {
+        let after = next(arena, h);
+        let to = start(arena, after);
+        sum = crossed(sum, from, to);
+        least = least.min(h.code());
+        if same(after, first) {
             return Round { sum, least };
         }
+        h = after;
+        from = to;
     }
     Round { sum, least }
 }

@@ -70,6 +70,16 @@ pub record IsBelow (item : ℕ → Bool) (n m : ℕ) : Type 0 where
   pub found : m ≢ 0 → (m < n) × (item m ≡ true)
   pub greatest : (k : ℕ) → k < n → item k ≡ true → k ≤ m
 
+-- no number nearer to n than at a distance is an item
+abbrev pub IsClear : (ℕ → Bool) → ℕ → ℕ → Type 0
+IsClear item n distance = (k : ℕ) → n < k + distance → k < n + distance → item k ≡ false
+
+-- what the two numbers at a distance from n tell, where none nearer to it is an item: which is the greatest item below n, or that
+-- neither of them is an item
+abbrev pub Tells : (ℕ → Bool) → ℕ → ℕ → Option ℕ → Type 0
+Tells item n distance None = IsClear item n (distance + 1)
+Tells item n distance (Some m) = IsBelow item n m
+
 -- the items of an owner, as a test
 abbrev pub items : List (Option Link) → ℕ → ℕ → Bool
 items links o k = is_of o (link_at links k)
@@ -81,6 +91,10 @@ owners_of links = tabulate (λ k. owner_in (link_at links k)) (length links)
 abbrev pub view_of : List Head → List (Option Link) → Owners
 view_of heads links = record { owner_of = owners_of links; owners_end = length heads; items_end = length links }
 
+-- each item leads back to the one before it of its owner
+abbrev pub LeadBack : List (Option Link) → Type 0
+LeadBack links = (n : ℕ) (link : Link) → link_at links n ≡ Some link → IsBelow (items links link.owner) n link.previous
+
 -- each item leads to the next one of its owner and to the one before; each owner has its first item, their count, and a
 -- finger on one of them
 pub record AreChained (heads : List Head) (links : List (Option Link)) : Type 0 where
@@ -88,7 +102,7 @@ pub record AreChained (heads : List Head) (links : List (Option Link)) : Type 0 
   pub within : length links ≤ 1000001
   pub firsts : (o : ℕ) → IsAbove (items links o) 0 (head_at heads o).first
   pub nexts : (n : ℕ) (link : Link) → link_at links n ≡ Some link → IsAbove (items links link.owner) n link.next
-  pub previous : (n : ℕ) (link : Link) → link_at links n ≡ Some link → IsBelow (items links link.owner) n link.previous
+  pub previous : LeadBack links
   pub fingers : (o : ℕ) → (head_at heads o).finger ≢ 0 → items links o (head_at heads o).finger ≡ true
   pub counts : (o : ℕ) → (head_at heads o).count ≡ length (owned o (owners_of links))
   pub reached : (n : ℕ) (link : Link) → link_at links n ≡ Some link → link.owner < length heads

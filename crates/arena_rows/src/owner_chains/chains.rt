@@ -14,6 +14,10 @@ use std::marker::Model;
 ///
 /// The items of an owner are chained from the least to the greatest, with their count and a finger on the item that came last,
 /// or a neighbour of the one that went last. Only `reach_owner`, `reach_item` and `copy` take memory.
+///
+/// The place of a number n among them is looked for from three sides at once: in the chain from the finger, and number by number
+/// down and up from n. So it takes about as many steps as there are items between the finger and n, or numbers between n and the
+/// nearest item of the owner, whichever is less.
 #[derive(Drop)]
 pub struct Chains {
     heads: Vec<Head>,
@@ -52,8 +56,8 @@ impl Chains {
         head_of(&self.heads, owner).count
     }
 
-    /// The least item of an owner above n, or none. Where n is 0 or an item of the owner, this is one step; else it walks over
-    /// the owner's items from the finger to n.
+    /// The least item of an owner above n, or none. Where n is 0, an item of the owner or past the room, this is one step; else
+    /// the place of n is looked for.
     pub fn after(&self, owner: u32, n: u32) -> Option<u32>
         ensures { IsNextItem self.now.owner_of owner n result }
     {
@@ -61,8 +65,9 @@ impl Chains {
         if next == 0 { None } else { Some(next) }
     }
 
-    /// Number n becomes an item of an owner; n is free, and both numbers have their room. It walks over the owner's items from
-    /// the finger to n, which is then the finger: items that come in order cost one step each.
+    /// Number n becomes an item of an owner; n is free, and both numbers have their room. The place of n is looked for, and n is then
+    /// the finger: items that come in order cost one step each, and where none goes the numbers up to N, in whatever order they come,
+    /// cost no more than about N log N in all.
     pub fn insert(&mut self, owner: u32, n: u32)
         requires owner_room { owner < self.old.owners_end }
         requires room { n < self.old.items_end }

@@ -1,40 +1,8 @@
 //! The place of a number among an owner's items.
-ghost use Rattle.std.specs.Prelude.{◌≡◌, ◌≢◌, ◌≤◌, true, false};
-ghost use Rattle.arena_rows.specs.owner_chains.Chains.{AreChained, IsAbove, IsBelow, items};
+ghost use Rattle.std.specs.Prelude.{◌≡◌, ◌≢◌, ◌<◌, true, false, length};
+ghost use Rattle.arena_rows.specs.owner_chains.Chains.{AreChained, IsAbove, IsBelow, IsClear, LeadBack, Tells, items};
 
 use crate::owner_chains::rows::{Head, Link, find, follower, head_of};
-
-/// From an owner's finger down to the first of its items that doesn't pass n, or to 0.
-fn descend(heads: &[Head], links: &[Option<Link>], owner: u32, n: u32) -> u32
-    requires chained { AreChained heads.now links.now }
-    ensures limit { result ≤ n }
-    ensures item { result ≢ 0 → items links.now owner result ≡ true }
-{
-    let mut m = head_of(heads, owner).finger;
-    'down: while m > n {
-        m = match find(links, m) {
-            Some(link) => link.previous,
-            None => 0,
-        };
-    }
-    m
-}
-
-/// The greatest item of an owner below n, or 0; n is none of its items. It walks from the owner's finger.
-pub(crate) fn below(heads: &[Head], links: &[Option<Link>], owner: u32, n: u32) -> u32
-    requires chained { AreChained heads.now links.now }
-    requires some { n ≢ 0 }
-    requires free { items links.now owner n ≡ false }
-    ensures { IsBelow (items links.now owner) n result }
-{
-    let mut m = descend(heads, links, owner, n);
-    let mut next = follower(heads, links, owner, m);
-    'up: while next != 0 && next < n {
-        m = next;
-        next = follower(heads, links, owner, m);
-    }
-    m
-}
 
 /// Whether n is an item of an owner.
 fn is_item(links: &[Option<Link>], owner: u32, n: u32) -> bool
@@ -46,13 +14,78 @@ fn is_item(links: &[Option<Link>], owner: u32, n: u32) -> bool
     }
 }
 
-/// The least item of an owner above n, or 0. One step where n is 0 or an item of the owner, else a walk from its finger.
+/// One step in an owner's chain from m towards the place of n. It stays at m where that is the place: the greatest item below n, or 0.
+fn toward(heads: &[Head], links: &[Option<Link>], owner: u32, m: u32, n: u32) -> u32
+    requires chained { AreChained heads.now links.now }
+    requires item { m ≢ 0 → items links.now owner m ≡ true }
+    requires some { n ≢ 0 }
+    requires free { items links.now owner n ≡ false }
+    ensures item { result ≢ 0 → items links.now owner result ≡ true }
+    ensures place { result ≡ m → IsBelow (items links.now owner) n result }
+{
+    if m > n {
+        return match find(links, m) {
+            Some(link) => link.previous,
+            None => 0,
+        };
+    }
+    let next = follower(heads, links, owner, m);
+    if next == 0 || next > n { m } else { next }
+}
+
+/// The greatest item of an owner below n, or 0, if one of the two numbers at this distance from n is an item. No number nearer to n is.
+fn beside(links: &[Option<Link>], owner: u32, n: u32, distance: u32) -> Option<u32>
+    requires back { LeadBack links.now }
+    requires apart { 0 < distance }
+    requires lower { distance < n }
+    requires limit { n < 1000001 }
+    requires clear { IsClear (items links.now owner) n distance }
+    ensures { Tells (items links.now owner) n distance result }
+{
+    let low = n - distance;
+    if is_item(links, owner, low) {
+        return Some(low);
+    }
+    match find(links, n + distance) {
+        Some(high) if high.owner == owner => Some(high.previous),
+        _ => None,
+    }
+}
+
+/// The greatest item of an owner below n, or 0; n is none of its items. It goes on from three sides in turn, and ends where the
+/// first one tells: in the chain from the owner's finger, and number by number down and up from n.
+pub(crate) fn below(heads: &[Head], links: &[Option<Link>], owner: u32, n: u32) -> u32
+    requires chained { AreChained heads.now links.now }
+    requires some { n ≢ 0 }
+    requires within { n < length links.now }
+    requires free { items links.now owner n ≡ false }
+    ensures { IsBelow (items links.now owner) n result }
+{
+    let mut m = head_of(heads, owner).finger;
+    'sides: for distance in 1..n {
+        let next = toward(heads, links, owner, m, n);
+        if next == m {
+            return m;
+        }
+        if let Some(place) = beside(links, owner, n, distance) {
+            return place;
+        }
+        m = next;
+    }
+    0
+}
+
+/// The least item of an owner above n, or 0. One step where n is 0, an item of the owner or past the rows, else the search for the
+/// place of n.
 pub(crate) fn above(heads: &[Head], links: &[Option<Link>], owner: u32, n: u32) -> u32
     requires { AreChained heads.now links.now }
     ensures { IsAbove (items links.now owner) n result }
 {
     if n == 0 || is_item(links, owner, n) {
         return follower(heads, links, owner, n);
+    }
+    if n as usize >= links.len() {
+        return 0;
     }
     let place = below(heads, links, owner, n);
     follower(heads, links, owner, place)

@@ -1,6 +1,8 @@
-use Rattle.std.proofs.Common.{◌-◌}
+use Rattle.std.proofs.Common.{◌≡◌, ◌-◌}
+use Rattle.euler_operators.specs.Points.{IsInRange}
 use Rattle.euler_operators.specs.HalfEdge.{code}
 use Rattle.euler_laws.proofs.shared.Bounds.{steps}
+use Rattle.shapes.specs.Faces.{start}
 use Rattle.solid_measure.specs.Measure.{read}
 use Rattle.solid_measure.proofs.AreaRounds.{AreaRound}
 use Rattle.solid_measure.proofs.LeastRounds.{LeastRound}
@@ -8,6 +10,8 @@ use Rattle.solid_measure.proofs.loops.walk_round.Given as goal
 
 abbrev pub invariant-round : goal.invariant-round
 invariant-round l = record {
+  from : l.from ≡ start l.arena.model (code l.h);
+  range : IsInRange l.from;
   area : AreaRound l.arena.model l.l (code l.first) (code l.h) (steps - l.counter) (read l.fn.n) (read l.sum);
-  least : LeastRound l.arena.model l.l (code l.first) (code l.h) (steps - l.counter) (code l.least);
+  least : LeastRound l.arena.model l.l (code l.first) (code l.h) (steps - l.counter) l.least;
 }

@@ -1,26 +1,23 @@
-use Rattle.std.proofs.Common.{◌≡◌, ◌≢◌, arith, subst, sym, true}
-use Rattle.arena_rows.specs.owner_chains.Chains.{AreChained, IsAbove, items, follower}
+use Rattle.std.proofs.Common.{◌≡◌, ◌≢◌, true, subst, sym, ap, arith}
 use Rattle.arena_rows.specs.declared.owner_chains.rows.Head.{Head}
-use Rattle.arena_rows.specs.declared.owner_chains.rows.Link.{Link}
-use Rattle.std.proofs.Common.{ℕ, List, Option}
-use Rattle.arena_rows.proofs.owner_chains_laws.Following.{follower_above, ends_below}
+use Rattle.arena_rows.specs.owner_chains.Chains.{IsBelow, items, is_of}
+use Rattle.arena_rows.proofs.owner_chains_laws.Placing.{clear_one, none_below}
 use Rattle.arena_rows.proofs.owner_chains.places.below.Goals as goal
 
-above : (heads : List Head) (links : List (Option Link)) (o m next : ℕ) → AreChained heads links → (m ≢ 0 → items links o m ≡ true) → next ≡ follower heads links o m → IsAbove (items links o) m next
-above heads links o m next are there e = subst (IsAbove (items links o) m) (sym e) (follower_above heads links are o m there)
-
-pub up-smaller : goal.up-smaller
-up-smaller c = omega (arith, ((above _ _ _ _ _ c.requires.chained c.up.invariant.item c.up.invariant.follows).found c.up-test.true).0)
-
-pub up-preserved : goal.up-preserved
-up-preserved c = record {
-  limit = c.if-next-n.true;
-  item = λ h. ((above _ _ _ _ _ c.requires.chained c.up.invariant.item c.up.invariant.follows).found h).1;
-  follows = c.follower-next-in-up.ensures;
+pub sides-init : goal.sides-init
+sides-init c = record {
+  item = subst (λ (h : Head). h.finger ≢ 0 → items c.args.links.now c.args.owner h.finger ≡ true) (sym c.head_of-m.ensures) (c.requires.chained.fingers c.args.owner);
+  clear = clear_one (items c.args.links.now c.args.owner) c.args.n c.requires.free;
 }
 
-pub returns-else-next-n : goal.returns-else-next-n
-returns-else-next-n c = ends_below _ _ _ _ c.up.invariant.limit c.up.invariant.item (above _ _ _ _ _ c.requires.chained c.up.invariant.item c.up.invariant.follows) (λ h. c.if-next-n.false)
+pub sides-preserved : goal.sides-preserved
+sides-preserved c = record { item = c.toward-next.ensures.item; clear = c.in_default.ensures }
 
-pub returns-after-up : goal.returns-after-up
-returns-after-up c = ends_below _ _ _ _ c.up.invariant.limit c.up.invariant.item (above _ _ _ _ _ c.requires.chained c.up.invariant.item c.up.invariant.follows) (λ h. absurd (h c.up-test.false))
+pub returns-then-next-m : goal.returns-then-next-m
+returns-then-next-m c = subst (IsBelow (items c.args.links.now c.args.owner) c.args.n) c.if-next-m.true (c.toward-next.ensures.place c.if-next-m.true)
+
+pub returns-in-Some : goal.returns-in-Some
+returns-in-Some c = c.in-Some.ensures
+
+pub returns : goal.returns
+returns c = none_below (items c.args.links.now c.args.owner) c.args.n (ap (is_of c.args.owner) c.requires.chained.no_zero) (λ k low high. c.sides.invariant.clear k (omega arith) (omega arith))

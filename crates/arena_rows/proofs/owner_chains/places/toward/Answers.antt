@@ -1,0 +1,34 @@
+use Rattle.std.proofs.Common.{◌≢◌, ◌≡◌, ℕ, true, List, Option, Some, arith, subst, sym, ◌∙◌, inl, inr}
+use Rattle.arena_rows.specs.declared.owner_chains.rows.Head.{Head}
+use Rattle.arena_rows.specs.declared.owner_chains.rows.Link.{Link}
+use Rattle.arena_rows.specs.owner_chains.Chains.{AreChained, IsAbove, IsBelow, follower, items, link_at}
+use Rattle.arena_rows.proofs.owner_chains_laws.Following.{ends_below, follower_above, owner_is, previous_below}
+use Rattle.arena_rows.proofs.owner_chains_laws.Order.{below_less}
+use Rattle.arena_rows.proofs.owner_chains_laws.Placing.{place_less}
+use Rattle.arena_rows.proofs.owner_chains.places.toward.Goals as goal
+
+down : (c : goal.In-Some) → IsBelow (items c.args.links.now c.args.owner) c.args.m c.in-Some.link.previous
+down c =
+    let some : c.args.m ≢ 0 = omega arith in
+    let here : link_at c.args.links.now c.args.m ≡ Some c.in-Some.link = sym c.find.ensures ∙ c.in-Some.is in
+    previous_below c.args.heads.now c.args.links.now c.requires.chained c.args.owner c.args.m c.in-Some.link here (owner_is c.args.links.now c.args.owner c.args.m c.in-Some.link here (c.requires.item some))
+
+up : (heads : List Head) (links : List (Option Link)) (o m next : ℕ) → AreChained heads links → (m ≢ 0 → items links o m ≡ true) → next ≡ follower heads links o m → IsAbove (items links o) m next
+up heads links o m next are there e = subst (IsAbove (items links o) m) (sym e) (follower_above heads links are o m there)
+
+pub returns-in-Some-clause-item : goal.returns-in-Some-clause-item
+returns-in-Some-clause-item c h = ((down c).found h).1
+
+pub returns-in-Some-clause-place : goal.returns-in-Some-clause-place
+returns-in-Some-clause-place c e = absurd (let less = below_less _ _ _ (omega arith) (down c) in omega (arith, less, e))
+
+pub returns-then-next-n-clause-place : goal.returns-then-next-n-clause-place
+returns-then-next-n-clause-place c e =
+    let less = place_less (items c.args.links.now c.args.owner) c.args.n c.args.m c.if-m-n.false c.requires.some c.requires.free c.requires.item in
+    ends_below _ _ _ _ less c.requires.item (up _ _ _ _ _ c.requires.chained c.requires.item c.follower-next.ensures) (λ h. elim c.if-next-n.either [ inl z ↦ absurd (h z) | inr more ↦ omega (arith, more.1) ])
+
+pub returns-else-next-n-clause-item : goal.returns-else-next-n-clause-item
+returns-else-next-n-clause-item c h = ((up _ _ _ _ _ c.requires.chained c.requires.item c.follower-next.ensures).found h).1
+
+pub returns-else-next-n-clause-place : goal.returns-else-next-n-clause-place
+returns-else-next-n-clause-place c e = absurd (let more = ((up _ _ _ _ _ c.requires.chained c.requires.item c.follower-next.ensures).found c.if-next-n.false.0).0 in omega (arith, more, e))
