@@ -1,5 +1,5 @@
 -- How great sums and products are, and that the code's are exact.
-use Rattle.std.proofs.Common.{◌≡◌, ℕ, ◌+◌, ◌*◌, ◌≤◌, Bool, true, false, ℤ, refl, sym, ap, subst, ◌∙◌, arith, true≢false}
+use Rattle.std.proofs.Common.{◌≡◌, ℕ, ◌+◌, ◌*◌, ◌≤◌, true, ℤ, refl, sym, ap, subst, ◌∙◌, arith}
 use Rattle.std.specs.Prelude.{◌+ℤ◌, ◌-ℤ◌, ◌*ℤ◌, ◌&&◌, FitsSigned}
 use Rattle.std.specs.Int.RustNames.{unsigned_abs}
 use Rattle.std.specs.Int.{cast_signed, cast_unsigned}
@@ -94,23 +94,40 @@ module _ (k l m : ℕ) (p q a b : ℤ) (is_a : p ≡ a) (is_b : q ≡ b) (wa : I
 
 -- ---- one number of a cross product
 
-module _ (a b c d s t u v : ℤ) (ka : is_coordinate a ≡ true) (kb : is_coordinate b ≡ true) (kc : is_coordinate c ≡ true) (kd : is_coordinate d ≡ true)
-    (fs : FitsSigned w128 s) (ft : FitsSigned w128 t) (fu : FitsSigned w128 u) (fv : FitsSigned w128 v)
-    (es : s ≡ held_short a) (et : t ≡ held_short d) (eu : u ≡ held_short b) (ev : v ≡ held_short c) where
-  left_is : held s *ℤ held t ≡ a *ℤ d
-  left_is = product_is s d t fs ft (et ∙ coordinate_is d kd) ∙ ap (λ z. z *ℤ d) (es ∙ coordinate_is a ka)
+-- what is at most 2 * 10^18 in magnitude fits 64 bits
+short_fits : (z : ℤ) → IsWithin 2000000000000000000 z → FitsSigned w64 z
+short_fits z h = fits_signed_from_abs w64 z (omega (arith, h))
 
-  right_is : held u *ℤ held v ≡ b *ℤ c
-  right_is = product_is u c v fu fv (ev ∙ coordinate_is c kc) ∙ ap (λ z. z *ℤ c) (eu ∙ coordinate_is b kb)
+short_is : (z : ℤ) → IsWithin 2000000000000000000 z → held_short z ≡ z
+short_is z h = to_z-of_z w64 z (short_fits z h)
 
-  left_within : IsWithin 1000000000000000000 (a *ℤ d)
-  left_within = product_within a d _ _ _ (coordinate_within a ka) (coordinate_within d kd) refl
+-- the product of two coordinates as the code makes it
+abbrev short_product : ℤ → ℤ → ℤ
+short_product a b = held_short (held_short a *ℤ held_short b)
 
-  right_within : IsWithin 1000000000000000000 (b *ℤ c)
-  right_within = product_within b c _ _ _ (coordinate_within b kb) (coordinate_within c kc) refl
+short_product_within : (a b : ℤ) → is_coordinate a ≡ true → is_coordinate b ≡ true → IsWithin 1000000000000000000 (a *ℤ b)
+short_product_within a b ka kb = product_within a b _ _ _ (coordinate_within a ka) (coordinate_within b kb) refl
 
-  pub minor_told : Told 2000000000000000000 (held (held s *ℤ held t) -ℤ held (held u *ℤ held v)) (a *ℤ d -ℤ b *ℤ c)
-  minor_told = difference_told _ _ _ (held s *ℤ held t) (held u *ℤ held v) (a *ℤ d) (b *ℤ c) left_is right_is left_within right_within (omega arith) (omega arith)
+short_product_is : (a b : ℤ) → is_coordinate a ≡ true → is_coordinate b ≡ true → short_product a b ≡ a *ℤ b
+short_product_is a b ka kb = ap held_short (λ i. coordinate_is a ka i *ℤ coordinate_is b kb i) ∙ short_is (a *ℤ b) (let w = short_product_within a b ka kb in omega (arith, w))
+
+module _ (a b c d : ℤ) (ka : is_coordinate a ≡ true) (kb : is_coordinate b ≡ true) (kc : is_coordinate c ≡ true) (kd : is_coordinate d ≡ true) where
+  minor_made : short_product a d -ℤ short_product b c ≡ a *ℤ d -ℤ b *ℤ c
+  minor_made = λ i. short_product_is a d ka kd i -ℤ short_product_is b c kb kc i
+
+  minor_within : IsWithin 2000000000000000000 (a *ℤ d -ℤ b *ℤ c)
+  minor_within = difference_within (a *ℤ d) (b *ℤ c) _ _ _ (short_product_within a d ka kd) (short_product_within b c kb kc) (omega arith)
+
+  pub minor_fits : FitsSigned w64 (short_product a d -ℤ short_product b c)
+  minor_fits = subst (FitsSigned w64) (sym minor_made) (short_fits (a *ℤ d -ℤ b *ℤ c) minor_within)
+
+  -- as 64 bits hold it, and then 128
+  module _ (r : ℤ) (is : r ≡ held_short (short_product a d -ℤ short_product b c)) where
+    pub minor_is : held r ≡ a *ℤ d -ℤ b *ℤ c
+    minor_is = held_as r (a *ℤ d -ℤ b *ℤ c) (is ∙ ap held_short minor_made ∙ short_is (a *ℤ d -ℤ b *ℤ c) minor_within) (fits _ _ minor_within (omega arith))
+
+    pub minor_kept : IsWithin 2000000000000000000 (held r)
+    minor_kept = subst (IsWithin 2000000000000000000) (sym minor_is) minor_within
 
 -- the sum of two numbers as the code makes it
 abbrev pub made_of : ℤ → ℤ → ℤ

@@ -46,7 +46,8 @@ fn minor(a: i64, b: i64, c: i64, d: i64) -> i128
     ensures is { result ≡ a *ℤ d -ℤ b *ℤ c }
     ensures within { IsWithin 2000000000000000000 result }
 {
-    i128::from(a) * i128::from(d) - i128::from(b) * i128::from(c)
+    let number = a * d - b * c;
+    i128::from(number)
 }
 
 /// The vector n, of numbers at most 10^25 in magnitude, plus the cross product of two points in range.
