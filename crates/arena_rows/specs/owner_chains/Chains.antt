@@ -76,9 +76,9 @@ IsClear item n distance = (k : ℕ) → n < k + distance → k < n + distance �
 
 -- what the two numbers at a distance from n tell, where none nearer to it is an item: which is the greatest item below n, or that
 -- neither of them is an item
-abbrev pub Tells : (ℕ → Bool) → ℕ → ℕ → Option ℕ → Type 0
-Tells item n distance None = IsClear item n (distance + 1)
-Tells item n distance (Some m) = IsBelow item n m
+abbrev pub TellsPlace : (ℕ → Bool) → ℕ → ℕ → Option ℕ → Type 0
+TellsPlace item n distance None = IsClear item n (distance + 1)
+TellsPlace item n distance (Some m) = IsBelow item n m
 
 -- the items of an owner, as a test
 abbrev pub items : List (Option Link) → ℕ → ℕ → Bool

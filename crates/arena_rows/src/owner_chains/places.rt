@@ -1,6 +1,6 @@
 //! The place of a number among an owner's items.
 ghost use Rattle.std.specs.Prelude.{◌≡◌, ◌≢◌, ◌<◌, true, false, length};
-ghost use Rattle.arena_rows.specs.owner_chains.Chains.{AreChained, IsAbove, IsBelow, IsClear, LeadBack, Tells, items};
+ghost use Rattle.arena_rows.specs.owner_chains.Chains.{AreChained, IsAbove, IsBelow, IsClear, LeadBack, TellsPlace, items};
 
 use crate::owner_chains::rows::{Head, Link, find, follower, head_of};
 
@@ -40,7 +40,7 @@ fn beside(links: &[Option<Link>], owner: u32, n: u32, distance: u32) -> Option<u
     requires lower { distance < n }
     requires limit { n < 1000001 }
     requires clear { IsClear (items links.now owner) n distance }
-    ensures { Tells (items links.now owner) n distance result }
+    ensures { TellsPlace (items links.now owner) n distance result }
 {
     let low = n - distance;
     if is_item(links, owner, low) {
