@@ -21,6 +21,12 @@ READERS = {
     'lone_vertex': (1, NUMBER), 'first_half_edge': (1, NUMBER), 'next_half_edge': (1, NUMBER), 'edge': (1, PAIR), 'vertex': (1, POINT)}
 
 
+def from_least(ring):
+    """The items of a ring in their order, from the least on."""
+    least = ring.index(min(ring)) if ring else 0
+    return ring[least:] + ring[:least]
+
+
 class Readers:
     """The readers of one session: what they write as a tuple, or None where they find nothing."""
 
@@ -50,15 +56,23 @@ class Readers:
             yield number
 
     def half_edges(self, loop):
-        """The half-edges of a loop from the least on; none where it is lone. The reader that writes all of them says the same, also where
-        there is less room."""
+        """The half-edges of a loop from the least on; none where it is lone. The reader that writes all of them says the same, from some
+        half-edge on, also where there is less room."""
         wanted = self.stepped(loop)
+        written = self.written(loop, len(wanted) + 2)[:len(wanted)]
         for room in {len(wanted), len(wanted) // 2, len(wanted) + 2}:
-            written = (U32 * (room + 1))(*[77] * (room + 1))
-            count = self.cycle(self.session.handle, loop, written, room)
-            if count != len(wanted) or list(written) != (wanted[:room] + [77] * (room + 1))[:room + 1]:
-                raise ValueError('loop %d with room for %d: %d, %r, not %r' % (loop, room, count, list(written), wanted))
+            found = self.written(loop, room)
+            if found != (written + [77] * (room + 1))[:room] + [77] or from_least(written) != wanted:
+                raise ValueError('loop %d with room for %d: %r, not %r' % (loop, room, found, wanted))
         return wanted
+
+    def written(self, loop, room):
+        """What the reader of all half-edges writes where there is room for so many, and the number behind the room."""
+        found = (U32 * (room + 1))(*[77] * (room + 1))
+        count = self.cycle(self.session.handle, loop, found, room)
+        if count != len(self.stepped(loop)):
+            raise ValueError('loop %d: %d half-edges' % (loop, count))
+        return list(found)
 
     def stepped(self, loop):
         """The same, step by step."""
@@ -68,8 +82,7 @@ class Readers:
         cycle = [found[0]]
         while (after := self.ask('next_half_edge', cycle[-1])[0]) != cycle[0]:
             cycle.append(after)
-        least = cycle.index(min(cycle))
-        return cycle[least:] + cycle[:least]
+        return from_least(cycle)
 
     def loop_row(self, loop):
         halves, lone = self.half_edges(loop), self.ask('lone_vertex', loop)

@@ -18,16 +18,29 @@ static void say(gwb *g, const char *line)
     printf("%-20s -> %.*s", line, (int)length, (const char *)text);
 }
 
-/* Prints the half-edges of a loop, from the least on, or its one vertex. */
+/* The place of the least of some numbers. */
+static size_t place_of_least(const uint32_t *numbers, size_t count)
+{
+    size_t least = 0;
+    for (size_t i = 1; i < count; i++)
+        if (numbers[i] < numbers[least])
+            least = i;
+    return least;
+}
+
+/* Prints the half-edges of a loop, or its one vertex: from the least on, where there is room for all. */
 static void print_loop(gwb *g, uint32_t loop)
 {
     uint32_t vertex, half_edges[64];
     size_t room = sizeof half_edges / sizeof *half_edges, count = gwb_half_edges(g, loop, half_edges, room);
+    size_t first = count > room ? 0 : place_of_least(half_edges, count);
     printf("  loop %" PRIu32, loop);
     if (gwb_lone_vertex(g, loop, &vertex) == GWB_FOUND)
         printf(" at %" PRIu32, vertex);
-    for (size_t i = 0; i < count && i < room; i++)
-        printf(" %c%" PRIu32, half_edges[i] % 2 == 0 ? '+' : '-', half_edges[i] / 2);
+    for (size_t i = 0; i < count && i < room; i++) {
+        uint32_t half_edge = half_edges[(first + i) % count];
+        printf(" %c%" PRIu32, half_edge % 2 == 0 ? '+' : '-', half_edge / 2);
+    }
     if (count > room)
         printf(" and %zu more", count - room);
     printf("\n");

@@ -102,6 +102,8 @@ impl Workbench {
             let fits = count <= found.len();
             found.resize(count, 0);
             if fits {
+                let least = (0..count).min_by_key(|&at| found[at]).unwrap_or(0);
+                found.rotate_left(least);
                 return found;
             }
         }

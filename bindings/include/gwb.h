@@ -133,8 +133,9 @@ uint32_t gwb_lone_vertex(gwb *g, uint32_t loop, uint32_t *vertex);
 /* A half-edge of a loop. GWB_ABSENT also where the loop has one vertex and no edge. */
 uint32_t gwb_first_half_edge(gwb *g, uint32_t loop, uint32_t *half_edge);
 
-/* Writes the half-edges of a loop, from the least on, as far as there is room for them in `buf`, and returns how many there are: 0 where
- * the loop has one vertex and no edge, or is not there. SIZE_MAX where the handle is closed; then nothing is written. */
+/* Writes the half-edges of a loop in their order round it, from any of them on, as far as there is room for them in `buf`, and returns how
+ * many there are: 0 where the loop has one vertex and no edge, or is not there. SIZE_MAX where the handle is closed; then nothing is
+ * written. Who wants one list of each loop turns the least to the front, as a listing does. */
 size_t gwb_half_edges(gwb *g, uint32_t loop, uint32_t *buf, size_t room);
 
 /* The half-edge after another in its loop. GWB_ABSENT where its edge is not there. */

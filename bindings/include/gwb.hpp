@@ -2,6 +2,7 @@
 #ifndef GWB_HPP
 #define GWB_HPP
 #include "gwb.h"
+#include <algorithm>
 #include <cstddef>
 #include <cstdint>
 #include <new>
@@ -121,6 +122,7 @@ public:
             gwb_half_edges(&handle_, loop, found.data(), count);
         }
         found.resize(count);
+        std::rotate(found.begin(), std::min_element(found.begin(), found.end()), found.end());
         return found;
     }
 

@@ -1,7 +1,7 @@
 """The kernel in this process: lines go to the library `libgwb.so`, replies come back as over a pipe."""
 
 import ctypes
-from typing import Tuple
+from typing import List, Tuple
 
 from .errors import CompanionError
 from .language import command_bytes
@@ -11,6 +11,12 @@ from .replies import Reply, only_reply
 _NO_TEXT = ctypes.c_size_t(-1).value
 _ROOM = 4096
 _FEW = 64
+
+
+def _from_least(ring: List[int]) -> List[int]:
+    """The items of a ring in their order, from the least on."""
+    least = ring.index(min(ring)) if ring else 0
+    return ring[least:] + ring[:least]
 
 
 class Handle(ctypes.Structure):
@@ -68,7 +74,7 @@ class Library:
             if not self._handle.is_open:
                 raise Ended('the session is closed')
             if count <= room:
-                return tuple(-(code // 2) if code % 2 else code // 2 for code in codes[:count])
+                return tuple(-(code // 2) if code % 2 else code // 2 for code in _from_least(codes[:count]))
             room = count
 
     def close(self) -> int:

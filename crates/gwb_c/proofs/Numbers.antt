@@ -44,6 +44,11 @@ in_ring (cycle hs) h e = e
 pub told_cycle : (M : Model) → Sound M → (l : ℕ) (h : HalfEdge) → Tells (content M l) (told.Ring h) → cycle_of M (code h) ≡ items_of (content M l)
 told_cycle M sound l h t = ap (λ k. items_of (content M k)) (sound.one_loop (code h) l (in-holds (code h) (content M l) (in_ring (content M l) h t)))
 
+-- a lone loop has no half-edge
+pub lone_items : (c : LoopContent) (v : ℕ) → Tells c (told.Lone v) → items_of c ≡ []
+lone_items (lone w) v e = refl
+lone_items (cycle hs) v e = absurd e
+
 -- a loop that is not there has no half-edge
 pub absent_items : (M : Model) (l : ℕ) → has M.loops l ≡ false → items_of (content M l) ≡ []
 unfolding content

@@ -116,7 +116,11 @@ abbrev pub GivesFresh : ℕ → Option Slot → Range → Range → ℕ → Type
 GivesFresh k None old new told = (told ≡ 9) × (new ≡ old)
 GivesFresh k (Some y) old new told = (s : Machine) → y.session ≡ Some s → Gives (fresh_in (taken_of y.before) (taken_in (held s)) k) old new told
 
--- the items that the model held has, as far as there is room, and how many they are; a closed handle has none
-abbrev pub Lists : (Model → List ℕ) → Option Slot → List ℕ → List ℕ → ℕ → Type 0
-Lists f None old new n = (n ≡ 2 ^ 64 - 1) × (new ≡ old)
-Lists f (Some y) old new n = (s : Machine) → y.session ≡ Some s → (n ≡ length (f (held s))) × (new ≡ laid_over (f (held s)) old)
+-- one of the lists that R allows is written, as far as there is room, and its length told
+abbrev pub WritesOne : (List ℕ → Type 0) → List ℕ → List ℕ → ℕ → Type 0
+WritesOne R old new n = (xs : List ℕ) × R xs × (n ≡ length xs) × (new ≡ laid_over xs old)
+
+-- a list that a relation to the model held allows; a closed handle has none
+abbrev pub Lists : (Model → List ℕ → Type 0) → Option Slot → List ℕ → List ℕ → ℕ → Type 0
+Lists R None old new n = (n ≡ 2 ^ 64 - 1) × (new ≡ old)
+Lists R (Some y) old new n = (s : Machine) → y.session ≡ Some s → WritesOne (R (held s)) old new n

@@ -1,6 +1,7 @@
 -- What readers tell of a model.
 use Rattle.std.specs.Prelude.{◌≡◌, ℕ, true, false, cond, nat_eq, List, Option, Some, None}
 use Rattle.euler_operators.specs.Items.{IsIn}
+use Rattle.euler_operators.specs.Rings.{IsRotation}
 use Rattle.euler_operators.specs.Table as table
 use Rattle.euler_operators.specs.HalfEdge.{plus, minus, edge_of}
 use Rattle.euler_operators.specs.Model.{Model, LoopContent, lone, cycle, items_of, solid_of, outer, face_of, content, tail, after, point_of}
@@ -45,9 +46,9 @@ IsItemOf (cycle hs) (Some h) = IsIn h hs
 abbrev pub IsFirst : ℕ → Model → Option ℕ → Type 0
 IsFirst l M o = (table.has M.loops l ≡ true → IsItemOf (content M l) o) × (table.has M.loops l ≡ false → o ≡ None)
 
--- the half-edges of loop l from the least on; none where the loop is lone or not there
-abbrev pub half_edges_in : ℕ → Model → List ℕ
-half_edges_in l M = items_of (content M l)
+-- the half-edges of loop l in their order round it, from any of them on; none where the loop is lone or not there
+abbrev pub AreHalfEdges : ℕ → Model → List ℕ → Type 0
+AreHalfEdges l M hs = IsRotation (items_of (content M l)) hs
 
 -- the item after half-edge h in its loop, if h's edge is there
 abbrev pub after_in : ℕ → Model → Option ℕ

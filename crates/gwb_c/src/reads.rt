@@ -1,7 +1,7 @@
 //! Calls of C: the model held, read without text. Each says 1 where the value is there, and writes it; 0 where it is not there, and 9
 //! where there is no session: then nothing is written.
 ghost use Rattle.std.specs.Prelude.{◌≡◌, Some};
-ghost use Rattle.gwb_c.specs.Reading.{face_in, face_of_loop_in, edge_in, point_in, lone_in, after_in, IsRingAfter, IsFaceAfter, half_edges_in, IsFirst, kind_of, IsNumberAfter};
+ghost use Rattle.gwb_c.specs.Reading.{face_in, face_of_loop_in, edge_in, point_in, lone_in, after_in, IsRingAfter, IsFaceAfter, AreHalfEdges, IsFirst, kind_of, IsNumberAfter};
 ghost use Rattle.gwb_c.specs.Handle.{Reads, Finds, Lists, GivesFresh};
 
 use crate::answers::give;
@@ -144,7 +144,7 @@ pub extern "C" fn gwb_first_half_edge(alloc: Global, gwb: &mut Gwb, l: u32, item
 }
 
 fn list_half_edges(slot: &Slot, l: u32, buf: &mut [u32]) -> usize
-    ensures { Lists (half_edges_in l) (Some slot.now) buf.old buf.new result }
+    ensures { Lists (AreHalfEdges l) (Some slot.now) buf.old buf.new result }
 {
     match &slot.session {
         Some(session) => cycles::half_edges(session.arena(), l, buf),
@@ -152,12 +152,12 @@ fn list_half_edges(slot: &Slot, l: u32, buf: &mut [u32]) -> usize
     }
 }
 
-/// Writes the half-edges of a loop from the least on, as far as there is room, and says how many there are: none of a loop with a
-/// vertex and no edge, or that is not there; `SIZE_MAX` where there is no session.
+/// Writes the half-edges of a loop in their order round it, from any of them on, as far as there is room, and says how many there are:
+/// none of a loop with a vertex and no edge, or that is not there; `SIZE_MAX` where there is no session. It walks round the loop once.
 #[unsafe(no_mangle)]
 pub extern "C" fn gwb_half_edges(alloc: Global, gwb: &mut Gwb, l: u32, buf: &mut [u32]) -> usize
     ensures state { gwb.new.held.value ≡ gwb.old.held.value }
-    ensures items { Lists (half_edges_in l) gwb.old.held.value buf.old buf.new result }
+    ensures items { Lists (AreHalfEdges l) gwb.old.held.value buf.old buf.new result }
 {
     let Some(slot) = take(alloc, gwb) else {
         return usize::MAX;

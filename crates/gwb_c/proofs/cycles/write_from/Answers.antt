@@ -5,7 +5,7 @@ use Rattle.gwb_c.proofs.CycleRounds.{CycleRound, round_start, at_there, count_sh
 use Rattle.gwb_c.proofs.cycles.write_from.Goals as goal
 
 pub round-init : goal.round-init
-round-init c = round_start c.args.arena.now.model c.requires.sound (code c.args.first) c.requires.there c.args.buf.now c.requires.least
+round-init c = round_start c.args.arena.now.model c.requires.sound (code c.args.first) c.requires.there c.args.buf.now
 
 pub code-requires : goal.code-requires
 code-requires c =
