@@ -1,4 +1,6 @@
 pub mod Walks
+pub mod RingTests
+pub mod Rings
 pub mod Signs
 pub mod Lists
 pub mod Cuts
