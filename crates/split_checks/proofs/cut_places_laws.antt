@@ -1,4 +1,7 @@
 pub mod Walks
+pub mod RingTests
+pub mod Rings
+pub mod PlaceWalks
 pub mod Signs
 pub mod Lists
 pub mod Cuts

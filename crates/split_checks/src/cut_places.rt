@@ -12,6 +12,5 @@ pub use faces::places;
 pub(crate) use halves::{crosses, is_place, touches};
 pub use halves::{goes_up, starts_on};
 pub use loops::boundary;
-pub(crate) use loops::loop_items;
 pub(crate) use sides::solid_reaches;
 pub use sides::{loop_reaches, reaches, straddling};

@@ -3,7 +3,6 @@ use Rattle.std.proofs.Common.{◌≡◌, ℕ, Bool, true, false, not, ◌&&◌, 
 use Rattle.std.specs.List.{list_all}
 use Rattle.euler_operators.specs.declared.Plane.{Plane}
 use Rattle.euler_operators.specs.Model.{Model, outer, rings_of}
-use Rattle.shapes.specs.Faces.{loops_of}
 use Rattle.shapes.specs.split.Places.{loop_is_cut, is_cut_often, places}
 
 module _ (M : Model) (p : Plane) (f : ℕ) where
@@ -15,16 +14,12 @@ module _ (M : Model) (p : Plane) (f : ℕ) where
   often_outer off = sym (ap (λ b. not b || (not (list_all (loop_is_cut M p) (rings_of M f)) && not (nat_eq (length (places M p f)) 2))) off)
 
   module _ (on : loop_is_cut M p (outer M f) ≡ true) where
-    rings_are : list_all (loop_is_cut M p) (loops_of M f) ≡ list_all (loop_is_cut M p) (rings_of M f)
-    unfolding loops_of
-    rings_are = ap (λ b. b && list_all (loop_is_cut M p) (rings_of M f)) on
-
-    often_is : not (list_all (loop_is_cut M p) (loops_of M f)) && not (nat_eq (length (places M p f)) 2) ≡ is_cut_often M p f
+    often_is : not (list_all (loop_is_cut M p) (rings_of M f)) && not (nat_eq (length (places M p f)) 2) ≡ is_cut_often M p f
     unfolding is_cut_often
-    often_is = ap (λ b. not b && not (nat_eq (length (places M p f)) 2)) rings_are ∙ sym (ap (λ b. not b || (not (list_all (loop_is_cut M p) (rings_of M f)) && not (nat_eq (length (places M p f)) 2))) on)
+    often_is = sym (ap (λ b. not b || (not (list_all (loop_is_cut M p) (rings_of M f)) && not (nat_eq (length (places M p f)) 2))) on)
 
-    pub often_not : list_all (loop_is_cut M p) (loops_of M f) ≡ true → false ≡ is_cut_often M p f
+    pub often_not : list_all (loop_is_cut M p) (rings_of M f) ≡ true → false ≡ is_cut_often M p f
     often_not all = sym (ap (λ b. not b && not (nat_eq (length (places M p f)) 2)) all) ∙ often_is
 
-    pub often_count : list_all (loop_is_cut M p) (loops_of M f) ≡ false → (n : ℕ) → n ≡ length (places M p f) → not (nat_eq n 2) ≡ is_cut_often M p f
+    pub often_count : list_all (loop_is_cut M p) (rings_of M f) ≡ false → (n : ℕ) → n ≡ length (places M p f) → not (nat_eq n 2) ≡ is_cut_often M p f
     often_count some n e = ap (λ k. not (nat_eq k 2)) e ∙ sym (ap (λ b. not b && not (nat_eq (length (places M p f)) 2)) some) ∙ often_is

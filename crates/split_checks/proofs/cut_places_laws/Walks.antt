@@ -3,7 +3,7 @@ use Rattle.std.proofs.Common.{◌≡◌, ℕ, true, List, [], ◌∷◌, map, re
 use Rattle.euler_operators.specs.Items.{IsIn}
 use Rattle.euler_operators.proofs.Lists.{tick_same}
 use Rattle.euler_operators.specs.declared.HalfEdge.{HalfEdge}
-use Rattle.euler_operators.specs.declared.Content.TheVariants.{Ring}
+use Rattle.euler_operators.specs.declared.Content.TheVariants.{Lone, Ring}
 use Rattle.euler_operators.specs.HalfEdge.{code}
 use Rattle.euler_operators.specs.Table.{Table}
 use Rattle.euler_operators.specs.Model.{Model, LoopContent, lone, cycle, items_of, content, loop_of, tail}
@@ -54,3 +54,8 @@ module _ (M : Model) (sound : Sound M) where
 pub ring_vertices : (M : Model) (t : LoopContent) (h : HalfEdge) → Tells t (Ring h) → vertices_on M t ≡ map (tail M) (items_of t)
 ring_vertices M (lone v) h tells = absurd tells
 ring_vertices M (cycle hs) h tells = refl
+
+-- a lone loop has no half-edges
+pub lone_items : (t : LoopContent) (v : ℕ) → Tells t (Lone v) → items_of t ≡ []
+lone_items (lone w) v tells = refl
+lone_items (cycle hs) v tells = absurd tells

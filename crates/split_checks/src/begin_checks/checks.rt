@@ -55,15 +55,12 @@ fn check_solid(arena: &Arena, s: u32) -> Result<(), Refusal>
 }
 
 /// Whether solid s has vertices on both sides of the plane.
-fn is_met(alloc: Global, arena: &Arena, plane: Plane, s: u32) -> Result<bool, AllocError>
+fn is_met(arena: &Arena, plane: Plane, s: u32) -> bool
     requires ready { IsReady arena.now }
     requires plane { IsCutPlane plane }
-    ensures { IfOk result (λ met. met ≡ list_any (reaches_above arena.now.model plane) (faces_of arena.now.model s) && list_any (reaches_below arena.now.model plane) (faces_of arena.now.model s)) }
+    ensures { result ≡ list_any (reaches_above arena.now.model plane) (faces_of arena.now.model s) && list_any (reaches_below arena.now.model plane) (faces_of arena.now.model s) }
 {
-    if !solid_reaches(alloc, arena, plane, Sign::Above, s)? {
-        return Ok(false);
-    }
-    solid_reaches(alloc, arena, plane, Sign::Below, s)
+    solid_reaches(arena, plane, Sign::Above, s) && solid_reaches(arena, plane, Sign::Below, s)
 }
 
 /// Whether the faces, which straddle the plane, can be cut.
@@ -101,7 +98,7 @@ fn check_section(
     requires plane { IsCutPlane plane }
     ensures { IfOk result (λ checked. checked ≡ verdict (first_refusal (sectioning_conditions arena.now.model s plane))) }
 {
-    if !is_met(alloc, arena, plane, s)? {
+    if !is_met(arena, plane, s) {
         return Ok(refused(Why::PlaneMisses, s));
     }
     let edges = crossings(alloc, arena, plane, s)?;

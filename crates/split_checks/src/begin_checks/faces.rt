@@ -2,17 +2,17 @@
 ghost use Rattle.std.specs.Prelude.{◌≡◌, true, map, IfOk};
 ghost use Rattle.std.specs.List.{list_all, list_any};
 ghost use Rattle.euler_operators.specs.HalfEdge.{code};
+ghost use Rattle.euler_operators.specs.Model.{cycle_of, has_half, rings_of};
 ghost use Rattle.euler_conditions.specs.Ready.{IsReady};
 ghost use Rattle.euler_conditions.specs.Store.{has_number};
 ghost use Rattle.euler_operators.specs.Ranges.{IsCutPlane};
-ghost use Rattle.split_checks.specs.cut_places.Walks.{AreIn, AreThere};
+ghost use Rattle.split_checks.specs.cut_places.Walks.{AreThere};
 ghost use Rattle.split_checks.specs.cut_places.Places.{some_touch};
 ghost use Rattle.shapes.specs.split.Places.{is_cut_often, is_place, is_touched, loop_is_cut};
 
-use crate::cut_places::{boundary, is_place, loop_items, places, touches};
+use crate::cut_places::{boundary, is_place, places, touches};
 use euler_conditions::Arena;
-use euler_operators::{HalfEdge, Kind, Plane};
-use solid_walks::face_loops;
+use euler_operators::{Content, HalfEdge, Kind, Plane};
 use std::alloc::{AllocError, Global};
 
 /// Whether one of the half-edges starts on the plane at a corner that is no cut place.
@@ -48,54 +48,53 @@ pub(crate) fn is_touched(
     Ok(some_touch(arena, plane, items.as_slice()))
 }
 
-/// Whether one of the half-edges tells a cut place.
-fn some_place(arena: &Arena, plane: Plane, items: &[HalfEdge]) -> bool
+/// Whether one of the half-edges of the loop in which h stands tells a cut place. It walks from h on to the first that does.
+fn ring_is_cut(arena: &Arena, plane: Plane, h: HalfEdge) -> bool
     requires ready { IsReady arena.now }
-    requires there { AreThere arena.now.model (map code items.now) }
+    requires there { has_half arena.now.model (code h) ≡ true }
     requires plane { IsCutPlane plane }
-    ensures { result ≡ list_any (is_place arena.now.model plane) (map code items.now) }
+    ensures { result ≡ list_any (is_place arena.now.model plane) (cycle_of arena.now.model (code h)) }
 {
-    let mut rest = items;
-    'items: while let [h, others @ ..] = rest {
-        if is_place(arena, plane, *h) {
+    let mut at = h;
+    'round: loop {
+        if is_place(arena, plane, at) {
             return true;
         }
-        rest = others;
+        at = arena.next(at);
+        if at == h {
+            return false;
+        }
     }
-    false
 }
 
 /// Whether loop l has a cut place.
-fn loop_is_cut(alloc: Global, arena: &Arena, plane: Plane, l: u32) -> Result<bool, AllocError>
+fn loop_is_cut(arena: &Arena, plane: Plane, l: u32) -> bool
     requires ready { IsReady arena.now }
     requires there { has_number arena.now Kind.Loop l ≡ true }
     requires plane { IsCutPlane plane }
-    ensures { IfOk result (λ found. found ≡ loop_is_cut arena.now.model plane l) }
+    ensures { result ≡ loop_is_cut arena.now.model plane l }
 {
-    let items = loop_items(alloc, arena, l)?;
-    Ok(some_place(arena, plane, items.as_slice()))
+    match arena.content(l) {
+        Content::Lone(_) => false,
+        Content::Ring(h) => ring_is_cut(arena, plane, h),
+    }
 }
 
-/// Whether each of the loops has a cut place.
-fn all_are_cut(
-    alloc: Global,
-    arena: &Arena,
-    plane: Plane,
-    loops: &[u32],
-) -> Result<bool, AllocError>
+/// Whether each ring of face f has a cut place.
+fn rings_are_cut(arena: &Arena, plane: Plane, f: u32) -> bool
     requires ready { IsReady arena.now }
-    requires there { AreIn arena.now.model.loops loops.now }
+    requires there { has_number arena.now Kind.Face f ≡ true }
     requires plane { IsCutPlane plane }
-    ensures { IfOk result (λ found. found ≡ list_all (loop_is_cut arena.now.model plane) loops.now) }
+    ensures { result ≡ list_all (loop_is_cut arena.now.model plane) (rings_of arena.now.model f) }
 {
-    let mut rest = loops;
-    'loops: while let [l, others @ ..] = rest {
-        if !loop_is_cut(alloc, arena, plane, *l)? {
-            return Ok(false);
+    let mut above = 0;
+    'rings: while let Some(l) = arena.ring_after(f, above) {
+        if !loop_is_cut(arena, plane, l) {
+            return false;
         }
-        rest = others;
+        above = l;
     }
-    Ok(true)
+    true
 }
 
 /// Whether the outer loop of face f has no cut place, or a ring of it has none while the face hasn't exactly two.
@@ -110,11 +109,10 @@ pub(crate) fn is_cut_often(
     requires plane { IsCutPlane plane }
     ensures { IfOk result (λ found. found ≡ is_cut_often arena.now.model plane f) }
 {
-    if !loop_is_cut(alloc, arena, plane, arena.outer(f))? {
+    if !loop_is_cut(arena, plane, arena.outer(f)) {
         return Ok(true);
     }
-    let loops = face_loops(alloc, arena, f)?;
-    if all_are_cut(alloc, arena, plane, loops.as_slice())? {
+    if rings_are_cut(arena, plane, f) {
         return Ok(false);
     }
     Ok(places(alloc, arena, plane, f)?.len() != 2)

@@ -1,21 +1,19 @@
 //! The edges that cross a plane, and where they meet it.
-ghost use Rattle.std.specs.Prelude.{◌≡◌, true, false, map, IfOk};
+ghost use Rattle.std.specs.Prelude.{◌≡◌, ◌++◌, true, false, IfOk, OnOk};
 ghost use Rattle.euler_operators.specs.HalfEdge.{code, edge_of};
-ghost use Rattle.euler_operators.specs.Model.{faces_of, has_half};
+ghost use Rattle.euler_operators.specs.Model.{content, cycle_of, faces_of, has_half, items_of};
 ghost use Rattle.euler_conditions.specs.Ready.{IsReady};
 ghost use Rattle.euler_conditions.specs.Store.{has_number};
 ghost use Rattle.euler_operators.specs.Ranges.{IsCutPlane};
 ghost use Rattle.euler_operators.specs.Vectors.{cut_between};
 ghost use Rattle.shapes.specs.Faces.{boundary, finish, start};
 ghost use Rattle.split_checks.specs.cut_places.Crossings.{crossings_in, crossings_met, is_off, leads_across};
-ghost use Rattle.split_checks.specs.cut_places.Walks.{AreThere};
 ghost use Rattle.shapes.specs.split.Sides.{crosses};
 
 use crate::cut_places::halves::crosses;
-use crate::cut_places::loops::boundary;
 use euler_conditions::Arena;
-use euler_operators::{HalfEdge, Kind, Plane, Point, cut_point};
-use solid_walks::{finish, start};
+use euler_operators::{Content, HalfEdge, Kind, Plane, Point, cut_point};
+use solid_walks::{finish, least_item, start};
 use std::alloc::{AllocError, Global};
 
 /// The edge of the half-edge.
@@ -35,43 +33,68 @@ fn leads_across(arena: &Arena, plane: Plane, h: HalfEdge) -> bool
     h.first && crosses(arena, plane, h)
 }
 
-/// The edges that cross the plane, of which the plus half is among the half-edges.
-fn crossings_in(
-    alloc: Global,
+/// Adds the edges that cross the plane, of which the plus half stands in the loop of h, from its least half-edge on.
+fn push_ring_crossings(
     arena: &Arena,
     plane: Plane,
-    items: &[HalfEdge],
-) -> Result<Vec<u32>, AllocError>
+    h: HalfEdge,
+    edges: &mut Vec<u32>,
+) -> Result<(), AllocError>
     requires ready { IsReady arena.now }
-    requires there { AreThere arena.now.model (map code items.now) }
+    requires there { has_half arena.now.model (code h) ≡ true }
     requires plane { IsCutPlane plane }
-    ensures { IfOk result (λ edges. edges.items ≡ crossings_in arena.now.model plane (map code items.now)) }
+    ensures { OnOk result (edges.new.items ≡ edges.old.items ++ crossings_in arena.now.model plane (cycle_of arena.now.model (code h))) }
 {
-    let mut edges = Vec::new(alloc);
-    let mut rest = items;
-    'items: while let [h, others @ ..] = rest {
-        if leads_across(arena, plane, *h) {
-            edges.push(edge_of(*h))?;
+    let first = least_item(arena, h);
+    let mut at = first;
+    'round: loop {
+        if leads_across(arena, plane, at) {
+            edges.push(edge_of(at))?;
         }
-        rest = others;
+        at = arena.next(at);
+        if at == first {
+            return Ok(());
+        }
     }
-    Ok(edges)
 }
 
-/// The edges that cross the plane, of which the plus half is a half-edge of face f.
-fn face_crossings(
-    alloc: Global,
+/// Adds the edges that cross the plane, of which the plus half stands in loop l.
+fn push_loop_crossings(
+    arena: &Arena,
+    plane: Plane,
+    l: u32,
+    edges: &mut Vec<u32>,
+) -> Result<(), AllocError>
+    requires ready { IsReady arena.now }
+    requires there { has_number arena.now Kind.Loop l ≡ true }
+    requires plane { IsCutPlane plane }
+    ensures { OnOk result (edges.new.items ≡ edges.old.items ++ crossings_in arena.now.model plane (items_of (content arena.now.model l))) }
+{
+    match arena.content(l) {
+        Content::Lone(_) => Ok(()),
+        Content::Ring(h) => push_ring_crossings(arena, plane, h, edges),
+    }
+}
+
+/// Adds the edges that cross the plane, of which the plus half is a half-edge of face f.
+fn push_crossings(
     arena: &Arena,
     plane: Plane,
     f: u32,
-) -> Result<Vec<u32>, AllocError>
+    edges: &mut Vec<u32>,
+) -> Result<(), AllocError>
     requires ready { IsReady arena.now }
     requires there { has_number arena.now Kind.Face f ≡ true }
     requires plane { IsCutPlane plane }
-    ensures { IfOk result (λ edges. edges.items ≡ crossings_in arena.now.model plane (boundary arena.now.model f)) }
+    ensures { OnOk result (edges.new.items ≡ edges.old.items ++ crossings_in arena.now.model plane (boundary arena.now.model f)) }
 {
-    let items = boundary(alloc, arena, f)?;
-    crossings_in(alloc, arena, plane, items.as_slice())
+    push_loop_crossings(arena, plane, arena.outer(f), edges)?;
+    let mut above = 0;
+    'rings: while let Some(l) = arena.ring_after(f, above) {
+        push_loop_crossings(arena, plane, l, edges)?;
+        above = l;
+    }
+    Ok(())
 }
 
 /// The edges of solid s that cross the plane, face by face.
@@ -83,8 +106,7 @@ pub fn crossings(alloc: Global, arena: &Arena, plane: Plane, s: u32) -> Result<V
     let mut edges = Vec::new(alloc);
     let mut above = 0;
     'faces: while let Some(f) = arena.face_after(s, above) {
-        let more = face_crossings(alloc, arena, plane, f)?;
-        edges.extend_from_slice(more.as_slice())?;
+        push_crossings(arena, plane, f, &mut edges)?;
         above = f;
     }
     Ok(edges)

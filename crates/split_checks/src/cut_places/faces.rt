@@ -1,42 +1,66 @@
 //! The cut places of faces.
-ghost use Rattle.std.specs.Prelude.{◌≡◌, true, filter, map, IfOk};
+ghost use Rattle.std.specs.Prelude.{◌≡◌, ◌++◌, true, filter, map, IfOk, OnOk};
 ghost use Rattle.euler_operators.specs.HalfEdge.{code};
+ghost use Rattle.euler_operators.specs.Model.{content, cycle_of, has_half, items_of};
 ghost use Rattle.euler_conditions.specs.Ready.{IsReady};
 ghost use Rattle.euler_conditions.specs.Store.{has_number};
 ghost use Rattle.euler_operators.specs.Ranges.{IsCutPlane};
-ghost use Rattle.split_checks.specs.cut_places.Walks.{AreThere};
 ghost use Rattle.shapes.specs.split.Places.{is_place, places};
 
-use crate::cut_places::halves::is_place;
-use crate::cut_places::loops::boundary;
+use crate::cut_places::halves::{is_place_between, start_side};
 use euler_conditions::Arena;
-use euler_operators::{HalfEdge, Kind, Plane};
+use euler_operators::{Content, HalfEdge, Kind, Plane};
+use solid_walks::least_item;
 use std::alloc::{AllocError, Global};
 
-/// Those of the half-edges that tell cut places.
-fn places_in(
-    alloc: Global,
+/// Adds the half-edges of the loop in which h stands that tell cut places, from its least half-edge on. It looks at each corner once.
+fn push_ring_places(
     arena: &Arena,
     plane: Plane,
-    items: &[HalfEdge],
-) -> Result<Vec<HalfEdge>, AllocError>
+    h: HalfEdge,
+    found: &mut Vec<HalfEdge>,
+) -> Result<(), AllocError>
     requires ready { IsReady arena.now }
-    requires there { AreThere arena.now.model (map code items.now) }
+    requires there { has_half arena.now.model (code h) ≡ true }
     requires plane { IsCutPlane plane }
-    ensures { IfOk result (λ found. map code found.items ≡ filter (is_place arena.now.model plane) (map code items.now)) }
+    ensures { OnOk result (map code found.new.items ≡ map code found.old.items ++ filter (is_place arena.now.model plane) (cycle_of arena.now.model (code h))) }
 {
-    let mut found = Vec::new(alloc);
-    let mut rest = items;
-    'items: while let [h, others @ ..] = rest {
-        if is_place(arena, plane, *h) {
-            found.push(*h)?;
+    let first = least_item(arena, h);
+    let mut at = first;
+    let mut from = start_side(arena, plane, first);
+    'round: loop {
+        let next = arena.next(at);
+        let to = start_side(arena, plane, next);
+        if is_place_between(arena, plane, at, from, to) {
+            found.push(at)?;
         }
-        rest = others;
+        if next == first {
+            return Ok(());
+        }
+        at = next;
+        from = to;
     }
-    Ok(found)
 }
 
-/// The cut places of face f.
+/// Adds the cut places of loop l.
+fn push_loop_places(
+    arena: &Arena,
+    plane: Plane,
+    l: u32,
+    found: &mut Vec<HalfEdge>,
+) -> Result<(), AllocError>
+    requires ready { IsReady arena.now }
+    requires there { has_number arena.now Kind.Loop l ≡ true }
+    requires plane { IsCutPlane plane }
+    ensures { OnOk result (map code found.new.items ≡ map code found.old.items ++ filter (is_place arena.now.model plane) (items_of (content arena.now.model l))) }
+{
+    match arena.content(l) {
+        Content::Lone(_) => Ok(()),
+        Content::Ring(h) => push_ring_places(arena, plane, h, found),
+    }
+}
+
+/// The cut places of face f. It walks twice round each loop, and makes one list.
 pub fn places(
     alloc: Global,
     arena: &Arena,
@@ -48,6 +72,12 @@ pub fn places(
     requires plane { IsCutPlane plane }
     ensures { IfOk result (λ found. map code found.items ≡ places arena.now.model plane f) }
 {
-    let items = boundary(alloc, arena, f)?;
-    places_in(alloc, arena, plane, items.as_slice())
+    let mut found = Vec::new(alloc);
+    push_loop_places(arena, plane, arena.outer(f), &mut found)?;
+    let mut above = 0;
+    'rings: while let Some(l) = arena.ring_after(f, above) {
+        push_loop_places(arena, plane, l, &mut found)?;
+        above = l;
+    }
+    Ok(found)
 }

@@ -4,16 +4,15 @@ ghost use Rattle.euler_operators.specs.HalfEdge.{code};
 ghost use Rattle.euler_operators.specs.Model.{content, items_of};
 ghost use Rattle.euler_conditions.specs.Ready.{IsReady};
 ghost use Rattle.euler_conditions.specs.Store.{has_number};
-ghost use Rattle.shapes.specs.Faces.{boundary, items_in};
-ghost use Rattle.split_checks.specs.cut_places.Walks.{AreIn};
+ghost use Rattle.shapes.specs.Faces.{boundary};
 
 use euler_conditions::Arena;
 use euler_operators::{Content, HalfEdge, Kind};
-use solid_walks::{face_loops, items_from};
+use solid_walks::items_from;
 use std::alloc::{AllocError, Global};
 
 /// The half-edges of loop l, in the order of listings; none where it is lone.
-pub(crate) fn loop_items(alloc: Global, arena: &Arena, l: u32) -> Result<Vec<HalfEdge>, AllocError>
+fn loop_items(alloc: Global, arena: &Arena, l: u32) -> Result<Vec<HalfEdge>, AllocError>
     requires ready { IsReady arena.now }
     requires there { has_number arena.now Kind.Loop l ≡ true }
     ensures { IfOk result (λ items. map code items.items ≡ items_of (content arena.now.model l)) }
@@ -24,28 +23,18 @@ pub(crate) fn loop_items(alloc: Global, arena: &Arena, l: u32) -> Result<Vec<Hal
     }
 }
 
-/// The half-edges of some loops, one loop after the other.
-fn items_in(alloc: Global, arena: &Arena, loops: &[u32]) -> Result<Vec<HalfEdge>, AllocError>
-    requires ready { IsReady arena.now }
-    requires there { AreIn arena.now.model.loops loops.now }
-    ensures { IfOk result (λ items. map code items.items ≡ items_in arena.now.model loops.now) }
-{
-    let mut all = Vec::new(alloc);
-    let mut rest = loops;
-    'loops: while let [l, others @ ..] = rest {
-        let items = loop_items(alloc, arena, *l)?;
-        all.extend_from_slice(items.as_slice())?;
-        rest = others;
-    }
-    Ok(all)
-}
-
-/// The half-edges of face f, one loop after the other.
+/// The half-edges of face f, one loop after the other. For a face without rings it makes one list.
 pub fn boundary(alloc: Global, arena: &Arena, f: u32) -> Result<Vec<HalfEdge>, AllocError>
     requires ready { IsReady arena.now }
     requires there { has_number arena.now Kind.Face f ≡ true }
     ensures { IfOk result (λ items. map code items.items ≡ boundary arena.now.model f) }
 {
-    let loops = face_loops(alloc, arena, f)?;
-    items_in(alloc, arena, loops.as_slice())
+    let mut all = loop_items(alloc, arena, arena.outer(f))?;
+    let mut above = 0;
+    'rings: while let Some(l) = arena.ring_after(f, above) {
+        let items = loop_items(alloc, arena, l)?;
+        all.extend_from_slice(items.as_slice())?;
+        above = l;
+    }
+    Ok(all)
 }

@@ -8,7 +8,7 @@ ghost use Rattle.split_checks.specs.cut_places.Sides.{lies, opposite_signs, same
 use euler_operators::{Plane, Point, Sign, side};
 
 /// Whether two signs are one.
-fn same(a: Sign, b: Sign) -> bool
+pub(crate) fn same(a: Sign, b: Sign) -> bool
     ensures { result ≡ same_sign a b }
 {
     match (a, b) {
@@ -20,7 +20,7 @@ fn same(a: Sign, b: Sign) -> bool
 }
 
 /// Whether one sign is above and the other below.
-fn opposite(a: Sign, b: Sign) -> bool
+pub(crate) fn opposite(a: Sign, b: Sign) -> bool
     ensures { result ≡ opposite_signs a b }
 {
     match (a, b) {
@@ -31,7 +31,7 @@ fn opposite(a: Sign, b: Sign) -> bool
 }
 
 /// On which side of the plane the point lies.
-fn side_of(plane: Plane, p: Point) -> Sign
+pub(crate) fn side_of(plane: Plane, p: Point) -> Sign
     requires plane { IsCutPlane plane }
     requires p { IsInRange p }
     ensures { result ≡ sign_of (height plane p) }

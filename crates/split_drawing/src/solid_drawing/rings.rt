@@ -25,7 +25,7 @@ fn rings_above(alloc: Global, arena: &Arena, plane: Plane, f: u32) -> Result<Vec
     let mut rings = Vec::new(alloc);
     let mut above = 0;
     'rings: while let Some(l) = arena.ring_after(f, above) {
-        if loop_reaches(alloc, arena, plane, Sign::Above, l)? {
+        if loop_reaches(arena, plane, Sign::Above, l) {
             rings.push(l)?;
         }
         above = l;

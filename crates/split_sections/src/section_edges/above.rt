@@ -43,19 +43,14 @@ fn points_along(arena: &Arena, plane: Plane, f: u32) -> bool
 /// Whether face f is above the plane: it has a corner above, or lies wholly on it with a normal that doesn't point along the plane's
 /// direction.
 #[tactic(auto, unfolding(shapes::specs::split::Sides::face_is_above))]
-fn is_above(alloc: Global, arena: &Arena, plane: Plane, f: u32) -> Result<bool, AllocError>
+fn is_above(arena: &Arena, plane: Plane, f: u32) -> bool
     requires ready { IsReady arena.now }
     requires there { has_number arena.now Kind.Face f ≡ true }
     requires plane { IsCutPlane plane }
-    ensures { IfOk result (λ found. found ≡ face_is_above arena.now.model plane f) }
+    ensures { result ≡ face_is_above arena.now.model plane f }
 {
-    if reaches(alloc, arena, plane, Sign::Above, f)? {
-        return Ok(true);
-    }
-    if reaches(alloc, arena, plane, Sign::Below, f)? {
-        return Ok(false);
-    }
-    Ok(!points_along(arena, plane, f))
+    reaches(arena, plane, Sign::Above, f)
+        || (!reaches(arena, plane, Sign::Below, f) && !points_along(arena, plane, f))
 }
 
 /// The faces of solid s that are above the plane, rising: those with a corner above it, and those wholly on it whose normal doesn't
@@ -74,7 +69,7 @@ pub(crate) fn faces_above(
     let mut faces = Vec::new(alloc);
     let mut last = 0;
     'faces: while let Some(f) = arena.face_after(s, last) {
-        if is_above(alloc, arena, plane, f)? {
+        if is_above(arena, plane, f) {
             faces.push(f)?;
         }
         last = f;

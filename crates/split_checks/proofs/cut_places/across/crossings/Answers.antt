@@ -1,4 +1,4 @@
-use Rattle.std.proofs.Common.{◌≡◌, ◌∙◌, ap, sym, ℕ, List, ◌++◌, length, arith, append_assoc}
+use Rattle.std.proofs.Common.{◌∙◌, ap, sym, ℕ, List, ◌++◌, length, arith, append_assoc}
 use Rattle.std.proofs.lemmas.List.{append-nil}
 use Rattle.euler_operators.specs.Model.{faces_of}
 use Rattle.solid_walks.proofs.face_walks_laws.Above.{above}
@@ -20,8 +20,7 @@ pub faces-preserved : goal.faces-preserved
 faces-preserved c =
     let M = c.args.arena.now.model in let p = c.args.plane in let s = c.args.s in let f = c.in-Some.f in
     let old = c.faces.edges.items in let rest = crossings_met M p (above f (faces_of M s)) in
-    let more : c.extend_from_slice.new.self.items ≡ old ++ crossings_in M p (boundary M f) = c.in_ok-extend_from_slice.ensures.items ∙ ap (λ (es : List ℕ). old ++ es) (c.as_slice.ensures.value ∙ c.in_ok-more.ensures) in
-    ap (λ (es : List ℕ). es ++ rest) more ∙ append_assoc old (crossings_in M p (boundary M f)) rest
+    ap (λ (es : List ℕ). es ++ rest) c.in_ok-push_crossings.ensures ∙ append_assoc old (crossings_in M p (boundary M f)) rest
     ∙ ap (λ (fs : List ℕ). old ++ crossings_met M p fs) (sym (next_face M s c.faces.above f c.in-Some.ensures)) ∙ c.faces.invariant
 
 pub returns : goal.returns

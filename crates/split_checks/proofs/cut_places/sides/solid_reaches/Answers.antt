@@ -9,10 +9,10 @@ use Rattle.split_checks.proofs.cut_places.sides.solid_reaches.Goals as goal
 pub faces-init : goal.faces-init
 faces-init c = let M = c.args.arena.now.model in ap (list_any (reaches c.args.side M c.args.plane)) (faces_from_zero M c.requires.ready.sound c.args.s)
 
-pub returns-then-branch : goal.returns-then-branch
-returns-then-branch c =
+pub returns-then-reaches : goal.returns-then-reaches
+returns-then-reaches c =
     let M = c.args.arena.now.model in let s = c.args.s in let f = c.in-Some.f in let test = reaches c.args.side M c.args.plane in
-    sym (ap (λ b. b || list_any test (above f (faces_of M s))) (sym c.in_ok-reaches.ensures ∙ c.if-branch.true)) ∙ ap (list_any test) (sym (next_face M s c.faces.above f c.in-Some.ensures)) ∙ c.faces.invariant
+    sym (ap (λ b. b || list_any test (above f (faces_of M s))) (sym c.reaches.ensures ∙ c.if-reaches.true)) ∙ ap (list_any test) (sym (next_face M s c.faces.above f c.in-Some.ensures)) ∙ c.faces.invariant
 
 pub faces-smaller : goal.faces-smaller
 faces-smaller c = let next = next_face c.args.arena.now.model c.args.s c.faces.above c.in-Some.f c.in-Some.ensures in omega (arith, ap length next)
@@ -20,7 +20,7 @@ faces-smaller c = let next = next_face c.args.arena.now.model c.args.s c.faces.a
 pub faces-preserved : goal.faces-preserved
 faces-preserved c =
     let M = c.args.arena.now.model in let s = c.args.s in let f = c.in-Some.f in let test = reaches c.args.side M c.args.plane in
-    sym (ap (λ b. b || list_any test (above f (faces_of M s))) (sym c.in_ok-reaches.ensures ∙ c.if-branch.false)) ∙ ap (list_any test) (sym (next_face M s c.faces.above f c.in-Some.ensures)) ∙ c.faces.invariant
+    sym (ap (λ b. b || list_any test (above f (faces_of M s))) (sym c.reaches.ensures ∙ c.if-reaches.false)) ∙ ap (list_any test) (sym (next_face M s c.faces.above f c.in-Some.ensures)) ∙ c.faces.invariant
 
 pub returns : goal.returns
 returns c =

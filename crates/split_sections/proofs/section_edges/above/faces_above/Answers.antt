@@ -20,7 +20,7 @@ pub faces-preserved-in_ok-push : goal.faces-preserved-in_ok-push
 faces-preserved-in_ok-push c =
     let M = c.args.arena.now.model in let s = c.args.s in let f = c.in-Some.f in let test = face_is_above M c.args.plane in let rest = filter test (above f (faces_of M s)) in
     ap (λ (fs : List ℕ). fs ++ rest) c.in_ok-push.ensures.items ∙ append_assoc c.faces.faces.items (f ∷ []) rest
-    ∙ ap (λ (fs : List ℕ). c.faces.faces.items ++ fs) (sym (ap (filter test) (next_face M s c.faces.last f c.in-Some.ensures) ∙ ap (λ b. cond b (f ∷ rest) rest) (sym c.in_ok-is_above.ensures ∙ c.if-branch.true))) ∙ c.faces.invariant
+    ∙ ap (λ (fs : List ℕ). c.faces.faces.items ++ fs) (sym (ap (filter test) (next_face M s c.faces.last f c.in-Some.ensures) ∙ ap (λ b. cond b (f ∷ rest) rest) (sym c.is_above.ensures ∙ c.if-is_above.true))) ∙ c.faces.invariant
 
 pub faces-smaller : goal.faces-smaller
 faces-smaller c = let next = next_face c.args.arena.now.model c.args.s c.faces.last c.in-Some.f c.in-Some.ensures in omega (arith, ap length next)
@@ -28,7 +28,7 @@ faces-smaller c = let next = next_face c.args.arena.now.model c.args.s c.faces.l
 pub faces-preserved : goal.faces-preserved
 faces-preserved c =
     let M = c.args.arena.now.model in let s = c.args.s in let f = c.in-Some.f in let test = face_is_above M c.args.plane in let rest = filter test (above f (faces_of M s)) in
-    ap (λ (fs : List ℕ). c.faces.faces.items ++ fs) (sym (ap (filter test) (next_face M s c.faces.last f c.in-Some.ensures) ∙ ap (λ b. cond b (f ∷ rest) rest) (sym c.in_ok-is_above.ensures ∙ c.if-branch.false))) ∙ c.faces.invariant
+    ap (λ (fs : List ℕ). c.faces.faces.items ++ fs) (sym (ap (filter test) (next_face M s c.faces.last f c.in-Some.ensures) ∙ ap (λ b. cond b (f ∷ rest) rest) (sym c.is_above.ensures ∙ c.if-is_above.false))) ∙ c.faces.invariant
 
 pub returns : goal.returns
 returns c =

@@ -1,0 +1,59 @@
+-- The cut places of a loop, and the edges that cross the plane, taken one by one as a walk round it meets them.
+use Rattle.std.proofs.Common.{◌≡◌, ◌≢◌, ℕ, Bool, true, false, cond, List, [], ◌∷◌, ◌++◌, map, sym, ap, ◌∙◌, subst, append_assoc}
+use Rattle.std.specs.Prelude.{filter}
+use Rattle.std.proofs.lemmas.List.{append-nil, map-append}
+use Rattle.std.proofs.lemmas.List.Elements.{filter-append}
+use Rattle.euler_operators.specs.declared.Plane.{Plane}
+use Rattle.euler_operators.specs.declared.HalfEdge.{HalfEdge}
+use Rattle.euler_operators.specs.HalfEdge.{code, edge_of}
+use Rattle.euler_operators.specs.Items.{IsIn}
+use Rattle.euler_operators.proofs.Rings.{IsIn_successor}
+use Rattle.euler_operators.specs.Model.{Model, cycle_of, loop_of, point_of}
+use Rattle.euler_operators.specs.Model as model
+use Rattle.euler_operators.specs.Sound.{Sound, HasHalf}
+use Rattle.euler_conditions.proofs.Known.{in_a_loop}
+use Rattle.shapes.specs.Faces.{start, finish}
+use Rattle.split_checks.specs.cut_places.Crossings.{crossings_in, leads_across}
+use Rattle.solid_walks.proofs.face_walks_laws.CycleWalks.{item_there, next_item}
+
+-- one half-edge is looked at: it is taken where it passes
+module _ (p : ℕ → Bool) (had now : List HalfEdge) (x : HalfEdge) (rest : List ℕ) where
+  pub taken : now ≡ had ++ x ∷ [] → p (code x) ≡ true → map code now ++ filter p rest ≡ map code had ++ filter p (code x ∷ rest)
+  taken e t =
+      ap (λ (hs : List HalfEdge). map code hs ++ filter p rest) e ∙ ap (λ (hs : List ℕ). hs ++ filter p rest) (map-append code had (x ∷ []))
+      ∙ append_assoc (map code had) (code x ∷ []) (filter p rest)
+      ∙ ap (λ (hs : List ℕ). map code had ++ hs) (sym (ap (λ b. cond b (code x ∷ filter p rest) (filter p rest)) t))
+
+  pub passed_by : now ≡ had → p (code x) ≡ false → map code now ++ filter p rest ≡ map code had ++ filter p (code x ∷ rest)
+  passed_by e t =
+      ap (λ (hs : List HalfEdge). map code hs ++ filter p rest) e
+      ∙ ap (λ (hs : List ℕ). map code had ++ hs) (sym (ap (λ b. cond b (code x ∷ filter p rest) (filter p rest)) t))
+
+pub none_left : (p : ℕ → Bool) (hs rest all : List ℕ) → rest ≡ [] → hs ++ filter p rest ≡ all → hs ≡ all
+none_left p hs rest all e t = sym (append-nil hs) ∙ ap (λ (ks : List ℕ). hs ++ filter p ks) (sym e) ∙ t
+
+-- the next half-edge is there, and starts where this one ends
+module _ (M : Model) (sound : Sound M) (h : ℕ) (there : HasHalf M h) (g r : ℕ) (i : IsIn g (cycle_of M h)) (next : loop_of M g ≢ 0 → r ≡ model.after M g) where
+  pub next_there : HasHalf M r
+  next_there = item_there M sound h there r (subst (λ k. IsIn k (cycle_of M h)) (sym (next_item M sound h there g r i next)) (IsIn_successor g (cycle_of M h) i))
+
+  pub next_starts : start M r ≡ finish M g
+  next_starts =
+      let at = item_there M sound h there g i in
+      ap (start M) (next (in_a_loop M sound g at)) ∙ ap (point_of M) (sound.ends_meet g at)
+
+-- one half-edge is looked at: its edge is taken where it is the plus one and crosses the plane
+module _ (M : Model) (p : Plane) where
+  module _ (had now : List ℕ) (x : ℕ) (rest : List ℕ) where
+    pub edge_taken : (e : ℕ) → e ≡ edge_of x → now ≡ had ++ e ∷ [] → leads_across M p x ≡ true → now ++ crossings_in M p rest ≡ had ++ crossings_in M p (x ∷ rest)
+    edge_taken e is made t =
+        ap (λ (es : List ℕ). es ++ crossings_in M p rest) (made ∙ ap (λ k. had ++ k ∷ []) is) ∙ append_assoc had (edge_of x ∷ []) (crossings_in M p rest)
+        ∙ ap (λ (es : List ℕ). had ++ es) (sym (ap (λ b. map edge_of (cond b (x ∷ filter (leads_across M p) rest) (filter (leads_across M p) rest))) t))
+
+    pub edge_passed_by : now ≡ had → leads_across M p x ≡ false → now ++ crossings_in M p rest ≡ had ++ crossings_in M p (x ∷ rest)
+    edge_passed_by made t =
+        ap (λ (es : List ℕ). es ++ crossings_in M p rest) made
+        ∙ ap (λ (es : List ℕ). had ++ es) (sym (ap (λ b. map edge_of (cond b (x ∷ filter (leads_across M p) rest) (filter (leads_across M p) rest))) t))
+
+  pub crossings_both : (xs ys : List ℕ) → crossings_in M p (xs ++ ys) ≡ crossings_in M p xs ++ crossings_in M p ys
+  crossings_both xs ys = ap (map edge_of) (filter-append (leads_across M p) xs ys) ∙ map-append edge_of (filter (leads_across M p) xs) (filter (leads_across M p) ys)

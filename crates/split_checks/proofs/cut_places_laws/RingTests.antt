@@ -1,0 +1,35 @@
+-- A test of the half-edges of a loop, walked from one of them on.
+use Rattle.std.proofs.Common.{◌≡◌, ◌≢◌, ℕ, Bool, true, false, ◌||◌, ◌∷◌, sym, ap, ◌∙◌}
+use Rattle.std.specs.List.{list_any}
+use Rattle.std.proofs.lemmas.List.Sorted.{list_any-IsPermutation}
+use Rattle.euler_operators.specs.Items.{IsIn}
+use Rattle.euler_operators.specs.Rings.{rotate_to}
+use Rattle.euler_operators.proofs.Rotations.{rotate_to-rotates, IsRotation-permutation}
+use Rattle.euler_operators.specs.Model.{Model, cycle_of, loop_of}
+use Rattle.euler_operators.specs.Model as model
+use Rattle.euler_operators.specs.Sound.{Sound, HasHalf}
+use Rattle.solid_walks.proofs.face_walks_laws.CycleWalks.{to_come, cycle_apart, item_in, start_is, goes_on, comes_back}
+
+module _ (M : Model) (sound : Sound M) (h : ℕ) (there : HasHalf M h) (p : ℕ → Bool) where
+  -- whether one of those passes that are to be tested from x on
+  abbrev pub left : ℕ → Bool
+  left x = list_any p (x ∷ to_come h (cycle_of M h) x)
+
+  pub walk_begins : left h ≡ list_any p (cycle_of M h)
+  walk_begins =
+      let hs = cycle_of M h in
+      ap (list_any p) (sym (start_is h hs (cycle_apart M sound h there) (item_in M sound h there)))
+      ∙ sym (list_any-IsPermutation p hs (rotate_to h hs) (IsRotation-permutation hs (rotate_to h hs) (rotate_to-rotates h hs)))
+
+  pub walk_finds : (x : ℕ) → p x ≡ true → left x ≡ true
+  walk_finds x e = ap (λ b. b || list_any p (to_come h (cycle_of M h) x)) e
+
+  passed : (x : ℕ) → p x ≡ false → left x ≡ list_any p (to_come h (cycle_of M h) x)
+  passed x e = ap (λ b. b || list_any p (to_come h (cycle_of M h) x)) e
+
+  -- the next item is the first again, or another one
+  pub walk_ended : (x r : ℕ) → IsIn x (cycle_of M h) → (loop_of M x ≢ 0 → r ≡ model.after M x) → r ≡ h → p x ≡ false → left x ≡ false
+  walk_ended x r i n e off = passed x off ∙ ap (list_any p) (comes_back M sound h there x r i n e).0
+
+  pub walk_left : (x r : ℕ) → IsIn x (cycle_of M h) → (loop_of M x ≢ 0 → r ≡ model.after M x) → r ≢ h → p x ≡ false → left r ≡ left x
+  walk_left x r i n other off = sym (passed x off ∙ ap (list_any p) (goes_on M sound h there x r i n other).1)
