@@ -77,31 +77,31 @@ module _ (sp : Spots) (known : ℕ → Bool) (solids : List (Option Bool)) (face
     w_entry : (q : ℕ) (k : Held) → HasEntry sp q k → HasEntry wide q k
     w_entry q Empty h = tt
     w_entry q (Lone w) h = tt
-    w_entry q (At c) h = (ap is_some (w_old sp R e u v limit some dead_plus dead_minus c h.0) ∙ h.0, (w_label sp R e u v limit some dead_plus dead_minus) c h.0 ∙ h.1)
+    w_entry q (At c) h = (ap is_some (w_old sp R e u v limit dead_plus dead_minus c h.0) ∙ h.0, (w_label sp R e u v limit dead_plus dead_minus) c h.0 ∙ h.1)
 
     w_stands : (x : ℕ) → live sp x ≡ true → label sp x ≢ 0 → StandsAt wide loops x (label sp x)
     w_stands x a n =
         let s = are.stands x a n in
         let t = are.entries (label sp x) (record { face = s.face; held = At s.entry }) s.here in
-        record { face = s.face; entry = s.entry; here = s.here; item = subst (IsIn x) (sym (old_ring sp R e u v limit some dead_plus dead_minus s.entry t.0).0) s.item }
+        record { face = s.face; entry = s.entry; here = s.here; item = subst (IsIn x) (sym (old_ring sp R e u v limit dead_plus dead_minus s.entry t.0).0) s.item }
 
     w_loops : AreLoops wide loops
     w_loops = record {
       entries = λ q k at. w_entry q k.held (are.entries q k at);
-      stands = λ x a n. elim (w_cases sp R e u v limit some dead_plus dead_minus x a) [
-        | inl p ↦ absurd (n (ap (label wide) p ∙ ap (λ o. or_zero (of_spot (λ s. s.label) o)) (w_plus sp R e u v limit some dead_plus dead_minus)))
-        | inr (inl p) ↦ absurd (n (ap (label wide) p ∙ ap (λ o. or_zero (of_spot (λ s. s.label) o)) (w_minus sp R e u v limit some dead_plus dead_minus)))
-        | inr (inr b) ↦ subst (StandsAt wide loops x) (sym (w_label sp R e u v limit some dead_plus dead_minus x b)) (w_stands x b (λ z. n (w_label sp R e u v limit some dead_plus dead_minus x b ∙ z)))
+      stands = λ x a n. elim (w_cases sp R e u v limit dead_plus dead_minus x a) [
+        | inl p ↦ absurd (n (ap (label wide) p ∙ ap (λ o. or_zero (of_spot (λ s. s.label) o)) (w_plus sp R e u v limit dead_plus dead_minus)))
+        | inr (inl p) ↦ absurd (n (ap (label wide) p ∙ ap (λ o. or_zero (of_spot (λ s. s.label) o)) (w_minus sp R e u v limit dead_plus dead_minus)))
+        | inr (inr b) ↦ subst (StandsAt wide loops x) (sym (w_label sp R e u v limit dead_plus dead_minus x b)) (w_stands x b (λ z. n (w_label sp R e u v limit dead_plus dead_minus x b ∙ z)))
       ];
     }
 
     pub tied_edge : (known' : ℕ → Bool) (new : Spots) → new ≡ wide → RowsAreTied new known' solids faces loops vertices
-    tied_edge known' new q = subst (λ s. RowsAreTied s known' solids faces loops vertices) (sym q) (tied_with wide known' (w_rings sp R e u v limit some dead_plus dead_minus) (ap is_some (w_other sp R e u v limit some dead_plus dead_minus 0 (λ z. some (omega arith)) (λ z. some (omega arith)))) w_loops)
+    tied_edge known' new q = subst (λ s. RowsAreTied s known' solids faces loops vertices) (sym q) (tied_with wide known' (w_rings sp R e u v limit dead_plus dead_minus) (ap is_some (w_other sp R e u v limit dead_plus dead_minus 0 (λ z. some (omega arith)) (λ z. some (omega arith)))) w_loops)
 
     pub store_edge : (known' : ℕ → Bool) → known' ≡ known → (new : Spots) → new ≡ wide → store_of new known' solids faces loops vertices ≡ put_edge S e u v
     unfolding put_edge
     store_edge known' k new q = (λ i. store_of (q i) (k i) solids faces loops vertices)
-        ∙ (λ i. record S { model = record M { edges = (w_edges sp R e u v limit some dead_plus dead_minus) i; loops = loops_same sp wide loops are (λ c a _. (old_ring sp R e u v limit some dead_plus dead_minus c a).0) tied.loops_fit.no_zero i }; loose = (w_loose sp R e u v limit some dead_plus dead_minus) i })
+        ∙ (λ i. record S { model = record M { edges = (w_edges sp R e u v limit dead_plus dead_minus) i; loops = loops_same sp wide loops are (λ c a _. (old_ring sp R e u v limit dead_plus dead_minus c a).0) tied.loops_fit.no_zero i }; loose = (w_loose sp R e u v limit dead_plus dead_minus) i })
 
   -- an edge whose two half-edges are loose, each alone
   module _ (e : ℕ) (row_plus : loose_row sp (plus e) ≡ Some (plus e ∷ [])) (row_minus : loose_row sp (minus e) ≡ Some (minus e ∷ [])) where

@@ -5,3 +5,5 @@ pub mod EdgeSpots
 pub mod Relabelling
 pub mod Lasts
 pub mod LiveEdges
+pub mod LabelTables
+pub mod LoopSpots

@@ -67,7 +67,7 @@ module _ (sp : Spots) (R : AreRings sp) where
           ∙ sym (get-put (tabulate (edge_row sp) codes) (edge_of h) _ e ∙ ap (λ b. cond b (Some (changed (unwrap_or (get (tabulate (edge_row sp) codes) (edge_of h)) no_edge))) (get (tabulate (edge_row sp) codes) e)) p.0)
     ])
 
-  module _ (e u v : ℕ) (limit : e ≤ 1000000) (some : e ≢ 0) (dead_plus : live sp (plus e) ≡ false) (dead_minus : live sp (minus e) ≡ false) where
+  module _ (e u v : ℕ) (limit : e ≤ 1000000) (dead_plus : live sp (plus e) ≡ false) (dead_minus : live sp (minus e) ≡ false) where
     abbrev wide : Spots
     wide = woken (woken sp (plus e) u) (minus e) v
 
