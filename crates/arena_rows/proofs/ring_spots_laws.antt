@@ -7,3 +7,6 @@ pub mod Lasts
 pub mod LiveEdges
 pub mod LabelTables
 pub mod LoopSpots
+pub mod LabelLaws
+pub mod LoopViews
+pub mod LabelEdges

@@ -3,5 +3,6 @@
 mod edge_rings;
 mod labels;
 mod links;
+mod parts;
 
 pub use edge_rings::EdgeRings;

@@ -14,13 +14,9 @@ use Rattle.boundary_model.specs.Table as table
 use Rattle.boundary_model.proofs.Lists.{IsIn_or_not}
 use Rattle.arena_rows.specs.declared.ring_spots.labels.Label.{Label}
 use Rattle.arena_rows.specs.ring_spots.Spots.{Spots, codes, live, next, label, ring, is_in, map_spot, woken, asleep, retailed, with_links, spliced_at, labelled, AreRings}
-use Rattle.arena_rows.specs.ring_spots.Labels.{loop_at, with_loop, in_loops, rows_of, map_in_loops}
+use Rattle.arena_rows.specs.ring_spots.Labels.{but_label, loop_at, with_loop, in_loops, rows_of, map_in_loops}
 use Rattle.arena_rows.proofs.ring_spots_laws.SpotLaws.{either, live-map, ring_kept, ring_next, label-labelled_in, label-labelled_out}
 use Rattle.arena_rows.proofs.ring_spots_laws.RingMaps.{no_codes, spot-empty}
-
--- what stands at a code, but for its label
-abbrev pub but_label : Option Spot → Option Spot
-but_label o = map_spot (λ s. record s { label = 0 }) o
 
 same_spot : (o p : Option Spot) → but_label o ≡ but_label p → (is_some o ≡ true → or_zero (of_spot (λ s. s.label) o) ≡ or_zero (of_spot (λ s. s.label) p)) → o ≡ p
 same_spot None None e l = refl
