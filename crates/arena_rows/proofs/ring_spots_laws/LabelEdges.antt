@@ -1,7 +1,8 @@
 -- Labels where edges come and go.
 use Rattle.std.proofs.Common.{◌≡◌, ◌≢◌, ℕ, ◌≤◌, ◌<◌, Bool, true, false, cond, nat_eq, List, [], ◌∷◌, length, Option, Some, None, is_some, refl, sym, ap, subst, ◌∙◌, arith, true≢false, eq-eqb, ne_eqb, ◌⊎◌, inl, inr}
 use Rattle.std.proofs.lemmas.Bool.{cases_eq}
-use Rattle.raw_ring.specs.Rings.{Spot, or_zero, of_spot, ring_of_one}
+use Rattle.std.specs.FinMap.{insert, contains_key}
+use Rattle.raw_ring.specs.Rings.{Spot, RingMap, spot, or_zero, of_spot, ring_of_one, with_label}
 use Rattle.boundary_model.specs.Items.{IsIn, IsApart}
 use Rattle.boundary_model.specs.HalfEdge.{plus, minus}
 use Rattle.boundary_model.proofs.Lists.{tick_le}
@@ -11,15 +12,38 @@ use Rattle.arena_rows.specs.declared.ring_spots.labels.Label.{Label}
 use Rattle.arena_rows.specs.ring_spots.Spots.{Spots, live, next, label, ring, map_spot, woken, woken_as, asleep, retailed, AreRings}
 use Rattle.arena_rows.specs.ring_spots.Labels.{own, holder, loop_at, with_loop, in_loops, but_label, AreOwned, AreLabelled, HaveNewLabels}
 use Rattle.arena_rows.proofs.ring_spots_laws.SpotLaws.{ring_is, live-retailed, label-retailed, ring-retailed, AreRings-retailed}
+use Rattle.arena_rows.proofs.ring_spots_laws.RingMaps.{spot-insert, known-with, known-same}
+use Rattle.arena_rows.proofs.ring_spots_laws.Relabelling.{known_step}
 use Rattle.arena_rows.proofs.ring_spots_laws.EdgeSpots.{w_rings, w_cases, w_old, w_plus, w_minus, w_label, old_ring, r_plus, r_minus, s_rings, s_ring, s_left, s_other}
 use Rattle.arena_rows.proofs.ring_spots_laws.LabelTables.{owned_more, holder_same, loop_same}
 use Rattle.arena_rows.proofs.ring_spots_laws.LoopSpots.{same_spots, loops-same, loops-asleep, live-alike, ring-alike, AreRings-alike, blank-loops}
 use Rattle.arena_rows.proofs.ring_spots_laws.LabelLaws.{labelled_alike}
 
+-- a code wakes, and gets a label
+pub spot-woken_as : (m mid new : RingMap) (c t l : ℕ) → mid ≡ insert m c (Some (ring_of_one c t)) → new ≡ with_label mid c l → spot new ≡ woken_as (spot m) c t l
+spot-woken_as m mid new c t l wakes gets = λ i q. (known_step mid new c l gets q ∙ ap (λ o. cond (nat_eq q c) (map_spot (λ s. record s { label = l }) o) o) (ap (λ (k : RingMap). spot k q) wakes ∙ spot-insert m c (Some (ring_of_one c t)) q) ∙ go (nat_eq q c) (spot m q)) i where
+  go : (b : Bool) (o : Option Spot) → cond b (map_spot (λ s. record s { label = l }) (cond b (Some (ring_of_one c t)) o)) (cond b (Some (ring_of_one c t)) o) ≡ cond b (Some (record { next = c; tail = t; label = l })) o
+  go true o = refl
+  go false o = refl
+
+pub live-woken_as : (m mid : RingMap) (c t : ℕ) → mid ≡ insert m c (Some (ring_of_one c t)) → live (spot mid) c ≡ true
+live-woken_as m mid c t wakes = ap (λ (k : RingMap). live (spot k) c) wakes ∙ ap is_some (spot-insert m c (Some (ring_of_one c t)) c ∙ ap (λ b. cond b (Some (ring_of_one c t)) (spot m c)) (eq-eqb c c refl))
+
+pub known-woken_as : (m mid new : RingMap) (c t l : ℕ) → contains_key m c ≡ true → mid ≡ insert m c (Some (ring_of_one c t)) → new ≡ with_label mid c l → contains_key new ≡ contains_key m
+known-woken_as m mid new c t l there wakes gets = ap (λ (k : RingMap). contains_key k) gets ∙ (λ i q. known-with mid c (λ s. record s { label = l }) q i) ∙ ap (λ (k : RingMap). contains_key k) wakes ∙ known-same m c (Some (ring_of_one c t)) there
+
+-- whether another code is live
+pub live-woken_other : (sp : Spots) (c t l q : ℕ) → q ≢ c → live (woken_as sp c t l) q ≡ live sp q
+live-woken_other sp c t l q n = ap (λ b. is_some (cond b (Some (record { next = c; tail = t; label = l })) (sp q))) (ne_eqb q c n)
+
+-- one more code is known
+pub reach_more : (known known' : ℕ → Bool) (end c : ℕ) → ((q : ℕ) → known q ≡ true → q < end) → c < end → ((q : ℕ) → q ≢ c → known' q ≡ known q) → (q : ℕ) → known' q ≡ true → q < end
+reach_more known known' end c reach below only q k = elim (cases_eq q c) [ inl e ↦ omega (arith, e, below) | inr n ↦ reach q (sym (only q n) ∙ k) ]
+
 -- there is room for more labels
-module _ (sp : Spots) (known known' : ℕ → Bool) (rows new : List Label) (A : AreLabelled sp known rows) (h : HaveNewLabels rows new) where
-  pub labelled-room : (now : Spots) → now ≡ sp → ((c : ℕ) → known' c ≡ true → c < length new) → length new ≤ 2000002 → AreLabelled now known' new
-  labelled-room now is reach limit = subst (λ s. AreLabelled s known' new) (sym is) (record {
+module _ (sp : Spots) (known : ℕ → Bool) (rows new : List Label) (A : AreLabelled sp known rows) (h : HaveNewLabels rows new) where
+  pub labelled-room : (now : Spots) (known' : ℕ → Bool) → now ≡ sp → ((c : ℕ) → known' c ≡ true → c < length new) → length new ≤ 2000002 → AreLabelled now known' new
+  labelled-room now known' is reach limit = subst (λ s. AreLabelled s known' new) (sym is) (record {
     rings = A.rings;
     owners = owned_more rows new h A.owners;
     reach = reach;
