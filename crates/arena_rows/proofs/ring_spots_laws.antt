@@ -10,3 +10,4 @@ pub mod LoopSpots
 pub mod LabelLaws
 pub mod LoopViews
 pub mod LabelEdges
+pub mod RingViews

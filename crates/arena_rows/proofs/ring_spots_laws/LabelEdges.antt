@@ -69,7 +69,7 @@ module _ (sp : Spots) (known : ℕ → Bool) (rows : List Label) (A : AreLabelle
   }))
 
   -- an edge goes to sleep, whose half-edges are rings of one
-  module _ (e : ℕ) (limit : e ≤ 1000000) (plus_live : live sp (plus e) ≡ true) (minus_live : live sp (minus e) ≡ true) (plus_next : next sp (plus e) ≡ plus e) (minus_next : next sp (minus e) ≡ minus e) where
+  module _ (e : ℕ) (plus_live : live sp (plus e) ≡ true) (minus_live : live sp (minus e) ≡ true) (plus_next : next sp (plus e) ≡ plus e) (minus_next : next sp (minus e) ≡ minus e) where
     alone : (c : ℕ) → live sp c ≡ true → next sp c ≡ c → ring sp c ≡ c ∷ []
     alone c a n = ring_is sp c (c ∷ []) (n, tt) (λ y. omega (arith, tick_le y c)) (IsIn_head c []) (λ x i. A.rings.bound x (ap (live sp) (IsIn_one c x i) ∙ a)) ∙ canonical_one c
 

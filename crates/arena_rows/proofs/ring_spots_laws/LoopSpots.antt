@@ -126,7 +126,7 @@ loops-same sp new rows rows' same loops = same_spots (in_loops rows' new) (in_lo
 -- ---- the map that a contract sees
 
 module _ (rows : List Label) (m : RingMap) where
-  get-loops : (q : ℕ) → get (map_in_loops rows m) q ≡ option_map (map_spot (with_loop rows)) (get m q)
+  pub get-loops : (q : ℕ) → get (map_in_loops rows m) q ≡ option_map (map_spot (with_loop rows)) (get m q)
   unfolding map_in_loops table.get
   get-loops q = get-from_entries nat_cmp_total (map_rows (λ _ o. map_spot (with_loop rows) o) (rows_of m)).rows q ∙ get-map_rows (λ _ o. map_spot (with_loop rows) o) (rows_of m) q ∙ ap (option_map (map_spot (with_loop rows))) (sym (get-entries m q))
 
