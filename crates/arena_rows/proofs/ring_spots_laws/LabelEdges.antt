@@ -3,20 +3,20 @@ use Rattle.std.proofs.Common.{◌≡◌, ◌≢◌, ℕ, ◌≤◌, ◌<◌, Boo
 use Rattle.std.proofs.lemmas.Bool.{cases_eq}
 use Rattle.std.specs.FinMap.{insert, contains_key}
 use Rattle.raw_ring.specs.Rings.{Spot, RingMap, spot, or_zero, of_spot, ring_of_one, with_label}
-use Rattle.boundary_model.specs.Items.{IsIn, IsApart}
+use Rattle.boundary_model.specs.Items.{IsIn}
 use Rattle.boundary_model.specs.HalfEdge.{plus, minus}
 use Rattle.boundary_model.proofs.Lists.{tick_le}
 use Rattle.boundary_model.proofs.Rotations.{IsIn_head, canonical_one}
 use Rattle.boundary_model.proofs.Members.{IsIn_one}
 use Rattle.arena_rows.specs.declared.ring_spots.labels.Label.{Label}
 use Rattle.arena_rows.specs.ring_spots.Spots.{Spots, live, next, label, ring, map_spot, woken, woken_as, asleep, retailed, AreRings}
-use Rattle.arena_rows.specs.ring_spots.Labels.{own, holder, loop_at, with_loop, in_loops, but_label, AreOwned, AreLabelled, HaveNewLabels}
+use Rattle.arena_rows.specs.ring_spots.Labels.{own, holder, loop_at, with_loop, in_loops, but_label, AreLabelled, HaveNewLabels}
 use Rattle.arena_rows.proofs.ring_spots_laws.SpotLaws.{ring_is, live-retailed, label-retailed, ring-retailed, AreRings-retailed}
 use Rattle.arena_rows.proofs.ring_spots_laws.RingMaps.{spot-insert, known-with, known-same}
 use Rattle.arena_rows.proofs.ring_spots_laws.Relabelling.{known_step}
-use Rattle.arena_rows.proofs.ring_spots_laws.EdgeSpots.{w_rings, w_cases, w_old, w_plus, w_minus, w_label, old_ring, r_plus, r_minus, s_rings, s_ring, s_left, s_other}
+use Rattle.arena_rows.proofs.ring_spots_laws.EdgeSpots.{w_rings, w_cases, old_ring, r_plus, r_minus, s_rings, s_ring, s_left, s_other}
 use Rattle.arena_rows.proofs.ring_spots_laws.LabelTables.{owned_more, holder_same, loop_same}
-use Rattle.arena_rows.proofs.ring_spots_laws.LoopSpots.{same_spots, loops-same, loops-asleep, live-alike, ring-alike, AreRings-alike, blank-loops}
+use Rattle.arena_rows.proofs.ring_spots_laws.LoopSpots.{loops-same, loops-asleep, live-alike, ring-alike, AreRings-alike}
 use Rattle.arena_rows.proofs.ring_spots_laws.LabelLaws.{labelled_alike}
 
 -- a code wakes, and gets a label

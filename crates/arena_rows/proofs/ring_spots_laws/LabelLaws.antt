@@ -1,16 +1,15 @@
 -- Labels where rings are cut, joined and put into loops.
-use Rattle.std.proofs.Common.{◌≡◌, ◌≢◌, ℕ, ◌+◌, ◌<◌, Bool, true, false, List, length, refl, sym, ap, subst, ◌∙◌, arith, true≢false, cond, nat_eq, eq-eqb, ne_eqb, ◌⊎◌, inl, inr}
-use Rattle.raw_ring.specs.Rings.{Spot}
-use Rattle.boundary_model.specs.Items.{count, IsIn, IsApart}
+use Rattle.std.proofs.Common.{◌≡◌, ◌≢◌, ℕ, ◌+◌, ◌<◌, Bool, true, List, length, refl, sym, ap, subst, ◌∙◌, arith, cond, nat_eq, eq-eqb, ne_eqb, ◌⊎◌, inl, inr}
+use Rattle.boundary_model.specs.Items.{count, IsIn}
 use Rattle.boundary_model.specs.Rings.{cut_left, cut_right, joined}
 use Rattle.boundary_model.proofs.Lists.{IsIn_or_not}
 use Rattle.boundary_model.proofs.Cuts.{IsIn-cut}
 use Rattle.arena_rows.specs.declared.ring_spots.labels.Label.{Label}
-use Rattle.arena_rows.specs.ring_spots.Spots.{Spots, live, next, label, ring, labelled, spliced_at, AreRings}
+use Rattle.arena_rows.specs.ring_spots.Spots.{Spots, live, label, ring, labelled, spliced_at, AreRings}
 use Rattle.arena_rows.specs.ring_spots.Labels.{own, holder, loop_at, in_loops, AreOwned, AreLabelled, ShareLabel, IsRelabelled, HaveOneLabel}
 use Rattle.arena_rows.proofs.ring_spots_laws.SpotLaws.{ring_same, ring_meet, live-labelled, ring-labelled, label-labelled_in, label-labelled_out, AreRings-labelled, live-spliced, label-spliced, AreRings-cut, ring_left, ring_right, ring_beside, cut_items, AreRings-join, ring_joint, ring_aside, join_items}
 use Rattle.arena_rows.proofs.ring_spots_laws.LabelTables.{handed_over, holder_x, holder_other}
-use Rattle.arena_rows.proofs.ring_spots_laws.LoopSpots.{same_spots, blank-labelled, blank-loops, live-alike, next-alike, ring-alike, live-loops, label-loops, loops-labelled}
+use Rattle.arena_rows.proofs.ring_spots_laws.LoopSpots.{blank-labelled, loops-labelled}
 
 module _ (sp : Spots) (R : AreRings sp) where
   -- where an item of a's ring stands in another ring too, they are one
@@ -216,9 +215,9 @@ module _ (sp : Spots) (known : ℕ → Bool) (rows : List Label) (a b : ℕ) (S 
         let i : IsIn (holder rows (label sp c)) (ring sp c) = S.others c h n m in
         let not_x : label sp c ≢ x = λ e. elim (whose c h (subst (λ w. IsIn (holder rows w) (ring sp c)) e i)) [ inl j ↦ absurd (omega arith) | inr j ↦ absurd (omega arith) ] in
         let not_own : label sp c ≢ own rows b = λ e.
-            let k : IsIn b (ring sp c) = subst (λ w. IsIn w (ring sp c)) (ap (holder rows) e ∙ S.owners.held b b_known) i in
-            let j : IsIn c (ring sp b) = shared_item sp S.rings b c b S.b_there h (S.rings.rings b S.b_there).item k in
-            absurd (omega arith) in
+        let k : IsIn b (ring sp c) = subst (λ w. IsIn w (ring sp c)) (ap (holder rows) e ∙ S.owners.held b b_known) i in
+        let j : IsIn c (ring sp b) = shared_item sp S.rings b c b S.b_there h (S.rings.rings b S.b_there).item k in
+        absurd (omega arith) in
         holds c (label sp c) (label-labelled_out sp y (ring sp a) c n)
         (subst (λ w. IsIn w (ring sp c)) (sym (holder_other (own rows) (holder rows) (length rows) S.owners (own rows') (holder rows') b x b_known (S.below b S.b_there) own_is holder_is (label sp c) not_x not_own)) i)
 

@@ -4,7 +4,7 @@ use Rattle.std.proofs.lemmas.Bool.Decides.{eqb_tells}
 use Rattle.std.proofs.lemmas.Bool.{cases_lt}
 use Rattle.std.proofs.lemmas.List.{get_or_append_left, get_or_push, length-append}
 use Rattle.arena_rows.specs.declared.ring_spots.labels.Label.{Label}
-use Rattle.arena_rows.specs.ring_spots.Labels.{new_label, row_of, own, holder, loop_at, AreOwned, HaveNewLabels}
+use Rattle.arena_rows.specs.ring_spots.Labels.{new_label, own, holder, loop_at, AreOwned, HaveNewLabels}
 
 pub no_new : (rows : List Label) → HaveNewLabels rows rows
 no_new rows = record { grows = omega arith; same = λ n l. refl; added = λ n l m. absurd (omega arith) }

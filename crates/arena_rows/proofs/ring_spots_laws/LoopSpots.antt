@@ -1,11 +1,8 @@
 -- Spots that differ in labels alone, and the loops for which labels stand.
-use Rattle.std.proofs.Common.{◌≡◌, ◌≢◌, ℕ, ◌<◌, Bool, true, false, cond, nat_eq, List, Option, Some, None, is_some, option_map, refl, sym, ap, subst, ◌∙◌, arith, true≢false, inl, inr}
-use Rattle.std.proofs.lemmas.Bool.{cases_Bool}
-use Rattle.std.proofs.lemmas.Bool.Decides.{eqb_tells}
-use Rattle.std.specs.Ordering.{nat_cmp}
-use Rattle.std.specs.FinMap.{get, contains_key, entries, get-entries, from_entries, get-from_entries}
+use Rattle.std.proofs.Common.{◌≡◌, ℕ, ◌<◌, Bool, true, false, cond, nat_eq, List, Option, Some, None, is_some, option_map, refl, sym, ap, ◌∙◌, true≢false, inl, inr}
+use Rattle.std.specs.FinMap.{get, contains_key, get-entries, get-from_entries}
 use Rattle.std.specs.Cmp.{nat_cmp_total}
-use Rattle.raw_ring.specs.Rings.{Spot, RingMap, spot, awake, or_zero, of_spot, next_of, IsPermutation}
+use Rattle.raw_ring.specs.Rings.{Spot, RingMap, spot, awake, or_zero, of_spot}
 use Rattle.boundary_model.specs.Items.{count, IsIn}
 use Rattle.boundary_model.specs.Rings.{splice}
 use Rattle.boundary_model.specs.HalfEdge.{mate}
@@ -13,10 +10,9 @@ use Rattle.boundary_model.specs.Table.{map_rows, get-map_rows}
 use Rattle.boundary_model.specs.Table as table
 use Rattle.boundary_model.proofs.Lists.{IsIn_or_not}
 use Rattle.arena_rows.specs.declared.ring_spots.labels.Label.{Label}
-use Rattle.arena_rows.specs.ring_spots.Spots.{Spots, codes, live, next, label, ring, is_in, map_spot, woken, asleep, retailed, with_links, spliced_at, labelled, AreRings}
+use Rattle.arena_rows.specs.ring_spots.Spots.{Spots, codes, live, next, label, ring, is_in, map_spot, asleep, retailed, with_links, spliced_at, labelled, AreRings}
 use Rattle.arena_rows.specs.ring_spots.Labels.{but_label, loop_at, with_loop, in_loops, rows_of, map_in_loops}
 use Rattle.arena_rows.proofs.ring_spots_laws.SpotLaws.{either, live-map, ring_kept, ring_next, label-labelled_in, label-labelled_out}
-use Rattle.arena_rows.proofs.ring_spots_laws.RingMaps.{no_codes, spot-empty}
 
 same_spot : (o p : Option Spot) → but_label o ≡ but_label p → (is_some o ≡ true → or_zero (of_spot (λ s. s.label) o) ≡ or_zero (of_spot (λ s. s.label) p)) → o ≡ p
 same_spot None None e l = refl

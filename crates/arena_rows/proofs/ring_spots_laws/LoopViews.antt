@@ -1,5 +1,5 @@
 -- What is seen of rings that are cut and joined: the loops in which their codes stand.
-use Rattle.std.proofs.Common.{◌≡◌, ◌≢◌, ℕ, ◌+◌, Bool, true, false, cond, nat_eq, List, Option, Some, None, refl, sym, ap, subst, ◌∙◌, arith, inl, inr}
+use Rattle.std.proofs.Common.{◌≡◌, ◌≢◌, ℕ, ◌+◌, Bool, true, false, cond, List, Option, Some, None, refl, sym, ap, subst, ◌∙◌, arith, inl, inr}
 use Rattle.raw_ring.specs.Rings.{Spot}
 use Rattle.boundary_model.specs.Items.{count, IsIn}
 use Rattle.boundary_model.specs.Rings.{splice, joined}
@@ -7,7 +7,7 @@ use Rattle.boundary_model.proofs.Lists.{IsIn_or_not}
 use Rattle.arena_rows.specs.declared.ring_spots.labels.Label.{Label}
 use Rattle.arena_rows.specs.ring_spots.Spots.{Spots, live, next, label, ring, is_in, map_spot, with_links, labelled, spliced_at}
 use Rattle.arena_rows.specs.ring_spots.Labels.{loop_at, in_loops, AreLabelled, ShareLabel, IsRelabelled}
-use Rattle.arena_rows.proofs.ring_spots_laws.SpotLaws.{next-labelled, live-labelled, label-labelled_in, label-labelled_out, live-spliced, label-spliced, ring_joint, join_items}
+use Rattle.arena_rows.proofs.ring_spots_laws.SpotLaws.{next-labelled, live-labelled, label-labelled_in, label-labelled_out, label-spliced, ring_joint, join_items}
 use Rattle.arena_rows.proofs.ring_spots_laws.LoopSpots.{same_spots, blank-labelled, blank-loops, live-alike, ring-alike, live-loops, label-loops, loops-spliced}
 use Rattle.arena_rows.proofs.ring_spots_laws.LabelLaws.{share-cut}
 
@@ -34,16 +34,16 @@ module _ (sp now : Spots) (rows rows' : List Label) (a b kept : ℕ) (r : IsRela
   seen_apart l = (λ i. labelled (labelled (in_loops rows' now) kept (rings_are a i)) l (rings_are b i)) ∙ same_spots two one
       (λ q. blank-labelled first l (ring sp b) q ∙ blank-labelled (in_loops rows' now) kept (ring sp a) q ∙ blank-loops rows' now q ∙ r.same q ∙ sym (blank-labelled (in_loops rows sp) l (ring sp b) q ∙ blank-loops rows sp q))
       (λ q t.
-        let h : live sp q ≡ true = sym (live-labelled first l (ring sp b) q ∙ live-labelled (in_loops rows' now) kept (ring sp a) q ∙ live-loops rows' now q ∙ live_are q) ∙ t in
-        let k : live (in_loops rows' now) q ≡ true = live-loops rows' now q ∙ live_are q ∙ h in
-        let g : live (in_loops rows sp) q ≡ true = live-loops rows sp q ∙ h in
-        elim (IsIn_or_not q (ring sp b)) [
-          | inl i ↦ label-labelled_in first l (ring sp b) q i (live-labelled (in_loops rows' now) kept (ring sp a) q ∙ k) ∙ sym (label-labelled_in (in_loops rows sp) l (ring sp b) q i g)
-          | inr n ↦ label-labelled_out first l (ring sp b) q n ∙ elim (IsIn_or_not q (ring sp a)) [
-            | inl i ↦ label-labelled_in (in_loops rows' now) kept (ring sp a) q i k ∙ sym (label-labelled_out (in_loops rows sp) l (ring sp b) q n ∙ label-loops rows sp q h ∙ at_a q h i)
-            | inr m ↦ label-labelled_out (in_loops rows' now) kept (ring sp a) q m ∙ else_same q h m n ∙ sym (label-labelled_out (in_loops rows sp) l (ring sp b) q n)
-          ]
-        ])
+      let h : live sp q ≡ true = sym (live-labelled first l (ring sp b) q ∙ live-labelled (in_loops rows' now) kept (ring sp a) q ∙ live-loops rows' now q ∙ live_are q) ∙ t in
+      let k : live (in_loops rows' now) q ≡ true = live-loops rows' now q ∙ live_are q ∙ h in
+      let g : live (in_loops rows sp) q ≡ true = live-loops rows sp q ∙ h in
+      elim (IsIn_or_not q (ring sp b)) [
+        | inl i ↦ label-labelled_in first l (ring sp b) q i (live-labelled (in_loops rows' now) kept (ring sp a) q ∙ k) ∙ sym (label-labelled_in (in_loops rows sp) l (ring sp b) q i g)
+        | inr n ↦ label-labelled_out first l (ring sp b) q n ∙ elim (IsIn_or_not q (ring sp a)) [
+          | inl i ↦ label-labelled_in (in_loops rows' now) kept (ring sp a) q i k ∙ sym (label-labelled_out (in_loops rows sp) l (ring sp b) q n ∙ label-loops rows sp q h ∙ at_a q h i)
+          | inr m ↦ label-labelled_out (in_loops rows' now) kept (ring sp a) q m ∙ else_same q h m n ∙ sym (label-labelled_out (in_loops rows sp) l (ring sp b) q n)
+        ]
+      ])
     where
       first : Spots
       first = labelled (in_loops rows' now) kept (ring sp a)
@@ -59,16 +59,16 @@ module _ (sp now : Spots) (rows rows' : List Label) (a b kept : ℕ) (r : IsRela
   seen_together hs items = same_spots (labelled (in_loops rows' now) kept hs) (labelled (in_loops rows sp) kept (ring sp b))
       (λ q. blank-labelled (in_loops rows' now) kept hs q ∙ blank-loops rows' now q ∙ r.same q ∙ sym (blank-labelled (in_loops rows sp) kept (ring sp b) q ∙ blank-loops rows sp q))
       (λ q t.
-        let h : live sp q ≡ true = sym (live-labelled (in_loops rows' now) kept hs q ∙ live-loops rows' now q ∙ live_are q) ∙ t in
-        let k : live (in_loops rows' now) q ≡ true = live-loops rows' now q ∙ live_are q ∙ h in
-        let g : live (in_loops rows sp) q ≡ true = live-loops rows sp q ∙ h in
-        elim (IsIn_or_not q (ring sp b)) [
-          | inl i ↦ label-labelled_in (in_loops rows' now) kept hs q (omega (arith, i, items q)) k ∙ sym (label-labelled_in (in_loops rows sp) kept (ring sp b) q i g)
-          | inr n ↦ elim (IsIn_or_not q (ring sp a)) [
-            | inl i ↦ label-labelled_in (in_loops rows' now) kept hs q (omega (arith, i, items q)) k ∙ sym (label-labelled_out (in_loops rows sp) kept (ring sp b) q n ∙ label-loops rows sp q h ∙ at_a q h i)
-            | inr m ↦ label-labelled_out (in_loops rows' now) kept hs q (omega (arith, n, m, items q)) ∙ else_same q h m n ∙ sym (label-labelled_out (in_loops rows sp) kept (ring sp b) q n)
-          ]
-        ])
+      let h : live sp q ≡ true = sym (live-labelled (in_loops rows' now) kept hs q ∙ live-loops rows' now q ∙ live_are q) ∙ t in
+      let k : live (in_loops rows' now) q ≡ true = live-loops rows' now q ∙ live_are q ∙ h in
+      let g : live (in_loops rows sp) q ≡ true = live-loops rows sp q ∙ h in
+      elim (IsIn_or_not q (ring sp b)) [
+        | inl i ↦ label-labelled_in (in_loops rows' now) kept hs q (omega (arith, i, items q)) k ∙ sym (label-labelled_in (in_loops rows sp) kept (ring sp b) q i g)
+        | inr n ↦ elim (IsIn_or_not q (ring sp a)) [
+          | inl i ↦ label-labelled_in (in_loops rows' now) kept hs q (omega (arith, i, items q)) k ∙ sym (label-labelled_out (in_loops rows sp) kept (ring sp b) q n ∙ label-loops rows sp q h ∙ at_a q h i)
+          | inr m ↦ label-labelled_out (in_loops rows' now) kept hs q (omega (arith, n, m, items q)) ∙ else_same q h m n ∙ sym (label-labelled_out (in_loops rows sp) kept (ring sp b) q n)
+        ]
+      ])
 
 module _ (sp : Spots) (known : ℕ → Bool) (rows : List Label) (A : AreLabelled sp known rows) (a b : ℕ) (a_there : live sp a ≡ true) where
   -- the cut ring and what came of its labels

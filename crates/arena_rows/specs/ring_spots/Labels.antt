@@ -1,6 +1,5 @@
 -- Labels of rings, and the loops for which they stand.
-use Rattle.std.specs.Prelude.{◌≡◌, ◌≢◌, ℕ, ◌<◌, ◌≤◌, ◌⊎◌, Bool, true, List, length, Option, Some, None, slice_index_or}
-use Rattle.std.specs.Ordering.{nat_cmp}
+use Rattle.std.specs.Prelude.{◌≡◌, ℕ, ◌<◌, ◌≤◌, ◌⊎◌, Bool, true, List, length, Option, slice_index_or}
 use Rattle.std.specs.FinMap.{entries, entries_sorted, from_entries}
 use Rattle.raw_ring.specs.Rings.{RingMap, Spot}
 use Rattle.boundary_model.specs.Items.{count, IsIn}

@@ -106,7 +106,11 @@ pub(crate) fn retail(rings: &mut Rings, h: u32, v: u32)
 }
 
 /// Gives both half-edges of an edge their nodes, and their labels.
-pub(crate) fn room_edge(rings: &mut Rings, labels: &mut Vec<Label>, e: u32) -> Result<(), AllocError>
+pub(crate) fn room_edge(
+    rings: &mut Rings,
+    labels: &mut Vec<Label>,
+    e: u32,
+) -> Result<(), AllocError>
     requires whole { AreLabelled (spot rings.old) (contains_key rings.old) labels.old.items }
     requires limit { e ≤ 1000000 }
     ensures whole { AreLabelled (spot rings.new) (contains_key rings.new) labels.new.items }

@@ -1,8 +1,8 @@
-use Rattle.std.proofs.Common.{◌≡◌, List, ap, sym, ◌∙◌}
+use Rattle.std.proofs.Common.{◌≡◌, List, ap, ◌∙◌}
 use Rattle.raw_ring.specs.Rings.{spot}
 use Rattle.arena_rows.specs.declared.ring_spots.labels.Label.{Label}
-use Rattle.arena_rows.specs.ring_spots.Spots.{Spots, live, label, ring, labelled}
-use Rattle.arena_rows.specs.ring_spots.Labels.{loop_at, in_loops, ShareLabel}
+use Rattle.arena_rows.specs.ring_spots.Spots.{Spots, label, ring, labelled}
+use Rattle.arena_rows.specs.ring_spots.Labels.{loop_at, in_loops}
 use Rattle.arena_rows.proofs.ring_spots_laws.LoopSpots.{live-alike}
 use Rattle.arena_rows.proofs.ring_spots_laws.LabelLaws.{share-cut_to}
 use Rattle.arena_rows.proofs.ring_spots_laws.LoopViews.{seen-cut}
