@@ -5,3 +5,9 @@ pub mod EdgeSpots
 pub mod Relabelling
 pub mod Lasts
 pub mod LiveEdges
+pub mod LabelTables
+pub mod LoopSpots
+pub mod LabelLaws
+pub mod LoopViews
+pub mod LabelEdges
+pub mod RingViews

@@ -2,3 +2,4 @@ pub mod Spots
 pub mod SpotTables
 pub mod Last
 pub mod Edges
+pub mod Labels

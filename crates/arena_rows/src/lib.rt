@@ -1,7 +1,8 @@
 //! Rows by number, and what an arena of rows and rings of half-edges stands for.
 //!
-//! `rows` is the table of one kind. `owner_chains` holds items by owner: each owner's items, from the least to the greatest.
-//! `ring_spots` holds half-edges over raw rings: each edge is a pair of nodes, and each ring stands in a loop or is loose. In proofs/
+//! `rows` is the table of one kind, and `groups` counts its numbers in use by groups, so that the next one is found without a walk
+//! over all. `owner_chains` holds items by owner: each owner's items, from the least to the greatest. `ring_spots` holds half-edges
+//! over raw rings: each edge is a pair of nodes, and each ring has a label, which stands for the ring's loop or for none. In proofs/
 //! stand the laws of these together: what the model says by the nodes, and what becomes of rows and rings where loops are cut,
 //! joined, emptied and filled, and where edges come and go.
 #![tactic(auto)]

@@ -11,7 +11,7 @@ use boundary_model::{Content, HalfEdge, Kind};
 impl Arena {
     /// Empties loop l, which is there: what it held is a loose ring then.
     ///
-    /// It walks round that ring once.
+    /// It walks over nothing: the ring's label comes to stand for no loop.
     pub fn clear(&mut self, l: u32)
         requires { has_number self.old Kind.Loop l ≡ true }
         ensures { self.new ≡ clear self.old l }
@@ -45,7 +45,7 @@ impl Arena {
 
     /// Puts the loose ring of h into loop l, which is there and holds no half-edge.
     ///
-    /// It walks round that ring once.
+    /// It walks over nothing: the ring's label comes to stand for l.
     pub fn fill(&mut self, l: u32, h: HalfEdge)
         requires there { has_number self.old Kind.Loop l ≡ true }
         requires bare { items_of (content self.old.model l) ≡ [] }
@@ -67,7 +67,7 @@ impl Arena {
     /// Gives loop l, which is there, other content: what it held is a loose ring then, and l is lone at a vertex, or takes the
     /// loose ring in which a half-edge stands.
     ///
-    /// It walks round the ring that goes and the one that comes, once each.
+    /// It walks over nothing.
     pub fn set_content(&mut self, l: u32, content: Content)
         requires there { has_number self.old Kind.Loop l ≡ true }
         requires ready { IsLoose (clear self.old l) content }

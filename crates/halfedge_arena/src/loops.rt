@@ -12,7 +12,7 @@ impl Arena {
     /// Cuts a loop: `a X b Y` keeps `a Y`, and `b X` becomes loop l, or a loose ring where l is 0. a and b are two half-edges of
     /// one loop; loop l, where it isn't 0, is there and holds no half-edge.
     ///
-    /// It walks round the part `b X` once.
+    /// It walks round the shorter of the two parts, and writes labels there alone.
     pub fn cut(&mut self, a: HalfEdge, b: HalfEdge, l: u32)
         requires a_there { has_half self.old.model (code a) ≡ true }
         requires b_there { has_half self.old.model (code b) ≡ true }
@@ -27,8 +27,7 @@ impl Arena {
         let second = b.code();
         let kept = self.rings.label(first);
         let face = self.loops.known(kept).face;
-        self.rings.exchange(first, second);
-        self.rings.relabel(second, l);
+        self.rings.cut(first, second, l);
         let cell = LoopCell {
             face,
             held: Held::At(first),
@@ -48,7 +47,7 @@ impl Arena {
     /// Joins to a's loop another one, or a loose ring: `a Y` and `b X` become `a X b Y` under the number of a's loop. b's loop,
     /// if it stood in one, is empty then.
     ///
-    /// It walks round `b X` once.
+    /// It walks round the shorter of the two rings, and writes labels there alone.
     pub fn join(&mut self, a: HalfEdge, b: HalfEdge)
         requires a_there { has_half self.old.model (code a) ≡ true }
         requires b_there { has_half self.old.model (code b) ≡ true }
@@ -62,8 +61,7 @@ impl Arena {
         let kept = self.rings.label(first);
         let gone = self.rings.label(second);
         let face = self.loops.known(kept).face;
-        self.rings.relabel(second, kept);
-        self.rings.exchange(first, second);
+        self.rings.join(first, second);
         let cell = LoopCell {
             face,
             held: Held::At(first),

@@ -67,7 +67,7 @@ module _ (sp : Spots) (R : AreRings sp) where
           ∙ sym (get-put (tabulate (edge_row sp) codes) (edge_of h) _ e ∙ ap (λ b. cond b (Some (changed (unwrap_or (get (tabulate (edge_row sp) codes) (edge_of h)) no_edge))) (get (tabulate (edge_row sp) codes) e)) p.0)
     ])
 
-  module _ (e u v : ℕ) (limit : e ≤ 1000000) (some : e ≢ 0) (dead_plus : live sp (plus e) ≡ false) (dead_minus : live sp (minus e) ≡ false) where
+  module _ (e u v : ℕ) (limit : e ≤ 1000000) (dead_plus : live sp (plus e) ≡ false) (dead_minus : live sp (minus e) ≡ false) where
     abbrev wide : Spots
     wide = woken (woken sp (plus e) u) (minus e) v
 
@@ -113,10 +113,10 @@ module _ (sp : Spots) (R : AreRings sp) where
     l_minus : live wide (minus e) ≡ true
     l_minus = ap is_some w_minus
 
-    r_plus : (ring wide (plus e) ≡ plus e ∷ []) × IsRingOf wide (plus e) (ring wide (plus e))
+    pub r_plus : (ring wide (plus e) ≡ plus e ∷ []) × IsRingOf wide (plus e) (ring wide (plus e))
     r_plus = one_ring (plus e) (ap (λ o. or_zero (of_spot (λ s. s.next) o)) w_plus) l_plus
 
-    r_minus : (ring wide (minus e) ≡ minus e ∷ []) × IsRingOf wide (minus e) (ring wide (minus e))
+    pub r_minus : (ring wide (minus e) ≡ minus e ∷ []) × IsRingOf wide (minus e) (ring wide (minus e))
     r_minus = one_ring (minus e) (ap (λ o. or_zero (of_spot (λ s. s.next) o)) w_minus) l_minus
 
     pub w_rings : AreRings wide
@@ -172,6 +172,57 @@ module _ (sp : Spots) (R : AreRings sp) where
           ∙ sym (edges_at sp R k) ∙ sym (get-put (tabulate (edge_row sp) codes) e new_row k ∙ ap (λ b. cond b (Some new_row) (get (tabulate (edge_row sp) codes) k)) p.0)
     ])
 
+  -- an edge whose two half-edges are rings of one
+  module _ (e : ℕ) (one_plus : ring sp (plus e) ≡ plus e ∷ []) (one_minus : ring sp (minus e) ≡ minus e ∷ []) where
+    abbrev gone : Spots
+    gone = asleep (asleep sp (plus e)) (minus e)
+
+    pub s_minus : gone (minus e) ≡ None
+    s_minus = ap (λ b. cond b None (asleep sp (plus e) (minus e))) (eq-eqb (minus e) (minus e) refl)
+
+    pub s_plus : gone (plus e) ≡ None
+    s_plus = ap (λ b. cond b None (asleep sp (plus e) (plus e))) (ne_eqb (plus e) (minus e) (λ q. omega arith)) ∙ ap (λ b. cond b None (sp (plus e))) (eq-eqb (plus e) (plus e) refl)
+
+    pub s_other : (x : ℕ) → x ≢ plus e → x ≢ minus e → gone x ≡ sp x
+    s_other x n m = ap (λ b. cond b None (asleep sp (plus e) x)) (ne_eqb x (minus e) m) ∙ ap (λ b. cond b None (sp x)) (ne_eqb x (plus e) n)
+
+    -- what is live still
+    pub s_left : (x : ℕ) → live gone x ≡ true → (x ≢ plus e) × (x ≢ minus e) × (live sp x ≡ true)
+    s_left x a =
+        let n : x ≢ plus e = λ q. true≢false (sym a ∙ ap (live gone) q ∙ ap is_some s_plus) in
+        let m : x ≢ minus e = λ q. true≢false (sym a ∙ ap (live gone) q ∙ ap is_some s_minus) in
+        (n, m, sym (ap is_some (s_other x n m)) ∙ a)
+
+    s_bound : (x : ℕ) → live gone x ≡ true → x < codes
+    s_bound x a = R.bound x (s_left x a).2
+
+    -- the items of another ring are other codes
+    s_item : (c x : ℕ) → live sp c ≡ true → c ≢ plus e → c ≢ minus e → IsIn x (ring sp c) → gone x ≡ sp x
+    s_item c x a n m i = s_other x
+        (λ q. n (IsIn_one (plus e) c (subst (IsIn c) (sym (ring_same sp R c x a i) ∙ ap (ring sp) q ∙ one_plus) (R.rings c a).item)))
+        (λ q. m (IsIn_one (minus e) c (subst (IsIn c) (sym (ring_same sp R c x a i) ∙ ap (ring sp) q ∙ one_minus) (R.rings c a).item)))
+
+    pub s_ring : (c : ℕ) → live sp c ≡ true → c ≢ plus e → c ≢ minus e → (ring gone c ≡ ring sp c) × IsRingOf gone c (ring gone c)
+    s_ring c a n m =
+        let o = R.rings c a in
+        ring_of gone s_bound c (ring sp c) (record {
+          leads = IsPath-agree (next sp) (next gone) (ring sp c) (head_or 0 (ring sp c)) (λ x i. ap (λ o. or_zero (of_spot (λ s. s.next) o)) (sym (s_item c x a n m i))) o.leads;
+          apart = o.apart;
+          item = o.item;
+          awake = λ x i. ap is_some (s_item c x a n m i) ∙ o.awake x i;
+          one_label = λ x i. ap (λ o. or_zero (of_spot (λ s. s.label) o)) (s_item c x a n m i) ∙ o.one_label x i ∙ sym (ap (λ o. or_zero (of_spot (λ s. s.label) o)) (s_other c n m));
+        }) (canonical_ring sp R c a)
+
+    pub s_rings : AreRings gone
+    s_rings = record {
+      bound = s_bound;
+      rings = λ c a. let l = s_left c a in (s_ring c l.2 l.0 l.1).1;
+      mates = λ c a. let l = s_left c a in
+          let n : mate c ≢ plus e = λ q. l.1 (sym (mate-mate c) ∙ ap mate q ∙ mate_plus e) in
+          let m : mate c ≢ minus e = λ q. l.0 (sym (mate-mate c) ∙ ap mate q ∙ mate_minus e) in
+          ap is_some (s_other (mate c) n m) ∙ R.mates c l.2;
+    }
+
   -- an edge whose two half-edges are loose, each alone
   module _ (e : ℕ) (row_plus : loose_row sp (plus e) ≡ Some (plus e ∷ [])) (row_minus : loose_row sp (minus e) ≡ Some (minus e ∷ [])) where
     abbrev less : Spots
@@ -182,6 +233,12 @@ module _ (sp : Spots) (R : AreRings sp) where
 
     t_minus : (live sp (minus e) ≡ true) × (label sp (minus e) ≡ 0) × (head_or 0 (ring sp (minus e)) ≡ minus e) × (ring sp (minus e) ≡ minus e ∷ [])
     t_minus = loose_row_means sp R (minus e) (minus e ∷ []) row_minus
+
+    pub ring_of_plus : ring sp (plus e) ≡ plus e ∷ []
+    ring_of_plus = t_plus.3
+
+    pub ring_of_minus : ring sp (minus e) ≡ minus e ∷ []
+    ring_of_minus = t_minus.3
 
     pub alone_plus : next sp (plus e) ≡ plus e
     alone_plus = IsIn_one (plus e) (next sp (plus e)) (subst (IsIn (next sp (plus e))) t_plus.3 (next_in_ring sp R (plus e) t_plus.0))
@@ -195,54 +252,8 @@ module _ (sp : Spots) (R : AreRings sp) where
     pub live_minus : live sp (minus e) ≡ true
     live_minus = t_minus.0
 
-    s_minus : less (minus e) ≡ None
-    s_minus = ap (λ b. cond b None (asleep sp (plus e) (minus e))) (eq-eqb (minus e) (minus e) refl)
-
-    s_plus : less (plus e) ≡ None
-    s_plus = ap (λ b. cond b None (asleep sp (plus e) (plus e))) (ne_eqb (plus e) (minus e) (λ q. omega arith)) ∙ ap (λ b. cond b None (sp (plus e))) (eq-eqb (plus e) (plus e) refl)
-
-    pub s_other : (x : ℕ) → x ≢ plus e → x ≢ minus e → less x ≡ sp x
-    s_other x n m = ap (λ b. cond b None (asleep sp (plus e) x)) (ne_eqb x (minus e) m) ∙ ap (λ b. cond b None (sp x)) (ne_eqb x (plus e) n)
-
-    -- what is live still
-    pub s_left : (x : ℕ) → live less x ≡ true → (x ≢ plus e) × (x ≢ minus e) × (live sp x ≡ true)
-    s_left x a =
-        let n : x ≢ plus e = λ q. true≢false (sym a ∙ ap (live less) q ∙ ap is_some s_plus) in
-        let m : x ≢ minus e = λ q. true≢false (sym a ∙ ap (live less) q ∙ ap is_some s_minus) in
-        (n, m, sym (ap is_some (s_other x n m)) ∙ a)
-
-    s_bound : (x : ℕ) → live less x ≡ true → x < codes
-    s_bound x a = R.bound x (s_left x a).2
-
-    -- the items of another ring are other codes
-    s_item : (c x : ℕ) → live sp c ≡ true → c ≢ plus e → c ≢ minus e → IsIn x (ring sp c) → less x ≡ sp x
-    s_item c x a n m i = s_other x
-        (λ q. n (IsIn_one (plus e) c (subst (IsIn c) (sym (ring_same sp R c x a i) ∙ ap (ring sp) q ∙ t_plus.3) (R.rings c a).item)))
-        (λ q. m (IsIn_one (minus e) c (subst (IsIn c) (sym (ring_same sp R c x a i) ∙ ap (ring sp) q ∙ t_minus.3) (R.rings c a).item)))
-
-    pub s_ring : (c : ℕ) → live sp c ≡ true → c ≢ plus e → c ≢ minus e → (ring less c ≡ ring sp c) × IsRingOf less c (ring less c)
-    s_ring c a n m =
-        let o = R.rings c a in
-        ring_of less s_bound c (ring sp c) (record {
-          leads = IsPath-agree (next sp) (next less) (ring sp c) (head_or 0 (ring sp c)) (λ x i. ap (λ o. or_zero (of_spot (λ s. s.next) o)) (sym (s_item c x a n m i))) o.leads;
-          apart = o.apart;
-          item = o.item;
-          awake = λ x i. ap is_some (s_item c x a n m i) ∙ o.awake x i;
-          one_label = λ x i. ap (λ o. or_zero (of_spot (λ s. s.label) o)) (s_item c x a n m i) ∙ o.one_label x i ∙ sym (ap (λ o. or_zero (of_spot (λ s. s.label) o)) (s_other c n m));
-        }) (canonical_ring sp R c a)
-
-    pub s_rings : AreRings less
-    s_rings = record {
-      bound = s_bound;
-      rings = λ c a. let l = s_left c a in (s_ring c l.2 l.0 l.1).1;
-      mates = λ c a. let l = s_left c a in
-          let n : mate c ≢ plus e = λ q. l.1 (sym (mate-mate c) ∙ ap mate q ∙ mate_plus e) in
-          let m : mate c ≢ minus e = λ q. l.0 (sym (mate-mate c) ∙ ap mate q ∙ mate_minus e) in
-          ap is_some (s_other (mate c) n m) ∙ R.mates c l.2;
-    }
-
     pub s_label : (x : ℕ) → x ≢ plus e → x ≢ minus e → label less x ≡ label sp x
-    s_label x n m = ap (λ o. or_zero (of_spot (λ s. s.label) o)) (s_other x n m)
+    s_label x n m = ap (λ o. or_zero (of_spot (λ s. s.label) o)) (s_other e t_plus.3 t_minus.3 x n m)
 
     -- a labelled code is neither
     pub s_named : (x : ℕ) → label sp x ≢ 0 → (x ≢ plus e) × (x ≢ minus e)
@@ -251,26 +262,26 @@ module _ (sp : Spots) (R : AreRings sp) where
     s_loose_old : (k : ℕ) → k ≢ plus e → k ≢ minus e → loose_row less k ≡ loose_row sp k
     s_loose_old k n m = go (live sp k) refl where
       go : (t : Bool) → live sp k ≡ t → loose_row less k ≡ loose_row sp k
-      go true h = loose_alike sp less k (ap is_some (s_other k n m)) (s_label k n m) (s_ring k h n m).0
-      go false h = loose_dead less k (ap is_some (s_other k n m) ∙ h) ∙ sym (loose_dead sp k h)
+      go true h = loose_alike sp less k (ap is_some (s_other e t_plus.3 t_minus.3 k n m)) (s_label k n m) (s_ring e t_plus.3 t_minus.3 k h n m).0
+      go false h = loose_dead less k (ap is_some (s_other e t_plus.3 t_minus.3 k n m) ∙ h) ∙ sym (loose_dead sp k h)
 
     abbrev loose2 : Table (List ℕ)
     loose2 = remove (tabulate (loose_row sp) codes) (plus e)
 
     pub s_loose : tabulate (loose_row less) codes ≡ remove loose2 (minus e)
-    s_loose = same_table (tabulate (loose_row less) codes) (remove loose2 (minus e)) (λ k. loose_at less s_rings k ∙ elim (eqb_tells k (minus e)) [
-      | inl p ↦ ap (loose_row less) p.1 ∙ loose_dead less (minus e) (ap is_some s_minus) ∙ sym (get-remove loose2 (minus e) k ∙ ap (λ b. cond b None (get loose2 k)) p.0)
+    s_loose = same_table (tabulate (loose_row less) codes) (remove loose2 (minus e)) (λ k. loose_at less (s_rings e t_plus.3 t_minus.3) k ∙ elim (eqb_tells k (minus e)) [
+      | inl p ↦ ap (loose_row less) p.1 ∙ loose_dead less (minus e) (ap is_some (s_minus e t_plus.3 t_minus.3)) ∙ sym (get-remove loose2 (minus e) k ∙ ap (λ b. cond b None (get loose2 k)) p.0)
       | inr p ↦ elim (eqb_tells k (plus e)) [
-        | inl r ↦ ap (loose_row less) r.1 ∙ loose_dead less (plus e) (ap is_some s_plus) ∙ sym (get-remove loose2 (minus e) k ∙ ap (λ b. cond b None (get loose2 k)) p.0 ∙ get-remove (tabulate (loose_row sp) codes) (plus e) k ∙ ap (λ b. cond b None (get (tabulate (loose_row sp) codes) k)) r.0)
+        | inl r ↦ ap (loose_row less) r.1 ∙ loose_dead less (plus e) (ap is_some (s_plus e t_plus.3 t_minus.3)) ∙ sym (get-remove loose2 (minus e) k ∙ ap (λ b. cond b None (get loose2 k)) p.0 ∙ get-remove (tabulate (loose_row sp) codes) (plus e) k ∙ ap (λ b. cond b None (get (tabulate (loose_row sp) codes) k)) r.0)
         | inr r ↦ s_loose_old k r.1 p.1 ∙ sym (loose_at sp R k) ∙ sym (get-remove loose2 (minus e) k ∙ ap (λ b. cond b None (get loose2 k)) p.0 ∙ get-remove (tabulate (loose_row sp) codes) (plus e) k ∙ ap (λ b. cond b None (get (tabulate (loose_row sp) codes) k)) r.0)
       ]
     ])
 
     pub s_edges : tabulate (edge_row less) codes ≡ remove (tabulate (edge_row sp) codes) e
-    s_edges = same_table (tabulate (edge_row less) codes) (remove (tabulate (edge_row sp) codes) e) (λ k. edges_at less s_rings k ∙ elim (eqb_tells k e) [
-      | inl p ↦ ap (edge_row less) p.1 ∙ (λ i. both_tails (s_plus i) (less (minus e))) ∙ sym (get-remove (tabulate (edge_row sp) codes) e k ∙ ap (λ b. cond b None (get (tabulate (edge_row sp) codes) k)) p.0)
+    s_edges = same_table (tabulate (edge_row less) codes) (remove (tabulate (edge_row sp) codes) e) (λ k. edges_at less (s_rings e t_plus.3 t_minus.3) k ∙ elim (eqb_tells k e) [
+      | inl p ↦ ap (edge_row less) p.1 ∙ (λ i. both_tails (s_plus e t_plus.3 t_minus.3 i) (less (minus e))) ∙ sym (get-remove (tabulate (edge_row sp) codes) e k ∙ ap (λ b. cond b None (get (tabulate (edge_row sp) codes) k)) p.0)
       | inr p ↦
-          (λ i. both_tails (s_other (plus k) (λ q. p.1 (omega arith)) (λ q. omega arith) i) (s_other (minus k) (λ q. omega arith) (λ q. p.1 (omega arith)) i))
+          (λ i. both_tails (s_other e t_plus.3 t_minus.3 (plus k) (λ q. p.1 (omega arith)) (λ q. omega arith) i) (s_other e t_plus.3 t_minus.3 (minus k) (λ q. omega arith) (λ q. p.1 (omega arith)) i))
           ∙ sym (edges_at sp R k) ∙ sym (get-remove (tabulate (edge_row sp) codes) e k ∙ ap (λ b. cond b None (get (tabulate (edge_row sp) codes) k)) p.0)
     ])
 

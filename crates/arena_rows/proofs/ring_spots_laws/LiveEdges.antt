@@ -54,8 +54,11 @@ module _ (m : RingMap) (edges : List (Option Bool)) (A : AreEdges m edges) where
   pub edges_labelled : (new : RingMap) (l : ℕ) (hs : List ℕ) → spot new ≡ labelled (spot m) l hs → contains_key new ≡ contains_key m → AreEdges new edges
   edges_labelled new l hs is = edges_alike new (λ c. ap (λ (s : Spots). live s c) is ∙ live-labelled (spot m) l hs c)
 
-  pub edges_spliced : (new : RingMap) (a b : ℕ) → spot new ≡ spliced_at (spot m) a b → contains_key new ≡ contains_key m → AreEdges new edges
-  edges_spliced new a b is = edges_alike new (λ c. ap (λ (s : Spots). live s c) is ∙ live-spliced (spot m) a b c)
+  pub edges_cut : (new : RingMap) (a b l : ℕ) (hs : List ℕ) → spot new ≡ labelled (spliced_at (spot m) a b) l hs → contains_key new ≡ contains_key m → AreEdges new edges
+  edges_cut new a b l hs is = edges_alike new (λ c. ap (λ (s : Spots). live s c) is ∙ live-labelled (spliced_at (spot m) a b) l hs c ∙ live-spliced (spot m) a b c)
+
+  pub edges_joined : (new : RingMap) (a b l : ℕ) (hs : List ℕ) → spot new ≡ spliced_at (labelled (spot m) l hs) a b → contains_key new ≡ contains_key m → AreEdges new edges
+  edges_joined new a b l hs is = edges_alike new (λ c. ap (λ (s : Spots). live s c) is ∙ live-spliced (labelled (spot m) l hs) a b c ∙ live-labelled (spot m) l hs c)
 
   pub edges_retailed : (new : RingMap) (h t : ℕ) → spot new ≡ retailed (spot m) h t → contains_key new ≡ contains_key m → AreEdges new edges
   edges_retailed new h t is = edges_alike new (λ c. ap (λ (s : Spots). live s c) is ∙ live-retailed (spot m) h t c)

@@ -1,13 +1,15 @@
 //! The rings of half-edges, with the edges in use as rows.
-ghost use Rattle.std.specs.Prelude.{◌≡◌, ◌≤◌, ◌&&◌, nat_lt, nat_le, is_some, true, Some, OnOk, IfOk, ℕ};
+ghost use Rattle.std.specs.Prelude.{◌≡◌, ◌≢◌, ◌≤◌, ◌&&◌, nat_lt, nat_le, is_some, true, Some, OnOk, IfOk, ℕ};
 ghost use Rattle.std.specs.FinMap.{empty, contains_key};
 ghost use Rattle.raw_ring.specs.Rings.{spot, next_of, tail_of, label_of, IsLive, IsAsleep, IsPermutation};
 ghost use Rattle.boundary_model.specs.HalfEdge.{plus, minus};
-ghost use Rattle.arena_rows.specs.ring_spots.Spots.{live, ring, labelled, woken, asleep, spliced_at, retailed, AreRings};
+ghost use Rattle.boundary_model.specs.Items.{IsIn};
+ghost use Rattle.arena_rows.specs.ring_spots.Spots.{live, label, ring, labelled, woken, asleep, spliced_at, retailed};
 ghost use Rattle.arena_rows.specs.ring_spots.Last.{IsLast, is_edge};
 ghost use Rattle.arena_rows.specs.Groups.{IsNext};
 
-use crate::ring_spots::links;
+use crate::ring_spots::labels::Label;
+use crate::ring_spots::{links, parts};
 use crate::rows::Rows;
 use raw_ring::Rings;
 use std::alloc::{AllocError, Global};
@@ -15,24 +17,30 @@ use std::marker::Model;
 
 /// Rings of half-edges, two for each edge, with a row for each edge in use.
 ///
-/// A contract sees what stands at each known half-edge. Only `room_edge` and `copy` take memory.
+/// Each ring has a label at its nodes, and the label stands for the ring's loop. So a ring comes to another loop by one write, and
+/// where a ring is cut or two are joined, the labels of the shorter part alone are written.
+///
+/// A contract sees what stands at each known half-edge, with the loop's number as its label. Only `room_edge` and `copy` take
+/// memory.
 #[derive(Drop)]
 pub struct EdgeRings {
     rings: Rings,
+    labels: Vec<Label>,
     edges: Rows<bool>,
 }
 
 impl Model for EdgeRings {
     ghost use Rattle.raw_ring.specs.Rings.{RingMap, ring_map_code};
-    ghost use Rattle.arena_rows.specs.ring_spots.Edges.{AreEdges};
+    ghost use Rattle.arena_rows.specs.ring_spots.Edges.{AreEdgeRings};
+    ghost use Rattle.arena_rows.specs.ring_spots.Labels.{map_in_loops};
 
     ghost Value = { RingMap };
 
     ghost coded = { ring_map_code };
 
-    ghost view = { λ a. a.rings };
+    ghost view = { λ a. map_in_loops a.labels.items a.rings };
 
-    ghost invariant = { λ a. AreEdges a.rings a.edges };
+    ghost invariant = { λ a. AreEdgeRings a.rings a.labels.items a.edges };
 }
 
 impl EdgeRings {
@@ -42,6 +50,7 @@ impl EdgeRings {
     {
         Self {
             rings: Rings::new(alloc),
+            labels: Vec::new(alloc),
             edges: Rows::new(alloc),
         }
     }
@@ -52,6 +61,7 @@ impl EdgeRings {
     {
         Ok(EdgeRings {
             rings: self.rings.copy(alloc)?,
+            labels: self.labels.as_slice().to_vec(alloc)?,
             edges: self.edges.copy(alloc)?,
         })
     }
@@ -92,7 +102,7 @@ impl EdgeRings {
         ensures spots { spot self.new ≡ woken (woken (spot self.old) (plus e) a) (minus e) b }
         ensures known { contains_key self.new ≡ contains_key self.old }
     {
-        links::wake_edge(&mut self.rings, e, a, b);
+        links::wake_edge(&mut self.rings, &mut self.labels, e, a, b);
         self.edges.write(e, Some(true));
     }
 
@@ -109,24 +119,39 @@ impl EdgeRings {
         self.edges.write(e, None);
     }
 
-    /// Gives each item of a ring the label l.
+    /// Puts the ring of a half-edge into loop l, or into none where l is 0. It writes one number, and walks over nothing.
     pub fn relabel(&mut self, from: u32, l: u32)
-        requires rings { AreRings (spot self.old) }
-        requires there { live (spot self.old) from ≡ true }
+        requires { live (spot self.old) from ≡ true }
         ensures spots { spot self.new ≡ labelled (spot self.old) l (ring (spot self.old) from) }
         ensures known { contains_key self.new ≡ contains_key self.old }
     {
-        links::relabel(&mut self.rings, from, l);
+        parts::put_in_loop(&self.rings, &mut self.labels, from, l);
     }
 
-    /// Exchanges the successors of two codes.
-    pub fn exchange(&mut self, a: u32, b: u32)
+    /// Cuts the ring of a and b in two, one with a and one with b. That of b stands in loop l then, or in none where l is 0.
+    ///
+    /// It walks round the shorter one.
+    pub fn cut(&mut self, a: u32, b: u32, l: u32)
         requires a { live (spot self.old) a ≡ true }
-        requires b { live (spot self.old) b ≡ true }
-        ensures spots { spot self.new ≡ spliced_at (spot self.old) a b }
+        requires together { IsIn b (ring (spot self.old) a) }
+        requires apart { a ≢ b }
+        ensures spots { spot self.new ≡ labelled (spliced_at (spot self.old) a b) l (ring (spliced_at (spot self.old) a b) b) }
         ensures known { contains_key self.new ≡ contains_key self.old }
     {
-        links::exchange(&mut self.rings, a, b);
+        parts::cut(&mut self.rings, &mut self.labels, a, b, l);
+    }
+
+    /// Joins the rings of a and b, which stand in different loops, or one of them in none. The joint ring stands in a's loop.
+    ///
+    /// It walks round the shorter one.
+    pub fn join(&mut self, a: u32, b: u32)
+        requires a { live (spot self.old) a ≡ true }
+        requires b { live (spot self.old) b ≡ true }
+        requires apart { label (spot self.old) b ≢ label (spot self.old) a }
+        ensures spots { spot self.new ≡ spliced_at (labelled (spot self.old) (label (spot self.old) a) (ring (spot self.old) b)) a b }
+        ensures known { contains_key self.new ≡ contains_key self.old }
+    {
+        parts::join(&mut self.rings, &mut self.labels, a, b);
     }
 
     /// Changes the vertex at which a half-edge starts.
@@ -146,7 +171,7 @@ impl EdgeRings {
         ensures ok { OnOk result ((contains_key self.new (plus e) ≡ true) × (contains_key self.new (minus e) ≡ true)) }
     {
         self.edges.reach(e)?;
-        links::room_edge(&mut self.rings, e)
+        links::room_edge(&mut self.rings, &mut self.labels, e)
     }
 
     /// The successor of a live half-edge.
@@ -180,6 +205,6 @@ impl EdgeRings {
         requires { IsLive self.now code }
         ensures { label_of self.now code ≡ Some result }
     {
-        self.rings.label(code)
+        parts::loop_of(&self.rings, &self.labels, code)
     }
 }

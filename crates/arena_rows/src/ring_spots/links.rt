@@ -1,10 +1,12 @@
 //! Edges as pairs of nodes.
-ghost use Rattle.std.specs.Prelude.{◌≡◌, ◌≢◌, ◌≤◌, ◌&&◌, ◌*◌, ◌+◌, nat_lt, nat_le, is_some, true, Some, OnOk, ℕ};
+ghost use Rattle.std.specs.Prelude.{◌≡◌, ◌≢◌, ◌<◌, ◌≤◌, ◌&&◌, ◌*◌, ◌+◌, nat_eq, nat_lt, nat_le, is_some, true, cond, Some, OnOk, ℕ, length};
 ghost use Rattle.std.specs.FinMap.{contains_key};
 ghost use Rattle.raw_ring.specs.Rings.{spot, next_of, IsAsleep};
 ghost use Rattle.boundary_model.specs.HalfEdge.{plus, minus};
-ghost use Rattle.arena_rows.specs.ring_spots.Spots.{live, ring, labelled, woken, asleep, spliced_at, retailed, AreRings};
+ghost use Rattle.arena_rows.specs.ring_spots.Spots.{live, ring, labelled, woken, woken_as, asleep, spliced_at, retailed, AreRings};
+ghost use Rattle.arena_rows.specs.ring_spots.Labels.{own, holder, loop_at, in_loops, AreLabelled};
 
+use crate::ring_spots::labels::{Label, own, reach, stand_for};
 use boundary_model::{HALF_EDGE_CODES, NUMBER_LIMIT};
 use raw_ring::Rings;
 use std::alloc::AllocError;
@@ -23,16 +25,36 @@ pub(crate) fn has_edge_room(rings: &Rings, e: u32) -> bool
     e <= NUMBER_LIMIT && (0 < e && (rings.has_room(2 * e) && rings.has_room(2 * e + 1)))
 }
 
-/// Wakes both half-edges of an edge.
-pub(crate) fn wake_edge(rings: &mut Rings, e: u32, a: u32, b: u32)
+/// Wakes both half-edges of an edge. Each has the label that it owns, which stands for no loop.
+pub(crate) fn wake_edge(rings: &mut Rings, labels: &mut Vec<Label>, e: u32, a: u32, b: u32)
+    requires whole { AreLabelled (spot rings.old) (contains_key rings.old) labels.old.items }
     requires limit { e ≤ 1000000 }
     requires first { IsAsleep rings.old (plus e) }
     requires second { IsAsleep rings.old (minus e) }
-    ensures spots { spot rings.new ≡ woken (woken (spot rings.old) (plus e) a) (minus e) b }
+    ensures whole { AreLabelled (spot rings.new) (contains_key rings.new) labels.new.items }
+    ensures spots { in_loops labels.new.items (spot rings.new) ≡ woken (woken (in_loops labels.old.items (spot rings.old)) (plus e) a) (minus e) b }
     ensures known { contains_key rings.new ≡ contains_key rings.old }
 {
-    rings.wake(2 * e, a);
-    rings.wake(2 * e + 1, b);
+    wake(rings, labels, 2 * e, a);
+    wake(rings, labels, 2 * e + 1, b);
+}
+
+/// Wakes a half-edge with the label that it owns, which stands for no loop.
+fn wake(rings: &mut Rings, labels: &mut Vec<Label>, code: u32, tail: u32)
+    requires asleep { IsAsleep rings.old code }
+    requires code { code < length labels.old.items }
+    requires label { own labels.old.items code < length labels.old.items }
+    ensures spots { spot rings.new ≡ woken_as (spot rings.old) code tail (own labels.old.items code) }
+    ensures known { contains_key rings.new ≡ contains_key rings.old }
+    ensures loops { (q : ℕ) → loop_at labels.new.items q ≡ cond (nat_eq q (own labels.old.items code)) 0 (loop_at labels.old.items q) }
+    ensures own { own labels.new.items ≡ own labels.old.items }
+    ensures holder { holder labels.new.items ≡ holder labels.old.items }
+    ensures len { length labels.new.items ≡ length labels.old.items }
+{
+    let label = own(labels, code);
+    rings.wake(code, tail);
+    rings.set_label(code, label);
+    stand_for(labels, label, 0);
 }
 
 /// Puts both half-edges of an edge to sleep, each of which is a ring of one.
@@ -83,14 +105,21 @@ pub(crate) fn retail(rings: &mut Rings, h: u32, v: u32)
     rings.set_tail(h, v);
 }
 
-/// Gives both half-edges of an edge their nodes.
-pub(crate) fn room_edge(rings: &mut Rings, e: u32) -> Result<(), AllocError>
-    requires { e ≤ 1000000 }
-    ensures spots { spot rings.new ≡ spot rings.old }
+/// Gives both half-edges of an edge their nodes, and their labels.
+pub(crate) fn room_edge(
+    rings: &mut Rings,
+    labels: &mut Vec<Label>,
+    e: u32,
+) -> Result<(), AllocError>
+    requires whole { AreLabelled (spot rings.old) (contains_key rings.old) labels.old.items }
+    requires limit { e ≤ 1000000 }
+    ensures whole { AreLabelled (spot rings.new) (contains_key rings.new) labels.new.items }
+    ensures spots { in_loops labels.new.items (spot rings.new) ≡ in_loops labels.old.items (spot rings.old) }
     ensures kept { (c : ℕ) → contains_key rings.old c ≡ true → contains_key rings.new c ≡ true }
     ensures only { (q : ℕ) → q ≢ plus e → q ≢ minus e → contains_key rings.new q ≡ contains_key rings.old q }
     ensures ok { OnOk result ((contains_key rings.new (plus e) ≡ true) × (contains_key rings.new (minus e) ≡ true)) }
 {
+    reach(labels, 2 * e + 1)?;
     room_code(rings, 2 * e)?;
     room_code(rings, 2 * e + 1)
 }

@@ -1,26 +1,47 @@
-use Rattle.std.proofs.Common.{ap, ◌∙◌, ◌≡◌, ℕ, cond, ne_eqb, Option, is_some, sym}
-use Rattle.std.specs.FinMap.{contains_key, insert}
-use Rattle.raw_ring.specs.Rings.{RingMap, Spot, spot, IsAsleep}
+use Rattle.std.proofs.Common.{ap, ◌∙◌, ◌≡◌, ◌<◌, ℕ, Bool, length, cond, nat_eq, sym, subst, arith}
+use Rattle.raw_ring.specs.Rings.{spot}
 use Rattle.boundary_model.specs.HalfEdge.{plus, minus}
 use Rattle.boundary_model.proofs.Halves.{plus_other}
-use Rattle.arena_rows.specs.ring_spots.Spots.{woken}
-use Rattle.arena_rows.proofs.ring_spots_laws.RingMaps.{spot-insert, spot-woken, known-same, known_kept}
+use Rattle.arena_rows.specs.ring_spots.Spots.{Spots, live, woken_as}
+use Rattle.arena_rows.specs.ring_spots.Labels.{own, loop_at}
+use Rattle.arena_rows.proofs.ring_spots_laws.LabelEdges.{live-woken_other, labelled-woken, loops-woken}
 use Rattle.arena_rows.proofs.ring_spots.links.wake_edge.Goals as goal
 
-still : (m new : RingMap) (e : ℕ) (x : Option Spot) → new ≡ insert m (plus e) x → IsAsleep m (plus e) → IsAsleep m (minus e) → IsAsleep new (minus e)
-still m new e x is first h = (
-  ap (λ (k : RingMap). contains_key k (minus e)) is ∙ known_kept m (plus e) x first.0 (minus e) ∙ h.0,
-  ap (λ (k : RingMap). is_some (spot k (minus e))) is ∙ ap is_some (spot-insert m (plus e) x (minus e) ∙ ap (λ b. cond b x (spot m (minus e))) (ne_eqb (minus e) (plus e) (λ q. plus_other e (sym q)))) ∙ h.1,
+pub wake-requires-clause-code : goal.wake-requires-clause-code
+wake-requires-clause-code c = c.requires.whole.reach (plus c.args.e) c.requires.first.0
+
+pub wake-requires-clause-label : goal.wake-requires-clause-label
+wake-requires-clause-label c = c.requires.whole.owners.own_below (plus c.args.e) (c.requires.whole.reach (plus c.args.e) c.requires.first.0)
+
+pub wake-requires-2-clause-asleep : goal.wake-requires-2-clause-asleep
+wake-requires-2-clause-asleep c = (
+  ap (λ (k : ℕ → Bool). k (minus c.args.e)) c.wake.ensures.known ∙ c.requires.second.0,
+  ap (λ (s : Spots). live s (minus c.args.e)) c.wake.ensures.spots ∙ live-woken_other (spot c.args.rings.now) (plus c.args.e) _ _ (minus c.args.e) (λ q. plus_other c.args.e (sym q)) ∙ c.requires.second.1,
 )
 
-pub wake-requires-2 : goal.wake-requires-2
-wake-requires-2 c = still _ _ _ _ c.wake.ensures c.requires.first c.requires.second
+pub wake-requires-2-clause-code : goal.wake-requires-2-clause-code
+wake-requires-2-clause-code c = omega (arith, c.wake.ensures.len, c.requires.whole.reach (minus c.args.e) c.requires.second.0)
+
+pub wake-requires-2-clause-label : goal.wake-requires-2-clause-label
+wake-requires-2-clause-label c = subst (λ (f : ℕ → ℕ). f (minus c.args.e) < length c.wake.new.labels.items) (sym c.wake.ensures.own)
+    (omega (arith, c.wake.ensures.len, c.requires.whole.owners.own_below (minus c.args.e) (c.requires.whole.reach (minus c.args.e) c.requires.second.0)))
 
 pub returns : goal.returns
 returns c =
+    let A = c.requires.whole in
+    let p = A.reach (plus c.args.e) c.requires.first.0 in
+    let m = A.reach (minus c.args.e) c.requires.second.0 in
+    let owns : own c.wake.new.labels.items (minus c.args.e) ≡ own c.args.labels.now.items (minus c.args.e) = ap (λ (f : ℕ → ℕ). f (minus c.args.e)) c.wake.ensures.own in
+    let is = c.wake-2.ensures.spots ∙ ap (λ (s : Spots). woken_as s (minus c.args.e) c.args.b (own c.wake.new.labels.items (minus c.args.e))) c.wake.ensures.spots
+    ∙ ap (woken_as (woken_as (spot c.args.rings.now) (plus c.args.e) c.args.a (own c.args.labels.now.items (plus c.args.e))) (minus c.args.e) c.args.b) owns in
+    let known = c.wake-2.ensures.known ∙ c.wake.ensures.known in
+    let own_same = c.wake-2.ensures.own ∙ c.wake.ensures.own in
+    let holders = c.wake-2.ensures.holder ∙ c.wake.ensures.holder in
+    let len = c.wake-2.ensures.len ∙ c.wake.ensures.len in
+    let loops : (q : ℕ) → loop_at c.wake-2.new.labels.items q ≡ cond (nat_eq q (own c.args.labels.now.items (minus c.args.e))) 0 (cond (nat_eq q (own c.args.labels.now.items (plus c.args.e))) 0 (loop_at c.args.labels.now.items q)) =
+    λ q. c.wake-2.ensures.loops q ∙ ap (λ z. cond (nat_eq q z) 0 (loop_at c.wake.new.labels.items q)) owns ∙ ap (cond (nat_eq q (own c.args.labels.now.items (minus c.args.e))) 0) (c.wake.ensures.loops q) in
     record {
-      spots = ap (λ (m : RingMap). spot m) c.wake-2.ensures ∙ spot-woken _ _ _ ∙ ap (λ sp. woken sp (minus c.args.e) c.args.b) (ap (λ (m : RingMap). spot m) c.wake.ensures ∙ spot-woken _ _ _);
-      known = ap (λ (m : RingMap). contains_key m) c.wake-2.ensures
-          ∙ known-same c.wake.new.self (minus c.args.e) _ (still _ _ _ _ c.wake.ensures c.requires.first c.requires.second).0
-          ∙ ap (λ (m : RingMap). contains_key m) c.wake.ensures ∙ known-same c.args.rings.now (plus c.args.e) _ c.requires.first.0;
+      whole = labelled-woken _ _ _ A c.args.e c.args.a c.args.b c.requires.limit c.requires.first.1 c.requires.second.1 p m _ _ _ is known own_same holders len loops;
+      spots = loops-woken _ _ _ A c.args.e c.args.a c.args.b c.requires.limit c.requires.first.1 c.requires.second.1 p m _ _ _ is known own_same holders len loops;
+      known = known;
     }

@@ -1,5 +1,21 @@
+use Rattle.std.proofs.Common.{sym, ◌∙◌}
+use Rattle.arena_rows.specs.ring_spots.Spots.{Spots}
 use Rattle.arena_rows.proofs.ring_spots_laws.LiveEdges.{edges_roomed}
+use Rattle.arena_rows.proofs.ring_spots_laws.RingViews.{seen_known, seen_as, seen_ok}
 use Rattle.arena_rows.proofs.ring_spots.edge_rings.EdgeRings.room_edge.Goals as goal
 
 pub invariant_of-self-2 : goal.invariant_of-self-2
-invariant_of-self-2 c = edges_roomed _ _ c.self.invariant _ c.reach.ensures.same c.reach.ensures.grows _ c.args.e c.in_ok-reach.ensures.ok c.room_edge.ensures.spots c.room_edge.ensures.only
+invariant_of-self-2 c = record {
+  labelled = c.room_edge.ensures.whole;
+  rows = edges_roomed _ _ c.self.invariant.rows _ c.reach.ensures.same c.reach.ensures.grows _ c.args.e c.in_ok-reach.ensures.ok (seen_as (λ (s : Spots). s) c.self.inside.labels.items c.room_edge.new.labels.items c.self.inside.rings c.room_edge.new.rings c.room_edge.ensures.spots)
+      (λ q n m. seen_known c.room_edge.new.labels.items c.room_edge.new.rings q ∙ c.room_edge.ensures.only q n m ∙ sym (seen_known c.self.inside.labels.items c.self.inside.rings q));
+}
+
+pub returns-clause-spots : goal.returns-clause-spots
+returns-clause-spots c = rw (← c.self.view_is) (seen_as (λ (s : Spots). s) c.self.inside.labels.items c.room_edge.new.labels.items c.self.inside.rings c.room_edge.new.rings c.room_edge.ensures.spots)
+
+pub returns-clause-kept : goal.returns-clause-kept
+returns-clause-kept c = rw (← c.self.view_is) (λ q k. seen_known c.room_edge.new.labels.items c.room_edge.new.rings q ∙ c.room_edge.ensures.kept q (sym (seen_known c.self.inside.labels.items c.self.inside.rings q) ∙ k))
+
+pub returns-clause-ok : goal.returns-clause-ok
+returns-clause-ok c = seen_ok c.room_edge.new.labels.items c.room_edge.new.rings c.args.e c.room_edge.result c.room_edge.ensures.ok

@@ -1,5 +1,30 @@
+use Rattle.std.proofs.Common.{ap, sym, ◌∙◌}
+use Rattle.raw_ring.specs.Rings.{or_zero}
+use Rattle.raw_ring.proofs.Mapping.{IsLive-next}
+use Rattle.boundary_model.specs.HalfEdge.{plus, minus}
+use Rattle.arena_rows.specs.ring_spots.Spots.{Spots, asleep}
+use Rattle.arena_rows.proofs.ring_spots_laws.LabelEdges.{labelled-asleep, loops-asleep_both}
 use Rattle.arena_rows.proofs.ring_spots_laws.LiveEdges.{edges_asleep}
+use Rattle.arena_rows.proofs.ring_spots_laws.RingViews.{seen_next, seen_as, known_as}
 use Rattle.arena_rows.proofs.ring_spots.edge_rings.EdgeRings.sleep_edge.Goals as goal
 
+pub sleep_edge-requires-clause-first : goal.sleep_edge-requires-clause-first
+sleep_edge-requires-clause-first c = sym (seen_next c.self.inside.labels.items c.self.inside.rings (plus c.args.e)) ∙ (rw (← c.self.view_is) at c.requires.first)
+
+pub sleep_edge-requires-clause-second : goal.sleep_edge-requires-clause-second
+sleep_edge-requires-clause-second c = sym (seen_next c.self.inside.labels.items c.self.inside.rings (minus c.args.e)) ∙ (rw (← c.self.view_is) at c.requires.second)
+
 pub invariant_of-self : goal.invariant_of-self
-invariant_of-self c = edges_asleep _ _ c.self.invariant _ _ c.args.e c.sleep_edge.ensures.spots c.sleep_edge.ensures.known c.write.ensures.rows c.write.ensures.len
+invariant_of-self c =
+    let p = sym (seen_next c.self.inside.labels.items c.self.inside.rings (plus c.args.e)) ∙ (rw (← c.self.view_is) at c.requires.first) in
+    let m = sym (seen_next c.self.inside.labels.items c.self.inside.rings (minus c.args.e)) ∙ (rw (← c.self.view_is) at c.requires.second) in
+    record {
+      labelled = labelled-asleep _ _ _ c.self.invariant.labelled c.args.e (IsLive-next _ _ _ p) (IsLive-next _ _ _ m) (ap or_zero p) (ap or_zero m) _ _ c.sleep_edge.ensures.spots c.sleep_edge.ensures.known;
+      rows = edges_asleep _ _ c.self.invariant.rows _ _ c.args.e (seen_as (λ (s : Spots). asleep (asleep s (plus c.args.e)) (minus c.args.e)) c.self.inside.labels.items c.self.inside.labels.items c.self.inside.rings c.sleep_edge.new.rings (loops-asleep_both _ _ _ c.self.invariant.labelled c.args.e _ c.sleep_edge.ensures.spots)) (known_as c.self.inside.labels.items c.self.inside.labels.items c.self.inside.rings c.sleep_edge.new.rings c.sleep_edge.ensures.known) c.write.ensures.rows c.write.ensures.len;
+    }
+
+pub returns-clause-spots : goal.returns-clause-spots
+returns-clause-spots c = rw (← c.self.view_is) (seen_as (λ (s : Spots). asleep (asleep s (plus c.args.e)) (minus c.args.e)) c.self.inside.labels.items c.self.inside.labels.items c.self.inside.rings c.sleep_edge.new.rings (loops-asleep_both _ _ _ c.self.invariant.labelled c.args.e _ c.sleep_edge.ensures.spots))
+
+pub returns-clause-known : goal.returns-clause-known
+returns-clause-known c = rw (← c.self.view_is) (known_as c.self.inside.labels.items c.self.inside.labels.items c.self.inside.rings c.sleep_edge.new.rings c.sleep_edge.ensures.known)

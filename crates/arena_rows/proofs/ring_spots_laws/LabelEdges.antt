@@ -1,0 +1,234 @@
+-- Labels where edges come and go.
+use Rattle.std.proofs.Common.{◌≡◌, ◌≢◌, ℕ, ◌≤◌, ◌<◌, Bool, true, false, cond, nat_eq, List, [], ◌∷◌, length, Option, Some, None, is_some, refl, sym, ap, subst, ◌∙◌, arith, true≢false, eq-eqb, ne_eqb, ◌⊎◌, inl, inr}
+use Rattle.std.proofs.lemmas.Bool.{cases_eq}
+use Rattle.std.specs.FinMap.{insert, contains_key}
+use Rattle.raw_ring.specs.Rings.{Spot, RingMap, spot, or_zero, of_spot, ring_of_one, with_label}
+use Rattle.boundary_model.specs.Items.{IsIn}
+use Rattle.boundary_model.specs.HalfEdge.{plus, minus}
+use Rattle.boundary_model.proofs.Lists.{tick_le}
+use Rattle.boundary_model.proofs.Rotations.{IsIn_head, canonical_one}
+use Rattle.boundary_model.proofs.Members.{IsIn_one}
+use Rattle.arena_rows.specs.declared.ring_spots.labels.Label.{Label}
+use Rattle.arena_rows.specs.ring_spots.Spots.{Spots, live, next, label, ring, map_spot, woken, woken_as, asleep, retailed, AreRings}
+use Rattle.arena_rows.specs.ring_spots.Labels.{own, holder, loop_at, with_loop, in_loops, but_label, AreLabelled, HaveNewLabels}
+use Rattle.arena_rows.proofs.ring_spots_laws.SpotLaws.{ring_is, live-retailed, label-retailed, ring-retailed, AreRings-retailed}
+use Rattle.arena_rows.proofs.ring_spots_laws.RingMaps.{spot-insert, known-with, known-same}
+use Rattle.arena_rows.proofs.ring_spots_laws.Relabelling.{known_step}
+use Rattle.arena_rows.proofs.ring_spots_laws.EdgeSpots.{w_rings, w_cases, old_ring, r_plus, r_minus, s_rings, s_ring, s_left, s_other}
+use Rattle.arena_rows.proofs.ring_spots_laws.LabelTables.{owned_more, holder_same, loop_same}
+use Rattle.arena_rows.proofs.ring_spots_laws.LoopSpots.{loops-same, loops-asleep, live-alike, ring-alike, AreRings-alike}
+use Rattle.arena_rows.proofs.ring_spots_laws.LabelLaws.{labelled_alike}
+
+-- a code wakes, and gets a label
+pub spot-woken_as : (m mid new : RingMap) (c t l : ℕ) → mid ≡ insert m c (Some (ring_of_one c t)) → new ≡ with_label mid c l → spot new ≡ woken_as (spot m) c t l
+spot-woken_as m mid new c t l wakes gets = λ i q. (known_step mid new c l gets q ∙ ap (λ o. cond (nat_eq q c) (map_spot (λ s. record s { label = l }) o) o) (ap (λ (k : RingMap). spot k q) wakes ∙ spot-insert m c (Some (ring_of_one c t)) q) ∙ go (nat_eq q c) (spot m q)) i where
+  go : (b : Bool) (o : Option Spot) → cond b (map_spot (λ s. record s { label = l }) (cond b (Some (ring_of_one c t)) o)) (cond b (Some (ring_of_one c t)) o) ≡ cond b (Some (record { next = c; tail = t; label = l })) o
+  go true o = refl
+  go false o = refl
+
+pub live-woken_as : (m mid : RingMap) (c t : ℕ) → mid ≡ insert m c (Some (ring_of_one c t)) → live (spot mid) c ≡ true
+live-woken_as m mid c t wakes = ap (λ (k : RingMap). live (spot k) c) wakes ∙ ap is_some (spot-insert m c (Some (ring_of_one c t)) c ∙ ap (λ b. cond b (Some (ring_of_one c t)) (spot m c)) (eq-eqb c c refl))
+
+pub known-woken_as : (m mid new : RingMap) (c t l : ℕ) → contains_key m c ≡ true → mid ≡ insert m c (Some (ring_of_one c t)) → new ≡ with_label mid c l → contains_key new ≡ contains_key m
+known-woken_as m mid new c t l there wakes gets = ap (λ (k : RingMap). contains_key k) gets ∙ (λ i q. known-with mid c (λ s. record s { label = l }) q i) ∙ ap (λ (k : RingMap). contains_key k) wakes ∙ known-same m c (Some (ring_of_one c t)) there
+
+-- whether another code is live
+pub live-woken_other : (sp : Spots) (c t l q : ℕ) → q ≢ c → live (woken_as sp c t l) q ≡ live sp q
+live-woken_other sp c t l q n = ap (λ b. is_some (cond b (Some (record { next = c; tail = t; label = l })) (sp q))) (ne_eqb q c n)
+
+-- one more code is known
+pub reach_more : (known known' : ℕ → Bool) (end c : ℕ) → ((q : ℕ) → known q ≡ true → q < end) → c < end → ((q : ℕ) → q ≢ c → known' q ≡ known q) → (q : ℕ) → known' q ≡ true → q < end
+reach_more known known' end c reach below only q k = elim (cases_eq q c) [ inl e ↦ omega (arith, e, below) | inr n ↦ reach q (sym (only q n) ∙ k) ]
+
+-- there is room for more labels
+module _ (sp : Spots) (known : ℕ → Bool) (rows new : List Label) (A : AreLabelled sp known rows) (h : HaveNewLabels rows new) where
+  pub labelled-room : (now : Spots) (known' : ℕ → Bool) → now ≡ sp → ((c : ℕ) → known' c ≡ true → c < length new) → length new ≤ 2000002 → AreLabelled now known' new
+  labelled-room now known' is reach limit = subst (λ s. AreLabelled s known' new) (sym is) (record {
+    rings = A.rings;
+    owners = owned_more rows new h A.owners;
+    reach = reach;
+    below = λ c a. omega (arith, A.below c a, h.grows);
+    held = λ c a. subst (λ n. IsIn n (ring sp c)) (sym (holder_same rows new h (label sp c) (A.below c a))) (A.held c a);
+    limit = limit;
+  })
+
+  pub loops-room : (now : Spots) → now ≡ sp → in_loops new now ≡ in_loops rows sp
+  loops-room now is = ap (in_loops new) is ∙ loops-same sp sp rows new (λ q. refl) (λ q a. loop_same rows new h (label sp q) (A.below q a))
+
+module _ (sp : Spots) (known : ℕ → Bool) (rows : List Label) (A : AreLabelled sp known rows) where
+  -- a half-edge starts elsewhere
+  pub labelled-retailed : (c v : ℕ) (now : Spots) (known' : ℕ → Bool) → now ≡ retailed sp c v → known' ≡ known → AreLabelled now known' rows
+  labelled-retailed c v now known' is same = subst (λ k. AreLabelled now k rows) (sym same) (subst (λ s. AreLabelled s known rows) (sym is) (record {
+    rings = AreRings-retailed sp A.rings c v;
+    owners = A.owners;
+    reach = A.reach;
+    below = λ q a. subst (λ n. n < length rows) (sym (label-retailed sp c v q)) (A.below q (sym (live-retailed sp c v q) ∙ a));
+    held = λ q a. subst (λ hs. IsIn (holder rows (label (retailed sp c v) q)) hs) (sym (ring-retailed sp A.rings c v q))
+        (subst (λ n. IsIn (holder rows n) (ring sp q)) (sym (label-retailed sp c v q)) (A.held q (sym (live-retailed sp c v q) ∙ a)));
+    limit = A.limit;
+  }))
+
+  -- an edge goes to sleep, whose half-edges are rings of one
+  module _ (e : ℕ) (plus_live : live sp (plus e) ≡ true) (minus_live : live sp (minus e) ≡ true) (plus_next : next sp (plus e) ≡ plus e) (minus_next : next sp (minus e) ≡ minus e) where
+    alone : (c : ℕ) → live sp c ≡ true → next sp c ≡ c → ring sp c ≡ c ∷ []
+    alone c a n = ring_is sp c (c ∷ []) (n, tt) (λ y. omega (arith, tick_le y c)) (IsIn_head c []) (λ x i. A.rings.bound x (ap (live sp) (IsIn_one c x i) ∙ a)) ∙ canonical_one c
+
+    alone_plus : ring sp (plus e) ≡ plus e ∷ []
+    alone_plus = alone (plus e) plus_live plus_next
+
+    alone_minus : ring sp (minus e) ≡ minus e ∷ []
+    alone_minus = alone (minus e) minus_live minus_next
+
+    abbrev less : Spots
+    less = asleep (asleep sp (plus e)) (minus e)
+
+    label_left : (c : ℕ) → live less c ≡ true → label less c ≡ label sp c
+    label_left c a = let l = s_left sp A.rings e alone_plus alone_minus c a in ap (λ o. or_zero (of_spot (λ s. s.label) o)) (s_other sp A.rings e alone_plus alone_minus c l.0 l.1)
+
+    pub labelled-asleep : (now : Spots) (known' : ℕ → Bool) → now ≡ less → known' ≡ known → AreLabelled now known' rows
+    labelled-asleep now known' is same = subst (λ k. AreLabelled now k rows) (sym same) (subst (λ s. AreLabelled s known rows) (sym is) (record {
+      rings = s_rings sp A.rings e alone_plus alone_minus;
+      owners = A.owners;
+      reach = A.reach;
+      below = λ c a. let l = s_left sp A.rings e alone_plus alone_minus c a in subst (λ n. n < length rows) (sym (label_left c a)) (A.below c l.2);
+      held = λ c a. let l = s_left sp A.rings e alone_plus alone_minus c a in
+          subst (λ hs. IsIn (holder rows (label less c)) hs) (sym (s_ring sp A.rings e alone_plus alone_minus c l.2 l.0 l.1).0) (subst (λ n. IsIn (holder rows n) (ring sp c)) (sym (label_left c a)) (A.held c l.2));
+      limit = A.limit;
+    }))
+
+  pub loops-asleep_both : (e : ℕ) (now : Spots) → now ≡ asleep (asleep sp (plus e)) (minus e) → in_loops rows now ≡ asleep (asleep (in_loops rows sp) (plus e)) (minus e)
+  loops-asleep_both e now is = ap (in_loops rows) is ∙ loops-asleep rows (asleep sp (plus e)) (minus e) ∙ ap (λ s. asleep s (minus e)) (loops-asleep rows sp (plus e))
+
+  -- an edge wakes, and each half-edge has the label that it owns
+  module _ (e u v : ℕ) (limit : e ≤ 1000000) (dead_plus : live sp (plus e) ≡ false) (dead_minus : live sp (minus e) ≡ false) (plus_known : plus e < length rows) (minus_known : minus e < length rows) where
+    abbrev wide : Spots
+    wide = woken (woken sp (plus e) u) (minus e) v
+
+    abbrev x : ℕ
+    x = own rows (plus e)
+
+    abbrev y : ℕ
+    y = own rows (minus e)
+
+    abbrev now : Spots
+    now = woken_as (woken_as sp (plus e) u x) (minus e) v y
+
+    now_alike : (q : ℕ) → but_label (now q) ≡ but_label (wide q)
+    now_alike q = go (nat_eq q (minus e)) (nat_eq q (plus e)) where
+      go : (b d : Bool) → but_label (cond b (Some (record { next = minus e; tail = v; label = y })) (cond d (Some (record { next = plus e; tail = u; label = x })) (sp q))) ≡ but_label (cond b (Some (ring_of_one (minus e) v)) (cond d (Some (ring_of_one (plus e) u)) (sp q)))
+      go true d = refl
+      go false true = refl
+      go false false = refl
+
+    now_minus : now (minus e) ≡ Some (record { next = minus e; tail = v; label = y })
+    now_minus = ap (λ b. cond b (Some (record { next = minus e; tail = v; label = y })) (woken_as sp (plus e) u x (minus e))) (eq-eqb (minus e) (minus e) refl)
+
+    now_plus : now (plus e) ≡ Some (record { next = plus e; tail = u; label = x })
+    now_plus = ap (λ b. cond b (Some (record { next = minus e; tail = v; label = y })) (woken_as sp (plus e) u x (plus e))) (ne_eqb (plus e) (minus e) (λ q. omega arith))
+        ∙ ap (λ b. cond b (Some (record { next = plus e; tail = u; label = x })) (sp (plus e))) (eq-eqb (plus e) (plus e) refl)
+
+    now_other : (q : ℕ) → q ≢ plus e → q ≢ minus e → now q ≡ sp q
+    now_other q n m = ap (λ b. cond b (Some (record { next = minus e; tail = v; label = y })) (woken_as sp (plus e) u x q)) (ne_eqb q (minus e) m) ∙ ap (λ b. cond b (Some (record { next = plus e; tail = u; label = x })) (sp q)) (ne_eqb q (plus e) n)
+
+    not_plus : (q : ℕ) → live sp q ≡ true → q ≢ plus e
+    not_plus q a e = true≢false (sym (ap (live sp) (sym e) ∙ a) ∙ dead_plus)
+
+    not_minus : (q : ℕ) → live sp q ≡ true → q ≢ minus e
+    not_minus q a e = true≢false (sym (ap (live sp) (sym e) ∙ a) ∙ dead_minus)
+
+    now_label : (q : ℕ) → live sp q ≡ true → label now q ≡ label sp q
+    now_label q a = ap (λ o. or_zero (of_spot (λ s. s.label) o)) (now_other q (not_plus q a) (not_minus q a))
+
+    label_plus : label now (plus e) ≡ x
+    label_plus = ap (λ o. or_zero (of_spot (λ s. s.label) o)) now_plus
+
+    label_minus : label now (minus e) ≡ y
+    label_minus = ap (λ o. or_zero (of_spot (λ s. s.label) o)) now_minus
+
+    W : AreRings wide
+    W = w_rings sp A.rings e u v limit dead_plus dead_minus
+
+    cases : (q : ℕ) → live wide q ≡ true → (q ≡ plus e) ⊎ ((q ≡ minus e) ⊎ (live sp q ≡ true))
+    cases = w_cases sp A.rings e u v limit dead_plus dead_minus
+
+    one_label : (c : ℕ) → live wide c ≡ true → (q : ℕ) → IsIn q (ring wide c) → label now q ≡ label now c
+    one_label c a q i = elim (cases c a) [
+      | inl p ↦ ap (label now) (IsIn_one (plus e) q (subst (IsIn q) (ap (ring wide) p ∙ (r_plus sp A.rings e u v limit dead_plus dead_minus).0) i) ∙ sym p)
+      | inr (inl p) ↦ ap (label now) (IsIn_one (minus e) q (subst (IsIn q) (ap (ring wide) p ∙ (r_minus sp A.rings e u v limit dead_plus dead_minus).0) i) ∙ sym p)
+      | inr (inr b) ↦
+          let j : IsIn q (ring sp c) = subst (IsIn q) (old_ring sp A.rings e u v limit dead_plus dead_minus c b).0 i in
+          now_label q ((A.rings.rings c b).awake q j) ∙ (A.rings.rings c b).one_label q j ∙ sym (now_label c b)
+    ]
+
+    now_rings : AreRings now
+    now_rings = AreRings-alike wide now now_alike W one_label
+
+    rings_are : (c : ℕ) → ring now c ≡ ring wide c
+    rings_are c = ring-alike wide now now_alike c
+
+    cases_now : (q : ℕ) → live now q ≡ true → (q ≡ plus e) ⊎ ((q ≡ minus e) ⊎ (live sp q ≡ true))
+    cases_now q a = cases q (sym (live-alike wide now now_alike q) ∙ a)
+
+    holds : (c n : ℕ) → live now c ≡ true → label now c ≡ n → holder rows n ≡ c → IsIn (holder rows (label now c)) (ring now c)
+    holds c n a l h = subst (λ z. IsIn z (ring now c)) (sym (ap (holder rows) l ∙ h)) (now_rings.rings c a).item
+
+    now_labelled : AreLabelled now known rows
+    now_labelled = record {
+      rings = now_rings;
+      owners = A.owners;
+      reach = A.reach;
+      below = λ c a. elim (cases_now c a) [
+        | inl p ↦ subst (λ n. n < length rows) (sym (ap (label now) p ∙ label_plus)) (A.owners.own_below (plus e) plus_known)
+        | inr (inl p) ↦ subst (λ n. n < length rows) (sym (ap (label now) p ∙ label_minus)) (A.owners.own_below (minus e) minus_known)
+        | inr (inr b) ↦ subst (λ n. n < length rows) (sym (now_label c b)) (A.below c b)
+      ];
+      held = λ c a. elim (cases_now c a) [
+        | inl p ↦ holds c x a (ap (label now) p ∙ label_plus) (A.owners.held (plus e) plus_known ∙ sym p)
+        | inr (inl p) ↦ holds c y a (ap (label now) p ∙ label_minus) (A.owners.held (minus e) minus_known ∙ sym p)
+        | inr (inr b) ↦ subst (λ hs. IsIn (holder rows (label now c)) hs) (sym (rings_are c ∙ (old_ring sp A.rings e u v limit dead_plus dead_minus c b).0)) (subst (λ n. IsIn (holder rows n) (ring sp c)) (sym (now_label c b)) (A.held c b))
+      ];
+      limit = A.limit;
+    }
+
+    -- no live code has the label that a sleeping one owns
+    not_own : (c q : ℕ) → c < length rows → live sp c ≡ false → live sp q ≡ true → label sp q ≢ own rows c
+    not_own c q below dead a is =
+        let h : holder rows (label sp q) ≡ c = ap (holder rows) is ∙ A.owners.held c below in
+        true≢false (sym (ap (live sp) (sym h) ∙ (A.rings.rings q a).awake (holder rows (label sp q)) (A.held q a)) ∙ dead)
+
+    module _ (new : Spots) (known' : ℕ → Bool) (rows' : List Label) (is : new ≡ now) (same : known' ≡ known) (own_same : own rows' ≡ own rows) (holders : holder rows' ≡ holder rows) (len : length rows' ≡ length rows)
+        (loops : (q : ℕ) → loop_at rows' q ≡ cond (nat_eq q y) 0 (cond (nat_eq q x) 0 (loop_at rows q))) where
+      pub labelled-woken : AreLabelled new known' rows'
+      labelled-woken = subst (λ k. AreLabelled new k rows') (sym same) (subst (λ s. AreLabelled s known rows') (sym is) (labelled_alike now known rows rows' now_labelled own_same holders len))
+
+      loop_y : loop_at rows' y ≡ 0
+      loop_y = loops y ∙ ap (λ b. cond b 0 (cond (nat_eq y x) 0 (loop_at rows y))) (eq-eqb y y refl)
+
+      loop_x : loop_at rows' x ≡ 0
+      loop_x = loops x ∙ elim (cases_eq x y) [
+        | inl p ↦ ap (λ b. cond b 0 (cond (nat_eq x x) 0 (loop_at rows x))) (eq-eqb x y p)
+        | inr n ↦ ap (λ b. cond b 0 (cond (nat_eq x x) 0 (loop_at rows x))) (ne_eqb x y n) ∙ ap (λ b. cond b 0 (loop_at rows x)) (eq-eqb x x refl)
+      ]
+
+      loop_else : (q : ℕ) → live sp q ≡ true → loop_at rows' (label sp q) ≡ loop_at rows (label sp q)
+      loop_else q a = loops (label sp q) ∙ ap (λ b. cond b 0 (cond (nat_eq (label sp q) x) 0 (loop_at rows (label sp q)))) (ne_eqb (label sp q) y (not_own (minus e) q minus_known dead_minus a))
+          ∙ ap (λ b. cond b 0 (loop_at rows (label sp q))) (ne_eqb (label sp q) x (not_own (plus e) q plus_known dead_plus a))
+
+      pub loops-woken : in_loops rows' new ≡ woken (woken (in_loops rows sp) (plus e) u) (minus e) v
+      loops-woken = ap (in_loops rows') is ∙ (λ i q. each q i) where
+        tell : (o : Option Spot) → ((s : Spot) → o ≡ Some s → loop_at rows' s.label ≡ loop_at rows s.label) → map_spot (with_loop rows') o ≡ map_spot (with_loop rows) o
+        tell None f = refl
+        tell (Some s) f = ap (λ n. Some (record s { label = n })) (f s refl)
+
+        each : (q : ℕ) → in_loops rows' now q ≡ woken (woken (in_loops rows sp) (plus e) u) (minus e) v q
+        each q = elim (cases_eq q (minus e)) [
+          | inl p ↦ ap (in_loops rows' now) p ∙ ap (map_spot (with_loop rows')) now_minus ∙ ap (λ n. Some (record { next = minus e; tail = v; label = n })) loop_y
+              ∙ sym (ap (λ b. cond b (Some (ring_of_one (minus e) v)) (woken (in_loops rows sp) (plus e) u q)) (eq-eqb q (minus e) p))
+          | inr m ↦ elim (cases_eq q (plus e)) [
+            | inl p ↦ ap (in_loops rows' now) p ∙ ap (map_spot (with_loop rows')) now_plus ∙ ap (λ n. Some (record { next = plus e; tail = u; label = n })) loop_x
+                ∙ sym (ap (λ b. cond b (Some (ring_of_one (minus e) v)) (woken (in_loops rows sp) (plus e) u q)) (ne_eqb q (minus e) m) ∙ ap (λ b. cond b (Some (ring_of_one (plus e) u)) (in_loops rows sp q)) (eq-eqb q (plus e) p))
+            | inr n ↦ ap (map_spot (with_loop rows')) (now_other q n m)
+                ∙ tell (sp q) (λ s at. ap (loop_at rows') (sym (ap (λ o. or_zero (of_spot (λ s. s.label) o)) at)) ∙ loop_else q (ap is_some at) ∙ ap (loop_at rows) (ap (λ o. or_zero (of_spot (λ s. s.label) o)) at))
+                ∙ sym (ap (λ b. cond b (Some (ring_of_one (minus e) v)) (woken (in_loops rows sp) (plus e) u q)) (ne_eqb q (minus e) m) ∙ ap (λ b. cond b (Some (ring_of_one (plus e) u)) (in_loops rows sp q)) (ne_eqb q (plus e) n))
+          ]
+        ]

@@ -1,0 +1,277 @@
+-- Labels where rings are cut, joined and put into loops.
+use Rattle.std.proofs.Common.{◌≡◌, ◌≢◌, ℕ, ◌+◌, ◌<◌, Bool, true, List, length, refl, sym, ap, subst, ◌∙◌, arith, cond, nat_eq, eq-eqb, ne_eqb, ◌⊎◌, inl, inr}
+use Rattle.boundary_model.specs.Items.{count, IsIn}
+use Rattle.boundary_model.specs.Rings.{cut_left, cut_right, joined}
+use Rattle.boundary_model.proofs.Lists.{IsIn_or_not}
+use Rattle.boundary_model.proofs.Cuts.{IsIn-cut}
+use Rattle.arena_rows.specs.declared.ring_spots.labels.Label.{Label}
+use Rattle.arena_rows.specs.ring_spots.Spots.{Spots, live, label, ring, labelled, spliced_at, AreRings}
+use Rattle.arena_rows.specs.ring_spots.Labels.{own, holder, loop_at, in_loops, AreOwned, AreLabelled, ShareLabel, IsRelabelled, HaveOneLabel}
+use Rattle.arena_rows.proofs.ring_spots_laws.SpotLaws.{ring_same, ring_meet, live-labelled, ring-labelled, label-labelled_in, label-labelled_out, AreRings-labelled, live-spliced, label-spliced, AreRings-cut, ring_left, ring_right, ring_beside, cut_items, AreRings-join, ring_joint, ring_aside, join_items}
+use Rattle.arena_rows.proofs.ring_spots_laws.LabelTables.{handed_over, holder_x, holder_other}
+use Rattle.arena_rows.proofs.ring_spots_laws.LoopSpots.{blank-labelled, loops-labelled}
+
+module _ (sp : Spots) (R : AreRings sp) where
+  -- where an item of a's ring stands in another ring too, they are one
+  pub shared_item : (a c x : ℕ) → live sp a ≡ true → live sp c ≡ true → IsIn x (ring sp a) → IsIn x (ring sp c) → IsIn c (ring sp a)
+  shared_item a c x k h i j = subst (IsIn c) (sym (ring_meet sp R a c x k h i j)) (R.rings c h).item
+
+  out_of : (a c x : ℕ) → live sp a ≡ true → live sp c ≡ true → count c (ring sp a) ≡ 0 → IsIn x (ring sp c) → count x (ring sp a) ≡ 0
+  out_of a c x k h n j = elim (IsIn_or_not x (ring sp a)) [ inl i ↦ let m = shared_item a c x k h i j in absurd (omega arith) | inr m ↦ m ]
+
+-- the same owners and labels: nothing changes but the loops for which labels stand
+pub labelled_alike : (sp : Spots) (known : ℕ → Bool) (rows new : List Label) → AreLabelled sp known rows → own new ≡ own rows → holder new ≡ holder rows → length new ≡ length rows → AreLabelled sp known new
+labelled_alike sp known rows new A o h len = record {
+  rings = A.rings;
+  owners = subst (λ n. AreOwned (own new) (holder new) n) (sym len) (subst (λ f. AreOwned f (holder new) (length rows)) (sym o) (subst (λ f. AreOwned (own rows) f (length rows)) (sym h) A.owners));
+  reach = λ c k. omega (arith, len, A.reach c k);
+  below = λ c a. omega (arith, len, A.below c a);
+  held = λ c a. subst (λ (f : ℕ → ℕ). IsIn (f (label sp c)) (ring sp c)) (sym h) (A.held c a);
+  limit = omega (arith, len, A.limit);
+}
+
+module _ (sp : Spots) (known : ℕ → Bool) (rows : List Label) (A : AreLabelled sp known rows) where
+  -- two codes with one label stand in one ring
+  pub same_label : (c d : ℕ) → live sp c ≡ true → live sp d ≡ true → label sp d ≡ label sp c → IsIn d (ring sp c)
+  same_label c d h k e = shared_item sp A.rings c d (holder rows (label sp c)) h k (A.held c h) (subst (λ n. IsIn (holder rows n) (ring sp d)) e (A.held d k))
+
+  -- the label of a ring stands for loop l now
+  pub loops-put : (new : List Label) (c l : ℕ) → live sp c ≡ true → ((q : ℕ) → loop_at new q ≡ cond (nat_eq q (label sp c)) l (loop_at rows q)) → in_loops new sp ≡ labelled (in_loops rows sp) l (ring sp c)
+  loops-put new c l h is = loops-labelled sp sp rows new l (ring sp c) (λ q. refl)
+      (λ q k i. is (label sp q) ∙ ap (λ b. cond b l (loop_at rows (label sp q))) (eq-eqb (label sp q) (label sp c) ((A.rings.rings c h).one_label q i)))
+      (λ q k n. is (label sp q) ∙ ap (λ b. cond b l (loop_at rows (label sp q))) (ne_eqb (label sp q) (label sp c) (λ e. let i = same_label c q h k e in absurd (omega arith))))
+
+  -- a ring is cut
+  module _ (a b : ℕ) (a_there : live sp a ≡ true) (together : IsIn b (ring sp a)) (ne : a ≢ b) where
+    abbrev cutted : Spots
+    cutted = spliced_at sp a b
+
+    cut_b_there : live sp b ≡ true
+    cut_b_there = (A.rings.rings a a_there).awake b together
+
+    cut_sides : IsIn a (cut_left a b (ring sp a)) × IsIn b (cut_right a b (ring sp a))
+    cut_sides = let o = A.rings.rings a a_there in IsIn-cut a b (ring sp a) o.apart o.item together ne
+
+    cut_left_is : ring cutted a ≡ cut_left a b (ring sp a)
+    cut_left_is = (ring_left sp A.rings a b a_there cut_b_there together ne a cut_sides.0).0
+
+    cut_right_is : ring cutted b ≡ cut_right a b (ring sp a)
+    cut_right_is = (ring_right sp A.rings a b a_there cut_b_there together ne b cut_sides.1).0
+
+    cut_count : (x : ℕ) → count x (ring cutted a) + count x (ring cutted b) ≡ count x (ring sp a)
+    cut_count x = (λ i. count x (cut_left_is i) + count x (cut_right_is i)) ∙ cut_items sp A.rings a b a_there cut_b_there together ne x
+
+    pub share-cut : ShareLabel cutted known rows a b
+    share-cut = let o = A.rings.rings a a_there in record {
+      rings = AreRings-cut sp A.rings a b a_there cut_b_there together ne;
+      owners = A.owners;
+      reach = A.reach;
+      below = λ c h. subst (λ n. n < length rows) (sym (label-spliced sp a b c)) (A.below c (sym (live-spliced sp a b c) ∙ h));
+      limit = A.limit;
+      a_there = live-spliced sp a b a ∙ a_there;
+      b_there = live-spliced sp a b b ∙ cut_b_there;
+      apart = let i : IsIn b (ring cutted b) = subst (IsIn b) (sym cut_right_is) cut_sides.1 in omega (arith, i, cut_count b, o.apart b);
+      one = label-spliced sp a b b ∙ o.one_label b together ∙ sym (label-spliced sp a b a);
+      held = let i : IsIn (holder rows (label cutted a)) (ring sp a) = subst (λ n. IsIn (holder rows n) (ring sp a)) (sym (label-spliced sp a b a)) (A.held a a_there) in
+          elim (IsIn_or_not (holder rows (label cutted a)) (ring cutted a)) [ inl j ↦ inl j | inr n ↦ inr (omega (arith, i, cut_count (holder rows (label cutted a)))) ];
+      others = λ c h n m.
+          let k = sym (live-spliced sp a b c) ∙ h in
+          let e = (ring_beside sp A.rings a b a_there cut_b_there together ne c k (omega (arith, cut_count c))).0 in
+          subst (λ hs. IsIn (holder rows (label cutted c)) hs) (sym e) (subst (λ w. IsIn (holder rows w) (ring sp c)) (sym (label-spliced sp a b c)) (A.held c k));
+    }
+
+    pub share-cut_to : (new : Spots) (known' : ℕ → Bool) → new ≡ cutted → known' ≡ known → ShareLabel new known' rows a b
+    share-cut_to new known' is same = subst (λ k. ShareLabel new k rows a b) (sym same) (subst (λ s. ShareLabel s known rows a b) (sym is) share-cut)
+
+  -- the rings of a and b get one label
+  module _ (a b : ℕ) (a_there : live sp a ≡ true) (b_there : live sp b ≡ true) (other : label sp b ≢ label sp a) where
+    not_b : (x : ℕ) → IsIn x (ring sp a) → count x (ring sp b) ≡ 0
+    not_b x i = elim (IsIn_or_not x (ring sp b)) [ inl j ↦ absurd (other (sym ((A.rings.rings b b_there).one_label x j) ∙ (A.rings.rings a a_there).one_label x i)) | inr n ↦ n ]
+
+    b_apart : count b (ring sp a) ≡ 0
+    b_apart = elim (IsIn_or_not b (ring sp a)) [ inl i ↦ absurd (other ((A.rings.rings a a_there).one_label b i)) | inr n ↦ n ]
+
+    abbrev lb : ℕ
+    lb = label sp b
+
+    abbrev like_b : Spots
+    like_b = labelled sp lb (ring sp a)
+
+    like_b_rings : (q : ℕ) → ring like_b q ≡ ring sp q
+    like_b_rings q = ring-labelled sp A.rings a lb a_there q
+
+    like_b_b : label like_b b ≡ lb
+    like_b_b = label-labelled_out sp lb (ring sp a) b b_apart
+
+    like_b_a : label like_b a ≡ lb
+    like_b_a = label-labelled_in sp lb (ring sp a) a (A.rings.rings a a_there).item a_there
+
+    shared : ShareLabel like_b known rows a b
+    shared = record {
+      rings = AreRings-labelled sp A.rings a lb a_there;
+      owners = A.owners;
+      reach = A.reach;
+      below = λ c h. let k = sym (live-labelled sp lb (ring sp a) c) ∙ h in elim (IsIn_or_not c (ring sp a)) [
+        | inl i ↦ subst (λ n. n < length rows) (sym (label-labelled_in sp lb (ring sp a) c i k)) (A.below b b_there)
+        | inr n ↦ subst (λ n. n < length rows) (sym (label-labelled_out sp lb (ring sp a) c n)) (A.below c k)
+      ];
+      limit = A.limit;
+      a_there = live-labelled sp lb (ring sp a) a ∙ a_there;
+      b_there = live-labelled sp lb (ring sp a) b ∙ b_there;
+      apart = ap (count b) (like_b_rings a) ∙ b_apart;
+      one = like_b_b ∙ sym like_b_a;
+      held = inr (subst (λ hs. IsIn (holder rows (label like_b a)) hs) (sym (like_b_rings b)) (subst (λ n. IsIn (holder rows n) (ring sp b)) (sym like_b_a) (A.held b b_there)));
+      others = λ c h n m.
+          let k = sym (live-labelled sp lb (ring sp a) c) ∙ h in
+          let out : count c (ring sp a) ≡ 0 = sym (ap (count c) (like_b_rings a)) ∙ n in
+          subst (λ hs. IsIn (holder rows (label like_b c)) hs) (sym (like_b_rings c)) (subst (λ l. IsIn (holder rows l) (ring sp c)) (sym (label-labelled_out sp lb (ring sp a) c out)) (A.held c k));
+    }
+
+    -- that of b
+    share-label : (new : Spots) (known' : ℕ → Bool) → new ≡ labelled sp (label sp b) (ring sp a) → known' ≡ known → ShareLabel new known' rows a b
+    share-label new known' is same = subst (λ k. ShareLabel new k rows a b) (sym same) (subst (λ s. ShareLabel s known rows a b) (sym is) shared)
+
+    relabelled-share : (new : Spots) → new ≡ labelled sp (label sp b) (ring sp a) → IsRelabelled sp new a b
+    relabelled-share new is = subst (λ s. IsRelabelled sp s a b) (sym is) (record { same = blank-labelled sp lb (ring sp a); others = λ q h n m. label-labelled_out sp lb (ring sp a) q n })
+
+-- which of the two comes first is the same
+pub share_turned : (sp : Spots) (known : ℕ → Bool) (rows : List Label) (a b : ℕ) → ShareLabel sp known rows a b → ShareLabel sp known rows b a
+share_turned sp known rows a b S = record {
+  rings = S.rings;
+  owners = S.owners;
+  reach = S.reach;
+  below = S.below;
+  limit = S.limit;
+  a_there = S.b_there;
+  b_there = S.a_there;
+  apart = elim (IsIn_or_not a (ring sp b)) [
+    | inl i ↦ let j : IsIn b (ring sp a) = shared_item sp S.rings a b a S.a_there S.b_there (S.rings.rings a S.a_there).item i in absurd (omega (arith, S.apart))
+    | inr n ↦ n
+  ];
+  one = sym S.one;
+  held = elim S.held [ inl i ↦ inr (subst (λ n. IsIn (holder rows n) (ring sp a)) (sym S.one) i) | inr i ↦ inl (subst (λ n. IsIn (holder rows n) (ring sp b)) (sym S.one) i) ];
+  others = λ c h n m. S.others c h m n;
+}
+
+relabelled_turned : (sp new : Spots) (a b : ℕ) → IsRelabelled sp new a b → IsRelabelled sp new b a
+relabelled_turned sp new a b r = record { same = r.same; others = λ q h n m. r.others q h m n }
+
+module _ (sp : Spots) (known : ℕ → Bool) (rows : List Label) (A : AreLabelled sp known rows) (a b : ℕ) (a_there : live sp a ≡ true) (b_there : live sp b ≡ true) (other : label sp b ≢ label sp a) where
+  pub share-one : (new : Spots) (known' : ℕ → Bool) → HaveOneLabel sp new a b → known' ≡ known → ShareLabel new known' rows a b
+  share-one new known' (inl is) same = share-label sp known rows A a b a_there b_there other new known' is same
+  share-one new known' (inr is) same = share_turned new known' rows b a (share-label sp known rows A b a b_there a_there (λ e. other (sym e)) new known' is same)
+
+  pub relabelled-one : (new : Spots) → HaveOneLabel sp new a b → IsRelabelled sp new a b
+  relabelled-one new (inl is) = relabelled-share sp known rows A a b a_there b_there other new is
+  relabelled-one new (inr is) = relabelled_turned sp new b a (relabelled-share sp known rows A b a b_there a_there (λ e. other (sym e)) new is)
+
+module _ (sp : Spots) (known : ℕ → Bool) (rows : List Label) (a b : ℕ) (S : ShareLabel sp known rows a b) where
+  abbrev x : ℕ
+  x = label sp b
+
+  whose : (c : ℕ) → live sp c ≡ true → IsIn (holder rows x) (ring sp c) → IsIn c (ring sp a) ⊎ IsIn c (ring sp b)
+  whose c h i = elim S.held [
+    | inl j ↦ inl (shared_item sp S.rings a c (holder rows x) S.a_there h (subst (λ n. IsIn (holder rows n) (ring sp a)) (sym S.one) j) i)
+    | inr j ↦ inr (shared_item sp S.rings b c (holder rows x) S.b_there h (subst (λ n. IsIn (holder rows n) (ring sp b)) (sym S.one) j) i)
+  ]
+
+  -- the ring of b keeps the label, which b owns now, and the ring of a gets the label that a owns
+  module _ (new : Spots) (rows' : List Label) (b_known : b < length rows) (a_known : a < length rows) (len : length rows' ≡ length rows)
+      (own_is : (q : ℕ) → own rows' q ≡ cond (nat_eq q b) x (cond (nat_eq q (holder rows x)) (own rows b) (own rows q)))
+      (holder_is : (q : ℕ) → holder rows' q ≡ cond (nat_eq q x) b (cond (nat_eq q (own rows b)) (holder rows x) (holder rows q)))
+      (is : new ≡ labelled sp (own rows' a) (ring sp a)) where
+    abbrev y : ℕ
+    y = own rows' a
+
+    owners' : AreOwned (own rows') (holder rows') (length rows)
+    owners' = handed_over (own rows) (holder rows) (length rows) S.owners (own rows') (holder rows') b x b_known (S.below b S.b_there) own_is holder_is
+
+    holder_of_x : holder rows' x ≡ b
+    holder_of_x = holder_x (own rows) (holder rows) (length rows) S.owners (own rows') (holder rows') b x b_known (S.below b S.b_there) own_is holder_is
+
+    abbrev now : Spots
+    now = labelled sp y (ring sp a)
+
+    rings_are : (c : ℕ) → ring now c ≡ ring sp c
+    rings_are c = ring-labelled sp S.rings a y S.a_there c
+
+    live_are : (c : ℕ) → live now c ≡ live sp c
+    live_are c = live-labelled sp y (ring sp a) c
+
+    holds : (c n : ℕ) → label now c ≡ n → IsIn (holder rows' n) (ring sp c) → IsIn (holder rows' (label now c)) (ring now c)
+    holds c n e i = subst (λ hs. IsIn (holder rows' (label now c)) hs) (sym (rings_are c)) (subst (λ w. IsIn (holder rows' w) (ring sp c)) (sym e) i)
+
+    held_in_a : (c : ℕ) → live sp c ≡ true → IsIn c (ring sp a) → IsIn (holder rows' (label now c)) (ring now c)
+    held_in_a c h i = holds c y (label-labelled_in sp y (ring sp a) c i h)
+        (subst (λ w. IsIn w (ring sp c)) (sym (owners'.held a a_known)) (subst (IsIn a) (sym (ring_same sp S.rings a c S.a_there i)) (S.rings.rings a S.a_there).item))
+
+    held_in_b : (c : ℕ) → live sp c ≡ true → count c (ring sp a) ≡ 0 → IsIn c (ring sp b) → IsIn (holder rows' (label now c)) (ring now c)
+    held_in_b c h n i = holds c x (label-labelled_out sp y (ring sp a) c n ∙ (S.rings.rings b S.b_there).one_label c i)
+        (subst (λ w. IsIn w (ring sp c)) (sym holder_of_x) (subst (IsIn b) (sym (ring_same sp S.rings b c S.b_there i)) (S.rings.rings b S.b_there).item))
+
+    -- elsewhere each label has the holder that it had
+    held_else : (c : ℕ) → live sp c ≡ true → count c (ring sp a) ≡ 0 → count c (ring sp b) ≡ 0 → IsIn (holder rows' (label now c)) (ring now c)
+    held_else c h n m =
+        let i : IsIn (holder rows (label sp c)) (ring sp c) = S.others c h n m in
+        let not_x : label sp c ≢ x = λ e. elim (whose c h (subst (λ w. IsIn (holder rows w) (ring sp c)) e i)) [ inl j ↦ absurd (omega arith) | inr j ↦ absurd (omega arith) ] in
+        let not_own : label sp c ≢ own rows b = λ e.
+        let k : IsIn b (ring sp c) = subst (λ w. IsIn w (ring sp c)) (ap (holder rows) e ∙ S.owners.held b b_known) i in
+        let j : IsIn c (ring sp b) = shared_item sp S.rings b c b S.b_there h (S.rings.rings b S.b_there).item k in
+        absurd (omega arith) in
+        holds c (label sp c) (label-labelled_out sp y (ring sp a) c n)
+        (subst (λ w. IsIn w (ring sp c)) (sym (holder_other (own rows) (holder rows) (length rows) S.owners (own rows') (holder rows') b x b_known (S.below b S.b_there) own_is holder_is (label sp c) not_x not_own)) i)
+
+    now_labelled : AreLabelled now known rows'
+    now_labelled = record {
+      rings = AreRings-labelled sp S.rings a y S.a_there;
+      owners = subst (λ n. AreOwned (own rows') (holder rows') n) (sym len) owners';
+      reach = λ c k. omega (arith, len, S.reach c k);
+      below = λ c h. let k = sym (live_are c) ∙ h in elim (IsIn_or_not c (ring sp a)) [
+        | inl i ↦ subst (λ n. n < length rows') (sym (label-labelled_in sp y (ring sp a) c i k)) (omega (arith, len, owners'.own_below a a_known))
+        | inr n ↦ subst (λ n. n < length rows') (sym (label-labelled_out sp y (ring sp a) c n)) (omega (arith, len, S.below c k))
+      ];
+      held = λ c h. let k = sym (live_are c) ∙ h in elim (IsIn_or_not c (ring sp a)) [
+        | inl i ↦ held_in_a c k i
+        | inr n ↦ elim (IsIn_or_not c (ring sp b)) [ inl i ↦ held_in_b c k n i | inr m ↦ held_else c k n m ]
+      ];
+      limit = omega (arith, len, S.limit);
+    }
+
+    pub labelled-apart : (known' : ℕ → Bool) → known' ≡ known → AreLabelled new known' rows'
+    labelled-apart known' same = subst (λ k. AreLabelled new k rows') (sym same) (subst (λ s. AreLabelled s known rows') (sym is) now_labelled)
+
+    pub relabelled-apart : IsRelabelled sp new a b
+    relabelled-apart = subst (λ s. IsRelabelled sp s a b) (sym is) (record { same = blank-labelled sp y (ring sp a); others = λ q h n m. label-labelled_out sp y (ring sp a) q n })
+
+  -- the two rings are joined
+  labelled-join : AreLabelled (spliced_at sp a b) known rows
+  labelled-join = record {
+    rings = AreRings-join sp S.rings a b S.a_there S.b_there S.apart S.one;
+    owners = S.owners;
+    reach = S.reach;
+    below = λ c h. subst (λ n. n < length rows) (sym (label-spliced sp a b c)) (S.below c (sym (live-spliced sp a b c) ∙ h));
+    held = λ c h. let k = sym (live-spliced sp a b c) ∙ h in elim (IsIn_or_not c (joined a b (ring sp a) (ring sp b))) [
+      | inl i ↦ in_joint c k i
+      | inr n ↦ subst (λ hs. IsIn (holder rows (label (spliced_at sp a b) c)) hs) (sym (ring_aside sp S.rings a b S.a_there S.b_there S.apart S.one c k n).0)
+          (subst (λ w. IsIn (holder rows w) (ring sp c)) (sym (label-spliced sp a b c)) (S.others c k (omega (arith, items c)) (omega (arith, items c))))
+    ];
+    limit = S.limit;
+  } where
+    items : (q : ℕ) → count q (joined a b (ring sp a) (ring sp b)) ≡ count q (ring sp a) + count q (ring sp b)
+    items = join_items sp S.rings a b S.a_there S.b_there S.apart S.one
+
+    one_label : (c : ℕ) → live sp c ≡ true → IsIn c (joined a b (ring sp a) (ring sp b)) → label (spliced_at sp a b) c ≡ label sp a
+    one_label c h i = label-spliced sp a b c ∙ elim (IsIn_or_not c (ring sp a)) [
+      | inl j ↦ (S.rings.rings a S.a_there).one_label c j
+      | inr n ↦ (S.rings.rings b S.b_there).one_label c (omega (arith, items c)) ∙ S.one
+    ]
+
+    held_joint : IsIn (holder rows (label sp a)) (joined a b (ring sp a) (ring sp b))
+    held_joint = elim S.held [ inl i ↦ omega (arith, i, items (holder rows (label sp a))) | inr i ↦ omega (arith, i, items (holder rows (label sp a))) ]
+
+    in_joint : (c : ℕ) → live sp c ≡ true → IsIn c (joined a b (ring sp a) (ring sp b)) → IsIn (holder rows (label (spliced_at sp a b) c)) (ring (spliced_at sp a b) c)
+    in_joint c h i = subst (λ hs. IsIn (holder rows (label (spliced_at sp a b) c)) hs) (sym (ring_joint sp S.rings a b S.a_there S.b_there S.apart S.one c i).0)
+        (subst (λ w. IsIn (holder rows w) (joined a b (ring sp a) (ring sp b))) (sym (one_label c h i)) held_joint)
+
+  pub labelled-join_to : (new : Spots) (known' : ℕ → Bool) → new ≡ spliced_at sp a b → known' ≡ known → AreLabelled new known' rows
+  labelled-join_to new known' is same = subst (λ k. AreLabelled new k rows) (sym same) (subst (λ s. AreLabelled s known rows) (sym is) labelled-join)

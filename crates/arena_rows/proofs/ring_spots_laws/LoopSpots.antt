@@ -1,0 +1,139 @@
+-- Spots that differ in labels alone, and the loops for which labels stand.
+use Rattle.std.proofs.Common.{◌≡◌, ℕ, ◌<◌, Bool, true, false, cond, nat_eq, List, Option, Some, None, is_some, option_map, refl, sym, ap, ◌∙◌, true≢false, inl, inr}
+use Rattle.std.specs.FinMap.{get, contains_key, get-entries, get-from_entries}
+use Rattle.std.specs.Cmp.{nat_cmp_total}
+use Rattle.raw_ring.specs.Rings.{Spot, RingMap, spot, awake, or_zero, of_spot}
+use Rattle.boundary_model.specs.Items.{count, IsIn}
+use Rattle.boundary_model.specs.Rings.{splice}
+use Rattle.boundary_model.specs.HalfEdge.{mate}
+use Rattle.boundary_model.specs.Table.{map_rows, get-map_rows}
+use Rattle.boundary_model.specs.Table as table
+use Rattle.boundary_model.proofs.Lists.{IsIn_or_not}
+use Rattle.arena_rows.specs.declared.ring_spots.labels.Label.{Label}
+use Rattle.arena_rows.specs.ring_spots.Spots.{Spots, codes, live, next, label, ring, is_in, map_spot, asleep, retailed, with_links, spliced_at, labelled, AreRings}
+use Rattle.arena_rows.specs.ring_spots.Labels.{but_label, loop_at, with_loop, in_loops, rows_of, map_in_loops}
+use Rattle.arena_rows.proofs.ring_spots_laws.SpotLaws.{either, live-map, ring_kept, ring_next, label-labelled_in, label-labelled_out}
+
+same_spot : (o p : Option Spot) → but_label o ≡ but_label p → (is_some o ≡ true → or_zero (of_spot (λ s. s.label) o) ≡ or_zero (of_spot (λ s. s.label) p)) → o ≡ p
+same_spot None None e l = refl
+same_spot None (Some t) e l = absurd (true≢false (sym (ap is_some e)))
+same_spot (Some s) None e l = absurd (true≢false (ap is_some e))
+same_spot (Some s) (Some t) e l =
+    let n : s.next ≡ t.next = ap (λ o. or_zero (of_spot (λ (q : Spot). q.next) o)) e in
+    let u : s.tail ≡ t.tail = ap (λ o. or_zero (of_spot (λ (q : Spot). q.tail) o)) e in
+    let k : s.label ≡ t.label = l refl in
+    λ i. Some (record { next = n i; tail = u i; label = k i })
+
+pub same_spots : (s t : Spots) → ((q : ℕ) → but_label (s q) ≡ but_label (t q)) → ((q : ℕ) → live s q ≡ true → label s q ≡ label t q) → s ≡ t
+same_spots s t e l = λ i q. same_spot (s q) (t q) (e q) (l q) i
+
+blank-live : (o : Option Spot) → is_some (but_label o) ≡ is_some o
+blank-live o = live-map _ o
+
+blank-next : (o : Option Spot) → or_zero (of_spot (λ s. s.next) (but_label o)) ≡ or_zero (of_spot (λ s. s.next) o)
+blank-next None = refl
+blank-next (Some s) = refl
+
+pub blank-labelled : (sp : Spots) (l : ℕ) (hs : List ℕ) (q : ℕ) → but_label (labelled sp l hs q) ≡ but_label (sp q)
+blank-labelled sp l hs q = either but_label (is_in q hs) _ _ _ (go (sp q)) refl where
+  go : (o : Option Spot) → but_label (map_spot (λ s. record s { label = l }) o) ≡ but_label o
+  go None = refl
+  go (Some s) = refl
+
+pub blank-loops : (rows : List Label) (sp : Spots) (q : ℕ) → but_label (in_loops rows sp q) ≡ but_label (sp q)
+blank-loops rows sp q = go (sp q) where
+  go : (o : Option Spot) → but_label (map_spot (with_loop rows) o) ≡ but_label o
+  go None = refl
+  go (Some s) = refl
+
+-- spots that differ in labels alone
+module _ (sp new : Spots) (same : (q : ℕ) → but_label (new q) ≡ but_label (sp q)) where
+  pub live-alike : (q : ℕ) → live new q ≡ live sp q
+  live-alike q = sym (blank-live (new q)) ∙ ap is_some (same q) ∙ blank-live (sp q)
+
+  pub next-alike : (q : ℕ) → next new q ≡ next sp q
+  next-alike q = sym (blank-next (new q)) ∙ ap (λ o. or_zero (of_spot (λ s. s.next) o)) (same q) ∙ blank-next (sp q)
+
+  pub ring-alike : (q : ℕ) → ring new q ≡ ring sp q
+  ring-alike q = ring_next sp new q next-alike
+
+  -- the rings stay rings where each still has one label
+  pub AreRings-alike : AreRings sp → ((c : ℕ) → live sp c ≡ true → (x : ℕ) → IsIn x (ring sp c) → label new x ≡ label new c) → AreRings new
+  AreRings-alike R labels = let bound : (x : ℕ) → live new x ≡ true → x < codes = λ x a. R.bound x (sym (live-alike x) ∙ a) in record {
+    bound = bound;
+    rings = λ c a. let b = sym (live-alike c) ∙ a in (ring_kept sp new R c b (λ x e. live-alike x ∙ e) bound (λ x i. next-alike x) (labels c b)).1;
+    mates = λ c a. live-alike (mate c) ∙ R.mates c (sym (live-alike c) ∙ a);
+  }
+
+module _ (rows : List Label) (sp : Spots) where
+  pub live-loops : (q : ℕ) → live (in_loops rows sp) q ≡ live sp q
+  live-loops = live-alike sp (in_loops rows sp) (blank-loops rows sp)
+
+  pub next-loops : (q : ℕ) → next (in_loops rows sp) q ≡ next sp q
+  next-loops = next-alike sp (in_loops rows sp) (blank-loops rows sp)
+
+  pub ring-loops : (q : ℕ) → ring (in_loops rows sp) q ≡ ring sp q
+  ring-loops = ring-alike sp (in_loops rows sp) (blank-loops rows sp)
+
+  pub label-loops : (q : ℕ) → live sp q ≡ true → label (in_loops rows sp) q ≡ loop_at rows (label sp q)
+  label-loops q a = go (sp q) a where
+    go : (o : Option Spot) → is_some o ≡ true → or_zero (of_spot (λ s. s.label) (map_spot (with_loop rows) o)) ≡ loop_at rows (or_zero (of_spot (λ s. s.label) o))
+    go None e = absurd (true≢false (sym e))
+    go (Some s) e = refl
+
+  pub loops-retailed : (h v : ℕ) → in_loops rows (retailed sp h v) ≡ retailed (in_loops rows sp) h v
+  loops-retailed h v = λ i q. go (nat_eq q h) (sp q) i where
+    go : (b : Bool) (o : Option Spot) → map_spot (with_loop rows) (cond b (map_spot (λ s. record s { tail = v }) o) o) ≡ cond b (map_spot (λ s. record s { tail = v }) (map_spot (with_loop rows) o)) (map_spot (with_loop rows) o)
+    go true None = refl
+    go true (Some s) = refl
+    go false o = refl
+
+  pub loops-asleep : (c : ℕ) → in_loops rows (asleep sp c) ≡ asleep (in_loops rows sp) c
+  loops-asleep c = λ i q. go (nat_eq q c) (sp q) i where
+    go : (b : Bool) (o : Option Spot) → map_spot (with_loop rows) (cond b None o) ≡ cond b None (map_spot (with_loop rows) o)
+    go true o = refl
+    go false o = refl
+
+  pub loops-spliced : (a b : ℕ) → in_loops rows (spliced_at sp a b) ≡ spliced_at (in_loops rows sp) a b
+  loops-spliced a b = (λ i q. go (splice (next sp) a b q) (sp q) i) ∙ ap (λ (f : ℕ → ℕ). with_links (in_loops rows sp) (splice f a b)) (λ i q. sym (next-loops q) i) where
+    go : (n : ℕ) (o : Option Spot) → map_spot (with_loop rows) (map_spot (λ s. record s { next = n }) o) ≡ map_spot (λ s. record s { next = n }) (map_spot (with_loop rows) o)
+    go n None = refl
+    go n (Some s) = refl
+
+-- the loops where labels change: the items of hs stand in loop l now, and the others where they stood
+pub loops-labelled : (sp new : Spots) (rows rows' : List Label) (l : ℕ) (hs : List ℕ) → ((q : ℕ) → but_label (new q) ≡ but_label (sp q)) → ((q : ℕ) → live sp q ≡ true → IsIn q hs → loop_at rows' (label new q) ≡ l) →
+    ((q : ℕ) → live sp q ≡ true → count q hs ≡ 0 → loop_at rows' (label new q) ≡ loop_at rows (label sp q)) → in_loops rows' new ≡ labelled (in_loops rows sp) l hs
+loops-labelled sp new rows rows' l hs same inside outside =
+    same_spots (in_loops rows' new) (labelled (in_loops rows sp) l hs) (λ q. blank-loops rows' new q ∙ same q ∙ sym (blank-labelled (in_loops rows sp) l hs q ∙ blank-loops rows sp q)) (λ q a.
+    let b : live new q ≡ true = sym (live-loops rows' new q) ∙ a in
+    let c : live sp q ≡ true = sym (live-alike sp new same q) ∙ b in
+    label-loops rows' new q b ∙ elim (IsIn_or_not q hs) [
+      | inl i ↦ inside q c i ∙ sym (label-labelled_in (in_loops rows sp) l hs q i (live-loops rows sp q ∙ c))
+      | inr n ↦ outside q c n ∙ sym (label-labelled_out (in_loops rows sp) l hs q n ∙ label-loops rows sp q c)
+    ])
+
+-- nothing is seen of a change of labels that stand for the same loops
+pub loops-same : (sp new : Spots) (rows rows' : List Label) → ((q : ℕ) → but_label (new q) ≡ but_label (sp q)) → ((q : ℕ) → live sp q ≡ true → loop_at rows' (label new q) ≡ loop_at rows (label sp q)) → in_loops rows' new ≡ in_loops rows sp
+loops-same sp new rows rows' same loops = same_spots (in_loops rows' new) (in_loops rows sp) (λ q. blank-loops rows' new q ∙ same q ∙ sym (blank-loops rows sp q)) (λ q a.
+    let b : live new q ≡ true = sym (live-loops rows' new q) ∙ a in
+    let c : live sp q ≡ true = sym (live-alike sp new same q) ∙ b in
+    label-loops rows' new q b ∙ loops q c ∙ sym (label-loops rows sp q c))
+
+-- ---- the map that a contract sees
+
+module _ (rows : List Label) (m : RingMap) where
+  pub get-loops : (q : ℕ) → get (map_in_loops rows m) q ≡ option_map (map_spot (with_loop rows)) (get m q)
+  unfolding map_in_loops table.get
+  get-loops q = get-from_entries nat_cmp_total (map_rows (λ _ o. map_spot (with_loop rows) o) (rows_of m)).rows q ∙ get-map_rows (λ _ o. map_spot (with_loop rows) o) (rows_of m) q ∙ ap (option_map (map_spot (with_loop rows))) (sym (get-entries m q))
+
+  pub spot-loops : spot (map_in_loops rows m) ≡ in_loops rows (spot m)
+  spot-loops = λ i q. (ap awake (get-loops q) ∙ go (get m q)) i where
+    go : (o : Option (Option Spot)) → awake (option_map (map_spot (with_loop rows)) o) ≡ map_spot (with_loop rows) (awake o)
+    go None = refl
+    go (Some o) = refl
+
+  pub known-loops : contains_key (map_in_loops rows m) ≡ contains_key m
+  known-loops = λ i q. (ap is_some (get-loops q) ∙ go (get m q)) i where
+    go : (o : Option (Option Spot)) → is_some (option_map (map_spot (with_loop rows)) o) ≡ is_some o
+    go None = refl
+    go (Some o) = refl

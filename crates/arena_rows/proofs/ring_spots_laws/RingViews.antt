@@ -1,0 +1,98 @@
+-- What a contract sees of rings: the codes that are live and known, and the rows of the edges.
+use Rattle.std.proofs.Common.{◌≡◌, ℕ, Bool, true, List, [], Option, Some, None, is_some, option_map, Result, Ok, Err, OnOk, refl, sym, ap, subst, ◌∙◌, arith, true≢false}
+use Rattle.std.specs.Ordering.{nat_cmp}
+use Rattle.std.specs.Cmp.{nat_cmp_total}
+use Rattle.std.specs.FinMap.{contains_key, same_map, get-empty, nat_cmp-IsAntisymmetric}
+use Rattle.raw_ring.specs.Rings.{RingMap, Spot, spot, or_zero, of_spot, next_of, tail_of, label_of, IsPermutation}
+use Rattle.boundary_model.specs.HalfEdge.{plus, minus}
+use Rattle.arena_rows.specs.declared.ring_spots.labels.Label.{Label}
+use Rattle.arena_rows.specs.ring_spots.Spots.{Spots, live, label, ring, labelled, spliced_at, map_spot}
+use Rattle.arena_rows.specs.ring_spots.Labels.{loop_at, with_loop, in_loops, map_in_loops}
+use Rattle.arena_rows.specs.ring_spots.Edges.{AreEdgeRings}
+use Rattle.arena_rows.proofs.ring_spots_laws.RingMaps.{no_codes, spot-empty, known-empty}
+use Rattle.arena_rows.proofs.ring_spots_laws.LiveEdges.{no_edges}
+use Rattle.arena_rows.proofs.ring_spots_laws.LoopSpots.{spot-loops, known-loops, get-loops, label-loops, ring-loops, live-loops}
+
+-- what holds of the loops of the codes holds of the map that is seen
+pub seen_as : (F : Spots → Spots) (rows rows' : List Label) (m new : RingMap) → in_loops rows' (spot new) ≡ F (in_loops rows (spot m)) → spot (map_in_loops rows' new) ≡ F (spot (map_in_loops rows m))
+seen_as F rows rows' m new e = spot-loops rows' new ∙ e ∙ ap F (sym (spot-loops rows m))
+
+pub known_as : (rows rows' : List Label) (m new : RingMap) → contains_key new ≡ contains_key m → contains_key (map_in_loops rows' new) ≡ contains_key (map_in_loops rows m)
+known_as rows rows' m new e = known-loops rows' new ∙ e ∙ sym (known-loops rows m)
+
+module _ (rows : List Label) (m : RingMap) where
+  pub seen_live : (q : ℕ) → live (spot (map_in_loops rows m)) q ≡ live (spot m) q
+  seen_live q = ap (λ (s : Spots). live s q) (spot-loops rows m) ∙ live-loops rows (spot m) q
+
+  pub seen_known : (q : ℕ) → contains_key (map_in_loops rows m) q ≡ contains_key m q
+  seen_known q = ap (λ (k : ℕ → Bool). k q) (known-loops rows m)
+
+  pub seen_ring : (q : ℕ) → ring (spot (map_in_loops rows m)) q ≡ ring (spot m) q
+  seen_ring q = ap (λ (s : Spots). ring s q) (spot-loops rows m) ∙ ring-loops rows (spot m) q
+
+  pub seen_label : (q : ℕ) → live (spot m) q ≡ true → label (spot (map_in_loops rows m)) q ≡ loop_at rows (label (spot m) q)
+  seen_label q a = ap (λ (s : Spots). label s q) (spot-loops rows m) ∙ label-loops rows (spot m) q a
+
+  same_links : (o : Option Spot) → of_spot (λ s. s.next) (map_spot (with_loop rows) o) ≡ of_spot (λ s. s.next) o
+  same_links None = refl
+  same_links (Some s) = refl
+
+  same_tails : (o : Option Spot) → of_spot (λ s. s.tail) (map_spot (with_loop rows) o) ≡ of_spot (λ s. s.tail) o
+  same_tails None = refl
+  same_tails (Some s) = refl
+
+  pub seen_next : (q : ℕ) → next_of (map_in_loops rows m) q ≡ next_of m q
+  seen_next q = ap (λ (s : Spots). of_spot (λ (t : Spot). t.next) (s q)) (spot-loops rows m) ∙ same_links (spot m q)
+
+  pub seen_tail : (q : ℕ) → tail_of (map_in_loops rows m) q ≡ tail_of m q
+  seen_tail q = ap (λ (s : Spots). of_spot (λ (t : Spot). t.tail) (s q)) (spot-loops rows m) ∙ same_tails (spot m q)
+
+  pub seen_label_of : (q l : ℕ) → live (spot m) q ≡ true → l ≡ loop_at rows (label (spot m) q) → label_of (map_in_loops rows m) q ≡ Some l
+  seen_label_of q l a e = ap (λ (s : Spots). of_spot (λ (t : Spot). t.label) (s q)) (spot-loops rows m) ∙ go (spot m q) a e where
+    go : (o : Option Spot) → is_some o ≡ true → l ≡ loop_at rows (or_zero (of_spot (λ s. s.label) o)) → of_spot (λ s. s.label) (map_spot (with_loop rows) o) ≡ Some l
+    go None h e = absurd (true≢false (sym h))
+    go (Some s) h e = ap Some (sym e)
+
+  pub seen_permutation : IsPermutation m → IsPermutation (map_in_loops rows m)
+  seen_permutation P = record {
+    live = λ c d e. seen_live d ∙ P.live c d (sym (seen_next c) ∙ e);
+    reached = λ d h. let r = P.reached d (sym (seen_live d) ∙ h) in (r.0, seen_next r.0 ∙ r.1);
+    one = λ c d e p q. P.one c d e (sym (seen_next c) ∙ p) (sym (seen_next d) ∙ q);
+  }
+
+  pub seen_ok : {E : Type 0} (e : ℕ) (r : Result (Unit {0}) E) → OnOk r ((contains_key m (plus e) ≡ true) × (contains_key m (minus e) ≡ true)) → OnOk r ((contains_key (map_in_loops rows m) (plus e) ≡ true) × (contains_key (map_in_loops rows m) (minus e) ≡ true))
+  seen_ok e (Ok u) h = (seen_known (plus e) ∙ h.0, seen_known (minus e) ∙ h.1)
+  seen_ok e (Err x) h = tt
+
+  -- a ring in another loop
+  pub seen-put : (rows' : List Label) (from l : ℕ) → in_loops rows' (spot m) ≡ labelled (in_loops rows (spot m)) l (ring (spot m) from) → spot (map_in_loops rows' m) ≡ labelled (spot (map_in_loops rows m)) l (ring (spot (map_in_loops rows m)) from)
+  seen-put rows' from l e = seen_as (λ s. labelled s l (ring s from)) rows rows' m m (e ∙ ap (labelled (in_loops rows (spot m)) l) (sym (ring-loops rows (spot m) from)))
+
+  -- two rings in one
+  pub seen-joined : (rows' : List Label) (new : RingMap) (a b : ℕ) → live (spot m) a ≡ true → in_loops rows' (spot new) ≡ spliced_at (labelled (in_loops rows (spot m)) (loop_at rows (label (spot m) a)) (ring (spot m) b)) a b →
+      spot (map_in_loops rows' new) ≡ spliced_at (labelled (spot (map_in_loops rows m)) (label (spot (map_in_loops rows m)) a) (ring (spot (map_in_loops rows m)) b)) a b
+  seen-joined rows' new a b h e = seen_as (λ s. spliced_at (labelled s (label s a) (ring s b)) a b) rows rows' m new
+      (e ∙ (λ i. spliced_at (labelled (in_loops rows (spot m)) (sym (label-loops rows (spot m) a h) i) (sym (ring-loops rows (spot m) b) i)) a b))
+
+-- with no code
+pub seen-empty : (rows : List Label) (m : RingMap) → m ≡ no_codes → map_in_loops rows m ≡ no_codes
+seen-empty rows m e = ap (map_in_loops rows) e ∙ same_map nat_cmp_total nat_cmp-IsAntisymmetric (map_in_loops rows no_codes) no_codes (λ q. get-loops rows no_codes q ∙ ap (option_map (map_spot (with_loop rows))) (get-empty nat_cmp q) ∙ sym (get-empty nat_cmp q))
+
+pub no_edge_rings : (m : RingMap) (rows : List Label) (edges : List (Option Bool)) → m ≡ no_codes → rows ≡ [] → edges ≡ [] → AreEdgeRings m rows edges
+no_edge_rings m rows edges a b c = subst (λ (k : RingMap). AreEdgeRings k rows edges) (sym a) (subst (λ (r : List Label). AreEdgeRings no_codes r edges) (sym b) (record {
+  labelled = record {
+    rings = record {
+      bound = λ q h. absurd (dead q h);
+      rings = λ q h. absurd (dead q h);
+      mates = λ q h. absurd (dead q h);
+    };
+    owners = record { own_below = λ n l. absurd (omega arith); holder_below = λ n l. absurd (omega arith); held = λ n l. absurd (omega arith); owned = λ n l. absurd (omega arith) };
+    reach = λ q k. absurd (true≢false (sym k ∙ known-empty q));
+    below = λ q h. absurd (dead q h);
+    held = λ q h. absurd (dead q h);
+    limit = omega arith;
+  };
+  rows = no_edges (map_in_loops [] no_codes) edges (seen-empty [] no_codes refl) c;
+})) where
+  dead : (q : ℕ) → live (spot no_codes) q ≡ true → ⊥
+  dead q h = true≢false (sym h ∙ ap is_some (spot-empty q))

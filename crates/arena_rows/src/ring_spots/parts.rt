@@ -1,0 +1,130 @@
+//! Rings that are cut and joined, where the labels of the shorter part alone are written.
+ghost use Rattle.std.specs.Prelude.{◌≡◌, ◌≢◌, ℕ, ◌<◌, true, cond, nat_eq, length};
+ghost use Rattle.std.specs.FinMap.{contains_key};
+ghost use Rattle.raw_ring.specs.Rings.{spot};
+ghost use Rattle.boundary_model.specs.Items.{IsIn};
+ghost use Rattle.arena_rows.specs.ring_spots.Spots.{live, label, ring, labelled, spliced_at, AreRings};
+ghost use Rattle.arena_rows.specs.ring_spots.Labels.{loop_at, in_loops, AreLabelled, ShareLabel, IsRelabelled, HaveOneLabel};
+
+use crate::ring_spots::labels::{Label, hand_over, loop_at, own, stand_for};
+use crate::ring_spots::links;
+use boundary_model::HALF_EDGE_CODES;
+use raw_ring::Rings;
+
+/// Cuts the ring of a and b in two, of which b's stands in loop l then, or is loose where l is 0.
+///
+/// It walks round the shorter one twice.
+pub(crate) fn cut(rings: &mut Rings, labels: &mut Vec<Label>, a: u32, b: u32, l: u32)
+    requires whole { AreLabelled (spot rings.old) (contains_key rings.old) labels.old.items }
+    requires a { live (spot rings.old) a ≡ true }
+    requires together { IsIn b (ring (spot rings.old) a) }
+    requires apart { a ≢ b }
+    ensures whole { AreLabelled (spot rings.new) (contains_key rings.new) labels.new.items }
+    ensures spots { in_loops labels.new.items (spot rings.new) ≡ labelled (spliced_at (in_loops labels.old.items (spot rings.old)) a b) l (ring (spliced_at (in_loops labels.old.items (spot rings.old)) a b) b) }
+    ensures known { contains_key rings.new ≡ contains_key rings.old }
+{
+    let kept = loop_of(rings, labels, a);
+    links::exchange(rings, a, b);
+    set_apart(rings, labels, a, b);
+    put_in_loop(rings, labels, a, kept);
+    put_in_loop(rings, labels, b, l);
+}
+
+/// Joins the rings of a and b, which stand in different loops, or one of them in none. The joint ring stands in a's loop.
+///
+/// It walks round the shorter one twice.
+pub(crate) fn join(rings: &mut Rings, labels: &mut Vec<Label>, a: u32, b: u32)
+    requires whole { AreLabelled (spot rings.old) (contains_key rings.old) labels.old.items }
+    requires a { live (spot rings.old) a ≡ true }
+    requires b { live (spot rings.old) b ≡ true }
+    requires apart { loop_at labels.old.items (label (spot rings.old) b) ≢ loop_at labels.old.items (label (spot rings.old) a) }
+    ensures whole { AreLabelled (spot rings.new) (contains_key rings.new) labels.new.items }
+    ensures spots { in_loops labels.new.items (spot rings.new) ≡ spliced_at (labelled (in_loops labels.old.items (spot rings.old)) (loop_at labels.old.items (label (spot rings.old) a)) (ring (spot rings.old) b)) a b }
+    ensures known { contains_key rings.new ≡ contains_key rings.old }
+{
+    let kept = loop_of(rings, labels, a);
+    share_label(rings, a, b);
+    links::exchange(rings, a, b);
+    put_in_loop(rings, labels, a, kept);
+}
+
+/// The loop in which a live code stands, or 0.
+pub(crate) fn loop_of(rings: &Rings, labels: &[Label], code: u32) -> u32
+    requires whole { AreLabelled (spot rings.now) (contains_key rings.now) labels.now }
+    requires there { live (spot rings.now) code ≡ true }
+    ensures { result ≡ loop_at labels.now (label (spot rings.now) code) }
+{
+    loop_at(labels, rings.label(code))
+}
+
+/// Puts the ring of a code into loop l, or into none where l is 0. It writes one number.
+pub(crate) fn put_in_loop(rings: &Rings, labels: &mut Vec<Label>, from: u32, l: u32)
+    requires whole { AreLabelled (spot rings.now) (contains_key rings.now) labels.old.items }
+    requires there { live (spot rings.now) from ≡ true }
+    ensures whole { AreLabelled (spot rings.now) (contains_key rings.now) labels.new.items }
+    ensures spots { in_loops labels.new.items (spot rings.now) ≡ labelled (in_loops labels.old.items (spot rings.now)) l (ring (spot rings.now) from) }
+{
+    stand_for(labels, rings.label(from), l);
+}
+
+/// Gives the rings of a and b, which share a label, one each: the shorter one gets another.
+fn set_apart(rings: &mut Rings, labels: &mut Vec<Label>, a: u32, b: u32)
+    requires { ShareLabel (spot rings.old) (contains_key rings.old) labels.old.items a b }
+    ensures whole { AreLabelled (spot rings.new) (contains_key rings.new) labels.new.items }
+    ensures spots { IsRelabelled (spot rings.old) (spot rings.new) a b }
+    ensures loops { loop_at labels.new.items ≡ loop_at labels.old.items }
+    ensures known { contains_key rings.new ≡ contains_key rings.old }
+{
+    if is_shorter(rings, a, b) {
+        give_label(rings, labels, a, b);
+    } else {
+        give_label(rings, labels, b, a);
+    }
+}
+
+/// Gives the ring of `part` the label that this code owns. The one that it shared with the ring of `rest` is owned by `rest` then.
+fn give_label(rings: &mut Rings, labels: &mut Vec<Label>, part: u32, rest: u32)
+    requires { ShareLabel (spot rings.old) (contains_key rings.old) labels.old.items part rest }
+    ensures whole { AreLabelled (spot rings.new) (contains_key rings.new) labels.new.items }
+    ensures spots { IsRelabelled (spot rings.old) (spot rings.new) part rest }
+    ensures loops { loop_at labels.new.items ≡ loop_at labels.old.items }
+    ensures known { contains_key rings.new ≡ contains_key rings.old }
+{
+    hand_over(labels, rest, rings.label(rest));
+    links::relabel(rings, part, own(labels, part));
+}
+
+/// Gives the rings of a and b one label: the shorter one gets that of the other.
+fn share_label(rings: &mut Rings, a: u32, b: u32)
+    requires rings { AreRings (spot rings.old) }
+    requires a { live (spot rings.old) a ≡ true }
+    requires b { live (spot rings.old) b ≡ true }
+    ensures spots { HaveOneLabel (spot rings.old) (spot rings.new) a b }
+    ensures known { contains_key rings.new ≡ contains_key rings.old }
+{
+    if is_shorter(rings, a, b) {
+        links::relabel(rings, a, rings.label(b));
+    } else {
+        links::relabel(rings, b, rings.label(a));
+    }
+}
+
+/// Whether the ring of a has no more items than that of b. It goes round both in step, and so round the shorter one once.
+fn is_shorter(rings: &Rings, a: u32, b: u32) -> bool
+    requires a { live (spot rings.now) a ≡ true }
+    requires b { live (spot rings.now) b ≡ true }
+{
+    let mut p = a;
+    let mut q = b;
+    'round: for _ in 0..HALF_EDGE_CODES {
+        p = rings.next(p);
+        if p == a {
+            return true;
+        }
+        q = rings.next(q);
+        if q == b {
+            return false;
+        }
+    }
+    true
+}
