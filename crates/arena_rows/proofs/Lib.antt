@@ -13,3 +13,4 @@ pub mod Nexts
 pub mod groups_laws
 pub mod owner_chains_laws
 pub mod ring_spots_laws
+pub use Rattle.raw_ring.proofs.Mapping as RawMapping

@@ -4,3 +4,4 @@ pub mod Groups
 pub mod View
 pub mod owner_chains
 pub mod ring_spots
+pub use Rattle.raw_ring.specs.Rings as RawRings

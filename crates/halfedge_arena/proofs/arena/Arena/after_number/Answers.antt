@@ -1,4 +1,4 @@
-use Rattle.raw_ring.specs.Rings.{spot}
+use Rattle.arena_rows.specs.RawRings.{spot}
 use Rattle.boundary_model.specs.declared.Kind.TheVariants.{Solid, Face, Loop, Edge, Vertex}
 use Rattle.arena_rows.specs.Rows.{has_row}
 use Rattle.arena_rows.specs.View.{solid_row, face_row, loop_row}

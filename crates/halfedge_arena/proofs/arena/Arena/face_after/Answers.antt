@@ -1,5 +1,5 @@
 use Rattle.std.specs.FinMap.{contains_key}
-use Rattle.raw_ring.specs.Rings.{spot}
+use Rattle.arena_rows.specs.RawRings.{spot}
 use Rattle.arena_rows.proofs.Nexts.{next_face}
 use Rattle.halfedge_arena.proofs.arena.Arena.face_after.Goals as goal
 

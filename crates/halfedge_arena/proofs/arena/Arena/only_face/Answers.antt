@@ -1,6 +1,6 @@
 use Rattle.std.proofs.Common.{sym, ◌∙◌}
 use Rattle.std.specs.FinMap.{contains_key}
-use Rattle.raw_ring.specs.Rings.{spot}
+use Rattle.arena_rows.specs.RawRings.{spot}
 use Rattle.arena_rows.proofs.Nexts.{only_told, none_told}
 use Rattle.halfedge_arena.proofs.arena.Arena.only_face.Goals as goal
 

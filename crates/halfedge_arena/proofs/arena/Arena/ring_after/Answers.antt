@@ -1,6 +1,6 @@
 use Rattle.std.proofs.Common.{sym, ◌∙◌}
 use Rattle.std.specs.FinMap.{contains_key}
-use Rattle.raw_ring.specs.Rings.{spot}
+use Rattle.arena_rows.specs.RawRings.{spot}
 use Rattle.arena_rows.proofs.Nexts.{next_ring_told, ring_past_told}
 use Rattle.halfedge_arena.proofs.arena.Arena.ring_after.Goals as goal
 

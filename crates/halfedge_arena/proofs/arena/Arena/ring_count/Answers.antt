@@ -1,6 +1,6 @@
 use Rattle.std.proofs.Common.{sym, ◌∙◌, arith, true, false}
 use Rattle.std.specs.FinMap.{contains_key}
-use Rattle.raw_ring.specs.Rings.{spot}
+use Rattle.arena_rows.specs.RawRings.{spot}
 use Rattle.arena_rows.specs.View.{face_row}
 use Rattle.arena_rows.proofs.Views.{has-row}
 use Rattle.arena_rows.proofs.Indexed.{rings_counted}
