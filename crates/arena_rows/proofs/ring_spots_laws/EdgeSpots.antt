@@ -177,10 +177,10 @@ module _ (sp : Spots) (R : AreRings sp) where
     abbrev gone : Spots
     gone = asleep (asleep sp (plus e)) (minus e)
 
-    pub s_minus : gone (minus e) ≡ None
+    s_minus : gone (minus e) ≡ None
     s_minus = ap (λ b. cond b None (asleep sp (plus e) (minus e))) (eq-eqb (minus e) (minus e) refl)
 
-    pub s_plus : gone (plus e) ≡ None
+    s_plus : gone (plus e) ≡ None
     s_plus = ap (λ b. cond b None (asleep sp (plus e) (plus e))) (ne_eqb (plus e) (minus e) (λ q. omega arith)) ∙ ap (λ b. cond b None (sp (plus e))) (eq-eqb (plus e) (plus e) refl)
 
     pub s_other : (x : ℕ) → x ≢ plus e → x ≢ minus e → gone x ≡ sp x

@@ -13,11 +13,8 @@ use Rattle.arena_rows.proofs.ring_spots_laws.LoopSpots.{blank-labelled, loops-la
 
 module _ (sp : Spots) (R : AreRings sp) where
   -- where an item of a's ring stands in another ring too, they are one
-  pub shared_item : (a c x : ℕ) → live sp a ≡ true → live sp c ≡ true → IsIn x (ring sp a) → IsIn x (ring sp c) → IsIn c (ring sp a)
+  shared_item : (a c x : ℕ) → live sp a ≡ true → live sp c ≡ true → IsIn x (ring sp a) → IsIn x (ring sp c) → IsIn c (ring sp a)
   shared_item a c x k h i j = subst (IsIn c) (sym (ring_meet sp R a c x k h i j)) (R.rings c h).item
-
-  out_of : (a c x : ℕ) → live sp a ≡ true → live sp c ≡ true → count c (ring sp a) ≡ 0 → IsIn x (ring sp c) → count x (ring sp a) ≡ 0
-  out_of a c x k h n j = elim (IsIn_or_not x (ring sp a)) [ inl i ↦ let m = shared_item a c x k h i j in absurd (omega arith) | inr m ↦ m ]
 
 -- the same owners and labels: nothing changes but the loops for which labels stand
 pub labelled_alike : (sp : Spots) (known : ℕ → Bool) (rows new : List Label) → AreLabelled sp known rows → own new ≡ own rows → holder new ≡ holder rows → length new ≡ length rows → AreLabelled sp known new
@@ -32,7 +29,7 @@ labelled_alike sp known rows new A o h len = record {
 
 module _ (sp : Spots) (known : ℕ → Bool) (rows : List Label) (A : AreLabelled sp known rows) where
   -- two codes with one label stand in one ring
-  pub same_label : (c d : ℕ) → live sp c ≡ true → live sp d ≡ true → label sp d ≡ label sp c → IsIn d (ring sp c)
+  same_label : (c d : ℕ) → live sp c ≡ true → live sp d ≡ true → label sp d ≡ label sp c → IsIn d (ring sp c)
   same_label c d h k e = shared_item sp A.rings c d (holder rows (label sp c)) h k (A.held c h) (subst (λ n. IsIn (holder rows n) (ring sp d)) e (A.held d k))
 
   -- the label of a ring stands for loop l now
@@ -85,8 +82,6 @@ module _ (sp : Spots) (known : ℕ → Bool) (rows : List Label) (A : AreLabelle
 
   -- the rings of a and b get one label
   module _ (a b : ℕ) (a_there : live sp a ≡ true) (b_there : live sp b ≡ true) (other : label sp b ≢ label sp a) where
-    not_b : (x : ℕ) → IsIn x (ring sp a) → count x (ring sp b) ≡ 0
-    not_b x i = elim (IsIn_or_not x (ring sp b)) [ inl j ↦ absurd (other (sym ((A.rings.rings b b_there).one_label x j) ∙ (A.rings.rings a a_there).one_label x i)) | inr n ↦ n ]
 
     b_apart : count b (ring sp a) ≡ 0
     b_apart = elim (IsIn_or_not b (ring sp a)) [ inl i ↦ absurd (other ((A.rings.rings a a_there).one_label b i)) | inr n ↦ n ]

@@ -6,9 +6,6 @@ use Rattle.std.proofs.lemmas.List.{get_or_append_left, get_or_push, length-appen
 use Rattle.arena_rows.specs.declared.ring_spots.labels.Label.{Label}
 use Rattle.arena_rows.specs.ring_spots.Labels.{new_label, own, holder, loop_at, AreOwned, HaveNewLabels}
 
-pub no_new : (rows : List Label) → HaveNewLabels rows rows
-no_new rows = record { grows = omega arith; same = λ n l. refl; added = λ n l m. absurd (omega arith) }
-
 pub one_new : (rows mid : List Label) (n : ℕ) → HaveNewLabels rows mid → length mid ≡ n → HaveNewLabels rows (mid ++ new_label n ∷ [])
 one_new rows mid n h e = let len : length (mid ++ new_label n ∷ []) ≡ length mid + 1 = length-append mid (new_label n ∷ []) in record {
   grows = omega (arith, h.grows, len);

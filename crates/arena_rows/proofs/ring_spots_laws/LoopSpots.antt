@@ -69,7 +69,7 @@ module _ (rows : List Label) (sp : Spots) where
   pub live-loops : (q : ℕ) → live (in_loops rows sp) q ≡ live sp q
   live-loops = live-alike sp (in_loops rows sp) (blank-loops rows sp)
 
-  pub next-loops : (q : ℕ) → next (in_loops rows sp) q ≡ next sp q
+  next-loops : (q : ℕ) → next (in_loops rows sp) q ≡ next sp q
   next-loops = next-alike sp (in_loops rows sp) (blank-loops rows sp)
 
   pub ring-loops : (q : ℕ) → ring (in_loops rows sp) q ≡ ring sp q

@@ -110,9 +110,6 @@ spot-tail m c t = λ i q. spot-with m c (λ s. record s { tail = t }) q i
 pub known-tail : (m : RingMap) (c t : ℕ) → contains_key (with_tail m c t) ≡ contains_key m
 known-tail m c t = λ i q. known-with m c (λ s. record s { tail = t }) q i
 
-pub spot-woken : (m : RingMap) (c t : ℕ) → spot (insert m c (Some (ring_of_one c t))) ≡ woken (spot m) c t
-spot-woken m c t = λ i q. spot-insert m c (Some (ring_of_one c t)) q i
-
 pub spot-asleep : (m : RingMap) (c : ℕ) → spot (insert m c None) ≡ asleep (spot m) c
 spot-asleep m c = λ i q. spot-insert m c None q i
 
