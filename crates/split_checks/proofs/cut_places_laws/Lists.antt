@@ -4,6 +4,8 @@ use Rattle.std.specs.Prelude.{take, drop, filter}
 use Rattle.std.specs.List.{list_any}
 use Rattle.std.proofs.lemmas.List.{take_rest}
 use Rattle.std.proofs.lemmas.Bool.Decides.{eqb_tells}
+use Rattle.euler_operators.specs.declared.HalfEdge.{HalfEdge}
+use Rattle.euler_operators.specs.HalfEdge.{code}
 use Rattle.euler_operators.specs.Items.{IsIn, IsApart}
 use Rattle.euler_operators.proofs.Lists.{tick_other}
 use Rattle.shapes.specs.Fresh.{first_such}
@@ -17,6 +19,16 @@ others xs = take (length xs - 1) (drop 1 xs)
 pub parts : {A : Type 0} (xs : List A) (d : A) → 1 ≤ length xs → xs ≡ slice_index_or xs 0 d ∷ others xs
 parts [] d l = absurd (omega arith)
 parts {A} (x ∷ xs) d l = ap (λ (ys : List A). x ∷ ys) (sym (take_rest (x ∷ xs) 1))
+
+-- the codes of two half-edges that are all of a list
+abbrev pub no_half : HalfEdge
+no_half = record { edge = 0; first = false }
+
+pub two_codes : (xs : List HalfEdge) (hs : List ℕ) → 2 ≤ length xs → length xs ≤ 2 → map code xs ≡ hs → code (slice_index_or xs 0 no_half) ∷ code (slice_index_or xs 1 no_half) ∷ [] ≡ hs
+two_codes [] hs l m e = absurd (omega arith)
+two_codes (x ∷ []) hs l m e = absurd (omega arith)
+two_codes (x ∷ y ∷ []) hs l m e = e
+two_codes (x ∷ y ∷ z ∷ zs) hs l m e = absurd (omega arith)
 
 -- a test of what is made of each item
 pub any_map : (p : ℕ → Bool) (f : ℕ → ℕ) (xs : List ℕ) → list_any p (map f xs) ≡ list_any (λ x. p (f x)) xs

@@ -1,5 +1,7 @@
 //! Flaws in the cut places of faces that straddle, and how many pairs these make.
-ghost use Rattle.std.specs.Prelude.{◌≡◌, true, min, IfOk};
+ghost use Rattle.std.specs.Prelude.{◌≡◌, ◌||◌, not, true, min, IfOk};
+ghost use Rattle.euler_operators.specs.HalfEdge.{code};
+ghost use Rattle.euler_operators.specs.Vectors.{same_point};
 ghost use Rattle.euler_conditions.specs.Ready.{IsReady};
 ghost use Rattle.euler_conditions.specs.Store.{has_number};
 ghost use Rattle.euler_operators.specs.Ranges.{IsCutPlane};
@@ -8,14 +10,15 @@ ghost use Rattle.solid_measure.specs.solid_checks.Least.{found};
 ghost use Rattle.split_checks.specs.begin_checks.Flaws.{has_flaw};
 ghost use Rattle.split_checks.specs.cut_places.Places.{AreWholeFaces, IsWholeFace};
 ghost use Rattle.split_checks.specs.cut_places.Walks.{AreIn};
-ghost use Rattle.shapes.specs.split.Places.{is_crossed, pair_count};
+ghost use Rattle.split_checks.specs.place_order.Order.{IsWholePlace};
+ghost use Rattle.shapes.specs.split.Places.{is_crossed, is_up_and_down, pair_count, place_point};
 
 use crate::begin_checks::faces::{is_cut_often, is_touched};
 use crate::begin_checks::numbers::TOO_MANY;
-use crate::cut_places::places;
-use crate::place_order::{in_order, pairs_differ};
+use crate::cut_places::{goes_up, places};
+use crate::place_order::{in_order, pairs_differ, place_point};
 use euler_conditions::Arena;
-use euler_operators::{Kind, Plane};
+use euler_operators::{HalfEdge, Kind, Plane};
 use std::alloc::{AllocError, Global};
 
 /// What a face that straddles must not be.
@@ -29,6 +32,18 @@ pub(crate) enum Flaw {
     Crossed,
 }
 
+/// Whether two cut places, the only ones of a face, have equal points or aren't one up and one down.
+fn are_crossed(arena: &Arena, plane: Plane, first: HalfEdge, second: HalfEdge) -> bool
+    requires ready { IsReady arena.now }
+    requires plane { IsCutPlane plane }
+    requires first { IsWholePlace arena.now.model plane (code first) }
+    requires second { IsWholePlace arena.now.model plane (code second) }
+    ensures { result ≡ same_point (place_point arena.now.model plane (code first)) (place_point arena.now.model plane (code second)) || not (is_up_and_down arena.now.model plane (code first, code second)) }
+{
+    place_point(arena, plane, first) == place_point(arena, plane, second)
+        || goes_up(arena, plane, first) == goes_up(arena, plane, second)
+}
+
 /// Whether two cut places of face f have equal points, or, with the places in the order of their points and paired, a pair isn't
 /// one up and one down.
 fn is_crossed(alloc: Global, arena: &Arena, plane: Plane, f: u32) -> Result<bool, AllocError>
@@ -39,6 +54,9 @@ fn is_crossed(alloc: Global, arena: &Arena, plane: Plane, f: u32) -> Result<bool
     ensures { IfOk result (λ found. found ≡ is_crossed arena.now.model plane f) }
 {
     let met = places(alloc, arena, plane, f)?;
+    if let [first, second] = met.as_slice() {
+        return Ok(are_crossed(arena, plane, *first, *second));
+    }
     match in_order(alloc, arena, plane, met)? {
         Some(order) => Ok(!pairs_differ(arena, plane, order)),
         None => Ok(true),

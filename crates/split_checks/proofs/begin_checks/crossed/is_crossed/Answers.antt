@@ -1,10 +1,30 @@
-use Rattle.std.proofs.Common.{◌≡◌, ◌∙◌, List, ℕ, true, false, not, map, sym, ap, subst}
+use Rattle.std.proofs.Common.{◌≡◌, ◌∙◌, List, ℕ, true, false, not, map, slice_index_or, sym, ap, subst, arith}
 use Rattle.euler_operators.specs.HalfEdge.{code}
-use Rattle.shapes.specs.split.Places.{some_meet, sorted}
+use Rattle.euler_operators.proofs.Lists.{tick_same}
+use Rattle.shapes.specs.split.Places.{places, some_meet, sorted}
 use Rattle.split_checks.specs.place_order.Order.{AreWholePlaces, entries_of, places_of}
 use Rattle.split_checks.proofs.place_order_laws.Ordered.{at_some, at_none, held_in_order, order_there, places_whole}
-use Rattle.split_checks.proofs.begin_checks_laws.Meetings.{crossed_by, ordered}
+use Rattle.split_checks.proofs.cut_places_laws.Lists.{no_half, two_codes}
+use Rattle.split_checks.proofs.begin_checks_laws.Meetings.{crossed_by, ordered, two_crossed}
 use Rattle.split_checks.proofs.begin_checks.crossed.is_crossed.Goals as goal
+
+pub are_crossed-requires-clause-first : goal.are_crossed-requires-clause-first
+are_crossed-requires-clause-first c =
+    let M = c.args.arena.now.model in let p = c.args.plane in let met = c.as_slice.result.now in
+    let is = two_codes met (places M p c.args.f) c.in-len2.len_at_least (omega (arith, c.in-len2.len_below)) (ap (map code) c.as_slice.ensures.value ∙ c.in_ok-met.ensures) in
+    subst (AreWholePlaces M p) (sym is) (places_whole M p c.args.f c.requires.ready.sound c.requires.whole) (code (slice_index_or met 0 no_half)) (omega (arith, tick_same (code (slice_index_or met 0 no_half))))
+
+pub are_crossed-requires-clause-second : goal.are_crossed-requires-clause-second
+are_crossed-requires-clause-second c =
+    let M = c.args.arena.now.model in let p = c.args.plane in let met = c.as_slice.result.now in
+    let is = two_codes met (places M p c.args.f) c.in-len2.len_at_least (omega (arith, c.in-len2.len_below)) (ap (map code) c.as_slice.ensures.value ∙ c.in_ok-met.ensures) in
+    subst (AreWholePlaces M p) (sym is) (places_whole M p c.args.f c.requires.ready.sound c.requires.whole) (code (slice_index_or met 1 no_half)) (omega (arith, tick_same (code (slice_index_or met 1 no_half))))
+
+pub returns-in-len2 : goal.returns-in-len2
+returns-in-len2 c =
+    let M = c.args.arena.now.model in let p = c.args.plane in let met = c.as_slice.result.now in
+    let is = two_codes met (places M p c.args.f) c.in-len2.len_at_least (omega (arith, c.in-len2.len_below)) (ap (map code) c.as_slice.ensures.value ∙ c.in_ok-met.ensures) in
+    c.are_crossed.ensures ∙ two_crossed M p (code (slice_index_or met 0 no_half)) (code (slice_index_or met 1 no_half)) c.args.f is
 
 pub in_order-requires-clause-whole : goal.in_order-requires-clause-whole
 in_order-requires-clause-whole c =
