@@ -132,15 +132,21 @@ fn too_little_room(rt: HostRuntime) -> Result<(), Fail> {
     Ok(())
 }
 
+/// A comment of so many bytes.
+fn comment(alloc: Global, length: usize) -> Result<Vec<u8>, Fail> {
+    let mut line = Vec::new(alloc);
+    line.resize(length, b'#')?;
+    Ok(line)
+}
+
 /// A line may have 65,536 bytes.
 #[test]
 fn longest_line(rt: HostRuntime) -> Result<(), Fail> {
     let alloc = rt.alloc();
     let mut gwb = opened(&rt, alloc);
     let mut fault = 0;
-    let longer = [b'#'; 65537];
-    same(&rt, gwb_line(alloc, &mut gwb, &longer[1..]), 0);
-    same(&rt, gwb_line(alloc, &mut gwb, &longer), 3);
+    same(&rt, gwb_line(alloc, &mut gwb, &comment(alloc, 65536)?), 0);
+    same(&rt, gwb_line(alloc, &mut gwb, &comment(alloc, 65537)?), 3);
     same(&rt, gwb_last_fault(alloc, &mut gwb, &mut fault), 1);
     same(&rt, fault, 6);
     gwb_close(alloc, &mut gwb);
