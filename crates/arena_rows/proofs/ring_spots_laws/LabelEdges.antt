@@ -44,34 +44,38 @@ reach_more known known' end c reach below only q k = elim (cases_eq q c) [ inl e
 module _ (sp : Spots) (known : ℕ → Bool) (rows new : List Label) (A : AreLabelled sp known rows) (h : HaveNewLabels rows new) where
   pub labelled-room : (now : Spots) (known' : ℕ → Bool) → now ≡ sp → ((c : ℕ) → known' c ≡ true → c < length new) → length new ≤ 2000002 → AreLabelled now known' new
   labelled-room now known' is reach limit = subst (λ s. AreLabelled s known' new) (sym is) (record {
-    rings = A.rings;
-    owners = owned_more rows new h A.owners;
-    reach = reach;
-    below = λ c a. omega (arith, A.below c a, h.grows);
-    held = λ c a. subst (λ n. IsIn n (ring sp c)) (sym (holder_same rows new h (label sp c) (A.below c a))) (A.held c a);
-    limit = limit;
+    table = record {
+      rings = A.table.rings;
+      owners = owned_more rows new h A.table.owners;
+      reach = reach;
+      below = λ c a. omega (arith, A.table.below c a, h.grows);
+      limit = limit;
+    };
+    held = λ c a. subst (λ n. IsIn n (ring sp c)) (sym (holder_same rows new h (label sp c) (A.table.below c a))) (A.held c a);
   })
 
   pub loops-room : (now : Spots) → now ≡ sp → in_loops new now ≡ in_loops rows sp
-  loops-room now is = ap (in_loops new) is ∙ loops-same sp sp rows new (λ q. refl) (λ q a. loop_same rows new h (label sp q) (A.below q a))
+  loops-room now is = ap (in_loops new) is ∙ loops-same sp sp rows new (λ q. refl) (λ q a. loop_same rows new h (label sp q) (A.table.below q a))
 
 module _ (sp : Spots) (known : ℕ → Bool) (rows : List Label) (A : AreLabelled sp known rows) where
   -- a half-edge starts elsewhere
   pub labelled-retailed : (c v : ℕ) (now : Spots) (known' : ℕ → Bool) → now ≡ retailed sp c v → known' ≡ known → AreLabelled now known' rows
   labelled-retailed c v now known' is same = subst (λ k. AreLabelled now k rows) (sym same) (subst (λ s. AreLabelled s known rows) (sym is) (record {
-    rings = AreRings-retailed sp A.rings c v;
-    owners = A.owners;
-    reach = A.reach;
-    below = λ q a. subst (λ n. n < length rows) (sym (label-retailed sp c v q)) (A.below q (sym (live-retailed sp c v q) ∙ a));
-    held = λ q a. subst (λ hs. IsIn (holder rows (label (retailed sp c v) q)) hs) (sym (ring-retailed sp A.rings c v q))
+    table = record {
+      rings = AreRings-retailed sp A.table.rings c v;
+      owners = A.table.owners;
+      reach = A.table.reach;
+      below = λ q a. subst (λ n. n < length rows) (sym (label-retailed sp c v q)) (A.table.below q (sym (live-retailed sp c v q) ∙ a));
+      limit = A.table.limit;
+    };
+    held = λ q a. subst (λ hs. IsIn (holder rows (label (retailed sp c v) q)) hs) (sym (ring-retailed sp A.table.rings c v q))
         (subst (λ n. IsIn (holder rows n) (ring sp q)) (sym (label-retailed sp c v q)) (A.held q (sym (live-retailed sp c v q) ∙ a)));
-    limit = A.limit;
   }))
 
   -- an edge goes to sleep, whose half-edges are rings of one
   module _ (e : ℕ) (plus_live : live sp (plus e) ≡ true) (minus_live : live sp (minus e) ≡ true) (plus_next : next sp (plus e) ≡ plus e) (minus_next : next sp (minus e) ≡ minus e) where
     alone : (c : ℕ) → live sp c ≡ true → next sp c ≡ c → ring sp c ≡ c ∷ []
-    alone c a n = ring_is sp c (c ∷ []) (n, tt) (λ y. omega (arith, tick_le y c)) (IsIn_head c []) (λ x i. A.rings.bound x (ap (live sp) (IsIn_one c x i) ∙ a)) ∙ canonical_one c
+    alone c a n = ring_is sp c (c ∷ []) (n, tt) (λ y. omega (arith, tick_le y c)) (IsIn_head c []) (λ x i. A.table.rings.bound x (ap (live sp) (IsIn_one c x i) ∙ a)) ∙ canonical_one c
 
     alone_plus : ring sp (plus e) ≡ plus e ∷ []
     alone_plus = alone (plus e) plus_live plus_next
@@ -83,17 +87,19 @@ module _ (sp : Spots) (known : ℕ → Bool) (rows : List Label) (A : AreLabelle
     less = asleep (asleep sp (plus e)) (minus e)
 
     label_left : (c : ℕ) → live less c ≡ true → label less c ≡ label sp c
-    label_left c a = let l = s_left sp A.rings e alone_plus alone_minus c a in ap (λ o. or_zero (of_spot (λ s. s.label) o)) (s_other sp A.rings e alone_plus alone_minus c l.0 l.1)
+    label_left c a = let l = s_left sp A.table.rings e alone_plus alone_minus c a in ap (λ o. or_zero (of_spot (λ s. s.label) o)) (s_other sp A.table.rings e alone_plus alone_minus c l.0 l.1)
 
     pub labelled-asleep : (now : Spots) (known' : ℕ → Bool) → now ≡ less → known' ≡ known → AreLabelled now known' rows
     labelled-asleep now known' is same = subst (λ k. AreLabelled now k rows) (sym same) (subst (λ s. AreLabelled s known rows) (sym is) (record {
-      rings = s_rings sp A.rings e alone_plus alone_minus;
-      owners = A.owners;
-      reach = A.reach;
-      below = λ c a. let l = s_left sp A.rings e alone_plus alone_minus c a in subst (λ n. n < length rows) (sym (label_left c a)) (A.below c l.2);
-      held = λ c a. let l = s_left sp A.rings e alone_plus alone_minus c a in
-          subst (λ hs. IsIn (holder rows (label less c)) hs) (sym (s_ring sp A.rings e alone_plus alone_minus c l.2 l.0 l.1).0) (subst (λ n. IsIn (holder rows n) (ring sp c)) (sym (label_left c a)) (A.held c l.2));
-      limit = A.limit;
+      table = record {
+        rings = s_rings sp A.table.rings e alone_plus alone_minus;
+        owners = A.table.owners;
+        reach = A.table.reach;
+        below = λ c a. let l = s_left sp A.table.rings e alone_plus alone_minus c a in subst (λ n. n < length rows) (sym (label_left c a)) (A.table.below c l.2);
+        limit = A.table.limit;
+      };
+      held = λ c a. let l = s_left sp A.table.rings e alone_plus alone_minus c a in
+          subst (λ hs. IsIn (holder rows (label less c)) hs) (sym (s_ring sp A.table.rings e alone_plus alone_minus c l.2 l.0 l.1).0) (subst (λ n. IsIn (holder rows n) (ring sp c)) (sym (label_left c a)) (A.held c l.2));
     }))
 
   pub loops-asleep_both : (e : ℕ) (now : Spots) → now ≡ asleep (asleep sp (plus e)) (minus e) → in_loops rows now ≡ asleep (asleep (in_loops rows sp) (plus e)) (minus e)
@@ -146,18 +152,18 @@ module _ (sp : Spots) (known : ℕ → Bool) (rows : List Label) (A : AreLabelle
     label_minus = ap (λ o. or_zero (of_spot (λ s. s.label) o)) now_minus
 
     W : AreRings wide
-    W = w_rings sp A.rings e u v limit dead_plus dead_minus
+    W = w_rings sp A.table.rings e u v limit dead_plus dead_minus
 
     cases : (q : ℕ) → live wide q ≡ true → (q ≡ plus e) ⊎ ((q ≡ minus e) ⊎ (live sp q ≡ true))
-    cases = w_cases sp A.rings e u v limit dead_plus dead_minus
+    cases = w_cases sp A.table.rings e u v limit dead_plus dead_minus
 
     one_label : (c : ℕ) → live wide c ≡ true → (q : ℕ) → IsIn q (ring wide c) → label now q ≡ label now c
     one_label c a q i = elim (cases c a) [
-      | inl p ↦ ap (label now) (IsIn_one (plus e) q (subst (IsIn q) (ap (ring wide) p ∙ (r_plus sp A.rings e u v limit dead_plus dead_minus).0) i) ∙ sym p)
-      | inr (inl p) ↦ ap (label now) (IsIn_one (minus e) q (subst (IsIn q) (ap (ring wide) p ∙ (r_minus sp A.rings e u v limit dead_plus dead_minus).0) i) ∙ sym p)
+      | inl p ↦ ap (label now) (IsIn_one (plus e) q (subst (IsIn q) (ap (ring wide) p ∙ (r_plus sp A.table.rings e u v limit dead_plus dead_minus).0) i) ∙ sym p)
+      | inr (inl p) ↦ ap (label now) (IsIn_one (minus e) q (subst (IsIn q) (ap (ring wide) p ∙ (r_minus sp A.table.rings e u v limit dead_plus dead_minus).0) i) ∙ sym p)
       | inr (inr b) ↦
-          let j : IsIn q (ring sp c) = subst (IsIn q) (old_ring sp A.rings e u v limit dead_plus dead_minus c b).0 i in
-          now_label q ((A.rings.rings c b).awake q j) ∙ (A.rings.rings c b).one_label q j ∙ sym (now_label c b)
+          let j : IsIn q (ring sp c) = subst (IsIn q) (old_ring sp A.table.rings e u v limit dead_plus dead_minus c b).0 i in
+          now_label q ((A.table.rings.rings c b).awake q j) ∙ (A.table.rings.rings c b).one_label q j ∙ sym (now_label c b)
     ]
 
     now_rings : AreRings now
@@ -174,27 +180,29 @@ module _ (sp : Spots) (known : ℕ → Bool) (rows : List Label) (A : AreLabelle
 
     now_labelled : AreLabelled now known rows
     now_labelled = record {
-      rings = now_rings;
-      owners = A.owners;
-      reach = A.reach;
-      below = λ c a. elim (cases_now c a) [
-        | inl p ↦ subst (λ n. n < length rows) (sym (ap (label now) p ∙ label_plus)) (A.owners.own_below (plus e) plus_known)
-        | inr (inl p) ↦ subst (λ n. n < length rows) (sym (ap (label now) p ∙ label_minus)) (A.owners.own_below (minus e) minus_known)
-        | inr (inr b) ↦ subst (λ n. n < length rows) (sym (now_label c b)) (A.below c b)
-      ];
+      table = record {
+        rings = now_rings;
+        owners = A.table.owners;
+        reach = A.table.reach;
+        below = λ c a. elim (cases_now c a) [
+          | inl p ↦ subst (λ n. n < length rows) (sym (ap (label now) p ∙ label_plus)) (A.table.owners.own_below (plus e) plus_known)
+          | inr (inl p) ↦ subst (λ n. n < length rows) (sym (ap (label now) p ∙ label_minus)) (A.table.owners.own_below (minus e) minus_known)
+          | inr (inr b) ↦ subst (λ n. n < length rows) (sym (now_label c b)) (A.table.below c b)
+        ];
+        limit = A.table.limit;
+      };
       held = λ c a. elim (cases_now c a) [
-        | inl p ↦ holds c x a (ap (label now) p ∙ label_plus) (A.owners.held (plus e) plus_known ∙ sym p)
-        | inr (inl p) ↦ holds c y a (ap (label now) p ∙ label_minus) (A.owners.held (minus e) minus_known ∙ sym p)
-        | inr (inr b) ↦ subst (λ hs. IsIn (holder rows (label now c)) hs) (sym (rings_are c ∙ (old_ring sp A.rings e u v limit dead_plus dead_minus c b).0)) (subst (λ n. IsIn (holder rows n) (ring sp c)) (sym (now_label c b)) (A.held c b))
+        | inl p ↦ holds c x a (ap (label now) p ∙ label_plus) (A.table.owners.held (plus e) plus_known ∙ sym p)
+        | inr (inl p) ↦ holds c y a (ap (label now) p ∙ label_minus) (A.table.owners.held (minus e) minus_known ∙ sym p)
+        | inr (inr b) ↦ subst (λ hs. IsIn (holder rows (label now c)) hs) (sym (rings_are c ∙ (old_ring sp A.table.rings e u v limit dead_plus dead_minus c b).0)) (subst (λ n. IsIn (holder rows n) (ring sp c)) (sym (now_label c b)) (A.held c b))
       ];
-      limit = A.limit;
     }
 
     -- no live code has the label that a sleeping one owns
     not_own : (c q : ℕ) → c < length rows → live sp c ≡ false → live sp q ≡ true → label sp q ≢ own rows c
     not_own c q below dead a is =
-        let h : holder rows (label sp q) ≡ c = ap (holder rows) is ∙ A.owners.held c below in
-        true≢false (sym (ap (live sp) (sym h) ∙ (A.rings.rings q a).awake (holder rows (label sp q)) (A.held q a)) ∙ dead)
+        let h : holder rows (label sp q) ≡ c = ap (holder rows) is ∙ A.table.owners.held c below in
+        true≢false (sym (ap (live sp) (sym h) ∙ (A.table.rings.rings q a).awake (holder rows (label sp q)) (A.held q a)) ∙ dead)
 
     module _ (new : Spots) (known' : ℕ → Bool) (rows' : List Label) (is : new ≡ now) (same : known' ≡ known) (own_same : own rows' ≡ own rows) (holders : holder rows' ≡ holder rows) (len : length rows' ≡ length rows)
         (loops : (q : ℕ) → loop_at rows' q ≡ cond (nat_eq q y) 0 (cond (nat_eq q x) 0 (loop_at rows q))) where

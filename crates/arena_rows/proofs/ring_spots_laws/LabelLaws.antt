@@ -19,23 +19,25 @@ module _ (sp : Spots) (R : AreRings sp) where
 -- the same owners and labels: nothing changes but the loops for which labels stand
 pub labelled_alike : (sp : Spots) (known : ℕ → Bool) (rows new : List Label) → AreLabelled sp known rows → own new ≡ own rows → holder new ≡ holder rows → length new ≡ length rows → AreLabelled sp known new
 labelled_alike sp known rows new A o h len = record {
-  rings = A.rings;
-  owners = subst (λ n. AreOwned (own new) (holder new) n) (sym len) (subst (λ f. AreOwned f (holder new) (length rows)) (sym o) (subst (λ f. AreOwned (own rows) f (length rows)) (sym h) A.owners));
-  reach = λ c k. omega (arith, len, A.reach c k);
-  below = λ c a. omega (arith, len, A.below c a);
+  table = record {
+    rings = A.table.rings;
+    owners = subst (λ n. AreOwned (own new) (holder new) n) (sym len) (subst (λ f. AreOwned f (holder new) (length rows)) (sym o) (subst (λ f. AreOwned (own rows) f (length rows)) (sym h) A.table.owners));
+    reach = λ c k. omega (arith, len, A.table.reach c k);
+    below = λ c a. omega (arith, len, A.table.below c a);
+    limit = omega (arith, len, A.table.limit);
+  };
   held = λ c a. subst (λ (f : ℕ → ℕ). IsIn (f (label sp c)) (ring sp c)) (sym h) (A.held c a);
-  limit = omega (arith, len, A.limit);
 }
 
 module _ (sp : Spots) (known : ℕ → Bool) (rows : List Label) (A : AreLabelled sp known rows) where
   -- two codes with one label stand in one ring
   same_label : (c d : ℕ) → live sp c ≡ true → live sp d ≡ true → label sp d ≡ label sp c → IsIn d (ring sp c)
-  same_label c d h k e = shared_item sp A.rings c d (holder rows (label sp c)) h k (A.held c h) (subst (λ n. IsIn (holder rows n) (ring sp d)) e (A.held d k))
+  same_label c d h k e = shared_item sp A.table.rings c d (holder rows (label sp c)) h k (A.held c h) (subst (λ n. IsIn (holder rows n) (ring sp d)) e (A.held d k))
 
   -- the label of a ring stands for loop l now
   pub loops-put : (new : List Label) (c l : ℕ) → live sp c ≡ true → ((q : ℕ) → loop_at new q ≡ cond (nat_eq q (label sp c)) l (loop_at rows q)) → in_loops new sp ≡ labelled (in_loops rows sp) l (ring sp c)
   loops-put new c l h is = loops-labelled sp sp rows new l (ring sp c) (λ q. refl)
-      (λ q k i. is (label sp q) ∙ ap (λ b. cond b l (loop_at rows (label sp q))) (eq-eqb (label sp q) (label sp c) ((A.rings.rings c h).one_label q i)))
+      (λ q k i. is (label sp q) ∙ ap (λ b. cond b l (loop_at rows (label sp q))) (eq-eqb (label sp q) (label sp c) ((A.table.rings.rings c h).one_label q i)))
       (λ q k n. is (label sp q) ∙ ap (λ b. cond b l (loop_at rows (label sp q))) (ne_eqb (label sp q) (label sp c) (λ e. let i = same_label c q h k e in absurd (omega arith))))
 
   -- a ring is cut
@@ -44,27 +46,29 @@ module _ (sp : Spots) (known : ℕ → Bool) (rows : List Label) (A : AreLabelle
     cutted = spliced_at sp a b
 
     cut_b_there : live sp b ≡ true
-    cut_b_there = (A.rings.rings a a_there).awake b together
+    cut_b_there = (A.table.rings.rings a a_there).awake b together
 
     cut_sides : IsIn a (cut_left a b (ring sp a)) × IsIn b (cut_right a b (ring sp a))
-    cut_sides = let o = A.rings.rings a a_there in IsIn-cut a b (ring sp a) o.apart o.item together ne
+    cut_sides = let o = A.table.rings.rings a a_there in IsIn-cut a b (ring sp a) o.apart o.item together ne
 
     cut_left_is : ring cutted a ≡ cut_left a b (ring sp a)
-    cut_left_is = (ring_left sp A.rings a b a_there cut_b_there together ne a cut_sides.0).0
+    cut_left_is = (ring_left sp A.table.rings a b a_there cut_b_there together ne a cut_sides.0).0
 
     cut_right_is : ring cutted b ≡ cut_right a b (ring sp a)
-    cut_right_is = (ring_right sp A.rings a b a_there cut_b_there together ne b cut_sides.1).0
+    cut_right_is = (ring_right sp A.table.rings a b a_there cut_b_there together ne b cut_sides.1).0
 
     cut_count : (x : ℕ) → count x (ring cutted a) + count x (ring cutted b) ≡ count x (ring sp a)
-    cut_count x = (λ i. count x (cut_left_is i) + count x (cut_right_is i)) ∙ cut_items sp A.rings a b a_there cut_b_there together ne x
+    cut_count x = (λ i. count x (cut_left_is i) + count x (cut_right_is i)) ∙ cut_items sp A.table.rings a b a_there cut_b_there together ne x
 
     pub share-cut : ShareLabel cutted known rows a b
-    share-cut = let o = A.rings.rings a a_there in record {
-      rings = AreRings-cut sp A.rings a b a_there cut_b_there together ne;
-      owners = A.owners;
-      reach = A.reach;
-      below = λ c h. subst (λ n. n < length rows) (sym (label-spliced sp a b c)) (A.below c (sym (live-spliced sp a b c) ∙ h));
-      limit = A.limit;
+    share-cut = let o = A.table.rings.rings a a_there in record {
+      table = record {
+        rings = AreRings-cut sp A.table.rings a b a_there cut_b_there together ne;
+        owners = A.table.owners;
+        reach = A.table.reach;
+        below = λ c h. subst (λ n. n < length rows) (sym (label-spliced sp a b c)) (A.table.below c (sym (live-spliced sp a b c) ∙ h));
+        limit = A.table.limit;
+      };
       a_there = live-spliced sp a b a ∙ a_there;
       b_there = live-spliced sp a b b ∙ cut_b_there;
       apart = let i : IsIn b (ring cutted b) = subst (IsIn b) (sym cut_right_is) cut_sides.1 in omega (arith, i, cut_count b, o.apart b);
@@ -73,7 +77,7 @@ module _ (sp : Spots) (known : ℕ → Bool) (rows : List Label) (A : AreLabelle
           elim (IsIn_or_not (holder rows (label cutted a)) (ring cutted a)) [ inl j ↦ inl j | inr n ↦ inr (omega (arith, i, cut_count (holder rows (label cutted a)))) ];
       others = λ c h n m.
           let k = sym (live-spliced sp a b c) ∙ h in
-          let e = (ring_beside sp A.rings a b a_there cut_b_there together ne c k (omega (arith, cut_count c))).0 in
+          let e = (ring_beside sp A.table.rings a b a_there cut_b_there together ne c k (omega (arith, cut_count c))).0 in
           subst (λ hs. IsIn (holder rows (label cutted c)) hs) (sym e) (subst (λ w. IsIn (holder rows w) (ring sp c)) (sym (label-spliced sp a b c)) (A.held c k));
     }
 
@@ -82,9 +86,8 @@ module _ (sp : Spots) (known : ℕ → Bool) (rows : List Label) (A : AreLabelle
 
   -- the rings of a and b get one label
   module _ (a b : ℕ) (a_there : live sp a ≡ true) (b_there : live sp b ≡ true) (other : label sp b ≢ label sp a) where
-
     b_apart : count b (ring sp a) ≡ 0
-    b_apart = elim (IsIn_or_not b (ring sp a)) [ inl i ↦ absurd (other ((A.rings.rings a a_there).one_label b i)) | inr n ↦ n ]
+    b_apart = elim (IsIn_or_not b (ring sp a)) [ inl i ↦ absurd (other ((A.table.rings.rings a a_there).one_label b i)) | inr n ↦ n ]
 
     abbrev lb : ℕ
     lb = label sp b
@@ -93,24 +96,26 @@ module _ (sp : Spots) (known : ℕ → Bool) (rows : List Label) (A : AreLabelle
     like_b = labelled sp lb (ring sp a)
 
     like_b_rings : (q : ℕ) → ring like_b q ≡ ring sp q
-    like_b_rings q = ring-labelled sp A.rings a lb a_there q
+    like_b_rings q = ring-labelled sp A.table.rings a lb a_there q
 
     like_b_b : label like_b b ≡ lb
     like_b_b = label-labelled_out sp lb (ring sp a) b b_apart
 
     like_b_a : label like_b a ≡ lb
-    like_b_a = label-labelled_in sp lb (ring sp a) a (A.rings.rings a a_there).item a_there
+    like_b_a = label-labelled_in sp lb (ring sp a) a (A.table.rings.rings a a_there).item a_there
 
     shared : ShareLabel like_b known rows a b
     shared = record {
-      rings = AreRings-labelled sp A.rings a lb a_there;
-      owners = A.owners;
-      reach = A.reach;
-      below = λ c h. let k = sym (live-labelled sp lb (ring sp a) c) ∙ h in elim (IsIn_or_not c (ring sp a)) [
-        | inl i ↦ subst (λ n. n < length rows) (sym (label-labelled_in sp lb (ring sp a) c i k)) (A.below b b_there)
-        | inr n ↦ subst (λ n. n < length rows) (sym (label-labelled_out sp lb (ring sp a) c n)) (A.below c k)
-      ];
-      limit = A.limit;
+      table = record {
+        rings = AreRings-labelled sp A.table.rings a lb a_there;
+        owners = A.table.owners;
+        reach = A.table.reach;
+        below = λ c h. let k = sym (live-labelled sp lb (ring sp a) c) ∙ h in elim (IsIn_or_not c (ring sp a)) [
+          | inl i ↦ subst (λ n. n < length rows) (sym (label-labelled_in sp lb (ring sp a) c i k)) (A.table.below b b_there)
+          | inr n ↦ subst (λ n. n < length rows) (sym (label-labelled_out sp lb (ring sp a) c n)) (A.table.below c k)
+        ];
+        limit = A.table.limit;
+      };
       a_there = live-labelled sp lb (ring sp a) a ∙ a_there;
       b_there = live-labelled sp lb (ring sp a) b ∙ b_there;
       apart = ap (count b) (like_b_rings a) ∙ b_apart;
@@ -132,15 +137,11 @@ module _ (sp : Spots) (known : ℕ → Bool) (rows : List Label) (A : AreLabelle
 -- which of the two comes first is the same
 pub share_turned : (sp : Spots) (known : ℕ → Bool) (rows : List Label) (a b : ℕ) → ShareLabel sp known rows a b → ShareLabel sp known rows b a
 share_turned sp known rows a b S = record {
-  rings = S.rings;
-  owners = S.owners;
-  reach = S.reach;
-  below = S.below;
-  limit = S.limit;
+  table = S.table;
   a_there = S.b_there;
   b_there = S.a_there;
   apart = elim (IsIn_or_not a (ring sp b)) [
-    | inl i ↦ let j : IsIn b (ring sp a) = shared_item sp S.rings a b a S.a_there S.b_there (S.rings.rings a S.a_there).item i in absurd (omega (arith, S.apart))
+    | inl i ↦ let j : IsIn b (ring sp a) = shared_item sp S.table.rings a b a S.a_there S.b_there (S.table.rings.rings a S.a_there).item i in absurd (omega (arith, S.apart))
     | inr n ↦ n
   ];
   one = sym S.one;
@@ -166,8 +167,8 @@ module _ (sp : Spots) (known : ℕ → Bool) (rows : List Label) (a b : ℕ) (S 
 
   whose : (c : ℕ) → live sp c ≡ true → IsIn (holder rows x) (ring sp c) → IsIn c (ring sp a) ⊎ IsIn c (ring sp b)
   whose c h i = elim S.held [
-    | inl j ↦ inl (shared_item sp S.rings a c (holder rows x) S.a_there h (subst (λ n. IsIn (holder rows n) (ring sp a)) (sym S.one) j) i)
-    | inr j ↦ inr (shared_item sp S.rings b c (holder rows x) S.b_there h (subst (λ n. IsIn (holder rows n) (ring sp b)) (sym S.one) j) i)
+    | inl j ↦ inl (shared_item sp S.table.rings a c (holder rows x) S.a_there h (subst (λ n. IsIn (holder rows n) (ring sp a)) (sym S.one) j) i)
+    | inr j ↦ inr (shared_item sp S.table.rings b c (holder rows x) S.b_there h (subst (λ n. IsIn (holder rows n) (ring sp b)) (sym S.one) j) i)
   ]
 
   -- the ring of b keeps the label, which b owns now, and the ring of a gets the label that a owns
@@ -179,16 +180,16 @@ module _ (sp : Spots) (known : ℕ → Bool) (rows : List Label) (a b : ℕ) (S 
     y = own rows' a
 
     owners' : AreOwned (own rows') (holder rows') (length rows)
-    owners' = handed_over (own rows) (holder rows) (length rows) S.owners (own rows') (holder rows') b x b_known (S.below b S.b_there) own_is holder_is
+    owners' = handed_over (own rows) (holder rows) (length rows) S.table.owners (own rows') (holder rows') b x b_known (S.table.below b S.b_there) own_is holder_is
 
     holder_of_x : holder rows' x ≡ b
-    holder_of_x = holder_x (own rows) (holder rows) (length rows) S.owners (own rows') (holder rows') b x b_known (S.below b S.b_there) own_is holder_is
+    holder_of_x = holder_x (own rows) (holder rows) (length rows) S.table.owners (own rows') (holder rows') b x b_known (S.table.below b S.b_there) own_is holder_is
 
     abbrev now : Spots
     now = labelled sp y (ring sp a)
 
     rings_are : (c : ℕ) → ring now c ≡ ring sp c
-    rings_are c = ring-labelled sp S.rings a y S.a_there c
+    rings_are c = ring-labelled sp S.table.rings a y S.a_there c
 
     live_are : (c : ℕ) → live now c ≡ live sp c
     live_are c = live-labelled sp y (ring sp a) c
@@ -198,11 +199,11 @@ module _ (sp : Spots) (known : ℕ → Bool) (rows : List Label) (a b : ℕ) (S 
 
     held_in_a : (c : ℕ) → live sp c ≡ true → IsIn c (ring sp a) → IsIn (holder rows' (label now c)) (ring now c)
     held_in_a c h i = holds c y (label-labelled_in sp y (ring sp a) c i h)
-        (subst (λ w. IsIn w (ring sp c)) (sym (owners'.held a a_known)) (subst (IsIn a) (sym (ring_same sp S.rings a c S.a_there i)) (S.rings.rings a S.a_there).item))
+        (subst (λ w. IsIn w (ring sp c)) (sym (owners'.held a a_known)) (subst (IsIn a) (sym (ring_same sp S.table.rings a c S.a_there i)) (S.table.rings.rings a S.a_there).item))
 
     held_in_b : (c : ℕ) → live sp c ≡ true → count c (ring sp a) ≡ 0 → IsIn c (ring sp b) → IsIn (holder rows' (label now c)) (ring now c)
-    held_in_b c h n i = holds c x (label-labelled_out sp y (ring sp a) c n ∙ (S.rings.rings b S.b_there).one_label c i)
-        (subst (λ w. IsIn w (ring sp c)) (sym holder_of_x) (subst (IsIn b) (sym (ring_same sp S.rings b c S.b_there i)) (S.rings.rings b S.b_there).item))
+    held_in_b c h n i = holds c x (label-labelled_out sp y (ring sp a) c n ∙ (S.table.rings.rings b S.b_there).one_label c i)
+        (subst (λ w. IsIn w (ring sp c)) (sym holder_of_x) (subst (IsIn b) (sym (ring_same sp S.table.rings b c S.b_there i)) (S.table.rings.rings b S.b_there).item))
 
     -- elsewhere each label has the holder that it had
     held_else : (c : ℕ) → live sp c ≡ true → count c (ring sp a) ≡ 0 → count c (ring sp b) ≡ 0 → IsIn (holder rows' (label now c)) (ring now c)
@@ -210,26 +211,28 @@ module _ (sp : Spots) (known : ℕ → Bool) (rows : List Label) (a b : ℕ) (S 
         let i : IsIn (holder rows (label sp c)) (ring sp c) = S.others c h n m in
         let not_x : label sp c ≢ x = λ e. elim (whose c h (subst (λ w. IsIn (holder rows w) (ring sp c)) e i)) [ inl j ↦ absurd (omega arith) | inr j ↦ absurd (omega arith) ] in
         let not_own : label sp c ≢ own rows b = λ e.
-        let k : IsIn b (ring sp c) = subst (λ w. IsIn w (ring sp c)) (ap (holder rows) e ∙ S.owners.held b b_known) i in
-        let j : IsIn c (ring sp b) = shared_item sp S.rings b c b S.b_there h (S.rings.rings b S.b_there).item k in
+        let k : IsIn b (ring sp c) = subst (λ w. IsIn w (ring sp c)) (ap (holder rows) e ∙ S.table.owners.held b b_known) i in
+        let j : IsIn c (ring sp b) = shared_item sp S.table.rings b c b S.b_there h (S.table.rings.rings b S.b_there).item k in
         absurd (omega arith) in
         holds c (label sp c) (label-labelled_out sp y (ring sp a) c n)
-        (subst (λ w. IsIn w (ring sp c)) (sym (holder_other (own rows) (holder rows) (length rows) S.owners (own rows') (holder rows') b x b_known (S.below b S.b_there) own_is holder_is (label sp c) not_x not_own)) i)
+        (subst (λ w. IsIn w (ring sp c)) (sym (holder_other (own rows) (holder rows) (length rows) S.table.owners (own rows') (holder rows') b x b_known (S.table.below b S.b_there) own_is holder_is (label sp c) not_x not_own)) i)
 
     now_labelled : AreLabelled now known rows'
     now_labelled = record {
-      rings = AreRings-labelled sp S.rings a y S.a_there;
-      owners = subst (λ n. AreOwned (own rows') (holder rows') n) (sym len) owners';
-      reach = λ c k. omega (arith, len, S.reach c k);
-      below = λ c h. let k = sym (live_are c) ∙ h in elim (IsIn_or_not c (ring sp a)) [
-        | inl i ↦ subst (λ n. n < length rows') (sym (label-labelled_in sp y (ring sp a) c i k)) (omega (arith, len, owners'.own_below a a_known))
-        | inr n ↦ subst (λ n. n < length rows') (sym (label-labelled_out sp y (ring sp a) c n)) (omega (arith, len, S.below c k))
-      ];
+      table = record {
+        rings = AreRings-labelled sp S.table.rings a y S.a_there;
+        owners = subst (λ n. AreOwned (own rows') (holder rows') n) (sym len) owners';
+        reach = λ c k. omega (arith, len, S.table.reach c k);
+        below = λ c h. let k = sym (live_are c) ∙ h in elim (IsIn_or_not c (ring sp a)) [
+          | inl i ↦ subst (λ n. n < length rows') (sym (label-labelled_in sp y (ring sp a) c i k)) (omega (arith, len, owners'.own_below a a_known))
+          | inr n ↦ subst (λ n. n < length rows') (sym (label-labelled_out sp y (ring sp a) c n)) (omega (arith, len, S.table.below c k))
+        ];
+        limit = omega (arith, len, S.table.limit);
+      };
       held = λ c h. let k = sym (live_are c) ∙ h in elim (IsIn_or_not c (ring sp a)) [
         | inl i ↦ held_in_a c k i
         | inr n ↦ elim (IsIn_or_not c (ring sp b)) [ inl i ↦ held_in_b c k n i | inr m ↦ held_else c k n m ]
       ];
-      limit = omega (arith, len, S.limit);
     }
 
     pub labelled-apart : (known' : ℕ → Bool) → known' ≡ known → AreLabelled new known' rows'
@@ -241,31 +244,33 @@ module _ (sp : Spots) (known : ℕ → Bool) (rows : List Label) (a b : ℕ) (S 
   -- the two rings are joined
   labelled-join : AreLabelled (spliced_at sp a b) known rows
   labelled-join = record {
-    rings = AreRings-join sp S.rings a b S.a_there S.b_there S.apart S.one;
-    owners = S.owners;
-    reach = S.reach;
-    below = λ c h. subst (λ n. n < length rows) (sym (label-spliced sp a b c)) (S.below c (sym (live-spliced sp a b c) ∙ h));
+    table = record {
+      rings = AreRings-join sp S.table.rings a b S.a_there S.b_there S.apart S.one;
+      owners = S.table.owners;
+      reach = S.table.reach;
+      below = λ c h. subst (λ n. n < length rows) (sym (label-spliced sp a b c)) (S.table.below c (sym (live-spliced sp a b c) ∙ h));
+      limit = S.table.limit;
+    };
     held = λ c h. let k = sym (live-spliced sp a b c) ∙ h in elim (IsIn_or_not c (joined a b (ring sp a) (ring sp b))) [
       | inl i ↦ in_joint c k i
-      | inr n ↦ subst (λ hs. IsIn (holder rows (label (spliced_at sp a b) c)) hs) (sym (ring_aside sp S.rings a b S.a_there S.b_there S.apart S.one c k n).0)
+      | inr n ↦ subst (λ hs. IsIn (holder rows (label (spliced_at sp a b) c)) hs) (sym (ring_aside sp S.table.rings a b S.a_there S.b_there S.apart S.one c k n).0)
           (subst (λ w. IsIn (holder rows w) (ring sp c)) (sym (label-spliced sp a b c)) (S.others c k (omega (arith, items c)) (omega (arith, items c))))
     ];
-    limit = S.limit;
   } where
     items : (q : ℕ) → count q (joined a b (ring sp a) (ring sp b)) ≡ count q (ring sp a) + count q (ring sp b)
-    items = join_items sp S.rings a b S.a_there S.b_there S.apart S.one
+    items = join_items sp S.table.rings a b S.a_there S.b_there S.apart S.one
 
     one_label : (c : ℕ) → live sp c ≡ true → IsIn c (joined a b (ring sp a) (ring sp b)) → label (spliced_at sp a b) c ≡ label sp a
     one_label c h i = label-spliced sp a b c ∙ elim (IsIn_or_not c (ring sp a)) [
-      | inl j ↦ (S.rings.rings a S.a_there).one_label c j
-      | inr n ↦ (S.rings.rings b S.b_there).one_label c (omega (arith, items c)) ∙ S.one
+      | inl j ↦ (S.table.rings.rings a S.a_there).one_label c j
+      | inr n ↦ (S.table.rings.rings b S.b_there).one_label c (omega (arith, items c)) ∙ S.one
     ]
 
     held_joint : IsIn (holder rows (label sp a)) (joined a b (ring sp a) (ring sp b))
     held_joint = elim S.held [ inl i ↦ omega (arith, i, items (holder rows (label sp a))) | inr i ↦ omega (arith, i, items (holder rows (label sp a))) ]
 
     in_joint : (c : ℕ) → live sp c ≡ true → IsIn c (joined a b (ring sp a) (ring sp b)) → IsIn (holder rows (label (spliced_at sp a b) c)) (ring (spliced_at sp a b) c)
-    in_joint c h i = subst (λ hs. IsIn (holder rows (label (spliced_at sp a b) c)) hs) (sym (ring_joint sp S.rings a b S.a_there S.b_there S.apart S.one c i).0)
+    in_joint c h i = subst (λ hs. IsIn (holder rows (label (spliced_at sp a b) c)) hs) (sym (ring_joint sp S.table.rings a b S.a_there S.b_there S.apart S.one c i).0)
         (subst (λ w. IsIn (holder rows w) (joined a b (ring sp a) (ring sp b))) (sym (one_label c h i)) held_joint)
 
   pub labelled-join_to : (new : Spots) (known' : ℕ → Bool) → new ≡ spliced_at sp a b → known' ≡ known → AreLabelled new known' rows

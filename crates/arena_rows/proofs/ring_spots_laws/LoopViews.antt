@@ -76,7 +76,7 @@ module _ (sp : Spots) (known : ℕ → Bool) (rows : List Label) (A : AreLabelle
       labelled (labelled (in_loops rows' now) (loop_at rows (label sp a)) (ring now a)) l (ring now b) ≡ labelled (spliced_at (in_loops rows sp) a b) l (ring (spliced_at (in_loops rows sp) a b) b)
   seen-cut together ne cutted now rows' l is r loops =
       let S = share-cut sp known rows A a b a_there together ne in
-      seen_apart (spliced_at sp a b) now rows rows' a b (loop_at rows (label sp a)) (subst (λ s. IsRelabelled s now a b) is r) loops (λ q h i. ap (loop_at rows) ((S.rings.rings a S.a_there).one_label q i ∙ label-spliced sp a b a)) l
+      seen_apart (spliced_at sp a b) now rows rows' a b (loop_at rows (label sp a)) (subst (λ s. IsRelabelled s now a b) is r) loops (λ q h i. ap (loop_at rows) ((S.table.rings.rings a S.a_there).one_label q i ∙ label-spliced sp a b a)) l
       ∙ (λ i. labelled (in_loops rows (spliced_at sp a b)) l (sym (ring-alike (spliced_at sp a b) (in_loops rows (spliced_at sp a b)) (blank-loops rows (spliced_at sp a b)) b) i))
       ∙ ap (λ (s : Spots). labelled s l (ring s b)) (loops-spliced rows sp a b)
 
@@ -86,11 +86,11 @@ module _ (sp : Spots) (known : ℕ → Bool) (rows : List Label) (A : AreLabelle
   seen-join shared known' S r new is =
       let kept = loop_at rows (label sp a) in
       let hs : List ℕ = joined a b (ring shared a) (ring shared b) in
-      let items : (q : ℕ) → count q hs ≡ count q (ring shared a) + count q (ring shared b) = join_items shared S.rings a b S.a_there S.b_there S.apart S.one in
-      let at_a = (S.rings.rings a S.a_there).item in
-      let joint : ring (spliced_at shared a b) a ≡ hs = (ring_joint shared S.rings a b S.a_there S.b_there S.apart S.one a (omega (arith, items a, at_a))).0 in
+      let items : (q : ℕ) → count q hs ≡ count q (ring shared a) + count q (ring shared b) = join_items shared S.table.rings a b S.a_there S.b_there S.apart S.one in
+      let at_a = (S.table.rings.rings a S.a_there).item in
+      let joint : ring (spliced_at shared a b) a ≡ hs = (ring_joint shared S.table.rings a b S.a_there S.b_there S.apart S.one a (omega (arith, items a, at_a))).0 in
       ap (λ s. labelled (in_loops rows s) kept (ring s a)) is
       ∙ (λ i. labelled (loops-spliced rows shared a b i) kept (joint i))
       ∙ labelled-spliced (in_loops rows shared) kept hs a b
-      ∙ ap (λ (s : Spots). spliced_at s a b) (seen_together sp shared rows rows a b kept r refl (λ q h i. ap (loop_at rows) ((A.rings.rings a a_there).one_label q i)) hs
+      ∙ ap (λ (s : Spots). spliced_at s a b) (seen_together sp shared rows rows a b kept r refl (λ q h i. ap (loop_at rows) ((A.table.rings.rings a a_there).one_label q i)) hs
       (λ q. items q ∙ (λ i. count q (ring-alike sp shared r.same a i) + count q (ring-alike sp shared r.same b i))))

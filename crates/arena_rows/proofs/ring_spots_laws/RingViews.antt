@@ -81,16 +81,18 @@ seen-empty rows m e = ap (map_in_loops rows) e ∙ same_map nat_cmp_total nat_cm
 pub no_edge_rings : (m : RingMap) (rows : List Label) (edges : List (Option Bool)) → m ≡ no_codes → rows ≡ [] → edges ≡ [] → AreEdgeRings m rows edges
 no_edge_rings m rows edges a b c = subst (λ (k : RingMap). AreEdgeRings k rows edges) (sym a) (subst (λ (r : List Label). AreEdgeRings no_codes r edges) (sym b) (record {
   labelled = record {
-    rings = record {
-      bound = λ q h. absurd (dead q h);
-      rings = λ q h. absurd (dead q h);
-      mates = λ q h. absurd (dead q h);
+    table = record {
+      rings = record {
+        bound = λ q h. absurd (dead q h);
+        rings = λ q h. absurd (dead q h);
+        mates = λ q h. absurd (dead q h);
+      };
+      owners = record { own_below = λ n l. absurd (omega arith); holder_below = λ n l. absurd (omega arith); held = λ n l. absurd (omega arith); owned = λ n l. absurd (omega arith) };
+      reach = λ q k. absurd (true≢false (sym k ∙ known-empty q));
+      below = λ q h. absurd (dead q h);
+      limit = omega arith;
     };
-    owners = record { own_below = λ n l. absurd (omega arith); holder_below = λ n l. absurd (omega arith); held = λ n l. absurd (omega arith); owned = λ n l. absurd (omega arith) };
-    reach = λ q k. absurd (true≢false (sym k ∙ known-empty q));
-    below = λ q h. absurd (dead q h);
     held = λ q h. absurd (dead q h);
-    limit = omega arith;
   };
   rows = no_edges (map_in_loops [] no_codes) edges (seen-empty [] no_codes refl) c;
 })) where

@@ -33,22 +33,22 @@ pub record AreOwned (own holder : ℕ → ℕ) (end : ℕ) : Type 0 where
   pub held : (n : ℕ) → n < end → holder (own n) ≡ n
   pub owned : (n : ℕ) → n < end → own (holder n) ≡ n
 
--- each ring has one label, which one of its codes owns
-pub record AreLabelled (sp : Spots) (known : ℕ → Bool) (rows : List Label) : Type 0 where
+-- the table reaches to each known code and to each label of a live one
+pub record HaveLabels (sp : Spots) (known : ℕ → Bool) (rows : List Label) : Type 0 where
   pub rings : AreRings sp
   pub owners : AreOwned (own rows) (holder rows) (length rows)
   pub reach : (c : ℕ) → known c ≡ true → c < length rows
   pub below : (c : ℕ) → live sp c ≡ true → label sp c < length rows
-  pub held : (c : ℕ) → live sp c ≡ true → IsIn (holder rows (label sp c)) (ring sp c)
   pub limit : length rows ≤ 2000002
+
+-- each ring has a label, which one of its codes owns
+pub record AreLabelled (sp : Spots) (known : ℕ → Bool) (rows : List Label) : Type 0 where
+  pub table : HaveLabels sp known rows
+  pub held : (c : ℕ) → live sp c ≡ true → IsIn (holder rows (label sp c)) (ring sp c)
 
 -- the rings of a and b share a label, which one of their codes owns, and each other ring has one of its own
 pub record ShareLabel (sp : Spots) (known : ℕ → Bool) (rows : List Label) (a b : ℕ) : Type 0 where
-  pub rings : AreRings sp
-  pub owners : AreOwned (own rows) (holder rows) (length rows)
-  pub reach : (c : ℕ) → known c ≡ true → c < length rows
-  pub below : (c : ℕ) → live sp c ≡ true → label sp c < length rows
-  pub limit : length rows ≤ 2000002
+  pub table : HaveLabels sp known rows
   pub a_there : live sp a ≡ true
   pub b_there : live sp b ≡ true
   pub apart : count b (ring sp a) ≡ 0

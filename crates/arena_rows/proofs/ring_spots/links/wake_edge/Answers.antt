@@ -8,10 +8,10 @@ use Rattle.arena_rows.proofs.ring_spots_laws.LabelEdges.{live-woken_other, label
 use Rattle.arena_rows.proofs.ring_spots.links.wake_edge.Goals as goal
 
 pub wake-requires-clause-code : goal.wake-requires-clause-code
-wake-requires-clause-code c = c.requires.whole.reach (plus c.args.e) c.requires.first.0
+wake-requires-clause-code c = c.requires.whole.table.reach (plus c.args.e) c.requires.first.0
 
 pub wake-requires-clause-label : goal.wake-requires-clause-label
-wake-requires-clause-label c = c.requires.whole.owners.own_below (plus c.args.e) (c.requires.whole.reach (plus c.args.e) c.requires.first.0)
+wake-requires-clause-label c = c.requires.whole.table.owners.own_below (plus c.args.e) (c.requires.whole.table.reach (plus c.args.e) c.requires.first.0)
 
 pub wake-requires-2-clause-asleep : goal.wake-requires-2-clause-asleep
 wake-requires-2-clause-asleep c = (
@@ -20,17 +20,17 @@ wake-requires-2-clause-asleep c = (
 )
 
 pub wake-requires-2-clause-code : goal.wake-requires-2-clause-code
-wake-requires-2-clause-code c = omega (arith, c.wake.ensures.len, c.requires.whole.reach (minus c.args.e) c.requires.second.0)
+wake-requires-2-clause-code c = omega (arith, c.wake.ensures.len, c.requires.whole.table.reach (minus c.args.e) c.requires.second.0)
 
 pub wake-requires-2-clause-label : goal.wake-requires-2-clause-label
 wake-requires-2-clause-label c = subst (λ (f : ℕ → ℕ). f (minus c.args.e) < length c.wake.new.labels.items) (sym c.wake.ensures.own)
-    (omega (arith, c.wake.ensures.len, c.requires.whole.owners.own_below (minus c.args.e) (c.requires.whole.reach (minus c.args.e) c.requires.second.0)))
+    (omega (arith, c.wake.ensures.len, c.requires.whole.table.owners.own_below (minus c.args.e) (c.requires.whole.table.reach (minus c.args.e) c.requires.second.0)))
 
 pub returns : goal.returns
 returns c =
     let A = c.requires.whole in
-    let p = A.reach (plus c.args.e) c.requires.first.0 in
-    let m = A.reach (minus c.args.e) c.requires.second.0 in
+    let p = A.table.reach (plus c.args.e) c.requires.first.0 in
+    let m = A.table.reach (minus c.args.e) c.requires.second.0 in
     let owns : own c.wake.new.labels.items (minus c.args.e) ≡ own c.args.labels.now.items (minus c.args.e) = ap (λ (f : ℕ → ℕ). f (minus c.args.e)) c.wake.ensures.own in
     let is = c.wake-2.ensures.spots ∙ ap (λ (s : Spots). woken_as s (minus c.args.e) c.args.b (own c.wake.new.labels.items (minus c.args.e))) c.wake.ensures.spots
     ∙ ap (woken_as (woken_as (spot c.args.rings.now) (plus c.args.e) c.args.a (own c.args.labels.now.items (plus c.args.e))) (minus c.args.e) c.args.b) owns in

@@ -8,32 +8,32 @@ use Rattle.arena_rows.proofs.ring_spots_laws.LabelLaws.{labelled-apart, relabell
 use Rattle.arena_rows.proofs.ring_spots.parts.give_label.Goals as goal
 
 pub hand_over-requires-clause-code : goal.hand_over-requires-clause-code
-hand_over-requires-clause-code c = c.requires.reach _ (live_known _ _ c.requires.b_there)
+hand_over-requires-clause-code c = c.requires.table.reach _ (live_known _ _ c.requires.b_there)
 
 pub hand_over-requires-clause-label : goal.hand_over-requires-clause-label
-hand_over-requires-clause-label c = subst (λ n. n < length c.args.labels.now.items) (ap or_zero c.label.ensures) (c.requires.below _ c.requires.b_there)
+hand_over-requires-clause-label c = subst (λ n. n < length c.args.labels.now.items) (ap or_zero c.label.ensures) (c.requires.table.below _ c.requires.b_there)
 
 pub hand_over-requires-clause-holder : goal.hand_over-requires-clause-holder
-hand_over-requires-clause-holder c = c.requires.owners.holder_below _ (subst (λ n. n < length c.args.labels.now.items) (ap or_zero c.label.ensures) (c.requires.below _ c.requires.b_there))
+hand_over-requires-clause-holder c = c.requires.table.owners.holder_below _ (subst (λ n. n < length c.args.labels.now.items) (ap or_zero c.label.ensures) (c.requires.table.below _ c.requires.b_there))
 
 pub hand_over-requires-clause-own : goal.hand_over-requires-clause-own
-hand_over-requires-clause-own c = c.requires.owners.own_below _ (c.requires.reach _ (live_known _ _ c.requires.b_there))
+hand_over-requires-clause-own c = c.requires.table.owners.own_below _ (c.requires.table.reach _ (live_known _ _ c.requires.b_there))
 
 pub own-requires : goal.own-requires
-own-requires c = omega (arith, c.hand_over.ensures.len, c.requires.reach c.args.part (live_known _ _ c.requires.a_there))
+own-requires c = omega (arith, c.hand_over.ensures.len, c.requires.table.reach c.args.part (live_known _ _ c.requires.a_there))
 
 pub returns-clause-whole : goal.returns-clause-whole
 returns-clause-whole c =
     let e = ap or_zero c.label.ensures in
-    let known_b = c.requires.reach c.args.rest (live_known _ _ c.requires.b_there) in
-    let known_a = c.requires.reach c.args.part (live_known _ _ c.requires.a_there) in
+    let known_b = c.requires.table.reach c.args.rest (live_known _ _ c.requires.b_there) in
+    let known_a = c.requires.table.reach c.args.part (live_known _ _ c.requires.a_there) in
     let is = c.relabel.ensures.spots ∙ ap (λ n. labelled (spot c.args.rings.now) n (ring (spot c.args.rings.now) c.args.part)) (c.own.ensures ∙ ap (λ (rows : List Label). own rows c.args.part) c.deref.ensures.value) in
     labelled-apart _ _ _ _ _ c.requires _ _ known_b known_a c.hand_over.ensures.len (rw (e) c.hand_over.ensures.own) (rw (e) c.hand_over.ensures.holder) is _ c.relabel.ensures.known
 
 pub returns-clause-spots : goal.returns-clause-spots
 returns-clause-spots c =
     let e = ap or_zero c.label.ensures in
-    let known_b = c.requires.reach c.args.rest (live_known _ _ c.requires.b_there) in
-    let known_a = c.requires.reach c.args.part (live_known _ _ c.requires.a_there) in
+    let known_b = c.requires.table.reach c.args.rest (live_known _ _ c.requires.b_there) in
+    let known_a = c.requires.table.reach c.args.part (live_known _ _ c.requires.a_there) in
     let is = c.relabel.ensures.spots ∙ ap (λ n. labelled (spot c.args.rings.now) n (ring (spot c.args.rings.now) c.args.part)) (c.own.ensures ∙ ap (λ (rows : List Label). own rows c.args.part) c.deref.ensures.value) in
     relabelled-apart _ _ _ _ _ c.requires _ _ known_b known_a c.hand_over.ensures.len (rw (e) c.hand_over.ensures.own) (rw (e) c.hand_over.ensures.holder) is
