@@ -1,5 +1,5 @@
 -- Where a plane can begin to split a solid, the cut places of each face that straddles can be paired.
-use Rattle.std.proofs.Common.{◌≡◌, ℕ, Bool, true, false, not, ◌||◌, List, [], ◌∷◌, refl, ap, arith}
+use Rattle.std.proofs.Common.{◌≡◌, ℕ, Bool, true, false, not, List, [], ◌∷◌, refl, ap, arith, true≢false}
 use Rattle.std.specs.List.{list_all}
 use Rattle.std.proofs.lemmas.Bool.{or_parts}
 use Rattle.euler_operators.specs.declared.Plane.{Plane}
@@ -29,10 +29,18 @@ module _ (M : Model) (p : Plane) where
   unfolding is_crossed
   none_meet f e = (or_parts (some_meet M p (places M p f)) (not (list_all (is_up_and_down M p) (sorted_pairs M p f))) e).0
 
+  -- and each pair of them is one up and one down
+  all_differ : (f : ℕ) → is_crossed M p f ≡ false → list_all (is_up_and_down M p) (sorted_pairs M p f) ≡ true
+  unfolding is_crossed
+  all_differ f e = told (list_all (is_up_and_down M p) (sorted_pairs M p f)) (or_parts (some_meet M p (places M p f)) (not (list_all (is_up_and_down M p) (sorted_pairs M p f))) e).1 where
+    told : (b : Bool) → not b ≡ false → b ≡ true
+    told true e = refl
+    told false e = absurd (true≢false e)
+
   all_paired : (fs : List ℕ) → AreWholeFaces M p fs → ((f : ℕ) → IsIn f fs → is_crossed M p f ≡ false) → AllCanBePaired M p fs
   all_paired [] whole uncrossed = tt
   all_paired (f ∷ fs) whole uncrossed =
-      (record { there = whole.0; whole = whole.1; apart = none_meet f (uncrossed f (omega (arith, tick_same f))) }, all_paired fs whole.2 (λ g i. uncrossed g (omega (arith, i))))
+      (record { there = whole.0; whole = whole.1; apart = none_meet f (uncrossed f (omega (arith, tick_same f))); up_and_down = all_differ f (uncrossed f (omega (arith, tick_same f))) }, all_paired fs whole.2 (λ g i. uncrossed g (omega (arith, i))))
 
   pub can_be_paired : (s : ℕ) → Sound M → CanBeCut M s p → AllCanBePaired M p (straddling_faces M p s)
   can_be_paired s sound begins =

@@ -1,9 +1,10 @@
 -- Faces with the pairs of their cut places, as the code has them.
-use Rattle.std.specs.Prelude.{◌≡◌, ℕ, false, List, [], ◌∷◌, map}
+use Rattle.std.specs.Prelude.{◌≡◌, ℕ, true, false, List, [], ◌∷◌, map}
+use Rattle.std.specs.List.{list_all}
 use Rattle.euler_operators.specs.declared.Plane.{Plane}
 use Rattle.euler_operators.specs.Model.{Model}
 use Rattle.euler_operators.specs.Sound.{Has}
-use Rattle.shapes.specs.split.Places.{places, place_pairs, some_meet}
+use Rattle.shapes.specs.split.Places.{places, place_pairs, some_meet, is_up_and_down, sorted_pairs}
 use Rattle.shapes.specs.split.Sides.{straddling_faces}
 use Rattle.split_checks.specs.cut_places.Places.{IsWholeFace}
 use Rattle.split_drawing.specs.face_drawing.Codes.{codes}
@@ -21,11 +22,12 @@ pairs_in M p fs = map (λ f. (f, place_pairs M p f)) fs
 abbrev pub paired_faces : Model → Plane → ℕ → List (ℕ × List (ℕ × ℕ))
 paired_faces M p s = pairs_in M p (straddling_faces M p s)
 
--- the cut places of a face have different points on the lattice
+-- the cut places of a face have different points on the lattice, and each pair of them is one up and one down
 pub record CanBePaired (M : Model) (p : Plane) (f : ℕ) : Type 0 where
   pub there : Has M.faces f
   pub whole : IsWholeFace M p f
   pub apart : some_meet M p (places M p f) ≡ false
+  pub up_and_down : list_all (is_up_and_down M p) (sorted_pairs M p f) ≡ true
 
 abbrev pub AllCanBePaired : Model → Plane → List ℕ → Type 0
 AllCanBePaired M p [] = Unit {0}

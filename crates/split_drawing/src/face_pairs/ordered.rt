@@ -1,5 +1,5 @@
 //! The pairs of the cut places of one face.
-ghost use Rattle.std.specs.Prelude.{◌≡◌, true, map, IfOk};
+ghost use Rattle.std.specs.Prelude.{◌≡◌, ◌∷◌, [], true, map, IfOk};
 ghost use Rattle.euler_operators.specs.HalfEdge.{code};
 ghost use Rattle.euler_operators.specs.Model.{has_half};
 ghost use Rattle.split_checks.specs.cut_places.Walks.{AreThere};
@@ -36,6 +36,15 @@ fn up_first(arena: &Arena, plane: Plane, first: HalfEdge, second: HalfEdge) -> P
     }
 }
 
+/// A pair alone.
+fn one_pair(alloc: Global, pair: Pair) -> Result<Vec<Pair>, AllocError>
+    ensures { IfOk result (λ pairs. pairs.items ≡ pair ∷ []) }
+{
+    let mut pairs = Vec::new(alloc);
+    pairs.push(pair)?;
+    Ok(pairs)
+}
+
 /// Places two by two, in their order, each pair with its up place first.
 fn pairs_of(
     alloc: Global,
@@ -59,7 +68,8 @@ fn pairs_of(
     Ok(pairs)
 }
 
-/// The pairs of the cut places of face f, each with its up place first, in the order of their points.
+/// The pairs of the cut places of face f, each with its up place first, in the order of their points. Two places are one pair, for
+/// which their points needn't be looked at.
 pub(crate) fn place_pairs(
     alloc: Global,
     arena: &Arena,
@@ -72,6 +82,9 @@ pub(crate) fn place_pairs(
     ensures { IfOk result (λ pairs. map codes pairs.items ≡ place_pairs arena.now.model plane f) }
 {
     let met = places(alloc, arena, plane, f)?;
+    if let [first, second] = met.as_slice() {
+        return one_pair(alloc, up_first(arena, plane, *first, *second));
+    }
     match in_order(alloc, arena, plane, met)? {
         Some(order) => pairs_of(alloc, arena, plane, order),
         None => unreachable!(),
