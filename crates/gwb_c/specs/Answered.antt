@@ -3,7 +3,7 @@ use Rattle.std.specs.Prelude.{ℕ, ℤ, ◌+ℤ◌, ◌*ℤ◌, cond, Option, So
 use Rattle.euler_operators.specs.declared.Plane.{Plane}
 use Rattle.solid_listing.specs.declared.reply.Reply.TheVariants as reply
 use Rattle.script_running.specs.declared.script_judging.judging.Answer.{Answer}
-use Rattle.script_running.specs.declared.script_judging.judging.Answer.TheVariants.{Silent, Reply as Told, Listing}
+use Rattle.script_running.specs.declared.script_judging.judging.Answer.TheVariants.{Reply as Told}
 use Rattle.gwb_c.specs.declared.answers.Refused.{Refused}
 use Rattle.gwb_c.specs.declared.answers.Counts.{Counts}
 use Rattle.gwb_c.specs.declared.answers.Wide.{Wide}
@@ -11,63 +11,28 @@ use Rattle.gwb_c.specs.declared.answers.PlaneRow.{PlaneRow}
 
 -- what a refusal names, if the answer is one
 abbrev pub refusal_in : Answer → Option Refused
-refusal_in Silent = None
-refusal_in (Told reply.Done) = None
 refusal_in (Told (reply.Refused n x)) = Some (record { number = n; value = x })
-refusal_in (Told (reply.Fault n)) = None
-refusal_in (Told reply.Memory) = None
-refusal_in (Told (reply.Plane p flat)) = None
-refusal_in (Told (reply.Volume n)) = None
-refusal_in (Told (reply.Count ns)) = None
-refusal_in Listing = None
+refusal_in _ = None
 
 -- the number of a fault
 abbrev pub fault_in : Answer → Option ℕ
-fault_in Silent = None
-fault_in (Told reply.Done) = None
-fault_in (Told (reply.Refused n x)) = None
 fault_in (Told (reply.Fault n)) = Some n
-fault_in (Told reply.Memory) = None
-fault_in (Told (reply.Plane p flat)) = None
-fault_in (Told (reply.Volume n)) = None
-fault_in (Told (reply.Count ns)) = None
-fault_in Listing = None
+fault_in _ = None
 
 -- the words of a count
 abbrev pub counts_in : Answer → Option Counts
-counts_in Silent = None
-counts_in (Told reply.Done) = None
-counts_in (Told (reply.Refused n x)) = None
-counts_in (Told (reply.Fault n)) = None
-counts_in (Told reply.Memory) = None
-counts_in (Told (reply.Plane p flat)) = None
-counts_in (Told (reply.Volume n)) = None
 counts_in (Told (reply.Count ns)) = Some (record { vertices = get_or ns 0 (pos 0); edges = get_or ns 1 (pos 0); faces = get_or ns 2 (pos 0); rings = get_or ns 3 (pos 0); sum = get_or ns 4 (pos 0) })
-counts_in Listing = None
+counts_in _ = None
 
 -- six times a volume
 abbrev pub volume_in : Answer → Option ℤ
-volume_in Silent = None
-volume_in (Told reply.Done) = None
-volume_in (Told (reply.Refused n x)) = None
-volume_in (Told (reply.Fault n)) = None
-volume_in (Told reply.Memory) = None
-volume_in (Told (reply.Plane p flat)) = None
 volume_in (Told (reply.Volume n)) = Some n
-volume_in (Told (reply.Count ns)) = None
-volume_in Listing = None
+volume_in _ = None
 
 -- a plane, and 1 where its face is flat, else 0
 abbrev pub plane_in : Answer → Option (Plane × ℕ)
-plane_in Silent = None
-plane_in (Told reply.Done) = None
-plane_in (Told (reply.Refused n x)) = None
-plane_in (Told (reply.Fault n)) = None
-plane_in (Told reply.Memory) = None
 plane_in (Told (reply.Plane p flat)) = Some (p, cond flat 1 0)
-plane_in (Told (reply.Volume n)) = None
-plane_in (Told (reply.Count ns)) = None
-plane_in Listing = None
+plane_in _ = None
 
 -- the number of two halves, whose upper one has the sign
 abbrev pub whole : Wide → ℤ

@@ -45,14 +45,24 @@ pub(crate) fn made(alloc: Global) -> Option<Box<Slot, Global>>
     .ok()
 }
 
+/// Takes the session and the larger command that was put aside out of the slot. Both are there.
+fn taken(slot: &mut Slot) -> (Session, Larger)
+    requires session { IsSome slot.old.session }
+    requires later { IsSome slot.old.later }
+    ensures session { slot.old.session ≡ Some result.0 }
+    ensures later { slot.old.later ≡ Some result.1 }
+{
+    let session = slot.session.take().unwrap();
+    (session, slot.later.take().unwrap())
+}
+
 /// Carries out the larger command that was put aside. There is a session.
 fn finish(alloc: Global, slot: &mut Slot)
     requires session { IsSome slot.old.session }
     requires later { IsSome slot.old.later }
     ensures { Slot_finishes slot.old slot.new }
 {
-    let session = slot.session.take().unwrap();
-    let larger = slot.later.take().unwrap();
+    let (session, larger) = taken(slot);
     let (session, answer) = carry_out(alloc, session, larger);
     slot.session = Some(session);
     slot.answer = answer;

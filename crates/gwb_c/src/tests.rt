@@ -60,39 +60,57 @@ fn split_through_a_hole(rt: HostRuntime) -> Result<(), Fail> {
 /// A block cut in two: solid 2 is its upper part, whose cap is face 15.
 const HALVED: &[u8] = b"block 1 0 0 0 4 4 4\nsplit 1 0 0 1 -2 2";
 
+fn tells_fresh_faces(rt: &impl Abort, alloc: Global, gwb: &mut Gwb) {
+    let mut faces = Range { first: 0, last: 0 };
+    same(rt, gwb_fresh(alloc, gwb, 1, &mut faces), 1);
+    same(rt, (faces.first, faces.last), (7, 15));
+}
+
+fn tells_a_volume(rt: &impl Abort, alloc: Global, gwb: &mut Gwb) {
+    let mut volume = Wide { high: 7, low: 7 };
+    same(rt, gwb_line(alloc, gwb, b"volume 2"), 6);
+    same(rt, gwb_last_volume(alloc, gwb, &mut volume), 1);
+    same(rt, (volume.high, volume.low), (0, 192));
+}
+
+fn tells_a_plane(rt: &impl Abort, alloc: Global, gwb: &mut Gwb) {
+    let none = Wide { high: 7, low: 7 };
+    let mut plane = PlaneRow {
+        a: none,
+        b: none,
+        c: none,
+        d: none,
+        flat: 7,
+    };
+    same(rt, gwb_last_plane(alloc, gwb, &mut plane), 0);
+    same(rt, plane.flat, 7);
+    same(rt, gwb_line(alloc, gwb, b"plane 15"), 5);
+    same(rt, gwb_last_plane(alloc, gwb, &mut plane), 1);
+    same(rt, (plane.a.high, plane.a.low), (0, 0));
+    same(rt, (plane.c.high, plane.c.low), (-1, u64::MAX - 31));
+    same(rt, (plane.d.high, plane.d.low), (0, 64));
+    same(rt, plane.flat, 1);
+}
+
+fn tells_a_refusal(rt: &impl Abort, alloc: Global, gwb: &mut Gwb) {
+    let mut refused = Refused {
+        number: 0,
+        value: 0,
+    };
+    same(rt, gwb_line(alloc, gwb, b"kvfs 2"), 2);
+    same(rt, gwb_last_refusal(alloc, gwb, &mut refused), 1);
+    same(rt, (refused.number, refused.value), (12, 2));
+}
+
 #[test]
 fn answers_as_values(rt: HostRuntime) -> Result<(), Fail> {
     let alloc = rt.alloc();
     let mut gwb = opened(&rt, alloc);
     told(&rt, alloc, &mut gwb, HALVED)?;
-    let mut faces = Range { first: 0, last: 0 };
-    same(&rt, gwb_fresh(alloc, &mut gwb, 1, &mut faces), 1);
-    same(&rt, (faces.first, faces.last), (7, 15));
-    let mut volume = Wide { high: 7, low: 7 };
-    same(&rt, gwb_line(alloc, &mut gwb, b"volume 2"), 6);
-    same(&rt, gwb_last_volume(alloc, &mut gwb, &mut volume), 1);
-    same(&rt, (volume.high, volume.low), (0, 192));
-    let mut plane = PlaneRow {
-        a: volume,
-        b: volume,
-        c: volume,
-        d: volume,
-        flat: 7,
-    };
-    same(&rt, gwb_last_plane(alloc, &mut gwb, &mut plane), 0);
-    same(&rt, plane.flat, 7);
-    same(&rt, gwb_line(alloc, &mut gwb, b"plane 15"), 5);
-    same(&rt, gwb_last_plane(alloc, &mut gwb, &mut plane), 1);
-    same(&rt, (plane.a.high, plane.a.low), (0, 0));
-    same(&rt, (plane.c.high, plane.c.low), (-1, u64::MAX - 31));
-    same(&rt, (plane.d.high, plane.d.low, plane.flat), (0, 64, 1));
-    let mut refused = Refused {
-        number: 0,
-        value: 0,
-    };
-    same(&rt, gwb_line(alloc, &mut gwb, b"kvfs 2"), 2);
-    same(&rt, gwb_last_refusal(alloc, &mut gwb, &mut refused), 1);
-    same(&rt, (refused.number, refused.value), (12, 2));
+    tells_fresh_faces(&rt, alloc, &mut gwb);
+    tells_a_volume(&rt, alloc, &mut gwb);
+    tells_a_plane(&rt, alloc, &mut gwb);
+    tells_a_refusal(&rt, alloc, &mut gwb);
     gwb_close(alloc, &mut gwb);
     Ok(())
 }
@@ -153,23 +171,28 @@ fn longest_line(rt: HostRuntime) -> Result<(), Fail> {
     Ok(())
 }
 
+fn says_it_is_closed(rt: &impl Abort, alloc: Global, gwb: &mut Gwb) {
+    let mut number = 7;
+    same(rt, gwb_line(alloc, gwb, b"list"), 9);
+    same(rt, gwb_number_after(alloc, gwb, 0, 0, &mut number), 9);
+    same(rt, gwb_last_fault(alloc, gwb, &mut number), 9);
+    same(rt, number, 7);
+}
+
+fn tells_no_length(rt: &impl Abort, alloc: Global, gwb: &mut Gwb) {
+    let mut found = [7];
+    same(rt, gwb_half_edges(alloc, gwb, 1, &mut found), usize::MAX);
+    same(rt, found[0], 7);
+    same(rt, gwb_depth(alloc, gwb), usize::MAX);
+}
+
 #[test]
 fn closed_handle(rt: HostRuntime) {
     let alloc = rt.alloc();
     let mut gwb = opened(&rt, alloc);
-    assert!(rt; !gwb_open(alloc, &mut gwb));
+    same(&rt, gwb_open(alloc, &mut gwb), false);
     gwb_close(alloc, &mut gwb);
-    let mut found = [7];
-    let mut number = 7;
-    same(&rt, gwb_line(alloc, &mut gwb, b"list"), 9);
-    same(&rt, gwb_number_after(alloc, &mut gwb, 0, 0, &mut number), 9);
-    same(&rt, gwb_last_fault(alloc, &mut gwb, &mut number), 9);
-    same(
-        &rt,
-        gwb_half_edges(alloc, &mut gwb, 1, &mut found),
-        usize::MAX,
-    );
-    same(&rt, (number, found), (7, [7]));
-    same(&rt, gwb_depth(alloc, &mut gwb), usize::MAX);
+    says_it_is_closed(&rt, alloc, &mut gwb);
+    tells_no_length(&rt, alloc, &mut gwb);
     gwb_close(alloc, &mut gwb);
 }
