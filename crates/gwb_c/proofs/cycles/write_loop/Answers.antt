@@ -1,10 +1,6 @@
-use Rattle.std.proofs.Common.{◌∙◌, ap, subst, length, ℕ, List}
 use Rattle.euler_operators.specs.HalfEdge.{code}
-use Rattle.euler_operators.specs.Rings.{rotate_to}
-use Rattle.euler_operators.proofs.Rotations.{rotate_to-rotates, length-rotate_to}
-use Rattle.euler_operators.specs.Model.{content, items_of}
+use Rattle.euler_operators.specs.Model.{content}
 use Rattle.solid_listing.proofs.Contents.{not_empty, told_there}
-use Rattle.gwb_c.specs.Handle.{laid_over}
 use Rattle.gwb_c.proofs.Numbers.{told_cycle, lone_items}
 use Rattle.gwb_c.proofs.Overlaid.{writes_none, writes_from}
 use Rattle.gwb_c.proofs.cycles.write_loop.Goals as goal

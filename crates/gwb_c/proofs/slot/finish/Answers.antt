@@ -1,6 +1,4 @@
 use Rattle.std.proofs.Common.{◌≡◌, Option, Some, refl, subst}
-use Rattle.undo_journal.specs.Machine.{Machine}
-use Rattle.script_running.specs.declared.script_judging.larger.Larger.{Larger}
 use Rattle.script_running.specs.script_judging.Judging.{Obeys}
 use Rattle.script_running.specs.script_judging.Settling.{spelled}
 use Rattle.gwb_c.proofs.slot.finish.Goals as goal
