@@ -90,6 +90,30 @@ head -c 67108864 /dev/zero | tr '\0' '#' | gwb; ended 'the longest script' 1; wr
 yes '' | head -c 67108864 | gwb; ended 'the most lines' 0; wrote 'the most lines' ''
 head -c 67108865 /dev/zero | tr '\0' '#' | gwb; ended 'a longer script' 3 'gwb: script too long'; wrote 'a longer script' ''
 yes '' | gwb; ended 'newlines for ever' 3 'gwb: script too long'; wrote 'newlines for ever' ''
+tr '\0' a < /dev/zero | gwb; ended 'a line for ever' 3 'gwb: script too long'; wrote 'a line for ever' ''
+
+# A script cut after each byte: the replies begin with those to its whole lines, and its last line is answered as if a newline ended it.
+printf 'block 1 0 0 0 4 4 4\ncount 1\nvolume 1\nplane 1\nplane 3\nlist\nundo\nlist\n' > "$dir/in"
+: > "$dir/whole"
+for n in $(seq 0 "$(wc -c < "$dir/in")"); do
+    head -c "$n" "$dir/in" > "$dir/cut"
+    { cat "$dir/cut"; echo; } | gwb; mv "$dir/out" "$dir/ended"; status=$(cat "$dir/status")
+    gwb < "$dir/cut"; ended "cut after $n bytes" "$status"; told "cut after $n bytes" "$dir/ended"
+    head -c "$(wc -c < "$dir/whole")" "$dir/out" | cmp -s - "$dir/whole"; same "whole lines of $n bytes" 0 $?
+    [ -n "$(tail -c 1 "$dir/cut")" ] || cp "$dir/out" "$dir/whole"
+done
+
+# Ten thousand commands, all of them undone and redone.
+{
+    printf 'mvfs 1 1 1 1 0 0 0\nmev @1 @1 1 2 1 0 0\n'
+    awk 'BEGIN { for (e = 2; e < 10000; e++) print "mev -" e - 1, "-" e - 1, e, e + 1, e, 0, 0 }'
+} > "$dir/line"
+{ cat "$dir/line"; echo list; } | gwb
+tail -n +10001 "$dir/out" > "$dir/listing"
+{ yes ok | head -n 20000; printf 'refused 25 0\nempty\n'; yes ok | head -n 10000; echo refused 26 0; cat "$dir/listing"; echo count 10000 9999 1 0 2; } \
+    > "$dir/wanted"
+{ cat "$dir/line"; yes undo | head -n 10001; echo list; yes redo | head -n 10001; echo list; echo count 1; } | gwb
+ended 'ten thousand commands' 1; told 'ten thousand commands' "$dir/wanted"
 
 # A person at a terminal sees each reply before the next command is typed.
 mkfifo "$dir/to" "$dir/from"
