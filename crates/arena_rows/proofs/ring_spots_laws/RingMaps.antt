@@ -4,9 +4,9 @@ use Rattle.std.proofs.lemmas.Bool.Decides.{eqb_tells}
 use Rattle.std.specs.FinMap.{get, insert, contains_key, empty}
 use Rattle.std.specs.FinMap as map
 use Rattle.std.specs.Ordering.{nat_cmp}
-use Rattle.raw_ring.specs.Rings.{Spot, RingMap, spot, awake, or_zero, of_spot, next_of, put_spot, with_spot, with_next, with_tail, with_room, spliced, ring_of_one}
+use Rattle.raw_ring.specs.Rings.{Spot, RingMap, spot, awake, or_zero, of_spot, next_of, put_spot, with_spot, with_next, with_tail, with_room, spliced}
 use Rattle.raw_ring.proofs.Mapping.{get-put}
-use Rattle.arena_rows.specs.ring_spots.Spots.{next, woken, asleep, map_spot, retailed, spliced_at}
+use Rattle.arena_rows.specs.ring_spots.Spots.{next, asleep, map_spot, retailed, spliced_at}
 
 pub get_spot : (m : RingMap) (c : ℕ) (s : Spot) → spot m c ≡ Some s → get m c ≡ Some (Some s)
 get_spot m c s e = go (get m c) e where

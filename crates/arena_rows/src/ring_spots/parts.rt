@@ -1,5 +1,5 @@
 //! Rings that are cut and joined, where the labels of the shorter part alone are written.
-ghost use Rattle.std.specs.Prelude.{◌≡◌, ◌≢◌, ℕ, ◌<◌, true, cond, nat_eq, length};
+ghost use Rattle.std.specs.Prelude.{◌≡◌, ◌≢◌, true};
 ghost use Rattle.std.specs.FinMap.{contains_key};
 ghost use Rattle.raw_ring.specs.Rings.{spot};
 ghost use Rattle.boundary_model.specs.Items.{IsIn};
