@@ -1,6 +1,7 @@
-//! Tests of the libraries: calls that no script makes, readers and writers that fail, and input without end.
+//! Tests of the libraries: calls that no script makes, and readers and writers that cut and fail.
 //!
-//! What a script can say is a file of `tests/scripts`, which `tests/scripts.py` runs on the built program.
+//! What a script can say is a file of `tests/scripts`, which `tests/scripts.py` runs on the built program; what a run meets there is
+//! tried by `tests/program.sh`.
 
 mod commands;
 mod runs;

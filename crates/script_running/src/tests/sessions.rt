@@ -1,5 +1,5 @@
-//! Operators without a script word, drafts, copies, and many commands.
-use euler_operators::{Corner, FaceList, HalfEdge, Kind, Op, Point, Why};
+//! Operators without a script word, and drafts.
+use euler_operators::{Corner, FaceList, HalfEdge, Op, Point, Refusal, Why};
 use solid_listing::write_listing;
 use std::alloc::Global;
 use std::process::Abort;
@@ -35,7 +35,7 @@ fn act(rt: &impl Abort, session: &mut Session, op: Op) {
     assert!(rt; session.act(op).is_ok());
 }
 
-fn undo(rt: &impl Abort, session: &mut Session) {
+pub fn undo(rt: &impl Abort, session: &mut Session) {
     assert!(rt; session.undo().is_ok());
 }
 
@@ -59,31 +59,40 @@ fn opened(session: Session) -> Result<Draft, Fail> {
     }
 }
 
-/// Whether the session's listing is this.
-fn lists(rt: &impl Abort, alloc: Global, session: &Session, wanted: &[u8]) -> Result<(), Fail> {
+/// Asserts what a session's listing is.
+fn lists(rt: &impl Abort, alloc: Global, session: &Session, wanted: &[u8]) {
     let mut out = Vec::new(alloc);
-    write_listing(session.arena(), &mut out)?;
-    assert_eq!(rt; out.as_slice(), wanted);
-    Ok(())
+    let told = write_listing(session.arena(), &mut out);
+    assert!(rt; told.is_ok());
+    assert!(rt; out.as_slice() == wanted);
+}
+
+/// Asserts that an operator is refused so.
+fn refused(rt: &impl Abort, session: &mut Session, op: Op, why: Why, number: u32) {
+    assert!(rt; is_refused(session.act(op), Refusal { why, number }));
 }
 
 /// Whether a call was refused so.
-fn refused(rt: &impl Abort, answer: Result<(), Failure>, why: Why, number: u32) {
+fn is_refused(answer: Result<(), Failure>, wanted: Refusal) -> bool {
     match answer {
-        Err(Failure::Refused(refusal)) => {
-            assert_eq!(rt; refusal.why, why);
-            assert_eq!(rt; refusal.number, number);
-        }
-        _ => assert!(rt; false),
+        Err(Failure::Refused(refusal)) => refusal == wanted,
+        _ => false,
     }
 }
 
-fn faces(alloc: Global, numbers: &[u32]) -> Result<FaceList, Fail> {
+/// Asserts that a session has as many commands, and that the last one's record has as many operators each way.
+pub fn has_record(rt: &impl Abort, session: &Session, depth: usize, length: usize) {
+    assert!(rt; session.depth() == depth && depth > 0);
+    let record = session.record(depth - 1);
+    assert!(rt; record.forward.len() == length && record.back.len() == length);
+}
+
+fn faces(rt: &impl Abort, alloc: Global, numbers: &[u32]) -> FaceList {
     let mut list = FaceList::new(alloc);
     for number in numbers {
-        list.push(*number)?;
+        assert!(rt; list.push(*number).is_ok());
     }
-    Ok(list)
+    list
 }
 
 /// A session with two solids of one vertex each.
@@ -95,25 +104,37 @@ fn two_points(rt: &impl Abort, alloc: Global) -> Result<Session, Fail> {
     Ok(session)
 }
 
+/// The part of solid 1 with these faces is made solid 3.
+fn part(rt: &impl Abort, alloc: Global, numbers: &[u32]) -> Op {
+    Op::Part(1, 3, faces(rt, alloc, numbers))
+}
+
+/// Asserts that a part of solid 1 with these faces is refused.
+fn bad_part(rt: &impl Abort, alloc: Global, session: &mut Session, numbers: &[u32]) {
+    refused(rt, session, part(rt, alloc, numbers), Why::BadPart, 1);
+}
+
+const PARTED: &[u8] =
+    b"solid 1\nsolid 3\nface 1 1 1\nface 2 3 2\nloop 1 at 1\nloop 2 at 2\nvertex 1 0 0 0\nvertex 2 1 1 1\n";
+
 #[test]
 fn merge_and_part(rt: HostRuntime) -> Result<(), Fail> {
     let alloc = rt.alloc();
     let mut session = two_points(&rt, alloc)?;
-    refused(&rt, session.act(Op::Merge(1, 1)), Why::SameSolid, 1);
+    refused(&rt, &mut session, Op::Merge(1, 1), Why::SameSolid, 1);
     act(&rt, &mut session, Op::Merge(1, 2));
-    let nothing = Op::Part(1, 3, faces(alloc, &[])?);
-    let all = Op::Part(1, 3, faces(alloc, &[1, 2])?);
-    let second = Op::Part(1, 3, faces(alloc, &[2])?);
-    refused(&rt, session.act(nothing), Why::BadPart, 1);
-    refused(&rt, session.act(all), Why::BadPart, 1);
-    act(&rt, &mut session, second);
-    lists(
-        &rt,
-        alloc,
-        &session,
-        b"solid 1\nsolid 3\nface 1 1 1\nface 2 3 2\nloop 1 at 1\nloop 2 at 2\nvertex 1 0 0 0\nvertex 2 1 1 1\n",
-    )
+    bad_part(&rt, alloc, &mut session, &[]);
+    bad_part(&rt, alloc, &mut session, &[1, 2]);
+    act(&rt, &mut session, part(&rt, alloc, &[2]));
+    lists(&rt, alloc, &session, PARTED);
+    Ok(())
 }
+
+const RING_2: &[u8] =
+    b"solid 1\nface 1 1 1 2\nloop 1 at 1\nloop 2 at 2\nvertex 1 0 0 0\nvertex 2 1 1 1\n";
+
+const RING_1: &[u8] =
+    b"solid 1\nface 1 1 2 1\nloop 1 at 1\nloop 2 at 2\nvertex 1 0 0 0\nvertex 2 1 1 1\n";
 
 #[test]
 fn a_ring_made_outer(rt: HostRuntime) -> Result<(), Fail> {
@@ -121,25 +142,20 @@ fn a_ring_made_outer(rt: HostRuntime) -> Result<(), Fail> {
     let mut session = two_points(&rt, alloc)?;
     act(&rt, &mut session, Op::Merge(1, 2));
     act(&rt, &mut session, Op::Kfmrh(1, 2));
-    refused(&rt, session.act(Op::Outer(1, 1)), Why::NotRing, 1);
+    refused(&rt, &mut session, Op::Outer(1, 1), Why::NotRing, 1);
     act(&rt, &mut session, Op::Outer(2, 1));
-    lists(
-        &rt,
-        alloc,
-        &session,
-        b"solid 1\nface 1 1 2 1\nloop 1 at 1\nloop 2 at 2\nvertex 1 0 0 0\nvertex 2 1 1 1\n",
-    )?;
+    lists(&rt, alloc, &session, RING_1);
     undo(&rt, &mut session);
-    lists(
-        &rt,
-        alloc,
-        &session,
-        b"solid 1\nface 1 1 1 2\nloop 1 at 1\nloop 2 at 2\nvertex 1 0 0 0\nvertex 2 1 1 1\n",
-    )
+    lists(&rt, alloc, &session, RING_2);
+    Ok(())
 }
 
 const WIRE: &[u8] =
     b"solid 1\nface 1 1 1\nloop 1 +1 -1\nedge 1 1 2\nvertex 1 1 0 0\nvertex 2 2 0 0\n";
+
+fn step(rt: &impl Abort, draft: &mut Draft, op: Op) {
+    assert!(rt; draft.step(op).is_ok());
+}
 
 #[test]
 fn a_draft_abandoned(rt: HostRuntime) -> Result<(), Fail> {
@@ -148,64 +164,35 @@ fn a_draft_abandoned(rt: HostRuntime) -> Result<(), Fail> {
     let mut draft = opened(session)?;
     let unknown = draft.step(Op::Kvfs(9));
     let lone = Corner::Lone(1);
-    let step = draft.step(Op::Mev(lone, lone, plus(5), 5, Point::default()));
+    step(
+        &rt,
+        &mut draft,
+        Op::Mev(lone, lone, plus(5), 5, Point::default()),
+    );
     let mut session = draft.abandon();
-    refused(&rt, unknown, Why::NoSolid, 9);
-    assert!(rt; step.is_ok());
+    let no_solid = Refusal {
+        why: Why::NoSolid,
+        number: 9,
+    };
+    assert!(rt; is_refused(unknown, no_solid));
     redo(&rt, &mut session);
-    lists(&rt, rt.alloc(), &session, WIRE)
+    lists(&rt, rt.alloc(), &session, WIRE);
+    Ok(())
 }
 
-/// Whether a command's record has as many operators each way.
-fn has_lengths(session: &Session, i: usize, length: usize) -> bool {
-    if i >= session.depth() {
-        return false;
-    }
-    let record = session.record(i);
-    record.forward.len() == length && record.back.len() == length
-}
-
+/// An empty command, and one of two operators.
 #[test]
 fn drafts_committed(rt: HostRuntime) -> Result<(), Fail> {
-    let empty = opened(Session::new(rt.alloc())?)?;
-    let mut draft = opened(empty.commit())?;
-    let first = draft.step(command(1));
-    let second = draft.step(command(2));
+    let session = opened(Session::new(rt.alloc())?)?.commit();
+    has_record(&rt, &session, 1, 0);
+    let mut draft = opened(session)?;
+    step(&rt, &mut draft, command(1));
+    step(&rt, &mut draft, command(2));
     let mut session = draft.commit();
-    assert!(rt; first.is_ok() && second.is_ok());
-    assert_eq!(rt; session.depth(), 2);
-    assert!(rt; has_lengths(&session, 0, 0) && has_lengths(&session, 1, 2));
+    has_record(&rt, &session, 2, 2);
     undo(&rt, &mut session);
-    lists(&rt, rt.alloc(), &session, b"empty\n")?;
+    lists(&rt, rt.alloc(), &session, b"empty\n");
     redo(&rt, &mut session);
-    lists(&rt, rt.alloc(), &session, WIRE)
-}
-
-#[test]
-fn a_copy_lists_the_same(rt: HostRuntime) -> Result<(), Fail> {
-    let session = line(&rt, rt.alloc(), 64)?;
-    let copy = session.arena().copy(rt.alloc())?;
-    let mut out = Vec::new(rt.alloc());
-    write_listing(&copy, &mut out)?;
-    lists(&rt, rt.alloc(), &session, out.as_slice())
-}
-
-#[test]
-fn many_commands(rt: HostRuntime) -> Result<(), Fail> {
-    let mut session = line(&rt, rt.alloc(), 10_000)?;
-    for _ in 0..10_000 {
-        undo(&rt, &mut session);
-    }
-    assert_eq!(rt; (session.depth(), session.ahead()), (0, 10_000));
-    lists(&rt, rt.alloc(), &session, b"empty\n")?;
-    for _ in 0..10_000 {
-        redo(&rt, &mut session);
-    }
-    let arena = session.arena();
-    assert_eq!(rt;
-        (arena.greatest(Kind::Solid), arena.greatest(Kind::Edge)),
-        (1, 9_999)
-    );
-    assert_eq!(rt; arena.greatest(Kind::Vertex), 10_000);
+    lists(&rt, rt.alloc(), &session, WIRE);
     Ok(())
 }

@@ -1,4 +1,4 @@
-//! Readers and writers over memory that cut, fail or never end.
+//! Readers and writers over memory that cut and fail.
 use std::io::{self, ErrorKind, Read, Write};
 
 /// A reader of a few bytes at a time, which fails after so many reads.
@@ -41,22 +41,6 @@ impl Read for Interrupted<'_> {
         buf[..n].copy_from_slice(&self.bytes[..n]);
         self.bytes = &self.bytes[n..];
         Ok(n)
-    }
-}
-
-/// A reader of one byte over and over, so many times.
-#[derive(Drop)]
-pub struct Repeated {
-    pub byte: u8,
-    pub left: u64,
-}
-
-impl Read for Repeated {
-    fn read(&mut self, buf: &mut [u8]) -> io::Result<usize> {
-        let n = self.left.min(buf.len() as u64);
-        self.left -= n;
-        buf[..n as usize].fill(self.byte);
-        Ok(n as usize)
     }
 }
 
