@@ -8,7 +8,8 @@ use Rattle.euler_operators.specs.Effect.{effect, inverse}
 use Rattle.euler_laws.specs.Laws.{effects, AreAccepted}
 use Rattle.euler_conditions.specs.Ready.{IsReady, HasRoomFor}
 use Rattle.undo_journal.specs.declared.record.Record.{Record}
-use Rattle.undo_journal.specs.Machine.{Machine, DraftState}
+use Rattle.undo_journal.specs.Machine.{Machine}
+use Rattle.undo_journal.specs.Journal.{Journal, DraftJournal}
 
 -- the models behind M, the nearest first: records that lead to it are taken back, the last one first
 abbrev pub models_back : Model → List Record → List Model
@@ -30,6 +31,9 @@ future_of M records place = models_ahead M (drop place records)
 -- the machine that the model held, the records and the place among them stand for
 abbrev pub machine_of : Model → List Record → ℕ → Machine
 machine_of M records place = record { past = past_of M records place; present = M; future = future_of M records place }
+
+abbrev pub journal_of : Model → List Record → ℕ → Journal
+journal_of M records place = record { machine = machine_of M records place; records = records }
 
 -- the record takes one model to another, and back, each operator accepted in its turn
 pub record Leads (M : Model) (r : Record) (N : Model) : Type 0 where
@@ -74,8 +78,8 @@ pub record IsKept (s : Store) (records : List Record) (place : ℕ) : Type 0 whe
 abbrev pub opened : Model → List Op → Model
 opened M back = effects M (reverse back)
 
-abbrev pub draft_of : Model → List Record → ℕ → List Op → DraftState
-draft_of M records place back = record { session = machine_of (opened M back) records place; model = M }
+abbrev pub draft_of : Model → List Record → ℕ → List Op → List Op → DraftJournal
+draft_of M records place forward back = record { session = journal_of (opened M back) records place; model = M; forward = forward; back = back }
 
 -- the command that the steps of a draft make
 abbrev pub command_of : List Op → List Op → Record

@@ -1,5 +1,6 @@
 pub mod Machine
 pub mod Recorded
+pub mod Journal
 pub mod Histories
 pub mod Laws
 pub mod Held

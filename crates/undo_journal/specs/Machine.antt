@@ -85,6 +85,3 @@ abandon d = d.session
 -- a code, by which a machine can be what contracts see of a session
 abbrev pub coded_machine : Coded Machine
 coded_machine = code_by (List Model × (Model × List Model)) (coded× (coded_list coded_model) (coded× coded_model (coded_list coded_model))) (λ s. (s.past, (s.present, s.future))) (λ t. record { past = t.0; present = t.1.0; future = t.1.1 }) (λ _. refl)
-
-abbrev pub coded_draft : Coded DraftState
-coded_draft = code_by (Machine × Model) (coded× coded_machine coded_model) (λ d. (d.session, d.model)) (λ t. record { session = t.0; model = t.1 }) (λ _. refl)

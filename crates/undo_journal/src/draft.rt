@@ -2,7 +2,9 @@
 ghost use Rattle.std.specs.Prelude.{◌≡◌, ◌↔◌, OnOk, OnErr, IfOk, IfErr, None, Some, Err};
 ghost use Rattle.euler_conditions.specs.Ready.{IsReady};
 ghost use Rattle.euler_operators.specs.Sound.{Sound};
-ghost use Rattle.undo_journal.specs.Machine.{held, open_draft, draft_step, commit, abandon};
+ghost use Rattle.undo_journal.specs.Machine.{held};
+ghost use Rattle.undo_journal.specs.Journal.{new_draft, after_step, after_commit};
+ghost use Rattle.undo_journal.specs.Held.{RecordsHaveRoom, AllHaveRoom};
 ghost use Rattle.undo_journal.specs.Histories.{Follows, IsConsistent};
 ghost use Rattle.euler_operators.specs.Conditions.{first_false};
 ghost use Rattle.euler_operators.specs.declared.Refusal.{Refusal};
@@ -30,15 +32,15 @@ pub struct Draft {
 impl Model for Draft {
     ghost use Rattle.std.specs.Prelude.{◌<◌, vec_len};
     ghost use Rattle.std.specs.Vec.{vec_capacity};
-    ghost use Rattle.undo_journal.specs.Machine.{DraftState, coded_draft};
+    ghost use Rattle.undo_journal.specs.Journal.{DraftJournal, coded_draft_journal};
 
-    ghost Value = { DraftState };
+    ghost Value = { DraftJournal };
 
-    ghost coded = { coded_draft };
+    ghost coded = { coded_draft_journal };
 
     ghost use Rattle.undo_journal.specs.Held.{draft_of, IsDrafted};
 
-    ghost view = { λ d. draft_of d.arena.model d.records.items d.place d.back.items };
+    ghost view = { λ d. draft_of d.arena.model d.records.items d.place d.forward.items d.back.items };
 
     ghost invariant = { λ d. (vec_len d.records < vec_capacity d.records) × IsDrafted d.arena d.records.items d.place d.forward.items d.back.items };
 }
@@ -47,7 +49,7 @@ impl Draft {
     /// Opens a draft of a command, in which the session's model is changed. Where memory is refused the session comes back as
     /// it was.
     pub fn open(session: Session) -> Result<Draft, (Session, AllocError)>
-        ensures ok { IfOk result (λ draft. draft ≡ open_draft session) }
+        ensures ok { IfOk result (λ draft. draft ≡ new_draft session) }
         ensures err { IfErr result (λ e. e.0 ≡ session) }
     {
         let mut session = session;
@@ -70,10 +72,13 @@ impl Draft {
         })
     }
 
-    /// The arena of the draft's model.
+    /// The arena of the draft's model. Each number that a record, a step or an inverse of one names has its room there.
     pub fn arena(&self) -> &Arena
         ensures model { result.now.model ≡ self.now.model }
         ensures ready { IsReady result.now }
+        ensures room { RecordsHaveRoom result.now self.now.session.records }
+        ensures forward_room { AllHaveRoom result.now self.now.forward }
+        ensures back_room { AllHaveRoom result.now self.now.back }
     {
         &self.arena
     }
@@ -81,9 +86,9 @@ impl Draft {
     /// The session of a draft is as `Session::stays_consistent` says, and accepted operators make the draft's model of the model that it
     /// holds. It does nothing: its contract is what is proved.
     pub fn stays_consistent(&self)
-        ensures session { IsConsistent self.now.session }
+        ensures session { IsConsistent self.now.session.machine }
         ensures model { Sound self.now.model }
-        ensures follows { Follows (held self.now.session) self.now.model }
+        ensures follows { Follows (held self.now.session.machine) self.now.model }
     {
         let _ = &self.arena;
     }
@@ -92,7 +97,7 @@ impl Draft {
     /// the change. Where memory is refused nothing has changed, and the draft goes on.
     pub fn step_accepted(&mut self, op: Op) -> Result<(), AllocError>
         requires { first_false self.old.model op ≡ None }
-        ensures ok { OnOk result (self.new ≡ draft_step self.old op) }
+        ensures ok { OnOk result (self.new ≡ after_step self.old op) }
         ensures err { OnErr result (self.new ≡ self.old) }
     {
         step(
@@ -107,7 +112,7 @@ impl Draft {
     /// One operator as a step. Where one of its conditions is false the first such is named, with its value; where memory is
     /// refused `Memory` is answered. Then nothing has changed, and the draft goes on.
     pub fn step(&mut self, op: Op) -> Result<(), Failure>
-        ensures ok { OnOk result ((first_false self.old.model op ≡ None) × (self.new ≡ draft_step self.old op)) }
+        ensures ok { OnOk result ((first_false self.old.model op ≡ None) × (self.new ≡ after_step self.old op)) }
         ensures refused { (refusal : Refusal) → ((result ≡ Err (Failure.Refused refusal)) ↔ (first_false self.old.model op ≡ Some refusal)) }
         ensures err { OnErr result (self.new ≡ self.old) }
     {
@@ -122,7 +127,7 @@ impl Draft {
 
     /// Makes the steps one command, also where there was none. It drops the models ahead. It takes no memory.
     pub fn commit(self) -> Session
-        ensures { result ≡ commit self }
+        ensures { result ≡ after_commit self }
     {
         let Draft {
             alloc,
@@ -149,7 +154,7 @@ impl Draft {
 
     /// Takes the steps back, the last first. The models ahead stand. It takes no memory.
     pub fn abandon(self) -> Session
-        ensures { result ≡ abandon self }
+        ensures { result ≡ self.session }
     {
         let Draft {
             alloc,

@@ -1,13 +1,14 @@
 //! A session: one arena, the records of the commands, and the place among them.
-ghost use Rattle.std.specs.Prelude.{◌≡◌, ◌↔◌, ◌+◌, ◌<◌, OnOk, OnErr, IfOk, None, Some, Err};
+ghost use Rattle.std.specs.Prelude.{◌≡◌, ◌↔◌, ◌+◌, ◌<◌, OnOk, OnErr, IfOk, None, Some, Err, slice_index_or};
 ghost use Rattle.euler_conditions.specs.Ready.{IsReady};
-ghost use Rattle.undo_journal.specs.Machine.{start, held, depth, ahead, act_refusal, undo_refusal, redo_refusal};
+ghost use Rattle.undo_journal.specs.Machine.{held, depth, ahead, act_refusal, undo_refusal, redo_refusal};
+ghost use Rattle.undo_journal.specs.Journal.{new_journal, after_act, after_undo, after_redo};
+ghost use Rattle.undo_journal.specs.Held.{RecordsHaveRoom};
 ghost use Rattle.undo_journal.specs.Recorded.{model_at};
 ghost use Rattle.undo_journal.specs.Histories.{IsConsistent};
 ghost use Rattle.euler_laws.specs.Laws.{effects, AreAccepted};
 ghost use Rattle.euler_operators.specs.Conditions.{verdict};
 ghost use Rattle.euler_operators.specs.declared.Refusal.{Refusal};
-ghost use Rattle.undo_journal.specs.Machine as machine;
 
 use crate::record::{OpList, Record};
 use crate::steps::{advance, replay_all};
@@ -33,15 +34,15 @@ pub struct Session {
 }
 
 impl Model for Session {
-    ghost use Rattle.undo_journal.specs.Machine.{Machine, coded_machine};
+    ghost use Rattle.undo_journal.specs.Journal.{Journal, coded_journal};
 
-    ghost Value = { Machine };
+    ghost Value = { Journal };
 
-    ghost coded = { coded_machine };
+    ghost coded = { coded_journal };
 
-    ghost use Rattle.undo_journal.specs.Held.{machine_of, IsKept};
+    ghost use Rattle.undo_journal.specs.Held.{journal_of, IsKept};
 
-    ghost view = { λ s. machine_of s.arena.model s.records.items s.place };
+    ghost view = { λ s. journal_of s.arena.model s.records.items s.place };
 
     ghost invariant = { λ s. IsKept s.arena s.records.items s.place };
 }
@@ -49,7 +50,7 @@ impl Model for Session {
 impl Session {
     /// A session that holds the empty model. `AllocError` where memory is refused.
     pub fn new(alloc: Global) -> Result<Session, AllocError>
-        ensures { IfOk result (λ session. session ≡ start) }
+        ensures { IfOk result (λ session. session ≡ new_journal) }
     {
         Ok(Session {
             alloc,
@@ -59,10 +60,11 @@ impl Session {
         })
     }
 
-    /// The arena of the model held.
+    /// The arena of the model held. Each number that a record names has its room there.
     pub fn arena(&self) -> &Arena
-        ensures model { result.now.model ≡ held self.now }
+        ensures model { result.now.model ≡ held self.now.machine }
         ensures ready { IsReady result.now }
+        ensures room { RecordsHaveRoom result.now self.now.records }
     {
         &self.arena
     }
@@ -70,40 +72,41 @@ impl Session {
     /// A session's models are sound, and each next one is made by accepted operators, whoever gave the session. It does nothing: its
     /// contract is what is proved.
     pub fn stays_consistent(&self)
-        ensures { IsConsistent self.now }
+        ensures { IsConsistent self.now.machine }
     {
         let _ = &self.arena;
     }
 
     /// How many commands can be undone.
     pub fn depth(&self) -> usize
-        ensures { result ≡ depth self.now }
+        ensures { result ≡ depth self.now.machine }
     {
         self.place
     }
 
     /// How many commands can be redone.
     pub fn ahead(&self) -> usize
-        ensures { result ≡ ahead self.now }
+        ensures { result ≡ ahead self.now.machine }
     {
         self.records.len() - self.place
     }
 
     /// The record of command i, counted from 0. Each of its operators is accepted in its turn.
     pub fn record(&self, i: usize) -> &Record
-        requires { i < depth self.now + ahead self.now }
-        ensures forward_goes { AreAccepted (model_at self.now i) result.now.forward }
-        ensures forward { effects (model_at self.now i) result.now.forward ≡ model_at self.now (i + 1) }
-        ensures back_goes { AreAccepted (model_at self.now (i + 1)) result.now.back }
-        ensures back { effects (model_at self.now (i + 1)) result.now.back ≡ model_at self.now i }
+        requires { i < depth self.now.machine + ahead self.now.machine }
+        ensures exact { result.now ≡ slice_index_or self.now.records i result.now }
+        ensures forward_goes { AreAccepted (model_at self.now.machine i) result.now.forward }
+        ensures forward { effects (model_at self.now.machine i) result.now.forward ≡ model_at self.now.machine (i + 1) }
+        ensures back_goes { AreAccepted (model_at self.now.machine (i + 1)) result.now.back }
+        ensures back { effects (model_at self.now.machine (i + 1)) result.now.back ≡ model_at self.now.machine i }
     {
         &self.records[i]
     }
 
     /// Applies an operator and records it in the place of those ahead. On `AllocError` nothing has changed.
     fn accept(&mut self, op: Op) -> Result<(), AllocError>
-        requires { act_refusal self.old op ≡ None }
-        ensures ok { OnOk result (self.new ≡ machine.act self.old op) }
+        requires { act_refusal self.old.machine op ≡ None }
+        ensures ok { OnOk result (self.new ≡ after_act self.old op) }
         ensures err { OnErr result (self.new ≡ self.old) }
     {
         self.records.reserve(1)?;
@@ -119,10 +122,11 @@ impl Session {
     }
 
     /// One operator as a command. Where one of its conditions is false the first such is named, with its value; where
-    /// memory is refused `Memory` is answered. Then nothing has changed. An accepted command drops the models ahead.
+    /// memory is refused `Memory` is answered. Then nothing has changed. An accepted command drops the models ahead with their
+    /// records, and leaves a record of its own.
     pub fn act(&mut self, op: Op) -> Result<(), Failure>
-        ensures ok { OnOk result ((act_refusal self.old op ≡ None) × (self.new ≡ machine.act self.old op)) }
-        ensures refused { (refusal : Refusal) → ((result ≡ Err (Failure.Refused refusal)) ↔ (act_refusal self.old op ≡ Some refusal)) }
+        ensures ok { OnOk result ((act_refusal self.old.machine op ≡ None) × (self.new ≡ after_act self.old op)) }
+        ensures refused { (refusal : Refusal) → ((result ≡ Err (Failure.Refused refusal)) ↔ (act_refusal self.old.machine op ≡ Some refusal)) }
         ensures err { OnErr result (self.new ≡ self.old) }
     {
         if let Err(refusal) = check(self.arena(), &op) {
@@ -136,8 +140,8 @@ impl Session {
 
     /// Takes the last command back. Refused with `NothingToUndo` where there is none. It takes no memory.
     pub fn undo(&mut self) -> Result<(), Refusal>
-        ensures ok { OnOk result (self.new ≡ machine.undo self.old) }
-        ensures refused { result ≡ verdict (undo_refusal self.old) }
+        ensures ok { OnOk result (self.new ≡ after_undo self.old) }
+        ensures refused { result ≡ verdict (undo_refusal self.old.machine) }
         ensures err { OnErr result (self.new ≡ self.old) }
     {
         if self.place == 0 {
@@ -154,8 +158,8 @@ impl Session {
 
     /// Does the next command again. Refused with `NothingToRedo` where there is none. It takes no memory.
     pub fn redo(&mut self) -> Result<(), Refusal>
-        ensures ok { OnOk result (self.new ≡ machine.redo self.old) }
-        ensures refused { result ≡ verdict (redo_refusal self.old) }
+        ensures ok { OnOk result (self.new ≡ after_redo self.old) }
+        ensures refused { result ≡ verdict (redo_refusal self.old.machine) }
         ensures err { OnErr result (self.new ≡ self.old) }
     {
         if self.ahead() == 0 {

@@ -1,0 +1,70 @@
+-- What contracts see of a session and of a draft: the plain machine, and the records of its commands.
+use Rattle.std.specs.Prelude.{◌≡◌, List, [], ◌∷◌, ◌++◌, take, reverse, refl}
+use Rattle.std.specs.Coded.{Coded, code_by, coded×, coded_list}
+use Rattle.euler_operators.specs.contracts.Op as operator
+use Rattle.euler_operators.specs.declared.Op.{Op}
+use Rattle.euler_operators.specs.Model.{Model}
+use Rattle.euler_operators.specs.Effect.{inverse}
+use Rattle.euler_conditions.specs.Store.{coded_model}
+use Rattle.undo_journal.specs.contracts.record.Record as command
+use Rattle.undo_journal.specs.declared.record.Record.{Record}
+use Rattle.undo_journal.specs.Machine.{Machine, DraftState, start, held, depth, act, undo, redo, draft_step, commit, coded_machine}
+
+-- the machine, and the record of each command, those ahead included, the first one first
+pub record Journal : Type 0 where
+  pub machine : Machine
+  pub records : List Record
+
+abbrev pub new_journal : Journal
+new_journal = record { machine = start; records = [] }
+
+-- the records after a command: its own stands in the place of those ahead
+abbrev pub recorded : Journal → Record → List Record
+recorded j r = take (depth j.machine) j.records ++ r ∷ []
+
+-- an accepted operator leaves its record: itself and its inverse
+abbrev pub after_act : Journal → Op → Journal
+after_act j op = record { machine = act j.machine op; records = recorded j (record { forward = op ∷ []; back = inverse (held j.machine) op ∷ [] }) }
+
+-- undo and redo keep all records
+abbrev pub after_undo : Journal → Journal
+after_undo j = record { machine = undo j.machine; records = j.records }
+
+abbrev pub after_redo : Journal → Journal
+after_redo j = record { machine = redo j.machine; records = j.records }
+
+-- a command was accepted: it has left one record
+pub record IsRecorded (old new : Journal) : Type 0 where
+  pub command : Record
+  pub appended : new.records ≡ recorded old command
+
+-- the session as it was when the draft was opened, the model, the steps that lead to it, and the inverse of each
+pub record DraftJournal : Type 0 where
+  pub session : Journal
+  pub model : Model
+  pub forward : List Op
+  pub back : List Op
+
+-- the draft of the plain machine
+abbrev pub plain : DraftJournal → DraftState
+plain d = record { session = d.session.machine; model = d.model }
+
+abbrev pub new_draft : Journal → DraftJournal
+new_draft j = record { session = j; model = held j.machine; forward = []; back = [] }
+
+-- one step more, and its inverse
+abbrev pub after_step : DraftJournal → Op → DraftJournal
+after_step d op = record { session = d.session; model = (draft_step (plain d) op).model; forward = d.forward ++ op ∷ []; back = d.back ++ inverse d.model op ∷ [] }
+
+-- the steps become one command, also where there was none; the inverses take it back, the last one first
+abbrev pub after_commit : DraftJournal → Journal
+after_commit d = record { machine = commit (plain d); records = recorded d.session (record { forward = d.forward; back = reverse d.back }) }
+
+-- codes, by which these can be what contracts see
+abbrev pub coded_journal : Coded Journal
+coded_journal = code_by (Machine × List Record) (coded× coded_machine (coded_list (command.the_row).coded)) (λ j. (j.machine, j.records)) (λ t. record { machine = t.0; records = t.1 }) (λ _. refl)
+
+abbrev pub coded_draft_journal : Coded DraftJournal
+coded_draft_journal = code_by (Journal × (Model × (List Op × List Op)))
+    (coded× coded_journal (coded× coded_model (coded× (coded_list (operator.the_row).coded) (coded_list (operator.the_row).coded))))
+    (λ d. (d.session, (d.model, (d.forward, d.back)))) (λ t. record { session = t.0; model = t.1.0; forward = t.1.1.0; back = t.1.1.1 }) (λ _. refl)
