@@ -14,8 +14,8 @@ use Rattle.euler_laws.proofs.Cases.{inverse_goes, inverse_undoes}
 use Rattle.euler_laws.proofs.Runs.{effects-append, AreAccepted-append}
 use Rattle.euler_conditions.specs.Ready.{IsReady}
 use Rattle.undo_journal.specs.declared.record.Record.{Record}
-use Rattle.undo_journal.specs.Machine.{start}
-use Rattle.undo_journal.specs.Held.{past_of, future_of, machine_of, Leads, IsJournal, AllHaveRoom, RecordsHaveRoom, IsKept, opened, command_of, IsDrafted, all_after, IsStepped}
+use Rattle.undo_journal.specs.Journal.{new_journal}
+use Rattle.undo_journal.specs.Held.{past_of, future_of, journal_of, Leads, IsJournal, AllHaveRoom, RecordsHaveRoom, IsKept, opened, command_of, IsDrafted, all_after, IsStepped}
 use Rattle.undo_journal.proofs.Journals.{journal_start, journal_more, journal_on, journal_back}
 use Rattle.undo_journal.proofs.Rooms.{ops_kept, records_kept, ops-append, ops-reverse, records-append, records-take, keeps_all_after}
 
@@ -23,9 +23,9 @@ use Rattle.undo_journal.proofs.Rooms.{ops_kept, records_kept, ops-append, ops-re
 pub kept_start : IsKept empty_store [] 0
 kept_start = record { ready = record { sound = empty_sound; bare = refl }; journal = journal_start; room = tt }
 
-pub machine_start : machine_of empty_model [] 0 ≡ start
+pub journal_started : journal_of empty_model [] 0 ≡ new_journal
 unfolding past_of future_of
-machine_start = refl
+journal_started = refl
 
 -- room that grows
 pub ready_grown : (s t : Store) → HasGrown s t → IsReady s → IsReady t

@@ -2,7 +2,7 @@ use Rattle.std.specs.Prelude.{◌≡◌, ◌+◌, ◌++◌, List, [], ◌∷◌,
 use Rattle.std.proofs.Common.{sym, subst, ap, ◌∙◌}
 use Rattle.euler_operators.specs.declared.Op.{Op}
 use Rattle.undo_journal.specs.declared.record.Record.{Record}
-use Rattle.undo_journal.specs.Held.{machine_of, command_of, IsKept}
+use Rattle.undo_journal.specs.Held.{journal_of, command_of, IsKept}
 use Rattle.undo_journal.proofs.Kept.{kept_commit}
 use Rattle.undo_journal.proofs.Seen.{commit_seen}
 use Rattle.undo_journal.proofs.draft.Draft.commit.Goals as goal
@@ -20,5 +20,5 @@ invariant_of-result c =
 
 pub returns : goal.returns
 returns c =
-    ap (λ (rs : List Record). machine_of c.self.inside.arena.model rs (c.self.inside.place + 1)) (records c)
+    ap (λ (rs : List Record). journal_of c.self.inside.arena.model rs (c.self.inside.place + 1)) (records c)
     ∙ commit_seen _ _ _ _ _ _ c.self.invariant.1 c.self.view_is

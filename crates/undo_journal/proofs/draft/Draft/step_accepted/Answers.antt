@@ -6,7 +6,7 @@ use Rattle.euler_operators.specs.declared.Op.{Op}
 use Rattle.euler_operators.specs.Conditions.{first_false}
 use Rattle.euler_operators.specs.Effect.{inverse}
 use Rattle.undo_journal.specs.declared.record.Record.{Record}
-use Rattle.undo_journal.specs.Machine.{DraftState, draft_step}
+use Rattle.undo_journal.specs.Journal.{DraftJournal, after_step}
 use Rattle.undo_journal.specs.Held.{draft_of, IsDrafted, IsStepped}
 use Rattle.undo_journal.proofs.Kept.{drafted_step, drafted_grown}
 use Rattle.undo_journal.proofs.Seen.{step_seen}
@@ -21,12 +21,12 @@ module _ (s t : Store) (records : List Record) (place : ℕ) (forward back : Lis
       subst (λ (x : List Op). IsDrafted t records place x b) (sym fk)
       (subst (λ (x : List Op). IsDrafted t records place forward x) (sym bk) (drafted_grown s t records place forward back grown kept))
 
-  seen_ok : (d : DraftState) → draft_of s.model records place back ≡ d → (r : Result (Unit {0}) AllocError) → OnOk r (IsStepped s o t) → OnOk r (b ≡ back ++ inverse s.model o ∷ []) → OnOk r (draft_of t.model records place b ≡ draft_step d o)
-  seen_ok d seen (Ok u) stepped bs = ap (draft_of t.model records place) bs ∙ step_seen s records place forward back d kept seen t o goes stepped
-  seen_ok d seen (Err e) stepped bs = tt
+  seen_ok : (d : DraftJournal) → draft_of s.model records place forward back ≡ d → (r : Result (Unit {0}) AllocError) → OnOk r (IsStepped s o t) → OnOk r (f ≡ forward ++ o ∷ []) → OnOk r (b ≡ back ++ inverse s.model o ∷ []) → OnOk r (draft_of t.model records place f b ≡ after_step d o)
+  seen_ok d seen (Ok u) stepped fs bs = ap (λ (x : List Op). draft_of t.model records place x b) fs ∙ ap (draft_of t.model records place (forward ++ o ∷ [])) bs ∙ step_seen s records place forward back d kept seen t o goes stepped
+  seen_ok d seen (Err e) stepped fs bs = tt
 
 abbrev goes_on : (c : goal.After-step) → first_false c.self.inside.arena.model c.args.op ≡ None
-goes_on c = ap (λ (d : DraftState). first_false d.model c.args.op) c.self.view_is ∙ c.requires
+goes_on c = ap (λ (d : DraftJournal). first_false d.model c.args.op) c.self.view_is ∙ c.requires
 
 pub invariant_of-self : goal.invariant_of-self
 invariant_of-self c =
@@ -34,4 +34,4 @@ invariant_of-self c =
 
 pub returns-clause-ok : goal.returns-clause-ok
 returns-clause-ok c =
-    seen_ok _ c.step.new.arena _ _ _ _ _ c.self.invariant.1 (goes_on c) c.step.new.forward.items _ _ c.self.view_is c.step.result c.step.ensures.stepped c.step.ensures.back
+    seen_ok _ c.step.new.arena _ _ _ _ _ c.self.invariant.1 (goes_on c) c.step.new.forward.items _ _ c.self.view_is c.step.result c.step.ensures.stepped c.step.ensures.forward c.step.ensures.back

@@ -3,7 +3,7 @@ use Rattle.std.proofs.Common.{sym, subst, ap, ◌∙◌}
 use Rattle.euler_operators.specs.declared.Op.{Op}
 use Rattle.euler_operators.specs.Effect.{inverse}
 use Rattle.undo_journal.specs.declared.record.Record.{Record}
-use Rattle.undo_journal.specs.Held.{machine_of, IsKept}
+use Rattle.undo_journal.specs.Held.{journal_of, IsKept}
 use Rattle.undo_journal.proofs.Kept.{kept_act, kept_grown}
 use Rattle.undo_journal.proofs.Seen.{goes_seen, act_seen}
 use Rattle.undo_journal.proofs.session.Session.accept.Goals as goal
@@ -30,5 +30,5 @@ invariant_of-self-2 c =
 
 pub returns-clause-ok : goal.returns-clause-ok
 returns-clause-ok c =
-    ap (λ (rs : List Record). machine_of c.advance.new.arena.model rs (c.self.inside.place + 1)) (records c)
+    ap (λ (rs : List Record). journal_of c.advance.new.arena.model rs (c.self.inside.place + 1)) (records c)
     ∙ act_seen _ _ _ _ c.self.invariant c.self.view_is _ _ (goes_seen _ _ _ _ c.self.invariant c.self.view_is _ c.requires) c.in_ok-inverse.ensures.stepped

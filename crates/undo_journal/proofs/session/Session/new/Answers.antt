@@ -2,8 +2,8 @@ use Rattle.std.specs.Prelude.{List}
 use Rattle.std.proofs.Common.{sym, subst, ap, ◌∙◌}
 use Rattle.euler_conditions.specs.Store.{Store, empty_store}
 use Rattle.undo_journal.specs.declared.record.Record.{Record}
-use Rattle.undo_journal.specs.Held.{machine_of, IsKept}
-use Rattle.undo_journal.proofs.Kept.{kept_start, machine_start}
+use Rattle.undo_journal.specs.Held.{journal_of, IsKept}
+use Rattle.undo_journal.proofs.Kept.{kept_start, journal_started}
 use Rattle.undo_journal.proofs.session.Session.new.Goals as goal
 
 pub invariant_of-result : goal.invariant_of-result
@@ -13,6 +13,6 @@ invariant_of-result c =
 
 pub returns : goal.returns
 returns c =
-    ap (λ (s : Store). machine_of s.model c.in_ok-with_capacity.field-0.items 0) c.new.ensures
-    ∙ ap (λ (rs : List Record). machine_of empty_store.model rs 0) c.in_ok-with_capacity.ensures.items
-    ∙ machine_start
+    ap (λ (s : Store). journal_of s.model c.in_ok-with_capacity.field-0.items 0) c.new.ensures
+    ∙ ap (λ (rs : List Record). journal_of empty_store.model rs 0) c.in_ok-with_capacity.ensures.items
+    ∙ journal_started

@@ -1,7 +1,9 @@
-use Rattle.std.proofs.Common.{◌<◌, ◌+◌, length, arith}
+use Rattle.std.specs.Prelude.{List, slice_index_or}
+use Rattle.std.proofs.Common.{◌<◌, ◌+◌, length, arith, ap, ◌∙◌}
+use Rattle.undo_journal.specs.declared.record.Record.{Record}
 use Rattle.undo_journal.specs.Recorded.{model_at}
 use Rattle.undo_journal.specs.Held.{Leads}
-use Rattle.undo_journal.proofs.Seen.{within, leads_seen}
+use Rattle.undo_journal.proofs.Seen.{within, leads_seen, records_seen}
 use Rattle.undo_journal.proofs.session.Session.record.Goals as goal
 
 pub index-requires : goal.index-requires
@@ -9,7 +11,7 @@ index-requires c =
     let h : c.args.i < length c.self.inside.records.items = within _ _ _ _ c.self.invariant c.self.view_is c.args.i c.requires in
     omega (arith, h, c.self.inside.records.ok.0)
 
-leads : (c : goal.After-index) → Leads (model_at c.args.self.now c.args.i) c.index.result.now (model_at c.args.self.now (c.args.i + 1))
+leads : (c : goal.After-index) → Leads (model_at c.args.self.now.machine c.args.i) c.index.result.now (model_at c.args.self.now.machine (c.args.i + 1))
 leads c = leads_seen _ _ _ _ c.self.invariant c.self.view_is c.args.i _ (within _ _ _ _ c.self.invariant c.self.view_is c.args.i c.requires) c.index.ensures
 
 pub returns-clause-forward_goes : goal.returns-clause-forward_goes
@@ -23,3 +25,6 @@ returns-clause-back_goes c = (leads c).back_goes
 
 pub returns-clause-back : goal.returns-clause-back
 returns-clause-back c = (leads c).back
+
+pub returns-clause-exact : goal.returns-clause-exact
+returns-clause-exact c = c.index.ensures ∙ ap (λ (rs : List Record). slice_index_or rs c.args.i c.index.result.now) (records_seen _ _ _ _ c.self.invariant c.self.view_is)

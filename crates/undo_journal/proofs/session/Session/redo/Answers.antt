@@ -3,7 +3,7 @@ use Rattle.std.proofs.Common.{sym, subst, ap, ◌∙◌, arith}
 use Rattle.euler_conditions.specs.Store.{Store}
 use Rattle.euler_laws.specs.Laws.{AreAccepted}
 use Rattle.euler_conditions.specs.Ready.{IsReady}
-use Rattle.undo_journal.specs.Held.{machine_of, AllHaveRoom, IsKept, all_after}
+use Rattle.undo_journal.specs.Held.{journal_of, AllHaveRoom, IsKept, all_after}
 use Rattle.undo_journal.proofs.Journals.{goes_on}
 use Rattle.undo_journal.proofs.Rooms.{record_room}
 use Rattle.undo_journal.proofs.Kept.{kept_redo}
@@ -39,5 +39,5 @@ invariant_of-self c = subst (λ (s : Store). IsKept s c.self.inside.records.item
 
 pub returns-clause-ok : goal.returns-clause-ok
 returns-clause-ok c =
-    ap (λ (s : Store). machine_of s.model c.self.inside.records.items (c.self.inside.place + 1)) (arena c)
+    ap (λ (s : Store). journal_of s.model c.self.inside.records.items (c.self.inside.place + 1)) (arena c)
     ∙ redo_seen _ _ _ _ c.self.invariant c.self.view_is _ (more_ahead _ _ _ _ c.self.invariant c.self.view_is _ c.ahead.ensures (omega (arith, c.if-ahead-eq0.false))) c.index-record.ensures

@@ -1,7 +1,8 @@
 use Rattle.std.proofs.Common.{subst}
 use Rattle.undo_journal.specs.Histories.{IsConsistent}
+use Rattle.undo_journal.specs.Journal.{Journal}
 use Rattle.undo_journal.proofs.Consistent.{journal_consistent}
 use Rattle.undo_journal.proofs.session.Session.stays_consistent.Goals as goal
 
 pub returns : goal.returns
-returns c = subst IsConsistent c.self.view_is (journal_consistent _ _ _ c.self.invariant.journal)
+returns c = subst (λ (j : Journal). IsConsistent j.machine) c.self.view_is (journal_consistent _ _ _ c.self.invariant.journal)

@@ -7,7 +7,7 @@ use Rattle.euler_operators.specs.Conditions.{verdict, first_refusal, never}
 use Rattle.euler_operators.specs.declared.Why.TheVariants.{NothingToUndo}
 use Rattle.euler_conditions.specs.Ready.{IsReady}
 use Rattle.undo_journal.specs.Machine.{depth}
-use Rattle.undo_journal.specs.Held.{machine_of, AllHaveRoom, IsKept, all_after}
+use Rattle.undo_journal.specs.Held.{journal_of, AllHaveRoom, IsKept, all_after}
 use Rattle.undo_journal.proofs.Journals.{goes_back}
 use Rattle.undo_journal.proofs.Rooms.{record_room}
 use Rattle.undo_journal.proofs.Kept.{kept_undo}
@@ -38,12 +38,12 @@ invariant_of-self c = subst (λ (s : Store). IsKept s c.self.inside.records.item
 
 pub returns-clause-ok : goal.returns-clause-ok
 returns-clause-ok c =
-    ap (λ (s : Store). machine_of s.model c.self.inside.records.items (c.self.inside.place - 1)) (arena c)
+    ap (λ (s : Store). journal_of s.model c.self.inside.records.items (c.self.inside.place - 1)) (arena c)
     ∙ undo_seen _ _ _ _ c.self.invariant c.self.view_is _ (omega (arith, c.if-self-eq0.false)) c.index-record.ensures
 
 pub returns-then-self-eq0-clause-refused : goal.returns-then-self-eq0-clause-refused
 returns-then-self-eq0-clause-refused c =
-    let none : zero ≡ depth c.args.self.now = omega (arith, c.if-self-eq0.true, depth_seen _ _ _ _ c.self.invariant c.self.view_is) in
+    let none : zero ≡ depth c.args.self.now.machine = omega (arith, c.if-self-eq0.true, depth_seen _ _ _ _ c.self.invariant c.self.view_is) in
     ap (λ (n : ℕ). verdict (first_refusal (never (nat_eq n 0) NothingToUndo 0 ∷ []))) none
 
 -- some command can be undone
@@ -53,4 +53,4 @@ goes n h =
     ap (λ (b : Bool). verdict (first_refusal (never b NothingToUndo 0 ∷ []))) (sym some)
 
 pub returns-clause-refused : goal.returns-clause-refused
-returns-clause-refused c = goes (depth c.args.self.now) (omega (arith, c.if-self-eq0.false, depth_seen _ _ _ _ c.self.invariant c.self.view_is))
+returns-clause-refused c = goes (depth c.args.self.now.machine) (omega (arith, c.if-self-eq0.false, depth_seen _ _ _ _ c.self.invariant c.self.view_is))
