@@ -1,4 +1,4 @@
-//! The Euler operators in place. A caller tests an operator by `euler_conditions::check`, asks for its room by `room_op`,
+//! The Euler operators in place. A caller tests an operator by `check`, asks for its room by `room_op`,
 //! the only call that takes memory, and then applies it: by `apply`, which answers the operator that takes it back, or by
 //! `replay`, which answers nothing.
 //! A number that once had its room keeps it, so that an operator can be taken back, and applied again, when memory is spent.
@@ -18,4 +18,5 @@ mod reading;
 mod vertex_operators;
 
 pub use applying::{apply, replay};
+pub use euler_conditions::{Arena, check};
 pub use making::{Room, room_op};

@@ -4,7 +4,7 @@ use Rattle.std.proofs.Common.{sym, ap, subst, ◌∙◌}
 use Rattle.std.proofs.lemmas.List.{reverse-append}
 use Rattle.euler_operators.specs.Model.{Model, empty_model}
 use Rattle.euler_operators.specs.Sound.{Sound}
-use Rattle.euler_conditions.specs.Store.{Store, empty_store, HasGrown}
+use Rattle.low_euler.specs.Store.{Store, empty_store, HasGrown}
 use Rattle.euler_operators.specs.declared.Op.{Op}
 use Rattle.euler_operators.specs.Conditions.{first_false}
 use Rattle.euler_operators.specs.Effect.{effect, inverse}
@@ -12,7 +12,7 @@ use Rattle.euler_laws.proofs.shared.Empty.{empty_sound}
 use Rattle.euler_laws.specs.Laws.{effects, AreAccepted}
 use Rattle.euler_laws.proofs.Cases.{inverse_goes, inverse_undoes}
 use Rattle.euler_laws.proofs.Runs.{effects-append, AreAccepted-append}
-use Rattle.euler_conditions.specs.Ready.{IsReady}
+use Rattle.low_euler.specs.Ready.{IsReady}
 use Rattle.undo_journal.specs.declared.record.Record.{Record}
 use Rattle.undo_journal.specs.Journal.{new_journal}
 use Rattle.undo_journal.specs.Held.{past_of, future_of, journal_of, Leads, IsJournal, AllHaveRoom, RecordsHaveRoom, IsKept, opened, command_of, IsDrafted, all_after, IsStepped}

@@ -4,9 +4,9 @@ use Rattle.std.proofs.Common.{sym, subst, arith}
 use Rattle.std.proofs.lemmas.List.{reverse-append}
 use Rattle.euler_operators.specs.declared.Kind.{Kind}
 use Rattle.euler_operators.specs.declared.Kind.TheVariants.{Solid, Face, Loop, Edge, Vertex}
-use Rattle.euler_conditions.specs.Store.{Store}
+use Rattle.low_euler.specs.Store.{Store}
 use Rattle.euler_operators.specs.declared.Op.{Op}
-use Rattle.euler_conditions.specs.Ready.{AllRoom, HasRoomFor, made, after}
+use Rattle.low_euler.specs.Ready.{AllRoom, HasRoomFor, made, after}
 use Rattle.undo_journal.specs.declared.record.Record.{Record}
 use Rattle.undo_journal.specs.Held.{AllHaveRoom, RecordsHaveRoom, all_after, KeepsRoom}
 

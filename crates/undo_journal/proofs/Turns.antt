@@ -3,13 +3,13 @@ use Rattle.std.specs.Prelude.{◌≡◌, ℕ, zero, suc, ◌+◌, ◌<◌, List,
 use Rattle.std.proofs.Common.{sym, ap, subst, ◌∙◌, arith}
 use Rattle.std.proofs.lemmas.List.{take_more}
 use Rattle.euler_operators.specs.Model.{Model}
-use Rattle.euler_conditions.specs.Store.{Store}
+use Rattle.low_euler.specs.Store.{Store}
 use Rattle.euler_operators.specs.declared.Op.{Op}
 use Rattle.euler_operators.specs.Conditions.{first_false}
 use Rattle.euler_operators.specs.Effect.{effect}
 use Rattle.euler_laws.specs.Laws.{effects, AreAccepted}
 use Rattle.euler_laws.proofs.Runs.{effects-append}
-use Rattle.euler_conditions.specs.Ready.{IsReady, HasRoomFor, Accepts, after}
+use Rattle.low_euler.specs.Ready.{IsReady, HasRoomFor, Accepts, after}
 use Rattle.undo_journal.specs.Held.{AllHaveRoom, all_after}
 use Rattle.undo_journal.proofs.Rooms.{op_kept, keeps_all_after}
 

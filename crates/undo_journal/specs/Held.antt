@@ -2,11 +2,11 @@
 use Rattle.std.specs.Prelude.{◌≡◌, ℕ, ◌≤◌, true, List, [], ◌∷◌, length, take, drop, reverse}
 use Rattle.euler_operators.specs.declared.Kind.{Kind}
 use Rattle.euler_operators.specs.Model.{Model, empty_model}
-use Rattle.euler_conditions.specs.Store.{Store, has_room}
+use Rattle.low_euler.specs.Store.{Store, has_room}
 use Rattle.euler_operators.specs.declared.Op.{Op}
 use Rattle.euler_operators.specs.Effect.{effect, inverse}
 use Rattle.euler_laws.specs.Laws.{effects, AreAccepted}
-use Rattle.euler_conditions.specs.Ready.{IsReady, HasRoomFor}
+use Rattle.low_euler.specs.Ready.{IsReady, HasRoomFor}
 use Rattle.undo_journal.specs.declared.record.Record.{Record}
 use Rattle.undo_journal.specs.Machine.{Machine}
 use Rattle.undo_journal.specs.Journal.{Journal, DraftJournal}

@@ -1,6 +1,6 @@
 //! A draft: steps that become one command together, or are taken back together.
 ghost use Rattle.std.specs.Prelude.{◌≡◌, ◌↔◌, OnOk, OnErr, IfOk, IfErr, None, Some, Err};
-ghost use Rattle.euler_conditions.specs.Ready.{IsReady};
+ghost use Rattle.low_euler.specs.Ready.{IsReady};
 ghost use Rattle.euler_operators.specs.Sound.{Sound};
 ghost use Rattle.undo_journal.specs.Machine.{held};
 ghost use Rattle.undo_journal.specs.Journal.{new_draft, after_step, after_commit};
@@ -12,8 +12,8 @@ ghost use Rattle.euler_operators.specs.declared.Refusal.{Refusal};
 use crate::record::{OpList, Record};
 use crate::session::{Failure, Session};
 use crate::steps::{replay_all, step};
-use euler_conditions::{Arena, check};
 use euler_operators::Op;
+use low_euler::{Arena, check};
 use std::alloc::{AllocError, Global};
 use std::marker::Model;
 

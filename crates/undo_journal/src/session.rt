@@ -1,6 +1,6 @@
 //! A session: one arena, the records of the commands, and the place among them.
 ghost use Rattle.std.specs.Prelude.{◌≡◌, ◌↔◌, ◌+◌, ◌<◌, OnOk, OnErr, IfOk, None, Some, Err, slice_index_or};
-ghost use Rattle.euler_conditions.specs.Ready.{IsReady};
+ghost use Rattle.low_euler.specs.Ready.{IsReady};
 ghost use Rattle.undo_journal.specs.Machine.{held, depth, ahead, act_refusal, undo_refusal, redo_refusal};
 ghost use Rattle.undo_journal.specs.Journal.{new_journal, after_act, after_undo, after_redo};
 ghost use Rattle.undo_journal.specs.Held.{RecordsHaveRoom};
@@ -12,8 +12,8 @@ ghost use Rattle.euler_operators.specs.declared.Refusal.{Refusal};
 
 use crate::record::{OpList, Record};
 use crate::steps::{advance, replay_all};
-use euler_conditions::{Arena, check};
 use euler_operators::{Op, Refusal, Why};
+use low_euler::{Arena, check};
 use std::alloc::{AllocError, Global};
 use std::marker::Model;
 

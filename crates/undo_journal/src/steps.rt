@@ -1,15 +1,14 @@
 //! Operators applied in turn.
 ghost use Rattle.std.specs.Prelude.{◌≡◌, [], ◌∷◌, ◌++◌, OnOk, OnErr, IfOk, None};
-ghost use Rattle.euler_conditions.specs.Store.{HasGrown};
+ghost use Rattle.low_euler.specs.Store.{HasGrown};
 ghost use Rattle.euler_operators.specs.Conditions.{first_false};
 ghost use Rattle.euler_operators.specs.Effect.{inverse};
 ghost use Rattle.euler_laws.specs.Laws.{AreAccepted};
-ghost use Rattle.euler_conditions.specs.Ready.{IsReady};
+ghost use Rattle.low_euler.specs.Ready.{IsReady};
 ghost use Rattle.undo_journal.specs.Held.{AllHaveRoom, all_after, IsStepped};
 
-use euler_conditions::Arena;
 use euler_operators::Op;
-use low_euler::{apply, replay, room_op};
+use low_euler::{Arena, apply, replay, room_op};
 use std::alloc::{AllocError, Global};
 
 /// Applies operators in turn, each of which is accepted then and has its room. It takes no memory.

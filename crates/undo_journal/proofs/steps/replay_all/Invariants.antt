@@ -1,5 +1,5 @@
 use Rattle.std.specs.Prelude.{◌≡◌, take}
-use Rattle.euler_conditions.specs.Ready.{IsReady}
+use Rattle.low_euler.specs.Ready.{IsReady}
 use Rattle.undo_journal.specs.Held.{all_after}
 use Rattle.undo_journal.proofs.steps.replay_all.Given as goal
 

@@ -1,8 +1,8 @@
 use Rattle.std.specs.Prelude.{◌≡◌, ◌+◌, ◌<◌, length}
 use Rattle.std.proofs.Common.{sym, subst, ap, ◌∙◌, arith}
-use Rattle.euler_conditions.specs.Store.{Store}
+use Rattle.low_euler.specs.Store.{Store}
 use Rattle.euler_laws.specs.Laws.{AreAccepted}
-use Rattle.euler_conditions.specs.Ready.{IsReady}
+use Rattle.low_euler.specs.Ready.{IsReady}
 use Rattle.undo_journal.specs.Held.{journal_of, AllHaveRoom, IsKept, all_after}
 use Rattle.undo_journal.proofs.Journals.{goes_on}
 use Rattle.undo_journal.proofs.Rooms.{record_room}

@@ -1,11 +1,11 @@
 use Rattle.std.specs.Prelude.{◌≡◌, ℕ, zero, ◌-◌, ◌<◌, Bool, false, [], ◌∷◌, nat_eq, Ok}
 use Rattle.std.proofs.Common.{sym, subst, ap, ◌∙◌, arith}
 use Rattle.std.proofs.lemmas.Bool.Decides.{nat_tests}
-use Rattle.euler_conditions.specs.Store.{Store}
+use Rattle.low_euler.specs.Store.{Store}
 use Rattle.euler_laws.specs.Laws.{AreAccepted}
 use Rattle.euler_operators.specs.Conditions.{verdict, first_refusal, never}
 use Rattle.euler_operators.specs.declared.Why.TheVariants.{NothingToUndo}
-use Rattle.euler_conditions.specs.Ready.{IsReady}
+use Rattle.low_euler.specs.Ready.{IsReady}
 use Rattle.undo_journal.specs.Machine.{depth}
 use Rattle.undo_journal.specs.Held.{journal_of, AllHaveRoom, IsKept, all_after}
 use Rattle.undo_journal.proofs.Journals.{goes_back}
