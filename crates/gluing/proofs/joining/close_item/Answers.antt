@@ -33,6 +33,6 @@ returns-clause-model c =
 
 pub returns-clause-session : goal.returns-clause-session
 returns-clause-session c =
-    session_stays c.step_accepted-3.result c.step_accepted-3.ensures.ok c.step_accepted-3.ensures.err
+    session_stays c.step_accepted-3.result _ _ _ c.step_accepted-3.ensures.ok c.step_accepted-3.ensures.err
     ∙ ap (λ (d : DraftJournal). d.session) c.in_ok-step_accepted-2.ensures.ok
     ∙ ap (λ (d : DraftJournal). d.session) c.in_ok-step_accepted.ensures.ok

@@ -97,7 +97,7 @@ returns-then-eq-clause-model c =
     on_ok_weaker c.step_accepted.result (λ step. ap (λ (d : DraftJournal). d.model) step ∙ makes) c.step_accepted.ensures.ok
 
 pub returns-then-eq-clause-session : goal.returns-then-eq-clause-session
-returns-then-eq-clause-session c = session_stays c.step_accepted.result c.step_accepted.ensures.ok c.step_accepted.ensures.err ∙ c.items.invariant.session
+returns-then-eq-clause-session c = session_stays c.step_accepted.result _ _ _ c.step_accepted.ensures.ok c.step_accepted.ensures.err ∙ c.items.invariant.session
 
 pub close_item-requires : goal.close_item-requires
 close_item-requires c =

@@ -35,7 +35,7 @@ returns-clause-model c =
 
 pub returns-clause-session : goal.returns-clause-session
 returns-clause-session c =
-    session_stays c.step_accepted-4.result c.step_accepted-4.ensures.ok c.step_accepted-4.ensures.err
+    session_stays c.step_accepted-4.result _ _ _ c.step_accepted-4.ensures.ok c.step_accepted-4.ensures.err
     ∙ ap (λ (d : DraftJournal). d.session) c.in_ok-step_accepted-3.ensures.ok
     ∙ ap (λ (d : DraftJournal). d.session) c.in_ok-step_accepted-2.ensures.ok
     ∙ ap (λ (d : DraftJournal). d.session) c.in_ok-step_accepted.ensures.ok
