@@ -6,7 +6,7 @@ ghost use Rattle.euler_conditions.specs.Ready.{IsReady};
 ghost use Rattle.euler_operators.specs.Conditions.{first_false};
 ghost use Rattle.euler_operators.specs.Ranges.{IsCutPlane};
 ghost use Rattle.shapes.specs.Fresh.{growing, taken_in};
-ghost use Rattle.undo_journal.specs.Machine.{draft_step};
+ghost use Rattle.undo_journal.specs.Journal.{after_step};
 ghost use Rattle.shapes.specs.split.Crossings.{with_crossings};
 ghost use Rattle.split_drawing_laws.specs.crossings.CrossingOps.{cut_edge};
 ghost use Rattle.split_checks.specs.cut_places.Crossings.{IsCrossing, is_off};
@@ -38,7 +38,7 @@ fn cut_edge(draft: &mut Draft, plane: Plane, e: u32) -> Result<(), AllocError>
     requires edge_left { (taken_in draft.old.model).edge + 1 ≤ 1000000 }
     requires vertex_left { (taken_in draft.old.model).vertex + 1 ≤ 1000000 }
     requires accepted { first_false draft.old.model (cut_edge plane (growing draft.old.model) e) ≡ None }
-    ensures ok { OnOk result (draft.new ≡ draft_step draft.old (cut_edge plane (growing draft.old.model) e)) }
+    ensures ok { OnOk result (draft.new ≡ after_step draft.old (cut_edge plane (growing draft.old.model) e)) }
     ensures err { OnErr result (draft.new ≡ draft.old) }
 {
     let arena = draft.arena();
@@ -62,8 +62,8 @@ pub(crate) fn cut_edges(
     plane: &Plane,
 ) -> Result<(), AllocError>
     requires { CanBeCut draft.old.model s plane.now }
-    ensures ok { OnOk result (draft.new ≡ record draft.old { model = (with_crossings draft.old.model s plane.now).model }) }
-    ensures err { OnErr result (draft.new.session ≡ draft.old.session) }
+    ensures model { OnOk result (draft.new.model ≡ (with_crossings draft.old.model s plane.now).model) }
+    ensures session { draft.new.session ≡ draft.old.session }
 {
     let edges = rising_crossings(alloc, draft.arena(), *plane, s)?;
     let mut rest = edges.as_slice();

@@ -1,7 +1,7 @@
 //! The second pass over the pairs of a face: each pair that is left cuts a new face off.
 ghost use Rattle.std.specs.Prelude.{◌≡◌, ◌≤◌, ◌+◌, None, OnOk, OnErr, IfOk, fold, map};
 ghost use Rattle.euler_operators.specs.Conditions.{first_false};
-ghost use Rattle.undo_journal.specs.Machine.{draft_step};
+ghost use Rattle.undo_journal.specs.Journal.{after_step};
 ghost use Rattle.shapes.specs.split.Drawing.{draw_next};
 ghost use Rattle.split_drawing_laws.specs.drawings.DrawingOps as ops;
 ghost use Rattle.split_drawing.specs.face_drawing.Codes.{codes, stuck_at};
@@ -21,7 +21,7 @@ fn draw_pair(draft: &mut Draft, progress: Progress, pair: Pair) -> Result<Progre
     requires edges_left { progress.edges + 1 ≤ 1000000 }
     requires accepted { first_false draft.old.model (ops.draw_pair (taken_of progress) (codes pair)) ≡ None }
     ensures counted { IfOk result (λ next. next ≡ record progress { faces = progress.faces + 1; loops = progress.loops + 1; edges = progress.edges + 1 }) }
-    ensures ok { OnOk result (draft.new ≡ draft_step draft.old (ops.draw_pair (taken_of progress) (codes pair))) }
+    ensures ok { OnOk result (draft.new ≡ after_step draft.old (ops.draw_pair (taken_of progress) (codes pair))) }
     ensures err { OnErr result (draft.new ≡ draft.old) }
 {
     let made = HalfEdge {

@@ -3,7 +3,7 @@ ghost use Rattle.std.specs.Prelude.{◌≡◌, ◌≤◌, ◌+◌, true, [], Non
 ghost use Rattle.euler_operators.specs.HalfEdge.{code};
 ghost use Rattle.euler_operators.specs.Model.{has_half};
 ghost use Rattle.euler_operators.specs.Conditions.{first_false};
-ghost use Rattle.undo_journal.specs.Machine.{draft_step};
+ghost use Rattle.undo_journal.specs.Journal.{after_step};
 ghost use Rattle.shapes.specs.split.Drawing.{join_next};
 ghost use Rattle.split_drawing_laws.specs.drawings.DrawingOps as ops;
 ghost use Rattle.split_drawing.specs.face_drawing.Codes.{codes};
@@ -21,7 +21,7 @@ fn join_pair(draft: &mut Draft, progress: Progress, pair: Pair) -> Result<Progre
     requires left { progress.edges + 1 ≤ 1000000 }
     requires accepted { first_false draft.old.model (ops.join_pair draft.old.model (codes pair) (progress.edges + 1)) ≡ None }
     ensures counted { IfOk result (λ next. next ≡ record progress { edges = progress.edges + 1 }) }
-    ensures ok { OnOk result (draft.new ≡ draft_step draft.old (ops.join_pair draft.old.model (codes pair) (progress.edges + 1))) }
+    ensures ok { OnOk result (draft.new ≡ after_step draft.old (ops.join_pair draft.old.model (codes pair) (progress.edges + 1))) }
     ensures err { OnErr result (draft.new ≡ draft.old) }
 {
     let op = join_op(draft.arena(), pair, progress.edges + 1);

@@ -45,7 +45,7 @@ pub(crate) fn share_rings(
     requires plane { IsCutPlane plane }
     requires there { table.has draft.old.model.faces f ≡ true }
     requires accepted { AreAccepted draft.old.model (ring_ops (rings_above draft.old.model plane f) k) }
-    ensures ok { OnOk result (draft.new ≡ record draft.old { model = with_rings draft.old.model (rings_above draft.old.model plane f) k }) }
+    ensures model { OnOk result (draft.new.model ≡ with_rings draft.old.model (rings_above draft.old.model plane f) k) }
     ensures session { draft.new.session ≡ draft.old.session }
 {
     let rings = rings_above(alloc, draft.arena(), plane, f)?;

@@ -4,7 +4,7 @@ use Rattle.euler_operators.specs.Vectors.{cut_between}
 use Rattle.euler_operators.specs.HalfEdge.{half, plus}
 use Rattle.euler_operators.specs.Model.{after}
 use Rattle.euler_operators.specs.Conditions.{first_false}
-use Rattle.undo_journal.specs.Machine.{draft_step}
+use Rattle.undo_journal.specs.Journal.{after_step}
 use Rattle.shapes.specs.Faces.{start, finish}
 use Rattle.shapes.specs.Fresh.{taken_in}
 use Rattle.split_checks.specs.cut_places.Crossings.{IsCrossing, is_off}
@@ -32,7 +32,7 @@ step_accepted-requires c = ap (first_false c.args.draft.now.model) (same_cut c.a
     (c.crossing_point-point.ensures ∙ (λ i. let h = plus_code c.args.draft.now.model c.args.plane c.args.e c.plus-first.result c.plus-first.ensures i in cut_between c.args.plane (start (c.arena-arena.ensures.model i) h) (finish (c.arena-arena.ensures.model i) h)))) ∙ c.requires.accepted
 
 pub returns-clause-ok : goal.returns-clause-ok
-returns-clause-ok c = subst (λ op. OnOk c.step_accepted.result (c.step_accepted.new.self ≡ draft_step c.args.draft.now op)) (same_cut c.args.draft.now.model c.args.plane c.args.e c.plus-first.result c.next_item-next.result c.plus-edge.result c.fresh_vertex-vertex.result c.crossing_point-point.result
+returns-clause-ok c = subst (λ op. OnOk c.step_accepted.result (c.step_accepted.new.self ≡ after_step c.args.draft.now op)) (same_cut c.args.draft.now.model c.args.plane c.args.e c.plus-first.result c.next_item-next.result c.plus-edge.result c.fresh_vertex-vertex.result c.crossing_point-point.result
     c.plus-first.ensures
     (c.next_item-next.ensures ∙ (λ i. after (c.arena-arena.ensures.model i) (minus_code c.args.draft.now.model c.args.plane c.args.e c.minus.result c.minus.ensures i)))
     (c.plus-edge.ensures ∙ ap (λ n. half (plus n)) (c.fresh_edge.ensures ∙ ap (λ X. (taken_in X).edge + 1) c.arena-arena.ensures.model))

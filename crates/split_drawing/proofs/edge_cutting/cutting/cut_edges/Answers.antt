@@ -1,6 +1,6 @@
 use Rattle.std.proofs.Common.{◌∙◌, ap, sym, subst, refl}
 use Rattle.euler_operators.specs.Sound.{Sound}
-use Rattle.undo_journal.specs.Machine.{DraftState}
+use Rattle.undo_journal.specs.Journal.{DraftJournal}
 use Rattle.shapes.specs.split.Sides.{crossing_edges}
 use Rattle.split_drawing.proofs.edge_cutting_laws.Remaining.{Cutting, cut_plane, begins, opened, next_goes, next_crosses, next_whole, next_taken}
 use Rattle.split_drawing.proofs.edge_cutting.cutting.cut_edges.Goals as goal
@@ -31,6 +31,6 @@ cut_edge-requires-clause-accepted c = next_goes _ _ _ _ _ _ (opened c.args.draft
 
 pub edges-preserved : goal.edges-preserved
 edges-preserved c = record {
-  cutting = next_taken _ _ _ _ _ _ (opened c.args.draft.now.model c.args.s c.args.plane.now c.edges.draft.model c.edges.rest.now _ c.in-len1-up.len_at_least c.edges.invariant.cutting) c.cut_edge.new.draft.model (ap (λ (d : DraftState). d.model) c.in_ok-cut_edge.ensures.ok);
-  session = ap (λ (d : DraftState). d.session) c.in_ok-cut_edge.ensures.ok ∙ c.edges.invariant.session;
+  cutting = next_taken _ _ _ _ _ _ (opened c.args.draft.now.model c.args.s c.args.plane.now c.edges.draft.model c.edges.rest.now _ c.in-len1-up.len_at_least c.edges.invariant.cutting) c.cut_edge.new.draft.model (ap (λ (d : DraftJournal). d.model) c.in_ok-cut_edge.ensures.ok);
+  session = ap (λ (d : DraftJournal). d.session) c.in_ok-cut_edge.ensures.ok ∙ c.edges.invariant.session;
 }

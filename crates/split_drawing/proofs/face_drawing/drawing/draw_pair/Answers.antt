@@ -1,6 +1,6 @@
 use Rattle.std.proofs.Common.{◌∙◌, ap}
 use Rattle.euler_operators.specs.Conditions.{first_false}
-use Rattle.undo_journal.specs.Machine.{draft_step}
+use Rattle.undo_journal.specs.Journal.{after_step}
 use Rattle.split_drawing.proofs.face_drawing_laws.PairOps.{draw_op}
 use Rattle.split_drawing.proofs.face_drawing.drawing.draw_pair.Goals as goal
 
@@ -8,4 +8,4 @@ pub step_accepted-requires : goal.step_accepted-requires
 step_accepted-requires c = ap (first_false c.args.draft.now.model) (draw_op c.args.progress c.args.pair) ∙ c.requires.accepted
 
 pub returns-clause-ok : goal.returns-clause-ok
-returns-clause-ok c = c.in_ok-step_accepted.ensures.ok ∙ ap (draft_step c.args.draft.now) (draw_op c.args.progress c.args.pair)
+returns-clause-ok c = c.in_ok-step_accepted.ensures.ok ∙ ap (after_step c.args.draft.now) (draw_op c.args.progress c.args.pair)

@@ -1,5 +1,5 @@
 use Rattle.std.proofs.Common.{◌∙◌, ap}
-use Rattle.undo_journal.specs.Machine.{DraftState}
+use Rattle.undo_journal.specs.Journal.{DraftJournal}
 use Rattle.split_drawing.proofs.face_drawing_laws.GivenRings.{ring_goes, rings_go, rings_made}
 use Rattle.split_drawing.proofs.face_drawing.rings.move_rings.Goals as goal
 
@@ -8,9 +8,9 @@ step_accepted-requires c = ring_goes c.rings.draft.model c.args.k c.rings.rest.n
 
 pub rings-preserved : goal.rings-preserved
 rings-preserved c =
-    let is = ap (λ (d : DraftState). d.model) c.in_ok-step_accepted.ensures.ok in
+    let is = ap (λ (d : DraftJournal). d.model) c.in_ok-step_accepted.ensures.ok in
     record {
       accepted = rings_go c.rings.draft.model c.args.k c.rings.rest.now _ c.in-len1-up.len_at_least c.rings.invariant.accepted c.step_accepted.new.self.model is;
       made = rings_made c.rings.draft.model c.args.k c.rings.rest.now _ c.in-len1-up.len_at_least c.rings.invariant.accepted c.step_accepted.new.self.model is ∙ c.rings.invariant.made;
-      session = ap (λ (d : DraftState). d.session) c.in_ok-step_accepted.ensures.ok ∙ c.rings.invariant.session;
+      session = ap (λ (d : DraftJournal). d.session) c.in_ok-step_accepted.ensures.ok ∙ c.rings.invariant.session;
     }

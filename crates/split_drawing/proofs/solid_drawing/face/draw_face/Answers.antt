@@ -1,7 +1,7 @@
 use Rattle.std.proofs.Common.{◌∙◌, [], map, sym, ap, subst}
 use Rattle.euler_operators.specs.Model.{Model}
 use Rattle.euler_operators.specs.Sound.{Has}
-use Rattle.undo_journal.specs.Machine.{DraftState}
+use Rattle.undo_journal.specs.Journal.{DraftJournal}
 use Rattle.split_drawing.specs.face_drawing.Codes.{codes}
 use Rattle.split_checks.specs.Progress.{drawing_of}
 use Rattle.split_drawing.proofs.solid_drawing_laws.OneFace.{can_join, then_there, then_draw, last_there, last_rings, with_shared, with_none}
@@ -34,8 +34,8 @@ returns-clause-drawn c = elim c.if-pairs-eq1.branch [
   | then-pairs-eq1+in_ok-share_rings w ↦ with_shared c.args.plane c.args.f c.args.pairs.now c.args.from c.args.draft.now.model c.requires.can c.in_ok-joined.joined c.join_pairs.new.draft.model c.in_ok-joined.left.items c.in_ok-joined.ensures.joined
       c.arena.result.now.model c.arena.ensures.model c.ring_free-looked_at.result c.ring_free-looked_at.ensures c.as_slice.result.now c.as_slice.ensures.value
       c.in_ok-drawn.drawn c.draw_pairs.new.draft.model c.in_ok-drawn.ensures.drawn w.if-pairs-eq1.true
-      c.if-pairs-eq1.draft.model (ap (λ (d : DraftState). d.model) (w.draft-is ∙ w.in_ok-share_rings.ensures.ok))
-  | else-pairs-eq1 w ↦ ap (λ (d : DraftState). drawing_of c.in_ok-drawn.drawn d.model []) w.draft-is
+      c.if-pairs-eq1.draft.model (ap (λ (d : DraftJournal). d.model) w.draft-is ∙ w.in_ok-share_rings.ensures.model)
+  | else-pairs-eq1 w ↦ ap (λ (d : DraftJournal). drawing_of c.in_ok-drawn.drawn d.model []) w.draft-is
       ∙ with_none c.args.plane c.args.f c.args.pairs.now c.args.from c.args.draft.now.model c.requires.can c.in_ok-joined.joined c.join_pairs.new.draft.model c.in_ok-joined.left.items c.in_ok-joined.ensures.joined
       c.arena.result.now.model c.arena.ensures.model c.ring_free-looked_at.result c.ring_free-looked_at.ensures c.as_slice.result.now c.as_slice.ensures.value
       c.in_ok-drawn.drawn c.draw_pairs.new.draft.model c.in_ok-drawn.ensures.drawn w.if-pairs-eq1.false

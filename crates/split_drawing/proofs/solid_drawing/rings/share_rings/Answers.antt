@@ -6,9 +6,9 @@ use Rattle.split_drawing_laws.specs.drawings.DrawingOps.{ring_ops}
 use Rattle.split_drawing.proofs.solid_drawing_laws.RingSteps.{rings_given}
 use Rattle.split_drawing.proofs.solid_drawing.rings.share_rings.Goals as goal
 
-pub returns-clause-ok : goal.returns-clause-ok
-returns-clause-ok c =
+pub returns-clause-model : goal.returns-clause-model
+returns-clause-model c =
     let M = c.args.draft.now.model in
     let are = c.as_slice.ensures.value ∙ c.in_ok-rings.ensures ∙ ap (λ X. rings_above X c.args.plane c.args.f) c.arena.ensures.model in
-    subst (λ (N : Model). OnOk c.move_rings.result (c.move_rings.new.draft ≡ record { session = c.args.draft.now.session; model = N }))
-    (ap (λ ls. effects M (ring_ops ls c.args.k)) are ∙ rings_given M (rings_above M c.args.plane c.args.f) c.args.k) c.move_rings.ensures.ok
+    subst (λ (N : Model). OnOk c.move_rings.result (c.move_rings.new.draft.model ≡ N))
+    (ap (λ ls. effects M (ring_ops ls c.args.k)) are ∙ rings_given M (rings_above M c.args.plane c.args.f) c.args.k) c.move_rings.ensures.model

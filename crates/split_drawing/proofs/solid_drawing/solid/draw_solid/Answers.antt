@@ -4,7 +4,6 @@ use Rattle.euler_operators.specs.Sound.{Sound}
 use Rattle.shapes.specs.Fresh.{taken_in}
 use Rattle.shapes.specs.split.Crossings.{with_crossings}
 use Rattle.shapes.specs.split.Drawing.{Drawing}
-use Rattle.undo_journal.specs.Machine.{DraftState}
 use Rattle.split_drawing.proofs.edge_cutting_laws.Remaining.{cut_plane}
 use Rattle.split_checks.specs.Progress.{drawing_of}
 use Rattle.split_drawing.specs.face_pairs.Paired.{paired, paired_faces}
@@ -16,7 +15,7 @@ pub faces_started-requires-clause-there : goal.faces_started-requires-clause-the
 faces_started-requires-clause-there c =
     let M = c.args.draft.now.model in let s = c.args.s in let p = c.args.plane.now in
     let sound = subst Sound c.arena.ensures.model c.arena.ensures.ready.sound in
-    let cut = c.arena-2.ensures.model ∙ ap (λ (d : DraftState). d.model) c.in_ok-cut_edges.ensures.ok in
+    let cut = c.arena-2.ensures.model ∙ c.in_ok-cut_edges.ensures.model in
     let pairs = ap (map paired) c.as_slice.ensures.value ∙ c.in_ok-faces.ensures ∙ ap (λ X. paired_faces X p s) c.arena.ensures.model in
     subst (λ (X : Model). FacesThere X (map paired c.as_slice.result.now)) (sym cut) (subst (FacesThere (with_crossings M s p).model) (sym pairs) (all_there M s p sound c.requires))
 
@@ -31,7 +30,7 @@ draw_faces-requires-clause-can c =
     let M = c.args.draft.now.model in let s = c.args.s in let p = c.args.plane.now in
     let sound = subst Sound c.arena.ensures.model c.arena.ensures.ready.sound in
     let pairs = ap (map paired) c.as_slice.ensures.value ∙ c.in_ok-faces.ensures ∙ ap (λ X. paired_faces X p s) c.arena.ensures.model in
-    can_draw M s p sound c.requires c.beginning-from.result c.cut_edges.new.draft.model (ap (λ (d : DraftState). d.model) c.in_ok-cut_edges.ensures.ok)
+    can_draw M s p sound c.requires c.beginning-from.result c.cut_edges.new.draft.model c.in_ok-cut_edges.ensures.model
     (c.beginning-from.ensures.taken ∙ ap taken_in c.arena-3.ensures.model) c.beginning-from.ensures.free (map paired c.as_slice-2.result.now)
     (ap (map paired) c.as_slice-2.ensures.value ∙ c.in_ok-started.ensures ∙ (λ i. faces_started (c.arena-2.ensures.model i) p (pairs i)))
 
@@ -40,7 +39,7 @@ returns-clause-drawn c =
     let M = c.args.draft.now.model in let s = c.args.s in let p = c.args.plane.now in
     let sound = subst Sound c.arena.ensures.model c.arena.ensures.ready.sound in
     let pairs = ap (map paired) c.as_slice.ensures.value ∙ c.in_ok-faces.ensures ∙ ap (λ X. paired_faces X p s) c.arena.ensures.model in
-    let same = made M s p sound c.requires c.beginning-from.result c.cut_edges.new.draft.model (ap (λ (d : DraftState). d.model) c.in_ok-cut_edges.ensures.ok)
+    let same = made M s p sound c.requires c.beginning-from.result c.cut_edges.new.draft.model c.in_ok-cut_edges.ensures.model
     (c.beginning-from.ensures.taken ∙ ap taken_in c.arena-3.ensures.model) c.beginning-from.ensures.free (map paired c.as_slice-2.result.now)
     (ap (map paired) c.as_slice-2.ensures.value ∙ c.in_ok-started.ensures ∙ (λ i. faces_started (c.arena-2.ensures.model i) p (pairs i))) in
     subst (λ (D : Drawing). IfOk c.draw_faces.result (λ drawn. drawing_of drawn c.draw_faces.new.draft.model [] ≡ D)) same c.draw_faces.ensures.drawn
