@@ -4,6 +4,7 @@ ghost use Rattle.euler_operators.specs.declared.Refusal.{Refusal};
 ghost use Rattle.euler_conditions.specs.Ready.{IsReady};
 ghost use Rattle.euler_operators.specs.Sound.{Sound};
 ghost use Rattle.undo_journal.specs.Machine.{held};
+ghost use Rattle.undo_journal.specs.Journal.{IsRecorded};
 ghost use Rattle.shapes.specs.split.Split as spec;
 ghost use Rattle.plane_split.specs.Machine.{plane_with, split, split_refusal};
 ghost use Rattle.split_drawing_laws.specs.crossings.Laws.{CanBegin};
@@ -56,8 +57,8 @@ fn admit(alloc: Global, arena: &Arena, s: u32, plane: &Plane, t: u32) -> Result<
 /// CutCrossed with the first face between whose cut places edges can't be drawn; BranchedVertex with the least vertex at which more
 /// than two edges of the section meet; SectionHoles with s where one of its cycles is a hole and not exactly one is outer; NumbersSpent
 /// with 2, 3, 4 or 5 where no numbers are left for closing the two. The tests take memory, and so do the steps: where it is refused
-/// `Memory` is answered, also in place of a refusal. On any failure the session is as it was. What holds after Ok of volumes and sides
-/// is said by `splits_are_held`.
+/// `Memory` is answered, also in place of a refusal. On any failure the session is as it was. An accepted split leaves one
+/// record. What holds after Ok of volumes and sides is said by `splits_are_held`.
 ///
 /// The operators are those of M. Mäntylä, *An Introduction to Solid Modeling* (1988): one for each edge that crosses the plane, one for
 /// each pair of cut places of a face and one for each ring that goes with a new face; 3 n + 1 for each cycle of n edges, which cut
@@ -73,9 +74,10 @@ pub fn split(
     d: i64,
     t: u32,
 ) -> (Session, Result<(), Failure>)
-    ensures sound { Sound (held session) }
-    ensures ok { OnOk result.1 ((split_refusal session s (plane_with a b c d) t ≡ None) × (result.0 ≡ split session s (plane_with a b c d) t)) }
-    ensures refused { (refusal : Refusal) → (result.1 ≡ Err (Failure.Refused refusal)) → (split_refusal session s (plane_with a b c d) t ≡ Some refusal) }
+    ensures sound { Sound (held session.machine) }
+    ensures ok { OnOk result.1 ((split_refusal session.machine s (plane_with a b c d) t ≡ None) × (result.0.machine ≡ split session.machine s (plane_with a b c d) t)) }
+    ensures recorded { OnOk result.1 (IsRecorded session result.0) }
+    ensures refused { (refusal : Refusal) → (result.1 ≡ Err (Failure.Refused refusal)) → (split_refusal session.machine s (plane_with a b c d) t ≡ Some refusal) }
     ensures err { OnErr result.1 (result.0 ≡ session) }
 {
     let plane = plane_of(a, b, c, d);

@@ -29,7 +29,7 @@ fn part_drawn(
 ) -> Result<(), AllocError>
     requires drawn { IsDrawn (drawing_of drawn.now draft.old.model []) s plane.now t }
     requires section { IsSection draft.old.model s plane.now section.now }
-    ensures ok { OnOk result (draft.new ≡ record draft.old { model = split_above (drawing_of drawn.now draft.old.model []) s plane.now t }) }
+    ensures model { OnOk result (draft.new.model ≡ split_above (drawing_of drawn.now draft.old.model []) s plane.now t) }
     ensures session { draft.new.session ≡ draft.old.session }
 {
     let caps = open_section(alloc, draft, s, plane, drawn, section)?;
@@ -50,7 +50,7 @@ pub(crate) fn carry_out(
     requires sound { Sound draft.old.model }
     requires begins { CanBegin draft.old.model s plane.now t }
     ensures carried { IfOk result (λ carried. carried ≡ verdict (split_refusal draft.old.model s plane.now t)) }
-    ensures ok { (result ≡ Ok (Ok tt)) → (draft.new ≡ record draft.old { model = split_model draft.old.model s plane.now t }) }
+    ensures model { (result ≡ Ok (Ok tt)) → (draft.new.model ≡ split_model draft.old.model s plane.now t) }
     ensures session { draft.new.session ≡ draft.old.session }
 {
     let drawn = draw_solid(alloc, draft, s, plane)?;

@@ -4,7 +4,7 @@ ghost use Rattle.euler_operators.specs.HalfEdge.{code};
 ghost use Rattle.euler_operators.specs.Model.{has_half};
 ghost use Rattle.euler_laws.specs.Laws.{effects};
 ghost use Rattle.euler_operators.specs.Conditions.{first_false};
-ghost use Rattle.undo_journal.specs.Machine.{draft_step};
+ghost use Rattle.undo_journal.specs.Journal.{after_step};
 ghost use Rattle.split_checks.specs.Progress.{taken_of};
 ghost use Rattle.split_opening_laws.specs.strips.StripOps as ops;
 ghost use Rattle.plane_split.specs.solid_opening.Stages.{AreStripped};
@@ -36,7 +36,7 @@ fn raise_copy(
     requires edges_left { from.now.edges + 2 * length halves.now ≤ 1000000 }
     requires vertices_left { from.now.vertices + length halves.now ≤ 1000000 }
     requires accepted { first_false draft.old.model (ops.raise_copy draft.old.model (taken_of from.now) (map code halves.now) i) ≡ None }
-    ensures ok { OnOk result (draft.new ≡ draft_step draft.old (ops.raise_copy draft.old.model (taken_of from.now) (map code halves.now) i)) }
+    ensures ok { OnOk result (draft.new ≡ after_step draft.old (ops.raise_copy draft.old.model (taken_of from.now) (map code halves.now) i)) }
     ensures err { OnErr result (draft.new ≡ draft.old) }
 {
     let count = halves.len() as u32;
@@ -62,7 +62,7 @@ pub(crate) fn raise_copies(
     halves: &[HalfEdge],
 ) -> Result<(), AllocError>
     requires { AreStripped draft.old.model s (taken_of from.now) (map code halves.now) }
-    ensures ok { OnOk result (draft.new ≡ record draft.old { model = effects draft.old.model (ops.copy_ops draft.old.model (taken_of from.now) (map code halves.now) (length halves.now)) }) }
+    ensures model { OnOk result (draft.new.model ≡ effects draft.old.model (ops.copy_ops draft.old.model (taken_of from.now) (map code halves.now) (length halves.now))) }
     ensures session { draft.new.session ≡ draft.old.session }
 {
     let count = halves.len() as u32;

@@ -24,7 +24,7 @@ pub(crate) fn open_cycle(
     halves: &[HalfEdge],
 ) -> Result<(), AllocError>
     requires { CanOpen draft.old.model s (taken_of from.now) (map code halves.now) }
-    ensures ok { OnOk result (draft.new ≡ record draft.old { model = effects draft.old.model (opening_ops draft.old.model s (taken_of from.now) (map code halves.now)) }) }
+    ensures model { OnOk result (draft.new.model ≡ effects draft.old.model (opening_ops draft.old.model s (taken_of from.now) (map code halves.now))) }
     ensures session { draft.new.session ≡ draft.old.session }
 {
     cut_strips(draft, s, from, halves)?;

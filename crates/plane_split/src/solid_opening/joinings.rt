@@ -15,7 +15,7 @@ fn join_strips(draft: &mut Draft, from: &Progress, count: u32) -> Result<(), All
     requires some { 1 ≤ count }
     requires edges_left { from.now.edges + 2 * count ≤ 1000000 }
     requires accepted { AreAccepted draft.old.model (joinings (taken_of from.now) count (count - 1)) }
-    ensures ok { OnOk result (draft.new ≡ record draft.old { model = effects draft.old.model (joinings (taken_of from.now) count (count - 1)) }) }
+    ensures model { OnOk result (draft.new.model ≡ effects draft.old.model (joinings (taken_of from.now) count (count - 1))) }
     ensures session { draft.new.session ≡ draft.old.session }
 {
     let last = from.edges + 2 * count;
@@ -34,7 +34,7 @@ pub(crate) fn make_caps(draft: &mut Draft, from: &Progress, count: u32) -> Resul
     requires loops_left { from.now.loops + count + 1 ≤ 1000000 }
     requires edges_left { from.now.edges + 2 * count ≤ 1000000 }
     requires accepted { AreAccepted draft.old.model (cap_ops (taken_of from.now) count) }
-    ensures ok { OnOk result (draft.new ≡ record draft.old { model = effects draft.old.model (cap_ops (taken_of from.now) count) }) }
+    ensures model { OnOk result (draft.new.model ≡ effects draft.old.model (cap_ops (taken_of from.now) count)) }
     ensures session { draft.new.session ≡ draft.old.session }
 {
     join_strips(draft, from, count)?;

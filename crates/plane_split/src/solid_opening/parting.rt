@@ -33,7 +33,7 @@ fn outer_caps(caps: &[Caps]) -> Caps
 /// Makes the caps of a hole rings of the outer caps, where both operators are accepted in turn.
 fn close_hole(draft: &mut Draft, outer: Caps, hole: Caps) -> Result<(), AllocError>
     requires { AreAccepted draft.old.model (Kfmrh outer.lower hole.lower ∷ Kfmrh outer.upper hole.upper ∷ []) }
-    ensures ok { OnOk result (draft.new ≡ record draft.old { model = effects draft.old.model (Kfmrh outer.lower hole.lower ∷ Kfmrh outer.upper hole.upper ∷ []) }) }
+    ensures model { OnOk result (draft.new.model ≡ effects draft.old.model (Kfmrh outer.lower hole.lower ∷ Kfmrh outer.upper hole.upper ∷ [])) }
     ensures session { draft.new.session ≡ draft.old.session }
 {
     draft.step_accepted(Op::Kfmrh(outer.lower, hole.lower))?;
@@ -44,7 +44,7 @@ fn close_hole(draft: &mut Draft, outer: Caps, hole: Caps) -> Result<(), AllocErr
 /// may be taken.
 fn close_holes(draft: &mut Draft, outer: Caps, caps: &[Caps]) -> Result<(), AllocError>
     requires { AreAccepted draft.old.model (holes_ops (caps_of outer) caps.now) }
-    ensures ok { OnOk result (draft.new ≡ record draft.old { model = effects draft.old.model (holes_ops (caps_of outer) caps.now) }) }
+    ensures model { OnOk result (draft.new.model ≡ effects draft.old.model (holes_ops (caps_of outer) caps.now)) }
     ensures session { draft.new.session ≡ draft.old.session }
 {
     let mut rest = caps;
@@ -95,7 +95,7 @@ pub(crate) fn part_upper(
     caps: &[Caps],
 ) -> Result<(), AllocError>
     requires { AreAccepted draft.old.model (hole_ops (all_caps caps.now) ++ Part s t (upper_left above.now (all_caps caps.now)) ∷ []) }
-    ensures ok { OnOk result (draft.new ≡ record draft.old { model = effects draft.old.model (hole_ops (all_caps caps.now) ++ Part s t (upper_left above.now (all_caps caps.now)) ∷ []) }) }
+    ensures model { OnOk result (draft.new.model ≡ effects draft.old.model (hole_ops (all_caps caps.now) ++ Part s t (upper_left above.now (all_caps caps.now)) ∷ [])) }
     ensures session { draft.new.session ≡ draft.old.session }
 {
     close_holes(draft, outer_caps(caps), caps)?;

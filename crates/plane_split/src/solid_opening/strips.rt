@@ -4,7 +4,7 @@ ghost use Rattle.euler_operators.specs.HalfEdge.{code, mate};
 ghost use Rattle.euler_operators.specs.Model.{has_half};
 ghost use Rattle.euler_laws.specs.Laws.{effects};
 ghost use Rattle.euler_operators.specs.Conditions.{first_false};
-ghost use Rattle.undo_journal.specs.Machine.{draft_step};
+ghost use Rattle.undo_journal.specs.Journal.{after_step};
 ghost use Rattle.split_checks.specs.Progress.{taken_of};
 ghost use Rattle.split_opening_laws.specs.strips.StripOps as ops;
 ghost use Rattle.plane_split.specs.solid_opening.Stages.{CanOpen};
@@ -28,7 +28,7 @@ fn cut_strip(
     requires loops_left { from.now.loops + i + 1 ≤ 1000000 }
     requires edges_left { from.now.edges + i + 1 ≤ 1000000 }
     requires accepted { first_false draft.old.model (ops.cut_strip draft.old.model (taken_of from.now) (map code halves.now) i) ≡ None }
-    ensures ok { OnOk result (draft.new ≡ draft_step draft.old (ops.cut_strip draft.old.model (taken_of from.now) (map code halves.now) i)) }
+    ensures ok { OnOk result (draft.new ≡ after_step draft.old (ops.cut_strip draft.old.model (taken_of from.now) (map code halves.now) i)) }
     ensures err { OnErr result (draft.new ≡ draft.old) }
 {
     let mate = halves[i as usize].mate();
@@ -46,7 +46,7 @@ pub(crate) fn cut_strips(
     halves: &[HalfEdge],
 ) -> Result<(), AllocError>
     requires { CanOpen draft.old.model s (taken_of from.now) (map code halves.now) }
-    ensures ok { OnOk result (draft.new ≡ record draft.old { model = effects draft.old.model (ops.strip_ops draft.old.model s (taken_of from.now) (map code halves.now) (length halves.now)) }) }
+    ensures model { OnOk result (draft.new.model ≡ effects draft.old.model (ops.strip_ops draft.old.model s (taken_of from.now) (map code halves.now) (length halves.now))) }
     ensures session { draft.new.session ≡ draft.old.session }
 {
     let count = halves.len() as u32;

@@ -2,7 +2,8 @@ use mir.Val.{SFits, of_z, to_z}
 use Rattle.std.proofs.Common.{◌≡◌, w64, ℤ, Ok, Err, sym, ap, ◌∙◌}
 use Rattle.std.proofs.lemmas.Int.{to_z-of_z}
 use Rattle.euler_operators.specs.declared.Plane.{Plane}
-use Rattle.undo_journal.specs.Machine.{accepted, commit}
+use Rattle.undo_journal.specs.Machine.{accepted}
+use Rattle.undo_journal.specs.Journal.{Journal}
 use Rattle.shapes.specs.split.Split.{split_refusal, split_model}
 use Rattle.plane_split.proofs.Conditions.{same_refusal}
 use Rattle.plane_split.proofs.command.split.Goals as goal
@@ -28,8 +29,9 @@ returns-in-Ok-Ok-clause-ok c =
     let opened = c.in-Ok.ensures.ok in (
       sym (λ i. split_refusal (opened i).model c.args.s (plane i) c.args.t)
           ∙ verdict_passed (split_refusal c.in-Ok.draft.model c.args.s c.plane_of-plane.result c.args.t) tt (sym c.in-Ok-Ok.field-0-is ∙ c.in-Ok-Ok.ensures.carried),
-      c.commit.ensures ∙ ap commit (c.in-Ok-Ok.ensures.ok (ap Ok c.in-Ok-Ok.field-0-is))
-          ∙ (λ i. accepted (opened i).session (split_model (opened i).model c.args.s (plane i) c.args.t)),
+      ap (λ (j : Journal). j.machine) c.commit.ensures
+          ∙ (λ i. accepted (c.in-Ok-Ok.ensures.session i).machine (c.in-Ok-Ok.ensures.model (ap Ok c.in-Ok-Ok.field-0-is) i))
+          ∙ (λ i. accepted (opened i).session.machine (split_model (opened i).model c.args.s (plane i) c.args.t)),
     )
 
 pub returns-in-Ok-Err-clause-refused : goal.returns-in-Ok-Err-clause-refused

@@ -43,9 +43,6 @@ returns-clause-carried c =
     ap verdict (sym found.0 ∙ later_decide c.args.draft.now.model c.args.s c.args.plane.now c.args.t c.requires.begins (drawing_of c.in_ok-drawn.drawn c.arena.result.now.model [])
     (ap (λ X. drawing_of c.in_ok-drawn.drawn X []) c.arena.ensures.model ∙ c.in_ok-drawn.ensures.drawn))
 
-pub returns-clause-ok : goal.returns-clause-ok
-returns-clause-ok c = λ is.
-    c.in_ok-part_drawn.ensures.ok ∙ (λ i. record {
-      session = c.in_ok-drawn.ensures.session i;
-      model = (ap (λ x. split_above x c.args.s c.args.plane.now c.args.t) c.in_ok-drawn.ensures.drawn ∙ split_is c.args.draft.now.model c.args.s c.args.plane.now c.args.t) i;
-    })
+pub returns-clause-model : goal.returns-clause-model
+returns-clause-model c = λ is.
+    c.in_ok-part_drawn.ensures.model ∙ ap (λ x. split_above x c.args.s c.args.plane.now c.args.t) c.in_ok-drawn.ensures.drawn ∙ split_is c.args.draft.now.model c.args.s c.args.plane.now c.args.t

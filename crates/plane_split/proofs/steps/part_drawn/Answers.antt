@@ -13,9 +13,9 @@ part_upper-requires c =
     (upper_leads c.args.draft.now.model c.args.drawn.now c.args.s c.args.plane.now c.args.t c.args.section.now c.requires.drawn c.requires.section
     c.open_section.new.draft.model c.as_slice-above.result.now (all_caps c.as_slice.result.now) opened.0 c.as_slice-above.ensures.value (ap all_caps c.as_slice.ensures.value ∙ opened.1)).accepted
 
-pub returns-clause-ok : goal.returns-clause-ok
-returns-clause-ok c =
+pub returns-clause-model : goal.returns-clause-model
+returns-clause-model c =
     let opened = c.in_ok-caps.ensures.opened in
     let made = (upper_leads c.args.draft.now.model c.args.drawn.now c.args.s c.args.plane.now c.args.t c.args.section.now c.requires.drawn c.requires.section
     c.open_section.new.draft.model c.as_slice-above.result.now (all_caps c.as_slice.result.now) opened.0 c.as_slice-above.ensures.value (ap all_caps c.as_slice.ensures.value ∙ opened.1)).made in
-    on_ok_weaker c.part_upper.result (λ h. h ∙ (λ i. record { session = c.in_ok-caps.ensures.session i; model = made i })) c.part_upper.ensures.ok
+    on_ok_weaker c.part_upper.result (λ h. h ∙ made) c.part_upper.ensures.model

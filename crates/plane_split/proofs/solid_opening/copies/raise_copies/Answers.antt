@@ -1,7 +1,7 @@
 use Rattle.std.proofs.Common.{◌≡◌, ◌∙◌, map, length, ap, arith}
 use Rattle.euler_operators.specs.HalfEdge.{code}
 use Rattle.euler_laws.specs.Laws.{effects}
-use Rattle.undo_journal.specs.Machine.{DraftState}
+use Rattle.undo_journal.specs.Journal.{DraftJournal}
 use Rattle.split_checks.specs.Progress.{taken_of}
 use Rattle.split_opening_laws.specs.strips.StripOps.{copy_ops}
 use Rattle.plane_split.proofs.solid_opening_laws.Cycles.{inside_codes, edges_left, vertices_left}
@@ -24,14 +24,11 @@ pub copies-preserved : goal.copies-preserved
 copies-preserved c = record {
   inside = omega (arith, c.copies-test.true);
   model = one_raised c.args.draft.now.model c.args.s (taken_of c.args.from.now) (map code c.args.halves.now) c.requires c.copies.i (inside_codes c.args.halves.now c.copies.i c.copies-test.true) c.copies.draft.model c.copies.invariant.model
-      c.raise_copy.new.draft.model (ap (λ (d : DraftState). d.model) c.in_ok-raise_copy.ensures.ok);
-  session = ap (λ (d : DraftState). d.session) c.in_ok-raise_copy.ensures.ok ∙ c.copies.invariant.session;
+      c.raise_copy.new.draft.model (ap (λ (d : DraftJournal). d.model) c.in_ok-raise_copy.ensures.ok);
+  session = ap (λ (d : DraftJournal). d.session) c.in_ok-raise_copy.ensures.ok ∙ c.copies.invariant.session;
 }
 
-pub returns-clause-ok : goal.returns-clause-ok
-returns-clause-ok c =
+pub returns-clause-model : goal.returns-clause-model
+returns-clause-model c =
     let all : c.copies.i ≡ length c.args.halves.now = omega (arith, c.copies.invariant.inside, c.copies-test.false) in
-    λ j. record {
-      session = c.copies.invariant.session j;
-      model = (c.copies.invariant.model ∙ ap (λ n. effects c.args.draft.now.model (copy_ops c.args.draft.now.model (taken_of c.args.from.now) (map code c.args.halves.now) n)) all) j;
-    }
+    c.copies.invariant.model ∙ ap (λ n. effects c.args.draft.now.model (copy_ops c.args.draft.now.model (taken_of c.args.from.now) (map code c.args.halves.now) n)) all

@@ -1,6 +1,6 @@
 use Rattle.std.proofs.Common.{◌∙◌, ◌+◌, ◌*◌, ap, sym, refl, subst, arith}
 use Rattle.euler_laws.specs.Laws.{AreAccepted, effects}
-use Rattle.undo_journal.specs.Machine.{DraftState}
+use Rattle.undo_journal.specs.Journal.{DraftJournal}
 use Rattle.split_checks.specs.Progress.{taken_of}
 use Rattle.plane_split.proofs.solid_opening_laws.Killed.{all_kills, no_kills, kill_goes, kills_go, kills_made}
 use Rattle.plane_split.proofs.solid_opening.joinings.join_strips.Goals as goal
@@ -21,15 +21,15 @@ step_accepted-requires c = kill_goes c.risers.draft.model c.risers.riser (c.args
 pub risers-preserved : goal.risers-preserved
 risers-preserved c =
     let last = c.args.from.now.edges + 2 * c.args.count in
-    let is = ap (λ (d : DraftState). d.model) c.in_ok-step_accepted.ensures.ok in
+    let is = ap (λ (d : DraftJournal). d.model) c.in_ok-step_accepted.ensures.ok in
     record {
       inside = omega (arith, c.risers-test.true);
       accepted = kills_go c.risers.draft.model c.risers.riser last c.risers-test.true c.risers.invariant.accepted c.minus.result c.minus.ensures c.step_accepted.new.self.model is;
       made = kills_made c.risers.draft.model c.risers.riser last c.risers-test.true c.risers.invariant.accepted c.minus.result c.minus.ensures c.step_accepted.new.self.model is ∙ c.risers.invariant.made;
-      session = ap (λ (d : DraftState). d.session) c.in_ok-step_accepted.ensures.ok ∙ c.risers.invariant.session;
+      session = ap (λ (d : DraftJournal). d.session) c.in_ok-step_accepted.ensures.ok ∙ c.risers.invariant.session;
     }
 
-pub returns-clause-ok : goal.returns-clause-ok
-returns-clause-ok c =
+pub returns-clause-model : goal.returns-clause-model
+returns-clause-model c =
     let none = no_kills c.risers.riser (c.args.from.now.edges + 2 * c.args.count) c.risers-test.false in
-    λ j. record { session = c.risers.invariant.session j; model = (ap (effects c.risers.draft.model) (sym none) ∙ c.risers.invariant.made) j }
+    ap (effects c.risers.draft.model) (sym none) ∙ c.risers.invariant.made

@@ -1,5 +1,4 @@
-use Rattle.std.proofs.Common.{◌∙◌, ap}
-use Rattle.undo_journal.specs.Machine.{DraftState}
+use Rattle.std.proofs.Common.{◌∙◌}
 use Rattle.plane_split.proofs.solid_opening_laws.Turns.{cycle_opens, others_left}
 use Rattle.plane_split.proofs.solid_opening.opening.open_section.Goals as goal
 
@@ -10,11 +9,11 @@ open_cycle-requires c = cycle_opens c.args.section.now.above.items c.args.s c.ar
 pub cycles-preserved : goal.cycles-preserved
 cycles-preserved c =
     let left = others_left c.args.section.now.above.items c.args.s c.args.plane.now c.cycles.draft.model c.cycles.progress c.cycles.caps.items c.cycles.rest.now c.cycle-item.result c.in-len1-up.len_at_least c.cycle-item.is
-    c.cycles.invariant.opens c.as_slice-halves.result.now c.as_slice-halves.ensures.value c.cycles.invariant.holes c.open_cycle.new.draft.model (ap (λ (d : DraftState). d.model) c.in_ok-open_cycle.ensures.ok)
+    c.cycles.invariant.opens c.as_slice-halves.result.now c.as_slice-halves.ensures.value c.cycles.invariant.holes c.open_cycle.new.draft.model c.in_ok-open_cycle.ensures.model
     c.counted_on-progress.result c.counted_on-progress.ensures c.caps_after.result c.caps_after.ensures c.push.new.self.items c.in_ok-push.ensures.items in
     record {
       opens = left.0;
       holes = left.1;
       made = left.2 ∙ c.cycles.invariant.made;
-      session = ap (λ (d : DraftState). d.session) c.in_ok-open_cycle.ensures.ok ∙ c.cycles.invariant.session;
+      session = c.in_ok-open_cycle.ensures.session ∙ c.cycles.invariant.session;
     }

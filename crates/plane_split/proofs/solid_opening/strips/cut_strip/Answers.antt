@@ -1,7 +1,7 @@
 use Rattle.std.proofs.Common.{◌≡◌, ◌∙◌, ap, subst}
 use Rattle.std.specs.Result.{OnOk}
 use Rattle.euler_operators.specs.Conditions.{first_false}
-use Rattle.undo_journal.specs.Machine.{draft_step}
+use Rattle.undo_journal.specs.Journal.{after_step}
 use Rattle.split_checks.specs.Progress.{taken_of}
 use Rattle.plane_split.proofs.solid_opening_laws.Items.{strip_op}
 use Rattle.plane_split.proofs.solid_opening.strips.cut_strip.Goals as goal
@@ -11,6 +11,6 @@ step_accepted-requires c = ap (first_false c.args.draft.now.model) (strip_op c.a
     c.mate-mate.result c.next_item-next.result c.plus-edge.result c.mate-mate.ensures c.next_item-next.ensures c.plus-edge.ensures) ∙ c.requires.accepted
 
 pub returns-clause-ok : goal.returns-clause-ok
-returns-clause-ok c = subst (λ op. OnOk c.step_accepted.result (c.step_accepted.new.self ≡ draft_step c.args.draft.now op))
+returns-clause-ok c = subst (λ op. OnOk c.step_accepted.result (c.step_accepted.new.self ≡ after_step c.args.draft.now op))
     (strip_op c.arena.result.now.model c.args.draft.now.model c.arena.ensures.model (taken_of c.args.from.now) c.args.halves.now c.args.i c.requires.inside _
     c.mate-mate.result c.next_item-next.result c.plus-edge.result c.mate-mate.ensures c.next_item-next.ensures c.plus-edge.ensures) c.step_accepted.ensures.ok

@@ -1,7 +1,7 @@
 use Rattle.std.proofs.Common.{◌≡◌, ◌∙◌, map, length, ap, arith}
 use Rattle.euler_operators.specs.HalfEdge.{code}
 use Rattle.euler_laws.specs.Laws.{effects}
-use Rattle.undo_journal.specs.Machine.{DraftState}
+use Rattle.undo_journal.specs.Journal.{DraftJournal}
 use Rattle.split_checks.specs.Progress.{taken_of}
 use Rattle.split_opening_laws.specs.strips.StripOps.{strip_ops}
 use Rattle.plane_split.proofs.solid_opening_laws.Cycles.{inside_codes, edges_left, faces_left, loops_left}
@@ -27,14 +27,11 @@ pub strips-preserved : goal.strips-preserved
 strips-preserved c = record {
   inside = omega (arith, c.strips-test.true);
   model = one_more c.args.draft.now.model c.args.s (taken_of c.args.from.now) (map code c.args.halves.now) c.requires c.strips.i (inside_codes c.args.halves.now c.strips.i c.strips-test.true) c.strips.draft.model c.strips.invariant.model
-      c.cut_strip.new.draft.model (ap (λ (d : DraftState). d.model) c.in_ok-cut_strip.ensures.ok);
-  session = ap (λ (d : DraftState). d.session) c.in_ok-cut_strip.ensures.ok ∙ c.strips.invariant.session;
+      c.cut_strip.new.draft.model (ap (λ (d : DraftJournal). d.model) c.in_ok-cut_strip.ensures.ok);
+  session = ap (λ (d : DraftJournal). d.session) c.in_ok-cut_strip.ensures.ok ∙ c.strips.invariant.session;
 }
 
-pub returns-clause-ok : goal.returns-clause-ok
-returns-clause-ok c =
+pub returns-clause-model : goal.returns-clause-model
+returns-clause-model c =
     let all : c.strips.i ≡ length c.args.halves.now = omega (arith, c.strips.invariant.inside, c.strips-test.false) in
-    λ j. record {
-      session = c.strips.invariant.session j;
-      model = (c.strips.invariant.model ∙ ap (λ n. effects c.args.draft.now.model (strip_ops c.args.draft.now.model c.args.s (taken_of c.args.from.now) (map code c.args.halves.now) n)) all) j;
-    }
+    c.strips.invariant.model ∙ ap (λ n. effects c.args.draft.now.model (strip_ops c.args.draft.now.model c.args.s (taken_of c.args.from.now) (map code c.args.halves.now) n)) all
