@@ -1,6 +1,7 @@
 -- What a command is answered, from how the session's call ended.
 use Rattle.std.proofs.Common.{◌≡◌, inl, inr, Option, Some, None, Ok, Err, refl, sym, ap, subst, OnOk, OnErr}
 use Rattle.std.specs.Prelude.{◌↔◌, ℤ, Result}
+use Rattle.std.proofs.lemmas.Result.{on_ok_weaker}
 use Rattle.euler_operators.specs.declared.Refusal.{Refusal}
 use Rattle.undo_journal.specs.Machine.{Machine}
 use Rattle.undo_journal.specs.Journal.{Journal}
@@ -31,14 +32,10 @@ pub acts_told : (o : Option Refusal) (s : Journal) (acted : Machine) (ended : Re
     → ((r : Refusal) → (ended ≡ Err (failure.Refused r)) ↔ (o ≡ Some r)) → OnErr ended (t ≡ s) → Acts o s.machine acted a t.machine
 acts_told o s acted ended t a is ok iff err = subst (λ (b : Answer). Acts o s.machine acted b t.machine) (sym is) (acts o s acted ended t ok iff err)
 
-on_machine : {A : Type 0} (ended : Result (Unit {0}) Failure) (t next : Journal) → OnOk ended (A × (t ≡ next)) → OnOk ended (A × (t.machine ≡ next.machine))
-on_machine (Ok _) t next h = (h.0, same_machine h.1)
-on_machine (Err f) t next h = h
-
 -- where the whole journal after an accepted command is known
 pub acts_on : (o : Option Refusal) (s next : Journal) (ended : Result (Unit {0}) Failure) (t : Journal) → OnOk ended ((o ≡ None) × (t ≡ next))
     → ((r : Refusal) → (ended ≡ Err (failure.Refused r)) ↔ (o ≡ Some r)) → OnErr ended (t ≡ s) → Acts o s.machine next.machine (outcome ended) t.machine
-acts_on o s next ended t ok iff err = acts o s next.machine ended t (on_machine ended t next ok) iff err
+acts_on o s next ended t ok iff err = acts o s next.machine ended t (on_ok_weaker ended (λ h. (h.0, same_machine h.1)) ok) iff err
 
 -- where a refusal names a false condition, and memory may have been refused before the conditions were tested
 pub tries : (o : Option Refusal) (s : Journal) (acted : Machine) (ended : Result (Unit {0}) Failure) (t : Journal) → OnOk ended ((o ≡ None) × (t.machine ≡ acted))
