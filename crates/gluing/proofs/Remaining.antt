@@ -1,4 +1,5 @@
 -- Operators that are still to be taken.
+use Rattle.std.specs.Prelude.{Result, Ok, Err, OnOk, OnErr}
 use Rattle.std.proofs.Common.{◌≡◌, ℕ, List, [], ◌∷◌, None, refl, sym, ap, ◌∙◌, subst}
 use Rattle.euler_operators.specs.declared.HalfEdge.{HalfEdge}
 use Rattle.euler_operators.specs.declared.Corner.TheVariants.{At}
@@ -10,6 +11,7 @@ use Rattle.euler_operators.specs.declared.Op.TheVariants.{Merge, Kfmrh, Mekr, Ke
 use Rattle.euler_operators.specs.Conditions.{first_false}
 use Rattle.euler_operators.specs.Effect.{effect}
 use Rattle.euler_laws.specs.Laws.{effects, AreAccepted}
+use Rattle.undo_journal.specs.Journal.{DraftJournal, after_step}
 use Rattle.shapes.specs.glue.GlueOps.{opening, closing}
 
 -- from N on each operator is accepted in its turn, and they make X
@@ -28,6 +30,11 @@ next_taken {ops = ops} {X = X} r e = subst (λ Y. Remaining Y ops X) (sym e) (re
 -- once all are taken the model is made
 pub all_taken : {N : Model} {X : Model} → Remaining N [] X → N ≡ X
 all_taken r = r.made
+
+-- a step, taken or stopped by memory, leaves the session from which the draft was opened
+pub session_stays : {T E : Type 0} (r : Result T E) (d e : DraftJournal) (op : Op) → OnOk r (e ≡ after_step d op) → OnErr r (e ≡ d) → e.session ≡ d.session
+session_stays (Ok x) d e op taken stopped = ap (λ (k : DraftJournal). k.session) taken
+session_stays (Err x) d e op taken stopped = ap (λ (k : DraftJournal). k.session) stopped
 
 -- ---- the operators of a glue, as half-edges are written in the code
 

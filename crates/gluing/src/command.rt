@@ -3,6 +3,7 @@ ghost use Rattle.std.specs.Prelude.{◌≡◌, None, Some, Err, OnOk, OnErr};
 ghost use Rattle.euler_operators.specs.declared.Refusal.{Refusal};
 ghost use Rattle.euler_conditions.specs.Ready.{IsReady};
 ghost use Rattle.shapes.specs.glue.Glue as spec;
+ghost use Rattle.undo_journal.specs.Journal.{IsRecorded};
 ghost use Rattle.gluing.specs.Machine.{glue, glue_refusal};
 
 use crate::glue_checks::check_glue;
@@ -31,14 +32,15 @@ fn admit(alloc: Global, arena: &Arena, f: u32, g: u32) -> Result<(), Failure>
 /// least lone loop of the two solids; NotFlat with their least face that isn't flat; RepeatedPoint with the face, f before g, of
 /// which two corners have equal points; NoMatch with g where its points, read backwards, are no rotation of those of f; NumbersSpent
 /// with 4 where no number is left for an edge. The tests take memory, and so do the steps: where it is refused `Memory` is answered,
-/// also in place of a refusal. On any failure the session is as it was.
+/// also in place of a refusal. On any failure the session is as it was. An accepted glue leaves one record.
 ///
 /// The operators are those of M. Mäntylä, *An Introduction to Solid Modeling* (1988): the solids are merged, the outer loop of g
 /// becomes a ring of f and one loop with that of f, and then each item of f is closed with the item of g that goes back along it.
 /// For n items they are 3 n + 2. Cost: the tests', those of the merge, and for each item the cost of its three operators.
 pub fn glue(alloc: Global, session: Session, f: u32, g: u32) -> (Session, Result<(), Failure>)
-    ensures ok { OnOk result.1 ((glue_refusal session f g ≡ None) × (result.0 ≡ glue session f g)) }
-    ensures refused { (refusal : Refusal) → (result.1 ≡ Err (Failure.Refused refusal)) → (glue_refusal session f g ≡ Some refusal) }
+    ensures ok { OnOk result.1 ((glue_refusal session.machine f g ≡ None) × (result.0.machine ≡ glue session.machine f g)) }
+    ensures recorded { OnOk result.1 (IsRecorded session result.0) }
+    ensures refused { (refusal : Refusal) → (result.1 ≡ Err (Failure.Refused refusal)) → (glue_refusal session.machine f g ≡ Some refusal) }
     ensures err { OnErr result.1 (result.0 ≡ session) }
 {
     if let Err(failure) = admit(alloc, session.arena(), f, g) {

@@ -1,5 +1,5 @@
 //! Two faces glued operator by operator in a draft.
-ghost use Rattle.std.specs.Prelude.{◌≡◌, ◌≤◌, true, None, OnOk, OnErr};
+ghost use Rattle.std.specs.Prelude.{◌≡◌, ◌≤◌, true, None, OnOk};
 ghost use Rattle.euler_operators.specs.HalfEdge.{code};
 ghost use Rattle.euler_operators.specs.Model.{after, before, has_half, outer};
 ghost use Rattle.euler_operators.specs.Sound.{Has};
@@ -68,8 +68,8 @@ fn open_seam(
     requires first_there { Has draft.old.model.faces f }
     requires second_there { Has draft.old.model.faces g }
     requires accepted { AreAccepted draft.old.model (opening draft.old.model f g (code first) (code partner) edge) }
-    ensures ok { OnOk result (draft.new ≡ record draft.old { model = effects draft.old.model (opening draft.old.model f g (code first) (code partner) edge) }) }
-    ensures err { OnErr result (draft.new.session ≡ draft.old.session) }
+    ensures model { OnOk result (draft.new.model ≡ effects draft.old.model (opening draft.old.model f g (code first) (code partner) edge)) }
+    ensures session { draft.new.session ≡ draft.old.session }
 {
     let solid = draft.arena().solid_of(f);
     let other = draft.arena().solid_of(g);
@@ -88,8 +88,8 @@ fn close_item(
     spare: Spare,
 ) -> Result<(), AllocError>
     requires { AreAccepted draft.old.model (closing (code partner) (code next) spare.edge spare.face spare.ring) }
-    ensures ok { OnOk result (draft.new ≡ record draft.old { model = effects draft.old.model (closing (code partner) (code next) spare.edge spare.face spare.ring) }) }
-    ensures err { OnErr result (draft.new.session ≡ draft.old.session) }
+    ensures model { OnOk result (draft.new.model ≡ effects draft.old.model (closing (code partner) (code next) spare.edge spare.face spare.ring)) }
+    ensures session { draft.new.session ≡ draft.old.session }
 {
     draft.step_accepted(Op::Mef(
         partner,
@@ -108,8 +108,8 @@ fn close_item(
 /// one comes before it.
 pub(crate) fn join(draft: &mut Draft, f: u32, g: u32) -> Result<(), AllocError>
     requires { glue_refusal draft.old.model f g ≡ None }
-    ensures ok { OnOk result (draft.new ≡ record draft.old { model = glue_model draft.old.model f g }) }
-    ensures err { OnErr result (draft.new.session ≡ draft.old.session) }
+    ensures model { OnOk result (draft.new.model ≡ glue_model draft.old.model f g) }
+    ensures session { draft.new.session ≡ draft.old.session }
 {
     let arena = draft.arena();
     let spare = spare_of(arena, g);

@@ -2,8 +2,8 @@ use Rattle.std.proofs.Common.{refl, ap, ◌∙◌}
 use Rattle.std.proofs.lemmas.Result.{on_ok_weaker}
 use Rattle.euler_operators.specs.HalfEdge.{code, half, mate, minus}
 use Rattle.euler_operators.proofs.Halves.{code-half}
-use Rattle.undo_journal.specs.Machine.{DraftState}
-use Rattle.gluing.proofs.Remaining.{closing_left, next_goes, next_taken, all_taken}
+use Rattle.undo_journal.specs.Journal.{DraftJournal}
+use Rattle.gluing.proofs.Remaining.{closing_left, next_goes, next_taken, all_taken, session_stays}
 use Rattle.gluing.proofs.joining.close_item.Goals as goal
 
 pub step_accepted-requires : goal.step_accepted-requires
@@ -14,23 +14,25 @@ pub step_accepted-requires-2 : goal.step_accepted-requires-2
 step_accepted-requires-2 c =
     let spare = c.args.spare in
     let ops = closing_left c.args.draft.now.model c.args.partner c.args.next spare.edge spare.face spare.ring c.plus.result c.minus.result (half (mate (code c.args.partner))) c.plus.ensures c.minus.ensures (code-half (mate (code c.args.partner))) c.requires in
-    next_goes (next_taken ops (ap (λ (d : DraftState). d.model) c.in_ok-step_accepted.ensures.ok))
+    next_goes (next_taken ops (ap (λ (d : DraftJournal). d.model) c.in_ok-step_accepted.ensures.ok))
 
 pub step_accepted-requires-3 : goal.step_accepted-requires-3
 step_accepted-requires-3 c =
     let spare = c.args.spare in
     let ops = closing_left c.args.draft.now.model c.args.partner c.args.next spare.edge spare.face spare.ring c.plus.result c.minus.result c.mate.result c.plus.ensures c.minus.ensures c.mate.ensures c.requires in
-    let one = next_taken ops (ap (λ (d : DraftState). d.model) c.in_ok-step_accepted.ensures.ok) in
-    next_goes (next_taken one (ap (λ (d : DraftState). d.model) c.in_ok-step_accepted-2.ensures.ok))
+    let one = next_taken ops (ap (λ (d : DraftJournal). d.model) c.in_ok-step_accepted.ensures.ok) in
+    next_goes (next_taken one (ap (λ (d : DraftJournal). d.model) c.in_ok-step_accepted-2.ensures.ok))
 
-pub returns-clause-ok : goal.returns-clause-ok
-returns-clause-ok c =
+pub returns-clause-model : goal.returns-clause-model
+returns-clause-model c =
     let spare = c.args.spare in
     let ops = closing_left c.args.draft.now.model c.args.partner c.args.next spare.edge spare.face spare.ring c.plus.result c.minus.result c.mate.result c.plus.ensures c.minus.ensures c.mate.ensures c.requires in
-    let one = next_taken ops (ap (λ (d : DraftState). d.model) c.in_ok-step_accepted.ensures.ok) in
-    let two = next_taken one (ap (λ (d : DraftState). d.model) c.in_ok-step_accepted-2.ensures.ok) in
-    let session = ap (λ (d : DraftState). d.session) c.in_ok-step_accepted-2.ensures.ok ∙ ap (λ (d : DraftState). d.session) c.in_ok-step_accepted.ensures.ok in
-    on_ok_weaker c.step_accepted-3.result (λ step i. record {
-      session = (ap (λ (d : DraftState). d.session) step ∙ session) i;
-      model = all_taken (next_taken two (ap (λ (d : DraftState). d.model) step)) i;
-    }) c.step_accepted-3.ensures.ok
+    let one = next_taken ops (ap (λ (d : DraftJournal). d.model) c.in_ok-step_accepted.ensures.ok) in
+    let two = next_taken one (ap (λ (d : DraftJournal). d.model) c.in_ok-step_accepted-2.ensures.ok) in
+    on_ok_weaker c.step_accepted-3.result (λ step. all_taken (next_taken two (ap (λ (d : DraftJournal). d.model) step))) c.step_accepted-3.ensures.ok
+
+pub returns-clause-session : goal.returns-clause-session
+returns-clause-session c =
+    session_stays c.step_accepted-3.result _ _ _ c.step_accepted-3.ensures.ok c.step_accepted-3.ensures.err
+    ∙ ap (λ (d : DraftJournal). d.session) c.in_ok-step_accepted-2.ensures.ok
+    ∙ ap (λ (d : DraftJournal). d.session) c.in_ok-step_accepted.ensures.ok

@@ -6,11 +6,12 @@ use Rattle.euler_operators.specs.Model.{before, after, outer, point_of}
 use Rattle.euler_operators.specs.Sound.{Sound, Has, HasHalf}
 use Rattle.euler_operators.proofs.Halves.{half-code}
 use Rattle.euler_operators.specs.declared.Op.TheVariants.{Kef}
-use Rattle.undo_journal.specs.Machine.{DraftState}
+use Rattle.undo_journal.specs.Journal.{DraftJournal}
 use Rattle.shapes.specs.Faces.{start}
 use Rattle.solid_walks.proofs.face_walks_laws.HalfCodes.{codes_same, codes_differ}
 use Rattle.shapes.specs.glue.Glue.{rim, partner, glue_refusal}
 use Rattle.shapes.specs.glue.GlueOps.{fresh_edge}
+use Rattle.gluing.proofs.Remaining.{session_stays}
 use Rattle.gluing.proofs.Opened as opened
 use Rattle.gluing.proofs.Joined as joined
 use Rattle.gluing.proofs.joining.join.Goals as goal
@@ -71,8 +72,8 @@ items-init c =
     let across = c.item_at-across.ensures ∙ opened.across_is c.arena-arena.result.now.model c.args.f c.args.g c.arena-arena.ensures.ready.sound (ap (λ X. glue_refusal X c.args.f c.args.g) c.arena-arena.ensures.model ∙ c.requires) c.point-start.result at ∙ ap (λ X. partner X (rim X c.args.g) (last_or 0 (rim X c.args.f))) c.arena-arena.ensures.model in
     let edge = c.spare_of-spare.ensures.edge ∙ ap fresh_edge c.arena-arena.ensures.model in
     record {
-      joining = opened.opening_makes c.args.draft.now.model c.args.f c.args.g (subst Sound c.arena-arena.ensures.model c.arena-arena.ensures.ready.sound) c.requires (code c.first_item-first.result) (code c.item_at-across.result) c.spare_of-spare.result.edge first across edge c.open_seam.new.draft.model (ap (λ (d : DraftState). d.model) c.in_ok-open_seam.ensures.ok);
-      session = ap (λ (d : DraftState). d.session) c.in_ok-open_seam.ensures.ok;
+      joining = opened.opening_makes c.args.draft.now.model c.args.f c.args.g (subst Sound c.arena-arena.ensures.model c.arena-arena.ensures.ready.sound) c.requires (code c.first_item-first.result) (code c.item_at-across.result) c.spare_of-spare.result.edge first across edge c.open_seam.new.draft.model c.in_ok-open_seam.ensures.model;
+      session = c.in_ok-open_seam.ensures.session;
     }
 
 pub neighbours-requires-clause-there : goal.neighbours-requires-clause-there
@@ -86,16 +87,17 @@ step_accepted-requires c =
     let op = ap Kef (sym (half-code c.mate.result) ∙ ap half c.mate.ensures) in
     joined.last_goes _ _ _ _ _ c.items.invariant.joining (code c.neighbours.result.0) (code c.neighbours.result.1) previous next same (Kef c.mate.result) op
 
-pub returns-then-eq-clause-ok : goal.returns-then-eq-clause-ok
-returns-then-eq-clause-ok c =
+pub returns-then-eq-clause-model : goal.returns-then-eq-clause-model
+returns-then-eq-clause-model c =
     let previous = c.neighbours.ensures.previous ∙ ap (λ X. before X (code c.items.item)) c.arena.ensures.model in
     let next = c.neighbours.ensures.next ∙ ap (λ X. after X (code c.items.item)) c.arena.ensures.model in
     let same = codes_same c.neighbours.result.1 c.neighbours.result.0 (sym c.eq.ensures ∙ c.if-eq.true) in
     let op = ap Kef (sym (half-code c.mate.result) ∙ ap half c.mate.ensures) in
-    on_ok_weaker c.step_accepted.result (λ step i. record {
-      session = (ap (λ (d : DraftState). d.session) step ∙ c.items.invariant.session) i;
-      model = (ap (λ (d : DraftState). d.model) step ∙ joined.last_makes _ _ _ _ _ c.items.invariant.joining (code c.neighbours.result.0) (code c.neighbours.result.1) previous next same (Kef c.mate.result) op) i;
-    }) c.step_accepted.ensures.ok
+    let makes = joined.last_makes _ _ _ _ _ c.items.invariant.joining (code c.neighbours.result.0) (code c.neighbours.result.1) previous next same (Kef c.mate.result) op in
+    on_ok_weaker c.step_accepted.result (λ step. ap (λ (d : DraftJournal). d.model) step ∙ makes) c.step_accepted.ensures.ok
+
+pub returns-then-eq-clause-session : goal.returns-then-eq-clause-session
+returns-then-eq-clause-session c = session_stays c.step_accepted.result _ _ _ c.step_accepted.ensures.ok c.step_accepted.ensures.err ∙ c.items.invariant.session
 
 pub close_item-requires : goal.close_item-requires
 close_item-requires c =
@@ -115,7 +117,7 @@ items-smaller c =
     let spare = c.spare_of-spare.result in
     let edge = c.spare_of-spare.ensures.edge ∙ ap fresh_edge c.arena-arena.ensures.model in
     let ring = c.spare_of-spare.ensures.ring ∙ ap (λ X. outer X c.args.g) c.arena-arena.ensures.model in
-    joined.closing_shortens _ _ _ _ _ c.items.invariant.joining (code c.neighbours.result.0) (code c.neighbours.result.1) previous next other spare.edge spare.face spare.ring edge c.spare_of-spare.ensures.face ring c.close_item.new.draft.model (ap (λ (d : DraftState). d.model) c.in_ok-close_item.ensures.ok)
+    joined.closing_shortens _ _ _ _ _ c.items.invariant.joining (code c.neighbours.result.0) (code c.neighbours.result.1) previous next other spare.edge spare.face spare.ring edge c.spare_of-spare.ensures.face ring c.close_item.new.draft.model c.in_ok-close_item.ensures.model
 
 pub items-preserved : goal.items-preserved
 items-preserved c =
@@ -126,6 +128,6 @@ items-preserved c =
     let edge = c.spare_of-spare.ensures.edge ∙ ap fresh_edge c.arena-arena.ensures.model in
     let ring = c.spare_of-spare.ensures.ring ∙ ap (λ X. outer X c.args.g) c.arena-arena.ensures.model in
     record {
-      joining = joined.closing_makes _ _ _ _ _ c.items.invariant.joining (code c.neighbours.result.0) (code c.neighbours.result.1) previous next other spare.edge spare.face spare.ring edge c.spare_of-spare.ensures.face ring c.close_item.new.draft.model (ap (λ (d : DraftState). d.model) c.in_ok-close_item.ensures.ok);
-      session = ap (λ (d : DraftState). d.session) c.in_ok-close_item.ensures.ok ∙ c.items.invariant.session;
+      joining = joined.closing_makes _ _ _ _ _ c.items.invariant.joining (code c.neighbours.result.0) (code c.neighbours.result.1) previous next other spare.edge spare.face spare.ring edge c.spare_of-spare.ensures.face ring c.close_item.new.draft.model c.in_ok-close_item.ensures.model;
+      session = c.in_ok-close_item.ensures.session ∙ c.items.invariant.session;
     }

@@ -2,8 +2,8 @@ use Rattle.std.proofs.Common.{refl, ap, ◌∙◌}
 use Rattle.std.proofs.lemmas.Result.{on_ok_weaker}
 use Rattle.euler_operators.specs.HalfEdge.{half, plus}
 use Rattle.euler_operators.specs.Model.{solid_of}
-use Rattle.undo_journal.specs.Machine.{DraftState}
-use Rattle.gluing.proofs.Remaining.{opening_left, next_goes, next_taken, all_taken}
+use Rattle.undo_journal.specs.Journal.{DraftJournal}
+use Rattle.gluing.proofs.Remaining.{opening_left, next_goes, next_taken, all_taken, session_stays}
 use Rattle.gluing.proofs.joining.open_seam.Goals as goal
 
 pub step_accepted-requires-3 : goal.step_accepted-requires-3
@@ -11,28 +11,31 @@ step_accepted-requires-3 c =
     let solid = c.solid_of-solid.ensures ∙ ap (λ X. solid_of X c.args.f) c.arena.ensures.model in
     let other = c.solid_of-other.ensures ∙ ap (λ X. solid_of X c.args.g) c.arena-2.ensures.model in
     let ops = opening_left c.args.draft.now.model c.args.f c.args.g c.args.edge c.args.first c.args.partner c.solid_of-solid.result c.solid_of-other.result c.plus.result (half (plus c.args.edge)) solid other c.plus.ensures refl c.requires.accepted in
-    let one = next_taken ops (ap (λ (d : DraftState). d.model) c.in_ok-step_accepted.ensures.ok) in
-    next_goes (next_taken one (ap (λ (d : DraftState). d.model) c.in_ok-step_accepted-2.ensures.ok))
+    let one = next_taken ops (ap (λ (d : DraftJournal). d.model) c.in_ok-step_accepted.ensures.ok) in
+    next_goes (next_taken one (ap (λ (d : DraftJournal). d.model) c.in_ok-step_accepted-2.ensures.ok))
 
 pub step_accepted-requires-4 : goal.step_accepted-requires-4
 step_accepted-requires-4 c =
     let solid = c.solid_of-solid.ensures ∙ ap (λ X. solid_of X c.args.f) c.arena.ensures.model in
     let other = c.solid_of-other.ensures ∙ ap (λ X. solid_of X c.args.g) c.arena-2.ensures.model in
     let ops = opening_left c.args.draft.now.model c.args.f c.args.g c.args.edge c.args.first c.args.partner c.solid_of-solid.result c.solid_of-other.result c.plus.result c.plus-2.result solid other c.plus.ensures c.plus-2.ensures c.requires.accepted in
-    let one = next_taken ops (ap (λ (d : DraftState). d.model) c.in_ok-step_accepted.ensures.ok) in
-    let two = next_taken one (ap (λ (d : DraftState). d.model) c.in_ok-step_accepted-2.ensures.ok) in
-    next_goes (next_taken two (ap (λ (d : DraftState). d.model) c.in_ok-step_accepted-3.ensures.ok))
+    let one = next_taken ops (ap (λ (d : DraftJournal). d.model) c.in_ok-step_accepted.ensures.ok) in
+    let two = next_taken one (ap (λ (d : DraftJournal). d.model) c.in_ok-step_accepted-2.ensures.ok) in
+    next_goes (next_taken two (ap (λ (d : DraftJournal). d.model) c.in_ok-step_accepted-3.ensures.ok))
 
-pub returns-clause-ok : goal.returns-clause-ok
-returns-clause-ok c =
+pub returns-clause-model : goal.returns-clause-model
+returns-clause-model c =
     let solid = c.solid_of-solid.ensures ∙ ap (λ X. solid_of X c.args.f) c.arena.ensures.model in
     let other = c.solid_of-other.ensures ∙ ap (λ X. solid_of X c.args.g) c.arena-2.ensures.model in
     let ops = opening_left c.args.draft.now.model c.args.f c.args.g c.args.edge c.args.first c.args.partner c.solid_of-solid.result c.solid_of-other.result c.plus.result c.plus-2.result solid other c.plus.ensures c.plus-2.ensures c.requires.accepted in
-    let one = next_taken ops (ap (λ (d : DraftState). d.model) c.in_ok-step_accepted.ensures.ok) in
-    let two = next_taken one (ap (λ (d : DraftState). d.model) c.in_ok-step_accepted-2.ensures.ok) in
-    let three = next_taken two (ap (λ (d : DraftState). d.model) c.in_ok-step_accepted-3.ensures.ok) in
-    let session = ap (λ (d : DraftState). d.session) c.in_ok-step_accepted-3.ensures.ok ∙ ap (λ (d : DraftState). d.session) c.in_ok-step_accepted-2.ensures.ok ∙ ap (λ (d : DraftState). d.session) c.in_ok-step_accepted.ensures.ok in
-    on_ok_weaker c.step_accepted-4.result (λ step i. record {
-      session = (ap (λ (d : DraftState). d.session) step ∙ session) i;
-      model = all_taken (next_taken three (ap (λ (d : DraftState). d.model) step)) i;
-    }) c.step_accepted-4.ensures.ok
+    let one = next_taken ops (ap (λ (d : DraftJournal). d.model) c.in_ok-step_accepted.ensures.ok) in
+    let two = next_taken one (ap (λ (d : DraftJournal). d.model) c.in_ok-step_accepted-2.ensures.ok) in
+    let three = next_taken two (ap (λ (d : DraftJournal). d.model) c.in_ok-step_accepted-3.ensures.ok) in
+    on_ok_weaker c.step_accepted-4.result (λ step. all_taken (next_taken three (ap (λ (d : DraftJournal). d.model) step))) c.step_accepted-4.ensures.ok
+
+pub returns-clause-session : goal.returns-clause-session
+returns-clause-session c =
+    session_stays c.step_accepted-4.result _ _ _ c.step_accepted-4.ensures.ok c.step_accepted-4.ensures.err
+    ∙ ap (λ (d : DraftJournal). d.session) c.in_ok-step_accepted-3.ensures.ok
+    ∙ ap (λ (d : DraftJournal). d.session) c.in_ok-step_accepted-2.ensures.ok
+    ∙ ap (λ (d : DraftJournal). d.session) c.in_ok-step_accepted.ensures.ok
