@@ -1,12 +1,10 @@
 -- What the steps of a block say, put together.
 use Rattle.std.specs.Prelude.{get_or}
-use Rattle.std.proofs.Common.{◌≡◌, ℕ, ◌+◌, ◌<◌, ℤ, pos, List, None, Result, Ok, Err, OnOk, OnErr, ap, ◌∙◌, subst}
-use Rattle.std.specs.declared.alloc.AllocError.{AllocError}
+use Rattle.std.proofs.Common.{◌≡◌, ℕ, ◌+◌, ◌<◌, ℤ, pos, List, None, ap, ◌∙◌, subst}
 use Rattle.euler_operators.specs.declared.Point.{Point}
 use Rattle.euler_operators.specs.Points.{IsInRange}
 use Rattle.euler_operators.specs.Model.{Model, no_point}
 use Rattle.euler_operators.specs.Sound.{Sound}
-use Rattle.undo_journal.specs.Machine.{Machine, DraftState}
 use Rattle.shapes.specs.Fresh.{taken_in}
 use Rattle.shapes.specs.Lamina.{lamina_refusal, lamina_model, lamina_face}
 use Rattle.shapes.specs.Prism.{prism_refusal, prism_model}
@@ -15,11 +13,6 @@ use Rattle.sweeps_laws.proofs.lamina.Walk.{lamina_goes}
 use Rattle.sweeps_laws.proofs.lamina.Blocks.{blocks_have_bases, bases_rise}
 use Rattle.solid_walks.specs.Counters.{taken_of}
 use Rattle.solid_walks.specs.declared.numbers.Counters.{Counters}
-
--- the session of a draft stays, whatever a call answers
-pub session_kept : (N : Model) (s : Machine) (new : DraftState) (r : Result (Unit {0}) AllocError) → OnOk r (new ≡ record { session = s; model = N }) → OnErr r (new.session ≡ s) → new.session ≡ s
-session_kept N s new (Ok u) ok err = ap (λ (d : DraftState). d.session) ok
-session_kept N s new (Err e) ok err = err
 
 -- the arena that was read is the draft's, and sound
 pub record Read (M : Model) (k : Counters) : Type 0 where

@@ -9,7 +9,8 @@ pub use Rattle.euler_operators.specs.Sound
 pub use Rattle.euler_operators.specs.Vectors
 pub use Rattle.euler_laws.specs.Laws as OperatorLaws
 pub use Rattle.undo_journal.specs.Laws as JournalLaws
-pub use Rattle.undo_journal.specs.Machine as Journal
+pub use Rattle.undo_journal.specs.Journal
+pub use Rattle.undo_journal.specs.Machine as PlainMachine
 pub use Rattle.shapes.specs.Measure
 pub use Rattle.sweeps_laws.specs.lamina.Laws as LaminaLaws
 pub use Rattle.sweeps_laws.specs.prism.Laws as SweepLaws

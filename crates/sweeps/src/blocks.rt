@@ -7,6 +7,7 @@ ghost use Rattle.euler_operators.specs.declared.Refusal.{Refusal};
 ghost use Rattle.euler_conditions.specs.Ready.{IsReady};
 ghost use Rattle.shapes.specs.Block.{vector, base_of, block_model};
 ghost use Rattle.shapes.specs.Block as spec;
+ghost use Rattle.undo_journal.specs.Journal.{IsRecorded};
 ghost use Rattle.sweeps.specs.Machine.{block, block_refusal};
 
 use crate::laminas::draw_lamina;
@@ -116,8 +117,9 @@ fn block_of(
     corner: Point,
     size: Point,
 ) -> (Session, Result<(), Failure>)
-    ensures ok { OnOk result.1 ((block_refusal session solid corner size.x size.y size.z ≡ None) × (result.0 ≡ block session solid corner size.x size.y size.z)) }
-    ensures refused { (refusal : Refusal) → ((result.1 ≡ Err (Failure.Refused refusal)) ↔ (block_refusal session solid corner size.x size.y size.z ≡ Some refusal)) }
+    ensures ok { OnOk result.1 ((block_refusal session.machine solid corner size.x size.y size.z ≡ None) × (result.0.machine ≡ block session.machine solid corner size.x size.y size.z)) }
+    ensures recorded { OnOk result.1 (IsRecorded session result.0) }
+    ensures refused { (refusal : Refusal) → ((result.1 ≡ Err (Failure.Refused refusal)) ↔ (block_refusal session.machine solid corner size.x size.y size.z ≡ Some refusal)) }
     ensures err { OnErr result.1 (result.0 ≡ session) }
 {
     if let Err(refusal) = check_block(session.arena(), solid, corner, size) {
@@ -138,7 +140,7 @@ fn block_of(
 ///
 /// Refused, in this order: NumberRange; SolidTaken; SizeRange with 1, 2 or 3 for the first size below 1; PointRange with 1 for
 /// the corner, 2 for the opposite one; NumbersSpent with 2 for faces, 3 for loops, 4 for edges, 5 for vertices. Where memory is
-/// refused `Memory` is answered. On any failure the session is as it was.
+/// refused `Memory` is answered. On any failure the session is as it was. An accepted block leaves one record.
 pub fn block(
     alloc: Global,
     session: Session,
@@ -148,8 +150,9 @@ pub fn block(
     dy: i64,
     dz: i64,
 ) -> (Session, Result<(), Failure>)
-    ensures ok { OnOk result.1 ((block_refusal session solid corner dx dy dz ≡ None) × (result.0 ≡ block session solid corner dx dy dz)) }
-    ensures refused { (refusal : Refusal) → ((result.1 ≡ Err (Failure.Refused refusal)) ↔ (block_refusal session solid corner dx dy dz ≡ Some refusal)) }
+    ensures ok { OnOk result.1 ((block_refusal session.machine solid corner dx dy dz ≡ None) × (result.0.machine ≡ block session.machine solid corner dx dy dz)) }
+    ensures recorded { OnOk result.1 (IsRecorded session result.0) }
+    ensures refused { (refusal : Refusal) → ((result.1 ≡ Err (Failure.Refused refusal)) ↔ (block_refusal session.machine solid corner dx dy dz ≡ Some refusal)) }
     ensures err { OnErr result.1 (result.0 ≡ session) }
 {
     let size = Point {

@@ -8,6 +8,7 @@ ghost use Rattle.euler_conditions.specs.Ready.{IsReady};
 ghost use Rattle.euler_operators.specs.declared.Refusal.{Refusal};
 ghost use Rattle.shapes.specs.Lamina.{lamina_model};
 ghost use Rattle.shapes.specs.Lamina as spec;
+ghost use Rattle.undo_journal.specs.Journal.{IsRecorded};
 ghost use Rattle.sweeps.specs.Machine.{lamina, lamina_refusal};
 
 use arrayvec::ArrayVec;
@@ -149,15 +150,16 @@ pub(crate) fn draw_lamina(
 ///
 /// Refused, in this order: NumberRange; SolidTaken; FewPoints with how many there are; PointRange and RepeatedPoint with the
 /// place, from 1, of the first such point; NumbersSpent with 2 for faces, 3 for loops, 4 for edges, 5 for vertices. Where memory
-/// is refused `Memory` is answered. On any failure the session is as it was.
+/// is refused `Memory` is answered. On any failure the session is as it was. An accepted lamina leaves one record.
 pub fn lamina(
     alloc: Global,
     session: Session,
     solid: u32,
     points: &ArrayVec<Point, 64>,
 ) -> (Session, Result<(), Failure>)
-    ensures ok { OnOk result.1 ((lamina_refusal session solid points.now.items ≡ None) × (result.0 ≡ lamina session solid points.now.items)) }
-    ensures refused { (refusal : Refusal) → ((result.1 ≡ Err (Failure.Refused refusal)) ↔ (lamina_refusal session solid points.now.items ≡ Some refusal)) }
+    ensures ok { OnOk result.1 ((lamina_refusal session.machine solid points.now.items ≡ None) × (result.0.machine ≡ lamina session.machine solid points.now.items)) }
+    ensures recorded { OnOk result.1 (IsRecorded session result.0) }
+    ensures refused { (refusal : Refusal) → ((result.1 ≡ Err (Failure.Refused refusal)) ↔ (lamina_refusal session.machine solid points.now.items ≡ Some refusal)) }
     ensures err { OnErr result.1 (result.0 ≡ session) }
 {
     if let Err(refusal) = check_lamina(session.arena(), solid, points) {

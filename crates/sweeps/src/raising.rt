@@ -8,7 +8,7 @@ ghost use Rattle.euler_conditions.specs.Ready.{IsReady};
 ghost use Rattle.euler_conditions.specs.Store.{has_number};
 ghost use Rattle.euler_laws.specs.Laws.{effects};
 ghost use Rattle.euler_operators.specs.Conditions.{first_false, is_lone};
-ghost use Rattle.undo_journal.specs.Machine.{draft_step};
+ghost use Rattle.undo_journal.specs.Journal.{after_step};
 ghost use Rattle.shapes.specs.Faces.{start};
 ghost use Rattle.shapes.specs.Prism as prism;
 ghost use Rattle.shapes.specs.Prism.{prism_refusal, prism_model};
@@ -84,7 +84,7 @@ fn raise_item(
     requires vertex_left { taken.now.vertices + 1 + i ≤ 1000000 }
     requires range { IsInRange (moved (start draft.old.model (code item)) d) }
     requires accepted { first_false draft.old.model (ops.raise_item draft.old.model (taken_of taken.now) d (code item) i) ≡ None }
-    ensures ok { OnOk result (draft.new ≡ draft_step draft.old (ops.raise_item draft.old.model (taken_of taken.now) d (code item) i)) }
+    ensures ok { OnOk result (draft.new ≡ after_step draft.old (ops.raise_item draft.old.model (taken_of taken.now) d (code item) i)) }
     ensures err { OnErr result (draft.new ≡ draft.old) }
 {
     let arena = draft.arena();
@@ -101,7 +101,7 @@ fn close_side(draft: &mut Draft, taken: &Counters, count: u32, i: u32) -> Result
     requires loops_left { taken.now.loops + count ≤ 1000000 }
     requires edges_left { taken.now.edges + 2 * count ≤ 1000000 }
     requires accepted { first_false draft.old.model (ops.close (taken_of taken.now) count i) ≡ None }
-    ensures ok { OnOk result (draft.new ≡ draft_step draft.old (ops.close (taken_of taken.now) count i)) }
+    ensures ok { OnOk result (draft.new ≡ after_step draft.old (ops.close (taken_of taken.now) count i)) }
     ensures err { OnErr result (draft.new ≡ draft.old) }
 {
     let from = HalfEdge::minus(riser(taken, i));
@@ -117,7 +117,7 @@ fn close_last(draft: &mut Draft, taken: &Counters, count: u32) -> Result<(), All
     requires loops_left { taken.now.loops + count ≤ 1000000 }
     requires edges_left { taken.now.edges + 2 * count ≤ 1000000 }
     requires accepted { first_false draft.old.model (ops.close_last (taken_of taken.now) count (count - 1)) ≡ None }
-    ensures ok { OnOk result (draft.new ≡ draft_step draft.old (ops.close_last (taken_of taken.now) count (count - 1))) }
+    ensures ok { OnOk result (draft.new ≡ after_step draft.old (ops.close_last (taken_of taken.now) count (count - 1))) }
     ensures err { OnErr result (draft.new ≡ draft.old) }
 {
     let last = count - 1;
@@ -143,8 +143,8 @@ fn raise_loop(
 ) -> Result<u32, AllocError>
     requires { Ready draft.old.model (taken_of taken.now) (face_of draft.old.model l) l d (items_of (content draft.old.model l)) }
     ensures count { IfOk result (λ count. count ≡ length (items_of (content draft.old.model l))) }
-    ensures ok { OnOk result (draft.new ≡ record draft.old { model = effects draft.old.model (ops.loop_ops draft.old.model (taken_of taken.now) d (items_of (content draft.old.model l))) }) }
-    ensures err { OnErr result (draft.new.session ≡ draft.old.session) }
+    ensures model { OnOk result (draft.new.model ≡ effects draft.old.model (ops.loop_ops draft.old.model (taken_of taken.now) d (items_of (content draft.old.model l)))) }
+    ensures session { draft.new.session ≡ draft.old.session }
 {
     let items = loop_items(alloc, draft.arena(), l)?;
     let count = items.len() as u32;
@@ -178,8 +178,8 @@ fn counted_on(taken: &Counters, count: u32) -> Counters
 /// Sweeps face f of the draft's model along d, where that isn't refused. On `AllocError` the draft may have taken some steps.
 pub(crate) fn raise(alloc: Global, draft: &mut Draft, f: u32, d: Point) -> Result<(), AllocError>
     requires { prism_refusal draft.old.model f d ≡ None }
-    ensures ok { OnOk result (draft.new ≡ record draft.old { model = prism_model draft.old.model f d }) }
-    ensures err { OnErr result (draft.new.session ≡ draft.old.session) }
+    ensures model { OnOk result (draft.new.model ≡ prism_model draft.old.model f d) }
+    ensures session { draft.new.session ≡ draft.old.session }
 {
     let mut taken = counters_of(draft.arena());
     let loops = face_loops(alloc, draft.arena(), f)?;

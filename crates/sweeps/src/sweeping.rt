@@ -5,6 +5,7 @@ ghost use Rattle.euler_operators.specs.Conditions.{verdict};
 ghost use Rattle.euler_operators.specs.declared.Refusal.{Refusal};
 ghost use Rattle.euler_conditions.specs.Ready.{IsReady};
 ghost use Rattle.shapes.specs.Prism.{prism_refusal};
+ghost use Rattle.undo_journal.specs.Journal.{IsRecorded};
 ghost use Rattle.sweeps.specs.Machine.{sweep, sweep_refusal};
 
 use crate::corners::{face_tally, lone_loop};
@@ -59,10 +60,11 @@ fn check_sweep(arena: &Arena, f: u32, d: Point) -> Result<(), Refusal>
 /// Refused, in this order: NumberRange; NoFace; ZeroSweep with the face; LoneLoop with the least lone loop of the face; PointRange
 /// with the vertex of the first corner whose moved point is out of range, in the order of the outer loop and then the rings,
 /// rising; NumbersSpent with 2 for faces, 3 for loops, 4 for edges, 5 for vertices. Where memory is refused `Memory` is answered.
-/// On any failure the session is as it was.
+/// On any failure the session is as it was. An accepted sweep leaves one record.
 pub fn sweep(alloc: Global, session: Session, f: u32, d: Point) -> (Session, Result<(), Failure>)
-    ensures ok { OnOk result.1 ((sweep_refusal session f d ≡ None) × (result.0 ≡ sweep session f d)) }
-    ensures refused { (refusal : Refusal) → ((result.1 ≡ Err (Failure.Refused refusal)) ↔ (sweep_refusal session f d ≡ Some refusal)) }
+    ensures ok { OnOk result.1 ((sweep_refusal session.machine f d ≡ None) × (result.0.machine ≡ sweep session.machine f d)) }
+    ensures recorded { OnOk result.1 (IsRecorded session result.0) }
+    ensures refused { (refusal : Refusal) → ((result.1 ≡ Err (Failure.Refused refusal)) ↔ (sweep_refusal session.machine f d ≡ Some refusal)) }
     ensures err { OnErr result.1 (result.0 ≡ session) }
 {
     if let Err(refusal) = check_sweep(session.arena(), f, d) {

@@ -1,7 +1,6 @@
-use Rattle.std.proofs.Common.{arith, refl, ap, ◌∙◌}
+use Rattle.std.proofs.Common.{arith, refl, ◌∙◌}
 use Rattle.std.proofs.lemmas.Result.{on_ok_weaker}
-use Rattle.undo_journal.specs.Machine.{DraftState}
-use Rattle.sweeps.proofs.BlockSteps.{session_kept, corner_fits, base_goes, rise_goes, rise_makes}
+use Rattle.sweeps.proofs.BlockSteps.{corner_fits, base_goes, rise_goes, rise_makes}
 use Rattle.sweeps.proofs.blocks.draw_block.Goals as goal
 
 pub base-corners-requires-clause-second : goal.base-corners-requires-clause-second
@@ -20,7 +19,7 @@ pub raise-requires : goal.raise-requires
 raise-requires c = rise_goes _ c.args.solid c.args.corner c.args.size.x c.args.size.y c.args.size.z c.requires c.counters_of-taken.result (record { store = c.arena.result.now.model; same = c.arena.ensures.model; sound = c.arena.ensures.ready.sound; counted = c.counters_of-taken.ensures.is }) c.base-corners.result.items c.base-corners.ensures _ c.in_ok-draw_lamina.ensures.ok _ refl
 
 pub returns-clause-ok : goal.returns-clause-ok
-returns-clause-ok c = on_ok_weaker c.raise.result (λ step. ap (λ (d : DraftState). d.model) step ∙ rise_makes _ c.args.solid c.args.corner c.args.size.x c.args.size.y c.args.size.z c.requires c.counters_of-taken.result (record { store = c.arena.result.now.model; same = c.arena.ensures.model; sound = c.arena.ensures.ready.sound; counted = c.counters_of-taken.ensures.is }) c.base-corners.result.items c.base-corners.ensures _ c.in_ok-draw_lamina.ensures.ok _ refl) c.raise.ensures.ok
+returns-clause-ok c = on_ok_weaker c.raise.result (λ step. step ∙ rise_makes _ c.args.solid c.args.corner c.args.size.x c.args.size.y c.args.size.z c.requires c.counters_of-taken.result (record { store = c.arena.result.now.model; same = c.arena.ensures.model; sound = c.arena.ensures.ready.sound; counted = c.counters_of-taken.ensures.is }) c.base-corners.result.items c.base-corners.ensures _ c.in_ok-draw_lamina.ensures.ok _ refl) c.raise.ensures.model
 
 pub returns-clause-session : goal.returns-clause-session
-returns-clause-session c = session_kept _ _ c.raise.new.draft c.raise.result c.raise.ensures.ok c.raise.ensures.err ∙ c.in_ok-draw_lamina.ensures.session
+returns-clause-session c = c.raise.ensures.session ∙ c.in_ok-draw_lamina.ensures.session

@@ -1,13 +1,14 @@
 use Rattle.std.proofs.Common.{ap, sym, ◌∙◌}
 use Rattle.shapes.specs.Lamina.{lamina_refusal, lamina_model}
-use Rattle.undo_journal.specs.Machine.{DraftState, accepted}
+use Rattle.undo_journal.specs.Journal.{Journal, DraftJournal}
+use Rattle.undo_journal.specs.Machine.{accepted}
 use Rattle.sweeps.proofs.Drawing.{passed}
 use Rattle.sweeps.proofs.laminas.lamina.Goals as goal
 
 pub returns-in-Ok-draw_lamina-clause-ok : goal.returns-in-Ok-draw_lamina-clause-ok
 returns-in-Ok-draw_lamina-clause-ok c =
-    let model = c.in-Ok-draw_lamina.ensures.ok ∙ ap (λ (d : DraftState). lamina_model d.model c.args.solid c.args.points.now.items) c.in-Ok.ensures.ok in
-    let session = c.in-Ok-draw_lamina.ensures.session ∙ ap (λ (d : DraftState). d.session) c.in-Ok.ensures.ok in (
+    let model = c.in-Ok-draw_lamina.ensures.ok ∙ ap (λ (d : DraftJournal). lamina_model d.model c.args.solid c.args.points.now.items) c.in-Ok.ensures.ok in
+    let session = c.in-Ok-draw_lamina.ensures.session ∙ ap (λ (d : DraftJournal). d.session) c.in-Ok.ensures.ok in (
       sym (ap (λ M. lamina_refusal M c.args.solid c.args.points.now.items) c.arena.ensures.model) ∙ passed _ _ (sym c.check_lamina.ensures ∙ c.in_default.is),
-      c.commit.ensures ∙ (λ t. accepted (session t) (model t)),
+      ap (λ (j : Journal). j.machine) c.commit.ensures ∙ (λ t. accepted (session t).machine (model t)),
     )

@@ -5,7 +5,7 @@ use Rattle.euler_operators.specs.Model.{Model}
 use Rattle.euler_operators.specs.Sound.{Sound}
 use Rattle.shapes.specs.Lamina.{lamina_model, lamina_face}
 use Rattle.shapes.specs.Block.{base_of, vector, block_model}
-use Rattle.std.specs.Prelude.{◌≡◌, List, pos}
+use Rattle.std.specs.Prelude.{◌≡◌, pos}
 use Rattle.sweeps.specs.Calls.{LaminasAreCalls, BlocksAreCalls, SweepsAreCalls, block_operators}
 use Rattle.sweeps_laws.proofs.lamina.Blocks.{blocks_have_bases, bases_rise}
 use Rattle.sweeps_laws.proofs.lamina.Walk.{operators_are_accepted, operators_make_lamina, lamina_is_sound}

@@ -1,7 +1,6 @@
 use Rattle.std.proofs.Common.{◌≡◌, ◌∙◌, ap, sym, subst, refl, arith, true}
 use Rattle.euler_operators.specs.Table.{has}
 use Rattle.euler_operators.specs.Sound.{Sound}
-use Rattle.undo_journal.specs.Machine.{DraftState}
 use Rattle.shapes.specs.Faces.{loops_of}
 use Rattle.shapes.specs.Fresh.{taken_in}
 use Rattle.shapes.specs.Prism.{prism_from}
@@ -45,7 +44,7 @@ counted_on-taken-requires-clause-vertices_left c = omega (arith, (raised.loop_re
 
 pub loops-preserved : goal.loops-preserved
 loops-preserved c = record {
-  going = raised.loop_next _ _ _ _ _ c.loops.rest.now c.in-len1-up.len_at_least c.loops.invariant.going c.raise_loop.new.draft.model (ap (λ (x : DraftState). x.model) c.in_ok-count.ensures.ok) (taken_of c.counted_on-taken.result) (c.counted_on-taken.ensures ∙ ap (taken_after (taken_of c.loops.taken)) c.in_ok-count.ensures.count);
-  model = raised.loop_model _ _ _ _ _ c.loops.rest.now c.in-len1-up.len_at_least c.loops.invariant.going c.raise_loop.new.draft.model (ap (λ (x : DraftState). x.model) c.in_ok-count.ensures.ok) (taken_of c.counted_on-taken.result) (c.counted_on-taken.ensures ∙ ap (taken_after (taken_of c.loops.taken)) c.in_ok-count.ensures.count) ∙ c.loops.invariant.model;
-  session = ap (λ (x : DraftState). x.session) c.in_ok-count.ensures.ok ∙ c.loops.invariant.session;
+  going = raised.loop_next _ _ _ _ _ c.loops.rest.now c.in-len1-up.len_at_least c.loops.invariant.going c.raise_loop.new.draft.model c.in_ok-count.ensures.model (taken_of c.counted_on-taken.result) (c.counted_on-taken.ensures ∙ ap (taken_after (taken_of c.loops.taken)) c.in_ok-count.ensures.count);
+  model = raised.loop_model _ _ _ _ _ c.loops.rest.now c.in-len1-up.len_at_least c.loops.invariant.going c.raise_loop.new.draft.model c.in_ok-count.ensures.model (taken_of c.counted_on-taken.result) (c.counted_on-taken.ensures ∙ ap (taken_after (taken_of c.loops.taken)) c.in_ok-count.ensures.count) ∙ c.loops.invariant.model;
+  session = c.in_ok-count.ensures.session ∙ c.loops.invariant.session;
 }

@@ -6,7 +6,7 @@ use Rattle.euler_operators.specs.Sound.{Has}
 use Rattle.euler_operators.specs.Conditions.{first_false}
 use Rattle.shapes.specs.Faces.{start}
 use Rattle.std.specs.Result.{OnOk}
-use Rattle.undo_journal.specs.Machine.{draft_step}
+use Rattle.undo_journal.specs.Journal.{after_step}
 use Rattle.solid_walks.specs.Counters.{taken_of}
 use Rattle.sweeps.proofs.RaisedItems.{same_raise}
 use Rattle.sweeps.proofs.raising.raise_item.Goals as goal
@@ -21,5 +21,5 @@ step_accepted-requires c = ap (first_false c.args.draft.now.model) (same_raise c
     (c.plus-edge.ensures ∙ ap (λ e. half (plus e)) c.riser.ensures) (c.sum-top.ensures ∙ ap (λ p. moved p c.args.d) (c.point.ensures.point ∙ ap (point_of c.arena-arena.result.now.model) c.tail.ensures ∙ ap (λ X. start X (code c.args.item)) c.arena-arena.ensures.model))) ∙ c.requires.accepted
 
 pub returns-clause-ok : goal.returns-clause-ok
-returns-clause-ok c = subst (λ op. OnOk c.step_accepted.result (c.step_accepted.new.self ≡ draft_step c.args.draft.now op)) (same_raise c.args.draft.now.model (taken_of c.args.taken.now) c.args.d c.args.item c.args.i c.plus-edge.result c.sum-top.result
+returns-clause-ok c = subst (λ op. OnOk c.step_accepted.result (c.step_accepted.new.self ≡ after_step c.args.draft.now op)) (same_raise c.args.draft.now.model (taken_of c.args.taken.now) c.args.d c.args.item c.args.i c.plus-edge.result c.sum-top.result
     (c.plus-edge.ensures ∙ ap (λ e. half (plus e)) c.riser.ensures) (c.sum-top.ensures ∙ ap (λ p. moved p c.args.d) (c.point.ensures.point ∙ ap (point_of c.arena-arena.result.now.model) c.tail.ensures ∙ ap (λ X. start X (code c.args.item)) c.arena-arena.ensures.model))) c.step_accepted.ensures.ok

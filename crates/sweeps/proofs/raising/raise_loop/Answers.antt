@@ -2,7 +2,7 @@ use Rattle.std.proofs.Common.{◌≡◌, ◌∙◌, ap, ℕ, ◌+◌, ◌-◌, �
 use Rattle.euler_operators.specs.Model.{items_of, content}
 use Rattle.euler_operators.specs.Conditions.{first_false, is_lone}
 use Rattle.euler_operators.specs.Effect.{effect}
-use Rattle.undo_journal.specs.Machine.{DraftState}
+use Rattle.undo_journal.specs.Journal.{DraftJournal}
 use Rattle.sweeps_laws.specs.prism.SweepOps.{close, close_last}
 use Rattle.sweeps_laws.proofs.prism.Sides.{content_is, two_items}
 use Rattle.solid_walks.specs.Counters.{taken_of}
@@ -33,8 +33,8 @@ raise_item-requires-clause-accepted c = raised.accepted_first _ _ _ _ _ _ c.requ
 pub items-init : goal.items-init
 items-init c = record {
   inside = omega (arith, two_items _ _ _ _ _ _ c.requires);
-  model = ap (λ (x : DraftState). x.model) c.in_ok-raise_item.ensures.ok ∙ raised.after_first _ _ _ _ _ _ c.requires c.in_ok-items.items.items (c.in_ok-items.ensures ∙ ap (λ X. items_of (content X c.args.l)) c.arena.ensures.model) c.index.result.now c.index.ensures;
-  session = ap (λ (x : DraftState). x.session) c.in_ok-raise_item.ensures.ok;
+  model = ap (λ (x : DraftJournal). x.model) c.in_ok-raise_item.ensures.ok ∙ raised.after_first _ _ _ _ _ _ c.requires c.in_ok-items.items.items (c.in_ok-items.ensures ∙ ap (λ X. items_of (content X c.args.l)) c.arena.ensures.model) c.index.result.now c.index.ensures;
+  session = ap (λ (x : DraftJournal). x.session) c.in_ok-raise_item.ensures.ok;
 }
 
 more : (n k : ℕ) → k ≡ n → (i : ℕ) → i + 1 < k → i + 1 < n
@@ -52,16 +52,16 @@ raise_item-requires-in-items-clause-accepted c = raised.accepted_next _ _ _ _ _ 
 pub close_side-requires-clause-accepted : goal.close_side-requires-clause-accepted
 close_side-requires-clause-accepted c = ap (λ n. first_false c.raise_item-in-items.new.draft.model (close (taken_of c.args.taken.now) n c.items.done)) (c.len-count.ensures ∙ c.in_ok-items.items.ok.0 ∙ raised.how_many _ _ _ _ _ _ c.requires c.in_ok-items.items.items (c.in_ok-items.ensures ∙ ap (λ X. items_of (content X c.args.l)) c.arena.ensures.model))
     ∙ raised.closes_next _ _ _ _ _ _ c.requires c.in_ok-items.items.items (c.in_ok-items.ensures ∙ ap (λ X. items_of (content X c.args.l)) c.arena.ensures.model) c.items.done c.items.draft.model c.items.invariant.model (more _ _ (c.len-count.ensures ∙ c.in_ok-items.items.ok.0 ∙ raised.how_many _ _ _ _ _ _ c.requires c.in_ok-items.items.items (c.in_ok-items.ensures ∙ ap (λ X. items_of (content X c.args.l)) c.arena.ensures.model)) c.items.done c.items-test.true) c.index-in-items.result.now c.index-in-items.ensures
-    c.raise_item-in-items.new.draft.model (ap (λ (x : DraftState). x.model) c.in_ok-raise_item-2.ensures.ok)
+    c.raise_item-in-items.new.draft.model (ap (λ (x : DraftJournal). x.model) c.in_ok-raise_item-2.ensures.ok)
 
 pub items-preserved : goal.items-preserved
 items-preserved c = record {
   inside = more _ _ (c.len-count.ensures ∙ c.in_ok-items.items.ok.0 ∙ raised.how_many _ _ _ _ _ _ c.requires c.in_ok-items.items.items (c.in_ok-items.ensures ∙ ap (λ X. items_of (content X c.args.l)) c.arena.ensures.model)) c.items.done c.items-test.true;
-  model = ap (λ (x : DraftState). x.model) c.in_ok-close_side.ensures.ok
+  model = ap (λ (x : DraftJournal). x.model) c.in_ok-close_side.ensures.ok
       ∙ ap (λ n. effect c.raise_item-in-items.new.draft.model (close (taken_of c.args.taken.now) n c.items.done)) (c.len-count.ensures ∙ c.in_ok-items.items.ok.0 ∙ raised.how_many _ _ _ _ _ _ c.requires c.in_ok-items.items.items (c.in_ok-items.ensures ∙ ap (λ X. items_of (content X c.args.l)) c.arena.ensures.model))
       ∙ raised.after_next _ _ _ _ _ _ c.requires c.in_ok-items.items.items (c.in_ok-items.ensures ∙ ap (λ X. items_of (content X c.args.l)) c.arena.ensures.model) c.items.done c.items.draft.model c.items.invariant.model (more _ _ (c.len-count.ensures ∙ c.in_ok-items.items.ok.0 ∙ raised.how_many _ _ _ _ _ _ c.requires c.in_ok-items.items.items (c.in_ok-items.ensures ∙ ap (λ X. items_of (content X c.args.l)) c.arena.ensures.model)) c.items.done c.items-test.true) c.index-in-items.result.now c.index-in-items.ensures
-      c.raise_item-in-items.new.draft.model (ap (λ (x : DraftState). x.model) c.in_ok-raise_item-2.ensures.ok);
-  session = ap (λ (x : DraftState). x.session) c.in_ok-close_side.ensures.ok ∙ ap (λ (x : DraftState). x.session) c.in_ok-raise_item-2.ensures.ok ∙ c.items.invariant.session;
+      c.raise_item-in-items.new.draft.model (ap (λ (x : DraftJournal). x.model) c.in_ok-raise_item-2.ensures.ok);
+  session = ap (λ (x : DraftJournal). x.session) c.in_ok-close_side.ensures.ok ∙ ap (λ (x : DraftJournal). x.session) c.in_ok-raise_item-2.ensures.ok ∙ c.items.invariant.session;
 }
 
 pub close_last-requires-clause-some : goal.close_last-requires-clause-some
@@ -74,11 +74,11 @@ pub close_last-requires-clause-accepted : goal.close_last-requires-clause-accept
 close_last-requires-clause-accepted c = ap (λ n. first_false c.items.draft.model (close_last (taken_of c.args.taken.now) n (n - 1))) (c.len-count.ensures ∙ c.in_ok-items.items.ok.0 ∙ raised.how_many _ _ _ _ _ _ c.requires c.in_ok-items.items.items (c.in_ok-items.ensures ∙ ap (λ X. items_of (content X c.args.l)) c.arena.ensures.model))
     ∙ raised.closes_last _ _ _ _ _ _ c.requires c.in_ok-items.items.items (c.in_ok-items.ensures ∙ ap (λ X. items_of (content X c.args.l)) c.arena.ensures.model) c.items.done c.items.draft.model c.items.invariant.model c.items.invariant.inside (ends _ _ (c.len-count.ensures ∙ c.in_ok-items.items.ok.0 ∙ raised.how_many _ _ _ _ _ _ c.requires c.in_ok-items.items.items (c.in_ok-items.ensures ∙ ap (λ X. items_of (content X c.args.l)) c.arena.ensures.model)) c.items.done c.items-test.false)
 
-pub returns-clause-ok : goal.returns-clause-ok
-returns-clause-ok c =
-    let e = c.in_ok-close_last.ensures.ok in
-    e ∙ (λ j. record {
-      session = c.items.invariant.session j;
-      model = (ap (λ n. effect c.items.draft.model (close_last (taken_of c.args.taken.now) n (n - 1))) (c.len-count.ensures ∙ c.in_ok-items.items.ok.0 ∙ raised.how_many _ _ _ _ _ _ c.requires c.in_ok-items.items.items (c.in_ok-items.ensures ∙ ap (λ X. items_of (content X c.args.l)) c.arena.ensures.model))
-          ∙ raised.after_last _ _ _ _ _ _ c.requires c.in_ok-items.items.items (c.in_ok-items.ensures ∙ ap (λ X. items_of (content X c.args.l)) c.arena.ensures.model) c.items.done c.items.draft.model c.items.invariant.model c.items.invariant.inside (ends _ _ (c.len-count.ensures ∙ c.in_ok-items.items.ok.0 ∙ raised.how_many _ _ _ _ _ _ c.requires c.in_ok-items.items.items (c.in_ok-items.ensures ∙ ap (λ X. items_of (content X c.args.l)) c.arena.ensures.model)) c.items.done c.items-test.false)) j;
-    })
+pub returns-clause-model : goal.returns-clause-model
+returns-clause-model c =
+    ap (λ (x : DraftJournal). x.model) c.in_ok-close_last.ensures.ok
+    ∙ ap (λ n. effect c.items.draft.model (close_last (taken_of c.args.taken.now) n (n - 1))) (c.len-count.ensures ∙ c.in_ok-items.items.ok.0 ∙ raised.how_many _ _ _ _ _ _ c.requires c.in_ok-items.items.items (c.in_ok-items.ensures ∙ ap (λ X. items_of (content X c.args.l)) c.arena.ensures.model))
+    ∙ raised.after_last _ _ _ _ _ _ c.requires c.in_ok-items.items.items (c.in_ok-items.ensures ∙ ap (λ X. items_of (content X c.args.l)) c.arena.ensures.model) c.items.done c.items.draft.model c.items.invariant.model c.items.invariant.inside (ends _ _ (c.len-count.ensures ∙ c.in_ok-items.items.ok.0 ∙ raised.how_many _ _ _ _ _ _ c.requires c.in_ok-items.items.items (c.in_ok-items.ensures ∙ ap (λ X. items_of (content X c.args.l)) c.arena.ensures.model)) c.items.done c.items-test.false)
+
+pub returns-clause-session : goal.returns-clause-session
+returns-clause-session c = ap (λ (x : DraftJournal). x.session) c.in_ok-close_last.ensures.ok ∙ c.items.invariant.session

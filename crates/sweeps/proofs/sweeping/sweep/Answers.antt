@@ -1,14 +1,14 @@
 use Rattle.std.proofs.Common.{ap, sym, ◌∙◌}
 use Rattle.shapes.specs.Prism.{prism_refusal, prism_model}
-use Rattle.undo_journal.specs.Machine.{DraftState, accepted}
+use Rattle.undo_journal.specs.Journal.{Journal, DraftJournal}
+use Rattle.undo_journal.specs.Machine.{accepted}
 use Rattle.sweeps.proofs.Drawing.{passed}
 use Rattle.sweeps.proofs.sweeping.sweep.Goals as goal
 
 pub returns-in-Ok-raise-clause-ok : goal.returns-in-Ok-raise-clause-ok
 returns-in-Ok-raise-clause-ok c =
-    let made = c.in-Ok-raise.ensures.ok in
-    let model = ap (λ (d : DraftState). d.model) made ∙ ap (λ (d : DraftState). prism_model d.model c.args.f c.args.d) c.in-Ok.ensures.ok in
-    let session = ap (λ (d : DraftState). d.session) made ∙ ap (λ (d : DraftState). d.session) c.in-Ok.ensures.ok in (
+    let model = c.in-Ok-raise.ensures.model ∙ ap (λ (d : DraftJournal). prism_model d.model c.args.f c.args.d) c.in-Ok.ensures.ok in
+    let session = c.in-Ok-raise.ensures.session ∙ ap (λ (d : DraftJournal). d.session) c.in-Ok.ensures.ok in (
       sym (ap (λ M. prism_refusal M c.args.f c.args.d) c.arena.ensures.model) ∙ passed _ _ (sym c.check_sweep.ensures ∙ c.in_default.is),
-      c.commit.ensures ∙ (λ t. accepted (session t) (model t)),
+      ap (λ (j : Journal). j.machine) c.commit.ensures ∙ (λ t. accepted (session t).machine (model t)),
     )
