@@ -18,7 +18,7 @@ pub struct Range {
 
 /// The greatest numbers in use.
 pub(crate) fn counted(session: &Session) -> Counters
-    ensures { taken_of result ≡ taken_in (held session.now) }
+    ensures { taken_of result ≡ taken_in (held session.now.machine) }
 {
     counters_of(session.arena())
 }

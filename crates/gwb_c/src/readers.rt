@@ -38,7 +38,7 @@ pub struct Place {
 
 /// A face's solid and outer loop.
 pub(crate) fn face(session: &Session, face: u32) -> Option<FaceRow>
-    ensures { result ≡ face_in face (held session.now) }
+    ensures { result ≡ face_in face (held session.now.machine) }
 {
     let arena = session.arena();
     if !arena.has(Kind::Face, face) {
@@ -52,7 +52,7 @@ pub(crate) fn face(session: &Session, face: u32) -> Option<FaceRow>
 
 /// The face of a loop.
 pub(crate) fn face_of_loop(session: &Session, l: u32) -> Option<u32>
-    ensures { result ≡ face_of_loop_in l (held session.now) }
+    ensures { result ≡ face_of_loop_in l (held session.now.machine) }
 {
     let arena = session.arena();
     if !arena.has(Kind::Loop, l) {
@@ -78,7 +78,7 @@ fn ends(arena: &Arena, e: u32) -> EdgeRow
 
 /// The vertices of an edge.
 pub(crate) fn edge(session: &Session, edge: u32) -> Option<EdgeRow>
-    ensures { result ≡ edge_in edge (held session.now) }
+    ensures { result ≡ edge_in edge (held session.now.machine) }
 {
     let arena = session.arena();
     if !arena.has(Kind::Edge, edge) {
@@ -101,7 +101,7 @@ fn lone_at(arena: &Arena, l: u32) -> Option<u32>
 
 /// The vertex of a lone loop.
 pub(crate) fn lone_vertex(session: &Session, l: u32) -> Option<u32>
-    ensures { result ≡ lone_in l (held session.now) }
+    ensures { result ≡ lone_in l (held session.now.machine) }
 {
     let arena = session.arena();
     if !arena.has(Kind::Loop, l) {
@@ -124,7 +124,7 @@ fn item_at(arena: &Arena, l: u32) -> Option<u32>
 
 /// A half-edge of a loop.
 pub(crate) fn first_half_edge(session: &Session, l: u32) -> Option<u32>
-    ensures { IsFirst l (held session.now) result }
+    ensures { IsFirst l (held session.now.machine) result }
 {
     let arena = session.arena();
     if !arena.has(Kind::Loop, l) {
@@ -152,7 +152,7 @@ fn half_of(item: u32) -> HalfEdge
 
 /// The half-edge after another in its loop.
 pub(crate) fn next_half_edge(session: &Session, item: u32) -> Option<u32>
-    ensures { result ≡ after_in item (held session.now) }
+    ensures { result ≡ after_in item (held session.now.machine) }
 {
     let arena = session.arena();
     let half = half_of(item);
@@ -164,7 +164,7 @@ pub(crate) fn next_half_edge(session: &Session, item: u32) -> Option<u32>
 
 /// The least ring of a face above n.
 pub(crate) fn ring_after(session: &Session, face: u32, n: u32) -> Option<u32>
-    ensures { IsRingAfter face n (held session.now) result }
+    ensures { IsRingAfter face n (held session.now.machine) result }
 {
     let arena = session.arena();
     if !arena.has(Kind::Face, face) {
@@ -175,7 +175,7 @@ pub(crate) fn ring_after(session: &Session, face: u32, n: u32) -> Option<u32>
 
 /// The least face of a solid above n.
 pub(crate) fn face_after(session: &Session, solid: u32, n: u32) -> Option<u32>
-    ensures { IsFaceAfter solid n (held session.now) result }
+    ensures { IsFaceAfter solid n (held session.now.machine) result }
 {
     session.arena().face_after(solid, n)
 }
@@ -196,14 +196,14 @@ fn kind_of(entity: u32) -> Option<Kind>
 
 /// The least number of a kind in use above n.
 fn after_of_kind(session: &Session, kind: Kind, n: u32) -> Option<u32>
-    ensures { IsNextNumber (store_of (held session.now)) kind n result }
+    ensures { IsNextNumber (store_of (held session.now.machine)) kind n result }
 {
     session.arena().after_number(kind, n)
 }
 
 /// The least number in use above n, of the kind that C means.
 pub(crate) fn number_after(session: &Session, entity: u32, n: u32) -> Option<u32>
-    ensures { IsNumberAfter (kind_of entity) n (held session.now) result }
+    ensures { IsNumberAfter (kind_of entity) n (held session.now.machine) result }
 {
     match kind_of(entity) {
         Some(kind) => after_of_kind(session, kind, n),
@@ -213,7 +213,7 @@ pub(crate) fn number_after(session: &Session, entity: u32, n: u32) -> Option<u32
 
 /// The point of a vertex.
 pub(crate) fn vertex(session: &Session, vertex: u32) -> Option<Place>
-    ensures { result ≡ point_in vertex (held session.now) }
+    ensures { result ≡ point_in vertex (held session.now.machine) }
 {
     let arena = session.arena();
     if !arena.has(Kind::Vertex, vertex) {

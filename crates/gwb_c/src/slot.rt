@@ -1,7 +1,7 @@
 //! What a handle stands for, and what a line does to it.
 ghost use Rattle.std.specs.Prelude.{◌≡◌, IfSome, IsSome, Some, length};
 ghost use Rattle.script_running.specs.script_judging.Judging.{answer_text};
-ghost use Rattle.undo_journal.specs.Machine.{start};
+ghost use Rattle.undo_journal.specs.Journal.{new_journal};
 ghost use Rattle.gwb_c.specs.Handle.{Counts_in, Slot_hears, Slot_finishes, Slot_notes, status_of, laid_over};
 
 use crate::fresh::counted;
@@ -23,7 +23,7 @@ pub struct Slot {
 
 /// A new session in its box.
 pub(crate) fn made(alloc: Global) -> Option<Box<Slot, Global>>
-    ensures { IfSome result (λ b. (b.value.session ≡ Some start) × (b.value.answer ≡ Answer.Silent)) }
+    ensures { IfSome result (λ b. (b.value.session ≡ Some new_journal) × (b.value.answer ≡ Answer.Silent)) }
 {
     let Ok(session) = Session::new(alloc) else {
         return None;
@@ -119,7 +119,7 @@ pub(crate) fn status(answer: &Answer) -> u32
 
 /// The text of an answer. None where memory is refused.
 pub(crate) fn text_of(alloc: Global, session: &Session, answer: &Answer) -> Option<Vec<u8>>
-    ensures { IfSome result (λ v. v.items ≡ answer_text session.now answer.now) }
+    ensures { IfSome result (λ v. v.items ≡ answer_text session.now.machine answer.now) }
 {
     let mut text = Vec::new(alloc);
     let told = match answer {

@@ -46,7 +46,7 @@ enum Heard {
 
 /// The next line judged.
 fn hear<R: Read>(lines: &mut Lines<R>, session: &mut Session, later: &mut Option<Larger>) -> Heard
-    ensures { Hears R.remaining lines.old lines.new session.old session.new later.new result }
+    ensures { Hears R.remaining lines.old lines.new session.old.machine session.new.machine later.new result }
 {
     match lines.next_line() {
         NextLine::Line(line) => match judge(session, line, later) {
@@ -62,7 +62,7 @@ fn hear<R: Read>(lines: &mut Lines<R>, session: &mut Session, later: &mut Option
 
 /// Writes an answer.
 fn say<W: Write>(writer: &mut W, session: &Session, answer: &Answer) -> Result<(), RunFault>
-    ensures puts { Puts (W.contents writer.old) (W.contents writer.new) (answer_text session.now answer.now) result }
+    ensures puts { Puts (W.contents writer.old) (W.contents writer.new) (answer_text session.now.machine answer.now) result }
     ensures fault { IfErr result (λ e. e ≡ RunFault.Write) }
 {
     match answer {
@@ -111,7 +111,7 @@ fn run_lines<R: Read, W: Write>(
     stop: bool,
 ) -> Result<Summary, RunFault>
     requires fresh { IsFresh (reader_of lines.old) lines.old }
-    requires start { session ≡ start }
+    requires start { session.machine ≡ start }
     ensures { Runs (R.remaining (reader_of lines.old)) (W.contents writer.old) (W.contents writer.new) stop result }
 {
     let mut later = None;

@@ -91,15 +91,15 @@ pub(crate) fn outcome(ended: Result<(), Failure>) -> Answer
     }
 }
 
-#[tactic(auto, using(crate::proofs::script_judging_laws::Acted::acts))]
+#[tactic(auto, using(crate::proofs::script_judging_laws::Acted::acts_on))]
 fn act(session: &mut Session, op: Op) -> Answer
-    ensures { Acts (machine.act_refusal session.old op) session.old (machine.act session.old op) result session.new }
+    ensures { Acts (machine.act_refusal session.old.machine op) session.old.machine (machine.act session.old.machine op) result session.new.machine }
 {
     outcome(session.act(op))
 }
 
 fn undo(session: &mut Session) -> Answer
-    ensures { Moves (machine.undo_refusal session.old) session.old (machine.undo session.old) result session.new }
+    ensures { Moves (machine.undo_refusal session.old.machine) session.old.machine (machine.undo session.old.machine) result session.new.machine }
 {
     match session.undo() {
         Ok(()) => Answer::Reply(Reply::Done),
@@ -108,7 +108,7 @@ fn undo(session: &mut Session) -> Answer
 }
 
 fn redo(session: &mut Session) -> Answer
-    ensures { Moves (machine.redo_refusal session.old) session.old (machine.redo session.old) result session.new }
+    ensures { Moves (machine.redo_refusal session.old.machine) session.old.machine (machine.redo session.old.machine) result session.new.machine }
 {
     match session.redo() {
         Ok(()) => Answer::Reply(Reply::Done),
@@ -160,7 +160,7 @@ fn count_reply(arena: &Arena, solid: u32) -> Result<Reply, Refusal>
 
 /// Answers a command, or puts a larger one in `later`.
 fn obey(session: &mut Session, command: Command, later: &mut Option<Larger>) -> Option<Answer>
-    ensures { Settles session.old command.entry result session.new later.new }
+    ensures { Settles session.old.machine command.entry result session.new.machine later.new }
 {
     match command {
         Command::Nothing => Some(Answer::Silent),
@@ -196,7 +196,7 @@ fn obey(session: &mut Session, command: Command, later: &mut Option<Larger>) -> 
 
 /// Judges a line: its answer, or none where it spells a larger command, which is put in `later`.
 pub fn judge(session: &mut Session, line: &[u8], later: &mut Option<Larger>) -> Option<Answer>
-    ensures { Decides session.old line.now result session.new later.new }
+    ensures { Decides session.old.machine line.now result session.new.machine later.new }
 {
     match read_line(line) {
         Ok(command) => obey(session, command, later),

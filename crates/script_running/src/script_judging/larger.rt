@@ -31,7 +31,7 @@ pub enum Larger {
 }
 
 fn make_lamina(alloc: Global, session: Session, solid: u32, corners: &Corners) -> (Session, Answer)
-    ensures { Acts (lamina_refusal session solid corners.now) session (lamina session solid corners.now) result.1 result.0 }
+    ensures { Acts (lamina_refusal session.machine solid corners.now) session.machine (lamina session.machine solid corners.now) result.1 result.0.machine }
 {
     let (session, ended) = lamina(alloc, session, solid, corners.points());
     (session, outcome(ended))
@@ -46,7 +46,7 @@ fn make_block(
     dy: i64,
     dz: i64,
 ) -> (Session, Answer)
-    ensures { Acts (block_refusal session solid corner dx dy dz) session (block session solid corner dx dy dz) result.1 result.0 }
+    ensures { Acts (block_refusal session.machine solid corner dx dy dz) session.machine (block session.machine solid corner dx dy dz) result.1 result.0.machine }
 {
     let (session, ended) = block(alloc, session, solid, corner, dx, dy, dz);
     (session, outcome(ended))
@@ -54,7 +54,7 @@ fn make_block(
 
 #[tactic(auto, using(crate::proofs::script_judging_laws::Acted::acts))]
 fn make_sweep(alloc: Global, session: Session, face: u32, way: Point) -> (Session, Answer)
-    ensures { Acts (sweep_refusal session face way) session (sweep session face way) result.1 result.0 }
+    ensures { Acts (sweep_refusal session.machine face way) session.machine (sweep session.machine face way) result.1 result.0.machine }
 {
     let (session, ended) = sweep(alloc, session, face, way);
     (session, outcome(ended))
@@ -62,7 +62,7 @@ fn make_sweep(alloc: Global, session: Session, face: u32, way: Point) -> (Sessio
 
 #[tactic(auto, using(crate::proofs::script_judging_laws::Acted::tries))]
 fn make_glue(alloc: Global, session: Session, face: u32, other: u32) -> (Session, Answer)
-    ensures { Tries (glue_refusal session face other) session (glue session face other) result.1 result.0 }
+    ensures { Tries (glue_refusal session.machine face other) session.machine (glue session.machine face other) result.1 result.0.machine }
 {
     let (session, ended) = glue(alloc, session, face, other);
     (session, outcome(ended))
@@ -78,7 +78,7 @@ fn make_split(
     d: i64,
     above: u32,
 ) -> (Session, Answer)
-    ensures { Tries (split_refusal session solid (plane_with a b c d) above) session (split session solid (plane_with a b c d) above) result.1 result.0 }
+    ensures { Tries (split_refusal session.machine solid (plane_with a b c d) above) session.machine (split session.machine solid (plane_with a b c d) above) result.1 result.0.machine }
 {
     let (session, ended) = split(alloc, session, solid, a, b, c, d, above);
     (session, outcome(ended))
@@ -92,7 +92,7 @@ fn split_by(
     plane: [i64; 4],
     above: u32,
 ) -> (Session, Answer)
-    ensures { Tries (split_refusal session solid (given_plane plane) above) session (split session solid (given_plane plane) above) result.1 result.0 }
+    ensures { Tries (split_refusal session.machine solid (given_plane plane) above) session.machine (split session.machine solid (given_plane plane) above) result.1 result.0.machine }
 {
     let [a, b, c, d] = plane;
     make_split(alloc, session, solid, a, b, c, d, above)
@@ -100,7 +100,7 @@ fn split_by(
 
 /// Carries a larger command out: gives the session back with its answer. Where the answer is not `ok`, the session is as it was.
 pub fn carry_out(alloc: Global, session: Session, larger: Larger) -> (Session, Answer)
-    ensures { Obeys session (spelled larger) result.1 result.0 }
+    ensures { Obeys session.machine (spelled larger) result.1 result.0.machine }
 {
     match larger {
         Larger::Lamina(solid, corners) => make_lamina(alloc, session, solid, &corners),

@@ -6,6 +6,6 @@ use Rattle.script_running.proofs.script_judging_laws.Acted.{tries_told, of_coeff
 use Rattle.script_running.proofs.script_judging.larger.make_split.Goals as goal
 
 pub returns : goal.returns
-returns c = of_coefficients (λ x y z w. Tries (split_refusal c.args.session c.args.solid (plane_with x y z w) c.args.above) c.args.session (split c.args.session c.args.solid (plane_with x y z w) c.args.above) c.outcome.result c.split-session.result.0)
+returns c = of_coefficients (λ x y z w. Tries (split_refusal c.args.session.machine c.args.solid (plane_with x y z w) c.args.above) c.args.session.machine (split c.args.session.machine c.args.solid (plane_with x y z w) c.args.above) c.outcome.result c.split-session.result.0.machine)
     _ _ _ _ _ _ _ _ (to_z-of_z w64 c.args.a c.ranges.a) (to_z-of_z w64 c.args.b c.ranges.b) (to_z-of_z w64 c.args.c c.ranges.c) (to_z-of_z w64 c.args.d c.ranges.d)
     (tries_told _ _ _ _ _ _ c.outcome.ensures c.split-session.ensures.ok c.split-session.ensures.refused c.split-session.ensures.err)
