@@ -3,3 +3,5 @@ pub mod Rims
 pub mod Measures
 pub mod Machine
 pub mod Calls
+pub use Rattle.gluing_laws.specs.Laws as VolumeLaws
+pub use Rattle.gluing_laws.specs.glue.Laws as GlueLaws

@@ -11,4 +11,5 @@ mod laws;
 mod rims;
 
 pub use command::glue;
+pub use gluing_laws::{glues_add, glues_make_glued};
 pub use laws::{glue_measures, glues_are_calls};

@@ -6,3 +6,5 @@ pub use Rattle.split_opening_laws.specs.sections.InTurn
 pub mod solid_opening
 pub mod Machine
 pub mod Calls
+pub use Rattle.split_laws.specs.Laws as SplitLaws
+pub use Rattle.split_laws.specs.measures.Laws as PartLaws

@@ -1,7 +1,7 @@
 -- A splice exchanges what follows two items: what that makes of the rings in which they stand.
 use Rattle.std.specs.Prelude.{◌≡◌, ◌≢◌, ℕ, List, ◌++◌}
-use Rattle.sweeps.specs.Items.{count, IsIn, IsApart}
-use Rattle.sweeps.specs.Rings.{IsRing, splice, cut_left, cut_right, joined}
+use Rattle.script_running.specs.laws_below.Items.{count, IsIn, IsApart}
+use Rattle.script_running.specs.laws_below.Rings.{IsRing, splice, cut_left, cut_right, joined}
 
 -- one ring in which both stand is cut in two
 abbrev pub SplicesCut : Type 0

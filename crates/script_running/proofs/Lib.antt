@@ -2,3 +2,5 @@ pub mod script_judging_laws
 pub mod Counting
 pub mod RunLaws
 pub mod Outputs
+pub use Rattle.sweeps.proofs.Cuts
+pub use Rattle.sweeps.proofs.Leads

@@ -4,3 +4,4 @@ pub mod Output
 pub mod Runs
 pub mod Hearing
 pub mod Laws
+pub mod laws_below

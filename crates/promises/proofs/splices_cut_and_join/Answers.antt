@@ -1,5 +1,5 @@
-use Rattle.sweeps.proofs.Cuts.{IsRing-cut, IsRing-join}
-use Rattle.sweeps.proofs.Leads.{IsRing-splice_other}
+use Rattle.script_running.proofs.Cuts.{IsRing-cut, IsRing-join}
+use Rattle.script_running.proofs.Leads.{IsRing-splice_other}
 use Rattle.promises.proofs.splices_cut_and_join.Goals as goal
 
 pub returns : goal.returns
