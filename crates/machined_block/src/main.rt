@@ -4,7 +4,7 @@
 #![tactic(auto)]
 
 ghost use Rattle.std.specs.Prelude.{◌≡◌, pos, ◌+ℤ◌, ◌*ℤ◌, OnOk, OnErr, IfOk};
-ghost use Rattle.sweeps.specs.Journal.{depth, ahead, held, undo, undo_refusal};
+ghost use Rattle.sweeps.specs.PlainMachine.{depth, ahead, held, undo, undo_refusal};
 ghost use Rattle.sweeps.specs.Measure.{normal, six_volume};
 ghost use Rattle.sweeps.specs.Model.{solid_of};
 ghost use Rattle.sweeps.specs.Vectors.{dot};
@@ -15,8 +15,8 @@ use sweeps::{Draft, Failure, Op, Point, Session, block, block_measures, sweep, s
 
 /// A session that holds a block of 4 by 3 by 2 as solid 1.
 fn blank(alloc: Global) -> Result<Session, Failure>
-    ensures volume { IfOk result (λ session. six_volume (held session) 1 ≡ pos 144) }
-    ensures depth { IfOk result (λ session. depth session ≡ 1) }
+    ensures volume { IfOk result (λ session. six_volume (held session.machine) 1 ≡ pos 144) }
+    ensures depth { IfOk result (λ session. depth session.machine ≡ 1) }
 {
     let session = Session::new(alloc).map_err(Failure::Memory)?;
     session.stays_consistent();
@@ -30,10 +30,10 @@ fn blank(alloc: Global) -> Result<Session, Failure>
 /// A face swept along a vector. Its solid grows by three times the face's normal before, along the vector; undo isn't refused then,
 /// and gives the model before.
 fn raised(alloc: Global, session: Session, face: u32, by: Point) -> (Session, Result<(), Failure>)
-    ensures volume { OnOk result.1 (six_volume (held result.0) (solid_of (held session) face) ≡ six_volume (held session) (solid_of (held session) face) +ℤ pos 3 *ℤ dot (normal (held session) face) by) }
-    ensures goes_back { OnOk result.1 (undo_refusal result.0 ≡ None) }
-    ensures undone { OnOk result.1 (held (undo result.0) ≡ held session) }
-    ensures left { OnOk result.1 ((depth (undo result.0) ≡ depth session) × (ahead (undo result.0) ≡ 1)) }
+    ensures volume { OnOk result.1 (six_volume (held result.0.machine) (solid_of (held session.machine) face) ≡ six_volume (held session.machine) (solid_of (held session.machine) face) +ℤ pos 3 *ℤ dot (normal (held session.machine) face) by) }
+    ensures goes_back { OnOk result.1 (undo_refusal result.0.machine ≡ None) }
+    ensures undone { OnOk result.1 (held (undo result.0.machine) ≡ held session.machine) }
+    ensures left { OnOk result.1 ((depth (undo result.0.machine) ≡ depth session.machine) × (ahead (undo result.0.machine) ≡ 1)) }
     ensures err { OnErr result.1 (result.0 ≡ session) }
 {
     session.stays_consistent();
@@ -57,8 +57,8 @@ fn tried(session: Session, op: Op) -> Session
 /// The block, after its first face was raised and lowered again and an operator was tried in vain: it has its volume as before, and
 /// the sweep can be made again.
 fn machined(alloc: Global) -> Result<Session, Failure>
-    ensures volume { IfOk result (λ session. six_volume (held session) 1 ≡ pos 144) }
-    ensures left { IfOk result (λ session. (depth session ≡ 1) × (ahead session ≡ 1)) }
+    ensures volume { IfOk result (λ session. six_volume (held session.machine) 1 ≡ pos 144) }
+    ensures left { IfOk result (λ session. (depth session.machine ≡ 1) × (ahead session.machine ≡ 1)) }
 {
     let session = blank(alloc)?;
     let up = Point { x: 0, y: 0, z: 1 };

@@ -17,8 +17,8 @@ use Rattle.split_drawing_laws.proofs.pairs.Whole.{rewritings_made}
 use Rattle.split_drawing_laws.proofs.drawings.Runs.{Leads}
 use Rattle.split_opening_laws.specs.sections.InTurn.{CanBeOpenedInTurn}
 use Rattle.split_laws.proofs.drawn.Drawn.{begins, can_open_all}
-use Rattle.split_checks.specs.Progress.{drawing_of}
-use Rattle.split_checks.specs.declared.progress.Progress.{Progress}
+use Rattle.split_drawing.specs.Progress.{drawing_of}
+use Rattle.split_drawing.specs.declared.Progress.{Progress}
 use Rattle.split_sections.specs.section_checks.Sections.{IsSection, cycles_of}
 use Rattle.split_sections.specs.declared.section_checks.section.Section.{Section}
 use Rattle.split_drawing.specs.solid_drawing.Drawn.{put_aside}

@@ -12,7 +12,7 @@ ghost use Rattle.split_drawing_laws.specs.crossings.Laws.{CanBegin};
 use crate::steps::carry_out;
 use euler_conditions::Arena;
 use euler_operators::Plane;
-use split_checks::check_begin;
+use split_drawing::check_begin;
 use std::alloc::Global;
 use undo_journal::{Draft, Failure, Session};
 

@@ -4,14 +4,13 @@ ghost use Rattle.euler_operators.specs.Sound.{Sound};
 ghost use Rattle.euler_operators.specs.Conditions.{verdict};
 ghost use Rattle.shapes.specs.split.Split.{split_above, split_model, split_refusal};
 ghost use Rattle.split_drawing_laws.specs.crossings.Laws.{CanBegin};
-ghost use Rattle.split_checks.specs.Progress.{drawing_of};
+ghost use Rattle.split_drawing.specs.Progress.{drawing_of};
 ghost use Rattle.split_sections.specs.section_checks.Sections.{IsSection};
 ghost use Rattle.plane_split.specs.Drawn.{IsDrawn};
 
 use crate::solid_opening::{open_section, part_upper};
 use euler_operators::{Plane, Refusal};
-use split_checks::Progress;
-use split_drawing::draw_solid;
+use split_drawing::{Progress, draw_solid};
 use split_sections::{Section, check_later};
 use std::alloc::{AllocError, Global};
 use undo_journal::Draft;

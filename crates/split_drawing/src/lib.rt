@@ -10,3 +10,4 @@ mod face_pairs;
 mod solid_drawing;
 
 pub use solid_drawing::draw_solid;
+pub use split_checks::{Progress, check_begin};

@@ -14,9 +14,9 @@ use Rattle.split_opening_laws.proofs.sections.InTurn.{can_open, others_on}
 use Rattle.split_opening_laws.specs.opening.OpeningOps.{opening_ops}
 use Rattle.split_opening_laws.proofs.opening.Whole.{opening_made}
 use Rattle.split_laws.proofs.Flags.{flags_are, next_flags}
-use Rattle.split_checks.proofs.cut_places_laws.Lists.{others, parts}
-use Rattle.split_checks.specs.Progress.{taken_of}
-use Rattle.split_checks.specs.declared.progress.Progress.{Progress}
+use Rattle.split_drawing.proofs.CutPlaces.{others, parts}
+use Rattle.split_drawing.specs.Progress.{taken_of}
+use Rattle.split_drawing.specs.declared.Progress.{Progress}
 use Rattle.split_sections.specs.section_checks.Sections.{halves_of}
 use Rattle.split_sections.specs.declared.section_checks.section.Cycle.{Cycle}
 use Rattle.plane_split.specs.solid_opening.Capped.{caps_of, all_caps, opening_of}

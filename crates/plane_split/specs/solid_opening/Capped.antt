@@ -3,8 +3,8 @@ use Rattle.std.specs.Prelude.{ℕ, List, [], map}
 use Rattle.euler_operators.specs.declared.Plane.{Plane}
 use Rattle.euler_operators.specs.Model.{Model}
 use Rattle.shapes.specs.split.Opening.{Caps, Opening, all_opened}
-use Rattle.split_checks.specs.Progress.{taken_of}
-use Rattle.split_checks.specs.declared.progress.Progress.{Progress}
+use Rattle.split_drawing.specs.Progress.{taken_of}
+use Rattle.split_drawing.specs.declared.Progress.{Progress}
 use Rattle.split_sections.specs.section_checks.Sections.{cycles_of}
 use Rattle.split_sections.specs.declared.section_checks.section.Section.{Section}
 use Rattle.plane_split.specs.declared.solid_opening.caps.Caps as declared

@@ -5,12 +5,12 @@ ghost use Rattle.euler_operators.specs.Model.{has_half};
 ghost use Rattle.euler_laws.specs.Laws.{effects};
 ghost use Rattle.euler_operators.specs.Conditions.{first_false};
 ghost use Rattle.undo_journal.specs.Journal.{after_step};
-ghost use Rattle.split_checks.specs.Progress.{taken_of};
+ghost use Rattle.split_drawing.specs.Progress.{taken_of};
 ghost use Rattle.split_opening_laws.specs.strips.StripOps as ops;
 ghost use Rattle.plane_split.specs.solid_opening.Stages.{AreStripped};
 
 use euler_operators::{Corner, HalfEdge, Op};
-use split_checks::Progress;
+use split_drawing::Progress;
 use split_sections::start;
 use std::alloc::AllocError;
 use undo_journal::Draft;

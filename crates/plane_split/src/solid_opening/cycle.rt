@@ -2,7 +2,7 @@
 ghost use Rattle.std.specs.Prelude.{◌≡◌, ◌≤◌, ◌+◌, ◌*◌, OnOk, map};
 ghost use Rattle.euler_operators.specs.HalfEdge.{code};
 ghost use Rattle.euler_laws.specs.Laws.{effects};
-ghost use Rattle.split_checks.specs.Progress.{taken_of};
+ghost use Rattle.split_drawing.specs.Progress.{taken_of};
 ghost use Rattle.split_opening_laws.specs.opening.OpeningOps.{opening_ops};
 ghost use Rattle.plane_split.specs.solid_opening.Stages.{CanOpen};
 
@@ -11,7 +11,7 @@ use crate::solid_opening::copies::raise_copies;
 use crate::solid_opening::joinings::make_caps;
 use crate::solid_opening::strips::cut_strips;
 use euler_operators::HalfEdge;
-use split_checks::Progress;
+use split_drawing::Progress;
 use std::alloc::AllocError;
 use undo_journal::Draft;
 

@@ -1,11 +1,11 @@
 //! Strips joined into one, and that one parted into the two caps.
 ghost use Rattle.std.specs.Prelude.{◌≡◌, ◌≤◌, ◌+◌, ◌-◌, ◌*◌, OnOk};
 ghost use Rattle.euler_laws.specs.Laws.{AreAccepted, effects};
-ghost use Rattle.split_checks.specs.Progress.{taken_of};
+ghost use Rattle.split_drawing.specs.Progress.{taken_of};
 ghost use Rattle.split_opening_laws.specs.caps.CapOps.{cap_ops, joinings};
 
 use euler_operators::{HalfEdge, Op};
-use split_checks::Progress;
+use split_drawing::Progress;
 use std::alloc::AllocError;
 use undo_journal::Draft;
 

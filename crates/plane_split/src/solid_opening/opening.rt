@@ -8,7 +8,7 @@ ghost use Rattle.plane_split.specs.solid_opening.Capped.{all_caps, opened_sectio
 use crate::solid_opening::caps::Caps;
 use crate::solid_opening::cycle::{caps_after, counted_on, open_cycle};
 use euler_operators::Plane;
-use split_checks::Progress;
+use split_drawing::Progress;
 use split_sections::Section;
 use std::alloc::{AllocError, Global};
 use undo_journal::Draft;

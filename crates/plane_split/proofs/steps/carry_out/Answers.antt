@@ -1,7 +1,7 @@
 use Rattle.std.proofs.Common.{[], Ok, sym, ap, subst, ◌∙◌}
 use Rattle.euler_operators.specs.Conditions.{verdict}
 use Rattle.shapes.specs.split.Split.{split_above}
-use Rattle.split_checks.specs.Progress.{drawing_of}
+use Rattle.split_drawing.specs.Progress.{drawing_of}
 use Rattle.split_sections.specs.section_checks.Sections.{IsSection}
 use Rattle.plane_split.proofs.Conditions.{plane_within, still_there, later_decide}
 use Rattle.plane_split.proofs.Parted.{split_is}
