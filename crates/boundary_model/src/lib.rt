@@ -8,8 +8,8 @@ ghost use Rattle.boundary_model.specs.HalfEdge.{code, half, mate};
 ghost use Rattle.boundary_model.specs.Model.{is_number};
 
 pub use lattice::{
-    COORDINATE_LIMIT, Plane, Point, Sign, cross_add, cut_point, dot, lex_cmp, point_in_range, side,
-    sum, sum_in_range,
+    COORDINATE_LIMIT, PackedPoint, Plane, Point, Sign, cross_add, cut_point, dot, lex_cmp,
+    point_in_range, side, sum, sum_in_range,
 };
 
 /// The greatest number that a solid, a face, a loop, an edge or a vertex can have.

@@ -10,7 +10,7 @@ ghost use Rattle.arena_rows.specs.Store.{has_room, has_number, put_solid, take_s
 
 use crate::arena::Arena;
 use arena_rows::{FaceCell, Held, LoopCell};
-use boundary_model::{HalfEdge, Kind, Point};
+use boundary_model::{HalfEdge, Kind, PackedPoint, Point};
 
 impl Arena {
     /// A new solid n, which has its room.
@@ -86,7 +86,7 @@ impl Arena {
         requires range { IsInRange p }
         ensures { self.new ≡ put_vertex self.old v p }
     {
-        self.vertices.write(v, Some(p));
+        self.vertices.write(v, Some(PackedPoint::new(p)));
     }
 
     /// Vertex v goes, which is there.

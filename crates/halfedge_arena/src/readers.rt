@@ -156,6 +156,6 @@ impl Arena {
         ensures point { result ≡ point_of self.now.model v }
         ensures range { IsInRange result }
     {
-        self.vertices.known(v)
+        self.vertices.known(v).point()
     }
 }
