@@ -41,12 +41,15 @@ impl Arena {
         self.solid_faces.after(s, n)
     }
 
-    /// The least ring of face f above n, or none; face f is there. Where n is 0 or a loop of the face, this is one step or two;
-    /// else its place is looked for as `put_loop` does. `ring_count` tells how many there are to ask for.
+    /// The least ring of face f above n, or none; face f is there. Where the face has no ring, or n is 0 or a loop of the face, this is
+    /// one step or two; else its place is looked for as `put_loop` does. `ring_count` tells how many there are to ask for.
     pub fn ring_after(&self, f: u32, n: u32) -> Option<u32>
         requires { has_number self.now Kind.Face f ≡ true }
         ensures { IsNextRing self.now.model f n result }
     {
+        if self.ring_count(f) == 0 {
+            return None;
+        }
         let outer = self.outer(f);
         let next = self.face_loops.after(f, n);
         if next == Some(outer) {
