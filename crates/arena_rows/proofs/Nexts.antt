@@ -8,7 +8,7 @@ use Rattle.boundary_model.proofs.Lists.{tick_same, tick_other}
 use Rattle.boundary_model.proofs.Tests.{and_false}
 use Rattle.std.specs.Option.{option_eq}
 use Rattle.boundary_model.specs.Table.{get}
-use Rattle.boundary_model.specs.Model.{Model, FaceRow, LoopRow, solid_of, face_of, outer, is_ring_of, faces_of, rings_of, no_face, no_loop}
+use Rattle.boundary_model.specs.Model.{Model, FaceRow, solid_of, face_of, outer, is_ring_of, faces_of, no_face, no_loop}
 use Rattle.arena_rows.specs.owner_chains.Owners.{Owners, owned, is_owner, IsNextItem}
 use Rattle.arena_rows.specs.ring_spots.Spots.{Spots}
 use Rattle.arena_rows.specs.declared.rows.FaceCell.{FaceCell}
@@ -77,22 +77,6 @@ module _ (sp : Spots) (known : ℕ → Bool) (solids : List (Option Bool)) (face
         let low = first.0 in
         let apart : outer M f ≢ m = omega arith in
         (omega arith, sym (ring_test f m) ∙ ap (λ b. b && not (nat_eq (outer M f) m)) h.1 ∙ ap not (ne_eqb (outer M f) m apart), λ k l less. between k l (λ past. h.2 k past less))
-
-  -- a face whose rings are none has no ring above a number
-  pub no_ring_told : (f n : ℕ) → length (rings_of M f) ≡ 0 → IsNextRing M f n None
-  unfolding face_of
-  no_ring_told f n none = λ k l. refuted k (is_ring_of M f k) refl where
-    no_one : (ns : List ℕ) → length ns ≡ 0 → (m : ℕ) → count m ns ≡ 0
-    no_one [] e m = refl
-    no_one (n ∷ ns) e m = absurd (omega (arith, e))
-
-    passing : (k : ℕ) (o : Option LoopRow) → is_some o && nat_eq (unwrap_or o no_loop).face f && not (nat_eq (outer M f) k) ≡ true → passes (λ l (row : LoopRow). nat_eq row.face f && not (nat_eq (outer M f) l)) k o ≡ 1
-    passing k None h = absurd (true≢false (sym h))
-    passing k (Some row) h = ap {B = ℕ} (λ b. cond b 1 0) h
-
-    refuted : (k : ℕ) (b : Bool) → is_ring_of M f k ≡ b → is_ring_of M f k ≡ false
-    refuted k false is = is
-    refuted k true is = absurd (omega (arith, no_one (rings_of M f) none k, count-all_where (λ l (row : LoopRow). nat_eq row.face f && not (nat_eq (outer M f) l)) M.loops k, passing k (get M.loops k) is))
 
   -- the two, by the test whether the next loop is the outer one
   pub next_ring_told : (f n out : ℕ) → out ≡ outer M f → (next : Option ℕ) → option_eq nat_eq next (Some out) ≡ false → IsNextItem fs.owner_of f n next → IsNextRing M f n next
