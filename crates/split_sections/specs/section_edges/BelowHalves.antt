@@ -5,9 +5,17 @@ use Rattle.euler_operators.specs.Model.{Model}
 use Rattle.euler_operators.specs.Conditions.{face_at, lists}
 use Rattle.shapes.specs.Faces.{boundary}
 
+-- the mate of a half-edge lies in a face above
+abbrev pub leads_above : Model → List ℕ → ℕ → Bool
+leads_above M above h = lists above (face_at M (mate h))
+
 -- a half-edge lies in a face that isn't above, and its mate in one that is
 abbrev pub is_below : Model → List ℕ → ℕ → Bool
-is_below M above h = not (lists above (face_at M h)) && lists above (face_at M (mate h))
+is_below M above h = not (lists above (face_at M h)) && leads_above M above h
+
+-- those among some half-edges whose mates lie in faces above
+abbrev pub leading_above : Model → List ℕ → List ℕ → List ℕ
+leading_above M above hs = filter (leads_above M above) hs
 
 -- those among some half-edges, and among the half-edges of some faces
 abbrev pub below_in : Model → List ℕ → List ℕ → List ℕ

@@ -8,7 +8,7 @@ ghost use Rattle.euler_conditions.specs.Store.{has_number};
 ghost use Rattle.shapes.specs.Faces.{boundary};
 ghost use Rattle.split_checks.specs.cut_places.Walks.{AreThere};
 ghost use Rattle.shapes.specs.split.Section.{below_halves};
-ghost use Rattle.split_sections.specs.section_edges.BelowHalves.{below_in, below_met, is_below};
+ghost use Rattle.split_sections.specs.section_edges.BelowHalves.{below_in, below_met, leads_above, leading_above};
 
 use euler_conditions::Arena;
 use euler_operators::{HalfEdge, Kind};
@@ -33,18 +33,18 @@ fn is_above(arena: &Arena, above: &[u32], h: HalfEdge) -> bool
     is_listed(above, arena.face_of(arena.loop_of(h)))
 }
 
-/// Whether the half-edge lies in a face that isn't above, and its mate in one that is.
-fn is_below(arena: &Arena, above: &[u32], h: HalfEdge) -> bool
+/// Whether the mate of the half-edge lies in one of the faces above, which rise.
+fn leads_above(arena: &Arena, above: &[u32], h: HalfEdge) -> bool
     requires ready { IsReady arena.now }
     requires rises { strictly_rises above.now ≡ true }
     requires there { has_half arena.now.model (code h) ≡ true }
-    ensures { result ≡ is_below arena.now.model above.now (code h) }
+    ensures { result ≡ leads_above arena.now.model above.now (code h) }
 {
-    !is_above(arena, above, h) && is_above(arena, above, h.mate())
+    is_above(arena, above, h.mate())
 }
 
-/// Those of the half-edges that lie in faces that aren't above, and their mates in ones that are.
-fn below_in(
+/// Those of the half-edges whose mates lie in faces above.
+fn leading_above(
     alloc: Global,
     arena: &Arena,
     above: &[u32],
@@ -53,12 +53,12 @@ fn below_in(
     requires ready { IsReady arena.now }
     requires rises { strictly_rises above.now ≡ true }
     requires there { AreThere arena.now.model (map code items.now) }
-    ensures { IfOk result (λ found. map code found.items ≡ below_in arena.now.model above.now (map code items.now)) }
+    ensures { IfOk result (λ found. map code found.items ≡ leading_above arena.now.model above.now (map code items.now)) }
 {
     let mut found = Vec::new(alloc);
     let mut rest = items;
     'items: while let [h, others @ ..] = rest {
-        if is_below(arena, above, *h) {
+        if leads_above(arena, above, *h) {
             found.push(*h)?;
         }
         rest = others;
@@ -78,8 +78,11 @@ fn face_below(
     requires there { has_number arena.now Kind.Face f ≡ true }
     ensures { IfOk result (λ found. map code found.items ≡ below_in arena.now.model above.now (boundary arena.now.model f)) }
 {
+    if is_listed(above, f) {
+        return Ok(Vec::new(alloc));
+    }
     let items = boundary(alloc, arena, f)?;
-    below_in(alloc, arena, above, items.as_slice())
+    leading_above(alloc, arena, above, items.as_slice())
 }
 
 /// The halves of the section edges of solid s that lie in faces that aren't above, face by face.
