@@ -22,4 +22,4 @@ returns-in-None c = λ s is.
 pub returns-in-Some-judge : goal.returns-in-Some-judge
 returns-in-Some-judge c = λ s is.
     let answer = c.in-Some-judge.answer in let t = c.judge.new.session in
-    (t, refl, subst (λ (m : Machine). Judges m c.args.line.now answer t.machine) (same_machine c.in-Some.session s c.args.slot.now.session c.in-Some.is is) c.in-Some-judge.ensures)
+    (t, refl, subst (λ (m : Machine). Judges m c.args.line.now answer t.machine) (same_machine c.in-Some.session s c.args.slot.now.session c.in-Some.is is) c.in-Some-judge.ensures.answered)
