@@ -9,7 +9,7 @@ ghost use Rattle.undo_journal.specs.Machine as machine;
 use crate::script_judging::larger::Larger;
 use euler_conditions::Arena;
 use euler_operators::{Op, Refusal};
-use script_reader::{Command, read_line};
+use script_reader::{Command, Polygon, read_line};
 use solid_listing::{Reply, WriteFault};
 use solid_measure::{counts, is_flat, plane, six_volume};
 use undo_journal::{Failure, Session};
@@ -161,6 +161,13 @@ fn count_reply(arena: &Arena, solid: u32) -> Result<Reply, Refusal>
     ]))
 }
 
+/// Puts a lamina in `later`. It alone has the room for the points, so that no other line pays for it.
+fn put_lamina(later: &mut Option<Larger>, solid: u32, polygon: &Polygon<'_>)
+    ensures { later.new ≡ Some (Larger.Lamina solid polygon.now) }
+{
+    *later = Some(Larger::Lamina(solid, polygon.corners()));
+}
+
 /// Answers a command, or puts a larger one in `later`.
 fn obey(session: &mut Session, command: Command, later: &mut Option<Larger>) -> Option<Answer>
     ensures answered { Settles session.old.machine command.entry result session.new.machine later.new }
@@ -170,7 +177,7 @@ fn obey(session: &mut Session, command: Command, later: &mut Option<Larger>) -> 
         Command::Nothing => Some(Answer::Silent),
         Command::Act(op) => Some(act(session, op)),
         Command::Lamina(solid, polygon) => {
-            *later = Some(Larger::Lamina(solid, polygon.corners()));
+            put_lamina(later, solid, &polygon);
             None
         }
         Command::Block(solid, corner, dx, dy, dz) => {
