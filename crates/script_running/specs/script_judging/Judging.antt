@@ -1,5 +1,5 @@
 -- What a line is answered.
-use Rattle.std.specs.Prelude.{◌≡◌, ◌⊎◌, ℕ, ◌+◌, ℤ, pos, Bool, true, false, List, [], ◌∷◌, get_or, Option, Some, None, Result, Ok, Err}
+use Rattle.std.specs.Prelude.{◌≡◌, ◌≢◌, ◌⊎◌, ℕ, ◌+◌, ℤ, pos, Bool, true, false, List, [], ◌∷◌, get_or, Option, Some, None, Result, Ok, Err}
 use Rattle.euler_operators.specs.declared.Plane.{Plane}
 use Rattle.euler_operators.specs.declared.Refusal.{Refusal}
 use Rattle.euler_operators.specs.Refusal as refusal
@@ -10,6 +10,7 @@ use Rattle.plane_split.specs.Machine.{plane_with, split, split_refusal}
 use Rattle.solid_measure.specs.declared.solid_counts.Tally.{Tally}
 use Rattle.solid_measure.specs.Measure.{answer, face_refusal, solid_refusal, plane_of, is_flat, six_volume, counts}
 use Rattle.undo_journal.specs.Machine.{Machine, held, act, act_refusal, undo, undo_refusal, redo, redo_refusal}
+use Rattle.undo_journal.specs.Journal.{Journal}
 use Rattle.undo_journal.specs.declared.session.Failure.{Failure}
 use Rattle.undo_journal.specs.declared.session.Failure.TheVariants as failure
 use Rattle.script_reader.specs.declared.command.Command.{Command}
@@ -36,6 +37,10 @@ abbrev pub outcome : Result (Unit {0}) Failure → Answer
 outcome (Ok _) = done
 outcome (Err (failure.Refused r)) = refused r
 outcome (Err (failure.Memory e)) = Told reply.Memory
+
+-- a command that isn't answered `ok` leaves the session as it was, its records too
+abbrev pub Keeps : Answer → Journal → Journal → Type 0
+Keeps a s t = a ≢ done → t ≡ s
 
 -- undo and redo go on to a state, or are refused
 abbrev pub Moves : Option Refusal → Machine → Machine → Answer → Machine → Type 0

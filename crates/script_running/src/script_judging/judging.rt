@@ -1,7 +1,7 @@
 //! What a line is answered.
-ghost use Rattle.std.specs.Prelude.{◌≡◌, ◌<◌, ◌≤◌};
+ghost use Rattle.std.specs.Prelude.{◌≡◌, ◌≢◌, ◌<◌, ◌≤◌, Some};
 ghost use Rattle.euler_conditions.specs.Ready.{IsReady};
-ghost use Rattle.script_running.specs.script_judging.Judging.{refused, outcome, told, plane_reply, volume_reply, count_reply, Moves, Acts, complains, one_line, counted};
+ghost use Rattle.script_running.specs.script_judging.Judging.{done, refused, outcome, told, plane_reply, volume_reply, count_reply, Keeps, Moves, Acts, complains, one_line, counted};
 ghost use Rattle.script_running.specs.script_judging.Settling.{Settles, Decides};
 ghost use Rattle.script_running.specs.Outs.{is_clean};
 ghost use Rattle.undo_journal.specs.Machine as machine;
@@ -9,7 +9,7 @@ ghost use Rattle.undo_journal.specs.Machine as machine;
 use crate::script_judging::larger::Larger;
 use euler_conditions::Arena;
 use euler_operators::{Op, Refusal};
-use script_reader::{Command, read_line};
+use script_reader::{Command, Polygon, read_line};
 use solid_listing::{Reply, WriteFault};
 use solid_measure::{counts, is_flat, plane, six_volume};
 use undo_journal::{Failure, Session};
@@ -91,15 +91,17 @@ pub(crate) fn outcome(ended: Result<(), Failure>) -> Answer
     }
 }
 
-#[tactic(auto, using(crate::proofs::script_judging_laws::Acted::acts_on))]
+#[tactic(auto, using(crate::proofs::script_judging_laws::Acted::acts_on, crate::proofs::script_judging_laws::Acted::keeps))]
 fn act(session: &mut Session, op: Op) -> Answer
-    ensures { Acts (machine.act_refusal session.old.machine op) session.old.machine (machine.act session.old.machine op) result session.new.machine }
+    ensures answered { Acts (machine.act_refusal session.old.machine op) session.old.machine (machine.act session.old.machine op) result session.new.machine }
+    ensures kept { Keeps result session.old session.new }
 {
     outcome(session.act(op))
 }
 
 fn undo(session: &mut Session) -> Answer
-    ensures { Moves (machine.undo_refusal session.old.machine) session.old.machine (machine.undo session.old.machine) result session.new.machine }
+    ensures answered { Moves (machine.undo_refusal session.old.machine) session.old.machine (machine.undo session.old.machine) result session.new.machine }
+    ensures kept { Keeps result session.old session.new }
 {
     match session.undo() {
         Ok(()) => Answer::Reply(Reply::Done),
@@ -108,7 +110,8 @@ fn undo(session: &mut Session) -> Answer
 }
 
 fn redo(session: &mut Session) -> Answer
-    ensures { Moves (machine.redo_refusal session.old.machine) session.old.machine (machine.redo session.old.machine) result session.new.machine }
+    ensures answered { Moves (machine.redo_refusal session.old.machine) session.old.machine (machine.redo session.old.machine) result session.new.machine }
+    ensures kept { Keeps result session.old session.new }
 {
     match session.redo() {
         Ok(()) => Answer::Reply(Reply::Done),
@@ -158,15 +161,23 @@ fn count_reply(arena: &Arena, solid: u32) -> Result<Reply, Refusal>
     ]))
 }
 
+/// Puts a lamina in `later`. It alone has the room for the points, so that no other line pays for it.
+fn put_lamina(later: &mut Option<Larger>, solid: u32, polygon: &Polygon<'_>)
+    ensures { later.new ≡ Some (Larger.Lamina solid polygon.now) }
+{
+    *later = Some(Larger::Lamina(solid, polygon.corners()));
+}
+
 /// Answers a command, or puts a larger one in `later`.
 fn obey(session: &mut Session, command: Command, later: &mut Option<Larger>) -> Option<Answer>
-    ensures { Settles session.old.machine command.entry result session.new.machine later.new }
+    ensures answered { Settles session.old.machine command.entry result session.new.machine later.new }
+    ensures kept { result ≢ Some done → session.new ≡ session.old }
 {
     match command {
         Command::Nothing => Some(Answer::Silent),
         Command::Act(op) => Some(act(session, op)),
         Command::Lamina(solid, polygon) => {
-            *later = Some(Larger::Lamina(solid, polygon.corners()));
+            put_lamina(later, solid, &polygon);
             None
         }
         Command::Block(solid, corner, dx, dy, dz) => {
@@ -194,9 +205,11 @@ fn obey(session: &mut Session, command: Command, later: &mut Option<Larger>) -> 
     }
 }
 
-/// Judges a line: its answer, or none where it spells a larger command, which is put in `later`.
+/// Judges a line: its answer, or none where it spells a larger command, which is put in `later`. Where the answer is not `ok`, the
+/// session is as it was.
 pub fn judge(session: &mut Session, line: &[u8], later: &mut Option<Larger>) -> Option<Answer>
-    ensures { Decides session.old.machine line.now result session.new.machine later.new }
+    ensures answered { Decides session.old.machine line.now result session.new.machine later.new }
+    ensures kept { result ≢ Some done → session.new ≡ session.old }
 {
     match read_line(line) {
         Ok(command) => obey(session, command, later),

@@ -13,7 +13,7 @@ same_machine s t o e f = ap (λ (j : Journal). j.machine) (same s t o e f)
 
 pub returns-in-None : goal.returns-in-None
 returns-in-None c = λ s is.
-    let d = c.in-None.ensures in let new = c.finish.new.slot in
+    let d = c.in-None.ensures.answered in let new = c.finish.new.slot in
     let f = c.finish.ensures c.judge.new.session d.0 refl d.1 in
     let here : c.judge.new.session.machine ≡ s.machine = d.3 ∙ same_machine c.in-Some.session s c.args.slot.now.session c.in-Some.is is in
     let obeyed : Obeys s.machine (spelled d.0) new.answer f.0.machine = subst (λ (m : Machine). Obeys m (spelled d.0) new.answer f.0.machine) here f.2 in
@@ -22,4 +22,4 @@ returns-in-None c = λ s is.
 pub returns-in-Some-judge : goal.returns-in-Some-judge
 returns-in-Some-judge c = λ s is.
     let answer = c.in-Some-judge.answer in let t = c.judge.new.session in
-    (t, refl, subst (λ (m : Machine). Judges m c.args.line.now answer t.machine) (same_machine c.in-Some.session s c.args.slot.now.session c.in-Some.is is) c.in-Some-judge.ensures)
+    (t, refl, subst (λ (m : Machine). Judges m c.args.line.now answer t.machine) (same_machine c.in-Some.session s c.args.slot.now.session c.in-Some.is is) c.in-Some-judge.ensures.answered)

@@ -33,14 +33,14 @@ returns g c =
       | in_default+in-Err-say w ↦
           let told : Hears g.R.Read.remaining c.script.lines w.hear.new.lines c.script.session.machine w.match-hear.session.machine None (heard.Line w.match-hear.answer) = elim w.match-hear.branch [
             | in-Line v ↦ answered_line g.R.Read.remaining _ _ _ _ _ None _ _ v.in-Line.ensures v.answer-is (same_machine v.session-is)
-            | in-Larger v ↦ carried g.R.Read.remaining _ _ _ _ _ _ _ _ _ _ v.in-Larger.ensures (sym v.take.ensures.value ∙ v.unwrap-larger.ensures) v.carry_out-next.ensures v.answer-is (same_machine v.session-is)
+            | in-Larger v ↦ carried g.R.Read.remaining _ _ _ _ _ _ _ _ _ _ v.in-Larger.ensures (sym v.take.ensures.value ∙ v.unwrap-larger.ensures) v.carry_out-next.ensures.answered v.answer-is (same_machine v.session-is)
           ] in
           let turn = turn_of g.R.Read.remaining _ c.script.lines w.hear.new.lines _ _ _ _ _ w.match-hear.answer w.match-hear.session.machine at told in
           same_run _ _ _ _ _ _ _ (ap g.W.Write.contents w.writer-is) w.result-is (write_fails g.R.Read.remaining _ w.hear.new.lines _ (g.W.Write.contents c.flush.new.writer) (g.W.Write.contents w.say.new.writer) _ _ _ w.match-hear.answer w.match-hear.session.machine w.in-Err-say.fault turn w.in-Err-say.ensures.puts w.in-Err-say.ensures.fault)
       | in_default+in_default-say+then-stops w ↦
           let told : Hears g.R.Read.remaining c.script.lines w.hear.new.lines c.script.session.machine w.match-hear.session.machine None (heard.Line w.match-hear.answer) = elim w.match-hear.branch [
             | in-Line v ↦ answered_line g.R.Read.remaining _ _ _ _ _ None _ _ v.in-Line.ensures v.answer-is (same_machine v.session-is)
-            | in-Larger v ↦ carried g.R.Read.remaining _ _ _ _ _ _ _ _ _ _ v.in-Larger.ensures (sym v.take.ensures.value ∙ v.unwrap-larger.ensures) v.carry_out-next.ensures v.answer-is (same_machine v.session-is)
+            | in-Larger v ↦ carried g.R.Read.remaining _ _ _ _ _ _ _ _ _ _ v.in-Larger.ensures (sym v.take.ensures.value ∙ v.unwrap-larger.ensures) v.carry_out-next.ensures.answered v.answer-is (same_machine v.session-is)
           ] in
           let turn = turn_of g.R.Read.remaining _ c.script.lines w.hear.new.lines _ _ _ _ _ w.match-hear.answer w.match-hear.session.machine at told in
           let bad = sym w.stops.ensures ∙ w.if-stops.true in
@@ -51,7 +51,7 @@ pub count-requires-clause-lines : goal.count-requires-clause-lines
 count-requires-clause-lines g c =
     let told : Hears g.R.Read.remaining c.script.lines c.hear.new.lines c.script.session.machine c.match-hear.session.machine None (heard.Line c.match-hear.answer) = elim c.match-hear.branch [
       | in-Line w ↦ answered_line g.R.Read.remaining _ _ _ _ _ None _ _ w.in-Line.ensures w.answer-is (same_machine w.session-is)
-      | in-Larger w ↦ carried g.R.Read.remaining _ _ _ _ _ _ _ _ _ _ w.in-Larger.ensures (sym w.take.ensures.value ∙ w.unwrap-larger.ensures) w.carry_out-next.ensures w.answer-is (same_machine w.session-is)
+      | in-Larger w ↦ carried g.R.Read.remaining _ _ _ _ _ _ _ _ _ _ w.in-Larger.ensures (sym w.take.ensures.value ∙ w.unwrap-larger.ensures) w.carry_out-next.ensures.answered w.answer-is (same_machine w.session-is)
     ] in
     let less = falls g.R.Read.remaining c.script.lines c.hear.new.lines c.script.session.machine c.match-hear.answer c.match-hear.session.machine told in
     omega (arith, less, c.script.invariant.bound)
@@ -60,7 +60,7 @@ pub script-smaller : goal.script-smaller
 script-smaller g c =
     let told : Hears g.R.Read.remaining c.script.lines c.hear.new.lines c.script.session.machine c.match-hear.session.machine None (heard.Line c.match-hear.answer) = elim c.match-hear.branch [
       | in-Line w ↦ answered_line g.R.Read.remaining _ _ _ _ _ None _ _ w.in-Line.ensures w.answer-is (same_machine w.session-is)
-      | in-Larger w ↦ carried g.R.Read.remaining _ _ _ _ _ _ _ _ _ _ w.in-Larger.ensures (sym w.take.ensures.value ∙ w.unwrap-larger.ensures) w.carry_out-next.ensures w.answer-is (same_machine w.session-is)
+      | in-Larger w ↦ carried g.R.Read.remaining _ _ _ _ _ _ _ _ _ _ w.in-Larger.ensures (sym w.take.ensures.value ∙ w.unwrap-larger.ensures) w.carry_out-next.ensures.answered w.answer-is (same_machine w.session-is)
     ] in
     falls g.R.Read.remaining c.script.lines c.hear.new.lines c.script.session.machine c.match-hear.answer c.match-hear.session.machine told
 
@@ -68,7 +68,7 @@ pub script-preserved : goal.script-preserved
 script-preserved g c =
     let told : Hears g.R.Read.remaining c.script.lines c.hear.new.lines c.script.session.machine c.match-hear.session.machine None (heard.Line c.match-hear.answer) = elim c.match-hear.branch [
       | in-Line w ↦ answered_line g.R.Read.remaining _ _ _ _ _ None _ _ w.in-Line.ensures w.answer-is (same_machine w.session-is)
-      | in-Larger w ↦ carried g.R.Read.remaining _ _ _ _ _ _ _ _ _ _ w.in-Larger.ensures (sym w.take.ensures.value ∙ w.unwrap-larger.ensures) w.carry_out-next.ensures w.answer-is (same_machine w.session-is)
+      | in-Larger w ↦ carried g.R.Read.remaining _ _ _ _ _ _ _ _ _ _ w.in-Larger.ensures (sym w.take.ensures.value ∙ w.unwrap-larger.ensures) w.carry_out-next.ensures.answered w.answer-is (same_machine w.session-is)
     ] in
     let at = flushed g.R.Read.remaining _ c.script.lines _ (g.W.Write.contents c.script.writer) (g.W.Write.contents c.flush.new.writer) _ _ _ c.script.invariant.progress c.flush.ensures.kept in
     let turn = turn_of g.R.Read.remaining _ c.script.lines c.hear.new.lines _ _ _ _ _ c.match-hear.answer c.match-hear.session.machine at told in
