@@ -75,7 +75,7 @@ module _ (M : Model) (above : List ℕ) (s : ℕ) (c : Taken) (bs : List ℕ) (p
               let y = kept.started M N new rewritten l q.0 h i.item in
               let face : face_of N l ≡ face_of M l = kept.face_is M N new rewritten l q.0 in
               let there : Has M.faces (face_of M l) = w.sound.loops_of_faces l q.0 in
-              let old : face_of M l ≢ upper = λ e. true≢false (sym there ∙ ap is_some (ap (table.get M.faces) e ∙ w.faces_free upper (omega arith))) in
+              let old : face_of M l ≢ upper = λ e. true≢false (sym there ∙ ap is_some (ap (table.get M.faces) e ∙ w.free.faces upper (omega arith))) in
               let was : IsOfSolid M s l y.0 = record { loop_there = q.0; face_there = there; of_solid = sym (kept.solid_is M N new rewritten (face_of M l) there) ∙ ap (solid_of N) (sym face) ∙ i.of_solid; item = y.1 } in
               (λ j. cond ((ap (lists (fs ++ upper ∷ [])) face ∙ other_last fs upper (face_of M l) old) j) (is_below p (y.2 j)) (is_above p (y.2 j))) ∙ sided l y.0 was
         ]
