@@ -178,4 +178,5 @@ parts_sided d above s p t w sided l h =
     let opened : AreSided o.model p s fs = openings_sided above s p begun (section_cycles d.model (below_halves d.model above s)) w.opens w.lie_on (subst (AreSided d.model p s) (sym (append-nil above)) sided) in
     let closed : AreSided C p s fs = closing_carries o.model s p o.caps (λ A. AreSided A p s fs) (taken_sided p s fs) (split.closes d above s p t w) opened in
     let q = split.parts d above s p t w in
+    subst (λ P. (IsOfSolid P s l h → is_above p (start P h) ≡ false) × (IsOfSolid P t l h → is_below p (start P h) ≡ false)) (sym (split.split_is d above s p t w))
     (lower C s t fs p q.apart q.fresh q.of_solid closed l h, upper C s t fs p q.apart q.fresh q.of_solid closed l h)
