@@ -20,7 +20,8 @@ use Rattle.shapes.specs.Measure.{area}
 use Rattle.shapes.specs.split.Section.{is_hole, has_stray_hole, holes_in}
 use Rattle.shapes.specs.split.Opening.{Caps, Opening, opened_along, next_opened, all_opened}
 use Rattle.split_opening_laws.specs.cycles.SectionCycles.{IsSectionCycle, AreSectionCycles}
-use Rattle.split_opening_laws.specs.sections.InTurn.{AreFree, CanBeOpenedInTurn}
+use Rattle.split_opening_laws.specs.Numbers.{AreFree}
+use Rattle.split_opening_laws.specs.sections.InTurn.{CanBeOpenedInTurn}
 use Rattle.split_opening_laws.proofs.sections.Pairs.{in_numbers}
 use Rattle.split_opening_laws.proofs.sections.OpenedRows.{vertices_are}
 use Rattle.split_opening_laws.proofs.sections.StillFree.{copied_other}
@@ -49,10 +50,10 @@ module _ (M : Model) (above : List ℕ) (s : ℕ) (c : Taken) (bs : List ℕ) (s
   -- another cycle
   module _ (ds : List ℕ) (w : IsSectionCycle M above s ds) (elsewhere : (d : ℕ) → IsIn d ds → count (tail M d) (map (tail M) bs) ≡ 0) where
     begins_still : (d : ℕ) → IsIn d ds → start N d ≡ start M d
-    begins_still d i = start_still d (w.there d i) (start_same M above s c bs sound free first ds w elsewhere d i)
+    begins_still d i = start_still d (w.halves d i).there (start_same M above s c bs sound free first ds w elsewhere d i)
 
     ends_still : (d : ℕ) → IsIn d ds → start N (mate d) ≡ start M (mate d)
-    ends_still d i = start_still (mate d) (mate_there M d (w.there d i)) (end_same M above s c bs sound free first ds w elsewhere d i)
+    ends_still d i = start_still (mate d) (mate_there M d (w.halves d i).there) (end_same M above s c bs sound free first ds w elsewhere d i)
 
     area_still : (hs : List ℕ) → ((d : ℕ) → IsIn d hs → IsIn d ds) → area N (map mate hs) ≡ area M (map mate hs)
     area_still [] within = refl

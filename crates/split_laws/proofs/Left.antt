@@ -8,9 +8,9 @@ use Rattle.euler_operators.specs.Model.{Model}
 use Rattle.euler_operators.specs.Sound.{Has}
 use Rattle.euler_operators.specs.declared.Op.{Op}
 use Rattle.shapes.specs.split.Opening.{Caps}
+use Rattle.shapes.specs.split.Split.{upper_left}
 use Rattle.split_opening_laws.specs.sections.Capped.{ArePlain, cap_faces}
 use Rattle.split_opening_laws.specs.sections.InTurn.{upper_faces}
-use Rattle.split_laws.specs.SplitOps.{upper_left}
 use Rattle.split_laws.proofs.Holes.{AreClosed}
 use Rattle.split_laws.proofs.Parting.{still_there}
 

@@ -6,6 +6,7 @@ pub mod Parting
 pub mod Left
 pub mod Flags
 pub mod OldFaces
+pub mod Closed
 pub mod Whole
 pub mod opened
 pub mod volumes

@@ -51,7 +51,7 @@ pub still_lists : (N : Model) (us : List ℕ) (f : ℕ) → Has N.faces f → li
 still_lists N us f t = same_truth (lists (still_there N us) f) (lists us f) (λ l. (filter_lists (table.has N.faces) us f l).1) (λ l. lists_filter (table.has N.faces) us f t l)
 
 -- listing also faces that are gone changes nothing
-part_same : (N : Model) (s t : ℕ) (us : List ℕ) → part N s t (still_there N us) ≡ part N s t us
+pub part_same : (N : Model) (s t : ℕ) (us : List ℕ) → part N s t (still_there N us) ≡ part N s t us
 unfolding part
 part_same N s t us = λ i. record {
   solids = table.put N.solids t tt;
@@ -95,5 +95,5 @@ module _ (N : Model) (s t : ℕ) (us : List ℕ) (w : CanPart N s us) (both : Bo
     whole = λ x h. still_lists N us (face_at N x) (face_there x h) ∙ w.whole x h ∙ sym (still_lists N us (face_at N (mate x)) (face_there (mate x) (mate_there N x h)));
   }
 
-  pub part_leads : Leads N (part N s t us) (Part s t (still_there N us) ∷ [])
-  part_leads = leads_one N (part N s t us) (Part s t fs) (part_accepted N s t fs w.sound goes) (effect_is N s t fs ∙ part_same N s t us)
+  pub part_leads : Leads N (part N s t (still_there N us)) (Part s t (still_there N us) ∷ [])
+  part_leads = leads_one N (part N s t fs) (Part s t fs) (part_accepted N s t fs w.sound goes) (effect_is N s t fs)

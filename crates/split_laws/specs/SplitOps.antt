@@ -1,5 +1,5 @@
 -- The Euler operators of a split, in turn.
-use Rattle.std.specs.Prelude.{ℕ, not, List, [], ◌∷◌, ◌++◌, map, filter, flat_map}
+use Rattle.std.specs.Prelude.{ℕ, List, [], ◌∷◌, ◌++◌, filter, flat_map}
 use Rattle.euler_operators.specs.declared.Plane.{Plane}
 use Rattle.euler_operators.specs.Model.{Model}
 use Rattle.euler_operators.specs.declared.Op.{Op}
@@ -8,7 +8,7 @@ use Rattle.shapes.specs.split.Sides.{faces_above}
 use Rattle.shapes.specs.split.Section.{below_halves, section_cycles}
 use Rattle.shapes.specs.split.Drawing.{Drawing, with_drawings}
 use Rattle.shapes.specs.split.Opening.{Caps, Opening, next_opened, outer_caps}
-use Rattle.shapes.specs.split.Split.{opened_at}
+use Rattle.shapes.specs.split.Split.{opened_at, upper_left}
 use Rattle.split_drawing_laws.specs.pairs.Laws.{rewriting_ops}
 use Rattle.split_opening_laws.specs.opening.OpeningOps.{opening_ops}
 
@@ -23,10 +23,6 @@ closing_ops o ks = flat_map (λ k. Kfmrh o.lower k.lower ∷ Kfmrh o.upper k.upp
 
 abbrev pub hole_ops : List Caps → List Op
 hole_ops ks = closing_ops (outer_caps ks) (filter (λ k. k.hole) ks)
-
--- the upper faces that are left when the holes are closed: the faces above, and the caps above of the outer cycles
-abbrev pub upper_left : List ℕ → List Caps → List ℕ
-upper_left above ks = above ++ map (λ k. k.upper) (filter (λ k. not k.hole) ks)
 
 -- the holes closed, and then the upper faces that are left parted from solid s as solid t
 abbrev pub upper_ops : Opening → List ℕ → ℕ → ℕ → List Op

@@ -1,3 +1,4 @@
+pub mod Numbers
 pub mod cycles
 pub mod sections
 pub mod strips

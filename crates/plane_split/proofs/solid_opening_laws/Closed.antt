@@ -5,7 +5,8 @@ use Rattle.euler_operators.specs.declared.Op.TheVariants.{Part}
 use Rattle.euler_laws.specs.Laws.{AreAccepted, effects}
 use Rattle.shapes.specs.split.Opening as shape
 use Rattle.shapes.specs.split.Opening.{outer_caps}
-use Rattle.split_laws.specs.SplitOps.{hole_ops, upper_left}
+use Rattle.shapes.specs.split.Split.{upper_left}
+use Rattle.split_laws.specs.SplitOps.{hole_ops}
 use Rattle.plane_split.specs.declared.solid_opening.caps.Caps.{Caps}
 use Rattle.plane_split.specs.solid_opening.Capped.{caps_of, all_caps}
 use Rattle.plane_split.specs.solid_opening.Closing.{holes_ops, outer_uppers}

@@ -8,7 +8,6 @@ use Rattle.euler_laws.specs.Laws.{AreAccepted, effects}
 use Rattle.euler_laws.proofs.Runs.{effects-append, AreAccepted-back}
 use Rattle.shapes.specs.Fresh.{Taken}
 use Rattle.split_opening_laws.specs.strips.StripOps.{strip_ops, copy_ops}
-use Rattle.split_opening_laws.proofs.strips.Cycle.{two_halves}
 use Rattle.split_opening_laws.specs.caps.CapOps.{cap_ops}
 use Rattle.split_opening_laws.specs.opening.OpeningOps.{opening_ops}
 use Rattle.split_opening_laws.proofs.opening.Whole.{opening_accepted}
@@ -31,20 +30,20 @@ module _ (M : Model) (s : ℕ) (c : Taken) (halves : List HalfEdge) (can : CanOp
   size = length-map halves code
 
   pub some_half : 2 ≤ n
-  some_half = omega (arith, size, two_halves M can.0 s c bs can.1)
+  some_half = omega (arith, size, can.1.cycle.two_halves)
 
   -- numbers are left for its faces, loops, edges and vertices
   pub faces_left : c.face + n + 1 ≤ 1000000
-  faces_left = omega (arith, size, can.1.faces_left)
+  faces_left = omega (arith, size, can.1.left.faces)
 
   pub loops_left : c.loop + n + 1 ≤ 1000000
-  loops_left = omega (arith, size, can.1.loops_left)
+  loops_left = omega (arith, size, can.1.left.loops)
 
   pub edges_left : c.edge + 2 * n ≤ 1000000
-  edges_left = omega (arith, size, can.1.edges_left)
+  edges_left = omega (arith, size, can.1.left.edges)
 
   pub vertices_left : c.vertex + n ≤ 1000000
-  vertices_left = omega (arith, size, can.1.vertices_left)
+  vertices_left = omega (arith, size, can.1.left.vertices)
 
   -- the strips are cut off
   module _ (A : Model) (a : A ≡ effects M (strip_ops M s c bs n)) where

@@ -78,7 +78,7 @@ module _ (M : Model) (above : List ℕ) (s : ℕ) (c : Taken) (bs : List ℕ) (w
     tail_kept : (j : ℕ) → j < m → tail C (get_or bs j 0) ≡ tail M (get_or bs j 0)
     tail_kept j lt = let b : ℕ = get_or bs j 0 in
         old_tail M above s c bs w i sound b (on.half_there M above s c bs w j lt)
-        ∙ ap (λ t. cond (t && not (lists (map mate bs) b)) (renamed (copied M c bs i) (tail M b)) (tail M b)) (w.below b (on.half_in M above s c bs w j lt))
+        ∙ ap (λ t. cond (t && not (lists (map mate bs) b)) (renamed (copied M c bs i) (tail M b)) (tail M b)) (w.cycle.halves b (on.half_in M above s c bs w j lt)).below
 
     -- and a vertex that was there stays at its point
     point_kept : (v : ℕ) → v ≤ c.vertex → point_of C v ≡ point_of M v

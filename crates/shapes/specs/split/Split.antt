@@ -1,5 +1,5 @@
 -- A solid split by a plane: what is below and on the plane keeps its number, what is above goes to a new solid.
-use Rattle.std.specs.Prelude.{ℕ, ◌+◌, ◌*◌, not, ◌&&◌, List, [], ◌∷◌, ◌++◌, map, length, Option}
+use Rattle.std.specs.Prelude.{ℕ, ◌+◌, ◌*◌, not, ◌&&◌, List, [], ◌∷◌, ◌++◌, map, filter, length, Option}
 use Rattle.std.specs.List.{list_any}
 use Rattle.euler_operators.specs.declared.Plane.{Plane}
 use Rattle.euler_operators.specs.Points.{is_coordinate}
@@ -18,7 +18,7 @@ use Rattle.shapes.specs.split.Sides.{reaches_above, reaches_below, straddling_fa
 use Rattle.shapes.specs.split.Places.{is_touched, is_cut_often, is_crossed, pair_count}
 use Rattle.shapes.specs.split.Drawing.{Drawing, with_drawings}
 use Rattle.shapes.specs.split.Section.{below_halves, section_ends, least_branched, section_cycles, has_stray_hole}
-use Rattle.shapes.specs.split.Opening.{Opening, all_opened, holes_closed}
+use Rattle.shapes.specs.split.Opening.{Caps, Opening, all_opened, holes_closed}
 
 -- the coefficients of the plane are in range, and the first three aren't all zero
 abbrev pub plane_in_range : Plane → List Condition
@@ -77,9 +77,13 @@ split_refusal M s p t = first_refusal (split_conditions M s p t)
 abbrev pub opened_at : Drawing → List ℕ → ℕ → Plane → Opening
 opened_at d above s p = all_opened p above s (record { model = d.model; taken = d.taken; caps = [] }) (section_cycles d.model (below_halves d.model above s))
 
--- the holes closed, and then the faces above and the caps above parted from solid s as solid t
+-- the upper faces that are left when the holes are closed: the faces above, and the caps above of the outer cycles
+abbrev pub upper_left : List ℕ → List Caps → List ℕ
+upper_left above ks = above ++ map (λ k. k.upper) (filter (λ k. not k.hole) ks)
+
+-- the holes closed, and then the upper faces that are left parted from solid s as solid t
 abbrev pub upper_part : Opening → List ℕ → ℕ → ℕ → Model
-upper_part o above s t = part (holes_closed o.model o.caps) s t (above ++ map (λ k. k.upper) o.caps)
+upper_part o above s t = part (holes_closed o.model o.caps) s t (upper_left above o.caps)
 
 abbrev pub split_drawn : Drawing → List ℕ → ℕ → Plane → ℕ → Model
 split_drawn d above s p t = upper_part (opened_at d above s p) above s t

@@ -32,7 +32,8 @@ use Rattle.split_drawing_laws.proofs.drawings.Whole.{drawing_stays, drawing_fres
 use Rattle.split_opening_laws.specs.cycles.SectionCycles.{IsUnbranched}
 use Rattle.split_opening_laws.proofs.cycles.RisingLists.{filter_rises}
 use Rattle.split_opening_laws.specs.sections.Capped.{HasCaps}
-use Rattle.split_opening_laws.specs.sections.InTurn.{AreFree, AreLeft, CanBeOpenedInTurn}
+use Rattle.split_opening_laws.specs.Numbers.{AreFree, AreLeft}
+use Rattle.split_opening_laws.specs.sections.InTurn.{CanBeOpenedInTurn}
 use Rattle.split_opening_laws.proofs.sections.InTurn.{can_be_opened}
 use Rattle.split_laws.specs.drawn.Kept.{KeepsSolids}
 use Rattle.split_laws.proofs.drawn.Solids.{drawing_keeps}

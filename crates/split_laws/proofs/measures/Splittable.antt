@@ -51,7 +51,7 @@ level n a b = grind (arith, ints)
 half_in : (N : Model) (above : List ℕ) (s : ℕ) (cs : List (List ℕ)) → AreSectionCycles N above s cs → (b : ℕ) → IsIn b (halves_in cs) → IsBelowHalf N above s b
 half_in N above s [] w b i = absurd (omega (arith, i))
 half_in N above s (bs ∷ cs) w b i = elim (IsIn_or_not b bs) [
-  | inl j ↦ record { there = w.0.there b j; of_solid = w.0.of_solid b j; below = w.0.below b j; mate_above = w.0.mates_above b j }
+  | inl j ↦ w.0.halves b j
   | inr z ↦ half_in N above s cs w.1 b (omega (arith, i, z, count-append b bs (halves_in cs)))
 ]
 

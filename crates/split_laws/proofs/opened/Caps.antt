@@ -36,8 +36,7 @@ use Rattle.shapes.proofs.measures.Products.{cross_moved, cross_nothing}
 use Rattle.shapes.proofs.measures.Sums.{none_left, area_same, area_mates}
 use Rattle.shapes.specs.split.Opening.{both_lists, opened_along}
 use Rattle.split_opening_laws.specs.strips.Opened.{CanBeOpened}
-use Rattle.split_opening_laws.proofs.strips.Cycle.{next_cases, next_below, two_halves, half_in, mate_start, place_of}
-use Rattle.split_opening_laws.specs.sections.InTurn.{AreFree}
+use Rattle.split_opening_laws.proofs.strips.Cycle.{next_cases, next_below, half_in, mate_start, place_of}
 use Rattle.split_opening_laws.proofs.sections.OpenedRows.{faces_are, loops_are}
 use Rattle.split_opening_laws.proofs.sections.OpenedFaces.{upper_row}
 use Rattle.split_laws.specs.opened.Told.{LiesAlong}
@@ -126,14 +125,11 @@ module _ (M : Model) (above : List ℕ) (s : ℕ) (c : Taken) (bs : List ℕ) (w
   abbrev swaps : List (ℕ × ℕ)
   swaps = both_lists (map mate bs) (map plus (numbers_after c.edge (length bs)))
 
-  pub free : AreFree M c
-  free = record { faces = w.faces_free; loops = w.loops_free; edges = w.edges_free; vertices = w.vertices_free }
-
   pub lower_row : table.get N.faces (c.face + 1) ≡ Some (record { solid = s; outer = c.loop + 1 })
-  lower_row = ap (λ t. table.get t (c.face + 1)) (faces_are M above s c bs) ∙ get-put_other _ (c.face + m + 1) _ (c.face + 1) (λ e. absurd (omega (arith, e, two_halves M above s c bs w))) ∙ get-put_here _ (c.face + 1) _
+  lower_row = ap (λ t. table.get t (c.face + 1)) (faces_are M above s c bs) ∙ get-put_other _ (c.face + m + 1) _ (c.face + 1) (λ e. absurd (omega (arith, e, w.cycle.two_halves))) ∙ get-put_here _ (c.face + 1) _
 
   pub lower_loop : table.get N.loops (c.loop + 1) ≡ Some (record { face = c.face + 1; content = cycle (canonical (reverse (map mate bs))) })
-  lower_loop = ap (λ t. table.get t (c.loop + 1)) (loops_are M above s c bs) ∙ get-put_other _ (c.loop + m + 1) _ (c.loop + 1) (λ e. absurd (omega (arith, e, two_halves M above s c bs w))) ∙ get-put_here _ (c.loop + 1) _
+  lower_loop = ap (λ t. table.get t (c.loop + 1)) (loops_are M above s c bs) ∙ get-put_other _ (c.loop + m + 1) _ (c.loop + 1) (λ e. absurd (omega (arith, e, w.cycle.two_halves))) ∙ get-put_here _ (c.loop + 1) _
 
   pub upper_loop : table.get N.loops (c.loop + length bs + 1) ≡ Some (record { face = c.face + length bs + 1; content = cycle (map minus (numbers_after c.edge (length bs))) })
   upper_loop = ap (λ t. table.get t (c.loop + m + 1)) (loops_are M above s c bs) ∙ get-put_here _ (c.loop + m + 1) _
@@ -155,7 +151,7 @@ module _ (M : Model) (above : List ℕ) (s : ℕ) (c : Taken) (bs : List ℕ) (w
   ]
 
   old_face : (l : ℕ) → Has M.loops l → face_of M l ≤ c.face
-  old_face l there = in_use_within M.faces c.face w.faces_free (face_of M l) (w.sound.loops_of_faces l there)
+  old_face l there = in_use_within M.faces c.face w.free.faces (face_of M l) (w.sound.loops_of_faces l there)
 
   -- ---- the caps have one loop each
 
@@ -175,7 +171,7 @@ module _ (M : Model) (above : List ℕ) (s : ℕ) (c : Taken) (bs : List ℕ) (w
 
   lower_alone : rings_of N (c.face + 1) ≡ []
   lower_alone = all_where_none _ N.loops (λ l row at. none_but row.face (c.face + 1) (outer N (c.face + 1)) l (λ e. elim (loop_kinds l row at) [
-    | inl q ↦ absurd (omega (arith, e, q.1, two_halves M above s c bs w))
+    | inl q ↦ absurd (omega (arith, e, q.1, w.cycle.two_halves))
     | inr q ↦ elim q [
       | inl r ↦ outer_lower ∙ sym r.0
       | inr r ↦ absurd (omega (arith, e, r.1, old_face l r.0))
@@ -186,7 +182,7 @@ module _ (M : Model) (above : List ℕ) (s : ℕ) (c : Taken) (bs : List ℕ) (w
   upper_alone = all_where_none _ N.loops (λ l row at. none_but row.face (c.face + length bs + 1) (outer N (c.face + length bs + 1)) l (λ e. elim (loop_kinds l row at) [
     | inl q ↦ outer_upper ∙ sym q.0
     | inr q ↦ elim q [
-      | inl r ↦ absurd (omega (arith, e, r.1, two_halves M above s c bs w))
+      | inl r ↦ absurd (omega (arith, e, r.1, w.cycle.two_halves))
       | inr r ↦ absurd (omega (arith, e, r.1, old_face l r.0))
     ]
   ]))
@@ -194,7 +190,7 @@ module _ (M : Model) (above : List ℕ) (s : ℕ) (c : Taken) (bs : List ℕ) (w
   -- ---- their normals
 
   halves_kept : area N bs ≡ area M bs
-  halves_kept = area_kept M N bs (λ h i. (start_old M above s c bs w h (w.there h i), finish_old M above s c bs w h (w.there h i)))
+  halves_kept = area_kept M N bs (λ h i. (start_old M above s c bs w h (w.cycle.halves h i).there, finish_old M above s c bs w h (w.cycle.halves h i).there))
 
   pub lower_normal : normal N (c.face + 1) ≡ negated (area M bs)
   lower_normal = only_loop N (c.face + 1) (canonical (reverse (map mate bs))) lower_alone lower_content
@@ -216,15 +212,15 @@ module _ (M : Model) (above : List ℕ) (s : ℕ) (c : Taken) (bs : List ℕ) (w
         ∙ starts_on (get_or bs (next_place m q.0) 0) (half_in M above s c bs w (next_place m q.0) (next_below m q.0 q.1))
 
     pub cycle_across : cross (direction p) (area M bs) ≡ origin
-    cycle_across = flat_closed M p bs (closed_round M bs w.meet) (and_parts (not (same_point (direction p) origin)) _ on).1
+    cycle_across = flat_closed M p bs (closed_round M bs w.cycle.meet) (and_parts (not (same_point (direction p) origin)) _ on).1
 
     some_mate : IsIn (mate (get_or bs 0 0)) (map mate bs)
-    some_mate = IsIn-map mate (get_or bs 0 0) bs (half_in M above s c bs w 0 (omega (arith, two_halves M above s c bs w)))
+    some_mate = IsIn-map mate (get_or bs 0 0) bs (half_in M above s c bs w 0 (omega (arith, w.cycle.two_halves)))
 
     in_lower : (h : ℕ) → IsIn h (canonical (reverse (map mate bs))) → is_on p (start N h) ≡ true
     in_lower h i =
         let r = from_map mate h bs (omega (arith, i, count-canonical h (reverse (map mate bs)), count-reverse h (map mate bs))) in
-        ap (λ x. is_on p (start N x)) r.2 ∙ ap (is_on p) (start_old M above s c bs w (mate r.0) (mate_there M r.0 (w.there r.0 r.1))) ∙ ends_on r.0 r.1
+        ap (λ x. is_on p (start N x)) r.2 ∙ ap (is_on p) (start_old M above s c bs w (mate r.0) (mate_there M r.0 (w.cycle.halves r.0 r.1).there)) ∙ ends_on r.0 r.1
 
     in_upper : (h : ℕ) → IsIn h (map minus (numbers_after c.edge (length bs))) → is_on p (start N h) ≡ true
     in_upper h i =
@@ -248,7 +244,7 @@ module _ (M : Model) (above : List ℕ) (s : ℕ) (c : Taken) (bs : List ℕ) (w
     pub upper_along : LiesAlong N p (c.face + length bs + 1)
     upper_along = record {
       items = map minus (numbers_after c.edge (length bs));
-      some_item = λ e. absurd (omega (arith, some_number c.edge (length bs) (omega (arith, two_halves M above s c bs w)), ap (count (minus (c.edge + 1))) e));
+      some_item = λ e. absurd (omega (arith, some_number c.edge (length bs) (omega (arith, w.cycle.two_halves)), ap (count (minus (c.edge + 1))) e));
       outer_is = upper_content;
       on_plane = in_upper;
       across = ap (cross (direction p)) upper_normal ∙ cycle_across;

@@ -25,7 +25,6 @@ use Rattle.shapes.proofs.measures.FlatFaces.{told_alike, some_direction}
 use Rattle.shapes.proofs.measures.Sums.{dot_back}
 use Rattle.shapes.specs.split.Opening.{opened_along}
 use Rattle.split_opening_laws.specs.strips.Opened.{CanBeOpened}
-use Rattle.split_opening_laws.proofs.strips.Cycle.{two_halves}
 use Rattle.split_opening_laws.proofs.sections.OpenedRows.{faces_are, loop_row, face_still}
 use Rattle.split_opening_laws.proofs.sections.OpenedFaces.{upper_row}
 use Rattle.split_opening_laws.proofs.sections.Pairs.{renamed_not}
@@ -34,7 +33,7 @@ use Rattle.split_laws.specs.opened.Told.{AllTellAlike}
 use Rattle.split_laws.proofs.opened.Starts.{swap, point_old, swapped}
 use Rattle.split_laws.proofs.opened.Kept as kept
 use Rattle.split_laws.proofs.opened.Kept.{Rewritten}
-use Rattle.split_laws.proofs.opened.Caps.{free, lower_row, loop_kinds, lower_normal, upper_normal, cycle_across, lower_along, upper_along, anchor_along}
+use Rattle.split_laws.proofs.opened.Caps.{lower_row, loop_kinds, lower_normal, upper_normal, cycle_across, lower_along, upper_along, anchor_along}
 
 module _ (M : Model) (above : List ℕ) (s : ℕ) (c : Taken) (bs : List ℕ) (w : CanBeOpened M above s c bs) where
   abbrev N : Model
@@ -50,17 +49,17 @@ module _ (M : Model) (above : List ℕ) (s : ℕ) (c : Taken) (bs : List ℕ) (w
   pub is_rewritten : Rewritten M N (swap M above s c bs w)
   is_rewritten = record {
     sound = w.sound;
-    faces = face_still M above s c bs w.sound (free M above s c bs w);
-    loops = loop_row M above s c bs w.sound (free M above s c bs w);
+    faces = face_still M above s c bs w.sound w.free;
+    loops = loop_row M above s c bs w.sound w.free;
     others = λ l row at. elim (loop_kinds M above s c bs w l row at) [
-      | inl q ↦ inr (ap (table.get M.faces) q.1 ∙ w.faces_free upper (omega arith))
+      | inl q ↦ inr (ap (table.get M.faces) q.1 ∙ w.free.faces upper (omega arith))
       | inr q ↦ elim q [
-        | inl r ↦ inr (ap (table.get M.faces) r.1 ∙ w.faces_free lower (omega arith))
+        | inl r ↦ inr (ap (table.get M.faces) r.1 ∙ w.free.faces lower (omega arith))
         | inr r ↦ inl r.0
       ]
     ];
     stays = swapped M above s c bs w;
-    points = λ v there. point_old M above s c bs w v (in_use_within M.vertices c.vertex w.vertices_free v there);
+    points = λ v there. point_old M above s c bs w v (in_use_within M.vertices c.vertex w.free.vertices v there);
   }
 
   -- ---- which faces there are
@@ -69,13 +68,13 @@ module _ (M : Model) (above : List ℕ) (s : ℕ) (c : Taken) (bs : List ℕ) (w
   of u k row = nat_eq row.solid u
 
   lower_free : table.get M.faces lower ≡ None
-  lower_free = w.faces_free lower (omega arith)
+  lower_free = w.free.faces lower (omega arith)
 
   upper_free : table.get M.faces upper ≡ None
-  upper_free = w.faces_free upper (omega arith)
+  upper_free = w.free.faces upper (omega arith)
 
   caps_apart : lower ≢ upper
-  caps_apart e = absurd (omega (arith, e, two_halves M above s c bs w))
+  caps_apart e = absurd (omega (arith, e, w.cycle.two_halves))
 
   other_row : (k : ℕ) → k ≢ lower → k ≢ upper → table.get N.faces k ≡ table.get M.faces k
   other_row k a b = ap (λ t. table.get t k) (faces_are M above s c bs) ∙ get-put_other _ upper _ k b ∙ get-put_other M.faces lower _ k a
@@ -131,7 +130,7 @@ module _ (M : Model) (above : List ℕ) (s : ℕ) (c : Taken) (bs : List ℕ) (w
     no_mate k y there is i j =
         let r = from_map mate y bs j in
         let at : face_of M (loop_of M y) ≡ k = ap (face_of M) (w.sound.one_loop y (outer M k) (in-holds y (content M (outer M k)) i)) ∙ (w.sound.outers_there k there).1 in
-        ne (sym is ∙ ap (solid_of M) (sym at) ∙ ap (λ h. solid_of M (face_of M (loop_of M h))) r.2 ∙ sym (w.sound.one_solid r.0 (w.there r.0 r.1)) ∙ w.of_solid r.0 r.1)
+        ne (sym is ∙ ap (solid_of M) (sym at) ∙ ap (λ h. solid_of M (face_of M (loop_of M h))) r.2 ∙ sym (w.sound.one_solid r.0 (w.cycle.halves r.0 r.1).there) ∙ (w.cycle.halves r.0 r.1).of_solid)
 
     nothing_replaced : (k : ℕ) → Has M.faces k → solid_of M k ≡ u → (y : ℕ) → IsIn y (items_of (content M (outer M k))) → swap M above s c bs w y ≡ y
     nothing_replaced k there is y i = elim (IsIn_or_not y (map mate bs)) [

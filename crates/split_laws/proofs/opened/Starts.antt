@@ -137,7 +137,7 @@ module _ (M : Model) (above : List ℕ) (s : ℕ) (c : Taken) (bs : List ℕ) (w
   out_start j l =
       let row = plus_row (c.edge + suc j) in
       ap (point_of N) (tail_row N (plus (c.edge + suc j)) (rim_row c.vertex m j) (ap (table.get N.edges) row.0 ∙ rim_edge j l) ∙ ap (tail_in (rim_row c.vertex m j)) row.1 ∙ next_is j)
-      ∙ point_new (next_place m j) (next_below m j l) ∙ ap (point_of M) (w.meet j l)
+      ∙ point_new (next_place m j) (next_below m j l) ∙ ap (point_of M) (w.cycle.meet j l)
 
   -- the other one along the below half
   back_start : (j : ℕ) → j < m → start N (minus (c.edge + suc j)) ≡ start M (get_or bs j 0)

@@ -1,5 +1,5 @@
 -- No loop of a solid is lone, from step to step of a split.
-use Rattle.std.proofs.Common.{◌≡◌, ◌≢◌, ℕ, ◌+◌, Bool, true, false, cond, List, [], ◌∷◌, length, is_some, refl, sym, ap, ◌∙◌, true≢false, inl, inr}
+use Rattle.std.proofs.Common.{◌≡◌, ◌≢◌, ℕ, ◌+◌, Bool, true, false, cond, List, [], ◌∷◌, length, is_some, refl, sym, ap, subst, ◌∙◌, true≢false, inl, inr}
 use Rattle.std.specs.Prelude.{map}
 use Rattle.std.proofs.lemmas.Bool.Decides.{eqb_tells}
 use Rattle.euler_operators.specs.declared.Plane.{Plane}
@@ -129,4 +129,5 @@ parts_none d above s p t w none =
     let opened : NoneLone o.model s = openings_none above s p begun (section_cycles d.model (below_halves d.model above s)) s w.opens none in
     let closed : NoneLone C s = closing_carries o.model s p o.caps (λ A. NoneLone A s) (taken_none p s) (split.closes d above s p t w) opened in
     let q = split.parts d above s p t w in
+    subst (λ P. NoneLone P s × NoneLone P t) (sym (split.split_is d above s p t w))
     (λ l v at there. lower_none C s t fs l v at there closed q.apart, λ l v at there. upper_none C s t fs l v at there closed q.fresh q.of_solid)

@@ -75,7 +75,7 @@ module _ (M : Model) (above : List ℕ) (s : ℕ) (c : Taken) (bs : List ℕ) (p
               let y = kept.started M N new rewritten l q.0 h i.item in
               let face : face_of N l ≡ face_of M l = kept.face_is M N new rewritten l q.0 in
               let there : Has M.faces (face_of M l) = w.sound.loops_of_faces l q.0 in
-              let old : face_of M l ≢ upper = λ e. true≢false (sym there ∙ ap is_some (ap (table.get M.faces) e ∙ w.faces_free upper (omega arith))) in
+              let old : face_of M l ≢ upper = λ e. true≢false (sym there ∙ ap is_some (ap (table.get M.faces) e ∙ w.free.faces upper (omega arith))) in
               let was : IsOfSolid M s l y.0 = record { loop_there = q.0; face_there = there; of_solid = sym (kept.solid_is M N new rewritten (face_of M l) there) ∙ ap (solid_of N) (sym face) ∙ i.of_solid; item = y.1 } in
               (λ j. cond ((ap (lists (fs ++ upper ∷ [])) face ∙ other_last fs upper (face_of M l) old) j) (is_below p (y.2 j)) (is_above p (y.2 j))) ∙ sided l y.0 was
         ]
@@ -178,4 +178,5 @@ parts_sided d above s p t w sided l h =
     let opened : AreSided o.model p s fs = openings_sided above s p begun (section_cycles d.model (below_halves d.model above s)) w.opens w.lie_on (subst (AreSided d.model p s) (sym (append-nil above)) sided) in
     let closed : AreSided C p s fs = closing_carries o.model s p o.caps (λ A. AreSided A p s fs) (taken_sided p s fs) (split.closes d above s p t w) opened in
     let q = split.parts d above s p t w in
+    subst (λ P. (IsOfSolid P s l h → is_above p (start P h) ≡ false) × (IsOfSolid P t l h → is_below p (start P h) ≡ false)) (sym (split.split_is d above s p t w))
     (lower C s t fs p q.apart q.fresh q.of_solid closed l h, upper C s t fs p q.apart q.fresh q.of_solid closed l h)

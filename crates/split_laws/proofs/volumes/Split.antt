@@ -18,7 +18,7 @@ use Rattle.euler_laws.proofs.shared.Counted.{counted_once}
 use Rattle.shapes.specs.split.Drawing.{Drawing}
 use Rattle.shapes.specs.split.Section.{is_hole, holes_in, below_halves, section_cycles, has_stray_hole}
 use Rattle.shapes.specs.split.Opening.{Caps, Opening, outer_caps, holes_closed}
-use Rattle.shapes.specs.split.Split.{opened_at, split_drawn}
+use Rattle.shapes.specs.split.Split.{opened_at, upper_left, split_drawn}
 use Rattle.split_opening_laws.specs.sections.InTurn.{upper_faces, CanBeOpenedInTurn}
 use Rattle.split_opening_laws.specs.sections.Capped.{cap_faces, HasCaps}
 use Rattle.split_opening_laws.proofs.sections.InTurn as in_turn
@@ -30,6 +30,7 @@ use Rattle.split_laws.proofs.volumes.Closed.{closing, all_taken, closed_by, clos
 use Rattle.split_laws.proofs.opened.InTurn.{some_way, openings_keep, openings_lie}
 use Rattle.split_laws.proofs.Flags.{flags_are, map_length}
 use Rattle.split_laws.proofs.OldFaces.{solids_still}
+use Rattle.split_laws.proofs.Closed.{parted_alike}
 
 -- ---- which caps are those of holes
 
@@ -144,6 +145,10 @@ module _ (d : Drawing) (above : List ℕ) (s : ℕ) (p : Plane) (t : ℕ) (w : C
     of_solid = λ f there l. solid_there f there ∙ ended.upper_of_solid f l;
   }
 
+  -- listing also the caps that are gone changes nothing
+  pub split_is : split_drawn d above s p t ≡ part C s t (upper_faces above o.caps)
+  split_is = parted_alike d above s p w.opens begun_caps w.no_stray t
+
 -- ---- both parts are solids
 
 taken_solids : (M : Model) (f g : ℕ) → (kfmrh M f g).solids ≡ M.solids
@@ -159,7 +164,7 @@ both_there d above s p t w there =
     let X : Opening = opened_at d above s p in
     let K : Model = holes_closed X.model X.caps in
     let closed : K.solids ≡ d.model.solids = closing_carries X.model s p X.caps (λ A. A.solids ≡ d.model.solids) (λ A f g c e. taken_solids A f g ∙ e) (closes d above s p t w) (solids_still above s p (begun d above s p t w) (cycles d above s p t w)) in
-    let now : (split_drawn d above s p t).solids ≡ table.put K.solids t tt = parted_solids K s t (upper_faces above X.caps) in (
+    let now : (split_drawn d above s p t).solids ≡ table.put K.solids t tt = parted_solids K s t (upper_left above X.caps) in (
       ap (λ u. table.has u s) now ∙ ap is_some (get-put_other K.solids t tt s w.apart) ∙ ap (λ u. table.has u s) closed ∙ there,
       ap (λ u. table.has u t) now ∙ ap is_some (get-put_here K.solids t tt),
     )
@@ -168,7 +173,9 @@ both_there d above s p t w there =
 
 pub split_shares : (d : Drawing) (above : List ℕ) (s : ℕ) (p : Plane) (t : ℕ) → CanBeSplit d above s p t →
     six_volume d.model s ≡ six_volume (split_drawn d above s p t) s +ℤ six_volume (split_drawn d above s p t) t
-split_shares d above s p t w = sym (closed_keeps d above s p t w s) ∙ part_shares (C d above s p t w) s t (upper_faces above (o d above s p t w).caps) (parts d above s p t w)
+split_shares d above s p t w = subst (λ P. six_volume d.model s ≡ six_volume P s +ℤ six_volume P t) (sym (split_is d above s p t w))
+    (sym (closed_keeps d above s p t w s) ∙ part_shares (C d above s p t w) s t (upper_faces above (o d above s p t w).caps) (parts d above s p t w))
 
 pub split_keeps : (d : Drawing) (above : List ℕ) (s : ℕ) (p : Plane) (t u : ℕ) → CanBeSplit d above s p t → u ≢ s → u ≢ t → six_volume (split_drawn d above s p t) u ≡ six_volume d.model u
-split_keeps d above s p t u w not_s not_t = part_keeps (C d above s p t w) s t (upper_faces above (o d above s p t w).caps) u (parts d above s p t w) not_s not_t ∙ closed_keeps d above s p t w u
+split_keeps d above s p t u w not_s not_t = ap (λ P. six_volume P u) (split_is d above s p t w)
+    ∙ part_keeps (C d above s p t w) s t (upper_faces above (o d above s p t w).caps) u (parts d above s p t w) not_s not_t ∙ closed_keeps d above s p t w u

@@ -54,8 +54,8 @@ module _ (M : Model) (above : List ℕ) (s : ℕ) (c : Taken) (bs : List ℕ) (w
     edge_free = ap (table.get N.edges) (edge_plus u) ∙ edge_free M above s c bs w i lt sound;
     vertex_free = ap (λ t. table.get t y) (raised.raised_vertices M above s c bs w i sound) ∙ copy.points_free M above s c bs w i y (omega arith) (omega arith);
     one_tail = sides.k_tail M above s c bs w i lt sound ∙ sym (sides.g_tail M above s c bs w i lt sound);
-    edge_fits = ap is_number (edge_plus u) ∙ fits u (omega arith) (omega (arith, w.edges_left, lt));
-    vertex_fits = fits y (omega arith) (omega (arith, w.vertices_left, lt));
+    edge_fits = ap is_number (edge_plus u) ∙ fits u (omega arith) (omega (arith, w.left.edges, lt));
+    vertex_fits = fits y (omega arith) (omega (arith, w.left.vertices, lt));
     point_fits = w.sound.points_fit x (point_of M x) (point_row M x (w.sound.tails_there (get_or bs i 0) (on.half_there M above s c bs w i lt)));
   }
 

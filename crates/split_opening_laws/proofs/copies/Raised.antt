@@ -113,7 +113,7 @@ module _ (M : Model) (above : List ℕ) (s : ℕ) (c : Taken) (bs : List ℕ) (w
   out_side j lt =
       ap (lists above) (subst (λ x. face_at N x ≡ face_at M (mate (get_or bs j 0))) (places.out_mate M above s c bs w m j (omega arith) lt)
       (places.old_place M above s c bs w N sound m m (raised_loop c bs i) raised_loops (mate (get_or bs j 0)) (on.mate_there M above s c bs w j lt)).1)
-      ∙ w.mates_above (get_or bs j 0) (on.half_in M above s c bs w j lt)
+      ∙ (w.cycle.halves (get_or bs j 0) (on.half_in M above s c bs w j lt)).mate_above
 
   -- ---- starts
 

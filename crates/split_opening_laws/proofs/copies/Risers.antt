@@ -75,7 +75,7 @@ module _ (M : Model) (above : List ℕ) (s : ℕ) (c : Taken) (bs : List ℕ) (w
   p_below = before_below m i lt
 
   p_apart : p ≢ i
-  p_apart = before_apart m i (on.two_halves M above s c bs w) lt
+  p_apart = before_apart m i w.cycle.two_halves lt
 
   -- the edge is free
   pub edge_free : table.get N.edges u ≡ None
@@ -83,7 +83,7 @@ module _ (M : Model) (above : List ℕ) (s : ℕ) (c : Taken) (bs : List ℕ) (w
       ap (λ t. table.get t u) (raised.raised_edges M above s c bs w i sound)
       ∙ rows_high (with_rows (table.map_rows (opened_row M above mates copies) M.edges) c.edge (raised_edge M bs copies) m) (c.edge + m) (riser_edge M c bs) i u (omega arith)
       ∙ rows_high (table.map_rows (opened_row M above mates copies) M.edges) c.edge (raised_edge M bs copies) m u (omega arith)
-      ∙ get-map_rows (opened_row M above mates copies) M.edges u ∙ ap (option_map (opened_row M above mates copies u)) (w.edges_free u (omega arith))
+      ∙ get-map_rows (opened_row M above mates copies) M.edges u ∙ ap (option_map (opened_row M above mates copies u)) (w.free.edges u (omega arith))
 
   abbrev up_before : ℕ → LoopRow → LoopRow
   up_before = with_before (minus (c.edge + suc i)) (plus (copy_riser c bs i))
@@ -121,7 +121,7 @@ module _ (M : Model) (above : List ℕ) (s : ℕ) (c : Taken) (bs : List ℕ) (w
   old_loop : (q : ℕ) (row : LoopRow) → table.get (table.map_rows (rewritten_row (map (renamed (put_out c bs m)))) M.loops) q ≡ Some row → both_before q row ≡ row
   old_loop q row at =
       let there : Has M.loops q = sym (ap is_some (get-map_rows (rewritten_row (map (renamed (put_out c bs m)))) M.loops q) ∙ mapped_some (rewritten_row (map (renamed (put_out c bs m))) q) (table.get M.loops q)) ∙ ap is_some at in
-      let low : q ≤ c.loop = in_use_within M.loops c.loop w.loops_free q there in
+      let low : q ≤ c.loop = in_use_within M.loops c.loop w.free.loops q there in
       neither q row (ap (λ t. table.get t q) (raised.raised_loops M above s c bs w i sound) ∙ rows_low (table.map_rows (rewritten_row (map (renamed (put_out c bs m)))) M.loops) c.loop (raised_loop c bs i) m q low ∙ at)
       (λ e. omega (arith, e, low)) (λ e. omega (arith, e, low))
 
@@ -165,7 +165,7 @@ module _ (M : Model) (above : List ℕ) (s : ℕ) (c : Taken) (bs : List ℕ) (w
 
   risen_next : risen ≡ raised_items c bs (suc i) i
   risen_next = λ n. mate (get_or bs i 0) ∷ cond (sym (lt-ltb i (suc i) (omega arith)) n) (plus u ∷ []) [] ++ g ∷
-      cond (sym (less_next (next_place m i) i (next_apart m i (on.two_halves M above s c bs w))) n) (minus (copy_riser c bs (next_place m i)) ∷ []) []
+      cond (sym (less_next (next_place m i) i (next_apart m i w.cycle.two_halves)) n) (minus (copy_riser c bs (next_place m i)) ∷ []) []
 
   risen_k : count k (canonical risen) ≡ 0
   risen_k = count-canonical k risen ∙ omega (arith, k_else, ap (count k) flat, tick_other k (plus u) k_new)

@@ -126,7 +126,7 @@ module _ (M : Model) (above : List ℕ) (s : ℕ) (c : Taken) (bs : List ℕ) (w
       let b : ℕ = get_or bs j 0 in (
         ap side q.2 ∙ mate_side j q.1,
         ap side (ap mate q.2 ∙ mate-mate b) ∙ raised.old_side M above s c bs w i sound b (on.half_there M above s c bs w j q.1) (on.half_no_mate M above s c bs w j q.1)
-            ∙ w.below b (on.half_in M above s c bs w j q.1),
+            ∙ (w.cycle.halves b (on.half_in M above s c bs w j q.1)).below,
       )
 
   listed_mate : (h : ℕ) → IsIn h bs → lists mates (mate h) ≡ true
@@ -146,7 +146,7 @@ module _ (M : Model) (above : List ℕ) (s : ℕ) (c : Taken) (bs : List ℕ) (w
   -- of a half-edge of M at the vertex that is no mate, and whose own mate is none, the two lie on one side
   one_side : (h : ℕ) → HasHalf M h → tail M h ≡ x → lists mates h ≡ false → lists mates (mate h) ≡ false → lists above (face_at M h) ≡ lists above (face_at M (mate h))
   one_side h there at un none = decide (lists above (face_at M h)) (lists above (face_at M (mate h))) (λ ne.
-      elim (w.no_branch h (get_or bs i 0) there (on.half_in M above s c bs w i lt) at ne) [
+      elim (w.cycle.no_branch h (get_or bs i 0) there (on.half_in M above s c bs w i lt) at ne) [
         | inl j ↦ true≢false (sym (listed_mate h j) ∙ none)
         | inr j ↦ true≢false (sym (listed_mate (mate h) j) ∙ ap (lists mates) (mate-mate h) ∙ un)
       ]) where

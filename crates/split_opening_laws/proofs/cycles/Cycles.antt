@@ -138,15 +138,10 @@ module _ (M : Model) (above : List ℕ) (s : ℕ) (sound : Sound M) (faces : Are
 
     one_cycle : IsSectionCycle M above s (b ∷ others)
     one_cycle = record {
-      some_half = λ e. cc;
       two_halves = two others refl;
-      apart = apart;
-      there = there;
+      halves = λ x j. halves_are M above s sound x (within x j);
       meet = meet;
       starts_apart = ends_apart;
-      below = λ x j. (halves_are M above s sound x (within x j)).below;
-      mates_above = λ x j. (halves_are M above s sound x (within x j)).mate_above;
-      of_solid = λ x j. (halves_are M above s sound x (within x j)).of_solid;
       no_branch = crossing;
     }
 

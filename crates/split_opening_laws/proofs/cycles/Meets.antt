@@ -1,5 +1,5 @@
 -- Sums over a list, and how many items of a list stand in another, counted from either side.
-use Rattle.std.proofs.Common.{◌≡◌, ℕ, ◌+◌, Bool, true, false, cond, List, [], ◌∷◌, map, refl, sym, ap, ◌∙◌, arith, inl, inr}
+use Rattle.std.proofs.Common.{◌≡◌, ℕ, ◌+◌, ◌≤◌, Bool, true, false, cond, List, [], ◌∷◌, map, refl, sym, ap, subst, ◌∙◌, arith, inl, inr}
 use Rattle.std.specs.Prelude.{filter, flat_map}
 use Rattle.std.proofs.lemmas.Bool.Decides.{eqb_tells}
 use Rattle.euler_operators.specs.Items.{tick, count, IsIn, IsApart}
@@ -43,7 +43,18 @@ pub count_map : (f : ℕ → ℕ) (x : ℕ) (ys : List ℕ) → count x (map f y
 count_map f x [] = refl
 count_map f x (y ∷ ys) = omega (arith, count_map f x ys)
 
--- where the values stay apart, an item is known by its own
+-- where the values stay apart, the items do
+count_below : (f : ℕ → ℕ) (x : ℕ) (ys : List ℕ) → count x ys ≤ count (f x) (map f ys)
+count_below f x [] = omega arith
+count_below f x (y ∷ ys) = elim (eqb_tells x y) [
+  | inl e ↦ subst (λ z. count x (z ∷ ys) ≤ count (f x) (map f (z ∷ ys))) e.1 (omega (arith, tick_same x, tick_same (f x), count_below f x ys))
+  | inr e ↦ omega (arith, tick_other x y e.1, count_below f x ys)
+]
+
+pub apart_before : (f : ℕ → ℕ) (xs : List ℕ) → IsApart (map f xs) → IsApart xs
+apart_before f xs d x = omega (arith, d (f x), count_below f x xs)
+
+-- and an item is known by its own
 pub known_by : (f : ℕ → ℕ) (xs : List ℕ) → IsApart (map f xs) → (x y : ℕ) → IsIn x xs → IsIn y xs → f x ≡ f y → x ≡ y
 known_by f [] d x y i j e = absurd (omega arith)
 known_by f (z ∷ zs) d x y i j e = elim (eqb_tells x z) [

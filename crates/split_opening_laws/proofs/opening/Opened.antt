@@ -17,7 +17,7 @@ use Rattle.split_opening_laws.proofs.strips.Rows.{rows_high}
 use Rattle.split_opening_laws.specs.caps.Caps.{capped}
 use Rattle.split_opening_laws.proofs.opening.Kept.{gone_all, gone_later}
 use Rattle.split_opening_laws.proofs.opening.Rim.{rim_is}
-use Rattle.split_opening_laws.proofs.opening.Strips.{some_length, size, raised_faces, raised_loops, loops_free}
+use Rattle.split_opening_laws.proofs.opening.Strips.{size, raised_faces, raised_loops, loops_free}
 
 module _ (M : Model) (above : List ℕ) (s : ℕ) (c : Taken) (bs : List ℕ) (w : CanBeOpened M above s c bs) where
   abbrev m : ℕ
@@ -36,7 +36,7 @@ module _ (M : Model) (above : List ℕ) (s : ℕ) (c : Taken) (bs : List ℕ) (w
   X = opened_along M above s c bs
 
   all : m ≡ suc (m - 1)
-  all = omega (arith, some_length bs w.some_half)
+  all = omega (arith, w.cycle.two_halves)
 
   same_size : length hs ≡ m
   same_size = size M above s c bs w
@@ -64,7 +64,7 @@ module _ (M : Model) (above : List ℕ) (s : ℕ) (c : Taken) (bs : List ℕ) (w
   faces_open = C_faces
       ∙ (λ i. table.put (without_rows (raised_faces M above s c bs w i) (numbers_after (c.face + 1) (same_size i - 1))) (c.face + same_size i + 1) (face_at_end (same_size i)))
       ∙ ap (λ k. table.put (without_rows (with_rows M.faces c.face (strip_face s c) k) (numbers_after (c.face + 1) (m - 1))) (c.face + m + 1) (face_at_end m)) all
-      ∙ ap (λ t. table.put t (c.face + m + 1) (face_at_end m)) (gone_later M.faces c.face (strip_face s c) w.faces_free (m - 1))
+      ∙ ap (λ t. table.put t (c.face + m + 1) (face_at_end m)) (gone_later M.faces c.face (strip_face s c) w.free.faces (m - 1))
       ∙ X_faces
 
   -- ---- loops
@@ -111,7 +111,7 @@ module _ (M : Model) (above : List ℕ) (s : ℕ) (c : Taken) (bs : List ℕ) (w
   edges_free : (q : ℕ) → c.edge + m < q → table.get rimmed q ≡ None
   edges_free q l = rows_high opened c.edge (raised_edge M bs (copied M c bs m)) m q l
       ∙ get-map_rows (opened_row M above hs (copied M c bs m)) M.edges q
-      ∙ ap (option_map (opened_row M above hs (copied M c bs m) q)) (w.edges_free q (omega (arith, l)))
+      ∙ ap (option_map (opened_row M above hs (copied M c bs m) q)) (w.free.edges q (omega (arith, l)))
 
   edges_open : C.edges ≡ X.edges
   edges_open = C_edges

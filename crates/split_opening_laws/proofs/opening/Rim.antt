@@ -29,7 +29,7 @@ module _ (M : Model) (above : List ℕ) (s : ℕ) (c : Taken) (bs : List ℕ) (w
 
   row_is : (j : ℕ) → j < m → raised_edge M bs (copied M c bs m) j ≡ rim j
   row_is j lt = λ i. record {
-    plus_tail = (ap (renamed (copied M c bs m)) (sym (w.meet j lt)) ∙ copy_at M above s c bs w m (next_place m j) (next_below m j lt) (next_below m j lt) ∙ next_is j) i;
+    plus_tail = (ap (renamed (copied M c bs m)) (sym (w.cycle.meet j lt)) ∙ copy_at M above s c bs w m (next_place m j) (next_below m j lt) (next_below m j lt) ∙ next_is j) i;
     minus_tail = copy_at M above s c bs w m j lt lt i;
   }
 

@@ -1,5 +1,5 @@
 -- Once the copies are raised there are strips along the mates.
-use Rattle.std.proofs.Common.{◌≡◌, ◌≢◌, ℕ, suc, ◌+◌, ◌≤◌, ◌<◌, cond, nat_lt, List, [], ◌∷◌, ◌++◌, length, Option, Some, None, is_some, refl, sym, ap, ◌∙◌, subst, arith, inl, inr, true≢false}
+use Rattle.std.proofs.Common.{◌≡◌, ℕ, suc, ◌+◌, ◌<◌, cond, nat_lt, List, [], ◌∷◌, ◌++◌, length, Option, Some, None, is_some, refl, sym, ap, ◌∙◌, subst, arith, inl, inr, true≢false}
 use Rattle.std.specs.Prelude.{map, get_or}
 use Rattle.std.specs.Option.{option_map}
 use Rattle.std.proofs.lemmas.Bool.{lt-ltb}
@@ -20,11 +20,6 @@ use Rattle.split_opening_laws.specs.strips.Opened.{CanBeOpened}
 use Rattle.split_opening_laws.proofs.strips.Rows.{rows_at, rows_high, rows_split}
 use Rattle.split_opening_laws.proofs.strips.Cycle.{next_below}
 use Rattle.split_opening_laws.specs.caps.Strips.{HasStrips, strip_loop}
-
--- a list that isn't empty has an item
-pub some_length : (bs : List ℕ) → bs ≢ [] → 1 ≤ length bs
-some_length [] ne = absurd (ne refl)
-some_length (b ∷ bs) ne = omega arith
 
 module _ (M : Model) (above : List ℕ) (s : ℕ) (c : Taken) (bs : List ℕ) (w : CanBeOpened M above s c bs) where
   abbrev m : ℕ
@@ -52,7 +47,7 @@ module _ (M : Model) (above : List ℕ) (s : ℕ) (c : Taken) (bs : List ℕ) (w
 
   -- no loop was there above those taken
   pub loops_free : (q : ℕ) → c.loop < q → table.get (table.map_rows rewrite M.loops) q ≡ None
-  loops_free q l = get-map_rows rewrite M.loops q ∙ ap (option_map (rewrite q)) (w.loops_free q l)
+  loops_free q l = get-map_rows rewrite M.loops q ∙ ap (option_map (rewrite q)) (w.free.loops q l)
 
   items_are : (j : ℕ) → j < m → raised_items c bs m j ≡ strip_loop c hs j
   items_are j lt =
@@ -78,19 +73,19 @@ module _ (M : Model) (above : List ℕ) (s : ℕ) (c : Taken) (bs : List ℕ) (w
     | inl p ↦
         let face : face_of N q ≡ c.face + suc p.0 = ap (face_of N) p.2 ∙ face_row N (c.loop + suc p.0) (raised_loop c bs m p.0) (row_at p.0 p.1) in
         omega (arith, sym face ∙ is, p.2)
-    | inr p ↦ absurd (true≢false (sym (old_face q (c.face + suc j) (ap (λ t. table.get t q) raised_loops ∙ p) there is) ∙ ap is_some (w.faces_free (c.face + suc j) (omega arith))))
+    | inr p ↦ absurd (true≢false (sym (old_face q (c.face + suc j) (ap (λ t. table.get t q) raised_loops ∙ p) there is) ∙ ap is_some (w.free.faces (c.face + suc j) (omega arith))))
   ]
 
   pub raised_strips : HasStrips N s c hs
   raised_strips = record {
-    some = omega (arith, size, some_length bs w.some_half);
+    some = omega (arith, size, w.cycle.two_halves);
     loops = λ j lt. row_at j (within j lt) ∙ ap (λ xs. Some (record { face = c.face + suc j; content = cycle (canonical xs) })) (items_are j (within j lt));
     faces = λ j lt. ap (λ t. table.get t (c.face + suc j)) raised_faces ∙ rows_at M.faces c.face (strip_face s c) m j (within j lt);
     alone = λ j q lt. alone j q (within j lt);
-    face_free = ap (λ t. table.get t (c.face + length hs + 1)) raised_faces ∙ rows_high M.faces c.face (strip_face s c) m (c.face + length hs + 1) (omega (arith, size)) ∙ w.faces_free (c.face + length hs + 1) (omega arith);
+    face_free = ap (λ t. table.get t (c.face + length hs + 1)) raised_faces ∙ rows_high M.faces c.face (strip_face s c) m (c.face + length hs + 1) (omega (arith, size)) ∙ w.free.faces (c.face + length hs + 1) (omega arith);
     loop_free = ap (λ t. table.get t (c.loop + length hs + 1)) raised_loops ∙ rows_high (table.map_rows rewrite M.loops) c.loop (raised_loop c bs m) m (c.loop + length hs + 1) (omega (arith, size)) ∙ loops_free (c.loop + length hs + 1) (omega arith);
-    face_fits = fits (c.face + length hs + 1) (omega arith) (omega (arith, size, w.faces_left));
-    loop_fits = fits (c.loop + length hs + 1) (omega arith) (omega (arith, size, w.loops_left));
+    face_fits = fits (c.face + length hs + 1) (omega arith) (omega (arith, size, w.left.faces));
+    loop_fits = fits (c.loop + length hs + 1) (omega arith) (omega (arith, size, w.left.loops));
   } where
     within : (j : ℕ) → j < length hs → j < m
     within j lt = omega (arith, lt, size)

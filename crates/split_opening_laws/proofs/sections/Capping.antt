@@ -22,7 +22,8 @@ use Rattle.shapes.specs.Rewriting.{rewritten_row, renamed}
 use Rattle.shapes.specs.split.Section.{is_hole}
 use Rattle.shapes.specs.split.Opening.{Caps, Opening, both_lists, opened_along, next_opened, all_opened}
 use Rattle.split_opening_laws.proofs.cycles.RisingLists.{rises_cons}
-use Rattle.split_opening_laws.specs.sections.InTurn.{AreFree, upper_faces, CanBeOpenedInTurn}
+use Rattle.split_opening_laws.specs.Numbers.{AreFree}
+use Rattle.split_opening_laws.specs.sections.InTurn.{upper_faces, CanBeOpenedInTurn}
 use Rattle.split_opening_laws.specs.sections.Capped.{IsPlain, ArePlain, cap_faces, HasCaps}
 use Rattle.split_opening_laws.proofs.sections.OpenedRows.{faces_are, loops_are, face_still, solid_kept}
 use Rattle.split_opening_laws.proofs.sections.OpenedFaces.{upper_row}

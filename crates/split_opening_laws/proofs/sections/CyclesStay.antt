@@ -17,8 +17,8 @@ use Rattle.euler_operators.specs.Conditions.{face_at, lists}
 use Rattle.shapes.specs.Fresh.{Taken}
 use Rattle.shapes.specs.Prism.{next_place}
 use Rattle.shapes.specs.split.Opening.{opened_along}
-use Rattle.split_opening_laws.specs.cycles.SectionCycles.{IsSectionCycle, AreSectionCycles, AreApartCycles}
-use Rattle.split_opening_laws.specs.sections.InTurn.{AreFree}
+use Rattle.split_opening_laws.specs.cycles.SectionCycles.{IsBelowHalf, IsSectionCycle, AreSectionCycles, AreApartCycles}
+use Rattle.split_opening_laws.specs.Numbers.{AreFree}
 use Rattle.split_opening_laws.proofs.sections.OpenedRows.{solid_kept, face_kept, half_kept, tail_cases, tail_kept, half_cases}
 use Rattle.sweeps_laws.proofs.swept.Numbers.{next_within}
 
@@ -70,12 +70,12 @@ module _ (M : Model) (above : List ℕ) (s : ℕ) (c : Taken) (bs : List ℕ) (s
 
   module _ (ds : List ℕ) (w : IsSectionCycle M above s ds) (elsewhere : (d : ℕ) → IsIn d ds → count (tail M d) (map (tail M) bs) ≡ 0) where
     pub start_same : (d : ℕ) → IsIn d ds → tail N d ≡ tail M d
-    start_same d i = tail_kept M above s c bs sound free d (w.there d i) (elsewhere d i)
+    start_same d i = tail_kept M above s c bs sound free d (w.halves d i).there (elsewhere d i)
 
     pub end_same : (d : ℕ) → IsIn d ds → tail N (mate d) ≡ tail M (mate d)
     end_same d i =
         let r = follows M above s ds w d i in
-        tail_kept M above s c bs sound free (mate d) (mate_there M d (w.there d i)) (sym (ap (λ v. count v vertices) r.2) ∙ elsewhere r.0 r.1)
+        tail_kept M above s c bs sound free (mate d) (mate_there M d (w.halves d i).there) (sym (ap (λ v. count v vertices) r.2) ∙ elsewhere r.0 r.1)
 
     still_alone : (h b : ℕ) → HasHalf N h → IsIn b ds → tail N h ≡ tail N b → lists above (face_at N h) ≢ lists above (face_at N (mate h)) → IsIn h ds ⊎ IsIn (mate h) ds
     still_alone h b t i e ne = elim (half_cases M above s c bs sound free h t) [
@@ -89,20 +89,23 @@ module _ (M : Model) (above : List ℕ) (s : ℕ) (c : Taken) (bs : List ℕ) (s
       ]
     ] where
       too_high : c.vertex < tail N h → ⊥
-      too_high l = absurd (omega (arith, l, e, start_same b i, in_use_within M.vertices c.vertex free.vertices (tail M b) (sound.tails_there b (w.there b i))))
+      too_high l = absurd (omega (arith, l, e, start_same b i, in_use_within M.vertices c.vertex free.vertices (tail M b) (sound.tails_there b (w.halves b i).there)))
+
+    still_below : (d : ℕ) → IsIn d ds → IsBelowHalf M above s d → IsBelowHalf N above s d
+    still_below d i b = record {
+      there = half_kept M above s c bs sound free d b.there;
+      of_solid = ap (solid_of N) (face_same d b.there (elsewhere d i))
+          ∙ solid_kept M above s c bs sound free (face_at M d) (sound.loops_of_faces (loop_of M d) (ap is_some (row_of M sound d b.there))) ∙ b.of_solid;
+      below = ap (lists above) (face_same d b.there (elsewhere d i)) ∙ b.below;
+      mate_above = ap (lists above) (mate_face_same d b.there (elsewhere d i)) ∙ b.mate_above;
+    }
 
     pub stays_cycle : IsSectionCycle (opened_along M above s c bs) above s ds
     stays_cycle = record {
-      some_half = w.some_half;
       two_halves = w.two_halves;
-      apart = w.apart;
-      there = λ d i. half_kept M above s c bs sound free d (w.there d i);
+      halves = λ d i. still_below d i (w.halves d i);
       meet = λ k l. start_same (get_or ds (next_place (length ds) k) 0) (IsIn-get_or ds (next_place (length ds) k) 0 (next_within (length ds) k l)) ∙ w.meet k l ∙ sym (end_same (get_or ds k 0) (IsIn-get_or ds k 0 l));
       starts_apart = subst IsApart (sym (maps_agree (tail N) (tail M) ds start_same)) w.starts_apart;
-      below = λ d i. ap (lists above) (face_same d (w.there d i) (elsewhere d i)) ∙ w.below d i;
-      mates_above = λ d i. ap (lists above) (mate_face_same d (w.there d i) (elsewhere d i)) ∙ w.mates_above d i;
-      of_solid = λ d i. ap (solid_of N) (face_same d (w.there d i) (elsewhere d i))
-          ∙ solid_kept M above s c bs sound free (face_at M d) (sound.loops_of_faces (loop_of M d) (ap is_some (row_of M sound d (w.there d i)))) ∙ w.of_solid d i;
       no_branch = still_alone;
     }
 
@@ -118,7 +121,7 @@ module _ (M : Model) (above : List ℕ) (s : ℕ) (c : Taken) (bs : List ℕ) (s
   pub there_in : (cs : List (List ℕ)) → AreSectionCycles M above s cs → (d : ℕ) → IsIn d (flat_map (λ bs. bs) cs) → HasHalf M d
   there_in [] w d i = absurd (omega arith)
   there_in (ds ∷ cs) w d i = elim (IsIn_or_not d ds) [
-    | inl j ↦ w.0.there d j
+    | inl j ↦ (w.0.halves d j).there
     | inr z ↦ there_in cs w.1 d (omega (arith, i, z, count-append d ds (flat_map (λ bs. bs) cs)))
   ]
 

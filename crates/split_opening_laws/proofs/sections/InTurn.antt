@@ -14,11 +14,12 @@ use Rattle.euler_laws.proofs.shared.Listed.{listed_front}
 use Rattle.shapes.specs.Fresh.{Taken}
 use Rattle.shapes.specs.split.Section.{below_halves, section_cycles, is_hole}
 use Rattle.shapes.specs.split.Opening.{Caps, Opening, opened_along, next_opened, all_opened}
-use Rattle.split_opening_laws.specs.cycles.SectionCycles.{AreOf, IsUnbranched, IsSectionCycle}
+use Rattle.split_opening_laws.specs.cycles.SectionCycles.{AreOf, IsUnbranched}
 use Rattle.split_opening_laws.proofs.cycles.BelowHalves.{halves_are}
 use Rattle.split_opening_laws.proofs.cycles.Ends.{is_half}
 use Rattle.split_opening_laws.proofs.cycles.Cycles.{cycles_cover, cycles_long, cycles_apart}
-use Rattle.split_opening_laws.specs.sections.InTurn.{AreFree, AreLeft, halves_in, AreBetween, upper_faces, CanBeOpenedInTurn}
+use Rattle.split_opening_laws.specs.Numbers.{AreFree, AreLeft}
+use Rattle.split_opening_laws.specs.sections.InTurn.{halves_in, AreBetween, upper_faces, CanBeOpenedInTurn}
 use Rattle.split_opening_laws.specs.strips.Opened.{CanBeOpened}
 use Rattle.split_opening_laws.proofs.opening.Whole.{opened_sound}
 use Rattle.split_opening_laws.proofs.sections.CyclesStay.{cycles_stay}
@@ -35,27 +36,18 @@ above_there above s o cs w f l = w.upper_there f (listed_front above (map (λ k.
 -- what can be opened along some cycles in turn can be opened along the first
 pub can_open : (above : List ℕ) (s : ℕ) (o : Opening) (bs : List ℕ) (cs : List (List ℕ)) → CanBeOpenedInTurn above s o (bs ∷ cs) → CanBeOpened o.model above s o.taken bs
 can_open above s o bs cs w =
-    let k : IsSectionCycle o.model above s bs = w.cycles.cycles.0 in
     let n : length (halves_in (bs ∷ cs)) ≡ length bs + length (halves_in cs) = length-append bs (halves_in cs) in
     let l : AreLeft o.taken (length (halves_in (bs ∷ cs))) (length (bs ∷ cs)) = w.left in
     record {
       sound = w.sound;
-      faces_free = w.free.faces;
-      loops_free = w.free.loops;
-      edges_free = w.free.edges;
-      vertices_free = w.free.vertices;
-      faces_left = omega (arith, l.faces, n);
-      loops_left = omega (arith, l.loops, n);
-      edges_left = omega (arith, l.edges, n);
-      vertices_left = omega (arith, l.vertices, n);
-      some_half = k.some_half;
-      there = k.there;
-      meet = k.meet;
-      starts_apart = k.starts_apart;
-      below = k.below;
-      mates_above = k.mates_above;
-      of_solid = k.of_solid;
-      no_branch = k.no_branch;
+      free = w.free;
+      left = record {
+        faces = omega (arith, l.faces, n);
+        loops = omega (arith, l.loops, n);
+        edges = omega (arith, l.edges, n);
+        vertices = omega (arith, l.vertices, n);
+      };
+      cycle = w.cycles.cycles.0;
       above_there = above_there above s o (bs ∷ cs) w;
     }
 

@@ -17,7 +17,7 @@ use Rattle.euler_operators.specs.Conditions.{face_at}
 use Rattle.shapes.specs.Fresh.{Taken, numbers_after}
 use Rattle.shapes.specs.Rewriting.{renamed}
 use Rattle.shapes.specs.split.Opening.{both_lists, opened_along}
-use Rattle.split_opening_laws.specs.sections.InTurn.{AreFree}
+use Rattle.split_opening_laws.specs.Numbers.{AreFree}
 use Rattle.split_opening_laws.proofs.sections.Pairs.{renamed_onto}
 use Rattle.split_opening_laws.proofs.sections.OpenedRows.{faces_are, loops_are, loop_row}
 use Rattle.split_opening_laws.proofs.strips.Rows.{length-numbers_after}

@@ -20,7 +20,7 @@ use Rattle.shapes.proofs.fresh.Rows.{get-put_cases}
 use Rattle.shapes.specs.Fresh.{Taken, numbers_after}
 use Rattle.shapes.specs.Rewriting.{rewritten_row, renamed}
 use Rattle.shapes.specs.split.Opening.{opened_tail, opened_row, with_rim, with_copies, both_lists, opened_along}
-use Rattle.split_opening_laws.specs.sections.InTurn.{AreFree}
+use Rattle.split_opening_laws.specs.Numbers.{AreFree}
 use Rattle.split_opening_laws.proofs.sections.Rims.{other_number, rim_below, rim_cases, rim_numbers}
 use Rattle.split_opening_laws.proofs.sections.Pairs.{renamed_one, renamed_not, in_numbers, numbers_in}
 

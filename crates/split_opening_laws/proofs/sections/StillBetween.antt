@@ -6,7 +6,7 @@ use Rattle.euler_operators.proofs.Lists.{count-append, IsIn_or_not}
 use Rattle.euler_operators.proofs.Maps.{from_map}
 use Rattle.euler_operators.specs.HalfEdge.{mate, edge_of}
 use Rattle.euler_operators.specs.Table as table
-use Rattle.euler_operators.specs.Model.{Model, loop_of, solid_of, no_face}
+use Rattle.euler_operators.specs.Model.{Model, tail, loop_of, solid_of, no_face}
 use Rattle.euler_operators.specs.Sound.{Sound, Has, HasHalf}
 use Rattle.euler_operators.proofs.Halves.{mate-mate}
 use Rattle.euler_operators.proofs.Models.{row_of, mate_there as half_mate}
@@ -18,8 +18,10 @@ use Rattle.euler_laws.proofs.shared.Listed.{first_listed, rest_listed, other_las
 use Rattle.shapes.specs.Fresh.{Taken, numbers_after}
 use Rattle.shapes.specs.split.Opening.{opened_along}
 use Rattle.split_opening_laws.specs.cycles.SectionCycles.{IsSectionCycle, AreApartCycles}
-use Rattle.split_opening_laws.specs.sections.InTurn.{AreFree, halves_in, AreBetween}
+use Rattle.split_opening_laws.specs.Numbers.{AreFree}
+use Rattle.split_opening_laws.specs.sections.InTurn.{halves_in, AreBetween}
 use Rattle.split_opening_laws.proofs.sections.OpenedRows.{face_still, solid_kept, face_kept, half_back}
+use Rattle.split_opening_laws.proofs.cycles.Meets.{apart_before}
 use Rattle.split_opening_laws.proofs.sections.CyclesStay.{no_mate, no_mates_mate, there_in, starts_elsewhere}
 use Rattle.split_opening_laws.proofs.sections.OpenedFaces.{upper_row, mate_face, minus_face, plus_face}
 
@@ -71,7 +73,7 @@ module _ (M : Model) (above : List ℕ) (s : ℕ) (c : Taken) (bs : List ℕ) (c
   ]
 
   mate_there : (a : ℕ) → IsIn a (map mate bs) → HasHalf M a
-  mate_there a i = let r = from_map mate a bs i in subst (HasHalf M) (sym r.2) (half_mate M r.0 (first.there r.0 r.1))
+  mate_there a i = let r = from_map mate a bs i in subst (HasHalf M) (sym r.2) (half_mate M r.0 (first.halves r.0 r.1).there)
 
   -- the cap below isn't an upper face
   below_unlisted : (b : ℕ) → IsIn b bs → lists (fs ++ u ∷ []) (c.face + 1) ≡ false
@@ -85,7 +87,7 @@ module _ (M : Model) (above : List ℕ) (s : ℕ) (c : Taken) (bs : List ℕ) (c
     not_new : IsIn (edge_of h) (numbers_after c.edge (length bs)) → ⊥
     not_new i = elim (halves_of_edge h) [
       | inl p ↦
-          let a = plus_face M above s c bs then_sound sound free first.apart mate_there (edge_of h) i in
+          let a = plus_face M above s c bs then_sound sound free (apart_before (tail M) bs first.starts_apart) mate_there (edge_of h) i in
           let r = from_map mate a.0 bs a.1 in
           true≢false (sym (ap (λ x. lists (fs ++ u ∷ []) (face_at N x)) p.0 ∙ ap (lists (fs ++ u ∷ [])) a.2 ∙ old_listed (face_at M a.0) (face_old a.0 (mate_there a.0 a.1))
           ∙ ap (λ x. lists fs (face_at M x)) r.2 ∙ between.mates_above r.0 (in_first r.0 r.1)) ∙ f)
@@ -97,7 +99,7 @@ module _ (M : Model) (above : List ℕ) (s : ℕ) (c : Taken) (bs : List ℕ) (c
     not_mate i =
         let r = from_map mate h bs i in
         true≢false (sym g ∙ ap (λ x. lists (fs ++ u ∷ []) (face_at N x)) (ap mate r.2 ∙ mate-mate r.0)
-        ∙ listed_same r.0 (first.there r.0 r.1) (half_no_mate r.0 r.1) ∙ between.below r.0 (in_first r.0 r.1))
+        ∙ listed_same r.0 (first.halves r.0 r.1).there (half_no_mate r.0 r.1) ∙ between.below r.0 (in_first r.0 r.1))
 
     -- and the mates lie in the cap below
     not_half : IsIn (mate h) (map mate bs) → ⊥

@@ -82,13 +82,13 @@ module _ (M : Model) (above : List ℕ) (s : ℕ) (c : Taken) (bs : List ℕ) (w
   half_in j lt = IsIn-get_or bs j 0 lt
 
   pub half_there : (j : ℕ) → j < length bs → HasHalf M (half_at j)
-  half_there j lt = w.there (half_at j) (half_in j lt)
+  half_there j lt = (w.cycle.halves (half_at j) (half_in j lt)).there
 
   pub mate_there : (j : ℕ) → j < length bs → HasHalf M (mate_at j)
   mate_there j lt = half_mate M (half_at j) (half_there j lt)
 
   pub low_edge : (h : ℕ) → HasHalf M h → edge_of h ≤ c.edge
-  low_edge h there = in_use_within M.edges c.edge w.edges_free (edge_of h) there
+  low_edge h there = in_use_within M.edges c.edge w.free.edges (edge_of h) there
 
   start_at : (j : ℕ) → j < length bs → get_or (map (tail M) bs) j 0 ≡ tail M (half_at j)
   start_at j lt = get_or-map (tail M) bs j 0 0 lt
@@ -98,8 +98,8 @@ module _ (M : Model) (above : List ℕ) (s : ℕ) (c : Taken) (bs : List ℕ) (w
   starts_differ i j li lj e = elim (order i j) [
     | inl p ↦ p
     | inr p ↦ elim p [
-      | inl l ↦ absurd (AllPairs-from_apart (map (tail M) bs) w.starts_apart i j 0 l (omega (arith, lj, length-map bs (tail M))) (start_at i li ∙ e ∙ sym (start_at j lj)))
-      | inr l ↦ absurd (AllPairs-from_apart (map (tail M) bs) w.starts_apart j i 0 l (omega (arith, li, length-map bs (tail M))) (start_at j lj ∙ sym e ∙ sym (start_at i li)))
+      | inl l ↦ absurd (AllPairs-from_apart (map (tail M) bs) w.cycle.starts_apart i j 0 l (omega (arith, lj, length-map bs (tail M))) (start_at i li ∙ e ∙ sym (start_at j lj)))
+      | inr l ↦ absurd (AllPairs-from_apart (map (tail M) bs) w.cycle.starts_apart j i 0 l (omega (arith, li, length-map bs (tail M))) (start_at j lj ∙ sym e ∙ sym (start_at i li)))
     ]
   ] where
     order : (a b : ℕ) → (a ≡ b) ⊎ ((a < b) ⊎ (b < a))
@@ -111,27 +111,9 @@ module _ (M : Model) (above : List ℕ) (s : ℕ) (c : Taken) (bs : List ℕ) (w
   pub mates_differ : (i j : ℕ) → i < length bs → j < length bs → mate_at i ≡ mate_at j → i ≡ j
   mates_differ i j li lj e = halves_differ i j li lj (sym (mate-mate (half_at i)) ∙ ap mate e ∙ mate-mate (half_at j))
 
-  -- a cycle has two places at least
-  pub two_halves : 2 ≤ length bs
-  two_halves = elim (sizes (length bs)) [
-    | inl z ↦ absurd (w.some_half (empty bs z))
-    | inr p ↦ elim p [
-      | inl o ↦
-          let at : next_place (length bs) 0 ≡ 0 = ap (λ n. next_place n 0) o in
-          absurd (w.sound.ends_differ (half_at 0) (half_there 0 (omega (arith, o))) (ap (λ n. tail M (get_or bs n 0)) (sym at) ∙ w.meet 0 (omega (arith, o))))
-      | inr t ↦ t
-    ]
-  ] where
-    sizes : (n : ℕ) → (n ≡ 0) ⊎ ((n ≡ 1) ⊎ (2 ≤ n))
-    sizes n = grind arith
-
-    empty : (xs : List ℕ) → length xs ≡ 0 → xs ≡ []
-    empty [] e = refl
-    empty (x ∷ xs) e = absurd (omega (arith, e))
-
   -- a mate starts where the half at the next place does
   pub mate_start : (j : ℕ) → j < length bs → tail M (mate_at j) ≡ tail M (half_at (next_place (length bs) j))
-  mate_start j lt = sym (w.meet j lt)
+  mate_start j lt = sym (w.cycle.meet j lt)
 
   -- what is listed as a mate is the mate at a place
   pub mate_place : (h : ℕ) → lists (map mate bs) h ≡ true → (j : ℕ) × (j < length bs) × (h ≡ mate_at j)
@@ -160,17 +142,17 @@ module _ (M : Model) (above : List ℕ) (s : ℕ) (c : Taken) (bs : List ℕ) (w
   pub half_no_mate : (j : ℕ) → j < length bs → lists (map mate bs) (half_at j) ≡ false
   half_no_mate j lt = elim (lists (map mate bs) (half_at j)) as (λ b. lists (map mate bs) (half_at j) ≡ b → b ≡ false) [
     | true ↦ λ e. let p = mate_place (half_at j) e in
-        absurd (true≢false (sym (w.mates_above (half_at p.0) (half_in p.0 p.1)) ∙ ap (λ h. lists above (face_at M h)) (sym p.2) ∙ w.below (half_at j) (half_in j lt)))
+        absurd (true≢false (sym (w.cycle.halves (half_at p.0) (half_in p.0 p.1)).mate_above ∙ ap (λ h. lists above (face_at M h)) (sym p.2) ∙ (w.cycle.halves (half_at j) (half_in j lt)).below))
     | false ↦ λ e. refl
   ] refl
 
   -- a number above the faces taken is none of a face above
   pub fresh_face : (f : ℕ) → c.face < f → lists above f ≡ false
   fresh_face f lt = elim (lists above f) as (λ b. lists above f ≡ b → b ≡ false) [
-    | true ↦ λ e. absurd (true≢false (sym (w.above_there f e) ∙ ap is_some (w.faces_free f lt)))
+    | true ↦ λ e. absurd (true≢false (sym (w.above_there f e) ∙ ap is_some (w.free.faces f lt)))
     | false ↦ λ e. refl
   ] refl
 
   -- a vertex isn't above those taken
   pub low_vertex : (h : ℕ) → HasHalf M h → tail M h ≤ c.vertex
-  low_vertex h there = in_use_within M.vertices c.vertex w.vertices_free (tail M h) (w.sound.tails_there h there)
+  low_vertex h there = in_use_within M.vertices c.vertex w.free.vertices (tail M h) (w.sound.tails_there h there)

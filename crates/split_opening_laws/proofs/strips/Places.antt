@@ -83,7 +83,7 @@ module _ (M : Model) (above : List ℕ) (s : ℕ) (c : Taken) (bs : List ℕ) (w
     rewrite = rewritten_row (map (renamed (put_out c bs i)))
 
     pub low_loop : (q : ℕ) → Has M.loops q → q ≤ c.loop
-    low_loop q there = in_use_within M.loops c.loop w.loops_free q there
+    low_loop q there = in_use_within M.loops c.loop w.free.loops q there
 
     -- the loops that were there
     pub old_loop : (q : ℕ) (x : LoopRow) → table.get M.loops q ≡ Some x → table.get N.loops q ≡ Some (rewritten_row (map (renamed (put_out c bs i))) q x)

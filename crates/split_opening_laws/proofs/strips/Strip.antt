@@ -72,7 +72,7 @@ module _ (M : Model) (above : List ℕ) (s : ℕ) (c : Taken) (bs : List ℕ) (w
     pub cut_solid : (f : ℕ) → Has M.faces f → solid_of (strips_cut M s c bs i) f ≡ solid_of M f
     unfolding solid_of
     cut_solid f there = ap (λ t. (unwrap_or (table.get t f) no_face).solid) cut_faces
-        ∙ ap (λ o. (unwrap_or o no_face).solid) (rows_low M.faces c.face (strip_face s c) i f (in_use_within M.faces c.face w.faces_free f there))
+        ∙ ap (λ o. (unwrap_or o no_face).solid) (rows_low M.faces c.face (strip_face s c) i f (in_use_within M.faces c.face w.free.faces f there))
 
   -- ---- one strip more
 
@@ -114,14 +114,14 @@ module _ (M : Model) (above : List ℕ) (s : ℕ) (c : Taken) (bs : List ℕ) (w
     ends_apart q = sound.ends_differ a a_there (q ∙ sound.ends_meet a a_there)
 
     edge_free : table.get N.edges (edge_of (plus e)) ≡ None
-    edge_free = ap (table.get N.edges) (edge_plus e) ∙ ap (λ t. table.get t e) (cut_edges i) ∙ rows_high M.edges c.edge (strip_edge M bs) i e (omega arith) ∙ w.edges_free e (omega arith)
+    edge_free = ap (table.get N.edges) (edge_plus e) ∙ ap (λ t. table.get t e) (cut_edges i) ∙ rows_high M.edges c.edge (strip_edge M bs) i e (omega arith) ∙ w.free.edges e (omega arith)
 
     face_free : table.get N.faces f ≡ None
-    face_free = ap (λ t. table.get t f) (cut_faces i) ∙ rows_high M.faces c.face (strip_face s c) i f (omega arith) ∙ w.faces_free f (omega arith)
+    face_free = ap (λ t. table.get t f) (cut_faces i) ∙ rows_high M.faces c.face (strip_face s c) i f (omega arith) ∙ w.free.faces f (omega arith)
 
     loop_free : table.get N.loops l ≡ None
     loop_free = ap (λ t. table.get t l) (cut_loops i) ∙ rows_high (table.map_rows (rewritten_row (map (renamed (put_out c bs i)))) M.loops) c.loop (strip_row c bs) i l (omega arith)
-        ∙ table.get-map_rows (rewritten_row (map (renamed (put_out c bs i)))) M.loops l ∙ ap (option_map (rewritten_row (map (renamed (put_out c bs i))) l)) (w.loops_free l (omega arith))
+        ∙ table.get-map_rows (rewritten_row (map (renamed (put_out c bs i)))) M.loops l ∙ ap (option_map (rewritten_row (map (renamed (put_out c bs i))) l)) (w.free.loops l (omega arith))
 
     goes : MefGoes N a k (plus e) f l
     goes = record {
@@ -132,9 +132,9 @@ module _ (M : Model) (above : List ℕ) (s : ℕ) (c : Taken) (bs : List ℕ) (w
       loop_free = loop_free;
       one_loop = loop_after N sound a a_there;
       ends_apart = ends_apart;
-      edge_fits = ap is_number (edge_plus e) ∙ fits e (omega arith) (omega (arith, w.edges_left, lt));
-      face_fits = fits f (omega arith) (omega (arith, w.faces_left, lt));
-      loop_fits = fits l (omega arith) (omega (arith, w.loops_left, lt));
+      edge_fits = ap is_number (edge_plus e) ∙ fits e (omega arith) (omega (arith, w.left.edges, lt));
+      face_fits = fits f (omega arith) (omega (arith, w.left.faces, lt));
+      loop_fits = fits l (omega arith) (omega (arith, w.left.loops, lt));
     }
 
     pub strip_accepted : first_false N (cut_strip N c bs i) ≡ None
@@ -213,7 +213,7 @@ module _ (M : Model) (above : List ℕ) (s : ℕ) (c : Taken) (bs : List ℕ) (w
     solid_is =
         let there : Has M.faces (face_at M a) = w.sound.loops_of_faces (loop_of M a) (ap is_some (row_of M w.sound a a_old)) in
         ap (solid_of N) place.1 ∙ cut_solid i (face_at M a) there
-        ∙ sym (w.sound.one_solid (get_or bs i 0) (on.half_there M above s c bs w i lt)) ∙ w.of_solid (get_or bs i 0) (on.half_in M above s c bs w i lt)
+        ∙ sym (w.sound.one_solid (get_or bs i 0) (on.half_there M above s c bs w i lt)) ∙ (w.cycle.halves (get_or bs i 0) (on.half_in M above s c bs w i lt)).of_solid
 
     mef_is : mef N a k (plus e) f l ≡ strips_cut M s c bs (suc i)
     unfolding mef strips_cut

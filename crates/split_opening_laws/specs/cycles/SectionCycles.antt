@@ -25,17 +25,11 @@ IsUnbranched M bs = least_branched M (section_ends M bs) ≡ 0
 
 -- some below halves that lead once round: each ends where the next one starts, and the last where the first does
 pub record IsSectionCycle (M : Model) (above : List ℕ) (s : ℕ) (bs : List ℕ) : Type 0 where
-  pub some_half : bs ≢ []
   pub two_halves : 2 ≤ length bs
-  pub apart : IsApart bs
-  pub there : (b : ℕ) → IsIn b bs → HasHalf M b
+  pub halves : (b : ℕ) → IsIn b bs → IsBelowHalf M above s b
   pub meet : (i : ℕ) → i < length bs → tail M (get_or bs (next_place (length bs) i) 0) ≡ tail M (mate (get_or bs i 0))
   -- no two start at one vertex
   pub starts_apart : IsApart (map (tail M) bs)
-  -- each lies in a face of s that isn't above, and its mate in one that is
-  pub below : (b : ℕ) → IsIn b bs → lists above (face_at M b) ≡ false
-  pub mates_above : (b : ℕ) → IsIn b bs → lists above (face_at M (mate b)) ≡ true
-  pub of_solid : (b : ℕ) → IsIn b bs → solid_of M (face_at M b) ≡ s
   -- at a vertex of the cycle no other edge lies between a face above and one that isn't
   pub no_branch : (h b : ℕ) → HasHalf M h → IsIn b bs → tail M h ≡ tail M b → lists above (face_at M h) ≢ lists above (face_at M (mate h)) → IsIn h bs ⊎ IsIn (mate h) bs
 

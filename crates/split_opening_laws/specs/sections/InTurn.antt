@@ -1,28 +1,13 @@
 -- Solids that are opened along the cycles of a section, one after the other.
-use Rattle.std.specs.Prelude.{◌≡◌, ℕ, ◌+◌, ◌*◌, ◌≤◌, ◌<◌, true, false, List, ◌++◌, map, flat_map, length, None}
+use Rattle.std.specs.Prelude.{◌≡◌, ℕ, true, false, List, ◌++◌, map, flat_map, length}
 use Rattle.euler_operators.specs.Items.{IsIn}
 use Rattle.euler_operators.specs.HalfEdge.{mate}
-use Rattle.euler_operators.specs.Table as table
 use Rattle.euler_operators.specs.Model.{Model, solid_of}
 use Rattle.euler_operators.specs.Sound.{Sound, Has, HasHalf}
 use Rattle.euler_operators.specs.Conditions.{face_at, lists}
-use Rattle.shapes.specs.Fresh.{Taken}
 use Rattle.shapes.specs.split.Opening.{Caps, Opening}
+use Rattle.split_opening_laws.specs.Numbers.{AreFree, AreLeft}
 use Rattle.split_opening_laws.specs.cycles.SectionCycles.{AreApartCycles}
-
--- the numbers above those taken are free
-pub record AreFree (M : Model) (c : Taken) : Type 0 where
-  pub faces : (q : ℕ) → c.face < q → table.get M.faces q ≡ None
-  pub loops : (q : ℕ) → c.loop < q → table.get M.loops q ≡ None
-  pub edges : (q : ℕ) → c.edge < q → table.get M.edges q ≡ None
-  pub vertices : (q : ℕ) → c.vertex < q → table.get M.vertices q ≡ None
-
--- enough numbers are left for cycles of n halves in all: a face and a loop for each half and each cycle, two edges and a vertex for each half
-pub record AreLeft (c : Taken) (n cycles : ℕ) : Type 0 where
-  pub faces : c.face + (n + cycles) ≤ 1000000
-  pub loops : c.loop + (n + cycles) ≤ 1000000
-  pub edges : c.edge + 2 * n ≤ 1000000
-  pub vertices : c.vertex + n ≤ 1000000
 
 -- the halves of some cycles, one cycle after the other
 abbrev pub halves_in : List (List ℕ) → List ℕ

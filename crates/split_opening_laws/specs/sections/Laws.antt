@@ -9,7 +9,8 @@ use Rattle.shapes.specs.split.Section.{below_halves, section_cycles}
 use Rattle.shapes.specs.split.Opening.{opened_along, Opening, next_opened, all_opened}
 use Rattle.split_opening_laws.specs.cycles.SectionCycles.{AreOf, IsUnbranched, AreApartCycles}
 use Rattle.split_opening_laws.specs.sections.Capped.{HasCaps}
-use Rattle.split_opening_laws.specs.sections.InTurn.{AreFree, AreLeft, upper_faces, CanBeOpenedInTurn}
+use Rattle.split_opening_laws.specs.Numbers.{AreFree, AreLeft}
+use Rattle.split_opening_laws.specs.sections.InTurn.{upper_faces, CanBeOpenedInTurn}
 
 -- once the solid is opened along one of some cycles, the others are still such cycles
 abbrev pub CyclesStay : Type 0

@@ -4,7 +4,7 @@ use Rattle.std.proofs.lemmas.Bool.{eqb-true}
 use Rattle.std.specs.Prelude.{filter, unwrap_or}
 use Rattle.euler_operators.specs.declared.Plane.{Plane}
 use Rattle.euler_operators.specs.Items.{least}
-use Rattle.euler_operators.specs.Model.{Model, solid_of, faces_of, no_face}
+use Rattle.euler_operators.specs.Model.{Model, tail, solid_of, faces_of, no_face}
 use Rattle.euler_operators.specs.Sound.{Sound}
 use Rattle.euler_operators.specs.Conditions.{strictly_rises}
 use Rattle.euler_operators.proofs.Members.{count-filter}
@@ -15,6 +15,7 @@ use Rattle.split_opening_laws.specs.cycles.SectionCycles.{AreOf, IsUnbranched, A
 use Rattle.split_opening_laws.proofs.cycles.RisingLists.{filter_rises}
 use Rattle.split_opening_laws.proofs.cycles.BelowHalves.{halves_apart, halves_are}
 use Rattle.split_opening_laws.proofs.cycles.Cycles.{cycles_lead_round}
+use Rattle.split_opening_laws.proofs.cycles.Meets.{apart_before}
 use Rattle.split_sections.specs.section_cycles.Halves.{AreThere}
 use Rattle.split_sections.specs.section_checks.Cycles.{AreCycles}
 use Rattle.euler_laws.proofs.shared.Counted.{all_where_has}
@@ -56,7 +57,7 @@ module _ (M : Model) (sound : Sound M) (above : List ℕ) (s : ℕ) (faces : Are
     are_cycles = go (section_cycles M (below_halves M above s)) (cycles_lead_round M above s sound faces unbranched) where
       go : (cs : List (List ℕ)) → AreSectionCycles M above s cs → AreCycles M cs
       go [] a = tt
-      go (c ∷ cs) a = ((a.0.there, a.0.apart), go cs a.1)
+      go (c ∷ cs) a = ((λ b i. (a.0.halves b i).there, apart_before (tail M) c a.0.starts_apart), go cs a.1)
 
   pub few_cycles : length (section_cycles M (below_halves M above s)) ≤ 2000002
   unfolding section_cycles
