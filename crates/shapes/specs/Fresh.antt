@@ -26,13 +26,20 @@ pub record Taken : Type 0 where
 unfoldable pub taken_in : Model → Taken
 taken_in M = record { face = table.greatest M.faces; loop = table.greatest M.loops; edge = table.greatest M.edges; vertex = table.greatest M.vertices }
 
--- so many more faces, loops, edges and vertices stay within the limit
-abbrev pub numbers_left : Taken → ℕ → ℕ → ℕ → ℕ → List Condition
-numbers_left c f l e v =
-    need (nat_le (c.face + f) 1000000) NumbersSpent 2
-    ∷ need (nat_le (c.loop + l) 1000000) NumbersSpent 3
-    ∷ need (nat_le (c.edge + e) 1000000) NumbersSpent 4
-    ∷ need (nat_le (c.vertex + v) 1000000) NumbersSpent 5
+-- how many numbers of each kind a command needs
+pub record Needed : Type 0 where
+  pub faces : ℕ
+  pub loops : ℕ
+  pub edges : ℕ
+  pub vertices : ℕ
+
+-- with so many more, numbers stay within the limit
+abbrev pub numbers_left : Taken → Needed → List Condition
+numbers_left c n =
+    need (nat_le (c.face + n.faces) 1000000) NumbersSpent 2
+    ∷ need (nat_le (c.loop + n.loops) 1000000) NumbersSpent 3
+    ∷ need (nat_le (c.edge + n.edges) 1000000) NumbersSpent 4
+    ∷ need (nat_le (c.vertex + n.vertices) 1000000) NumbersSpent 5
     ∷ []
 
 -- a model in the making, and the numbers taken so far

@@ -31,7 +31,7 @@ lamina_conditions M s ps =
     ∷ need (nat_le 3 (length ps)) FewPoints (length ps)
     ∷ no_such (first_far 0 ps) PointRange
     ∷ no_such (first_repeated [] 0 ps) RepeatedPoint
-    ∷ numbers_left (taken_in M) 2 2 (length ps) (length ps)
+    ∷ numbers_left (taken_in M) (record { faces = 2; loops = 2; edges = length ps; vertices = length ps })
 
 -- the refusal of the first false condition, if one is false
 abbrev pub lamina_refusal : Model → ℕ → List Point → Option Refusal

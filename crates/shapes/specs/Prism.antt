@@ -21,7 +21,7 @@ prism_conditions M f d = let n = length (corners M f) in
     ∷ never (same_point d origin) ZeroSweep f
     ∷ no_such (least_lone M (f ∷ [])) LoneLoop
     ∷ no_such (first_such (λ v. not (is_in_range (moved (point_of M v) d))) (corners M f)) PointRange
-    ∷ numbers_left (taken_in M) n n (2 * n) n
+    ∷ numbers_left (taken_in M) (record { faces = n; loops = n; edges = 2 * n; vertices = n })
 
 abbrev pub prism_refusal : Model → ℕ → Point → Option Refusal
 prism_refusal M f d = first_refusal (prism_conditions M f d)

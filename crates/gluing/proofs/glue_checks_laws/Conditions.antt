@@ -67,8 +67,11 @@ module _ (M : Model) (sound : Sound M) where
 
 -- the conditions of a glue, one part after the other
 module _ (M : Model) (f g : ℕ) where
+  abbrev numbers : List Condition
+  numbers = numbers_left (taken_in M) (record { faces = 0; loops = 0; edges = 1; vertices = 0 })
+
   abbrev later : List Condition
-  later = outline_conditions M f g ++ numbers_left (taken_in M) 0 0 1 0
+  later = outline_conditions M f g ++ numbers
 
   grouped : glue_conditions M f g ≡ face_conditions M f g ++ (solid_conditions M (solid_of M f) (solid_of M g) ++ later)
   unfolding glue_conditions
@@ -95,10 +98,10 @@ module _ (M : Model) (f g : ℕ) where
       after_solids = sym (refusal_parts (solid_conditions M (solid_of M f) (solid_of M g)) later solids) ∙ after_faces
 
       pub outlines_failed : (v : Result (Unit {0}) Refusal) → v ≡ verdict (first_refusal (outline_conditions M f g)) → is_err v ≡ true → v ≡ verdict (first_refusal (glue_conditions M f g))
-      outlines_failed v is e = first_failed (outline_conditions M f g) (numbers_left (taken_in M) 0 0 1 0) v is e ∙ ap verdict after_solids
+      outlines_failed v is e = first_failed (outline_conditions M f g) numbers v is e ∙ ap verdict after_solids
 
-      pub numbers_decide : first_refusal (outline_conditions M f g) ≡ None → first_refusal (numbers_left (taken_in M) 0 0 1 0) ≡ first_refusal (glue_conditions M f g)
-      numbers_decide outlines = sym (refusal_parts (outline_conditions M f g) (numbers_left (taken_in M) 0 0 1 0) outlines) ∙ after_solids
+      pub numbers_decide : first_refusal (outline_conditions M f g) ≡ None → first_refusal numbers ≡ first_refusal (glue_conditions M f g)
+      numbers_decide outlines = sym (refusal_parts (outline_conditions M f g) numbers outlines) ∙ after_solids
 
       none_lone : least_lone M (faces_of_both M (solid_of M f) (solid_of M g)) ≡ 0
       none_lone = zero_first (least_lone M (faces_of_both M (solid_of M f) (solid_of M g))) (no_such (first_such (λ k. not (is_flat M k)) (faces_of_both M (solid_of M f) (solid_of M g))) NotFlat ∷ []) solids where

@@ -63,7 +63,7 @@ pub record Left (c : Taken) (f l e v : ℕ) : Type 0 where
 fitting : (a n : ℕ) → a ≤ n → nat_le a n ≡ true
 fitting a n e = grind (arith, nat_tests)
 
-pub numbers_are_left : (c : Taken) (f l e v : ℕ) → AllHold (numbers_left c f l e v) → Left c f l e v
+pub numbers_are_left : (c : Taken) (f l e v : ℕ) → AllHold (numbers_left c (record { faces = f; loops = l; edges = e; vertices = v })) → Left c f l e v
 numbers_are_left c f l e v h = record {
   faces = leb-true (c.face + f) 1000000 h.0;
   loops = leb-true (c.loop + l) 1000000 h.1.0;
@@ -71,7 +71,7 @@ numbers_are_left c f l e v h = record {
   vertices = leb-true (c.vertex + v) 1000000 h.1.1.1.0;
 }
 
-pub left_numbers_hold : (c : Taken) (f l e v : ℕ) → Left c f l e v → AllHold (numbers_left c f l e v)
+pub left_numbers_hold : (c : Taken) (f l e v : ℕ) → Left c f l e v → AllHold (numbers_left c (record { faces = f; loops = l; edges = e; vertices = v }))
 left_numbers_hold c f l e v h = (fitting _ _ h.faces, (fitting _ _ h.loops, (fitting _ _ h.edges, (fitting _ _ h.vertices, tt))))
 
 -- a number above 0 and within the limit

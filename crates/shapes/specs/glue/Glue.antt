@@ -54,7 +54,7 @@ glue_conditions M f g = let s = solid_of M f in let t = solid_of M g in
     ∷ never (has_repeats (outline M f)) RepeatedPoint f
     ∷ never (has_repeats (outline M g)) RepeatedPoint g
     ∷ need (is_rotation (outline M f) (reverse (outline M g))) NoMatch g
-    ∷ numbers_left (taken_in M) 0 0 1 0
+    ∷ numbers_left (taken_in M) (record { faces = 0; loops = 0; edges = 1; vertices = 0 })
 
 -- the refusal of the first false condition, if one is false
 abbrev pub glue_refusal : Model → ℕ → ℕ → Option Refusal

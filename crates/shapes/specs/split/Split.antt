@@ -32,12 +32,12 @@ plane_in_range p =
 
 -- what is asked of the edges that cross the plane, of the faces that straddle it, and of the numbers that cutting them takes
 abbrev pub cut_conditions : Model → Plane → List ℕ → List ℕ → List Condition
-cut_conditions M p es fs =
+cut_conditions M p es fs = let n = pair_count M p fs in
     no_such (first_such (λ e. not (cuts_lattice p (start M (plus e)) (finish M (plus e)))) es) NotLattice
     ∷ no_such (first_such (is_touched M p) fs) TouchedFace
     ∷ no_such (first_such (is_cut_often M p) fs) CutOften
     ∷ no_such (first_such (is_crossed M p) fs) CutCrossed
-    ∷ numbers_left (taken_in M) (pair_count M p fs) (pair_count M p fs) (length es + pair_count M p fs) (length es)
+    ∷ numbers_left (taken_in M) (record { faces = n; loops = n; edges = length es + n; vertices = length es })
 
 -- the conditions that are tested before anything is changed
 unfoldable pub first_conditions : Model → ℕ → Plane → ℕ → List Condition
@@ -55,7 +55,7 @@ first_conditions M s p t =
 abbrev pub cycle_conditions : Model → ℕ → Plane → Taken → ℕ → List (List ℕ) → List Condition
 cycle_conditions M s p c n cs =
     never (has_stray_hole M p cs) SectionHoles s
-    ∷ numbers_left c (n + length cs) (n + length cs) (2 * n) n
+    ∷ numbers_left c (record { faces = n + length cs; loops = n + length cs; edges = 2 * n; vertices = n })
 
 unfoldable pub section_conditions : Model → ℕ → Plane → Taken → List ℕ → List Condition
 section_conditions M s p c bs =

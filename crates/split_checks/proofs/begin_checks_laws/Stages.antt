@@ -56,7 +56,7 @@ capped a n = grind (arith, nat_tests)
 both_capped : (a m n : ℕ) → nat_le (a + (min m 1000001 + min n 1000001)) 1000000 ≡ nat_le (a + (m + n)) 1000000
 both_capped a m n = grind (arith, nat_tests)
 
-numbers_capped : (c : Taken) (m n : ℕ) → first_refusal (numbers_left c (min n 1000001) (min n 1000001) (min m 1000001 + min n 1000001) (min m 1000001)) ≡ first_refusal (numbers_left c n n (m + n) m)
+numbers_capped : (c : Taken) (m n : ℕ) → first_refusal (numbers_left c (record { faces = min n 1000001; loops = min n 1000001; edges = min m 1000001 + min n 1000001; vertices = min m 1000001 })) ≡ first_refusal (numbers_left c (record { faces = n; loops = n; edges = m + n; vertices = m }))
 numbers_capped c m n = λ i. first_refusal (need (capped c.face n i) NumbersSpent 2 ∷ need (capped c.loop n i) NumbersSpent 3 ∷ need (both_capped c.edge m n i) NumbersSpent 4 ∷ need (capped c.vertex m i) NumbersSpent 5 ∷ [])
 
 -- ---- the section
@@ -69,7 +69,7 @@ module _ (M : Model) (s : ℕ) (p : Plane) where
   fs = straddling_faces M p s
 
   abbrev numbers : List Condition
-  numbers = numbers_left (taken_in M) (pair_count M p fs) (pair_count M p fs) (length es + pair_count M p fs) (length es)
+  numbers = numbers_left (taken_in M) (record { faces = pair_count M p fs; loops = pair_count M p fs; edges = length es + pair_count M p fs; vertices = length es })
 
   module _ (met : list_any (reaches_above M p) (faces_of M s) && list_any (reaches_below M p) (faces_of M s) ≡ true) where
     after_side : first_refusal (sectioning_conditions M s p) ≡ first_refusal (edge_conditions M p es ++ (face_conditions M p fs ++ numbers))
@@ -93,9 +93,9 @@ module _ (M : Model) (s : ℕ) (p : Plane) where
         faces_failed e = first_failed (face_conditions M p fs) numbers v cut e ∙ ap verdict (sym after_edges)
 
         pub numbers_decide : is_err v ≡ false → (m n : ℕ) → m ≡ min (length es) 1000001 → n ≡ min (pair_count M p fs) 1000001
-            → verdict (first_refusal (numbers_left (taken_in M) n n (m + n) m)) ≡ verdict (first_refusal (sectioning_conditions M s p))
+            → verdict (first_refusal (numbers_left (taken_in M) (record { faces = n; loops = n; edges = m + n; vertices = m }))) ≡ verdict (first_refusal (sectioning_conditions M s p))
         numbers_decide e m n is_m is_n =
-            ap verdict ((λ i. first_refusal (numbers_left (taken_in M) (is_n i) (is_n i) (is_m i + is_n i) (is_m i))) ∙ numbers_capped (taken_in M) (length es) (pair_count M p fs)
+            ap verdict ((λ i. first_refusal (numbers_left (taken_in M) (record { faces = is_n i; loops = is_n i; edges = is_m i + is_n i; vertices = is_m i }))) ∙ numbers_capped (taken_in M) (length es) (pair_count M p fs)
             ∙ sym (first_refusal-append (face_conditions M p fs) numbers (all_passed (face_conditions M p fs) v cut e)) ∙ sym after_edges)
 
 -- ---- the whole

@@ -71,8 +71,8 @@ module _ (M : Model) (sound : Sound M) (above : List ℕ) (s : ℕ) (faces : Are
         stray_now c t = stray M s p c (below_halves M above s) unbranched (sym stray_told ∙ t)
 
         pub numbers_now : (c : Taken) → has_stray told ≡ false → (m n : ℕ) → m ≡ length hs → n ≡ length told
-            → first_refusal (section_conditions M s p c (below_halves M above s)) ≡ first_refusal (numbers_left c (m + n) (m + n) (2 * m) m)
+            → first_refusal (section_conditions M s p c (below_halves M above s)) ≡ first_refusal (numbers_left c (record { faces = m + n; loops = m + n; edges = 2 * m; vertices = m }))
         numbers_now c t m n em en =
             let long : length (below_halves M above s) ≡ m = sym (em ∙ sym (length-map hs code) ∙ ap (λ (bs : List ℕ). length bs) e) in
             let many : length (section_cycles M (below_halves M above s)) ≡ n = sym (en ∙ as_long) in
-            to_numbers M s p c (below_halves M above s) unbranched (sym stray_told ∙ t) ∙ (λ i. first_refusal (numbers_left c (long i + many i) (long i + many i) (2 * long i) (long i)))
+            to_numbers M s p c (below_halves M above s) unbranched (sym stray_told ∙ t) ∙ (λ i. first_refusal (numbers_left c (record { faces = long i + many i; loops = long i + many i; edges = 2 * long i; vertices = long i })))

@@ -22,7 +22,7 @@ found_none n e = go (nat_eq n 0) refl e where
 
 module _ (M : Model) (s : ℕ) (p : Plane) (c : Taken) (bs : List ℕ) where
   abbrev numbers : Option Refusal
-  numbers = first_refusal (numbers_left c (length bs + length (section_cycles M bs)) (length bs + length (section_cycles M bs)) (2 * length bs) (length bs))
+  numbers = first_refusal (numbers_left c (record { faces = length bs + length (section_cycles M bs); loops = length bs + length (section_cycles M bs); edges = 2 * length bs; vertices = length bs }))
 
   abbrev cycles : Option Refusal
   cycles = cond (not (has_stray_hole M p (section_cycles M bs))) numbers (Some (record { why = SectionHoles; number = s }))
@@ -43,7 +43,7 @@ module _ (M : Model) (s : ℕ) (p : Plane) (c : Taken) (bs : List ℕ) where
     pub stray : has_stray_hole M p (section_cycles M bs) ≡ true → first_refusal (section_conditions M s p c bs) ≡ Some (record { why = SectionHoles; number = s })
     stray e = to_cycles ∙ ap (λ b. cond (not b) numbers (Some (record { why = SectionHoles; number = s }))) e
 
-    pub to_numbers : has_stray_hole M p (section_cycles M bs) ≡ false → first_refusal (section_conditions M s p c bs) ≡ first_refusal (numbers_left c (length bs + length (section_cycles M bs)) (length bs + length (section_cycles M bs)) (2 * length bs) (length bs))
+    pub to_numbers : has_stray_hole M p (section_cycles M bs) ≡ false → first_refusal (section_conditions M s p c bs) ≡ numbers
     to_numbers e = to_cycles ∙ ap (λ b. cond (not b) numbers (Some (record { why = SectionHoles; number = s }))) e
 
 module _ (s : ℕ) (p : Plane) (d : Drawing) where

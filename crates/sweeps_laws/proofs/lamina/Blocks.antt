@@ -295,7 +295,7 @@ module _ (M : Model) (sound : Sound M) (c : Taken) (is : c ≡ taken_in M) (s : 
       ∷ never (same_point d origin) ZeroSweep (c.face + 1)
       ∷ no_such (least_lone base ((c.face + 1) ∷ [])) LoneLoop
       ∷ no_such (first_such (λ v. not (is_in_range (moved (point_of base v) d))) vs) PointRange
-      ∷ numbers_left (taken_in base) (length vs) (length vs) (2 * length vs) (length vs)
+      ∷ numbers_left (taken_in base) (record { faces = length vs; loops = length vs; edges = 2 * length vs; vertices = length vs })
 
   all_in_range : (d : Point) → is_in_range (moved a d) ≡ true → is_in_range (moved b d) ≡ true → is_in_range (moved g d) ≡ true → is_in_range (moved h d) ≡ true →
       first_such (λ v. not (is_in_range (moved (point_of base v) d))) base_vertices ≡ 0
