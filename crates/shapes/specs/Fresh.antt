@@ -1,19 +1,23 @@
 -- The numbers that a larger command takes, and its refusals by search.
-use Rattle.std.specs.Prelude.{◌≡◌, ℕ, ◌+◌, zero, suc, Bool, cond, nat_eq, nat_le, List, [], ◌∷◌}
+use Rattle.std.specs.Prelude.{ℕ, ◌+◌, zero, suc, Bool, cond, nat_eq, nat_le, List, [], ◌∷◌, Option, Some, None, is_some, unwrap_or}
 use Rattle.euler_operators.specs.Table as table
 use Rattle.euler_operators.specs.Model.{Model}
-use Rattle.euler_operators.specs.Conditions.{Condition, need}
+use Rattle.euler_operators.specs.Conditions.{Condition, need, never}
 use Rattle.euler_operators.specs.declared.Why.{Why}
 use Rattle.euler_operators.specs.declared.Why.TheVariants.{NumbersSpent}
 
--- the first number that passes a test, or 0
-abbrev pub first_such : (ℕ → Bool) → List ℕ → ℕ
-first_such p [] = 0
-first_such p (n ∷ ns) = cond (p n) n (first_such p ns)
+-- the first number that passes a test, if one does
+abbrev pub first_such : (ℕ → Bool) → List ℕ → Option ℕ
+first_such p [] = None
+first_such p (n ∷ ns) = cond (p n) (Some n) (first_such p ns)
 
--- there is no such number: 0 stands for none
-abbrev pub no_such : ℕ → Why → Condition
-no_such n why = need (nat_eq n 0) why n
+-- what a search has found that answers 0 where it finds nothing
+abbrev pub found : ℕ → Option ℕ
+found n = cond (nat_eq n 0) None (Some n)
+
+-- there is no such number: one that there is, is refused
+abbrev pub no_such : Option ℕ → Why → Condition
+no_such o why = never (is_some o) why (unwrap_or o 0)
 
 -- the greatest numbers taken so far
 pub record Taken : Type 0 where

@@ -1,5 +1,5 @@
 -- Two solids glued together at a face of each.
-use Rattle.std.specs.Prelude.{ℕ, zero, suc, Bool, true, false, not, ◌&&◌, ◌||◌, nat_eq, List, [], ◌∷◌, ◌++◌, map, reverse, length, take, drop, Option}
+use Rattle.std.specs.Prelude.{ℕ, zero, suc, Bool, true, false, not, ◌&&◌, ◌||◌, nat_eq, List, [], ◌∷◌, ◌++◌, map, reverse, length, take, drop, Option, unwrap_or}
 use Rattle.std.specs.List.{list_any}
 use Rattle.euler_operators.specs.declared.Point.{Point}
 use Rattle.euler_operators.specs.Vectors.{same_point}
@@ -62,7 +62,7 @@ glue_refusal M f g = first_refusal (glue_conditions M f g)
 
 -- the half-edge among gs that starts where h ends
 abbrev pub partner : Model → List ℕ → ℕ → ℕ
-partner M gs h = first_such (λ g. same_point (start M g) (finish M h)) gs
+partner M gs h = unwrap_or (first_such (λ g. same_point (start M g) (finish M h)) gs) 0
 
 -- each item h of the first face with its partner g, which goes back along it: (h, g)
 abbrev pub partners : Model → List ℕ → List ℕ → List (ℕ × ℕ)

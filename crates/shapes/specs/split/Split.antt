@@ -12,7 +12,7 @@ use Rattle.euler_operators.specs.Effect.{part}
 use Rattle.euler_operators.specs.declared.Refusal.{Refusal}
 use Rattle.euler_operators.specs.declared.Why.TheVariants.{NoSolid, SolidTaken, PlaneRange, LoneLoop, NotFlat, PlaneMisses, NotLattice, TouchedFace, CutOften, CutCrossed, BranchedVertex, SectionHoles}
 use Rattle.shapes.specs.Faces.{least_lone, start, finish}
-use Rattle.shapes.specs.Fresh.{Taken, taken_in, numbers_left, no_such, first_such}
+use Rattle.shapes.specs.Fresh.{Taken, taken_in, numbers_left, no_such, first_such, found}
 use Rattle.shapes.specs.Measure.{is_flat}
 use Rattle.shapes.specs.split.Sides.{reaches_above, reaches_below, straddling_faces, crossing_edges, faces_above}
 use Rattle.shapes.specs.split.Places.{is_touched, is_cut_often, is_crossed, pair_count}
@@ -64,7 +64,7 @@ section_conditions M s p c bs =
 
 -- the conditions that are tested once the faces are drawn
 abbrev pub later_conditions : ℕ → Plane → Drawing → List Condition
-later_conditions s p d = no_such d.stuck CutCrossed ∷ section_conditions d.model s p d.taken (below_halves d.model (faces_above d.model p s) s)
+later_conditions s p d = no_such (found d.stuck) CutCrossed ∷ section_conditions d.model s p d.taken (below_halves d.model (faces_above d.model p s) s)
 
 unfoldable pub split_conditions : Model → ℕ → Plane → ℕ → List Condition
 split_conditions M s p t = first_conditions M s p t ++ later_conditions s p (with_drawings M s p)

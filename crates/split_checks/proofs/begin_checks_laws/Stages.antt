@@ -1,7 +1,7 @@
 -- The conditions with which a split begins, part by part.
 use Rattle.std.specs.Prelude.{min}
 use Rattle.std.specs.List.{list_any}
-use Rattle.std.proofs.Common.{◌≡◌, ℕ, ◌+◌, true, false, cond, ◌&&◌, nat_eq, nat_le, List, [], ◌∷◌, ◌++◌, length, Some, None, Result, Ok, Err, is_err, is_some, refl, sym, ap, ◌∙◌, arith, true≢false}
+use Rattle.std.proofs.Common.{◌≡◌, ℕ, ◌+◌, true, false, cond, ◌&&◌, nat_le, List, [], ◌∷◌, ◌++◌, length, Some, None, Result, Ok, Err, is_err, refl, sym, ap, ◌∙◌, arith, true≢false}
 use Rattle.std.proofs.lemmas.Bool.Decides.{nat_tests}
 use Rattle.euler_operators.specs.declared.Plane.{Plane}
 use Rattle.euler_operators.specs.Ranges.{IsCutPlane}
@@ -12,8 +12,7 @@ use Rattle.euler_operators.specs.declared.Why.TheVariants.{PlaneMisses, NotLatti
 use Rattle.euler_operators.specs.declared.Refusal.{Refusal}
 use Rattle.euler_laws.proofs.shared.Goes.{all_hold, verdict_passed, verdict_failed}
 use Rattle.shapes.proofs.fresh.Tests.{first_refusal-append, first_refusal-refused}
-use Rattle.shapes.specs.Fresh.{Taken, taken_in, numbers_left, first_such}
-use Rattle.solid_measure.specs.solid_checks.Least.{found}
+use Rattle.shapes.specs.Fresh.{Taken, taken_in, numbers_left, no_such, first_such}
 use Rattle.shapes.specs.split.Places.{pair_count}
 use Rattle.shapes.specs.split.Sides.{reaches_above, reaches_below, straddling_faces, crossing_edges}
 use Rattle.shapes.specs.split.Split.{plane_in_range, first_conditions}
@@ -31,22 +30,6 @@ first_failed xs ys (Err r) is e = ap verdict (sym (first_refusal-refused xs ys r
 pub all_passed : (xs : List Condition) (v : Verdict) → v ≡ verdict (first_refusal xs) → is_err v ≡ false → first_refusal xs ≡ None
 all_passed xs (Ok u) is e = verdict_passed (first_refusal xs) u is
 all_passed xs (Err r) is e = absurd (true≢false e)
-
--- what a search has found, and whether it has found anything
-pub found_number : (n e : ℕ) → Some e ≡ found n → (nat_eq n 0 ≡ false) × (n ≡ e)
-found_number n e f = elim (nat_eq n 0) as (λ b. Some e ≡ cond b None (Some n) → (b ≡ false) × (n ≡ e)) [
-  | true ↦ λ g. absurd (true≢false (ap is_some g))
-  | false ↦ λ g. (refl, cc)
-] f
-
-pub found_nothing : (n : ℕ) → None ≡ found n → nat_eq n 0 ≡ true
-found_nothing n f = elim (nat_eq n 0) as (λ b. None ≡ cond b None (Some n) → b ≡ true) [
-  | true ↦ λ g. refl
-  | false ↦ λ g. absurd (true≢false (sym (ap is_some g)))
-] f
-
-pub is_zero : (n : ℕ) → nat_eq n 0 ≡ true → n ≡ 0
-is_zero n e = grind (arith, nat_tests)
 
 -- ---- numbers that are left, told up to a limit
 
@@ -75,18 +58,12 @@ module _ (M : Model) (s : ℕ) (p : Plane) where
     after_side : first_refusal (sectioning_conditions M s p) ≡ first_refusal (edge_conditions M p es ++ (face_conditions M p fs ++ numbers))
     after_side = ap (λ b. cond b (first_refusal (edge_conditions M p es ++ (face_conditions M p fs ++ numbers))) (Some (record { why = PlaneMisses; number = s }))) met
 
-    pub edge_refused : (e : ℕ) → Some e ≡ found (first_such (is_off M p) es) → Err (record { why = NotLattice; number = e }) ≡ verdict (first_refusal (sectioning_conditions M s p))
-    edge_refused e f =
-        let n = found_number (first_such (is_off M p) es) e f in
-        sym (ap verdict (after_side ∙ ap (λ b. cond b (first_refusal (face_conditions M p fs ++ numbers)) (Some (record { why = NotLattice; number = first_such (is_off M p) es }))) n.0
-        ∙ ap (λ k. Some (record { why = NotLattice; number = k })) n.1))
+    pub edge_refused : (e : ℕ) → Some e ≡ first_such (is_off M p) es → Err (record { why = NotLattice; number = e }) ≡ verdict (first_refusal (sectioning_conditions M s p))
+    edge_refused e f = sym (ap verdict (after_side ∙ ap (λ o. first_refusal (no_such o NotLattice ∷ face_conditions M p fs ++ numbers)) (sym f)))
 
-    module _ (whole : None ≡ found (first_such (is_off M p) es)) where
-      pub none_off : first_such (is_off M p) es ≡ 0
-      none_off = is_zero (first_such (is_off M p) es) (found_nothing (first_such (is_off M p) es) whole)
-
+    module _ (whole : None ≡ first_such (is_off M p) es) where
       after_edges : first_refusal (sectioning_conditions M s p) ≡ first_refusal (face_conditions M p fs ++ numbers)
-      after_edges = after_side ∙ ap (λ b. cond b (first_refusal (face_conditions M p fs ++ numbers)) (Some (record { why = NotLattice; number = first_such (is_off M p) es }))) (found_nothing (first_such (is_off M p) es) whole)
+      after_edges = after_side ∙ ap (λ o. first_refusal (no_such o NotLattice ∷ face_conditions M p fs ++ numbers)) (sym whole)
 
       module _ (v : Verdict) (cut : v ≡ verdict (first_refusal (face_conditions M p fs))) where
         pub faces_failed : is_err v ≡ true → v ≡ verdict (first_refusal (sectioning_conditions M s p))
