@@ -1,6 +1,6 @@
 -- Before two faces are glued: the first item of the one, and the half-edge of the other that starts where it does. And what opens
 -- the seam.
-use Rattle.std.proofs.Common.{◌≡◌, ◌≢◌, ℕ, ◌≤◌, Bool, true, false, cond, List, [], ◌∷◌, ◌++◌, refl, sym, ap, ◌∙◌, subst, None}
+use Rattle.std.proofs.Common.{◌≡◌, ◌≢◌, ℕ, ◌≤◌, Bool, true, false, cond, List, [], ◌∷◌, ◌++◌, refl, sym, ap, ◌∙◌, subst, None, Some, unwrap_or}
 use Rattle.std.proofs.lemmas.Bool.{not-true}
 use Rattle.euler_operators.specs.declared.Point.{Point}
 use Rattle.euler_operators.specs.Vectors.{same_point}
@@ -28,9 +28,9 @@ use Rattle.gluing.specs.Rims.{item_at}
 use Rattle.gluing.proofs.Joined.{Joining}
 
 -- a number that a search finds passes its test
-such_passes : (test : ℕ → Bool) (ns : List ℕ) → first_such test ns ≢ 0 → test (first_such test ns) ≡ true
+such_passes : (test : ℕ → Bool) (ns : List ℕ) → unwrap_or (first_such test ns) 0 ≢ 0 → test (unwrap_or (first_such test ns) 0) ≡ true
 such_passes test [] some = absurd (some refl)
-such_passes test (n ∷ ns) some = elim (test n) as (λ b. test n ≡ b → cond b n (first_such test ns) ≢ 0 → test (cond b n (first_such test ns)) ≡ true) [
+such_passes test (n ∷ ns) some = elim (test n) as (λ b. test n ≡ b → unwrap_or (cond b (Some n) (first_such test ns)) 0 ≢ 0 → test (unwrap_or (cond b (Some n) (first_such test ns)) 0) ≡ true) [
   | true ↦ λ e _. e
   | false ↦ λ _ more. such_passes test ns more
 ] refl some

@@ -1,6 +1,6 @@
 -- What the conditions of a glue say, and the laws.
-use Rattle.std.proofs.Common.{◌≡◌, ◌≢◌, ℕ, ◌+ℤ◌, true, false, not, nat_eq, Bool, ◌&&◌, ◌||◌, List, [], ◌∷◌, reverse, None, is_some, refl, sym, ap, ◌∙◌, true≢false, ◌⊎◌, inl, inr}
-use Rattle.std.proofs.lemmas.Bool.{not-true, not-false, eq-eqb, eqb-true, eqb-false}
+use Rattle.std.proofs.Common.{◌≡◌, ◌≢◌, ℕ, ◌+ℤ◌, true, false, not, nat_eq, Bool, ◌&&◌, ◌||◌, List, [], ◌∷◌, reverse, None, is_some, unwrap_or, refl, sym, ap, ◌∙◌, true≢false, ◌⊎◌, inl, inr}
+use Rattle.std.proofs.lemmas.Bool.{not-true, not-false, eq-eqb, eqb-false}
 use Rattle.euler_operators.specs.Items.{IsIn}
 use Rattle.euler_operators.specs.Model.{Model, cycle, content, face_of, outer, solid_of, rings_of}
 use Rattle.euler_operators.specs.Sound.{Sound, Has}
@@ -10,6 +10,7 @@ use Rattle.euler_operators.specs.Conditions.{has_rings, is_empty, is_lone, lists
 use Rattle.euler_laws.proofs.shared.Goes.{all_hold, no_zero}
 use Rattle.euler_laws.proofs.shared.Listed.{listed_passes, passes_listed, IsIn-from_listed, listed-from_in}
 use Rattle.euler_laws.proofs.shared.Rows.{loop_row, face_there, not_lone_cycle}
+use Rattle.shapes.proofs.fresh.Tests.{none_found, none_is_lone}
 use Rattle.shapes.specs.Faces.{least_lone, faces_of_both}
 use Rattle.shapes.specs.Fresh.{first_such}
 use Rattle.shapes.specs.Measure.{is_flat, six_volume}
@@ -28,8 +29,8 @@ record Fits (M : Model) (f g : ℕ) : Type 0 where
   solids_apart : solid_of M f ≢ solid_of M g
   rings_f : has_rings M f ≡ false
   rings_g : has_rings M g ≡ false
-  no_lone : least_lone M (faces_of_both M (solid_of M f) (solid_of M g)) ≡ 0
-  all_flat : first_such (λ k. not (is_flat M k)) (faces_of_both M (solid_of M f) (solid_of M g)) ≡ 0
+  no_lone : least_lone M (faces_of_both M (solid_of M f) (solid_of M g)) ≡ None
+  all_flat : first_such (λ k. not (is_flat M k)) (faces_of_both M (solid_of M f) (solid_of M g)) ≡ None
   once_f : has_repeats (outline M f) ≡ false
   once_g : has_repeats (outline M g) ≡ false
   matched : is_rotation (outline M f) (reverse (outline M g)) ≡ true
@@ -42,8 +43,8 @@ fits M f g e = let h = all_hold (glue_conditions M f g) e in record {
   solids_apart = eqb-false (solid_of M f) (solid_of M g) (not-true (nat_eq (solid_of M f) (solid_of M g)) h.1.1.1.1.0);
   rings_f = not-true (has_rings M f) h.1.1.1.1.1.0;
   rings_g = not-true (has_rings M g) h.1.1.1.1.1.1.0;
-  no_lone = eqb-true (least_lone M (faces_of_both M (solid_of M f) (solid_of M g))) 0 h.1.1.1.1.1.1.1.0;
-  all_flat = eqb-true (first_such (λ k. not (is_flat M k)) (faces_of_both M (solid_of M f) (solid_of M g))) 0 h.1.1.1.1.1.1.1.1.0;
+  no_lone = none_found (least_lone M (faces_of_both M (solid_of M f) (solid_of M g))) h.1.1.1.1.1.1.1.0;
+  all_flat = none_found (first_such (λ k. not (is_flat M k)) (faces_of_both M (solid_of M f) (solid_of M g))) h.1.1.1.1.1.1.1.1.0;
   once_f = not-true (has_repeats (outline M f)) h.1.1.1.1.1.1.1.1.1.0;
   once_g = not-true (has_repeats (outline M g)) h.1.1.1.1.1.1.1.1.1.1.0;
   matched = h.1.1.1.1.1.1.1.1.1.1.1.0;
@@ -81,13 +82,13 @@ module _ (M : Model) (f g : ℕ) (sound : Sound M) (w : Fits M f g) where
   each_flat k there of = go (is_flat M k) refl where
     go : (b : Bool) → is_flat M k ≡ b → is_flat M k ≡ true
     go true e = e
-    go false e = absurd (zero_not_listed _ (such_there (λ q. not (is_flat M q)) both k (IsIn-from_listed k both (face_listed k there of)) (ap not e)).1 w.all_flat)
+    go false e = absurd (zero_not_listed _ (such_there (λ q. not (is_flat M q)) both k (IsIn-from_listed k both (face_listed k there of)) (ap not e)).1 (ap (λ o. unwrap_or o 0) w.all_flat))
 
   -- the outer loops are cycles
   rim_is : (k : ℕ) → Has M.faces k → (solid_of M k ≡ s) ⊎ (solid_of M k ≡ t) → content M (outer M k) ≡ cycle (rim M k)
   rim_is k there of =
       let own = sound.outers_there k there in
-      let pass = zero_first_where (λ _ row. is_lone row.content && lists both row.face) M.loops (λ q y at z. no_zero q z (sound.loops_fit q (ap is_some at))) w.no_lone
+      let pass = zero_first_where (λ _ row. is_lone row.content && lists both row.face) M.loops (λ q y at z. no_zero q z (sound.loops_fit q (ap is_some at))) (none_is_lone M both w.no_lone)
       (outer M k) (record { face = face_of M (outer M k); content = content M (outer M k) }) (loop_row M (outer M k) own.0) in
       not_lone_cycle (content M (outer M k)) (first_fails (is_lone (content M (outer M k))) (lists both (face_of M (outer M k))) pass (ap (lists both) own.1 ∙ face_listed k there of))
 

@@ -1,5 +1,5 @@
 -- Two loops whose outlines are each other's reverse: the partners of the items of one are the items of the other, back along them.
-use Rattle.std.proofs.Common.{◌≡◌, ◌≢◌, ℕ, zero, suc, true, false, cond, Bool, List, [], ◌∷◌, ◌++◌, map, reverse, length, take, drop, refl, sym, ap, ◌∙◌, subst, arith, true≢false, inl, inr}
+use Rattle.std.proofs.Common.{◌≡◌, ◌≢◌, ℕ, zero, suc, true, false, cond, Bool, List, [], ◌∷◌, ◌++◌, map, reverse, length, take, drop, refl, sym, ap, ◌∙◌, subst, arith, true≢false, inl, inr, Some, unwrap_or}
 use Rattle.std.proofs.lemmas.List.{map-append, reverse-append, reverse-reverse}
 use Rattle.euler_operators.specs.declared.Point.{Point}
 use Rattle.euler_operators.specs.Vectors.{same_point}
@@ -24,18 +24,22 @@ use Rattle.shapes.proofs.glue.Points.{same_is, once, turned_by}
 
 -- ---- searches
 
+-- the first number that passes, or 0
+abbrev such : (ℕ → Bool) → List ℕ → ℕ
+such p ns = unwrap_or (first_such p ns) 0
+
 -- a number that is found passes and is listed
-pub found_such : (p : ℕ → Bool) (ns : List ℕ) → first_such p ns ≢ 0 → (p (first_such p ns) ≡ true) × IsIn (first_such p ns) ns
+pub found_such : (p : ℕ → Bool) (ns : List ℕ) → such p ns ≢ 0 → (p (such p ns) ≡ true) × IsIn (such p ns) ns
 found_such p [] ne = absurd (ne refl)
-found_such p (n ∷ ns) ne = elim (p n) as (λ b. p n ≡ b → cond b n (first_such p ns) ≢ 0 → (p (cond b n (first_such p ns)) ≡ true) × IsIn (cond b n (first_such p ns)) (n ∷ ns)) [
+found_such p (n ∷ ns) ne = elim (p n) as (λ b. p n ≡ b → unwrap_or (cond b (Some n) (first_such p ns)) 0 ≢ 0 → (p (unwrap_or (cond b (Some n) (first_such p ns)) 0) ≡ true) × IsIn (unwrap_or (cond b (Some n) (first_such p ns)) 0) (n ∷ ns)) [
   | true ↦ λ e q. (e, omega (arith, tick_same n))
   | false ↦ λ e q. let r = found_such p ns q in (r.0, omega (arith, r.1))
 ] refl ne
 
 -- and where one passes, one is found
-pub such_there : (p : ℕ → Bool) (ns : List ℕ) (x : ℕ) → IsIn x ns → p x ≡ true → (p (first_such p ns) ≡ true) × IsIn (first_such p ns) ns
+pub such_there : (p : ℕ → Bool) (ns : List ℕ) (x : ℕ) → IsIn x ns → p x ≡ true → (p (such p ns) ≡ true) × IsIn (such p ns) ns
 such_there p [] x i e = absurd (omega (arith, i))
-such_there p (n ∷ ns) x i e = elim (p n) as (λ b. p n ≡ b → (p (cond b n (first_such p ns)) ≡ true) × IsIn (cond b n (first_such p ns)) (n ∷ ns)) [
+such_there p (n ∷ ns) x i e = elim (p n) as (λ b. p n ≡ b → (p (unwrap_or (cond b (Some n) (first_such p ns)) 0) ≡ true) × IsIn (unwrap_or (cond b (Some n) (first_such p ns)) 0) (n ∷ ns)) [
   | true ↦ λ t. (t, omega (arith, tick_same n))
   | false ↦ λ t. let r = such_there p ns x (omega (arith, i, tick_other x n (λ s. true≢false (sym e ∙ ap p s ∙ t)))) e in (r.0, omega (arith, r.1))
 ] refl
@@ -99,7 +103,7 @@ module _ (M : Model) (l r : ℕ) (hs gs : List ℕ) (w : Outlined M l r hs gs) w
 
   -- the item of the first loop that starts at a point
   abbrev item_at : Point → ℕ
-  item_at p = first_such (λ h. same_point (start M h) p) hs
+  item_at p = such (λ h. same_point (start M h) p) hs
 
   item_again : (h : ℕ) → IsIn h hs → item_at (start M h) ≡ h
   item_again h i = let s = such_there (λ k. same_point (start M k) (start M h)) hs h i (same_as (start M h) (start M h) refl) in once_f (item_at (start M h)) h s.1 i (same_is (start M (item_at (start M h))) (start M h) s.0)

@@ -1,5 +1,5 @@
 -- A block with its edges along the axes.
-use Rattle.std.specs.Prelude.{◌≡◌, ℕ, ℤ, pos, int_le, Bool, List, [], ◌∷◌, ◌++◌, Option}
+use Rattle.std.specs.Prelude.{ℕ, ℤ, pos, int_le, List, [], ◌∷◌, ◌++◌, Option}
 use Rattle.euler_operators.specs.declared.Point.{Point}
 use Rattle.euler_operators.specs.Points.{is_in_range}
 use Rattle.euler_operators.specs.Vectors.{moved}
@@ -28,7 +28,7 @@ block_conditions M s p dx dy dz =
     ∷ need (int_le (pos 1) dz) SizeRange 3
     ∷ need (is_in_range p) PointRange 1
     ∷ need (is_in_range (moved p (vector dx dy dz))) PointRange 2
-    ∷ numbers_left (taken_in M) 6 6 12 8
+    ∷ numbers_left (taken_in M) (record { faces = 6; loops = 6; edges = 12; vertices = 8 })
 
 abbrev pub block_refusal : Model → ℕ → Point → ℤ → ℤ → ℤ → Option Refusal
 block_refusal M s p dx dy dz = first_refusal (block_conditions M s p dx dy dz)

@@ -1,10 +1,11 @@
 -- What belongs to a face or a solid.
-use Rattle.std.specs.Prelude.{◌≡◌, ℕ, Bool, true, false, cond, ◌&&◌, ◌||◌, nat_eq, List, [], ◌∷◌, ◌++◌, map}
+use Rattle.std.specs.Prelude.{ℕ, ◌&&◌, ◌||◌, nat_eq, List, [], ◌∷◌, ◌++◌, map, Option}
 use Rattle.euler_operators.specs.declared.Point.{Point}
 use Rattle.euler_operators.specs.HalfEdge.{mate, plus}
 use Rattle.euler_operators.specs.Table as table
 use Rattle.euler_operators.specs.Model.{Model, LoopContent, lone, cycle, items_of, tail, content, outer, point_of, solid_of, faces_of, rings_of}
 use Rattle.euler_operators.specs.Conditions.{face_at, is_lone, lists}
+use Rattle.shapes.specs.Fresh.{found}
 
 -- the loops of a face: the outer one, then the rings, rising
 unfoldable pub loops_of : Model → ℕ → List ℕ
@@ -56,6 +57,6 @@ edges_of M s = table.all_where (λ e _. nat_eq (solid_of M (face_at M (plus e)))
 abbrev pub faces_of_both : Model → ℕ → ℕ → List ℕ
 faces_of_both M s t = table.all_where (λ _ row. nat_eq row.solid s || nat_eq row.solid t) M.faces
 
--- the least lone loop of some faces, or 0
-abbrev pub least_lone : Model → List ℕ → ℕ
-least_lone M fs = table.first_where (λ _ row. is_lone row.content && lists fs row.face) M.loops
+-- the least lone loop of some faces, if there is one
+abbrev pub least_lone : Model → List ℕ → Option ℕ
+least_lone M fs = found (table.first_where (λ _ row. is_lone row.content && lists fs row.face) M.loops)

@@ -1,19 +1,23 @@
 -- The numbers that a larger command takes, and its refusals by search.
-use Rattle.std.specs.Prelude.{◌≡◌, ℕ, ◌+◌, zero, suc, Bool, cond, nat_eq, nat_le, List, [], ◌∷◌}
+use Rattle.std.specs.Prelude.{ℕ, ◌+◌, zero, suc, Bool, cond, nat_eq, nat_le, List, [], ◌∷◌, Option, Some, None, is_some, unwrap_or}
 use Rattle.euler_operators.specs.Table as table
 use Rattle.euler_operators.specs.Model.{Model}
-use Rattle.euler_operators.specs.Conditions.{Condition, need}
+use Rattle.euler_operators.specs.Conditions.{Condition, need, never}
 use Rattle.euler_operators.specs.declared.Why.{Why}
 use Rattle.euler_operators.specs.declared.Why.TheVariants.{NumbersSpent}
 
--- the first number that passes a test, or 0
-abbrev pub first_such : (ℕ → Bool) → List ℕ → ℕ
-first_such p [] = 0
-first_such p (n ∷ ns) = cond (p n) n (first_such p ns)
+-- the first number that passes a test, if one does
+abbrev pub first_such : (ℕ → Bool) → List ℕ → Option ℕ
+first_such p [] = None
+first_such p (n ∷ ns) = cond (p n) (Some n) (first_such p ns)
 
--- there is no such number: 0 stands for none
-abbrev pub no_such : ℕ → Why → Condition
-no_such n why = need (nat_eq n 0) why n
+-- what a search has found that answers 0 where it finds nothing
+abbrev pub found : ℕ → Option ℕ
+found n = cond (nat_eq n 0) None (Some n)
+
+-- there is no such number: one that there is, is refused
+abbrev pub no_such : Option ℕ → Why → Condition
+no_such o why = never (is_some o) why (unwrap_or o 0)
 
 -- the greatest numbers taken so far
 pub record Taken : Type 0 where
@@ -26,13 +30,20 @@ pub record Taken : Type 0 where
 unfoldable pub taken_in : Model → Taken
 taken_in M = record { face = table.greatest M.faces; loop = table.greatest M.loops; edge = table.greatest M.edges; vertex = table.greatest M.vertices }
 
--- so many more faces, loops, edges and vertices stay within the limit
-abbrev pub numbers_left : Taken → ℕ → ℕ → ℕ → ℕ → List Condition
-numbers_left c f l e v =
-    need (nat_le (c.face + f) 1000000) NumbersSpent 2
-    ∷ need (nat_le (c.loop + l) 1000000) NumbersSpent 3
-    ∷ need (nat_le (c.edge + e) 1000000) NumbersSpent 4
-    ∷ need (nat_le (c.vertex + v) 1000000) NumbersSpent 5
+-- how many numbers of each kind a command needs
+pub record Needed : Type 0 where
+  pub faces : ℕ
+  pub loops : ℕ
+  pub edges : ℕ
+  pub vertices : ℕ
+
+-- with so many more, numbers stay within the limit
+abbrev pub numbers_left : Taken → Needed → List Condition
+numbers_left c n =
+    need (nat_le (c.face + n.faces) 1000000) NumbersSpent 2
+    ∷ need (nat_le (c.loop + n.loops) 1000000) NumbersSpent 3
+    ∷ need (nat_le (c.edge + n.edges) 1000000) NumbersSpent 4
+    ∷ need (nat_le (c.vertex + n.vertices) 1000000) NumbersSpent 5
     ∷ []
 
 -- a model in the making, and the numbers taken so far

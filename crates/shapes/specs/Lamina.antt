@@ -1,5 +1,5 @@
 -- A flat ring of corners with a face on either side.
-use Rattle.std.specs.Prelude.{◌≡◌, ℕ, zero, suc, ◌+◌, ◌-◌, Bool, true, false, cond, not, ◌||◌, nat_eq, nat_le, List, [], ◌∷◌, ◌++◌, map, reverse, length, get_or, Option}
+use Rattle.std.specs.Prelude.{ℕ, zero, suc, ◌+◌, ◌-◌, cond, nat_le, List, [], ◌∷◌, ◌++◌, map, reverse, length, get_or, Option, Some, None}
 use Rattle.std.specs.List.{list_any}
 use Rattle.euler_operators.specs.declared.Point.{Point}
 use Rattle.euler_operators.specs.Points.{is_in_range}
@@ -8,21 +8,21 @@ use Rattle.euler_operators.specs.Rings.{canonical}
 use Rattle.euler_operators.specs.HalfEdge.{plus, minus}
 use Rattle.euler_operators.specs.Table as table
 use Rattle.euler_operators.specs.Table.{Table}
-use Rattle.euler_operators.specs.Model.{Model, cycle, FaceRow, LoopRow, EdgeRow, no_point}
+use Rattle.euler_operators.specs.Model.{Model, cycle, EdgeRow, no_point}
 use Rattle.euler_operators.specs.Conditions.{Condition, need, never, first_refusal, numbers_in_range}
 use Rattle.shapes.specs.Fresh.{Taken, taken_in, numbers_left, numbers_after, no_such}
 use Rattle.euler_operators.specs.declared.Refusal.{Refusal}
 use Rattle.euler_operators.specs.declared.Why.TheVariants.{SolidTaken, FewPoints, PointRange, RepeatedPoint}
 
--- the place, from 1, of the first point out of range, or 0; i points come before
-abbrev pub first_far : ℕ → List Point → ℕ
-first_far i [] = 0
-first_far i (p ∷ ps) = cond (is_in_range p) (first_far (i + 1) ps) (i + 1)
+-- the place, from 1, of the first point out of range, if there is one; i points come before
+abbrev pub first_far : ℕ → List Point → Option ℕ
+first_far i [] = None
+first_far i (p ∷ ps) = cond (is_in_range p) (first_far (i + 1) ps) (Some (i + 1))
 
--- the place, from 1, of the first point equal to an earlier one, or 0
-abbrev pub first_repeated : List Point → ℕ → List Point → ℕ
-first_repeated seen i [] = 0
-first_repeated seen i (p ∷ ps) = cond (list_any (same_point p) seen) (i + 1) (first_repeated (seen ++ p ∷ []) (i + 1) ps)
+-- the place, from 1, of the first point equal to an earlier one, if there is one
+abbrev pub first_repeated : List Point → ℕ → List Point → Option ℕ
+first_repeated seen i [] = None
+first_repeated seen i (p ∷ ps) = cond (list_any (same_point p) seen) (Some (i + 1)) (first_repeated (seen ++ p ∷ []) (i + 1) ps)
 
 unfoldable pub lamina_conditions : Model → ℕ → List Point → List Condition
 lamina_conditions M s ps =
@@ -31,7 +31,7 @@ lamina_conditions M s ps =
     ∷ need (nat_le 3 (length ps)) FewPoints (length ps)
     ∷ no_such (first_far 0 ps) PointRange
     ∷ no_such (first_repeated [] 0 ps) RepeatedPoint
-    ∷ numbers_left (taken_in M) 2 2 (length ps) (length ps)
+    ∷ numbers_left (taken_in M) (record { faces = 2; loops = 2; edges = length ps; vertices = length ps })
 
 -- the refusal of the first false condition, if one is false
 abbrev pub lamina_refusal : Model → ℕ → List Point → Option Refusal

@@ -1,13 +1,12 @@
 -- A face swept along a vector.
-use Rattle.std.specs.Prelude.{◌≡◌, ℕ, zero, suc, ◌+◌, ◌*◌, Bool, true, false, cond, not, ◌&&◌, nat_eq, List, [], ◌∷◌, ◌++◌, length, get_or, fold, Option}
+use Rattle.std.specs.Prelude.{ℕ, zero, suc, ◌+◌, ◌*◌, cond, not, nat_eq, List, [], ◌∷◌, ◌++◌, length, get_or, fold, Option}
 use Rattle.euler_operators.specs.declared.Point.{Point}
 use Rattle.euler_operators.specs.Points.{is_in_range}
 use Rattle.euler_operators.specs.Vectors.{origin, moved, same_point}
 use Rattle.euler_operators.specs.Rings.{canonical}
 use Rattle.euler_operators.specs.HalfEdge.{plus, minus}
 use Rattle.euler_operators.specs.Table as table
-use Rattle.euler_operators.specs.Table.{Table}
-use Rattle.euler_operators.specs.Model.{Model, cycle, FaceRow, LoopRow, EdgeRow, items_of, content, tail, point_of, solid_of}
+use Rattle.euler_operators.specs.Model.{Model, cycle, items_of, content, tail, point_of, solid_of}
 use Rattle.euler_operators.specs.Conditions.{Condition, need, never, first_refusal, numbers_in_range}
 use Rattle.shapes.specs.Faces.{least_lone, loops_of, corners, start}
 use Rattle.shapes.specs.Fresh.{Taken, Growing, growing, taken_in, numbers_left, no_such, first_such}
@@ -21,7 +20,7 @@ prism_conditions M f d = let n = length (corners M f) in
     ∷ never (same_point d origin) ZeroSweep f
     ∷ no_such (least_lone M (f ∷ [])) LoneLoop
     ∷ no_such (first_such (λ v. not (is_in_range (moved (point_of M v) d))) (corners M f)) PointRange
-    ∷ numbers_left (taken_in M) n n (2 * n) n
+    ∷ numbers_left (taken_in M) (record { faces = n; loops = n; edges = 2 * n; vertices = n })
 
 abbrev pub prism_refusal : Model → ℕ → Point → Option Refusal
 prism_refusal M f d = first_refusal (prism_conditions M f d)

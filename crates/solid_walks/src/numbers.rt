@@ -47,7 +47,7 @@ pub fn check_left(
     edges: usize,
     vertices: usize,
 ) -> Result<(), Refusal>
-    ensures { result ≡ verdict (first_refusal (numbers_left (taken_of taken) faces loops edges vertices)) }
+    ensures { result ≡ verdict (first_refusal (numbers_left (taken_of taken) (record { faces = faces; loops = loops; edges = edges; vertices = vertices }))) }
 {
     if !has_left(taken.faces, faces) {
         return refused(Why::NumbersSpent, 2);

@@ -15,7 +15,6 @@ use Rattle.euler_laws.proofs.shared.Goes.{no_zero}
 use Rattle.euler_laws.proofs.shared.Rows.{loop_row}
 use Rattle.euler_laws.proofs.shared.FaceRings.{ring_there, outer_or_ring}
 use Rattle.euler_laws.proofs.shared.FirstWhere.{first_where_least}
-use Rattle.shapes.specs.Faces.{least_lone}
 use Rattle.sweeps.specs.Corners.{IsLoneRing}
 
 -- no ring of the face up to a number is lone
@@ -74,6 +73,9 @@ lists_one : (f k : ℕ) → k ≡ f → lists (f ∷ []) k ≡ true
 lists_one f k e = ap (λ b. b || false) (eq-eqb f k (sym e))
 
 module _ (M : Model) (sound : Sound M) (f : ℕ) (there : Has M.faces f) (ring : ℕ) (is : IsLoneRing M f ring) where
+  abbrev least : ℕ
+  least = table.first_where (IsLoneOf f) M.loops
+
   -- a lone loop of the face is its outer loop or no less than the least lone ring
   lone_cases : (q : ℕ) (row : LoopRow) → table.get M.loops q ≡ Some row → IsLoneOf f q row ≡ true → ((outer M f ≡ q) × (is_lone (content M q) ≡ true)) ⊎ ((ring ≢ 0) × (ring ≤ q))
   lone_cases q row at passes =
@@ -87,7 +89,7 @@ module _ (M : Model) (sound : Sound M) (f : ℕ) (there : Has M.faces f) (ring :
   passes_at : (l : ℕ) → Has M.loops l → face_of M l ≡ f → is_lone (content M l) ≡ true → IsLoneOf f l (record { face = face_of M l; content = content M l }) ≡ true
   passes_at l t of alone = and_from (is_lone (content M l)) (lists (f ∷ []) (face_of M l)) alone (lists_one f (face_of M l) of)
 
-  outer_least : is_lone (content M (outer M f)) ≡ true → (ring ≢ 0 → outer M f ≤ ring) → outer M f ≡ least_lone M (f ∷ [])
+  outer_least : is_lone (content M (outer M f)) ≡ true → (ring ≢ 0 → outer M f ≤ ring) → outer M f ≡ least
   outer_least alone less =
       let o = sound.outers_there f there in
       sym (first_where_least (IsLoneOf f) M.loops (outer M f) _ (loop_row M (outer M f) o.0) (passes_at (outer M f) o.0 o.1 alone) (λ q row at passes. elim (lone_cases q row at passes) [
@@ -95,7 +97,7 @@ module _ (M : Model) (sound : Sound M) (f : ℕ) (there : Has M.faces f) (ring :
         | inr e ↦ let l = less e.0 in omega (arith, l, e.1)
       ]))
 
-  ring_least : (is_lone (content M (outer M f)) ≡ true → (ring ≢ 0) × (ring ≤ outer M f)) → ring ≡ least_lone M (f ∷ [])
+  ring_least : (is_lone (content M (outer M f)) ≡ true → (ring ≢ 0) × (ring ≤ outer M f)) → ring ≡ least
   ring_least less = elim (eqb_tells ring 0) [
     | inl z ↦ z.1 ∙ sym (first_where_zero (IsLoneOf f) M.loops (λ q row at. false_from_ne_true (IsLoneOf f q row) (λ passes. (after q row at passes).0 z.1)))
     | inr nz ↦
@@ -109,10 +111,10 @@ module _ (M : Model) (sound : Sound M) (f : ℕ) (there : Has M.faces f) (ring :
       | inr e ↦ e
     ]
 
-  pub outer_not_lone : is_lone (content M (outer M f)) ≡ false → ring ≡ least_lone M (f ∷ [])
+  pub outer_not_lone : is_lone (content M (outer M f)) ≡ false → ring ≡ least
   outer_not_lone bound = ring_least (λ alone. absurd (true≢false (sym alone ∙ bound)))
 
-  pub outer_lone : (n : ℕ) → is_lone (content M (outer M f)) ≡ true → n ≡ cond (nat_eq ring 0) (outer M f) (min (outer M f) ring) → n ≡ least_lone M (f ∷ [])
+  pub outer_lone : (n : ℕ) → is_lone (content M (outer M f)) ≡ true → n ≡ cond (nat_eq ring 0) (outer M f) (min (outer M f) ring) → n ≡ least
   outer_lone n alone e = elim (eqb_tells ring 0) [
     | inl z ↦ e ∙ ap (λ b. cond b (outer M f) (min (outer M f) ring)) z.0 ∙ outer_least alone (λ nz. absurd (nz z.1))
     | inr nz ↦ e ∙ ap (λ b. cond b (outer M f) (min (outer M f) ring)) nz.0 ∙ elim (at_most_or_above (outer M f) ring) [

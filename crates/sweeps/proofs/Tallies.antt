@@ -1,9 +1,8 @@
 -- Tallies of corners, one after the other.
 use Rattle.std.specs.Prelude.{min, map}
-use Rattle.std.proofs.Common.{◌≡◌, ℕ, ◌+◌, Bool, true, false, cond, ◌||◌, nat_eq, List, [], ◌∷◌, ◌++◌, append_assoc, Some, None, refl, sym, ap, subst, ◌∙◌, arith, true≢false, inl, inr}
-use Rattle.std.proofs.lemmas.Bool.Decides.{eqb_tells}
+use Rattle.std.specs.Option.{option_or}
+use Rattle.std.proofs.Common.{◌≡◌, ℕ, ◌+◌, Bool, true, false, cond, List, [], ◌∷◌, ◌++◌, append_assoc, Some, None, refl, sym, ap, subst, ◌∙◌, arith}
 use Rattle.std.proofs.lemmas.List.{map-append, append-nil, length-append}
-use Rattle.std.specs.List.{list_any}
 use Rattle.euler_operators.specs.declared.Point.{Point}
 use Rattle.euler_operators.specs.Items.{IsIn, least}
 use Rattle.euler_operators.specs.Rings.{rotate_to, canonical}
@@ -25,36 +24,22 @@ use Rattle.sweeps.specs.declared.corners.Tally.{Tally}
 
 -- ---- a search over two lists
 
-any_joined : (p : ℕ → Bool) (xs ys : List ℕ) → list_any p xs ≡ false → list_any p ys ≡ false → list_any p (xs ++ ys) ≡ false
-any_joined p [] ys a b = b
-any_joined p (x ∷ xs) ys a b = elim (p x) as (λ c. (c || list_any p xs) ≡ false → (c || list_any p (xs ++ ys)) ≡ false) [
-  | true ↦ λ e. e
-  | false ↦ λ e. any_joined p xs ys e b
-] a
-
-such_joined : (p : ℕ → Bool) (xs ys : List ℕ) → (first_such p xs ≡ 0 → list_any p xs ≡ false) → first_such p (xs ++ ys) ≡ cond (nat_eq (first_such p xs) 0) (first_such p ys) (first_such p xs)
-such_joined p [] ys near = refl
-such_joined p (x ∷ xs) ys near = elim (p x) as (λ c. (cond c x (first_such p xs) ≡ 0 → (c || list_any p xs) ≡ false) → cond c x (first_such p (xs ++ ys)) ≡ cond (nat_eq (cond c x (first_such p xs)) 0) (first_such p ys) (cond c x (first_such p xs))) [
-  | true ↦ λ near. elim (eqb_tells x 0) [
-    | inl z ↦ absurd (true≢false (near z.1))
-    | inr nz ↦ sym (ap (λ b. cond b (first_such p ys) x) nz.0)
-  ]
-  | false ↦ λ near. such_joined p xs ys near
-] near
+such_joined : (p : ℕ → Bool) (xs ys : List ℕ) → first_such p (xs ++ ys) ≡ option_or (first_such p xs) (first_such p ys)
+such_joined p [] ys = refl
+such_joined p (x ∷ xs) ys = elim (p x) as (λ c. cond c (Some x) (first_such p (xs ++ ys)) ≡ option_or (cond c (Some x) (first_such p xs)) (first_such p ys)) [
+  | true ↦ refl
+  | false ↦ such_joined p xs ys
+]
 
 module _ (M : Model) (d : Point) where
   tally_same : (vs ws : List ℕ) (t : Tally) → vs ≡ ws → IsTally M d vs t → IsTally M d ws t
   tally_same vs ws t e is = subst (λ us. IsTally M d us t) e is
 
   -- the tallies of two lists put together
-  pub tally_joined : (vs ws : List ℕ) (a b t : Tally) → IsTally M d vs a → IsTally M d ws b → t.count ≡ min (a.count + b.count) 1000001 → t.far ≡ cond (nat_eq a.far 0) b.far a.far → IsTally M d (vs ++ ws) t
+  pub tally_joined : (vs ws : List ℕ) (a b t : Tally) → IsTally M d vs a → IsTally M d ws b → t.count ≡ min (a.count + b.count) 1000001 → t.far ≡ option_or a.far b.far → IsTally M d (vs ++ ws) t
   tally_joined vs ws a b t one two count far = record {
     count = omega (arith, count, one.count, two.count, length-append vs ws);
-    far = far ∙ (λ i. cond (nat_eq (one.far i) 0) (two.far i) (one.far i)) ∙ sym (such_joined (is_far M d) vs ws (λ z. one.near (one.far ∙ z)));
-    near = λ z. elim (eqb_tells a.far 0) [
-      | inl e ↦ any_joined (is_far M d) vs ws (one.near e.1) (two.near (sym (far ∙ ap (λ c. cond c b.far a.far) e.0) ∙ z))
-      | inr e ↦ absurd (e.1 (sym (far ∙ ap (λ c. cond c b.far a.far) e.0) ∙ z))
-    ];
+    far = far ∙ (λ i. option_or (one.far i) (two.far i)) ∙ sym (such_joined (is_far M d) vs ws);
   }
 
   -- ---- the loops of a face
@@ -78,7 +63,7 @@ module _ (M : Model) (d : Point) where
   }
 
   module _ (f last : ℕ) (a : Tally) (w : FaceMet f last a) where
-    pub ring_met : (ring : ℕ) (b t : Tally) → IsNextRing M f last (Some ring) → IsTally M d (vertices_on M (content M ring)) b → t.count ≡ min (a.count + b.count) 1000001 → t.far ≡ cond (nat_eq a.far 0) b.far a.far → FaceMet f ring t
+    pub ring_met : (ring : ℕ) (b t : Tally) → IsNextRing M f last (Some ring) → IsTally M d (vertices_on M (content M ring)) b → t.count ≡ min (a.count + b.count) 1000001 → t.far ≡ option_or a.far b.far → FaceMet f ring t
     ring_met ring b t next is count far = record {
       met = w.met ++ ring ∷ [];
       all = append_assoc w.met (ring ∷ []) (above ring (rings_of M f)) ∙ ap (λ ks. w.met ++ ks) (sym (next_ring M f last ring next)) ∙ w.all;
@@ -95,7 +80,7 @@ module _ (M : Model) (d : Point) where
   ring_begun sound h there v e t is = tally_same _ _ t ((λ i. e i ∷ []) ∙ ap (map (tail M)) (sym (start_seen h (cycle_of M h) (cycle_apart M sound h there) (item_in M sound h there)))) is
 
   pub ring_more : (h : ℕ) (hs : List ℕ) (g r : ℕ) → seen h hs r ≡ seen h hs g ++ r ∷ [] → (v : ℕ) → v ≡ tail M r → (a b t : Tally) → IsTally M d (map (tail M) (seen h hs g)) a → IsTally M d (v ∷ []) b
-      → t.count ≡ min (a.count + b.count) 1000001 → t.far ≡ cond (nat_eq a.far 0) b.far a.far → IsTally M d (map (tail M) (seen h hs r)) t
+      → t.count ≡ min (a.count + b.count) 1000001 → t.far ≡ option_or a.far b.far → IsTally M d (map (tail M) (seen h hs r)) t
   ring_more h hs g r more v e a b t one two count far =
       tally_same _ _ t ((λ i. map (tail M) (seen h hs g) ++ e i ∷ []) ∙ sym (map-append (tail M) (seen h hs g) (r ∷ [])) ∙ ap (map (tail M)) (sym more)) (tally_joined (map (tail M) (seen h hs g)) (v ∷ []) a b t one two count far)
 

@@ -1,6 +1,5 @@
 -- What is read off the corners of a face before it is swept.
-use Rattle.std.specs.Prelude.{◌≡◌, ◌≢◌, ◌≤◌, ℕ, Bool, true, false, not, List, length, min}
-use Rattle.std.specs.List.{list_any}
+use Rattle.std.specs.Prelude.{◌≡◌, ◌≢◌, ◌≤◌, ℕ, Bool, true, not, List, length, min}
 use Rattle.euler_operators.specs.declared.Point.{Point}
 use Rattle.euler_operators.specs.Points.{is_in_range}
 use Rattle.euler_operators.specs.Vectors.{moved}
@@ -18,8 +17,7 @@ pub record IsLoneRing (M : Model) (f n : ℕ) : Type 0 where
 abbrev pub is_far : Model → Point → ℕ → Bool
 is_far M d v = not (is_in_range (moved (point_of M v) d))
 
--- the tally of the corners at some vertices: how many, up to one more than the limit of numbers, and the first that is far, or 0
+-- the tally of the corners at some vertices: how many, up to one more than the limit of numbers, and the first that is far
 pub record IsTally (M : Model) (d : Point) (vs : List ℕ) (t : Tally) : Type 0 where
   pub count : t.count ≡ min (length vs) 1000001
   pub far : t.far ≡ first_such (is_far M d) vs
-  pub near : t.far ≡ 0 → list_any (is_far M d) vs ≡ false

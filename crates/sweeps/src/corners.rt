@@ -1,10 +1,12 @@
 //! What is read off a face before it is swept: its lone loops and its corners.
 ghost use Rattle.std.specs.Prelude.{◌≡◌, ◌≤◌, ◌+◌, true, min, cond, nat_eq, map, [], ◌∷◌};
+ghost use Rattle.std.specs.Option.{option_or};
 ghost use Rattle.euler_operators.specs.HalfEdge.{code};
 ghost use Rattle.euler_operators.specs.Model.{has_half, content, cycle_of, tail};
 ghost use Rattle.euler_conditions.specs.Store.{has_number};
 ghost use Rattle.euler_conditions.specs.Ready.{IsReady};
 ghost use Rattle.shapes.specs.Faces.{corners, least_lone, vertices_on};
+ghost use Rattle.shapes.specs.Fresh.{found};
 ghost use Rattle.sweeps.specs.Corners.{IsLoneRing, IsTally};
 
 use euler_conditions::{Arena, is_lone};
@@ -35,10 +37,10 @@ fn lesser(n: u32, m: u32) -> u32
 }
 
 /// The least lone loop of face f, or 0.
-pub(crate) fn lone_loop(arena: &Arena, f: u32) -> u32
+fn lone_number(arena: &Arena, f: u32) -> u32
     requires ready { IsReady arena.now }
     requires there { has_number arena.now Kind.Face f ≡ true }
-    ensures { result ≡ least_lone arena.now.model (f ∷ []) }
+    ensures { found result ≡ least_lone arena.now.model (f ∷ []) }
 {
     let ring = lone_ring(arena, f);
     let outer = arena.outer(f);
@@ -49,12 +51,24 @@ pub(crate) fn lone_loop(arena: &Arena, f: u32) -> u32
     }
 }
 
+/// The least lone loop of face f, if there is one.
+pub(crate) fn lone_loop(arena: &Arena, f: u32) -> Option<u32>
+    requires ready { IsReady arena.now }
+    requires there { has_number arena.now Kind.Face f ≡ true }
+    ensures { result ≡ least_lone arena.now.model (f ∷ []) }
+{
+    match lone_number(arena, f) {
+        0 => None,
+        l => Some(l),
+    }
+}
+
 /// What some corners are that a vector moves: how many, or 1,000,001 where they are more, and the vertex of the first whose moved
-/// point is out of range, or 0.
+/// point is out of range, if there is one.
 #[derive(Clone, Copy)]
 pub(crate) struct Tally {
     pub count: u32,
-    pub far: u32,
+    pub far: Option<u32>,
 }
 
 /// The tally of one corner.
@@ -64,9 +78,9 @@ fn corner_tally(arena: &Arena, d: Point, v: u32) -> Tally
     ensures { IsTally arena.now.model d (v ∷ []) result }
 {
     let far = if sum_in_range(arena.point(v), d) {
-        0
+        None
     } else {
-        v
+        Some(v)
     };
     Tally { count: 1, far }
 }
@@ -76,12 +90,12 @@ fn joined(a: Tally, b: Tally) -> Tally
     requires a { a.count ≤ 1000001 }
     requires b { b.count ≤ 1000001 }
     ensures count { result.count ≡ min (a.count + b.count) 1000001 }
-    ensures far { result.far ≡ cond (nat_eq a.far 0) b.far a.far }
+    ensures far { result.far ≡ option_or a.far b.far }
 {
     let count = a.count + b.count;
     Tally {
         count: if count < 1_000_001 { count } else { 1_000_001 },
-        far: if a.far == 0 { b.far } else { a.far },
+        far: a.far.or(b.far),
     }
 }
 

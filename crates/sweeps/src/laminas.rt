@@ -20,8 +20,8 @@ use solid_walks::{check_left, counters_of};
 use std::alloc::{AllocError, Global};
 use undo_journal::{Draft, Failure, Session};
 
-/// The place, from 1, of the first point out of range, or 0.
-fn first_far(points: &[Point]) -> u32
+/// The place, from 1, of the first point out of range, if there is one.
+fn first_far(points: &[Point]) -> Option<u32>
     requires { length points.now ≤ 64 }
     ensures { result ≡ spec.first_far 0 points.now }
 {
@@ -30,11 +30,11 @@ fn first_far(points: &[Point]) -> u32
     'points: while let [point, others @ ..] = rest {
         place += 1;
         if !point_in_range(*point) {
-            return place;
+            return Some(place);
         }
         rest = others;
     }
-    0
+    None
 }
 
 /// Whether the point is one of some points.
@@ -51,19 +51,19 @@ fn is_among(point: Point, points: &[Point]) -> bool
     false
 }
 
-/// The place, from 1, of the first point equal to an earlier one, or 0. It compares each point with those before it.
-fn first_repeated(points: &[Point]) -> u32
+/// The place, from 1, of the first point equal to an earlier one, if there is one. It compares each point with those before it.
+fn first_repeated(points: &[Point]) -> Option<u32>
     requires { length points.now ≤ 64 }
     ensures { result ≡ spec.first_repeated [] 0 points.now }
 {
     let mut place = 0;
     'points: while place < points.len() {
         if is_among(points[place], &points[..place]) {
-            return place as u32 + 1;
+            return Some(place as u32 + 1);
         }
         place += 1;
     }
-    0
+    None
 }
 
 /// Whether a lamina of these points can be made as the new solid.
@@ -85,13 +85,11 @@ fn check_lamina(arena: &Arena, solid: u32, points: &ArrayVec<Point, 64>) -> Resu
     if count < 3 {
         return refused(Why::FewPoints, count as u32);
     }
-    let far = first_far(points.as_slice());
-    if far > 0 {
-        return refused(Why::PointRange, far);
+    if let Some(place) = first_far(points.as_slice()) {
+        return refused(Why::PointRange, place);
     }
-    let repeated = first_repeated(points.as_slice());
-    if repeated > 0 {
-        return refused(Why::RepeatedPoint, repeated);
+    if let Some(place) = first_repeated(points.as_slice()) {
+        return refused(Why::RepeatedPoint, place);
     }
     check_left(counters_of(arena), 2, 2, count, count)
 }

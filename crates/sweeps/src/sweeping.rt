@@ -42,13 +42,12 @@ fn check_sweep(arena: &Arena, f: u32, d: Point) -> Result<(), Refusal>
     if is_zero(d) {
         return refused(Why::ZeroSweep, f);
     }
-    let lone = lone_loop(arena, f);
-    if lone > 0 {
-        return refused(Why::LoneLoop, lone);
+    if let Some(l) = lone_loop(arena, f) {
+        return refused(Why::LoneLoop, l);
     }
     let tally = face_tally(arena, d, f);
-    if tally.far > 0 {
-        return refused(Why::PointRange, tally.far);
+    if let Some(v) = tally.far {
+        return refused(Why::PointRange, v);
     }
     let count = tally.count as usize;
     check_left(counters_of(arena), count, count, 2 * count, count)

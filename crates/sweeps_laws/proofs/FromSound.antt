@@ -1,7 +1,6 @@
 -- In a sound model the numbers in use lie within the greatest ones, and the loops of a face without a lone one are closed paths.
 use Rattle.std.proofs.Common.{◌≡◌, ◌≢◌, ℕ, zero, suc, ◌+◌, ◌≤◌, ◌<◌, pos, ◌+ℤ◌, ◌*ℤ◌, Bool, true, false, not, nat_eq, ◌&&◌, ◌||◌, List, [], ◌∷◌, length, get_or, Option, Some, None, is_some, unwrap_or, refl, sym, ap, subst, ◌∙◌, arith, inl, inr, true≢false}
 use Rattle.std.proofs.lemmas.Bool.Decides.{nat_tests}
-use Rattle.std.proofs.lemmas.Bool.{eqb-true}
 use Rattle.euler_operators.specs.declared.Point.{Point}
 use Rattle.euler_operators.specs.Vectors.{dot}
 use Rattle.euler_operators.specs.Items.{IsIn, head_or}
@@ -18,6 +17,7 @@ use Rattle.euler_laws.proofs.shared.Goes.{all_hold, no_zero}
 use Rattle.euler_laws.proofs.shared.Listed.{listed_cases, listed_passes, all_where-rises}
 use Rattle.euler_laws.proofs.shared.Loops.{loop_sound, IsLoop}
 use Rattle.euler_laws.proofs.shared.Rows.{not_lone_cycle}
+use Rattle.shapes.proofs.fresh.Tests.{none_found, none_is_lone}
 use Rattle.shapes.specs.Faces.{least_lone}
 use Rattle.shapes.specs.Fresh.{taken_in}
 use Rattle.shapes.specs.Prism.{next_place, prism_conditions, prism_refusal, prism_model}
@@ -136,11 +136,11 @@ module _ (M : Model) (sound : Sound M) where
     ring : (x : LoopContent) → x ≡ cycle hs → IsLoop (after M) x → IsRing (after M) hs
     ring x e w = (subst (IsLoop (after M)) e w).1
 
-  module _ (f : ℕ) (there : Has M.faces f) (none : least_lone M (f ∷ []) ≡ 0) where
+  module _ (f : ℕ) (there : Has M.faces f) (none : least_lone M (f ∷ []) ≡ None) where
     content_is : (q : ℕ) → Has M.loops q → face_of M q ≡ f → content M q ≡ cycle (items_of (content M q))
     content_is q t of =
         let row = row_some (table.get M.loops q) t in
-        let pass = zero_first_where (λ _ row. is_lone row.content && lists (f ∷ []) row.face) M.loops (λ k y at z. no_zero k z (sound.loops_fit k (ap is_some at))) none q row.0 row.1 in
+        let pass = zero_first_where (λ _ row. is_lone row.content && lists (f ∷ []) row.face) M.loops (λ k y at z. no_zero k z (sound.loops_fit k (ap is_some at))) (none_is_lone M (f ∷ []) none) q row.0 row.1 in
         not_lone_cycle (content M q) (ap is_lone (content_row M q row.0 row.1) ∙ not_lone 0 row.0.face f (is_lone row.0.content) pass (sym (face_row M q row.0 row.1) ∙ of))
 
     path_at : (q : ℕ) → Has M.loops q → face_of M q ≡ f → IsPathOf M f q (items_of (content M q))
@@ -171,9 +171,9 @@ module _ (M : Model) (sound : Sound M) where
     face_keeps_others d u ne = paths_keep M f d sound_bounded there sound_paths u ne rings_rise (λ q i. (ring_parts q i).2)
 
 -- what the conditions of a sweep say of its face
-face_goes : (M : Model) (f : ℕ) (d : Point) → prism_refusal M f d ≡ None → Has M.faces f × (least_lone M (f ∷ []) ≡ 0)
+face_goes : (M : Model) (f : ℕ) (d : Point) → prism_refusal M f d ≡ None → Has M.faces f × (least_lone M (f ∷ []) ≡ None)
 unfolding prism_conditions
-face_goes M f d e = let h = all_hold (prism_conditions M f d) e in (h.1.0, eqb-true (least_lone M (f ∷ [])) 0 h.1.1.1.0)
+face_goes M f d e = let h = all_hold (prism_conditions M f d) e in (h.1.0, none_found (least_lone M (f ∷ [])) h.1.1.1.0)
 
 -- the laws of sweeps
 pub sweep_adds : SweepAdds

@@ -1,6 +1,6 @@
 -- The rows of a lamina: its two faces and their loops.
 use Rattle.std.specs.Prelude.{length, map, reverse}
-use Rattle.std.proofs.Common.{◌≡◌, ◌≢◌, ℕ, ◌+◌, ◌≤◌, Bool, true, cond, not, nat_eq, ◌&&◌, List, [], ◌∷◌, ◌++◌, Some, is_some, sym, ap, subst, ◌∙◌, arith, ◌⊎◌, inl, inr}
+use Rattle.std.proofs.Common.{◌≡◌, ◌≢◌, ℕ, ◌+◌, ◌≤◌, Bool, true, cond, not, nat_eq, ◌&&◌, List, [], ◌∷◌, ◌++◌, Some, is_some, sym, ap, subst, ◌∙◌, arith, ◌⊎◌, inl, inr, None}
 use Rattle.std.proofs.lemmas.Bool.Decides.{nat_tests}
 use Rattle.euler_operators.specs.declared.Point.{Point}
 use Rattle.euler_operators.specs.Rings.{canonical}
@@ -13,7 +13,7 @@ use Rattle.euler_operators.proofs.Models.{face_row, solid_row, outer_row}
 use Rattle.euler_operators.proofs.Tests.{none_but}
 use Rattle.euler_operators.specs.Conditions.{is_lone, lists}
 use Rattle.shapes.specs.Faces.{least_lone}
-use Rattle.shapes.specs.Fresh.{Taken, numbers_after}
+use Rattle.shapes.specs.Fresh.{Taken, numbers_after, found}
 use Rattle.shapes.specs.Lamina.{lamina_at}
 use Rattle.shapes.proofs.fresh.Rows.{get-put_cases, all_where-put_last, greatest-put_last}
 use Rattle.sweeps_laws.proofs.lamina.Blocks.{no_lone}
@@ -92,12 +92,12 @@ module _ (M : Model) (c : Taken) (s : ℕ) (ps : List Point) where
       low k g p e = absurd (omega arith)
 
     -- no loop of the first face is lone
-    pub none_lone : least_lone drawn ((c.face + 1) ∷ []) ≡ 0
-    none_lone = first_where_zero (λ _ row. is_lone row.content && lists ((c.face + 1) ∷ []) row.face) drawn.loops (λ q y at. elim (loop_cases q y at) [
+    pub none_lone : least_lone drawn ((c.face + 1) ∷ []) ≡ None
+    none_lone = ap found (first_where_zero (λ _ row. is_lone row.content && lists ((c.face + 1) ∷ []) row.face) drawn.loops (λ q y at. elim (loop_cases q y at) [
       | inl p ↦ ap (λ r. is_lone r.content && lists ((c.face + 1) ∷ []) r.face) p.1
       | inr (inl p) ↦ ap (λ r. is_lone r.content && lists ((c.face + 1) ∷ []) r.face) p.1
       | inr (inr p) ↦ no_lone (is_lone y.content) (c.face + 1) y.face (above c.face y.face p)
-    ]) where
+    ])) where
       above : (k g : ℕ) → g ≤ k → k + 1 ≢ g
       above k g p e = absurd (omega arith)
 

@@ -1,5 +1,5 @@
 -- The conditions of a glue, part by part.
-use Rattle.std.proofs.Common.{◌≡◌, ℕ, true, false, cond, not, ◌&&◌, ◌||◌, nat_eq, List, [], ◌∷◌, ◌++◌, Option, Some, None, Result, Ok, Err, is_err, is_some, unwrap_or, refl, sym, ap, ◌∙◌, arith, true≢false}
+use Rattle.std.proofs.Common.{◌≡◌, ℕ, true, false, cond, ◌&&◌, ◌||◌, nat_eq, List, [], ◌∷◌, ◌++◌, Option, Some, None, Result, Ok, Err, is_err, is_some, unwrap_or, refl, sym, ap, ◌∙◌, arith, true≢false}
 use Rattle.std.proofs.lemmas.Bool.Decides.{nat_tests}
 use Rattle.euler_operators.specs.Table.{get}
 use Rattle.euler_operators.specs.Model.{Model, LoopRow, no_loop, content, face_of, solid_of, outer, faces_of}
@@ -8,13 +8,12 @@ use Rattle.euler_operators.proofs.Tables.{zero_first_where}
 use Rattle.euler_operators.proofs.Tests.{first_fails, or_true}
 use Rattle.euler_operators.proofs.Models.{loop_number}
 use Rattle.euler_operators.specs.Conditions.{Condition, first_refusal, verdict, is_lone, lists}
-use Rattle.euler_operators.specs.declared.Why.TheVariants.{LoneLoop, NotFlat}
 use Rattle.euler_operators.specs.declared.Refusal.{Refusal}
 use Rattle.euler_laws.proofs.shared.Goes.{all_hold, verdict_passed, verdict_failed}
+use Rattle.shapes.proofs.fresh.Tests.{none_found, none_is_lone}
 use Rattle.shapes.specs.Faces.{faces_of_both, least_lone}
-use Rattle.shapes.specs.Fresh.{taken_in, numbers_left, no_such, first_such}
+use Rattle.shapes.specs.Fresh.{taken_in, numbers_left}
 use Rattle.solid_measure.proofs.solid_checks_laws.FaceWalks.{lists_member, member_faces, member_both}
-use Rattle.solid_measure.specs.Measure.{is_flat}
 use Rattle.shapes.specs.glue.Glue.{glue_conditions}
 use Rattle.gluing.specs.glue_checks.Conditions.{face_conditions, solid_conditions, outline_conditions}
 use Rattle.solid_walks.proofs.face_walks_laws.Above.{member}
@@ -46,7 +45,7 @@ all_passed xs (Err r) is e = absurd (true≢false e)
 
 module _ (M : Model) (sound : Sound M) where
   -- where no loop of some faces is lone, none of their outer loops is
-  pub outer_held : (fs : List ℕ) (f : ℕ) → least_lone M fs ≡ 0 → Has M.faces f → lists fs f ≡ true → is_lone (content M (outer M f)) ≡ false
+  pub outer_held : (fs : List ℕ) (f : ℕ) → least_lone M fs ≡ None → Has M.faces f → lists fs f ≡ true → is_lone (content M (outer M f)) ≡ false
   unfolding content face_of
   outer_held fs f none there listed = go (get M.loops (outer M f)) refl where
     its_face : face_of M (outer M f) ≡ f
@@ -55,7 +54,7 @@ module _ (M : Model) (sound : Sound M) where
     go : (o : Option LoopRow) → get M.loops (outer M f) ≡ o → is_lone (unwrap_or (get M.loops (outer M f)) no_loop).content ≡ false
     go None e = ap (λ o. is_lone (unwrap_or o no_loop).content) e
     go (Some row) e =
-        let p = zero_first_where (λ _ row. is_lone row.content && lists fs row.face) M.loops (loop_number M sound) none (outer M f) row e in
+        let p = zero_first_where (λ _ row. is_lone row.content && lists fs row.face) M.loops (loop_number M sound) (none_is_lone M fs none) (outer M f) row e in
         let face : row.face ≡ f = sym (ap (λ o. (unwrap_or o no_loop).face) e) ∙ its_face in
         ap (λ o. is_lone (unwrap_or o no_loop).content) e ∙ first_fails (is_lone row.content) (lists fs row.face) p (ap (lists fs) face ∙ listed)
 
@@ -67,8 +66,11 @@ module _ (M : Model) (sound : Sound M) where
 
 -- the conditions of a glue, one part after the other
 module _ (M : Model) (f g : ℕ) where
+  abbrev numbers : List Condition
+  numbers = numbers_left (taken_in M) (record { faces = 0; loops = 0; edges = 1; vertices = 0 })
+
   abbrev later : List Condition
-  later = outline_conditions M f g ++ numbers_left (taken_in M) 0 0 1 0
+  later = outline_conditions M f g ++ numbers
 
   grouped : glue_conditions M f g ≡ face_conditions M f g ++ (solid_conditions M (solid_of M f) (solid_of M g) ++ later)
   unfolding glue_conditions
@@ -95,18 +97,13 @@ module _ (M : Model) (f g : ℕ) where
       after_solids = sym (refusal_parts (solid_conditions M (solid_of M f) (solid_of M g)) later solids) ∙ after_faces
 
       pub outlines_failed : (v : Result (Unit {0}) Refusal) → v ≡ verdict (first_refusal (outline_conditions M f g)) → is_err v ≡ true → v ≡ verdict (first_refusal (glue_conditions M f g))
-      outlines_failed v is e = first_failed (outline_conditions M f g) (numbers_left (taken_in M) 0 0 1 0) v is e ∙ ap verdict after_solids
+      outlines_failed v is e = first_failed (outline_conditions M f g) numbers v is e ∙ ap verdict after_solids
 
-      pub numbers_decide : first_refusal (outline_conditions M f g) ≡ None → first_refusal (numbers_left (taken_in M) 0 0 1 0) ≡ first_refusal (glue_conditions M f g)
-      numbers_decide outlines = sym (refusal_parts (outline_conditions M f g) (numbers_left (taken_in M) 0 0 1 0) outlines) ∙ after_solids
+      pub numbers_decide : first_refusal (outline_conditions M f g) ≡ None → first_refusal numbers ≡ first_refusal (glue_conditions M f g)
+      numbers_decide outlines = sym (refusal_parts (outline_conditions M f g) numbers outlines) ∙ after_solids
 
-      none_lone : least_lone M (faces_of_both M (solid_of M f) (solid_of M g)) ≡ 0
-      none_lone = zero_first (least_lone M (faces_of_both M (solid_of M f) (solid_of M g))) (no_such (first_such (λ k. not (is_flat M k)) (faces_of_both M (solid_of M f) (solid_of M g))) NotFlat ∷ []) solids where
-        zero_first : (n : ℕ) (cs : List Condition) → first_refusal (no_such n LoneLoop ∷ cs) ≡ None → n ≡ 0
-        zero_first n cs e = elim (nat_eq n 0) as (λ b. nat_eq n 0 ≡ b → cond b (first_refusal cs) (Some (record { why = LoneLoop; number = n })) ≡ None → n ≡ 0) [
-          | true ↦ λ t e. grind (arith, nat_tests)
-          | false ↦ λ t e. absurd (true≢false (ap is_some e))
-        ] refl e
+      none_lone : least_lone M (faces_of_both M (solid_of M f) (solid_of M g)) ≡ None
+      none_lone = none_found (least_lone M (faces_of_both M (solid_of M f) (solid_of M g))) (all_hold (solid_conditions M (solid_of M f) (solid_of M g)) solids).0
 
       -- neither outer loop is lone
       module _ (sound : Sound M) where

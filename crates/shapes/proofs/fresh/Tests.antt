@@ -1,12 +1,14 @@
 -- Conditions in lists, conditions by search, and numbers that are left.
 use Rattle.std.specs.Prelude.{nat_le}
-use Rattle.std.proofs.Common.{◌≡◌, ◌≢◌, ℕ, ◌+◌, ◌≤◌, Bool, true, false, cond, List, [], ◌∷◌, ◌++◌, Some, None, refl, ap, ◌∙◌, arith}
+use Rattle.std.proofs.Common.{◌≡◌, ℕ, ◌+◌, ◌≤◌, Bool, true, false, cond, not, nat_eq, ◌&&◌, List, [], ◌∷◌, ◌++◌, Option, Some, None, is_some, refl, ap, arith, true≢false}
 use Rattle.std.proofs.lemmas.Bool.Decides.{nat_tests}
-use Rattle.std.proofs.lemmas.Bool.{leb-true}
-use Rattle.euler_operators.specs.Model.{is_number}
-use Rattle.euler_operators.specs.Conditions.{Condition, AllHold, first_refusal}
+use Rattle.std.proofs.lemmas.Bool.{leb-true, eqb-true}
+use Rattle.euler_operators.specs.Table.{first_where}
+use Rattle.euler_operators.specs.Model.{Model, is_number}
+use Rattle.euler_operators.specs.Conditions.{Condition, AllHold, first_refusal, is_lone, lists}
 use Rattle.euler_operators.specs.declared.Refusal.{Refusal}
-use Rattle.shapes.specs.Fresh.{first_such, Taken, numbers_left}
+use Rattle.shapes.specs.Faces.{least_lone}
+use Rattle.shapes.specs.Fresh.{first_such, found, Taken, numbers_left}
 
 -- the refusal of lists of conditions, one after the other
 pub first_refusal-append : (cs ds : List Condition) → first_refusal cs ≡ None → first_refusal (cs ++ ds) ≡ first_refusal ds
@@ -25,28 +27,33 @@ first_refusal-refused (c ∷ cs) ds r e =
       | false ↦ λ e. e
     ] e
 
+-- where a search must find nothing, it finds nothing
+pub none_found : (o : Option ℕ) → not (is_some o) ≡ true → o ≡ None
+none_found None e = refl
+none_found (Some n) e = absurd (true≢false (ap not e))
+
+pub zero_found : (n : ℕ) → found n ≡ None → n ≡ 0
+zero_found n e = elim (nat_eq n 0) as (λ b. nat_eq n 0 ≡ b → cond b None (Some n) ≡ None → n ≡ 0) [
+  | true ↦ λ t _. eqb-true n 0 t
+  | false ↦ λ _ e. absurd (true≢false (ap is_some e))
+] refl e
+
+pub none_is_lone : (M : Model) (fs : List ℕ) → least_lone M fs ≡ None → first_where (λ _ row. is_lone row.content && lists fs row.face) M.loops ≡ 0
+none_is_lone M fs e = zero_found (first_where (λ _ row. is_lone row.content && lists fs row.face) M.loops) e
+
 -- a test is false of each number of a list
 abbrev pub NoneSuch : (ℕ → Bool) → List ℕ → Type 0
 NoneSuch p [] = Unit {0}
 NoneSuch p (n ∷ ns) = (p n ≡ false) × NoneSuch p ns
 
--- no number of a list is 0
-abbrev pub NoZero : List ℕ → Type 0
-NoZero [] = Unit {0}
-NoZero (n ∷ ns) = (n ≢ 0) × NoZero ns
-
--- where a search answers 0, the test is false of each number, and the other way
-pub none_such : (p : ℕ → Bool) (ns : List ℕ) → NoZero ns → first_such p ns ≡ 0 → NoneSuch p ns
-none_such p [] z e = tt
-none_such p (n ∷ ns) z e =
-    elim (p n) as (λ b. p n ≡ b → cond b n (first_such p ns) ≡ 0 → NoneSuch p (n ∷ ns)) [
-      | true ↦ λ is e. absurd (z.0 e)
-      | false ↦ λ is e. (is, none_such p ns z.1 e)
+-- where a search finds nothing, the test is false of each number
+pub none_such : (p : ℕ → Bool) (ns : List ℕ) → first_such p ns ≡ None → NoneSuch p ns
+none_such p [] e = tt
+none_such p (n ∷ ns) e =
+    elim (p n) as (λ b. p n ≡ b → cond b (Some n) (first_such p ns) ≡ None → NoneSuch p (n ∷ ns)) [
+      | true ↦ λ is e. absurd (true≢false (ap is_some e))
+      | false ↦ λ is e. (is, none_such p ns e)
     ] refl e
-
-pub first_such_zero : (p : ℕ → Bool) (ns : List ℕ) → NoneSuch p ns → first_such p ns ≡ 0
-first_such_zero p [] h = refl
-first_such_zero p (n ∷ ns) h = ap (λ b. cond b n (first_such p ns)) h.0 ∙ first_such_zero p ns h.1
 
 -- of each number that stands at a place of the list
 pub none_such-append : (p : ℕ → Bool) (ns ms : List ℕ) → NoneSuch p (ns ++ ms) → NoneSuch p ns × NoneSuch p ms
@@ -63,7 +70,7 @@ pub record Left (c : Taken) (f l e v : ℕ) : Type 0 where
 fitting : (a n : ℕ) → a ≤ n → nat_le a n ≡ true
 fitting a n e = grind (arith, nat_tests)
 
-pub numbers_are_left : (c : Taken) (f l e v : ℕ) → AllHold (numbers_left c f l e v) → Left c f l e v
+pub numbers_are_left : (c : Taken) (f l e v : ℕ) → AllHold (numbers_left c (record { faces = f; loops = l; edges = e; vertices = v })) → Left c f l e v
 numbers_are_left c f l e v h = record {
   faces = leb-true (c.face + f) 1000000 h.0;
   loops = leb-true (c.loop + l) 1000000 h.1.0;
@@ -71,7 +78,7 @@ numbers_are_left c f l e v h = record {
   vertices = leb-true (c.vertex + v) 1000000 h.1.1.1.0;
 }
 
-pub left_numbers_hold : (c : Taken) (f l e v : ℕ) → Left c f l e v → AllHold (numbers_left c f l e v)
+pub left_numbers_hold : (c : Taken) (f l e v : ℕ) → Left c f l e v → AllHold (numbers_left c (record { faces = f; loops = l; edges = e; vertices = v }))
 left_numbers_hold c f l e v h = (fitting _ _ h.faces, (fitting _ _ h.loops, (fitting _ _ h.edges, (fitting _ _ h.vertices, tt))))
 
 -- a number above 0 and within the limit

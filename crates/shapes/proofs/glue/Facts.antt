@@ -1,8 +1,8 @@
 -- What it says that a glue isn't refused.
-use Rattle.std.proofs.Common.{◌≡◌, ◌≢◌, ℕ, suc, ◌≤◌, Bool, true, false, not, nat_eq, ◌&&◌, ◌||◌, List, [], ◌∷◌, ◌++◌, length, Some, None, is_some, refl, sym, ap, ◌∙◌, subst, arith, inl, inr, true≢false}
+use Rattle.std.proofs.Common.{◌≡◌, ◌≢◌, ℕ, suc, ◌≤◌, Bool, true, false, not, nat_eq, ◌&&◌, ◌||◌, List, [], ◌∷◌, ◌++◌, length, Some, None, unwrap_or, refl, sym, ap, ◌∙◌, subst, arith, inl, inr, true≢false}
 use Rattle.std.specs.Prelude.{map, reverse}
 use Rattle.std.proofs.lemmas.Bool.Decides.{nat_tests}
-use Rattle.std.proofs.lemmas.Bool.{not-true, not-false, eqb-true, eqb-false}
+use Rattle.std.proofs.lemmas.Bool.{not-true, not-false, eqb-false}
 use Rattle.std.proofs.lemmas.List.{append-nil}
 use Rattle.euler_operators.specs.declared.Point.{Point}
 use Rattle.euler_operators.specs.Vectors.{same_point, origin, moved, cross}
@@ -19,16 +19,16 @@ use Rattle.euler_operators.specs.Sound.{Sound, Has, HasHalf, StandsIn, IsCycle}
 use Rattle.euler_operators.proofs.Halves.{mate-mate, mate_other}
 use Rattle.euler_operators.proofs.Tables.{zero_first_where}
 use Rattle.euler_operators.proofs.Models.{in-holds, loop_number}
-use Rattle.euler_operators.proofs.Tests.{and_first, first_fails, or_true}
+use Rattle.euler_operators.proofs.Tests.{and_first, first_fails}
 use Rattle.euler_operators.proofs.Members.{no_cons}
 use Rattle.euler_operators.proofs.Crossings.{same_as}
 use Rattle.euler_operators.specs.Conditions.{AllHold, is_lone, lists, has_rings}
-use Rattle.euler_laws.proofs.shared.Goes.{all_hold, no_zero}
-use Rattle.euler_laws.proofs.shared.Listed.{listed_as, listed_cases, listed_passes}
+use Rattle.euler_laws.proofs.shared.Goes.{all_hold}
+use Rattle.euler_laws.proofs.shared.Listed.{listed_as, listed_cases}
 use Rattle.euler_laws.proofs.shared.Rows.{loop_row, face_there, no_rings_means, not_lone_cycle, empty_is}
 use Rattle.euler_laws.proofs.shared.Loops.{IsLoop, loop_sound}
 use Rattle.shapes.proofs.fresh.Rows.{none_above}
-use Rattle.shapes.proofs.fresh.Tests.{NoneSuch, NoZero, none_such, Left, numbers_are_left, number_fits}
+use Rattle.shapes.proofs.fresh.Tests.{NoneSuch, none_found, none_is_lone, none_such, Left, numbers_are_left, number_fits}
 use Rattle.shapes.specs.Faces.{start, finish, boundary, items_in, loops_of, faces_of_both, least_lone}
 use Rattle.shapes.specs.Fresh.{first_such, taken_in}
 use Rattle.shapes.specs.Measure.{area, normal, is_flat, plane_of}
@@ -45,12 +45,6 @@ none_listed p (k ∷ ns) n none l = elim (listed_cases k n ns l) [
   | inl e ↦ ap p e ∙ none.0
   | inr m ↦ none_listed p ns n none.1 m
 ]
-
-none_zero : (ns : List ℕ) → ((n : ℕ) → lists ns n ≡ true → n ≢ 0) → NoZero ns
-none_zero [] never = tt
-none_zero (n ∷ ns) never = (never n (ap (λ b. b || lists ns n) (same n)), none_zero ns (λ k l. never k (ap (λ b. nat_eq n k || b) l ∙ or_true (nat_eq n k)))) where
-  same : (n : ℕ) → nat_eq n n ≡ true
-  same n = grind (arith, nat_tests)
 
 -- ---- a loop of a sound model
 
@@ -224,11 +218,11 @@ module _ (M : Model) (f g : ℕ) (sound : Sound M) (accepted : glue_refusal M f 
 
   none_lone : table.first_where (λ _ row. is_lone row.content && lists fs row.face) M.loops ≡ 0
   unfolding glue_conditions
-  none_lone = eqb-true (least_lone M fs) 0 hold.1.1.1.1.1.1.1.0
+  none_lone = none_is_lone M fs (none_found (least_lone M fs) hold.1.1.1.1.1.1.1.0)
 
-  none_bent : first_such (λ k. not (is_flat M k)) fs ≡ 0
+  none_bent : first_such (λ k. not (is_flat M k)) fs ≡ None
   unfolding glue_conditions
-  none_bent = eqb-true (first_such (λ k. not (is_flat M k)) fs) 0 hold.1.1.1.1.1.1.1.1.0
+  none_bent = none_found (first_such (λ k. not (is_flat M k)) fs) hold.1.1.1.1.1.1.1.1.0
 
   points_f : has_repeats (outline M f) ≡ false
   unfolding glue_conditions
@@ -272,7 +266,7 @@ module _ (M : Model) (f g : ℕ) (sound : Sound M) (accepted : glue_refusal M f 
 
   flat_g : is_flat M g ≡ true
   flat_g = not-false (is_flat M g) (none_listed (λ k. not (is_flat M k)) fs g
-      (none_such (λ k. not (is_flat M k)) fs (none_zero fs (λ n l z. no_zero n z (sound.faces_fit n (ap is_some (listed_passes (λ _ row. nat_eq row.solid s || nat_eq row.solid t) M.faces n l).1)))) none_bent) listed_g)
+      (none_such (λ k. not (is_flat M k)) fs none_bent) listed_g)
 
   has_f : Has M.loops (outer M f)
   has_f = (sound.outers_there f f_there).0
@@ -294,8 +288,8 @@ module _ (M : Model) (f g : ℕ) (sound : Sound M) (accepted : glue_refusal M f 
   in_g y i = omega (arith, i, IsRotation-same items_g (reverse turned.0) turned.2 y, count-reverse y turned.0)
 
   partner_is : (h y : ℕ) → IsIn y items_g → start M y ≡ finish M h → partner_of h ≡ y
-  partner_is h y i e = such_is (λ k. same_point (start M k) (finish M h)) items_g y i (same_as (start M y) (finish M h) e)
-      (λ j p q. once (start M) items_g points_g j y p i (same_is (start M j) (finish M h) q ∙ sym e))
+  partner_is h y i e = ap (λ o. unwrap_or o 0) (such_is (λ k. same_point (start M k) (finish M h)) items_g y i (same_as (start M y) (finish M h) e)
+      (λ j p q. once (start M) items_g points_g j y p i (same_is (start M j) (finish M h) q ∙ sym e)))
 
   found : (h : ℕ) → IsIn h items_f → (y : ℕ) × IsIn y items_g × (start M y ≡ finish M h)
   found h i =

@@ -1,5 +1,5 @@
 -- Lists of points: equal ones, none twice, one turned; and where a search finds the only such number.
-use Rattle.std.proofs.Common.{◌≡◌, ℕ, zero, suc, ℤ, pos, ◌+ℤ◌, ◌-ℤ◌, ◌*ℤ◌, Bool, true, false, cond, ◌&&◌, ◌||◌, List, [], ◌∷◌, ◌++◌, refl, sym, ap, ◌∙◌, arith, true≢false, inl, inr}
+use Rattle.std.proofs.Common.{◌≡◌, ℕ, zero, suc, ℤ, pos, ◌+ℤ◌, ◌-ℤ◌, ◌*ℤ◌, Bool, true, false, cond, ◌&&◌, ◌||◌, List, [], ◌∷◌, ◌++◌, refl, sym, ap, ◌∙◌, arith, true≢false, inl, inr, Some}
 use Rattle.std.specs.Prelude.{map, reverse, take, drop, length}
 use Rattle.std.specs.List.{list_any}
 use Rattle.std.specs.Ordering.{int_eq}
@@ -117,10 +117,10 @@ module _ (a : ℕ → Point) where
   ]
 
 -- a search finds the only number that passes
-pub such_is : (test : ℕ → Bool) (ks : List ℕ) (k : ℕ) → IsIn k ks → test k ≡ true → ((j : ℕ) → IsIn j ks → test j ≡ true → j ≡ k) → first_such test ks ≡ k
+pub such_is : (test : ℕ → Bool) (ks : List ℕ) (k : ℕ) → IsIn k ks → test k ≡ true → ((j : ℕ) → IsIn j ks → test j ≡ true → j ≡ k) → first_such test ks ≡ Some k
 such_is test [] k i t only = absurd (omega (arith, i))
-such_is test (n ∷ ks) k i t only = elim (test n) as (λ b. test n ≡ b → cond b n (first_such test ks) ≡ k) [
-  | true ↦ λ e. only n (omega (arith, tick_same n)) e
+such_is test (n ∷ ks) k i t only = elim (test n) as (λ b. test n ≡ b → cond b (Some n) (first_such test ks) ≡ Some k) [
+  | true ↦ λ e. ap Some (only n (omega (arith, tick_same n)) e)
   | false ↦ λ e. such_is test ks k (elim (eqb_tells k n) [ inl s ↦ absurd (true≢false (sym t ∙ ap test s.1 ∙ e)) | inr ne ↦ omega (arith, i, tick_other k n ne.1) ]) t (λ j q. only j (omega (arith, q)))
 ] refl
 

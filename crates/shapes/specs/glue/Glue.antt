@@ -1,5 +1,5 @@
 -- Two solids glued together at a face of each.
-use Rattle.std.specs.Prelude.{ℕ, zero, suc, Bool, true, false, not, ◌&&◌, ◌||◌, nat_eq, List, [], ◌∷◌, ◌++◌, map, reverse, length, take, drop, Option}
+use Rattle.std.specs.Prelude.{ℕ, zero, suc, Bool, true, false, not, ◌&&◌, ◌||◌, nat_eq, List, [], ◌∷◌, ◌++◌, map, reverse, length, take, drop, Option, unwrap_or}
 use Rattle.std.specs.List.{list_any}
 use Rattle.euler_operators.specs.declared.Point.{Point}
 use Rattle.euler_operators.specs.Vectors.{same_point}
@@ -54,7 +54,7 @@ glue_conditions M f g = let s = solid_of M f in let t = solid_of M g in
     ∷ never (has_repeats (outline M f)) RepeatedPoint f
     ∷ never (has_repeats (outline M g)) RepeatedPoint g
     ∷ need (is_rotation (outline M f) (reverse (outline M g))) NoMatch g
-    ∷ numbers_left (taken_in M) 0 0 1 0
+    ∷ numbers_left (taken_in M) (record { faces = 0; loops = 0; edges = 1; vertices = 0 })
 
 -- the refusal of the first false condition, if one is false
 abbrev pub glue_refusal : Model → ℕ → ℕ → Option Refusal
@@ -62,7 +62,7 @@ glue_refusal M f g = first_refusal (glue_conditions M f g)
 
 -- the half-edge among gs that starts where h ends
 abbrev pub partner : Model → List ℕ → ℕ → ℕ
-partner M gs h = first_such (λ g. same_point (start M g) (finish M h)) gs
+partner M gs h = unwrap_or (first_such (λ g. same_point (start M g) (finish M h)) gs) 0
 
 -- each item h of the first face with its partner g, which goes back along it: (h, g)
 abbrev pub partners : Model → List ℕ → List ℕ → List (ℕ × ℕ)

@@ -1,5 +1,5 @@
 -- The edges of the section, between a face above and a face below, and their cycles.
-use Rattle.std.specs.Prelude.{ℕ, ◌+◌, pos, int_lt, Bool, cond, not, ◌&&◌, nat_eq, nat_lt, List, [], ◌∷◌, ◌++◌, map, length, filter, flat_map}
+use Rattle.std.specs.Prelude.{ℕ, ◌+◌, pos, int_lt, Bool, cond, not, ◌&&◌, nat_eq, nat_lt, List, [], ◌∷◌, ◌++◌, map, length, filter, flat_map, Option, unwrap_or}
 use Rattle.euler_operators.specs.declared.Plane.{Plane}
 use Rattle.euler_operators.specs.Vectors.{dot, direction}
 use Rattle.euler_operators.specs.Items.{count, least}
@@ -9,7 +9,7 @@ use Rattle.euler_operators.specs.Table as table
 use Rattle.euler_operators.specs.Model.{Model, tail}
 use Rattle.euler_operators.specs.Conditions.{face_at, lists}
 use Rattle.shapes.specs.Faces.{edges_of}
-use Rattle.shapes.specs.Fresh.{first_such}
+use Rattle.shapes.specs.Fresh.{first_such, found}
 use Rattle.shapes.specs.Measure.{area}
 
 -- the half of a section edge in the face below. Nothing where the edge is none; `above` are the faces above
@@ -21,16 +21,16 @@ below_half M above e = let a = lists above (face_at M (plus e)) in let b = lists
 unfoldable pub below_halves : Model → List ℕ → ℕ → List ℕ
 below_halves M above s = flat_map (below_half M above) (edges_of M s)
 
--- the ends of the section edges, and the least vertex at which more than two of these edges meet, or 0
+-- the ends of the section edges, and the least vertex at which more than two of these edges meet, if there is one
 abbrev pub section_ends : Model → List ℕ → List ℕ
 section_ends M bs = map (tail M) bs ++ map (λ b. tail M (mate b)) bs
 
-abbrev pub least_branched : Model → List ℕ → ℕ
-least_branched M ends = table.first_where (λ v _. nat_lt 2 (count v ends)) M.vertices
+abbrev pub least_branched : Model → List ℕ → Option ℕ
+least_branched M ends = found (table.first_where (λ v _. nat_lt 2 (count v ends)) M.vertices)
 
 -- the below half that starts where b ends
 abbrev pub next_below : Model → List ℕ → ℕ → ℕ
-next_below M bs b = first_such (λ c. nat_eq (tail M c) (tail M (mate b))) bs
+next_below M bs b = unwrap_or (first_such (λ c. nat_eq (tail M c) (tail M (mate b))) bs) 0
 
 -- the cycle of below halves from b on
 abbrev pub cycle_from : Model → List ℕ → ℕ → List ℕ

@@ -12,7 +12,7 @@ use Rattle.euler_operators.specs.Effect.{part}
 use Rattle.euler_operators.specs.declared.Refusal.{Refusal}
 use Rattle.euler_operators.specs.declared.Why.TheVariants.{NoSolid, SolidTaken, PlaneRange, LoneLoop, NotFlat, PlaneMisses, NotLattice, TouchedFace, CutOften, CutCrossed, BranchedVertex, SectionHoles}
 use Rattle.shapes.specs.Faces.{least_lone, start, finish}
-use Rattle.shapes.specs.Fresh.{Taken, taken_in, numbers_left, no_such, first_such}
+use Rattle.shapes.specs.Fresh.{Taken, taken_in, numbers_left, no_such, first_such, found}
 use Rattle.shapes.specs.Measure.{is_flat}
 use Rattle.shapes.specs.split.Sides.{reaches_above, reaches_below, straddling_faces, crossing_edges, faces_above}
 use Rattle.shapes.specs.split.Places.{is_touched, is_cut_often, is_crossed, pair_count}
@@ -32,12 +32,12 @@ plane_in_range p =
 
 -- what is asked of the edges that cross the plane, of the faces that straddle it, and of the numbers that cutting them takes
 abbrev pub cut_conditions : Model → Plane → List ℕ → List ℕ → List Condition
-cut_conditions M p es fs =
+cut_conditions M p es fs = let n = pair_count M p fs in
     no_such (first_such (λ e. not (cuts_lattice p (start M (plus e)) (finish M (plus e)))) es) NotLattice
     ∷ no_such (first_such (is_touched M p) fs) TouchedFace
     ∷ no_such (first_such (is_cut_often M p) fs) CutOften
     ∷ no_such (first_such (is_crossed M p) fs) CutCrossed
-    ∷ numbers_left (taken_in M) (pair_count M p fs) (pair_count M p fs) (length es + pair_count M p fs) (length es)
+    ∷ numbers_left (taken_in M) (record { faces = n; loops = n; edges = length es + n; vertices = length es })
 
 -- the conditions that are tested before anything is changed
 unfoldable pub first_conditions : Model → ℕ → Plane → ℕ → List Condition
@@ -55,7 +55,7 @@ first_conditions M s p t =
 abbrev pub cycle_conditions : Model → ℕ → Plane → Taken → ℕ → List (List ℕ) → List Condition
 cycle_conditions M s p c n cs =
     never (has_stray_hole M p cs) SectionHoles s
-    ∷ numbers_left c (n + length cs) (n + length cs) (2 * n) n
+    ∷ numbers_left c (record { faces = n + length cs; loops = n + length cs; edges = 2 * n; vertices = n })
 
 unfoldable pub section_conditions : Model → ℕ → Plane → Taken → List ℕ → List Condition
 section_conditions M s p c bs =
@@ -64,7 +64,7 @@ section_conditions M s p c bs =
 
 -- the conditions that are tested once the faces are drawn
 abbrev pub later_conditions : ℕ → Plane → Drawing → List Condition
-later_conditions s p d = no_such d.stuck CutCrossed ∷ section_conditions d.model s p d.taken (below_halves d.model (faces_above d.model p s) s)
+later_conditions s p d = no_such (found d.stuck) CutCrossed ∷ section_conditions d.model s p d.taken (below_halves d.model (faces_above d.model p s) s)
 
 unfoldable pub split_conditions : Model → ℕ → Plane → ℕ → List Condition
 split_conditions M s p t = first_conditions M s p t ++ later_conditions s p (with_drawings M s p)

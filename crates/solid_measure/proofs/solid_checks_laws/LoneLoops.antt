@@ -12,7 +12,7 @@ use Rattle.shapes.specs.Faces.{loops_of, least_lone, faces_of_both}
 use Rattle.solid_walks.proofs.face_walks_laws.Above.{member, AllAbove, all_above_members}
 use Rattle.solid_walks.proofs.face_walks_laws.TableWalks.{passes, member_passing}
 use Rattle.solid_walks.proofs.face_walks_laws.RingWalks.{member_rings}
-use Rattle.solid_measure.specs.solid_checks.Least.{found, lesser, least_such}
+use Rattle.solid_measure.specs.solid_checks.Least.{lesser, least_such}
 use Rattle.solid_measure.proofs.solid_checks_laws.Searches.{IsLeast, one_least, least_same, least_either, least_listed, least_row}
 use Rattle.solid_measure.proofs.solid_checks_laws.FaceWalks.{lists_member, member_faces, member_both}
 
@@ -70,8 +70,8 @@ module _ (M : Model) where
     positive : (fs : List ℕ) → AllAbove 0 (all_where (lone_row fs) M.loops)
     positive fs = all_above_members 0 (all_where (lone_row fs) M.loops) (λ k m. one_or_more k (sound.loops_fit k (there fs k (get M.loops k) (sym (member_passing (lone_row fs) M.loops k) ∙ m))))
 
-    found_least : (fs : List ℕ) → IsLeast (lone_in fs) (found (least_lone M fs))
-    found_least fs = least_same (λ k. passes (lone_row fs) k (get M.loops k)) (lone_in fs) (row_passes fs) (found (least_lone M fs)) (least_row (lone_row fs) M.loops (positive fs))
+    found_least : (fs : List ℕ) → IsLeast (lone_in fs) (least_lone M fs)
+    found_least fs = least_same (λ k. passes (lone_row fs) k (get M.loops k)) (lone_in fs) (row_passes fs) (least_lone M fs) (least_row (lone_row fs) M.loops (positive fs))
 
     member_loops : (f k : ℕ) → Has M.faces f → member k (loops_of M f) ≡ has M.loops k && nat_eq f (face_of M k)
     unfolding loops_of
@@ -99,18 +99,18 @@ module _ (M : Model) where
           itself n = let e : nat_eq n n ≡ true = grind (arith, nat_tests) in ap (λ b. b || member n fs) e
 
     -- face by face one finds the least of all
-    pub among_is : (s : ℕ) → lone_among (faces_of M s) ≡ found (least_lone M (faces_of M s))
-    among_is s = one_least (lone_in (faces_of M s)) (lone_among (faces_of M s)) (found (least_lone M (faces_of M s)))
+    pub among_is : (s : ℕ) → lone_among (faces_of M s) ≡ least_lone M (faces_of M s)
+    among_is s = one_least (lone_in (faces_of M s)) (lone_among (faces_of M s)) (least_lone M (faces_of M s))
         (among_least (faces_of M s) (λ f m. and_first (has M.faces f) _ (sym (member_faces M s f) ∙ m))) (found_least (faces_of M s))
 
     both_lists : (s t k : ℕ) → lists (faces_of_both M s t) k ≡ lists (faces_of M s) k || lists (faces_of M t) k
     both_lists s t k = lists_member (faces_of_both M s t) k ∙ member_both M s t k ∙ sym (λ i. lists_member (faces_of M s) k i || lists_member (faces_of M t) k i)
 
     -- and solid by solid
-    pub both_lone : (s t : ℕ) → lesser (found (least_lone M (faces_of M s))) (found (least_lone M (faces_of M t))) ≡ found (least_lone M (faces_of_both M s t))
-    both_lone s t = one_least (lone_in (faces_of_both M s t)) (lesser (found (least_lone M (faces_of M s))) (found (least_lone M (faces_of M t)))) (found (least_lone M (faces_of_both M s t)))
+    pub both_lone : (s t : ℕ) → lesser (least_lone M (faces_of M s)) (least_lone M (faces_of M t)) ≡ least_lone M (faces_of_both M s t)
+    both_lone s t = one_least (lone_in (faces_of_both M s t)) (lesser (least_lone M (faces_of M s)) (least_lone M (faces_of M t))) (least_lone M (faces_of_both M s t))
         (least_same (λ k. lone_in (faces_of M s) k || lone_in (faces_of M t) k) (lone_in (faces_of_both M s t))
         (λ k. spread (lone_at k) (has M.loops k) (lists (faces_of M s) (face_of M k)) (lists (faces_of M t) (face_of M k)) ∙ ap (λ b. lone_at k && (has M.loops k && b)) (sym (both_lists s t (face_of M k))))
-        (lesser (found (least_lone M (faces_of M s))) (found (least_lone M (faces_of M t))))
-        (least_either (lone_in (faces_of M s)) (lone_in (faces_of M t)) (found (least_lone M (faces_of M s))) (found (least_lone M (faces_of M t))) (found_least (faces_of M s)) (found_least (faces_of M t))))
+        (lesser (least_lone M (faces_of M s)) (least_lone M (faces_of M t)))
+        (least_either (lone_in (faces_of M s)) (lone_in (faces_of M t)) (least_lone M (faces_of M s)) (least_lone M (faces_of M t)) (found_least (faces_of M s)) (found_least (faces_of M t))))
         (found_least (faces_of_both M s t))

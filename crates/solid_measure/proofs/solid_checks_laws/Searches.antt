@@ -4,10 +4,10 @@ use Rattle.std.proofs.lemmas.Bool.Decides.{nat_tests, eqb_tells}
 use Rattle.std.proofs.lemmas.Bool.{or_left, or_right}
 use Rattle.euler_operators.specs.Table.{Table, get, first_in, first_where, all_in, all_where}
 use Rattle.euler_operators.proofs.Tests.{and_false}
-use Rattle.shapes.specs.Fresh.{first_such}
+use Rattle.shapes.specs.Fresh.{first_such, found}
 use Rattle.solid_walks.proofs.face_walks_laws.Above.{member, AllAbove, Rising, not_member}
 use Rattle.solid_walks.proofs.face_walks_laws.TableWalks.{passes, rising_passing, member_passing}
-use Rattle.solid_measure.specs.solid_checks.Least.{found, only, lesser, least_such}
+use Rattle.solid_measure.specs.solid_checks.Least.{only, lesser, least_such}
 
 abbrev pub IsLeast : (ℕ → Bool) → Option ℕ → Type 0
 IsLeast p None = (k : ℕ) → p k ≡ false
@@ -74,14 +74,14 @@ found_some : (n : ℕ) → 0 < n → found n ≡ Some n
 found_some n l = let e : nat_eq n 0 ≡ false = grind (arith, nat_tests) in ap (λ b. cond b None (Some n)) e
 
 -- the first of a rising list is its least
-pub least_rising : (p : ℕ → Bool) (ks : List ℕ) → AllAbove 0 ks → Rising ks → IsLeast (λ k. p k && member k ks) (found (first_such p ks))
-least_rising p [] some rising = λ k. sym (no_member (p k))
-least_rising p (n ∷ ns) some rising = elim (p n) as (λ b. p n ≡ b → IsLeast (λ k. p k && member k (n ∷ ns)) (found (cond b n (first_such p ns)))) [
-  | true ↦ λ t. least_here t
+pub least_rising : (p : ℕ → Bool) (ks : List ℕ) → Rising ks → IsLeast (λ k. p k && member k ks) (first_such p ks)
+least_rising p [] rising = λ k. sym (no_member (p k))
+least_rising p (n ∷ ns) rising = elim (p n) as (λ b. p n ≡ b → IsLeast (λ k. p k && member k (n ∷ ns)) (cond b (Some n) (first_such p ns))) [
+  | true ↦ λ t. (here t, below)
   | false ↦ λ t. least_same (λ k. p k && member k ns) (λ k. p k && member k (n ∷ ns)) (λ k. elim (eqb_tells k n) [
     | inl e ↦ (λ i. p (e.1 i) && member k ns) ∙ ap (λ b. b && member k ns) t ∙ sym (ap (λ b. b && member k (n ∷ ns)) t) ∙ (λ i. p (sym e.1 i) && member k (n ∷ ns))
     | inr e ↦ ap (λ b. p k && (b || member k ns)) (sym e.0)
-  ]) (found (first_such p ns)) (least_rising p ns some.1 rising.1)
+  ]) (first_such p ns) (least_rising p ns rising.1)
 ] refl where
   below : (k : ℕ) → k < n → p k && member k (n ∷ ns) ≡ false
   below k l =
@@ -91,21 +91,21 @@ least_rising p (n ∷ ns) some rising = elim (p n) as (λ b. p n ≡ b → IsLea
   here : p n ≡ true → p n && member n (n ∷ ns) ≡ true
   here t = let e : nat_eq n n ≡ true = grind (arith, nat_tests) in (λ i. t i && (e i || member n ns))
 
-  least_here : p n ≡ true → IsLeast (λ k. p k && member k (n ∷ ns)) (found n)
-  least_here t = subst (IsLeast (λ k. p k && member k (n ∷ ns))) (sym (found_some n some.0)) (here t, below)
-
 -- the first row that passes is the first of all that pass
-first_of_all : {X : Type 0} (p : ℕ → X → Bool) (t : Table X) → first_where p t ≡ first_such (λ _. true) (all_where p t)
+first_of_all : {X : Type 0} (p : ℕ → X → Bool) (t : Table X) → AllAbove 0 (all_where p t) → found (first_where p t) ≡ first_such (λ _. true) (all_where p t)
 unfolding first_where all_where
-first_of_all {X} p t = go t.rows where
-  go : (es : List (ℕ × X)) → first_in p es ≡ first_such (λ _. true) (all_in p es)
-  go [] = refl
-  go (e ∷ es) = elim (p e.0 e.1) as (λ b. cond b e.0 (first_in p es) ≡ first_such (λ _. true) (cond b (e.0 ∷ all_in p es) (all_in p es))) [ true ↦ refl | false ↦ go es ]
+first_of_all {X} p t some = go t.rows some where
+  go : (es : List (ℕ × X)) → AllAbove 0 (all_in p es) → found (first_in p es) ≡ first_such (λ _. true) (all_in p es)
+  go [] some = refl
+  go (e ∷ es) some = elim (p e.0 e.1) as (λ b. AllAbove 0 (cond b (e.0 ∷ all_in p es) (all_in p es)) → found (cond b e.0 (first_in p es)) ≡ first_such (λ _. true) (cond b (e.0 ∷ all_in p es) (all_in p es))) [
+    | true ↦ λ some. found_some e.0 some.0
+    | false ↦ go es
+  ] some
 
 -- the least row that passes
 pub least_row : {X : Type 0} (p : ℕ → X → Bool) (t : Table X) → AllAbove 0 (all_where p t) → IsLeast (λ k. passes p k (get t k)) (found (first_where p t))
-least_row {X} p t some = subst (λ n. IsLeast (λ k. passes p k (get t k)) (found n)) (sym (first_of_all p t))
-    (least_same (λ k. true && member k (all_where p t)) (λ k. passes p k (get t k)) (member_passing p t) (found (first_such (λ _. true) (all_where p t))) (least_rising (λ _. true) (all_where p t) some (rising_passing p t)))
+least_row {X} p t some = subst (IsLeast (λ k. passes p k (get t k))) (sym (first_of_all p t some))
+    (least_same (λ k. true && member k (all_where p t)) (λ k. passes p k (get t k)) (member_passing p t) (first_such (λ _. true) (all_where p t)) (least_rising (λ _. true) (all_where p t) (rising_passing p t)))
 
 -- three numbers, one after the other
 pub lesser_of_three : (a b c : Option ℕ) → lesser (lesser a b) c ≡ lesser a (lesser b c)

@@ -1,9 +1,5 @@
 -- The least of some numbers, where there is one.
-use Rattle.std.specs.Prelude.{ℕ, Bool, cond, nat_eq, nat_le, List, [], ◌∷◌, Option, Some, None}
-
--- what a search has found, where 0 is nothing
-abbrev pub found : ℕ → Option ℕ
-found n = cond (nat_eq n 0) None (Some n)
+use Rattle.std.specs.Prelude.{ℕ, Bool, cond, nat_le, List, [], ◌∷◌, Option, Some, None}
 
 -- the number alone, if it is wanted
 abbrev pub only : Bool → ℕ → Option ℕ

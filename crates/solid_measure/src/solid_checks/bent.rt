@@ -6,7 +6,6 @@ ghost use Rattle.euler_conditions.specs.Store.{has_number};
 ghost use Rattle.shapes.specs.Faces.{faces_of_both};
 ghost use Rattle.shapes.specs.Fresh.{first_such};
 ghost use Rattle.solid_measure.specs.Measure.{is_flat};
-ghost use Rattle.solid_measure.specs.solid_checks.Least.{found};
 
 use crate::solid_checks::least::lesser;
 use euler_conditions::Arena;
@@ -27,7 +26,7 @@ fn is_bent(arena: &Arena, f: u32) -> bool
 /// The least face of solid s that isn't flat, if there is one. It measures the faces of the solid up to that one.
 pub fn least_bent(arena: &Arena, s: u32) -> Option<u32>
     requires { IsReady arena.now }
-    ensures { result ≡ found (first_such (λ f. not (is_flat arena.now.model f)) (faces_of arena.now.model s)) }
+    ensures { result ≡ first_such (λ f. not (is_flat arena.now.model f)) (faces_of arena.now.model s) }
 {
     let mut above = 0;
     'faces: while let Some(f) = arena.face_after(s, above) {
@@ -42,7 +41,7 @@ pub fn least_bent(arena: &Arena, s: u32) -> Option<u32>
 /// The least face of two solids that isn't flat, if there is one.
 pub fn least_bent_of_both(arena: &Arena, s: u32, t: u32) -> Option<u32>
     requires { IsReady arena.now }
-    ensures { result ≡ found (first_such (λ f. not (is_flat arena.now.model f)) (faces_of_both arena.now.model s t)) }
+    ensures { result ≡ first_such (λ f. not (is_flat arena.now.model f)) (faces_of_both arena.now.model s t) }
 {
     lesser(least_bent(arena, s), least_bent(arena, t))
 }

@@ -5,7 +5,7 @@ ghost use Rattle.euler_conditions.specs.Ready.{IsReady};
 ghost use Rattle.euler_operators.specs.Conditions.{is_lone};
 ghost use Rattle.euler_conditions.specs.Store.{has_number};
 ghost use Rattle.shapes.specs.Faces.{faces_of_both, least_lone, loops_of};
-ghost use Rattle.solid_measure.specs.solid_checks.Least.{found, least_such, only};
+ghost use Rattle.solid_measure.specs.solid_checks.Least.{least_such, only};
 
 use crate::solid_checks::least::lesser;
 use euler_conditions::Arena;
@@ -41,7 +41,7 @@ fn least_lone_of_face(arena: &Arena, f: u32) -> Option<u32>
 /// The least lone loop of the faces of solid s, if there is one. It looks at each of their loops once, and at no other.
 pub fn least_lone(arena: &Arena, s: u32) -> Option<u32>
     requires { IsReady arena.now }
-    ensures { result ≡ found (least_lone arena.now.model (faces_of arena.now.model s)) }
+    ensures { result ≡ least_lone arena.now.model (faces_of arena.now.model s) }
 {
     let mut least = None;
     let mut above = 0;
@@ -55,7 +55,7 @@ pub fn least_lone(arena: &Arena, s: u32) -> Option<u32>
 /// The least lone loop of the faces of two solids, if there is one.
 pub fn least_lone_of_both(arena: &Arena, s: u32, t: u32) -> Option<u32>
     requires { IsReady arena.now }
-    ensures { result ≡ found (least_lone arena.now.model (faces_of_both arena.now.model s t)) }
+    ensures { result ≡ least_lone arena.now.model (faces_of_both arena.now.model s t) }
 {
     lesser(least_lone(arena, s), least_lone(arena, t))
 }

@@ -1,7 +1,7 @@
 -- The conditions with which a split begins, part by part.
 use Rattle.std.specs.Prelude.{min}
 use Rattle.std.specs.List.{list_any}
-use Rattle.std.proofs.Common.{◌≡◌, ℕ, ◌+◌, true, false, cond, ◌&&◌, nat_eq, nat_le, List, [], ◌∷◌, ◌++◌, length, Some, None, Result, Ok, Err, is_err, is_some, refl, sym, ap, ◌∙◌, arith, true≢false}
+use Rattle.std.proofs.Common.{◌≡◌, ℕ, ◌+◌, true, false, cond, ◌&&◌, nat_le, List, [], ◌∷◌, ◌++◌, length, Some, None, Result, Ok, Err, is_err, refl, sym, ap, ◌∙◌, arith, true≢false}
 use Rattle.std.proofs.lemmas.Bool.Decides.{nat_tests}
 use Rattle.euler_operators.specs.declared.Plane.{Plane}
 use Rattle.euler_operators.specs.Ranges.{IsCutPlane}
@@ -12,8 +12,7 @@ use Rattle.euler_operators.specs.declared.Why.TheVariants.{PlaneMisses, NotLatti
 use Rattle.euler_operators.specs.declared.Refusal.{Refusal}
 use Rattle.euler_laws.proofs.shared.Goes.{all_hold, verdict_passed, verdict_failed}
 use Rattle.shapes.proofs.fresh.Tests.{first_refusal-append, first_refusal-refused}
-use Rattle.shapes.specs.Fresh.{Taken, taken_in, numbers_left, first_such}
-use Rattle.solid_measure.specs.solid_checks.Least.{found}
+use Rattle.shapes.specs.Fresh.{Taken, taken_in, numbers_left, no_such, first_such}
 use Rattle.shapes.specs.split.Places.{pair_count}
 use Rattle.shapes.specs.split.Sides.{reaches_above, reaches_below, straddling_faces, crossing_edges}
 use Rattle.shapes.specs.split.Split.{plane_in_range, first_conditions}
@@ -32,22 +31,6 @@ pub all_passed : (xs : List Condition) (v : Verdict) → v ≡ verdict (first_re
 all_passed xs (Ok u) is e = verdict_passed (first_refusal xs) u is
 all_passed xs (Err r) is e = absurd (true≢false e)
 
--- what a search has found, and whether it has found anything
-pub found_number : (n e : ℕ) → Some e ≡ found n → (nat_eq n 0 ≡ false) × (n ≡ e)
-found_number n e f = elim (nat_eq n 0) as (λ b. Some e ≡ cond b None (Some n) → (b ≡ false) × (n ≡ e)) [
-  | true ↦ λ g. absurd (true≢false (ap is_some g))
-  | false ↦ λ g. (refl, cc)
-] f
-
-pub found_nothing : (n : ℕ) → None ≡ found n → nat_eq n 0 ≡ true
-found_nothing n f = elim (nat_eq n 0) as (λ b. None ≡ cond b None (Some n) → b ≡ true) [
-  | true ↦ λ g. refl
-  | false ↦ λ g. absurd (true≢false (sym (ap is_some g)))
-] f
-
-pub is_zero : (n : ℕ) → nat_eq n 0 ≡ true → n ≡ 0
-is_zero n e = grind (arith, nat_tests)
-
 -- ---- numbers that are left, told up to a limit
 
 capped : (a n : ℕ) → nat_le (a + min n 1000001) 1000000 ≡ nat_le (a + n) 1000000
@@ -56,7 +39,7 @@ capped a n = grind (arith, nat_tests)
 both_capped : (a m n : ℕ) → nat_le (a + (min m 1000001 + min n 1000001)) 1000000 ≡ nat_le (a + (m + n)) 1000000
 both_capped a m n = grind (arith, nat_tests)
 
-numbers_capped : (c : Taken) (m n : ℕ) → first_refusal (numbers_left c (min n 1000001) (min n 1000001) (min m 1000001 + min n 1000001) (min m 1000001)) ≡ first_refusal (numbers_left c n n (m + n) m)
+numbers_capped : (c : Taken) (m n : ℕ) → first_refusal (numbers_left c (record { faces = min n 1000001; loops = min n 1000001; edges = min m 1000001 + min n 1000001; vertices = min m 1000001 })) ≡ first_refusal (numbers_left c (record { faces = n; loops = n; edges = m + n; vertices = m }))
 numbers_capped c m n = λ i. first_refusal (need (capped c.face n i) NumbersSpent 2 ∷ need (capped c.loop n i) NumbersSpent 3 ∷ need (both_capped c.edge m n i) NumbersSpent 4 ∷ need (capped c.vertex m i) NumbersSpent 5 ∷ [])
 
 -- ---- the section
@@ -69,33 +52,27 @@ module _ (M : Model) (s : ℕ) (p : Plane) where
   fs = straddling_faces M p s
 
   abbrev numbers : List Condition
-  numbers = numbers_left (taken_in M) (pair_count M p fs) (pair_count M p fs) (length es + pair_count M p fs) (length es)
+  numbers = numbers_left (taken_in M) (record { faces = pair_count M p fs; loops = pair_count M p fs; edges = length es + pair_count M p fs; vertices = length es })
 
   module _ (met : list_any (reaches_above M p) (faces_of M s) && list_any (reaches_below M p) (faces_of M s) ≡ true) where
     after_side : first_refusal (sectioning_conditions M s p) ≡ first_refusal (edge_conditions M p es ++ (face_conditions M p fs ++ numbers))
     after_side = ap (λ b. cond b (first_refusal (edge_conditions M p es ++ (face_conditions M p fs ++ numbers))) (Some (record { why = PlaneMisses; number = s }))) met
 
-    pub edge_refused : (e : ℕ) → Some e ≡ found (first_such (is_off M p) es) → Err (record { why = NotLattice; number = e }) ≡ verdict (first_refusal (sectioning_conditions M s p))
-    edge_refused e f =
-        let n = found_number (first_such (is_off M p) es) e f in
-        sym (ap verdict (after_side ∙ ap (λ b. cond b (first_refusal (face_conditions M p fs ++ numbers)) (Some (record { why = NotLattice; number = first_such (is_off M p) es }))) n.0
-        ∙ ap (λ k. Some (record { why = NotLattice; number = k })) n.1))
+    pub edge_refused : (e : ℕ) → Some e ≡ first_such (is_off M p) es → Err (record { why = NotLattice; number = e }) ≡ verdict (first_refusal (sectioning_conditions M s p))
+    edge_refused e f = sym (ap verdict (after_side ∙ ap (λ o. first_refusal (no_such o NotLattice ∷ face_conditions M p fs ++ numbers)) (sym f)))
 
-    module _ (whole : None ≡ found (first_such (is_off M p) es)) where
-      pub none_off : first_such (is_off M p) es ≡ 0
-      none_off = is_zero (first_such (is_off M p) es) (found_nothing (first_such (is_off M p) es) whole)
-
+    module _ (whole : None ≡ first_such (is_off M p) es) where
       after_edges : first_refusal (sectioning_conditions M s p) ≡ first_refusal (face_conditions M p fs ++ numbers)
-      after_edges = after_side ∙ ap (λ b. cond b (first_refusal (face_conditions M p fs ++ numbers)) (Some (record { why = NotLattice; number = first_such (is_off M p) es }))) (found_nothing (first_such (is_off M p) es) whole)
+      after_edges = after_side ∙ ap (λ o. first_refusal (no_such o NotLattice ∷ face_conditions M p fs ++ numbers)) (sym whole)
 
       module _ (v : Verdict) (cut : v ≡ verdict (first_refusal (face_conditions M p fs))) where
         pub faces_failed : is_err v ≡ true → v ≡ verdict (first_refusal (sectioning_conditions M s p))
         faces_failed e = first_failed (face_conditions M p fs) numbers v cut e ∙ ap verdict (sym after_edges)
 
         pub numbers_decide : is_err v ≡ false → (m n : ℕ) → m ≡ min (length es) 1000001 → n ≡ min (pair_count M p fs) 1000001
-            → verdict (first_refusal (numbers_left (taken_in M) n n (m + n) m)) ≡ verdict (first_refusal (sectioning_conditions M s p))
+            → verdict (first_refusal (numbers_left (taken_in M) (record { faces = n; loops = n; edges = m + n; vertices = m }))) ≡ verdict (first_refusal (sectioning_conditions M s p))
         numbers_decide e m n is_m is_n =
-            ap verdict ((λ i. first_refusal (numbers_left (taken_in M) (is_n i) (is_n i) (is_m i + is_n i) (is_m i))) ∙ numbers_capped (taken_in M) (length es) (pair_count M p fs)
+            ap verdict ((λ i. first_refusal (numbers_left (taken_in M) (record { faces = is_n i; loops = is_n i; edges = is_m i + is_n i; vertices = is_m i }))) ∙ numbers_capped (taken_in M) (length es) (pair_count M p fs)
             ∙ sym (first_refusal-append (face_conditions M p fs) numbers (all_passed (face_conditions M p fs) v cut e)) ∙ sym after_edges)
 
 -- ---- the whole

@@ -1,6 +1,6 @@
 -- The edges that a walk over the faces of a solid meets as crossing a plane are those of the solid that do.
 use Rattle.std.specs.Prelude.{filter}
-use Rattle.std.proofs.Common.{◌≡◌, ℕ, Bool, true, ◌&&◌, nat_eq, List, [], ◌∷◌, ◌++◌, length, map, is_some, refl, sym, ap, subst, ◌∙◌, arith, inl, inr}
+use Rattle.std.proofs.Common.{◌≡◌, ℕ, Bool, true, ◌&&◌, nat_eq, List, [], ◌∷◌, ◌++◌, length, map, is_some, refl, sym, ap, subst, ◌∙◌, arith, inl, inr, None}
 use Rattle.std.proofs.lemmas.Bool.{and_parts, eq-eqb, eqb-true}
 use Rattle.std.proofs.lemmas.Bool.Decides.{eqb_tells}
 use Rattle.std.proofs.lemmas.List.{map-append}
@@ -13,7 +13,7 @@ use Rattle.euler_operators.specs.Table as table
 use Rattle.euler_operators.specs.Model.{Model, items_of, content, loop_of, solid_of, faces_of}
 use Rattle.euler_operators.specs.Sound.{Sound, Has, HasHalf}
 use Rattle.euler_operators.proofs.Halves.{plus_row, mate_minus, first_is_plus}
-use Rattle.euler_operators.proofs.Models.{cycle_there, one_or_more, loop_there}
+use Rattle.euler_operators.proofs.Models.{cycle_there, loop_there}
 use Rattle.euler_operators.proofs.Tests.{same_truth}
 use Rattle.euler_operators.proofs.Members.{IsIn-map, IsApart-images, IsIn-filter}
 use Rattle.euler_operators.proofs.Tables.{row_some}
@@ -24,7 +24,7 @@ use Rattle.solid_walks.proofs.face_walks_laws.TableWalks.{rising_passing}
 use Rattle.shapes.specs.Faces.{items_in, loops_of, boundary, edges_of}
 use Rattle.shapes.specs.Fresh.{first_such}
 use Rattle.solid_measure.proofs.solid_counts_laws.HowMany.{of_map, equally_many}
-use Rattle.solid_measure.specs.solid_checks.Least.{found, least_such}
+use Rattle.solid_measure.specs.solid_checks.Least.{least_such}
 use Rattle.solid_measure.proofs.solid_checks_laws.FaceWalks.{lists_member}
 use Rattle.solid_measure.proofs.solid_checks_laws.Searches.{one_least, least_same, least_listed, least_rising}
 use Rattle.shapes.specs.split.Sides.{crosses, straddles, straddling_faces, crossing_edges}
@@ -34,7 +34,7 @@ use Rattle.split_checks.specs.cut_places.Walks.{AreIn}
 use Rattle.split_checks.proofs.cut_places_laws.CrossingHalves.{plus_crosses}
 use Rattle.split_checks.proofs.cut_places_laws.Lists.{of_picked, picked_apart, picked_rise, none_passes}
 use Rattle.split_checks.proofs.cut_places_laws.Walks.{all_in}
-use Rattle.solid_walks.proofs.face_walks_laws.Above.{member, AllAbove, Rising, all_above_members}
+use Rattle.solid_walks.proofs.face_walks_laws.Above.{member, Rising}
 use Rattle.shapes.specs.Walks.{loops_in}
 use Rattle.euler_laws.proofs.shared.Counted.{counted_once}
 use Rattle.shapes.proofs.walks.FaceLoops.{different_items, items_counted, items_there, items_joined}
@@ -139,20 +139,17 @@ module _ (M : Model) (sound : Sound M) (s : ℕ) (p : Plane) where
   pub met_crossing : AreCrossing M p met
   met_crossing = all_crossing M p met (λ e i. let o = in_edge e (met_crosses e i) in record { there = o.0; crossing = o.2 })
 
-  positive : AllAbove 0 (crossing_edges M p s)
-  positive = all_above_members 0 (crossing_edges M p s) (λ k m. one_or_more k (sound.edges_fit k (in_edge k (member_in k (crossing_edges M p s) m)).0))
-
   pub rising : Rising (crossing_edges M p s)
   rising = picked_rise (λ x. crosses M p (plus x)) (edges_of M s) (rising_passing (λ e _. of_solid e) M.edges)
 
   -- and the least off the lattice is the first of them that is
-  pub least_met : least_such (is_off M p) met ≡ found (first_such (is_off M p) (crossing_edges M p s))
-  least_met = one_least (λ k. is_off M p k && member k (crossing_edges M p s)) (least_such (is_off M p) met) (found (first_such (is_off M p) (crossing_edges M p s)))
+  pub least_met : least_such (is_off M p) met ≡ first_such (is_off M p) (crossing_edges M p s)
+  least_met = one_least (λ k. is_off M p k && member k (crossing_edges M p s)) (least_such (is_off M p) met) (first_such (is_off M p) (crossing_edges M p s))
       (least_same (λ k. is_off M p k && member k met) (λ k. is_off M p k && member k (crossing_edges M p s))
       (λ k. ap (λ b. is_off M p k && b) (same_truth (member k met) (member k (crossing_edges M p s))
       (λ m. in_member k (crossing_edges M p s) (met_crosses k (member_in k met m))) (λ m. in_member k met (crossing_met k (member_in k (crossing_edges M p s) m)))))
       (least_such (is_off M p) met) (least_listed (is_off M p) met))
-      (least_rising (is_off M p) (crossing_edges M p s) positive rising)
+      (least_rising (is_off M p) (crossing_edges M p s) rising)
 
   -- ---- the faces that straddle
 
@@ -171,11 +168,11 @@ module _ (M : Model) (sound : Sound M) (s : ℕ) (p : Plane) where
       let l : IsIn (loop_of M h) (loops_of M f) = omega (arith, i, items_counted M sound (loops_of M f) h) in
       (items_there M sound (loops_of M f) h i, ap (solid_of M) (face_of_loop M sound f (loop_of M h) there (listed-from_in (loop_of M h) (loops_of M f) l)).1 ∙ of_s)
 
-  module _ (none : first_such (is_off M p) (crossing_edges M p s) ≡ 0) where
+  module _ (none : first_such (is_off M p) (crossing_edges M p s) ≡ None) where
     whole_face : (f : ℕ) → Has M.faces f → solid_of M f ≡ s → IsWholeFace M p f
     whole_face f there of_s h i c =
         let b = boundary_half f h there of_s i in
-        none_passes (is_off M p) (crossing_edges M p s) positive none (edge_of h) (edge_in (edge_of h) b.0 (plus_solid h b.0 b.1) (sym (plus_crosses M p h) ∙ c))
+        none_passes (is_off M p) (crossing_edges M p s) none (edge_of h) (edge_in (edge_of h) b.0 (plus_solid h b.0 b.1) (sym (plus_crosses M p h) ∙ c))
 
     pub straddling_whole : AreWholeFaces M p (straddling_faces M p s)
     straddling_whole = all_whole M p (straddling_faces M p s) (λ f i.

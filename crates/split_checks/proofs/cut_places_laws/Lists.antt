@@ -1,5 +1,5 @@
 -- Lists that a walk takes apart.
-use Rattle.std.proofs.Common.{◌≡◌, ℕ, ◌-◌, ◌≤◌, ◌<◌, Bool, true, false, cond, ◌||◌, List, [], ◌∷◌, map, length, slice_index_or, refl, sym, ap, ◌∙◌, subst, arith, inl, inr}
+use Rattle.std.proofs.Common.{◌≡◌, ℕ, ◌-◌, ◌≤◌, Bool, true, false, cond, ◌||◌, List, [], ◌∷◌, map, length, slice_index_or, refl, sym, ap, ◌∙◌, subst, arith, inl, inr, Some, is_some, true≢false, None}
 use Rattle.std.specs.Prelude.{take, drop, filter}
 use Rattle.std.specs.List.{list_any}
 use Rattle.std.proofs.lemmas.List.{take_rest}
@@ -57,14 +57,12 @@ picked_rise p [] r = tt
 picked_rise p (x ∷ xs) r = elim (p x) as (λ b. Rising (cond b (x ∷ filter p xs) (filter p xs))) [ true ↦ (above_picked p x xs r.0, picked_rise p xs r.1) | false ↦ picked_rise p xs r.1 ]
 
 -- where a search finds none, none passes
-pub none_passes : (p : ℕ → Bool) (xs : List ℕ) → AllAbove 0 xs → first_such p xs ≡ 0 → (x : ℕ) → IsIn x xs → p x ≡ false
-none_passes p [] a e x i = absurd (omega arith)
-none_passes p (y ∷ ys) a e x i = elim (p y) as (λ b. p y ≡ b → cond b y (first_such p ys) ≡ 0 → p x ≡ false) [
-  | true ↦ λ t e. absurd (above_zero y a.0 e)
+pub none_passes : (p : ℕ → Bool) (xs : List ℕ) → first_such p xs ≡ None → (x : ℕ) → IsIn x xs → p x ≡ false
+none_passes p [] e x i = absurd (omega arith)
+none_passes p (y ∷ ys) e x i = elim (p y) as (λ b. p y ≡ b → cond b (Some y) (first_such p ys) ≡ None → p x ≡ false) [
+  | true ↦ λ t e. absurd (true≢false (ap is_some e))
   | false ↦ λ t e. elim (eqb_tells x y) [
     | inl s ↦ ap p s.1 ∙ t
-    | inr n ↦ none_passes p ys a.1 e x (omega (arith, i, tick_other x y n.1))
+    | inr n ↦ none_passes p ys e x (omega (arith, i, tick_other x y n.1))
   ]
-] refl e where
-  above_zero : (n : ℕ) → 0 < n → n ≡ 0 → ⊥
-  above_zero n l e = omega arith
+] refl e

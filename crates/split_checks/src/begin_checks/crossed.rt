@@ -6,7 +6,6 @@ ghost use Rattle.euler_conditions.specs.Ready.{IsReady};
 ghost use Rattle.euler_conditions.specs.Store.{has_number};
 ghost use Rattle.euler_operators.specs.Ranges.{IsCutPlane};
 ghost use Rattle.shapes.specs.Fresh.{first_such};
-ghost use Rattle.solid_measure.specs.solid_checks.Least.{found};
 ghost use Rattle.split_checks.specs.begin_checks.Flaws.{has_flaw};
 ghost use Rattle.split_checks.specs.cut_places.Places.{AreWholeFaces, IsWholeFace};
 ghost use Rattle.split_checks.specs.cut_places.Walks.{AreIn};
@@ -95,7 +94,7 @@ pub(crate) fn first_flawed(
     requires ready { IsReady arena.now }
     requires plane { IsCutPlane plane }
     requires whole { AreWholeFaces arena.now.model plane faces.now }
-    ensures { IfOk result (λ first. first ≡ found (first_such (has_flaw flaw arena.now.model plane) faces.now)) }
+    ensures { IfOk result (λ first. first ≡ first_such (has_flaw flaw arena.now.model plane) faces.now) }
 {
     let mut rest = faces;
     'faces: while let [f, others @ ..] = rest {

@@ -17,7 +17,7 @@ pub(crate) fn check_left(arena: &Arena, cuts: usize, pairs: usize) -> Result<(),
     requires ready { IsReady arena.now }
     requires cuts { cuts ≤ 1000001 }
     requires pairs { pairs ≤ 1000001 }
-    ensures { result ≡ verdict (first_refusal (numbers_left (taken_in arena.now.model) pairs pairs (cuts + pairs) cuts)) }
+    ensures { result ≡ verdict (first_refusal (numbers_left (taken_in arena.now.model) (record { faces = pairs; loops = pairs; edges = cuts + pairs; vertices = cuts }))) }
 {
     solid_walks::check_left(counters_of(arena), pairs, pairs, cuts + pairs, cuts)
 }

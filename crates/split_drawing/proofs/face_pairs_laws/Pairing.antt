@@ -1,5 +1,5 @@
 -- Where a plane can begin to split a solid, the cut places of each face that straddles can be paired.
-use Rattle.std.proofs.Common.{◌≡◌, ℕ, Bool, true, false, not, List, [], ◌∷◌, refl, ap, arith, true≢false}
+use Rattle.std.proofs.Common.{◌≡◌, ℕ, Bool, true, false, not, List, [], ◌∷◌, refl, ap, arith, true≢false, None}
 use Rattle.std.specs.List.{list_all}
 use Rattle.std.proofs.lemmas.Bool.{or_parts}
 use Rattle.euler_operators.specs.declared.Plane.{Plane}
@@ -19,7 +19,7 @@ use Rattle.split_drawing.specs.edge_cutting.Begins.{CanBeCut}
 use Rattle.split_drawing.specs.face_pairs.Paired.{AllCanBePaired}
 
 -- a search among items of which none passes
-none_found : (t : ℕ → Bool) (xs : List ℕ) → ((x : ℕ) → IsIn x xs → t x ≡ false) → first_such t xs ≡ 0
+none_found : (t : ℕ → Bool) (xs : List ℕ) → ((x : ℕ) → IsIn x xs → t x ≡ false) → first_such t xs ≡ None
 none_found t [] none = refl
 none_found t (x ∷ xs) none = rw (none x (omega (arith, tick_same x))) (none_found t xs (λ y i. none y (omega (arith, i))))
 

@@ -1,7 +1,7 @@
 -- Lists that tests pick from, and the items and corners of faces.
 use Rattle.std.specs.Prelude.{map, filter}
 use Rattle.std.specs.List.{list_any}
-use Rattle.std.proofs.Common.{◌≡◌, ◌≢◌, ℕ, ◌+◌, ◌≤◌, Bool, true, false, cond, not, nat_eq, ◌&&◌, ◌||◌, List, [], ◌∷◌, refl, sym, ap, ◌∙◌, subst, arith, inl, inr}
+use Rattle.std.proofs.Common.{◌≡◌, ℕ, ◌+◌, ◌≤◌, Bool, true, false, cond, not, nat_eq, ◌&&◌, ◌||◌, List, [], ◌∷◌, refl, sym, ap, ◌∙◌, subst, arith, inl, inr}
 use Rattle.std.proofs.lemmas.Bool.Decides.{eqb_tells}
 use Rattle.std.proofs.lemmas.Bool.{ne_eqb, eq-eqb}
 use Rattle.euler_operators.specs.Items.{count, tick, IsIn}
@@ -10,7 +10,7 @@ use Rattle.euler_operators.specs.Model.{Model, LoopContent, lone, cycle, items_o
 use Rattle.euler_operators.specs.Sound.{Has}
 use Rattle.euler_laws.proofs.shared.Goes.{not_false}
 use Rattle.euler_laws.proofs.shared.Rows.{loop_row}
-use Rattle.shapes.proofs.fresh.Tests.{NoneSuch, NoZero}
+use Rattle.shapes.proofs.fresh.Tests.{NoneSuch}
 use Rattle.shapes.specs.Faces.{loops_of, items_in, boundary, vertices_on, vertices_in, corners}
 use Rattle.euler_laws.proofs.shared.Counted.{all_where_in}
 
@@ -40,10 +40,6 @@ none_at p x (m ∷ ns) n i = elim (eqb_tells x m) [
   | inl s ↦ ap p s.1 ∙ n.0
   | inr s ↦ none_at p x ns n.1 (omega (arith, i, tick_other x m s.1))
 ]
-
-pub all_not_zero : (ns : List ℕ) → ((x : ℕ) → IsIn x ns → x ≢ 0) → NoZero ns
-all_not_zero [] f = tt
-all_not_zero (n ∷ ns) f = (f n (here n n ns refl), all_not_zero ns (λ x i. f x (omega (arith, i))))
 
 -- ---- the loops of a face
 

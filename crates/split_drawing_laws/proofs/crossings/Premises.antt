@@ -1,7 +1,7 @@
 -- What it says that the first conditions of a split hold: each edge that crosses the plane can be cut there.
 use Rattle.std.specs.Prelude.{filter, int_lt}
 use Rattle.std.specs.List.{list_any, list_all}
-use Rattle.std.proofs.Common.{◌≡◌, ◌≢◌, ℕ, ◌+◌, ◌≤◌, Bool, true, false, cond, not, nat_eq, ◌&&◌, ◌||◌, ℤ, pos, List, [], ◌∷◌, length, is_some, refl, sym, ap, ◌∙◌, subst, arith, ◌⊎◌, inl, inr, true≢false}
+use Rattle.std.proofs.Common.{◌≡◌, ◌≢◌, ℕ, ◌+◌, ◌≤◌, Bool, true, false, cond, not, nat_eq, ◌&&◌, ◌||◌, ℤ, pos, List, [], ◌∷◌, length, is_some, refl, sym, ap, ◌∙◌, subst, arith, ◌⊎◌, inl, inr, true≢false, None}
 use Rattle.std.proofs.lemmas.Bool.Decides.{eqb_tells}
 use Rattle.std.proofs.lemmas.Bool.{not-false, eq-eqb, eqb-true}
 use Rattle.euler_operators.specs.declared.Plane.{Plane}
@@ -21,13 +21,13 @@ use Rattle.euler_operators.specs.Conditions.{AllHold, face_at}
 use Rattle.euler_laws.proofs.shared.Goes.{no_zero}
 use Rattle.euler_laws.proofs.shared.Rows.{face_there, point_row}
 use Rattle.solid_measure_laws.proofs.Cuts.{cut_on}
-use Rattle.shapes.proofs.fresh.Tests.{none_such, Left, numbers_are_left}
+use Rattle.shapes.proofs.fresh.Tests.{none_found, none_such, Left, numbers_are_left}
 use Rattle.shapes.specs.Faces.{start, finish, edges_of, boundary, corners}
 use Rattle.shapes.specs.Fresh.{first_such, taken_in}
 use Rattle.shapes.specs.split.Sides.{crosses, straddles, straddling_faces, crossing_edges, reaches_above, reaches_below}
 use Rattle.shapes.specs.split.Places.{is_place, place_point, places, some_meet, is_touched, is_cut_often, is_crossed, is_up_and_down, sorted_pairs, pair_count}
 use Rattle.shapes.specs.split.Split.{first_conditions}
-use Rattle.split_drawing_laws.proofs.crossings.Listed.{any_passes, none_at, all_not_zero, item_in_face, tail_in_face}
+use Rattle.split_drawing_laws.proofs.crossings.Listed.{any_passes, none_at, item_in_face, tail_in_face}
 use Rattle.split_drawing_laws.proofs.crossings.Runs.{Crossing}
 use Rattle.euler_laws.proofs.shared.Counted.{all_where_has, all_where_in}
 
@@ -69,9 +69,6 @@ module _ (M : Model) (sound : Sound M) (s : ℕ) (p : Plane) where
       let w = all_where_has (λ x _. nat_eq (solid_of M (face_at M (plus x))) s) M.edges e (omega (arith, i, l)) in
       (ap is_some w.1, eqb-true (solid_of M (face_at M (plus e))) s w.2, filter_passes (λ x. crosses M p (plus x)) e (edges_of M s) i)
 
-  edges_not_zero : (e : ℕ) → IsIn e (crossing_edges M p s) → e ≢ 0
-  edges_not_zero e i z = no_zero e z (sound.edges_fit e (edge_facts e i).0)
-
   pub faces_not_zero : (f : ℕ) → IsIn f (straddling_faces M p s) → f ≢ 0
   faces_not_zero f i z =
       let l : count f (straddling_faces M p s) ≤ count f (faces_of M s) = count-filter (straddles M p) f (faces_of M s) in
@@ -79,21 +76,21 @@ module _ (M : Model) (sound : Sound M) (s : ℕ) (p : Plane) where
       no_zero f z (sound.faces_fit f (ap is_some w.1))
 
   module _ (t : ℕ) (hold : AllHold (first_conditions M s p t)) where
-    none_off : first_such (λ e. not (cuts_lattice p (start M (plus e)) (finish M (plus e)))) (crossing_edges M p s) ≡ 0
+    none_off : first_such (λ e. not (cuts_lattice p (start M (plus e)) (finish M (plus e)))) (crossing_edges M p s) ≡ None
     unfolding first_conditions
-    none_off = eqb-true (first_such (λ e. not (cuts_lattice p (start M (plus e)) (finish M (plus e)))) (crossing_edges M p s)) 0 hold.1.1.1.1.1.1.1.1.1.1.1.1.0
+    none_off = none_found (first_such (λ e. not (cuts_lattice p (start M (plus e)) (finish M (plus e)))) (crossing_edges M p s)) hold.1.1.1.1.1.1.1.1.1.1.1.1.0
 
-    none_touched : first_such (is_touched M p) (straddling_faces M p s) ≡ 0
+    none_touched : first_such (is_touched M p) (straddling_faces M p s) ≡ None
     unfolding first_conditions
-    none_touched = eqb-true (first_such (is_touched M p) (straddling_faces M p s)) 0 hold.1.1.1.1.1.1.1.1.1.1.1.1.1.0
+    none_touched = none_found (first_such (is_touched M p) (straddling_faces M p s)) hold.1.1.1.1.1.1.1.1.1.1.1.1.1.0
 
-    none_often : first_such (is_cut_often M p) (straddling_faces M p s) ≡ 0
+    none_often : first_such (is_cut_often M p) (straddling_faces M p s) ≡ None
     unfolding first_conditions
-    none_often = eqb-true (first_such (is_cut_often M p) (straddling_faces M p s)) 0 hold.1.1.1.1.1.1.1.1.1.1.1.1.1.1.0
+    none_often = none_found (first_such (is_cut_often M p) (straddling_faces M p s)) hold.1.1.1.1.1.1.1.1.1.1.1.1.1.1.0
 
-    none_crossed : first_such (is_crossed M p) (straddling_faces M p s) ≡ 0
+    none_crossed : first_such (is_crossed M p) (straddling_faces M p s) ≡ None
     unfolding first_conditions
-    none_crossed = eqb-true (first_such (is_crossed M p) (straddling_faces M p s)) 0 hold.1.1.1.1.1.1.1.1.1.1.1.1.1.1.1.0
+    none_crossed = none_found (first_such (is_crossed M p) (straddling_faces M p s)) hold.1.1.1.1.1.1.1.1.1.1.1.1.1.1.1.0
 
     numbers : Left (taken_in M) (pair_count M p (straddling_faces M p s)) (pair_count M p (straddling_faces M p s))
         (length (crossing_edges M p s) + pair_count M p (straddling_faces M p s)) (length (crossing_edges M p s))
@@ -103,15 +100,13 @@ module _ (M : Model) (sound : Sound M) (s : ℕ) (p : Plane) where
 
     pub cuttable : Cuttable M s p
     cuttable =
-        let es = all_not_zero (crossing_edges M p s) edges_not_zero in
-        let fs = all_not_zero (straddling_faces M p s) faces_not_zero in
         record {
           whole = λ e i. not-false (cuts_lattice p (start M (plus e)) (finish M (plus e)))
               (none_at (λ x. not (cuts_lattice p (start M (plus x)) (finish M (plus x)))) e (crossing_edges M p s)
-              (none_such (λ x. not (cuts_lattice p (start M (plus x)) (finish M (plus x)))) (crossing_edges M p s) es none_off) i);
-          untouched = λ f i. none_at (is_touched M p) f (straddling_faces M p s) (none_such (is_touched M p) (straddling_faces M p s) fs none_touched) i;
-          not_often = λ f i. none_at (is_cut_often M p) f (straddling_faces M p s) (none_such (is_cut_often M p) (straddling_faces M p s) fs none_often) i;
-          uncrossed = λ f i. none_at (is_crossed M p) f (straddling_faces M p s) (none_such (is_crossed M p) (straddling_faces M p s) fs none_crossed) i;
+              (none_such (λ x. not (cuts_lattice p (start M (plus x)) (finish M (plus x)))) (crossing_edges M p s) none_off) i);
+          untouched = λ f i. none_at (is_touched M p) f (straddling_faces M p s) (none_such (is_touched M p) (straddling_faces M p s) none_touched) i;
+          not_often = λ f i. none_at (is_cut_often M p) f (straddling_faces M p s) (none_such (is_cut_often M p) (straddling_faces M p s) none_often) i;
+          uncrossed = λ f i. none_at (is_crossed M p) f (straddling_faces M p s) (none_such (is_crossed M p) (straddling_faces M p s) none_crossed) i;
           left = numbers;
         }
 

@@ -1,15 +1,15 @@
 -- All edges of a solid that cross a plane cut: from the first conditions of a split to normals, planes and volumes.
 use Rattle.std.proofs.Common.{◌≡◌, ℕ, true, not, ◌&&◌, [], None}
-use Rattle.std.proofs.lemmas.Bool.{and_parts, not-false, eqb-true}
+use Rattle.std.proofs.lemmas.Bool.{and_parts, not-false}
 use Rattle.euler_operators.specs.declared.Plane.{Plane}
 use Rattle.euler_operators.specs.Vectors.{origin, same_point, direction}
 use Rattle.euler_operators.specs.Items.{IsIn}
 use Rattle.euler_operators.specs.Model.{Model, solid_of, faces_of}
 use Rattle.euler_operators.specs.Sound.{Sound, Has}
 use Rattle.euler_operators.specs.Conditions.{AllHold, first_refusal, lists}
-use Rattle.euler_laws.proofs.shared.Goes.{all_hold, no_zero}
+use Rattle.euler_laws.proofs.shared.Goes.{all_hold}
 use Rattle.euler_laws.proofs.shared.Listed.{IsIn-from_listed}
-use Rattle.shapes.proofs.fresh.Tests.{none_such}
+use Rattle.shapes.proofs.fresh.Tests.{none_such, none_found}
 use Rattle.shapes.specs.Faces.{corners}
 use Rattle.shapes.specs.Fresh.{first_such, growing}
 use Rattle.shapes.specs.Measure.{normal, plane_of, is_plane_of, is_flat, six_volume}
@@ -17,7 +17,7 @@ use Rattle.shapes.proofs.measures.FlatFaces.{are_on}
 use Rattle.shapes.specs.split.Sides.{crossing_edges}
 use Rattle.shapes.specs.split.Crossings.{with_crossings}
 use Rattle.shapes.specs.split.Split.{first_conditions}
-use Rattle.split_drawing_laws.proofs.crossings.Listed.{none_at, all_not_zero}
+use Rattle.split_drawing_laws.proofs.crossings.Listed.{none_at}
 use Rattle.split_drawing_laws.proofs.crossings.Premises.{Cuttable, edge_facts}
 use Rattle.split_drawing_laws.proofs.crossings.Whole.{can_cut, begins, crossings_sound}
 use Rattle.split_drawing_laws.proofs.cut_volumes.CutRuns.{OfSolid, all_measured}
@@ -27,13 +27,13 @@ use Rattle.split_drawing_laws.proofs.cut_volumes.Told.{Measured, same_plane, fla
 module _ (M : Model) (s : ℕ) (p : Plane) (t : ℕ) (sound : Sound M) (accepted : first_refusal (first_conditions M s p t) ≡ None) where
   -- ---- the faces of the solid are flat
 
-  none_bent : AllHold (first_conditions M s p t) → first_such (λ f. not (is_flat M f)) (faces_of M s) ≡ 0
+  none_bent : AllHold (first_conditions M s p t) → first_such (λ f. not (is_flat M f)) (faces_of M s) ≡ None
   unfolding first_conditions
-  none_bent hold = eqb-true (first_such (λ f. not (is_flat M f)) (faces_of M s)) 0 hold.1.1.1.1.1.1.1.1.1.1.0
+  none_bent hold = none_found (first_such (λ f. not (is_flat M f)) (faces_of M s)) hold.1.1.1.1.1.1.1.1.1.1.0
 
   listed_flat : (f : ℕ) → IsIn f (faces_of M s) → is_flat M f ≡ true
   listed_flat f i = not-false (is_flat M f) (none_at (λ g. not (is_flat M g)) f (faces_of M s)
-      (none_such (λ g. not (is_flat M g)) (faces_of M s) (all_not_zero (faces_of M s) (λ g j z. no_zero g z (sound.faces_fit g (solid_facts M s g j).0))) (none_bent (all_hold (first_conditions M s p t) accepted))) i)
+      (none_such (λ g. not (is_flat M g)) (faces_of M s) (none_bent (all_hold (first_conditions M s p t) accepted))) i)
 
   pub all_flat : (f : ℕ) → Has M.faces f → solid_of M f ≡ s → is_flat M f ≡ true
   all_flat f there of_s = listed_flat f (in_solid M f s there of_s)

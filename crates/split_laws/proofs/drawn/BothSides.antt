@@ -20,6 +20,7 @@ use Rattle.euler_laws.proofs.shared.Fans.{loop_after, half_face}
 use Rattle.euler_laws.proofs.shared.Goes.{no_zero}
 use Rattle.euler_laws.proofs.shared.Rows.{face_there, loop_row, not_lone_cycle}
 use Rattle.euler_laws.proofs.shared.Listed.{IsIn-from_listed, listed-from_in}
+use Rattle.shapes.proofs.fresh.Tests.{none_is_lone}
 use Rattle.shapes.specs.Measure.{normal}
 use Rattle.shapes.specs.Faces.{loops_of, corners}
 use Rattle.shapes.specs.split.Sides.{reaches_above, reaches_below, straddles, crossing_edges, face_is_above, faces_above}
@@ -66,7 +67,7 @@ module _ (M : Model) (s : ℕ) (p : Plane) (t : ℕ) (sound : Sound M) (accepted
   not_lone : (f l : ℕ) → IsIn f (faces_of M s) → Has M.loops l → face_of M l ≡ f → is_lone (content M l) ≡ false
   not_lone f l i there at = first_fails (is_lone (content M l)) (lists (faces_of M s) (face_of M l))
       (zero_first_where (λ _ row. is_lone row.content && lists (faces_of M s) row.face) M.loops (λ q y got z. no_zero q z (sound.loops_fit q (ap is_some got)))
-      (none_lone M s p t sound accepted) l (record { face = face_of M l; content = content M l }) (loop_row M l there))
+      (none_is_lone M (faces_of M s) (none_lone M s p t sound accepted)) l (record { face = face_of M l; content = content M l }) (loop_row M l there))
       (ap (lists (faces_of M s)) at ∙ listed-from_in f (faces_of M s) i)
 
   corner_half : (f v : ℕ) → IsIn f (faces_of M s) → IsIn v (corners M f) → HalfAt M v f

@@ -14,13 +14,13 @@ use Rattle.euler_operators.proofs.Tables.{no_row}
 use Rattle.euler_laws.proofs.shared.Goes.{all_hold, none_refuses, all_hold-front, all_hold-back}
 use Rattle.euler_laws.proofs.shared.Listed.{all_where-rises, IsIn-from_listed}
 use Rattle.shapes.proofs.fresh.Rows.{none_above}
-use Rattle.shapes.proofs.fresh.Tests.{Left, numbers_are_left}
+use Rattle.shapes.proofs.fresh.Tests.{none_found, zero_found, Left, numbers_are_left}
 use Rattle.shapes.specs.Faces.{least_lone}
-use Rattle.shapes.specs.Fresh.{Growing, taken_in}
+use Rattle.shapes.specs.Fresh.{found, Growing, taken_in}
 use Rattle.shapes.specs.split.Sides.{straddling_faces, reaches_above, reaches_below, face_is_above, faces_above}
 use Rattle.shapes.specs.split.Crossings.{with_crossings}
 use Rattle.shapes.specs.split.Drawing.{Drawing, stuck_at, in_one_loop, join_next, all_joined, ring_free, draw_next, all_drawn, rings_above, with_rings, drawn_between, drawn_pairs, next_drawn, faces_drawn, with_drawings}
-use Rattle.shapes.specs.split.Section.{below_halves, section_cycles, has_stray_hole}
+use Rattle.shapes.specs.split.Section.{below_halves, section_ends, least_branched, section_cycles, has_stray_hole}
 use Rattle.shapes.specs.split.Split.{first_conditions, later_conditions, section_conditions, split_conditions, split_refusal}
 use Rattle.split_drawing_laws.specs.crossings.Laws.{CanBegin}
 use Rattle.split_drawing_laws.proofs.crossings.Whole.{crossings_counted, crossings_keep}
@@ -125,20 +125,20 @@ module _ (M : Model) (s : ℕ) (p : Plane) (t : ℕ) (sound : Sound M) (accepted
   unfolding first_conditions
   t_free_before = no_row (table.get M.solids t) (not-true (table.has M.solids t) first.1.1.1.0)
 
-  pub none_lone : least_lone M (faces_of M s) ≡ 0
+  pub none_lone : least_lone M (faces_of M s) ≡ None
   unfolding first_conditions
-  none_lone = eqb-true (least_lone M (faces_of M s)) 0 first.1.1.1.1.1.1.1.1.1.0
+  none_lone = none_found (least_lone M (faces_of M s)) first.1.1.1.1.1.1.1.1.1.0
 
   pub meets : (list_any (reaches_above M p) (faces_of M s) ≡ true) × (list_any (reaches_below M p) (faces_of M s) ≡ true)
   unfolding first_conditions
   meets = and_parts (list_any (reaches_above M p) (faces_of M s)) (list_any (reaches_below M p) (faces_of M s)) first.1.1.1.1.1.1.1.1.1.1.1.0
 
   pub never_stuck : (with_drawings M s p).stuck ≡ 0
-  never_stuck = eqb-true d.stuck 0 later.0
+  never_stuck = zero_found d.stuck (none_found (found d.stuck) later.0)
 
   unbranched : IsUnbranched D halves
   unfolding section_conditions
-  unbranched = eqb-true _ 0 later.1.0
+  unbranched = none_found (least_branched D (section_ends D halves)) later.1.0
 
   pub no_stray : has_stray_hole (with_drawings M s p).model p (section_cycles (with_drawings M s p).model (below_halves (with_drawings M s p).model (faces_above (with_drawings M s p).model p s) s)) ≡ false
   unfolding section_conditions

@@ -1,5 +1,5 @@
 -- Where no vertex is branched, each below half leads to one other, and no two to the same.
-use Rattle.std.proofs.Common.{◌≡◌, ℕ, ◌≤◌, Bool, true, false, cond, nat_eq, nat_lt, List, [], ◌∷◌, map, is_some, refl, sym, ap, subst, ◌∙◌, arith, true≢false, inl, inr}
+use Rattle.std.proofs.Common.{◌≡◌, ℕ, ◌≤◌, Bool, true, false, cond, nat_eq, nat_lt, List, [], ◌∷◌, map, Some, is_some, unwrap_or, refl, sym, ap, subst, ◌∙◌, arith, true≢false, inl, inr}
 use Rattle.std.proofs.lemmas.Bool.Decides.{nat_tests, eqb_tells}
 use Rattle.std.proofs.lemmas.Bool.{eq-eqb, eqb-true}
 use Rattle.euler_operators.specs.Items.{count, IsIn, IsApart}
@@ -12,6 +12,7 @@ use Rattle.euler_operators.specs.Sound.{Sound, Has}
 use Rattle.euler_operators.proofs.Tables.{zero_first_where, row_some}
 use Rattle.euler_operators.proofs.Members.{IsIn-map}
 use Rattle.euler_laws.proofs.shared.Goes.{no_zero}
+use Rattle.shapes.proofs.fresh.Tests.{zero_found}
 use Rattle.shapes.specs.Fresh.{first_such}
 use Rattle.shapes.specs.split.Section.{below_halves, section_ends, next_below}
 use Rattle.split_opening_laws.specs.cycles.Permuting.{Permutes}
@@ -21,10 +22,10 @@ use Rattle.split_opening_laws.proofs.cycles.BelowHalves.{halves_apart}
 use Rattle.split_opening_laws.proofs.cycles.Ends.{half_there, starts_are_ends}
 
 -- where a number of the list passes, the first one that does is found
-first_found : (p : ℕ → Bool) (ns : List ℕ) (n : ℕ) → IsIn n ns → p n ≡ true → IsIn (first_such p ns) ns × (p (first_such p ns) ≡ true)
+first_found : (p : ℕ → Bool) (ns : List ℕ) (n : ℕ) → IsIn n ns → p n ≡ true → IsIn (unwrap_or (first_such p ns) 0) ns × (p (unwrap_or (first_such p ns) 0) ≡ true)
 first_found p [] n i t = absurd (omega arith)
 first_found p (m ∷ ms) n i t = go (p m) refl (λ j. first_found p ms n j t) where
-  go : (b : Bool) → p m ≡ b → (IsIn n ms → IsIn (first_such p ms) ms × (p (first_such p ms) ≡ true)) → IsIn (cond b m (first_such p ms)) (m ∷ ms) × (p (cond b m (first_such p ms)) ≡ true)
+  go : (b : Bool) → p m ≡ b → (IsIn n ms → IsIn (unwrap_or (first_such p ms) 0) ms × (p (unwrap_or (first_such p ms) 0) ≡ true)) → IsIn (unwrap_or (cond b (Some m) (first_such p ms)) 0) (m ∷ ms) × (p (unwrap_or (cond b (Some m) (first_such p ms)) 0) ≡ true)
   go true e later = (omega (arith, tick_same m), e)
   go false e later = elim (eqb_tells n m) [
     | inl s ↦ absurd (true≢false (sym t ∙ ap p s.1 ∙ e))
@@ -49,7 +50,7 @@ module _ (M : Model) (above : List ℕ) (s : ℕ) (sound : Sound M) (faces : Are
 
   two_ends : (v : ℕ) → Has M.vertices v → count v (section_ends M halves) ≤ 2
   two_ends v t = let r = row_some (table.get M.vertices v) t in
-      at_most_two (count v (section_ends M halves)) (zero_first_where (λ v _. nat_lt 2 (count v (section_ends M halves))) M.vertices (λ q y at z. no_zero q z (sound.vertices_fit q (ap is_some at))) unbranched v r.0 r.1)
+      at_most_two (count v (section_ends M halves)) (zero_first_where (λ v _. nat_lt 2 (count v (section_ends M halves))) M.vertices (λ q y at z. no_zero q z (sound.vertices_fit q (ap is_some at))) (zero_found (table.first_where (λ v _. nat_lt 2 (count v (section_ends M halves))) M.vertices) unbranched) v r.0 r.1)
 
   pub starts_apart : IsApart (map (tail M) (below_halves M above s))
   starts_apart v = elim (IsIn_or_not v starts) [

@@ -1,5 +1,5 @@
 -- What the below halves of a section are, and the cycles that they form.
-use Rattle.std.specs.Prelude.{◌≡◌, ◌≢◌, ◌⊎◌, ℕ, ◌≤◌, ◌<◌, true, false, List, [], ◌∷◌, map, flat_map, length, get_or}
+use Rattle.std.specs.Prelude.{◌≡◌, ◌≢◌, ◌⊎◌, ℕ, ◌≤◌, ◌<◌, true, false, List, [], ◌∷◌, map, flat_map, length, get_or, None}
 use Rattle.euler_operators.specs.Items.{IsIn, IsApart}
 use Rattle.euler_operators.specs.HalfEdge.{mate}
 use Rattle.euler_operators.specs.Model.{Model, tail, solid_of}
@@ -21,7 +21,7 @@ pub record IsBelowHalf (M : Model) (above : List ℕ) (s b : ℕ) : Type 0 where
 
 -- no vertex is an end of more than two section edges
 abbrev pub IsUnbranched : Model → List ℕ → Type 0
-IsUnbranched M bs = least_branched M (section_ends M bs) ≡ 0
+IsUnbranched M bs = least_branched M (section_ends M bs) ≡ None
 
 -- some below halves that lead once round: each ends where the next one starts, and the last where the first does
 pub record IsSectionCycle (M : Model) (above : List ℕ) (s : ℕ) (bs : List ℕ) : Type 0 where

@@ -9,7 +9,6 @@ use Rattle.euler_operators.specs.Sound.{Sound}
 use Rattle.euler_operators.specs.Conditions.{first_refusal, strictly_rises}
 use Rattle.euler_operators.specs.declared.Why.TheVariants.{BranchedVertex, SectionHoles}
 use Rattle.shapes.specs.Fresh.{Taken, numbers_left}
-use Rattle.solid_measure.specs.solid_checks.Least.{found}
 use Rattle.shapes.specs.split.Section.{below_halves, section_ends, least_branched, next_below, section_cycles, is_hole, has_stray_hole}
 use Rattle.shapes.specs.split.Split.{section_conditions}
 use Rattle.split_opening_laws.specs.cycles.Permuting.{Permutes}
@@ -22,7 +21,7 @@ use Rattle.split_sections.specs.section_checks.Sections.{halves_of}
 use Rattle.split_sections.specs.declared.section_checks.section.Cycle.{Cycle}
 use Rattle.split_sections.proofs.section_checks_laws.Above.{halves_there, few_halves, are_cycles, few_cycles}
 use Rattle.split_sections.proofs.section_checks_laws.HoleFlags.{stray_is}
-use Rattle.split_sections.proofs.section_checks_laws.Stages.{found_none, branched, stray, to_numbers}
+use Rattle.split_sections.proofs.section_checks_laws.Stages.{branched, stray, to_numbers}
 
 module _ (M : Model) (sound : Sound M) (above : List ℕ) (s : ℕ) (faces : AreOf M above s) (hs : List HalfEdge) (e : map code hs ≡ below_halves M above s) where
   pub there_now : AreThere M (map code hs)
@@ -34,12 +33,12 @@ module _ (M : Model) (sound : Sound M) (above : List ℕ) (s : ℕ) (faces : Are
   pub few_now : length hs ≤ 2000002
   few_now = omega (arith, few_halves M sound above s faces, length-map hs code, ap (λ (bs : List ℕ). length bs) e)
 
-  pub branched_now : (p : Plane) (c : Taken) (v : ℕ) → Some v ≡ found (least_branched M (section_ends M (map code hs))) → first_refusal (section_conditions M s p c (below_halves M above s)) ≡ Some (record { why = BranchedVertex; number = v })
-  branched_now p c v is = branched M s p c (below_halves M above s) v (is ∙ ap (λ bs. found (least_branched M (section_ends M bs))) e)
+  pub branched_now : (p : Plane) (c : Taken) (v : ℕ) → Some v ≡ least_branched M (section_ends M (map code hs)) → first_refusal (section_conditions M s p c (below_halves M above s)) ≡ Some (record { why = BranchedVertex; number = v })
+  branched_now p c v is = branched M s p c (below_halves M above s) v (is ∙ ap (λ bs. least_branched M (section_ends M bs)) e)
 
-  module _ (none : None ≡ found (least_branched M (section_ends M (map code hs)))) where
+  module _ (none : None ≡ least_branched M (section_ends M (map code hs))) where
     unbranched : IsUnbranched M (below_halves M above s)
-    unbranched = found_none (least_branched M (section_ends M (below_halves M above s))) (none ∙ ap (λ bs. found (least_branched M (section_ends M bs))) e)
+    unbranched = sym (none ∙ ap (λ bs. least_branched M (section_ends M bs)) e)
 
     pub next_now : Permutes (next_below M (map code hs)) (map code hs)
     next_now = subst (λ bs. Permutes (next_below M bs) bs) (sym e) (permutes M above s sound faces unbranched)
@@ -71,8 +70,8 @@ module _ (M : Model) (sound : Sound M) (above : List ℕ) (s : ℕ) (faces : Are
         stray_now c t = stray M s p c (below_halves M above s) unbranched (sym stray_told ∙ t)
 
         pub numbers_now : (c : Taken) → has_stray told ≡ false → (m n : ℕ) → m ≡ length hs → n ≡ length told
-            → first_refusal (section_conditions M s p c (below_halves M above s)) ≡ first_refusal (numbers_left c (m + n) (m + n) (2 * m) m)
+            → first_refusal (section_conditions M s p c (below_halves M above s)) ≡ first_refusal (numbers_left c (record { faces = m + n; loops = m + n; edges = 2 * m; vertices = m }))
         numbers_now c t m n em en =
             let long : length (below_halves M above s) ≡ m = sym (em ∙ sym (length-map hs code) ∙ ap (λ (bs : List ℕ). length bs) e) in
             let many : length (section_cycles M (below_halves M above s)) ≡ n = sym (en ∙ as_long) in
-            to_numbers M s p c (below_halves M above s) unbranched (sym stray_told ∙ t) ∙ (λ i. first_refusal (numbers_left c (long i + many i) (long i + many i) (2 * long i) (long i)))
+            to_numbers M s p c (below_halves M above s) unbranched (sym stray_told ∙ t) ∙ (λ i. first_refusal (numbers_left c (record { faces = long i + many i; loops = long i + many i; edges = 2 * long i; vertices = long i })))

@@ -1,5 +1,5 @@
 -- Half-edges by the vertices at which they start, as they are put into a map from the last to the first.
-use Rattle.std.proofs.Common.{◌≡◌, ℕ, suc, Bool, true, false, cond, nat_eq, List, [], ◌∷◌, ◌++◌, map, Option, Some, refl, sym, ap, ◌∙◌, arith, ◌-◌, ◌≤◌, length, slice_index_or}
+use Rattle.std.proofs.Common.{◌≡◌, ℕ, suc, Bool, true, false, cond, nat_eq, List, [], ◌∷◌, ◌++◌, map, Option, Some, unwrap_or, refl, sym, ap, ◌∙◌, arith, ◌-◌, ◌≤◌, length, slice_index_or}
 use Rattle.std.specs.BTreeMap.{BTreeMap, get}
 use Rattle.std.specs.Map.{lookup}
 use Rattle.std.specs.Ordering.{nat_cmp, is_eq}
@@ -32,14 +32,14 @@ pub one_placed : (M : Model) (all left : List ℕ) (starts next : BTreeMap ℕ H
 one_placed M all left starts next p h rest t e is updates = record {
   done = code h ∷ p.done;
   parts = p.parts ∙ ap (λ ks. ks ++ p.done) e ∙ append_assoc rest (code h ∷ []) p.done;
-  told = λ v. ap code_or_none (updates v) ∙ ap (λ b. code_or_none (cond b (Some h) (get nat_cmp starts v))) (number_tied t v ∙ ap (λ n. nat_eq n v) is) ∙ chosen (nat_eq (tail M (code h)) v) (get nat_cmp starts v) (p.told v);
+  told = λ v. ap code_or_none (updates v) ∙ ap (λ b. code_or_none (cond b (Some h) (get nat_cmp starts v))) (number_tied t v ∙ ap (λ n. nat_eq n v) is) ∙ chosen (nat_eq (tail M (code h)) v) (get nat_cmp starts v) (first_such (λ c. nat_eq (tail M c) v) p.done) (p.told v);
 } where
-  chosen : (b : Bool) (o : Option HalfEdge) {n : ℕ} → code_or_none o ≡ n → code_or_none (cond b (Some h) o) ≡ cond b (code h) n
-  chosen true o e = refl
-  chosen false o e = e
+  chosen : (b : Bool) (o : Option HalfEdge) (n : Option ℕ) → code_or_none o ≡ unwrap_or n 0 → code_or_none (cond b (Some h) o) ≡ unwrap_or (cond b (Some (code h)) n) 0
+  chosen true o n e = refl
+  chosen false o n e = e
 
 pub all_placed : (M : Model) (all left : List ℕ) (starts : BTreeMap ℕ HalfEdge) → Placed M all left starts → left ≡ [] → AreStarts M all starts
-all_placed M all left starts p e v = p.told v ∙ ap (first_such (λ c. nat_eq (tail M c) v)) (sym (p.parts ∙ ap (λ ks. ks ++ p.done) e))
+all_placed M all left starts p e v = p.told v ∙ ap (λ ks. unwrap_or (first_such (λ c. nat_eq (tail M c) v) ks) 0) (sym (p.parts ∙ ap (λ ks. ks ++ p.done) e))
 
 -- ---- the last of a list, and the others
 

@@ -19,7 +19,7 @@ use Rattle.euler_operators.specs.Model.{Model, tail, is_number}
 use Rattle.euler_operators.specs.Sound.{Sound, HasHalf, Has}
 use Rattle.solid_walks.proofs.face_walks_laws.Above.{AllAbove, all_above_members}
 use Rattle.solid_walks.proofs.face_walks_laws.TableWalks.{passes, member_passing}
-use Rattle.solid_measure.specs.solid_checks.Least.{found, least_such}
+use Rattle.solid_measure.specs.solid_checks.Least.{least_such}
 use Rattle.solid_measure.proofs.solid_checks_laws.Searches.{IsLeast, one_least, least_same, least_row}
 use Rattle.shapes.specs.split.Section.{section_ends, least_branched}
 use Rattle.split_checks.proofs.cut_places_laws.Lists.{others, parts}
@@ -98,10 +98,10 @@ module _ (M : Model) (sound : Sound M) (bs : List ℕ) (there : AreThere M bs) w
     above_zero : (v : ℕ) → is_number v ≡ true → 0 < v
     above_zero v e = grind (arith, nat_tests)
 
-  branched_least : IsLeast (λ v. nat_lt 2 (count v (section_ends M bs))) (found (least_branched M (section_ends M bs)))
-  branched_least = least_same _ _ (λ v. there_or_not v (table.get M.vertices v) refl) (found (least_branched M (section_ends M bs))) (least_row (λ v _. nat_lt 2 (count v (section_ends M bs))) M.vertices positive)
+  branched_least : IsLeast (λ v. nat_lt 2 (count v (section_ends M bs))) (least_branched M (section_ends M bs))
+  branched_least = least_same _ _ (λ v. there_or_not v (table.get M.vertices v) refl) (least_branched M (section_ends M bs)) (least_row (λ v _. nat_lt 2 (count v (section_ends M bs))) M.vertices positive)
 
-  pub least_is : (ends sorted : List ℕ) → SameItems ends (section_ends M bs) → IsPermutation ends sorted → least_such (often sorted) sorted ≡ found (least_branched M (section_ends M bs))
+  pub least_is : (ends sorted : List ℕ) → SameItems ends (section_ends M bs) → IsPermutation ends sorted → least_such (often sorted) sorted ≡ least_branched M (section_ends M bs)
   least_is ends sorted same moved =
-      one_least (often sorted) (least_such (often sorted) sorted) (found (least_branched M (section_ends M bs))) (least_often sorted)
-      (least_same (λ v. nat_lt 2 (count v (section_ends M bs))) (often sorted) (λ v. ap (nat_lt 2) (sym (same v) ∙ SameItems-from_permutation ends sorted moved v)) (found (least_branched M (section_ends M bs))) branched_least)
+      one_least (often sorted) (least_such (often sorted) sorted) (least_branched M (section_ends M bs)) (least_often sorted)
+      (least_same (λ v. nat_lt 2 (count v (section_ends M bs))) (often sorted) (λ v. ap (nat_lt 2) (sym (same v) ∙ SameItems-from_permutation ends sorted moved v)) (least_branched M (section_ends M bs)) branched_least)

@@ -1,5 +1,5 @@
 -- Half-edges by the vertices at which they start.
-use Rattle.std.specs.Prelude.{◌≡◌, ℕ, nat_eq, List, Option, Some, None}
+use Rattle.std.specs.Prelude.{◌≡◌, ℕ, nat_eq, List, Option, Some, None, unwrap_or}
 use Rattle.std.specs.BTreeMap.{BTreeMap, get}
 use Rattle.std.specs.Ordering.{nat_cmp}
 use Rattle.euler_operators.specs.declared.HalfEdge.{HalfEdge}
@@ -18,4 +18,4 @@ half_at starts v = code_or_none (get nat_cmp starts v)
 
 -- the map has at each vertex the first of these half-edges that starts there
 abbrev pub AreStarts : Model → List ℕ → BTreeMap ℕ HalfEdge → Type 0
-AreStarts M hs starts = (v : ℕ) → half_at starts v ≡ first_such (λ h. nat_eq (tail M h) v) hs
+AreStarts M hs starts = (v : ℕ) → half_at starts v ≡ unwrap_or (first_such (λ h. nat_eq (tail M h) v) hs) 0

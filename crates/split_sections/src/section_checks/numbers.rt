@@ -13,7 +13,7 @@ use split_checks::Progress;
 pub(crate) fn check_left(drawn: &Progress, edges: usize, cycles: usize) -> Result<(), Refusal>
     requires edges { edges ≤ 2000002 }
     requires cycles { cycles ≤ 2000002 }
-    ensures { result ≡ verdict (first_refusal (numbers_left (taken_of drawn.now) (edges + cycles) (edges + cycles) (2 * edges) edges)) }
+    ensures { result ≡ verdict (first_refusal (numbers_left (taken_of drawn.now) (record { faces = edges + cycles; loops = edges + cycles; edges = 2 * edges; vertices = edges }))) }
 {
     let taken = Counters {
         faces: drawn.faces,

@@ -4,7 +4,7 @@ ghost use Rattle.std.specs.List.Sorted.{IsNonDecreasing};
 ghost use Rattle.euler_operators.specs.Items.{SameItems, count};
 ghost use Rattle.euler_operators.specs.HalfEdge.{code};
 ghost use Rattle.euler_conditions.specs.Ready.{IsReady};
-ghost use Rattle.solid_measure.specs.solid_checks.Least.{found, least_such};
+ghost use Rattle.solid_measure.specs.solid_checks.Least.{least_such};
 ghost use Rattle.shapes.specs.split.Section.{least_branched, section_ends};
 ghost use Rattle.split_sections.specs.section_cycles.Halves.{AreThere, is_thrice};
 
@@ -62,7 +62,7 @@ pub(crate) fn least_branched(
 ) -> Result<Option<u32>, AllocError>
     requires ready { IsReady arena.now }
     requires there { AreThere arena.now.model (map code halves.now) }
-    ensures { IfOk result (λ v. v ≡ found (least_branched arena.now.model (section_ends arena.now.model (map code halves.now)))) }
+    ensures { IfOk result (λ v. v ≡ least_branched arena.now.model (section_ends arena.now.model (map code halves.now))) }
 {
     let mut ends = ends_of(alloc, arena, halves)?;
     ends.sort()?;

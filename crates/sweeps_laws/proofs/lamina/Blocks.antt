@@ -2,9 +2,8 @@
 use Rattle.std.specs.Prelude.{length, get_or, map, reverse, int_le}
 use Rattle.std.specs.Ordering.{int_eq}
 use Rattle.std.specs.Cmp.{signed_Decides}
-use Rattle.std.proofs.Common.{◌≡◌, ◌≢◌, ℕ, zero, suc, ◌+◌, ◌*◌, ◌≤◌, ◌<◌, ℤ, pos, negsuc, ◌+ℤ◌, Bool, true, false, cond, not, nat_eq, nat_le, ◌&&◌, ◌||◌, List, [], ◌∷◌, ◌++◌, Some, None, is_some, unwrap_or, refl, sym, ap, ◌∙◌, arith, true≢false, ◌⊎◌, inl, inr}
+use Rattle.std.proofs.Common.{◌≡◌, ◌≢◌, ℕ, zero, suc, ◌+◌, ◌*◌, ◌≤◌, ◌<◌, ℤ, pos, negsuc, ◌+ℤ◌, Bool, true, false, cond, not, nat_eq, nat_le, ◌&&◌, ◌||◌, List, [], ◌∷◌, ◌++◌, Some, None, is_some, unwrap_or, refl, sym, ap, ◌∙◌, arith, true≢false, ◌⊎◌, inl, inr, Option}
 use Rattle.std.proofs.lemmas.Bool.Decides.{nat_tests, eqb_tells}
-use Rattle.std.proofs.lemmas.Bool.{eq-eqb}
 use Rattle.std.proofs.lemmas.Int.{ints}
 use Rattle.euler_operators.specs.declared.Point.{Point}
 use Rattle.euler_operators.specs.Points.{is_coordinate, is_in_range}
@@ -26,7 +25,7 @@ use Rattle.euler_laws.proofs.shared.Goes.{all_hold, none_refuses}
 use Rattle.shapes.proofs.fresh.Rows.{at_most_greatest, greatest-put_last, get-put_cases}
 use Rattle.shapes.proofs.fresh.Tests.{Left, numbers_are_left, left_numbers_hold, number_fits}
 use Rattle.shapes.specs.Faces.{corners, loops_of, vertices_in, vertices_on, least_lone}
-use Rattle.shapes.specs.Fresh.{Taken, taken_in, numbers_left, numbers_after, no_such, first_such}
+use Rattle.shapes.specs.Fresh.{Taken, taken_in, numbers_left, numbers_after, no_such, first_such, found}
 use Rattle.shapes.specs.Lamina.{with_points, with_path, first_far, first_repeated, lamina_conditions, lamina_at, lamina_model}
 use Rattle.shapes.specs.Prism.{prism_conditions, prism_refusal}
 use Rattle.shapes.specs.Block.{vector, base_of, block_conditions, block_refusal}
@@ -107,12 +106,12 @@ ranges M s p dx dy dz e =
 pub fewer : (a n m : ℕ) → m ≤ n → nat_le (a + n) 1000000 ≡ true → nat_le (a + m) 1000000 ≡ true
 fewer a n m l e = grind (arith, nat_tests)
 
-pub all_near : (a b g h : Point) → is_in_range a ≡ true → is_in_range b ≡ true → is_in_range g ≡ true → is_in_range h ≡ true → first_far 0 (a ∷ b ∷ g ∷ h ∷ []) ≡ 0
-all_near a b g h r s t u = λ i. cond (r i) (cond (s i) (cond (t i) (cond (u i) 0 4) 3) 2) 1
+pub all_near : (a b g h : Point) → is_in_range a ≡ true → is_in_range b ≡ true → is_in_range g ≡ true → is_in_range h ≡ true → first_far 0 (a ∷ b ∷ g ∷ h ∷ []) ≡ None
+all_near a b g h r s t u = λ i. cond (r i) (cond (s i) (cond (t i) (cond (u i) None (Some 4)) (Some 3)) (Some 2)) (Some 1)
 
 pub none_repeated : (a b g h : Point) → same_point b a ≡ false → same_point g a ≡ false → same_point g b ≡ false → same_point h a ≡ false → same_point h b ≡ false → same_point h g ≡ false →
-    first_repeated [] 0 (a ∷ b ∷ g ∷ h ∷ []) ≡ 0
-none_repeated a b g h ba ga gb ha hb hg = λ i. cond (ba i || false) 2 (cond (ga i || (gb i || false)) 3 (cond (ha i || (hb i || (hg i || false))) 4 0))
+    first_repeated [] 0 (a ∷ b ∷ g ∷ h ∷ []) ≡ None
+none_repeated a b g h ba ga gb ha hb hg = λ i. cond (ba i || false) (Some 2) (cond (ga i || (gb i || false)) (Some 3) (cond (ha i || (hb i || (hg i || false))) (Some 4) None))
 
 pub blocks_have_bases : BlocksHaveBases
 unfolding block_conditions lamina_conditions
@@ -138,9 +137,9 @@ blocks_have_bases M s p dx dy dz e =
         (
           refl,
           (
-            eq-eqb _ _ near,
+            ap (λ (o : Option ℕ). not (is_some o)) near,
             (
-              eq-eqb _ _ apart,
+              ap (λ (o : Option ℕ). not (is_some o)) apart,
               (
                 fewer (taken_in M).face 6 2 (omega arith) left.0,
                 (
@@ -249,12 +248,12 @@ module _ (M : Model) (sound : Sound M) (c : Taken) (is : c ≡ taken_in M) (s : 
     low : (k f : ℕ) → f ≤ k → f ≡ k + 1 → ⊥
     low k f p e = absurd (omega arith)
 
-  none_lone : least_lone base ((c.face + 1) ∷ []) ≡ 0
-  none_lone = first_where_zero (λ _ row. is_lone row.content && lists ((c.face + 1) ∷ []) row.face) base.loops (λ q y at. elim (loop_cases q y at) [
+  none_lone : least_lone base ((c.face + 1) ∷ []) ≡ None
+  none_lone = ap found (first_where_zero (λ _ row. is_lone row.content && lists ((c.face + 1) ∷ []) row.face) base.loops (λ q y at. elim (loop_cases q y at) [
     | inl p ↦ ap (λ r. is_lone r.content && lists ((c.face + 1) ∷ []) r.face) p.1
     | inr (inl p) ↦ ap (λ r. is_lone r.content && lists ((c.face + 1) ∷ []) r.face) p.1
     | inr (inr p) ↦ no_lone (is_lone y.content) (c.face + 1) y.face (above c.face y.face p)
-  ]) where
+  ])) where
     above : (k f : ℕ) → f ≤ k → k + 1 ≢ f
     above k f p e = absurd (omega arith)
 
@@ -295,14 +294,14 @@ module _ (M : Model) (sound : Sound M) (c : Taken) (is : c ≡ taken_in M) (s : 
       ∷ never (same_point d origin) ZeroSweep (c.face + 1)
       ∷ no_such (least_lone base ((c.face + 1) ∷ [])) LoneLoop
       ∷ no_such (first_such (λ v. not (is_in_range (moved (point_of base v) d))) vs) PointRange
-      ∷ numbers_left (taken_in base) (length vs) (length vs) (2 * length vs) (length vs)
+      ∷ numbers_left (taken_in base) (record { faces = length vs; loops = length vs; edges = 2 * length vs; vertices = length vs })
 
   all_in_range : (d : Point) → is_in_range (moved a d) ≡ true → is_in_range (moved b d) ≡ true → is_in_range (moved g d) ≡ true → is_in_range (moved h d) ≡ true →
-      first_such (λ v. not (is_in_range (moved (point_of base v) d))) base_vertices ≡ 0
+      first_such (λ v. not (is_in_range (moved (point_of base v) d))) base_vertices ≡ None
   all_in_range d ra rb rg rh =
-      (λ i. cond (not (is_in_range (moved (point_at 0 (omega arith) i) d))) (c.vertex + 1) (cond (not (is_in_range (moved (point_at 1 (omega arith) i) d))) (c.vertex + 2)
-      (cond (not (is_in_range (moved (point_at 2 (omega arith) i) d))) (c.vertex + 3) (cond (not (is_in_range (moved (point_at 3 (omega arith) i) d))) (c.vertex + 4) 0))))
-      ∙ (λ i. cond (not (ra i)) (c.vertex + 1) (cond (not (rb i)) (c.vertex + 2) (cond (not (rg i)) (c.vertex + 3) (cond (not (rh i)) (c.vertex + 4) 0))))
+      (λ i. cond (not (is_in_range (moved (point_at 0 (omega arith) i) d))) (Some (c.vertex + 1)) (cond (not (is_in_range (moved (point_at 1 (omega arith) i) d))) (Some (c.vertex + 2))
+      (cond (not (is_in_range (moved (point_at 2 (omega arith) i) d))) (Some (c.vertex + 3)) (cond (not (is_in_range (moved (point_at 3 (omega arith) i) d))) (Some (c.vertex + 4)) None))))
+      ∙ (λ i. cond (not (ra i)) (Some (c.vertex + 1)) (cond (not (rb i)) (Some (c.vertex + 2)) (cond (not (rg i)) (Some (c.vertex + 3)) (cond (not (rh i)) (Some (c.vertex + 4)) None))))
 
   base_left : Left c 6 6 12 8 → Left (taken_in base) 4 4 8 4
   unfolding taken_in
@@ -333,7 +332,7 @@ module _ (M : Model) (sound : Sound M) (c : Taken) (is : c ≡ taken_in M) (s : 
           ap is_some face_one,
           (
             ap not apart,
-            (eq-eqb _ _ none_lone, (eq-eqb _ _ (all_in_range d ra rb rg rh), left_numbers_hold (taken_in base) 4 4 8 4 (base_left left))),
+            (ap (λ (o : Option ℕ). not (is_some o)) none_lone, (ap (λ (o : Option ℕ). not (is_some o)) (all_in_range d ra rb rg rh), left_numbers_hold (taken_in base) 4 4 8 4 (base_left left))),
           ),
         ),
       )

@@ -1,8 +1,8 @@
 -- From the conditions of a lamina: its operators in order, and the model that they leave.
 use Rattle.std.specs.Prelude.{length, get_or, nat_le, ◌-◌}
-use Rattle.std.proofs.Common.{◌≡◌, ℕ, zero, suc, ◌+◌, ◌≤◌, ◌<◌, true, false, cond, List, [], ◌∷◌, ◌++◌, None, refl, sym, ap, subst, ◌∙◌, arith}
+use Rattle.std.proofs.Common.{◌≡◌, ℕ, zero, suc, ◌+◌, ◌≤◌, ◌<◌, true, false, cond, List, [], ◌∷◌, ◌++◌, Some, None, is_some, refl, sym, ap, subst, ◌∙◌, arith, true≢false}
 use Rattle.std.proofs.lemmas.Bool.Decides.{nat_tests}
-use Rattle.std.proofs.lemmas.Bool.{not-true, eqb-true}
+use Rattle.std.proofs.lemmas.Bool.{not-true}
 use Rattle.euler_operators.specs.declared.Point.{Point}
 use Rattle.euler_operators.specs.Points.{is_in_range}
 use Rattle.euler_operators.specs.Model.{Model, no_point}
@@ -14,7 +14,7 @@ use Rattle.euler_laws.proofs.shared.Goes.{all_hold}
 use Rattle.euler_laws.proofs.Cases.{effect_keeps_sound}
 use Rattle.euler_laws.proofs.Runs.{effects-append, AreAccepted-append}
 use Rattle.euler_laws.specs.Laws.{AreAccepted, effects}
-use Rattle.shapes.proofs.fresh.Tests.{numbers_are_left}
+use Rattle.shapes.proofs.fresh.Tests.{none_found, numbers_are_left}
 use Rattle.shapes.specs.Fresh.{Taken, taken_in}
 use Rattle.shapes.specs.Lamina.{first_far, lamina_conditions, lamina_refusal, lamina_at, lamina_model}
 use Rattle.sweeps_laws.specs.lamina.Path.{path_at, first_point, next_point, further_points, last_edge, lamina_operators}
@@ -22,12 +22,12 @@ use Rattle.sweeps_laws.specs.lamina.Laws.{OperatorsAreAccepted, OperatorsMakeLam
 use Rattle.sweeps_laws.proofs.lamina.Steps.{Goes, first_accepted, first_made, second_accepted, second_made, further_accepted, further_made, last_accepted, last_made}
 
 -- where no point is too far, each is in range
-none_far : (i : ℕ) (ps : List Point) → first_far i ps ≡ 0 → (k : ℕ) → k < length ps → is_in_range (get_or ps k no_point) ≡ true
+none_far : (i : ℕ) (ps : List Point) → first_far i ps ≡ None → (k : ℕ) → k < length ps → is_in_range (get_or ps k no_point) ≡ true
 none_far i [] e k l = absurd (omega (arith, l))
 none_far i (p ∷ ps) e k l =
-    elim (is_in_range p) as (λ b. is_in_range p ≡ b → cond b (first_far (i + 1) ps) (i + 1) ≡ 0 → is_in_range (get_or (p ∷ ps) k no_point) ≡ true) [
+    elim (is_in_range p) as (λ b. is_in_range p ≡ b → cond b (first_far (i + 1) ps) (Some (i + 1)) ≡ None → is_in_range (get_or (p ∷ ps) k no_point) ≡ true) [
       | true ↦ λ t e. at k (λ m. none_far (i + 1) ps e m) t l
-      | false ↦ λ t e. absurd (omega (arith, e))
+      | false ↦ λ t e. absurd (true≢false (ap is_some e))
     ] refl e where
       at : (k : ℕ) → ((m : ℕ) → m < length ps → is_in_range (get_or ps m no_point) ≡ true) → is_in_range p ≡ true → k < length (p ∷ ps) → is_in_range (get_or (p ∷ ps) k no_point) ≡ true
       at zero rest t l = t
@@ -50,7 +50,7 @@ lamina_goes M s ps sound e =
       solid_free = no_row _ (not-true _ w.1.0);
       solid_fits = w.0;
       many = three (length ps) w.1.1.0;
-      points_fit = none_far 0 ps (eqb-true _ _ w.1.1.1.0);
+      points_fit = none_far 0 ps (none_found (first_far 0 ps) w.1.1.1.0);
       left = numbers_are_left (taken_in M) 2 2 (length ps) (length ps) w.1.1.1.1.1;
     }
 

@@ -1,5 +1,5 @@
 -- What it says that a sweep isn't refused; and so the sweep of a face, from its first operator to the prism.
-use Rattle.std.proofs.Common.{◌≡◌, ◌≢◌, ℕ, ◌*◌, ◌<◌, Bool, true, false, not, nat_eq, ◌&&◌, ◌||◌, List, [], ◌∷◌, ◌++◌, length, Some, None, is_some, refl, sym, ap, ◌∙◌, subst, arith, inl, inr, true≢false}
+use Rattle.std.proofs.Common.{◌≡◌, ◌≢◌, ℕ, ◌*◌, ◌<◌, Bool, true, false, not, nat_eq, ◌&&◌, ◌||◌, List, [], ◌∷◌, length, Some, None, is_some, refl, sym, ap, ◌∙◌, subst, arith, inl, inr, true≢false}
 use Rattle.std.specs.Prelude.{map}
 use Rattle.std.proofs.lemmas.Bool.Decides.{nat_tests, eqb_tells}
 use Rattle.std.proofs.lemmas.Bool.{not-false, eqb-true}
@@ -10,7 +10,7 @@ use Rattle.euler_operators.specs.Items.{count, IsIn, IsApart}
 use Rattle.euler_operators.proofs.Lists.{tick_same, tick_other}
 use Rattle.euler_operators.specs.Table as table
 use Rattle.euler_operators.specs.Model.{Model, cycle, items_of, content, face_of, outer, tail, point_of, rings_of}
-use Rattle.euler_operators.specs.Sound.{Sound, Has, HasHalf}
+use Rattle.euler_operators.specs.Sound.{Sound, Has}
 use Rattle.euler_operators.proofs.Tables.{zero_first_where}
 use Rattle.euler_operators.proofs.Models.{face_row, item_there, loop_number}
 use Rattle.euler_operators.proofs.Tests.{and_first, first_fails}
@@ -18,12 +18,12 @@ use Rattle.euler_operators.proofs.Operators.{apart_front}
 use Rattle.euler_operators.specs.Conditions.{AllHold, is_lone, lists, strictly_rises}
 use Rattle.euler_laws.specs.Laws.{AreAccepted, effects}
 use Rattle.euler_laws.proofs.Runs.{effects_keep_sound}
-use Rattle.euler_laws.proofs.shared.Goes.{all_hold, no_zero}
+use Rattle.euler_laws.proofs.shared.Goes.{all_hold}
 use Rattle.euler_laws.proofs.shared.Listed.{listed_passes, all_where-rises, listed-from_in}
 use Rattle.euler_laws.proofs.shared.Rows.{loop_row, not_lone_cycle}
 use Rattle.euler_laws.proofs.Sizes.{rises_on, rises_over}
 use Rattle.shapes.proofs.fresh.Rows.{none_above}
-use Rattle.shapes.proofs.fresh.Tests.{NoneSuch, NoZero, none_such, none_such-append, Left, numbers_are_left}
+use Rattle.shapes.proofs.fresh.Tests.{NoneSuch, none_found, none_is_lone, none_such, none_such-append, Left, numbers_are_left}
 use Rattle.shapes.specs.Faces.{start, loops_of, corners, vertices_in, vertices_on, least_lone}
 use Rattle.shapes.specs.Fresh.{first_such, taken_in}
 use Rattle.shapes.specs.Prism.{prism_conditions, prism_refusal, prism_model}
@@ -51,11 +51,11 @@ module _ (M : Model) (f : ℕ) (d : Point) (sound : Sound M) (accepted : prism_r
 
   none_lone : table.first_where (λ _ row. is_lone row.content && lists (f ∷ []) row.face) M.loops ≡ 0
   unfolding prism_conditions
-  none_lone = eqb-true (least_lone M (f ∷ [])) 0 hold.1.1.1.0
+  none_lone = none_is_lone M (f ∷ []) (none_found (least_lone M (f ∷ [])) hold.1.1.1.0)
 
-  none_far : first_such (λ v. not (is_in_range (moved (point_of M v) d))) (corners M f) ≡ 0
+  none_far : first_such (λ v. not (is_in_range (moved (point_of M v) d))) (corners M f) ≡ None
   unfolding prism_conditions
-  none_far = eqb-true (first_such (λ v. not (is_in_range (moved (point_of M v) d))) (corners M f)) 0 hold.1.1.1.1.0
+  none_far = none_found (first_such (λ v. not (is_in_range (moved (point_of M v) d))) (corners M f)) hold.1.1.1.1.0
 
   left : Left (taken_in M) (length (corners M f)) (length (corners M f)) (2 * length (corners M f)) (length (corners M f))
   unfolding prism_conditions
@@ -98,25 +98,9 @@ module _ (M : Model) (f : ℕ) (d : Point) (sound : Sound M) (accepted : prism_r
   abbrev far : ℕ → Bool
   far v = not (is_in_range (moved (point_of M v) d))
 
-  tails_no_zero : (hs : List ℕ) → ((h : ℕ) → IsIn h hs → HasHalf M h) → NoZero (map (tail M) hs)
-  tails_no_zero [] there = tt
-  tails_no_zero (h ∷ hs) there =
-      ((λ z. no_zero (tail M h) z (sound.vertices_fit (tail M h) (sound.tails_there h (there h (omega (arith, tick_same h)))))), tails_no_zero hs (λ k i. there k (omega (arith, i))))
-
-  no_zero-append : (xs ys : List ℕ) → NoZero xs → NoZero ys → NoZero (xs ++ ys)
-  no_zero-append [] ys a b = b
-  no_zero-append (x ∷ xs) ys a b = (a.0, no_zero-append xs ys a.1 b)
-
-  corners_no_zero : (ls : List ℕ) → ((l : ℕ) → IsIn l ls → content M l ≡ cycle (items_of (content M l))) → NoZero (vertices_in M ls)
-  corners_no_zero [] are = tt
-  corners_no_zero (l ∷ ls) are =
-      no_zero-append (vertices_on M (content M l)) (vertices_in M ls)
-      (subst (λ c. NoZero (vertices_on M c)) (sym (are l (omega (arith, tick_same l)))) (tails_no_zero (items_of (content M l)) (item_there M sound l)))
-      (corners_no_zero ls (λ k i. are k (omega (arith, i))))
-
   all_near : NoneSuch far (vertices_in M (loops_of M f))
   unfolding corners
-  all_near = none_such far (vertices_in M (loops_of M f)) (corners_no_zero (loops_of M f) is_cycle) none_far
+  all_near = none_such far (vertices_in M (loops_of M f)) none_far
 
   near_item : (hs : List ℕ) → NoneSuch far (map (tail M) hs) → (h : ℕ) → IsIn h hs → IsInRange (moved (start M h) d)
   near_item [] n h i = absurd (omega arith)

@@ -41,4 +41,4 @@ returns c =
     let M = c.args.arena.now.model in let f = c.args.f in let g = c.args.g in
     let faces = all_passed (face_conditions M f g) c.check_faces-faces.result c.check_faces-faces.ensures (sym c.is_err.ensures.value ∙ c.if-is_err.false) in
     let solids = all_passed (solid_conditions M (solid_of M f) (solid_of M g)) c.check_solids-solids.result (c.check_solids-solids.ensures ∙ (λ i. verdict (first_refusal (solid_conditions M (c.solid_of.ensures i) (c.solid_of-2.ensures i))))) (sym c.is_err-2.ensures.value ∙ c.if-is_err-2.false) in
-    c.check_left.ensures ∙ ap (λ k. verdict (first_refusal (numbers_left k 0 0 1 0))) c.counters_of.ensures.is ∙ ap verdict (numbers_decide M f g faces solids (all_passed (outline_conditions M f g) c.in_ok-outlines.outlines c.in_ok-outlines.ensures (sym c.is_err-3.ensures.value ∙ c.if-is_err-3.false)))
+    c.check_left.ensures ∙ ap (λ k. verdict (first_refusal (numbers_left k (record { faces = 0; loops = 0; edges = 1; vertices = 0 })))) c.counters_of.ensures.is ∙ ap verdict (numbers_decide M f g faces solids (all_passed (outline_conditions M f g) c.in_ok-outlines.outlines c.in_ok-outlines.ensures (sym c.is_err-3.ensures.value ∙ c.if-is_err-3.false)))

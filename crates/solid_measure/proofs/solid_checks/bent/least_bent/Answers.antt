@@ -1,10 +1,7 @@
 use Rattle.std.proofs.Common.{◌∙◌, ap, sym, length, arith}
-use Rattle.euler_operators.specs.Table.{has}
 use Rattle.euler_operators.specs.Model.{faces_of}
-use Rattle.euler_operators.proofs.Tests.{and_first}
-use Rattle.solid_measure.specs.solid_checks.Least.{found}
-use Rattle.solid_measure.proofs.solid_checks_laws.FaceWalks.{next_face, no_face_left, faces_from_zero, face_positive}
-use Rattle.solid_measure.proofs.solid_checks_laws.BentFaces.{first_bent, bent_here, bent_later, found_bent}
+use Rattle.solid_measure.proofs.solid_checks_laws.FaceWalks.{next_face, no_face_left, faces_from_zero}
+use Rattle.solid_measure.proofs.solid_checks_laws.BentFaces.{first_bent, bent_here, bent_later}
 use Rattle.solid_measure.proofs.solid_checks.bent.least_bent.Goals as goal
 use Rattle.solid_walks.proofs.face_walks_laws.Above.{above}
 
@@ -14,8 +11,7 @@ faces-init c = let M = c.args.arena.now.model in ap (first_bent M) (faces_from_z
 pub returns-then-is_bent : goal.returns-then-is_bent
 returns-then-is_bent c =
     let M = c.args.arena.now.model in let s = c.args.s in let f = c.in-Some.f in
-    found_bent M f (first_bent M (faces_of M s)) (face_positive M c.requires.sound f (and_first (has M.faces f) _ c.in-Some.ensures.1))
-    (sym (bent_here M f (above f (faces_of M s)) (sym c.is_bent.ensures ∙ c.if-is_bent.true)) ∙ ap (first_bent M) (sym (next_face M s c.faces.above f c.in-Some.ensures)) ∙ c.faces.invariant)
+    sym (bent_here M f (above f (faces_of M s)) (sym c.is_bent.ensures ∙ c.if-is_bent.true)) ∙ ap (first_bent M) (sym (next_face M s c.faces.above f c.in-Some.ensures)) ∙ c.faces.invariant
 
 pub faces-smaller : goal.faces-smaller
 faces-smaller c = let next = next_face c.args.arena.now.model c.args.s c.faces.above c.in-Some.f c.in-Some.ensures in omega (arith, ap length next)
@@ -28,4 +24,4 @@ faces-preserved c =
 pub returns : goal.returns
 returns c =
     let M = c.args.arena.now.model in let s = c.args.s in
-    ap found (ap (first_bent M) (sym (no_face_left M s c.faces.above c.in_default.ensures)) ∙ c.faces.invariant)
+    ap (first_bent M) (sym (no_face_left M s c.faces.above c.in_default.ensures)) ∙ c.faces.invariant

@@ -8,7 +8,7 @@ use Rattle.split_checks.specs.cut_places.Crossings.{AreCrossing, is_off}
 use Rattle.split_checks.specs.cut_places.Places.{AreWholeFaces}
 use Rattle.split_checks.specs.cut_places.Walks.{AreIn}
 use Rattle.split_checks.proofs.cut_places_laws.Edges.{as_many, met_crossing, least_met, straddling_there, straddling_whole}
-use Rattle.split_checks.proofs.begin_checks_laws.Stages.{edge_refused, none_off, faces_failed, numbers_decide}
+use Rattle.split_checks.proofs.begin_checks_laws.Stages.{edge_refused, faces_failed, numbers_decide}
 use Rattle.split_checks.proofs.begin_checks.checks.check_section.Goals as goal
 
 pub least_off-requires-clause-crossing : goal.least_off-requires-clause-crossing
@@ -26,7 +26,7 @@ pub check_faces-requires-clause-whole : goal.check_faces-requires-clause-whole
 check_faces-requires-clause-whole c =
     let M = c.args.arena.now.model in let p = c.args.plane in let s = c.args.s in
     subst (AreWholeFaces M p) (sym (c.as_slice-2.ensures.value ∙ c.in_ok-faces.ensures)) (straddling_whole M c.requires.ready.sound s p
-    (none_off M s p (sym c.is_met.ensures ∙ c.if-not-is_met.false) (c.in_default.ensures ∙ ap (least_such (is_off M p)) (c.as_slice.ensures.value ∙ c.in_ok-edges.ensures) ∙ least_met M c.requires.ready.sound s p)))
+    (sym (c.in_default.ensures ∙ ap (least_such (is_off M p)) (c.as_slice.ensures.value ∙ c.in_ok-edges.ensures) ∙ least_met M c.requires.ready.sound s p)))
 
 pub returns-then-is_err : goal.returns-then-is_err
 returns-then-is_err c =

@@ -3,7 +3,6 @@ use Rattle.euler_operators.specs.declared.HalfEdge.{HalfEdge}
 use Rattle.euler_operators.specs.HalfEdge.{code}
 use Rattle.split_sections.proofs.section_checks_laws.Facts.{there_now, rising_now, few_now, branched_now, next_now, cycles_now, all_now, few_told, stray_now, numbers_now}
 use Rattle.euler_operators.specs.Conditions.{first_refusal}
-use Rattle.solid_measure.specs.solid_checks.Least.{found}
 use Rattle.shapes.specs.split.Section.{below_halves, section_ends, least_branched}
 use Rattle.shapes.specs.split.Split.{section_conditions}
 use Rattle.split_checks.specs.Progress.{taken_of}
@@ -42,28 +41,28 @@ pub cycles-requires-clause-next : goal.cycles-requires-clause-next
 cycles-requires-clause-next c =
     let M = c.args.arena.now.model in let sound = c.requires.ready.sound in let above = c.args.above.now in let s = c.args.s in let p = c.args.plane in let faces = c.requires.of_solid in
     let is = ap (λ (hs : List HalfEdge). map code hs) c.as_slice-2.ensures.value ∙ c.in_ok-halves.ensures in
-    let none = sym c.in_default.is ∙ c.in_ok-branched.ensures ∙ ap (λ (hs : List HalfEdge). found (least_branched M (section_ends M (map code hs)))) (c.as_slice.ensures.value ∙ sym c.as_slice-2.ensures.value) in
+    let none = sym c.in_default.is ∙ c.in_ok-branched.ensures ∙ ap (λ (hs : List HalfEdge). least_branched M (section_ends M (map code hs))) (c.as_slice.ensures.value ∙ sym c.as_slice-2.ensures.value) in
     next_now M sound above s faces c.as_slice-2.result.now is none
 
 pub with_holes-requires-clause-cycles : goal.with_holes-requires-clause-cycles
 with_holes-requires-clause-cycles c =
     let M = c.args.arena.now.model in let sound = c.requires.ready.sound in let above = c.args.above.now in let s = c.args.s in let p = c.args.plane in let faces = c.requires.of_solid in
     let is = ap (λ (hs : List HalfEdge). map code hs) c.as_slice-2.ensures.value ∙ c.in_ok-halves.ensures in
-    let none = sym c.in_default.is ∙ c.in_ok-branched.ensures ∙ ap (λ (hs : List HalfEdge). found (least_branched M (section_ends M (map code hs)))) (c.as_slice.ensures.value ∙ sym c.as_slice-2.ensures.value) in
+    let none = sym c.in_default.is ∙ c.in_ok-branched.ensures ∙ ap (λ (hs : List HalfEdge). least_branched M (section_ends M (map code hs))) (c.as_slice.ensures.value ∙ sym c.as_slice-2.ensures.value) in
     cycles_now M sound above s faces c.as_slice-2.result.now is none (map codes c.in_ok-found.found.items) c.in_ok-found.ensures
 
 pub has_stray_hole-requires : goal.has_stray_hole-requires
 has_stray_hole-requires c =
     let M = c.args.arena.now.model in let sound = c.requires.ready.sound in let above = c.args.above.now in let s = c.args.s in let p = c.args.plane in let faces = c.requires.of_solid in
     let is = ap (λ (hs : List HalfEdge). map code hs) c.as_slice-2.ensures.value ∙ c.in_ok-halves.ensures in
-    let none = sym c.in_default.is ∙ c.in_ok-branched.ensures ∙ ap (λ (hs : List HalfEdge). found (least_branched M (section_ends M (map code hs)))) (c.as_slice.ensures.value ∙ sym c.as_slice-2.ensures.value) in
+    let none = sym c.in_default.is ∙ c.in_ok-branched.ensures ∙ ap (λ (hs : List HalfEdge). least_branched M (section_ends M (map code hs))) (c.as_slice.ensures.value ∙ sym c.as_slice-2.ensures.value) in
     omega (arith, few_told M sound above s faces c.as_slice-2.result.now is none (map codes c.in_ok-found.found.items) c.in_ok-found.ensures p c.in_ok-cycles.cycles.items c.in_ok-cycles.ensures.halves c.in_ok-cycles.ensures.holes, ap (λ (cs : List Cycle). length cs) c.as_slice-3.ensures.value)
 
 pub returns-then-has_stray_hole-clause-refused : goal.returns-then-has_stray_hole-clause-refused
 returns-then-has_stray_hole-clause-refused c =
     let M = c.args.arena.now.model in let sound = c.requires.ready.sound in let above = c.args.above.now in let s = c.args.s in let p = c.args.plane in let faces = c.requires.of_solid in
     let is = ap (λ (hs : List HalfEdge). map code hs) c.as_slice-2.ensures.value ∙ c.in_ok-halves.ensures in
-    let none = sym c.in_default.is ∙ c.in_ok-branched.ensures ∙ ap (λ (hs : List HalfEdge). found (least_branched M (section_ends M (map code hs)))) (c.as_slice.ensures.value ∙ sym c.as_slice-2.ensures.value) in
+    let none = sym c.in_default.is ∙ c.in_ok-branched.ensures ∙ ap (λ (hs : List HalfEdge). least_branched M (section_ends M (map code hs))) (c.as_slice.ensures.value ∙ sym c.as_slice-2.ensures.value) in
     let stray = ap (λ (cs : List Cycle). has_stray cs) (sym c.as_slice-3.ensures.value) ∙ sym c.has_stray_hole.ensures ∙ c.if-has_stray_hole.true in
     λ r e. told _ _ r (stray_now M sound above s faces c.as_slice-2.result.now is none (map codes c.in_ok-found.found.items) c.in_ok-found.ensures p c.in_ok-cycles.cycles.items c.in_ok-cycles.ensures.halves c.in_ok-cycles.ensures.holes (taken_of c.args.drawn.now) stray) e
 
@@ -79,7 +78,7 @@ pub check_left-requires-clause-cycles : goal.check_left-requires-clause-cycles
 check_left-requires-clause-cycles c =
     let M = c.args.arena.now.model in let sound = c.requires.ready.sound in let above = c.args.above.now in let s = c.args.s in let p = c.args.plane in let faces = c.requires.of_solid in
     let is = ap (λ (hs : List HalfEdge). map code hs) c.as_slice-2.ensures.value ∙ c.in_ok-halves.ensures in
-    let none = sym c.in_default.is ∙ c.in_ok-branched.ensures ∙ ap (λ (hs : List HalfEdge). found (least_branched M (section_ends M (map code hs)))) (c.as_slice.ensures.value ∙ sym c.as_slice-2.ensures.value) in
+    let none = sym c.in_default.is ∙ c.in_ok-branched.ensures ∙ ap (λ (hs : List HalfEdge). least_branched M (section_ends M (map code hs))) (c.as_slice.ensures.value ∙ sym c.as_slice-2.ensures.value) in
     let told_held : vec_len c.in_ok-cycles.cycles ≡ length c.in_ok-cycles.cycles.items = omega (arith, c.in_ok-cycles.cycles.ok.0) in
     let many = c.len-2.ensures ∙ told_held in
     omega (arith, few_told M sound above s faces c.as_slice-2.result.now is none (map codes c.in_ok-found.found.items) c.in_ok-found.ensures p c.in_ok-cycles.cycles.items c.in_ok-cycles.ensures.halves c.in_ok-cycles.ensures.holes, many)
@@ -88,7 +87,7 @@ pub returns-in-Ok-clause-open : goal.returns-in-Ok-clause-open
 returns-in-Ok-clause-open c =
     let M = c.args.arena.now.model in let sound = c.requires.ready.sound in let above = c.args.above.now in let s = c.args.s in let p = c.args.plane in let faces = c.requires.of_solid in
     let is = ap (λ (hs : List HalfEdge). map code hs) c.as_slice-2.ensures.value ∙ c.in_ok-halves.ensures in
-    let none = sym c.in_default.is ∙ c.in_ok-branched.ensures ∙ ap (λ (hs : List HalfEdge). found (least_branched M (section_ends M (map code hs)))) (c.as_slice.ensures.value ∙ sym c.as_slice-2.ensures.value) in
+    let none = sym c.in_default.is ∙ c.in_ok-branched.ensures ∙ ap (λ (hs : List HalfEdge). least_branched M (section_ends M (map code hs))) (c.as_slice.ensures.value ∙ sym c.as_slice-2.ensures.value) in
     let stray = ap (λ (cs : List Cycle). has_stray cs) (sym c.as_slice-3.ensures.value) ∙ sym c.has_stray_hole.ensures ∙ c.if-has_stray_hole.false in
     let held : vec_len c.in_ok-halves.halves ≡ length c.in_ok-halves.halves.items = omega (arith, c.in_ok-halves.halves.ok.0) in
     let long = c.len.ensures ∙ held ∙ ap (λ (hs : List HalfEdge). length hs) (sym c.as_slice-2.ensures.value) in
@@ -103,7 +102,7 @@ pub returns-clause-refused : goal.returns-clause-refused
 returns-clause-refused c =
     let M = c.args.arena.now.model in let sound = c.requires.ready.sound in let above = c.args.above.now in let s = c.args.s in let p = c.args.plane in let faces = c.requires.of_solid in
     let is = ap (λ (hs : List HalfEdge). map code hs) c.as_slice-2.ensures.value ∙ c.in_ok-halves.ensures in
-    let none = sym c.in_default.is ∙ c.in_ok-branched.ensures ∙ ap (λ (hs : List HalfEdge). found (least_branched M (section_ends M (map code hs)))) (c.as_slice.ensures.value ∙ sym c.as_slice-2.ensures.value) in
+    let none = sym c.in_default.is ∙ c.in_ok-branched.ensures ∙ ap (λ (hs : List HalfEdge). least_branched M (section_ends M (map code hs))) (c.as_slice.ensures.value ∙ sym c.as_slice-2.ensures.value) in
     let stray = ap (λ (cs : List Cycle). has_stray cs) (sym c.as_slice-3.ensures.value) ∙ sym c.has_stray_hole.ensures ∙ c.if-has_stray_hole.false in
     let held : vec_len c.in_ok-halves.halves ≡ length c.in_ok-halves.halves.items = omega (arith, c.in_ok-halves.halves.ok.0) in
     let long = c.len.ensures ∙ held ∙ ap (λ (hs : List HalfEdge). length hs) (sym c.as_slice-2.ensures.value) in
