@@ -7,7 +7,8 @@
 
 mod commands;
 
-ghost use Rattle.std.specs.Prelude.{◌≡◌, pos, ◌+ℤ◌, IfOk};
+ghost use Rattle.std.specs.Prelude.{◌≡◌, pos, neg_ℤ, ◌+ℤ◌, IfOk};
+ghost use Rattle.machined_block.specs.Cutting.{LieOnEitherSide};
 ghost use Rattle.sweeps.specs.PlainMachine.{depth, ahead, held};
 ghost use Rattle.sweeps.specs.Measure.{six_volume};
 
@@ -92,6 +93,7 @@ fn lengthened(alloc: Global) -> Result<Session, Trouble>
 /// That block cut at x = 2: what lies past it is solid 2.
 fn parted(alloc: Global) -> Result<Session, Trouble>
     ensures volume { IfOk result (λ session. six_volume (held session.machine) 1 +ℤ six_volume (held session.machine) 2 ≡ pos 180) }
+    ensures sides { IfOk result (λ session. LieOnEitherSide (held session.machine) (neg_ℤ (pos 2)) 1 2) }
     ensures depth { IfOk result (λ session. depth session.machine ≡ 4) }
 {
     let session = lengthened(alloc)?;

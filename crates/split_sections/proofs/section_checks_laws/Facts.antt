@@ -9,7 +9,7 @@ use Rattle.euler_operators.specs.Sound.{Sound}
 use Rattle.euler_operators.specs.Conditions.{first_refusal, strictly_rises}
 use Rattle.euler_operators.specs.declared.Why.TheVariants.{BranchedVertex, SectionHoles}
 use Rattle.shapes.specs.Fresh.{Taken, numbers_left}
-use Rattle.solid_measure.specs.solid_checks.Least.{found}
+use Rattle.split_checks.specs.Least.{found}
 use Rattle.shapes.specs.split.Section.{below_halves, section_ends, least_branched, next_below, section_cycles, is_hole, has_stray_hole}
 use Rattle.shapes.specs.split.Split.{section_conditions}
 use Rattle.split_opening_laws.specs.cycles.Permuting.{Permutes}

@@ -7,7 +7,7 @@ use Rattle.euler_operators.specs.Conditions.{first_refusal}
 use Rattle.euler_operators.specs.declared.Refusal.{Refusal}
 use Rattle.euler_operators.specs.declared.Why.TheVariants.{CutCrossed, BranchedVertex, SectionHoles}
 use Rattle.shapes.specs.Fresh.{Taken, numbers_left}
-use Rattle.solid_measure.specs.solid_checks.Least.{found}
+use Rattle.split_checks.specs.Least.{found}
 use Rattle.shapes.specs.split.Drawing.{Drawing}
 use Rattle.shapes.specs.split.Sides.{faces_above}
 use Rattle.shapes.specs.split.Section.{below_halves, section_ends, least_branched, section_cycles, has_stray_hole}

@@ -3,7 +3,7 @@ use Rattle.euler_operators.specs.declared.HalfEdge.{HalfEdge}
 use Rattle.euler_operators.specs.HalfEdge.{code}
 use Rattle.split_sections.proofs.section_checks_laws.Facts.{there_now, rising_now, few_now, branched_now, next_now, cycles_now, all_now, few_told, stray_now, numbers_now}
 use Rattle.euler_operators.specs.Conditions.{first_refusal}
-use Rattle.solid_measure.specs.solid_checks.Least.{found}
+use Rattle.split_checks.specs.Least.{found}
 use Rattle.shapes.specs.split.Section.{below_halves, section_ends, least_branched}
 use Rattle.shapes.specs.split.Split.{section_conditions}
 use Rattle.split_checks.specs.Progress.{taken_of}
