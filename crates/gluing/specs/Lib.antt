@@ -5,3 +5,5 @@ pub mod Machine
 pub mod Calls
 pub use Rattle.gluing_laws.specs.Laws as VolumeLaws
 pub use Rattle.gluing_laws.specs.glue.Laws as GlueLaws
+pub use Rattle.euler_conditions.specs.Store
+pub use Rattle.solid_measure.specs.Measure

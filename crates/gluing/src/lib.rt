@@ -11,5 +11,7 @@ mod laws;
 mod rims;
 
 pub use command::glue;
+pub use euler_operators::Kind;
 pub use gluing_laws::{glues_add, glues_make_glued};
 pub use laws::{glue_measures, glues_are_calls};
+pub use solid_measure::six_volume;

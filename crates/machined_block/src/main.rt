@@ -1,17 +1,36 @@
-//! A block machined, as a stranger to the workbench would write it: the block is made, a face of it swept up, the sweep taken back, and an
-//! operator tried in a draft that is given up. What the functions say of volumes and of undo is proved from the contracts of the calls and
-//! the laws beside them alone.
+//! Blocks machined, as a stranger to the workbench would write it. A block is made, a face of it swept up, the sweep taken back, and an
+//! operator tried in a draft that is given up. And a block is made longer by a second one that is glued to it, and cut in two. What the
+//! functions say of volumes, sides and undo is proved from the contracts of the calls and the laws beside them alone.
+//!
+//! `commands` has the commands of the workbench with what this program wants of them.
 #![tactic(auto)]
 
-ghost use Rattle.std.specs.Prelude.{◌≡◌, pos, ◌+ℤ◌, ◌*ℤ◌, OnOk, OnErr, IfOk};
-ghost use Rattle.sweeps.specs.PlainMachine.{depth, ahead, held, undo, undo_refusal};
-ghost use Rattle.sweeps.specs.Measure.{normal, six_volume};
-ghost use Rattle.sweeps.specs.Model.{solid_of};
-ghost use Rattle.sweeps.specs.Vectors.{dot};
+mod commands;
 
+ghost use Rattle.std.specs.Prelude.{◌≡◌, pos, neg_ℤ, ◌+ℤ◌, IfOk};
+ghost use Rattle.machined_block.specs.Cutting.{LieOnEitherSide};
+ghost use Rattle.sweeps.specs.PlainMachine.{depth, ahead, held};
+ghost use Rattle.sweeps.specs.Measure.{six_volume};
+
+use commands::{cut, is_face_of, joined, measured, raised, tried};
 use std::alloc::Global;
 use std::process::ExitCode;
-use sweeps::{Draft, Failure, Op, Point, Session, block, block_measures, sweep, sweep_measures};
+use sweeps::{Failure, Op, Point, Session, block, block_measures};
+
+/// Why the program ends early.
+#[derive(Debug, Drop)]
+enum Trouble {
+    /// The workbench did nothing.
+    Workbench(Failure),
+    /// A face isn't of the solid that it was taken for.
+    OtherSolid,
+}
+
+impl From<Failure> for Trouble {
+    fn from(failure: Failure) -> Trouble {
+        Trouble::Workbench(failure)
+    }
+}
 
 /// A session that holds a block of 4 by 3 by 2 as solid 1.
 fn blank(alloc: Global) -> Result<Session, Failure>
@@ -25,33 +44,6 @@ fn blank(alloc: Global) -> Result<Session, Failure>
     let (session, made) = block(alloc, session, 1, corner, 4, 3, 2);
     made?;
     Ok(session)
-}
-
-/// A face swept along a vector. Its solid grows by three times the face's normal before, along the vector; undo isn't refused then,
-/// and gives the model before.
-fn raised(alloc: Global, session: Session, face: u32, by: Point) -> (Session, Result<(), Failure>)
-    ensures volume { OnOk result.1 (six_volume (held result.0.machine) (solid_of (held session.machine) face) ≡ six_volume (held session.machine) (solid_of (held session.machine) face) +ℤ pos 3 *ℤ dot (normal (held session.machine) face) by) }
-    ensures goes_back { OnOk result.1 (undo_refusal result.0.machine ≡ None) }
-    ensures undone { OnOk result.1 (held (undo result.0.machine) ≡ held session.machine) }
-    ensures left { OnOk result.1 ((depth (undo result.0.machine) ≡ depth session.machine) × (ahead (undo result.0.machine) ≡ 1)) }
-    ensures err { OnErr result.1 (result.0 ≡ session) }
-{
-    session.stays_consistent();
-    sweep_measures();
-    sweep(alloc, session, face, by)
-}
-
-/// An operator tried in a draft that is given up, whether it was accepted, refused or stopped by memory: the session is as it was.
-fn tried(session: Session, op: Op) -> Session
-    ensures { result ≡ session }
-{
-    match Draft::open(session) {
-        Ok(mut draft) => {
-            let _ = draft.step(op);
-            draft.abandon()
-        }
-        Err((session, _)) => session,
-    }
 }
 
 /// The block, after its first face was raised and lowered again and an operator was tried in vain: it has its volume as before, and
@@ -68,14 +60,75 @@ fn machined(alloc: Global) -> Result<Session, Failure>
     Ok(tried(session, Op::Kvfs(1)))
 }
 
+/// The block, and at its end one of 1 by 3 by 2 as solid 2.
+fn paired(alloc: Global) -> Result<Session, Failure>
+    ensures first { IfOk result (λ session. six_volume (held session.machine) 1 ≡ pos 144) }
+    ensures second { IfOk result (λ session. six_volume (held session.machine) 2 ≡ pos 36) }
+    ensures depth { IfOk result (λ session. depth session.machine ≡ 2) }
+{
+    let session = blank(alloc)?;
+    session.stays_consistent();
+    block_measures();
+    let corner = Point { x: 4, y: 0, z: 0 };
+    let (session, made) = block(alloc, session, 2, corner, 1, 3, 2);
+    made?;
+    Ok(session)
+}
+
+/// The two glued to one block of 5 by 3 by 2. Nothing says which numbers the faces of a block get, so it is looked up whether those that
+/// meet are of the two solids.
+fn lengthened(alloc: Global) -> Result<Session, Trouble>
+    ensures volume { IfOk result (λ session. six_volume (held session.machine) 1 ≡ pos 180) }
+    ensures depth { IfOk result (λ session. depth session.machine ≡ 3) }
+{
+    let session = paired(alloc)?;
+    if !is_face_of(&session, 1, 4) || !is_face_of(&session, 2, 12) {
+        return Err(Trouble::OtherSolid);
+    }
+    let (session, glued) = joined(alloc, session, 4, 12);
+    glued?;
+    Ok(session)
+}
+
+/// That block cut at x = 2: what lies past it is solid 2.
+fn parted(alloc: Global) -> Result<Session, Trouble>
+    ensures volume { IfOk result (λ session. six_volume (held session.machine) 1 +ℤ six_volume (held session.machine) 2 ≡ pos 180) }
+    ensures sides { IfOk result (λ session. LieOnEitherSide (held session.machine) (neg_ℤ (pos 2)) 1 2) }
+    ensures depth { IfOk result (λ session. depth session.machine ≡ 4) }
+{
+    let session = lengthened(alloc)?;
+    let (session, done) = cut(alloc, session, 1, -2, 2);
+    done?;
+    Ok(session)
+}
+
+/// Says how many commands the machined block has.
+fn tell_block(rt: &HostRuntime) -> Result<(), Trouble> {
+    let session = machined(rt.alloc())?;
+    let (behind, ahead) = (session.depth(), session.ahead());
+    prove!(behind == 1 && ahead == 1);
+    let _ = println!(rt; "a block of volume 24: {behind} command to undo, {ahead} to redo");
+    Ok(())
+}
+
+/// Says what the parts of the longer block measure.
+fn tell_parts(rt: &HostRuntime) -> Result<(), Trouble> {
+    let session = parted(rt.alloc())?;
+    let (near, far) = (measured(&session, 1)?, measured(&session, 2)?);
+    let whole = near + far;
+    let commands = session.depth();
+    prove!(whole == 180 && commands == 4);
+    let _ = println!(rt;
+        "glued and cut: six volumes of {near} and {far}, together {whole}, {commands} commands to undo"
+    );
+    Ok(())
+}
+
 fn main(rt: HostRuntime) -> ExitCode {
-    match machined(rt.alloc()) {
-        Ok(session) => {
-            let (behind, ahead) = (session.depth(), session.ahead());
-            prove!(behind == 1 && ahead == 1);
-            let _ = println!(rt; "a block of volume 24: {behind} command to undo, {ahead} to redo");
-            ExitCode::SUCCESS
-        }
-        Err(_) => ExitCode::FAILURE,
+    let told = tell_block(&rt).and_then(|()| tell_parts(&rt));
+    if told.is_ok() {
+        ExitCode::SUCCESS
+    } else {
+        ExitCode::FAILURE
     }
 }

@@ -8,3 +8,5 @@ pub mod Machine
 pub mod Calls
 pub use Rattle.split_laws.specs.Laws as SplitLaws
 pub use Rattle.split_laws.specs.measures.Laws as PartLaws
+pub use Rattle.shapes.specs.Faces
+pub use Rattle.shapes.specs.split.Sides

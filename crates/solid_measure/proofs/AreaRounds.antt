@@ -7,7 +7,7 @@ use Rattle.euler_operators.specs.Items.{IsIn}
 use Rattle.euler_operators.specs.declared.Content.{Content}
 use Rattle.euler_operators.specs.Model.{Model, LoopContent, lone, cycle, items_of, content, point_of, after}
 use Rattle.euler_operators.specs.Sound.{Sound, HasHalf}
-use Rattle.euler_conditions.specs.Store.{Tells}
+use Rattle.solid_walks.specs.Store.{Tells}
 use Rattle.euler_laws.proofs.shared.Bounds.{steps}
 use Rattle.shapes.specs.Faces.{start, finish}
 use Rattle.solid_measure.specs.Measure.{area, area_limit}

@@ -3,7 +3,7 @@ use Rattle.std.proofs.Common.{◌≡◌, ℕ, [], ◌∷◌, ◌++◌, Some, Non
 use Rattle.std.proofs.lemmas.List.{append-nil}
 use Rattle.euler_operators.specs.Model.{Model, items_of, content, outer}
 use Rattle.euler_operators.specs.Sound.{Sound}
-use Rattle.euler_conditions.specs.Store.{IsNextRing}
+use Rattle.solid_walks.specs.Store.{IsNextRing}
 use Rattle.euler_operators.specs.declared.Point.{Point}
 use Rattle.euler_operators.specs.Ranges.{IsVectorWithin}
 use Rattle.euler_operators.specs.Vectors.{origin, moved}

@@ -15,7 +15,7 @@ use Rattle.euler_operators.specs.declared.HalfEdge.{HalfEdge}
 use Rattle.euler_operators.specs.declared.Content.{Content}
 use Rattle.euler_operators.specs.Model.{Model, LoopContent, lone, cycle, items_of, content, after, tail, point_of, outer, rings_of, is_ring_of}
 use Rattle.euler_operators.specs.Sound.{Sound}
-use Rattle.euler_conditions.specs.Store.{IsNextRing, Tells}
+use Rattle.solid_walks.specs.Store.{IsNextRing, Tells}
 use Rattle.euler_operators.specs.Conditions.{lists}
 use Rattle.euler_laws.proofs.shared.Listed.{first_listed, rest_listed, listed_cases}
 use Rattle.euler_laws.proofs.shared.Bounds.{steps}

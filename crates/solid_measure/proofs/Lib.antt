@@ -7,3 +7,4 @@ pub mod FlatRounds
 pub mod Boundaries
 pub mod Planes
 pub mod Volumes
+pub use Rattle.solid_walks.proofs.face_walks_laws

@@ -12,7 +12,7 @@ use Rattle.euler_operators.proofs.Magnitudes.{coordinates, coordinate_within, pr
 use Rattle.euler_operators.proofs.Vectors.{dot_turned}
 use Rattle.euler_operators.specs.Model.{Model, faces_of}
 use Rattle.euler_operators.specs.Sound.{Sound}
-use Rattle.euler_conditions.specs.Store.{IsNextFace}
+use Rattle.solid_walks.specs.Store.{IsNextFace}
 use Rattle.shapes.specs.Faces.{items_in, loops_of, boundary}
 use Rattle.shapes.specs.Walks.{loops_in}
 use Rattle.euler_laws.proofs.shared.UpTo.{up_to}

@@ -5,16 +5,15 @@ ghost use Rattle.euler_operators.specs.Points.{IsInRange};
 ghost use Rattle.euler_operators.specs.Ranges.{IsPlane, IsVectorWithin, IsWithin};
 ghost use Rattle.euler_operators.specs.Vectors.{direction, dot, is_on, moved, origin, same_point};
 ghost use Rattle.euler_operators.specs.Model.{content, items_of, outer, point_of, rings_of};
-ghost use Rattle.euler_conditions.specs.Store.{has_number};
-ghost use Rattle.euler_conditions.specs.Ready.{IsReady};
+ghost use Rattle.solid_walks.specs.Store.{has_number};
+ghost use Rattle.solid_walks.specs.Ready.{IsReady};
 ghost use Rattle.shapes.specs.Faces.{corners, vertices_in};
 ghost use Rattle.solid_measure.specs.Measure.{anchor, area, area_limit, is_flat, normal, plane_of, read};
 
 use crate::Vector;
 use crate::loops::{loop_added, loop_lies_on, walk_round};
-use euler_conditions::Arena;
 use euler_operators::{Content, HalfEdge, Kind, Plane, Point, dot};
-use solid_walks::start;
+use solid_walks::{Arena, start};
 
 /// Where a face lies: the sum of the cross products over the half-edges of its loops, and the point of its first corner.
 #[derive(Drop)]

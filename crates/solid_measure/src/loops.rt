@@ -7,17 +7,16 @@ ghost use Rattle.euler_operators.specs.Vectors.{moved, cross, is_on};
 ghost use Rattle.euler_operators.specs.Items.{IsIn, head_or};
 ghost use Rattle.euler_operators.specs.HalfEdge.{code};
 ghost use Rattle.euler_operators.specs.Model.{items_of, content, has_half, point_of, tail};
-ghost use Rattle.euler_conditions.specs.Store.{has_number};
-ghost use Rattle.euler_conditions.specs.Ready.{IsReady};
+ghost use Rattle.solid_walks.specs.Store.{has_number};
+ghost use Rattle.solid_walks.specs.Ready.{IsReady};
 ghost use Rattle.shapes.specs.Faces.{start, finish, vertices_on};
 ghost use Rattle.solid_measure.specs.Measure.{area, area_limit, read};
 
 use crate::Vector;
-use euler_conditions::{Arena, next, same};
 use euler_operators::{
     Content, HALF_EDGE_CODES, HalfEdge, Kind, Plane, Point, Sign, cross_add, side,
 };
-use solid_walks::{finish, start};
+use solid_walks::{Arena, finish, next, same, start};
 
 /// The vector n plus the cross product of two points.
 fn crossed(n: Vector, p: Point, q: Point) -> Vector

@@ -1,14 +1,14 @@
 //! Measures of faces and solids by number.
 ghost use Rattle.std.specs.Prelude.{◌≡◌};
 ghost use Rattle.euler_operators.specs.Vectors.{numbers_of};
-ghost use Rattle.euler_conditions.specs.Store.{has_number};
-ghost use Rattle.euler_conditions.specs.Ready.{IsReady};
+ghost use Rattle.solid_walks.specs.Store.{has_number};
+ghost use Rattle.solid_walks.specs.Ready.{IsReady};
 ghost use Rattle.solid_measure.specs.Measure.{answer, face_refusal, is_flat, normal, plane_of, six_volume, solid_refusal};
 
 use crate::faces;
 use crate::solid_counts::refusal_of_solid;
-use euler_conditions::Arena;
 use euler_operators::{Kind, Plane, Refusal, Why, is_number};
+use solid_walks::Arena;
 
 /// The refusal of a query about face f, if there is one.
 fn refusal_of_face(arena: &Arena, f: u32) -> Option<Refusal>

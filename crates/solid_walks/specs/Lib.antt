@@ -1,1 +1,3 @@
 pub mod Counters
+pub use Rattle.euler_conditions.specs.Ready
+pub use Rattle.euler_conditions.specs.Store

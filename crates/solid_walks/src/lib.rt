@@ -11,6 +11,7 @@ mod halves;
 mod numbers;
 
 pub use around::leads;
+pub use euler_conditions::{Arena, next, same};
 pub use face_walks::{face_loops, items_from, least_item};
 pub use halves::{finish, previous, start};
 pub use numbers::{Counters, check_left, counters_of};

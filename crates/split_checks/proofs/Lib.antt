@@ -1,3 +1,8 @@
 pub mod cut_places_laws
 pub mod place_order_laws
 pub mod begin_checks_laws
+pub use Rattle.solid_measure.proofs.Areas
+pub use Rattle.solid_measure.proofs.Planes
+pub use Rattle.solid_measure.proofs.solid_checks_laws.FaceWalks
+pub use Rattle.solid_measure.proofs.solid_checks_laws.Searches
+pub use Rattle.solid_measure.proofs.solid_counts_laws.HowMany

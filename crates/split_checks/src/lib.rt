@@ -16,3 +16,4 @@ pub use cut_places::{
 };
 pub use place_order::{Places, in_order};
 pub use progress::Progress;
+pub use solid_measure::{Vector, half_added, normal};

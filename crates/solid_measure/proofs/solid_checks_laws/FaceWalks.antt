@@ -7,7 +7,7 @@ use Rattle.euler_operators.specs.Sound.{Sound}
 use Rattle.euler_operators.specs.Conditions.{lists}
 use Rattle.euler_operators.proofs.Tests.{and_first}
 use Rattle.euler_operators.proofs.Models.{one_or_more}
-use Rattle.euler_conditions.specs.Store.{IsNextFace, is_face_of}
+use Rattle.solid_walks.specs.Store.{IsNextFace, is_face_of}
 use Rattle.shapes.specs.Faces.{faces_of_both}
 use Rattle.solid_walks.proofs.face_walks_laws.Above.{above, member, AllAbove, Rising, all_above, next_above, none_above, all_above_members}
 use Rattle.solid_walks.proofs.face_walks_laws.TableWalks.{passes, rising_passing, member_passing}

@@ -6,7 +6,7 @@ use Rattle.euler_operators.proofs.Lists.{tick_le, tick_other}
 use Rattle.euler_operators.specs.Table as table
 use Rattle.euler_operators.specs.Model.{Model, content, outer, rings_of, faces_of}
 use Rattle.euler_operators.specs.Sound.{Sound, Has}
-use Rattle.euler_conditions.specs.Store.{IsNextRing, IsNextFace}
+use Rattle.solid_walks.specs.Store.{IsNextRing, IsNextFace}
 use Rattle.shapes.specs.Faces.{loops_of}
 use Rattle.solid_measure.specs.declared.solid_counts.Met.{Met}
 use Rattle.solid_measure.specs.solid_counts.Counts.{rings_in}

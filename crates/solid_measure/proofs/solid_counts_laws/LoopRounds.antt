@@ -8,7 +8,7 @@ use Rattle.euler_operators.specs.declared.HalfEdge.{HalfEdge}
 use Rattle.euler_operators.specs.Model.{Model, LoopContent, lone, cycle, items_of, content, after}
 use Rattle.euler_operators.specs.Sound.{Sound}
 use Rattle.euler_operators.proofs.Halves.{is_first-code}
-use Rattle.euler_conditions.specs.Store.{Tells}
+use Rattle.solid_walks.specs.Store.{Tells}
 use Rattle.euler_laws.proofs.shared.Bounds.{steps}
 use Rattle.solid_measure.specs.declared.solid_counts.Met.{Met}
 use Rattle.shapes.specs.Walks.{leads}

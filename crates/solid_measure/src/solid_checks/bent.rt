@@ -1,15 +1,15 @@
 //! Faces of solids that aren't flat.
 ghost use Rattle.std.specs.Prelude.{◌≡◌, true, not};
 ghost use Rattle.euler_operators.specs.Model.{faces_of};
-ghost use Rattle.euler_conditions.specs.Ready.{IsReady};
-ghost use Rattle.euler_conditions.specs.Store.{has_number};
+ghost use Rattle.solid_walks.specs.Ready.{IsReady};
+ghost use Rattle.solid_walks.specs.Store.{has_number};
 ghost use Rattle.shapes.specs.Faces.{faces_of_both};
 ghost use Rattle.shapes.specs.Fresh.{first_such};
 ghost use Rattle.solid_measure.specs.Measure.{is_flat};
 
 use crate::solid_checks::least::lesser;
-use euler_conditions::Arena;
 use euler_operators::Kind;
+use solid_walks::Arena;
 
 /// Whether face f, which is there, isn't flat.
 fn is_bent(arena: &Arena, f: u32) -> bool

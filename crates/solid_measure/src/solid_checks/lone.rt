@@ -1,15 +1,15 @@
 //! Lone loops of solids.
 ghost use Rattle.std.specs.Prelude.{◌≡◌, true};
 ghost use Rattle.euler_operators.specs.Model.{content, faces_of};
-ghost use Rattle.euler_conditions.specs.Ready.{IsReady};
+ghost use Rattle.solid_walks.specs.Ready.{IsReady};
 ghost use Rattle.euler_operators.specs.Conditions.{is_lone};
-ghost use Rattle.euler_conditions.specs.Store.{has_number};
+ghost use Rattle.solid_walks.specs.Store.{has_number};
 ghost use Rattle.shapes.specs.Faces.{faces_of_both, least_lone, loops_of};
 ghost use Rattle.solid_measure.specs.solid_checks.Least.{least_such, only};
 
 use crate::solid_checks::least::lesser;
-use euler_conditions::Arena;
 use euler_operators::{Content, Kind};
+use solid_walks::Arena;
 
 /// Loop l, where it is lone.
 fn lone_loop(arena: &Arena, l: u32) -> Option<u32>

@@ -3,15 +3,14 @@ ghost use Rattle.std.specs.Prelude.{◌≡◌, true};
 ghost use Rattle.euler_operators.specs.Items.{IsIn};
 ghost use Rattle.euler_operators.specs.HalfEdge.{code};
 ghost use Rattle.euler_operators.specs.Model.{items_of, content};
-ghost use Rattle.euler_conditions.specs.Store.{has_number};
-ghost use Rattle.euler_conditions.specs.Ready.{IsReady};
+ghost use Rattle.solid_walks.specs.Store.{has_number};
+ghost use Rattle.solid_walks.specs.Ready.{IsReady};
 ghost use Rattle.shapes.specs.Faces.{loops_of};
 ghost use Rattle.solid_measure.specs.solid_counts.Sums.{IsFew, half_met, halves_met, loop_met, loops_met, together};
 
 use crate::solid_counts::Met;
-use euler_conditions::{Arena, next, same};
 use euler_operators::{Content, HALF_EDGE_CODES, HalfEdge, Kind};
-use solid_walks::leads;
+use solid_walks::{Arena, leads, next, same};
 
 /// What two walks have counted together.
 pub(crate) fn together(a: Met, b: Met) -> Met

@@ -1,15 +1,15 @@
 //! Counts of a solid by number.
 ghost use Rattle.std.specs.Prelude.{◌≡◌, length, true};
 ghost use Rattle.euler_operators.specs.Model.{faces_of};
-ghost use Rattle.euler_conditions.specs.Ready.{IsReady};
+ghost use Rattle.solid_walks.specs.Ready.{IsReady};
 ghost use Rattle.solid_measure.specs.solid_counts.Counts.{answer, counts, rings_in, solid_refusal};
 ghost use Rattle.shapes.specs.Walks.{loops_in};
 ghost use Rattle.solid_measure.specs.solid_counts.Sums.{loops_met};
 
 use crate::solid_counts::loops::{face_met, together};
 use crate::solid_counts::{Met, Tally};
-use euler_conditions::Arena;
 use euler_operators::{Kind, Refusal, Why, is_number};
+use solid_walks::Arena;
 
 /// The refusal of a query about solid s, if there is one: NumberRange, then NoSolid.
 pub(crate) fn refusal_of_solid(arena: &Arena, s: u32) -> Option<Refusal>

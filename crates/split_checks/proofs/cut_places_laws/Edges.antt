@@ -20,7 +20,7 @@ use Rattle.euler_operators.proofs.Tables.{row_some}
 use Rattle.euler_operators.specs.Conditions.{face_at}
 use Rattle.euler_laws.proofs.shared.Arcs.{halves_of_edge}
 use Rattle.euler_laws.proofs.shared.Listed.{listed_passes, passes_listed, all_where-rises, IsIn-from_listed, listed-from_in}
-use Rattle.solid_walks.proofs.face_walks_laws.TableWalks.{rising_passing}
+use Rattle.solid_measure.proofs.face_walks_laws.TableWalks.{rising_passing}
 use Rattle.shapes.specs.Faces.{items_in, loops_of, boundary, edges_of}
 use Rattle.shapes.specs.Fresh.{first_such}
 use Rattle.solid_measure.proofs.solid_counts_laws.HowMany.{of_map, equally_many}
@@ -34,7 +34,7 @@ use Rattle.split_checks.specs.cut_places.Walks.{AreIn}
 use Rattle.split_checks.proofs.cut_places_laws.CrossingHalves.{plus_crosses}
 use Rattle.split_checks.proofs.cut_places_laws.Lists.{of_picked, picked_apart, picked_rise, none_passes}
 use Rattle.split_checks.proofs.cut_places_laws.Walks.{all_in}
-use Rattle.solid_walks.proofs.face_walks_laws.Above.{member, Rising}
+use Rattle.solid_measure.proofs.face_walks_laws.Above.{member, Rising}
 use Rattle.shapes.specs.Walks.{loops_in}
 use Rattle.euler_laws.proofs.shared.Counted.{counted_once}
 use Rattle.shapes.proofs.walks.FaceLoops.{different_items, items_counted, items_there, items_joined}

@@ -10,7 +10,7 @@ use Rattle.euler_operators.specs.Items.{IsIn, IsApart}
 use Rattle.euler_operators.proofs.Lists.{tick_other}
 use Rattle.shapes.specs.Fresh.{first_such}
 use Rattle.solid_measure.proofs.solid_counts_laws.HowMany.{passing, of_passing, passing_apart}
-use Rattle.solid_walks.proofs.face_walks_laws.Above.{AllAbove, Rising}
+use Rattle.solid_measure.proofs.face_walks_laws.Above.{AllAbove, Rising}
 
 -- the first of a list, and the others
 abbrev pub others : {A : Type 0} → List A → List A

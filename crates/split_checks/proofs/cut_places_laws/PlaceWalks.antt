@@ -14,7 +14,7 @@ use Rattle.euler_operators.specs.Sound.{Sound, HasHalf}
 use Rattle.euler_conditions.proofs.Known.{in_a_loop}
 use Rattle.shapes.specs.Faces.{start, finish}
 use Rattle.split_checks.specs.cut_places.Crossings.{crossings_in, leads_across}
-use Rattle.solid_walks.proofs.face_walks_laws.CycleWalks.{item_there, next_item}
+use Rattle.solid_measure.proofs.face_walks_laws.CycleWalks.{item_there, next_item}
 
 -- one half-edge is looked at: it is taken where it passes
 module _ (p : ℕ → Bool) (had now : List HalfEdge) (x : HalfEdge) (rest : List ℕ) where

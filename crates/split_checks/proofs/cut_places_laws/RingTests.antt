@@ -8,7 +8,7 @@ use Rattle.euler_operators.proofs.Rotations.{rotate_to-rotates, IsRotation-permu
 use Rattle.euler_operators.specs.Model.{Model, cycle_of, loop_of}
 use Rattle.euler_operators.specs.Model as model
 use Rattle.euler_operators.specs.Sound.{Sound, HasHalf}
-use Rattle.solid_walks.proofs.face_walks_laws.CycleWalks.{to_come, cycle_apart, item_in, start_is, goes_on, comes_back}
+use Rattle.solid_measure.proofs.face_walks_laws.CycleWalks.{to_come, cycle_apart, item_in, start_is, goes_on, comes_back}
 
 module _ (M : Model) (sound : Sound M) (h : ℕ) (there : HasHalf M h) (p : ℕ → Bool) where
   -- whether one of those passes that are to be tested from x on

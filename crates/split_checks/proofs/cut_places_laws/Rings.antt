@@ -7,8 +7,8 @@ use Rattle.euler_operators.specs.Model.{Model, content, items_of, outer, point_o
 use Rattle.euler_operators.specs.Sound.{Sound}
 use Rattle.euler_conditions.specs.Store.{IsNextRing}
 use Rattle.shapes.specs.Faces.{boundary, corners, items_in, loops_of, vertices_in, vertices_on}
-use Rattle.solid_walks.proofs.face_walks_laws.Above.{above}
-use Rattle.solid_walks.proofs.face_walks_laws.RingWalks.{next_ring, no_ring, rings_from_zero}
+use Rattle.solid_measure.proofs.face_walks_laws.Above.{above}
+use Rattle.solid_measure.proofs.face_walks_laws.RingWalks.{next_ring, no_ring, rings_from_zero}
 use Rattle.split_checks.specs.cut_places.Sides.{lies, some_lie}
 
 module _ (M : Model) (f : ℕ) where

@@ -7,7 +7,7 @@ ghost use Rattle.split_checks.specs.cut_places.Crossings.{AreCrossing, IsCrossin
 
 use euler_conditions::Arena;
 use euler_operators::{HalfEdge, Plane, cut_point};
-use solid_walks::{finish, start};
+use solid_measure::{finish, start};
 
 /// Whether an edge that crosses the plane meets it off the lattice.
 fn is_off(arena: &Arena, plane: Plane, e: u32) -> bool

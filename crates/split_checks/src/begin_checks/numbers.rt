@@ -6,7 +6,7 @@ ghost use Rattle.shapes.specs.Fresh.{numbers_left, taken_in};
 
 use euler_conditions::Arena;
 use euler_operators::{NUMBER_LIMIT, Refusal};
-use solid_walks::counters_of;
+use solid_measure::counters_of;
 
 /// One more than the greatest number. Who wants so many more numbers, or more, finds too few.
 pub(crate) const TOO_MANY: usize = NUMBER_LIMIT as usize + 1;
@@ -19,5 +19,5 @@ pub(crate) fn check_left(arena: &Arena, cuts: usize, pairs: usize) -> Result<(),
     requires pairs { pairs ≤ 1000001 }
     ensures { result ≡ verdict (first_refusal (numbers_left (taken_in arena.now.model) (record { faces = pairs; loops = pairs; edges = cuts + pairs; vertices = cuts }))) }
 {
-    solid_walks::check_left(counters_of(arena), pairs, pairs, cuts + pairs, cuts)
+    solid_measure::check_left(counters_of(arena), pairs, pairs, cuts + pairs, cuts)
 }

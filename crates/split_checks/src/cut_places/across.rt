@@ -13,7 +13,7 @@ ghost use Rattle.shapes.specs.split.Sides.{crosses};
 use crate::cut_places::halves::crosses;
 use euler_conditions::Arena;
 use euler_operators::{Content, HalfEdge, Kind, Plane, Point, cut_point};
-use solid_walks::{finish, least_item, start};
+use solid_measure::{finish, least_item, start};
 use std::alloc::{AllocError, Global};
 
 /// The edge of the half-edge.

@@ -10,7 +10,7 @@ ghost use Rattle.shapes.specs.split.Places.{is_place, places};
 use crate::cut_places::halves::{is_place_between, start_side};
 use euler_conditions::Arena;
 use euler_operators::{Content, HalfEdge, Kind, Plane};
-use solid_walks::least_item;
+use solid_measure::least_item;
 use std::alloc::{AllocError, Global};
 
 /// Adds the half-edges of the loop in which h stands that tell cut places, from its least half-edge on. It looks at each corner once.

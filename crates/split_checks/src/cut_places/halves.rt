@@ -13,7 +13,7 @@ ghost use Rattle.shapes.specs.split.Sides.{crosses};
 use crate::cut_places::planes::{are_opposite, lies, opposite, same, side_of};
 use euler_conditions::Arena;
 use euler_operators::{HalfEdge, Plane, Sign};
-use solid_walks::{finish, previous, start};
+use solid_measure::{finish, previous, start};
 
 /// Whether the ends of the half-edge lie strictly on opposite sides of the plane.
 pub(crate) fn crosses(arena: &Arena, plane: Plane, h: HalfEdge) -> bool

@@ -8,7 +8,7 @@ ghost use Rattle.shapes.specs.Faces.{boundary};
 
 use euler_conditions::Arena;
 use euler_operators::{Content, HalfEdge, Kind};
-use solid_walks::items_from;
+use solid_measure::items_from;
 use std::alloc::{AllocError, Global};
 
 /// The half-edges of loop l, in the order of listings; none where it is lone.

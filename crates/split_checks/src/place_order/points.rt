@@ -9,7 +9,7 @@ ghost use Rattle.shapes.specs.split.Places.{place_point};
 use crate::cut_places::{crossing_point, starts_on};
 use euler_conditions::Arena;
 use euler_operators::{HalfEdge, Plane, Point};
-use solid_walks::start;
+use solid_measure::start;
 
 /// The point of a cut place, which is on the lattice.
 pub(crate) fn place_point(arena: &Arena, plane: Plane, h: HalfEdge) -> Point

@@ -19,8 +19,8 @@ use Rattle.euler_operators.specs.Model.{Model, tail, is_number}
 use Rattle.euler_operators.specs.Sound.{Sound, HasHalf, Has}
 use Rattle.solid_walks.proofs.face_walks_laws.Above.{AllAbove, all_above_members}
 use Rattle.solid_walks.proofs.face_walks_laws.TableWalks.{passes, member_passing}
-use Rattle.solid_measure.specs.solid_checks.Least.{least_such}
-use Rattle.solid_measure.proofs.solid_checks_laws.Searches.{IsLeast, one_least, least_same, least_row}
+use Rattle.split_checks.specs.Least.{least_such}
+use Rattle.split_checks.proofs.Searches.{IsLeast, one_least, least_same, least_row}
 use Rattle.shapes.specs.split.Section.{section_ends, least_branched}
 use Rattle.split_checks.proofs.cut_places_laws.Lists.{others, parts}
 use Rattle.split_sections.specs.section_cycles.Halves.{AreThere}

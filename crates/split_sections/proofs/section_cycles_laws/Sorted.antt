@@ -8,8 +8,8 @@ use Rattle.split_checks.proofs.cut_places_laws.Lists.{others}
 use Rattle.euler_operators.specs.Items.{tick, count, IsIn}
 use Rattle.euler_operators.proofs.Lists.{tick_same, tick_other, tick_le, IsIn_or_not}
 use Rattle.solid_walks.proofs.face_walks_laws.Above.{member}
-use Rattle.solid_measure.specs.solid_checks.Least.{least_such}
-use Rattle.solid_measure.proofs.solid_checks_laws.Searches.{IsLeast, one_least, least_same, least_listed}
+use Rattle.split_checks.specs.Least.{least_such}
+use Rattle.split_checks.proofs.Searches.{IsLeast, one_least, least_same, least_listed}
 use Rattle.split_sections.specs.section_cycles.Halves.{is_thrice}
 
 -- no later number is less

@@ -13,8 +13,8 @@ use Rattle.euler_operators.specs.Sound.{Sound, HasHalf}
 use Rattle.euler_operators.proofs.Halves.{mate-mate}
 use Rattle.euler_operators.proofs.Models.{mate_there}
 use Rattle.shapes.specs.Faces.{start, finish}
-use Rattle.solid_measure.specs.Measure.{area, area_limit}
-use Rattle.solid_measure.proofs.Areas.{area_push, area_limited}
+use Rattle.split_checks.specs.Measure.{area, area_limit}
+use Rattle.split_checks.proofs.Areas.{area_push, area_limited}
 use Rattle.shapes.proofs.walks.FaceLoops.{AreHalves}
 use Rattle.split_sections.specs.section_cycles.Halves.{AreThere}
 

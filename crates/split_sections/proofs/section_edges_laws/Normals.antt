@@ -10,8 +10,8 @@ use Rattle.euler_operators.specs.declared.Why.TheVariants.{NumberRange, NoFace}
 use Rattle.euler_operators.proofs.Magnitudes.{vector_within}
 use Rattle.shapes.specs.Faces.{boundary, loops_of}
 use Rattle.shapes.proofs.walks.FaceLoops.{different_items, loops_of_apart}
-use Rattle.solid_measure.specs.Measure.{normal, answer, face_refusal, area_limit}
-use Rattle.solid_measure.proofs.Areas.{area_limited}
+use Rattle.split_checks.specs.Measure.{normal, answer, face_refusal, area_limit}
+use Rattle.split_checks.proofs.Areas.{area_limited}
 
 abbrev numbers_in : Result (List ℤ) Refusal → List ℤ
 numbers_in (Ok ns) = ns

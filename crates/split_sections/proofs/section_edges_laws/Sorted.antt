@@ -15,7 +15,7 @@ use Rattle.euler_operators.proofs.Std.{SameItems-from_permutation}
 use Rattle.euler_operators.specs.Conditions.{face_at, lists, strictly_rises}
 use Rattle.euler_laws.proofs.shared.RisingLists.{within}
 use Rattle.euler_laws.proofs.shared.Listed.{IsIn-from_listed, listed-from_in}
-use Rattle.solid_measure.proofs.solid_counts_laws.HowMany.{equally_many}
+use Rattle.split_checks.proofs.HowMany.{equally_many}
 use Rattle.shapes.specs.split.Section.{below_halves}
 use Rattle.split_opening_laws.specs.cycles.SectionCycles.{IsBelowHalf}
 use Rattle.split_opening_laws.proofs.cycles.BelowHalves.{halves_rise, halves_apart, halves_are, are_halves}

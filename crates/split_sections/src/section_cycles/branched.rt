@@ -4,7 +4,7 @@ ghost use Rattle.std.specs.List.Sorted.{IsNonDecreasing};
 ghost use Rattle.euler_operators.specs.Items.{SameItems, count};
 ghost use Rattle.euler_operators.specs.HalfEdge.{code};
 ghost use Rattle.euler_conditions.specs.Ready.{IsReady};
-ghost use Rattle.solid_measure.specs.solid_checks.Least.{least_such};
+ghost use Rattle.split_checks.specs.Least.{least_such};
 ghost use Rattle.shapes.specs.split.Section.{least_branched, section_ends};
 ghost use Rattle.split_sections.specs.section_cycles.Halves.{AreThere, is_thrice};
 

@@ -6,14 +6,14 @@ ghost use Rattle.euler_operators.specs.Vectors.{dot};
 ghost use Rattle.euler_operators.specs.Items.{IsApart};
 ghost use Rattle.euler_operators.specs.HalfEdge.{code, mate};
 ghost use Rattle.euler_conditions.specs.Ready.{IsReady};
-ghost use Rattle.solid_measure.specs.Measure.{area, area_limit, read};
+ghost use Rattle.split_checks.specs.Measure.{area, area_limit, read};
 ghost use Rattle.shapes.specs.split.Section.{is_hole};
 ghost use Rattle.split_sections.specs.section_cycles.Halves.{AreThere};
 
 use crate::section_edges::direction;
 use euler_conditions::Arena;
 use euler_operators::{HalfEdge, Plane, Point, dot};
-use solid_measure::{Vector, half_added};
+use split_checks::{Vector, half_added};
 
 /// The sum of the cross products over the mates of these half-edges.
 fn mates_area(arena: &Arena, halves: &[HalfEdge]) -> Vector

@@ -5,13 +5,12 @@ ghost use Rattle.euler_conditions.specs.Store.{has_number};
 ghost use Rattle.euler_operators.specs.Points.{IsInRange};
 ghost use Rattle.euler_operators.specs.Ranges.{IsCutPlane};
 ghost use Rattle.euler_operators.specs.Vectors.{direction, dot};
-ghost use Rattle.solid_measure.specs.Measure.{normal};
+ghost use Rattle.split_checks.specs.Measure.{normal};
 ghost use Rattle.shapes.specs.split.Sides.{face_is_above, faces_above};
 
 use euler_conditions::Arena;
 use euler_operators::{Kind, Plane, Point, Sign, dot};
-use solid_measure::normal;
-use split_checks::reaches;
+use split_checks::{normal, reaches};
 use std::alloc::{AllocError, Global};
 
 /// The direction in which the plane has its above side, as a point in range.

@@ -6,8 +6,8 @@ use Rattle.euler_operators.specs.Items.{head_or}
 use Rattle.euler_operators.specs.Model.{Model, LoopContent, lone, cycle, content, has_half, items_of, point_of}
 use Rattle.euler_operators.specs.Table as table
 use Rattle.euler_operators.proofs.Halves.{code-half}
-use Rattle.euler_conditions.specs.Store.{Tells}
-use Rattle.euler_conditions.proofs.Known.{filled}
+use Rattle.solid_walks.specs.Store.{Tells}
+use Rattle.solid_walks.proofs.Known.{filled}
 use Rattle.shapes.specs.Faces.{start}
 use Rattle.solid_measure.specs.Measure.{first_vertex}
 use Rattle.solid_measure.proofs.faces.outer_frame.Goals as goal

@@ -1,6 +1,6 @@
 use Rattle.euler_operators.specs.Model.{content}
-use Rattle.euler_conditions.proofs.Known.{filled}
-use Rattle.euler_conditions.proofs.Borders.{ring_has}
+use Rattle.solid_walks.proofs.Known.{filled}
+use Rattle.solid_walks.proofs.Borders.{ring_has}
 use Rattle.solid_measure.specs.Measure.{read}
 use Rattle.solid_measure.proofs.AreaRounds.{lone_adds}
 use Rattle.solid_measure.proofs.loops.loop_added.Goals as goal

@@ -1,6 +1,6 @@
 use Rattle.std.proofs.Common.{◌∙◌}
 use Rattle.euler_operators.specs.Model.{content}
-use Rattle.euler_conditions.proofs.Known.{filled}
+use Rattle.solid_walks.proofs.Known.{filled}
 use Rattle.solid_measure.proofs.FlatRounds.{ring_vertices}
 use Rattle.solid_measure.proofs.loops.loop_lies_on.Goals as goal
 

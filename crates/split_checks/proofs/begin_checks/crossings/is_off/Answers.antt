@@ -1,6 +1,6 @@
 use Rattle.std.proofs.Common.{◌∙◌, ap, not}
 use Rattle.euler_operators.specs.Vectors.{are_opposite, cuts_lattice}
-use Rattle.solid_walks.proofs.face_walks_laws.HalfCodes.{plus_there, code_plus}
+use Rattle.solid_measure.proofs.face_walks_laws.HalfCodes.{plus_there, code_plus}
 use Rattle.shapes.specs.Faces.{start, finish}
 use Rattle.split_checks.proofs.cut_places_laws.Cuts.{told_off}
 use Rattle.split_checks.proofs.begin_checks.crossings.is_off.Goals as goal

@@ -1,8 +1,8 @@
 use Rattle.std.proofs.Common.{◌∙◌, ap, sym, length, arith}
 use Rattle.euler_operators.specs.HalfEdge.{code}
 use Rattle.shapes.specs.split.Places.{is_place}
-use Rattle.solid_walks.proofs.face_walks_laws.HalfCodes.{codes_same, codes_differ}
-use Rattle.solid_walks.proofs.face_walks_laws.CycleWalks.{item_there, item_in, goes_on}
+use Rattle.solid_measure.proofs.face_walks_laws.HalfCodes.{codes_same, codes_differ}
+use Rattle.solid_measure.proofs.face_walks_laws.CycleWalks.{item_there, item_in, goes_on}
 use Rattle.split_checks.proofs.cut_places_laws.RingTests.{walk_begins, walk_finds, walk_ended, walk_left}
 use Rattle.split_checks.proofs.begin_checks.faces.ring_is_cut.Goals as goal
 

@@ -4,7 +4,7 @@ use Rattle.euler_operators.specs.Items.{IsIn}
 use Rattle.euler_operators.specs.HalfEdge.{code}
 use Rattle.euler_operators.specs.Model.{cycle_of}
 use Rattle.shapes.specs.split.Places.{is_place}
-use Rattle.solid_walks.proofs.face_walks_laws.CycleWalks.{to_come}
+use Rattle.solid_measure.proofs.face_walks_laws.CycleWalks.{to_come}
 use Rattle.split_checks.proofs.begin_checks.faces.ring_is_cut.Given as goal
 
 abbrev pub invariant-round : goal.invariant-round

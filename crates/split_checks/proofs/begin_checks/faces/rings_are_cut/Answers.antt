@@ -2,8 +2,8 @@ use Rattle.std.proofs.Common.{◌∙◌, ap, sym, ◌&&◌, length, arith}
 use Rattle.std.specs.List.{list_all}
 use Rattle.euler_operators.specs.Model.{rings_of}
 use Rattle.shapes.specs.split.Places.{loop_is_cut}
-use Rattle.solid_walks.proofs.face_walks_laws.Above.{above}
-use Rattle.solid_walks.proofs.face_walks_laws.RingWalks.{next_ring, no_ring, rings_from_zero}
+use Rattle.solid_measure.proofs.face_walks_laws.Above.{above}
+use Rattle.solid_measure.proofs.face_walks_laws.RingWalks.{next_ring, no_ring, rings_from_zero}
 use Rattle.split_checks.proofs.begin_checks.faces.rings_are_cut.Goals as goal
 
 pub rings-init : goal.rings-init

@@ -2,7 +2,7 @@ use Rattle.std.proofs.Common.{◌≡◌, length}
 use Rattle.std.specs.List.{list_all}
 use Rattle.euler_operators.specs.Model.{rings_of}
 use Rattle.shapes.specs.split.Places.{loop_is_cut}
-use Rattle.solid_walks.proofs.face_walks_laws.Above.{above}
+use Rattle.solid_measure.proofs.face_walks_laws.Above.{above}
 use Rattle.split_checks.proofs.begin_checks.faces.rings_are_cut.Given as goal
 
 abbrev pub invariant-rings : goal.invariant-rings

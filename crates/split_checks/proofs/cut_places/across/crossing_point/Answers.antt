@@ -2,7 +2,7 @@ use Rattle.std.proofs.Common.{◌∙◌, ap, sym, not, true≢false}
 use Rattle.euler_operators.specs.Vectors.{are_opposite, cuts_lattice, cut_between}
 use Rattle.euler_operators.specs.HalfEdge.{code, plus}
 use Rattle.euler_operators.proofs.Halves.{edge_of-code}
-use Rattle.solid_walks.proofs.face_walks_laws.HalfCodes.{plus_there, code_plus}
+use Rattle.solid_measure.proofs.face_walks_laws.HalfCodes.{plus_there, code_plus}
 use Rattle.shapes.specs.Faces.{start, finish}
 use Rattle.split_checks.proofs.cut_places_laws.Cuts.{told_point, told_none}
 use Rattle.split_checks.proofs.cut_places_laws.CrossingHalves.{plus_crosses, one_cut}

@@ -1,7 +1,7 @@
 use Rattle.std.proofs.Common.{◌∙◌, ap, sym, ℕ, List, ◌++◌, length, arith, append_assoc}
 use Rattle.std.proofs.lemmas.List.{append-nil}
 use Rattle.euler_operators.specs.Model.{faces_of}
-use Rattle.solid_walks.proofs.face_walks_laws.Above.{above}
+use Rattle.solid_measure.proofs.face_walks_laws.Above.{above}
 use Rattle.shapes.specs.Faces.{boundary}
 use Rattle.solid_measure.proofs.solid_checks_laws.FaceWalks.{next_face, no_face_left, faces_from_zero}
 use Rattle.split_checks.specs.cut_places.Crossings.{crossings_in, crossings_met}

@@ -2,8 +2,8 @@ use Rattle.std.proofs.Common.{◌∙◌, ap, sym, ℕ, List, ◌++◌, length, a
 use Rattle.std.proofs.lemmas.List.{append-nil}
 use Rattle.euler_operators.specs.Model.{content, items_of, outer, rings_of}
 use Rattle.shapes.specs.Faces.{items_in}
-use Rattle.solid_walks.proofs.face_walks_laws.Above.{above}
-use Rattle.solid_walks.proofs.face_walks_laws.RingWalks.{next_ring}
+use Rattle.solid_measure.proofs.face_walks_laws.Above.{above}
+use Rattle.solid_measure.proofs.face_walks_laws.RingWalks.{next_ring}
 use Rattle.split_checks.specs.cut_places.Crossings.{crossings_in}
 use Rattle.split_checks.proofs.cut_places_laws.Rings.{outer_items, ring_items, no_items}
 use Rattle.split_checks.proofs.cut_places_laws.PlaceWalks.{crossings_both}

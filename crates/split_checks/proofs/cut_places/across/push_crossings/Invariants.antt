@@ -1,7 +1,7 @@
 use Rattle.std.proofs.Common.{◌≡◌, ◌++◌, length}
 use Rattle.euler_operators.specs.Model.{rings_of}
 use Rattle.shapes.specs.Faces.{boundary, items_in}
-use Rattle.solid_walks.proofs.face_walks_laws.Above.{above}
+use Rattle.solid_measure.proofs.face_walks_laws.Above.{above}
 use Rattle.split_checks.specs.cut_places.Crossings.{crossings_in}
 use Rattle.split_checks.proofs.cut_places.across.push_crossings.Given as goal
 

@@ -4,8 +4,8 @@ use Rattle.std.specs.declared.alloc.Global.{Global}
 use Rattle.euler_operators.specs.Items.{least}
 use Rattle.euler_operators.specs.HalfEdge.{code}
 use Rattle.euler_operators.specs.Model.{cycle_of}
-use Rattle.solid_walks.proofs.face_walks_laws.HalfCodes.{codes_same, codes_differ}
-use Rattle.solid_walks.proofs.face_walks_laws.CycleWalks.{to_come, item_there, item_in, from_least, goes_on, comes_back}
+use Rattle.solid_measure.proofs.face_walks_laws.HalfCodes.{codes_same, codes_differ}
+use Rattle.solid_measure.proofs.face_walks_laws.CycleWalks.{to_come, item_there, item_in, from_least, goes_on, comes_back}
 use Rattle.split_checks.specs.cut_places.Crossings.{crossings_in}
 use Rattle.split_checks.proofs.cut_places_laws.PlaceWalks.{edge_taken, edge_passed_by}
 use Rattle.split_checks.proofs.cut_places.across.push_ring_crossings.Goals.{then-leads_across+in_ok-push, else-leads_across}

@@ -4,7 +4,7 @@ use Rattle.euler_operators.specs.HalfEdge.{code}
 use Rattle.euler_operators.specs.Model.{rings_of}
 use Rattle.shapes.specs.Faces.{items_in}
 use Rattle.shapes.specs.split.Places.{is_place, places}
-use Rattle.solid_walks.proofs.face_walks_laws.Above.{above}
+use Rattle.solid_measure.proofs.face_walks_laws.Above.{above}
 use Rattle.split_checks.proofs.cut_places.faces.places.Given as goal
 
 abbrev pub invariant-rings : goal.invariant-rings

@@ -7,8 +7,8 @@ use Rattle.euler_operators.specs.HalfEdge.{code}
 use Rattle.euler_operators.specs.Vectors.{height, sign_of}
 use Rattle.euler_operators.specs.Model.{cycle_of}
 use Rattle.shapes.specs.split.Places.{is_place}
-use Rattle.solid_walks.proofs.face_walks_laws.HalfCodes.{codes_same, codes_differ}
-use Rattle.solid_walks.proofs.face_walks_laws.CycleWalks.{to_come, item_there, item_in, from_least, goes_on, comes_back}
+use Rattle.solid_measure.proofs.face_walks_laws.HalfCodes.{codes_same, codes_differ}
+use Rattle.solid_measure.proofs.face_walks_laws.CycleWalks.{to_come, item_there, item_in, from_least, goes_on, comes_back}
 use Rattle.split_checks.proofs.cut_places_laws.PlaceWalks.{taken, passed_by, none_left, next_there, next_starts}
 use Rattle.split_checks.proofs.cut_places.faces.push_ring_places.Goals.{then-is_place_between+in_ok-push, else-is_place_between}
 use Rattle.split_checks.proofs.cut_places.faces.push_ring_places.Goals as goal

@@ -6,7 +6,7 @@ use Rattle.euler_operators.specs.Vectors.{height, sign_of}
 use Rattle.euler_operators.specs.Model.{cycle_of}
 use Rattle.shapes.specs.Faces.{start}
 use Rattle.shapes.specs.split.Places.{is_place}
-use Rattle.solid_walks.proofs.face_walks_laws.CycleWalks.{to_come}
+use Rattle.solid_measure.proofs.face_walks_laws.CycleWalks.{to_come}
 use Rattle.split_checks.proofs.cut_places.faces.push_ring_places.Given as goal
 
 abbrev pub invariant-round : goal.invariant-round

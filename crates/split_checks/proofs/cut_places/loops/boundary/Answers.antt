@@ -4,8 +4,8 @@ use Rattle.euler_operators.specs.declared.HalfEdge.{HalfEdge}
 use Rattle.euler_operators.specs.HalfEdge.{code}
 use Rattle.euler_operators.specs.Model.{content, items_of, rings_of}
 use Rattle.shapes.specs.Faces.{items_in}
-use Rattle.solid_walks.proofs.face_walks_laws.Above.{above}
-use Rattle.solid_walks.proofs.face_walks_laws.RingWalks.{next_ring}
+use Rattle.solid_measure.proofs.face_walks_laws.Above.{above}
+use Rattle.solid_measure.proofs.face_walks_laws.RingWalks.{next_ring}
 use Rattle.split_checks.proofs.cut_places_laws.Rings.{outer_items, ring_items, no_items}
 use Rattle.split_checks.proofs.cut_places.loops.boundary.Goals as goal
 

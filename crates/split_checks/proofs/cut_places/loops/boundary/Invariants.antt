@@ -2,7 +2,7 @@ use Rattle.std.proofs.Common.{◌≡◌, ◌++◌, map, length}
 use Rattle.euler_operators.specs.HalfEdge.{code}
 use Rattle.euler_operators.specs.Model.{rings_of}
 use Rattle.shapes.specs.Faces.{boundary, items_in}
-use Rattle.solid_walks.proofs.face_walks_laws.Above.{above}
+use Rattle.solid_measure.proofs.face_walks_laws.Above.{above}
 use Rattle.split_checks.proofs.cut_places.loops.boundary.Given as goal
 
 abbrev pub invariant-rings : goal.invariant-rings

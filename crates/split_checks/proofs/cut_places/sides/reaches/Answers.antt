@@ -1,8 +1,8 @@
 use Rattle.std.proofs.Common.{◌∙◌, ap, sym, ◌||◌, length, arith}
 use Rattle.euler_operators.specs.Model.{rings_of, content}
 use Rattle.shapes.specs.Faces.{vertices_in, vertices_on}
-use Rattle.solid_walks.proofs.face_walks_laws.Above.{above}
-use Rattle.solid_walks.proofs.face_walks_laws.RingWalks.{next_ring}
+use Rattle.solid_measure.proofs.face_walks_laws.Above.{above}
+use Rattle.solid_measure.proofs.face_walks_laws.RingWalks.{next_ring}
 use Rattle.split_checks.specs.cut_places.Sides.{some_lie}
 use Rattle.split_checks.proofs.cut_places_laws.Rings.{outer_lies, ring_lies, none_lies}
 use Rattle.split_checks.proofs.cut_places.sides.reaches.Goals as goal

@@ -2,7 +2,7 @@ use Rattle.std.proofs.Common.{◌≡◌, ◌∷◌, length}
 use Rattle.euler_operators.specs.Items.{IsIn}
 use Rattle.euler_operators.specs.HalfEdge.{code}
 use Rattle.euler_operators.specs.Model.{cycle_of}
-use Rattle.solid_walks.proofs.face_walks_laws.CycleWalks.{to_come}
+use Rattle.solid_measure.proofs.face_walks_laws.CycleWalks.{to_come}
 use Rattle.split_checks.specs.cut_places.Sides.{some_start}
 use Rattle.split_checks.proofs.cut_places.sides.ring_reaches.Given as goal
 

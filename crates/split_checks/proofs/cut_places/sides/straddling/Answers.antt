@@ -2,7 +2,7 @@ use Rattle.std.proofs.Common.{◌∙◌, ap, sym, ℕ, List, [], ◌∷◌, ◌+
 use Rattle.std.specs.Prelude.{filter}
 use Rattle.std.proofs.lemmas.List.{append-nil}
 use Rattle.euler_operators.specs.Model.{faces_of}
-use Rattle.solid_walks.proofs.face_walks_laws.Above.{above}
+use Rattle.solid_measure.proofs.face_walks_laws.Above.{above}
 use Rattle.solid_measure.proofs.solid_checks_laws.FaceWalks.{next_face, no_face_left, faces_from_zero}
 use Rattle.shapes.specs.split.Sides.{straddles}
 use Rattle.split_checks.proofs.cut_places.sides.straddling.Goals as goal

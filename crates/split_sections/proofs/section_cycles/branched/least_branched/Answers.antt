@@ -1,7 +1,7 @@
 use Rattle.std.proofs.Common.{◌∙◌, sym, ap, subst, map, List, ℕ}
 use Rattle.std.specs.List.Sorted.{IsNonDecreasing}
 use Rattle.euler_operators.specs.HalfEdge.{code}
-use Rattle.solid_measure.specs.solid_checks.Least.{least_such}
+use Rattle.split_checks.specs.Least.{least_such}
 use Rattle.split_sections.proofs.section_cycles_laws.Sorted.{often}
 use Rattle.split_sections.proofs.section_cycles_laws.Meetings.{sorted_up, least_is}
 use Rattle.split_sections.proofs.section_cycles.branched.least_branched.Goals as goal

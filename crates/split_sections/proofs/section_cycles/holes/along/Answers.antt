@@ -1,8 +1,8 @@
 use Rattle.std.proofs.Common.{◌∙◌, ap, arith}
 use Rattle.euler_operators.specs.Vectors.{dot}
 use Rattle.euler_operators.proofs.Magnitudes.{fits, held_is}
-use Rattle.solid_measure.specs.Measure.{read}
-use Rattle.solid_measure.proofs.Planes.{held_vector_is}
+use Rattle.split_checks.specs.Measure.{read}
+use Rattle.split_checks.proofs.Planes.{held_vector_is}
 use Rattle.split_sections.proofs.section_cycles.holes.along.Goals as goal
 
 pub returns-clause-is : goal.returns-clause-is

@@ -4,7 +4,7 @@ use Rattle.euler_operators.specs.declared.Point.{Point}
 use Rattle.euler_operators.specs.Vectors.{dot}
 use Rattle.euler_operators.proofs.Magnitudes.{fits, held_is}
 use Rattle.euler_operators.specs.HalfEdge.{code, mate}
-use Rattle.solid_measure.specs.Measure.{area}
+use Rattle.split_checks.specs.Measure.{area}
 use Rattle.shapes.specs.split.Section.{is_hole}
 use Rattle.split_sections.proofs.section_cycles.holes.is_hole.Goals as goal
 

@@ -4,7 +4,7 @@ use Rattle.euler_operators.specs.Sound.{HasHalf}
 use Rattle.euler_operators.specs.Vectors.{moved, cross}
 use Rattle.euler_operators.proofs.Models.{mate_there}
 use Rattle.shapes.specs.Faces.{start, finish}
-use Rattle.solid_measure.specs.Measure.{read}
+use Rattle.split_checks.specs.Measure.{read}
 use Rattle.split_sections.proofs.section_cycles_laws.Meetings.{first_there, others_there, first_code}
 use Rattle.split_sections.proofs.section_cycles_laws.Sums.{more_summed, sum_limited, sum_room}
 use Rattle.split_sections.proofs.section_cycles_laws.Chains.{none}

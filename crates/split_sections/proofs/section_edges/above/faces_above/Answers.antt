@@ -3,7 +3,7 @@ use Rattle.std.specs.Prelude.{filter}
 use Rattle.std.proofs.lemmas.List.{append-nil}
 use Rattle.euler_operators.specs.Model.{faces_of}
 use Rattle.solid_walks.proofs.face_walks_laws.Above.{above}
-use Rattle.solid_measure.proofs.solid_checks_laws.FaceWalks.{next_face, no_face_left, faces_from_zero}
+use Rattle.split_checks.proofs.FaceWalks.{next_face, no_face_left, faces_from_zero}
 use Rattle.shapes.specs.split.Sides.{face_is_above}
 use Rattle.split_sections.proofs.section_edges.above.faces_above.Goals as goal
 

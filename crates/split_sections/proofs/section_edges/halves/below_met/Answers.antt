@@ -5,7 +5,7 @@ use Rattle.euler_operators.specs.HalfEdge.{code}
 use Rattle.euler_operators.specs.Model.{faces_of}
 use Rattle.solid_walks.proofs.face_walks_laws.Above.{above}
 use Rattle.shapes.specs.Faces.{boundary}
-use Rattle.solid_measure.proofs.solid_checks_laws.FaceWalks.{next_face, no_face_left, faces_from_zero}
+use Rattle.split_checks.proofs.FaceWalks.{next_face, no_face_left, faces_from_zero}
 use Rattle.split_sections.specs.section_edges.BelowHalves.{below_in, below_met}
 use Rattle.split_sections.proofs.section_edges.halves.below_met.Goals as goal
 

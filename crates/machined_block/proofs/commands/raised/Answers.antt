@@ -1,5 +1,9 @@
 use Rattle.std.proofs.lemmas.Result.{on_ok_weaker}
-use Rattle.machined_block.proofs.raised.Goals as goal
+use Rattle.machined_block.proofs.Accepted.{accepted_undone}
+use Rattle.machined_block.proofs.commands.raised.Goals as goal
 
 pub returns-clause-volume : goal.returns-clause-volume
 returns-clause-volume c = on_ok_weaker c.sweep.result.1 (λ made. c.sweep_measures.ensures.solid c.args.session.machine c.sweep.result.0.machine c.args.face c.args.by c.stays_consistent.ensures.held_sound made.0 made.1) c.sweep.ensures.ok
+
+pub returns-clause-undone : goal.returns-clause-undone
+returns-clause-undone c = on_ok_weaker c.sweep.result.1 (λ made. accepted_undone c.args.session.machine c.sweep.result.0.machine _ made.1) c.sweep.ensures.ok

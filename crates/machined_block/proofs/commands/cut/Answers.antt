@@ -1,0 +1,18 @@
+use Rattle.std.proofs.Common.{w64, subst}
+use Rattle.std.proofs.lemmas.Int.{to_z-of_z}
+use Rattle.std.proofs.lemmas.Result.{on_ok_weaker}
+use Rattle.sweeps.specs.PlainMachine.{held}
+use Rattle.machined_block.specs.Cutting.{LieOnEitherSide}
+use Rattle.machined_block.proofs.Accepted.{accepted_undone}
+use Rattle.machined_block.proofs.commands.cut.Goals as goal
+
+pub returns-clause-volume : goal.returns-clause-volume
+returns-clause-volume c = on_ok_weaker c.split.result.1 (λ made. c.splits_are_held.ensures.volumes c.args.session.machine c.split.result.0.machine c.args.s _ c.args.t c.split.ensures.sound made) c.split.ensures.ok
+
+pub returns-clause-sides : goal.returns-clause-sides
+returns-clause-sides c = on_ok_weaker c.split.result.1 (λ made.
+    subst (λ d. LieOnEitherSide (held c.split.result.0.machine) d c.args.s c.args.t) (to_z-of_z w64 c.args.d c.ranges.d)
+    (c.splits_are_held.ensures.sides c.args.session.machine c.split.result.0.machine c.args.s _ c.args.t c.split.ensures.sound made)) c.split.ensures.ok
+
+pub returns-clause-undone : goal.returns-clause-undone
+returns-clause-undone c = on_ok_weaker c.split.result.1 (λ made. accepted_undone c.args.session.machine c.split.result.0.machine _ made.1) c.split.ensures.ok

@@ -1,0 +1,87 @@
+//! Commands of the workbench, each with what this program wants of it.
+ghost use Rattle.std.specs.Prelude.{◌≡◌, pos, ◌+ℤ◌, ◌*ℤ◌, OnOk, OnErr, IfOk};
+ghost use Rattle.gluing.specs.Store.{is_face_of};
+ghost use Rattle.machined_block.specs.Cutting.{LieOnEitherSide};
+ghost use Rattle.machined_block.specs.Undoing.{IsOneCommand};
+ghost use Rattle.sweeps.specs.PlainMachine.{held};
+ghost use Rattle.sweeps.specs.Measure.{normal, six_volume};
+ghost use Rattle.sweeps.specs.Model.{solid_of};
+ghost use Rattle.sweeps.specs.Vectors.{dot};
+
+use gluing::{Kind, glue, glue_measures, six_volume};
+use plane_split::{split, splits_are_held};
+use std::alloc::Global;
+use sweeps::{Draft, Failure, Op, Point, Session, sweep, sweep_measures};
+
+/// A face swept along a vector. Its solid grows by three times the face's normal before, along the vector. Undo gives the model before.
+pub fn raised(
+    alloc: Global,
+    session: Session,
+    face: u32,
+    by: Point,
+) -> (Session, Result<(), Failure>)
+    ensures volume { OnOk result.1 (six_volume (held result.0.machine) (solid_of (held session.machine) face) ≡ six_volume (held session.machine) (solid_of (held session.machine) face) +ℤ pos 3 *ℤ dot (normal (held session.machine) face) by) }
+    ensures undone { OnOk result.1 (IsOneCommand session.machine result.0.machine) }
+    ensures err { OnErr result.1 (result.0 ≡ session) }
+{
+    session.stays_consistent();
+    sweep_measures();
+    sweep(alloc, session, face, by)
+}
+
+/// A face glued to a face of another solid. The solid of the first has the six volumes of both then. Undo gives the model before.
+pub fn joined(alloc: Global, session: Session, f: u32, g: u32) -> (Session, Result<(), Failure>)
+    ensures volume { OnOk result.1 (six_volume (held result.0.machine) (solid_of (held session.machine) f) ≡ six_volume (held session.machine) (solid_of (held session.machine) f) +ℤ six_volume (held session.machine) (solid_of (held session.machine) g)) }
+    ensures undone { OnOk result.1 (IsOneCommand session.machine result.0.machine) }
+    ensures err { OnErr result.1 (result.0 ≡ session) }
+{
+    session.stays_consistent();
+    glue_measures();
+    glue(alloc, session, f, g)
+}
+
+/// A solid cut by the plane x + d = 0: what lies above it, where that sum is positive, becomes the solid t. The two parts share the six
+/// volumes of the one, and lie on either side. Undo gives the model before.
+pub fn cut(
+    alloc: Global,
+    session: Session,
+    s: u32,
+    d: i64,
+    t: u32,
+) -> (Session, Result<(), Failure>)
+    ensures volume { OnOk result.1 (six_volume (held session.machine) s ≡ six_volume (held result.0.machine) s +ℤ six_volume (held result.0.machine) t) }
+    ensures sides { OnOk result.1 (LieOnEitherSide (held result.0.machine) d s t) }
+    ensures undone { OnOk result.1 (IsOneCommand session.machine result.0.machine) }
+    ensures err { OnErr result.1 (result.0 ≡ session) }
+{
+    splits_are_held();
+    split(alloc, session, s, 1, 0, 0, d, t)
+}
+
+/// An operator tried in a draft that is given up, whether it was accepted, refused or stopped by memory: the session is as it was.
+pub fn tried(session: Session, op: Op) -> Session
+    ensures { result ≡ session }
+{
+    match Draft::open(session) {
+        Ok(mut draft) => {
+            let _ = draft.step(op);
+            draft.abandon()
+        }
+        Err((session, _)) => session,
+    }
+}
+
+/// Whether face f is there and is of solid s.
+pub fn is_face_of(session: &Session, s: u32, f: u32) -> bool
+    ensures { result ≡ is_face_of (held session.now.machine) s f }
+{
+    let arena = session.arena();
+    arena.has(Kind::Face, f) && arena.solid_of(f) == s
+}
+
+/// Six times the volume of solid s, measured.
+pub fn measured(session: &Session, s: u32) -> Result<i128, Failure>
+    ensures { IfOk result (λ volume. volume ≡ six_volume (held session.now.machine) s) }
+{
+    six_volume(session.arena(), s).map_err(Failure::Refused)
+}
