@@ -1,5 +1,5 @@
 -- When a model is sound.
-use Rattle.std.specs.Prelude.{◌≡◌, ◌≢◌, ◌⊎◌, ℕ, Bool, true, false, IsTrue, List, [], Option, Some}
+use Rattle.std.specs.Prelude.{◌≡◌, ◌≢◌, ◌⊎◌, ℕ, Bool, true, false, List, [], Option, Some}
 use Rattle.lattice.specs.declared.Point.{Point}
 use Rattle.lattice.specs.Point.{IsInRange}
 use Rattle.cyclic_list.specs.Items.{IsApart}
@@ -11,15 +11,15 @@ use Rattle.boundary_model.specs.Model.{Model, LoopContent, LoopRow, lone, cycle,
 
 -- half-edge h stands in loop l
 abbrev pub StandsIn : Model → ℕ → ℕ → Type 0
-StandsIn M h l = IsTrue (holds h (content M l))
+StandsIn M h l = holds h (content M l) ≡ true
 
 -- the table has a row for n
 abbrev pub Has : {X : Type 0} → Table X → ℕ → Type 0
-Has t n = IsTrue (table.has t n)
+Has t n = table.has t n ≡ true
 
 -- h's edge is there
 abbrev pub HasHalf : Model → ℕ → Type 0
-HasHalf M h = IsTrue (has_half M h)
+HasHalf M h = has_half M h ≡ true
 
 -- going round a vertex from g, one comes to h
 pub data Reaches (next : ℕ → ℕ) (g : ℕ) : ℕ → Type 0 where
@@ -44,7 +44,7 @@ IsLoneAt M l v = content M l ≡ lone v
 
 -- every number that a table uses lies in the range of numbers
 abbrev pub NumbersFit : {X : Type 0} → Table X → Type 0
-NumbersFit t = (n : ℕ) → Has t n → IsTrue (is_number n)
+NumbersFit t = (n : ℕ) → Has t n → is_number n ≡ true
 
 pub record Sound (M : Model) : Type 0 where
   -- the half-edges of each edge, and no others, stand in loops, each once, and in one loop only

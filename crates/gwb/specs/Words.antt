@@ -1,5 +1,5 @@
 -- The command line of the program.
-use Rattle.std.specs.Prelude.{◌≡◌, ◌↔◌, IsTrue, true, codes, List, [], Some, Result, MatchResult, option_map}
+use Rattle.std.specs.Prelude.{◌≡◌, ◌↔◌, true, codes, List, [], Some, Result, MatchResult, option_map}
 use Rattle.std.specs.String.{string_bytes}
 use Rattle.clap.specs.Words.{App, Row, Rule, first_of, new_app, new_rule, with_rule}
 use Rattle.clap.specs.Simple.{on_top}
@@ -27,7 +27,7 @@ command_line = with_rule (with_rule program stop_flag) file_value
 
 -- the choice is the flag --stop and the value FILE of the matches
 abbrev pub Chosen : List Row → Choice → Type 0
-Chosen rows c = (IsTrue c.stop ↔ (first_of (codes "stop") rows ≡ Some (codes "true")))
+Chosen rows c = ((c.stop ≡ true) ↔ (first_of (codes "stop") rows ≡ Some (codes "true")))
     × (option_map string_bytes c.file ≡ first_of (codes "FILE") rows)
 
 -- clap refuses the words for one of these causes, or memory was refused

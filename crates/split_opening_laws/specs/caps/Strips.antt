@@ -1,7 +1,7 @@
 -- Strips, which are faces of four edges one beside the other along a cycle of section edges, and what is asked of them. Numbers are
 -- taken from c on: the strip at place i, from 0 on, of m has face c.face + i + 1, loop c.loop + i + 1 and edge c.edge + i + 1, its copy
 -- of a section edge, and edge c.edge + m + i + 1, its strip_riser.
-use Rattle.std.specs.Prelude.{◌≡◌, ◌≤◌, ◌<◌, ℕ, suc, ◌+◌, IsTrue, List, [], ◌∷◌, length, get_or, Some, None}
+use Rattle.std.specs.Prelude.{◌≡◌, ◌≤◌, ◌<◌, ℕ, suc, ◌+◌, true, List, [], ◌∷◌, length, get_or, Some, None}
 use Rattle.euler_operators.specs.Rings.{canonical}
 use Rattle.euler_operators.specs.HalfEdge.{plus, minus}
 use Rattle.euler_operators.specs.Table as table
@@ -28,5 +28,5 @@ pub record HasStrips (N : Model) (s : ℕ) (c : Taken) (hs : List ℕ) : Type 0 
   -- the next numbers of a face and a loop are free
   pub face_free : table.get N.faces (c.face + length hs + 1) ≡ None
   pub loop_free : table.get N.loops (c.loop + length hs + 1) ≡ None
-  pub face_fits : IsTrue (is_number (c.face + length hs + 1))
-  pub loop_fits : IsTrue (is_number (c.loop + length hs + 1))
+  pub face_fits : is_number (c.face + length hs + 1) ≡ true
+  pub loop_fits : is_number (c.loop + length hs + 1) ≡ true
