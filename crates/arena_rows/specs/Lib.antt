@@ -1,4 +1,5 @@
 pub mod Store
+pub mod Codes
 pub mod Rows
 pub mod Groups
 pub mod View

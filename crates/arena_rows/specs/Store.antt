@@ -1,10 +1,6 @@
 -- What an arena stands for: a model, the rings that stand in no loop, and the numbers that have room.
-use Rattle.std.specs.Prelude.{◌≡◌, ◌≢◌, ◌<◌, ℕ, Bool, true, false, cond, nat_eq, nat_le, ◌&&◌, List, [], ◌∷◌, Option, Some, None, unwrap_or, refl, ◌⊎◌}
-use Rattle.std.specs.Coded.{Coded, code_by, coded×, coded⊎, coded_ℕ, coded_list}
-use base.Stored.{coded_unit}
-use mathlib.Core.Logic.{inl, inr}
+use Rattle.std.specs.Prelude.{◌≡◌, ◌≢◌, ◌<◌, ℕ, Bool, true, false, cond, nat_eq, nat_le, ◌&&◌, List, [], ◌∷◌, Option, Some, None, unwrap_or}
 use Rattle.boundary_model.specs.declared.Point.{Point}
-use Rattle.boundary_model.specs.Points.{coded_point}
 use Rattle.boundary_model.specs.Rings.{cut_left, cut_right, joined}
 use Rattle.boundary_model.specs.Items.{IsIn}
 use Rattle.boundary_model.specs.declared.Kind.{Kind}
@@ -13,7 +9,7 @@ use Rattle.boundary_model.specs.declared.Content.{Content}
 use Rattle.boundary_model.specs.HalfEdge.{code, plus, minus, edge_of, is_first}
 use Rattle.boundary_model.specs.Table as table
 use Rattle.boundary_model.specs.Table.{Table}
-use Rattle.boundary_model.specs.Model.{Model, LoopContent, lone, cycle, FaceRow, LoopRow, EdgeRow, holds, items_of, content, face_of, solid_of, outer, loop_of, cycle_of, empty_model, no_edge, is_ring_of}
+use Rattle.boundary_model.specs.Model.{Model, LoopContent, lone, cycle, LoopRow, holds, items_of, content, face_of, solid_of, outer, loop_of, cycle_of, empty_model, no_edge, is_ring_of}
 
 -- for each kind but edges the greatest number that has room, and each smaller one from 1 on has it too;
 -- for edges the numbers that have room
@@ -236,46 +232,3 @@ Tells (lone v) (Content.Lone w) = w ≡ v
 Tells (cycle hs) (Content.Ring h) = IsIn (code h) hs
 Tells (lone v) (Content.Ring h) = ⊥
 Tells (cycle hs) (Content.Lone w) = ⊥
-
--- codes, by which a store can be what contracts see of an arena
-abbrev pub content_cases : LoopContent → ℕ ⊎ List ℕ
-content_cases (lone v) = inl v
-content_cases (cycle hs) = inr hs
-
-abbrev pub content_made : ℕ ⊎ List ℕ → LoopContent
-content_made (inl v) = lone v
-content_made (inr hs) = cycle hs
-
-pub content_back : (c : LoopContent) → content_made (content_cases c) ≡ c
-content_back (lone v) = refl
-content_back (cycle hs) = refl
-
-abbrev pub coded_content : Coded LoopContent
-coded_content = code_by (ℕ ⊎ List ℕ) (coded⊎ coded_ℕ (coded_list coded_ℕ)) content_cases content_made content_back
-
-abbrev pub coded_face : Coded FaceRow
-coded_face = code_by (ℕ × ℕ) (coded× coded_ℕ coded_ℕ) (λ r. (r.solid, r.outer)) (λ p. record { solid = p.0; outer = p.1 }) (λ _. refl)
-
-abbrev pub coded_loop : Coded LoopRow
-coded_loop = code_by (ℕ × LoopContent) (coded× coded_ℕ coded_content) (λ r. (r.face, r.content)) (λ p. record { face = p.0; content = p.1 }) (λ _. refl)
-
-abbrev pub coded_edge : Coded EdgeRow
-coded_edge = code_by (ℕ × ℕ) (coded× coded_ℕ coded_ℕ) (λ r. (r.plus_tail, r.minus_tail)) (λ p. record { plus_tail = p.0; minus_tail = p.1 }) (λ _. refl)
-
-abbrev pub Tables : Type 0
-Tables = Table (Unit {0}) × (Table FaceRow × (Table LoopRow × (Table EdgeRow × Table Point)))
-
-abbrev pub coded_model : Coded Model
-coded_model = code_by Tables
-    (coded× (table.code coded_unit) (coded× (table.code coded_face) (coded× (table.code coded_loop) (coded× (table.code coded_edge) (table.code coded_point)))))
-    (λ M. (M.solids, (M.faces, (M.loops, (M.edges, M.vertices)))))
-    (λ t. record { solids = t.0; faces = t.1.0; loops = t.1.1.0; edges = t.1.1.1.0; vertices = t.1.1.1.1 }) (λ _. refl)
-
-abbrev pub coded_room : Coded Extents
-coded_room = code_by (ℕ × (ℕ × (ℕ × (Table (Unit {0}) × ℕ)))) (coded× coded_ℕ (coded× coded_ℕ (coded× coded_ℕ (coded× (table.code coded_unit) coded_ℕ))))
-    (λ r. (r.solids, (r.faces, (r.loops, (r.edges, r.vertices)))))
-    (λ t. record { solids = t.0; faces = t.1.0; loops = t.1.1.0; edges = t.1.1.1.0; vertices = t.1.1.1.1 }) (λ _. refl)
-
-abbrev pub coded_store : Coded Store
-coded_store = code_by (Model × (Table (List ℕ) × Extents)) (coded× coded_model (coded× (table.code (coded_list coded_ℕ)) coded_room))
-    (λ s. (s.model, (s.loose, s.room))) (λ t. record { model = t.0; loose = t.1.0; room = t.1.1 }) (λ _. refl)

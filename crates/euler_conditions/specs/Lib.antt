@@ -2,3 +2,4 @@ pub mod Ready
 pub mod Ends
 pub mod Parts
 pub use Rattle.halfedge_arena.specs.Store
+pub use Rattle.halfedge_arena.specs.Codes

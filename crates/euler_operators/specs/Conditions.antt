@@ -76,10 +76,14 @@ abbrev pub corner_known : Model → Corner → Condition
 corner_known M (At h) = need (table.has M.edges h.edge) NoEdge h.edge
 corner_known M (Lone l) = need (table.has M.loops l) NoLoop l
 
--- the loop of a corner without a half-edge is lone
+-- whether the corner is at a half-edge
+abbrev pub is_at_half : Corner → Bool
+is_at_half (At h) = true
+is_at_half (Lone l) = false
+
+-- a corner is at a half-edge, or its loop is lone
 abbrev pub corner_lone : Model → Corner → Condition
-corner_lone M (At h) = need true NotLone 0
-corner_lone M (Lone l) = need (is_lone (content M l)) NotLone l
+corner_lone M c = need (is_at_half c || is_lone (content M (corner_loop M c))) NotLone (corner_loop M c)
 
 abbrev pub is_empty : {A : Type 0} → List A → Bool
 is_empty [] = true

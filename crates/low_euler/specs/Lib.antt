@@ -4,3 +4,4 @@ pub mod Room
 pub mod vertex_operators
 pub use Rattle.euler_conditions.specs.Ready
 pub use Rattle.euler_conditions.specs.Store
+pub use Rattle.euler_conditions.specs.Codes

@@ -5,7 +5,7 @@ use Rattle.euler_operators.specs.contracts.Op as operator
 use Rattle.euler_operators.specs.declared.Op.{Op}
 use Rattle.euler_operators.specs.Model.{Model}
 use Rattle.euler_operators.specs.Effect.{inverse}
-use Rattle.low_euler.specs.Store.{coded_model}
+use Rattle.low_euler.specs.Codes.{coded_model}
 use Rattle.undo_journal.specs.contracts.record.Record as command
 use Rattle.undo_journal.specs.declared.record.Record.{Record}
 use Rattle.undo_journal.specs.Machine.{Machine, DraftState, start, held, depth, act, undo, redo, draft_step, commit, coded_machine}

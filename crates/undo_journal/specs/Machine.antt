@@ -1,7 +1,7 @@
 -- The plain machine: it keeps a whole copy of every model.
 use Rattle.std.specs.Prelude.{ℕ, List, [], ◌∷◌, length, nat_eq, Option, refl}
 use Rattle.euler_operators.specs.Model.{Model, empty_model}
-use Rattle.low_euler.specs.Store.{coded_model}
+use Rattle.low_euler.specs.Codes.{coded_model}
 use Rattle.euler_operators.specs.Conditions.{first_false, first_refusal, never}
 use Rattle.euler_operators.specs.declared.Op.{Op}
 use Rattle.euler_operators.specs.declared.Why.TheVariants.{NothingToUndo, NothingToRedo}
