@@ -23,7 +23,7 @@ pub record FacePairs : Type 0 where
   pub face : ℕ
   pub pairs : List (ℕ × ℕ)
 
--- the half-edges that start at the pairs of cut places of face f. M is the model before, N the one with its edges cut
+-- the pairs of half-edges that start at the pairs of cut places of face f. M is the model before, N the one with its edges cut
 unfoldable pub drawn_pairs : Model → Model → Plane → ℕ → List (ℕ × ℕ)
 drawn_pairs M N p f = map (λ q. (from_place N p q.0, from_place N p q.1)) (place_pairs M p f)
 
@@ -102,10 +102,11 @@ with_rings M ls k = record M { loops = fold (λ t l. table.map_rows (loop_to_fac
 abbrev pub rings_shared : Plane → ℕ → List (ℕ × ℕ) → Drawing → Drawing
 rings_shared p f qs d = cond (nat_eq (length qs) 1) (record d { model = with_rings d.model (rings_above d.model p f) d.taken.face }) d
 
--- one face more
+-- face f drawn between the pairs qs
 abbrev pub drawn_between : Plane → ℕ → List (ℕ × ℕ) → Drawing → Drawing
 drawn_between p f qs d = rings_shared p f qs (all_drawn f (ring_free f qs (all_joined qs d)))
 
+-- one face more
 unfoldable pub next_drawn : Plane → Drawing → FacePairs → Drawing
 next_drawn p d f = drawn_between p f.face f.pairs d
 
@@ -121,6 +122,6 @@ undrawn g = record { model = g.model; taken = g.taken; left = []; stuck = 0 }
 abbrev pub straddling_pairs : Model → ℕ → Plane → List FacePairs
 straddling_pairs M s p = all_pairs M (with_crossings M s p).model p (straddling_faces M p s)
 
--- these edges cut, and then those faces drawn
+-- the edges of solid s that cross the plane cut, and then its faces that straddle drawn, rising
 unfoldable pub with_drawings : Model → ℕ → Plane → Drawing
 with_drawings M s p = faces_drawn p (undrawn (with_crossings M s p)) (straddling_pairs M s p)

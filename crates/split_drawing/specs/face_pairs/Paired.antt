@@ -16,12 +16,12 @@ abbrev pub paired : declared.FacePairs → FacePairs
 paired q = record { face = q.face; pairs = map codes q.pairs.items }
 
 -- some faces, each with the pairs of its cut places
-abbrev pub pairs_in : Model → Plane → List ℕ → List FacePairs
-pairs_in M p fs = map (λ f. record { face = f; pairs = place_pairs M p f }) fs
+abbrev pub all_place_pairs : Model → Plane → List ℕ → List FacePairs
+all_place_pairs M p fs = map (λ f. record { face = f; pairs = place_pairs M p f }) fs
 
 -- the faces of solid s that straddle the plane, each with the pairs of its cut places
 abbrev pub paired_faces : Model → Plane → ℕ → List FacePairs
-paired_faces M p s = pairs_in M p (straddling_faces M p s)
+paired_faces M p s = all_place_pairs M p (straddling_faces M p s)
 
 -- the cut places of a face have different points on the lattice, and each pair of them is one up and one down
 pub record CanBePaired (M : Model) (p : Plane) (f : ℕ) : Type 0 where
