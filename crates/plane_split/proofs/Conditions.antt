@@ -10,9 +10,8 @@ use Rattle.euler_operators.specs.Conditions.{AllHold, first_refusal}
 use Rattle.euler_operators.specs.declared.Refusal.{Refusal}
 use Rattle.euler_laws.proofs.shared.Goes.{all_hold}
 use Rattle.shapes.proofs.fresh.Tests.{first_refusal-append, first_refusal-refused}
-use Rattle.shapes.specs.split.Sides.{straddling_faces}
 use Rattle.shapes.specs.split.Crossings.{with_crossings}
-use Rattle.shapes.specs.split.Drawing.{Drawing, with_drawings}
+use Rattle.shapes.specs.split.Drawing.{Drawing, straddling_pairs, with_drawings}
 use Rattle.shapes.specs.split.Split.{first_conditions, later_conditions, split_conditions, split_refusal}
 use Rattle.split_drawing_laws.specs.crossings.Laws.{CanBegin}
 use Rattle.split_drawing_laws.proofs.crossings.Whole.{crossings_keep}
@@ -51,7 +50,7 @@ module _ (M : Model) (s : ℕ) (p : Plane) (t : ℕ) where
 
     drawn_keeps : Sound M → KeepsSolids (with_crossings M s p).model (with_drawings M s p).model
     unfolding with_drawings
-    drawn_keeps sound = drawing_keeps M p (with_crossings M s p) (straddling_faces M p s) (can_be_drawn M s p t sound begun)
+    drawn_keeps sound = drawing_keeps p (with_crossings M s p) (straddling_pairs M s p) (can_be_drawn M s p t sound begun)
 
     -- the solid is there once its faces are drawn
     pub still_there : Sound M → (d : Drawing) → d ≡ put_aside (with_drawings M s p) → table.has d.model.solids s ≡ true

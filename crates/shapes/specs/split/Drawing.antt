@@ -18,9 +18,18 @@ use Rattle.shapes.specs.split.Crossings.{with_crossings}
 abbrev pub from_place : Model → Plane → ℕ → ℕ
 from_place N p h = cond (is_on p (start N h)) h (after N h)
 
--- the pairs of half-edges between which edges are drawn in face f. M is the model before, N the one with its edges cut
+-- a face, and the pairs of half-edges between which edges are drawn in it
+pub record FacePairs : Type 0 where
+  pub face : ℕ
+  pub pairs : List (ℕ × ℕ)
+
+-- the pairs of half-edges that start at the pairs of cut places of face f. M is the model before, N the one with its edges cut
 unfoldable pub drawn_pairs : Model → Model → Plane → ℕ → List (ℕ × ℕ)
 drawn_pairs M N p f = map (λ q. (from_place N p q.0, from_place N p q.1)) (place_pairs M p f)
+
+-- some faces, each with these pairs
+abbrev pub all_pairs : Model → Model → Plane → List ℕ → List FacePairs
+all_pairs M N p fs = map (λ f. record { face = f; pairs = drawn_pairs M N p f }) fs
 
 -- the loop A B, with A from u up to before k, becomes +e B, and A -e is the loop l of a new face f
 unfoldable pub face_drawn : Model → ℕ → ℕ → ℕ → ℕ → ℕ → Model
@@ -93,17 +102,26 @@ with_rings M ls k = record M { loops = fold (λ t l. table.map_rows (loop_to_fac
 abbrev pub rings_shared : Plane → ℕ → List (ℕ × ℕ) → Drawing → Drawing
 rings_shared p f qs d = cond (nat_eq (length qs) 1) (record d { model = with_rings d.model (rings_above d.model p f) d.taken.face }) d
 
--- one face more
+-- face f drawn between the pairs qs
 abbrev pub drawn_between : Plane → ℕ → List (ℕ × ℕ) → Drawing → Drawing
 drawn_between p f qs d = rings_shared p f qs (all_drawn f (ring_free f qs (all_joined qs d)))
 
-unfoldable pub next_drawn : Model → Model → Plane → Drawing → ℕ → Drawing
-next_drawn M N p d f = drawn_between p f (drawn_pairs M N p f) d
+-- one face more
+unfoldable pub next_drawn : Plane → Drawing → FacePairs → Drawing
+next_drawn p d f = drawn_between p f.face f.pairs d
 
 -- some faces drawn, in their order
-abbrev pub faces_drawn : Model → Plane → Growing → List ℕ → Drawing
-faces_drawn M p g fs = fold (next_drawn M g.model p) (record { model = g.model; taken = g.taken; left = []; stuck = 0 }) fs
+abbrev pub faces_drawn : Plane → Drawing → List FacePairs → Drawing
+faces_drawn p d fs = fold (next_drawn p) d fs
+
+-- nothing is drawn yet
+abbrev pub undrawn : Growing → Drawing
+undrawn g = record { model = g.model; taken = g.taken; left = []; stuck = 0 }
+
+-- the faces of solid s that straddle, rising, each with its pairs once the edges that cross the plane are cut
+abbrev pub straddling_pairs : Model → ℕ → Plane → List FacePairs
+straddling_pairs M s p = all_pairs M (with_crossings M s p).model p (straddling_faces M p s)
 
 -- the edges of solid s that cross the plane cut, and then its faces that straddle drawn, rising
 unfoldable pub with_drawings : Model → ℕ → Plane → Drawing
-with_drawings M s p = faces_drawn M p (with_crossings M s p) (straddling_faces M p s)
+with_drawings M s p = faces_drawn p (undrawn (with_crossings M s p)) (straddling_pairs M s p)

@@ -8,10 +8,11 @@ use Rattle.euler_operators.specs.Sound.{Sound, HasHalf}
 use Rattle.shapes.proofs.walks.FaceLoops.{items_there}
 use Rattle.shapes.specs.Faces.{loops_of, boundary}
 use Rattle.shapes.specs.split.Places.{is_place, places, goes_up, sorted, in_pairs, sorted_pairs, up_first, place_pairs}
-use Rattle.shapes.specs.split.Drawing.{drawn_pairs}
+use Rattle.shapes.specs.split.Drawing.{drawn_pairs, all_pairs}
 use Rattle.split_drawing_laws.specs.crossings.Kept.{Kept}
 use Rattle.split_drawing_laws.proofs.pairs.Sorted.{count-sorted}
 use Rattle.split_checks.proofs.cut_places_laws.Lists.{of_picked}
+use Rattle.split_drawing.specs.face_pairs.Paired.{all_place_pairs}
 use Rattle.split_drawing.specs.solid_drawing.Starts.{PairsThere, FacesThere, pairs_started, faces_started}
 
 module _ (M N : Model) (p : Plane) where
@@ -20,9 +21,9 @@ module _ (M N : Model) (p : Plane) where
   unfolding drawn_pairs
   pairs_are f = refl
 
-  pub started_are : (fs : List ℕ) → faces_started N p (map (λ f. (f, place_pairs M p f)) fs) ≡ map (λ f. (f, drawn_pairs M N p f)) fs
+  pub started_are : (fs : List ℕ) → faces_started N p (all_place_pairs M p fs) ≡ all_pairs M N p fs
   started_are [] = refl
-  started_are (f ∷ fs) = λ i. (f, pairs_are f i) ∷ started_are fs i
+  started_are (f ∷ fs) = λ i. record { face = f; pairs = pairs_are f i } ∷ started_are fs i
 
   either_there : (b : Bool) (h k : ℕ) (qs : List (ℕ × ℕ)) → HasHalf N h → HasHalf N k → PairsThere N qs → PairsThere N (cond b (h, k) (k, h) ∷ qs)
   either_there true h k qs a c r = (a, c, r)
@@ -43,6 +44,6 @@ module _ (M N : Model) (p : Plane) where
     unfolding place_pairs sorted_pairs
     pairs_there = paired_there (sorted M p (places M p f)) (λ h i. place_there h (omega (arith, i, count-sorted M p h (places M p f))))
 
-  pub faces_there : Sound M → Kept M N → (fs : List ℕ) → FacesThere N (map (λ f. (f, place_pairs M p f)) fs)
+  pub faces_there : Sound M → Kept M N → (fs : List ℕ) → FacesThere N (all_place_pairs M p fs)
   faces_there sound kept [] = tt
   faces_there sound kept (f ∷ fs) = (pairs_there sound kept f, faces_there sound kept fs)

@@ -1,5 +1,5 @@
 -- A solid drawn, from its edges cut to its last face.
-use Rattle.std.proofs.Common.{◌≡◌, ℕ, [], is_some, refl, sym, ap, ◌∙◌, subst, nat_eq, map, List}
+use Rattle.std.proofs.Common.{◌≡◌, ℕ, [], is_some, refl, sym, ap, ◌∙◌, subst, nat_eq, List}
 use Rattle.euler_operators.specs.declared.Plane.{Plane}
 use Rattle.euler_operators.specs.Items.{IsIn}
 use Rattle.euler_operators.specs.Model.{Model, faces_of}
@@ -7,33 +7,31 @@ use Rattle.euler_operators.specs.Sound.{Sound, Has}
 use Rattle.shapes.specs.Fresh.{taken_in}
 use Rattle.shapes.specs.split.Sides.{straddles, straddling_faces}
 use Rattle.shapes.specs.split.Crossings.{with_crossings}
-use Rattle.shapes.specs.split.Drawing.{Drawing, drawn_pairs, with_drawings}
+use Rattle.shapes.specs.split.Drawing.{Drawing, FacePairs, faces_drawn, undrawn, straddling_pairs, with_drawings}
 use Rattle.split_drawing_laws.specs.crossings.Kept.{Kept}
 use Rattle.euler_laws.proofs.shared.Counted.{all_where_has}
 use Rattle.euler_laws.proofs.shared.Listed.{IsIn-from_listed}
 use Rattle.split_drawing_laws.proofs.crossings.Whole.{crossings_keep, crossings_counted}
+use Rattle.split_drawing_laws.proofs.drawings.Counted.{faces_are as faces_same}
 use Rattle.split_drawing_laws.proofs.drawings.Whole.{drawable}
 use Rattle.split_drawing_laws.proofs.pairs.Whole.{can_be_drawn}
 use Rattle.split_checks.proofs.cut_places_laws.Lists.{of_picked}
+use Rattle.split_checks.specs.cut_places.Walks.{AreIn}
 use Rattle.split_checks.proofs.cut_places_laws.Walks.{all_in}
 use Rattle.split_drawing.specs.edge_cutting.Begins.{CanBeCut}
 use Rattle.split_checks.specs.declared.progress.Progress.{Progress}
 use Rattle.split_checks.specs.Progress.{taken_of, drawing_of}
 use Rattle.split_drawing.specs.face_pairs.Paired.{paired_faces}
 use Rattle.split_drawing.specs.solid_drawing.Starts.{FacesThere, faces_started}
-use Rattle.split_drawing.specs.solid_drawing.Drawn.{put_aside, faces_between, CanDrawFaces}
+use Rattle.split_drawing.specs.solid_drawing.Drawn.{put_aside, CanDrawFaces}
 use Rattle.split_drawing.proofs.solid_drawing_laws.Starts.{started_are, faces_there}
-use Rattle.split_drawing.proofs.solid_drawing_laws.Faces.{between_are}
 
 module _ (M : Model) (s : ℕ) (p : Plane) (sound : Sound M) (can : CanBeCut M s p) where
   abbrev N : Model
   N = (with_crossings M s p).model
 
-  abbrev drawn_faces : List (ℕ × List (ℕ × ℕ))
-  drawn_faces = map (λ f. (f, drawn_pairs M N p f)) (straddling_faces M p s)
-
   abbrev begun : Drawing
-  begun = record { model = N; taken = (with_crossings M s p).taken; left = []; stuck = 0 }
+  begun = undrawn (with_crossings M s p)
 
   kept : Kept M N
   kept = crossings_keep M s p can.0 sound can.1
@@ -45,31 +43,28 @@ module _ (M : Model) (s : ℕ) (p : Plane) (sound : Sound M) (can : CanBeCut M s
   face_there : (f : ℕ) → IsIn f (straddling_faces M p s) → Has N.faces f
   face_there f i = subst (λ t. Has t f) (sym kept.faces) (ap is_some (all_where_has (λ _ row. nat_eq row.solid s) M.faces f (of_picked (straddles M p) f (faces_of M s) i).0).1)
 
-  can_draw_begun : CanDrawFaces p drawn_faces begun
+  can_draw_begun : CanDrawFaces (straddling_pairs M s p) begun
   can_draw_begun = record {
-    before = M;
-    cut = N;
-    faces = straddling_faces M p s;
-    pairs = refl;
-    there = all_in N.faces (straddling_faces M p s) (λ f l. face_there f (IsIn-from_listed f (straddling_faces M p s) l));
-    drawable = drawable M p (with_crossings M s p) (straddling_faces M p s) (can_be_drawn M s p can.0 sound can.1);
+    there = subst (AreIn N.faces) (sym (faces_same M N p (straddling_faces M p s)))
+        (all_in N.faces (straddling_faces M p s) (λ f l. face_there f (IsIn-from_listed f (straddling_faces M p s) l)));
+    drawable = drawable (with_crossings M s p) (straddling_pairs M s p) (can_be_drawn M s p can.0 sound can.1);
   }
 
-  made_of_begun : faces_between p drawn_faces begun ≡ with_drawings M s p
+  made_of_begun : faces_drawn p begun (straddling_pairs M s p) ≡ with_drawings M s p
   unfolding with_drawings
-  made_of_begun = sym (between_are M N p begun (straddling_faces M p s))
+  made_of_begun = refl
 
   -- where the progress is that before anything is drawn, and the pairs start at the cut places
   module _ (c : Progress) (X : Model) (x : X ≡ N) (counted : taken_of c ≡ taken_in X) (free : c.stuck ≡ 0)
-      (fs : List (ℕ × List (ℕ × ℕ))) (are : fs ≡ faces_started X p (paired_faces M p s)) where
+      (fs : List FacePairs) (are : fs ≡ faces_started X p (paired_faces M p s)) where
     drawing_is : drawing_of c X [] ≡ begun
     drawing_is = λ i. record { model = x i; taken = (counted ∙ ap taken_in x ∙ sym (crossings_counted M s p can.0 sound can.1)) i; left = []; stuck = free i }
 
-    faces_are : fs ≡ drawn_faces
+    faces_are : fs ≡ straddling_pairs M s p
     faces_are = are ∙ ap (λ Y. faces_started Y p (paired_faces M p s)) x ∙ started_are M N p (straddling_faces M p s)
 
-    pub can_draw : CanDrawFaces p fs (drawing_of c X [])
-    can_draw = subst (λ gs. CanDrawFaces p gs (drawing_of c X [])) (sym faces_are) (subst (CanDrawFaces p drawn_faces) (sym drawing_is) can_draw_begun)
+    pub can_draw : CanDrawFaces fs (drawing_of c X [])
+    can_draw = subst (λ gs. CanDrawFaces gs (drawing_of c X [])) (sym faces_are) (subst (CanDrawFaces (straddling_pairs M s p)) (sym drawing_is) can_draw_begun)
 
-    pub made : put_aside (faces_between p fs (drawing_of c X [])) ≡ put_aside (with_drawings M s p)
-    made = (λ i. put_aside (faces_between p (faces_are i) (drawing_is i))) ∙ ap put_aside made_of_begun
+    pub made : put_aside (faces_drawn p (drawing_of c X []) fs) ≡ put_aside (with_drawings M s p)
+    made = (λ i. put_aside (faces_drawn p (drawing_is i) (faces_are i))) ∙ ap put_aside made_of_begun

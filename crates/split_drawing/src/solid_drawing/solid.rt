@@ -2,11 +2,11 @@
 ghost use Rattle.std.specs.Prelude.{◌≡◌, [], map, IfOk};
 ghost use Rattle.euler_operators.specs.Ranges.{IsCutPlane};
 ghost use Rattle.shapes.specs.Fresh.{taken_in};
-ghost use Rattle.shapes.specs.split.Drawing.{with_drawings};
+ghost use Rattle.shapes.specs.split.Drawing.{faces_drawn, with_drawings};
 ghost use Rattle.split_drawing.specs.edge_cutting.Begins.{CanBeCut};
 ghost use Rattle.split_checks.specs.Progress.{drawing_of, taken_of};
 ghost use Rattle.split_drawing.specs.face_pairs.Paired.{paired};
-ghost use Rattle.split_drawing.specs.solid_drawing.Drawn.{CanDrawFaces, faces_between, put_aside};
+ghost use Rattle.split_drawing.specs.solid_drawing.Drawn.{CanDrawFaces, put_aside};
 
 use crate::edge_cutting::cut_edges;
 use crate::face_pairs::{FacePairs, face_pairs};
@@ -42,8 +42,8 @@ fn draw_faces(
     faces: &[FacePairs],
 ) -> Result<Progress, AllocError>
     requires plane { IsCutPlane plane }
-    requires can { CanDrawFaces plane (map paired faces.now) (drawing_of from draft.old.model []) }
-    ensures drawn { IfOk result (λ drawn. drawing_of drawn draft.new.model [] ≡ put_aside (faces_between plane (map paired faces.now) (drawing_of from draft.old.model []))) }
+    requires can { CanDrawFaces (map paired faces.now) (drawing_of from draft.old.model []) }
+    ensures drawn { IfOk result (λ drawn. drawing_of drawn draft.new.model [] ≡ put_aside (faces_drawn plane (drawing_of from draft.old.model []) (map paired faces.now))) }
     ensures session { draft.new.session ≡ draft.old.session }
 {
     let mut progress = from;

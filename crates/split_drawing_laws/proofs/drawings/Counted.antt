@@ -11,7 +11,7 @@ use Rattle.euler_laws.proofs.shared.Counted.{counted_once}
 use Rattle.shapes.specs.Fresh.{taken_in}
 use Rattle.shapes.specs.split.Sides.{straddles, straddling_faces}
 use Rattle.shapes.specs.split.Places.{places, sorted, in_pairs, sorted_pairs, up_first, place_pairs, pair_count}
-use Rattle.shapes.specs.split.Drawing.{from_place, drawn_pairs}
+use Rattle.shapes.specs.split.Drawing.{from_place, drawn_pairs, all_pairs}
 use Rattle.split_drawing_laws.specs.drawings.DrawnIn.{Fresh}
 use Rattle.split_drawing_laws.specs.drawings.Pairs.{pairs_in}
 use Rattle.split_drawing_laws.proofs.pairs.Sorted.{length-sorted}
@@ -41,7 +41,12 @@ pairs_of M N p f = length_map (λ q. (from_place N p q.0, from_place N p q.1)) (
     ∙ length_in_pairs (sorted M p (places M p f))
     ∙ ap (λ n. n / 2) (length-sorted M p (places M p f))
 
+-- faces stay when they get their pairs
+pub faces_are : (M N : Model) (p : Plane) (fs : List ℕ) → map (λ f. f.face) (all_pairs M N p fs) ≡ fs
+faces_are M N p [] = refl
+faces_are M N p (f ∷ fs) = ap (λ gs. f ∷ gs) (faces_are M N p fs)
+
 -- as many pairs are drawn as a split counts
-pub pairs_counted : (M N : Model) (p : Plane) (fs : List ℕ) → pairs_in M N p fs ≡ pair_count M p fs
+pub pairs_counted : (M N : Model) (p : Plane) (fs : List ℕ) → pairs_in (all_pairs M N p fs) ≡ pair_count M p fs
 pairs_counted M N p [] = refl
 pairs_counted M N p (f ∷ fs) = λ i. pairs_of M N p f i + pairs_counted M N p fs i

@@ -1,5 +1,5 @@
 -- The drawing of some faces, from its first operator to its model.
-use Rattle.std.proofs.Common.{◌≡◌, ◌≢◌, ℕ, ◌+◌, List, [], ◌∷◌, length, refl, sym, ap, ◌∙◌, subst, arith}
+use Rattle.std.proofs.Common.{◌≡◌, ◌≢◌, ℕ, ◌+◌, List, [], ◌∷◌, length, map, refl, sym, ap, ◌∙◌, subst, arith}
 use Rattle.std.specs.Prelude.{fold, nat_eq}
 use Rattle.euler_operators.specs.declared.Plane.{Plane}
 use Rattle.euler_operators.specs.Items.{count, tick}
@@ -10,7 +10,7 @@ use Rattle.euler_operators.specs.declared.Op.{Op}
 use Rattle.euler_operators.specs.Conditions.{face_at}
 use Rattle.euler_laws.specs.Laws.{AreAccepted, effects}
 use Rattle.shapes.specs.Fresh.{Growing}
-use Rattle.shapes.specs.split.Drawing.{Drawing, drawn_between, drawn_pairs, next_drawn, faces_drawn}
+use Rattle.shapes.specs.split.Drawing.{Drawing, FacePairs, drawn_between, next_drawn, faces_drawn, undrawn}
 use Rattle.split_drawing_laws.specs.drawings.DrawingOps.{face_ops, ops_from, drawing_ops}
 use Rattle.split_drawing_laws.specs.drawings.DrawnIn.{Stays, DrawnIn, Fresh, PairsHaveRoom}
 use Rattle.split_drawing_laws.specs.drawings.Pairs.{Fits, AllFit, LoneInOneLoop, FacesFit, pairs_in}
@@ -45,12 +45,12 @@ module _ (D K : Model) (f g : ℕ) (drawn : DrawnIn D K f) (other : g ≢ f) whe
   lone_stays (q ∷ []) w o = (λ i. nat_eq ((beside q.0 w.0.u_there w.0.u_face).0 i) ((beside q.1 w.0.k_there w.0.k_face).0 i)) ∙ o
   lone_stays (q ∷ r ∷ qs) w o = tt
 
-faces_stay : (D K : Model) (f : ℕ) → DrawnIn D K f → (M N : Model) (p : Plane) (fs : List ℕ) → count f fs ≡ 0 → FacesFit D M N p fs → FacesFit K M N p fs
-faces_stay D K f drawn M N p [] z w = tt
-faces_stay D K f drawn M N p (g ∷ fs) z w =
-    let other : g ≢ f = λ e. absurd (omega (arith, z, ap (λ x. tick f x) e, tick_same f)) in (
-      (all_fit_stay D K f g drawn other (drawn_pairs M N p g) w.0.0, lone_stays D K f g drawn other (drawn_pairs M N p g) w.0.0 w.0.1),
-      faces_stay D K f drawn M N p fs (omega (arith, z)) w.1,
+faces_stay : (D K : Model) (f : ℕ) → DrawnIn D K f → (fs : List FacePairs) → count f (map (λ g. g.face) fs) ≡ 0 → FacesFit D fs → FacesFit K fs
+faces_stay D K f drawn [] z w = tt
+faces_stay D K f drawn (g ∷ fs) z w =
+    let other : g.face ≢ f = λ e. absurd (omega (arith, z, ap (λ x. tick f x) e, tick_same f)) in (
+      (all_fit_stay D K f g.face drawn other g.pairs w.0.0, lone_stays D K f g.face drawn other g.pairs w.0.0 w.0.1),
+      faces_stay D K f drawn fs (omega (arith, z)) w.1,
     )
 
 -- ---- one face after the other
@@ -63,47 +63,47 @@ pub record AllGone (d D : Drawing) (ops : List Op) (n : ℕ) : Type 0 where
   pub room : PairsHaveRoom D.taken n
 
 -- one face more
-module _ (M N : Model) (p : Plane) (d : Drawing) (f : ℕ) (fs : List ℕ) (n : ℕ) (w : Drawable M N p d (f ∷ fs) n) where
-  pub next_is : next_drawn M N p d f ≡ drawn_between p f (drawn_pairs M N p f) d
+module _ (p : Plane) (d : Drawing) (f : FacePairs) (fs : List FacePairs) (n : ℕ) (w : Drawable d (f ∷ fs) n) where
+  pub next_is : next_drawn p d f ≡ drawn_between p f.face f.pairs d
   unfolding next_drawn
   next_is = refl
 
-  pub ready : Ready p f (drawn_pairs M N p f) d (pairs_in M N p fs + n)
+  pub ready : Ready p f.face f.pairs d (pairs_in fs + n)
   ready = record {
     sound = w.sound;
     fresh = w.fresh;
-    room = subst (PairsHaveRoom d.taken) (let s : length (drawn_pairs M N p f) + pairs_in M N p fs + n ≡ length (drawn_pairs M N p f) + (pairs_in M N p fs + n) = omega arith in s) w.room;
+    room = subst (PairsHaveRoom d.taken) (let s : length f.pairs + pairs_in fs + n ≡ length f.pairs + (pairs_in fs + n) = omega arith in s) w.room;
     fit = w.fit.0.0;
     alone = w.fit.0.1;
   }
 
-  gone : Gone d (next_drawn M N p d f) f (face_ops p f (drawn_pairs M N p f) d) (pairs_in M N p fs + n)
-  gone = subst (λ x. Gone d x f (face_ops p f (drawn_pairs M N p f) d) (pairs_in M N p fs + n)) (sym next_is) (face_goes p f (drawn_pairs M N p f) d (pairs_in M N p fs + n) ready)
+  gone : Gone d (next_drawn p d f) f.face (face_ops p f.face f.pairs d) (pairs_in fs + n)
+  gone = subst (λ x. Gone d x f.face (face_ops p f.face f.pairs d) (pairs_in fs + n)) (sym next_is) (face_goes p f.face f.pairs d (pairs_in fs + n) ready)
 
-  pub drawable_on : Drawable M N p (next_drawn M N p d f) fs n
+  pub drawable_on : Drawable (next_drawn p d f) fs n
   drawable_on = record {
     sound = gone.drawn.sound;
     fresh = gone.fresh;
     room = gone.room;
-    fit = faces_stay d.model (next_drawn M N p d f).model f gone.drawn M N p fs (omega (arith, w.apart f, tick_same f)) w.fit.1;
+    fit = faces_stay d.model (next_drawn p d f).model f.face gone.drawn fs (omega (arith, w.apart f.face, tick_same f.face)) w.fit.1;
     apart = λ x. omega (arith, w.apart x);
   }
 
-pub all_go : (M N : Model) (p : Plane) (d : Drawing) (fs : List ℕ) (n : ℕ) → Drawable M N p d fs n → AllGone d (fold (next_drawn M N p) d fs) (ops_from M N p d fs) n
-all_go M N p d [] n w = record {
+pub all_go : (p : Plane) (d : Drawing) (fs : List FacePairs) (n : ℕ) → Drawable d fs n → AllGone d (fold (next_drawn p) d fs) (ops_from p d fs) n
+all_go p d [] n w = record {
   leads = leads_none d.model;
   sound = w.sound;
   stays = record { halves = λ h there. there; tails = λ h there. refl; vertices = refl; faces = λ g there. there };
   fresh = w.fresh;
   room = room_as d.taken (0 + n) n (omega arith) w.room;
 }
-all_go M N p d (f ∷ fs) n w =
-    let D : Drawing = next_drawn M N p d f in
-    let E : Drawing = fold (next_drawn M N p) (next_drawn M N p d f) fs in
-    let g = gone M N p d f fs n w in
-    let r : AllGone (next_drawn M N p d f) (fold (next_drawn M N p) (next_drawn M N p d f) fs) (ops_from M N p (next_drawn M N p d f) fs) n = all_go M N p (next_drawn M N p d f) fs n (drawable_on M N p d f fs n w) in
+all_go p d (f ∷ fs) n w =
+    let D : Drawing = next_drawn p d f in
+    let E : Drawing = fold (next_drawn p) (next_drawn p d f) fs in
+    let g = gone p d f fs n w in
+    let r : AllGone (next_drawn p d f) (fold (next_drawn p) (next_drawn p d f) fs) (ops_from p (next_drawn p d f) fs) n = all_go p (next_drawn p d f) fs n (drawable_on p d f fs n w) in
     record {
-      leads = leads_on d.model D.model E.model (face_ops p f (drawn_pairs M N p f) d) (ops_from M N p (next_drawn M N p d f) fs) g.leads r.leads;
+      leads = leads_on d.model D.model E.model (face_ops p f.face f.pairs d) (ops_from p (next_drawn p d f) fs) g.leads r.leads;
       sound = r.sound;
       stays = stays_on d.model D.model E.model g.drawn.stays r.stays;
       fresh = r.fresh;
@@ -112,35 +112,33 @@ all_go M N p d (f ∷ fs) n w =
 
 -- ---- the drawing
 
-module _ (M : Model) (p : Plane) (g : Growing) (fs : List ℕ) (can : CanBeDrawn M p g fs) where
-  abbrev start_of : Drawing
-  start_of = record { model = g.model; taken = g.taken; left = []; stuck = 0 }
-
-  pub drawable : Drawable M g.model p start_of fs 0
+module _ (g : Growing) (fs : List FacePairs) (can : CanBeDrawn g fs) where
+  pub drawable : Drawable (undrawn g) fs 0
   drawable = record {
     sound = can.sound;
     fresh = can.fresh;
-    room = subst (PairsHaveRoom g.taken) (let s : pairs_in M g.model p fs ≡ pairs_in M g.model p fs + 0 = omega arith in s) can.room;
+    room = subst (PairsHaveRoom g.taken) (let s : pairs_in fs ≡ pairs_in fs + 0 = omega arith in s) can.room;
     fit = can.fit;
     apart = can.apart;
   }
 
-  all : AllGone start_of (faces_drawn M p g fs) (ops_from M g.model p start_of fs) 0
-  all = all_go M g.model p start_of fs 0 drawable
+module _ (p : Plane) (g : Growing) (fs : List FacePairs) (can : CanBeDrawn g fs) where
+  all : AllGone (undrawn g) (faces_drawn p (undrawn g) fs) (ops_from p (undrawn g) fs) 0
+  all = all_go p (undrawn g) fs 0 (drawable g fs can)
 
-  pub drawing_accepted : AreAccepted g.model (drawing_ops M p g fs)
+  pub drawing_accepted : AreAccepted g.model (drawing_ops p g fs)
   unfolding drawing_ops
   drawing_accepted = all.leads.accepted
 
-  pub drawing_made : effects g.model (drawing_ops M p g fs) ≡ (faces_drawn M p g fs).model
+  pub drawing_made : effects g.model (drawing_ops p g fs) ≡ (faces_drawn p (undrawn g) fs).model
   unfolding drawing_ops
   drawing_made = all.leads.made
 
-  pub drawing_sound : Sound (faces_drawn M p g fs).model
+  pub drawing_sound : Sound (faces_drawn p (undrawn g) fs).model
   drawing_sound = all.sound
 
-  pub drawing_stays : Stays g.model (faces_drawn M p g fs).model
+  pub drawing_stays : Stays g.model (faces_drawn p (undrawn g) fs).model
   drawing_stays = all.stays
 
-  pub drawing_fresh : Fresh (faces_drawn M p g fs).model (faces_drawn M p g fs).taken
+  pub drawing_fresh : Fresh (faces_drawn p (undrawn g) fs).model (faces_drawn p (undrawn g) fs).taken
   drawing_fresh = all.fresh

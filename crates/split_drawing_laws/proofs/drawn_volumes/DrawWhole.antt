@@ -1,5 +1,5 @@
 -- The faces that straddle drawn: from the first conditions of a split to planes and volumes.
-use Rattle.std.proofs.Common.{◌≡◌, ℕ, true, ◌&&◌, List, [], None, sym, ◌∙◌, subst}
+use Rattle.std.proofs.Common.{◌≡◌, ℕ, true, ◌&&◌, List, None, sym, ◌∙◌, subst}
 use Rattle.euler_operators.specs.declared.Plane.{Plane}
 use Rattle.euler_operators.specs.Items.{IsIn}
 use Rattle.euler_operators.specs.Model.{Model, solid_of, faces_of}
@@ -8,12 +8,13 @@ use Rattle.euler_operators.specs.Conditions.{first_refusal, lists}
 use Rattle.shapes.specs.Measure.{plane_of, is_flat, six_volume}
 use Rattle.shapes.specs.split.Sides.{straddling_faces}
 use Rattle.shapes.specs.split.Crossings.{with_crossings}
-use Rattle.shapes.specs.split.Drawing.{Drawing, faces_drawn, with_drawings}
+use Rattle.shapes.specs.split.Drawing.{faces_drawn, undrawn, straddling_pairs, with_drawings}
 use Rattle.shapes.specs.split.Split.{first_conditions}
 use Rattle.split_drawing_laws.proofs.crossings.Places.{face_facts}
 use Rattle.split_drawing_laws.proofs.crossings.Whole.{crossings_sound}
 use Rattle.split_drawing_laws.proofs.pairs.Whole.{can_be_drawn}
 use Rattle.split_drawing_laws.specs.drawings.Laws.{CanBeDrawn}
+use Rattle.split_drawing_laws.proofs.drawings.Counted.{faces_are}
 use Rattle.split_drawing_laws.proofs.drawings.Whole.{drawable, drawing_sound}
 use Rattle.split_drawing_laws.specs.drawn_volumes.Laws.{LiesOnOld}
 use Rattle.split_drawing_laws.proofs.drawn_volumes.Bounds.{OnFace, on_face, face_on}
@@ -29,7 +30,7 @@ module _ (M : Model) (s : ℕ) (p : Plane) (t : ℕ) (sound : Sound M) (accepted
   N = (with_crossings M s p).model
 
   abbrev D : Model
-  D = (faces_drawn M p (with_crossings M s p) (straddling_faces M p s)).model
+  D = (faces_drawn p (undrawn (with_crossings M s p)) (straddling_pairs M s p)).model
 
   abbrev fs : List ℕ
   fs = straddling_faces M p s
@@ -37,11 +38,11 @@ module _ (M : Model) (s : ℕ) (p : Plane) (t : ℕ) (sound : Sound M) (accepted
   N_sound : Sound N
   N_sound = crossings_sound M s p t sound accepted
 
-  can : CanBeDrawn M p (with_crossings M s p) fs
+  can : CanBeDrawn (with_crossings M s p) (straddling_pairs M s p)
   can = can_be_drawn M s p t sound accepted
 
   D_sound : Sound D
-  D_sound = drawing_sound M p (with_crossings M s p) fs can
+  D_sound = drawing_sound p (with_crossings M s p) (straddling_pairs M s p) can
 
   same_faces : N.faces ≡ M.faces
   same_faces = (crossings_measured M s p t sound accepted).faces
@@ -68,11 +69,9 @@ module _ (M : Model) (s : ℕ) (p : Plane) (t : ℕ) (sound : Sound M) (accepted
   of_s : (f : ℕ) → IsIn f fs → Has N.faces f × (solid_of N f ≡ s)
   of_s f i = let w = face_facts M s p t sound accepted f i in (subst (λ x. Has x f) (sym same_faces) w.0, solid_stays M N same_faces f ∙ w.1)
 
-  abbrev begun : Drawing
-  begun = record { model = N; taken = (with_crossings M s p).taken; left = []; stuck = 0 }
-
   spread : Spread N D s
-  spread = all_spread N s M p lies_flat begun fs 0 (drawable M p (with_crossings M s p) fs can) of_s (nothing_spread N s)
+  spread = all_spread N s p lies_flat (undrawn (with_crossings M s p)) (straddling_pairs M s p) 0 (drawable (with_crossings M s p) (straddling_pairs M s p) can)
+      (λ f i. of_s f (subst (IsIn f) (faces_are M N p fs) i)) (nothing_spread N s)
 
   lies_now : (f : ℕ) → IsIn f (faces_of D s) → LiesOnOld M D s f
   lies_now f i =

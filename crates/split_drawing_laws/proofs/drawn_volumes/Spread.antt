@@ -1,7 +1,7 @@
 -- Faces drawn one after the other: volumes stay, and each face of the solid lies on the planes of one that was there before.
 use Rattle.std.proofs.Common.{◌≡◌, ℕ, ◌+◌, Bool, true, false, cond, nat_eq, nat_lt, ◌&&◌, List, [], ◌∷◌, length, None, refl, sym, ◌∙◌, subst, arith}
 use Rattle.std.proofs.lemmas.Bool.{eqb-true}
-use Rattle.std.specs.Prelude.{fold}
+use Rattle.std.specs.Prelude.{fold, map}
 use Rattle.euler_operators.specs.declared.Plane.{Plane}
 use Rattle.euler_operators.specs.Items.{IsIn}
 use Rattle.euler_operators.proofs.Lists.{tick_same}
@@ -13,7 +13,7 @@ use Rattle.euler_operators.specs.Conditions.{has_rings}
 use Rattle.shapes.specs.Faces.{vertices_on}
 use Rattle.shapes.specs.Measure.{six_volume}
 use Rattle.shapes.specs.split.Sides.{some_above}
-use Rattle.shapes.specs.split.Drawing.{Drawing, stuck_at, all_joined, ring_free, all_drawn, rings_above, with_rings, drawn_between, drawn_pairs, next_drawn}
+use Rattle.shapes.specs.split.Drawing.{Drawing, stuck_at, all_joined, ring_free, all_drawn, rings_above, with_rings, drawn_between, FacePairs, next_drawn}
 use Rattle.split_drawing_laws.specs.drawings.Pairs.{pairs_in}
 use Rattle.split_drawing_laws.specs.drawings.Passing.{Ready, Drawable}
 use Rattle.split_drawing_laws.proofs.drawings.Faces.{begun_joining, joins, going, going_on, fitting_on, last, newer_face}
@@ -110,18 +110,19 @@ module _ (B : Model) (s : ℕ) where
           let none : table.get X.faces g ≡ None = no_row (table.get X.faces g) e in
           record { face = c.face; there = c.there; solid = c.solid; own = λ was. absurd (never_free X g (a.there g was) none); on = λ t on. w.news g there none t (c.on t on) }
 
-  module _ (M : Model) (p : Plane) (flat : (f : ℕ) → Has B.faces f → solid_of B f ≡ s → LiesFlat B f) where
-    next_spread : (d : Drawing) (f : ℕ) (fs : List ℕ) (n : ℕ) → Drawable M B p d (f ∷ fs) n → Has B.faces f → solid_of B f ≡ s → Spread B d.model s → Spread B (next_drawn M B p d f).model s
-    next_spread d f fs n w was of_s a =
+  module _ (p : Plane) (flat : (f : ℕ) → Has B.faces f → solid_of B f ≡ s → LiesFlat B f) where
+    next_spread : (d : Drawing) (q : FacePairs) (qs : List FacePairs) (n : ℕ) → Drawable d (q ∷ qs) n → Has B.faces q.face → solid_of B q.face ≡ s → Spread B d.model s → Spread B (next_drawn p d q).model s
+    next_spread d q qs n w was of_s a =
+        let f : ℕ = q.face in
         let there : Has d.model.faces f = a.there f was in
         let solid : solid_of d.model f ≡ s = a.old_solid f was ∙ of_s in
         let c : Comes B d.model s f = a.origin f there solid in
         let r : LiesFlat B c.face = flat c.face c.there c.solid in
-        spread_on d.model (next_drawn M B p d f).model f there solid (subst (λ x. Within d.model x.model f) (sym (next_is M B p d f fs n w))
-        (face_within p f (drawn_pairs M B p f) d (pairs_in M B p fs + n) (ready M B p d f fs n w) there r.plane r.some (c.on r.plane r.on))) a
+        spread_on d.model (next_drawn p d q).model f there solid (subst (λ x. Within d.model x.model f) (sym (next_is p d q qs n w))
+        (face_within p f q.pairs d (pairs_in qs + n) (ready p d q qs n w) there r.plane r.some (c.on r.plane r.on))) a
 
-    pub all_spread : (d : Drawing) (fs : List ℕ) (n : ℕ) → Drawable M B p d fs n → ((f : ℕ) → IsIn f fs → Has B.faces f × (solid_of B f ≡ s)) → Spread B d.model s → Spread B (fold (next_drawn M B p) d fs).model s
+    pub all_spread : (d : Drawing) (qs : List FacePairs) (n : ℕ) → Drawable d qs n → ((f : ℕ) → IsIn f (map (λ q. q.face) qs) → Has B.faces f × (solid_of B f ≡ s)) → Spread B d.model s → Spread B (fold (next_drawn p) d qs).model s
     all_spread d [] n w of a = a
-    all_spread d (f ∷ fs) n w of a =
-        let here = of f (omega (arith, tick_same f)) in
-        all_spread (next_drawn M B p d f) fs n (drawable_on M B p d f fs n w) (λ g i. of g (omega (arith, i))) (next_spread d f fs n w here.0 here.1 a)
+    all_spread d (q ∷ qs) n w of a =
+        let here = of q.face (omega (arith, tick_same q.face)) in
+        all_spread (next_drawn p d q) qs n (drawable_on p d q qs n w) (λ g i. of g (omega (arith, i))) (next_spread d q qs n w here.0 here.1 a)

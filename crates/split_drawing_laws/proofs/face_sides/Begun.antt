@@ -25,7 +25,7 @@ use Rattle.shapes.specs.Faces.{start, finish, least_lone, boundary, vertices_on}
 use Rattle.shapes.specs.split.Sides.{some_above, reaches_above, straddling_faces}
 use Rattle.shapes.specs.split.Places.{is_place, places}
 use Rattle.shapes.specs.split.Crossings.{with_crossings}
-use Rattle.shapes.specs.split.Drawing.{from_place, drawn_pairs}
+use Rattle.shapes.specs.split.Drawing.{from_place, drawn_pairs, all_pairs}
 use Rattle.shapes.specs.split.Split.{first_conditions}
 use Rattle.split_drawing_laws.specs.crossings.Kept.{Kept}
 use Rattle.split_drawing_laws.specs.crossings.Laws.{CanBegin}
@@ -50,7 +50,7 @@ fits_old : (N : Model) (f : ℕ) (qs : List (ℕ × ℕ)) → AllFit N f qs → 
 fits_old N f [] w = tt
 fits_old N f (q ∷ qs) w = ((w.0.u_there, w.0.k_there), fits_old N f qs w.1)
 
-face_fits : (M N : Model) (p : Plane) (f : ℕ) (gs : List ℕ) → FacesFit N M N p gs → IsIn f gs → AllFit N f (drawn_pairs M N p f) × LoneInOneLoop N (drawn_pairs M N p f)
+face_fits : (M N : Model) (p : Plane) (f : ℕ) (gs : List ℕ) → FacesFit N (all_pairs M N p gs) → IsIn f gs → AllFit N f (drawn_pairs M N p f) × LoneInOneLoop N (drawn_pairs M N p f)
 face_fits M N p f [] w i = absurd (omega (arith, i))
 face_fits M N p f (g ∷ gs) w i = elim (eqb_tells f g) [
   | inl e ↦ subst (λ h. AllFit N h (drawn_pairs M N p h) × LoneInOneLoop N (drawn_pairs M N p h)) (sym e.1) w.0

@@ -1,5 +1,5 @@
 -- From the first conditions of a split to the sides of its loops and faces.
-use Rattle.std.proofs.Common.{◌≡◌, ℕ, Bool, true, false, not, nat_eq, ◌&&◌, ◌||◌, List, [], ◌∷◌, is_some, unwrap_or, refl, sym, ap, ◌∙◌, subst, arith, inl, inr}
+use Rattle.std.proofs.Common.{◌≡◌, ℕ, Bool, true, false, not, nat_eq, ◌&&◌, ◌||◌, List, [], ◌∷◌, map, is_some, unwrap_or, refl, sym, ap, ◌∙◌, subst, arith, inl, inr}
 use Rattle.std.proofs.lemmas.Bool.Decides.{eqb_tells}
 use Rattle.std.proofs.lemmas.Bool.{eq-eqb, eqb-true}
 use Rattle.euler_operators.specs.declared.Plane.{Plane}
@@ -17,7 +17,7 @@ use Rattle.euler_laws.proofs.shared.Fans.{half_face}
 use Rattle.shapes.specs.Faces.{start, loops_of, vertices_on, vertices_in, corners}
 use Rattle.shapes.specs.split.Sides.{straddles, straddling_faces, reaches_above, reaches_below}
 use Rattle.shapes.specs.split.Crossings.{with_crossings}
-use Rattle.shapes.specs.split.Drawing.{Drawing, faces_drawn, with_drawings}
+use Rattle.shapes.specs.split.Drawing.{all_pairs, faces_drawn, undrawn, straddling_pairs, with_drawings}
 use Rattle.split_drawing_laws.specs.crossings.Laws.{CanBegin}
 use Rattle.split_drawing_laws.proofs.crossings.Places.{face_facts}
 use Rattle.split_drawing_laws.proofs.crossings.Premises.{faces_not_zero}
@@ -38,7 +38,8 @@ use Rattle.split_drawing_laws.proofs.drawn_volumes.Bounds.{lone_there}
 use Rattle.split_drawing_laws.proofs.face_sides.Begun.{sided_first, pairs_of}
 use Rattle.split_drawing_laws.proofs.face_sides.OneFace.{IsSided}
 use Rattle.split_drawing_laws.proofs.face_sides.Same.{none_from}
-use Rattle.split_drawing_laws.proofs.face_sides.Stages.{Stage, all_done}
+use Rattle.split_drawing_laws.proofs.face_sides.Stages.{Stage, AllPairsOf, all_done}
+use Rattle.split_drawing_laws.proofs.drawings.Counted.{faces_are}
 use Rattle.euler_laws.proofs.shared.Counted.{none_counted, all_where_has}
 
 cycle_of_items : (c : LoopContent) (zs : List ℕ) → c ≡ cycle zs → c ≡ cycle (items_of c)
@@ -63,7 +64,7 @@ tail_in D v (l ∷ ls) cycles i = elim (IsIn_or_not v (vertices_on D (content D 
       record { half = r.half; loop = r.loop; loop_in = omega (arith, r.loop_in); half_in = r.half_in; is = r.is }
 ]
 
-module _ (M : Model) (s : ℕ) (p : Plane) (t : ℕ) (sound : Sound M) (begins : CanBegin M s p t) (ends : (faces_drawn M p (with_crossings M s p) (straddling_faces M p s)).stuck ≡ 0) where
+module _ (M : Model) (s : ℕ) (p : Plane) (t : ℕ) (sound : Sound M) (begins : CanBegin M s p t) (ends : (faces_drawn p (undrawn (with_crossings M s p)) (straddling_pairs M s p)).stuck ≡ 0) where
   abbrev N : Model
   N = (with_crossings M s p).model
 
@@ -74,22 +75,22 @@ module _ (M : Model) (s : ℕ) (p : Plane) (t : ℕ) (sound : Sound M) (begins :
   side = side_of M s p
 
   abbrev D : Model
-  D = (faces_drawn M p (with_crossings M s p) (straddling_faces M p s)).model
+  D = (faces_drawn p (undrawn (with_crossings M s p)) (straddling_pairs M s p)).model
 
   N_sound : Sound N
   N_sound = crossings_sound M s p t sound begins
 
-  can : CanBeDrawn M p (with_crossings M s p) fs
+  can : CanBeDrawn (with_crossings M s p) (straddling_pairs M s p)
   can = can_be_drawn M s p t sound begins
 
   D_sound : Sound D
-  D_sound = drawing_sound M p (with_crossings M s p) fs can
+  D_sound = drawing_sound p (with_crossings M s p) (straddling_pairs M s p) can
 
-  sides : TakeSides M p (with_crossings M s p) fs side (is_own M s p)
+  sides : TakeSides p (with_crossings M s p) (straddling_pairs M s p) side (is_own M s p)
   sides = take_sides M s p t sound begins
 
   parted : Parted N D p side (λ h. is_own M s p h ≡ true) []
-  parted = all_drawn_parted M p (with_crossings M s p) fs side (is_own M s p) can sides ends
+  parted = all_drawn_parted p (with_crossings M s p) (straddling_pairs M s p) side (is_own M s p) can sides ends
 
   -- ---- the faces, from the first one drawn to the last
 
@@ -105,11 +106,16 @@ module _ (M : Model) (s : ℕ) (p : Plane) (t : ℕ) (sound : Sound M) (begins :
     to_do = λ f i. record { there = straddling_there f i; row = refl; loops = λ q there at. refl };
   }
 
-  abbrev begun : Drawing
-  begun = record { model = N; taken = (with_crossings M s p).taken; left = []; stuck = 0 }
+  pairs_here : (gs : List ℕ) → ((f : ℕ) → IsIn f gs → IsIn f fs) → AllPairsOf N side p (all_pairs M N p gs)
+  pairs_here [] within = tt
+  pairs_here (g ∷ gs) within = (pairs_of M s p t sound begins g (within g (omega (arith, tick_same g))), pairs_here gs (λ f i. within f (omega (arith, i))))
+
+  face_in : (f : ℕ) → IsIn f (map (λ q. q.face) (all_pairs M N p fs)) → IsIn f fs
+  face_in f i = subst (IsIn f) (faces_are M N p fs) i
 
   stage : Stage N D side s fs []
-  stage = all_done M N side s fs p N_sound begun fs 0 (drawable M p (with_crossings M s p) fs can) (λ f i. faces_not_zero M sound s p f i) (λ f i. i) (λ f i. pairs_of M s p t sound begins f i) ends none_done
+  stage = all_done N side s fs p N_sound (undrawn (with_crossings M s p)) (straddling_pairs M s p) 0 (drawable (with_crossings M s p) (straddling_pairs M s p) can) (λ f i. faces_not_zero M sound s p f (face_in f i)) face_in (pairs_here fs (λ f i. i)) ends
+      (subst (Stage N N side s fs) (sym (faces_are M N p fs)) none_done)
 
   -- ---- the half-edges of the solid
 
@@ -127,7 +133,7 @@ module _ (M : Model) (s : ℕ) (p : Plane) (t : ℕ) (sound : Sound M) (begins :
     go true e = ap (λ b. not b || nat_eq (solid_of N (face_at N h)) s) e ∙ eq-eqb (solid_of N (face_at N h)) s (own_before h e of_s)
 
   pub loops_are_sided : (x y : ℕ) → HasHalf D x → HasHalf D y → loop_of D x ≡ loop_of D y → solid_of D (face_at D x) ≡ s → (b : Bool) × LiesOn p b (start D x) × LiesOn p b (start D y)
-  loops_are_sided x y xt yt same of_s = loops_on_one_side M p (with_crossings M s p) fs side (is_own M s p) can sides ends x y xt yt same
+  loops_are_sided x y xt yt same of_s = loops_on_one_side p (with_crossings M s p) (straddling_pairs M s p) side (is_own M s p) can sides ends x y xt yt same
       (is_own_then x of_s) (is_own_then y (ap (λ q. solid_of D (face_of D q)) (sym same) ∙ of_s))
 
   -- ---- the corners of a face of the solid
@@ -202,7 +208,7 @@ loops_lie M D s p t sound begins drawn = subst (λ X. (x y : ℕ) → HasHalf X 
 pub none_straddles : (M D : Model) (s : ℕ) (p : Plane) (t : ℕ) → Sound M → CanBegin M s p t → IsDrawn M s p D → (f : ℕ) → lists (faces_of D s) f ≡ true → straddles D p f ≡ false
 unfolding with_drawings solid_of
 none_straddles M D s p t sound begins drawn = subst (λ X. (f : ℕ) → lists (faces_of X s) f ≡ true → straddles X p f ≡ false) drawn.1 (λ f i.
-    let X : Model = (faces_drawn M p (with_crossings M s p) (straddling_faces M p s)).model in
+    let X : Model = (faces_drawn p (undrawn (with_crossings M s p)) (straddling_pairs M s p)).model in
     let w = all_where_has (λ _ row. nat_eq row.solid s) X.faces f (IsIn-from_listed f (faces_of X s) i) in
     face_is_sided M s p t sound begins drawn.0 f (ap is_some w.1) (ap (λ o. (unwrap_or o no_face).solid) w.1 ∙ eqb-true w.0.solid s w.2))
 

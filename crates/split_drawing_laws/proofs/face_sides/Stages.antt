@@ -1,6 +1,6 @@
 -- Faces drawn one after the other: those that are done lie each on one side, and the others are as they were.
 use Rattle.std.proofs.Common.{◌≡◌, ◌≢◌, ℕ, ◌+◌, Bool, true, false, List, [], ◌∷◌, is_some, refl, sym, ap, ◌∙◌, subst, arith, inl, inr}
-use Rattle.std.specs.Prelude.{fold}
+use Rattle.std.specs.Prelude.{fold, map}
 use Rattle.std.proofs.lemmas.Bool.Decides.{eqb_tells}
 use Rattle.euler_operators.specs.declared.Plane.{Plane}
 use Rattle.euler_operators.specs.Items.{count, IsIn}
@@ -11,7 +11,7 @@ use Rattle.euler_operators.specs.Table as table
 use Rattle.euler_operators.specs.Model.{Model, face_of, solid_of}
 use Rattle.euler_operators.specs.Sound.{Sound, Has, HasHalf}
 use Rattle.euler_operators.specs.Conditions.{face_at}
-use Rattle.shapes.specs.split.Drawing.{Drawing, drawn_pairs, next_drawn}
+use Rattle.shapes.specs.split.Drawing.{Drawing, FacePairs, next_drawn}
 use Rattle.split_drawing_laws.specs.drawings.DrawnIn.{Stays, DrawnIn}
 use Rattle.split_drawing_laws.specs.drawings.Pairs.{pairs_in}
 use Rattle.split_drawing_laws.specs.drawings.Passing.{Ready, Drawable}
@@ -30,27 +30,38 @@ pub record Stage (B X : Model) (side : ℕ → Bool) (s : ℕ) (all rest : List 
   pub done : (g : ℕ) → Has X.faces g → solid_of X g ≡ s → count g rest ≡ 0 → IsSided B X side g
   pub to_do : (f : ℕ) → IsIn f rest → Untouched B X f
 
-module _ (M B : Model) (side : ℕ → Bool) (s : ℕ) (all : List ℕ) (p : Plane) (sound : Sound B) where
-  module _ (d : Drawing) (f : ℕ) (fs : List ℕ) (n : ℕ) (w : Drawable M B p d (f ∷ fs) n) (some : f ≢ 0) (of_all : IsIn f all) (pairs : PairsOf B side p f (drawn_pairs M B p f))
-      (not_stuck_now : (next_drawn M B p d f).stuck ≡ 0) (a : Stage B d.model side s all (f ∷ fs)) where
+-- the pairs of each of some faces are such pairs
+abbrev pub AllPairsOf : Model → (ℕ → Bool) → Plane → List FacePairs → Type 0
+AllPairsOf B side p [] = Unit {0}
+AllPairsOf B side p (q ∷ qs) = PairsOf B side p q.face q.pairs × AllPairsOf B side p qs
+
+module _ (B : Model) (side : ℕ → Bool) (s : ℕ) (all : List ℕ) (p : Plane) (sound : Sound B) where
+  module _ (d : Drawing) (q : FacePairs) (qs : List FacePairs) (n : ℕ) (w : Drawable d (q ∷ qs) n) (some : q.face ≢ 0) (of_all : IsIn q.face all) (pairs : PairsOf B side p q.face q.pairs)
+      (not_stuck_now : (next_drawn p d q).stuck ≡ 0) (a : Stage B d.model side s all (q.face ∷ map (λ q. q.face) qs)) where
+    abbrev f : ℕ
+    f = q.face
+
+    abbrev fs : List ℕ
+    fs = map (λ q. q.face) qs
+
     abbrev X : Model
     X = d.model
 
     abbrev Y : Model
-    Y = (next_drawn M B p d f).model
+    Y = (next_drawn p d q).model
 
     f_in : IsIn f (f ∷ fs)
     f_in = omega (arith, tick_same f)
 
-    now : Ready p f (drawn_pairs M B p f) d (pairs_in M B p fs + n)
-    now = ready M B p d f fs n w
+    now : Ready p f q.pairs d (pairs_in qs + n)
+    now = ready p d q qs n w
 
     drawn : DrawnIn X Y f
-    drawn = subst (λ x. DrawnIn X x.model f) (sym (next_is M B p d f fs n w)) (face_goes p f (drawn_pairs M B p f) d (pairs_in M B p fs + n) now).drawn
+    drawn = subst (λ x. DrawnIn X x.model f) (sym (next_is p d q qs n w)) (face_goes p f q.pairs d (pairs_in qs + n) now).drawn
 
     face : FaceDone B X Y side f
-    face = subst (λ x. FaceDone B X x.model side f) (sym (next_is M B p d f fs n w))
-        (face_done B side p f (drawn_pairs M B p f) d (pairs_in M B p fs + n) now sound a.stays (a.to_do f f_in) pairs some (ap (λ x. x.stuck) (sym (next_is M B p d f fs n w)) ∙ not_stuck_now))
+    face = subst (λ x. FaceDone B X x.model side f) (sym (next_is p d q qs n w))
+        (face_done B side p f q.pairs d (pairs_in qs + n) now sound a.stays (a.to_do f f_in) pairs some (ap (λ x. x.stuck) (sym (next_is p d q qs n w)) ∙ not_stuck_now))
 
     -- another face lies where it did
     lies_still : (g : ℕ) (b : Bool) → g ≢ f → Has X.faces g → LiesOnSide B X side g b → LiesOnSide B Y side g b
@@ -101,10 +112,10 @@ module _ (M B : Model) (side : ℕ → Bool) (s : ℕ) (all : List ℕ) (p : Pla
       to_do = to_do_then;
     }
 
-  pub all_done : (d : Drawing) (fs : List ℕ) (n : ℕ) → Drawable M B p d fs n → ((f : ℕ) → IsIn f fs → f ≢ 0) → ((f : ℕ) → IsIn f fs → IsIn f all) → ((f : ℕ) → IsIn f fs → PairsOf B side p f (drawn_pairs M B p f)) →
-      (fold (next_drawn M B p) d fs).stuck ≡ 0 → Stage B d.model side s all fs → Stage B (fold (next_drawn M B p) d fs).model side s all []
+  pub all_done : (d : Drawing) (qs : List FacePairs) (n : ℕ) → Drawable d qs n → ((f : ℕ) → IsIn f (map (λ q. q.face) qs) → f ≢ 0) → ((f : ℕ) → IsIn f (map (λ q. q.face) qs) → IsIn f all) → AllPairsOf B side p qs →
+      (fold (next_drawn p) d qs).stuck ≡ 0 → Stage B d.model side s all (map (λ q. q.face) qs) → Stage B (fold (next_drawn p) d qs).model side s all []
   all_done d [] n w some within pairs ends a = a
-  all_done d (f ∷ fs) n w some within pairs ends a =
-      let i : IsIn f (f ∷ fs) = omega (arith, tick_same f) in
-      all_done (next_drawn M B p d f) fs n (drawable_on M B p d f fs n w) (λ g j. some g (omega (arith, j))) (λ g j. within g (omega (arith, j))) (λ g j. pairs g (omega (arith, j))) ends
-      (stage_on d f fs n w (some f i) (within f i) (pairs f i) (not_stuck M B p (next_drawn M B p d f) fs ends) a)
+  all_done d (q ∷ qs) n w some within pairs ends a =
+      let i : IsIn q.face (q.face ∷ map (λ q. q.face) qs) = omega (arith, tick_same q.face) in
+      all_done (next_drawn p d q) qs n (drawable_on p d q qs n w) (λ g j. some g (omega (arith, j))) (λ g j. within g (omega (arith, j))) pairs.1 ends
+      (stage_on d q qs n w (some q.face i) (within q.face i) pairs.0 (not_stuck p (next_drawn p d q) qs ends) a)

@@ -22,13 +22,13 @@ use Rattle.euler_laws.proofs.shared.Listed.{IsIn-from_listed, listed-from_in}
 use Rattle.shapes.specs.Faces.{start, finish, corners, edges_of}
 use Rattle.shapes.specs.split.Sides.{crosses, straddles, straddling_faces, reaches_above, reaches_below}
 use Rattle.shapes.specs.split.Crossings.{with_crossings}
-use Rattle.shapes.specs.split.Drawing.{drawn_pairs}
+use Rattle.shapes.specs.split.Drawing.{drawn_pairs, all_pairs, straddling_pairs}
 use Rattle.split_drawing_laws.specs.crossings.Laws.{CanBegin}
 use Rattle.split_drawing_laws.proofs.crossings.Listed.{any_passes, tail_in_face}
 use Rattle.split_drawing_laws.proofs.crossings.Places.{face_facts}
 use Rattle.split_drawing_laws.proofs.crossings.Premises.{faces_not_zero}
 use Rattle.split_drawing_laws.proofs.crossings.Whole.{crossings_sound, same_solid, none_crosses}
-use Rattle.split_drawing_laws.proofs.drawings.Counted.{straddling_apart}
+use Rattle.split_drawing_laws.proofs.drawings.Counted.{straddling_apart, faces_are}
 use Rattle.split_drawing_laws.specs.loop_sides.Laws.{TakeSides}
 use Rattle.split_drawing_laws.specs.loop_sides.Parted.{LiesOn, FacesCross, ends, all_ends}
 use Rattle.split_drawing_laws.specs.half_sides.HalfSides.{half_is_above, side_of, is_own}
@@ -145,7 +145,7 @@ module _ (M : Model) (s : ℕ) (p : Plane) (t : ℕ) (sound : Sound M) (begins :
   -- ---- what follows a half-edge
 
   -- a half-edge of the pairs starts on the plane, in a face that straddles
-  place_facts : (y : ℕ) → IsIn y (all_ends M N p fs) → HasHalf N y × IsIn (face_at N y) fs × (is_on p (start N y) ≡ true)
+  place_facts : (y : ℕ) → IsIn y (all_ends (all_pairs M N p fs)) → HasHalf N y × IsIn (face_at N y) fs × (is_on p (start N y) ≡ true)
   place_facts y j =
       let r = from_all_ends M N p y fs j in
       let w = place_of_end M s p t sound begins r.0 r.1 y r.2 in (
@@ -155,9 +155,9 @@ module _ (M : Model) (s : ℕ) (p : Plane) (t : ℕ) (sound : Sound M) (begins :
       )
 
   abbrev Goes : ℕ → Type 0
-  Goes x = (count (after N x) (all_ends M N p fs) ≡ 0 → side (after N x) ≡ side x) × (IsIn (after N x) (all_ends M N p fs) → side (after N x) ≡ not (side x))
+  Goes x = (count (after N x) (all_ends (all_pairs M N p fs)) ≡ 0 → side (after N x) ≡ side x) × (IsIn (after N x) (all_ends (all_pairs M N p fs)) → side (after N x) ≡ not (side x))
 
-  never_place : (x : ℕ) → (IsIn (after N x) (all_ends M N p fs) → ⊥) → side (after N x) ≡ side x → Goes x
+  never_place : (x : ℕ) → (IsIn (after N x) (all_ends (all_pairs M N p fs)) → ⊥) → side (after N x) ≡ side x → Goes x
   never_place x never same = ((λ z. same), (λ i. absurd (never i)))
 
   module _ (x : ℕ) (there : HasHalf N x) where
@@ -197,7 +197,7 @@ module _ (M : Model) (s : ℕ) (p : Plane) (t : ℕ) (sound : Sound M) (begins :
       goes_on : is_on p (start N (after N x)) ≡ true → Goes x
       goes_on on =
           let w : TurnAt M N p x = turn_at M s p t sound begins x there on i in
-          let in_ends : IsIn (after N x) (all_ends M N p fs) = in_all_ends M N p (face_at N (after N x)) (after N x) fs i
+          let in_ends : IsIn (after N x) (all_ends (all_pairs M N p fs)) = in_all_ends M N p (face_at N (after N x)) (after N x) fs i
           (subst (λ y. IsIn y (ends (drawn_pairs M N p (face_at N (after N x))))) w.is (place_in_ends M s p t sound begins (face_at N (after N x)) i w.place w.of_face)) in
           let changes : side (after N x) ≡ not (side x) = side_next
           ∙ side_changed (height p (start N x)) (height p (start N (after N x))) (height p (finish N (after N x))) on w.across
@@ -213,7 +213,7 @@ module _ (M : Model) (s : ℕ) (p : Plane) (t : ℕ) (sound : Sound M) (begins :
 
   -- ---- all
 
-  faces_cross : (gs : List ℕ) → ((f : ℕ) → IsIn f gs → IsIn f fs) → FacesCross N p side M N gs
+  faces_cross : (gs : List ℕ) → ((f : ℕ) → IsIn f gs → IsIn f fs) → FacesCross N p side (all_pairs M N p gs)
   faces_cross [] within = tt
   faces_cross (g ∷ gs) within = (pairs_cross M s p t sound begins g (within g (omega (arith, tick_same g))), faces_cross gs (λ f i. within f (omega (arith, i))))
 
@@ -223,9 +223,9 @@ module _ (M : Model) (s : ℕ) (p : Plane) (t : ℕ) (sound : Sound M) (begins :
       let w = place_of_end M s p t sound begins g j y b in
       sym (place_face M s p t sound begins f i v.0 v.1) ∙ ap (face_at N) (sym v.2 ∙ w.2) ∙ place_face M s p t sound begins g j w.0 w.1
 
-  pub take_sides : TakeSides M p (with_crossings M s p) (straddling_faces M p s) (side_of M s p) (is_own M s p)
+  pub take_sides : TakeSides p (with_crossings M s p) (straddling_pairs M s p) (side_of M s p) (is_own M s p)
   take_sides = record {
-    some = λ f i. faces_not_zero M sound s p f i;
+    some = λ f i. faces_not_zero M sound s p f (subst (IsIn f) (faces_are M N p fs) i);
     cross = faces_cross fs (λ f i. i);
     fine = record {
       there = λ x i. (place_facts x i).0;

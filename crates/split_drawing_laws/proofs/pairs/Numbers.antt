@@ -7,6 +7,7 @@ use Rattle.shapes.specs.Fresh.{Taken, Growing, growing, taken_in}
 use Rattle.shapes.specs.split.Sides.{straddling_faces, crossing_edges}
 use Rattle.shapes.specs.split.Places.{pair_count}
 use Rattle.shapes.specs.split.Crossings.{next_cut, all_cut, with_crossings}
+use Rattle.shapes.specs.split.Drawing.{straddling_pairs}
 use Rattle.split_drawing_laws.specs.drawings.DrawnIn.{PairsHaveRoom}
 use Rattle.split_drawing_laws.specs.drawings.Pairs.{pairs_in}
 use Rattle.split_drawing_laws.proofs.drawings.Counted.{pairs_counted}
@@ -41,7 +42,7 @@ module _ (p : Plane) where
     -- room for the pairs that a split counts
     pub pairs_room : Left (taken_in M) (pair_count M p (straddling_faces M p s)) (pair_count M p (straddling_faces M p s))
         (length (crossing_edges M p s) + pair_count M p (straddling_faces M p s)) (length (crossing_edges M p s)) →
-        PairsHaveRoom (with_crossings M s p).taken (pairs_in M (with_crossings M s p).model p (straddling_faces M p s))
+        PairsHaveRoom (with_crossings M s p).taken (pairs_in (straddling_pairs M s p))
     pairs_room left =
         let g = crossings_grown in
         subst (PairsHaveRoom (with_crossings M s p).taken) (sym (pairs_counted M (with_crossings M s p).model p (straddling_faces M p s)))

@@ -16,7 +16,7 @@ use Rattle.shapes.specs.Faces.{loops_of, boundary}
 use Rattle.shapes.specs.split.Sides.{straddles, straddling_faces}
 use Rattle.shapes.specs.split.Places.{is_place, places, loop_is_cut, is_cut_often, sorted, in_pairs, up_first, sorted_pairs, place_pairs}
 use Rattle.shapes.specs.split.Crossings.{with_crossings}
-use Rattle.shapes.specs.split.Drawing.{from_place, drawn_pairs, with_drawings}
+use Rattle.shapes.specs.split.Drawing.{from_place, drawn_pairs, all_pairs, straddling_pairs, with_drawings}
 use Rattle.split_drawing_laws.specs.crossings.AtPlace.{AtPlace}
 use Rattle.split_drawing_laws.specs.crossings.CrossingOps.{crossing_ops}
 use Rattle.split_drawing_laws.specs.crossings.Laws.{CanBegin}
@@ -27,7 +27,7 @@ use Rattle.split_drawing_laws.specs.drawings.DrawingOps.{drawing_ops}
 use Rattle.split_drawing_laws.specs.drawings.DrawnIn.{Fresh}
 use Rattle.split_drawing_laws.specs.drawings.Pairs.{Fits, AllFit, LoneInOneLoop, FacesFit}
 use Rattle.split_drawing_laws.specs.drawings.Laws.{CanBeDrawn}
-use Rattle.split_drawing_laws.proofs.drawings.Counted.{fresh_taken, straddling_apart}
+use Rattle.split_drawing_laws.proofs.drawings.Counted.{fresh_taken, straddling_apart, faces_are}
 use Rattle.split_drawing_laws.proofs.drawings.Whole.{drawing_accepted, drawing_made, drawing_sound}
 use Rattle.split_drawing_laws.specs.pairs.Laws.{rewriting_ops}
 use Rattle.split_drawing_laws.proofs.pairs.Sorted.{count-sorted, sorted_apart, length-sorted}
@@ -117,34 +117,34 @@ module _ (M : Model) (s : ℕ) (p : Plane) (t : ℕ) (sound : Sound M) (begins :
 
   -- ---- all faces
 
-  faces_fit : (fs : List ℕ) → ((f : ℕ) → IsIn f fs → IsIn f (straddling_faces M p s)) → FacesFit N M N p fs
+  faces_fit : (fs : List ℕ) → ((f : ℕ) → IsIn f fs → IsIn f (straddling_faces M p s)) → FacesFit N (all_pairs M N p fs)
   faces_fit [] within = tt
   faces_fit (f ∷ fs) within =
       let i : IsIn f (straddling_faces M p s) = within f (omega (arith, tick_same f)) in
       ((pairs_fit f i, lone_pair f i), faces_fit fs (λ g j. within g (omega (arith, j))))
 
-  pub can_be_drawn : CanBeDrawn M p (with_crossings M s p) (straddling_faces M p s)
+  pub can_be_drawn : CanBeDrawn (with_crossings M s p) (straddling_pairs M s p)
   can_be_drawn = record {
     sound = crossings_sound M s p t sound begins;
     fresh = subst (Fresh N) (sym (crossings_counted M s p t sound begins)) (fresh_taken N);
     room = pairs_room p M s premises.left;
     fit = faces_fit (straddling_faces M p s) (λ f i. i);
-    apart = straddling_apart M p s;
+    apart = subst IsApart (sym (faces_are M N p (straddling_faces M p s))) (straddling_apart M p s);
   }
 
   -- ---- both rewritings
 
   pub rewritings_accepted : AreAccepted M (rewriting_ops M s p)
-  rewritings_accepted = AreAccepted-append M (crossing_ops M s p) (drawing_ops M p (with_crossings M s p) (straddling_faces M p s)) (crossings_accepted M s p t sound begins)
-      (subst (λ X. AreAccepted X (drawing_ops M p (with_crossings M s p) (straddling_faces M p s))) (sym (crossings_made M s p t sound begins))
-      (drawing_accepted M p (with_crossings M s p) (straddling_faces M p s) can_be_drawn))
+  rewritings_accepted = AreAccepted-append M (crossing_ops M s p) (drawing_ops p (with_crossings M s p) (straddling_pairs M s p)) (crossings_accepted M s p t sound begins)
+      (subst (λ X. AreAccepted X (drawing_ops p (with_crossings M s p) (straddling_pairs M s p))) (sym (crossings_made M s p t sound begins))
+      (drawing_accepted p (with_crossings M s p) (straddling_pairs M s p) can_be_drawn))
 
   pub rewritings_made : effects M (rewriting_ops M s p) ≡ (with_drawings M s p).model
   unfolding with_drawings
-  rewritings_made = effects-append M (crossing_ops M s p) (drawing_ops M p (with_crossings M s p) (straddling_faces M p s))
-      ∙ ap (λ X. effects X (drawing_ops M p (with_crossings M s p) (straddling_faces M p s))) (crossings_made M s p t sound begins)
-      ∙ drawing_made M p (with_crossings M s p) (straddling_faces M p s) can_be_drawn
+  rewritings_made = effects-append M (crossing_ops M s p) (drawing_ops p (with_crossings M s p) (straddling_pairs M s p))
+      ∙ ap (λ X. effects X (drawing_ops p (with_crossings M s p) (straddling_pairs M s p))) (crossings_made M s p t sound begins)
+      ∙ drawing_made p (with_crossings M s p) (straddling_pairs M s p) can_be_drawn
 
   pub rewritings_sound : Sound (with_drawings M s p).model
   unfolding with_drawings
-  rewritings_sound = drawing_sound M p (with_crossings M s p) (straddling_faces M p s) can_be_drawn
+  rewritings_sound = drawing_sound p (with_crossings M s p) (straddling_pairs M s p) can_be_drawn

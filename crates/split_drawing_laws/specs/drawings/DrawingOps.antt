@@ -8,7 +8,7 @@ use Rattle.euler_operators.specs.declared.Op.{Op}
 use Rattle.euler_operators.specs.declared.Op.TheVariants.{Mef, Mekr, RingIn}
 use Rattle.euler_operators.specs.Conditions.{face_at}
 use Rattle.shapes.specs.Fresh.{Taken, Growing}
-use Rattle.shapes.specs.split.Drawing.{Drawing, in_one_loop, join_next, all_joined, ring_free, draw_next, all_drawn, rings_above, drawn_pairs, next_drawn}
+use Rattle.shapes.specs.split.Drawing.{Drawing, in_one_loop, join_next, all_joined, ring_free, draw_next, all_drawn, rings_above, FacePairs, next_drawn, undrawn}
 
 -- an edge from the corner of c to that of d, whose loop is a ring
 abbrev pub join_edge : ℕ → ℕ → ℕ → Op
@@ -53,10 +53,10 @@ abbrev pub face_ops : Plane → ℕ → List (ℕ × ℕ) → Drawing → List O
 face_ops p f qs d = join_ops (record d { left = [] }) qs ++ drawn_ops p f qs (ring_free f qs (all_joined qs d))
 
 -- some faces, in their order
-abbrev pub ops_from : Model → Model → Plane → Drawing → List ℕ → List Op
-ops_from M N p d [] = []
-ops_from M N p d (f ∷ fs) = face_ops p f (drawn_pairs M N p f) d ++ ops_from M N p (next_drawn M N p d f) fs
+abbrev pub ops_from : Plane → Drawing → List FacePairs → List Op
+ops_from p d [] = []
+ops_from p d (f ∷ fs) = face_ops p f.face f.pairs d ++ ops_from p (next_drawn p d f) fs
 
 -- what faces_drawn makes, operator by operator
-unfoldable pub drawing_ops : Model → Plane → Growing → List ℕ → List Op
-drawing_ops M p g fs = ops_from M g.model p (record { model = g.model; taken = g.taken; left = []; stuck = 0 }) fs
+unfoldable pub drawing_ops : Plane → Growing → List FacePairs → List Op
+drawing_ops p g fs = ops_from p (undrawn g) fs

@@ -1,35 +1,34 @@
 -- The laws of drawing edges in faces, each over every sound model and all faces whose pairs of half-edges fit.
-use Rattle.std.specs.Prelude.{◌≡◌, ℕ, List}
+use Rattle.std.specs.Prelude.{◌≡◌, List, map}
 use Rattle.euler_operators.specs.declared.Plane.{Plane}
 use Rattle.euler_operators.specs.Items.{IsApart}
-use Rattle.euler_operators.specs.Model.{Model}
 use Rattle.euler_operators.specs.Sound.{Sound}
 use Rattle.euler_laws.specs.Laws.{effects, AreAccepted}
 use Rattle.shapes.specs.Fresh.{Growing}
-use Rattle.shapes.specs.split.Drawing.{faces_drawn}
+use Rattle.shapes.specs.split.Drawing.{FacePairs, faces_drawn, undrawn}
 use Rattle.split_drawing_laws.specs.drawings.DrawingOps.{drawing_ops}
 use Rattle.split_drawing_laws.specs.drawings.DrawnIn.{Stays, Fresh, PairsHaveRoom}
 use Rattle.split_drawing_laws.specs.drawings.Pairs.{FacesFit, pairs_in}
 
--- in the model with its edges cut, that of g, the faces fs can be drawn between their pairs; M is the model before
-pub record CanBeDrawn (M : Model) (p : Plane) (g : Growing) (fs : List ℕ) : Type 0 where
+-- in the model with its edges cut, that of g, the faces fs can be drawn between their pairs
+pub record CanBeDrawn (g : Growing) (fs : List FacePairs) : Type 0 where
   pub sound : Sound g.model
   pub fresh : Fresh g.model g.taken
-  pub room : PairsHaveRoom g.taken (pairs_in M g.model p fs)
-  pub fit : FacesFit g.model M g.model p fs
-  pub apart : IsApart fs
+  pub room : PairsHaveRoom g.taken (pairs_in fs)
+  pub fit : FacesFit g.model fs
+  pub apart : IsApart (map (λ f. f.face) fs)
 
 -- each operator is accepted in its turn
 abbrev pub DrawingsAreAccepted : Type 0
-DrawingsAreAccepted = (M : Model) (p : Plane) (g : Growing) (fs : List ℕ) → CanBeDrawn M p g fs → AreAccepted g.model (drawing_ops M p g fs)
+DrawingsAreAccepted = (p : Plane) (g : Growing) (fs : List FacePairs) → CanBeDrawn g fs → AreAccepted g.model (drawing_ops p g fs)
 
 -- together they make the model of the drawing
 abbrev pub DrawingsAreMade : Type 0
-DrawingsAreMade = (M : Model) (p : Plane) (g : Growing) (fs : List ℕ) → CanBeDrawn M p g fs → effects g.model (drawing_ops M p g fs) ≡ (faces_drawn M p g fs).model
+DrawingsAreMade = (p : Plane) (g : Growing) (fs : List FacePairs) → CanBeDrawn g fs → effects g.model (drawing_ops p g fs) ≡ (faces_drawn p (undrawn g) fs).model
 
 abbrev pub DrawingsAreSound : Type 0
-DrawingsAreSound = (M : Model) (p : Plane) (g : Growing) (fs : List ℕ) → CanBeDrawn M p g fs → Sound (faces_drawn M p g fs).model
+DrawingsAreSound = (p : Plane) (g : Growing) (fs : List FacePairs) → CanBeDrawn g fs → Sound (faces_drawn p (undrawn g) fs).model
 
 -- half-edges stay and start where they did, and vertices and faces stay
 abbrev pub DrawingsKeep : Type 0
-DrawingsKeep = (M : Model) (p : Plane) (g : Growing) (fs : List ℕ) → CanBeDrawn M p g fs → Stays g.model (faces_drawn M p g fs).model
+DrawingsKeep = (p : Plane) (g : Growing) (fs : List FacePairs) → CanBeDrawn g fs → Stays g.model (faces_drawn p (undrawn g) fs).model

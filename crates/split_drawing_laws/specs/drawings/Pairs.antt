@@ -1,10 +1,9 @@
 -- Pairs of half-edges between which edges can be drawn in a face.
 use Rattle.std.specs.Prelude.{◌≡◌, ◌≢◌, ℕ, ◌+◌, true, List, [], ◌∷◌, length}
-use Rattle.euler_operators.specs.declared.Plane.{Plane}
 use Rattle.euler_operators.specs.Model.{Model, tail}
 use Rattle.euler_operators.specs.Sound.{HasHalf}
 use Rattle.euler_operators.specs.Conditions.{face_at}
-use Rattle.shapes.specs.split.Drawing.{in_one_loop, drawn_pairs}
+use Rattle.shapes.specs.split.Drawing.{FacePairs, in_one_loop}
 
 -- the two are of face f and start at different vertices
 pub record Fits (M : Model) (f : ℕ) (q : ℕ × ℕ) : Type 0 where
@@ -24,12 +23,12 @@ LoneInOneLoop M [] = Unit {0}
 LoneInOneLoop M (q ∷ []) = in_one_loop M q ≡ true
 LoneInOneLoop M (q ∷ r ∷ qs) = Unit {0}
 
--- so it is with the pairs of each of some faces, in the model D
-abbrev pub FacesFit : Model → Model → Model → Plane → List ℕ → Type 0
-FacesFit D M N p [] = Unit {0}
-FacesFit D M N p (f ∷ fs) = (AllFit D f (drawn_pairs M N p f) × LoneInOneLoop D (drawn_pairs M N p f)) × FacesFit D M N p fs
+-- so it is with the pairs of each of some faces
+abbrev pub FacesFit : Model → List FacePairs → Type 0
+FacesFit M [] = Unit {0}
+FacesFit M (f ∷ fs) = (AllFit M f.face f.pairs × LoneInOneLoop M f.pairs) × FacesFit M fs
 
 -- how many pairs some faces have
-abbrev pub pairs_in : Model → Model → Plane → List ℕ → ℕ
-pairs_in M N p [] = 0
-pairs_in M N p (f ∷ fs) = length (drawn_pairs M N p f) + pairs_in M N p fs
+abbrev pub pairs_in : List FacePairs → ℕ
+pairs_in [] = 0
+pairs_in (f ∷ fs) = length f.pairs + pairs_in fs

@@ -1,10 +1,10 @@
 -- What holds while the pairs of a face are passed over, and then one face after the other.
-use Rattle.std.specs.Prelude.{ℕ, ◌+◌, List, length}
+use Rattle.std.specs.Prelude.{ℕ, ◌+◌, List, map, length}
 use Rattle.euler_operators.specs.declared.Plane.{Plane}
 use Rattle.euler_operators.specs.Items.{IsApart}
 use Rattle.euler_operators.specs.Model.{Model}
 use Rattle.euler_operators.specs.Sound.{Sound}
-use Rattle.shapes.specs.split.Drawing.{Drawing}
+use Rattle.shapes.specs.split.Drawing.{Drawing, FacePairs}
 use Rattle.split_drawing_laws.specs.drawings.DrawnIn.{JoinedIn, DrawnIn, Fresh, PairsHaveRoom}
 use Rattle.split_drawing_laws.specs.drawings.Pairs.{AllFit, LoneInOneLoop, FacesFit, pairs_in}
 
@@ -29,10 +29,10 @@ pub record Ready (p : Plane) (f : ℕ) (qs : List (ℕ × ℕ)) (d : Drawing) (n
   pub fit : AllFit d.model f qs
   pub alone : LoneInOneLoop d.model qs
 
--- the faces fs can be drawn in d between the pairs that they have in M, once its edges are cut as in N; numbers for n more are left
-pub record Drawable (M N : Model) (p : Plane) (d : Drawing) (fs : List ℕ) (n : ℕ) : Type 0 where
+-- the faces fs can be drawn in d between their pairs, and numbers for n more pairs are left
+pub record Drawable (d : Drawing) (fs : List FacePairs) (n : ℕ) : Type 0 where
   pub sound : Sound d.model
   pub fresh : Fresh d.model d.taken
-  pub room : PairsHaveRoom d.taken (pairs_in M N p fs + n)
-  pub fit : FacesFit d.model M N p fs
-  pub apart : IsApart fs
+  pub room : PairsHaveRoom d.taken (pairs_in fs + n)
+  pub fit : FacesFit d.model fs
+  pub apart : IsApart (map (λ f. f.face) fs)

@@ -3,12 +3,12 @@ use Rattle.std.specs.Prelude.{ℕ}
 use Rattle.euler_operators.specs.declared.Plane.{Plane}
 use Rattle.euler_operators.specs.Model.{Model}
 use Rattle.euler_operators.specs.Sound.{Sound}
-use Rattle.shapes.specs.split.Sides.{straddling_faces}
 use Rattle.shapes.specs.split.Crossings.{with_crossings}
+use Rattle.shapes.specs.split.Drawing.{straddling_pairs}
 use Rattle.split_drawing_laws.specs.crossings.Laws.{CanBegin}
 use Rattle.split_drawing_laws.specs.loop_sides.Laws.{TakeSides}
 use Rattle.split_drawing_laws.specs.half_sides.HalfSides.{side_of, is_own}
 
 -- once the edges that cross the plane are cut, each half-edge has a side, which changes at cut places alone
 abbrev pub HalfEdgesTakeSides : Type 0
-HalfEdgesTakeSides = (M : Model) (s : ℕ) (p : Plane) (t : ℕ) → Sound M → CanBegin M s p t → TakeSides M p (with_crossings M s p) (straddling_faces M p s) (side_of M s p) (is_own M s p)
+HalfEdgesTakeSides = (M : Model) (s : ℕ) (p : Plane) (t : ℕ) → Sound M → CanBegin M s p t → TakeSides p (with_crossings M s p) (straddling_pairs M s p) (side_of M s p) (is_own M s p)

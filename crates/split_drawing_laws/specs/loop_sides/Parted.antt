@@ -7,7 +7,7 @@ use Rattle.euler_operators.specs.Items.{count, IsIn, IsApart}
 use Rattle.euler_operators.specs.Model.{Model, after}
 use Rattle.euler_operators.specs.Sound.{HasHalf}
 use Rattle.shapes.specs.Faces.{start}
-use Rattle.shapes.specs.split.Drawing.{drawn_pairs}
+use Rattle.shapes.specs.split.Drawing.{FacePairs}
 use Rattle.split_drawing_laws.specs.drawings.DrawnIn.{Stays}
 
 -- going on from x the side stays, but where one comes to an open place it changes
@@ -53,10 +53,10 @@ pub record Open (B : Model) (places : List ℕ) : Type 0 where
   pub apart : IsApart places
 
 -- so it is with the pairs of each of some faces, and the half-edges of all their pairs
-abbrev pub FacesCross : Model → Plane → (ℕ → Bool) → Model → Model → List ℕ → Type 0
-FacesCross B p first M N [] = Unit {0}
-FacesCross B p first M N (f ∷ fs) = AllCross B p first (drawn_pairs M N p f) × FacesCross B p first M N fs
+abbrev pub FacesCross : Model → Plane → (ℕ → Bool) → List FacePairs → Type 0
+FacesCross B p first [] = Unit {0}
+FacesCross B p first (f ∷ fs) = AllCross B p first f.pairs × FacesCross B p first fs
 
-abbrev pub all_ends : Model → Model → Plane → List ℕ → List ℕ
-all_ends M N p [] = []
-all_ends M N p (f ∷ fs) = ends (drawn_pairs M N p f) ++ all_ends M N p fs
+abbrev pub all_ends : List FacePairs → List ℕ
+all_ends [] = []
+all_ends (f ∷ fs) = ends f.pairs ++ all_ends fs

@@ -9,7 +9,7 @@ use Rattle.euler_laws.specs.Laws.{AreAccepted, effects}
 use Rattle.shapes.specs.split.Sides.{straddling_faces}
 use Rattle.shapes.specs.split.Places.{places, place_pairs}
 use Rattle.shapes.specs.split.Crossings.{with_crossings}
-use Rattle.shapes.specs.split.Drawing.{with_drawings}
+use Rattle.shapes.specs.split.Drawing.{straddling_pairs, with_drawings}
 use Rattle.split_drawing_laws.specs.crossings.CrossingOps.{crossing_ops}
 use Rattle.split_drawing_laws.specs.crossings.Laws.{CanBegin}
 use Rattle.split_drawing_laws.specs.drawings.DrawingOps.{drawing_ops}
@@ -17,7 +17,7 @@ use Rattle.split_drawing_laws.specs.drawings.Laws.{CanBeDrawn}
 
 -- once the edges that cross the plane are cut, the faces that straddle can be drawn between their pairs of cut places
 abbrev pub CutPlacesCanBeDrawn : Type 0
-CutPlacesCanBeDrawn = (M : Model) (s : ℕ) (p : Plane) (t : ℕ) → Sound M → CanBegin M s p t → CanBeDrawn M p (with_crossings M s p) (straddling_faces M p s)
+CutPlacesCanBeDrawn = (M : Model) (s : ℕ) (p : Plane) (t : ℕ) → Sound M → CanBegin M s p t → CanBeDrawn (with_crossings M s p) (straddling_pairs M s p)
 
 -- and none of a face's cut places is left out of its pairs: it has twice as many of the one as of the other
 abbrev pub CutPlacesPairUp : Type 0
@@ -26,7 +26,7 @@ CutPlacesPairUp = (M : Model) (s : ℕ) (p : Plane) (t : ℕ) → Sound M → Ca
 
 -- the operators of both rewritings: the edges that cross the plane cut, and then the faces that straddle drawn
 abbrev pub rewriting_ops : Model → ℕ → Plane → List Op
-rewriting_ops M s p = crossing_ops M s p ++ drawing_ops M p (with_crossings M s p) (straddling_faces M p s)
+rewriting_ops M s p = crossing_ops M s p ++ drawing_ops p (with_crossings M s p) (straddling_pairs M s p)
 
 -- each operator is accepted in its turn
 abbrev pub RewritingsAreAccepted : Type 0

@@ -16,10 +16,10 @@ use Rattle.euler_laws.proofs.shared.Listed.{all_where-rises, IsIn-from_listed}
 use Rattle.shapes.proofs.fresh.Rows.{none_above}
 use Rattle.shapes.proofs.fresh.Tests.{none_found, zero_found, Left, numbers_are_left}
 use Rattle.shapes.specs.Faces.{least_lone}
-use Rattle.shapes.specs.Fresh.{found, Growing, taken_in}
-use Rattle.shapes.specs.split.Sides.{straddling_faces, reaches_above, reaches_below, face_is_above, faces_above}
+use Rattle.shapes.specs.Fresh.{found, taken_in}
+use Rattle.shapes.specs.split.Sides.{reaches_above, reaches_below, face_is_above, faces_above}
 use Rattle.shapes.specs.split.Crossings.{with_crossings}
-use Rattle.shapes.specs.split.Drawing.{Drawing, stuck_at, in_one_loop, join_next, all_joined, ring_free, draw_next, all_drawn, rings_above, with_rings, drawn_between, drawn_pairs, next_drawn, faces_drawn, with_drawings}
+use Rattle.shapes.specs.split.Drawing.{Drawing, stuck_at, in_one_loop, join_next, all_joined, ring_free, draw_next, all_drawn, rings_above, with_rings, drawn_between, FacePairs, next_drawn, faces_drawn, undrawn, straddling_pairs, with_drawings}
 use Rattle.shapes.specs.split.Section.{below_halves, section_ends, least_branched, section_cycles, has_stray_hole}
 use Rattle.shapes.specs.split.Split.{first_conditions, later_conditions, section_conditions, split_conditions, split_refusal}
 use Rattle.split_drawing_laws.specs.crossings.Laws.{CanBegin}
@@ -75,16 +75,13 @@ face_vertex p f qs d =
     let R : Drawing = ring_free f qs J in
     shared_vertex p f (nat_eq (length qs) 1) (all_drawn f R) ∙ draws_vertex f R R.left ∙ stuck_vertex f (nat_lt 1 (length qs) && has_rings J.model f) J ∙ joins_vertex (record d { left = [] }) qs
 
-next_vertex : (M N : Model) (p : Plane) (d : Drawing) (f : ℕ) → (next_drawn M N p d f).taken.vertex ≡ d.taken.vertex
+next_vertex : (p : Plane) (d : Drawing) (f : FacePairs) → (next_drawn p d f).taken.vertex ≡ d.taken.vertex
 unfolding next_drawn
-next_vertex M N p d f = face_vertex p f (drawn_pairs M N p f) d
+next_vertex p d f = face_vertex p f.face f.pairs d
 
-all_vertex : (M N : Model) (p : Plane) (d : Drawing) (fs : List ℕ) → (fold (next_drawn M N p) d fs).taken.vertex ≡ d.taken.vertex
-all_vertex M N p d [] = refl
-all_vertex M N p d (f ∷ fs) = all_vertex M N p (next_drawn M N p d f) fs ∙ next_vertex M N p d f
-
-drawing_vertex : (M : Model) (p : Plane) (g : Growing) (fs : List ℕ) → (faces_drawn M p g fs).taken.vertex ≡ g.taken.vertex
-drawing_vertex M p g fs = all_vertex M g.model p (record { model = g.model; taken = g.taken; left = []; stuck = 0 }) fs
+drawing_vertex : (p : Plane) (d : Drawing) (fs : List FacePairs) → (faces_drawn p d fs).taken.vertex ≡ d.taken.vertex
+drawing_vertex p d [] = refl
+drawing_vertex p d (f ∷ fs) = drawing_vertex p (next_drawn p d f) fs ∙ next_vertex p d f
 
 -- ---- a split that isn't refused
 
@@ -154,24 +151,24 @@ module _ (M : Model) (s : ℕ) (p : Plane) (t : ℕ) (sound : Sound M) (accepted
   pub drawn_sound : Sound (with_drawings M s p).model
   drawn_sound = rewritings_sound M s p t sound begins
 
-  can : CanBeDrawn M p (with_crossings M s p) (straddling_faces M p s)
+  can : CanBeDrawn (with_crossings M s p) (straddling_pairs M s p)
   can = can_be_drawn M s p t sound begins
 
   pub drawn_stays : Stays (with_crossings M s p).model (with_drawings M s p).model
   unfolding with_drawings
-  drawn_stays = drawing_stays M p (with_crossings M s p) (straddling_faces M p s) can
+  drawn_stays = drawing_stays p (with_crossings M s p) (straddling_pairs M s p) can
 
   pub drawn_keeps : KeepsSolids (with_crossings M s p).model (with_drawings M s p).model
   unfolding with_drawings
-  drawn_keeps = drawing_keeps M p (with_crossings M s p) (straddling_faces M p s) can
+  drawn_keeps = drawing_keeps p (with_crossings M s p) (straddling_pairs M s p) can
 
   fresh : Fresh D d.taken
   unfolding with_drawings
-  fresh = drawing_fresh M p (with_crossings M s p) (straddling_faces M p s) can
+  fresh = drawing_fresh p (with_crossings M s p) (straddling_pairs M s p) can
 
   last_vertex : d.taken.vertex ≡ table.greatest (with_crossings M s p).model.vertices
   unfolding with_drawings taken_in
-  last_vertex = drawing_vertex M p (with_crossings M s p) (straddling_faces M p s) ∙ ap (λ c. c.vertex) (crossings_counted M s p t sound begins)
+  last_vertex = drawing_vertex p (undrawn (with_crossings M s p)) (straddling_pairs M s p) ∙ ap (λ c. c.vertex) (crossings_counted M s p t sound begins)
 
   are_free : AreFree D d.taken
   are_free = record {

@@ -10,7 +10,7 @@ use Rattle.euler_operators.specs.Conditions.{face_at, has_rings}
 use Rattle.euler_operators.proofs.Models.{solid_row, same_solid}
 use Rattle.euler_operators.proofs.Tables.{get-put_here, get-put_other}
 use Rattle.shapes.specs.Fresh.{Growing}
-use Rattle.shapes.specs.split.Drawing.{Drawing, face_drawn, loops_joined, stuck_at, in_one_loop, joined_pair, join_next, all_joined, ring_free, draw_next, all_drawn, rings_above, with_rings, rings_shared, drawn_between, drawn_pairs, next_drawn, faces_drawn}
+use Rattle.shapes.specs.split.Drawing.{Drawing, face_drawn, loops_joined, stuck_at, in_one_loop, joined_pair, join_next, all_joined, ring_free, draw_next, all_drawn, rings_above, with_rings, rings_shared, drawn_between, FacePairs, next_drawn, faces_drawn, undrawn}
 use Rattle.split_drawing_laws.specs.drawings.DrawnIn.{DrawnIn}
 use Rattle.split_drawing_laws.specs.drawings.Pairs.{Fits, AllFit, pairs_in}
 use Rattle.split_drawing_laws.specs.drawings.Laws.{CanBeDrawn}
@@ -152,17 +152,18 @@ one_keeps X Y f sound drawn a = record {
   solids = a.solids;
 }
 
-all_keep : (M N : Model) (p : Plane) (d : Drawing) (fs : List ℕ) (n : ℕ) → Drawable M N p d fs n → KeepsSolids d.model (fold (next_drawn M N p) d fs).model
-all_keep M N p d [] n w = record { halves = λ h t. refl; solids = refl }
-all_keep M N p d (f ∷ fs) n w =
-    let Y : Drawing = next_drawn M N p d f in
-    let r : Ready p f (drawn_pairs M N p f) d (pairs_in M N p fs + n) = ready M N p d f fs n w in
-    let drawn : DrawnIn d.model (next_drawn M N p d f).model f = subst (λ x. DrawnIn d.model x.model f) (sym (next_is M N p d f fs n w)) (face_goes p f (drawn_pairs M N p f) d (pairs_in M N p fs + n) r).drawn in
-    let new : NewOf d.model (next_drawn M N p d f).model f = subst (λ x. NewOf d.model x.model f) (sym (next_is M N p d f fs n w)) (face_new p f (drawn_pairs M N p f) d (pairs_in M N p fs + n) r) in
-    let a : KeepsSolids d.model (next_drawn M N p d f).model = one_keeps d.model (next_drawn M N p d f).model f w.sound drawn new in
-    let b : KeepsSolids (next_drawn M N p d f).model (fold (next_drawn M N p) (next_drawn M N p d f) fs).model = all_keep M N p (next_drawn M N p d f) fs n (drawable_on M N p d f fs n w) in
+all_keep : (p : Plane) (d : Drawing) (qs : List FacePairs) (n : ℕ) → Drawable d qs n → KeepsSolids d.model (fold (next_drawn p) d qs).model
+all_keep p d [] n w = record { halves = λ h t. refl; solids = refl }
+all_keep p d (q ∷ qs) n w =
+    let f : ℕ = q.face in
+    let Y : Drawing = next_drawn p d q in
+    let r : Ready p f q.pairs d (pairs_in qs + n) = ready p d q qs n w in
+    let drawn : DrawnIn d.model (next_drawn p d q).model f = subst (λ x. DrawnIn d.model x.model f) (sym (next_is p d q qs n w)) (face_goes p f q.pairs d (pairs_in qs + n) r).drawn in
+    let new : NewOf d.model (next_drawn p d q).model f = subst (λ x. NewOf d.model x.model f) (sym (next_is p d q qs n w)) (face_new p f q.pairs d (pairs_in qs + n) r) in
+    let a : KeepsSolids d.model (next_drawn p d q).model = one_keeps d.model (next_drawn p d q).model f w.sound drawn new in
+    let b : KeepsSolids (next_drawn p d q).model (fold (next_drawn p) (next_drawn p d q) qs).model = all_keep p (next_drawn p d q) qs n (drawable_on p d q qs n w) in
     record { halves = λ h t. b.halves h (drawn.stays.halves h t) ∙ a.halves h t; solids = b.solids ∙ a.solids }
 
 -- a drawing leaves each half-edge in its solid
-pub drawing_keeps : (M : Model) (p : Plane) (g : Growing) (fs : List ℕ) → CanBeDrawn M p g fs → KeepsSolids g.model (faces_drawn M p g fs).model
-drawing_keeps M p g fs can = all_keep M g.model p (record { model = g.model; taken = g.taken; left = []; stuck = 0 }) fs 0 (drawable M p g fs can)
+pub drawing_keeps : (p : Plane) (g : Growing) (qs : List FacePairs) → CanBeDrawn g qs → KeepsSolids g.model (faces_drawn p (undrawn g) qs).model
+drawing_keeps p g qs can = all_keep p (undrawn g) qs 0 (drawable g qs can)

@@ -1,6 +1,7 @@
-use Rattle.std.proofs.Common.{◌∙◌, ℕ, List, ◌++◌, map, sym, ap, subst}
+use Rattle.std.proofs.Common.{◌∙◌, List, ◌++◌, map, sym, ap, subst}
+use Rattle.shapes.specs.split.Drawing.{FacePairs}
 use Rattle.split_drawing.proofs.edge_cutting_laws.Remaining.{cut_plane}
-use Rattle.split_drawing.specs.face_pairs.Paired.{AllCanBePaired, paired, pairs_in}
+use Rattle.split_drawing.specs.face_pairs.Paired.{AllCanBePaired, paired, all_place_pairs}
 use Rattle.split_drawing.proofs.face_pairs_laws.Pairing.{can_be_paired}
 use Rattle.split_drawing.proofs.face_pairs.pairs.face_pairs.Goals as goal
 
@@ -12,7 +13,7 @@ faces-init c =
     let M = c.args.arena.now.model in let p = c.args.plane.now in let faces = c.as_slice-rest.ensures.value ∙ c.in_ok-faces.ensures in
     record {
       can = subst (AllCanBePaired M p) (sym faces) (can_be_paired M p c.args.s c.requires.ready.sound c.requires.begins);
-      made = ap (λ (qs : List (ℕ × List (ℕ × ℕ))). qs ++ pairs_in M p c.as_slice-rest.result.now) (ap (map paired) c.new-found.ensures.items) ∙ ap (pairs_in M p) faces;
+      made = ap (λ (qs : List FacePairs). qs ++ all_place_pairs M p c.as_slice-rest.result.now) (ap (map paired) c.new-found.ensures.items) ∙ ap (all_place_pairs M p) faces;
     }
 
 pub place_pairs-requires-clause-plane : goal.place_pairs-requires-clause-plane
