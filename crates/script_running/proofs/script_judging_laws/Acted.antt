@@ -8,7 +8,7 @@ use Rattle.undo_journal.specs.Journal.{Journal}
 use Rattle.undo_journal.specs.declared.session.Failure.{Failure}
 use Rattle.undo_journal.specs.declared.session.Failure.TheVariants as failure
 use Rattle.solid_listing.specs.declared.reply.Reply.TheVariants as reply
-use Rattle.script_running.specs.script_judging.Judging.{Acts, Keeps, Tries, refused, outcome}
+use Rattle.script_running.specs.script_judging.Judging.{Acts, StaysUnlessDone, Tries, refused, outcome}
 use Rattle.script_running.specs.declared.script_judging.judging.Answer.{Answer}
 use Rattle.script_running.specs.declared.script_judging.judging.Answer.TheVariants.{Reply as Told}
 use Rattle.sweeps.proofs.BlockSteps.{at_sizes}
@@ -22,14 +22,14 @@ told_memory (Some r) s acted t never et = absurd (never r refl)
 pub same_machine : {t s : Journal} → t ≡ s → t.machine ≡ s.machine
 same_machine e = ap (λ (j : Journal). j.machine) e
 
--- a call that keeps the session where it ends in an error is answered `ok`, or keeps it
-pub keeps : (s : Journal) (ended : Result (Unit {0}) Failure) (t : Journal) → OnErr ended (t ≡ s) → Keeps (outcome ended) s t
-keeps s (Ok _) t err other = absurd (other refl)
-keeps s (Err (failure.Refused r)) t err other = err
-keeps s (Err (failure.Memory e)) t err other = err
+-- a call that leaves the session as it was where it ends in an error is answered `ok`, or leaves it so
+pub stays : (s : Journal) (ended : Result (Unit {0}) Failure) (t : Journal) → OnErr ended (t ≡ s) → StaysUnlessDone (outcome ended) s t
+stays s (Ok _) t err other = absurd (other refl)
+stays s (Err (failure.Refused r)) t err other = err
+stays s (Err (failure.Memory e)) t err other = err
 
-pub keeps_told : (s : Journal) (ended : Result (Unit {0}) Failure) (t : Journal) (a : Answer) → a ≡ outcome ended → OnErr ended (t ≡ s) → Keeps a s t
-keeps_told s ended t a is err = subst (λ (b : Answer). Keeps b s t) (sym is) (keeps s ended t err)
+pub stays_told : (s : Journal) (ended : Result (Unit {0}) Failure) (t : Journal) (a : Answer) → a ≡ outcome ended → OnErr ended (t ≡ s) → StaysUnlessDone a s t
+stays_told s ended t a is err = subst (λ (b : Answer). StaysUnlessDone b s t) (sym is) (stays s ended t err)
 
 pub acts : (o : Option Refusal) (s : Journal) (acted : Machine) (ended : Result (Unit {0}) Failure) (t : Journal) → OnOk ended ((o ≡ None) × (t.machine ≡ acted))
     → ((r : Refusal) → (ended ≡ Err (failure.Refused r)) ↔ (o ≡ Some r)) → OnErr ended (t ≡ s) → Acts o s.machine acted (outcome ended) t.machine

@@ -39,8 +39,8 @@ outcome (Err (failure.Refused r)) = refused r
 outcome (Err (failure.Memory e)) = Told reply.Memory
 
 -- a command that isn't answered `ok` leaves the session as it was, its records too
-abbrev pub Keeps : Answer → Journal → Journal → Type 0
-Keeps a s t = a ≢ done → t ≡ s
+abbrev pub StaysUnlessDone : Answer → Journal → Journal → Type 0
+StaysUnlessDone a s t = a ≢ done → t ≡ s
 
 -- undo and redo go on to a state, or are refused
 abbrev pub Moves : Option Refusal → Machine → Machine → Answer → Machine → Type 0

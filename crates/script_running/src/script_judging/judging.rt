@@ -1,7 +1,7 @@
 //! What a line is answered.
 ghost use Rattle.std.specs.Prelude.{◌≡◌, ◌≢◌, ◌<◌, ◌≤◌, Some};
 ghost use Rattle.euler_conditions.specs.Ready.{IsReady};
-ghost use Rattle.script_running.specs.script_judging.Judging.{done, refused, outcome, told, plane_reply, volume_reply, count_reply, Keeps, Moves, Acts, complains, one_line, counted};
+ghost use Rattle.script_running.specs.script_judging.Judging.{done, refused, outcome, told, plane_reply, volume_reply, count_reply, StaysUnlessDone, Moves, Acts, complains, one_line, counted};
 ghost use Rattle.script_running.specs.script_judging.Settling.{Settles, Decides};
 ghost use Rattle.script_running.specs.Outs.{is_clean};
 ghost use Rattle.undo_journal.specs.Machine as machine;
@@ -91,17 +91,17 @@ pub(crate) fn outcome(ended: Result<(), Failure>) -> Answer
     }
 }
 
-#[tactic(auto, using(crate::proofs::script_judging_laws::Acted::acts_on, crate::proofs::script_judging_laws::Acted::keeps))]
+#[tactic(auto, using(crate::proofs::script_judging_laws::Acted::acts_on, crate::proofs::script_judging_laws::Acted::stays))]
 fn act(session: &mut Session, op: Op) -> Answer
     ensures answered { Acts (machine.act_refusal session.old.machine op) session.old.machine (machine.act session.old.machine op) result session.new.machine }
-    ensures kept { Keeps result session.old session.new }
+    ensures kept { StaysUnlessDone result session.old session.new }
 {
     outcome(session.act(op))
 }
 
 fn undo(session: &mut Session) -> Answer
     ensures answered { Moves (machine.undo_refusal session.old.machine) session.old.machine (machine.undo session.old.machine) result session.new.machine }
-    ensures kept { Keeps result session.old session.new }
+    ensures kept { StaysUnlessDone result session.old session.new }
 {
     match session.undo() {
         Ok(()) => Answer::Reply(Reply::Done),
@@ -111,7 +111,7 @@ fn undo(session: &mut Session) -> Answer
 
 fn redo(session: &mut Session) -> Answer
     ensures answered { Moves (machine.redo_refusal session.old.machine) session.old.machine (machine.redo session.old.machine) result session.new.machine }
-    ensures kept { Keeps result session.old session.new }
+    ensures kept { StaysUnlessDone result session.old session.new }
 {
     match session.redo() {
         Ok(()) => Answer::Reply(Reply::Done),

@@ -3,7 +3,7 @@ ghost use Rattle.std.specs.Prelude.{◌≡◌};
 ghost use Rattle.sweeps.specs.Machine.{lamina, lamina_refusal, block, block_refusal, sweep, sweep_refusal};
 ghost use Rattle.gluing.specs.Machine.{glue, glue_refusal};
 ghost use Rattle.plane_split.specs.Machine.{plane_with, split, split_refusal};
-ghost use Rattle.script_running.specs.script_judging.Judging.{Acts, Keeps, Obeys, Tries, given_plane};
+ghost use Rattle.script_running.specs.script_judging.Judging.{Acts, StaysUnlessDone, Obeys, Tries, given_plane};
 ghost use Rattle.script_running.specs.script_judging.Settling.{spelled};
 
 use crate::script_judging::judging::{Answer, outcome};
@@ -32,7 +32,7 @@ pub enum Larger {
 
 fn make_lamina(alloc: Global, session: Session, solid: u32, corners: &Corners) -> (Session, Answer)
     ensures answered { Acts (lamina_refusal session.machine solid corners.now) session.machine (lamina session.machine solid corners.now) result.1 result.0.machine }
-    ensures kept { Keeps result.1 session result.0 }
+    ensures kept { StaysUnlessDone result.1 session result.0 }
 {
     let (session, ended) = lamina(alloc, session, solid, corners.points());
     (session, outcome(ended))
@@ -48,25 +48,25 @@ fn make_block(
     dz: i64,
 ) -> (Session, Answer)
     ensures answered { Acts (block_refusal session.machine solid corner dx dy dz) session.machine (block session.machine solid corner dx dy dz) result.1 result.0.machine }
-    ensures kept { Keeps result.1 session result.0 }
+    ensures kept { StaysUnlessDone result.1 session result.0 }
 {
     let (session, ended) = block(alloc, session, solid, corner, dx, dy, dz);
     (session, outcome(ended))
 }
 
-#[tactic(auto, using(crate::proofs::script_judging_laws::Acted::acts, crate::proofs::script_judging_laws::Acted::keeps))]
+#[tactic(auto, using(crate::proofs::script_judging_laws::Acted::acts, crate::proofs::script_judging_laws::Acted::stays))]
 fn make_sweep(alloc: Global, session: Session, face: u32, way: Point) -> (Session, Answer)
     ensures answered { Acts (sweep_refusal session.machine face way) session.machine (sweep session.machine face way) result.1 result.0.machine }
-    ensures kept { Keeps result.1 session result.0 }
+    ensures kept { StaysUnlessDone result.1 session result.0 }
 {
     let (session, ended) = sweep(alloc, session, face, way);
     (session, outcome(ended))
 }
 
-#[tactic(auto, using(crate::proofs::script_judging_laws::Acted::tries, crate::proofs::script_judging_laws::Acted::keeps))]
+#[tactic(auto, using(crate::proofs::script_judging_laws::Acted::tries, crate::proofs::script_judging_laws::Acted::stays))]
 fn make_glue(alloc: Global, session: Session, face: u32, other: u32) -> (Session, Answer)
     ensures answered { Tries (glue_refusal session.machine face other) session.machine (glue session.machine face other) result.1 result.0.machine }
-    ensures kept { Keeps result.1 session result.0 }
+    ensures kept { StaysUnlessDone result.1 session result.0 }
 {
     let (session, ended) = glue(alloc, session, face, other);
     (session, outcome(ended))
@@ -83,7 +83,7 @@ fn make_split(
     above: u32,
 ) -> (Session, Answer)
     ensures answered { Tries (split_refusal session.machine solid (plane_with a b c d) above) session.machine (split session.machine solid (plane_with a b c d) above) result.1 result.0.machine }
-    ensures kept { Keeps result.1 session result.0 }
+    ensures kept { StaysUnlessDone result.1 session result.0 }
 {
     let (session, ended) = split(alloc, session, solid, a, b, c, d, above);
     (session, outcome(ended))
@@ -98,7 +98,7 @@ fn split_by(
     above: u32,
 ) -> (Session, Answer)
     ensures answered { Tries (split_refusal session.machine solid (given_plane plane) above) session.machine (split session.machine solid (given_plane plane) above) result.1 result.0.machine }
-    ensures kept { Keeps result.1 session result.0 }
+    ensures kept { StaysUnlessDone result.1 session result.0 }
 {
     let [a, b, c, d] = plane;
     make_split(alloc, session, solid, a, b, c, d, above)
@@ -107,7 +107,7 @@ fn split_by(
 /// Carries a larger command out: gives the session back with its answer. Where the answer is not `ok`, the session is as it was.
 pub fn carry_out(alloc: Global, session: Session, larger: Larger) -> (Session, Answer)
     ensures answered { Obeys session.machine (spelled larger) result.1 result.0.machine }
-    ensures kept { Keeps result.1 session result.0 }
+    ensures kept { StaysUnlessDone result.1 session result.0 }
 {
     match larger {
         Larger::Lamina(solid, corners) => make_lamina(alloc, session, solid, &corners),

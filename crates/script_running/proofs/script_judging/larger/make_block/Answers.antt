@@ -2,7 +2,7 @@ use Rattle.std.proofs.Common.{w64}
 use Rattle.std.proofs.lemmas.Int.{to_z-of_z}
 use Rattle.sweeps.specs.Machine.{block, block_refusal}
 use Rattle.script_running.specs.script_judging.Judging.{Acts}
-use Rattle.script_running.proofs.script_judging_laws.Acted.{acts_told, keeps_told}
+use Rattle.script_running.proofs.script_judging_laws.Acted.{acts_told, stays_told}
 use Rattle.script_running.proofs.script_judging.larger.make_block.Goals as goal
 use Rattle.sweeps.proofs.BlockSteps.{at_sizes}
 
@@ -12,4 +12,4 @@ returns-clause-answered c = at_sizes (λ x y z. Acts (block_refusal c.args.sessi
     (acts_told _ _ _ _ _ _ c.outcome.ensures c.block-session.ensures.ok c.block-session.ensures.refused c.block-session.ensures.err)
 
 pub returns-clause-kept : goal.returns-clause-kept
-returns-clause-kept c = keeps_told _ _ _ _ c.outcome.ensures c.block-session.ensures.err
+returns-clause-kept c = stays_told _ _ _ _ c.outcome.ensures c.block-session.ensures.err

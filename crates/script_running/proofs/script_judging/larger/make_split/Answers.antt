@@ -2,7 +2,7 @@ use Rattle.std.proofs.Common.{w64}
 use Rattle.std.proofs.lemmas.Int.{to_z-of_z}
 use Rattle.plane_split.specs.Machine.{plane_with, split, split_refusal}
 use Rattle.script_running.specs.script_judging.Judging.{Tries}
-use Rattle.script_running.proofs.script_judging_laws.Acted.{tries_told, keeps_told, of_coefficients}
+use Rattle.script_running.proofs.script_judging_laws.Acted.{tries_told, stays_told, of_coefficients}
 use Rattle.script_running.proofs.script_judging.larger.make_split.Goals as goal
 
 pub returns-clause-answered : goal.returns-clause-answered
@@ -11,4 +11,4 @@ returns-clause-answered c = of_coefficients (λ x y z w. Tries (split_refusal c.
     (tries_told _ _ _ _ _ _ c.outcome.ensures c.split-session.ensures.ok c.split-session.ensures.refused c.split-session.ensures.err)
 
 pub returns-clause-kept : goal.returns-clause-kept
-returns-clause-kept c = keeps_told _ _ _ _ c.outcome.ensures c.split-session.ensures.err
+returns-clause-kept c = stays_told _ _ _ _ c.outcome.ensures c.split-session.ensures.err
