@@ -1,6 +1,7 @@
 pub mod Magnitudes
 pub mod Orders
 mod Cuts
+mod Multiples
 pub mod Crossings
 mod Coordinates
 pub mod Integers

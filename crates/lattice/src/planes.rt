@@ -74,7 +74,7 @@ fn cut_multiple(from: i64, to: i64, start: i128, end: i128) -> i128
 }
 
 /// A coordinate of the point where a segment meets a plane, if it is whole. The segment's ends have the coordinates `from` and
-/// `to`, and stand at opposite heights.
+/// `to`, and stand at opposite heights. Where these are one, nothing is divided.
 fn cut_coordinate(from: i64, to: i64, start: i128, end: i128) -> Option<i64>
     requires from { is_coordinate from ≡ true }
     requires to { is_coordinate to ≡ true }
@@ -84,6 +84,9 @@ fn cut_coordinate(from: i64, to: i64, start: i128, end: i128) -> Option<i64>
     ensures is { result ≡ whole_quotient (to *ℤ start -ℤ from *ℤ end) (start -ℤ end) }
     ensures range { IfSome result (λ x. is_coordinate x ≡ true) }
 {
+    if from == to {
+        return Some(from);
+    }
     whole_quotient(cut_multiple(from, to, start, end), start - end)
 }
 
