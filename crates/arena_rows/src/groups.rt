@@ -141,13 +141,12 @@ fn tally(counts: &mut Vec<Option<u32>>, n: u32, was: bool, is: bool)
     ensures rows { (q : ℕ) → row_at counts.new.items q ≡ cond (nat_eq q (n / 128)) (recounted was is (row_at counts.old.items q)) (row_at counts.old.items q) }
     ensures len { length counts.new.items ≡ length counts.old.items }
 {
+    if was == is {
+        return;
+    }
     let group = (n / GROUP) as usize;
     let count = counts[group];
-    counts[group] = match (was, is) {
-        (false, true) => more(count),
-        (true, false) => fewer(count),
-        (true, true) | (false, false) => count,
-    };
+    counts[group] = if is { more(count) } else { fewer(count) };
 }
 
 /// Counts the group of row n anew, which was there or not, and now is or isn't; and likewise the block of this group.
