@@ -22,8 +22,12 @@ use Rattle.split_drawing.specs.solid_drawing.Drawn.{put_aside}
 use Rattle.undo_journal.specs.declared.session.Failure.{Failure}
 use Rattle.undo_journal.specs.declared.session.Failure.TheVariants as failure
 
-pub same_refusal : (q r : Refusal) → ◌≡◌ {A = Result (Unit {0}) Failure} (Err (failure.Refused q)) (Err (failure.Refused r)) → q ≡ r
+pub same_refusal : {X : Type 0} (q r : Refusal) → ◌≡◌ {A = Result X Failure} (Err (failure.Refused q)) (Err (failure.Refused r)) → q ≡ r
 same_refusal q r e = cc
+
+-- one failure is one whatever is answered without it
+pub same_failure : {X Y : Type 0} (f g : Failure) → ◌≡◌ {A = Result X Failure} (Err f) (Err g) → ◌≡◌ {A = Result Y Failure} (Err f) (Err g)
+same_failure f g e = let same : f ≡ g = cc in ap Err same
 
 module _ (M : Model) (s : ℕ) (p : Plane) (t : ℕ) where
   -- a refusal before anything is changed is that of the split

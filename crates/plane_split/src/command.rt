@@ -1,5 +1,5 @@
 //! The split of a solid by a plane, as one command.
-ghost use Rattle.std.specs.Prelude.{◌≡◌, None, Some, Err, OnOk, OnErr};
+ghost use Rattle.std.specs.Prelude.{◌≡◌, None, Some, Err, IfOk, OnOk, OnErr};
 ghost use Rattle.euler_operators.specs.declared.Refusal.{Refusal};
 ghost use Rattle.euler_conditions.specs.Ready.{IsReady};
 ghost use Rattle.euler_operators.specs.Sound.{Sound};
@@ -7,12 +7,13 @@ ghost use Rattle.undo_journal.specs.Machine.{held};
 ghost use Rattle.undo_journal.specs.Journal.{IsRecorded};
 ghost use Rattle.shapes.specs.split.Split as spec;
 ghost use Rattle.plane_split.specs.Machine.{plane_with, split, split_refusal};
+ghost use Rattle.split_drawing.specs.Cuts.{AreCuts};
 ghost use Rattle.split_drawing_laws.specs.crossings.Laws.{CanBegin};
 
 use crate::steps::carry_out;
 use euler_conditions::Arena;
 use euler_operators::Plane;
-use split_drawing::check_begin;
+use split_drawing::{Cuts, check_begin};
 use std::alloc::Global;
 use undo_journal::{Draft, Failure, Session};
 
@@ -28,14 +29,15 @@ fn plane_of(a: i64, b: i64, c: i64, d: i64) -> Plane
     }
 }
 
-/// Whether the plane can begin to split solid s, whose upper part is to be solid t, and if it can't why.
-fn admit(alloc: Global, arena: &Arena, s: u32, plane: &Plane, t: u32) -> Result<(), Failure>
+/// What the plane cuts of solid s, where it can begin to split s, whose upper part is to be solid t; and if it can't why.
+fn admit(alloc: Global, arena: &Arena, s: u32, plane: &Plane, t: u32) -> Result<Cuts, Failure>
     requires { IsReady arena.now }
     ensures ok { OnOk result (CanBegin arena.now.model s plane.now t) }
+    ensures cuts { IfOk result (λ cuts. AreCuts arena.now.model plane.now s cuts) }
     ensures refused { (refusal : Refusal) → (result ≡ Err (Failure.Refused refusal)) → (spec.split_refusal arena.now.model s plane.now t ≡ Some refusal) }
 {
     match check_begin(alloc, arena, s, plane, t) {
-        Ok(Ok(())) => Ok(()),
+        Ok(Ok(cuts)) => Ok(cuts),
         Ok(Err(refusal)) => Err(Failure::Refused(refusal)),
         Err(error) => Err(Failure::Memory(error)),
     }
@@ -81,14 +83,15 @@ pub fn split(
     ensures err { OnErr result.1 (result.0 ≡ session) }
 {
     let plane = plane_of(a, b, c, d);
-    if let Err(failure) = admit(alloc, session.arena(), s, &plane, t) {
-        return (session, Err(failure));
-    }
+    let cuts = match admit(alloc, session.arena(), s, &plane, t) {
+        Ok(cuts) => cuts,
+        Err(failure) => return (session, Err(failure)),
+    };
     let mut draft = match Draft::open(session) {
         Ok(draft) => draft,
         Err((session, error)) => return (session, Err(Failure::Memory(error))),
     };
-    match carry_out(alloc, &mut draft, s, &plane, t) {
+    match carry_out(alloc, &mut draft, s, &plane, t, &cuts) {
         Ok(Ok(())) => (draft.commit(), Ok(())),
         Ok(Err(refusal)) => (draft.abandon(), Err(Failure::Refused(refusal))),
         Err(error) => (draft.abandon(), Err(Failure::Memory(error))),

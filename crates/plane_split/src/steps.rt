@@ -4,13 +4,14 @@ ghost use Rattle.euler_operators.specs.Sound.{Sound};
 ghost use Rattle.euler_operators.specs.Conditions.{verdict};
 ghost use Rattle.shapes.specs.split.Split.{split_above, split_model, split_refusal};
 ghost use Rattle.split_drawing_laws.specs.crossings.Laws.{CanBegin};
+ghost use Rattle.split_drawing.specs.Cuts.{AreCuts};
 ghost use Rattle.split_drawing.specs.Progress.{drawing_of};
 ghost use Rattle.split_sections.specs.section_checks.Sections.{IsSection};
 ghost use Rattle.plane_split.specs.Drawn.{IsDrawn};
 
 use crate::solid_opening::{open_section, part_upper};
 use euler_operators::{Plane, Refusal};
-use split_drawing::{Progress, draw_solid};
+use split_drawing::{Cuts, Progress, draw_solid};
 use split_sections::{Section, check_later};
 use std::alloc::{AllocError, Global};
 use undo_journal::Draft;
@@ -36,23 +37,25 @@ fn part_drawn(
     part_upper(alloc, draft, s, t, above, caps.as_slice())
 }
 
-/// Splits solid s of the draft's model by the plane, where that can begin: the edges that cross it are cut, the faces that straddle
-/// it are drawn, and then, where the solid can be opened along its section, what is above is parted as solid t. It tells the refusal
-/// where it can't. On a refusal or `AllocError` some steps may be taken.
+/// Splits solid s of the draft's model by the plane, where that can begin and these are its cuts: the edges that cross it are cut, the
+/// faces that straddle it are drawn, and then, where the solid can be opened along its section, what is above is parted as solid t. It
+/// tells the refusal where it can't. On a refusal or `AllocError` some steps may be taken.
 pub(crate) fn carry_out(
     alloc: Global,
     draft: &mut Draft,
     s: u32,
     plane: &Plane,
     t: u32,
+    cuts: &Cuts,
 ) -> Result<Result<(), Refusal>, AllocError>
     requires sound { Sound draft.old.model }
     requires begins { CanBegin draft.old.model s plane.now t }
+    requires cuts { AreCuts draft.old.model plane.now s cuts.now }
     ensures carried { IfOk result (λ carried. carried ≡ verdict (split_refusal draft.old.model s plane.now t)) }
     ensures model { (result ≡ Ok (Ok tt)) → (draft.new.model ≡ split_model draft.old.model s plane.now t) }
     ensures session { draft.new.session ≡ draft.old.session }
 {
-    let drawn = draw_solid(alloc, draft, s, plane)?;
+    let drawn = draw_solid(alloc, draft, s, plane, cuts)?;
     let section = match check_later(alloc, draft.arena(), s, plane, &drawn)? {
         Ok(section) => section,
         Err(refusal) => return Ok(Err(refusal)),

@@ -1,5 +1,6 @@
 pub mod cut_places_laws
 pub mod place_order_laws
+pub mod face_pairs_laws
 pub mod begin_checks_laws
 pub use Rattle.solid_measure.proofs.Areas
 pub use Rattle.solid_measure.proofs.Planes

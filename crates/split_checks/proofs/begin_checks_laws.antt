@@ -1,4 +1,2 @@
 pub mod Often
-pub mod Leasts
-pub mod Meetings
 pub mod Stages

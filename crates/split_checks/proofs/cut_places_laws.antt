@@ -7,3 +7,4 @@ pub mod Lists
 pub mod Cuts
 pub mod CrossingHalves
 pub mod Edges
+pub mod Sorted

@@ -1,9 +1,9 @@
 //! Splitting: whether a plane can begin to split a solid, tested before anything is changed.
 
 mod checks;
-mod crossed;
 mod crossings;
 mod faces;
+mod flaws;
 mod numbers;
 mod planes;
 

@@ -3,6 +3,5 @@
 mod order;
 mod points;
 
-pub(crate) use order::pairs_differ;
-pub use order::{Places, in_order};
+pub(crate) use order::{Places, in_order};
 pub(crate) use points::place_point;

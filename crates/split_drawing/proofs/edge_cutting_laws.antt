@@ -1,3 +1,2 @@
-pub mod Sorted
 pub mod Halves
 pub mod Remaining

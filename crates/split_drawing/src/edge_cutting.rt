@@ -2,6 +2,5 @@
 
 mod cutting;
 mod fresh;
-mod rising;
 
 pub(crate) use cutting::cut_edges;

@@ -7,5 +7,4 @@ mod rings;
 
 pub(crate) use drawing::draw_pairs;
 pub(crate) use joining::join_pairs;
-pub(crate) use pairs::Pair;
 pub(crate) use rings::{move_rings, ring_free};

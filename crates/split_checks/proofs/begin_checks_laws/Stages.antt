@@ -1,16 +1,16 @@
 -- The conditions with which a split begins, part by part.
 use Rattle.std.specs.Prelude.{min}
 use Rattle.std.specs.List.{list_any}
-use Rattle.std.proofs.Common.{◌≡◌, ℕ, ◌+◌, true, false, cond, ◌&&◌, nat_le, List, [], ◌∷◌, ◌++◌, length, Some, None, Result, Ok, Err, is_err, refl, sym, ap, ◌∙◌, arith, true≢false}
+use Rattle.std.proofs.Common.{◌≡◌, ℕ, ◌+◌, true, cond, ◌&&◌, nat_le, List, [], ◌∷◌, ◌++◌, length, Some, None, Result, Ok, Err, IfOk, IfErr, refl, sym, ap, subst, ◌∙◌, arith}
 use Rattle.std.proofs.lemmas.Bool.Decides.{nat_tests}
 use Rattle.euler_operators.specs.declared.Plane.{Plane}
 use Rattle.euler_operators.specs.Ranges.{IsCutPlane}
 use Rattle.euler_operators.proofs.Magnitudes.{coordinate_within, offset_within}
 use Rattle.euler_operators.specs.Model.{Model, faces_of}
-use Rattle.euler_operators.specs.Conditions.{Condition, need, first_refusal, verdict}
+use Rattle.euler_operators.specs.Conditions.{Condition, need, first_refusal}
 use Rattle.euler_operators.specs.declared.Why.TheVariants.{PlaneMisses, NotLattice, NumbersSpent}
 use Rattle.euler_operators.specs.declared.Refusal.{Refusal}
-use Rattle.euler_laws.proofs.shared.Goes.{all_hold, verdict_passed, verdict_failed}
+use Rattle.euler_laws.proofs.shared.Goes.{all_hold}
 use Rattle.shapes.proofs.fresh.Tests.{first_refusal-append, first_refusal-refused}
 use Rattle.shapes.specs.Fresh.{Taken, taken_in, numbers_left, no_such, first_such}
 use Rattle.shapes.specs.split.Places.{pair_count}
@@ -19,17 +19,12 @@ use Rattle.shapes.specs.split.Split.{plane_in_range, first_conditions}
 use Rattle.split_checks.specs.begin_checks.Conditions.{number_conditions, solid_conditions, edge_conditions, face_conditions, sectioning_conditions}
 use Rattle.split_checks.specs.cut_places.Crossings.{is_off}
 
-abbrev Verdict : Type 0
-Verdict = Result (Unit {0}) Refusal
+-- what holds of the value of a result, and of its error
+pub at_ok : {X E : Type 0} (r : Result X E) (x : X) (P : X → Type 0) → r ≡ Ok x → IfOk r P → P x
+at_ok r x P e h = subst (λ y. IfOk y P) e h
 
--- a verdict on the first conditions that is an error is the whole verdict, and one that isn't leaves the others
-pub first_failed : (xs ys : List Condition) (v : Verdict) → v ≡ verdict (first_refusal xs) → is_err v ≡ true → v ≡ verdict (first_refusal (xs ++ ys))
-first_failed xs ys (Ok u) is e = absurd (true≢false (sym e))
-first_failed xs ys (Err r) is e = ap verdict (sym (first_refusal-refused xs ys r (verdict_failed (first_refusal xs) r is)))
-
-pub all_passed : (xs : List Condition) (v : Verdict) → v ≡ verdict (first_refusal xs) → is_err v ≡ false → first_refusal xs ≡ None
-all_passed xs (Ok u) is e = verdict_passed (first_refusal xs) u is
-all_passed xs (Err r) is e = absurd (true≢false e)
+pub at_err : {X E : Type 0} (r : Result X E) (x : E) (P : E → Type 0) → r ≡ Err x → IfErr r P → P x
+at_err r x P e h = subst (λ y. IfErr y P) e h
 
 -- ---- numbers that are left, told up to a limit
 
@@ -58,22 +53,21 @@ module _ (M : Model) (s : ℕ) (p : Plane) where
     after_side : first_refusal (sectioning_conditions M s p) ≡ first_refusal (edge_conditions M p es ++ (face_conditions M p fs ++ numbers))
     after_side = ap (λ b. cond b (first_refusal (edge_conditions M p es ++ (face_conditions M p fs ++ numbers))) (Some (record { why = PlaneMisses; number = s }))) met
 
-    pub edge_refused : (e : ℕ) → Some e ≡ first_such (is_off M p) es → Err (record { why = NotLattice; number = e }) ≡ verdict (first_refusal (sectioning_conditions M s p))
-    edge_refused e f = sym (ap verdict (after_side ∙ ap (λ o. first_refusal (no_such o NotLattice ∷ face_conditions M p fs ++ numbers)) (sym f)))
+    pub edge_refused : (e : ℕ) → Some e ≡ first_such (is_off M p) es → first_refusal (sectioning_conditions M s p) ≡ Some (record { why = NotLattice; number = e })
+    edge_refused e f = after_side ∙ ap (λ o. first_refusal (no_such o NotLattice ∷ face_conditions M p fs ++ numbers)) (sym f)
 
     module _ (whole : None ≡ first_such (is_off M p) es) where
       after_edges : first_refusal (sectioning_conditions M s p) ≡ first_refusal (face_conditions M p fs ++ numbers)
       after_edges = after_side ∙ ap (λ o. first_refusal (no_such o NotLattice ∷ face_conditions M p fs ++ numbers)) (sym whole)
 
-      module _ (v : Verdict) (cut : v ≡ verdict (first_refusal (face_conditions M p fs))) where
-        pub faces_failed : is_err v ≡ true → v ≡ verdict (first_refusal (sectioning_conditions M s p))
-        faces_failed e = first_failed (face_conditions M p fs) numbers v cut e ∙ ap verdict (sym after_edges)
+      pub faces_refused : (r : Refusal) → first_refusal (face_conditions M p fs) ≡ Some r → first_refusal (sectioning_conditions M s p) ≡ Some r
+      faces_refused r e = after_edges ∙ first_refusal-refused (face_conditions M p fs) numbers r e
 
-        pub numbers_decide : is_err v ≡ false → (m n : ℕ) → m ≡ min (length es) 1000001 → n ≡ min (pair_count M p fs) 1000001
-            → verdict (first_refusal (numbers_left (taken_in M) (record { faces = n; loops = n; edges = m + n; vertices = m }))) ≡ verdict (first_refusal (sectioning_conditions M s p))
-        numbers_decide e m n is_m is_n =
-            ap verdict ((λ i. first_refusal (numbers_left (taken_in M) (record { faces = is_n i; loops = is_n i; edges = is_m i + is_n i; vertices = is_m i }))) ∙ numbers_capped (taken_in M) (length es) (pair_count M p fs)
-            ∙ sym (first_refusal-append (face_conditions M p fs) numbers (all_passed (face_conditions M p fs) v cut e)) ∙ sym after_edges)
+      pub numbers_decide : first_refusal (face_conditions M p fs) ≡ None → (m n : ℕ) → m ≡ min (length es) 1000001 → n ≡ min (pair_count M p fs) 1000001
+          → first_refusal (numbers_left (taken_in M) (record { faces = n; loops = n; edges = m + n; vertices = m })) ≡ first_refusal (sectioning_conditions M s p)
+      numbers_decide e m n is_m is_n =
+          (λ i. first_refusal (numbers_left (taken_in M) (record { faces = is_n i; loops = is_n i; edges = is_m i + is_n i; vertices = is_m i }))) ∙ numbers_capped (taken_in M) (length es) (pair_count M p fs)
+          ∙ sym (first_refusal-append (face_conditions M p fs) numbers e) ∙ sym after_edges
 
 -- ---- the whole
 
@@ -88,22 +82,22 @@ module _ (M : Model) (s : ℕ) (p : Plane) (t : ℕ) where
   pub cut_plane : first_refusal (plane_in_range p) ≡ None → IsCutPlane p
   cut_plane e = let h = all_hold (plane_in_range p) e in ((coordinate_within p.a h.0, coordinate_within p.b h.1.0, coordinate_within p.c h.1.1.0), offset_within p.d h.1.1.1.0)
 
-  pub numbers_failed : (v : Verdict) → v ≡ verdict (first_refusal (number_conditions M s t)) → is_err v ≡ true → v ≡ verdict (first_refusal (first_conditions M s p t))
-  numbers_failed v is e = first_failed (number_conditions M s t) (plane_in_range p ++ (solid_conditions M s ++ sectioning_conditions M s p)) v is e ∙ ap (λ cs. verdict (first_refusal cs)) (sym all_is)
+  pub numbers_refused : (r : Refusal) → first_refusal (number_conditions M s t) ≡ Some r → first_refusal (first_conditions M s p t) ≡ Some r
+  numbers_refused r e = ap first_refusal all_is ∙ first_refusal-refused (number_conditions M s t) (plane_in_range p ++ (solid_conditions M s ++ sectioning_conditions M s p)) r e
 
   module _ (known : first_refusal (number_conditions M s t) ≡ None) where
     after_numbers : first_refusal (plane_in_range p ++ (solid_conditions M s ++ sectioning_conditions M s p)) ≡ first_refusal (first_conditions M s p t)
     after_numbers = sym (first_refusal-append (number_conditions M s t) (plane_in_range p ++ (solid_conditions M s ++ sectioning_conditions M s p)) known) ∙ ap first_refusal (sym all_is)
 
-    pub range_failed : (v : Verdict) → v ≡ verdict (first_refusal (plane_in_range p)) → is_err v ≡ true → v ≡ verdict (first_refusal (first_conditions M s p t))
-    range_failed v is e = first_failed (plane_in_range p) (solid_conditions M s ++ sectioning_conditions M s p) v is e ∙ ap verdict after_numbers
+    pub range_refused : (r : Refusal) → first_refusal (plane_in_range p) ≡ Some r → first_refusal (first_conditions M s p t) ≡ Some r
+    range_refused r e = sym after_numbers ∙ first_refusal-refused (plane_in_range p) (solid_conditions M s ++ sectioning_conditions M s p) r e
 
     module _ (range : first_refusal (plane_in_range p) ≡ None) where
       after_range : first_refusal (solid_conditions M s ++ sectioning_conditions M s p) ≡ first_refusal (first_conditions M s p t)
       after_range = sym (first_refusal-append (plane_in_range p) (solid_conditions M s ++ sectioning_conditions M s p) range) ∙ after_numbers
 
-      pub solid_failed : (v : Verdict) → v ≡ verdict (first_refusal (solid_conditions M s)) → is_err v ≡ true → v ≡ verdict (first_refusal (first_conditions M s p t))
-      solid_failed v is e = first_failed (solid_conditions M s) (sectioning_conditions M s p) v is e ∙ ap verdict after_range
+      pub solid_refused : (r : Refusal) → first_refusal (solid_conditions M s) ≡ Some r → first_refusal (first_conditions M s p t) ≡ Some r
+      solid_refused r e = sym after_range ∙ first_refusal-refused (solid_conditions M s) (sectioning_conditions M s p) r e
 
       pub section_decides : first_refusal (solid_conditions M s) ≡ None → first_refusal (sectioning_conditions M s p) ≡ first_refusal (first_conditions M s p t)
       section_decides solid = sym (first_refusal-append (solid_conditions M s) (sectioning_conditions M s p) solid) ∙ after_range

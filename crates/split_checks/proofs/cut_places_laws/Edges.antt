@@ -14,7 +14,6 @@ use Rattle.euler_operators.specs.Model.{Model, items_of, content, loop_of, solid
 use Rattle.euler_operators.specs.Sound.{Sound, Has, HasHalf}
 use Rattle.euler_operators.proofs.Halves.{plus_row, mate_minus, first_is_plus}
 use Rattle.euler_operators.proofs.Models.{cycle_there, loop_there}
-use Rattle.euler_operators.proofs.Tests.{same_truth}
 use Rattle.euler_operators.proofs.Members.{IsIn-map, IsApart-images, IsIn-filter}
 use Rattle.euler_operators.proofs.Tables.{row_some}
 use Rattle.euler_operators.specs.Conditions.{face_at}
@@ -24,9 +23,6 @@ use Rattle.solid_measure.proofs.face_walks_laws.TableWalks.{rising_passing}
 use Rattle.shapes.specs.Faces.{items_in, loops_of, boundary, edges_of}
 use Rattle.shapes.specs.Fresh.{first_such}
 use Rattle.solid_measure.proofs.solid_counts_laws.HowMany.{of_map, equally_many}
-use Rattle.solid_measure.specs.solid_checks.Least.{least_such}
-use Rattle.solid_measure.proofs.solid_checks_laws.FaceWalks.{lists_member}
-use Rattle.solid_measure.proofs.solid_checks_laws.Searches.{one_least, least_same, least_listed, least_rising}
 use Rattle.shapes.specs.split.Sides.{crosses, straddles, straddling_faces, crossing_edges}
 use Rattle.split_checks.specs.cut_places.Crossings.{leads_across, crossings_met, IsCrossing, AreCrossing, is_off}
 use Rattle.split_checks.specs.cut_places.Places.{IsWholeFace, AreWholeFaces}
@@ -34,17 +30,11 @@ use Rattle.split_checks.specs.cut_places.Walks.{AreIn}
 use Rattle.split_checks.proofs.cut_places_laws.CrossingHalves.{plus_crosses}
 use Rattle.split_checks.proofs.cut_places_laws.Lists.{of_picked, picked_apart, picked_rise, none_passes}
 use Rattle.split_checks.proofs.cut_places_laws.Walks.{all_in}
-use Rattle.solid_measure.proofs.face_walks_laws.Above.{member, Rising}
+use Rattle.solid_measure.proofs.face_walks_laws.Above.{Rising}
 use Rattle.shapes.specs.Walks.{loops_in}
 use Rattle.euler_laws.proofs.shared.Counted.{counted_once}
 use Rattle.shapes.proofs.walks.FaceLoops.{different_items, items_counted, items_there, items_joined}
 use Rattle.shapes.proofs.walks.SolidFaces.{solid_loops, all_loops_apart, loop_in_solid, solid_has_loop, face_of_loop, listed_face}
-
-member_in : (k : ℕ) (ks : List ℕ) → member k ks ≡ true → IsIn k ks
-member_in k ks m = IsIn-from_listed k ks (lists_member ks k ∙ m)
-
-in_member : (k : ℕ) (ks : List ℕ) → IsIn k ks → member k ks ≡ true
-in_member k ks i = sym (lists_member ks k) ∙ listed-from_in k ks i
 
 -- an item of a loop stands among the items of some loops with it
 item_of : (M : Model) (ls : List ℕ) (l x : ℕ) → IsIn l ls → IsIn x (items_of (content M l)) → IsIn x (items_in M ls)
@@ -61,6 +51,10 @@ all_crossing M p (e ∷ es) each = (each e (omega (arith, tick_same e)), all_cro
 all_whole : (M : Model) (p : Plane) (fs : List ℕ) → ((f : ℕ) → IsIn f fs → Has M.faces f × IsWholeFace M p f) → AreWholeFaces M p fs
 all_whole M p [] each = tt
 all_whole M p (f ∷ fs) each = let w = each f (omega (arith, tick_same f)) in (w.0, w.1, all_whole M p fs (λ k i. each k (omega (arith, i))))
+
+pub whole_there : (M : Model) (p : Plane) (fs : List ℕ) → AreWholeFaces M p fs → AreIn M.faces fs
+whole_there M p [] whole = tt
+whole_there M p (f ∷ fs) whole = (whole.0, whole_there M p fs whole.2)
 
 module _ (M : Model) (sound : Sound M) (s : ℕ) (p : Plane) where
   abbrev halves : List ℕ
@@ -136,20 +130,11 @@ module _ (M : Model) (sound : Sound M) (s : ℕ) (p : Plane) where
   pub as_many : length met ≡ length (crossing_edges M p s)
   as_many = equally_many met (crossing_edges M p s) met_apart crossing_apart met_crosses crossing_met
 
-  pub met_crossing : AreCrossing M p met
-  met_crossing = all_crossing M p met (λ e i. let o = in_edge e (met_crosses e i) in record { there = o.0; crossing = o.2 })
+  pub all_cross : AreCrossing M p (crossing_edges M p s)
+  all_cross = all_crossing M p (crossing_edges M p s) (λ e i. let o = in_edge e i in record { there = o.0; crossing = o.2 })
 
   pub rising : Rising (crossing_edges M p s)
   rising = picked_rise (λ x. crosses M p (plus x)) (edges_of M s) (rising_passing (λ e _. of_solid e) M.edges)
-
-  -- and the least off the lattice is the first of them that is
-  pub least_met : least_such (is_off M p) met ≡ first_such (is_off M p) (crossing_edges M p s)
-  least_met = one_least (λ k. is_off M p k && member k (crossing_edges M p s)) (least_such (is_off M p) met) (first_such (is_off M p) (crossing_edges M p s))
-      (least_same (λ k. is_off M p k && member k met) (λ k. is_off M p k && member k (crossing_edges M p s))
-      (λ k. ap (λ b. is_off M p k && b) (same_truth (member k met) (member k (crossing_edges M p s))
-      (λ m. in_member k (crossing_edges M p s) (met_crosses k (member_in k met m))) (λ m. in_member k met (crossing_met k (member_in k (crossing_edges M p s) m)))))
-      (least_such (is_off M p) met) (least_listed (is_off M p) met))
-      (least_rising (is_off M p) (crossing_edges M p s) rising)
 
   -- ---- the faces that straddle
 

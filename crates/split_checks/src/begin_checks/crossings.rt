@@ -1,8 +1,8 @@
 //! Edges that cross a plane off the lattice.
-ghost use Rattle.std.specs.Prelude.{◌≡◌, Some};
+ghost use Rattle.std.specs.Prelude.{◌≡◌};
 ghost use Rattle.euler_conditions.specs.Ready.{IsReady};
 ghost use Rattle.euler_operators.specs.Ranges.{IsCutPlane};
-ghost use Rattle.solid_measure.specs.solid_checks.Least.{least_such, lesser};
+ghost use Rattle.shapes.specs.Fresh.{first_such};
 ghost use Rattle.split_checks.specs.cut_places.Crossings.{AreCrossing, IsCrossing, is_off};
 
 use euler_conditions::Arena;
@@ -23,30 +23,19 @@ fn is_off(arena: &Arena, plane: Plane, e: u32) -> bool
     cut_point(plane, start(arena, h), finish(arena, h)).is_none()
 }
 
-/// The number, where it is less than the one found or none is found yet.
-fn lesser(found: Option<u32>, n: u32) -> Option<u32>
-    ensures { result ≡ lesser found (Some n) }
-{
-    match found {
-        Some(m) => { if m <= n { Some(m) } else { Some(n) } }
-        None => Some(n),
-    }
-}
-
-/// The least of some edges that cross the plane that meets it off the lattice, if there is one.
-pub(crate) fn least_off(arena: &Arena, plane: Plane, edges: &[u32]) -> Option<u32>
+/// The first of some edges that cross the plane that meets it off the lattice, if there is one.
+pub(crate) fn first_off(arena: &Arena, plane: Plane, edges: &[u32]) -> Option<u32>
     requires ready { IsReady arena.now }
     requires plane { IsCutPlane plane }
     requires crossing { AreCrossing arena.now.model plane edges.now }
-    ensures { result ≡ least_such (is_off arena.now.model plane) edges.now }
+    ensures { result ≡ first_such (is_off arena.now.model plane) edges.now }
 {
-    let mut least = None;
     let mut rest = edges;
     'edges: while let [e, others @ ..] = rest {
         if is_off(arena, plane, *e) {
-            least = lesser(least, *e);
+            return Some(*e);
         }
         rest = others;
     }
-    least
+    None
 }

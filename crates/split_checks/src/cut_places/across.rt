@@ -98,7 +98,12 @@ fn push_crossings(
 }
 
 /// The edges of solid s that cross the plane, face by face.
-pub fn crossings(alloc: Global, arena: &Arena, plane: Plane, s: u32) -> Result<Vec<u32>, AllocError>
+pub(crate) fn crossings(
+    alloc: Global,
+    arena: &Arena,
+    plane: Plane,
+    s: u32,
+) -> Result<Vec<u32>, AllocError>
     requires ready { IsReady arena.now }
     requires plane { IsCutPlane plane }
     ensures { IfOk result (λ edges. edges.items ≡ crossings_met arena.now.model plane (faces_of arena.now.model s)) }

@@ -61,7 +61,7 @@ fn push_loop_places(
 }
 
 /// The cut places of face f. It walks twice round each loop, and makes one list.
-pub fn places(
+pub(crate) fn places(
     alloc: Global,
     arena: &Arena,
     plane: Plane,

@@ -106,7 +106,7 @@ pub(crate) fn touches(arena: &Arena, plane: Plane, h: HalfEdge) -> bool
 }
 
 /// Whether a cut place is up: its half-edge ends above the plane.
-pub fn goes_up(arena: &Arena, plane: Plane, h: HalfEdge) -> bool
+pub(crate) fn goes_up(arena: &Arena, plane: Plane, h: HalfEdge) -> bool
     requires ready { IsReady arena.now }
     requires there { has_half arena.now.model (code h) ≡ true }
     requires plane { IsCutPlane plane }

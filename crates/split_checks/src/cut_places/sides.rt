@@ -96,7 +96,7 @@ fn straddles(arena: &Arena, plane: Plane, f: u32) -> bool
 }
 
 /// The faces of solid s that straddle the plane, rising.
-pub fn straddling(
+pub(crate) fn straddling(
     alloc: Global,
     arena: &Arena,
     plane: Plane,

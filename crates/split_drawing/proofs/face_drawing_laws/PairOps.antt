@@ -8,9 +8,9 @@ use Rattle.euler_operators.specs.declared.Op.TheVariants.{Mef, Mekr}
 use Rattle.euler_operators.specs.Conditions.{face_at}
 use Rattle.solid_walks.proofs.face_walks_laws.HalfCodes.{code_plus}
 use Rattle.split_drawing_laws.specs.drawings.DrawingOps.{join_edge, join_pair, draw_pair}
-use Rattle.split_drawing.specs.declared.face_drawing.pairs.Pair.{Pair}
+use Rattle.split_checks.specs.declared.cuts.Pair.{Pair}
 use Rattle.split_checks.specs.declared.progress.Progress.{Progress}
-use Rattle.split_drawing.specs.face_drawing.Codes.{codes}
+use Rattle.split_checks.specs.Cuts.{codes}
 use Rattle.split_checks.specs.Progress.{taken_of}
 
 made : (e : ℕ) → record { edge = e; first = true } ≡ half (plus e)

@@ -7,9 +7,10 @@ use Rattle.euler_operators.specs.Effect.{effect}
 use Rattle.shapes.specs.split.Drawing.{Drawing, in_one_loop, join_next, draw_next}
 use Rattle.split_drawing_laws.specs.drawings.DrawingOps.{join_pair, draw_pair}
 use Rattle.split_checks.proofs.cut_places_laws.Lists.{others, parts}
-use Rattle.split_drawing.specs.declared.face_drawing.pairs.Pair.{Pair}
+use Rattle.split_checks.specs.declared.cuts.Pair.{Pair}
 use Rattle.split_checks.specs.declared.progress.Progress.{Progress}
-use Rattle.split_drawing.specs.face_drawing.Codes.{codes, stuck_at}
+use Rattle.split_checks.specs.Cuts.{codes}
+use Rattle.split_drawing.specs.face_drawing.Stuck.{stuck_at}
 use Rattle.split_checks.specs.Progress.{taken_of, drawing_of}
 use Rattle.split_drawing.specs.face_drawing.Passes.{CanJoin, CanDraw}
 use Rattle.split_drawing.proofs.face_drawing_laws.Steps.{join_goes, kept_on, kept_made, joined_on, joined_made, draw_goes, drawn_on, drawn_made, stuck_on, stuck_made}

@@ -3,12 +3,12 @@ use Rattle.std.proofs.Common.{◌≡◌, List, [], ◌∷◌, map, sym, ap, ◌�
 use Rattle.euler_operators.specs.declared.Plane.{Plane}
 use Rattle.euler_operators.specs.Model.{Model}
 use Rattle.shapes.specs.split.Drawing.{drawn_between, next_drawn, faces_drawn}
-use Rattle.split_drawing.specs.declared.face_drawing.pairs.Pair.{Pair}
+use Rattle.split_checks.specs.declared.cuts.Pair.{Pair}
 use Rattle.split_checks.specs.declared.progress.Progress.{Progress}
-use Rattle.split_drawing.specs.face_drawing.Codes.{codes}
+use Rattle.split_checks.specs.Cuts.{codes}
 use Rattle.split_checks.specs.Progress.{drawing_of}
-use Rattle.split_drawing.specs.declared.face_pairs.pairs.FacePairs as declared
-use Rattle.split_drawing.specs.face_pairs.Paired.{paired}
+use Rattle.split_checks.specs.declared.cuts.FacePairs as declared
+use Rattle.split_checks.specs.Cuts.{paired}
 use Rattle.split_drawing.specs.solid_drawing.Drawn.{put_aside, CanDrawFace, CanDrawFaces}
 use Rattle.split_drawing.proofs.solid_drawing_laws.Faces.{aside, opened}
 

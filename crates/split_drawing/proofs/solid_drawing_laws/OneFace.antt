@@ -14,9 +14,10 @@ use Rattle.shapes.specs.split.Drawing.{Drawing, join_next, draw_next, all_joined
 use Rattle.split_drawing_laws.specs.drawings.DrawingOps.{ring_ops}
 use Rattle.split_drawing_laws.proofs.drawings.Faces.{begun_joining, joins, going, going_on, fitting_on, last, newer_face}
 use Rattle.split_drawing_laws.proofs.drawings.Rings.{Moved, rings_move, rings_are, rings_apart}
-use Rattle.split_drawing.specs.declared.face_drawing.pairs.Pair.{Pair}
+use Rattle.split_checks.specs.declared.cuts.Pair.{Pair}
 use Rattle.split_checks.specs.declared.progress.Progress.{Progress}
-use Rattle.split_drawing.specs.face_drawing.Codes.{codes, stuck_at}
+use Rattle.split_checks.specs.Cuts.{codes}
+use Rattle.split_drawing.specs.face_drawing.Stuck.{stuck_at}
 use Rattle.split_checks.specs.Progress.{drawing_of}
 use Rattle.split_drawing.specs.face_drawing.Passes.{CanJoin, CanDraw}
 use Rattle.split_drawing.specs.solid_drawing.Drawn.{CanDrawFace, put_aside}

@@ -12,7 +12,7 @@ use Rattle.shapes.specs.split.Drawing.{drawn_pairs, all_pairs}
 use Rattle.split_drawing_laws.specs.crossings.Kept.{Kept}
 use Rattle.split_drawing_laws.proofs.pairs.Sorted.{count-sorted}
 use Rattle.split_checks.proofs.cut_places_laws.Lists.{of_picked}
-use Rattle.split_drawing.specs.face_pairs.Paired.{all_place_pairs}
+use Rattle.split_checks.specs.Cuts.{all_place_pairs}
 use Rattle.split_drawing.specs.solid_drawing.Starts.{PairsThere, FacesThere, pairs_started, faces_started}
 
 module _ (M N : Model) (p : Plane) where

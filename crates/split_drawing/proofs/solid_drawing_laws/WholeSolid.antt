@@ -21,7 +21,7 @@ use Rattle.split_checks.proofs.cut_places_laws.Walks.{all_in}
 use Rattle.split_drawing.specs.edge_cutting.Begins.{CanBeCut}
 use Rattle.split_checks.specs.declared.progress.Progress.{Progress}
 use Rattle.split_checks.specs.Progress.{taken_of, drawing_of}
-use Rattle.split_drawing.specs.face_pairs.Paired.{paired_faces}
+use Rattle.split_checks.specs.Cuts.{paired_faces}
 use Rattle.split_drawing.specs.solid_drawing.Starts.{FacesThere, faces_started}
 use Rattle.split_drawing.specs.solid_drawing.Drawn.{put_aside, CanDrawFaces}
 use Rattle.split_drawing.proofs.solid_drawing_laws.Starts.{started_are, faces_there}

@@ -4,13 +4,14 @@ ghost use Rattle.euler_operators.specs.Conditions.{first_false};
 ghost use Rattle.undo_journal.specs.Journal.{after_step};
 ghost use Rattle.shapes.specs.split.Drawing.{draw_next};
 ghost use Rattle.split_drawing_laws.specs.drawings.DrawingOps as ops;
-ghost use Rattle.split_drawing.specs.face_drawing.Codes.{codes, stuck_at};
+ghost use Rattle.split_checks.specs.Cuts.{codes};
+ghost use Rattle.split_drawing.specs.face_drawing.Stuck.{stuck_at};
 ghost use Rattle.split_checks.specs.Progress.{drawing_of, taken_of};
 ghost use Rattle.split_drawing.specs.face_drawing.Passes.{CanDraw};
 
-use crate::face_drawing::pairs::{Pair, in_one_loop};
+use crate::face_drawing::pairs::in_one_loop;
 use euler_operators::{HalfEdge, Op};
-use split_checks::Progress;
+use split_checks::{Pair, Progress};
 use std::alloc::AllocError;
 use undo_journal::Draft;
 

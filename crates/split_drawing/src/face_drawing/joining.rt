@@ -6,12 +6,12 @@ ghost use Rattle.euler_operators.specs.Conditions.{first_false};
 ghost use Rattle.undo_journal.specs.Journal.{after_step};
 ghost use Rattle.shapes.specs.split.Drawing.{join_next};
 ghost use Rattle.split_drawing_laws.specs.drawings.DrawingOps as ops;
-ghost use Rattle.split_drawing.specs.face_drawing.Codes.{codes};
+ghost use Rattle.split_checks.specs.Cuts.{codes};
 ghost use Rattle.split_checks.specs.Progress.{drawing_of};
 ghost use Rattle.split_drawing.specs.face_drawing.Passes.{CanJoin};
 
-use crate::face_drawing::pairs::{Pair, in_one_loop, join_op};
-use split_checks::Progress;
+use crate::face_drawing::pairs::{in_one_loop, join_op};
+use split_checks::{Pair, Progress};
 use std::alloc::{AllocError, Global};
 use undo_journal::Draft;
 

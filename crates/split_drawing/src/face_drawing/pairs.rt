@@ -6,17 +6,11 @@ ghost use Rattle.euler_conditions.specs.Ready.{IsReady};
 ghost use Rattle.euler_operators.specs.Conditions.{face_at};
 ghost use Rattle.shapes.specs.split.Drawing.{in_one_loop};
 ghost use Rattle.split_drawing_laws.specs.drawings.DrawingOps.{join_pair};
-ghost use Rattle.split_drawing.specs.face_drawing.Codes.{codes};
+ghost use Rattle.split_checks.specs.Cuts.{codes};
 
 use euler_conditions::Arena;
 use euler_operators::{Corner, HalfEdge, Op};
-
-/// Two half-edges of a face that start at the cut places of a pair, the one that is up and the one that is down.
-#[derive(Clone, Copy)]
-pub struct Pair {
-    pub up: HalfEdge,
-    pub down: HalfEdge,
-}
+use split_checks::Pair;
 
 /// Whether the two stand in one loop.
 pub(crate) fn in_one_loop(arena: &Arena, pair: Pair) -> bool

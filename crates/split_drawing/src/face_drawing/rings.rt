@@ -4,7 +4,7 @@ ghost use Rattle.euler_laws.specs.Laws.{AreAccepted, effects};
 ghost use Rattle.euler_operators.specs.Conditions.{has_rings};
 ghost use Rattle.euler_conditions.specs.Store.{has_number};
 ghost use Rattle.split_drawing_laws.specs.drawings.DrawingOps.{ring_ops};
-ghost use Rattle.split_drawing.specs.face_drawing.Codes.{stuck_at};
+ghost use Rattle.split_drawing.specs.face_drawing.Stuck.{stuck_at};
 
 use crate::face_drawing::drawing::stuck_at;
 use euler_conditions::Arena;

@@ -2,14 +2,14 @@
 ghost use Rattle.std.specs.Prelude.{◌≡◌, [], map, IfOk};
 ghost use Rattle.euler_operators.specs.Ranges.{IsCutPlane};
 ghost use Rattle.shapes.specs.split.Drawing.{drawn_between};
-ghost use Rattle.split_drawing.specs.face_drawing.Codes.{codes};
+ghost use Rattle.split_checks.specs.Cuts.{codes};
 ghost use Rattle.split_checks.specs.Progress.{drawing_of};
 ghost use Rattle.split_drawing.specs.solid_drawing.Drawn.{CanDrawFace, put_aside};
 
-use crate::face_drawing::{Pair, draw_pairs, join_pairs, ring_free};
+use crate::face_drawing::{draw_pairs, join_pairs, ring_free};
 use crate::solid_drawing::rings::share_rings;
 use euler_operators::Plane;
-use split_checks::Progress;
+use split_checks::{Pair, Progress};
 use std::alloc::{AllocError, Global};
 use undo_journal::Draft;
 

@@ -5,15 +5,13 @@ ghost use Rattle.euler_operators.specs.Model.{has_half};
 ghost use Rattle.euler_conditions.specs.Ready.{IsReady};
 ghost use Rattle.euler_operators.specs.Ranges.{IsCutPlane};
 ghost use Rattle.shapes.specs.split.Drawing.{from_place};
-ghost use Rattle.split_drawing.specs.face_drawing.Codes.{codes};
-ghost use Rattle.split_drawing.specs.face_pairs.Paired.{paired};
+ghost use Rattle.split_checks.specs.Cuts.{codes};
+ghost use Rattle.split_checks.specs.Cuts.{paired};
 ghost use Rattle.split_drawing.specs.solid_drawing.Starts.{FacesThere, PairsThere, faces_started, pair_started, pairs_started};
 
-use crate::face_drawing::Pair;
-use crate::face_pairs::FacePairs;
 use euler_conditions::Arena;
 use euler_operators::{HalfEdge, Plane};
-use split_checks::starts_on;
+use split_checks::{FacePairs, Pair, starts_on};
 use std::alloc::{AllocError, Global};
 
 /// The half-edge that starts at the cut place that h told: h where it starts on the plane, else the one after it.

@@ -1,20 +1,20 @@
 //! A solid cut and drawn.
 ghost use Rattle.std.specs.Prelude.{◌≡◌, [], map, IfOk};
 ghost use Rattle.euler_operators.specs.Ranges.{IsCutPlane};
+ghost use Rattle.euler_operators.specs.Sound.{Sound};
 ghost use Rattle.shapes.specs.Fresh.{taken_in};
 ghost use Rattle.shapes.specs.split.Drawing.{faces_drawn, with_drawings};
 ghost use Rattle.split_drawing.specs.edge_cutting.Begins.{CanBeCut};
 ghost use Rattle.split_checks.specs.Progress.{drawing_of, taken_of};
-ghost use Rattle.split_drawing.specs.face_pairs.Paired.{paired};
+ghost use Rattle.split_checks.specs.Cuts.{AreCuts, paired};
 ghost use Rattle.split_drawing.specs.solid_drawing.Drawn.{CanDrawFaces, put_aside};
 
 use crate::edge_cutting::cut_edges;
-use crate::face_pairs::{FacePairs, face_pairs};
 use crate::solid_drawing::face::draw_face;
 use crate::solid_drawing::places::faces_started;
 use euler_conditions::Arena;
 use euler_operators::{Kind, Plane};
-use split_checks::Progress;
+use split_checks::{Cuts, FacePairs, Progress};
 use std::alloc::{AllocError, Global};
 use undo_journal::Draft;
 
@@ -63,8 +63,8 @@ fn draw_faces(
 }
 
 /// Cuts the edges of solid s that cross the plane, and then draws edges between the cut places of its faces that straddle, where the
-/// plane can begin to split s: the first two rewritings of a split. It tells the greatest numbers taken then, and the first face that
-/// can't be drawn, or 0.
+/// plane can begin to split s, and these are its cuts: the first two rewritings of a split. It tells the greatest numbers taken then,
+/// and the first face that can't be drawn, or 0.
 ///
 /// On `AllocError` some steps may be taken; the session that the draft came from stands, and `abandon` gives it back.
 pub fn draw_solid(
@@ -72,14 +72,16 @@ pub fn draw_solid(
     draft: &mut Draft,
     s: u32,
     plane: &Plane,
+    cuts: &Cuts,
 ) -> Result<Progress, AllocError>
-    requires { CanBeCut draft.old.model s plane.now }
+    requires sound { Sound draft.old.model }
+    requires begins { CanBeCut draft.old.model s plane.now }
+    requires cuts { AreCuts draft.old.model plane.now s cuts.now }
     ensures drawn { IfOk result (λ drawn. drawing_of drawn draft.new.model [] ≡ put_aside (with_drawings draft.old.model s plane.now)) }
     ensures session { draft.new.session ≡ draft.old.session }
 {
-    let faces = face_pairs(alloc, draft.arena(), s, plane)?;
-    cut_edges(alloc, draft, s, plane)?;
-    let started = faces_started(alloc, draft.arena(), *plane, faces.as_slice())?;
+    cut_edges(draft, s, plane, cuts.edges.as_slice())?;
+    let started = faces_started(alloc, draft.arena(), *plane, cuts.faces.as_slice())?;
     let from = beginning(draft.arena());
     draw_faces(alloc, draft, *plane, from, started.as_slice())
 }

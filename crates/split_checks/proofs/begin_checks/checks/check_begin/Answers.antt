@@ -1,36 +1,46 @@
-use Rattle.std.proofs.Common.{◌≡◌, ◌∙◌, IfOk, sym, subst}
-use Rattle.euler_operators.specs.Conditions.{verdict}
+use Rattle.std.proofs.Common.{◌≡◌, Some, None, IfOk, IfErr, subst}
+use Rattle.euler_operators.specs.Conditions.{first_refusal}
+use Rattle.euler_laws.proofs.shared.Goes.{verdict_passed, verdict_failed}
 use Rattle.shapes.specs.split.Split.{plane_in_range}
 use Rattle.split_checks.specs.begin_checks.Conditions.{number_conditions, solid_conditions}
-use Rattle.split_checks.proofs.begin_checks_laws.Stages.{all_passed, cut_plane, numbers_failed, range_failed, solid_failed, section_decides}
+use Rattle.split_checks.proofs.begin_checks_laws.Stages.{cut_plane, numbers_refused, range_refused, solid_refused, section_decides}
 use Rattle.split_checks.proofs.begin_checks.checks.check_begin.Goals as goal
 
-pub returns-then-is_err : goal.returns-then-is_err
-returns-then-is_err c =
-    numbers_failed c.args.arena.now.model c.args.s c.args.plane.now c.args.t c.check_numbers-numbers.result c.check_numbers-numbers.ensures (sym c.is_err.ensures.value ∙ c.if-is_err.true)
-
-pub returns-then-is_err-2 : goal.returns-then-is_err-2
-returns-then-is_err-2 c =
+pub returns-in-Err-clause-refused : goal.returns-in-Err-clause-refused
+returns-in-Err-clause-refused c =
     let M = c.args.arena.now.model in let s = c.args.s in let p = c.args.plane.now in let t = c.args.t in
-    let known = all_passed (number_conditions M s t) c.check_numbers-numbers.result c.check_numbers-numbers.ensures (sym c.is_err.ensures.value ∙ c.if-is_err.false) in
-    range_failed M s p t known c.check_plane-range.result c.check_plane-range.ensures (sym c.is_err-2.ensures.value ∙ c.if-is_err-2.true)
+    numbers_refused M s p t c.in-Err.refusal (verdict_failed (first_refusal (number_conditions M s t)) c.in-Err.refusal c.in-Err.ensures)
 
-pub returns-then-is_err-3 : goal.returns-then-is_err-3
-returns-then-is_err-3 c =
+pub returns-in-Err-check_plane-clause-refused : goal.returns-in-Err-check_plane-clause-refused
+returns-in-Err-check_plane-clause-refused c =
     let M = c.args.arena.now.model in let s = c.args.s in let p = c.args.plane.now in let t = c.args.t in
-    let known = all_passed (number_conditions M s t) c.check_numbers-numbers.result c.check_numbers-numbers.ensures (sym c.is_err.ensures.value ∙ c.if-is_err.false) in
-    let range = all_passed (plane_in_range p) c.check_plane-range.result c.check_plane-range.ensures (sym c.is_err-2.ensures.value ∙ c.if-is_err-2.false) in
-    solid_failed M s p t known range c.check_solid-solid.result c.check_solid-solid.ensures (sym c.is_err-3.ensures.value ∙ c.if-is_err-3.true)
+    let known = verdict_passed (first_refusal (number_conditions M s t)) c.in_default.field-0 c.in_default.ensures in
+    range_refused M s p t known c.in-Err-check_plane.refusal (verdict_failed (first_refusal (plane_in_range p)) c.in-Err-check_plane.refusal c.in-Err-check_plane.ensures)
+
+pub returns-in-Err-check_solid-clause-refused : goal.returns-in-Err-check_solid-clause-refused
+returns-in-Err-check_solid-clause-refused c =
+    let M = c.args.arena.now.model in let s = c.args.s in let p = c.args.plane.now in let t = c.args.t in
+    let known = verdict_passed (first_refusal (number_conditions M s t)) c.in_default.field-0 c.in_default.ensures in
+    let range = verdict_passed (first_refusal (plane_in_range p)) c.in_default-check_plane.field-0 c.in_default-check_plane.ensures in
+    solid_refused M s p t known range c.in-Err-check_solid.refusal (verdict_failed (first_refusal (solid_conditions M s)) c.in-Err-check_solid.refusal c.in-Err-check_solid.ensures)
 
 pub check_section-requires-clause-plane : goal.check_section-requires-clause-plane
 check_section-requires-clause-plane c =
-    let M = c.args.arena.now.model in let s = c.args.s in let p = c.args.plane.now in let t = c.args.t in
-    cut_plane M s p t (all_passed (plane_in_range p) c.check_plane-range.result c.check_plane-range.ensures (sym c.is_err-2.ensures.value ∙ c.if-is_err-2.false))
+    let p = c.args.plane.now in
+    cut_plane c.args.arena.now.model c.args.s p c.args.t (verdict_passed (first_refusal (plane_in_range p)) c.in_default-check_plane.field-0 c.in_default-check_plane.ensures)
 
-pub returns : goal.returns
-returns c =
+pub returns-clause-begins : goal.returns-clause-begins
+returns-clause-begins c =
     let M = c.args.arena.now.model in let s = c.args.s in let p = c.args.plane.now in let t = c.args.t in
-    let known = all_passed (number_conditions M s t) c.check_numbers-numbers.result c.check_numbers-numbers.ensures (sym c.is_err.ensures.value ∙ c.if-is_err.false) in
-    let range = all_passed (plane_in_range p) c.check_plane-range.result c.check_plane-range.ensures (sym c.is_err-2.ensures.value ∙ c.if-is_err-2.false) in
-    let solid = all_passed (solid_conditions M s) c.check_solid-solid.result c.check_solid-solid.ensures (sym c.is_err-3.ensures.value ∙ c.if-is_err-3.false) in
-    subst (λ o. IfOk c.check_section.result (λ checked. checked ≡ verdict o)) (section_decides M s p t known range solid) c.check_section.ensures
+    let known = verdict_passed (first_refusal (number_conditions M s t)) c.in_default.field-0 c.in_default.ensures in
+    let range = verdict_passed (first_refusal (plane_in_range p)) c.in_default-check_plane.field-0 c.in_default-check_plane.ensures in
+    let solid = verdict_passed (first_refusal (solid_conditions M s)) c.in_default-check_solid.field-0 c.in_default-check_solid.ensures in
+    subst (λ o. IfOk c.check_section.result (λ checked. IfOk checked (λ _. o ≡ None))) (section_decides M s p t known range solid) c.check_section.ensures.accepted
+
+pub returns-clause-refused : goal.returns-clause-refused
+returns-clause-refused c =
+    let M = c.args.arena.now.model in let s = c.args.s in let p = c.args.plane.now in let t = c.args.t in
+    let known = verdict_passed (first_refusal (number_conditions M s t)) c.in_default.field-0 c.in_default.ensures in
+    let range = verdict_passed (first_refusal (plane_in_range p)) c.in_default-check_plane.field-0 c.in_default-check_plane.ensures in
+    let solid = verdict_passed (first_refusal (solid_conditions M s)) c.in_default-check_solid.field-0 c.in_default-check_solid.ensures in
+    subst (λ o. IfOk c.check_section.result (λ checked. IfErr checked (λ refusal. o ≡ Some refusal))) (section_decides M s p t known range solid) c.check_section.ensures.refused

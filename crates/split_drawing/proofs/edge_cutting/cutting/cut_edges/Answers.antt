@@ -1,24 +1,18 @@
 use Rattle.std.proofs.Common.{◌∙◌, ap, sym, subst, refl}
-use Rattle.euler_operators.specs.Sound.{Sound}
 use Rattle.undo_journal.specs.Journal.{DraftJournal}
-use Rattle.shapes.specs.split.Sides.{crossing_edges}
 use Rattle.split_drawing.proofs.edge_cutting_laws.Remaining.{Cutting, cut_plane, begins, opened, next_goes, next_crosses, next_whole, next_taken}
 use Rattle.split_drawing.proofs.edge_cutting.cutting.cut_edges.Goals as goal
-
-pub rising_crossings-requires-clause-plane : goal.rising_crossings-requires-clause-plane
-rising_crossings-requires-clause-plane c = cut_plane c.args.draft.now.model c.args.s c.args.plane.now c.requires
 
 pub edges-init : goal.edges-init
 edges-init c =
     let M = c.args.draft.now.model in
-    let edges = c.as_slice-rest.ensures.value ∙ c.in_ok-edges.ensures ∙ ap (λ X. crossing_edges X c.args.plane.now c.args.s) c.arena.ensures.model in
     record {
-      cutting = subst (Cutting M c.args.s c.args.plane.now M) (sym edges) (begins M c.args.s c.args.plane.now (subst Sound c.arena.ensures.model c.arena.ensures.ready.sound) c.requires);
+      cutting = subst (Cutting M c.args.s c.args.plane.now M) (sym c.requires.edges) (begins M c.args.s c.args.plane.now c.requires.sound c.requires.begins);
       session = refl;
     }
 
 pub cut_edge-requires-clause-plane : goal.cut_edge-requires-clause-plane
-cut_edge-requires-clause-plane c = cut_plane c.args.draft.now.model c.args.s c.args.plane.now c.requires
+cut_edge-requires-clause-plane c = cut_plane c.args.draft.now.model c.args.s c.args.plane.now c.requires.begins
 
 pub cut_edge-requires-clause-crossing : goal.cut_edge-requires-clause-crossing
 cut_edge-requires-clause-crossing c = next_crosses _ _ _ _ _ _ (opened c.args.draft.now.model c.args.s c.args.plane.now c.edges.draft.model c.edges.rest.now _ c.in-len1-up.len_at_least c.edges.invariant.cutting)

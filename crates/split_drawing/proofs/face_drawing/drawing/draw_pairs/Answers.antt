@@ -1,6 +1,6 @@
 use Rattle.std.proofs.Common.{◌∙◌, true, false, map, ap}
 use Rattle.undo_journal.specs.Journal.{DraftJournal}
-use Rattle.split_drawing.specs.face_drawing.Codes.{codes}
+use Rattle.split_checks.specs.Cuts.{codes}
 use Rattle.split_drawing.proofs.face_drawing_laws.Turns.{first_pair, told, draw_accepted, drew, got_stuck}
 use Rattle.split_drawing.proofs.face_drawing.drawing.draw_pairs.Goals as goal
 

@@ -1,7 +1,7 @@
 use Rattle.std.proofs.Common.{◌∙◌, true, false, [], ◌∷◌, map, ap}
 use Rattle.std.proofs.lemmas.List.{map-append}
 use Rattle.undo_journal.specs.Journal.{DraftJournal}
-use Rattle.split_drawing.specs.face_drawing.Codes.{codes}
+use Rattle.split_checks.specs.Cuts.{codes}
 use Rattle.split_drawing.proofs.face_drawing_laws.Turns.{first_pair, told, join_accepted, joined, left_over}
 use Rattle.split_drawing.proofs.face_drawing.joining.join_pairs.Goals as goal
 

@@ -2,7 +2,7 @@ use Rattle.std.proofs.Common.{◌∙◌, [], map, sym, ap, subst}
 use Rattle.euler_operators.specs.Model.{Model}
 use Rattle.euler_operators.specs.Sound.{Has}
 use Rattle.undo_journal.specs.Journal.{DraftJournal}
-use Rattle.split_drawing.specs.face_drawing.Codes.{codes}
+use Rattle.split_checks.specs.Cuts.{codes}
 use Rattle.split_checks.specs.Progress.{drawing_of}
 use Rattle.split_drawing.proofs.solid_drawing_laws.OneFace.{can_join, then_there, then_draw, last_there, last_rings, with_shared, with_none}
 use Rattle.split_drawing.proofs.solid_drawing.face.draw_face.Goals as goal

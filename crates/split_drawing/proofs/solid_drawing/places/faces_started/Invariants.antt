@@ -1,5 +1,5 @@
 use Rattle.std.proofs.Common.{◌≡◌, ◌++◌, map, length}
-use Rattle.split_drawing.specs.face_pairs.Paired.{paired}
+use Rattle.split_checks.specs.Cuts.{paired}
 use Rattle.split_drawing.specs.solid_drawing.Starts.{FacesThere, faces_started}
 use Rattle.split_drawing.proofs.solid_drawing.places.faces_started.Given as goal
 

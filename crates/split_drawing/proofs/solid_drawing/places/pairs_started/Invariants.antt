@@ -1,5 +1,5 @@
 use Rattle.std.proofs.Common.{◌≡◌, ◌++◌, map, length}
-use Rattle.split_drawing.specs.face_drawing.Codes.{codes}
+use Rattle.split_checks.specs.Cuts.{codes}
 use Rattle.split_drawing.specs.solid_drawing.Starts.{PairsThere, pairs_started}
 use Rattle.split_drawing.proofs.solid_drawing.places.pairs_started.Given as goal
 

@@ -1,6 +1,6 @@
 use Rattle.std.proofs.Common.{◌∙◌, ◌∷◌, ap, sym}
 use Rattle.split_checks.proofs.cut_places_laws.Lists.{others, parts}
-use Rattle.split_drawing.specs.declared.face_pairs.pairs.FacePairs.{FacePairs}
+use Rattle.split_checks.specs.declared.cuts.FacePairs.{FacePairs}
 use Rattle.split_drawing.proofs.solid_drawing_laws.FaceTurns.{can_draw, can_go_on, made_on}
 use Rattle.split_drawing.proofs.solid_drawing.solid.draw_faces.Goals as goal
 

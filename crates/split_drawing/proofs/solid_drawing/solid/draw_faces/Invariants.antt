@@ -1,7 +1,7 @@
 use Rattle.std.proofs.Common.{◌≡◌, [], map, length}
 use Rattle.shapes.specs.split.Drawing.{faces_drawn}
 use Rattle.split_checks.specs.Progress.{drawing_of}
-use Rattle.split_drawing.specs.face_pairs.Paired.{paired}
+use Rattle.split_checks.specs.Cuts.{paired}
 use Rattle.split_drawing.specs.solid_drawing.Drawn.{CanDrawFaces, put_aside}
 use Rattle.split_drawing.proofs.solid_drawing.solid.draw_faces.Given as goal
 

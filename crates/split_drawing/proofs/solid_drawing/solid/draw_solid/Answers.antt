@@ -1,12 +1,11 @@
 use Rattle.std.proofs.Common.{◌≡◌, ◌∙◌, [], map, IfOk, ap, sym, subst}
 use Rattle.euler_operators.specs.Model.{Model}
-use Rattle.euler_operators.specs.Sound.{Sound}
 use Rattle.shapes.specs.Fresh.{taken_in}
 use Rattle.shapes.specs.split.Crossings.{with_crossings}
 use Rattle.shapes.specs.split.Drawing.{Drawing}
 use Rattle.split_drawing.proofs.edge_cutting_laws.Remaining.{cut_plane}
 use Rattle.split_checks.specs.Progress.{drawing_of}
-use Rattle.split_drawing.specs.face_pairs.Paired.{paired, paired_faces}
+use Rattle.split_checks.specs.Cuts.{paired}
 use Rattle.split_drawing.specs.solid_drawing.Starts.{FacesThere, faces_started}
 use Rattle.split_drawing.proofs.solid_drawing_laws.WholeSolid.{all_there, can_draw, made}
 use Rattle.split_drawing.proofs.solid_drawing.solid.draw_solid.Goals as goal
@@ -14,32 +13,29 @@ use Rattle.split_drawing.proofs.solid_drawing.solid.draw_solid.Goals as goal
 pub faces_started-requires-clause-there : goal.faces_started-requires-clause-there
 faces_started-requires-clause-there c =
     let M = c.args.draft.now.model in let s = c.args.s in let p = c.args.plane.now in
-    let sound = subst Sound c.arena.ensures.model c.arena.ensures.ready.sound in
-    let cut = c.arena-2.ensures.model ∙ c.in_ok-cut_edges.ensures.model in
-    let pairs = ap (map paired) c.as_slice.ensures.value ∙ c.in_ok-faces.ensures ∙ ap (λ X. paired_faces X p s) c.arena.ensures.model in
-    subst (λ (X : Model). FacesThere X (map paired c.as_slice.result.now)) (sym cut) (subst (FacesThere (with_crossings M s p).model) (sym pairs) (all_there M s p sound c.requires))
+    let cut = c.arena.ensures.model ∙ c.in_ok-cut_edges.ensures.model in
+    let pairs = ap (map paired) c.as_slice-2.ensures.value ∙ c.requires.cuts.faces in
+    subst (λ (X : Model). FacesThere X (map paired c.as_slice-2.result.now)) (sym cut) (subst (FacesThere (with_crossings M s p).model) (sym pairs) (all_there M s p c.requires.sound c.requires.begins))
 
 pub faces_started-requires-clause-plane : goal.faces_started-requires-clause-plane
-faces_started-requires-clause-plane c = cut_plane c.args.draft.now.model c.args.s c.args.plane.now c.requires
+faces_started-requires-clause-plane c = cut_plane c.args.draft.now.model c.args.s c.args.plane.now c.requires.begins
 
 pub draw_faces-requires-clause-plane : goal.draw_faces-requires-clause-plane
-draw_faces-requires-clause-plane c = cut_plane c.args.draft.now.model c.args.s c.args.plane.now c.requires
+draw_faces-requires-clause-plane c = cut_plane c.args.draft.now.model c.args.s c.args.plane.now c.requires.begins
 
 pub draw_faces-requires-clause-can : goal.draw_faces-requires-clause-can
 draw_faces-requires-clause-can c =
     let M = c.args.draft.now.model in let s = c.args.s in let p = c.args.plane.now in
-    let sound = subst Sound c.arena.ensures.model c.arena.ensures.ready.sound in
-    let pairs = ap (map paired) c.as_slice.ensures.value ∙ c.in_ok-faces.ensures ∙ ap (λ X. paired_faces X p s) c.arena.ensures.model in
-    can_draw M s p sound c.requires c.beginning-from.result c.cut_edges.new.draft.model c.in_ok-cut_edges.ensures.model
-    (c.beginning-from.ensures.taken ∙ ap taken_in c.arena-3.ensures.model) c.beginning-from.ensures.free (map paired c.as_slice-2.result.now)
-    (ap (map paired) c.as_slice-2.ensures.value ∙ c.in_ok-started.ensures ∙ (λ i. faces_started (c.arena-2.ensures.model i) p (pairs i)))
+    let pairs = ap (map paired) c.as_slice-2.ensures.value ∙ c.requires.cuts.faces in
+    can_draw M s p c.requires.sound c.requires.begins c.beginning-from.result c.cut_edges.new.draft.model c.in_ok-cut_edges.ensures.model
+    (c.beginning-from.ensures.taken ∙ ap taken_in c.arena-2.ensures.model) c.beginning-from.ensures.free (map paired c.as_slice-3.result.now)
+    (ap (map paired) c.as_slice-3.ensures.value ∙ c.in_ok-started.ensures ∙ (λ i. faces_started (c.arena.ensures.model i) p (pairs i)))
 
 pub returns-clause-drawn : goal.returns-clause-drawn
 returns-clause-drawn c =
     let M = c.args.draft.now.model in let s = c.args.s in let p = c.args.plane.now in
-    let sound = subst Sound c.arena.ensures.model c.arena.ensures.ready.sound in
-    let pairs = ap (map paired) c.as_slice.ensures.value ∙ c.in_ok-faces.ensures ∙ ap (λ X. paired_faces X p s) c.arena.ensures.model in
-    let same = made M s p sound c.requires c.beginning-from.result c.cut_edges.new.draft.model c.in_ok-cut_edges.ensures.model
-    (c.beginning-from.ensures.taken ∙ ap taken_in c.arena-3.ensures.model) c.beginning-from.ensures.free (map paired c.as_slice-2.result.now)
-    (ap (map paired) c.as_slice-2.ensures.value ∙ c.in_ok-started.ensures ∙ (λ i. faces_started (c.arena-2.ensures.model i) p (pairs i))) in
+    let pairs = ap (map paired) c.as_slice-2.ensures.value ∙ c.requires.cuts.faces in
+    let same = made M s p c.requires.sound c.requires.begins c.beginning-from.result c.cut_edges.new.draft.model c.in_ok-cut_edges.ensures.model
+    (c.beginning-from.ensures.taken ∙ ap taken_in c.arena-2.ensures.model) c.beginning-from.ensures.free (map paired c.as_slice-3.result.now)
+    (ap (map paired) c.as_slice-3.ensures.value ∙ c.in_ok-started.ensures ∙ (λ i. faces_started (c.arena.ensures.model i) p (pairs i))) in
     subst (λ (D : Drawing). IfOk c.draw_faces.result (λ drawn. drawing_of drawn c.draw_faces.new.draft.model [] ≡ D)) same c.draw_faces.ensures.drawn

@@ -1,0 +1,44 @@
+-- The edges of a solid that cross a plane, sorted after a walk over its faces has met them.
+use Rattle.std.proofs.Common.{◌≡◌, ℕ, suc, true, ◌&&◌, List, [], ◌∷◌, refl, ap, ◌∙◌, arith, inl, inr}
+use Rattle.std.specs.List.Sorted.{IsPermutation, IsSorted, IsNonDecreasing}
+use Rattle.std.specs.Ordering.{nat_cmp}
+use Rattle.std.proofs.lemmas.Bool.{lt-ltb}
+use Rattle.std.proofs.lemmas.List.Sorted.{length_permutation, IsNonDecreasingBy-from_sort}
+use Rattle.euler_operators.specs.declared.Plane.{Plane}
+use Rattle.euler_operators.specs.Items.{tick, IsApart}
+use Rattle.euler_operators.proofs.Lists.{tick_same}
+use Rattle.euler_operators.proofs.Tests.{less_or_same}
+use Rattle.euler_operators.proofs.Std.{SameItems-from_permutation}
+use Rattle.euler_operators.specs.Model.{Model, faces_of}
+use Rattle.euler_operators.specs.Sound.{Sound}
+use Rattle.euler_operators.specs.Conditions.{strictly_rises}
+use Rattle.euler_laws.proofs.shared.RisingLists.{within}
+use Rattle.solid_measure.proofs.face_walks_laws.Above.{Rising}
+use Rattle.euler_laws.proofs.shared.Listed.{IsIn-from_listed, listed-from_in}
+use Rattle.shapes.specs.split.Sides.{crossing_edges}
+use Rattle.split_checks.specs.cut_places.Crossings.{crossings_met}
+use Rattle.split_checks.proofs.cut_places_laws.Edges.{as_many, met_apart, met_crosses, rising}
+
+-- different numbers that don't fall rise
+rises : (xs : List ℕ) → IsNonDecreasing xs → IsApart xs → strictly_rises xs ≡ true
+rises [] up apart = refl
+rises (x ∷ []) up apart = refl
+rises (x ∷ y ∷ ys) up apart = elim (less_or_same x y (up 0 1 0 (omega arith) (omega arith))) [
+  | inl l ↦ ap (λ b. b && strictly_rises (y ∷ ys)) (lt-ltb x y l) ∙ rises (y ∷ ys) (λ i j d l m. up (suc i) (suc j) d (omega (arith, l)) (omega (arith, m))) (λ z. omega (arith, apart z))
+  | inr e ↦ absurd (omega (arith, apart x, tick_same x, ap (tick x) e))
+]
+
+from_rising : (xs : List ℕ) → Rising xs → strictly_rises xs ≡ true
+from_rising [] r = refl
+from_rising (x ∷ []) r = refl
+from_rising (x ∷ y ∷ ys) r = ap (λ b. b && strictly_rises (y ∷ ys)) (lt-ltb x y r.0.0) ∙ from_rising (y ∷ ys) r.1
+
+-- the edges met, sorted, are those of the solid that cross, rising
+pub sorted_crossings : (M : Model) → Sound M → (s : ℕ) (p : Plane) (es : List ℕ) → IsPermutation (crossings_met M p (faces_of M s)) es → IsSorted nat_cmp es → es ≡ crossing_edges M p s
+sorted_crossings M sound s p es moved sorted =
+    let met = crossings_met M p (faces_of M s) in
+    let same = SameItems-from_permutation met es moved in
+    let up = rises es (IsNonDecreasingBy-from_sort (λ x. x) es sorted) (λ x. omega (arith, met_apart M sound s p x, same x)) in
+    let w = within es (crossing_edges M p s) up (from_rising (crossing_edges M p s) (rising M sound s p))
+    (λ q l. listed-from_in q (crossing_edges M p s) (met_crosses M sound s p q (omega (arith, same q, IsIn-from_listed q es l)))) in
+    w.1 (length_permutation met es moved ∙ as_many M sound s p)

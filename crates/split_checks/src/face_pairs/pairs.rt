@@ -1,0 +1,122 @@
+//! The pairs of the cut places of one face.
+ghost use Rattle.std.specs.Prelude.{◌≡◌, ◌||◌, ◌∷◌, [], true, not, is_none, is_some, map, IfOk, IfSome};
+ghost use Rattle.std.specs.List.{list_all};
+ghost use Rattle.euler_operators.specs.HalfEdge.{code};
+ghost use Rattle.euler_operators.specs.Model.{has_half};
+ghost use Rattle.euler_operators.specs.Ranges.{IsCutPlane};
+ghost use Rattle.euler_operators.specs.Vectors.{same_point};
+ghost use Rattle.euler_conditions.specs.Ready.{IsReady};
+ghost use Rattle.euler_conditions.specs.Store.{has_number};
+ghost use Rattle.shapes.specs.split.Places.{in_pairs, is_crossed, is_up_and_down, place_pairs, place_point, sorted, up_first};
+ghost use Rattle.split_checks.specs.Cuts.{codes};
+ghost use Rattle.split_checks.specs.cut_places.Places.{IsWholeFace};
+ghost use Rattle.split_checks.specs.cut_places.Walks.{AreThere};
+ghost use Rattle.split_checks.specs.place_order.Order.{IsWholePlace, places_of};
+
+use crate::cut_places::{goes_up, places};
+use crate::cuts::Pair;
+use crate::place_order::{Places, in_order, place_point};
+use euler_conditions::Arena;
+use euler_operators::{HalfEdge, Kind, Plane};
+use std::alloc::{AllocError, Global};
+
+/// Two cut places as a pair, where one is up and the other down.
+fn up_and_down(arena: &Arena, plane: Plane, first: HalfEdge, second: HalfEdge) -> Option<Pair>
+    requires ready { IsReady arena.now }
+    requires first { has_half arena.now.model (code first) ≡ true }
+    requires second { has_half arena.now.model (code second) ≡ true }
+    requires plane { IsCutPlane plane }
+    ensures differ { is_some result ≡ is_up_and_down arena.now.model plane (code first, code second) }
+    ensures pair { IfSome result (λ pair. codes pair ≡ up_first arena.now.model plane (code first, code second)) }
+{
+    match (goes_up(arena, plane, first), goes_up(arena, plane, second)) {
+        (true, false) => Some(Pair {
+            up: first,
+            down: second,
+        }),
+        (false, true) => Some(Pair {
+            up: second,
+            down: first,
+        }),
+        _ => None,
+    }
+}
+
+/// The pair of two cut places, the only ones of a face, whose order needn't be known; none where they have equal points or aren't one
+/// up and one down.
+fn only_pair(
+    alloc: Global,
+    arena: &Arena,
+    plane: Plane,
+    first: HalfEdge,
+    second: HalfEdge,
+) -> Result<Option<Vec<Pair>>, AllocError>
+    requires ready { IsReady arena.now }
+    requires plane { IsCutPlane plane }
+    requires first { IsWholePlace arena.now.model plane (code first) }
+    requires second { IsWholePlace arena.now.model plane (code second) }
+    ensures crossed { IfOk result (λ found. is_none found ≡ same_point (place_point arena.now.model plane (code first)) (place_point arena.now.model plane (code second)) || not (is_up_and_down arena.now.model plane (code first, code second))) }
+    ensures pairs { IfOk result (λ found. IfSome found (λ pairs. map codes pairs.items ≡ map (up_first arena.now.model plane) (in_pairs (sorted arena.now.model plane (code first ∷ code second ∷ []))))) }
+{
+    if place_point(arena, plane, first) == place_point(arena, plane, second) {
+        return Ok(None);
+    }
+    let Some(pair) = up_and_down(arena, plane, first, second) else {
+        return Ok(None);
+    };
+    let mut pairs = Vec::new(alloc);
+    pairs.push(pair)?;
+    Ok(Some(pairs))
+}
+
+/// Places two by two, in their order, each pair with its up place first; none where a pair isn't one up and one down.
+fn pairs_in_order(
+    alloc: Global,
+    arena: &Arena,
+    plane: Plane,
+    order: Places,
+) -> Result<Option<Vec<Pair>>, AllocError>
+    requires ready { IsReady arena.now }
+    requires plane { IsCutPlane plane }
+    requires there { AreThere arena.now.model (places_of order.entries) }
+    ensures crossed { IfOk result (λ found. is_none found ≡ not (list_all (is_up_and_down arena.now.model plane) (in_pairs (places_of order.entries)))) }
+    ensures pairs { IfOk result (λ found. IfSome found (λ pairs. map codes pairs.items ≡ map (up_first arena.now.model plane) (in_pairs (places_of order.entries)))) }
+{
+    let mut pairs = Vec::new(alloc);
+    let mut left = order;
+    'pairs: while let Some((_, first)) = left.pop_first() {
+        let Some((_, second)) = left.pop_first() else {
+            return Ok(Some(pairs));
+        };
+        let Some(pair) = up_and_down(arena, plane, first, second) else {
+            return Ok(None);
+        };
+        pairs.push(pair)?;
+    }
+    Ok(Some(pairs))
+}
+
+/// The pairs of the cut places of face f, each with its up place first, in the order of their points; none where two places have equal
+/// points, or a pair isn't one up and one down. Of two places the points are compared, but not put in order.
+pub(crate) fn pairs_of_face(
+    alloc: Global,
+    arena: &Arena,
+    plane: Plane,
+    f: u32,
+) -> Result<Option<Vec<Pair>>, AllocError>
+    requires ready { IsReady arena.now }
+    requires there { has_number arena.now Kind.Face f ≡ true }
+    requires plane { IsCutPlane plane }
+    requires whole { IsWholeFace arena.now.model plane f }
+    ensures crossed { IfOk result (λ found. is_none found ≡ is_crossed arena.now.model plane f) }
+    ensures pairs { IfOk result (λ found. IfSome found (λ pairs. map codes pairs.items ≡ place_pairs arena.now.model plane f)) }
+{
+    let met = places(alloc, arena, plane, f)?;
+    if let [first, second] = met.as_slice() {
+        return only_pair(alloc, arena, plane, *first, *second);
+    }
+    match in_order(alloc, arena, plane, met)? {
+        Some(order) => pairs_in_order(alloc, arena, plane, order),
+        None => Ok(None),
+    }
+}

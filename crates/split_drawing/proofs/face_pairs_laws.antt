@@ -1,3 +1,0 @@
-pub mod OnePair
-pub mod Pairing
-pub mod Taken

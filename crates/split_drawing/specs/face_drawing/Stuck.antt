@@ -1,0 +1,7 @@
+-- The first face that can't be drawn, as the code has it.
+use Rattle.std.specs.Prelude.{ℕ, cond, nat_eq}
+use Rattle.split_checks.specs.declared.progress.Progress.{Progress}
+
+-- the first face that can't be drawn stays
+abbrev pub stuck_at : Progress → ℕ → Progress
+stuck_at c f = record c { stuck = cond (nat_eq c.stuck 0) f c.stuck }
