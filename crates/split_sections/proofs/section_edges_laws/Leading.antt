@@ -9,7 +9,7 @@ use Rattle.euler_laws.proofs.shared.Listed.{listed-from_in}
 use Rattle.shapes.specs.Faces.{loops_of, boundary}
 use Rattle.shapes.proofs.walks.FaceLoops.{items_counted}
 use Rattle.shapes.proofs.walks.SolidFaces.{face_of_loop}
-use Rattle.split_sections.specs.section_edges.BelowHalves.{leads_above, is_below, below_in, leading_above}
+use Rattle.split_sections.specs.section_edges.BelowHalves.{leads_above, below_in, leading_above}
 
 module _ (M : Model) (above : List ℕ) (f : ℕ) where
   -- each of some half-edges lies in face f

@@ -1,18 +1,17 @@
 //! The halves of the section edges that lie in faces below.
-ghost use Rattle.std.specs.Prelude.{◌≡◌, true, map, IfOk};
+ghost use Rattle.std.specs.Prelude.{◌≡◌, ◌++◌, true, map, IfOk, OnOk};
 ghost use Rattle.euler_operators.specs.HalfEdge.{code};
-ghost use Rattle.euler_operators.specs.Model.{faces_of, has_half};
+ghost use Rattle.euler_operators.specs.Model.{content, cycle_of, faces_of, has_half, items_of};
 ghost use Rattle.euler_conditions.specs.Ready.{IsReady};
 ghost use Rattle.euler_operators.specs.Conditions.{face_at, lists, strictly_rises};
 ghost use Rattle.euler_conditions.specs.Store.{has_number};
 ghost use Rattle.shapes.specs.Faces.{boundary};
-ghost use Rattle.split_checks.specs.cut_places.Walks.{AreThere};
 ghost use Rattle.shapes.specs.split.Section.{below_halves};
 ghost use Rattle.split_sections.specs.section_edges.BelowHalves.{below_in, below_met, leads_above, leading_above};
 
 use euler_conditions::Arena;
-use euler_operators::{HalfEdge, Kind};
-use split_checks::boundary;
+use euler_operators::{Content, HalfEdge, Kind};
+use solid_walks::least_item;
 use std::alloc::{AllocError, Global};
 
 /// Whether n is one of the numbers, which rise.
@@ -43,46 +42,71 @@ fn leads_above(arena: &Arena, above: &[u32], h: HalfEdge) -> bool
     is_above(arena, above, h.mate())
 }
 
-/// Those of the half-edges whose mates lie in faces above.
-fn leading_above(
-    alloc: Global,
+/// Adds the half-edges of the loop in which h stands whose mates lie in faces above, from its least half-edge on.
+fn push_ring_below(
     arena: &Arena,
     above: &[u32],
-    items: &[HalfEdge],
-) -> Result<Vec<HalfEdge>, AllocError>
+    h: HalfEdge,
+    found: &mut Vec<HalfEdge>,
+) -> Result<(), AllocError>
     requires ready { IsReady arena.now }
     requires rises { strictly_rises above.now ≡ true }
-    requires there { AreThere arena.now.model (map code items.now) }
-    ensures { IfOk result (λ found. map code found.items ≡ leading_above arena.now.model above.now (map code items.now)) }
+    requires there { has_half arena.now.model (code h) ≡ true }
+    ensures { OnOk result (map code found.new.items ≡ map code found.old.items ++ leading_above arena.now.model above.now (cycle_of arena.now.model (code h))) }
 {
-    let mut found = Vec::new(alloc);
-    let mut rest = items;
-    'items: while let [h, others @ ..] = rest {
-        if leads_above(arena, above, *h) {
-            found.push(*h)?;
+    let first = least_item(arena, h);
+    let mut at = first;
+    'round: loop {
+        if leads_above(arena, above, at) {
+            found.push(at)?;
         }
-        rest = others;
+        at = arena.next(at);
+        if at == first {
+            return Ok(());
+        }
     }
-    Ok(found)
 }
 
-/// The half-edges of face f where it isn't above, and their mates in faces that are.
-fn face_below(
-    alloc: Global,
+/// Adds the half-edges of loop l whose mates lie in faces above.
+fn push_loop_below(
+    arena: &Arena,
+    above: &[u32],
+    l: u32,
+    found: &mut Vec<HalfEdge>,
+) -> Result<(), AllocError>
+    requires ready { IsReady arena.now }
+    requires rises { strictly_rises above.now ≡ true }
+    requires there { has_number arena.now Kind.Loop l ≡ true }
+    ensures { OnOk result (map code found.new.items ≡ map code found.old.items ++ leading_above arena.now.model above.now (items_of (content arena.now.model l))) }
+{
+    match arena.content(l) {
+        Content::Lone(_) => Ok(()),
+        Content::Ring(h) => push_ring_below(arena, above, h, found),
+    }
+}
+
+/// Adds the half-edges of face f whose mates lie in faces above; none where f is above itself.
+fn push_face_below(
     arena: &Arena,
     above: &[u32],
     f: u32,
-) -> Result<Vec<HalfEdge>, AllocError>
+    found: &mut Vec<HalfEdge>,
+) -> Result<(), AllocError>
     requires ready { IsReady arena.now }
     requires rises { strictly_rises above.now ≡ true }
     requires there { has_number arena.now Kind.Face f ≡ true }
-    ensures { IfOk result (λ found. map code found.items ≡ below_in arena.now.model above.now (boundary arena.now.model f)) }
+    ensures { OnOk result (map code found.new.items ≡ map code found.old.items ++ below_in arena.now.model above.now (boundary arena.now.model f)) }
 {
     if is_listed(above, f) {
-        return Ok(Vec::new(alloc));
+        return Ok(());
     }
-    let items = boundary(alloc, arena, f)?;
-    leading_above(alloc, arena, above, items.as_slice())
+    push_loop_below(arena, above, arena.outer(f), found)?;
+    let mut last = 0;
+    'rings: while let Some(l) = arena.ring_after(f, last) {
+        push_loop_below(arena, above, l, found)?;
+        last = l;
+    }
+    Ok(())
 }
 
 /// The halves of the section edges of solid s that lie in faces that aren't above, face by face.
@@ -99,8 +123,7 @@ fn below_met(
     let mut found = Vec::new(alloc);
     let mut last = 0;
     'faces: while let Some(f) = arena.face_after(s, last) {
-        let more = face_below(alloc, arena, above, f)?;
-        found.extend_from_slice(more.as_slice())?;
+        push_face_below(arena, above, f, &mut found)?;
         last = f;
     }
     Ok(found)

@@ -1,5 +1,5 @@
-use Rattle.std.proofs.Common.{◌≡◌, ◌∙◌, ap, sym, ℕ, List, ◌++◌, map, length, arith, append_assoc}
-use Rattle.std.proofs.lemmas.List.{append-nil, map-append}
+use Rattle.std.proofs.Common.{◌∙◌, ap, sym, ℕ, List, ◌++◌, map, length, arith, append_assoc}
+use Rattle.std.proofs.lemmas.List.{append-nil}
 use Rattle.euler_operators.specs.declared.HalfEdge.{HalfEdge}
 use Rattle.euler_operators.specs.HalfEdge.{code}
 use Rattle.euler_operators.specs.Model.{faces_of}
@@ -22,10 +22,7 @@ pub faces-preserved : goal.faces-preserved
 faces-preserved c =
     let M = c.args.arena.now.model in let fs = c.args.above.now in let s = c.args.s in let f = c.in-Some.f in
     let old = map code c.faces.found.items in let here = below_in M fs (boundary M f) in let rest = below_met M fs (above f (faces_of M s)) in
-    let more : map code c.extend_from_slice.new.self.items ≡ old ++ here =
-    ap (map code) c.in_ok-extend_from_slice.ensures.items ∙ map-append code c.faces.found.items c.as_slice.result.now
-    ∙ ap (λ (hs : List ℕ). old ++ hs) (ap (map code) c.as_slice.ensures.value ∙ c.in_ok-more.ensures) in
-    ap (λ (hs : List ℕ). hs ++ rest) more ∙ append_assoc old here rest
+    ap (λ (hs : List ℕ). hs ++ rest) c.in_ok-push_face_below.ensures ∙ append_assoc old here rest
     ∙ ap (λ (gs : List ℕ). old ++ below_met M fs gs) (sym (next_face M s c.faces.last f c.in-Some.ensures)) ∙ c.faces.invariant
 
 pub returns : goal.returns
