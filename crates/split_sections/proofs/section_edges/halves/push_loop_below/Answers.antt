@@ -1,0 +1,26 @@
+use Rattle.std.proofs.Common.{◌≡◌, ◌∙◌, ℕ, List, ◌++◌, OnOk, map, subst, sym, ap}
+use Rattle.std.proofs.lemmas.List.{append-nil}
+use Rattle.euler_operators.specs.HalfEdge.{code}
+use Rattle.euler_operators.specs.Model.{content}
+use Rattle.euler_conditions.proofs.Known.{filled}
+use Rattle.split_checks.proofs.cut_places_laws.Walks.{ring_there, ring_cycle, lone_items}
+use Rattle.split_sections.specs.section_edges.BelowHalves.{leading_above}
+use Rattle.split_sections.specs.section_edges.Flagged.{is_flagged}
+use Rattle.split_sections.proofs.section_edges.halves.push_loop_below.Goals as goal
+
+pub content-requires-clause-filled : goal.content-requires-clause-filled
+content-requires-clause-filled c = filled c.args.arena.now.model c.requires.ready.sound c.args.l c.requires.there
+
+pub push_ring_below-requires-clause-there : goal.push_ring_below-requires-clause-there
+push_ring_below-requires-clause-there c = ring_there c.args.arena.now.model c.requires.ready.sound c.args.l c.in-Ring.h c.in-Ring.ensures
+
+pub returns-in-Lone : goal.returns-in-Lone
+returns-in-Lone c =
+    let M = c.args.arena.now.model in let had = map code c.args.found.now.items in
+    sym (append-nil had) ∙ ap (λ (hs : List ℕ). had ++ leading_above M (is_flagged c.args.flags.now) hs) (sym (lone_items (content M c.args.l) c.in-Lone.field-0 c.in-Lone.ensures))
+
+pub returns-in-Ring : goal.returns-in-Ring
+returns-in-Ring c =
+    let M = c.args.arena.now.model in
+    subst (λ hs. OnOk c.push_ring_below.result (map code c.push_ring_below.new.found.items ≡ map code c.args.found.now.items ++ leading_above M (is_flagged c.args.flags.now) hs))
+    (ring_cycle M c.requires.ready.sound c.args.l c.in-Ring.h c.in-Ring.ensures) c.push_ring_below.ensures
