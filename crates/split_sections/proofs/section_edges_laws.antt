@@ -1,5 +1,5 @@
 pub mod Normals
-pub mod Raised
+pub mod Searched
 pub mod Walked
 pub mod Leading
 pub mod Sorted

@@ -1,2 +1,1 @@
 pub mod BelowHalves
-pub mod Flagged

@@ -1,7 +1,6 @@
 //! The faces above a plane, and the edges of the section between them and the faces below.
 
 mod above;
-mod flags;
 mod halves;
 
 pub(crate) use above::{direction, faces_above};

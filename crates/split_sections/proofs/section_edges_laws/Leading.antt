@@ -1,17 +1,17 @@
 -- The section edges of one face: none where it is above, else those whose mates lie in faces above.
-use Rattle.std.proofs.Common.{◌≡◌, ℕ, Bool, true, false, cond, not, ◌&&◌, List, [], ◌∷◌, refl, sym, ap, ◌∙◌, arith}
+use Rattle.std.proofs.Common.{◌≡◌, ℕ, true, false, cond, not, ◌&&◌, List, [], ◌∷◌, refl, sym, ap, ◌∙◌, arith}
 use Rattle.euler_operators.specs.Items.{IsIn}
 use Rattle.euler_operators.proofs.Lists.{tick_same}
 use Rattle.euler_operators.specs.Model.{Model, loop_of}
 use Rattle.euler_operators.specs.Sound.{Sound, Has}
-use Rattle.euler_operators.specs.Conditions.{face_at}
+use Rattle.euler_operators.specs.Conditions.{face_at, lists}
 use Rattle.euler_laws.proofs.shared.Listed.{listed-from_in}
 use Rattle.shapes.specs.Faces.{loops_of, boundary}
 use Rattle.shapes.proofs.walks.FaceLoops.{items_counted}
 use Rattle.shapes.proofs.walks.SolidFaces.{face_of_loop}
 use Rattle.split_sections.specs.section_edges.BelowHalves.{leads_above, below_in, leading_above}
 
-module _ (M : Model) (up : ℕ → Bool) (f : ℕ) where
+module _ (M : Model) (above : List ℕ) (f : ℕ) where
   -- each of some half-edges lies in face f
   abbrev AreOf : List ℕ → Type 0
   AreOf hs = (h : ℕ) → IsIn h hs → face_at M h ≡ f
@@ -19,19 +19,19 @@ module _ (M : Model) (up : ℕ → Bool) (f : ℕ) where
   rest_of : (k : ℕ) (hs : List ℕ) → AreOf (k ∷ hs) → AreOf hs
   rest_of k hs of h i = of h (omega (arith, i))
 
-  first_of : (k : ℕ) (hs : List ℕ) → AreOf (k ∷ hs) → up (face_at M k) ≡ up f
-  first_of k hs of = ap (up) (of k (omega (arith, tick_same k)))
+  first_of : (k : ℕ) (hs : List ℕ) → AreOf (k ∷ hs) → lists above (face_at M k) ≡ lists above f
+  first_of k hs of = ap (lists above) (of k (omega (arith, tick_same k)))
 
-  none_in : (hs : List ℕ) → AreOf hs → up f ≡ true → below_in M up hs ≡ []
-  none_in [] of high = refl
-  none_in (k ∷ hs) of high =
-      ap (λ b. cond (not b && leads_above M up k) (k ∷ below_in M up hs) (below_in M up hs)) (first_of k hs of ∙ high) ∙ none_in hs (rest_of k hs of) high
+  none_in : (hs : List ℕ) → AreOf hs → lists above f ≡ true → below_in M above hs ≡ []
+  none_in [] of up = refl
+  none_in (k ∷ hs) of up =
+      ap (λ b. cond (not b && leads_above M above k) (k ∷ below_in M above hs) (below_in M above hs)) (first_of k hs of ∙ up) ∙ none_in hs (rest_of k hs of) up
 
-  all_in : (hs : List ℕ) → AreOf hs → up f ≡ false → leading_above M up hs ≡ below_in M up hs
+  all_in : (hs : List ℕ) → AreOf hs → lists above f ≡ false → leading_above M above hs ≡ below_in M above hs
   all_in [] of low = refl
   all_in (k ∷ hs) of low =
-      ap (λ (ns : List ℕ). cond (leads_above M up k) (k ∷ ns) ns) (all_in hs (rest_of k hs of) low)
-      ∙ sym (ap (λ b. cond (not b && leads_above M up k) (k ∷ below_in M up hs) (below_in M up hs)) (first_of k hs of ∙ low))
+      ap (λ (ns : List ℕ). cond (leads_above M above k) (k ∷ ns) ns) (all_in hs (rest_of k hs of) low)
+      ∙ sym (ap (λ b. cond (not b && leads_above M above k) (k ∷ below_in M above hs) (below_in M above hs)) (first_of k hs of ∙ low))
 
   module _ (sound : Sound M) (there : Has M.faces f) where
     bounding : AreOf (boundary M f)
@@ -40,8 +40,8 @@ module _ (M : Model) (up : ℕ → Bool) (f : ℕ) where
         let l : IsIn (loop_of M h) (loops_of M f) = omega (arith, i, items_counted M sound (loops_of M f) h) in
         (face_of_loop M sound f (loop_of M h) there (listed-from_in (loop_of M h) (loops_of M f) l)).1
 
-    pub none_below : up f ≡ true → [] ≡ below_in M up (boundary M f)
-    none_below high = sym (none_in (boundary M f) bounding high)
+    pub none_below : lists above f ≡ true → [] ≡ below_in M above (boundary M f)
+    none_below up = sym (none_in (boundary M f) bounding up)
 
-    pub leading_below : up f ≡ false → leading_above M up (boundary M f) ≡ below_in M up (boundary M f)
+    pub leading_below : lists above f ≡ false → leading_above M above (boundary M f) ≡ below_in M above (boundary M f)
     leading_below low = all_in (boundary M f) bounding low

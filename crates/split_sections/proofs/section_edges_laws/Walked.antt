@@ -33,12 +33,12 @@ module _ (M : Model) (sound : Sound M) (above : List ℕ) (s : ℕ) where
   halves = items_in M (solid_loops M sound s)
 
   abbrev test : ℕ → Bool
-  test h = is_below M (lists above) h
+  test h = is_below M above h
 
   abbrev met : List ℕ
-  met = below_met M (lists above) (faces_of M s)
+  met = below_met M above (faces_of M s)
 
-  met_in_faces : (fs : List ℕ) → below_met M (lists above) fs ≡ filter test (items_in M (loops_in M fs))
+  met_in_faces : (fs : List ℕ) → below_met M above fs ≡ filter test (items_in M (loops_in M fs))
   unfolding boundary
   met_in_faces [] = refl
   met_in_faces (f ∷ fs) =

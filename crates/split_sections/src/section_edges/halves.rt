@@ -3,52 +3,61 @@ ghost use Rattle.std.specs.Prelude.{◌≡◌, ◌++◌, true, map, IfOk, OnOk};
 ghost use Rattle.euler_operators.specs.HalfEdge.{code};
 ghost use Rattle.euler_operators.specs.Model.{content, cycle_of, faces_of, has_half, items_of};
 ghost use Rattle.euler_conditions.specs.Ready.{IsReady};
-ghost use Rattle.euler_operators.specs.Conditions.{face_at, strictly_rises};
+ghost use Rattle.euler_operators.specs.Conditions.{face_at, lists, strictly_rises};
 ghost use Rattle.euler_conditions.specs.Store.{has_number};
 ghost use Rattle.shapes.specs.Faces.{boundary};
 ghost use Rattle.shapes.specs.split.Section.{below_halves};
 ghost use Rattle.split_sections.specs.section_edges.BelowHalves.{below_in, below_met, leads_above, leading_above};
-ghost use Rattle.split_sections.specs.section_edges.Flagged.{is_flagged};
 
-use crate::section_edges::flags::{flags_of, is_flagged};
 use euler_conditions::Arena;
 use euler_operators::{Content, HalfEdge, Kind};
 use solid_walks::least_item;
 use std::alloc::{AllocError, Global};
 
-/// Whether the half-edge lies in a face above, as the flags tell.
-fn is_above(arena: &Arena, flags: &[bool], h: HalfEdge) -> bool
-    requires ready { IsReady arena.now }
-    requires there { has_half arena.now.model (code h) ≡ true }
-    ensures { result ≡ is_flagged flags.now (face_at arena.now.model (code h)) }
+/// Whether n is one of the numbers, which rise.
+fn is_listed(numbers: &[u32], n: u32) -> bool
+    requires { strictly_rises numbers.now ≡ true }
+    ensures { result ≡ lists numbers.now n }
 {
-    is_flagged(flags, arena.face_of(arena.loop_of(h)))
+    numbers.binary_search(&n).is_ok()
 }
 
-/// Whether the mate of the half-edge lies in a face above, as the flags tell.
-fn leads_above(arena: &Arena, flags: &[bool], h: HalfEdge) -> bool
+/// Whether the half-edge lies in one of the faces above, which rise.
+fn is_above(arena: &Arena, above: &[u32], h: HalfEdge) -> bool
     requires ready { IsReady arena.now }
+    requires rises { strictly_rises above.now ≡ true }
     requires there { has_half arena.now.model (code h) ≡ true }
-    ensures { result ≡ leads_above arena.now.model (is_flagged flags.now) (code h) }
+    ensures { result ≡ lists above.now (face_at arena.now.model (code h)) }
 {
-    is_above(arena, flags, h.mate())
+    is_listed(above, arena.face_of(arena.loop_of(h)))
+}
+
+/// Whether the mate of the half-edge lies in one of the faces above, which rise.
+fn leads_above(arena: &Arena, above: &[u32], h: HalfEdge) -> bool
+    requires ready { IsReady arena.now }
+    requires rises { strictly_rises above.now ≡ true }
+    requires there { has_half arena.now.model (code h) ≡ true }
+    ensures { result ≡ leads_above arena.now.model above.now (code h) }
+{
+    is_above(arena, above, h.mate())
 }
 
 /// Adds the half-edges of the loop in which h stands whose mates lie in faces above, from its least half-edge on.
 fn push_ring_below(
     arena: &Arena,
-    flags: &[bool],
+    above: &[u32],
     h: HalfEdge,
     found: &mut Vec<HalfEdge>,
 ) -> Result<(), AllocError>
     requires ready { IsReady arena.now }
+    requires rises { strictly_rises above.now ≡ true }
     requires there { has_half arena.now.model (code h) ≡ true }
-    ensures { OnOk result (map code found.new.items ≡ map code found.old.items ++ leading_above arena.now.model (is_flagged flags.now) (cycle_of arena.now.model (code h))) }
+    ensures { OnOk result (map code found.new.items ≡ map code found.old.items ++ leading_above arena.now.model above.now (cycle_of arena.now.model (code h))) }
 {
     let first = least_item(arena, h);
     let mut at = first;
     'round: loop {
-        if leads_above(arena, flags, at) {
+        if leads_above(arena, above, at) {
             found.push(at)?;
         }
         at = arena.next(at);
@@ -61,64 +70,67 @@ fn push_ring_below(
 /// Adds the half-edges of loop l whose mates lie in faces above.
 fn push_loop_below(
     arena: &Arena,
-    flags: &[bool],
+    above: &[u32],
     l: u32,
     found: &mut Vec<HalfEdge>,
 ) -> Result<(), AllocError>
     requires ready { IsReady arena.now }
+    requires rises { strictly_rises above.now ≡ true }
     requires there { has_number arena.now Kind.Loop l ≡ true }
-    ensures { OnOk result (map code found.new.items ≡ map code found.old.items ++ leading_above arena.now.model (is_flagged flags.now) (items_of (content arena.now.model l))) }
+    ensures { OnOk result (map code found.new.items ≡ map code found.old.items ++ leading_above arena.now.model above.now (items_of (content arena.now.model l))) }
 {
     match arena.content(l) {
         Content::Lone(_) => Ok(()),
-        Content::Ring(h) => push_ring_below(arena, flags, h, found),
+        Content::Ring(h) => push_ring_below(arena, above, h, found),
     }
 }
 
 /// Adds the half-edges of face f whose mates lie in faces above; none where f is above itself.
 fn push_face_below(
     arena: &Arena,
-    flags: &[bool],
+    above: &[u32],
     f: u32,
     found: &mut Vec<HalfEdge>,
 ) -> Result<(), AllocError>
     requires ready { IsReady arena.now }
+    requires rises { strictly_rises above.now ≡ true }
     requires there { has_number arena.now Kind.Face f ≡ true }
-    ensures { OnOk result (map code found.new.items ≡ map code found.old.items ++ below_in arena.now.model (is_flagged flags.now) (boundary arena.now.model f)) }
+    ensures { OnOk result (map code found.new.items ≡ map code found.old.items ++ below_in arena.now.model above.now (boundary arena.now.model f)) }
 {
-    if is_flagged(flags, f) {
+    if is_listed(above, f) {
         return Ok(());
     }
-    push_loop_below(arena, flags, arena.outer(f), found)?;
+    push_loop_below(arena, above, arena.outer(f), found)?;
     let mut last = 0;
     'rings: while let Some(l) = arena.ring_after(f, last) {
-        push_loop_below(arena, flags, l, found)?;
+        push_loop_below(arena, above, l, found)?;
         last = l;
     }
     Ok(())
 }
 
-/// The halves of the section edges of solid s that lie in faces that aren't above, as the flags tell, face by face.
+/// The halves of the section edges of solid s that lie in faces that aren't above, face by face.
 fn below_met(
     alloc: Global,
     arena: &Arena,
-    flags: &[bool],
+    above: &[u32],
     s: u32,
 ) -> Result<Vec<HalfEdge>, AllocError>
     requires ready { IsReady arena.now }
-    ensures { IfOk result (λ found. map code found.items ≡ below_met arena.now.model (is_flagged flags.now) (faces_of arena.now.model s)) }
+    requires rises { strictly_rises above.now ≡ true }
+    ensures { IfOk result (λ found. map code found.items ≡ below_met arena.now.model above.now (faces_of arena.now.model s)) }
 {
     let mut found = Vec::new(alloc);
     let mut last = 0;
     'faces: while let Some(f) = arena.face_after(s, last) {
-        push_face_below(arena, flags, f, &mut found)?;
+        push_face_below(arena, above, f, &mut found)?;
         last = f;
     }
     Ok(found)
 }
 
 /// The halves of the section edges of solid s that lie in faces that aren't above, by rising edge, where `above` are its faces above,
-/// rising. It takes n log n steps for n half-edges of the solid, and a flag for each number up to the last of the faces above.
+/// rising. It takes n log n steps for n half-edges of the solid.
 pub(crate) fn below_halves(
     alloc: Global,
     arena: &Arena,
@@ -130,8 +142,7 @@ pub(crate) fn below_halves(
     requires there { has_number arena.now Kind.Solid s ≡ true }
     ensures { IfOk result (λ found. map code found.items ≡ below_halves arena.now.model above.now s) }
 {
-    let flags = flags_of(alloc, above)?;
-    let mut found = below_met(alloc, arena, flags.as_slice(), s)?;
+    let mut found = below_met(alloc, arena, above, s)?;
     found.sort_by_key(|h| h.edge)?;
     Ok(found)
 }

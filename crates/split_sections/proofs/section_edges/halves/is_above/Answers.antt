@@ -2,12 +2,12 @@ use Rattle.std.proofs.Common.{◌∙◌, ap}
 use Rattle.euler_operators.specs.HalfEdge.{code}
 use Rattle.euler_operators.specs.Table.{has}
 use Rattle.euler_operators.specs.Model.{face_of}
+use Rattle.euler_operators.specs.Conditions.{lists}
 use Rattle.euler_operators.proofs.Models.{loop_there}
-use Rattle.split_sections.specs.section_edges.Flagged.{is_flagged}
 use Rattle.split_sections.proofs.section_edges.halves.is_above.Goals as goal
 
 pub face_of-requires : goal.face_of-requires
 face_of-requires c = let M = c.args.arena.now.model in ap (has M.loops) c.loop_of.ensures ∙ loop_there M c.requires.ready.sound (code c.args.h) c.requires.there
 
 pub returns : goal.returns
-returns c = let M = c.args.arena.now.model in c.is_flagged.ensures ∙ ap (is_flagged c.args.flags.now) (c.face_of.ensures ∙ ap (face_of M) c.loop_of.ensures)
+returns c = let M = c.args.arena.now.model in c.is_listed.ensures ∙ ap (lists c.args.above.now) (c.face_of.ensures ∙ ap (face_of M) c.loop_of.ensures)

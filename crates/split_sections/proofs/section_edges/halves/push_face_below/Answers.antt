@@ -8,18 +8,17 @@ use Rattle.solid_walks.proofs.face_walks_laws.Above.{above}
 use Rattle.solid_walks.proofs.face_walks_laws.RingWalks.{next_ring}
 use Rattle.split_checks.proofs.cut_places_laws.Rings.{outer_items, ring_items, no_items}
 use Rattle.split_sections.specs.section_edges.BelowHalves.{leads_above, leading_above}
-use Rattle.split_sections.specs.section_edges.Flagged.{is_flagged}
 use Rattle.split_sections.proofs.section_edges_laws.Leading.{none_below, leading_below}
 use Rattle.split_sections.proofs.section_edges.halves.push_face_below.Goals as goal
 
-pub returns-then-is_flagged : goal.returns-then-is_flagged
-returns-then-is_flagged c =
+pub returns-then-is_listed : goal.returns-then-is_listed
+returns-then-is_listed c =
     let had = map code c.args.found.now.items in
-    sym (append-nil had) ∙ ap (λ (hs : List ℕ). had ++ hs) (none_below c.args.arena.now.model (is_flagged c.args.flags.now) c.args.f c.requires.ready.sound c.requires.there (sym c.is_flagged.ensures ∙ c.if-is_flagged.true))
+    sym (append-nil had) ∙ ap (λ (hs : List ℕ). had ++ hs) (none_below c.args.arena.now.model c.args.above.now c.args.f c.requires.ready.sound c.requires.there (sym c.is_listed.ensures ∙ c.if-is_listed.true))
 
 pub rings-init : goal.rings-init
 rings-init c =
-    let M = c.args.arena.now.model in let f = c.args.f in let fs = is_flagged c.args.flags.now in let had = map code c.args.found.now.items in
+    let M = c.args.arena.now.model in let f = c.args.f in let fs = c.args.above.now in let had = map code c.args.found.now.items in
     let first = items_of (content M (outer M f)) in let rest = items_in M (above 0 (rings_of M f)) in
     ap (λ (hs : List ℕ). hs ++ leading_above M fs rest) (c.in_ok-push_loop_below.ensures ∙ ap (λ l. had ++ leading_above M fs (items_of (content M l))) c.outer.ensures)
     ∙ append_assoc had (leading_above M fs first) (leading_above M fs rest)
@@ -30,7 +29,7 @@ rings-smaller c = let next = next_ring c.args.arena.now.model c.args.f c.rings.l
 
 pub rings-preserved : goal.rings-preserved
 rings-preserved c =
-    let M = c.args.arena.now.model in let f = c.args.f in let l = c.in-Some.l in let fs = is_flagged c.args.flags.now in
+    let M = c.args.arena.now.model in let f = c.args.f in let l = c.in-Some.l in let fs = c.args.above.now in
     let had = map code c.rings.found.items in let more = items_of (content M l) in let rest = items_in M (above l (rings_of M f)) in
     ap (λ (hs : List ℕ). hs ++ leading_above M fs rest) c.in_ok-push_loop_below-2.ensures ∙ append_assoc had (leading_above M fs more) (leading_above M fs rest)
     ∙ ap (λ (hs : List ℕ). had ++ hs) (sym (filter-append (leads_above M fs) more rest) ∙ ap (leading_above M fs) (sym (ring_items M f c.rings.last l c.in-Some.ensures)))
@@ -38,6 +37,6 @@ rings-preserved c =
 
 pub returns : goal.returns
 returns c =
-    let M = c.args.arena.now.model in let fs = is_flagged c.args.flags.now in let had = map code c.rings.found.items in
+    let M = c.args.arena.now.model in let fs = c.args.above.now in let had = map code c.rings.found.items in
     sym (append-nil had) ∙ ap (λ (hs : List ℕ). had ++ leading_above M fs hs) (sym (no_items M c.args.f c.rings.last c.in_default.ensures)) ∙ c.rings.invariant
-    ∙ ap (λ (hs : List ℕ). map code c.args.found.now.items ++ hs) (leading_below M fs c.args.f c.requires.ready.sound c.requires.there (sym c.is_flagged.ensures ∙ c.if-is_flagged.false))
+    ∙ ap (λ (hs : List ℕ). map code c.args.found.now.items ++ hs) (leading_below M fs c.args.f c.requires.ready.sound c.requires.there (sym c.is_listed.ensures ∙ c.if-is_listed.false))

@@ -4,12 +4,11 @@ use Rattle.euler_operators.specs.Model.{rings_of}
 use Rattle.shapes.specs.Faces.{boundary, items_in}
 use Rattle.solid_walks.proofs.face_walks_laws.Above.{above}
 use Rattle.split_sections.specs.section_edges.BelowHalves.{leading_above}
-use Rattle.split_sections.specs.section_edges.Flagged.{is_flagged}
 use Rattle.split_sections.proofs.section_edges.halves.push_face_below.Given as goal
 
 abbrev pub invariant-rings : goal.invariant-rings
-invariant-rings l = map code l.found.items ++ leading_above l.arena.model (is_flagged l.flags) (items_in l.arena.model (above l.last (rings_of l.arena.model l.f)))
-    ≡ map code l.fn.found.items ++ leading_above l.arena.model (is_flagged l.flags) (boundary l.arena.model l.f)
+invariant-rings l = map code l.found.items ++ leading_above l.arena.model l.above (items_in l.arena.model (above l.last (rings_of l.arena.model l.f)))
+    ≡ map code l.fn.found.items ++ leading_above l.arena.model l.above (boundary l.arena.model l.f)
 
 abbrev pub decreases-rings : goal.decreases-rings
 decreases-rings l = length (above l.last (rings_of l.arena.model l.f))

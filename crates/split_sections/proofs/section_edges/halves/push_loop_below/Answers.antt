@@ -5,7 +5,6 @@ use Rattle.euler_operators.specs.Model.{content}
 use Rattle.euler_conditions.proofs.Known.{filled}
 use Rattle.split_checks.proofs.cut_places_laws.Walks.{ring_there, ring_cycle, lone_items}
 use Rattle.split_sections.specs.section_edges.BelowHalves.{leading_above}
-use Rattle.split_sections.specs.section_edges.Flagged.{is_flagged}
 use Rattle.split_sections.proofs.section_edges.halves.push_loop_below.Goals as goal
 
 pub content-requires-clause-filled : goal.content-requires-clause-filled
@@ -17,10 +16,10 @@ push_ring_below-requires-clause-there c = ring_there c.args.arena.now.model c.re
 pub returns-in-Lone : goal.returns-in-Lone
 returns-in-Lone c =
     let M = c.args.arena.now.model in let had = map code c.args.found.now.items in
-    sym (append-nil had) ∙ ap (λ (hs : List ℕ). had ++ leading_above M (is_flagged c.args.flags.now) hs) (sym (lone_items (content M c.args.l) c.in-Lone.field-0 c.in-Lone.ensures))
+    sym (append-nil had) ∙ ap (λ (hs : List ℕ). had ++ leading_above M c.args.above.now hs) (sym (lone_items (content M c.args.l) c.in-Lone.field-0 c.in-Lone.ensures))
 
 pub returns-in-Ring : goal.returns-in-Ring
 returns-in-Ring c =
     let M = c.args.arena.now.model in
-    subst (λ hs. OnOk c.push_ring_below.result (map code c.push_ring_below.new.found.items ≡ map code c.args.found.now.items ++ leading_above M (is_flagged c.args.flags.now) hs))
+    subst (λ hs. OnOk c.push_ring_below.result (map code c.push_ring_below.new.found.items ≡ map code c.args.found.now.items ++ leading_above M c.args.above.now hs))
     (ring_cycle M c.requires.ready.sound c.args.l c.in-Ring.h c.in-Ring.ensures) c.push_ring_below.ensures

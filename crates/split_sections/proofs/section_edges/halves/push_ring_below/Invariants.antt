@@ -4,14 +4,13 @@ use Rattle.euler_operators.specs.HalfEdge.{code}
 use Rattle.euler_operators.specs.Model.{cycle_of}
 use Rattle.solid_walks.proofs.face_walks_laws.CycleWalks.{to_come}
 use Rattle.split_sections.specs.section_edges.BelowHalves.{leading_above}
-use Rattle.split_sections.specs.section_edges.Flagged.{is_flagged}
 use Rattle.split_sections.proofs.section_edges.halves.push_ring_below.Given as goal
 
 abbrev pub invariant-round : goal.invariant-round
 invariant-round l = record {
   at_in : IsIn (code l.at) (cycle_of l.arena.model (code l.first));
-  made : map code l.found.items ++ leading_above l.arena.model (is_flagged l.flags) (code l.at ∷ to_come (code l.first) (cycle_of l.arena.model (code l.first)) (code l.at))
-      ≡ map code l.fn.found.items ++ leading_above l.arena.model (is_flagged l.flags) (cycle_of l.arena.model (code l.first));
+  made : map code l.found.items ++ leading_above l.arena.model l.above (code l.at ∷ to_come (code l.first) (cycle_of l.arena.model (code l.first)) (code l.at))
+      ≡ map code l.fn.found.items ++ leading_above l.arena.model l.above (cycle_of l.arena.model (code l.first));
 }
 
 abbrev pub decreases-round : goal.decreases-round
