@@ -53,9 +53,6 @@ module _ (M : Model) (s : ℕ) (p : Plane) where
     after_side : first_refusal (sectioning_conditions M s p) ≡ first_refusal (edge_conditions M p es ++ (face_conditions M p fs ++ numbers))
     after_side = ap (λ b. cond b (first_refusal (edge_conditions M p es ++ (face_conditions M p fs ++ numbers))) (Some (record { why = PlaneMisses; number = s }))) met
 
-    pub edge_refused : (e : ℕ) → Some e ≡ first_such (is_off M p) es → first_refusal (sectioning_conditions M s p) ≡ Some (record { why = NotLattice; number = e })
-    edge_refused e f = after_side ∙ ap (λ o. first_refusal (no_such o NotLattice ∷ face_conditions M p fs ++ numbers)) (sym f)
-
     module _ (whole : None ≡ first_such (is_off M p) es) where
       after_edges : first_refusal (sectioning_conditions M s p) ≡ first_refusal (face_conditions M p fs ++ numbers)
       after_edges = after_side ∙ ap (λ o. first_refusal (no_such o NotLattice ∷ face_conditions M p fs ++ numbers)) (sym whole)

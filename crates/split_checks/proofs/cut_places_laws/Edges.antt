@@ -29,7 +29,6 @@ use Rattle.split_checks.specs.cut_places.Places.{IsWholeFace, AreWholeFaces}
 use Rattle.split_checks.specs.cut_places.Walks.{AreIn}
 use Rattle.split_checks.proofs.cut_places_laws.CrossingHalves.{plus_crosses}
 use Rattle.split_checks.proofs.cut_places_laws.Lists.{of_picked, picked_apart, picked_rise, none_passes}
-use Rattle.split_checks.proofs.cut_places_laws.Walks.{all_in}
 use Rattle.solid_measure.proofs.face_walks_laws.Above.{Rising}
 use Rattle.shapes.specs.Walks.{loops_in}
 use Rattle.euler_laws.proofs.shared.Counted.{counted_once}
@@ -137,9 +136,6 @@ module _ (M : Model) (sound : Sound M) (s : ℕ) (p : Plane) where
   rising = picked_rise (λ x. crosses M p (plus x)) (edges_of M s) (rising_passing (λ e _. of_solid e) M.edges)
 
   -- ---- the faces that straddle
-
-  pub straddling_there : AreIn M.faces (straddling_faces M p s)
-  straddling_there = all_in M.faces (straddling_faces M p s) (λ f l. (listed_face M sound s f (listed-from_in f (faces_of M s) (of_picked (straddles M p) f (faces_of M s) (IsIn-from_listed f (straddling_faces M p s) l)).0)).0)
 
   plus_solid : (h : ℕ) → HasHalf M h → solid_of M (face_at M h) ≡ s → solid_of M (face_at M (plus (edge_of h))) ≡ s
   plus_solid h t of_s = elim (halves_of_edge h) [

@@ -12,9 +12,12 @@ use Rattle.shapes.specs.split.Sides.{crosses}
 use Rattle.shapes.specs.split.Places.{is_place}
 use Rattle.split_checks.specs.cut_places.Crossings.{is_off}
 
--- one of the half-edges starts on the plane at a corner that is no cut place
+-- a half-edge starts on the plane at a corner that is no cut place, and whether one of some does
+abbrev pub touches : Model → Plane → ℕ → Bool
+touches M p h = is_on p (start M h) && not (is_place M p h)
+
 abbrev pub some_touch : Model → Plane → List ℕ → Bool
-some_touch M p hs = list_any (λ h. is_on p (start M h) && not (is_place M p h)) hs
+some_touch M p hs = list_any (touches M p) hs
 
 -- the plane meets each edge of a face that crosses it on the lattice
 abbrev pub IsWholeFace : Model → Plane → ℕ → Type 0

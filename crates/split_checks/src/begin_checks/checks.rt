@@ -144,8 +144,7 @@ fn check_section(
 /// with 2, 3, 4 or 5 where no numbers are left for the faces, loops, edges or vertices that cutting the edges and the faces takes.
 ///
 /// It looks at the faces of s alone, at each a few times, and takes n log n steps for n edges that cross, and for n cut places of a
-/// face. `AllocError` where
-/// memory is refused.
+/// face. `AllocError` where memory is refused.
 pub fn check_begin(
     alloc: Global,
     arena: &Arena,

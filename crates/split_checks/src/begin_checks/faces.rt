@@ -1,51 +1,70 @@
 //! What the cut places of faces that straddle must not be.
-ghost use Rattle.std.specs.Prelude.{◌≡◌, true, map, IfOk};
+ghost use Rattle.std.specs.Prelude.{◌≡◌, true, IfOk};
 ghost use Rattle.std.specs.List.{list_all, list_any};
 ghost use Rattle.euler_operators.specs.HalfEdge.{code};
-ghost use Rattle.euler_operators.specs.Model.{cycle_of, has_half, rings_of};
+ghost use Rattle.euler_operators.specs.Model.{content, cycle_of, has_half, items_of, rings_of};
 ghost use Rattle.euler_conditions.specs.Ready.{IsReady};
 ghost use Rattle.euler_conditions.specs.Store.{has_number};
 ghost use Rattle.euler_operators.specs.Ranges.{IsCutPlane};
-ghost use Rattle.split_checks.specs.cut_places.Walks.{AreThere};
 ghost use Rattle.split_checks.specs.cut_places.Places.{some_touch};
 ghost use Rattle.shapes.specs.split.Places.{is_cut_often, is_place, is_touched, loop_is_cut};
 
-use crate::cut_places::{boundary, is_place, places, touches};
+use crate::cut_places::{is_place, places, touches};
 use euler_conditions::Arena;
 use euler_operators::{Content, HalfEdge, Kind, Plane};
 use std::alloc::{AllocError, Global};
 
-/// Whether one of the half-edges starts on the plane at a corner that is no cut place.
-fn some_touch(arena: &Arena, plane: Plane, items: &[HalfEdge]) -> bool
+/// Whether one of the half-edges of the loop in which h stands starts on the plane at a corner that is no cut place. It walks from h
+/// on to the first that does.
+fn ring_is_touched(arena: &Arena, plane: Plane, h: HalfEdge) -> bool
     requires ready { IsReady arena.now }
-    requires there { AreThere arena.now.model (map code items.now) }
+    requires there { has_half arena.now.model (code h) ≡ true }
     requires plane { IsCutPlane plane }
-    ensures { result ≡ some_touch arena.now.model plane (map code items.now) }
+    ensures { result ≡ some_touch arena.now.model plane (cycle_of arena.now.model (code h)) }
 {
-    let mut rest = items;
-    'items: while let [h, others @ ..] = rest {
-        if touches(arena, plane, *h) {
+    let mut at = h;
+    'round: loop {
+        if touches(arena, plane, at) {
             return true;
         }
-        rest = others;
+        at = arena.next(at);
+        if at == h {
+            return false;
+        }
     }
-    false
 }
 
-/// Whether a corner of face f lies on the plane and is no cut place.
-pub(crate) fn is_touched(
-    alloc: Global,
-    arena: &Arena,
-    plane: Plane,
-    f: u32,
-) -> Result<bool, AllocError>
+/// Whether a corner of loop l lies on the plane and is no cut place; false where l is lone.
+fn loop_is_touched(arena: &Arena, plane: Plane, l: u32) -> bool
+    requires ready { IsReady arena.now }
+    requires there { has_number arena.now Kind.Loop l ≡ true }
+    requires plane { IsCutPlane plane }
+    ensures { result ≡ some_touch arena.now.model plane (items_of (content arena.now.model l)) }
+{
+    match arena.content(l) {
+        Content::Lone(_) => false,
+        Content::Ring(h) => ring_is_touched(arena, plane, h),
+    }
+}
+
+/// Whether a corner of face f lies on the plane and is no cut place. It takes no memory.
+pub(crate) fn is_touched(arena: &Arena, plane: Plane, f: u32) -> bool
     requires ready { IsReady arena.now }
     requires there { has_number arena.now Kind.Face f ≡ true }
     requires plane { IsCutPlane plane }
-    ensures { IfOk result (λ found. found ≡ is_touched arena.now.model plane f) }
+    ensures { result ≡ is_touched arena.now.model plane f }
 {
-    let items = boundary(alloc, arena, f)?;
-    Ok(some_touch(arena, plane, items.as_slice()))
+    if loop_is_touched(arena, plane, arena.outer(f)) {
+        return true;
+    }
+    let mut above = 0;
+    'rings: while let Some(l) = arena.ring_after(f, above) {
+        if loop_is_touched(arena, plane, l) {
+            return true;
+        }
+        above = l;
+    }
+    false
 }
 
 /// Whether one of the half-edges of the loop in which h stands tells a cut place. It walks from h on to the first that does.

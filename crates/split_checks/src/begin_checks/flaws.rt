@@ -35,7 +35,7 @@ fn has_flaw(
     ensures { IfOk result (λ found. found ≡ has_flaw flaw arena.now.model plane f) }
 {
     match flaw {
-        Flaw::Touched => is_touched(alloc, arena, plane, f),
+        Flaw::Touched => Ok(is_touched(arena, plane, f)),
         Flaw::CutOften => is_cut_often(alloc, arena, plane, f),
     }
 }
