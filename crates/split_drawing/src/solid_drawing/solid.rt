@@ -1,7 +1,6 @@
 //! A solid cut and drawn.
 ghost use Rattle.std.specs.Prelude.{◌≡◌, [], map, IfOk};
 ghost use Rattle.euler_operators.specs.Ranges.{IsCutPlane};
-ghost use Rattle.euler_operators.specs.Sound.{Sound};
 ghost use Rattle.shapes.specs.Fresh.{taken_in};
 ghost use Rattle.shapes.specs.split.Drawing.{faces_drawn, with_drawings};
 ghost use Rattle.split_drawing.specs.edge_cutting.Begins.{CanBeCut};
@@ -74,12 +73,13 @@ pub fn draw_solid(
     plane: &Plane,
     cuts: &Cuts,
 ) -> Result<Progress, AllocError>
-    requires sound { Sound draft.old.model }
     requires begins { CanBeCut draft.old.model s plane.now }
     requires cuts { AreCuts draft.old.model plane.now s cuts.now }
     ensures drawn { IfOk result (λ drawn. drawing_of drawn draft.new.model [] ≡ put_aside (with_drawings draft.old.model s plane.now)) }
     ensures session { draft.new.session ≡ draft.old.session }
 {
+    // the draft's model is sound
+    draft.stays_consistent();
     cut_edges(draft, s, plane, cuts.edges.as_slice())?;
     let started = faces_started(alloc, draft.arena(), *plane, cuts.faces.as_slice())?;
     let from = beginning(draft.arena());

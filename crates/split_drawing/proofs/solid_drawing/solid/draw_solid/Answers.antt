@@ -15,7 +15,7 @@ faces_started-requires-clause-there c =
     let M = c.args.draft.now.model in let s = c.args.s in let p = c.args.plane.now in
     let cut = c.arena.ensures.model ∙ c.in_ok-cut_edges.ensures.model in
     let pairs = ap (map paired) c.as_slice-2.ensures.value ∙ c.requires.cuts.faces in
-    subst (λ (X : Model). FacesThere X (map paired c.as_slice-2.result.now)) (sym cut) (subst (FacesThere (with_crossings M s p).model) (sym pairs) (all_there M s p c.requires.sound c.requires.begins))
+    subst (λ (X : Model). FacesThere X (map paired c.as_slice-2.result.now)) (sym cut) (subst (FacesThere (with_crossings M s p).model) (sym pairs) (all_there M s p c.stays_consistent.ensures.model c.requires.begins))
 
 pub faces_started-requires-clause-plane : goal.faces_started-requires-clause-plane
 faces_started-requires-clause-plane c = cut_plane c.args.draft.now.model c.args.s c.args.plane.now c.requires.begins
@@ -27,7 +27,7 @@ pub draw_faces-requires-clause-can : goal.draw_faces-requires-clause-can
 draw_faces-requires-clause-can c =
     let M = c.args.draft.now.model in let s = c.args.s in let p = c.args.plane.now in
     let pairs = ap (map paired) c.as_slice-2.ensures.value ∙ c.requires.cuts.faces in
-    can_draw M s p c.requires.sound c.requires.begins c.beginning-from.result c.cut_edges.new.draft.model c.in_ok-cut_edges.ensures.model
+    can_draw M s p c.stays_consistent.ensures.model c.requires.begins c.beginning-from.result c.cut_edges.new.draft.model c.in_ok-cut_edges.ensures.model
     (c.beginning-from.ensures.taken ∙ ap taken_in c.arena-2.ensures.model) c.beginning-from.ensures.free (map paired c.as_slice-3.result.now)
     (ap (map paired) c.as_slice-3.ensures.value ∙ c.in_ok-started.ensures ∙ (λ i. faces_started (c.arena.ensures.model i) p (pairs i)))
 
@@ -35,7 +35,7 @@ pub returns-clause-drawn : goal.returns-clause-drawn
 returns-clause-drawn c =
     let M = c.args.draft.now.model in let s = c.args.s in let p = c.args.plane.now in
     let pairs = ap (map paired) c.as_slice-2.ensures.value ∙ c.requires.cuts.faces in
-    let same = made M s p c.requires.sound c.requires.begins c.beginning-from.result c.cut_edges.new.draft.model c.in_ok-cut_edges.ensures.model
+    let same = made M s p c.stays_consistent.ensures.model c.requires.begins c.beginning-from.result c.cut_edges.new.draft.model c.in_ok-cut_edges.ensures.model
     (c.beginning-from.ensures.taken ∙ ap taken_in c.arena-2.ensures.model) c.beginning-from.ensures.free (map paired c.as_slice-3.result.now)
     (ap (map paired) c.as_slice-3.ensures.value ∙ c.in_ok-started.ensures ∙ (λ i. faces_started (c.arena.ensures.model i) p (pairs i))) in
     subst (λ (D : Drawing). IfOk c.draw_faces.result (λ drawn. drawing_of drawn c.draw_faces.new.draft.model [] ≡ D)) same c.draw_faces.ensures.drawn
