@@ -3,7 +3,6 @@
 mod across;
 mod faces;
 mod halves;
-mod loops;
 mod planes;
 mod rising;
 mod sides;
@@ -12,7 +11,6 @@ pub use across::crossing_point;
 pub(crate) use faces::places;
 pub use halves::starts_on;
 pub(crate) use halves::{goes_up, is_place, touches};
-pub use loops::boundary;
 pub(crate) use rising::rising_crossings;
 pub use sides::{loop_reaches, reaches};
 pub(crate) use sides::{solid_reaches, straddling};
