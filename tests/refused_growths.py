@@ -37,6 +37,14 @@ SCRIPTS = {
 }
 
 
+QUERIES = ['plane 1', 'plane 1000', 'volume 1', 'volume 1000', 'count 1', 'count 1000', 'list']
+REFUSED = ['mvfs 1 1 1 1 0 0 0', 'kvfs 1000', 'mev @1000 @1000 1000 1000 0 0 0', 'kev +1000', 'mef +1000 +1000 1 1 1', 'kef +1000', 'kemr +1000 1',
+           'mekr @1000 @1000 1', 'kfmrh 1000 1', 'mfkrh 1000 1', 'ringmv 1000 1 in', 'lamina 1000001 0 0 0 1 0 0 0 1 0', 'block 1 0 0 0 0 1 1',
+           'sweep 1000 0 0 1', 'glue 1000 1', 'split 1000 0 0 1 0 1', 'no command']
+POLYGON = [(x, x * x) for x in range(-31, 33)]
+COPY = 100
+
+
 def built(folder):
     library = os.path.join(folder, 'refuse_growth.so')
     subprocess.run(['cc', '-shared', '-fPIC', '-O1', '-o', library, os.path.join(HERE, 'refuse_growth.c'), '-ldl'], check=True)
@@ -82,6 +90,30 @@ def complaint(program, commands, n, whole, done):
     return None
 
 
+def taken(program, commands):
+    """How many allocations a script asks for, and its replies."""
+    replies = program.run(commands)[0]
+    return program.allocations(), replies
+
+
+def takes_none(program, commands):
+    """For each way to go on that takes no memory, whether the script with it asks for no more allocations than without it."""
+    script = commands[:-1] if commands[-1] == 'list' else commands
+    alone, replies = taken(program, script)
+    moves = ['undo'] * len(script) + ['redo'] * len(script)
+    for name, more in (('undos and redos', moves), ('queries', QUERIES), ('refused commands', REFUSED)):
+        count, longer = taken(program, script + more)
+        yield name, count == alone and longer[:len(script) - 1] == replies[:len(script) - 1]
+
+
+def copies_nothing(program):
+    """Whether a new solid beside a lamina of 64 points is accepted though the hundredth allocation after the lamina is refused."""
+    lamina = 'lamina 1 ' + ' '.join('%d %d 0' % point for point in POLYGON)
+    alone, _ = taken(program, [lamina])
+    replies, status, _ = program.run([lamina, 'mvfs 2 3 3 65 0 0 0', 'count 2'], alone + COPY)
+    return replies[:2] == ['ok', 'ok'] and status == 0
+
+
 def main():
     path = os.path.abspath(sys.argv[1] if len(sys.argv) > 1 else os.path.join(HERE, '..', 'crates', 'gwb', 'out', 'gwb'))
     count = wrong = 0
@@ -94,11 +126,20 @@ def main():
             complaints = [complaint(program, commands, n, whole, done) for n, done in enumerate(runs, 1)]
             if whole[1] not in (0, 1) or whole[2] or not any('memory' in replies for replies, _, _ in runs):
                 complaints.append('no allocation of a command was refused: %r' % (whole,))
+            for what, is_so in takes_none(program, commands):
+                count += 1
+                if not is_so:
+                    wrong += 1
+                    print('%s: more memory is asked for, or other replies are given, with %s after it' % (name, what))
             count += len(complaints)
             for n, why in enumerate(complaints, 1):
                 if why:
                     wrong += 1
                     print('%s, allocation %d: %s' % (name, n, why))
+        count += 1
+        if not copies_nothing(program):
+            wrong += 1
+            print('a new solid beside a lamina of %d points asks for %d allocations or more' % (len(POLYGON), COPY))
     print('%d compared, %d wrong' % (count, wrong))
     return 1 if wrong else 0
 
