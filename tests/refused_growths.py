@@ -57,11 +57,14 @@ class Program:
         self.library = built(folder)
         self.count = os.path.join(folder, 'count')
 
+    def start(self, words, text, refused):
+        """The ended run on words and standard input, with an allocation refused, or none."""
+        env = dict(os.environ, LD_PRELOAD=self.library, REFUSE_AT=str(refused), ALLOCATIONS_TO=self.count)
+        return subprocess.run([self.path, *words], input=text, capture_output=True, env=env, timeout=60)
+
     def run(self, commands, refused=0):
         """Replies (the listing is the last), status and text with an allocation refused, or none."""
-        env = dict(os.environ, LD_PRELOAD=self.library, REFUSE_AT=str(refused), ALLOCATIONS_TO=self.count)
-        script = ''.join(c + '\n' for c in commands).encode()
-        done = subprocess.run([self.path], input=script, capture_output=True, env=env, timeout=60)
+        done = self.start([], ''.join(c + '\n' for c in commands).encode(), refused)
         lines = done.stdout.decode().splitlines()
         cut = len(commands) - 1
         return lines[:cut] + [lines[cut:]], done.returncode, done.stderr.decode()

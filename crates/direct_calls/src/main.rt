@@ -1,0 +1,45 @@
+//! Calls of the kernel that no script reaches, made once each, with what they answer.
+//!
+//! `rings` links codes by the raw rings, `points` orders points, `arenas` copies an arena and changes a loop's content, and `sessions`
+//! goes on after a large lamina. With one word, `lamina`, `act`, `draft` or `copy`, the program makes a lamina of 64 points and then does only
+//! what the word says, so that whoever counts allocations or refuses one sees what that call asks for.
+#![tactic(auto)]
+
+mod arenas;
+mod points;
+mod rings;
+mod sessions;
+
+use std::alloc::Global;
+use std::env;
+use std::process::ExitCode;
+
+/// What a call answered where its memory was refused.
+const MEMORY: &str = "memory";
+
+/// The one word of the command line, if it is one and could be read.
+fn word(rt: &HostRuntime) -> Option<String> {
+    let words: Vec<String> = env::args(rt).ok()?.collect(rt.alloc()).ok()?;
+    match words.as_slice() {
+        [_, word] => word.clone().ok(),
+        _ => None,
+    }
+}
+
+/// What every call answers, a line each.
+fn tell_all(rt: &HostRuntime) {
+    let _ = println!(rt; "{}", points::ordered());
+    rings::tell(rt);
+    arenas::tell(rt);
+    sessions::tell(rt);
+}
+
+fn main(rt: HostRuntime) -> ExitCode {
+    match word(&rt) {
+        Some(word) => {
+            let _ = println!(rt; "{}", sessions::after_a_lamina(rt.alloc(), word.as_str()));
+        }
+        None => tell_all(&rt),
+    }
+    ExitCode::SUCCESS
+}
