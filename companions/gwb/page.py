@@ -1,0 +1,194 @@
+"""Makes a page to look at a model and to pick from it: one HTML file that stands alone."""
+
+import argparse
+import html
+import json
+import sys
+from pathlib import Path
+from typing import Dict, Iterable, Iterator, List, NamedTuple, Optional, Sequence
+
+from .command_line import OK, read_bytes, run
+from .errors import CompanionError, NotReplies, Unfit
+from .explain import meaning
+from .language import first_word, is_answered
+from .listing import model_of, read_model
+from .measures import anchor, normal, off_plane, six_volume
+from .model import Model
+from .pipe import Pipe, find_program
+from .replies import Reply, is_listed, shortened
+from .touched_edges import TouchedEdges, touched_edges
+from .triangulation import face_triangles
+from .vectors import ZERO, dot
+
+PROGRAM = 'gwb-view'
+_FILES = Path(__file__).resolve().parent / 'page'
+_EMPTY = Model((), {}, {}, {}, {})
+_COMMANDS = frozenset((
+    'mvfs kvfs mev kev mevv kevv mef kef kemr mekr mfkrh kfmrh ringmv lamina block sweep glue split undo redo '
+    'list plane volume count').split())
+
+Rows = Dict[int, object]
+
+
+class Step(NamedTuple):
+    """A command of a script, what was replied to it, and the model after it."""
+
+    line: str
+    reply: str
+    is_complaint: bool
+    model: Model
+
+
+def page_of(model: Model, title: str = 'gwb') -> str:
+    """A page that shows the model."""
+    return _page({'frames': [{'change': _rows(model)}]}, title)
+
+
+def page_of_steps(steps: Iterable[Step], title: str = 'gwb') -> str:
+    """A page that plays a script: the empty workbench, and the model after each command, stored as differences."""
+    frames: List[Dict[str, object]] = [{'change': _rows(_EMPTY)}]
+    model, before = _EMPTY, _rows(_EMPTY)
+    for step in steps:
+        after = before if step.model is model else _rows(step.model)
+        frames.append({'line': step.line, 'reply': step.reply, 'bad': step.is_complaint, 'change': _changes(before, after)})
+        model, before = step.model, after
+    return _page({'steps': True, 'frames': frames}, title)
+
+
+def _page(data: Dict[str, object], title: str) -> str:
+    text = json.dumps(data, separators=(',', ':')).replace('<', '\\u003c')
+    parts = {'title': html.escape(title), 'style': _file('page.css'), 'picture': _file('picture.js'),
+             'page': _file('page.js'), 'data': text}
+    before, *rest = _file('page.html').split('{')
+    return before + ''.join(parts[name] + after for name, after in (piece.split('}', 1) for piece in rest))
+
+
+def _file(name: str) -> str:
+    return (_FILES / name).read_text(encoding='utf-8')
+
+
+def _rows(model: Model) -> Dict[str, Rows]:
+    """The things of the model as the page reads them."""
+    touched = touched_edges(model)
+    return {'faces': {face: _face_row(model, face, touched) for face in model.faces},
+            'edges': dict(model.edges), 'vertices': dict(model.vertices)}
+
+
+def _face_row(model: Model, face: int, touched: TouchedEdges) -> List[object]:
+    """The solid, the loops, the plane (as text, since its numbers may be large), whether it is flat, and the triangles."""
+    across = normal(model, face)
+    loops = [[loop, model.loops[loop].halves, model.loops[loop].vertex] for loop in model.faces[face].loops]
+    plane = [str(number) for number in (*across, -dot(across, anchor(model, face)))]
+    return [model.faces[face].solid, loops, plane, off_plane(model, face, across) is None, _corners(model, face, touched)]
+
+
+def _corners(model: Model, face: int, touched: TouchedEdges) -> List[int]:
+    """The corners of the face's triangles. One that can't be cut exactly is a fan about its first corner."""
+    if normal(model, face) != ZERO and not any(model.loops[loop].is_lone for loop in model.faces[face].loops):
+        try:
+            return [vertex for triangle in face_triangles(model, face, touched) for vertex in triangle]
+        except Unfit:
+            pass
+    first, *others = model.loop_vertices(model.faces[face].outer)
+    return [vertex for pair in zip(others, others[1:]) for vertex in (first, *pair)]
+
+
+def _changes(before: Dict[str, Rows], after: Dict[str, Rows]) -> Dict[str, Rows]:
+    """What is new or different after, and None for what has gone."""
+    return {kind: {**{number: row for number, row in after[kind].items() if before[kind].get(number) != row},
+                   **{number: None for number in before[kind] if number not in after[kind]}}
+            for kind in after}
+
+
+def played(script: bytes) -> Iterator[Step]:
+    """The commands of a script, run one after another through the program."""
+    pipe = Pipe(find_program())
+    try:
+        model = _EMPTY
+        for line in filter(is_answered, script.split(b'\n')):
+            reply = pipe.ask(line.decode('utf-8', 'surrogateescape'))
+            if reply.word == 'ok':
+                model = model_of(pipe.ask('list'))
+            yield Step(shortened(line.decode('ascii', 'backslashreplace').strip(), 200), _told(line, reply), reply.is_complaint, model)
+    finally:
+        pipe.close()
+
+
+def _told(line: bytes, reply: Reply) -> str:
+    """The reply in words."""
+    if reply.is_complaint:
+        return f'{reply.lines[0]}: {meaning(first_word(line), reply)}'
+    return reply.lines[0] if len(reply.lines) == 1 else f'a listing of {len(reply.lines)} lines'
+
+
+def _first_line(data: bytes) -> bytes:
+    return next(filter(is_answered, data.split(b'\n')), b'')
+
+
+def _model_in(data: bytes, solid: Optional[int]) -> Model:
+    """The model of the last listing, or of one of its solids."""
+    if first_word(_first_line(data)) in _COMMANDS and len(_first_line(data).split()) > 1:
+        raise NotReplies('this is a script: give what gwb replies to it, or --steps')
+    model = read_model(data)
+    if not model.solids:
+        raise CompanionError('the model is empty')
+    if solid is not None and solid not in model.solids:
+        raise CompanionError(f'there is no solid {solid} in the listing')
+    return model if solid is None else model.only(solid)
+
+
+def _require_script(data: bytes) -> None:
+    """Refuses what is no script: replies, or nothing."""
+    first = _first_line(data)
+    if not first:
+        raise CompanionError('there is no command in the script')
+    line = first.decode('ascii', 'replace').strip()
+    if is_listed(line) or line in ('ok', 'empty') or line.startswith(('refused ', 'fault ')):
+        raise CompanionError('these are replies of gwb, and --steps takes the script: leave --steps out to see their last listing')
+    if first_word(first) not in _COMMANDS and b'\0' in data:
+        raise CompanionError('this is no script: it has a byte of zero')
+
+
+def _warn_of_inside_out(model: Model) -> None:
+    """Names on standard error each solid with negative volume."""
+    for solid in model.solids:
+        if six_volume(model, model.faces_of(solid)) < 0:
+            print(f'{PROGRAM}: warning: solid {solid} is inside out: its volume is negative', file=sys.stderr)
+
+
+def _parser() -> argparse.ArgumentParser:
+    parser = argparse.ArgumentParser(
+        prog=PROGRAM, description='Makes a page to look at a model and to pick from it, which stands alone: '
+                                  'gwb part.gwb | gwb-view > part.html, or gwb-view --steps part.gwb > part.html',
+        epilog='Status 0: done; 2: the command line is refused; 3: the input is refused, or reading or writing failed.')
+    parser.add_argument('file', nargs='?', metavar='FILE',
+                        help='replies of gwb with a listing, or with --steps a script (default: standard input)')
+    parser.add_argument('--steps', action='store_true', help='run the script and show the model after each command')
+    parser.add_argument('--solid', type=int, metavar='S', help='take solid S alone')
+    return parser
+
+
+def work(words: Optional[Sequence[str]]) -> int:
+    """Reads a listing, or plays a script, and writes the page."""
+    parser = _parser()
+    options = parser.parse_args(words)
+    if options.steps and options.solid is not None:
+        parser.error('--solid is for a listing, not for --steps')
+    data = read_bytes(options.file).replace(b'\r\n', b'\n')
+    title = Path(options.file or '-').stem.encode('utf-8', 'backslashreplace').decode('utf-8')
+    title = 'gwb' if title == '-' else title
+    if options.steps:
+        _require_script(data)
+        steps = list(played(data))
+        _warn_of_inside_out(steps[-1].model)
+        print(page_of_steps(steps, title), end='')
+    else:
+        model = _model_in(data, options.solid)
+        _warn_of_inside_out(model)
+        print(page_of(model, title), end='')
+    return OK
+
+
+def main(words: Optional[Sequence[str]] = None) -> int:
+    """The program: its status."""
+    return run(PROGRAM, work, words)
