@@ -23,9 +23,8 @@ from .vectors import ZERO, dot
 PROGRAM = 'gwb-view'
 _FILES = Path(__file__).resolve().parent / 'page'
 _EMPTY = Model((), {}, {}, {}, {})
-_COMMANDS = frozenset((
-    'mvfs kvfs mev kev mevv kevv mef kef kemr mekr mfkrh kfmrh ringmv lamina block sweep glue split undo redo '
-    'list plane volume count').split())
+_CHANGES = frozenset(
+    'mvfs kvfs mev kev mevv kevv mef kef kemr mekr mfkrh kfmrh ringmv lamina block sweep glue split undo redo'.split())
 
 Rows = Dict[int, object]
 
@@ -57,7 +56,8 @@ def page_of_steps(steps: Iterable[Step], title: str = 'gwb') -> str:
 
 def _page(data: Dict[str, object], title: str) -> str:
     text = json.dumps(data, separators=(',', ':')).replace('<', '\\u003c')
-    parts = {'title': html.escape(title), 'style': _file('page.css'), 'picture': _file('picture.js'),
+    name = html.escape(title).encode('ascii', 'xmlcharrefreplace').decode()
+    parts = {'title': name, 'style': _file('page.css'), 'picture': _file('picture.js'),
              'page': _file('page.js'), 'data': text}
     before, *rest = _file('page.html').split('{')
     return before + ''.join(parts[name] + after for name, after in (piece.split('}', 1) for piece in rest))
@@ -121,15 +121,20 @@ def _told(line: bytes, reply: Reply) -> str:
     return reply.lines[0] if len(reply.lines) == 1 else f'a listing of {len(reply.lines)} lines'
 
 
-def _first_line(data: bytes) -> bytes:
-    return next(filter(is_answered, data.split(b'\n')), b'')
+def _words(data: bytes) -> List[str]:
+    """The words of the first line that isn't blank or a comment."""
+    line = next(filter(is_answered, data.split(b'\n')), b'')
+    return line.decode('ascii', 'replace').split()
 
 
 def _model_in(data: bytes, solid: Optional[int]) -> Model:
     """The model of the last listing, or of one of its solids."""
-    if first_word(_first_line(data)) in _COMMANDS and len(_first_line(data).split()) > 1:
-        raise NotReplies('this is a script: give what gwb replies to it, or --steps')
-    model = read_model(data)
+    try:
+        model = read_model(data)
+    except CompanionError:
+        if _words(data)[:1] and _words(data)[0] in _CHANGES:
+            raise NotReplies('this is a script: give what gwb replies to it, or --steps before it') from None
+        raise
     if not model.solids:
         raise CompanionError('the model is empty')
     if solid is not None and solid not in model.solids:
@@ -138,15 +143,12 @@ def _model_in(data: bytes, solid: Optional[int]) -> Model:
 
 
 def _require_script(data: bytes) -> None:
-    """Refuses what is no script: replies, or nothing."""
-    first = _first_line(data)
-    if not first:
+    """Refuses what has no command, or is what gwb replied."""
+    words = _words(data)
+    if not words:
         raise CompanionError('there is no command in the script')
-    line = first.decode('ascii', 'replace').strip()
-    if is_listed(line) or line in ('ok', 'empty') or line.startswith(('refused ', 'fault ')):
-        raise CompanionError('these are replies of gwb, and --steps takes the script: leave --steps out to see their last listing')
-    if first_word(first) not in _COMMANDS and b'\0' in data:
-        raise CompanionError('this is no script: it has a byte of zero')
+    if is_listed(' '.join(words)) or words[0] in ('ok', 'empty', 'refused', 'fault', 'memory'):
+        raise CompanionError('these are replies of gwb, and --steps takes the script: leave it out to see their last listing')
 
 
 def _warn_of_inside_out(model: Model) -> None:

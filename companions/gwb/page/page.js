@@ -6,7 +6,7 @@ const View = (() => {
   const LIT = [1, .55, .15], CSS = {f: '#11603a', e: '#0a4fa0', v: '#a01818'};
   const data = JSON.parse(at('data').textContent);
   const front = at('solid'), over = at('labels'), pen = over.getContext('2d');
-  const state = {step: 0, off: new Set(), hidden: false, numbers: 0, picked: null, lit: new Set(), pointer: null};
+  const state = {step: 0, off: new Set(), hidden: false, numbers: 0, picked: null, wanted: '', lit: new Set(), pointer: null};
   const view = {turn: Math.atan2(-3, 2), lift: .507, zoom: 1, right: 0, down: 0, width: 1, height: 1};
   const models = [Picture.changed({}, data.frames[0].change)];
   let model = models[0], scene = null, screen = null, gl = null, ball = null, asked = false, timer = null;
@@ -23,7 +23,7 @@ const View = (() => {
 
   // --- WebGL
   const FILL = `attribute vec3 p, n, c; uniform vec3 R, U, S; uniform vec4 V; uniform vec2 M; varying vec3 k; varying float d;
-void main() { d = dot(n, S); k = c * (.5 + .32 * max(0., d) + .2 * max(0., dot(n, normalize(U * .8 + S * .4 - R * .5))));
+void main() { d = dot(n, S); k = c * (.58 + .24 * max(0., d) + .3 * max(0., dot(n, normalize(U * .8 + S * .4 - R * .5))));
 gl_Position = vec4(2. * (V.z * dot(R, p) + M.x) / V.x, 2. * (V.z * dot(U, p) - M.y) / V.y, -.7 * dot(S, p), 1.); }`;
   const FILL_END = 'precision mediump float; varying vec3 k; varying float d; void main() { if (d <= 0.) discard; gl_FragColor = vec4(k, 1.); }';
   const LINE = `attribute vec3 p, q, c; attribute vec2 e; uniform vec3 R, U, S; uniform vec4 V; uniform vec2 M; varying vec3 k;
@@ -149,15 +149,16 @@ gl_Position = vec4(2. * x / V.xy, -.7 * dot(S, mix(p, q, e.x)) - .0016, 1.); }`;
   }
 
   function wanted() {
-    const p = state.pointer, chosen = [];
+    const p = state.pointer || [view.width / 2, view.height / 2], chosen = [];
     for (const it of candidates()) {
       const first = isLit(it.kind, it.number);
-      const away = p ? Math.hypot(it.spot[0] - p[0], it.spot[1] - p[1]) : Infinity;
-      if (first || state.numbers === 1 || (state.numbers === 0 && away < 80)) chosen.push({...it, first, away});
+      const away = Math.hypot(it.spot[0] - p[0], it.spot[1] - p[1]);
+      if (first || state.numbers === 1 || (state.numbers === 0 && state.pointer && away < 80)) chosen.push({...it, first, away});
     }
-    chosen.sort((a, b) => b.first - a.first || 'fve'.indexOf(a.kind) - 'fve'.indexOf(b.kind) || (p ? a.away - b.away : 0));
+    const nearest = chosen.sort((a, b) => b.first - a.first || a.away - b.away).slice(0, 160);
+    nearest.sort((a, b) => b.first - a.first || 'fve'.indexOf(a.kind) - 'fve'.indexOf(b.kind) || a.away - b.away);
     const fronts = new Set(screen.front.map(t => t.face));
-    return chosen.slice(0, 160).filter(it => it.first || ((it.kind !== 'f' || fronts.has(it.number)) && Picture.isSeen(screen, it.spot)));
+    return nearest.filter(it => it.first || ((it.kind !== 'f' || fronts.has(it.number)) && Picture.isSeen(screen, it.spot)));
   }
 
   function drawLabels() {
@@ -280,6 +281,7 @@ gl_Position = vec4(2. * x / V.xy, -.7 * dot(S, mix(p, q, e.x)) - .0016, 1.); }`;
     const has = {f: model.faces, e: model.edges, v: model.vertices};
     if (state.picked && (!has[state.picked.kind][state.picked.number]
         || (state.picked.kind === 'e' && !scene.sides[state.picked.number]))) state.picked = null;
+    state.lit = Picture.wantedIn(state.wanted, model);
     showSolids();
     showInfo();
     upload();
@@ -322,8 +324,9 @@ gl_Position = vec4(2. * x / V.xy, -.7 * dot(S, mix(p, q, e.x)) - .0016, 1.); }`;
 
   // --- pointer, keys, size
   function fit() {
-    view.zoom = .88 * Math.min(view.width - (data.steps && view.width > 900 ? 380 : 0), view.height - 70) / 2;
-    view.right = data.steps && view.width > 900 ? 180 : 0;
+    const taken = data.steps && view.width > 640 ? at('steps').offsetWidth + 14 : 0;
+    view.zoom = .92 * Math.min(view.width - taken, view.height - 80) / 2;
+    view.right = taken / 2;
     view.down = 0;
   }
 
@@ -403,7 +406,8 @@ gl_Position = vec4(2. * x / V.xy, -.7 * dot(S, mix(p, q, e.x)) - .0016, 1.); }`;
   };
 
   function light(text) {
-    state.lit = Picture.wantedIn(text);
+    state.wanted = text;
+    state.lit = Picture.wantedIn(text, model);
     upload();
     ask();
   }
@@ -434,10 +438,10 @@ gl_Position = vec4(2. * x / V.xy, -.7 * dot(S, mix(p, q, e.x)) - .0016, 1.); }`;
     const points = data.frames.map((_, i) => Object.values(modelAt(i).vertices)).flat();
     ball = Picture.bounds(points);
     resize();
+    startSteps();
     fit();
     startPointer();
     startKeys();
-    startSteps();
     onresize = resize;
     if (words.get('numbers') === 'all') state.numbers = 1;
     state.hidden = words.has('hidden');

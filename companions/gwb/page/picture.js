@@ -156,13 +156,20 @@ const Picture = (() => {
     return placed;
   }
 
-  // What a list of numbers means: pairs of a kind (f, e, v, s) and a number; a bare number is of every kind.
-  function wantedIn(text) {
-    const found = [];
-    for (const [, kind, number] of text.matchAll(/([fevs+-]?)\s*(\d+)/g)) {
-      for (const one of kind === '' ? ['f', 'e', 'v'] : [kind === '+' || kind === '-' ? 'e' : kind]) found.push(one + number);
+  // What a list of numbers means: words of a kind (f, e, v, s) and a number. A bare number is of every kind, a loop its edges.
+  function wantedIn(text, model) {
+    const found = new Set(), means = {'': 'fev', '+': 'e', '-': 'e'};
+    const loops = Object.values(model.faces).flatMap(([, rows]) => rows);
+    for (const [, kind, number] of text.matchAll(/([fevsl@+-]?)(\d+)/g)) {
+      if (kind === 'l' || kind === '@') {
+        for (const [loop, halves, vertex] of loops) {
+          if (loop === +number) for (const half of halves) found.add('e' + Math.abs(half));
+          if (loop === +number && vertex) found.add('v' + vertex);
+        }
+      }
+      for (const one of kind in means ? means[kind] : kind) found.add(one + number);
     }
-    return new Set(found);
+    return found;
   }
 
   return {changed, bounds, axes, project, sceneOf, screenOf, pick, isSeen, placeLabels, wantedIn, faceAt, dot};
