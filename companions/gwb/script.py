@@ -1,0 +1,91 @@
+"""Writes the script that makes the model of a listing."""
+
+import argparse
+import re
+import sys
+from typing import Any, List, Optional, Sequence
+
+from .command_line import OK, listing_parser, read_bytes, run, wanted_model
+from .inversion import script_of
+from .listing import read_model
+from .model import Model
+from .moved import changed, moving, scaling, turning
+from .numbering import renumbered_after
+from .short_script import short_script_of
+
+PROGRAM = 'gwb-script'
+
+
+class _Change(argparse.Action):
+    """Adds a change of place to those that were asked for before it."""
+
+    def __call__(self, parser: argparse.ArgumentParser, namespace: argparse.Namespace, values: Any,
+                 option: Optional[str] = None) -> None:
+        make = {'--move': self._move, '--turn': self._turn, '--scale': self._scale}[option or '']
+        try:
+            namespace.changes = [*(namespace.changes or ()), make(values)]
+        except ValueError as error:
+            parser.error(f'argument {option}: {error}')
+
+    @staticmethod
+    def _move(words: List[int]):
+        return moving((words[0], words[1], words[2]))
+
+    @staticmethod
+    def _turn(words: str):
+        axis, *times = words.split()
+        if axis not in ('x', 'y', 'z') or len(times) > 1:
+            raise ValueError('one of x, y and z is needed, and then how many times, if more than once')
+        return turning(axis, *map(int, times))
+
+    @staticmethod
+    def _scale(factor: int):
+        if factor < 1:
+            raise ValueError(f'{factor} is below 1')
+        return scaling(factor)
+
+
+def _parser() -> argparse.ArgumentParser:
+    parser = listing_parser(PROGRAM, 'Writes the script that makes the model of a listing of gwb, with the same numbers. '
+                                     'Changes of place are made in the order in which they are given.')
+    parser.add_argument('--move', nargs=3, type=int, metavar=('DX', 'DY', 'DZ'), action=_Change, dest='changes',
+                        help='move it by a vector')
+    parser.add_argument('--turn', metavar='AXIS [TIMES]', action=_Change, dest='changes',
+                        help='turn it by a quarter, or TIMES quarters, about the axis x, y or z through the origin')
+    parser.add_argument('--scale', type=int, metavar='K', action=_Change, dest='changes', help='multiply its coordinates')
+    parser.add_argument('--after', metavar='LISTING', help='renumber it, so that the script can be run where this model is')
+    parser.add_argument('--short', action='store_true', help='use lamina, block and sweep where they make exactly a solid')
+    return parser
+
+
+def _with_times(words: Sequence[str]) -> List[str]:
+    """The words with the number that may follow `--turn AXIS` joined to the axis."""
+    joined: List[str] = []
+    for word in words:
+        if joined[-2:-1] == ['--turn'] and re.fullmatch('[+-]?[0-9]{1,9}', word):
+            joined[-1] += f' {word}'
+        else:
+            joined.append(word)
+    return joined
+
+
+def _script(model: Model, options: argparse.Namespace) -> List[str]:
+    for change in options.changes or ():
+        model = changed(model, change)
+    beside = [] if options.after is None else [read_model(read_bytes(options.after))]
+    for other in beside:
+        model = renumbered_after(model, other)
+    return (short_script_of if options.short else script_of)(model, beside)
+
+
+def work(words: Optional[Sequence[str]]) -> int:
+    """Reads a listing and writes its script."""
+    options = _parser().parse_args(_with_times(sys.argv[1:] if words is None else words))
+    for line in _script(wanted_model(options), options):
+        print(line)
+    return OK
+
+
+def main(words: Optional[Sequence[str]] = None) -> int:
+    """The program: its status."""
+    return run(PROGRAM, work, words)
