@@ -4,6 +4,7 @@ from math import sqrt
 from typing import Dict, Iterator, List, NamedTuple, Optional, Sequence, Tuple
 
 from .command_line import OK, listing_parser, run, filled_model
+from .inside_out import warn_of_inside_out
 from .measures import require_fit
 from .model import Model
 from .touched_edges import touched_edges
@@ -110,7 +111,9 @@ def work(words: Optional[Sequence[str]]) -> int:
     parser = listing_parser(PROGRAM, 'Writes a listing of gwb as a mesh of triangles, triangulated exactly.')
     parser.add_argument('--form', choices=FORMS, default='off', help='the form of the mesh (default: off)')
     options = parser.parse_args(words)
-    print(FORMS[options.form](mesh_of(filled_model(options))), end='')
+    mesh = mesh_of(filled_model(options))
+    print(FORMS[options.form](mesh), end='')
+    warn_of_inside_out(PROGRAM, mesh.model)
     return OK
 
 

@@ -7,6 +7,7 @@ of their faces. Solids, faces, edges and vertices have gwb's numbers as names.
 from typing import Callable, Dict, Hashable, List, Optional, Sequence
 
 from .command_line import OK, listing_parser, run, filled_model
+from .inside_out import warn_of_inside_out
 from .measures import normal, require_fit
 from .model import Model
 from .nesting import Nest, nests
@@ -159,7 +160,9 @@ def step_text(model: Model) -> str:
 def work(words: Optional[Sequence[str]]) -> int:
     """Reads a listing and writes it as STEP."""
     parser = listing_parser(PROGRAM, 'Writes a listing of gwb as STEP AP214 (advanced boundary representation, in millimetres).')
-    print(step_text(filled_model(parser.parse_args(words))), end='')
+    model = filled_model(parser.parse_args(words))
+    print(step_text(model), end='')
+    warn_of_inside_out(PROGRAM, model)
     return OK
 
 

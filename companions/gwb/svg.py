@@ -6,6 +6,7 @@ from typing import Dict, Iterator, List, NamedTuple, Optional, Sequence, Tuple
 from .command_line import OK, listing_parser, run, filled_model
 from .errors import Unfit
 from .hidden_lines import Piece, Scene
+from .inside_out import warn_of_inside_out
 from .measures import normal, why_unfit
 from .model import Model
 from .plane_figures import turn
@@ -181,7 +182,9 @@ def work(words: Optional[Sequence[str]]) -> int:
     options = parser.parse_args(words)
     if not any(options.view):
         parser.error('argument --view: the viewer stands in no direction')
-    print(svg_text(filled_model(options), tuple(options.view), options.names, options.hidden), end='')
+    model = filled_model(options)
+    print(svg_text(model, tuple(options.view), options.names, options.hidden), end='')
+    warn_of_inside_out(PROGRAM, model)
     return OK
 
 
