@@ -47,6 +47,12 @@ def read_bytes(path: Optional[str]) -> bytes:
         return file.read()
 
 
+def write_bytes(data: bytes) -> None:
+    """Writes bytes to standard output, with no change of line ends."""
+    sys.stdout.flush()
+    sys.stdout.buffer.write(data)
+
+
 def listing_parser(program: str, description: str) -> argparse.ArgumentParser:
     """A parser of the words that all programs which read a listing take."""
     parser = argparse.ArgumentParser(

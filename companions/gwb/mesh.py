@@ -1,12 +1,13 @@
-"""Writes a listing as a mesh of triangles: OFF, OBJ or STL."""
+"""Writes a listing as a mesh of triangles: OFF, OBJ, STL or 3MF."""
 
 from math import sqrt
-from typing import Dict, Iterator, List, NamedTuple, Optional, Sequence, Tuple
+from typing import Callable, Dict, Iterator, List, NamedTuple, Optional, Sequence, Tuple
 
-from .command_line import OK, listing_parser, run, filled_model
+from .command_line import OK, filled_model, listing_parser, run, write_bytes
 from .inside_out import warn_of_inside_out
 from .measures import require_fit
 from .model import Model
+from .three_mf import three_mf_bytes
 from .touched_edges import touched_edges
 from .triangulation import Triangle, face_triangles
 from .vectors import Vector, cross, subtract
@@ -27,6 +28,10 @@ class Mesh(NamedTuple):
     def triangles(self) -> List[Triangle]:
         """All triangles, by face."""
         return [triangle for triangles in self.faces.values() for triangle in triangles]
+
+    def triangles_of(self, solid: int) -> List[Triangle]:
+        """The triangles of one solid, by face."""
+        return [triangle for face in self.model.faces_of(solid) for triangle in self.faces[face]]
 
     @property
     def vertices(self) -> List[int]:
@@ -79,17 +84,17 @@ def _obj_lines(mesh: Mesh) -> Iterator[str]:
 
 
 def stl_text(mesh: Mesh) -> str:
-    """The mesh as STL in its text form, with a part for each solid."""
+    """The mesh as STL in its text form: one block, named after its solid or, where there are several, `gwb`."""
     return '\n'.join(_stl_lines(mesh)) + '\n'
 
 
 def _stl_lines(mesh: Mesh) -> Iterator[str]:
-    for solid in mesh.model.solids:
-        yield f'solid solid_{solid}'
-        for face in mesh.model.faces_of(solid):
-            for triangle in mesh.faces[face]:
-                yield from _stl_facet([mesh.model.vertices[vertex] for vertex in triangle])
-        yield f'endsolid solid_{solid}'
+    solids = mesh.model.solids
+    name = f'solid_{solids[0]}' if len(solids) == 1 else 'gwb'
+    yield f'solid {name}'
+    for triangle in (triangle for solid in solids for triangle in mesh.triangles_of(solid)):
+        yield from _stl_facet([mesh.model.vertices[vertex] for vertex in triangle])
+    yield f'endsolid {name}'
 
 
 def _stl_facet(points: Sequence[Vector]) -> Iterator[str]:
@@ -103,7 +108,12 @@ def _stl_facet(points: Sequence[Vector]) -> Iterator[str]:
     yield 'endfacet'
 
 
-FORMS = {'off': off_text, 'obj': obj_text, 'stl': stl_text}
+FORMS: Dict[str, Callable[[Mesh], bytes]] = {
+    'off': lambda mesh: off_text(mesh).encode('ascii'),
+    'obj': lambda mesh: obj_text(mesh).encode('ascii'),
+    'stl': lambda mesh: stl_text(mesh).encode('ascii'),
+    '3mf': three_mf_bytes,
+}
 
 
 def work(words: Optional[Sequence[str]]) -> int:
@@ -112,7 +122,7 @@ def work(words: Optional[Sequence[str]]) -> int:
     parser.add_argument('--form', choices=FORMS, default='off', help='the form of the mesh (default: off)')
     options = parser.parse_args(words)
     mesh = mesh_of(filled_model(options))
-    print(FORMS[options.form](mesh), end='')
+    write_bytes(FORMS[options.form](mesh))
     warn_of_inside_out(PROGRAM, mesh.model)
     return OK
 

@@ -29,13 +29,15 @@ class Outcome(NamedTuple):
 
 def run(companion: str, *words: str) -> Outcome:
     """Runs a companion on command line words within this process."""
-    out, err = io.StringIO(), io.StringIO()
+    written, err = io.BytesIO(), io.StringIO()
+    out = io.TextIOWrapper(written, encoding='utf-8', newline='')
     with redirect_stdout(out), redirect_stderr(err):
         try:
             status = import_module(f'gwb.{companion}').main(list(words))
         except SystemExit as end:
             status = end.code
-    return Outcome(out.getvalue(), err.getvalue(), status)
+    out.flush()
+    return Outcome(written.getvalue().decode('utf-8', 'surrogateescape'), err.getvalue(), status)
 
 
 def examples() -> List[Path]:

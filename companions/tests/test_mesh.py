@@ -1,16 +1,40 @@
 """Meshes are closed, keep the volume, and are made fast."""
 
+import io
+import re
+import shutil
+import subprocess
+import sys
+import tempfile
 import time
 import unittest
+import zipfile
 from collections import Counter
+from pathlib import Path
+from xml.etree import ElementTree
 
-from support import box, examples, lamina, listing, model_in, plate, run
+from support import COMPANIONS, box, examples, lamina, listing, model_in, plate, run
 
 from gwb.errors import Unfit
 from gwb.listing import read_model
 from gwb.measures import six_volume
-from gwb.mesh import mesh_of
+from gwb.mesh import mesh_of, stl_text
+from gwb.three_mf import MODEL_PART, three_mf_bytes
 from gwb.vectors import cross, dot, subtract
+
+
+def two_boxes():
+    """A listing of two boxes apart, of volumes 2 and 1."""
+    points, faces = box((0, 0, 0), (2, 1, 1))
+    more, others = box((5, 0, 0), (6, 1, 1), 9)
+    return listing(points + more, faces, others)
+
+
+def six_object_volume(part):
+    """Six times the volume of an object of 3MF."""
+    points = [tuple(int(row.get(axis)) for axis in 'xyz') for row in part.findall('.//{*}vertex')]
+    triangles = [[points[int(row.get(corner))] for corner in ('v1', 'v2', 'v3')] for row in part.findall('.//{*}triangle')]
+    return sum(dot(a, cross(b, c)) for a, b, c in triangles)
 
 
 def six_mesh_volume(mesh):
@@ -144,11 +168,44 @@ class Forms(unittest.TestCase):
             self.assertEqual(outcome.status, 0)
             self.assertTrue(outcome.out.startswith(beginning), form)
 
-    def test_each_solid_is_a_part(self):
-        points, faces = box((0, 0, 0), (1, 1, 1))
-        more, others = box((5, 0, 0), (6, 1, 1), 9)
-        mesh = mesh_of(model_in(listing(points + more, faces, others)))
+    def test_several_solids_are_one_block_of_stl(self):
+        mesh = mesh_of(model_in(two_boxes()))
         self.assertEqual(len(mesh.triangles), 24)
+        lines = stl_text(mesh).splitlines()
+        self.assertEqual([line for line in lines if 'solid' in line], ['solid gwb', 'endsolid gwb'])
+        self.assertEqual(lines.count('outer loop'), 24)
+
+    def test_admesh_takes_the_stl(self):
+        if shutil.which('admesh') is None:
+            raise unittest.SkipTest('needs admesh')
+        with tempfile.TemporaryDirectory() as folder:
+            path = Path(folder, 'two.stl')
+            path.write_text(stl_text(mesh_of(model_in(two_boxes()))))
+            told = subprocess.run(['admesh', path], capture_output=True, text=True, check=True).stdout
+        self.assertRegex(told, r'Number of facets\s*: *24')
+        self.assertRegex(told, r'Number of parts *: *2')
+        self.assertRegex(told, r'Total disconnected facets\s*: *0 *0')
+        self.assertEqual(float(re.search(r'Volume *: *([-\d.]+)', told).group(1)), 2 + 1)
+
+    def test_3mf_has_an_object_for_each_solid(self):
+        mesh = mesh_of(model_in(two_boxes()))
+        data = three_mf_bytes(mesh)
+        self.assertEqual(data, three_mf_bytes(mesh))
+        with zipfile.ZipFile(io.BytesIO(data)) as package:
+            self.assertIsNone(package.testzip())
+            self.assertEqual(package.namelist(), ['[Content_Types].xml', '_rels/.rels', MODEL_PART])
+            for name in package.namelist():
+                ElementTree.fromstring(package.read(name))
+            root = ElementTree.fromstring(package.read(MODEL_PART))
+        objects = root.findall('.//{*}object')
+        self.assertEqual([(part.get('id'), part.get('name')) for part in objects], [('1', 'solid 1'), ('2', 'solid 2')])
+        self.assertEqual([item.get('objectid') for item in root.findall('.//{*}item')], ['1', '2'])
+        self.assertEqual([six_object_volume(part) for part in objects], [6 * 2, 6 * 1])
+
+    def test_3mf_is_written_as_bytes(self):
+        replies = str(examples()[0].with_suffix('.expected'))
+        done = subprocess.run([sys.executable, COMPANIONS / 'gwb-mesh', '--form', '3mf', replies], capture_output=True, check=True)
+        self.assertEqual(done.stdout, three_mf_bytes(mesh_of(read_model(Path(replies).read_bytes()))))
 
 
 if __name__ == '__main__':
