@@ -19,14 +19,14 @@ TOP = Path(__file__).resolve().parent.parent
 sys.path.insert(0, str(TOP / 'companions'))
 
 from gwb.errors import CompanionError
+from gwb.language import COMMANDS
 from gwb.listing import model_of
 from gwb.replies import Reply, split_replies
 from gwb.svg import svg_text
 
 PICTURES = TOP / 'docs' / 'pictures'
 STAND = (2, -3, 2)
-WORDS = ('mvfs kvfs mev kev mef kef kemr mekr kfmrh mfkrh ringmv lamina block sweep glue split plane volume count undo redo list').split()
-STRAY = re.compile(rf' {{4,}}(?:{"|".join(WORDS)})(?: [-+@]?\d|$)')
+STRAY = re.compile(rf' {{4,}}(?:{"|".join(COMMANDS)})(?: [-+@]?\d|$)')
 
 
 class Step(NamedTuple):

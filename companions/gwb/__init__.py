@@ -6,6 +6,7 @@ from .listing import read_model
 from .model import Face, Loop, Model
 from .results import Lone
 from .session import Workbench
+from .version import VERSION as __version__
 
 __all__ = ['CompanionError', 'Complaint', 'Face', 'Faulted', 'Lone', 'Loop', 'MemoryRefused', 'Model', 'Refused',
            'Workbench', 'read_model']

@@ -8,6 +8,7 @@ from typing import Callable, Optional, Sequence
 from .errors import CompanionError
 from .listing import read_model
 from .model import Model
+from .version import VERSION
 
 OK, FOUND, REFUSED, INTERRUPTED = 0, 1, 3, 130
 
@@ -53,6 +54,11 @@ def write_bytes(data: bytes) -> None:
     sys.stdout.buffer.write(data)
 
 
+def add_version(parser: argparse.ArgumentParser) -> None:
+    """Adds the word that every program takes."""
+    parser.add_argument('--version', action='version', version=f'%(prog)s {VERSION}', help='print the version and end')
+
+
 def listing_parser(program: str, description: str) -> argparse.ArgumentParser:
     """A parser of the words that all programs which read a listing take."""
     parser = argparse.ArgumentParser(
@@ -61,6 +67,7 @@ def listing_parser(program: str, description: str) -> argparse.ArgumentParser:
                'Status 0: done; 2: the command line is refused; 3: the input is refused, or reading or writing failed.')
     parser.add_argument('listing', nargs='?', metavar='FILE', help='replies of gwb with a listing (default: standard input)')
     parser.add_argument('--solid', type=int, metavar='S', help='take solid S alone')
+    add_version(parser)
     return parser
 
 

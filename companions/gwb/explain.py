@@ -3,7 +3,7 @@
 import argparse
 from typing import Iterator, List, NamedTuple, Optional, Sequence
 
-from .command_line import FOUND, OK, read_bytes, run
+from .command_line import FOUND, OK, add_version, read_bytes, run
 from .errors import CompanionError, NotReplies
 from .language import FAULTS, first_word, is_answered, refusal
 from .replies import Reply, shortened, split_replies
@@ -106,6 +106,7 @@ def _parser() -> argparse.ArgumentParser:
     parser.add_argument('script', metavar='SCRIPT', help='the script')
     parser.add_argument('replies', nargs='?', metavar='REPLIES', help='what gwb replied to it (default: standard input)')
     parser.add_argument('--annotate', action='store_true', help='print the script with each reply beside its line')
+    add_version(parser)
     return parser
 
 

@@ -4,6 +4,9 @@ from typing import Dict, NamedTuple, Tuple
 
 LINE_LIMIT = 65_536
 
+COMMANDS = ('mvfs', 'kvfs', 'mev', 'kev', 'mef', 'kef', 'kemr', 'mekr', 'kfmrh', 'mfkrh', 'ringmv', 'lamina', 'block', 'sweep', 'glue',
+            'split', 'plane', 'volume', 'count', 'undo', 'redo', 'list')
+
 _BLANKS = b' \t\r'
 
 

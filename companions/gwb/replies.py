@@ -4,6 +4,7 @@ import re
 from typing import List, NamedTuple, Tuple
 
 from .errors import NotReplies
+from .language import COMMANDS
 
 _COMPLAINTS = ('refused', 'fault', 'memory')
 _NUMBER, _WHOLE = r'(?:0|[1-9][0-9]{0,9})', r'(?:0|-?[1-9][0-9]{0,39})'
@@ -49,14 +50,14 @@ def is_listed(line: str) -> bool:
 
 
 def split_replies(data: bytes) -> List[Reply]:
-    """The replies that the bytes hold, in order."""
+    """The replies that the bytes hold, in order. A line may end as on Windows, by a carriage return and a newline."""
     try:
         text = data.decode('ascii')
     except UnicodeDecodeError as error:
         raise NotReplies(f'byte {error.start + 1} is above 127: these are no replies of gwb') from None
     if text and not text.endswith('\n'):
         raise NotReplies('the last line has no newline: the replies are cut short')
-    return group_lines(text.split('\n')[:-1])
+    return group_lines(text.replace('\r\n', '\n').split('\n')[:-1])
 
 
 def group_lines(lines: List[str]) -> List[Reply]:
@@ -75,8 +76,16 @@ def group_lines(lines: List[str]) -> List[Reply]:
             replies.append([line])
             in_listing = False
         else:
-            raise NotReplies(f'line {number} is no reply of gwb: {shortened(line)}')
+            raise NotReplies(f'line {number} is no reply of gwb: {shortened(line)}{_hint(line)}')
     return [Reply(tuple(reply)) for reply in replies]
+
+
+def _hint(line: str) -> str:
+    """What to do where the line is one of a script."""
+    words = line.split()
+    if words and (words[0] in COMMANDS or words[0].startswith('#')):
+        return ' (it looks like a line of a script; give what gwb replies to the script)'
+    return ''
 
 
 def only_reply(lines: List[str]) -> Reply:

@@ -164,7 +164,10 @@ def svg_text(model: Model, stand: Vector, names: bool = False, hidden: bool = Tr
 
 
 def _view_step(word: str) -> int:
-    step = int(word)
+    try:
+        step = int(word)
+    except ValueError:
+        raise ArgumentTypeError(f'{word!r} is no whole number; three are wanted, as in --view 2 -3 2') from None
     if abs(step) > 1_000_000:
         raise ArgumentTypeError('past 1,000,000')
     return step

@@ -8,6 +8,8 @@ from pathlib import Path
 
 from support import COMPANIONS, examples, run
 
+from gwb.version import VERSION
+
 LISTING_PROGRAMS = ('check', 'mesh', 'step', 'svg')
 PROGRAMS = (*LISTING_PROGRAMS, 'explain')
 
@@ -36,6 +38,36 @@ class Programs(unittest.TestCase):
             self.assertEqual((outcome.status, outcome.err), (0, ''))
             self.assertIn(f'usage: gwb-{name}', outcome.out)
             self.assertIn('Status 0', outcome.out)
+
+    def test_version(self):
+        for name in PROGRAMS:
+            self.assertEqual(run(name, '--version'), (f'gwb-{name} {VERSION}\n', '', 0))
+
+    def test_lines_that_end_as_on_windows(self):
+        script = examples()[0]
+        replies = script.with_suffix('.expected')
+        with tempfile.TemporaryDirectory() as folder:
+            path, windows = Path(folder, 'replies'), Path(folder, 'script')
+            path.write_bytes(replies.read_bytes().replace(b'\n', b'\r\n'))
+            windows.write_bytes(script.read_bytes().replace(b'\n', b'\r\n'))
+            for name in LISTING_PROGRAMS:
+                self.assertEqual(run(name, str(path)), run(name, str(replies)))
+            for words in ((), ('--annotate',)):
+                wanted = run('explain', *words, str(script), str(replies))
+                self.assertEqual((wanted.err, wanted.status), ('', 0))
+                self.assertEqual(run('explain', *words, str(windows), str(path)), wanted)
+
+    def test_a_script_in_place_of_replies(self):
+        with tempfile.TemporaryDirectory() as folder:
+            path = Path(folder, 'script')
+            for line in ('block 1 0 0 0 4 4 4', '# a block', 'undo'):
+                path.write_text(line + '\nlist\n')
+                for name in LISTING_PROGRAMS:
+                    outcome = run(name, str(path))
+                    self.one_line(name, outcome)
+                    self.assertIn('give what gwb replies to the script', outcome.err)
+            path.write_text('hello\n')
+            self.assertNotIn('script', run('svg', str(path)).err)
 
     def test_words_that_are_refused(self):
         for name in PROGRAMS:
