@@ -1,0 +1,54 @@
+#!/usr/bin/env python3
+"""Compares the version in VERSION, at the top, with each place that says it. The last line says how many are as it is.
+
+    tests/versions.py
+"""
+import re
+import sys
+from pathlib import Path
+from typing import Iterator, NamedTuple
+
+TOP = Path(__file__).resolve().parent.parent
+
+
+class Place(NamedTuple):
+    """A file, the pattern whose group is the version in it, and what it has to be."""
+
+    file: str
+    pattern: str
+    wanted: str
+    needed: bool = True
+
+
+def places(version: str) -> Iterator[Place]:
+    """Where the version stands; what isn't needed is compared where it is there."""
+    major, minor, patch = map(int, version.split('.'))
+    yield Place('crates/gwb/src/words.rt', r'\.version\("(.*)"\)', version)
+    yield Place('companions/gwb/version.py', r"^VERSION = '(.*)'$", version)
+    yield Place('companions/pyproject.toml', r'^version = \{ attr = "(.*)" \}$', 'gwb.version.VERSION')
+    yield Place('bindings/gwb.pc.in', r'^Version: (.*)$', version)
+    yield Place('CHANGELOG.md', r'^## (.*)$', version)
+    yield Place('bindings/include/gwb.h', r'^#define GWB_VERSION (\d+)$', str(major * 10_000 + minor * 100 + patch), needed=False)
+
+
+def complaint(place: Place) -> str:
+    """What is wrong at a place, or nothing. The first match in a file counts."""
+    found = re.search(place.pattern, (TOP / place.file).read_text(), re.MULTILINE)
+    if found is None:
+        return f'{place.file}: no version in it' if place.needed else ''
+    return '' if found.group(1) == place.wanted else f'{place.file}: {found.group(1)}, not {place.wanted}'
+
+
+def main() -> int:
+    version = (TOP / 'VERSION').read_text().strip()
+    if not re.fullmatch(r'\d+\.\d+\.\d+', version):
+        print(f'VERSION: {version!r} is no version\n0 passed, 1 failed')
+        return 1
+    found = [complaint(place) for place in places(version)]
+    wrong = [why for why in found if why]
+    print(*wrong, f'{len(found) - len(wrong)} passed, {len(wrong)} failed', sep='\n')
+    return 1 if wrong else 0
+
+
+if __name__ == '__main__':
+    sys.exit(main())
