@@ -2,6 +2,8 @@
 
 from typing import Dict, NamedTuple, Tuple
 
+from .refusals import NAMES
+
 LINE_LIMIT = 65_536
 
 COMMANDS = ('mvfs', 'kvfs', 'mev', 'kev', 'mef', 'kef', 'kemr', 'mekr', 'kfmrh', 'mfkrh', 'ringmv', 'lamina', 'block', 'sweep', 'glue',
@@ -29,52 +31,52 @@ FAULTS: Dict[int, Meaning] = {
     6: Meaning('LongLine', 'the line has more than 65,536 bytes'),
 }
 
-# The condition that is false, with {} for the value that the reply carries.
-REFUSALS: Dict[int, Tuple[str, str]] = {
-    1: ('NumberRange', 'the number {} is outside 1 to 1,000,000'),
-    2: ('NoSolid', 'there is no solid {}'),
-    3: ('NoFace', 'there is no face {}'),
-    4: ('NoLoop', 'there is no loop {}'),
-    5: ('NoEdge', 'there is no edge {}'),
-    6: ('SolidTaken', 'solid {} is in use'),
-    7: ('FaceTaken', 'face {} is in use'),
-    8: ('LoopTaken', 'loop {} is in use'),
-    9: ('EdgeTaken', 'edge {} is in use'),
-    10: ('VertexTaken', 'vertex {} is in use'),
-    11: ('PointRange', 'vertex {} would lie past 1,000,000,000'),
-    12: ('NotBare', 'solid {} has more than one face, a ring or an edge'),
-    13: ('NotLone', 'loop {} has edges, so a corner in it is named by a half-edge'),
-    14: ('DifferentTails', 'the second corner is at vertex {}, the first one at another'),
-    15: ('ParallelEdge', 'edge {} has the same two ends'),
-    16: ('KeptEndBare', 'only this edge leaves vertex {}, which is kept, and others leave the one that goes'),
-    17: ('DifferentLoops', 'the second half-edge stands in loop {}, the first one in another'),
-    18: ('SameTail', 'both corners are at vertex {}'),
-    19: ('SameFace', 'both are face {}'),
-    20: ('HasRings', 'face {} has rings'),
-    21: ('SameLoop', 'both corners are in loop {}'),
-    22: ('DifferentFaces', 'the second corner is in face {}, the first one in another'),
-    23: ('NotRing', 'loop {} is an outer loop'),
-    24: ('DifferentSolids', 'the second one is of solid {}, the first one of another'),
-    25: ('NothingToUndo', 'there is nothing to undo'),
-    26: ('NothingToRedo', 'there is nothing to redo'),
-    27: ('NumbersSpent', 'too few fresh numbers are left (kind {}: 2 faces, 3 loops, 4 edges, 5 vertices)'),
-    28: ('FewPoints', 'there are {} points, and 3 are needed'),
-    29: ('ZeroSweep', 'face {} would move by nothing'),
-    30: ('LoneLoop', 'loop {} is a vertex without an edge'),
-    31: ('SameSolid', 'both faces are of solid {}'),
-    32: ('NotFlat', "face {} isn't flat"),
-    33: ('RepeatedPoint', 'two corners of face {} lie at one point'),
-    34: ('NoMatch', "the points of face {}, read backwards, aren't those of the first face"),
-    35: ('PlaneRange', 'coefficient {} is out of range'),
-    36: ('PlaneMisses', 'solid {} has no vertex above the plane, or none below'),
-    37: ('NotLattice', 'the plane cuts edge {} between whole coordinates'),
-    38: ('TouchedFace', 'the plane cuts face {} and also touches it at a corner or along an edge'),
-    39: ('CutOften', "the plane cuts face {} but not its outer loop, or not one of its rings where there are more than two cuts"),
-    40: ('CutCrossed', "the cuts of face {} don't pair up, or can't be drawn one after another"),
-    41: ('BranchedVertex', 'more than two edges of the cut meet at vertex {}'),
-    42: ('SectionHoles', 'the cut of solid {} has a hole, and not exactly one outline around it'),
-    43: ('SizeRange', 'size {} is below 1'),
-    44: ('BadPart', "the faces can't be parted from solid {}"),
+# The condition that is false, with {} for the value that the reply carries; the names are in refusals.py.
+TEXTS: Dict[int, str] = {
+    1: 'the number {} is outside 1 to 1,000,000',
+    2: 'there is no solid {}',
+    3: 'there is no face {}',
+    4: 'there is no loop {}',
+    5: 'there is no edge {}',
+    6: 'solid {} is in use',
+    7: 'face {} is in use',
+    8: 'loop {} is in use',
+    9: 'edge {} is in use',
+    10: 'vertex {} is in use',
+    11: 'vertex {} would lie past 1,000,000,000',
+    12: 'solid {} has more than one face, a ring or an edge',
+    13: 'loop {} has edges, so a corner in it is named by a half-edge',
+    14: 'the second corner is at vertex {}, the first one at another',
+    15: 'edge {} has the same two ends',
+    16: 'only this edge leaves vertex {}, which is kept, and others leave the one that goes',
+    17: 'the second half-edge stands in loop {}, the first one in another',
+    18: 'both corners are at vertex {}',
+    19: 'both are face {}',
+    20: 'face {} has rings',
+    21: 'both corners are in loop {}',
+    22: 'the second corner is in face {}, the first one in another',
+    23: 'loop {} is an outer loop',
+    24: 'the second one is of solid {}, the first one of another',
+    25: 'there is nothing to undo',
+    26: 'there is nothing to redo',
+    27: 'too few fresh numbers are left (kind {}: 2 faces, 3 loops, 4 edges, 5 vertices)',
+    28: 'there are {} points, and 3 are needed',
+    29: 'face {} would move by nothing',
+    30: 'loop {} is a vertex without an edge',
+    31: 'both faces are of solid {}',
+    32: "face {} isn't flat",
+    33: 'two corners of face {} lie at one point',
+    34: "the points of face {}, read backwards, aren't those of the first face",
+    35: 'coefficient {} is out of range',
+    36: 'solid {} has no vertex above the plane, or none below',
+    37: 'the plane cuts edge {} between whole coordinates',
+    38: 'the plane cuts face {} and also touches it at a corner or along an edge',
+    39: "the plane cuts face {} but not its outer loop, or not one of its rings where there are more than two cuts",
+    40: "the cuts of face {} don't pair up, or can't be drawn one after another",
+    41: 'more than two edges of the cut meet at vertex {}',
+    42: 'the cut of solid {} has a hole, and not exactly one outline around it',
+    43: 'size {} is below 1',
+    44: "the faces can't be parted from solid {}",
 }
 
 # Where a command says it otherwise, or the value means something else.
@@ -90,14 +92,19 @@ _OTHERWISE: Dict[Tuple[str, int], str] = {
 }
 
 
+def condition_text(number: int) -> str:
+    """What a refusal with this number says, with X for its value."""
+    return TEXTS[number].format('X')
+
+
 def refusal(number: int, value: int, command: str = '') -> Meaning:
     """What `refused number value` says as the reply to a command with this first word."""
-    if number not in REFUSALS:
+    if number not in NAMES:
         return Meaning(f'refusal {number}', f'unknown to these programs, with the value {value}')
-    name, text = REFUSALS[number]
+    name = NAMES[number]
     if (number, value) == (35, 0):
         return Meaning(name, 'a, b and c are all zero')
-    return Meaning(name, _OTHERWISE.get((command, number), text).format(value))
+    return Meaning(name, _OTHERWISE.get((command, number), TEXTS[number]).format(value))
 
 
 def is_answered(line: bytes) -> bool:

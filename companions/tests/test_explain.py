@@ -10,7 +10,8 @@ from support import REPOSITORY, program, run, scripts
 
 from gwb.errors import NotReplies
 from gwb.explain import annotated, complaints, join
-from gwb.language import FAULTS, REFUSALS, first_word, is_answered, refusal
+from gwb.language import FAULTS, TEXTS, first_word, is_answered, refusal
+from gwb.refusals import NAMES
 from gwb.replies import split_replies
 
 
@@ -113,16 +114,17 @@ class Language(unittest.TestCase):
 
     def test_all_refusals_have_names_of_the_language(self):
         language = (REPOSITORY / 'docs' / 'SCRIPT.md').read_text()
-        self.assertEqual(list(REFUSALS), list(range(1, 45)))
+        self.assertEqual(list(NAMES), list(range(1, 45)))
+        self.assertEqual(list(TEXTS), list(NAMES))
         self.assertEqual(list(FAULTS), list(range(1, 7)))
-        for name, text in REFUSALS.values():
+        for name, text in zip(NAMES.values(), TEXTS.values()):
             self.assertIn(name, language)
             self.assertLessEqual(text.count('{}'), 1)
 
     def test_the_program_has_the_same_names(self):
         shown = subprocess.run([program(), '--help'], stdout=subprocess.PIPE, check=True).stdout.decode()
         named = dict(re.findall(r'(\d+) ([A-Z]\w+)', shown.split('Refusals:')[1].split('Faults:')[0]))
-        self.assertEqual(named, {str(number): name for number, (name, _) in REFUSALS.items()})
+        self.assertEqual(named, {str(number): name for number, name in NAMES.items()})
         named = dict(re.findall(r'(\d+) ([A-Z]\w+)', shown.split('Faults:')[1].split('\n\n')[0]))
         self.assertEqual(named, {str(number): meaning.name for number, meaning in FAULTS.items()})
 

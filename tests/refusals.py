@@ -1,0 +1,172 @@
+#!/usr/bin/env python3
+"""The names of refusals everywhere are the kernel's: `Why::code` in crates/euler_operators/src/lib.rt, whose numbers are proved.
+
+    tests/refusals.py [--write]
+
+Compares with them what is made from them, and what says them by hand: the help text of gwb, gwb.hpp, and the table of docs/SCRIPT.md. --write
+first makes anew companions/gwb/refusals.py, bindings/include/gwb_names.h and bindings/rust/src/refusal.rs. The texts are those of
+companions/gwb/language.py. The last line counts.
+"""
+import re
+import sys
+from pathlib import Path
+from typing import Dict, Iterator, Tuple
+
+TOP = Path(__file__).resolve().parent.parent
+sys.path.insert(0, str(TOP / 'companions'))
+
+from gwb.language import FAULTS, condition_text
+
+Names = Dict[int, str]
+MADE = 'Made by tests/refusals.py --write from the names of the kernel; edit nothing here.'
+
+
+def text_of(file: str) -> str:
+    """The text of a file, or nothing where it isn't there."""
+    path = TOP / file
+    return path.read_text() if path.exists() else ''
+
+
+def kernel_names() -> Names:
+    """The kernel's names by their numbers."""
+    found = re.findall(r'Why::(\w+) => (\d+),', text_of('crates/euler_operators/src/lib.rt'))
+    return {int(number): name for name, number in found}
+
+
+def capitals(name: str) -> str:
+    """A name as C writes constants: NumberRange is NUMBER_RANGE."""
+    return re.sub(r'(?<=[a-z])(?=[A-Z])', '_', name).upper()
+
+
+def python_text(names: Names) -> str:
+    """companions/gwb/refusals.py."""
+    rows = ''.join(f'    {number}: {name!r},\n' for number, name in names.items())
+    return f'"""The names of refusals by their numbers. {MADE}"""\n\nfrom typing import Dict\n\nNAMES: Dict[int, str] = {{\n{rows}}}\n'
+
+
+def c_text(names: Names) -> str:
+    """bindings/include/gwb_names.h."""
+    rows = ''.join(f'    /* {condition_text(number)} */\n    GWB_WHY_{capitals(name)} = {number},\n' for number, name in names.items())
+    cases = ''.join(f'    case GWB_WHY_{capitals(name)}: return "{name}";\n' for name in names.values())
+    return f"""/* The names of refusals. {MADE} */
+#ifndef GWB_NAMES_H
+#define GWB_NAMES_H
+#include <stdint.h>
+
+/* The number of a refusal: the first condition that is false. X is the value that goes with it. Some commands give it a meaning of their
+ * own (docs/SCRIPT.md). */
+enum gwb_why {{
+{rows.rstrip().rstrip(',')}
+}};
+
+/* The name of the condition with a number, or "" where there is none. */
+static inline const char *gwb_why_name(uint32_t number)
+{{
+    switch (number) {{
+{cases}    default: return "";
+    }}
+}}
+
+#endif
+"""
+
+
+def rust_text(names: Names) -> str:
+    """bindings/rust/src/refusal.rs."""
+    rows = ''.join(f'    /// {condition_text(number)}\n    {name} = {number},\n' for number, name in names.items())
+    from_number = ''.join(f'            {number} => Some(Self::{name}),\n' for number, name in names.items())
+    name_of = ''.join(f'            Self::{name} => "{name}",\n' for name in names.values())
+    return f"""//! The names of refusals. {MADE}
+
+/// Which condition of a command is false. In the texts X is the value that goes with it; some commands give it a meaning of their own.
+#[derive(Clone, Copy, Debug, PartialEq, Eq, Hash)]
+#[non_exhaustive]
+#[repr(u32)]
+pub enum Refusal {{
+{rows}}}
+
+impl Refusal {{
+    /// The refusal with a number, or `None` where there is none.
+    pub const fn from_number(number: u32) -> Option<Self> {{
+        match number {{
+{from_number}            _ => None,
+        }}
+    }}
+
+    /// Its number.
+    pub const fn number(self) -> u32 {{
+        self as u32
+    }}
+
+    /// Its name, as the documents have it.
+    pub const fn name(self) -> &'static str {{
+        match self {{
+{name_of}        }}
+    }}
+}}
+
+impl std::fmt::Display for Refusal {{
+    fn fmt(&self, f: &mut std::fmt::Formatter<'_>) -> std::fmt::Result {{
+        f.pad(self.name())
+    }}
+}}
+"""
+
+
+MAKERS = {
+    'companions/gwb/refusals.py': python_text,
+    'bindings/include/gwb_names.h': c_text,
+    'bindings/rust/src/refusal.rs': rust_text,
+}
+
+
+def help_names(title: str) -> Names:
+    """The names in a table of the help text."""
+    table = re.search(rf'^{title}:\n(.*?)\n\n', text_of('crates/gwb/src/words.rt'), re.MULTILINE | re.DOTALL)
+    return {int(number): name for number, name in sorted(re.findall(r'(\d+) ([A-Z]\w+)', table.group(1) if table else ''), key=_first)}
+
+
+def _first(pair: Tuple[str, str]) -> int:
+    return int(pair[0])
+
+
+def page_names() -> Names:
+    """The names in the table of the page: one number and one name a row, or several of each."""
+    found: Names = {}
+    for numbers, names in re.findall(r'^\| ([0-9, ]+) \| ([A-Z][A-Za-z, ]+) \|', text_of('docs/SCRIPT.md'), re.MULTILINE):
+        found.update(zip(map(int, numbers.split(',')), names.split(', ')))
+    return found
+
+
+def header_names() -> Names:
+    """The names in gwb.hpp, if it has a table of its own."""
+    table = re.search(r'names\[\] = \{(.*?)\};', text_of('bindings/include/gwb.hpp'), re.DOTALL)
+    return dict(enumerate(re.findall(r'"(\w+)"', table.group(1)), 1)) if table else {}
+
+
+def findings(names: Names) -> Iterator[str]:
+    """For each place what is wrong with it, or nothing."""
+    yield '' if list(names) == list(range(1, len(names) + 1)) and names else 'crates/euler_operators: the numbers have gaps, or are not found'
+    for file, make in MAKERS.items():
+        yield '' if text_of(file) == make(names) else f'{file} is not the one that --write makes'
+    yield '' if help_names('Refusals') == names else 'crates/gwb/src/words.rt: the help text has other names'
+    yield '' if page_names() == names else 'docs/SCRIPT.md: the table of refusals has other names'
+    yield '' if header_names() in ({}, names) else 'bindings/include/gwb.hpp has other names'
+    faults = {number: meaning.name for number, meaning in FAULTS.items()}
+    yield '' if help_names('Faults') == faults else 'crates/gwb/src/words.rt: its faults are not those of companions/gwb/language.py'
+
+
+def main() -> int:
+    names = kernel_names()
+    if '--write' in sys.argv[1:]:
+        for file, make in MAKERS.items():
+            (TOP / file).parent.mkdir(parents=True, exist_ok=True)
+            (TOP / file).write_text(make(names))
+    found = list(findings(names))
+    wrong = [why for why in found if why]
+    print(*wrong, f'{len(found) - len(wrong)} passed, {len(wrong)} failed', sep='\n')
+    return 1 if wrong else 0
+
+
+if __name__ == '__main__':
+    sys.exit(main())
