@@ -56,13 +56,13 @@ class Examples(unittest.TestCase):
 
     def test_nothing_else_is_stored(self):
         wanted = {f'{script.stem}.{end}' for script in examples() for end in (*LISTING_RUNS, *SCRIPT_RUNS)}
-        self.assertEqual({path.name for path in STORED.iterdir()}, wanted)
+        self.assertEqual({path.name for path in STORED.iterdir() if path.is_file()}, wanted)
 
 
 def store() -> None:
     """Stores what the companions write now, in place of what was stored."""
     STORED.mkdir(exist_ok=True)
-    for path in STORED.iterdir():
+    for path in filter(Path.is_file, STORED.iterdir()):
         path.unlink()
     for script in examples():
         for end, told in outcomes(script).items():

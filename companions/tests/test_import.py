@@ -1,0 +1,238 @@
+"""Files of polygons as scripts: round trips, shapes by OpenSCAD, what is no closed surface, damaged files."""
+
+import io
+import struct
+import subprocess
+import tempfile
+import unittest
+import zipfile
+from fractions import Fraction
+from pathlib import Path
+
+from support import STORED, box, examples, listing, model_in, program, run, turned
+
+from gwb.check import check
+from gwb.errors import CompanionError, Unfit
+from gwb.importing import imported, model_of_parts
+from gwb.inversion import script_of
+from gwb.listing import read_model
+from gwb.measures import six_volume
+from gwb.mesh import FORMS, mesh_of
+from gwb.polygon_files import Part, read_parts
+from gwb.step import step_text
+
+SHAPES = {'cone': None, 'cross': 6 * (3 * 81 - 2 * 27), 'gear': None, 'holed_plate': 6 * 3 * (41 * 41 - 25 * 16), 'l_profile': 6 * 5 * 32, 'letter': None,
+          'menger_sponge': 6 * 400, 'nested_boxes': 6 * (1000 - 512 + 64), 'nut': None, 'ring': None, 'stairs': 6 * 24 * 42,
+          'u_profile': 6 * 4 * (54 - 20)}
+TETRAHEDRON = [(0, 0, 0), (6, 0, 0), (0, 6, 0), (0, 0, 6)]
+SIDES = [(0, 2, 1), (0, 1, 3), (1, 2, 3), (0, 3, 2)]
+
+
+def off(points, faces):
+    """An OFF file."""
+    rows = [f'OFF\n{len(points)} {len(faces)} 0', *(' '.join(map(str, point)) for point in points),
+            *(' '.join(map(str, (len(face), *face))) for face in faces)]
+    return '\n'.join(rows) + '\n'
+
+
+def ascii_stl(points, faces):
+    """An STL file as text."""
+    facets = ''.join('facet normal 0 0 0\nouter loop\n' + ''.join('vertex {} {} {}\n'.format(*points[v]) for v in face)
+                     + 'endloop\nendfacet\n' for face in faces)
+    return f'solid x\n{facets}endsolid x\n'
+
+
+def binary_stl(points, faces):
+    """An STL file as bytes."""
+    rows = [struct.pack('<12fH', 0, 0, 0, *(part for v in face for part in points[v]), 0) for face in faces]
+    return bytes(80) + struct.pack('<I', len(rows)) + b''.join(rows)
+
+
+def obj(points, faces):
+    """An OBJ file."""
+    return ''.join('v {} {} {}\n'.format(*p) for p in points) + ''.join(f'f {a + 1}/1 {b + 1}//2 {c + 1}\n' for a, b, c in faces)
+
+
+def three_mf(points, faces, item='<item objectid="1"/>'):
+    """A 3MF file."""
+    rows = ''.join('<vertex x="{}" y="{}" z="{}"/>'.format(*p) for p in points)
+    sides = ''.join('<triangle v1="{}" v2="{}" v3="{}"/>'.format(*face) for face in faces)
+    text = ('<model unit="millimeter" xmlns="http://schemas.microsoft.com/3dmanufacturing/core/2015/02"><resources><object id="1"><mesh>'
+            f'<vertices>{rows}</vertices><triangles>{sides}</triangles></mesh></object></resources><build>{item}</build></model>')
+    file = io.BytesIO()
+    with zipfile.ZipFile(file, 'w') as archive:
+        archive.writestr('3D/3dmodel.model', text)
+    return file.getvalue()
+
+
+def step(points=None, faces=None):
+    """A STEP file of a block."""
+    return step_text(model_in(listing(*box((0, 0, 0), (4, 5, 6)))))
+
+
+WRITERS = {'off': off, 'obj': obj, 'stl': binary_stl, '3mf': three_mf, 'step': step}
+
+
+def as_bytes(data):
+    return data.encode() if isinstance(data, str) else data
+
+
+def volumes(model):
+    """Six times the volumes of the solids."""
+    return sorted(six_volume(model, model.faces_of(solid)) for solid in model.solids)
+
+
+class InFiles(unittest.TestCase):
+    """What the tests share."""
+
+    def setUp(self):
+        self.folder = tempfile.TemporaryDirectory()
+        self.addCleanup(self.folder.cleanup)
+
+    def file(self, data, name='part'):
+        path = Path(self.folder.name, name)
+        path.write_bytes(as_bytes(data))
+        return str(path)
+
+    def read(self, data, **words):
+        return imported(self.file(data), **words)
+
+    def accepted(self, model):
+        lines = script_of(model)
+        wrote = subprocess.run([program()], input='\n'.join([*lines, 'list\n']).encode(), capture_output=True, check=False).stdout
+        self.assertEqual(wrote.count(b'ok\n'), len(lines))
+        self.assertEqual(read_model(wrote), model)
+
+    def refuse(self, part, data, **words):
+        with self.assertRaises(CompanionError) as caught:
+            self.read(data, **words)
+        self.assertIn(part, str(caught.exception))
+
+
+class RoundTrips(InFiles):
+    """Written by gwb-mesh and gwb-step, and read."""
+
+    def test_the_examples(self):
+        seen = 0
+        for script in examples():
+            model = read_model(script.with_suffix('.expected').read_bytes())
+            for form, text in self.forms(model) if model.faces else ():
+                with self.subTest(f'{script.stem} {form}'):
+                    back = self.read(text)
+                    self.accepted(back)
+                    self.assertEqual(volumes(back), volumes(model))
+                    if form == 'step':
+                        self.assertEqual([len(kind) for kind in (back.faces, back.loops, back.edges, back.vertices)],
+                                         [len(kind) for kind in (model.faces, model.loops, model.edges, model.vertices)])
+                    seen += 1
+        self.assertGreaterEqual(seen, 12)
+
+    def forms(self, model):
+        try:
+            mesh = mesh_of(model)
+            yield 'step', step_text(model)
+        except Unfit:
+            return
+        for form in ('off', 'obj', 'stl'):
+            if form != 'off' or len(model.solids) == 1:
+                yield form, FORMS[form](mesh)
+
+    def test_voids(self):
+        points, faces = box((0, 0, 0), (9, 9, 9))
+        more, others = box((2, 2, 2), (5, 5, 5), 9)
+        model = model_in(listing(points + more, faces + turned(others)))
+        for form, text in self.forms(model):
+            back = self.read(text)
+            self.assertEqual((volumes(back), len(back.faces), len(back.solids)), ([6 * (729 - 27)], 12, 1), form)
+
+    def test_shapes_by_openscad(self):
+        self.assertEqual({path.stem for path in (STORED / 'openscad').glob('*.scad')}, set(SHAPES))
+        for name, volume in SHAPES.items():
+            path = STORED / 'openscad' / f'{name}.off'
+            with self.subTest(name):
+                rounded = name in ('ring',)
+                model = imported(str(path), rounded=rounded)
+                mesh = model_of_parts(read_parts(path.read_bytes(), 'off'), Fraction(1), rounded, True).model
+                self.assertEqual(sum(volumes(model)), sum(volumes(mesh)))
+                self.assertLess(len(model.faces), len(mesh.faces))
+                self.accepted(model)
+                if volume is not None:
+                    self.assertEqual(sum(volumes(model)), volume)
+                if not rounded:
+                    self.assertEqual(check(model).findings, [])
+
+
+class Forms(InFiles):
+    """Each form, and the words."""
+
+    def test_each_form(self):
+        for write in (off, obj, ascii_stl, binary_stl, three_mf):
+            model = self.read(write(TETRAHEDRON, SIDES))
+            self.assertEqual((volumes(model), len(model.edges)), ([216], 6), write.__name__)
+            self.accepted(model)
+
+    def test_3mf_transforms(self):
+        model = self.read(three_mf(TETRAHEDRON, SIDES, '<item objectid="1" transform="0 1 0 -1 0 0 0 0 1 10 20 30"/>'))
+        self.assertEqual(sorted(model.vertices.values()), [(4, 20, 30), (10, 20, 30), (10, 20, 36), (10, 26, 30)])
+
+    def test_scale_and_round(self):
+        data = off([(0, 0, 0), (0.5, 0, 0), (0, 0.5, 0), (0, 0, '5e-1')], SIDES)
+        self.refuse('not whole', data)
+        self.assertEqual(volumes(self.read(data, scale=Fraction(2))), [1])
+        outcome = run('importing', '--scale', '3', '--round', self.file(data))
+        self.assertEqual((outcome.status, outcome.err), (0, 'gwb-import: points were moved by 0.5 at most\n'))
+        self.assertEqual(run('importing', '--scale', '0', self.file(data)).status, 2)
+        self.refuse('past 1,000,000,000', data, scale=Fraction(10 ** 10))
+
+    def test_triangles_are_kept(self):
+        points, faces = box((0, 0, 0), (4, 4, 4))
+        data = FORMS['off'](mesh_of(model_in(listing(points, faces))))
+        self.assertEqual((len(self.read(data).faces), len(self.read(data, keep_triangles=True).faces)), (6, 12))
+
+    def test_inside_out(self):
+        model = self.read(off(TETRAHEDRON, [face[::-1] for face in SIDES]))
+        self.assertEqual(volumes(model), [216])
+        self.accepted(model)
+
+    def test_objects_are_solids(self):
+        apart = [(x + 9, y, z) for x, y, z in TETRAHEDRON]
+        text = 'o a\n' + obj(TETRAHEDRON, SIDES) + 'o b\n' + obj(apart, [(a + 4, b + 4, c + 4) for a, b, c in SIDES])
+        self.assertEqual(volumes(self.read(text)), [216, 216])
+
+
+class Refused(InFiles):
+    """What is no closed surface, and damaged files."""
+
+    def test_no_closed_surface(self):
+        self.refuse('open edge: the edge from (', off(TETRAHEDRON, SIDES[:3]))
+        self.refuse('edge of 3 faces', off(TETRAHEDRON, SIDES + [SIDES[0]]))
+        self.refuse('face that turns', off(TETRAHEDRON, SIDES[:3] + [SIDES[3][::-1]]))
+        other = [(-x, -y, -z) for x, y, z in TETRAHEDRON]
+        sides = [(a + 4, c + 4, b + 4) for a, b, c in SIDES]
+        self.refuse('vertex where two shells touch: (0 0 0)', off(TETRAHEDRON + other, SIDES + sides))
+
+    def damaged(self, good):
+        middle = len(good) // 2
+        yield from (b'', b'\n', b'hello\n', bytes(range(256)), good[:middle], good[:-20], good[20:], good[:middle] + good[middle + 9:],
+                    good[:middle] + b'\xff' * 9 + good[middle + 9:], good.replace(b'6', b'nan'), good.replace(b'2', b'77'),
+                    good.replace(b'3', b''), good.replace(b' ', b''), good.replace(b'\n', b' '))
+
+    def test_damaged_files_have_one_line(self):
+        for form, write in WRITERS.items():
+            good = as_bytes(write(TETRAHEDRON, SIDES))
+            for place, data in enumerate(self.damaged(good)):
+                with self.subTest(f'{form} {place}'):
+                    outcome = run('importing', '--form', form, self.file(data))
+                    self.assertIn(outcome.status, (0, 3))
+                    self.assertEqual((outcome.out == '', outcome.err.count('\n')), (outcome.status == 3, outcome.status // 3))
+
+    def test_files_that_are_not_there(self):
+        outcome = run('importing', '/nowhere/part.off')
+        self.assertEqual((outcome.status, outcome.out), (3, ''))
+
+    def test_parts_without_faces(self):
+        self.assertEqual(model_of_parts([Part([])], Fraction(1), False, False).model.faces, {})
+
+
+if __name__ == '__main__':
+    unittest.main()
