@@ -5,7 +5,7 @@ import html
 import json
 import sys
 from pathlib import Path
-from typing import Dict, Iterable, Iterator, List, NamedTuple, Optional, Sequence
+from typing import Dict, Hashable, Iterable, Iterator, List, NamedTuple, Optional, Sequence
 
 from .command_line import OK, read_bytes, run
 from .errors import CompanionError, NotReplies, Unfit
@@ -40,15 +40,16 @@ class Step(NamedTuple):
 
 def page_of(model: Model, title: str = 'gwb') -> str:
     """A page that shows the model."""
-    return _page({'frames': [{'change': _rows(model)}]}, title)
+    return _page({'frames': [{'change': _Rows().of(model)}]}, title)
 
 
 def page_of_steps(steps: Iterable[Step], title: str = 'gwb') -> str:
     """A page that plays a script: the empty workbench, and the model after each command, stored as differences."""
-    frames: List[Dict[str, object]] = [{'change': _rows(_EMPTY)}]
-    model, before = _EMPTY, _rows(_EMPTY)
+    rows = _Rows()
+    model, before = _EMPTY, rows.of(_EMPTY)
+    frames: List[Dict[str, object]] = [{'change': before}]
     for step in steps:
-        after = before if step.model is model else _rows(step.model)
+        after = before if step.model is model else rows.of(step.model)
         frames.append({'line': step.line, 'reply': step.reply, 'bad': step.is_complaint, 'change': _changes(before, after)})
         model, before = step.model, after
     return _page({'steps': True, 'frames': frames}, title)
@@ -67,30 +68,49 @@ def _file(name: str) -> str:
     return (_FILES / name).read_text(encoding='utf-8')
 
 
-def _rows(model: Model) -> Dict[str, Rows]:
-    """The things of the model as the page reads them."""
-    touched = touched_edges(model)
-    return {'faces': {face: _face_row(model, face, touched) for face in model.faces},
-            'edges': dict(model.edges), 'vertices': dict(model.vertices)}
+class _Rows:
+    """The things of models as the page reads them. A face that is as it was in a model before isn't cut anew."""
+
+    def __init__(self) -> None:
+        self._faces: Dict[Hashable, List[object]] = {}
+
+    def of(self, model: Model) -> Dict[str, Rows]:
+        """All things of the model."""
+        return {'faces': {face: self._face(model, face) for face in model.faces},
+                'edges': dict(model.edges), 'vertices': dict(model.vertices)}
+
+    def _face(self, model: Model, face: int) -> List[object]:
+        loops = model.faces[face].loops
+        key = (model.faces[face], tuple(model.loops[loop] for loop in loops),
+               tuple((vertex, model.vertices[vertex]) for vertex in model.face_vertices(face)))
+        if key not in self._faces:
+            self._faces[key] = _face_row(model, face)
+        return self._faces[key]
 
 
-def _face_row(model: Model, face: int, touched: TouchedEdges) -> List[object]:
+def _face_row(model: Model, face: int) -> List[object]:
     """The solid, the loops, the plane (as text, since its numbers may be large), whether it is flat, and the triangles."""
     across = normal(model, face)
     loops = [[loop, model.loops[loop].halves, model.loops[loop].vertex] for loop in model.faces[face].loops]
     plane = [str(number) for number in (*across, -dot(across, anchor(model, face)))]
-    return [model.faces[face].solid, loops, plane, off_plane(model, face, across) is None, _corners(model, face, touched)]
+    return [model.faces[face].solid, loops, plane, off_plane(model, face, across) is None, _corners(model, face)]
 
 
-def _corners(model: Model, face: int, touched: TouchedEdges) -> List[int]:
+def _corners(model: Model, face: int) -> List[int]:
     """The corners of the face's triangles. One that can't be cut exactly is a fan about its first corner."""
     if normal(model, face) != ZERO and not any(model.loops[loop].is_lone for loop in model.faces[face].loops):
         try:
-            return [vertex for triangle in face_triangles(model, face, touched) for vertex in triangle]
+            return [vertex for triangle in face_triangles(model, face, _touched_edges(model, face)) for vertex in triangle]
         except Unfit:
             pass
     first, *others = model.loop_vertices(model.faces[face].outer)
     return [vertex for pair in zip(others, others[1:]) for vertex in (first, *pair)]
+
+
+def _touched_edges(model: Model, face: int) -> TouchedEdges:
+    """The edges of the face that other vertices of it touch."""
+    loops = {loop: model.loops[loop] for loop in model.faces[face].loops}
+    return touched_edges(Model((), {face: model.faces[face]}, loops, model.edges, model.vertices))
 
 
 def _changes(before: Dict[str, Rows], after: Dict[str, Rows]) -> Dict[str, Rows]:

@@ -9,7 +9,8 @@ const View = (() => {
   const state = {step: 0, off: new Set(), hidden: false, numbers: 0, picked: null, wanted: '', lit: new Set(), pointer: null};
   const view = {turn: Math.atan2(-3, 2), lift: .507, zoom: 1, right: 0, down: 0, width: 1, height: 1};
   const models = [Picture.changed({}, data.frames[0].change)];
-  let model = models[0], scene = null, screen = null, gl = null, ball = null, asked = false, timer = null;
+  const fingers = new Map();
+  let moved = 0, model = models[0], scene = null, screen = null, gl = null, ball = null, asked = false, timer = null;
 
   function modelAt(step) {
     while (models.length <= step) models.push(Picture.changed(models[models.length - 1], data.frames[models.length].change || {}));
@@ -53,15 +54,17 @@ gl_Position = vec4(2. * x / V.xy, -.7 * dot(S, mix(p, q, e.x)) - .0016, 1.); }`;
 
   function upload() {
     if (!gl) return;
-    const fills = [], lines = [];
+    const fills = [], lines = [], thin = scene.edges.length > 4000;
+    const ends = thin ? [[0, 0], [1, 0]] : [[0, -1], [1, -1], [0, 1], [0, 1], [1, -1], [1, 1]];
     for (const t of scene.triangles) {
       const c = isLit('f', t.face, t.solid) ? LIT : colour(t.solid);
-      for (const p of [t.a, t.b, t.c]) fills.push(...p, ...t.normal, ...c);
+      for (const corner of t.corners) fills.push(...scene.point(corner), ...t.normal, ...c);
     }
     for (const e of scene.edges) {
       const lit = isLit('e', e.edge, e.solid), c = lit ? [.9, .25, 0] : [.1, .15, .2], w = lit ? 2.4 : 1;
-      for (const [x, y] of [[0, -1], [1, -1], [0, 1], [0, 1], [1, -1], [1, 1]]) lines.push(...e.a, ...e.b, ...c, x, y * w);
+      for (const [x, y] of ends) lines.push(...scene.point(e.a), ...scene.point(e.b), ...c, x, y * w);
     }
+    gl.shape = thin ? gl.LINES : gl.TRIANGLES;
     fill(gl.fills, fills, 9);
     fill(gl.lines, lines, 11);
   }
@@ -101,11 +104,11 @@ gl_Position = vec4(2. * x / V.xy, -.7 * dot(S, mix(p, q, e.x)) - .0016, 1.); }`;
     if (state.hidden) {
       gl.depthFunc(gl.GREATER);
       set('A', '1f', .28);
-      gl.drawArrays(gl.TRIANGLES, 0, gl.lines.count);
+      gl.drawArrays(gl.shape, 0, gl.lines.count);
       gl.depthFunc(gl.LEQUAL);
     }
     set('A', '1f', 1);
-    gl.drawArrays(gl.TRIANGLES, 0, gl.lines.count);
+    gl.drawArrays(gl.shape, 0, gl.lines.count);
     gl.depthMask(true);
   }
 
@@ -113,52 +116,34 @@ gl_Position = vec4(2. * x / V.xy, -.7 * dot(S, mix(p, q, e.x)) - .0016, 1.); }`;
   function drawFlat(flat) {
     flat.setTransform(front.width / view.width, 0, 0, front.height / view.height, 0, 0);
     flat.clearRect(0, 0, view.width, view.height);
-    const depth = t => t.corners[0][2] + t.corners[1][2] + t.corners[2][2];
-    for (const t of [...screen.front].sort((a, b) => depth(a) - depth(b))) {
-      flat.fillStyle = flat.strokeStyle = css((isLit('f', t.face, t.solid) ? LIT : colour(t.solid)).map(x => x * (.55 + .45 * t.light)));
+    const depths = new Map(screen.front.map(i => [i, scene.triangles[i].corners.reduce((sum, c) => sum + screen.spot(c)[2], 0)]));
+    for (const i of [...screen.front].sort((a, b) => depths.get(a) - depths.get(b))) {
+      const t = scene.triangles[i], light = t.normal.reduce((sum, x, k) => sum + x * screen.basis.stand[k], 0);
+      flat.fillStyle = flat.strokeStyle = css((isLit('f', t.face, t.solid) ? LIT : colour(t.solid)).map(x => x * (.6 + .4 * light)));
       flat.lineWidth = .7;
       flat.beginPath();
-      for (const c of t.corners) flat.lineTo(c[0], c[1]);
+      for (const c of t.corners) flat.lineTo(...screen.spot(c).slice(0, 2));
       flat.closePath();
       flat.fill();
       flat.stroke();
     }
     for (const e of scene.edges) {
-      const [a, b] = [screen.spots[e.start], screen.spots[e.end]];
-      const seen = scene.edges.length > 2000 || Picture.isSeen(screen, a.map((x, i) => (x + b[i]) / 2));
-      if (!seen && !state.hidden) continue;
-      flat.strokeStyle = isLit('e', e.edge, e.solid) ? '#e04000' : seen ? '#1a2633' : '#1a263340';
-      flat.lineWidth = isLit('e', e.edge, e.solid) ? 3.5 : 1.5;
+      const lit = isLit('e', e.edge, e.solid), seen = scene.edges.length > 2000 || Picture.isSeen(scene, screen, screen.spot(e.middle));
+      if (!seen && !state.hidden && !lit) continue;
+      flat.strokeStyle = lit ? '#e04000' : seen ? '#1a2633' : '#1a263340';
+      flat.lineWidth = lit ? 3.5 : 1.5;
       flat.beginPath();
-      flat.moveTo(a[0], a[1]);
-      flat.lineTo(b[0], b[1]);
+      flat.moveTo(...screen.spot(e.a).slice(0, 2));
+      flat.lineTo(...screen.spot(e.b).slice(0, 2));
       flat.stroke();
     }
   }
 
   // --- numbers
-  function candidates() {
-    const all = [];
-    for (const number of scene.used) all.push({kind: 'v', number, spot: screen.spots[number]});
-    for (const [number, p] of Object.entries(scene.middles)) all.push({kind: 'f', number: +number, spot: Picture.project(view, screen.basis, p)});
-    for (const e of scene.edges) {
-      const [a, b] = [screen.spots[e.start], screen.spots[e.end]];
-      all.push({kind: 'e', number: e.edge, spot: a.map((x, i) => (x + b[i]) / 2)});
-    }
-    return all;
-  }
-
   function wanted() {
-    const p = state.pointer || [view.width / 2, view.height / 2], chosen = [];
-    for (const it of candidates()) {
-      const first = isLit(it.kind, it.number);
-      const away = Math.hypot(it.spot[0] - p[0], it.spot[1] - p[1]);
-      if (first || state.numbers === 1 || (state.numbers === 0 && state.pointer && away < 80)) chosen.push({...it, first, away});
-    }
-    const nearest = chosen.sort((a, b) => b.first - a.first || a.away - b.away).slice(0, 160);
-    nearest.sort((a, b) => b.first - a.first || 'fve'.indexOf(a.kind) - 'fve'.indexOf(b.kind) || a.away - b.away);
-    const fronts = new Set(screen.front.map(t => t.face));
-    return nearest.filter(it => it.first || ((it.kind !== 'f' || fronts.has(it.number)) && Picture.isSeen(screen, it.spot)));
+    const near = state.pointer && !fingers.size ? 80 : 0;
+    return Picture.named(scene, screen, (kind, number) => isLit(kind, number), state.pointer || [view.width / 2, view.height / 2],
+                         [near, fingers.size && scene.things.length > 5000 ? 0 : Infinity, 0][state.numbers]);
   }
 
   function drawLabels() {
@@ -166,8 +151,8 @@ gl_Position = vec4(2. * x / V.xy, -.7 * dot(S, mix(p, q, e.x)) - .0016, 1.); }`;
     pen.clearRect(0, 0, view.width, view.height);
     pen.textAlign = 'center';
     pen.textBaseline = 'middle';
-    for (const number of scene.used) {
-      const spot = screen.spots[number], lit = isLit('v', number);
+    for (const number of Object.keys(scene.place)) {
+      const spot = screen.spot(scene.place[number]), lit = isLit('v', +number);
       if (!lit && scene.edges.length) continue;
       pen.fillStyle = lit ? '#e04000' : '#1a2633';
       pen.beginPath();
@@ -348,8 +333,6 @@ gl_Position = vec4(2. * x / V.xy, -.7 * dot(S, mix(p, q, e.x)) - .0016, 1.); }`;
     ask();
   }
 
-  const fingers = new Map();
-  let moved = 0;
   function movePointer(event) {
     state.pointer = [event.clientX, event.clientY];
     const before = fingers.get(event.pointerId);

@@ -1,7 +1,7 @@
 'use strict';
 // What the page reckons, apart from what it shows: no function here knows of the document.
 const Picture = (() => {
-  const NEAR_VERTEX = 9, NEAR_EDGE = 6;
+  const NEAR_VERTEX = 9, NEAR_EDGE = 6, MOST_NAMES = 160;
   const KINDS = ['faces', 'edges', 'vertices'];
 
   // The model after a change: for each kind the new rows by number, null for what has gone.
@@ -44,75 +44,91 @@ const Picture = (() => {
             view.height / 2 + view.down - view.zoom * dot(basis.up, p), dot(basis.stand, p)];
   }
 
-  // A model with the solids switched off left out, brought to the unit ball.
+  // A model with the solids switched off left out, brought to the unit ball. Spots are three numbers each: first the
+  // vertices', then the middles of the faces' largest triangles, then the middles of the edges.
   function sceneOf(model, ball, off) {
-    const points = {}, triangles = [], edges = [], used = new Set(), solids = {};
-    for (const [number, p] of Object.entries(model.vertices)) {
-      points[number] = minus(p, ball.middle).map(x => x / ball.radius);
-    }
-    const sides = {}, middles = {};
-    for (const [number, [solid, loops, , , corners]] of Object.entries(model.faces)) {
-      solids[solid] = true;
-      if (off.has(solid)) continue;
-      let widest = -1;
-      for (let i = 0; i < corners.length; i += 3) {
-        const [a, b, c] = [corners[i], corners[i + 1], corners[i + 2]].map(vertex => points[vertex]);
-        const across = cross(minus(b, a), minus(c, a)), size = Math.sqrt(dot(across, across));
-        if (size === 0) continue;
-        triangles.push({face: +number, solid, a, b, c, normal: across.map(x => x / size)});
-        if (size > widest) {
-          widest = size;
-          middles[number] = a.map((x, k) => (x + b[k] + c[k]) / 3);
-        }
-      }
+    const place = {}, spots = [], things = [], sides = {}, solids = new Set();
+    const put = (kind, number, p) => { things.push({kind, number}); return spots.push(p[0], p[1], p[2]) / 3 - 1; };
+    const faces = Object.entries(model.faces).filter(([, [solid]]) => { solids.add(solid); return !off.has(solid); });
+    for (const [number, [solid, loops]] of faces) {
       for (const [loop, halves, vertex] of loops) {
         for (const half of halves) sides[half] = {face: +number, loop, solid};
-        if (vertex) used.add(vertex);
+        if (vertex) place[vertex] = -1;
       }
     }
-    for (const [number, [start, end]] of Object.entries(model.edges)) {
-      if (!sides[number]) continue;
-      used.add(start);
-      used.add(end);
-      edges.push({edge: +number, start, end, a: points[start], b: points[end], solid: sides[number].solid});
+    const kept = Object.entries(model.edges).filter(([number]) => sides[number]);
+    for (const [, ends] of kept) for (const end of ends) place[end] = -1;
+    for (const number of Object.keys(place)) {
+      place[number] = put('v', +number, minus(model.vertices[number], ball.middle).map(x => x / ball.radius));
     }
-    return {points, triangles, edges, sides, middles, used: [...used], solids: Object.keys(solids).map(Number)};
+    const point = i => [spots[3 * i], spots[3 * i + 1], spots[3 * i + 2]];
+    const middles = [], triangles = [];
+    for (const [number, row] of faces) {
+      const cut = cutFace(+number, row, row[4].map(vertex => place[vertex]), point);
+      if (cut.middle) middles.push([+number, cut.middle]);
+      for (const triangle of cut.triangles) triangles.push(triangle);
+    }
+    for (const [number, middle] of middles) put('f', number, middle);
+    const edges = kept.map(([number, [start, end]]) => {
+      const a = point(place[start]), b = point(place[end]);
+      return {edge: +number, a: place[start], b: place[end], solid: sides[number].solid, middle: put('e', +number, a.map((x, k) => (x + b[k]) / 2))};
+    });
+    return {spots: Float64Array.from(spots), things, triangles, edges, sides, place, point, solids: [...solids],
+            corners: Int32Array.from(triangles.flatMap(t => t.corners)), normals: Float64Array.from(triangles.flatMap(t => t.normal))};
   }
 
-  // The scene on the screen.
+  // The triangles of a face that have an area, and the middle of the largest one.
+  function cutFace(face, row, corners, point) {
+    const triangles = [];
+    let widest = 0, middle = null;
+    for (let i = 0; i < corners.length; i += 3) {
+      const [a, b, c] = [point(corners[i]), point(corners[i + 1]), point(corners[i + 2])];
+      const across = cross(minus(b, a), minus(c, a)), size = Math.sqrt(dot(across, across));
+      if (size > 0) triangles.push({face, solid: row[0], corners: corners.slice(i, i + 3), normal: across.map(x => x / size)});
+      if (size > widest) {
+        widest = size;
+        middle = a.map((x, k) => (x + b[k] + c[k]) / 3);
+      }
+    }
+    return {triangles, middle};
+  }
+
+  // The scene on the screen: each spot as x, y and how near it is, and the triangles that face the viewer.
   function screenOf(scene, view) {
-    const basis = axes(view), spots = {};
-    for (const vertex of scene.used) spots[vertex] = project(view, basis, scene.points[vertex]);
-    const front = scene.triangles.filter(t => dot(t.normal, basis.stand) > 1e-9)
-      .map(t => ({face: t.face, solid: t.solid, light: dot(t.normal, basis.stand),
-                  corners: [t.a, t.b, t.c].map(p => project(view, basis, p))}));
-    return {basis, spots, front};
-  }
-
-  const turn = (a, b, x, y) => (b[0] - a[0]) * (y - a[1]) - (b[1] - a[1]) * (x - a[0]);
-
-  // How near the triangle is at a place, or null where it isn't there.
-  function depthAt([a, b, c], x, y) {
-    if (x < a[0] && x < b[0] && x < c[0] || x > a[0] && x > b[0] && x > c[0]
-        || y < a[1] && y < b[1] && y < c[1] || y > a[1] && y > b[1] && y > c[1]) return null;
-    const u = turn(b, c, x, y), v = turn(c, a, x, y), w = turn(a, b, x, y), all = u + v + w;
-    if (all === 0 || u * all < 0 || v * all < 0 || w * all < 0) return null;
-    return (u * a[2] + v * b[2] + w * c[2]) / all;
-  }
-
-  // The nearest face at a place, or null.
-  function faceAt(screen, x, y) {
-    let found = null;
-    for (const triangle of screen.front) {
-      const depth = depthAt(triangle.corners, x, y);
-      if (depth !== null && (found === null || depth > found.depth)) found = {number: triangle.face, depth};
+    const basis = axes(view), {right, up, stand} = basis, {spots, normals} = scene, on = new Float64Array(spots.length), front = [];
+    const x = view.width / 2 + view.right, y = view.height / 2 + view.down;
+    for (let i = 0; i < spots.length; i += 3) {
+      const p = spots[i], q = spots[i + 1], r = spots[i + 2];
+      on[i] = x + view.zoom * (right[0] * p + right[1] * q + right[2] * r);
+      on[i + 1] = y - view.zoom * (up[0] * p + up[1] * q + up[2] * r);
+      on[i + 2] = stand[0] * p + stand[1] * q + stand[2] * r;
     }
-    return found;
+    for (let i = 0; i < normals.length; i += 3) {
+      if (normals[i] * stand[0] + normals[i + 1] * stand[1] + normals[i + 2] * stand[2] > 1e-9) front.push(i / 3);
+    }
+    return {basis, on, front, spot: i => [on[3 * i], on[3 * i + 1], on[3 * i + 2]]};
+  }
+
+  // The nearest triangle at a place, or null.
+  function faceAt(scene, {on, front}, x, y) {
+    let number = -1, depth = -Infinity;
+    for (const i of front) {
+      const a = 3 * scene.corners[3 * i], b = 3 * scene.corners[3 * i + 1], c = 3 * scene.corners[3 * i + 2];
+      const ax = on[a] - x, bx = on[b] - x, cx = on[c] - x;
+      if (ax < 0 && bx < 0 && cx < 0 || ax > 0 && bx > 0 && cx > 0) continue;
+      const ay = on[a + 1] - y, by = on[b + 1] - y, cy = on[c + 1] - y;
+      if (ay < 0 && by < 0 && cy < 0 || ay > 0 && by > 0 && cy > 0) continue;
+      const u = bx * cy - cx * by, v = cx * ay - ax * cy, w = ax * by - bx * ay, all = u + v + w;
+      if (all === 0 || u * all < 0 || v * all < 0 || w * all < 0) continue;
+      const near = (u * on[a + 2] + v * on[b + 2] + w * on[c + 2]) / all;
+      if (near > depth) [number, depth] = [i, near];
+    }
+    return number < 0 ? null : {number: scene.triangles[number].face, depth};
   }
 
   // Whether nothing lies before a spot.
-  function isSeen(screen, spot) {
-    const found = faceAt(screen, spot[0], spot[1]);
+  function isSeen(scene, screen, spot) {
+    const found = faceAt(scene, screen, spot[0], spot[1]);
     return found === null || found.depth <= spot[2] + 2e-3;
   }
 
@@ -126,17 +142,30 @@ const Picture = (() => {
 
   // What is seen at a place: a vertex before an edge before a face, or null.
   function pick(scene, screen, x, y) {
-    const vertices = scene.used.map(number => ({kind: 'v', number, spot: screen.spots[number]}))
+    const vertices = Object.entries(scene.place).map(([number, i]) => ({kind: 'v', number: +number, spot: screen.spot(i)}))
       .map(it => ({...it, away: Math.hypot(it.spot[0] - x, it.spot[1] - y)})).filter(it => it.away <= NEAR_VERTEX);
-    const edges = scene.edges.map(({edge, start, end}) =>
-      ({kind: 'e', number: edge, ...onSegment(screen.spots[start], screen.spots[end], x, y)})).filter(it => it.away <= NEAR_EDGE);
+    const edges = scene.edges.map(({edge, a, b}) => ({kind: 'e', number: edge, ...onSegment(screen.spot(a), screen.spot(b), x, y)}))
+      .filter(it => it.away <= NEAR_EDGE);
     for (const list of [vertices, edges]) {
       list.sort((a, b) => Math.round(a.away - b.away) || b.spot[2] - a.spot[2]);
-      const found = list.find(it => isSeen(screen, it.spot));
+      const found = list.find(it => isSeen(scene, screen, it.spot));
       if (found) return {kind: found.kind, number: found.number};
     }
-    const face = faceAt(screen, x, y);
+    const face = faceAt(scene, screen, x, y);
     return face && {kind: 'f', number: face.number};
+  }
+
+  // The things to be named, the most wanted ones first: those that are chosen, and those nearer than a limit that are seen.
+  function named(scene, screen, isChosen, [x, y], limit) {
+    const found = [], {on, front} = screen, rank = {f: 0, v: 1, e: 2};
+    scene.things.forEach(({kind, number}, i) => {
+      const away = Math.hypot(on[3 * i] - x, on[3 * i + 1] - y), first = isChosen(kind, number);
+      if (first || away < limit) found.push({kind, number, first, away, spot: screen.spot(i)});
+    });
+    const nearest = found.sort((a, b) => b.first - a.first || a.away - b.away).slice(0, MOST_NAMES);
+    const fronts = new Set(nearest.length ? front.map(i => scene.triangles[i].face) : []);
+    return nearest.sort((a, b) => b.first - a.first || rank[a.kind] - rank[b.kind] || a.away - b.away)
+      .filter(it => it.first || ((it.kind !== 'f' || fronts.has(it.number)) && isSeen(scene, screen, it.spot)));
   }
 
   // Places for labels, the first ones first, none over another; what finds no place is left out.
@@ -172,5 +201,5 @@ const Picture = (() => {
     return found;
   }
 
-  return {changed, bounds, axes, project, sceneOf, screenOf, pick, isSeen, placeLabels, wantedIn, faceAt, dot};
+  return {changed, bounds, axes, project, sceneOf, screenOf, pick, named, isSeen, placeLabels, wantedIn};
 })();
