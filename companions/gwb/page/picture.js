@@ -1,7 +1,7 @@
 'use strict';
 // What the page reckons, apart from what it shows: no function here knows of the document.
 const Picture = (() => {
-  const NEAR_VERTEX = 9, NEAR_EDGE = 6, MOST_NAMES = 160;
+  const NEAR_VERTEX = 9, NEAR_EDGE = 6, MOST_NAMES = 160, SIDE = 32;
   const KINDS = ['faces', 'edges', 'vertices'];
 
   // The model after a change: for each kind the new rows by number, null for what has gone.
@@ -106,13 +106,31 @@ const Picture = (() => {
     for (let i = 0; i < normals.length; i += 3) {
       if (normals[i] * stand[0] + normals[i + 1] * stand[1] + normals[i + 2] * stand[2] > 1e-9) front.push(i / 3);
     }
-    return {basis, on, front, spot: i => [on[3 * i], on[3 * i + 1], on[3 * i + 2]]};
+    return {basis, on, front, width: view.width, height: view.height, spot: i => [on[3 * i], on[3 * i + 1], on[3 * i + 2]]};
+  }
+
+  // The triangles that face the viewer by the squares of the screen that they reach into; made once, when first asked for.
+  function squaresOf(scene, screen) {
+    if (screen.squares) return screen.squares;
+    const {on, front} = screen, squares = screen.squares = new Map();
+    const square = (x, most) => Math.floor(Math.max(-SIDE, Math.min(most, x)) / SIDE);
+    for (const i of front) {
+      const [a, b, c] = [0, 1, 2].map(k => 3 * scene.corners[3 * i + k]);
+      const [left, right] = [Math.min, Math.max].map(one => square(one(on[a], on[b], on[c]), screen.width));
+      const [top, bottom] = [Math.min, Math.max].map(one => square(one(on[a + 1], on[b + 1], on[c + 1]), screen.height));
+      for (let x = left; x <= right; x++) for (let y = top; y <= bottom; y++) {
+        const key = x * 4096 + y;
+        if (squares.has(key)) squares.get(key).push(i); else squares.set(key, [i]);
+      }
+    }
+    return squares;
   }
 
   // The nearest triangle at a place, or null.
-  function faceAt(scene, {on, front}, x, y) {
+  function faceAt(scene, screen, x, y) {
     let number = -1, depth = -Infinity;
-    for (const i of front) {
+    const {on} = screen, near = squaresOf(scene, screen).get(Math.floor(x / SIDE) * 4096 + Math.floor(y / SIDE)) || [];
+    for (const i of near) {
       const a = 3 * scene.corners[3 * i], b = 3 * scene.corners[3 * i + 1], c = 3 * scene.corners[3 * i + 2];
       const ax = on[a] - x, bx = on[b] - x, cx = on[c] - x;
       if (ax < 0 && bx < 0 && cx < 0 || ax > 0 && bx > 0 && cx > 0) continue;
@@ -120,8 +138,8 @@ const Picture = (() => {
       if (ay < 0 && by < 0 && cy < 0 || ay > 0 && by > 0 && cy > 0) continue;
       const u = bx * cy - cx * by, v = cx * ay - ax * cy, w = ax * by - bx * ay, all = u + v + w;
       if (all === 0 || u * all < 0 || v * all < 0 || w * all < 0) continue;
-      const near = (u * on[a + 2] + v * on[b + 2] + w * on[c + 2]) / all;
-      if (near > depth) [number, depth] = [i, near];
+      const here = (u * on[a + 2] + v * on[b + 2] + w * on[c + 2]) / all;
+      if (here > depth) [number, depth] = [i, here];
     }
     return number < 0 ? null : {number: scene.triangles[number].face, depth};
   }
@@ -142,10 +160,15 @@ const Picture = (() => {
 
   // What is seen at a place: a vertex before an edge before a face, or null.
   function pick(scene, screen, x, y) {
-    const vertices = Object.entries(scene.place).map(([number, i]) => ({kind: 'v', number: +number, spot: screen.spot(i)}))
-      .map(it => ({...it, away: Math.hypot(it.spot[0] - x, it.spot[1] - y)})).filter(it => it.away <= NEAR_VERTEX);
-    const edges = scene.edges.map(({edge, a, b}) => ({kind: 'e', number: edge, ...onSegment(screen.spot(a), screen.spot(b), x, y)}))
-      .filter(it => it.away <= NEAR_EDGE);
+    const vertices = [], edges = [];
+    for (const [number, i] of Object.entries(scene.place)) {
+      const spot = screen.spot(i), away = Math.hypot(spot[0] - x, spot[1] - y);
+      if (away <= NEAR_VERTEX) vertices.push({kind: 'v', number: +number, spot, away});
+    }
+    for (const {edge, a, b} of scene.edges) {
+      const nearest = onSegment(screen.spot(a), screen.spot(b), x, y);
+      if (nearest.away <= NEAR_EDGE) edges.push({kind: 'e', number: edge, ...nearest});
+    }
     for (const list of [vertices, edges]) {
       list.sort((a, b) => Math.round(a.away - b.away) || b.spot[2] - a.spot[2]);
       const found = list.find(it => isSeen(scene, screen, it.spot));
