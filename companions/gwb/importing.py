@@ -11,7 +11,7 @@ from .inversion import script_of
 from .measures import six_volume, why_unfit
 from .model import Face, Loop, Model
 from .nesting import Shell, lies_in, nests
-from .numbering import from_least, sorted_model
+from .free_numbers import from_least, sorted_model
 from .polygon_files import FORMS, Exact, Part, form_of, read_parts
 from .surfaces import Surface, model_of_surfaces, require_closed, surface_of, with_joined_faces
 from .vectors import Vector

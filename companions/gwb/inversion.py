@@ -10,7 +10,7 @@ from .handle_pairs import handle_pairs
 from .joined_sets import JoinedSets
 from .linked_halves import LinkedHalves
 from .model import Model
-from .numbering import FreeNumbers, numbers_of
+from .free_numbers import FreeNumbers, numbers_of
 from .spanning_tree import Tree, spanning_trees
 
 

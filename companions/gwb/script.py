@@ -10,7 +10,7 @@ from .inversion import script_of
 from .listing import read_model
 from .model import Model
 from .moved import changed, moving, scaling, turning
-from .numbering import renumbered_after
+from .free_numbers import renumbered_after
 from .short_script import short_script_of
 
 PROGRAM = 'gwb-script'

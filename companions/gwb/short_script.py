@@ -4,7 +4,7 @@ from typing import Dict, List, Optional, Sequence
 
 from .inversion import solid_script
 from .model import Face, Loop, Model
-from .numbering import KINDS, FreeNumbers, from_least, greatest_of, numbers_of, sorted_model
+from .free_numbers import KINDS, FreeNumbers, from_least, greatest_of, numbers_of, sorted_model
 from .vectors import Vector, ZERO, add, subtract
 
 

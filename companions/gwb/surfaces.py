@@ -7,7 +7,7 @@ from .joined_sets import JoinedSets
 from .measures import area_vector
 from .model import Face, Loop, Model
 from .moved import require_in_range
-from .numbering import LARGEST, from_least, sorted_model
+from .free_numbers import LARGEST, from_least, sorted_model
 from .vectors import Vector, ZERO, dot, reduced, subtract
 
 Side = Tuple[int, int]

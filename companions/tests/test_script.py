@@ -12,7 +12,7 @@ from gwb.errors import Unfit
 from gwb.handle_pairs import handle_pairs
 from gwb.inversion import script_of
 from gwb.listing import model_of
-from gwb.numbering import FreeNumbers
+from gwb.free_numbers import FreeNumbers
 from gwb.replies import split_replies
 from gwb.short_script import short_script_of
 
