@@ -1,12 +1,13 @@
 """Companions of gwb, the Geometric WorkBench: they read what it writes. Nothing of them is proved."""
 
 from .complaints import Complaint, Faulted, MemoryRefused, Refused
-from .errors import CompanionError
+from .errors import CompanionError, Ended, NotOne, ProgramMissing
 from .listing import read_model
 from .model import Face, Loop, Model
+from .outlines import Impossible
 from .results import Lone
 from .session import Workbench
 from .version import VERSION as __version__
 
-__all__ = ['CompanionError', 'Complaint', 'Face', 'Faulted', 'Lone', 'Loop', 'MemoryRefused', 'Model', 'Refused',
-           'Workbench', 'read_model']
+__all__ = ['CompanionError', 'Complaint', 'Ended', 'Face', 'Faulted', 'Impossible', 'Lone', 'Loop', 'MemoryRefused', 'Model', 'NotOne',
+           'ProgramMissing', 'Refused', 'Workbench', '__version__', 'read_model']

@@ -15,3 +15,15 @@ class NotAListing(CompanionError):
 
 class Unfit(CompanionError):
     """The model has something that can't be drawn or written in the wanted form."""
+
+
+class ProgramMissing(CompanionError):
+    """There is no program to talk to, or the file isn't one."""
+
+
+class Ended(CompanionError):
+    """The program ended while a reply was awaited, or the session is closed."""
+
+
+class NotOne(CompanionError, LookupError):
+    """One thing was wanted, and what was looked for is there more than once, or not at all."""

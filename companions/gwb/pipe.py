@@ -4,21 +4,24 @@ import os
 import shutil
 import subprocess
 from pathlib import Path
-from typing import List
+from typing import Dict, List
 
-from .errors import CompanionError
+from .errors import Ended, ProgramMissing
 from .language import command_bytes
 from .replies import Reply, is_listed, only_reply
 
 _AFTER_LISTING = 'count 1'
-
-
-class ProgramMissing(CompanionError):
-    """There is no program to talk to."""
-
-
-class Ended(CompanionError):
-    """The program ended while a reply was awaited."""
+ACCEPTED = Reply(('ok',))
+# Lines that change nothing: questions, and commands that are refused for the number, or else for the point or the edge.
+_PROBES = {
+    'solid': 'count {}',
+    'face': 'plane {}',
+    'loop': 'mvfs {solid} {face} {} 1 1000000001 0 0',
+    'edge': 'mev +{0} +{0} {0} 1 0 0 0',
+    'vertex': 'mvfs {solid} {face} {loop} {} 1000000001 0 0',
+}
+# The refusals that say that the number is in use.
+_TAKEN = {'loop': 8, 'edge': 9, 'vertex': 10}
 
 
 def find_program() -> str:
@@ -26,7 +29,7 @@ def find_program() -> str:
     built = Path(__file__).resolve().parents[2] / 'crates' / 'gwb' / 'out' / 'gwb'
     program = os.environ.get('GWB') or (str(built) if built.is_file() else shutil.which('gwb'))
     if program is None:
-        raise ProgramMissing(f"gwb isn't built at {built}, nor on the path; GWB may name it")
+        raise ProgramMissing("gwb isn't built in this repository, nor on the path; the environment variable GWB may name it")
     return program
 
 
@@ -43,11 +46,20 @@ class Pipe:
     def ask(self, line: str) -> Reply:
         """The reply to one line that is a command, or a fault."""
         self._send(command_bytes(line))
-        return self._listing() if line.split() == ['list'] else only_reply([self._receive()])
+        if line.split() == ['list']:
+            return self._listing()
+        answer = self._receive()
+        return ACCEPTED if answer == 'ok' else only_reply([answer])
+
+    def in_use(self, kind: str, number: int, free: Dict[str, int]) -> bool:
+        """Whether the number of the kind is in use, by a line that is refused or asks: nothing changes. `free` are numbers that aren't in use."""
+        reply = self.ask(_PROBES[kind].format(number, **free))
+        return not reply.is_complaint or reply.numbers[0] == _TAKEN.get(kind)
 
     def close(self) -> int:
         """Ends the program; its status."""
-        self._process.communicate()
+        if not self._process.stdin.closed:
+            self._process.communicate()
         return self._process.returncode
 
     def _send(self, data: bytes) -> None:

@@ -99,3 +99,38 @@ class Count(NamedTuple):
     faces: int
     rings: int
     sum: int
+
+
+class Profile(NamedTuple):
+    """What profile makes: the face that was moved, the one that stayed, and for each point the side from it to the next."""
+
+    solid: int
+    far: int
+    base: int
+    sides: Numbers
+
+
+class Ring(NamedTuple):
+    """What ring makes: the face inside the outline, the ring around it, its edges and its vertices in the order in which they run."""
+
+    face: int
+    loop: int
+    edges: Numbers
+    vertices: Numbers
+
+
+class Pocket(NamedTuple):
+    """What pocket and boss make: the floor or top, the ring in the face, and the sides over the ring's edges."""
+
+    face: int
+    loop: int
+    sides: Numbers
+
+
+class Hole(NamedTuple):
+    """What hole and drill make: the face it ends in, the ring at its start, and the walls; `points` is the outline."""
+
+    other: int
+    loop: int
+    sides: Numbers
+    points: Tuple[Tuple[int, int, int], ...]

@@ -157,9 +157,10 @@ class Session(unittest.TestCase):
         self.assertEqual((bench.half_edges(lone), bench.half_edges(lone + 1)), ((), ()))
 
     def test_a_fault(self):
-        with self.assertRaises(Faulted) as caught:
-            self.bench.block((10 ** 20, 0, 0), (1, 1, 1))
-        self.assertEqual((caught.exception.name, caught.exception.number), ('BadNumber', 2))
+        reply = self.bench.ask('block 1 100000000000000000000 0 0 1 1 1')
+        fault = complaint('block 1 ..', reply)
+        self.assertIsInstance(fault, Faulted)
+        self.assertEqual((fault.name, fault.number), ('BadNumber', 2))
 
     def test_undo_and_redo(self):
         bench = self.bench

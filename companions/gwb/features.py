@@ -1,0 +1,261 @@
+"""Features: profiles, pockets, bosses and holes, each one step to undo.
+
+They send nothing but commands of the language. Whether one is possible is found out first, exactly: outlines against faces, and what the
+feature adds against the solid as `gwb-check` would look at it. So a refusal (Impossible, which is Refused) leaves everything as it was.
+"""
+
+from fractions import Fraction
+from math import cos, pi, sin
+from typing import List, Optional, Sequence, Tuple
+
+from . import arguments
+from .check import check
+from .flat_face import FlatFace
+from .measures import why_unfit
+from .model import Face, Loop, Model
+from .outlines import Impossible, clockwise_in, simple_normal, steps_along
+from .plane_figures import Place
+from .results import Hole, Lone, NewEdge, Numbers, Pocket, Profile, Ring
+from .selection import Selecting
+from .vectors import Vector, ZERO, add, cross, dot, negative, reduced
+
+
+class Features(Selecting):
+    """Larger things than commands, made of commands."""
+
+    def profile(self, points: Sequence[Vector], *, along: Vector, solid: Optional[int] = None) -> Profile:
+        """A new solid: the outline through the points, moved along the vector. It is never inside out, whichever way the points run.
+
+        Refused: FewPoints, RepeatedPoint, NoArea, NotInPlane, OutlineCrossed; AlongPlane: the vector lies in the plane of the points."""
+        outline, way = arguments.points('points', points), arguments.point('along', along)
+        number = self._new('solid', solid)
+        side = dot(simple_normal(outline), way)
+        if side == 0:
+            raise Impossible('AlongPlane', 0, f'the vector {way} lies in the plane of the points')
+        with self._step():
+            made = self.lamina(outline if side > 0 else [outline[0], *reversed(outline[1:])], solid=number)
+            swept = self.sweep(made.front, way)
+        return Profile(number, made.front, made.back, swept.sides if side > 0 else tuple(reversed(swept.sides)))
+
+    def ring(self, face: int, points: Sequence[Vector]) -> Ring:
+        """A face inside the face, with the outline through the points, and a ring around it.
+
+        Refused: NoFace; NotFlat: the face isn't flat; NotInPlane, OutlineCrossed, OutlineOutside, OutlineAroundRing and what profile
+        says of points."""
+        number, outline = arguments.number('face', face), arguments.points('points', points)
+        path = clockwise_in(self._flat(number), number, outline)
+        with self._step():
+            return self._draw(number, path)
+
+    def pocket(self, face: int, points: Sequence[Vector], depth: int) -> Pocket:
+        """A pocket so deep behind the outline in the face. Refused as ring is; OffLattice: no whole vector along the normal is so long;
+        Meets: the pocket would come through, or meet or touch something of the solid."""
+        return self._raised(face, points, -arguments.positive('depth', depth))
+
+    def boss(self, face: int, points: Sequence[Vector], height: int) -> Pocket:
+        """A boss so high on the outline in the face. Refused as pocket is."""
+        return self._raised(face, points, arguments.positive('height', height))
+
+    def hole(self, face: int, points: Sequence[Vector]) -> Hole:
+        """A hole from the outline in the face through to the opposite face. Refused as pocket is; NoOpposite: there is nothing behind
+        the outline; NotParallel: the face behind it isn't parallel; OutlineOutside: the outline isn't inside that one."""
+        number, outline = arguments.number('face', face), arguments.points('points', points)
+        path = clockwise_in(self._flat(number), number, outline)
+        model = self._model_of(self._faces_beside(number))
+        other, way = _opposite(model, number, path[0])
+        clockwise_in(FlatFace(model, other), other, [add(point, way) for point in path])
+        _require_room(model, number, path, way, other)
+        with self._step():
+            ring = self._draw(number, path)
+            swept = self.sweep(ring.face, way)
+            self.kfmrh(other, ring.face)
+        return Hole(other, ring.loop, swept.sides, tuple(path))
+
+    def drill(self, face: int, center: Vector, radius: int, sides: int, *, depth: Optional[int] = None) -> Hole:
+        """A hole with a polygon of so many sides around the center, on whole numbers nearest to the circle of the radius: through, or so
+        deep. The face lies across an axis, else NotAcross; otherwise refused as hole and pocket are."""
+        number, middle = arguments.number('face', face), arguments.point('center', center)
+        reach, count = arguments.positive('radius', radius), arguments.positive('sides', sides)
+        if not 3 <= count <= arguments.MOST_POINTS:
+            raise ValueError(f'sides: {count} is outside 3 to {arguments.MOST_POINTS}')
+        deep = None if depth is None else arguments.positive('depth', depth)
+        across = self._flat(number).across
+        if across.count(0) != 2:
+            raise Impossible('NotAcross', number, f"face {number} doesn't lie across an axis")
+        outline = _polygon(middle, across, reach, count)
+        if deep is None:
+            return self.hole(number, outline)
+        made = self.pocket(number, outline, deep)
+        return Hole(made.face, made.loop, made.sides, tuple(outline))
+
+    def glue_all(self, solids: Sequence[int]) -> int:
+        """The solids become one along the faces that match: its number, the first one's.
+
+        Refused: NoMatch: no chain of matching faces joins a solid with the first; GluedTwice: two of them match along more than the one face that a
+        gluing takes, so that the rest would touch."""
+        numbers = arguments.numbers('solids', solids)
+        if not numbers or len(set(numbers)) < len(numbers):
+            raise ValueError('solids: different numbers are wanted, at least one')
+        pairs = _matches([(solid, face.number, face.outer.points) for solid in numbers
+                          for face in self.solid(solid).faces if not face.rings])
+        chain = _chain(numbers, pairs)
+        with self._step():
+            for face, other in chain:
+                self.glue(face, other)
+        return numbers[0]
+
+    def _raised(self, face: int, points: Sequence[Vector], length: int) -> Pocket:
+        """The outline moved along the face's normal by the length, which is negative for a pocket."""
+        number, outline = arguments.number('face', face), arguments.points('points', points)
+        shape = self._flat(number)
+        path = clockwise_in(shape, number, outline)
+        way = steps_along(reduced(shape.across), length)
+        if way is None:
+            raise Impossible('OffLattice', number, f'no whole vector along the normal of face {number} is {abs(length)} long')
+        _require_room(self._model_of(self._faces_beside(number)), number, path, way, None)
+        with self._step():
+            ring = self._draw(number, path)
+            swept = self.sweep(ring.face, way)
+        return Pocket(ring.face, ring.loop, swept.sides)
+
+    def _faces_beside(self, face: int) -> List[int]:
+        """The faces of the face's solid."""
+        return [part.number for part in self.face(face).solid.faces]
+
+    def _flat(self, face: int) -> FlatFace:
+        """The face as a region of its plane."""
+        self.face(face).loops
+        model = self._model_of([face])
+        why = why_unfit(model, face)
+        if why is not None:
+            raise Impossible('NotFlat', face, why)
+        return FlatFace(model, face)
+
+    def _draw(self, face: int, path: Sequence[Vector]) -> Ring:
+        """The ring through points that run as a ring does, and the face inside it."""
+        start = self.face(face).outer.half_edges[0]
+        spur = self.mev(start, start, path[0])
+        ring = self.kemr(spur.edge)
+        edges: List[NewEdge] = [self.mev(Lone(ring), Lone(ring), path[1])]
+        for point in path[2:]:
+            edges.append(self.mev(-edges[-1].edge, -edges[-1].edge, point))
+        inside = self.mef(-edges[-1].edge, edges[0].edge)
+        return Ring(inside.face, ring, (*(edge.edge for edge in edges), inside.edge),
+                    (spur.vertex, *(edge.vertex for edge in edges)))
+
+
+def _polygon(center: Vector, across: Vector, radius: int, sides: int) -> List[Vector]:
+    """A polygon around the center, across an axis, its corners on whole numbers."""
+    axis = next(axis for axis in range(3) if across[axis] != 0)
+    first, second = (axis + 1) % 3, (axis + 2) % 3
+    points = []
+    for k in range(sides):
+        point = list(center)
+        point[first] += round(radius * cos(2 * pi * k / sides))
+        point[second] += round(radius * sin(2 * pi * k / sides))
+        points.append((point[0], point[1], point[2]))
+    return points
+
+
+def _opposite(model: Model, face: int, start: Vector) -> Tuple[int, Vector]:
+    """The face that a ray from a point of the face goes out through, and the way to its plane, which is parallel."""
+    back = negative(reduced(FlatFace(model, face).across))
+    hits = []
+    for other in model.faces:
+        reach = None if other == face or why_unfit(model, other) else _reach(FlatFace(model, other), start, back)
+        if reach is not None:
+            hits.append((reach, other))
+    if not hits:
+        raise Impossible('NoOpposite', face, 0, f'there is no face behind the outline in face {face}')
+    reach, other = min(hits)
+    if cross(FlatFace(model, other).across, back) != ZERO:
+        raise Impossible('NotParallel', other, f"face {other}, behind the outline, isn't parallel to face {face}")
+    way = [reach * part for part in back]
+    if any(part.denominator != 1 for part in way):
+        raise Impossible('OffLattice', other, f'face {other} lies off the lattice behind face {face}')
+    return other, (int(way[0]), int(way[1]), int(way[2]))
+
+
+def _reach(shape: FlatFace, start: Vector, way: Vector) -> Optional[Fraction]:
+    """How far along the way the face lies; None where it doesn't."""
+    slope, height = dot(shape.across, way), shape.height(start)
+    if slope == 0 or (height > 0) == (slope > 0) or height == 0:
+        return None
+    reach = Fraction(-height, slope)
+    x, y, z = (part + reach * step for part, step in zip(start, way))
+    return None if shape.locate((x, y, z)) is Place.OUTSIDE else reach
+
+
+def _require_room(model: Model, face: int, path: Sequence[Vector], way: Vector, other: Optional[int]) -> None:
+    """Refuses a feature after which the solid would meet or touch itself where it didn't."""
+    after = check(_with_feature(model, face, path, way, other)).findings
+    if after:
+        before = set(check(model).findings)
+        if any(finding not in before for finding in after):
+            raise Impossible('Meets', face, 0, f'moved by {way}, the outline in face {face} would meet or touch the solid, or come through it')
+
+
+def _with_feature(model: Model, face: int, path: Sequence[Vector], way: Vector, other: Optional[int]) -> Model:
+    """The model as it would be: the outline moved, with a floor of its own, or with a ring in the other face."""
+    count = len(path)
+    low, far = (_numbers(max(model.vertices) + 1 + part * count, count) for part in range(2))
+    ring, rising, top = (_numbers(max(model.edges) + 1 + part * count, count) for part in range(3))
+    loop, new = max(model.loops) + 1, max(model.faces) + 1
+    solid = model.faces[face].solid
+    after = [(i + 1) % count for i in range(count)]
+    loops = {**model.loops, loop: Loop(ring), loop + 1: Loop(tuple(-edge for edge in reversed(top)))}
+    faces = dict(model.faces)
+    faces[face] = faces[face]._replace(rings=(*faces[face].rings, loop))
+    if other is None:
+        faces[new] = Face(solid, loop + 1)
+    else:
+        faces[other] = faces[other]._replace(rings=(*faces[other].rings, loop + 1))
+    edges = dict(model.edges)
+    for i in range(count):
+        edges.update({ring[i]: (low[i], low[after[i]]), rising[i]: (low[i], far[i]), top[i]: (far[i], far[after[i]])})
+        loops[loop + 2 + i] = Loop((-ring[i], rising[i], top[i], -rising[after[i]]))
+        faces[new + 1 + i] = Face(solid, loop + 2 + i)
+    vertices = {**model.vertices, **dict(zip(low, path)), **dict(zip(far, (add(point, way) for point in path)))}
+    return Model(model.solids, faces, loops, edges, vertices)
+
+
+def _numbers(first: int, count: int) -> Numbers:
+    return tuple(range(first, first + count))
+
+
+Pair = Tuple[int, int, int, int]
+
+
+def _matches(faces: Sequence[Tuple[int, int, Tuple[Vector, ...]]]) -> List[Pair]:
+    """The pairs of faces of different solids whose points run against each other: solid and face, solid and face."""
+    seen = {}  # type: ignore[var-annotated]
+    pairs: List[Pair] = []
+    for solid, face, points in faces:
+        for other, beyond in seen.get(_from_least(points[::-1]), ()):
+            if other != solid:
+                pairs.append((other, beyond, solid, face))
+        seen.setdefault(_from_least(points), []).append((solid, face))
+    return pairs
+
+
+def _from_least(points: Tuple[Vector, ...]) -> Tuple[Vector, ...]:
+    place = points.index(min(points))
+    return points[place:] + points[:place]
+
+
+def _chain(solids: Sequence[int], pairs: Sequence[Pair]) -> List[Tuple[int, int]]:
+    """The faces to glue, so that each solid is joined once to what hangs on the first."""
+    joined, chain, left = {solids[0]}, [], list(pairs)
+    while True:
+        pair = next((pair for pair in left if (pair[0] in joined) != (pair[2] in joined)), None)
+        if pair is None:
+            break
+        left.remove(pair)
+        chain.append((pair[1], pair[3]) if pair[0] in joined else (pair[3], pair[1]))
+        joined |= {pair[0], pair[2]}
+    lonely = [solid for solid in solids if solid not in joined]
+    if lonely:
+        raise Impossible('NoMatch', lonely[0], f'no face of solid {lonely[0]} matches one of those joined with solid {solids[0]}')
+    if left:
+        raise Impossible('GluedTwice', left[0][1], 0, f'faces {left[0][1]} and {left[0][3]} match too, and would touch after the gluing')
+    return chain

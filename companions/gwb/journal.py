@@ -1,0 +1,96 @@
+"""What a session has done: its commands in order, which of them are one step to undo, and the greatest numbers then in use."""
+
+from typing import Dict, List, NamedTuple, Tuple
+
+KINDS = ('solid', 'face', 'loop', 'edge', 'vertex')
+
+
+class Greatest:
+    """For each kind a number that no number in use passes; `sure` are the kinds whose number is in use, or zero."""
+
+    __slots__ = ('bounds', 'sure')
+
+    def __init__(self, bounds: Tuple[int, ...] = (0,) * 5, sure: Tuple[bool, ...] = (True,) * 5) -> None:
+        self.bounds, self.sure = bounds, sure
+
+    def settle(self, kind: str, greatest: int) -> None:
+        """The greatest number of the kind that is in use was found."""
+        place = KINDS.index(kind)
+        self.bounds = (*self.bounds[:place], greatest, *self.bounds[place + 1:])
+        self.sure = (*self.sure[:place], True, *self.sure[place + 1:])
+
+    def after(self, made: Dict[str, int], killed: Dict[str, int]) -> 'Greatest':
+        """What holds after a command that makes numbers up to these, and kills one (0: an unknown one) of these kinds."""
+        bounds, sure = list(self.bounds), list(self.sure)
+        for kind, gone in killed.items():
+            place = KINDS.index(kind)
+            sure[place] = sure[place] and gone not in (0, bounds[place])
+        for kind, new in made.items():
+            place = KINDS.index(kind)
+            if new >= bounds[place]:
+                bounds[place], sure[place] = new, True
+        return Greatest(tuple(bounds), tuple(sure))
+
+
+class Done(NamedTuple):
+    """An accepted command: its line, whether a step to undo begins with it, and the greatest numbers after it."""
+
+    line: str
+    begins: bool
+    greatest: Greatest
+
+
+class Journal:
+    """The accepted commands; those from `at` on are undone. It grows by one entry a command, and holds no model."""
+
+    def __init__(self) -> None:
+        self._done: List[Done] = []
+        self.at = 0
+        self.given_up = 0
+        self._start = Greatest()
+
+    @property
+    def greatest(self) -> Greatest:
+        """The greatest numbers in use now."""
+        return self._done[self.at - 1].greatest if self.at else self._start
+
+    @property
+    def lines(self) -> List[str]:
+        """The commands that are held, undone ones left out."""
+        return [done.line for done in self._done[:self.at]]
+
+    @property
+    def ahead(self) -> int:
+        """How many commands can be redone."""
+        return len(self._done) - self.at
+
+    def add(self, line: str, begins: bool, greatest: Greatest) -> None:
+        """A command was accepted: what could be redone is dropped."""
+        del self._done[self.at:]
+        self._done.append(Done(line, begins, greatest))
+        self.at += 1
+        self.given_up = 0
+
+    def give_up(self, at: int) -> None:
+        """The commands from `at` on were undone for good: the program could redo them, the session doesn't."""
+        self.given_up = len(self._done) - at
+        del self._done[at:]
+        self.at = at
+
+    def step_back(self) -> int:
+        """How many commands the last step has, of those that are held: 1 where there is none."""
+        first = self.at - 1
+        while first > 0 and not self._done[first].begins:
+            first -= 1
+        return max(self.at - first, 1) if self.at else 1
+
+    def step_ahead(self) -> int:
+        """How many commands are left of the step that would be redone: 1 where there is none."""
+        last = self.at + 1
+        while last < len(self._done) and not self._done[last].begins:
+            last += 1
+        return max(min(last, len(self._done)) - self.at, 1)
+
+    def steps(self) -> int:
+        """How many steps can be undone."""
+        return sum(done.begins for done in self._done[:self.at])
