@@ -61,7 +61,8 @@ class Commands:
 
     def half_edges(self, loop: int) -> Numbers:
         """The half-edges of a loop, from the least on: none of a lone loop, or of one that is not there. The library reads no listing for it."""
-        found = self._reader().loop(arguments.number('loop', loop))
+        number = arguments.number('loop', loop)
+        found = self._reader().loop(number)
         return found.halves if found else ()
 
     def mvfs(self, point: Vector, *, solid: Optional[int] = None, face: Optional[int] = None,
@@ -171,7 +172,7 @@ class Commands:
 
         Over the pipe the listing is read after it."""
         cut, coefficients = arguments.number('solid', solid), arguments.plane('plane', plane)
-        number = self._new('solid', above)
+        number = self._new('solid', above, 'above')
         before = {kind: self._greatest(kind) for kind in _COUNTED_KINDS}
         self._do('split', cut, *coefficients, number)
         made = {kind: self._above(kind, greatest) for kind, greatest in before.items()}
@@ -285,9 +286,9 @@ class Commands:
         """The greatest number of the kind in use."""
         return self._seeker.greatest(self._journal.greatest, kind)
 
-    def _new(self, kind: str, given: Optional[int]) -> int:
-        """The number that was given, or one above all that are in use or were."""
-        return self._ever[kind] + 1 if given is None else arguments.number(kind, given)
+    def _new(self, kind: str, given: Optional[int], name: str = '') -> int:
+        """The number that was given, by the argument of the kind's name or another, or one above all that are in use or were."""
+        return self._ever[kind] + 1 if given is None else arguments.number(name or kind, given)
 
     def _above(self, kind: str, number: int) -> Numbers:
         """The numbers of the kind in use above one, rising."""

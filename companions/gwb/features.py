@@ -166,7 +166,7 @@ def _opposite(model: Model, face: int, start: Vector) -> Tuple[int, Vector]:
         if reach is not None:
             hits.append((reach, other))
     if not hits:
-        raise Impossible('NoOpposite', face, 0, f'there is no face behind the outline in face {face}')
+        raise Impossible('NoOpposite', face, f'there is no face behind the outline in face {face}')
     reach, other = min(hits)
     if cross(FlatFace(model, other).across, back) != ZERO:
         raise Impossible('NotParallel', other, f"face {other}, behind the outline, isn't parallel to face {face}")
@@ -192,7 +192,7 @@ def _require_room(model: Model, face: int, path: Sequence[Vector], way: Vector, 
     if after:
         before = set(check(model).findings)
         if any(finding not in before for finding in after):
-            raise Impossible('Meets', face, 0, f'moved by {way}, the outline in face {face} would meet or touch the solid, or come through it')
+            raise Impossible('Meets', face, f'moved by {way}, the outline in face {face} would meet or touch the solid, or come through it')
 
 
 def _with_feature(model: Model, face: int, path: Sequence[Vector], way: Vector, other: Optional[int]) -> Model:
@@ -257,5 +257,5 @@ def _chain(solids: Sequence[int], pairs: Sequence[Pair]) -> List[Tuple[int, int]
     if lonely:
         raise Impossible('NoMatch', lonely[0], f'no face of solid {lonely[0]} matches one of those joined with solid {solids[0]}')
     if left:
-        raise Impossible('GluedTwice', left[0][1], 0, f'faces {left[0][1]} and {left[0][3]} match too, and would touch after the gluing')
+        raise Impossible('GluedTwice', left[0][1], f'faces {left[0][1]} and {left[0][3]} match too, and would touch after the gluing')
     return chain

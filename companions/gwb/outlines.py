@@ -74,11 +74,11 @@ def clockwise_in(shape: FlatFace, face: int, points: Sequence[Vector]) -> List[V
 def _require_inside(shape: FlatFace, face: int, path: Sequence[Flat]) -> None:
     own = segments(path)
     if any(meet(side, other) for side in own for other in shape.sides):
-        raise Impossible('OutlineOutside', face, 0, f'the outline crosses or touches the boundary of face {face}')
+        raise Impossible('OutlineOutside', face, f'the outline crosses or touches the boundary of face {face}')
     if shape_place(shape, path[0]) is not Place.INSIDE:
-        raise Impossible('OutlineOutside', face, 0, f"the outline doesn't lie inside face {face}")
+        raise Impossible('OutlineOutside', face, f"the outline doesn't lie inside face {face}")
     if any(locate(own, start) is Place.INSIDE for start, _ in shape.sides):
-        raise Impossible('OutlineAroundRing', face, 0, f'a ring of face {face} lies inside the outline')
+        raise Impossible('OutlineAroundRing', face, f'a ring of face {face} lies inside the outline')
 
 
 def shape_place(shape: FlatFace, spot: Flat) -> Place:

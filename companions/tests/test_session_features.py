@@ -1,0 +1,215 @@
+"""Features make what arithmetic says, pass gwb-check, undo in as many steps as they were made, or are refused with nothing changed."""
+
+import os
+import unittest
+from importlib import util
+from random import Random
+
+from support import TESTS, program
+
+from gwb import Impossible, NotOne, Refused, Workbench
+from gwb.check import check
+from gwb.measures import area_vector
+from gwb.vectors import add
+
+PARTS = sorted((TESTS / 'parts').glob('*.py'))
+
+
+def part(path):
+    """A stored part: its module has `make(bench)`, and SOLIDS with six volumes each and STEPS."""
+    spec = util.spec_from_file_location(path.stem, path)
+    module = util.module_from_spec(spec)
+    spec.loader.exec_module(module)
+    return module
+
+
+class Parts(unittest.TestCase):
+    """Each stored part."""
+
+    def test_each_part(self):
+        self.assertGreaterEqual(len(PARTS), 12)
+        for path in PARTS:
+            with self.subTest(path.stem), Workbench(program()) as bench:
+                self.try_part(bench, part(path))
+
+    def try_part(self, bench, module):
+        solid = module.make(bench)
+        self.assertEqual(bench.volume(solid), 6 * module.VOLUME)
+        model = bench.listing()
+        self.assertEqual(check(model).findings, [])
+        for _ in range(module.STEPS):
+            self.assertNotEqual(bench.listing().solids, ())
+            bench.undo()
+        self.assertEqual(bench.listing().solids, ())
+        for _ in range(module.STEPS):
+            bench.redo()
+        self.assertEqual(bench.listing(), model)
+
+
+class RandomFeatures(unittest.TestCase):
+    """RANDOM_FEATURES of the environment may name how many pockets and holes."""
+
+    def test_random_pockets_and_holes(self):
+        random, left, made = Random(7), int(os.environ.get('RANDOM_FEATURES', 60)), 0
+        while left > 0:
+            with Workbench(program()) as bench:
+                bench.block((0, 0, 0), (30, 20, 10))
+                count = min(left, 10)
+                made += sum(self.try_feature(bench, random) for _ in range(count))
+                self.assertEqual(check(bench.listing()).findings, [])
+                left -= count
+        self.assertGreater(made, 0)
+
+    def try_feature(self, bench, random):
+        """One feature: whether it was made."""
+        face = random.choice(list(bench.solid(1).faces))
+        origin = random.choice(face.points)
+        axes = [axis for axis in range(3) if face.normal[axis] == 0]
+        points = []
+        for u, v in random.choice((((0, 0), (3, 0), (3, 2), (0, 2)), ((0, 0), (4, 1), (1, 3)), ((0, 0), (3, 0), (0, 3), (3, 3)),
+                                   ((0, 0), (0, 4), (1, 1), (5, 1)))):
+            points.append(add(origin, tuple((u, v)[axes.index(axis)] if axis in axes else 0 for axis in range(3))))
+        shift = tuple(random.randrange(-18, 19) if axis in axes else 0 for axis in range(3))
+        points = [add(point, shift) for point in points]
+        depth = random.randrange(1, 12)
+        before, script, volume = bench.listing(), bench.script(), bench.volume(1)
+        try:
+            made = bench.pocket(face, points, depth) if random.random() < 0.6 else bench.hole(face, points)
+        except Refused as refused:
+            self.assertIsInstance(refused, Impossible)
+            self.assertEqual((bench.listing(), bench.script()), (before, script))
+            return False
+        area = max(map(abs, area_vector(points)))
+        if hasattr(made, 'other'):
+            depth = next(abs(sum(b) - sum(a)) for a, b in [bench.edge(self.rising(bench, made)).points])
+        self.assertEqual(bench.volume(1), volume - 3 * area * depth)
+        return True
+
+    def rising(self, bench, made):
+        """An edge that rises along a hole."""
+        ring = {edge.number for edge in bench.loop(made.loop).edges}
+        first, second = ({edge.number for edge in bench.face(side).edges} for side in made.sides[:2])
+        return next(iter(first & second - ring))
+
+
+class Refusals(unittest.TestCase):
+    """What isn't possible is refused by name, and nothing has changed."""
+
+    def setUp(self):
+        self.bench = Workbench(program())
+        self.addCleanup(self.bench.close)
+        self.block = self.bench.block((0, 0, 0), (10, 10, 10))
+
+    def refused(self, name, call):
+        before = (self.bench.listing(), self.bench.script())
+        with self.assertRaises(Refused) as caught:
+            call()
+        self.assertEqual(caught.exception.name, name)
+        self.assertEqual((self.bench.listing(), self.bench.script()), before)
+
+    def test_outlines(self):
+        bench, top = self.bench, self.block.top
+        bench.pocket(top, [(4, 4, 10), (6, 4, 10), (6, 6, 10), (4, 6, 10)], 2)
+        for name, points in (
+                ('FewPoints', [(1, 1, 10), (2, 2, 10)]), ('RepeatedPoint', [(1, 1, 10), (2, 1, 10), (1, 1, 10), (1, 2, 10)]),
+                ('NotInPlane', [(1, 1, 10), (2, 1, 10), (1, 2, 9)]), ('OutlineCrossed', [(1, 1, 10), (3, 1, 10), (1, 3, 10), (3, 3, 10), (2, 9, 10)]),
+                ('NoArea', [(1, 1, 10), (2, 1, 10), (3, 1, 10)]), ('OutlineOutside', [(1, 1, 10), (11, 1, 10), (1, 2, 10)]),
+                ('OutlineOutside', [(0, 1, 10), (2, 1, 10), (1, 2, 10)]), ('OutlineOutside', [(20, 20, 10), (22, 20, 10), (20, 22, 10)]),
+                ('OutlineAroundRing', [(3, 3, 10), (7, 3, 10), (7, 7, 10), (3, 7, 10)])):
+            with self.subTest(name):
+                self.refused(name, lambda points=points: bench.pocket(top, points, 1))
+
+    def test_pockets_and_holes(self):
+        bench, top = self.bench, self.block.top
+        square = [(1, 1, 10), (3, 1, 10), (3, 3, 10), (1, 3, 10)]
+        self.refused('Meets', lambda: bench.pocket(top, square, 10))
+        self.refused('Meets', lambda: bench.pocket(top, square, 11))
+        self.refused('NoFace', lambda: bench.pocket(99, square, 1))
+        bench.hole(self.block.sides[0], [(1, 0, 4), (3, 0, 4), (3, 0, 6), (1, 0, 6)])
+        self.refused('Meets', lambda: bench.pocket(top, square, 5))
+        self.refused('OutlineOutside', lambda: bench.hole(top, square))
+
+    def test_a_face_that_is_not_opposite(self):
+        bench = self.bench
+        wedge = bench.profile([(20, 0, 0), (30, 0, 0), (20, 0, 10)], along=(0, 10, 0))
+        bottom = bench.faces(solid=wedge.solid, normal=(0, 0, -1)).one()
+        self.refused('NotParallel', lambda: bench.hole(bottom, [(21, 1, 0), (23, 1, 0), (21, 3, 0)]))
+        slope = bench.faces(solid=wedge.solid, normal=(1, 0, 1)).one()
+        self.refused('OffLattice', lambda: bench.pocket(slope, [(25, 2, 5), (24, 2, 6), (24, 4, 6)], 1))
+        self.refused('NotAcross', lambda: bench.drill(slope, (25, 5, 5), 2, 4))
+
+    def test_glue_all(self):
+        bench = self.bench
+        others = [bench.block((10, 0, 0), (10, 10, 10)).solid, bench.block((20, 0, 0), (10, 10, 10)).solid]
+        far = bench.block((50, 0, 0), (10, 10, 10)).solid
+        self.refused('NoMatch', lambda: bench.glue_all([self.block.solid, far]))
+        self.assertEqual(bench.glue_all([self.block.solid, *others]), self.block.solid)
+        self.assertEqual(bench.volume(self.block.solid), 18000)
+        bench.undo()
+        self.assertEqual(len(bench.solids()), 4)
+
+    def test_selection(self):
+        bench, block = self.bench, self.block
+        self.assertEqual(bench.faces(plane=(1, 0, 0, -10)).one(), bench.face(block.sides[1]))
+        self.assertEqual(bench.faces(solid=1, normal=(0, 0, 7)).one().number, block.top)
+        self.assertEqual(bench.faces(containing=(10, 10, 10)).numbers, tuple(sorted((block.top, *block.sides[1:3]))))
+        self.assertEqual(bench.faces().bottom().one().number, block.bottom)
+        self.assertEqual(bench.edges(between=(block.top, block.sides[0])).one().points, ((0, 0, 10), (10, 0, 10)))
+        self.assertEqual(bench.vertices(at=(0, 0, 0)).one().number, block.vertices[0])
+        self.assertEqual(bench.vertices().farthest((1, 1, 1)).one().point, (10, 10, 10))
+        with self.assertRaisesRegex(NotOne, r'^one face was wanted; 6 were found: 1, 2, 3, 4, 5, 6$'):
+            bench.faces().one()
+        with self.assertRaisesRegex(NotOne, r'none was found$'):
+            bench.vertices(at=(5, 5, 5)).one()
+
+    def test_parts_are_those_of_the_listing(self):
+        bench, model = self.bench, self.bench.listing()
+        solid = bench.solid(1)
+        self.assertEqual([face.number for face in solid.faces], list(model.faces))
+        self.assertEqual([loop.number for loop in solid.loops], list(model.loops))
+        self.assertEqual({edge.number: tuple(int(end.number) for end in edge.vertices) for edge in solid.edges}, model.edges)
+        self.assertEqual({vertex.number: vertex.point for vertex in solid.vertices}, model.vertices)
+        for face in solid.faces:
+            self.assertEqual(list(face.points), model.face_points(face.number))
+            self.assertEqual(face.normal, tuple(bench.plane(face)[:3]))
+            self.assertEqual((face.solid, face.outer.face, face.rings), (solid, face, ()))
+        with self.assertRaises(Refused):
+            bench.face(99).points
+
+    def test_a_profile_either_way_round_and_either_way_along(self):
+        bench = self.bench
+        points = [(20, 0, 0), (60, 0, 0), (60, 5, 0), (25, 5, 0), (25, 40, 0), (20, 40, 0)]
+        for outline in (points, points[::-1]):
+            for height in (3, -3):
+                made = bench.profile(outline, along=(0, 0, height))
+                self.assertEqual(bench.volume(made.solid), 6 * 3 * 375)
+                for i, side in enumerate(made.sides):
+                    self.assertLessEqual({outline[i], outline[(i + 1) % 6]}, set(bench.face(side).points))
+
+
+class Scripts(unittest.TestCase):
+    """Scripts written and taken up again."""
+
+    def test_save_and_load(self):
+        import tempfile
+        with Workbench(program()) as bench, tempfile.TemporaryDirectory() as folder:
+            block = bench.block((0, 0, 0), (9, 9, 9))
+            bench.drill(block.top, (4, 4, 9), 2, 8)
+            bench.block((20, 0, 0), (1, 1, 1))
+            bench.undo()
+            bench.save(f'{folder}/part.gwb')
+            with Workbench.load(f'{folder}/part.gwb', program()) as again:
+                self.assertEqual(again.listing(), bench.listing())
+                self.assertEqual(again.script(), bench.script())
+                self.assertEqual(again.block((40, 0, 0), (1, 1, 1))[1:], bench.block((40, 0, 0), (1, 1, 1))[1:])
+
+    def test_it_draws_itself(self):
+        with Workbench(program()) as bench:
+            self.assertIsNone(bench._repr_svg_())
+            bench.block((0, 0, 0), (1, 1, 1))
+            self.assertTrue(bench._repr_svg_().startswith('<svg'))
+            self.assertEqual(repr(bench), '<Workbench, 1 commands held>')
+
+
+if __name__ == '__main__':
+    unittest.main()
