@@ -1,0 +1,42 @@
+#!/usr/bin/env python3
+"""Times loops of the Python session over a program or a library: 10,000 blocks and 1,000 laminas swept, in tenths, so that growth is seen.
+
+    bench/python_session.py [PROGRAM ..]
+"""
+import sys
+from pathlib import Path
+from time import perf_counter
+
+sys.path.insert(0, str(Path(__file__).resolve().parent.parent / 'companions'))
+from gwb import Workbench  # noqa: E402
+
+
+def block(bench, i):
+    bench.block((0, 0, i), (1, 1, 1))
+
+
+def swept(bench, i):
+    made = bench.lamina([(0, 0, i), (1, 0, i), (0, 1, i)])
+    bench.sweep(made.front, (0, 0, 1))
+
+
+def tenths(bench, make, count):
+    """The seconds that each tenth of the loop takes."""
+    times = [perf_counter()]
+    for i in range(count):
+        make(bench, i)
+        if (i + 1) % (count // 10) == 0:
+            times.append(perf_counter())
+    return [after - before for before, after in zip(times, times[1:])]
+
+
+def main():
+    for program in sys.argv[1:] or [None]:
+        for name, make, count in (('blocks', block, 10_000), ('laminas swept', swept, 1_000)):
+            with Workbench(program) as bench:
+                times = tenths(bench, make, count)
+            print(f'{program or "gwb"}: {count} {name}: {sum(times):.2f} s; first tenth {times[0]:.3f} s, last {times[-1]:.3f} s')
+
+
+if __name__ == '__main__':
+    main()
