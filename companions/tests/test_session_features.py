@@ -63,15 +63,16 @@ class RandomFeatures(unittest.TestCase):
     def try_feature(self, bench, random):
         """One feature: whether it was made."""
         face = random.choice(list(bench.solid(1).faces))
-        origin = random.choice(face.points)
+        corners = list(zip(*face.points))
         axes = [axis for axis in range(3) if face.normal[axis] == 0]
         points = []
         for u, v in random.choice((((0, 0), (3, 0), (3, 2), (0, 2)), ((0, 0), (4, 1), (1, 3)), ((0, 0), (3, 0), (0, 3), (3, 3)),
                                    ((0, 0), (0, 4), (1, 1), (5, 1)))):
-            points.append(add(origin, tuple((u, v)[axes.index(axis)] if axis in axes else 0 for axis in range(3))))
-        shift = tuple(random.randrange(-18, 19) if axis in axes else 0 for axis in range(3))
+            points.append(add(tuple(map(min, corners)), tuple((u, v)[axes.index(axis)] if axis in axes else 0 for axis in range(3))))
+        shift = tuple(random.randrange(max(max(along) - min(along), 1)) for along in corners)
+        shift = tuple(part if axis in axes else 0 for axis, part in enumerate(shift))
         points = [add(point, shift) for point in points]
-        depth = random.randrange(1, 12)
+        depth = random.randrange(1, 9)
         before, script, volume = bench.listing(), bench.script(), bench.volume(1)
         try:
             made = bench.pocket(face, points, depth) if random.random() < 0.6 else bench.hole(face, points)
