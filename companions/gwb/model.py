@@ -47,6 +47,11 @@ class Model:
                  for half in self.loops[loop].halves}
         object.__setattr__(self, '_sides', sides)
 
+    def _repr_svg_(self) -> Optional[str]:
+        """A notebook draws the model, where there is something of it."""
+        from .svg import svg_text
+        return svg_text(self, (2, -3, 2)) if self.vertices else None
+
     def tail(self, half: int) -> int:
         """The vertex at which the half-edge starts."""
         return self.edges[half][0] if half > 0 else self.edges[-half][1]

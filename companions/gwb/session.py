@@ -22,9 +22,6 @@ from .features import Features
 from .language import is_answered
 from .listing import read_model
 from .replies import is_listed
-from .svg import svg_text
-
-_VIEW = (2, -3, 2)
 
 
 class Workbench(Features):
@@ -85,8 +82,7 @@ class Workbench(Features):
 
     def _repr_svg_(self) -> Optional[str]:
         """A notebook draws the model."""
-        model = self.listing()
-        return svg_text(model, _VIEW) if model.vertices else None
+        return self.listing()._repr_svg_()
 
 
 def _companion(name: str) -> Any:

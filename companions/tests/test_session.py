@@ -1,6 +1,8 @@
 """The Python session gives what the scripts do: on every worked script, and on its own."""
 
+import tempfile
 import unittest
+from pathlib import Path
 
 from support import program, scripts
 
@@ -201,6 +203,13 @@ class WithoutAProgram(unittest.TestCase):
     def test_a_program_that_is_missing(self):
         with self.assertRaises(ProgramMissing):
             Workbench('/nowhere/gwb')
+
+    def test_a_library_that_is_another(self):
+        with tempfile.TemporaryDirectory() as folder:
+            path = Path(folder) / 'other.so'
+            path.write_bytes(b'no library')
+            with self.assertRaises(ProgramMissing):
+                Workbench(str(path))
 
     def test_a_program_that_is_another(self):
         with Workbench('/bin/cat') as bench, self.assertRaises(CompanionError):
