@@ -1,1 +1,3 @@
 mod Solids
+mod Outlines
+mod SweptFaces

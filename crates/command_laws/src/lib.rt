@@ -2,7 +2,15 @@
 //! call says of it alone. Each function does nothing: its contract is what is proved, over every machine.
 #![tactic(auto)]
 
+ghost use Rattle.command_laws.specs.NewFaces.{SweptFaceIsFar, SidesStand};
 ghost use Rattle.command_laws.specs.Solids.{BlocksAreThere, LaminasAreThere, SweptAreThere, SweepsKeepSolids};
+
+/// After a sweep of a face without rings: the face keeps its number and is the far one, with its corners moved; and over each of its
+/// edges, in their order, stands a new side, numbered on from the greatest face before.
+pub fn sweeps_make_faces()
+    ensures far { SweptFaceIsFar }
+    ensures sides { SidesStand }
+{}
 
 /// After a block, a lamina and a sweep the solid is there, so that its measures are answered.
 pub fn solids_are_there()

@@ -1,0 +1,5 @@
+use Rattle.command_laws.proofs.SweptFaces.{swept_face_is_far, sides_stand}
+use Rattle.command_laws.proofs.sweeps_make_faces.Goals as goal
+
+pub returns : goal.returns
+returns c = record { far = swept_face_is_far; sides = sides_stand }

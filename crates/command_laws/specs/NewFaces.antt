@@ -1,0 +1,61 @@
+-- The faces that a lamina, a block and a sweep make: their numbers, their solid, the points of their corners, and their planes.
+use Rattle.std.specs.Prelude.{◌≡◌, ◌<◌, ℕ, ◌+◌, List, [], ◌∷◌, map, length, get_or}
+use Rattle.euler_operators.specs.declared.Point.{Point}
+use Rattle.euler_operators.specs.declared.Plane.{Plane}
+use Rattle.euler_operators.specs.Vectors.{origin, moved, cross}
+use Rattle.euler_operators.specs.Table as table
+use Rattle.euler_operators.specs.Model.{Model, no_point, point_of, solid_of, rings_of}
+use Rattle.euler_operators.specs.Sound.{Sound, Has}
+use Rattle.shapes.specs.Faces.{corners}
+use Rattle.shapes.specs.Prism.{next_place}
+use Rattle.shapes.specs.Measure.{plane_through, plane_of}
+use Rattle.undo_journal.specs.Machine.{Machine, held}
+use Rattle.command_laws.specs.Commands.{IsSweep}
+
+-- the points of a face's corners, in the order of its loops
+abbrev pub corner_points : Model → ℕ → List Point
+corner_points M f = map (point_of M) (corners M f)
+
+-- point i of some points
+abbrev pub nth : List Point → ℕ → Point
+nth ps i = get_or ps i no_point
+
+-- the sum of the cross products along some points, and from the last of them to q
+abbrev pub area_to : Point → List Point → Point
+area_to q [] = origin
+area_to q (a ∷ []) = moved (cross a q) origin
+area_to q (a ∷ b ∷ ps) = moved (cross a b) (area_to q (b ∷ ps))
+
+-- the plane of a ring of points: through the first, across twice the area
+abbrev pub plane_round : List Point → Plane
+plane_round ps = plane_through (area_to (nth ps 0) ps) (nth ps 0)
+
+-- face f is there, is of solid s, has no ring, its corners are these points, and its plane is that of the points
+pub record IsFaceOf (M : Model) (f s : ℕ) (ps : List Point) : Type 0 where
+  pub there : Has M.faces f
+  pub solid : solid_of M f ≡ s
+  pub plain : rings_of M f ≡ []
+  pub points : corner_points M f ≡ ps
+  pub plane : plane_of M f ≡ plane_round ps
+
+-- the greatest number of a face
+abbrev pub last_face : Machine → ℕ
+last_face m = table.greatest (held m).faces
+
+-- some points moved, and the side over the edge from a to b
+abbrev pub all_moved : Point → List Point → List Point
+all_moved d ps = map (λ p. moved p d) ps
+
+abbrev pub side_over : Point → Point → Point → List Point
+side_over d a b = a ∷ b ∷ moved b d ∷ moved a d ∷ []
+
+-- a face without rings that was swept keeps its number, and its corners have moved: it is the far one
+abbrev pub SweptFaceIsFar : Type 0
+SweptFaceIsFar = (before after : Machine) (f : ℕ) (d : Point) → Sound (held before) → IsSweep before after f d → rings_of (held before) f ≡ [] →
+    IsFaceOf (held after) f (solid_of (held before) f) (all_moved d (corner_points (held before) f))
+
+-- and over each of its edges, in their order, stands a new side
+abbrev pub SidesStand : Type 0
+SidesStand = (before after : Machine) (f : ℕ) (d : Point) (i : ℕ) → Sound (held before) → IsSweep before after f d → rings_of (held before) f ≡ [] →
+    let ps = corner_points (held before) f in i < length ps →
+    IsFaceOf (held after) (last_face before + 1 + i) (solid_of (held before) f) (side_over d (nth ps i) (nth ps (next_place (length ps) i)))
