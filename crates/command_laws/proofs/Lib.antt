@@ -1,3 +1,5 @@
 mod Solids
 mod Outlines
 mod SweptFaces
+mod LaminaFaces
+mod BlockFaces

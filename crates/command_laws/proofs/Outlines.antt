@@ -1,5 +1,5 @@
 -- The corners of a face without rings, and the plane that they tell.
-use Rattle.std.specs.Prelude.{length, get_or, map}
+use Rattle.std.specs.Prelude.{length, get_or, map, take}
 use Rattle.std.proofs.Common.{◌≡◌, ℕ, zero, suc, ◌+◌, ◌<◌, List, [], ◌∷◌, ◌++◌, Some, is_some, refl, sym, ap, subst, ◌∙◌, arith, append-nil, ◌≢◌, inl, inr}
 use Rattle.euler_operators.specs.declared.Point.{Point}
 use Rattle.euler_operators.specs.Vectors.{origin, moved, cross}
@@ -18,6 +18,14 @@ use Rattle.euler_laws.proofs.shared.Loops.{loop_sound, IsLoop}
 use Rattle.shapes.specs.Faces.{start, finish, loops_of, items_in, boundary, corners, vertices_in, vertices_on}
 use Rattle.shapes.specs.Measure.{area, normal, anchor, first_vertex, plane_through, plane_of}
 use Rattle.command_laws.specs.NewFaces.{corner_points, nth, area_to, plane_round}
+
+-- one point more
+pub take_next : (ps : List Point) (k : ℕ) → k < length ps → take (suc k) ps ≡ take k ps ++ nth ps k ∷ []
+take_next [] k l = absurd (omega arith)
+take_next (p ∷ ps) zero l = refl
+take_next (p ∷ ps) (suc k) l = ap (λ qs. p ∷ qs) (take_next ps k (less k (length ps) l)) where
+  less : (i n : ℕ) → suc i < suc n → i < n
+  less i n l = omega arith
 
 starts_are : (M : Model) (hs : List ℕ) → map (point_of M) (map (tail M) hs) ≡ map (start M) hs
 starts_are M [] = refl

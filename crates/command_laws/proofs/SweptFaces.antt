@@ -7,30 +7,24 @@ use Rattle.euler_operators.specs.Vectors.{moved}
 use Rattle.euler_operators.specs.Items.{IsIn}
 use Rattle.euler_operators.specs.HalfEdge.{plus}
 use Rattle.euler_operators.specs.Table as table
-use Rattle.euler_operators.specs.Model.{Model, cycle, items_of, content, outer, solid_of, face_of, rings_of}
+use Rattle.euler_operators.specs.Table.{Table}
+use Rattle.euler_operators.specs.Model.{Model, cycle, items_of, content, outer, solid_of, face_of, rings_of, FaceRow}
 use Rattle.euler_operators.specs.Sound.{Sound, Has}
 use Rattle.euler_operators.proofs.Models.{solid_row, same_solid}
 use Rattle.euler_operators.proofs.Rotations.{IsIn_head}
 use Rattle.shapes.specs.Faces.{start, loops_of}
 use Rattle.shapes.specs.Fresh.{Taken, growing, taken_in}
 use Rattle.shapes.specs.Prism.{prism_refusal, prism_model, prism_from, raised, top_items, top_edge, next_place}
-use Rattle.shapes.proofs.fresh.Rows.{at_most_greatest}
+use Rattle.shapes.proofs.fresh.Rows.{at_most_greatest, greatest-put_last}
 use Rattle.sweeps_laws.proofs.FromSound.{sound_bounded}
 use Rattle.sweeps_laws.proofs.prism.Accepted.{face_there, begins, prism_sound}
-use Rattle.sweeps_laws.proofs.swept.Filled.{filled_new}
+use Rattle.sweeps_laws.proofs.swept.Filled.{filled, filled_new, filled_greatest}
 use Rattle.sweeps_laws.proofs.swept.Numbers.{next_within}
 use Rattle.sweeps_laws.proofs.swept.Sides.{side_face, side_items, faces_grown, start_kept}
 use Rattle.sweeps_laws.proofs.swept.Lifted.{Bounded, IsPathOf, swept, keeps_swept, face_old, outer_new, outer_old, rings_old, rings_new, content_here, content_old, content_new, loop_here, loop_new, loop_old, item_start, next_start, top_start, top_finish, riser_finish}
 use Rattle.undo_journal.specs.Machine.{held}
 use Rattle.command_laws.specs.NewFaces.{corner_points, nth, all_moved, side_over, last_face, IsFaceOf, SweptFaceIsFar, SidesStand}
-use Rattle.command_laws.proofs.Outlines.{nth_start, as_many, same_starts, ring_path, points_are, plane_is}
-
-take_next : (ps : List Point) (k : ℕ) → k < length ps → take (suc k) ps ≡ take k ps ++ nth ps k ∷ []
-take_next [] k l = absurd (omega arith)
-take_next (p ∷ ps) zero l = refl
-take_next (p ∷ ps) (suc k) l = ap (λ qs. p ∷ qs) (take_next ps k (less k (length ps) l)) where
-  less : (i n : ℕ) → suc i < suc n → i < n
-  less i n l = omega arith
+use Rattle.command_laws.proofs.Outlines.{take_next, nth_start, as_many, same_starts, ring_path, points_are, plane_is}
 
 module _ (M : Model) (f : ℕ) (d : Point) (sound : Sound M) (goes : prism_refusal M f d ≡ None) (plain : rings_of M f ≡ []) where
   abbrev pub counters : Taken
@@ -184,24 +178,59 @@ pub face_counted : (M : Model) → (taken_in M).face ≡ table.greatest M.faces
 unfolding taken_in
 face_counted M = refl
 
+-- ---- over models
+
+pub model_far : (M : Model) (f : ℕ) (d : Point) → Sound M → prism_refusal M f d ≡ None → rings_of M f ≡ [] → IsFaceOf (prism_model M f d) f (solid_of M f) (all_moved d (corner_points M f))
+model_far M f d sound goes plain = subst (λ N. IsFaceOf N f (solid_of M f) (all_moved d (corner_points M f))) (sym (prism_is M f d sound goes plain)) (far_face M f d sound goes plain)
+
+pub model_sides : (M : Model) (f : ℕ) (d : Point) (i : ℕ) → Sound M → prism_refusal M f d ≡ None → rings_of M f ≡ [] → let ps = corner_points M f in i < length ps →
+    IsFaceOf (prism_model M f d) (table.greatest M.faces + 1 + i) (solid_of M f) (side_over d (nth ps i) (nth ps (next_place (length ps) i)))
+model_sides M f d i sound goes plain l =
+    let N = raised_up M f d sound goes plain in
+    let g = table.greatest M.faces in
+    let s = solid_of M f in
+    let hs = around M f d sound goes plain in
+    let told = before_points M f d sound goes plain in
+    let m = subst (λ n. i < n) (ap length told ∙ as_many M hs) l in
+    let j = next_place (length hs) i in
+    subst (λ X. IsFaceOf X (g + 1 + i) s (side_over d (nth (corner_points M f) i) (nth (corner_points M f) (next_place (length (corner_points M f)) i)))) (sym (prism_is M f d sound goes plain))
+    (subst (λ ps. IsFaceOf N (g + 1 + i) s (side_over d (nth ps i) (nth ps (next_place (length ps) i)))) (sym told)
+    (subst (λ n. IsFaceOf N (g + 1 + i) s (side_over d (nth (map (start M) hs) i) (nth (map (start M) hs) (next_place n i)))) (sym (as_many M hs))
+    (subst (λ k. IsFaceOf N (k + 1 + i) s (side_over d (nth (map (start M) hs) i) (nth (map (start M) hs) j))) (face_counted M)
+    (subst (λ p. IsFaceOf N ((taken_in M).face + 1 + i) s (side_over d p (nth (map (start M) hs) j))) (sym (nth_start M hs i m))
+    (subst (λ p. IsFaceOf N ((taken_in M).face + 1 + i) s (side_over d (start M (get_or hs i 0)) p)) (sym (nth_start M hs j (next_within (length hs) i m)))
+    (side_face_is M f d sound goes plain i m))))))
+
+-- a face other than the swept one, whose outer loop isn't lone
+pub model_other : (M : Model) (f : ℕ) (d : Point) (sound : Sound M) (goes : prism_refusal M f d ≡ None) (plain : rings_of M f ≡ []) (k s : ℕ) (ps : List Point) → k ≢ f →
+    content M (outer M k) ≡ cycle (items_of (content M (outer M k))) → 0 < length (items_of (content M (outer M k))) → IsFaceOf M k s ps → IsFaceOf (prism_model M f d) k s ps
+model_other M f d sound goes plain k s ps ne ring some was = subst (λ N. IsFaceOf N k s ps) (sym (prism_is M f d sound goes plain)) (other_face M f d sound goes plain k s ps ne ring some was)
+
+-- as many faces more as the face has corners
+pub model_counted : (M : Model) (f : ℕ) (d : Point) → Sound M → prism_refusal M f d ≡ None → rings_of M f ≡ [] → table.greatest (prism_model M f d).faces ≡ table.greatest M.faces + length (corner_points M f)
+model_counted M f d sound goes plain =
+    let hs = around M f d sound goes plain in
+    let s = solid_of M f in
+    let c = taken_in M in
+    ap (λ (N : Model). table.greatest N.faces) (prism_is M f d sound goes plain)
+    ∙ ap table.greatest (faces_grown M c s d hs (length hs))
+    ∙ exact M.faces c.face (side_face M c s d hs) (bounded M f d sound goes plain).faces (length hs) (path M f d sound goes plain).some_item
+    ∙ (λ i. face_counted M i + (sym (as_many M hs) ∙ ap length (sym (before_points M f d sound goes plain))) i) where
+      exact : (t : Table FaceRow) (a : ℕ) (x : ℕ → FaceRow) → table.greatest t ≤ a → (n : ℕ) → 0 < n → table.greatest (filled t a x n) ≡ a + n
+      exact t a x low zero l = absurd (omega arith)
+      exact t a x low (suc n) l = greatest-put_last (filled t a x n) (a + 1 + n) (x n) (below (table.greatest (filled t a x n)) a n (filled_greatest t a x low n)) ∙ same a n where
+        below : (g a n : ℕ) → g ≤ a + n → g < a + 1 + n
+        below g a n l = omega arith
+
+        same : (a n : ℕ) → a + 1 + n ≡ a + suc n
+        same a n = omega arith
+
 -- ---- the laws
 
 pub swept_face_is_far : SweptFaceIsFar
 swept_face_is_far before after f d sound made plain =
-    let M = held before in
-    subst (λ N. IsFaceOf N f (solid_of M f) (all_moved d (corner_points M f))) (sym (ap held made.1 ∙ prism_is M f d sound made.0 plain)) (far_face M f d sound made.0 plain)
+    subst (λ N. IsFaceOf N f (solid_of (held before) f) (all_moved d (corner_points (held before) f))) (sym (ap held made.1)) (model_far (held before) f d sound made.0 plain)
 
 pub sides_stand : SidesStand
-sides_stand before after f d i sound made plain l =
-    let M = held before in
-    let hs = around M f d sound made.0 plain in
-    let told = before_points M f d sound made.0 plain in
-    let many = ap length told ∙ as_many M hs in
-    let m = subst (λ n. i < n) many l in
-    subst (λ N. IsFaceOf N (last_face before + 1 + i) (solid_of M f) (side_over d (nth (corner_points M f) i) (nth (corner_points M f) (next_place (length (corner_points M f)) i)))) (sym (ap held made.1 ∙ prism_is M f d sound made.0 plain))
-    (subst (λ ps. IsFaceOf (raised_up M f d sound made.0 plain) (last_face before + 1 + i) (solid_of M f) (side_over d (nth ps i) (nth ps (next_place (length ps) i)))) (sym told)
-    (subst (λ n. IsFaceOf (raised_up M f d sound made.0 plain) (last_face before + 1 + i) (solid_of M f) (side_over d (nth (map (start M) hs) i) (nth (map (start M) hs) (next_place n i)))) (sym (as_many M hs))
-    (subst (λ g. IsFaceOf (raised_up M f d sound made.0 plain) (g + 1 + i) (solid_of M f) (side_over d (nth (map (start M) hs) i) (nth (map (start M) hs) (next_place (length hs) i)))) (face_counted M)
-    (subst (λ p. IsFaceOf (raised_up M f d sound made.0 plain) ((taken_in M).face + 1 + i) (solid_of M f) (side_over d p (nth (map (start M) hs) (next_place (length hs) i)))) (sym (nth_start M hs i m))
-    (subst (λ p. IsFaceOf (raised_up M f d sound made.0 plain) ((taken_in M).face + 1 + i) (solid_of M f) (side_over d (start M (get_or hs i 0)) p)) (sym (nth_start M hs (next_place (length hs) i) (next_within (length hs) i m)))
-    (side_face_is M f d sound made.0 plain i m))))))
+sides_stand before after f d i sound made plain l = let ps = corner_points (held before) f in
+    subst (λ N. IsFaceOf N (last_face before + 1 + i) (solid_of (held before) f) (side_over d (nth ps i) (nth ps (next_place (length ps) i)))) (sym (ap held made.1)) (model_sides (held before) f d i sound made.0 plain l)

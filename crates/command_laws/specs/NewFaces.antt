@@ -1,5 +1,5 @@
 -- The faces that a lamina, a block and a sweep make: their numbers, their solid, the points of their corners, and their planes.
-use Rattle.std.specs.Prelude.{◌≡◌, ◌<◌, ℕ, ◌+◌, List, [], ◌∷◌, map, length, get_or}
+use Rattle.std.specs.Prelude.{◌≡◌, ◌<◌, ℕ, ◌+◌, ℤ, pos, List, [], ◌∷◌, map, reverse, length, get_or}
 use Rattle.euler_operators.specs.declared.Point.{Point}
 use Rattle.euler_operators.specs.declared.Plane.{Plane}
 use Rattle.euler_operators.specs.Vectors.{origin, moved, cross}
@@ -8,9 +8,10 @@ use Rattle.euler_operators.specs.Model.{Model, no_point, point_of, solid_of, rin
 use Rattle.euler_operators.specs.Sound.{Sound, Has}
 use Rattle.shapes.specs.Faces.{corners}
 use Rattle.shapes.specs.Prism.{next_place}
+use Rattle.shapes.specs.Block.{vector, base_of}
 use Rattle.shapes.specs.Measure.{plane_through, plane_of}
 use Rattle.undo_journal.specs.Machine.{Machine, held}
-use Rattle.command_laws.specs.Commands.{IsSweep}
+use Rattle.command_laws.specs.Commands.{IsLamina, IsBlock, IsSweep}
 
 -- the points of a face's corners, in the order of its loops
 abbrev pub corner_points : Model → ℕ → List Point
@@ -59,3 +60,35 @@ abbrev pub SidesStand : Type 0
 SidesStand = (before after : Machine) (f : ℕ) (d : Point) (i : ℕ) → Sound (held before) → IsSweep before after f d → rings_of (held before) f ≡ [] →
     let ps = corner_points (held before) f in i < length ps →
     IsFaceOf (held after) (last_face before + 1 + i) (solid_of (held before) f) (side_over d (nth ps i) (nth ps (next_place (length ps) i)))
+
+-- the second point, the first, and the others backwards
+abbrev pub turned_back : List Point → List Point
+turned_back [] = []
+turned_back (a ∷ []) = a ∷ []
+turned_back (a ∷ b ∷ ps) = b ∷ a ∷ reverse ps
+
+-- a new lamina has one face round its points, and one the other way round
+abbrev pub LaminaHasTwoFaces : Type 0
+LaminaHasTwoFaces = (before after : Machine) (s : ℕ) (ps : List Point) → Sound (held before) → IsLamina before after s ps →
+    IsFaceOf (held after) (last_face before + 1) s ps × IsFaceOf (held after) (last_face before + 2) s (turned_back ps)
+
+-- the vector by which a block's base is swept up
+abbrev pub up_by : ℤ → Point
+up_by dz = vector (pos 0) (pos 0) dz
+
+-- a new block has its top and its bottom first, and then a side over each edge of its base
+abbrev pub BlockHasTopAndBottom : Type 0
+BlockHasTopAndBottom = (before after : Machine) (s : ℕ) (p : Point) (dx dy dz : ℤ) → Sound (held before) → IsBlock before after s p dx dy dz →
+    IsFaceOf (held after) (last_face before + 1) s (all_moved (up_by dz) (base_of p dx dy))
+    × IsFaceOf (held after) (last_face before + 2) s (turned_back (base_of p dx dy))
+
+abbrev pub BlockHasFourSides : Type 0
+BlockHasFourSides = (before after : Machine) (s : ℕ) (p : Point) (dx dy dz : ℤ) (i : ℕ) → Sound (held before) → IsBlock before after s p dx dy dz → i < 4 →
+    let ps = base_of p dx dy in IsFaceOf (held after) (last_face before + 3 + i) s (side_over (up_by dz) (nth ps i) (nth ps (next_place 4 i)))
+
+-- so the greatest number of a face is six more after it, and two more after a lamina
+abbrev pub BlockTakesSixFaces : Type 0
+BlockTakesSixFaces = (before after : Machine) (s : ℕ) (p : Point) (dx dy dz : ℤ) → Sound (held before) → IsBlock before after s p dx dy dz → last_face after ≡ last_face before + 6
+
+abbrev pub LaminaTakesTwoFaces : Type 0
+LaminaTakesTwoFaces = (before after : Machine) (s : ℕ) (ps : List Point) → IsLamina before after s ps → last_face after ≡ last_face before + 2

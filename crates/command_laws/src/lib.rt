@@ -2,8 +2,21 @@
 //! call says of it alone. Each function does nothing: its contract is what is proved, over every machine.
 #![tactic(auto)]
 
-ghost use Rattle.command_laws.specs.NewFaces.{SweptFaceIsFar, SidesStand};
+ghost use Rattle.command_laws.specs.NewFaces.{LaminaHasTwoFaces, LaminaTakesTwoFaces, BlockHasTopAndBottom, BlockHasFourSides, BlockTakesSixFaces, SweptFaceIsFar, SidesStand};
 ghost use Rattle.command_laws.specs.Solids.{BlocksAreThere, LaminasAreThere, SweptAreThere, SweepsKeepSolids};
+
+/// After a lamina: the face next to the greatest before goes round its points, and the one after that the other way round.
+pub fn laminas_make_faces()
+    ensures faces { LaminaHasTwoFaces }
+    ensures taken { LaminaTakesTwoFaces }
+{}
+
+/// After a block, numbered on from the greatest face before: its top, its bottom, and a side over each edge of its base.
+pub fn blocks_make_faces()
+    ensures ends { BlockHasTopAndBottom }
+    ensures sides { BlockHasFourSides }
+    ensures taken { BlockTakesSixFaces }
+{}
 
 /// After a sweep of a face without rings: the face keeps its number and is the far one, with its corners moved; and over each of its
 /// edges, in their order, stands a new side, numbered on from the greatest face before.

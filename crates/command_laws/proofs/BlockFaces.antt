@@ -1,0 +1,71 @@
+-- The six faces of a block.
+use Rattle.std.specs.Prelude.{length}
+use Rattle.std.proofs.Common.{◌≡◌, ◌≢◌, ℕ, ◌+◌, ◌<◌, ℤ, None, sym, ap, subst, ◌∙◌, arith, refl}
+use Rattle.euler_operators.specs.declared.Point.{Point}
+use Rattle.euler_operators.specs.Table as table
+use Rattle.euler_operators.specs.Model.{Model, solid_of}
+use Rattle.euler_operators.specs.Sound.{Sound}
+use Rattle.shapes.specs.Fresh.{taken_in}
+use Rattle.shapes.specs.Lamina.{lamina_model, lamina_face}
+use Rattle.shapes.specs.Prism.{prism_model, next_place}
+use Rattle.shapes.specs.Block.{base_of, block_refusal, block_model}
+use Rattle.sweeps_laws.proofs.lamina.Blocks.{blocks_have_bases, bases_rise}
+use Rattle.sweeps_laws.proofs.lamina.Walk.{lamina_is_sound}
+use Rattle.undo_journal.specs.Machine.{held}
+use Rattle.command_laws.specs.NewFaces.{nth, all_moved, side_over, turned_back, up_by, last_face, IsFaceOf, BlockHasTopAndBottom, BlockHasFourSides, BlockTakesSixFaces}
+use Rattle.command_laws.proofs.SweptFaces.{face_counted, model_far, model_sides, model_counted, model_other}
+use Rattle.command_laws.proofs.LaminaFaces.{lamina_faces, lamina_counted, lamina_second}
+
+module _ (M : Model) (s : ℕ) (p : Point) (dx dy dz : ℤ) (sound : Sound M) (goes : block_refusal M s p dx dy dz ≡ None) where
+  abbrev base : Model
+  base = lamina_model M s (base_of p dx dy)
+
+  base_sound : Sound base
+  base_sound = lamina_is_sound M s (base_of p dx dy) sound (blocks_have_bases M s p dx dy dz goes)
+
+  base_faces : IsFaceOf base (lamina_face M) s (base_of p dx dy) × IsFaceOf base ((taken_in M).face + 2) s (turned_back (base_of p dx dy))
+  base_faces = lamina_faces M s (base_of p dx dy) sound (blocks_have_bases M s p dx dy dz goes)
+
+  block_is : block_model M s p dx dy dz ≡ prism_model base (lamina_face M) (up_by dz)
+  unfolding block_model
+  block_is = refl
+
+  top : IsFaceOf (prism_model base (lamina_face M) (up_by dz)) (lamina_face M) s (all_moved (up_by dz) (base_of p dx dy))
+  top = subst (λ u. IsFaceOf (prism_model base (lamina_face M) (up_by dz)) (lamina_face M) u (all_moved (up_by dz) (base_of p dx dy))) base_faces.0.solid
+      (subst (λ ps. IsFaceOf (prism_model base (lamina_face M) (up_by dz)) (lamina_face M) (solid_of base (lamina_face M)) (all_moved (up_by dz) ps)) base_faces.0.points
+      (model_far base (lamina_face M) (up_by dz) base_sound (bases_rise M s p dx dy dz sound goes) base_faces.0.plain))
+
+  bottom : IsFaceOf (prism_model base (lamina_face M) (up_by dz)) ((taken_in M).face + 2) s (turned_back (base_of p dx dy))
+  bottom = let w = lamina_second M s (base_of p dx dy) sound (blocks_have_bases M s p dx dy dz goes) in
+      model_other base (lamina_face M) (up_by dz) base_sound (bases_rise M s p dx dy dz sound goes) base_faces.0.plain ((taken_in M).face + 2) s (turned_back (base_of p dx dy)) (apart (taken_in M).face) w.0 w.1 base_faces.1 where
+        apart : (g : ℕ) → g + 2 ≢ g + 1
+        apart g e = absurd (omega arith)
+
+  side : (i : ℕ) → i < 4 → IsFaceOf (prism_model base (lamina_face M) (up_by dz)) (table.greatest M.faces + 3 + i) s (side_over (up_by dz) (nth (base_of p dx dy) i) (nth (base_of p dx dy) (next_place 4 i)))
+  side i l = let N = prism_model base (lamina_face M) (up_by dz) in
+      subst (λ k. IsFaceOf N k s (side_over (up_by dz) (nth (base_of p dx dy) i) (nth (base_of p dx dy) (next_place 4 i)))) (ap (λ g. g + 1 + i) (lamina_counted M s (base_of p dx dy)) ∙ on (table.greatest M.faces) i)
+      (subst (λ u. IsFaceOf N (table.greatest base.faces + 1 + i) u (side_over (up_by dz) (nth (base_of p dx dy) i) (nth (base_of p dx dy) (next_place 4 i)))) base_faces.0.solid
+      (subst (λ ps. i < length ps → IsFaceOf N (table.greatest base.faces + 1 + i) (solid_of base (lamina_face M)) (side_over (up_by dz) (nth ps i) (nth ps (next_place (length ps) i)))) base_faces.0.points
+      (model_sides base (lamina_face M) (up_by dz) i base_sound (bases_rise M s p dx dy dz sound goes) base_faces.0.plain) l)) where
+        on : (g i : ℕ) → g + 2 + 1 + i ≡ g + 3 + i
+        on g i = omega arith
+
+  counted : table.greatest (prism_model base (lamina_face M) (up_by dz)).faces ≡ table.greatest M.faces + 6
+  counted = model_counted base (lamina_face M) (up_by dz) base_sound (bases_rise M s p dx dy dz sound goes) base_faces.0.plain
+      ∙ (λ i. lamina_counted M s (base_of p dx dy) i + length (base_faces.0.points i)) ∙ six (table.greatest M.faces) where
+        six : (g : ℕ) → g + 2 + 4 ≡ g + 6
+        six g = omega arith
+
+pub block_has_top_and_bottom : BlockHasTopAndBottom
+block_has_top_and_bottom before after s p dx dy dz sound made =
+    subst (λ N. IsFaceOf N (last_face before + 1) s (all_moved (up_by dz) (base_of p dx dy)) × IsFaceOf N (last_face before + 2) s (turned_back (base_of p dx dy))) (sym (ap held made.1 ∙ block_is (held before) s p dx dy dz sound made.0))
+    (subst (λ g. IsFaceOf (prism_model (base (held before) s p dx dy dz sound made.0) (lamina_face (held before)) (up_by dz)) (g + 1) s (all_moved (up_by dz) (base_of p dx dy))
+    × IsFaceOf (prism_model (base (held before) s p dx dy dz sound made.0) (lamina_face (held before)) (up_by dz)) (g + 2) s (turned_back (base_of p dx dy))) (face_counted (held before))
+    (top (held before) s p dx dy dz sound made.0, bottom (held before) s p dx dy dz sound made.0))
+
+pub block_has_four_sides : BlockHasFourSides
+block_has_four_sides before after s p dx dy dz i sound made l =
+    subst (λ N. IsFaceOf N (last_face before + 3 + i) s (side_over (up_by dz) (nth (base_of p dx dy) i) (nth (base_of p dx dy) (next_place 4 i)))) (sym (ap held made.1 ∙ block_is (held before) s p dx dy dz sound made.0)) (side (held before) s p dx dy dz sound made.0 i l)
+
+pub block_takes_six_faces : BlockTakesSixFaces
+block_takes_six_faces before after s p dx dy dz sound made = ap last_face made.1 ∙ ap (λ (N : Model). table.greatest N.faces) (block_is (held before) s p dx dy dz sound made.0) ∙ counted (held before) s p dx dy dz sound made.0
