@@ -3,3 +3,6 @@ mod Outlines
 mod SweptFaces
 mod LaminaFaces
 mod BlockFaces
+mod Kept
+mod Places
+mod Accepted

@@ -1,3 +1,6 @@
 pub mod Commands
 pub mod Solids
 pub mod NewFaces
+pub mod Kept
+pub mod Places
+pub mod Accepted

@@ -3,6 +3,9 @@
 #![tactic(auto)]
 
 ghost use Rattle.command_laws.specs.NewFaces.{LaminaHasTwoFaces, LaminaTakesTwoFaces, BlockHasTopAndBottom, BlockHasFourSides, BlockTakesSixFaces, SweptFaceIsFar, SidesStand};
+ghost use Rattle.command_laws.specs.Accepted.{BlocksFit};
+ghost use Rattle.command_laws.specs.Kept.{LaminaKeepsFaces, BlockKeepsFaces, SweepKeepsFaces, StartHasNoFace};
+ghost use Rattle.command_laws.specs.Places.{UndosGoBack};
 ghost use Rattle.command_laws.specs.Solids.{BlocksAreThere, LaminasAreThere, SweptAreThere, SweepsKeepSolids};
 
 /// After a lamina: the face next to the greatest before goes round its points, and the one after that the other way round.
@@ -31,4 +34,23 @@ pub fn solids_are_there()
     ensures lamina { LaminasAreThere }
     ensures sweep { SweptAreThere }
     ensures others { SweepsKeepSolids }
+{}
+
+/// After a lamina, a block and a sweep each face up to the greatest before is of the solid, and has the outer loop, that it had. A new
+/// session has no face.
+pub fn faces_are_kept()
+    ensures lamina { LaminaKeepsFaces }
+    ensures block { BlockKeepsFaces }
+    ensures sweep { SweepKeepsFaces }
+    ensures start { StartHasNoFace }
+{}
+
+/// After n undos the session holds the model that stood n commands before.
+pub fn undos_go_back()
+    ensures { UndosGoBack }
+{}
+
+/// A block is accepted where its number is new, its sizes are 1 or more, both corners are in range, and numbers are left.
+pub fn blocks_fit()
+    ensures { BlocksFit }
 {}
