@@ -133,8 +133,8 @@ class RoundTrips(InFiles):
             yield 'step', step_text(model)
         except Unfit:
             return
-        for form in ('off', 'obj', 'stl'):
-            if form != 'off' or len(model.solids) == 1:
+        for form in ('off', 'obj', 'stl', '3mf'):
+            if form in ('obj', '3mf') or len(model.solids) == 1:
                 yield form, FORMS[form](mesh)
 
     def test_voids(self):
