@@ -1,5 +1,6 @@
 """Draws a listing: visible edges black, hidden ones thin and dashed, seams between faces of one plane grey."""
 
+import sys
 from argparse import ArgumentTypeError
 from typing import Dict, Iterator, List, NamedTuple, Optional, Sequence, Tuple
 
@@ -7,6 +8,7 @@ from .command_line import OK, listing_parser, run, filled_model
 from .errors import Unfit
 from .hidden_lines import Piece, Scene
 from .inside_out import warn_of_inside_out
+from .labels import Label, Placed, place
 from .measures import normal, why_unfit
 from .model import Model
 from .plane_figures import turn
@@ -16,7 +18,9 @@ from .vectors import Vector, ZERO, dot, flat_axes, same_direction, total
 from .view import View
 
 PROGRAM = 'gwb-svg'
-_SIZE, _MARGIN = 600, 30
+SIZE, SIZES = 600, range(100, 10_001)
+_MARGIN = 30
+_KINDS = ('face', 'vertex', 'edge')
 _STYLE = """<style>
 line { stroke-linecap: round }
 .visible { stroke: #000; stroke-width: 2 }
@@ -33,12 +37,12 @@ text { font: 13px sans-serif; text-anchor: middle; stroke: #fff; stroke-width: 3
 class _Frame:
     """Brings screen coordinates to those of the drawing, which fits its size."""
 
-    def __init__(self, spots: Sequence[Tuple[int, int]], view: View) -> None:
+    def __init__(self, spots: Sequence[Tuple[int, int]], view: View, size: int) -> None:
         self._units = view.units
         across, up = ([spot[axis] * self._units[axis] for spot in spots] for axis in (0, 1))
         self._left, self._top = min(across), max(up)
         wide, high = max(across) - self._left, self._top - min(up)
-        self._scale = (_SIZE - 2 * _MARGIN) / (max(wide, high) or 1)
+        self._scale = (size - 2 * _MARGIN) / (max(wide, high) or 1)
         self.width, self.height = (2 * _MARGIN + length * self._scale for length in (wide, high))
 
     def place(self, x: float, y: float) -> Tuple[float, float]:
@@ -57,15 +61,15 @@ class _Spot(NamedTuple):
 class _Drawing:
     """A model, the scene that a viewer sees of it, and the drawing's frame."""
 
-    def __init__(self, model: Model, view: View) -> None:
+    def __init__(self, model: Model, view: View, size: int) -> None:
         self._model, self._view = model, view
         self._scene = Scene(model, view)
-        self._frame = _Frame(list(self._scene.spots.values()), view)
+        self._frame = _Frame(list(self._scene.spots.values()), view, size)
         self._touched = touched_edges(model)
         self._normals = {face: normal(model, face) for face in model.faces}
         self._pieces = {edge: self._scene.pieces(edge) for edge in model.edges}
 
-    def lines(self, names: bool, hidden: bool) -> Iterator[str]:
+    def lines(self, names: Sequence[Label], hidden: bool) -> Iterator[str]:
         """The drawing, line by line."""
         width, height = f'{self._frame.width:.0f}', f'{self._frame.height:.0f}'
         yield f'<svg xmlns="http://www.w3.org/2000/svg" width="{width}" height="{height}" viewBox="0 0 {width} {height}">'
@@ -73,8 +77,8 @@ class _Drawing:
         yield '<rect width="100%" height="100%" fill="#fff"/>'
         yield from self._edges(['hidden', 'seam', 'visible'] if hidden else ['seam', 'visible'])
         yield from self._lone_vertices()
-        if names:
-            yield from self._names()
+        for label in names:
+            yield f'<text class="{label.kind}" x="{label.x:.1f}" y="{label.y:.1f}">{label.number}</text>'
         yield '</svg>'
 
     def _edges(self, classes: Sequence[str]) -> Iterator[str]:
@@ -108,16 +112,20 @@ class _Drawing:
                 x, y = self._frame.place(*self._scene.spots[loop.vertex])
                 yield f'<circle cx="{x:.2f}" cy="{y:.2f}" r="3"/>'
 
-    def _names(self) -> Iterator[str]:
+    def names(self) -> Placed:
+        """The numbers that have room: those that the viewer sees before the others, faces before vertices and edges."""
+        return place(sorted(self._names(), key=lambda label: (label.kind.endswith(' away'), _KINDS.index(label.kind.split(' ')[0]))))
+
+    def _names(self) -> Iterator[Label]:
         seen = {vertex for edge, pieces in self._pieces.items() for vertex in self._seen_ends(edge, pieces)}
         for vertex, spot in self._scene.spots.items():
             x, y = self._frame.place(*spot)
-            yield _text('vertex', vertex, x + 9, y - 4, away=vertex not in seen)
+            yield _label('vertex', vertex, x + 9, y - 4, away=vertex not in seen)
         for edge, pieces in self._pieces.items():
             if pieces:
                 piece = max(pieces, key=lambda piece: (not piece.hidden, piece.end - piece.start))
                 x, y = self._on_edge(edge, float(piece.start + piece.end) / 2)
-                yield _text('edge', edge, x, y + 4, away=piece.hidden)
+                yield _label('edge', edge, x, y + 4, away=piece.hidden)
         for face in self._model.faces:
             yield self._face_name(face)
 
@@ -129,16 +137,16 @@ class _Drawing:
         if pieces and not pieces[-1].hidden:
             yield end
 
-    def _face_name(self, face: int) -> str:
+    def _face_name(self, face: int) -> Label:
         point, weight = _middle(self._model, face, self._touched)
         spot = self._view.spot(point)
         x, y = self._frame.place(spot[0] / weight, spot[1] / weight)
         turned = dot(self._normals[face], self._view.into) > 0
-        return _text('face', face, x, y + (17 if turned else 4), away=turned or self._scene.is_hidden(point, spot, weight))
+        return _label('face', face, x, y + (17 if turned else 4), away=turned or self._scene.is_hidden(point, spot, weight))
 
 
-def _text(kind: str, number: int, x: float, y: float, away: bool) -> str:
-    return f'<text class="{kind}{" away" if away else ""}" x="{x:.1f}" y="{y:.1f}">{number}</text>'
+def _label(kind: str, number: int, x: float, y: float, away: bool) -> Label:
+    return Label(f'{kind}{" away" if away else ""}', number, x, y)
 
 
 def _middle(model: Model, face: int, touched: TouchedEdges) -> _Spot:
@@ -146,21 +154,35 @@ def _middle(model: Model, face: int, touched: TouchedEdges) -> _Spot:
     corners = model.face_vertices(face)
     if why_unfit(model, face) is None:
         try:
-            corners = list(max(face_triangles(model, face, touched), key=lambda triangle: _size(model, face, triangle)))
+            corners = list(max(face_triangles(model, face, touched), key=lambda triangle: _area(model, face, triangle)))
         except Unfit:
             pass
     return _Spot(total(model.vertices[vertex] for vertex in corners), len(corners))
 
 
-def _size(model: Model, face: int, triangle: Sequence[int]) -> int:
+def _area(model: Model, face: int, triangle: Sequence[int]) -> int:
     first, second = flat_axes(normal(model, face))
     points = (model.vertices[vertex] for vertex in triangle)
     return abs(turn(*((point[first], point[second]) for point in points)))
 
 
+class Picture(NamedTuple):
+    """A drawing, and how many numbers had no room in it."""
+
+    text: str
+    left_out: int
+
+
+def picture(model: Model, stand: Vector, names: bool = False, hidden: bool = True, size: int = SIZE) -> Picture:
+    """The drawing of the model for a viewer who stands in the given direction; its longest side has so many pixels."""
+    drawing = _Drawing(model, View(stand), size)
+    placed = drawing.names() if names else Placed([], 0)
+    return Picture('\n'.join(drawing.lines(placed.labels, hidden)) + '\n', placed.left_out)
+
+
 def svg_text(model: Model, stand: Vector, names: bool = False, hidden: bool = True) -> str:
-    """The drawing of the model for a viewer who stands in the given direction."""
-    return '\n'.join(_Drawing(model, View(stand)).lines(names, hidden)) + '\n'
+    """The text of the drawing, as picture makes it."""
+    return picture(model, stand, names, hidden).text
 
 
 def _view_step(word: str) -> int:
@@ -173,6 +195,12 @@ def _view_step(word: str) -> int:
     return step
 
 
+def _size(word: str) -> int:
+    if not word.isdecimal() or int(word[:9]) not in SIZES:
+        raise ArgumentTypeError(f'{word!r} is no whole number from {SIZES[0]} to {SIZES[-1]}')
+    return int(word)
+
+
 def work(words: Optional[Sequence[str]]) -> int:
     """Reads a listing and draws it."""
     parser = listing_parser(PROGRAM, 'Draws a listing of gwb as SVG: visible edges black, hidden ones thin and dashed (found '
@@ -182,11 +210,15 @@ def work(words: Optional[Sequence[str]]) -> int:
     parser.add_argument('--names', action='store_true',
                         help='with the numbers of faces (green), edges (blue) and vertices (red); pale where they are hidden')
     parser.add_argument('--no-hidden', dest='hidden', action='store_false', help='leave hidden lines out')
+    parser.add_argument('--size', type=_size, default=SIZE, metavar='N', help=f'the longest side in pixels (default: {SIZE})')
     options = parser.parse_args(words)
     if not any(options.view):
         parser.error('argument --view: the viewer stands in no direction')
     model = filled_model(options)
-    print(svg_text(model, tuple(options.view), options.names, options.hidden), end='')
+    drawn = picture(model, tuple(options.view), options.names, options.hidden, options.size)
+    print(drawn.text, end='')
+    if drawn.left_out:
+        print(f'{PROGRAM}: {drawn.left_out} numbers had no room and are left out (try --size or --solid)', file=sys.stderr)
     warn_of_inside_out(PROGRAM, model)
     return OK
 

@@ -3,11 +3,13 @@
 import re
 import unittest
 from fractions import Fraction
+from itertools import combinations
 
 from support import box, examples, lamina, listing, model_in, plate, run
 
 from gwb.hidden_lines import Scene
-from gwb.svg import svg_text
+from gwb.labels import Label, place
+from gwb.svg import picture, svg_text
 from gwb.view import View
 
 BLOCK = listing(*box((0, 0, 0), (4, 4, 4)))
@@ -106,6 +108,40 @@ class Names(unittest.TestCase):
         found = names(svg_text(model_in(lamina([(0, 0), (9, 0), (0, 9)])), (0, 0, 1), names=True))
         self.assertIn(('face', 1), found)
         self.assertIn(('face away', 2), found)
+
+
+class Places(unittest.TestCase):
+    """Numbers that would overlap."""
+
+    def test_they_are_moved_or_left_out(self):
+        wanted = [Label('face', number, 0, 0) for number in range(100)]
+        placed = place(wanted)
+        self.assertEqual(placed.labels[0], wanted[0])
+        self.assertGreater(len(placed.labels), 1)
+        self.assertEqual(len(placed.labels) + placed.left_out, 100)
+        for first, second in combinations(placed.labels, 2):
+            self.assertFalse(first.overlaps(second), (first, second))
+
+    def test_those_apart_stay(self):
+        wanted = [Label('edge', number, 40 * number, 0) for number in range(100)]
+        self.assertEqual(place(wanted), (wanted, 0))
+
+    def test_a_plate_says_how_many_are_left_out(self):
+        drawn = picture(model_in(plate(8)), STAND, names=True)
+        shown = re.findall(r'<text ', drawn.text)
+        model = model_in(plate(8))
+        drawable = len(model.faces) + len(model.vertices) + len(model.edges)
+        self.assertGreater(drawn.left_out, 0)
+        self.assertEqual(len(shown) + drawn.left_out, drawable)
+        self.assertLess(picture(model, STAND, names=True, size=4000).left_out, drawn.left_out)
+
+    def test_size(self):
+        for size in (100, 600, 3000):
+            sides = re.search(r'width="(\d+)" height="(\d+)"', picture(model_in(BLOCK), STAND, size=size).text)
+            self.assertEqual(max(map(int, sides.groups())), size)
+        for word in ('99', '10001', '-5', 'x', '9' * 400):
+            outcome = run('svg', f'--size={word}', '/nowhere')
+            self.assertEqual((outcome.status, outcome.out), (2, ''))
 
 
 class Words(unittest.TestCase):
