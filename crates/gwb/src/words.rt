@@ -37,7 +37,8 @@ const ABOUT: &str =
     "The Geometric WorkBench: runs a script of Euler operators and writes one reply per command";
 
 const MORE: &str = "\
-Commands, one a line (S, F, L, E, V are numbers of a solid, face, loop, edge, vertex; # begins a comment):
+Commands, one a line; a line that begins with # is a comment, and # after a command is none. S, F, L, E, V are
+numbers of a solid, face, loop, edge, vertex:
   mvfs S F L V x y z                new solid with one vertex
   kvfs S                            such a solid goes
   mev CORNER CORNER E V x y z       new edge to a new vertex
@@ -111,7 +112,7 @@ fn program<'a>(alloc: Global) -> Command<'a>
     ensures { app_of result ≡ program }
 {
     Command::new(alloc, "gwb")
-        .version("0.1.0")
+        .version("1.1.0")
         .about(ABOUT)
         .after_help(MORE)
         .override_usage("gwb [--stop] [FILE]")
