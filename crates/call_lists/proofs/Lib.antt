@@ -1,0 +1,4 @@
+pub mod Acts
+pub mod Lists
+pub mod Histories
+pub mod Places

@@ -1,0 +1,29 @@
+//! The laws of lists of calls. Each function does nothing: its contract is what is proved, over every machine and every list.
+ghost use Rattle.call_lists.specs.Laws.{ListsAreHistories, ListsKeepConsistent, PlacesAreCounted, UndosLeadToTheFirst, RedosLeadToTheLast};
+
+use gluing::glues_are_calls;
+use plane_split::splits_are_calls;
+use sweeps::larger_commands_are_calls;
+
+/// What `make_all` says of a list is a history: a list of as many calls of the plain machine leads to the machine after it, call by call.
+/// It stays consistent.
+pub fn lists_are_histories()
+    ensures histories { ListsAreHistories }
+    ensures consistent { ListsKeepConsistent }
+{
+    larger_commands_are_calls();
+    glues_are_calls();
+    splits_are_calls();
+}
+
+/// After a list of calls as many commands can be undone as were accepted and not taken back, and as many redone as were taken back since
+/// the last one. So many undos give the first model, the empty one, and so many redos the last.
+pub fn undos_and_redos_lead_to_the_ends()
+    ensures counted { PlacesAreCounted }
+    ensures undos { UndosLeadToTheFirst }
+    ensures redos { RedosLeadToTheLast }
+{
+    larger_commands_are_calls();
+    glues_are_calls();
+    splits_are_calls();
+}
