@@ -1,5 +1,5 @@
 -- A list of calls is a history.
-use Rattle.std.proofs.Common.{◌≡◌, ℕ, zero, suc, ◌+◌, ◌-◌, ◌<◌, ◌≤◌, inl, inr, Option, Some, None, List, [], ◌∷◌, ◌++◌, length, take, get_or, is_some, refl, sym, ap, subst, ◌∙◌, arith, true≢false}
+use Rattle.std.proofs.Common.{◌≡◌, ℕ, zero, suc, ◌+◌, ◌<◌, ◌≤◌, inl, inr, Option, Some, None, List, [], ◌∷◌, ◌++◌, length, take, get_or, is_some, refl, sym, ap, subst, ◌∙◌, arith, true≢false}
 use Rattle.std.proofs.lemmas.Bool.{cases_lt}
 use Rattle.euler_operators.specs.Model.{Model, empty_model}
 use Rattle.euler_operators.specs.Sound.{Sound}
@@ -9,8 +9,8 @@ use Rattle.euler_operators.specs.Conditions.{first_false}
 use Rattle.euler_operators.specs.Effect.{effect}
 use Rattle.euler_laws.specs.Laws.{effects, AreAccepted}
 use Rattle.euler_laws.proofs.Runs.{effects_keep_sound}
-use Rattle.undo_journal.specs.Machine.{Machine, DraftState, held, depth, ahead, accepted, act, act_refusal, undo, undo_refusal, redo, redo_refusal, open_draft, draft_step, commit}
-use Rattle.undo_journal.specs.Recorded.{models, model_at}
+use Rattle.undo_journal.specs.Machine.{Machine, DraftState, held, depth, accepted, act, act_refusal, undo, undo_refusal, redo, redo_refusal, open_draft, draft_step, commit}
+use Rattle.undo_journal.specs.Recorded.{models}
 use Rattle.undo_journal.specs.Histories as histories
 use Rattle.undo_journal.specs.Histories.{unless, first_of, run_refusal, tried, after_call, after_calls, Follows, IsConsistent}
 use Rattle.undo_journal.proofs.Copies.{at_place, how_many, accepted_is_appended, undo_moves_the_place, redo_moves_the_place, undone_to_first, redone_to_last}
@@ -19,13 +19,12 @@ use Rattle.gluing.specs.Machine.{glue, glue_refusal}
 use Rattle.plane_split.specs.Machine.{plane_with, split, split_refusal}
 use Rattle.call_lists.specs.declared.calls.Call.{Call}
 use Rattle.call_lists.specs.declared.calls.Told.{Told}
-use Rattle.call_lists.specs.declared.calls.Told.TheVariants.{Done, Refused, Memory}
 use Rattle.call_lists.specs.declared.calls.Call.TheVariants as call
 use Rattle.sweeps.specs.Calls.{LaminasAreCalls, BlocksAreCalls, SweepsAreCalls}
 use Rattle.gluing.specs.Calls.{GluesAreCalls}
 use Rattle.plane_split.specs.Calls.{SplitsAreCalls}
 use Rattle.call_lists.specs.Laws.{ListsAreHistories, ListsKeepConsistent}
-use Rattle.call_lists.specs.Making.{Moves, Acts, Tries, Makes, MakesAll}
+use Rattle.call_lists.specs.Making.{Moves, Acts, Tries, Makes}
 
 -- models that begin with the empty one, each sound, each made of the one before it by accepted operators
 pub record Whole (Ms : List Model) : Type 0 where

@@ -1,6 +1,5 @@
 -- Lists of calls, and of a draft's operators, one more at a time.
 use Rattle.std.proofs.Common.{◌≡◌, Option, Some, None, List, [], ◌∷◌, ◌++◌, length, refl, sym, ap, subst, ◌∙◌, append_assoc, arith}
-use Rattle.euler_operators.specs.Model.{Model}
 use Rattle.euler_operators.specs.declared.Op.{Op}
 use Rattle.euler_operators.specs.declared.Refusal.{Refusal}
 use Rattle.euler_operators.specs.Conditions.{first_false}
@@ -17,8 +16,6 @@ one_more s u t [] [] c a is m = (t, subst (λ (x : Machine). Makes x c a t) is m
 one_more s u t [] (b ∷ answers) c a h m = absurd h
 one_more s u t (d ∷ calls) [] c a h m = absurd h
 one_more s u t (d ∷ calls) (b ∷ answers) c a h m = (h.0, h.1, one_more h.0 u t calls answers c a h.2 m)
-
-
 
 first_none : (a b : Option Refusal) → a ≡ None → first_of a b ≡ b
 first_none a b e = ap (λ (x : Option Refusal). first_of x b) e

@@ -1,9 +1,9 @@
 -- How many commands can be undone, and redone, after a list of calls.
-use Rattle.std.proofs.Common.{◌≡◌, ℕ, suc, ◌+◌, ◌<◌, inl, inr, Option, Some, None, List, [], ◌∷◌, length, nat_eq, is_some, refl, sym, ap, subst, ◌∙◌, arith, true≢false}
+use Rattle.std.proofs.Common.{◌≡◌, ℕ, suc, ◌+◌, inl, inr, Option, Some, None, List, [], ◌∷◌, length, is_some, refl, sym, ap, subst, ◌∙◌, arith, true≢false}
 use Rattle.euler_operators.specs.Model.{Model}
 use Rattle.euler_operators.specs.declared.Op.{Op}
 use Rattle.euler_operators.specs.declared.Refusal.{Refusal}
-use Rattle.undo_journal.specs.Machine.{Machine, depth, ahead, held, accepted, act, act_refusal, undo, undo_refusal, redo, redo_refusal, open_draft, commit}
+use Rattle.undo_journal.specs.Machine.{Machine, depth, held, accepted, act, act_refusal, undo, undo_refusal, redo, redo_refusal, open_draft, commit}
 use Rattle.undo_journal.specs.Histories.{run_refusal, tried, undos, redos}
 use Rattle.undo_journal.proofs.Copies.{redone_to_last}
 use Rattle.sweeps.specs.Machine.{lamina, lamina_refusal, block, block_refusal, sweep, sweep_refusal}

@@ -27,7 +27,12 @@ fn make_act(session: Session, op: Op) -> (Session, Told)
     (session, outcome(ended))
 }
 
-fn make_lamina(alloc: Global, session: Session, solid: u32, points: &ArrayVec<Point, 64>) -> (Session, Told)
+fn make_lamina(
+    alloc: Global,
+    session: Session,
+    solid: u32,
+    points: &ArrayVec<Point, 64>,
+) -> (Session, Told)
     ensures made { Acts (shapes.lamina_refusal session.machine solid points.now.items) session.machine (shapes.lamina session.machine solid points.now.items) result.1 result.0.machine }
     ensures kept { StaysUnlessDone result.1 session result.0 }
 {

@@ -1,5 +1,5 @@
 use Rattle.undo_journal.specs.Journal.{after_act}
-use Rattle.call_lists.proofs.Acts.{acts_on, stays_told}
+use Rattle.call_lists.proofs.Acts.{acts_on}
 use Rattle.call_lists.proofs.making.make_act.Goals as goal
 
 pub returns-clause-made : goal.returns-clause-made

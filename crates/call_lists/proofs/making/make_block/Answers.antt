@@ -3,7 +3,7 @@ use Rattle.std.proofs.lemmas.Int.{to_z-of_z}
 use Rattle.sweeps.specs.Machine.{block, block_refusal}
 use Rattle.sweeps.proofs.BlockSteps.{at_sizes}
 use Rattle.call_lists.specs.Making.{Acts}
-use Rattle.call_lists.proofs.Acts.{acts_told, stays_told}
+use Rattle.call_lists.proofs.Acts.{acts_told}
 use Rattle.call_lists.proofs.making.make_block.Goals as goal
 
 pub returns-clause-made : goal.returns-clause-made

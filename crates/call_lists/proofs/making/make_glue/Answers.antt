@@ -1,4 +1,4 @@
-use Rattle.call_lists.proofs.Acts.{tries_told, stays_told}
+use Rattle.call_lists.proofs.Acts.{tries_told}
 use Rattle.call_lists.proofs.making.make_glue.Goals as goal
 
 pub returns-clause-made : goal.returns-clause-made

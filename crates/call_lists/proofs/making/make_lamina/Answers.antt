@@ -1,4 +1,4 @@
-use Rattle.call_lists.proofs.Acts.{acts_told, stays_told}
+use Rattle.call_lists.proofs.Acts.{acts_told}
 use Rattle.call_lists.proofs.making.make_lamina.Goals as goal
 
 pub returns-clause-made : goal.returns-clause-made

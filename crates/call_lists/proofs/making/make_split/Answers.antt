@@ -4,7 +4,7 @@ use Rattle.std.proofs.lemmas.Int.{to_z-of_z}
 use Rattle.plane_split.specs.Machine.{plane_with, split, split_refusal}
 use Rattle.sweeps.proofs.BlockSteps.{at_sizes}
 use Rattle.call_lists.specs.Making.{Tries}
-use Rattle.call_lists.proofs.Acts.{tries_told, stays_told}
+use Rattle.call_lists.proofs.Acts.{tries_told}
 use Rattle.call_lists.proofs.making.make_split.Goals as goal
 
 -- what holds of the coefficients as they were passed on holds of the coefficients
