@@ -29,34 +29,37 @@ fn list_copy(rt: &HostRuntime, session: &Session) {
     }
 }
 
-/// Gives loop 1 other content, where it is there: the bare vertex 1, and then the ring of the first half-edge.
-fn changed(arena: &mut Arena) {
+/// Makes loop 1 lone at vertex 1, where the loop is there: its ring is loose then.
+fn bared(arena: &mut Arena) {
     if arena.has(Kind::Loop, 1) {
         arena.set_content(1, Content::Lone(1));
     }
 }
 
-/// What loop 1 holds.
-fn held(arena: &Arena) -> Option<Content> {
-    if arena.has(Kind::Loop, 1) {
-        Some(arena.content(1))
+/// The loop of the first half-edge of edge 1, 0 where it is in none; none where the edge isn't there.
+fn loop_of_edge(arena: &Arena) -> Option<u32> {
+    if arena.has(Kind::Edge, 1) {
+        Some(arena.loop_of(HalfEdge::plus(1)))
     } else {
         None
     }
 }
 
-/// Prints what loop 1 of a copy holds before and after it is changed, and in the arena that was copied.
+/// Prints in which loop +1 stands in a copy, before and after the copy's loop 1 is made lone, and in the arena that was copied.
 fn tell_contents(rt: &HostRuntime, session: &Session) {
     let Ok(mut copy) = session.arena().copy(rt.alloc()) else {
         let _ = println!(rt; "{}", crate::MEMORY);
         return;
     };
-    let before = held(&copy) == Some(Content::Ring(HalfEdge::plus(1)));
-    changed(&mut copy);
-    let after = held(&copy) == Some(Content::Lone(1));
-    let kept = held(session.arena()) == Some(Content::Ring(HalfEdge::plus(1)));
+    let before = loop_of_edge(&copy);
+    bared(&mut copy);
+    let after = loop_of_edge(&copy);
+    let first = loop_of_edge(session.arena());
     let _ = println!(rt;
-        "loop 1 of the copy: a ring {before}, then a bare vertex {after}; of the first arena: a ring {kept}"
+        "+1 of the copy in loop {}, then in {}; of the first arena in {}",
+        before.unwrap_or(9),
+        after.unwrap_or(9),
+        first.unwrap_or(9)
     );
 }
 

@@ -8,11 +8,20 @@ use undo_journal::{Draft, Session};
 /// What is answered where a call did what it was asked for.
 const OK: &str = "ok";
 
-/// The first 64 points with whole coordinates of a parabola.
-fn parabola() -> ArrayVec<Point, 64> {
+/// 64 points round a strip of 31 by 1.
+fn rim() -> ArrayVec<Point, 64> {
     let mut points = ArrayVec::new();
-    for x in 0..64 {
-        let _ = points.try_push(Point { x, y: x * x, z: 0 });
+    for at in 0..64 {
+        let point = if at < 32 {
+            Point { x: at, y: 0, z: 0 }
+        } else {
+            Point {
+                x: 63 - at,
+                y: 1,
+                z: 0,
+            }
+        };
+        let _ = points.try_push(point);
     }
     points
 }
@@ -20,7 +29,7 @@ fn parabola() -> ArrayVec<Point, 64> {
 /// A session that holds their lamina, where memory suffices.
 fn large(alloc: Global) -> Option<Session> {
     let session = Session::new(alloc).ok()?;
-    let (session, made) = lamina(alloc, session, 1, &parabola());
+    let (session, made) = lamina(alloc, session, 1, &rim());
     made.ok()?;
     Some(session)
 }
