@@ -10,7 +10,7 @@ const View = (() => {
   const view = {turn: Math.atan2(-3, 2), lift: .507, zoom: 1, right: 0, down: 0, width: 1, height: 1};
   const models = [Picture.changed({}, data.frames[0].change)];
   const fingers = new Map();
-  let moved = 0, model = models[0], scene = null, screen = null, gl = null, ball = null, asked = false, timer = null;
+  let moved = 0, model = models[0], scene = null, screen = null, gl = null, ball = null, points = [], asked = false, timer = null;
 
   function modelAt(step) {
     while (models.length <= step) models.push(Picture.changed(models[models.length - 1], data.frames[models.length].change || {}));
@@ -31,7 +31,7 @@ gl_Position = vec4(2. * (V.z * dot(R, p) + M.x) / V.x, 2. * (V.z * dot(U, p) - M
 vec2 s(vec3 x) { return vec2(V.z * dot(R, x) + M.x, V.z * dot(U, x) - M.y); }
 void main() { k = c; vec2 a = s(p), b = s(q), t = b - a; float l = length(t); t = l > 0. ? t / l : vec2(1, 0);
 vec2 x = mix(a, b, e.x) + vec2(-t.y, t.x) * e.y * V.w + t * (e.x * 2. - 1.) * V.w * .5;
-gl_Position = vec4(2. * x / V.xy, -.7 * dot(S, mix(p, q, e.x)) - .0016, 1.); }`;
+gl_Position = vec4(2. * x / V.xy, -.7 * dot(S, mix(p, q, e.x)) - 1.5 * V.w / V.z, 1.); }`;
   const LINE_END = 'precision mediump float; varying vec3 k; uniform float A; void main() { gl_FragColor = vec4(k, A); }';
 
   function program(vertex, fragment) {
@@ -310,7 +310,8 @@ gl_Position = vec4(2. * x / V.xy, -.7 * dot(S, mix(p, q, e.x)) - .0016, 1.); }`;
   // --- pointer, keys, size
   function fit() {
     const taken = data.steps && view.width > 640 ? at('steps').offsetWidth + 14 : 0;
-    view.zoom = .92 * Math.min(view.width - taken, view.height - 80) / 2;
+    const [wide, high] = Picture.extent(points, ball, view);
+    view.zoom = .5 * Math.min((view.width - taken - 90) / wide, (view.height - 130) / high);
     view.right = taken / 2;
     view.down = 0;
   }
@@ -418,17 +419,18 @@ gl_Position = vec4(2. * x / V.xy, -.7 * dot(S, mix(p, q, e.x)) - .0016, 1.); }`;
       gl.fills = program(FILL, FILL_END);
       gl.lines = program(LINE, LINE_END);
     }
-    const points = data.frames.map((_, i) => Object.values(modelAt(i).vertices)).flat();
+    const all = data.frames.flatMap((_, i) => Object.values(modelAt(i).vertices));
+    points = [...new Map(all.map(point => [point.join(), point])).values()];
     ball = Picture.bounds(points);
     resize();
     startSteps();
-    fit();
     startPointer();
     startKeys();
     onresize = resize;
     if (words.get('numbers') === 'all') state.numbers = 1;
     state.hidden = words.has('hidden');
     for (const name of ['turn', 'lift']) if (words.has(name)) view[name] = +words.get(name);
+    fit();
     go(words.has('step') ? +words.get('step') : data.frames.length - 1);
     if (words.has('lit')) light(words.get('lit'));
   }

@@ -44,6 +44,13 @@ const Picture = (() => {
             view.height / 2 + view.down - view.zoom * dot(basis.up, p), dot(basis.stand, p)];
   }
 
+  // How far points reach to the right and upwards from the middle, in radii.
+  function extent(points, ball, view) {
+    const {right, up} = axes(view), ways = points.map(p => minus(p, ball.middle));
+    const reach = axis => ways.reduce((most, way) => Math.max(most, Math.abs(dot(axis, way))), 0) / ball.radius || .1;
+    return [reach(right), reach(up)];
+  }
+
   // A model with the solids switched off left out, brought to the unit ball. Spots are three numbers each: first the
   // vertices', then the middles of the faces' largest triangles, then the middles of the edges.
   function sceneOf(model, ball, off) {
@@ -224,5 +231,5 @@ const Picture = (() => {
     return found;
   }
 
-  return {changed, bounds, axes, project, sceneOf, screenOf, pick, named, isSeen, placeLabels, wantedIn};
+  return {changed, bounds, axes, extent, project, sceneOf, screenOf, pick, named, isSeen, placeLabels, wantedIn};
 })();
