@@ -13,7 +13,7 @@ import re
 import subprocess
 import sys
 from pathlib import Path
-from typing import Dict, Iterator, List, NamedTuple, Tuple
+from typing import Dict, Iterator, List, NamedTuple, Set, Tuple
 
 TOP = Path(__file__).resolve().parent.parent
 sys.path.insert(0, str(TOP / 'companions'))
@@ -164,6 +164,12 @@ def draw(program: Path) -> None:
             picture.path.write_text(drawn(program, picture))
 
 
+def screenshots() -> Set[Path]:
+    """The screenshots that pages show, which nothing here draws."""
+    texts = [TOP / 'README.md', TOP / 'companions' / 'README.md', *(TOP / 'docs').glob('*.md')]
+    return {(path.parent / name).resolve() for path in texts for name in re.findall(r'[\w./]*pictures/[\w.]+\.png', path.read_text())}
+
+
 def findings(program: Path) -> Iterator[str]:
     """One text for each block and picture: what is wrong with it, or nothing; and one for what stands where it doesn't belong."""
     shown = set()
@@ -176,6 +182,9 @@ def findings(program: Path) -> Iterator[str]:
             shown.add(picture.path)
             same = picture.path.exists() and picture.path.read_text() == drawn(program, picture)
             yield '' if same else f'{picture.place}: the picture is not the one that --draw draws'
+    for path in sorted(screenshots()):
+        shown.add(path)
+        yield '' if path.exists() else f'{path}: a page shows it, and it is not there'
     for path in sorted(set(PICTURES.glob('*')) - shown):
         yield f'{path.relative_to(TOP)}: no page shows it'
 
