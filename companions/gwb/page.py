@@ -15,10 +15,11 @@ from .listing import model_of, read_model
 from .measures import anchor, normal, off_plane, six_volume
 from .model import Model
 from .pipe import Pipe, find_program
+from .plane_figures import turn
 from .replies import Reply, is_listed, shortened
 from .touched_edges import TouchedEdges, touched_edges
 from .triangulation import face_triangles
-from .vectors import ZERO, dot
+from .vectors import ZERO, dot, flat_axes
 
 PROGRAM = 'gwb-view'
 _FILES = Path(__file__).resolve().parent / 'page'
@@ -98,13 +99,24 @@ def _face_row(model: Model, face: int) -> List[object]:
 
 def _corners(model: Model, face: int) -> List[int]:
     """The corners of the face's triangles. One that can't be cut exactly is a fan about its first corner."""
-    if normal(model, face) != ZERO and not any(model.loops[loop].is_lone for loop in model.faces[face].loops):
-        try:
-            return [vertex for triangle in face_triangles(model, face, _touched_edges(model, face)) for vertex in triangle]
-        except Unfit:
-            pass
     first, *others = model.loop_vertices(model.faces[face].outer)
-    return [vertex for pair in zip(others, others[1:]) for vertex in (first, *pair)]
+    fan = [vertex for pair in zip(others, others[1:]) for vertex in (first, *pair)]
+    has_lone = any(model.loops[loop].is_lone for loop in model.faces[face].loops)
+    if normal(model, face) == ZERO or has_lone or _is_plain(model, face):
+        return fan
+    try:
+        return [vertex for triangle in face_triangles(model, face, _touched_edges(model, face)) for vertex in triangle]
+    except Unfit:
+        return fan
+
+
+def _is_plain(model: Model, face: int) -> bool:
+    """Whether the face has three or four corners and no ring, and the fan about the first corner covers it."""
+    if model.faces[face].rings or len(model.loops[model.faces[face].outer].halves) > 4:
+        return False
+    first, second = flat_axes(normal(model, face))
+    start, *others = [(point[first], point[second]) for point in model.loop_points(model.faces[face].outer)]
+    return all(turn(start, a, b) > 0 for a, b in [*zip(others, others[1:]), (others[0], others[-1])])
 
 
 def _touched_edges(model: Model, face: int) -> TouchedEdges:

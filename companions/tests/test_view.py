@@ -49,7 +49,24 @@ function tried(page, task) {
   const clicks = task.clicks.map(([kind, number, point]) => [kind, number, clear[kind](place(point)) ? click(page, view, place(point)) : null]);
   view.state.numbers = 1;
   view.draw();
-  return {clicks, labels: view.state.labels.map(l => [l.x, l.y, l.wide, l.high])};
+  const labels = view.state.labels.map(l => [l.x, l.y, l.wide, l.high]);
+  const press = key => page.document.body.dispatchEvent(new page.KeyboardEvent('keydown', {key, bubbles: true}));
+  const now = () => (page.document.querySelector('#steps .now') || {textContent: ''}).textContent;
+  const steps = [now(), ...['ArrowLeft', 'ArrowLeft', 'ArrowRight'].map(key => { press(key); return now(); })];
+  const field = page.document.getElementById('wanted');
+  field.value = 'f1, +7 -8 v3 s2 @1';
+  field.dispatchEvent(new page.Event('input'));
+  const lit = [...view.state.lit].sort();
+  for (const box of [...page.document.querySelectorAll('header input')]) {
+    const again = [...page.document.querySelectorAll('header input')].find(it => it.checked);
+    if (again) again.click();
+  }
+  view.draw();
+  const off = task.clicks.map(([, , point]) => click(page, view, place(point)));
+  view.state.off.clear();
+  view.go(view.state.step);
+  view.draw();
+  return {clicks, labels, steps, lit, off};
 }
 tasks.forEach((task, i) => {
   const frame = document.createElement('iframe');
@@ -278,12 +295,15 @@ class Browser(unittest.TestCase):
     @classmethod
     def setUpClass(cls):
         chromium, models = browser(), stored_models()
+        program()
         cls.models = [models[name] for name in cls.NAMES]
         tasks = [task(model, page_of(model)) for model in cls.models]
         plain = page_of(cls.models[0]).replace('<body>', "<body><script>HTMLCanvasElement.prototype.getContext = (old => function (kind, more) "
                                                "{ return kind === 'webgl' ? null : old.call(this, kind, more); })"
                                                '(HTMLCanvasElement.prototype.getContext);</script>')
         tasks.append(task(cls.models[0], plain))
+        script = next(script for script in examples() if script.stem == 'block_with_hole')
+        tasks.append({**tasks[0], 'page': page_of_steps(played(script.read_bytes()))})
         with tempfile.TemporaryDirectory() as folder:
             Path(folder, 'driver.html').write_text(DRIVER.replace('TASKS', json.dumps(tasks).replace('<', '\\u003c')))
             ended = subprocess.run(
@@ -295,7 +315,7 @@ class Browser(unittest.TestCase):
         cls.told = json.loads(re.search(rb'<pre id="told">(.*?)</pre>', ended.stdout)[1].replace(b'&amp;', b'&').replace(b'&gt;', b'>'))
 
     def test_a_click_gives_the_right_number(self):
-        for name, told in zip((*self.NAMES, 'without WebGL'), self.told):
+        for name, told in zip((*self.NAMES, 'without WebGL', 'steps'), self.told):
             with self.subTest(name):
                 tried = [click for click in told.get('clicks', ()) if click[2] is not None]
                 self.assertGreaterEqual(len(tried), 8, told)
@@ -317,6 +337,18 @@ class Browser(unittest.TestCase):
             for i, (x, y, wide, high) in enumerate(told['labels']):
                 for u, v, width, height in told['labels'][:i]:
                     self.assertTrue(abs(x - u) * 2 >= wide + width or abs(y - v) * 2 >= high + height)
+
+    def test_keys_play_a_script_back_and_on(self):
+        self.assertEqual(self.told[-1]['steps'], [f'{line}\n{reply}' for line, reply in (
+            ('list', 'a listing of 63 lines'), ('volume 1', 'volume 1152'), ('count 1', 'count 16 24 10 2 0'), ('volume 1', 'volume 1152'))])
+
+    def test_a_list_of_numbers(self):
+        wanted = {'f1', 'e7', 'e8', 'v3', 's2', *(f'e{abs(half)}' for half in self.models[0].loops[1].halves)}
+        self.assertEqual(self.told[0]['lit'], sorted(wanted))
+
+    def test_solids_that_are_switched_off_are_not_picked(self):
+        for told in self.told:
+            self.assertEqual(set(told['off']), {''})
 
     def test_the_screenshot_is_not_empty(self):
         width, lines = pixels(self.screenshot)

@@ -8,13 +8,20 @@ const View = (() => {
   const front = at('solid'), over = at('labels'), pen = over.getContext('2d');
   const state = {step: 0, off: new Set(), hidden: false, numbers: 0, picked: null, wanted: '', lit: new Set(), pointer: null};
   const view = {turn: Math.atan2(-3, 2), lift: .507, zoom: 1, right: 0, down: 0, width: 1, height: 1};
-  const models = [Picture.changed({}, data.frames[0].change)];
+  const models = new Map([[0, Picture.changed({}, data.frames[0].change)]]);
   const fingers = new Map();
-  let moved = 0, model = models[0], scene = null, screen = null, gl = null, ball = null, points = [], asked = false, timer = null;
+  let moved = 0, model = models.get(0), scene = null, screen = null, gl = null, ball = null, points = [], asked = false, timer = null;
 
+  // The model after a step; one in 32 is kept to start from.
   function modelAt(step) {
-    while (models.length <= step) models.push(Picture.changed(models[models.length - 1], data.frames[models.length].change || {}));
-    return models[step];
+    let from = step;
+    while (!models.has(from)) from--;
+    let found = models.get(from);
+    while (from < step) {
+      found = Picture.changed(found, data.frames[++from].change);
+      if (from % 32 === 0) models.set(from, found);
+    }
+    return found;
   }
 
   const colour = solid => PALETTE[(solid - 1) % PALETTE.length];
@@ -419,7 +426,7 @@ gl_Position = vec4(2. * x / V.xy, -.7 * dot(S, mix(p, q, e.x)) - 1.5 * V.w / V.z
       gl.fills = program(FILL, FILL_END);
       gl.lines = program(LINE, LINE_END);
     }
-    const all = data.frames.flatMap((_, i) => Object.values(modelAt(i).vertices));
+    const all = data.frames.flatMap(frame => Object.values(frame.change.vertices).filter(point => point));
     points = [...new Map(all.map(point => [point.join(), point])).values()];
     ball = Picture.bounds(points);
     resize();

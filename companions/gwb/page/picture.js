@@ -8,8 +8,9 @@ const Picture = (() => {
   function changed(model, change) {
     const next = {};
     for (const kind of KINDS) {
-      next[kind] = Object.assign({}, model[kind]);
-      for (const [number, row] of Object.entries(change[kind] || {})) {
+      const rows = Object.entries(change[kind] || {});
+      next[kind] = rows.length || !model[kind] ? Object.assign({}, model[kind]) : model[kind];
+      for (const [number, row] of rows) {
         if (row === null) delete next[kind][number]; else next[kind][number] = row;
       }
     }
@@ -220,13 +221,14 @@ const Picture = (() => {
     const found = new Set(), means = {'': 'fev', '+': 'e', '-': 'e'};
     const loops = Object.values(model.faces).flatMap(([, rows]) => rows);
     for (const [, kind, number] of text.matchAll(/([fevsl@+-]?)(\d+)/g)) {
-      if (kind === 'l' || kind === '@') {
-        for (const [loop, halves, vertex] of loops) {
-          if (loop === +number) for (const half of halves) found.add('e' + Math.abs(half));
-          if (loop === +number && vertex) found.add('v' + vertex);
-        }
+      if (kind !== 'l' && kind !== '@') {
+        for (const one of kind in means ? means[kind] : kind) found.add(one + number);
+        continue;
       }
-      for (const one of kind in means ? means[kind] : kind) found.add(one + number);
+      for (const [, halves, vertex] of loops.filter(([loop]) => loop === +number)) {
+        for (const half of halves) found.add('e' + Math.abs(half));
+        if (vertex) found.add('v' + vertex);
+      }
     }
     return found;
   }
