@@ -44,7 +44,7 @@ function tried(page, task) {
   view.view.lift = Math.atan2(2, Math.sqrt(13));
   view.draw();
   const lines = task.edges.map(ends => ends.map(place)), points = task.points.map(place);
-  const clear = {f: s => lines.every(l => away(...l, s) > 10), v: s => points.filter(p => away(p, p, s) < 16).length === 1,
+  const clear = {f: s => lines.every(l => away(...l, s) > 7), v: s => points.filter(p => away(p, p, s) < 16).length === 1,
                  e: s => points.every(p => away(p, p, s) > 14) && lines.filter(l => away(...l, s) < 12).length === 1};
   const clicks = task.clicks.map(([kind, number, point]) => [kind, number, clear[kind](place(point)) ? click(page, view, place(point)) : null]);
   view.state.numbers = 1;
@@ -70,7 +70,7 @@ function tried(page, task) {
 }
 tasks.forEach((task, i) => {
   const frame = document.createElement('iframe');
-  frame.style.cssText = 'border:0;width:880px;height:600px;display:block';
+  frame.style.cssText = 'border:0;width:620px;height:470px;display:block';
   frame.srcdoc = task.page;
   frame.onload = () => {
     try { told[i] = tried(frame.contentWindow, task); } catch (error) { told[i] = {error: String(error)}; }
@@ -81,6 +81,12 @@ tasks.forEach((task, i) => {
 });
 document.body.append(document.getElementById('told'));
 </script>"""
+
+# Only the first pages are drawn by WebGL, which costs a software renderer much; the others are drawn as where there is none.
+WITH_WEBGL = 2
+WITHOUT_WEBGL = """<body><script>HTMLCanvasElement.prototype.getContext = (old => function (kind, more) {
+  return kind === 'webgl' ? null : old.call(this, kind, more);
+})(HTMLCanvasElement.prototype.getContext);</script>"""
 
 
 def data_of(page):
@@ -289,7 +295,7 @@ def pixels(data):
 class Browser(unittest.TestCase):
     """The page in Chromium: started once for all."""
 
-    NAMES = ('block_with_hole', 'glued_blocks', 'u_profile', 'tetrahedron', 'block_cut_diagonally', 'blocks_glued', 'cut_along_drawn_edges',
+    NAMES = ('block_with_hole', 'glued_blocks', 'u_profile', 'block_cut_diagonally', 'blocks_glued', 'cut_along_drawn_edges',
              'face_cut_at_four_places', 'split_block', 'split_through_a_hole', 'two_blocks_one_cut')
 
     @classmethod
@@ -297,29 +303,27 @@ class Browser(unittest.TestCase):
         chromium, models = browser(), stored_models()
         program()
         cls.models = [models[name] for name in cls.NAMES]
-        tasks = [task(model, page_of(model)) for model in cls.models]
-        plain = page_of(cls.models[0]).replace('<body>', "<body><script>HTMLCanvasElement.prototype.getContext = (old => function (kind, more) "
-                                               "{ return kind === 'webgl' ? null : old.call(this, kind, more); })"
-                                               '(HTMLCanvasElement.prototype.getContext);</script>')
-        tasks.append(task(cls.models[0], plain))
+        pages = [page_of(model) for model in cls.models]
+        tasks = [task(model, page if i < WITH_WEBGL else page.replace('<body>', WITHOUT_WEBGL))
+                 for i, (model, page) in enumerate(zip(cls.models, pages))]
         script = next(script for script in examples() if script.stem == 'block_with_hole')
         tasks.append({**tasks[0], 'page': page_of_steps(played(script.read_bytes()))})
         with tempfile.TemporaryDirectory() as folder:
             Path(folder, 'driver.html').write_text(DRIVER.replace('TASKS', json.dumps(tasks).replace('<', '\\u003c')))
             ended = subprocess.run(
                 [chromium, '--headless', '--no-sandbox', '--use-angle=swiftshader', '--enable-unsafe-swiftshader', '--disable-extensions',
-                 '--window-size=880,600', f'--user-data-dir={folder}/user', '--virtual-time-budget=1000', '--dump-dom',
+                 '--window-size=620,470', f'--user-data-dir={folder}/user', '--virtual-time-budget=300', '--dump-dom',
                  f'--screenshot={folder}/shot.png', f'file://{folder}/driver.html'],
                 check=False, stdout=subprocess.PIPE, stderr=subprocess.PIPE, timeout=100)
             cls.screenshot = Path(folder, 'shot.png').read_bytes()
         cls.told = json.loads(re.search(rb'<pre id="told">(.*?)</pre>', ended.stdout)[1].replace(b'&amp;', b'&').replace(b'&gt;', b'>'))
 
     def test_a_click_gives_the_right_number(self):
-        for name, told in zip((*self.NAMES, 'without WebGL', 'steps'), self.told):
+        for name, told in zip((*self.NAMES, 'steps'), self.told):
             with self.subTest(name):
                 tried = [click for click in told.get('clicks', ()) if click[2] is not None]
                 self.assertGreaterEqual(len(tried), 8, told)
-                self.assertLessEqual({'e', 'v'} if name == 'tetrahedron' else {'e', 'v', 'f'}, {kind for kind, _, _ in tried})
+                self.assertLessEqual({'e', 'v', 'f'}, {kind for kind, _, _ in tried})
                 for kind, number, text in tried:
                     copied = text.split('|')[0]
                     self.assertEqual(copied, f'+{number}' if kind == 'e' else str(number))
@@ -352,7 +356,7 @@ class Browser(unittest.TestCase):
 
     def test_the_screenshot_is_not_empty(self):
         width, lines = pixels(self.screenshot)
-        self.assertEqual(width, 880)
+        self.assertEqual(width, 620)
         self.assertGreater(len(set(lines)), 100)
         self.assertGreater(sum(len(set(line)) > 20 for line in lines), 100)
 

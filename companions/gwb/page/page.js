@@ -123,26 +123,33 @@ gl_Position = vec4(2. * x / V.xy, -.7 * dot(S, mix(p, q, e.x)) - 1.5 * V.w / V.z
   function drawFlat(flat) {
     flat.setTransform(front.width / view.width, 0, 0, front.height / view.height, 0, 0);
     flat.clearRect(0, 0, view.width, view.height);
-    const depths = new Map(screen.front.map(i => [i, scene.triangles[i].corners.reduce((sum, c) => sum + screen.spot(c)[2], 0)]));
-    for (const i of [...screen.front].sort((a, b) => depths.get(a) - depths.get(b))) {
+    const many = scene.edges.length > 2000, {on} = screen, depths = new Float64Array(scene.triangles.length), fronts = new Set();
+    for (const i of screen.front) {
+      for (const corner of scene.triangles[i].corners) depths[i] += on[3 * corner + 2];
+      fronts.add(scene.triangles[i].face);
+    }
+    for (const i of Int32Array.from(screen.front).sort((a, b) => depths[a] - depths[b])) {
       const t = scene.triangles[i], light = t.normal.reduce((sum, x, k) => sum + x * screen.basis.stand[k], 0);
       flat.fillStyle = flat.strokeStyle = css((isLit('f', t.face, t.solid) ? LIT : colour(t.solid)).map(x => x * (.6 + .4 * light)));
       flat.lineWidth = .7;
       flat.beginPath();
-      for (const c of t.corners) flat.lineTo(...screen.spot(c).slice(0, 2));
-      flat.closePath();
+      for (const c of t.corners) flat.lineTo(on[3 * c], on[3 * c + 1]);
       flat.fill();
-      flat.stroke();
+      if (!many) flat.stroke();
     }
+    const paths = {};
     for (const e of scene.edges) {
-      const lit = isLit('e', e.edge, e.solid), seen = scene.edges.length > 2000 || Picture.isSeen(scene, screen, screen.spot(e.middle));
-      if (!seen && !state.hidden && !lit) continue;
-      flat.strokeStyle = lit ? '#e04000' : seen ? '#1a2633' : '#1a263340';
-      flat.lineWidth = lit ? 3.5 : 1.5;
-      flat.beginPath();
-      flat.moveTo(...screen.spot(e.a).slice(0, 2));
-      flat.lineTo(...screen.spot(e.b).slice(0, 2));
-      flat.stroke();
+      const seen = many ? fronts.has(scene.sides[e.edge].face) || fronts.has(scene.sides[-e.edge].face)
+        : Picture.isSeen(scene, screen, screen.spot(e.middle));
+      const kind = isLit('e', e.edge, e.solid) ? 'lit' : seen ? 'seen' : 'hidden', path = paths[kind] = paths[kind] || new Path2D();
+      path.moveTo(on[3 * e.a], on[3 * e.a + 1]);
+      path.lineTo(on[3 * e.b], on[3 * e.b + 1]);
+    }
+    for (const [kind, ink, wide] of [['hidden', '#1a263340', 1.5], ['seen', '#1a2633', many ? .7 : 1.5], ['lit', '#e04000', 3.5]]) {
+      if (!paths[kind] || (kind === 'hidden' && !state.hidden)) continue;
+      flat.strokeStyle = ink;
+      flat.lineWidth = wide;
+      flat.stroke(paths[kind]);
     }
   }
 
