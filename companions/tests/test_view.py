@@ -46,7 +46,8 @@ function tried(page, task) {
   const lines = task.edges.map(ends => ends.map(place)), points = task.points.map(place);
   const clear = {f: s => lines.every(l => away(...l, s) > 7), v: s => points.filter(p => away(p, p, s) < 16).length === 1,
                  e: s => points.every(p => away(p, p, s) > 14) && lines.filter(l => away(...l, s) < 12).length === 1};
-  const clicks = task.clicks.map(([kind, number, point]) => [kind, number, clear[kind](place(point)) ? click(page, view, place(point)) : null]);
+  const clicks = task.clicks.map(([kind, number, point]) =>
+    [kind, number, clear[kind](place(point)) ? click(page, view, place(point)) : null]);
   view.state.numbers = 1;
   view.draw();
   const labels = view.state.labels.map(l => [l.x, l.y, l.wide, l.high]);
@@ -228,7 +229,8 @@ class Damaged(unittest.TestCase):
                 'cut in a line': whole[:-3], 'cut between lines': ''.join(lines[:-1]).encode(), 'bytes': bytes(range(256)),
                 'a byte above 127': whole + b'\xff\n', 'a line twice': ''.join(lines[:3] + lines[2:]).encode(),
                 'out of order': ''.join([lines[0], lines[2], lines[1], *lines[3:]]).encode(),
-                'a number too long': whole.replace(b'vertex 1 0', b'vertex 1 ' + b'9' * 400), 'letters': whole.replace(b'edge 1 ', b'edge x '),
+                'a number too long': whole.replace(b'vertex 1 0', b'vertex 1 ' + b'9' * 400),
+                'letters': whole.replace(b'edge 1 ', b'edge x '),
                 'a vertex that is not there': whole.replace(b'edge 1 1', b'edge 1 77'), 'a tail': whole + b'edge\n',
                 'zeros': b'\0' * 100, 'a half-edge twice': whole.replace(b'loop 1 +1', b'loop 1 +2')}.items():
             with self.subTest(name):
@@ -327,7 +329,7 @@ class Browser(unittest.TestCase):
                 for kind, number, text in tried:
                     copied = text.split('|')[0]
                     self.assertEqual(copied, f'+{number}' if kind == 'e' else str(number))
-                    self.assertIn({'f': 'face of solid', 'e': f'edge {number} of', 'v': 'vertex at'}[kind], text)
+                    self.assertIn({'f': 'face of solid', 'e': f'edge {number} of', 'v': 'vertex of solid'}[kind], text)
 
     def test_an_edge_offers_both_half_edges(self):
         for told in self.told:
@@ -344,7 +346,8 @@ class Browser(unittest.TestCase):
 
     def test_keys_play_a_script_back_and_on(self):
         self.assertEqual(self.told[-1]['steps'], [f'{line}\n{reply}' for line, reply in (
-            ('list', 'a listing of 63 lines'), ('volume 1', 'volume 1152'), ('count 1', 'count 16 24 10 2 0'), ('volume 1', 'volume 1152'))])
+            ('list', 'a listing of 63 lines'), ('volume 1', 'volume 1152'), ('count 1', 'count 16 24 10 2 0'),
+            ('volume 1', 'volume 1152'))])
 
     def test_a_list_of_numbers(self):
         wanted = {'f1', 'e7', 'e8', 'v3', 's2', *(f'e{abs(half)}' for half in self.models[0].loops[1].halves)}

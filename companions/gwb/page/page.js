@@ -134,6 +134,7 @@ gl_Position = vec4(2. * x / V.xy, -.7 * dot(S, mix(p, q, e.x)) - 1.5 * V.w / V.z
       flat.lineWidth = .7;
       flat.beginPath();
       for (const c of t.corners) flat.lineTo(on[3 * c], on[3 * c + 1]);
+      flat.closePath();
       flat.fill();
       if (!many) flat.stroke();
     }
@@ -228,7 +229,11 @@ gl_Position = vec4(2. * x / V.xy, -.7 * dot(S, mix(p, q, e.x)) - 1.5 * V.w / V.z
 
   // Lines about the thing that is picked: a word to copy or nothing, and a text.
   function about({kind, number}) {
-    if (kind === 'v') return [[String(number), `vertex at ${model.vertices[number].join(' ')}`]];
+    if (kind === 'v') {
+      const meets = ([, halves, lone]) => lone === number || halves.some(half => model.edges[Math.abs(half)].includes(number));
+      const [solid] = Object.values(model.faces).find(([, loops]) => loops.some(meets));
+      return [[String(number), `vertex of solid ${solid} at ${model.vertices[number].join(' ')}`]];
+    }
     if (kind === 'e') {
       const [a, b] = model.edges[number].map(v => model.vertices[v].join(' '));
       return [sideOf(number), sideOf(-number), ['', `edge ${number} of solid ${scene.sides[number].solid}, from ${a} to ${b}`]];
