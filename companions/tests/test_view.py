@@ -123,9 +123,11 @@ class Pages(unittest.TestCase):
             self.assertTrue(outcome.out.isascii())
 
     def test_the_triangles_have_the_area_of_their_face(self):
-        for name, model in stored_models().items():
+        ringed = {'plate': plate(4), 'lamina': lamina([(0, 0), (9, 0), (9, 9), (0, 9)], [(2, 2), (2, 4), (4, 2)])}
+        models = {**stored_models(), **{name: model_in(text) for name, text in ringed.items()}}
+        for name, model in models.items():
             for face, (_, _, _, flat, corners) in faces_of(page_of(model)).items():
-                if not flat or normal(model, face) == ZERO or name in CROSSED:
+                if not flat or normal(model, face) == ZERO:
                     continue
                 points = [model.vertices[vertex] for vertex in corners]
                 areas = [cross(subtract(b, a), subtract(c, a)) for a, b, c in zip(points[::3], points[1::3], points[2::3])]
@@ -171,10 +173,6 @@ class Pages(unittest.TestCase):
             plain = run('page', str(path)).out
             path.write_bytes(BLOCK.replace('\n', '\r\n').encode())
             self.assertEqual(run('page', str(path)).out, plain)
-
-
-# Models with a face whose loops cross, which has no area to cover.
-CROSSED = ('boundary_that_crosses_itself',)
 
 
 class Steps(unittest.TestCase):
