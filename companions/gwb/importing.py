@@ -5,7 +5,7 @@ import sys
 from fractions import Fraction
 from typing import Dict, Iterator, List, NamedTuple, Optional, Sequence, Tuple
 
-from .command_line import OK, read_bytes, run
+from .command_line import OK, add_version, read_bytes, run
 from .errors import Unfit
 from .inversion import script_of
 from .measures import six_volume, why_unfit
@@ -129,6 +129,7 @@ def _parser() -> argparse.ArgumentParser:
     parser.add_argument('--scale', type=_scale, default=Fraction(1), metavar='K', help='multiply coordinates, by 1000 or 1/2 say')
     parser.add_argument('--round', action='store_true', help='round coordinates, and say how far a point was moved at most')
     parser.add_argument('--keep-triangles', action='store_true', help="don't join faces of one plane")
+    add_version(parser)
     return parser
 
 

@@ -7,7 +7,7 @@ import sys
 from pathlib import Path
 from typing import Dict, Hashable, Iterable, Iterator, List, NamedTuple, Optional, Sequence
 
-from .command_line import OK, read_bytes, run
+from .command_line import OK, add_version, read_bytes, run
 from .errors import CompanionError, NotReplies, Unfit
 from .explain import meaning
 from .language import first_word, is_answered
@@ -199,6 +199,7 @@ def _parser() -> argparse.ArgumentParser:
                         help='replies of gwb with a listing, or with --steps a script (default: standard input)')
     parser.add_argument('--steps', action='store_true', help='run the script and show the model after each command')
     parser.add_argument('--solid', type=int, metavar='S', help='take solid S alone')
+    add_version(parser)
     return parser
 
 

@@ -27,13 +27,16 @@ class Outcome(NamedTuple):
     status: int
 
 
+MODULES = {'view': 'page', 'import': 'importing'}
+
+
 def run(companion: str, *words: str) -> Outcome:
     """Runs a companion on command line words within this process."""
     written, err = io.BytesIO(), io.StringIO()
     out = io.TextIOWrapper(written, encoding='utf-8', newline='')
     with redirect_stdout(out), redirect_stderr(err):
         try:
-            status = import_module(f'gwb.{companion}').main(list(words))
+            status = import_module(f'gwb.{MODULES.get(companion, companion)}').main(list(words))
         except SystemExit as end:
             status = end.code
     out.flush()

@@ -10,8 +10,8 @@ from support import COMPANIONS, examples, run
 
 from gwb.version import VERSION
 
-LISTING_PROGRAMS = ('check', 'mesh', 'step', 'svg')
-PROGRAMS = (*LISTING_PROGRAMS, 'explain')
+LISTING_PROGRAMS = ('check', 'mesh', 'script', 'step', 'svg')
+PROGRAMS = (*LISTING_PROGRAMS, 'explain', 'import', 'view')
 
 
 def started(name, *words, data=b'', **files):
