@@ -11,16 +11,19 @@ Numbers of new things may be given, by name, as the script language does; where 
 Methods are in four parts: commands (commands.py), selection (selection.py), features (features.py), and scripts and drawings here.
 """
 
-from importlib import import_module
+from html import escape
 from os import PathLike, fspath
 from pathlib import Path
-from typing import Any, Optional, Union
+from tempfile import NamedTemporaryFile
+from typing import Optional, Union
+from webbrowser import open as open_in_browser
 
 from .complaints import complaint
-from .errors import CompanionError
 from .features import Features
+from .inversion import script_of
 from .language import is_answered
 from .listing import read_model
+from .page import page_of
 from .replies import is_listed
 
 
@@ -49,11 +52,10 @@ class Workbench(Features):
         """A workbench that holds what the file says: a script, each of whose lines has to be accepted, or a listing."""
         data = Path(fspath(path)).read_bytes()
         first = next((line for line in data.split(b'\n') if line.strip()), b'').decode('ascii', 'replace')
-        script = _companion('inversion').script_of(read_model(data)) if is_listed(first) else data
-        lines = script.encode() if isinstance(script, str) else script
+        script = '\n'.join(script_of(read_model(data))).encode() if is_listed(first) else data
         bench = cls(program)
         try:
-            bench._take(lines)
+            bench._take(script)
         except BaseException:
             bench.close()
             raise
@@ -68,26 +70,23 @@ class Workbench(Features):
                 if reply.is_complaint:
                     raise complaint(words, reply)
 
-    def show(self) -> Any:
-        """The page of the model, to be turned and looked at."""
-        return _companion('page').page_of(self.listing())
+    def page(self) -> str:
+        """A page in HTML to turn the model and to pick from it, as `gwb-view` makes it."""
+        return page_of(self.listing())
 
-    def _repr_html_(self) -> Optional[str]:
-        """A notebook shows the page, where its companion is there."""
-        try:
-            page = self.show()
-        except CompanionError:
-            return None
-        return page if isinstance(page, str) else None
+    def show(self) -> Path:
+        """Writes the page to a file of its own and opens it in the browser, where there is one: the file's path."""
+        with NamedTemporaryFile('w', prefix='gwb-', suffix='.html', encoding='utf-8', delete=False) as file:
+            file.write(self.page())
+        path = Path(file.name)
+        open_in_browser(path.as_uri())
+        return path
+
+    def _repr_html_(self) -> str:
+        """A notebook shows the page, in a frame of its own."""
+        return f'<iframe srcdoc="{escape(self.page())}" width="100%" height="480"></iframe>'
 
     def _repr_svg_(self) -> Optional[str]:
         """A notebook draws the model."""
         return self.listing()._repr_svg_()
 
-
-def _companion(name: str) -> Any:
-    """A companion that not every installation has."""
-    try:
-        return import_module(f'gwb.{name}')
-    except ImportError:
-        raise CompanionError(f'this needs the companion gwb.{name}, which is not there') from None

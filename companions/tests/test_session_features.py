@@ -1,9 +1,12 @@
 """Features make what arithmetic says, pass gwb-check, undo in as many steps as they were made, or are refused with nothing changed."""
 
 import os
+import tempfile
 import unittest
 from importlib import util
+from pathlib import Path
 from random import Random
+from unittest import mock
 
 from support import TESTS, program
 
@@ -192,7 +195,6 @@ class Scripts(unittest.TestCase):
     """Scripts written and taken up again."""
 
     def test_save_and_load(self):
-        import tempfile
         with Workbench(program()) as bench, tempfile.TemporaryDirectory() as folder:
             block = bench.block((0, 0, 0), (9, 9, 9))
             bench.drill(block.top, (4, 4, 9), 2, 8)
@@ -203,6 +205,24 @@ class Scripts(unittest.TestCase):
                 self.assertEqual(again.listing(), bench.listing())
                 self.assertEqual(again.script(), bench.script())
                 self.assertEqual(again.block((40, 0, 0), (1, 1, 1))[1:], bench.block((40, 0, 0), (1, 1, 1))[1:])
+
+    def test_a_listing_is_taken_up_again(self):
+        with Workbench(program()) as bench, tempfile.TemporaryDirectory() as folder:
+            block = bench.block((0, 0, 0), (9, 9, 9))
+            bench.drill(block.top, (4, 4, 9), 2, 8)
+            Path(folder, 'replies').write_text('\n'.join(bench.ask('list').lines) + '\n')
+            with Workbench.load(f'{folder}/replies', program()) as again:
+                self.assertEqual(again.listing(), bench.listing())
+
+    def test_it_is_shown(self):
+        with Workbench(program()) as bench:
+            bench.block((0, 0, 0), (1, 1, 1))
+            with mock.patch('gwb.session.open_in_browser') as opened:
+                path = bench.show()
+            self.addCleanup(path.unlink)
+            opened.assert_called_once_with(path.as_uri())
+            self.assertEqual(path.read_text(), bench.page())
+            self.assertIn('&lt;!DOCTYPE html&gt;', bench._repr_html_())
 
     def test_it_draws_itself(self):
         with Workbench(program()) as bench:
