@@ -1,0 +1,54 @@
+# Installs gwb: the program, its man page, the companions, and the library where it is built. It proves and builds nothing of the kernel.
+#
+#   make install PREFIX=/usr/local           DESTDIR=.. is put before every place, as for a package
+#   make uninstall PREFIX=/usr/local         takes away what was installed
+#
+# PROGRAM and ARCHIVE say where the program and the library's archive are, if not where rt leaves them.
+PREFIX ?= /usr/local
+PROGRAM ?= crates/gwb/out/gwb
+ARCHIVE ?= crates/gwb_c/out/libgwb_c.a
+INSTALL ?= install
+
+BIN = $(DESTDIR)$(PREFIX)/bin
+MAN = $(DESTDIR)$(PREFIX)/share/man/man1
+SHARE = $(DESTDIR)$(PREFIX)/share/gwb
+COMPANIONS = $(notdir $(wildcard companions/gwb-*))
+
+.PHONY: help install uninstall install-program install-companions install-library
+help:
+	@echo 'make install PREFIX=/usr/local      installs the program, the library where it is built, the man page and the companions'
+	@echo 'make uninstall PREFIX=/usr/local    takes them away'
+	@echo '.ci/run                             proves, tests and builds everything'
+
+install: install-program install-companions install-library
+
+$(PROGRAM):
+	@echo '$(PROGRAM) is not built. One of these proves and builds it:'
+	@echo '    (cd crates/gwb && rt run) < examples/wire.gwb'
+	@echo '    .ci/run'
+	@echo 'A program that lies elsewhere: make install PROGRAM=..'
+	@false
+
+install-program: $(PROGRAM)
+	$(INSTALL) -D -m 755 $(PROGRAM) $(BIN)/gwb
+	$(INSTALL) -D -m 644 docs/gwb.1 $(MAN)/gwb.1
+
+# each companion is a link to the file that lies beside its package, which is how it finds it
+install-companions: $(PROGRAM)
+	cd companions && find gwb -type f -not -path '*/__pycache__/*' -exec $(INSTALL) -D -m 644 {} $(abspath $(SHARE))/companions/{} \;
+	$(INSTALL) -m 755 $(COMPANIONS:%=companions/%) $(SHARE)/companions
+	$(INSTALL) -d $(BIN)
+	for name in $(COMPANIONS); do ln -sf ../share/gwb/companions/$$name $(BIN)/$$name || exit 1; done
+
+install-library: $(PROGRAM)
+ifneq ($(wildcard $(ARCHIVE)),)
+	$(MAKE) -C bindings install ARCHIVE=$(abspath $(ARCHIVE)) PREFIX=$(PREFIX) DESTDIR=$(DESTDIR)
+else
+	@echo '$(ARCHIVE) is not built, so the library is left out; this proves and builds it:'
+	@echo '    (cd crates/gwb_c && rt lib)'
+endif
+
+uninstall:
+	rm -f $(BIN)/gwb $(COMPANIONS:%=$(BIN)/%) $(MAN)/gwb.1
+	rm -rf $(SHARE)
+	$(MAKE) -C bindings uninstall PREFIX=$(PREFIX) DESTDIR=$(DESTDIR)

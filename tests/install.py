@@ -1,0 +1,127 @@
+#!/usr/bin/env python3
+"""Installs the program, the man page, the companions and the library in a folder of its own, runs them there, and takes them away again.
+
+    tests/install.py [PROGRAM [ARCHIVE]]        PROGRAM is crates/gwb/out/gwb where none is given; without an ARCHIVE no library is installed
+
+Afterwards no file may be left in the folder. The last line counts.
+"""
+import os
+import subprocess
+import sys
+import tempfile
+from pathlib import Path
+from typing import Iterator, List, Optional, Sequence
+
+TOP = Path(__file__).resolve().parent.parent
+EXAMPLE = TOP / 'examples' / 'block_with_hole.gwb'
+COMPANIONS = sorted(path.name for path in (TOP / 'companions').glob('gwb-*'))
+LIBRARY = ['include/gwb.h', 'include/gwb.hpp', 'include/gwb_names.h', 'lib/libgwb.a', 'lib/libgwb.so', 'lib/pkgconfig/gwb.pc']
+VERSION = (TOP / 'VERSION').read_text().strip()
+
+
+class Installation:
+    """What `make install` leaves below a folder, where DESTDIR stands before PREFIX."""
+
+    def __init__(self, folder: Path, program: Path, archive: Optional[Path]) -> None:
+        self.stage, self.prefix = folder / 'stage', folder / 'prefix'
+        self.program, self.archive = program, archive
+        self._out = folder / 'out'
+        self._environment = {name: value for name, value in os.environ.items() if name not in ('GWB', 'PYTHONPATH', 'MAKEFLAGS')}
+        self._environment['PATH'] = f'{self.prefix / "bin"}:{os.environ["PATH"]}'
+
+    def make(self, goal: str, stage: Path = Path(), program: Optional[Path] = None) -> subprocess.CompletedProcess:
+        """Runs make for a goal. The archive is one that isn't there where none was given."""
+        archive = self.archive or self._out / 'no archive'
+        words = [f'PREFIX={self.prefix}', f'PROGRAM={program or self.program}', f'ARCHIVE={archive}', f'OUT={self._out}']
+        words += [f'DESTDIR={stage}'] if stage != Path() else []
+        return self.run(['make', '-s', '-C', str(TOP), goal, *words])
+
+    def run(self, words: Sequence[object], data: bytes = b'') -> subprocess.CompletedProcess:
+        """Runs a command with the installed ones before others on the path."""
+        return subprocess.run(list(map(str, words)), input=data, capture_output=True, timeout=120, env=self._environment, cwd=self.prefix.parent)
+
+    def command(self, name: str) -> Path:
+        """Where a command is installed."""
+        return self.prefix / 'bin' / name
+
+
+def files(folder: Path) -> List[str]:
+    """The files and links below a folder."""
+    return sorted(str(path.relative_to(folder)) for path in folder.rglob('*') if path.is_symlink() or not path.is_dir())
+
+
+def complaint(done: subprocess.CompletedProcess, told: bytes = b'', status: int = 0) -> str:
+    """What is wrong with how a command ended, or nothing; `told` has to be among what it wrote."""
+    written = done.stdout + done.stderr
+    if done.returncode == status and told in written:
+        return ''
+    return f'{" ".join(done.args)}: status {done.returncode}, {told!r} wanted: {written.decode("utf-8", "replace")[-600:]}'
+
+
+def installed(at: Installation) -> Iterator[str]:
+    """The files, and what the programs do."""
+    yield complaint(at.make('install'), b'' if at.archive else b'rt lib')
+    here = files(at.prefix)
+    wanted = ['bin/gwb', 'share/man/man1/gwb.1', *(f'bin/{name}' for name in COMPANIONS), *(LIBRARY if at.archive else [])]
+    yield '' if set(wanted) <= set(here) else f'not installed: {sorted(set(wanted) - set(here))}'
+    yield '' if not [name for name in here if '__pycache__' in name] else 'what Python compiled is installed'
+    ran = at.run([at.command('gwb'), EXAMPLE])
+    yield complaint(ran) or ('' if ran.stdout == EXAMPLE.with_suffix('.expected').read_bytes() else 'the installed gwb replies otherwise')
+    for name in COMPANIONS:
+        yield complaint(at.run([at.command(name), '--version']), f'{name} {VERSION}'.encode())
+    listed = ran.stdout if b'vertex' in ran.stdout else at.run([at.command('gwb')], EXAMPLE.read_bytes() + b'list\n').stdout
+    for name, told in (('gwb-svg', b'</svg>'), ('gwb-mesh', b'OFF'), ('gwb-view', b'</html>'), ('gwb-check', b'no findings')):
+        yield complaint(at.run([at.command(name)], listed), told)
+
+
+def library(at: Installation) -> Iterator[str]:
+    """A program in C that is compiled and linked by what pkg-config says."""
+    source = at.prefix.parent / 'try.c'
+    source.write_text('#include <gwb.h>\n#include <gwb_names.h>\nint main(void) { gwb g = {0}; if (!gwb_open(&g)) return 1; gwb_close(&g); return 0; }\n')
+    pkg_config = f'-I{at.prefix}/include -L{at.prefix}/lib -lgwb -Wl,-rpath,{at.prefix}/lib'.split()
+    yield complaint(at.run(['cc', source, '-o', at.prefix.parent / 'try', *pkg_config]))
+    yield complaint(at.run([at.prefix.parent / 'try']))
+    text = (at.prefix / 'lib' / 'pkgconfig' / 'gwb.pc').read_text()
+    yield '' if f'prefix={at.prefix}\n' in text and f'Version: {VERSION}\n' in text else f'gwb.pc says {text!r}'
+
+
+def taken_away(at: Installation) -> Iterator[str]:
+    """Nothing is left, also where the files stand in a stage, and links in it lead to files in it."""
+    yield complaint(at.make('uninstall'))
+    yield '' if not files(at.prefix) else f'left: {files(at.prefix)}'
+    yield '' if not (at.prefix / 'share' / 'gwb').exists() else 'the folder share/gwb is left'
+    yield complaint(at.make('install', at.stage))
+    broken = [name for name in files(at.stage) if not (at.stage / name).exists()]
+    yield '' if not broken and files(at.stage) and not files(at.prefix) else f'broken links in the stage: {broken}'
+    yield complaint(at.make('uninstall', at.stage))
+    yield '' if not files(at.stage) else f'left in the stage: {files(at.stage)}'
+
+
+def without_program(at: Installation) -> Iterator[str]:
+    """What isn't built is said, with what to run, and nothing is installed."""
+    yield complaint(at.make('install', program=at.prefix / 'no_program'), b'rt run', status=2)
+    yield '' if not files(at.prefix) else f'installed without a program: {files(at.prefix)}'
+
+
+def findings(program: Path, archive: Optional[Path]) -> Iterator[str]:
+    """For each try what is wrong, or nothing."""
+    with tempfile.TemporaryDirectory() as folder:
+        at = Installation(Path(folder), program, archive)
+        yield from without_program(at)
+        yield from installed(at)
+        if archive is not None:
+            yield from library(at)
+        yield from taken_away(at)
+
+
+def main() -> int:
+    paths = [Path(word).resolve() for word in sys.argv[1:3]]
+    program = paths[0] if paths else TOP / 'crates' / 'gwb' / 'out' / 'gwb'
+    found = list(findings(program, paths[1] if len(paths) > 1 else None))
+    wrong = [why for why in found if why]
+    print(*wrong, f'{len(found) - len(wrong)} passed, {len(wrong)} failed', sep='\n')
+    return 1 if wrong else 0
+
+
+if __name__ == '__main__':
+    sys.exit(main())

@@ -1,0 +1,154 @@
+#!/usr/bin/env python3
+"""The manual page docs/gwb.1 is made from VERSION, the help text of gwb (crates/gwb/src/words.rt) and docs/SCRIPT.md.
+
+    tests/pages.py [--write]
+
+Compares it with what is made from them, and lets mandoc look at it where that is installed; --write first makes it anew. The last line counts.
+"""
+import re
+import shutil
+import subprocess
+import sys
+import textwrap
+from pathlib import Path
+from typing import Dict, Iterator, List
+
+TOP = Path(__file__).resolve().parent.parent
+MANUAL = TOP / 'docs' / 'gwb.1'
+DATE = '2026-11-25'
+# The sections of the page, by the headings of docs/SCRIPT.md that they are made from.
+SECTIONS = {'Words': 'WORDS', 'Commands': 'COMMANDS', 'Fresh numbers': 'FRESH NUMBERS', 'Replies': 'REPLIES', 'Faults': 'FAULTS',
+            'Refusals': 'REFUSALS', 'Limits': 'LIMITS', 'Statuses': 'EXIT STATUS'}
+_MARKED = re.compile(r'`([^`]+)`|\*(\w[^*]*)\*|\[([^]]+)\]\([^)]*\)')
+# What ends a paragraph before a script, and paragraphs that are about the script alone.
+_LEAD = re.compile(r'\s*(?:From|In) (?:nothing|the \w+):$')
+_LEADING = re.compile(r':$|from nothing:')
+
+
+def plain(text: str) -> str:
+    """Text as roff takes it."""
+    for sign, escape in (('\\', '\\e'), ('~', '\\(ti'), ('^', '\\(ha'), ('-', '\\-')):
+        text = text.replace(sign, escape)
+    return text
+
+
+def inline(text: str) -> str:
+    """Text with code in bold and what is stressed in italics; a link is its words."""
+    pieces: List[str] = []
+    end = 0
+    for found in _MARKED.finditer(text):
+        code, stressed, link = found.groups()
+        marked = f'\\fB{plain(code)}\\fR' if code else f'\\fI{plain(stressed)}\\fR' if stressed else plain(link)
+        pieces += [plain(text[end:found.start()]), marked]
+        end = found.end()
+    return ''.join(pieces) + plain(text[end:])
+
+
+def filled(text: str) -> str:
+    """Text in lines of which none is a request."""
+    lines = textwrap.wrap(' '.join(text.split()), 78, break_long_words=False, break_on_hyphens=False)
+    return '\n'.join('\\&' + line if line.startswith(('.', "'")) else line for line in lines)
+
+
+def table(rows: List[str]) -> Iterator[str]:
+    """The rows of a table: the first cell stands before the others, each of which is named but the first of them."""
+    heads, _, *cells = [[cell.strip() for cell in row.strip('|').split(' | ')] for row in rows]
+    for first, *others in cells:
+        told = [inline(others[0]), *(f'{inline(head)}: {inline(cell)}' for head, cell in zip(heads[2:], others[1:]))]
+        yield from ('.TP', inline(first), filled('. '.join(told)))
+
+
+def paragraphs(section: str) -> Iterator[str]:
+    """The paragraphs, lists, tables and headings of a section in roff; its scripts and pictures are left out, and so is what leads to them."""
+    parts = re.split(r'\n{2,}', re.sub(r'^```.*?^```$', '![', section, flags=re.MULTILINE | re.DOTALL).strip())
+    for part, after in zip(parts, [*parts[1:], '']):
+        text = _LEAD.sub('', part)
+        if part.startswith('|'):
+            yield from table(part.split('\n'))
+        elif part.startswith('###'):
+            yield f'.SS {inline(part.lstrip("# "))}'
+        elif part.startswith('- '):
+            for item in re.split(r'^- ', part, flags=re.MULTILINE)[1:]:
+                yield from ('.IP \\(bu 2', filled(inline(item)))
+        elif text and not text.startswith(('![', '[MODEL.md]')) and not (after.startswith('![') and _LEADING.search(text)):
+            yield from ('.PP', filled(inline(text)))
+
+
+def sections() -> Dict[str, str]:
+    """The text of each section of docs/SCRIPT.md by its heading."""
+    _, *parts = re.split(r'^## ', (TOP / 'docs' / 'SCRIPT.md').read_text(), flags=re.MULTILINE)
+    return dict(part.split('\n', 1) for part in parts)
+
+
+def commands_alone(section: str) -> str:
+    """The section of commands without the models that its scripts begin with."""
+    lead, *commands = section.split('\n### ')
+    rules = [part for part in lead.split('\n\n') if part.startswith('For each command')]
+    return '\n\n'.join([*rules, *(f'### {command.replace(chr(10), chr(10) * 2, 1)}' for command in commands)])
+
+
+def options(source: str) -> Iterator[str]:
+    """The options, of which the help text says what they do."""
+    stop, file = re.findall(r'\.help\("(.*)"\)', source)
+    for words, told in (('--stop', stop), ('FILE', file), ('-h, --help', 'Print a summary of this page'), ('-V, --version', 'Print the version')):
+        yield from ('.TP', inline(f'`{words}`'), filled(f'{inline(told)}.'))
+
+
+def manual() -> str:
+    """The manual page."""
+    source = (TOP / 'crates' / 'gwb' / 'src' / 'words.rt').read_text()
+    about = re.search(r'ABOUT: &str =\s*"The Geometric WorkBench: (.*)";', source).group(1)
+    example = re.search(r'^Example:\n +(.*)";$', source, re.MULTILINE).group(1).replace('\\\\', '\\')
+    found = sections()
+    found['Commands'] = commands_alone(found['Commands'])
+    lines = [f'.TH GWB 1 "{DATE}" "gwb {(TOP / "VERSION").read_text().strip()}" "User Commands"',
+             '.\\" Made by tests/pages.py --write from the help text and docs/SCRIPT.md; edit nothing here.',
+             '.SH NAME', 'gwb \\- the Geometric WorkBench, a proved modeller of solids',
+             '.SH SYNOPSIS', '.B gwb', '[\\fB\\-\\-stop\\fR] [\\fIFILE\\fR]',
+             '.SH DESCRIPTION', filled(f'\\fBgwb\\fR {inline(about)}.'), *description(),
+             '.SH OPTIONS', *options(source)]
+    for heading, name in SECTIONS.items():
+        lines += [f'.SH {name}', *paragraphs(found[heading])]
+    beside = ', '.join(f'\\fB{plain(name)}\\fR' for name in companions())
+    lines += ['.SH EXAMPLES', '.EX', plain(example), '.EE', '.SH SEE ALSO',
+              filled(f'The companions, which read what gwb writes, and say with \\fB\\-\\-help\\fR what they do: {beside}.')]
+    return tidy(lines)
+
+
+def description() -> Iterator[str]:
+    """How lines are read: the paragraphs above the first section of docs/SCRIPT.md, but that of how the program is called."""
+    lead = (TOP / 'docs' / 'SCRIPT.md').read_text().split('\n## ')[0].split('\n', 1)[1]
+    kept = [part for part in lead.split('\n\n') if part.strip().startswith(('A script is', 'Words are'))]
+    return paragraphs('\n\n'.join(kept))
+
+
+def companions() -> List[str]:
+    """The names of the companions."""
+    return sorted(path.name for path in (TOP / 'companions').glob('gwb-*'))
+
+
+def tidy(lines: List[str]) -> str:
+    """The lines as a file; a heading needs no paragraph after it."""
+    kept = [text for before, text in zip(['', *lines], lines) if not (text == '.PP' and before.startswith(('.SH', '.SS')))]
+    return '\n'.join(text.rstrip() for text in kept) + '\n'
+
+
+def findings() -> Iterator[str]:
+    """For each comparison what is wrong, or nothing."""
+    yield '' if MANUAL.exists() and MANUAL.read_text() == manual() else 'docs/gwb.1 is not the one that --write makes'
+    for command in ([['mandoc', '-T', 'lint', '-W', 'warning', str(MANUAL)]] if shutil.which('mandoc') else []):
+        done = subprocess.run(command, capture_output=True, text=True)
+        yield '' if done.returncode == 0 else done.stdout.strip()
+
+
+def main() -> int:
+    if '--write' in sys.argv[1:]:
+        MANUAL.write_text(manual())
+    found = list(findings())
+    wrong = [why for why in found if why]
+    print(*wrong, f'{len(found) - len(wrong)} passed, {len(wrong)} failed', sep='\n')
+    return 1 if wrong else 0
+
+
+if __name__ == '__main__':
+    sys.exit(main())
