@@ -3,16 +3,16 @@
 import argparse
 import html
 import json
-import sys
 from pathlib import Path
 from typing import Dict, Hashable, Iterable, Iterator, List, NamedTuple, Optional, Sequence
 
 from .command_line import OK, add_version, read_bytes, run
 from .errors import CompanionError, NotReplies, Unfit
 from .explain import meaning
+from .inside_out import warn_of_inside_out
 from .language import first_word, is_answered
 from .listing import model_of, read_model
-from .measures import anchor, normal, off_plane, six_volume
+from .measures import anchor, normal, off_plane
 from .model import Model
 from .pipe import Pipe, find_program
 from .plane_figures import turn
@@ -183,13 +183,6 @@ def _require_script(data: bytes) -> None:
         raise CompanionError('these are replies of gwb, and --steps takes the script: leave it out to see their last listing')
 
 
-def _warn_of_inside_out(model: Model) -> None:
-    """Names on standard error each solid with negative volume."""
-    for solid in model.solids:
-        if six_volume(model, model.faces_of(solid)) < 0:
-            print(f'{PROGRAM}: warning: solid {solid} is inside out: its volume is negative', file=sys.stderr)
-
-
 def _parser() -> argparse.ArgumentParser:
     parser = argparse.ArgumentParser(
         prog=PROGRAM, description='Makes a page to look at a model and to pick from it, which stands alone: '
@@ -215,11 +208,11 @@ def work(words: Optional[Sequence[str]]) -> int:
     if options.steps:
         _require_script(data)
         steps = list(played(data))
-        _warn_of_inside_out(steps[-1].model)
+        warn_of_inside_out(PROGRAM, steps[-1].model)
         print(page_of_steps(steps, title), end='')
     else:
         model = _model_in(data, options.solid)
-        _warn_of_inside_out(model)
+        warn_of_inside_out(PROGRAM, model)
         print(page_of(model, title), end='')
     return OK
 

@@ -6,6 +6,7 @@ import sys
 from typing import Any, List, Optional, Sequence
 
 from .command_line import OK, listing_parser, read_bytes, run, wanted_model
+from .inside_out import warn_of_inside_out
 from .inversion import script_of
 from .listing import read_model
 from .model import Model
@@ -81,7 +82,10 @@ def _script(model: Model, options: argparse.Namespace) -> List[str]:
 def work(words: Optional[Sequence[str]]) -> int:
     """Reads a listing and writes its script."""
     options = _parser().parse_args(_with_times(sys.argv[1:] if words is None else words))
-    for line in _script(wanted_model(options), options):
+    model = wanted_model(options)
+    lines = _script(model, options)
+    warn_of_inside_out(PROGRAM, model)
+    for line in lines:
         print(line)
     return OK
 
