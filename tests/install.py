@@ -1,9 +1,9 @@
 #!/usr/bin/env python3
 """Installs the program, the man page, the companions and the library in a folder of its own, runs them there, and takes them away again.
 
-    tests/install.py [PROGRAM [ARCHIVE]]        PROGRAM is crates/gwb/out/gwb where none is given; without an ARCHIVE no library is installed
+    tests/install.py [PROGRAM [ARCHIVE]]        PROGRAM is crates/gwb/out/gwb where none is given
 
-Afterwards no file may be left in the folder. The last line counts.
+Without an ARCHIVE no library is installed. Afterwards no file may be left in the folder. The last line counts.
 """
 import os
 import subprocess
@@ -38,7 +38,8 @@ class Installation:
 
     def run(self, words: Sequence[object], data: bytes = b'') -> subprocess.CompletedProcess:
         """Runs a command with the installed ones before others on the path."""
-        return subprocess.run(list(map(str, words)), input=data, capture_output=True, timeout=120, env=self._environment, cwd=self.prefix.parent)
+        return subprocess.run(list(map(str, words)), input=data, capture_output=True, timeout=120, env=self._environment,
+                              cwd=self.prefix.parent)
 
     def command(self, name: str) -> Path:
         """Where a command is installed."""
@@ -77,9 +78,10 @@ def installed(at: Installation) -> Iterator[str]:
 def library(at: Installation) -> Iterator[str]:
     """A program in C that is compiled and linked by what pkg-config says."""
     source = at.prefix.parent / 'try.c'
-    source.write_text('#include <gwb.h>\n#include <gwb_names.h>\nint main(void) { gwb g = {0}; if (!gwb_open(&g)) return 1; gwb_close(&g); return 0; }\n')
-    pkg_config = f'-I{at.prefix}/include -L{at.prefix}/lib -lgwb -Wl,-rpath,{at.prefix}/lib'.split()
-    yield complaint(at.run(['cc', source, '-o', at.prefix.parent / 'try', *pkg_config]))
+    source.write_text('#include <gwb.h>\n#include <gwb_names.h>\n'
+                      'int main(void) { gwb g = {0}; if (!gwb_open(&g)) return 1; gwb_close(&g); return 0; }\n')
+    flags = f'-I{at.prefix}/include -L{at.prefix}/lib -lgwb -Wl,-rpath,{at.prefix}/lib'.split()
+    yield complaint(at.run(['cc', source, '-o', at.prefix.parent / 'try', *flags]))
     yield complaint(at.run([at.prefix.parent / 'try']))
     text = (at.prefix / 'lib' / 'pkgconfig' / 'gwb.pc').read_text()
     yield '' if f'prefix={at.prefix}\n' in text and f'Version: {VERSION}\n' in text else f'gwb.pc says {text!r}'

@@ -3,7 +3,8 @@
 
     tests/pages.py [--write]
 
-Compares it with what is made from them, and lets mandoc look at it where that is installed; --write first makes it anew. The last line counts.
+Compares it with what is made from them, and lets mandoc look at it where that is installed; --write first makes it anew. The last line
+counts.
 """
 import re
 import shutil
@@ -59,7 +60,7 @@ def table(rows: List[str]) -> Iterator[str]:
 
 
 def paragraphs(section: str) -> Iterator[str]:
-    """The paragraphs, lists, tables and headings of a section in roff; its scripts and pictures are left out, and so is what leads to them."""
+    """The paragraphs, lists, tables and headings of a section in roff, without its scripts and pictures and what leads to them."""
     parts = re.split(r'\n{2,}', re.sub(r'^```.*?^```$', '![', section, flags=re.MULTILINE | re.DOTALL).strip())
     for part, after in zip(parts, [*parts[1:], '']):
         text = _LEAD.sub('', part)
@@ -90,7 +91,8 @@ def commands_alone(section: str) -> str:
 def options(source: str) -> Iterator[str]:
     """The options, of which the help text says what they do."""
     stop, file = re.findall(r'\.help\("(.*)"\)', source)
-    for words, told in (('--stop', stop), ('FILE', file), ('-h, --help', 'Print a summary of this page'), ('-V, --version', 'Print the version')):
+    rest = (('-h, --help', 'Print a summary of this page'), ('-V, --version', 'Print the version'))
+    for words, told in (('--stop', stop), ('FILE', file), *rest):
         yield from ('.TP', inline(f'`{words}`'), filled(f'{inline(told)}.'))
 
 

@@ -11,7 +11,7 @@ from support import COMPANIONS, examples, run
 from gwb.version import VERSION
 
 LISTING_PROGRAMS = ('check', 'mesh', 'script', 'step', 'svg')
-PROGRAMS = (*LISTING_PROGRAMS, 'explain', 'import', 'view')
+PROGRAMS = (*LISTING_PROGRAMS, 'explain', 'import', 'shell', 'view')
 
 
 def started(name, *words, data=b'', **files):

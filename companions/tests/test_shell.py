@@ -1,0 +1,211 @@
+"""The prompt over gwb, through a terminal and through a pipe."""
+
+import os
+import pty
+import select
+import subprocess
+import sys
+import tempfile
+import time
+import unittest
+from pathlib import Path
+from unittest import mock
+
+from support import COMPANIONS, box, listing, model_in, program, run
+
+from gwb.language import COMMANDS
+from gwb.shell import choices, program_help
+
+BLOCK = model_in(listing(*box((0, 0, 0), (4, 4, 4))))
+TIME = 10
+
+
+class Terminal:
+    """A shell at a terminal of its own, and what was written there."""
+
+    def __init__(self, folder, *words):
+        environment = {**os.environ, 'GWB': program(), 'TERM': 'dumb', 'INPUTRC': '/dev/null', 'HOME': folder, 'COLUMNS': '200'}
+        environment.pop('GWB_HISTORY', None)
+        self._process, self._screen = pty.fork()
+        if self._process == 0:
+            os.execve(sys.executable, [sys.executable, str(COMPANIONS / 'gwb-shell'), *words], environment)
+        self._unread = ''
+
+    def read(self, end='gwb> ', wait=TIME):
+        """What is written up to and with these words."""
+        until = time.monotonic() + wait
+        while end not in self._unread:
+            if not select.select([self._screen], [], [], max(0, until - time.monotonic()))[0]:
+                raise AssertionError(f'{end!r} is awaited after {self._unread!r}')
+            self._unread += os.read(self._screen, 4096).decode().replace('\r\n', '\n')
+        before, _, self._unread = self._unread.partition(end)
+        return before + end
+
+    def type(self, keys):
+        """Types keys."""
+        os.write(self._screen, keys.encode())
+
+    def answer(self, line):
+        """What is written for a line, between it and the next prompt."""
+        self.type(line + '\n')
+        self.read('\n')
+        return self.read().removesuffix('gwb> ')
+
+    def interrupt(self):
+        """Types Ctrl-C until there is a new prompt: Python misses one that comes just as it begins to wait for a key."""
+        for _ in range(TIME):
+            time.sleep(0.1)
+            self.type('\x03')
+            try:
+                return self.read(wait=1)
+            except AssertionError:
+                pass
+        raise AssertionError(f'Ctrl-C gave no prompt: {self._unread!r}')
+
+    def end(self, keys):
+        """Ends it by these keys; the status."""
+        self.type(keys)
+        try:
+            while os.read(self._screen, 4096):
+                pass
+        except OSError:
+            pass
+        os.close(self._screen)
+        return os.waitstatus_to_exitcode(os.waitpid(self._process, 0)[1])
+
+
+class AtATerminal(unittest.TestCase):
+    """What a reader sees and types."""
+
+    def setUp(self):
+        program()
+        folder = tempfile.TemporaryDirectory()
+        self.addCleanup(folder.cleanup)
+        self.folder = folder.name
+
+    def test_replies_and_refusals(self):
+        terminal = Terminal(self.folder)
+        self.assertIn('help lists them', terminal.read())
+        self.assertEqual(terminal.answer('block 1 0 0 0 4 4 4'), 'ok\n')
+        self.assertEqual(terminal.answer('volume 1'), 'volume 384\n')
+        self.assertEqual(terminal.answer('kvfs 2'), 'refused 2 2: NoSolid: there is no solid 2\n')
+        self.assertEqual(terminal.answer('# a comment'), '')
+        self.assertEqual(terminal.answer(''), '')
+        self.assertEqual(terminal.answer('list').count('\n'), 1 + 6 + 6 + 12 + 8)
+        self.assertEqual(terminal.answer('undo all'), '1 undone\n')
+        self.assertEqual(terminal.answer('list'), 'empty\n')
+        self.assertEqual(terminal.answer('redo all'), '1 redone\n')
+        self.assertEqual(terminal.answer('undo all x'), "fault 4: ExtraWord: a word is left over\n")
+        self.assertIn('mev CORNER CORNER E V x y z', terminal.answer('help mev'))
+        self.assertEqual(terminal.end('quit\n'), 0)
+
+    def test_completion(self):
+        terminal = Terminal(self.folder)
+        terminal.read()
+        self.assertEqual(terminal.answer('bl\t1 0 0 0 4 4 4'), 'ok\n')
+        terminal.type('kev +1\t\t')
+        self.assertEqual(terminal.read().split()[-5:], ['+1', '+10', '+11', '+12', 'gwb>'])
+        self.assertEqual(terminal.answer('2'), 'ok\n')
+        terminal.type('kev +1\t\t')
+        self.assertEqual(terminal.read().split()[-4:], ['+1', '+10', '+11', 'gwb>'])
+        self.assertEqual(terminal.end('\x15\x04'), 0)
+
+    def test_a_free_number_for_what_is_new(self):
+        terminal = Terminal(self.folder)
+        terminal.read()
+        terminal.answer('block 7 0 0 0 4 4 4')
+        self.assertEqual(terminal.answer('mvfs \t\t\t\t0 0 0'), 'ok\n')
+        self.assertIn('solid 8\n', terminal.answer('list'))
+        self.assertEqual(terminal.end('quit\n'), 0)
+
+    def test_the_history_of_a_session_before(self):
+        first = Terminal(self.folder)
+        first.read()
+        first.answer('block 1 0 0 0 4 4 4')
+        self.assertEqual(first.end('\x04'), 0)
+        second = Terminal(self.folder)
+        second.read()
+        self.assertEqual(second.answer('\x10'), 'ok\n')
+        self.assertEqual(second.answer('volume 1'), 'volume 384\n')
+        self.assertEqual(second.end('quit\n'), 0)
+
+    def test_a_line_is_given_up_by_control_c(self):
+        terminal = Terminal(self.folder)
+        terminal.read()
+        terminal.answer('block 1 0 0 0 4 4 4')
+        terminal.type('kvfs')
+        terminal.read('kvfs')
+        terminal.interrupt()
+        self.assertEqual(terminal.answer('volume 1'), 'volume 384\n')
+        self.assertEqual(terminal.end('quit\n'), 0)
+
+    def test_a_script_first(self):
+        script = Path(self.folder, 'part.gwb')
+        script.write_text('block 1 0 0 0 4 4 4\nkvfs 1\nlist\n')
+        terminal = Terminal(self.folder, str(script))
+        self.assertIn(f'{script}:2: kvfs 1: refused 12 1: NotBare: ', terminal.read('1 complaint\n'))
+        terminal.read()
+        self.assertEqual(terminal.answer('volume 1'), 'volume 384\n')
+        self.assertEqual(terminal.end('quit\n'), 0)
+
+
+def piped(data, gwb=None):
+    """What the shell makes of bytes on standard input."""
+    environment = {**os.environ, 'GWB': gwb or program()}
+    return subprocess.run([COMPANIONS / 'gwb-shell'], input=data, capture_output=True, env=environment, timeout=TIME)
+
+
+class ThroughAPipe(unittest.TestCase):
+    """No prompt, and a status."""
+
+    def test_what_is_written(self):
+        done = piped(b'block 1 0 0 0 4 4 4\nvolume 1\nundo all\n')
+        self.assertEqual((done.stdout, done.stderr, done.returncode), (b'ok\nvolume 384\n1 undone\n', b'', 0))
+
+    def test_complaints(self):
+        done = piped(b'\xff\x00\nundo\nquit\nlist\n')
+        self.assertEqual(done.stdout.splitlines(), [b'fault 5: NotAscii: the line has a byte above 127',
+                                                    b'refused 25 0: NothingToUndo: there is nothing to undo'])
+        self.assertEqual((done.stderr, done.returncode), (b'', 1))
+
+    def test_no_program(self):
+        for gwb in ('/nowhere/gwb', '/etc/passwd', '/nowhere/libgwb.so'):
+            done = piped(b'list\n', gwb)
+            self.assertEqual((done.stdout, done.stderr.count(b'\n'), done.returncode), (b'', 1, 3))
+            self.assertIn(b'gwb-shell: ', done.stderr)
+
+    def test_words(self):
+        self.assertEqual(run('shell', '--nothing').status, 2)
+        with mock.patch.dict(os.environ, GWB=program()):
+            outcome = run('shell', '/nowhere/part.gwb')
+        self.assertEqual((outcome.status, outcome.err), (3, 'gwb-shell: /nowhere/part.gwb: No such file or directory\n'))
+
+
+class Choices(unittest.TestCase):
+    """What can stand at each place."""
+
+    def test_the_help_has_every_command(self):
+        self.assertEqual(sorted(program_help(program()).rows), sorted(COMMANDS))
+
+    def test_every_place(self):
+        rows = program_help(program()).rows
+        halves = [f'{sign}{edge}' for edge in range(1, 13) for sign in '+-']
+        solids, faces, loops = ['1'], list(map(str, range(1, 7))), list(map(str, range(1, 7)))
+        wanted = {
+            'mvfs': [['2'], ['7'], ['7'], ['9'], []], 'kvfs': [solids, []], 'mev': [halves, halves, ['13'], ['9'], []], 'kev': [halves, []],
+            'mef': [halves, halves, ['13'], ['7'], ['7'], []], 'kef': [halves], 'kemr': [halves, ['7']], 'mekr': [halves, halves, ['13']],
+            'kfmrh': [faces, faces, []], 'mfkrh': [loops, ['7']], 'ringmv': [loops, faces, ['in', 'out'], []], 'lamina': [['2'], []],
+            'block': [['2'], []], 'sweep': [faces, []], 'glue': [faces, faces], 'split': [solids, [], [], [], [], ['2'], []],
+            'plane': [faces], 'volume': [solids], 'count': [solids], 'undo': [[]], 'redo': [[]], 'list': [[]]}
+        self.assertEqual(sorted(wanted), sorted(COMMANDS))
+        for word, places in wanted.items():
+            self.assertEqual([choices(rows[word], place, BLOCK) for place in range(1, len(places) + 1)], places, word)
+
+    def test_lone_loops(self):
+        lone = model_in('solid 1\nface 1 1 3\nloop 3 at 1\nvertex 1 0 0 0\n')
+        self.assertEqual(choices(program_help(program()).rows['mev'], 2, lone), ['@3'])
+        self.assertEqual(choices(program_help(program()).rows['kev'], 1, lone), [])
+
+
+if __name__ == '__main__':
+    unittest.main()
