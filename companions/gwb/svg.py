@@ -1,7 +1,8 @@
-"""Draws a listing: visible edges black, hidden ones thin and dashed, seams between faces of one plane grey."""
+"""Draws a listing: visible edges black, or each solid of several in its colour; hidden ones thin and dashed, seams within a plane grey."""
 
 import sys
 from argparse import ArgumentTypeError
+from itertools import cycle
 from typing import Dict, Iterator, List, NamedTuple, Optional, Sequence, Tuple
 
 from .command_line import OK, listing_parser, run, filled_model
@@ -21,6 +22,8 @@ PROGRAM = 'gwb-svg'
 SIZE, SIZES = 600, range(100, 10_001)
 _MARGIN = 30
 _KINDS = ('face', 'vertex', 'edge')
+# The colours of several solids, in turn: blue, orange, green, red, violet, teal, ochre, grey.
+_COLOURS = ('#1b5fa8', '#c4690a', '#2f8a2c', '#b0304a', '#6a4fb0', '#1d8787', '#8a7a12', '#606060')
 _STYLE = """<style>
 line { stroke-linecap: round }
 .visible { stroke: #000; stroke-width: 2 }
@@ -68,6 +71,7 @@ class _Drawing:
         self._touched = touched_edges(model)
         self._normals = {face: normal(model, face) for face in model.faces}
         self._pieces = {edge: self._scene.pieces(edge) for edge in model.edges}
+        self._colours = dict(zip(model.solids, cycle(_COLOURS))) if len(model.solids) > 1 else {}
 
     def lines(self, names: Sequence[Label], hidden: bool) -> Iterator[str]:
         """The drawing, line by line."""
@@ -77,21 +81,36 @@ class _Drawing:
         yield '<rect width="100%" height="100%" fill="#fff"/>'
         yield from self._edges(['hidden', 'seam', 'visible'] if hidden else ['seam', 'visible'])
         yield from self._lone_vertices()
+        yield from self._legend()
         for label in names:
             yield f'<text class="{label.kind}" x="{label.x:.1f}" y="{label.y:.1f}">{label.number}</text>'
         yield '</svg>'
 
     def _edges(self, classes: Sequence[str]) -> Iterator[str]:
-        drawn: Dict[str, List[str]] = {name: [] for name in ('hidden', 'seam', 'visible')}
+        drawn: Dict[str, Dict[str, List[str]]] = {name: {} for name in ('hidden', 'seam', 'visible')}
         for edge, pieces in self._pieces.items():
             seen = 'seam' if self._is_seam(edge) else 'visible'
             for piece in pieces:
-                drawn['hidden' if piece.hidden else seen].append(self._line(edge, piece))
+                name = 'hidden' if piece.hidden else seen
+                drawn[name].setdefault(self._ink(name, edge), []).append(self._line(edge, piece))
         for name in classes:
-            if drawn[name]:
-                yield f'<g class="{name}">'
-                yield from drawn[name]
+            for ink, lines in drawn[name].items():
+                yield f'<g class="{name}"{ink}>'
+                yield from lines
                 yield '</g>'
+
+    def _ink(self, name: str, edge: int) -> str:
+        """What brings the colour of the edge's solid to its group, where there are several."""
+        colour = self._colours.get(self._model.faces[self._model.face_of(edge)].solid)
+        if colour is None or name == 'seam':
+            return ''
+        return f' style="stroke: {colour}{"; opacity: 0.6" if name == "hidden" else ""}"'
+
+    def _legend(self) -> Iterator[str]:
+        """The numbers of several solids in their colours, unless a colour is there twice."""
+        if 1 < len(self._colours) <= len(_COLOURS):
+            numbers = ' '.join(f'<tspan style="fill: {colour}">{solid}</tspan>' for solid, colour in self._colours.items())
+            yield f'<text x="6" y="16" style="text-anchor: start">solids {numbers}</text>'
 
     def _is_seam(self, edge: int) -> bool:
         """Whether the edge lies within a plane: between two faces that look the same way, or within one face."""
@@ -107,10 +126,13 @@ class _Drawing:
         return self._frame.place(ax + way * (bx - ax), ay + way * (by - ay))
 
     def _lone_vertices(self) -> Iterator[str]:
-        for loop in self._model.loops.values():
-            if loop.vertex is not None:
-                x, y = self._frame.place(*self._scene.spots[loop.vertex])
-                yield f'<circle cx="{x:.2f}" cy="{y:.2f}" r="3"/>'
+        for face in self._model.faces.values():
+            colour = self._colours.get(face.solid)
+            fill = '' if colour is None else f' style="fill: {colour}"'
+            for vertex in (self._model.loops[loop].vertex for loop in face.loops):
+                if vertex is not None:
+                    x, y = self._frame.place(*self._scene.spots[vertex])
+                    yield f'<circle cx="{x:.2f}" cy="{y:.2f}" r="3"{fill}/>'
 
     def names(self) -> Placed:
         """The numbers that have room: those that the viewer sees before the others, faces before vertices and edges."""
@@ -203,8 +225,8 @@ def _size(word: str) -> int:
 
 def work(words: Optional[Sequence[str]]) -> int:
     """Reads a listing and draws it."""
-    parser = listing_parser(PROGRAM, 'Draws a listing of gwb as SVG: visible edges black, hidden ones thin and dashed (found '
-                                     'exactly), seams between faces of one plane grey.')
+    parser = listing_parser(PROGRAM, 'Draws a listing of gwb as SVG: visible edges black, or each solid of several in its colour; '
+                                     'hidden ones thin and dashed (found exactly), seams between faces of one plane grey.')
     parser.add_argument('--view', nargs=3, type=_view_step, default=(2, -3, 2), metavar=('X', 'Y', 'Z'),
                         help='the viewer stands in this direction, z is up (default: 2 -3 2)')
     parser.add_argument('--names', action='store_true',

@@ -18,8 +18,10 @@ STAND = (2, -3, 2)
 
 def counted(picture):
     """How many lines of each class the picture has."""
-    groups = re.findall(r'<g class="(\w+)">\n((?:<line .*\n)*)</g>', picture)
-    return {name: lines.count('<line') for name, lines in groups}
+    counts = {}
+    for name, lines in re.findall(r'<g class="(\w+)".*>\n((?:<line .*\n)*)</g>', picture):
+        counts[name] = counts.get(name, 0) + lines.count('<line')
+    return counts
 
 
 def names(picture):
@@ -87,6 +89,42 @@ class Blocks(unittest.TestCase):
     def test_a_plate_with_64_holes(self):
         lines = counted(svg_text(model_in(plate(8)), (0, 0, 1)))
         self.assertEqual(lines, {'visible': 4 + 4 + 2 * 4 * 64})
+
+
+class Solids(unittest.TestCase):
+    """Several solids are told apart."""
+
+    def several(self, count):
+        points, solids = [], []
+        for place in range(count):
+            more, faces = box((3 * place, 0, 0), (3 * place + 2, 2, 2), len(points) + 1)
+            points += more
+            solids.append(faces)
+        return svg_text(model_in(listing(points, *solids)), STAND)
+
+    def colours(self, drawn, name):
+        return re.findall(rf'<g class="{name}" style="stroke: (#\w+)', drawn)
+
+    def test_one_has_no_colour(self):
+        self.assertNotIn('style="', self.several(1))
+        self.assertNotIn('solids', self.several(1))
+
+    def test_each_has_its_colour(self):
+        for count in (2, 3, 8):
+            drawn = self.several(count)
+            self.assertEqual(len(set(self.colours(drawn, 'visible'))), count)
+            self.assertEqual(set(self.colours(drawn, 'hidden')), set(self.colours(drawn, 'visible')))
+            legend = re.findall(r'<tspan style="fill: (#\w+)">(\d+)</tspan>', drawn)
+            self.assertEqual([int(solid) for _, solid in legend], list(range(1, count + 1)))
+            self.assertEqual([colour for colour, _ in legend], self.colours(drawn, 'visible'))
+
+    def test_colours_that_are_there_twice_are_not_explained(self):
+        self.assertNotIn('solids', self.several(9))
+        self.assertGreater(counted(self.several(9))['visible'], 9)
+
+    def test_a_lone_vertex(self):
+        text = 'solid 1\nsolid 2\nface 1 1 1\nface 2 2 2\nloop 1 at 1\nloop 2 at 2\nvertex 1 0 0 0\nvertex 2 5 0 0\n'
+        self.assertEqual(len(set(re.findall(r'<circle .* style="fill: (#\w+)"', svg_text(model_in(text), STAND)))), 2)
 
 
 class Names(unittest.TestCase):
