@@ -4,8 +4,10 @@ import argparse
 from typing import Iterator, List, NamedTuple, Optional, Sequence
 
 from .command_line import FOUND, OK, add_version, read_bytes, run
-from .errors import CompanionError, NotReplies
+from .errors import CompanionError, NotAListing, NotReplies
+from .inside_out import warn_of_inside_out
 from .language import FAULTS, first_word, is_answered, refusal
+from .listing import model_of
 from .replies import Reply, shortened, split_replies
 
 PROGRAM = 'gwb-explain'
@@ -98,6 +100,18 @@ def _beside(answered: Answered) -> List[str]:
     return list(reply.lines)
 
 
+def _warn_of_inside_out(joined: Sequence[Answered]) -> None:
+    """Names the solids that are inside out in the last listing, where there is one."""
+    listing = next((answered.reply for answered in reversed(joined) if answered.reply is not None and answered.reply.is_listing), None)
+    if listing is None:
+        return
+    try:
+        model = model_of(listing)
+    except NotAListing as error:
+        raise NotReplies(f'the last listing is no model: {error}') from None
+    warn_of_inside_out(PROGRAM, model)
+
+
 def _parser() -> argparse.ArgumentParser:
     parser = argparse.ArgumentParser(
         prog=PROGRAM, description='Says in words what gwb complained about: gwb part.gwb | gwb-explain part.gwb',
@@ -117,6 +131,7 @@ def work(words: Optional[Sequence[str]]) -> int:
         raise CompanionError("the script and the replies can't both come from standard input")
     joined = join(read_bytes(options.script), split_replies(read_bytes(options.replies)))
     name = options.script.encode('utf-8', 'backslashreplace').decode('utf-8')
+    _warn_of_inside_out(joined)
     for line in annotated(joined) if options.annotate else complaints(name, joined):
         print(line)
     return FOUND if any(answered.reply is not None and answered.reply.is_complaint for answered in joined) else OK

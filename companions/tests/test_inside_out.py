@@ -39,6 +39,17 @@ class InsideOut(unittest.TestCase):
                 path.write_text(BOTH_WELL)
                 self.assertEqual(run(module, str(path)).err, '')
 
+    def test_where_a_script_lists_it(self):
+        with tempfile.TemporaryDirectory() as folder:
+            script, replies = Path(folder, 'script'), Path(folder, 'replies')
+            script.write_text('list\nundo\nlist\n')
+            for first, last, said in ((BOTH_WELL, SECOND_TURNED, f'gwb-explain: {WARNING}'), (SECOND_TURNED, BOTH_WELL, '')):
+                replies.write_text(f'{first}ok\n{last}')
+                self.assertEqual(run('explain', str(script), str(replies)), ('0 complaints\n', said, 0))
+            replies.write_text(f'{BOTH_WELL}ok\n{BOTH_WELL.replace("edge 1 ", "edge 99 ")}')
+            broken = run('explain', str(script), str(replies))
+            self.assertEqual((broken.out, broken.err.count('\n'), broken.status), ('', 1, 3))
+
     def test_step_refuses_it_by_name(self):
         with tempfile.TemporaryDirectory() as folder:
             path = Path(folder, 'replies')
