@@ -1,8 +1,25 @@
-//! What holds of the workbench, in one file. Each function has a promise as its contract. It does nothing but call the laws that it
-//! sums up, which do nothing either: what they say is proved in the crates where they stand, over every machine, every sound model and
-//! every list of calls. The last one, `every_line_is_answered`, is no law: it runs a script.
+//! What holds of the workbench, in one file. Each function has a promise as its contract. The laws do nothing but call those that they
+//! sum up, which do nothing either: what they say is proved in the crates where they stand, over every machine, every sound model and
+//! every list of calls. The calls do nothing but make the call of that meaning. The first has the headline, the last runs a script.
+//!
+//! What isn't said here:
+//! - `check`, `apply` and `replay` on an arena: `euler_conditions/src/every.rt`, `low_euler/src/applying.rt`;
+//! - an arena copied, read and dropped, raw rings and what frees their nodes: `halfedge_arena/src/arena.rt`, `raw_ring/src`;
+//! - normals, planes, flat faces and counts: `solid_measure/src/measures.rt`, `solid_measure/src/solid_counts.rt`;
+//! - points, sides of a plane and cut points: `lattice/src`;
+//! - the faces of new solids, and which are kept: `command_laws/src/lib.rt`;
+//! - the grammar, the command line and the exit status: `script_reader/src/line.rt`, `gwb/src`.
 #![tactic(auto)]
 
+ghost use Rattle.std.specs.Prelude.{◌≡◌, ◌↔◌, ◌+◌, ◌<◌, OnOk, OnErr, IfOk, IfErr, None, Some, Err, slice_index_or};
+ghost use Rattle.call_lists.specs.Conditions.{first_false, verdict};
+ghost use Rattle.call_lists.specs.Histories.{IsConsistent};
+ghost use Rattle.call_lists.specs.Journal.{after_act, after_undo, after_redo, new_draft, after_step, after_commit};
+ghost use Rattle.call_lists.specs.Laws.{ListsAreHistories, ListsKeepConsistent, PlacesAreCounted, UndosLeadToTheFirst, RedosLeadToTheLast};
+ghost use Rattle.call_lists.specs.Making.{AreTold, Makes, StaysUnlessDone};
+ghost use Rattle.call_lists.specs.Measure.{answer, six_volume, solid_refusal};
+ghost use Rattle.call_lists.specs.PlainMachine.{held, depth, ahead, act_refusal, undo_refusal, redo_refusal};
+ghost use Rattle.call_lists.specs.Recorded.{model_at};
 ghost use Rattle.promises.specs.Splices.{SplicesCut, SplicesJoin, SplicesKeepOthers};
 ghost use Rattle.script_running.specs.Laws.{OneOutput, HasNoMemory};
 ghost use Rattle.script_running.specs.Runs.{Runs};
@@ -13,7 +30,7 @@ ghost use Rattle.script_running.specs.laws_below.GlueMeasures.{GluedSolid, Other
 ghost use Rattle.script_running.specs.laws_below.GlueVolumes.{GlueAdds, OthersStay};
 ghost use Rattle.script_running.specs.laws_below.JournalLaws.{HeldIsAtThePlace, AcceptedIsAppended, UndoMovesThePlace, RedoMovesThePlace, UndoGivesTheModelBefore, LargerCommandsAreCalls, HistoriesAreConsistent};
 ghost use Rattle.script_running.specs.laws_below.LaminaLaws.{OperatorsAreAccepted, OperatorsMakeLamina, LaminaIsSound};
-ghost use Rattle.script_running.specs.laws_below.OperatorLaws.{NothingIsRefusedWhereAllHold, RefusalsNameTheFirstFalse, EmptyIsSound, EffectsAreSound, EulerNumberGrows, InversesAreAccepted, InversesUndo, RunsAreSound, InversesOfRunsAreAccepted, InversesOfRunsUndo};
+ghost use Rattle.script_running.specs.laws_below.OperatorLaws.{effects, AreAccepted, NothingIsRefusedWhereAllHold, RefusalsNameTheFirstFalse, EmptyIsSound, EffectsAreSound, EulerNumberGrows, InversesAreAccepted, InversesUndo, RunsAreSound, InversesOfRunsAreAccepted, InversesOfRunsUndo};
 ghost use Rattle.script_running.specs.laws_below.PartLaws.{PartsAreSolids, SplitsShareVolumes, SplitsKeepOthers, VerticesLieOnEitherSide};
 ghost use Rattle.script_running.specs.laws_below.SplitCalls.{SplitsAreCalls};
 ghost use Rattle.script_running.specs.laws_below.SplitHeld.{SplitsAreHeld, HeldAreSound, PartsAreHeld, HeldShareVolumes, HeldKeepOthers, HeldLieOnEitherSide};
@@ -23,9 +40,136 @@ ghost use Rattle.script_running.specs.laws_below.SweepLaws.{SweepsAreAccepted, S
 ghost use Rattle.script_running.specs.laws_below.SweepMeasures.{SweptSolid, OthersThanSwept, NewBlock, OthersThanBlock, NewLamina, NewFlatLamina, OthersThanLamina};
 ghost use Rattle.script_running.specs.laws_below.Telling.{ListingTells};
 
+use call_lists::{
+    Call, Draft, Failure, Op, Record, Refusal, Session, Told, lists_are_histories, make, make_all,
+    six_volume, undos_and_redos_lead_to_the_ends,
+};
 use script_running::{RunFault, Summary, laws_below, one_output, run};
-use std::alloc::Global;
+use std::alloc::{AllocError, Global};
 use std::io::{Read, Write};
+
+/// After any list of commands, undos and redos the workbench holds, with equal numbers, coordinates and cyclic loops, the model of a plain
+/// machine that keeps a whole copy of every model. Undoing gives the model before and redoing the model after. A refused command names its
+/// first false condition, or refused memory, and changes nothing. Every model held is sound.
+///
+/// `told` gets one answer a call, and room for all is made first: on `AllocError` no call was made.
+pub fn every_list_of_calls_is_answered(
+    alloc: Global,
+    session: Session,
+    calls: Vec<Call>,
+    told: &mut Vec<Told>,
+) -> (Session, Result<(), AllocError>)
+    ensures made { OnOk result.1 (AreTold session.machine calls.items told.old.items told.new.items result.0.machine) }
+    ensures err { OnErr result.1 ((result.0 ≡ session) × (told.new.items ≡ told.old.items)) }
+    ensures consistent { IsConsistent result.0.machine }
+{
+    make_all(alloc, session, calls, told)
+}
+
+/// After any such list as many commands can be undone as were accepted and not taken back, and as many redone as were taken back since the
+/// last accepted one: both are counted from the calls and their answers alone. So many undos give the empty model, and so many redos
+/// the last one. The list is a history of as many calls, and the machine after it is consistent.
+pub fn lists_of_calls_are_taken_back()
+    ensures counted { PlacesAreCounted }
+    ensures undos { UndosLeadToTheFirst }
+    ensures redos { RedosLeadToTheLast }
+    ensures histories { ListsAreHistories }
+    ensures consistent { ListsKeepConsistent }
+{
+    undos_and_redos_lead_to_the_ends();
+    lists_are_histories();
+}
+
+/// So it is of one call: an operator, a lamina, a block, a sweep, a glue, a split, a draft committed or abandoned, undo or redo. A call that
+/// isn't told `Done` leaves the session as it was, its records too.
+pub fn every_call_is_answered(alloc: Global, session: Session, call: Call) -> (Session, Told)
+    ensures made { Makes session.machine call result.1 result.0.machine }
+    ensures kept { StaysUnlessDone result.1 session result.0 }
+    ensures consistent { IsConsistent result.0.machine }
+{
+    make(alloc, session, call)
+}
+
+/// An operator is accepted, and leaves a record of itself and its inverse, or it is refused: then exactly with the first condition that is
+/// false. What isn't accepted changes nothing.
+pub fn every_operator_is_answered(session: &mut Session, op: Op) -> Result<(), Failure>
+    ensures ok { OnOk result ((act_refusal session.old.machine op ≡ None) × (session.new ≡ after_act session.old op)) }
+    ensures refused { (refusal : Refusal) → ((result ≡ Err (Failure.Refused refusal)) ↔ (act_refusal session.old.machine op ≡ Some refusal)) }
+    ensures err { OnErr result (session.new ≡ session.old) }
+{
+    session.act(op)
+}
+
+/// Undo is refused only where no command is left to undo, never for want of memory, and changes nothing then. All records stay.
+pub fn every_undo_is_answered(session: &mut Session) -> Result<(), Refusal>
+    ensures ok { OnOk result (session.new ≡ after_undo session.old) }
+    ensures refused { result ≡ verdict (undo_refusal session.old.machine) }
+    ensures err { OnErr result (session.new ≡ session.old) }
+{
+    session.undo()
+}
+
+/// Redo is refused only where no command is left to redo, never for want of memory, and changes nothing then. All records stay.
+pub fn every_redo_is_answered(session: &mut Session) -> Result<(), Refusal>
+    ensures ok { OnOk result (session.new ≡ after_redo session.old) }
+    ensures refused { result ≡ verdict (redo_refusal session.old.machine) }
+    ensures err { OnErr result (session.new ≡ session.old) }
+{
+    session.redo()
+}
+
+/// A draft holds the session's model, and has no step. Where memory is refused the session comes back as it was.
+pub fn every_draft_is_opened(session: Session) -> Result<Draft, (Session, AllocError)>
+    ensures ok { IfOk result (λ draft. draft ≡ new_draft session) }
+    ensures err { IfErr result (λ e. e.0 ≡ session) }
+{
+    Draft::open(session)
+}
+
+/// A step of a draft is accepted, or it is refused: then exactly with the first condition that is false in the draft's model. What isn't
+/// accepted changes nothing, and the draft goes on.
+pub fn every_step_is_answered(draft: &mut Draft, op: Op) -> Result<(), Failure>
+    ensures ok { OnOk result ((first_false draft.old.model op ≡ None) × (draft.new ≡ after_step draft.old op)) }
+    ensures refused { (refusal : Refusal) → ((result ≡ Err (Failure.Refused refusal)) ↔ (first_false draft.old.model op ≡ Some refusal)) }
+    ensures err { OnErr result (draft.new ≡ draft.old) }
+{
+    draft.step(op)
+}
+
+/// The steps of a draft become one command, whose record has them and their inverses, the last one's first. It can't fail.
+pub fn drafts_become_one_command(draft: Draft) -> Session
+    ensures { result ≡ after_commit draft }
+{
+    draft.commit()
+}
+
+/// A draft that is abandoned leaves the session as it was, the models ahead and all records included. It can't fail.
+pub fn drafts_leave_no_trace(draft: Draft) -> Session
+    ensures { result ≡ draft.session }
+{
+    draft.abandon()
+}
+
+/// The record of each command has operators that are accepted in turn and lead from the model before it to the one after, and such that
+/// lead back.
+pub fn records_lead_forth_and_back(session: &Session, i: usize) -> &Record
+    requires { i < depth session.now.machine + ahead session.now.machine }
+    ensures exact { result.now ≡ slice_index_or session.now.records i result.now }
+    ensures forward_goes { AreAccepted (model_at session.now.machine i) result.now.forward }
+    ensures forward { effects (model_at session.now.machine i) result.now.forward ≡ model_at session.now.machine (i + 1) }
+    ensures back_goes { AreAccepted (model_at session.now.machine (i + 1)) result.now.back }
+    ensures back { effects (model_at session.now.machine (i + 1)) result.now.back ≡ model_at session.now.machine i }
+{
+    session.record(i)
+}
+
+/// Six times the volume of a solid of the model held is answered exactly, and refused where the number is out of range or there is no such
+/// solid.
+pub fn volumes_are_answered(session: &Session, solid: u32) -> Result<i128, Refusal>
+    ensures { result ≡ answer (solid_refusal (held session.now.machine) solid) (six_volume (held session.now.machine) solid) }
+{
+    six_volume(session.arena(), solid)
+}
 
 /// Of the conditions of an operator or of a larger command, in their order, nothing is refused exactly where each of them holds; what is
 /// refused else is the first that doesn't.
