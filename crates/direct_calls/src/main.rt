@@ -1,14 +1,16 @@
 //! Calls of the kernel that no script reaches, made once each, with what they answer.
 //!
 //! `rings` links codes by the raw rings, `points` orders points, `arenas` copies an arena and changes a loop's content, and `sessions`
-//! goes on after a large lamina. With one word, `lamina`, `act`, `draft` or `copy`, the program makes a lamina of 64 points and then does only
-//! what the word says, so that whoever counts allocations or refuses one sees what that call asks for.
+//! goes on after a large lamina, `steps` glues by the steps of a draft. With one word, `lamina`, `act`, `draft` or `copy`, the program makes a lamina of 64
+//! points and then does only what the word says, so that whoever counts allocations or refuses one sees what that call asks for; with `committed` or
+//! `abandoned` it takes the steps of a glue.
 #![tactic(auto)]
 
 mod arenas;
 mod points;
 mod rings;
 mod sessions;
+mod steps;
 
 use std::alloc::Global;
 use std::env;
@@ -34,11 +36,20 @@ fn tell_all(rt: &HostRuntime) {
     sessions::tell(rt);
 }
 
+/// What the calls that a word names answer.
+fn tell(rt: &HostRuntime, word: &str) {
+    match word {
+        "committed" => steps::tell_glue(rt, true),
+        "abandoned" => steps::tell_glue(rt, false),
+        _ => {
+            let _ = println!(rt; "{}", sessions::after_a_lamina(rt.alloc(), word));
+        }
+    }
+}
+
 fn main(rt: HostRuntime) -> ExitCode {
     match word(&rt) {
-        Some(word) => {
-            let _ = println!(rt; "{}", sessions::after_a_lamina(rt.alloc(), word.as_str()));
-        }
+        Some(word) => tell(&rt, word.as_str()),
         None => tell_all(&rt),
     }
     ExitCode::SUCCESS
