@@ -9,9 +9,11 @@ PROGRAM ?= crates/gwb/out/gwb
 ARCHIVE ?= crates/gwb_c/out/libgwb_c.a
 INSTALL ?= install
 
-BIN = $(DESTDIR)$(PREFIX)/bin
-MAN = $(DESTDIR)$(PREFIX)/share/man/man1
-SHARE = $(DESTDIR)$(PREFIX)/share/gwb
+ROOT = $(abspath $(DESTDIR))$(abspath $(PREFIX))
+BIN = $(ROOT)/bin
+MAN = $(ROOT)/share/man/man1
+SHARE = $(ROOT)/share/gwb
+LIBRARY = $(MAKE) -C bindings PREFIX=$(abspath $(PREFIX)) DESTDIR=$(abspath $(DESTDIR)) ARCHIVE=$(abspath $(ARCHIVE))
 COMPANIONS = $(notdir $(wildcard companions/gwb-*))
 
 .PHONY: help install uninstall install-program install-companions install-library
@@ -35,14 +37,14 @@ install-program: $(PROGRAM)
 
 # each companion is a link to the file that lies beside its package, which is how it finds it
 install-companions: $(PROGRAM)
-	cd companions && find gwb -type f -not -path '*/__pycache__/*' -exec $(INSTALL) -D -m 644 {} $(abspath $(SHARE))/companions/{} \;
+	cd companions && find gwb -type f -not -path '*/__pycache__/*' -exec $(INSTALL) -D -m 644 {} $(SHARE)/companions/{} \;
 	$(INSTALL) -m 755 $(COMPANIONS:%=companions/%) $(SHARE)/companions
 	$(INSTALL) -d $(BIN)
 	for name in $(COMPANIONS); do ln -sf ../share/gwb/companions/$$name $(BIN)/$$name || exit 1; done
 
 install-library: $(PROGRAM)
 ifneq ($(wildcard $(ARCHIVE)),)
-	$(MAKE) -C bindings install ARCHIVE=$(abspath $(ARCHIVE)) PREFIX=$(PREFIX) DESTDIR=$(DESTDIR)
+	$(LIBRARY) install
 else
 	@echo '$(ARCHIVE) is not built, so the library is left out; this proves and builds it:'
 	@echo '    (cd crates/gwb_c && rt lib)'
@@ -51,4 +53,4 @@ endif
 uninstall:
 	rm -f $(BIN)/gwb $(COMPANIONS:%=$(BIN)/%) $(MAN)/gwb.1
 	rm -rf $(SHARE)
-	$(MAKE) -C bindings uninstall PREFIX=$(PREFIX) DESTDIR=$(DESTDIR)
+	$(LIBRARY) uninstall

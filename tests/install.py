@@ -31,7 +31,7 @@ class Installation:
 
     def make(self, goal: str, stage: Path = Path(), program: Optional[Path] = None) -> subprocess.CompletedProcess:
         """Runs make for a goal. The archive is one that isn't there where none was given."""
-        archive = self.archive or self._out / 'no archive'
+        archive = self.archive or self._out / 'no_archive'
         words = [f'PREFIX={self.prefix}', f'PROGRAM={program or self.program}', f'ARCHIVE={archive}', f'OUT={self._out}']
         words += [f'DESTDIR={stage}'] if stage != Path() else []
         return self.run(['make', '-s', '-C', str(TOP), goal, *words])
@@ -71,6 +71,7 @@ def installed(at: Installation) -> Iterator[str]:
     for name in COMPANIONS:
         yield complaint(at.run([at.command(name), '--version']), f'{name} {VERSION}'.encode())
     listed = ran.stdout if b'vertex' in ran.stdout else at.run([at.command('gwb')], EXAMPLE.read_bytes() + b'list\n').stdout
+    yield complaint(at.run(['env', 'PATH=/usr/bin:/bin', at.command('gwb-shell')], b'block 1 0 0 0 1 2 3\nvolume 1\n'), b'volume 36')
     for name, told in (('gwb-svg', b'</svg>'), ('gwb-mesh', b'OFF'), ('gwb-view', b'</html>'), ('gwb-check', b'no findings')):
         yield complaint(at.run([at.command(name)], listed), told)
 

@@ -4,7 +4,7 @@ import os
 import shutil
 import subprocess
 from pathlib import Path
-from typing import Dict, List
+from typing import Dict, Iterator, List
 
 from .errors import Ended, ProgramMissing
 from .language import command_bytes
@@ -25,12 +25,20 @@ _TAKEN = {'loop': 8, 'edge': 9, 'vertex': 10}
 
 
 def find_program() -> str:
-    """The program: what the environment variable GWB names, else the one built in this repository, else that on the path."""
-    built = Path(__file__).resolve().parents[2] / 'crates' / 'gwb' / 'out' / 'gwb'
-    program = os.environ.get('GWB') or (str(built) if built.is_file() else shutil.which('gwb'))
+    """The program: what the environment variable GWB names, else the one built in this repository or installed with this package,
+    else that on the path."""
+    program = os.environ.get('GWB') or next((str(path) for path in _places() if path.is_file()), None) or shutil.which('gwb')
     if program is None:
         raise ProgramMissing("gwb isn't built in this repository, nor on the path; the environment variable GWB may name it")
     return program
+
+
+def _places() -> Iterator[Path]:
+    """Where the program lies in this repository, or beside the package as `make install` puts it: PREFIX/bin and PREFIX/share/gwb."""
+    top = Path(__file__).resolve().parents[2]
+    yield top / 'crates' / 'gwb' / 'out' / 'gwb'
+    if top.parts[-2:] == ('share', 'gwb'):
+        yield top.parents[1] / 'bin' / 'gwb'
 
 
 class Pipe:

@@ -120,12 +120,16 @@ class Shell(cmd.Cmd):
         self._pipe.close()
 
     def ask(self, line: str) -> Reply:
-        """The reply to a line that gwb answers."""
+        """The reply to a line that gwb answers; complaints are counted."""
+        reply = self._exchange(line)
+        self.complained += reply.is_complaint
+        return reply
+
+    def _exchange(self, line: str) -> Reply:
         with _uninterrupted():
             reply = self._pipe.ask(line)
         if reply.word == 'ok':
             self._held = None
-        self.complained += reply.is_complaint
         return reply
 
     def run_file(self, path: str) -> None:
@@ -161,11 +165,7 @@ class Shell(cmd.Cmd):
 
     def _repeat(self, word: str) -> int:
         """Undoes or redoes all; how many commands that were. The refusal at the end is no complaint."""
-        count = 0
-        while self.ask(word).word == 'ok':
-            count += 1
-        self.complained -= 1
-        return count
+        return sum(1 for _ in iter(lambda: self._exchange(word).word == 'ok', False))
 
     @staticmethod
     def _show(line: str, reply: Reply) -> None:
@@ -201,8 +201,7 @@ class Shell(cmd.Cmd):
     def _model(self) -> Model:
         """The model held, which is listed anew where something has changed."""
         if self._held is None:
-            with _uninterrupted():
-                self._held = model_of(self._pipe.ask('list'))
+            self._held = model_of(self._exchange('list'))
         return self._held
 
 
@@ -275,7 +274,7 @@ def work(words: Optional[Sequence[str]]) -> int:
             _talk_at_terminal(shell)
             return OK
         shell.prompt = ''
-        shell.talk()
+        shell.cmdloop()
         return FOUND if shell.complained else OK
     finally:
         shell.close()

@@ -174,6 +174,10 @@ class ThroughAPipe(unittest.TestCase):
             self.assertEqual((done.stdout, done.stderr.count(b'\n'), done.returncode), (b'', 1, 3))
             self.assertIn(b'gwb-shell: ', done.stderr)
 
+    def test_a_program_that_ends(self):
+        done = piped(b'undo\nundo\n', '/bin/true')
+        self.assertEqual((done.stdout, done.stderr, done.returncode), (b'', b'gwb-shell: the program ended with status 0\n', 3))
+
     def test_words(self):
         self.assertEqual(run('shell', '--nothing').status, 2)
         with mock.patch.dict(os.environ, GWB=program()):
