@@ -149,11 +149,14 @@ class Shell(cmd.Cmd):
                 print()
 
     def onecmd(self, line: str) -> bool:
-        """Answers one line; whether it was the last."""
-        words = line.split()
+        """Answers what was typed, whose newlines part lines; whether it was the last."""
         if line == 'EOF' and self.prompt:
             print()
-        if line == 'EOF' or words == ['quit']:
+        return line == 'EOF' or any(map(self._answer, line.split('\n')))
+
+    def _answer(self, line: str) -> bool:
+        words = line.split()
+        if words == ['quit']:
             return True
         if words[:1] == ['help']:
             print('\n'.join(self.help_lines(words[1:])))

@@ -1,5 +1,6 @@
 """The prompt over gwb, through a terminal and through a pipe."""
 
+import io
 import os
 import pty
 import select
@@ -8,13 +9,14 @@ import sys
 import tempfile
 import time
 import unittest
+from contextlib import redirect_stdout
 from pathlib import Path
 from unittest import mock
 
 from support import COMPANIONS, box, listing, model_in, program, run
 
 from gwb.language import COMMANDS
-from gwb.shell import choices, program_help
+from gwb.shell import Shell, choices, program_help
 
 BLOCK = model_in(listing(*box((0, 0, 0), (4, 4, 4))))
 TIME = 10
@@ -149,6 +151,12 @@ class AtATerminal(unittest.TestCase):
         self.assertEqual(terminal.end('quit\n'), 0)
 
 
+def given(data, *words):
+    """What the shell, within this process, makes of bytes on standard input."""
+    with mock.patch.dict(os.environ, GWB=program()), mock.patch.object(sys, 'stdin', io.TextIOWrapper(io.BytesIO(data), 'utf-8', newline='\n')):
+        return run('shell', *words)
+
+
 def piped(data, gwb=None):
     """What the shell makes of bytes on standard input."""
     environment = {**os.environ, 'GWB': gwb or program()}
@@ -168,11 +176,37 @@ class ThroughAPipe(unittest.TestCase):
                                                     b'refused 25 0: NothingToUndo: there is nothing to undo'])
         self.assertEqual((done.stderr, done.returncode), (b'', 1))
 
+    def test_newlines_within_a_line(self):
+        written = io.StringIO()
+        shell = Shell(program())
+        self.addCleanup(shell.close)
+        with redirect_stdout(written):
+            self.assertFalse(shell.onecmd('undo\nblock 1 0 0 0 1 1 1\n\nvolume 1'))
+            self.assertTrue(shell.onecmd('redo all\nquit\nlist'))
+        self.assertEqual(written.getvalue().splitlines()[1:], ['ok', 'volume 6', '0 redone'])
+
     def test_no_program(self):
         for gwb in ('/nowhere/gwb', '/etc/passwd', '/nowhere/libgwb.so'):
             done = piped(b'list\n', gwb)
             self.assertEqual((done.stdout, done.stderr.count(b'\n'), done.returncode), (b'', 1, 3))
             self.assertIn(b'gwb-shell: ', done.stderr)
+
+    def test_damaged_input(self):
+        kinds = {
+            'nothing': (b'', 0), 'blanks': (b' \t\r\n\n', 0), 'no newline at the end': (b'volume 1', 1), 'lines of Windows': (b'list\r\n', 0),
+            'a byte order mark': (b'\xef\xbb\xbflist\n', 1), 'two bytes a letter': ('list\n'.encode('utf-16'), 1), 'half a letter': (b'\xc3\n', 1),
+            'zeros': (b'\0' * 99, 1), 'a long line': (b'#' * 65_537 + b'\n', 1), 'a long word': (b'volume ' + b'1' * 60_000 + b'\n', 1),
+            'replies': (b'solid 1\nface 1 1 1\n', 1), 'a form feed': (b'list\f\n\flist\n', 1), 'all bytes': (bytes(range(256)), 1),
+            'a lone carriage return': (b'list\rlist\n', 1)}
+        self.assertEqual(len(kinds), 14)
+        with tempfile.TemporaryDirectory() as folder:
+            script = Path(folder, 'script')
+            for kind, (data, status) in kinds.items():
+                script.write_bytes(data)
+                for outcome in (given(data), given(b'', str(script))):
+                    self.assertEqual((outcome.err, outcome.status), ('', status), kind)
+            outcome = given(b'', folder)
+            self.assertEqual((outcome.out, outcome.err.count('\n'), outcome.status), ('', 1, 3))
 
     def test_a_program_that_ends(self):
         done = piped(b'undo\nundo\n', '/bin/true')
