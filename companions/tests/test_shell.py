@@ -153,7 +153,8 @@ class AtATerminal(unittest.TestCase):
 
 def given(data, *words):
     """What the shell, within this process, makes of bytes on standard input."""
-    with mock.patch.dict(os.environ, GWB=program()), mock.patch.object(sys, 'stdin', io.TextIOWrapper(io.BytesIO(data), 'utf-8', newline='\n')):
+    typed = io.TextIOWrapper(io.BytesIO(data), 'utf-8', newline='\n')
+    with mock.patch.dict(os.environ, GWB=program()), mock.patch.object(sys, 'stdin', typed):
         return run('shell', *words)
 
 
@@ -193,8 +194,9 @@ class ThroughAPipe(unittest.TestCase):
 
     def test_damaged_input(self):
         kinds = {
-            'nothing': (b'', 0), 'blanks': (b' \t\r\n\n', 0), 'no newline at the end': (b'volume 1', 1), 'lines of Windows': (b'list\r\n', 0),
-            'a byte order mark': (b'\xef\xbb\xbflist\n', 1), 'two bytes a letter': ('list\n'.encode('utf-16'), 1), 'half a letter': (b'\xc3\n', 1),
+            'nothing': (b'', 0), 'blanks': (b' \t\r\n\n', 0), 'no newline at the end': (b'volume 1', 1),
+            'lines of Windows': (b'list\r\n', 0), 'a byte order mark': (b'\xef\xbb\xbflist\n', 1),
+            'two bytes a letter': ('list\n'.encode('utf-16'), 1), 'half a letter': (b'\xc3\n', 1),
             'zeros': (b'\0' * 99, 1), 'a long line': (b'#' * 65_537 + b'\n', 1), 'a long word': (b'volume ' + b'1' * 60_000 + b'\n', 1),
             'replies': (b'solid 1\nface 1 1 1\n', 1), 'a form feed': (b'list\f\n\flist\n', 1), 'all bytes': (bytes(range(256)), 1),
             'a lone carriage return': (b'list\rlist\n', 1)}
