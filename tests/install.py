@@ -6,6 +6,7 @@
 Without an ARCHIVE no library is installed. Afterwards no file may be left in the folder. The last line counts.
 """
 import os
+import shutil
 import subprocess
 import sys
 import tempfile
@@ -27,6 +28,7 @@ class Installation:
         self.program, self.archive = program, archive
         self._out = folder / 'out'
         self._environment = {name: value for name, value in os.environ.items() if name not in ('GWB', 'PYTHONPATH', 'MAKEFLAGS')}
+        self._environment['PKG_CONFIG_PATH'] = str(self.prefix / 'lib' / 'pkgconfig')
         self._environment['PATH'] = f'{self.prefix / "bin"}:{os.environ["PATH"]}'
 
     def make(self, goal: str, stage: Path = Path(), program: Optional[Path] = None) -> subprocess.CompletedProcess:
@@ -77,12 +79,14 @@ def installed(at: Installation) -> Iterator[str]:
 
 
 def library(at: Installation) -> Iterator[str]:
-    """A program in C that is compiled and linked by what pkg-config says."""
+    """A program in C that is compiled and linked as pkg-config says, where that is installed."""
     source = at.prefix.parent / 'try.c'
     source.write_text('#include <gwb.h>\n#include <gwb_names.h>\n'
                       'int main(void) { gwb g = {0}; if (!gwb_open(&g)) return 1; gwb_close(&g); return 0; }\n')
-    flags = f'-I{at.prefix}/include -L{at.prefix}/lib -lgwb -Wl,-rpath,{at.prefix}/lib'.split()
-    yield complaint(at.run(['cc', source, '-o', at.prefix.parent / 'try', *flags]))
+    flags = f'-I{at.prefix}/include -L{at.prefix}/lib -lgwb'.split()
+    if shutil.which('pkg-config'):
+        flags = at.run(['pkg-config', '--cflags', '--libs', 'gwb']).stdout.decode().split()
+    yield complaint(at.run(['cc', source, '-o', at.prefix.parent / 'try', *flags, f'-Wl,-rpath,{at.prefix}/lib']))
     yield complaint(at.run([at.prefix.parent / 'try']))
     text = (at.prefix / 'lib' / 'pkgconfig' / 'gwb.pc').read_text()
     yield '' if f'prefix={at.prefix}\n' in text and f'Version: {VERSION}\n' in text else f'gwb.pc says {text!r}'
