@@ -154,6 +154,42 @@ typedef struct gwb_point {
 
 uint32_t gwb_vertex(gwb *g, uint32_t vertex, gwb_point *point);
 
+/* Commands as typed calls, without text: each does what the line does that spells the same command, answers its kind and keeps its answer,
+ * so that gwb_last_refusal, gwb_reply and gwb_fresh tell of it. Where the answer is not GWB_OK, the model is as it was. Arguments may be any
+ * numbers: what the kernel does not take is refused.
+ *
+ * A half-edge is given as readers give it. A corner is the half-edge that starts there, or GWB_LONE(loop) for the one corner of a loop that
+ * has a vertex and no edge. `edge` of gwb_mev, gwb_mef and gwb_mekr is the new edge's number, whose first half-edge starts at the first
+ * corner's vertex. */
+#define GWB_LONE(loop) (UINT32_C(0x80000000) | (uint32_t)(loop))
+
+uint32_t gwb_mvfs(gwb *g, uint32_t solid, uint32_t face, uint32_t loop, uint32_t vertex, int64_t x, int64_t y, int64_t z);
+uint32_t gwb_kvfs(gwb *g, uint32_t solid);
+uint32_t gwb_mev(gwb *g, uint32_t corner, uint32_t other, uint32_t edge, uint32_t vertex, int64_t x, int64_t y, int64_t z);
+uint32_t gwb_kev(gwb *g, uint32_t half_edge);
+uint32_t gwb_mef(gwb *g, uint32_t half_edge, uint32_t other, uint32_t edge, uint32_t face, uint32_t loop);
+uint32_t gwb_kef(gwb *g, uint32_t half_edge);
+uint32_t gwb_kemr(gwb *g, uint32_t half_edge, uint32_t ring);
+uint32_t gwb_mekr(gwb *g, uint32_t corner, uint32_t other, uint32_t edge);
+uint32_t gwb_kfmrh(gwb *g, uint32_t face, uint32_t other);
+uint32_t gwb_mfkrh(gwb *g, uint32_t ring, uint32_t face);
+
+/* Moves a ring to a face: as a ring of it where `out` is 0, else as its outer loop, as the words `in` and `out` of a script say. */
+uint32_t gwb_ringmv(gwb *g, uint32_t ring, uint32_t face, uint32_t out);
+
+/* Two operators that no script has. gwb_outer: a ring becomes the outer loop of its face, whose outer loop until then becomes a ring of
+ * `face`. gwb_merge: two solids become the first. */
+uint32_t gwb_outer(gwb *g, uint32_t ring, uint32_t face);
+uint32_t gwb_merge(gwb *g, uint32_t solid, uint32_t other);
+
+uint32_t gwb_block(gwb *g, uint32_t solid, int64_t x, int64_t y, int64_t z, int64_t dx, int64_t dy, int64_t dz);
+uint32_t gwb_sweep(gwb *g, uint32_t face, int64_t dx, int64_t dy, int64_t dz);
+uint32_t gwb_glue(gwb *g, uint32_t face, uint32_t other);
+uint32_t gwb_split(gwb *g, uint32_t solid, int64_t a, int64_t b, int64_t c, int64_t d, uint32_t above);
+
+uint32_t gwb_undo(gwb *g);
+uint32_t gwb_redo(gwb *g);
+
 #ifdef __cplusplus
 }
 #endif

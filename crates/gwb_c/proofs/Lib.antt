@@ -3,3 +3,4 @@ pub mod HeldSteps
 pub mod Overlaid
 pub mod CycleRounds
 mod Numbers
+pub mod Acting

@@ -3,3 +3,4 @@ pub mod Handle
 pub mod Answered
 pub mod Reading
 pub mod FreshNumbers
+pub mod Calls

@@ -5,12 +5,15 @@
 #![tactic(auto)]
 
 mod answers;
+mod commands;
 mod cycles;
 mod exports;
 mod fresh;
 mod handle;
 mod held;
+mod larger;
 mod loose;
+mod operators;
 mod readers;
 mod reads;
 mod recalls;

@@ -57,7 +57,7 @@ fn taken(slot: &mut Slot) -> (Session, Larger)
 }
 
 /// Carries out the larger command that was put aside. There is a session.
-fn finish(alloc: Global, slot: &mut Slot)
+pub(crate) fn finish(alloc: Global, slot: &mut Slot)
     requires session { IsSome slot.old.session }
     requires later { IsSome slot.old.later }
     ensures { Slot_finishes slot.old slot.new }
@@ -82,7 +82,7 @@ fn answer_line(alloc: Global, slot: &mut Slot, line: &[u8])
 }
 
 /// The greatest numbers in use.
-fn counted_in(slot: &Slot) -> Counters
+pub(crate) fn counted_in(slot: &Slot) -> Counters
     ensures { Counts_in slot.now result }
 {
     match &slot.session {

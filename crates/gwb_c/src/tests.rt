@@ -3,6 +3,8 @@ use crate::answers::{PlaneRow, Refused, Wide};
 use crate::exports::{gwb_ahead, gwb_close, gwb_depth, gwb_line, gwb_open, gwb_reply};
 use crate::fresh::Range;
 use crate::handle::{Gwb, closed};
+use crate::larger::{gwb_block, gwb_redo, gwb_undo};
+use crate::operators::{gwb_kemr, gwb_kev, gwb_kvfs, gwb_mev, gwb_mvfs, gwb_ringmv};
 use crate::readers::FaceRow;
 use crate::reads::{gwb_face, gwb_fresh, gwb_half_edges, gwb_number_after};
 use crate::recalls::{gwb_last_fault, gwb_last_plane, gwb_last_refusal, gwb_last_volume};
@@ -195,4 +197,51 @@ fn closed_handle(rt: HostRuntime) {
     says_it_is_closed(&rt, alloc, &mut gwb);
     tells_no_length(&rt, alloc, &mut gwb);
     gwb_close(alloc, &mut gwb);
+}
+
+/// A lone corner of loop 1.
+const LONE: u32 = 2147483649;
+
+/// A wire and a block by typed calls: kinds, and what is undone.
+#[test]
+fn typed_calls(rt: HostRuntime) -> Result<(), Fail> {
+    let alloc = rt.alloc();
+    let mut gwb = opened(&rt, alloc);
+    let kinds = [
+        gwb_mvfs(alloc, &mut gwb, 1, 1, 1, 1, 0, 0, 0),
+        gwb_mev(alloc, &mut gwb, LONE, LONE, 1, 2, 5, 0, 0),
+        gwb_kev(alloc, &mut gwb, 99),
+        gwb_block(alloc, &mut gwb, 2, 0, 0, 9, 4, 4, 4),
+        gwb_undo(alloc, &mut gwb),
+        gwb_redo(alloc, &mut gwb),
+        gwb_redo(alloc, &mut gwb),
+    ];
+    same(&rt, kinds, [1, 1, 2, 1, 1, 1, 2]);
+    same(&rt, gwb_depth(alloc, &mut gwb), 3);
+    gwb_close(alloc, &mut gwb);
+    same(&rt, gwb_kvfs(alloc, &mut gwb, 1), 9);
+    Ok(())
+}
+
+/// A wire cut into two rings, one of which is moved out and back, and each refusal by its number.
+#[test]
+fn typed_rings(rt: HostRuntime) -> Result<(), Fail> {
+    let alloc = rt.alloc();
+    let mut gwb = opened(&rt, alloc);
+    let kinds = [
+        gwb_mvfs(alloc, &mut gwb, 1, 1, 1, 1, 0, 0, 0),
+        gwb_mev(alloc, &mut gwb, LONE, LONE, 1, 2, 5, 0, 0),
+        gwb_kemr(alloc, &mut gwb, 2, 2),
+        gwb_ringmv(alloc, &mut gwb, 2, 1, 1),
+        gwb_ringmv(alloc, &mut gwb, 2, 1, 0),
+    ];
+    same(&rt, kinds, [1, 1, 1, 1, 2]);
+    let mut refusal = Refused {
+        number: 0,
+        value: 0,
+    };
+    same(&rt, gwb_last_refusal(alloc, &mut gwb, &mut refusal), 1);
+    same(&rt, (refusal.number, refusal.value), (23, 2));
+    gwb_close(alloc, &mut gwb);
+    Ok(())
 }

@@ -1,0 +1,125 @@
+//! Commands given as values: what each does to a slot.
+ghost use Rattle.std.specs.Prelude.{◌≡◌};
+ghost use Rattle.script_reader.specs.declared.command.Command.TheVariants as command;
+ghost use Rattle.script_running.specs.script_judging.Judging.{Obeys, outcome, refused};
+ghost use Rattle.script_running.specs.script_judging.Settling.{spelled};
+ghost use Rattle.gwb_c.specs.Calls.{Slot_obeys, Slot_does};
+
+use crate::slot::{Slot, counted_in, finish};
+use euler_operators::{Op, Refusal};
+use script_running::{Answer, Larger};
+use solid_listing::Reply;
+use std::alloc::Global;
+use undo_journal::{Failure, Session};
+
+fn told_refusal(refusal: Refusal) -> Answer
+    ensures { result ≡ refused refusal }
+{
+    Answer::Reply(Reply::Refused(refusal.why.code(), refusal.number))
+}
+
+/// The answer to a command that ended so.
+fn outcome(ended: Result<(), Failure>) -> Answer
+    ensures { result ≡ outcome ended }
+{
+    match ended {
+        Ok(()) => Answer::Reply(Reply::Done),
+        Err(Failure::Refused(refusal)) => told_refusal(refusal),
+        Err(Failure::Memory(_)) => Answer::Reply(Reply::Memory),
+    }
+}
+
+#[tactic(auto, using(crate::proofs::Acting::acts_on))]
+fn act_on(session: &mut Session, op: Op) -> Answer
+    ensures { Obeys session.old.machine (command.Act op) result session.new.machine }
+{
+    outcome(session.act(op))
+}
+
+fn undo_on(session: &mut Session) -> Answer
+    ensures { Obeys session.old.machine command.Undo result session.new.machine }
+{
+    match session.undo() {
+        Ok(()) => Answer::Reply(Reply::Done),
+        Err(refusal) => told_refusal(refusal),
+    }
+}
+
+fn redo_on(session: &mut Session) -> Answer
+    ensures { Obeys session.old.machine command.Redo result session.new.machine }
+{
+    match session.redo() {
+        Ok(()) => Answer::Reply(Reply::Done),
+        Err(refusal) => told_refusal(refusal),
+    }
+}
+
+fn act_in(slot: &mut Slot, op: Op)
+    ensures { Slot_obeys slot.old (command.Act op) slot.new }
+{
+    if let Some(session) = &mut slot.session {
+        slot.answer = act_on(session, op);
+    }
+}
+
+fn undo_in(slot: &mut Slot)
+    ensures { Slot_obeys slot.old command.Undo slot.new }
+{
+    if let Some(session) = &mut slot.session {
+        slot.answer = undo_on(session);
+    }
+}
+
+fn redo_in(slot: &mut Slot)
+    ensures { Slot_obeys slot.old command.Redo slot.new }
+{
+    if let Some(session) = &mut slot.session {
+        slot.answer = redo_on(session);
+    }
+}
+
+fn carry_in(alloc: Global, slot: &mut Slot, larger: Larger)
+    ensures { Slot_obeys slot.old (spelled larger) slot.new }
+{
+    if slot.session.is_none() {
+        return;
+    }
+    slot.later = Some(larger);
+    finish(alloc, slot);
+}
+
+/// One operator as a command.
+pub(crate) fn act(slot: &mut Slot, op: Op)
+    ensures { Slot_does slot.old (command.Act op) slot.new }
+{
+    let before = counted_in(slot);
+    act_in(slot, op);
+    slot.before = before;
+}
+
+/// Takes the last command back.
+pub(crate) fn undo(slot: &mut Slot)
+    ensures { Slot_does slot.old command.Undo slot.new }
+{
+    let before = counted_in(slot);
+    undo_in(slot);
+    slot.before = before;
+}
+
+/// Does the next command again.
+pub(crate) fn redo(slot: &mut Slot)
+    ensures { Slot_does slot.old command.Redo slot.new }
+{
+    let before = counted_in(slot);
+    redo_in(slot);
+    slot.before = before;
+}
+
+/// Carries a larger command out.
+pub(crate) fn carry(alloc: Global, slot: &mut Slot, larger: Larger)
+    ensures { Slot_does slot.old (spelled larger) slot.new }
+{
+    let before = counted_in(slot);
+    carry_in(alloc, slot, larger);
+    slot.before = before;
+}

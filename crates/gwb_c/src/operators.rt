@@ -1,0 +1,205 @@
+//! Calls of C: operators, each as a command of its own.
+ghost use Rattle.std.specs.Prelude.{◌≡◌, cond, nat_eq};
+ghost use Rattle.euler_operators.specs.HalfEdge.{half};
+ghost use Rattle.script_reader.specs.Grammar.{plus};
+ghost use Rattle.script_reader.specs.declared.command.Command.TheVariants as command;
+ghost use Rattle.gwb_c.specs.Calls.{Does, corner_of};
+
+use crate::commands;
+use crate::handle::{CLOSED, Gwb, put, take};
+use crate::slot::status;
+use euler_operators::{Corner, HalfEdge, Op, Point};
+use std::alloc::Global;
+
+/// The first half-edge of a new edge.
+fn plus(edge: u32) -> HalfEdge
+    ensures { result ≡ plus edge }
+{
+    HalfEdge { edge, first: true }
+}
+
+/// The corner that C means: below 2^31 the one at the tail of a half-edge, from there on that of a lone loop.
+fn corner(code: u32) -> Corner
+    ensures { result ≡ corner_of code }
+{
+    if code < 2147483648 {
+        Corner::At(HalfEdge::of_code(code))
+    } else {
+        Corner::Lone(code - 2147483648)
+    }
+}
+
+/// One operator as a command of the session, if there is one.
+fn act(alloc: Global, gwb: &mut Gwb, op: Op) -> u32
+    ensures { Does gwb.old.held.value (command.Act op) gwb.new.held.value result }
+{
+    let Some(slot) = take(alloc, gwb) else {
+        return CLOSED;
+    };
+    let mut slot = slot;
+    commands::act(&mut slot, op);
+    let kind = status(&slot.answer);
+    put(gwb, slot);
+    kind
+}
+
+/// Makes a solid of one vertex.
+#[unsafe(no_mangle)]
+pub extern "C" fn gwb_mvfs(
+    alloc: Global,
+    gwb: &mut Gwb,
+    solid: u32,
+    face: u32,
+    outer: u32,
+    vertex: u32,
+    x: i64,
+    y: i64,
+    z: i64,
+) -> u32
+    ensures { Does gwb.old.held.value (command.Act (Op.Mvfs solid face outer vertex (record { x = x; y = y; z = z }))) gwb.new.held.value result }
+{
+    act(
+        alloc,
+        gwb,
+        Op::Mvfs(solid, face, outer, vertex, Point { x, y, z }),
+    )
+}
+
+/// Kills a solid of one vertex.
+#[unsafe(no_mangle)]
+pub extern "C" fn gwb_kvfs(alloc: Global, gwb: &mut Gwb, solid: u32) -> u32
+    ensures { Does gwb.old.held.value (command.Act (Op.Kvfs solid)) gwb.new.held.value result }
+{
+    act(alloc, gwb, Op::Kvfs(solid))
+}
+
+/// Makes an edge and a vertex at two corners, which part the vertex's half-edges.
+#[unsafe(no_mangle)]
+pub extern "C" fn gwb_mev(
+    alloc: Global,
+    gwb: &mut Gwb,
+    from: u32,
+    to: u32,
+    edge: u32,
+    vertex: u32,
+    x: i64,
+    y: i64,
+    z: i64,
+) -> u32
+    ensures { Does gwb.old.held.value (command.Act (Op.Mev (corner_of from) (corner_of to) (plus edge) vertex (record { x = x; y = y; z = z }))) gwb.new.held.value result }
+{
+    act(
+        alloc,
+        gwb,
+        Op::Mev(
+            corner(from),
+            corner(to),
+            plus(edge),
+            vertex,
+            Point { x, y, z },
+        ),
+    )
+}
+
+/// Kills an edge and the vertex at its end.
+#[unsafe(no_mangle)]
+pub extern "C" fn gwb_kev(alloc: Global, gwb: &mut Gwb, half_edge: u32) -> u32
+    ensures { Does gwb.old.held.value (command.Act (Op.Kev (half half_edge))) gwb.new.held.value result }
+{
+    act(alloc, gwb, Op::Kev(HalfEdge::of_code(half_edge)))
+}
+
+/// Makes an edge and a face between two half-edges of a loop.
+#[unsafe(no_mangle)]
+pub extern "C" fn gwb_mef(
+    alloc: Global,
+    gwb: &mut Gwb,
+    from: u32,
+    to: u32,
+    edge: u32,
+    face: u32,
+    outer: u32,
+) -> u32
+    ensures { Does gwb.old.held.value (command.Act (Op.Mef (half from) (half to) (plus edge) face outer)) gwb.new.held.value result }
+{
+    act(
+        alloc,
+        gwb,
+        Op::Mef(
+            HalfEdge::of_code(from),
+            HalfEdge::of_code(to),
+            plus(edge),
+            face,
+            outer,
+        ),
+    )
+}
+
+/// Kills an edge between two faces, and one of these.
+#[unsafe(no_mangle)]
+pub extern "C" fn gwb_kef(alloc: Global, gwb: &mut Gwb, half_edge: u32) -> u32
+    ensures { Does gwb.old.held.value (command.Act (Op.Kef (half half_edge))) gwb.new.held.value result }
+{
+    act(alloc, gwb, Op::Kef(HalfEdge::of_code(half_edge)))
+}
+
+/// Kills an edge, and makes a ring.
+#[unsafe(no_mangle)]
+pub extern "C" fn gwb_kemr(alloc: Global, gwb: &mut Gwb, half_edge: u32, ring: u32) -> u32
+    ensures { Does gwb.old.held.value (command.Act (Op.Kemr (half half_edge) ring)) gwb.new.held.value result }
+{
+    act(alloc, gwb, Op::Kemr(HalfEdge::of_code(half_edge), ring))
+}
+
+/// Makes an edge from a corner to a ring, which it kills.
+#[unsafe(no_mangle)]
+pub extern "C" fn gwb_mekr(alloc: Global, gwb: &mut Gwb, from: u32, to: u32, edge: u32) -> u32
+    ensures { Does gwb.old.held.value (command.Act (Op.Mekr (corner_of from) (corner_of to) (plus edge))) gwb.new.held.value result }
+{
+    act(alloc, gwb, Op::Mekr(corner(from), corner(to), plus(edge)))
+}
+
+/// Kills a face, whose outer loop becomes a ring of another.
+#[unsafe(no_mangle)]
+pub extern "C" fn gwb_kfmrh(alloc: Global, gwb: &mut Gwb, face: u32, other: u32) -> u32
+    ensures { Does gwb.old.held.value (command.Act (Op.Kfmrh face other)) gwb.new.held.value result }
+{
+    act(alloc, gwb, Op::Kfmrh(face, other))
+}
+
+/// Makes a face of a ring.
+#[unsafe(no_mangle)]
+pub extern "C" fn gwb_mfkrh(alloc: Global, gwb: &mut Gwb, ring: u32, face: u32) -> u32
+    ensures { Does gwb.old.held.value (command.Act (Op.Mfkrh ring face)) gwb.new.held.value result }
+{
+    act(alloc, gwb, Op::Mfkrh(ring, face))
+}
+
+/// Moves a ring to a face: as a ring of it where `out` is 0, else as its outer loop.
+#[unsafe(no_mangle)]
+pub extern "C" fn gwb_ringmv(alloc: Global, gwb: &mut Gwb, ring: u32, face: u32, out: u32) -> u32
+    ensures { Does gwb.old.held.value (command.Act (cond (nat_eq out 0) (Op.RingIn ring face) (Op.RingOut ring face))) gwb.new.held.value result }
+{
+    let op = if out == 0 {
+        Op::RingIn(ring, face)
+    } else {
+        Op::RingOut(ring, face)
+    };
+    act(alloc, gwb, op)
+}
+
+/// Makes a ring the outer loop of its face, whose outer loop until then becomes a ring of the face given.
+#[unsafe(no_mangle)]
+pub extern "C" fn gwb_outer(alloc: Global, gwb: &mut Gwb, ring: u32, face: u32) -> u32
+    ensures { Does gwb.old.held.value (command.Act (Op.Outer ring face)) gwb.new.held.value result }
+{
+    act(alloc, gwb, Op::Outer(ring, face))
+}
+
+/// Makes two solids one.
+#[unsafe(no_mangle)]
+pub extern "C" fn gwb_merge(alloc: Global, gwb: &mut Gwb, solid: u32, other: u32) -> u32
+    ensures { Does gwb.old.held.value (command.Act (Op.Merge solid other)) gwb.new.held.value result }
+{
+    act(alloc, gwb, Op::Merge(solid, other))
+}
