@@ -1,6 +1,7 @@
 #!/bin/sh
 # Tries the kernel as a library: builds the shared object and the examples in bindings/, compares what they print, looks for leaks, refuses each
-# allocation in turn, and compares the answers to 100,000 random lines with the program's. The last line counts.
+# allocation in turn, compares the answers to random lines with those to the same commands as typed calls, over a million of them, and the
+# answers to 100,000 random lines with the program's. The last line counts.
 #
 #   tests/library.sh [ARCHIVE [PROGRAM]]
 #
@@ -99,6 +100,19 @@ if command -v valgrind > /dev/null; then
     tried 'valgrind over the example in C' valgrind -q --error-exitcode=9 --leak-check=full --show-leak-kinds=all "$dir/built/block_c"
 else
     echo 'not tried: the example in C under valgrind, which is not there'
+fi
+
+# typed LINES COMMAND..: gives so many random lines to the program that compares typed calls with lines
+typed() {
+    lines=$1
+    shift
+    tests/random_lines.py "$lines" 31 | "$@" "$dir/built/typed"
+}
+tried 'typed calls beside lines are built' cc -O2 -std=gnu11 -Wall -Wextra -Werror -Ibindings/include -o "$dir/built/typed" tests/library_typed.c \
+    "$dir/built/libgwb.a"
+tried 'a million random commands as typed calls' typed 1400000 env
+if command -v valgrind > /dev/null; then
+    tried 'valgrind over typed calls' typed 2000 valgrind -q --error-exitcode=9 --leak-check=full --show-leak-kinds=all
 fi
 
 tried 'models by readers' python3 tests/library_readers.py "$dir/built/libgwb.so"

@@ -3,13 +3,16 @@
 
     tests/library_refusals.py LIBRARY       a shared object that was linked over counting_heap.c
 
-Each script of refused_growths.py is run in a session as often as it asks for memory, each time with another request refused. After
-`memory` depths are as before, and the line given again has its answer; a text that was refused is given when it is asked for again; a
-session that could not be opened opens when it is tried again; and when it is closed no block is held.
+Each script of refused_growths.py is run in a session as often as it asks for memory, each time with another request refused: once with
+all its commands as lines, and once with those that have one as typed calls. After `memory` depths are as before, and the command given
+again has its answer; a text that was refused is given when it is asked for again; a session that could not be opened opens when it is
+tried again; and when it is closed no block is held.
 """
 import ctypes
 import sys
+from itertools import product
 
+from library_calls import TypedSession
 from library_session import MEMORY, Session, loaded
 from refused_growths import SCRIPTS
 
@@ -47,10 +50,9 @@ def given(session, line, wanted, complaints):
     return kind
 
 
-def run(library, heap, lines, wanted, request):
-    """What is wrong with a run in which this request for memory is refused."""
+def run(session, heap, lines, wanted, request):
+    """What is wrong with a run of the session in which this request for memory is refused."""
     complaints = []
-    session = Session(library)
     heap.refuse(request)
     if not session.open():
         if heap.held.value != 0 or not session.open():
@@ -66,9 +68,8 @@ def run(library, heap, lines, wanted, request):
     return complaints
 
 
-def whole(library, heap, lines):
-    """The answers of a run in which nothing is refused, and how often it asks for memory."""
-    session = Session(library)
+def whole(session, heap, lines):
+    """The answers of a run of the session in which nothing is refused, and how often it asks for memory."""
     heap.refuse(0)
     if not session.open():
         sys.exit('no session')
@@ -82,16 +83,16 @@ def main():
     library = loaded(sys.argv[1])
     heap = Heap(library)
     count = wrong = 0
-    for name, script in SCRIPTS.items():
+    for kind, (name, script) in product((Session, TypedSession), SCRIPTS.items()):
         lines = [line.encode() for line in script.split(';')]
-        wanted, requests = whole(library, heap, lines)
+        wanted, requests = whole(kind(library), heap, lines)
         for request in range(1, requests + 1):
-            complaints = run(library, heap, lines, wanted, request)
+            complaints = run(kind(library), heap, lines, wanted, request)
             count += 1
             if complaints:
                 wrong += 1
                 if wrong <= 10:
-                    print('%s, request %d: %s' % (name, request, '; '.join(complaints)[:500]))
+                    print('%s in %s, request %d: %s' % (name, kind.__name__, request, '; '.join(complaints)[:500]))
     print('%d compared, %d wrong' % (count, wrong))
     return 1 if wrong or not count else 0
 
