@@ -1,6 +1,5 @@
 //! Commands of the workbench, each with what this program wants of it.
 ghost use Rattle.std.specs.Prelude.{◌≡◌, pos, ◌+ℤ◌, ◌*ℤ◌, OnOk, OnErr, IfOk};
-ghost use Rattle.gluing.specs.Store.{is_face_of};
 ghost use Rattle.machined_block.specs.Cutting.{LieOnEitherSide};
 ghost use Rattle.machined_block.specs.Undoing.{IsOneCommand};
 ghost use Rattle.sweeps.specs.PlainMachine.{held};
@@ -8,7 +7,7 @@ ghost use Rattle.sweeps.specs.Measure.{normal, six_volume};
 ghost use Rattle.sweeps.specs.Model.{solid_of};
 ghost use Rattle.sweeps.specs.Vectors.{dot};
 
-use gluing::{Kind, glue, glue_measures, six_volume};
+use gluing::{glue, glue_measures, six_volume};
 use plane_split::{split, splits_are_held};
 use std::alloc::Global;
 use sweeps::{Draft, Failure, Op, Point, Session, sweep, sweep_measures};
@@ -69,14 +68,6 @@ pub fn tried(session: Session, op: Op) -> Session
         }
         Err((session, _)) => session,
     }
-}
-
-/// Whether face f is there and is of solid s.
-pub fn is_face_of(session: &Session, s: u32, f: u32) -> bool
-    ensures { result ≡ is_face_of (held session.now.machine) s f }
-{
-    let arena = session.arena();
-    arena.has(Kind::Face, f) && arena.solid_of(f) == s
 }
 
 /// Six times the volume of solid s, measured.

@@ -8,38 +8,30 @@
 mod commands;
 
 ghost use Rattle.std.specs.Prelude.{◌≡◌, pos, neg_ℤ, ◌+ℤ◌, IfOk};
+ghost use Rattle.command_laws.specs.NewFaces.{last_face};
 ghost use Rattle.machined_block.specs.Cutting.{LieOnEitherSide};
 ghost use Rattle.sweeps.specs.PlainMachine.{depth, ahead, held};
 ghost use Rattle.sweeps.specs.Measure.{six_volume};
+ghost use Rattle.sweeps.specs.Model.{solid_of};
 
-use commands::{cut, is_face_of, joined, measured, raised, tried};
+use command_laws::{blocks_make_faces, faces_are_kept};
+use commands::{cut, joined, measured, raised, tried};
 use std::alloc::Global;
 use std::process::ExitCode;
 use sweeps::{Failure, Op, Point, Session, block, block_measures};
 
-/// Why the program ends early.
-#[derive(Debug, Drop)]
-enum Trouble {
-    /// The workbench did nothing.
-    Workbench(Failure),
-    /// A face isn't of the solid that it was taken for.
-    OtherSolid,
-}
-
-impl From<Failure> for Trouble {
-    fn from(failure: Failure) -> Trouble {
-        Trouble::Workbench(failure)
-    }
-}
-
-/// A session that holds a block of 4 by 3 by 2 as solid 1.
+/// A session that holds a block of 4 by 3 by 2 as solid 1. Its faces have the numbers 1 to 6; the side at the greatest x is face 4.
 fn blank(alloc: Global) -> Result<Session, Failure>
+    ensures side { IfOk result (λ session. solid_of (held session.machine) 4 ≡ 1) }
+    ensures last { IfOk result (λ session. last_face session.machine ≡ 6) }
     ensures volume { IfOk result (λ session. six_volume (held session.machine) 1 ≡ pos 144) }
     ensures depth { IfOk result (λ session. depth session.machine ≡ 1) }
 {
     let session = Session::new(alloc).map_err(Failure::Memory)?;
     session.stays_consistent();
     block_measures();
+    blocks_make_faces();
+    faces_are_kept();
     let corner = Point { x: 0, y: 0, z: 0 };
     let (session, made) = block(alloc, session, 1, corner, 4, 3, 2);
     made?;
@@ -60,38 +52,38 @@ fn machined(alloc: Global) -> Result<Session, Failure>
     Ok(tried(session, Op::Kvfs(1)))
 }
 
-/// The block, and at its end one of 1 by 3 by 2 as solid 2.
+/// The block, and at its end one of 1 by 3 by 2 as solid 2. Its faces have the numbers 7 to 12; the side at the least x is face 12.
 fn paired(alloc: Global) -> Result<Session, Failure>
     ensures first { IfOk result (λ session. six_volume (held session.machine) 1 ≡ pos 144) }
     ensures second { IfOk result (λ session. six_volume (held session.machine) 2 ≡ pos 36) }
+    ensures near { IfOk result (λ session. solid_of (held session.machine) 4 ≡ 1) }
+    ensures far { IfOk result (λ session. solid_of (held session.machine) 12 ≡ 2) }
     ensures depth { IfOk result (λ session. depth session.machine ≡ 2) }
 {
     let session = blank(alloc)?;
     session.stays_consistent();
     block_measures();
+    blocks_make_faces();
+    faces_are_kept();
     let corner = Point { x: 4, y: 0, z: 0 };
     let (session, made) = block(alloc, session, 2, corner, 1, 3, 2);
     made?;
     Ok(session)
 }
 
-/// The two glued to one block of 5 by 3 by 2. Nothing says which numbers the faces of a block get, so it is looked up whether those that
-/// meet are of the two solids.
-fn lengthened(alloc: Global) -> Result<Session, Trouble>
+/// The two glued to one block of 5 by 3 by 2, at the sides that meet.
+fn lengthened(alloc: Global) -> Result<Session, Failure>
     ensures volume { IfOk result (λ session. six_volume (held session.machine) 1 ≡ pos 180) }
     ensures depth { IfOk result (λ session. depth session.machine ≡ 3) }
 {
     let session = paired(alloc)?;
-    if !is_face_of(&session, 1, 4) || !is_face_of(&session, 2, 12) {
-        return Err(Trouble::OtherSolid);
-    }
     let (session, glued) = joined(alloc, session, 4, 12);
     glued?;
     Ok(session)
 }
 
 /// That block cut at x = 2: what lies past it is solid 2.
-fn parted(alloc: Global) -> Result<Session, Trouble>
+fn parted(alloc: Global) -> Result<Session, Failure>
     ensures volume { IfOk result (λ session. six_volume (held session.machine) 1 +ℤ six_volume (held session.machine) 2 ≡ pos 180) }
     ensures sides { IfOk result (λ session. LieOnEitherSide (held session.machine) (neg_ℤ (pos 2)) 1 2) }
     ensures depth { IfOk result (λ session. depth session.machine ≡ 4) }
@@ -103,7 +95,7 @@ fn parted(alloc: Global) -> Result<Session, Trouble>
 }
 
 /// Says how many commands the machined block has.
-fn tell_block(rt: &HostRuntime) -> Result<(), Trouble> {
+fn tell_block(rt: &HostRuntime) -> Result<(), Failure> {
     let session = machined(rt.alloc())?;
     let (behind, ahead) = (session.depth(), session.ahead());
     prove!(behind == 1 && ahead == 1);
@@ -112,7 +104,7 @@ fn tell_block(rt: &HostRuntime) -> Result<(), Trouble> {
 }
 
 /// Says what the parts of the longer block measure.
-fn tell_parts(rt: &HostRuntime) -> Result<(), Trouble> {
+fn tell_parts(rt: &HostRuntime) -> Result<(), Failure> {
     let session = parted(rt.alloc())?;
     let (near, far) = (measured(&session, 1)?, measured(&session, 2)?);
     let whole = near + far;

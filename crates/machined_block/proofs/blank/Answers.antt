@@ -1,0 +1,22 @@
+use Rattle.std.proofs.Common.{◌≡◌, ◌+◌, sym, ap, ◌∙◌, arith, rules}
+use Rattle.sweeps.specs.Model.{solid_of}
+use Rattle.sweeps.specs.PlainMachine.{start, held}
+use Rattle.command_laws.specs.NewFaces.{last_face}
+use Rattle.machined_block.proofs.blank.Goals as goal
+
+begins : (c : goal.In_ok-made) → c.in_ok-session.session.machine ≡ start
+begins c = search rules
+
+no_face : (c : goal.In_ok-made) → last_face c.in_ok-session.session.machine ≡ 0
+no_face c = ap last_face (begins c) ∙ c.faces_are_kept.ensures.start
+
+pub returns-clause-side : goal.returns-clause-side
+returns-clause-side c =
+    let made = rw c.in_ok-made.was at c.block-session.ensures.ok in
+    let face = c.blocks_make_faces.ensures.sides c.in_ok-session.session.machine c.block-session.result.0.machine 1 _ _ _ _ 1 c.stays_consistent.ensures.held_sound made (omega arith) in
+    ap (λ g. solid_of (held c.block-session.result.0.machine) (g + 3 + 1)) (sym (no_face c)) ∙ face.solid
+
+pub returns-clause-last : goal.returns-clause-last
+returns-clause-last c =
+    let made = rw c.in_ok-made.was at c.block-session.ensures.ok in
+    c.blocks_make_faces.ensures.taken c.in_ok-session.session.machine c.block-session.result.0.machine 1 _ _ _ _ c.stays_consistent.ensures.held_sound made ∙ ap (λ g. g + 6) (no_face c)
