@@ -1,31 +1,47 @@
-// The Geometric WorkBench in process, for C++17: a session as a class, and refusals as exceptions.
+// The Geometric WorkBench in process, for C++17: a session as a class, its commands as methods, and refusals as exceptions by name.
+//
+//     gwb_session::Workbench bench;
+//     bench.block(1, {0, 0, 0}, {4, 4, 4});
+//     for (std::uint32_t face : bench.faces(1))
+//         for (std::uint32_t half_edge : bench.half_edges(bench.face(face).outer_loop))
+//             std::cout << half_edge / 2 << '\n'; // the number of an edge
+//
+// Commands, their arguments and their conditions are those of the script language (docs/SCRIPT.md). A half-edge is its edge's number times 2,
+// and 1 more for the edge's second: plus(e), minus(e). A corner is the half-edge that starts there, or lone(l) for the one corner of a loop
+// that has a vertex and no edge. What is to be linked, and that a workbench stays on its thread, is said in gwb.h.
 #ifndef GWB_HPP
 #define GWB_HPP
 #include "gwb.h"
+#include "gwb_names.h"
 #include <algorithm>
 #include <cstddef>
 #include <cstdint>
+#include <iterator>
+#include <memory>
 #include <new>
+#include <optional>
 #include <stdexcept>
 #include <string>
 #include <string_view>
+#include <utility>
 #include <vector>
 
 namespace gwb_session {
 
-// The name of the condition with a number, or "" where there is none.
-inline const char *condition_name(std::uint32_t number)
+constexpr std::uint32_t plus(std::uint32_t edge) { return 2 * edge; }
+constexpr std::uint32_t minus(std::uint32_t edge) { return 2 * edge + 1; }
+constexpr std::uint32_t lone(std::uint32_t loop) { return GWB_LONE(loop); }
+
+// A wide number as one of 64 bits. std::overflow_error where it does not fit.
+inline std::int64_t narrow(gwb_wide number)
 {
-    static constexpr const char *names[] = {
-        "", "NumberRange", "NoSolid", "NoFace", "NoLoop", "NoEdge", "SolidTaken", "FaceTaken", "LoopTaken", "EdgeTaken", "VertexTaken",
-        "PointRange", "NotBare", "NotLone", "DifferentTails", "ParallelEdge", "KeptEndBare", "DifferentLoops", "SameTail", "SameFace",
-        "HasRings", "SameLoop", "DifferentFaces", "NotRing", "DifferentSolids", "NothingToUndo", "NothingToRedo", "NumbersSpent",
-        "FewPoints", "ZeroSweep", "LoneLoop", "SameSolid", "NotFlat", "RepeatedPoint", "NoMatch", "PlaneRange", "PlaneMisses",
-        "NotLattice", "TouchedFace", "CutOften", "CutCrossed", "BranchedVertex", "SectionHoles", "SizeRange", "BadPart"};
-    return number < sizeof names / sizeof *names ? names[number] : "";
+    std::int64_t low = static_cast<std::int64_t>(number.low);
+    if (number.high != (low < 0 ? -1 : 0))
+        throw std::overflow_error("the number does not fit in 64 bits");
+    return low;
 }
 
-// A line that was not accepted; nothing has changed.
+// A command that was not accepted; nothing has changed.
 class Complaint : public std::runtime_error {
 public:
     using std::runtime_error::runtime_error;
@@ -34,16 +50,22 @@ public:
 // A condition of the command is false: its number, its name and the value that goes with it.
 class Refused : public Complaint {
 public:
-    Refused(std::string_view line, gwb_refusal refusal)
-        : Complaint(std::string(line) + ": " + condition_name(refusal.number) + " " + std::to_string(refusal.value)), refusal_(refusal)
+    Refused(std::string_view command, gwb_refusal refusal)
+        : Complaint(std::string(command) + ": " + gwb_why_name(refusal.number) + " " + std::to_string(refusal.value)), refusal_(refusal)
     {
     }
     std::uint32_t number() const { return refusal_.number; }
     std::uint32_t value() const { return refusal_.value; }
-    const char *name() const { return condition_name(refusal_.number); }
+    const char *name() const { return gwb_why_name(refusal_.number); }
 
 private:
     gwb_refusal refusal_;
+};
+
+// The same, for one condition: catch (const RefusedBy<GWB_WHY_NO_SOLID> &refused). gwb_names.h has all of them.
+template <gwb_why Why> class RefusedBy : public Refused {
+public:
+    using Refused::Refused;
 };
 
 // The line is no command: the number of the fault.
@@ -59,84 +81,300 @@ private:
     std::uint32_t number_;
 };
 
-// A session, closed at the end of its scope. Where memory is refused std::bad_alloc is thrown, and the line may be given again.
+// A call that its caller had no right to make; nothing has changed.
+class Misused : public std::logic_error {
+public:
+    using std::logic_error::logic_error;
+};
+
+// The workbench was moved from, or its handle closed.
+class Closed : public Misused {
+public:
+    Closed() : Misused("the workbench is closed") {}
+};
+
+// A range of numbers, rising, for a `for`: each is the least above the one before. Give its workbench no command meanwhile.
+class Numbers {
+public:
+    using After = std::uint32_t (*)(gwb *, std::uint32_t, std::uint32_t, std::uint32_t *);
+
+    class iterator {
+    public:
+        using iterator_category = std::input_iterator_tag;
+        using value_type = std::uint32_t;
+        using difference_type = std::ptrdiff_t;
+        using pointer = const std::uint32_t *;
+        using reference = std::uint32_t;
+
+        iterator() = default;
+        iterator(After after, gwb *handle, std::uint32_t owner) : after_(after), handle_(handle), owner_(owner) { ++*this; }
+        std::uint32_t operator*() const { return number_; }
+        iterator &operator++()
+        {
+            if (after_(handle_, owner_, number_, &number_) != GWB_FOUND)
+                *this = iterator();
+            return *this;
+        }
+        iterator operator++(int)
+        {
+            iterator before = *this;
+            ++*this;
+            return before;
+        }
+        bool operator==(const iterator &other) const { return number_ == other.number_; }
+        bool operator!=(const iterator &other) const { return number_ != other.number_; }
+
+    private:
+        After after_ = nullptr;
+        gwb *handle_ = nullptr;
+        std::uint32_t owner_ = 0, number_ = 0;
+    };
+
+    Numbers(After after, gwb *handle, std::uint32_t owner) : after_(after), handle_(handle), owner_(owner) {}
+    iterator begin() const { return iterator(after_, handle_, owner_); }
+    iterator end() const { return iterator(); }
+
+private:
+    After after_;
+    gwb *handle_;
+    std::uint32_t owner_;
+};
+
+// A session, closed at the end of its scope. It can be moved; one that was moved from is closed. Commands throw RefusedBy where a condition
+// is false, and std::bad_alloc where memory is refused; then the model is as it was, and the command may be given again. On a closed
+// workbench every method throws Closed.
 class Workbench {
 public:
-    Workbench()
+    Workbench() : handle_(new gwb{})
     {
-        if (!gwb_open(&handle_))
+        if (!gwb_open(handle_.get()))
             throw std::bad_alloc();
-    }
-    ~Workbench() { gwb_close(&handle_); }
-    Workbench(const Workbench &) = delete;
-    Workbench &operator=(const Workbench &) = delete;
-
-    // Gives one line of the script language, without its newline: the kind of the answer.
-    gwb_kind run(std::string_view line)
-    {
-        static const char nothing = 0;
-        const char *bytes = line.empty() ? &nothing : line.data();
-        auto kind = static_cast<gwb_kind>(gwb_line(&handle_, reinterpret_cast<const std::uint8_t *>(bytes), line.size()));
-        gwb_refusal refusal{};
-        std::uint32_t fault = 0;
-        if (kind == GWB_MEMORY)
-            throw std::bad_alloc();
-        if (gwb_last_refusal(&handle_, &refusal) == GWB_FOUND)
-            throw Refused(line, refusal);
-        if (gwb_last_fault(&handle_, &fault) == GWB_FOUND)
-            throw Faulted(line, fault);
-        return kind;
     }
 
-    // The text of the last answer, its newline included.
-    std::string reply()
+    // Operators, their arguments in the order of a script's words. The new edge's first half-edge starts at the first corner.
+    void mvfs(std::uint32_t solid, std::uint32_t face, std::uint32_t loop, std::uint32_t vertex, gwb_point at)
     {
-        std::string text(256, '\0');
-        std::size_t length = written(text);
-        if (length > text.size() && length != SIZE_MAX) {
-            text.resize(length);
-            length = written(text);
-        }
-        if (length == SIZE_MAX)
-            throw std::bad_alloc();
-        text.resize(length);
-        return text;
+        told("mvfs", gwb_mvfs(handle(), solid, face, loop, vertex, at.x, at.y, at.z));
     }
+    void kvfs(std::uint32_t solid) { told("kvfs", gwb_kvfs(handle(), solid)); }
+    void mev(std::uint32_t corner, std::uint32_t other, std::uint32_t edge, std::uint32_t vertex, gwb_point at)
+    {
+        told("mev", gwb_mev(handle(), corner, other, edge, vertex, at.x, at.y, at.z));
+    }
+    void kev(std::uint32_t half_edge) { told("kev", gwb_kev(handle(), half_edge)); }
+    void mef(std::uint32_t half_edge, std::uint32_t other, std::uint32_t edge, std::uint32_t face, std::uint32_t loop)
+    {
+        told("mef", gwb_mef(handle(), half_edge, other, edge, face, loop));
+    }
+    void kef(std::uint32_t half_edge) { told("kef", gwb_kef(handle(), half_edge)); }
+    void kemr(std::uint32_t half_edge, std::uint32_t ring) { told("kemr", gwb_kemr(handle(), half_edge, ring)); }
+    void mekr(std::uint32_t corner, std::uint32_t other, std::uint32_t edge) { told("mekr", gwb_mekr(handle(), corner, other, edge)); }
+    void kfmrh(std::uint32_t face, std::uint32_t other) { told("kfmrh", gwb_kfmrh(handle(), face, other)); }
+    void mfkrh(std::uint32_t ring, std::uint32_t face) { told("mfkrh", gwb_mfkrh(handle(), ring, face)); }
+    // `ringmv` with the word `in`, and with `out`.
+    void ring_in(std::uint32_t ring, std::uint32_t face) { told("ringmv", gwb_ringmv(handle(), ring, face, 0)); }
+    void ring_out(std::uint32_t ring, std::uint32_t face) { told("ringmv", gwb_ringmv(handle(), ring, face, 1)); }
+
+    // Two operators that no script has: a ring of a face becomes its outer loop, and two solids become the first.
+    void outer(std::uint32_t ring, std::uint32_t face) { told("outer", gwb_outer(handle(), ring, face)); }
+    void merge(std::uint32_t solid, std::uint32_t other) { told("merge", gwb_merge(handle(), solid, other)); }
+
+    // Larger commands. fresh() has the numbers that they give.
+    void lamina(std::uint32_t solid, const std::vector<gwb_point> &points)
+    {
+        std::string line = "lamina " + std::to_string(solid);
+        for (const gwb_point &at : points)
+            line += ' ' + std::to_string(at.x) + ' ' + std::to_string(at.y) + ' ' + std::to_string(at.z);
+        run(line);
+    }
+    void block(std::uint32_t solid, gwb_point corner, gwb_point sizes)
+    {
+        told("block", gwb_block(handle(), solid, corner.x, corner.y, corner.z, sizes.x, sizes.y, sizes.z));
+    }
+    void sweep(std::uint32_t face, gwb_point along) { told("sweep", gwb_sweep(handle(), face, along.x, along.y, along.z)); }
+    void glue(std::uint32_t face, std::uint32_t other) { told("glue", gwb_glue(handle(), face, other)); }
+    // What lies above the plane a x + b y + c z + d = 0, where the sum is greater than 0, becomes solid `above`.
+    void split(std::uint32_t solid, std::int64_t a, std::int64_t b, std::int64_t c, std::int64_t d, std::uint32_t above)
+    {
+        told("split", gwb_split(handle(), solid, a, b, c, d, above));
+    }
+
+    void undo() { told("undo", gwb_undo(handle())); }
+    void redo() { told("redo", gwb_redo(handle())); }
+    // How many commands can be undone, and how many redone.
+    std::size_t depth() { return opened(gwb_depth(handle())); }
+    std::size_t ahead() { return opened(gwb_ahead(handle())); }
 
     // The plane of a face, and whether the face is flat.
     gwb_plane plane(std::uint32_t face)
     {
         gwb_plane plane{};
         run("plane " + std::to_string(face));
-        gwb_last_plane(&handle_, &plane);
+        gwb_last_plane(handle(), &plane);
         return plane;
     }
+    // Six times the volume of a solid.
+    gwb_wide six_volumes(std::uint32_t solid)
+    {
+        gwb_wide volumes{};
+        run("volume " + std::to_string(solid));
+        gwb_last_volume(handle(), &volumes);
+        return volumes;
+    }
+    // The vertices, edges, faces and rings of a solid.
+    gwb_counts count(std::uint32_t solid)
+    {
+        gwb_counts counts{};
+        run("count " + std::to_string(solid));
+        gwb_last_counts(handle(), &counts);
+        return counts;
+    }
+
+    // The numbers of a kind that the last command made; none for solids, which a command names.
+    std::optional<gwb_range> fresh(gwb_entity kind)
+    {
+        gwb_range range{};
+        return found(gwb_fresh(handle(), kind, &range)) ? std::optional(range) : std::nullopt;
+    }
+
+    // Ranges: the numbers of a kind in use, the faces of a solid, the rings of a face. Empty where the owner is not there.
+    Numbers numbers(gwb_entity kind) { return Numbers(gwb_number_after, open_handle(), kind); }
+    Numbers faces(std::uint32_t solid) { return Numbers(gwb_face_after, open_handle(), solid); }
+    Numbers rings(std::uint32_t face) { return Numbers(gwb_ring_after, open_handle(), face); }
 
     // The half-edges of a loop, from the least on: none where it has one vertex and no edge, or is not there.
     std::vector<std::uint32_t> half_edges(std::uint32_t loop)
     {
         std::vector<std::uint32_t> found(16);
-        std::size_t count = gwb_half_edges(&handle_, loop, found.data(), found.size());
+        std::size_t count = opened(gwb_half_edges(handle(), loop, found.data(), found.size()));
         if (count > found.size()) {
             found.resize(count);
-            gwb_half_edges(&handle_, loop, found.data(), count);
+            gwb_half_edges(handle(), loop, found.data(), count);
         }
         found.resize(count);
         std::rotate(found.begin(), std::min_element(found.begin(), found.end()), found.end());
         return found;
     }
 
-    // How many commands can be undone, and how many redone.
-    std::size_t depth() { return gwb_depth(&handle_); }
-    std::size_t ahead() { return gwb_ahead(&handle_); }
+    // What is held of a number. std::out_of_range where it is not in use.
+    gwb_face_row face(std::uint32_t face) { return row<gwb_face_row>(gwb_face, face, "face"); }
+    gwb_edge_row edge(std::uint32_t edge) { return row<gwb_edge_row>(gwb_edge, edge, "edge"); }
+    gwb_point vertex(std::uint32_t vertex) { return row<gwb_point>(gwb_vertex, vertex, "vertex"); }
+    std::uint32_t face_of(std::uint32_t loop) { return row<std::uint32_t>(gwb_loop, loop, "loop"); }
+    // The half-edge after another in its loop.
+    std::uint32_t next(std::uint32_t half_edge) { return row<std::uint32_t>(gwb_next_half_edge, half_edge, "half-edge"); }
+    // The vertex of a loop that has one and no edge.
+    std::optional<std::uint32_t> lone_vertex(std::uint32_t loop)
+    {
+        std::uint32_t vertex = 0;
+        return found(gwb_lone_vertex(handle(), loop, &vertex)) ? std::optional(vertex) : std::nullopt;
+    }
 
-    // For the readers of gwb.h.
-    gwb *handle() { return &handle_; }
+    // Gives one line of the script language, without its newline: the kind of the answer. Faulted where the line is no command.
+    gwb_kind run(std::string_view line)
+    {
+        static const char nothing = 0;
+        const char *bytes = line.empty() ? &nothing : line.data();
+        std::uint32_t kind = gwb_line(handle(), reinterpret_cast<const std::uint8_t *>(bytes), line.size()), fault = 0;
+        if (kind == GWB_FAULT && gwb_last_fault(handle(), &fault) == GWB_FOUND)
+            throw Faulted(line, fault);
+        return told(line, kind);
+    }
+
+    // The text of the last answer, its newline included. After run("list") it is the listing of the model.
+    std::string reply()
+    {
+        std::string text(256, '\0');
+        std::size_t length = written(text);
+        if (length > text.size()) {
+            text.resize(length);
+            length = written(text);
+        }
+        text.resize(length);
+        return text;
+    }
+
+    // For the calls of gwb.h. It stays where it is when the workbench is moved.
+    gwb *handle()
+    {
+        if (!handle_)
+            throw Closed();
+        return handle_.get();
+    }
 
 private:
-    std::size_t written(std::string &text) { return gwb_reply(&handle_, reinterpret_cast<std::uint8_t *>(text.data()), text.size()); }
+    struct Close {
+        void operator()(gwb *handle) const
+        {
+            gwb_close(handle);
+            delete handle;
+        }
+    };
 
-    gwb handle_{};
+    // What the kind of an answer says to the caller: the kind, or an exception.
+    gwb_kind told(std::string_view command, std::uint32_t kind)
+    {
+        switch (kind) {
+        case GWB_MEMORY: throw std::bad_alloc();
+        case GWB_CLOSED: throw Closed();
+        case GWB_REFUSED: refuse(command, std::make_index_sequence<GWB_WHY_BAD_PART>());
+        default: return static_cast<gwb_kind>(kind);
+        }
+    }
+
+    // Throws the refusal that the last answer names, in the class of its condition. They are numbered from 1 on.
+    template <std::size_t... Before> [[noreturn]] void refuse(std::string_view command, std::index_sequence<Before...>)
+    {
+        gwb_refusal refusal{};
+        gwb_last_refusal(handle(), &refusal);
+        (throw_if<static_cast<gwb_why>(Before + 1)>(command, refusal), ...);
+        throw Refused(command, refusal);
+    }
+
+    template <gwb_why Why> static void throw_if(std::string_view command, gwb_refusal refusal)
+    {
+        if (refusal.number == Why)
+            throw RefusedBy<Why>(command, refusal);
+    }
+
+    static bool found(std::uint32_t answer)
+    {
+        if (answer == GWB_CLOSED)
+            throw Closed();
+        return answer == GWB_FOUND;
+    }
+
+    template <class Row> Row row(std::uint32_t (*reader)(gwb *, std::uint32_t, Row *), std::uint32_t number, const char *kind)
+    {
+        Row row{};
+        if (!found(reader(handle(), number, &row)))
+            throw std::out_of_range("there is no " + std::string(kind) + " " + std::to_string(number));
+        return row;
+    }
+
+    // A size that a closed handle does not have.
+    static std::size_t opened(std::size_t size)
+    {
+        if (size == SIZE_MAX)
+            throw Closed();
+        return size;
+    }
+
+    gwb *open_handle()
+    {
+        opened(gwb_depth(handle()));
+        return handle();
+    }
+
+    std::size_t written(std::string &text)
+    {
+        std::size_t length = gwb_reply(open_handle(), reinterpret_cast<std::uint8_t *>(text.data()), text.size());
+        if (length == SIZE_MAX)
+            throw std::bad_alloc();
+        return length;
+    }
+
+    std::unique_ptr<gwb, Close> handle_;
 };
 
 } // namespace gwb_session
