@@ -3,14 +3,14 @@
 
     tests/refusals.py [--write]
 
-Compares with them what is made from them, and what says them by hand: the help text of gwb, gwb.hpp, and the table of docs/SCRIPT.md. --write
-first makes anew companions/gwb/refusals.py, bindings/include/gwb_names.h and bindings/rust/src/refusal.rs. The texts are those of
-companions/gwb/language.py. The last line counts.
+Compares with them what is made from them, and what says them by hand: the help text of gwb, the last one in gwb.hpp, and the table of
+docs/SCRIPT.md. --write first makes anew companions/gwb/refusals.py, bindings/include/gwb_names.h and bindings/rust/src/refusal.rs. The texts
+are those of companions/gwb/language.py. The last line counts.
 """
 import re
 import sys
 from pathlib import Path
-from typing import Dict, Iterator, Tuple
+from typing import Dict, Iterator, List, Tuple
 
 TOP = Path(__file__).resolve().parent.parent
 sys.path.insert(0, str(TOP / 'companions'))
@@ -138,10 +138,9 @@ def page_names() -> Names:
     return found
 
 
-def header_names() -> Names:
-    """The names in gwb.hpp, if it has a table of its own."""
-    table = re.search(r'names\[\] = \{(.*?)\};', text_of('bindings/include/gwb.hpp'), re.DOTALL)
-    return dict(enumerate(re.findall(r'"(\w+)"', table.group(1)), 1)) if table else {}
+def header_names() -> List[str]:
+    """The conditions that gwb.hpp names in code: the last one, up to which it has an exception for each."""
+    return re.findall(r'<GWB_WHY_(\w+)>\(\)', text_of('bindings/include/gwb.hpp'))
 
 
 def findings(names: Names) -> Iterator[str]:
@@ -151,7 +150,8 @@ def findings(names: Names) -> Iterator[str]:
         yield '' if text_of(file) == make(names) else f'{file} is not the one that --write makes'
     yield '' if help_names('Refusals') == names else 'crates/gwb/src/words.rt: the help text has other names'
     yield '' if page_names() == names else 'docs/SCRIPT.md: the table of refusals has other names'
-    yield '' if header_names() in ({}, names) else 'bindings/include/gwb.hpp has other names'
+    last = [capitals(name) for name in list(names.values())[-1:]]
+    yield '' if header_names() == last else 'bindings/include/gwb.hpp: its last condition is another'
     faults = {number: meaning.name for number, meaning in FAULTS.items()}
     yield '' if help_names('Faults') == faults else 'crates/gwb/src/words.rt: its faults are not those of companions/gwb/language.py'
 
