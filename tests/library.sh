@@ -116,7 +116,6 @@ if command -v valgrind > /dev/null; then
 fi
 
 tried 'models by readers' python3 tests/library_readers.py "$dir/built/libgwb.so"
-tried 'the names of the conditions' python3 tests/library_names.py
 tried 'the library over a heap that refuses' cc -O2 -shared -fPIC -o "$dir/built/counting.so" bindings/heap.c tests/counting_heap.c \
     -Wl,--whole-archive "$archive" -Wl,--no-whole-archive -Wl,--wrap=malloc,--wrap=realloc,--wrap=free
 counted 'each allocation refused' python3 tests/library_refusals.py "$dir/built/counting.so"
