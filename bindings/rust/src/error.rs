@@ -1,0 +1,34 @@
+use crate::Refusal;
+use std::fmt;
+
+/// Why a command was not accepted. The model is as it was.
+#[derive(Clone, Copy, Debug, PartialEq, Eq, Hash)]
+#[non_exhaustive]
+pub enum Error {
+    /// A condition of the command is false.
+    Refused {
+        /// Which one: the first that is false.
+        refusal: Refusal,
+        /// The number that goes with it; the text of the refusal says which.
+        value: u32,
+    },
+    /// The line is no command, by the number of the fault.
+    Fault(u32),
+    /// Memory was refused. The command may be given again.
+    Memory,
+    /// The library answers with a kind or a condition of this number, which the crate does not know: they are of different versions.
+    Unknown(u32),
+}
+
+impl fmt::Display for Error {
+    fn fmt(&self, f: &mut fmt::Formatter<'_>) -> fmt::Result {
+        match self {
+            Self::Refused { refusal, value } => write!(f, "{refusal} {value}"),
+            Self::Fault(number) => write!(f, "fault {number}"),
+            Self::Memory => f.write_str("memory was refused"),
+            Self::Unknown(number) => write!(f, "the library answers {number}, which this version does not know"),
+        }
+    }
+}
+
+impl std::error::Error for Error {}
