@@ -1,21 +1,22 @@
 /* A block is made, measured, cut in two and put back, and its faces are walked by readers. */
 #include "gwb.h"
+#include "gwb_names.h"
 #include <inttypes.h>
 #include <stdio.h>
 #include <stdlib.h>
-#include <string.h>
 
-/* Gives a line, and prints it with its reply. */
-static void say(gwb *g, const char *line)
+/* Prints how a command was answered: by the name of the condition where it was refused. */
+static void say(gwb *g, const char *command, uint32_t kind)
 {
-    uint8_t text[256];
-    gwb_line(g, (const uint8_t *)line, strlen(line));
-    size_t length = gwb_reply(g, text, sizeof text);
-    if (length > sizeof text) {
-        fprintf(stderr, "%s: no text of %zu bytes\n", line, length);
+    gwb_refusal refusal;
+    if (kind == GWB_OK)
+        printf("%s: ok\n", command);
+    else if (gwb_last_refusal(g, &refusal) == GWB_FOUND)
+        printf("%s: %s %" PRIu32 "\n", command, gwb_why_name(refusal.number), refusal.value);
+    else {
+        fprintf(stderr, "%s: kind %" PRIu32 "\n", command, kind);
         exit(1);
     }
-    printf("%-20s -> %.*s", line, (int)length, (const char *)text);
 }
 
 /* The place of the least of some numbers. */
@@ -65,6 +66,29 @@ static int64_t narrow(gwb_wide number)
     return (int64_t)number.low;
 }
 
+/* Prints the volume of a solid, by a line of the script language. */
+static void print_volume(gwb *g, uint32_t solid)
+{
+    char line[32];
+    gwb_wide six;
+    int length = snprintf(line, sizeof line, "volume %" PRIu32, solid);
+    gwb_line(g, (const uint8_t *)line, (size_t)length);
+    if (gwb_last_volume(g, &six) == GWB_FOUND)
+        printf("the volume of solid %" PRIu32 " is %" PRId64 "\n", solid, narrow(six) / 6);
+}
+
+/* Prints the plane of a face, by a line of the script language. */
+static void print_plane(gwb *g, uint32_t face)
+{
+    char line[32];
+    gwb_plane plane;
+    int length = snprintf(line, sizeof line, "plane %" PRIu32, face);
+    gwb_line(g, (const uint8_t *)line, (size_t)length);
+    if (gwb_last_plane(g, &plane) == GWB_FOUND)
+        printf("on face %" PRIu32 " %" PRId64 " x + %" PRId64 " y + %" PRId64 " z + %" PRId64 " is 0, and the face is %s\n", face,
+               narrow(plane.a), narrow(plane.b), narrow(plane.c), narrow(plane.d), plane.flat ? "flat" : "bent");
+}
+
 /* Prints the highest vertex, and how many there are. */
 static void print_vertices(gwb *g)
 {
@@ -82,31 +106,25 @@ static void print_vertices(gwb *g)
 int main(void)
 {
     gwb g = {0};
-    gwb_refusal refusal;
-    gwb_wide volume;
-    gwb_plane plane;
+    gwb_range range;
     if (!gwb_open(&g))
         return 1;
-    say(&g, "block 1 0 0 0 4 4 4");
-    say(&g, "volume 1");
-    if (gwb_last_volume(&g, &volume) == GWB_FOUND)
-        printf("six volumes: %" PRId64 " * 2^64 + %" PRIu64 "\n", volume.high, volume.low);
-    say(&g, "split 1 0 0 1 -2 2");
-    say(&g, "volume 1");
-    say(&g, "volume 2");
+    say(&g, "block", gwb_block(&g, 1, 0, 0, 0, 4, 4, 4));
+    print_volume(&g, 1);
+    say(&g, "split", gwb_split(&g, 1, 0, 0, 1, -2, 2));
+    if (gwb_fresh(&g, GWB_FACE, &range) == GWB_FOUND)
+        printf("the new faces are from %" PRIu32 " to %" PRIu32 "\n", range.first, range.last);
+    print_volume(&g, 1);
+    print_volume(&g, 2);
     print_faces(&g, 2);
-    say(&g, "plane 15");
-    if (gwb_last_plane(&g, &plane) == GWB_FOUND)
-        printf("on it z is %" PRId64 ", and the face is %s\n", -narrow(plane.d) / narrow(plane.c), plane.flat ? "flat" : "bent");
+    print_plane(&g, 15);
     print_vertices(&g);
-    say(&g, "kvfs 2");
-    if (gwb_last_refusal(&g, &refusal) == GWB_FOUND)
-        printf("condition %" PRIu32 " is false, with the value %" PRIu32 "\n", refusal.number, refusal.value);
+    say(&g, "kvfs", gwb_kvfs(&g, 2));
+    say(&g, "undo", gwb_undo(&g));
     printf("depth %zu, ahead %zu\n", gwb_depth(&g), gwb_ahead(&g));
-    say(&g, "undo");
-    printf("depth %zu, ahead %zu\n", gwb_depth(&g), gwb_ahead(&g));
-    say(&g, "volume 1");
-    say(&g, "volume 2");
+    /* an edge stands up from the corner at which the first half-edge of edge 7 starts */
+    say(&g, "mev", gwb_mev(&g, 2 * 7, 2 * 7, 13, 9, 0, 0, 9));
+    print_loop(&g, 1);
     gwb_close(&g);
-    return gwb_line(&g, (const uint8_t *)"list", 4) == GWB_CLOSED ? 0 : 1;
+    return gwb_undo(&g) == GWB_CLOSED ? 0 : 1;
 }

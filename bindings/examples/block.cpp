@@ -4,39 +4,62 @@
 
 using gwb_session::Faulted;
 using gwb_session::Refused;
+using gwb_session::RefusedBy;
 using gwb_session::Workbench;
 
-static void say(Workbench &bench, const char *line)
+// Prints what each face of a solid has round it.
+static void print_faces(Workbench &bench, std::uint32_t solid)
+{
+    for (std::uint32_t face : bench.faces(solid)) {
+        std::cout << "face " << face << " has the half-edges";
+        for (std::uint32_t half_edge : bench.half_edges(bench.face(face).outer_loop))
+            std::cout << ' ' << (half_edge % 2 == 0 ? '+' : '-') << half_edge / 2;
+        std::cout << '\n';
+    }
+}
+
+// Prints the volume of a solid, if it is there.
+static void print_volume(Workbench &bench, std::uint32_t solid)
 {
     try {
-        bench.run(line);
-        std::cout << line << " -> " << bench.reply();
+        std::int64_t volume = gwb_session::narrow(bench.six_volumes(solid)) / 6;
+        std::cout << "the volume of solid " << solid << " is " << volume << '\n';
+    } catch (const RefusedBy<GWB_WHY_NO_SOLID> &refused) {
+        std::cout << "there is no solid " << refused.value() << '\n';
+    }
+}
+
+// What is not accepted changes nothing.
+static void print_refusals(Workbench &bench)
+{
+    try {
+        bench.kvfs(2);
     } catch (const Refused &refused) {
-        std::cout << line << " -> " << refused.name() << ", value " << refused.value() << '\n';
+        std::cout << refused.what() << "; its number is " << refused.number() << '\n';
+    }
+    try {
+        bench.run("splitt 2");
     } catch (const Faulted &faulted) {
-        std::cout << line << " -> fault " << faulted.number() << '\n';
+        std::cout << faulted.what() << '\n';
     }
 }
 
 int main()
 {
     Workbench bench;
-    say(bench, "block 1 0 0 0 4 4 4");
-    say(bench, "split 1 0 0 1 -2 2");
-    say(bench, "volume 1");
-    say(bench, "volume 2");
-    say(bench, "kvfs 2");
-    say(bench, "split 2 0 0 1 0 3");
-    say(bench, "splitt 2");
+    bench.block(1, {0, 0, 0}, {4, 4, 4});
+    bench.split(1, 0, 0, 1, -2, 2);
+    print_volume(bench, 1);
+    print_volume(bench, 2);
+    print_faces(bench, 2);
+    print_refusals(bench);
+    bench.undo();
     std::cout << "depth " << bench.depth() << ", ahead " << bench.ahead() << '\n';
-    say(bench, "undo");
-    say(bench, "volume 2");
-    std::uint32_t faces = 0, face = 0;
-    while (gwb_face_after(bench.handle(), 1, face, &face) == GWB_FOUND)
-        faces++;
-    std::cout << faces << " faces\n";
-    std::cout << "face 1 is " << (bench.plane(1).flat ? "flat" : "bent") << ", with the half-edges";
-    for (std::uint32_t half_edge : bench.half_edges(1))
-        std::cout << ' ' << half_edge;
-    std::cout << '\n';
+    print_volume(bench, 2);
+    gwb_plane top = bench.plane(1);
+    std::int64_t height = -gwb_session::narrow(top.d) / gwb_session::narrow(top.c);
+    std::cout << "face 1 is " << (top.flat ? "flat" : "bent") << ", at height " << height << '\n';
+    // an edge stands up from the corner at which the first half-edge of edge 7 starts
+    bench.mev(gwb_session::plus(7), gwb_session::plus(7), 13, 9, {0, 0, 9});
+    std::cout << "vertex " << bench.edge(13).to << " is at height " << bench.vertex(9).z << '\n';
 }

@@ -1,135 +1,45 @@
 //! A block is made, cut in two and put back, from Rust.
-use std::ffi::c_void;
-use std::fmt;
+use gwb::{plus, Error, Refusal, Session};
 
-/// The calls of gwb.h that are used here.
-mod library {
-    use super::Handle;
-
-    extern "C" {
-        pub fn gwb_open(handle: *mut Handle) -> bool;
-        pub fn gwb_close(handle: *mut Handle);
-        pub fn gwb_line(handle: *mut Handle, line: *const u8, n: usize) -> u32;
-        pub fn gwb_reply(handle: *mut Handle, buf: *mut u8, room: usize) -> usize;
-        pub fn gwb_depth(handle: *mut Handle) -> usize;
-        pub fn gwb_ahead(handle: *mut Handle) -> usize;
-        pub fn gwb_half_edges(handle: *mut Handle, l: u32, buf: *mut u32, room: usize) -> usize;
-        pub fn gwb_last_refusal(handle: *mut Handle, refusal: *mut super::Refusal) -> u32;
+/// Prints what each face of a solid has round it.
+fn print_faces(session: &Session, solid: u32) {
+    for face in session.faces(solid) {
+        let outer_loop = session.face(face).map(|row| row.outer_loop);
+        println!("face {face} has the half-edges {:?}", outer_loop.map(|of_loop| session.half_edges(of_loop)).unwrap_or_default());
     }
 }
 
-const FAULT: u32 = 3;
-const MEMORY: u32 = 4;
-const FOUND: u32 = 1;
-
-#[repr(C)]
-struct Handle {
-    is_open: bool,
-    held: *mut c_void,
+/// Prints the volume of a solid, if it is there.
+fn print_volume(session: &mut Session, solid: u32) -> Result<(), Error> {
+    match session.six_volumes(solid) {
+        Ok(six) => println!("the volume of solid {solid} is {}", six / 6),
+        Err(Error::Refused { refusal: Refusal::NoSolid, value }) => println!("there is no solid {value}"),
+        Err(other) => return Err(other),
+    }
+    Ok(())
 }
 
-/// The condition that is false, by its number, and the value that goes with it.
-#[repr(C)]
-#[derive(Debug, Default)]
-struct Refusal {
-    number: u32,
-    value: u32,
-}
-
-#[derive(Debug)]
-enum Complaint {
-    Refused(Refusal),
-    Fault,
-    Memory,
-}
-
-impl fmt::Display for Complaint {
-    fn fmt(&self, f: &mut fmt::Formatter) -> fmt::Result {
-        match self {
-            Complaint::Refused(refusal) => write!(f, "condition {} is false, with the value {}", refusal.number, refusal.value),
-            Complaint::Fault => write!(f, "no command"),
-            Complaint::Memory => write!(f, "memory was refused"),
-        }
+fn main() -> Result<(), Error> {
+    let mut session = Session::new()?;
+    session.block(1, [0, 0, 0], [4, 4, 4])?;
+    session.split(1, [0, 0, 1, -2], 2)?;
+    print_volume(&mut session, 1)?;
+    print_volume(&mut session, 2)?;
+    print_faces(&session, 2);
+    if let Err(error) = session.kvfs(2) {
+        println!("kvfs: {error}");
     }
-}
-
-/// A session, closed when it is dropped. It stays on its thread, since its handle has a raw pointer.
-struct Workbench {
-    handle: Box<Handle>,
-}
-
-impl Workbench {
-    /// A session that holds the empty model, or none where memory is refused.
-    fn new() -> Option<Workbench> {
-        let mut handle = Box::new(Handle { is_open: false, held: std::ptr::null_mut() });
-        unsafe { library::gwb_open(&mut *handle) }.then(|| Workbench { handle })
+    if let Err(error) = session.run("splitt 2") {
+        println!("splitt: {error}");
     }
-
-    /// Gives one line of the script language: the text of the answer.
-    fn say(&mut self, line: &str) -> Result<String, Complaint> {
-        let kind = unsafe { library::gwb_line(&mut *self.handle, line.as_ptr(), line.len()) };
-        let mut refusal = Refusal::default();
-        if unsafe { library::gwb_last_refusal(&mut *self.handle, &mut refusal) } == FOUND {
-            return Err(Complaint::Refused(refusal));
-        }
-        match kind {
-            FAULT => Err(Complaint::Fault),
-            MEMORY => Err(Complaint::Memory),
-            _ => self.text().ok_or(Complaint::Memory),
-        }
-    }
-
-    fn text(&mut self) -> Option<String> {
-        let mut text = vec![0; 256];
-        loop {
-            let length = unsafe { library::gwb_reply(&mut *self.handle, text.as_mut_ptr(), text.len()) };
-            if length == usize::MAX {
-                return None;
-            }
-            let fits = length <= text.len();
-            text.resize(length, 0);
-            if fits {
-                return String::from_utf8(text).ok();
-            }
-        }
-    }
-
-    /// The half-edges of a loop, from the least on: none where it has one vertex and no edge, or is not there.
-    fn half_edges(&mut self, l: u32) -> Vec<u32> {
-        let mut found = vec![0; 16];
-        loop {
-            let count = unsafe { library::gwb_half_edges(&mut *self.handle, l, found.as_mut_ptr(), found.len()) };
-            let fits = count <= found.len();
-            found.resize(count, 0);
-            if fits {
-                let least = (0..count).min_by_key(|&at| found[at]).unwrap_or(0);
-                found.rotate_left(least);
-                return found;
-            }
-        }
-    }
-
-    /// How many commands can be undone, and how many redone.
-    fn depths(&mut self) -> (usize, usize) {
-        unsafe { (library::gwb_depth(&mut *self.handle), library::gwb_ahead(&mut *self.handle)) }
-    }
-}
-
-impl Drop for Workbench {
-    fn drop(&mut self) {
-        unsafe { library::gwb_close(&mut *self.handle) }
-    }
-}
-
-fn main() {
-    let mut bench = Workbench::new().expect("memory");
-    for line in ["block 1 0 0 0 4 4 4", "split 1 0 0 1 -2 2", "volume 1", "volume 2", "kvfs 2", "splitt 2", "undo", "volume 2", "list"] {
-        match bench.say(line) {
-            Ok(text) => print!("{line} -> {text}"),
-            Err(complaint) => println!("{line} -> {complaint}"),
-        }
-    }
-    println!("loop 1 has the half-edges {:?}", bench.half_edges(1));
-    let (depth, ahead) = bench.depths();
-    println!("depth {depth}, ahead {ahead}");
+    session.undo()?;
+    println!("depth {}, ahead {}", session.depth(), session.ahead());
+    print_volume(&mut session, 2)?;
+    println!("face 1: {:?}", session.plane(1)?);
+    // an edge stands up from the corner at which the first half-edge of edge 7 starts
+    session.mev(plus(7), plus(7), 13, 9, [0, 0, 9])?;
+    println!("edge 13: {:?}, and its end is at {:?}", session.edge(13), session.vertex(9));
+    session.run("count 1")?;
+    print!("{}", session.reply()?);
+    Ok(())
 }

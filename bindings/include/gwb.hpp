@@ -179,7 +179,7 @@ public:
     void outer(std::uint32_t ring, std::uint32_t face) { told("outer", gwb_outer(handle(), ring, face)); }
     void merge(std::uint32_t solid, std::uint32_t other) { told("merge", gwb_merge(handle(), solid, other)); }
 
-    // Larger commands. fresh() has the numbers that they give.
+    // Larger commands. Their faces, loops, edges and vertices are among fresh().
     void lamina(std::uint32_t solid, const std::vector<gwb_point> &points)
     {
         std::string line = "lamina " + std::to_string(solid);
@@ -230,7 +230,8 @@ public:
         return counts;
     }
 
-    // The numbers of a kind that the last command made; none for solids, which a command names.
+    // The numbers of a kind above all that were in use before the last command, up to the greatest in use now; not each of them need be in
+    // use. None where there are none, and for solids, which a command names.
     std::optional<gwb_range> fresh(gwb_entity kind)
     {
         gwb_range range{};

@@ -177,7 +177,8 @@ impl Session {
         Ok(self.found(|g, counts| unsafe { calls::gwb_last_counts(g, counts) }).unwrap_or_default())
     }
 
-    /// The numbers of a kind that the last command made, if any; none for solids, which a command names.
+    /// The numbers of a kind above all that were in use before the last command, up to the greatest in use now; not each of them need be in
+    /// use. None for solids, which a command names.
     #[must_use]
     pub fn fresh(&self, kind: Entity) -> Option<RangeInclusive<u32>> {
         let range: Option<Range> = self.found(|g, range| unsafe { calls::gwb_fresh(g, kind as u32, range) });
