@@ -1,18 +1,22 @@
 //! Commands of the workbench, each with what this program wants of it.
-ghost use Rattle.std.specs.Prelude.{◌≡◌, pos, ◌+ℤ◌, ◌*ℤ◌, OnOk, OnErr, IfOk};
+ghost use Rattle.std.specs.Prelude.{◌≡◌, pos, ◌+ℤ◌, ◌*ℤ◌, [], OnOk, OnErr, IfOk};
+ghost use Rattle.command_laws.specs.NewFaces.{IsFaceOf, all_moved, corner_points};
 ghost use Rattle.machined_block.specs.Cutting.{LieOnEitherSide};
 ghost use Rattle.machined_block.specs.Undoing.{IsOneCommand};
 ghost use Rattle.sweeps.specs.PlainMachine.{held};
 ghost use Rattle.sweeps.specs.Measure.{normal, six_volume};
-ghost use Rattle.sweeps.specs.Model.{solid_of};
+ghost use Rattle.sweeps.specs.Model.{rings_of, solid_of};
+ghost use Rattle.sweeps.specs.Sound.{Has};
 ghost use Rattle.sweeps.specs.Vectors.{dot};
 
+use command_laws::sweeps_make_faces;
 use gluing::{glue, glue_measures, six_volume};
 use plane_split::{split, splits_are_held};
 use std::alloc::Global;
 use sweeps::{Draft, Failure, Op, Point, Session, sweep, sweep_measures};
 
-/// A face swept along a vector. Its solid grows by three times the face's normal before, along the vector. Undo gives the model before.
+/// A face swept along a vector. Its solid grows by three times the face's normal before, along the vector. A face without rings keeps its
+/// number, and its corners have moved. Undo gives the model before.
 pub fn raised(
     alloc: Global,
     session: Session,
@@ -20,11 +24,13 @@ pub fn raised(
     by: Point,
 ) -> (Session, Result<(), Failure>)
     ensures volume { OnOk result.1 (six_volume (held result.0.machine) (solid_of (held session.machine) face) ≡ six_volume (held session.machine) (solid_of (held session.machine) face) +ℤ pos 3 *ℤ dot (normal (held session.machine) face) by) }
+    ensures far { OnOk result.1 (rings_of (held session.machine) face ≡ [] → IsFaceOf (held result.0.machine) face (solid_of (held session.machine) face) (all_moved by (corner_points (held session.machine) face))) }
     ensures undone { OnOk result.1 (IsOneCommand session.machine result.0.machine) }
     ensures err { OnErr result.1 (result.0 ≡ session) }
 {
     session.stays_consistent();
     sweep_measures();
+    sweeps_make_faces();
     sweep(alloc, session, face, by)
 }
 
@@ -75,4 +81,12 @@ pub fn measured(session: &Session, s: u32) -> Result<i128, Failure>
     ensures { IfOk result (λ volume. volume ≡ six_volume (held session.now.machine) s) }
 {
     six_volume(session.arena(), s).map_err(Failure::Refused)
+}
+
+/// Six times the volume of solid 1, which is there: the measure is answered.
+pub fn known(session: &Session) -> i128
+    requires { Has (held session.now.machine).solids 1 }
+    ensures { result ≡ six_volume (held session.now.machine) 1 }
+{
+    six_volume(session.arena(), 1).unwrap()
 }

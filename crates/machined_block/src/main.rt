@@ -12,16 +12,18 @@ ghost use Rattle.command_laws.specs.NewFaces.{last_face};
 ghost use Rattle.machined_block.specs.Cutting.{LieOnEitherSide};
 ghost use Rattle.sweeps.specs.PlainMachine.{depth, ahead, held};
 ghost use Rattle.sweeps.specs.Measure.{six_volume};
-ghost use Rattle.sweeps.specs.Model.{solid_of};
+ghost use Rattle.sweeps.specs.Model.{empty_model, solid_of};
+ghost use Rattle.sweeps.specs.Sound.{Has};
 
-use command_laws::{blocks_make_faces, faces_are_kept};
-use commands::{cut, joined, measured, raised, tried};
+use command_laws::{blocks_make_faces, faces_are_kept, solids_are_there, undos_go_back};
+use commands::{cut, joined, known, measured, raised, tried};
 use std::alloc::Global;
 use std::process::ExitCode;
 use sweeps::{Failure, Op, Point, Session, block, block_measures};
 
 /// A session that holds a block of 4 by 3 by 2 as solid 1. Its faces have the numbers 1 to 6; the side at the greatest x is face 4.
 fn blank(alloc: Global) -> Result<Session, Failure>
+    ensures there { IfOk result (λ session. Has (held session.machine).solids 1) }
     ensures side { IfOk result (λ session. solid_of (held session.machine) 4 ≡ 1) }
     ensures last { IfOk result (λ session. last_face session.machine ≡ 6) }
     ensures volume { IfOk result (λ session. six_volume (held session.machine) 1 ≡ pos 144) }
@@ -32,6 +34,7 @@ fn blank(alloc: Global) -> Result<Session, Failure>
     block_measures();
     blocks_make_faces();
     faces_are_kept();
+    solids_are_there();
     let corner = Point { x: 0, y: 0, z: 0 };
     let (session, made) = block(alloc, session, 1, corner, 4, 3, 2);
     made?;
@@ -42,6 +45,7 @@ fn blank(alloc: Global) -> Result<Session, Failure>
 /// the sweep can be made again.
 fn machined(alloc: Global) -> Result<Session, Failure>
     ensures volume { IfOk result (λ session. six_volume (held session.machine) 1 ≡ pos 144) }
+    ensures there { IfOk result (λ session. Has (held session.machine).solids 1) }
     ensures left { IfOk result (λ session. (depth session.machine ≡ 1) × (ahead session.machine ≡ 1)) }
 {
     let session = blank(alloc)?;
@@ -94,12 +98,26 @@ fn parted(alloc: Global) -> Result<Session, Failure>
     Ok(session)
 }
 
-/// Says how many commands the machined block has.
+/// The two blocks taken back, the second first: the model is the empty one again.
+fn taken_back(alloc: Global) -> Result<Session, Failure>
+    ensures empty { IfOk result (λ session. held session.machine ≡ empty_model) }
+    ensures depth { IfOk result (λ session. depth session.machine ≡ 0) }
+{
+    let mut session = paired(alloc)?;
+    session.stays_consistent();
+    undos_go_back();
+    session.undo().unwrap();
+    session.undo().unwrap();
+    Ok(session)
+}
+
+/// Says how large the machined block is, and how many commands it has.
 fn tell_block(rt: &HostRuntime) -> Result<(), Failure> {
     let session = machined(rt.alloc())?;
+    let volume = known(&session) / 6;
     let (behind, ahead) = (session.depth(), session.ahead());
-    prove!(behind == 1 && ahead == 1);
-    let _ = println!(rt; "a block of volume 24: {behind} command to undo, {ahead} to redo");
+    prove!(volume == 24 && behind == 1 && ahead == 1);
+    let _ = println!(rt; "a block of volume {volume}: {behind} command to undo, {ahead} to redo");
     Ok(())
 }
 
@@ -116,8 +134,19 @@ fn tell_parts(rt: &HostRuntime) -> Result<(), Failure> {
     Ok(())
 }
 
+/// Says that nothing is left to undo.
+fn tell_none(rt: &HostRuntime) -> Result<(), Failure> {
+    let session = taken_back(rt.alloc())?;
+    let commands = session.depth();
+    prove!(commands == 0);
+    let _ = println!(rt; "both taken back: {commands} commands to undo");
+    Ok(())
+}
+
 fn main(rt: HostRuntime) -> ExitCode {
-    let told = tell_block(&rt).and_then(|()| tell_parts(&rt));
+    let told = tell_block(&rt)
+        .and_then(|()| tell_parts(&rt))
+        .and_then(|()| tell_none(&rt));
     if told.is_ok() {
         ExitCode::SUCCESS
     } else {

@@ -1,0 +1,10 @@
+use Rattle.std.proofs.Common.{◌≡◌, ap, ◌∙◌, rules}
+use Rattle.sweeps.specs.PlainMachine.{depth, undo}
+use Rattle.machined_block.proofs.Undone.{one_fewer}
+use Rattle.machined_block.proofs.taken_back.Goals as goal
+
+pub returns-clause-depth : goal.returns-clause-depth
+returns-clause-depth c =
+    let once : c.undo.new.self.machine ≡ undo c.in_ok-session.session.machine = search rules in
+    let twice : c.undo-2.new.self.machine ≡ undo c.undo.new.self.machine = search rules in
+    ap depth twice ∙ one_fewer c.undo.new.self.machine 0 (ap depth once ∙ one_fewer c.in_ok-session.session.machine 1 c.in_ok-session.ensures.depth)
