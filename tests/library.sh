@@ -89,17 +89,22 @@ tried 'the shared object and the examples in C and C++' make_here
 echo "the shared object and two examples took $(($(date +%s) - began)) seconds"
 prints 'the example in C' bindings/examples/block_c.expected "$dir/built/block_c"
 prints 'the example in C++' bindings/examples/block_cpp.expected "$dir/built/block_cpp"
+tried 'the tests in C++ are built' "${CXX:-c++}" -std=c++17 -Wall -Wextra -Werror -Ibindings/include -o "$dir/built/library_cpp" \
+    tests/library_cpp.cpp "$dir/built/libgwb.a"
+counted 'the tests in C++' "$dir/built/library_cpp"
 prints 'the example in Python' bindings/examples/block_python.expected bindings/examples/block.py "$dir/built/libgwb.so"
 if command -v rustc > /dev/null; then
-    tried 'the example in Rust is built' make_here rust
+    tried 'the crate and the example in Rust are built' make_here rust
     prints 'the example in Rust' bindings/examples/block_rust.expected "$dir/built/block_rust"
+    tried 'the tests in Rust' "$dir/built/session_rust"
 else
-    echo 'not tried: the example in Rust, since there is no rustc'
+    echo 'not tried: the crate in Rust, since there is no rustc'
 fi
 if command -v valgrind > /dev/null; then
     tried 'valgrind over the example in C' valgrind -q --error-exitcode=9 --leak-check=full --show-leak-kinds=all "$dir/built/block_c"
+    tried 'valgrind over the tests in C++' valgrind -q --error-exitcode=9 --leak-check=full --show-leak-kinds=all "$dir/built/library_cpp"
 else
-    echo 'not tried: the example in C under valgrind, which is not there'
+    echo 'not tried: the example in C and the tests in C++ under valgrind, which is not there'
 fi
 
 # typed LINES COMMAND..: gives so many random lines to the program that compares typed calls with lines
