@@ -28,6 +28,7 @@ def places(version: str) -> Iterator[Place]:
     yield Place('companions/pyproject.toml', r'^version = \{ attr = "(.*)" \}$', 'gwb.version.VERSION')
     yield Place('bindings/gwb.pc.in', r'^Version: (.*)$', version)
     yield Place('docs/gwb.1', r'^\.TH GWB 1 "[^"]*" "gwb (.*?)"', version)
+    yield Place('bindings/rust/Cargo.toml', r'^version = "(.*)"$', version)
     yield Place('CHANGELOG.md', r'^## (.*)$', version)
     yield Place('bindings/include/gwb.h', r'^#define GWB_VERSION (\d+)$', str(major * 10_000 + minor * 100 + patch), needed=False)
 
