@@ -6,9 +6,9 @@
 //         for (std::uint32_t half_edge : bench.half_edges(bench.face(face).outer_loop))
 //             std::cout << half_edge / 2 << '\n'; // the number of an edge
 //
-// Commands, their arguments and their conditions are those of the script language (docs/SCRIPT.md). A half-edge is its edge's number times 2,
-// and 1 more for the edge's second: plus(e), minus(e). A corner is the half-edge that starts there, or lone(l) for the one corner of a loop
-// that has a vertex and no edge. What is to be linked, and that a workbench stays on its thread, is said in gwb.h.
+// Commands, their arguments and their conditions are those of the script language (docs/SCRIPT.md). A half-edge is its edge's number times
+// 2, and 1 more for the edge's second: plus(e), minus(e). A corner is the half-edge that starts there, or lone(l) for the one corner of a
+// loop that has a vertex and no edge. What is to be linked, and that a workbench stays on its thread, is said in gwb.h.
 #ifndef GWB_HPP
 #define GWB_HPP
 #include "gwb.h"

@@ -18,9 +18,9 @@
 //! # Ok::<(), Error>(())
 //! ```
 //!
-//! Numbers are from 1 to 1,000,000, coordinates whole numbers within 1,000,000,000 either way; what is outside is refused. A half-edge is its
-//! edge's number times 2, and 1 more for the edge's second: [`plus`], [`minus`]. A corner is the half-edge that starts there, or [`lone`] for
-//! the one corner of a loop that has a vertex and no edge.
+//! Numbers are from 1 to 1,000,000, coordinates whole numbers within 1,000,000,000 either way; what is outside is refused. A half-edge is
+//! its edge's number times 2, and 1 more for the edge's second: [`plus`], [`minus`]. A corner is the half-edge that starts there, or
+//! [`lone`] for the one corner of a loop that has a vertex and no edge.
 //!
 //! The crate links `libgwb.a`, from bindings/out or from the folder that the environment variable `GWB_LIB_DIR` names.
 #![deny(unsafe_op_in_unsafe_fn)]

@@ -20,8 +20,8 @@ pub struct Session {
     handle: NonNull<Handle>,
 }
 
-// SAFETY, for all calls in this file: the handle is open from `new` on until `drop`, nobody else has it, and a raw pointer keeps the session on
-// its thread. What a call writes to is a value of its own.
+// SAFETY, for all calls in this file: the handle is open from `new` on until `drop`, nobody else has it, and a raw pointer keeps the
+// session on its thread. What a call writes to is a value of its own.
 impl Session {
     /// Opens a session that holds the empty model.
     ///
@@ -55,8 +55,8 @@ impl Session {
         self.told(unsafe { calls::gwb_kev(self.handle(), half_edge) })
     }
 
-    /// A new edge across a face, between the vertices at which two half-edges of one loop start. The part from the first to before the second
-    /// becomes the loop of the new face.
+    /// A new edge across a face, between the vertices at which two half-edges of one loop start. The part from the first to before the
+    /// second becomes the loop of the new face.
     pub fn mef(&mut self, half_edge: u32, other: u32, edge: u32, face: u32, face_loop: u32) -> Result<(), Error> {
         self.told(unsafe { calls::gwb_mef(self.handle(), half_edge, other, edge, face, face_loop) })
     }
@@ -118,8 +118,8 @@ impl Session {
         self.told(unsafe { calls::gwb_block(self.handle(), solid, at.x, at.y, at.z, by.x, by.y, by.z) })
     }
 
-    /// The face moves by a vector, and a new face rises over each of its half-edges. Sweep a lamina's first face along its normal: against it the
-    /// solid is inside out, and its volume negative.
+    /// The face moves by a vector, and a new face rises over each of its half-edges. Sweep a lamina's first face along its normal: against
+    /// it the solid is inside out, and its volume negative.
     pub fn sweep(&mut self, face: u32, along: impl Into<Point>) -> Result<(), Error> {
         let by = along.into();
         self.told(unsafe { calls::gwb_sweep(self.handle(), face, by.x, by.y, by.z) })
