@@ -8,7 +8,7 @@ using gwb_session::RefusedBy;
 using gwb_session::Workbench;
 
 // Prints what each face of a solid has round it.
-static void print_faces(Workbench &bench, std::uint32_t solid)
+static void print_faces(const Workbench &bench, std::uint32_t solid)
 {
     for (std::uint32_t face : bench.faces(solid)) {
         std::cout << "face " << face << " has the half-edges";

@@ -140,9 +140,9 @@ private:
     std::uint32_t owner_;
 };
 
-// A session, closed at the end of its scope. It can be moved; one that was moved from is closed. Commands throw RefusedBy where a condition
-// is false, and std::bad_alloc where memory is refused; then the model is as it was, and the command may be given again. On a closed
-// workbench every method throws Closed.
+// A session, closed at the end of its scope. It can be moved; one that was moved from is closed. Commands and queries throw RefusedBy where
+// a condition is false, and std::bad_alloc where memory is refused; then the model is as it was, and the command may be given again.
+// Readers are const. On a closed workbench every method throws Closed.
 class Workbench {
 public:
     Workbench() : handle_(new gwb{})
@@ -154,30 +154,30 @@ public:
     // Operators, their arguments in the order of a script's words. The new edge's first half-edge starts at the first corner.
     void mvfs(std::uint32_t solid, std::uint32_t face, std::uint32_t loop, std::uint32_t vertex, gwb_point at)
     {
-        told("mvfs", gwb_mvfs(handle(), solid, face, loop, vertex, at.x, at.y, at.z));
+        told("mvfs", gwb_mvfs(held(), solid, face, loop, vertex, at.x, at.y, at.z));
     }
-    void kvfs(std::uint32_t solid) { told("kvfs", gwb_kvfs(handle(), solid)); }
+    void kvfs(std::uint32_t solid) { told("kvfs", gwb_kvfs(held(), solid)); }
     void mev(std::uint32_t corner, std::uint32_t other, std::uint32_t edge, std::uint32_t vertex, gwb_point at)
     {
-        told("mev", gwb_mev(handle(), corner, other, edge, vertex, at.x, at.y, at.z));
+        told("mev", gwb_mev(held(), corner, other, edge, vertex, at.x, at.y, at.z));
     }
-    void kev(std::uint32_t half_edge) { told("kev", gwb_kev(handle(), half_edge)); }
+    void kev(std::uint32_t half_edge) { told("kev", gwb_kev(held(), half_edge)); }
     void mef(std::uint32_t half_edge, std::uint32_t other, std::uint32_t edge, std::uint32_t face, std::uint32_t loop)
     {
-        told("mef", gwb_mef(handle(), half_edge, other, edge, face, loop));
+        told("mef", gwb_mef(held(), half_edge, other, edge, face, loop));
     }
-    void kef(std::uint32_t half_edge) { told("kef", gwb_kef(handle(), half_edge)); }
-    void kemr(std::uint32_t half_edge, std::uint32_t ring) { told("kemr", gwb_kemr(handle(), half_edge, ring)); }
-    void mekr(std::uint32_t corner, std::uint32_t other, std::uint32_t edge) { told("mekr", gwb_mekr(handle(), corner, other, edge)); }
-    void kfmrh(std::uint32_t face, std::uint32_t other) { told("kfmrh", gwb_kfmrh(handle(), face, other)); }
-    void mfkrh(std::uint32_t ring, std::uint32_t face) { told("mfkrh", gwb_mfkrh(handle(), ring, face)); }
+    void kef(std::uint32_t half_edge) { told("kef", gwb_kef(held(), half_edge)); }
+    void kemr(std::uint32_t half_edge, std::uint32_t ring) { told("kemr", gwb_kemr(held(), half_edge, ring)); }
+    void mekr(std::uint32_t corner, std::uint32_t other, std::uint32_t edge) { told("mekr", gwb_mekr(held(), corner, other, edge)); }
+    void kfmrh(std::uint32_t face, std::uint32_t other) { told("kfmrh", gwb_kfmrh(held(), face, other)); }
+    void mfkrh(std::uint32_t ring, std::uint32_t face) { told("mfkrh", gwb_mfkrh(held(), ring, face)); }
     // `ringmv` with the word `in`, and with `out`.
-    void ring_in(std::uint32_t ring, std::uint32_t face) { told("ringmv", gwb_ringmv(handle(), ring, face, 0)); }
-    void ring_out(std::uint32_t ring, std::uint32_t face) { told("ringmv", gwb_ringmv(handle(), ring, face, 1)); }
+    void ring_in(std::uint32_t ring, std::uint32_t face) { told("ringmv", gwb_ringmv(held(), ring, face, 0)); }
+    void ring_out(std::uint32_t ring, std::uint32_t face) { told("ringmv", gwb_ringmv(held(), ring, face, 1)); }
 
     // Two operators that no script has: a ring of a face becomes its outer loop, and two solids become the first.
-    void outer(std::uint32_t ring, std::uint32_t face) { told("outer", gwb_outer(handle(), ring, face)); }
-    void merge(std::uint32_t solid, std::uint32_t other) { told("merge", gwb_merge(handle(), solid, other)); }
+    void outer(std::uint32_t ring, std::uint32_t face) { told("outer", gwb_outer(held(), ring, face)); }
+    void merge(std::uint32_t solid, std::uint32_t other) { told("merge", gwb_merge(held(), solid, other)); }
 
     // Larger commands. Their faces, loops, edges and vertices are among fresh().
     void lamina(std::uint32_t solid, const std::vector<gwb_point> &points)
@@ -189,28 +189,28 @@ public:
     }
     void block(std::uint32_t solid, gwb_point corner, gwb_point sizes)
     {
-        told("block", gwb_block(handle(), solid, corner.x, corner.y, corner.z, sizes.x, sizes.y, sizes.z));
+        told("block", gwb_block(held(), solid, corner.x, corner.y, corner.z, sizes.x, sizes.y, sizes.z));
     }
-    void sweep(std::uint32_t face, gwb_point along) { told("sweep", gwb_sweep(handle(), face, along.x, along.y, along.z)); }
-    void glue(std::uint32_t face, std::uint32_t other) { told("glue", gwb_glue(handle(), face, other)); }
+    void sweep(std::uint32_t face, gwb_point along) { told("sweep", gwb_sweep(held(), face, along.x, along.y, along.z)); }
+    void glue(std::uint32_t face, std::uint32_t other) { told("glue", gwb_glue(held(), face, other)); }
     // What lies above the plane a x + b y + c z + d = 0, where the sum is greater than 0, becomes solid `above`.
     void split(std::uint32_t solid, std::int64_t a, std::int64_t b, std::int64_t c, std::int64_t d, std::uint32_t above)
     {
-        told("split", gwb_split(handle(), solid, a, b, c, d, above));
+        told("split", gwb_split(held(), solid, a, b, c, d, above));
     }
 
-    void undo() { told("undo", gwb_undo(handle())); }
-    void redo() { told("redo", gwb_redo(handle())); }
+    void undo() { told("undo", gwb_undo(held())); }
+    void redo() { told("redo", gwb_redo(held())); }
     // How many commands can be undone, and how many redone.
-    std::size_t depth() { return opened(gwb_depth(handle())); }
-    std::size_t ahead() { return opened(gwb_ahead(handle())); }
+    std::size_t depth() const { return opened(gwb_depth(held())); }
+    std::size_t ahead() const { return opened(gwb_ahead(held())); }
 
     // The plane of a face, and whether the face is flat.
     gwb_plane plane(std::uint32_t face)
     {
         gwb_plane plane{};
         run("plane " + std::to_string(face));
-        gwb_last_plane(handle(), &plane);
+        gwb_last_plane(held(), &plane);
         return plane;
     }
     // Six times the volume of a solid.
@@ -218,7 +218,7 @@ public:
     {
         gwb_wide volumes{};
         run("volume " + std::to_string(solid));
-        gwb_last_volume(handle(), &volumes);
+        gwb_last_volume(held(), &volumes);
         return volumes;
     }
     // The vertices, edges, faces and rings of a solid.
@@ -226,31 +226,31 @@ public:
     {
         gwb_counts counts{};
         run("count " + std::to_string(solid));
-        gwb_last_counts(handle(), &counts);
+        gwb_last_counts(held(), &counts);
         return counts;
     }
 
     // The numbers of a kind above all that were in use before the last command, up to the greatest in use now; not each of them need be in
     // use. None where there are none, and for solids, which a command names.
-    std::optional<gwb_range> fresh(gwb_entity kind)
+    std::optional<gwb_range> fresh(gwb_entity kind) const
     {
         gwb_range range{};
-        return found(gwb_fresh(handle(), kind, &range)) ? std::optional(range) : std::nullopt;
+        return found(gwb_fresh(held(), kind, &range)) ? std::optional(range) : std::nullopt;
     }
 
     // Ranges: the numbers of a kind in use, the faces of a solid, the rings of a face. Empty where the owner is not there.
-    Numbers numbers(gwb_entity kind) { return Numbers(gwb_number_after, open_handle(), kind); }
-    Numbers faces(std::uint32_t solid) { return Numbers(gwb_face_after, open_handle(), solid); }
-    Numbers rings(std::uint32_t face) { return Numbers(gwb_ring_after, open_handle(), face); }
+    Numbers numbers(gwb_entity kind) const { return Numbers(gwb_number_after, open_handle(), kind); }
+    Numbers faces(std::uint32_t solid) const { return Numbers(gwb_face_after, open_handle(), solid); }
+    Numbers rings(std::uint32_t face) const { return Numbers(gwb_ring_after, open_handle(), face); }
 
     // The half-edges of a loop, from the least on: none where it has one vertex and no edge, or is not there.
-    std::vector<std::uint32_t> half_edges(std::uint32_t loop)
+    std::vector<std::uint32_t> half_edges(std::uint32_t loop) const
     {
         std::vector<std::uint32_t> found(16);
-        std::size_t count = opened(gwb_half_edges(handle(), loop, found.data(), found.size()));
+        std::size_t count = opened(gwb_half_edges(held(), loop, found.data(), found.size()));
         if (count > found.size()) {
             found.resize(count);
-            gwb_half_edges(handle(), loop, found.data(), count);
+            gwb_half_edges(held(), loop, found.data(), count);
         }
         found.resize(count);
         std::rotate(found.begin(), std::min_element(found.begin(), found.end()), found.end());
@@ -258,17 +258,17 @@ public:
     }
 
     // What is held of a number. std::out_of_range where it is not in use.
-    gwb_face_row face(std::uint32_t face) { return row<gwb_face_row>(gwb_face, face, "face"); }
-    gwb_edge_row edge(std::uint32_t edge) { return row<gwb_edge_row>(gwb_edge, edge, "edge"); }
-    gwb_point vertex(std::uint32_t vertex) { return row<gwb_point>(gwb_vertex, vertex, "vertex"); }
-    std::uint32_t face_of(std::uint32_t loop) { return row<std::uint32_t>(gwb_loop, loop, "loop"); }
+    gwb_face_row face(std::uint32_t face) const { return row<gwb_face_row>(gwb_face, face, "face"); }
+    gwb_edge_row edge(std::uint32_t edge) const { return row<gwb_edge_row>(gwb_edge, edge, "edge"); }
+    gwb_point vertex(std::uint32_t vertex) const { return row<gwb_point>(gwb_vertex, vertex, "vertex"); }
+    std::uint32_t face_of(std::uint32_t loop) const { return row<std::uint32_t>(gwb_loop, loop, "loop"); }
     // The half-edge after another in its loop.
-    std::uint32_t next(std::uint32_t half_edge) { return row<std::uint32_t>(gwb_next_half_edge, half_edge, "half-edge"); }
+    std::uint32_t next(std::uint32_t half_edge) const { return row<std::uint32_t>(gwb_next_half_edge, half_edge, "half-edge"); }
     // The vertex of a loop that has one and no edge.
-    std::optional<std::uint32_t> lone_vertex(std::uint32_t loop)
+    std::optional<std::uint32_t> lone_vertex(std::uint32_t loop) const
     {
         std::uint32_t vertex = 0;
-        return found(gwb_lone_vertex(handle(), loop, &vertex)) ? std::optional(vertex) : std::nullopt;
+        return found(gwb_lone_vertex(held(), loop, &vertex)) ? std::optional(vertex) : std::nullopt;
     }
 
     // Gives one line of the script language, without its newline: the kind of the answer. Faulted where the line is no command.
@@ -276,14 +276,14 @@ public:
     {
         static const char nothing = 0;
         const char *bytes = line.empty() ? &nothing : line.data();
-        std::uint32_t kind = gwb_line(handle(), reinterpret_cast<const std::uint8_t *>(bytes), line.size()), fault = 0;
-        if (kind == GWB_FAULT && gwb_last_fault(handle(), &fault) == GWB_FOUND)
+        std::uint32_t kind = gwb_line(held(), reinterpret_cast<const std::uint8_t *>(bytes), line.size()), fault = 0;
+        if (kind == GWB_FAULT && gwb_last_fault(held(), &fault) == GWB_FOUND)
             throw Faulted(line, fault);
         return told(line, kind);
     }
 
     // The text of the last answer, its newline included. After run("list") it is the listing of the model.
-    std::string reply()
+    std::string reply() const
     {
         std::string text(256, '\0');
         std::size_t length = written(text);
@@ -296,12 +296,7 @@ public:
     }
 
     // For the calls of gwb.h. It stays where it is when the workbench is moved.
-    gwb *handle()
-    {
-        if (!handle_)
-            throw Closed();
-        return handle_.get();
-    }
+    gwb *handle() { return held(); }
 
 private:
     struct Close {
@@ -311,6 +306,13 @@ private:
             delete handle;
         }
     };
+
+    gwb *held() const
+    {
+        if (!handle_)
+            throw Closed();
+        return handle_.get();
+    }
 
     // What the kind of an answer says to the caller: the kind, or an exception.
     gwb_kind told(std::string_view command, std::uint32_t kind)
@@ -327,7 +329,7 @@ private:
     template <std::size_t... Before> [[noreturn]] void refuse(std::string_view command, std::index_sequence<Before...>)
     {
         gwb_refusal refusal{};
-        gwb_last_refusal(handle(), &refusal);
+        gwb_last_refusal(held(), &refusal);
         (throw_if<static_cast<gwb_why>(Before + 1)>(command, refusal), ...);
         throw Refused(command, refusal);
     }
@@ -345,10 +347,10 @@ private:
         return answer == GWB_FOUND;
     }
 
-    template <class Row> Row row(std::uint32_t (*reader)(gwb *, std::uint32_t, Row *), std::uint32_t number, const char *kind)
+    template <class Row> Row row(std::uint32_t (*reader)(gwb *, std::uint32_t, Row *), std::uint32_t number, const char *kind) const
     {
         Row row{};
-        if (!found(reader(handle(), number, &row)))
+        if (!found(reader(held(), number, &row)))
             throw std::out_of_range("there is no " + std::string(kind) + " " + std::to_string(number));
         return row;
     }
@@ -361,13 +363,13 @@ private:
         return size;
     }
 
-    gwb *open_handle()
+    gwb *open_handle() const
     {
-        opened(gwb_depth(handle()));
-        return handle();
+        opened(gwb_depth(held()));
+        return held();
     }
 
-    std::size_t written(std::string &text)
+    std::size_t written(std::string &text) const
     {
         std::size_t length = gwb_reply(open_handle(), reinterpret_cast<std::uint8_t *>(text.data()), text.size());
         if (length == SIZE_MAX)
