@@ -1,5 +1,5 @@
 /* Compares typed calls with lines: reads lines of a script, gives each to one handle as a line and to another as a typed call, where one
- * spells it, and compares kinds, refusals, fresh numbers, depths, and from time to time the listings.
+ * spells it, and compares kinds, refusals, fresh numbers, depths, texts, and from time to time the listings; and the version with the header's.
  *
  *   tests/random_lines.py LINES | library_typed
  *
@@ -82,7 +82,7 @@ static const struct {
     const char *name, *takes;
 } COMMANDS[] = {{"mvfs", "nnnnwww"}, {"kvfs", "n"}, {"mev", "ccnnwww"}, {"kev", "h"}, {"mef", "hhnnn"}, {"kef", "h"}, {"kemr", "hn"},
     {"mekr", "ccn"}, {"kfmrh", "nn"}, {"mfkrh", "nn"}, {"ringmv", "nno"}, {"block", "nwwwwww"}, {"sweep", "nwww"}, {"glue", "nn"},
-    {"split", "nwwwwn"}, {"undo", ""}, {"redo", ""}};
+    {"split", "nwwwwn"}, {"undo", ""}, {"redo", ""}, {"plane", "n"}, {"volume", "n"}, {"count", "n"}};
 
 static int64_t argument(words *w, char takes, int i)
 {
@@ -107,6 +107,40 @@ static int command_of(words *w, int64_t *a)
     return -1;
 }
 
+static bool same_wide(gwb_wide a, gwb_wide b)
+{
+    return a.high == b.high && a.low == b.low;
+}
+
+/* Queries: what they write is what the reader of the last answer writes. */
+static uint32_t face_plane(gwb *g, uint32_t face)
+{
+    gwb_plane told = {.flat = 7}, last = {.flat = 7};
+    uint32_t kind = gwb_face_plane(g, face, &told);
+    gwb_last_plane(g, &last);
+    bool same = same_wide(told.a, last.a) && same_wide(told.b, last.b) && same_wide(told.c, last.c) && same_wide(told.d, last.d);
+    if (!same || told.flat != last.flat) fail("the plane written", "plane");
+    return kind;
+}
+
+static uint32_t volume(gwb *g, uint32_t solid)
+{
+    gwb_wide told = {7, 7}, last = {7, 7};
+    uint32_t kind = gwb_volume(g, solid, &told);
+    gwb_last_volume(g, &last);
+    if (!same_wide(told, last)) fail("the volume written", "volume");
+    return kind;
+}
+
+static uint32_t count(gwb *g, uint32_t solid)
+{
+    gwb_counts told = {7, 7, 7, 7, 7}, last = {7, 7, 7, 7, 7};
+    uint32_t kind = gwb_count(g, solid, &told);
+    gwb_last_counts(g, &last);
+    if (memcmp(&told, &last, sizeof told) != 0) fail("the counts written", "count");
+    return kind;
+}
+
 static uint32_t called(gwb *g, int command, const int64_t *a)
 {
     uint32_t n[8] = {0};
@@ -129,6 +163,9 @@ static uint32_t called(gwb *g, int command, const int64_t *a)
     case 14: return gwb_split(g, n[0], a[1], a[2], a[3], a[4], n[5]);
     case 15: return gwb_undo(g);
     case 16: return gwb_redo(g);
+    case 17: return face_plane(g, n[0]);
+    case 18: return volume(g, n[0]);
+    case 19: return count(g, n[0]);
     default: return UNTYPED;
     }
 }
@@ -159,6 +196,7 @@ int main(void)
     gwb typed = {0}, lines = {0};
     char *line = NULL;
     size_t room = 0, calls = 0, others = 0;
+    if (gwb_version() != GWB_VERSION) fail("the version", "none");
     if (!gwb_open(&typed) || !gwb_open(&lines)) return 2;
     for (ssize_t n; (n = getline(&line, &room, stdin)) > 0;) {
         n -= line[n - 1] == '\n';

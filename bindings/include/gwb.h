@@ -20,6 +20,12 @@
 extern "C" {
 #endif
 
+/* The version of this header: its first number times 10,000, its second times 100, and its third. */
+#define GWB_VERSION 10100
+
+/* The version of the library that is linked, in the same form. */
+uint32_t gwb_version(void);
+
 typedef struct gwb {
     bool is_open;
     void *held;
@@ -189,6 +195,12 @@ uint32_t gwb_split(gwb *g, uint32_t solid, int64_t a, int64_t b, int64_t c, int6
 
 uint32_t gwb_undo(gwb *g);
 uint32_t gwb_redo(gwb *g);
+
+/* Queries: GWB_PLANE, GWB_VOLUME or GWB_COUNT and the value is written, as the last answer has it, or GWB_REFUSED or GWB_CLOSED and nothing
+ * is. */
+uint32_t gwb_face_plane(gwb *g, uint32_t face, gwb_plane *plane);
+uint32_t gwb_volume(gwb *g, uint32_t solid, gwb_wide *six_volumes);
+uint32_t gwb_count(gwb *g, uint32_t solid, gwb_counts *counts);
 
 #ifdef __cplusplus
 }

@@ -6,7 +6,8 @@ use Rattle.euler_operators.specs.declared.Corner.TheVariants as corner
 use Rattle.undo_journal.specs.Journal.{Journal}
 use Rattle.script_reader.specs.declared.command.Command.{Command}
 use Rattle.script_running.specs.script_judging.Judging.{Obeys}
-use Rattle.gwb_c.specs.Handle.{Counts_in, status_of}
+use Rattle.script_running.specs.declared.script_judging.judging.Answer.{Answer}
+use Rattle.gwb_c.specs.Handle.{Counts_in, Recalls, RecallsBy, status_of}
 use Rattle.gwb_c.specs.declared.slot.Slot.{Slot}
 
 -- a session goes on as the command is obeyed, and the answer is kept
@@ -25,3 +26,11 @@ Does (Some x) c new kind = (y : Slot) × (new ≡ Some y) × (kind ≡ status_of
 -- the corner that C means: below 2^31 the one at the tail of a half-edge, from there on that of a lone loop
 abbrev pub corner_of : ℕ → Corner
 corner_of n = cond (nat_lt n 2147483648) (corner.At (half n)) (corner.Lone (n - 2147483648))
+
+-- what the reader of the last answer writes is written
+abbrev pub Tells : {X : Type 0} → (Answer → Option X) → Option Slot → X → X → Type 0
+Tells f slot old new = (told : ℕ) × Recalls f slot old new told
+
+-- the same where it is written in another form
+abbrev pub TellsBy : {X Y : Type 0} → (Y → X) → (Answer → Option X) → Option Slot → Y → Y → Type 0
+TellsBy g f slot old new = (told : ℕ) × RecallsBy g f slot old new told

@@ -12,7 +12,7 @@ use solid_listing::Reply;
 use std::alloc::Global;
 use undo_journal::{Failure, Session};
 
-fn told_refusal(refusal: Refusal) -> Answer
+pub(crate) fn told_refusal(refusal: Refusal) -> Answer
     ensures { result ≡ refused refusal }
 {
     Answer::Reply(Reply::Refused(refusal.why.code(), refusal.number))

@@ -5,6 +5,7 @@ use crate::fresh::Range;
 use crate::handle::{Gwb, closed};
 use crate::larger::{gwb_block, gwb_redo, gwb_undo};
 use crate::operators::{gwb_kemr, gwb_kev, gwb_kvfs, gwb_mev, gwb_mvfs, gwb_ringmv};
+use crate::queries::gwb_volume;
 use crate::readers::FaceRow;
 use crate::reads::{gwb_face, gwb_fresh, gwb_half_edges, gwb_number_after};
 use crate::recalls::{gwb_last_fault, gwb_last_plane, gwb_last_refusal, gwb_last_volume};
@@ -220,6 +221,22 @@ fn typed_calls(rt: HostRuntime) -> Result<(), Fail> {
     same(&rt, gwb_depth(alloc, &mut gwb), 3);
     gwb_close(alloc, &mut gwb);
     same(&rt, gwb_kvfs(alloc, &mut gwb, 1), 9);
+    Ok(())
+}
+
+/// A query as a typed call: of a solid that is there, of one that is not, and of a closed handle.
+#[test]
+fn typed_query(rt: HostRuntime) -> Result<(), Fail> {
+    let alloc = rt.alloc();
+    let mut gwb = opened(&rt, alloc);
+    let mut volume = Wide { high: 7, low: 7 };
+    gwb_block(alloc, &mut gwb, 1, 0, 0, 0, 4, 4, 4);
+    same(&rt, gwb_volume(alloc, &mut gwb, 2, &mut volume), 2);
+    same(&rt, (volume.high, volume.low), (7, 7));
+    same(&rt, gwb_volume(alloc, &mut gwb, 1, &mut volume), 6);
+    same(&rt, (volume.high, volume.low), (0, 384));
+    gwb_close(alloc, &mut gwb);
+    same(&rt, gwb_volume(alloc, &mut gwb, 1, &mut volume), 9);
     Ok(())
 }
 

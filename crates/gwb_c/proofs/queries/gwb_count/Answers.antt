@@ -1,0 +1,24 @@
+use Rattle.std.proofs.Common.{◌∙◌, refl, sym, ap, subst}
+use Rattle.script_reader.specs.declared.command.Command.TheVariants as command
+use Rattle.gwb_c.specs.declared.slot.Slot.{Slot}
+use Rattle.gwb_c.specs.Answered.{counts_in}
+use Rattle.gwb_c.specs.Handle.{Recalls, Gives, status_of}
+use Rattle.gwb_c.specs.Calls.{Does, Slot_does}
+use Rattle.gwb_c.proofs.queries.gwb_count.Goals as goal
+
+pub returns-in_default-clause-value : goal.returns-in_default-clause-value
+returns-in_default-clause-value c = (9, subst (λ o. Recalls counts_in o c.args.counts.now c.args.counts.now 9) (sym c.take.ensures.left) (refl, refl))
+
+pub returns-clause-state : goal.returns-clause-state
+returns-clause-state c =
+    let given = command.Count c.args.solid in let after = c.tell_count.new.slot in
+    subst (λ o. Does o given c.put.new.gwb.held.value c.status-kind.result) (sym c.in-Some.ensures.slot)
+    (after, c.put.ensures, c.status-kind.ensures ∙ ap (λ (x : Slot). status_of x.answer) c.deref.ensures, subst (λ x. Slot_does x given after) c.deref_mut.ensures.value c.tell_count.ensures)
+
+pub returns-clause-value : goal.returns-clause-value
+returns-clause-value c =
+    let old = c.args.counts.now in let new = c.give.new.out in let told = c.give.result in (
+      told,
+      subst (λ o. Recalls counts_in o old new told) (sym c.put.ensures)
+          (subst (λ v. Gives v old new told) (c.counts_of.ensures ∙ ap (λ (x : Slot). counts_in x.answer) c.deref-2.ensures) c.give.ensures),
+    )

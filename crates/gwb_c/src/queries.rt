@@ -1,0 +1,74 @@
+//! Calls of C: queries. Each answers as the line does that spells the same query, and writes the value where the answer tells it.
+ghost use Rattle.std.specs.Prelude.{◌≡◌};
+ghost use Rattle.script_reader.specs.declared.command.Command.TheVariants as command;
+ghost use Rattle.gwb_c.specs.Answered.{counts_in, volume_in, plane_in, whole, whole_plane};
+ghost use Rattle.gwb_c.specs.Calls.{Does, Tells, TellsBy};
+
+use crate::answers::{
+    Counts, PlaneRow, Wide, counts_of, give, give_plane, give_wide, plane_of, volume_of,
+};
+use crate::handle::{CLOSED, Gwb, put, take};
+use crate::measures;
+use crate::slot::status;
+use std::alloc::Global;
+
+/// The plane of a face, and whether the face is flat.
+#[unsafe(no_mangle)]
+pub extern "C" fn gwb_face_plane(
+    alloc: Global,
+    gwb: &mut Gwb,
+    face: u32,
+    plane: &mut PlaneRow,
+) -> u32
+    ensures state { Does gwb.old.held.value (command.Plane face) gwb.new.held.value result }
+    ensures value { TellsBy whole_plane plane_in gwb.new.held.value plane.old plane.new }
+{
+    let Some(slot) = take(alloc, gwb) else {
+        return CLOSED;
+    };
+    let mut slot = slot;
+    measures::tell_plane(&mut slot, face);
+    let kind = status(&slot.answer);
+    give_plane(plane_of(&slot.answer), plane);
+    put(gwb, slot);
+    kind
+}
+
+/// Six times the volume of a solid.
+#[unsafe(no_mangle)]
+pub extern "C" fn gwb_volume(
+    alloc: Global,
+    gwb: &mut Gwb,
+    solid: u32,
+    six_volumes: &mut Wide,
+) -> u32
+    ensures state { Does gwb.old.held.value (command.Volume solid) gwb.new.held.value result }
+    ensures value { TellsBy whole volume_in gwb.new.held.value six_volumes.old six_volumes.new }
+{
+    let Some(slot) = take(alloc, gwb) else {
+        return CLOSED;
+    };
+    let mut slot = slot;
+    measures::tell_volume(&mut slot, solid);
+    let kind = status(&slot.answer);
+    give_wide(volume_of(&slot.answer), six_volumes);
+    put(gwb, slot);
+    kind
+}
+
+/// How many vertices, edges, faces and rings a solid has, and their sum with signs.
+#[unsafe(no_mangle)]
+pub extern "C" fn gwb_count(alloc: Global, gwb: &mut Gwb, solid: u32, counts: &mut Counts) -> u32
+    ensures state { Does gwb.old.held.value (command.Count solid) gwb.new.held.value result }
+    ensures value { Tells counts_in gwb.new.held.value counts.old counts.new }
+{
+    let Some(slot) = take(alloc, gwb) else {
+        return CLOSED;
+    };
+    let mut slot = slot;
+    measures::tell_count(&mut slot, solid);
+    let kind = status(&slot.answer);
+    give(counts_of(&slot.answer), counts);
+    put(gwb, slot);
+    kind
+}
