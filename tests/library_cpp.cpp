@@ -88,6 +88,7 @@ static void try_what_is_said()
     } catch (const Faulted &faulted) {
         check(faulted.number() == 1 && std::string(faulted.what()) == std::string(100, 'x') + ": fault 1", "what a fault says");
     }
+    check(gwb_version() == GWB_VERSION, "the version of the library is that of the header");
     check(bench.run("") == GWB_SILENT && bench.run("count 1") == GWB_COUNT && bench.reply() == "count 8 12 6 0 2\n", "kinds of answers");
 }
 

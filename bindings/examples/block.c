@@ -66,25 +66,19 @@ static int64_t narrow(gwb_wide number)
     return (int64_t)number.low;
 }
 
-/* Prints the volume of a solid, by a line of the script language. */
+/* Prints the volume of a solid. */
 static void print_volume(gwb *g, uint32_t solid)
 {
-    char line[32];
     gwb_wide six;
-    int length = snprintf(line, sizeof line, "volume %" PRIu32, solid);
-    gwb_line(g, (const uint8_t *)line, (size_t)length);
-    if (gwb_last_volume(g, &six) == GWB_FOUND)
+    if (gwb_volume(g, solid, &six) == GWB_VOLUME)
         printf("the volume of solid %" PRIu32 " is %" PRId64 "\n", solid, narrow(six) / 6);
 }
 
-/* Prints the plane of a face, by a line of the script language. */
+/* Prints the plane of a face. */
 static void print_plane(gwb *g, uint32_t face)
 {
-    char line[32];
     gwb_plane plane;
-    int length = snprintf(line, sizeof line, "plane %" PRIu32, face);
-    gwb_line(g, (const uint8_t *)line, (size_t)length);
-    if (gwb_last_plane(g, &plane) == GWB_FOUND)
+    if (gwb_face_plane(g, face, &plane) == GWB_PLANE)
         printf("on face %" PRIu32 " %" PRId64 " x + %" PRId64 " y + %" PRId64 " z + %" PRId64 " is 0, and the face is %s\n", face,
                narrow(plane.a), narrow(plane.b), narrow(plane.c), narrow(plane.d), plane.flat ? "flat" : "bent");
 }

@@ -209,24 +209,21 @@ public:
     gwb_plane plane(std::uint32_t face)
     {
         gwb_plane plane{};
-        run("plane " + std::to_string(face));
-        gwb_last_plane(held(), &plane);
+        told("plane", gwb_face_plane(held(), face, &plane));
         return plane;
     }
     // Six times the volume of a solid.
     gwb_wide six_volumes(std::uint32_t solid)
     {
         gwb_wide volumes{};
-        run("volume " + std::to_string(solid));
-        gwb_last_volume(held(), &volumes);
+        told("volume", gwb_volume(held(), solid, &volumes));
         return volumes;
     }
     // The vertices, edges, faces and rings of a solid.
     gwb_counts count(std::uint32_t solid)
     {
         gwb_counts counts{};
-        run("count " + std::to_string(solid));
-        gwb_last_counts(held(), &counts);
+        told("count", gwb_count(held(), solid, &counts));
         return counts;
     }
 

@@ -59,6 +59,8 @@ pub struct Range {
 
 #[link(name = "gwb", kind = "static")]
 extern "C" {
+    pub fn gwb_version() -> u32;
+
     pub fn gwb_open(g: *mut Handle) -> bool;
     pub fn gwb_close(g: *mut Handle);
     pub fn gwb_line(g: *mut Handle, line: *const u8, n: usize) -> u32;
@@ -68,9 +70,6 @@ extern "C" {
 
     pub fn gwb_last_refusal(g: *mut Handle, refusal: *mut LastRefusal) -> u32;
     pub fn gwb_last_fault(g: *mut Handle, number: *mut u32) -> u32;
-    pub fn gwb_last_volume(g: *mut Handle, six_volumes: *mut Wide) -> u32;
-    pub fn gwb_last_counts(g: *mut Handle, counts: *mut Counts) -> u32;
-    pub fn gwb_last_plane(g: *mut Handle, plane: *mut WidePlane) -> u32;
     pub fn gwb_fresh(g: *mut Handle, entity: u32, range: *mut Range) -> u32;
 
     pub fn gwb_number_after(g: *mut Handle, entity: u32, n: u32, number: *mut u32) -> u32;
@@ -103,4 +102,8 @@ extern "C" {
     pub fn gwb_split(g: *mut Handle, solid: u32, a: i64, b: i64, c: i64, d: i64, above: u32) -> u32;
     pub fn gwb_undo(g: *mut Handle) -> u32;
     pub fn gwb_redo(g: *mut Handle) -> u32;
+
+    pub fn gwb_face_plane(g: *mut Handle, face: u32, plane: *mut WidePlane) -> u32;
+    pub fn gwb_volume(g: *mut Handle, solid: u32, six_volumes: *mut Wide) -> u32;
+    pub fn gwb_count(g: *mut Handle, solid: u32, counts: *mut Counts) -> u32;
 }

@@ -39,6 +39,14 @@ pub use refusal::Refusal;
 pub use rows::{Counts, Edge, Entity, Face, Plane, Point};
 pub use session::Session;
 
+/// The version of the library that is linked: 1.1.0 is `(1, 1, 0)`.
+#[must_use]
+pub fn version() -> (u32, u32, u32) {
+    // SAFETY: the call takes nothing and touches nothing.
+    let version = unsafe { calls::gwb_version() };
+    (version / 10_000, version / 100 % 100, version % 100)
+}
+
 /// The first half-edge of an edge, which starts at the vertex from which the edge was drawn.
 #[must_use]
 pub const fn plus(edge: u32) -> u32 {

@@ -159,22 +159,23 @@ impl Session {
 
     /// The plane of a face.
     pub fn plane(&mut self, face: u32) -> Result<Plane, Error> {
-        self.run(&format!("plane {face}"))?;
-        let plane: WidePlane = self.found(|g, plane| unsafe { calls::gwb_last_plane(g, plane) }).unwrap_or_default();
+        let mut plane = WidePlane::default();
+        self.told(unsafe { calls::gwb_face_plane(self.handle(), face, &mut plane) })?;
         Ok(plane.into())
     }
 
     /// Six times the volume of a solid.
     pub fn six_volumes(&mut self, solid: u32) -> Result<i128, Error> {
-        self.run(&format!("volume {solid}"))?;
-        let volumes: Wide = self.found(|g, volumes| unsafe { calls::gwb_last_volume(g, volumes) }).unwrap_or_default();
+        let mut volumes = Wide::default();
+        self.told(unsafe { calls::gwb_volume(self.handle(), solid, &mut volumes) })?;
         Ok(volumes.into())
     }
 
     /// How many vertices, edges, faces and rings a solid has.
     pub fn count(&mut self, solid: u32) -> Result<Counts, Error> {
-        self.run(&format!("count {solid}"))?;
-        Ok(self.found(|g, counts| unsafe { calls::gwb_last_counts(g, counts) }).unwrap_or_default())
+        let mut counts = Counts::default();
+        self.told(unsafe { calls::gwb_count(self.handle(), solid, &mut counts) })?;
+        Ok(counts)
     }
 
     /// The numbers of a kind above all that were in use before the last command, up to the greatest in use now; not each of them need be in

@@ -1,5 +1,5 @@
 //! A session from outside: what commands make, what refuses them, and what readers find.
-use gwb::{lone, minus, plus, Edge, Entity, Error, Face, Point, Refusal, Session};
+use gwb::{lone, minus, plus, version, Edge, Entity, Error, Face, Point, Refusal, Session};
 
 fn block() -> Session {
     let mut session = Session::new().unwrap();
@@ -157,6 +157,12 @@ fn errors_say_what_is_wrong() {
     let error: Box<dyn std::error::Error> = Box::new(block().kvfs(1).unwrap_err());
     assert_eq!(error.to_string(), "NotBare 1");
     assert_eq!(format!("{:?}", block()), "Session { depth: 1, ahead: 0, .. }");
+}
+
+#[test]
+fn the_version_is_the_one_that_is_written() {
+    let (major, minor, patch) = version();
+    assert_eq!(format!("{major}.{minor}.{patch}"), include_str!("../../../VERSION").trim());
 }
 
 #[test]
