@@ -143,8 +143,12 @@ static void try_readers()
     check(bench.half_edges(bench.face(bench.fresh(GWB_FACE)->first).outer_loop).size() == 64, "a long loop");
 }
 
+template <class Bench, class = void> constexpr bool has_faces = false;
+template <class Bench> constexpr bool has_faces<Bench, std::void_t<decltype(std::declval<Bench>().faces(1))>> = true;
+
 static void try_moves()
 {
+    static_assert(has_faces<const Workbench &> && !has_faces<Workbench>, "a range of a temporary workbench");
     static_assert(!std::is_copy_constructible_v<Workbench> && !std::is_copy_assignable_v<Workbench>, "two would free one session");
     static_assert(std::is_nothrow_move_constructible_v<Workbench> && std::is_nothrow_move_assignable_v<Workbench>, "it goes into a vector");
     Workbench first = block();

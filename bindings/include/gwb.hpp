@@ -11,6 +11,9 @@
 // loop that has a vertex and no edge. What is to be linked, and that a workbench stays on its thread, is said in gwb.h.
 #ifndef GWB_HPP
 #define GWB_HPP
+#if __cplusplus < 201703L
+#error "gwb.hpp is written for C++17: compile with -std=c++17 or later"
+#endif
 #include "gwb.h"
 #include "gwb_names.h"
 #include <algorithm>
@@ -235,10 +238,14 @@ public:
         return found(gwb_fresh(held(), kind, &range)) ? std::optional(range) : std::nullopt;
     }
 
-    // Ranges: the numbers of a kind in use, the faces of a solid, the rings of a face. Empty where the owner is not there.
-    Numbers numbers(gwb_entity kind) const { return Numbers(gwb_number_after, open_handle(), kind); }
-    Numbers faces(std::uint32_t solid) const { return Numbers(gwb_face_after, open_handle(), solid); }
-    Numbers rings(std::uint32_t face) const { return Numbers(gwb_ring_after, open_handle(), face); }
+    // Ranges: the numbers of a kind in use, the faces of a solid, the rings of a face. Empty where the owner is not there. The workbench
+    // outlives them, so it is no temporary one.
+    Numbers numbers(gwb_entity kind) const & { return Numbers(gwb_number_after, open_handle(), kind); }
+    Numbers faces(std::uint32_t solid) const & { return Numbers(gwb_face_after, open_handle(), solid); }
+    Numbers rings(std::uint32_t face) const & { return Numbers(gwb_ring_after, open_handle(), face); }
+    Numbers numbers(gwb_entity kind) const && = delete;
+    Numbers faces(std::uint32_t solid) const && = delete;
+    Numbers rings(std::uint32_t face) const && = delete;
 
     // The half-edges of a loop, from the least on: none where it has one vertex and no edge, or is not there.
     std::vector<std::uint32_t> half_edges(std::uint32_t loop) const
