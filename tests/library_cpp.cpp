@@ -141,6 +141,8 @@ static void try_readers()
         points.push_back({at, at * at, 1});
     bench.lamina(2, points);
     check(bench.half_edges(bench.face(bench.fresh(GWB_FACE)->first).outer_loop).size() == 64, "a long loop");
+    points.push_back({0, 0, 0});
+    check(throws<Faulted>([&] { bench.lamina(3, points); }), "a lamina of 65 points");
 }
 
 template <class Bench, class = void> constexpr bool has_faces = false;

@@ -182,7 +182,7 @@ public:
     void outer(std::uint32_t ring, std::uint32_t face) { told("outer", gwb_outer(held(), ring, face)); }
     void merge(std::uint32_t solid, std::uint32_t other) { told("merge", gwb_merge(held(), solid, other)); }
 
-    // Larger commands. Their faces, loops, edges and vertices are among fresh().
+    // Larger commands. Their faces, loops, edges and vertices are among fresh(). A lamina has 3 to 64 points: Faulted where there are more.
     void lamina(std::uint32_t solid, const std::vector<gwb_point> &points)
     {
         std::string line = "lamina " + std::to_string(solid);

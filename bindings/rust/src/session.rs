@@ -107,6 +107,9 @@ impl Session {
     }
 
     /// A new solid of two faces through 3 to 64 points, one on either side.
+    ///
+    /// # Errors
+    /// [`Error::Fault`] where there are more points.
     pub fn lamina(&mut self, solid: u32, points: &[Point]) -> Result<(), Error> {
         let words: String = points.iter().map(|at| format!(" {} {} {}", at.x, at.y, at.z)).collect();
         self.run(&format!("lamina {solid}{words}"))

@@ -138,6 +138,7 @@ fn a_long_loop_is_read_whole() {
     let points: Vec<Point> = (0..64).map(|at| [at, at * at, 0].into()).collect();
     session.lamina(1, &points).unwrap();
     assert_eq!(session.half_edges(1), (1..=64).map(plus).collect::<Vec<_>>());
+    assert!(matches!(session.lamina(2, &[points, vec![Point::default()]].concat()), Err(Error::Fault(_))));
 }
 
 #[test]
