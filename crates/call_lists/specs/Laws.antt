@@ -1,5 +1,5 @@
 -- The laws of lists of calls.
-use Rattle.std.specs.Prelude.{◌≡◌, ℕ, ◌+◌, ◌-◌, List, [], ◌∷◌, length}
+use Rattle.std.specs.Prelude.{◌≡◌, ◌≢◌, ℕ, ◌+◌, ◌-◌, List, [], ◌∷◌, length}
 use Rattle.euler_operators.specs.Model.{empty_model}
 use Rattle.undo_journal.specs.Machine.{Machine, held, depth, ahead}
 use Rattle.undo_journal.specs.Recorded.{model_at}
@@ -9,7 +9,7 @@ use Rattle.call_lists.specs.declared.calls.Call.{Call}
 use Rattle.call_lists.specs.declared.calls.Call.TheVariants as call
 use Rattle.call_lists.specs.declared.calls.Told.{Told}
 use Rattle.call_lists.specs.declared.calls.Told.TheVariants.{Done, Refused, Memory}
-use Rattle.call_lists.specs.Making.{MakesAll}
+use Rattle.call_lists.specs.Making.{Makes, MakesAll}
 
 -- a list of so many calls of the plain machine leads from s to t
 pub record Leads (s : Machine) (many : ℕ) (t : Machine) : Type 0 where
@@ -66,3 +66,17 @@ UndosLeadToTheFirst = (s t : Machine) (calls : List Call) (answers : List Told) 
 abbrev pub RedosLeadToTheLast : Type 0
 RedosLeadToTheLast = (s t : Machine) (calls : List Call) (answers : List Told) → MakesAll s calls answers t
     → held (redos (place_after_all (place_of s) calls answers).ahead t) ≡ model_at t (depth t + ahead t)
+
+-- no answer is `Memory`
+abbrev pub HaveNoMemory : List Told → Type 0
+HaveNoMemory [] = Unit {0}
+HaveNoMemory (a ∷ answers) = (a ≢ Memory) × HaveNoMemory answers
+
+-- then the calls have one list of answers, and lead to one machine
+abbrev pub ListsHaveOneAnswer : Type 0
+ListsHaveOneAnswer = (s t u : Machine) (calls : List Call) (answers others : List Told) → HaveNoMemory answers → HaveNoMemory others
+    → MakesAll s calls answers t → MakesAll s calls others u → (others ≡ answers) × (u ≡ t)
+
+-- a call that isn't told `Done` leaves the machine as it was
+abbrev pub OnlyDoneChanges : Type 0
+OnlyDoneChanges = (s t : Machine) (c : Call) (a : Told) → a ≢ Done → Makes s c a t → t ≡ s

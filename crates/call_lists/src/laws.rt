@@ -1,5 +1,5 @@
 //! The laws of lists of calls. Each function does nothing: its contract is what is proved, over every machine and every list.
-ghost use Rattle.call_lists.specs.Laws.{ListsAreHistories, ListsKeepConsistent, PlacesAreCounted, UndosLeadToTheFirst, RedosLeadToTheLast};
+ghost use Rattle.call_lists.specs.Laws.{ListsAreHistories, ListsKeepConsistent, PlacesAreCounted, UndosLeadToTheFirst, RedosLeadToTheLast, ListsHaveOneAnswer, OnlyDoneChanges};
 
 use gluing::glues_are_calls;
 use plane_split::splits_are_calls;
@@ -27,3 +27,10 @@ pub fn undos_and_redos_lead_to_the_ends()
     glues_are_calls();
     splits_are_calls();
 }
+
+/// Where no answer is `Memory`, a list of calls has one list of answers, and leads to one machine. A call that isn't told `Done` changes
+/// nothing.
+pub fn lists_have_one_answer()
+    ensures one { ListsHaveOneAnswer }
+    ensures kept { OnlyDoneChanges }
+{}

@@ -13,6 +13,6 @@ mod making;
 pub use calls::{Call, Told};
 pub use euler_operators::{Op, Refusal};
 pub use gluing::six_volume;
-pub use laws::{lists_are_histories, undos_and_redos_lead_to_the_ends};
+pub use laws::{lists_are_histories, lists_have_one_answer, undos_and_redos_lead_to_the_ends};
 pub use making::{make, make_all};
 pub use undo_journal::{Draft, Failure, Record, Session};
