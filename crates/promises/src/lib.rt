@@ -4,8 +4,9 @@
 //!
 //! What isn't said here:
 //! - `check`, `apply` and `replay` on an arena: `euler_conditions/src/every.rt`, `low_euler/src/applying.rt`;
-//! - an arena copied, read and dropped, raw rings and what frees their nodes: `halfedge_arena/src/arena.rt`, `raw_ring/src`;
-//! - normals, planes, flat faces and counts: `solid_measure/src/measures.rt`, `solid_measure/src/solid_counts.rt`;
+//! - an arena read and copied: `halfedge_arena/src/readers.rt`, `halfedge_arena/src/arena.rt`;
+//! - nodes linked by `next` and `prev`, a splice of them, and what a drop frees: `raw_ring/src/rings.rt`, `raw_ring/src/nodes.rt`;
+//! - normals, planes, flat faces and counts: `solid_measure/src/measures.rt`, `solid_measure/src/solid_counts/solids.rt`;
 //! - points, sides of a plane and cut points: `lattice/src`;
 //! - the faces of new solids, and which are kept: `command_laws/src/lib.rt`;
 //! - the grammar, the command line and the exit status: `script_reader/src/line.rt`, `gwb/src`.
@@ -14,8 +15,8 @@
 ghost use Rattle.std.specs.Prelude.{◌≡◌, ◌↔◌, ◌+◌, ◌<◌, OnOk, OnErr, IfOk, IfErr, None, Some, Err, slice_index_or};
 ghost use Rattle.call_lists.specs.Conditions.{first_false, verdict};
 ghost use Rattle.call_lists.specs.Histories.{IsConsistent};
-ghost use Rattle.call_lists.specs.Journal.{after_act, after_undo, after_redo, new_draft, after_step, after_commit};
-ghost use Rattle.call_lists.specs.Laws.{ListsAreHistories, ListsKeepConsistent, PlacesAreCounted, UndosLeadToTheFirst, RedosLeadToTheLast};
+ghost use Rattle.call_lists.specs.Journal.{new_journal, after_act, after_undo, after_redo, new_draft, after_step, after_commit};
+ghost use Rattle.call_lists.specs.Laws.{ListsAreHistories, ListsKeepConsistent, PlacesAreCounted, UndosLeadToTheFirst, RedosLeadToTheLast, ListsHaveOneAnswer, OnlyDoneChanges};
 ghost use Rattle.call_lists.specs.Making.{AreTold, Makes, StaysUnlessDone};
 ghost use Rattle.call_lists.specs.Measure.{answer, six_volume, solid_refusal};
 ghost use Rattle.call_lists.specs.PlainMachine.{held, depth, ahead, act_refusal, undo_refusal, redo_refusal};
@@ -41,8 +42,8 @@ ghost use Rattle.script_running.specs.laws_below.SweepMeasures.{SweptSolid, Othe
 ghost use Rattle.script_running.specs.laws_below.Telling.{ListingTells};
 
 use call_lists::{
-    Call, Draft, Failure, Op, Record, Refusal, Session, Told, lists_are_histories, make, make_all,
-    six_volume, undos_and_redos_lead_to_the_ends,
+    Call, Draft, Failure, Op, Record, Refusal, Session, Told, lists_are_histories,
+    lists_have_one_answer, make, make_all, six_volume, undos_and_redos_lead_to_the_ends,
 };
 use script_running::{RunFault, Summary, laws_below, one_output, run};
 use std::alloc::{AllocError, Global};
@@ -80,14 +81,37 @@ pub fn lists_of_calls_are_taken_back()
     lists_are_histories();
 }
 
-/// So it is of one call: an operator, a lamina, a block, a sweep, a glue, a split, a draft committed or abandoned, undo or redo. A call that
-/// isn't told `Done` leaves the session as it was, its records too.
+/// Where no answer is `Memory`, such a list has one list of answers, and leads to one machine. A call that isn't told `Done` changes nothing.
+pub fn lists_of_calls_have_one_answer()
+    ensures one { ListsHaveOneAnswer }
+    ensures kept { OnlyDoneChanges }
+{
+    lists_have_one_answer();
+}
+
+/// So it is of one call: an operator, a lamina, a block, a sweep, a glue, a split, a draft committed or abandoned, undo or redo. It is refused
+/// by its first condition that is false alone; a glue, a split and a draft may be told `Memory` in place of that refusal. A call that isn't
+/// told `Done` leaves the session as it was, its records too.
 pub fn every_call_is_answered(alloc: Global, session: Session, call: Call) -> (Session, Told)
     ensures made { Makes session.machine call result.1 result.0.machine }
     ensures kept { StaysUnlessDone result.1 session result.0 }
     ensures consistent { IsConsistent result.0.machine }
 {
     make(alloc, session, call)
+}
+
+/// A new session holds the empty model, and has no record.
+pub fn sessions_begin_empty(alloc: Global) -> Result<Session, AllocError>
+    ensures { IfOk result (λ session. session ≡ new_journal) }
+{
+    Session::new(alloc)
+}
+
+/// Whoever gave a session: its first model is the empty one, each is sound, and each next one is made by operators that are accepted in turn.
+pub fn every_session_is_consistent(session: &Session)
+    ensures { IsConsistent session.now.machine }
+{
+    session.stays_consistent();
 }
 
 /// An operator is accepted, and leaves a record of itself and its inverse, or it is refused: then exactly with the first condition that is
