@@ -81,7 +81,8 @@ pub fn lists_of_calls_are_taken_back()
     lists_are_histories();
 }
 
-/// Where no answer is `Memory`, such a list has one list of answers, and leads to one machine. A call that isn't told `Done` changes nothing.
+/// Where no answer is `Memory`, such a list has one list of answers, and leads to one machine. A call that isn't told `Done` changes
+/// nothing.
 pub fn lists_of_calls_have_one_answer()
     ensures one { ListsHaveOneAnswer }
     ensures kept { OnlyDoneChanges }
@@ -89,9 +90,9 @@ pub fn lists_of_calls_have_one_answer()
     lists_have_one_answer();
 }
 
-/// So it is of one call: an operator, a lamina, a block, a sweep, a glue, a split, a draft committed or abandoned, undo or redo. It is refused
-/// by its first condition that is false alone; a glue, a split and a draft may be told `Memory` in place of that refusal. A call that isn't
-/// told `Done` leaves the session as it was, its records too.
+/// So it is of one call: an operator, a lamina, a block, a sweep, a glue, a split, a draft committed or abandoned, undo or redo. It is
+/// refused by its first condition that is false alone; a glue, a split and a draft may be told `Memory` in place of that refusal. A call
+/// that isn't told `Done` leaves the session as it was, its records too.
 pub fn every_call_is_answered(alloc: Global, session: Session, call: Call) -> (Session, Told)
     ensures made { Makes session.machine call result.1 result.0.machine }
     ensures kept { StaysUnlessDone result.1 session result.0 }
@@ -107,7 +108,8 @@ pub fn sessions_begin_empty(alloc: Global) -> Result<Session, AllocError>
     Session::new(alloc)
 }
 
-/// Whoever gave a session: its first model is the empty one, each is sound, and each next one is made by operators that are accepted in turn.
+/// Whoever gave a session: its first model is the empty one, each is sound, and each next one is made by operators that are accepted in
+/// turn.
 pub fn every_session_is_consistent(session: &Session)
     ensures { IsConsistent session.now.machine }
 {
