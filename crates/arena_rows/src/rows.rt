@@ -1,5 +1,5 @@
 //! Rows by number.
-ghost use Rattle.std.specs.Prelude.{◌≡◌, ℕ, ◌<◌, ◌≤◌, ◌-◌, ◌+◌, true, false, cond, nat_eq, is_some, List, [], length, OnOk, IfOk, Option, Some, None, IsSome};
+ghost use Rattle.std.specs.Prelude.{◌≡◌, ℕ, ◌<◌, ◌≤◌, ◌-◌, ◌+◌, true, false, cond, nat_eq, is_some, List, [], length, OnOk, IfOk, IsOk, Option, Some, None, IsSome};
 ghost use Rattle.arena_rows.specs.ring_spots.Last.{IsLast};
 ghost use Rattle.arena_rows.specs.Rows.{row_at, has_row, names};
 ghost use Rattle.arena_rows.specs.Groups.{IsNext, IsCounted};
@@ -150,14 +150,18 @@ impl<T: Copy> Rows<T> {
         n != 0 && (n as usize) < self.cells.len()
     }
 
-    /// Makes the rows reach to number n.
+    /// Makes the rows reach to number n. Where they do, this is one test, and no `Err` comes.
     pub fn reach(&mut self, n: u32) -> Result<(), AllocError>
         requires { n ≤ 1000000 }
         ensures same { (q : ℕ) → row_at self.new q ≡ row_at self.old q }
         ensures grows { length self.old ≤ length self.new }
         ensures limit { (k : ℕ) → n < k → length self.old ≤ k → length self.new ≤ k }
         ensures ok { OnOk result (n < length self.new) }
+        ensures known { n < length self.old → IsOk result }
     {
+        if (n as usize) < self.cells.len() {
+            return Ok(());
+        }
         let group = n / GROUP;
         reach(&mut self.blocks, group / GROUP)?;
         reach(&mut self.groups, group)?;

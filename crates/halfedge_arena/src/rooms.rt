@@ -1,5 +1,5 @@
 //! Room for numbers: rows, chains and nodes.
-ghost use Rattle.std.specs.Prelude.{◌≡◌, ◌≤◌, true, OnOk};
+ghost use Rattle.std.specs.Prelude.{◌≡◌, ◌≤◌, true, OnOk, IsOk};
 ghost use Rattle.arena_rows.specs.Store.{has_room, HasGrown};
 
 use crate::arena::Arena;
@@ -9,13 +9,17 @@ use std::alloc::AllocError;
 impl Arena {
     /// Gives number n of a kind its room, n from 1 to 1,000,000. The model stays, and each number that had its room keeps it.
     ///
-    /// An `Err` comes only where memory is short. The model stays then too, and so does each room.
+    /// An `Err` comes only where memory is short and the number had no room. The model stays then too, and so does each room.
     pub fn room_for(&mut self, kind: Kind, n: u32) -> Result<(), AllocError>
         requires least { 1 ≤ n }
         requires most { n ≤ 1000000 }
         ensures grown { HasGrown self.old self.new }
         ensures ok { OnOk result (has_room self.new kind n ≡ true) }
+        ensures known { has_room self.old kind n ≡ true → IsOk result }
     {
+        if self.has_room(kind, n) {
+            return Ok(());
+        }
         match kind {
             Kind::Solid => self.room_solids(n),
             Kind::Face => self.room_faces(n),

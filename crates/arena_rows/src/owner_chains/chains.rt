@@ -1,5 +1,5 @@
 //! Items by owner.
-ghost use Rattle.std.specs.Prelude.{◌≡◌, ◌≢◌, ◌<◌, ◌≤◌, true, length, None, IfOk, OnOk};
+ghost use Rattle.std.specs.Prelude.{◌≡◌, ◌≢◌, ◌<◌, ◌≤◌, true, length, None, IfOk, OnOk, IsOk};
 ghost use Rattle.boundary_model.specs.Table.{get, has};
 ghost use Rattle.arena_rows.specs.owner_chains.Owners.{no_owners, put, take, owned, IsNextItem, OwnersHaveGrown};
 
@@ -104,6 +104,7 @@ impl Chains {
         requires { owner ≤ 1000000 }
         ensures grown { OwnersHaveGrown self.old self.new }
         ensures ok { OnOk result (owner < self.new.owners_end) }
+        ensures known { owner < self.old.owners_end → IsOk result }
     {
         reach_heads(&mut self.heads, owner)
     }
@@ -114,6 +115,7 @@ impl Chains {
         requires { n ≤ 1000000 }
         ensures grown { OwnersHaveGrown self.old self.new }
         ensures ok { OnOk result (n < self.new.items_end) }
+        ensures known { n < self.old.items_end → IsOk result }
     {
         reach_links(&mut self.links, n)
     }

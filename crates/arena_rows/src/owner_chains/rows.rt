@@ -1,5 +1,5 @@
 //! The rows of owners and of items.
-ghost use Rattle.std.specs.Prelude.{◌≡◌, ℕ, ◌<◌, ◌≤◌, cond, nat_eq, length, OnOk};
+ghost use Rattle.std.specs.Prelude.{◌≡◌, ℕ, ◌<◌, ◌≤◌, cond, nat_eq, length, OnOk, IsOk};
 ghost use Rattle.arena_rows.specs.owner_chains.Chains.{head_at, link_at, follower, leading_on, leading_back, linked_in, linked_out, gained, lost};
 
 use std::alloc::AllocError;
@@ -154,6 +154,7 @@ pub(crate) fn reach_heads(heads: &mut Vec<Head>, owner: u32) -> Result<(), Alloc
     ensures same { (q : ℕ) → head_at heads.new.items q ≡ head_at heads.old.items q }
     ensures grows { length heads.old.items ≤ length heads.new.items }
     ensures ok { OnOk result (owner < length heads.new.items) }
+    ensures known { owner < length heads.old.items → IsOk result }
 {
     let index = owner as usize;
     if heads.len() <= index {
@@ -175,6 +176,7 @@ pub(crate) fn reach_links(links: &mut Vec<Option<Link>>, n: u32) -> Result<(), A
     ensures grows { length links.old.items ≤ length links.new.items }
     ensures limit { length links.new.items ≤ 1000001 }
     ensures ok { OnOk result (n < length links.new.items) }
+    ensures known { n < length links.old.items → IsOk result }
 {
     let index = n as usize;
     if links.len() <= index {

@@ -1,5 +1,5 @@
 //! The rings of half-edges, with the edges in use as rows.
-ghost use Rattle.std.specs.Prelude.{◌≡◌, ◌≢◌, ◌≤◌, ◌&&◌, nat_lt, nat_le, is_some, true, Some, OnOk, IfOk, ℕ};
+ghost use Rattle.std.specs.Prelude.{◌≡◌, ◌≢◌, ◌≤◌, ◌&&◌, nat_lt, nat_le, is_some, true, Some, OnOk, IfOk, IsOk, ℕ};
 ghost use Rattle.std.specs.FinMap.{empty, contains_key};
 ghost use Rattle.raw_ring.specs.Rings.{spot, next_of, tail_of, label_of, IsLive, IsAsleep, IsPermutation};
 ghost use Rattle.boundary_model.specs.HalfEdge.{plus, minus};
@@ -163,13 +163,17 @@ impl EdgeRings {
         links::retail(&mut self.rings, h, v);
     }
 
-    /// Gives both half-edges of an edge their nodes.
+    /// Gives both half-edges of an edge their nodes. Where they have them, no `Err` comes.
     pub fn room_edge(&mut self, e: u32) -> Result<(), AllocError>
         requires { e ≤ 1000000 }
         ensures spots { spot self.new ≡ spot self.old }
         ensures kept { (c : ℕ) → contains_key self.old c ≡ true → contains_key self.new c ≡ true }
         ensures ok { OnOk result ((contains_key self.new (plus e) ≡ true) × (contains_key self.new (minus e) ≡ true)) }
+        ensures known { nat_lt 0 e && (contains_key self.old (plus e) && contains_key self.old (minus e)) ≡ true → IsOk result }
     {
+        if self.has_edge_room(e) {
+            return Ok(());
+        }
         self.edges.reach(e)?;
         links::room_edge(&mut self.rings, &mut self.labels, e)
     }
