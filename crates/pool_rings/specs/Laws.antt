@@ -1,0 +1,28 @@
+-- What a splice makes of the rings of a pool.
+use Rattle.std.specs.Prelude.{◌≡◌, ◌≢◌, ℕ, Some, List, ◌++◌}
+use Rattle.raw_ring.specs.Rings.{RingMap, next_of, Exchanged, IsPermutation}
+use Rattle.cyclic_list.specs.Items.{count, IsIn, IsApart}
+use Rattle.cyclic_list.specs.Rings.{cut_left, cut_right, joined}
+use Rattle.pool_rings.specs.Pools.{IsRingOf}
+
+-- one ring with both codes in it becomes two
+abbrev pub SplicedPoolsCut : Type 0
+SplicedPoolsCut = (m n : RingMap) (a b : ℕ) (xs : List ℕ) → Exchanged m n a b → IsApart xs → IsRingOf m xs → IsIn a xs → IsIn b xs → a ≢ b
+    → IsRingOf n (cut_left a b xs) × IsRingOf n (cut_right a b xs)
+
+-- two rings with a code in each become one
+abbrev pub SplicedPoolsJoin : Type 0
+SplicedPoolsJoin = (m n : RingMap) (a b : ℕ) (xs ys : List ℕ) → Exchanged m n a b → IsApart (xs ++ ys) → IsRingOf m xs → IsRingOf m ys → IsIn a xs → IsIn b ys
+    → IsRingOf n (joined a b xs ys)
+
+-- a ring in which neither stands stays
+abbrev pub SplicedPoolsKeepOthers : Type 0
+SplicedPoolsKeepOthers = (m n : RingMap) (a b : ℕ) (xs : List ℕ) → Exchanged m n a b → count a xs ≡ 0 → count b xs ≡ 0 → IsRingOf m xs → IsRingOf n xs
+
+-- where the two are one code, each code leads where it led
+abbrev pub SplicedPoolsStay : Type 0
+SplicedPoolsStay = (m n : RingMap) (a : ℕ) → Exchanged m n a a → (c : ℕ) → next_of n c ≡ next_of m c
+
+-- one code alone leads to another
+abbrev pub PoolsLeadBack : Type 0
+PoolsLeadBack = (m : RingMap) (p q c : ℕ) → IsPermutation m → next_of m p ≡ Some c → next_of m q ≡ Some c → p ≡ q
