@@ -21,6 +21,7 @@ ghost use Rattle.call_lists.specs.Making.{AreTold, Makes, StaysUnlessDone};
 ghost use Rattle.call_lists.specs.Measure.{answer, six_volume, solid_refusal};
 ghost use Rattle.call_lists.specs.PlainMachine.{held, depth, ahead, act_refusal, undo_refusal, redo_refusal};
 ghost use Rattle.call_lists.specs.Recorded.{model_at};
+ghost use Rattle.pool_rings.specs.Laws.{SplicedPoolsCut, SplicedPoolsJoin, SplicedPoolsKeepOthers, SplicedPoolsStay, PoolsLeadBack};
 ghost use Rattle.promises.specs.Splices.{SplicesCut, SplicesJoin, SplicesKeepOthers};
 ghost use Rattle.script_running.specs.Laws.{OneOutput, HasNoMemory};
 ghost use Rattle.script_running.specs.Runs.{Runs};
@@ -45,6 +46,7 @@ use call_lists::{
     Call, Draft, Failure, Op, Record, Refusal, Session, Told, lists_are_histories,
     lists_have_one_answer, make, make_all, six_volume, undos_and_redos_lead_to_the_ends,
 };
+use pool_rings::splices_of_pools;
 use script_running::{RunFault, Summary, laws_below, one_output, run};
 use std::alloc::{AllocError, Global};
 use std::io::{Read, Write};
@@ -242,6 +244,18 @@ pub fn splices_cut_and_join()
     ensures join { SplicesJoin }
     ensures others { SplicesKeepOthers }
 {}
+
+/// So it is with the rings of a pool of nodes after a splice; where the two codes are one, nothing changes. One code alone leads to
+/// another, so `prev` is the inverse of `next`.
+pub fn spliced_pools_are_cut_and_joined()
+    ensures cut { SplicedPoolsCut }
+    ensures joined { SplicedPoolsJoin }
+    ensures others { SplicedPoolsKeepOthers }
+    ensures one { SplicedPoolsStay }
+    ensures back { PoolsLeadBack }
+{
+    splices_of_pools();
+}
 
 /// The plain machine keeps a copy of every model, and a place: an accepted command drops the copies after the place and appends one,
 /// undo and redo move the place.
