@@ -3,7 +3,7 @@
 import argparse
 import sys
 from fractions import Fraction
-from typing import Dict, Iterator, List, NamedTuple, Optional, Sequence, Tuple
+from typing import Dict, Hashable, Iterator, List, NamedTuple, Optional, Sequence, Tuple
 
 from .command_line import OK, add_version, read_bytes, run
 from .errors import Unfit
@@ -34,7 +34,8 @@ def imported(path: str, *, form: Optional[str] = None, scale: Fraction = Fractio
 
 
 def model_of_parts(parts: Sequence[Part], scale: Fraction, rounded: bool, keep_triangles: bool) -> Imported:
-    """The model with a solid for each part, or for each outer shell where the file doesn't say which shells are a solid."""
+    """The model with a solid for each part, for the parts of one named solid together, or for each outer shell where the file doesn't
+    say which shells are a solid."""
     grid = _Grid(scale, rounded)
     surfaces: List[Surface] = []
     for part in parts:
@@ -42,7 +43,7 @@ def model_of_parts(parts: Sequence[Part], scale: Fraction, rounded: bool, keep_t
         require_closed(surface)
         surfaces.append(surface if keep_triangles or part.whole else with_joined_faces(surface))
     model = _turned_right(model_of_surfaces(surfaces))
-    return Imported(_parted(model, [part.parted for part in parts]), grid.square_moved)
+    return Imported(_with_solids_of(model, parts), grid.square_moved)
 
 
 class _Grid:
@@ -95,12 +96,14 @@ def _with_turned(model: Model, faces: set) -> Model:
     return sorted_model(model.solids, model.faces, new, model.edges, model.vertices)
 
 
-def _parted(model: Model, parted: Sequence[bool]) -> Model:
-    """Solids whose shells the file didn't assign fall into one for each shell that holds material, with the hollows in it."""
-    groups: List[List[int]] = []
-    for solid, wanted in zip(model.solids, parted):
-        groups += _groups(model, solid) if wanted else [model.faces_of(solid)]
-    faces = {face: Face(solid, *model.faces[face][1:]) for solid, group in enumerate(groups, 1) for face in group}
+def _with_solids_of(model: Model, parts: Sequence[Part]) -> Model:
+    """The model, in which each part is a solid, with the solids that the file means. Those that it doesn't say fall into one for each
+    shell that holds material, with the hollows in it."""
+    groups: Dict[Hashable, List[int]] = {}
+    for solid, part in zip(model.solids, parts):
+        for place, group in enumerate(_groups(model, solid) if part.parted else [model.faces_of(solid)]):
+            groups.setdefault(part.solid or (solid, place), []).extend(group)
+    faces = {face: Face(solid, *model.faces[face][1:]) for solid, group in enumerate(groups.values(), 1) for face in group}
     return sorted_model(range(1, len(groups) + 1), faces, model.loops, model.edges, model.vertices)
 
 

@@ -9,7 +9,7 @@ from typing import Callable, Dict, Iterator, List, NamedTuple, Sequence, Tuple
 from xml.etree import ElementTree
 
 from .errors import CompanionError
-from .step_file import step_parts
+from .step_file import step_breps
 
 Exact = Tuple[Fraction, Fraction, Fraction]
 Polygon = List[List[Exact]]
@@ -23,11 +23,12 @@ class NotAMesh(CompanionError):
 
 class Part(NamedTuple):
     """The polygons of an object, each an outline and then rings. Where `parted` holds the file doesn't say which shells are a solid,
-    and where `whole` does its polygons are faces that aren't to be joined."""
+    and where `whole` does its polygons are faces that aren't to be joined. Parts of one `solid`, where it has a name, are one solid."""
 
     polygons: List[Polygon]
     parted: bool = False
     whole: bool = False
+    solid: str = ''
 
 
 def read_parts(data: bytes, form: str) -> List[Part]:
@@ -165,8 +166,8 @@ def _transform(text: str) -> Callable[[Exact], Exact]:
 
 
 def _step(data: bytes) -> Iterator[Part]:
-    for polygons in step_parts(_text(data)):
-        yield Part([[[_exact(point) for point in loop] for loop in polygon] for polygon in polygons], whole=True)
+    for brep in step_breps(_text(data)):
+        yield Part([[[_exact(point) for point in loop] for loop in face] for face in brep.faces], whole=True, solid=brep.solid)
 
 
 FORMS: Dict[str, Callable[[bytes], Iterator[Part]]] = {'off': _off, 'obj': _obj, 'stl': _stl, '3mf': _three_mf, 'step': _step}

@@ -7,8 +7,17 @@ from .errors import Unfit
 
 _ENTITY = re.compile(r'#(\d+)\s*=\s*([A-Z_0-9]*)\s*\(((?:\'(?:[^\']|\'\')*\'|[^;\'])*)\)\s*;')
 _TOKEN = re.compile(r"'(?:[^']|'')*'|[(),]|[^\s(),']+")
+_OURS = re.compile(r"FILE_NAME\s*\([^;]*'gwb-step'[^;]*;")
 
 Loop = List[List[str]]
+
+
+class Brep(NamedTuple):
+    """One boundary representation: its faces, each a list of loops, the outer one first, of points in words. In a file of gwb-step
+    `solid` is the name of its solid, which is that of other breps too where the solid has shells that lie apart; elsewhere it is empty."""
+
+    faces: List[List[Loop]]
+    solid: str
 
 
 class _Entity(NamedTuple):
@@ -16,19 +25,21 @@ class _Entity(NamedTuple):
     items: list
 
 
-def step_parts(text: str) -> Iterator[List[List[Loop]]]:
-    """For each solid its faces, each a list of loops, the outer one first, of points in words. Raises KeyError, IndexError or
-    ValueError where the text can't be followed, and Unfit at a face or an edge that is curved."""
+def step_breps(text: str) -> Iterator[Brep]:
+    """The boundary representations of a file. Raises KeyError, IndexError or ValueError where the text can't be followed, and Unfit at
+    a face or an edge that is curved."""
     if 'END-ISO-10303-21' not in text:
         raise ValueError
     data = {int(number): _Entity(kind, _items(words)) for number, kind, words in _ENTITY.findall(text)}
+    is_ours = _OURS.search(text) is not None
     solids = [entity for entity in data.values() if entity.kind in ('MANIFOLD_SOLID_BREP', 'BREP_WITH_VOIDS')]
     for solid in solids:
         shells = [(solid.items[1], False)]
         for void in solid.items[2] if solid.kind == 'BREP_WITH_VOIDS' else []:
             oriented = _at(data, void).items
             shells.append((oriented[2], oriented[3] == '.F.'))
-        yield [_face(data, face, turned) for shell, turned in shells for face in _at(data, shell).items[1]]
+        faces = [_face(data, face, turned) for shell, turned in shells for face in _at(data, shell).items[1]]
+        yield Brep(faces, solid.items[0] if is_ours else '')
 
 
 def _items(words: str) -> list:

@@ -145,6 +145,16 @@ class RoundTrips(InFiles):
             back = self.read(text)
             self.assertEqual((volumes(back), len(back.faces), len(back.solids)), ([6 * (729 - 27)], 12, 1), form)
 
+    def test_shells_that_lie_apart(self):
+        points, faces = box((0, 0, 0), (9, 9, 9))
+        more, others = box((9, 9, 9), (12, 12, 12), 9)
+        hollow, walls = box((2, 2, 2), (5, 5, 5), 17)
+        text = step_text(model_in(listing(points + more + hollow, faces + others + turned(walls))))
+        back = self.read(text)
+        self.accepted(back)
+        self.assertEqual((volumes(back), len(back.shells(1))), ([6 * (729 + 27 - 27)], 3))
+        self.assertEqual(volumes(self.read(text.replace("'gwb-step'", "'elsewhere'"))), [6 * 27, 6 * (729 - 27)])
+
     def test_shapes_by_openscad(self):
         self.assertEqual({path.stem for path in (STORED / 'openscad').glob('*.scad')}, set(SHAPES))
         for name, volume in SHAPES.items():
