@@ -1,24 +1,35 @@
 #!/usr/bin/env python3
 """Runs the built program and the plain C program side by side on families of scripts, checks that they answer the same bytes, and
-tells the processor time of a line, the peak of memory, and the ratio of both.
+tells the processor time of a line, the instructions of a line, the peak of memory, and the ratio of the times.
 
     bench/run.py [--program PROGRAM] [--sizes 10000,100000,1000000] [--only FAMILY,FAMILY] [--seconds S] [--times N] [--markdown]
 
 The time is the best of N runs (7; fewer of those that take long), user and system together, less the best time for the lines that come before those measured
 (the start of the program, where there are none). A run past S seconds (20) is given up, and so are larger scripts of its family.
+
+Instructions are those of one run under callgrind, less those for the lines that come before. They are told where valgrind is there and the run takes
+at most a twentieth of a second without it, since it takes some fifty times as long with it.
 """
 import argparse
+import collections
 import filecmp
 import math
 import os
 import subprocess
 import tempfile
 
+import callgrind
 import scripts
 
 HERE = os.path.dirname(os.path.abspath(__file__))
 NAMES = ('gwb', 'C')
 ENOUGH = 2.0            # seconds of processor time after which a script isn't run again
+COUNTED = 0.05          # seconds of processor time up to which a run's instructions are counted
+
+
+# What a run costs, or a line of it; instructions are None where they aren't counted.
+Cost = collections.namedtuple('Cost', 'seconds memory instructions')
+NOTHING = Cost(0, 0, 0)
 
 
 class TooSlow(Exception):
@@ -39,6 +50,20 @@ def run_once(program, script, out, limit):
     return microseconds / 1e6, kibibytes / 1024
 
 
+def instructions(program, script):
+    """Those of a run."""
+    script.seek(0)
+    return callgrind.dumps([program], stdin=script)[-1][1]
+
+
+def of_a_line(whole, rest, lines):
+    """The cost of a line, by what a run costs with these lines and without them; None where one took too long."""
+    if whole is None or rest is None:
+        return None
+    counted = None not in (whole.instructions, rest.instructions)
+    return Cost(max(whole.seconds - rest.seconds, 0) / lines, whole.memory, (whole.instructions - rest.instructions) / lines if counted else None)
+
+
 class Bench:
     def __init__(self, programs, limit, times):
         self.programs = programs
@@ -47,7 +72,7 @@ class Bench:
         self.starts = [None] * len(programs)
 
     def best(self, text, which):
-        """(seconds, MiB) of the chosen programs, whose answers are compared; None for a program that takes too long."""
+        """The cost of the chosen programs, whose answers are compared; None for a program that takes too long."""
         with tempfile.TemporaryFile() as script, tempfile.NamedTemporaryFile() as one, tempfile.NamedTemporaryFile() as two:
             script.write(text)
             script.flush()
@@ -63,14 +88,13 @@ class Bench:
             return best
 
     def best_of(self, program, script, out):
-        best, spent = None, 0
-        for _ in range(self.times):
-            seconds, memory = run_once(program, script, out, self.limit)
-            best = (seconds, memory) if best is None else (min(best[0], seconds), max(best[1], memory))
-            spent += seconds
-            if spent > ENOUGH:
-                break
-        return best
+        runs, spent = [], 0
+        while len(runs) < self.times and spent <= ENOUGH:
+            runs.append(run_once(program, script, out, self.limit))
+            spent += runs[-1][0]
+        seconds, memory = min(run[0] for run in runs), max(run[1] for run in runs)
+        is_counted = seconds <= COUNTED and callgrind.is_there()
+        return Cost(seconds, memory, instructions(program, script) if is_counted else None)
 
     def start(self):
         if None in self.starts:
@@ -78,13 +102,12 @@ class Bench:
         return self.starts
 
     def measure(self, family, size):
-        """Of each program (seconds a line, MiB), or None where it takes too long."""
+        """The cost of a line for each program, or None where it takes too long."""
         before = scripts.script(family.before(size)) if family.before else b''
         lines = scripts.script(family.lines(size))
         whole = self.best(before + lines, self.programs)
-        rest = self.best(before, self.programs) if before else self.start() if family.before else [(0, 0)] * len(whole)
-        count = lines.count(b'\n')
-        return [w and r and (max(w[0] - r[0], 0) / count, w[1]) for w, r in zip(whole, rest)]
+        rest = self.best(before, self.programs) if before else self.start() if family.before else [NOTHING] * len(whole)
+        return [of_a_line(w, r, lines.count(b'\n')) for w, r in zip(whole, rest)]
 
 
 def time_text(seconds):
@@ -100,17 +123,22 @@ def memory_text(mebibytes):
     return '%.1f' % mebibytes if mebibytes < 10 else '%.0f' % mebibytes
 
 
+def instructions_text(count):
+    return '' if count is None else '{:,.0f}'.format(count)
+
+
 def table_row(name, size, got, limit):
     cells = [name, '{:,}'.format(size)]
-    cells += [time_text(g[0]) if g else 'over %d s in all' % limit for g in got]
-    ratio = got[0][0] / got[1][0] if None not in got and got[1][0] > 0 else None
+    cells += [time_text(g.seconds) if g else 'over %d s in all' % limit for g in got]
+    ratio = got[0].seconds / got[1].seconds if None not in got and got[1].seconds > 0 else None
     cells.append('%.1f' % ratio if ratio else '')
-    cells += [memory_text(g[1]) if g else '' for g in got]
+    cells += [instructions_text(g.instructions) if g else '' for g in got]
+    cells += [memory_text(g.memory) if g else '' for g in got]
     return cells, ratio
 
 
-HEAD = ['Family', 'Size', 'gwb, a line', 'C, a line', 'Ratio', 'gwb, MiB', 'C, MiB']
-WIDTHS = [15, 10, 16, 16, 7, 9, 9]
+HEAD = ['Family', 'Size', 'gwb, a line', 'C, a line', 'Ratio', 'gwb, instr.', 'C, instr.', 'gwb, MiB', 'C, MiB']
+WIDTHS = [15, 10, 16, 16, 7, 13, 13, 9, 9]
 
 
 def show(cells, markdown):
@@ -151,13 +179,16 @@ def measure_kind(bench, names, sizes, a):
                 break
     for size, found in ratios.items():
         if found:
-            show(['(mean)', '{:,}'.format(size), '', '', '%.1f' % math.exp(sum(map(math.log, found)) / len(found)), '', ''], a.markdown)
+            mean = math.exp(sum(map(math.log, found)) / len(found))
+            show(['(mean)', '{:,}'.format(size), '', '', '%.1f' % mean, '', '', '', ''], a.markdown)
     print()
 
 
 def main():
     a = options()
     subprocess.run(['make', '-s', '-C', HERE], check=True)
+    if not callgrind.is_there():
+        print('Instructions are left out: there is no valgrind.')
     bench = Bench((a.program, os.path.join(HERE, 'plain', 'plain')), a.seconds, a.times)
     names = a.only.split(',') if a.only else list(scripts.FAMILIES)
     sizes = [int(size) for size in a.sizes.split(',')]
