@@ -59,7 +59,7 @@ def page_of_steps(steps: Iterable[Step], title: str = 'gwb') -> str:
 def _page(data: Dict[str, object], title: str) -> str:
     text = json.dumps(data, separators=(',', ':')).replace('<', '\\u003c')
     name = html.escape(title).encode('ascii', 'xmlcharrefreplace').decode()
-    parts = {'title': name, 'style': _file('page.css'), 'picture': _file('picture.js'),
+    parts = {'title': name, 'style': _file('page.css'), 'picture': _file('picture.js'), 'painter': _file('painter.js'),
              'page': _file('page.js'), 'data': text}
     before, *rest = _file('page.html').split('{')
     return before + ''.join(parts[name] + after for name, after in (piece.split('}', 1) for piece in rest))

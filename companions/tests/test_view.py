@@ -10,6 +10,7 @@ import unittest
 import zlib
 from pathlib import Path
 
+from page_speed import blocks, measured, timed
 from support import box, examples, lamina, listing, model_in, plate, program, run, scripts, turned
 
 from gwb.errors import CompanionError
@@ -360,6 +361,15 @@ class Browser(unittest.TestCase):
         self.assertEqual(width, 620)
         self.assertGreater(len(set(lines)), 100)
         self.assertGreater(sum(len(set(line)) > 20 for line in lines), 100)
+
+
+class Speed(unittest.TestCase):
+    """The page's own reckoning with 10,368 faces; how long drawing takes is the machine's."""
+
+    def test_turning_and_pointing(self):
+        told = measured(timed(page_of(blocks(12)), 12), '640,480', browser())
+        for what, bound in (('turning', 33), ('pointing', 100)):
+            self.assertLess(sorted(told[what]['own'])[6], bound, what)
 
 
 if __name__ == '__main__':

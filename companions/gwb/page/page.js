@@ -10,7 +10,7 @@ const View = (() => {
   const view = {turn: Math.atan2(-3, 2), lift: .507, zoom: 1, right: 0, down: 0, width: 1, height: 1};
   const models = new Map([[0, Picture.changed({}, data.frames[0].change)]]);
   const fingers = new Map();
-  let moved = 0, model = models.get(0), scene = null, screen = null, gl = null, ball = null, points = [], asked = false, timer = null;
+  let moved = 0, model = models.get(0), scene = null, screen = null, gl = null, ball = null, points = [], asked = false, timer = null, drawn = '';
 
   // The model after a step; one in 32 is kept to start from.
   function modelAt(step) {
@@ -26,97 +26,13 @@ const View = (() => {
 
   const colour = solid => PALETTE[(solid - 1) % PALETTE.length];
   const css = rgb => `rgb(${rgb.map(x => Math.round(255 * Math.min(1, x))).join(',')})`;
-  const isLit = (kind, number, solid) => state.lit.has(kind + number) || state.lit.has('s' + solid)
+  const isLit = (kind, number, solid) => (state.lit.size && (state.lit.has(kind + number) || state.lit.has('s' + solid)))
     || (state.picked && state.picked.kind === kind && state.picked.number === number);
 
-  // --- WebGL
-  const FILL = `attribute vec3 p, n, c; uniform vec3 R, U, S; uniform vec4 V; uniform vec2 M; varying vec3 k; varying float d;
-void main() { d = dot(n, S); k = c * (.58 + .24 * max(0., d) + .3 * max(0., dot(n, normalize(U * .8 + S * .4 - R * .5))));
-gl_Position = vec4(2. * (V.z * dot(R, p) + M.x) / V.x, 2. * (V.z * dot(U, p) - M.y) / V.y, -.7 * dot(S, p), 1.); }`;
-  const FILL_END = 'precision mediump float; varying vec3 k; varying float d; void main() { if (d <= 0.) discard; gl_FragColor = vec4(k, 1.); }';
-  const LINE = `attribute vec3 p, q, c; attribute vec2 e; uniform vec3 R, U, S; uniform vec4 V; uniform vec2 M; varying vec3 k;
-vec2 s(vec3 x) { return vec2(V.z * dot(R, x) + M.x, V.z * dot(U, x) - M.y); }
-void main() { k = c; vec2 a = s(p), b = s(q), t = b - a; float l = length(t); t = l > 0. ? t / l : vec2(1, 0);
-vec2 x = mix(a, b, e.x) + vec2(-t.y, t.x) * e.y * V.w + t * (e.x * 2. - 1.) * V.w * .5;
-gl_Position = vec4(2. * x / V.xy, -.7 * dot(S, mix(p, q, e.x)) - 1.5 * V.w / V.z, 1.); }`;
-  const LINE_END = 'precision mediump float; varying vec3 k; uniform float A; void main() { gl_FragColor = vec4(k, A); }';
-
-  function program(vertex, fragment) {
-    const made = gl.createProgram();
-    for (const [type, text] of [[gl.VERTEX_SHADER, vertex], [gl.FRAGMENT_SHADER, fragment]]) {
-      const shader = gl.createShader(type);
-      gl.shaderSource(shader, text);
-      gl.compileShader(shader);
-      gl.attachShader(made, shader);
-    }
-    gl.linkProgram(made);
-    return {made, buffer: gl.createBuffer(), count: 0};
-  }
-
-  function fill(what, numbers, each) {
-    gl.bindBuffer(gl.ARRAY_BUFFER, what.buffer);
-    gl.bufferData(gl.ARRAY_BUFFER, new Float32Array(numbers), gl.STATIC_DRAW);
-    what.count = numbers.length / each;
-  }
-
-  function upload() {
-    if (!gl) return;
-    const fills = [], lines = [], thin = scene.edges.length > 4000;
-    const ends = thin ? [[0, 0], [1, 0]] : [[0, -1], [1, -1], [0, 1], [0, 1], [1, -1], [1, 1]];
-    for (const t of scene.triangles) {
-      const c = isLit('f', t.face, t.solid) ? LIT : colour(t.solid);
-      for (const corner of t.corners) fills.push(...scene.point(corner), ...t.normal, ...c);
-    }
-    for (const e of scene.edges) {
-      const lit = isLit('e', e.edge, e.solid), c = lit ? [.9, .25, 0] : [.1, .15, .2], w = lit ? 2.4 : 1;
-      for (const [x, y] of ends) lines.push(...scene.point(e.a), ...scene.point(e.b), ...c, x, y * w);
-    }
-    gl.shape = thin ? gl.LINES : gl.TRIANGLES;
-    fill(gl.fills, fills, 9);
-    fill(gl.lines, lines, 11);
-  }
-
-  function use(what, parts) {
-    const ratio = devicePixelRatio || 1, p = what.made, each = 4 * parts.reduce((sum, [, size]) => sum + size, 0);
-    gl.useProgram(p);
-    gl.bindBuffer(gl.ARRAY_BUFFER, what.buffer);
-    let offset = 0;
-    for (const [name, size] of parts) {
-      const place = gl.getAttribLocation(p, name);
-      gl.enableVertexAttribArray(place);
-      gl.vertexAttribPointer(place, size, gl.FLOAT, false, each, offset);
-      offset += 4 * size;
-    }
-    const set = (name, kind, ...values) => gl['uniform' + kind](gl.getUniformLocation(p, name), ...values);
-    set('R', '3fv', screen.basis.right);
-    set('U', '3fv', screen.basis.up);
-    set('S', '3fv', screen.basis.stand);
-    set('V', '4f', view.width, view.height, view.zoom, Math.max(.75, 1.5 / ratio));
-    set('M', '2f', view.right, view.down);
-    return set;
-  }
-
-  function drawByGl() {
-    gl.viewport(0, 0, front.width, front.height);
-    gl.clearColor(0, 0, 0, 0);
-    gl.clear(gl.COLOR_BUFFER_BIT | gl.DEPTH_BUFFER_BIT);
-    gl.enable(gl.DEPTH_TEST);
-    gl.enable(gl.BLEND);
-    gl.blendFuncSeparate(gl.SRC_ALPHA, gl.ONE_MINUS_SRC_ALPHA, gl.ONE, gl.ONE_MINUS_SRC_ALPHA);
-    gl.depthFunc(gl.LEQUAL);
-    use(gl.fills, [['p', 3], ['n', 3], ['c', 3]]);
-    gl.drawArrays(gl.TRIANGLES, 0, gl.fills.count);
-    const set = use(gl.lines, [['p', 3], ['q', 3], ['c', 3], ['e', 2]]);
-    gl.depthMask(false);
-    if (state.hidden) {
-      gl.depthFunc(gl.GREATER);
-      set('A', '1f', .28);
-      gl.drawArrays(gl.shape, 0, gl.lines.count);
-      gl.depthFunc(gl.LEQUAL);
-    }
-    set('A', '1f', 1);
-    gl.drawArrays(gl.shape, 0, gl.lines.count);
-    gl.depthMask(true);
+  // Colours what is drawn anew.
+  function recolour() {
+    if (gl) gl.colour(colour, isLit);
+    drawn = '';
   }
 
   // --- without WebGL: faces from the farthest to the nearest, each with its edges
@@ -155,25 +71,34 @@ gl_Position = vec4(2. * x / V.xy, -.7 * dot(S, mix(p, q, e.x)) - 1.5 * V.w / V.z
   }
 
   // --- numbers
+  const chosen = () => state.picked ? [...state.lit, state.picked.kind + state.picked.number] : [...state.lit];
+
   function wanted() {
     const near = state.pointer && !fingers.size ? 80 : 0;
-    return Picture.named(scene, screen, (kind, number) => isLit(kind, number), state.pointer || [view.width / 2, view.height / 2],
+    return Picture.named(scene, screen, chosen(), state.pointer || [view.width / 2, view.height / 2],
                          [near, fingers.size && scene.things.length > 5000 ? 0 : Infinity, 0][state.numbers]);
+  }
+
+  // The vertices that are lit, or all where there is no edge.
+  function drawVertices() {
+    const lit = new Set(chosen().filter(key => key[0] === 'v').map(key => +key.slice(1)));
+    const shown = scene.edges.length ? [...lit].filter(number => number in scene.place) : Object.keys(scene.place).map(Number);
+    for (const number of shown) {
+      const spot = screen.spot(scene.place[number]);
+      pen.fillStyle = lit.has(number) ? '#e04000' : '#1a2633';
+      pen.beginPath();
+      pen.arc(spot[0], spot[1], lit.has(number) ? 6 : 4, 0, 7);
+      pen.fill();
+    }
+    return shown.length;
   }
 
   function drawLabels() {
     pen.setTransform(over.width / view.width, 0, 0, over.height / view.height, 0, 0);
-    pen.clearRect(0, 0, view.width, view.height);
+    if (state.written) pen.clearRect(0, 0, view.width, view.height);
     pen.textAlign = 'center';
     pen.textBaseline = 'middle';
-    for (const number of Object.keys(scene.place)) {
-      const spot = screen.spot(scene.place[number]), lit = isLit('v', +number);
-      if (!lit && scene.edges.length) continue;
-      pen.fillStyle = lit ? '#e04000' : '#1a2633';
-      pen.beginPath();
-      pen.arc(spot[0], spot[1], lit ? 6 : 4, 0, 7);
-      pen.fill();
-    }
+    const vertices = drawVertices();
     const font = kind => `${kind === 'f' ? 'bold 15' : '13'}px system-ui, sans-serif`;
     const labels = wanted().map(it => {
       pen.font = font(it.kind);
@@ -188,12 +113,62 @@ gl_Position = vec4(2. * x / V.xy, -.7 * dot(S, mix(p, q, e.x)) - 1.5 * V.w / V.z
       pen.strokeText(label.number, label.x, label.y);
       pen.fillText(label.number, label.x, label.y);
     }
+    state.written = vertices + state.labels.length;
+    over.style.opacity = state.written ? 1 : 0;
   }
 
-  function draw() {
+  // --- frames: the model is drawn where something of it changed; while it turns and a frame takes long, less sharply, at last without edges
+  const pace = {level: 1, frames: [], last: 0, timer: null};
+  const sharpness = () => {
+    const sharp = Math.min(gl ? Math.max(2, devicePixelRatio || 1) : devicePixelRatio || 1, 4096 / Math.max(view.width, view.height));
+    return pace.timer ? [sharp, 1, .6, .4, .4][pace.level] : sharp;
+  };
+
+  function measureSize() {
+    const scale = sharpness(), wide = Math.round(view.width * scale), high = Math.round(view.height * scale);
+    if (front.width !== wide || front.height !== high) [front.width, front.height] = [wide, high];
+  }
+
+  // Goes by the middle one of the last frames' times.
+  function keepPace(time) {
+    if (time - pace.last < 2000) pace.frames.push(time - pace.last);
+    pace.last = time;
+    const middle = [...pace.frames].sort((a, b) => a - b)[pace.frames.length >> 1];
+    const change = pace.frames.length > 3 && middle > 26 ? 1 : pace.frames.length > 30 && middle < 18 ? -1 : 0;
+    if (pace.frames.length > 30 || change) pace.frames = [];
+    pace.level = Math.max(0, Math.min(4, pace.level + change));
+  }
+
+  // Sharp again, where no finger is down and nothing was drawn for a while.
+  function rest() {
+    pace.timer = fingers.size ? setTimeout(rest, 200) : null;
+    if (pace.timer) return;
+    pace.frames = [];
+    pace.last = 0;
+    ask();
+  }
+
+  function restLater() {
+    clearTimeout(pace.timer);
+    pace.timer = setTimeout(rest, 200);
+  }
+
+  function move() {
+    restLater();
+    ask();
+  }
+
+  function draw(time) {
     asked = false;
-    screen = Picture.screenOf(scene, view);
-    if (gl) drawByGl(); else drawFlat(front.getContext('2d'));
+    if (pace.timer) restLater();
+    if (time && pace.timer) keepPace(time);
+    measureSize();
+    const now = [view.turn, view.lift, view.zoom, view.right, view.down, front.width, front.height, state.hidden].join();
+    if (now !== drawn) {
+      screen = Picture.screenOf(scene, view);
+      if (gl) gl.draw(view, screen, state.hidden, pace.timer ? pace.level : 0); else drawFlat(front.getContext('2d'));
+    }
+    drawn = now;
     drawLabels();
   }
 
@@ -261,7 +236,7 @@ gl_Position = vec4(2. * x / V.xy, -.7 * dot(S, mix(p, q, e.x)) - 1.5 * V.w / V.z
     state.picked = picked;
     if (picked) copy((picked.kind === 'e' ? '+' : '') + picked.number);
     showInfo();
-    upload();
+    recolour();
     ask();
   }
 
@@ -288,7 +263,8 @@ gl_Position = vec4(2. * x / V.xy, -.7 * dot(S, mix(p, q, e.x)) - 1.5 * V.w / V.z
     state.lit = Picture.wantedIn(state.wanted, model);
     showSolids();
     showInfo();
-    upload();
+    if (gl) gl.take(scene);
+    recolour();
     ask();
   }
 
@@ -339,10 +315,9 @@ gl_Position = vec4(2. * x / V.xy, -.7 * dot(S, mix(p, q, e.x)) - 1.5 * V.w / V.z
     const ratio = devicePixelRatio || 1;
     view.width = innerWidth || 1;
     view.height = innerHeight || 1;
-    for (const canvas of [front, over]) {
-      canvas.width = view.width * ratio;
-      canvas.height = view.height * ratio;
-    }
+    over.width = view.width * ratio;
+    over.height = view.height * ratio;
+    drawn = '';
     ask();
   }
 
@@ -350,7 +325,7 @@ gl_Position = vec4(2. * x / V.xy, -.7 * dot(S, mix(p, q, e.x)) - 1.5 * V.w / V.z
     view.right = (view.right - x + view.width / 2) * factor + x - view.width / 2;
     view.down = (view.down - y + view.height / 2) * factor + y - view.height / 2;
     view.zoom *= factor;
-    ask();
+    move();
   }
 
   function movePointer(event) {
@@ -373,7 +348,7 @@ gl_Position = vec4(2. * x / V.xy, -.7 * dot(S, mix(p, q, e.x)) - 1.5 * V.w / V.z
       view.lift = Math.max(-Math.PI / 2, Math.min(Math.PI / 2, view.lift + dy * .01));
     }
     fingers.set(event.pointerId, state.pointer);
-    ask();
+    move();
   }
 
   function startPointer() {
@@ -386,7 +361,7 @@ gl_Position = vec4(2. * x / V.xy, -.7 * dot(S, mix(p, q, e.x)) - 1.5 * V.w / V.z
     over.onpointerup = event => {
       const alone = fingers.size === 1;
       fingers.delete(event.pointerId);
-      if (alone && moved < 5 && event.button === 0) choose(Picture.pick(scene, Picture.screenOf(scene, view), event.clientX, event.clientY));
+      if (alone && moved < 5 && event.button === 0) choose(Picture.pick(scene, screen, event.clientX, event.clientY));
     };
     over.onpointercancel = event => fingers.delete(event.pointerId);
     over.onpointerleave = () => { state.pointer = null; ask(); };
@@ -411,7 +386,7 @@ gl_Position = vec4(2. * x / V.xy, -.7 * dot(S, mix(p, q, e.x)) - 1.5 * V.w / V.z
   function light(text) {
     state.wanted = text;
     state.lit = Picture.wantedIn(text, model);
-    upload();
+    recolour();
     ask();
   }
 
@@ -433,11 +408,7 @@ gl_Position = vec4(2. * x / V.xy, -.7 * dot(S, mix(p, q, e.x)) - 1.5 * V.w / V.z
   // The words after # in the address: numbers=all, hidden, lit=f1,e7, step=3, turn=, lift=, flat (no WebGL).
   function start() {
     const words = new URLSearchParams(location.hash.slice(1));
-    gl = words.has('flat') ? null : front.getContext('webgl', {antialias: true, preserveDrawingBuffer: true});
-    if (gl) {
-      gl.fills = program(FILL, FILL_END);
-      gl.lines = program(LINE, LINE_END);
-    }
+    gl = words.has('flat') ? null : Painter.on(front);
     const all = data.frames.flatMap(frame => Object.values(frame.change.vertices).filter(point => point));
     points = [...new Map(all.map(point => [point.join(), point])).values()];
     ball = Picture.bounds(points);

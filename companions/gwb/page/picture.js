@@ -55,8 +55,8 @@ const Picture = (() => {
   // A model with the solids switched off left out, brought to the unit ball. Spots are three numbers each: first the
   // vertices', then the middles of the faces' largest triangles, then the middles of the edges.
   function sceneOf(model, ball, off) {
-    const place = {}, spots = [], things = [], sides = {}, solids = new Set();
-    const put = (kind, number, p) => { things.push({kind, number}); return spots.push(p[0], p[1], p[2]) / 3 - 1; };
+    const place = {}, at = {v: place, f: {}, e: {}}, spots = [], things = [], sides = {}, solids = new Set(), areNone = [];
+    const put = (kind, number, p) => { things.push({kind, number}); return at[kind][number] = spots.push(p[0], p[1], p[2]) / 3 - 1; };
     const faces = Object.entries(model.faces).filter(([, [solid]]) => { solids.add(solid); return !off.has(solid); });
     for (const [number, [solid, loops]] of faces) {
       for (const [loop, halves, vertex] of loops) {
@@ -73,15 +73,17 @@ const Picture = (() => {
     const middles = [], triangles = [];
     for (const [number, row] of faces) {
       const cut = cutFace(+number, row, row[4].map(vertex => place[vertex]), point);
-      if (cut.middle) middles.push([+number, cut.middle]);
+      if (cut.middle) middles.push([+number, cut.middle]); else areNone.push(+number);
       for (const triangle of cut.triangles) triangles.push(triangle);
     }
     for (const [number, middle] of middles) put('f', number, middle);
     const edges = kept.map(([number, [start, end]]) => {
       const a = point(place[start]), b = point(place[end]);
-      return {edge: +number, a: place[start], b: place[end], solid: sides[number].solid, middle: put('e', +number, a.map((x, k) => (x + b[k]) / 2))};
+      return {edge: +number, a: place[start], b: place[end], left: sides[number].face, right: sides[-number].face, solid: sides[number].solid,
+              middle: put('e', +number, a.map((x, k) => (x + b[k]) / 2))};
     });
-    return {spots: Float64Array.from(spots), things, triangles, edges, sides, place, point, solids: [...solids],
+    return {spots: Float64Array.from(spots), things, triangles, edges, sides, place, at, areNone, point, solids: [...solids],
+            greatest: faces.reduce((most, [number]) => Math.max(most, number), 0),
             corners: Int32Array.from(triangles.flatMap(t => t.corners)), normals: Float64Array.from(triangles.flatMap(t => t.normal))};
   }
 
@@ -101,20 +103,44 @@ const Picture = (() => {
     return {triangles, middle};
   }
 
-  // The scene on the screen: each spot as x, y and how near it is, and the triangles that face the viewer.
-  function screenOf(scene, view) {
-    const basis = axes(view), {right, up, stand} = basis, {spots, normals} = scene, on = new Float64Array(spots.length), front = [];
-    const x = view.width / 2 + view.right, y = view.height / 2 + view.down;
+  // Where the spots of a scene lie: x, y and how near, for each.
+  function placed(spots, {right, up, stand}, {x, y, zoom}) {
+    const on = new Float64Array(spots.length);
     for (let i = 0; i < spots.length; i += 3) {
       const p = spots[i], q = spots[i + 1], r = spots[i + 2];
-      on[i] = x + view.zoom * (right[0] * p + right[1] * q + right[2] * r);
-      on[i + 1] = y - view.zoom * (up[0] * p + up[1] * q + up[2] * r);
+      on[i] = x + zoom * (right[0] * p + right[1] * q + right[2] * r);
+      on[i + 1] = y - zoom * (up[0] * p + up[1] * q + up[2] * r);
       on[i + 2] = stand[0] * p + stand[1] * q + stand[2] * r;
     }
+    return on;
+  }
+
+  // The triangles that face the viewer.
+  function frontOf({normals}, stand) {
+    const front = [];
     for (let i = 0; i < normals.length; i += 3) {
       if (normals[i] * stand[0] + normals[i + 1] * stand[1] + normals[i + 2] * stand[2] > 1e-9) front.push(i / 3);
     }
-    return {basis, on, front, width: view.width, height: view.height, spot: i => [on[3 * i], on[3 * i + 1], on[3 * i + 2]]};
+    return front;
+  }
+
+  // A row that says of each face whether it looks to the viewer somewhere, or has no area.
+  function seenOf(scene, front) {
+    const seen = new Uint8Array(scene.greatest + 1);
+    for (const face of scene.areNone) seen[face] = 1;
+    for (const i of front) seen[scene.triangles[i].face] = 1;
+    return seen;
+  }
+
+  // The scene on the screen: the triangles that face the viewer, and, when they are first asked for, the spots and faces.
+  function screenOf(scene, view) {
+    const basis = axes(view), front = frontOf(scene, basis.stand);
+    const middle = {x: view.width / 2 + view.right, y: view.height / 2 + view.down, zoom: view.zoom};
+    let on = null, seen = null;
+    return {basis, front, width: view.width, height: view.height,
+            get on() { return on = on || placed(scene.spots, basis, middle); },
+            get seenFaces() { return seen = seen || seenOf(scene, front); },
+            spot(i) { return [this.on[3 * i], this.on[3 * i + 1], this.on[3 * i + 2]]; }};
   }
 
   // The triangles that face the viewer by the squares of the screen that they reach into; made once, when first asked for.
@@ -166,18 +192,30 @@ const Picture = (() => {
     return {away: Math.hypot(spot[0] - x, spot[1] - y), spot};
   }
 
+  // The vertices near a place.
+  function verticesNear(scene, {on}, x, y) {
+    const found = [];
+    for (const [number, i] of Object.entries(scene.place)) {
+      const away = Math.hypot(on[3 * i] - x, on[3 * i + 1] - y);
+      if (away <= NEAR_VERTEX) found.push({kind: 'v', number: +number, spot: [on[3 * i], on[3 * i + 1], on[3 * i + 2]], away});
+    }
+    return found;
+  }
+
+  // The edges near a place.
+  function edgesNear(scene, screen, x, y) {
+    const found = [], {on} = screen, far = (p, q, z) => (p < z - NEAR_EDGE && q < z - NEAR_EDGE) || (p > z + NEAR_EDGE && q > z + NEAR_EDGE);
+    for (const {edge, a, b} of scene.edges) {
+      if (far(on[3 * a], on[3 * b], x) || far(on[3 * a + 1], on[3 * b + 1], y)) continue;
+      const nearest = onSegment(screen.spot(a), screen.spot(b), x, y);
+      if (nearest.away <= NEAR_EDGE) found.push({kind: 'e', number: edge, ...nearest});
+    }
+    return found;
+  }
+
   // What is seen at a place: a vertex before an edge before a face, or null.
   function pick(scene, screen, x, y) {
-    const vertices = [], edges = [];
-    for (const [number, i] of Object.entries(scene.place)) {
-      const spot = screen.spot(i), away = Math.hypot(spot[0] - x, spot[1] - y);
-      if (away <= NEAR_VERTEX) vertices.push({kind: 'v', number: +number, spot, away});
-    }
-    for (const {edge, a, b} of scene.edges) {
-      const nearest = onSegment(screen.spot(a), screen.spot(b), x, y);
-      if (nearest.away <= NEAR_EDGE) edges.push({kind: 'e', number: edge, ...nearest});
-    }
-    for (const list of [vertices, edges]) {
+    for (const list of [verticesNear(scene, screen, x, y), edgesNear(scene, screen, x, y)]) {
       list.sort((a, b) => Math.round(a.away - b.away) || b.spot[2] - a.spot[2]);
       const found = list.find(it => isSeen(scene, screen, it.spot));
       if (found) return {kind: found.kind, number: found.number};
@@ -186,17 +224,26 @@ const Picture = (() => {
     return face && {kind: 'f', number: face.number};
   }
 
+  // The things within a limit of a place, by their numbers in the scene.
+  function thingsNear(scene, {on}, [x, y], limit) {
+    const found = [];
+    for (let i = 0; i < on.length / 3; i++) {
+      const dx = on[3 * i] - x, dy = on[3 * i + 1] - y;
+      if (dx * dx + dy * dy < limit * limit) found.push(i);
+    }
+    return found;
+  }
+
   // The things to be named, the most wanted ones first: those that are chosen, and those nearer than a limit that are seen.
-  function named(scene, screen, isChosen, [x, y], limit) {
-    const found = [], {on, front} = screen, rank = {f: 0, v: 1, e: 2};
-    scene.things.forEach(({kind, number}, i) => {
-      const away = Math.hypot(on[3 * i] - x, on[3 * i + 1] - y), first = isChosen(kind, number);
-      if (first || away < limit) found.push({kind, number, first, away, spot: screen.spot(i)});
+  function named(scene, screen, chosen, place, limit) {
+    const firsts = new Set(chosen.map(key => (scene.at[key[0]] || {})[key.slice(1)]).filter(i => i >= 0)), rank = {f: 0, v: 1, e: 2};
+    const found = [...firsts, ...(limit > 0 ? thingsNear(scene, screen, place, limit).filter(i => !firsts.has(i)) : [])].map(i => {
+      const spot = screen.spot(i);
+      return {...scene.things[i], first: firsts.has(i), away: Math.hypot(spot[0] - place[0], spot[1] - place[1]), spot};
     });
     const nearest = found.sort((a, b) => b.first - a.first || a.away - b.away).slice(0, MOST_NAMES);
-    const fronts = new Set(nearest.length ? front.map(i => scene.triangles[i].face) : []);
     return nearest.sort((a, b) => b.first - a.first || rank[a.kind] - rank[b.kind] || a.away - b.away)
-      .filter(it => it.first || ((it.kind !== 'f' || fronts.has(it.number)) && isSeen(scene, screen, it.spot)));
+      .filter(it => it.first || ((it.kind !== 'f' || screen.seenFaces[it.number]) && isSeen(scene, screen, it.spot)));
   }
 
   // Places for labels, the first ones first, none over another; what finds no place is left out.
