@@ -3,6 +3,7 @@
 import io
 import os
 import pty
+import signal
 import select
 import subprocess
 import sys
@@ -30,6 +31,7 @@ class Terminal:
         environment.pop('GWB_HISTORY', None)
         self._process, self._screen = pty.fork()
         if self._process == 0:
+            signal.signal(signal.SIGINT, signal.SIG_DFL)    # it may be ignored where the tests run in the background
             os.execve(sys.executable, [sys.executable, str(COMPANIONS / 'gwb-shell'), *words], environment)
         self._unread = ''
 
