@@ -144,7 +144,7 @@ def measured(page, window, browser, wait=300):
     """What the page tells of its frames."""
     server = Told(page)
     threading.Thread(target=server.serve_forever, daemon=True).start()
-    with tempfile.TemporaryDirectory() as folder:
+    with tempfile.TemporaryDirectory(ignore_cleanup_errors=True) as folder:
         words = [browser, '--headless', '--no-sandbox', '--use-angle=swiftshader', '--enable-unsafe-swiftshader', '--disable-extensions',
                  f'--window-size={window}', f'--user-data-dir={folder}', '--remote-debugging-port=0',
                  f'http://127.0.0.1:{server.server_port}/']

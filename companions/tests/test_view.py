@@ -309,7 +309,7 @@ class Browser(unittest.TestCase):
                  for i, (model, page) in enumerate(zip(cls.models, pages))]
         script = next(script for script in examples() if script.stem == 'block_with_hole')
         tasks.append({**tasks[0], 'page': page_of_steps(played(script.read_bytes()))})
-        with tempfile.TemporaryDirectory() as folder:
+        with tempfile.TemporaryDirectory(ignore_cleanup_errors=True) as folder:
             Path(folder, 'driver.html').write_text(DRIVER.replace('TASKS', json.dumps(tasks).replace('<', '\\u003c')))
             ended = subprocess.run(
                 [chromium, '--headless', '--no-sandbox', '--use-angle=swiftshader', '--enable-unsafe-swiftshader', '--disable-extensions',
