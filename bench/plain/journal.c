@@ -12,13 +12,15 @@ static struct step *new_step(size_t place)
     return &steps[place];
 }
 
-void act(const struct step *step)
+struct refusal act(const struct step *step)
 {
+    TRY(check(step));
     struct step *record = new_step(done);
     *record = *step;
     record->first = record->last = true;
     apply(record);
     end = ++done;
+    ACCEPT;
 }
 
 void open_command(void)

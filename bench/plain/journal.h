@@ -5,8 +5,8 @@
 
 #include "operators.h"
 
-/* One operator as a command. Its conditions hold. */
-void act(const struct step *step);
+/* One operator as a command, where all its conditions hold; else nothing changes. */
+struct refusal act(const struct step *step);
 
 /* A larger command: `open_command`, `take` for each step, `close_command`. Until `settle_command` it can still be refused:
  * `abandon_command` restores the model, and the steps that can be redone stand. A step that moves faces comes after `settle_command`. */

@@ -216,12 +216,8 @@ static inline bool is_whole(struct words *w, const unsigned char *line)
 /* Carries out an operator of which the words were read. */
 static inline void answer_operator(struct words *w, const unsigned char *line, const struct step *step)
 {
-    if (!is_whole(w, line))
-        return;
-    struct refusal refusal = check(step);
-    if (!refusal.why)
-        act(step);
-    reply(refusal);
+    if (is_whole(w, line))
+        reply(act(step));
 }
 
 static void answer_mvfs(struct words *w, const unsigned char *line)
