@@ -46,6 +46,14 @@ def model_of_parts(parts: Sequence[Part], scale: Fraction, rounded: bool, keep_t
     return Imported(_with_solids_of(model, parts), grid.square_moved)
 
 
+def _told(number: Fraction) -> str:
+    """The number in a few digits; one past those of floats by its whole digits' count."""
+    try:
+        return f'{float(number):g}'
+    except OverflowError:
+        return f'a number of {len(str(abs(round(number))))} digits'
+
+
 class _Grid:
     """Points times a factor as whole ones."""
 
@@ -60,7 +68,7 @@ class _Grid:
         x, y, z = (part.numerator if part.denominator == 1 else round(part) for part in wanted)
         moved = sum((Fraction(part) - place) ** 2 for part, place in zip(wanted, (x, y, z)))
         if moved and not self._rounded:
-            raise Unfit('the point {:g} {:g} {:g} is not whole: --scale multiplies, --round rounds'.format(*map(float, wanted)))
+            raise Unfit('the point {} {} {} is not whole: --scale multiplies, --round rounds'.format(*map(_told, wanted)))
         self.square_moved = max(self.square_moved, Fraction(moved))
         return (x, y, z)
 

@@ -36,7 +36,7 @@ def read_parts(data: bytes, form: str) -> List[Part]:
     try:
         parts = [part for part in FORMS[form](data) if part.polygons]
     except (ValueError, IndexError, KeyError, struct.error, zipfile.BadZipFile, ElementTree.ParseError, NotImplementedError,
-            RuntimeError, EOFError, TypeError, RecursionError) as error:
+            RuntimeError, EOFError, TypeError, RecursionError, OverflowError) as error:
         raise NotAMesh(f'this is no {form.upper()} file, or it is cut short: {type(error).__name__}') from None
     if not parts:
         raise NotAMesh('there is no face in it')

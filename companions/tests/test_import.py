@@ -221,20 +221,34 @@ class Refused(InFiles):
         sides = [(a + 4, c + 4, b + 4) for a, b, c in SIDES]
         self.refuse('vertex where two shells touch: (0 0 0)', off(TETRAHEDRON + other, SIDES + sides))
 
-    def damaged(self, good):
+    def damaged(self, form, good):
         middle = len(good) // 2
-        yield from (b'', b'\n', b'hello\n', bytes(range(256)), good[:middle], good[:-20], good[20:], good[:middle] + good[middle + 9:],
-                    good[:middle] + b'\xff' * 9 + good[middle + 9:], good.replace(b'6', b'nan'), good.replace(b'2', b'77'),
-                    good.replace(b'3', b''), good.replace(b' ', b''), good.replace(b'\n', b' '))
+        yield from (b'', b'\n', b'hello\n', bytes(range(256)), b'\0' * 100, good[::-1], good.decode('latin-1').encode('utf-16'),
+                    good[:middle], good[:-20], good[middle:], good[:middle] + b'\xff' * 9 + good[middle + 9:])
+        if form == '3mf':
+            yield from (three_mf(TETRAHEDRON, [(0, 1, 77)]), three_mf([('nan', 0, 0)] * 4, SIDES), three_mf(TETRAHEDRON, SIDES, ''))
+        elif form == 'stl':
+            number = struct.pack('<f', 6)
+            yield from (good.replace(number, struct.pack('<f', value)) for value in (float('nan'), float('inf'), 0.5))
+        elif form == 'text of stl':
+            yield from (good.replace(b'6', b'nan'), good.replace(b'vertex', b'corner'), good.replace(b'endloop', b''))
+        else:
+            yield from (good.replace(b'6', b'nan'), good.replace(b'2', b'77'), good.replace(b'3', b''))
 
     def test_damaged_files_have_one_line(self):
-        for form, write in WRITERS.items():
-            good = as_bytes(write(TETRAHEDRON, SIDES))
-            for place, data in enumerate(self.damaged(good)):
+        for form, write in (*WRITERS.items(), ('text of stl', ascii_stl)):
+            kinds = list(self.damaged(form, as_bytes(write(TETRAHEDRON, SIDES))))
+            self.assertEqual(len(set(kinds)), 14, form)
+            for place, data in enumerate(kinds):
                 with self.subTest(f'{form} {place}'):
-                    outcome = run('importing', '--form', form, self.file(data))
-                    self.assertIn(outcome.status, (0, 3))
-                    self.assertEqual((outcome.out == '', outcome.err.count('\n')), (outcome.status == 3, outcome.status // 3))
+                    outcome = run('importing', '--form', form.split()[-1], self.file(data))
+                    self.assertEqual((outcome.status, outcome.out, outcome.err.count('\n')), (3, '', 1), outcome.err)
+                    self.assertTrue(outcome.err.startswith('gwb-import: ') and 'Traceback' not in outcome.err)
+
+    def test_numbers_past_those_of_floats(self):
+        for places in ((0.5, '1e999', 0), ('1e999', 0, 0)):
+            outcome = run('importing', '--form', 'off', self.file(off([places, *TETRAHEDRON[1:]], SIDES)))
+            self.assertEqual((outcome.status, outcome.out, outcome.err.count('\n')), (3, '', 1), outcome.err)
 
     def test_files_that_are_not_there(self):
         outcome = run('importing', '/nowhere/part.off')
