@@ -1,18 +1,130 @@
--- When a block is accepted.
-use Rattle.std.specs.Prelude.{nat_le, not}
-use Rattle.std.proofs.Common.{◌≡◌, ℕ, ◌≤◌, true, ap}
-use Rattle.std.proofs.lemmas.Bool.Decides.{nat_tests}
-use Rattle.std.proofs.Common.{arith}
+-- When a block, a lamina and a sweep are accepted.
+use Rattle.std.specs.Prelude.{nat_le, length, map}
+use Rattle.std.specs.List.{list_all, list_any}
+use Rattle.std.specs.Ordering.{int_eq}
+use Rattle.std.proofs.Common.{◌≡◌, ℕ, suc, ◌+◌, ◌*◌, ◌≤◌, Bool, true, false, not, cond, nat_eq, ◌&&◌, ◌||◌, List, [], ◌∷◌, ◌++◌, Some, None, is_some, refl, sym, ap, subst, ◌∙◌, arith, true≢false, inl, inr}
+use Rattle.std.proofs.lemmas.Bool.{and_parts, eqb-true}
+use Rattle.std.proofs.lemmas.Bool.Decides.{nat_tests, eqb_tells}
+use Rattle.euler_operators.specs.declared.Point.{Point}
+use Rattle.euler_operators.specs.Points.{is_in_range}
+use Rattle.euler_operators.specs.Vectors.{moved, same_point, origin}
+use Rattle.euler_operators.specs.Table as table
+use Rattle.euler_operators.specs.Model.{Model, LoopContent, LoopRow, lone, cycle, content, outer, point_of, rings_of, is_number}
+use Rattle.euler_operators.specs.Sound.{Sound, Has}
+use Rattle.euler_operators.specs.Conditions.{is_lone, lists, first_refusal}
+use Rattle.euler_operators.proofs.Models.{content_row, face_row}
+use Rattle.euler_operators.proofs.Tables.{first_where_zero, none_all_where}
 use Rattle.euler_laws.proofs.shared.Goes.{none_refuses}
-use Rattle.shapes.specs.Fresh.{taken_in}
+use Rattle.shapes.specs.Faces.{corners, loops_of, vertices_in, vertices_on, least_lone}
+use Rattle.shapes.specs.Fresh.{taken_in, first_such, found}
+use Rattle.shapes.specs.Lamina.{lamina_conditions, first_far, first_repeated}
+use Rattle.shapes.specs.Prism.{prism_conditions}
 use Rattle.shapes.specs.Block.{block_conditions}
+use Rattle.shapes.specs.glue.Glue.{has_repeats}
 use Rattle.undo_journal.specs.Machine.{held}
-use Rattle.command_laws.specs.Accepted.{BlocksFit}
+use Rattle.command_laws.specs.NewFaces.{IsFaceOf, corner_points, all_moved}
+use Rattle.command_laws.specs.Accepted.{BlocksFit, LaminasFit, SweepsFit}
 
-within : (n : ℕ) → n ≤ 1000000 → nat_le n 1000000 ≡ true
-within n l = grind (arith, nat_tests)
+within : (k n : ℕ) → k ≤ n → nat_le k n ≡ true
+within k n l = grind (arith, nat_tests)
 
 pub blocks_fit : BlocksFit
 unfolding block_conditions taken_in
 blocks_fit m s p dx dy dz number free x y z near far left =
-    none_refuses (block_conditions (held m) s p dx dy dz) (number, (ap not free, (x, (y, (z, (near, (far, (within _ left.of_faces, (within _ left.of_loops, (within _ left.of_edges, (within _ left.of_vertices, tt)))))))))))
+    none_refuses (block_conditions (held m) s p dx dy dz) (number, (ap not free, (x, (y, (z, (near, (far, (within _ 1000000 left.of_faces, (within _ 1000000 left.of_loops, (within _ 1000000 left.of_edges, (within _ 1000000 left.of_vertices, tt)))))))))))
+
+-- ---- a lamina
+
+all_near : (i : ℕ) (ps : List Point) → list_all is_in_range ps ≡ true → first_far i ps ≡ None
+all_near i [] e = refl
+all_near i (p ∷ ps) e = let w = and_parts (is_in_range p) (list_all is_in_range ps) e in ap (λ b. cond b (first_far (i + 1) ps) (Some (i + 1))) w.0 ∙ all_near (i + 1) ps w.1
+
+neither : (a b : Bool) → (a || b) ≡ false → (a ≡ false) × (b ≡ false)
+neither true b e = absurd (true≢false e)
+neither false b e = (refl, e)
+
+turned : (p q : Point) → same_point p q ≡ same_point q p
+turned p q = grind arith
+
+-- none of ps is one of the points seen
+abbrev AreNew : List Point → List Point → Type 0
+AreNew seen [] = Unit {0}
+AreNew seen (p ∷ ps) = (list_any (same_point p) seen ≡ false) × AreNew seen ps
+
+any_last : (p q : Point) (seen : List Point) → list_any (same_point q) seen ≡ false → same_point q p ≡ false → list_any (same_point q) (seen ++ p ∷ []) ≡ false
+any_last p q [] e f = ap (λ b. b || false) f
+any_last p q (r ∷ seen) e f = let w = neither (same_point q r) (list_any (same_point q) seen) e in (λ t. w.0 t || any_last p q seen w.1 f t)
+
+new_still : (p : Point) (seen ps : List Point) → AreNew seen ps → list_any (same_point p) ps ≡ false → AreNew (seen ++ p ∷ []) ps
+new_still p seen [] a e = tt
+new_still p seen (q ∷ ps) a e = let w = neither (same_point p q) (list_any (same_point p) ps) e in (any_last p q seen a.0 (turned q p ∙ w.0), new_still p seen ps a.1 w.1)
+
+none_repeated : (seen : List Point) (i : ℕ) (ps : List Point) → AreNew seen ps → has_repeats ps ≡ false → first_repeated seen i ps ≡ None
+none_repeated seen i [] a e = refl
+none_repeated seen i (p ∷ ps) a e = let w = neither (list_any (same_point p) ps) (has_repeats ps) e in
+    ap (λ b. cond b (Some (i + 1)) (first_repeated (seen ++ p ∷ []) (i + 1) ps)) a.0 ∙ none_repeated (seen ++ p ∷ []) (i + 1) ps (new_still p seen ps a.1 w.0) w.1
+
+all_new : (ps : List Point) → AreNew [] ps
+all_new [] = tt
+all_new (p ∷ ps) = (refl, all_new ps)
+
+pub laminas_fit : LaminasFit
+unfolding lamina_conditions taken_in
+laminas_fit m s ps number free many near apart left =
+    none_refuses (lamina_conditions (held m) s ps) (number, (ap not free, (within 3 (length ps) many, (ap (λ o. not (is_some o)) (all_near 0 ps near),
+    (ap (λ o. not (is_some o)) (none_repeated [] 0 ps (all_new ps) apart), (within _ 1000000 left.of_faces, (within _ 1000000 left.of_loops, (within _ 1000000 left.of_edges, (within _ 1000000 left.of_vertices, tt)))))))))
+
+-- ---- a sweep of a face without rings
+
+none_far : (M : Model) (d : Point) (vs : List ℕ) → list_all is_in_range (all_moved d (map (point_of M) vs)) ≡ true → first_such (λ v. not (is_in_range (moved (point_of M v) d))) vs ≡ None
+none_far M d [] e = refl
+none_far M d (v ∷ vs) e = let w = and_parts (is_in_range (moved (point_of M v) d)) (list_all is_in_range (all_moved d (map (point_of M) vs))) e in
+    ap (λ b. cond (not b) (Some v) (first_such (λ u. not (is_in_range (moved (point_of M u) d))) vs)) w.0 ∙ none_far M d vs w.1
+
+as_many : (M : Model) (vs : List ℕ) → length (map (point_of M) vs) ≡ length vs
+as_many M [] = refl
+as_many M (v ∷ vs) = ap suc (as_many M vs)
+
+module _ (M : Model) (f s : ℕ) (ps : List Point) (face : IsFaceOf M f s ps) where
+  many : length ps ≡ length (corners M f)
+  many = ap length (sym face.points) ∙ as_many M (corners M f)
+
+  corners_on : corners M f ≡ vertices_on M (content M (outer M f)) ++ []
+  unfolding corners loops_of
+  corners_on = ap (λ rs. vertices_in M (outer M f ∷ rs)) face.plain
+
+  outer_cycles : 2 ≤ length ps → is_lone (content M (outer M f)) ≡ false
+  outer_cycles l = go (content M (outer M f)) refl where
+    go : (x : LoopContent) → content M (outer M f) ≡ x → is_lone (content M (outer M f)) ≡ false
+    go (lone v) e = absurd (omega (arith, l, many, ap length (corners_on ∙ ap (λ y. vertices_on M y ++ []) e)))
+    go (cycle hs) e = ap is_lone e
+
+  pub none_lone : 2 ≤ length ps → least_lone M (f ∷ []) ≡ None
+  none_lone l = ap found (first_where_zero (λ _ row. is_lone row.content && lists (f ∷ []) row.face) M.loops (λ q y at. each q y at (nat_eq f y.face) refl)) where
+    never : (b : Bool) → (b && false) ≡ false
+    never true = refl
+    never false = refl
+
+    outer_is : (q : ℕ) (y : LoopRow) → (nat_eq y.face f && not (nat_eq (outer M f) q)) ≡ false → f ≡ y.face → outer M f ≡ q
+    outer_is q y e same = elim (eqb_tells (outer M f) q) [
+      | inl p ↦ p.1
+      | inr p ↦ absurd (true≢false (sym ((λ i. alike y.face f (sym same) i && not (p.0 i))) ∙ e))
+    ] where
+      alike : (a b : ℕ) → a ≡ b → nat_eq a b ≡ true
+      alike a b e = grind (arith, nat_tests)
+
+    each : (q : ℕ) (y : LoopRow) → table.get M.loops q ≡ Some y → (b : Bool) → nat_eq f y.face ≡ b → (is_lone y.content && (nat_eq f y.face || false)) ≡ false
+    each q y at false e = ap (λ b. is_lone y.content && (b || false)) e ∙ never (is_lone y.content)
+    each q y at true e =
+        let o = outer_is q y (none_all_where (λ l row. nat_eq row.face f && not (nat_eq (outer M f) l)) M.loops face.plain q y at) (eqb-true f y.face e) in
+        ap (λ x. is_lone x && (nat_eq f y.face || false)) (sym (content_row M q y at) ∙ ap (content M) (sym o)) ∙ ap (λ b. b && (nat_eq f y.face || false)) (outer_cycles l)
+
+pub sweeps_fit : SweepsFit
+unfolding prism_conditions taken_in
+sweeps_fit m f s ps d sound face some apart near left =
+    let M = held m in
+    let n = many M f s ps face in
+    none_refuses (prism_conditions M f d) (sound.faces_fit f face.there, (face.there, (ap not apart, (ap (λ o. not (is_some o)) (none_lone M f s ps face some),
+    (ap (λ o. not (is_some o)) (none_far M d (corners M f) (ap (λ qs. list_all is_in_range (all_moved d qs)) face.points ∙ near)),
+    (within _ 1000000 (subst (λ k. table.greatest M.faces + k ≤ 1000000) n left.of_faces), (within _ 1000000 (subst (λ k. table.greatest M.loops + k ≤ 1000000) n left.of_loops),
+    (within _ 1000000 (subst (λ k. table.greatest M.edges + 2 * k ≤ 1000000) n left.of_edges), (within _ 1000000 (subst (λ k. table.greatest M.vertices + k ≤ 1000000) n left.of_vertices), tt)))))))))

@@ -1,13 +1,17 @@
--- When a block is accepted.
-use Rattle.std.specs.Prelude.{◌≡◌, ◌≤◌, ℕ, ◌+◌, ℤ, pos, int_le, true, false, None}
+-- When a block, a lamina and a sweep are accepted.
+use Rattle.std.specs.Prelude.{◌≡◌, ◌≤◌, ℕ, ◌+◌, ◌*◌, ℤ, pos, int_le, true, false, List, length, None}
+use Rattle.std.specs.List.{list_all}
 use Rattle.euler_operators.specs.declared.Point.{Point}
 use Rattle.euler_operators.specs.Points.{is_in_range}
-use Rattle.euler_operators.specs.Vectors.{moved}
+use Rattle.euler_operators.specs.Vectors.{origin, moved, same_point}
 use Rattle.euler_operators.specs.Table as table
 use Rattle.euler_operators.specs.Model.{is_number}
+use Rattle.euler_operators.specs.Sound.{Sound}
 use Rattle.shapes.specs.Block.{vector}
-use Rattle.sweeps.specs.Machine.{block_refusal}
+use Rattle.shapes.specs.glue.Glue.{has_repeats}
+use Rattle.sweeps.specs.Machine.{block_refusal, lamina_refusal, sweep_refusal}
 use Rattle.undo_journal.specs.Machine.{Machine, held}
+use Rattle.command_laws.specs.NewFaces.{IsFaceOf, all_moved}
 
 -- so many numbers of each kind are left
 pub record AreLeft (m : Machine) (faces loops edges vertices : ℕ) : Type 0 where
@@ -21,3 +25,13 @@ abbrev pub BlocksFit : Type 0
 BlocksFit = (m : Machine) (s : ℕ) (p : Point) (dx dy dz : ℤ) → is_number s ≡ true → table.has (held m).solids s ≡ false →
     int_le (pos 1) dx ≡ true → int_le (pos 1) dy ≡ true → int_le (pos 1) dz ≡ true → is_in_range p ≡ true → is_in_range (moved p (vector dx dy dz)) ≡ true →
     AreLeft m 6 6 12 8 → block_refusal m s p dx dy dz ≡ None
+
+-- a new number, three points or more, all in range and no two alike, and numbers that are left
+abbrev pub LaminasFit : Type 0
+LaminasFit = (m : Machine) (s : ℕ) (ps : List Point) → is_number s ≡ true → table.has (held m).solids s ≡ false →
+    3 ≤ length ps → list_all is_in_range ps ≡ true → has_repeats ps ≡ false → AreLeft m 2 2 (length ps) (length ps) → lamina_refusal m s ps ≡ None
+
+-- a face without rings that has two corners or more, a vector other than 0, all corners in range once they have moved, and numbers that are left
+abbrev pub SweepsFit : Type 0
+SweepsFit = (m : Machine) (f s : ℕ) (ps : List Point) (d : Point) → Sound (held m) → IsFaceOf (held m) f s ps → 2 ≤ length ps →
+    same_point d origin ≡ false → list_all is_in_range (all_moved d ps) ≡ true → let n = length ps in AreLeft m n n (2 * n) n → sweep_refusal m f d ≡ None

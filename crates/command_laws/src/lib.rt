@@ -3,7 +3,7 @@
 #![tactic(auto)]
 
 ghost use Rattle.command_laws.specs.NewFaces.{LaminaHasTwoFaces, LaminaTakesTwoFaces, BlockHasTopAndBottom, BlockHasFourSides, BlockTakesSixFaces, SweptFaceIsFar, SidesStand};
-ghost use Rattle.command_laws.specs.Accepted.{BlocksFit};
+ghost use Rattle.command_laws.specs.Accepted.{BlocksFit, LaminasFit, SweepsFit};
 ghost use Rattle.command_laws.specs.Kept.{LaminaKeepsFaces, BlockKeepsFaces, SweepKeepsFaces, StartHasNoFace};
 ghost use Rattle.command_laws.specs.Places.{UndosGoBack};
 ghost use Rattle.command_laws.specs.Solids.{BlocksAreThere, LaminasAreThere, SweptAreThere, SweepsKeepSolids};
@@ -53,4 +53,15 @@ pub fn undos_go_back()
 /// A block is accepted where its number is new, its sizes are 1 or more, both corners are in range, and numbers are left.
 pub fn blocks_fit()
     ensures { BlocksFit }
+{}
+
+/// A lamina is accepted where its number is new, its points are three or more, all in range and no two alike, and numbers are left.
+pub fn laminas_fit()
+    ensures { LaminasFit }
+{}
+
+/// A sweep of a face without rings is accepted where it has two corners or more, the vector isn't 0, the corners stay in range, and
+/// numbers are left.
+pub fn sweeps_fit()
+    ensures { SweepsFit }
 {}

@@ -1,0 +1,5 @@
+use Rattle.command_laws.proofs.Accepted.{sweeps_fit}
+use Rattle.command_laws.proofs.sweeps_fit.Goals as goal
+
+pub returns : goal.returns
+returns c = sweeps_fit
