@@ -1,18 +1,16 @@
 -- When a block, a lamina and a sweep are accepted.
 use Rattle.std.specs.Prelude.{nat_le, length, map}
 use Rattle.std.specs.List.{list_all, list_any}
-use Rattle.std.specs.Ordering.{int_eq}
 use Rattle.std.proofs.Common.{◌≡◌, ℕ, suc, ◌+◌, ◌*◌, ◌≤◌, Bool, true, false, not, cond, nat_eq, ◌&&◌, ◌||◌, List, [], ◌∷◌, ◌++◌, Some, None, is_some, refl, sym, ap, subst, ◌∙◌, arith, true≢false, inl, inr}
 use Rattle.std.proofs.lemmas.Bool.{and_parts, eqb-true}
 use Rattle.std.proofs.lemmas.Bool.Decides.{nat_tests, eqb_tells}
 use Rattle.euler_operators.specs.declared.Point.{Point}
 use Rattle.euler_operators.specs.Points.{is_in_range}
-use Rattle.euler_operators.specs.Vectors.{moved, same_point, origin}
+use Rattle.euler_operators.specs.Vectors.{moved, same_point}
 use Rattle.euler_operators.specs.Table as table
-use Rattle.euler_operators.specs.Model.{Model, LoopContent, LoopRow, lone, cycle, content, outer, point_of, rings_of, is_number}
-use Rattle.euler_operators.specs.Sound.{Sound, Has}
-use Rattle.euler_operators.specs.Conditions.{is_lone, lists, first_refusal}
-use Rattle.euler_operators.proofs.Models.{content_row, face_row}
+use Rattle.euler_operators.specs.Model.{Model, LoopContent, LoopRow, lone, cycle, content, outer, point_of}
+use Rattle.euler_operators.specs.Conditions.{is_lone, lists}
+use Rattle.euler_operators.proofs.Models.{content_row}
 use Rattle.euler_operators.proofs.Tables.{first_where_zero, none_all_where}
 use Rattle.euler_laws.proofs.shared.Goes.{none_refuses}
 use Rattle.shapes.specs.Faces.{corners, loops_of, vertices_in, vertices_on, least_lone}
@@ -22,7 +20,7 @@ use Rattle.shapes.specs.Prism.{prism_conditions}
 use Rattle.shapes.specs.Block.{block_conditions}
 use Rattle.shapes.specs.glue.Glue.{has_repeats}
 use Rattle.undo_journal.specs.Machine.{held}
-use Rattle.command_laws.specs.NewFaces.{IsFaceOf, corner_points, all_moved}
+use Rattle.command_laws.specs.NewFaces.{IsFaceOf, all_moved}
 use Rattle.command_laws.specs.Accepted.{BlocksFit, LaminasFit, SweepsFit}
 
 within : (k n : ℕ) → k ≤ n → nat_le k n ≡ true

@@ -6,3 +6,4 @@ mod BlockFaces
 mod Kept
 mod Places
 mod Accepted
+mod Glued

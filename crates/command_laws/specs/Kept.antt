@@ -1,9 +1,10 @@
 -- The faces that were there before a command are as they were.
-use Rattle.std.specs.Prelude.{◌≡◌, ◌≤◌, ℕ, ℤ, List}
+use Rattle.std.specs.Prelude.{◌≡◌, ◌≢◌, ◌≤◌, ℕ, ℤ, List}
 use Rattle.euler_operators.specs.declared.Point.{Point}
 use Rattle.euler_operators.specs.Table as table
+use Rattle.euler_operators.specs.Model.{solid_of}
 use Rattle.undo_journal.specs.Machine.{Machine, held, start}
-use Rattle.command_laws.specs.Commands.{IsLamina, IsBlock, IsSweep}
+use Rattle.command_laws.specs.Commands.{IsLamina, IsBlock, IsSweep, IsGlue}
 use Rattle.command_laws.specs.NewFaces.{last_face}
 
 -- each face up to the greatest before is of the solid, and has the outer loop, that it had
@@ -23,3 +24,8 @@ SweepKeepsFaces = (before after : Machine) (f : ℕ) (d : Point) → IsSweep bef
 -- a new session has no face
 abbrev pub StartHasNoFace : Type 0
 StartHasNoFace = last_face start ≡ 0
+
+-- after a glue each face but the two is as it was, unless it is of the solid that goes
+abbrev pub GlueKeepsFaces : Type 0
+GlueKeepsFaces = (before after : Machine) (f g k : ℕ) → IsGlue before after f g → k ≢ f → k ≢ g → solid_of (held before) k ≢ solid_of (held before) g →
+    table.get (held after).faces k ≡ table.get (held before).faces k

@@ -4,9 +4,9 @@
 
 ghost use Rattle.command_laws.specs.NewFaces.{LaminaHasTwoFaces, LaminaTakesTwoFaces, BlockHasTopAndBottom, BlockHasFourSides, BlockTakesSixFaces, SweptFaceIsFar, SidesStand};
 ghost use Rattle.command_laws.specs.Accepted.{BlocksFit, LaminasFit, SweepsFit};
-ghost use Rattle.command_laws.specs.Kept.{LaminaKeepsFaces, BlockKeepsFaces, SweepKeepsFaces, StartHasNoFace};
+ghost use Rattle.command_laws.specs.Kept.{LaminaKeepsFaces, BlockKeepsFaces, SweepKeepsFaces, GlueKeepsFaces, StartHasNoFace};
 ghost use Rattle.command_laws.specs.Places.{UndosGoBack};
-ghost use Rattle.command_laws.specs.Solids.{BlocksAreThere, LaminasAreThere, SweptAreThere, SweepsKeepSolids};
+ghost use Rattle.command_laws.specs.Solids.{BlocksAreThere, LaminasAreThere, SweptAreThere, SweepsKeepSolids, GluesJoinSolids};
 
 /// After a lamina: the face next to the greatest before goes round its points, and the one after that the other way round.
 pub fn laminas_make_faces()
@@ -64,4 +64,11 @@ pub fn laminas_fit()
 /// numbers are left.
 pub fn sweeps_fit()
     ensures { SweepsFit }
+{}
+
+/// After a glue the solid of the first face is there, so that its measures are answered, and that of the second is gone. Each face but
+/// the two that were glued is of the solid, and has the outer loop, that it had, unless it was of the solid that goes.
+pub fn glues_keep_and_join()
+    ensures solids { GluesJoinSolids }
+    ensures faces { GlueKeepsFaces }
 {}

@@ -1,0 +1,54 @@
+-- The solids and the faces that are there after a glue.
+use Rattle.std.specs.Prelude.{nat_eq, unwrap_or}
+use Rattle.std.specs.Option.{option_map}
+use Rattle.std.proofs.Common.{◌≡◌, ◌≢◌, ℕ, cond, Option, Some, None, is_some, refl, ap, ◌∙◌, ne_eqb}
+use Rattle.std.proofs.lemmas.Bool.{eqb-false, not-true}
+use Rattle.euler_operators.specs.Table as table
+use Rattle.euler_operators.specs.Model.{Model, FaceRow, no_face, solid_of}
+use Rattle.euler_operators.specs.Sound.{Sound, Has}
+use Rattle.euler_operators.specs.Effect.{faces_to_solid}
+use Rattle.euler_operators.proofs.Tables.{get-remove_here, get-remove_other}
+use Rattle.euler_laws.proofs.shared.Goes.{all_hold}
+use Rattle.shapes.specs.glue.Glue.{glue_conditions, glue_refusal, glue_model}
+use Rattle.undo_journal.specs.Machine.{held}
+use Rattle.command_laws.specs.Solids.{GluesJoinSolids}
+use Rattle.command_laws.specs.Kept.{GlueKeepsFaces}
+
+first_there : (M : Model) (f g : ℕ) → glue_refusal M f g ≡ None → Has M.faces f
+unfolding glue_conditions
+first_there M f g e = (all_hold (glue_conditions M f g) e).1.1.0
+
+solids_apart : (M : Model) (f g : ℕ) → glue_refusal M f g ≡ None → solid_of M f ≢ solid_of M g
+unfolding glue_conditions
+solids_apart M f g e = eqb-false (solid_of M f) (solid_of M g) (not-true _ (all_hold (glue_conditions M f g) e).1.1.1.1.0)
+
+first_stays : (M : Model) (f g : ℕ) → Sound M → glue_refusal M f g ≡ None → Has (glue_model M f g).solids (solid_of M f)
+unfolding glue_model
+first_stays M f g sound e = ap is_some (get-remove_other M.solids (solid_of M g) (solid_of M f) (solids_apart M f g e)) ∙ sound.faces_of_solids f (first_there M f g e)
+
+second_goes : (M : Model) (f g : ℕ) → table.get (glue_model M f g).solids (solid_of M g) ≡ None
+unfolding glue_model
+second_goes M f g = get-remove_here M.solids (solid_of M g)
+
+pub glues_join_solids : GluesJoinSolids
+glues_join_solids before after f g sound made = (
+  ap (λ m. table.has (held m).solids (solid_of (held before) f)) made.1 ∙ first_stays (held before) f g sound made.0,
+  ap (λ m. table.has (held m).solids (solid_of (held before) g)) made.1 ∙ ap is_some (second_goes (held before) f g),
+)
+
+-- ---- faces
+
+row_kept : (s t k : ℕ) (o : Option FaceRow) → (unwrap_or o no_face).solid ≢ t → option_map (faces_to_solid (λ _ row. nat_eq row.solid t) s k) o ≡ o
+row_kept s t k None ne = refl
+row_kept s t k (Some row) ne = ap (λ b. Some (cond b (record row { solid = s }) row)) (ne_eqb row.solid t ne)
+
+face_kept : (M : Model) (f g k : ℕ) → k ≢ f → k ≢ g → solid_of M k ≢ solid_of M g → table.get (glue_model M f g).faces k ≡ table.get M.faces k
+unfolding glue_model solid_of
+face_kept M f g k not_f not_g other =
+    let turn = faces_to_solid (λ _ row. nat_eq row.solid (solid_of M g)) (solid_of M f) in
+    table.get-map_rows turn (table.remove (table.remove M.faces f) g) k
+    ∙ ap (option_map (turn k)) (get-remove_other (table.remove M.faces f) g k not_g ∙ get-remove_other M.faces f k not_f)
+    ∙ row_kept (solid_of M f) (solid_of M g) k (table.get M.faces k) other
+
+pub glue_keeps_faces : GlueKeepsFaces
+glue_keeps_faces before after f g k made not_f not_g other = ap (λ m. table.get (held m).faces k) made.1 ∙ face_kept (held before) f g k not_f not_g other
