@@ -69,8 +69,19 @@ all_new (p ∷ ps) = (refl, all_new ps)
 pub laminas_fit : LaminasFit
 unfolding lamina_conditions taken_in
 laminas_fit m s ps number free many near apart left =
-    none_refuses (lamina_conditions (held m) s ps) (number, (ap not free, (within 3 (length ps) many, (ap (λ o. not (is_some o)) (all_near 0 ps near),
-    (ap (λ o. not (is_some o)) (none_repeated [] 0 ps (all_new ps) apart), (within _ 1000000 left.of_faces, (within _ 1000000 left.of_loops, (within _ 1000000 left.of_edges, (within _ 1000000 left.of_vertices, tt)))))))))
+    none_refuses (lamina_conditions (held m) s ps) (
+      number,
+      (
+        ap not free,
+        (
+          within 3 (length ps) many,
+          (
+            ap (λ o. not (is_some o)) (all_near 0 ps near),
+            (ap (λ o. not (is_some o)) (none_repeated [] 0 ps (all_new ps) apart), (within _ 1000000 left.of_faces, (within _ 1000000 left.of_loops, (within _ 1000000 left.of_edges, (within _ 1000000 left.of_vertices, tt))))),
+          ),
+        ),
+      ),
+    )
 
 -- ---- a sweep of a face without rings
 
@@ -122,7 +133,25 @@ unfolding prism_conditions taken_in
 sweeps_fit m f s ps d sound face some apart near left =
     let M = held m in
     let n = many M f s ps face in
-    none_refuses (prism_conditions M f d) (sound.faces_fit f face.there, (face.there, (ap not apart, (ap (λ o. not (is_some o)) (none_lone M f s ps face some),
-    (ap (λ o. not (is_some o)) (none_far M d (corners M f) (ap (λ qs. list_all is_in_range (all_moved d qs)) face.points ∙ near)),
-    (within _ 1000000 (subst (λ k. table.greatest M.faces + k ≤ 1000000) n left.of_faces), (within _ 1000000 (subst (λ k. table.greatest M.loops + k ≤ 1000000) n left.of_loops),
-    (within _ 1000000 (subst (λ k. table.greatest M.edges + 2 * k ≤ 1000000) n left.of_edges), (within _ 1000000 (subst (λ k. table.greatest M.vertices + k ≤ 1000000) n left.of_vertices), tt)))))))))
+    none_refuses (prism_conditions M f d) (
+      sound.faces_fit f face.there,
+      (
+        face.there,
+        (
+          ap not apart,
+          (
+            ap (λ o. not (is_some o)) (none_lone M f s ps face some),
+            (
+              ap (λ o. not (is_some o)) (none_far M d (corners M f) (ap (λ qs. list_all is_in_range (all_moved d qs)) face.points ∙ near)),
+              (
+                within _ 1000000 (subst (λ k. table.greatest M.faces + k ≤ 1000000) n left.of_faces),
+                (
+                  within _ 1000000 (subst (λ k. table.greatest M.loops + k ≤ 1000000) n left.of_loops),
+                  (within _ 1000000 (subst (λ k. table.greatest M.edges + 2 * k ≤ 1000000) n left.of_edges), (within _ 1000000 (subst (λ k. table.greatest M.vertices + k ≤ 1000000) n left.of_vertices), tt)),
+                ),
+              ),
+            ),
+          ),
+        ),
+      ),
+    )
