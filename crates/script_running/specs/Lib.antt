@@ -4,4 +4,5 @@ pub mod Output
 pub mod Runs
 pub mod Hearing
 pub mod Laws
+pub mod Histories
 pub mod laws_below

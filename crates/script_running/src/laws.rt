@@ -1,8 +1,38 @@
-//! A law of what a run writes. The function does nothing: its contract is what is proved.
+//! Laws of what a run does and writes. Each function does nothing: its contract is what is proved.
+ghost use Rattle.script_running.specs.Histories.{LinesAreCalls, LinesLeadOn, HistoriesMakeConsistent, RunsTellHistories};
 ghost use Rattle.script_running.specs.Laws.{OneOutput, HasNoMemory};
+
+use gluing::glues_are_calls;
+use plane_split::splits_are_calls;
+use sweeps::{histories_are_consistent, larger_commands_are_calls};
 
 /// Where no reply is `memory`, the lines of a script have one output, and one summary.
 pub fn one_output()
     ensures one { OneOutput }
     ensures quiet { HasNoMemory }
 {}
+
+/// A line judged on a sound model is one call of a history, whatever its command is and whatever it is answered. So a machine to which a
+/// list of calls leads is taken by it to one to which a list of calls leads, and each of these is consistent.
+pub fn lines_are_calls()
+    ensures calls { LinesAreCalls }
+    ensures lead { LinesLeadOn }
+    ensures consistent { HistoriesMakeConsistent }
+{
+    larger_commands_are_calls();
+    glues_are_calls();
+    splits_are_calls();
+    histories_are_consistent();
+}
+
+/// What `run` says of a whole script: the lines take their turns on machines that a history leads through, so that every model which is
+/// held, listed or measured is that of a consistent machine, hence sound. What is written is the texts of these turns, where a write failed a
+/// prefix of them.
+pub fn runs_tell_histories()
+    ensures { RunsTellHistories }
+{
+    larger_commands_are_calls();
+    glues_are_calls();
+    splits_are_calls();
+    histories_are_consistent();
+}

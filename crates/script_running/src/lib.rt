@@ -12,6 +12,6 @@ mod script_judging;
 #[cfg(test)]
 mod tests;
 
-pub use laws::one_output;
+pub use laws::{lines_are_calls, one_output, runs_tell_histories};
 pub use running::{RunFault, run};
 pub use script_judging::{Answer, Larger, Summary, carry_out, judge};

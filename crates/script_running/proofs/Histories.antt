@@ -1,0 +1,182 @@
+-- A line is a call of a history, and a run tells one.
+use Rattle.std.proofs.Common.{◌≡◌, inl, inr, ℕ, Bool, List, [], ◌∷◌, ◌++◌, Option, Some, None, Ok, Err, refl, sym, ap, subst, ◌∙◌}
+use Rattle.std.specs.Prelude.{Result}
+use Rattle.std.proofs.lemmas.List.{append-nil}
+use Rattle.euler_operators.specs.Sound.{Sound}
+use Rattle.euler_operators.specs.declared.Refusal.{Refusal}
+use Rattle.undo_journal.specs.Machine.{Machine, start, held, act, act_refusal, undo, undo_refusal, redo, redo_refusal}
+use Rattle.undo_journal.specs.Histories as histories
+use Rattle.undo_journal.specs.Histories.{Call, unless, after_call, after_calls, reached, IsConsistent}
+use Rattle.undo_journal.specs.Laws.{HistoriesAreConsistent}
+use Rattle.sweeps.specs.Machine.{lamina, lamina_refusal, block, block_refusal, sweep, sweep_refusal}
+use Rattle.sweeps.specs.Calls.{LaminasAreCalls, BlocksAreCalls, SweepsAreCalls}
+use Rattle.gluing.specs.Machine.{glue, glue_refusal}
+use Rattle.gluing.specs.Calls.{GluesAreCalls}
+use Rattle.plane_split.specs.Machine.{split, split_refusal}
+use Rattle.plane_split.specs.Calls.{SplitsAreCalls}
+use Rattle.script_reader.specs.declared.command.Command.{Command}
+use Rattle.script_reader.specs.declared.command.Command.TheVariants as command
+use Rattle.script_reader.specs.declared.command.Fault.{Fault}
+use Rattle.script_reader.specs.Grammar.{command_of}
+use Rattle.script_reader.specs.Lines.{lines_of, within_limit}
+use Rattle.script_running.specs.script_judging.Judging.{Moves, Acts, Tries, Obeys, Answers, Judges, given_plane, answer_text}
+use Rattle.script_running.specs.Outs.{Outs}
+use Rattle.script_running.specs.Runs.{BreaksOff, Served, WriteFails, Runs}
+use Rattle.script_running.specs.Runs as runs
+use Rattle.script_running.specs.Histories.{IsCall, HasHistory, LinesAreCalls, LinesLeadOn, HistoriesMakeConsistent, Turn, ListsSound, IsTurn, TakeTurns, texts, moves_of, TellsHistory, RunsTellHistories}
+use Rattle.script_running.specs.declared.script_judging.judging.Answer.{Answer}
+use Rattle.script_running.specs.declared.script_judging.judging.Answer.TheVariants.{Listing}
+use Rattle.script_running.specs.declared.script_judging.judging.Summary.{Summary}
+use Rattle.script_running.specs.declared.running.RunFault.{RunFault}
+use Rattle.script_running.specs.declared.running.RunFault.TheVariants as fault
+
+-- the larger commands are calls, and every history is consistent
+pub record LawsBelow : Type 0 where
+  pub lamina : LaminasAreCalls
+  pub block : BlocksAreCalls
+  pub sweep : SweepsAreCalls
+  pub glue : GluesAreCalls
+  pub split : SplitsAreCalls
+  pub consistent : HistoriesAreConsistent
+
+stays : (s t : Machine) → t ≡ s → IsCall s t
+stays s t e = record { call = histories.stopped; leads = sym e }
+
+acts : (o : Option Refusal) (s next t : Machine) (a : Answer) → (o ≡ None → IsCall s next) → Acts o s next a t → IsCall s t
+acts None s next t a goes (inl h) = subst (IsCall s) (sym h.1) (goes refl)
+acts None s next t a goes (inr h) = stays s t h.1
+acts (Some r) s next t a goes h = stays s t h.1
+
+tries : (o : Option Refusal) (s next t : Machine) (a : Answer) → (o ≡ None → IsCall s next) → Tries o s next a t → IsCall s t
+tries o s next t a goes (inl h) = acts o s next t a goes h
+tries o s next t a goes (inr h) = stays s t h.1
+
+moves : (o : Option Refusal) (s next t : Machine) (a : Answer) → IsCall s next → Moves o s next a t → IsCall s t
+moves None s next t a goes h = subst (IsCall s) (sym h.1) goes
+moves (Some r) s next t a goes h = stays s t h.1
+
+obeys : LawsBelow → (s t : Machine) (c : Command) (a : Answer) → Sound (held s) → Obeys s c a t → IsCall s t
+obeys l s t command.Nothing a k h = stays s t h.1
+obeys l s t (command.Act op) a k h = acts (act_refusal s op) s (act s op) t a (λ goes. record { call = histories.acted op; leads = ap (λ (o : Option Refusal). unless o (act s op) s) goes }) h
+obeys l s t (command.Lamina n ps) a k h = acts (lamina_refusal s n ps) s (lamina s n ps) t a (λ goes. record { call = histories.made _; leads = l.lamina s n ps k goes }) h
+obeys l s t (command.Block n p dx dy dz) a k h = acts (block_refusal s n p dx dy dz) s (block s n p dx dy dz) t a (λ goes. record { call = histories.made _; leads = l.block s n p dx dy dz k goes }) h
+obeys l s t (command.Sweep f d) a k h = acts (sweep_refusal s f d) s (sweep s f d) t a (λ goes. record { call = histories.made _; leads = l.sweep s f d k goes }) h
+obeys l s t (command.Glue f g) a k h = tries (glue_refusal s f g) s (glue s f g) t a (λ goes. record { call = histories.made _; leads = l.glue s f g k goes }) h
+obeys l s t (command.Split n cs m) a k h = tries (split_refusal s n (given_plane cs) m) s (split s n (given_plane cs) m) t a (λ goes. record { call = histories.made _; leads = l.split s n (given_plane cs) m k goes }) h
+obeys l s t (command.Plane f) a k h = stays s t h.1
+obeys l s t (command.Volume n) a k h = stays s t h.1
+obeys l s t (command.Count n) a k h = stays s t h.1
+obeys l s t command.Undo a k h = moves (undo_refusal s) s (undo s) t a (record { call = histories.undone; leads = refl }) h
+obeys l s t command.Redo a k h = moves (redo_refusal s) s (redo s) t a (record { call = histories.redone; leads = refl }) h
+obeys l s t command.List a k h = stays s t h.1
+
+answers : LawsBelow → (s t : Machine) (c : Result Command Fault) (a : Answer) → Sound (held s) → Answers s c a t → IsCall s t
+answers l s t (Ok c) a k h = obeys l s t c a k h
+answers l s t (Err f) a k h = stays s t h.1
+
+pub lines_are_calls : LawsBelow → LinesAreCalls
+lines_are_calls l s t line a k h = answers l s t (command_of line) a k h
+
+-- one call more
+more_calls : (s : Machine) (calls : List Call) (call : Call) → after_calls s (calls ++ call ∷ []) ≡ after_call (after_calls s calls) call
+more_calls s [] call = refl
+more_calls s (c ∷ calls) call = more_calls (after_call s c) calls call
+
+pub histories_make_consistent : LawsBelow → HistoriesMakeConsistent
+histories_make_consistent l s h = subst IsConsistent h.lead (l.consistent h.calls)
+
+goes_on : (s t : Machine) → HasHistory s → IsCall s t → HasHistory t
+goes_on s t h c = record {
+  calls = h.calls ++ c.call ∷ [];
+  lead = more_calls start h.calls c.call ∙ ap (λ (m : Machine). after_call m c.call) h.lead ∙ c.leads;
+}
+
+pub lines_lead_on : LawsBelow → LinesLeadOn
+lines_lead_on l s t line a h judged = goes_on s t h (lines_are_calls l s t line a (histories_make_consistent l s h).held_sound judged)
+
+-- the turns that some lines take, whose texts are what was written
+record Takes (s : Machine) (lines : List (List ℕ)) (out : List ℕ) : Type 0 where
+  turns : List Turn
+  taken : TakeTurns s lines turns
+  text : texts s turns ≡ out
+
+-- a turn is taken on the machine to which its call leads
+module _ (l : LawsBelow) (s t : Machine) (line : List ℕ) (a : Answer) (h : HasHistory s) (judged : Judges s line a t) where
+  is_turn : HasHistory t → IsTurn s line a t
+  is_turn g =
+      let later = histories_make_consistent l t g in
+      record { judged = judged; before = histories_make_consistent l s h; after = later; listed = λ e. (held t, later.held_sound, ap (answer_text t) e) }
+
+  call : IsCall s t
+  call = lines_are_calls l s t line a (histories_make_consistent l s h).held_sound judged
+
+  -- one turn, and those of the lines after it
+  takes : (lines : List (List ℕ)) (rest : List ℕ) → Takes t lines rest → Takes s (line ∷ lines) (answer_text t a ++ rest)
+  takes lines rest later = record {
+    turns = record { call = call.call; answer = a } ∷ later.turns;
+    taken = (
+      subst (IsTurn s line a) (sym call.leads) (is_turn (goes_on s t h call)),
+      subst (λ (m : Machine). TakeTurns m lines later.turns) (sym call.leads) later.taken,
+    );
+    text = ap (λ (m : Machine). answer_text m a ++ texts m later.turns) call.leads ∙ ap (λ (text : List ℕ). answer_text t a ++ text) later.text;
+  }
+
+no_turns : (s : Machine) (lines : List (List ℕ)) → Takes s lines []
+no_turns s lines = record { turns = []; taken = tt; text = refl }
+
+outs_take : LawsBelow → (stop : Bool) (s : Machine) (lines : List (List ℕ)) (out : List ℕ) (n : Summary) → HasHistory s → Outs stop s lines out n → Takes s lines out
+outs_take l stop s [] out n h o = subst (Takes s []) (sym o.0) (no_turns s [])
+outs_take l stop s (line ∷ lines) out n h (a, t, judged, inl last) =
+    subst (Takes s (line ∷ lines)) (append-nil (answer_text t a) ∙ sym last.1) (takes l s t line a h judged lines [] (no_turns t lines))
+outs_take l stop s (line ∷ lines) out n h (a, t, judged, inr (calm, (rest, k, text, counts, later))) =
+    let next = lines_lead_on l s t line a h judged in
+    subst (Takes s (line ∷ lines)) (sym text) (takes l s t line a h judged lines rest (outs_take l stop t lines rest k next later))
+
+-- a new session has a history: no call
+outs_tell : LawsBelow → (stop : Bool) (lines : List (List ℕ)) (out : List ℕ) (n : Summary) → Outs stop start lines out n → Takes start lines out
+outs_tell l stop lines out n o = outs_take l stop start lines out n (record { calls = []; lead = refl }) o
+
+-- turns of the first lines, whatever lines come after
+take_more : (s : Machine) (lines more : List (List ℕ)) (turns : List Turn) → TakeTurns s lines turns → TakeTurns s (lines ++ more) turns
+take_more s lines more [] h = tt
+take_more s [] more (turn ∷ turns) h = absurd h
+take_more s (line ∷ lines) more (turn ∷ turns) h = (h.0, take_more (after_call s turn.call) lines more turns h.1)
+
+takes_more : (s : Machine) (lines more all : List (List ℕ)) (out : List ℕ) → all ≡ lines ++ more → Takes s lines out → Takes s all out
+takes_more s lines more all out e h = subst (λ (ls : List (List ℕ)). Takes s ls out) (sym e) (record { turns = h.turns; taken = take_more s lines more h.turns h.taken; text = h.text })
+
+-- all that was told is written
+all_written : (reader old new : Option (List ℕ)) (moved : runs.Moves reader new old) (result : Result Summary RunFault) → Takes start (lines_of (within_limit 0 moved.given)) moved.out → TellsHistory reader old new moved result
+all_written reader old new moved result h = record { turns = h.turns; taken = h.taken; unwritten = []; text = h.text ∙ sym (append-nil moved.out); whole = λ other. refl }
+
+-- where no more is to come
+no_more : (given : List ℕ) → lines_of (within_limit 0 given) ≡ lines_of (within_limit 0 given ++ [])
+no_more given = ap lines_of (sym (append-nil (within_limit 0 given)))
+
+broken_off : LawsBelow → (reader old new : Option (List ℕ)) (stop : Bool) (result : Result Summary RunFault) (b : BreaksOff reader old new stop) → TellsHistory reader old new b.moves result
+broken_off l reader old new stop result b = all_written reader old new b.moves result
+    (takes_more start b.judged (lines_of b.unfinished) (lines_of (within_limit 0 b.moves.given)) b.moves.out b.lines (outs_tell l stop b.judged b.moves.out b.counts b.outs))
+
+served : LawsBelow → (reader old new : Option (List ℕ)) (stop : Bool) (summary : Summary) (s : Served reader old new stop summary) → TellsHistory reader old new s.moves (Ok summary)
+served l reader old new stop summary s =
+    let given = s.moves.given in
+    all_written reader old new s.moves (Ok summary) (subst (λ (ls : List (List ℕ)). Takes start ls s.moves.out) (sym (no_more given))
+    (outs_tell l stop (lines_of (within_limit 0 given ++ [])) s.moves.out summary (s.outs [] (λ e. refl))))
+
+write_failed : LawsBelow → (reader old new : Option (List ℕ)) (stop : Bool) (w : WriteFails reader old new stop) → TellsHistory reader old new w.moves (Err fault.Write)
+write_failed l reader old new stop w =
+    let given = w.moves.given in
+    let begun = w.begun [] (λ e. refl) in
+    let told = subst (λ (ls : List (List ℕ)). Takes start ls (w.moves.out ++ begun.0)) (sym (no_more given))
+    (outs_tell l stop (lines_of (within_limit 0 given ++ [])) (w.moves.out ++ begun.0) begun.1 begun.2) in
+    record { turns = told.turns; taken = told.taken; unwritten = begun.0; text = told.text; whole = λ other. absurd (other refl) }
+
+nothing_begun : (reader old new : Option (List ℕ)) (moved : runs.Moves reader new old) → moved.out ≡ [] → TellsHistory reader old new moved (Err fault.Memory)
+nothing_begun reader old new moved none = record { turns = []; taken = tt; unwritten = []; text = sym none ∙ sym (append-nil moved.out); whole = λ other. refl }
+
+pub runs_tell_histories : LawsBelow → RunsTellHistories
+runs_tell_histories l reader old new stop (Ok summary) run = served l reader old new stop summary run
+runs_tell_histories l reader old new stop (Err fault.Read) run = broken_off l reader old new stop (Err fault.Read) run
+runs_tell_histories l reader old new stop (Err fault.TooLong) run = broken_off l reader old new stop (Err fault.TooLong) run.0
+runs_tell_histories l reader old new stop (Err fault.Write) run = write_failed l reader old new stop run
+runs_tell_histories l reader old new stop (Err fault.Memory) run = nothing_begun reader old new run.0 run.2
