@@ -23,9 +23,8 @@ use Rattle.script_running.specs.script_judging.Judging.{Moves, Acts, Tries, Obey
 use Rattle.script_running.specs.Outs.{Outs}
 use Rattle.script_running.specs.Runs.{BreaksOff, Served, WriteFails, Runs}
 use Rattle.script_running.specs.Runs as runs
-use Rattle.script_running.specs.Histories.{IsCall, HasHistory, LinesAreCalls, LinesLeadOn, HistoriesMakeConsistent, Turn, ListsSound, IsTurn, TakeTurns, texts, moves_of, TellsHistory, RunsTellHistories}
+use Rattle.script_running.specs.Histories.{IsCall, HasHistory, LinesAreCalls, LinesLeadOn, HistoriesMakeConsistent, Turn, IsTurn, TakeTurns, texts, TellsHistory, RunsTellHistories}
 use Rattle.script_running.specs.declared.script_judging.judging.Answer.{Answer}
-use Rattle.script_running.specs.declared.script_judging.judging.Answer.TheVariants.{Listing}
 use Rattle.script_running.specs.declared.script_judging.judging.Summary.{Summary}
 use Rattle.script_running.specs.declared.running.RunFault.{RunFault}
 use Rattle.script_running.specs.declared.running.RunFault.TheVariants as fault
