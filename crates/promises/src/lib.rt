@@ -23,6 +23,7 @@ ghost use Rattle.call_lists.specs.PlainMachine.{held, depth, ahead, act_refusal,
 ghost use Rattle.call_lists.specs.Recorded.{model_at};
 ghost use Rattle.pool_rings.specs.Laws.{SplicedPoolsCut, SplicedPoolsJoin, SplicedPoolsKeepOthers, SplicedPoolsStay, PoolsLeadBack};
 ghost use Rattle.promises.specs.Splices.{SplicesCut, SplicesJoin, SplicesKeepOthers};
+ghost use Rattle.script_running.specs.Histories.{LinesAreCalls, LinesLeadOn, HistoriesMakeConsistent, RunsTellHistories};
 ghost use Rattle.script_running.specs.Laws.{OneOutput, HasNoMemory};
 ghost use Rattle.script_running.specs.Runs.{Runs};
 ghost use Rattle.script_running.specs.laws_below.BlockLaws.{BlocksAreAccepted, OperatorsMakeBlocks, BlocksAreSound};
@@ -47,7 +48,9 @@ use call_lists::{
     lists_have_one_answer, make, make_all, six_volume, undos_and_redos_lead_to_the_ends,
 };
 use pool_rings::splices_of_pools;
-use script_running::{RunFault, Summary, laws_below, one_output, run};
+use script_running::{
+    RunFault, Summary, laws_below, lines_are_calls, one_output, run, runs_tell_histories,
+};
 use std::alloc::{AllocError, Global};
 use std::io::{Read, Write};
 
@@ -426,6 +429,25 @@ pub fn scripts_have_one_output()
     ensures quiet { HasNoMemory }
 {
     one_output();
+}
+
+/// A line that is judged on a sound model is one call of a history, whatever its command is and whatever it is answered. So where a list of
+/// calls led to the machine before it, one leads to the machine after it, and both are consistent.
+pub fn every_line_is_a_call()
+    ensures calls { LinesAreCalls }
+    ensures lead { LinesLeadOn }
+    ensures consistent { HistoriesMakeConsistent }
+{
+    lines_are_calls();
+}
+
+/// So it is of a whole script, from what `run` says of it, whatever it returns: the lines take their turns from the empty model on, each one
+/// call from a consistent machine to a consistent one, and what is written is the texts of their answers, where a write failed a prefix of
+/// them. Each listing is that of a sound model.
+pub fn every_run_tells_a_history()
+    ensures { RunsTellHistories }
+{
+    runs_tell_histories();
 }
 
 /// What `gwb` does with a script: each line of what the reader gives is answered, in order, and the answers are written. After Ok these
