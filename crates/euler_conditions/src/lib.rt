@@ -14,6 +14,7 @@ mod single;
 mod torn;
 
 pub use corners::{corner_loop, is_lone};
+pub use euler_operators::{FaceList, Op, Refusal, Why};
 pub use every::check;
 pub use halfedge_arena::Arena;
 pub use halves::{loop_of, mate, next, same};

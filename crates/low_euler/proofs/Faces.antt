@@ -117,3 +117,8 @@ module _ (M : Model) (n : ℕ) where
 -- a list to which nothing is left to add
 pub all_met : (fs gs all : List ℕ) → fs ++ gs ≡ all → gs ≡ [] → fs ≡ all
 all_met fs gs all e none = sym (append-nil fs) ∙ ap (λ ks. fs ++ ks) (sym none) ∙ e
+
+-- a list with an item is not empty
+pub some_listed : (fs gs : List ℕ) (m : ℕ) → fs ++ m ∷ gs ≡ [] → ⊥
+some_listed [] gs m e = cc
+some_listed (f ∷ fs) gs m e = cc

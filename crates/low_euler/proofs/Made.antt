@@ -55,6 +55,12 @@ room_last : (s : Store) (ks : List (Kind × ℕ)) (k : Kind × ℕ) → AllRoom 
 room_last s [] k all h = (h, tt)
 room_last s (j ∷ ks) k all h = (all.0, room_last s ks k all.1 h)
 
+-- room that is there for each of some numbers is there for one of them
+pub room_at : (s t : Store) (ks : List (Kind × ℕ)) (i : ℕ) (d : Kind × ℕ) → i < length ks → HasGrown s t → AllRoom s ks → has_room t (get_or ks i d).0 (get_or ks i d).1 ≡ true
+room_at s t [] i d h g all = absurd (omega arith)
+room_at s t (k ∷ ks) zero d h g all = g.kept k.0 k.1 all.0
+room_at s t (k ∷ ks) (suc i) d h g all = room_at s t ks i d (omega arith) g all.1
+
 -- room of one number more
 pub room_more : (r s t : Store) (ks : List (Kind × ℕ)) (i : ℕ) (d : Kind × ℕ) → i < length ks → HasGrown s t → AllRoom s (take i ks) → has_room t (get_or ks i d).0 (get_or ks i d).1 ≡ true → AllRoom t (take (i + 1) ks)
 room_more r s t ks i d h g all there = subst (AllRoom t) (sym (take_more ks i d h)) (room_last t (take i ks) (get_or ks i d) (room_kept s t (take i ks) g all) there)

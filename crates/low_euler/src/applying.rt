@@ -37,12 +37,13 @@ fn change(arena: &mut Arena, op: &Op)
 }
 
 /// Applies an operator that is accepted and whose numbers have their room. The model becomes that after the operator, and
-/// is sound; every room stays. It takes no memory and always succeeds. Its cost is that of the change; a merge looks at
-/// the faces that it moves, and at those of the other solid between them.
+/// is sound; no room is made, and none is lost. It takes no memory and always succeeds. Its cost is that of the change; a
+/// merge looks at the faces that it moves, and at those of the other solid between them.
 pub fn replay(arena: &mut Arena, op: &Op)
     requires { Accepts arena.old op.now }
     ensures effect { arena.new ≡ after arena.old op.now }
     ensures ready { IsReady arena.new }
+    ensures room { arena.new.room ≡ arena.old.room }
 {
     change(arena, op);
 }
@@ -59,6 +60,7 @@ pub fn apply(arena: &mut Arena, op: &Op, room: Room) -> Op
     ensures inverse { result ≡ inverse arena.old.model op.now }
     ensures accepted { Accepts arena.new result }
     ensures undone { after arena.new result ≡ arena.old }
+    ensures room { arena.new.room ≡ arena.old.room }
 {
     let back = inverse_of(arena, op, room);
     replay(arena, op);

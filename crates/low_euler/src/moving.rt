@@ -1,5 +1,5 @@
 //! The faces of a solid, met in the order of their numbers.
-ghost use Rattle.std.specs.Prelude.{◌≡◌, IfOk};
+ghost use Rattle.std.specs.Prelude.{◌≡◌, [], IfOk, IsOk};
 ghost use Rattle.euler_operators.specs.Model.{faces_of};
 ghost use Rattle.euler_conditions.specs.Ready.{IsReady};
 
@@ -10,7 +10,8 @@ use std::alloc::{AllocError, Global};
 /// The faces of a solid, rising. It looks at these alone.
 pub(crate) fn faces_of(alloc: Global, arena: &Arena, solid: u32) -> Result<FaceList, AllocError>
     requires { IsReady arena.now }
-    ensures { IfOk result (λ faces. faces ≡ faces_of arena.now.model solid) }
+    ensures listed { IfOk result (λ faces. faces ≡ faces_of arena.now.model solid) }
+    ensures none { faces_of arena.now.model solid ≡ [] → IsOk result }
 {
     let mut faces = FaceList::new(alloc);
     let mut last = 0;

@@ -8,7 +8,8 @@ use euler_operators::{HalfEdge, Kind, Op};
 
 /// Makes an edge between two corners of one loop, which parts the loop's face. `half` starts at the first corner.
 /// What follows the first corner up to before the second, and then the mate of `half`, becomes the outer loop of the
-/// new face; the rest keeps its loop and its face. The cost is that of the new loop.
+/// new face; the rest keeps its loop and its face. The cost is that of the shorter of the two loops, and of the places of
+/// the new loop and face among those of their owners.
 pub(crate) fn mef(
     arena: &mut Arena,
     first: HalfEdge,
@@ -35,7 +36,7 @@ pub(crate) fn mef(
 }
 
 /// Kills an edge between two faces, with the face of the edge's mate and the one loop of that face. What stands in that
-/// loop goes to the loop of `half`, in the edge's place. The cost is that of the loop that goes.
+/// loop goes to the loop of `half`, in the edge's place. The cost is that of the shorter of the two loops.
 pub(crate) fn kef(arena: &mut Arena, half: HalfEdge)
     requires { Accepts arena.old (Op.Kef half) }
     ensures { arena.new ≡ after arena.old (Op.Kef half) }

@@ -9,7 +9,7 @@ use euler_operators::{Corner, HalfEdge, Kind, Op};
 
 /// Kills an edge that stands twice in one loop. What stands between the edge's mate and `half` keeps the loop; what
 /// stands between `half` and its mate becomes a new ring of the face. A part in which nothing stands becomes lone.
-/// The cost is that of the new ring.
+/// The cost is that of the shorter of the two parts, and of the new ring's place among the loops of the face.
 pub(crate) fn kemr(arena: &mut Arena, half: HalfEdge, ring: u32)
     requires { Accepts arena.old (Op.Kemr half ring) }
     ensures { arena.new ≡ after arena.old (Op.Kemr half ring) }
@@ -26,7 +26,7 @@ pub(crate) fn kemr(arena: &mut Arena, half: HalfEdge, ring: u32)
 
 /// Makes an edge between two corners of one face, of which the second stands in a ring. `half` starts at the first
 /// corner. The ring goes, and what stood in it stands in the first corner's loop, between `half` and its mate. The cost
-/// is that of the ring.
+/// is that of the shorter of the two loops.
 pub(crate) fn mekr(arena: &mut Arena, first: Corner, second: Corner, half: HalfEdge)
     requires { Accepts arena.old (Op.Mekr first second half) }
     ensures { arena.new ≡ after arena.old (Op.Mekr first second half) }

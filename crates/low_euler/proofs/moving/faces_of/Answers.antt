@@ -1,7 +1,7 @@
 use Rattle.std.proofs.Common.{◌++◌, ◌∷◌, [], List, ℕ, sym, ap, subst, ◌∙◌, append_assoc}
 use Rattle.euler_operators.specs.Model.{faces_of}
 use Rattle.euler_conditions.specs.Store.{IsNextFace}
-use Rattle.low_euler.proofs.Faces.{faces_above, next_faces, no_faces, all_faces, all_met}
+use Rattle.low_euler.proofs.Faces.{faces_above, next_faces, no_faces, all_faces, all_met, some_listed}
 use Rattle.low_euler.proofs.moving.faces_of.Goals as goal
 
 pub faces-init : goal.faces-init
@@ -17,8 +17,15 @@ faces-preserved c =
     ap (λ fs. fs ++ rest) c.in_ok-push.ensures.ok ∙ append_assoc c.faces.faces (c.in-Some.face ∷ []) rest
     ∙ ap (λ ks. c.faces.faces ++ ks) (sym (next_faces M c.args.solid c.faces.last c.in-Some.face next)) ∙ c.faces.invariant
 
-pub returns : goal.returns
-returns c =
+pub returns-clause-listed : goal.returns-clause-listed
+returns-clause-listed c =
     let M = c.args.arena.now.model in
     let none = subst (IsNextFace M c.args.solid c.faces.last) c.in_default.is c.face_after.ensures in
     all_met c.faces.faces (faces_above M c.args.solid c.faces.last) (faces_of M c.args.solid) c.faces.invariant (no_faces M c.args.solid c.faces.last none)
+
+pub returns-in_err-push-clause-none : goal.returns-in_err-push-clause-none
+returns-in_err-push-clause-none c = λ none.
+    let M = c.args.arena.now.model in
+    let next = subst (IsNextFace M c.args.solid c.faces.last) c.in-Some.is c.face_after.ensures in
+    absurd (some_listed c.faces.faces (faces_above M c.args.solid c.in-Some.face) c.in-Some.face
+    (ap (λ ks. c.faces.faces ++ ks) (sym (next_faces M c.args.solid c.faces.last c.in-Some.face next)) ∙ c.faces.invariant ∙ none))
