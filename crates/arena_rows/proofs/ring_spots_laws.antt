@@ -3,6 +3,7 @@ pub mod RingMaps
 pub mod SpotTables
 pub mod EdgeSpots
 pub mod Relabelling
+pub mod Lengths
 pub mod Lasts
 pub mod LiveEdges
 pub mod LabelTables

@@ -1,5 +1,5 @@
 //! Rings that are cut and joined, where the labels of the shorter part alone are written.
-ghost use Rattle.std.specs.Prelude.{◌≡◌, ◌≢◌, true};
+ghost use Rattle.std.specs.Prelude.{◌≡◌, ◌≢◌, ◌≤◌, true, false, length};
 ghost use Rattle.std.specs.FinMap.{contains_key};
 ghost use Rattle.raw_ring.specs.Rings.{spot};
 ghost use Rattle.boundary_model.specs.Items.{IsIn};
@@ -111,8 +111,11 @@ fn share_label(rings: &mut Rings, a: u32, b: u32)
 
 /// Whether the ring of a has no more items than that of b. It goes round both in step, and so round the shorter one once.
 fn is_shorter(rings: &Rings, a: u32, b: u32) -> bool
+    requires rings { AreRings (spot rings.now) }
     requires a { live (spot rings.now) a ≡ true }
     requires b { live (spot rings.now) b ≡ true }
+    ensures shorter { result ≡ true → length (ring (spot rings.now) a) ≤ length (ring (spot rings.now) b) }
+    ensures longer { result ≡ false → length (ring (spot rings.now) b) ≤ length (ring (spot rings.now) a) }
 {
     let mut p = a;
     let mut q = b;
