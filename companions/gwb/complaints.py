@@ -37,5 +37,10 @@ def complaint(line: str, reply: Reply) -> Complaint:
         number = reply.numbers[0]
         return Faulted(FAULTS[number].name, number, f'{line}: fault {number}: {FAULTS[number]}')
     number, value = reply.numbers
+    return refused(line, number, value)
+
+
+def refused(line: str, number: int, value: int) -> Refused:
+    """The error for a line of which a condition is false."""
     meaning = refusal(number, value, first_word(line.encode()))
     return Refused(meaning.name, value, number, f'{line}: refused {number} {value}: {meaning}')

@@ -2,6 +2,8 @@
 
 from typing import Dict, List, NamedTuple, Tuple
 
+from .calls import Call
+
 KINDS = ('solid', 'face', 'loop', 'edge', 'vertex')
 
 
@@ -12,6 +14,10 @@ class Greatest:
 
     def __init__(self, bounds: Tuple[int, ...] = (0,) * 5, sure: Tuple[bool, ...] = (True,) * 5) -> None:
         self.bounds, self.sure = bounds, sure
+
+    def of(self, kind: str) -> int:
+        """The bound of the kind."""
+        return self.bounds[KINDS.index(kind)]
 
     def settle(self, kind: str, greatest: int) -> None:
         """The greatest number of the kind that is in use was found."""
@@ -33,9 +39,9 @@ class Greatest:
 
 
 class Done(NamedTuple):
-    """An accepted command: its line, whether a step to undo begins with it, and the greatest numbers after it."""
+    """An accepted command, whether a step to undo begins with it, and the greatest numbers after it."""
 
-    line: str
+    call: Call
     begins: bool
     greatest: Greatest
 
@@ -56,18 +62,18 @@ class Journal:
 
     @property
     def lines(self) -> List[str]:
-        """The commands that are held, undone ones left out."""
-        return [done.line for done in self._done[:self.at]]
+        """The lines of the commands that are held, undone ones left out."""
+        return [str(done.call) for done in self._done[:self.at]]
 
     @property
-    def ahead(self) -> int:
-        """How many commands can be redone."""
-        return len(self._done) - self.at
+    def has_given_up(self) -> bool:
+        """Whether the program could redo only what was given up."""
+        return self.given_up > 0 and self.at == len(self._done)
 
-    def add(self, line: str, begins: bool, greatest: Greatest) -> None:
+    def add(self, call: Call, begins: bool, greatest: Greatest) -> None:
         """A command was accepted: what could be redone is dropped."""
         del self._done[self.at:]
-        self._done.append(Done(line, begins, greatest))
+        self._done.append(Done(call, begins, greatest))
         self.at += 1
         self.given_up = 0
 

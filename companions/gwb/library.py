@@ -1,19 +1,24 @@
-"""The kernel in this process: lines go to the library `libgwb.so`, replies come back as over a pipe."""
+"""The kernel in this process, the library `libgwb.so`: a command is a call of its own there, and the model is read without text."""
 
 import ctypes
-from typing import Dict, Iterator, List, Optional, Tuple
+from typing import Any, Callable, Dict, Iterator, List, Optional, Tuple
 
+from .calls import Call, Value
+from .complaints import complaint, refused
 from .errors import CompanionError, Ended, ProgramMissing
 from .journal import KINDS
 from .language import command_bytes
-from .model import Face, Loop
+from .model import Face, Loop, Model
 from .replies import Reply, only_reply
+from .results import Count, Lone, Plane
 from .vectors import Vector
 
 _NO_TEXT = ctypes.c_size_t(-1).value
 _ROOM = 4096
 _FEW = 64
-_OK, _FOUND, _CLOSED = 1, 1, 9
+_OK, _MEMORY, _CLOSED = 1, 4, 9
+_TOLD = (5, 6, 7)
+_FOUND = 1
 _ACCEPTED = Reply(('ok',))
 _WORD = ctypes.c_uint32
 
@@ -52,28 +57,88 @@ class TextRefused(CompanionError):
     """Memory for the text of a reply was refused; the command itself was answered."""
 
 
+class Wide(ctypes.Structure):
+    """A number of 128 bits."""
+
+    _fields_ = [('high', ctypes.c_int64), ('low', ctypes.c_uint64)]
+
+    @property
+    def value(self) -> int:
+        """The number."""
+        return int(self.high << 64 | self.low)
+
+
+class PlaneRow(ctypes.Structure):
+    """What the library says of the plane of a face."""
+
+    _fields_ = [('a', Wide), ('b', Wide), ('c', Wide), ('d', Wide), ('flat', _WORD)]
+
+
+class Counts(ctypes.Structure):
+    """What the library counts of a solid."""
+
+    _fields_ = [(name, ctypes.c_int64) for name in Count._fields]
+
+
+class Refusal(ctypes.Structure):
+    """The condition that is false, and the value that goes with it."""
+
+    _fields_ = [('number', _WORD), ('value', _WORD)]
+
+
+class Range(ctypes.Structure):
+    """The first and the last of the fresh numbers of a kind."""
+
+    _fields_ = [('first', _WORD), ('last', _WORD)]
+
+
+# The calls that are a command each: `n` is a number, `h` a half-edge or a corner, `x` a coordinate.
+_COMMANDS = {
+    'mvfs': 'nnnnxxx', 'kvfs': 'n', 'mev': 'hhnnxxx', 'kev': 'h', 'mef': 'hhnnn', 'kef': 'h', 'kemr': 'hn', 'mekr': 'hhn', 'kfmrh': 'nn',
+    'mfkrh': 'nn', 'ringmv': 'nnn', 'block': 'nxxxxxx', 'sweep': 'nxxx', 'glue': 'nn', 'split': 'nxxxxn', 'undo': '', 'redo': ''}
+_TYPES = {'n': _WORD, 'h': _WORD, 'x': ctypes.c_int64}
+_LONE = 0x80000000
+# The greatest edge or loop of which every half-edge and corner has a code; past it the kernel refuses all numbers.
+_GREATEST_CODED = 2 ** 30 - 1
+
+
 def load(path: str) -> ctypes.PyDLL:
     """The library with the types of its calls. The interpreter's lock is kept in a call, so that a handle has one at a time."""
     library = ctypes.PyDLL(path)
-    handle, text, size = ctypes.POINTER(Handle), ctypes.c_char_p, ctypes.c_size_t
-    for name, result, arguments in (
-            ('gwb_open', ctypes.c_bool, [handle]), ('gwb_close', None, [handle]),
-            ('gwb_line', ctypes.c_uint32, [handle, text, size]), ('gwb_reply', size, [handle, text, size]),
-            ('gwb_half_edges', size, [handle, _WORD, ctypes.POINTER(_WORD), size]),
-            ('gwb_number_after', _WORD, [handle, _WORD, _WORD, ctypes.POINTER(_WORD)]),
-            ('gwb_face', _WORD, [handle, _WORD, ctypes.POINTER(FaceRow)]),
-            ('gwb_ring_after', _WORD, [handle, _WORD, _WORD, ctypes.POINTER(_WORD)]),
-            ('gwb_face_after', _WORD, [handle, _WORD, _WORD, ctypes.POINTER(_WORD)]),
-            ('gwb_loop', _WORD, [handle, _WORD, ctypes.POINTER(_WORD)]),
-            ('gwb_lone_vertex', _WORD, [handle, _WORD, ctypes.POINTER(_WORD)]),
-            ('gwb_edge', _WORD, [handle, _WORD, ctypes.POINTER(EdgeRow)]),
-            ('gwb_vertex', _WORD, [handle, _WORD, ctypes.POINTER(Point)])):
+    handle, text, size, word = ctypes.POINTER(Handle), ctypes.c_char_p, ctypes.c_size_t, ctypes.POINTER(_WORD)
+    calls: List[Tuple[str, Any, List[Any]]] = [
+        ('gwb_open', ctypes.c_bool, []), ('gwb_close', None, []),
+        ('gwb_line', _WORD, [text, size]), ('gwb_reply', size, [text, size]),
+        ('gwb_half_edges', size, [_WORD, word, size]),
+        ('gwb_number_after', _WORD, [_WORD, _WORD, word]),
+        ('gwb_face', _WORD, [_WORD, ctypes.POINTER(FaceRow)]),
+        ('gwb_ring_after', _WORD, [_WORD, _WORD, word]), ('gwb_face_after', _WORD, [_WORD, _WORD, word]),
+        ('gwb_loop', _WORD, [_WORD, word]), ('gwb_lone_vertex', _WORD, [_WORD, word]),
+        ('gwb_edge', _WORD, [_WORD, ctypes.POINTER(EdgeRow)]), ('gwb_vertex', _WORD, [_WORD, ctypes.POINTER(Point)]),
+        ('gwb_last_refusal', _WORD, [ctypes.POINTER(Refusal)]), ('gwb_fresh', _WORD, [_WORD, ctypes.POINTER(Range)]),
+        ('gwb_face_plane', _WORD, [_WORD, ctypes.POINTER(PlaneRow)]), ('gwb_volume', _WORD, [_WORD, ctypes.POINTER(Wide)]),
+        ('gwb_count', _WORD, [_WORD, ctypes.POINTER(Counts)]),
+        *((f'gwb_{name}', _WORD, [_TYPES[kind] for kind in kinds]) for name, kinds in _COMMANDS.items())]
+    for name, result, arguments in calls:
         try:
             function = getattr(library, name)
         except AttributeError:
             raise ProgramMissing(f'{path}: this is no library of gwb, or an older one: it has no {name}') from None
-        function.restype, function.argtypes = result, arguments
+        function.restype, function.argtypes = result, [handle, *arguments]
     return library
+
+
+def _code(corner: Value) -> int:
+    """The code of a half-edge or a corner."""
+    if isinstance(corner, Lone):
+        return _LONE | corner.loop
+    assert isinstance(corner, int), 'the commands begin with corners and half-edges'
+    return 2 * corner if corner > 0 else 1 - 2 * corner
+
+
+def _plain(value: Value) -> Value:
+    """A number or a coordinate as it is, and 1 for the word `out`."""
+    return int(value == 'out') if isinstance(value, str) else value
 
 
 class Library:
@@ -87,6 +152,7 @@ class Library:
             raise ProgramMissing(str(error)) from None
         if not self._library.gwb_open(self._handle):
             raise MemoryError('no session was opened')
+        self._commands = {name: getattr(self._library, f'gwb_{name}') for name in _COMMANDS}
 
     def __del__(self) -> None:
         self.close()
@@ -99,6 +165,71 @@ class Library:
         if self._library.gwb_line(self._handle, data, len(data)) == _OK:
             return _ACCEPTED
         return only_reply(self._text().decode('ascii').split('\n')[:-1])
+
+    def do(self, call: Call) -> None:
+        """Gives a command by the call of its own. A complaint is raised."""
+        if call.word in self._commands and (not call.corners or max(call.numbers[:len(call.corners)]) <= _GREATEST_CODED):
+            said = self._commands[call.word](self._handle, *map(_code, call.corners), *map(_plain, call.plain))
+            if said != _OK:
+                raise self._complaint(call, said)
+        else:
+            self._do_line(str(call))
+
+    def fresh(self) -> Dict[str, range]:
+        """For each kind the fresh numbers of the last command that was accepted, where there are any."""
+        found, row = {}, Range()
+        for kind in KINDS[1:]:
+            if self._library.gwb_fresh(self._handle, KINDS.index(kind), row) == _FOUND:
+                found[kind] = range(row.first, row.last + 1)
+        return found
+
+    def plane(self, face: int) -> Plane:
+        """The plane of a face."""
+        row = PlaneRow()
+        self._ask_about('plane', self._library.gwb_face_plane, face, row)
+        return Plane(row.a.value, row.b.value, row.c.value, row.d.value, bool(row.flat))
+
+    def volume(self, solid: int) -> int:
+        """Six times the volume of a solid."""
+        row = Wide()
+        self._ask_about('volume', self._library.gwb_volume, solid, row)
+        return row.value
+
+    def count(self, solid: int) -> Count:
+        """The counts of a solid."""
+        row = Counts()
+        self._ask_about('count', self._library.gwb_count, solid, row)
+        return Count(row.vertices, row.edges, row.faces, row.rings, row.sum)
+
+    def model(self) -> Model:
+        """The model held, by readers."""
+        faces = {face: row for face in self.numbers('face') for row in [self.face(face)] if row is not None}
+        loops = {loop: row for loop in self.numbers('loop') for row in [self.loop(loop)] if row is not None}
+        edges = {edge: row for edge in self.numbers('edge') for row in [self.edge(edge)] if row is not None}
+        vertices = {vertex: row for vertex in self.numbers('vertex') for row in [self.vertex(vertex)] if row is not None}
+        return Model(self.numbers('solid'), faces, loops, edges, vertices)
+
+    def _do_line(self, line: str) -> None:
+        """Gives a command as a line. A complaint is raised."""
+        reply = self.ask(line)
+        if reply.is_complaint:
+            raise complaint(line, reply)
+
+    def _ask_about(self, word: str, function: Callable[..., int], number: int, row: ctypes.Structure) -> None:
+        """Asks a query, whose answer is written. A complaint is raised."""
+        said = function(self._handle, number, row)
+        if said not in _TOLD:
+            raise self._complaint(Call(word, (number,)), said)
+
+    def _complaint(self, call: Call, said: int) -> CompanionError:
+        """The error for an answer that isn't what was wanted."""
+        if said == _CLOSED:
+            return Ended('the session is closed')
+        if said == _MEMORY:
+            return complaint(str(call), Reply(('memory',)))
+        refusal = Refusal()
+        self._library.gwb_last_refusal(self._handle, refusal)
+        return refused(str(call), refusal.number, refusal.value)
 
     def half_edges(self, loop: int) -> Tuple[int, ...]:
         """The half-edges of a loop, from the least on: none of a lone loop, or of one that is not there."""

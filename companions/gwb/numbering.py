@@ -1,55 +1,51 @@
-"""Which numbers an accepted command makes, and of which kinds it kills (docs/SCRIPT.md, Fresh numbers)."""
+"""Which numbers accepted commands make and kill, and the greatest in use (docs/SCRIPT.md, Fresh numbers)."""
 
-from typing import Callable, Dict, List, Tuple
+from typing import Callable, Dict, Tuple
 
+from .calls import Call
 from .journal import KINDS, Greatest
 
-Changes = Tuple[Dict[str, int], Dict[str, int]]
+COUNTED_KINDS = KINDS[1:]
+# The commands that take fresh numbers, and those of them that kill none.
+LARGER = ('lamina', 'block', 'sweep', 'split')
+GROWING = LARGER[:3]
 
-# For each operator the kinds of the numbers that its words make, by the place of the word, and the kinds of which it kills one: the place of the
-# word that names it, or 0 where no word does.
+# For each operator the kinds of the numbers that it makes, by the place of the value, and the kinds of which it kills one: the place of the
+# value that names it, or none where no value does.
 _OPERATORS: Dict[str, Tuple[Dict[str, int], Dict[str, int]]] = {
-    'mvfs': ({'solid': 1, 'face': 2, 'loop': 3, 'vertex': 4}, {}),
-    'kvfs': ({}, {'solid': 1, 'face': 0, 'loop': 0, 'vertex': 0}),
-    'mev': ({'edge': 3, 'vertex': 4}, {}),
-    'kev': ({}, {'edge': 1, 'vertex': 0}),
-    'mef': ({'edge': 3, 'face': 4, 'loop': 5}, {}),
-    'kef': ({}, {'edge': 1, 'face': 0, 'loop': 0}),
-    'kemr': ({'loop': 2}, {'edge': 1}),
-    'mekr': ({'edge': 3}, {'loop': 0}),
-    'kfmrh': ({}, {'face': 2}),
-    'mfkrh': ({'face': 2}, {}),
+    'mvfs': ({'solid': 0, 'face': 1, 'loop': 2, 'vertex': 3}, {}),
+    'kvfs': ({}, {'solid': 0, 'face': -1, 'loop': -1, 'vertex': -1}),
+    'mev': ({'edge': 2, 'vertex': 3}, {}),
+    'kev': ({}, {'edge': 0, 'vertex': -1}),
+    'mef': ({'edge': 2, 'face': 3, 'loop': 4}, {}),
+    'kef': ({}, {'edge': 0, 'face': -1, 'loop': -1}),
+    'kemr': ({'loop': 1}, {'edge': 0}),
+    'mekr': ({'edge': 2}, {'loop': -1}),
+    'kfmrh': ({}, {'face': 1}),
+    'mfkrh': ({'face': 1}, {}),
     'ringmv': ({}, {}),
+    'glue': ({}, dict.fromkeys(KINDS, -1)),
 }
-_COUNTED = {'block': (6, 6, 12, 8)}
-_KILLS_MANY = dict.fromkeys(KINDS, 0)
+# The places of the numbers of new solids among the values of larger commands.
+_NEW_SOLIDS = {'lamina': 0, 'block': 0, 'split': 5}
 
 
-def changes(words: List[str], before: Greatest, corners: int = 0) -> Changes:
-    """What an accepted command of these words makes, and what it kills.
-
-    `before` is sure of the kinds that a larger command counts on from; `corners` are those of the face of a sweep.
-    """
-    command = words[0]
-    if command in _OPERATORS:
-        made, killed = _OPERATORS[command]
-        return ({kind: int(words[place]) for kind, place in made.items()},
-                {kind: abs(int(words[place].lstrip('+@'))) if place else 0 for kind, place in killed.items()})
-    if command == 'glue':
-        return {}, _KILLS_MANY
-    counts = _counts(words, corners)
-    made = {kind: greatest + count for kind, greatest, count in zip(KINDS[1:], before.bounds[1:], counts)}
-    if command != 'sweep':
-        made['solid'] = int(words[1])
-    return made, {}
+def changes(call: Call) -> Tuple[Dict[str, int], Dict[str, int]]:
+    """The numbers that an accepted command names and makes, and those that it kills: 0 for one of a kind that it doesn't name."""
+    numbers = call.numbers
+    if call.word not in _OPERATORS:
+        return ({'solid': numbers[_NEW_SOLIDS[call.word]]} if call.word in _NEW_SOLIDS else {},
+                dict.fromkeys(COUNTED_KINDS, 0) if call.word == 'split' else {})
+    made, killed = _OPERATORS[call.word]
+    return ({kind: numbers[place] for kind, place in made.items()},
+            {kind: 0 if place < 0 else numbers[place] for kind, place in killed.items()})
 
 
-def _counts(words: List[str], corners: int) -> Tuple[int, int, int, int]:
-    """How many faces, loops, edges and vertices a lamina, a block or a sweep makes."""
-    if words[0] == 'lamina':
-        points = (len(words) - 2) // 3
-        return (2, 2, points, points)
-    return _COUNTED['block'] if words[0] == 'block' else (corners, corners, 2 * corners, corners)
+def fresh_counts(call: Call, corners: int) -> Dict[str, int]:
+    """How many fresh numbers of each kind a lamina, a block or a sweep takes; `corners` are those of the face of a sweep."""
+    points = len(call.values) // 3
+    counts = {'lamina': (2, 2, points, points), 'block': (6, 6, 12, 8), 'sweep': (corners, corners, 2 * corners, corners)}[call.word]
+    return dict(zip(COUNTED_KINDS, counts))
 
 
 class Seeker:

@@ -6,9 +6,14 @@ import subprocess
 from pathlib import Path
 from typing import Dict, Iterator, List
 
+from .calls import Call
+from .complaints import complaint
 from .errors import Ended, ProgramMissing
 from .language import command_bytes
+from .listing import model_of
+from .model import Model
 from .replies import Reply, is_listed, only_reply
+from .results import Count, Plane
 
 _AFTER_LISTING = 'count 1'
 ACCEPTED = Reply(('ok',))
@@ -50,6 +55,8 @@ class Pipe:
                                              stdout=subprocess.PIPE, stderr=subprocess.PIPE)
         except OSError as error:
             raise ProgramMissing(f'{error.filename}: {error.strerror}') from None
+        assert self._process.stdin and self._process.stdout, 'both are pipes'
+        self._to, self._from = self._process.stdin, self._process.stdout
 
     def ask(self, line: str) -> Reply:
         """The reply to one line that is a command, or a fault."""
@@ -59,6 +66,28 @@ class Pipe:
         answer = self._receive()
         return ACCEPTED if answer == 'ok' else only_reply([answer])
 
+    def do(self, call: Call) -> None:
+        """Gives a command. A complaint is raised."""
+        self._asked(call)
+
+    def plane(self, face: int) -> Plane:
+        """The plane of a face."""
+        reply = self._asked(Call('plane', (face,)))
+        a, b, c, d = reply.numbers
+        return Plane(a, b, c, d, reply.lines[0].endswith(' flat'))
+
+    def volume(self, solid: int) -> int:
+        """Six times the volume of a solid."""
+        return self._asked(Call('volume', (solid,))).numbers[0]
+
+    def count(self, solid: int) -> Count:
+        """The counts of a solid."""
+        return Count(*self._asked(Call('count', (solid,))).numbers)
+
+    def model(self) -> Model:
+        """The model held, from its listing."""
+        return model_of(self._asked(Call('list')))
+
     def in_use(self, kind: str, number: int, free: Dict[str, int]) -> bool:
         """Whether the number of the kind is in use, by a line that is refused or asks: nothing changes. `free` are numbers that aren't in use."""
         reply = self.ask(_PROBES[kind].format(number, **free))
@@ -66,20 +95,28 @@ class Pipe:
 
     def close(self) -> int:
         """Ends the program; its status."""
-        if not self._process.stdin.closed:
+        if not self._to.closed:
             self._process.communicate()
         return self._process.returncode
 
+    def _asked(self, call: Call) -> Reply:
+        """The reply to a command. A complaint is raised."""
+        line = str(call)
+        reply = self.ask(line)
+        if reply.is_complaint:
+            raise complaint(line, reply)
+        return reply
+
     def _send(self, data: bytes) -> None:
         try:
-            self._process.stdin.write(data + b'\n')
-            self._process.stdin.flush()
+            self._to.write(data + b'\n')
+            self._to.flush()
         except (BrokenPipeError, ValueError):
             raise self._ended() from None
 
     def _receive(self) -> str:
         try:
-            line = self._process.stdout.readline()
+            line = self._from.readline()
         except ValueError:
             raise self._ended() from None
         if not line.endswith(b'\n'):
@@ -96,7 +133,7 @@ class Pipe:
 
     def _ended(self) -> Ended:
         """The error that says how the program ended."""
-        if self._process.stdin.closed:
+        if self._to.closed:
             return Ended('the session is closed')
         complaint = self._process.communicate()[1].decode('utf-8', 'replace').strip()
         return Ended(complaint or f'the program ended with status {self._process.returncode}')

@@ -150,6 +150,16 @@ class Session(unittest.TestCase):
         self.assertEqual((caught.exception.name, caught.exception.value, caught.exception.number), ('KeptEndBare', made.vertex, 16))
         self.assertIn('kev +1: refused 16 1: KeptEndBare', str(caught.exception))
 
+    def test_numbers_that_have_no_half_edge(self):
+        for number in (10 ** 6 + 1, 2 ** 30 - 1, 2 ** 30, 2 ** 31, 2 ** 31 + 1, 2 ** 32 - 1):
+            for corner in (number, -number, Lone(number)):
+                with self.assertRaises(Refused) as caught:
+                    self.bench.mev(corner, corner, (0, 0, 0))
+                self.assertEqual((caught.exception.name, caught.exception.value), ('NumberRange', number))
+            with self.assertRaises(Refused) as caught:
+                self.bench.kev(-number)
+            self.assertEqual((caught.exception.name, caught.exception.value), ('NumberRange', number))
+
     def test_half_edges_are_those_of_the_listing(self):
         bench = self.bench
         bench.block((0, 0, 0), (4, 4, 4))

@@ -1,0 +1,184 @@
+"""What a workbench knows while it gives commands: those that were accepted, which are one step, and the numbers in use."""
+
+from contextlib import contextmanager
+from typing import Dict, Iterator, Optional, Sequence, Tuple, Union
+
+from . import arguments
+from .calls import Call, Value, call_in
+from .complaints import complaint
+from .journal import KINDS, Greatest, Journal
+from .library import Library
+from .model import Model
+from .numbering import COUNTED_KINDS, GROWING, LARGER, Seeker, changes, fresh_counts
+from .pipe import Pipe, find_program
+from .reading import FacePart, ListingReader, Reader
+from .replies import Reply
+from .results import Numbers
+from .vectors import dot
+
+Fresh = Dict[str, range]
+_NOTHING_TO_REDO = Reply(('refused 26 0',))
+
+
+class Conversation:
+    """A running gwb, and what follows from the commands that it accepted."""
+
+    def __init__(self, program: Optional[str] = None) -> None:
+        """Starts the program at the path, or the one that the environment variable GWB, the repository or the path has.
+
+        Where that is a shared object, `libgwb.so`, it is loaded in place of it.
+        """
+        path = find_program() if program is None else arguments.text('program', program)
+        self._lines: Union[Library, Pipe] = Library(path) if path.endswith('.so') else Pipe(path)
+        self._journal = Journal()
+        self._seeker = Seeker(self._in_use, self._greatest_read)
+        self._ever = dict.fromkeys(KINDS, 0)
+        self._sizes: Dict[int, Numbers] = {}
+        self._held: Optional[Model] = None
+        self._grouped: Optional[bool] = None
+
+    def close(self) -> int:
+        """Ends the program; its status."""
+        return self._lines.close()
+
+    def ask(self, line: str) -> Reply:
+        """The reply to one line of the script language, whatever it is. What it makes, undoes or redoes is taken account of."""
+        words = arguments.text('line', line).split()
+        if words == ['redo'] and self._journal.has_given_up:
+            return _NOTHING_TO_REDO
+        corners = self._prepared(words[0], int(words[1]) if words[1:] and words[1].isdecimal() else 0) if words else 0
+        reply = self._lines.ask(line)
+        if reply.word == 'ok':
+            self._account(call_in(line), corners)
+        return reply
+
+    def listing(self) -> Model:
+        """The model held."""
+        if self._held is None:
+            self._held = self._lines.model()
+        return self._held
+
+    def half_edges(self, loop: int) -> Numbers:
+        """The half-edges of a loop, from the least on: none of a lone loop, or of one that is not there. The library reads no listing for it."""
+        number = arguments.number('loop', loop)
+        found = self._reader().loop(number)
+        return found.halves if found else ()
+
+    def _reader(self) -> Reader:
+        """Who answers questions about the model: the library, or over the pipe the listing."""
+        if isinstance(self._lines, Library):
+            return self._lines
+        return ListingReader(self.listing())
+
+    # Commands
+
+    def _do(self, word: str, *values: Value) -> Fresh:
+        """Gives a command: the fresh numbers of a larger one. A complaint is raised."""
+        if word == 'redo' and self._journal.has_given_up:
+            raise complaint(word, _NOTHING_TO_REDO)
+        call = Call(word, values)
+        corners = self._prepared(word, call.numbers[0] if values else 0)
+        self._lines.do(call)
+        return self._account(call, corners)
+
+    def _prepared(self, word: str, first: int) -> int:
+        """Makes sure of what a larger command counts on from, where nobody says it later; how many corners the face of a sweep has."""
+        if isinstance(self._lines, Pipe) and word in LARGER:
+            for kind in COUNTED_KINDS:
+                self._greatest(kind)
+        return sum(self._face_sizes(first)) if word == 'sweep' else 0
+
+    def _account(self, call: Call, corners: int) -> Fresh:
+        """An accepted command changes what is known: the fresh numbers of a larger one."""
+        self._held = None
+        if call.word in ('undo', 'redo'):
+            self._journal.at += 1 if call.word == 'redo' else -1
+            self._sizes.clear()
+            return {}
+        fresh = self._fresh(call, corners) if call.word in LARGER else {}
+        self._resize(call, fresh)
+        made, killed = changes(call)
+        greatest = self._journal.greatest.after(made, killed)
+        for kind, numbers in fresh.items():
+            greatest.settle(kind, numbers[-1])
+        for kind, bound in zip(KINDS, greatest.bounds):
+            self._ever[kind] = max(self._ever[kind], bound)
+        self._journal.add(call, self._grouped is not True, greatest)
+        if self._grouped is False:
+            self._grouped = True
+        return fresh
+
+    def _fresh(self, call: Call, corners: int) -> Fresh:
+        """For each kind the fresh numbers of an accepted larger command, up to the greatest in use; those of a split have gaps."""
+        if isinstance(self._lines, Library):
+            return self._lines.fresh()
+        before = self._journal.greatest.of
+        if call.word in GROWING:
+            return {kind: range(before(kind) + 1, before(kind) + count + 1) for kind, count in fresh_counts(call, corners).items()}
+        return {kind: range(before(kind) + 1, self._greatest_read(kind) + 1) for kind in COUNTED_KINDS}
+
+    def _resize(self, call: Call, fresh: Fresh) -> None:
+        """How many corners the loops of faces have, as far as it follows from the commands."""
+        if call.word in GROWING:
+            self._sizes.update(dict.fromkeys(fresh['face'], (len(call.values) // 3,) if call.word == 'lamina' else (4,)))
+        elif call.word != 'mvfs':
+            self._sizes.clear()
+
+    def _face_sizes(self, face: int) -> Numbers:
+        """How many half-edges each loop of a face has: the outer one, then the rings."""
+        if face not in self._sizes and face <= arguments.GREATEST_NUMBER:
+            found = self._reader().face(face)
+            if found:
+                self._sizes[face] = tuple(len(self.half_edges(loop)) for loop in found.loops)
+        return self._sizes.get(face, ())
+
+    # Numbers
+
+    def _in_use(self, kind: str, number: int) -> bool:
+        """Whether the number of the kind is in use."""
+        free = {kind: bound + 1 for kind, bound in zip(KINDS, self._journal.greatest.bounds)}
+        if max(free.values()) > arguments.GREATEST_NUMBER:
+            return number in self._reader().numbers(kind)
+        return self._lines.in_use(kind, number, free)
+
+    def _greatest(self, kind: str) -> int:
+        """The greatest number of the kind in use."""
+        return self._seeker.greatest(self._journal.greatest, kind)
+
+    def _greatest_read(self, kind: str) -> int:
+        return max(self._reader().numbers(kind), default=0)
+
+    def _new(self, kind: str, given: Optional[int], name: str = '') -> int:
+        """The number that was given, by the argument of the kind's name or another, or one above all that are in use or were."""
+        return self._ever[kind] + 1 if given is None else arguments.number(name or kind, given)
+
+    def _solid_of(self, face: int) -> int:
+        row = self._reader().face(face)
+        return row.solid if row else 0
+
+    def _lies_on(self, face: int, plane: Sequence[int]) -> bool:
+        return all(dot((plane[0], plane[1], plane[2]), point) + plane[3] == 0 for point in FacePart(self, face).points)
+
+    # Steps
+
+    @contextmanager
+    def _step(self) -> Iterator[None]:
+        """The commands given in it are one step to undo. Where one isn't accepted those before it are undone, and can't be redone."""
+        if self._grouped is not None:
+            yield
+            return
+        at, self._grouped = self._journal.at, False
+        try:
+            yield
+        except Exception:
+            self._grouped = None
+            self._give_up(at)
+            raise
+        finally:
+            self._grouped = None
+
+    def _give_up(self, at: int) -> None:
+        if self._journal.at > at:
+            while self._journal.at > at:
+                self._do('undo')
+            self._journal.give_up(at)
