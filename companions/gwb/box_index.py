@@ -1,14 +1,17 @@
 """Finds which of many boxes meet a given one, by a grid."""
 
 from itertools import product
-from typing import Dict, Hashable, Iterable, Iterator, List, Mapping, Sequence, Set, Tuple
+from typing import Dict, Generic, Iterable, Iterator, List, Mapping, Sequence, Set, Tuple, TypeVar
 
-Box = Tuple[Tuple[int, int], ...]
+from .plane_figures import Exact
+
+Box = Tuple[Tuple[Exact, Exact], ...]
+Key = TypeVar('Key')
 
 _MANY_CELLS = 256
 
 
-def box_of(points: Iterable[Sequence[int]]) -> Box:
+def box_of(points: Iterable[Sequence[Exact]]) -> Box:
     """The least box around the points: for each axis the least and the greatest coordinate."""
     return tuple((min(axis), max(axis)) for axis in zip(*points))
 
@@ -21,20 +24,20 @@ def boxes_meet(a: Box, b: Box) -> bool:
     return True
 
 
-class BoxIndex:
+class BoxIndex(Generic[Key]):
     """Boxes by their keys. More may be added; those that lie outside the first ones are found too."""
 
-    def __init__(self, boxes: Mapping[Hashable, Box]) -> None:
-        self._boxes: Dict[Hashable, Box] = {}
-        self._cells: Dict[Tuple[int, ...], List[Hashable]] = {}
-        self._wide: List[Hashable] = []
+    def __init__(self, boxes: Mapping[Key, Box]) -> None:
+        self._boxes: Dict[Key, Box] = {}
+        self._cells: Dict[Tuple[int, ...], List[Key]] = {}
+        self._wide: List[Key] = []
         around = box_of(corner for box in boxes.values() for corner in zip(*box))
         per_axis = max(1, round(len(boxes) ** (1 / max(1, len(around)))))
         self._steps = [(high - low) // per_axis + 1 for low, high in around]
         for key, box in boxes.items():
             self.add(key, box)
 
-    def add(self, key: Hashable, box: Box) -> None:
+    def add(self, key: Key, box: Box) -> None:
         """Puts one more box in."""
         self._boxes[key] = box
         ranges = self._ranges(box)
@@ -44,21 +47,21 @@ class BoxIndex:
         for cell in product(*ranges):
             self._cells.setdefault(cell, []).append(key)
 
-    def meeting(self, box: Box) -> Iterator[Hashable]:
+    def meeting(self, box: Box) -> Iterator[Key]:
         """The keys of the boxes that have a point in common with the box, each once."""
         boxes = self._boxes
         for key in self._candidates(box):
             if boxes_meet(boxes[key], box):
                 yield key
 
-    def _candidates(self, box: Box) -> Iterator[Hashable]:
+    def _candidates(self, box: Box) -> Iterator[Key]:
         """Keys of all boxes that may meet the box, each once."""
         ranges = self._ranges(box)
         if _count(ranges) > len(self._boxes):
             yield from self._boxes
             return
         yield from self._wide
-        seen: Set[Hashable] = set()
+        seen: Set[Key] = set()
         for cell in product(*ranges):
             for key in self._cells.get(cell, ()):
                 if key not in seen:

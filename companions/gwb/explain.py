@@ -1,7 +1,7 @@
 """Joins a script and its replies: each complaint with its line, its command and its meaning in words."""
 
 import argparse
-from typing import Iterator, List, NamedTuple, Optional, Sequence
+from typing import Iterable, Iterator, List, NamedTuple, Optional, Sequence
 
 from .command_line import FOUND, OK, add_version, read_bytes, run
 from .errors import CompanionError, NotAListing, NotReplies
@@ -68,7 +68,7 @@ def meaning(word: str, reply: Reply) -> str:
     return 'memory was refused; the same command may be given again'
 
 
-def complaints(name: str, joined: Sequence[Answered]) -> Iterator[str]:
+def complaints(name: str, joined: Iterable[Answered]) -> Iterator[str]:
     """A line for each complaint, and one with their number."""
     count = 0
     for answered in joined:

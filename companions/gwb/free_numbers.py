@@ -1,9 +1,10 @@
 """Numbers of things: the kinds, those in use, and those that are free."""
 
-from typing import Collection, Dict, Iterable, Iterator, List
+from typing import Collection, Dict, Iterable, Iterator, List, Mapping, Tuple
 
 from .errors import Unfit
 from .model import Face, Loop, Model
+from .vectors import Vector
 
 KINDS = ('solid', 'face', 'loop', 'edge', 'vertex')
 LARGEST = 1_000_000
@@ -72,14 +73,15 @@ def _renumbered_loop(loop: Loop, edge: Dict[int, int], vertex: Dict[int, int]) -
     return Loop(from_least(edge[half] if half > 0 else -edge[-half] for half in loop.halves))
 
 
-def from_least(halves: Iterable[int]) -> tuple:
+def from_least(halves: Iterable[int]) -> Tuple[int, ...]:
     """The cycle from its least half-edge on, by edge, `+` before `-`."""
     cycle = tuple(halves)
     least = cycle.index(min(cycle, key=lambda half: (abs(half), half < 0)))
     return cycle[least:] + cycle[:least]
 
 
-def sorted_model(solids, faces, loops, edges, vertices) -> Model:
+def sorted_model(solids: Iterable[int], faces: Mapping[int, Face], loops: Mapping[int, Loop], edges: Mapping[int, Tuple[int, int]],
+                 vertices: Mapping[int, Vector]) -> Model:
     """A model with each kind in rising order."""
-    rows = (dict(sorted(kind.items())) for kind in (faces, loops, edges, vertices))
-    return Model(tuple(sorted(solids)), *rows)
+    return Model(tuple(sorted(solids)), dict(sorted(faces.items())), dict(sorted(loops.items())), dict(sorted(edges.items())),
+                 dict(sorted(vertices.items())))

@@ -10,7 +10,7 @@ from typing import Dict, Iterator, List, NamedTuple, Sequence
 from .box_index import BoxIndex, box_of
 from .measures import anchor, normal, off_plane
 from .model import Model
-from .plane_figures import Segment, segments, turn
+from .plane_figures import Exact, Flat, Segment, segments, turn
 from .vectors import Vector, dot
 from .view import Spot, View
 
@@ -37,7 +37,7 @@ class _Wall:
             for row in range(self._row(min(side[0][1], side[1][1])), self._row(max(side[0][1], side[1][1])) + 1):
                 self._rows.setdefault(row, []).append(side)
 
-    def _row(self, y: int) -> int:
+    def _row(self, y: Exact) -> int:
         return (y - self._low) // self._height
 
     def depth(self, point: Vector, weight: int = 1) -> int:
@@ -45,7 +45,7 @@ class _Wall:
         height = dot(self._across, point) - weight * self._offset
         return height if self._facing > 0 else -height
 
-    def covers(self, spot: Spot, weight: int) -> bool:
+    def covers(self, spot: Flat, weight: int) -> bool:
         """Whether the spot, divided by the weight, lies within the wall's outline and not on it."""
         within = False
         x, y = spot
@@ -121,10 +121,10 @@ class Scene:
     def _is_hidden_at(self, edge: int, way: Fraction, walls: Sequence[_Wall]) -> bool:
         start, end = (self._model.vertices[vertex] for vertex in self._model.edges[edge])
         step, weight = way.numerator, way.denominator
-        point = tuple(weight * a + step * (b - a) for a, b in zip(start, end))
+        x, y, z = (weight * a + step * (b - a) for a, b in zip(start, end))
         (ax, ay), (bx, by) = self._side(edge)
         spot = (weight * ax + step * (bx - ax), weight * ay + step * (by - ay))
-        return _is_hidden(walls, point, spot, weight)
+        return _is_hidden(walls, (x, y, z), spot, weight)
 
     def is_hidden(self, point: Vector, spot: Spot, weight: int) -> bool:
         """Whether the point, which is given with its spot times a weight, lies beyond a face."""
@@ -132,10 +132,10 @@ class Scene:
         return _is_hidden([self._walls[face] for face in self._faces.meeting(around)], point, spot, weight)
 
 
-def _is_hidden(walls: Sequence[_Wall], point: Vector, spot: Spot, weight: int) -> bool:
+def _is_hidden(walls: Sequence[_Wall], point: Vector, spot: Flat, weight: int) -> bool:
     return any(wall.depth(point, weight) > 0 and wall.covers(spot, weight) for wall in walls)
 
 
-def _meets_line(start: int, end: int) -> bool:
+def _meets_line(start: Exact, end: Exact) -> bool:
     """Whether a way whose ends lie so far to the left of a line meets it at one point."""
     return start != end and min(start, end) <= 0 <= max(start, end)

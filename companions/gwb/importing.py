@@ -3,7 +3,7 @@
 import argparse
 import sys
 from fractions import Fraction
-from typing import Dict, Hashable, Iterator, List, NamedTuple, Optional, Sequence, Tuple
+from typing import Dict, Hashable, Iterator, List, NamedTuple, Optional, Sequence, Set, Tuple
 
 from .command_line import OK, add_version, read_bytes, run
 from .errors import Unfit
@@ -94,10 +94,11 @@ def _holds(model: Model, outer: Shell, inner: Shell) -> bool:
 
 def _box(model: Model, shell: Shell) -> Tuple[Vector, Vector]:
     points = list(zip(*(point for face in shell for point in model.face_points(face))))
-    return tuple(map(min, points)), tuple(map(max, points))
+    (x, u), (y, v), (z, w) = ((min(axis), max(axis)) for axis in points)
+    return (x, y, z), (u, v, w)
 
 
-def _with_turned(model: Model, faces: set) -> Model:
+def _with_turned(model: Model, faces: Set[int]) -> Model:
     loops = {loop for face in faces for loop in model.faces[face].loops}
     new = {number: Loop(from_least(-half for half in reversed(loop.halves))) if number in loops else loop
            for number, loop in model.loops.items()}

@@ -4,7 +4,7 @@ Each solid is taken apart by operators whose inverses the script can say; these,
 edges between two faces go until each connected part has one; then handles go, two edges at a time, and the tree that is left.
 """
 
-from typing import Dict, List, Sequence
+from typing import Dict, List, Sequence, Set
 
 from .handle_pairs import handle_pairs
 from .joined_sets import JoinedSets
@@ -69,7 +69,7 @@ class _TakenApart:
     def _loop(self, half: int) -> int:
         return self._loops.name(self._loop_of[half])
 
-    def _merge_faces(self, kept: set) -> List[int]:
+    def _merge_faces(self, kept: Set[int]) -> List[int]:
         """Edges between two faces go, but for those that are kept: the edges left over."""
         handles = []
         for edge in self._model.edges:

@@ -44,10 +44,11 @@ def mesh_of(model: Model) -> Mesh:
     require_fit(model)
     touched = touched_edges(model)
     first: Dict[Tuple[int, Vector], int] = {}
-    faces = {}
+    faces: Dict[int, List[Triangle]] = {}
     for face, row in model.faces.items():
-        faces[face] = [tuple(first.setdefault((row.solid, model.vertices[vertex]), vertex) for vertex in triangle)
-                       for triangle in face_triangles(model, face, touched)]
+        named = (map(lambda vertex: first.setdefault((row.solid, model.vertices[vertex]), vertex), triangle)
+                 for triangle in face_triangles(model, face, touched))
+        faces[face] = [(a, b, c) for a, b, c in named]
     return Mesh(model, faces)
 
 

@@ -1,6 +1,6 @@
 """The boundary model that a listing describes: solids, faces, loops, half-edges and vertices by their numbers."""
 
-from dataclasses import dataclass
+from dataclasses import dataclass, field
 from typing import Dict, Iterator, List, NamedTuple, Optional, Tuple
 
 from .vectors import Vector
@@ -40,6 +40,7 @@ class Model:
     loops: Dict[int, Loop]
     edges: Dict[int, Tuple[int, int]]
     vertices: Dict[int, Vector]
+    _sides: Dict[int, int] = field(init=False, repr=False, compare=False)
 
     def __post_init__(self) -> None:
         sides = {half: number for number, face in self.faces.items()

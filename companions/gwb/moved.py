@@ -43,5 +43,5 @@ def changed(model: Model, change: Change) -> Model:
 
 def require_in_range(vertex: int, point: Vector) -> None:
     """Raises Unfit where a coordinate is out of range."""
-    if max(map(abs, point)) > FARTHEST:
+    if max(abs(part) for part in point) > FARTHEST:
         raise Unfit('vertex {} would lie at {} {} {}, past 1,000,000,000'.format(vertex, *point))

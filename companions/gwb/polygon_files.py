@@ -5,7 +5,7 @@ import re
 import struct
 import zipfile
 from fractions import Fraction
-from typing import Callable, Dict, Iterator, List, NamedTuple, Sequence, Tuple
+from typing import Callable, Dict, Iterator, List, NamedTuple, Optional, Sequence, Tuple
 from xml.etree import ElementTree
 
 from .errors import CompanionError
@@ -155,7 +155,7 @@ def _mesh(held: ElementTree.Element, place: Callable[[Exact], Exact]) -> List[Po
             for row in held.iter() if row.tag.endswith('}triangle')]
 
 
-def _transform(text: str) -> Callable[[Exact], Exact]:
+def _transform(text: Optional[str]) -> Callable[[Exact], Exact]:
     words = (text or '1 0 0 0 1 0 0 0 1 0 0 0').split()
     rows = [_exact(words[place:place + 3]) for place in (0, 3, 6, 9)]
 

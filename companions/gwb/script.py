@@ -3,14 +3,14 @@
 import argparse
 import re
 import sys
-from typing import Any, List, Optional, Sequence
+from typing import Any, Callable, Dict, List, Optional, Sequence
 
 from .command_line import OK, listing_parser, read_bytes, run, wanted_model
 from .inside_out import warn_of_inside_out
 from .inversion import script_of
 from .listing import read_model
 from .model import Model
-from .moved import changed, moving, scaling, turning
+from .moved import Change, changed, moving, scaling, turning
 from .free_numbers import renumbered_after
 from .short_script import short_script_of
 
@@ -22,25 +22,26 @@ class _Change(argparse.Action):
 
     def __call__(self, parser: argparse.ArgumentParser, namespace: argparse.Namespace, values: Any,
                  option: Optional[str] = None) -> None:
-        make = {'--move': self._move, '--turn': self._turn, '--scale': self._scale}[option or '']
+        makers: Dict[str, Callable[[Any], Change]] = {'--move': self._move, '--turn': self._turn, '--scale': self._scale}
+        make = makers[option or '']
         try:
             namespace.changes = [*(namespace.changes or ()), make(values)]
         except ValueError as error:
             parser.error(f'argument {option}: {error}')
 
     @staticmethod
-    def _move(words: List[int]):
+    def _move(words: List[int]) -> Change:
         return moving((words[0], words[1], words[2]))
 
     @staticmethod
-    def _turn(words: str):
+    def _turn(words: str) -> Change:
         axis, *times = words.split()
         if axis not in ('x', 'y', 'z') or len(times) > 1:
             raise ValueError('one of x, y and z is needed, and then how many times, if more than once')
         return turning(axis, *map(int, times))
 
     @staticmethod
-    def _scale(factor: int):
+    def _scale(factor: int) -> Change:
         if factor < 1:
             raise ValueError(f'{factor} is below 1')
         return scaling(factor)

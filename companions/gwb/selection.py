@@ -1,6 +1,6 @@
 """Finding things of the model by where they lie, exactly."""
 
-from typing import Callable, Generic, Iterator, List, Optional, Sequence, Tuple, TypeVar
+from typing import Callable, Generic, Iterator, List, Optional, Sequence, Tuple, TypeVar, Union, overload
 
 from . import arguments
 from .commands import Commands
@@ -25,7 +25,13 @@ class Selection(Sequence[Found], Generic[Found]):
     def __len__(self) -> int:
         return len(self._parts)
 
-    def __getitem__(self, place):  # type: ignore[no-untyped-def]
+    @overload
+    def __getitem__(self, place: int) -> Found: ...
+
+    @overload
+    def __getitem__(self, place: slice) -> Sequence[Found]: ...
+
+    def __getitem__(self, place: Union[int, slice]) -> Union[Found, Sequence[Found]]:
         return self._parts[place]
 
     def __iter__(self) -> Iterator[Found]:

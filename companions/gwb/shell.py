@@ -9,6 +9,7 @@ import signal
 import subprocess
 import sys
 from contextlib import contextmanager
+from io import TextIOWrapper
 from pathlib import Path
 from typing import Callable, Dict, Iterator, List, NamedTuple, Optional, Sequence
 
@@ -188,7 +189,7 @@ class Shell(cmd.Cmd):
         """The commands that begin so."""
         return _matching(text, [*COMMANDS, 'help', 'quit'])
 
-    def completedefault(self, text: str, line: str, begin: int, end: int) -> List[str]:
+    def completedefault(self, text: str, line: str, begin: int, end: int) -> List[str]:  # type: ignore[override]
         """The words that begin so, and can stand at this place of the command."""
         word, *given = line[:begin].split()
         if word in ('undo', 'redo'):
@@ -197,7 +198,7 @@ class Shell(cmd.Cmd):
             return []
         return _matching(text, choices(self._help.rows[word], 1 + len(given), self._model()))
 
-    def complete_help(self, text: str, *_: object) -> List[str]:
+    def complete_help(self, text: str, *_: object) -> List[str]:  # type: ignore[override]
         """The commands that begin so."""
         return self.completenames(text)
 
@@ -268,7 +269,8 @@ def work(words: Optional[Sequence[str]]) -> int:
     program = find_program()
     if program.endswith('.so'):
         raise ProgramMissing(f'{program} is a library, and the program is needed')
-    sys.stdin.reconfigure(errors='surrogateescape')  # type: ignore[union-attr]
+    if isinstance(sys.stdin, TextIOWrapper):
+        sys.stdin.reconfigure(errors='surrogateescape')
     shell = Shell(program)
     try:
         if options.script is not None:

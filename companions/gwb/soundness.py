@@ -35,7 +35,7 @@ def _require_ranges(model: Model) -> None:
     for numbers in (model.solids, model.faces, model.loops, model.edges, model.vertices):
         _require(max(numbers, default=0) <= _NUMBERS, f'the number {max(numbers, default=0)} is out of range')
     for vertex, point in model.vertices.items():
-        _require(max(map(abs, point)) <= _COORDINATES, f'vertex {vertex} lies out of range')
+        _require(max(abs(part) for part in point) <= _COORDINATES, f'vertex {vertex} lies out of range')
 
 
 def _require_faces(model: Model) -> None:

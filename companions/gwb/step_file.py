@@ -1,7 +1,7 @@
 """Reads the solids of a STEP file whose faces are flat and whose edges are straight, as gwb-step writes it."""
 
 import re
-from typing import Dict, Iterator, List, NamedTuple
+from typing import Any, Dict, Iterator, List, NamedTuple
 
 from .errors import Unfit
 
@@ -22,7 +22,7 @@ class Brep(NamedTuple):
 
 class _Entity(NamedTuple):
     kind: str
-    items: list
+    items: List[Any]
 
 
 def step_breps(text: str) -> Iterator[Brep]:
@@ -42,9 +42,9 @@ def step_breps(text: str) -> Iterator[Brep]:
         yield Brep(faces, solid.items[0] if is_ours else '')
 
 
-def _items(words: str) -> list:
+def _items(words: str) -> List[Any]:
     """The words in brackets as lists in lists."""
-    stack: List[list] = [[]]
+    stack: List[List[Any]] = [[]]
     for token in _TOKEN.findall(words):
         if token == '(':
             stack.append([])

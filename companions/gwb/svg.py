@@ -3,7 +3,7 @@
 import sys
 from argparse import ArgumentTypeError
 from itertools import cycle
-from typing import Dict, Iterator, List, NamedTuple, Optional, Sequence, Tuple
+from typing import Dict, Iterable, Iterator, List, NamedTuple, Optional, Sequence, Tuple
 
 from .command_line import OK, listing_parser, run, filled_model
 from .errors import Unfit
@@ -12,7 +12,7 @@ from .inside_out import warn_of_inside_out
 from .labels import Label, Placed, place
 from .measures import normal, why_unfit
 from .model import Model
-from .plane_figures import turn
+from .plane_figures import Exact, turn
 from .touched_edges import TouchedEdges, touched_edges
 from .triangulation import face_triangles
 from .vectors import Vector, ZERO, dot, flat_axes, same_direction, total
@@ -182,10 +182,11 @@ def _middle(model: Model, face: int, touched: TouchedEdges) -> _Spot:
     return _Spot(total(model.vertices[vertex] for vertex in corners), len(corners))
 
 
-def _area(model: Model, face: int, triangle: Sequence[int]) -> int:
+def _area(model: Model, face: int, triangle: Iterable[int]) -> Exact:
     first, second = flat_axes(normal(model, face))
-    points = (model.vertices[vertex] for vertex in triangle)
-    return abs(turn(*((point[first], point[second]) for point in points)))
+    a, b, c = ((model.vertices[vertex][first], model.vertices[vertex][second]) for vertex in triangle)
+    twice = turn(a, b, c)
+    return max(twice, -twice)
 
 
 class Picture(NamedTuple):
@@ -237,7 +238,8 @@ def work(words: Optional[Sequence[str]]) -> int:
     if not any(options.view):
         parser.error('argument --view: the viewer stands in no direction')
     model = filled_model(options)
-    drawn = picture(model, tuple(options.view), options.names, options.hidden, options.size)
+    x, y, z = options.view
+    drawn = picture(model, (x, y, z), options.names, options.hidden, options.size)
     print(drawn.text, end='')
     if drawn.left_out:
         print(f'{PROGRAM}: {drawn.left_out} numbers had no room and are left out (try --size or --solid)', file=sys.stderr)

@@ -12,7 +12,7 @@ from .errors import Unfit
 from .measures import normal
 from .model import Model
 from .pinches import unpinched
-from .plane_figures import Corner, Flat, Path, Place, Segment, crossing, inside_segment, locate, segments, turn, twice_area
+from .plane_figures import Corner, Exact, Flat, Path, Place, Segment, crossing, inside_segment, locate, segments, turn, twice_area
 from .touched_edges import TouchedEdges
 from .vectors import flat_axes
 
@@ -176,7 +176,7 @@ class _EarCutter:
                 failures += 1
         return found
 
-    def _turn(self, tip: int) -> int:
+    def _turn(self, tip: int) -> Exact:
         return turn(self._points[self._before[tip]], self._points[tip], self._points[self._after[tip]])
 
     def _cut_off(self, tip: int) -> None:
