@@ -1,7 +1,8 @@
 """What the methods of a workbench take: each argument is tested before anything is sent, and an error names it."""
 
+from collections.abc import Iterable
 from operator import index
-from typing import Iterable, List, Sequence, Tuple
+from typing import List, Sequence, Tuple
 
 from .results import Corner, Lone
 from .vectors import Vector

@@ -30,10 +30,12 @@ class Call(NamedTuple):
         """The values after them."""
         return self.values[_CORNERS.get(self.word, 0):]
 
-    @property
-    def numbers(self) -> Tuple[int, ...]:
-        """The values as numbers: of a corner that of its edge or loop, 0 of the word `in` or `out`."""
-        return tuple(0 if isinstance(value, str) else value.loop if isinstance(value, Lone) else abs(value) for value in self.values)
+    def number(self, place: int) -> int:
+        """The number at a place of the values: of a corner that of its edge or loop."""
+        value = self.values[place]
+        if isinstance(value, Lone):
+            return value.loop
+        return 0 if isinstance(value, str) else abs(value)
 
 
 def call_in(line: str) -> Call:

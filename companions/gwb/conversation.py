@@ -77,7 +77,7 @@ class Conversation:
         if word == 'redo' and self._journal.has_given_up:
             raise complaint(word, _NOTHING_TO_REDO)
         call = Call(word, values)
-        corners = self._prepared(word, call.numbers[0] if values else 0)
+        corners = self._prepared(word, call.number(0) if word == 'sweep' else 0)
         self._lines.do(call)
         return self._account(call, corners)
 
@@ -99,10 +99,10 @@ class Conversation:
         self._resize(call, fresh)
         made, killed = changes(call)
         greatest = self._journal.greatest.after(made, killed)
-        for kind, numbers in fresh.items():
-            greatest.settle(kind, numbers[-1])
+        greatest.settle({kind: numbers[-1] for kind, numbers in fresh.items()})
         for kind, bound in zip(KINDS, greatest.bounds):
-            self._ever[kind] = max(self._ever[kind], bound)
+            if bound > self._ever[kind]:
+                self._ever[kind] = bound
         self._journal.add(call, self._grouped is not True, greatest)
         if self._grouped is False:
             self._grouped = True

@@ -19,11 +19,10 @@ class Greatest:
         """The bound of the kind."""
         return self.bounds[KINDS.index(kind)]
 
-    def settle(self, kind: str, greatest: int) -> None:
-        """The greatest number of the kind that is in use was found."""
-        place = KINDS.index(kind)
-        self.bounds = (*self.bounds[:place], greatest, *self.bounds[place + 1:])
-        self.sure = (*self.sure[:place], True, *self.sure[place + 1:])
+    def settle(self, found: Dict[str, int]) -> None:
+        """For these kinds the greatest number in use was found."""
+        self.bounds = tuple([found.get(kind, bound) for kind, bound in zip(KINDS, self.bounds)])
+        self.sure = tuple([kind in found or sure for kind, sure in zip(KINDS, self.sure)])
 
     def after(self, made: Dict[str, int], killed: Dict[str, int]) -> 'Greatest':
         """What holds after a command that makes numbers up to these, and kills one (0: an unknown one) of these kinds."""

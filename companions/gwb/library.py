@@ -136,9 +136,9 @@ def _code(corner: Value) -> int:
     return 2 * corner if corner > 0 else 1 - 2 * corner
 
 
-def _plain(value: Value) -> Value:
-    """A number or a coordinate as it is, and 1 for the word `out`."""
-    return int(value == 'out') if isinstance(value, str) else value
+def _way(values: Tuple[Value, ...]) -> Tuple[Value, ...]:
+    """The values of ringmv with 0 for the word `in`, and 1 for `out`."""
+    return (*values[:-1], int(values[-1] == 'out'))
 
 
 class Library:
@@ -168,18 +168,19 @@ class Library:
 
     def do(self, call: Call) -> None:
         """Gives a command by the call of its own. A complaint is raised."""
-        if call.word in self._commands and (not call.corners or max(call.numbers[:len(call.corners)]) <= _GREATEST_CODED):
-            said = self._commands[call.word](self._handle, *map(_code, call.corners), *map(_plain, call.plain))
-            if said != _OK:
-                raise self._complaint(call, said)
-        else:
+        corners = call.corners
+        if call.word not in self._commands or any(call.number(place) > _GREATEST_CODED for place in range(len(corners))):
             self._do_line(str(call))
+            return
+        said = self._commands[call.word](self._handle, *map(_code, corners), *(_way(call.plain) if call.word == 'ringmv' else call.plain))
+        if said != _OK:
+            raise self._complaint(call, said)
 
     def fresh(self) -> Dict[str, range]:
         """For each kind the fresh numbers of the last command that was accepted, where there are any."""
         found, row = {}, Range()
-        for kind in KINDS[1:]:
-            if self._library.gwb_fresh(self._handle, KINDS.index(kind), row) == _FOUND:
+        for number, kind in enumerate(KINDS[1:], 1):
+            if self._library.gwb_fresh(self._handle, number, row) == _FOUND:
                 found[kind] = range(row.first, row.last + 1)
         return found
 

@@ -32,13 +32,12 @@ _NEW_SOLIDS = {'lamina': 0, 'block': 0, 'split': 5}
 
 def changes(call: Call) -> Tuple[Dict[str, int], Dict[str, int]]:
     """The numbers that an accepted command names and makes, and those that it kills: 0 for one of a kind that it doesn't name."""
-    numbers = call.numbers
     if call.word not in _OPERATORS:
-        return ({'solid': numbers[_NEW_SOLIDS[call.word]]} if call.word in _NEW_SOLIDS else {},
+        return ({'solid': call.number(_NEW_SOLIDS[call.word])} if call.word in _NEW_SOLIDS else {},
                 dict.fromkeys(COUNTED_KINDS, 0) if call.word == 'split' else {})
     made, killed = _OPERATORS[call.word]
-    return ({kind: numbers[place] for kind, place in made.items()},
-            {kind: 0 if place < 0 else numbers[place] for kind, place in killed.items()})
+    return ({kind: call.number(place) for kind, place in made.items()},
+            {kind: 0 if place < 0 else call.number(place) for kind, place in killed.items()})
 
 
 def fresh_counts(call: Call, corners: int) -> Dict[str, int]:
@@ -61,7 +60,7 @@ class Seeker:
         """The greatest number of the kind in use, which `held` is then sure of."""
         place = KINDS.index(kind)
         if not held.sure[place]:
-            held.settle(kind, self._sought(kind, held.bounds[place]))
+            held.settle({kind: self._sought(kind, held.bounds[place])})
         return held.bounds[place]
 
     def _sought(self, kind: str, bound: int) -> int:
