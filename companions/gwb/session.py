@@ -37,7 +37,7 @@ class Workbench(Features):
         self.close()
 
     def __repr__(self) -> str:
-        return f'<Workbench, {self._journal.at} commands held>'
+        return f'<Workbench, {self._journal.at} command{"" if self._journal.at == 1 else "s"} held>'
 
     def script(self) -> str:
         """The script of what is held: the accepted commands, a line each; undone ones are left out."""

@@ -229,7 +229,7 @@ class Scripts(unittest.TestCase):
             self.assertIsNone(bench._repr_svg_())
             bench.block((0, 0, 0), (1, 1, 1))
             self.assertTrue(bench._repr_svg_().startswith('<svg'))
-            self.assertEqual(repr(bench), '<Workbench, 1 commands held>')
+            self.assertEqual(repr(bench), '<Workbench, 1 command held>')
 
 
 if __name__ == '__main__':
