@@ -17,14 +17,14 @@ def build_wheel(wheel_directory: str, config_settings: Any = None, metadata_dire
     """Makes the wheel in the folder: its name."""
     target = os.path.abspath(wheel_directory)
     with _in_a_copy():
-        return build_meta.build_wheel(target, config_settings)
+        return str(build_meta.build_wheel(target, config_settings))
 
 
 def build_sdist(sdist_directory: str, config_settings: Any = None) -> str:
     """Makes the archive of the sources in the folder: its name."""
     target = os.path.abspath(sdist_directory)
     with _in_a_copy():
-        return build_meta.build_sdist(target, config_settings)
+        return str(build_meta.build_sdist(target, config_settings))
 
 
 @contextmanager
