@@ -5,6 +5,12 @@
 //! over raw rings: each edge is a pair of nodes, and each ring has a label, which stands for the ring's loop or for none. In proofs/
 //! stand the laws of these together: what the model says by the nodes, and what becomes of rows and rings where loops are cut,
 //! joined, emptied and filled, and where edges come and go.
+//!
+//! # What is proved
+//!
+//! Items that have owners (`Chains`): `insert` and `remove` are equations on the table of owners, `count` is how many items an
+//! owner has, `after` its least item above a number; `reach_owner`, `reach_item` keep all, also on `AllocError`; `copy` is equal.
+//! Rows and rings of half-edges, on which `halfedge_arena` stands.
 #![tactic(auto)]
 
 mod groups;

@@ -1,5 +1,14 @@
 //! The laws that a program on top of the workbench needs: what a session holds after a command that was answered Ok, told from what the
 //! call says of it alone. Each function does nothing: its contract is what is proved, over every machine.
+//!
+//! # What is proved
+//!
+//! Of a session after a command answered Ok: the faces of a lamina, of a block, and of a sweep of a face without rings, each with
+//! its number, solid, corner points and plane; that the solid is there; that each face there before a lamina, block or sweep
+//! keeps its solid and outer loop; after a glue that the first face's solid is there and the other gone, and that each other face
+//! not of the solid that goes keeps its row; the model after n undos; and when a block, a lamina, and a sweep of a face without
+//! rings are accepted. Not proved: the sides of a sweep of a face with rings; the caps of a split; what loops, edges and points
+//! of other solids are after a command; faces of other solids after a split; what `counts` answers after a command.
 #![tactic(auto)]
 
 ghost use Rattle.command_laws.specs.NewFaces.{LaminaHasTwoFaces, LaminaTakesTwoFaces, BlockHasTopAndBottom, BlockHasFourSides, BlockTakesSixFaces, SweptFaceIsFar, SidesStand};

@@ -7,6 +7,14 @@
 //! is of, and mvfs and kvfs), `merge` (Merge and Part), and `shared` (half-edges round a vertex, loops and their walks, models that
 //! answer alike, what conditions say). `kev` and `mef` have both directions of undoing; `kemr` has how mekr takes it back, `mekr` how
 //! kemr does.
+//!
+//! # What is proved
+//!
+//! `effects_are_sound`: an accepted operator keeps a sound model sound, for every operator. `inverses_undo`: its inverse is
+//! accepted after it and gives the model before; `runs_are_undone`: so for lists of operators. `euler_number_grows`: v - e + f -
+//! r grows by 2 at mvfs and mfkrh, falls by 2 at kvfs and kfmrh, and stays at every other operator.
+//! `refusals_name_the_first_false`: of any conditions in their order nothing is refused exactly where each holds, else the first
+//! that doesn't.
 #![tactic(auto)]
 
 ghost use Rattle.euler_laws.specs.Laws.{NothingIsRefusedWhereAllHold, RefusalsNameTheFirstFalse, EmptyIsSound, EffectsAreSound, InversesAreAccepted, InversesUndo, RunsAreSound, InversesOfRunsAreAccepted, InversesOfRunsUndo, LoopsAreOuterOrRings, EulerNumberGrows};

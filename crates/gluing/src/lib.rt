@@ -2,6 +2,14 @@
 //!
 //! `glue_checks` tests the conditions on an arena, in their order; `joining` glues the two faces operator by operator in a draft.
 //! What a glue makes of volumes is said by `glue_measures`.
+//!
+//! # What is proved
+//!
+//! `check_glue`: the first false condition of a glue, with its value, or none, or `AllocError`. `glue`: Ok only where all
+//! conditions hold, and then one command of the machine with exactly the written model, and one record; refused only with the
+//! first false condition and its value; else `Memory`, which may come in place of a refusal; on any failure the session is as it
+//! was, the models ahead included. No operator inside is ever refused. `glue_measures`: what the six volumes of each solid of the
+//! session are after it.
 #![tactic(auto)]
 
 mod command;

@@ -2,6 +2,12 @@
 //! (`glues_add`). Each function does nothing: its contract is what is proved, over every sound model and every glue that isn't refused.
 //!
 //! `glue` goes operator by operator; beside it stand the laws of volumes.
+//!
+//! # What is proved
+//!
+//! `glues_make_glued`: from a sound model and true conditions the operators of a glue are accepted, each in its turn, and
+//! together make exactly the model that `shapes` writes down, which is sound. `glues_add`: the six volumes of the two solids add,
+//! and every other solid keeps its own.
 #![tactic(auto)]
 
 ghost use Rattle.gluing_laws.specs.glue.Laws.{GluesAreAccepted, GluesMakeGlued, GluedAreSound};

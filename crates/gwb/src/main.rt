@@ -3,6 +3,13 @@
 //! Statuses: 0 where each command was answered and none refused, 1 where some reply begins with `refused`, `fault` or
 //! `memory`, 2 where the command line was refused, 3 where the script could not be opened, read or answered to its end;
 //! then standard error has one line.
+//!
+//! # What is proved
+//!
+//! `read_words` gives the flag `--stop` and the value FILE of the matches that clap's own definitions give for the words, and
+//! succeeds only where clap has no cause to refuse them. Refused memory is no mistake in the words, and help that can't be
+//! written is a write fault (`Trouble`). `status_of` answers the status that belongs to how the program ended, which is how `run`
+//! did; that the process ends with it isn't said.
 #![tactic(auto)]
 
 ghost use Rattle.gwb.specs.Endings.{Answered};

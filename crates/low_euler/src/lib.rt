@@ -5,6 +5,13 @@
 //!
 //! `vertex_operators` makes and kills vertices (mvfs, kvfs, mev, kev), `loop_operators` parts and joins loops (mef, kef, kemr, mekr) by
 //! the steps of `loop_steps`, and `face_operators` moves rings and faces (kfmrh, mfkrh, RingIn, RingOut, Outer, Merge, Part).
+//!
+//! # What is proved
+//!
+//! Each operator in place leaves exactly its effect, and nothing else changed. `room_op` makes the room of all that an operator
+//! makes and keeps model and room, also on `AllocError`; where that room is there and no faces are listed it is Ok; `apply`
+//! leaves the effect, a sound model, and answers the inverse, which is accepted and takes the arena back; `replay` has the same
+//! effect. Neither can fail.
 #![tactic(auto)]
 
 mod applying;

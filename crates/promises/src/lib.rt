@@ -10,6 +10,29 @@
 //! - points, sides of a plane and cut points: `lattice/src`;
 //! - the faces of new solids, and which are kept: `command_laws/src/lib.rt`;
 //! - the grammar, the command line and the exit status: `script_reader/src/line.rt`, `gwb/src`.
+//!
+//! # What is proved
+//!
+//! Nothing of its own: each function calls the laws of the crates below, or makes a call, and has what they say as its contract.
+//! A list of calls is answered as the plain machine may answer it, and taken back (`every_list_of_calls_is_answered`,
+//! `lists_of_calls_are_taken_back`), and in one way where no memory is refused (`lists_of_calls_have_one_answer`); so are a call,
+//! an operator, undo, redo and a step of a draft, of which what isn't accepted changes nothing (`every_call_is_answered`,
+//! `every_operator_is_answered`, `every_undo_is_answered`, `every_redo_is_answered`, `every_step_is_answered`); a session begins
+//! with the empty model, and is consistent whoever gave it (`sessions_begin_empty`, `every_session_is_consistent`); a draft holds
+//! the session's model, and becomes one command or leaves no trace (`every_draft_is_opened`, `drafts_become_one_command`,
+//! `drafts_leave_no_trace`); records lead forth and back, and volumes are exact (`records_lead_forth_and_back`,
+//! `volumes_are_answered`). An operator keeps a sound model sound, and its inverse takes it back (`operators_keep_models_sound`,
+//! `inverses_take_operators_back`, `inverses_take_runs_back`); a splice cuts a ring or joins two (`splices_cut_and_join`); a
+//! session is copies and a place, undo goes back and redo forth, and every history is consistent
+//! (`sessions_are_copies_and_a_place`, `undo_goes_back_and_redo_forth`, `every_history_is_consistent`,
+//! `larger_commands_are_one_call`); laminas, blocks and sweeps are made as written down, and measure what is said of them
+//! (`laminas_are_made`, `blocks_are_made`, `sweeps_are_made`, `new_solids_measure`, `sweeps_add_their_prism`); so are glues,
+//! whose volumes add (`glues_are_made`, `glued_solids_add_their_volumes`), and splits, whose parts share the volume and lie on
+//! their sides of the plane (`splits_are_made`, `parts_share_the_volume`, `parts_lie_on_their_sides`); glues and splits are calls
+//! of a history too, and what a session holds after one is said in words of the machine (`glued_solids_are_held`,
+//! `split_solids_are_held`); listings tell models (`listings_tell_models`), and a script has one output
+//! (`scripts_have_one_output`). `every_line_is_answered` runs a script with the contract of `run`. What else single calls answer
+//! is said by their own crates, which the head of the file names.
 #![tactic(auto)]
 
 ghost use Rattle.std.specs.Prelude.{◌≡◌, ◌↔◌, ◌+◌, ◌<◌, OnOk, OnErr, IfOk, IfErr, None, Some, Err, slice_index_or};

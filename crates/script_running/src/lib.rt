@@ -3,6 +3,20 @@
 //! `script_judging` has the answer to one line, and what its command does to the session; `running` the lines one after the other.
 //! `one_output` does nothing: its contract is the law that a script has one output where no reply is `memory`. `laws_below` passes on the
 //! laws of the crates below.
+//!
+//! # What is proved
+//!
+//! `judge` answers a line as the plain machine may, with the session moved likewise, or puts aside the lamina, block, sweep, glue
+//! or split that the line spells, and nothing has changed; `carry_out` answers such a command as the machine may, with the
+//! session moved likewise. Where either answers something other than `ok`, the session is as it was, its records too. `complains`
+//! is true exactly of the answers that begin with `refused`, `fault` or `memory`; `Summary` counts lines and answers (`count`),
+//! and is clean (`is_clean`) exactly where it has none of these. `run` writes replies that the plain machine may give to the
+//! lines of the bytes read, in order, and its `Summary` counts them, whatever comes after these bytes: all lines, or those up to
+//! the reply that stops it. Where no reply stopped it, the reader gave its end; where none is `memory`, what was written is
+//! `output_of` the lines, a function of the text of the script. After a read fault, or where the script is too long, exactly the
+//! lines that came with their newlines are answered; after a write fault a prefix of the replies is out; and where the first
+//! memory was refused nothing was read or written. It returns for every reader. `one_output`: where no reply is `memory`, the
+//! lines of a script have one output, and one summary.
 #![tactic(auto)]
 
 mod laws;

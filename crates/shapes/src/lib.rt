@@ -6,4 +6,11 @@
 //! faces that straddle it, and the solid is opened along the cycles of the section. The lemmas of `walks` are about the faces of a solid,
 //! the loops of a face and the half-edges of a loop; those of `fresh` about tables to which rows are added at fresh numbers,
 //! conditions by search, and numbers that are left.
+//!
+//! # What is proved
+//!
+//! Checked by computation against worked ones: the models that a lamina, a sweep and a block make; the conditions of a glue and
+//! the model that it makes; the conditions of a split and the model that it makes, as three rewritings. The definitions of
+//! normals, planes and volumes, and that sums over half-edges may be joined and turned. The laws of walks over the faces of a
+//! solid, the loops of a face and the half-edges of a loop.
 #![tactic(auto)]

@@ -3,6 +3,11 @@
 //!
 //! `face_walks` has the loops of a face and the half-edges of a loop in the order of listings, `around` the walk round a vertex, both
 //! ways, `numbers` the greatest numbers in use.
+//!
+//! # What is proved
+//!
+//! The loops of a face, outer first, then the rings rising; the half-edges of a loop from the least on. `leads`: whether a
+//! half-edge is of the least edge at its vertex, by a walk both ways round it.
 #![tactic(auto)]
 
 mod around;

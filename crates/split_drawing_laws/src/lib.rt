@@ -7,6 +7,19 @@
 //! (`cut_places_can_be_drawn`, `rewritings_are_accepted`). `half_sides`, `loop_sides`, `face_sides`: on which side of the plane
 //! half-edges, loops and faces lie (`half_edges_take_sides`, `loops_lie_on_one_side`, `faces_lie_on_one_side`). `cut_volumes`,
 //! `drawn_volumes`: the six volumes in each of the two rewritings (`crossings_keep_volumes`, `drawings_keep_volumes`).
+//!
+//! # What is proved
+//!
+//! The first two rewritings, from a sound model and true first conditions of a split: the operators that cut the crossing edges
+//! and draw edges between the cut places are accepted, each in its turn, and together make exactly the drawn model, which is
+//! sound (`operators_cut_crossings`, `drawings_are_made`, `cut_places_can_be_drawn`, `rewritings_are_accepted`).
+//! `crossings_leave`: once the edges are cut no edge of the solid crosses the plane, and at each cut place a half-edge starts.
+//! `half_edges_take_sides`: from true first conditions the half-edges of the solid have sides, which change at cut places alone.
+//! `loops_lie_on_one_side`, `faces_lie_on_one_side`: so a drawing that isn't stuck leaves each loop of the solid on one closed
+//! side of the plane, no face of it that straddles the plane, and no lone loop. The cut places of a face that straddles the plane
+//! are even in number (`cut_places_can_be_drawn`). From the same conditions, cutting edges and drawing faces keeps the six
+//! volumes of every solid, and each face of the solid lies on the plane of a face that it had before (`crossings_keep_volumes`,
+//! `drawings_keep_volumes`).
 #![tactic(auto)]
 
 ghost use Rattle.split_drawing_laws.specs.crossings.Laws.{CrossingsAreAccepted, CrossingsAreMade, CrossingsAreSound, CrossingsAreCounted, CrossingsKeep, NoneCrosses, PlacesStart, TailsStay};

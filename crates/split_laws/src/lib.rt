@@ -7,6 +7,19 @@
 //! (`parting_shares_volumes`, `closed_holes_keep_volumes`, `splits_share_volumes`). `sides`: where the parts lie
 //! (`parts_lie_on_their_sides`). `measures`: the same of every split that isn't refused (`splits_can_be_split`, `parts_share_volumes`,
 //! `parts_lie_on_either_side`).
+//!
+//! # What is proved
+//!
+//! A split that isn't refused: once its faces are drawn the solid has a face above and one that isn't
+//! (`solids_reach_both_sides`), and can be opened along its section (`sections_can_be_opened`). `splits_make_split`: all its
+//! operators are accepted, each in its turn, and together make exactly the split's model, which is sound. Opening a solid along
+//! cycles on a plane keeps the six volumes of every solid; and the two parts of a solid opened so share its six volumes, every
+//! other solid keeping its own (`SplitSharesVolumes`, over a drawn model with `CanBeSplit`). Where no face of a solid straddles
+//! the plane, the part above lies on or above it, and the part that stays on or below it, half-edge by half-edge (over the same
+//! `CanBeSplit`). Every split that isn't refused meets `CanBeSplit` once its faces are drawn (`splits_can_be_split`). So the two
+//! parts are solids of the model, their six volumes sum to those of the solid, and every other solid keeps its own
+//! (`parts_share_volumes`); and no vertex of the solid that keeps its number lies above the plane, none of the new one below it,
+//! since no loop of either is lone (`parts_lie_on_either_side`).
 #![tactic(auto)]
 
 ghost use Rattle.split_laws.specs.drawn.Laws.{DrawingsKeepSolids, SolidsHaveAFaceAbove, SolidsHaveAFaceBelow, SectionsOpenInTurn};

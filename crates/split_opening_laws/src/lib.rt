@@ -6,6 +6,14 @@
 //! point is looked at there. `sections`: one cycle after the other (`other_cycles_stay`, `cycles_open_in_turn`,
 //! `caps_have_no_rings`). `strips`, `copies`, `caps`: the three steps along one cycle (`strips_are_cut`, `copies_are_raised`,
 //! `strips_make_caps`). `opening`: these together (`cycles_open_solids`).
+//!
+//! # What is proved
+//!
+//! Where no vertex is branched, the edges between the faces above and the others form cycles, each half-edge in one, with no
+//! other section edge at their vertices; a solid opened along one of them is sound and still has the others; so it can be opened
+//! along all, after which no edge lies between an upper face and another. `cycles_open_solids`: the operators that open a solid
+//! along one such cycle are accepted, each in its turn, and together make exactly the third rewriting for it, which is sound:
+//! strips cut off above the edges, copies raised at the vertices, and caps made of the strips.
 #![tactic(auto)]
 
 ghost use Rattle.split_opening_laws.specs.cycles.Laws.{BelowHalvesRise, BelowHalvesAre, AsManyStartAsEnd, OneStartsAndOneEnds, NextBelowPermutes, CyclesCover, CyclesRise, CyclesLeadRound, CyclesAreApart};

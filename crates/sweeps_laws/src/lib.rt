@@ -5,6 +5,15 @@
 //!
 //! `lamina` and `prism` go operator by operator, `swept` says what one loop of a face that is swept becomes, and beside them stand the
 //! laws of volumes.
+//!
+//! # What is proved
+//!
+//! From a sound model and true conditions the operators of a lamina (`operators_make_lamina`) and of a sweep
+//! (`sweeps_make_prisms`) are accepted, each in its turn, and together make exactly the model that `shapes` writes down; so are
+//! those of a block (`operators_make_blocks`). `sweeps_add`: a sweep adds three times `N . d` to the six volumes of the face's
+//! solid, N the normal of the face before, for bent faces and faces with rings too. `blocks_measure`: a block has six times the
+//! product of its sizes. `laminas_measure`: a lamina has the difference of its first two points along the normal of its first
+//! face, which is nothing where that face is flat. Every other solid keeps its own in each of these.
 #![tactic(auto)]
 
 ghost use Rattle.sweeps_laws.specs.lamina.Laws.{OperatorsAreAccepted, OperatorsMakeLamina, LaminaIsSound, BlocksHaveBases, BasesRise};
