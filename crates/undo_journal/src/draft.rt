@@ -22,7 +22,7 @@ use std::marker::Model;
 /// `forward` holds the steps, and `back` the inverse of each. There is a place for one more record.
 pub struct Draft {
     alloc: Global,
-    arena: Arena,
+    arena: Box<Arena, Global>,
     records: Vec<Record>,
     place: usize,
     forward: Vec<Op>,
@@ -40,9 +40,9 @@ impl Model for Draft {
 
     ghost use Rattle.undo_journal.specs.Held.{draft_of, IsDrafted};
 
-    ghost view = { λ d. draft_of d.arena.model d.records.items d.place d.forward.items d.back.items };
+    ghost view = { λ d. draft_of d.arena.value.model d.records.items d.place d.forward.items d.back.items };
 
-    ghost invariant = { λ d. (vec_len d.records < vec_capacity d.records) × IsDrafted d.arena d.records.items d.place d.forward.items d.back.items };
+    ghost invariant = { λ d. (vec_len d.records < vec_capacity d.records) × IsDrafted d.arena.value d.records.items d.place d.forward.items d.back.items };
 }
 
 impl Draft {
@@ -80,7 +80,7 @@ impl Draft {
         ensures forward_room { AllHaveRoom result.now self.now.forward }
         ensures back_room { AllHaveRoom result.now self.now.back }
     {
-        &self.arena
+        &*self.arena
     }
 
     /// The session of a draft is as `Session::stays_consistent` says, and accepted operators make the draft's model of the model that it
@@ -90,7 +90,7 @@ impl Draft {
         ensures model { Sound self.now.model }
         ensures follows { Follows (held self.now.session.machine) self.now.model }
     {
-        let _ = &self.arena;
+        let _ = &*self.arena;
     }
 
     /// One operator that is accepted, as a step: its conditions aren't tested. All memory for it and for its inverse is taken before
@@ -102,7 +102,7 @@ impl Draft {
     {
         step(
             self.alloc,
-            &mut self.arena,
+            &mut *self.arena,
             &mut self.forward,
             &mut self.back,
             op,
@@ -116,7 +116,7 @@ impl Draft {
         ensures refused { (refusal : Refusal) → ((result ≡ Err (Failure.Refused refusal)) ↔ (first_false self.old.model op ≡ Some refusal)) }
         ensures err { OnErr result (self.new ≡ self.old) }
     {
-        if let Err(refusal) = check(self.arena(), &op) {
+        if let Err(refusal) = check(&*self.arena, &op) {
             return Err(Failure::Refused(refusal));
         }
         match self.step_accepted(op) {
@@ -165,7 +165,7 @@ impl Draft {
             mut back,
         } = self;
         back.reverse();
-        replay_all(&mut arena, back.as_slice());
+        replay_all(&mut *arena, back.as_slice());
         Session {
             alloc,
             arena,

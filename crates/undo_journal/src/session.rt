@@ -28,7 +28,7 @@ pub enum Failure {
 #[derive(Drop)]
 pub struct Session {
     pub(crate) alloc: Global,
-    pub(crate) arena: Arena,
+    pub(crate) arena: Box<Arena, Global>,
     pub(crate) records: Vec<Record>,
     pub(crate) place: usize,
 }
@@ -42,9 +42,9 @@ impl Model for Session {
 
     ghost use Rattle.undo_journal.specs.Held.{journal_of, IsKept};
 
-    ghost view = { λ s. journal_of s.arena.model s.records.items s.place };
+    ghost view = { λ s. journal_of s.arena.value.model s.records.items s.place };
 
-    ghost invariant = { λ s. IsKept s.arena s.records.items s.place };
+    ghost invariant = { λ s. IsKept s.arena.value s.records.items s.place };
 }
 
 impl Session {
@@ -54,7 +54,7 @@ impl Session {
     {
         Ok(Session {
             alloc,
-            arena: Arena::new(alloc),
+            arena: Box::new(alloc, Arena::new(alloc))?,
             records: Vec::with_capacity(alloc, 1)?,
             place: 0,
         })
@@ -66,7 +66,7 @@ impl Session {
         ensures ready { IsReady result.now }
         ensures room { RecordsHaveRoom result.now self.now.records }
     {
-        &self.arena
+        &*self.arena
     }
 
     /// A session's models are sound, and each next one is made by accepted operators, whoever gave the session. It does nothing: its
@@ -74,7 +74,7 @@ impl Session {
     pub fn stays_consistent(&self)
         ensures { IsConsistent self.now.machine }
     {
-        let _ = &self.arena;
+        let _ = &*self.arena;
     }
 
     /// How many commands can be undone.
@@ -110,7 +110,7 @@ impl Session {
         ensures err { OnErr result (self.new ≡ self.old) }
     {
         self.records.reserve(1)?;
-        let inverse = advance(self.alloc, &mut self.arena, &op)?;
+        let inverse = advance(self.alloc, &mut *self.arena, &op)?;
         self.records.truncate(self.place);
         let record = Record {
             forward: OpList::one(op),
@@ -129,7 +129,7 @@ impl Session {
         ensures refused { (refusal : Refusal) → ((result ≡ Err (Failure.Refused refusal)) ↔ (act_refusal self.old.machine op ≡ Some refusal)) }
         ensures err { OnErr result (self.new ≡ self.old) }
     {
-        if let Err(refusal) = check(self.arena(), &op) {
+        if let Err(refusal) = check(&*self.arena, &op) {
             return Err(Failure::Refused(refusal));
         }
         match self.accept(op) {
@@ -152,7 +152,7 @@ impl Session {
         }
         self.place -= 1;
         let record = &self.records[self.place];
-        replay_all(&mut self.arena, record.back.as_slice());
+        replay_all(&mut *self.arena, record.back.as_slice());
         Ok(())
     }
 
@@ -169,7 +169,7 @@ impl Session {
             });
         }
         let record = &self.records[self.place];
-        replay_all(&mut self.arena, record.forward.as_slice());
+        replay_all(&mut *self.arena, record.forward.as_slice());
         self.place += 1;
         Ok(())
     }

@@ -9,10 +9,11 @@ use Rattle.undo_journal.proofs.draft.Draft.abandon.Goals as goal
 
 pub replay_all-requires-clause-room : goal.replay_all-requires-clause-room
 replay_all-requires-clause-room c =
-    subst (AllHaveRoom c.self.inside.arena) (sym (c.as_slice.ensures.value ∙ c.reverse.ensures.items)) (ops-reverse c.self.inside.arena _ c.self.invariant.1.back_room)
+    subst (λ (s : Store). AllHaveRoom s c.as_slice.result.now) (sym c.deref_mut.ensures.value)
+    (subst (AllHaveRoom c.self.inside.arena.value) (sym (c.as_slice.ensures.value ∙ c.reverse.ensures.items)) (ops-reverse c.self.inside.arena.value _ c.self.invariant.1.back_room))
 
-abbrev arena : (c : goal.After-drop-forward) → c.replay_all.new.arena ≡ all_after c.self.inside.arena (reverse c.self.inside.back.items)
-arena c = c.replay_all.ensures.effects ∙ ap (all_after c.self.inside.arena) (c.as_slice.ensures.value ∙ c.reverse.ensures.items)
+abbrev arena : (c : goal.After-drop-forward) → c.replay_all.new.arena ≡ all_after c.self.inside.arena.value (reverse c.self.inside.back.items)
+arena c = c.replay_all.ensures.effects ∙ ap (λ (s : Store). all_after s c.as_slice.result.now) c.deref_mut.ensures.value ∙ ap (all_after c.self.inside.arena.value) (c.as_slice.ensures.value ∙ c.reverse.ensures.items)
 
 pub invariant_of-result : goal.invariant_of-result
 invariant_of-result c =

@@ -16,9 +16,9 @@ records c =
 
 pub invariant_of-result : goal.invariant_of-result
 invariant_of-result c =
-    subst (λ (rs : List Record). IsKept c.self.inside.arena rs (c.self.inside.place + 1)) (sym (records c)) (kept_commit _ _ _ _ _ c.self.invariant.1)
+    subst (λ (rs : List Record). IsKept c.self.inside.arena.value rs (c.self.inside.place + 1)) (sym (records c)) (kept_commit _ _ _ _ _ c.self.invariant.1)
 
 pub returns : goal.returns
 returns c =
-    ap (λ (rs : List Record). journal_of c.self.inside.arena.model rs (c.self.inside.place + 1)) (records c)
+    ap (λ (rs : List Record). journal_of c.self.inside.arena.value.model rs (c.self.inside.place + 1)) (records c)
     ∙ commit_seen _ _ _ _ _ _ c.self.invariant.1 c.self.view_is

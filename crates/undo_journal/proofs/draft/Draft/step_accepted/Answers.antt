@@ -25,13 +25,33 @@ module _ (s t : Store) (records : List Record) (place : ℕ) (forward back : Lis
   seen_ok d seen (Ok u) stepped fs bs = ap (λ (x : List Op). draft_of t.model records place x b) fs ∙ ap (draft_of t.model records place (forward ++ o ∷ [])) bs ∙ step_seen s records place forward back d kept seen t o goes stepped
   seen_ok d seen (Err e) stepped fs bs = tt
 
-abbrev goes_on : (c : goal.After-step) → first_false c.self.inside.arena.model c.args.op ≡ None
+-- what the step does to the arena, in its box
+module _ (s t u : Store) (o : Op) (at : s ≡ t) (r : Result (Unit {0}) AllocError) where
+  stepped_at : OnOk r (IsStepped s o u) → OnOk r (IsStepped t o u)
+  stepped_at h = subst (λ (x : Store). OnOk r (IsStepped x o u)) at h
+
+  back_at : (b back : List Op) → OnOk r (b ≡ back ++ inverse s.model o ∷ []) → OnOk r (b ≡ back ++ inverse t.model o ∷ [])
+  back_at b back h = subst (λ (x : Store). OnOk r (b ≡ back ++ inverse x.model o ∷ [])) at h
+
+  grown_at : OnErr r (HasGrown s u) → OnErr r (HasGrown t u)
+  grown_at h = subst (λ (x : Store). OnErr r (HasGrown x u)) at h
+
+abbrev goes_on : (c : goal.After-self-1) → first_false c.self.inside.arena.value.model c.args.op ≡ None
 goes_on c = ap (λ (d : DraftJournal). first_false d.model c.args.op) c.self.view_is ∙ c.requires
+
+pub step-requires-clause-accepted : goal.step-requires-clause-accepted
+step-requires-clause-accepted c =
+    subst (λ (x : Store). first_false x.model c.args.op ≡ None) (sym c.deref_mut.ensures.value) (ap (λ (d : DraftJournal). first_false d.model c.args.op) c.self.view_is ∙ c.requires)
 
 pub invariant_of-self : goal.invariant_of-self
 invariant_of-self c =
-    (c.self.invariant.0, either _ _ _ _ _ _ _ c.self.invariant.1 (goes_on c) _ _ c.step.result c.step.ensures.stepped c.step.ensures.forward c.step.ensures.back c.step.ensures.err c.step.ensures.err_forward c.step.ensures.err_back)
+    let at = c.deref_mut.ensures.value in (
+      c.self.invariant.0,
+      either _ _ _ _ _ _ _ c.self.invariant.1 (goes_on c) _ _ c.step.result (stepped_at _ _ _ _ at _ c.step.ensures.stepped) c.step.ensures.forward (back_at _ _ c.step.new.arena _ at _ _ _ c.step.ensures.back)
+          (grown_at _ _ _ c.args.op at _ c.step.ensures.err) c.step.ensures.err_forward c.step.ensures.err_back,
+    )
 
 pub returns-clause-ok : goal.returns-clause-ok
 returns-clause-ok c =
-    seen_ok _ c.step.new.arena _ _ _ _ _ c.self.invariant.1 (goes_on c) c.step.new.forward.items _ _ c.self.view_is c.step.result c.step.ensures.stepped c.step.ensures.forward c.step.ensures.back
+    let at = c.deref_mut.ensures.value in
+    seen_ok _ c.step.new.arena _ _ _ _ _ c.self.invariant.1 (goes_on c) c.step.new.forward.items _ _ c.self.view_is c.step.result (stepped_at _ _ _ _ at _ c.step.ensures.stepped) c.step.ensures.forward (back_at _ _ c.step.new.arena _ at _ _ _ c.step.ensures.back)

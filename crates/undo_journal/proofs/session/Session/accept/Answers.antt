@@ -1,34 +1,40 @@
-use Rattle.std.specs.Prelude.{◌≡◌, ◌+◌, ◌++◌, List, [], ◌∷◌, take}
+use Rattle.std.specs.Prelude.{◌≡◌, None, ◌+◌, ◌++◌, List, [], ◌∷◌, take}
 use Rattle.std.proofs.Common.{sym, subst, ap, ◌∙◌}
 use Rattle.euler_operators.specs.declared.Op.{Op}
+use Rattle.euler_operators.specs.Conditions.{first_false}
 use Rattle.euler_operators.specs.Effect.{inverse}
+use Rattle.low_euler.specs.Store.{Store, HasGrown}
 use Rattle.undo_journal.specs.declared.record.Record.{Record}
-use Rattle.undo_journal.specs.Held.{journal_of, IsKept}
+use Rattle.undo_journal.specs.Held.{journal_of, IsKept, IsStepped}
 use Rattle.undo_journal.proofs.Kept.{kept_act, kept_grown}
 use Rattle.undo_journal.proofs.Seen.{goes_seen, act_seen}
 use Rattle.undo_journal.proofs.session.Session.accept.Goals as goal
 
 pub advance-requires-clause-accepted : goal.advance-requires-clause-accepted
-advance-requires-clause-accepted c = goes_seen _ _ _ _ c.self.invariant c.self.view_is _ c.requires
+advance-requires-clause-accepted c =
+    subst (λ (s : Store). first_false s.model c.args.op ≡ None) (sym c.deref_mut.ensures.value) (goes_seen _ _ _ _ c.self.invariant c.self.view_is _ c.requires)
 
 pub invariant_of-self-in_err-inverse : goal.invariant_of-self-in_err-inverse
 invariant_of-self-in_err-inverse c =
     subst (λ (rs : List Record). IsKept c.advance.new.arena rs c.self.inside.place) (sym c.reserve.ensures.items)
-    (kept_grown _ _ _ _ c.in_err-inverse.ensures.err c.self.invariant)
+    (kept_grown _ _ _ _ (subst (λ (s : Store). HasGrown s c.advance.new.arena) c.deref_mut.ensures.value c.in_err-inverse.ensures.err) c.self.invariant)
 
-abbrev records : (c : goal.After-self-1) → c.push.new.self.items ≡ take c.self.inside.place c.self.inside.records.items ++ record { forward = c.args.op ∷ []; back = inverse c.self.inside.arena.model c.args.op ∷ [] } ∷ []
+abbrev records : (c : goal.After-self-2-1) → c.push.new.self.items ≡ take c.self.inside.place c.self.inside.records.items ++ record { forward = c.args.op ∷ []; back = inverse c.self.inside.arena.value.model c.args.op ∷ [] } ∷ []
 records c =
     (rw c.unwrap.ensures at c.push.ensures.items)
     ∙ ap (λ (rs : List Record). rs ++ record { forward = c.one.result; back = c.one-2.result } ∷ []) (c.truncate.ensures.items ∙ ap (take c.self.inside.place) c.reserve.ensures.items)
     ∙ ap (λ (ops : List Op). take c.self.inside.place c.self.inside.records.items ++ record { forward = ops; back = c.one-2.result } ∷ []) c.one.ensures
-    ∙ ap (λ (ops : List Op). take c.self.inside.place c.self.inside.records.items ++ record { forward = c.args.op ∷ []; back = ops } ∷ []) (c.one-2.ensures ∙ ap (λ (op : Op). op ∷ []) c.in_ok-inverse.ensures.inverse)
+    ∙ ap (λ (ops : List Op). take c.self.inside.place c.self.inside.records.items ++ record { forward = c.args.op ∷ []; back = ops } ∷ []) (c.one-2.ensures ∙ ap (λ (op : Op). op ∷ []) (c.in_ok-inverse.ensures.inverse ∙ ap (λ (s : Store). inverse s.model c.args.op) c.deref_mut.ensures.value))
+
+abbrev stepped : (c : goal.After-self-2-1) → IsStepped c.self.inside.arena.value c.args.op c.advance.new.arena
+stepped c = subst (λ (s : Store). IsStepped s c.args.op c.advance.new.arena) c.deref_mut.ensures.value c.in_ok-inverse.ensures.stepped
 
 pub invariant_of-self-2 : goal.invariant_of-self-2
 invariant_of-self-2 c =
     subst (λ (rs : List Record). IsKept c.advance.new.arena rs (c.self.inside.place + 1)) (sym (records c))
-    (kept_act _ _ _ _ _ c.self.invariant (goes_seen _ _ _ _ c.self.invariant c.self.view_is _ c.requires) c.in_ok-inverse.ensures.stepped)
+    (kept_act _ _ _ _ _ c.self.invariant (goes_seen _ _ _ _ c.self.invariant c.self.view_is _ c.requires) (stepped c))
 
 pub returns-clause-ok : goal.returns-clause-ok
 returns-clause-ok c =
     ap (λ (rs : List Record). journal_of c.advance.new.arena.model rs (c.self.inside.place + 1)) (records c)
-    ∙ act_seen _ _ _ _ c.self.invariant c.self.view_is _ _ (goes_seen _ _ _ _ c.self.invariant c.self.view_is _ c.requires) c.in_ok-inverse.ensures.stepped
+    ∙ act_seen _ _ _ _ c.self.invariant c.self.view_is _ _ (goes_seen _ _ _ _ c.self.invariant c.self.view_is _ c.requires) (stepped c)

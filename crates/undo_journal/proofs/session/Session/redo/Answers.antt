@@ -20,16 +20,18 @@ within c = more_ahead _ _ _ _ c.self.invariant c.self.view_is _ c.ahead.ensures 
 
 pub replay_all-requires-clause-accepted : goal.replay_all-requires-clause-accepted
 replay_all-requires-clause-accepted c =
-    subst (AreAccepted c.self.inside.arena.model) (sym c.as_slice.ensures) (goes_on _ _ _ c.self.invariant.journal _ (within c) c.index-record.ensures)
+    subst (λ (s : Store). AreAccepted s.model c.as_slice.result.now) (sym c.deref_mut.ensures.value)
+    (subst (AreAccepted c.self.inside.arena.value.model) (sym c.as_slice.ensures) (goes_on _ _ _ c.self.invariant.journal _ (within c) c.index-record.ensures))
 
 pub replay_all-requires-clause-room : goal.replay_all-requires-clause-room
 replay_all-requires-clause-room c =
-    subst (AllHaveRoom c.self.inside.arena) (sym c.as_slice.ensures) (record_room c.self.inside.arena _ _ _ (within c) c.index-record.ensures c.self.invariant.room).0
+    subst (λ (s : Store). AllHaveRoom s c.as_slice.result.now) (sym c.deref_mut.ensures.value)
+    (subst (AllHaveRoom c.self.inside.arena.value) (sym c.as_slice.ensures) (record_room c.self.inside.arena.value _ _ _ (within c) c.index-record.ensures c.self.invariant.room).0)
 
-abbrev arena : (c : goal.After-self-1) → c.replay_all.new.arena ≡ all_after c.self.inside.arena c.index-record.result.now.forward
-arena c = c.replay_all.ensures.effects ∙ ap (all_after c.self.inside.arena) c.as_slice.ensures
+abbrev arena : (c : goal.After-self-2-1) → c.replay_all.new.arena ≡ all_after c.self.inside.arena.value c.index-record.result.now.forward
+arena c = c.replay_all.ensures.effects ∙ ap (λ (s : Store). all_after s c.as_slice.result.now) c.deref_mut.ensures.value ∙ ap (all_after c.self.inside.arena.value) c.as_slice.ensures
 
-kept : (c : goal.After-self-1) → IsKept (all_after c.self.inside.arena c.index-record.result.now.forward) c.self.inside.records.items (c.self.inside.place + 1)
+kept : (c : goal.After-self-2-1) → IsKept (all_after c.self.inside.arena.value c.index-record.result.now.forward) c.self.inside.records.items (c.self.inside.place + 1)
 kept c =
     let more : c.self.inside.place < length c.self.inside.records.items = more_ahead _ _ _ _ c.self.invariant c.self.view_is _ c.ahead.ensures (omega (arith, c.if-ahead-eq0.false)) in
     kept_redo _ _ _ _ more c.index-record.ensures c.self.invariant (subst IsReady (arena c) c.replay_all.ensures.ready)

@@ -17,18 +17,20 @@ use Rattle.undo_journal.proofs.session.Session.undo.Goals as goal
 pub replay_all-requires-clause-accepted : goal.replay_all-requires-clause-accepted
 replay_all-requires-clause-accepted c =
     let before : 0 < c.self.inside.place = omega (arith, c.if-self-eq0.false) in
-    subst (AreAccepted c.self.inside.arena.model) (sym c.as_slice.ensures) (goes_back _ _ _ before c.self.invariant.journal _ c.index-record.ensures)
+    subst (λ (s : Store). AreAccepted s.model c.as_slice.result.now) (sym c.deref_mut.ensures.value)
+    (subst (AreAccepted c.self.inside.arena.value.model) (sym c.as_slice.ensures) (goes_back _ _ _ before c.self.invariant.journal _ c.index-record.ensures))
 
 pub replay_all-requires-clause-room : goal.replay_all-requires-clause-room
 replay_all-requires-clause-room c =
     let within = c.self.invariant.journal.placed in
-    subst (AllHaveRoom c.self.inside.arena) (sym c.as_slice.ensures)
-    (record_room c.self.inside.arena _ _ _ (omega (arith, c.if-self-eq0.false, within)) c.index-record.ensures c.self.invariant.room).1
+    subst (λ (s : Store). AllHaveRoom s c.as_slice.result.now) (sym c.deref_mut.ensures.value)
+    (subst (AllHaveRoom c.self.inside.arena.value) (sym c.as_slice.ensures)
+    (record_room c.self.inside.arena.value _ _ _ (omega (arith, c.if-self-eq0.false, within)) c.index-record.ensures c.self.invariant.room).1)
 
-abbrev arena : (c : goal.After-replay_all) → c.replay_all.new.arena ≡ all_after c.self.inside.arena c.index-record.result.now.back
-arena c = c.replay_all.ensures.effects ∙ ap (all_after c.self.inside.arena) c.as_slice.ensures
+abbrev arena : (c : goal.After-self-2-1) → c.replay_all.new.arena ≡ all_after c.self.inside.arena.value c.index-record.result.now.back
+arena c = c.replay_all.ensures.effects ∙ ap (λ (s : Store). all_after s c.as_slice.result.now) c.deref_mut.ensures.value ∙ ap (all_after c.self.inside.arena.value) c.as_slice.ensures
 
-kept : (c : goal.After-replay_all) → IsKept (all_after c.self.inside.arena c.index-record.result.now.back) c.self.inside.records.items (c.self.inside.place - 1)
+kept : (c : goal.After-self-2-1) → IsKept (all_after c.self.inside.arena.value c.index-record.result.now.back) c.self.inside.records.items (c.self.inside.place - 1)
 kept c =
     let before : 0 < c.self.inside.place = omega (arith, c.if-self-eq0.false) in
     kept_undo _ _ _ _ before c.index-record.ensures c.self.invariant (subst IsReady (arena c) c.replay_all.ensures.ready)
