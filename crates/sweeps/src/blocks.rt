@@ -89,7 +89,7 @@ fn base(corner: Point, size: Point) -> ArrayVec<Point, 64>
 
 /// Draws a block whose conditions hold: the lamina of its base, and then the sweep of the lamina's first face. Where memory is
 /// refused the draft holds what was drawn so far.
-fn draw_block(
+fn draw_base_and_walls(
     alloc: Global,
     draft: &mut Draft,
     solid: u32,
@@ -107,6 +107,23 @@ fn draw_block(
     up.x = 0;
     up.y = 0;
     raise(alloc, draft, taken.faces + 1, up)
+}
+
+/// Draws a block whose conditions hold, with the memory for its thirteen steps taken at once. Where memory is refused the draft holds
+/// what was drawn so far.
+fn draw_block(
+    alloc: Global,
+    draft: &mut Draft,
+    solid: u32,
+    corner: Point,
+    size: Point,
+) -> Result<(), AllocError>
+    requires { spec.block_refusal draft.old.model solid corner size.x size.y size.z ≡ None }
+    ensures ok { OnOk result (draft.new.model ≡ block_model draft.old.model solid corner size.x size.y size.z) }
+    ensures session { draft.new.session ≡ draft.old.session }
+{
+    draft.reserve(13)?;
+    draw_base_and_walls(alloc, draft, solid, corner, size)
 }
 
 /// A block as one command, by its sizes in one vector.

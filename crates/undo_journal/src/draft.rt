@@ -93,6 +93,14 @@ impl Draft {
         let _ = &*self.arena;
     }
 
+    /// Takes the memory for so many more steps to be listed, all at once. Nothing else changes, also on `AllocError`.
+    pub fn reserve(&mut self, steps: usize) -> Result<(), AllocError>
+        ensures { self.new ≡ self.old }
+    {
+        self.forward.reserve(steps)?;
+        self.back.reserve(steps)
+    }
+
     /// One operator that is accepted, as a step: its conditions aren't tested. All memory for it and for its inverse is taken before
     /// the change. Where memory is refused nothing has changed, and the draft goes on.
     pub fn step_accepted(&mut self, op: Op) -> Result<(), AllocError>

@@ -1,7 +1,7 @@
 use Rattle.std.proofs.Common.{arith, refl, ◌∙◌}
 use Rattle.std.proofs.lemmas.Result.{on_ok_weaker}
 use Rattle.sweeps.proofs.BlockSteps.{corner_fits, base_goes, rise_goes, rise_makes}
-use Rattle.sweeps.proofs.blocks.draw_block.Goals as goal
+use Rattle.sweeps.proofs.blocks.draw_base_and_walls.Goals as goal
 
 pub base-corners-requires-clause-second : goal.base-corners-requires-clause-second
 base-corners-requires-clause-second c = corner_fits _ c.args.solid c.args.corner c.args.size.x c.args.size.y c.args.size.z c.requires _ c.arena.ensures.model c.arena.ensures.ready.sound 1 (omega arith)
