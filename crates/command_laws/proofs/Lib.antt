@@ -7,3 +7,7 @@ mod Kept
 mod Places
 mod Accepted
 mod Glued
+mod OnFaces
+mod SweptAlone
+mod GluedAlone
+mod DrawnAlone

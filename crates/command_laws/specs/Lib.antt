@@ -4,3 +4,5 @@ pub mod NewFaces
 pub mod Kept
 pub mod Places
 pub mod Accepted
+pub mod LeftAlone
+pub mod Framed

@@ -7,15 +7,22 @@
 //! its number, solid, corner points and plane; that the solid is there; that each face there before a lamina, block or sweep
 //! keeps its solid and outer loop; after a glue that the first face's solid is there and the other gone, and that each other face
 //! not of the solid that goes keeps its row; the model after n undos; and when a block, a lamina, and a sweep of a face without
-//! rings are accepted. Not proved: the sides of a sweep of a face with rings; the caps of a split; what loops, edges and points
-//! of other solids are after a command; faces of other solids after a split; what `counts` answers after a command.
+//! rings are accepted. After a lamina, a block and a sweep, with rings too, each face there before is of the solid that it was,
+//! each loop has its face and its content, but for those of the face that was swept, each edge its ends, and each vertex its
+//! point; after a glue so it is with the faces that weren't of the solid that goes, but for the first face and its loop. Not
+//! proved: the sides of a sweep of a face with rings; the caps of a split; what faces, loops, edges and points of other solids
+//! are after a split; what `counts` answers after a command.
 #![tactic(auto)]
+
+mod frames;
 
 ghost use Rattle.command_laws.specs.NewFaces.{LaminaHasTwoFaces, LaminaTakesTwoFaces, BlockHasTopAndBottom, BlockHasFourSides, BlockTakesSixFaces, SweptFaceIsFar, SidesStand};
 ghost use Rattle.command_laws.specs.Accepted.{BlocksFit, LaminasFit, SweepsFit};
 ghost use Rattle.command_laws.specs.Kept.{LaminaKeepsFaces, BlockKeepsFaces, SweepKeepsFaces, GlueKeepsFaces, StartHasNoFace};
 ghost use Rattle.command_laws.specs.Places.{UndosGoBack};
 ghost use Rattle.command_laws.specs.Solids.{BlocksAreThere, LaminasAreThere, SweptAreThere, SweepsKeepSolids, GluesJoinSolids};
+
+pub use frames::{blocks_leave_alone, glues_leave_alone, laminas_leave_alone, sweeps_leave_alone};
 
 /// After a lamina: the face next to the greatest before goes round its points, and the one after that the other way round.
 pub fn laminas_make_faces()

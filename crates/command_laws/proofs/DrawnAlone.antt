@@ -1,0 +1,120 @@
+-- What a lamina and a block leave as they were.
+use Rattle.std.specs.Prelude.{length}
+use Rattle.std.proofs.Common.{◌≡◌, ◌≢◌, ℕ, zero, suc, ◌+◌, ◌-◌, ◌≤◌, ℤ, List, None, is_some, sym, ap, ◌∙◌, refl, arith}
+use Rattle.euler_operators.specs.declared.Point.{Point}
+use Rattle.euler_operators.specs.HalfEdge.{edge_of}
+use Rattle.euler_operators.specs.Table as table
+use Rattle.euler_operators.specs.Table.{Table}
+use Rattle.euler_operators.specs.Model.{Model, EdgeRow, face_of}
+use Rattle.euler_operators.specs.Sound.{Sound, Has}
+use Rattle.euler_operators.proofs.Tables.{get-put_other}
+use Rattle.euler_operators.proofs.Models.{same_face, same_solid}
+use Rattle.shapes.specs.Fresh.{taken_in}
+use Rattle.shapes.specs.Lamina.{lamina_refusal, lamina_model, lamina_face, with_points, with_path}
+use Rattle.shapes.specs.Block.{base_of, block_refusal, block_model}
+use Rattle.shapes.proofs.fresh.Rows.{at_most_greatest}
+use Rattle.sweeps_laws.proofs.lamina.Walk.{lamina_goes, lamina_is_sound}
+use Rattle.sweeps_laws.proofs.lamina.Blocks.{blocks_have_bases, bases_rise}
+use Rattle.undo_journal.specs.Machine.{held}
+use Rattle.command_laws.specs.NewFaces.{up_by}
+use Rattle.command_laws.specs.Framed.{LaminaKeepsOwners, LaminaKeepsLoops, LaminaKeepsEdges, LaminaKeepsPoints, BlockKeepsOwners, BlockKeepsLoops, BlockKeepsEdges, BlockKeepsPoints}
+use Rattle.command_laws.proofs.Kept.{lamina_keeps_faces, block_keeps_faces}
+use Rattle.command_laws.proofs.OnFaces.{vertex_there}
+use Rattle.command_laws.proofs.SweptAlone.{prism_keeps_loops, prism_keeps_edges, prism_keeps_points}
+
+-- ---- a lamina
+
+past : (q a i : ℕ) → q ≤ a → q ≢ a + suc i
+past q a i m e = absurd (omega arith)
+
+path_keeps : (t : Table EdgeRow) (e v n q : ℕ) → q ≤ e → table.get (with_path t e v n) q ≡ table.get t q
+path_keeps t e v zero q m = refl
+path_keeps t e v (suc n) q m = get-put_other (with_path t e v n) (e + suc n) _ q (past q e n m) ∙ path_keeps t e v n q m
+
+points_keep : (t : Table Point) (v : ℕ) (ps : List Point) (n q : ℕ) → q ≤ v → table.get (with_points t v ps n) q ≡ table.get t q
+points_keep t v ps zero q m = refl
+points_keep t v ps (suc n) q m = get-put_other (with_points t v ps n) (v + suc n) _ q (past q v n m) ∙ points_keep t v ps n q m
+
+module _ (M : Model) (s : ℕ) (ps : List Point) where
+  lamina_keeps : (l : ℕ) → Has M.loops l → table.get (lamina_model M s ps).loops l ≡ table.get M.loops l
+  unfolding lamina_model taken_in
+  lamina_keeps l there = let g = table.greatest M.loops in let m = at_most_greatest M.loops l there in
+      get-put_other (table.put M.loops (g + 1) _) (g + 2) _ l (two l g m) ∙ get-put_other M.loops (g + 1) _ l (one l g m) where
+        one : (k g : ℕ) → k ≤ g → k ≢ g + 1
+        one k g m e = absurd (omega arith)
+
+        two : (k g : ℕ) → k ≤ g → k ≢ g + 2
+        two k g m e = absurd (omega arith)
+
+  lamina_keeps_rows : Sound M → lamina_refusal M s ps ≡ None → (e : ℕ) → Has M.edges e → table.get (lamina_model M s ps).edges e ≡ table.get M.edges e
+  unfolding lamina_model taken_in
+  lamina_keeps_rows sound goes e there = let g = table.greatest M.edges in let m = at_most_greatest M.edges e there in
+      get-put_other (with_path M.edges g (table.greatest M.vertices) (length ps - 1)) (g + length ps) _ e (last e g (length ps) m ((lamina_goes M s ps sound goes).many))
+      ∙ path_keeps M.edges g (table.greatest M.vertices) (length ps - 1) e m where
+        last : (e g n : ℕ) → e ≤ g → 3 ≤ n → e ≢ g + n
+        last e g n m l p = absurd (omega arith)
+
+  lamina_keeps_places : (v : ℕ) → Has M.vertices v → table.get (lamina_model M s ps).vertices v ≡ table.get M.vertices v
+  unfolding lamina_model taken_in
+  lamina_keeps_places v there = points_keep M.vertices (table.greatest M.vertices) ps (length ps) v (at_most_greatest M.vertices v there)
+
+-- ---- a block
+
+module _ (M : Model) (s : ℕ) (p : Point) (dx dy dz : ℤ) (sound : Sound M) (goes : block_refusal M s p dx dy dz ≡ None) where
+  abbrev base : Model
+  base = lamina_model M s (base_of p dx dy)
+
+  based : lamina_refusal M s (base_of p dx dy) ≡ None
+  based = blocks_have_bases M s p dx dy dz goes
+
+  base_sound : Sound base
+  base_sound = lamina_is_sound M s (base_of p dx dy) sound based
+
+  old_face : (l : ℕ) → Has M.loops l → face_of base l ≢ lamina_face M
+  unfolding taken_in
+  old_face l there e = past_new (face_of M l) (table.greatest M.faces) (at_most_greatest M.faces (face_of M l) (sound.loops_of_faces l there))
+      (sym (same_face M base l (lamina_keeps M s (base_of p dx dy) l there)) ∙ e) where
+        past_new : (k g : ℕ) → k ≤ g → k ≢ g + 1
+        past_new k g m e = absurd (omega arith)
+
+  block_keeps : (l : ℕ) → Has M.loops l → table.get (block_model M s p dx dy dz).loops l ≡ table.get M.loops l
+  unfolding block_model
+  block_keeps l there = let row = lamina_keeps M s (base_of p dx dy) l there in
+      prism_keeps_loops base (lamina_face M) (up_by dz) base_sound (bases_rise M s p dx dy dz sound goes) l (ap is_some row ∙ there) (old_face l there) ∙ row
+
+  block_keeps_rows : (e : ℕ) → Has M.edges e → table.get (block_model M s p dx dy dz).edges e ≡ table.get M.edges e
+  unfolding block_model
+  block_keeps_rows e there = let row = lamina_keeps_rows M s (base_of p dx dy) sound based e there in
+      prism_keeps_edges base (lamina_face M) (up_by dz) e (ap is_some row ∙ there) ∙ row
+
+  block_keeps_places : (v : ℕ) → Has M.vertices v → table.get (block_model M s p dx dy dz).vertices v ≡ table.get M.vertices v
+  unfolding block_model
+  block_keeps_places v there = let row = lamina_keeps_places M s (base_of p dx dy) v there in
+      prism_keeps_points base (lamina_face M) (up_by dz) v (ap is_some row ∙ there) ∙ row
+
+-- ---- the laws
+
+pub lamina_keeps_owners : LaminaKeepsOwners
+lamina_keeps_owners before after s ps made k there alone = same_solid (held before) (held after) k (lamina_keeps_faces before after s ps made k (at_most_greatest (held before).faces k there))
+
+pub lamina_keeps_loops : LaminaKeepsLoops
+lamina_keeps_loops before after s ps made l there alone = ap (λ x. table.get (held x).loops l) made.1 ∙ lamina_keeps (held before) s ps l there
+
+pub lamina_keeps_edges : LaminaKeepsEdges
+lamina_keeps_edges before after s ps sound made h there alone = ap (λ x. table.get (held x).edges (edge_of h)) made.1 ∙ lamina_keeps_rows (held before) s ps sound made.0 (edge_of h) there
+
+pub lamina_keeps_points : LaminaKeepsPoints
+lamina_keeps_points before after s ps sound made l v i alone = ap (λ x. table.get (held x).vertices v) made.1 ∙ lamina_keeps_places (held before) s ps v (vertex_there (held before) sound l v i)
+
+pub block_keeps_owners : BlockKeepsOwners
+block_keeps_owners before after s p dx dy dz made k there alone = same_solid (held before) (held after) k (block_keeps_faces before after s p dx dy dz made k (at_most_greatest (held before).faces k there))
+
+pub block_keeps_loops : BlockKeepsLoops
+block_keeps_loops before after s p dx dy dz sound made l there alone = ap (λ x. table.get (held x).loops l) made.1 ∙ block_keeps (held before) s p dx dy dz sound made.0 l there
+
+pub block_keeps_edges : BlockKeepsEdges
+block_keeps_edges before after s p dx dy dz sound made h there alone = ap (λ x. table.get (held x).edges (edge_of h)) made.1 ∙ block_keeps_rows (held before) s p dx dy dz sound made.0 (edge_of h) there
+
+pub block_keeps_points : BlockKeepsPoints
+block_keeps_points before after s p dx dy dz sound made l v i alone =
+    ap (λ x. table.get (held x).vertices v) made.1 ∙ block_keeps_places (held before) s p dx dy dz sound made.0 v (vertex_there (held before) sound l v i)

@@ -1,0 +1,26 @@
+-- Half-edges and vertices on the loops of faces.
+use Rattle.std.proofs.Common.{◌≡◌, ℕ, sym, ap, subst, ◌⊎◌, inl, inr}
+use Rattle.euler_operators.specs.Items.{IsIn}
+use Rattle.euler_operators.proofs.Maps.{from_map}
+use Rattle.euler_operators.proofs.Members.{IsIn_one}
+use Rattle.euler_operators.specs.Model.{Model, LoopContent, lone, cycle, items_of, tail, content, loop_of}
+use Rattle.euler_operators.specs.Sound.{Sound, Has}
+use Rattle.euler_operators.proofs.Models.{item_there, in-holds}
+use Rattle.shapes.specs.Faces.{vertices_on}
+
+-- a vertex on a loop is that of the lone loop, or some item starts there
+pub vertex_cases : (M : Model) (l v : ℕ) → IsIn v (vertices_on M (content M l)) → (content M l ≡ lone v) ⊎ ((h : ℕ) × IsIn h (items_of (content M l)) × (tail M h ≡ v))
+vertex_cases M l v i = go (content M l) i where
+  go : (c : LoopContent) → IsIn v (vertices_on M c) → (c ≡ lone v) ⊎ ((h : ℕ) × IsIn h (items_of c) × (tail M h ≡ v))
+  go (lone w) i = inl (ap lone (sym (IsIn_one w v i)))
+  go (cycle hs) i = let p = from_map (tail M) v hs i in inr (p.0, p.1, sym p.2)
+
+module _ (M : Model) (sound : Sound M) where
+  pub item_loop : (l h : ℕ) → IsIn h (items_of (content M l)) → loop_of M h ≡ l
+  item_loop l h i = sound.one_loop h l (in-holds h (content M l) i)
+
+  pub vertex_there : (l v : ℕ) → IsIn v (vertices_on M (content M l)) → Has M.vertices v
+  vertex_there l v i = elim (vertex_cases M l v i) [
+    | inl e ↦ sound.lone_at_vertex l v e
+    | inr p ↦ subst (Has M.vertices) p.2 (sound.tails_there p.0 (item_there M sound l p.0 p.1))
+  ]

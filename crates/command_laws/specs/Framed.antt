@@ -1,0 +1,60 @@
+-- What each command leaves as it was.
+use Rattle.std.specs.Prelude.{ℕ, ℤ, List}
+use Rattle.euler_operators.specs.declared.Point.{Point}
+use Rattle.euler_operators.specs.Model.{solid_of}
+use Rattle.euler_operators.specs.Sound.{Sound}
+use Rattle.undo_journal.specs.Machine.{Machine, held}
+use Rattle.command_laws.specs.Commands.{IsLamina, IsBlock, IsSweep, IsGlue}
+use Rattle.command_laws.specs.LeftAlone.{KeepsOwners, KeepsLoops, KeepsEdges, KeepsPoints, Each, AllBut, OfOthers, OfOthersBut}
+
+-- a lamina: each face that is there keeps its solid, each loop its content, each edge its ends, and each vertex its point
+abbrev pub LaminaKeepsOwners : Type 0
+LaminaKeepsOwners = (before after : Machine) (s : ℕ) (ps : List Point) → IsLamina before after s ps → KeepsOwners Each (held before) (held after)
+
+abbrev pub LaminaKeepsLoops : Type 0
+LaminaKeepsLoops = (before after : Machine) (s : ℕ) (ps : List Point) → IsLamina before after s ps → KeepsLoops Each (held before) (held after)
+
+abbrev pub LaminaKeepsEdges : Type 0
+LaminaKeepsEdges = (before after : Machine) (s : ℕ) (ps : List Point) → Sound (held before) → IsLamina before after s ps → KeepsEdges Each (held before) (held after)
+
+abbrev pub LaminaKeepsPoints : Type 0
+LaminaKeepsPoints = (before after : Machine) (s : ℕ) (ps : List Point) → Sound (held before) → IsLamina before after s ps → KeepsPoints Each (held before) (held after)
+
+-- a block too
+abbrev pub BlockKeepsOwners : Type 0
+BlockKeepsOwners = (before after : Machine) (s : ℕ) (p : Point) (dx dy dz : ℤ) → IsBlock before after s p dx dy dz → KeepsOwners Each (held before) (held after)
+
+abbrev pub BlockKeepsLoops : Type 0
+BlockKeepsLoops = (before after : Machine) (s : ℕ) (p : Point) (dx dy dz : ℤ) → Sound (held before) → IsBlock before after s p dx dy dz → KeepsLoops Each (held before) (held after)
+
+abbrev pub BlockKeepsEdges : Type 0
+BlockKeepsEdges = (before after : Machine) (s : ℕ) (p : Point) (dx dy dz : ℤ) → Sound (held before) → IsBlock before after s p dx dy dz → KeepsEdges Each (held before) (held after)
+
+abbrev pub BlockKeepsPoints : Type 0
+BlockKeepsPoints = (before after : Machine) (s : ℕ) (p : Point) (dx dy dz : ℤ) → Sound (held before) → IsBlock before after s p dx dy dz → KeepsPoints Each (held before) (held after)
+
+-- a sweep, of a face with rings or without: so it does, but for the loops of the face that is swept
+abbrev pub SweepKeepsOwners : Type 0
+SweepKeepsOwners = (before after : Machine) (f : ℕ) (d : Point) → IsSweep before after f d → KeepsOwners Each (held before) (held after)
+
+abbrev pub SweepKeepsLoops : Type 0
+SweepKeepsLoops = (before after : Machine) (f : ℕ) (d : Point) → Sound (held before) → IsSweep before after f d → KeepsLoops (AllBut f) (held before) (held after)
+
+abbrev pub SweepKeepsEdges : Type 0
+SweepKeepsEdges = (before after : Machine) (f : ℕ) (d : Point) → IsSweep before after f d → KeepsEdges Each (held before) (held after)
+
+abbrev pub SweepKeepsPoints : Type 0
+SweepKeepsPoints = (before after : Machine) (f : ℕ) (d : Point) → Sound (held before) → IsSweep before after f d → KeepsPoints Each (held before) (held after)
+
+-- a glue: so it is with the faces that aren't of the solid that goes, but for the first face and its loop
+abbrev pub GlueKeepsOwners : Type 0
+GlueKeepsOwners = (before after : Machine) (f g : ℕ) → IsGlue before after f g → KeepsOwners (OfOthersBut (held before) (solid_of (held before) g) f) (held before) (held after)
+
+abbrev pub GlueKeepsLoops : Type 0
+GlueKeepsLoops = (before after : Machine) (f g : ℕ) → Sound (held before) → IsGlue before after f g → KeepsLoops (OfOthersBut (held before) (solid_of (held before) g) f) (held before) (held after)
+
+abbrev pub GlueKeepsEdges : Type 0
+GlueKeepsEdges = (before after : Machine) (f g : ℕ) → Sound (held before) → IsGlue before after f g → KeepsEdges (OfOthers (held before) (solid_of (held before) g)) (held before) (held after)
+
+abbrev pub GlueKeepsPoints : Type 0
+GlueKeepsPoints = (before after : Machine) (f g : ℕ) → Sound (held before) → IsGlue before after f g → KeepsPoints (OfOthers (held before) (solid_of (held before) g)) (held before) (held after)

@@ -1,0 +1,43 @@
+-- What stays as it was of the faces that a command leaves alone, told by their numbers in the model before.
+use Rattle.std.specs.Prelude.{◌≡◌, ◌≢◌, ℕ}
+use Rattle.euler_operators.specs.Items.{IsIn}
+use Rattle.euler_operators.specs.HalfEdge.{edge_of}
+use Rattle.euler_operators.specs.Table as table
+use Rattle.euler_operators.specs.Model.{Model, content, face_of, solid_of}
+use Rattle.euler_operators.specs.Sound.{Has, HasHalf}
+use Rattle.euler_operators.specs.Conditions.{face_at}
+use Rattle.shapes.specs.Faces.{vertices_on}
+
+-- each of these faces that is there is of the solid that it was
+abbrev pub KeepsOwners : (ℕ → Type 0) → Model → Model → Type 0
+KeepsOwners Alone M N = (k : ℕ) → Has M.faces k → Alone k → solid_of N k ≡ solid_of M k
+
+-- each loop of these faces is of the face, and has the content, that it had
+abbrev pub KeepsLoops : (ℕ → Type 0) → Model → Model → Type 0
+KeepsLoops Alone M N = (l : ℕ) → Has M.loops l → Alone (face_of M l) → table.get N.loops l ≡ table.get M.loops l
+
+-- each edge on these faces, told by its half-edge there, has the ends that it had
+abbrev pub KeepsEdges : (ℕ → Type 0) → Model → Model → Type 0
+KeepsEdges Alone M N = (h : ℕ) → HasHalf M h → Alone (face_at M h) → table.get N.edges (edge_of h) ≡ table.get M.edges (edge_of h)
+
+-- each vertex on the loops of these faces has the point that it had
+abbrev pub KeepsPoints : (ℕ → Type 0) → Model → Model → Type 0
+KeepsPoints Alone M N = (l v : ℕ) → IsIn v (vertices_on M (content M l)) → Alone (face_of M l) → table.get N.vertices v ≡ table.get M.vertices v
+
+-- ---- faces left alone
+
+-- each face
+abbrev pub Each : ℕ → Type 0
+Each k = Unit {0}
+
+-- each face but f
+abbrev pub AllBut : ℕ → ℕ → Type 0
+AllBut f k = k ≢ f
+
+-- each face of another solid than s
+abbrev pub OfOthers : Model → ℕ → ℕ → Type 0
+OfOthers M s k = solid_of M k ≢ s
+
+-- each face of another solid than s, but f
+abbrev pub OfOthersBut : Model → ℕ → ℕ → ℕ → Type 0
+OfOthersBut M s f k = OfOthers M s k × (k ≢ f)

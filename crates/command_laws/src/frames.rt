@@ -1,0 +1,36 @@
+//! What each command leaves as it was: the solids of faces, loops, the ends of edges and the points of vertices.
+ghost use Rattle.command_laws.specs.Framed.{LaminaKeepsOwners, LaminaKeepsLoops, LaminaKeepsEdges, LaminaKeepsPoints, BlockKeepsOwners, BlockKeepsLoops, BlockKeepsEdges, BlockKeepsPoints, SweepKeepsOwners, SweepKeepsLoops, SweepKeepsEdges, SweepKeepsPoints, GlueKeepsOwners, GlueKeepsLoops, GlueKeepsEdges, GlueKeepsPoints};
+
+/// After a lamina each face that was there is of the solid that it was, each loop has its face and its content, each edge its ends, and
+/// each vertex its point.
+pub fn laminas_leave_alone()
+    ensures owners { LaminaKeepsOwners }
+    ensures loops { LaminaKeepsLoops }
+    ensures edges { LaminaKeepsEdges }
+    ensures points { LaminaKeepsPoints }
+{}
+
+/// After a block so it is too.
+pub fn blocks_leave_alone()
+    ensures owners { BlockKeepsOwners }
+    ensures loops { BlockKeepsLoops }
+    ensures edges { BlockKeepsEdges }
+    ensures points { BlockKeepsPoints }
+{}
+
+/// After a sweep, of a face with rings or without, so it is but for the loops of the face that was swept.
+pub fn sweeps_leave_alone()
+    ensures owners { SweepKeepsOwners }
+    ensures loops { SweepKeepsLoops }
+    ensures edges { SweepKeepsEdges }
+    ensures points { SweepKeepsPoints }
+{}
+
+/// After a glue so it is with each face that wasn't of the solid that goes, and its loops, edges and vertices, but for the first face
+/// and its loop.
+pub fn glues_leave_alone()
+    ensures owners { GlueKeepsOwners }
+    ensures loops { GlueKeepsLoops }
+    ensures edges { GlueKeepsEdges }
+    ensures points { GlueKeepsPoints }
+{}
