@@ -7,7 +7,7 @@ mod Kept
 mod Places
 mod Accepted
 mod Glued
-mod OnFaces
+pub mod OnFaces
 mod SweptAlone
 mod GluedAlone
 mod DrawnAlone

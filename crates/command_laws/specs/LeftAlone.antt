@@ -8,7 +8,11 @@ use Rattle.euler_operators.specs.Sound.{Has, HasHalf}
 use Rattle.euler_operators.specs.Conditions.{face_at}
 use Rattle.shapes.specs.Faces.{vertices_on}
 
--- each of these faces that is there is of the solid that it was
+-- each of these faces that is there is of the solid, and has the outer loop, that it had
+abbrev pub KeepsRows : (ℕ → Type 0) → Model → Model → Type 0
+KeepsRows Alone M N = (k : ℕ) → Has M.faces k → Alone k → table.get N.faces k ≡ table.get M.faces k
+
+-- so it is of the solid that it was
 abbrev pub KeepsOwners : (ℕ → Type 0) → Model → Model → Type 0
 KeepsOwners Alone M N = (k : ℕ) → Has M.faces k → Alone k → solid_of N k ≡ solid_of M k
 

@@ -9,9 +9,9 @@
 //! not of the solid that goes keeps its row; the model after n undos; and when a block, a lamina, and a sweep of a face without
 //! rings are accepted. After a lamina, a block and a sweep, with rings too, each face there before is of the solid that it was,
 //! each loop has its face and its content, but for those of the face that was swept, each edge its ends, and each vertex its
-//! point; after a glue so it is with the faces that weren't of the solid that goes, but for the first face and its loop. Not
-//! proved: the sides of a sweep of a face with rings; the caps of a split; what faces, loops, edges and points of other solids
-//! are after a split; what `counts` answers after a command.
+//! point; after a glue so it is with the faces that weren't of the solid that goes, but for the first face and its loop. What a
+//! split leaves as it was is proved in `split_frames`. Not proved: the sides of a sweep of a face with rings; the caps of a
+//! split; what `counts` answers after a command.
 #![tactic(auto)]
 
 mod frames;

@@ -1,0 +1,6 @@
+mod Staying
+mod Cut
+mod Drawn
+mod Opened
+mod Parted
+mod Whole

@@ -1,0 +1,2 @@
+pub mod OthersStay
+pub mod Laws
