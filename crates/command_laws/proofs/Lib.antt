@@ -11,3 +11,7 @@ pub mod OnFaces
 mod SweptAlone
 mod GluedAlone
 mod DrawnAlone
+mod SweptLoops
+mod SweptSides
+mod SweptRings
+mod MovedAreas

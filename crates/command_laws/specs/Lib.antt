@@ -6,3 +6,4 @@ pub mod Places
 pub mod Accepted
 pub mod LeftAlone
 pub mod Framed
+pub mod RingedFaces

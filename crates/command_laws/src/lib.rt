@@ -4,17 +4,19 @@
 //! # What is proved
 //!
 //! Of a session after a command answered Ok: the faces of a lamina, of a block, and of a sweep of a face without rings, each with
-//! its number, solid, corner points and plane; that the solid is there; that each face there before a lamina, block or sweep
-//! keeps its solid and outer loop; after a glue that the first face's solid is there and the other gone, and that each other face
-//! not of the solid that goes keeps its row; the model after n undos; and when a block, a lamina, and a sweep of a face without
-//! rings are accepted. After a lamina, a block and a sweep, with rings too, each face there before is of the solid that it was,
-//! each loop has its face and its content, but for those of the face that was swept, each edge its ends, and each vertex its
-//! point; after a glue so it is with the faces that weren't of the solid that goes, but for the first face and its loop. What a
-//! split leaves as it was is proved in `split_frames`. Not proved: the sides of a sweep of a face with rings; the caps of a
-//! split; what `counts` answers after a command.
+//! its number, solid, corner points and plane; the sides of a sweep of a face with rings likewise, loop by loop, and that the
+//! face keeps its number and its loops and is the far one, its corners and its plane moved; that the solid is there; that each
+//! face there before a lamina, block or sweep keeps its solid and outer loop; after a glue that the first face's solid is there
+//! and the other gone, and that each other face not of the solid that goes keeps its row; the model after n undos; and when a
+//! block, a lamina, and a sweep of a face without rings are accepted. After a lamina, a block and a sweep, with rings too, each
+//! face there before is of the solid that it was, each loop has its face and its content, but for those of the face that was
+//! swept, each edge its ends, and each vertex its point; after a glue so it is with the faces that weren't of the solid that
+//! goes, but for the first face and its loop. What a split leaves as it was is proved in `split_frames`. Not proved: the caps of
+//! a split; what `counts` answers after a command.
 #![tactic(auto)]
 
 mod frames;
+mod ringed;
 
 ghost use Rattle.command_laws.specs.NewFaces.{LaminaHasTwoFaces, LaminaTakesTwoFaces, BlockHasTopAndBottom, BlockHasFourSides, BlockTakesSixFaces, SweptFaceIsFar, SidesStand};
 ghost use Rattle.command_laws.specs.Accepted.{BlocksFit, LaminasFit, SweepsFit};
@@ -23,6 +25,7 @@ ghost use Rattle.command_laws.specs.Places.{UndosGoBack};
 ghost use Rattle.command_laws.specs.Solids.{BlocksAreThere, LaminasAreThere, SweptAreThere, SweepsKeepSolids, GluesJoinSolids};
 
 pub use frames::{blocks_leave_alone, glues_leave_alone, laminas_leave_alone, sweeps_leave_alone};
+pub use ringed::ringed_sweeps_make_faces;
 
 /// After a lamina: the face next to the greatest before goes round its points, and the one after that the other way round.
 pub fn laminas_make_faces()

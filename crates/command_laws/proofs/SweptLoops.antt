@@ -1,0 +1,155 @@
+-- The loops of a face swept one after the other: what is ready for each, and what stays from there on.
+use Rattle.std.specs.Prelude.{length}
+use Rattle.std.proofs.Common.{◌≡◌, ◌≢◌, ℕ, zero, suc, ◌+◌, ◌≤◌, ◌<◌, List, [], ◌∷◌, ◌++◌, None, refl, sym, ap, subst, ◌∙◌, arith}
+use Rattle.std.proofs.lemmas.List.{length-append, length-map}
+use Rattle.euler_operators.specs.declared.Point.{Point}
+use Rattle.euler_operators.specs.Items.{count, IsIn, IsApart}
+use Rattle.euler_operators.proofs.Lists.{tick_same}
+use Rattle.euler_operators.proofs.Members.{IsIn_rest}
+use Rattle.euler_operators.proofs.Rotations.{IsIn_head}
+use Rattle.euler_operators.specs.HalfEdge.{edge_of}
+use Rattle.euler_operators.specs.Table as table
+use Rattle.euler_operators.specs.Table.{Table}
+use Rattle.euler_operators.specs.Model.{Model, FaceRow, items_of, tail, content, solid_of, rings_of}
+use Rattle.euler_operators.specs.Sound.{Sound, Has}
+use Rattle.shapes.specs.Faces.{start, loops_of, vertices_on, vertices_in}
+use Rattle.shapes.specs.Fresh.{Taken, Growing, growing, taken_in}
+use Rattle.shapes.specs.Prism.{raised, prism_from, prism_refusal}
+use Rattle.shapes.proofs.fresh.Rows.{greatest-put_last}
+use Rattle.sweeps_laws.proofs.FromSound.{sound_bounded}
+use Rattle.sweeps_laws.proofs.prism.Accepted.{face_there, begins}
+use Rattle.sweeps_laws.proofs.swept.Filled.{filled, filled_greatest}
+use Rattle.sweeps_laws.proofs.swept.Sides.{side_face, faces_grown, start_kept}
+use Rattle.sweeps_laws.proofs.swept.Lifted.{Bounded, IsPathOf, swept, keeps_swept, face_old, loop_old, rings_old}
+use Rattle.sweeps_laws.proofs.swept.Kept.{counted, bounded_after, there_after, solid_after, path_after}
+use Rattle.command_laws.proofs.Outlines.{ring_path}
+
+-- the loops ls of face f are still to be swept, each a closed path of it
+pub record Ready (f s : ℕ) (g : Growing) (ls : List ℕ) : Type 0 where
+  pub bounded : Bounded g.model g.taken
+  pub there : Has g.model.faces f
+  pub solid : solid_of g.model f ≡ s
+  pub paths : (q : ℕ) → IsIn q ls → IsPathOf g.model f q (items_of (content g.model q))
+  pub apart : IsApart ls
+  pub last : table.greatest g.model.faces ≡ g.taken.face
+
+-- Y is X with the loops ls swept: what the numbers up to those taken name is as it was, but for these loops
+pub record Later (X Y : Model) (c : Taken) (ls : List ℕ) : Type 0 where
+  pub faces : (k : ℕ) → k ≤ c.face → table.get Y.faces k ≡ table.get X.faces k
+  pub rings : (k : ℕ) → k ≤ c.face → rings_of Y k ≡ rings_of X k
+  pub loops : (q : ℕ) → q ≤ c.loop → count q ls ≡ 0 → table.get Y.loops q ≡ table.get X.loops q
+  pub starts : (h : ℕ) → edge_of h ≤ c.edge → start Y h ≡ start X h
+
+more : (q a n : ℕ) → q ≤ a → q ≤ a + n
+more q a n m = omega arith
+
+-- as many rows put after the greatest number make it as much greater
+filled_last : (t : Table FaceRow) (a : ℕ) (x : ℕ → FaceRow) → table.greatest t ≤ a → (n : ℕ) → 0 < n → table.greatest (filled t a x n) ≡ a + n
+filled_last t a x low zero l = absurd (omega arith)
+filled_last t a x low (suc n) l = greatest-put_last (filled t a x n) (a + 1 + n) (x n) (below (table.greatest (filled t a x n)) a n (filled_greatest t a x low n)) ∙ same a n where
+  below : (g a n : ℕ) → g ≤ a + n → g < a + 1 + n
+  below g a n l = omega arith
+
+  same : (a n : ℕ) → a + 1 + n ≡ a + suc n
+  same a n = omega arith
+
+-- ---- one loop
+
+module _ (f s : ℕ) (d : Point) (g : Growing) (l : ℕ) (ls : List ℕ) (w : Ready f s g (l ∷ ls)) where
+  abbrev pub items : List ℕ
+  items = items_of (content g.model l)
+
+  abbrev pub path : IsPathOf g.model f l (items_of (content g.model l))
+  path = w.paths l (IsIn_head l ls)
+
+  abbrev pub swept_once : Model
+  swept_once = swept g.model g.taken (solid_of g.model f) d (items_of (content g.model l)) f l
+
+  abbrev pub next : Growing
+  next = record { model = swept g.model g.taken (solid_of g.model f) d (items_of (content g.model l)) f l; taken = counted g.taken (length (items_of (content g.model l))) }
+
+  pub raised_is : raised f d g l ≡ record { model = swept g.model g.taken (solid_of g.model f) d (items_of (content g.model l)) f l; taken = counted g.taken (length (items_of (content g.model l))) }
+  unfolding raised
+  raised_is = refl
+
+  pub not_again : (q : ℕ) → IsIn q ls → q ≢ l
+  not_again q i e = absurd (omega (arith, i, w.apart l, tick_same l, ap (λ x. count x ls) e))
+
+  pub after_ready : Ready f s (record { model = swept g.model g.taken (solid_of g.model f) d (items_of (content g.model l)) f l; taken = counted g.taken (length (items_of (content g.model l))) }) ls
+  after_ready = record {
+    bounded = bounded_after g.model g.taken (solid_of g.model f) d items f l w.bounded path;
+    there = there_after g.model g.taken (solid_of g.model f) d items f l w.bounded path w.there;
+    solid = solid_after g.model g.taken (solid_of g.model f) d items f l w.bounded path w.there ∙ w.solid;
+    paths = λ q i. let p = path_after g.model g.taken (solid_of g.model f) d items f l w.bounded path q (items_of (content g.model q)) (not_again q i) (w.paths q (IsIn_rest q l ls i)) in
+        subst (λ x. IsPathOf swept_once f q (items_of x)) (sym p.0) p.1;
+    apart = λ x. omega (arith, w.apart x);
+    last = ap table.greatest (faces_grown g.model g.taken (solid_of g.model f) d items (length items))
+        ∙ filled_last g.model.faces g.taken.face (side_face g.model g.taken (solid_of g.model f) d items) w.bounded.faces (length items) path.some_item;
+  }
+
+  pub after_later : Later g.model (swept g.model g.taken (solid_of g.model f) d (items_of (content g.model l)) f l) g.taken (l ∷ [])
+  after_later = record {
+    faces = λ k m. face_old g.model g.taken (solid_of g.model f) d items f l k m;
+    rings = λ k m. rings_old g.model g.taken (solid_of g.model f) d items f l w.bounded path k m;
+    loops = λ q m z. loop_old g.model g.taken (solid_of g.model f) d items f l q (apart_from q z) m;
+    starts = λ h m. start_kept g.model swept_once g.taken.edge g.taken.vertex (keeps_swept g.model g.taken (solid_of g.model f) d items f l) w.bounded.tails h m;
+  } where
+    apart_from : (q : ℕ) → count q (l ∷ []) ≡ 0 → q ≢ l
+    apart_from q z e = absurd (omega (arith, z, tick_same l, ap (λ x. count x (l ∷ [])) e))
+
+-- ---- all of them
+
+later_on : (X Y Z : Model) (c : Taken) (n l : ℕ) (ls : List ℕ) → Later X Y c (l ∷ []) → Later Y Z (counted c n) ls → Later X Z c (l ∷ ls)
+later_on X Y Z c n l ls a b = record {
+  faces = λ k m. b.faces k (more k c.face n m) ∙ a.faces k m;
+  rings = λ k m. b.rings k (more k c.face n m) ∙ a.rings k m;
+  loops = λ q m z. b.loops q (more q c.loop n m) (omega (arith, z)) ∙ a.loops q m (omega (arith, z));
+  starts = λ h m. b.starts h (omega (arith, m)) ∙ a.starts h m;
+}
+
+module _ (f s : ℕ) (d : Point) where
+  pub later_all : (ls : List ℕ) (g : Growing) → Ready f s g ls → Later g.model (prism_from f d g ls).model g.taken ls
+  later_all [] g w = record { faces = λ k m. refl; rings = λ k m. refl; loops = λ q m z. refl; starts = λ h m. refl }
+  later_all (l ∷ ls) g w = subst (λ x. Later g.model (prism_from f d x ls).model g.taken (l ∷ ls)) (sym (raised_is f s d g l ls w))
+      (later_on g.model (swept_once f s d g l ls w) (prism_from f d (next f s d g l ls w) ls).model g.taken (length (items f s d g l ls w)) l ls
+      (after_later f s d g l ls w) (later_all ls (next f s d g l ls w) (after_ready f s d g l ls w)))
+
+  pub ready_all : (ls ms : List ℕ) (g : Growing) → Ready f s g (ls ++ ms) → Ready f s (prism_from f d g ls) ms
+  ready_all [] ms g w = w
+  ready_all (l ∷ ls) ms g w = subst (λ x. Ready f s (prism_from f d x ls) ms) (sym (raised_is f s d g l (ls ++ ms) w)) (ready_all ls ms (next f s d g l (ls ++ ms) w) (after_ready f s d g l (ls ++ ms) w))
+
+  pub from_append : (ls ms : List ℕ) (g : Growing) → prism_from f d g (ls ++ ms) ≡ prism_from f d (prism_from f d g ls) ms
+  from_append [] ms g = refl
+  from_append (l ∷ ls) ms g = from_append ls ms (raised f d g l)
+
+  -- a face more for each corner
+  pub taken_all : (M : Model) (ls : List ℕ) (g : Growing) → Ready f s g ls → ((q : ℕ) → IsIn q ls → content g.model q ≡ content M q) → (prism_from f d g ls).taken.face ≡ g.taken.face + length (vertices_in M ls)
+  taken_all M [] g w same = none g.taken.face where
+    none : (n : ℕ) → n ≡ n + 0
+    none n = omega arith
+  taken_all M (l ∷ ls) g w same =
+      let n = length (items f s d g l ls w) in
+      ap (λ x. (prism_from f d x ls).taken.face) (raised_is f s d g l ls w)
+      ∙ taken_all M ls (next f s d g l ls w) (after_ready f s d g l ls w) (λ q i. still q i ∙ same q (IsIn_rest q l ls i))
+      ∙ sum g.taken.face n (length (vertices_in M ls)) (length (vertices_in M (l ∷ ls)))
+      (length-append (vertices_on M (content M l)) (vertices_in M ls) ∙ ap (λ k. k + length (vertices_in M ls)) corner_many) where
+        still : (q : ℕ) → IsIn q ls → content (swept_once f s d g l ls w) q ≡ content g.model q
+        still q i = (path_after g.model g.taken (solid_of g.model f) d (items f s d g l ls w) f l w.bounded (path f s d g l ls w) q (items_of (content g.model q)) (not_again f s d g l ls w q i) (w.paths q (IsIn_rest q l ls i))).0
+
+        corner_many : length (vertices_on M (content M l)) ≡ length (items f s d g l ls w)
+        corner_many = ap (λ x. length (vertices_on M x)) (sym (same l (IsIn_head l ls)) ∙ (path f s d g l ls w).content) ∙ length-map (items f s d g l ls w) (tail M)
+
+        sum : (a n m k : ℕ) → k ≡ n + m → (a + n) + m ≡ a + k
+        sum a n m k e = omega (arith, e)
+
+-- a sweep that isn't refused begins so
+pub sweep_ready : (M : Model) (f : ℕ) (d : Point) → Sound M → prism_refusal M f d ≡ None → Ready f (solid_of M f) (growing M) (loops_of M f)
+unfolding taken_in
+sweep_ready M f d sound goes = record {
+  bounded = sound_bounded M sound;
+  there = face_there M f d sound goes;
+  solid = refl;
+  paths = λ q i. ring_path M sound f q (items_of (content M q)) ((begins M f d sound goes).rows q i);
+  apart = (begins M f d sound goes).apart;
+  last = refl;
+}

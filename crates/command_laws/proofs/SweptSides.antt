@@ -1,0 +1,150 @@
+-- One loop of a face swept: its new ring and its sides.
+use Rattle.std.specs.Prelude.{length, get_or, map, take}
+use Rattle.std.proofs.Common.{◌≡◌, ℕ, zero, suc, ◌+◌, ◌*◌, ◌≤◌, ◌<◌, List, [], ◌∷◌, ◌++◌, Some, is_some, refl, sym, ap, subst, ◌∙◌, arith, inl, inr}
+use Rattle.std.proofs.lemmas.List.{map-append}
+use Rattle.euler_operators.specs.declared.Point.{Point}
+use Rattle.euler_operators.specs.Vectors.{moved}
+use Rattle.euler_operators.specs.Items.{IsIn}
+use Rattle.euler_operators.proofs.Lists.{IsIn_or_not}
+use Rattle.euler_operators.proofs.Members.{IsIn_rest}
+use Rattle.euler_operators.specs.HalfEdge.{edge_of, plus}
+use Rattle.euler_operators.specs.Table as table
+use Rattle.euler_operators.specs.Model.{Model, cycle, items_of, tail, content, point_of, solid_of, rings_of}
+use Rattle.euler_operators.specs.Sound.{Sound, Has}
+use Rattle.euler_operators.proofs.Models.{outer_row, solid_row, same_content}
+use Rattle.shapes.specs.Faces.{start, vertices_on}
+use Rattle.shapes.specs.Fresh.{Taken, Growing}
+use Rattle.shapes.specs.Prism.{top_items, top_edge, next_place}
+use Rattle.sweeps_laws.proofs.swept.Filled.{filled_new}
+use Rattle.sweeps_laws.proofs.swept.Sides.{side_face, side_items, faces_grown}
+use Rattle.sweeps_laws.proofs.swept.Lifted.{IsPathOf, within, rings_new, content_here, content_new, loop_new, item_start, next_start, top_start, top_finish, riser_finish}
+use Rattle.sweeps_laws.proofs.swept.Kept.{counted}
+use Rattle.command_laws.specs.NewFaces.{nth, all_moved, side_over, IsFaceOf}
+use Rattle.command_laws.specs.RingedFaces.{loop_points}
+use Rattle.command_laws.proofs.Outlines.{take_next, nth_start, as_many, same_starts, points_are, plane_is}
+use Rattle.command_laws.proofs.MovedAreas.{moved_many, nth_moved}
+use Rattle.command_laws.proofs.SweptLoops.{Ready, Later, items, path, swept_once, after_ready}
+
+-- ---- points
+
+pub starts_are : (M : Model) (hs : List ℕ) → map (point_of M) (map (tail M) hs) ≡ map (start M) hs
+starts_are M [] = refl
+starts_are M (h ∷ hs) = ap (λ ps. start M h ∷ ps) (starts_are M hs)
+
+pub along_cycle : (M : Model) (l : ℕ) (hs : List ℕ) → content M l ≡ cycle hs → loop_points M l ≡ map (start M) hs
+along_cycle M l hs is = ap (λ x. map (point_of M) (vertices_on M x)) is ∙ starts_are M hs
+
+take_whole : (ps : List Point) → take (length ps) ps ≡ ps
+take_whole [] = refl
+take_whole (p ∷ ps) = ap (λ qs. p ∷ qs) (take_whole ps)
+
+all_of : (n : ℕ) → n ≤ n
+all_of n = omega arith
+
+-- ---- the new ring
+
+module _ (f s : ℕ) (d : Point) (g : Growing) (l : ℕ) (ls : List ℕ) (w : Ready f s g (l ∷ ls)) where
+  abbrev X : Model
+  X = g.model
+
+  abbrev c : Taken
+  c = g.taken
+
+  abbrev o : ℕ
+  o = solid_of g.model f
+
+  abbrev hs : List ℕ
+  hs = items f s d g l ls w
+
+  abbrev r : IsPathOf g.model f l (items_of (content g.model l))
+  r = path f s d g l ls w
+
+  abbrev Y : Model
+  Y = swept_once f s d g l ls w
+
+  abbrev tops : List ℕ
+  tops = top_items c.edge (length hs) (length hs)
+
+  pub ring_is : content (swept_once f s d g l ls w) l ≡ cycle (top_items g.taken.edge (length (items f s d g l ls w)) (length (items f s d g l ls w)))
+  ring_is = content_here X c o d hs f l w.bounded r
+
+  tops_to : (k : ℕ) → k ≤ length hs → map (start Y) (top_items c.edge (length hs) k) ≡ take k (all_moved d (map (start X) hs))
+  tops_to zero m = refl
+  tops_to (suc k) m = map-append (start Y) (top_items c.edge (length hs) k) (plus (top_edge c.edge (length hs) k) ∷ [])
+      ∙ (λ t. tops_to k (before_last k (length hs) m) t ++ (top_start X c o d hs f l w.bounded r k m ∙ sym (here k m)) t ∷ [])
+      ∙ sym (take_next (all_moved d (map (start X) hs)) k (subst (λ n. k < n) (sym (moved_many d (map (start X) hs) ∙ as_many X hs)) m)) where
+        before_last : (k n : ℕ) → suc k ≤ n → k ≤ n
+        before_last k n m = omega arith
+
+        here : (k : ℕ) → k < length hs → nth (all_moved d (map (start X) hs)) k ≡ moved (start X (get_or hs k 0)) d
+        here k m = nth_moved d (map (start X) hs) k (subst (λ n. k < n) (sym (as_many X hs)) m) ∙ ap (λ p. moved p d) (nth_start X hs k m)
+
+  pub ring_moved : map (start (swept_once f s d g l ls w)) (top_items g.taken.edge (length (items f s d g l ls w)) (length (items f s d g l ls w))) ≡ all_moved d (map (start g.model) (items f s d g l ls w))
+  ring_moved = tops_to (length hs) (all_of (length hs)) ∙ ap (λ n. take n (all_moved d (map (start X) hs))) (sym (as_many X hs) ∙ sym (moved_many d (map (start X) hs))) ∙ take_whole (all_moved d (map (start X) hs))
+
+  -- what stands in a loop then is within the numbers taken
+  pub items_taken : (q h : ℕ) → IsIn h (items_of (content (swept_once f s d g l ls w) q)) → edge_of h ≤ g.taken.edge + 2 * length (items f s d g l ls w)
+  items_taken q h i = (after_ready f s d g l ls w).bounded.items h q i
+
+  pub loop_low : l ≤ g.taken.loop
+  loop_low = within X c o d hs f l w.bounded r
+
+  later_low : (q : ℕ) → IsIn q ls → q ≤ c.loop
+  later_low q i = within X c o d (items_of (content X q)) f q w.bounded (w.paths q (IsIn_rest q l ls i))
+
+  -- ---- side i, in a model Z with the later loops swept too
+
+  module _ (Z : Model) (sound : Sound Z) (later : Later (swept_once f s d g l ls w) Z (counted g.taken (length (items f s d g l ls w))) ls) (i : ℕ) (m : i < length (items f s d g l ls w)) where
+    abbrev k : ℕ
+    k = c.face + 1 + i
+
+    abbrev q : ℕ
+    q = c.loop + 1 + i
+
+    abbrev round : List ℕ
+    round = side_items X c o d hs i
+
+    row : table.get Z.faces k ≡ Some (side_face X c o d hs i)
+    row = later.faces k (new_low c.face i (length hs) m) ∙ ap (λ t. table.get t k) (faces_grown X c o d hs (length hs)) ∙ filled_new X.faces c.face (side_face X c o d hs) (length hs) i m where
+      new_low : (a i n : ℕ) → i < n → a + 1 + i ≤ a + n
+      new_low a i n m = omega arith
+
+    none : rings_of Z k ≡ []
+    none = later.rings k (new_low c.face i (length hs) m) ∙ rings_new X c o d hs f l w.bounded r i m where
+      new_low : (a i n : ℕ) → i < n → a + 1 + i ≤ a + n
+      new_low a i n m = omega arith
+
+    side_row : table.get Z.loops q ≡ table.get Y.loops q
+    side_row = later.loops q (omega (arith, m)) (elim (IsIn_or_not q ls) [ inl j ↦ absurd (omega (arith, later_low q j)) | inr z ↦ z ])
+
+    is : content Z q ≡ cycle round
+    is = same_content Y Z q side_row ∙ content_new X c o d hs f l w.bounded r i m
+
+    there : Has Z.loops q
+    there = ap is_some (side_row ∙ loop_new X c o d hs f l w.bounded r i m)
+
+    abbrev from : Point
+    from = start X (get_or hs i 0)
+
+    abbrev to : Point
+    to = start X (get_or hs (next_place (length hs) i) 0)
+
+    starts_then : map (start Z) round ≡ map (start Y) round
+    starts_then = same_starts Y Z round (λ h j. later.starts h (items_taken q h (subst (λ x. IsIn h (items_of x)) (sym (content_new X c o d hs f l w.bounded r i m)) j)))
+
+    round_points : map (start Z) round ≡ side_over d from to
+    round_points = starts_then
+        ∙ (λ t. item_start X c o d hs f l w.bounded r i m t ∷ (next_start X c o d hs f l w.bounded r i m ∙ r.linked i m) t
+        ∷ (top_finish X c o d hs f l w.bounded r i m ∙ ap (λ p. moved p d) (r.linked i m)) t ∷ riser_finish X c o d hs f l w.bounded r i m t ∷ [])
+
+    pub side_stands : IsFaceOf Z (g.taken.face + 1 + i) s (side_over d (start g.model (get_or (items f s d g l ls w) i 0)) (start g.model (get_or (items f s d g l ls w) (next_place (length (items f s d g l ls w)) i) 0)))
+    side_stands =
+        let out = outer_row Z k (side_face X c o d hs i) row in
+        let told = points_are Z k q round none out is ∙ round_points in
+        record {
+          there = ap is_some row;
+          solid = solid_row Z k (side_face X c o d hs i) row ∙ w.solid;
+          plain = none;
+          points = told;
+          plane = plane_is Z k q round none out is sound there (omega arith) (side_over d from to) told;
+        }
