@@ -15,3 +15,5 @@ mod SweptLoops
 mod SweptSides
 mod SweptRings
 mod MovedAreas
+mod Owners
+mod SweptCounts

@@ -7,3 +7,4 @@ pub mod Accepted
 pub mod LeftAlone
 pub mod Framed
 pub mod RingedFaces
+pub mod Counted

@@ -17,6 +17,9 @@
 
 mod frames;
 mod ringed;
+mod counted;
+
+pub use counted::{shapes_are_counted, sweeps_add_counts};
 
 ghost use Rattle.command_laws.specs.NewFaces.{LaminaHasTwoFaces, LaminaTakesTwoFaces, BlockHasTopAndBottom, BlockHasFourSides, BlockTakesSixFaces, SweptFaceIsFar, SidesStand};
 ghost use Rattle.command_laws.specs.Accepted.{BlocksFit, LaminasFit, SweepsFit};

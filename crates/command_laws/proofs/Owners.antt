@@ -1,0 +1,366 @@
+-- The solid of each face, loop, edge and vertex; and so how many of each a solid has.
+use Rattle.std.proofs.Common.{◌≡◌, ◌≢◌, ℕ, suc, ◌+◌, Bool, true, false, cond, not, nat_eq, ◌||◌, List, [], ◌∷◌, ◌++◌, length, map, Option, Some, None, is_some, unwrap_or, refl, sym, ap, subst, ◌∙◌, arith, true≢false, ◌⊎◌, inl, inr}
+use Rattle.std.proofs.lemmas.Bool.Decides.{eqb_tells}
+use Rattle.std.proofs.lemmas.Bool.{eq-eqb, ne_eqb, eqb-true, false_from_ne_true}
+use Rattle.std.proofs.lemmas.List.{length-append, append_assoc}
+use Rattle.euler_operators.specs.declared.Point.{Point}
+use Rattle.euler_operators.specs.Items.{count, IsIn, IsApart}
+use Rattle.euler_operators.specs.HalfEdge.{edge_of, is_first, plus}
+use Rattle.euler_operators.specs.Table as table
+use Rattle.euler_operators.specs.Table.{Table}
+use Rattle.euler_operators.specs.Model.{Model, LoopContent, FaceRow, LoopRow, no_loop, no_edge, tail_in, lone, cycle, items_of, holds, content, face_of, loop_of, outer, solid_of, tail, rings_of, faces_of}
+use Rattle.euler_operators.specs.Sound.{Sound, Has, HasHalf, StandsIn}
+use Rattle.euler_operators.specs.Conditions.{face_at, lists}
+use Rattle.euler_operators.proofs.Lists.{count-append, tick_same, tick_other, IsIn_or_not}
+use Rattle.euler_operators.proofs.Members.{IsIn-map, IsIn_one, same_length}
+use Rattle.euler_operators.proofs.Models.{content_row, solid_row, item_there, loop_there, cycle_there, in-holds, never_lone, same_solid, same_face, same_content, plus_there, plus_edge}
+use Rattle.euler_operators.proofs.Tables.{passes, count-all_where, row_some, first_where_is}
+use Rattle.euler_laws.specs.Laws.{size}
+use Rattle.euler_laws.proofs.Sizes.{size_parts}
+use Rattle.euler_laws.proofs.shared.Counted.{counted_once, all_where_has, all_where_in}
+use Rattle.euler_laws.proofs.shared.FirstWhere.{first_passes}
+use Rattle.euler_laws.proofs.shared.Listed.{listed_passes, passes_listed, all_where-rises, IsIn-from_listed, listed-from_in}
+use Rattle.euler_laws.proofs.shared.Rows.{loop_row}
+use Rattle.euler_laws.proofs.shared.Same.{one_solid_round}
+use Rattle.shapes.specs.Faces.{loops_of, vertices_on, vertices_in, corners, corners_in, vertices_of, edges_of}
+use Rattle.shapes.specs.Walks.{loops_in}
+use Rattle.shapes.proofs.walks.SolidFaces.{solid_loops, all_loops_apart, loop_in_solid, solid_has_loop}
+use Rattle.solid_measure.specs.solid_counts.Counts.{rings_in, tally_of, counts}
+use Rattle.solid_measure.specs.declared.solid_counts.Tally.{Tally}
+use Rattle.solid_measure.proofs.solid_counts_laws.HowMany.{equally_many, of_map}
+
+-- ---- rows that pass a test on their numbers
+
+-- how many rows there are whose numbers pass
+abbrev pub many : {X : Type 0} → (ℕ → Bool) → Table X → ℕ
+many a t = length (table.all_where (λ k _. a k) t)
+
+-- a row that stays passes as it did, and what is new or gone passes
+pub record Balance {X : Type 0} (a b : ℕ → Bool) (t u : Table X) : Type 0 where
+  pub kept : (k : ℕ) → Has t k → Has u k → b k ≡ a k
+  pub new : (k : ℕ) → table.has t k ≡ false → Has u k → b k ≡ true
+  pub gone : (k : ℕ) → Has t k → table.has u k ≡ false → a k ≡ true
+
+module _ {X : Type 0} (a b : ℕ → Bool) where
+  same_left : (k : ℕ) (o w : Option X) → (is_some o ≡ true → is_some w ≡ true → b k ≡ a k) → (is_some o ≡ false → is_some w ≡ true → b k ≡ true) → (is_some o ≡ true → is_some w ≡ false → a k ≡ true) →
+      passes (λ k _. not (a k)) k o ≡ passes (λ k _. not (b k)) k w
+  same_left k None None kept new gone = refl
+  same_left k None (Some y) kept new gone = sym (ap {B = ℕ} (λ c. cond (not c) 1 0) (new refl refl))
+  same_left k (Some x) None kept new gone = ap {B = ℕ} (λ c. cond (not c) 1 0) (gone refl refl)
+  same_left k (Some x) (Some y) kept new gone = ap {B = ℕ} (λ c. cond (not c) 1 0) (sym (kept refl refl))
+
+  -- so as many more pass as there are rows more
+  pub balanced : (t u : Table X) → Balance a b t u → many b u + size t ≡ many a t + size u
+  balanced t u w =
+      let rest : many (λ k. not (a k)) t ≡ many (λ k. not (b k)) u = same_length (table.all_where (λ k _. not (a k)) t) (table.all_where (λ k _. not (b k)) u)
+      (λ k. count-all_where (λ k _. not (a k)) t k ∙ same_left k (table.get t k) (table.get u k) (w.kept k) (w.new k) (w.gone k) ∙ sym (count-all_where (λ k _. not (b k)) u k)) in
+      omega (arith, size_parts (λ k _. a k) t, size_parts (λ k _. b k) u, rest)
+
+-- whether a solid is solid s
+abbrev pub is_of : ℕ → ℕ → Bool
+is_of s u = nat_eq u s
+
+-- ---- the solid of each thing
+
+abbrev pub solid_of_loop : Model → ℕ → ℕ
+solid_of_loop M l = solid_of M (face_of M l)
+
+abbrev pub solid_of_half : Model → ℕ → ℕ
+solid_of_half M h = solid_of M (face_at M h)
+
+abbrev pub solid_of_edge : Model → ℕ → ℕ
+solid_of_edge M e = solid_of_half M (plus e)
+
+-- vertex v is on loop l
+abbrev pub IsOn : Model → ℕ → ℕ → Type 0
+IsOn M v l = IsIn v (vertices_on M (content M l))
+
+-- the least loop that a vertex is on, and its solid
+unfoldable pub home : Model → ℕ → ℕ
+home M v = table.first_where (λ _ row. lists (vertices_on M row.content) v) M.loops
+
+abbrev pub solid_of_vertex : Model → ℕ → ℕ
+solid_of_vertex M v = solid_of_loop M (home M v)
+
+-- ---- corners, by loops
+
+vertices_joined : (M : Model) (ls ks : List ℕ) → vertices_in M (ls ++ ks) ≡ vertices_in M ls ++ vertices_in M ks
+vertices_joined M [] ks = refl
+vertices_joined M (l ∷ ls) ks = ap (λ vs. vertices_on M (content M l) ++ vs) (vertices_joined M ls ks) ∙ sym (append_assoc (vertices_on M (content M l)) (vertices_in M ls) (vertices_in M ks))
+
+corners_are : (M : Model) (fs : List ℕ) → corners_in M fs ≡ vertices_in M (loops_in M fs)
+unfolding corners
+corners_are M [] = refl
+corners_are M (f ∷ fs) = ap (λ vs. vertices_in M (loops_of M f) ++ vs) (corners_are M fs) ∙ sym (vertices_joined M (loops_of M f) (loops_in M fs))
+
+-- a vertex on some loops is on one of them
+on_one : (M : Model) (ls : List ℕ) (v : ℕ) → IsIn v (vertices_in M ls) → (l : ℕ) × IsIn l ls × IsIn v (vertices_on M (content M l))
+on_one M [] v i = absurd (omega arith)
+on_one M (l ∷ ls) v i = elim (IsIn_or_not v (vertices_on M (content M l))) [
+  | inl j ↦ (l, omega (arith, tick_same l), j)
+  | inr n ↦ let r = on_one M ls v (omega (arith, i, n, count-append v (vertices_on M (content M l)) (vertices_in M ls))) in (r.0, omega (arith, r.1), r.2)
+]
+
+on_some : (M : Model) (ls : List ℕ) (l v : ℕ) → IsIn l ls → IsIn v (vertices_on M (content M l)) → IsIn v (vertices_in M ls)
+on_some M [] l v i j = absurd (omega arith)
+on_some M (k ∷ ls) l v i j = elim (eqb_tells l k) [
+  | inl e ↦ omega (arith, count-append v (vertices_on M (content M k)) (vertices_in M ls), j, ap (λ m. count v (vertices_on M (content M m))) e.1)
+  | inr n ↦ omega (arith, count-append v (vertices_on M (content M k)) (vertices_in M ls), on_some M ls l v (omega (arith, i, tick_other l k n.1)) j)
+]
+
+-- vertex v is on a loop of solid s
+pub record OnSolid (M : Model) (s v : ℕ) : Type 0 where
+  pub loop : ℕ
+  pub there : Has M.loops loop
+  pub solid : solid_of_loop M loop ≡ s
+  pub on : IsOn M v loop
+
+module _ (M : Model) (sound : Sound M) where
+  -- two loops that a vertex is on are of one solid
+  half_on : (l v : ℕ) (hs : List ℕ) → content M l ≡ cycle hs → IsIn v (map (tail M) hs) → (h : ℕ) × HasHalf M h × (tail M h ≡ v) × (loop_of M h ≡ l)
+  half_on l v hs is i =
+      let m = of_map (tail M) v hs i in
+      let j : IsIn m.0 (items_of (content M l)) = subst (λ c. IsIn m.0 (items_of c)) (sym is) m.1 in
+      (m.0, item_there M sound l m.0 j, m.2, sound.one_loop m.0 l (in-holds m.0 (content M l) j))
+
+  lone_on : (v w : ℕ) → IsIn v (w ∷ []) → w ≡ v
+  lone_on v w i = sym (IsIn_one w v i)
+
+  one_solid : (l k v : ℕ) → IsOn M v l → IsOn M v k → solid_of_loop M l ≡ solid_of_loop M k
+  one_solid l k v i j = go (content M l) (content M k) refl refl i j where
+    go : (a b : LoopContent) → content M l ≡ a → content M k ≡ b → IsIn v (vertices_on M a) → IsIn v (vertices_on M b) → solid_of_loop M l ≡ solid_of_loop M k
+    go (lone u) (lone w) p q i j = ap (solid_of_loop M) (sound.one_lone l k v (p ∙ ap lone (lone_on v u i)) (q ∙ ap lone (lone_on v w j)))
+    go (lone u) (cycle gs) p q i j = let h = half_on k v gs q j in absurd (sound.lone_is_no_tail l h.0 h.1 (p ∙ ap lone (lone_on v u i ∙ sym h.2)))
+    go (cycle hs) (lone w) p q i j = let h = half_on l v hs p i in absurd (sound.lone_is_no_tail k h.0 h.1 (q ∙ ap lone (lone_on v w j ∙ sym h.2)))
+    go (cycle hs) (cycle gs) p q i j =
+        let h = half_on l v hs p i in
+        let g = half_on k v gs q j in
+        ap (solid_of_loop M) (sym h.3) ∙ one_solid_round M sound g.0 h.0 g.1 h.1 (g.2 ∙ sym h.2) ∙ ap (solid_of_loop M) g.3
+
+  pub half_is_on : (h : ℕ) → HasHalf M h → IsOn M (tail M h) (loop_of M h)
+  half_is_on h there = go (content M (loop_of M h)) (cycle_there M sound h there) where
+    go : (c : LoopContent) → IsIn h (items_of c) → IsIn (tail M h) (vertices_on M c)
+    go (lone w) i = absurd (omega arith)
+    go (cycle hs) i = IsIn-map (tail M) h hs i
+
+  -- what is on a loop is a vertex, and each vertex is on one
+  pub on_there : (l v : ℕ) → IsOn M v l → Has M.vertices v
+  on_there l v i = go (content M l) refl i where
+    go : (c : LoopContent) → content M l ≡ c → IsIn v (vertices_on M c) → Has M.vertices v
+    go (lone u) p i = sound.lone_at_vertex l v (p ∙ ap lone (lone_on v u i))
+    go (cycle hs) p i = let h = half_on l v hs p i in ap (table.has M.vertices) (sym h.2) ∙ sound.tails_there h.0 h.1
+
+  lone_there : (l v : ℕ) → content M l ≡ lone v → Has M.loops l
+  unfolding content
+  lone_there l v e = go (table.get M.loops l) e where
+    go : (o : Option LoopRow) → (unwrap_or o no_loop).content ≡ lone v → is_some o ≡ true
+    go None e = absurd (never_lone [] v e)
+    go (Some row) e = refl
+
+  on_some_loop : (v : ℕ) → Has M.vertices v → (l : ℕ) × Has M.loops l × IsOn M v l
+  on_some_loop v there = elim (sound.lone_or_tail v there) [
+    | inl w ↦ (w.0, lone_there w.0 v w.1, subst (λ c. IsIn v (vertices_on M c)) (sym w.1) (omega (arith, tick_same v)))
+    | inr w ↦ (loop_of M w.half, loop_there M sound w.half w.there, subst (λ k. IsOn M k (loop_of M w.half)) w.starts (half_is_on w.half w.there))
+  ]
+
+  -- the first of these loops
+  home_on : (v : ℕ) → Has M.vertices v → Has M.loops (home M v) × IsOn M v (home M v)
+  unfolding home
+  home_on v there =
+      let p : ℕ → LoopRow → Bool = λ _ row. lists (vertices_on M row.content) v in
+      let w = on_some_loop v there in
+      let f = first_passes p M.loops w.0 (record { face = face_of M w.0; content = content M w.0 }) (loop_row M w.0 w.1) (listed-from_in v (vertices_on M (content M w.0)) w.2) in
+      let r = listed_passes p M.loops (home M v) f.0 in
+      (ap is_some r.1, subst (λ c. IsIn v (vertices_on M c)) (sym (content_row M (home M v) r.0 r.1)) (IsIn-from_listed v (vertices_on M r.0.content) r.2))
+
+  -- so a vertex is of the solid of each loop that it is on
+  pub owner_is : (s v : ℕ) → OnSolid M s v → solid_of_vertex M v ≡ s
+  owner_is s v w = let h = home_on v (on_there w.loop v w.on) in one_solid (home M v) w.loop v h.1 w.on ∙ w.solid
+
+  pub has_owner : (v : ℕ) → Has M.vertices v → OnSolid M (solid_of_vertex M v) v
+  has_owner v there = let h = home_on v there in record { loop = home M v; there = h.0; solid = refl; on = h.1 }
+
+  -- ---- as many as `counts` counts
+
+  module _ (s : ℕ) where
+    pub faces_many : length (faces_of M s) ≡ many (λ k. is_of s (solid_of M k)) M.faces
+    faces_many = same_length (faces_of M s) (table.all_where (λ k _. is_of s (solid_of M k)) M.faces) (λ k. count-all_where (λ _ row. nat_eq row.solid s) M.faces k ∙ go k (table.get M.faces k) refl ∙ sym (count-all_where (λ k _. is_of s (solid_of M k)) M.faces k)) where
+      go : (k : ℕ) (o : Option FaceRow) → table.get M.faces k ≡ o → passes (λ _ row. nat_eq row.solid s) k o ≡ passes (λ k _. is_of s (solid_of M k)) k o
+      go k None e = refl
+      go k (Some row) e = ap {B = ℕ} (λ u. cond (nat_eq u s) 1 0) (sym (solid_row M k row e))
+
+    abbrev corners_of : List ℕ
+    corners_of = corners_in M (faces_of M s)
+
+    corner_on : (v : ℕ) → lists corners_of v ≡ true → OnSolid M s v
+    corner_on v i =
+        let w = on_one M (solid_loops M sound s) v (omega (arith, ap (count v) (corners_are M (faces_of M s)), IsIn-from_listed v corners_of i)) in
+        let l = loop_in_solid M sound s w.0 w.1 in
+        record { loop = w.0; there = l.0; solid = l.1; on = w.2 }
+
+    on_corner : (v : ℕ) → OnSolid M s v → lists corners_of v ≡ true
+    on_corner v w = listed-from_in v corners_of (omega (arith, ap (count v) (corners_are M (faces_of M s)), on_some M (solid_loops M sound s) w.loop v (solid_has_loop M sound s w.loop w.there w.solid) w.on))
+
+    corner_told : (v : ℕ) → Has M.vertices v → lists corners_of v ≡ is_of s (solid_of_vertex M v)
+    corner_told v there = elim (eqb_tells (solid_of_vertex M v) s) [
+      | inl e ↦ on_corner v (subst (λ u. OnSolid M u v) e.1 (has_owner v there)) ∙ sym e.0
+      | inr e ↦ false_from_ne_true (lists corners_of v) (λ i. e.1 (owner_is s v (corner_on v i))) ∙ sym e.0
+    ]
+
+    pub vertices_many : length (vertices_of M s) ≡ many (λ v. is_of s (solid_of_vertex M v)) M.vertices
+    vertices_many = same_length (vertices_of M s) (table.all_where (λ v _. is_of s (solid_of_vertex M v)) M.vertices) (λ v. count-all_where (λ v _. lists corners_of v) M.vertices v ∙ go v (table.get M.vertices v) refl ∙ sym (count-all_where (λ v _. is_of s (solid_of_vertex M v)) M.vertices v)) where
+      go : (v : ℕ) (o : Option Point) → table.get M.vertices v ≡ o → passes (λ v _. lists corners_of v) v o ≡ passes (λ v _. is_of s (solid_of_vertex M v)) v o
+      go v None e = refl
+      go v (Some p) e = ap {B = ℕ} (λ b. cond b 1 0) (corner_told v (ap is_some e))
+
+    -- each loop is the outer loop of its face or a ring
+    loops_split : (fs : List ℕ) → length (loops_in M fs) ≡ length (rings_in M fs) + length fs
+    unfolding loops_of
+    loops_split [] = refl
+    loops_split (f ∷ fs) = omega (arith, loops_split fs, length-append (rings_of M f) (rings_in M fs), length-append (rings_of M f) (loops_in M fs))
+
+    loops_listed : IsApart (table.all_where (λ l _. is_of s (solid_of_loop M l)) M.loops)
+    loops_listed l = counted_once l _ (all_where-rises (λ l _. is_of s (solid_of_loop M l)) M.loops)
+
+    pub loops_many : length (rings_in M (faces_of M s)) + length (faces_of M s) ≡ many (λ l. is_of s (solid_of_loop M l)) M.loops
+    loops_many = sym (loops_split (faces_of M s)) ∙ equally_many (solid_loops M sound s) (table.all_where (λ l _. is_of s (solid_of_loop M l)) M.loops) (all_loops_apart M sound s) loops_listed
+        (λ l i. let w = loop_in_solid M sound s l i in let r = row_some (table.get M.loops l) w.0 in all_where_in (λ l _. is_of s (solid_of_loop M l)) M.loops l r.0 r.1 (eq-eqb (solid_of_loop M l) s w.1))
+        (λ l i. let w = all_where_has (λ l _. is_of s (solid_of_loop M l)) M.loops l i in solid_has_loop M sound s l (ap is_some w.1) (eqb-true (solid_of_loop M l) s w.2))
+
+-- ---- two models that agree but for some solids
+
+-- M and N agree but for the solids of which a holds in M, and b in N
+pub record Agree (M N : Model) (a b : ℕ → Bool) : Type 0 where
+  pub before : Sound M
+  pub after : Sound N
+  pub faces : (k : ℕ) → Has M.faces k → a (solid_of M k) ≡ false → (table.get N.faces k ≡ table.get M.faces k) × (b (solid_of M k) ≡ false)
+  pub faces_back : (k : ℕ) → Has N.faces k → b (solid_of N k) ≡ false → (table.get N.faces k ≡ table.get M.faces k) × (a (solid_of N k) ≡ false)
+  pub loops : (l : ℕ) → Has M.loops l → a (solid_of_loop M l) ≡ false → table.get N.loops l ≡ table.get M.loops l
+  pub loops_back : (l : ℕ) → Has N.loops l → b (solid_of_loop N l) ≡ false → table.get N.loops l ≡ table.get M.loops l
+  pub edges : (h : ℕ) → HasHalf M h → a (solid_of_half M h) ≡ false → table.get N.edges (edge_of h) ≡ table.get M.edges (edge_of h)
+
+same_tail : (M N : Model) (h : ℕ) → table.get N.edges (edge_of h) ≡ table.get M.edges (edge_of h) → tail N h ≡ tail M h
+unfolding tail
+same_tail M N h e = ap (λ o. tail_in (unwrap_or o no_edge) (is_first h)) e
+
+-- what is false at both, or true at both
+alike : (x y : Bool) → (x ≡ false → y ≡ false) → (y ≡ false → x ≡ false) → y ≡ x
+alike true true f g = refl
+alike true false f g = sym (g refl)
+alike false true f g = f refl
+alike false false f g = refl
+
+-- a test that isn't false
+not_false : (x : Bool) → (x ≡ false → ⊥) → x ≡ true
+not_false true f = refl
+not_false false f = absurd (f refl)
+
+module _ (M N : Model) (a b : ℕ → Bool) (w : Agree M N a b) where
+  solid_there : (k : ℕ) → Has M.faces k → a (solid_of M k) ≡ false → solid_of N k ≡ solid_of M k
+  solid_there k there out = same_solid M N k (w.faces k there out).0
+
+  solid_back : (k : ℕ) → Has N.faces k → b (solid_of N k) ≡ false → solid_of N k ≡ solid_of M k
+  solid_back k there out = same_solid M N k (w.faces_back k there out).0
+
+  -- a loop of another solid stays, of that solid
+  loop_kept : (l : ℕ) → Has M.loops l → a (solid_of_loop M l) ≡ false → (Has N.loops l) × (solid_of_loop N l ≡ solid_of_loop M l) × (b (solid_of_loop N l) ≡ false) × (content N l ≡ content M l)
+  loop_kept l there out =
+      let row = w.loops l there out in
+      let face = same_face M N l row in
+      let k = w.before.loops_of_faces l there in
+      let is = ap (solid_of N) face ∙ solid_there (face_of M l) k out in
+      (ap is_some row ∙ there, is, ap b is ∙ (w.faces (face_of M l) k out).1, same_content M N l row)
+
+  loop_back : (l : ℕ) → Has N.loops l → b (solid_of_loop N l) ≡ false → (Has M.loops l) × (solid_of_loop N l ≡ solid_of_loop M l) × (a (solid_of_loop M l) ≡ false) × (content N l ≡ content M l)
+  loop_back l there out =
+      let row = w.loops_back l there out in
+      let face = same_face M N l row in
+      let k = w.after.loops_of_faces l there in
+      let is = solid_back (face_of N l) k out ∙ ap (solid_of M) face in
+      (ap is_some (sym row) ∙ there, is, ap a (sym is) ∙ (w.faces_back (face_of N l) k out).1, same_content M N l row)
+
+  -- and so does a half-edge
+  half_kept : (h : ℕ) → HasHalf M h → a (solid_of_half M h) ≡ false → (HasHalf N h) × (loop_of N h ≡ loop_of M h) × (tail N h ≡ tail M h)
+  half_kept h there out =
+      let l = loop_kept (loop_of M h) (loop_there M w.before h there) out in
+      let row = w.edges h there out in
+      (ap is_some row ∙ there, w.after.one_loop h (loop_of M h) (ap (holds h) l.3 ∙ w.before.stands h there), same_tail M N h row)
+
+  half_back : (h : ℕ) → HasHalf N h → b (solid_of_half N h) ≡ false → (HasHalf M h) × (loop_of N h ≡ loop_of M h) × (tail N h ≡ tail M h) × (a (solid_of_half M h) ≡ false)
+  half_back h there out =
+      let l = loop_back (loop_of N h) (loop_there N w.after h there) out in
+      let stands : StandsIn M h (loop_of N h) = ap (holds h) (sym l.3) ∙ w.after.stands h there in
+      let had = w.before.only_edges h (loop_of N h) stands in
+      let at = w.before.one_loop h (loop_of N h) stands in
+      let other : a (solid_of_half M h) ≡ false = ap (λ q. a (solid_of_loop M q)) at ∙ l.2 in
+      (had, sym at, (half_kept h had other).2, other)
+
+  edge_kept : (e : ℕ) → Has M.edges e → a (solid_of_edge M e) ≡ false → Has N.edges e × (b (solid_of_edge N e) ≡ false)
+  edge_kept e there out =
+      let t = plus_there M e there in
+      let h = half_kept (plus e) t out in
+      (plus_edge N e h.0, ap (λ q. b (solid_of_loop N q)) h.1 ∙ (loop_kept (loop_of M (plus e)) (loop_there M w.before (plus e) t) out).2)
+
+  edge_back : (e : ℕ) → Has N.edges e → b (solid_of_edge N e) ≡ false → Has M.edges e × (a (solid_of_edge M e) ≡ false)
+  edge_back e there out = let h = half_back (plus e) (plus_there N e there) out in (plus_edge M e h.0, h.3)
+
+  -- and a vertex
+  on_kept : (v l : ℕ) → Has M.loops l → a (solid_of_loop M l) ≡ false → IsOn M v l → IsOn N v l
+  on_kept v l there out on = go (content M l) refl on where
+    go : (c : LoopContent) → content M l ≡ c → IsIn v (vertices_on M c) → IsOn N v l
+    go (lone u) is i = subst (λ c. IsIn v (vertices_on N c)) (sym ((loop_kept l there out).3 ∙ is)) i
+    go (cycle hs) is i =
+        let h = half_on M w.before l v hs is i in
+        let k = half_kept h.0 h.1 (ap (λ q. a (solid_of_loop M q)) h.3 ∙ out) in
+        subst (λ u. IsOn N u l) (k.2 ∙ h.2) (subst (IsOn N (tail N h.0)) (k.1 ∙ h.3) (half_is_on N w.after h.0 k.0))
+
+  on_back : (v l : ℕ) → Has N.loops l → b (solid_of_loop N l) ≡ false → IsOn N v l → IsOn M v l
+  on_back v l there out on = go (content N l) refl on where
+    go : (c : LoopContent) → content N l ≡ c → IsIn v (vertices_on N c) → IsOn M v l
+    go (lone u) is i = subst (λ c. IsIn v (vertices_on M c)) (sym (sym (loop_back l there out).3 ∙ is)) i
+    go (cycle hs) is i =
+        let h = half_on N w.after l v hs is i in
+        let k = half_back h.0 h.1 (ap (λ q. b (solid_of_loop N q)) h.3 ∙ out) in
+        subst (λ u. IsOn M u l) (sym k.2 ∙ h.2) (subst (IsOn M (tail M h.0)) (sym k.1 ∙ h.3) (half_is_on M w.before h.0 k.0))
+
+  vertex_kept : (v : ℕ) → Has M.vertices v → a (solid_of_vertex M v) ≡ false → Has N.vertices v × (solid_of_vertex N v ≡ solid_of_vertex M v) × (b (solid_of_vertex N v) ≡ false)
+  vertex_kept v there out =
+      let o = has_owner M w.before v there in
+      let l = loop_kept o.loop o.there (ap a o.solid ∙ out) in
+      let on = on_kept v o.loop o.there (ap a o.solid ∙ out) o.on in
+      let is = owner_is N w.after (solid_of_vertex M v) v (record { loop = o.loop; there = l.0; solid = l.1 ∙ o.solid; on = on }) in
+      (on_there N w.after o.loop v on, is, ap b (is ∙ sym (l.1 ∙ o.solid)) ∙ l.2)
+
+  vertex_back : (v : ℕ) → Has N.vertices v → b (solid_of_vertex N v) ≡ false → Has M.vertices v × (solid_of_vertex N v ≡ solid_of_vertex M v) × (a (solid_of_vertex M v) ≡ false)
+  vertex_back v there out =
+      let o = has_owner N w.after v there in
+      let l = loop_back o.loop o.there (ap b o.solid ∙ out) in
+      let on = on_back v o.loop o.there (ap b o.solid ∙ out) o.on in
+      let is = owner_is M w.before (solid_of_vertex N v) v (record { loop = o.loop; there = l.0; solid = sym l.1 ∙ o.solid; on = on }) in
+      (on_there M w.before o.loop v on, sym is, ap a (is ∙ sym (sym l.1 ∙ o.solid)) ∙ l.2)
+
+  -- ---- so what is of those solids changes as the whole does
+
+  balance : {X : Type 0} (t u : Table X) (p q : ℕ → ℕ) → ((k : ℕ) → Has t k → a (p k) ≡ false → Has u k × (b (q k) ≡ false)) → ((k : ℕ) → Has u k → b (q k) ≡ false → Has t k × (a (p k) ≡ false)) →
+      Balance (λ k. a (p k)) (λ k. b (q k)) t u
+  balance t u p q there back = record {
+    kept = λ k s n. alike (a (p k)) (b (q k)) (λ o. (there k s o).1) (λ o. (back k n o).1);
+    new = λ k s n. not_false (b (q k)) (λ o. true≢false (sym (back k n o).0 ∙ s));
+    gone = λ k s n. not_false (a (p k)) (λ o. true≢false (sym (there k s o).0 ∙ n));
+  }
+
+  pub more_faces : many (λ k. b (solid_of N k)) N.faces + size M.faces ≡ many (λ k. a (solid_of M k)) M.faces + size N.faces
+  more_faces = balanced (λ k. a (solid_of M k)) (λ k. b (solid_of N k)) M.faces N.faces (balance M.faces N.faces (solid_of M) (solid_of N)
+      (λ k t o. let r = w.faces k t o in (ap is_some r.0 ∙ t, ap b (same_solid M N k r.0) ∙ r.1))
+      (λ k t o. let r = w.faces_back k t o in (ap is_some (sym r.0) ∙ t, ap a (sym (same_solid M N k r.0)) ∙ r.1)))
+
+  pub more_loops : many (λ l. b (solid_of_loop N l)) N.loops + size M.loops ≡ many (λ l. a (solid_of_loop M l)) M.loops + size N.loops
+  more_loops = balanced (λ l. a (solid_of_loop M l)) (λ l. b (solid_of_loop N l)) M.loops N.loops (balance M.loops N.loops (solid_of_loop M) (solid_of_loop N)
+      (λ l t o. let r = loop_kept l t o in (r.0, r.2)) (λ l t o. let r = loop_back l t o in (r.0, r.2)))
+
+  pub more_edges : many (λ e. b (solid_of_edge N e)) N.edges + size M.edges ≡ many (λ e. a (solid_of_edge M e)) M.edges + size N.edges
+  more_edges = balanced (λ e. a (solid_of_edge M e)) (λ e. b (solid_of_edge N e)) M.edges N.edges (balance M.edges N.edges (solid_of_edge M) (solid_of_edge N) edge_kept edge_back)
+
+  pub more_vertices : many (λ v. b (solid_of_vertex N v)) N.vertices + size M.vertices ≡ many (λ v. a (solid_of_vertex M v)) M.vertices + size N.vertices
+  more_vertices = balanced (λ v. a (solid_of_vertex M v)) (λ v. b (solid_of_vertex N v)) M.vertices N.vertices (balance M.vertices N.vertices (solid_of_vertex M) (solid_of_vertex N)
+      (λ v t o. let r = vertex_kept v t o in (r.0, r.2)) (λ v t o. let r = vertex_back v t o in (r.0, r.2)))

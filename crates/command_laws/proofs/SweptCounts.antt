@@ -1,0 +1,236 @@
+-- What a sweep adds to the counts of a solid.
+use Rattle.std.proofs.Common.{◌≡◌, ◌≢◌, ℕ, zero, suc, ◌+◌, ◌*◌, ◌≤◌, ◌<◌, Bool, true, false, nat_eq, List, [], ◌∷◌, ◌++◌, length, Some, None, is_some, refl, sym, ap, subst, ◌∙◌, arith, true≢false, ◌⊎◌, inl, inr}
+use Rattle.std.specs.Prelude.{pos, ◌-ℤ◌}
+use Rattle.std.proofs.lemmas.Int.{ints}
+use Rattle.std.proofs.lemmas.Bool.Decides.{eqb_tells}
+use Rattle.std.proofs.lemmas.Bool.{eq-eqb, eqb-false}
+use Rattle.std.proofs.lemmas.List.{length-append}
+use Rattle.euler_operators.specs.declared.Point.{Point}
+use Rattle.euler_operators.specs.Table as table
+use Rattle.euler_operators.specs.Table.{Table}
+use Rattle.euler_operators.specs.Model.{Model, FaceRow, cycle, items_of, content, face_of, solid_of, faces_of}
+use Rattle.euler_operators.specs.Sound.{Sound, Has, HasHalf}
+use Rattle.euler_operators.specs.HalfEdge.{edge_of}
+use Rattle.euler_operators.proofs.Models.{content_row, face_row, solid_row, same_face, same_solid}
+use Rattle.euler_operators.proofs.Rotations.{IsIn_head}
+use Rattle.euler_operators.proofs.Tables.{get-put_here, get-put_other, in_use_within}
+use Rattle.euler_laws.specs.Laws.{effects, size}
+use Rattle.euler_laws.proofs.Sizes.{size-put_new, size-put_old}
+use Rattle.shapes.specs.Faces.{boundary, loops_of, items_in, vertices_of, edges_of}
+use Rattle.shapes.specs.Fresh.{Taken, growing, taken_in}
+use Rattle.shapes.specs.Prism.{riser, top_edge, top_items, with_side, with_sides, lifted, prism_from, prism_refusal, prism_model}
+use Rattle.solid_measure.specs.declared.solid_counts.Tally.{Tally}
+use Rattle.solid_measure.specs.solid_counts.Counts.{tally_of, counts, rings_in}
+use Rattle.sweeps_laws.specs.prism.Ready.{Ready}
+use Rattle.sweeps_laws.specs.prism.SweepOps.{loop_ops, taken_after}
+use Rattle.sweeps_laws.proofs.prism.Accepted.{begins}
+use Rattle.sweeps_laws.proofs.prism.Loops.{loop_swept}
+use Rattle.sweeps_laws.proofs.prism.Sides.{sides_edges, sides_faces, sides_loops, sides_vertices, old_edge, face_there}
+use Rattle.sweeps_laws.proofs.prism.Whole.{Going, turn_ready, turn_next, turn_model}
+use Rattle.sweeps_laws.proofs.swept.Filled.{place_cases, filled, filled_old, filled_new, filled_past}
+use Rattle.sweeps_laws.proofs.swept.Numbers.{riser_above, riser_apart, riser_no_top, top_above, top_apart}
+use Rattle.sweeps_laws.proofs.swept.Sides.{grown, side_face, side_loop, faces_grown, loops_grown}
+use Rattle.undo_journal.specs.Machine.{held}
+use Rattle.command_laws.specs.Counted.{SweepAddsCounts}
+use Rattle.command_laws.proofs.Owners.{Agree, is_of, solid_of_loop, solid_of_half, faces_many, loops_many, vertices_many, more_faces, more_loops, more_edges, more_vertices}
+
+-- some more of each, and no ring
+abbrev pub with_more : Tally → ℕ → ℕ → ℕ → Tally
+with_more t v e f = record t { v = t.v + v; e = t.e + e; f = t.f + f }
+
+-- the counts of a solid outside of which two models agree
+pub counted_more : (M N : Model) (s v e f : ℕ) → Agree M N (is_of s) (is_of s) → size N.vertices ≡ size M.vertices + v → size N.edges ≡ size M.edges + e → size N.faces ≡ size M.faces + f → size N.loops ≡ size M.loops + f →
+    v + f ≡ e → counts N s ≡ with_more (counts M s) v e f
+unfolding counts
+counted_more M N s v e f w vs es fs ls even = λ i. record { v = vertices i; e = edges i; f = faces i; r = rings i; sum = sum i } where
+  vertices : length (vertices_of N s) ≡ length (vertices_of M s) + v
+  vertices = omega (arith, vertices_many M w.before s, vertices_many N w.after s, more_vertices M N (is_of s) (is_of s) w, vs)
+
+  edges : length (edges_of N s) ≡ length (edges_of M s) + e
+  edges = omega (arith, more_edges M N (is_of s) (is_of s) w, es)
+
+  faces : length (faces_of N s) ≡ length (faces_of M s) + f
+  faces = omega (arith, faces_many M w.before s, faces_many N w.after s, more_faces M N (is_of s) (is_of s) w, fs)
+
+  rings : length (rings_in N (faces_of N s)) ≡ length (rings_in M (faces_of M s))
+  rings = omega (arith, loops_many M w.before s, loops_many N w.after s, more_loops M N (is_of s) (is_of s) w, ls, faces)
+
+  sum : (counts N s).sum ≡ (counts M s).sum
+  sum = balance (length (vertices_of N s)) (length (edges_of N s)) (length (faces_of N s)) (length (rings_in N (faces_of N s))) (length (vertices_of M s)) (length (edges_of M s)) (length (faces_of M s)) (length (rings_in M (faces_of M s))) vertices edges faces rings where
+    balance : (v1 e1 f1 r1 v0 e0 f0 r0 : ℕ) → v1 ≡ v0 + v → e1 ≡ e0 + e → f1 ≡ f0 + f → r1 ≡ r0 → pos (v1 + f1) -ℤ pos (e1 + r1) ≡ pos (v0 + f0) -ℤ pos (e0 + r0)
+    balance v1 e1 f1 r1 v0 e0 f0 r0 a b c d = omega (arith, ints, even)
+
+-- rows put one after the other
+less_apart : (j n : ℕ) → j < n → j ≢ n
+less_apart j n l e = absurd (omega arith)
+
+before : (j n m : ℕ) → j < n → suc n ≤ m → j < m
+before j n m k l = omega arith
+
+one_more : (a b n : ℕ) → a ≡ b + n → a + 1 ≡ b + suc n
+one_more a b n e = omega arith
+
+two_more : (a b n : ℕ) → a ≡ b + 2 * n → a + 1 + 1 ≡ b + 2 * suc n
+two_more a b n e = omega arith
+
+filled_size : {X : Type 0} (t : Table X) (a : ℕ) (x : ℕ → X) → ((q : ℕ) → a < q → table.get t q ≡ None) → (n : ℕ) → size (filled t a x n) ≡ size t + n
+filled_size t a x free zero = omega arith
+filled_size t a x free (suc n) = size-put_new (filled t a x n) (a + 1 + n) (x n) (filled_past t a x n (a + 1 + n) (past a n) ∙ free (a + 1 + n) (over a n)) ∙ one_more (size (filled t a x n)) (size t) n (filled_size t a x free n) where
+  past : (a n : ℕ) → a + n < a + 1 + n
+  past a n = omega arith
+
+  over : (a n : ℕ) → a < a + 1 + n
+  over a n = omega arith
+
+no_more : (t : Tally) → t ≡ with_more t 0 0 0
+no_more t = λ i. record { v = zero_more t.v i; e = zero_more t.e i; f = zero_more t.f i; r = t.r; sum = t.sum } where
+  zero_more : (n : ℕ) → n ≡ n + 0
+  zero_more n = omega arith
+
+both : (t : Tally) (n m : ℕ) → with_more (with_more t n (2 * n) n) m (2 * m) m ≡ with_more t (n + m) (2 * (n + m)) (n + m)
+both t n m = λ i. record { v = once t.v n m i; e = twice t.e n m i; f = once t.f n m i; r = t.r; sum = t.sum } where
+  once : (a n m : ℕ) → a + n + m ≡ a + (n + m)
+  once a n m = omega arith
+
+  twice : (a n m : ℕ) → a + 2 * n + 2 * m ≡ a + 2 * (n + m)
+  twice a n m = omega arith
+
+-- one loop swept
+module _ (M : Model) (c : Taken) (f l : ℕ) (d : Point) (hs : List ℕ) (w : Ready M c f l d hs) where
+  abbrev s : ℕ
+  s = solid_of M f
+
+  abbrev S : ℕ → Model
+  S i = with_sides c s d hs i M
+
+  abbrev N : Model
+  N = lifted (S (length hs)) f l (top_items c.edge (length hs) (length hs))
+
+  above : (a i j : ℕ) → a + 1 + i ≡ a + 1 + j → i ≡ j
+  above a i j e = omega arith
+
+  over : (q a i : ℕ) → q ≤ a → q ≢ a + 1 + i
+  over q a i m e = absurd (omega arith)
+
+  less_one : (n m : ℕ) → suc n ≤ m → n ≤ m
+  less_one n m l = omega arith
+
+  -- ---- rows
+
+  face_kept : (k : ℕ) → Has M.faces k → table.get N.faces k ≡ table.get M.faces k
+  face_kept k there = sides_faces M c f l d hs w (length hs) k (λ j m e. over k c.face j (in_use_within M.faces c.face w.faces_free k there) e)
+
+  -- a face is an old one, or one of the sides
+  face_cases : (k : ℕ) → Has N.faces k → (table.get N.faces k ≡ table.get M.faces k) ⊎ (solid_of N k ≡ s)
+  face_cases k there = elim (place_cases k c.face (length hs)) [
+    | inl m ↦ inl (at ∙ filled_old M.faces c.face (side_face M c s d hs) (length hs) k m)
+    | inr (inl i) ↦ inr (solid_row N k (side_face M c s d hs i.0) (at ∙ ap (table.get (filled M.faces c.face (side_face M c s d hs) (length hs))) i.2 ∙ filled_new M.faces c.face (side_face M c s d hs) (length hs) i.0 i.1))
+    | inr (inr m) ↦ inl (at ∙ filled_past M.faces c.face (side_face M c s d hs) (length hs) k m)
+  ] where
+    at : table.get N.faces k ≡ table.get (filled M.faces c.face (side_face M c s d hs) (length hs)) k
+    at = ap (λ t. table.get t k) (faces_grown M c s d hs (length hs))
+
+  loop_kept : (q : ℕ) → q ≢ l → Has M.loops q → table.get N.loops q ≡ table.get M.loops q
+  loop_kept q ne there = get-put_other (S (length hs)).loops l _ q ne ∙ sides_loops M c f l d hs w (length hs) q (λ j m e. over q c.loop j (in_use_within M.loops c.loop w.loops_free q there) e)
+
+  pub of_f : solid_of N f ≡ s
+  of_f = same_solid M N f (face_kept f (face_there M c f l d hs w))
+
+  -- a loop is an old one, or of this solid
+  loop_cases : (q : ℕ) → Has N.loops q → (table.get N.loops q ≡ table.get M.loops q) ⊎ (solid_of_loop N q ≡ s)
+  loop_cases q there = elim (eqb_tells q l) [
+    | inl e ↦ inr (ap (solid_of N) (ap (face_of N) e.1 ∙ face_row N l _ (get-put_here (S (length hs)).loops l _)) ∙ of_f)
+    | inr e ↦ elim (place_cases q c.loop (length hs)) [
+      | inl m ↦ inl (at e.1 ∙ filled_old M.loops c.loop (side_loop M c s d hs) (length hs) q m)
+      | inr (inl i) ↦ inr (ap (solid_of N) (face_row N q (side_loop M c s d hs i.0) (at e.1 ∙ ap (table.get (filled M.loops c.loop (side_loop M c s d hs) (length hs))) i.2 ∙ filled_new M.loops c.loop (side_loop M c s d hs) (length hs) i.0 i.1))
+          ∙ solid_row N (c.face + 1 + i.0) (side_face M c s d hs i.0) (ap (λ t. table.get t (c.face + 1 + i.0)) (faces_grown M c s d hs (length hs)) ∙ filled_new M.faces c.face (side_face M c s d hs) (length hs) i.0 i.1))
+      | inr (inr m) ↦ inl (at e.1 ∙ filled_past M.loops c.loop (side_loop M c s d hs) (length hs) q m)
+    ]
+  ] where
+    at : q ≢ l → table.get N.loops q ≡ table.get (filled M.loops c.loop (side_loop M c s d hs) (length hs)) q
+    at ne = get-put_other (S (length hs)).loops l _ q ne ∙ ap (λ t. table.get t q) (loops_grown M c s d hs (length hs))
+
+  -- ---- how many rows
+
+  within : (q a n : ℕ) → q ≡ a + 1 + n → a < q
+  within q a n e = omega (arith, e)
+
+  size_faces : (n : ℕ) → size (S n).faces ≡ size M.faces + n
+  size_faces n = ap size (faces_grown M c s d hs n) ∙ filled_size M.faces c.face (side_face M c s d hs) w.faces_free n
+
+  size_loops : (n : ℕ) → size (S n).loops ≡ size M.loops + n
+  size_loops n = ap size (loops_grown M c s d hs n) ∙ filled_size M.loops c.loop (side_loop M c s d hs) w.loops_free n
+
+  lifted_size : size N.loops ≡ size M.loops + length hs
+  lifted_size = size-put_old (S (length hs)).loops l _ _ (sides_loops M c f l d hs w (length hs) l (λ j m e. over l c.loop j (in_use_within M.loops c.loop w.loops_free l (ap is_some w.at)) e) ∙ w.at) ∙ size_loops (length hs)
+
+  size_vertices : (n : ℕ) → size (S n).vertices ≡ size M.vertices + n
+  unfolding with_side
+  size_vertices zero = omega arith
+  size_vertices (suc n) =
+      let free : table.get (S n).vertices (c.vertex + 1 + n) ≡ None = sides_vertices M c f l d hs w n (c.vertex + 1 + n) (λ j m e. less_apart j n m (sym (above c.vertex n j e))) ∙ w.vertices_free (c.vertex + 1 + n) (within (c.vertex + 1 + n) c.vertex n refl) in
+      size-put_new (S n).vertices (c.vertex + 1 + n) _ free ∙ one_more (size (S n).vertices) (size M.vertices) n (size_vertices n)
+
+  size_edges : (n : ℕ) → n ≤ length hs → size (S n).edges ≡ size M.edges + 2 * n
+  unfolding with_side
+  size_edges zero m = omega arith
+  size_edges (suc n) m =
+      let r = riser c.edge n in
+      let t = top_edge c.edge (length hs) n in
+      let free_r : table.get (S n).edges r ≡ None = sides_edges M c f l d hs w n r (λ j k. (riser_apart c.edge n j (λ e. less_apart j n k (sym e)), riser_no_top c.edge (length hs) n j m (before j n (length hs) k m)))
+      ∙ w.edges_free r (riser_above c.edge n) in
+      let free_t : table.get (S n).edges t ≡ None = sides_edges M c f l d hs w n t (λ j k. ((λ e. riser_no_top c.edge (length hs) j n (before j n (length hs) k m) m (sym e)), top_apart c.edge (length hs) n j m (before j n (length hs) k m) (λ e. less_apart j n k (sym e))))
+      ∙ w.edges_free t (top_above c.edge (length hs) n m) in
+      size-put_new (table.put (S n).edges r _) t _ (get-put_other (S n).edges r _ t (λ e. riser_no_top c.edge (length hs) n n m m (sym e)) ∙ free_t)
+      ∙ ap (λ k. k + 1) (size-put_new (S n).edges r _ free_r) ∙ two_more (size (S n).edges) (size M.edges) n (size_edges n (less_one n (length hs) m))
+
+  agree : Sound N → Agree M N (is_of s) (is_of s)
+  agree after = record {
+    before = w.sound;
+    after = after;
+    faces = λ k there out. (face_kept k there, out);
+    faces_back = λ k there out. elim (face_cases k there) [ inl e ↦ (e, out) | inr e ↦ absurd (eqb-false (solid_of N k) s out e) ];
+    loops = λ q there out. loop_kept q (λ e. eqb-false (solid_of_loop M q) s out (ap (solid_of_loop M) e ∙ ap (solid_of M) (face_row M l _ w.at))) there;
+    loops_back = λ q there out. elim (loop_cases q there) [ inl e ↦ e | inr e ↦ absurd (eqb-false (solid_of_loop N q) s out e) ];
+    edges = λ h there out. old_edge M c f l d hs w (length hs) (edge_of h) there;
+  }
+
+  pub step : (after : Sound N) → counts N s ≡ with_more (counts M s) (length hs) (2 * length hs) (length hs)
+  step after = counted_more M N s (length hs) (2 * length hs) (length hs) (agree after) (size_vertices (length hs)) (size_edges (length hs) (all (length hs))) (size_faces (length hs)) lifted_size (twice (length hs)) where
+    all : (n : ℕ) → n ≤ n
+    all n = omega arith
+
+    twice : (n : ℕ) → n + n ≡ 2 * n
+    twice n = omega arith
+
+swept : (M N : Model) (c : Taken) (f : ℕ) (d : Point) (ls : List ℕ) (s : ℕ) → Going M N c f d ls → solid_of N f ≡ s → let n = length (items_in M ls) in
+    counts (prism_from f d (record { model = N; taken = c }) ls).model s ≡ with_more (counts N s) n (2 * n) n
+swept M N c f d [] s g of = no_more (counts N s)
+swept M N c f d (l ∷ ls) s g of =
+    let hs = items_of (content N l) in
+    let k = face_of N l in
+    let r = turn_ready M N c f l d ls g in
+    let X = effects N (loop_ops N c d hs) in
+    let Y = lifted (with_sides c (solid_of N k) d hs (length hs) N) k l (top_items c.edge (length hs) (length hs)) in
+    let is : X ≡ Y = (loop_swept N c k l d hs r).1 in
+    let next = turn_next M N c f l d ls g X refl in
+    let at = g.rows l (IsIn_head l ls) in
+    let face : k ≡ f = face_row N l _ at in
+    let solid : solid_of N k ≡ s = ap (solid_of N) face ∙ of in
+    let items : hs ≡ items_of (content M l) = ap items_of (content_row N l _ at) in
+    let made : counts X s ≡ with_more (counts N s) (length hs) (2 * length hs) (length hs) =
+    ap (λ Z. counts Z s) is ∙ subst (λ u. counts Y u ≡ with_more (counts N u) (length hs) (2 * length hs) (length hs)) solid (step N c k l d hs r (subst Sound is next.sound)) in
+    let still : solid_of X f ≡ s = ap (solid_of X) (sym face) ∙ ap (λ Z. solid_of Z k) is ∙ of_f N c k l d hs r ∙ solid in
+    let n = length (items_in M ls) in
+    ap (λ Z. counts Z s) (sym (turn_model M N c f l d ls g X refl))
+    ∙ swept M X (taken_after c (length hs)) f d ls s next still
+    ∙ ap (λ t. with_more t n (2 * n) n) made
+    ∙ both (counts N s) (length hs) n
+    ∙ ap (λ j. with_more (counts N s) j (2 * j) j) (ap (λ j. j + n) (ap length items) ∙ sym (length-append (items_of (content M l)) (items_in M ls)))
+
+pub model_adds_counts : (M : Model) (f : ℕ) (d : Point) → Sound M → prism_refusal M f d ≡ None → let n = length (boundary M f) in counts (prism_model M f d) (solid_of M f) ≡ with_more (counts M (solid_of M f)) n (2 * n) n
+unfolding boundary prism_model
+model_adds_counts M f d sound goes = swept M M (taken_in M) f d (loops_of M f) (solid_of M f) (begins M f d sound goes) refl
+
+pub sweep_adds_counts : SweepAddsCounts
+sweep_adds_counts before after f d sound made = ap (λ m. counts (held m) (solid_of (held before) f)) made.1 ∙ model_adds_counts (held before) f d sound made.0

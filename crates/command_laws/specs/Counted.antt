@@ -1,0 +1,27 @@
+-- What `counts` answers after a command.
+use Rattle.std.specs.Prelude.{◌≡◌, ℕ, ◌+◌, ◌-◌, ◌*◌, ℤ, pos, ◌+ℤ◌, ◌-ℤ◌, List, length}
+use Rattle.euler_operators.specs.declared.Point.{Point}
+use Rattle.euler_operators.specs.Model.{solid_of}
+use Rattle.euler_operators.specs.Sound.{Sound}
+use Rattle.shapes.specs.Faces.{boundary}
+use Rattle.shapes.specs.glue.Glue.{rim}
+use Rattle.solid_measure.specs.declared.solid_counts.Tally.{Tally}
+use Rattle.solid_measure.specs.solid_counts.Counts.{counts}
+use Rattle.undo_journal.specs.Machine.{Machine, held}
+use Rattle.command_laws.specs.Commands.{IsLamina, IsBlock, IsSweep, IsGlue}
+
+-- a lamina of n points has n vertices, n edges and two faces
+abbrev pub LaminaCounts : Type 0
+LaminaCounts = (before after : Machine) (s : ℕ) (ps : List Point) → Sound (held before) → IsLamina before after s ps →
+    let n = length ps in counts (held after) s ≡ record { v = n; e = n; f = 2; r = 0; sum = pos 2 }
+
+-- a block has eight vertices, twelve edges and six faces
+abbrev pub BlockCounts : Type 0
+BlockCounts = (before after : Machine) (s : ℕ) (p : Point) (dx dy dz : ℤ) → Sound (held before) → IsBlock before after s p dx dy dz →
+    counts (held after) s ≡ record { v = 8; e = 12; f = 6; r = 0; sum = pos 2 }
+
+-- a sweep of a face with n half-edges, those of its rings too, makes n vertices, 2 n edges and n faces, and no ring
+abbrev pub SweepAddsCounts : Type 0
+SweepAddsCounts = (before after : Machine) (f : ℕ) (d : Point) → Sound (held before) → IsSweep before after f d →
+    let s = solid_of (held before) f in let n = length (boundary (held before) f) in let t = counts (held before) s in
+    counts (held after) s ≡ record t { v = t.v + n; e = t.e + 2 * n; f = t.f + n }
