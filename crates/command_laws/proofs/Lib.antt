@@ -17,3 +17,4 @@ mod SweptRings
 mod MovedAreas
 mod Owners
 mod SweptCounts
+mod NewCounts

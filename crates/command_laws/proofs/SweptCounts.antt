@@ -40,9 +40,9 @@ with_more t v e f = record t { v = t.v + v; e = t.e + e; f = t.f + f }
 
 -- the counts of a solid outside of which two models agree
 pub counted_more : (M N : Model) (s v e f : ℕ) → Agree M N (is_of s) (is_of s) → size N.vertices ≡ size M.vertices + v → size N.edges ≡ size M.edges + e → size N.faces ≡ size M.faces + f → size N.loops ≡ size M.loops + f →
-    v + f ≡ e → counts N s ≡ with_more (counts M s) v e f
+    let t = counts M s in counts N s ≡ tally_of (t.v + v) (t.e + e) (t.f + f) t.r
 unfolding counts
-counted_more M N s v e f w vs es fs ls even = λ i. record { v = vertices i; e = edges i; f = faces i; r = rings i; sum = sum i } where
+counted_more M N s v e f w vs es fs ls = λ i. tally_of (vertices i) (edges i) (faces i) (rings i) where
   vertices : length (vertices_of N s) ≡ length (vertices_of M s) + v
   vertices = omega (arith, vertices_many M w.before s, vertices_many N w.after s, more_vertices M N (is_of s) (is_of s) w, vs)
 
@@ -55,10 +55,13 @@ counted_more M N s v e f w vs es fs ls even = λ i. record { v = vertices i; e =
   rings : length (rings_in N (faces_of N s)) ≡ length (rings_in M (faces_of M s))
   rings = omega (arith, loops_many M w.before s, loops_many N w.after s, more_loops M N (is_of s) (is_of s) w, ls, faces)
 
-  sum : (counts N s).sum ≡ (counts M s).sum
-  sum = balance (length (vertices_of N s)) (length (edges_of N s)) (length (faces_of N s)) (length (rings_in N (faces_of N s))) (length (vertices_of M s)) (length (edges_of M s)) (length (faces_of M s)) (length (rings_in M (faces_of M s))) vertices edges faces rings where
-    balance : (v1 e1 f1 r1 v0 e0 f0 r0 : ℕ) → v1 ≡ v0 + v → e1 ≡ e0 + e → f1 ≡ f0 + f → r1 ≡ r0 → pos (v1 + f1) -ℤ pos (e1 + r1) ≡ pos (v0 + f0) -ℤ pos (e0 + r0)
-    balance v1 e1 f1 r1 v0 e0 f0 r0 a b c d = omega (arith, ints, even)
+-- v - e + f - r is as it was
+evenly : (M : Model) (s n : ℕ) → let t = counts M s in tally_of (t.v + n) (t.e + 2 * n) (t.f + n) t.r ≡ with_more t n (2 * n) n
+unfolding counts
+evenly M s n = ap (λ z. record { v = length (vertices_of M s) + n; e = length (edges_of M s) + 2 * n; f = length (faces_of M s) + n; r = length (rings_in M (faces_of M s)); sum = z })
+    (balance (length (vertices_of M s)) (length (edges_of M s)) (length (faces_of M s)) (length (rings_in M (faces_of M s)))) where
+      balance : (v e f r : ℕ) → pos (v + n + (f + n)) -ℤ pos (e + 2 * n + r) ≡ pos (v + f) -ℤ pos (e + r)
+      balance v e f r = omega (arith, ints)
 
 -- rows put one after the other
 less_apart : (j n : ℕ) → j < n → j ≢ n
@@ -67,7 +70,7 @@ less_apart j n l e = absurd (omega arith)
 before : (j n m : ℕ) → j < n → suc n ≤ m → j < m
 before j n m k l = omega arith
 
-one_more : (a b n : ℕ) → a ≡ b + n → a + 1 ≡ b + suc n
+pub one_more : (a b n : ℕ) → a ≡ b + n → a + 1 ≡ b + suc n
 one_more a b n e = omega arith
 
 two_more : (a b n : ℕ) → a ≡ b + 2 * n → a + 1 + 1 ≡ b + 2 * suc n
@@ -196,12 +199,9 @@ module _ (M : Model) (c : Taken) (f l : ℕ) (d : Point) (hs : List ℕ) (w : Re
   }
 
   pub step : (after : Sound N) → counts N s ≡ with_more (counts M s) (length hs) (2 * length hs) (length hs)
-  step after = counted_more M N s (length hs) (2 * length hs) (length hs) (agree after) (size_vertices (length hs)) (size_edges (length hs) (all (length hs))) (size_faces (length hs)) lifted_size (twice (length hs)) where
+  step after = counted_more M N s (length hs) (2 * length hs) (length hs) (agree after) (size_vertices (length hs)) (size_edges (length hs) (all (length hs))) (size_faces (length hs)) lifted_size ∙ evenly M s (length hs) where
     all : (n : ℕ) → n ≤ n
     all n = omega arith
-
-    twice : (n : ℕ) → n + n ≡ 2 * n
-    twice n = omega arith
 
 swept : (M N : Model) (c : Taken) (f : ℕ) (d : Point) (ls : List ℕ) (s : ℕ) → Going M N c f d ls → solid_of N f ≡ s → let n = length (items_in M ls) in
     counts (prism_from f d (record { model = N; taken = c }) ls).model s ≡ with_more (counts N s) n (2 * n) n

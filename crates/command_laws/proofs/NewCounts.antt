@@ -1,0 +1,254 @@
+-- The counts of a lamina and of a block.
+use Rattle.std.proofs.Common.{◌≡◌, ◌≢◌, ℕ, zero, suc, ◌+◌, ◌-◌, ◌*◌, ◌≤◌, ◌<◌, ℤ, pos, ◌-ℤ◌, Bool, true, false, not, nat_eq, nat_le, List, [], ◌∷◌, ◌++◌, append-nil, length, Option, Some, None, is_some, refl, sym, ap, subst, ◌∙◌, arith, true≢false, ◌⊎◌, inl, inr}
+use Rattle.std.proofs.lemmas.Int.{ints}
+use Rattle.std.proofs.lemmas.Bool.Decides.{nat_tests, eqb_tells}
+use Rattle.std.proofs.lemmas.Bool.{ne_eqb, eqb-false, not-true}
+use Rattle.euler_operators.specs.declared.Point.{Point}
+use Rattle.euler_operators.specs.HalfEdge.{edge_of, plus}
+use Rattle.euler_operators.specs.Table as table
+use Rattle.euler_operators.specs.Table.{Table}
+use Rattle.euler_operators.specs.Model.{Model, FaceRow, EdgeRow, content, face_of, faces_of, items_of, outer, rings_of, solid_of}
+use Rattle.euler_operators.specs.Sound.{Sound, Has, HasHalf}
+use Rattle.euler_operators.specs.Conditions.{face_at, lists}
+use Rattle.euler_operators.proofs.Models.{face_row, solid_row, same_face, same_solid, loop_there, plus_there}
+use Rattle.euler_operators.proofs.Tables.{all_where_none, get-put_here, get-put_other}
+use Rattle.euler_laws.specs.Laws.{size}
+use Rattle.euler_laws.proofs.Sizes.{size-put_new}
+use Rattle.euler_laws.proofs.shared.Goes.{all_hold}
+use Rattle.shapes.specs.Block.{base_of, block_refusal, block_model}
+use Rattle.shapes.specs.Faces.{boundary, corners_in, edges_of, items_in, loops_of, vertices_of}
+use Rattle.shapes.specs.Fresh.{Taken, taken_in}
+use Rattle.shapes.specs.Lamina.{lamina_conditions, lamina_face, lamina_refusal, lamina_at, lamina_model, with_points, with_path, with_ring}
+use Rattle.shapes.specs.Prism.{prism_model, prism_refusal}
+use Rattle.shapes.proofs.fresh.Rows.{none_above, at_most_greatest}
+use Rattle.solid_measure.specs.solid_counts.Counts.{tally_of, counts, rings_in}
+use Rattle.sweeps_laws.proofs.lamina.Blocks.{bases_rise, blocks_have_bases}
+use Rattle.sweeps_laws.proofs.lamina.Walk.{lamina_is_sound}
+use Rattle.undo_journal.specs.Machine.{held}
+use Rattle.command_laws.specs.Counted.{LaminaCounts, BlockCounts}
+use Rattle.command_laws.specs.NewFaces.{corner_points, up_by}
+use Rattle.command_laws.proofs.LaminaFaces.{lamina_faces}
+use Rattle.command_laws.proofs.Outlines.{as_many}
+use Rattle.command_laws.proofs.Owners.{Agree, is_of, solid_of_loop, solid_of_edge}
+use Rattle.command_laws.proofs.SweptFaces.{before_points}
+use Rattle.command_laws.proofs.SweptCounts.{with_more, counted_more, one_more, model_adds_counts}
+
+-- ---- a solid that isn't there has nothing
+
+nothing : (M : Model) (s : ℕ) → Sound M → table.has M.solids s ≡ false → counts M s ≡ tally_of 0 0 0 0
+unfolding counts
+nothing M s sound free = λ i. tally_of (length (vertices i)) (length (edges i)) (length (faces i)) (length (rings_in M (faces i))) where
+  other : (k : ℕ) → Has M.faces k → solid_of M k ≢ s
+  other k there e = true≢false (sym (sound.faces_of_solids k there) ∙ ap (table.has M.solids) e ∙ free)
+
+  faces : faces_of M s ≡ []
+  faces = all_where_none (λ _ row. nat_eq row.solid s) M.faces (λ k row at. ne_eqb row.solid s (λ e. other k (ap is_some at) (solid_row M k row at ∙ e)))
+
+  vertices : vertices_of M s ≡ []
+  vertices = ap (λ fs. table.all_where (λ v _. lists (corners_in M fs) v) M.vertices) faces ∙ all_where_none (λ _ _. false) M.vertices (λ _ _ _. refl)
+
+  edges : edges_of M s ≡ []
+  edges = all_where_none (λ e _. nat_eq (solid_of_edge M e) s) M.edges (λ e row at.
+      let t = plus_there M e (ap is_some at) in ne_eqb (solid_of_edge M e) s (other (face_at M (plus e)) (sound.loops_of_faces _ (loop_there M sound (plus e) t))))
+
+-- ---- two rows put
+
+module _ {X : Type 0} (t : Table X) (a : ℕ) (x y : X) where
+  abbrev two : Table X
+  two = table.put (table.put t (a + 1) x) (a + 2) y
+
+  two_kept : (q : ℕ) → q ≢ a + 1 → q ≢ a + 2 → table.get two q ≡ table.get t q
+  two_kept q m n = get-put_other (table.put t (a + 1) x) (a + 2) y q n ∙ get-put_other t (a + 1) x q m
+
+  two_size : ((q : ℕ) → a < q → table.get t q ≡ None) → size two ≡ size t + 2
+  two_size free = size-put_new (table.put t (a + 1) x) (a + 2) y (get-put_other t (a + 1) x (a + 2) (apart a) ∙ free (a + 2) (above a)) ∙ ap (λ n. n + 1) (size-put_new t (a + 1) x (free (a + 1) (next a))) ∙ added (size t) where
+    apart : (a : ℕ) → a + 2 ≢ a + 1
+    apart a e = absurd (omega arith)
+
+    above : (a : ℕ) → a < a + 2
+    above a = omega arith
+
+    next : (a : ℕ) → a < a + 1
+    next a = omega arith
+
+    added : (n : ℕ) → n + 1 + 1 ≡ n + 2
+    added n = omega arith
+
+-- ---- rows put one after the other
+
+path_kept : (t : Table EdgeRow) (e v n q : ℕ) → q ≤ e → table.get (with_path t e v n) q ≡ table.get t q
+path_kept t e v zero q l = refl
+path_kept t e v (suc n) q l = get-put_other (with_path t e v n) (e + suc n) _ q (over q e n l) ∙ path_kept t e v n q l where
+  over : (q e n : ℕ) → q ≤ e → q ≢ e + suc n
+  over q e n l s = absurd (omega arith)
+
+path_past : (t : Table EdgeRow) (e v n q : ℕ) → e + n < q → table.get (with_path t e v n) q ≡ table.get t q
+path_past t e v zero q l = refl
+path_past t e v (suc n) q l = get-put_other (with_path t e v n) (e + suc n) _ q (other e n q l) ∙ path_past t e v n q (less e n q l) where
+  other : (e n q : ℕ) → e + suc n < q → q ≢ e + suc n
+  other e n q l s = absurd (omega arith)
+
+  less : (e n q : ℕ) → e + suc n < q → e + n < q
+  less e n q l = omega arith
+
+points_past : (t : Table Point) (v : ℕ) (ps : List Point) (n q : ℕ) → v + n < q → table.get (with_points t v ps n) q ≡ table.get t q
+points_past t v ps zero q l = refl
+points_past t v ps (suc n) q l = get-put_other (with_points t v ps n) (v + suc n) _ q (other v n q l) ∙ points_past t v ps n q (less v n q l) where
+  other : (e n q : ℕ) → e + suc n < q → q ≢ e + suc n
+  other e n q l s = absurd (omega arith)
+
+  less : (e n q : ℕ) → e + suc n < q → e + n < q
+  less e n q l = omega arith
+
+last : (e n : ℕ) → e + n < e + suc n
+last e n = omega arith
+
+first : (e n : ℕ) → e < e + suc n
+first e n = omega arith
+
+path_size : (t : Table EdgeRow) (e v : ℕ) → ((q : ℕ) → e < q → table.get t q ≡ None) → (n : ℕ) → size (with_path t e v n) ≡ size t + n
+path_size t e v free zero = omega arith
+path_size t e v free (suc n) = size-put_new (with_path t e v n) (e + suc n) _ (path_past t e v n (e + suc n) (last e n) ∙ free (e + suc n) (first e n)) ∙ one_more (size (with_path t e v n)) (size t) n (path_size t e v free n)
+
+ring_size : (t : Table EdgeRow) (e v : ℕ) → ((q : ℕ) → e < q → table.get t q ≡ None) → (n : ℕ) → 0 < n → size (with_ring t e v n) ≡ size t + n
+ring_size t e v free n some = size-put_new (with_path t e v (n - 1)) (e + n) _ (path_past t e v (n - 1) (e + n) (less e n some) ∙ free (e + n) (omega arith)) ∙ ap (λ k. k + 1) (path_size t e v free (n - 1)) ∙ back (size t) n some where
+  less : (e n : ℕ) → 0 < n → e + (n - 1) < e + n
+  less e n l = omega arith
+
+  back : (a n : ℕ) → 0 < n → a + (n - 1) + 1 ≡ a + n
+  back a n l = omega arith
+
+points_size : (t : Table Point) (v : ℕ) (ps : List Point) → ((q : ℕ) → v < q → table.get t q ≡ None) → (n : ℕ) → size (with_points t v ps n) ≡ size t + n
+points_size t v ps free zero = omega arith
+points_size t v ps free (suc n) = size-put_new (with_points t v ps n) (v + suc n) _ (points_past t v ps n (v + suc n) (last v n) ∙ free (v + suc n) (first v n)) ∙ one_more (size (with_points t v ps n)) (size t) n (points_size t v ps free n)
+
+-- ---- a lamina
+
+module _ (M : Model) (s : ℕ) (ps : List Point) (sound : Sound M) (some : 0 < length ps) (after : Sound (lamina_at M (taken_in M) s ps)) where
+  abbrev c : Taken
+  c = taken_in M
+
+  abbrev N : Model
+  N = lamina_at M c s ps
+
+  abbrev first_face : FaceRow
+  first_face = record { solid = s; outer = c.loop + 1 }
+
+  abbrev second_face : FaceRow
+  second_face = record { solid = s; outer = c.loop + 2 }
+
+  over : (q a : ℕ) → q ≤ a → (q ≢ a + 1) × (q ≢ a + 2)
+  over q a l = ((λ e. absurd (omega arith)), (λ e. absurd (omega arith)))
+
+  one_two : (a : ℕ) → a + 1 ≢ a + 2
+  one_two a e = absurd (omega arith)
+
+  face_one : table.get N.faces (c.face + 1) ≡ Some first_face
+  face_one = get-put_other (table.put M.faces (c.face + 1) first_face) (c.face + 2) second_face (c.face + 1) (one_two c.face) ∙ get-put_here M.faces (c.face + 1) first_face
+
+  face_two : table.get N.faces (c.face + 2) ≡ Some second_face
+  face_two = get-put_here (table.put M.faces (c.face + 1) first_face) (c.face + 2) second_face
+
+  face_kept : (k : ℕ) → Has M.faces k → table.get N.faces k ≡ table.get M.faces k
+  unfolding taken_in
+  face_kept k there = let o = over k c.face (at_most_greatest M.faces k there) in two_kept M.faces c.face first_face second_face k o.0 o.1
+
+  loop_kept : (q : ℕ) → Has M.loops q → table.get N.loops q ≡ table.get M.loops q
+  unfolding taken_in
+  loop_kept q there = let o = over q c.loop (at_most_greatest M.loops q there) in two_kept M.loops c.loop _ _ q o.0 o.1
+
+  edge_kept : (q : ℕ) → Has M.edges q → table.get N.edges q ≡ table.get M.edges q
+  unfolding taken_in
+  edge_kept q there =
+      let low = at_most_greatest M.edges q there in
+      get-put_other (with_path M.edges (table.greatest M.edges) (table.greatest M.vertices) (length ps - 1)) (table.greatest M.edges + length ps) _ q (before (length ps) q (table.greatest M.edges) some low)
+      ∙ path_kept M.edges (table.greatest M.edges) (table.greatest M.vertices) (length ps - 1) q low where
+        before : (n q e : ℕ) → 0 < n → q ≤ e → q ≢ e + n
+        before n q e m l z = absurd (omega arith)
+
+  face_cases : (k : ℕ) → (table.get N.faces k ≡ table.get M.faces k) ⊎ (solid_of N k ≡ s)
+  face_cases k = elim (eqb_tells k (c.face + 1)) [
+    | inl e ↦ inr (ap (solid_of N) e.1 ∙ solid_row N (c.face + 1) first_face face_one)
+    | inr m ↦ elim (eqb_tells k (c.face + 2)) [
+      | inl e ↦ inr (ap (solid_of N) e.1 ∙ solid_row N (c.face + 2) second_face face_two)
+      | inr n ↦ inl (two_kept M.faces c.face first_face second_face k m.1 n.1)
+    ]
+  ]
+
+  loop_cases : (q : ℕ) → (table.get N.loops q ≡ table.get M.loops q) ⊎ (solid_of_loop N q ≡ s)
+  loop_cases q = elim (eqb_tells q (c.loop + 1)) [
+    | inl e ↦ inr (ap (solid_of_loop N) e.1 ∙ ap (solid_of N) (face_row N (c.loop + 1) _ (get-put_other (table.put M.loops (c.loop + 1) _) (c.loop + 2) _ (c.loop + 1) (one_two c.loop) ∙ get-put_here M.loops (c.loop + 1) _)) ∙ solid_row N (c.face + 1) first_face face_one)
+    | inr m ↦ elim (eqb_tells q (c.loop + 2)) [
+      | inl e ↦ inr (ap (solid_of_loop N) e.1 ∙ ap (solid_of N) (face_row N (c.loop + 2) _ (get-put_here (table.put M.loops (c.loop + 1) _) (c.loop + 2) _)) ∙ solid_row N (c.face + 2) second_face face_two)
+      | inr n ↦ inl (two_kept M.loops c.loop _ _ q m.1 n.1)
+    ]
+  ]
+
+  agree : Agree M N (is_of s) (is_of s)
+  agree = record {
+    before = sound;
+    after = after;
+    faces = λ k there out. (face_kept k there, out);
+    faces_back = λ k there out. elim (face_cases k) [ inl e ↦ (e, out) | inr e ↦ absurd (eqb-false (solid_of N k) s out e) ];
+    loops = λ q there out. loop_kept q there;
+    loops_back = λ q there out. elim (loop_cases q) [ inl e ↦ e | inr e ↦ absurd (eqb-false (solid_of_loop N q) s out e) ];
+    edges = λ h there out. edge_kept (edge_of h) there;
+  }
+
+  made : let t = counts M s in counts N s ≡ tally_of (t.v + length ps) (t.e + length ps) (t.f + 2) t.r
+  unfolding taken_in
+  made = counted_more M N s (length ps) (length ps) 2 agree
+      (points_size M.vertices (table.greatest M.vertices) ps (λ q a. none_above M.vertices q a) (length ps))
+      (ring_size M.edges (table.greatest M.edges) (table.greatest M.vertices) (λ q a. none_above M.edges q a) (length ps) some)
+      (two_size M.faces (table.greatest M.faces) first_face second_face (λ q a. none_above M.faces q a))
+      (two_size M.loops (table.greatest M.loops) _ _ (λ q a. none_above M.loops q a))
+
+fits : (M : Model) (s : ℕ) (ps : List Point) → lamina_refusal M s ps ≡ None → (table.has M.solids s ≡ false) × (0 < length ps)
+unfolding lamina_conditions
+fits M s ps e = let h = all_hold (lamina_conditions M s ps) e in (not-true (table.has M.solids s) h.1.0, some (length ps) h.1.1.0) where
+  some : (n : ℕ) → nat_le 3 n ≡ true → 0 < n
+  some n e = grind (arith, nat_tests)
+
+told : (n : ℕ) → tally_of (0 + n) (0 + n) (0 + 2) 0 ≡ record { v = n; e = n; f = 2; r = 0; sum = pos 2 }
+told n = λ i. record { v = none n i; e = none n i; f = 2; r = 0; sum = two n i } where
+  none : (n : ℕ) → 0 + n ≡ n
+  none n = omega arith
+
+  two : (n : ℕ) → pos (0 + n + (0 + 2)) -ℤ pos (0 + n + 0) ≡ pos 2
+  two n = omega (arith, ints)
+
+pub model_counts : (M : Model) (s : ℕ) (ps : List Point) → Sound M → lamina_refusal M s ps ≡ None → let n = length ps in counts (lamina_model M s ps) s ≡ record { v = n; e = n; f = 2; r = 0; sum = pos 2 }
+unfolding lamina_model
+model_counts M s ps sound goes =
+    let w = fits M s ps goes in
+    made M s ps sound w.1 (lamina_is_sound M s ps sound goes) ∙ ap (λ t. tally_of (t.v + length ps) (t.e + length ps) (t.f + 2) t.r) (nothing M s sound w.0) ∙ told (length ps)
+
+pub lamina_counts : LaminaCounts
+lamina_counts before after s ps sound made = ap (λ m. counts (held m) s) made.1 ∙ model_counts (held before) s ps sound made.0
+
+-- ---- a block
+
+-- the half-edges of a face without rings are as many as its corners
+as_corners : (M : Model) (f : ℕ) (d : Point) (ps : List Point) → Sound M → prism_refusal M f d ≡ None → rings_of M f ≡ [] → corner_points M f ≡ ps → length (boundary M f) ≡ length ps
+unfolding boundary loops_of
+as_corners M f d ps sound goes plain is =
+    let hs = items_of (content M (outer M f)) in
+    ap (λ rs. length (items_in M (outer M f ∷ rs))) plain ∙ ap length (append-nil hs) ∙ sym (as_many M hs) ∙ ap length (sym (before_points M f d sound goes plain)) ∙ ap length is
+
+pub block_model_counts : (M : Model) (s : ℕ) (p : Point) (dx dy dz : ℤ) → Sound M → block_refusal M s p dx dy dz ≡ None → counts (block_model M s p dx dy dz) s ≡ record { v = 8; e = 12; f = 6; r = 0; sum = pos 2 }
+unfolding block_model
+block_model_counts M s p dx dy dz sound goes =
+    let ps = base_of p dx dy in
+    let base = lamina_model M s ps in
+    let f = lamina_face M in
+    let fits = blocks_have_bases M s p dx dy dz goes in
+    let rises = bases_rise M s p dx dy dz sound goes in
+    let firm = lamina_is_sound M s ps sound fits in
+    let face = (lamina_faces M s ps sound fits).0 in
+    let four : length (boundary base f) ≡ 4 = as_corners base f (up_by dz) ps firm rises face.plain face.points in
+    subst (λ u. counts (prism_model base f (up_by dz)) u ≡ with_more (counts base u) (length (boundary base f)) (2 * length (boundary base f)) (length (boundary base f))) face.solid (model_adds_counts base f (up_by dz) firm rises)
+    ∙ ap (λ n. with_more (counts base s) n (2 * n) n) four
+    ∙ ap (λ t. with_more t 4 8 4) (model_counts M s ps sound fits)
+
+pub block_counts : BlockCounts
+block_counts before after s p dx dy dz sound made = ap (λ m. counts (held m) s) made.1 ∙ block_model_counts (held before) s p dx dy dz sound made.0
