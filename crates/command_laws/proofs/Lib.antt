@@ -18,3 +18,4 @@ mod MovedAreas
 mod Owners
 mod SweptCounts
 mod NewCounts
+mod GluedCounts

@@ -25,3 +25,10 @@ abbrev pub SweepAddsCounts : Type 0
 SweepAddsCounts = (before after : Machine) (f : ℕ) (d : Point) → Sound (held before) → IsSweep before after f d →
     let s = solid_of (held before) f in let n = length (boundary (held before) f) in let t = counts (held before) s in
     counts (held after) s ≡ record t { v = t.v + n; e = t.e + 2 * n; f = t.f + n }
+
+-- a glue along two faces with n half-edges each: the solids are one, without n vertices, n edges and two faces
+abbrev pub GlueJoinsCounts : Type 0
+GlueJoinsCounts = (before after : Machine) (f g : ℕ) → Sound (held before) → IsGlue before after f g →
+    let s = solid_of (held before) f in let n = length (rim (held before) f) in
+    let a = counts (held before) s in let b = counts (held before) (solid_of (held before) g) in
+    counts (held after) s ≡ record { v = a.v + b.v - n; e = a.e + b.e - n; f = a.f + b.f - 2; r = a.r + b.r; sum = a.sum +ℤ b.sum -ℤ pos 2 }

@@ -1,6 +1,6 @@
 //! What `counts` answers after a command: how many vertices, edges, faces and rings a solid has, and `v - e + f - r`.
 
-ghost use Rattle.command_laws.specs.Counted.{LaminaCounts, BlockCounts, SweepAddsCounts};
+ghost use Rattle.command_laws.specs.Counted.{LaminaCounts, BlockCounts, SweepAddsCounts, GlueJoinsCounts};
 
 /// A lamina of n points has n vertices, n edges and two faces; a block has eight vertices, twelve edges and six faces.
 pub fn shapes_are_counted()
@@ -12,4 +12,10 @@ pub fn shapes_are_counted()
 /// `v - e + f - r`, are as they were.
 pub fn sweeps_add_counts()
     ensures { SweepAddsCounts }
+{}
+
+/// A glue along two faces with n half-edges each adds the counts of the two solids: n vertices, n edges and both faces go, and
+/// `v - e + f - r` is two less than the sum.
+pub fn glues_join_counts()
+    ensures { GlueJoinsCounts }
 {}

@@ -19,7 +19,7 @@ mod frames;
 mod ringed;
 mod counted;
 
-pub use counted::{shapes_are_counted, sweeps_add_counts};
+pub use counted::{glues_join_counts, shapes_are_counted, sweeps_add_counts};
 
 ghost use Rattle.command_laws.specs.NewFaces.{LaminaHasTwoFaces, LaminaTakesTwoFaces, BlockHasTopAndBottom, BlockHasFourSides, BlockTakesSixFaces, SweptFaceIsFar, SidesStand};
 ghost use Rattle.command_laws.specs.Accepted.{BlocksFit, LaminasFit, SweepsFit};
