@@ -39,8 +39,8 @@ use Rattle.gluing_laws.proofs.glue.Ending.{glued_all, glued_along_is}
 use Rattle.solid_measure.specs.declared.solid_counts.Tally.{Tally}
 use Rattle.solid_measure.specs.solid_counts.Counts.{counts, rings_in, tally_of}
 use Rattle.undo_journal.specs.Machine.{held}
-use Rattle.command_laws.specs.Counted.{GlueJoinsCounts}
-use Rattle.command_laws.proofs.Owners.{Agree, is_of, many, solid_of_edge, solid_of_half, solid_of_loop, solid_of_vertex, faces_many, loops_many, vertices_many, more_faces, more_loops, more_edges, more_vertices}
+use Rattle.command_laws.specs.Counted.{GlueJoinsCounts, GlueKeepsCounts}
+use Rattle.command_laws.proofs.Owners.{Agree, is_of, many, solid_of_edge, solid_of_half, solid_of_loop, solid_of_vertex, faces_many, loops_many, vertices_many, more_faces, more_loops, more_edges, more_vertices, others_kept}
 
 -- ---- of one solid or of another
 
@@ -77,8 +77,12 @@ without_size t [] apart there = omega arith
 without_size t (n ∷ ns) apart there =
     let once : count n ns ≡ 0 = omega (arith, apart n, tick_same n) in
     let row = row_some (table.get t n) (there n (IsIn_head n ns)) in
-    omega (arith, ap size (without_first t ns n), size-remove (without_rows t ns) n row.0 (without_there t ns n once ∙ row.1),
-      without_size t ns (λ x. omega (arith, apart x)) (λ k i. there k (omega (arith, i))))
+    omega (
+      arith,
+      ap size (without_first t ns n),
+      size-remove (without_rows t ns) n row.0 (without_there t ns n once ∙ row.1),
+      without_size t ns (λ x. omega (arith, apart x)) (λ k i. there k (omega (arith, i))),
+    )
 
 -- ---- two solids glued
 
@@ -123,10 +127,12 @@ module _ (M : Model) (f g : ℕ) (partner_of : ℕ → ℕ) (hs : List ℕ) (x :
   face_kept : (k : ℕ) → Has M.faces k → is_either s t (solid_of M k) ≡ false → (table.get N.faces k ≡ table.get M.faces k) × (is_of s (solid_of M k) ≡ false)
   face_kept k there out =
       let o = neither s t (solid_of M k) out in
-      let row = face_there M k there in
-      (table.get-map_rows turn faces_left k
-      ∙ ap (option_map (turn k)) (get-remove_other (table.remove M.faces f) g k (λ e. o.1 (ap (solid_of M) e)) ∙ get-remove_other M.faces f k (λ e. o.0 (ap (solid_of M) e)) ∙ row)
-      ∙ ap Some (row_stays k _ o.1) ∙ sym row, ne_eqb (solid_of M k) s o.0)
+      let row = face_there M k there in (
+        table.get-map_rows turn faces_left k
+            ∙ ap (option_map (turn k)) (get-remove_other (table.remove M.faces f) g k (λ e. o.1 (ap (solid_of M) e)) ∙ get-remove_other M.faces f k (λ e. o.0 (ap (solid_of M) e)) ∙ row)
+            ∙ ap Some (row_stays k _ o.1) ∙ sym row,
+        ne_eqb (solid_of M k) s o.0,
+      )
 
   face_back : (k : ℕ) → Has N.faces k → is_of s (solid_of N k) ≡ false → (table.get N.faces k ≡ table.get M.faces k) × (is_either s t (solid_of N k) ≡ false)
   face_back k there out = go (table.get faces_left k) refl where
@@ -241,21 +247,34 @@ module _ (M : Model) (f g : ℕ) (partner_of : ℕ → ℕ) (hs : List ℕ) (x :
       omega (arith, size-map_rows turn faces_left, size-remove (table.remove M.faces f) g second.0 (get-remove_other M.faces f g (λ e. facing.faces_apart M f g partner_of hs x w (sym e)) ∙ second.1), size-remove M.faces f first.0 first.1)
 
   pub size_loops : size N.loops + 2 ≡ size M.loops
-  size_loops = omega (arith, size-map_rows (rewritten_row (map swap)) loops_left,
-    size-remove (table.remove M.loops (outer M f)) (outer M g) _ (get-remove_other M.loops (outer M f) (outer M g) (λ e. facing.loops_apart M f g partner_of hs x w (sym e)) ∙ w.second), size-remove M.loops (outer M f) _ w.first)
+  size_loops = omega (
+    arith,
+    size-map_rows (rewritten_row (map swap)) loops_left,
+    size-remove (table.remove M.loops (outer M f)) (outer M g) _ (get-remove_other M.loops (outer M f) (outer M g) (λ e. facing.loops_apart M f g partner_of hs x w (sym e)) ∙ w.second),
+    size-remove M.loops (outer M f) _ w.first,
+  )
 
   pub size_edges : size N.edges + n ≡ size M.edges
-  size_edges = omega (arith, size-map_rows (renamed_tails renaming) (without_rows M.edges gone), length-map hs (λ h. edge_of (partner_of h)), without_size M.edges gone
-    (IsApart-images (λ h. edge_of (partner_of h)) hs (facing.apart M f g partner_of hs x w) (λ h k i j e. elim (same_edge (partner_of h) (partner_of k) e) [
-      | inl p ↦ w.starts_once h k i j (ap (tail M) p)
-      | inr p ↦ absurd (w.no_fold k h j i (sym p))
-    ]))
-    (λ e i. let k = from_map (λ h. edge_of (partner_of h)) e hs i in ap (table.has M.edges) k.2 ∙ facing.half_g M f g partner_of hs x w k.0 k.1))
+  size_edges = omega (
+    arith,
+    size-map_rows (renamed_tails renaming) (without_rows M.edges gone),
+    length-map hs (λ h. edge_of (partner_of h)),
+    without_size M.edges gone
+        (IsApart-images (λ h. edge_of (partner_of h)) hs (facing.apart M f g partner_of hs x w) (λ h k i j e. elim (same_edge (partner_of h) (partner_of k) e) [
+          | inl p ↦ w.starts_once h k i j (ap (tail M) p)
+          | inr p ↦ absurd (w.no_fold k h j i (sym p))
+        ]))
+        (λ e i. let k = from_map (λ h. edge_of (partner_of h)) e hs i in ap (table.has M.edges) k.2 ∙ facing.half_g M f g partner_of hs x w k.0 k.1),
+  )
 
   pub size_vertices : size N.vertices + n ≡ size M.vertices
-  size_vertices = omega (arith, length-map hs (λ h. tail M (partner_of h)), without_size M.vertices (map (λ h. tail M (partner_of h)) hs)
-    (IsApart-images (λ h. tail M (partner_of h)) hs (facing.apart M f g partner_of hs x w) w.starts_once)
-    (λ v i. let k = from_map (λ h. tail M (partner_of h)) v hs i in ap (table.has M.vertices) k.2 ∙ w.sound.tails_there (partner_of k.0) (facing.half_g M f g partner_of hs x w k.0 k.1)))
+  size_vertices = omega (
+    arith,
+    length-map hs (λ h. tail M (partner_of h)),
+    without_size M.vertices (map (λ h. tail M (partner_of h)) hs)
+        (IsApart-images (λ h. tail M (partner_of h)) hs (facing.apart M f g partner_of hs x w) w.starts_once)
+        (λ v i. let k = from_map (λ h. tail M (partner_of h)) v hs i in ap (table.has M.vertices) k.2 ∙ w.sound.tails_there (partner_of k.0) (facing.half_g M f g partner_of hs x w k.0 k.1)),
+  )
 
 -- ---- the counts
 
@@ -304,3 +323,16 @@ model_joins_counts M f g sound goes =
 
 pub glue_joins_counts : GlueJoinsCounts
 glue_joins_counts before after f g sound made = ap (λ m. counts (held m) (solid_of (held before) f)) made.1 ∙ model_joins_counts (held before) f g sound made.0
+
+model_keeps_counts : (M : Model) (f g u : ℕ) → Sound M → glue_refusal M f g ≡ None → u ≢ solid_of M f → u ≢ solid_of M g → counts (glue_model M f g) u ≡ counts M u
+model_keeps_counts M f g u sound goes not_s not_t =
+    let hs = rim M f in
+    let other = partner M (rim M g) in
+    let w = facts.facing M f g sound goes in
+    let is = model_is M f g in
+    let after = subst Sound is (glued_sound M f g sound goes) in
+    ap (λ N. counts N u) is
+    ∙ others_kept M (glued_all M f g other hs) (is_either (solid_of M f) (solid_of M g)) (is_of (solid_of M f)) (agree M f g other hs (fresh_edge M) w after) u (not_either (solid_of M f) (solid_of M g) u not_s not_t) (ne_eqb u (solid_of M f) not_s)
+
+pub glue_keeps_counts : GlueKeepsCounts
+glue_keeps_counts before after f g u sound made not_s not_t = ap (λ m. counts (held m) u) made.1 ∙ model_keeps_counts (held before) f g u sound made.0 not_s not_t

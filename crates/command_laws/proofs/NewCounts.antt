@@ -25,13 +25,13 @@ use Rattle.solid_measure.specs.solid_counts.Counts.{tally_of, counts, rings_in}
 use Rattle.sweeps_laws.proofs.lamina.Blocks.{bases_rise, blocks_have_bases}
 use Rattle.sweeps_laws.proofs.lamina.Walk.{lamina_is_sound}
 use Rattle.undo_journal.specs.Machine.{held}
-use Rattle.command_laws.specs.Counted.{LaminaCounts, BlockCounts}
+use Rattle.command_laws.specs.Counted.{BlockCounts, BlockKeepsCounts, LaminaCounts, LaminaKeepsCounts}
 use Rattle.command_laws.specs.NewFaces.{corner_points, up_by}
 use Rattle.command_laws.proofs.LaminaFaces.{lamina_faces}
 use Rattle.command_laws.proofs.Outlines.{as_many}
-use Rattle.command_laws.proofs.Owners.{Agree, is_of, solid_of_loop, solid_of_edge}
+use Rattle.command_laws.proofs.Owners.{Agree, is_of, others_kept, solid_of_edge, solid_of_loop}
 use Rattle.command_laws.proofs.SweptFaces.{before_points}
-use Rattle.command_laws.proofs.SweptCounts.{with_more, counted_more, one_more, model_adds_counts}
+use Rattle.command_laws.proofs.SweptCounts.{counted_more, model_adds_counts, model_keeps_counts, one_more, with_more}
 
 -- ---- a solid that isn't there has nothing
 
@@ -226,6 +226,15 @@ model_counts M s ps sound goes =
 pub lamina_counts : LaminaCounts
 lamina_counts before after s ps sound made = ap (λ m. counts (held m) s) made.1 ∙ model_counts (held before) s ps sound made.0
 
+-- every other solid counts as it did
+model_keeps : (M : Model) (s : ℕ) (ps : List Point) (u : ℕ) → Sound M → lamina_refusal M s ps ≡ None → u ≢ s → counts (lamina_model M s ps) u ≡ counts M u
+unfolding lamina_model
+model_keeps M s ps u sound goes ne = let w = fits M s ps goes in let out = ne_eqb u s ne in
+    others_kept M (lamina_at M (taken_in M) s ps) (is_of s) (is_of s) (agree M s ps sound w.1 (lamina_is_sound M s ps sound goes)) u out out
+
+pub lamina_keeps_counts : LaminaKeepsCounts
+lamina_keeps_counts before after s ps u sound made ne = ap (λ m. counts (held m) u) made.1 ∙ model_keeps (held before) s ps u sound made.0 ne
+
 -- ---- a block
 
 -- the half-edges of a face without rings are as many as its corners
@@ -252,3 +261,15 @@ block_model_counts M s p dx dy dz sound goes =
 
 pub block_counts : BlockCounts
 block_counts before after s p dx dy dz sound made = ap (λ m. counts (held m) s) made.1 ∙ block_model_counts (held before) s p dx dy dz sound made.0
+
+block_model_keeps : (M : Model) (s : ℕ) (p : Point) (dx dy dz : ℤ) (u : ℕ) → Sound M → block_refusal M s p dx dy dz ≡ None → u ≢ s → counts (block_model M s p dx dy dz) u ≡ counts M u
+unfolding block_model
+block_model_keeps M s p dx dy dz u sound goes ne =
+    let ps = base_of p dx dy in
+    let base = lamina_model M s ps in
+    let fits = blocks_have_bases M s p dx dy dz goes in
+    let face = (lamina_faces M s ps sound fits).0 in
+    model_keeps_counts base (lamina_face M) (up_by dz) u (lamina_is_sound M s ps sound fits) (bases_rise M s p dx dy dz sound goes) (λ e. ne (e ∙ face.solid)) ∙ model_keeps M s ps u sound fits ne
+
+pub block_keeps_counts : BlockKeepsCounts
+block_keeps_counts before after s p dx dy dz u sound made ne = ap (λ m. counts (held m) u) made.1 ∙ block_model_keeps (held before) s p dx dy dz u sound made.0 ne

@@ -364,3 +364,59 @@ module _ (M N : Model) (a b : ℕ → Bool) (w : Agree M N a b) where
   pub more_vertices : many (λ v. b (solid_of_vertex N v)) N.vertices + size M.vertices ≡ many (λ v. a (solid_of_vertex M v)) M.vertices + size N.vertices
   more_vertices = balanced (λ v. a (solid_of_vertex M v)) (λ v. b (solid_of_vertex N v)) M.vertices N.vertices (balance M.vertices N.vertices (solid_of_vertex M) (solid_of_vertex N)
       (λ v t o. let r = vertex_kept v t o in (r.0, r.2)) (λ v t o. let r = vertex_back v t o in (r.0, r.2)))
+
+  -- ---- and every other solid counts as it did
+
+  module _ (u : ℕ) (out : a u ≡ false) (off : b u ≡ false) where
+    same_passing : (p q : ℕ → ℕ) (k : ℕ) {X : Type 0} (o w : Option X) → (is_some o ≡ true → p k ≡ u → (is_some w ≡ true) × (q k ≡ u)) → (is_some w ≡ true → q k ≡ u → (is_some o ≡ true) × (p k ≡ u)) →
+        passes (λ k _. is_of u (p k)) k o ≡ passes (λ k _. is_of u (q k)) k w
+    same_passing p q k None None there back = refl
+    same_passing p q k None (Some y) there back = sym (ap {B = ℕ} (λ c. cond c 1 0) (ne_eqb (q k) u (λ e. true≢false (sym (back refl e).0))))
+    same_passing p q k (Some x) None there back = ap {B = ℕ} (λ c. cond c 1 0) (ne_eqb (p k) u (λ e. true≢false (sym (there refl e).0)))
+    same_passing p q k (Some x) (Some y) there back = ap {B = ℕ} (λ c. cond c 1 0) (elim (eqb_tells (p k) u) [
+      | inl e ↦ e.0 ∙ sym (eq-eqb (q k) u (there refl e.1).1)
+      | inr e ↦ e.0 ∙ sym (ne_eqb (q k) u (λ z. e.1 (back refl z).1))
+    ])
+
+    kept_many : {X : Type 0} (t w : Table X) (p q : ℕ → ℕ) → ((k : ℕ) → Has t k → p k ≡ u → Has w k × (q k ≡ u)) → ((k : ℕ) → Has w k → q k ≡ u → Has t k × (p k ≡ u)) → many (λ k. is_of u (q k)) w ≡ many (λ k. is_of u (p k)) t
+    kept_many t w p q there back = sym (same_length (table.all_where (λ k _. is_of u (p k)) t) (table.all_where (λ k _. is_of u (q k)) w)
+        (λ k. count-all_where (λ k _. is_of u (p k)) t k ∙ same_passing p q k (table.get t k) (table.get w k) (there k) (back k) ∙ sym (count-all_where (λ k _. is_of u (q k)) w k)))
+
+    same_faces : many (λ k. is_of u (solid_of N k)) N.faces ≡ many (λ k. is_of u (solid_of M k)) M.faces
+    same_faces = kept_many M.faces N.faces (solid_of M) (solid_of N)
+        (λ k t e. let r = (w.faces k t (ap a e ∙ out)).0 in (ap is_some r ∙ t, same_solid M N k r ∙ e))
+        (λ k t e. let r = (w.faces_back k t (ap b e ∙ off)).0 in (ap is_some (sym r) ∙ t, sym (same_solid M N k r) ∙ e))
+
+    same_loops : many (λ l. is_of u (solid_of_loop N l)) N.loops ≡ many (λ l. is_of u (solid_of_loop M l)) M.loops
+    same_loops = kept_many M.loops N.loops (solid_of_loop M) (solid_of_loop N)
+        (λ l t e. let r = loop_kept l t (ap a e ∙ out) in (r.0, r.1 ∙ e)) (λ l t e. let r = loop_back l t (ap b e ∙ off) in (r.0, sym r.1 ∙ e))
+
+    same_edges : many (λ e. is_of u (solid_of_edge N e)) N.edges ≡ many (λ e. is_of u (solid_of_edge M e)) M.edges
+    same_edges = kept_many M.edges N.edges (solid_of_edge M) (solid_of_edge N) there back where
+      there : (k : ℕ) → Has M.edges k → solid_of_edge M k ≡ u → Has N.edges k × (solid_of_edge N k ≡ u)
+      there k t e =
+          let half = plus_there M k t in
+          let h = half_kept (plus k) half (ap a e ∙ out) in
+          (plus_edge N k h.0, ap (solid_of_loop N) h.1 ∙ (loop_kept (loop_of M (plus k)) (loop_there M w.before (plus k) half) (ap a e ∙ out)).1 ∙ e)
+
+      back : (k : ℕ) → Has N.edges k → solid_of_edge N k ≡ u → Has M.edges k × (solid_of_edge M k ≡ u)
+      back k t e =
+          let half = plus_there N k t in
+          let h = half_back (plus k) half (ap b e ∙ off) in
+          (plus_edge M k h.0, ap (solid_of_loop M) (sym h.1) ∙ sym (loop_back (loop_of N (plus k)) (loop_there N w.after (plus k) half) (ap b e ∙ off)).1 ∙ e)
+
+    same_vertices : many (λ v. is_of u (solid_of_vertex N v)) N.vertices ≡ many (λ v. is_of u (solid_of_vertex M v)) M.vertices
+    same_vertices = kept_many M.vertices N.vertices (solid_of_vertex M) (solid_of_vertex N)
+        (λ v t e. let r = vertex_kept v t (ap a e ∙ out) in (r.0, r.1 ∙ e)) (λ v t e. let r = vertex_back v t (ap b e ∙ off) in (r.0, sym r.1 ∙ e))
+
+    pub others_kept : counts N u ≡ counts M u
+    unfolding counts
+    others_kept = λ i. tally_of (vertices i) (same_edges i) (faces i) (rings i) where
+      vertices : length (vertices_of N u) ≡ length (vertices_of M u)
+      vertices = vertices_many N w.after u ∙ same_vertices ∙ sym (vertices_many M w.before u)
+
+      faces : length (faces_of N u) ≡ length (faces_of M u)
+      faces = faces_many N w.after u ∙ same_faces ∙ sym (faces_many M w.before u)
+
+      rings : length (rings_in N (faces_of N u)) ≡ length (rings_in M (faces_of M u))
+      rings = omega (arith, loops_many N w.after u, loops_many M w.before u, same_loops, faces)

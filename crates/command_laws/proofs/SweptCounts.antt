@@ -3,7 +3,7 @@ use Rattle.std.proofs.Common.{◌≡◌, ◌≢◌, ℕ, zero, suc, ◌+◌, ◌
 use Rattle.std.specs.Prelude.{pos, ◌-ℤ◌}
 use Rattle.std.proofs.lemmas.Int.{ints}
 use Rattle.std.proofs.lemmas.Bool.Decides.{eqb_tells}
-use Rattle.std.proofs.lemmas.Bool.{eq-eqb, eqb-false}
+use Rattle.std.proofs.lemmas.Bool.{eqb-false, ne_eqb}
 use Rattle.std.proofs.lemmas.List.{length-append}
 use Rattle.euler_operators.specs.declared.Point.{Point}
 use Rattle.euler_operators.specs.Table as table
@@ -31,8 +31,8 @@ use Rattle.sweeps_laws.proofs.swept.Filled.{place_cases, filled, filled_old, fil
 use Rattle.sweeps_laws.proofs.swept.Numbers.{riser_above, riser_apart, riser_no_top, top_above, top_apart}
 use Rattle.sweeps_laws.proofs.swept.Sides.{grown, side_face, side_loop, faces_grown, loops_grown}
 use Rattle.undo_journal.specs.Machine.{held}
-use Rattle.command_laws.specs.Counted.{SweepAddsCounts}
-use Rattle.command_laws.proofs.Owners.{Agree, is_of, solid_of_loop, solid_of_half, faces_many, loops_many, vertices_many, more_faces, more_loops, more_edges, more_vertices}
+use Rattle.command_laws.specs.Counted.{SweepAddsCounts, SweepKeepsCounts}
+use Rattle.command_laws.proofs.Owners.{Agree, is_of, solid_of_loop, solid_of_half, faces_many, loops_many, vertices_many, more_faces, more_loops, more_edges, more_vertices, others_kept}
 
 -- some more of each, and no ring
 abbrev pub with_more : Tally → ℕ → ℕ → ℕ → Tally
@@ -187,7 +187,7 @@ module _ (M : Model) (c : Taken) (f l : ℕ) (d : Point) (hs : List ℕ) (w : Re
       size-put_new (table.put (S n).edges r _) t _ (get-put_other (S n).edges r _ t (λ e. riser_no_top c.edge (length hs) n n m m (sym e)) ∙ free_t)
       ∙ ap (λ k. k + 1) (size-put_new (S n).edges r _ free_r) ∙ two_more (size (S n).edges) (size M.edges) n (size_edges n (less_one n (length hs) m))
 
-  agree : Sound N → Agree M N (is_of s) (is_of s)
+  pub agree : Sound N → Agree M N (is_of s) (is_of s)
   agree after = record {
     before = w.sound;
     after = after;
@@ -231,6 +231,32 @@ swept M N c f d (l ∷ ls) s g of =
 pub model_adds_counts : (M : Model) (f : ℕ) (d : Point) → Sound M → prism_refusal M f d ≡ None → let n = length (boundary M f) in counts (prism_model M f d) (solid_of M f) ≡ with_more (counts M (solid_of M f)) n (2 * n) n
 unfolding boundary prism_model
 model_adds_counts M f d sound goes = swept M M (taken_in M) f d (loops_of M f) (solid_of M f) (begins M f d sound goes) refl
+
+-- every other solid counts as it did
+swept_kept : (M N : Model) (c : Taken) (f : ℕ) (d : Point) (ls : List ℕ) (s u : ℕ) → Going M N c f d ls → solid_of N f ≡ s → u ≢ s → counts (prism_from f d (record { model = N; taken = c }) ls).model u ≡ counts N u
+swept_kept M N c f d [] s u g of ne = refl
+swept_kept M N c f d (l ∷ ls) s u g of ne =
+    let hs = items_of (content N l) in
+    let k = face_of N l in
+    let r = turn_ready M N c f l d ls g in
+    let X = effects N (loop_ops N c d hs) in
+    let is = (loop_swept N c k l d hs r).1 in
+    let next = turn_next M N c f l d ls g X refl in
+    let face : k ≡ f = face_row N l _ (g.rows l (IsIn_head l ls)) in
+    let solid : solid_of N k ≡ s = ap (solid_of N) face ∙ of in
+    let out : is_of (solid_of N k) u ≡ false = ne_eqb u (solid_of N k) (λ e. ne (e ∙ solid)) in
+    let still : solid_of X f ≡ s = ap (solid_of X) (sym face) ∙ ap (λ Z. solid_of Z k) is ∙ of_f N c k l d hs r ∙ solid in
+    ap (λ Z. counts Z u) (sym (turn_model M N c f l d ls g X refl))
+    ∙ swept_kept M X (taken_after c (length hs)) f d ls s u next still ne
+    ∙ ap (λ Z. counts Z u) is
+    ∙ others_kept N _ (is_of (solid_of N k)) (is_of (solid_of N k)) (agree N c k l d hs r (subst Sound is next.sound)) u out out
+
+pub model_keeps_counts : (M : Model) (f : ℕ) (d : Point) (u : ℕ) → Sound M → prism_refusal M f d ≡ None → u ≢ solid_of M f → counts (prism_model M f d) u ≡ counts M u
+unfolding prism_model
+model_keeps_counts M f d u sound goes ne = swept_kept M M (taken_in M) f d (loops_of M f) (solid_of M f) u (begins M f d sound goes) refl ne
+
+pub sweep_keeps_counts : SweepKeepsCounts
+sweep_keeps_counts before after f d u sound made ne = ap (λ m. counts (held m) u) made.1 ∙ model_keeps_counts (held before) f d u sound made.0 ne
 
 pub sweep_adds_counts : SweepAddsCounts
 sweep_adds_counts before after f d sound made = ap (λ m. counts (held m) (solid_of (held before) f)) made.1 ∙ model_adds_counts (held before) f d sound made.0

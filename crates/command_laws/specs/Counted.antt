@@ -1,5 +1,5 @@
 -- What `counts` answers after a command.
-use Rattle.std.specs.Prelude.{◌≡◌, ℕ, ◌+◌, ◌-◌, ◌*◌, ℤ, pos, ◌+ℤ◌, ◌-ℤ◌, List, length}
+use Rattle.std.specs.Prelude.{◌≡◌, ◌≢◌, ℕ, ◌+◌, ◌-◌, ◌*◌, ℤ, pos, ◌+ℤ◌, ◌-ℤ◌, List, length}
 use Rattle.euler_operators.specs.declared.Point.{Point}
 use Rattle.euler_operators.specs.Model.{solid_of}
 use Rattle.euler_operators.specs.Sound.{Sound}
@@ -32,3 +32,19 @@ GlueJoinsCounts = (before after : Machine) (f g : ℕ) → Sound (held before) �
     let s = solid_of (held before) f in let n = length (rim (held before) f) in
     let a = counts (held before) s in let b = counts (held before) (solid_of (held before) g) in
     counts (held after) s ≡ record { v = a.v + b.v - n; e = a.e + b.e - n; f = a.f + b.f - 2; r = a.r + b.r; sum = a.sum +ℤ b.sum -ℤ pos 2 }
+
+-- every other solid counts as it did
+abbrev pub CountsAsBefore : Machine → Machine → ℕ → Type 0
+CountsAsBefore before after u = counts (held after) u ≡ counts (held before) u
+
+abbrev pub LaminaKeepsCounts : Type 0
+LaminaKeepsCounts = (before after : Machine) (s : ℕ) (ps : List Point) (u : ℕ) → Sound (held before) → IsLamina before after s ps → u ≢ s → CountsAsBefore before after u
+
+abbrev pub BlockKeepsCounts : Type 0
+BlockKeepsCounts = (before after : Machine) (s : ℕ) (p : Point) (dx dy dz : ℤ) (u : ℕ) → Sound (held before) → IsBlock before after s p dx dy dz → u ≢ s → CountsAsBefore before after u
+
+abbrev pub SweepKeepsCounts : Type 0
+SweepKeepsCounts = (before after : Machine) (f : ℕ) (d : Point) (u : ℕ) → Sound (held before) → IsSweep before after f d → u ≢ solid_of (held before) f → CountsAsBefore before after u
+
+abbrev pub GlueKeepsCounts : Type 0
+GlueKeepsCounts = (before after : Machine) (f g u : ℕ) → Sound (held before) → IsGlue before after f g → u ≢ solid_of (held before) f → u ≢ solid_of (held before) g → CountsAsBefore before after u

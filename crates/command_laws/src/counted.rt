@@ -1,6 +1,7 @@
 //! What `counts` answers after a command: how many vertices, edges, faces and rings a solid has, and `v - e + f - r`.
 
 ghost use Rattle.command_laws.specs.Counted.{LaminaCounts, BlockCounts, SweepAddsCounts, GlueJoinsCounts};
+ghost use Rattle.command_laws.specs.Counted.{LaminaKeepsCounts, BlockKeepsCounts, SweepKeepsCounts, GlueKeepsCounts};
 
 /// A lamina of n points has n vertices, n edges and two faces; a block has eight vertices, twelve edges and six faces.
 pub fn shapes_are_counted()
@@ -18,4 +19,12 @@ pub fn sweeps_add_counts()
 /// `v - e + f - r` is two less than the sum.
 pub fn glues_join_counts()
     ensures { GlueJoinsCounts }
+{}
+
+/// Every other solid counts as it did, after each of these commands.
+pub fn others_keep_counts()
+    ensures lamina { LaminaKeepsCounts }
+    ensures block { BlockKeepsCounts }
+    ensures sweep { SweepKeepsCounts }
+    ensures glue { GlueKeepsCounts }
 {}

@@ -13,13 +13,18 @@
 //! swept, each edge its ends, and each vertex its point; after a glue so it is with the faces that weren't of the solid that
 //! goes, but for the first face and its loop. What a split leaves as it was is proved in `split_frames`. Not proved: the caps of
 //! a split; what `counts` answers after a command.
+//! its number, solid, corner points and plane; that the solid is there; that each face there before a lamina, block or sweep
+//! keeps its solid and outer loop; after a glue that the first face's solid is there and the other gone, and that each other face
+//! not of the solid that goes keeps its row; the model after n undos; and when a block, a lamina, and a sweep of a face without
+//! rings are accepted. What `counts` answers of the solid after a lamina, a block, a sweep of any face, and a glue, told from what it
+//! answered before, and that it answers of every other solid what it did. Not proved: the sides of a sweep of a face with rings;
+//! the caps of a split; what loops, edges and points of other solids are after a command; faces of other solids after a split; what
+//! `counts` answers after a split.
 #![tactic(auto)]
 
 mod frames;
 mod ringed;
 mod counted;
-
-pub use counted::{glues_join_counts, shapes_are_counted, sweeps_add_counts};
 
 ghost use Rattle.command_laws.specs.NewFaces.{LaminaHasTwoFaces, LaminaTakesTwoFaces, BlockHasTopAndBottom, BlockHasFourSides, BlockTakesSixFaces, SweptFaceIsFar, SidesStand};
 ghost use Rattle.command_laws.specs.Accepted.{BlocksFit, LaminasFit, SweepsFit};
@@ -29,6 +34,7 @@ ghost use Rattle.command_laws.specs.Solids.{BlocksAreThere, LaminasAreThere, Swe
 
 pub use frames::{blocks_leave_alone, glues_leave_alone, laminas_leave_alone, sweeps_leave_alone};
 pub use ringed::ringed_sweeps_make_faces;
+pub use counted::{glues_join_counts, others_keep_counts, shapes_are_counted, sweeps_add_counts};
 
 /// After a lamina: the face next to the greatest before goes round its points, and the one after that the other way round.
 pub fn laminas_make_faces()
