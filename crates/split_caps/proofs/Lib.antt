@@ -1,0 +1,3 @@
+mod OpenedCaps
+mod PartCaps
+mod Whole

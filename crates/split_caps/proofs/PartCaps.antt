@@ -1,0 +1,296 @@
+-- The caps once the holes are closed and the upper faces parted from the solid.
+use Rattle.std.proofs.Common.{◌≡◌, ◌≢◌, ℕ, zero, suc, ◌+◌, ◌<◌, ◌≤◌, Bool, true, false, cond, not, nat_eq, ◌&&◌, List, [], ◌∷◌, ◌++◌, length, map, get_or, Option, Some, is_some, refl, sym, ap, subst, ◌∙◌, arith, true≢false, inl, inr}
+use Rattle.std.specs.Prelude.{filter, fold, pos, int_lt}
+use Rattle.std.specs.Option.{option_map}
+use Rattle.std.proofs.lemmas.Bool.Decides.{eqb_tells}
+use Rattle.std.proofs.lemmas.List.{append_assoc, append-nil}
+use Rattle.euler_operators.specs.declared.Plane.{Plane}
+use Rattle.euler_operators.specs.declared.Point.{Point}
+use Rattle.euler_operators.specs.Items.{count, IsIn}
+use Rattle.euler_operators.specs.Vectors.{cross, direction, dot, is_on, moved, origin}
+use Rattle.euler_operators.specs.Table as table
+use Rattle.euler_operators.specs.Model.{Model, FaceRow, LoopContent, content, cycle, face_of, items_of, lone, outer, point_of, rings_of, solid_of, tail}
+use Rattle.euler_operators.specs.Sound.{Sound, Has}
+use Rattle.euler_operators.specs.Conditions.{lists, strictly_rises}
+use Rattle.euler_operators.specs.Effect.{kfmrh, part}
+use Rattle.euler_operators.proofs.Lists.{count-append, tick_other, tick_same, IsIn_or_not}
+use Rattle.euler_operators.proofs.Models.{outer_row, same_solid, solid_row}
+use Rattle.euler_laws.proofs.shared.Counted.{counted_once}
+use Rattle.euler_laws.proofs.shared.Listed.{IsIn-from_listed, listed-from_in}
+use Rattle.euler_laws.proofs.shared.Rows.{face_there, solid_either}
+use Rattle.shapes.specs.Faces.{boundary, corners, finish, items_in, loops_of, start, vertices_in, vertices_on}
+use Rattle.shapes.specs.Measure.{area, normal}
+use Rattle.shapes.specs.Vectors.{negated}
+use Rattle.shapes.specs.split.Drawing.{Drawing}
+use Rattle.shapes.specs.split.Section.{below_halves, section_cycles}
+use Rattle.shapes.specs.split.Opening.{Caps, Opening, all_opened, holes_closed, hole_closed, no_caps, outer_caps}
+use Rattle.shapes.specs.split.Split.{opened_at, split_drawn, upper_left}
+use Rattle.shapes.proofs.measures.Products.{cross_moved}
+use Rattle.shapes.proofs.walks.SolidFaces.{face_of_loop}
+use Rattle.split_opening_laws.specs.sections.Capped.{HasCaps, IsPlain, cap_faces}
+use Rattle.split_opening_laws.specs.sections.InTurn.{upper_faces}
+use Rattle.split_opening_laws.proofs.sections.Capping.{caps_rise}
+use Rattle.split_laws.specs.SplitOps.{hole_ops}
+use Rattle.split_laws.specs.opened.Told.{LiesAlong}
+use Rattle.split_laws.specs.volumes.Laws.{CanBeSplit}
+use Rattle.split_laws.proofs.Closed as closing
+use Rattle.split_laws.proofs.Closed.{caps_counted, not_listed}
+use Rattle.split_laws.proofs.Holes.{AreClosed, holes_counted}
+use Rattle.split_laws.proofs.opened.InTurn.{openings_lie}
+use Rattle.split_laws.proofs.volumes.Closed.{closing_carries}
+use Rattle.split_laws.proofs.volumes.Parted as parted
+use Rattle.split_laws.proofs.volumes.Split as split
+use Rattle.split_laws.proofs.volumes.Taken as taken
+use Rattle.split_laws.proofs.volumes.Taken.{CanTake}
+use Rattle.split_caps.specs.Capped.{IsCapOf}
+use Rattle.split_caps.proofs.OpenedCaps.{FacesApart, LiesOn, along_at, apart_at, caps_apart, outer_on, plain_at, plain_lies}
+
+-- a vertex on some loops is on one of them
+on_one : (M : Model) (ls : List ℕ) (v : ℕ) → IsIn v (vertices_in M ls) → (l : ℕ) × IsIn l ls × IsIn v (vertices_on M (content M l))
+on_one M [] v i = absurd (omega arith)
+on_one M (l ∷ ls) v i = elim (IsIn_or_not v (vertices_on M (content M l))) [
+  | inl j ↦ (l, omega (arith, tick_same l), j)
+  | inr n ↦ let r = on_one M ls v (omega (arith, i, n, count-append v (vertices_on M (content M l)) (vertices_in M ls))) in (r.0, omega (arith, r.1), r.2)
+]
+
+-- ---- a cap becomes a ring of another
+
+kept_on : (M : Model) (f g : ℕ) (c : LoopContent) → vertices_on (kfmrh M f g) c ≡ vertices_on M c
+unfolding kfmrh tail
+kept_on M f g (lone v) = refl
+kept_on M f g (cycle hs) = refl
+
+kept_point : (M : Model) (f g v : ℕ) → point_of (kfmrh M f g) v ≡ point_of M v
+unfolding kfmrh point_of
+kept_point M f g v = refl
+
+-- a face, if it is there, lies on the plane, and its normal along the direction
+abbrev Stands : Plane → ℕ → Model → Type 0
+Stands p k M = Has M.faces k → LiesOn M p k × (cross (direction p) (normal M k) ≡ origin)
+
+module _ (M : Model) (p : Plane) (k f g : ℕ) (w : CanTake M p f g) where
+  abbrev N : Model
+  N = kfmrh M f g
+
+  not_g : Has N.faces k → k ≢ g
+  not_g there e = true≢false (sym there ∙ ap is_some (ap (table.get N.faces) e ∙ taken.face_goes M p f g w))
+
+  still_on : LiesOn M p k → LiesOn N p k
+  still_on on l there of v i =
+      let had = sym (taken.loop_there M p f g w l) ∙ there in
+      let was : IsIn v (vertices_on M (content M l)) = subst (IsIn v) (kept_on M f g (content N l) ∙ ap (vertices_on M) (taken.content_same M p f g w l)) i in
+      ap (is_on p) (kept_point M f g v) ∙ elim (eqb_tells l (outer M g)) [
+        | inl e ↦ outer_on M p g w.g_along v (subst (λ q. IsIn v (vertices_on M (content M q))) e.1 was)
+        | inr e ↦ on l had (sym (taken.face_else M p f g w l had e.1) ∙ of) v was
+      ]
+
+  both_along : (a b : Point) → cross (direction p) a ≡ origin → cross (direction p) b ≡ origin → cross (direction p) (moved a b) ≡ origin
+  both_along a b x y = cross_moved (direction p) a b ∙ (λ i. moved (x i) (y i))
+
+  still_along : k ≢ g → cross (direction p) (normal M k) ≡ origin → cross (direction p) (normal N k) ≡ origin
+  still_along ne along = elim (eqb_tells k f) [
+    | inl e ↦ ap (λ j. cross (direction p) (normal N j)) e.1 ∙ ap (cross (direction p)) (taken.normal_f M p f g w)
+        ∙ both_along (normal M g) (normal M f) w.g_along.across (ap (λ j. cross (direction p) (normal M j)) (sym e.1) ∙ along)
+    | inr e ↦ ap (cross (direction p)) (taken.normal_same M p f g w k e.1 ne) ∙ along
+  ]
+
+  still_stands : Stands p k M → Stands p k N
+  still_stands was there =
+      let ne = not_g there in
+      let w' = was (ap is_some (sym (taken.face_stays M p f g w k ne)) ∙ there) in
+      (still_on w'.0, still_along ne w'.1)
+
+-- ---- parting changes no normal
+
+module _ (M : Model) (s t : ℕ) (fs : List ℕ) where
+  part_items : (ls : List ℕ) → items_in (part M s t fs) ls ≡ items_in M ls
+  unfolding part content
+  part_items [] = refl
+  part_items (l ∷ ls) = ap (λ hs. items_of (content M l) ++ hs) (part_items ls)
+
+  part_area : (hs : List ℕ) → area (part M s t fs) hs ≡ area M hs
+  unfolding part tail point_of
+  part_area [] = refl
+  part_area (h ∷ hs) = ap (moved (cross (start M h) (finish M h))) (part_area hs)
+
+  outer_either : (b : Bool) (row : FaceRow) → (cond b (record row { solid = t }) row).outer ≡ row.outer
+  outer_either true row = refl
+  outer_either false row = refl
+
+  part_outer : (k : ℕ) → Has M.faces k → outer (part M s t fs) k ≡ outer M k
+  part_outer k there = outer_row (part M s t fs) k _ (parted.row_is M s t fs k ∙ ap (option_map (parted.go M s t fs k)) (face_there M k there)) ∙ outer_either (lists fs k) (record { solid = solid_of M k; outer = outer M k })
+
+  part_rings : (k : ℕ) → Has M.faces k → rings_of (part M s t fs) k ≡ rings_of M k
+  unfolding part
+  part_rings k there = ap (λ o. table.all_where (λ l row. nat_eq row.face k && not (nat_eq o l)) M.loops) (part_outer k there)
+
+  part_normal : (k : ℕ) → Has M.faces k → normal (part M s t fs) k ≡ normal M k
+  unfolding normal boundary loops_of
+  part_normal k there = (λ i. area (part M s t fs) (items_in (part M s t fs) (part_outer k there i ∷ part_rings k there i)))
+      ∙ ap (area (part M s t fs)) (part_items (outer M k ∷ rings_of M k)) ∙ part_area (items_in M (outer M k ∷ rings_of M k))
+
+-- ---- the caps of cycle i among all
+
+module _ (x : ℕ) where
+  abbrev in_caps : Caps → ℕ
+  in_caps k = count x (k.lower ∷ k.upper ∷ [])
+
+  hole_apart : (ks : List Caps) (i : ℕ) → i < length ks → (get_or ks i no_caps).hole ≡ false → count x (cap_faces (filter (λ k. k.hole) ks)) + in_caps (get_or ks i no_caps) ≤ count x (cap_faces ks)
+  hole_apart [] i l e = absurd (omega (arith, l))
+  hole_apart (k ∷ ks) zero l e = omega (arith, ap (λ b. count x (cap_faces (cond b (k ∷ filter (λ k. k.hole) ks) (filter (λ k. k.hole) ks)))) e, holes_counted x ks)
+  hole_apart (k ∷ ks) (suc i) l e = go k.hole (hole_apart ks i (omega (arith, l)) e) where
+    go : (b : Bool) → count x (cap_faces (filter (λ k. k.hole) ks)) + in_caps (get_or ks i no_caps) ≤ count x (cap_faces ks) →
+        count x (cap_faces (cond b (k ∷ filter (λ k. k.hole) ks) (filter (λ k. k.hole) ks))) + in_caps (get_or ks i no_caps) ≤ count x (cap_faces (k ∷ ks))
+    go true r = omega (arith, r)
+    go false r = omega (arith, r)
+
+  hole_in : (ks : List Caps) (i : ℕ) → i < length ks → (get_or ks i no_caps).hole ≡ true → in_caps (get_or ks i no_caps) ≤ count x (cap_faces (filter (λ k. k.hole) ks))
+  hole_in [] i l e = absurd (omega (arith, l))
+  hole_in (k ∷ ks) zero l e = omega (arith, ap (λ b. count x (cap_faces (cond b (k ∷ filter (λ k. k.hole) ks) (filter (λ k. k.hole) ks)))) e)
+  hole_in (k ∷ ks) (suc i) l e = go k.hole (hole_in ks i (omega (arith, l)) e) where
+    go : (b : Bool) → in_caps (get_or ks i no_caps) ≤ count x (cap_faces (filter (λ k. k.hole) ks)) → in_caps (get_or ks i no_caps) ≤ count x (cap_faces (cond b (k ∷ filter (λ k. k.hole) ks) (filter (λ k. k.hole) ks)))
+    go true r = omega (arith, r)
+    go false r = r
+
+  in_lowers : (ks : List Caps) (i : ℕ) → i < length ks → count x ((get_or ks i no_caps).lower ∷ []) ≤ count x (map (λ k. k.lower) ks)
+  in_lowers [] i l = absurd (omega (arith, l))
+  in_lowers (k ∷ ks) zero l = omega arith
+  in_lowers (k ∷ ks) (suc i) l = omega (arith, in_lowers ks i (omega (arith, l)))
+
+  in_uppers : (ks : List Caps) (i : ℕ) → i < length ks → count x ((get_or ks i no_caps).upper ∷ []) ≤ count x (map (λ k. k.upper) ks)
+  in_uppers [] i l = absurd (omega (arith, l))
+  in_uppers (k ∷ ks) zero l = omega arith
+  in_uppers (k ∷ ks) (suc i) l = omega (arith, in_uppers ks i (omega (arith, l)))
+
+-- ---- a drawn model that is split
+
+module _ (d : Drawing) (above : List ℕ) (s : ℕ) (p : Plane) (t : ℕ) (w : CanBeSplit d above s p t) (i : ℕ) (l : i < length (opened_at d above s p).caps) where
+  abbrev begun : Opening
+  begun = record { model = d.model; taken = d.taken; caps = [] }
+
+  abbrev cycles : List (List ℕ)
+  cycles = section_cycles d.model (below_halves d.model above s)
+
+  abbrev X : Opening
+  X = opened_at d above s p
+
+  abbrev ks : List Caps
+  ks = X.caps
+
+  abbrev K : Model
+  K = holes_closed X.model ks
+
+  abbrev us : List ℕ
+  us = upper_faces above ks
+
+  abbrev k : Caps
+  k = get_or ks i no_caps
+
+  bare : HasCaps above s begun
+  bare = record { plain = tt; all_rise = ap strictly_rises (append-nil above) ∙ w.above_rise; upper_rise = ap strictly_rises (append-nil above) ∙ w.above_rise }
+
+  caps : HasCaps above s X
+  caps = caps_rise above s p begun cycles w.opens bare
+
+  once : (x : ℕ) → count x above + count x (cap_faces ks) ≤ 1
+  once x = omega (arith, counted_once x (above ++ cap_faces ks) caps.all_rise, count-append x above (cap_faces ks))
+
+  closed : AreClosed X.model K s us (hole_ops ks) (filter (λ k. k.hole) ks)
+  closed = closing.closed d above s p w.opens bare w.no_stray
+
+  plain : IsPlain X.model s k.lower × IsPlain X.model s k.upper
+  plain = plain_at X.model s ks i l caps.plain
+
+  along : LiesAlong X.model p k.lower × LiesAlong X.model p k.upper
+  along = along_at X.model p ks i l (openings_lie above s p begun cycles w.opens bare tt w.lie_on)
+
+  lower_unlisted : lists us k.lower ≡ false
+  lower_unlisted = not_listed k.lower us (omega (arith, once k.lower, caps_counted k.lower ks, in_lowers k.lower ks i l, tick_same k.lower, count-append k.lower above (map (λ k. k.upper) ks)))
+
+  upper_listed : lists us k.upper ≡ true
+  upper_listed = listed-from_in k.upper us (omega (arith, in_uppers k.upper ks i l, tick_same k.upper, count-append k.upper above (map (λ k. k.upper) ks)))
+
+  abbrev P : Model
+  P = part K s t us
+
+  -- what was there before the holes were closed, and is none of a hole's caps
+  cap_row : k.hole ≡ false → (f : ℕ) → 1 ≤ count f (k.lower ∷ k.upper ∷ []) → table.get K.faces f ≡ table.get X.model.faces f
+  cap_row e f j = closed.rows f (omega (arith, hole_apart f ks i l e, once f, j))
+
+  gone : k.hole ≡ true → (f : ℕ) → 1 ≤ count f (k.lower ∷ k.upper ∷ []) → table.has P.faces f ≡ false
+  gone e f j = ap is_some (parted.row_is K s t us f ∙ ap (option_map (parted.go K s t us f)) (closed.gone f (omega (arith, hole_in f ks i l e, j))))
+
+  stands_closed : (f : ℕ) → LiesOn X.model p f → cross (direction p) (normal X.model f) ≡ origin → Stands p f K
+  stands_closed f on across = closing_carries X.model s p ks (Stands p f) (λ A g h c was. still_stands A p f g h c was) (split.closes d above s p t w) (λ there. (on, across))
+
+  -- ---- parted
+
+  part_sound : Sound P → (f : ℕ) → Has P.faces f → LiesOn P p f → (v : ℕ) → lists (corners P f) v ≡ true → is_on p (point_of P v) ≡ true
+  unfolding corners
+  part_sound sound f there on v j =
+      let r = on_one P (loops_of P f) v (IsIn-from_listed v (vertices_in P (loops_of P f)) j) in
+      let q = face_of_loop P sound f r.0 there (listed-from_in r.0 (loops_of P f) r.1) in
+      on r.0 q.0 q.1 v r.2
+
+  part_on : (f : ℕ) → LiesOn K p f → LiesOn P p f
+  unfolding part face_of content point_of tail
+  part_on f on q there of v j = on q there of v (kept_vertices (content K q) j) where
+    kept_vertices : (c : LoopContent) → IsIn v (vertices_on P c) → IsIn v (vertices_on K c)
+    kept_vertices (lone u) j = j
+    kept_vertices (cycle hs) j = j
+
+  part_row : (f : ℕ) (row : FaceRow) → table.get K.faces f ≡ Some row → table.get P.faces f ≡ Some (parted.go K s t us f row)
+  part_row f row e = parted.row_is K s t us f ∙ ap (option_map (parted.go K s t us f)) e
+
+  part_solid : (f u : ℕ) (b : Bool) → Has K.faces f → solid_of K f ≡ u → lists us f ≡ b → solid_of P f ≡ cond b t u
+  part_solid f u b there of is = solid_row P f _ (part_row f _ (face_there K f there)) ∙ solid_either (lists us f) (record { solid = solid_of K f; outer = outer K f }) t ∙ (λ j. cond (is j) t (of j))
+
+  -- a cap of an outer cycle
+  one_cap : Sound P → (f : ℕ) (b : Bool) → k.hole ≡ false → 1 ≤ count f (k.lower ∷ k.upper ∷ []) → IsPlain X.model s f → LiesAlong X.model p f → lists us f ≡ b → IsCapOf P p (cond b t s) f
+  one_cap sound f b e j simple straight is =
+      let row = cap_row e f j in
+      let in_K : Has K.faces f = ap is_some row ∙ simple.there in
+      let stands = stands_closed f (plain_lies X.model p s f simple straight) straight.across in_K in
+      let there : Has P.faces f = ap is_some (part_row f _ (face_there K f in_K)) in
+      record {
+        there = there;
+        solid = part_solid f s b in_K (same_solid X.model K f row ∙ simple.of_solid) is;
+        on_plane = part_sound sound f there (part_on f stands.0);
+        across = ap (cross (direction p)) (part_normal K s t us f in_K) ∙ stands.1;
+      }
+
+  pub both_caps : Sound P → k.hole ≡ false → IsCapOf P p s k.lower × IsCapOf P p t k.upper
+  both_caps sound e = (
+    one_cap sound k.lower false e (omega (arith, tick_same k.lower)) plain.0 along.0 lower_unlisted,
+    one_cap sound k.upper true e (omega (arith, tick_same k.upper)) plain.1 along.1 upper_listed,
+  )
+
+  pub both_gone : k.hole ≡ true → (table.has P.faces k.lower ≡ false) × (table.has P.faces k.upper ≡ false)
+  both_gone e = (gone e k.lower (omega (arith, tick_same k.lower)), gone e k.upper (omega (arith, tick_same k.upper)))
+
+  -- ---- without holes
+
+  module _ (none : filter (λ k. k.hole) ks ≡ []) where
+    nothing_closed : K ≡ X.model
+    nothing_closed = ap (λ hs. fold (hole_closed (outer_caps ks)) X.model hs) none
+
+    normal_kept : (f : ℕ) → Has X.model.faces f → normal P f ≡ normal X.model f
+    normal_kept f there = part_normal K s t us f (ap (λ A. table.has A.faces f) nothing_closed ∙ there) ∙ ap (λ A. normal A f) nothing_closed
+
+    no_hole : k.hole ≡ false
+    no_hole = go k.hole refl where
+      go : (b : Bool) → k.hole ≡ b → b ≡ false
+      go false e = refl
+      go true e = absurd (omega (arith, hole_in k.lower ks i l e, tick_same k.lower, ap (λ hs. count k.lower (cap_faces hs)) none))
+
+    pub faces_apart : (int_lt (dot (normal P k.lower) (direction p)) (pos 0) ≡ false) × (normal P k.upper ≡ negated (normal P k.lower))
+    faces_apart =
+        let a = apart_at X.model p ks i l (caps_apart above s p begun cycles w.opens bare tt) in (
+          ap (λ v. int_lt (dot v (direction p)) (pos 0)) (normal_kept k.lower plain.0.there) ∙ sym a.told ∙ no_hole,
+          normal_kept k.upper plain.1.there ∙ a.opposite ∙ ap negated (sym (normal_kept k.lower plain.0.there)),
+        )
+
+-- ---- the split's model
+
+pub split_is : (d : Drawing) (above : List ℕ) (s : ℕ) (p : Plane) (t : ℕ) → CanBeSplit d above s p t → split_drawn d above s p t ≡ part (holes_closed (opened_at d above s p).model (opened_at d above s p).caps) s t (upper_faces above (opened_at d above s p).caps)
+split_is d above s p t w = split.split_is d above s p t w

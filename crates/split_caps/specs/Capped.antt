@@ -1,0 +1,41 @@
+-- The caps of a split: two faces for each cycle of its section, one by which the part below is closed, and one for the part above.
+use Rattle.std.specs.Prelude.{◌≡◌, ℕ, ◌+◌, true, List, [], ◌∷◌, length, get_or}
+use Rattle.euler_operators.specs.declared.Plane.{Plane}
+use Rattle.euler_operators.specs.Vectors.{origin, cross, direction, is_on}
+use Rattle.euler_operators.specs.Model.{Model, point_of, solid_of}
+use Rattle.euler_operators.specs.Sound.{Has}
+use Rattle.euler_operators.specs.Conditions.{lists}
+use Rattle.shapes.specs.Faces.{corners}
+use Rattle.shapes.specs.Measure.{normal}
+use Rattle.shapes.specs.split.Sides.{faces_above}
+use Rattle.shapes.specs.split.Drawing.{with_drawings}
+use Rattle.shapes.specs.split.Section.{below_halves, section_cycles}
+use Rattle.shapes.specs.split.Opening.{Caps, no_caps}
+use Rattle.shapes.specs.split.Split.{opened_at}
+
+-- the cycles of the section of solid s, once its faces are drawn
+abbrev pub cycles_of : Model → ℕ → Plane → List (List ℕ)
+cycles_of M s p = let D = (with_drawings M s p).model in section_cycles D (below_halves D (faces_above D p s) s)
+
+-- the caps, in the order of the cycles, and those of cycle i
+abbrev pub caps_of : Model → ℕ → Plane → List Caps
+caps_of M s p = let d = with_drawings M s p in (opened_at d (faces_above d.model p s) s p).caps
+
+abbrev pub cap : Model → ℕ → Plane → ℕ → Caps
+cap M s p i = get_or (caps_of M s p) i no_caps
+
+-- a cycle of m edges takes the m + 1 numbers after f: the first for its cap below, the last for its cap above
+abbrev pub lower_numbers : ℕ → List (List ℕ) → List ℕ
+lower_numbers f [] = []
+lower_numbers f (bs ∷ cs) = (f + 1) ∷ lower_numbers (f + length bs + 1) cs
+
+abbrev pub upper_numbers : ℕ → List (List ℕ) → List ℕ
+upper_numbers f [] = []
+upper_numbers f (bs ∷ cs) = (f + length bs + 1) ∷ upper_numbers (f + length bs + 1) cs
+
+-- face f is there, is of solid s, all its corners lie on the plane, and its normal along the plane's direction
+pub record IsCapOf (M : Model) (p : Plane) (s f : ℕ) : Type 0 where
+  pub there : Has M.faces f
+  pub solid : solid_of M f ≡ s
+  pub on_plane : (v : ℕ) → lists (corners M f) v ≡ true → is_on p (point_of M v) ≡ true
+  pub across : cross (direction p) (normal M f) ≡ origin

@@ -1,0 +1,36 @@
+-- What the caps are after a split that was answered Ok.
+use Rattle.std.specs.Prelude.{◌≡◌, ℕ, ◌<◌, pos, int_lt, true, false, List, [], map, filter, length}
+use Rattle.euler_operators.specs.declared.Plane.{Plane}
+use Rattle.euler_operators.specs.Vectors.{dot, direction}
+use Rattle.euler_operators.specs.Table as table
+use Rattle.euler_operators.specs.Sound.{Sound}
+use Rattle.shapes.specs.Vectors.{negated}
+use Rattle.shapes.specs.Measure.{normal}
+use Rattle.shapes.specs.split.Drawing.{with_drawings}
+use Rattle.shapes.specs.split.Section.{is_hole}
+use Rattle.undo_journal.specs.Machine.{Machine, held}
+use Rattle.plane_split.specs.Held.{IsSplit}
+use Rattle.split_caps.specs.Capped.{cycles_of, caps_of, cap, lower_numbers, upper_numbers, IsCapOf}
+
+-- each cycle has two caps, numbered on from the last face that was drawn, and they are a hole's where the cycle is one
+abbrev pub CapsAreNumbered : Type 0
+CapsAreNumbered = (before after : Machine) (s : ℕ) (p : Plane) (t : ℕ) → Sound (held before) → IsSplit before after s p t →
+    let d = with_drawings (held before) s p in let cs = cycles_of (held before) s p in let ks = caps_of (held before) s p in
+    (map (λ k. k.lower) ks ≡ lower_numbers d.taken.face cs) × (map (λ k. k.upper) ks ≡ upper_numbers d.taken.face cs) × (map (λ k. k.hole) ks ≡ map (is_hole d.model p) cs)
+
+-- the caps of an outer cycle are faces of the part below and of the part above, on the plane and along its direction
+abbrev pub CapsStand : Type 0
+CapsStand = (before after : Machine) (s : ℕ) (p : Plane) (t i : ℕ) → Sound (held before) → IsSplit before after s p t → i < length (caps_of (held before) s p) →
+    let k = cap (held before) s p i in k.hole ≡ false → IsCapOf (held after) p s k.lower × IsCapOf (held after) p t k.upper
+
+-- those of a hole are no faces any more: their loops are rings of the outer cycle's caps
+abbrev pub HolesAreClosed : Type 0
+HolesAreClosed = (before after : Machine) (s : ℕ) (p : Plane) (t i : ℕ) → Sound (held before) → IsSplit before after s p t → i < length (caps_of (held before) s p) →
+    let k = cap (held before) s p i in k.hole ≡ true → (table.has (held after).faces k.lower ≡ false) × (table.has (held after).faces k.upper ≡ false)
+
+-- in a section without holes no cap below points against the plane's direction, and the cap above is its opposite
+abbrev pub CapsFaceApart : Type 0
+CapsFaceApart = (before after : Machine) (s : ℕ) (p : Plane) (t i : ℕ) → Sound (held before) → IsSplit before after s p t → i < length (caps_of (held before) s p) →
+    filter (λ k. k.hole) (caps_of (held before) s p) ≡ [] →
+    let k = cap (held before) s p i in let N = held after in
+    (int_lt (dot (normal N k.lower) (direction p)) (pos 0) ≡ false) × (normal N k.upper ≡ negated (normal N k.lower))

@@ -1,0 +1,29 @@
+//! The caps of a split, told from what the call says of it alone. Each function does nothing: its contract is what is proved, over every
+//! machine.
+//!
+//! # What is proved
+//!
+//! Of a session after a split answered Ok: the numbers of the two caps of each cycle of the section, and which are those of holes; the
+//! caps of each outer cycle are faces of the part below and of the part above, all their corners, those of their rings too, lie on
+//! the plane, and their normals lie along its direction; those of holes are no faces any more. In a section without holes the cap
+//! below doesn't point against the plane's direction, and the cap above has the opposite normal. Not proved: which way the caps of a
+//! section with holes point.
+#![tactic(auto)]
+
+ghost use Rattle.split_caps.specs.Laws.{CapsAreNumbered, CapsStand, HolesAreClosed, CapsFaceApart};
+
+/// Each cycle of the section has two caps, numbered on from the last face that was drawn.
+pub fn caps_are_numbered()
+    ensures { CapsAreNumbered }
+{}
+
+/// The caps of an outer cycle close the two parts: they lie on the plane, and so do their rings, which closed the holes.
+pub fn caps_close_the_parts()
+    ensures outer { CapsStand }
+    ensures holes { HolesAreClosed }
+{}
+
+/// In a section without holes the cap below points along the plane's direction, if it has an area, and the cap above against it.
+pub fn caps_face_apart()
+    ensures { CapsFaceApart }
+{}
