@@ -11,15 +11,9 @@
 //! block, a lamina, and a sweep of a face without rings are accepted. After a lamina, a block and a sweep, with rings too, each
 //! face there before is of the solid that it was, each loop has its face and its content, but for those of the face that was
 //! swept, each edge its ends, and each vertex its point; after a glue so it is with the faces that weren't of the solid that
-//! goes, but for the first face and its loop. What a split leaves as it was is proved in `split_frames`. Not proved: the caps of
-//! a split; what `counts` answers after a command.
-//! its number, solid, corner points and plane; that the solid is there; that each face there before a lamina, block or sweep
-//! keeps its solid and outer loop; after a glue that the first face's solid is there and the other gone, and that each other face
-//! not of the solid that goes keeps its row; the model after n undos; and when a block, a lamina, and a sweep of a face without
-//! rings are accepted. What `counts` answers of the solid after a lamina, a block, a sweep of any face, and a glue, told from what it
-//! answered before, and that it answers of every other solid what it did. Not proved: the sides of a sweep of a face with rings;
-//! the caps of a split; what loops, edges and points of other solids are after a command; faces of other solids after a split; what
-//! `counts` answers after a split.
+//! goes, but for the first face and its loop. What `counts` answers of the solid after a lamina, a block, a sweep of any face, and
+//! a glue, told from what it answered before, and that it answers of every other solid what it did. What a split leaves as it was
+//! is proved in `split_frames`, what its caps are in `split_caps`. Not proved: what `counts` answers after a split.
 #![tactic(auto)]
 
 mod frames;

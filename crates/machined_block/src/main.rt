@@ -2,7 +2,7 @@
 //! operator tried in a draft that is given up. And a block is made longer by a second one that is glued to it, and cut in two. What the
 //! functions say of volumes, sides and undo is proved from the contracts of the calls and the laws beside them alone.
 //!
-//! `commands` has the commands of the workbench with what this program wants of them.
+//! `commands` has the commands of the workbench with what this program wants of them, `lists` a list of calls that is made in one.
 //!
 //! # What is proved
 //!
@@ -11,10 +11,12 @@
 //! volumes of both; the parts of a solid cut by a plane x + d = 0 share its six volumes and lie on either side of it. After each
 //! of these undo isn't refused and gives the model before. Whatever operator is tried in a draft that is given up, the session is
 //! as it was; so at the end the block has its volume as before, with one command to undo and one to redo. The block made longer
-//! by a second one glued to it has 180; and so have its two parts once it is cut, with four commands to undo.
+//! by a second one glued to it has 180; and so have its two parts once it is cut, with four commands to undo. A list of four calls
+//! in one is told what the plain machine may tell, and leads to a machine that may come of them, which is consistent.
 #![tactic(auto)]
 
 mod commands;
+mod lists;
 
 ghost use Rattle.std.specs.Prelude.{◌≡◌, pos, neg_ℤ, ◌+ℤ◌, IfOk};
 ghost use Rattle.command_laws.specs.NewFaces.{last_face};
@@ -24,8 +26,10 @@ ghost use Rattle.sweeps.specs.Measure.{six_volume};
 ghost use Rattle.sweeps.specs.Model.{empty_model, solid_of};
 ghost use Rattle.sweeps.specs.Sound.{Has};
 
+use call_lists::Told;
 use command_laws::{blocks_make_faces, faces_are_kept, solids_are_there, undos_go_back};
 use commands::{cut, joined, known, measured, raised, tried};
+use lists::made;
 use std::alloc::Global;
 use std::process::ExitCode;
 use sweeps::{Failure, Op, Point, Session, block, block_measures};
@@ -143,6 +147,16 @@ fn tell_parts(rt: &HostRuntime) -> Result<(), Failure> {
     Ok(())
 }
 
+/// Says what a list of calls was told, one answer a call.
+fn tell_list(rt: &HostRuntime) -> Result<(), Failure> {
+    let mut told = Vec::new(rt.alloc());
+    let session = made(rt.alloc(), &mut told).map_err(Failure::Memory)?;
+    let accepted = told.iter().filter(|answer| **answer == Told::Done).count();
+    let (calls, commands) = (told.len(), session.depth());
+    let _ = println!(rt; "{calls} calls in one: {accepted} accepted, {commands} command to undo");
+    Ok(())
+}
+
 /// Says that nothing is left to undo.
 fn tell_none(rt: &HostRuntime) -> Result<(), Failure> {
     let session = taken_back(rt.alloc())?;
@@ -155,7 +169,8 @@ fn tell_none(rt: &HostRuntime) -> Result<(), Failure> {
 fn main(rt: HostRuntime) -> ExitCode {
     let told = tell_block(&rt)
         .and_then(|()| tell_parts(&rt))
-        .and_then(|()| tell_none(&rt));
+        .and_then(|()| tell_none(&rt))
+        .and_then(|()| tell_list(&rt));
     if told.is_ok() {
         ExitCode::SUCCESS
     } else {
