@@ -16,6 +16,7 @@ mod SweptSides
 mod SweptRings
 mod MovedAreas
 mod Owners
+pub mod Owners
 mod SweptCounts
 mod NewCounts
 mod GluedCounts

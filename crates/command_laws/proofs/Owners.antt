@@ -263,7 +263,7 @@ module _ (M N : Model) (a b : ℕ → Bool) (w : Agree M N a b) where
   solid_back k there out = same_solid M N k (w.faces_back k there out).0
 
   -- a loop of another solid stays, of that solid
-  loop_kept : (l : ℕ) → Has M.loops l → a (solid_of_loop M l) ≡ false → (Has N.loops l) × (solid_of_loop N l ≡ solid_of_loop M l) × (b (solid_of_loop N l) ≡ false) × (content N l ≡ content M l)
+  pub loop_kept : (l : ℕ) → Has M.loops l → a (solid_of_loop M l) ≡ false → (Has N.loops l) × (solid_of_loop N l ≡ solid_of_loop M l) × (b (solid_of_loop N l) ≡ false) × (content N l ≡ content M l)
   loop_kept l there out =
       let row = w.loops l there out in
       let face = same_face M N l row in
@@ -271,7 +271,7 @@ module _ (M N : Model) (a b : ℕ → Bool) (w : Agree M N a b) where
       let is = ap (solid_of N) face ∙ solid_there (face_of M l) k out in
       (ap is_some row ∙ there, is, ap b is ∙ (w.faces (face_of M l) k out).1, same_content M N l row)
 
-  loop_back : (l : ℕ) → Has N.loops l → b (solid_of_loop N l) ≡ false → (Has M.loops l) × (solid_of_loop N l ≡ solid_of_loop M l) × (a (solid_of_loop M l) ≡ false) × (content N l ≡ content M l)
+  pub loop_back : (l : ℕ) → Has N.loops l → b (solid_of_loop N l) ≡ false → (Has M.loops l) × (solid_of_loop N l ≡ solid_of_loop M l) × (a (solid_of_loop M l) ≡ false) × (content N l ≡ content M l)
   loop_back l there out =
       let row = w.loops_back l there out in
       let face = same_face M N l row in
@@ -280,13 +280,13 @@ module _ (M N : Model) (a b : ℕ → Bool) (w : Agree M N a b) where
       (ap is_some (sym row) ∙ there, is, ap a (sym is) ∙ (w.faces_back (face_of N l) k out).1, same_content M N l row)
 
   -- and so does a half-edge
-  half_kept : (h : ℕ) → HasHalf M h → a (solid_of_half M h) ≡ false → (HasHalf N h) × (loop_of N h ≡ loop_of M h) × (tail N h ≡ tail M h)
+  pub half_kept : (h : ℕ) → HasHalf M h → a (solid_of_half M h) ≡ false → (HasHalf N h) × (loop_of N h ≡ loop_of M h) × (tail N h ≡ tail M h)
   half_kept h there out =
       let l = loop_kept (loop_of M h) (loop_there M w.before h there) out in
       let row = w.edges h there out in
       (ap is_some row ∙ there, w.after.one_loop h (loop_of M h) (ap (holds h) l.3 ∙ w.before.stands h there), same_tail M N h row)
 
-  half_back : (h : ℕ) → HasHalf N h → b (solid_of_half N h) ≡ false → (HasHalf M h) × (loop_of N h ≡ loop_of M h) × (tail N h ≡ tail M h) × (a (solid_of_half M h) ≡ false)
+  pub half_back : (h : ℕ) → HasHalf N h → b (solid_of_half N h) ≡ false → (HasHalf M h) × (loop_of N h ≡ loop_of M h) × (tail N h ≡ tail M h) × (a (solid_of_half M h) ≡ false)
   half_back h there out =
       let l = loop_back (loop_of N h) (loop_there N w.after h there) out in
       let stands : StandsIn M h (loop_of N h) = ap (holds h) (sym l.3) ∙ w.after.stands h there in
@@ -420,3 +420,38 @@ module _ (M N : Model) (a b : ℕ → Bool) (w : Agree M N a b) where
 
       rings : length (rings_in N (faces_of N u)) ≡ length (rings_in M (faces_of M u))
       rings = omega (arith, loops_many N w.after u, loops_many M w.before u, same_loops, faces)
+
+-- ---- one change after another
+
+pub agree_none : (M : Model) (a : ℕ → Bool) → Sound M → Agree M M a a
+agree_none M a sound = record {
+  before = sound;
+  after = sound;
+  faces = λ k there out. (refl, out);
+  faces_back = λ k there out. (refl, out);
+  loops = λ l there out. refl;
+  loops_back = λ l there out. refl;
+  edges = λ h there out. refl;
+}
+
+pub agree_on : (M N P : Model) (a b c : ℕ → Bool) → Agree M N a b → Agree N P b c → Agree M P a c
+agree_on M N P a b c v w = record {
+  before = v.before;
+  after = w.after;
+  faces = λ k there out.
+      let x = v.faces k there out in
+      let same = same_solid M N k x.0 in
+      let y = w.faces k (ap is_some x.0 ∙ there) (ap b same ∙ x.1) in
+      (y.0 ∙ x.0, ap c (sym same) ∙ y.1);
+  faces_back = λ k there out.
+      let y = w.faces_back k there out in
+      let same = same_solid N P k y.0 in
+      let x = v.faces_back k (ap is_some (sym y.0) ∙ there) (ap b (sym same) ∙ y.1) in
+      (y.0 ∙ x.0, ap a same ∙ x.1);
+  loops = λ l there out. let x = loop_kept M N a b v l there out in w.loops l x.0 x.2 ∙ v.loops l there out;
+  loops_back = λ l there out. let y = loop_back N P b c w l there out in w.loops_back l there out ∙ v.loops_back l y.0 y.2;
+  edges = λ h there out.
+      let x = half_kept M N a b v h there out in
+      let l = loop_kept M N a b v (loop_of M h) (loop_there M v.before h there) out in
+      w.edges h x.0 (ap (λ q. b (solid_of_loop N q)) x.1 ∙ l.2) ∙ v.edges h there out;
+}

@@ -1,3 +1,4 @@
 mod OpenedCaps
 mod PartCaps
 mod Whole
+mod Steps

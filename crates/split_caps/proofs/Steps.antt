@@ -1,0 +1,221 @@
+-- One step of a split within a solid: whatever isn't of the solid stays, and nothing else comes to be of another.
+use Rattle.std.proofs.Common.{◌≡◌, ◌≢◌, ℕ, ◌+◌, ◌≤◌, ◌<◌, Bool, true, false, cond, not, nat_eq, ◌||◌, ◌&&◌, List, [], ◌∷◌, length, map, Option, Some, None, is_some, refl, sym, ap, subst, ◌∙◌, arith, true≢false, ne_eqb, ◌⊎◌, inl, inr}
+use Rattle.std.specs.Option.{option_map}
+use Rattle.std.proofs.lemmas.Bool.Decides.{nat_tests, eqb_tells}
+use Rattle.std.proofs.lemmas.Bool.{eq-eqb, eqb-false}
+use Rattle.euler_operators.specs.Items.{count, IsIn}
+use Rattle.euler_operators.specs.HalfEdge.{edge_of, mate, minus, plus}
+use Rattle.euler_operators.specs.Rings.{canonical}
+use Rattle.euler_operators.specs.Table as table
+use Rattle.euler_operators.specs.Table.{Table}
+use Rattle.euler_operators.specs.Model.{Model, EdgeRow, FaceRow, LoopContent, LoopRow, content, cycle, face_of, holds, lone, loop_of, outer, solid_of, tail}
+use Rattle.euler_operators.specs.Sound.{Sound, Has, HasHalf}
+use Rattle.euler_operators.specs.Conditions.{face_at, lists}
+use Rattle.euler_operators.specs.Effect.{faces_to_solid, kfmrh, loop_to_face, part}
+use Rattle.euler_operators.proofs.Models.{face_row, loop_there, same_face, same_solid, solid_row}
+use Rattle.euler_operators.proofs.Tables.{get-put_other, get-remove_here, get-remove_other, in_use_within}
+use Rattle.euler_laws.proofs.faces.Kfmrh.{KillGoes, kill_face_else, kill_face_l, kill_solid, sound-kfmrh}
+use Rattle.euler_laws.proofs.shared.Rows.{face_there, loop_row, solid_either}
+use Rattle.shapes.specs.split.Drawing.{face_drawn, loops_joined, with_rings}
+use Rattle.split_drawing_laws.proofs.drawings.Drawn.{CanDraw, CanJoin, draw_sound, face_drawn_else, face_drawn_new, join_sound, loops_joined_faces}
+use Rattle.split_drawing_laws.proofs.drawings.Stays.{edges_are, joined_edges, row_else, row_gone, row_joined, row_other}
+use Rattle.split_drawing_laws.proofs.face_sides.Beside.{given_else, given_face, given_has, never_free, new_loop_face, old_loop_face}
+use Rattle.command_laws.proofs.Owners.{Agree, half_back, is_of, solid_of_half, solid_of_loop}
+
+-- two models that agree but for one solid
+abbrev pub Within : ℕ → Model → Model → Type 0
+Within s M N = Agree M N (is_of s) (is_of s)
+
+module _ (s : ℕ) (M N : Model) (w : Within s M N) where
+  -- what was of the solid is
+  pub half_in : (h : ℕ) → HasHalf M h → HasHalf N h → solid_of_half M h ≡ s → solid_of_half N h ≡ s
+  half_in h there now of = elim (eqb_tells (solid_of_half N h) s) [
+    | inl e ↦ e.1
+    | inr e ↦ absurd (eqb-false (solid_of_half M h) s (half_back M N (is_of s) (is_of s) w h now e.0).3 of)
+  ]
+
+  pub face_in : (k : ℕ) → Has N.faces k → solid_of M k ≡ s → solid_of N k ≡ s
+  face_in k now of = elim (eqb_tells (solid_of N k) s) [
+    | inl e ↦ e.1
+    | inr e ↦ absurd (e.1 (same_solid M N k (w.faces_back k now e.0).0 ∙ of))
+  ]
+
+-- ---- an edge drawn in a face
+
+module _ (N : Model) (u k e g l s : ℕ) (can : CanDraw N u k e g l) (of : solid_of_half N u ≡ s) where
+  abbrev D : Model
+  D = face_drawn N u k e g l
+
+  drawn_here : Has N.faces (face_at N u)
+  drawn_here = can.sound.loops_of_faces (loop_of N u) (loop_there N can.sound u can.u_there)
+
+  drawn_face : (q : ℕ) → Has N.faces q → table.get D.faces q ≡ table.get N.faces q
+  drawn_face q there = face_drawn_else N u k e g l q (λ z. never_free N.faces q there (ap (table.get N.faces) z ∙ can.face_free))
+
+  drawn_solid : solid_of D (face_at N u) ≡ s
+  drawn_solid = same_solid N D (face_at N u) (drawn_face (face_at N u) drawn_here) ∙ of
+
+  new_solid : solid_of D g ≡ s
+  new_solid = solid_row D g _ (face_drawn_new N u k e g l) ∙ of
+
+  pub draw_within : Within s N (face_drawn N u k e g l)
+  draw_within = record {
+    before = can.sound;
+    after = draw_sound N u k e g l can;
+    faces = λ q there out. (drawn_face q there, out);
+    faces_back = λ q there out. (face_drawn_else N u k e g l q (λ z. eqb-false (solid_of D q) s out (ap (solid_of D) z ∙ new_solid)), out);
+    loops = λ q there out. row_else N u k e g l can q (λ z. eqb-false (solid_of_loop N q) s out (ap (solid_of_loop N) z ∙ of)) (λ z. never_free N.loops q there (ap (table.get N.loops) z ∙ can.loop_free));
+    loops_back = λ q there out. row_else N u k e g l can q
+        (λ z. eqb-false (solid_of_loop D q) s out (ap (solid_of D) (ap (face_of D) z ∙ old_loop_face N u k e g l can) ∙ drawn_solid))
+        (λ z. eqb-false (solid_of_loop D q) s out (ap (solid_of D) (ap (face_of D) z ∙ new_loop_face N u k e g l can) ∙ new_solid));
+    edges = λ h there out. ap (λ t. table.get t (edge_of h)) (edges_are N u k e g l can) ∙ get-put_other N.edges e _ (edge_of h) (λ z. never_free N.edges (edge_of h) there (ap (table.get N.edges) z ∙ can.edge_free));
+  }
+
+-- ---- two loops of a face joined
+
+module _ (N : Model) (c d e s : ℕ) (can : CanJoin N c d e) (of : solid_of_half N c ≡ s) where
+  abbrev J : Model
+  J = loops_joined N c d e
+
+  joined_face : (q : ℕ) → table.get J.faces q ≡ table.get N.faces q
+  joined_face q = ap (λ t. table.get t q) (loops_joined_faces N c d e)
+
+  pub join_within : Within s N (loops_joined N c d e)
+  join_within = record {
+    before = can.sound;
+    after = join_sound N c d e can;
+    faces = λ q there out. (joined_face q, out);
+    faces_back = λ q there out. (joined_face q, out);
+    loops = λ q there out. row_other N c d e can q
+        (λ z. eqb-false (solid_of_loop N q) s out (ap (solid_of_loop N) z ∙ of)) (λ z. eqb-false (solid_of_loop N q) s out (ap (solid_of_loop N) z ∙ ap (solid_of N) (sym can.one_face) ∙ of));
+    loops_back = λ q there out. row_other N c d e can q
+        (λ z. eqb-false (solid_of_loop J q) s out (ap (solid_of J) (ap (face_of J) z ∙ face_row J (loop_of N c) _ (row_joined N c d e can)) ∙ same_solid N J (face_at N c) (joined_face (face_at N c)) ∙ of))
+        (λ z. never_free J.loops q there (ap (table.get J.loops) z ∙ row_gone N c d e can));
+    edges = λ h there out. ap (λ t. table.get t (edge_of h)) (joined_edges N c d e can) ∙ get-put_other N.edges e _ (edge_of h) (λ z. never_free N.edges (edge_of h) there (ap (table.get N.edges) z ∙ can.edge_free));
+  }
+
+-- ---- rings given to another face
+
+module _ (N : Model) (ls : List ℕ) (k s : ℕ) (sound : Sound N) (after : Sound (with_rings N ls k)) (of : (l : ℕ) → lists ls l ≡ true → solid_of_loop N l ≡ s) (to : solid_of N k ≡ s) where
+  abbrev R : Model
+  R = with_rings N ls k
+
+  not_given : (q : ℕ) → (lists ls q ≡ true → ⊥) → lists ls q ≡ false
+  not_given q none = go (lists ls q) refl where
+    go : (b : Bool) → lists ls q ≡ b → lists ls q ≡ false
+    go true e = absurd (none e)
+    go false e = e
+
+  pub rings_within : Within s N (with_rings N ls k)
+  rings_within = record {
+    before = sound;
+    after = after;
+    faces = λ q there out. (refl, out);
+    faces_back = λ q there out. (refl, out);
+    loops = λ q there out. given_else N ls k q (not_given q (λ i. eqb-false (solid_of_loop N q) s out (of q i)));
+    loops_back = λ q there out. given_else N ls k q (not_given q (λ i. eqb-false (solid_of_loop R q) s out (ap (solid_of R) (given_face N ls k q i (sym (given_has N ls k q) ∙ there)) ∙ same_solid N R k refl ∙ to)));
+    edges = λ h there out. refl;
+  }
+
+-- ---- a face that becomes a ring of another
+
+module _ (N : Model) (sound : Sound N) (f g s : ℕ) (goes : KillGoes N f g) (of : solid_of N f ≡ s) where
+  abbrev K : Model
+  K = kfmrh N f g
+
+  killed_face : (q : ℕ) → q ≢ g → table.get K.faces q ≡ table.get N.faces q
+  unfolding kfmrh
+  killed_face q ne = get-remove_other N.faces g q ne
+
+  killed_gone : (q : ℕ) → q ≡ g → Has K.faces q → ⊥
+  unfolding kfmrh
+  killed_gone q e there = true≢false (sym there ∙ ap is_some (ap (table.get (table.remove N.faces g)) e ∙ get-remove_here N.faces g))
+
+  killed_loop : (q : ℕ) → q ≢ outer N g → table.get K.loops q ≡ table.get N.loops q
+  unfolding kfmrh
+  killed_loop q ne = table.get-map_rows (loop_to_face (outer N g) f) N.loops q ∙ go (table.get N.loops q) where
+    go : (o : Option LoopRow) → option_map (loop_to_face (outer N g) f q) o ≡ o
+    go None = refl
+    go (Some row) = ap (λ b. Some (cond b (record row { face = f }) row)) (ne_eqb q (outer N g) ne)
+
+  killed_edges : K.edges ≡ N.edges
+  unfolding kfmrh
+  killed_edges = refl
+
+  own : solid_of_loop N (outer N g) ≡ s
+  own = ap (solid_of N) (sound.outers_there g goes.g_there).1 ∙ sym goes.one_solid ∙ of
+
+  pub kill_within : Within s N (kfmrh N f g)
+  kill_within = record {
+    before = sound;
+    after = sound-kfmrh N sound f g goes;
+    faces = λ q there out. (killed_face q (λ z. eqb-false (solid_of N q) s out (ap (solid_of N) z ∙ sym goes.one_solid ∙ of)), out);
+    faces_back = λ q there out. (killed_face q (λ z. killed_gone q z there), out);
+    loops = λ q there out. killed_loop q (λ z. eqb-false (solid_of_loop N q) s out (ap (solid_of_loop N) z ∙ own));
+    loops_back = λ q there out. killed_loop q (λ z. eqb-false (solid_of_loop K q) s out (ap (solid_of_loop K) z ∙ ap (solid_of K) (kill_face_l N sound f g goes) ∙ kill_solid N sound f g goes f goes.apart ∙ of));
+    edges = λ h there out. ap (λ t. table.get t (edge_of h)) killed_edges;
+  }
+
+-- ---- some faces parted
+
+-- of one solid or of another
+abbrev pub is_either : ℕ → ℕ → ℕ → Bool
+is_either s t u = is_of s u || is_of t u
+
+pub neither : (s t u : ℕ) → is_either s t u ≡ false → (u ≢ s) × (u ≢ t)
+neither s t u e = ((λ p. grind (arith, nat_tests)), (λ p. grind (arith, nat_tests)))
+
+pub not_either : (s t u : ℕ) → u ≢ s → u ≢ t → is_either s t u ≡ false
+not_either s t u a b = grind (arith, nat_tests)
+
+module _ (N : Model) (s t : ℕ) (fs : List ℕ) (sound : Sound N) (after : Sound (part N s t fs)) (of : (f : ℕ) → lists fs f ≡ true → Has N.faces f → solid_of N f ≡ s) (fresh : table.has N.solids t ≡ false) where
+  abbrev P : Model
+  P = part N s t fs
+
+  part_row : (q : ℕ) → table.get P.faces q ≡ option_map (faces_to_solid (λ f _. lists fs f) t q) (table.get N.faces q)
+  unfolding part
+  part_row q = table.get-map_rows (faces_to_solid (λ f _. lists fs f) t) N.faces q
+
+  part_had : (q : ℕ) → Has P.faces q → Has N.faces q
+  part_had q there = go (table.get N.faces q) (sym (ap is_some (part_row q)) ∙ there) where
+    go : (o : Option FaceRow) → is_some (option_map (faces_to_solid (λ f _. lists fs f) t q) o) ≡ true → is_some o ≡ true
+    go None e = e
+    go (Some row) e = refl
+
+  part_kept : (q : ℕ) → lists fs q ≡ false → table.get P.faces q ≡ table.get N.faces q
+  part_kept q e = part_row q ∙ go (table.get N.faces q) where
+    go : (o : Option FaceRow) → option_map (faces_to_solid (λ f _. lists fs f) t q) o ≡ o
+    go None = refl
+    go (Some row) = ap (λ b. Some (cond b (record row { solid = t }) row)) e
+
+  part_solid : (q : ℕ) → Has N.faces q → lists fs q ≡ true → solid_of P q ≡ t
+  part_solid q there e = solid_row P q _ (part_row q ∙ ap (option_map (faces_to_solid (λ f _. lists fs f) t q)) (face_there N q there))
+      ∙ solid_either (lists fs q) (record { solid = solid_of N q; outer = outer N q }) t ∙ ap (λ b. cond b t (solid_of N q)) e
+
+  unlisted : (q : ℕ) → (lists fs q ≡ true → ⊥) → lists fs q ≡ false
+  unlisted q none = go (lists fs q) refl where
+    go : (b : Bool) → lists fs q ≡ b → lists fs q ≡ false
+    go true e = absurd (none e)
+    go false e = e
+
+  kept_loops : (q : ℕ) → table.get P.loops q ≡ table.get N.loops q
+  unfolding part
+  kept_loops q = refl
+
+  kept_edges : (q : ℕ) → table.get P.edges q ≡ table.get N.edges q
+  unfolding part
+  kept_edges q = refl
+
+  pub part_agrees : Agree N (part N s t fs) (is_of s) (is_either s t)
+  part_agrees = record {
+    before = sound;
+    after = after;
+    faces = λ q there out. let ne = eqb-false (solid_of N q) s out in (
+      part_kept q (unlisted q (λ i. ne (of q i there))),
+      not_either s t (solid_of N q) ne (λ e. true≢false (sym (sound.faces_of_solids q there) ∙ ap (table.has N.solids) e ∙ fresh)),
+    );
+    faces_back = λ q there out. let ne = neither s t (solid_of P q) out in (part_kept q (unlisted q (λ i. ne.1 (part_solid q (part_had q there) i))), ne_eqb (solid_of P q) s ne.0);
+    loops = λ q there out. kept_loops q;
+    loops_back = λ q there out. kept_loops q;
+    edges = λ h there out. kept_edges (edge_of h);
+  }
