@@ -2,3 +2,4 @@ mod OpenedCaps
 mod PartCaps
 mod Whole
 mod Steps
+mod DrawnWithin
