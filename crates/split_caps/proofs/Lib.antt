@@ -3,3 +3,4 @@ mod PartCaps
 mod Whole
 mod Steps
 mod DrawnWithin
+mod PartedWithin
