@@ -40,35 +40,7 @@ use Rattle.solid_measure.specs.declared.solid_counts.Tally.{Tally}
 use Rattle.solid_measure.specs.solid_counts.Counts.{counts, rings_in, tally_of}
 use Rattle.undo_journal.specs.Machine.{held}
 use Rattle.command_laws.specs.Counted.{GlueJoinsCounts, GlueKeepsCounts}
-use Rattle.command_laws.proofs.Owners.{Agree, is_of, many, solid_of_edge, solid_of_half, solid_of_loop, solid_of_vertex, faces_many, loops_many, vertices_many, more_faces, more_loops, more_edges, more_vertices, others_kept}
-
--- ---- of one solid or of another
-
-abbrev is_either : ℕ → ℕ → ℕ → Bool
-is_either s t u = is_of s u || is_of t u
-
-neither : (s t u : ℕ) → is_either s t u ≡ false → (u ≢ s) × (u ≢ t)
-neither s t u e = ((λ p. grind (arith, nat_tests)), (λ p. grind (arith, nat_tests)))
-
-not_either : (s t u : ℕ) → u ≢ s → u ≢ t → is_either s t u ≡ false
-not_either s t u a b = grind (arith, nat_tests)
-
--- rows of two solids are as many as those of both
-either_in : {X : Type 0} (p q : ℕ → Bool) → ((k : ℕ) → p k ≡ true → q k ≡ false) → (es : List (ℕ × X)) →
-    length (all_in (λ k _. p k || q k) es) ≡ length (all_in (λ k _. p k) es) + length (all_in (λ k _. q k) es)
-either_in p q apart [] = refl
-either_in p q apart (e ∷ es) = one (all_in (λ k _. p k || q k) es) (all_in (λ k _. p k) es) (all_in (λ k _. q k) es) (either_in p q apart es) (p e.0) (q e.0) (apart e.0) where
-  one : (xs ys zs : List ℕ) → length xs ≡ length ys + length zs → (a b : Bool) → (a ≡ true → b ≡ false) → length (cond (a || b) (e.0 ∷ xs) xs) ≡ length (cond a (e.0 ∷ ys) ys) + length (cond b (e.0 ∷ zs) zs)
-  one xs ys zs same true true off = absurd (true≢false (off refl))
-  one xs ys zs same true false off = omega (arith, same)
-  one xs ys zs same false true off = omega (arith, same)
-  one xs ys zs same false false off = same
-
-pub many_either : {X : Type 0} (s t : ℕ) (p : ℕ → ℕ) (rows : Table X) → s ≢ t → many (λ k. is_either s t (p k)) rows ≡ many (λ k. is_of s (p k)) rows + many (λ k. is_of t (p k)) rows
-unfolding table.all_where
-many_either s t p rows ne = either_in (λ k. is_of s (p k)) (λ k. is_of t (p k)) (λ k e. apart s t (p k) ne e) rows.rows where
-  apart : (s t u : ℕ) → s ≢ t → is_of s u ≡ true → is_of t u ≡ false
-  apart s t u ne e = grind (arith, nat_tests)
+use Rattle.command_laws.proofs.Owners.{Agree, is_either, is_of, many_either, neither, not_either, solid_of_edge, solid_of_half, solid_of_loop, solid_of_vertex, faces_many, loops_many, vertices_many, more_faces, more_loops, more_edges, more_vertices, others_kept}
 
 -- ---- rows that go
 

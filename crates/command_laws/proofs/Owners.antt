@@ -1,13 +1,13 @@
 -- The solid of each face, loop, edge and vertex; and so how many of each a solid has.
 use Rattle.std.proofs.Common.{◌≡◌, ◌≢◌, ℕ, suc, ◌+◌, Bool, true, false, cond, not, nat_eq, ◌||◌, List, [], ◌∷◌, ◌++◌, length, map, Option, Some, None, is_some, unwrap_or, refl, sym, ap, subst, ◌∙◌, arith, true≢false, ◌⊎◌, inl, inr}
-use Rattle.std.proofs.lemmas.Bool.Decides.{eqb_tells}
+use Rattle.std.proofs.lemmas.Bool.Decides.{eqb_tells, nat_tests}
 use Rattle.std.proofs.lemmas.Bool.{eq-eqb, ne_eqb, eqb-true, false_from_ne_true}
 use Rattle.std.proofs.lemmas.List.{length-append, append_assoc}
 use Rattle.euler_operators.specs.declared.Point.{Point}
 use Rattle.euler_operators.specs.Items.{count, IsIn, IsApart}
 use Rattle.euler_operators.specs.HalfEdge.{edge_of, is_first, plus}
 use Rattle.euler_operators.specs.Table as table
-use Rattle.euler_operators.specs.Table.{Table}
+use Rattle.euler_operators.specs.Table.{Table, all_in}
 use Rattle.euler_operators.specs.Model.{Model, LoopContent, FaceRow, LoopRow, no_loop, no_edge, tail_in, lone, cycle, items_of, holds, content, face_of, loop_of, outer, solid_of, tail, rings_of, faces_of}
 use Rattle.euler_operators.specs.Sound.{Sound, Has, HasHalf, StandsIn}
 use Rattle.euler_operators.specs.Conditions.{face_at, lists}
@@ -59,6 +59,34 @@ module _ {X : Type 0} (a b : ℕ → Bool) where
 -- whether a solid is solid s
 abbrev pub is_of : ℕ → ℕ → Bool
 is_of s u = nat_eq u s
+
+-- ---- of one solid or of another
+
+abbrev pub is_either : ℕ → ℕ → ℕ → Bool
+is_either s t u = is_of s u || is_of t u
+
+pub neither : (s t u : ℕ) → is_either s t u ≡ false → (u ≢ s) × (u ≢ t)
+neither s t u e = ((λ p. grind (arith, nat_tests)), (λ p. grind (arith, nat_tests)))
+
+pub not_either : (s t u : ℕ) → u ≢ s → u ≢ t → is_either s t u ≡ false
+not_either s t u a b = grind (arith, nat_tests)
+
+-- rows of two solids are as many as those of both
+either_in : {X : Type 0} (p q : ℕ → Bool) → ((k : ℕ) → p k ≡ true → q k ≡ false) → (es : List (ℕ × X)) →
+    length (all_in (λ k _. p k || q k) es) ≡ length (all_in (λ k _. p k) es) + length (all_in (λ k _. q k) es)
+either_in p q apart [] = refl
+either_in p q apart (e ∷ es) = one (all_in (λ k _. p k || q k) es) (all_in (λ k _. p k) es) (all_in (λ k _. q k) es) (either_in p q apart es) (p e.0) (q e.0) (apart e.0) where
+  one : (xs ys zs : List ℕ) → length xs ≡ length ys + length zs → (a b : Bool) → (a ≡ true → b ≡ false) → length (cond (a || b) (e.0 ∷ xs) xs) ≡ length (cond a (e.0 ∷ ys) ys) + length (cond b (e.0 ∷ zs) zs)
+  one xs ys zs same true true off = absurd (true≢false (off refl))
+  one xs ys zs same true false off = omega (arith, same)
+  one xs ys zs same false true off = omega (arith, same)
+  one xs ys zs same false false off = same
+
+pub many_either : {X : Type 0} (s t : ℕ) (p : ℕ → ℕ) (rows : Table X) → s ≢ t → many (λ k. is_either s t (p k)) rows ≡ many (λ k. is_of s (p k)) rows + many (λ k. is_of t (p k)) rows
+unfolding table.all_where
+many_either s t p rows ne = either_in (λ k. is_of s (p k)) (λ k. is_of t (p k)) (λ k e. apart s t (p k) ne e) rows.rows where
+  apart : (s t u : ℕ) → s ≢ t → is_of s u ≡ true → is_of t u ≡ false
+  apart s t u ne e = grind (arith, nat_tests)
 
 -- ---- the solid of each thing
 

@@ -4,3 +4,4 @@ mod Whole
 mod Steps
 mod DrawnWithin
 mod PartedWithin
+mod SplitCounts

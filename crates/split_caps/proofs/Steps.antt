@@ -20,7 +20,7 @@ use Rattle.shapes.specs.split.Drawing.{face_drawn, loops_joined, with_rings}
 use Rattle.split_drawing_laws.proofs.drawings.Drawn.{CanDraw, CanJoin, draw_sound, face_drawn_else, face_drawn_new, join_sound, loops_joined_faces}
 use Rattle.split_drawing_laws.proofs.drawings.Stays.{edges_are, joined_edges, row_else, row_gone, row_joined, row_other}
 use Rattle.split_drawing_laws.proofs.face_sides.Beside.{given_else, given_face, given_has, never_free, new_loop_face, old_loop_face}
-use Rattle.command_laws.proofs.Owners.{Agree, half_back, is_of, solid_of_half, solid_of_loop}
+use Rattle.command_laws.proofs.Owners.{Agree, half_back, is_either, is_of, neither, not_either, solid_of_half, solid_of_loop}
 
 -- two models that agree but for one solid
 abbrev pub Within : ℕ → Model → Model → Type 0
@@ -157,16 +157,6 @@ module _ (N : Model) (sound : Sound N) (f g s : ℕ) (goes : KillGoes N f g) (of
   }
 
 -- ---- some faces parted
-
--- of one solid or of another
-abbrev pub is_either : ℕ → ℕ → ℕ → Bool
-is_either s t u = is_of s u || is_of t u
-
-pub neither : (s t u : ℕ) → is_either s t u ≡ false → (u ≢ s) × (u ≢ t)
-neither s t u e = ((λ p. grind (arith, nat_tests)), (λ p. grind (arith, nat_tests)))
-
-pub not_either : (s t u : ℕ) → u ≢ s → u ≢ t → is_either s t u ≡ false
-not_either s t u a b = grind (arith, nat_tests)
 
 module _ (N : Model) (s t : ℕ) (fs : List ℕ) (sound : Sound N) (after : Sound (part N s t fs)) (of : (f : ℕ) → lists fs f ≡ true → Has N.faces f → solid_of N f ≡ s) (fresh : table.has N.solids t ≡ false) where
   abbrev P : Model

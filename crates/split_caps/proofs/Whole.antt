@@ -1,4 +1,3 @@
-use Rattle.split_caps.proofs.PartedWithin.{holes_within}
 use Rattle.std.proofs.Common.{◌≡◌, ℕ, ◌<◌, [], true, false, List, length, refl, sym, ap, subst, ◌∙◌}
 use Rattle.std.specs.Prelude.{int_lt, pos}
 use Rattle.euler_operators.specs.declared.Plane.{Plane}

@@ -1,4 +1,4 @@
-//! The caps of a split, told from what the call says of it alone. Each function does nothing: its contract is what is proved, over every
+//! The caps of a split, and what its two parts count, told from what the call says of it alone. Each function does nothing: its contract is what is proved, over every
 //! machine.
 //!
 //! # What is proved
@@ -6,10 +6,13 @@
 //! Of a session after a split answered Ok: the numbers of the two caps of each cycle of the section, and which are those of holes; the
 //! caps of each outer cycle are faces of the part below and of the part above, all their corners, those of their rings too, lie on
 //! the plane, and their normals lie along its direction; those of holes are no faces any more. In a section without holes the cap
-//! below doesn't point against the plane's direction, and the cap above has the opposite normal. Not proved: which way the caps of a
-//! section with holes point.
+//! below doesn't point against the plane's direction, and the cap above has the opposite normal. What `counts` answers of the two parts
+//! together, told from what it answered of the solid and from how many vertices, edges, faces and rings the session holds more;
+//! `v - e + f - r`, told from the cycles of the section and its holes; and that it answers of every other solid what it did. Not
+//! proved: which way the caps of a section with holes point; what each part counts alone.
 #![tactic(auto)]
 
+ghost use Rattle.split_caps.specs.Counted.{SplitSharesCounts, SplitSharesSums, SplitKeepsCounts};
 ghost use Rattle.split_caps.specs.Laws.{CapsAreNumbered, CapsStand, HolesAreClosed, CapsFaceApart};
 
 /// Each cycle of the section has two caps, numbered on from the last face that was drawn.
@@ -26,4 +29,13 @@ pub fn caps_close_the_parts()
 /// In a section without holes the cap below points along the plane's direction, if it has an area, and the cap above against it.
 pub fn caps_face_apart()
     ensures { CapsFaceApart }
+{}
+
+/// The two parts together have the vertices, edges, faces and rings of the solid and those that the split made. Their `v - e + f - r`
+/// sum to that of the solid, and two more for each outer cycle of the section, and two less for each hole. Every other solid counts as it
+/// did.
+pub fn splits_share_counts()
+    ensures each { SplitSharesCounts }
+    ensures sums { SplitSharesSums }
+    ensures others { SplitKeepsCounts }
 {}
