@@ -4,6 +4,8 @@ use Rattle.std.proofs.Common.{◌≡◌, ◌≢◌, ℕ, zero, suc, ◌+◌, ◌
 use Rattle.std.proofs.lemmas.Int.{ints}
 use Rattle.std.proofs.lemmas.List.{append-nil}
 use Rattle.euler_operators.specs.declared.Op.{Op}
+use Rattle.euler_operators.specs.declared.Op.TheVariants.{Kef, Part}
+use Rattle.euler_operators.specs.HalfEdge.{half, minus}
 use Rattle.euler_operators.specs.declared.Plane.{Plane}
 use Rattle.euler_operators.specs.Table as table
 use Rattle.euler_operators.specs.Model.{Model, faces_of, is_ring_of, loop_of, solid_of}
@@ -21,7 +23,7 @@ use Rattle.shapes.specs.split.Crossings.{next_cut, with_crossings}
 use Rattle.shapes.specs.split.Drawing.{Drawing, FacePairs, all_drawn, all_joined, draw_next, in_one_loop, join_next, next_drawn, ring_free, rings_above, straddling_pairs, undrawn, with_drawings}
 use Rattle.shapes.specs.split.Section.{below_halves, section_cycles}
 use Rattle.shapes.specs.split.Opening.{Caps, Opening, holes_closed, next_opened, outer_caps}
-use Rattle.shapes.specs.split.Split.{opened_at, split_drawn, split_model, split_refusal}
+use Rattle.shapes.specs.split.Split.{opened_at, upper_left}
 use Rattle.solid_measure.specs.solid_counts.Counts.{counts, rings_in, tally_of}
 use Rattle.split_drawing_laws.specs.crossings.CrossingOps.{crossing_ops}
 use Rattle.split_drawing_laws.specs.crossings.CrossingOps as crossings
@@ -142,5 +144,158 @@ split_shares_counts before after s p t sound made = shared (held before) (held a
 pub split_keeps_counts : SplitKeepsCounts
 split_keeps_counts before after s p t u sound made not_s not_t = others_kept (held before) (held after) (is_of s) (is_either s t) (agree before after s p t sound made) u (ne_eqb u s not_s) (not_either s t u not_s not_t)
 
+-- ---- what the operators add to v - e + f - r
+
+abbrev total : List Op → ℤ
+total [] = pos 0
+total (op ∷ ops) = growth op +ℤ total ops
+
+total-append : (xs ys : List Op) → total (xs ++ ys) ≡ total xs +ℤ total ys
+total-append [] ys = none (total ys) where
+  none : (a : ℤ) → a ≡ pos 0 +ℤ a
+  none a = omega (arith, ints)
+total-append (x ∷ xs) ys = ap (λ z. growth x +ℤ z) (total-append xs ys) ∙ regrouped (growth x) (total xs) (total ys) where
+  regrouped : (a b c : ℤ) → a +ℤ (b +ℤ c) ≡ a +ℤ b +ℤ c
+  regrouped a b c = omega (arith, ints)
+
+run_grows : (M : Model) (ops : List Op) → Sound M → AreAccepted M ops → euler_number (effects M ops) ≡ euler_number M +ℤ total ops
+run_grows M [] sound go = none (euler_number M) where
+  none : (a : ℤ) → a ≡ a +ℤ pos 0
+  none a = omega (arith, ints)
+run_grows M (op ∷ ops) sound go = run_grows (effect M op) ops (effect_keeps_sound M op sound go.0) go.1 ∙ ap (λ z. z +ℤ total ops) (grows M op sound go.0) ∙ regrouped (euler_number M) (growth op) (total ops) where
+  regrouped : (a b c : ℤ) → a +ℤ b +ℤ c ≡ a +ℤ (b +ℤ c)
+  regrouped a b c = omega (arith, ints)
+
+-- two lists of operators that add nothing
+abbrev AddsNothing : List Op → Type 0
+AddsNothing ops = total ops ≡ pos 0
+
+nothing_both : (xs ys : List Op) → AddsNothing xs → AddsNothing ys → AddsNothing (xs ++ ys)
+nothing_both xs ys a b = total-append xs ys ∙ (λ i. a i +ℤ b i)
+
+nothing_either : (b : Bool) (xs ys : List Op) → AddsNothing xs → AddsNothing ys → AddsNothing (cond b xs ys)
+nothing_either true xs ys a b = a
+nothing_either false xs ys a b = b
+
+nothing_more : (op : Op) (ops : List Op) → growth op ≡ pos 0 → AddsNothing ops → AddsNothing (op ∷ ops)
+nothing_more op ops a b = λ i. a i +ℤ b i
+
+-- ---- edges cut and faces drawn
+
+cuts_nothing : (p : Plane) (g : Growing) (es : List ℕ) → AddsNothing (crossings.ops_from p g es)
+cuts_nothing p g [] = refl
+cuts_nothing p g (e ∷ es) = nothing_more (crossings.cut_edge p g e) (crossings.ops_from p (next_cut p g e) es) refl (cuts_nothing p (next_cut p g e) es)
+
+pair_nothing : (M : Model) (q : ℕ × ℕ) (e : ℕ) → growth (join_pair M q e) ≡ pos 0
+pair_nothing M q e = go (is_ring_of M (face_at M q.0) (loop_of M q.0)) where
+  go : (b : Bool) → growth (cond b (drawings.join_edge q.1 q.0 e) (drawings.join_edge q.0 q.1 e)) ≡ pos 0
+  go true = refl
+  go false = refl
+
+joins_nothing : (d : Drawing) (qs : List (ℕ × ℕ)) → AddsNothing (join_ops d qs)
+joins_nothing d [] = refl
+joins_nothing d (q ∷ qs) = nothing_both (cond (in_one_loop d.model q) [] (join_pair d.model q (d.taken.edge + 1) ∷ [])) (join_ops (join_next d q) qs)
+    (nothing_either (in_one_loop d.model q) [] (join_pair d.model q (d.taken.edge + 1) ∷ []) refl (nothing_more (join_pair d.model q (d.taken.edge + 1)) [] (pair_nothing d.model q (d.taken.edge + 1)) refl))
+    (joins_nothing (join_next d q) qs)
+
+draws_nothing : (f : ℕ) (d : Drawing) (qs : List (ℕ × ℕ)) → AddsNothing (draw_ops f d qs)
+draws_nothing f d [] = refl
+draws_nothing f d (q ∷ qs) = nothing_both (cond (in_one_loop d.model q) (drawings.draw_pair d.taken q ∷ []) []) (draw_ops f (draw_next f d q) qs)
+    (nothing_either (in_one_loop d.model q) (drawings.draw_pair d.taken q ∷ []) [] (nothing_more (drawings.draw_pair d.taken q) [] refl refl) refl)
+    (draws_nothing f (draw_next f d q) qs)
+
+rings_nothing : (ls : List ℕ) (k : ℕ) → AddsNothing (ring_ops ls k)
+rings_nothing [] k = refl
+rings_nothing (l ∷ ls) k = ap (λ z. pos 0 +ℤ z) (rings_nothing ls k)
+
+face_nothing : (p : Plane) (f : ℕ) (qs : List (ℕ × ℕ)) (d : Drawing) → AddsNothing (face_ops p f qs d)
+face_nothing p f qs d =
+    let R = ring_free f qs (all_joined qs d) in
+    let L = all_drawn f R in
+    nothing_both (join_ops (record d { left = [] }) qs) (drawings.drawn_ops p f qs R) (joins_nothing (record d { left = [] }) qs)
+    (nothing_both (draw_ops f R R.left) (share_ops p f qs L) (draws_nothing f R R.left) (nothing_either (nat_eq (length qs) 1) (ring_ops (rings_above L.model p f) L.taken.face) [] (rings_nothing (rings_above L.model p f) L.taken.face) refl))
+
+faces_nothing : (p : Plane) (d : Drawing) (fs : List FacePairs) → AddsNothing (drawings.ops_from p d fs)
+faces_nothing p d [] = refl
+faces_nothing p d (f ∷ fs) = nothing_both (face_ops p f.face f.pairs d) (drawings.ops_from p (next_drawn p d f) fs) (face_nothing p f.face f.pairs d) (faces_nothing p (next_drawn p d f) fs)
+
+rewriting_nothing : (M : Model) (s : ℕ) (p : Plane) → AddsNothing (crossing_ops M s p ++ drawing_ops p (with_crossings M s p) (straddling_pairs M s p))
+unfolding crossing_ops drawing_ops
+rewriting_nothing M s p = nothing_both (crossings.ops_from p (growing M) (crossing_edges M p s)) (drawings.ops_from p (undrawn (with_crossings M s p)) (straddling_pairs M s p))
+    (cuts_nothing p (growing M) (crossing_edges M p s)) (faces_nothing p (undrawn (with_crossings M s p)) (straddling_pairs M s p))
+
+-- ---- a cycle adds two, a hole closed takes four
+
+strips_nothing : (M : Model) (s : ℕ) (c : Taken) (bs : List ℕ) (n : ℕ) → AddsNothing (strip_ops M s c bs n)
+strips_nothing M s c bs zero = refl
+strips_nothing M s c bs (suc n) = nothing_both (strip_ops M s c bs n) (_ ∷ []) (strips_nothing M s c bs n) refl
+
+copies_nothing : (M : Model) (c : Taken) (bs : List ℕ) (n : ℕ) → AddsNothing (copy_ops M c bs n)
+copies_nothing M c bs zero = refl
+copies_nothing M c bs (suc n) = nothing_both (copy_ops M c bs n) (_ ∷ []) (copies_nothing M c bs n) refl
+
+joinings_nothing : (c : Taken) (m n : ℕ) → AddsNothing (joinings c m n)
+joinings_nothing c m n = go (numbers_after (c.edge + m + 1) n) where
+  go : (es : List ℕ) → AddsNothing (map (λ e. Kef (half (minus e))) es)
+  go [] = refl
+  go (e ∷ es) = ap (λ z. pos 0 +ℤ z) (go es)
+
+cap_two : (c : Taken) (m : ℕ) → total (cap_ops c m) ≡ pos 2
+unfolding cap_ops
+cap_two c m = total-append (joinings c m (m - 1)) (partings c m) ∙ ap (λ z. z +ℤ total (partings c m)) (joinings_nothing c m (m - 1))
+
+opening_two : (M : Model) (s : ℕ) (c : Taken) (bs : List ℕ) → total (opening_ops M s c bs) ≡ pos 2
+unfolding opening_ops
+opening_two M s c bs = let m = length bs in
+    total-append (strip_ops M s c bs m ++ copy_ops M c bs m) (cap_ops c m)
+    ∙ (λ i. nothing_both (strip_ops M s c bs m) (copy_ops M c bs m) (strips_nothing M s c bs m) (copies_nothing M c bs m) i +ℤ cap_two c m i)
+
+openings_total : (above : List ℕ) (s : ℕ) (p : Plane) (o : Opening) (cs : List (List ℕ)) → total (openings_ops above s p o cs) ≡ pos (2 * length cs)
+openings_total above s p o [] = refl
+openings_total above s p o (bs ∷ cs) = total-append (opening_ops o.model s o.taken bs) (openings_ops above s p (next_opened p above s o bs) cs)
+    ∙ (λ i. opening_two o.model s o.taken bs i +ℤ openings_total above s p (next_opened p above s o bs) cs i) ∙ two_more (length cs) where
+      two_more : (n : ℕ) → pos 2 +ℤ pos (2 * n) ≡ pos (2 * suc n)
+      two_more n = omega (arith, ints)
+
+closings_total : (o : Caps) (ks : List Caps) → total (closing_ops o ks) ≡ neg_ℤ (pos (4 * length ks))
+closings_total o [] = refl
+closings_total o (k ∷ ks) = ap (λ z. neg_ℤ (pos 2) +ℤ (neg_ℤ (pos 2) +ℤ z)) (closings_total o ks) ∙ four_less (length ks) where
+  four_less : (n : ℕ) → neg_ℤ (pos 2) +ℤ (neg_ℤ (pos 2) +ℤ neg_ℤ (pos (4 * n))) ≡ neg_ℤ (pos (4 * suc n))
+  four_less n = omega (arith, ints)
+
+split_total : (M : Model) (s : ℕ) (p : Plane) (t : ℕ) → total (split_ops M s p t) ≡ pos (2 * length (cycles_of M s p)) +ℤ neg_ℤ (pos (4 * length (filter (λ k. k.hole) (caps_of M s p))))
+unfolding split_ops
+split_total M s p t =
+    let d = with_drawings M s p in
+    let above = faces_above d.model p s in
+    let begun : Opening = record { model = d.model; taken = d.taken; caps = [] } in
+    let ks = caps_of M s p in
+    let holes = filter (λ k. k.hole) ks in
+    let first = crossing_ops M s p ++ drawing_ops p (with_crossings M s p) (straddling_pairs M s p) in
+    let opens = openings_ops above s p begun (cycles_of M s p) in
+    let uppers = upper_ops (opened_at d above s p) above s t in
+    total-append first (opens ++ uppers) ∙ ap (λ z. z +ℤ total (opens ++ uppers)) (rewriting_nothing M s p)
+    ∙ ap (λ z. pos 0 +ℤ z) (total-append opens uppers ∙ (λ i. openings_total above s p begun (cycles_of M s p) i +ℤ (total-append (hole_ops ks) (Part s t (upper_left above ks) ∷ []) ∙ ap (λ z. z +ℤ (pos 0 +ℤ pos 0)) (closings_total (outer_caps ks) holes)) i))
+    ∙ tidied (pos (2 * length (cycles_of M s p))) (neg_ℤ (pos (4 * length holes))) where
+      tidied : (a b : ℤ) → pos 0 +ℤ (a +ℤ (b +ℤ (pos 0 +ℤ pos 0))) ≡ a +ℤ b
+      tidied a b = omega (arith, ints)
+
+-- ---- the sum of the two parts
+
+summed : (M N : Model) (s t : ℕ) (m n : ℕ) → Shares M N s t → euler_number N ≡ euler_number M +ℤ (pos m +ℤ neg_ℤ (pos n)) → (counts N s).sum +ℤ (counts N t).sum ≡ (counts M s).sum +ℤ pos m -ℤ pos n
+unfolding counts
+summed M N s t m n w e = balance (size M.vertices) (size M.edges) (size M.faces) (length (all_rings M)) (size N.vertices) (size N.edges) (size N.faces) (length (all_rings N))
+    (length (vertices_of M s)) (length (edges_of M s)) (length (faces_of M s)) (length (rings_in M (faces_of M s)))
+    (length (vertices_of N s)) (length (edges_of N s)) (length (faces_of N s)) (length (rings_in N (faces_of N s)))
+    (length (vertices_of N t)) (length (edges_of N t)) (length (faces_of N t)) (length (rings_in N (faces_of N t))) w.0 w.1 w.2 w.3 e where
+      balance : (v e f r v' e' f' r' v1 e1 f1 r1 v2 e2 f2 r2 v3 e3 f3 r3 : ℕ) → v2 + v3 + v ≡ v1 + v' → e2 + e3 + e ≡ e1 + e' → f2 + f3 + f ≡ f1 + f' → r2 + r3 + r ≡ r1 + r' →
+          pos v' -ℤ pos e' +ℤ pos f' -ℤ pos r' ≡ pos v -ℤ pos e +ℤ pos f -ℤ pos r +ℤ (pos m +ℤ neg_ℤ (pos n)) →
+          (pos (v2 + f2) -ℤ pos (e2 + r2)) +ℤ (pos (v3 + f3) -ℤ pos (e3 + r3)) ≡ (pos (v1 + f1) -ℤ pos (e1 + r1)) +ℤ pos m -ℤ pos n
+      balance v e f r v' e' f' r' v1 e1 f1 r1 v2 e2 f2 r2 v3 e3 f3 r3 a b c d g = omega (arith, ints)
+
 pub split_shares_sums : SplitSharesSums
-split_shares_sums before after s p t sound made = ?
+split_shares_sums before after s p t sound made =
+    let M = held before in
+    let is : held after ≡ effects M (split_ops M s p t) = ap held made.1 ∙ sym (split_made M s p t sound made.0) in
+    summed M (held after) s t (2 * length (cycles_of M s p)) (4 * length (filter (λ k. k.hole) (caps_of M s p))) (split_shares_counts before after s p t sound made)
+    (ap euler_number is ∙ run_grows M (split_ops M s p t) sound (split_accepted M s p t sound made.0) ∙ ap (λ z. euler_number M +ℤ z) (split_total M s p t))
