@@ -7,7 +7,7 @@
  * - One call at a time for each handle, and all calls for one handle from the thread that opened it. Two handles share nothing.
  * - No pointer is null, not even that of a line of no bytes or of a buffer without room, and each is aligned for its type.
  * - What a call writes to does not overlap the handle, nor another argument of that call.
- * - `n` bytes can be read at `line`, and `room` items be written at `buf`.
+ * - `n` items can be read at `line`, `points` and `faces`, and `room` items be written at `buf`.
  * - No call from a signal handler, nor from the forked child of a process with threads.
  *
  * A closed handle is one before `gwb_open` or after `gwb_close`. A call for a closed handle changes nothing and writes nothing. */
@@ -42,7 +42,8 @@ enum gwb_kind {
     GWB_VOLUME = 6,  /* six times the volume of a solid */
     GWB_COUNT = 7,   /* the counts of a solid */
     GWB_LISTING = 8, /* the listing of the model */
-    GWB_CLOSED = 9   /* the handle is closed */
+    GWB_CLOSED = 9,  /* the handle is closed */
+    GWB_NO_CALL = 10 /* the arguments make no command: nothing has changed, the last answer included */
 };
 
 /* What a reader says: GWB_FOUND and the value is written, or GWB_ABSENT or GWB_CLOSED (9) and nothing is written. */
@@ -187,6 +188,13 @@ uint32_t gwb_ringmv(gwb *g, uint32_t ring, uint32_t face, uint32_t out);
  * `face`. gwb_merge: two solids become the first. */
 uint32_t gwb_outer(gwb *g, uint32_t ring, uint32_t face);
 uint32_t gwb_merge(gwb *g, uint32_t solid, uint32_t other);
+
+/* A third one: `n` faces of one solid, their numbers rising, become the new solid `solid`. They leave the solid of the first of them, which is refused
+ * where it is no face. Memory for the list is taken first, so GWB_MEMORY may come where the operator would be refused. GWB_NO_CALL where `n` is 0. */
+uint32_t gwb_part(gwb *g, const uint32_t *faces, size_t n, uint32_t solid);
+
+/* Makes a lamina: a new solid of two faces, whose corners are the `n` points in order. Fewer than 3 are refused; more than 64 are GWB_NO_CALL. */
+uint32_t gwb_lamina(gwb *g, uint32_t solid, const gwb_point *points, size_t n);
 
 uint32_t gwb_block(gwb *g, uint32_t solid, int64_t x, int64_t y, int64_t z, int64_t dx, int64_t dy, int64_t dz);
 uint32_t gwb_sweep(gwb *g, uint32_t face, int64_t dx, int64_t dy, int64_t dz);

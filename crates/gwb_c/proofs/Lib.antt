@@ -4,3 +4,4 @@ pub mod Overlaid
 pub mod CycleRounds
 mod Numbers
 pub mod Acting
+mod Queried

@@ -1,13 +1,15 @@
 -- What a typed call does to the session behind a handle: what the line does that spells the same command.
-use Rattle.std.specs.Prelude.{◌≡◌, ◌-◌, ◌≤◌, ℕ, cond, nat_lt, Option, Some, None}
+use Rattle.std.specs.Prelude.{◌≡◌, ◌-◌, ◌≤◌, ℕ, cond, nat_lt, List, map, Option, Some, None}
 use Rattle.euler_operators.specs.HalfEdge.{half}
 use Rattle.euler_operators.specs.declared.Corner.{Corner}
 use Rattle.euler_operators.specs.declared.Corner.TheVariants as corner
+use Rattle.euler_operators.specs.declared.Point.{Point}
 use Rattle.undo_journal.specs.Journal.{Journal}
 use Rattle.script_reader.specs.declared.command.Command.{Command}
 use Rattle.script_running.specs.script_judging.Judging.{Obeys}
 use Rattle.script_running.specs.declared.script_judging.judging.Answer.{Answer}
 use Rattle.gwb_c.specs.Handle.{Counts_in, Recalls, RecallsBy, status_of}
+use Rattle.gwb_c.specs.declared.readers.Place.{Place}
 use Rattle.gwb_c.specs.declared.slot.Slot.{Slot}
 
 -- a session goes on as the command is obeyed, and the answer is kept
@@ -22,6 +24,18 @@ Slot_does old c new = Slot_obeys old c new × Counts_in old new.before
 abbrev pub Does : Option Slot → Command → Option Slot → ℕ → Type 0
 Does None c new kind = (new ≡ None) × (kind ≡ 9)
 Does (Some x) c new kind = (y : Slot) × (new ≡ Some y) × (kind ≡ status_of y.answer) × Slot_does x c y
+
+-- C is told a kind alone, and nothing has changed; a closed handle tells that it is closed
+abbrev pub Leaves : Option Slot → ℕ → Option Slot → ℕ → Type 0
+Leaves None k new kind = (new ≡ None) × (kind ≡ 9)
+Leaves (Some x) k new kind = (new ≡ Some x) × (kind ≡ k)
+
+-- the points of a polygon, in the order in which C gives them
+abbrev pub point_of : Place → Point
+point_of p = record { x = p.x; y = p.y; z = p.z }
+
+abbrev pub polygon_of : List Place → List Point
+polygon_of ps = map point_of ps
 
 -- the corner that C means: below 2^31 the one at the tail of a half-edge, from there on that of a lone loop
 abbrev pub corner_of : ℕ → Corner

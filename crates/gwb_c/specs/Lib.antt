@@ -4,3 +4,4 @@ pub mod Answered
 pub mod Reading
 pub mod FreshNumbers
 pub mod Calls
+pub mod Parting

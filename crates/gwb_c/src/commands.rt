@@ -6,7 +6,8 @@ ghost use Rattle.script_running.specs.script_judging.Settling.{spelled};
 ghost use Rattle.gwb_c.specs.Calls.{Slot_obeys, Slot_does};
 
 use crate::slot::{Slot, counted_in, finish};
-use euler_operators::{Op, Refusal};
+use arrayvec::ArrayVec;
+use euler_operators::{Op, Point, Refusal};
 use script_running::{Answer, Larger};
 use solid_listing::Reply;
 use std::alloc::Global;
@@ -19,7 +20,7 @@ pub(crate) fn told_refusal(refusal: Refusal) -> Answer
 }
 
 /// The answer to a command that ended so.
-fn outcome(ended: Result<(), Failure>) -> Answer
+pub(crate) fn outcome(ended: Result<(), Failure>) -> Answer
     ensures { result ≡ outcome ended }
 {
     match ended {
@@ -52,6 +53,18 @@ fn redo_on(session: &mut Session) -> Answer
         Ok(()) => Answer::Reply(Reply::Done),
         Err(refusal) => told_refusal(refusal),
     }
+}
+
+fn lamina_on(
+    alloc: Global,
+    session: Session,
+    solid: u32,
+    points: &ArrayVec<Point, 64>,
+) -> (Session, Answer)
+    ensures { Obeys session.machine (command.Lamina solid points.now.items) result.1 result.0.machine }
+{
+    let (session, ended) = sweeps::lamina(alloc, session, solid, points);
+    (session, outcome(ended))
 }
 
 fn act_in(slot: &mut Slot, op: Op)
@@ -88,6 +101,17 @@ fn carry_in(alloc: Global, slot: &mut Slot, larger: Larger)
     finish(alloc, slot);
 }
 
+fn lamina_in(alloc: Global, slot: &mut Slot, solid: u32, points: &ArrayVec<Point, 64>)
+    ensures { Slot_obeys slot.old (command.Lamina solid points.now.items) slot.new }
+{
+    let Some(session) = slot.session.take() else {
+        return;
+    };
+    let (session, answer) = lamina_on(alloc, session, solid, points);
+    slot.session = Some(session);
+    slot.answer = answer;
+}
+
 /// One operator as a command.
 pub(crate) fn act(slot: &mut Slot, op: Op)
     ensures { Slot_does slot.old (command.Act op) slot.new }
@@ -121,5 +145,14 @@ pub(crate) fn carry(alloc: Global, slot: &mut Slot, larger: Larger)
 {
     let before = counted_in(slot);
     carry_in(alloc, slot, larger);
+    slot.before = before;
+}
+
+/// Makes a lamina.
+pub(crate) fn lamina(alloc: Global, slot: &mut Slot, solid: u32, points: &ArrayVec<Point, 64>)
+    ensures { Slot_does slot.old (command.Lamina solid points.now.items) slot.new }
+{
+    let before = counted_in(slot);
+    lamina_in(alloc, slot, solid, points);
     slot.before = before;
 }

@@ -6,8 +6,10 @@ use crate::slot::Slot;
 use std::alloc::Global;
 use std::mem;
 
-/// What a call says of a closed handle, and of a value that is there or not.
+/// What a call says of a closed handle, of arguments that make no command, and of a value that is there or not.
 pub(crate) const CLOSED: u32 = 9;
+
+pub(crate) const NO_CALL: u32 = 10;
 
 pub(crate) const FOUND: u32 = 1;
 

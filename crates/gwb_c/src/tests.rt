@@ -3,10 +3,12 @@ use crate::answers::{PlaneRow, Refused, Wide};
 use crate::exports::{gwb_ahead, gwb_close, gwb_depth, gwb_line, gwb_open, gwb_reply};
 use crate::fresh::Range;
 use crate::handle::{Gwb, closed};
+use crate::laminas::gwb_lamina;
 use crate::larger::{gwb_block, gwb_redo, gwb_undo};
-use crate::operators::{gwb_kemr, gwb_kev, gwb_kvfs, gwb_mev, gwb_mvfs, gwb_ringmv};
+use crate::operators::{gwb_kemr, gwb_kev, gwb_kvfs, gwb_merge, gwb_mev, gwb_mvfs, gwb_ringmv};
+use crate::parts::gwb_part;
 use crate::queries::gwb_volume;
-use crate::readers::FaceRow;
+use crate::readers::{FaceRow, Place};
 use crate::reads::{gwb_face, gwb_fresh, gwb_half_edges, gwb_number_after};
 use crate::recalls::{gwb_last_fault, gwb_last_plane, gwb_last_refusal, gwb_last_volume};
 use std::alloc::Global;
@@ -259,6 +261,61 @@ fn typed_rings(rt: HostRuntime) -> Result<(), Fail> {
     };
     same(&rt, gwb_last_refusal(alloc, &mut gwb, &mut refusal), 1);
     same(&rt, (refusal.number, refusal.value), (23, 2));
+    gwb_close(alloc, &mut gwb);
+    Ok(())
+}
+
+/// The corners of a triangle, and as many points as no polygon has.
+const CORNERS: [Place; 3] = [
+    Place { x: 0, y: 0, z: 0 },
+    Place { x: 3, y: 0, z: 0 },
+    Place { x: 0, y: 3, z: 0 },
+];
+
+const TOO_MANY: [Place; 65] = [Place { x: 0, y: 0, z: 0 }; 65];
+
+/// Laminas of three points, of two and of too many; the last answer stays where no call was made.
+#[test]
+fn typed_laminas(rt: HostRuntime) -> Result<(), Fail> {
+    let alloc = rt.alloc();
+    let mut gwb = opened(&rt, alloc);
+    let kinds = [
+        gwb_lamina(alloc, &mut gwb, 1, &CORNERS),
+        gwb_lamina(alloc, &mut gwb, 2, &CORNERS[..2]),
+        gwb_lamina(alloc, &mut gwb, 2, &TOO_MANY),
+    ];
+    same(&rt, kinds, [1, 2, 10]);
+    let mut refusal = Refused {
+        number: 0,
+        value: 0,
+    };
+    same(&rt, gwb_last_refusal(alloc, &mut gwb, &mut refusal), 1);
+    same(&rt, (refusal.number, refusal.value), (28, 2));
+    gwb_close(alloc, &mut gwb);
+    Ok(())
+}
+
+/// Two solids merged and parted again; no faces, a face that is not there, and all faces.
+#[test]
+fn typed_parts(rt: HostRuntime) -> Result<(), Fail> {
+    let alloc = rt.alloc();
+    let mut gwb = opened(&rt, alloc);
+    let kinds = [
+        gwb_mvfs(alloc, &mut gwb, 1, 1, 1, 1, 0, 0, 0),
+        gwb_mvfs(alloc, &mut gwb, 2, 2, 2, 2, 1, 0, 0),
+        gwb_merge(alloc, &mut gwb, 1, 2),
+        gwb_part(alloc, &mut gwb, &[], 2),
+        gwb_part(alloc, &mut gwb, &[9], 2),
+        gwb_part(alloc, &mut gwb, &[1, 2], 2),
+        gwb_part(alloc, &mut gwb, &[2], 2),
+    ];
+    same(&rt, kinds, [1, 1, 1, 10, 2, 2, 1]);
+    let mut row = FaceRow {
+        solid: 0,
+        outer_loop: 0,
+    };
+    same(&rt, gwb_face(alloc, &mut gwb, 2, &mut row), 1);
+    same(&rt, row.solid, 2);
     gwb_close(alloc, &mut gwb);
     Ok(())
 }
