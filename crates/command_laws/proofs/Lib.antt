@@ -15,7 +15,6 @@ mod SweptLoops
 mod SweptSides
 mod SweptRings
 mod MovedAreas
-mod Owners
 pub mod Owners
 mod SweptCounts
 mod NewCounts

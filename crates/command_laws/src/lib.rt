@@ -13,14 +13,7 @@
 //! swept, each edge its ends, and each vertex its point; after a glue so it is with the faces that weren't of the solid that
 //! goes, but for the first face and its loop. What `counts` answers of the solid after a lamina, a block, a sweep of any face, and
 //! a glue, told from what it answered before, and that it answers of every other solid what it did. What a split leaves as it was
-//! is proved in `split_frames`, what its caps are in `split_caps`. Not proved: what `counts` answers after a split.
-//! its number, solid, corner points and plane; that the solid is there; that each face there before a lamina, block or sweep
-//! keeps its solid and outer loop; after a glue that the first face's solid is there and the other gone, and that each other face
-//! not of the solid that goes keeps its row; the model after n undos; and when a block, a lamina, and a sweep of a face without
-//! rings are accepted. What `counts` answers of the solid after a lamina, a block, a sweep of any face, and a glue, told from what it
-//! answered before, and that it answers of every other solid what it did; of a split that is proved in `split_caps`, which also has
-//! its caps. Not proved: the sides of a sweep of a face with rings; what loops, edges and points of other solids are after a
-//! command; faces of other solids after a split.
+//! is proved in `split_frames`; what its caps are, and what `counts` answers after it, in `split_caps`.
 #![tactic(auto)]
 
 mod frames;

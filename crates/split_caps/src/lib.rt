@@ -1,5 +1,5 @@
-//! The caps of a split, and what its two parts count, told from what the call says of it alone. Each function does nothing: its contract is what is proved, over every
-//! machine.
+//! The caps of a split, and what its two parts count, told from what the call says of it alone. Each function does nothing: its contract
+//! is what is proved, over every machine.
 //!
 //! # What is proved
 //!
