@@ -18,7 +18,7 @@ use Rattle.boundary_model.specs.Items.{head_or}
 use Rattle.boundary_model.proofs.Tests.{and_false}
 use Rattle.arena_rows.specs.ring_spots.SpotTables.{edge_row, both_tails, edge_room, loose_row}
 use Rattle.boundary_model.specs.declared.Kind.{Kind}
-use Rattle.arena_rows.specs.Groups.{IsNext}
+use Rattle.arena_rows.specs.Numbers.{IsNext}
 
 module _ (sp : Spots) (known : ℕ → Bool) (none : (q : ℕ) → sp q ≡ None) (unknown : (q : ℕ) → known q ≡ false) where
   dead : (c : ℕ) → live sp c ≢ true

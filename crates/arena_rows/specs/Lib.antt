@@ -1,7 +1,7 @@
 pub mod Store
 pub mod Codes
 pub mod Rows
-pub mod Groups
+pub mod Numbers
 pub mod View
 pub mod owner_chains
 pub mod ring_spots

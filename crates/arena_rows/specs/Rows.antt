@@ -1,5 +1,6 @@
 -- Rows by number.
-use Rattle.std.specs.Prelude.{ℕ, Bool, false, nat_eq, List, length, Option, Some, None, is_some, slice_index_or}
+use Rattle.std.specs.Prelude.{◌≡◌, ℕ, suc, ◌*◌, ◌≤◌, Bool, false, cond, nat_eq, List, [], ◌∷◌, length, Option, Some, None, is_some, slice_index_or}
+use Rattle.arena_rows.specs.Numbers.{uses}
 use Rattle.arena_rows.specs.declared.rows.LoopCell.{LoopCell}
 use Rattle.boundary_model.specs.Table.{Table, tabulate}
 
@@ -10,6 +11,17 @@ row_at rows n = slice_index_or rows n None
 -- whether there is a row n
 abbrev pub has_row : {X : Type 0} → List (Option X) → ℕ → Bool
 has_row rows n = is_some (row_at rows n)
+
+-- the cells of the numbers in use as rows
+abbrev pub rows_of : {X : Type 0} → (ℕ → Bool) → List X → List (Option X)
+rows_of used [] = []
+rows_of used (x ∷ cells) = cond (used 0) (Some x) None ∷ rows_of (λ k. used (suc k)) cells
+
+-- cells with the numbers in use among them: each cell has the room of its bit, and no number past them is in use
+pub record AreCells {X : Type 0} (cells : List X) (words : List ℕ) : Type 0 where
+  pub limit : length cells ≤ 1000001
+  pub room : length cells ≤ length words * 64
+  pub beyond : (k : ℕ) → length cells ≤ k → uses words k ≡ false
 
 abbrev pub map_row : {X Y : Type 0} → (X → Y) → Option X → Option Y
 map_row f None = None

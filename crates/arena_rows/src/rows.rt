@@ -1,11 +1,12 @@
 //! Rows by number.
-ghost use Rattle.std.specs.Prelude.{◌≡◌, ℕ, ◌<◌, ◌≤◌, ◌-◌, ◌+◌, true, false, cond, nat_eq, is_some, List, [], length, OnOk, IfOk, IsOk, Option, Some, None, IsSome};
+ghost use Rattle.std.specs.Prelude.{◌≡◌, ℕ, ◌<◌, ◌≤◌, ◌-◌, ◌+◌, true, false, cond, nat_eq, is_some, List, [], length, slice_index_or, OnOk, IfOk, IsOk, Option, Some, None, IsSome};
 ghost use Rattle.arena_rows.specs.ring_spots.Last.{IsLast};
 ghost use Rattle.arena_rows.specs.Rows.{row_at, has_row, names};
-ghost use Rattle.arena_rows.specs.Groups.{IsNext, IsCounted};
+ghost use Rattle.arena_rows.specs.Numbers.{IsNext};
 ghost use Rattle.arena_rows.specs.Store.{within};
 
-use crate::groups::{GROUP, find, next_row, previous_row, recount};
+use crate::numbers::Numbers;
+use boundary_model::{PackedPoint, Point};
 use std::alloc::{AllocError, Global};
 use std::marker::Model;
 
@@ -38,39 +39,69 @@ pub struct LoopCell {
     pub held: Held,
 }
 
-/// Rows by number, with their counts by groups and by blocks of groups, and the greatest number that has one.
-///
-/// A contract sees the list of the cells, one for each number from 0 on. Only `reach` and `copy` take memory.
-#[derive(Drop)]
-pub struct Rows<T: Copy> {
-    cells: Vec<Option<T>>,
-    groups: Vec<Option<u32>>,
-    blocks: Vec<Option<u32>>,
-    last: u32,
+/// What can be a row.
+pub trait Row {
+    /// A row, no matter which: what the memory of a number holds that is not in use.
+    fn hole() -> Self;
 }
 
-impl<T: Copy> Model for Rows<T> {
+impl Row for bool {
+    fn hole() -> Self {
+        false
+    }
+}
+
+impl Row for FaceCell {
+    fn hole() -> Self {
+        FaceCell { solid: 0, outer: 0 }
+    }
+}
+
+impl Row for LoopCell {
+    fn hole() -> Self {
+        LoopCell {
+            face: 0,
+            held: Held::Empty,
+        }
+    }
+}
+
+impl Row for PackedPoint {
+    fn hole() -> Self {
+        PackedPoint::new(Point { x: 0, y: 0, z: 0 })
+    }
+}
+
+/// Rows by number: a cell for each number that has its room, and the numbers in use, whose cells are rows.
+///
+/// A contract sees the list of the rows that are there, one place for each number from 0 on. Only `reach` and `copy` take memory.
+#[derive(Drop)]
+pub struct Rows<T: Copy + Row> {
+    cells: Vec<T>,
+    used: Numbers,
+}
+
+impl<T: Copy + Row> Model for Rows<T> {
     ghost use Rattle.std.specs.Prelude.{List, Option};
 
     ghost Value = { List (Option T) };
 
-    ghost use Rattle.arena_rows.specs.Groups.{AreCounted};
+    ghost use Rattle.arena_rows.specs.Numbers.{uses};
+    ghost use Rattle.arena_rows.specs.Rows.{rows_of, AreCells};
 
-    ghost view = { λ a. a.cells.items };
+    ghost view = { λ a. rows_of (uses a.used) a.cells.items };
 
-    ghost invariant = { λ a. AreCounted a.cells.items a.groups.items a.blocks.items a.last };
+    ghost invariant = { λ a. AreCells a.cells.items a.used };
 }
 
-impl<T: Copy> Rows<T> {
+impl<T: Copy + Row> Rows<T> {
     /// No row, and no room. It takes no memory.
     pub fn new(alloc: Global) -> Self
         ensures { result ≡ [] }
     {
         Self {
             cells: Vec::new(alloc),
-            groups: Vec::new(alloc),
-            blocks: Vec::new(alloc),
-            last: 0,
+            used: Numbers::new(alloc),
         }
     }
 
@@ -81,9 +112,7 @@ impl<T: Copy> Rows<T> {
     {
         Ok(Rows {
             cells: self.cells.as_slice().to_vec(alloc)?,
-            groups: self.groups.as_slice().to_vec(alloc)?,
-            blocks: self.blocks.as_slice().to_vec(alloc)?,
-            last: self.last,
+            used: self.used.copy(alloc)?,
         })
     }
 
@@ -92,54 +121,42 @@ impl<T: Copy> Rows<T> {
         requires { IsSome (row_at self.now n) }
         ensures { row_at self.now n ≡ Some result }
     {
-        match find(&self.cells, n) {
-            Some(row) => row,
-            None => unreachable!(),
-        }
+        self.cells[n as usize]
     }
 
     /// Whether row n is there.
     pub fn has(&self, n: u32) -> bool
         ensures { result ≡ has_row self.now n }
     {
-        find(&self.cells, n).is_some()
+        self.used.contains(n)
     }
 
-    /// The greatest number that has a row, or 0 where none has. The number is kept, so this walks over nothing.
+    /// The greatest number that has a row, or 0 where none has. It looks for it as `Numbers::last` does.
     pub fn last(&self) -> u32
         ensures { IsLast (has_row self.now) result }
     {
-        self.last
+        self.used.last()
     }
 
-    /// The least number above n that has a row, or none. It looks at the rows of two groups at most, and at the groups of two
-    /// blocks.
+    /// The least number above n that has a row, or none. It looks for it as `Numbers::after` does.
     pub fn after(&self, n: u32) -> Option<u32>
         ensures { IsNext (has_row self.now) n result }
     {
-        if n < self.last {
-            next_row(&self.cells, &self.groups, &self.blocks, n)
-        } else {
-            None
-        }
+        self.used.after(n)
     }
 
-    /// Writes row n, or takes it away. Where it was there before and is, this is one step. Where the last row goes, it looks for the
-    /// next one below as `after` does.
+    /// Writes row n, or takes it away. This is one step, and it walks over nothing.
     pub fn write(&mut self, n: u32, row: Option<T>)
         requires { n < length self.old }
         ensures rows { (q : ℕ) → row_at self.new q ≡ cond (nat_eq q n) row (row_at self.old q) }
         ensures len { length self.new ≡ length self.old }
     {
-        let was = find(&self.cells, n).is_some();
-        let is = row.is_some();
-        self.cells[n as usize] = row;
-        if was == is {
-            return;
-        }
-        recount(&mut self.groups, &mut self.blocks, n, was, is);
-        if self.last <= n {
-            self.last = last_from(&self.cells, &self.groups, &self.blocks, n);
+        match row {
+            Some(row) => {
+                self.cells[n as usize] = row;
+                self.used.put(n);
+            }
+            None => self.used.take(n),
         }
     }
 
@@ -162,10 +179,8 @@ impl<T: Copy> Rows<T> {
         if (n as usize) < self.cells.len() {
             return Ok(());
         }
-        let group = n / GROUP;
-        reach(&mut self.blocks, group / GROUP)?;
-        reach(&mut self.groups, group)?;
-        reach(&mut self.cells, n)
+        self.used.reach(n)?;
+        reach(&mut self.cells, n, T::hole())
     }
 }
 
@@ -174,41 +189,21 @@ impl Rows<LoopCell> {
     pub fn names(&self, l: u32, f: u32) -> bool
         ensures { result ≡ names f (row_at self.now l) }
     {
-        match find(&self.cells, l) {
-            Some(cell) => cell.face == f,
-            None => false,
-        }
+        self.has(l) && self.known(l).face == f
     }
 }
 
-/// The greatest number that has a row, or 0 where none has. None above n has one.
-fn last_from<T: Copy>(
-    cells: &[Option<T>],
-    groups: &[Option<u32>],
-    blocks: &[Option<u32>],
-    n: u32,
-) -> u32
-    requires above { (k : ℕ) → n < k → has_row cells.now k ≡ false }
-    requires grouped { IsCounted cells.now groups.now }
-    requires counted { IsCounted groups.now blocks.now }
-    ensures { IsLast (has_row cells.now) result }
-{
-    if find(cells, n).is_some() {
-        return n;
-    }
-    previous_row(cells, groups, blocks, n).unwrap_or(0)
-}
-
-fn reach<T: Copy>(cells: &mut Vec<Option<T>>, n: u32) -> Result<(), AllocError>
+/// Makes the cells reach to number n, with a hole in each place.
+fn reach<T: Copy>(cells: &mut Vec<T>, n: u32, hole: T) -> Result<(), AllocError>
     requires { n ≤ 1000000 }
-    ensures same { (q : ℕ) → row_at cells.new.items q ≡ row_at cells.old.items q }
+    ensures same { (q : ℕ) (x : T) → q < length cells.old.items → slice_index_or cells.new.items q x ≡ slice_index_or cells.old.items q x }
     ensures grows { length cells.old.items ≤ length cells.new.items }
     ensures limit { (k : ℕ) → n < k → length cells.old.items ≤ k → length cells.new.items ≤ k }
     ensures ok { OnOk result (n < length cells.new.items) }
 {
     let index = n as usize;
     if cells.len() <= index {
-        cells.resize(index + 1, None)?;
+        cells.resize(index + 1, hole)?;
     }
     Ok(())
 }

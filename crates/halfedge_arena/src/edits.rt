@@ -1,6 +1,4 @@
 //! Solids, faces, vertices, edges and loops that come, go or change their row.
-//!
-//! Where the greatest number in use of its kind goes, the next one below is looked for by counts of groups of numbers.
 ghost use Rattle.std.specs.Prelude.{◌≡◌, true, false, [], ◌∷◌, Some};
 ghost use Rattle.boundary_model.specs.Points.{IsInRange};
 ghost use Rattle.boundary_model.specs.HalfEdge.{code, plus, minus};

@@ -1,15 +1,16 @@
--- The rows of the edges in use, where an edge comes or goes.
-use Rattle.std.proofs.Common.{◌≡◌, ◌≢◌, ℕ, ◌≤◌, ◌<◌, Bool, true, false, cond, nat_eq, nat_le, ◌&&◌, List, [], length, Option, Some, None, is_some, refl, sym, ap, subst, ◌∙◌, arith, eq-eqb, ne_eqb, true≢false, inl, inr}
+-- The numbers of the edges in use, where an edge comes or goes.
+use Rattle.std.proofs.Common.{◌≡◌, ◌≢◌, ℕ, ◌/◌, ◌≤◌, ◌<◌, Bool, true, false, cond, nat_eq, nat_le, ◌&&◌, List, [], length, Some, None, is_some, refl, sym, ap, subst, ◌∙◌, arith, eq-eqb, ne_eqb, true≢false, inl, inr}
 use Rattle.std.proofs.lemmas.Bool.{cases_eq}
 use Rattle.std.proofs.lemmas.Bool.Decides.{nat_tests}
 use Rattle.std.specs.FinMap.{contains_key}
 use Rattle.raw_ring.specs.Rings.{RingMap, spot, ring_of_one}
 use Rattle.boundary_model.specs.HalfEdge.{plus, minus}
 use Rattle.boundary_model.proofs.Tests.{and_false}
-use Rattle.arena_rows.specs.Rows.{row_at}
+use Rattle.arena_rows.specs.Numbers.{uses}
 use Rattle.arena_rows.specs.ring_spots.Spots.{Spots, live, woken, asleep, labelled, spliced_at, retailed}
 use Rattle.arena_rows.specs.ring_spots.Last.{is_edge}
 use Rattle.arena_rows.specs.ring_spots.Edges.{AreEdges}
+use Rattle.arena_rows.proofs.numbers_laws.Words.{uses_past}
 use Rattle.arena_rows.proofs.ring_spots_laws.SpotLaws.{live-labelled, live-spliced, live-retailed}
 use Rattle.arena_rows.proofs.ring_spots_laws.RingMaps.{no_codes, spot-empty, known-empty}
 
@@ -37,60 +38,60 @@ module _ (sp new : Spots) (e : ℕ) where
       ap (λ t. cond t None (asleep sp (plus e) (plus k))) (ne_eqb (plus k) (minus e) (λ q. omega arith))
       ∙ ap (λ t. cond t None (sp (plus k))) (ne_eqb (plus k) (plus e) (λ q. ne (omega arith))))
 
-pub no_edges : (m : RingMap) (edges : List (Option Bool)) → m ≡ no_codes → edges ≡ [] → AreEdges m edges
-no_edges m edges a b = subst (λ (k : RingMap). AreEdges k edges) (sym a) (subst (λ (es : List (Option Bool)). AreEdges no_codes es) (sym b) (record {
-  live = λ e. sym (ap (λ o. nat_le e 1000000 && is_some o) (spot-empty (plus e)) ∙ and_false (nat_le e 1000000));
+pub no_edges : (m : RingMap) (words : List ℕ) → m ≡ no_codes → words ≡ [] → AreEdges m words
+no_edges m words a b = subst (λ (k : RingMap). AreEdges k words) (sym a) (subst (AreEdges no_codes) (sym b) (record {
+  live = λ e. uses_past [] e (omega arith) ∙ sym (ap (λ o. nat_le e 1000000 && is_some o) (spot-empty (plus e)) ∙ and_false (nat_le e 1000000));
   room = λ e l h. absurd (true≢false (sym h ∙ known-empty (plus e)));
 }))
 
-module _ (m : RingMap) (edges : List (Option Bool)) (A : AreEdges m edges) where
+module _ (m : RingMap) (words : List ℕ) (A : AreEdges m words) where
   -- the same codes are live and known
-  edges_alike : (new : RingMap) → ((c : ℕ) → live (spot new) c ≡ live (spot m) c) → contains_key new ≡ contains_key m → AreEdges new edges
+  edges_alike : (new : RingMap) → ((c : ℕ) → live (spot new) c ≡ live (spot m) c) → contains_key new ≡ contains_key m → AreEdges new words
   edges_alike new same known = record {
     live = λ e. A.live e ∙ sym (ap (λ b. nat_le e 1000000 && b) (same (plus e)));
     room = λ e l h. A.room e l (sym (ap (λ (k : ℕ → Bool). k (plus e)) known) ∙ h);
   }
 
-  pub edges_labelled : (new : RingMap) (l : ℕ) (hs : List ℕ) → spot new ≡ labelled (spot m) l hs → contains_key new ≡ contains_key m → AreEdges new edges
+  pub edges_labelled : (new : RingMap) (l : ℕ) (hs : List ℕ) → spot new ≡ labelled (spot m) l hs → contains_key new ≡ contains_key m → AreEdges new words
   edges_labelled new l hs is = edges_alike new (λ c. ap (λ (s : Spots). live s c) is ∙ live-labelled (spot m) l hs c)
 
-  pub edges_cut : (new : RingMap) (a b l : ℕ) (hs : List ℕ) → spot new ≡ labelled (spliced_at (spot m) a b) l hs → contains_key new ≡ contains_key m → AreEdges new edges
+  pub edges_cut : (new : RingMap) (a b l : ℕ) (hs : List ℕ) → spot new ≡ labelled (spliced_at (spot m) a b) l hs → contains_key new ≡ contains_key m → AreEdges new words
   edges_cut new a b l hs is = edges_alike new (λ c. ap (λ (s : Spots). live s c) is ∙ live-labelled (spliced_at (spot m) a b) l hs c ∙ live-spliced (spot m) a b c)
 
-  pub edges_joined : (new : RingMap) (a b l : ℕ) (hs : List ℕ) → spot new ≡ spliced_at (labelled (spot m) l hs) a b → contains_key new ≡ contains_key m → AreEdges new edges
+  pub edges_joined : (new : RingMap) (a b l : ℕ) (hs : List ℕ) → spot new ≡ spliced_at (labelled (spot m) l hs) a b → contains_key new ≡ contains_key m → AreEdges new words
   edges_joined new a b l hs is = edges_alike new (λ c. ap (λ (s : Spots). live s c) is ∙ live-spliced (labelled (spot m) l hs) a b c ∙ live-labelled (spot m) l hs c)
 
-  pub edges_retailed : (new : RingMap) (h t : ℕ) → spot new ≡ retailed (spot m) h t → contains_key new ≡ contains_key m → AreEdges new edges
+  pub edges_retailed : (new : RingMap) (h t : ℕ) → spot new ≡ retailed (spot m) h t → contains_key new ≡ contains_key m → AreEdges new words
   edges_retailed new h t is = edges_alike new (λ c. ap (λ (s : Spots). live s c) is ∙ live-retailed (spot m) h t c)
 
-  -- edge e comes or goes, and its row with it
-  edges_turned : (new : RingMap) (rows : List (Option Bool)) (e : ℕ) (row : Option Bool) → is_edge (spot new) e ≡ is_some row → ((k : ℕ) → k ≢ e → is_edge (spot new) k ≡ is_edge (spot m) k) → contains_key new ≡ contains_key m →
-      ((q : ℕ) → row_at rows q ≡ cond (nat_eq q e) row (row_at edges q)) → length rows ≡ length edges → AreEdges new rows
-  edges_turned new rows e row here others known is len = record {
+  -- edge e comes or goes, and its number with it
+  edges_turned : (new : RingMap) (after : List ℕ) (e : ℕ) (b : Bool) → is_edge (spot new) e ≡ b → ((k : ℕ) → k ≢ e → is_edge (spot new) k ≡ is_edge (spot m) k) → contains_key new ≡ contains_key m →
+      ((q : ℕ) → uses after q ≡ cond (nat_eq q e) b (uses words q)) → length after ≡ length words → AreEdges new after
+  edges_turned new after e b here others known is len = record {
     live = λ k. elim (cases_eq k e) [
-      | inl same ↦ ap is_some (is k ∙ ap (λ t. cond t row (row_at edges k)) (eq-eqb k e same)) ∙ sym (ap (is_edge (spot new)) same ∙ here)
-      | inr ne ↦ ap is_some (is k ∙ ap (λ t. cond t row (row_at edges k)) (ne_eqb k e ne)) ∙ A.live k ∙ sym (others k ne)
+      | inl same ↦ is k ∙ ap (λ t. cond t b (uses words k)) (eq-eqb k e same) ∙ sym (ap (is_edge (spot new)) same ∙ here)
+      | inr ne ↦ is k ∙ ap (λ t. cond t b (uses words k)) (ne_eqb k e ne) ∙ A.live k ∙ sym (others k ne)
     ];
-    room = λ k l h. let below : k < length edges = A.room k l (sym (ap (λ (p : ℕ → Bool). p (plus k)) known) ∙ h) in omega (arith, below, len);
+    room = λ k l h. let below : k / 64 < length words = A.room k l (sym (ap (λ (p : ℕ → Bool). p (plus k)) known) ∙ h) in omega (arith, below, len);
   }
 
-  pub edges_woken : (new : RingMap) (rows : List (Option Bool)) (e a b : ℕ) → e ≤ 1000000 → spot new ≡ woken (woken (spot m) (plus e) a) (minus e) b → contains_key new ≡ contains_key m →
-      ((q : ℕ) → row_at rows q ≡ cond (nat_eq q e) (Some true) (row_at edges q)) → length rows ≡ length edges → AreEdges new rows
-  edges_woken new rows e a b limit is = edges_turned new rows e (Some true) (edge_woken (spot m) (spot new) e a b limit is) (other_woken (spot m) (spot new) e a b is)
+  pub edges_woken : (new : RingMap) (after : List ℕ) (e a b : ℕ) → e ≤ 1000000 → spot new ≡ woken (woken (spot m) (plus e) a) (minus e) b → contains_key new ≡ contains_key m →
+      ((q : ℕ) → uses after q ≡ cond (nat_eq q e) true (uses words q)) → length after ≡ length words → AreEdges new after
+  edges_woken new after e a b limit is = edges_turned new after e true (edge_woken (spot m) (spot new) e a b limit is) (other_woken (spot m) (spot new) e a b is)
 
-  pub edges_asleep : (new : RingMap) (rows : List (Option Bool)) (e : ℕ) → spot new ≡ asleep (asleep (spot m) (plus e)) (minus e) → contains_key new ≡ contains_key m →
-      ((q : ℕ) → row_at rows q ≡ cond (nat_eq q e) None (row_at edges q)) → length rows ≡ length edges → AreEdges new rows
-  edges_asleep new rows e is = edges_turned new rows e None (edge_asleep (spot m) (spot new) e is) (other_asleep (spot m) (spot new) e is)
+  pub edges_asleep : (new : RingMap) (after : List ℕ) (e : ℕ) → spot new ≡ asleep (asleep (spot m) (plus e)) (minus e) → contains_key new ≡ contains_key m →
+      ((q : ℕ) → uses after q ≡ cond (nat_eq q e) false (uses words q)) → length after ≡ length words → AreEdges new after
+  edges_asleep new after e is = edges_turned new after e false (edge_asleep (spot m) (spot new) e is) (other_asleep (spot m) (spot new) e is)
 
-  module _ (rows : List (Option Bool)) (same : (q : ℕ) → row_at rows q ≡ row_at edges q) (more : length edges ≤ length rows) where
-    -- there is room for more rows, and then for the nodes of an edge
-    pub edges_more : AreEdges m rows
+  module _ (after : List ℕ) (same : (q : ℕ) → uses after q ≡ uses words q) (more : length words ≤ length after) where
+    -- there is room for more numbers, and then for the nodes of an edge
+    pub edges_more : AreEdges m after
     edges_more = record {
-      live = λ e. ap is_some (same e) ∙ A.live e;
-      room = λ e l h. let below : e < length edges = A.room e l h in omega (arith, below, more);
+      live = λ e. same e ∙ A.live e;
+      room = λ e l h. let below : e / 64 < length words = A.room e l h in omega (arith, below, more);
     }
 
-    pub edges_roomed : (new : RingMap) (n : ℕ) → n < length rows → spot new ≡ spot m → ((q : ℕ) → q ≢ plus n → q ≢ minus n → contains_key new q ≡ contains_key m q) → AreEdges new rows
+    pub edges_roomed : (new : RingMap) (n : ℕ) → n / 64 < length after → spot new ≡ spot m → ((q : ℕ) → q ≢ plus n → q ≢ minus n → contains_key new q ≡ contains_key m q) → AreEdges new after
     edges_roomed new n there spots only = record {
       live = λ e. edges_more.live e ∙ sym (ap (λ (s : Spots). is_edge s e) spots);
       room = λ e l h. elim (cases_eq e n) [

@@ -1,4 +1,4 @@
--- What a contract sees of rings: the codes that are live and known, and the rows of the edges.
+-- What a contract sees of rings: the codes that are live and known, and the numbers of the edges.
 use Rattle.std.proofs.Common.{◌≡◌, ℕ, Bool, true, List, [], Option, Some, None, is_some, option_map, Result, Ok, Err, OnOk, refl, sym, ap, subst, ◌∙◌, arith, true≢false}
 use Rattle.std.specs.Ordering.{nat_cmp}
 use Rattle.std.specs.Cmp.{nat_cmp_total}
@@ -78,8 +78,8 @@ module _ (rows : List Label) (m : RingMap) where
 pub seen-empty : (rows : List Label) (m : RingMap) → m ≡ no_codes → map_in_loops rows m ≡ no_codes
 seen-empty rows m e = ap (map_in_loops rows) e ∙ same_map nat_cmp_total nat_cmp-IsAntisymmetric (map_in_loops rows no_codes) no_codes (λ q. get-loops rows no_codes q ∙ ap (option_map (map_spot (with_loop rows))) (get-empty nat_cmp q) ∙ sym (get-empty nat_cmp q))
 
-pub no_edge_rings : (m : RingMap) (rows : List Label) (edges : List (Option Bool)) → m ≡ no_codes → rows ≡ [] → edges ≡ [] → AreEdgeRings m rows edges
-no_edge_rings m rows edges a b c = subst (λ (k : RingMap). AreEdgeRings k rows edges) (sym a) (subst (λ (r : List Label). AreEdgeRings no_codes r edges) (sym b) (record {
+pub no_edge_rings : (m : RingMap) (rows : List Label) (words : List ℕ) → m ≡ no_codes → rows ≡ [] → words ≡ [] → AreEdgeRings m rows words
+no_edge_rings m rows words a b c = subst (λ (k : RingMap). AreEdgeRings k rows words) (sym a) (subst (λ (r : List Label). AreEdgeRings no_codes r words) (sym b) (record {
   labelled = record {
     table = record {
       rings = record {
@@ -94,7 +94,7 @@ no_edge_rings m rows edges a b c = subst (λ (k : RingMap). AreEdgeRings k rows 
     };
     held = λ q h. absurd (dead q h);
   };
-  rows = no_edges (map_in_loops [] no_codes) edges (seen-empty [] no_codes refl) c;
+  edges = no_edges (map_in_loops [] no_codes) words (seen-empty [] no_codes refl) c;
 })) where
   dead : (q : ℕ) → live (spot no_codes) q ≡ true → ⊥
   dead q h = true≢false (sym h ∙ ap is_some (spot-empty q))

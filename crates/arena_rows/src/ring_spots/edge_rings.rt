@@ -1,4 +1,4 @@
-//! The rings of half-edges, with the edges in use as rows.
+//! The rings of half-edges, with the numbers of the edges in use.
 ghost use Rattle.std.specs.Prelude.{◌≡◌, ◌≢◌, ◌≤◌, ◌&&◌, nat_lt, nat_le, is_some, true, Some, OnOk, IfOk, IsOk, ℕ};
 ghost use Rattle.std.specs.FinMap.{empty, contains_key};
 ghost use Rattle.raw_ring.specs.Rings.{spot, next_of, tail_of, label_of, IsLive, IsAsleep, IsPermutation};
@@ -6,16 +6,16 @@ ghost use Rattle.boundary_model.specs.HalfEdge.{plus, minus};
 ghost use Rattle.boundary_model.specs.Items.{IsIn};
 ghost use Rattle.arena_rows.specs.ring_spots.Spots.{live, label, ring, labelled, woken, asleep, spliced_at, retailed};
 ghost use Rattle.arena_rows.specs.ring_spots.Last.{IsLast, is_edge};
-ghost use Rattle.arena_rows.specs.Groups.{IsNext};
+ghost use Rattle.arena_rows.specs.Numbers.{IsNext};
 
+use crate::numbers::Numbers;
 use crate::ring_spots::labels::Label;
 use crate::ring_spots::{links, parts};
-use crate::rows::Rows;
 use raw_ring::Rings;
 use std::alloc::{AllocError, Global};
 use std::marker::Model;
 
-/// Rings of half-edges, two for each edge, with a row for each edge in use.
+/// Rings of half-edges, two for each edge, with the numbers of the edges in use.
 ///
 /// Each ring has a label at its nodes, and the label stands for the ring's loop. So a ring comes to another loop by one write, and
 /// where a ring is cut or two are joined, the labels of the shorter part alone are written.
@@ -26,7 +26,7 @@ use std::marker::Model;
 pub struct EdgeRings {
     rings: Rings,
     labels: Vec<Label>,
-    edges: Rows<bool>,
+    edges: Numbers,
 }
 
 impl Model for EdgeRings {
@@ -51,7 +51,7 @@ impl EdgeRings {
         Self {
             rings: Rings::new(alloc),
             labels: Vec::new(alloc),
-            edges: Rows::new(alloc),
+            edges: Numbers::new(alloc),
         }
     }
 
@@ -73,14 +73,14 @@ impl EdgeRings {
         links::has_edge(&self.rings, e)
     }
 
-    /// The greatest edge in use, or 0 where none is. The number is kept, so this walks over nothing.
+    /// The greatest edge in use, or 0 where none is. It looks for it as `Numbers::last` does.
     pub fn last_edge(&self) -> u32
         ensures { IsLast (is_edge (spot self.now)) result }
     {
         self.edges.last()
     }
 
-    /// The least edge in use above e, or none. It looks for it as `Rows::after` does.
+    /// The least edge in use above e, or none. It looks for it as `Numbers::after` does.
     pub fn edge_after(&self, e: u32) -> Option<u32>
         ensures { IsNext (is_edge (spot self.now)) e result }
     {
@@ -103,11 +103,10 @@ impl EdgeRings {
         ensures known { contains_key self.new ≡ contains_key self.old }
     {
         links::wake_edge(&mut self.rings, &mut self.labels, e, a, b);
-        self.edges.write(e, Some(true));
+        self.edges.put(e);
     }
 
-    /// Puts both half-edges of an edge to sleep, each of which is a ring of one. Where it was the greatest edge in use, it looks
-    /// for the next one below as `Rows::write` does.
+    /// Puts both half-edges of an edge to sleep, each of which is a ring of one.
     pub fn sleep_edge(&mut self, e: u32)
         requires limit { e ≤ 1000000 }
         requires first { next_of self.old (plus e) ≡ Some (plus e) }
@@ -116,7 +115,7 @@ impl EdgeRings {
         ensures known { contains_key self.new ≡ contains_key self.old }
     {
         links::sleep_edge(&mut self.rings, e);
-        self.edges.write(e, None);
+        self.edges.take(e);
     }
 
     /// Puts the ring of a half-edge into loop l, or into none where l is 0. It writes one number, and walks over nothing.

@@ -1,43 +1,33 @@
-use Rattle.std.proofs.Common.{◌<◌, ◌∙◌, sym, arith, length}
-use Rattle.arena_rows.proofs.groups_laws.Counted.{counted_limit}
-use Rattle.arena_rows.proofs.groups_laws.Writing.{found_equal, was_there, grouped-set, limit-set, same-set, kept-set}
+use Rattle.std.proofs.Common.{◌<◌, ◌∙◌, sym, rules, length, length-set, refl}
+use Rattle.arena_rows.proofs.numbers_laws.Cells.{length-rows_of, word_room, cells_written, row_written, row_cleared}
 use Rattle.arena_rows.proofs.rows.Rows.write.Goals as goal
 
-pub recount-requires-clause-limit : goal.recount-requires-clause-limit
-recount-requires-clause-limit g c = counted_limit _ _ c.self.invariant.grouped _
+pub index_mut-requires : goal.index_mut-requires
+index_mut-requires g c = let below : c.args.n < length c.self.inside.cells.items = rw length-rows_of at (rw (← c.self.view_is) at c.requires) in search rules
+
+pub put-requires : goal.put-requires
+put-requires g c = word_room _ _ c.self.invariant c.args.n (rw length-rows_of at (rw (← c.self.view_is) at c.requires)) _ refl
+
+pub take-requires : goal.take-requires
+take-requires g c = word_room _ _ c.self.invariant c.args.n (rw length-rows_of at (rw (← c.self.view_is) at c.requires)) _ refl
 
 pub invariant_of-self : goal.invariant_of-self
 invariant_of-self g c =
-    let below : c.args.n < length c.self.inside.cells.items = rw (← c.self.view_is) at c.requires in
-    let was = was_there _ _ c.deref.ensures.value c.args.n _ c.find.ensures _ c.is_some-was.ensures in
-    let same = found_equal _ _ c.if-was-is.true in
-    same-set _ _ _ _ c.self.invariant c.args.n c.args.row below (sym was ∙ same ∙ c.is_some-is.ensures)
+    let below : c.args.n < length c.self.inside.cells.items = rw length-rows_of at (rw (← c.self.view_is) at c.requires) in
+    cells_written _ _ c.self.invariant c.args.n below _ c.put.ensures.len _ _ c.put.ensures.uses (length-set _ _ _)
 
-pub last_from-self-inside-requires-clause-grouped : goal.last_from-self-inside-requires-clause-grouped
-last_from-self-inside-requires-clause-grouped g c =
-    let below : c.args.n < length c.self.inside.cells.items = rw (← c.self.view_is) at c.requires in
-    rw (c.deref-then-self-n.ensures.value, c.deref-then-self-n-2.ensures.value)
-    (grouped-set _ _ _ _ c.self.invariant c.args.n c.args.row below _ _
-    (was_there _ _ c.deref.ensures.value c.args.n _ c.find.ensures _ c.is_some-was.ensures) c.is_some-is.ensures _ c.recount.ensures.len c.recount.ensures.rows)
+pub returns-in-Some-clause-rows : goal.returns-in-Some-clause-rows
+returns-in-Some-clause-rows g c =
+    let below : c.args.n < length c.self.inside.cells.items = rw length-rows_of at (rw (← c.self.view_is) at c.requires) in
+    rw (← c.self.view_is) (row_written _ _ c.self.invariant c.args.n below _ c.put.ensures.len c.args.row _ c.in-Some.is c.put.ensures.uses)
 
-pub invariant_of-self-then-self-n : goal.invariant_of-self-then-self-n
-invariant_of-self-then-self-n g c =
-    let below : c.args.n < length c.self.inside.cells.items = rw (← c.self.view_is) at c.requires in
-    record {
-      limit = limit-set _ _ _ _ c.self.invariant c.args.n c.args.row below;
-      grouped = grouped-set _ _ _ _ c.self.invariant c.args.n c.args.row below _ _
-          (was_there _ _ c.deref.ensures.value c.args.n _ c.find.ensures _ c.is_some-was.ensures) c.is_some-is.ensures _ c.recount.ensures.len c.recount.ensures.rows;
-      counted = c.recount.ensures.counted;
-      is_last = rw (← c.deref-then-self-n.ensures.value) c.last_from-self-inside.ensures;
-    }
+pub returns-in-Some-clause-len : goal.returns-in-Some-clause-len
+returns-in-Some-clause-len g c = rw (← c.self.view_is) (length-rows_of _ _ ∙ length-set _ _ _ ∙ sym (length-rows_of _ _))
 
-pub invariant_of-self-else-self-n : goal.invariant_of-self-else-self-n
-invariant_of-self-else-self-n g c =
-    let below : c.args.n < length c.self.inside.cells.items = rw (← c.self.view_is) at c.requires in
-    record {
-      limit = limit-set _ _ _ _ c.self.invariant c.args.n c.args.row below;
-      grouped = grouped-set _ _ _ _ c.self.invariant c.args.n c.args.row below _ _
-          (was_there _ _ c.deref.ensures.value c.args.n _ c.find.ensures _ c.is_some-was.ensures) c.is_some-is.ensures _ c.recount.ensures.len c.recount.ensures.rows;
-      counted = c.recount.ensures.counted;
-      is_last = kept-set _ _ _ _ c.self.invariant c.args.n c.args.row below (omega (arith, c.if-self-n.false));
-    }
+pub returns-in-None-clause-rows : goal.returns-in-None-clause-rows
+returns-in-None-clause-rows g c =
+    let below : c.args.n < length c.self.inside.cells.items = rw length-rows_of at (rw (← c.self.view_is) at c.requires) in
+    rw (← c.self.view_is) (row_cleared _ _ c.self.invariant c.args.n below _ c.take.ensures.len c.args.row c.in-None.is c.take.ensures.uses)
+
+pub returns-in-None-clause-len : goal.returns-in-None-clause-len
+returns-in-None-clause-len g c = rw (← c.self.view_is) (length-rows_of _ _ ∙ sym (length-rows_of _ _))

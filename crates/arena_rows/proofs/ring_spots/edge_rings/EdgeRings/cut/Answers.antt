@@ -14,7 +14,7 @@ cut-requires-clause-together c = subst (IsIn c.args.b) (seen_ring c.self.inside.
 pub invariant_of-self : goal.invariant_of-self
 invariant_of-self c =
     let spots = seen_as (λ (s : Spots). labelled (spliced_at s c.args.a c.args.b) c.args.l (ring (spliced_at s c.args.a c.args.b) c.args.b)) c.self.inside.labels.items c.cut.new.labels.items c.self.inside.rings c.cut.new.rings c.cut.ensures.spots in
-    record { labelled = c.cut.ensures.whole; rows = edges_cut _ _ c.self.invariant.rows _ c.args.a c.args.b c.args.l _ spots (known_as c.self.inside.labels.items c.cut.new.labels.items c.self.inside.rings c.cut.new.rings c.cut.ensures.known) }
+    record { labelled = c.cut.ensures.whole; edges = edges_cut _ _ c.self.invariant.edges _ c.args.a c.args.b c.args.l _ spots (known_as c.self.inside.labels.items c.cut.new.labels.items c.self.inside.rings c.cut.new.rings c.cut.ensures.known) }
 
 pub returns-clause-spots : goal.returns-clause-spots
 returns-clause-spots c = rw (← c.self.view_is) (seen_as (λ (s : Spots). labelled (spliced_at s c.args.a c.args.b) c.args.l (ring (spliced_at s c.args.a c.args.b) c.args.b)) c.self.inside.labels.items c.cut.new.labels.items c.self.inside.rings c.cut.new.rings c.cut.ensures.spots)

@@ -23,7 +23,7 @@ pub invariant_of-self : goal.invariant_of-self
 invariant_of-self c =
     let a = sym (seen_live c.self.inside.labels.items c.self.inside.rings c.args.a) ∙ (rw (← c.self.view_is) at c.requires.a) in
     let spots = seen-joined c.self.inside.labels.items c.self.inside.rings c.join.new.labels.items c.join.new.rings c.args.a c.args.b a c.join.ensures.spots in
-    record { labelled = c.join.ensures.whole; rows = edges_joined _ _ c.self.invariant.rows _ c.args.a c.args.b _ _ spots (known_as c.self.inside.labels.items c.join.new.labels.items c.self.inside.rings c.join.new.rings c.join.ensures.known) }
+    record { labelled = c.join.ensures.whole; edges = edges_joined _ _ c.self.invariant.edges _ c.args.a c.args.b _ _ spots (known_as c.self.inside.labels.items c.join.new.labels.items c.self.inside.rings c.join.new.rings c.join.ensures.known) }
 
 pub returns-clause-spots : goal.returns-clause-spots
 returns-clause-spots c = rw (← c.self.view_is) (seen-joined c.self.inside.labels.items c.self.inside.rings c.join.new.labels.items c.join.new.rings c.args.a c.args.b (sym (seen_live c.self.inside.labels.items c.self.inside.rings c.args.a) ∙ (rw (← c.self.view_is) at c.requires.a)) c.join.ensures.spots)

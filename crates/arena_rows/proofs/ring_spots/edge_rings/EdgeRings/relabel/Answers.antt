@@ -9,7 +9,7 @@ put_in_loop-requires-clause-there c = sym (seen_live c.self.inside.labels.items 
 pub invariant_of-self : goal.invariant_of-self
 invariant_of-self c =
     let spots = seen-put c.self.inside.labels.items c.self.inside.rings c.put_in_loop.new.labels.items c.args.from c.args.l c.put_in_loop.ensures.spots in
-    record { labelled = c.put_in_loop.ensures.whole; rows = edges_labelled _ _ c.self.invariant.rows _ c.args.l _ spots (known_as c.self.inside.labels.items c.put_in_loop.new.labels.items c.self.inside.rings c.self.inside.rings refl) }
+    record { labelled = c.put_in_loop.ensures.whole; edges = edges_labelled _ _ c.self.invariant.edges _ c.args.l _ spots (known_as c.self.inside.labels.items c.put_in_loop.new.labels.items c.self.inside.rings c.self.inside.rings refl) }
 
 pub returns-clause-spots : goal.returns-clause-spots
 returns-clause-spots c = rw (← c.self.view_is) (seen-put c.self.inside.labels.items c.self.inside.rings c.put_in_loop.new.labels.items c.args.from c.args.l c.put_in_loop.ensures.spots)

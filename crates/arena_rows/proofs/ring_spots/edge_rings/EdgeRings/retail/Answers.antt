@@ -14,7 +14,7 @@ retail-requires c = sym (seen_live c.self.inside.labels.items c.self.inside.ring
 pub invariant_of-self : goal.invariant_of-self
 invariant_of-self c = record {
   labelled = labelled-retailed _ _ _ c.self.invariant.labelled c.args.h c.args.v _ _ c.retail.ensures.spots c.retail.ensures.known;
-  rows = edges_retailed _ _ c.self.invariant.rows _ c.args.h c.args.v (seen_as (λ (s : Spots). retailed s c.args.h c.args.v) c.self.inside.labels.items c.self.inside.labels.items c.self.inside.rings c.retail.new.rings (ap (in_loops c.self.inside.labels.items) c.retail.ensures.spots ∙ loops-retailed c.self.inside.labels.items (spot c.self.inside.rings) c.args.h c.args.v)) (known_as c.self.inside.labels.items c.self.inside.labels.items c.self.inside.rings c.retail.new.rings c.retail.ensures.known);
+  edges = edges_retailed _ _ c.self.invariant.edges _ c.args.h c.args.v (seen_as (λ (s : Spots). retailed s c.args.h c.args.v) c.self.inside.labels.items c.self.inside.labels.items c.self.inside.rings c.retail.new.rings (ap (in_loops c.self.inside.labels.items) c.retail.ensures.spots ∙ loops-retailed c.self.inside.labels.items (spot c.self.inside.rings) c.args.h c.args.v)) (known_as c.self.inside.labels.items c.self.inside.labels.items c.self.inside.rings c.retail.new.rings c.retail.ensures.known);
 }
 
 pub returns-clause-spots : goal.returns-clause-spots

@@ -12,7 +12,7 @@ use Rattle.arena_rows.proofs.ring_spots.edge_rings.EdgeRings.room_edge.Goals as 
 pub invariant_of-self-2 : goal.invariant_of-self-2
 invariant_of-self-2 c = record {
   labelled = c.room_edge.ensures.whole;
-  rows = edges_roomed _ _ c.self.invariant.rows _ c.reach.ensures.same c.reach.ensures.grows _ c.args.e c.in_ok-reach.ensures.ok (seen_as (λ (s : Spots). s) c.self.inside.labels.items c.room_edge.new.labels.items c.self.inside.rings c.room_edge.new.rings c.room_edge.ensures.spots)
+  edges = edges_roomed _ _ c.self.invariant.edges _ c.reach.ensures.same c.reach.ensures.grows _ c.args.e c.in_ok-reach.ensures.ok (seen_as (λ (s : Spots). s) c.self.inside.labels.items c.room_edge.new.labels.items c.self.inside.rings c.room_edge.new.rings c.room_edge.ensures.spots)
       (λ q n m. seen_known c.room_edge.new.labels.items c.room_edge.new.rings q ∙ c.room_edge.ensures.only q n m ∙ sym (seen_known c.self.inside.labels.items c.self.inside.rings q));
 }
 

@@ -20,7 +20,7 @@ invariant_of-self c =
     let m = sym (seen_next c.self.inside.labels.items c.self.inside.rings (minus c.args.e)) ∙ (rw (← c.self.view_is) at c.requires.second) in
     record {
       labelled = labelled-asleep _ _ _ c.self.invariant.labelled c.args.e (IsLive-next _ _ _ p) (IsLive-next _ _ _ m) (ap or_zero p) (ap or_zero m) _ _ c.sleep_edge.ensures.spots c.sleep_edge.ensures.known;
-      rows = edges_asleep _ _ c.self.invariant.rows _ _ c.args.e (seen_as (λ (s : Spots). asleep (asleep s (plus c.args.e)) (minus c.args.e)) c.self.inside.labels.items c.self.inside.labels.items c.self.inside.rings c.sleep_edge.new.rings (loops-asleep_both _ _ _ c.self.invariant.labelled c.args.e _ c.sleep_edge.ensures.spots)) (known_as c.self.inside.labels.items c.self.inside.labels.items c.self.inside.rings c.sleep_edge.new.rings c.sleep_edge.ensures.known) c.write.ensures.rows c.write.ensures.len;
+      edges = edges_asleep _ _ c.self.invariant.edges _ _ c.args.e (seen_as (λ (s : Spots). asleep (asleep s (plus c.args.e)) (minus c.args.e)) c.self.inside.labels.items c.self.inside.labels.items c.self.inside.rings c.sleep_edge.new.rings (loops-asleep_both _ _ _ c.self.invariant.labelled c.args.e _ c.sleep_edge.ensures.spots)) (known_as c.self.inside.labels.items c.self.inside.labels.items c.self.inside.rings c.sleep_edge.new.rings c.sleep_edge.ensures.known) c.take.ensures.uses c.take.ensures.len;
     }
 
 pub returns-clause-spots : goal.returns-clause-spots

@@ -14,7 +14,7 @@ wake_edge-requires-clause-second c = (sym (seen_known c.self.inside.labels.items
 pub invariant_of-self : goal.invariant_of-self
 invariant_of-self c = record {
   labelled = c.wake_edge.ensures.whole;
-  rows = edges_woken _ _ c.self.invariant.rows _ _ c.args.e c.args.a c.args.b c.requires.limit (seen_as (λ (s : Spots). woken (woken s (plus c.args.e) c.args.a) (minus c.args.e) c.args.b) c.self.inside.labels.items c.wake_edge.new.labels.items c.self.inside.rings c.wake_edge.new.rings c.wake_edge.ensures.spots) (known_as c.self.inside.labels.items c.wake_edge.new.labels.items c.self.inside.rings c.wake_edge.new.rings c.wake_edge.ensures.known) c.write.ensures.rows c.write.ensures.len;
+  edges = edges_woken _ _ c.self.invariant.edges _ _ c.args.e c.args.a c.args.b c.requires.limit (seen_as (λ (s : Spots). woken (woken s (plus c.args.e) c.args.a) (minus c.args.e) c.args.b) c.self.inside.labels.items c.wake_edge.new.labels.items c.self.inside.rings c.wake_edge.new.rings c.wake_edge.ensures.spots) (known_as c.self.inside.labels.items c.wake_edge.new.labels.items c.self.inside.rings c.wake_edge.new.rings c.wake_edge.ensures.known) c.put.ensures.uses c.put.ensures.len;
 }
 
 pub returns-clause-spots : goal.returns-clause-spots

@@ -1,3 +1,0 @@
-pub mod Uses
-pub mod Counted
-pub mod Writing
