@@ -11,7 +11,7 @@ import ctypes
 import subprocess
 import sys
 
-from library_session import Session, loaded
+from library_session import Refusal, Session, loaded
 from random_lines import Lines
 
 KINDS = {b'': 0, b'ok': 1, b'refused': 2, b'fault': 3, b'memory': 4, b'plane': 5, b'volume': 6, b'count': 7, b'solid': 8, b'empty': 8}
@@ -35,7 +35,7 @@ class Plane(ctypes.Structure):
 
 # by kind: the call that gives the values, what it writes, and the values written as the text has them
 VALUES = {
-    2: ('refusal', ctypes.c_uint32 * 2, list),
+    2: ('refusal', Refusal, lambda refusal: [refusal.number, refusal.value]),
     3: ('fault', ctypes.c_uint32 * 1, list),
     5: ('plane', Plane, lambda plane: [each.whole() for each in plane.coefficients] + [plane.flat]),
     6: ('volume', Wide, lambda volume: [volume.whole()]),
