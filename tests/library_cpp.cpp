@@ -1,5 +1,6 @@
 // Tries gwb.hpp: exceptions by name, ranges, workbenches that move or are closed. The last line counts.
 #include "gwb.hpp"
+#include <array>
 #include <functional>
 #include <iostream>
 #include <type_traits>
@@ -141,8 +142,36 @@ static void try_readers()
         points.push_back({at, at * at, 1});
     bench.lamina(2, points);
     check(bench.half_edges(bench.face(bench.fresh(GWB_FACE)->first).outer_loop).size() == 64, "a long loop");
-    points.push_back({0, 0, 0});
-    check(throws<Faulted>([&] { bench.lamina(3, points); }), "a lamina of 65 points");
+}
+
+static void try_laminas()
+{
+    Workbench bench;
+    const gwb_point triangle[] = {{0, 0, 0}, {3, 0, 0}, {0, 3, 0}};
+    bench.lamina(1, triangle);
+    bench.lamina(2, std::array<gwb_point, 3>{{{0, 0, 1}, {3, 0, 1}, {0, 3, 1}}});
+    bench.lamina(3, {{0, 0, 2}, {3, 0, 2}, {0, 3, 2}});
+    check(all(bench.numbers(GWB_SOLID)) == Numbers32{1, 2, 3} && bench.vertex(9).z == 2, "laminas of arrays and of a list");
+    check(bench.half_edges(5) == Numbers32{plus(7), plus(8), plus(9)} && bench.vertex(bench.edge(8).from).x == 3, "points in their order");
+    std::vector<gwb_point> points(65);
+    check(throws<NoCall>([&] { bench.lamina(4, points); }) && bench.depth() == 3, "a lamina of 65 points");
+    points.resize(2);
+    check(throws<RefusedBy<GWB_WHY_FEW_POINTS>>([&] { bench.lamina(4, points); }), "a lamina of two points");
+    check(throws<RefusedBy<GWB_WHY_FEW_POINTS>>([&] { bench.lamina(4, std::vector<gwb_point>()); }), "a lamina of an empty vector");
+}
+
+static void try_parts()
+{
+    Workbench bench = block();
+    bench.block(2, {9, 9, 9}, {1, 1, 1});
+    bench.merge(1, 2);
+    check(throws<RefusedBy<GWB_WHY_BAD_PART>>([&] { bench.part({1}, 3); }), "a face that can't be parted from its neighbours");
+    check(throws<RefusedBy<GWB_WHY_NO_FACE>>([&] { bench.part({99}, 3); }), "a part of a face that is not there");
+    check(throws<NoCall>([&] { bench.part({}, 3); }) && throws<NoCall>([&] { bench.part(Numbers32(), 3); }), "a part of no faces");
+    bench.part(Numbers32{7, 8, 9, 10, 11, 12}, 3);
+    check(narrow(bench.six_volumes(1)) == 384 && narrow(bench.six_volumes(3)) == 6, "two solids that were one");
+    bench.undo();
+    check(all(bench.numbers(GWB_SOLID)) == Numbers32{1} && bench.depth() == 3, "a part is one command");
 }
 
 template <class Bench, class = void> constexpr bool has_faces = false;
@@ -187,6 +216,7 @@ static void try_closed()
         [&] { bench.ring_out(1, 2); },
         [&] { bench.outer(1, 2); },
         [&] { bench.merge(1, 2); },
+        [&] { bench.part({1}, 2); },
         [&] { bench.lamina(1, {}); },
         [&] { bench.block(1, {0, 0, 0}, {4, 4, 4}); },
         [&] { bench.sweep(1, {0, 0, 1}); },
@@ -219,7 +249,8 @@ static void try_closed()
 
 int main()
 {
-    for (void (*part)() : {try_measures, try_refusals, try_what_is_said, try_operators, try_solids, try_readers, try_moves, try_closed})
+    for (void (*part)() : {try_measures, try_refusals, try_what_is_said, try_operators, try_solids, try_readers, try_laminas, try_parts,
+                           try_moves, try_closed})
         part();
     std::cout << passed << " passed, " << failed << " failed\n";
     return failed == 0 ? 0 : 1;

@@ -19,6 +19,7 @@
 #include <algorithm>
 #include <cstddef>
 #include <cstdint>
+#include <initializer_list>
 #include <iterator>
 #include <memory>
 #include <new>
@@ -26,6 +27,7 @@
 #include <stdexcept>
 #include <string>
 #include <string_view>
+#include <type_traits>
 #include <utility>
 #include <vector>
 
@@ -94,6 +96,33 @@ public:
 class Closed : public Misused {
 public:
     Closed() : Misused("the workbench is closed") {}
+};
+
+// The arguments make no command: more than 64 points, or a part of no faces.
+class NoCall : public Misused {
+public:
+    explicit NoCall(std::string_view command) : Misused(std::string(command) + ": these arguments make no command") {}
+};
+
+// Items of the caller that lie one after another: a list in braces, a std::vector, a std::array, in C++20 a std::span. It does not own
+// them, so it is for a parameter alone.
+template <class Item> class Items {
+public:
+    Items(std::initializer_list<Item> items) : Items(items.begin(), items.size()) {}
+    template <class Held,
+              class = std::enable_if_t<std::is_convertible_v<decltype(std::data(std::declval<const Held &>())), const Item *>>>
+    Items(const Held &held) : Items(std::data(held), std::size(held))
+    {
+    }
+    // None is null, not even where there are no items.
+    Items(const Item *data, std::size_t size) : data_(data != nullptr ? data : &nothing), size_(size) {}
+    const Item *data() const { return data_; }
+    std::size_t size() const { return size_; }
+
+private:
+    static constexpr Item nothing{};
+    const Item *data_;
+    std::size_t size_;
 };
 
 // A range of numbers, rising, for a `for`: each is the least above the one before. Give its workbench no command meanwhile.
@@ -178,18 +207,14 @@ public:
     void ring_in(std::uint32_t ring, std::uint32_t face) { told("ringmv", gwb_ringmv(held(), ring, face, 0)); }
     void ring_out(std::uint32_t ring, std::uint32_t face) { told("ringmv", gwb_ringmv(held(), ring, face, 1)); }
 
-    // Two operators that no script has: a ring of a face becomes its outer loop, and two solids become the first.
+    // Three operators that no script has: a ring of a face becomes its outer loop, two solids become the first, and faces of a solid become
+    // a new one. NoCall where there are no faces.
     void outer(std::uint32_t ring, std::uint32_t face) { told("outer", gwb_outer(held(), ring, face)); }
     void merge(std::uint32_t solid, std::uint32_t other) { told("merge", gwb_merge(held(), solid, other)); }
+    void part(Items<std::uint32_t> faces, std::uint32_t solid) { told("part", gwb_part(held(), faces.data(), faces.size(), solid)); }
 
-    // Larger commands. Their faces, loops, edges and vertices are among fresh(). A lamina has 3 to 64 points: Faulted where there are more.
-    void lamina(std::uint32_t solid, const std::vector<gwb_point> &points)
-    {
-        std::string line = "lamina " + std::to_string(solid);
-        for (const gwb_point &at : points)
-            line += ' ' + std::to_string(at.x) + ' ' + std::to_string(at.y) + ' ' + std::to_string(at.z);
-        run(line);
-    }
+    // Larger commands. Their faces, loops, edges and vertices are among fresh(). A lamina has 3 to 64 points: NoCall where there are more.
+    void lamina(std::uint32_t solid, Items<gwb_point> points) { told("lamina", gwb_lamina(held(), solid, points.data(), points.size())); }
     void block(std::uint32_t solid, gwb_point corner, gwb_point sizes)
     {
         told("block", gwb_block(held(), solid, corner.x, corner.y, corner.z, sizes.x, sizes.y, sizes.z));
@@ -324,6 +349,7 @@ private:
         switch (kind) {
         case GWB_MEMORY: throw std::bad_alloc();
         case GWB_CLOSED: throw Closed();
+        case GWB_NO_CALL: throw NoCall(command);
         case GWB_REFUSED: refuse(command, std::make_index_sequence<GWB_WHY_BAD_PART>());
         default: return static_cast<gwb_kind>(kind);
         }

@@ -3,8 +3,9 @@
 import ctypes
 from typing import Any, Callable, Dict, Iterator, List, Optional, Tuple
 
+from .arguments import GREATEST_NUMBER
 from .calls import Call, Value
-from .complaints import complaint, refused
+from .complaints import Refused, complaint, refused
 from .errors import CompanionError, Ended, ProgramMissing
 from .journal import KINDS
 from .language import command_bytes
@@ -92,14 +93,15 @@ class Range(ctypes.Structure):
     _fields_ = [('first', _WORD), ('last', _WORD)]
 
 
-# The calls that are a command each: `n` is a number, `h` a half-edge or a corner, `x` a coordinate.
+# The calls that are a command each, but lamina, which takes points: `n` is a number, `h` a half-edge or a corner, `x` a coordinate.
 _COMMANDS = {
     'mvfs': 'nnnnxxx', 'kvfs': 'n', 'mev': 'hhnnxxx', 'kev': 'h', 'mef': 'hhnnn', 'kef': 'h', 'kemr': 'hn', 'mekr': 'hhn', 'kfmrh': 'nn',
     'mfkrh': 'nn', 'ringmv': 'nnn', 'block': 'nxxxxxx', 'sweep': 'nxxx', 'glue': 'nn', 'split': 'nxxxxn', 'undo': '', 'redo': ''}
 _TYPES = {'n': _WORD, 'h': _WORD, 'x': ctypes.c_int64}
 _LONE = 0x80000000
-# The greatest edge or loop of which every half-edge and corner has a code; past it the kernel refuses all numbers.
+# The greatest edge or loop of which every half-edge and corner has a code.
 _GREATEST_CODED = 2 ** 30 - 1
+_NUMBER_RANGE = 1
 
 
 def load(path: str) -> ctypes.PyDLL:
@@ -118,6 +120,7 @@ def load(path: str) -> ctypes.PyDLL:
         ('gwb_last_refusal', _WORD, [ctypes.POINTER(Refusal)]), ('gwb_fresh', _WORD, [_WORD, ctypes.POINTER(Range)]),
         ('gwb_face_plane', _WORD, [_WORD, ctypes.POINTER(PlaneRow)]), ('gwb_volume', _WORD, [_WORD, ctypes.POINTER(Wide)]),
         ('gwb_count', _WORD, [_WORD, ctypes.POINTER(Counts)]),
+        ('gwb_lamina', _WORD, [_WORD, ctypes.POINTER(Point), size]),
         *((f'gwb_{name}', _WORD, [_TYPES[kind] for kind in kinds]) for name, kinds in _COMMANDS.items())]
     for name, result, arguments in calls:
         try:
@@ -169,10 +172,12 @@ class Library:
     def do(self, call: Call) -> None:
         """Gives a command by the call of its own. A complaint is raised."""
         corners = call.corners
-        if call.word not in self._commands or any(call.number(place) > _GREATEST_CODED for place in range(len(corners))):
-            self._do_line(str(call))
-            return
-        said = self._commands[call.word](self._handle, *map(_code, corners), *(_way(call.plain) if call.word == 'ringmv' else call.plain))
+        if any(call.number(place) > _GREATEST_CODED for place in range(len(corners))):
+            raise self._out_of_range(call)
+        if call.word == 'lamina':
+            said = self._lamina(*call.values)
+        else:
+            said = self._commands[call.word](self._handle, *map(_code, corners), *(_way(call.plain) if call.word == 'ringmv' else call.plain))
         if said != _OK:
             raise self._complaint(call, said)
 
@@ -210,11 +215,17 @@ class Library:
         vertices = {vertex: row for vertex in self.numbers('vertex') for row in [self.vertex(vertex)] if row is not None}
         return Model(self.numbers('solid'), faces, loops, edges, vertices)
 
-    def _do_line(self, line: str) -> None:
-        """Gives a command as a line. A complaint is raised."""
-        reply = self.ask(line)
-        if reply.is_complaint:
-            raise complaint(line, reply)
+    def _lamina(self, solid: Value, *coordinates: Value) -> int:
+        """The kind of the answer to a lamina."""
+        points = (Point * (len(coordinates) // 3))(*zip(*[iter(coordinates)] * 3))
+        return int(self._library.gwb_lamina(self._handle, solid, points, len(points)))
+
+    @staticmethod
+    def _out_of_range(call: Call) -> Refused:
+        """The refusal of a command with a number that has no code: as the kernel says it, of the first number that is out of range."""
+        kinds = _COMMANDS[call.word]
+        numbers = [call.number(place) for place, kind in enumerate(kinds) if kind != 'x']
+        return refused(str(call), _NUMBER_RANGE, next(number for number in numbers if not 1 <= number <= GREATEST_NUMBER))
 
     def _ask_about(self, word: str, function: Callable[..., int], number: int, row: ctypes.Structure) -> None:
         """Asks a query, whose answer is written. A complaint is raised."""

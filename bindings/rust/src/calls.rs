@@ -6,6 +6,7 @@ pub const REFUSED: u32 = 2;
 pub const FAULT: u32 = 3;
 pub const MEMORY: u32 = 4;
 pub const LISTING: u32 = 8;
+pub const NO_CALL: u32 = 10;
 pub const FOUND: u32 = 1;
 
 /// A session as the library holds it. Nothing outside reads its fields.
@@ -96,6 +97,8 @@ extern "C" {
     pub fn gwb_ringmv(g: *mut Handle, ring: u32, face: u32, out: u32) -> u32;
     pub fn gwb_outer(g: *mut Handle, ring: u32, face: u32) -> u32;
     pub fn gwb_merge(g: *mut Handle, solid: u32, other: u32) -> u32;
+    pub fn gwb_part(g: *mut Handle, faces: *const u32, n: usize, solid: u32) -> u32;
+    pub fn gwb_lamina(g: *mut Handle, solid: u32, points: *const Point, n: usize) -> u32;
     pub fn gwb_block(g: *mut Handle, solid: u32, x: i64, y: i64, z: i64, dx: i64, dy: i64, dz: i64) -> u32;
     pub fn gwb_sweep(g: *mut Handle, face: u32, dx: i64, dy: i64, dz: i64) -> u32;
     pub fn gwb_glue(g: *mut Handle, face: u32, other: u32) -> u32;

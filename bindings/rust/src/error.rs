@@ -16,6 +16,8 @@ pub enum Error {
     Fault(u32),
     /// Memory was refused. The command may be given again.
     Memory,
+    /// The arguments make no command: more than 64 points, or a part of no faces.
+    NoCall,
     /// The library answers with a kind or a condition of this number, which the crate does not know: they are of different versions.
     Unknown(u32),
 }
@@ -26,6 +28,7 @@ impl fmt::Display for Error {
             Self::Refused { refusal, value } => write!(f, "{refusal} {value}"),
             Self::Fault(number) => write!(f, "fault {number}"),
             Self::Memory => f.write_str("memory was refused"),
+            Self::NoCall => f.write_str("the arguments make no command"),
             Self::Unknown(number) => write!(f, "the library answers {number}, which this version does not know"),
         }
     }

@@ -106,13 +106,20 @@ impl Session {
         self.told(unsafe { calls::gwb_merge(self.handle(), solid, other) })
     }
 
+    /// A new solid of some faces of one, which have no edge in common with its others. No script has this operator.
+    ///
+    /// # Errors
+    /// [`Error::NoCall`] where there are no faces.
+    pub fn part(&mut self, faces: &[u32], solid: u32) -> Result<(), Error> {
+        self.told(unsafe { calls::gwb_part(self.handle(), faces.as_ptr(), faces.len(), solid) })
+    }
+
     /// A new solid of two faces through 3 to 64 points, one on either side.
     ///
     /// # Errors
-    /// [`Error::Fault`] where there are more points.
+    /// [`Error::NoCall`] where there are more points.
     pub fn lamina(&mut self, solid: u32, points: &[Point]) -> Result<(), Error> {
-        let words: String = points.iter().map(|at| format!(" {} {} {}", at.x, at.y, at.z)).collect();
-        self.run(&format!("lamina {solid}{words}"))
+        self.told(unsafe { calls::gwb_lamina(self.handle(), solid, points.as_ptr(), points.len()) })
     }
 
     /// A new solid, the block that has the point as its lowest corner and edges along the axes, so long as the sizes say.
@@ -288,6 +295,7 @@ impl Session {
             calls::REFUSED => Err(self.refusal()),
             calls::FAULT => Err(Error::Fault(self.found(|g, number| unsafe { calls::gwb_last_fault(g, number) }).unwrap_or_default())),
             calls::MEMORY => Err(Error::Memory),
+            calls::NO_CALL => Err(Error::NoCall),
             0..=calls::LISTING => Ok(()),
             _ => Err(Error::Unknown(kind)),
         }

@@ -118,6 +118,28 @@ fn solids_are_glued_and_merged() {
 }
 
 #[test]
+fn a_lamina_has_its_points_in_order() {
+    let mut session = Session::new().unwrap();
+    let points = [[7, 0, 1], [0, 7, 1], [0, 0, -1]].map(Point::from);
+    session.lamina(3, &points).unwrap();
+    let drawn: Vec<_> = session.half_edges(1).into_iter().map(|at| session.vertex(session.edge(at / 2).unwrap().from).unwrap()).collect();
+    assert_eq!(drawn, points);
+    assert_eq!(session.lamina(4, &points[..2]), refused(Refusal::FewPoints, 2));
+}
+
+#[test]
+fn faces_are_parted_from_a_solid() {
+    let mut session = block();
+    session.block(2, [9, 9, 9], [1, 1, 1]).unwrap();
+    session.merge(1, 2).unwrap();
+    assert_eq!(session.part(&[], 3), Err(Error::NoCall));
+    assert_eq!(session.part(&[99], 3), refused(Refusal::NoFace, 99));
+    assert_eq!(session.part(&[7], 3), refused(Refusal::BadPart, 1));
+    session.part(&[7, 8, 9, 10, 11, 12], 3).unwrap();
+    assert_eq!((session.six_volumes(1), session.six_volumes(3)), (Ok(384), Ok(6)));
+}
+
+#[test]
 fn readers_walk_every_face() {
     let session = block();
     assert_eq!(session.faces(1).collect::<Vec<_>>(), [1, 2, 3, 4, 5, 6]);
@@ -138,7 +160,7 @@ fn a_long_loop_is_read_whole() {
     let points: Vec<Point> = (0..64).map(|at| [at, at * at, 0].into()).collect();
     session.lamina(1, &points).unwrap();
     assert_eq!(session.half_edges(1), (1..=64).map(plus).collect::<Vec<_>>());
-    assert!(matches!(session.lamina(2, &[points, vec![Point::default()]].concat()), Err(Error::Fault(_))));
+    assert_eq!(session.lamina(2, &[points, vec![Point::default()]].concat()), Err(Error::NoCall));
 }
 
 #[test]
