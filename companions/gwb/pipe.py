@@ -34,7 +34,7 @@ def find_program() -> str:
     else that on the path."""
     program = os.environ.get('GWB') or next((str(path) for path in _places() if path.is_file()), None) or shutil.which('gwb')
     if program is None:
-        raise ProgramMissing("gwb isn't built in this repository, nor on the path; the environment variable GWB may name it")
+        raise ProgramMissing("gwb isn't built in this repository, which .ci/run does, nor on the path; the environment variable GWB may name it")
     return program
 
 
