@@ -1,26 +1,28 @@
 -- What a lamina and a block leave as they were.
 use Rattle.std.specs.Prelude.{length}
-use Rattle.std.proofs.Common.{◌≡◌, ◌≢◌, ℕ, zero, suc, ◌+◌, ◌-◌, ◌≤◌, ℤ, List, None, is_some, sym, ap, ◌∙◌, refl, arith}
+use Rattle.std.proofs.Common.{◌≡◌, ◌≢◌, ℕ, zero, suc, ◌+◌, ◌-◌, ◌≤◌, ◌<◌, ℤ, List, None, is_some, sym, ap, subst, ◌∙◌, refl, arith, inl, inr}
 use Rattle.euler_operators.specs.declared.Point.{Point}
 use Rattle.euler_operators.specs.HalfEdge.{edge_of}
 use Rattle.euler_operators.specs.Table as table
 use Rattle.euler_operators.specs.Table.{Table}
-use Rattle.euler_operators.specs.Model.{Model, EdgeRow, face_of}
+use Rattle.euler_operators.specs.Model.{Model, EdgeRow, face_of, rings_of}
 use Rattle.euler_operators.specs.Sound.{Sound, Has}
-use Rattle.euler_operators.proofs.Tables.{get-put_other}
-use Rattle.euler_operators.proofs.Models.{same_face, same_solid}
+use Rattle.euler_operators.proofs.Tables.{row_some, get-put_other}
+use Rattle.euler_operators.proofs.Models.{face_row, same_face, same_solid}
 use Rattle.shapes.specs.Fresh.{taken_in}
 use Rattle.shapes.specs.Lamina.{lamina_refusal, lamina_model, lamina_face, with_points, with_path}
 use Rattle.shapes.specs.Block.{base_of, block_refusal, block_model}
-use Rattle.shapes.proofs.fresh.Rows.{at_most_greatest}
+use Rattle.shapes.proofs.fresh.Rows.{at_most_greatest, get-put_cases}
 use Rattle.sweeps_laws.proofs.lamina.Walk.{lamina_goes, lamina_is_sound}
 use Rattle.sweeps_laws.proofs.lamina.Blocks.{blocks_have_bases, bases_rise}
 use Rattle.undo_journal.specs.Machine.{held}
 use Rattle.command_laws.specs.NewFaces.{up_by}
-use Rattle.command_laws.specs.Framed.{LaminaKeepsOwners, LaminaKeepsLoops, LaminaKeepsEdges, LaminaKeepsPoints, BlockKeepsOwners, BlockKeepsLoops, BlockKeepsEdges, BlockKeepsPoints}
+use Rattle.command_laws.specs.LeftAlone.{Each}
+use Rattle.command_laws.specs.Framed.{LaminaKeepsOwners, LaminaKeepsLoops, LaminaKeepsEdges, LaminaKeepsPoints, LaminaKeepsShapes, BlockKeepsOwners, BlockKeepsLoops, BlockKeepsEdges, BlockKeepsPoints, BlockKeepsShapes}
 use Rattle.command_laws.proofs.Kept.{lamina_keeps_faces, block_keeps_faces}
 use Rattle.command_laws.proofs.OnFaces.{vertex_there}
-use Rattle.command_laws.proofs.SweptAlone.{prism_keeps_loops, prism_keeps_edges, prism_keeps_points}
+use Rattle.command_laws.proofs.SweptAlone.{prism_keeps_loops, prism_keeps_edges, prism_keeps_points, prism_keeps_rings}
+use Rattle.command_laws.proofs.Standing.{rings_same, stands}
 
 -- ---- a lamina
 
@@ -58,6 +60,24 @@ module _ (M : Model) (s : ℕ) (ps : List Point) where
   unfolding lamina_model taken_in
   lamina_keeps_places v there = points_keep M.vertices (table.greatest M.vertices) ps (length ps) v (at_most_greatest M.vertices v there)
 
+  -- no loop more is of a face that was there
+  lamina_adds : (k : ℕ) → Has M.faces k → (l : ℕ) → Has (lamina_model M s ps).loops l → face_of (lamina_model M s ps) l ≡ k → table.get (lamina_model M s ps).loops l ≡ table.get M.loops l
+  unfolding lamina_model taken_in
+  lamina_adds k there l now of =
+      let g = table.greatest M.loops in
+      let e = table.greatest M.faces in
+      let r = row_some (table.get (lamina_model M s ps).loops l) now in
+      let face : r.0.face ≡ k = sym (face_row (lamina_model M s ps) l r.0 r.1) ∙ of in
+      elim (get-put_cases (table.put M.loops (g + 1) _) (g + 2) _ l r.0 r.1) [
+        | inl q ↦ absurd (too_great k e (e + 2) (sym face ∙ ap (λ x. x.face) q.1) (at_most_greatest M.faces k there) (omega arith))
+        | inr q ↦ elim (get-put_cases M.loops (g + 1) _ l r.0 q.1) [
+          | inl u ↦ absurd (too_great k e (e + 1) (sym face ∙ ap (λ x. x.face) u.1) (at_most_greatest M.faces k there) (omega arith))
+          | inr u ↦ r.1 ∙ sym u.1
+        ]
+      ] where
+        too_great : (k e n : ℕ) → k ≡ n → k ≤ e → e < n → ⊥
+        too_great k e n p m l = absurd (omega arith)
+
 -- ---- a block
 
 module _ (M : Model) (s : ℕ) (p : Point) (dx dy dz : ℤ) (sound : Sound M) (goes : block_refusal M s p dx dy dz ≡ None) where
@@ -77,6 +97,16 @@ module _ (M : Model) (s : ℕ) (p : Point) (dx dy dz : ℤ) (sound : Sound M) (g
         past_new : (k g : ℕ) → k ≤ g → k ≢ g + 1
         past_new k g m e = absurd (omega arith)
 
+  lamina_kept_face : (k : ℕ) → Has M.faces k → table.get base.faces k ≡ table.get M.faces k
+  unfolding lamina_model taken_in
+  lamina_kept_face k there = let g = table.greatest M.faces in let m = at_most_greatest M.faces k there in
+      get-put_other (table.put M.faces (g + 1) _) (g + 2) _ k (two k g m) ∙ get-put_other M.faces (g + 1) _ k (one k g m) where
+        one : (k g : ℕ) → k ≤ g → k ≢ g + 1
+        one k g m e = absurd (omega arith)
+
+        two : (k g : ℕ) → k ≤ g → k ≢ g + 2
+        two k g m e = absurd (omega arith)
+
   block_keeps : (l : ℕ) → Has M.loops l → table.get (block_model M s p dx dy dz).loops l ≡ table.get M.loops l
   unfolding block_model
   block_keeps l there = let row = lamina_keeps M s (base_of p dx dy) l there in
@@ -92,6 +122,13 @@ module _ (M : Model) (s : ℕ) (p : Point) (dx dy dz : ℤ) (sound : Sound M) (g
   block_keeps_places v there = let row = lamina_keeps_places M s (base_of p dx dy) v there in
       prism_keeps_points base (lamina_face M) (up_by dz) v (ap is_some row ∙ there) ∙ row
 
+  block_keeps_rings : (k : ℕ) → Has M.faces k → rings_of (block_model M s p dx dy dz) k ≡ rings_of M k
+  unfolding block_model
+  block_keeps_rings k there =
+      let row = lamina_kept_face k there in
+      prism_keeps_rings base (lamina_face M) (up_by dz) base_sound (bases_rise M s p dx dy dz sound goes) k (ap is_some row ∙ there)
+      ∙ rings_same M base k row (λ l held of. lamina_keeps M s (base_of p dx dy) l held) (lamina_adds M s (base_of p dx dy) k there)
+
 -- ---- the laws
 
 pub lamina_keeps_owners : LaminaKeepsOwners
@@ -106,6 +143,14 @@ lamina_keeps_edges before after s ps sound made h there alone = ap (λ x. table.
 pub lamina_keeps_points : LaminaKeepsPoints
 lamina_keeps_points before after s ps sound made l v i alone = ap (λ x. table.get (held x).vertices v) made.1 ∙ lamina_keeps_places (held before) s ps v (vertex_there (held before) sound l v i)
 
+pub lamina_keeps_shapes : LaminaKeepsShapes
+lamina_keeps_shapes before after s ps sound made k there alone =
+    let M = held before in
+    let row = lamina_keeps_faces before after s ps made k (at_most_greatest M.faces k there) in
+    stands M (held after) Each sound (lamina_keeps_loops before after s ps made) (lamina_keeps_edges before after s ps sound made) (lamina_keeps_points before after s ps sound made) k there alone row
+    (rings_same M (held after) k row (λ l has of. lamina_keeps_loops before after s ps made l has tt)
+    (subst (λ x. (l : ℕ) → Has (held x).loops l → face_of (held x) l ≡ k → table.get (held x).loops l ≡ table.get M.loops l) (sym made.1) (lamina_adds M s ps k there)))
+
 pub block_keeps_owners : BlockKeepsOwners
 block_keeps_owners before after s p dx dy dz made k there alone = same_solid (held before) (held after) k (block_keeps_faces before after s p dx dy dz made k (at_most_greatest (held before).faces k there))
 
@@ -118,3 +163,9 @@ block_keeps_edges before after s p dx dy dz sound made h there alone = ap (λ x.
 pub block_keeps_points : BlockKeepsPoints
 block_keeps_points before after s p dx dy dz sound made l v i alone =
     ap (λ x. table.get (held x).vertices v) made.1 ∙ block_keeps_places (held before) s p dx dy dz sound made.0 v (vertex_there (held before) sound l v i)
+
+pub block_keeps_shapes : BlockKeepsShapes
+block_keeps_shapes before after s p dx dy dz sound made k there alone =
+    stands (held before) (held after) Each sound (block_keeps_loops before after s p dx dy dz sound made) (block_keeps_edges before after s p dx dy dz sound made) (block_keeps_points before after s p dx dy dz sound made)
+    k there alone (block_keeps_faces before after s p dx dy dz made k (at_most_greatest (held before).faces k there))
+    (ap (λ x. rings_of (held x) k) made.1 ∙ block_keeps_rings (held before) s p dx dy dz sound made.0 k there)

@@ -1,7 +1,8 @@
 -- What a glue leaves as it was.
 use Rattle.std.specs.Prelude.{map, unwrap_or}
 use Rattle.std.specs.Option.{option_map}
-use Rattle.std.proofs.Common.{◌≡◌, ◌≢◌, ℕ, Bool, true, false, cond, List, [], ◌∷◌, Option, Some, None, refl, sym, ap, subst, ◌∙◌, arith, ◌⊎◌, inl, inr, ne_eqb}
+use Rattle.std.proofs.Common.{◌≡◌, ◌≢◌, ℕ, Bool, true, false, cond, List, [], ◌∷◌, Option, Some, None, is_some, refl, sym, ap, subst, ◌∙◌, arith, ◌⊎◌, inl, inr, ne_eqb, true≢false}
+use Rattle.std.proofs.lemmas.Bool.Decides.{eqb_tells}
 use Rattle.euler_operators.specs.Items.{count, IsIn}
 use Rattle.euler_operators.specs.Rings.{canonical}
 use Rattle.euler_operators.proofs.Lists.{tick_other}
@@ -9,14 +10,14 @@ use Rattle.euler_operators.proofs.Rotations.{IsIn_head}
 use Rattle.euler_operators.proofs.Members.{IsIn_rest}
 use Rattle.euler_operators.specs.HalfEdge.{mate, edge_of, is_first}
 use Rattle.euler_operators.specs.Table as table
-use Rattle.euler_operators.specs.Table.{get-map_rows}
-use Rattle.euler_operators.specs.Model.{Model, LoopContent, EdgeRow, lone, cycle, no_edge, items_of, tail, tail_in, content, face_of, outer, solid_of}
+use Rattle.euler_operators.specs.Table.{Table, get-map_rows}
+use Rattle.euler_operators.specs.Model.{Model, LoopContent, LoopRow, EdgeRow, lone, cycle, no_edge, items_of, tail, tail_in, content, face_of, outer, solid_of}
 use Rattle.euler_operators.specs.Sound.{Sound, Has, HasHalf}
 use Rattle.euler_operators.specs.Conditions.{face_at}
 use Rattle.euler_operators.specs.Effect.{edge_row}
 use Rattle.euler_operators.proofs.Halves.{edge_of-mate, same_edge}
-use Rattle.euler_operators.proofs.Tables.{no_row, get-remove_other}
-use Rattle.euler_operators.proofs.Models.{same_solid, item_there, half_number, mate_there, number_real}
+use Rattle.euler_operators.proofs.Tables.{no_row, get-remove_here, get-remove_other}
+use Rattle.euler_operators.proofs.Models.{face_row, same_solid, item_there, half_number, mate_there, number_real}
 use Rattle.euler_laws.proofs.shared.Goes.{all_hold}
 use Rattle.euler_laws.proofs.shared.Same.{one_solid_round}
 use Rattle.euler_laws.proofs.shared.Rows.{loop_row, edge_there}
@@ -26,9 +27,11 @@ use Rattle.shapes.specs.Rewriting.{rewritten, rewritten_row, renamed, without_ro
 use Rattle.shapes.specs.glue.Glue.{rim, partner, partners, swaps, moves, renamed_tails, glue_conditions, glue_refusal, glue_model}
 use Rattle.shapes.proofs.glue.Renamings.{without_there}
 use Rattle.undo_journal.specs.Machine.{held}
-use Rattle.command_laws.specs.Framed.{GlueKeepsOwners, GlueKeepsLoops, GlueKeepsEdges, GlueKeepsPoints}
+use Rattle.command_laws.specs.LeftAlone.{OfOthersBut}
+use Rattle.command_laws.specs.Framed.{GlueKeepsOwners, GlueKeepsLoops, GlueKeepsEdges, GlueKeepsPoints, GlueKeepsShapes}
 use Rattle.command_laws.proofs.Glued.{glue_keeps_faces}
 use Rattle.command_laws.proofs.OnFaces.{item_loop, vertex_cases}
+use Rattle.command_laws.proofs.Standing.{rings_same, stands}
 
 both_there : (M : Model) (f g : ℕ) → glue_refusal M f g ≡ None → Has M.faces f × Has M.faces g
 unfolding glue_conditions
@@ -42,6 +45,13 @@ such_cases p (n ∷ ns) = go (p n) (such_cases p ns) where
   go true w = inl (IsIn_head n ns)
   go false (inl i) = inl (IsIn_rest (unwrap_or (first_such p ns) 0) n ns i)
   go false (inr e) = inr e
+
+-- a row that is there once another went was there before
+still_there : {X : Type 0} (t : Table X) (n q : ℕ) (x : X) → table.get (table.remove t n) q ≡ Some x → table.get t q ≡ Some x
+still_there t n q x at = elim (eqb_tells q n) [
+  | inl e ↦ absurd (true≢false (ap is_some (sym at) ∙ ap is_some (ap (table.get (table.remove t n)) e.1 ∙ get-remove_here t n)))
+  | inr e ↦ sym (get-remove_other t n q e.1) ∙ at
+]
 
 edge_zero : edge_of 0 ≡ 0
 unfolding edge_of
@@ -153,6 +163,29 @@ module _ (M : Model) (f g : ℕ) (sound : Sound M) (goes : glue_refusal M f g �
         ∙ get-remove_other M.loops (outer M f) l (λ e. not_f (ap (face_of M) e ∙ own f (both_there M f g goes).0)) ∙ row)
         ∙ ap (λ c. Some (record { face = face_of M l; content = c })) (content_stays hs (content M l) refl) ∙ sym row
 
+  -- no loop more is of a face that was there
+  module _ (k l : ℕ) (not_f : k ≢ f) (other : solid_of M k ≢ solid_of M g) where
+    abbrev new : ℕ → LoopRow → LoopRow
+    new = rewritten_row (map (renamed (swaps (partners M gs (rim M f)))))
+
+    abbrev left : Table LoopRow
+    left = table.remove (table.remove M.loops (outer M f)) (outer M g)
+
+    loops_are : table.get (glue_model M f g).loops l ≡ option_map (new l) (table.get left l)
+    unfolding glue_model
+    loops_are = get-map_rows new left l
+
+    row_back : (o : Option LoopRow) → table.get left l ≡ o → Has (glue_model M f g).loops l → face_of (glue_model M f g) l ≡ k → Has M.loops l × (face_of M l ≡ k)
+    row_back None e now of = absurd (true≢false (sym now ∙ ap is_some (loops_are ∙ ap (option_map (new l)) e)))
+    row_back (Some row) e now of =
+        let at = still_there M.loops (outer M f) l row (still_there (table.remove M.loops (outer M f)) (outer M g) l row e) in
+        (ap is_some at, face_row M l row at ∙ sym (face_row (glue_model M f g) l (new l row) (loops_are ∙ ap (option_map (new l)) e)) ∙ of)
+
+    glue_adds_none : Has (glue_model M f g).loops l → face_of (glue_model M f g) l ≡ k → table.get (glue_model M f g).loops l ≡ table.get M.loops l
+    glue_adds_none now of =
+        let was = row_back (table.get left l) refl now of in
+        loop_stays l was.0 (λ e. other (ap (solid_of M) (sym was.1) ∙ e)) (λ e. not_f (sym was.1 ∙ e))
+
   -- ---- edges and vertices
 
   ends_stay : (ms : List (ℕ × ℕ)) (e h a b : ℕ) → renamed ms a ≡ a → renamed ms b ≡ b → renamed_tails ms e (edge_row h a b) ≡ edge_row h a b
@@ -197,3 +230,13 @@ glue_keeps_edges before after f g sound made h there other = ap (λ x. table.get
 
 pub glue_keeps_points : GlueKeepsPoints
 glue_keeps_points before after f g sound made l v i other = ap (λ x. table.get (held x).vertices v) made.1 ∙ vertex_kept (held before) f g sound made.0 l v i other
+
+pub glue_keeps_shapes : GlueKeepsShapes
+glue_keeps_shapes before after f g sound made k there alone =
+    let M = held before in
+    let row = glue_keeps_faces before after f g k made alone.1 (λ e. alone.0 (ap (solid_of M) e)) alone.0 in
+    stands M (held after) (OfOthersBut M (solid_of M g) f) sound (glue_keeps_loops before after f g sound made) (λ h half left. glue_keeps_edges before after f g sound made h half left.0)
+    (λ l v i left. glue_keeps_points before after f g sound made l v i left.0) k there alone row
+    (rings_same M (held after) k row
+    (λ l has of. glue_keeps_loops before after f g sound made l has ((λ e. alone.0 (ap (solid_of M) (sym of) ∙ e)), (λ e. alone.1 (sym of ∙ e))))
+    (λ l. subst (λ x. Has (held x).loops l → face_of (held x) l ≡ k → table.get (held x).loops l ≡ table.get M.loops l) (sym made.1) (glue_adds_none M f g sound made.0 k l alone.1 alone.0)))

@@ -19,3 +19,4 @@ pub mod Owners
 mod SweptCounts
 mod NewCounts
 mod GluedCounts
+pub mod Standing

@@ -7,7 +7,7 @@ use Rattle.euler_operators.proofs.Rotations.{IsIn_head}
 use Rattle.euler_operators.proofs.Members.{IsIn_rest}
 use Rattle.euler_operators.specs.Table as table
 use Rattle.euler_operators.specs.HalfEdge.{edge_of}
-use Rattle.euler_operators.specs.Model.{Model, items_of, content, face_of, solid_of}
+use Rattle.euler_operators.specs.Model.{Model, items_of, content, face_of, solid_of, rings_of}
 use Rattle.euler_operators.specs.Sound.{Sound, Has}
 use Rattle.euler_operators.proofs.Tables.{get-put_other}
 use Rattle.euler_operators.proofs.Models.{face_row, same_solid}
@@ -18,9 +18,12 @@ use Rattle.shapes.proofs.fresh.Rows.{at_most_greatest}
 use Rattle.sweeps_laws.proofs.swept.Numbers.{riser_above, top_above}
 use Rattle.sweeps_laws.proofs.prism.Accepted.{begins}
 use Rattle.undo_journal.specs.Machine.{held}
-use Rattle.command_laws.specs.Framed.{SweepKeepsOwners, SweepKeepsLoops, SweepKeepsEdges, SweepKeepsPoints}
+use Rattle.command_laws.specs.LeftAlone.{AllBut}
+use Rattle.command_laws.specs.Framed.{SweepKeepsOwners, SweepKeepsLoops, SweepKeepsEdges, SweepKeepsPoints, SweepKeepsShapes}
 use Rattle.command_laws.proofs.Kept.{sweep_keeps_faces}
 use Rattle.command_laws.proofs.OnFaces.{vertex_there}
+use Rattle.command_laws.proofs.Standing.{stands}
+use Rattle.command_laws.proofs.SweptLoops.{later_all, sweep_ready}
 
 -- ---- one loop swept
 
@@ -119,6 +122,12 @@ module _ (M : Model) (f : ℕ) (d : Point) where
   unfolding prism_model taken_in
   prism_keeps_points v there = points_from f d (loops_of M f) (growing M) v (at_most_greatest M.vertices v there)
 
+module _ (M : Model) (f : ℕ) (d : Point) (sound : Sound M) (goes : prism_refusal M f d ≡ None) where
+  -- no loop more is of a face that was there
+  pub prism_keeps_rings : (k : ℕ) → Has M.faces k → rings_of (prism_model M f d) k ≡ rings_of M k
+  unfolding prism_model taken_in
+  prism_keeps_rings k there = (later_all f (solid_of M f) d (loops_of M f) (growing M) (sweep_ready M f d sound goes)).rings k (at_most_greatest M.faces k there)
+
 -- ---- the laws
 
 pub sweep_keeps_owners : SweepKeepsOwners
@@ -133,3 +142,9 @@ sweep_keeps_edges before after f d made h there alone = ap (λ x. table.get (hel
 
 pub sweep_keeps_points : SweepKeepsPoints
 sweep_keeps_points before after f d sound made l v i alone = ap (λ x. table.get (held x).vertices v) made.1 ∙ prism_keeps_points (held before) f d v (vertex_there (held before) sound l v i)
+
+pub sweep_keeps_shapes : SweepKeepsShapes
+sweep_keeps_shapes before after f d sound made k there ne =
+    stands (held before) (held after) (AllBut f) sound (sweep_keeps_loops before after f d sound made) (λ h half other. sweep_keeps_edges before after f d made h half tt)
+    (λ l v i other. sweep_keeps_points before after f d sound made l v i tt) k there ne (sweep_keeps_faces before after f d made k (at_most_greatest (held before).faces k there))
+    (ap (λ x. rings_of (held x) k) made.1 ∙ prism_keeps_rings (held before) f d sound made.0 k there)

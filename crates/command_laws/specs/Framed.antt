@@ -5,9 +5,10 @@ use Rattle.euler_operators.specs.Model.{solid_of}
 use Rattle.euler_operators.specs.Sound.{Sound}
 use Rattle.undo_journal.specs.Machine.{Machine, held}
 use Rattle.command_laws.specs.Commands.{IsLamina, IsBlock, IsSweep, IsGlue}
-use Rattle.command_laws.specs.LeftAlone.{KeepsOwners, KeepsLoops, KeepsEdges, KeepsPoints, Each, AllBut, OfOthers, OfOthersBut}
+use Rattle.command_laws.specs.LeftAlone.{KeepsOwners, KeepsLoops, KeepsEdges, KeepsPoints, KeepsShapes, Each, AllBut, OfOthers, OfOthersBut}
 
--- a lamina: each face that is there keeps its solid, each loop its content, each edge its ends, and each vertex its point
+-- a lamina: each face that is there keeps its solid, each loop its content, each edge its ends, and each vertex its point; and so each face
+-- its shape
 abbrev pub LaminaKeepsOwners : Type 0
 LaminaKeepsOwners = (before after : Machine) (s : ℕ) (ps : List Point) → IsLamina before after s ps → KeepsOwners Each (held before) (held after)
 
@@ -19,6 +20,9 @@ LaminaKeepsEdges = (before after : Machine) (s : ℕ) (ps : List Point) → Soun
 
 abbrev pub LaminaKeepsPoints : Type 0
 LaminaKeepsPoints = (before after : Machine) (s : ℕ) (ps : List Point) → Sound (held before) → IsLamina before after s ps → KeepsPoints Each (held before) (held after)
+
+abbrev pub LaminaKeepsShapes : Type 0
+LaminaKeepsShapes = (before after : Machine) (s : ℕ) (ps : List Point) → Sound (held before) → IsLamina before after s ps → KeepsShapes Each (held before) (held after)
 
 -- a block too
 abbrev pub BlockKeepsOwners : Type 0
@@ -33,6 +37,9 @@ BlockKeepsEdges = (before after : Machine) (s : ℕ) (p : Point) (dx dy dz : ℤ
 abbrev pub BlockKeepsPoints : Type 0
 BlockKeepsPoints = (before after : Machine) (s : ℕ) (p : Point) (dx dy dz : ℤ) → Sound (held before) → IsBlock before after s p dx dy dz → KeepsPoints Each (held before) (held after)
 
+abbrev pub BlockKeepsShapes : Type 0
+BlockKeepsShapes = (before after : Machine) (s : ℕ) (p : Point) (dx dy dz : ℤ) → Sound (held before) → IsBlock before after s p dx dy dz → KeepsShapes Each (held before) (held after)
+
 -- a sweep, of a face with rings or without: so it does, but for the loops of the face that is swept
 abbrev pub SweepKeepsOwners : Type 0
 SweepKeepsOwners = (before after : Machine) (f : ℕ) (d : Point) → IsSweep before after f d → KeepsOwners Each (held before) (held after)
@@ -46,6 +53,9 @@ SweepKeepsEdges = (before after : Machine) (f : ℕ) (d : Point) → IsSweep bef
 abbrev pub SweepKeepsPoints : Type 0
 SweepKeepsPoints = (before after : Machine) (f : ℕ) (d : Point) → Sound (held before) → IsSweep before after f d → KeepsPoints Each (held before) (held after)
 
+abbrev pub SweepKeepsShapes : Type 0
+SweepKeepsShapes = (before after : Machine) (f : ℕ) (d : Point) → Sound (held before) → IsSweep before after f d → KeepsShapes (AllBut f) (held before) (held after)
+
 -- a glue: so it is with the faces that aren't of the solid that goes, but for the first face and its loop
 abbrev pub GlueKeepsOwners : Type 0
 GlueKeepsOwners = (before after : Machine) (f g : ℕ) → IsGlue before after f g → KeepsOwners (OfOthersBut (held before) (solid_of (held before) g) f) (held before) (held after)
@@ -58,3 +68,6 @@ GlueKeepsEdges = (before after : Machine) (f g : ℕ) → Sound (held before) �
 
 abbrev pub GlueKeepsPoints : Type 0
 GlueKeepsPoints = (before after : Machine) (f g : ℕ) → Sound (held before) → IsGlue before after f g → KeepsPoints (OfOthers (held before) (solid_of (held before) g)) (held before) (held after)
+
+abbrev pub GlueKeepsShapes : Type 0
+GlueKeepsShapes = (before after : Machine) (f g : ℕ) → Sound (held before) → IsGlue before after f g → KeepsShapes (OfOthersBut (held before) (solid_of (held before) g) f) (held before) (held after)

@@ -3,10 +3,12 @@ use Rattle.std.specs.Prelude.{◌≡◌, ◌≢◌, ℕ}
 use Rattle.euler_operators.specs.Items.{IsIn}
 use Rattle.euler_operators.specs.HalfEdge.{edge_of}
 use Rattle.euler_operators.specs.Table as table
-use Rattle.euler_operators.specs.Model.{Model, content, face_of, solid_of}
+use Rattle.euler_operators.specs.Model.{Model, content, face_of, solid_of, outer, rings_of}
 use Rattle.euler_operators.specs.Sound.{Has, HasHalf}
 use Rattle.euler_operators.specs.Conditions.{face_at}
 use Rattle.shapes.specs.Faces.{vertices_on}
+use Rattle.shapes.specs.Measure.{plane_of}
+use Rattle.command_laws.specs.NewFaces.{corner_points}
 
 -- each of these faces that is there is of the solid, and has the outer loop, that it had
 abbrev pub KeepsRows : (ℕ → Type 0) → Model → Model → Type 0
@@ -27,6 +29,23 @@ KeepsEdges Alone M N = (h : ℕ) → HasHalf M h → Alone (face_at M h) → tab
 -- each vertex on the loops of these faces has the point that it had
 abbrev pub KeepsPoints : (ℕ → Type 0) → Model → Model → Type 0
 KeepsPoints Alone M N = (l v : ℕ) → IsIn v (vertices_on M (content M l)) → Alone (face_of M l) → table.get N.vertices v ≡ table.get M.vertices v
+
+-- each of these faces that is there has the rings that it had
+abbrev pub KeepsRings : (ℕ → Type 0) → Model → Model → Type 0
+KeepsRings Alone M N = (k : ℕ) → Has M.faces k → Alone k → rings_of N k ≡ rings_of M k
+
+-- face k stands as it did: it is of the solid that it was, and has the outer loop, the rings, the corner points and the plane that it had
+pub record StandsAsBefore (M N : Model) (k : ℕ) : Type 0 where
+  pub there : Has N.faces k
+  pub solid : solid_of N k ≡ solid_of M k
+  pub outer : outer N k ≡ outer M k
+  pub rings : rings_of N k ≡ rings_of M k
+  pub points : corner_points N k ≡ corner_points M k
+  pub plane : plane_of N k ≡ plane_of M k
+
+-- so does each of these faces that is there
+abbrev pub KeepsShapes : (ℕ → Type 0) → Model → Model → Type 0
+KeepsShapes Alone M N = (k : ℕ) → Has M.faces k → Alone k → StandsAsBefore M N k
 
 -- ---- faces left alone
 

@@ -14,6 +14,10 @@
 //! goes, but for the first face and its loop. What `counts` answers of the solid after a lamina, a block, a sweep of any face, and
 //! a glue, told from what it answered before, and that it answers of every other solid what it did. What a split leaves as it was
 //! is proved in `split_frames`; what its caps are, and what `counts` answers after it, in `split_caps`.
+//! loop there before has its face and its content, each edge its ends, each vertex its point, and so each face its solid, rings,
+//! corner points and plane, but for the face that was swept and its loops; after a glue so it is with the faces that weren't of
+//! the solid that goes, but for the first face and its loop. What a split leaves as it was is proved in `split_frames`. Not
+//! proved: the caps of a split; what `counts` answers after a command.
 #![tactic(auto)]
 
 mod frames;

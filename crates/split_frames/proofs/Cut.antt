@@ -12,7 +12,7 @@ use Rattle.euler_operators.proofs.Rotations.{IsIn_head}
 use Rattle.euler_operators.specs.HalfEdge.{edge_of, plus, minus}
 use Rattle.euler_operators.specs.Table as table
 use Rattle.euler_operators.specs.Table.{get-map_rows}
-use Rattle.euler_operators.specs.Model.{Model, LoopContent, LoopRow, lone, cycle, items_of, tail, content, face_of, solid_of}
+use Rattle.euler_operators.specs.Model.{Model, LoopContent, LoopRow, lone, cycle, items_of, tail, content, face_of, solid_of, rings_of}
 use Rattle.euler_operators.specs.Sound.{Sound, Has, HasHalf}
 use Rattle.euler_operators.specs.Conditions.{face_at, lists}
 use Rattle.euler_operators.proofs.Halves.{plus_row, mate_plus}
@@ -31,6 +31,7 @@ use Rattle.split_drawing_laws.proofs.crossings.Doubled.{doubled_none}
 use Rattle.split_drawing_laws.proofs.crossings.Whole.{crossings_keep, tails_stay}
 use Rattle.command_laws.specs.LeftAlone.{OfOthers}
 use Rattle.command_laws.proofs.OnFaces.{vertex_there}
+use Rattle.command_laws.proofs.Standing.{rings_same}
 use Rattle.split_frames.specs.OthersStay.{OthersStay}
 use Rattle.split_frames.proofs.Staying.{item_face, edge_side, edge_same}
 
@@ -114,10 +115,16 @@ module _ (M : Model) (s : ℕ) (p : Plane) (t : ℕ) (sound : Sound M) (begins :
     loop_kept = let row = loop_row M l there in
         cuts_pass p l (record { face = face_of M l; content = content M l }) (written (content M l) refl) (crossing_edges M p s) (growing M) not_cut row ∙ sym row
 
+  rings_kept : (k : ℕ) → Has M.faces k → OfOthers M s k → rings_of N k ≡ rings_of M k
+  rings_kept k there ne = rings_same M N k (ap (λ u. table.get u k) kept.faces)
+      (λ l has of. loop_kept l has (λ e. ne (ap (solid_of M) (sym of) ∙ e)))
+      (λ l has of. loop_kept l (sym (kept.loops l) ∙ has) (λ e. ne (ap (solid_of M) (sym (sym (kept.face l) ∙ of)) ∙ e)))
+
   pub crossings_stay : OthersStay M (with_crossings M s p).model s
   crossings_stay = record {
     rows = λ k there ne. ap (λ u. table.get u k) kept.faces;
     loops = loop_kept;
     edges = edge_kept;
     points = λ l v i ne. kept.points v (vertex_there M sound l v i);
+    rings = rings_kept;
   }

@@ -1,7 +1,7 @@
 -- A solid is opened along the cycles of its section: other solids stay.
 use Rattle.std.specs.Prelude.{map, length}
 use Rattle.std.specs.Option.{option_map}
-use Rattle.std.proofs.Common.{◌≡◌, ◌≢◌, ℕ, ◌≤◌, Bool, true, false, cond, not, ◌&&◌, List, [], ◌∷◌, Some, refl, sym, ap, subst, ◌∙◌, arith, inl, inr}
+use Rattle.std.proofs.Common.{◌≡◌, ◌≢◌, ℕ, ◌+◌, ◌≤◌, ◌<◌, Bool, true, false, cond, not, ◌&&◌, List, [], ◌∷◌, Some, refl, sym, ap, subst, ◌∙◌, arith, inl, inr}
 use Rattle.euler_operators.specs.declared.Plane.{Plane}
 use Rattle.euler_operators.specs.Items.{count, IsIn}
 use Rattle.euler_operators.specs.Rings.{canonical}
@@ -12,11 +12,11 @@ use Rattle.euler_operators.proofs.Rotations.{IsIn_head}
 use Rattle.euler_operators.specs.HalfEdge.{mate, edge_of, plus, minus}
 use Rattle.euler_operators.specs.Table as table
 use Rattle.euler_operators.specs.Table.{get-map_rows}
-use Rattle.euler_operators.specs.Model.{Model, LoopContent, lone, cycle, items_of, tail, content, face_of, solid_of}
+use Rattle.euler_operators.specs.Model.{Model, LoopContent, lone, cycle, items_of, tail, content, face_of, solid_of, rings_of}
 use Rattle.euler_operators.specs.Sound.{Sound, Has, HasHalf}
 use Rattle.euler_operators.specs.Conditions.{face_at, lists}
 use Rattle.euler_operators.proofs.Halves.{mate_plus}
-use Rattle.euler_operators.proofs.Models.{plus_there}
+use Rattle.euler_operators.proofs.Models.{face_row, plus_there}
 use Rattle.euler_operators.proofs.Tables.{row_some, in_use_within}
 use Rattle.euler_laws.proofs.shared.Listed.{listed_front}
 use Rattle.euler_laws.proofs.shared.Rows.{loop_row as loop_row_of}
@@ -32,6 +32,8 @@ use Rattle.split_opening_laws.proofs.sections.StillFree.{copied_other}
 use Rattle.split_opening_laws.proofs.sections.InTurn.{can_open, openings_sound, others_on}
 use Rattle.command_laws.specs.LeftAlone.{OfOthers}
 use Rattle.command_laws.proofs.OnFaces.{vertex_there}
+use Rattle.command_laws.proofs.Standing.{rings_same}
+use Rattle.split_laws.proofs.opened.Caps.{loop_kinds}
 use Rattle.split_frames.specs.OthersStay.{OthersStay}
 use Rattle.split_frames.proofs.Staying.{item_face, edge_side, nothing_moved, staying_on}
 
@@ -106,12 +108,33 @@ module _ (M : Model) (above : List ℕ) (s : ℕ) (c : Taken) (bs : List ℕ) (w
     no_copy : v ≤ c.vertex → count v (numbers_after c.vertex (length bs)) ≡ 0
     no_copy low = elim (IsIn_or_not v (numbers_after c.vertex (length bs))) [ inl i ↦ absurd (omega (arith, low, (in_numbers c.vertex (length bs) v i).0)) | inr z ↦ z ]
 
+  -- ---- rings
+
+  back : (k l : ℕ) → Has M.faces k → OfOthers M s k → Has N.loops l → face_of N l ≡ k → table.get N.loops l ≡ table.get M.loops l
+  back k l there ne has of =
+      let row = row_some (table.get N.loops l) has in
+      let face : row.0.face ≡ k = sym (face_row N l row.0 row.1) ∙ of in
+      let low = in_use_within M.faces c.face w.free.faces k there in
+      elim (loop_kinds M above s c bs w l row.0 row.1) [
+        | inl q ↦ absurd (too_great k c.face (c.face + length bs + 1) (sym face ∙ q.1) low (omega arith))
+        | inr q ↦ elim q [
+          | inl r ↦ absurd (too_great k c.face (c.face + 1) (sym face ∙ r.1) low (omega arith))
+          | inr r ↦ loop_kept l r.0 (λ e. ne (ap (solid_of M) (sym (r.1 ∙ face)) ∙ e))
+        ]
+      ] where
+        too_great : (k e n : ℕ) → k ≡ n → k ≤ e → e < n → ⊥
+        too_great k e n p m l = absurd (omega arith)
+
+  rings_kept : (k : ℕ) → Has M.faces k → OfOthers M s k → rings_of N k ≡ rings_of M k
+  rings_kept k there ne = rings_same M N k (face_still M above s c bs w.sound w.free k there) (λ l has of. loop_kept l has (λ e. ne (ap (solid_of M) (sym of) ∙ e))) (λ l has of. back k l there ne has of)
+
   opening_stays : OthersStay M (opened_along M above s c bs) s
   opening_stays = record {
     rows = λ k there ne. face_still M above s c bs w.sound w.free k there;
     loops = loop_kept;
     edges = edge_kept;
     points = λ l v i ne. vertex_kept v (vertex_there M w.sound l v i);
+    rings = rings_kept;
   }
 
 -- ---- along all, one after the other

@@ -52,7 +52,7 @@ unfolding tail
 tail_same M N h e = ap (λ o. tail_in (unwrap_or o no_edge) (is_first h)) e
 
 pub nothing_moved : (M : Model) (s : ℕ) → OthersStay M M s
-nothing_moved M s = record { rows = λ k there ne. refl; loops = λ l there ne. refl; edges = λ h there ne. refl; points = λ l v i ne. refl }
+nothing_moved M s = record { rows = λ k there ne. refl; loops = λ l there ne. refl; edges = λ h there ne. refl; points = λ l v i ne. refl; rings = λ k there ne. refl }
 
 -- ---- on to a third
 
@@ -97,4 +97,5 @@ module _ (M N : Model) (s : ℕ) (sound : Sound M) (then_sound : Sound N) (a : O
     edges = λ h there ne. b.edges h (half_still h there ne) (half_other h there ne) ∙ a.edges h there ne;
     points = λ l v i ne. let there = on_loop M l v i in
         b.points l v (subst (IsIn v) (sym (vertices_still l there ne)) i) (loop_other l there ne) ∙ a.points l v i ne;
+    rings = λ k there ne. b.rings k (ap is_some (a.rows k there ne) ∙ there) (face_other k there ne) ∙ a.rings k there ne;
   }

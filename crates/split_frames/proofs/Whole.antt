@@ -18,8 +18,10 @@ use Rattle.split_opening_laws.proofs.sections.Capping.{caps_rise}
 use Rattle.split_laws.proofs.drawn.Drawn.{begins, drawn_sound, can_open_all, no_caps}
 use Rattle.undo_journal.specs.Machine.{Machine, held}
 use Rattle.split_frames.specs.OthersStay.{OthersStay}
-use Rattle.split_frames.specs.Laws.{SplitKeepsRows, SplitKeepsOwners, SplitKeepsLoops, SplitKeepsEdges, SplitKeepsPoints}
+use Rattle.split_frames.specs.Laws.{SplitKeepsRows, SplitKeepsOwners, SplitKeepsLoops, SplitKeepsEdges, SplitKeepsPoints, SplitKeepsShapes}
 use Rattle.plane_split.specs.Held.{IsSplit}
+use Rattle.command_laws.specs.LeftAlone.{OfOthers}
+use Rattle.command_laws.proofs.Standing.{stands}
 use Rattle.split_frames.proofs.Staying.{staying_on}
 use Rattle.split_frames.proofs.Cut.{crossings_stay}
 use Rattle.split_frames.proofs.Drawn.{drawings_stay}
@@ -79,3 +81,8 @@ split_keeps_edges before after s p t sound made = (held_stay before after s p t 
 
 pub split_keeps_points : SplitKeepsPoints
 split_keeps_points before after s p t sound made = (held_stay before after s p t sound made).points
+
+pub split_keeps_shapes : SplitKeepsShapes
+split_keeps_shapes before after s p t sound made k there ne =
+    let w = held_stay before after s p t sound made in
+    stands (held before) (held after) (OfOthers (held before) s) sound w.loops w.edges w.points k there ne (w.rows k there ne) (w.rings k there ne)

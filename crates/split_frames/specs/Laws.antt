@@ -4,7 +4,7 @@ use Rattle.euler_operators.specs.declared.Plane.{Plane}
 use Rattle.euler_operators.specs.Sound.{Sound}
 use Rattle.undo_journal.specs.Machine.{Machine, held}
 use Rattle.plane_split.specs.Held.{IsSplit}
-use Rattle.command_laws.specs.LeftAlone.{KeepsRows, KeepsOwners, KeepsLoops, KeepsEdges, KeepsPoints, OfOthers}
+use Rattle.command_laws.specs.LeftAlone.{KeepsRows, KeepsOwners, KeepsLoops, KeepsEdges, KeepsPoints, KeepsShapes, OfOthers}
 
 -- each face of another solid has its row
 abbrev pub SplitKeepsRows : Type 0
@@ -25,3 +25,7 @@ SplitKeepsEdges = (before after : Machine) (s : ℕ) (p : Plane) (t : ℕ) → S
 -- and each vertex its point
 abbrev pub SplitKeepsPoints : Type 0
 SplitKeepsPoints = (before after : Machine) (s : ℕ) (p : Plane) (t : ℕ) → Sound (held before) → IsSplit before after s p t → KeepsPoints (OfOthers (held before) s) (held before) (held after)
+
+-- so each face has the outer loop, the rings, the corner points and the plane that it had
+abbrev pub SplitKeepsShapes : Type 0
+SplitKeepsShapes = (before after : Machine) (s : ℕ) (p : Plane) (t : ℕ) → Sound (held before) → IsSplit before after s p t → KeepsShapes (OfOthers (held before) s) (held before) (held after)

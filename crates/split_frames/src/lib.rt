@@ -4,10 +4,11 @@
 //! # What is proved
 //!
 //! Of a session after a split answered Ok: each face of another solid than the one that was split is of the solid, and has the outer
-//! loop, that it had; each of its loops has its face and its content, each edge its ends, and each vertex its point.
+//! loop, the rings, the corner points and the plane, that it had; each of its loops has its face and its content, each edge its
+//! ends, and each vertex its point.
 #![tactic(auto)]
 
-ghost use Rattle.split_frames.specs.Laws.{SplitKeepsRows, SplitKeepsOwners, SplitKeepsLoops, SplitKeepsEdges, SplitKeepsPoints};
+ghost use Rattle.split_frames.specs.Laws.{SplitKeepsRows, SplitKeepsOwners, SplitKeepsLoops, SplitKeepsEdges, SplitKeepsPoints, SplitKeepsShapes};
 
 /// After a split the faces of other solids, their loops, edges and vertices are as they were.
 pub fn splits_leave_alone()
@@ -16,4 +17,5 @@ pub fn splits_leave_alone()
     ensures loops { SplitKeepsLoops }
     ensures edges { SplitKeepsEdges }
     ensures points { SplitKeepsPoints }
+    ensures shapes { SplitKeepsShapes }
 {}

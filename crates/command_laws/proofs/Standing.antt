@@ -1,0 +1,208 @@
+-- A face whose loops, edges and vertices are left alone stands as it did.
+use Rattle.std.specs.Prelude.{map}
+use Rattle.std.proofs.Common.{◌≡◌, ◌≢◌, ℕ, Bool, true, cond, not, nat_eq, ◌&&◌, List, [], ◌∷◌, ◌++◌, Option, Some, None, is_some, unwrap_or, refl, sym, ap, subst, ◌∙◌, arith, inl, inr, true≢false}
+use Rattle.std.proofs.lemmas.List.{map-append}
+use Rattle.std.proofs.lemmas.Bool.{eqb-true, and_parts, ne_eqb}
+use Rattle.euler_operators.specs.Vectors.{moved, cross}
+use Rattle.euler_operators.specs.Items.{IsIn, SameItems}
+use Rattle.euler_operators.proofs.Lists.{tick_other}
+use Rattle.std.proofs.lemmas.Bool.Decides.{eqb_tells}
+use Rattle.euler_operators.proofs.Members.{IsIn_rest, IsIn-map}
+use Rattle.euler_operators.proofs.Rotations.{IsIn_head}
+use Rattle.euler_operators.specs.HalfEdge.{mate, edge_of, is_first}
+use Rattle.euler_operators.specs.Table as table
+use Rattle.euler_operators.specs.Table.{Table}
+use Rattle.euler_operators.specs.Model.{Model, LoopContent, LoopRow, lone, cycle, no_edge, no_point, items_of, tail, tail_in, content, face_of, outer, point_of, rings_of, after}
+use Rattle.euler_operators.specs.Sound.{Sound, Has, HasHalf}
+use Rattle.euler_operators.specs.Conditions.{face_at, strictly_rises}
+use Rattle.euler_operators.proofs.Halves.{edge_of-mate}
+use Rattle.euler_operators.proofs.Models.{face_row, item_there, holds_in, same_content, same_outer, same_solid}
+use Rattle.euler_operators.proofs.Tables.{passes, count-all_where}
+use Rattle.euler_laws.proofs.shared.Fans.{half_after, loop_after}
+use Rattle.euler_laws.proofs.shared.Listed.{listed_passes, listed-from_in, IsIn-from_listed, all_where-rises}
+use Rattle.euler_laws.proofs.shared.RisingLists as rising_lists
+use Rattle.shapes.specs.Faces.{start, finish, items_in, loops_of, boundary, vertices_on, vertices_in, corners}
+use Rattle.shapes.specs.Measure.{area, normal, anchor, first_vertex, plane_through, plane_of}
+use Rattle.shapes.proofs.Areas.{area-append}
+use Rattle.command_laws.specs.NewFaces.{corner_points}
+use Rattle.command_laws.specs.LeftAlone.{KeepsLoops, KeepsEdges, KeepsPoints, StandsAsBefore}
+use Rattle.command_laws.proofs.OnFaces.{item_loop}
+
+-- ---- rows
+
+tail_same : (M N : Model) (h : ℕ) → table.get N.edges (edge_of h) ≡ table.get M.edges (edge_of h) → tail N h ≡ tail M h
+unfolding tail
+tail_same M N h e = ap (λ o. tail_in (unwrap_or o no_edge) (is_first h)) e
+
+point_same : (M N : Model) (v : ℕ) → table.get N.vertices v ≡ table.get M.vertices v → point_of N v ≡ point_of M v
+unfolding point_of
+point_same M N v e = ap (λ o. unwrap_or o no_point) e
+
+-- ---- searches that agree on every number list the same
+
+rising_same : (xs ys : List ℕ) → strictly_rises xs ≡ true → strictly_rises ys ≡ true → SameItems xs ys → xs ≡ ys
+rising_same xs ys r s e =
+    let a = rising_lists.within xs ys r s (λ q i. listed-from_in q ys (omega (arith, e q, IsIn-from_listed q xs i))) in
+    let b = rising_lists.within ys xs s r (λ q i. listed-from_in q xs (omega (arith, e q, IsIn-from_listed q ys i))) in
+    a.1 (omega (arith, a.0, b.0))
+
+same_search : {X : Type 0} (p q : ℕ → X → Bool) (t u : Table X) → ((n : ℕ) → passes p n (table.get t n) ≡ passes q n (table.get u n)) → table.all_where p t ≡ table.all_where q u
+same_search p q t u e = rising_same (table.all_where p t) (table.all_where q u) (all_where-rises p t) (all_where-rises q u) (λ n. count-all_where p t n ∙ e n ∙ sym (count-all_where q u n))
+
+-- where the loops of a face have the rows that they had, and no loop more is of it, it has the rings that it had
+module _ (M N : Model) (k : ℕ) (row : table.get N.faces k ≡ table.get M.faces k) (on : (l : ℕ) → Has M.loops l → face_of M l ≡ k → table.get N.loops l ≡ table.get M.loops l)
+    (back : (l : ℕ) → Has N.loops l → face_of N l ≡ k → table.get N.loops l ≡ table.get M.loops l) where
+  abbrev is_ring : Model → ℕ → LoopRow → Bool
+  is_ring X l row = nat_eq row.face k && not (nat_eq (outer X k) l)
+
+  not_of : (X : Model) (l : ℕ) (row : LoopRow) → row.face ≢ k → passes (is_ring X) l (Some row) ≡ 0
+  not_of X l row ne = ap (λ b. cond (b && not (nat_eq (outer X k) l)) 1 0) (ne_eqb row.face k ne)
+
+  each_loop : (l : ℕ) (o p : Option LoopRow) → table.get N.loops l ≡ o → table.get M.loops l ≡ p → passes (is_ring N) l o ≡ passes (is_ring M) l p
+  each_loop l None None e f = refl
+  each_loop l (Some x) None e f = elim (eqb_tells x.face k) [
+    | inl s ↦ absurd (true≢false (ap is_some (sym e ∙ back l (ap is_some e) (face_row N l x e ∙ s.1) ∙ f)))
+    | inr s ↦ not_of N l x s.1
+  ]
+  each_loop l None (Some y) e f = elim (eqb_tells y.face k) [
+    | inl s ↦ absurd (true≢false (ap is_some (sym f ∙ sym (on l (ap is_some f) (face_row M l y f ∙ s.1)) ∙ e)))
+    | inr s ↦ sym (not_of M l y s.1)
+  ]
+  each_loop l (Some x) (Some y) e f = elim (eqb_tells y.face k) [
+    | inl s ↦ ap (passes (is_ring N) l) (sym e ∙ on l (ap is_some f) (face_row M l y f ∙ s.1) ∙ f) ∙ ap (λ o. cond (nat_eq y.face k && not (nat_eq o l)) 1 0) (same_outer M N k row)
+    | inr s ↦ elim (eqb_tells x.face k) [
+      | inl u ↦ ap (passes (is_ring N) l) (sym e ∙ back l (ap is_some e) (face_row N l x e ∙ u.1) ∙ f) ∙ ap (λ o. cond (nat_eq y.face k && not (nat_eq o l)) 1 0) (same_outer M N k row)
+      | inr u ↦ not_of N l x u.1 ∙ sym (not_of M l y s.1)
+    ]
+  ]
+
+  pub rings_same : rings_of N k ≡ rings_of M k
+  rings_same = same_search (is_ring N) (is_ring M) N.loops M.loops (λ l. each_loop l (table.get N.loops l) (table.get M.loops l) refl refl)
+
+-- ---- a face
+
+module _ (M N : Model) (Alone : ℕ → Type 0) (sound : Sound M) (loops : KeepsLoops Alone M N) (edges : KeepsEdges Alone M N) (points : KeepsPoints Alone M N)
+    (k : ℕ) (there : Has M.faces k) (alone : Alone k) (row : table.get N.faces k ≡ table.get M.faces k) (rings : rings_of N k ≡ rings_of M k) where
+  loop_in : (l : ℕ) → IsIn l (loops_of M k) → Has M.loops l × (face_of M l ≡ k)
+  unfolding loops_of
+  loop_in l i = elim (eqb_tells l (outer M k)) [
+    | inl e ↦ subst (λ q. Has M.loops q × (face_of M q ≡ k)) (sym e.1) (sound.outers_there k there)
+    | inr e ↦
+        let p = listed_passes (λ q row. nat_eq row.face k && not (nat_eq (outer M k) q)) M.loops l (listed-from_in l (rings_of M k) (omega (arith, i, tick_other l (outer M k) e.1))) in
+        (ap is_some p.1, face_row M l p.0 p.1 ∙ eqb-true p.0.face k (and_parts (nat_eq p.0.face k) (not (nat_eq (outer M k) l)) p.2).0)
+  ]
+
+  -- ---- one loop of it
+
+  module _ (l : ℕ) (i : IsIn l (loops_of M k)) where
+    left : Alone (face_of M l)
+    left = subst Alone (sym (loop_in l i).1) alone
+
+    content_kept : content N l ≡ content M l
+    content_kept = same_content M N l (loops l (loop_in l i).0 left)
+
+    vertex_kept : (v : ℕ) → IsIn v (vertices_on M (content M l)) → point_of N v ≡ point_of M v
+    vertex_kept v j = point_same M N v (points l v j left)
+
+    tail_on : (c : LoopContent) (h : ℕ) → IsIn h (items_of c) → IsIn (tail M h) (vertices_on M c)
+    tail_on (lone v) h j = absurd (omega (arith, j))
+    tail_on (cycle hs) h j = IsIn-map (tail M) h hs j
+
+    module _ (h : ℕ) (j : IsIn h (items_of (content M l))) where
+      half : HasHalf M h
+      half = item_there M sound l h j
+
+      of_left : Alone (face_at M h)
+      of_left = subst Alone (sym (ap (face_of M) (item_loop M sound l h j))) left
+
+      tail_kept : tail N h ≡ tail M h
+      tail_kept = tail_same M N h (edges h half of_left)
+
+      mate_kept : tail N (mate h) ≡ tail M (mate h)
+      mate_kept = tail_same M N (mate h) (ap (table.get N.edges) (edge_of-mate h) ∙ edges h half of_left ∙ sym (ap (table.get M.edges) (edge_of-mate h)))
+
+      start_kept : start N h ≡ start M h
+      start_kept = ap (point_of N) tail_kept ∙ vertex_kept (tail M h) (tail_on (content M l) h j)
+
+      -- what follows stands in the loop too
+      next_in : IsIn (after M h) (items_of (content M l))
+      next_in = subst (λ q. IsIn (after M h) (items_of (content M q))) (loop_after M sound h half ∙ item_loop M sound l h j)
+          (holds_in (after M h) _ (sound.stands (after M h) (half_after M sound h half)))
+
+      finish_kept : finish N h ≡ finish M h
+      finish_kept = ap (point_of N) (mate_kept ∙ sym (sound.ends_meet h half)) ∙ vertex_kept (tail M (after M h)) (tail_on (content M l) (after M h) next_in) ∙ ap (point_of M) (sound.ends_meet h half)
+
+    points_in : (hs : List ℕ) → ((h : ℕ) → IsIn h hs → IsIn h (items_of (content M l))) → map (point_of N) (map (tail N) hs) ≡ map (point_of M) (map (tail M) hs)
+    points_in [] inside = refl
+    points_in (h ∷ hs) inside = λ t. start_kept h (inside h (IsIn_head h hs)) t ∷ points_in hs (λ x j. inside x (IsIn_rest x h hs j)) t
+
+    points_on : (c : LoopContent) → content M l ≡ c → map (point_of N) (vertices_on N c) ≡ map (point_of M) (vertices_on M c)
+    points_on (lone v) is = ap (λ p. p ∷ []) (vertex_kept v (subst (λ c. IsIn v (vertices_on M c)) (sym is) (IsIn_head v [])))
+    points_on (cycle hs) is = points_in hs (λ h j. subst (λ c. IsIn h (items_of c)) (sym is) j)
+
+    loop_points_kept : map (point_of N) (vertices_on N (content N l)) ≡ map (point_of M) (vertices_on M (content M l))
+    loop_points_kept = ap (λ c. map (point_of N) (vertices_on N c)) content_kept ∙ points_on (content M l) refl
+
+    area_in : (hs : List ℕ) → ((h : ℕ) → IsIn h hs → IsIn h (items_of (content M l))) → area N hs ≡ area M hs
+    area_in [] inside = refl
+    area_in (h ∷ hs) inside = let j = inside h (IsIn_head h hs) in λ t. moved (cross (start_kept h j t) (finish_kept h j t)) (area_in hs (λ x i. inside x (IsIn_rest x h hs i)) t)
+
+    area_kept : area N (items_of (content N l)) ≡ area M (items_of (content M l))
+    area_kept = ap (λ c. area N (items_of c)) content_kept ∙ area_in (items_of (content M l)) (λ h j. j)
+
+    first_on : (c : LoopContent) → content M l ≡ c → point_of N (first_vertex N c) ≡ point_of M (first_vertex M c)
+    first_on (lone v) is = vertex_kept v (subst (λ c. IsIn v (vertices_on M c)) (sym is) (IsIn_head v []))
+    first_on (cycle []) is = absurd ((sound.cycles l [] (loop_in l i).0 is).some_item refl)
+    first_on (cycle (h ∷ hs)) is = start_kept h (subst (λ c. IsIn h (items_of c)) (sym is) (IsIn_head h hs))
+
+  -- ---- all of them
+
+  outer_kept : outer N k ≡ outer M k
+  outer_kept = same_outer M N k row
+
+  loops_kept : loops_of N k ≡ loops_of M k
+  unfolding loops_of
+  loops_kept = λ t. outer_kept t ∷ rings t
+
+  outer_in : IsIn (outer M k) (loops_of M k)
+  unfolding loops_of
+  outer_in = IsIn_head (outer M k) (rings_of M k)
+
+  points_of : (X : Model) (l : ℕ) (ls : List ℕ) → map (point_of X) (vertices_in X (l ∷ ls)) ≡ map (point_of X) (vertices_on X (content X l)) ++ map (point_of X) (vertices_in X ls)
+  points_of X l ls = map-append (point_of X) (vertices_on X (content X l)) (vertices_in X ls)
+
+  all_points : (ls : List ℕ) → ((l : ℕ) → IsIn l ls → IsIn l (loops_of M k)) → map (point_of N) (vertices_in N ls) ≡ map (point_of M) (vertices_in M ls)
+  all_points [] inside = refl
+  all_points (l ∷ ls) inside = points_of N l ls
+      ∙ (λ t. loop_points_kept l (inside l (IsIn_head l ls)) t ++ all_points ls (λ q j. inside q (IsIn_rest q l ls j)) t) ∙ sym (points_of M l ls)
+
+  all_areas : (ls : List ℕ) → ((l : ℕ) → IsIn l ls → IsIn l (loops_of M k)) → area N (items_in N ls) ≡ area M (items_in M ls)
+  all_areas [] inside = refl
+  all_areas (l ∷ ls) inside = area-append N (items_of (content N l)) (items_in N ls)
+      ∙ (λ t. moved (area_kept l (inside l (IsIn_head l ls)) t) (all_areas ls (λ q j. inside q (IsIn_rest q l ls j)) t))
+      ∙ sym (area-append M (items_of (content M l)) (items_in M ls))
+
+  corners_kept : corner_points N k ≡ corner_points M k
+  unfolding corners
+  corners_kept = ap (λ ls. map (point_of N) (vertices_in N ls)) loops_kept ∙ all_points (loops_of M k) (λ l i. i)
+
+  normal_kept : normal N k ≡ normal M k
+  unfolding normal boundary
+  normal_kept = ap (λ ls. area N (items_in N ls)) loops_kept ∙ all_areas (loops_of M k) (λ l i. i)
+
+  anchor_kept : anchor N k ≡ anchor M k
+  anchor_kept = ap (λ q. point_of N (first_vertex N (content N q))) outer_kept ∙ ap (λ c. point_of N (first_vertex N c)) (content_kept (outer M k) outer_in) ∙ first_on (outer M k) outer_in (content M (outer M k)) refl
+
+  plane_kept : plane_of N k ≡ plane_of M k
+  unfolding plane_of
+  plane_kept = λ t. plane_through (normal_kept t) (anchor_kept t)
+
+  pub stands : StandsAsBefore M N k
+  stands = record {
+    there = ap is_some row ∙ there;
+    solid = same_solid M N k row;
+    outer = outer_kept;
+    rings = rings;
+    points = corners_kept;
+    plane = plane_kept;
+  }
