@@ -1,11 +1,16 @@
--- A face that was kept.
-use Rattle.std.proofs.Common.{◌≡◌, ◌≤◌, ℕ, ap, unwrap_or}
-use Rattle.sweeps.specs.Model.{no_face, solid_of}
-use Rattle.sweeps.specs.PlainMachine.{Machine, held}
-use Rattle.command_laws.specs.NewFaces.{last_face}
-use Rattle.command_laws.specs.Kept.{KeepsFaces}
+-- A face that was left alone.
+use Rattle.std.proofs.Common.{ℕ, List, ◌∙◌}
+use Rattle.sweeps.specs.declared.Point.{Point}
+use Rattle.sweeps.specs.Model.{Model}
+use Rattle.command_laws.specs.NewFaces.{IsFaceOf}
+use Rattle.command_laws.specs.LeftAlone.{StandsAsBefore}
 
--- it is of the solid that it was of
-pub solid_kept : (before after : Machine) (f : ℕ) → KeepsFaces before after → f ≤ last_face before → solid_of (held after) f ≡ solid_of (held before) f
-unfolding solid_of
-solid_kept before after f kept there = ap (λ row. (unwrap_or row no_face).solid) (kept f there)
+-- it is of the solid, and has the corners and the plane, that it had
+pub face_stands : (M N : Model) (k s : ℕ) (ps : List Point) → IsFaceOf M k s ps → StandsAsBefore M N k → IsFaceOf N k s ps
+face_stands M N k s ps was same = record {
+  there = same.there;
+  solid = same.solid ∙ was.solid;
+  plain = same.rings ∙ was.plain;
+  points = same.points ∙ was.points;
+  plane = same.plane ∙ was.plane;
+}

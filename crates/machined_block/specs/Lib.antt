@@ -1,3 +1,4 @@
 pub mod Cutting
 pub mod Undoing
 pub mod Listed
+pub mod Meeting

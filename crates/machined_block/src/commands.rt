@@ -1,22 +1,22 @@
 //! Commands of the workbench, each with what this program wants of it.
-ghost use Rattle.std.specs.Prelude.{◌≡◌, pos, ◌+ℤ◌, ◌*ℤ◌, [], OnOk, OnErr, IfOk};
-ghost use Rattle.command_laws.specs.NewFaces.{IsFaceOf, all_moved, corner_points};
+ghost use Rattle.std.specs.Prelude.{◌≡◌, pos, ◌+ℤ◌, ◌*ℤ◌, OnOk, OnErr};
+ghost use Rattle.command_laws.specs.RingedFaces.{IsFarFace};
 ghost use Rattle.machined_block.specs.Cutting.{LieOnEitherSide};
 ghost use Rattle.machined_block.specs.Undoing.{IsOneCommand};
 ghost use Rattle.sweeps.specs.PlainMachine.{held};
 ghost use Rattle.sweeps.specs.Measure.{normal, six_volume};
-ghost use Rattle.sweeps.specs.Model.{rings_of, solid_of};
+ghost use Rattle.sweeps.specs.Model.{solid_of};
 ghost use Rattle.sweeps.specs.Sound.{Has};
 ghost use Rattle.sweeps.specs.Vectors.{dot};
 
-use command_laws::sweeps_make_faces;
+use command_laws::ringed_sweeps_make_faces;
 use gluing::{glue, glue_measures, six_volume};
 use plane_split::{split, splits_are_held};
 use std::alloc::Global;
 use sweeps::{Draft, Failure, Op, Point, Session, sweep, sweep_measures};
 
-/// A face swept along a vector. Its solid grows by three times the face's normal before, along the vector. A face without rings keeps its
-/// number, and its corners have moved. Undo gives the model before.
+/// A face swept along a vector. Its solid grows by three times the face's normal before, along the vector. The face, with rings or without,
+/// keeps its number and its loops, and its corners have moved. Undo gives the model before.
 pub fn raised(
     alloc: Global,
     session: Session,
@@ -24,13 +24,13 @@ pub fn raised(
     by: Point,
 ) -> (Session, Result<(), Failure>)
     ensures volume { OnOk result.1 (six_volume (held result.0.machine) (solid_of (held session.machine) face) ≡ six_volume (held session.machine) (solid_of (held session.machine) face) +ℤ pos 3 *ℤ dot (normal (held session.machine) face) by) }
-    ensures far { OnOk result.1 (rings_of (held session.machine) face ≡ [] → IsFaceOf (held result.0.machine) face (solid_of (held session.machine) face) (all_moved by (corner_points (held session.machine) face))) }
+    ensures far { OnOk result.1 (IsFarFace (held session.machine) (held result.0.machine) face by) }
     ensures undone { OnOk result.1 (IsOneCommand session.machine result.0.machine) }
     ensures err { OnErr result.1 (result.0 ≡ session) }
 {
     session.stays_consistent();
     sweep_measures();
-    sweeps_make_faces();
+    ringed_sweeps_make_faces();
     sweep(alloc, session, face, by)
 }
 
@@ -45,8 +45,8 @@ pub fn joined(alloc: Global, session: Session, f: u32, g: u32) -> (Session, Resu
     glue(alloc, session, f, g)
 }
 
-/// A solid cut by the plane x + d = 0: what lies above it, where that sum is positive, becomes the solid t. The two parts share the six
-/// volumes of the one, and lie on either side. Undo gives the model before.
+/// A solid cut by the plane x + d = 0: what lies above it, where that sum is positive, becomes the solid t. Both parts are there then. They
+/// share the six volumes of the one, and lie on either side. Undo gives the model before.
 pub fn cut(
     alloc: Global,
     session: Session,
@@ -55,6 +55,7 @@ pub fn cut(
     t: u32,
 ) -> (Session, Result<(), Failure>)
     ensures volume { OnOk result.1 (six_volume (held session.machine) s ≡ six_volume (held result.0.machine) s +ℤ six_volume (held result.0.machine) t) }
+    ensures parts { OnOk result.1 (Has (held result.0.machine).solids s × Has (held result.0.machine).solids t) }
     ensures sides { OnOk result.1 (LieOnEitherSide (held result.0.machine) d s t) }
     ensures undone { OnOk result.1 (IsOneCommand session.machine result.0.machine) }
     ensures err { OnErr result.1 (result.0 ≡ session) }
@@ -76,17 +77,10 @@ pub fn tried(session: Session, op: Op) -> Session
     }
 }
 
-/// Six times the volume of solid s, measured.
-pub fn measured(session: &Session, s: u32) -> Result<i128, Failure>
-    ensures { IfOk result (λ volume. volume ≡ six_volume (held session.now.machine) s) }
+/// Six times the volume of solid s, which is there: the measure is answered.
+pub fn known(session: &Session, s: u32) -> i128
+    requires { Has (held session.now.machine).solids s }
+    ensures { result ≡ six_volume (held session.now.machine) s }
 {
-    six_volume(session.arena(), s).map_err(Failure::Refused)
-}
-
-/// Six times the volume of solid 1, which is there: the measure is answered.
-pub fn known(session: &Session) -> i128
-    requires { Has (held session.now.machine).solids 1 }
-    ensures { result ≡ six_volume (held session.now.machine) 1 }
-{
-    six_volume(session.arena(), 1).unwrap()
+    six_volume(session.arena(), s).unwrap()
 }

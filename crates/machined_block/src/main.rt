@@ -13,23 +13,35 @@
 //! as it was; so at the end the block has its volume as before, with one command to undo and one to redo. The block made longer
 //! by a second one glued to it has 180; and so have its two parts once it is cut, with four commands to undo. A list of four calls
 //! in one is told what the plain machine may tell, and leads to a machine that may come of them, which is consistent.
+//! six volumes; a swept face, with rings or without, adds three times its normal along the vector, and keeps its loops with their
+//! corners moved; the solid that comes of two glued faces has the six volumes of both; the parts of a solid cut by a plane
+//! x + d = 0 are there, share its six volumes and lie on either side of it. After each of these undo isn't refused and gives the
+//! model before. Whatever operator is tried in a draft that is given up, the session is as it was; so at the end the block has
+//! its volume as before, with one command to undo and one to redo. Once a second block is made, the side of the first at which
+//! they meet still has its corners, which are those of the second one's, the other way round. The block made longer by the second
+//! one glued to it has 180; and so have its two parts once it is cut, with four commands to undo.
 #![tactic(auto)]
 
 mod commands;
 mod lists;
 
 ghost use Rattle.std.specs.Prelude.{◌≡◌, pos, neg_ℤ, ◌+ℤ◌, IfOk};
-ghost use Rattle.command_laws.specs.NewFaces.{last_face};
+ghost use Rattle.command_laws.specs.NewFaces.{last_face, IsFaceOf};
 ghost use Rattle.machined_block.specs.Cutting.{LieOnEitherSide};
+ghost use Rattle.machined_block.specs.Meeting.{near_side, far_side};
 ghost use Rattle.sweeps.specs.PlainMachine.{depth, ahead, held};
 ghost use Rattle.sweeps.specs.Measure.{six_volume};
-ghost use Rattle.sweeps.specs.Model.{empty_model, solid_of};
+ghost use Rattle.sweeps.specs.Model.{empty_model};
 ghost use Rattle.sweeps.specs.Sound.{Has};
 
 use call_lists::Told;
 use command_laws::{blocks_make_faces, faces_are_kept, solids_are_there, undos_go_back};
 use commands::{cut, joined, known, measured, raised, tried};
 use lists::made;
+use command_laws::{
+    blocks_leave_alone, blocks_make_faces, faces_are_kept, solids_are_there, undos_go_back,
+};
+use commands::{cut, joined, known, raised, tried};
 use std::alloc::Global;
 use std::process::ExitCode;
 use sweeps::{Failure, Op, Point, Session, block, block_measures};
@@ -37,7 +49,7 @@ use sweeps::{Failure, Op, Point, Session, block, block_measures};
 /// A session that holds a block of 4 by 3 by 2 as solid 1. Its faces have the numbers 1 to 6; the side at the greatest x is face 4.
 fn blank(alloc: Global) -> Result<Session, Failure>
     ensures there { IfOk result (λ session. Has (held session.machine).solids 1) }
-    ensures side { IfOk result (λ session. solid_of (held session.machine) 4 ≡ 1) }
+    ensures side { IfOk result (λ session. IsFaceOf (held session.machine) 4 1 near_side) }
     ensures last { IfOk result (λ session. last_face session.machine ≡ 6) }
     ensures volume { IfOk result (λ session. six_volume (held session.machine) 1 ≡ pos 144) }
     ensures depth { IfOk result (λ session. depth session.machine ≡ 1) }
@@ -69,19 +81,20 @@ fn machined(alloc: Global) -> Result<Session, Failure>
     Ok(tried(session, Op::Kvfs(1)))
 }
 
-/// The block, and at its end one of 1 by 3 by 2 as solid 2. Its faces have the numbers 7 to 12; the side at the least x is face 12.
+/// The block, and at its end one of 1 by 3 by 2 as solid 2. Its faces have the numbers 7 to 12; the side at the least x is face 12. The
+/// side of the first block still has the corners that it had: the two meet, one going round the other way.
 fn paired(alloc: Global) -> Result<Session, Failure>
     ensures first { IfOk result (λ session. six_volume (held session.machine) 1 ≡ pos 144) }
     ensures second { IfOk result (λ session. six_volume (held session.machine) 2 ≡ pos 36) }
-    ensures near { IfOk result (λ session. solid_of (held session.machine) 4 ≡ 1) }
-    ensures far { IfOk result (λ session. solid_of (held session.machine) 12 ≡ 2) }
+    ensures near { IfOk result (λ session. IsFaceOf (held session.machine) 4 1 near_side) }
+    ensures far { IfOk result (λ session. IsFaceOf (held session.machine) 12 2 far_side) }
     ensures depth { IfOk result (λ session. depth session.machine ≡ 2) }
 {
     let session = blank(alloc)?;
     session.stays_consistent();
     block_measures();
     blocks_make_faces();
-    faces_are_kept();
+    blocks_leave_alone();
     let corner = Point { x: 4, y: 0, z: 0 };
     let (session, made) = block(alloc, session, 2, corner, 1, 3, 2);
     made?;
@@ -103,6 +116,7 @@ fn lengthened(alloc: Global) -> Result<Session, Failure>
 fn parted(alloc: Global) -> Result<Session, Failure>
     ensures volume { IfOk result (λ session. six_volume (held session.machine) 1 +ℤ six_volume (held session.machine) 2 ≡ pos 180) }
     ensures sides { IfOk result (λ session. LieOnEitherSide (held session.machine) (neg_ℤ (pos 2)) 1 2) }
+    ensures there { IfOk result (λ session. Has (held session.machine).solids 1 × Has (held session.machine).solids 2) }
     ensures depth { IfOk result (λ session. depth session.machine ≡ 4) }
 {
     let session = lengthened(alloc)?;
@@ -127,7 +141,7 @@ fn taken_back(alloc: Global) -> Result<Session, Failure>
 /// Says how large the machined block is, and how many commands it has.
 fn tell_block(rt: &HostRuntime) -> Result<(), Failure> {
     let session = machined(rt.alloc())?;
-    let volume = known(&session) / 6;
+    let volume = known(&session, 1) / 6;
     let (behind, ahead) = (session.depth(), session.ahead());
     prove!(volume == 24 && behind == 1 && ahead == 1);
     let _ = println!(rt; "a block of volume {volume}: {behind} command to undo, {ahead} to redo");
@@ -137,7 +151,7 @@ fn tell_block(rt: &HostRuntime) -> Result<(), Failure> {
 /// Says what the parts of the longer block measure.
 fn tell_parts(rt: &HostRuntime) -> Result<(), Failure> {
     let session = parted(rt.alloc())?;
-    let (near, far) = (measured(&session, 1)?, measured(&session, 2)?);
+    let (near, far) = (known(&session, 1), known(&session, 2));
     let whole = near + far;
     let commands = session.depth();
     prove!(whole == 180 && commands == 4);

@@ -1,7 +1,7 @@
-use Rattle.std.proofs.Common.{◌≡◌, suc, ◌+◌, sym, ap, ◌∙◌, arith, rules}
-use Rattle.sweeps.specs.Model.{solid_of}
+use Rattle.std.proofs.Common.{◌≡◌, suc, ◌+◌, ap, subst, ◌∙◌, arith, rules}
 use Rattle.sweeps.specs.PlainMachine.{start, depth, held}
-use Rattle.command_laws.specs.NewFaces.{last_face}
+use Rattle.command_laws.specs.NewFaces.{last_face, IsFaceOf}
+use Rattle.machined_block.specs.Meeting.{near_side}
 use Rattle.machined_block.proofs.blank.Goals as goal
 
 begins : (c : goal.In_ok-made) → c.in_ok-session.session.machine ≡ start
@@ -17,7 +17,7 @@ pub returns-clause-side : goal.returns-clause-side
 returns-clause-side c =
     let made = rw c.in_ok-made.was at c.block-session.ensures.ok in
     let face = c.blocks_make_faces.ensures.sides c.in_ok-session.session.machine c.block-session.result.0.machine 1 _ _ _ _ 1 c.stays_consistent.ensures.held_sound made (omega arith) in
-    ap (λ g. solid_of (held c.block-session.result.0.machine) (g + 3 + 1)) (sym (no_face c)) ∙ face.solid
+    subst (λ g. IsFaceOf (held c.block-session.result.0.machine) (g + 3 + 1) 1 near_side) (no_face c) face
 
 pub returns-clause-last : goal.returns-clause-last
 returns-clause-last c =

@@ -13,6 +13,6 @@ returns-clause-volume c =
     let M : Model = held c.in_ok-session.session.machine in
     let N : Model = held c.joined-session.result.0.machine in
     let sum = rw c.in_ok-glued.was at c.joined-session.ensures.volume in
-    sum_is (six_volume M) (six_volume N) (solid_of M 4) (solid_of M 12) 1 2 c.in_ok-session.ensures.near c.in_ok-session.ensures.far sum
+    sum_is (six_volume M) (six_volume N) (solid_of M 4) (solid_of M 12) 1 2 c.in_ok-session.ensures.near.solid c.in_ok-session.ensures.far.solid sum
     ∙ ap (λ v. v +ℤ six_volume M 2) c.in_ok-session.ensures.first
     ∙ ap (λ v. pos 144 +ℤ v) c.in_ok-session.ensures.second

@@ -1,7 +1,8 @@
-use Rattle.std.proofs.Common.{suc, ◌+◌, ◌≤◌, sym, ap, subst, ◌∙◌, arith}
+use Rattle.std.proofs.Common.{suc, ◌+◌, ap, subst, ◌∙◌, arith}
 use Rattle.sweeps.specs.PlainMachine.{depth, held}
-use Rattle.sweeps.specs.Model.{solid_of}
-use Rattle.machined_block.proofs.Kept.{solid_kept}
+use Rattle.command_laws.specs.NewFaces.{IsFaceOf}
+use Rattle.machined_block.specs.Meeting.{near_side, far_side}
+use Rattle.machined_block.proofs.Kept.{face_stands}
 use Rattle.machined_block.proofs.paired.Goals as goal
 
 pub returns-clause-first : goal.returns-clause-first
@@ -17,14 +18,15 @@ returns-clause-second c =
 pub returns-clause-near : goal.returns-clause-near
 returns-clause-near c =
     let made = rw c.in_ok-made.was at c.block-session.ensures.ok in
-    let low = subst (λ g. 4 ≤ g) (sym c.in_ok-session.ensures.last) (omega arith) in
-    solid_kept c.in_ok-session.session.machine c.block-session.result.0.machine 4 (c.faces_are_kept.ensures.block c.in_ok-session.session.machine c.block-session.result.0.machine 2 _ _ _ _ made) low ∙ c.in_ok-session.ensures.side
+    let side = c.in_ok-session.ensures.side in
+    face_stands (held c.in_ok-session.session.machine) (held c.block-session.result.0.machine) 4 1 near_side side
+    (c.blocks_leave_alone.ensures.shapes c.in_ok-session.session.machine c.block-session.result.0.machine 2 _ _ _ _ c.stays_consistent.ensures.held_sound made 4 side.there tt)
 
 pub returns-clause-far : goal.returns-clause-far
 returns-clause-far c =
     let made = rw c.in_ok-made.was at c.block-session.ensures.ok in
     let face = c.blocks_make_faces.ensures.sides c.in_ok-session.session.machine c.block-session.result.0.machine 2 _ _ _ _ 3 c.stays_consistent.ensures.held_sound made (omega arith) in
-    ap (λ g. solid_of (held c.block-session.result.0.machine) (g + 3 + 3)) (sym c.in_ok-session.ensures.last) ∙ face.solid
+    subst (λ g. IsFaceOf (held c.block-session.result.0.machine) (g + 3 + 3) 2 far_side) c.in_ok-session.ensures.last face
 
 pub returns-clause-depth : goal.returns-clause-depth
 returns-clause-depth c =

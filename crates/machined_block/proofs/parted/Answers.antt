@@ -7,5 +7,8 @@ returns-clause-volume c = sym (rw c.in_ok-done.was at c.cut-session.ensures.volu
 pub returns-clause-sides : goal.returns-clause-sides
 returns-clause-sides c = rw c.in_ok-done.was at c.cut-session.ensures.sides
 
+pub returns-clause-there : goal.returns-clause-there
+returns-clause-there c = rw c.in_ok-done.was at c.cut-session.ensures.parts
+
 pub returns-clause-depth : goal.returns-clause-depth
 returns-clause-depth c = (rw c.in_ok-done.was at c.cut-session.ensures.undone).0 ∙ ap suc c.in_ok-session.ensures.depth

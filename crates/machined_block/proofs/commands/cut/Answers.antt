@@ -9,6 +9,9 @@ use Rattle.machined_block.proofs.commands.cut.Goals as goal
 pub returns-clause-volume : goal.returns-clause-volume
 returns-clause-volume c = on_ok_weaker c.split.result.1 (λ made. c.splits_are_held.ensures.volumes c.args.session.machine c.split.result.0.machine c.args.s _ c.args.t c.split.ensures.sound made) c.split.ensures.ok
 
+pub returns-clause-parts : goal.returns-clause-parts
+returns-clause-parts c = on_ok_weaker c.split.result.1 (λ made. c.splits_are_held.ensures.parts c.args.session.machine c.split.result.0.machine c.args.s _ c.args.t c.split.ensures.sound made) c.split.ensures.ok
+
 pub returns-clause-sides : goal.returns-clause-sides
 returns-clause-sides c = on_ok_weaker c.split.result.1 (λ made.
     subst (λ d. LieOnEitherSide (held c.split.result.0.machine) d c.args.s c.args.t) (to_z-of_z w64 c.args.d c.ranges.d)

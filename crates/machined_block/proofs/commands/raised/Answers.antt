@@ -9,4 +9,4 @@ pub returns-clause-undone : goal.returns-clause-undone
 returns-clause-undone c = on_ok_weaker c.sweep.result.1 (λ made. accepted_undone c.args.session.machine c.sweep.result.0.machine _ made.1) c.sweep.ensures.ok
 
 pub returns-clause-far : goal.returns-clause-far
-returns-clause-far c = on_ok_weaker c.sweep.result.1 (λ made plain. c.sweeps_make_faces.ensures.far c.args.session.machine c.sweep.result.0.machine c.args.face c.args.by c.stays_consistent.ensures.held_sound made plain) c.sweep.ensures.ok
+returns-clause-far c = on_ok_weaker c.sweep.result.1 (λ made. c.ringed_sweeps_make_faces.ensures.far c.args.session.machine c.sweep.result.0.machine c.args.face c.args.by c.stays_consistent.ensures.held_sound made) c.sweep.ensures.ok
