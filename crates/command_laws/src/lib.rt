@@ -9,20 +9,16 @@
 //! face there before a lamina, block or sweep keeps its solid and outer loop; after a glue that the first face's solid is there
 //! and the other gone, and that each other face not of the solid that goes keeps its row; the model after n undos; and when a
 //! block, a lamina, and a sweep of a face without rings are accepted. After a lamina, a block and a sweep, with rings too, each
-//! face there before is of the solid that it was, each loop has its face and its content, but for those of the face that was
-//! swept, each edge its ends, and each vertex its point; after a glue so it is with the faces that weren't of the solid that
-//! goes, but for the first face and its loop. What `counts` answers of the solid after a lamina, a block, a sweep of any face, and
-//! a glue, told from what it answered before, and that it answers of every other solid what it did. What a split leaves as it was
-//! is proved in `split_frames`; what its caps are, and what `counts` answers after it, in `split_caps`.
 //! loop there before has its face and its content, each edge its ends, each vertex its point, and so each face its solid, rings,
 //! corner points and plane, but for the face that was swept and its loops; after a glue so it is with the faces that weren't of
-//! the solid that goes, but for the first face and its loop. What a split leaves as it was is proved in `split_frames`. Not
-//! proved: the caps of a split; what `counts` answers after a command.
+//! the solid that goes, but for the first face and its loop. What `counts` answers of the solid after a lamina, a block, a sweep of
+//! any face, and a glue, told from what it answered before, and that it answers of every other solid what it did. What a split
+//! leaves as it was is proved in `split_frames`; what its caps are, and what `counts` answers after it, in `split_caps`.
 #![tactic(auto)]
 
+mod counted;
 mod frames;
 mod ringed;
-mod counted;
 
 ghost use Rattle.command_laws.specs.NewFaces.{LaminaHasTwoFaces, LaminaTakesTwoFaces, BlockHasTopAndBottom, BlockHasFourSides, BlockTakesSixFaces, SweptFaceIsFar, SidesStand};
 ghost use Rattle.command_laws.specs.Accepted.{BlocksFit, LaminasFit, SweepsFit};
@@ -30,9 +26,9 @@ ghost use Rattle.command_laws.specs.Kept.{LaminaKeepsFaces, BlockKeepsFaces, Swe
 ghost use Rattle.command_laws.specs.Places.{UndosGoBack};
 ghost use Rattle.command_laws.specs.Solids.{BlocksAreThere, LaminasAreThere, SweptAreThere, SweepsKeepSolids, GluesJoinSolids};
 
+pub use counted::{glues_join_counts, others_keep_counts, shapes_are_counted, sweeps_add_counts};
 pub use frames::{blocks_leave_alone, glues_leave_alone, laminas_leave_alone, sweeps_leave_alone};
 pub use ringed::ringed_sweeps_make_faces;
-pub use counted::{glues_join_counts, others_keep_counts, shapes_are_counted, sweeps_add_counts};
 
 /// After a lamina: the face next to the greatest before goes round its points, and the one after that the other way round.
 pub fn laminas_make_faces()

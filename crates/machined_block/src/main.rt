@@ -7,19 +7,14 @@
 //! # What is proved
 //!
 //! Of a program that calls the kernel as a stranger would, from contracts and laws alone: the block that it makes has 144 as its
-//! six volumes; a swept face adds three times its normal along the vector; the solid that comes of two glued faces has the six
-//! volumes of both; the parts of a solid cut by a plane x + d = 0 share its six volumes and lie on either side of it. After each
-//! of these undo isn't refused and gives the model before. Whatever operator is tried in a draft that is given up, the session is
-//! as it was; so at the end the block has its volume as before, with one command to undo and one to redo. The block made longer
-//! by a second one glued to it has 180; and so have its two parts once it is cut, with four commands to undo. A list of four calls
-//! in one is told what the plain machine may tell, and leads to a machine that may come of them, which is consistent.
 //! six volumes; a swept face, with rings or without, adds three times its normal along the vector, and keeps its loops with their
 //! corners moved; the solid that comes of two glued faces has the six volumes of both; the parts of a solid cut by a plane
 //! x + d = 0 are there, share its six volumes and lie on either side of it. After each of these undo isn't refused and gives the
 //! model before. Whatever operator is tried in a draft that is given up, the session is as it was; so at the end the block has
 //! its volume as before, with one command to undo and one to redo. Once a second block is made, the side of the first at which
 //! they meet still has its corners, which are those of the second one's, the other way round. The block made longer by the second
-//! one glued to it has 180; and so have its two parts once it is cut, with four commands to undo.
+//! one glued to it has 180; and so have its two parts once it is cut, with four commands to undo. A list of four calls in one is
+//! told what the plain machine may tell, and leads to a machine that may come of them, which is consistent.
 #![tactic(auto)]
 
 mod commands;
@@ -35,13 +30,11 @@ ghost use Rattle.sweeps.specs.Model.{empty_model};
 ghost use Rattle.sweeps.specs.Sound.{Has};
 
 use call_lists::Told;
-use command_laws::{blocks_make_faces, faces_are_kept, solids_are_there, undos_go_back};
-use commands::{cut, joined, known, measured, raised, tried};
-use lists::made;
 use command_laws::{
     blocks_leave_alone, blocks_make_faces, faces_are_kept, solids_are_there, undos_go_back,
 };
 use commands::{cut, joined, known, raised, tried};
+use lists::made;
 use std::alloc::Global;
 use std::process::ExitCode;
 use sweeps::{Failure, Op, Point, Session, block, block_measures};
