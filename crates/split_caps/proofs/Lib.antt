@@ -5,3 +5,4 @@ mod Steps
 mod DrawnWithin
 mod PartedWithin
 mod SplitCounts
+mod CapNormals

@@ -10,11 +10,14 @@ use Rattle.euler_operators.specs.Items.{count, IsIn}
 use Rattle.euler_operators.specs.Vectors.{cross, direction, dot, is_on, moved, origin}
 use Rattle.euler_operators.specs.Table as table
 use Rattle.euler_operators.specs.Model.{Model, FaceRow, LoopContent, content, cycle, face_of, items_of, lone, outer, point_of, rings_of, solid_of, tail}
-use Rattle.euler_operators.specs.Sound.{Sound, Has}
-use Rattle.euler_operators.specs.Conditions.{lists, strictly_rises}
+use Rattle.euler_operators.specs.Sound.{Sound, Has, HasHalf}
+use Rattle.euler_operators.specs.Conditions.{face_at, lists, strictly_rises}
 use Rattle.euler_operators.specs.Effect.{kfmrh, part}
+use Rattle.euler_operators.proofs.Halves.{mate-mate}
+use Rattle.euler_operators.specs.HalfEdge.{mate}
 use Rattle.euler_operators.proofs.Lists.{count-append, tick_other, tick_same, IsIn_or_not}
-use Rattle.euler_operators.proofs.Models.{outer_row, same_solid, solid_row}
+use Rattle.euler_operators.proofs.Vectors.{none_moved}
+use Rattle.euler_operators.proofs.Models.{mate_there, outer_row, same_solid, solid_row}
 use Rattle.euler_laws.proofs.shared.Counted.{counted_once}
 use Rattle.euler_laws.proofs.shared.Listed.{IsIn-from_listed, listed-from_in}
 use Rattle.euler_laws.proofs.shared.Rows.{face_there, solid_either}
@@ -22,28 +25,32 @@ use Rattle.shapes.specs.Faces.{boundary, corners, finish, items_in, loops_of, st
 use Rattle.shapes.specs.Measure.{area, normal}
 use Rattle.shapes.specs.Vectors.{negated}
 use Rattle.shapes.specs.split.Drawing.{Drawing}
-use Rattle.shapes.specs.split.Section.{below_halves, section_cycles}
+use Rattle.shapes.specs.split.Section.{below_halves, holes_in, is_hole, section_cycles}
 use Rattle.shapes.specs.split.Opening.{Caps, Opening, all_opened, holes_closed, hole_closed, no_caps, outer_caps}
 use Rattle.shapes.specs.split.Split.{opened_at, split_drawn, upper_left}
 use Rattle.shapes.proofs.measures.Products.{cross_moved}
 use Rattle.shapes.proofs.walks.SolidFaces.{face_of_loop}
 use Rattle.split_opening_laws.specs.sections.Capped.{HasCaps, IsPlain, cap_faces}
-use Rattle.split_opening_laws.specs.sections.InTurn.{upper_faces}
+use Rattle.split_opening_laws.specs.sections.InTurn.{CanBeOpenedInTurn, upper_faces}
+use Rattle.split_opening_laws.proofs.sections.InTurn.{all_on}
 use Rattle.split_opening_laws.proofs.sections.Capping.{caps_rise}
 use Rattle.split_laws.specs.SplitOps.{hole_ops}
-use Rattle.split_laws.specs.opened.Told.{LiesAlong}
+use Rattle.split_laws.specs.opened.Told.{AllLieAlong, LiesAlong}
 use Rattle.split_laws.specs.volumes.Laws.{CanBeSplit}
 use Rattle.split_laws.proofs.Closed as closing
 use Rattle.split_laws.proofs.Closed.{caps_counted, not_listed}
-use Rattle.split_laws.proofs.Holes.{AreClosed, holes_counted}
-use Rattle.split_laws.proofs.opened.InTurn.{openings_lie}
+use Rattle.split_laws.proofs.Flags.{flags_are}
+use Rattle.split_laws.proofs.Holes.{AreClosed, AreLevel, CanClose, can_close, holes_counted}
+use Rattle.split_laws.proofs.Closing.{CanPart}
+use Rattle.split_laws.proofs.opened.InTurn.{openings_lie, some_way}
 use Rattle.split_laws.proofs.volumes.Closed.{closing_carries}
 use Rattle.split_laws.proofs.volumes.Parted as parted
 use Rattle.split_laws.proofs.volumes.Split as split
 use Rattle.split_laws.proofs.volumes.Taken as taken
 use Rattle.split_laws.proofs.volumes.Taken.{CanTake}
-use Rattle.split_caps.specs.Capped.{IsCapOf}
-use Rattle.split_caps.proofs.OpenedCaps.{FacesApart, LiesOn, along_at, apart_at, caps_apart, outer_on, plain_at, plain_lies}
+use Rattle.split_caps.specs.Capped.{IsCapOf, area_below, sum_of}
+use Rattle.split_caps.proofs.CapNormals.{both_opposite, closed_normals, lowers, normals_are, one_outer, outer_is, told_at, told_filtered, uppers}
+use Rattle.split_caps.proofs.OpenedCaps.{AllFaceApart, FacesApart, LiesOn, along_at, apart_at, caps_apart, outer_on, plain_at, plain_lies}
 
 -- a vertex on some loops is on one of them
 on_one : (M : Model) (ls : List ℕ) (v : ℕ) → IsIn v (vertices_in M ls) → (l : ℕ) × IsIn l ls × IsIn v (vertices_on M (content M l))
@@ -268,27 +275,159 @@ module _ (d : Drawing) (above : List ℕ) (s : ℕ) (p : Plane) (t : ℕ) (w : C
   pub both_gone : k.hole ≡ true → (table.has P.faces k.lower ≡ false) × (table.has P.faces k.upper ≡ false)
   both_gone e = (gone e k.lower (omega (arith, tick_same k.lower)), gone e k.upper (omega (arith, tick_same k.upper)))
 
-  -- ---- without holes
+-- ---- some of the caps
 
-  module _ (none : filter (λ k. k.hole) ks ≡ []) where
-    nothing_closed : K ≡ X.model
-    nothing_closed = ap (λ hs. fold (hole_closed (outer_caps ks)) X.model hs) none
+level_of : (us : List ℕ) (ks : List Caps) → ((j : ℕ) → j < length ks → let k = get_or ks j no_caps in (lists us k.lower ≡ false) × (lists us k.upper ≡ true)) → AreLevel us ks
+level_of us [] each = tt
+level_of us (k ∷ ks) each = let e = each 0 (omega arith) in (e.0, e.1, level_of us ks (λ j l. each (suc j) (omega (arith, l))))
 
-    normal_kept : (f : ℕ) → Has X.model.faces f → normal P f ≡ normal X.model f
-    normal_kept f there = part_normal K s t us f (ap (λ A. table.has A.faces f) nothing_closed ∙ there) ∙ ap (λ A. normal A f) nothing_closed
+holes_along : (M : Model) (p : Plane) (ks : List Caps) → AllLieAlong M p ks → AllLieAlong M p (filter (λ k. k.hole) ks)
+holes_along M p [] a = tt
+holes_along M p (k ∷ ks) a = go k.hole (holes_along M p ks a.2) where
+  go : (b : Bool) → AllLieAlong M p (filter (λ k. k.hole) ks) → AllLieAlong M p (cond b (k ∷ filter (λ k. k.hole) ks) (filter (λ k. k.hole) ks))
+  go true r = (a.0, a.1, r)
+  go false r = r
 
-    no_hole : k.hole ≡ false
-    no_hole = go k.hole refl where
-      go : (b : Bool) → k.hole ≡ b → b ≡ false
-      go false e = refl
-      go true e = absurd (omega (arith, hole_in k.lower ks i l e, tick_same k.lower, ap (λ hs. count k.lower (cap_faces hs)) none))
+holes_apart : (M : Model) (p : Plane) (ks : List Caps) → AllFaceApart M p ks → AllFaceApart M p (filter (λ k. k.hole) ks)
+holes_apart M p [] a = tt
+holes_apart M p (k ∷ ks) a = go k.hole (holes_apart M p ks a.1) where
+  go : (b : Bool) → AllFaceApart M p (filter (λ k. k.hole) ks) → AllFaceApart M p (cond b (k ∷ filter (λ k. k.hole) ks) (filter (λ k. k.hole) ks))
+  go true r = (a.0, r)
+  go false r = r
 
-    pub faces_apart : (int_lt (dot (normal P k.lower) (direction p)) (pos 0) ≡ false) × (normal P k.upper ≡ negated (normal P k.lower))
-    faces_apart =
-        let a = apart_at X.model p ks i l (caps_apart above s p begun cycles w.opens bare tt) in (
-          ap (λ v. int_lt (dot v (direction p)) (pos 0)) (normal_kept k.lower plain.0.there) ∙ sym a.told ∙ no_hole,
-          normal_kept k.upper plain.1.there ∙ a.opposite ∙ ap negated (sym (normal_kept k.lower plain.0.there)),
+opposite_sums : (M : Model) (p : Plane) (ks : List Caps) → AllFaceApart M p ks → sum_of (uppers M ks) ≡ negated (sum_of (lowers M ks))
+opposite_sums M p [] a = refl
+opposite_sums M p (k ∷ ks) a = both_opposite (normal M k.lower) (sum_of (lowers M ks)) (normal M k.upper) (sum_of (uppers M ks)) a.0.opposite (opposite_sums M p ks a.1)
+
+-- ---- normals
+
+module _ (d : Drawing) (above : List ℕ) (s : ℕ) (p : Plane) (t : ℕ) (w : CanBeSplit d above s p t) (i : ℕ) (l : i < length (opened_at d above s p).caps) where
+  abbrev started : Opening
+  started = record { model = d.model; taken = d.taken; caps = [] }
+
+  abbrev round : List (List ℕ)
+  round = section_cycles d.model (below_halves d.model above s)
+
+  abbrev Y : Opening
+  Y = opened_at d above s p
+
+  abbrev all : List Caps
+  all = Y.caps
+
+  abbrev Z : Model
+  Z = holes_closed Y.model all
+
+  abbrev listed : List ℕ
+  listed = upper_faces above all
+
+  abbrev Q : Model
+  Q = part Z s t listed
+
+  abbrev one : Caps
+  one = get_or all i no_caps
+
+  abbrev holes : List Caps
+  holes = filter (λ k. k.hole) all
+
+  simple : IsPlain Y.model s one.lower × IsPlain Y.model s one.upper
+  simple = plain d above s p t w i l
+
+  opened : CanBeOpenedInTurn above s Y []
+  opened = all_on above s p started round w.opens
+
+  all_apart : AllFaceApart Y.model p all
+  all_apart = caps_apart above s p started round w.opens (bare d above s p t w i l) tt
+
+  all_along : AllLieAlong Y.model p all
+  all_along = openings_lie above s p started round w.opens (bare d above s p t w i l) tt w.lie_on
+
+  -- the flags and the normals of the caps below, by the cycles
+  flags : map (λ k. k.hole) all ≡ map (is_hole d.model p) round
+  flags = flags_are above s p started round w.opens
+
+  areas : lowers Y.model all ≡ map (area_below d.model) round
+  areas = normals_are above s p started round w.opens (bare d above s p t w i l)
+
+  no_hole : one.hole ≡ false → is_hole d.model p (get_or round i []) ≡ false
+  no_hole e = sym (flag_at all round i l flags) ∙ e where
+    flag : {a b : Bool} {xs ys : List Bool} → a ∷ xs ≡ b ∷ ys → (a ≡ b) × (xs ≡ ys)
+    flag e = (cc, cc)
+
+    no_flag : {a : Bool} {xs : List Bool} → a ∷ xs ≡ [] → ⊥
+    no_flag e = cc
+
+    flag_at : (ks : List Caps) (cs : List (List ℕ)) (i : ℕ) → i < length ks → map (λ k. k.hole) ks ≡ map (is_hole d.model p) cs → (get_or ks i no_caps).hole ≡ is_hole d.model p (get_or cs i [])
+    flag_at [] cs i l e = absurd (omega (arith, l))
+    flag_at (k ∷ ks) [] i l e = absurd (no_flag e)
+    flag_at (k ∷ ks) (c ∷ cs) zero l e = (flag e).0
+    flag_at (k ∷ ks) (c ∷ cs) (suc i) l e = flag_at ks cs i (omega (arith, l)) (flag e).1
+
+  -- no edge lies between an upper face and another
+  never_across : (x : ℕ) → HasHalf Y.model x → lists listed (face_at Y.model x) ≡ false → lists listed (face_at Y.model (mate x)) ≡ true → ⊥
+  never_across x there f g = absurd (omega (arith, opened.between.only x there f g))
+
+  whole : (x : ℕ) → HasHalf Y.model x → lists listed (face_at Y.model x) ≡ lists listed (face_at Y.model (mate x))
+  whole x there = go (lists listed (face_at Y.model x)) (lists listed (face_at Y.model (mate x))) refl refl where
+    go : (a b : Bool) → lists listed (face_at Y.model x) ≡ a → lists listed (face_at Y.model (mate x)) ≡ b → lists listed (face_at Y.model x) ≡ lists listed (face_at Y.model (mate x))
+    go true true e f = e ∙ sym f
+    go false false e f = e ∙ sym f
+    go false true e f = absurd (never_across x there e f)
+    go true false e f = absurd (never_across (mate x) (mate_there Y.model x there) f (ap (λ y. lists listed (face_at Y.model y)) (mate-mate x) ∙ e))
+
+  can_part : CanPart Y.model s listed
+  can_part = record { sound = opened.sound; of_solid = λ f l there. opened.upper_of_solid f l; whole = whole }
+
+  can_take : length holes < length all → CanClose Y.model s listed (outer_caps all) holes
+  can_take less = can_close Y.model s listed all can_part (caps d above s p t w i l).plain (λ x. omega (arith, once d above s p t w i l x))
+      (level_of listed all (λ j m. (lower_unlisted d above s p t w j m, upper_listed d above s p t w j m))) less
+
+  -- what the caps of an outer cycle have once the holes are closed
+  abbrev HaveNormals : Caps → Type 0
+  HaveNormals c = (normal Z c.lower ≡ moved (sum_of (lowers Y.model holes)) (normal Y.model c.lower)) × (normal Z c.upper ≡ moved (sum_of (uppers Y.model holes)) (normal Y.model c.upper))
+
+  have_normals : one.hole ≡ false → HaveNormals one
+  have_normals e = go holes refl where
+    go : (hs : List Caps) → holes ≡ hs → HaveNormals one
+    go [] none =
+        let same : Z ≡ Y.model = ap (λ hs. fold (hole_closed (outer_caps all)) Y.model hs) none in (
+          ap (λ A. normal A one.lower) same ∙ sym (none_moved (normal Y.model one.lower)) ∙ ap (λ hs. moved (sum_of (lowers Y.model hs)) (normal Y.model one.lower)) (sym none),
+          ap (λ A. normal A one.upper) same ∙ sym (none_moved (normal Y.model one.upper)) ∙ ap (λ hs. moved (sum_of (uppers Y.model hs)) (normal Y.model one.upper)) (sym none),
         )
+    go (h ∷ hs) some =
+        let count = one_outer d.model p round all flags w.no_stray (subst (λ xs. 0 < length xs) (sym some) (omega arith)) in
+        let is : outer_caps all ≡ one = outer_is all i l e count in
+        let straight = along d above s p t w i l in
+        subst HaveNormals is (closed_normals Y.model s listed p (outer_caps all) holes (can_take (omega (arith, count))) (some_way p w.lie_on.some_way)
+        (subst (λ o. LiesAlong Y.model p o.lower) (sym is) straight.0) (subst (λ o. LiesAlong Y.model p o.upper) (sym is) straight.1) (holes_along Y.model p all all_along))
+
+  parted_normal : (f : ℕ) → one.hole ≡ false → 1 ≤ count f (one.lower ∷ one.upper ∷ []) → Has Y.model.faces f → normal Q f ≡ normal Z f
+  parted_normal f e j there = part_normal Z s t listed f (ap is_some (cap_row d above s p t w i l e f j) ∙ there)
+
+  pub normals_told : one.hole ≡ false → (is_hole d.model p (get_or round i []) ≡ false) × (normal Q one.lower ≡ moved (sum_of (map (area_below d.model) (holes_in d.model p round))) (area_below d.model (get_or round i []))) × (normal Q one.upper ≡ negated (normal Q one.lower))
+  normals_told e =
+      let h = have_normals e in
+      let low = parted_normal one.lower e (omega (arith, tick_same one.lower)) simple.0.there in
+      let up = parted_normal one.upper e (omega (arith, tick_same one.upper)) simple.1.there in
+      let hole_areas = told_filtered (λ k. normal Y.model k.lower) (area_below d.model) (is_hole d.model p) all round areas flags in (
+        no_hole e,
+        low ∙ h.0 ∙ (λ j. moved (sum_of (hole_areas j)) (told_at (λ k. normal Y.model k.lower) (area_below d.model) all round i l areas j)),
+        up ∙ h.1 ∙ both_opposite (sum_of (lowers Y.model holes)) (normal Y.model one.lower) (sum_of (uppers Y.model holes)) (normal Y.model one.upper)
+            (opposite_sums Y.model p holes (holes_apart Y.model p all all_apart)) (apart_at Y.model p all i l all_apart).opposite ∙ ap negated (sym h.0 ∙ sym low),
+      )
+
+  -- without holes
+  module _ (none : filter (λ k. k.hole) (opened_at d above s p).caps ≡ []) where
+    own_flag : one.hole ≡ false
+    own_flag = go one.hole refl where
+      go : (b : Bool) → one.hole ≡ b → b ≡ false
+      go false e = refl
+      go true e = absurd (omega (arith, hole_in one.lower all i l e, tick_same one.lower, ap (λ hs. count one.lower (cap_faces hs)) none))
+
+    pub faces_apart : (int_lt (dot (normal Q one.lower) (direction p)) (pos 0) ≡ false) × (normal Q one.upper ≡ negated (normal Q one.lower))
+    faces_apart =
+        let a = apart_at Y.model p all i l all_apart in
+        let low = parted_normal one.lower own_flag (omega (arith, tick_same one.lower)) simple.0.there ∙ (have_normals own_flag).0 ∙ ap (λ hs. moved (sum_of (lowers Y.model hs)) (normal Y.model one.lower)) none ∙ none_moved (normal Y.model one.lower) in
+        (ap (λ v. int_lt (dot v (direction p)) (pos 0)) low ∙ sym a.told ∙ own_flag, (normals_told own_flag).2)
 
 -- ---- the split's model
 

@@ -1,19 +1,20 @@
-use Rattle.std.proofs.Common.{◌≡◌, ℕ, ◌<◌, [], true, false, List, length, refl, sym, ap, subst, ◌∙◌}
+use Rattle.std.proofs.Common.{◌≡◌, ℕ, ◌<◌, [], true, false, List, get_or, length, map, refl, sym, ap, subst, ◌∙◌}
 use Rattle.std.specs.Prelude.{int_lt, pos}
 use Rattle.euler_operators.specs.declared.Plane.{Plane}
 use Rattle.euler_operators.specs.Effect.{part}
 use Rattle.euler_operators.specs.Model.{Model}
 use Rattle.euler_operators.specs.Sound.{Sound}
 use Rattle.euler_operators.specs.Table as table
-use Rattle.euler_operators.specs.Vectors.{direction, dot}
+use Rattle.euler_operators.specs.Vectors.{direction, dot, moved}
 use Rattle.undo_journal.specs.Machine.{Machine}
 use Rattle.plane_split.specs.Held.{IsSplit}
 use Rattle.shapes.specs.Measure.{normal}
 use Rattle.shapes.specs.Vectors.{negated}
+use Rattle.shapes.specs.split.Section.{holes_in, is_hole}
 use Rattle.shapes.specs.split.Split.{opened_at, split_model}
 use Rattle.split_opening_laws.specs.sections.InTurn.{upper_faces}
 use Rattle.split_laws.specs.volumes.Laws.{CanBeSplit}
-use Rattle.split_caps.specs.Laws.{CapsAreNumbered, CapsStand, HolesAreClosed, CapsFaceApart}
+use Rattle.split_caps.specs.Laws.{CapsAreNumbered, CapsFaceApart, CapsHaveNormals, CapsStand, HolesAreClosed}
 use Rattle.undo_journal.specs.Machine.{held}
 use Rattle.shapes.specs.split.Sides.{faces_above}
 use Rattle.shapes.specs.split.Drawing.{Drawing, with_drawings}
@@ -22,9 +23,9 @@ use Rattle.split_laws.proofs.drawn.Drawn.{can_open_all}
 use Rattle.split_laws.proofs.measures.Splittable.{can_be_split}
 use Rattle.split_laws.proofs.Whole.{split_sound}
 use Rattle.shapes.specs.split.Opening.{Opening, holes_closed}
-use Rattle.split_caps.specs.Capped.{IsCapOf, cap, cycles_of}
+use Rattle.split_caps.specs.Capped.{IsCapOf, area_below, cap, cycles_of, sum_of}
 use Rattle.split_caps.proofs.OpenedCaps.{lowers_are, uppers_are}
-use Rattle.split_caps.proofs.PartCaps.{both_caps, both_gone, faces_apart, split_is}
+use Rattle.split_caps.proofs.PartCaps.{both_caps, both_gone, faces_apart, normals_told, split_is}
 
 pub caps_are_numbered : CapsAreNumbered
 caps_are_numbered before after s p t sound made =
@@ -72,6 +73,15 @@ holes_are_closed before after s p t i sound made l hole =
     let d = with_drawings (held before) s p in
     subst (λ A. (table.has A.faces k.lower ≡ false) × (table.has A.faces k.upper ≡ false)) (sym (after_is before after s p t sound made))
     (both_gone d (faces_above d.model p s) s p t (can before after s p t sound made) i l hole)
+
+pub caps_have_normals : CapsHaveNormals
+caps_have_normals before after s p t i sound made l outer =
+    let k = cap (held before) s p i in
+    let d = with_drawings (held before) s p in
+    let cs = cycles_of (held before) s p in
+    subst (λ A. (is_hole d.model p (get_or cs i []) ≡ false) × (normal A k.lower ≡ moved (sum_of (map (area_below d.model) (holes_in d.model p cs))) (area_below d.model (get_or cs i []))) × (normal A k.upper ≡ negated (normal A k.lower)))
+    (sym (after_is before after s p t sound made))
+    (normals_told d (faces_above d.model p s) s p t (can before after s p t sound made) i l outer)
 
 pub caps_face_apart : CapsFaceApart
 caps_face_apart before after s p t i sound made l none =

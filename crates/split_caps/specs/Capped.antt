@@ -1,12 +1,14 @@
 -- The caps of a split: two faces for each cycle of its section, one by which the part below is closed, and one for the part above.
-use Rattle.std.specs.Prelude.{◌≡◌, ℕ, ◌+◌, true, List, [], ◌∷◌, length, get_or}
+use Rattle.std.specs.Prelude.{◌≡◌, ℕ, ◌+◌, true, List, [], ◌∷◌, map, length, get_or}
 use Rattle.euler_operators.specs.declared.Plane.{Plane}
-use Rattle.euler_operators.specs.Vectors.{origin, cross, direction, is_on}
+use Rattle.euler_operators.specs.declared.Point.{Point}
+use Rattle.euler_operators.specs.HalfEdge.{mate}
+use Rattle.euler_operators.specs.Vectors.{origin, moved, cross, direction, is_on}
 use Rattle.euler_operators.specs.Model.{Model, point_of, solid_of}
 use Rattle.euler_operators.specs.Sound.{Has}
 use Rattle.euler_operators.specs.Conditions.{lists}
 use Rattle.shapes.specs.Faces.{corners}
-use Rattle.shapes.specs.Measure.{normal}
+use Rattle.shapes.specs.Measure.{area, normal}
 use Rattle.shapes.specs.split.Sides.{faces_above}
 use Rattle.shapes.specs.split.Drawing.{with_drawings}
 use Rattle.shapes.specs.split.Section.{below_halves, section_cycles}
@@ -39,3 +41,11 @@ pub record IsCapOf (M : Model) (p : Plane) (s f : ℕ) : Type 0 where
   pub solid : solid_of M f ≡ s
   pub on_plane : (v : ℕ) → lists (corners M f) v ≡ true → is_on p (point_of M v) ≡ true
   pub across : cross (direction p) (normal M f) ≡ origin
+
+-- the area round a cycle, as its cap below goes round it, and the sum of some vectors
+abbrev pub area_below : Model → List ℕ → Point
+area_below M bs = area M (map mate bs)
+
+abbrev pub sum_of : List Point → Point
+sum_of [] = origin
+sum_of (v ∷ vs) = moved v (sum_of vs)

@@ -1,16 +1,16 @@
 -- What the caps are after a split that was answered Ok.
-use Rattle.std.specs.Prelude.{◌≡◌, ℕ, ◌<◌, pos, int_lt, true, false, List, [], map, filter, length}
+use Rattle.std.specs.Prelude.{◌≡◌, ℕ, ◌<◌, pos, int_lt, true, false, List, [], map, filter, length, get_or}
 use Rattle.euler_operators.specs.declared.Plane.{Plane}
-use Rattle.euler_operators.specs.Vectors.{dot, direction}
+use Rattle.euler_operators.specs.Vectors.{moved, dot, direction}
 use Rattle.euler_operators.specs.Table as table
 use Rattle.euler_operators.specs.Sound.{Sound}
 use Rattle.shapes.specs.Vectors.{negated}
 use Rattle.shapes.specs.Measure.{normal}
 use Rattle.shapes.specs.split.Drawing.{with_drawings}
-use Rattle.shapes.specs.split.Section.{is_hole}
+use Rattle.shapes.specs.split.Section.{is_hole, holes_in}
 use Rattle.undo_journal.specs.Machine.{Machine, held}
 use Rattle.plane_split.specs.Held.{IsSplit}
-use Rattle.split_caps.specs.Capped.{cycles_of, caps_of, cap, lower_numbers, upper_numbers, IsCapOf}
+use Rattle.split_caps.specs.Capped.{cycles_of, caps_of, cap, lower_numbers, upper_numbers, IsCapOf, area_below, sum_of}
 
 -- each cycle has two caps, numbered on from the last face that was drawn, and they are a hole's where the cycle is one
 abbrev pub CapsAreNumbered : Type 0
@@ -27,6 +27,14 @@ CapsStand = (before after : Machine) (s : ℕ) (p : Plane) (t i : ℕ) → Sound
 abbrev pub HolesAreClosed : Type 0
 HolesAreClosed = (before after : Machine) (s : ℕ) (p : Plane) (t i : ℕ) → Sound (held before) → IsSplit before after s p t → i < length (caps_of (held before) s p) →
     let k = cap (held before) s p i in k.hole ≡ true → (table.has (held after).faces k.lower ≡ false) × (table.has (held after).faces k.upper ≡ false)
+
+-- the normal of a cap below is the area round its cycle, which is no hole, and those round the holes of the section, which point the
+-- other way. The cap above has the opposite normal
+abbrev pub CapsHaveNormals : Type 0
+CapsHaveNormals = (before after : Machine) (s : ℕ) (p : Plane) (t i : ℕ) → Sound (held before) → IsSplit before after s p t → i < length (caps_of (held before) s p) →
+    let k = cap (held before) s p i in k.hole ≡ false →
+    let D = (with_drawings (held before) s p).model in let cs = cycles_of (held before) s p in let bs = get_or cs i [] in let N = held after in
+    (is_hole D p bs ≡ false) × (normal N k.lower ≡ moved (sum_of (map (area_below D) (holes_in D p cs))) (area_below D bs)) × (normal N k.upper ≡ negated (normal N k.lower))
 
 -- in a section without holes no cap below points against the plane's direction, and the cap above is its opposite
 abbrev pub CapsFaceApart : Type 0

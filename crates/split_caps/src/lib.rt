@@ -5,15 +5,16 @@
 //!
 //! Of a session after a split answered Ok: the numbers of the two caps of each cycle of the section, and which are those of holes; the
 //! caps of each outer cycle are faces of the part below and of the part above, all their corners, those of their rings too, lie on
-//! the plane, and their normals lie along its direction; those of holes are no faces any more. In a section without holes the cap
-//! below doesn't point against the plane's direction, and the cap above has the opposite normal. What `counts` answers of the two parts
-//! together, told from what it answered of the solid and from how many vertices, edges, faces and rings the session holds more;
-//! `v - e + f - r`, told from the cycles of the section and its holes; and that it answers of every other solid what it did. Not
-//! proved: which way the caps of a section with holes point; what each part counts alone.
+//! the plane, and their normals lie along its direction; those of holes are no faces any more. The normal of the cap below is the area
+//! round its cycle, which doesn't point against the plane's direction, and those round the holes, which do; the cap above has the
+//! opposite normal. What `counts` answers of the two parts together, told from what it answered of the solid and from how many
+//! vertices, edges, faces and rings the session holds more; `v - e + f - r`, told from the cycles of the section and its holes; and
+//! that it answers of every other solid what it did. Not proved: that the holes of a section have less area than its outer cycle, so
+//! that the cap below points along the direction then too; what each part counts alone.
 #![tactic(auto)]
 
 ghost use Rattle.split_caps.specs.Counted.{SplitSharesCounts, SplitSharesSums, SplitKeepsCounts};
-ghost use Rattle.split_caps.specs.Laws.{CapsAreNumbered, CapsStand, HolesAreClosed, CapsFaceApart};
+ghost use Rattle.split_caps.specs.Laws.{CapsAreNumbered, CapsStand, HolesAreClosed, CapsHaveNormals, CapsFaceApart};
 
 /// Each cycle of the section has two caps, numbered on from the last face that was drawn.
 pub fn caps_are_numbered()
@@ -26,9 +27,11 @@ pub fn caps_close_the_parts()
     ensures holes { HolesAreClosed }
 {}
 
-/// In a section without holes the cap below points along the plane's direction, if it has an area, and the cap above against it.
+/// The cap below has the area round its cycle and those round the holes, and the cap above is its opposite. So in a section without holes
+/// the cap below points along the plane's direction, if it has an area, and the cap above against it.
 pub fn caps_face_apart()
-    ensures { CapsFaceApart }
+    ensures normals { CapsHaveNormals }
+    ensures plain { CapsFaceApart }
 {}
 
 /// The two parts together have the vertices, edges, faces and rings of the solid and those that the split made. Their `v - e + f - r`
