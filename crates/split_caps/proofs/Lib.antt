@@ -6,3 +6,4 @@ mod DrawnWithin
 mod PartedWithin
 mod SplitCounts
 mod CapNormals
+mod Sizes

@@ -7,18 +7,23 @@ use Rattle.euler_operators.specs.declared.Op.{Op}
 use Rattle.euler_operators.specs.declared.Op.TheVariants.{Kef, Part}
 use Rattle.euler_operators.specs.HalfEdge.{half, minus}
 use Rattle.euler_operators.specs.declared.Plane.{Plane}
+use Rattle.euler_operators.specs.Items.{IsIn}
 use Rattle.euler_operators.specs.Table as table
 use Rattle.euler_operators.specs.Model.{Model, faces_of, is_ring_of, loop_of, solid_of}
 use Rattle.euler_operators.specs.Sound.{Sound, Has}
 use Rattle.euler_operators.specs.Conditions.{face_at, lists, strictly_rises}
 use Rattle.euler_operators.specs.Effect.{effect, part}
+use Rattle.euler_operators.proofs.Members.{count-filter}
+use Rattle.euler_operators.proofs.Models.{number_real}
+use Rattle.euler_laws.proofs.shared.Counted.{all_where_has}
 use Rattle.euler_laws.specs.Laws.{AreAccepted, all_rings, effects, euler_number, growth, size}
 use Rattle.euler_laws.proofs.Cases.{effect_keeps_sound}
 use Rattle.euler_laws.proofs.Growth.{grows}
 use Rattle.euler_laws.proofs.Sizes.{loops_are}
 use Rattle.shapes.specs.Faces.{edges_of, vertices_of}
 use Rattle.shapes.specs.Fresh.{Growing, Taken, growing, numbers_after}
-use Rattle.shapes.specs.split.Sides.{crossing_edges, faces_above}
+use Rattle.shapes.specs.split.Places.{pair_count}
+use Rattle.shapes.specs.split.Sides.{crossing_edges, faces_above, straddles, straddling_faces}
 use Rattle.shapes.specs.split.Crossings.{next_cut, with_crossings}
 use Rattle.shapes.specs.split.Drawing.{Drawing, FacePairs, all_drawn, all_joined, draw_next, in_one_loop, join_next, next_drawn, ring_free, rings_above, straddling_pairs, undrawn, with_drawings}
 use Rattle.shapes.specs.split.Section.{below_halves, section_cycles}
@@ -26,6 +31,12 @@ use Rattle.shapes.specs.split.Opening.{Caps, Opening, holes_closed, next_opened,
 use Rattle.shapes.specs.split.Split.{opened_at, upper_left}
 use Rattle.solid_measure.specs.solid_counts.Counts.{counts, rings_in, tally_of}
 use Rattle.split_drawing_laws.specs.crossings.CrossingOps.{crossing_ops}
+use Rattle.split_drawing_laws.specs.crossings.Laws.{CanBegin}
+use Rattle.split_drawing_laws.specs.drawings.Laws.{CanBeDrawn}
+use Rattle.split_drawing_laws.proofs.crossings.Whole.{crossings_accepted, crossings_made}
+use Rattle.split_drawing_laws.proofs.drawings.Counted.{faces_are, pairs_counted}
+use Rattle.split_drawing_laws.proofs.drawings.Whole.{drawable}
+use Rattle.split_drawing_laws.proofs.pairs.Whole.{can_be_drawn}
 use Rattle.split_drawing_laws.specs.crossings.CrossingOps as crossings
 use Rattle.split_drawing_laws.specs.drawings.DrawingOps as drawings
 use Rattle.split_drawing_laws.specs.drawings.DrawingOps.{draw_ops, drawing_ops, face_ops, join_ops, join_pair, ring_ops, share_ops}
@@ -33,7 +44,7 @@ use Rattle.split_opening_laws.specs.caps.CapOps.{cap_ops, joinings, partings}
 use Rattle.split_opening_laws.specs.opening.OpeningOps.{opening_ops}
 use Rattle.split_opening_laws.specs.strips.StripOps.{copy_ops, strip_ops}
 use Rattle.split_opening_laws.specs.sections.Capped.{HasCaps}
-use Rattle.split_opening_laws.specs.sections.InTurn.{CanBeOpenedInTurn, upper_faces}
+use Rattle.split_opening_laws.specs.sections.InTurn.{CanBeOpenedInTurn, halves_in, upper_faces}
 use Rattle.split_opening_laws.proofs.sections.Capping.{caps_rise}
 use Rattle.split_opening_laws.proofs.sections.InTurn.{all_on}
 use Rattle.split_laws.specs.SplitOps.{closing_ops, hole_ops, later_ops, openings_ops, ops_above, split_ops, upper_ops}
@@ -42,15 +53,16 @@ use Rattle.split_laws.proofs.Closed as closing
 use Rattle.split_laws.proofs.Holes.{AreClosed}
 use Rattle.split_laws.proofs.OldFaces.{solids_still}
 use Rattle.split_laws.proofs.Whole.{split_accepted, split_made}
-use Rattle.split_laws.proofs.drawn.Drawn.{begins}
+use Rattle.split_laws.proofs.drawn.Drawn.{begins, drawn_stays, never_stuck}
 use Rattle.split_laws.proofs.measures.Splittable.{can_be_split}
 use Rattle.undo_journal.specs.Machine.{Machine, held}
 use Rattle.plane_split.specs.Held.{IsSplit}
 use Rattle.command_laws.proofs.Owners.{Agree, agree_on, faces_many, is_either, is_of, loops_many, many_either, more_edges, more_faces, more_loops, more_vertices, not_either, others_kept, solid_of_edge, solid_of_loop, solid_of_vertex, vertices_many}
 use Rattle.split_caps.specs.Capped.{caps_of, cycles_of}
-use Rattle.split_caps.specs.Counted.{SplitKeepsCounts, SplitSharesCounts, SplitSharesSums}
+use Rattle.split_caps.specs.Counted.{SplitKeepsCounts, SplitMakesCounts, SplitSharesCounts, SplitSharesSums}
 use Rattle.split_caps.proofs.DrawnWithin.{drawings_within, within_on}
 use Rattle.split_caps.proofs.PartedWithin.{holes_within, openings_within}
+use Rattle.split_caps.proofs.Sizes.{cuts_make, faces_make, holes_keep, openings_make, part_keeps}
 use Rattle.split_caps.proofs.Steps.{Within, part_agrees}
 use Rattle.split_caps.proofs.Whole.{after_is, after_sound}
 
@@ -299,3 +311,78 @@ split_shares_sums before after s p t sound made =
     let is : held after ≡ effects M (split_ops M s p t) = ap held made.1 ∙ sym (split_made M s p t sound made.0) in
     summed M (held after) s t (2 * length (cycles_of M s p)) (4 * length (filter (λ k. k.hole) (caps_of M s p))) (split_shares_counts before after s p t sound made)
     (ap euler_number is ∙ run_grows M (split_ops M s p t) sound (split_accepted M s p t sound made.0) ∙ ap (λ z. euler_number M +ℤ z) (split_total M s p t))
+
+-- ---- how many vertices and edges more there are
+
+module _ (before after : Machine) (s : ℕ) (p : Plane) (t : ℕ) (sound : Sound (held before)) (made : IsSplit before after s p t) where
+  abbrev B : Model
+  B = held before
+
+  abbrev C : Model
+  C = (with_crossings B s p).model
+
+  abbrev D : Model
+  D = (with_drawings B s p).model
+
+  start : CanBegin B s p t
+  start = begins B s p t sound made.0
+
+  can_draw : CanBeDrawn (with_crossings B s p) (straddling_pairs B s p)
+  can_draw = can_be_drawn B s p t sound start
+
+  -- the edges that cross the plane cut
+  cut_run : let N = effects B (crossing_ops B s p) in (size N.vertices ≡ size B.vertices + length (crossing_edges B p s)) × (size N.edges ≡ size B.edges + length (crossing_edges B p s))
+  unfolding crossing_ops
+  cut_run = cuts_make B p (growing B) (crossing_edges B p s) (crossings_accepted B s p t sound start)
+
+  cut : (size C.vertices ≡ size B.vertices + length (crossing_edges B p s)) × (size C.edges ≡ size B.edges + length (crossing_edges B p s))
+  cut = subst (λ N. (size N.vertices ≡ size B.vertices + length (crossing_edges B p s)) × (size N.edges ≡ size B.edges + length (crossing_edges B p s))) (crossings_made B s p t sound start) cut_run
+
+  -- the faces that straddle drawn
+  straddler : (f : ℕ) → IsIn f (map (λ q. q.face) (straddling_pairs B s p)) → f ≢ 0
+  straddler f i =
+      let w = all_where_has (λ _ row. nat_eq row.solid s) B.faces f (omega (arith, subst (IsIn f) (faces_are B C p (straddling_faces B p s)) i, count-filter (straddles B p) f (faces_of B s))) in
+      number_real f (sound.faces_fit f (ap is_some w.1))
+
+  drawn : size D.edges ≡ size C.edges + pair_count B p (straddling_faces B p s)
+  unfolding with_drawings
+  drawn = faces_make p (undrawn (with_crossings B s p)) (straddling_pairs B s p) 0 (drawable (with_crossings B s p) (straddling_pairs B s p) can_draw) straddler (never_stuck B s p t sound made.0)
+      ∙ ap (λ n. size C.edges + n) (pairs_counted B C p (straddling_faces B p s))
+
+  grown : (size (held after).vertices ≡ size B.vertices + length (crossing_edges B p s) + length (halves_in (cycles_of B s p)))
+      × (size (held after).edges ≡ size B.edges + length (crossing_edges B p s) + pair_count B p (straddling_faces B p s) + length (halves_in (cycles_of B s p)))
+  grown =
+      let is = after_is before after s p t sound made in
+      let X = opened_at (with_drawings B s p) (faces_above D p s) s p in
+      let K = holes_closed X.model X.caps in
+      let parted = part_keeps K s t (upper_faces (faces_above D p s) X.caps) in
+      let closed = holes_keep (outer_caps X.caps) X.model (filter (λ k. k.hole) X.caps) in
+      let opens = openings_make (faces_above D p s) s p (record { model = D; taken = (with_drawings B s p).taken; caps = [] }) (cycles_of B s p) (can_be_split B s p t sound made.0).opens in (
+        ap (λ N. size N.vertices) is ∙ ap size (parted.0 ∙ closed.0) ∙ opens.0 ∙ ap (λ n. n + length (halves_in (cycles_of B s p))) (ap size (drawn_stays B s p t sound made.0).vertices ∙ cut.0),
+        ap (λ N. size N.edges) is ∙ ap size (parted.1 ∙ closed.1) ∙ opens.1 ∙ ap (λ n. n + length (halves_in (cycles_of B s p))) (drawn ∙ ap (λ n. n + pair_count B p (straddling_faces B p s)) cut.1),
+      )
+
+-- what the three equations say of numbers
+made_of : (M N : Model) (s t cut drawn round cycles holes : ℕ) → Shares M N s t → (counts N s).sum +ℤ (counts N t).sum ≡ (counts M s).sum +ℤ pos (2 * cycles) -ℤ pos (4 * holes) →
+    size N.vertices ≡ size M.vertices + cut + round → size N.edges ≡ size M.edges + cut + drawn + round → let a = counts M s in let b = counts N s in let c = counts N t in
+    (b.v + c.v ≡ a.v + cut + round) × (b.e + c.e ≡ a.e + cut + drawn + round) × (b.f + c.f + a.r + 4 * holes ≡ a.f + b.r + c.r + drawn + 2 * cycles)
+unfolding counts
+made_of M N s t cut drawn round cycles holes w sums vs es =
+    let v : length (vertices_of N s) + length (vertices_of N t) ≡ length (vertices_of M s) + cut + round = omega (arith, w.0, vs) in
+    let e : length (edges_of N s) + length (edges_of N t) ≡ length (edges_of M s) + cut + drawn + round = omega (arith, w.1, es) in (
+      v,
+      e,
+      faces (length (vertices_of M s)) (length (edges_of M s)) (length (faces_of M s)) (length (rings_in M (faces_of M s)))
+          (length (vertices_of N s)) (length (edges_of N s)) (length (faces_of N s)) (length (rings_in N (faces_of N s)))
+          (length (vertices_of N t)) (length (edges_of N t)) (length (faces_of N t)) (length (rings_in N (faces_of N t))) v e sums,
+    ) where
+      faces : (v1 e1 f1 r1 v2 e2 f2 r2 v3 e3 f3 r3 : ℕ) → v2 + v3 ≡ v1 + cut + round → e2 + e3 ≡ e1 + cut + drawn + round →
+          (pos (v2 + f2) -ℤ pos (e2 + r2)) +ℤ (pos (v3 + f3) -ℤ pos (e3 + r3)) ≡ (pos (v1 + f1) -ℤ pos (e1 + r1)) +ℤ pos (2 * cycles) -ℤ pos (4 * holes) → f2 + f3 + r1 + 4 * holes ≡ f1 + r2 + r3 + drawn + 2 * cycles
+      faces v1 e1 f1 r1 v2 e2 f2 r2 v3 e3 f3 r3 a b c = omega (arith, ints)
+
+pub split_makes_counts : SplitMakesCounts
+split_makes_counts before after s p t sound made =
+    let M = held before in
+    let g = grown before after s p t sound made in
+    made_of M (held after) s t (length (crossing_edges M p s)) (pair_count M p (straddling_faces M p s)) (length (halves_in (cycles_of M s p))) (length (cycles_of M s p)) (length (filter (λ k. k.hole) (caps_of M s p)))
+    (split_shares_counts before after s p t sound made) (split_shares_sums before after s p t sound made) g.0 g.1

@@ -13,7 +13,7 @@
 //! that the cap below points along the direction then too; what each part counts alone.
 #![tactic(auto)]
 
-ghost use Rattle.split_caps.specs.Counted.{SplitSharesCounts, SplitSharesSums, SplitKeepsCounts};
+ghost use Rattle.split_caps.specs.Counted.{SplitSharesCounts, SplitSharesSums, SplitMakesCounts, SplitKeepsCounts};
 ghost use Rattle.split_caps.specs.Laws.{CapsAreNumbered, CapsStand, HolesAreClosed, CapsHaveNormals, CapsFaceApart};
 
 /// Each cycle of the section has two caps, numbered on from the last face that was drawn.
@@ -40,5 +40,6 @@ pub fn caps_face_apart()
 pub fn splits_share_counts()
     ensures each { SplitSharesCounts }
     ensures sums { SplitSharesSums }
+    ensures made { SplitMakesCounts }
     ensures others { SplitKeepsCounts }
 {}

@@ -1,0 +1,241 @@
+-- How many vertices and edges a split makes.
+use Rattle.std.specs.Prelude.{filter, flat_map, fold}
+use Rattle.std.proofs.Common.{◌≡◌, ◌≢◌, ℕ, zero, suc, ◌+◌, ◌<◌, ◌≤◌, Bool, true, false, cond, nat_eq, nat_lt, ◌&&◌, List, [], ◌∷◌, ◌++◌, length, map, None, is_some, refl, sym, ap, subst, ◌∙◌, arith, true≢false, inl, inr}
+use Rattle.std.proofs.lemmas.Bool.Decides.{eqb_tells}
+use Rattle.std.proofs.lemmas.List.{length-append, length-map}
+use Rattle.euler_operators.specs.declared.Plane.{Plane}
+use Rattle.euler_operators.specs.declared.Point.{Point}
+use Rattle.euler_operators.specs.HalfEdge.{code, edge_of, half, mate, plus}
+use Rattle.euler_operators.specs.Items.{IsIn}
+use Rattle.euler_operators.specs.Table as table
+use Rattle.euler_operators.specs.Table.{Table}
+use Rattle.euler_operators.specs.Model.{EdgeRow, Model, is_ring_of, loop_of, point_of, tail}
+use Rattle.euler_operators.specs.Sound.{Sound, Has, HasHalf}
+use Rattle.euler_operators.specs.Conditions.{face_at, has_rings}
+use Rattle.euler_operators.specs.Effect.{effect, kfmrh, mev_at, part}
+use Rattle.euler_operators.proofs.Lists.{tick_same}
+use Rattle.euler_operators.proofs.Tables.{get-put_other}
+use Rattle.euler_laws.specs.Laws.{AreAccepted, effects, size}
+use Rattle.euler_laws.proofs.Sizes.{mapped_none, size-map_rows, size-put_new}
+use Rattle.euler_laws.proofs.mev.Mev.{mev_goes}
+use Rattle.shapes.specs.Fresh.{Growing, Taken, growing, numbers_after}
+use Rattle.shapes.specs.split.Sides.{crossing_edges}
+use Rattle.shapes.specs.split.Crossings.{next_cut, with_crossings}
+use Rattle.shapes.specs.split.Drawing.{Drawing, FacePairs, all_drawn, all_joined, draw_next, drawn_between, face_drawn, in_one_loop, join_next, joined_pair, loops_joined, next_drawn, ring_free, rings_above, stuck_at, with_rings}
+use Rattle.shapes.specs.split.Opening.{Caps, Opening, all_opened, both_lists, hole_closed, next_opened, opened_along, opened_row, with_copies, with_rim}
+use Rattle.split_drawing_laws.specs.crossings.CrossingOps as crossings
+use Rattle.split_drawing_laws.specs.drawings.DrawnIn.{JoinedIn}
+use Rattle.split_drawing_laws.specs.drawings.Pairs.{AllFit, Fits, pairs_in}
+use Rattle.split_drawing_laws.specs.drawings.Passing.{Drawable, Going, Joining, Ready}
+use Rattle.split_drawing_laws.proofs.drawings.Drawn.{CanDraw, CanJoin}
+use Rattle.split_drawing_laws.proofs.drawings.Faces.{begun_joining, fitting_on, going, going_on, joins}
+use Rattle.split_drawing_laws.proofs.drawings.Pairs.{can_back, can_on, pair_can}
+use Rattle.split_drawing_laws.proofs.drawings.Passes.{draw_next_one, draw_next_two, draw_one, edge_fits, edge_fits_now, edge_free, edge_open, face_fits, face_open, join_next_one, join_next_two, join_one, loop_fits, loop_open, room_here}
+use Rattle.split_drawing_laws.proofs.drawings.Stays.{edges_are, joined_edges}
+use Rattle.split_drawing_laws.proofs.drawings.Whole.{drawable_on, next_is, ready}
+use Rattle.split_drawing_laws.proofs.loop_sides.SidesWhole.{draws_stuck, not_stuck}
+use Rattle.split_opening_laws.specs.sections.InTurn.{CanBeOpenedInTurn, halves_in}
+use Rattle.split_opening_laws.specs.Numbers.{AreFree}
+use Rattle.split_opening_laws.proofs.sections.InTurn.{others_on}
+use Rattle.split_opening_laws.proofs.sections.OpenedRows as opened
+use Rattle.split_opening_laws.proofs.sections.Rims.{rim_above}
+
+one_more : (a b n : ℕ) → a ≡ b + n → a + 1 ≡ b + suc n
+one_more a b n e = omega arith
+
+next_one : (a b n : ℕ) → b ≡ a + 1 → b + n ≡ a + suc n
+next_one a b n e = omega arith
+
+-- ---- edges cut
+
+cut_once : (M : Model) (p : Plane) (g : Growing) (e : ℕ) → AreAccepted M (crossings.cut_edge p g e ∷ []) → let N = effect M (crossings.cut_edge p g e) in (size N.vertices ≡ size M.vertices + 1) × (size N.edges ≡ size M.edges + 1)
+unfolding effect mev_at
+cut_once M p g e go =
+    let w = mev_goes M _ _ _ (g.taken.vertex + 1) _ go.0 in
+    (size-put_new M.vertices (g.taken.vertex + 1) _ w.vertex_free, size-put_new _ (edge_of (code (half (plus (g.taken.edge + 1))))) _ (mapped_none _ M.edges (edge_of (code (half (plus (g.taken.edge + 1))))) w.edge_free) ∙ ap (λ n. n + 1) (size-map_rows _ M.edges))
+
+pub cuts_make : (M : Model) (p : Plane) (g : Growing) (es : List ℕ) → AreAccepted M (crossings.ops_from p g es) → let N = effects M (crossings.ops_from p g es) in (size N.vertices ≡ size M.vertices + length es) × (size N.edges ≡ size M.edges + length es)
+cuts_make M p g [] go = (none (size M.vertices), none (size M.edges)) where
+  none : (n : ℕ) → n ≡ n + 0
+  none n = omega arith
+cuts_make M p g (e ∷ es) go =
+    let N = effect M (crossings.cut_edge p g e) in
+    let first = cut_once M p g e (go.0, tt) in
+    let rest = cuts_make N p (next_cut p g e) es go.1 in
+    (rest.0 ∙ next_one (size M.vertices) (size N.vertices) (length es) first.0, rest.1 ∙ next_one (size M.edges) (size N.edges) (length es) first.1)
+
+-- ---- faces drawn
+
+module _ (M : Model) (f : ℕ) where
+  pair_makes : (N : Model) (q : ℕ × ℕ) (e : ℕ) → (is_ring_of N (face_at N q.0) (loop_of N q.0) ≡ true → CanJoin N q.1 q.0 e) → (is_ring_of N (face_at N q.0) (loop_of N q.0) ≡ false → CanJoin N q.0 q.1 e) → size (joined_pair N q e).edges ≡ size N.edges + 1
+  pair_makes N q e back on = go (is_ring_of N (face_at N q.0) (loop_of N q.0)) refl where
+    one : (c d : ℕ) → CanJoin N c d e → size (loops_joined N c d e).edges ≡ size N.edges + 1
+    one c d can = ap size (joined_edges N c d e can) ∙ size-put_new N.edges e _ can.edge_free
+
+    go : (b : Bool) → is_ring_of N (face_at N q.0) (loop_of N q.0) ≡ b → size (cond b (loops_joined N q.1 q.0 e) (loops_joined N q.0 q.1 e)).edges ≡ size N.edges + 1
+    go true is = one q.1 q.0 (back is)
+    go false is = one q.0 q.1 (on is)
+
+  -- a pair is joined, or left for the second pass
+  joins_make : (d : Drawing) (qs : List (ℕ × ℕ)) (n : ℕ) → AllFit M f qs → Joining M f d qs n → let D = fold join_next d qs in size D.model.edges + length D.left ≡ size d.model.edges + length d.left + length qs
+  joins_make d [] n fit w = none (size d.model.edges + length d.left) where
+    none : (n : ℕ) → n ≡ n + 0
+    none n = omega arith
+  joins_make d (q ∷ qs) n fit w =
+      let D = join_next d q in
+      joins_make D qs n fit.1 (join_one M f d q qs n fit.0 w).1 ∙ next_one (size d.model.edges + length d.left) (size D.model.edges + length D.left) (length qs) (go (in_one_loop d.model q) refl) where
+        go : (b : Bool) → in_one_loop d.model q ≡ b → size (join_next d q).model.edges + length (join_next d q).left ≡ size d.model.edges + length d.left + 1
+        go true e = ap (λ x. size x.model.edges + length x.left) (join_next_one d q e) ∙ ap (λ n. size d.model.edges + n) (length-append d.left (q ∷ [])) ∙ moved_on (size d.model.edges) (length d.left) where
+          moved_on : (a b : ℕ) → a + (b + 1) ≡ a + b + 1
+          moved_on a b = omega arith
+        go false e = ap (λ x. size x.model.edges + length x.left) (join_next_two d q e)
+            ∙ ap (λ n. n + length d.left) (pair_makes d.model q (d.taken.edge + 1)
+            (can_back M d.model f q (d.taken.edge + 1) w.joined fit.0 e (edge_free M f d q qs n fit.0 w) (edge_fits_now M f d q qs n fit.0 w))
+            (can_on M d.model f q (d.taken.edge + 1) w.joined fit.0 e (edge_free M f d q qs n fit.0 w) (edge_fits_now M f d q qs n fit.0 w))) ∙ turned (size d.model.edges) (length d.left) where
+              turned : (a b : ℕ) → a + 1 + b ≡ a + b + 1
+              turned a b = omega arith
+
+  -- a pair that is left is drawn, where the drawing isn't stuck
+  draws_make : Sound M → f ≢ 0 → (d : Drawing) (qs : List (ℕ × ℕ)) (n : ℕ) → AllFit M f qs → Going M f d qs n → (fold (draw_next f) d qs).stuck ≡ 0 → size (fold (draw_next f) d qs).model.edges ≡ size d.model.edges + length qs
+  draws_make sound some d [] n fit w free = none (size d.model.edges) where
+    none : (n : ℕ) → n ≡ n + 0
+    none n = omega arith
+  draws_make sound some d (q ∷ qs) n fit w free = draws_make sound some (draw_next f d q) qs n fit.1 (draw_one M f sound d q qs n fit.0 w).1 free
+      ∙ next_one (size d.model.edges) (size (draw_next f d q).model.edges) (length qs) (go (in_one_loop d.model q) refl) where
+        stops : (d : Drawing) → (stuck_at f d).stuck ≢ 0
+        stops d e = elim (eqb_tells d.stuck 0) [
+          | inl z ↦ some (sym (ap (λ b. cond b f d.stuck) z.0) ∙ e)
+          | inr z ↦ z.1 (sym (ap (λ b. cond b f d.stuck) z.0) ∙ e)
+        ]
+
+        go : (b : Bool) → in_one_loop d.model q ≡ b → size (draw_next f d q).model.edges ≡ size d.model.edges + 1
+        go true e =
+            let room = room_here M f sound d q qs n fit.0 w in
+            let can = pair_can M d.model f q (d.taken.edge + 1) (d.taken.face + 1) (d.taken.loop + 1) sound w.drawn fit.0 e
+            (edge_open M f sound d q qs n fit.0 w) (face_open M f sound d q qs n fit.0 w) (loop_open M f sound d q qs n fit.0 w)
+            (edge_fits d.taken (length qs + n) room) (face_fits d.taken (length qs + n) room) (loop_fits d.taken (length qs + n) room) in
+            ap (λ x. size x.model.edges) (draw_next_one f d q e) ∙ ap size (edges_are d.model q.0 q.1 (d.taken.edge + 1) (d.taken.face + 1) (d.taken.loop + 1) can) ∙ size-put_new d.model.edges (d.taken.edge + 1) _ can.edge_free
+        go false e = absurd (draws_stuck f (draw_next f d q) qs (subst (λ x. x.stuck ≢ 0) (sym (draw_next_two f d q e)) (stops d)) free)
+
+-- one face drawn
+module _ (p : Plane) (f : ℕ) (qs : List (ℕ × ℕ)) (d : Drawing) (n : ℕ) (w : Ready p f qs d n) (some : f ≢ 0) where
+  abbrev J : Drawing
+  J = all_joined qs d
+
+  abbrev stops : Bool
+  stops = nat_lt 1 (length qs) && has_rings J.model f
+
+  abbrev R : Drawing
+  R = ring_free f qs J
+
+  abbrev L : Drawing
+  L = all_drawn f R
+
+  freed : (b : Bool) → (cond b (stuck_at f J) J).model.edges ≡ J.model.edges
+  freed true = refl
+  freed false = refl
+
+  left : (b : Bool) → (cond b (stuck_at f J) J).left ≡ J.left
+  left true = refl
+  left false = refl
+
+  shared : (b : Bool) → let S = cond b (record L { model = with_rings L.model (rings_above L.model p f) L.taken.face }) L in (S.model.edges ≡ L.model.edges) × (S.stuck ≡ L.stuck)
+  shared true = (refl, refl)
+  shared false = (refl, refl)
+
+  pub face_makes : (drawn_between p f qs d).stuck ≡ 0 → size (drawn_between p f qs d).model.edges ≡ size d.model.edges + length qs
+  face_makes free =
+      let s = shared (nat_eq (length qs) 1) in
+      let first = joins_make d.model f (record d { left = [] }) qs n w.fit (begun_joining p f qs d n w) in
+      let second = draws_make d.model f w.sound some R R.left n (fitting_on d.model f f stops J (joins p f qs d n w).state.pairs) (going_on d.model f n stops J (going p f qs d n w)) (sym s.1 ∙ free) in
+      ap size s.0 ∙ second ∙ (λ i. size (freed stops i) + length (left stops i)) ∙ first ∙ none (size d.model.edges) (length qs) where
+        none : (a n : ℕ) → a + 0 + n ≡ a + n
+        none a n = omega arith
+
+pub faces_make : (p : Plane) (d : Drawing) (fs : List FacePairs) (n : ℕ) → Drawable d fs n → ((f : ℕ) → IsIn f (map (λ q. q.face) fs) → f ≢ 0) → (fold (next_drawn p) d fs).stuck ≡ 0 → size (fold (next_drawn p) d fs).model.edges ≡ size d.model.edges + pairs_in fs
+faces_make p d [] n w some free = none (size d.model.edges) where
+  none : (n : ℕ) → n ≡ n + 0
+  none n = omega arith
+faces_make p d (f ∷ fs) n w some free =
+    let Y = next_drawn p d f in
+    let is = next_is p d f fs n w in
+    let now : Y.stuck ≡ 0 = not_stuck p Y fs free in
+    let one : size Y.model.edges ≡ size d.model.edges + length f.pairs = ap (λ x. size x.model.edges) is ∙ face_makes p f.face f.pairs d _ (ready p d f fs n w) (some f.face (omega (arith, tick_same f.face))) (ap (λ x. x.stuck) (sym is) ∙ now) in
+    faces_make p Y fs n (drawable_on p d f fs n w) (λ g i. some g (omega (arith, i))) free ∙ both (size d.model.edges) (size Y.model.edges) (length f.pairs) (pairs_in fs) one where
+      both : (a b n m : ℕ) → b ≡ a + n → b + m ≡ a + (n + m)
+      both a b n m e = omega arith
+
+-- ---- opened along a cycle
+
+rim_makes : (t : Table EdgeRow) (k y m : ℕ) → ((q : ℕ) → k < q → table.get t q ≡ None) → (i : ℕ) → size (with_rim t k y m i) ≡ size t + i
+rim_makes t k y m free zero = none (size t) where
+  none : (n : ℕ) → n ≡ n + 0
+  none n = omega arith
+rim_makes t k y m free (suc i) = size-put_new (with_rim t k y m i) (k + suc i) _ (rim_above t k y m i (k + suc i) (last k i) ∙ free (k + suc i) (above k i)) ∙ one_more (size (with_rim t k y m i)) (size t) i (rim_makes t k y m free i) where
+  last : (k i : ℕ) → k + i < k + suc i
+  last k i = omega arith
+
+  above : (k i : ℕ) → k < k + suc i
+  above k i = omega arith
+
+copies_make : (M : Model) (t : Table Point) (xs : List ℕ) (v : ℕ) → ((q : ℕ) → v < q → table.get t q ≡ None) → size (fold (λ t q. table.put t q.1 (point_of M q.0)) t (both_lists xs (numbers_after v (length xs)))) ≡ size t + length xs
+copies_make M t [] v free = none (size t) where
+  none : (n : ℕ) → n ≡ n + 0
+  none n = omega arith
+copies_make M t (x ∷ xs) v free =
+    copies_make M (table.put t (v + 1) (point_of M x)) xs (v + 1) (λ q l. get-put_other t (v + 1) (point_of M x) q (other v q l) ∙ free q (less v q l))
+    ∙ next_one (size t) (size (table.put t (v + 1) (point_of M x))) (length xs) (size-put_new t (v + 1) (point_of M x) (free (v + 1) (above v))) where
+      other : (v q : ℕ) → v + 1 < q → q ≢ v + 1
+      other v q l e = absurd (omega arith)
+
+      less : (v q : ℕ) → v + 1 < q → v < q
+      less v q l = omega arith
+
+      above : (v : ℕ) → v < v + 1
+      above v = omega arith
+
+opening_makes : (M : Model) (above : List ℕ) (s : ℕ) (c : Taken) (bs : List ℕ) → AreFree M c → let N = opened_along M above s c bs in (size N.vertices ≡ size M.vertices + length bs) × (size N.edges ≡ size M.edges + length bs)
+opening_makes M above s c bs free = (
+  ap size (opened.vertices_are M above s c bs)
+      ∙ subst (λ m. size (with_copies M (both_lists (map (tail M) bs) (numbers_after c.vertex m))) ≡ size M.vertices + m) (length-map bs (tail M)) (copies_make M M.vertices (map (tail M) bs) c.vertex free.vertices),
+  ap size (opened.edges_are M above s c bs)
+      ∙ rim_makes _ c.edge c.vertex (length bs) (λ q l. mapped_none _ M.edges q (free.edges q l)) (length bs) ∙ ap (λ n. n + length bs) (size-map_rows _ M.edges),
+)
+
+next_makes : (above : List ℕ) (s : ℕ) (p : Plane) (o : Opening) (bs : List ℕ) → AreFree o.model o.taken → let n = next_opened p above s o bs in (size n.model.vertices ≡ size o.model.vertices + length bs) × (size n.model.edges ≡ size o.model.edges + length bs)
+unfolding next_opened
+next_makes above s p o bs free = opening_makes o.model above s o.taken bs free
+
+pub openings_make : (above : List ℕ) (s : ℕ) (p : Plane) (o : Opening) (cs : List (List ℕ)) → CanBeOpenedInTurn above s o cs → let x = all_opened p above s o cs in
+    (size x.model.vertices ≡ size o.model.vertices + length (halves_in cs)) × (size x.model.edges ≡ size o.model.edges + length (halves_in cs))
+openings_make above s p o [] w = (none (size o.model.vertices), none (size o.model.edges)) where
+  none : (n : ℕ) → n ≡ n + 0
+  none n = omega arith
+openings_make above s p o (bs ∷ cs) w =
+    let n = next_opened p above s o bs in
+    let first = next_makes above s p o bs w.free in
+    let rest = openings_make above s p n cs (others_on above s p o bs cs w) in (
+      rest.0 ∙ both (size o.model.vertices) (size n.model.vertices) (length bs) (length (halves_in cs)) (length (bs ++ halves_in cs)) first.0 (length-append bs (halves_in cs)),
+      rest.1 ∙ both (size o.model.edges) (size n.model.edges) (length bs) (length (halves_in cs)) (length (bs ++ halves_in cs)) first.1 (length-append bs (halves_in cs)),
+    ) where
+      both : (a b n m k : ℕ) → b ≡ a + n → k ≡ n + m → b + m ≡ a + k
+      both a b n m k e f = omega arith
+
+-- ---- the holes closed, and the upper faces parted
+
+kill_keeps : (M : Model) (f g : ℕ) → ((kfmrh M f g).vertices ≡ M.vertices) × ((kfmrh M f g).edges ≡ M.edges)
+unfolding kfmrh
+kill_keeps M f g = (refl, refl)
+
+pub holes_keep : (o : Caps) (M : Model) (hs : List Caps) → let K = fold (hole_closed o) M hs in (K.vertices ≡ M.vertices) × (K.edges ≡ M.edges)
+holes_keep o M [] = (refl, refl)
+holes_keep o M (k ∷ ks) =
+    let A = kfmrh M o.lower k.lower in
+    let first = kill_keeps M o.lower k.lower in
+    let second = kill_keeps A o.upper k.upper in
+    let rest = holes_keep o (kfmrh A o.upper k.upper) ks in
+    (rest.0 ∙ second.0 ∙ first.0, rest.1 ∙ second.1 ∙ first.1)
+
+pub part_keeps : (M : Model) (s t : ℕ) (fs : List ℕ) → ((part M s t fs).vertices ≡ M.vertices) × ((part M s t fs).edges ≡ M.edges)
+unfolding part
+part_keeps M s t fs = (refl, refl)
