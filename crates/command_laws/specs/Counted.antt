@@ -6,7 +6,7 @@ use Rattle.euler_operators.specs.Sound.{Sound}
 use Rattle.shapes.specs.Faces.{boundary}
 use Rattle.shapes.specs.glue.Glue.{rim}
 use Rattle.solid_measure.specs.declared.solid_counts.Tally.{Tally}
-use Rattle.solid_measure.specs.solid_counts.Counts.{counts}
+pub use Rattle.solid_measure.specs.solid_counts.Counts.{counts}
 use Rattle.undo_journal.specs.Machine.{Machine, held}
 use Rattle.command_laws.specs.Commands.{IsLamina, IsBlock, IsSweep, IsGlue}
 

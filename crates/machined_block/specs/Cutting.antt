@@ -1,11 +1,23 @@
 -- The two parts of a solid that was cut across the x axis.
-use Rattle.std.specs.Prelude.{◌≡◌, ℕ, ℤ, pos, false}
+use Rattle.std.specs.Prelude.{◌≡◌, ◌<◌, ℕ, ◌*◌, ℤ, pos, ◌+ℤ◌, ◌-ℤ◌, false, filter, length}
 use Rattle.plane_split.specs.Faces.{vertices_of}
 use Rattle.plane_split.specs.Machine.{plane_with}
 use Rattle.plane_split.specs.Sides.{some_above, some_below}
 use Rattle.sweeps.specs.Model.{Model}
+use Rattle.command_laws.specs.Counted.{counts}
+use Rattle.split_caps.specs.Capped.{IsCapOf, cap, caps_of, cycles_of}
 
 -- no vertex of solid s lies above the plane x + d = 0, and none of solid t below it
 abbrev pub LieOnEitherSide : Model → ℤ → ℕ → ℕ → Type 0
 LieOnEitherSide M d s t = let plane = plane_with (pos 1) (pos 0) (pos 0) d in
     (some_above M plane (vertices_of M s) ≡ false) × (some_below M plane (vertices_of M t) ≡ false)
+
+-- where M was cut, each cycle of the section, but for those of holes, has a cap on solid s of N and one on t, both on the plane
+abbrev pub AreCapped : Model → Model → ℤ → ℕ → ℕ → Type 0
+AreCapped M N d s t = let plane = plane_with (pos 1) (pos 0) (pos 0) d in (i : ℕ) → i < length (caps_of M s plane) → (cap M s plane i).hole ≡ false →
+    IsCapOf N plane s (cap M s plane i).lower × IsCapOf N plane t (cap M s plane i).upper
+
+-- v - e + f - r of the two parts is that of the solid, and two more for each cycle of the section, less four for each hole
+abbrev pub ShareSums : Model → Model → ℤ → ℕ → ℕ → Type 0
+ShareSums M N d s t = let plane = plane_with (pos 1) (pos 0) (pos 0) d in
+    (counts N s).sum +ℤ (counts N t).sum ≡ (counts M s).sum +ℤ pos (2 * length (cycles_of M s plane)) -ℤ pos (4 * length (filter (λ k. k.hole) (caps_of M s plane)))

@@ -1,7 +1,9 @@
 //! Commands of the workbench, each with what this program wants of it.
-ghost use Rattle.std.specs.Prelude.{◌≡◌, pos, ◌+ℤ◌, ◌*ℤ◌, OnOk, OnErr};
+ghost use Rattle.std.specs.Prelude.{◌≡◌, pos, ◌+ℤ◌, ◌-ℤ◌, ◌*ℤ◌, OnOk, OnErr};
+ghost use Rattle.command_laws.specs.Counted.{counts};
+ghost use Rattle.command_laws.specs.LeftAlone.{KeepsEdges, KeepsLoops, Each, OfOthers, OfOthersBut};
 ghost use Rattle.command_laws.specs.RingedFaces.{IsFarFace};
-ghost use Rattle.machined_block.specs.Cutting.{LieOnEitherSide};
+ghost use Rattle.machined_block.specs.Cutting.{AreCapped, LieOnEitherSide, ShareSums};
 ghost use Rattle.machined_block.specs.Undoing.{IsOneCommand};
 ghost use Rattle.sweeps.specs.PlainMachine.{held};
 ghost use Rattle.sweeps.specs.Measure.{normal, six_volume};
@@ -9,14 +11,20 @@ ghost use Rattle.sweeps.specs.Model.{solid_of};
 ghost use Rattle.sweeps.specs.Sound.{Has};
 ghost use Rattle.sweeps.specs.Vectors.{dot};
 
-use command_laws::ringed_sweeps_make_faces;
+use command_laws::{
+    glues_join_counts, glues_leave_alone, ringed_sweeps_make_faces, sweeps_add_counts,
+    sweeps_leave_alone,
+};
 use gluing::{glue, glue_measures, six_volume};
 use plane_split::{split, splits_are_held};
+use split_caps::{caps_close_the_parts, splits_share_counts};
+use split_frames::splits_leave_alone;
 use std::alloc::Global;
 use sweeps::{Draft, Failure, Op, Point, Session, sweep, sweep_measures};
 
 /// A face swept along a vector. Its solid grows by three times the face's normal before, along the vector. The face, with rings or without,
-/// keeps its number and its loops, and its corners have moved. Undo gives the model before.
+/// keeps its number and its loops, and its corners have moved. The solid has as many more vertices and faces as edges, and every edge that
+/// was there keeps its ends. Undo gives the model before.
 pub fn raised(
     alloc: Global,
     session: Session,
@@ -25,28 +33,37 @@ pub fn raised(
 ) -> (Session, Result<(), Failure>)
     ensures volume { OnOk result.1 (six_volume (held result.0.machine) (solid_of (held session.machine) face) ≡ six_volume (held session.machine) (solid_of (held session.machine) face) +ℤ pos 3 *ℤ dot (normal (held session.machine) face) by) }
     ensures far { OnOk result.1 (IsFarFace (held session.machine) (held result.0.machine) face by) }
+    ensures sum { OnOk result.1 ((counts (held result.0.machine) (solid_of (held session.machine) face)).sum ≡ (counts (held session.machine) (solid_of (held session.machine) face)).sum) }
+    ensures kept { OnOk result.1 (KeepsEdges Each (held session.machine) (held result.0.machine)) }
     ensures undone { OnOk result.1 (IsOneCommand session.machine result.0.machine) }
     ensures err { OnErr result.1 (result.0 ≡ session) }
 {
     session.stays_consistent();
     sweep_measures();
     ringed_sweeps_make_faces();
+    sweeps_add_counts();
+    sweeps_leave_alone();
     sweep(alloc, session, face, by)
 }
 
 /// A face glued to a face of another solid. The solid of the first has the six volumes of both then. Undo gives the model before.
 pub fn joined(alloc: Global, session: Session, f: u32, g: u32) -> (Session, Result<(), Failure>)
     ensures volume { OnOk result.1 (six_volume (held result.0.machine) (solid_of (held session.machine) f) ≡ six_volume (held session.machine) (solid_of (held session.machine) f) +ℤ six_volume (held session.machine) (solid_of (held session.machine) g)) }
+    ensures sum { OnOk result.1 ((counts (held result.0.machine) (solid_of (held session.machine) f)).sum ≡ (counts (held session.machine) (solid_of (held session.machine) f)).sum +ℤ (counts (held session.machine) (solid_of (held session.machine) g)).sum -ℤ pos 2) }
+    ensures kept { OnOk result.1 (KeepsLoops (OfOthersBut (held session.machine) (solid_of (held session.machine) g) f) (held session.machine) (held result.0.machine)) }
     ensures undone { OnOk result.1 (IsOneCommand session.machine result.0.machine) }
     ensures err { OnErr result.1 (result.0 ≡ session) }
 {
     session.stays_consistent();
     glue_measures();
+    glues_join_counts();
+    glues_leave_alone();
     glue(alloc, session, f, g)
 }
 
 /// A solid cut by the plane x + d = 0: what lies above it, where that sum is positive, becomes the solid t. Both parts are there then. They
-/// share the six volumes of the one, and lie on either side. Undo gives the model before.
+/// share the six volumes of the one, lie on either side, and have caps on the plane. The loops of other solids are as they were. Undo gives
+/// the model before.
 pub fn cut(
     alloc: Global,
     session: Session,
@@ -57,10 +74,16 @@ pub fn cut(
     ensures volume { OnOk result.1 (six_volume (held session.machine) s ≡ six_volume (held result.0.machine) s +ℤ six_volume (held result.0.machine) t) }
     ensures parts { OnOk result.1 (Has (held result.0.machine).solids s × Has (held result.0.machine).solids t) }
     ensures sides { OnOk result.1 (LieOnEitherSide (held result.0.machine) d s t) }
+    ensures caps { OnOk result.1 (AreCapped (held session.machine) (held result.0.machine) d s t) }
+    ensures sum { OnOk result.1 (ShareSums (held session.machine) (held result.0.machine) d s t) }
+    ensures kept { OnOk result.1 (KeepsLoops (OfOthers (held session.machine) s) (held session.machine) (held result.0.machine)) }
     ensures undone { OnOk result.1 (IsOneCommand session.machine result.0.machine) }
     ensures err { OnErr result.1 (result.0 ≡ session) }
 {
     splits_are_held();
+    caps_close_the_parts();
+    splits_share_counts();
+    splits_leave_alone();
     split(alloc, session, s, 1, 0, 0, d, t)
 }
 

@@ -7,20 +7,22 @@
 //! # What is proved
 //!
 //! Of a program that calls the kernel as a stranger would, from contracts and laws alone: the block that it makes has 144 as its
-//! six volumes; a swept face, with rings or without, adds three times its normal along the vector, and keeps its loops with their
-//! corners moved; the solid that comes of two glued faces has the six volumes of both; the parts of a solid cut by a plane
-//! x + d = 0 are there, share its six volumes and lie on either side of it. After each of these undo isn't refused and gives the
-//! model before. Whatever operator is tried in a draft that is given up, the session is as it was; so at the end the block has
-//! its volume as before, with one command to undo and one to redo. Once a second block is made, the side of the first at which
-//! they meet still has its corners, which are those of the second one's, the other way round. The block made longer by the second
-//! one glued to it has 180; and so have its two parts once it is cut, with four commands to undo. A list of four calls in one is
-//! told what the plain machine may tell, and leads to a machine that may come of them, which is consistent.
+//! six volumes, and eight vertices, twelve edges and six faces; a swept face, with rings or without, adds three times its normal
+//! along the vector, and keeps its loops with their corners moved; the solid that comes of two glued faces has the six volumes of
+//! both; the parts of a solid cut by a plane x + d = 0 are there, share its six volumes, lie on either side of it and are closed by
+//! caps on it. What becomes of `v - e + f - r` is told of each of these, and which edges or loops stay as they were. After each
+//! undo isn't refused and gives the model before. Whatever operator is tried in a draft that is given up, the session is as it was;
+//! so at the end the block has its volume as before, with one command to undo and one to redo. Once a second block is made, the
+//! side of the first at which they meet still has its corners, which are those of the second one's, the other way round. The block
+//! made longer by the second one glued to it has 180; and so have its two parts once it is cut, with four commands to undo. A list
+//! of four calls in one is told what the plain machine may tell, and leads to a machine that may come of them, which is consistent.
 #![tactic(auto)]
 
 mod commands;
 mod lists;
 
 ghost use Rattle.std.specs.Prelude.{◌≡◌, pos, neg_ℤ, ◌+ℤ◌, IfOk};
+ghost use Rattle.command_laws.specs.Counted.{counts};
 ghost use Rattle.command_laws.specs.NewFaces.{last_face, IsFaceOf};
 ghost use Rattle.machined_block.specs.Cutting.{LieOnEitherSide};
 ghost use Rattle.machined_block.specs.Meeting.{near_side, far_side};
@@ -31,7 +33,8 @@ ghost use Rattle.sweeps.specs.Sound.{Has};
 
 use call_lists::Told;
 use command_laws::{
-    blocks_leave_alone, blocks_make_faces, faces_are_kept, solids_are_there, undos_go_back,
+    blocks_leave_alone, blocks_make_faces, faces_are_kept, shapes_are_counted, solids_are_there,
+    undos_go_back,
 };
 use commands::{cut, joined, known, raised, tried};
 use lists::made;
@@ -44,6 +47,7 @@ fn blank(alloc: Global) -> Result<Session, Failure>
     ensures there { IfOk result (λ session. Has (held session.machine).solids 1) }
     ensures side { IfOk result (λ session. IsFaceOf (held session.machine) 4 1 near_side) }
     ensures last { IfOk result (λ session. last_face session.machine ≡ 6) }
+    ensures counts { IfOk result (λ session. counts (held session.machine) 1 ≡ record { v = 8; e = 12; f = 6; r = 0; sum = pos 2 }) }
     ensures volume { IfOk result (λ session. six_volume (held session.machine) 1 ≡ pos 144) }
     ensures depth { IfOk result (λ session. depth session.machine ≡ 1) }
 {
@@ -52,6 +56,7 @@ fn blank(alloc: Global) -> Result<Session, Failure>
     block_measures();
     blocks_make_faces();
     faces_are_kept();
+    shapes_are_counted();
     solids_are_there();
     let corner = Point { x: 0, y: 0, z: 0 };
     let (session, made) = block(alloc, session, 1, corner, 4, 3, 2);

@@ -1,3 +1,4 @@
+use Rattle.std.proofs.Common.{ap}
 use Rattle.std.proofs.lemmas.Result.{on_ok_weaker}
 use Rattle.machined_block.proofs.Accepted.{accepted_undone}
 use Rattle.machined_block.proofs.commands.raised.Goals as goal
@@ -10,3 +11,9 @@ returns-clause-undone c = on_ok_weaker c.sweep.result.1 (λ made. accepted_undon
 
 pub returns-clause-far : goal.returns-clause-far
 returns-clause-far c = on_ok_weaker c.sweep.result.1 (λ made. c.ringed_sweeps_make_faces.ensures.far c.args.session.machine c.sweep.result.0.machine c.args.face c.args.by c.stays_consistent.ensures.held_sound made) c.sweep.ensures.ok
+
+pub returns-clause-sum : goal.returns-clause-sum
+returns-clause-sum c = on_ok_weaker c.sweep.result.1 (λ made. ap (λ t. t.sum) (c.sweeps_add_counts.ensures c.args.session.machine c.sweep.result.0.machine c.args.face c.args.by c.stays_consistent.ensures.held_sound made)) c.sweep.ensures.ok
+
+pub returns-clause-kept : goal.returns-clause-kept
+returns-clause-kept c = on_ok_weaker c.sweep.result.1 (λ made. c.sweeps_leave_alone.ensures.edges c.args.session.machine c.sweep.result.0.machine c.args.face c.args.by made) c.sweep.ensures.ok
