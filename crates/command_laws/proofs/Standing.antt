@@ -25,6 +25,7 @@ use Rattle.shapes.specs.Faces.{start, finish, items_in, loops_of, boundary, vert
 use Rattle.shapes.specs.Measure.{area, normal, anchor, first_vertex, plane_through, plane_of}
 use Rattle.shapes.proofs.Areas.{area-append}
 use Rattle.command_laws.specs.NewFaces.{corner_points}
+use Rattle.command_laws.specs.Framed.{FacesStand}
 use Rattle.command_laws.specs.LeftAlone.{KeepsLoops, KeepsEdges, KeepsPoints, StandsAsBefore}
 use Rattle.command_laws.proofs.OnFaces.{item_loop}
 
@@ -206,3 +207,12 @@ module _ (M N : Model) (Alone : ℕ → Type 0) (sound : Sound M) (loops : Keeps
     points = corners_kept;
     plane = plane_kept;
   }
+
+pub faces_stand : FacesStand
+faces_stand M N k s ps same was = record {
+  there = same.there;
+  solid = same.solid ∙ was.solid;
+  plain = same.rings ∙ was.plain;
+  points = same.points ∙ was.points;
+  plane = same.plane ∙ was.plane;
+}

@@ -43,13 +43,13 @@ module _ (M : Model) (f : ℕ) (d : Point) (sound : Sound M) (goes : prism_refus
   unfolding prism_model
   prism_is = refl
 
-  Z_sound : Sound (prism_from f d (growing M) (loops_of M f)).model
+  Z_sound : Sound Z
   Z_sound = subst Sound prism_is (prism_sound M f d sound goes)
 
   begun : Ready f (solid_of M f) (growing M) (loops_of M f)
   begun = sweep_ready M f d sound goes
 
-  whole : Later M (prism_from f d (growing M) (loops_of M f)).model (taken_in M) (loops_of M f)
+  whole : Later M Z (taken_in M) (loops_of M f)
   whole = later_all f s d (loops_of M f) (growing M) begun
 
   -- ---- at loop l, once the loops ls are swept
@@ -61,7 +61,7 @@ module _ (M : Model) (f : ℕ) (d : Point) (sound : Sound M) (goes : prism_refus
     all_ready : Ready f (solid_of M f) (growing M) (ls ++ l ∷ rs)
     all_ready = subst (Ready f s (growing M)) parts begun
 
-    now : Ready f (solid_of M f) (prism_from f d (growing M) ls) (l ∷ rs)
+    now : Ready f (solid_of M f) g (l ∷ rs)
     now = ready_all f s d ls (l ∷ rs) (growing M) all_ready
 
     before_ready : (ms ns : List ℕ) → Ready f (solid_of M f) (growing M) (ms ++ ns) → Ready f (solid_of M f) (growing M) ms
@@ -74,7 +74,7 @@ module _ (M : Model) (f : ℕ) (d : Point) (sound : Sound M) (goes : prism_refus
       last = w.last;
     }
 
-    earlier : Later M (prism_from f d (growing M) ls).model (taken_in M) ls
+    earlier : Later M g.model (taken_in M) ls
     earlier = later_all f s d ls (growing M) (before_ready ls (l ∷ rs) all_ready)
 
     l_path : IsPathOf M f l (items_of (content M l))
@@ -89,51 +89,51 @@ module _ (M : Model) (f : ℕ) (d : Point) (sound : Sound M) (goes : prism_refus
     l_not_later : count l rs ≡ 0
     l_not_later = omega (arith, all_ready.apart l, count-append l ls (l ∷ rs), tick_same l)
 
-    same_loop : content (prism_from f d (growing M) ls).model l ≡ content M l
+    same_loop : content g.model l ≡ content M l
     same_loop = same_content M g.model l (earlier.loops l l_low l_once)
 
     abbrev hs : List ℕ
-    hs = items f s d (prism_from f d (growing M) ls) l rs now
+    hs = items f s d g l rs now
 
-    same_items : items f s d (prism_from f d (growing M) ls) l rs now ≡ items_of (content M l)
+    same_items : hs ≡ items_of (content M l)
     same_items = ap items_of same_loop
 
     -- its points are those that it had
-    points_then : map (start (prism_from f d (growing M) ls).model) (items f s d (prism_from f d (growing M) ls) l rs now) ≡ loop_points M l
+    points_then : map (start g.model) hs ≡ loop_points M l
     points_then = ap (map (start g.model)) same_items
         ∙ same_starts M g.model (items_of (content M l)) (λ h i. earlier.starts h (all_ready.bounded.items h l i)) ∙ sym (along_cycle M l (items_of (content M l)) l_path.content)
 
-    next_is : prism_from f d (growing M) (loops_of M f) ≡ prism_from f d (next f s d (prism_from f d (growing M) ls) l rs now) rs
+    next_is : prism_from f d (growing M) (loops_of M f) ≡ prism_from f d (next f s d g l rs now) rs
     next_is = ap (prism_from f d (growing M)) parts ∙ from_append f s d ls (l ∷ rs) (growing M) ∙ ap (λ x. prism_from f d x rs) (raised_is f s d g l rs now)
 
-    rest : Later (swept_once f s d (prism_from f d (growing M) ls) l rs now) (prism_from f d (growing M) (loops_of M f)).model (counted (prism_from f d (growing M) ls).taken (length (items f s d (prism_from f d (growing M) ls) l rs now))) rs
+    rest : Later (swept_once f s d g l rs now) Z (counted g.taken (length hs)) rs
     rest = subst (λ x. Later (swept_once f s d g l rs now) x.model (counted g.taken (length hs)) rs) (sym next_is) (later_all f s d rs (next f s d g l rs now) (after_ready f s d g l rs now))
 
     abbrev tops : List ℕ
     tops = top_items g.taken.edge (length hs) (length hs)
 
-    loop_then : content (prism_from f d (growing M) (loops_of M f)).model l ≡ cycle (top_items (prism_from f d (growing M) ls).taken.edge (length (items f s d (prism_from f d (growing M) ls) l rs now)) (length (items f s d (prism_from f d (growing M) ls) l rs now)))
+    loop_then : content Z l ≡ cycle tops
     loop_then = same_content (swept_once f s d g l rs now) Z l (rest.loops l (omega (arith, loop_low f s d g l rs now)) l_not_later) ∙ ring_is f s d g l rs now
 
-    tops_moved : map (start (prism_from f d (growing M) (loops_of M f)).model) (top_items (prism_from f d (growing M) ls).taken.edge (length (items f s d (prism_from f d (growing M) ls) l rs now)) (length (items f s d (prism_from f d (growing M) ls) l rs now))) ≡ all_moved d (loop_points M l)
+    tops_moved : map (start Z) tops ≡ all_moved d (loop_points M l)
     tops_moved = same_starts (swept_once f s d g l rs now) Z tops (λ h i. rest.starts h (items_taken f s d g l rs now l h (subst (λ x. IsIn h (items_of x)) (sym (ring_is f s d g l rs now)) i)))
         ∙ ring_moved f s d g l rs now ∙ ap (all_moved d) points_then
 
-    loop_moved : loop_points (prism_from f d (growing M) (loops_of M f)).model l ≡ all_moved d (loop_points M l)
+    loop_moved : loop_points Z l ≡ all_moved d (loop_points M l)
     loop_moved = along_cycle Z l tops loop_then ∙ tops_moved
 
-    loop_there : Has (prism_from f d (growing M) (loops_of M f)).model.loops l
+    loop_there : Has Z.loops l
     loop_there = ap is_some (rest.loops l (omega (arith, loop_low f s d g l rs now)) l_not_later ∙ loop_here g.model g.taken (solid_of g.model f) d hs f l)
 
-    area_moved : area (prism_from f d (growing M) (loops_of M f)).model (items_of (content (prism_from f d (growing M) (loops_of M f)).model l)) ≡ area M (items_of (content M l))
+    area_moved : area Z (items_of (content Z l)) ≡ area M (items_of (content M l))
     area_moved = ap (λ x. area Z (items_of x)) loop_then
         ∙ area_kept M Z d f (face_of Z l) l l (items_of (content M l)) tops l_path (ring_path Z Z_sound (face_of Z l) l tops (loop_row Z l loop_there ∙ ap (λ x. Some (record { face = face_of Z l; content = x })) loop_then))
         (tops_moved ∙ ap (all_moved d) (along_cycle M l (items_of (content M l)) l_path.content))
 
-    many : length (items f s d (prism_from f d (growing M) ls) l rs now) ≡ length (loop_points M l)
+    many : length hs ≡ length (loop_points M l)
     many = sym (as_many g.model hs) ∙ ap length points_then
 
-    side_at : (i : ℕ) → i < length (loop_points M l) → IsFaceOf (prism_from f d (growing M) (loops_of M f)).model (table.greatest M.faces + corner_count M ls + 1 + i) (solid_of M f)
+    side_at : (i : ℕ) → i < length (loop_points M l) → IsFaceOf Z (table.greatest M.faces + corner_count M ls + 1 + i) (solid_of M f)
         (side_over d (nth (loop_points M l) i) (nth (loop_points M l) (next_place (length (loop_points M l)) i)))
     side_at i m =
         let ps = loop_points M l in
@@ -153,14 +153,14 @@ module _ (M : Model) (f : ℕ) (d : Point) (sound : Sound M) (goes : prism_refus
   unfolding taken_in
   face_low = at_most_greatest M.faces f (face_there M f d sound goes)
 
-  same_row : table.get (prism_from f d (growing M) (loops_of M f)).model.faces f ≡ table.get M.faces f
+  same_row : table.get Z.faces f ≡ table.get M.faces f
   same_row = whole.faces f face_low
 
-  same_loops : loops_of (prism_from f d (growing M) (loops_of M f)).model f ≡ loops_of M f
+  same_loops : loops_of Z f ≡ loops_of M f
   unfolding loops_of
   same_loops = λ i. same_outer M (prism_from f d (growing M) (outer M f ∷ rings_of M f)).model f same_row i ∷ whole.rings f face_low i
 
-  each_moved : (l : ℕ) → IsIn l (loops_of M f) → loop_points (prism_from f d (growing M) (loops_of M f)).model l ≡ all_moved d (loop_points M l)
+  each_moved : (l : ℕ) → IsIn l (loops_of M f) → loop_points Z l ≡ all_moved d (loop_points M l)
   each_moved l i = loop_moved (ahead l (loops_of M f)) (behind l (loops_of M f)) l (split_at l (loops_of M f) i)
 
   all_points : (N : Model) (l : ℕ) (ls : List ℕ) → map (point_of N) (vertices_in N (l ∷ ls)) ≡ loop_points N l ++ map (point_of N) (vertices_in N ls)
@@ -172,7 +172,7 @@ module _ (M : Model) (f : ℕ) (d : Point) (sound : Sound M) (goes : prism_refus
       ∙ (λ t. each_moved l (inside l (IsIn_head l ls)) t ++ points_moved ls (λ q i. inside q (IsIn_rest q l ls i)) t)
       ∙ sym (map-append (λ p. moved p d) (loop_points M l) (map (point_of M) (vertices_in M ls))) ∙ ap (all_moved d) (sym (all_points M l ls))
 
-  corners_moved : corner_points (prism_from f d (growing M) (loops_of M f)).model f ≡ all_moved d (corner_points M f)
+  corners_moved : corner_points Z f ≡ all_moved d (corner_points M f)
   unfolding corners
   corners_moved = ap (λ ls. map (point_of Z) (vertices_in Z ls)) same_loops ∙ points_moved (loops_of M f) (λ l i. i)
 
@@ -184,7 +184,7 @@ module _ (M : Model) (f : ℕ) (d : Point) (sound : Sound M) (goes : prism_refus
   first_of N q [] is some = absurd (omega (arith, some))
   first_of N q (x ∷ xs) is some = ap (λ y. point_of N (first_vertex N y)) is ∙ sym (ap (λ y. nth (map (point_of N) (vertices_on N y)) 0) is)
 
-  anchor_moved : anchor (prism_from f d (growing M) (loops_of M f)).model f ≡ moved (anchor M f) d
+  anchor_moved : anchor Z f ≡ moved (anchor M f) d
   anchor_moved =
       let l = outer M f in
       let ls = ahead l (loops_of M f) in
@@ -204,15 +204,15 @@ module _ (M : Model) (f : ℕ) (d : Point) (sound : Sound M) (goes : prism_refus
       ∙ (λ t. moved (area_moved (ahead l (loops_of M f)) (behind l (loops_of M f)) l (split_at l (loops_of M f) i) t) (areas_moved ls (λ q j. inside q (IsIn_rest q l ls j)) t))
       ∙ sym (area-append M (items_of (content M l)) (items_in M ls))
 
-  normal_kept : normal (prism_from f d (growing M) (loops_of M f)).model f ≡ normal M f
+  normal_kept : normal Z f ≡ normal M f
   unfolding normal boundary
   normal_kept = ap (λ ls. area Z (items_in Z ls)) same_loops ∙ areas_moved (loops_of M f) (λ l i. i)
 
-  plane_moved : plane_of (prism_from f d (growing M) (loops_of M f)).model f ≡ plane_through (normal M f) (moved (anchor M f) d)
+  plane_moved : plane_of Z f ≡ plane_through (normal M f) (moved (anchor M f) d)
   unfolding plane_of
   plane_moved = λ i. plane_through (normal_kept i) (anchor_moved i)
 
-  far_face : IsFarFace M (prism_from f d (growing M) (loops_of M f)).model f d
+  far_face : IsFarFace M Z f d
   far_face = record {
     there = ap is_some same_row ∙ face_there M f d sound goes;
     solid = same_solid M Z f same_row;
@@ -222,7 +222,7 @@ module _ (M : Model) (f : ℕ) (d : Point) (sound : Sound M) (goes : prism_refus
     plane = plane_moved;
   }
 
-  all_counted : table.greatest (prism_from f d (growing M) (loops_of M f)).model.faces ≡ table.greatest M.faces + length (corners M f)
+  all_counted : table.greatest Z.faces ≡ table.greatest M.faces + length (corners M f)
   unfolding corners
   all_counted = (ready_all f s d (loops_of M f) [] (growing M) (subst (Ready f s (growing M)) (sym (append-nil (loops_of M f))) begun)).last
       ∙ taken_all f s d M (loops_of M f) (growing M) begun (λ q i. refl) ∙ ap (λ n. n + length (vertices_in M (loops_of M f))) (face_counted M)

@@ -1,11 +1,12 @@
 -- What each command leaves as it was.
 use Rattle.std.specs.Prelude.{ℕ, ℤ, List}
 use Rattle.euler_operators.specs.declared.Point.{Point}
-use Rattle.euler_operators.specs.Model.{solid_of}
+use Rattle.euler_operators.specs.Model.{Model, solid_of}
 use Rattle.euler_operators.specs.Sound.{Sound}
 use Rattle.undo_journal.specs.Machine.{Machine, held}
 use Rattle.command_laws.specs.Commands.{IsLamina, IsBlock, IsSweep, IsGlue}
-use Rattle.command_laws.specs.LeftAlone.{KeepsOwners, KeepsLoops, KeepsEdges, KeepsPoints, KeepsShapes, Each, AllBut, OfOthers, OfOthersBut}
+use Rattle.command_laws.specs.NewFaces.{IsFaceOf}
+use Rattle.command_laws.specs.LeftAlone.{KeepsOwners, KeepsLoops, KeepsEdges, KeepsPoints, StandsAsBefore, KeepsShapes, Each, AllBut, OfOthers, OfOthersBut}
 
 -- a lamina: each face that is there keeps its solid, each loop its content, each edge its ends, and each vertex its point; and so each face
 -- its shape
@@ -71,3 +72,7 @@ GlueKeepsPoints = (before after : Machine) (f g : ℕ) → Sound (held before) �
 
 abbrev pub GlueKeepsShapes : Type 0
 GlueKeepsShapes = (before after : Machine) (f g : ℕ) → Sound (held before) → IsGlue before after f g → KeepsShapes (OfOthersBut (held before) (solid_of (held before) g) f) (held before) (held after)
+
+-- a face that stands as it did is what it was known to be
+abbrev pub FacesStand : Type 0
+FacesStand = (M N : Model) (k s : ℕ) (ps : List Point) → StandsAsBefore M N k → IsFaceOf M k s ps → IsFaceOf N k s ps

@@ -1,5 +1,5 @@
 //! What each command leaves as it was: the solids of faces, loops, the ends of edges and the points of vertices.
-ghost use Rattle.command_laws.specs.Framed.{LaminaKeepsOwners, LaminaKeepsLoops, LaminaKeepsEdges, LaminaKeepsPoints, LaminaKeepsShapes, BlockKeepsOwners, BlockKeepsLoops, BlockKeepsEdges, BlockKeepsPoints, BlockKeepsShapes, SweepKeepsOwners, SweepKeepsLoops, SweepKeepsEdges, SweepKeepsPoints, SweepKeepsShapes, GlueKeepsOwners, GlueKeepsLoops, GlueKeepsEdges, GlueKeepsPoints, GlueKeepsShapes};
+ghost use Rattle.command_laws.specs.Framed.{LaminaKeepsOwners, LaminaKeepsLoops, LaminaKeepsEdges, LaminaKeepsPoints, LaminaKeepsShapes, BlockKeepsOwners, BlockKeepsLoops, BlockKeepsEdges, BlockKeepsPoints, BlockKeepsShapes, SweepKeepsOwners, SweepKeepsLoops, SweepKeepsEdges, SweepKeepsPoints, SweepKeepsShapes, GlueKeepsOwners, GlueKeepsLoops, GlueKeepsEdges, GlueKeepsPoints, GlueKeepsShapes, FacesStand};
 
 /// After a lamina each face that was there is of the solid that it was, each loop has its face and its content, each edge its ends, and
 /// each vertex its point; so each face has the outer loop, the rings, the corner points and the plane that it had.
@@ -37,4 +37,9 @@ pub fn glues_leave_alone()
     ensures edges { GlueKeepsEdges }
     ensures points { GlueKeepsPoints }
     ensures shapes { GlueKeepsShapes }
+{}
+
+/// A face that stands as it did still has the solid, the corner points and the plane that it was known to have.
+pub fn faces_stand()
+    ensures { FacesStand }
 {}

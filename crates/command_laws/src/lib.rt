@@ -27,7 +27,9 @@ ghost use Rattle.command_laws.specs.Places.{UndosGoBack};
 ghost use Rattle.command_laws.specs.Solids.{BlocksAreThere, LaminasAreThere, SweptAreThere, SweepsKeepSolids, GluesJoinSolids};
 
 pub use counted::{glues_join_counts, others_keep_counts, shapes_are_counted, sweeps_add_counts};
-pub use frames::{blocks_leave_alone, glues_leave_alone, laminas_leave_alone, sweeps_leave_alone};
+pub use frames::{
+    blocks_leave_alone, faces_stand, glues_leave_alone, laminas_leave_alone, sweeps_leave_alone,
+};
 pub use ringed::ringed_sweeps_make_faces;
 
 /// After a lamina: the face next to the greatest before goes round its points, and the one after that the other way round.

@@ -33,8 +33,8 @@ ghost use Rattle.sweeps.specs.Sound.{Has};
 
 use call_lists::Told;
 use command_laws::{
-    blocks_leave_alone, blocks_make_faces, faces_are_kept, shapes_are_counted, solids_are_there,
-    undos_go_back,
+    blocks_leave_alone, blocks_make_faces, faces_are_kept, faces_stand, shapes_are_counted,
+    solids_are_there, undos_go_back,
 };
 use commands::{cut, joined, known, raised, tried};
 use lists::made;
@@ -93,6 +93,7 @@ fn paired(alloc: Global) -> Result<Session, Failure>
     block_measures();
     blocks_make_faces();
     blocks_leave_alone();
+    faces_stand();
     let corner = Point { x: 4, y: 0, z: 0 };
     let (session, made) = block(alloc, session, 2, corner, 1, 3, 2);
     made?;

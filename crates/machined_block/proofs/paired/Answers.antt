@@ -2,7 +2,6 @@ use Rattle.std.proofs.Common.{suc, ◌+◌, ap, subst, ◌∙◌, arith}
 use Rattle.sweeps.specs.PlainMachine.{depth, held}
 use Rattle.command_laws.specs.NewFaces.{IsFaceOf}
 use Rattle.machined_block.specs.Meeting.{near_side, far_side}
-use Rattle.machined_block.proofs.Kept.{face_stands}
 use Rattle.machined_block.proofs.paired.Goals as goal
 
 pub returns-clause-first : goal.returns-clause-first
@@ -19,8 +18,8 @@ pub returns-clause-near : goal.returns-clause-near
 returns-clause-near c =
     let made = rw c.in_ok-made.was at c.block-session.ensures.ok in
     let side = c.in_ok-session.ensures.side in
-    face_stands (held c.in_ok-session.session.machine) (held c.block-session.result.0.machine) 4 1 near_side side
-    (c.blocks_leave_alone.ensures.shapes c.in_ok-session.session.machine c.block-session.result.0.machine 2 _ _ _ _ c.stays_consistent.ensures.held_sound made 4 side.there tt)
+    c.faces_stand.ensures (held c.in_ok-session.session.machine) (held c.block-session.result.0.machine) 4 1 near_side
+    (c.blocks_leave_alone.ensures.shapes c.in_ok-session.session.machine c.block-session.result.0.machine 2 _ _ _ _ c.stays_consistent.ensures.held_sound made 4 side.there tt) side
 
 pub returns-clause-far : goal.returns-clause-far
 returns-clause-far c =
