@@ -1,31 +1,29 @@
 -- The counts of two solids that were glued.
-use Rattle.std.proofs.Common.{◌≡◌, ◌≢◌, ℕ, zero, suc, ◌+◌, ◌-◌, ◌≤◌, ℤ, pos, ◌+ℤ◌, ◌-ℤ◌, Bool, true, false, cond, nat_eq, ◌||◌, List, [], ◌∷◌, length, map, Option, Some, None, is_some, refl, sym, ap, subst, ◌∙◌, arith, true≢false, ◌⊎◌, inl, inr}
+use Rattle.std.proofs.Common.{◌≡◌, ◌≢◌, ℕ, ◌+◌, ◌-◌, pos, ◌+ℤ◌, ◌-ℤ◌, false, cond, nat_eq, List, [], ◌∷◌, length, map, Option, Some, None, is_some, refl, sym, ap, subst, ◌∙◌, arith, true≢false, inl, inr}
 use Rattle.std.specs.Option.{option_map}
 use Rattle.std.proofs.lemmas.Int.{ints}
-use Rattle.std.proofs.lemmas.Bool.Decides.{nat_tests, eqb_tells}
-use Rattle.std.proofs.lemmas.Bool.{eq-eqb, eqb-false, eqb-true, ne_eqb}
+use Rattle.std.proofs.lemmas.Bool.Decides.{eqb_tells}
+use Rattle.std.proofs.lemmas.Bool.{eq-eqb, eqb-false, ne_eqb}
 use Rattle.std.proofs.lemmas.List.{length-map}
 use Rattle.euler_operators.specs.HalfEdge.{edge_of, mate, minus, plus}
 use Rattle.euler_operators.specs.Items.{count, IsIn, IsApart}
 use Rattle.euler_operators.specs.Rings.{canonical}
 use Rattle.euler_operators.specs.Table as table
-use Rattle.euler_operators.specs.Table.{Table, all_in, tables}
-use Rattle.euler_operators.specs.Model.{Model, EdgeRow, FaceRow, LoopContent, LoopRow, lone, cycle, content, face_of, faces_of, holds, loop_of, outer, solid_of, tail}
+use Rattle.euler_operators.specs.Table.{Table}
+use Rattle.euler_operators.specs.Model.{Model, FaceRow, LoopContent, LoopRow, lone, cycle, content, face_of, faces_of, holds, outer, solid_of, tail}
 use Rattle.euler_operators.specs.Sound.{Sound, Has, HasHalf}
-use Rattle.euler_operators.specs.Conditions.{face_at}
 use Rattle.euler_operators.specs.Effect.{faces_to_solid}
 use Rattle.euler_operators.proofs.Halves.{minus_row, plus_row, same_edge}
 use Rattle.euler_operators.proofs.Lists.{IsIn_or_not, tick_same}
 use Rattle.euler_operators.proofs.Maps.{from_map}
 use Rattle.euler_operators.proofs.Members.{IsApart-images}
-use Rattle.euler_operators.proofs.Models.{face_row, in-holds, minus_tail_row, minus_there, plus_tail_row, plus_there, same_face, same_solid, solid_row}
+use Rattle.euler_operators.proofs.Models.{face_row, in-holds, minus_tail_row, minus_there, plus_tail_row, plus_there, same_solid, solid_row}
 use Rattle.euler_operators.proofs.Rotations.{IsIn_head}
 use Rattle.euler_operators.proofs.Tables.{get-remove_here, get-remove_other, row_some}
 use Rattle.euler_laws.specs.Laws.{size}
 use Rattle.euler_laws.proofs.Sizes.{size-map_rows, size-remove}
 use Rattle.euler_laws.proofs.shared.Rows.{face_there, loop_row}
 use Rattle.shapes.specs.Faces.{edges_of, vertices_of}
-use Rattle.shapes.specs.Fresh.{taken_in}
 use Rattle.shapes.specs.Rewriting.{renamed, rewritten, rewritten_row, without_rows}
 use Rattle.shapes.specs.glue.Glue.{glue_model, glue_refusal, partner, renamed_tails, rim}
 use Rattle.shapes.specs.glue.GlueOps.{fresh_edge}
@@ -36,8 +34,7 @@ use Rattle.shapes.proofs.glue.Facts as facts
 use Rattle.shapes.proofs.glue.Renamings.{renamed_not, without_first, without_there}
 use Rattle.gluing_laws.proofs.glue.Accepted.{glued_sound}
 use Rattle.gluing_laws.proofs.glue.Ending.{glued_all, glued_along_is}
-use Rattle.solid_measure.specs.declared.solid_counts.Tally.{Tally}
-use Rattle.solid_measure.specs.solid_counts.Counts.{counts, rings_in, tally_of}
+use Rattle.solid_measure.specs.solid_counts.Counts.{counts, rings_in}
 use Rattle.undo_journal.specs.Machine.{held}
 use Rattle.command_laws.specs.Counted.{GlueJoinsCounts, GlueKeepsCounts}
 use Rattle.command_laws.proofs.Owners.{Agree, is_either, is_of, many_either, neither, not_either, solid_of_edge, solid_of_half, solid_of_loop, solid_of_vertex, faces_many, loops_many, vertices_many, more_faces, more_loops, more_edges, more_vertices, others_kept}

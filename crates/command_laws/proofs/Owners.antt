@@ -1,5 +1,5 @@
 -- The solid of each face, loop, edge and vertex; and so how many of each a solid has.
-use Rattle.std.proofs.Common.{◌≡◌, ◌≢◌, ℕ, suc, ◌+◌, Bool, true, false, cond, not, nat_eq, ◌||◌, List, [], ◌∷◌, ◌++◌, length, map, Option, Some, None, is_some, unwrap_or, refl, sym, ap, subst, ◌∙◌, arith, true≢false, ◌⊎◌, inl, inr}
+use Rattle.std.proofs.Common.{◌≡◌, ◌≢◌, ℕ, ◌+◌, Bool, true, false, cond, not, nat_eq, ◌||◌, List, [], ◌∷◌, ◌++◌, length, map, Option, Some, None, is_some, unwrap_or, refl, sym, ap, subst, ◌∙◌, arith, true≢false, inl, inr}
 use Rattle.std.proofs.lemmas.Bool.Decides.{eqb_tells, nat_tests}
 use Rattle.std.proofs.lemmas.Bool.{eq-eqb, ne_eqb, eqb-true, false_from_ne_true}
 use Rattle.std.proofs.lemmas.List.{length-append, append_assoc}
@@ -8,25 +8,24 @@ use Rattle.euler_operators.specs.Items.{count, IsIn, IsApart}
 use Rattle.euler_operators.specs.HalfEdge.{edge_of, is_first, plus}
 use Rattle.euler_operators.specs.Table as table
 use Rattle.euler_operators.specs.Table.{Table, all_in}
-use Rattle.euler_operators.specs.Model.{Model, LoopContent, FaceRow, LoopRow, no_loop, no_edge, tail_in, lone, cycle, items_of, holds, content, face_of, loop_of, outer, solid_of, tail, rings_of, faces_of}
+use Rattle.euler_operators.specs.Model.{Model, LoopContent, FaceRow, LoopRow, no_loop, no_edge, tail_in, lone, cycle, items_of, holds, content, face_of, loop_of, solid_of, tail, rings_of, faces_of}
 use Rattle.euler_operators.specs.Sound.{Sound, Has, HasHalf, StandsIn}
 use Rattle.euler_operators.specs.Conditions.{face_at, lists}
 use Rattle.euler_operators.proofs.Lists.{count-append, tick_same, tick_other, IsIn_or_not}
 use Rattle.euler_operators.proofs.Members.{IsIn-map, IsIn_one, same_length}
 use Rattle.euler_operators.proofs.Models.{content_row, solid_row, item_there, loop_there, cycle_there, in-holds, never_lone, same_solid, same_face, same_content, plus_there, plus_edge}
-use Rattle.euler_operators.proofs.Tables.{passes, count-all_where, row_some, first_where_is}
+use Rattle.euler_operators.proofs.Tables.{passes, count-all_where, row_some}
 use Rattle.euler_laws.specs.Laws.{size}
 use Rattle.euler_laws.proofs.Sizes.{size_parts}
 use Rattle.euler_laws.proofs.shared.Counted.{counted_once, all_where_has, all_where_in}
 use Rattle.euler_laws.proofs.shared.FirstWhere.{first_passes}
-use Rattle.euler_laws.proofs.shared.Listed.{listed_passes, passes_listed, all_where-rises, IsIn-from_listed, listed-from_in}
+use Rattle.euler_laws.proofs.shared.Listed.{listed_passes, all_where-rises, IsIn-from_listed, listed-from_in}
 use Rattle.euler_laws.proofs.shared.Rows.{loop_row}
 use Rattle.euler_laws.proofs.shared.Same.{one_solid_round}
-use Rattle.shapes.specs.Faces.{loops_of, vertices_on, vertices_in, corners, corners_in, vertices_of, edges_of}
+use Rattle.shapes.specs.Faces.{loops_of, vertices_on, vertices_in, corners, corners_in, vertices_of}
 use Rattle.shapes.specs.Walks.{loops_in}
 use Rattle.shapes.proofs.walks.SolidFaces.{solid_loops, all_loops_apart, loop_in_solid, solid_has_loop}
 use Rattle.solid_measure.specs.solid_counts.Counts.{rings_in, tally_of, counts}
-use Rattle.solid_measure.specs.declared.solid_counts.Tally.{Tally}
 use Rattle.solid_measure.proofs.solid_counts_laws.HowMany.{equally_many, of_map}
 
 -- ---- rows that pass a test on their numbers

@@ -1,5 +1,5 @@
 -- What a sweep adds to the counts of a solid.
-use Rattle.std.proofs.Common.{◌≡◌, ◌≢◌, ℕ, zero, suc, ◌+◌, ◌*◌, ◌≤◌, ◌<◌, Bool, true, false, nat_eq, List, [], ◌∷◌, ◌++◌, length, Some, None, is_some, refl, sym, ap, subst, ◌∙◌, arith, true≢false, ◌⊎◌, inl, inr}
+use Rattle.std.proofs.Common.{◌≡◌, ◌≢◌, ℕ, zero, suc, ◌+◌, ◌*◌, ◌≤◌, ◌<◌, false, List, [], ◌∷◌, length, None, is_some, refl, sym, ap, subst, ◌∙◌, arith, ◌⊎◌, inl, inr}
 use Rattle.std.specs.Prelude.{pos, ◌-ℤ◌}
 use Rattle.std.proofs.lemmas.Int.{ints}
 use Rattle.std.proofs.lemmas.Bool.Decides.{eqb_tells}
@@ -8,16 +8,16 @@ use Rattle.std.proofs.lemmas.List.{length-append}
 use Rattle.euler_operators.specs.declared.Point.{Point}
 use Rattle.euler_operators.specs.Table as table
 use Rattle.euler_operators.specs.Table.{Table}
-use Rattle.euler_operators.specs.Model.{Model, FaceRow, cycle, items_of, content, face_of, solid_of, faces_of}
-use Rattle.euler_operators.specs.Sound.{Sound, Has, HasHalf}
+use Rattle.euler_operators.specs.Model.{Model, items_of, content, face_of, solid_of, faces_of}
+use Rattle.euler_operators.specs.Sound.{Sound, Has}
 use Rattle.euler_operators.specs.HalfEdge.{edge_of}
-use Rattle.euler_operators.proofs.Models.{content_row, face_row, solid_row, same_face, same_solid}
+use Rattle.euler_operators.proofs.Models.{content_row, face_row, solid_row, same_solid}
 use Rattle.euler_operators.proofs.Rotations.{IsIn_head}
 use Rattle.euler_operators.proofs.Tables.{get-put_here, get-put_other, in_use_within}
 use Rattle.euler_laws.specs.Laws.{effects, size}
 use Rattle.euler_laws.proofs.Sizes.{size-put_new, size-put_old}
 use Rattle.shapes.specs.Faces.{boundary, loops_of, items_in, vertices_of, edges_of}
-use Rattle.shapes.specs.Fresh.{Taken, growing, taken_in}
+use Rattle.shapes.specs.Fresh.{Taken, taken_in}
 use Rattle.shapes.specs.Prism.{riser, top_edge, top_items, with_side, with_sides, lifted, prism_from, prism_refusal, prism_model}
 use Rattle.solid_measure.specs.declared.solid_counts.Tally.{Tally}
 use Rattle.solid_measure.specs.solid_counts.Counts.{tally_of, counts, rings_in}
@@ -29,10 +29,10 @@ use Rattle.sweeps_laws.proofs.prism.Sides.{sides_edges, sides_faces, sides_loops
 use Rattle.sweeps_laws.proofs.prism.Whole.{Going, turn_ready, turn_next, turn_model}
 use Rattle.sweeps_laws.proofs.swept.Filled.{place_cases, filled, filled_old, filled_new, filled_past}
 use Rattle.sweeps_laws.proofs.swept.Numbers.{riser_above, riser_apart, riser_no_top, top_above, top_apart}
-use Rattle.sweeps_laws.proofs.swept.Sides.{grown, side_face, side_loop, faces_grown, loops_grown}
+use Rattle.sweeps_laws.proofs.swept.Sides.{side_face, side_loop, faces_grown, loops_grown}
 use Rattle.undo_journal.specs.Machine.{held}
 use Rattle.command_laws.specs.Counted.{SweepAddsCounts, SweepKeepsCounts}
-use Rattle.command_laws.proofs.Owners.{Agree, is_of, solid_of_loop, solid_of_half, faces_many, loops_many, vertices_many, more_faces, more_loops, more_edges, more_vertices, others_kept}
+use Rattle.command_laws.proofs.Owners.{Agree, is_of, solid_of_loop, faces_many, loops_many, vertices_many, more_faces, more_loops, more_edges, more_vertices, others_kept}
 
 -- some more of each, and no ring
 abbrev pub with_more : Tally → ℕ → ℕ → ℕ → Tally

@@ -5,7 +5,6 @@ use Rattle.euler_operators.specs.Model.{solid_of}
 use Rattle.euler_operators.specs.Sound.{Sound}
 use Rattle.shapes.specs.Faces.{boundary}
 use Rattle.shapes.specs.glue.Glue.{rim}
-use Rattle.solid_measure.specs.declared.solid_counts.Tally.{Tally}
 pub use Rattle.solid_measure.specs.solid_counts.Counts.{counts}
 use Rattle.undo_journal.specs.Machine.{Machine, held}
 use Rattle.command_laws.specs.Commands.{IsLamina, IsBlock, IsSweep, IsGlue}

@@ -1,23 +1,22 @@
 -- The normals of the caps: each cap below has the area of its cycle, and those of the holes that it takes in; the cap above is its opposite.
 use Rattle.std.specs.Prelude.{filter, fold}
-use Rattle.std.proofs.Common.{◌≡◌, ◌≢◌, ℕ, zero, suc, ◌+◌, ◌<◌, ◌≤◌, ℤ, pos, ◌+ℤ◌, neg_ℤ, Bool, true, false, cond, not, nat_eq, nat_lt, ◌&&◌, List, [], ◌∷◌, ◌++◌, length, map, get_or, refl, sym, ap, subst, ◌∙◌, arith, true≢false}
+use Rattle.std.proofs.Common.{◌≡◌, ◌≢◌, ℕ, zero, suc, ◌+◌, ◌<◌, ◌≤◌, ℤ, ◌+ℤ◌, neg_ℤ, Bool, true, false, cond, not, nat_eq, nat_lt, ◌&&◌, List, [], ◌∷◌, ◌++◌, length, map, get_or, refl, sym, ap, subst, ◌∙◌, arith, true≢false}
 use Rattle.std.proofs.lemmas.Int.{ints}
 use Rattle.std.proofs.lemmas.Bool.Decides.{nat_tests}
 use Rattle.std.proofs.lemmas.List.{append-nil, append_assoc, length-map, map-append}
 use Rattle.euler_operators.specs.declared.Plane.{Plane}
 use Rattle.euler_operators.specs.declared.Point.{Point}
 use Rattle.euler_operators.specs.HalfEdge.{edge_of, mate}
-use Rattle.euler_operators.specs.Items.{IsApart, IsIn, count, tick}
+use Rattle.euler_operators.specs.Items.{IsIn, count, tick}
 use Rattle.euler_operators.specs.Vectors.{direction, moved, origin}
 use Rattle.euler_operators.specs.Model.{Model}
-use Rattle.euler_operators.specs.Sound.{Sound, Has}
-use Rattle.euler_operators.specs.Conditions.{lists}
+use Rattle.euler_operators.specs.Sound.{Has}
 use Rattle.euler_operators.specs.Effect.{kfmrh}
-use Rattle.euler_operators.proofs.Lists.{count-append, tick_same}
+use Rattle.euler_operators.proofs.Lists.{tick_same}
 use Rattle.euler_operators.proofs.Maps.{from_map}
 use Rattle.euler_operators.proofs.Models.{mate_there}
 use Rattle.euler_operators.proofs.Vectors.{none_moved}
-use Rattle.shapes.specs.Measure.{area, normal}
+use Rattle.shapes.specs.Measure.{normal}
 use Rattle.shapes.specs.Vectors.{negated}
 use Rattle.shapes.specs.Fresh.{Taken}
 use Rattle.shapes.specs.split.Section.{has_stray_hole, holes_in, is_hole}

@@ -1,26 +1,25 @@
 -- Edges cut and faces drawn within a solid: other solids stay as they were.
-use Rattle.std.specs.Prelude.{filter, flat_map, fold}
+use Rattle.std.specs.Prelude.{flat_map, fold}
 use Rattle.std.specs.Option.{option_map}
-use Rattle.std.proofs.Common.{◌≡◌, ◌≢◌, ℕ, ◌+◌, ◌<◌, nat_eq, nat_lt, ◌&&◌, Bool, true, false, cond, not, List, [], ◌∷◌, length, map, Some, is_some, refl, sym, ap, subst, ◌∙◌, arith, true≢false, inl, inr}
+use Rattle.std.proofs.Common.{◌≡◌, ◌≢◌, ℕ, ◌+◌, nat_eq, nat_lt, ◌&&◌, Bool, true, false, cond, not, List, [], ◌∷◌, length, Some, is_some, refl, sym, ap, subst, ◌∙◌, arith, inl, inr}
 use Rattle.std.proofs.lemmas.Bool.{and_parts, eqb-false, eqb-true}
-use Rattle.std.proofs.lemmas.Bool.Decides.{eqb_tells}
 use Rattle.euler_operators.specs.declared.Plane.{Plane}
 use Rattle.euler_operators.specs.Items.{count, IsIn}
 use Rattle.euler_operators.specs.Rings.{canonical}
-use Rattle.euler_operators.specs.HalfEdge.{edge_of, mate, minus, plus}
+use Rattle.euler_operators.specs.HalfEdge.{edge_of, minus, plus}
 use Rattle.euler_operators.specs.Table as table
 use Rattle.euler_operators.specs.Table.{get-map_rows}
-use Rattle.euler_operators.specs.Model.{Model, LoopContent, LoopRow, content, cycle, face_of, faces_of, holds, is_ring_of, items_of, lone, loop_of, outer, rings_of, solid_of, tail}
+use Rattle.euler_operators.specs.Model.{Model, LoopContent, LoopRow, content, cycle, face_of, faces_of, is_ring_of, items_of, lone, loop_of, outer, rings_of, solid_of, tail}
 use Rattle.euler_operators.specs.Sound.{Sound, Has, HasHalf}
 use Rattle.euler_operators.specs.Conditions.{face_at, has_rings, lists}
 use Rattle.euler_operators.specs.Effect.{edge_row}
-use Rattle.euler_operators.proofs.Halves.{mate_minus, mate_plus, minus_row, plus_row, same_edge}
+use Rattle.euler_operators.proofs.Halves.{mate_plus, plus_row, same_edge}
 use Rattle.euler_operators.proofs.Lists.{IsIn_or_not}
 use Rattle.euler_operators.proofs.Members.{IsIn_rest, count-filter}
-use Rattle.euler_operators.proofs.Models.{face_row, in-holds, minus_there, plus_there, same_face, same_solid, solid_row}
+use Rattle.euler_operators.proofs.Models.{face_row, in-holds, plus_there, same_solid, solid_row}
 use Rattle.euler_operators.proofs.Rotations.{IsIn_head}
 use Rattle.euler_laws.proofs.shared.Counted.{all_where_has}
-use Rattle.euler_laws.proofs.shared.Listed.{IsIn-from_listed, listed-from_in}
+use Rattle.euler_laws.proofs.shared.Listed.{IsIn-from_listed}
 use Rattle.euler_laws.proofs.shared.Rows.{edge_there, loop_row}
 use Rattle.shapes.specs.Faces.{edges_of, vertices_on}
 use Rattle.shapes.specs.Fresh.{Growing, growing}
@@ -30,13 +29,12 @@ use Rattle.shapes.specs.split.Crossings.{all_cut, doubled, edge_cut, next_cut, w
 use Rattle.shapes.specs.split.Drawing.{Drawing, FacePairs, all_drawn, all_joined, all_pairs, draw_next, drawn_between, face_drawn, faces_drawn, in_one_loop, join_next, joined_pair, loops_joined, next_drawn, ring_free, rings_above, straddling_pairs, stuck_at, undrawn, with_drawings, with_rings}
 use Rattle.split_drawing_laws.specs.crossings.Kept.{Kept}
 use Rattle.split_drawing_laws.specs.crossings.Laws.{CanBegin}
-use Rattle.split_drawing_laws.specs.drawings.DrawnIn.{DrawnIn, JoinedIn, Stays}
-use Rattle.split_drawing_laws.specs.drawings.Laws.{CanBeDrawn}
-use Rattle.split_drawing_laws.specs.drawings.Pairs.{AllFit, FacesFit, Fits, pairs_in}
+use Rattle.split_drawing_laws.specs.drawings.DrawnIn.{JoinedIn, Stays}
+use Rattle.split_drawing_laws.specs.drawings.Pairs.{AllFit, Fits, pairs_in}
 use Rattle.split_drawing_laws.specs.drawings.Passing.{Drawable, Going, Joining, Ready}
 use Rattle.split_drawing_laws.proofs.crossings.Doubled.{doubled_none}
 use Rattle.split_drawing_laws.proofs.crossings.Whole.{crossings_keep, crossings_sound, tails_stay}
-use Rattle.split_drawing_laws.proofs.drawings.Drawn.{CanDraw, CanJoin}
+use Rattle.split_drawing_laws.proofs.drawings.Drawn.{CanJoin}
 use Rattle.split_drawing_laws.proofs.drawings.Faces.{begun_joining, face_goes, fitting_on, going, going_on, joins, last, newer_face}
 use Rattle.split_drawing_laws.proofs.drawings.Pairs.{can_back, can_on, pair_can}
 use Rattle.split_drawing_laws.proofs.drawings.Passes.{draw_next_one, draw_next_two, draw_one, edge_fits, edge_fits_now, edge_free, edge_open, face_fits, face_open, join_next_one, join_next_two, join_one, loop_fits, loop_open, room_here}

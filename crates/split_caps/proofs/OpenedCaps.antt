@@ -5,13 +5,12 @@ use Rattle.std.proofs.lemmas.Int.{ints}
 use Rattle.std.proofs.lemmas.List.{append_assoc, append-nil, map-append}
 use Rattle.euler_operators.specs.declared.Plane.{Plane}
 use Rattle.euler_operators.specs.declared.Point.{Point}
-use Rattle.euler_operators.specs.HalfEdge.{mate}
 use Rattle.euler_operators.specs.Items.{IsIn}
 use Rattle.euler_operators.specs.Vectors.{direction, dot, is_on}
-use Rattle.euler_operators.specs.Model.{Model, LoopContent, content, cycle, face_of, outer, point_of, tail}
+use Rattle.euler_operators.specs.Model.{Model, content, face_of, outer, point_of, tail}
 use Rattle.euler_operators.specs.Sound.{Has}
 use Rattle.euler_operators.proofs.Maps.{from_map}
-use Rattle.shapes.specs.Faces.{start, vertices_on}
+use Rattle.shapes.specs.Faces.{vertices_on}
 use Rattle.shapes.specs.Fresh.{Taken}
 use Rattle.shapes.specs.Measure.{area, normal}
 use Rattle.shapes.specs.Vectors.{negated}

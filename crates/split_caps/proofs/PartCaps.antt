@@ -1,9 +1,9 @@
 -- The caps once the holes are closed and the upper faces parted from the solid.
-use Rattle.std.proofs.Common.{◌≡◌, ◌≢◌, ℕ, zero, suc, ◌+◌, ◌<◌, ◌≤◌, Bool, true, false, cond, not, nat_eq, ◌&&◌, List, [], ◌∷◌, ◌++◌, length, map, get_or, Option, Some, is_some, refl, sym, ap, subst, ◌∙◌, arith, true≢false, inl, inr}
+use Rattle.std.proofs.Common.{◌≡◌, ◌≢◌, ℕ, zero, suc, ◌+◌, ◌<◌, ◌≤◌, Bool, true, false, cond, not, nat_eq, ◌&&◌, List, [], ◌∷◌, ◌++◌, length, map, get_or, Some, is_some, refl, sym, ap, subst, ◌∙◌, arith, true≢false, inl, inr}
 use Rattle.std.specs.Prelude.{filter, fold, pos, int_lt}
 use Rattle.std.specs.Option.{option_map}
 use Rattle.std.proofs.lemmas.Bool.Decides.{eqb_tells}
-use Rattle.std.proofs.lemmas.List.{append_assoc, append-nil}
+use Rattle.std.proofs.lemmas.List.{append-nil}
 use Rattle.euler_operators.specs.declared.Plane.{Plane}
 use Rattle.euler_operators.specs.declared.Point.{Point}
 use Rattle.euler_operators.specs.Items.{count, IsIn}
@@ -15,7 +15,7 @@ use Rattle.euler_operators.specs.Conditions.{face_at, lists, strictly_rises}
 use Rattle.euler_operators.specs.Effect.{kfmrh, part}
 use Rattle.euler_operators.proofs.Halves.{mate-mate}
 use Rattle.euler_operators.specs.HalfEdge.{mate}
-use Rattle.euler_operators.proofs.Lists.{count-append, tick_other, tick_same, IsIn_or_not}
+use Rattle.euler_operators.proofs.Lists.{count-append, tick_same, IsIn_or_not}
 use Rattle.euler_operators.proofs.Vectors.{none_moved}
 use Rattle.euler_operators.proofs.Models.{mate_there, outer_row, same_solid, solid_row}
 use Rattle.euler_laws.proofs.shared.Counted.{counted_once}
@@ -26,8 +26,8 @@ use Rattle.shapes.specs.Measure.{area, normal}
 use Rattle.shapes.specs.Vectors.{negated}
 use Rattle.shapes.specs.split.Drawing.{Drawing}
 use Rattle.shapes.specs.split.Section.{below_halves, holes_in, is_hole, section_cycles}
-use Rattle.shapes.specs.split.Opening.{Caps, Opening, all_opened, holes_closed, hole_closed, no_caps, outer_caps}
-use Rattle.shapes.specs.split.Split.{opened_at, split_drawn, upper_left}
+use Rattle.shapes.specs.split.Opening.{Caps, Opening, holes_closed, hole_closed, no_caps, outer_caps}
+use Rattle.shapes.specs.split.Split.{opened_at, split_drawn}
 use Rattle.shapes.proofs.measures.Products.{cross_moved}
 use Rattle.shapes.proofs.walks.SolidFaces.{face_of_loop}
 use Rattle.split_opening_laws.specs.sections.Capped.{HasCaps, IsPlain, cap_faces}
@@ -50,7 +50,7 @@ use Rattle.split_laws.proofs.volumes.Taken as taken
 use Rattle.split_laws.proofs.volumes.Taken.{CanTake}
 use Rattle.split_caps.specs.Capped.{IsCapOf, area_below, sum_of}
 use Rattle.split_caps.proofs.CapNormals.{both_opposite, closed_normals, lowers, normals_are, one_outer, outer_is, told_at, told_filtered, uppers}
-use Rattle.split_caps.proofs.OpenedCaps.{AllFaceApart, FacesApart, LiesOn, along_at, apart_at, caps_apart, outer_on, plain_at, plain_lies}
+use Rattle.split_caps.proofs.OpenedCaps.{AllFaceApart, LiesOn, along_at, apart_at, caps_apart, outer_on, plain_at, plain_lies}
 
 -- a vertex on some loops is on one of them
 on_one : (M : Model) (ls : List ℕ) (v : ℕ) → IsIn v (vertices_in M ls) → (l : ℕ) × IsIn l ls × IsIn v (vertices_on M (content M l))

@@ -1,18 +1,17 @@
 -- A solid opened along its section, its holes closed and its upper faces parted: other solids stay as they were.
-use Rattle.std.specs.Prelude.{filter, flat_map, fold}
+use Rattle.std.specs.Prelude.{filter, fold}
 use Rattle.std.specs.Option.{option_map}
-use Rattle.std.proofs.Common.{◌≡◌, ◌≢◌, ℕ, ◌+◌, ◌<◌, ◌≤◌, Bool, true, false, cond, not, ◌&&◌, List, [], ◌∷◌, ◌++◌, length, map, Some, None, is_some, refl, sym, ap, subst, ◌∙◌, arith, true≢false, ◌⊎◌, inl, inr}
+use Rattle.std.proofs.Common.{◌≡◌, ◌≢◌, ℕ, ◌+◌, Bool, true, false, cond, not, ◌&&◌, List, [], ◌∷◌, length, map, Some, None, is_some, refl, sym, ap, subst, ◌∙◌, ◌⊎◌, inl, inr}
 use Rattle.std.proofs.lemmas.Bool.{eqb-false}
 use Rattle.std.proofs.lemmas.Bool.Decides.{eqb_tells}
 use Rattle.euler_operators.specs.declared.Plane.{Plane}
-use Rattle.euler_operators.specs.declared.Op.{Op}
 use Rattle.euler_operators.specs.declared.Op.TheVariants.{Kfmrh}
 use Rattle.euler_operators.specs.Items.{count, IsIn}
 use Rattle.euler_operators.specs.Rings.{canonical}
 use Rattle.euler_operators.specs.HalfEdge.{edge_of, mate, minus, plus}
 use Rattle.euler_operators.specs.Table as table
 use Rattle.euler_operators.specs.Table.{get-map_rows}
-use Rattle.euler_operators.specs.Model.{Model, LoopContent, content, cycle, face_of, holds, items_of, lone, solid_of, tail}
+use Rattle.euler_operators.specs.Model.{Model, LoopContent, content, cycle, face_of, holds, lone, solid_of, tail}
 use Rattle.euler_operators.specs.Sound.{Sound, Has, HasHalf}
 use Rattle.euler_operators.specs.Conditions.{face_at, first_false, lists}
 use Rattle.euler_operators.specs.Effect.{effect, kfmrh}
@@ -20,23 +19,23 @@ use Rattle.euler_operators.proofs.Halves.{mate_plus, plus_row, same_edge}
 use Rattle.euler_operators.proofs.Lists.{IsIn_or_not}
 use Rattle.euler_operators.proofs.Maps.{from_map}
 use Rattle.euler_operators.proofs.Members.{IsIn_rest}
-use Rattle.euler_operators.proofs.Models.{content_row, face_row, in-holds, minus_there, number_real, plus_there, same_solid, solid_row}
+use Rattle.euler_operators.proofs.Models.{face_row, in-holds, number_real, plus_there, same_solid, solid_row}
 use Rattle.euler_operators.proofs.Rotations.{IsIn_head}
-use Rattle.euler_operators.proofs.Tables.{get-put_here, get-put_other, in_use_within, row_some}
-use Rattle.euler_laws.specs.Laws.{AreAccepted, effects}
-use Rattle.euler_laws.proofs.faces.Kfmrh.{KillGoes, kfmrh_goes}
+use Rattle.euler_operators.proofs.Tables.{in_use_within, row_some}
+use Rattle.euler_laws.specs.Laws.{AreAccepted}
+use Rattle.euler_laws.proofs.faces.Kfmrh.{kfmrh_goes}
 use Rattle.euler_laws.proofs.shared.Listed.{listed_front}
 use Rattle.euler_laws.proofs.shared.Rows.{loop_row as row_of}
 use Rattle.shapes.proofs.fresh.Rows.{get-put_cases}
 use Rattle.shapes.specs.Fresh.{Taken, numbers_after}
-use Rattle.shapes.specs.Rewriting.{renamed, rewritten, rewritten_row}
+use Rattle.shapes.specs.Rewriting.{renamed, rewritten}
 use Rattle.shapes.specs.split.Opening.{Caps, Opening, all_opened, both_lists, hole_closed, holes_closed, next_opened, no_caps, opened_along, opened_row, opened_tail, outer_caps}
-use Rattle.split_opening_laws.specs.sections.Capped.{ArePlain, IsPlain}
+use Rattle.split_opening_laws.specs.sections.Capped.{ArePlain}
 use Rattle.split_opening_laws.specs.sections.InTurn.{CanBeOpenedInTurn}
 use Rattle.split_opening_laws.specs.strips.Opened.{CanBeOpened}
 use Rattle.split_opening_laws.proofs.sections.InTurn.{can_open, openings_sound, others_on}
 use Rattle.split_opening_laws.proofs.sections.OpenedFaces.{upper_row}
-use Rattle.split_opening_laws.proofs.sections.OpenedRows.{edges_are, face_still, faces_are, loop_row, loops_are}
+use Rattle.split_opening_laws.proofs.sections.OpenedRows.{edges_are, face_still, faces_are, loop_row}
 use Rattle.split_opening_laws.proofs.sections.Pairs.{renamed_not}
 use Rattle.split_opening_laws.proofs.sections.Rims.{rim_below}
 use Rattle.split_laws.specs.SplitOps.{closing_ops}

@@ -1,16 +1,16 @@
 -- How many vertices and edges a split makes.
-use Rattle.std.specs.Prelude.{filter, flat_map, fold}
-use Rattle.std.proofs.Common.{◌≡◌, ◌≢◌, ℕ, zero, suc, ◌+◌, ◌<◌, ◌≤◌, Bool, true, false, cond, nat_eq, nat_lt, ◌&&◌, List, [], ◌∷◌, ◌++◌, length, map, None, is_some, refl, sym, ap, subst, ◌∙◌, arith, true≢false, inl, inr}
+use Rattle.std.specs.Prelude.{fold}
+use Rattle.std.proofs.Common.{◌≡◌, ◌≢◌, ℕ, zero, suc, ◌+◌, ◌<◌, Bool, true, false, cond, nat_eq, nat_lt, ◌&&◌, List, [], ◌∷◌, ◌++◌, length, map, None, refl, sym, ap, subst, ◌∙◌, arith, inl, inr}
 use Rattle.std.proofs.lemmas.Bool.Decides.{eqb_tells}
 use Rattle.std.proofs.lemmas.List.{length-append, length-map}
 use Rattle.euler_operators.specs.declared.Plane.{Plane}
 use Rattle.euler_operators.specs.declared.Point.{Point}
-use Rattle.euler_operators.specs.HalfEdge.{code, edge_of, half, mate, plus}
+use Rattle.euler_operators.specs.HalfEdge.{code, edge_of, half, plus}
 use Rattle.euler_operators.specs.Items.{IsIn}
 use Rattle.euler_operators.specs.Table as table
 use Rattle.euler_operators.specs.Table.{Table}
 use Rattle.euler_operators.specs.Model.{EdgeRow, Model, is_ring_of, loop_of, point_of, tail}
-use Rattle.euler_operators.specs.Sound.{Sound, Has, HasHalf}
+use Rattle.euler_operators.specs.Sound.{Sound}
 use Rattle.euler_operators.specs.Conditions.{face_at, has_rings}
 use Rattle.euler_operators.specs.Effect.{effect, kfmrh, mev_at, part}
 use Rattle.euler_operators.proofs.Lists.{tick_same}
@@ -18,16 +18,14 @@ use Rattle.euler_operators.proofs.Tables.{get-put_other}
 use Rattle.euler_laws.specs.Laws.{AreAccepted, effects, size}
 use Rattle.euler_laws.proofs.Sizes.{mapped_none, size-map_rows, size-put_new}
 use Rattle.euler_laws.proofs.mev.Mev.{mev_goes}
-use Rattle.shapes.specs.Fresh.{Growing, Taken, growing, numbers_after}
-use Rattle.shapes.specs.split.Sides.{crossing_edges}
-use Rattle.shapes.specs.split.Crossings.{next_cut, with_crossings}
-use Rattle.shapes.specs.split.Drawing.{Drawing, FacePairs, all_drawn, all_joined, draw_next, drawn_between, face_drawn, in_one_loop, join_next, joined_pair, loops_joined, next_drawn, ring_free, rings_above, stuck_at, with_rings}
-use Rattle.shapes.specs.split.Opening.{Caps, Opening, all_opened, both_lists, hole_closed, next_opened, opened_along, opened_row, with_copies, with_rim}
+use Rattle.shapes.specs.Fresh.{Growing, Taken, numbers_after}
+use Rattle.shapes.specs.split.Crossings.{next_cut}
+use Rattle.shapes.specs.split.Drawing.{Drawing, FacePairs, all_drawn, all_joined, draw_next, drawn_between, in_one_loop, join_next, joined_pair, loops_joined, next_drawn, ring_free, rings_above, stuck_at, with_rings}
+use Rattle.shapes.specs.split.Opening.{Caps, Opening, all_opened, both_lists, hole_closed, next_opened, opened_along, with_copies, with_rim}
 use Rattle.split_drawing_laws.specs.crossings.CrossingOps as crossings
-use Rattle.split_drawing_laws.specs.drawings.DrawnIn.{JoinedIn}
-use Rattle.split_drawing_laws.specs.drawings.Pairs.{AllFit, Fits, pairs_in}
+use Rattle.split_drawing_laws.specs.drawings.Pairs.{AllFit, pairs_in}
 use Rattle.split_drawing_laws.specs.drawings.Passing.{Drawable, Going, Joining, Ready}
-use Rattle.split_drawing_laws.proofs.drawings.Drawn.{CanDraw, CanJoin}
+use Rattle.split_drawing_laws.proofs.drawings.Drawn.{CanJoin}
 use Rattle.split_drawing_laws.proofs.drawings.Faces.{begun_joining, fitting_on, going, going_on, joins}
 use Rattle.split_drawing_laws.proofs.drawings.Pairs.{can_back, can_on, pair_can}
 use Rattle.split_drawing_laws.proofs.drawings.Passes.{draw_next_one, draw_next_two, draw_one, edge_fits, edge_fits_now, edge_free, edge_open, face_fits, face_open, join_next_one, join_next_two, join_one, loop_fits, loop_open, room_here}

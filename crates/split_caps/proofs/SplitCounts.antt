@@ -1,6 +1,6 @@
 -- What the two parts of a split solid count.
-use Rattle.std.specs.Prelude.{filter, flat_map, fold}
-use Rattle.std.proofs.Common.{◌≡◌, ◌≢◌, ℕ, zero, suc, ◌+◌, ◌*◌, ◌-◌, ℤ, pos, neg_ℤ, ◌+ℤ◌, ◌-ℤ◌, Bool, true, false, cond, nat_eq, List, [], ◌∷◌, ◌++◌, length, map, None, is_some, refl, sym, ap, subst, ◌∙◌, arith, ne_eqb}
+use Rattle.std.specs.Prelude.{filter}
+use Rattle.std.proofs.Common.{◌≡◌, ◌≢◌, ℕ, zero, suc, ◌+◌, ◌*◌, ◌-◌, ℤ, pos, neg_ℤ, ◌+ℤ◌, ◌-ℤ◌, Bool, true, false, cond, nat_eq, List, [], ◌∷◌, ◌++◌, length, map, is_some, refl, sym, ap, subst, ◌∙◌, arith, ne_eqb}
 use Rattle.std.proofs.lemmas.Int.{ints}
 use Rattle.std.proofs.lemmas.List.{append-nil}
 use Rattle.euler_operators.specs.declared.Op.{Op}
@@ -10,8 +10,8 @@ use Rattle.euler_operators.specs.declared.Plane.{Plane}
 use Rattle.euler_operators.specs.Items.{IsIn}
 use Rattle.euler_operators.specs.Table as table
 use Rattle.euler_operators.specs.Model.{Model, faces_of, is_ring_of, loop_of, solid_of}
-use Rattle.euler_operators.specs.Sound.{Sound, Has}
-use Rattle.euler_operators.specs.Conditions.{face_at, lists, strictly_rises}
+use Rattle.euler_operators.specs.Sound.{Sound}
+use Rattle.euler_operators.specs.Conditions.{face_at, strictly_rises}
 use Rattle.euler_operators.specs.Effect.{effect, part}
 use Rattle.euler_operators.proofs.Members.{count-filter}
 use Rattle.euler_operators.proofs.Models.{number_real}
@@ -29,7 +29,7 @@ use Rattle.shapes.specs.split.Drawing.{Drawing, FacePairs, all_drawn, all_joined
 use Rattle.shapes.specs.split.Section.{below_halves, section_cycles}
 use Rattle.shapes.specs.split.Opening.{Caps, Opening, holes_closed, next_opened, outer_caps}
 use Rattle.shapes.specs.split.Split.{opened_at, upper_left}
-use Rattle.solid_measure.specs.solid_counts.Counts.{counts, rings_in, tally_of}
+use Rattle.solid_measure.specs.solid_counts.Counts.{counts, rings_in}
 use Rattle.split_drawing_laws.specs.crossings.CrossingOps.{crossing_ops}
 use Rattle.split_drawing_laws.specs.crossings.Laws.{CanBegin}
 use Rattle.split_drawing_laws.specs.drawings.Laws.{CanBeDrawn}
@@ -47,7 +47,7 @@ use Rattle.split_opening_laws.specs.sections.Capped.{HasCaps}
 use Rattle.split_opening_laws.specs.sections.InTurn.{CanBeOpenedInTurn, halves_in, upper_faces}
 use Rattle.split_opening_laws.proofs.sections.Capping.{caps_rise}
 use Rattle.split_opening_laws.proofs.sections.InTurn.{all_on}
-use Rattle.split_laws.specs.SplitOps.{closing_ops, hole_ops, later_ops, openings_ops, ops_above, split_ops, upper_ops}
+use Rattle.split_laws.specs.SplitOps.{closing_ops, hole_ops, openings_ops, split_ops, upper_ops}
 use Rattle.split_laws.specs.volumes.Laws.{CanBeSplit}
 use Rattle.split_laws.proofs.Closed as closing
 use Rattle.split_laws.proofs.Holes.{AreClosed}

@@ -1,21 +1,18 @@
 -- One step of a split within a solid: whatever isn't of the solid stays, and nothing else comes to be of another.
-use Rattle.std.proofs.Common.{◌≡◌, ◌≢◌, ℕ, ◌+◌, ◌≤◌, ◌<◌, Bool, true, false, cond, not, nat_eq, ◌||◌, ◌&&◌, List, [], ◌∷◌, length, map, Option, Some, None, is_some, refl, sym, ap, subst, ◌∙◌, arith, true≢false, ne_eqb, ◌⊎◌, inl, inr}
+use Rattle.std.proofs.Common.{◌≡◌, ◌≢◌, ℕ, Bool, true, false, cond, List, Option, Some, None, is_some, refl, sym, ap, ◌∙◌, true≢false, ne_eqb, inl, inr}
 use Rattle.std.specs.Option.{option_map}
-use Rattle.std.proofs.lemmas.Bool.Decides.{nat_tests, eqb_tells}
-use Rattle.std.proofs.lemmas.Bool.{eq-eqb, eqb-false}
-use Rattle.euler_operators.specs.Items.{count, IsIn}
-use Rattle.euler_operators.specs.HalfEdge.{edge_of, mate, minus, plus}
-use Rattle.euler_operators.specs.Rings.{canonical}
+use Rattle.std.proofs.lemmas.Bool.Decides.{eqb_tells}
+use Rattle.std.proofs.lemmas.Bool.{eqb-false}
+use Rattle.euler_operators.specs.HalfEdge.{edge_of}
 use Rattle.euler_operators.specs.Table as table
-use Rattle.euler_operators.specs.Table.{Table}
-use Rattle.euler_operators.specs.Model.{Model, EdgeRow, FaceRow, LoopContent, LoopRow, content, cycle, face_of, holds, lone, loop_of, outer, solid_of, tail}
+use Rattle.euler_operators.specs.Model.{Model, FaceRow, LoopRow, face_of, loop_of, outer, solid_of}
 use Rattle.euler_operators.specs.Sound.{Sound, Has, HasHalf}
 use Rattle.euler_operators.specs.Conditions.{face_at, lists}
 use Rattle.euler_operators.specs.Effect.{faces_to_solid, kfmrh, loop_to_face, part}
-use Rattle.euler_operators.proofs.Models.{face_row, loop_there, same_face, same_solid, solid_row}
-use Rattle.euler_operators.proofs.Tables.{get-put_other, get-remove_here, get-remove_other, in_use_within}
-use Rattle.euler_laws.proofs.faces.Kfmrh.{KillGoes, kill_face_else, kill_face_l, kill_solid, sound-kfmrh}
-use Rattle.euler_laws.proofs.shared.Rows.{face_there, loop_row, solid_either}
+use Rattle.euler_operators.proofs.Models.{face_row, loop_there, same_solid, solid_row}
+use Rattle.euler_operators.proofs.Tables.{get-put_other, get-remove_here, get-remove_other}
+use Rattle.euler_laws.proofs.faces.Kfmrh.{KillGoes, kill_face_l, kill_solid, sound-kfmrh}
+use Rattle.euler_laws.proofs.shared.Rows.{face_there, solid_either}
 use Rattle.shapes.specs.split.Drawing.{face_drawn, loops_joined, with_rings}
 use Rattle.split_drawing_laws.proofs.drawings.Drawn.{CanDraw, CanJoin, draw_sound, face_drawn_else, face_drawn_new, join_sound, loops_joined_faces}
 use Rattle.split_drawing_laws.proofs.drawings.Stays.{edges_are, joined_edges, row_else, row_gone, row_joined, row_other}

@@ -1,5 +1,5 @@
 -- What the caps are after a split that was answered Ok.
-use Rattle.std.specs.Prelude.{◌≡◌, ℕ, ◌<◌, pos, int_lt, true, false, List, [], map, filter, length, get_or}
+use Rattle.std.specs.Prelude.{◌≡◌, ℕ, ◌<◌, pos, int_lt, true, false, [], map, filter, length, get_or}
 use Rattle.euler_operators.specs.declared.Plane.{Plane}
 use Rattle.euler_operators.specs.Vectors.{moved, dot, direction}
 use Rattle.euler_operators.specs.Table as table

@@ -8,9 +8,11 @@
 //! the plane, and their normals lie along its direction; those of holes are no faces any more. The normal of the cap below is the area
 //! round its cycle, which doesn't point against the plane's direction, and those round the holes, which do; the cap above has the
 //! opposite normal. What `counts` answers of the two parts together, told from what it answered of the solid and from how many
-//! vertices, edges, faces and rings the session holds more; `v - e + f - r`, told from the cycles of the section and its holes; and
-//! that it answers of every other solid what it did. Not proved: that the holes of a section have less area than its outer cycle, so
-//! that the cap below points along the direction then too; what each part counts alone.
+//! vertices, edges, faces and rings the session holds more. How many vertices and edges that is, and how many faces more than rings, by
+//! the edges that are cut, the edges drawn between cut places and the half-edges round the section; `v - e + f - r`, by the cycles of the
+//! section and its holes alone. Of every other solid `counts` answers what it did. Not proved: that the holes of a section have less
+//! area than its outer cycle, so that the cap below points along the direction then too; what each part counts alone; the faces and
+//! the rings apart from each other by the section.
 #![tactic(auto)]
 
 ghost use Rattle.split_caps.specs.Counted.{SplitSharesCounts, SplitSharesSums, SplitMakesCounts, SplitKeepsCounts};
@@ -34,9 +36,9 @@ pub fn caps_face_apart()
     ensures plain { CapsFaceApart }
 {}
 
-/// The two parts together have the vertices, edges, faces and rings of the solid and those that the split made. Their `v - e + f - r`
-/// sum to that of the solid, and two more for each outer cycle of the section, and two less for each hole. Every other solid counts as it
-/// did.
+/// The two parts together have the vertices, edges, faces and rings of the solid and those that the split made: a vertex and an edge for
+/// each edge that is cut and each half-edge of the section, and an edge drawn between the places of each pair. Their `v - e + f - r` sum
+/// to that of the solid, and two more for each outer cycle of the section, and two less for each hole. Every other solid counts as it did.
 pub fn splits_share_counts()
     ensures each { SplitSharesCounts }
     ensures sums { SplitSharesSums }
