@@ -3,6 +3,8 @@ import ctypes
 
 from library_session import Session
 
+from gwb.library import Point  # which library_session has made known
+
 LONE = 1 << 31
 
 
@@ -33,7 +35,24 @@ WORDS = {'n': number, 'w': whole, 'h': half, 'c': corner, 'o': way}
 # by command: the kinds of words that it takes, in their order
 TAKES = {
     'mvfs': 'nnnnwww', 'kvfs': 'n', 'mev': 'ccnnwww', 'kev': 'h', 'mef': 'hhnnn', 'kef': 'h', 'kemr': 'hn', 'mekr': 'ccn', 'kfmrh': 'nn',
-    'mfkrh': 'nn', 'ringmv': 'nno', 'block': 'nwwwwww', 'sweep': 'nwww', 'glue': 'nn', 'split': 'nwwwwn', 'undo': '', 'redo': ''}
+    'mfkrh': 'nn', 'ringmv': 'nno', 'block': 'nwwwwww', 'sweep': 'nwww', 'glue': 'nn', 'split': 'nwwwwn', 'undo': '', 'redo': '',
+    # no script has these
+    'outer': 'nn', 'merge': 'nn', 'draft': '', 'commit': '', 'abandon': ''}
+
+
+def lamina(solid, *coordinates):
+    """The arguments of a lamina."""
+    rows = [Point(*map(int, coordinates[i:i + 3])) for i in range(0, len(coordinates), 3)]
+    return number(solid), (Point * len(rows))(*rows), ctypes.c_size_t(len(rows))
+
+
+def part(solid, *faces):
+    """The arguments of a part, which no script has: the new solid, and the faces that go to it."""
+    return (ctypes.c_uint32 * len(faces))(*map(int, faces)), ctypes.c_size_t(len(faces)), number(solid)
+
+
+# by command: its arguments, as many as it has words
+LISTS = {'lamina': lamina, 'part': part}
 
 
 class TypedSession(Session):
@@ -42,7 +61,10 @@ class TypedSession(Session):
     def line(self, line):
         """The kind of the answer."""
         command, *words = line.decode().split()
-        if command not in TAKES:
+        if command in LISTS:
+            arguments = LISTS[command](*words)
+        elif command in TAKES:
+            arguments = [WORDS[kind](word) for kind, word in zip(TAKES[command], words)]
+        else:
             return super().line(line)
-        arguments = [WORDS[kind](word) for kind, word in zip(TAKES[command], words)]
         return getattr(self.library, 'gwb_' + command)(ctypes.byref(self.handle), *arguments)

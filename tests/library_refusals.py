@@ -4,7 +4,7 @@
     tests/library_refusals.py LIBRARY       a shared object that was linked over counting_heap.c
 
 Each script of refused_growths.py is run in a session as often as it asks for memory, each time with another request refused: once with
-all its commands as lines, and once with those that have one as typed calls. After `memory` depths are as before, and the command given
+all its commands as lines, and once with those that have one as typed calls; and so are parts and drafts, which only typed calls make. After `memory` depths are as before, and the command given
 again has its answer; a text that was refused is given when it is asked for again; a session that could not be opened opens when it is
 tried again; and when it is closed no block is held.
 """
@@ -15,6 +15,16 @@ from itertools import product
 from library_calls import TypedSession
 from library_session import MEMORY, Session, loaded
 from refused_growths import SCRIPTS
+
+
+POINTS = 'mvfs 1 1 1 1 0 0 0;mvfs 2 2 2 2 1 1 1;mvfs 3 3 3 3 2 2 2;merge 1 2;merge 1 3;'
+TYPED = {
+    'part': POINTS + 'part 2 2 3;undo;part 2 9;part 2 3 2;part 2 2 3;list',
+    'part in a draft': POINTS + 'draft;part 2 2;part 3 3;commit;list;undo;list',
+    'draft committed': 'mvfs 1 1 1 1 0 0 0;draft;mev @1 @1 1 2 3 0 0;mev -1 -1 2 3 0 3 0;mef -2 +1 3 2 2;kev +9;commit;list;undo;list;redo;list',
+    'draft abandoned': 'mvfs 1 1 1 1 0 0 0;mev @1 @1 1 2 5 0 0;undo;draft;mev @1 @1 1 2 3 0 0;mev -1 -1 2 3 0 3 0;abandon;redo;list',
+    'draft given up': 'block 1 0 0 0 4 4 4;draft;mev +7 +7 13 9 2 2 4;kemr +13 7',
+}
 
 
 class Heap:
@@ -83,7 +93,8 @@ def main():
     library = loaded(sys.argv[1])
     heap = Heap(library)
     count = wrong = 0
-    for kind, (name, script) in product((Session, TypedSession), SCRIPTS.items()):
+    runs = list(product((Session, TypedSession), SCRIPTS.items())) + [(TypedSession, script) for script in TYPED.items()]
+    for kind, (name, script) in runs:
         lines = [line.encode() for line in script.split(';')]
         wanted, requests = whole(kind(library), heap, lines)
         for request in range(1, requests + 1):

@@ -1,9 +1,11 @@
 /* Compares typed calls with lines: reads lines of a script, gives each to one handle as a line and to another as a typed call, where one
  * spells it, and compares kinds, refusals, fresh numbers, depths, texts, and from time to time the listings; and the version with the header's.
+ * From time to time operators are made steps of a draft of the second handle: one that is committed is compared with the same steps as
+ * commands of their own, and one that is abandoned with the model before it.
  *
  *   tests/random_lines.py LINES | library_typed
  *
- * The last line is 'N typed, M as lines: the same'; where the handles differ the line is named, and the status is 1. */
+ * The last line is 'N typed, M as lines, D drafts: the same'; where the handles differ the line is named, and the status is 1. */
 #include <inttypes.h>
 #include <stdio.h>
 #include <stdlib.h>
@@ -11,7 +13,7 @@
 
 #include "gwb.h"
 
-enum { MOST_WORDS = 16, LISTED_EVERY = 97, UNTYPED = 1000 };
+enum { MOST_POINTS = 64, MOST_WORDS = 3 + 3 * MOST_POINTS, LISTED_EVERY = 97, UNTYPED = 1000 };
 
 /* What a line has: its words, read as they are asked for. */
 typedef struct words {
@@ -84,6 +86,9 @@ static const struct {
     {"mekr", "ccn"}, {"kfmrh", "nn"}, {"mfkrh", "nn"}, {"ringmv", "nno"}, {"block", "nwwwwww"}, {"sweep", "nwww"}, {"glue", "nn"},
     {"split", "nwwwwn"}, {"undo", ""}, {"redo", ""}, {"plane", "n"}, {"volume", "n"}, {"count", "n"}};
 
+/* A command of as many words as it has points; where the operators end in COMMANDS, and where the queries begin. */
+enum { LAMINA = 100, OPERATORS = 11, QUERIES = 17 };
+
 static int64_t argument(words *w, char takes, int i)
 {
     switch (takes) {
@@ -105,6 +110,15 @@ static int command_of(words *w, int64_t *a)
         return w->are_typed ? c : -1;
     }
     return -1;
+}
+
+/* A lamina, its solid and the coordinates of its points; -1 where it is none. */
+static int lamina_of(words *w, int64_t *a)
+{
+    if (w->count < 2 || w->count == MOST_WORDS || (w->count - 2) % 3 != 0 || strcmp("lamina", w->word[0]) != 0) return -1;
+    a[0] = number(w, 1);
+    for (int i = 2; i < w->count; i++) a[i - 1] = at(w, i);
+    return w->are_typed ? LAMINA : -1;
 }
 
 static bool same_wide(gwb_wide a, gwb_wide b)
@@ -141,7 +155,16 @@ static uint32_t count(gwb *g, uint32_t solid)
     return kind;
 }
 
-static uint32_t called(gwb *g, int command, const int64_t *a)
+static uint32_t lamina(gwb *g, uint32_t solid, const int64_t *coordinates, size_t n)
+{
+    gwb_point points[MOST_POINTS];
+    for (size_t i = 0; i < n; i++) {
+        points[i] = (gwb_point){coordinates[3 * i], coordinates[3 * i + 1], coordinates[3 * i + 2]};
+    }
+    return gwb_lamina(g, solid, points, n);
+}
+
+static uint32_t called(gwb *g, int command, const int64_t *a, int words)
 {
     uint32_t n[8] = {0};
     for (int i = 0; i < 8; i++) n[i] = (uint32_t)a[i];
@@ -166,6 +189,7 @@ static uint32_t called(gwb *g, int command, const int64_t *a)
     case 17: return face_plane(g, n[0]);
     case 18: return volume(g, n[0]);
     case 19: return count(g, n[0]);
+    case LAMINA: return lamina(g, n[0], a + 1, (size_t)(words - 2) / 3);
     default: return UNTYPED;
     }
 }
@@ -191,36 +215,205 @@ static void same_values(gwb *a, gwb *b, const char *line)
     if (gwb_depth(a) != gwb_depth(b) || gwb_ahead(a) != gwb_ahead(b)) fail("a depth", line);
 }
 
+/* Compares the listings of the models. */
+static void same_listings(gwb *a, gwb *b, const char *line)
+{
+    gwb_line(a, (const uint8_t *)"list", 4);
+    gwb_line(b, (const uint8_t *)"list", 4);
+    same_replies(a, b, line);
+}
+
+/* A line that was read. */
+typedef struct command {
+    const char *line;
+    size_t length;
+    int place; /* in COMMANDS, or LAMINA; -1 where no typed call spells the line */
+    int words;
+    int64_t arguments[MOST_WORDS];
+} command;
+
+static command command_in(const char *line, size_t length)
+{
+    command c = {.line = line, .length = length};
+    char *copy = strdup(line);
+    words w = words_of(copy);
+    c.place = lamina_of(&w, c.arguments);
+    if (c.place < 0) c.place = command_of(&w, c.arguments);
+    c.words = w.count;
+    free(copy);
+    return c;
+}
+
+static uint32_t as_line(gwb *g, const command *c)
+{
+    return gwb_line(g, (const uint8_t *)c->line, c->length);
+}
+
+static uint32_t as_call(gwb *g, const command *c)
+{
+    return c->place < 0 ? as_line(g, c) : called(g, c->place, c->arguments, c->words);
+}
+
+enum { MOST_STEPS = 12, DRAFTED_EVERY = 150 };
+
+/* The handle with typed calls and the one with lines, what was given to them, and the draft of the first one. */
+typedef struct pair {
+    gwb typed, lines;
+    size_t calls, others, drafts, next_draft;
+    bool is_open, is_alone; /* a draft is open; its steps are not given to the other handle */
+    size_t depth, count, taken; /* before the draft, its steps, and those that are accepted */
+    command steps[MOST_STEPS];
+} pair;
+
+/* One command for both. */
+static void give(pair *p, const command *c)
+{
+    uint32_t wanted = as_line(&p->lines, c);
+    if (as_call(&p->typed, c) != wanted) fail("the kind", c->line);
+    *(c->place < 0 ? &p->others : &p->calls) += 1;
+    same_values(&p->typed, &p->lines, c->line);
+    same_replies(&p->typed, &p->lines, c->line);
+    if ((p->calls + p->others) % LISTED_EVERY == 0) same_listings(&p->typed, &p->lines, c->line);
+}
+
+/* Undoes or redoes so many commands. */
+static void repeat(uint32_t (*move)(gwb *), gwb *g, size_t times)
+{
+    for (size_t i = 0; i < times; i++) {
+        if (move(g) != GWB_OK) fail("an undo or a redo", "a draft");
+    }
+}
+
+/* What a draft has not changes nothing, and so does what only a draft has. */
+static void refuse_in_draft(gwb *g, const command *c)
+{
+    gwb_refusal before = {0, 0}, after = {0, 0};
+    uint32_t found = gwb_last_refusal(g, &before);
+    uint32_t told[] = {as_line(g, c), gwb_undo(g), gwb_redo(g), gwb_block(g, 99, 0, 0, 0, 1, 1, 1), gwb_draft(g)};
+    for (size_t i = 0; i < sizeof told / sizeof *told; i++) {
+        if (told[i] != GWB_IN_DRAFT) fail("a call in a draft", c->line);
+    }
+    if (gwb_depth(g) != 0 || gwb_ahead(g) != 0) fail("a depth in a draft", c->line);
+    if (gwb_last_refusal(g, &after) != found || before.number != after.number || before.value != after.value) fail("the last answer", c->line);
+}
+
+static void open_draft(pair *p)
+{
+    p->is_open = true;
+    p->is_alone = p->drafts % 2 == 1;
+    p->depth = gwb_depth(&p->typed);
+    p->count = p->taken = 0;
+    p->drafts += 1;
+    if (gwb_commit(&p->typed) != GWB_NO_DRAFT || gwb_abandon(&p->typed) != GWB_NO_DRAFT) fail("a call of a draft", "none is open");
+    if (gwb_draft(&p->typed) != GWB_OK) fail("the kind", "a draft");
+}
+
+/* A step of the draft, and, where it is not alone, the same operator as a line of the other handle. */
+static void step(pair *p, const command *c)
+{
+    uint32_t kind = as_call(&p->typed, c);
+    if (!p->is_alone && as_line(&p->lines, c) != kind) fail("the kind of a step", c->line);
+    p->taken += kind == GWB_OK;
+    p->steps[p->count] = *c;
+    p->steps[p->count].line = "a step";
+    p->count += 1;
+}
+
+static void same_places(const char *when, pair *p)
+{
+    if (gwb_depth(&p->typed) != gwb_depth(&p->lines) || gwb_ahead(&p->typed) != gwb_ahead(&p->lines)) fail("a depth", when);
+    same_listings(&p->typed, &p->lines, when);
+}
+
+/* Commits the draft: the same model by one command as by the steps, each a command of its own, there and back. Then the typed handle makes
+ * these commands too, so that both have the same ones to undo. */
+static void commit(pair *p)
+{
+    if (gwb_commit(&p->typed) != GWB_OK || gwb_commit(&p->typed) != GWB_NO_DRAFT) fail("a commit", "a draft");
+    if (gwb_depth(&p->typed) != p->depth + 1 || gwb_ahead(&p->typed) != 0) fail("the depth", "a commit");
+    same_listings(&p->typed, &p->lines, "a commit");
+    repeat(gwb_undo, &p->typed, 1);
+    repeat(gwb_undo, &p->lines, p->taken);
+    same_listings(&p->typed, &p->lines, "an undone draft");
+    repeat(gwb_redo, &p->typed, 1);
+    repeat(gwb_redo, &p->lines, p->taken);
+    same_listings(&p->typed, &p->lines, "a draft made again");
+    repeat(gwb_undo, &p->typed, 1);
+    for (size_t i = 0; i < p->count; i++) as_call(&p->typed, &p->steps[i]);
+}
+
+/* Ends the draft. One that is abandoned leaves no trace. */
+static void end_draft(pair *p)
+{
+    p->is_open = false;
+    p->next_draft = p->calls + p->others + DRAFTED_EVERY;
+    if (!p->is_alone && p->taken > 0) {
+        commit(p);
+    } else if (gwb_abandon(&p->typed) != GWB_OK || gwb_abandon(&p->typed) != GWB_NO_DRAFT) {
+        fail("an abandon", "a draft");
+    }
+    same_places("the end of a draft", p);
+}
+
+static bool is_operator(const command *c)
+{
+    return c->place >= 0 && c->place < OPERATORS;
+}
+
+static bool is_query(const command *c)
+{
+    return c->place >= QUERIES && c->place < LAMINA;
+}
+
+/* A query in a draft, whose model the other handle has too. */
+static void ask(pair *p, const command *c)
+{
+    if (as_call(&p->typed, c) != as_line(&p->lines, c)) fail("the kind in a draft", c->line);
+    same_replies(&p->typed, &p->lines, c->line);
+}
+
+static void hear(pair *p, const command *c)
+{
+    if (!p->is_open && is_operator(c) && p->calls + p->others >= p->next_draft) open_draft(p);
+    if (!p->is_open) {
+        give(p, c);
+    } else if (is_operator(c)) {
+        step(p, c);
+    } else if (is_query(c) && !p->is_alone) {
+        ask(p, c);
+    } else {
+        refuse_in_draft(&p->typed, c);
+    }
+    if (p->is_open && p->count == MOST_STEPS) end_draft(p);
+}
+
+/* A draft without steps is a command, and one that is open when its handle is closed is given up. */
+static void close_drafting(gwb *g)
+{
+    size_t depth = gwb_depth(g);
+    if (gwb_draft(g) != GWB_OK || gwb_commit(g) != GWB_OK || gwb_depth(g) != depth + 1) fail("the depth", "an empty draft");
+    if (gwb_draft(g) != GWB_OK || gwb_mvfs(g, 999, 999, 999, 999, 0, 0, 0) != GWB_OK) fail("a step", "the last draft");
+    gwb_close(g);
+    if (gwb_draft(g) != GWB_CLOSED || gwb_commit(g) != GWB_CLOSED || gwb_abandon(g) != GWB_CLOSED) fail("a closed handle", "a draft");
+}
+
 int main(void)
 {
-    gwb typed = {0}, lines = {0};
+    static pair p;
     char *line = NULL;
-    size_t room = 0, calls = 0, others = 0;
+    size_t room = 0;
     if (gwb_version() != GWB_VERSION) fail("the version", "none");
-    if (!gwb_open(&typed) || !gwb_open(&lines)) return 2;
+    if (!gwb_open(&p.typed) || !gwb_open(&p.lines)) return 2;
     for (ssize_t n; (n = getline(&line, &room, stdin)) > 0;) {
         n -= line[n - 1] == '\n';
         line[n] = '\0';
-        char *copy = strdup(line);
-        int64_t a[MOST_WORDS] = {0};
-        words w = words_of(copy);
-        int command = command_of(&w, a);
-        uint32_t wanted = gwb_line(&lines, (const uint8_t *)line, (size_t)n);
-        uint32_t kind = command < 0 ? gwb_line(&typed, (const uint8_t *)line, (size_t)n) : called(&typed, command, a);
-        *(command < 0 ? &others : &calls) += 1;
-        free(copy);
-        if (kind != wanted) fail("the kind", line);
-        same_values(&typed, &lines, line);
-        same_replies(&typed, &lines, line);
-        if ((calls + others) % LISTED_EVERY == 0) {
-            gwb_line(&typed, (const uint8_t *)"list", 4);
-            gwb_line(&lines, (const uint8_t *)"list", 4);
-            same_replies(&typed, &lines, "list");
-        }
+        command c = command_in(line, (size_t)n);
+        hear(&p, &c);
     }
     free(line);
-    gwb_close(&typed);
-    gwb_close(&lines);
-    printf("%zu typed, %zu as lines: the same\n", calls, others);
-    return calls > 0 ? 0 : 1;
+    if (p.is_open) end_draft(&p);
+    close_drafting(&p.typed);
+    gwb_close(&p.lines);
+    printf("%zu typed, %zu as lines, %zu drafts: the same\n", p.calls, p.others, p.drafts);
+    return p.calls > 0 && p.drafts > 1 ? 0 : 1;
 }

@@ -43,7 +43,10 @@ enum gwb_kind {
     GWB_COUNT = 7,   /* the counts of a solid */
     GWB_LISTING = 8, /* the listing of the model */
     GWB_CLOSED = 9,  /* the handle is closed */
-    GWB_NO_CALL = 10 /* the arguments make no command: nothing has changed, the last answer included */
+    /* After these nothing has changed, the last answer included. */
+    GWB_NO_CALL = 10,  /* the arguments make no command */
+    GWB_IN_DRAFT = 11, /* a draft has no such call */
+    GWB_NO_DRAFT = 12  /* only a draft has this call */
 };
 
 /* What a reader says: GWB_FOUND and the value is written, or GWB_ABSENT or GWB_CLOSED (9) and nothing is written. */
@@ -70,8 +73,8 @@ uint32_t gwb_line(gwb *g, const uint8_t *line, size_t n);
  * is that of the model held now. */
 size_t gwb_reply(gwb *g, uint8_t *buf, size_t room);
 
-/* How many commands can be undone, and how many redone. SIZE_MAX where the handle is closed. Undo is possible where the depth is not
- * 0, and redo where something is ahead. */
+/* How many commands can be undone, and how many redone: in a draft none. SIZE_MAX where the handle is closed. Undo is possible where the
+ * depth is not 0, and redo where something is ahead. */
 size_t gwb_depth(gwb *g);
 size_t gwb_ahead(gwb *g);
 
@@ -111,7 +114,7 @@ typedef struct gwb_range {
  * takes its faces, loops, edges and vertices there. GWB_ABSENT where there are none, and for solids, whose numbers a line names. */
 uint32_t gwb_fresh(gwb *g, uint32_t entity, gwb_range *range);
 
-/* The model held, read without text. */
+/* The model held, in a draft the draft's, read without text. */
 
 /* The least number of a kind in use above n: from 0 on, all numbers in use, rising. GWB_ABSENT also for an unknown kind. */
 uint32_t gwb_number_after(gwb *g, uint32_t entity, uint32_t n, uint32_t *number);
@@ -189,8 +192,8 @@ uint32_t gwb_ringmv(gwb *g, uint32_t ring, uint32_t face, uint32_t out);
 uint32_t gwb_outer(gwb *g, uint32_t ring, uint32_t face);
 uint32_t gwb_merge(gwb *g, uint32_t solid, uint32_t other);
 
-/* A third one: `n` faces of one solid, their numbers rising, become the new solid `solid`. They leave the solid of the first of them, which is refused
- * where it is no face. Memory for the list is taken first, so GWB_MEMORY may come where the operator would be refused. GWB_NO_CALL where `n` is 0. */
+/* A third one: `n` faces of one solid, their numbers rising, become the new solid `solid`. The solid that they leave is that of the first face.
+ * Memory for their list is taken first, so GWB_MEMORY may come where the operator would be refused. GWB_NO_CALL where `n` is 0. */
 uint32_t gwb_part(gwb *g, const uint32_t *faces, size_t n, uint32_t solid);
 
 /* Makes a lamina: a new solid of two faces, whose corners are the `n` points in order. Fewer than 3 are refused; more than 64 are GWB_NO_CALL. */
@@ -203,6 +206,16 @@ uint32_t gwb_split(gwb *g, uint32_t solid, int64_t a, int64_t b, int64_t c, int6
 
 uint32_t gwb_undo(gwb *g);
 uint32_t gwb_redo(gwb *g);
+
+/* A draft of the next command: from gwb_draft on, each operator is a step of it, and readers and queries speak of the model that the steps
+ * make. A step that is not GWB_OK changes nothing, and the draft goes on. gwb_commit makes the steps one command, also where there was none;
+ * gwb_abandon takes them back: the session is as it was, what could be redone included. Both take no memory. gwb_close gives a draft up.
+ *
+ * In a draft a line, a lamina, block, sweep, glue or split, undo, redo and a second gwb_draft are GWB_IN_DRAFT; gwb_commit and gwb_abandon
+ * without a draft are GWB_NO_DRAFT. */
+uint32_t gwb_draft(gwb *g);
+uint32_t gwb_commit(gwb *g);
+uint32_t gwb_abandon(gwb *g);
 
 /* Queries: GWB_PLANE, GWB_VOLUME or GWB_COUNT and the value is written, as the last answer has it, or GWB_REFUSED or GWB_CLOSED and nothing
  * is. */

@@ -1,11 +1,37 @@
--- What a command is answered, from how the session's call ended; and the machine of a slot's one session.
-use Rattle.std.proofs.Common.{◌≡◌, Option, Some, ap}
-use Rattle.undo_journal.specs.Journal.{Journal}
-use Rattle.script_running.proofs.script_judging_laws.Acted
+-- What a command is answered, from how the session's or the draft's call ended; and the one session or stage of a slot.
+use Rattle.std.proofs.Common.{◌≡◌, ◌∙◌, inl, inr, Option, Some, None, Ok, Err, refl, sym, ap, subst, OnOk, OnErr}
+use Rattle.std.specs.Prelude.{◌↔◌, Result}
+use Rattle.euler_operators.specs.declared.Op.{Op}
+use Rattle.euler_operators.specs.declared.Refusal.{Refusal}
+use Rattle.euler_operators.specs.Model.{Model}
+use Rattle.undo_journal.specs.Journal.{Journal, DraftJournal, after_step}
+use Rattle.undo_journal.specs.declared.session.Failure.{Failure}
+use Rattle.undo_journal.specs.declared.session.Failure.TheVariants as failure
+use Rattle.solid_listing.specs.declared.reply.Reply.TheVariants as reply
+use Rattle.script_running.specs.script_judging.Judging.{refused, outcome}
+use Rattle.script_running.specs.declared.script_judging.judging.Answer.TheVariants.{Reply as Told}
 pub use Rattle.script_running.proofs.script_judging_laws.Acted.{acts_on}
+use Rattle.gwb_c.specs.Stages.{shown, Steps}
+use Rattle.gwb_c.specs.declared.stage.Stage.{Stage}
+use Rattle.gwb_c.specs.declared.stage.Stage.TheVariants.{Session}
 
-same : (s t : Journal) (o : Option Journal) → o ≡ Some s → o ≡ Some t → s ≡ t
-same s t o e f = cc
+-- memory is told only where the step isn't refused
+told_memory : (o : Option Refusal) (d : DraftJournal) (op : Op) (e : DraftJournal) → ((r : Refusal) → o ≡ Some r → ⊥) → e ≡ d → Steps o d op (Told reply.Memory) e
+told_memory None d op e never same = inr (refl, same)
+told_memory (Some r) d op e never same = absurd (never r refl)
 
-pub one_machine : (s t : Journal) (o : Option Journal) → o ≡ Some s → o ≡ Some t → s.machine ≡ t.machine
-one_machine s t o e f = ap (λ (j : Journal). j.machine) (same s t o e f)
+pub steps_on : (o : Option Refusal) (d : DraftJournal) (op : Op) (ended : Result (Unit {0}) Failure) (e : DraftJournal) → OnOk ended ((o ≡ None) × (e ≡ after_step d op))
+    → ((r : Refusal) → (ended ≡ Err (failure.Refused r)) ↔ (o ≡ Some r)) → OnErr ended (e ≡ d) → Steps o d op (outcome ended) e
+steps_on o d op (Ok _) e ok iff err = subst (λ (q : Option Refusal). Steps q d op (outcome (Ok tt)) e) (sym ok.0) (inl (refl, ok.1))
+steps_on o d op (Err (failure.Refused r)) e ok iff err = subst (λ (q : Option Refusal). Steps q d op (refused r) e) (sym ((iff r).0 refl)) (refl, err)
+steps_on o d op (Err (failure.Memory m)) e ok iff err = told_memory o d op e (λ r h. absurd (cc ((iff r).1 h))) err
+
+pub the_same : {X : Type 0} (x y : X) (o : Option X) → o ≡ Some x → o ≡ Some y → x ≡ y
+the_same x y o e f = cc
+
+pub same_session : (s t : Journal) (o : Option Stage) → o ≡ Some (Session s) → o ≡ Some (Session t) → s ≡ t
+same_session s t o e f = cc
+
+-- the model of the arena is the one shown
+pub seen : (g h : Stage) (o : Option Stage) → o ≡ Some g → o ≡ Some h → (M : Model) → M ≡ shown g → M ≡ shown h
+seen g h o e f M is = is ∙ ap shown (the_same g h o e f)

@@ -5,3 +5,5 @@ pub mod CycleRounds
 mod Numbers
 pub mod Acting
 mod Queried
+pub mod Turning
+mod Hearing

@@ -1,11 +1,11 @@
 -- What C's calls do to the session behind a handle.
-use Rattle.std.specs.Prelude.{◌≡◌, ◌⊎◌, ◌-◌, ◌^◌, ℕ, Bool, true, false, List, ◌++◌, length, take, drop, Option, Some, None, option_map}
+use Rattle.std.specs.Prelude.{◌≡◌, ◌⊎◌, ◌-◌, ◌^◌, ℕ, Bool, true, false, not, List, ◌++◌, length, take, drop, Option, Some, None}
 use Rattle.euler_operators.specs.Model.{Model}
-use Rattle.undo_journal.specs.Machine.{Machine, start, held}
-use Rattle.undo_journal.specs.Journal.{Journal}
+use Rattle.undo_journal.specs.Journal.{Journal, new_journal}
+use Rattle.script_reader.specs.declared.command.Command.{Command}
 use Rattle.solid_listing.specs.declared.reply.Reply.TheVariants as reply
-use Rattle.script_running.specs.script_judging.Judging.{Judges, Obeys, answer_text}
-use Rattle.script_running.specs.script_judging.Settling.{spelled}
+use Rattle.script_running.specs.script_judging.Judging.{Judges, Obeys}
+use Rattle.script_running.specs.script_judging.Settling.{spelled, Decides}
 use Rattle.script_running.specs.declared.script_judging.larger.Larger.{Larger}
 use Rattle.script_running.specs.declared.script_judging.judging.Answer.{Answer}
 use Rattle.script_running.specs.declared.script_judging.judging.Answer.TheVariants.{Silent, Reply as Told, Listing}
@@ -14,6 +14,9 @@ use Rattle.solid_walks.specs.Counters.{taken_of}
 use Rattle.solid_walks.specs.declared.numbers.Counters.{Counters}
 use Rattle.gwb_c.specs.FreshNumbers.{fresh_in}
 use Rattle.gwb_c.specs.declared.fresh.Range.{Range}
+use Rattle.gwb_c.specs.Stages.{shown, is_draft, text_in}
+use Rattle.gwb_c.specs.declared.stage.Stage.{Stage}
+use Rattle.gwb_c.specs.declared.stage.Stage.TheVariants.{Session, Drafting}
 use Rattle.gwb_c.specs.declared.slot.Slot.{Slot}
 
 -- what C is told of an answer
@@ -28,29 +31,38 @@ status_of (Told (reply.Volume n)) = 6
 status_of (Told (reply.Count ns)) = 7
 status_of Listing = 8
 
--- the machine that a handle holds
-abbrev pub machine_in : Option Slot → Option Machine
-machine_in None = None
-machine_in (Some x) = option_map (λ (j : Journal). j.machine) x.session
+-- what a handle holds: a session or a draft
+abbrev pub stage_in : Option Slot → Option Stage
+stage_in None = None
+stage_in (Some x) = x.stage
 
--- the answer to the last line
+-- the answer to the last command
 abbrev pub answer_in : Option Slot → Option Answer
 answer_in None = None
 answer_in (Some x) = Some x.answer
 
 -- a closed handle gets a new session that has answered nothing; else nothing has changed
 abbrev pub Opened : Option Slot → Option Slot → Bool → Type 0
-Opened None new true = (machine_in new ≡ Some start) × (answer_in new ≡ Some Silent)
+Opened None new true = (stage_in new ≡ Some (Session new_journal)) × (answer_in new ≡ Some Silent)
 Opened None new false = new ≡ None
 Opened (Some x) new opened = (opened ≡ false) × (new ≡ Some x)
 
+-- a session answers the line, or the larger command that it spells was put aside; a draft hears none
+abbrev pub Decides_on : Stage → List ℕ → Option Answer → Stage → Option Larger → Type 0
+Decides_on (Session s) line a g later = (t : Journal) × (g ≡ Session t) × Decides s.machine line a t.machine later
+Decides_on (Drafting d) line a g later = (a ≡ Some Silent) × (g ≡ Drafting d)
+
 -- a session goes on as the line is answered, and the answer is kept
 abbrev pub Slot_hears : Slot → List ℕ → Slot → Type 0
-Slot_hears old line new = (s : Journal) → old.session ≡ Some s → (t : Journal) × (new.session ≡ Some t) × Judges s.machine line new.answer t.machine
+Slot_hears old line new = (s : Journal) → old.stage ≡ Some (Session s) → (t : Journal) × (new.stage ≡ Some (Session t)) × Judges s.machine line new.answer t.machine
 
--- the greatest numbers in use in the model held
+-- a session goes on as the command is obeyed, and the answer is kept
+abbrev pub Slot_obeys : Slot → Command → Slot → Type 0
+Slot_obeys old c new = (s : Journal) → old.stage ≡ Some (Session s) → (t : Journal) × (new.stage ≡ Some (Session t)) × Obeys s.machine c new.answer t.machine
+
+-- the greatest numbers in use in the model shown
 abbrev pub Counts_in : Slot → Counters → Type 0
-Counts_in x n = (s : Journal) → x.session ≡ Some s → taken_of n ≡ taken_in (held s.machine)
+Counts_in x n = (g : Stage) → x.stage ≡ Some g → taken_of n ≡ taken_in (shown g)
 
 -- and the greatest numbers in use before the line are kept
 abbrev pub Slot_notes : Slot → List ℕ → Slot → Type 0
@@ -58,17 +70,36 @@ Slot_notes old line new = Slot_hears old line new × Counts_in old new.before
 
 -- the larger command that was put aside is obeyed
 abbrev pub Slot_finishes : Slot → Slot → Type 0
-Slot_finishes old new = (s : Journal) → (l : Larger) → old.session ≡ Some s → old.later ≡ Some l → (t : Journal) × (new.session ≡ Some t) × Obeys s.machine (spelled l) new.answer t.machine
+Slot_finishes old new = (l : Larger) → old.later ≡ Some l → Slot_obeys old (spelled l) new
 
--- the same for a handle, and C is told the kind of the answer; a closed handle stays as it is
+-- C is told a number alone, and nothing has changed; or R leads to a slot, and C is told the kind of its answer
+abbrev pub Unless : Bool → ℕ → (Slot → Slot → Type 0) → Slot → Option Slot → ℕ → Type 0
+Unless true n R x new kind = (new ≡ Some x) × (kind ≡ n)
+Unless false n R x new kind = (y : Slot) × (new ≡ Some y) × (kind ≡ status_of y.answer) × R x y
+
+-- a call that a session has and a draft has; a closed handle stays as it is
+abbrev pub Calls : (Slot → Slot → Type 0) → Option Slot → Option Slot → ℕ → Type 0
+Calls R None new kind = (new ≡ None) × (kind ≡ 9)
+Calls R (Some x) new kind = Unless false 0 R x new kind
+
+-- a call that a draft has not
+abbrev pub CallsOfSession : (Slot → Slot → Type 0) → Option Slot → Option Slot → ℕ → Type 0
+CallsOfSession R None new kind = (new ≡ None) × (kind ≡ 9)
+CallsOfSession R (Some x) new kind = Unless (is_draft x.stage) 11 R x new kind
+
+-- a call that only a draft has
+abbrev pub CallsOfDraft : (Slot → Slot → Type 0) → Option Slot → Option Slot → ℕ → Type 0
+CallsOfDraft R None new kind = (new ≡ None) × (kind ≡ 9)
+CallsOfDraft R (Some x) new kind = Unless (not (is_draft x.stage)) 12 R x new kind
+
+-- the line is answered
 abbrev pub Hears : Option Slot → List ℕ → Option Slot → ℕ → Type 0
-Hears None line new kind = (new ≡ None) × (kind ≡ 9)
-Hears (Some x) line new kind = (y : Slot) × (new ≡ Some y) × (kind ≡ status_of y.answer) × Slot_notes x line y
+Hears old line new kind = CallsOfSession (λ x y. Slot_notes x line y) old new kind
 
--- the number that a machine tells; a closed handle tells the greatest 64-bit number
-abbrev pub Numbers : (Machine → ℕ) → Option Slot → ℕ → Type 0
+-- a number that the session or the draft tells; a closed handle tells the greatest 64-bit number
+abbrev pub Numbers : (Stage → ℕ) → Option Slot → ℕ → Type 0
 Numbers f None n = n ≡ 2 ^ 64 - 1
-Numbers f (Some x) n = (s : Journal) → x.session ≡ Some s → n ≡ f s.machine
+Numbers f (Some x) n = (g : Stage) → x.stage ≡ Some g → n ≡ f g
 
 -- the items of the first list in the places of the second, as far as there is room; what they don't reach stays
 abbrev pub laid_over : List ℕ → List ℕ → List ℕ
@@ -81,7 +112,7 @@ Writes text old new n = ((n ≡ length text) × (new ≡ laid_over text old)) �
 -- the text of the last answer; a closed handle has none
 abbrev pub Replies : Option Slot → List ℕ → List ℕ → ℕ → Type 0
 Replies None old new n = (n ≡ 2 ^ 64 - 1) × (new ≡ old)
-Replies (Some x) old new n = (s : Journal) → x.session ≡ Some s → Writes (answer_text s.machine x.answer) old new n
+Replies (Some x) old new n = (g : Stage) → x.stage ≡ Some g → Writes (text_in (shown g) x.answer) old new n
 
 -- a value that is there is written; else nothing is
 abbrev pub Gives : {X : Type 0} → Option X → X → X → ℕ → Type 0
@@ -102,26 +133,26 @@ abbrev pub RecallsBy : {X Y : Type 0} → (Y → X) → (Answer → Option X) �
 RecallsBy g f None old new told = (told ≡ 9) × (new ≡ old)
 RecallsBy g f (Some y) old new told = GivesBy g (f y.answer) old new told
 
--- a value of the model held; a closed handle has none
+-- a value of the model shown; a closed handle has none
 abbrev pub Reads : {X : Type 0} → (Model → Option X) → Option Slot → X → X → ℕ → Type 0
 Reads f None old new told = (told ≡ 9) × (new ≡ old)
-Reads f (Some y) old new told = (s : Journal) → y.session ≡ Some s → Gives (f (held s.machine)) old new told
+Reads f (Some y) old new told = (g : Stage) → y.stage ≡ Some g → Gives (f (shown g)) old new told
 
--- a number that a relation to the model held fixes; a closed handle has none
+-- a number that a relation to the model shown fixes; a closed handle has none
 abbrev pub Finds : (Model → Option ℕ → Type 0) → Option Slot → ℕ → ℕ → ℕ → Type 0
 Finds R None old new told = (told ≡ 9) × (new ≡ old)
-Finds R (Some y) old new told = (s : Journal) → y.session ≡ Some s → ((told ≡ 1) × R (held s.machine) (Some new)) ⊎ ((told ≡ 0) × (new ≡ old) × R (held s.machine) None)
+Finds R (Some y) old new told = (g : Stage) → y.stage ≡ Some g → ((told ≡ 1) × R (shown g) (Some new)) ⊎ ((told ≡ 0) × (new ≡ old) × R (shown g) None)
 
 -- the fresh numbers of the kind k; a closed handle has none
 abbrev pub GivesFresh : ℕ → Option Slot → Range → Range → ℕ → Type 0
 GivesFresh k None old new told = (told ≡ 9) × (new ≡ old)
-GivesFresh k (Some y) old new told = (s : Journal) → y.session ≡ Some s → Gives (fresh_in (taken_of y.before) (taken_in (held s.machine)) k) old new told
+GivesFresh k (Some y) old new told = (g : Stage) → y.stage ≡ Some g → Gives (fresh_in (taken_of y.before) (taken_in (shown g)) k) old new told
 
 -- one of the lists that R allows is written, as far as there is room, and its length told
 abbrev pub WritesOne : (List ℕ → Type 0) → List ℕ → List ℕ → ℕ → Type 0
 WritesOne R old new n = (xs : List ℕ) × R xs × (n ≡ length xs) × (new ≡ laid_over xs old)
 
--- a list that a relation to the model held allows; a closed handle has none
+-- a list that a relation to the model shown allows; a closed handle has none
 abbrev pub Lists : (Model → List ℕ → Type 0) → Option Slot → List ℕ → List ℕ → ℕ → Type 0
 Lists R None old new n = (n ≡ 2 ^ 64 - 1) × (new ≡ old)
-Lists R (Some y) old new n = (s : Journal) → y.session ≡ Some s → WritesOne (R (held s.machine)) old new n
+Lists R (Some y) old new n = (g : Stage) → y.stage ≡ Some g → WritesOne (R (shown g)) old new n

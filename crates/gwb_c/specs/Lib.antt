@@ -1,4 +1,5 @@
 pub mod Owned
+pub mod Stages
 pub mod Handle
 pub mod Answered
 pub mod Reading

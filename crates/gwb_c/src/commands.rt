@@ -3,15 +3,19 @@ ghost use Rattle.std.specs.Prelude.{◌≡◌};
 ghost use Rattle.script_reader.specs.declared.command.Command.TheVariants as command;
 ghost use Rattle.script_running.specs.script_judging.Judging.{Obeys, outcome, refused};
 ghost use Rattle.script_running.specs.script_judging.Settling.{spelled};
-ghost use Rattle.gwb_c.specs.Calls.{Slot_obeys, Slot_does};
+ghost use Rattle.euler_operators.specs.Conditions.{first_false};
+ghost use Rattle.gwb_c.specs.Handle.{Slot_obeys};
+ghost use Rattle.gwb_c.specs.Stages.{Steps, Acts_on};
+ghost use Rattle.gwb_c.specs.Calls.{Slot_acts, Slot_carries, Slot_does};
 
-use crate::slot::{Slot, counted_in, finish};
+use crate::slot::{Slot, carry_in, counted_in, taken};
+use crate::stage::Stage;
 use arrayvec::ArrayVec;
 use euler_operators::{Op, Point, Refusal};
 use script_running::{Answer, Larger};
 use solid_listing::Reply;
 use std::alloc::Global;
-use undo_journal::{Failure, Session};
+use undo_journal::{Draft, Failure, Session};
 
 pub(crate) fn told_refusal(refusal: Refusal) -> Answer
     ensures { result ≡ refused refusal }
@@ -20,7 +24,7 @@ pub(crate) fn told_refusal(refusal: Refusal) -> Answer
 }
 
 /// The answer to a command that ended so.
-pub(crate) fn outcome(ended: Result<(), Failure>) -> Answer
+fn outcome(ended: Result<(), Failure>) -> Answer
     ensures { result ≡ outcome ended }
 {
     match ended {
@@ -31,10 +35,27 @@ pub(crate) fn outcome(ended: Result<(), Failure>) -> Answer
 }
 
 #[tactic(auto, using(crate::proofs::Acting::acts_on))]
-fn act_on(session: &mut Session, op: Op) -> Answer
+fn act_in_session(session: &mut Session, op: Op) -> Answer
     ensures { Obeys session.old.machine (command.Act op) result session.new.machine }
 {
     outcome(session.act(op))
+}
+
+#[tactic(auto, using(crate::proofs::Acting::steps_on))]
+fn step_in_draft(draft: &mut Draft, op: Op) -> Answer
+    ensures { Steps (first_false draft.old.model op) draft.old op result draft.new }
+{
+    outcome(draft.step(op))
+}
+
+/// One operator: in a session a command, in a draft a step.
+pub(crate) fn act_on(stage: &mut Stage, op: Op) -> Answer
+    ensures { Acts_on stage.old op result stage.new }
+{
+    match stage {
+        Stage::Session(session) => act_in_session(session, op),
+        Stage::Drafting(open) => step_in_draft(&mut open.draft, op),
+    }
 }
 
 fn undo_on(session: &mut Session) -> Answer
@@ -68,17 +89,17 @@ fn lamina_on(
 }
 
 fn act_in(slot: &mut Slot, op: Op)
-    ensures { Slot_obeys slot.old (command.Act op) slot.new }
+    ensures { Slot_acts slot.old op slot.new }
 {
-    if let Some(session) = &mut slot.session {
-        slot.answer = act_on(session, op);
+    if let Some(stage) = &mut slot.stage {
+        slot.answer = act_on(stage, op);
     }
 }
 
 fn undo_in(slot: &mut Slot)
     ensures { Slot_obeys slot.old command.Undo slot.new }
 {
-    if let Some(session) = &mut slot.session {
+    if let Some(Stage::Session(session)) = &mut slot.stage {
         slot.answer = undo_on(session);
     }
 }
@@ -86,35 +107,25 @@ fn undo_in(slot: &mut Slot)
 fn redo_in(slot: &mut Slot)
     ensures { Slot_obeys slot.old command.Redo slot.new }
 {
-    if let Some(session) = &mut slot.session {
+    if let Some(Stage::Session(session)) = &mut slot.stage {
         slot.answer = redo_on(session);
     }
-}
-
-fn carry_in(alloc: Global, slot: &mut Slot, larger: Larger)
-    ensures { Slot_obeys slot.old (spelled larger) slot.new }
-{
-    if slot.session.is_none() {
-        return;
-    }
-    slot.later = Some(larger);
-    finish(alloc, slot);
 }
 
 fn lamina_in(alloc: Global, slot: &mut Slot, solid: u32, points: &ArrayVec<Point, 64>)
     ensures { Slot_obeys slot.old (command.Lamina solid points.now.items) slot.new }
 {
-    let Some(session) = slot.session.take() else {
+    let Some(session) = taken(slot) else {
         return;
     };
     let (session, answer) = lamina_on(alloc, session, solid, points);
-    slot.session = Some(session);
+    slot.stage = Some(Stage::Session(session));
     slot.answer = answer;
 }
 
-/// One operator as a command.
+/// One operator: in a session a command, in a draft a step.
 pub(crate) fn act(slot: &mut Slot, op: Op)
-    ensures { Slot_does slot.old (command.Act op) slot.new }
+    ensures { Slot_carries slot.old op slot.new }
 {
     let before = counted_in(slot);
     act_in(slot, op);

@@ -1,10 +1,11 @@
 //! Calls of C: sessions, and lines as text.
 ghost use Rattle.std.specs.Prelude.{◌≡◌, Some, None};
-ghost use Rattle.undo_journal.specs.Machine.{depth, ahead};
+ghost use Rattle.gwb_c.specs.Stages.{undos, redos};
 ghost use Rattle.gwb_c.specs.Handle.{Opened, Hears, Numbers, Replies};
 
-use crate::handle::{CLOSED, Gwb, put, take};
-use crate::slot::{Slot, copy_front, hear, made, status, text_of};
+use crate::handle::{CLOSED, Gwb, IN_DRAFT, put, take};
+use crate::slot::{Slot, copy_front, hear, is_drafting, made, status, text_of};
+use crate::stage::{ahead, arena, depth};
 use std::alloc::Global;
 
 /// Opens a session that holds the empty model. False where memory is refused, or there is a session; then nothing has changed.
@@ -34,7 +35,7 @@ pub extern "C" fn gwb_close(alloc: Global, gwb: &mut Gwb)
 }
 
 /// Answers a line, without its newline, and keeps the answer. Says what kind of answer it is: 0 silent, 1 `ok`, 2 `refused`,
-/// 3 `fault`, 4 `memory`, 5 `plane`, 6 `volume`, 7 `count`, 8 a listing; 9 where there is no session.
+/// 3 `fault`, 4 `memory`, 5 `plane`, 6 `volume`, 7 `count`, 8 a listing; 9 where there is no session, 11 in a draft.
 #[unsafe(no_mangle)]
 pub extern "C" fn gwb_line(alloc: Global, gwb: &mut Gwb, line: &[u8]) -> u32
     ensures { Hears gwb.old.held.value line.now gwb.new.held.value result }
@@ -42,6 +43,10 @@ pub extern "C" fn gwb_line(alloc: Global, gwb: &mut Gwb, line: &[u8]) -> u32
     let Some(slot) = take(alloc, gwb) else {
         return CLOSED;
     };
+    if is_drafting(&slot) {
+        put(gwb, slot);
+        return IN_DRAFT;
+    }
     let mut slot = slot;
     hear(alloc, &mut slot, line);
     let kind = status(&slot.answer);
@@ -60,8 +65,8 @@ pub extern "C" fn gwb_reply(alloc: Global, gwb: &mut Gwb, buf: &mut [u8]) -> usi
         return usize::MAX;
     };
     let mut length = usize::MAX;
-    if let Some(session) = &slot.session {
-        if let Some(text) = text_of(alloc, session, &slot.answer) {
+    if let Some(stage) = &slot.stage {
+        if let Some(text) = text_of(alloc, arena(stage), &slot.answer) {
             length = copy_front(&text, buf);
         }
     }
@@ -70,47 +75,47 @@ pub extern "C" fn gwb_reply(alloc: Global, gwb: &mut Gwb, buf: &mut [u8]) -> usi
 }
 
 fn depth_of(slot: &Slot) -> usize
-    ensures { Numbers depth (Some slot.now) result }
+    ensures { Numbers undos (Some slot.now) result }
 {
-    match &slot.session {
-        Some(session) => session.depth(),
+    match &slot.stage {
+        Some(stage) => depth(stage),
         None => 0,
     }
 }
 
 fn ahead_of(slot: &Slot) -> usize
-    ensures { Numbers ahead (Some slot.now) result }
+    ensures { Numbers redos (Some slot.now) result }
 {
-    match &slot.session {
-        Some(session) => session.ahead(),
+    match &slot.stage {
+        Some(stage) => ahead(stage),
         None => 0,
     }
 }
 
-/// How many commands can be undone: `SIZE_MAX` where there is no session.
+/// How many commands can be undone, in a draft none: `SIZE_MAX` where there is no session.
 #[unsafe(no_mangle)]
 pub extern "C" fn gwb_depth(alloc: Global, gwb: &mut Gwb) -> usize
     ensures state { gwb.new.held.value ≡ gwb.old.held.value }
-    ensures value { Numbers depth gwb.old.held.value result }
+    ensures value { Numbers undos gwb.old.held.value result }
 {
     let Some(slot) = take(alloc, gwb) else {
         return usize::MAX;
     };
-    let depth = depth_of(&slot);
+    let count = depth_of(&slot);
     put(gwb, slot);
-    depth
+    count
 }
 
-/// How many commands can be redone: `SIZE_MAX` where there is no session.
+/// How many commands can be redone, in a draft none: `SIZE_MAX` where there is no session.
 #[unsafe(no_mangle)]
 pub extern "C" fn gwb_ahead(alloc: Global, gwb: &mut Gwb) -> usize
     ensures state { gwb.new.held.value ≡ gwb.old.held.value }
-    ensures value { Numbers ahead gwb.old.held.value result }
+    ensures value { Numbers redos gwb.old.held.value result }
 {
     let Some(slot) = take(alloc, gwb) else {
         return usize::MAX;
     };
-    let ahead = ahead_of(&slot);
+    let count = ahead_of(&slot);
     put(gwb, slot);
-    ahead
+    count
 }

@@ -2,11 +2,11 @@
 ghost use Rattle.std.specs.Prelude.{◌≡◌};
 ghost use Rattle.shapes.specs.Fresh.{taken_in};
 ghost use Rattle.solid_walks.specs.Counters.{taken_of};
-ghost use Rattle.undo_journal.specs.Machine.{held};
+ghost use Rattle.euler_conditions.specs.Ready.{IsReady};
 ghost use Rattle.gwb_c.specs.FreshNumbers.{above, fresh_in};
 
+use euler_conditions::Arena;
 use solid_walks::{Counters, counters_of};
-use undo_journal::Session;
 
 /// The numbers from the first to the last.
 #[repr(C)]
@@ -17,10 +17,11 @@ pub struct Range {
 }
 
 /// The greatest numbers in use.
-pub(crate) fn counted(session: &Session) -> Counters
-    ensures { taken_of result ≡ taken_in (held session.now.machine) }
+pub(crate) fn counted(arena: &Arena) -> Counters
+    requires { IsReady arena.now }
+    ensures { taken_of result ≡ taken_in arena.now.model }
 {
-    counters_of(session.arena())
+    counters_of(arena)
 }
 
 /// The numbers above the first bound, up to the second.

@@ -6,11 +6,16 @@ use crate::slot::Slot;
 use std::alloc::Global;
 use std::mem;
 
-/// What a call says of a closed handle, of arguments that make no command, and of a value that is there or not.
+/// What a call says of a closed handle, of arguments that make no command, of a call that no draft has, and of one that only a draft has.
 pub(crate) const CLOSED: u32 = 9;
 
 pub(crate) const NO_CALL: u32 = 10;
 
+pub(crate) const IN_DRAFT: u32 = 11;
+
+pub(crate) const NO_DRAFT: u32 = 12;
+
+/// What a call says of a value that is there or not.
 pub(crate) const FOUND: u32 = 1;
 
 pub(crate) const ABSENT: u32 = 0;

@@ -4,9 +4,9 @@ ghost use Rattle.script_reader.specs.declared.command.Command.TheVariants as com
 ghost use Rattle.gwb_c.specs.Calls.{Does, Leaves, point_of, polygon_of};
 
 use crate::commands;
-use crate::handle::{CLOSED, Gwb, NO_CALL, put, take};
+use crate::handle::{CLOSED, Gwb, IN_DRAFT, NO_CALL, put, take};
 use crate::readers::Place;
-use crate::slot::status;
+use crate::slot::{is_drafting, status};
 use arrayvec::ArrayVec;
 use euler_operators::Point;
 use std::alloc::Global;
@@ -35,7 +35,7 @@ fn polygon(places: &[Place]) -> ArrayVec<Point, 64>
     polygon
 }
 
-/// Makes a lamina: a solid of two faces, whose corners are the points in order. More than 64 points make no call.
+/// Makes a lamina: a solid of two faces, whose corners are the points in order. More than 64 points make no call, and a draft has none.
 #[unsafe(no_mangle)]
 pub extern "C" fn gwb_lamina(alloc: Global, gwb: &mut Gwb, solid: u32, points: &[Place]) -> u32
     ensures made { length points.now ≤ 64 → Does gwb.old.held.value (command.Lamina solid (polygon_of points.now)) gwb.new.held.value result }
@@ -47,6 +47,10 @@ pub extern "C" fn gwb_lamina(alloc: Global, gwb: &mut Gwb, solid: u32, points: &
     if points.len() > MOST_POINTS {
         put(gwb, slot);
         return NO_CALL;
+    }
+    if is_drafting(&slot) {
+        put(gwb, slot);
+        return IN_DRAFT;
     }
     let mut slot = slot;
     commands::lamina(alloc, &mut slot, solid, &polygon(points));

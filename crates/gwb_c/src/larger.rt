@@ -1,12 +1,12 @@
-//! Calls of C: commands of several operators, undo and redo.
+//! Calls of C: commands of several operators, undo and redo. A draft has none of these.
 ghost use Rattle.std.specs.Prelude.{◌≡◌, [], ◌∷◌};
 ghost use Rattle.script_reader.specs.declared.command.Command.TheVariants as command;
 ghost use Rattle.script_running.specs.script_judging.Settling.{spelled};
 ghost use Rattle.gwb_c.specs.Calls.{Does};
 
 use crate::commands;
-use crate::handle::{CLOSED, Gwb, put, take};
-use crate::slot::status;
+use crate::handle::{CLOSED, Gwb, IN_DRAFT, put, take};
+use crate::slot::{is_drafting, status};
 use euler_operators::Point;
 use script_running::Larger;
 use std::alloc::Global;
@@ -18,6 +18,10 @@ fn carry(alloc: Global, gwb: &mut Gwb, larger: Larger) -> u32
     let Some(slot) = take(alloc, gwb) else {
         return CLOSED;
     };
+    if is_drafting(&slot) {
+        put(gwb, slot);
+        return IN_DRAFT;
+    }
     let mut slot = slot;
     commands::carry(alloc, &mut slot, larger);
     let kind = status(&slot.answer);
@@ -106,6 +110,10 @@ pub extern "C" fn gwb_undo(alloc: Global, gwb: &mut Gwb) -> u32
     let Some(slot) = take(alloc, gwb) else {
         return CLOSED;
     };
+    if is_drafting(&slot) {
+        put(gwb, slot);
+        return IN_DRAFT;
+    }
     let mut slot = slot;
     commands::undo(&mut slot);
     let kind = status(&slot.answer);
@@ -121,6 +129,10 @@ pub extern "C" fn gwb_redo(alloc: Global, gwb: &mut Gwb) -> u32
     let Some(slot) = take(alloc, gwb) else {
         return CLOSED;
     };
+    if is_drafting(&slot) {
+        put(gwb, slot);
+        return IN_DRAFT;
+    }
     let mut slot = slot;
     commands::redo(&mut slot);
     let kind = status(&slot.answer);

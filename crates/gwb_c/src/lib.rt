@@ -1,22 +1,25 @@
-//! The workbench as a static library for C: a session behind a handle, lines that are answered, and readers of the model held.
+//! The workbench as a static library for C: a session or a draft behind a handle, lines that are answered, and readers of the model shown.
 //!
-//! `exports` has the calls that take and give text, `operators`, `larger` and `queries` those that are a command each, `recalls` those that
-//! give the last answer as values, `reads` those that read the model held; the contract of each says what the handle stands for before and
-//! after it. `bindings/include/gwb.h` declares them for C.
+//! `exports` has the calls that take and give text, `operators`, `larger`, `laminas`, `parts` and `queries` those that are a command each,
+//! `drafts` those that make operators one command, `recalls` those that give the last answer as values, `reads` those that read the model
+//! shown; the contract of each says what the handle stands for before and after it. `bindings/include/gwb.h` declares them for C.
 //!
 //! # What is proved
 //!
-//! Every call of the library for C, in words of the plain machine: which machine a handle stands for before and after, what comes
-//! back, and that for a closed handle nothing happens but the answer that says so. `gwb_line` answers a line as the plain machine
-//! may; `gwb_reply` gives the text of that answer as far as there is room, and its length; the values of the last answer and the
-//! readers of the model held are exact, but for where a loop's list of half-edges begins, with a word for what isn't there. A
-//! typed call does what the line does that spells the same command (`Does`), and a query writes what the reader of its answer
-//! writes (`Tells`).
+//! Every call of the library for C, in words of the plain machine: which machine or draft a handle stands for before and after, what
+//! comes back, and that for a closed handle nothing happens but the answer that says so. `gwb_line` answers a line as the plain
+//! machine may; `gwb_reply` gives the text of that answer as far as there is room, and its length; the values of the last answer and
+//! the readers of the model shown are exact, but for where a loop's list of half-edges begins, with a word for what isn't there. A
+//! typed call does what the line does that spells the same command (`Does`); an operator is a command of a session and a step of a
+//! draft (`Carries`, and `Parts` where its faces are listed); a query tells what the model shown gives (`Asks`), and writes what the
+//! reader of its answer writes (`Tells`). A draft that is committed is one command, and one that is abandoned leaves no trace
+//! (`Slot_ends`); what a draft or a session has not changes nothing (`CallsOfSession`, `CallsOfDraft`).
 #![tactic(auto)]
 
 mod answers;
 mod commands;
 mod cycles;
+mod drafts;
 mod exports;
 mod fresh;
 mod handle;
@@ -32,6 +35,7 @@ mod readers;
 mod reads;
 mod recalls;
 mod slot;
+mod stage;
 #[cfg(test)]
 mod tests;
 mod version;

@@ -1,18 +1,17 @@
 //! What a query given as a value does to a slot.
 ghost use Rattle.std.specs.Prelude.{◌≡◌};
 ghost use Rattle.euler_conditions.specs.Ready.{IsReady};
-ghost use Rattle.script_reader.specs.declared.command.Command.TheVariants as command;
-ghost use Rattle.script_running.specs.script_judging.Judging.{Obeys, refused, told, plane_reply, volume_reply, count_reply};
-ghost use Rattle.gwb_c.specs.Calls.{Slot_obeys, Slot_does};
+ghost use Rattle.script_running.specs.script_judging.Judging.{told, plane_reply, volume_reply, count_reply};
+ghost use Rattle.gwb_c.specs.Calls.{Slot_answers, Slot_asks};
 
 use crate::commands::told_refusal;
 use crate::slot::{Slot, counted_in};
+use crate::stage::arena;
 use euler_conditions::Arena;
 use euler_operators::Refusal;
 use script_running::Answer;
 use solid_listing::Reply;
 use solid_measure::{counts, is_flat, plane, six_volume};
-use undo_journal::Session;
 
 /// What a query gives.
 fn told(given: Result<Reply, Refusal>) -> Answer
@@ -53,69 +52,51 @@ fn count_reply(arena: &Arena, solid: u32) -> Result<Reply, Refusal>
     ]))
 }
 
-fn plane_on(session: &mut Session, face: u32) -> Answer
-    ensures { Obeys session.old.machine (command.Plane face) result session.new.machine }
-{
-    told(plane_reply(session.arena(), face))
-}
-
 fn plane_in(slot: &mut Slot, face: u32)
-    ensures { Slot_obeys slot.old (command.Plane face) slot.new }
+    ensures { Slot_answers slot.old (λ M. plane_reply M face) slot.new }
 {
-    if let Some(session) = &mut slot.session {
-        slot.answer = plane_on(session, face);
+    if let Some(stage) = &slot.stage {
+        slot.answer = told(plane_reply(arena(stage), face));
     }
 }
 
 /// Tells the plane of a face.
 pub(crate) fn tell_plane(slot: &mut Slot, face: u32)
-    ensures { Slot_does slot.old (command.Plane face) slot.new }
+    ensures { Slot_asks slot.old (λ M. plane_reply M face) slot.new }
 {
     let before = counted_in(slot);
     plane_in(slot, face);
     slot.before = before;
 }
 
-fn volume_on(session: &mut Session, solid: u32) -> Answer
-    ensures { Obeys session.old.machine (command.Volume solid) result session.new.machine }
-{
-    told(volume_reply(session.arena(), solid))
-}
-
 fn volume_in(slot: &mut Slot, solid: u32)
-    ensures { Slot_obeys slot.old (command.Volume solid) slot.new }
+    ensures { Slot_answers slot.old (λ M. volume_reply M solid) slot.new }
 {
-    if let Some(session) = &mut slot.session {
-        slot.answer = volume_on(session, solid);
+    if let Some(stage) = &slot.stage {
+        slot.answer = told(volume_reply(arena(stage), solid));
     }
 }
 
 /// Tells six times the volume of a solid.
 pub(crate) fn tell_volume(slot: &mut Slot, solid: u32)
-    ensures { Slot_does slot.old (command.Volume solid) slot.new }
+    ensures { Slot_asks slot.old (λ M. volume_reply M solid) slot.new }
 {
     let before = counted_in(slot);
     volume_in(slot, solid);
     slot.before = before;
 }
 
-fn count_on(session: &mut Session, solid: u32) -> Answer
-    ensures { Obeys session.old.machine (command.Count solid) result session.new.machine }
-{
-    told(count_reply(session.arena(), solid))
-}
-
 fn count_in(slot: &mut Slot, solid: u32)
-    ensures { Slot_obeys slot.old (command.Count solid) slot.new }
+    ensures { Slot_answers slot.old (λ M. count_reply M solid) slot.new }
 {
-    if let Some(session) = &mut slot.session {
-        slot.answer = count_on(session, solid);
+    if let Some(stage) = &slot.stage {
+        slot.answer = told(count_reply(arena(stage), solid));
     }
 }
 
 /// Tells the counts of a solid.
 pub(crate) fn tell_count(slot: &mut Slot, solid: u32)
-    ensures { Slot_does slot.old (command.Count solid) slot.new }
+    ensures { Slot_asks slot.old (λ M. count_reply M solid) slot.new }
 {
     let before = counted_in(slot);
     count_in(slot, solid);

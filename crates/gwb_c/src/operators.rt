@@ -1,9 +1,8 @@
-//! Calls of C: operators, each as a command of its own.
+//! Calls of C: operators, each a command of its own, or a step of a draft.
 ghost use Rattle.std.specs.Prelude.{◌≡◌, cond, nat_eq};
 ghost use Rattle.euler_operators.specs.HalfEdge.{half};
 ghost use Rattle.script_reader.specs.Grammar.{plus};
-ghost use Rattle.script_reader.specs.declared.command.Command.TheVariants as command;
-ghost use Rattle.gwb_c.specs.Calls.{Does, corner_of};
+ghost use Rattle.gwb_c.specs.Calls.{Carries, corner_of};
 
 use crate::commands;
 use crate::handle::{CLOSED, Gwb, put, take};
@@ -29,9 +28,9 @@ fn corner(code: u32) -> Corner
     }
 }
 
-/// One operator as a command of the session, if there is one.
+/// One operator, in a session a command, in a draft a step.
 fn act(alloc: Global, gwb: &mut Gwb, op: Op) -> u32
-    ensures { Does gwb.old.held.value (command.Act op) gwb.new.held.value result }
+    ensures { Carries gwb.old.held.value op gwb.new.held.value result }
 {
     let Some(slot) = take(alloc, gwb) else {
         return CLOSED;
@@ -56,7 +55,7 @@ pub extern "C" fn gwb_mvfs(
     y: i64,
     z: i64,
 ) -> u32
-    ensures { Does gwb.old.held.value (command.Act (Op.Mvfs solid face outer vertex (record { x = x; y = y; z = z }))) gwb.new.held.value result }
+    ensures { Carries gwb.old.held.value (Op.Mvfs solid face outer vertex (record { x = x; y = y; z = z })) gwb.new.held.value result }
 {
     act(
         alloc,
@@ -68,7 +67,7 @@ pub extern "C" fn gwb_mvfs(
 /// Kills a solid of one vertex.
 #[unsafe(no_mangle)]
 pub extern "C" fn gwb_kvfs(alloc: Global, gwb: &mut Gwb, solid: u32) -> u32
-    ensures { Does gwb.old.held.value (command.Act (Op.Kvfs solid)) gwb.new.held.value result }
+    ensures { Carries gwb.old.held.value (Op.Kvfs solid) gwb.new.held.value result }
 {
     act(alloc, gwb, Op::Kvfs(solid))
 }
@@ -86,7 +85,7 @@ pub extern "C" fn gwb_mev(
     y: i64,
     z: i64,
 ) -> u32
-    ensures { Does gwb.old.held.value (command.Act (Op.Mev (corner_of from) (corner_of to) (plus edge) vertex (record { x = x; y = y; z = z }))) gwb.new.held.value result }
+    ensures { Carries gwb.old.held.value (Op.Mev (corner_of from) (corner_of to) (plus edge) vertex (record { x = x; y = y; z = z })) gwb.new.held.value result }
 {
     act(
         alloc,
@@ -104,7 +103,7 @@ pub extern "C" fn gwb_mev(
 /// Kills an edge and the vertex at its end.
 #[unsafe(no_mangle)]
 pub extern "C" fn gwb_kev(alloc: Global, gwb: &mut Gwb, half_edge: u32) -> u32
-    ensures { Does gwb.old.held.value (command.Act (Op.Kev (half half_edge))) gwb.new.held.value result }
+    ensures { Carries gwb.old.held.value (Op.Kev (half half_edge)) gwb.new.held.value result }
 {
     act(alloc, gwb, Op::Kev(HalfEdge::of_code(half_edge)))
 }
@@ -120,7 +119,7 @@ pub extern "C" fn gwb_mef(
     face: u32,
     outer: u32,
 ) -> u32
-    ensures { Does gwb.old.held.value (command.Act (Op.Mef (half from) (half to) (plus edge) face outer)) gwb.new.held.value result }
+    ensures { Carries gwb.old.held.value (Op.Mef (half from) (half to) (plus edge) face outer) gwb.new.held.value result }
 {
     act(
         alloc,
@@ -138,7 +137,7 @@ pub extern "C" fn gwb_mef(
 /// Kills an edge between two faces, and one of these.
 #[unsafe(no_mangle)]
 pub extern "C" fn gwb_kef(alloc: Global, gwb: &mut Gwb, half_edge: u32) -> u32
-    ensures { Does gwb.old.held.value (command.Act (Op.Kef (half half_edge))) gwb.new.held.value result }
+    ensures { Carries gwb.old.held.value (Op.Kef (half half_edge)) gwb.new.held.value result }
 {
     act(alloc, gwb, Op::Kef(HalfEdge::of_code(half_edge)))
 }
@@ -146,7 +145,7 @@ pub extern "C" fn gwb_kef(alloc: Global, gwb: &mut Gwb, half_edge: u32) -> u32
 /// Kills an edge, and makes a ring.
 #[unsafe(no_mangle)]
 pub extern "C" fn gwb_kemr(alloc: Global, gwb: &mut Gwb, half_edge: u32, ring: u32) -> u32
-    ensures { Does gwb.old.held.value (command.Act (Op.Kemr (half half_edge) ring)) gwb.new.held.value result }
+    ensures { Carries gwb.old.held.value (Op.Kemr (half half_edge) ring) gwb.new.held.value result }
 {
     act(alloc, gwb, Op::Kemr(HalfEdge::of_code(half_edge), ring))
 }
@@ -154,7 +153,7 @@ pub extern "C" fn gwb_kemr(alloc: Global, gwb: &mut Gwb, half_edge: u32, ring: u
 /// Makes an edge from a corner to a ring, which it kills.
 #[unsafe(no_mangle)]
 pub extern "C" fn gwb_mekr(alloc: Global, gwb: &mut Gwb, from: u32, to: u32, edge: u32) -> u32
-    ensures { Does gwb.old.held.value (command.Act (Op.Mekr (corner_of from) (corner_of to) (plus edge))) gwb.new.held.value result }
+    ensures { Carries gwb.old.held.value (Op.Mekr (corner_of from) (corner_of to) (plus edge)) gwb.new.held.value result }
 {
     act(alloc, gwb, Op::Mekr(corner(from), corner(to), plus(edge)))
 }
@@ -162,7 +161,7 @@ pub extern "C" fn gwb_mekr(alloc: Global, gwb: &mut Gwb, from: u32, to: u32, edg
 /// Kills a face, whose outer loop becomes a ring of another.
 #[unsafe(no_mangle)]
 pub extern "C" fn gwb_kfmrh(alloc: Global, gwb: &mut Gwb, face: u32, other: u32) -> u32
-    ensures { Does gwb.old.held.value (command.Act (Op.Kfmrh face other)) gwb.new.held.value result }
+    ensures { Carries gwb.old.held.value (Op.Kfmrh face other) gwb.new.held.value result }
 {
     act(alloc, gwb, Op::Kfmrh(face, other))
 }
@@ -170,7 +169,7 @@ pub extern "C" fn gwb_kfmrh(alloc: Global, gwb: &mut Gwb, face: u32, other: u32)
 /// Makes a face of a ring.
 #[unsafe(no_mangle)]
 pub extern "C" fn gwb_mfkrh(alloc: Global, gwb: &mut Gwb, ring: u32, face: u32) -> u32
-    ensures { Does gwb.old.held.value (command.Act (Op.Mfkrh ring face)) gwb.new.held.value result }
+    ensures { Carries gwb.old.held.value (Op.Mfkrh ring face) gwb.new.held.value result }
 {
     act(alloc, gwb, Op::Mfkrh(ring, face))
 }
@@ -178,7 +177,7 @@ pub extern "C" fn gwb_mfkrh(alloc: Global, gwb: &mut Gwb, ring: u32, face: u32) 
 /// Moves a ring to a face: as a ring of it where `out` is 0, else as its outer loop.
 #[unsafe(no_mangle)]
 pub extern "C" fn gwb_ringmv(alloc: Global, gwb: &mut Gwb, ring: u32, face: u32, out: u32) -> u32
-    ensures { Does gwb.old.held.value (command.Act (cond (nat_eq out 0) (Op.RingIn ring face) (Op.RingOut ring face))) gwb.new.held.value result }
+    ensures { Carries gwb.old.held.value (cond (nat_eq out 0) (Op.RingIn ring face) (Op.RingOut ring face)) gwb.new.held.value result }
 {
     let op = if out == 0 {
         Op::RingIn(ring, face)
@@ -191,7 +190,7 @@ pub extern "C" fn gwb_ringmv(alloc: Global, gwb: &mut Gwb, ring: u32, face: u32,
 /// Makes a ring the outer loop of its face, whose outer loop until then becomes a ring of the face given.
 #[unsafe(no_mangle)]
 pub extern "C" fn gwb_outer(alloc: Global, gwb: &mut Gwb, ring: u32, face: u32) -> u32
-    ensures { Does gwb.old.held.value (command.Act (Op.Outer ring face)) gwb.new.held.value result }
+    ensures { Carries gwb.old.held.value (Op.Outer ring face) gwb.new.held.value result }
 {
     act(alloc, gwb, Op::Outer(ring, face))
 }
@@ -199,7 +198,7 @@ pub extern "C" fn gwb_outer(alloc: Global, gwb: &mut Gwb, ring: u32, face: u32) 
 /// Makes two solids one.
 #[unsafe(no_mangle)]
 pub extern "C" fn gwb_merge(alloc: Global, gwb: &mut Gwb, solid: u32, other: u32) -> u32
-    ensures { Does gwb.old.held.value (command.Act (Op.Merge solid other)) gwb.new.held.value result }
+    ensures { Carries gwb.old.held.value (Op.Merge solid other) gwb.new.held.value result }
 {
     act(alloc, gwb, Op::Merge(solid, other))
 }

@@ -4,12 +4,10 @@ ghost use Rattle.euler_operators.specs.HalfEdge.{code, edge_of};
 ghost use Rattle.euler_operators.specs.Model.{content, after};
 ghost use Rattle.euler_conditions.specs.Store.{has_number, IsNextNumber};
 ghost use Rattle.euler_conditions.specs.Ready.{IsReady};
-ghost use Rattle.undo_journal.specs.Machine.{held};
 ghost use Rattle.gwb_c.specs.Reading.{face_in, edge_in, ends_of, point_in, face_of_loop_in, lone_of, lone_in, after_in, IsRingAfter, IsFaceAfter, IsItemOf, IsFirst, kind_of, store_of, IsNumberAfter};
 
 use euler_conditions::{Arena, next};
 use euler_operators::{Content, HalfEdge, Kind, Point};
-use undo_journal::Session;
 
 /// The solid of a face, and its outer loop.
 #[repr(C)]
@@ -37,10 +35,9 @@ pub struct Place {
 }
 
 /// A face's solid and outer loop.
-pub(crate) fn face(session: &Session, face: u32) -> Option<FaceRow>
-    ensures { result ≡ face_in face (held session.now.machine) }
+pub(crate) fn face(arena: &Arena, face: u32) -> Option<FaceRow>
+    ensures { result ≡ face_in face arena.now.model }
 {
-    let arena = session.arena();
     if !arena.has(Kind::Face, face) {
         return None;
     }
@@ -51,10 +48,9 @@ pub(crate) fn face(session: &Session, face: u32) -> Option<FaceRow>
 }
 
 /// The face of a loop.
-pub(crate) fn face_of_loop(session: &Session, l: u32) -> Option<u32>
-    ensures { result ≡ face_of_loop_in l (held session.now.machine) }
+pub(crate) fn face_of_loop(arena: &Arena, l: u32) -> Option<u32>
+    ensures { result ≡ face_of_loop_in l arena.now.model }
 {
-    let arena = session.arena();
     if !arena.has(Kind::Loop, l) {
         return None;
     }
@@ -77,10 +73,9 @@ fn ends(arena: &Arena, e: u32) -> EdgeRow
 }
 
 /// The vertices of an edge.
-pub(crate) fn edge(session: &Session, edge: u32) -> Option<EdgeRow>
-    ensures { result ≡ edge_in edge (held session.now.machine) }
+pub(crate) fn edge(arena: &Arena, edge: u32) -> Option<EdgeRow>
+    ensures { result ≡ edge_in edge arena.now.model }
 {
-    let arena = session.arena();
     if !arena.has(Kind::Edge, edge) {
         return None;
     }
@@ -100,10 +95,10 @@ fn lone_at(arena: &Arena, l: u32) -> Option<u32>
 }
 
 /// The vertex of a lone loop.
-pub(crate) fn lone_vertex(session: &Session, l: u32) -> Option<u32>
-    ensures { result ≡ lone_in l (held session.now.machine) }
+pub(crate) fn lone_vertex(arena: &Arena, l: u32) -> Option<u32>
+    requires { IsReady arena.now }
+    ensures { result ≡ lone_in l arena.now.model }
 {
-    let arena = session.arena();
     if !arena.has(Kind::Loop, l) {
         return None;
     }
@@ -123,10 +118,10 @@ fn item_at(arena: &Arena, l: u32) -> Option<u32>
 }
 
 /// A half-edge of a loop.
-pub(crate) fn first_half_edge(session: &Session, l: u32) -> Option<u32>
-    ensures { IsFirst l (held session.now.machine) result }
+pub(crate) fn first_half_edge(arena: &Arena, l: u32) -> Option<u32>
+    requires { IsReady arena.now }
+    ensures { IsFirst l arena.now.model result }
 {
-    let arena = session.arena();
     if !arena.has(Kind::Loop, l) {
         return None;
     }
@@ -151,10 +146,10 @@ fn half_of(item: u32) -> HalfEdge
 }
 
 /// The half-edge after another in its loop.
-pub(crate) fn next_half_edge(session: &Session, item: u32) -> Option<u32>
-    ensures { result ≡ after_in item (held session.now.machine) }
+pub(crate) fn next_half_edge(arena: &Arena, item: u32) -> Option<u32>
+    requires { IsReady arena.now }
+    ensures { result ≡ after_in item arena.now.model }
 {
-    let arena = session.arena();
     let half = half_of(item);
     if !arena.has(Kind::Edge, half.edge) {
         return None;
@@ -163,10 +158,9 @@ pub(crate) fn next_half_edge(session: &Session, item: u32) -> Option<u32>
 }
 
 /// The least ring of a face above n.
-pub(crate) fn ring_after(session: &Session, face: u32, n: u32) -> Option<u32>
-    ensures { IsRingAfter face n (held session.now.machine) result }
+pub(crate) fn ring_after(arena: &Arena, face: u32, n: u32) -> Option<u32>
+    ensures { IsRingAfter face n arena.now.model result }
 {
-    let arena = session.arena();
     if !arena.has(Kind::Face, face) {
         return None;
     }
@@ -174,10 +168,10 @@ pub(crate) fn ring_after(session: &Session, face: u32, n: u32) -> Option<u32>
 }
 
 /// The least face of a solid above n.
-pub(crate) fn face_after(session: &Session, solid: u32, n: u32) -> Option<u32>
-    ensures { IsFaceAfter solid n (held session.now.machine) result }
+pub(crate) fn face_after(arena: &Arena, solid: u32, n: u32) -> Option<u32>
+    ensures { IsFaceAfter solid n arena.now.model result }
 {
-    session.arena().face_after(solid, n)
+    arena.face_after(solid, n)
 }
 
 /// The kind that C means by a number.
@@ -195,27 +189,26 @@ fn kind_of(entity: u32) -> Option<Kind>
 }
 
 /// The least number of a kind in use above n.
-fn after_of_kind(session: &Session, kind: Kind, n: u32) -> Option<u32>
-    ensures { IsNextNumber (store_of (held session.now.machine)) kind n result }
+fn after_of_kind(arena: &Arena, kind: Kind, n: u32) -> Option<u32>
+    ensures { IsNextNumber (store_of arena.now.model) kind n result }
 {
-    session.arena().after_number(kind, n)
+    arena.after_number(kind, n)
 }
 
 /// The least number in use above n, of the kind that C means.
-pub(crate) fn number_after(session: &Session, entity: u32, n: u32) -> Option<u32>
-    ensures { IsNumberAfter (kind_of entity) n (held session.now.machine) result }
+pub(crate) fn number_after(arena: &Arena, entity: u32, n: u32) -> Option<u32>
+    ensures { IsNumberAfter (kind_of entity) n arena.now.model result }
 {
     match kind_of(entity) {
-        Some(kind) => after_of_kind(session, kind, n),
+        Some(kind) => after_of_kind(arena, kind, n),
         None => None,
     }
 }
 
 /// The point of a vertex.
-pub(crate) fn vertex(session: &Session, vertex: u32) -> Option<Place>
-    ensures { result ≡ point_in vertex (held session.now.machine) }
+pub(crate) fn vertex(arena: &Arena, vertex: u32) -> Option<Place>
+    ensures { result ≡ point_in vertex arena.now.model }
 {
-    let arena = session.arena();
     if !arena.has(Kind::Vertex, vertex) {
         return None;
     }

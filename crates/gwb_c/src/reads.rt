@@ -9,6 +9,7 @@ use crate::fresh::{Range, counted, fresh_of};
 use crate::handle::{ABSENT, CLOSED, FOUND, Gwb, put, take};
 use crate::readers::{EdgeRow, FaceRow, Place};
 use crate::slot::Slot;
+use crate::stage::arena;
 use crate::{cycles, readers};
 use std::alloc::Global;
 
@@ -21,8 +22,8 @@ pub extern "C" fn gwb_face(alloc: Global, gwb: &mut Gwb, face: u32, row: &mut Fa
     let Some(slot) = take(alloc, gwb) else {
         return CLOSED;
     };
-    let told = match &slot.session {
-        Some(session) => give(readers::face(session, face), row),
+    let told = match &slot.stage {
+        Some(stage) => give(readers::face(arena(stage), face), row),
         None => ABSENT,
     };
     put(gwb, slot);
@@ -38,8 +39,8 @@ pub extern "C" fn gwb_loop(alloc: Global, gwb: &mut Gwb, l: u32, face: &mut u32)
     let Some(slot) = take(alloc, gwb) else {
         return CLOSED;
     };
-    let told = match &slot.session {
-        Some(session) => give(readers::face_of_loop(session, l), face),
+    let told = match &slot.stage {
+        Some(stage) => give(readers::face_of_loop(arena(stage), l), face),
         None => ABSENT,
     };
     put(gwb, slot);
@@ -55,8 +56,8 @@ pub extern "C" fn gwb_edge(alloc: Global, gwb: &mut Gwb, edge: u32, row: &mut Ed
     let Some(slot) = take(alloc, gwb) else {
         return CLOSED;
     };
-    let told = match &slot.session {
-        Some(session) => give(readers::edge(session, edge), row),
+    let told = match &slot.stage {
+        Some(stage) => give(readers::edge(arena(stage), edge), row),
         None => ABSENT,
     };
     put(gwb, slot);
@@ -72,8 +73,8 @@ pub extern "C" fn gwb_vertex(alloc: Global, gwb: &mut Gwb, vertex: u32, place: &
     let Some(slot) = take(alloc, gwb) else {
         return CLOSED;
     };
-    let told = match &slot.session {
-        Some(session) => give(readers::vertex(session, vertex), place),
+    let told = match &slot.stage {
+        Some(stage) => give(readers::vertex(arena(stage), vertex), place),
         None => ABSENT,
     };
     put(gwb, slot);
@@ -89,8 +90,8 @@ pub extern "C" fn gwb_lone_vertex(alloc: Global, gwb: &mut Gwb, l: u32, vertex: 
     let Some(slot) = take(alloc, gwb) else {
         return CLOSED;
     };
-    let told = match &slot.session {
-        Some(session) => give(readers::lone_vertex(session, l), vertex),
+    let told = match &slot.stage {
+        Some(stage) => give(readers::lone_vertex(arena(stage), l), vertex),
         None => ABSENT,
     };
     put(gwb, slot);
@@ -106,8 +107,8 @@ pub extern "C" fn gwb_next_half_edge(alloc: Global, gwb: &mut Gwb, item: u32, ne
     let Some(slot) = take(alloc, gwb) else {
         return CLOSED;
     };
-    let told = match &slot.session {
-        Some(session) => give(readers::next_half_edge(session, item), next),
+    let told = match &slot.stage {
+        Some(stage) => give(readers::next_half_edge(arena(stage), item), next),
         None => ABSENT,
     };
     put(gwb, slot);
@@ -117,10 +118,10 @@ pub extern "C" fn gwb_next_half_edge(alloc: Global, gwb: &mut Gwb, item: u32, ne
 fn find_first_half_edge(slot: &Slot, l: u32, item: &mut u32) -> u32
     ensures { Finds (IsFirst l) (Some slot.now) item.old item.new result }
 {
-    let Some(session) = &slot.session else {
+    let Some(stage) = &slot.stage else {
         return ABSENT;
     };
-    match readers::first_half_edge(session, l) {
+    match readers::first_half_edge(arena(stage), l) {
         Some(found) => {
             *item = found;
             FOUND
@@ -146,8 +147,8 @@ pub extern "C" fn gwb_first_half_edge(alloc: Global, gwb: &mut Gwb, l: u32, item
 fn list_half_edges(slot: &Slot, l: u32, buf: &mut [u32]) -> usize
     ensures { Lists (AreHalfEdges l) (Some slot.now) buf.old buf.new result }
 {
-    match &slot.session {
-        Some(session) => cycles::half_edges(session.arena(), l, buf),
+    match &slot.stage {
+        Some(stage) => cycles::half_edges(arena(stage), l, buf),
         None => 0,
     }
 }
@@ -170,10 +171,10 @@ pub extern "C" fn gwb_half_edges(alloc: Global, gwb: &mut Gwb, l: u32, buf: &mut
 fn find_ring_after(slot: &Slot, face: u32, n: u32, ring: &mut u32) -> u32
     ensures { Finds (IsRingAfter face n) (Some slot.now) ring.old ring.new result }
 {
-    let Some(session) = &slot.session else {
+    let Some(stage) = &slot.stage else {
         return ABSENT;
     };
-    match readers::ring_after(session, face, n) {
+    match readers::ring_after(arena(stage), face, n) {
         Some(found) => {
             *ring = found;
             FOUND
@@ -205,10 +206,10 @@ pub extern "C" fn gwb_ring_after(
 fn find_face_after(slot: &Slot, solid: u32, n: u32, face: &mut u32) -> u32
     ensures { Finds (IsFaceAfter solid n) (Some slot.now) face.old face.new result }
 {
-    let Some(session) = &slot.session else {
+    let Some(stage) = &slot.stage else {
         return ABSENT;
     };
-    match readers::face_after(session, solid, n) {
+    match readers::face_after(arena(stage), solid, n) {
         Some(found) => {
             *face = found;
             FOUND
@@ -240,10 +241,10 @@ pub extern "C" fn gwb_face_after(
 fn find_number_after(slot: &Slot, entity: u32, n: u32, number: &mut u32) -> u32
     ensures { Finds (IsNumberAfter (kind_of entity) n) (Some slot.now) number.old number.new result }
 {
-    let Some(session) = &slot.session else {
+    let Some(stage) = &slot.stage else {
         return ABSENT;
     };
-    match readers::number_after(session, entity, n) {
+    match readers::number_after(arena(stage), entity, n) {
         Some(found) => {
             *number = found;
             FOUND
@@ -275,8 +276,8 @@ pub extern "C" fn gwb_number_after(
 fn give_fresh(slot: &Slot, entity: u32, range: &mut Range) -> u32
     ensures { GivesFresh entity (Some slot.now) range.old range.new result }
 {
-    match &slot.session {
-        Some(session) => give(fresh_of(slot.before, counted(session), entity), range),
+    match &slot.stage {
+        Some(stage) => give(fresh_of(slot.before, counted(arena(stage)), entity), range),
         None => ABSENT,
     }
 }

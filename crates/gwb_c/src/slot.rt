@@ -1,29 +1,34 @@
 //! What a handle stands for, and what a line does to it.
 ghost use Rattle.std.specs.Prelude.{◌≡◌, IfSome, IsSome, Some, length};
-ghost use Rattle.script_running.specs.script_judging.Judging.{answer_text};
-ghost use Rattle.undo_journal.specs.Journal.{new_journal};
-ghost use Rattle.gwb_c.specs.Handle.{Counts_in, Slot_hears, Slot_finishes, Slot_notes, status_of, laid_over};
+ghost use Rattle.euler_conditions.specs.Ready.{IsReady};
+ghost use Rattle.undo_journal.specs.Journal.{Journal, new_journal};
+ghost use Rattle.script_running.specs.script_judging.Settling.{spelled};
+ghost use Rattle.gwb_c.specs.declared.stage.Stage.TheVariants as stages;
+ghost use Rattle.gwb_c.specs.Stages.{is_draft, text_in};
+ghost use Rattle.gwb_c.specs.Handle.{Counts_in, Decides_on, Slot_obeys, Slot_hears, Slot_finishes, Slot_notes, status_of, laid_over};
 
 use crate::fresh::counted;
+use crate::stage::{Stage, arena};
+use euler_conditions::Arena;
 use script_running::{Answer, Larger, carry_out, judge};
 use solid_listing::{Reply, write_listing, write_reply};
 use solid_walks::Counters;
 use std::alloc::Global;
 use undo_journal::Session;
 
-/// A session, and the answer to the last line.
+/// A session or a draft, and the answer to the last command.
 #[derive(Drop)]
 pub struct Slot {
-    pub(crate) session: Option<Session>,
+    pub(crate) stage: Option<Stage>,
     pub(crate) answer: Answer,
     pub(crate) later: Option<Larger>,
-    /// The greatest numbers in use before the last line.
+    /// The greatest numbers in use before the last command.
     pub(crate) before: Counters,
 }
 
 /// A new session in its box.
 pub(crate) fn made(alloc: Global) -> Option<Box<Slot, Global>>
-    ensures { IfSome result (λ b. (b.value.session ≡ Some new_journal) × (b.value.answer ≡ Answer.Silent)) }
+    ensures { IfSome result (λ b. (b.value.stage ≡ Some (stages.Session new_journal)) × (b.value.answer ≡ Answer.Silent)) }
 {
     let Ok(session) = Session::new(alloc) else {
         return None;
@@ -31,7 +36,7 @@ pub(crate) fn made(alloc: Global) -> Option<Box<Slot, Global>>
     Box::new(
         alloc,
         Slot {
-            session: Some(session),
+            stage: Some(Stage::Session(session)),
             answer: Answer::Silent,
             later: None,
             before: Counters {
@@ -45,37 +50,60 @@ pub(crate) fn made(alloc: Global) -> Option<Box<Slot, Global>>
     .ok()
 }
 
-/// Takes the session and the larger command that was put aside out of the slot. Both are there.
-fn taken(slot: &mut Slot) -> (Session, Larger)
-    requires session { IsSome slot.old.session }
-    requires later { IsSome slot.old.later }
-    ensures session { slot.old.session ≡ Some result.0 }
-    ensures later { slot.old.later ≡ Some result.1 }
+/// Takes the session out of the slot. Where there is a draft nothing changes.
+pub(crate) fn taken(slot: &mut Slot) -> Option<Session>
+    ensures session { (s : Journal) → slot.old.stage ≡ Some (stages.Session s) → result ≡ Some s }
+    ensures later { slot.new.later ≡ slot.old.later }
 {
-    let session = slot.session.take().unwrap();
-    (session, slot.later.take().unwrap())
+    match slot.stage.take() {
+        Some(Stage::Session(session)) => Some(session),
+        Some(Stage::Drafting(open)) => {
+            slot.stage = Some(Stage::Drafting(open));
+            None
+        }
+        None => None,
+    }
 }
 
-/// Carries out the larger command that was put aside. There is a session.
-pub(crate) fn finish(alloc: Global, slot: &mut Slot)
-    requires session { IsSome slot.old.session }
-    requires later { IsSome slot.old.later }
+/// Carries a larger command out on the session.
+pub(crate) fn carry_in(alloc: Global, slot: &mut Slot, larger: Larger)
+    ensures { Slot_obeys slot.old (spelled larger) slot.new }
+{
+    let Some(session) = taken(slot) else {
+        return;
+    };
+    let (session, answer) = carry_out(alloc, session, larger);
+    slot.stage = Some(Stage::Session(session));
+    slot.answer = answer;
+}
+
+/// Carries out the larger command that was put aside.
+fn finish(alloc: Global, slot: &mut Slot)
+    requires { IsSome slot.old.later }
     ensures { Slot_finishes slot.old slot.new }
 {
-    let (session, larger) = taken(slot);
-    let (session, answer) = carry_out(alloc, session, larger);
-    slot.session = Some(session);
-    slot.answer = answer;
+    let larger = slot.later.take().unwrap();
+    carry_in(alloc, slot, larger);
+}
+
+/// The answer to a line, or none where it spells a larger command, which is put aside. A draft hears no line.
+fn judge_on(stage: &mut Stage, line: &[u8], later: &mut Option<Larger>) -> Option<Answer>
+    ensures { Decides_on stage.old line.now result stage.new later.new }
+{
+    match stage {
+        Stage::Session(session) => judge(session, line, later),
+        Stage::Drafting(_) => Some(Answer::Silent),
+    }
 }
 
 /// Answers a line, and keeps the answer.
 fn answer_line(alloc: Global, slot: &mut Slot, line: &[u8])
     ensures { Slot_hears slot.old line.now slot.new }
 {
-    let Some(session) = &mut slot.session else {
+    let Some(stage) = &mut slot.stage else {
         return;
     };
-    match judge(session, line, &mut slot.later) {
+    match judge_on(stage, line, &mut slot.later) {
         Some(answer) => slot.answer = answer,
         None => finish(alloc, slot),
     }
@@ -85,8 +113,8 @@ fn answer_line(alloc: Global, slot: &mut Slot, line: &[u8])
 pub(crate) fn counted_in(slot: &Slot) -> Counters
     ensures { Counts_in slot.now result }
 {
-    match &slot.session {
-        Some(session) => counted(session),
+    match &slot.stage {
+        Some(stage) => counted(arena(stage)),
         None => slot.before,
     }
 }
@@ -98,6 +126,13 @@ pub(crate) fn hear(alloc: Global, slot: &mut Slot, line: &[u8])
     let before = counted_in(slot);
     answer_line(alloc, slot, line);
     slot.before = before;
+}
+
+/// Whether there is a draft.
+pub(crate) fn is_drafting(slot: &Slot) -> bool
+    ensures { result ≡ is_draft slot.now.stage }
+{
+    matches!(slot.stage, Some(Stage::Drafting(_)))
 }
 
 /// What C is told of an answer.
@@ -117,15 +152,16 @@ pub(crate) fn status(answer: &Answer) -> u32
     }
 }
 
-/// The text of an answer. None where memory is refused.
-pub(crate) fn text_of(alloc: Global, session: &Session, answer: &Answer) -> Option<Vec<u8>>
-    ensures { IfSome result (λ v. v.items ≡ answer_text session.now.machine answer.now) }
+/// The text of an answer, where a listing is that of the arena's model. None where memory is refused.
+pub(crate) fn text_of(alloc: Global, arena: &Arena, answer: &Answer) -> Option<Vec<u8>>
+    requires { IsReady arena.now }
+    ensures { IfSome result (λ v. v.items ≡ text_in arena.now.model answer.now) }
 {
     let mut text = Vec::new(alloc);
     let told = match answer {
         Answer::Silent => Ok(()),
         Answer::Reply(reply) => write_reply(reply, &mut text),
-        Answer::Listing => write_listing(session.arena(), &mut text),
+        Answer::Listing => write_listing(arena, &mut text),
     };
     match told {
         Ok(()) => Some(text),

@@ -1,5 +1,6 @@
 //! The calls over worked scripts, and as they answer a caller who has too little room, too long a line or no session.
 use crate::answers::{PlaneRow, Refused, Wide};
+use crate::drafts::{gwb_abandon, gwb_commit, gwb_draft};
 use crate::exports::{gwb_ahead, gwb_close, gwb_depth, gwb_line, gwb_open, gwb_reply};
 use crate::fresh::Range;
 use crate::handle::{Gwb, closed};
@@ -317,5 +318,44 @@ fn typed_parts(rt: HostRuntime) -> Result<(), Fail> {
     same(&rt, gwb_face(alloc, &mut gwb, 2, &mut row), 1);
     same(&rt, row.solid, 2);
     gwb_close(alloc, &mut gwb);
+    Ok(())
+}
+
+/// A wire in a draft: its steps, one of them refused, and what a draft has not.
+fn drafts_a_wire(rt: &impl Abort, alloc: Global, gwb: &mut Gwb) {
+    let kinds = [
+        gwb_commit(alloc, gwb),
+        gwb_draft(alloc, gwb),
+        gwb_mvfs(alloc, gwb, 1, 1, 1, 1, 0, 0, 0),
+        gwb_mev(alloc, gwb, LONE, LONE, 1, 2, 5, 0, 0),
+        gwb_kev(alloc, gwb, 99),
+        gwb_draft(alloc, gwb),
+        gwb_undo(alloc, gwb),
+        gwb_line(alloc, gwb, b"list"),
+        gwb_lamina(alloc, gwb, 2, &CORNERS),
+        gwb_commit(alloc, gwb),
+    ];
+    same(rt, kinds, [12, 1, 1, 1, 2, 11, 11, 11, 11, 1]);
+}
+
+/// A draft that is committed is one command, one that is abandoned leaves what can be redone, and one that is open can be closed.
+#[test]
+fn drafts_of_a_wire(rt: HostRuntime) -> Result<(), Fail> {
+    let alloc = rt.alloc();
+    let mut gwb = opened(&rt, alloc);
+    drafts_a_wire(&rt, alloc, &mut gwb);
+    let kinds = [
+        gwb_undo(alloc, &mut gwb),
+        gwb_draft(alloc, &mut gwb),
+        gwb_mvfs(alloc, &mut gwb, 1, 1, 1, 1, 9, 9, 9),
+        gwb_abandon(alloc, &mut gwb),
+        gwb_abandon(alloc, &mut gwb),
+        gwb_redo(alloc, &mut gwb),
+        gwb_draft(alloc, &mut gwb),
+        gwb_kev(alloc, &mut gwb, 2),
+    ];
+    same(&rt, kinds, [1, 1, 1, 1, 12, 1, 1, 1]);
+    gwb_close(alloc, &mut gwb);
+    same(&rt, gwb_draft(alloc, &mut gwb), 9);
     Ok(())
 }

@@ -1,11 +1,10 @@
 use Rattle.std.proofs.Common.{refl, subst}
-use Rattle.undo_journal.specs.Machine.{Machine}
-use Rattle.script_reader.specs.declared.command.Command.TheVariants as command
-use Rattle.script_running.specs.script_judging.Judging.{Obeys}
-use Rattle.gwb_c.proofs.Acting.{one_machine}
+use Rattle.gwb_c.specs.declared.stage.Stage.{Stage}
+use Rattle.gwb_c.specs.Stages.{Acts_on}
+use Rattle.gwb_c.proofs.Acting.{the_same}
 use Rattle.gwb_c.proofs.commands.act_in.Goals as goal
 
 pub returns-in-Some : goal.returns-in-Some
-returns-in-Some c = λ s is.
-    let answer = c.act_on-slot.result in let t = c.act_on-slot.new.session in
-    (t, refl, subst (λ (m : Machine). Obeys m (command.Act c.args.op) answer t.machine) (one_machine c.in-Some.session s c.args.slot.now.session c.in-Some.is is) c.act_on-slot.ensures)
+returns-in-Some c = λ g is.
+    let answer = c.act_on-slot.result in let h = c.act_on-slot.new.stage in
+    (h, refl, subst (λ (k : Stage). Acts_on k c.args.op answer h) (the_same c.in-Some.stage g c.args.slot.now.stage c.in-Some.is is) c.act_on-slot.ensures)

@@ -1,11 +1,10 @@
-use Rattle.std.proofs.Common.{refl, subst}
-use Rattle.undo_journal.specs.Machine.{Machine}
-use Rattle.script_reader.specs.declared.command.Command.TheVariants as command
-use Rattle.script_running.specs.script_judging.Judging.{Obeys}
-use Rattle.gwb_c.proofs.Acting.{one_machine}
+use Rattle.std.proofs.Common.{◌∙◌, ap}
+use Rattle.euler_operators.specs.Model.{Model}
+use Rattle.script_running.specs.script_judging.Judging.{told, count_reply}
+use Rattle.gwb_c.proofs.Acting.{seen}
 use Rattle.gwb_c.proofs.measures.count_in.Goals as goal
 
 pub returns-in-Some : goal.returns-in-Some
-returns-in-Some c = λ s is.
-    let answer = c.count_on-slot.result in let t = c.count_on-slot.new.session in
-    (t, refl, subst (λ (m : Machine). Obeys m (command.Count c.args.solid) answer t.machine) (one_machine c.in-Some.session s c.args.slot.now.session c.in-Some.is is) c.count_on-slot.ensures)
+returns-in-Some c = λ g is.
+    let shows = seen c.in-Some.stage g c.args.slot.now.stage c.in-Some.is is c.arena.result.now.model c.arena.ensures.model in
+    (is, c.told-slot.ensures ∙ ap told (c.count_reply.ensures ∙ ap (λ (M : Model). count_reply M c.args.solid) shows))

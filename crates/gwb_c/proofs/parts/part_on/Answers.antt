@@ -4,29 +4,23 @@ use Rattle.euler_operators.specs.declared.Op.TheVariants as operator
 use Rattle.euler_operators.specs.declared.Refusal.{Refusal}
 use Rattle.euler_operators.specs.Model.{Model, solid_of}
 use Rattle.solid_measure.specs.Measure.{face_refusal}
-use Rattle.undo_journal.specs.Machine.{held, act, act_refusal}
-use Rattle.script_running.specs.script_judging.Judging.{Acts}
-use Rattle.script_running.specs.declared.script_judging.judging.Answer.{Answer}
+use Rattle.gwb_c.specs.Stages.{shown, Acts_on}
 use Rattle.gwb_c.specs.Parting.{part_of, Moves_faces}
-use Rattle.gwb_c.proofs.Acting.{acts_on}
 use Rattle.gwb_c.proofs.Queried.{is_refused, is_told}
 use Rattle.gwb_c.proofs.parts.part_on.Goals as goal
 
 pub returns-in-Err : goal.returns-in-Err
 returns-in-Err c =
-    let fs = c.args.faces.now in let f = get_or fs 0 0 in let s = c.args.session.now.machine in let r = c.in-Err.refusal in
-    let no_face : face_refusal (held s) f ≡ Some r = subst (λ (M : Model). face_refusal M f ≡ Some r) c.arena.ensures.model (is_refused (face_refusal c.arena.result.now.model f) _ r c.in-Err.ensures) in
-    subst (λ (o : Option Refusal). Moves_faces o s (part_of (held s) fs c.args.made) c.told_refusal.result s) (sym no_face) (c.told_refusal.ensures, refl)
+    let fs = c.args.faces.now in let f = get_or fs 0 0 in let g = c.args.stage.now in let r = c.in-Err.refusal in
+    let no_face : face_refusal (shown g) f ≡ Some r = subst (λ (M : Model). face_refusal M f ≡ Some r) c.arena.ensures.model (is_refused (face_refusal c.arena.result.now.model f) _ r c.in-Err.ensures) in
+    subst (λ (o : Option Refusal). Moves_faces o g (part_of (shown g) fs c.args.made) c.told_refusal.result g) (sym no_face) (c.told_refusal.ensures, refl)
 
 pub returns-in-Ok-listed : goal.returns-in-Ok-listed
 returns-in-Ok-listed c =
-    let fs = c.args.faces.now in let f = get_or fs 0 0 in let s = c.args.session.now.machine in let t = c.act.new.self.machine in
-    let given : Op = operator.Part c.in-Ok.from c.args.made c.in-Ok-listed.list in
+    let fs = c.args.faces.now in let f = get_or fs 0 0 in let g = c.args.stage.now in let h = c.act_on.new.stage in
     let told = is_told (face_refusal c.arena.result.now.model f) (solid_of c.arena.result.now.model f) c.in-Ok.from c.in-Ok.ensures in
-    let a_face : face_refusal (held s) f ≡ None = subst (λ (M : Model). face_refusal M f ≡ None) c.arena.ensures.model told.0 in
-    let from : c.in-Ok.from ≡ solid_of (held s) f = told.1 ∙ ap (λ (M : Model). solid_of M f) c.arena.ensures.model in
-    let op_is : given ≡ part_of (held s) fs c.args.made = λ i. operator.Part (from i) c.args.made (c.in-Ok-listed.ensures i) in
-    let acts : Acts (act_refusal s given) s (act s given) c.outcome.result t =
-    subst (λ (a : Answer). Acts (act_refusal s given) s (act s given) a t) (sym c.outcome.ensures) (acts_on _ c.args.session.now _ c.act.result c.act.new.self c.act.ensures.ok c.act.ensures.refused c.act.ensures.err) in
-    subst (λ (o : Option Refusal). Moves_faces o s (part_of (held s) fs c.args.made) c.outcome.result t) (sym a_face)
-    (inl (subst (λ (op : Op). Acts (act_refusal s op) s (act s op) c.outcome.result t) op_is acts))
+    let a_face : face_refusal (shown g) f ≡ None = subst (λ (M : Model). face_refusal M f ≡ None) c.arena.ensures.model told.0 in
+    let from : c.in-Ok.from ≡ solid_of (shown g) f = told.1 ∙ ap (λ (M : Model). solid_of M f) c.arena.ensures.model in
+    let op_is : operator.Part c.in-Ok.from c.args.made c.in-Ok-listed.list ≡ part_of (shown g) fs c.args.made = λ i. operator.Part (from i) c.args.made (c.in-Ok-listed.ensures i) in
+    subst (λ (o : Option Refusal). Moves_faces o g (part_of (shown g) fs c.args.made) c.act_on.result h) (sym a_face)
+    (inl (subst (λ (op : Op). Acts_on g op c.act_on.result h) op_is c.act_on.ensures))

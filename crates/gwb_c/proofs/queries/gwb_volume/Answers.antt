@@ -1,9 +1,10 @@
 use Rattle.std.proofs.Common.{◌∙◌, refl, sym, ap, subst}
-use Rattle.script_reader.specs.declared.command.Command.TheVariants as command
+use Rattle.script_running.specs.script_judging.Judging.{volume_reply}
 use Rattle.gwb_c.specs.declared.slot.Slot.{Slot}
 use Rattle.gwb_c.specs.Answered.{volume_in, whole}
 use Rattle.gwb_c.specs.Handle.{RecallsBy, GivesBy, status_of}
-use Rattle.gwb_c.specs.Calls.{Does, Slot_does}
+use Rattle.gwb_c.specs.Calls.{Slot_asks}
+use Rattle.gwb_c.proofs.Turning.{goes_on}
 use Rattle.gwb_c.proofs.queries.gwb_volume.Goals as goal
 
 pub returns-in_default-clause-value : goal.returns-in_default-clause-value
@@ -11,9 +12,9 @@ returns-in_default-clause-value c = (9, subst (λ o. RecallsBy whole volume_in o
 
 pub returns-clause-state : goal.returns-clause-state
 returns-clause-state c =
-    let given = command.Volume c.args.solid in let after = c.tell_volume.new.slot in
-    subst (λ o. Does o given c.put.new.gwb.held.value c.status-kind.result) (sym c.in-Some.ensures.slot)
-    (after, c.put.ensures, c.status-kind.ensures ∙ ap (λ (x : Slot). status_of x.answer) c.deref.ensures, subst (λ x. Slot_does x given after) c.deref_mut.ensures.value c.tell_volume.ensures)
+    let after = c.tell_volume.new.slot in
+    goes_on (λ x y. Slot_asks x (λ M. volume_reply M c.args.solid) y) c.args.gwb.now.held.value c.in-Some.slot.value c.in-Some.ensures.slot c.put.new.gwb.held.value after c.put.ensures
+    c.status-kind.result (c.status-kind.ensures ∙ ap (λ (x : Slot). status_of x.answer) c.deref.ensures) (subst (λ x. Slot_asks x (λ M. volume_reply M c.args.solid) after) c.deref_mut.ensures.value c.tell_volume.ensures)
 
 pub returns-clause-value : goal.returns-clause-value
 returns-clause-value c =

@@ -1,0 +1,19 @@
+use Rattle.std.proofs.Common.{◌∙◌, true, false, ap, subst}
+use Rattle.gwb_c.specs.declared.slot.Slot.{Slot}
+use Rattle.gwb_c.specs.Handle.{status_of}
+use Rattle.gwb_c.specs.Calls.{Slot_ends}
+use Rattle.gwb_c.proofs.Turning.{no_draft_here, goes_on_in_draft, is_so}
+use Rattle.gwb_c.proofs.drafts.gwb_abandon.Goals as goal
+
+pub returns-then-not-is_drafting : goal.returns-then-not-is_drafting
+returns-then-not-is_drafting c =
+    let x = c.in-Some.slot.value in
+    no_draft_here (λ x y. Slot_ends (λ d. d.session) x y) c.args.gwb.now.held.value x c.in-Some.ensures.slot c.put.new.gwb.held.value
+    (is_so x c.deref.result.now c.is_drafting.result false c.is_drafting.ensures c.deref.ensures c.if-not-is_drafting.true) c.put.ensures
+
+pub returns : goal.returns
+returns c =
+    let x = c.in-Some.slot.value in let after = c.abandon.new.slot in
+    goes_on_in_draft (λ x y. Slot_ends (λ d. d.session) x y) c.args.gwb.now.held.value x c.in-Some.ensures.slot c.put-2.new.gwb.held.value after c.put-2.ensures
+    c.status-kind.result (c.status-kind.ensures ∙ ap (λ (x : Slot). status_of x.answer) c.deref-2.ensures) (subst (λ x. Slot_ends (λ d. d.session) x after) c.deref_mut.ensures.value c.abandon.ensures)
+    (is_so x c.deref.result.now c.is_drafting.result true c.is_drafting.ensures c.deref.ensures c.if-not-is_drafting.false)
